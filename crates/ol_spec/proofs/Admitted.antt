@@ -1,0 +1,306 @@
+-- Everything that the proofs of demand 3 use of an admitted file that was read from bytes.
+use Prim.Native.Nat.{ℕ, zero, suc, _+_, _-_, _^_, _<_, _≤_}
+use mathlib.Core.Bool.{Bool, true, false, _&&_}
+use mathlib.Core.List.{List, [], _∷_, _++_, map, List·Memᴰ·head as here, List·Memᴰ·not-nil as in-nil, List·Memᴰ·cases-cons as in-cons, List·Memᴰ·append-cases as in-append, Memᴰ·append-left as in-left, Memᴰ·append-right as in-right}
+use mathlib.Core.Logic.{⊎-elim, by-cases}
+use mathlib.Core.Option.{Option, none, some}
+use mathlib.Core.Path.{_≡_, refl, sym, ap, subst, _∙_}
+use native.Mathlib.Omega.{arith}
+use native.Mathlib.Decide.{decLt}
+use lib.ListN.{length, getD, length-append, List·getD-eq-default}
+use lib.Dec.{T, ltb, ltb→lt, lt→ltb}
+use lib.Ieee.{binary32, binary64}
+use lib.Ieee.Bits as B
+use Rattle.ol_theory.specs.Member.{_∈_, Distinct}
+use Rattle.ol_spec.specs.Lists.{concat, member, orElse, maybe}
+use Rattle.ol_spec.specs.Syntax.{Ty, bool, int, float32, float64, char, enum, Expr, boolLit, intLit, floatLit, charLit, var, unary, binary, ifThenElse}
+use Rattle.ol_spec.specs.Syntax.{pre, arrow, cast, call, tuple, Rhs, items, outputsOf, one, rhsOf, Variable, nameOf, Equation, Node, Constant, File}
+use Rattle.ol_spec.specs.Syntax.{noNode, main, variables, variableNames}
+use Rattle.ol_spec.specs.Places.{placed, placedNodes, placedConstants, placedEquations, nodeSize, constantSize, constantsStart, nodesStart}
+use Rattle.ol_spec.specs.Types.{default, defaults, fit}
+use Rattle.ol_spec.specs.Limits.{Loader}
+use Rattle.ol_spec.specs.Order.{unplaced}
+use Rattle.ol_spec.specs.Eval.{Globals, callees, eval}
+use Rattle.ol_spec.specs.Step.{sites, noEquation, equationAt, evalEquation, scope, calls, globals}
+use Rattle.ol_spec.specs.State.{globalsOf}
+use Rattle.ol_spec.specs.Admission.{placeAt, calleeIn, mayCall, arity, inConstant, callsWhere, nodeCalls, numbered, fault9, ringIn, firstSome, fault11, constantNames, variants, all, noCalls, noVariables, afterConstant, constantsFrom, constants}
+use Rattle.ol_spec.specs.declared.Value.{Value}
+use Rattle.ol_spec.specs.declared.Outcome.{Outcome}
+use Rattle.ol_spec.specs.declared.Outcome.the-variants as Out
+use Rattle.ol_spec.proofs.Tests.{T-and, and-T, member-in, in-member}
+use Rattle.ol_spec.proofs.Ordering.{Placed, placed-or-stuck}
+use Rattle.ol_spec.proofs.Values.{Fine, FineOut, fit-fine}
+use Rattle.ol_spec.proofs.Cells.{AllFine}
+use Rattle.ol_spec.proofs.Good.{Plain, Good, none-good, arityIn, eval-meets}
+use Rattle.ol_spec.proofs.Runs.{PlainEqs, plain-at, fine-append}
+use Rattle.ol_spec.proofs.Calls.{mayBe}
+use Rattle.ol_spec.proofs.Counts.{CountIs, rhs-count, calls-count}
+use Rattle.ol_spec.proofs.ReadFacts.{All, TyOk, VariableRead, TupleOk, NameRead, EnumRead, EquationRead, NodeRead, ConstantRead, FileRead}
+use Rattle.ol_spec.proofs.Admits.{Admits, Clean, first-clean, clean-parts, clean-each, all-at, okFor, plain-calls, plain-eqs-more, callee-allowed, site-allowed, node-plain}
+use Rattle.ol_spec.proofs.MainFacts.{main-at, fresh-out, fresh-distinct, distinct-names, names-seen, names-fresh, namesOf, seenBy, takenIn, Shaped, shapes, shaped-arity}
+use Rattle.ol_spec.proofs.MainSystem.{Known, in-concat}
+use Rattle.ol_spec.proofs.OneCycle.{MainOk}
+
+-- ---- lists
+
+all-in : (P : ℕ → Type 0) (xs : List ℕ) (x : ℕ) → All P xs → x ∈ xs → P x
+all-in P [] x h m = absurd (in-nil m)
+all-in P (y ∷ xs) x h m = ⊎-elim (λ e. subst P (sym e) (h .0)) (all-in P xs x (h .1)) (in-cons m)
+
+concat-all : (P : ℕ → Type 0) (ls : List (List ℕ)) (x : ℕ) → All (All P) ls → x ∈ concat ls → P x
+concat-all P [] x h m = absurd (in-nil m)
+concat-all P (l ∷ ls) x h m = ⊎-elim (all-in P l x (h .0)) (concat-all P ls x (h .1)) (in-append l m)
+
+enums-names : (ls : List (List ℕ)) → All EnumRead ls → All (All NameRead) ls
+enums-names [] h = tt
+enums-names (l ∷ ls) h = (h .0 .names, enums-names ls (h .1))
+
+first-variant : (ls : List (List ℕ)) (e : ℕ) → All EnumRead ls → e < length ls → getD (getD ls e []) 0 0 ∈ concat ls
+first-variant [] e h b = absurd (omega arith)
+first-variant ([] ∷ ls) zero h b = absurd (omega (arith, h .0 .some-variant))
+first-variant ((v ∷ vs) ∷ ls) zero h b = here refl
+first-variant (l ∷ ls) (suc e) h b = in-right l (first-variant ls e (h .1) (omega arith))
+
+no-members : (l : List ℕ) → ((c : ℕ) → ¬ (c ∈ l)) → l ≡ []
+no-members [] h = refl
+no-members (x ∷ l) h = absurd (h x (here refl))
+
+placed-all : {A : Type 0} (size : A → ℕ) (P : A → Type 0) (at : ℕ) (xs : List A) → All P xs → All (λ p. P (p .1)) (placed size at xs)
+placed-all size P at [] h = tt
+placed-all size P at (x ∷ xs) h = (h .0, placed-all size P (at + size x) xs (h .1))
+
+length-placed : {A : Type 0} (size : A → ℕ) (at : ℕ) (xs : List A) → length (placed size at xs) ≡ length xs
+length-placed size at [] = refl
+length-placed size at (x ∷ xs) = ap suc (length-placed size (at + size x) xs)
+
+-- ---- constants
+
+module _ (f : File) (short : (x : ℕ) → T (member x (concat (f .enums))) → x < 2 ^ 16) where
+  abbrev ens : List ℕ
+  ens = concat (f .enums)
+
+  abbrev never : ℕ → ℕ → Bool
+  never c m = false
+
+  abbrev always : ℕ → List ℕ → Bool
+  always k r = true
+
+  constant-fine : (xs : List ℕ) (vs : List Value) (e : Expr) → AllFine ens vs → Plain never e → FineOut ens (eval (globals f xs vs) noVariables noCalls e [] .out)
+  constant-fine xs vs e h p =
+      eval-meets (globals f xs vs) always never noVariables noCalls short tt tt h (λ k ws r t fs q. absurd t) e [] p
+      (subst (λ l. Good (globals f xs vs) always l []) (sym (no-members (callees e) (λ c m. callee-allowed never e c p m .1))) (none-good (globals f xs vs) always)) .out
+
+  constants-fine : (cs : List (ℕ × Constant)) (xs : List ℕ) (us vs : List Value) → AllFine ens us → All (λ c. Plain never (c .1 .value)) cs → constantsFrom f xs us cs ≡ all vs → AllFine ens vs × (length vs ≡ length us + length cs)
+  constants-fine [] xs us vs h p e = let z : us ≡ vs = cc in (subst (AllFine ens) z h, ap length (sym z) ∙ omega arith)
+  constants-fine (c ∷ cs) xs us vs h p e =
+      go (eval (globals f xs us) noVariables noCalls (c .1 .value) [] .out) (constant-fine xs us (c .1 .value) h (p .0)) e
+      (λ v q. constants-fine cs (xs ++ c .1 .name ∷ []) (us ++ fit (c .1 .ty) v ∷ []) vs q (p .1))
+    where
+      go : (o : Outcome) → FineOut ens o → afterConstant (c .0) (λ v. constantsFrom f (xs ++ c .1 .name ∷ []) (us ++ fit (c .1 .ty) v ∷ []) cs) o ≡ all vs
+          → ((v : Value) → AllFine ens (us ++ fit (c .1 .ty) v ∷ []) → constantsFrom f (xs ++ c .1 .name ∷ []) (us ++ fit (c .1 .ty) v ∷ []) cs ≡ all vs → AllFine ens vs × (length vs ≡ length (us ++ fit (c .1 .ty) v ∷ []) + length cs))
+          → AllFine ens vs × (length vs ≡ length us + length (c ∷ cs))
+      go (Out.Value v) q e k =
+          let w = k v (fine-append ens us (fit (c .1 .ty) v ∷ []) h (fit-fine ens (c .1 .ty) v q, tt)) e in
+          (w .0, w .1 ∙ omega (arith, length-append us (fit (c .1 .ty) v ∷ [])))
+      go Out.Failure q e k = let z : _≡_ {A = ℕ} 0 1 = cc in absurd (omega arith)
+      go Out.Overflow q e k = let z : _≡_ {A = ℕ} 0 1 = cc in absurd (omega arith)
+
+-- ---- no ring
+
+ring-none : (at : ℕ) (n : Node) → ringIn (at, n) ≡ none → unplaced (n .equations) ≡ none
+ring-none at n e = go (unplaced (n .equations)) e
+  where
+    go : (o : Option ℕ) → maybe none (λ i. some (placeAt (placedEquations at n) i)) o ≡ none → o ≡ none
+    go none e = refl
+    go (some i) e = let z : _≡_ {A = ℕ} 0 1 = cc in absurd (omega arith)
+
+pub rings-none : (at : ℕ) (ns : List Node) → firstSome (map ringIn (placed nodeSize at ns)) ≡ none → All (λ n. unplaced (n .equations) ≡ none) ns
+rings-none at [] e = tt
+rings-none at (n ∷ ns) e = go (ringIn (at, n)) refl e (rings-none (at + nodeSize n) ns)
+  where
+    go : (o : Option ℕ) → ringIn (at, n) ≡ o → orElse o (firstSome (map ringIn (placed nodeSize (at + nodeSize n) ns))) ≡ none
+        → (firstSome (map ringIn (placed nodeSize (at + nodeSize n) ns)) ≡ none → All (λ n. unplaced (n .equations) ≡ none) ns) → All (λ n. unplaced (n .equations) ≡ none) (n ∷ ns)
+    go none h e k = (ring-none at n h, k e)
+    go (some p) h e k = let z : _≡_ {A = ℕ} 0 1 = cc in absurd (omega arith)
+
+unplaced-placed : (qs : List Equation) → unplaced qs ≡ none → Placed qs
+unplaced-placed qs e = ⊎-elim (λ p. p) (λ s. absurd (never-both (s .is-left) e)) (placed-or-stuck qs)
+  where
+    never-both : {k : ℕ} → unplaced qs ≡ some k → unplaced qs ≡ none → ⊥
+    never-both a b = let z : _≡_ {A = ℕ} 0 1 = cc in omega arith
+
+-- ---- the facts
+
+pub record Facts (f : File) (vs : List Value) : Type 0 where
+  pub short : (x : ℕ) → T (member x (concat (f .enums))) → x < 2 ^ 16
+  pub constantsFine : AllFine (concat (f .enums)) vs
+  pub constantCount : length vs ≡ length (f .constants)
+  pub lower : (k c : ℕ) → c ∈ sites (getD (f .nodes) k noNode) → c < k
+  pub plain : (k : ℕ) → PlainEqs (mayBe (globalsOf f vs)) (getD (f .nodes) k noNode .equations)
+  pub fresh-fine : (k : ℕ) → AllFine (concat (f .enums)) (defaults (f .enums) (variables (getD (f .nodes) k noNode)))
+  pub some-node : 1 ≤ length (f .nodes)
+  pub mainly : MainOk f vs
+
+module _ (ld : Loader) (s : List ℕ) (f : File) (vs : List Value) (read : FileRead f) (a : Admits ld s f vs) where
+  abbrev g : Globals
+  g = globalsOf f vs
+
+  is-short : (x : ℕ) → T (member x (concat (f .enums))) → x < 2 ^ 16
+  is-short x t = concat-all NameRead (f .enums) x (enums-names (f .enums) (read .enumsRead)) (member-in x (concat (f .enums)) t)
+
+  node-read : (k : ℕ) → k < length (f .nodes) → NodeRead (length (f .enums)) (getD (f .nodes) k noNode)
+  node-read k b = all-at (NodeRead (length (f .enums))) (f .nodes) k noNode (read .nodesRead) b
+
+  beyond : (k : ℕ) → ¬ (k < length (f .nodes)) → getD (f .nodes) k noNode ≡ noNode
+  beyond k h = List·getD-eq-default (f .nodes) noNode (omega arith)
+
+  plain-for : (k : ℕ) → k < length (f .nodes) → PlainEqs (okFor f k (getD (f .nodes) k noNode)) (getD (f .nodes) k noNode .equations)
+  plain-for k b = node-plain f (a .no9) k b (node-read k b .eqs)
+
+  is-lower : (k c : ℕ) → c ∈ sites (getD (f .nodes) k noNode) → c < k
+  is-lower k c m =
+      by-cases (decLt k (length (f .nodes)))
+      (λ b.
+      let n = getD (f .nodes) k noNode in
+      let w = site-allowed (okFor f k n) (n .equations) c (plain-for k b) m in
+      ltb→lt c k (T-and (ltb c k) _ (T-and (ltb c k && mayCall (n .kind) (calleeIn f c .kind)) _ (w .1) .0) .0))
+      (λ h. absurd (in-nil (subst (λ n. c ∈ sites n) (beyond k h) m)))
+
+  ok-may : (k : ℕ) → k < length (f .nodes) → (c m : ℕ) → T (okFor f k (getD (f .nodes) k noNode) c m) → T (mayBe g c m)
+  ok-may k b c m t =
+      let n = getD (f .nodes) k noNode in
+      let w = T-and (ltb c k && mayCall (n .kind) (calleeIn f c .kind)) _ t in
+      and-T (ltb c (length (f .nodes))) _ (lt→ltb c (length (f .nodes)) (omega (arith, ltb→lt c k (T-and (ltb c k) _ (w .0) .0)))) (w .1)
+
+  is-plain : (k : ℕ) → PlainEqs (mayBe g) (getD (f .nodes) k noNode .equations)
+  is-plain k =
+      by-cases (decLt k (length (f .nodes)))
+      (λ b. let n = getD (f .nodes) k noNode in plain-eqs-more (okFor f k n) (mayBe g) (ok-may k b) (n .equations) (plain-for k b))
+      (λ h. subst (λ n. PlainEqs (mayBe g) (n .equations)) (sym (beyond k h)) tt)
+
+  default-fine : (t : Ty) → TyOk (length (f .enums)) t → Fine (concat (f .enums)) (default (f .enums) t)
+  unfolding lib.Ieee.ofBits
+  default-fine bool h = tt
+  default-fine (int c) h = omega arith
+  default-fine float32 h = B.ofBits-fits binary32 0
+  default-fine float64 h = B.ofBits-fits binary64 0
+  default-fine char h = omega arith
+  default-fine (enum e) h = let m = first-variant (f .enums) e (read .enumsRead) h in let t = in-member _ (concat (f .enums)) m in (t, is-short _ t)
+
+  defaults-fine : (xs : List Variable) → All (VariableRead (length (f .enums))) xs → AllFine (concat (f .enums)) (defaults (f .enums) xs)
+  defaults-fine [] h = tt
+  defaults-fine (x ∷ xs) h = (default-fine (x .ty) (h .0), defaults-fine xs (h .1))
+
+  all-join : {A : Type 0} (P : A → Type 0) (xs ys : List A) → All P xs → All P ys → All P (xs ++ ys)
+  all-join P [] ys h k = k
+  all-join P (x ∷ xs) ys h k = (h .0, all-join P xs ys (h .1) k)
+
+  is-fresh-fine : (k : ℕ) → AllFine (concat (f .enums)) (defaults (f .enums) (variables (getD (f .nodes) k noNode)))
+  is-fresh-fine k =
+      by-cases (decLt k (length (f .nodes)))
+      (λ b.
+      let n = getD (f .nodes) k noNode in
+      let r = node-read k b in
+      defaults-fine (variables n) (all-join (VariableRead (length (f .enums))) (n .inputs ++ n .outputs) (n .locals) (all-join (VariableRead (length (f .enums))) (n .inputs) (n .outputs) (r .ins) (r .outs)) (r .locs)))
+      (λ h. subst (λ n. AllFine (concat (f .enums)) (defaults (f .enums) (variables n))) (sym (beyond k h)) tt)
+
+  constants-plain : All (λ c. Plain (λ c m. false) (c .1 .value)) (placedConstants f)
+  unfolding fault9
+  constants-plain =
+      let xs = concat (map (inConstant (callsWhere (λ c args. true))) (placedConstants f)) in
+      let ys = concat (map (nodeCalls f) (numbered 0 (placedNodes f))) in
+      go (placedConstants f) (placed-all constantSize ConstantRead _ (f .constants) (read .constantsRead)) (clean-each (inConstant (callsWhere (λ c args. true))) (placedConstants f) (clean-parts xs ys (first-clean (xs ++ ys) (a .no9)) .0))
+    where
+      go : (cs : List (ℕ × Constant)) → All (λ p. ConstantRead (p .1)) cs → All (λ c. Clean (inConstant (callsWhere (λ c args. true)) c)) cs → All (λ c. Plain (λ c m. false) (c .1 .value)) cs
+      go [] r c = tt
+      go (p ∷ cs) r c = (plain-calls (λ c m. false) _ (p .1 .value) (r .0 .0) (c .0), go cs (r .1) (c .1))
+
+  are-constants : AllFine (concat (f .enums)) vs × (length vs ≡ length (f .constants))
+  unfolding constants
+  are-constants = let w = constants-fine f is-short (placedConstants f) [] [] vs tt constants-plain (a .no12) in (w .0, w .1 ∙ omega (arith, length-placed constantSize (constantsStart f) (f .constants)))
+
+  -- ---- the main node
+
+  abbrev K : ℕ
+  K = length (f .nodes) - 1
+
+  inside : K < length (f .nodes)
+  inside = omega (arith, read .some-node)
+
+  is-main : main f ≡ getD (f .nodes) K noNode
+  is-main = main-at (f .nodes) (read .some-node)
+
+  all-get : (P : Equation → Type 0) (qs : List Equation) (i : ℕ) → i < length qs → All P qs → P (getD qs i noEquation)
+  all-get P qs i b h = all-at P qs i noEquation h b
+
+  arity-some : (e : Expr) → TupleOk (rhsOf e) → Plain (mayBe g) e → 1 ≤ arity f (rhsOf e)
+  arity-some (boolLit b) r p = omega arith
+  arity-some (intLit i) r p = omega arith
+  arity-some (floatLit b) r p = omega arith
+  arity-some (charLit c) r p = omega arith
+  arity-some (var x) r p = omega arith
+  arity-some (unary op e) r p = omega arith
+  arity-some (binary op l x) r p = omega arith
+  arity-some (ifThenElse c t e) r p = omega arith
+  arity-some (pre e) r p = omega arith
+  arity-some (arrow x y) r p = omega arith
+  arity-some (cast t e) r p = omega arith
+  arity-some (call k es) r p = node-read k (ltb→lt k (length (f .nodes)) (T-and (ltb k (length (f .nodes))) _ (p .0) .0)) .some-out
+  arity-some (tuple es) r p = omega arith
+
+  arity-same : (r : Rhs) → arityIn g r ≡ arity f r
+  arity-same (items es) = refl
+  arity-same (outputsOf k es) = refl
+  arity-same (one e) = refl
+
+  abbrev M : Node
+  M = getD (f .nodes) K noNode
+
+  known-at : (i : ℕ) → Known M (equationAt M i .names)
+  known-at i x m =
+      by-cases (decLt i (length (M .equations)))
+      (λ b.
+      let s = all-in (λ x. T (member x (seenBy f M))) (equationAt M i .names) x (all-get (λ q. All (λ x. T (member x (seenBy f M))) (q .names)) (M .equations) i b (names-seen f (a .no7) K inside)) m in
+      let o = fresh-out (takenIn f M) (concat (map namesOf (M .equations))) (names-fresh f (a .no8) K inside) x (in-concat (M .equations) i x m) in
+      ⊎-elim (λ k. k) (λ k. absurd (o (in-right (map nameOf (M .inputs)) k))) (in-append (variableNames M) (member-in x (seenBy f M) s)))
+      (λ h. absurd (in-nil (subst (λ q. x ∈ q .names) (List·getD-eq-default (M .equations) noEquation (omega arith)) m)))
+
+  arity-at : (i : ℕ) → i < length (M .equations) → arityIn g (rhsOf (equationAt M i .rhs)) ≡ length (equationAt M i .names)
+  arity-at i b =
+      let q = equationAt M i in
+      let r = all-get EquationRead (M .equations) i b (node-read K inside .eqs) in
+      arity-same (rhsOf (q .rhs)) ∙ shaped-arity f q (all-get (Shaped f) (M .equations) i b (shapes f (a .no10) K inside)) (r .named) (arity-some (q .rhs) (r .right .1) (plain-at (mayBe g) (M .equations) i (is-plain K)))
+
+  counts-at : (n : Node) → PlainEqs (mayBe g) (n .equations) → (first : Bool) (before : List Value) (i : ℕ) (p : List Value) (s : List ℕ)
+      → CountIs (arityIn g (rhsOf (equationAt n i .rhs))) (evalEquation g (calls g) n first before p i s .out)
+  counts-at n h first before i p s = rhs-count g (scope n first before p) (calls g) (calls-count g (length (f .nodes))) (equationAt n i .rhs) s (plain-at (mayBe g) (n .equations) i h)
+
+  plain-main : PlainEqs (mayBe g) (main f .equations)
+  plain-main = subst (λ n. PlainEqs (mayBe g) (n .equations)) (sym is-main) (is-plain K)
+
+  main-ok : MainOk f vs
+  unfolding fault11
+  main-ok =
+      record {
+        distinct = subst (λ n. Distinct (variableNames n)) (sym is-main) (distinct-names f (a .no6) K inside);
+        apart = subst (λ n. Distinct (concat (map namesOf (n .equations)))) (sym is-main) (fresh-distinct (takenIn f M) (concat (map namesOf (M .equations))) (names-fresh f (a .no8) K inside));
+        known = subst (λ n. (i : ℕ) → Known n (equationAt n i .names)) (sym is-main) known-at;
+        no-input = subst (λ n. (i x : ℕ) → x ∈ equationAt n i .names → ¬ (x ∈ map nameOf (n .inputs))) (sym is-main)
+            (λ i x m k. fresh-out (takenIn f M) (concat (map namesOf (M .equations))) (names-fresh f (a .no8) K inside) x (in-concat (M .equations) i x m) (in-left (constantNames f ++ variants f) k));
+        arity = subst (λ n. (i : ℕ) → i < length (n .equations) → arityIn g (rhsOf (equationAt n i .rhs)) ≡ length (equationAt n i .names)) (sym is-main) arity-at;
+        counts = λ first before. counts-at (main f) plain-main first before;
+        placed = subst (λ n. Placed (n .equations)) (sym is-main) (unplaced-placed (M .equations) (all-at (λ n. unplaced (n .equations) ≡ none) (f .nodes) K noNode (rings-none (nodesStart f) (f .nodes) (a .no11)) inside));
+      }
+
+  pub facts : Facts f vs
+  facts =
+      record {
+        short = is-short;
+        constantsFine = are-constants .0;
+        constantCount = are-constants .1;
+        lower = is-lower;
+        plain = is-plain;
+        fresh-fine = is-fresh-fine;
+        some-node = read .some-node;
+        mainly = main-ok;
+      }

@@ -1,0 +1,398 @@
+-- A relisted file is admitted, with the same constants.
+use Prim.Native.Nat.{ℕ, zero, suc, _+_, _<_}
+use mathlib.Core.Bool.{Bool, true, false, not, _&&_, cond}
+use mathlib.Core.List.{List, [], _∷_, _++_, map, List·Memᴰ·not-nil as in-nil}
+use mathlib.Core.Logic.{⊎-elim}
+use mathlib.Core.Option.{Option, none, some}
+use mathlib.Core.Path.{_≡_, refl, sym, ap, ap₂, subst, _∙_}
+use native.Mathlib.Omega.{arith}
+use lib.ListN.{length, drop, getD, getElem?}
+use lib.Dec.{ltb, eqb}
+use Rattle.ol_theory.specs.Member.{_∈_, Distinct}
+use Rattle.ol_spec.specs.Lists.{concat, member, orElse, maybe}
+use Rattle.ol_spec.specs.Syntax.{NodeKind, Function, Operator, Imported, Expr, boolLit, intLit, floatLit, charLit, var, unary, binary, ifThenElse, pre}
+use Rattle.ol_spec.specs.Syntax.{arrow, cast, call, tuple, Exprs, nil, cons, Rhs, items, outputsOf, one, rhsOf, nameOf, Equation, Node}
+use Rattle.ol_spec.specs.Syntax.{Constant, File, noNode, lastOf, main, variableNames}
+use Rattle.ol_spec.specs.Places.{exprSize, tySize, nodeSize, equationSize, placed, placedNodes, placedConstants, placedEquations, placedNames, rhsPlace}
+use Rattle.ol_spec.specs.Places.{collect, collectAll, nodesStart, mainPlace}
+use Rattle.ol_spec.specs.Read.{readFile, got}
+use Rattle.ol_spec.specs.Limits.{Loader}
+use Rattle.ol_spec.specs.Order.{reads, definer, definerFrom, unplaced, Ring, Chain}
+use Rattle.ol_spec.specs.Step.{siteSizeBy, siteSize, noSize, sizesAt, instanceSize, noEquation, globals, ownSize}
+use Rattle.ol_spec.specs.Admission.{Item, first, numbered, variants, constantNames, nodeDeclares, enumDeclares, clashes, fault6, unseenItem, usedAt, used, constantUses, equationUses, nodeUses, fault7, nodeDefines, fault8, inConstant, inEquation, inNode, mayCall, callItem, callsWhere, badCall, nodeCalls, fault9, arity, severalIn, shapeItem, equationShape, nodeShape, fault10, placeAt, ringIn, firstSome, fault11, all, noCalls, noVariables, afterConstant, constantsFrom, constants, headSize, stateSize, atMain, fault13, isOperator, fault14}
+use Rattle.ol_spec.specs.Demand3.{Permuted, withEquations, withNodes}
+use Rattle.ol_spec.specs.declared.Value.{Value}
+use Rattle.ol_spec.proofs.Tests.{member-in}
+use Rattle.ol_spec.proofs.Ordering.{depsOf, depsBy, definers, definers-in, in-definers, later-cases, reads-deps, deps-reads, Placed, placed-or-stuck}
+use Rattle.ol_spec.proofs.ReadFacts.{All}
+use Rattle.ol_spec.proofs.Admits.{Admits, Clean, first-clean, clean-first, clean-parts, clean-join, clean-each, each-clean, all-placed}
+use Rattle.ol_spec.proofs.MainFacts.{namesOf, defines-fresh, fresh-defines}
+use Rattle.ol_spec.proofs.MainSystem.{namesAt, definer-is}
+use Rattle.ol_spec.proofs.OneCycle.{MainOk}
+use Rattle.ol_spec.proofs.Admitted.{rings-none}
+use Rattle.ol_spec.proofs.Permutes.{perm-all, perm-sites, perm-fresh, listing}
+use Rattle.ol_spec.proofs.Other.{eval-other}
+
+-- ---- places do not matter
+
+abbrev flags : {A : Type 0} → List (ℕ × A) → List A
+flags [] = []
+flags (x ∷ xs) = x .1 ∷ flags xs
+
+flags-append : {A : Type 0} (a b : List (ℕ × A)) → flags (a ++ b) ≡ flags a ++ flags b
+flags-append [] b = refl
+flags-append {A} (x ∷ a) b = ap {B = List A} (λ l. x .1 ∷ l) (flags-append a b)
+
+flags-join : {A : Type 0} (a a′ b b′ : List (ℕ × A)) → flags a ≡ flags a′ → flags b ≡ flags b′ → flags (a ++ b) ≡ flags (a′ ++ b′)
+flags-join a a′ b b′ e h = flags-append a b ∙ ap₂ _++_ e h ∙ sym (flags-append a′ b′)
+
+module _ {A : Type 0} (f : ℕ → Expr → List (ℕ × A)) (still : (at at′ : ℕ) (e : Expr) → flags (f at e) ≡ flags (f at′ e)) where
+  mutual
+    unfolding collect
+
+    collect-still : (at at′ : ℕ) (e : Expr) → flags (collect f at e) ≡ flags (collect f at′ e)
+    collect-still at at′ (boolLit b) = still at at′ (boolLit b)
+    collect-still at at′ (intLit i) = still at at′ (intLit i)
+    collect-still at at′ (floatLit b) = still at at′ (floatLit b)
+    collect-still at at′ (charLit c) = still at at′ (charLit c)
+    collect-still at at′ (var x) = still at at′ (var x)
+    collect-still at at′ (unary op e) = flags-join (f at (unary op e)) (f at′ (unary op e)) _ _ (still at at′ (unary op e)) (collect-still (at + 2) (at′ + 2) e)
+    collect-still at at′ (binary op l r) =
+        flags-join (f at (binary op l r)) (f at′ (binary op l r)) _ _ (still at at′ (binary op l r))
+        (flags-join (collect f (at + 2) l) (collect f (at′ + 2) l) _ _ (collect-still (at + 2) (at′ + 2) l) (collect-still (at + 2 + exprSize l) (at′ + 2 + exprSize l) r))
+    collect-still at at′ (ifThenElse c t e) =
+        flags-join (f at (ifThenElse c t e)) (f at′ (ifThenElse c t e)) _ _ (still at at′ (ifThenElse c t e))
+        (flags-join (collect f (at + 1) c) (collect f (at′ + 1) c) _ _ (collect-still (at + 1) (at′ + 1) c)
+        (flags-join (collect f (at + 1 + exprSize c) t) (collect f (at′ + 1 + exprSize c) t) _ _ (collect-still (at + 1 + exprSize c) (at′ + 1 + exprSize c) t) (collect-still (at + 1 + exprSize c + exprSize t) (at′ + 1 + exprSize c + exprSize t) e)))
+    collect-still at at′ (pre e) = flags-join (f at (pre e)) (f at′ (pre e)) _ _ (still at at′ (pre e)) (collect-still (at + 1) (at′ + 1) e)
+    collect-still at at′ (arrow a b) =
+        flags-join (f at (arrow a b)) (f at′ (arrow a b)) _ _ (still at at′ (arrow a b))
+        (flags-join (collect f (at + 1) a) (collect f (at′ + 1) a) _ _ (collect-still (at + 1) (at′ + 1) a) (collect-still (at + 1 + exprSize a) (at′ + 1 + exprSize a) b))
+    collect-still at at′ (cast t e) = flags-join (f at (cast t e)) (f at′ (cast t e)) _ _ (still at at′ (cast t e)) (collect-still (at + 1 + tySize t) (at′ + 1 + tySize t) e)
+    collect-still at at′ (call k es) = flags-join (f at (call k es)) (f at′ (call k es)) _ _ (still at at′ (call k es)) (all-still (at + 3) (at′ + 3) es)
+    collect-still at at′ (tuple es) = flags-join (f at (tuple es)) (f at′ (tuple es)) _ _ (still at at′ (tuple es)) (all-still (at + 2) (at′ + 2) es)
+
+    all-still : (at at′ : ℕ) (es : Exprs) → flags (collectAll f at es) ≡ flags (collectAll f at′ es)
+    all-still at at′ nil = refl
+    all-still at at′ (cons e es) = flags-join (collect f at e) (collect f at′ e) _ _ (collect-still at at′ e) (all-still (at + exprSize e) (at′ + exprSize e) es)
+
+abbrev CleanF : List Bool → Type 0
+CleanF [] = Unit {0}
+CleanF (b ∷ bs) = (b ≡ false) × CleanF bs
+
+clean-flags : (is : List Item) → Clean is → CleanF (flags is)
+clean-flags [] c = tt
+clean-flags (i ∷ is) c = (c .0, clean-flags is (c .1))
+
+flags-clean : (is : List Item) → CleanF (flags is) → Clean is
+flags-clean [] c = tt
+flags-clean (i ∷ is) c = (c .0, flags-clean is (c .1))
+
+clean-moved : (is js : List Item) → flags is ≡ flags js → Clean is → Clean js
+clean-moved is js e c = flags-clean js (subst CleanF e (clean-flags is c))
+
+-- ---- equations in another sequence
+
+Still : (ℕ × Equation → List Item) → Type 0
+Still h = (a a′ : ℕ) (q : Equation) → flags (h (a, q)) ≡ flags (h (a′, q))
+
+perm-clean : (h : ℕ × Equation → List Item) → Still h → {qs rs : List Equation} → Permuted qs rs → (at at′ : ℕ) → Clean (concat (map h (placed equationSize at qs))) → Clean (concat (map h (placed equationSize at′ rs)))
+unfolding Still
+perm-clean h still {qs} {rs} p at at′ c =
+    each-clean h (placed equationSize at′ rs) (spread at′ rs (perm-all (λ q. (a : ℕ) × Clean (h (a, q))) p (all-placed equationSize (λ x. Clean (h x)) at qs (clean-each h (placed equationSize at qs) c))))
+  where
+    spread : (at : ℕ) (xs : List Equation) → All (λ q. (a : ℕ) × Clean (h (a, q))) xs → All (λ x. Clean (h x)) (placed equationSize at xs)
+    spread at [] k = tt
+    spread at (x ∷ xs) k = (clean-moved (h (k .0 .0, x)) (h (at, x)) (still (k .0 .0) at x) (k .0 .1), spread (at + equationSize x) xs (k .1))
+
+calls-still : (p : ℕ → ℕ → Bool) → Still (inEquation (callsWhere p))
+unfolding Still
+calls-still p a a′ q = collect-still (callsWhere p) (λ at at′ e. go at at′ (rhsOf e)) (rhsPlace a q) (rhsPlace a′ q) (q .rhs)
+  where
+    go : (at at′ : ℕ) (r : Rhs) → flags (callItem p at r) ≡ flags (callItem p at′ r)
+    go at at′ (items es) = refl
+    go at at′ (outputsOf k es) = refl
+    go at at′ (one e) = refl
+
+unseen-flags : (visible : List ℕ) (xs ys : List (ℕ × ℕ)) → flags xs ≡ flags ys → flags (map (unseenItem visible) xs) ≡ flags (map (unseenItem visible) ys)
+unseen-flags visible xs ys e = go xs ∙ ap (map (λ x. not (member x visible))) e ∙ sym (go ys)
+  where
+    go : (xs : List (ℕ × ℕ)) → flags (map (unseenItem visible) xs) ≡ map (λ x. not (member x visible)) (flags xs)
+    go [] = refl
+    go (x ∷ xs) = ap (λ l. not (member (x .1) visible) ∷ l) (go xs)
+
+names-still : (a a′ : ℕ) (xs : List ℕ) → flags (placedNames a xs) ≡ flags (placedNames a′ xs)
+names-still a a′ [] = refl
+names-still a a′ (x ∷ xs) = ap (λ l. x ∷ l) (names-still (a + 2) (a′ + 2) xs)
+
+uses-still : (visible : List ℕ) → Still (equationUses visible)
+unfolding Still
+uses-still visible a a′ q =
+    unseen-flags visible (placedNames (a + 1) (q .names) ++ used (rhsPlace a q) (q .rhs)) (placedNames (a′ + 1) (q .names) ++ used (rhsPlace a′ q) (q .rhs)) (flags-join (placedNames (a + 1) (q .names)) (placedNames (a′ + 1) (q .names)) (used (rhsPlace a q) (q .rhs)) (used (rhsPlace a′ q) (q .rhs)) (names-still (a + 1) (a′ + 1) (q .names))
+    (collect-still usedAt (λ at at′ e. go at at′ (Rattle.ol_spec.specs.Syntax.nameIn e)) (rhsPlace a q) (rhsPlace a′ q) (q .rhs)))
+  where
+    go : (at at′ : ℕ) (o : Option ℕ) → flags (maybe [] (λ x. (at + 1, x) ∷ []) o) ≡ flags (maybe [] (λ x. (at′ + 1, x) ∷ []) o)
+    go at at′ none = refl
+    go at at′ (some x) = refl
+
+drop-flags : (a b : List Item) → flags a ≡ flags b → flags (drop 1 a) ≡ flags (drop 1 b)
+drop-flags a b e = go a ∙ ap (drop 1) e ∙ sym (go b)
+  where
+    go : (l : List Item) → flags (drop 1 l) ≡ drop 1 (flags l)
+    go [] = refl
+    go (x ∷ l) = refl
+
+shape-still : (f : File) → Still (equationShape f)
+unfolding Still
+shape-still f a a′ q =
+    ap {B = List Bool} (λ l. (ltb 1 (length (q .names)) && not (severalIn f (q .rhs))) ∷ (severalIn f (q .rhs) && not (eqb (arity f (rhsOf (q .rhs))) (length (q .names)))) ∷ l)
+    (drop-flags (inEquation (shapeItem f) (a, q)) (inEquation (shapeItem f) (a′, q)) (collect-still (shapeItem f) (λ at at′ e. refl) (rhsPlace a q) (rhsPlace a′ q) (q .rhs)))
+
+-- ---- a ring of the relisted equations is one of the first
+
+later-defines : (k : ℕ) (qs : List Equation) (x j : ℕ) → definerFrom k qs x ≡ some j → (d : ℕ) × (j ≡ k + d) × (x ∈ namesAt qs d)
+unfolding definerFrom
+later-defines k [] x j e = let z : _≡_ {A = ℕ} 0 1 = cc in absurd (omega arith)
+later-defines k (q ∷ qs) x j e =
+    ⊎-elim (λ h. let w = later-defines (suc k) qs x j h in (suc (w .0), omega (arith, w .1), w .2)) (λ h. (0, omega (arith, h .1), member-in x (q .names) (h .0)))
+    (later-cases (definerFrom (suc k) qs x) (member x (q .names)) k j e)
+
+module _ {qs rs : List Equation} (p : Permuted qs rs) (apart : Distinct (concat (map namesOf qs))) where
+  abbrev to : ℕ → ℕ
+  to = listing p .to
+
+  reads-at : (xs : List Equation) (i j : ℕ) (ys : List Equation) → j ∈ depsBy ys (getElem? xs i) → j ∈ definers ys (reads (getD xs i noEquation .rhs))
+  reads-at [] zero j ys m = absurd (in-nil m)
+  reads-at [] (suc i) j ys m = absurd (in-nil m)
+  reads-at (x ∷ xs) zero j ys m = m
+  reads-at (x ∷ xs) (suc i) j ys m = reads-at xs i j ys m
+
+  at-reads : (xs : List Equation) (i j x : ℕ) (ys : List Equation) → x ∈ reads (getD xs i noEquation .rhs) → definer ys x ≡ some j → j ∈ depsBy ys (getElem? xs i)
+  at-reads [] zero j x ys m e = absurd (in-nil m)
+  at-reads [] (suc i) j x ys m e = absurd (in-nil m)
+  at-reads (y ∷ xs) zero j x ys m e = definers-in ys (reads (y .rhs)) x j m e
+  at-reads (y ∷ xs) (suc i) j x ys m e = at-reads xs i j x ys m e
+
+  relisted-deps : (i j : ℕ) → j ∈ depsOf rs i → to j ∈ depsOf qs (to i)
+  relisted-deps i j m =
+      let w = in-definers rs (reads (getD rs i noEquation .rhs)) j (reads-at rs i j rs m) in
+      let d = later-defines 0 rs (w .0) j (w .2) in
+      let jd : j ≡ d .0 = omega (arith, d .1) in
+      let mem : w .0 ∈ namesAt qs (to j) = subst (λ q. w .0 ∈ q .names) (listing p .same j) (subst (λ k. w .0 ∈ namesAt rs k) (sym jd) (d .2)) in
+      at-reads qs (to i) (to j) (w .0) qs (subst (λ q. w .0 ∈ reads (q .rhs)) (listing p .same i) (w .1)) (definer-is 0 qs (w .0) (to j) apart mem ∙ ap some (omega arith))
+
+  relisted-chain : {i j : ℕ} → Chain rs i j → Chain qs (to i) (to j)
+  relisted-chain {i} {j} (Rattle.ol_spec.specs.Order.one t) = Rattle.ol_spec.specs.Order.one (deps-reads qs (to i) (to j) (relisted-deps i j (reads-deps rs i j t)))
+  relisted-chain {i} (Rattle.ol_spec.specs.Order.more {j = j} t c) = Rattle.ol_spec.specs.Order.more (deps-reads qs (to i) (to j) (relisted-deps i j (reads-deps rs i j t))) (relisted-chain c)
+
+  pub relisted-placed : Placed qs → Placed rs
+  unfolding Ring
+  relisted-placed h = ⊎-elim (λ x. x) (λ s. absurd (h .no-ring (to (s .ring .0), relisted-chain (s .ring .1)))) (placed-or-stuck rs)
+
+-- ---- the file with another last node
+
+module _ (last last′ : Node) where
+  pub get-last : {A : Type 0} (h : Node → A) → h last ≡ h last′ → (os : List Node) (k : ℕ) → h (getD (os ++ last ∷ []) k noNode) ≡ h (getD (os ++ last′ ∷ []) k noNode)
+  get-last h e [] zero = e
+  get-last h e [] (suc k) = refl
+  get-last h e (o ∷ os) zero = refl
+  get-last h e (o ∷ os) (suc k) = get-last h e os k
+
+  pub get-below : (os : List Node) (k : ℕ) → k < length os → getD (os ++ last ∷ []) k noNode ≡ getD (os ++ last′ ∷ []) k noNode
+  get-below [] k b = absurd (omega arith)
+  get-below (o ∷ os) zero b = refl
+  get-below (o ∷ os) (suc k) b = get-below os k (omega arith)
+
+  pub map-last : {A : Type 0} (h : Node → A) → h last ≡ h last′ → (os : List Node) → map h (os ++ last ∷ []) ≡ map h (os ++ last′ ∷ [])
+  map-last {A} h e [] = ap {B = List A} (λ x. x ∷ []) e
+  map-last {A} h e (o ∷ os) = ap {B = List A} (λ l. h o ∷ l) (map-last h e os)
+
+  pub length-last : (os : List Node) → length (os ++ last ∷ []) ≡ length (os ++ last′ ∷ [])
+  length-last [] = refl
+  length-last (o ∷ os) = ap suc (length-last os)
+
+  module _ (P P′ : ℕ × Node → Type 0) (each : (a : ℕ) (n : Node) → P (a, n) → P′ (a, n)) (at-last : (a : ℕ) → P (a, last) → P′ (a, last′)) where
+    replace : (os : List Node) (at : ℕ) → All P (placed nodeSize at (os ++ last ∷ [])) → All P′ (placed nodeSize at (os ++ last′ ∷ []))
+    replace [] at h = (at-last at (h .0), tt)
+    replace (o ∷ os) at h = (each at o (h .0), replace os (at + nodeSize o) (h .1))
+
+  module _ (P P′ : ℕ × (ℕ × Node) → Type 0) (each : (k a : ℕ) (n : Node) → P (k, (a, n)) → P′ (k, (a, n))) (at-last : (k a : ℕ) → P (k, (a, last)) → P′ (k, (a, last′))) where
+    replace-numbered : (os : List Node) (k at : ℕ) → All P (numbered k (placed nodeSize at (os ++ last ∷ []))) → All P′ (numbered k (placed nodeSize at (os ++ last′ ∷ [])))
+    replace-numbered [] k at h = (at-last k at (h .0), tt)
+    replace-numbered (o ∷ os) k at h = (each k at o (h .0), replace-numbered os (suc k) (at + nodeSize o) (h .1))
+
+  declares-same : ((k a : ℕ) → nodeDeclares (k, (a, last)) ≡ nodeDeclares (k, (a, last′))) → (os : List Node) (k at : ℕ)
+      → concat (map nodeDeclares (numbered k (placed nodeSize at (os ++ last ∷ [])))) ≡ concat (map nodeDeclares (numbered k (placed nodeSize at (os ++ last′ ∷ []))))
+  declares-same e [] k at = ap (λ l. l ++ []) (e k at)
+  declares-same e (o ∷ os) k at = ap (λ l. nodeDeclares (k, (at, o)) ++ l) (declares-same e os (suc k) (at + nodeSize o))
+
+  rings-same : (os : List Node) (at : ℕ) → All (λ n. unplaced (n .equations) ≡ none) (os ++ last ∷ []) → unplaced (last′ .equations) ≡ none → firstSome (map ringIn (placed nodeSize at (os ++ last′ ∷ []))) ≡ none
+  rings-same [] at h e = ap (λ o. orElse (maybe none (λ i. some (placeAt (placedEquations at last′) i)) o) none) e
+  rings-same (o ∷ os) at h e =
+      ap (λ x. orElse (maybe none (λ i. some (placeAt (placedEquations at o) i)) x) (firstSome (map ringIn (placed nodeSize (at + nodeSize o) (os ++ last′ ∷ []))))) (h .0)
+      ∙ rings-same os (at + nodeSize o) (h .1) e
+
+pub last-is : (os : List Node) (n : Node) → lastOf (os ++ n ∷ []) ≡ n
+last-is [] n = refl
+last-is (o ∷ []) n = refl
+last-is (o ∷ x ∷ os) n = last-is (x ∷ os) n
+
+module _ (f : File) (os : List Node) (last : Node) (rs : List Equation) (p : Permuted (last .equations) rs) where
+  abbrev pub last′ : Node
+  last′ = withEquations last rs
+
+  abbrev pub f1 : File
+  f1 = withNodes f (os ++ last ∷ [])
+
+  abbrev pub f2 : File
+  f2 = withNodes f (os ++ last′ ∷ [])
+
+  siteSize-same : (sizes : List ℕ) → siteSize sizes last ≡ siteSize sizes last′
+  siteSize-same sizes = go (last .kind)
+    where
+      go : (t : NodeKind) → siteSizeBy t sizes last ≡ siteSizeBy t sizes last′
+      go Function = refl
+      go Operator = ap (λ m. ownSize last + m) (sym (perm-sites sizes p))
+      go Imported = refl
+
+  pub sizes-same : (d : ℕ) → sizesAt d (os ++ last ∷ []) ≡ sizesAt d (os ++ last′ ∷ [])
+  unfolding sizesAt
+  sizes-same zero = map-last last last′ noSize refl os
+  sizes-same (suc d) = ap (λ s. map (siteSize s) (os ++ last ∷ [])) (sizes-same d) ∙ map-last last last′ (siteSize (sizesAt d (os ++ last′ ∷ []))) (siteSize-same _) os
+
+  pub all-sizes : sizesAt (length (os ++ last ∷ [])) (os ++ last ∷ []) ≡ sizesAt (length (os ++ last′ ∷ [])) (os ++ last′ ∷ [])
+  all-sizes = ap (λ d. sizesAt d (os ++ last ∷ [])) (length-last last last′ os) ∙ sizes-same _
+
+  pub outs-same : (k : ℕ) → getD (os ++ last ∷ []) k noNode .outputs ≡ getD (os ++ last′ ∷ []) k noNode .outputs
+  outs-same = get-last last last′ (λ n. n .outputs) refl os
+
+  -- 6
+  no6′ : fault6 f1 ≡ none → fault6 f2 ≡ none
+  unfolding fault6
+  no6′ e = ap (λ l. first (clashes [] (concat (map enumDeclares (numbered 0 (Rattle.ol_spec.specs.Places.placedEnums f))) ++ Rattle.ol_spec.specs.Admission.declaredAs Rattle.ol_spec.specs.Admission.constant (map Rattle.ol_spec.specs.Admission.placedConstantName (placedConstants f)) ++ l))) (sym (declares-same last last′ (λ k a. refl) os 0 (nodesStart f))) ∙ e
+
+  -- 7
+  no7′ : fault7 f1 ≡ none → fault7 f2 ≡ none
+  unfolding fault7
+  no7′ e =
+      let a = constantUses (variants f) (placedConstants f) in
+      let h = nodeUses (constantNames f ++ variants f) in
+      let bs = concat (map h (placedNodes f1)) in
+      let cs = concat (map h (placedNodes f2)) in
+      let c = clean-parts a bs (first-clean (a ++ bs) e) in
+      clean-first (a ++ cs) (clean-join a cs (c .0) (each-clean h (placedNodes f2)
+      (replace last last′ (λ x. Clean (h x)) (λ x. Clean (h x)) (λ a n x. x) (λ a. perm-clean (equationUses (variableNames last ++ (constantNames f ++ variants f))) (uses-still (variableNames last ++ (constantNames f ++ variants f))) p _ _) os (nodesStart f) (clean-each h (placedNodes f1) (c .1)))))
+
+  -- 8
+  no8′ : fault8 f1 ≡ none → fault8 f2 ≡ none
+  unfolding fault8
+  no8′ e =
+      let h = nodeDefines (constantNames f ++ variants f) in
+      clean-first (concat (map h (placedNodes f2))) (each-clean h (placedNodes f2)
+      (replace last last′ (λ x. Clean (h x)) (λ x. Clean (h x)) (λ a n x. x)
+      (λ a c. fresh-defines (constantNames f ++ variants f) a last′ (perm-fresh (map nameOf (last .inputs) ++ (constantNames f ++ variants f)) p (defines-fresh (constantNames f ++ variants f) a last c)))
+      os (nodesStart f) (clean-each h (placedNodes f1) (first-clean (concat (map h (placedNodes f1))) e))))
+
+  -- 9
+  bad-same : (k : ℕ) (n : Node) → badCall f1 k n ≡ badCall f2 k n
+  bad-same k n = λ i c m. not (ltb c k && mayCall (n .kind) (get-last last last′ (λ x. x .kind) refl os c i) && eqb m (length (get-last last last′ (λ x. x .inputs) refl os c i)))
+
+  no9′ : fault9 f1 ≡ none → fault9 f2 ≡ none
+  unfolding fault9
+  no9′ e =
+      let a = concat (map (inConstant (callsWhere (λ c args. true))) (placedConstants f)) in
+      let bs = concat (map (nodeCalls f1) (numbered 0 (placedNodes f1))) in
+      let cs = concat (map (nodeCalls f2) (numbered 0 (placedNodes f2))) in
+      let c = clean-parts a bs (first-clean (a ++ bs) e) in
+      clean-first (a ++ cs) (clean-join a cs (c .0) (each-clean (nodeCalls f2) (numbered 0 (placedNodes f2))
+      (replace-numbered last last′ (λ x. Clean (nodeCalls f1 x)) (λ x. Clean (nodeCalls f2 x))
+      (λ k a n x. subst (λ b. Clean (inNode (callsWhere b) (a, n))) (bad-same k n) x)
+      (λ k a x. perm-clean (inEquation (callsWhere (badCall f2 k last))) (calls-still _) p _ _ (subst (λ b. Clean (inNode (callsWhere b) (a, last))) (bad-same k last) x))
+      os 0 (nodesStart f) (clean-each (nodeCalls f1) (numbered 0 (placedNodes f1)) (c .1)))))
+
+  -- 10
+  arity-same : (r : Rhs) → arity f1 r ≡ arity f2 r
+  arity-same (items es) = refl
+  arity-same (outputsOf k es) = ap length (outs-same k)
+  arity-same (one e) = refl
+
+  item-same : shapeItem f1 ≡ shapeItem f2
+  item-same = λ i at e. (at, ltb 1 (arity-same (rhsOf e) i)) ∷ []
+
+  shape-same : equationShape f1 ≡ equationShape f2
+  shape-same = λ i q.
+      (q .0, ltb 1 (length (q .1 .names)) && not (ltb 1 (arity-same (rhsOf (q .1 .rhs)) i)))
+      ∷ (rhsPlace (q .0) (q .1), ltb 1 (arity-same (rhsOf (q .1 .rhs)) i) && not (eqb (arity-same (rhsOf (q .1 .rhs)) i) (length (q .1 .names))))
+      ∷ drop 1 (inEquation (item-same i) q)
+
+  no10′ : fault10 f1 ≡ none → fault10 f2 ≡ none
+  unfolding fault10
+  no10′ e =
+      let a = concat (map (inConstant (shapeItem f1)) (placedConstants f)) in
+      let a′ = concat (map (inConstant (shapeItem f2)) (placedConstants f)) in
+      let bs = concat (map (nodeShape f1) (placedNodes f1)) in
+      let cs = concat (map (nodeShape f2) (placedNodes f2)) in
+      let c = clean-parts a bs (first-clean (a ++ bs) e) in
+      clean-first (a′ ++ cs) (clean-join a′ cs (subst (λ h. Clean (concat (map (inConstant h) (placedConstants f)))) item-same (c .0)) (each-clean (nodeShape f2) (placedNodes f2)
+      (replace last last′ (λ x. Clean (nodeShape f1 x)) (λ x. Clean (nodeShape f2 x))
+      (λ a n x. subst (λ h. Clean (concat (map h (placedEquations a n)))) shape-same x)
+      (λ a x. perm-clean (equationShape f2) (shape-still f2) p _ _ (subst (λ h. Clean (concat (map h (placedEquations a last)))) shape-same x))
+      os (nodesStart f) (clean-each (nodeShape f1) (placedNodes f1) (c .1)))))
+
+  -- 11
+  no11′ : Distinct (concat (map namesOf (last .equations))) → Placed (last .equations) → fault11 f1 ≡ none → fault11 f2 ≡ none
+  unfolding fault11
+  no11′ d h e = rings-same last last′ os (nodesStart f) (rings-none (nodesStart f) (os ++ last ∷ []) e) (relisted-placed p d h .none-left)
+
+  -- 12
+  constants-same : (xs : List ℕ) (us : List Value) (cs : List (ℕ × Constant)) → constantsFrom f1 xs us cs ≡ constantsFrom f2 xs us cs
+  constants-same xs us [] = refl
+  constants-same xs us (c ∷ cs) =
+      λ i. afterConstant (c .0) (λ v. constants-same (xs ++ c .1 .name ∷ []) (us ++ Rattle.ol_spec.specs.Types.fit (c .1 .ty) v ∷ []) cs i)
+      (eval-other (globals f1 xs us) (os ++ last′ ∷ []) _ all-sizes outs-same noCalls noCalls noVariables (c .1 .value) (λ c m ws r. refl) [] i .out)
+
+  no12′ : (vs : List Value) → constants f1 ≡ all vs → constants f2 ≡ all vs
+  unfolding constants
+  no12′ vs e = sym (constants-same [] [] (placedConstants f)) ∙ e
+
+  -- 13, 14
+  pub main1 : main f1 ≡ last
+  main1 = last-is os last
+
+  pub main2 : main f2 ≡ last′
+  main2 = last-is os last′
+
+  pub state-same : stateSize f2 ≡ stateSize f1
+  unfolding stateSize
+  state-same =
+      ap (λ m. headSize f + m)
+      (ap₂ (λ s n. instanceSize s n) (sym all-sizes) main2 ∙ ap (λ m. ownSize last + m) (perm-sites _ p) ∙ ap (instanceSize (sizesAt (length (os ++ last ∷ [])) (os ++ last ∷ []))) (sym main1))
+
+  cond-none : (b : Bool) (x : ℕ) → cond b (some x) none ≡ none → b ≡ false
+  cond-none true x e = let z : _≡_ {A = ℕ} 0 1 = cc in absurd (omega arith)
+  cond-none false x e = refl
+
+  no13′ : (ld : Loader) → fault13 ld f1 ≡ none → fault13 ld f2 ≡ none
+  no13′ ld e =
+      let most = maybe 0 (λ l. l .state) (ld .limits (f .format)) in
+      ap (λ m. atMain f2 (ltb most m)) state-same ∙ ap (atMain f2) (cond-none (ltb most (stateSize f1)) (mainPlace (placedNodes f1)) e)
+
+  no14′ : fault14 f1 ≡ none → fault14 f2 ≡ none
+  no14′ e = ap (λ n. atMain f2 (not (isOperator (n .kind)))) main2 ∙ ap (atMain f2) (ap (λ n. not (isOperator (n .kind))) (sym main1) ∙ cond-none _ _ e)
+
+  -- the relisted file is admitted
+  pub relist-admits : (ld : Loader) (s s′ : List ℕ) (vs : List Value) (at : ℕ) → Admits ld s f1 vs → MainOk f1 vs → readFile s′ ld ≡ got f2 at → Admits ld s′ f2 vs
+  relist-admits ld s s′ vs at a m r =
+      record {
+        end = at;
+        read = r;
+        no6 = no6′ (a .no6);
+        no7 = no7′ (a .no7);
+        no8 = no8′ (a .no8);
+        no9 = no9′ (a .no9);
+        no10 = no10′ (a .no10);
+        no11 = no11′ (subst (λ n. Distinct (concat (map namesOf (n .equations)))) main1 (m .apart)) (subst (λ n. Placed (n .equations)) main1 (m .placed)) (a .no11);
+        no12 = no12′ vs (a .no12);
+        no13 = no13′ ld (a .no13);
+        no14 = no14′ (a .no14);
+      }

@@ -1,0 +1,429 @@
+-- The state through a list of cycles: it is well formed and its main cells have their kinds, so that each answered cycle solves the main equations.
+use Prim.Native.Nat.{ℕ, zero, suc, _+_, _*_, _-_, _^_, _<_, _≤_}
+use mathlib.Core.Bool.{Bool, true, false, not, _&&_, _||_}
+use mathlib.Core.List.{List, [], _∷_, _++_, map, append-nil, append-assoc, Memᴰ·append-left as in-left, Memᴰ·append-right as in-right}
+use mathlib.Core.Path.{_≡_, refl, sym, ap, ap₂, subst, _∙_}
+use native.Mathlib.Omega.{arith}
+use lib.ListN.{length, take, drop, getD, length-append, length-drop, length-map, take-append-drop}
+use lib.Seq.{take-at, drop-at, length-take-le, take-append-le, drop-append-le, take-add}
+use lib.Dec.{T, leb, eqb, eqb→eq, eqb-refl}
+use Rattle.ol_theory.specs.Member.{_∈_}
+use Rattle.ol_spec.specs.Lists.{concat, same, member}
+use Rattle.ol_spec.specs.Syntax.{Ty, bool, int, float32, float64, char, enum, Variable, Equation, Node, File, noNode, variables, main}
+use Rattle.ol_spec.specs.Cell.{tag, cells, valueOf, valuesOf, goodCell, goodCells}
+use Rattle.ol_spec.specs.Types.{IntTy, intIn, inType, defaultOf, defaults, kind}
+use Rattle.ol_spec.specs.Limits.{Loader}
+use Rattle.ol_spec.specs.Eval.{Globals, callees}
+use Rattle.ol_spec.specs.Step.{equationSites, sites, ownSize, isFresh, oldCells, oldSegs, split, startedRecord, Ended, finished, failedAt, overflowedAt, Run, run, calls, freshAt, freshRecord}
+use Rattle.ol_spec.specs.Admission.{admitted, judge, headSize, stateSize}
+use Rattle.ol_spec.specs.State.{globalsOf, freshState, goodSites, goodOwn, goodState, goodEach, goodInputs}
+use Rattle.ol_spec.specs.Answers.{faultAt}
+use Rattle.ol_spec.specs.Cycle.{CycleCall, endOn, mainRun, endRun, noCycle, cycleUnless, fits17, cycleJudged, cycle}
+use Rattle.ol_spec.specs.Demand3.{Turn, nextState, history, InKind, given, Answered, KeepsKinds, Solves, AllSolve, Bytes, SolutionClaim}
+use Rattle.ol_spec.specs.declared.Value.{Value}
+use Rattle.ol_spec.specs.declared.Value.the-variants as Val
+use Rattle.ol_spec.specs.declared.Fault.{Fault}
+use Rattle.ol_spec.specs.declared.Cycled.the-variants as Cyc
+use Rattle.ol_spec.proofs.Tests.{T-and, and-T, T-true, true-T}
+use Rattle.ol_spec.proofs.Cells.{AllFine, good-fine, cells-back, length-cells, same-refl}
+use Rattle.ol_spec.proofs.Good.{Rec}
+use Rattle.ol_spec.proofs.Runs.{PlainEqs, Segs, segs-concat, segs-length, split-segs, split-concat, Instance, inner-good, RunGood, run-meets, start-length, started-instance, length-values}
+use Rattle.ol_spec.proofs.Calls.{mayBe, isGood, Keeps, calls-keep, fresh-main, fresh-rec, fresh-sites}
+use Rattle.ol_spec.proofs.MainFacts.{main-at}
+use Rattle.ol_spec.proofs.ReadFacts.{All, file-read}
+use Rattle.ol_spec.proofs.Admits.{admits}
+use Rattle.ol_spec.proofs.MainSystem.{viewOn}
+use Rattle.ol_spec.proofs.OneCycle.{begin, solves}
+use Rattle.ol_spec.proofs.Admitted.{Facts, facts}
+
+-- ---- lists
+
+map-append : {A B : Type 0} (h : A → B) (a b : List A) → map h (a ++ b) ≡ map h a ++ map h b
+map-append h [] b = refl
+map-append h (x ∷ a) b = ap (λ l. h x ∷ l) (map-append h a b)
+
+map-drop : {A B : Type 0} (h : A → B) (n : ℕ) (l : List A) → map h (drop n l) ≡ drop n (map h l)
+map-drop h zero [] = refl
+map-drop h (suc n) [] = refl
+map-drop h zero (x ∷ l) = refl
+map-drop h (suc n) (x ∷ l) = map-drop h n l
+
+-- ---- inputs
+
+intIn-tag : (t : IntTy) (v : Value) (ens : List (List ℕ)) → T (intIn ens t v) → tag v ≡ 1
+intIn-tag t (Val.Bool b) ens h = absurd h
+intIn-tag t (Val.Int i) ens h = refl
+intIn-tag t (Val.Float x) ens h = absurd h
+intIn-tag t (Val.Float32 x) ens h = absurd h
+intIn-tag t (Val.Enum w) ens h = absurd h
+
+inType-tag : (ens : List (List ℕ)) (t : Ty) (v : Value) → T (inType ens t v) → tag v ≡ kind ens t
+inType-tag ens bool v h = eqb→eq (tag v) 0 h
+inType-tag ens (int c) v h = intIn-tag _ v ens h
+inType-tag ens float32 v h = eqb→eq (tag v) 3 h
+inType-tag ens float64 v h = eqb→eq (tag v) 2 h
+inType-tag ens char v h = intIn-tag _ v ens h
+inType-tag ens (enum e) v h = eqb→eq (tag v) 4 (T-and (eqb (tag v) 4) _ h .0)
+
+same-fault : {x y : Fault} → Cyc.Refused x ≡ Cyc.Refused y → x ≡ y
+same-fault e = cc
+
+each-tags : (ens : List (List ℕ)) (xs : List Variable) (s : List ℕ) → T (goodEach ens xs s) → map tag (valuesOf (length xs) s) ≡ map (λ v. kind ens (v .ty)) xs
+each-tags ens [] s h = refl
+each-tags ens (x ∷ xs) s h =
+    let w = T-and (goodCell (concat ens) (take 9 s) && inType ens (x .ty) (valueOf (take 9 s))) _ h in
+    ap₂ {C = List ℕ} (λ a l. a ∷ l) (inType-tag ens (x .ty) (valueOf (take 9 s)) (T-and (goodCell (concat ens) (take 9 s)) _ (w .0) .1)) (each-tags ens xs (drop 9 s) (w .1))
+
+each-fine : (ens : List (List ℕ)) → ((x : ℕ) → T (member x (concat ens)) → x < 2 ^ 16) → (xs : List Variable) (s : List ℕ) → T (goodEach ens xs s) → AllFine (concat ens) (valuesOf (length xs) s)
+each-fine ens short [] s h = tt
+each-fine ens short (x ∷ xs) s h =
+    let w = T-and (goodCell (concat ens) (take 9 s) && inType ens (x .ty) (valueOf (take 9 s))) _ h in
+    (good-fine (concat ens) short (take 9 s) (T-and (goodCell (concat ens) (take 9 s)) _ (w .0) .0), each-fine ens short xs (drop 9 s) (w .1))
+
+default-tags : (ens : List (List ℕ)) (xs : List Variable) → map tag (defaults ens xs) ≡ map (λ v. kind ens (v .ty)) xs
+default-tags ens [] = refl
+default-tags ens (x ∷ xs) = ap (λ l. kind ens (x .ty) ∷ l) (default-tags ens xs)
+
+-- ---- what a record's own part tells does not depend on what follows it
+
+cells-part : (vs : List ℕ) (m : ℕ) (a b c : List ℕ) → length a ≡ 9 * m → (goodCells vs m (a ++ b) ≡ goodCells vs m (a ++ c)) × (valuesOf m (a ++ b) ≡ valuesOf m (a ++ c))
+cells-part vs zero a b c e = (refl, refl)
+cells-part vs (suc m) a b c e =
+    let h : 9 ≤ length a = omega arith in
+    let tb = take-append-le 9 a b h in
+    let tc = take-append-le 9 a c h in
+    let db = drop-append-le 9 a b h in
+    let dc = drop-append-le 9 a c h in
+    let w = cells-part vs m (drop 9 a) b c (length-drop 9 a ∙ omega arith) in (
+      ap₂ (λ x y. goodCell vs x && goodCells vs m y) tb db ∙ ap (λ y. goodCell vs (take 9 a) && y) (w .0) ∙ sym (ap₂ (λ x y. goodCell vs x && goodCells vs m y) tc dc),
+      ap₂ {C = List Value} (λ x y. valueOf x ∷ valuesOf m y) tb db ∙ ap {B = List Value} (λ y. valueOf (take 9 a) ∷ y) (w .1) ∙ sym (ap₂ {C = List Value} (λ x y. valueOf x ∷ valuesOf m y) tc dc),
+    )
+
+own-part : (g : Globals) (n : Node) (a b c : List ℕ) → length a ≡ ownSize n → (T (goodOwn g n (a ++ b)) → T (goodOwn g n (a ++ c))) × (oldCells n (a ++ b) ≡ oldCells n (a ++ c))
+unfolding goodOwn
+own-part g n [] b c e = absurd (omega arith)
+own-part g n (x ∷ a) b c e =
+    let m = length (variables n) in
+    let w = cells-part (concat (g .enums)) m a b c (omega arith) in
+    let tb = take-at a b (9 * m) (omega arith) in
+    let tc = take-at a c (9 * m) (omega arith) in
+    (subst T (ap₂ (λ p q. leb x 1 && p && (not (eqb x 0) || same q (cells (defaults (g .enums) (variables n))))) (w .0) (tb ∙ sym tc)), w .1)
+
+-- the fresh segment of an equation
+abbrev pub freshSeg : Globals → Equation → List ℕ
+freshSeg g q = concat (map (freshAt g (length (g .nodes))) (callees (q .rhs)))
+
+concat-append : (a b : List (List ℕ)) → concat (a ++ b) ≡ concat a ++ concat b
+concat-append [] b = refl
+concat-append (x ∷ a) b = ap (λ l. x ++ l) (concat-append a b) ∙ sym (append-assoc x (concat a) (concat b))
+
+fresh-concat : (g : Globals) (qs : List Equation) → concat (map (freshSeg g) qs) ≡ concat (map (freshAt g (length (g .nodes))) (concat (map equationSites qs)))
+fresh-concat g [] = refl
+fresh-concat g (q ∷ qs) =
+    let h = freshAt g (length (g .nodes)) in
+    ap (λ l. freshSeg g q ++ l) (fresh-concat g qs)
+    ∙ sym (ap concat (map-append h (callees (q .rhs)) (concat (map equationSites qs))) ∙ concat-append (map h (callees (q .rhs))) (map h (concat (map equationSites qs))))
+
+module _ (f : File) (vs : List Value) (F : Facts f vs) where
+  abbrev g : Globals
+  g = globalsOf f vs
+
+  abbrev n : Node
+  n = main f
+
+  abbrev K : ℕ
+  K = length (f .nodes) - 1
+
+  is-main : n ≡ getD (f .nodes) K noNode
+  is-main = main-at (f .nodes) (F .some-node)
+
+  pub plain-main : PlainEqs (mayBe g) (n .equations)
+  plain-main = subst (λ x. PlainEqs (mayBe g) (x .equations)) (sym is-main) (F .plain K)
+
+  pub keep : Keeps f vs (F .lower) (F .short) (F .constantsFine) (F .plain) (F .fresh-fine) (calls g)
+  keep = calls-keep f vs (F .lower) (F .short) (F .constantsFine) (F .plain) (F .fresh-fine) (length (f .nodes))
+
+  abbrev p : ℕ → List ℕ → Bool
+  p = isGood f vs (F .lower)
+
+  abbrev pub Inst : List ℕ → Type 0
+  Inst r = Instance g p (mayBe g) (calls g) (F .short) (F .constantsFine) keep n plain-main r
+
+  -- well formed: what 15 asks
+  pub record StateWell (old : List ℕ) : Type 0 where
+    pub sized : length old ≡ stateSize f
+    pub head : take (headSize f) old ≡ cells vs
+    pub inst : Inst (drop (headSize f) old)
+
+  -- and with the declared kinds
+  pub record StateOk (old : List ℕ) : Type 0 where
+    pub well : StateWell old
+    pub kinds : InKind f (oldCells n (drop (headSize f) old))
+
+  pub ok-good : {old : List ℕ} → StateWell old → goodState f vs old ≡ true
+  unfolding goodState
+  ok-good {old} h =
+      T-true _ (and-T (eqb (length old) (stateSize f) && same (take (headSize f) old) (cells vs)) _
+      (and-T (eqb (length old) (stateSize f)) _ (subst (λ m. T (eqb (length old) m)) (h .sized) (eqb-refl (length old))) (subst (λ l. T (same l (cells vs))) (sym (h .head)) (same-refl (cells vs))))
+      (and-T (goodOwn g n (drop (headSize f) old)) _ (h .inst .own) (h .inst .inner)))
+
+  head-length : length (cells vs) ≡ headSize f
+  head-length = length-cells vs ∙ ap (λ m. 9 * m) (F .constantCount)
+
+  -- a state from its parts
+  well-parts : (r : List ℕ) → Inst r → StateWell (cells vs ++ r)
+  unfolding stateSize
+  well-parts r i =
+      record {
+        sized = length-append (cells vs) r ∙ ap₂ _+_ head-length (i .sized);
+        head = take-at (cells vs) r (headSize f) head-length;
+        inst = subst Inst (sym (drop-at (cells vs) r (headSize f) head-length)) i;
+      }
+
+  ok-kinds : (r : List ℕ) → InKind f (oldCells n r) → InKind f (oldCells n (drop (headSize f) (cells vs ++ r)))
+  ok-kinds r k = subst (λ l. InKind f (oldCells n l)) (sym (drop-at (cells vs) r (headSize f) head-length)) k
+
+  -- ---- the start
+
+  fresh-inst : Inst (freshRecord g n)
+  fresh-inst =
+      let h = subst (λ m. (q : PlainEqs (mayBe g) (m .equations)) → Instance g p (mayBe g) (calls g) (F .short) (F .constantsFine) keep m q (freshRecord g m)) (sym is-main)
+      (λ q. let x = fresh-main f vs (F .lower) (F .short) (F .constantsFine) (F .plain) (F .fresh-fine) (calls g) keep K (omega (arith, F .some-node)) in record { sized = x .sized; own = x .own; inner = x .inner }) in
+      h plain-main
+
+  fresh-cells : AllFine (concat (f .enums)) (defaults (f .enums) (variables n))
+  fresh-cells = subst (λ m. AllFine (concat (f .enums)) (defaults (f .enums) (variables m))) (sym is-main) (F .fresh-fine K)
+
+  pub start-ok : StateOk (freshState f vs)
+  unfolding freshState
+  start-ok =
+      let ds = defaults (f .enums) (variables n) in
+      let rest = concat (map (freshAt g (length (f .nodes))) (sites n)) in
+      record {
+        well = well-parts (freshRecord g n) fresh-inst;
+        kinds = ok-kinds (freshRecord g n)
+            (ap (map tag) (ap (λ m. valuesOf m (cells ds ++ rest)) (sym (length-map (variables n) (defaultOf (f .enums)))) ∙ cells-back (concat (f .enums)) ds rest fresh-cells) ∙ default-tags (f .enums) (variables n));
+      }
+
+  -- the parts of the fresh state
+  pub fresh-parts : let r = drop (headSize f) (freshState f vs) in
+      (oldCells n r ≡ defaults (f .enums) (variables n)) × (isFresh r ≡ true) × (oldSegs g n r ≡ map (freshSeg g) (n .equations))
+  unfolding freshState
+  fresh-parts =
+      let ds = defaults (f .enums) (variables n) in
+      let rest = concat (map (freshAt g (length (f .nodes))) (sites n)) in
+      let e : drop (headSize f) (cells vs ++ freshRecord g n) ≡ freshRecord g n = drop-at (cells vs) (freshRecord g n) (headSize f) head-length in
+      let len : length ds ≡ length (variables n) = length-map (variables n) (defaultOf (f .enums)) in
+      let q = freshAt g (length (f .nodes)) in (
+        ap (oldCells n) e ∙ ap (λ m. valuesOf m (cells ds ++ rest)) (sym len) ∙ cells-back (concat (f .enums)) ds rest fresh-cells,
+        ap isFresh e,
+        ap (oldSegs g n) e ∙ ap (split g (n .equations)) (drop-at (0 ∷ cells ds) rest (ownSize n) (omega (arith, length-cells ds)) ∙ sym (fresh-concat g (n .equations)))
+            ∙ split-concat g p (n .equations) (map (freshSeg g) (n .equations)) (fresh-segs (n .equations) (λ c m. fresh-rec f vs (F .lower) (F .short) (F .constantsFine) (F .plain) (F .fresh-fine) (length (f .nodes)) c (low c m) (low c m))),
+      )
+    where
+      low : (c : ℕ) → c ∈ sites n → c < length (f .nodes)
+      low c m = omega (arith, F .lower K c (subst (λ x. c ∈ sites x) is-main m), F .some-node)
+
+      fresh-segs : (qs : List Equation) → ((c : ℕ) → c ∈ concat (map equationSites qs) → Rec g p c (freshAt g (length (f .nodes)) c)) → Segs g p qs (map (freshSeg g) qs)
+      fresh-segs [] h = tt
+      fresh-segs (x ∷ qs) h = (
+        fresh-sites f vs (F .lower) (F .short) (F .constantsFine) (F .plain) (F .fresh-fine) (freshAt g (length (f .nodes))) (callees (x .rhs)) (λ c m. h c (in-left (concat (map equationSites qs)) m)),
+        fresh-segs qs (λ c m. h c (in-right (callees (x .rhs)) m)),
+      )
+
+  -- ---- a cycle
+
+  module _ (old ins : List ℕ) (h : StateWell old) (good-ins : T (goodInputs f ins)) where
+    abbrev rec : List ℕ
+    rec = drop (headSize f) old
+
+    abbrev ws : List Value
+    ws = valuesOf (length (n .inputs)) ins
+
+    each : T (goodEach (f .enums) (n .inputs) ins)
+    unfolding goodInputs
+    each = T-and (eqb (length ins) (9 * length (n .inputs))) _ good-ins .1
+
+    ws-fine : AllFine (concat (f .enums)) ws
+    ws-fine = each-fine (f .enums) (F .short) (n .inputs) ins each
+
+    pub ran : RunGood g p (mayBe g) (calls g) (F .short) (F .constantsFine) keep n plain-main (length (variables n)) (mainRun f vs old ins)
+    unfolding mainRun
+    ran = run-meets g p (mayBe g) (calls g) (F .short) (F .constantsFine) keep n plain-main ws rec ws-fine (length-values (length (n .inputs)) ins) (h .inst)
+
+    pub begins : length (begin f vs (F .mainly) old ws) ≡ length (variables n)
+    begins = start-length g p (mayBe g) (calls g) (F .short) (F .constantsFine) keep n plain-main ws rec (length-values (length (n .inputs)) ins)
+
+    pub begin-kinds : InKind f (oldCells n rec) → InKind f (begin f vs (F .mainly) old ws)
+    begin-kinds hk =
+        let ks : Variable → ℕ = λ v. kind (f .enums) (v .ty) in
+        let is = n .inputs in
+        let os = n .outputs in
+        let ls = n .locals in
+        let all : map ks (variables n) ≡ map ks is ++ map ks (os ++ ls) = ap (map ks) (append-assoc is os ls) ∙ map-append ks is (os ++ ls) in
+        map-append tag ws (drop (length is) (oldCells n rec))
+        ∙ ap₂ _++_ (each-tags (f .enums) is ins each) (map-drop tag (length is) (oldCells n rec) ∙ ap (drop (length is)) (hk ∙ all) ∙ drop-at (map ks is) (map ks (os ++ ls)) (length is) (length-map is ks))
+        ∙ sym all
+
+    pub counted : length (oldSegs g n rec) ≡ length (n .equations)
+    counted = segs-length g p (n .equations) _ (split-segs g p (n .equations) _ (inner-good g p (mayBe g) (calls g) (F .short) (F .constantsFine) keep n plain-main (h .inst)))
+
+    -- an answered cycle
+    pub new-cells : InKind f (oldCells n rec) → mainRun f vs old ins .end ≡ finished → InKind f (mainRun f vs old ins .cells) → Solves f vs old (mainRun f vs old ins .cells)
+    unfolding mainRun run
+    new-cells hk e k =
+        solves f vs (F .mainly) old ws (length-values (length (n .inputs)) ins) begins (begin-kinds hk) counted (mainRun f vs old ins .cells) (mainRun f vs old ins .segs)
+        (ap (λ x. viewOn n g (calls g) (isFresh rec) (oldCells n rec) x (mainRun f vs old ins .cells) (mainRun f vs old ins .segs)) e) k
+
+    pub given-back : valuesOf (length (variables n)) (cells (mainRun f vs old ins .cells)) ≡ mainRun f vs old ins .cells
+    given-back =
+        let cs = mainRun f vs old ins .cells in
+        ap₂ (λ m l. valuesOf m l) (sym (ran .counted)) (sym (append-nil (cells cs))) ∙ cells-back (concat (f .enums)) cs [] (ran .fine)
+
+    pub answered-well : StateWell (take (headSize f) old ++ startedRecord (mainRun f vs old ins .cells) (mainRun f vs old ins .segs))
+    answered-well =
+        let cs = mainRun f vs old ins .cells in
+        let ss = mainRun f vs old ins .segs in
+        subst (λ l. StateWell (l ++ startedRecord cs ss)) (sym (h .head))
+        (well-parts (startedRecord cs ss) (started-instance g p (mayBe g) (calls g) (F .short) (F .constantsFine) keep n plain-main cs ss (ran .fine) (ran .counted) (ran .segs)))
+
+    -- the parts of the state that it leaves
+    left-rec : (cs : List Value) (ss : List (List ℕ)) → drop (headSize f) (take (headSize f) old ++ startedRecord cs ss) ≡ startedRecord cs ss
+    left-rec cs ss = ap (λ l. drop (headSize f) (l ++ startedRecord cs ss)) (h .head) ∙ drop-at (cells vs) (startedRecord cs ss) (headSize f) head-length
+
+    pub left-parts : let r = drop (headSize f) (take (headSize f) old ++ startedRecord (mainRun f vs old ins .cells) (mainRun f vs old ins .segs)) in
+        (oldCells n r ≡ mainRun f vs old ins .cells) × (isFresh r ≡ false) × (oldSegs g n r ≡ mainRun f vs old ins .segs)
+    left-parts =
+        let cs = mainRun f vs old ins .cells in
+        let ss = mainRun f vs old ins .segs in
+        let e = left-rec cs ss in (
+          ap (oldCells n) e ∙ ap (λ m. valuesOf m (cells cs ++ concat ss)) (sym (ran .counted)) ∙ cells-back (concat (f .enums)) cs (concat ss) (ran .fine),
+          ap isFresh e,
+          ap (oldSegs g n) e ∙ ap (split g (n .equations)) (drop-at (1 ∷ cells cs) (concat ss) (ownSize n) (omega (arith, length-cells cs, ran .counted))) ∙ split-concat g p (n .equations) ss (ran .segs),
+        )
+
+    own-length : length (take (ownSize n) rec) ≡ ownSize n
+    own-length = length-take-le (ownSize n) rec (omega (arith, h .inst .sized))
+
+    pub answered-ok : InKind f (mainRun f vs old ins .cells) → StateOk (take (headSize f) old ++ startedRecord (mainRun f vs old ins .cells) (mainRun f vs old ins .segs))
+    answered-ok k = record { well = answered-well; kinds = ap (map tag) (left-parts .0) ∙ k }
+
+    failed-parts : let ss = mainRun f vs old ins .segs in take (headSize f + ownSize n) old ++ concat ss ≡ cells vs ++ (take (ownSize n) rec ++ concat ss)
+    failed-parts =
+        let ss = mainRun f vs old ins .segs in
+        ap (λ l. l ++ concat ss) (take-add (headSize f) (ownSize n) old ∙ ap (λ l. l ++ take (ownSize n) rec) (h .head)) ∙ append-assoc (cells vs) (take (ownSize n) rec) (concat ss)
+
+    own-kept : let ss = mainRun f vs old ins .segs in (T (goodOwn g n (take (ownSize n) rec ++ drop (ownSize n) rec)) → T (goodOwn g n (take (ownSize n) rec ++ concat ss))) × (oldCells n (take (ownSize n) rec ++ drop (ownSize n) rec) ≡ oldCells n (take (ownSize n) rec ++ concat ss))
+    own-kept = own-part g n (take (ownSize n) rec) (drop (ownSize n) rec) (concat (mainRun f vs old ins .segs)) own-length
+
+    failed-well : StateWell (take (headSize f + ownSize n) old ++ concat (mainRun f vs old ins .segs))
+    failed-well =
+        let ss = mainRun f vs old ins .segs in
+        let a = take (ownSize n) rec in
+        let gs = segs-concat g p (n .equations) ss (ran .segs) in
+        subst StateWell (sym failed-parts)
+        (well-parts (a ++ concat ss)
+        (record {
+          sized = length-append a (concat ss) ∙ ap₂ _+_ own-length (gs .sized);
+          own = own-kept .0 (subst (λ l. T (goodOwn g n l)) (sym (take-append-drop (ownSize n) rec)) (h .inst .own));
+          inner = subst (λ l. T (goodSites g p (sites n) l)) (sym (drop-at a (concat ss) (ownSize n) own-length)) (gs .good);
+        }))
+
+    failed-ok : InKind f (oldCells n rec) → StateOk (take (headSize f + ownSize n) old ++ concat (mainRun f vs old ins .segs))
+    failed-ok hk =
+        record {
+          well = failed-well;
+          kinds = subst (λ l. InKind f (oldCells n (drop (headSize f) l))) (sym failed-parts) (ok-kinds _ (ap (map tag) (sym (own-kept .1) ∙ ap (oldCells n) (take-append-drop (ownSize n) rec)) ∙ hk));
+        }
+
+  -- what is shown of each cycle
+  abbrev Right : Turn → List ℕ → CycleCall → Type 0
+  Right t old c =
+      KeepsKinds f (record { turn = t; old = old; result = c })
+      → (Answered (record { turn = t; old = old; result = c }) → Solves f vs old (given f (record { turn = t; old = old; result = c }))) × StateOk (nextState (c .answer) old (c .new))
+
+  refused-right : (t : Turn) (old : List ℕ) (num place : ℕ) → StateOk old → Right t old (noCycle num place (t .new) (t .values))
+  refused-right t old num place h k = (λ e. absurd (never e), h)
+    where
+      never : Cyc.Refused (faultAt num place) ≡ Cyc.Answered → ⊥
+      never e = let z : _≡_ {A = ℕ} 0 1 = cc in omega arith
+
+  run-right : (t : Turn) (old : List ℕ) → StateOk old → T (goodInputs f (t .inputs)) → Right t old (endRun f old (t .values) (mainRun f vs old (t .inputs)))
+  run-right t old h gi = go (mainRun f vs old (t .inputs) .end) refl
+    where
+      u : Run
+      u = mainRun f vs old (t .inputs)
+
+      never : {x : _} → Cyc.Stopped x ≡ Cyc.Answered → ⊥
+      never e = let z : _≡_ {A = ℕ} 0 1 = cc in omega arith
+
+      go : (e : Ended) → u .end ≡ e → Right t old (endOn f old (t .values) e (u .cells) (u .segs))
+      go finished e k =
+          let back = given-back old (t .inputs) (h .well) gi in
+          let ks = subst (InKind f) back (k refl) in
+          (λ a. subst (Solves f vs old) (sym back) (new-cells old (t .inputs) (h .well) gi (h .kinds) e ks), answered-ok old (t .inputs) (h .well) gi ks)
+      go (failedAt i) e k = (λ a. absurd (never a), failed-ok old (t .inputs) (h .well) gi (h .kinds))
+      go (overflowedAt i) e k = (λ a. absurd (never a), h)
+
+  cycle-right : (ld : Loader) (s : List ℕ) → judge ld s ≡ admitted f vs → (t : Turn) (old : List ℕ) → StateOk old → Right t old (cycle ld s old (t .inputs) (t .new) (t .values))
+  unfolding cycle
+  cycle-right ld s e t old h =
+      subst (λ j. Right t old (cycleJudged j old (t .inputs) (t .new) (t .values))) (sym e)
+      (subst (λ b. Right t old (cycleUnless (not b) (not (goodInputs f (t .inputs))) (not (fits17 f (t .new) (t .values))) f vs old (t .inputs) (t .new) (t .values))) (sym (ok-good (h .well)))
+      (go (goodInputs f (t .inputs)) refl (fits17 f (t .new) (t .values))))
+    where
+      go : (b : Bool) → goodInputs f (t .inputs) ≡ b → (b′ : Bool) → Right t old (cycleUnless false (not b) (not b′) f vs old (t .inputs) (t .new) (t .values))
+      go false q b′ = refused-right t old 16 0 h
+      go true q false = refused-right t old 17 0 h
+      go true q true = run-right t old h (true-T (goodInputs f (t .inputs)) q)
+
+  all-solve : (ld : Loader) (s : List ℕ) → judge ld s ≡ admitted f vs → (ts : List Turn) (old : List ℕ) → StateOk old → AllSolve f vs (history ld s ts old)
+  all-solve ld s e [] old h = tt
+  all-solve ld s e (t ∷ ts) old h = λ k. let w = cycle-right ld s e t old h k in (w .0, all-solve ld s e ts _ (w .1))
+
+  -- ---- 15 never occurs: each state of a list is well formed, whatever the kinds
+
+  abbrev Fine15 : List ℕ → CycleCall → Type 0
+  Fine15 old c = ((q : ℕ) → ¬ (c .answer ≡ Cyc.Refused (faultAt 15 q))) × StateWell (nextState (c .answer) old (c .new))
+
+  other-number : (m q : ℕ) → ¬ (m ≡ 15) → ¬ (Cyc.Refused (faultAt m 0) ≡ Cyc.Refused (faultAt 15 q))
+  other-number m q h e = h (ap (λ (x : Fault). x .number) (same-fault e))
+
+  run-fine : (t : Turn) (old : List ℕ) → StateWell old → T (goodInputs f (t .inputs)) → Fine15 old (endRun f old (t .values) (mainRun f vs old (t .inputs)))
+  run-fine t old h gi = go (mainRun f vs old (t .inputs) .end)
+    where
+      go : (e : Ended) → Fine15 old (endOn f old (t .values) e (mainRun f vs old (t .inputs) .cells) (mainRun f vs old (t .inputs) .segs))
+      go finished = (λ q e. let z : _≡_ {A = ℕ} 0 1 = cc in omega arith, answered-well old (t .inputs) h gi)
+      go (failedAt i) = (λ q e. let z : _≡_ {A = ℕ} 0 1 = cc in omega arith, failed-well old (t .inputs) h gi)
+      go (overflowedAt i) = (λ q e. let z : _≡_ {A = ℕ} 0 1 = cc in omega arith, h)
+
+  cycle-fine : (ld : Loader) (s : List ℕ) → judge ld s ≡ admitted f vs → (t : Turn) (old : List ℕ) → StateWell old → Fine15 old (cycle ld s old (t .inputs) (t .new) (t .values))
+  unfolding cycle
+  cycle-fine ld s e t old h =
+      subst (λ j. Fine15 old (cycleJudged j old (t .inputs) (t .new) (t .values))) (sym e)
+      (subst (λ b. Fine15 old (cycleUnless (not b) (not (goodInputs f (t .inputs))) (not (fits17 f (t .new) (t .values))) f vs old (t .inputs) (t .new) (t .values))) (sym (ok-good h))
+      (go (goodInputs f (t .inputs)) refl (fits17 f (t .new) (t .values))))
+    where
+      go : (b : Bool) → goodInputs f (t .inputs) ≡ b → (b′ : Bool) → Fine15 old (cycleUnless false (not b) (not b′) f vs old (t .inputs) (t .new) (t .values))
+      go false q b′ = (λ x. other-number 16 x (λ e. omega arith), h)
+      go true q false = (λ x. other-number 17 x (λ e. omega arith), h)
+      go true q true = run-fine t old h (true-T (goodInputs f (t .inputs)) q)
+
+  no-15 : (ld : Loader) (s : List ℕ) → judge ld s ≡ admitted f vs → (ts : List Turn) (old : List ℕ) → StateWell old → All (λ m. (goodState f vs (m .old) ≡ true) × ((q : ℕ) → ¬ (m .result .answer ≡ Cyc.Refused (faultAt 15 q)))) (history ld s ts old)
+  no-15 ld s e [] old h = tt
+  no-15 ld s e (t ∷ ts) old h = let w = cycle-fine ld s e t old h in ((ok-good h, w .0), no-15 ld s e ts _ (w .1))
+
+-- of an admitted file, in a list of cycles from its start state, every old state is well formed: 15 is never answered
+pub never-15 : (ld : Loader) (s : List ℕ) (f : File) (vs : List Value) (ts : List Turn) → Bytes s → judge ld s ≡ admitted f vs
+    → All (λ m. (goodState f vs (m .old) ≡ true) × ((q : ℕ) → ¬ (m .result .answer ≡ Cyc.Refused (faultAt 15 q)))) (history ld s ts (freshState f vs))
+never-15 ld s f vs ts bytes e =
+    let a = admits ld s f vs e in
+    let F = facts ld s f vs (file-read s bytes ld f (a .end) (a .read)) a in
+    no-15 f vs F ld s e ts (freshState f vs) (start-ok f vs F .well)
+
+pub solution-claim : (ld : Loader) → SolutionClaim ld
+unfolding SolutionClaim
+solution-claim ld s f vs ts bytes e =
+    let a = admits ld s f vs e in
+    let F = facts ld s f vs (file-read s bytes ld f (a .end) (a .read)) a in
+    all-solve f vs F ld s e ts (freshState f vs) (start-ok f vs F)
