@@ -1,30 +1,26 @@
 -- Document 01's examples, executed.
-use Prim.Native.Nat.{ℕ, zero, suc, _+_, _*_}
+use Prim.Native.Nat.{ℕ, _+_, _*_}
 use mathlib.Core.Bool.{Bool, true, false}
 use mathlib.Core.List.{List, [], _∷_, _++_}
-use mathlib.Core.Option.{some}
 use mathlib.Core.Path.{_≡_, refl}
 use lib.ListN.{replicate, take}
-use Rattle.ol_spec.specs.Syntax.{Ty, bool, int, float32, Function, Operator, Not, And, Add, Div, Mod, Shr, Expr, boolLit, var, unary, binary, ifThenElse}
-use Rattle.ol_spec.specs.Syntax.{pre, arrow, call, tuple, nil, cons, Equation, Node, File}
+use Rattle.ol_spec.specs.Syntax.{bool, int, Function, Operator, And, Add, Div, Expr, boolLit, var, binary, ifThenElse}
+use Rattle.ol_spec.specs.Syntax.{pre, arrow, call, tuple, nil, cons, Node, File}
 use Rattle.ol_spec.specs.Read.{got, readFile}
 use Rattle.ol_spec.specs.Encode.{encode}
-use Rattle.ol_spec.specs.Cell.{valuesOf, cells}
-use Rattle.ol_spec.specs.Types.{castTo}
+use Rattle.ol_spec.specs.Cell.{cells}
 use Rattle.ol_spec.specs.Operators.{binaryOf}
 use Rattle.ol_spec.specs.Limits.{relayLoader}
-use Rattle.ol_spec.specs.Order.{order, unplaced}
 use Rattle.ol_spec.specs.Admission.{constants, admission}
 use Rattle.ol_spec.specs.State.{freshState}
 use Rattle.ol_spec.specs.Cycle.{ordering}
 use Rattle.ol_spec.specs.Answers.{faultAt}
 use Rattle.ol_spec.specs.declared.Value.{Value}
 use Rattle.ol_spec.specs.declared.Value.the-variants as Val
-use Rattle.ol_spec.specs.declared.Outcome.{Outcome}
 use Rattle.ol_spec.specs.declared.Outcome.the-variants as Out
 use Rattle.ol_spec.specs.declared.Sorted.the-variants as Sort
 use Rattle.ol_spec.specs.declared.Verdict.the-variants.{Admitted, Refused}
-use Rattle.ol_spec.specs.Build.{everything, x, _≔_, node, file, num, cyclesFrom, trace, i, refusal, v1, admit, cycleOn, neg, realOf, singleOf, gives}
+use Rattle.ol_spec.specs.Build.{everything, left, nots, doubling, abc, x, _≔_, node, file, num, trace, counting, i, refusal, v1, admit, cycleOn}
 
 -- ---- the counter
 
@@ -32,9 +28,6 @@ abbrev counterBytes : List ℕ
 counterBytes =
     0x01 ∷ 0x00 ∷ 0x00 ∷ 0x01 ∷ 0x01 ∷ 0x00 ∷ 0x01 ∷ 0x00 ∷ 0x01 ∷ 0x04 ∷ 0x00 ∷ 0x01 ∷ 0x01 ∷ 0x00 ∷ 0x01 ∷ 0x09 ∷ 0x01 ∷ 0 ∷ 0 ∷ 0 ∷ 0 ∷ 0 ∷ 0 ∷ 0 ∷ 0
     ∷ 0x06 ∷ 0x0A ∷ 0x08 ∷ 0x04 ∷ 0x00 ∷ 0x01 ∷ 0x01 ∷ 0 ∷ 0 ∷ 0 ∷ 0 ∷ 0 ∷ 0 ∷ 0 ∷ 1 ∷ []
-
-abbrev counting : Ty → File
-counting t = file (node Operator [] (x 1 t ∷ []) [] (1 ≔ arrow (num 0) (binary Add (pre (var 1)) (num 1)) ∷ []) ∷ [])
 
 abbrev counter : File
 counter = counting (int 4)
@@ -56,10 +49,6 @@ unfolding everything
 counter-cycles = refl
 
 -- ---- the table of faults, by number: the small example of each row, with its place
-
-abbrev nots : ℕ → Expr → Expr
-nots zero e = e
-nots (suc n) e = unary Not (nots n e)
 
 fault-1 : admission relayLoader (replicate 32769 0) ≡ refusal 1 32768
 unfolding everything
@@ -94,11 +83,6 @@ fault-5 = refl
 level-24 : admit (v1 (1 ≔ nots 23 (boolLit true) ∷ [])) ≡ Admitted 10
 unfolding everything
 level-24 = refl
-
--- at one byte 3 before 5: the byte at level 25 is no expression's
-fault-3-before-5 : admission relayLoader (take 63 (encode (v1 (1 ≔ nots 24 (boolLit true) ∷ []))) ++ 13 ∷ []) ≡ refusal 3 63
-unfolding everything
-fault-3-before-5 = refl
 
 fault-6 : admit (file (node Operator [] (x 1 (int 4) ∷ []) (x 1 (int 4) ∷ []) [] ∷ [])) ≡ refusal 6 11
 unfolding everything
@@ -137,11 +121,6 @@ fault-12 : admit (withConstant (binary Div (num 1) (num 0))) ≡ refusal 12 3
 unfolding everything
 fault-12 = refl
 
--- so many nodes, each calling the previous one twice
-abbrev doubling : ℕ → List Node
-doubling zero = node Operator [] (x 1 (int 4) ∷ []) [] [] ∷ []
-doubling (suc k) = doubling k ++ node Operator [] (x 1 (int 4) ∷ []) [] (1 ≔ binary Add (call k nil) (call k nil) ∷ []) ∷ []
-
 fault-13 : admit (file (doubling 31)) ≡ refusal 13 (12 + 30 * 19)
 unfolding everything
 fault-13 = refl
@@ -173,47 +152,6 @@ fault-19 : cycleOn (v1 (1 ≔ binary Add (num 9223372036854775807) (num 1) ∷ [
 unfolding everything
 fault-19 = refl
 
--- ---- the bench cases
-
-abbrev benchCases : List Outcome
-benchCases =
-    castTo (int 1) (i 200)
-    ∷ castTo (int 5) (neg 1)
-    ∷ castTo (int 1) (realOf 0x4072_CB33_3333_3333)
-    ∷ castTo (int 3) (realOf 0x7FF8_0000_0000_0000)
-    ∷ castTo (int 2) (realOf 0x4629_3E59_39A0_8CEA)
-    ∷ castTo float32 (i 16777217)
-    ∷ castTo float32 (i 16777219)
-    ∷ binaryOf Shr (neg 8) (i 1)
-    ∷ binaryOf Div (neg 7) (i 2)
-    ∷ binaryOf Mod (neg 7) (i 2)
-    ∷ []
-
-bench : benchCases ≡ gives (neg 56) ∷ gives (i 255) ∷ gives (i 44) ∷ gives (i 0) ∷ gives (neg 1) ∷ gives (singleOf 0x4B80_0000) ∷ gives (singleOf 0x4B80_0002) ∷ gives (neg 4) ∷ gives (neg 3) ∷ gives (neg 1) ∷ []
-unfolding everything
-bench = refl
-
--- a = b, b = c, c = 1
-abbrev abc : List Equation
-abc = 1 ≔ var 2 ∷ 2 ≔ var 3 ∷ 3 ≔ num 1 ∷ []
-
-bench-order : order abc ≡ 2 ∷ 1 ∷ 0 ∷ []
-unfolding everything
-bench-order = refl
-
--- an Int8 counter after 127
-after-127 : cyclesFrom (encode (counting (int 1))) 10 1 ([] ∷ []) (1 ∷ cells (i 127 ∷ [])) ≡ (0, 0, neg 128 ∷ []) ∷ []
-unfolding everything
-after-127 = refl
-
--- the table, as one statement
-bench-table :
-    (benchCases ≡ gives (neg 56) ∷ gives (i 255) ∷ gives (i 44) ∷ gives (i 0) ∷ gives (neg 1) ∷ gives (singleOf 0x4B80_0000) ∷ gives (singleOf 0x4B80_0002) ∷ gives (neg 4) ∷ gives (neg 3) ∷ gives (neg 1) ∷ [])
-    × (order abc ≡ 2 ∷ 1 ∷ 0 ∷ [])
-    × (trace counter ([] ∷ [] ∷ [] ∷ []) ≡ (0, 0, i 0 ∷ []) ∷ (0, 0, i 1 ∷ []) ∷ (0, 0, i 2 ∷ []) ∷ [])
-    × (cyclesFrom (encode (counting (int 1))) 10 1 ([] ∷ []) (1 ∷ cells (i 127 ∷ [])) ≡ (0, 0, neg 128 ∷ []) ∷ [])
-bench-table = (bench, bench-order, counter-cycles, after-127)
-
 -- ---- K: a failure in the untaken branch returns the instance to fresh
 
 abbrev K : Node
@@ -238,7 +176,7 @@ unfolding everything
 K-cycles = refl
 
 -- in the taken branch it stops the cycle; the instance is fresh again, and the main record is the old one
-K-stops : trace withK (bd false 1 ∷ bd false 0 ∷ bd false 1 ∷ []) ≡ (0, 0, bd false 1 ++ i 0 ∷ []) ∷ (18, 0, valuesOf 3 (replicate 27 7)) ∷ (0, 0, bd false 1 ++ i 0 ∷ []) ∷ []
+K-stops : trace withK (bd false 1 ∷ bd false 0 ∷ bd false 1 ∷ []) ≡ (0, 0, bd false 1 ++ i 0 ∷ []) ∷ (18, 0, left 3) ∷ (0, 0, bd false 1 ++ i 0 ∷ []) ∷ []
 unfolding everything
 K-stops = refl
 
@@ -251,19 +189,13 @@ withG =
     ∷ node Operator (x 1 bool ∷ x 2 (int 4) ∷ []) (x 3 (int 4) ∷ []) [] (3 ≔ ifThenElse (var 1) (num 0) (call 0 (cons (var 2) nil)) ∷ [])
     ∷ [])
 
-untaken-overflow : trace withG (bd true 0 ∷ bd true 1 ∷ []) ≡ (0, 0, bd true 0 ++ i 0 ∷ []) ∷ (19, 0, valuesOf 3 (replicate 27 7)) ∷ []
+untaken-overflow : trace withG (bd true 0 ∷ bd true 1 ∷ []) ≡ (0, 0, bd true 0 ++ i 0 ∷ []) ∷ (19, 0, left 3) ∷ []
 unfolding everything
 untaken-overflow = refl
 
--- with no call in it, the untaken branch is not evaluated
-untaken-no-call :
-    trace (v1 (1 ≔ ifThenElse (boolLit true) (num 0) (binary Add (num 1) (num 9223372036854775807)) ∷ [])) ([] ∷ []) ≡ (0, 0, i 0 ∷ []) ∷ []
-unfolding everything
-untaken-no-call = refl
-
 -- ---- a cold Pre fails at each cycle, since a failed cycle starts nothing
 
-cold-pre : trace (v1 (1 ≔ pre (var 1) ∷ [])) ([] ∷ [] ∷ []) ≡ (18, 0, valuesOf 1 (replicate 9 7)) ∷ (18, 0, valuesOf 1 (replicate 9 7)) ∷ []
+cold-pre : trace (v1 (1 ≔ pre (var 1) ∷ [])) ([] ∷ [] ∷ []) ≡ (18, 0, left 1) ∷ (18, 0, left 1) ∷ []
 unfolding everything
 cold-pre = refl
 
@@ -289,12 +221,3 @@ order-absent = refl
 order-length : ordering relayLoader counterBytes 0 [] ≡ record { answer = Sort.Refused (faultAt 17 0); buffer = [] }
 unfolding everything
 order-length = refl
-
--- of two definers the last counts, for a self-read too: v1 = 1, v1 = v1 is a ring, and v1 = v1, v1 = 1 is none
-last-definer : unplaced (1 ≔ num 1 ∷ 1 ≔ var 1 ∷ []) ≡ some 1
-unfolding everything
-last-definer = refl
-
-last-definer-first : order (1 ≔ var 1 ∷ 1 ≔ num 1 ∷ []) ≡ 1 ∷ 0 ∷ []
-unfolding everything
-last-definer-first = refl
