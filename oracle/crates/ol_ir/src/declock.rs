@@ -1,0 +1,1 @@
+../../../../docs/src/crates/ol_ir/src/declock.rs

@@ -1,0 +1,1 @@
+../../../../docs/src/crates/ol_sim/src/lib.rs
