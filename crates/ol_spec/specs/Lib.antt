@@ -18,5 +18,6 @@ pub mod State
 pub mod Cycle
 pub mod Demand3
 pub mod Build
+pub mod Within
 pub mod Examples
 pub mod Readings

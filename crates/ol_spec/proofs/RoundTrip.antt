@@ -1,0 +1,3 @@
+-- Reader and encoder agree.
+pub mod Here
+pub mod Agree
