@@ -1,3 +1,4 @@
 -- Reader and encoder agree.
 pub mod Here
 pub mod Agree
+pub mod Taken

@@ -47,6 +47,9 @@ module _ {A : Type 0} {s : List ℕ} where
   pub take-done : {p : List ℕ} (x : A) → TakesOn s p (give x) x p
   take-done x = record { bytes = λ b. b; front = λ at h. h; reads = λ at h. refl }
 
+  pub take-equal : {p : List ℕ} {x y : A} → y ≡ x → TakesOn s p (give y) x p
+  take-equal {p} {x} {y} e = subst (λ z. TakesOn s p (give y) z p) e (take-done y)
+
 -- a reader, and then one more
 pub take-then : {A B : Type 0} {s p w v : List ℕ} {r : Reader A} {a : A} {b : B} (k : A → Reader B) → Takes s r a w → TakesOn s (p ++ w) (k a) b v → TakesOn s p (λ at. thenRead (r at) k) b v
 unfolding thenRead
