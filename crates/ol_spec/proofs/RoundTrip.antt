@@ -2,3 +2,4 @@
 pub mod Here
 pub mod Agree
 pub mod Taken
+pub mod Found

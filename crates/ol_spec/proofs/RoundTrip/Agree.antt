@@ -180,7 +180,7 @@ module _ (s : List ℕ) where
 
 -- ---- the same: what is found
 
-abbrev one : ℕ → List ℕ
+abbrev pub one : ℕ → List ℕ
 one b = b ∷ []
 
 module _ (s : List ℕ) (bytes : Bytes s) where
