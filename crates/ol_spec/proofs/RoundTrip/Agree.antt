@@ -16,7 +16,7 @@ use Rattle.ol_spec.specs.Demand3.{Bytes}
 use Rattle.ol_spec.specs.Within.{countFits, sectionFits}
 use Rattle.ol_spec.proofs.Tests.{T-and, and-T, T-true, true-T}
 use Rattle.ol_spec.proofs.Offsets.{steps, same-end, same-item}
-use Rattle.ol_spec.proofs.RoundTrip.Here.{bytes-join, Here, here-nil, here-byte, byte-here, here-join, here-front, here-back}
+use Rattle.ol_spec.proofs.RoundTrip.Parts.{bytes-join, Here, here-nil, here-byte, byte-here, here-join, here-front, here-back}
 
 -- ---- from the tree to the bytes: what a reader takes
 
