@@ -15,15 +15,16 @@ use lib.ListN.{length, length-append}
 use Rattle.ol_spec.specs.Lists.{maybe, allOf, concat}
 use Rattle.ol_spec.specs.Syntax.{Equation, Node, File}
 use Rattle.ol_spec.specs.Read.{Read, got, fault, thenRead, known, byte, sectionsR, atEnd, formatR, unlessLong, readFile}
-use Rattle.ol_spec.specs.Encode.{sectionBytes, equationBytes, nodeBytes, encode}
+use Rattle.ol_spec.specs.Encode.{kindCode, nameBytes, sectionBytes, variableBytes, equationBytes, constantBytes, nodeBytes, encode}
 use Rattle.ol_spec.specs.Limits.{Loader}
 use Rattle.ol_spec.specs.Demand3.{Bytes, Permuted, empty, keep, swap, both, withEquations, withNodes, Relisted}
 use Rattle.ol_spec.specs.declared.Limits.{Limits}
-use Rattle.ol_spec.specs.Within.{byteFits, countFits, sectionFits, variableFits, equationFits, nodeFits, sectionsFit, within}
+use Rattle.ol_spec.specs.Within.{byteFits, countFits, sectionFits, variableFits, constantFits, equationFits, nodeFits, enumFits, sectionsFit, within}
 use Rattle.ol_spec.proofs.Tests.{T-and, and-T, T-false, false-T, T-true, true-T}
 use Rattle.ol_spec.proofs.Offsets.{steps, same-end, same-item}
 use Rattle.ol_spec.proofs.Values.{cond-T}
-use Rattle.ol_spec.proofs.Permutes.{perm-length}
+use Rattle.ol_spec.proofs.Permutes.{perm-all, perm-length}
+use Rattle.ol_spec.proofs.ReadFacts.{All}
 use Rattle.ol_spec.proofs.RoundTrip.Parts.{Here, here-self, here-all}
 use Rattle.ol_spec.proofs.RoundTrip.Agree.{TakesOn, take-then, FindsOn, Between, byte-takes, byte-finds}
 use Rattle.ol_spec.proofs.RoundTrip.Taken.{sections-take}
@@ -132,3 +133,83 @@ within-bytes ld f t =
 -- two files, made of bytes, that read to the same tree are the same bytes
 pub one-tree : (ld ld′ : Loader) (s s′ : List ℕ) (f : File) (at at′ : ℕ) → Bytes s → Bytes s′ → readFile s ld ≡ got f at → readFile s′ ld′ ≡ got f at′ → s ≡ s′
 one-tree ld ld′ s s′ f at at′ b b′ e e′ = sym (encode-read ld s f at b e .0) ∙ encode-read ld′ s′ f at′ b′ e′ .0
+
+-- ---- a relisted file
+
+all-of : {A : Type 0} (ok : A → Bool) (xs : List A) → T (allOf ok xs) → All (λ x. T (ok x)) xs
+all-of ok [] t = tt
+all-of ok (x ∷ xs) t = let w = T-and (ok x) _ t in (w .0, all-of ok xs (w .1))
+
+of-all : {A : Type 0} (ok : A → Bool) (xs : List A) → All (λ x. T (ok x)) xs → T (allOf ok xs)
+of-all ok [] h = tt
+of-all ok (x ∷ xs) h = and-T (ok x) _ (h .0) (of-all ok xs (h .1))
+
+-- two lists that differ in their last parts only, which are of one length
+same-tail : (a b b′ : List ℕ) → length b′ ≡ length b → length (a ++ b′) ≡ length (a ++ b)
+same-tail a b b′ e = omega (arith, length-append a b, length-append a b′)
+
+perm-bytes : {qs rs : List Equation} → Permuted qs rs → length (concat (map equationBytes rs)) ≡ length (concat (map equationBytes qs))
+perm-bytes empty = refl
+perm-bytes (keep {q = q} p) = same-tail (equationBytes q) _ _ (perm-bytes p)
+perm-bytes (swap {q = q} {r = r} {qs = qs}) =
+    let a = equationBytes q in
+    let b = equationBytes r in
+    let c = concat (map equationBytes qs) in
+    omega (arith, length-append a (b ++ c), length-append b c, length-append b (a ++ c), length-append a c)
+perm-bytes (both p q) = perm-bytes q ∙ perm-bytes p
+
+module _ (n : Node) (qs : List Equation) (p : Permuted (n .equations) qs) where
+  node-length : length (nodeBytes (withEquations n qs)) ≡ length (nodeBytes n)
+  node-length = same-tail (kindCode (n .kind) ∷ sectionBytes variableBytes (n .inputs) ++ sectionBytes variableBytes (n .outputs) ++ sectionBytes variableBytes (n .locals)) _ _ (ap suc (perm-bytes p))
+
+  node-fits : (l : Limits) (m : ℕ) → T (nodeFits l m n) → T (nodeFits l m (withEquations n qs))
+  node-fits l m t =
+      let i = T-and (sectionFits 0 (l .inputs) (variableFits l m) (n .inputs)) _ t in
+      let o = T-and (sectionFits 1 (l .outputs) (variableFits l m) (n .outputs)) _ (i .1) in
+      let w = T-and (sectionFits 0 (l .locals) (variableFits l m) (n .locals)) _ (o .1) in
+      let e = T-and (countFits 0 (l .equations) (length (n .equations))) _ (w .1) in
+      let fits = equationFits l m in
+      let counted = subst (λ c. T (countFits 0 (l .equations) c)) (sym (perm-length p)) (e .0) in
+      let all = of-all fits qs (perm-all (λ q. T (fits q)) p (all-of fits (n .equations) (e .1))) in
+      and-T (sectionFits 0 (l .inputs) (variableFits l m) (n .inputs)) _ (i .0) (and-T (sectionFits 1 (l .outputs) (variableFits l m) (n .outputs)) _ (o .0) (and-T (sectionFits 0 (l .locals) (variableFits l m) (n .locals)) _ (w .0) (and-T (countFits 0 (l .equations) (length qs)) _ counted all)))
+
+-- a list of nodes, and the same with another last one
+module _ (n n′ : Node) where
+  last-length : length (nodeBytes n′) ≡ length (nodeBytes n) → (ns : List Node) → length (concat (map nodeBytes (ns ++ n′ ∷ []))) ≡ length (concat (map nodeBytes (ns ++ n ∷ [])))
+  last-length e [] = omega (arith, length-append (nodeBytes n) [], length-append (nodeBytes n′) [])
+  last-length e (x ∷ ns) = same-tail (nodeBytes x) _ _ (last-length e ns)
+
+  last-fits : (ok : Node → Bool) → (T (ok n) → T (ok n′)) → (ns : List Node) → T (allOf ok (ns ++ n ∷ [])) → T (allOf ok (ns ++ n′ ∷ []))
+  last-fits ok h [] t = and-T (ok n′) true (h (T-and (ok n) true t .0)) tt
+  last-fits ok h (x ∷ ns) t = let w = T-and (ok x) _ t in and-T (ok x) _ (w .0) (last-fits ok h ns (w .1))
+
+module _ (ld : Loader) (f : File) (ns : List Node) (n : Node) (qs : List Equation) (p : Permuted (n .equations) qs) where
+  relist-length : length (encode (withNodes f (ns ++ withEquations n qs ∷ []))) ≡ length (encode (withNodes f (ns ++ n ∷ [])))
+  unfolding encode
+  relist-length =
+      same-tail (f .format ∷ sectionBytes (sectionBytes nameBytes) (f .enums) ++ sectionBytes constantBytes (f .constants)) _ _
+      (ap suc (last-length n (withEquations n qs) (node-length n qs p) ns))
+
+  relist-within : T (within ld (withNodes f (ns ++ n ∷ []))) → T (within ld (withNodes f (ns ++ withEquations n qs ∷ [])))
+  relist-within t =
+      let w = parts ld (withNodes f (ns ++ n ∷ [])) t in
+      let l = w .limits in
+      let m = length (f .enums) in
+      let e = T-and (sectionFits 0 (l .enums) (enumFits l) (f .enums)) _ (w .sections) in
+      let c = T-and (sectionFits 0 (l .constants) (constantFits l m) (f .constants)) _ (e .1) in
+      let k = T-and (countFits 1 (l .nodes) (length (ns ++ n ∷ []))) _ (c .1) in
+      let n′ = withEquations n qs in
+      let counted = subst (λ x. T (countFits 1 (l .nodes) x)) (length-append ns (n ∷ []) ∙ sym (length-append ns (n′ ∷ []))) (k .0) in
+      let all = last-fits n n′ (nodeFits l m) (node-fits n qs p l m) ns (k .1) in
+      let sections = and-T (sectionFits 0 (l .enums) (enumFits l) (f .enums)) _ (e .0) (and-T (sectionFits 0 (l .constants) (constantFits l m) (f .constants)) _ (c .0) (and-T (countFits 1 (l .nodes) (length (ns ++ n′ ∷ []))) _ counted all)) in
+      whole ld (withNodes f (ns ++ n′ ∷ [])) (record { limits = l; known-limits = w .known-limits; format = w .format; sections = sections; short = omega (arith, w .short, relist-length) })
+
+-- a relisted file's bytes are the encoding of its tree, as many as before, and read to it
+pub relisted-reads : (ld : Loader) (s : List ℕ) (f f′ : File) (at : ℕ) → Bytes s → readFile s ld ≡ got f at → Relisted f f′ → (readFile (encode f′) ld ≡ got f′ (length s)) × Bytes (encode f′)
+relisted-reads ld s f f′ at bytes e r =
+    let a = encode-read ld s f at bytes e in
+    let before : f ≡ withNodes f (r .others ++ r .last ∷ []) = ap (withNodes f) (r .nodes) in
+    let fits = relist-within ld f (r .others) (r .last) (r .equations) (r .permuted) (subst (λ g. T (within ld g)) before (a .2)) in
+    let f″ = withNodes f (r .others ++ withEquations (r .last) (r .equations) ∷ []) in
+    let long : length (encode f″) ≡ length s = relist-length ld f (r .others) (r .last) (r .equations) (r .permuted) ∙ ap (λ g. length (encode g)) (sym before) ∙ ap length (a .0) in
+    subst (λ g. (readFile (encode g) ld ≡ got g (length s)) × Bytes (encode g)) (sym (r .result)) (read-encode ld f″ fits ∙ ap (got f″) long, within-bytes ld f″ fits)
