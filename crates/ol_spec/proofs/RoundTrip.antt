@@ -3,6 +3,7 @@ pub mod Parts
 pub mod Agree
 pub mod Taken
 pub mod Found
+pub mod Items
 use Prim.Native.Nat.{ℕ, zero, suc, _+_, _<_, _≤_}
 use mathlib.Core.Bool.{Bool, true, false, _&&_, cond, not}
 use mathlib.Core.List.{List, [], _∷_, _++_, map}

@@ -3,7 +3,7 @@ use Prim.Native.Nat.{ℕ, zero, suc, _+_, _-_, _/_, _%_, _^_, _<_, _≤_, max}
 use mathlib.Core.Bool.{Bool, true, false, _&&_, cond}
 use mathlib.Core.List.{List, [], _∷_, _++_, map}
 use mathlib.Core.Path.{_≡_, refl, sym, ap, subst, _∙_}
-use native.Mathlib.Nat.{mod-eq-of-lt, div-lt-iff-lt-mul}
+use native.Mathlib.Nat.{mod-eq-of-lt, div-lt-iff-lt-mul, one-le-pow}
 use native.Mathlib.Omega.{arith}
 use lib.Dec.{T, leb, ltb, le→leb, lt→ltb, ltb→lt, nltb→le}
 use lib.IntN.{ℤ, pos, negsuc}
@@ -55,15 +55,15 @@ residue-back n h =
     cond-T (λ i. residue 64 i ≡ n) (ltb n (2 ^ 63)) (pos n) (negsuc m) (λ t. mod-eq-of-lt h) (λ t. omega (arith, mod-eq-of-lt {n = m} {m = 2 ^ 64} (omega arith)))
 
 -- a number with no digits before its last k has k digits
-below : (k v : ℕ) → 0 < 256 ^ k → v / 256 ^ k ≡ 0 → v < 256 ^ k
-below k v p e = omega (arith, div-lt-iff-lt-mul {x = v} {y = 1} p .0 (omega arith))
+pub below : (k v : ℕ) → v / 256 ^ k ≡ 0 → v < 256 ^ k
+below k v e = omega (arith, div-lt-iff-lt-mul {x = v} {y = 1} (one-le-pow k 256 (omega arith)) .0 (omega arith))
 
 any : {A : Type 0} → A → Bool
 any a = true
 
 module _ (s : List ℕ) (bytes : Bytes s) where
   pub name-finds : Finds s (nameR s) nameBytes (λ x. T (nameFits x))
-  name-finds = finds (find-last (number-finds s bytes 2 0) (λ x e. (refl, lt→ltb x 65536 (below 2 x (omega arith) e))))
+  name-finds = finds (find-last (number-finds s bytes 2 0) (λ x e. (refl, lt→ltb x 65536 (below 2 x e))))
 
   enum-number-finds : (m : ℕ) → Finds s (coded s (upTo m)) one (λ e. T (ltb e m))
   enum-number-finds m = coded-finds s bytes (upTo m) (λ e. e) _ (λ b a g. let w = from-get 0 m b a g in (omega (arith, w .0), lt→ltb a m (omega (arith, w .0, w .1))))
@@ -97,8 +97,8 @@ module _ (s : List ℕ) (bytes : Bytes s) where
       body-finds : (c : ExprCode) → FindsOn s (one (exprCode c)) (exprBody s l m r c) exprBytes (ExprIn (suc n))
       unfolding any
       body-finds boolCode = find-then (table-finds s bytes bools boolByte any refl tt) (λ b t. find-done (boolLit b) refl (tt, omega arith))
-      body-finds intCode = find-then (number-finds s bytes 8 0) (λ v e. find-done (intLit (signed 64 v)) (ap (λ x. 1 ∷ bytesOf 8 x) (sym (residue-back v (below 8 v (omega arith) e)))) (lt→ltb _ (2 ^ 63) (signed-small v), omega arith))
-      body-finds floatCode = find-then (number-finds s bytes 8 0) (λ v e. find-done (floatLit v) refl (lt→ltb v (2 ^ 64) (below 8 v (omega arith) e), omega arith))
+      body-finds intCode = find-then (number-finds s bytes 8 0) (λ v e. find-done (intLit (signed 64 v)) (ap (λ x. 1 ∷ bytesOf 8 x) (sym (residue-back v (below 8 v e)))) (lt→ltb _ (2 ^ 63) (signed-small v), omega arith))
+      body-finds floatCode = find-then (number-finds s bytes 8 0) (λ v e. find-done (floatLit v) refl (lt→ltb v (2 ^ 64) (below 8 v e), omega arith))
       body-finds charCode = find-then (byte-finds s bytes) (λ c t. find-done (charLit c) refl (t, omega arith))
       body-finds varCode = find-then name-finds (λ x t. find-done (var x) refl (t, omega arith))
       body-finds unaryCode = find-then (table-finds s bytes unaryOps unaryOpCode any refl tt) (λ op _. find-then h (λ e t. find-done (unary op e) refl (t .0, omega arith)))
