@@ -4,6 +4,7 @@ pub mod Agree
 pub mod Taken
 pub mod Found
 pub mod Items
+pub mod Placed
 use Prim.Native.Nat.{ℕ, zero, suc, _+_, _<_, _≤_}
 use mathlib.Core.Bool.{Bool, true, false, _&&_, cond, not}
 use mathlib.Core.List.{List, [], _∷_, _++_, map}
@@ -93,13 +94,17 @@ finish : (ld : Loader) (s : List ℕ) (f : File) (b m : ℕ) (l : Limits) → le
     → length s ≤ m → (encode f ≡ s) × (m ≡ length s) × T (within ld f)
 finish ld s f b m l le small e w t same-format over =
     let all : encode f ≡ s = here-all s (encode f) (w .here) (omega (arith, w .ends)) in
-    let known-format = sym same-format in
-    (all, omega (arith, w .ends, ap length all), whole ld f (record {
-      limits = l;
-      known-limits = ap (ld .limits) same-format ∙ e;
-      format = subst (λ x. T (byteFits x)) known-format small;
-      sections = t;
-      short = omega (arith, ap length all) }))
+    let known-format = sym same-format in (
+      all,
+      omega (arith, w .ends, ap length all),
+      whole ld f (record {
+        limits = l;
+        known-limits = ap (ld .limits) same-format ∙ e;
+        format = subst (λ x. T (byteFits x)) known-format small;
+        sections = t;
+        short = omega (arith, ap length all);
+      }),
+    )
 
 format-encoded : (ld : Loader) (s : List ℕ) (f : File) (at : ℕ) → Bytes s → length s ≤ ld .fileBytes → formatR s ld 0 ≡ got f at → (encode f ≡ s) × (at ≡ length s) × T (within ld f)
 format-encoded ld s f at bytes le e =

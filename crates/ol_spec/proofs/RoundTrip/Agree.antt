@@ -58,7 +58,7 @@ take-then {s = s} {p = p} {w = w} {v = v} {r = r} {a = a} {b = b} k t c =
       bytes = λ h. c .bytes (bytes-join p w h (t .bytes));
       front = λ at h. here-front p w (c .front at h);
       reads = λ at h.
-        ap (λ o. thenRead o k) (t .reads (at + length p) (here-back p w (c .front at h)) ∙ ap (got a) (behind at p w)) ∙ c .reads at h
+          ap (λ o. thenRead o k) (t .reads (at + length p) (here-back p w (c .front at h)) ∙ ap (got a) (behind at p w)) ∙ c .reads at h;
     }
 
 -- ---- from the bytes to the tree: what a reader finds
@@ -97,10 +97,12 @@ module _ {A : Type 0} {s : List ℕ} where
 -- a reader, and then one more
 pub find-then : {A B : Type 0} {s p : List ℕ} {r : Reader A} {k : A → Reader B} {w : A → List ℕ} {P : A → Type 0} {v : B → List ℕ} {Q : B → Type 0}
     → Finds s r w P → ((a : A) → P a → FindsOn s (p ++ w a) (k a) v Q) → FindsOn s p (λ at. thenRead (r at) k) v Q
-find-then {s = s} {p = p} {r = r} {k = k} {w = w} {P = P} {v = v} {Q = Q} f g = record { found = λ at b next h e.
-    let t = steps (r (at + length p)) k b next e in
-    let u = f .found (at + length p) (t .value) (t .at) (t .first) in
-    g (t .value) (u .1) .found at b next (here-join h (u .0 .here)) (ap (k (t .value)) (sym (u .0 .ends ∙ behind at p (w (t .value)))) ∙ t .rest) }
+find-then {s = s} {p = p} {r = r} {k = k} {w = w} {P = P} {v = v} {Q = Q} f g = record {
+  found = λ at b next h e.
+      let t = steps (r (at + length p)) k b next e in
+      let u = f .found (at + length p) (t .value) (t .at) (t .first) in
+      g (t .value) (u .1) .found at b next (here-join h (u .0 .here)) (ap (k (t .value)) (sym (u .0 .ends ∙ behind at p (w (t .value)))) ∙ t .rest);
+}
 
 -- ---- lists and tables
 
@@ -156,7 +158,8 @@ module _ (s : List ℕ) where
   unfolding coded thenRead
   coded-takes table code a h e = record {
     bytes = byte-takes code h .bytes;
-    reads = λ at w. ap (λ o. thenRead o (λ b. known at (getElem? table b))) (byte-takes code h .reads at w) ∙ ap (λ o. known at o (at + 1)) e }
+    reads = λ at w. ap (λ o. thenRead o (λ b. known at (getElem? table b))) (byte-takes code h .reads at w) ∙ ap (λ o. known at o (at + 1)) e;
+  }
 
   pub count-takes : (lo hi n : ℕ) → T (countFits lo hi n) → Takes s (countR s lo hi) n (n ∷ [])
   unfolding countR thenRead
@@ -165,7 +168,8 @@ module _ (s : List ℕ) where
       let b = byte-takes n (ltb→lt n 256 (w .0)) in
       record {
         bytes = b .bytes;
-        reads = λ at h. ap (λ o. thenRead o (λ c. within? s (leb lo c && leb c hi) at c)) (b .reads at h) ∙ ap (λ o. within? s o at n (at + 1)) (T-true (leb lo n && leb n hi) (w .1)) }
+        reads = λ at h. ap (λ o. thenRead o (λ c. within? s (leb lo c && leb c hi) at c)) (b .reads at h) ∙ ap (λ o. within? s o at n (at + 1)) (T-true (leb lo n && leb n hi) (w .1));
+      }
 
   module _ {A : Type 0} (r : Reader A) (w : A → List ℕ) (ok : A → Bool) (h : (x : A) → T (ok x) → Takes s r x (w x)) where
     pub many-takes : (xs : List A) → T (allOf ok xs) → Takes s (many (length xs) r) xs (concat (map w xs))

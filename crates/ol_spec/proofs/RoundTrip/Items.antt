@@ -78,7 +78,7 @@ equation-size q = omega (arith, length-append (sectionBytes nameBytes (q .names)
 pub constant-size : (c : Constant) → length (constantBytes c) ≡ constantSize c
 constant-size c = omega (arith, length-append (nameBytes (c .name) ++ tyBytes (c .ty)) (exprBytes (c .value)), ty-size (c .ty), expr-size (c .value))
 
-variables-size : (vs : List Variable) → length (sectionBytes variableBytes vs) ≡ sectionSize variableSize vs
+pub variables-size : (vs : List Variable) → length (sectionBytes variableBytes vs) ≡ sectionSize variableSize vs
 variables-size = section-size variableBytes variableSize variable-size
 
 pub node-size : (n : Node) → length (nodeBytes n) ≡ nodeSize n
@@ -136,7 +136,8 @@ stands {s} {at} {next} {w} {size} e some b =
       here = b .here;
       bytes = subst (λ n. take n (drop at s) ≡ w) e (here-take (b .here));
       ends = b .ends ∙ ap (λ n. at + n) e;
-      inside = omega (arith, here-inside (b .here) (omega arith), b .ends) }
+      inside = omega (arith, here-inside (b .here) (omega arith), b .ends);
+    }
 
 module _ (s : List ℕ) (bytes : Bytes s) where
   -- a reader's value is the big-endian number of its bytes, behind the digits d

@@ -150,6 +150,7 @@ module _ (s : List ℕ) where
 
     mutual
       unfolding manyExprs
+
       pub expr-takes : (e : Expr) (n : ℕ) → levels e ≤ n → T (exprFits l m e) → Takes s (exprR s l m n) e (exprBytes e)
       expr-takes (boolLit b) n h t = at-level n 0 h boolCode (λ j k. take-then _ (at-code bools (boolByte b) b (bool-at b)) (take-done (boolLit b)))
       expr-takes (intLit i) n h t =
