@@ -102,15 +102,19 @@ module _ (l : Limits) (enums : ℕ) where
 
   -- ---- declarations
 
+  -- an input, output or local: its name and type
   abbrev pub variableFits : Variable → Bool
   variableFits v = nameFits (v .name) && tyFits enums (v .ty)
 
+  -- a constant: its name, type and expression
   abbrev pub constantFits : Constant → Bool
   constantFits c = nameFits (c .name) && (tyFits enums (c .ty) && rootFits (c .value))
 
+  -- an equation: one name defined or more, and its right side
   abbrev pub equationFits : Equation → Bool
   equationFits q = sectionFits 1 (l .names) nameFits (q .names) && rootFits (q .rhs)
 
+  -- a node: its inputs, one output or more, its locals and its equations
   abbrev pub nodeFits : Node → Bool
   nodeFits n =
       sectionFits 0 (l .inputs) variableFits (n .inputs) && (sectionFits 1 (l .outputs) variableFits (n .outputs)
@@ -118,7 +122,7 @@ module _ (l : Limits) (enums : ℕ) where
 
 -- ---- the file
 
--- an enum's variants
+-- an enum: one variant or more
 abbrev pub enumFits : Limits → List ℕ → Bool
 enumFits l vs = sectionFits 1 (l .variants) nameFits vs
 
