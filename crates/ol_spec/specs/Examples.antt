@@ -8,6 +8,7 @@ use Rattle.ol_spec.specs.Syntax.{bool, int, Function, Operator, And, Add
 use Rattle.ol_spec.specs.Syntax.{pre, arrow, call, tuple, nil, cons, Node, File}
 use Rattle.ol_spec.specs.Read.{got, readFile}
 use Rattle.ol_spec.specs.Encode.{encode}
+use Rattle.ol_spec.specs.Within.{within}
 use Rattle.ol_spec.specs.Cell.{cells}
 use Rattle.ol_spec.specs.Operators.{binaryOf}
 use Rattle.ol_spec.specs.Limits.{relayLoader}
@@ -221,3 +222,12 @@ order-absent = refl
 order-length : ordering relayLoader counterBytes 0 [] ≡ record { answer = Sort.Refused (faultAt 17 0); buffer = [] }
 unfolding everything
 order-length = refl
+
+-- ---- the trees that a file can hold
+
+-- the counter is within the limits; 23 Nots over true are, 24 are not; a Tuple of one item is not
+within-limits :
+    within relayLoader counter ∷ within relayLoader (v1 (1 ≔ nots 23 (boolLit true) ∷ [])) ∷ within relayLoader (v1 (1 ≔ nots 24 (boolLit true) ∷ [])) ∷ within relayLoader (v1 (1 ≔ tuple (cons (num 1) nil) ∷ [])) ∷ []
+    ≡ true ∷ true ∷ false ∷ false ∷ []
+unfolding within everything
+within-limits = refl

@@ -5,6 +5,7 @@ pub mod Syntax
 pub mod Places
 pub mod Read
 pub mod Encode
+pub mod Within
 pub mod Real
 pub mod Cell
 pub mod Types
@@ -18,6 +19,6 @@ pub mod State
 pub mod Cycle
 pub mod Demand3
 pub mod Build
-pub mod Bench
 pub mod Examples
+pub mod Bench
 pub mod Readings
