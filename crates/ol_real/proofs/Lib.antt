@@ -4,4 +4,5 @@ pub mod Values
 pub mod Operations
 pub mod Encodings
 pub mod Reals
+pub mod Conversions
 pub mod Examples
