@@ -121,6 +121,23 @@ static void line(unsigned op, u64 a, u64 b, u64 r) {
 
 static void row(unsigned op, u64 a, u64 b) { line(op, a, b, apply(op, a, b)); }
 
+/* Values that public descriptions of the two formats print: the machine has to agree with them. */
+static const struct { unsigned op; u64 a, b, r; } PUBLISHED[] = {
+    {0x09, 0x3ff0000000000000, 0x4008000000000000, 0x3fd5555555555555}, /* 1 / 3 */
+    {0x0d, 0x3f800000, 0x40400000, 0x3eaaaaab},
+    {0x06, 0x3fb999999999999a, 0x3fc999999999999a, 0x3fd3333333333334}, /* 0.1 + 0.2 */
+    {0x02, 0x400921fb54442d18, 0, 0x40490fdb},                          /* pi */
+    {0x02, 0x3fb999999999999a, 0, 0x3dcccccd},                          /* 0.1 */
+    {0x02, 0x36a0000000000000, 0, 0x00000001},                          /* the least single above 0 */
+    {0x02, 0x380fffffc0000000, 0, 0x007fffff},                          /* the largest subnormal */
+    {0x02, 0x3810000000000000, 0, 0x00800000},                          /* the least normal */
+    {0x02, 0x3fefffffe0000000, 0, 0x3f7fffff},                          /* the largest below 1 */
+    {0x02, 0x3ff0000020000000, 0, 0x3f800001},                          /* the least above 1 */
+    {0x02, 0x47efffffe0000000, 0, 0x7f7fffff},                          /* the largest number */
+    {0x01, 16777217, 0, 0x4b800000},                                    /* 2^24 + 1 is no single */
+    {0x01, 16777219, 0, 0x4b800002},
+};
+
 static const u64 DOUBLES[] = {
     0, 0x8000000000000000, 0x3ff0000000000000, 0xbff0000000000000, 0x7ff0000000000000, 0xfff0000000000000,
     0x7ff8000000000000, 0xfff8000000000001, 0x7ff0000000000001, 1, 0x8000000000000001, 0x000fffffffffffff,
@@ -160,6 +177,10 @@ static const u64 CUT[] = {
 
 int main(void) {
     if (FLT_EVAL_METHOD != 0 || fegetround() != FE_TONEAREST) return 1;
+    EACH(i, PUBLISHED) {
+        if (apply(PUBLISHED[i].op, PUBLISHED[i].a, PUBLISHED[i].b) != PUBLISHED[i].r) return 2;
+        row(PUBLISHED[i].op, PUBLISHED[i].a, PUBLISHED[i].b);
+    }
     EACH(i, INTEGERS) { row(0x00, (u64)INTEGERS[i], 0); row(0x01, (u64)INTEGERS[i], 0); }
     EACH(i, DOUBLES) { row(0x02, DOUBLES[i], 0); row(0x04, DOUBLES[i], 0); row(0x0e, DOUBLES[i], 0); row(0x16, DOUBLES[i], 0); }
     EACH(i, SINGLES) { row(0x03, SINGLES[i], 0); row(0x05, SINGLES[i], 0); row(0x0f, SINGLES[i], 0); row(0x17, SINGLES[i], 0); }

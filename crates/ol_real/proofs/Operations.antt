@@ -9,7 +9,7 @@ use lib.IntN.{ℤ, pos, negsuc, negℤ, subℕ, _+ℤ_, +ℤ-comm, +ℤ-idl, +�
 use lib.Dec.{T, eqb, eqb·suc-zero, ltb, eqb→eq, ltb→lt, nltb→le, leb·zero, leb·suc-zero, leb·suc-suc}
 use lib.Pow.{pow-pos}
 use lib.Signed.{ltZ}
-use lib.Ieee.{Float, nan, inf, fin, prec, emax, round, fits, up, down, neg, sum, add, sub, mul, div, ofInt, toSigned, lt, le, eq, below, level, binary32, binary64}
+use lib.Ieee.{Float, nan, inf, fin, emax, round, fits, up, down, neg, sum, add, sub, mul, div, ofInt, toSigned, lt, le, eq, below, level, binary32, binary64}
 use lib.Ieee as Ieee
 use lib.Ieee.Fits.{up-pos, down-pos, two, fits-widens, and-i, and-l, and-r, eq→eqb}
 use Rattle.ol_real.specs.Ieee754.{Format, double, lowest, gap, Rounds, RoundsTo, Counts, signed, unlike, Sum, negated, Negation, Difference, Product, Quotient, FromInt, Converted, saturated, WholePart, Truncated, Less, Equal, LessEq}

@@ -7,7 +7,7 @@ use lib.IntN.{ℤ}
 use lib.Dec.{T}
 use lib.Ieee.{nan}
 use Rattle.ol_spec.specs.Real as R
-use Rattle.ol_spec.specs.Real.{Real, Precision, fromBits, toBits, addR, subR, mulR, divR, negR, ofInt, roundSingle, widen, truncate, eqR, ltR, leR}
+use Rattle.ol_spec.specs.Real.{Real, Precision, zeroR, fromBits, toBits, addR, subR, mulR, divR, negR, ofInt, roundSingle, widen, truncate, eqR, ltR, leR}
 use Rattle.ol_real.specs.Ieee754.{Format, single, double, IsValue, Sum, Difference, Product, Quotient, Negation, FromInt, Converted, Truncated, Equal, Less, LessEq}
 use Rattle.ol_real.specs.Encoding.{Encodes}
 
@@ -43,6 +43,8 @@ pub record AtFormat (g : Format) (f : Precision) (k : ℕ) : Type 0 where
   pub quotient-value : (x y : Real) → IsValue g (divR f x y)
   pub fromInt-value : (z : ℤ) → IsValue g (ofInt f z)
   pub negation-value : (x : Real) → IsValue g x → IsValue g (negR x)
+  -- 0.0 is the pattern of zeros
+  pub zero-decoded : fromBits f 0 ≡ zeroR
   -- each pattern encodes one datum, a NaN's the one NaN; each datum has a pattern, and one only but for the NaN
   pub decoded : (b : ℕ) → b < 2 ^ k → Only (Encodes g b) (fromBits f b)
   pub decoded-value : (b : ℕ) → IsValue g (fromBits f b)
