@@ -54,6 +54,7 @@ pub record AtFormat (g : Format) (f : Precision) (k : ℕ) : Type 0 where
   pub decoded-encoded : (x : Real) → IsValue g x → fromBits f (toBits f x) ≡ x
   pub encoded-decoded : (b : ℕ) → b < 2 ^ k → fromBits f b ≢ nan → toBits f (fromBits f b) ≡ b
 
+-- every name of ol_spec's reals
 pub record Ieee754Holds : Type 0 where
   pub one-result : (g : Format) → 2 ≤ g .p → 1 ≤ g .emax → OneResult g
   pub at-single : AtFormat single R.single 32
