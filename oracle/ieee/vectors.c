@@ -1,7 +1,7 @@
 /* Writes the vectors that crates/ieee_vectors checks, as this machine's arithmetic gives them.
  *
  *     cc -std=c11 -O2 -ffp-contract=off -o vectors oracle/ieee/vectors.c -lm
- *     ./vectors > crates/ieee_vectors/stdin
+ *     { python3 oracle/ieee/published.py; ./vectors; } > crates/ieee_vectors/stdin
  *
  * It wants a machine whose float and double are binary32 and binary64, with no wider results in
  * between (FLT_EVAL_METHOD 0), as x86-64 and Arm have. It was run on x86-64 with gcc 12.2 and glibc 2.36.

@@ -1,6 +1,7 @@
 // Checks the conversions of ol_real and the arithmetic of reals against the vectors on standard
-// input, which oracle/ieee/vectors.c writes: its head says what a line has. Each mismatch is
-// written as the line with the result found here, and at the end the counts.
+// input: those of oracle/ieee/published.py, then those of oracle/ieee/vectors.c, whose head says what
+// a line has. Each mismatch is written as the line with the result found here, and at the end the
+// counts.
 use libc::STDOUT_FILENO;
 ghost use Prim.Native.Nat.{_+_, _≤_};
 
