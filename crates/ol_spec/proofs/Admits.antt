@@ -22,7 +22,8 @@ use Rattle.ol_spec.specs.Admission.{Item, firstIf, first, numbered, faul
 use Rattle.ol_spec.specs.declared.Value.{Value}
 use Rattle.ol_spec.proofs.Good.{Plain, PlainAll}
 use Rattle.ol_spec.proofs.Runs.{PlainEqs}
-use Rattle.ol_spec.proofs.ReadFacts.{All, EquationRead}
+use Rattle.ol_spec.proofs.Lists.{All}
+use Rattle.ol_spec.proofs.ReadFacts.{EquationRead}
 
 -- ---- the verdict
 
@@ -119,11 +120,6 @@ module _ {A : Type 0} (size : A → ℕ) where
   numbered-placed P d i at [] h k j e b = absurd (omega arith)
   numbered-placed P d i at (x ∷ xs) h zero j e b = let z : j ≡ i = omega arith in (at, subst (λ y. P (y, (at, x))) (sym z) (h .0))
   numbered-placed P d i at (x ∷ xs) h (suc k) j e b = numbered-placed P d (suc i) (at + size x) xs (h .1) k j (omega arith) (omega arith)
-
-pub all-at : {A : Type 0} (P : A → Type 0) (xs : List A) (k : ℕ) (d : A) → All P xs → k < length xs → P (getD xs k d)
-all-at P [] k d h b = absurd (omega arith)
-all-at P (x ∷ xs) zero d h b = h .0
-all-at P (x ∷ xs) (suc k) d h b = all-at P xs k d (h .1) (omega arith)
 
 -- ---- 9: calls
 

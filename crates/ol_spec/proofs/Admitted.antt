@@ -23,11 +23,13 @@ use Rattle.ol_spec.specs.Order.{unplaced}
 use Rattle.ol_spec.specs.Eval.{Globals, callees, eval}
 use Rattle.ol_spec.specs.Step.{sites, noEquation, equationAt, evalEquation, scope, calls, globals}
 use Rattle.ol_spec.specs.State.{globalsOf}
-use Rattle.ol_spec.specs.Admission.{placeAt, calleeIn, mayCall, arity, inConstant, callsWhere, nodeCalls, numbered, fault9, ringIn, firstSome, fault11, constantNames, variants, all, noCalls, noVariables, afterConstant, constantsFrom, constants}
+use Rattle.ol_spec.specs.Admission.{placeAt, calleeIn, mayCall, arity, inConstant, callsWhere, nodeCalls, numbered, fault9, ringIn, firstSome, fault11, constantNames, variants, all, noCalls, noVariables, afterConstant, constantsFrom, constants, admitted, judge}
+use Rattle.ol_spec.specs.Demand3.{Bytes}
 use Rattle.ol_spec.specs.declared.Value.{Value}
 use Rattle.ol_spec.specs.declared.Outcome.{Outcome}
 use Rattle.ol_spec.specs.declared.Outcome.the-variants as Out
 use Rattle.ol_spec.proofs.Tests.{T-and, and-T, member-in, in-member}
+use Rattle.ol_spec.proofs.Lists.{All, all-at, all-in, all-join}
 use Rattle.ol_spec.proofs.Ordering.{Placed, placed-or-stuck}
 use Rattle.ol_spec.proofs.Values.{Fine, FineOut, fit-fine}
 use Rattle.ol_spec.proofs.Cells.{AllFine}
@@ -35,17 +37,13 @@ use Rattle.ol_spec.proofs.Good.{Plain, Good, none-good, arityIn, eval-m
 use Rattle.ol_spec.proofs.Runs.{PlainEqs, plain-at, fine-append}
 use Rattle.ol_spec.proofs.Calls.{mayBe}
 use Rattle.ol_spec.proofs.Counts.{CountIs, rhs-count, calls-count}
-use Rattle.ol_spec.proofs.ReadFacts.{All, TyOk, VariableRead, TupleOk, NameRead, EnumRead, EquationRead, NodeRead, ConstantRead, FileRead}
-use Rattle.ol_spec.proofs.Admits.{Admits, Clean, first-clean, clean-parts, clean-each, all-at, okFor, plain-calls, plain-eqs-more, callee-allowed, site-allowed, node-plain}
+use Rattle.ol_spec.proofs.ReadFacts.{TyOk, VariableRead, TupleOk, NameRead, EnumRead, EquationRead, NodeRead, ConstantRead, FileRead, file-read}
+use Rattle.ol_spec.proofs.Admits.{Admits, admits, Clean, first-clean, clean-parts, clean-each, okFor, plain-calls, plain-eqs-more, callee-allowed, site-allowed, node-plain}
 use Rattle.ol_spec.proofs.MainFacts.{main-at, fresh-out, fresh-distinct, distinct-names, names-seen, names-fresh, namesOf, seenBy, takenIn, Shaped, shapes, shaped-arity}
-use Rattle.ol_spec.proofs.MainSystem.{Known, in-concat}
+use Rattle.ol_spec.proofs.MainSystem.{Known, names-in}
 use Rattle.ol_spec.proofs.OneCycle.{MainOk}
 
 -- ---- lists
-
-all-in : (P : ℕ → Type 0) (xs : List ℕ) (x : ℕ) → All P xs → x ∈ xs → P x
-all-in P [] x h m = absurd (in-nil m)
-all-in P (y ∷ xs) x h m = ⊎-elim (λ e. subst P (sym e) (h .0)) (all-in P xs x (h .1)) (in-cons m)
 
 concat-all : (P : ℕ → Type 0) (ls : List (List ℕ)) (x : ℕ) → All (All P) ls → x ∈ concat ls → P x
 concat-all P [] x h m = absurd (in-nil m)
@@ -191,10 +189,6 @@ module _ (ld : Loader) (s : List ℕ) (f : File) (vs : List Value) (read : FileR
   defaults-fine [] h = tt
   defaults-fine (x ∷ xs) h = (default-fine (x .ty) (h .0), defaults-fine xs (h .1))
 
-  all-join : {A : Type 0} (P : A → Type 0) (xs ys : List A) → All P xs → All P ys → All P (xs ++ ys)
-  all-join P [] ys h k = k
-  all-join P (x ∷ xs) ys h k = (h .0, all-join P xs ys (h .1) k)
-
   is-fresh-fine : (k : ℕ) → AllFine (concat (f .enums)) (defaults (f .enums) (variables (getD (f .nodes) k noNode)))
   is-fresh-fine k =
       by-cases (decLt k (length (f .nodes)))
@@ -261,7 +255,7 @@ module _ (ld : Loader) (s : List ℕ) (f : File) (vs : List Value) (read : FileR
       by-cases (decLt i (length (M .equations)))
       (λ b.
       let s = all-in (λ x. T (member x (seenBy f M))) (equationAt M i .names) x (all-get (λ q. All (λ x. T (member x (seenBy f M))) (q .names)) (M .equations) i b (names-seen f (a .no7) K inside)) m in
-      let o = fresh-out (takenIn f M) (concat (map namesOf (M .equations))) (names-fresh f (a .no8) K inside) x (in-concat (M .equations) i x m) in
+      let o = fresh-out (takenIn f M) (concat (map namesOf (M .equations))) (names-fresh f (a .no8) K inside) x (names-in (M .equations) i x m) in
       ⊎-elim (λ k. k) (λ k. absurd (o (in-right (map nameOf (M .inputs)) k))) (in-append (variableNames M) (member-in x (seenBy f M) s)))
       (λ h. absurd (in-nil (subst (λ q. x ∈ q .names) (List·getD-eq-default (M .equations) noEquation (omega arith)) m)))
 
@@ -286,7 +280,7 @@ module _ (ld : Loader) (s : List ℕ) (f : File) (vs : List Value) (read : FileR
         apart = subst (λ n. Distinct (concat (map namesOf (n .equations)))) (sym is-main) (fresh-distinct (takenIn f M) (concat (map namesOf (M .equations))) (names-fresh f (a .no8) K inside));
         known = subst (λ n. (i : ℕ) → Known n (equationAt n i .names)) (sym is-main) known-at;
         no-input = subst (λ n. (i x : ℕ) → x ∈ equationAt n i .names → ¬ (x ∈ map nameOf (n .inputs))) (sym is-main)
-            (λ i x m k. fresh-out (takenIn f M) (concat (map namesOf (M .equations))) (names-fresh f (a .no8) K inside) x (in-concat (M .equations) i x m) (in-left (constantNames f ++ variants f) k));
+            (λ i x m k. fresh-out (takenIn f M) (concat (map namesOf (M .equations))) (names-fresh f (a .no8) K inside) x (names-in (M .equations) i x m) (in-left (constantNames f ++ variants f) k));
         arity = subst (λ n. (i : ℕ) → i < length (n .equations) → arityIn g (rhsOf (equationAt n i .rhs)) ≡ length (equationAt n i .names)) (sym is-main) arity-at;
         counts = λ first before. counts-at (main f) plain-main first before;
         placed = subst (λ n. Placed (n .equations)) (sym is-main) (unplaced-placed (M .equations) (all-at (λ n. unplaced (n .equations) ≡ none) (f .nodes) K noNode (rings-none (nodesStart f) (f .nodes) (a .no11)) inside));
@@ -304,3 +298,7 @@ module _ (ld : Loader) (s : List ℕ) (f : File) (vs : List Value) (read : FileR
         some-node = read .some-node;
         mainly = main-ok;
       }
+
+-- of a file of bytes that is admitted
+pub admitted-facts : (ld : Loader) (s : List ℕ) (f : File) (vs : List Value) → Bytes s → judge ld s ≡ admitted f vs → Facts f vs
+admitted-facts ld s f vs bytes e = let a = admits ld s f vs e in facts ld s f vs (file-read s bytes ld f (a .end) (a .read)) a

@@ -16,14 +16,14 @@ use Rattle.ol_spec.specs.Admission.{judge, admitted}
 use Rattle.ol_spec.specs.State.{freshState}
 use Rattle.ol_spec.specs.Cycle.{cycle}
 use Rattle.ol_spec.specs.Build.{everything, x, _≔_, node, file}
-use Rattle.ol_spec.specs.Demand3.{Turn, Made, Answered, Solves, given, history, Bytes}
+use Rattle.ol_spec.specs.Demand3.{Turn, Made, Answered, Solves, lent, given, history, Bytes}
 use Rattle.ol_spec.specs.declared.Value.{Value}
 use Rattle.ol_spec.specs.declared.Value.the-variants as Val
 
 -- AllSolve and SolutionClaim without KeepsKinds
 abbrev AlwaysSolve : File → List Value → List Made → Type 0
 AlwaysSolve f vs [] = Unit {0}
-AlwaysSolve f vs (m ∷ ms) = (Answered m → Solves f vs (m .old) (given f m)) × AlwaysSolve f vs ms
+AlwaysSolve f vs (m ∷ ms) = (Answered m → Solves f vs (m .old) (lent f m) (given f m)) × AlwaysSolve f vs ms
 
 abbrev Unkinded : Loader → Type 0
 Unkinded ld = (s : List ℕ) (f : File) (vs : List Value) (ts : List Turn) → Bytes s → judge ld s ≡ admitted f vs → AlwaysSolve f vs (history ld s ts (freshState f vs))

@@ -1,7 +1,7 @@
 -- What an admitted file's nodes have: distinct variables, defined names that are theirs and no inputs, each once, and as many values as names.
 use Prim.Native.Nat.{ℕ, suc, _+_, _-_, _<_, _≤_}
 use mathlib.Core.Bool.{Bool, true, false, not, _&&_}
-use mathlib.Core.List.{List, [], _∷_, _++_, map, List·Memᴰ·head as here, List·Memᴰ·tail as there, List·Memᴰ·not-nil as in-nil, List·Memᴰ·cases-cons as in-cons}
+use mathlib.Core.List.{List, [], _∷_, _++_, map, map-append, List·Memᴰ·head as here, List·Memᴰ·tail as there, List·Memᴰ·not-nil as in-nil, List·Memᴰ·cases-cons as in-cons}
 use mathlib.Core.Logic.{⊎-elim, by-cases}
 use mathlib.Core.Option.{none}
 use mathlib.Core.Path.{_≡_, refl, sym, ap, ap₂, subst, _∙_}
@@ -16,12 +16,8 @@ use Rattle.ol_spec.specs.Places.{variableSize, equationSize, nodeSize, p
 use Rattle.ol_spec.specs.Places.{placedEquations, placedNames, rhsPlace, equationsStart}
 use Rattle.ol_spec.specs.Admission.{numbered, variants, constantNames, Sort, variable, constant, Declared, apart, clash, declaredAt, declaredAs, placedVariableName, placedConstantName, enumDeclares, nodeDeclares, declared, clashes, fault6, unseenItem, used, constantUses, equationUses, nodeUses, fault7, definedBy, again, nodeDefines, fault8, inConstant, shapeItem, arity, severalIn, equationShape, nodeShape, fault10}
 use Rattle.ol_spec.proofs.Tests.{and-T, T-or, or-left, or-right, true-T, T-true, T-false, false-T, in-member, T-dec}
-use Rattle.ol_spec.proofs.ReadFacts.{All}
-use Rattle.ol_spec.proofs.Admits.{Clean, first-clean, clean-parts, clean-each, all-placed, numbered-placed, all-at}
-
-map-append : {A B : Type 0} (f : A → B) (a b : List A) → map f (a ++ b) ≡ map f a ++ map f b
-map-append f [] b = refl
-map-append f (x ∷ a) b = ap (λ l. f x ∷ l) (map-append f a b)
+use Rattle.ol_spec.proofs.Lists.{All, all-at, all-map, all-left}
+use Rattle.ol_spec.proofs.Admits.{Clean, first-clean, clean-parts, clean-each, all-placed, numbered-placed}
 
 pub main-at : (ns : List Node) → 1 ≤ length ns → lastOf ns ≡ getD ns (length ns - 1) noNode
 main-at [] h = absurd (omega arith)
@@ -125,14 +121,6 @@ unseen-all visible (p ∷ ps) c = (not-false (member (p .1) visible) (c .0), uns
 drop-places : (P : ℕ → Type 0) (xs : List ℕ) → All (λ x. (a : ℕ) × P x) xs → All P xs
 drop-places P [] h = tt
 drop-places P (x ∷ xs) h = (h .0 .1, drop-places P xs (h .1))
-
-all-left : {A : Type 0} (P : A → Type 0) (a b : List A) → All P (a ++ b) → All P a
-all-left P [] b h = tt
-all-left P (x ∷ a) b h = (h .0, all-left P a b (h .1))
-
-pub all-map : {A : Type 0} (P Q : A → Type 0) (xs : List A) → ((x : A) → P x → Q x) → All P xs → All Q xs
-all-map P Q [] f h = tt
-all-map P Q (x ∷ xs) f h = (f x (h .0), all-map P Q xs f (h .1))
 
 abbrev pub seenBy : File → Node → List ℕ
 seenBy f n = variableNames n ++ (constantNames f ++ variants f)

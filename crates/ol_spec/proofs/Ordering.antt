@@ -1,44 +1,26 @@
 -- The order of equations is that of the theory, whose equations read from the last definers of the names that they read.
 use Prim.Native.Nat.{ℕ, zero, suc, _+_, _≤_, _<_}
 use mathlib.Core.Bool.{Bool, true, false, not, _&&_}
-use mathlib.Core.List.{List, [], _∷_, _++_, List·Memᴰ·head as here, List·Memᴰ·tail as there, List·Memᴰ·not-nil as in-nil, List·Memᴰ·cases-cons as in-cons}
+use mathlib.Core.List.{List, [], _∷_, _++_, List·Memᴰ·not-nil as in-nil, List·Memᴰ·cases-cons as in-cons}
 use mathlib.Core.Logic.{_⊎_, inl, inr, ite, ⊎-elim}
 use mathlib.Core.Option.{Option, none, some}
 use mathlib.Core.Path.{_≡_, refl, sym, ap, subst, _∙_}
 use native.Mathlib.Omega.{arith}
-use lib.ListN.{length, drop, getElem?}
+use lib.ListN.{length, drop, getD, getElem?}
 use lib.Dec.{T, eqb, eqb→eq, not-T, T-not}
 use Rattle.ol_theory.specs.Member.{_∈_, from}
 use Rattle.ol_theory.specs.Order as O
-use Rattle.ol_theory.specs.OrderProof as OP
-use Rattle.ol_spec.specs.Lists.{maybe, anyOf, allOf, member}
+use Rattle.ol_theory.proofs.OrderProof as OP
+use Rattle.ol_spec.specs.Lists.{maybe, anyOf, member}
 use Rattle.ol_spec.specs.Syntax.{Equation}
 use Rattle.ol_spec.specs.Order.{reads, later, definerFrom, definer, ready, place, pass, passes, order, outsideIf, firstOutside, unplaced, readsFrom, Chain, one, more, Ring}
-use Rattle.ol_spec.proofs.Tests.{T-and, and-T, T-or, or-left, or-right, T-true, true-T, member-in, in-member, eq-eqb}
-
-abbrev pub addSome : Option ℕ → List ℕ → List ℕ
-addSome none l = l
-addSome (some j) l = j ∷ l
-
-in-addSome : (o : Option ℕ) (l : List ℕ) (j : ℕ) → j ∈ addSome o l → (o ≡ some j) ⊎ (j ∈ l)
-in-addSome none l j m = inr m
-in-addSome (some k) l j m = ⊎-elim (λ e. inl (ap some (sym e))) inr (in-cons m)
-
-some-in : (o : Option ℕ) (l : List ℕ) (j : ℕ) → o ≡ some j → j ∈ addSome o l
-some-in none l j e = let z : _≡_ {A = ℕ} 0 1 = cc in absurd (omega arith)
-some-in (some k) l j e = let p : j ≡ k = cc in here p
-
-rest-in : (o : Option ℕ) (l : List ℕ) (j : ℕ) → j ∈ l → j ∈ addSome o l
-rest-in none l j m = m
-rest-in (some k) l j m = there m
+use Rattle.ol_spec.specs.Step.{noEquation}
+use Rattle.ol_spec.proofs.Tests.{T-and, and-T, T-true, true-T, member-in, in-member, eq-eqb}
+use Rattle.ol_spec.proofs.Lists.{getElem-inside, drop-head, any-in, in-any, allOf-in, in-allOf, found, in-found, found-in}
 
 test-some : (o : Option ℕ) (j : ℕ) → T (maybe false (eqb j) o) → o ≡ some j
 test-some none j t = absurd t
 test-some (some k) j t = ap some (sym (eqb→eq j k t))
-
-some-test : (o : Option ℕ) (j : ℕ) → o ≡ some j → T (maybe false (eqb j) o)
-some-test none j e = let z : _≡_ {A = ℕ} 0 1 = cc in absurd (omega arith)
-some-test (some k) j e = eq-eqb j k cc
 
 -- a definer is an equation of the list, and it defines the name
 pub later-cases : (o : Option ℕ) (b : Bool) (i j : ℕ) → later o b i ≡ some j → (o ≡ some j) ⊎ (T b × (i ≡ j))
@@ -54,55 +36,47 @@ definer-inside i (q ∷ qs) x j e =
     (later-cases (definerFrom (suc i) qs x) (member x (q .names)) i j e)
 
 module _ (qs : List Equation) where
-  pub definers : List ℕ → List ℕ
-  definers [] = []
-  definers (x ∷ xs) = addSome (definer qs x) (definers xs)
-
+  -- the equations that an equation reads from, and those that equation i does
   abbrev pub depsBy : Option Equation → List ℕ
   depsBy none = []
-  depsBy (some q) = definers (reads (q .rhs))
+  depsBy (some q) = found (definer qs) (reads (q .rhs))
 
-  -- the equations that equation i reads from
   abbrev pub depsOf : ℕ → List ℕ
   depsOf i = depsBy (getElem? qs i)
 
-  pub definers-in : (xs : List ℕ) (x j : ℕ) → x ∈ xs → definer qs x ≡ some j → j ∈ definers xs
-  unfolding definers
-  definers-in [] x j m e = absurd (in-nil m)
-  definers-in (y ∷ xs) x j m e = ⊎-elim (λ p. some-in (definer qs y) (definers xs) j (ap (definer qs) (sym p) ∙ e)) (λ k. rest-in (definer qs y) (definers xs) j (definers-in xs x j k e)) (in-cons m)
+  pub in-deps : (rs : List Equation) (i j : ℕ) → j ∈ depsBy (getElem? rs i) → (x : ℕ) × (x ∈ reads (getD rs i noEquation .rhs)) × (definer qs x ≡ some j)
+  in-deps [] zero j m = absurd (in-nil m)
+  in-deps [] (suc i) j m = absurd (in-nil m)
+  in-deps (r ∷ rs) zero j m = in-found (definer qs) (reads (r .rhs)) j m
+  in-deps (r ∷ rs) (suc i) j m = in-deps rs i j m
 
-  pub in-definers : (xs : List ℕ) (j : ℕ) → j ∈ definers xs → (x : ℕ) × (x ∈ xs) × (definer qs x ≡ some j)
-  unfolding definers
-  in-definers [] j m = absurd (in-nil m)
-  in-definers (y ∷ xs) j m =
-      ⊎-elim (λ e. (y, here refl, e)) (λ k. let w = in-definers xs j k in (w .0, there (w .1), w .2)) (in-addSome (definer qs y) (definers xs) j m)
+  pub deps-in : (rs : List Equation) (i j x : ℕ) → x ∈ reads (getD rs i noEquation .rhs) → definer qs x ≡ some j → j ∈ depsBy (getElem? rs i)
+  deps-in [] zero j x m e = absurd (in-nil m)
+  deps-in [] (suc i) j x m e = absurd (in-nil m)
+  deps-in (r ∷ rs) zero j x m e = found-in (definer qs) (reads (r .rhs)) x j m e
+  deps-in (r ∷ rs) (suc i) j x m e = deps-in rs i j x m e
 
-  pub deps-closed : (i d : ℕ) → d ∈ depsOf i → d < length qs
-  deps-closed i d m = go (getElem? qs i) m
+  deps-closed : (i : ℕ) → i < length qs → (d : ℕ) → d ∈ depsOf i → d < length qs
+  deps-closed i b d m = let w = in-deps qs i d m in omega (arith, definer-inside 0 qs (w .0) d (w .2))
+
+  -- ---- passes
+
+  abbrev waits : List ℕ → ℕ → Bool
+  waits done x = maybe true (λ j. member j done) (definer qs x)
+
+  ready-all : (done : List ℕ) (q : Equation) → T (ready qs done q) → (d : ℕ) → d ∈ depsBy (some q) → d ∈ done
+  unfolding ready
+  ready-all done q t d m =
+      let w = in-found (definer qs) (reads (q .rhs)) d m in
+      member-in d done (subst (λ o. T (maybe true (λ j. member j done) o)) (w .2) (allOf-in (waits done) (reads (q .rhs)) t (w .0) (w .1)))
+
+  all-ready : (done : List ℕ) (q : Equation) → ((d : ℕ) → d ∈ depsBy (some q) → d ∈ done) → T (ready qs done q)
+  unfolding ready
+  all-ready done q f = in-allOf (waits done) (reads (q .rhs)) (λ x m. go (definer qs x) (λ j e. f j (found-in (definer qs) (reads (q .rhs)) x j m e)))
     where
-      go : (o : Option Equation) → d ∈ depsBy o → d < length qs
-      go none m = absurd (in-nil m)
-      go (some q) m = let w = in-definers (reads (q .rhs)) d m in omega (arith, definer-inside 0 qs (w .0) d (w .2))
-
-  -- ---- ready
-
-  ready-all : (done : List ℕ) (xs : List ℕ) → T (allOf (λ x. maybe true (λ j. member j done) (definer qs x)) xs) → (d : ℕ) → d ∈ definers xs → d ∈ done
-  unfolding definers
-  ready-all done [] t d m = absurd (in-nil m)
-  ready-all done (x ∷ xs) t d m = go (definer qs x) (λ t m. ready-all done xs t d m) t m
-    where
-      go : (o : Option ℕ) → (T (allOf (λ x. maybe true (λ j. member j done) (definer qs x)) xs) → d ∈ definers xs → d ∈ done) → T (maybe true (λ j. member j done) o && allOf (λ x. maybe true (λ j. member j done) (definer qs x)) xs) → d ∈ addSome o (definers xs) → d ∈ done
-      go none k t m = k t m
-      go (some j) k t m = let w = T-and (member j done) _ t in ⊎-elim (λ e. member-in d done (subst (λ k. T (member k done)) (sym e) (w .0))) (k (w .1)) (in-cons m)
-
-  all-ready : (done : List ℕ) (xs : List ℕ) → ((d : ℕ) → d ∈ definers xs → d ∈ done) → T (allOf (λ x. maybe true (λ j. member j done) (definer qs x)) xs)
-  unfolding definers
-  all-ready done [] f = tt
-  all-ready done (x ∷ xs) f = go (definer qs x) (λ f. all-ready done xs f) f
-    where
-      go : (o : Option ℕ) → (((d : ℕ) → d ∈ definers xs → d ∈ done) → T (allOf (λ x. maybe true (λ j. member j done) (definer qs x)) xs)) → ((d : ℕ) → d ∈ addSome o (definers xs) → d ∈ done) → T (maybe true (λ j. member j done) o && allOf (λ x. maybe true (λ j. member j done) (definer qs x)) xs)
-      go none k f = k f
-      go (some j) k f = and-T (member j done) _ (in-member j done (f j (here refl))) (k (λ d m. f d (there m)))
+      go : (o : Option ℕ) → ((j : ℕ) → o ≡ some j → j ∈ done) → T (maybe true (λ j. member j done) o)
+      go none h = tt
+      go (some j) h = in-member j done (h j refl)
 
   place-ite : {P : Type 0} (b : Bool) (d : Dec P) (i : ℕ) (done : List ℕ) → (T b → P) → (P → T b) → place qs b i done ≡ ite d (done ++ (i ∷ [])) done
   place-ite true (yes p) i done f g = refl
@@ -112,34 +86,25 @@ module _ (qs : List Equation) where
 
   place-same : (i : ℕ) (q : Equation) (done : List ℕ) → getElem? qs i ≡ some q
       → place qs (not (member i done) && ready qs done q) i done ≡ ite (O.ready? depsOf done i) (done ++ (i ∷ [])) done
-  unfolding ready
   place-same i q done e =
       place-ite (not (member i done) && ready qs done q) (O.ready? depsOf done i) i done
-      (λ t. let w = T-and (not (member i done)) _ t in (λ m. T-not (member i done) (w .0) (in-member i done m), λ d m. ready-all done (reads (q .rhs)) (w .1) d (subst (λ o. d ∈ depsBy o) e m)))
-      (λ r. and-T (not (member i done)) _ (not-T (member i done) (λ t. r .0 (member-in i done t))) (all-ready done (reads (q .rhs)) (λ d m. r .1 d (subst (λ o. d ∈ depsBy o) (sym e) m))))
-
-  -- ---- passes
-
-  drop-head : {A : Type 0} (i : ℕ) (l : List A) (r : A) (rs : List A) → drop i l ≡ r ∷ rs → (getElem? l i ≡ some r) × (drop (suc i) l ≡ rs)
-  drop-head zero [] r rs e = let z : _≡_ {A = ℕ} 0 1 = cc in absurd (omega arith)
-  drop-head (suc i) [] r rs e = let z : _≡_ {A = ℕ} 0 1 = cc in absurd (omega arith)
-  drop-head zero (x ∷ l) r rs e = (cc, cc)
-  drop-head (suc i) (x ∷ l) r rs e = drop-head i l r rs e
+      (λ t. let w = T-and (not (member i done)) _ t in (λ m. T-not (member i done) (w .0) (in-member i done m), λ d m. ready-all done q (w .1) d (subst (λ o. d ∈ depsBy o) e m)))
+      (λ r. and-T (not (member i done)) _ (not-T (member i done) (λ t. r .0 (member-in i done t))) (all-ready done q (λ d m. r .1 d (subst (λ o. d ∈ depsBy o) (sym e) m))))
 
   pass-same : (i : ℕ) (rs : List Equation) (done : List ℕ) → drop i qs ≡ rs → pass qs i rs done ≡ O.pass depsOf (from i (length rs)) done
   unfolding pass O.pass from
   pass-same i [] done e = refl
   pass-same i (r ∷ rs) done e = let w = drop-head i qs r rs e in rw (place-same i r done (w .0)) (pass-same (suc i) rs _ (w .1))
 
-  passes-same : (f : ℕ) (done : List ℕ) → passes qs f done ≡ O.plain (length qs) depsOf f done
-  unfolding passes O.plain
+  passes-same : (k : ℕ) (done : List ℕ) → passes qs k done ≡ O.passes (length qs) depsOf k done
+  unfolding passes O.passes
   passes-same zero done = refl
-  passes-same (suc f) done = ap (passes qs f) (pass-same 0 qs done refl) ∙ passes-same f _
+  passes-same (suc k) done = ap (passes qs k) (pass-same 0 qs done refl) ∙ passes-same k _
 
   -- the order is the theory's
-  pub order-same : order qs ≡ O.placedOf (O.order (length qs) depsOf)
-  unfolding order
-  order-same = passes-same (length qs) [] ∙ OP.plain-order (length qs) depsOf
+  pub order-same : order qs ≡ O.order (length qs) depsOf
+  unfolding order O.order
+  order-same = passes-same (length qs) []
 
   -- ---- the first unplaced
 
@@ -161,41 +126,27 @@ module _ (qs : List Equation) where
   -- ---- rings
 
   pub reads-deps : (i j : ℕ) → T (readsFrom qs i j) → j ∈ depsOf i
-  unfolding definers
   reads-deps i j t = go (getElem? qs i) t
     where
-      each : (xs : List ℕ) → T (anyOf (λ x. maybe false (eqb j) (definer qs x)) xs) → j ∈ definers xs
-      each [] t = absurd t
-      each (x ∷ xs) t = ⊎-elim (λ h. some-in (definer qs x) (definers xs) j (test-some (definer qs x) j h)) (λ h. rest-in (definer qs x) (definers xs) j (each xs h)) (T-or (maybe false (eqb j) (definer qs x)) _ t)
-
       go : (o : Option Equation) → T (maybe false (λ q. anyOf (λ x. maybe false (eqb j) (definer qs x)) (reads (q .rhs))) o) → j ∈ depsBy o
       go none t = absurd t
-      go (some q) t = each (reads (q .rhs)) t
+      go (some q) t = let w = any-in (λ x. maybe false (eqb j) (definer qs x)) (reads (q .rhs)) t in found-in (definer qs) (reads (q .rhs)) (w .0) j (w .1) (test-some (definer qs (w .0)) j (w .2))
 
   pub deps-reads : (i j : ℕ) → j ∈ depsOf i → T (readsFrom qs i j)
-  unfolding definers
   deps-reads i j m = go (getElem? qs i) m
     where
-      each : (xs : List ℕ) → j ∈ definers xs → T (anyOf (λ x. maybe false (eqb j) (definer qs x)) xs)
-      each [] m = absurd (in-nil m)
-      each (x ∷ xs) m = ⊎-elim (λ e. or-left (maybe false (eqb j) (definer qs x)) _ (some-test (definer qs x) j e)) (λ k. or-right (maybe false (eqb j) (definer qs x)) _ (each xs k)) (in-addSome (definer qs x) (definers xs) j m)
-
       go : (o : Option Equation) → j ∈ depsBy o → T (maybe false (λ q. anyOf (λ x. maybe false (eqb j) (definer qs x)) (reads (q .rhs))) o)
       go none m = absurd (in-nil m)
-      go (some q) m = each (reads (q .rhs)) m
-
-  inside-get : {A : Type 0} (l : List A) (i : ℕ) (a : A) → getElem? l i ≡ some a → i < length l
-  inside-get [] zero a e = let z : _≡_ {A = ℕ} 0 1 = cc in absurd (omega arith)
-  inside-get [] (suc i) a e = let z : _≡_ {A = ℕ} 0 1 = cc in absurd (omega arith)
-  inside-get (x ∷ l) zero a e = omega arith
-  inside-get (x ∷ l) (suc i) a e = omega (arith, inside-get l i a e)
+      go (some q) m =
+          let w = in-found (definer qs) (reads (q .rhs)) j m in
+          in-any (λ x. maybe false (eqb j) (definer qs x)) (reads (q .rhs)) (w .0) (w .1) (subst (λ o. T (maybe false (eqb j) o)) (sym (w .2)) (eq-eqb j j refl))
 
   reads-inside : (i j : ℕ) → T (readsFrom qs i j) → i < length qs
   reads-inside i j t = go (getElem? qs i) refl t
     where
       go : (o : Option Equation) → getElem? qs i ≡ o → T (maybe false (λ q. anyOf (λ x. maybe false (eqb j) (definer qs x)) (reads (q .rhs))) o) → i < length qs
       go none e t = absurd t
-      go (some q) e t = inside-get qs i q e
+      go (some q) e t = getElem-inside qs i q e
 
   chain-inside : {i j : ℕ} → Chain qs i j → i < length qs
   chain-inside {i} (one {j = j} t) = reads-inside i j t
@@ -223,7 +174,6 @@ module _ (qs : List Equation) where
   pub record Placed : Type 0 where
     pub valid : O.ValidOrder (length qs) depsOf (order qs)
     pub none-left : unplaced qs ≡ none
-    pub found : O.order (length qs) depsOf ≡ O.ordered (order qs)
     pub no-ring : ¬ Ring qs
 
   pub record Stuck : Type 0 where
@@ -233,27 +183,18 @@ module _ (qs : List Equation) where
 
   pub placed-or-stuck : Placed ⊎ Stuck
   unfolding unplaced
-  placed-or-stuck = ⊎-elim good bad (OP.order-cases (length qs) depsOf)
+  placed-or-stuck = ⊎-elim good bad (rw (← order-same) at (OP.order-cases (length qs) depsOf deps-closed))
     where
-      good : (l : List ℕ) × (O.order (length qs) depsOf ≡ O.ordered l) → Placed ⊎ Stuck
-      good w =
-          let e : order qs ≡ w .0 = order-same ∙ ap O.placedOf (w .1) in
-          let v = OP.ordered-valid (length qs) depsOf (w .0) (w .1) in
-          let v′ : O.ValidOrder (length qs) depsOf (order qs) = subst (O.ValidOrder (length qs) depsOf) (sym e) v in
+      good : O.ValidOrder (length qs) depsOf (order qs) → Placed ⊎ Stuck
+      good v =
           inl (record {
-            valid = v′;
-            none-left = outside-none (order qs) 0 qs (λ k a b. v′ .complete k (omega arith));
-            found = w .1 ∙ ap O.ordered (sym e);
-            no-ring = λ r. OP.valid-no-ring (length qs) depsOf (w .0) v (ring-theory r);
+            valid = v;
+            none-left = outside-none (order qs) 0 qs (λ k a b. v .complete k (omega arith));
+            no-ring = λ r. OP.valid-no-ring (length qs) depsOf (order qs) v (ring-theory r);
           })
 
-      bad : (l : List ℕ) × (O.order (length qs) depsOf ≡ O.stuck l) → Placed ⊎ Stuck
+      bad : O.Ring (length qs) depsOf × (length (order qs) < length qs) → Placed ⊎ Stuck
       bad w =
-          let e : order qs ≡ w .0 = order-same ∙ ap O.placedOf (w .1) in
-          let f = OP.stuck-first (length qs) depsOf (w .0) (w .1) in
-          let s = outside-some (order qs) 0 qs (O.firstUnplaced (length qs) (w .0)) (omega arith) (omega (arith, f .inside)) (λ m. f .missing (subst (λ l. O.firstUnplaced (length qs) (w .0) ∈ l) e m)) in
-          inr (record {
-            ring = theory-ring (OP.stuck-ring (length qs) depsOf (λ i b d m. deps-closed i d m) (w .0) (w .1));
-            left = s .0;
-            is-left = s .1;
-          })
+          let u = OP.left-out (length qs) depsOf (order qs) (w .1) in
+          let s = outside-some (order qs) 0 qs (u .0) (omega arith) (omega (arith, u .1)) (u .2) in
+          inr (record { ring = theory-ring (w .0); left = s .0; is-left = s .1 })

@@ -8,9 +8,10 @@ use mathlib.Core.Path.{_≡_, refl, sym, ap, subst}
 use native.Mathlib.Omega.{arith}
 use lib.ListN.{length, getElem?}
 use lib.Dec.{eqb}
-use Rattle.ol_theory.specs.Member.{_∈_, in-reverse}
+use Rattle.ol_theory.specs.Member.{_∈_}
 use Rattle.ol_theory.specs.Order as O
-use Rattle.ol_theory.specs.OrderProof as OP
+use Rattle.ol_theory.proofs.Members.{in-reverse}
+use Rattle.ol_theory.proofs.OrderProof as OP
 use Rattle.ol_spec.specs.Syntax.{Equation, Node}
 use Rattle.ol_spec.specs.Places.{placed, nodeSize}
 use Rattle.ol_spec.specs.Limits.{Loader}

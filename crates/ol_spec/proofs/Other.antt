@@ -6,6 +6,7 @@ use mathlib.Core.Path.{_≡_, refl, ap, ap₂, _∙_}
 use native.Mathlib.Omega.{arith}
 use lib.ListN.{length, take, drop, getD}
 use Rattle.ol_theory.specs.Member.{_∈_}
+use Rattle.ol_theory.proofs.Members.{map-cong}
 use Rattle.ol_spec.specs.Lists.{concat}
 use Rattle.ol_spec.specs.Syntax.{NodeKind, Function, Operator, Imported, Expr, boolLit, intLit, floatLit, charLit, var, unary, binary, ifThenElse, pre}
 use Rattle.ol_spec.specs.Syntax.{arrow, cast, call, tuple, Exprs, nil, cons, rhsOf, Equation, Node, noNode, variables}
@@ -16,10 +17,11 @@ use Rattle.ol_spec.specs.Order.{order}
 use Rattle.ol_spec.specs.Eval.{Globals, Scope, Calls, failure, callees, calleesAll, nodeAt, sizeIn, sitesSize, join, arithmetic, firstType, isDouble?, hasCall, mapEval, next, nextAll, condition, choose, enter, singleEval, severalEval, realKind, eval, evalAll, evalRhs}
 use Rattle.ol_spec.specs.Step.{Ended, finished, failedAt, overflowedAt, equationSites, sites, split, oldCells, isFresh, fitAll, noEquation, equationAt, Run, store, scope, evalEquation, runAll, run, freshInstance, freshBy, freshAt, freshRecord, leaveOn, leave, instance, callBy, callsAt}
 use Rattle.ol_spec.specs.declared.Value.{Value}
+use Rattle.ol_spec.proofs.Lists.{in-concat}
 
-map-same : {A : Type 0} (h h′ : ℕ → A) (xs : List ℕ) → ((x : ℕ) → x ∈ xs → h x ≡ h′ x) → map h xs ≡ map h′ xs
-map-same h h′ [] e = refl
-map-same {A} h h′ (x ∷ xs) e = ap₂ {C = List A} (λ a l. a ∷ l) (e x (here refl)) (map-same h h′ xs (λ y m. e y (there m)))
+-- the call sites of an equation are sites of its node
+pub site-in : (qs : List Equation) (i c : ℕ) → c ∈ callees (getD qs i noEquation .rhs) → c ∈ concat (map equationSites qs)
+site-in = in-concat equationSites noEquation (λ w. in-nil (w .1))
 
 module _ (g : Globals) (ns : List Node) (sz : List ℕ) (sizes : g .sizes ≡ sz) (outs : (k : ℕ) → nodeAt g k .outputs ≡ getD ns k noNode .outputs) where
   -- the other file
@@ -114,12 +116,6 @@ module _ (g : Globals) (ns : List Node) (sz : List ℕ) (sizes : g .sizes ≡ sz
           λ i. enter (λ ws r. hk ws r i) (take (sizeIn (sizes i) k) seg) (evalAll-other es hs (drop (sizeIn (sizes i) k) seg) i)
       rhs-other (tuple es) h seg = evalAll-other es h seg
 
-    site-at : (qs : List Equation) (i c : ℕ) → c ∈ callees (getD qs i noEquation .rhs) → c ∈ concat (map equationSites qs)
-    site-at [] zero c m = absurd (in-nil m)
-    site-at [] (suc i) c m = absurd (in-nil m)
-    site-at (q ∷ qs) zero c m = in-left (concat (map equationSites qs)) m
-    site-at (q ∷ qs) (suc i) c m = in-right (callees (q .rhs)) (site-at qs i c m)
-
     pub split-other : (qs : List Equation) (s : List ℕ) → split g qs s ≡ split other qs s
     unfolding split
     split-other [] s = refl
@@ -127,7 +123,7 @@ module _ (g : Globals) (ns : List Node) (sz : List ℕ) (sizes : g .sizes ≡ sz
 
     module _ (n : Node) (same : Same (sites n)) (first : Bool) (before : List Value) where
       pub equation-other : (cs : List Value) (i : ℕ) (s : List ℕ) → evalEquation g calls n first before cs i s ≡ evalEquation other calls′ n first before cs i s
-      equation-other cs i s = rhs-other (scope n first before cs) (equationAt n i .rhs) (λ c m. same c (site-at (n .equations) i c m)) s
+      equation-other cs i s = rhs-other (scope n first before cs) (equationAt n i .rhs) (λ c m. same c (site-in (n .equations) i c m)) s
 
       pub runAll-other : (is : List ℕ) (cs : List Value) (ss : List (List ℕ)) → runAll g calls n first before is cs ss ≡ runAll other calls′ n first before is cs ss
       unfolding runAll
@@ -144,7 +140,7 @@ module _ (g : Globals) (ns : List Node) (sz : List ℕ) (sizes : g .sizes ≡ sz
 
   module _ (K : ℕ) (below : (k : ℕ) → k < K → nodeAt g k ≡ nodeAt other k) (lower : (k c : ℕ) → c ∈ sites (nodeAt g k) → c < k) (depth : length (g .nodes) ≡ length ns) where
     fresh-instance-other : (h h′ : ℕ → List ℕ) (n : Node) → ((c : ℕ) → c ∈ sites n → h c ≡ h′ c) → freshInstance g h n ≡ freshInstance other h′ n
-    fresh-instance-other h h′ n e = ap (λ (l : List (List ℕ)). 0 ∷ cells (defaults (g .enums) (variables n)) ++ concat l) (map-same h h′ (sites n) e)
+    fresh-instance-other h h′ n e = ap (λ (l : List (List ℕ)). 0 ∷ cells (defaults (g .enums) (variables n)) ++ concat l) (map-cong h h′ (sites n) e)
 
     freshBy-other : (t : NodeKind) (h h′ : ℕ → List ℕ) (n : Node) → ((c : ℕ) → c ∈ sites n → h c ≡ h′ c) → freshBy g t h n ≡ freshBy other t h′ n
     freshBy-other Function h h′ n e = refl

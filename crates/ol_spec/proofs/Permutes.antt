@@ -2,18 +2,19 @@
 use Prim.Native.Nat.{ℕ, zero, suc, _+_, _<_}
 use mathlib.Core.List.{List, [], _∷_, _++_, map, List·Memᴰ·head as here, List·Memᴰ·tail as there, List·Memᴰ·not-nil as in-nil, List·Memᴰ·cases-cons as in-cons, List·Memᴰ·append-cases as in-append, Memᴰ·append-left as in-left, Memᴰ·append-right as in-right, Memᴰ·cast}
 use mathlib.Core.Logic.{⊎-elim}
-use mathlib.Core.Path.{_≡_, refl, sym, ap, _∙_}
+use mathlib.Core.Path.{_≡_, refl, sym, ap, subst, _∙_}
 use native.Mathlib.Omega.{arith}
 use lib.ListN.{length, getD}
 use Rattle.ol_theory.specs.Member.{_∈_, Distinct}
+use Rattle.ol_theory.specs.Relist.{Permutation}
 use Rattle.ol_spec.specs.Lists.{concat}
 use Rattle.ol_spec.specs.Syntax.{Equation}
 use Rattle.ol_spec.specs.Eval.{sitesSize}
 use Rattle.ol_spec.specs.Step.{equationSites, noEquation}
 use Rattle.ol_spec.specs.Demand3.{Permuted, empty, keep, swap, both}
 use Rattle.ol_spec.proofs.Tests.{member-in}
+use Rattle.ol_spec.proofs.Lists.{All, distinct-join, distinct-parts}
 use Rattle.ol_spec.proofs.Segments.{sites-append}
-use Rattle.ol_spec.proofs.ReadFacts.{All}
 use Rattle.ol_spec.proofs.MainFacts.{Fresh, fresh-out, fresh-distinct, namesOf}
 
 pub perm-refl : (qs : List Equation) → Permuted qs qs
@@ -60,16 +61,6 @@ perm-in x (swap {q = q} {r = r} {qs = qs}) m =
     ⊎-elim (λ k. in-right (r .names) (in-left (names qs) k)) (λ k. ⊎-elim (λ j. in-left (q .names ++ names qs) j) (λ j. in-right (r .names) (in-right (q .names) j)) (in-append (r .names) k)) (in-append (q .names) m)
 perm-in x (both p q) m = perm-in x q (perm-in x p m)
 
-distinct-join : (a b : List ℕ) → Distinct a → Distinct b → ((x : ℕ) → x ∈ a → ¬ (x ∈ b)) → Distinct (a ++ b)
-distinct-join [] b d e h = e
-distinct-join (x ∷ a) b d e h = (λ m. ⊎-elim (d .0) (h x (here refl)) (in-append a m), distinct-join a b (d .1) e (λ y m. h y (there m)))
-
-distinct-parts : (a b : List ℕ) → Distinct (a ++ b) → Distinct a × Distinct b × ((x : ℕ) → x ∈ a → ¬ (x ∈ b))
-distinct-parts [] b d = (tt, d, λ x m. absurd (in-nil m))
-distinct-parts (y ∷ a) b d =
-    let w = distinct-parts a b (d .1) in
-    ((λ m. d .0 (in-left b m), w .0), w .1, λ x m k. ⊎-elim (λ e. d .0 (in-right a (Memᴰ·cast (sym e) k))) (λ j. w .2 x j k) (in-cons m))
-
 pub perm-distinct : {qs rs : List Equation} → Permuted qs rs → Distinct (names qs) → Distinct (names rs)
 perm-distinct empty d = d
 perm-distinct (keep {q = q} {qs = qs} {rs = rs} p) d =
@@ -93,51 +84,79 @@ perm-fresh taken {qs} {rs} p f =
 
 -- ---- where an index goes
 
+-- equation i of the one list is equation `to i` of the other, and back
 pub record Listing (qs rs : List Equation) : Type 0 where
   pub to : ℕ → ℕ
-  pub inside : (i : ℕ) → i < length rs → to i < length qs
   pub same : (i : ℕ) → getD rs i noEquation ≡ getD qs (to i) noEquation
+  pub permutes : Permutation (length qs) to
 
 keepTo : (ℕ → ℕ) → ℕ → ℕ
 keepTo h zero = zero
 keepTo h (suc i) = suc (h i)
+
+keep-permutes : {n : ℕ} {π : ℕ → ℕ} → Permutation n π → Permutation (suc n) (keepTo π)
+unfolding keepTo
+keep-permutes {n} {π} p =
+    record {
+      inside = within π (p .inside);
+      back = keepTo (p .back);
+      back-inside = within (p .back) (p .back-inside);
+      back-there = undone π (p .back) (p .back-there);
+      there-back = undone (p .back) π (p .there-back);
+    }
+  where
+    within : (h : ℕ → ℕ) → ((i : ℕ) → i < n → h i < n) → (i : ℕ) → i < suc n → keepTo h i < suc n
+    within h f zero b = omega arith
+    within h f (suc i) b = omega (arith, f i (omega arith))
+
+    undone : (h k : ℕ → ℕ) → ((i : ℕ) → i < n → k (h i) ≡ i) → (i : ℕ) → i < suc n → keepTo k (keepTo h i) ≡ i
+    undone h k f zero b = refl
+    undone h k f (suc i) b = ap suc (f i (omega arith))
 
 swapTo : ℕ → ℕ
 swapTo zero = suc zero
 swapTo (suc zero) = zero
 swapTo (suc (suc i)) = suc (suc i)
 
-keep-listing : (q : Equation) {qs rs : List Equation} → Listing qs rs → Listing (q ∷ qs) (q ∷ rs)
-unfolding keepTo
-keep-listing q {qs} {rs} l = record { to = keepTo (l .to); inside = go; same = at }
-  where
-    go : (i : ℕ) → i < suc (length rs) → keepTo (l .to) i < suc (length qs)
-    go zero b = omega arith
-    go (suc i) b = omega (arith, l .inside i (omega arith))
-
-    at : (i : ℕ) → getD (q ∷ rs) i noEquation ≡ getD (q ∷ qs) (keepTo (l .to) i) noEquation
-    at zero = refl
-    at (suc i) = l .same i
-
-swap-listing : (q r : Equation) (qs : List Equation) → Listing (q ∷ r ∷ qs) (r ∷ q ∷ qs)
+swap-permutes : (n : ℕ) → Permutation (suc (suc n)) swapTo
 unfolding swapTo
-swap-listing q r qs = record { to = swapTo; inside = go; same = at }
+swap-permutes n = record { inside = within; back = swapTo; back-inside = within; back-there = λ i b. undone i; there-back = λ i b. undone i }
   where
-    go : (i : ℕ) → i < suc (suc (length qs)) → swapTo i < suc (suc (length qs))
-    go zero b = omega arith
-    go (suc zero) b = omega arith
-    go (suc (suc i)) b = b
+    within : (i : ℕ) → i < suc (suc n) → swapTo i < suc (suc n)
+    within zero b = omega arith
+    within (suc zero) b = omega arith
+    within (suc (suc i)) b = b
 
+    undone : (i : ℕ) → swapTo (swapTo i) ≡ i
+    undone zero = refl
+    undone (suc zero) = refl
+    undone (suc (suc i)) = refl
+
+both-permutes : {n : ℕ} {π ρ : ℕ → ℕ} → Permutation n π → Permutation n ρ → Permutation n (λ i. π (ρ i))
+both-permutes {n} {π} {ρ} p q =
+    record {
+      inside = λ i b. p .inside (ρ i) (q .inside i b);
+      back = λ j. q .back (p .back j);
+      back-inside = λ j b. q .back-inside (p .back j) (p .back-inside j b);
+      back-there = λ i b. ap (q .back) (p .back-there (ρ i) (q .inside i b)) ∙ q .back-there i b;
+      there-back = λ j b. ap π (q .there-back (p .back j) (p .back-inside j b)) ∙ p .there-back j b;
+    }
+
+pub listing : {qs rs : List Equation} → Permuted qs rs → Listing qs rs
+unfolding keepTo swapTo
+listing empty = record { to = λ i. i; same = λ i. refl; permutes = record { inside = λ i b. b; back = λ i. i; back-inside = λ i b. b; back-there = λ i b. refl; there-back = λ i b. refl } }
+listing (keep {q = q} {qs = qs} {rs = rs} p) = let l = listing p in record { to = keepTo (l .to); same = at l; permutes = keep-permutes (l .permutes) }
+  where
+    at : (l : Listing qs rs) (i : ℕ) → getD (q ∷ rs) i noEquation ≡ getD (q ∷ qs) (keepTo (l .to) i) noEquation
+    at l zero = refl
+    at l (suc i) = l .same i
+listing (swap {q = q} {r = r} {qs = qs}) = record { to = swapTo; same = at; permutes = swap-permutes (length qs) }
+  where
     at : (i : ℕ) → getD (r ∷ q ∷ qs) i noEquation ≡ getD (q ∷ r ∷ qs) (swapTo i) noEquation
     at zero = refl
     at (suc zero) = refl
     at (suc (suc i)) = refl
-
-pub listing : {qs rs : List Equation} → Permuted qs rs → Listing qs rs
-listing empty = record { to = λ i. i; inside = λ i b. b; same = λ i. refl }
-listing (keep {q = q} p) = keep-listing q (listing p)
-listing (swap {q = q} {r = r} {qs = qs}) = swap-listing q r qs
-listing (both p q) =
+listing (both {qs = qs} p q) =
     let a = listing p in
     let b = listing q in
-    record { to = λ i. a .to (b .to i); inside = λ i h. a .inside (b .to i) (b .inside i h); same = λ i. b .same i ∙ a .same (b .to i) }
+    record { to = λ i. a .to (b .to i); same = λ i. b .same i ∙ a .same (b .to i); permutes = both-permutes (a .permutes) (subst (λ n. Permutation n (b .to)) (perm-length p) (b .permutes)) }

@@ -20,6 +20,7 @@ use Rattle.ol_spec.specs.Read.{atEnd, formatR, unlessLong, readFile}
 use Rattle.ol_spec.specs.Limits.{Loader}
 use Rattle.ol_spec.specs.declared.Limits.{Limits}
 use Rattle.ol_spec.proofs.Tests.{T-and}
+pub use Rattle.ol_spec.proofs.Lists.{All}
 use Rattle.ol_spec.proofs.Offsets.{steps, same-item}
 use Rattle.ol_spec.proofs.Values.{signed-small, cond-T}
 use Rattle.ol_spec.proofs.Good.{Plain, PlainAll}
@@ -27,10 +28,6 @@ use Rattle.ol_spec.proofs.Good.{Plain, PlainAll}
 -- whatever the reader reads has the property
 pub record Yields {A : Type 0} (r : Reader A) (P : A → Type 0) : Type 0 where
   pub is : (at : ℕ) (a : A) (n : ℕ) → r at ≡ got a n → P a
-
-abbrev pub All : {A : Type 0} → (A → Type 0) → List A → Type 0
-All P [] = Unit {0}
-All P (x ∷ xs) = P x × All P xs
 
 abbrev Any : {A : Type 0} → A → Type 0
 Any a = Unit {0}

@@ -9,6 +9,7 @@ use native.Mathlib.Omega.{arith}
 use lib.ListN.{length, drop, getD, getElem?}
 use lib.Dec.{ltb, eqb}
 use Rattle.ol_theory.specs.Member.{_∈_, Distinct}
+use Rattle.ol_theory.proofs.OrderProof.{ring-map}
 use Rattle.ol_spec.specs.Lists.{concat, member, orElse, maybe}
 use Rattle.ol_spec.specs.Syntax.{NodeKind, Function, Operator, Imported, Expr, boolLit, intLit, floatLit, charLit, var, unary, binary, ifThenElse, pre}
 use Rattle.ol_spec.specs.Syntax.{arrow, cast, call, tuple, Exprs, nil, cons, Rhs, items, outputsOf, one, rhsOf, nameOf, Equation, Node}
@@ -17,20 +18,20 @@ use Rattle.ol_spec.specs.Places.{exprSize, tySize, nodeSize, equationSiz
 use Rattle.ol_spec.specs.Places.{collect, collectAll, nodesStart, mainPlace}
 use Rattle.ol_spec.specs.Read.{readFile, got}
 use Rattle.ol_spec.specs.Limits.{Loader}
-use Rattle.ol_spec.specs.Order.{reads, definer, definerFrom, unplaced, Ring, Chain}
+use Rattle.ol_spec.specs.Order.{reads, definerFrom, unplaced, Ring}
 use Rattle.ol_spec.specs.Step.{siteSizeBy, siteSize, noSize, sizesAt, instanceSize, noEquation, globals, ownSize}
 use Rattle.ol_spec.specs.Admission.{Item, first, numbered, variants, constantNames, nodeDeclares, enumDeclares, clashes, fault6, unseenItem, usedAt, used, constantUses, equationUses, nodeUses, fault7, nodeDefines, fault8, inConstant, inEquation, inNode, mayCall, callItem, callsWhere, badCall, nodeCalls, fault9, arity, severalIn, shapeItem, equationShape, nodeShape, fault10, placeAt, ringIn, firstSome, fault11, all, noCalls, noVariables, afterConstant, constantsFrom, constants, headSize, stateSize, atMain, fault13, isOperator, fault14}
 use Rattle.ol_spec.specs.Demand3.{Permuted, withEquations, withNodes}
 use Rattle.ol_spec.specs.declared.Value.{Value}
 use Rattle.ol_spec.proofs.Tests.{member-in}
-use Rattle.ol_spec.proofs.Ordering.{depsOf, depsBy, definers, definers-in, in-definers, later-cases, reads-deps, deps-reads, Placed, placed-or-stuck}
-use Rattle.ol_spec.proofs.ReadFacts.{All}
+use Rattle.ol_spec.proofs.Ordering.{depsOf, in-deps, deps-in, later-cases, ring-theory, theory-ring, Placed, placed-or-stuck}
+use Rattle.ol_spec.proofs.Lists.{All}
 use Rattle.ol_spec.proofs.Admits.{Admits, Clean, first-clean, clean-first, clean-parts, clean-join, clean-each, each-clean, all-placed}
 use Rattle.ol_spec.proofs.MainFacts.{namesOf, defines-fresh, fresh-defines}
 use Rattle.ol_spec.proofs.MainSystem.{namesAt, definer-is}
 use Rattle.ol_spec.proofs.OneCycle.{MainOk}
 use Rattle.ol_spec.proofs.Admitted.{rings-none}
-use Rattle.ol_spec.proofs.Permutes.{perm-all, perm-sites, perm-fresh, listing}
+use Rattle.ol_spec.proofs.Permutes.{perm-all, perm-length, perm-sites, perm-fresh, listing}
 use Rattle.ol_spec.proofs.Other.{eval-other}
 
 -- ---- places do not matter
@@ -161,33 +162,20 @@ module _ {qs rs : List Equation} (p : Permuted qs rs) (apart : Distinct (concat 
   abbrev to : ℕ → ℕ
   to = listing p .to
 
-  reads-at : (xs : List Equation) (i j : ℕ) (ys : List Equation) → j ∈ depsBy ys (getElem? xs i) → j ∈ definers ys (reads (getD xs i noEquation .rhs))
-  reads-at [] zero j ys m = absurd (in-nil m)
-  reads-at [] (suc i) j ys m = absurd (in-nil m)
-  reads-at (x ∷ xs) zero j ys m = m
-  reads-at (x ∷ xs) (suc i) j ys m = reads-at xs i j ys m
-
-  at-reads : (xs : List Equation) (i j x : ℕ) (ys : List Equation) → x ∈ reads (getD xs i noEquation .rhs) → definer ys x ≡ some j → j ∈ depsBy ys (getElem? xs i)
-  at-reads [] zero j x ys m e = absurd (in-nil m)
-  at-reads [] (suc i) j x ys m e = absurd (in-nil m)
-  at-reads (y ∷ xs) zero j x ys m e = definers-in ys (reads (y .rhs)) x j m e
-  at-reads (y ∷ xs) (suc i) j x ys m e = at-reads xs i j x ys m e
-
   relisted-deps : (i j : ℕ) → j ∈ depsOf rs i → to j ∈ depsOf qs (to i)
   relisted-deps i j m =
-      let w = in-definers rs (reads (getD rs i noEquation .rhs)) j (reads-at rs i j rs m) in
+      let w = in-deps rs rs i j m in
       let d = later-defines 0 rs (w .0) j (w .2) in
       let jd : j ≡ d .0 = omega (arith, d .1) in
       let mem : w .0 ∈ namesAt qs (to j) = subst (λ q. w .0 ∈ q .names) (listing p .same j) (subst (λ k. w .0 ∈ namesAt rs k) (sym jd) (d .2)) in
-      at-reads qs (to i) (to j) (w .0) qs (subst (λ q. w .0 ∈ reads (q .rhs)) (listing p .same i) (w .1)) (definer-is 0 qs (w .0) (to j) apart mem ∙ ap some (omega arith))
+      deps-in qs qs (to i) (to j) (w .0) (subst (λ q. w .0 ∈ reads (q .rhs)) (listing p .same i) (w .1)) (definer-is 0 qs (w .0) (to j) apart mem ∙ ap some (omega arith))
 
-  relisted-chain : {i j : ℕ} → Chain rs i j → Chain qs (to i) (to j)
-  relisted-chain {i} {j} (Rattle.ol_spec.specs.Order.one t) = Rattle.ol_spec.specs.Order.one (deps-reads qs (to i) (to j) (relisted-deps i j (reads-deps rs i j t)))
-  relisted-chain {i} (Rattle.ol_spec.specs.Order.more {j = j} t c) = Rattle.ol_spec.specs.Order.more (deps-reads qs (to i) (to j) (relisted-deps i j (reads-deps rs i j t))) (relisted-chain c)
+  relisted-ring : Ring rs → Ring qs
+  relisted-ring r =
+      theory-ring qs (ring-map (length rs) (length qs) (depsOf rs) (depsOf qs) to (λ i b. listing p .permutes .inside i (omega (arith, perm-length p))) relisted-deps (ring-theory rs r))
 
   pub relisted-placed : Placed qs → Placed rs
-  unfolding Ring
-  relisted-placed h = ⊎-elim (λ x. x) (λ s. absurd (h .no-ring (to (s .ring .0), relisted-chain (s .ring .1)))) (placed-or-stuck rs)
+  relisted-placed h = ⊎-elim (λ x. x) (λ s. absurd (h .no-ring (relisted-ring (s .ring)))) (placed-or-stuck rs)
 
 -- ---- the file with another last node
 
@@ -232,20 +220,24 @@ module _ (last last′ : Node) where
       ap (λ x. orElse (maybe none (λ i. some (placeAt (placedEquations at o) i)) x) (firstSome (map ringIn (placed nodeSize (at + nodeSize o) (os ++ last′ ∷ []))))) (h .0)
       ∙ rings-same os (at + nodeSize o) (h .1) e
 
+-- the file with these nodes and this last one, which is the main one
+abbrev pub ending : File → List Node → Node → File
+ending f os n = withNodes f (os ++ n ∷ [])
+
 pub last-is : (os : List Node) (n : Node) → lastOf (os ++ n ∷ []) ≡ n
 last-is [] n = refl
 last-is (o ∷ []) n = refl
 last-is (o ∷ x ∷ os) n = last-is (x ∷ os) n
 
 module _ (f : File) (os : List Node) (last : Node) (rs : List Equation) (p : Permuted (last .equations) rs) where
-  abbrev pub last′ : Node
+  abbrev last′ : Node
   last′ = withEquations last rs
 
-  abbrev pub f1 : File
-  f1 = withNodes f (os ++ last ∷ [])
+  abbrev f1 : File
+  f1 = ending f os last
 
-  abbrev pub f2 : File
-  f2 = withNodes f (os ++ last′ ∷ [])
+  abbrev f2 : File
+  f2 = ending f os last′
 
   siteSize-same : (sizes : List ℕ) → siteSize sizes last ≡ siteSize sizes last′
   siteSize-same sizes = go (last .kind)
@@ -356,17 +348,11 @@ module _ (f : File) (os : List Node) (last : Node) (rs : List Equation) (p : Per
   no12′ vs e = sym (constants-same [] [] (placedConstants f)) ∙ e
 
   -- 13, 14
-  pub main1 : main f1 ≡ last
-  main1 = last-is os last
-
-  pub main2 : main f2 ≡ last′
-  main2 = last-is os last′
-
   pub state-same : stateSize f2 ≡ stateSize f1
   unfolding stateSize
   state-same =
       ap (λ m. headSize f + m)
-      (ap₂ (λ s n. instanceSize s n) (sym all-sizes) main2 ∙ ap (λ m. ownSize last + m) (perm-sites _ p) ∙ ap (instanceSize (sizesAt (length (os ++ last ∷ [])) (os ++ last ∷ []))) (sym main1))
+      (ap₂ (λ s n. instanceSize s n) (sym all-sizes) (last-is os last′) ∙ ap (λ m. ownSize last + m) (perm-sites _ p) ∙ ap (instanceSize (sizesAt (length (os ++ last ∷ [])) (os ++ last ∷ []))) (sym (last-is os last)))
 
   cond-none : (b : Bool) (x : ℕ) → cond b (some x) none ≡ none → b ≡ false
   cond-none true x e = let z : _≡_ {A = ℕ} 0 1 = cc in absurd (omega arith)
@@ -378,7 +364,7 @@ module _ (f : File) (os : List Node) (last : Node) (rs : List Equation) (p : Per
       ap (λ m. atMain f2 (ltb most m)) state-same ∙ ap (atMain f2) (cond-none (ltb most (stateSize f1)) (mainPlace (placedNodes f1)) e)
 
   no14′ : fault14 f1 ≡ none → fault14 f2 ≡ none
-  no14′ e = ap (λ n. atMain f2 (not (isOperator (n .kind)))) main2 ∙ ap (atMain f2) (ap (λ n. not (isOperator (n .kind))) (sym main1) ∙ cond-none _ _ e)
+  no14′ e = ap (λ n. atMain f2 (not (isOperator (n .kind)))) (last-is os last′) ∙ ap (atMain f2) (ap (λ n. not (isOperator (n .kind))) (sym (last-is os last)) ∙ cond-none _ _ e)
 
   -- the relisted file is admitted
   pub relist-admits : (ld : Loader) (s s′ : List ℕ) (vs : List Value) (at : ℕ) → Admits ld s f1 vs → MainOk f1 vs → readFile s′ ld ≡ got f2 at → Admits ld s′ f2 vs
@@ -391,7 +377,7 @@ module _ (f : File) (os : List Node) (last : Node) (rs : List Equation) (p : Per
         no8 = no8′ (a .no8);
         no9 = no9′ (a .no9);
         no10 = no10′ (a .no10);
-        no11 = no11′ (subst (λ n. Distinct (concat (map namesOf (n .equations)))) main1 (m .apart)) (subst (λ n. Placed (n .equations)) main1 (m .placed)) (a .no11);
+        no11 = no11′ (subst (λ n. Distinct (concat (map namesOf (n .equations)))) (last-is os last) (m .apart)) (subst (λ n. Placed (n .equations)) (last-is os last) (m .placed)) (a .no11);
         no12 = no12′ vs (a .no12);
         no13 = no13′ ld (a .no13);
         no14 = no14′ (a .no14);

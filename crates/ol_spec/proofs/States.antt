@@ -1,52 +1,41 @@
 -- The state through a list of cycles: it is well formed and its main cells have their kinds, so that each answered cycle solves the main equations.
 use Prim.Native.Nat.{ℕ, zero, suc, _+_, _*_, _-_, _^_, _<_, _≤_}
 use mathlib.Core.Bool.{Bool, true, false, not, _&&_, _||_}
-use mathlib.Core.List.{List, [], _∷_, _++_, map, append-nil, append-assoc, Memᴰ·append-left as in-left, Memᴰ·append-right as in-right}
+use mathlib.Core.List.{List, [], _∷_, _++_, map, map-append, append-nil, append-assoc, Memᴰ·append-left as in-left, Memᴰ·append-right as in-right}
 use mathlib.Core.Path.{_≡_, refl, sym, ap, ap₂, subst, _∙_}
 use native.Mathlib.Omega.{arith}
 use lib.ListN.{length, take, drop, getD, length-append, length-drop, length-map, take-append-drop}
 use lib.Seq.{take-at, drop-at, length-take-le, take-append-le, drop-append-le, take-add}
 use lib.Dec.{T, leb, eqb, eqb→eq, eqb-refl}
 use Rattle.ol_theory.specs.Member.{_∈_}
+use Rattle.ol_theory.specs.System as Y
 use Rattle.ol_spec.specs.Lists.{concat, same, member}
 use Rattle.ol_spec.specs.Syntax.{Ty, bool, int, float32, float64, char, enum, Variable, Equation, Node, File, noNode, variables, main}
 use Rattle.ol_spec.specs.Cell.{tag, cells, valueOf, valuesOf, goodCell, goodCells}
 use Rattle.ol_spec.specs.Types.{IntTy, intIn, inType, defaultOf, defaults, kind}
 use Rattle.ol_spec.specs.Limits.{Loader}
+use Rattle.ol_spec.specs.Order.{order}
 use Rattle.ol_spec.specs.Eval.{Globals, callees}
 use Rattle.ol_spec.specs.Step.{equationSites, sites, ownSize, isFresh, oldCells, oldSegs, split, startedRecord, Ended, finished, failedAt, overflowedAt, Run, run, calls, freshAt, freshRecord}
 use Rattle.ol_spec.specs.Admission.{admitted, judge, headSize, stateSize}
 use Rattle.ol_spec.specs.State.{globalsOf, freshState, goodSites, goodOwn, goodState, goodEach, goodInputs}
 use Rattle.ol_spec.specs.Answers.{faultAt}
-use Rattle.ol_spec.specs.Cycle.{CycleCall, endOn, mainRun, endRun, noCycle, cycleUnless, fits17, cycleJudged, cycle}
-use Rattle.ol_spec.specs.Demand3.{Turn, nextState, history, InKind, given, Answered, KeepsKinds, Solves, AllSolve, Bytes, SolutionClaim}
+use Rattle.ol_spec.specs.Cycle.{CycleCall, endOn, mainRun, endRun, cycleUnless, fits17, cycleJudged, cycle}
+use Rattle.ol_spec.specs.Demand3.{Turn, Made, nextState, history, InKind, lent, given, Answered, KeepsKinds, Solves, AllSolve, SolutionClaim}
 use Rattle.ol_spec.specs.declared.Value.{Value}
 use Rattle.ol_spec.specs.declared.Value.the-variants as Val
 use Rattle.ol_spec.specs.declared.Fault.{Fault}
 use Rattle.ol_spec.specs.declared.Cycled.the-variants as Cyc
 use Rattle.ol_spec.proofs.Tests.{T-and, and-T, T-true, true-T}
-use Rattle.ol_spec.proofs.Cells.{AllFine, good-fine, cells-back, length-cells, same-refl}
+use Rattle.ol_spec.proofs.Cells.{AllFine, good-fine, cells-back, length-cells, same-refl, same-eq}
 use Rattle.ol_spec.proofs.Good.{Rec}
 use Rattle.ol_spec.proofs.Runs.{PlainEqs, Segs, segs-concat, segs-length, split-segs, split-concat, Instance, inner-good, RunGood, run-meets, start-length, started-instance, length-values}
 use Rattle.ol_spec.proofs.Calls.{mayBe, isGood, Keeps, calls-keep, fresh-main, fresh-rec, fresh-sites}
 use Rattle.ol_spec.proofs.MainFacts.{main-at}
-use Rattle.ol_spec.proofs.ReadFacts.{All, file-read}
-use Rattle.ol_spec.proofs.Admits.{admits}
+use Rattle.ol_spec.proofs.Lists.{All, concat-append, map-drop}
 use Rattle.ol_spec.proofs.MainSystem.{viewOn}
-use Rattle.ol_spec.proofs.OneCycle.{begin, solves}
-use Rattle.ol_spec.proofs.Admitted.{Facts, facts}
-
--- ---- lists
-
-map-append : {A B : Type 0} (h : A → B) (a b : List A) → map h (a ++ b) ≡ map h a ++ map h b
-map-append h [] b = refl
-map-append h (x ∷ a) b = ap (λ l. h x ∷ l) (map-append h a b)
-
-map-drop : {A B : Type 0} (h : A → B) (n : ℕ) (l : List A) → map h (drop n l) ≡ drop n (map h l)
-map-drop h zero [] = refl
-map-drop h (suc n) [] = refl
-map-drop h zero (x ∷ l) = refl
-map-drop h (suc n) (x ∷ l) = map-drop h n l
+use Rattle.ol_spec.proofs.OneCycle.{sys, begin, run-theory, solves}
+use Rattle.ol_spec.proofs.Admitted.{Facts, admitted-facts}
 
 -- ---- inputs
 
@@ -65,8 +54,16 @@ inType-tag ens float64 v h = eqb→eq (tag v) 2 h
 inType-tag ens char v h = intIn-tag _ v ens h
 inType-tag ens (enum e) v h = eqb→eq (tag v) 4 (T-and (eqb (tag v) 4) _ h .0)
 
+-- ---- answers
+
 same-fault : {x y : Fault} → Cyc.Refused x ≡ Cyc.Refused y → x ≡ y
 same-fault e = cc
+
+pub refused-not : {x : Fault} → Cyc.Refused x ≡ Cyc.Answered → ⊥
+refused-not e = let z : _≡_ {A = ℕ} 0 1 = cc in omega arith
+
+abbrev pub made : Turn → List ℕ → CycleCall → Made
+made t old c = record { turn = t; old = old; result = c }
 
 each-tags : (ens : List (List ℕ)) (xs : List Variable) (s : List ℕ) → T (goodEach ens xs s) → map tag (valuesOf (length xs) s) ≡ map (λ v. kind ens (v .ty)) xs
 each-tags ens [] s h = refl
@@ -113,10 +110,6 @@ own-part g n (x ∷ a) b c e =
 abbrev pub freshSeg : Globals → Equation → List ℕ
 freshSeg g q = concat (map (freshAt g (length (g .nodes))) (callees (q .rhs)))
 
-concat-append : (a b : List (List ℕ)) → concat (a ++ b) ≡ concat a ++ concat b
-concat-append [] b = refl
-concat-append (x ∷ a) b = ap (λ l. x ++ l) (concat-append a b) ∙ sym (append-assoc x (concat a) (concat b))
-
 fresh-concat : (g : Globals) (qs : List Equation) → concat (map (freshSeg g) qs) ≡ concat (map (freshAt g (length (g .nodes))) (concat (map equationSites qs)))
 fresh-concat g [] = refl
 fresh-concat g (q ∷ qs) =
@@ -160,12 +153,23 @@ module _ (f : File) (vs : List Value) (F : Facts f vs) where
     pub well : StateWell old
     pub kinds : InKind f (oldCells n (drop (headSize f) old))
 
-  pub ok-good : {old : List ℕ} → StateWell old → goodState f vs old ≡ true
+  -- a state is well formed exactly if 15 does not hold of it
+  pub well-good : {old : List ℕ} → StateWell old → goodState f vs old ≡ true
   unfolding goodState
-  ok-good {old} h =
+  well-good {old} h =
       T-true _ (and-T (eqb (length old) (stateSize f) && same (take (headSize f) old) (cells vs)) _
       (and-T (eqb (length old) (stateSize f)) _ (subst (λ m. T (eqb (length old) m)) (h .sized) (eqb-refl (length old))) (subst (λ l. T (same l (cells vs))) (sym (h .head)) (same-refl (cells vs))))
       (and-T (goodOwn g n (drop (headSize f) old)) _ (h .inst .own) (h .inst .inner)))
+
+  pub good-well : {old : List ℕ} → goodState f vs old ≡ true → StateWell old
+  unfolding goodState stateSize
+  good-well {old} e =
+      let rest = drop (headSize f) old in
+      let w = T-and (eqb (length old) (stateSize f) && same (take (headSize f) old) (cells vs)) _ (true-T (goodState f vs old) e) in
+      let u = T-and (eqb (length old) (stateSize f)) _ (w .0) in
+      let v = T-and (goodOwn g n rest) _ (w .1) in
+      let sized : length old ≡ stateSize f = eqb→eq (length old) (stateSize f) (u .0) in
+      record { sized = sized; head = same-eq (take (headSize f) old) (cells vs) (u .1); inst = record { sized = length-drop (headSize f) old ∙ omega arith; own = v .0; inner = v .1 } }
 
   head-length : length (cells vs) ≡ headSize f
   head-length = length-cells vs ∙ ap (λ m. 9 * m) (F .constantCount)
@@ -268,12 +272,16 @@ module _ (f : File) (vs : List Value) (F : Facts f vs) where
     pub counted : length (oldSegs g n rec) ≡ length (n .equations)
     counted = segs-length g p (n .equations) _ (split-segs g p (n .equations) _ (inner-good g p (mayBe g) (calls g) (F .short) (F .constantsFine) keep n plain-main (h .inst)))
 
-    -- an answered cycle
-    pub new-cells : InKind f (oldCells n rec) → mainRun f vs old ins .end ≡ finished → InKind f (mainRun f vs old ins .cells) → Solves f vs old (mainRun f vs old ins .cells)
+    -- a finished run, as the theory has it
+    pub finishes : mainRun f vs old ins .end ≡ finished → Y.runEqs (sys f vs (F .mainly) old) (order (n .equations)) (begin f vs (F .mainly) old ws) (oldSegs g n rec) ≡ Y.finished (mainRun f vs old ins .cells) (mainRun f vs old ins .segs)
     unfolding mainRun run
+    finishes e =
+        sym (run-theory f vs (F .mainly) old ws) ∙ ap (λ x. viewOn n g (calls g) (isFresh rec) (oldCells n rec) x (mainRun f vs old ins .cells) (mainRun f vs old ins .segs)) e
+
+    -- an answered cycle
+    pub new-cells : InKind f (oldCells n rec) → mainRun f vs old ins .end ≡ finished → InKind f (mainRun f vs old ins .cells) → Solves f vs old ws (mainRun f vs old ins .cells)
     new-cells hk e k =
-        solves f vs (F .mainly) old ws (length-values (length (n .inputs)) ins) begins (begin-kinds hk) counted (mainRun f vs old ins .cells) (mainRun f vs old ins .segs)
-        (ap (λ x. viewOn n g (calls g) (isFresh rec) (oldCells n rec) x (mainRun f vs old ins .cells) (mainRun f vs old ins .segs)) e) k
+        solves f vs (F .mainly) old ws (length-values (length (n .inputs)) ins) begins (begin-kinds hk) counted (mainRun f vs old ins .cells) (mainRun f vs old ins .segs) (finishes e) k
 
     pub given-back : valuesOf (length (variables n)) (cells (mainRun f vs old ins .cells)) ≡ mainRun f vs old ins .cells
     given-back =
@@ -329,24 +337,43 @@ module _ (f : File) (vs : List Value) (F : Facts f vs) where
           inner = subst (λ l. T (goodSites g p (sites n) l)) (sym (drop-at a (concat ss) (ownSize n) own-length)) (gs .good);
         }))
 
-    failed-ok : InKind f (oldCells n rec) → StateOk (take (headSize f + ownSize n) old ++ concat (mainRun f vs old ins .segs))
-    failed-ok hk =
-        record {
-          well = failed-well;
-          kinds = subst (λ l. InKind f (oldCells n (drop (headSize f) l))) (sym failed-parts) (ok-kinds _ (ap (map tag) (sym (own-kept .1) ∙ ap (oldCells n) (take-append-drop (ownSize n) rec)) ∙ hk));
-        }
+    failed-kinds : InKind f (oldCells n rec) → InKind f (oldCells n (drop (headSize f) (take (headSize f + ownSize n) old ++ concat (mainRun f vs old ins .segs))))
+    failed-kinds hk =
+        subst (λ l. InKind f (oldCells n (drop (headSize f) l))) (sym failed-parts) (ok-kinds _ (ap (map tag) (sym (own-kept .1) ∙ ap (oldCells n) (take-append-drop (ownSize n) rec)) ∙ hk))
 
-  -- what is shown of each cycle
+  -- ---- a cycle of a list
+
+  -- on a well-formed state a cycle is refused with 16 or 17, or runs
+  pub cycle-is : (ld : Loader) (s : List ℕ) → judge ld s ≡ admitted f vs → (old ins new vals : List ℕ) → StateWell old
+      → cycle ld s old ins new vals ≡ cycleUnless false (not (goodInputs f ins)) (not (fits17 f new vals)) f vs old ins new vals
+  unfolding cycle
+  cycle-is ld s e old ins new vals h =
+      ap (λ j. cycleJudged j old ins new vals) e ∙ ap (λ b. cycleUnless (not b) (not (goodInputs f ins)) (not (fits17 f new vals)) f vs old ins new vals) (well-good h)
+
+  -- whatever the kinds, it is not refused with 15, and the state stays well formed
+  abbrev Well : List ℕ → CycleCall → Type 0
+  Well old c = ((q : ℕ) → ¬ (c .answer ≡ Cyc.Refused (faultAt 15 q))) × StateWell (nextState (c .answer) old (c .new))
+
+  run-well : (t : Turn) (old : List ℕ) → StateWell old → T (goodInputs f (t .inputs)) → Well old (endRun f old (t .values) (mainRun f vs old (t .inputs)))
+  run-well t old h gi = go (mainRun f vs old (t .inputs) .end)
+    where
+      go : (e : Ended) → Well old (endOn f old (t .values) e (mainRun f vs old (t .inputs) .cells) (mainRun f vs old (t .inputs) .segs))
+      go finished = (λ q e. refused-not (sym e), answered-well old (t .inputs) h gi)
+      go (failedAt i) = (λ q e. let z : _≡_ {A = ℕ} 0 1 = cc in omega arith, failed-well old (t .inputs) h gi)
+      go (overflowedAt i) = (λ q e. let z : _≡_ {A = ℕ} 0 1 = cc in omega arith, h)
+
+  cycle-well : (ld : Loader) (s : List ℕ) → judge ld s ≡ admitted f vs → (t : Turn) (old : List ℕ) → StateWell old → Well old (cycle ld s old (t .inputs) (t .new) (t .values))
+  cycle-well ld s e t old h = rw (cycle-is ld s e old (t .inputs) (t .new) (t .values) h) (go (goodInputs f (t .inputs)) refl (fits17 f (t .new) (t .values)))
+    where
+      go : (b : Bool) → goodInputs f (t .inputs) ≡ b → (b′ : Bool) → Well old (cycleUnless false (not b) (not b′) f vs old (t .inputs) (t .new) (t .values))
+      go false q b′ = (λ x e. omega (arith, ap (λ (y : Fault). y .number) (same-fault e)), h)
+      go true q false = (λ x e. omega (arith, ap (λ (y : Fault). y .number) (same-fault e)), h)
+      go true q true = run-well t old h (true-T (goodInputs f (t .inputs)) q)
+
+  -- where the kinds are kept, an answered cycle's values solve the equations
   abbrev Right : Turn → List ℕ → CycleCall → Type 0
   Right t old c =
-      KeepsKinds f (record { turn = t; old = old; result = c })
-      → (Answered (record { turn = t; old = old; result = c }) → Solves f vs old (given f (record { turn = t; old = old; result = c }))) × StateOk (nextState (c .answer) old (c .new))
-
-  refused-right : (t : Turn) (old : List ℕ) (num place : ℕ) → StateOk old → Right t old (noCycle num place (t .new) (t .values))
-  refused-right t old num place h k = (λ e. absurd (never e), h)
-    where
-      never : Cyc.Refused (faultAt num place) ≡ Cyc.Answered → ⊥
-      never e = let z : _≡_ {A = ℕ} 0 1 = cc in omega arith
+      KeepsKinds f (made t old c) → (Answered (made t old c) → Solves f vs old (lent f (made t old c)) (given f (made t old c))) × InKind f (oldCells n (drop (headSize f) (nextState (c .answer) old (c .new))))
 
   run-right : (t : Turn) (old : List ℕ) → StateOk old → T (goodInputs f (t .inputs)) → Right t old (endRun f old (t .values) (mainRun f vs old (t .inputs)))
   run-right t old h gi = go (mainRun f vs old (t .inputs) .end) refl
@@ -354,76 +381,36 @@ module _ (f : File) (vs : List Value) (F : Facts f vs) where
       u : Run
       u = mainRun f vs old (t .inputs)
 
-      never : {x : _} → Cyc.Stopped x ≡ Cyc.Answered → ⊥
-      never e = let z : _≡_ {A = ℕ} 0 1 = cc in omega arith
-
       go : (e : Ended) → u .end ≡ e → Right t old (endOn f old (t .values) e (u .cells) (u .segs))
       go finished e k =
           let back = given-back old (t .inputs) (h .well) gi in
           let ks = subst (InKind f) back (k refl) in
-          (λ a. subst (Solves f vs old) (sym back) (new-cells old (t .inputs) (h .well) gi (h .kinds) e ks), answered-ok old (t .inputs) (h .well) gi ks)
-      go (failedAt i) e k = (λ a. absurd (never a), failed-ok old (t .inputs) (h .well) gi (h .kinds))
-      go (overflowedAt i) e k = (λ a. absurd (never a), h)
+          (λ a. subst (Solves f vs old (valuesOf (length (n .inputs)) (t .inputs))) (sym back) (new-cells old (t .inputs) (h .well) gi (h .kinds) e ks), answered-ok old (t .inputs) (h .well) gi ks .kinds)
+      go (failedAt i) e k = (λ a. let z : _≡_ {A = ℕ} 0 1 = cc in absurd (omega arith), failed-kinds old (t .inputs) (h .well) gi (h .kinds))
+      go (overflowedAt i) e k = (λ a. let z : _≡_ {A = ℕ} 0 1 = cc in absurd (omega arith), h .kinds)
 
   cycle-right : (ld : Loader) (s : List ℕ) → judge ld s ≡ admitted f vs → (t : Turn) (old : List ℕ) → StateOk old → Right t old (cycle ld s old (t .inputs) (t .new) (t .values))
-  unfolding cycle
-  cycle-right ld s e t old h =
-      subst (λ j. Right t old (cycleJudged j old (t .inputs) (t .new) (t .values))) (sym e)
-      (subst (λ b. Right t old (cycleUnless (not b) (not (goodInputs f (t .inputs))) (not (fits17 f (t .new) (t .values))) f vs old (t .inputs) (t .new) (t .values))) (sym (ok-good (h .well)))
-      (go (goodInputs f (t .inputs)) refl (fits17 f (t .new) (t .values))))
+  cycle-right ld s e t old h = rw (cycle-is ld s e old (t .inputs) (t .new) (t .values) (h .well)) (go (goodInputs f (t .inputs)) refl (fits17 f (t .new) (t .values)))
     where
       go : (b : Bool) → goodInputs f (t .inputs) ≡ b → (b′ : Bool) → Right t old (cycleUnless false (not b) (not b′) f vs old (t .inputs) (t .new) (t .values))
-      go false q b′ = refused-right t old 16 0 h
-      go true q false = refused-right t old 17 0 h
-      go true q true = run-right t old h (true-T (goodInputs f (t .inputs)) q)
+      go false q b′ k = (λ a. absurd (refused-not a), h .kinds)
+      go true q false k = (λ a. absurd (refused-not a), h .kinds)
+      go true q true k = run-right t old h (true-T (goodInputs f (t .inputs)) q) k
 
-  all-solve : (ld : Loader) (s : List ℕ) → judge ld s ≡ admitted f vs → (ts : List Turn) (old : List ℕ) → StateOk old → AllSolve f vs (history ld s ts old)
+  pub all-solve : (ld : Loader) (s : List ℕ) → judge ld s ≡ admitted f vs → (ts : List Turn) (old : List ℕ) → StateOk old → AllSolve f vs (history ld s ts old)
   all-solve ld s e [] old h = tt
-  all-solve ld s e (t ∷ ts) old h = λ k. let w = cycle-right ld s e t old h k in (w .0, all-solve ld s e ts _ (w .1))
+  all-solve ld s e (t ∷ ts) old h = λ k.
+      let w = cycle-right ld s e t old h k in
+      (w .0, all-solve ld s e ts _ (record { well = cycle-well ld s e t old (h .well) .1; kinds = w .1 }))
 
-  -- ---- 15 never occurs: each state of a list is well formed, whatever the kinds
+  -- every old state of a list is well formed, and 15 is never answered
+  abbrev pub Not15 : Made → Type 0
+  Not15 m = (goodState f vs (m .old) ≡ true) × ((q : ℕ) → ¬ (m .result .answer ≡ Cyc.Refused (faultAt 15 q)))
 
-  abbrev Fine15 : List ℕ → CycleCall → Type 0
-  Fine15 old c = ((q : ℕ) → ¬ (c .answer ≡ Cyc.Refused (faultAt 15 q))) × StateWell (nextState (c .answer) old (c .new))
-
-  other-number : (m q : ℕ) → ¬ (m ≡ 15) → ¬ (Cyc.Refused (faultAt m 0) ≡ Cyc.Refused (faultAt 15 q))
-  other-number m q h e = h (ap (λ (x : Fault). x .number) (same-fault e))
-
-  run-fine : (t : Turn) (old : List ℕ) → StateWell old → T (goodInputs f (t .inputs)) → Fine15 old (endRun f old (t .values) (mainRun f vs old (t .inputs)))
-  run-fine t old h gi = go (mainRun f vs old (t .inputs) .end)
-    where
-      go : (e : Ended) → Fine15 old (endOn f old (t .values) e (mainRun f vs old (t .inputs) .cells) (mainRun f vs old (t .inputs) .segs))
-      go finished = (λ q e. let z : _≡_ {A = ℕ} 0 1 = cc in omega arith, answered-well old (t .inputs) h gi)
-      go (failedAt i) = (λ q e. let z : _≡_ {A = ℕ} 0 1 = cc in omega arith, failed-well old (t .inputs) h gi)
-      go (overflowedAt i) = (λ q e. let z : _≡_ {A = ℕ} 0 1 = cc in omega arith, h)
-
-  cycle-fine : (ld : Loader) (s : List ℕ) → judge ld s ≡ admitted f vs → (t : Turn) (old : List ℕ) → StateWell old → Fine15 old (cycle ld s old (t .inputs) (t .new) (t .values))
-  unfolding cycle
-  cycle-fine ld s e t old h =
-      subst (λ j. Fine15 old (cycleJudged j old (t .inputs) (t .new) (t .values))) (sym e)
-      (subst (λ b. Fine15 old (cycleUnless (not b) (not (goodInputs f (t .inputs))) (not (fits17 f (t .new) (t .values))) f vs old (t .inputs) (t .new) (t .values))) (sym (ok-good h))
-      (go (goodInputs f (t .inputs)) refl (fits17 f (t .new) (t .values))))
-    where
-      go : (b : Bool) → goodInputs f (t .inputs) ≡ b → (b′ : Bool) → Fine15 old (cycleUnless false (not b) (not b′) f vs old (t .inputs) (t .new) (t .values))
-      go false q b′ = (λ x. other-number 16 x (λ e. omega arith), h)
-      go true q false = (λ x. other-number 17 x (λ e. omega arith), h)
-      go true q true = run-fine t old h (true-T (goodInputs f (t .inputs)) q)
-
-  no-15 : (ld : Loader) (s : List ℕ) → judge ld s ≡ admitted f vs → (ts : List Turn) (old : List ℕ) → StateWell old → All (λ m. (goodState f vs (m .old) ≡ true) × ((q : ℕ) → ¬ (m .result .answer ≡ Cyc.Refused (faultAt 15 q)))) (history ld s ts old)
+  pub no-15 : (ld : Loader) (s : List ℕ) → judge ld s ≡ admitted f vs → (ts : List Turn) (old : List ℕ) → StateWell old → All Not15 (history ld s ts old)
   no-15 ld s e [] old h = tt
-  no-15 ld s e (t ∷ ts) old h = let w = cycle-fine ld s e t old h in ((ok-good h, w .0), no-15 ld s e ts _ (w .1))
-
--- of an admitted file, in a list of cycles from its start state, every old state is well formed: 15 is never answered
-pub never-15 : (ld : Loader) (s : List ℕ) (f : File) (vs : List Value) (ts : List Turn) → Bytes s → judge ld s ≡ admitted f vs
-    → All (λ m. (goodState f vs (m .old) ≡ true) × ((q : ℕ) → ¬ (m .result .answer ≡ Cyc.Refused (faultAt 15 q)))) (history ld s ts (freshState f vs))
-never-15 ld s f vs ts bytes e =
-    let a = admits ld s f vs e in
-    let F = facts ld s f vs (file-read s bytes ld f (a .end) (a .read)) a in
-    no-15 f vs F ld s e ts (freshState f vs) (start-ok f vs F .well)
+  no-15 ld s e (t ∷ ts) old h = let w = cycle-well ld s e t old h in ((well-good h, w .0), no-15 ld s e ts _ (w .1))
 
 pub solution-claim : (ld : Loader) → SolutionClaim ld
 unfolding SolutionClaim
-solution-claim ld s f vs ts bytes e =
-    let a = admits ld s f vs e in
-    let F = facts ld s f vs (file-read s bytes ld f (a .end) (a .read)) a in
-    all-solve f vs F ld s e ts (freshState f vs) (start-ok f vs F)
+solution-claim ld s f vs ts bytes e = let F = admitted-facts ld s f vs bytes e in all-solve f vs F ld s e ts (freshState f vs) (start-ok f vs F)

@@ -16,7 +16,7 @@ use Rattle.ol_spec.specs.Limits.{Loader}
 use Rattle.ol_spec.specs.Order.{readsFrom, Ring}
 use Rattle.ol_spec.specs.Eval.{Outcomes, values}
 use Rattle.ol_spec.specs.Step.{isFresh, oldCells, oldSegs, equationAt, assign, evalEquation, calls}
-use Rattle.ol_spec.specs.Admission.{headSize, judge, admitted}
+use Rattle.ol_spec.specs.Admission.{headSize, judge, admitted, admission}
 use Rattle.ol_spec.specs.State.{globalsOf, freshState}
 use Rattle.ol_spec.specs.Answers.{faultAt}
 use Rattle.ol_spec.specs.Cycle.{ordering, cycle, CycleCall}
@@ -27,7 +27,7 @@ use Rattle.ol_spec.specs.declared.Cycled.the-variants as Cyc
 
 -- ---- (a) the ordering
 
--- the indices are those of the equations, each once, and each stands behind all that it reads from
+-- The indices are in order: as many as there are equations and every equation's among them, so each once; and each behind all that its equation reads from.
 pub record Orders (qs : List Equation) (is : List ℕ) : Type 0 where
   pub each : length is ≡ length qs
   pub all : (i : ℕ) → i < length qs → T (member i is)
@@ -77,7 +77,10 @@ history ld s (t ∷ ts) old =
 abbrev pub InKind : File → List Value → Type 0
 InKind f cs = map tag cs ≡ map (λ v. kind (f .enums) (v .ty)) (variables (main f))
 
--- the values that an answered cycle gave
+-- the values of the inputs that a cycle was lent, and those that it gave, if it was answered
+abbrev pub lent : File → Made → List Value
+lent f m = valuesOf (length (main f .inputs)) (m .turn .inputs)
+
 abbrev pub given : File → Made → List Value
 given f m = valuesOf (length (variables (main f))) (m .result .values)
 
@@ -111,22 +114,24 @@ module _ (f : File) (vs : List Value) (old : List ℕ) where
   abbrev pub definedNames : List ℕ
   definedNames = concat (map (λ q. q .names) (main f .equations))
 
-  -- Rival cells: of the declared kinds, with the inputs of cs and the old record's cells of outputs and locals that no main equation defines.
-  pub record Rival (cs ds : List Value) : Type 0 where
-    pub inKind : InKind f ds
-    pub sameInputs : take (length (main f .inputs)) ds ≡ take (length (main f .inputs)) cs
+  -- A choice of cells for the main variables: of the declared kinds, with these inputs, and with the held cells, which are the old record's, for outputs and locals that no main
+  -- equation defines.
+  pub record Choice (ins cs : List Value) : Type 0 where
+    pub inKind : InKind f cs
+    pub inputs : take (length (main f .inputs)) cs ≡ ins
     pub held : (i : ℕ) (x : Variable) → length (main f .inputs) ≤ i → getElem? (variables (main f)) i ≡ some x → T (not (member (x .name) definedNames))
-        → getElem? ds i ≡ getElem? (oldCells (main f) mainRecord) i
+        → getElem? cs i ≡ getElem? (oldCells (main f) mainRecord) i
 
-  -- all main equations hold together, and any other cells fail at least one of them
-  pub record Solves (cs : List Value) : Type 0 where
+  -- the cells are such a choice, all main equations hold of them together, and any other choice fails at least one
+  pub record Solves (ins cs : List Value) : Type 0 where
+    pub choice : Choice ins cs
     pub satisfied : (i : ℕ) → i < length (main f .equations) → Satisfies cs i
-    pub unique : (ds : List Value) → Rival cs ds → ds ≢ cs → (i : ℕ) × (i < length (main f .equations)) × (¬ Satisfies ds i)
+    pub unique : (ds : List Value) → Choice ins ds → ds ≢ cs → (i : ℕ) × (i < length (main f .equations)) × (¬ Satisfies ds i)
 
 -- of each cycle of a list: if it is answered, and it and every cycle answered before it kept the kinds, its values solve the equations on the state before it
 abbrev pub AllSolve : File → List Value → List Made → Type 0
 AllSolve f vs [] = Unit {0}
-AllSolve f vs (m ∷ ms) = KeepsKinds f m → (Answered m → Solves f vs (m .old) (given f m)) × AllSolve f vs ms
+AllSolve f vs (m ∷ ms) = KeepsKinds f m → (Answered m → Solves f vs (m .old) (lent f m) (given f m)) × AllSolve f vs ms
 
 -- for any admitted file, made of bytes, and any list of cycles from its start state
 unfoldable pub SolutionClaim : Loader → Type 0
@@ -157,27 +162,41 @@ pub record Relisted (f f′ : File) : Type 0 where
   pub permuted : Permuted (last .equations) equations
   pub result : f′ ≡ withNodes f (others ++ withEquations last equations ∷ [])
 
+-- two lists of cycles that are lent the same inputs, and buffers of the same lengths
+pub record Alike (t t′ : Turn) : Type 0 where
+  pub inputs : t′ .inputs ≡ t .inputs
+  pub new : length (t′ .new) ≡ length (t .new)
+  pub values : length (t′ .values) ≡ length (t .values)
+
+abbrev pub AllAlike : List Turn → List Turn → Type 0
+AllAlike [] [] = Unit {0}
+AllAlike [] (t′ ∷ ts′) = ⊥
+AllAlike (t ∷ ts) [] = ⊥
+AllAlike (t ∷ ts) (t′ ∷ ts′) = Alike t t′ × AllAlike ts ts′
+
 abbrev pub NotStopped : Cycled → Type 0
 NotStopped Cyc.Answered = Unit {0}
 NotStopped (Cyc.Stopped x) = ⊥
 NotStopped (Cyc.Refused x) = Unit {0}
 
--- the same number and place or, where both are answered, the same values
+-- both refuse, with equal number and place, or both answer, with equal values
 pub record SameAnswer (m m′ : Made) : Type 0 where
   pub answer : m′ .result .answer ≡ m .result .answer
   pub values : Answered m → m′ .result .values ≡ m .result .values
 
--- Until the first list's first stopped cycle, or its first answered one that leaves another kind.
+-- until the first list's first stopped cycle, or its first answered one that leaves another kind
 abbrev pub AgreeUntil : File → List Made → List Made → Type 0
-AgreeUntil f [] ms′ = Unit {0}
+AgreeUntil f [] [] = Unit {0}
+AgreeUntil f [] (m′ ∷ ms′) = ⊥
 AgreeUntil f (m ∷ ms) [] = ⊥
 AgreeUntil f (m ∷ ms) (m′ ∷ ms′) = NotStopped (m .result .answer) → KeepsKinds f m → SameAnswer m m′ × AgreeUntil f ms ms′
 
--- A relisted file gets the same answers and the same values, each from its own start.
+-- A relisted file is admitted too, with the same state length, and gets the same answers and the same values, each from its own start.
 unfoldable pub RelistingClaim : Loader → Type 0
 RelistingClaim ld =
-    (s s′ : List ℕ) (f f′ : File) (vs : List Value) (at : ℕ) (ts : List Turn) → Bytes s → judge ld s ≡ admitted f vs → readFile s′ ld ≡ got f′ at → Relisted f f′
-    → (judge ld s′ ≡ admitted f′ vs) × AgreeUntil f (history ld s ts (freshState f vs)) (history ld s′ ts (freshState f′ vs))
+    (s s′ : List ℕ) (f f′ : File) (vs : List Value) (at : ℕ) (ts ts′ : List Turn)
+    → Bytes s → judge ld s ≡ admitted f vs → readFile s′ ld ≡ got f′ at → Relisted f f′ → AllAlike ts ts′
+    → (judge ld s′ ≡ admitted f′ vs) × (admission ld s′ ≡ admission ld s) × AgreeUntil f (history ld s ts (freshState f vs)) (history ld s′ ts′ (freshState f′ vs))
 
 -- ---- the demand
 

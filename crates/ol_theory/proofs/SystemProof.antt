@@ -7,9 +7,10 @@ use native.Mathlib.Omega.{arith}
 use native.Mathlib.Decide.{decLt, ℕ-discrete}
 use lib.ListN.{length, getD, set, length-set, length-map, List·getD-eq-default}
 use lib.Seq.{getD-set-same, getD-set-other, ext-getD}
-use Rattle.ol_theory.specs.Member.{_∈_, upto, Distinct, mem?, upto-in, in-upto, length-from, reverse-left, in-filter, filter-in, in-flatMap, flatMap-in, map-cong, map-agree, map-upto}
+use Rattle.ol_theory.specs.Member.{_∈_, upto, Distinct, mem?}
 use Rattle.ol_theory.specs.Order.{InOrder, ValidOrder}
-use Rattle.ol_theory.specs.System.{Out, values, failed, overflowed, System, at, memory, deps, store, Run, finished, failedAt, overflowedAt, onward, runEqs, SameKinds, Undefined, Sat, Solution, newMems, Lawful}
+use Rattle.ol_theory.specs.System.{Out, values, failed, overflowed, System, at, memory, deps, store, Run, finished, onward, runEqs, SameKinds, Undefined, Sat, Solution, newMems, Lawful}
+use Rattle.ol_theory.proofs.Members.{upto-in, in-upto, length-from, reverse-left, in-filter, filter-in, in-flatMap, flatMap-in, map-cong, map-agree, map-upto}
 
 -- ==== lists
 
@@ -205,8 +206,3 @@ module _ {Cell Mem : Type 0} (sys : System Cell Mem) where
     -- U: there is at most one solution
     pub solution-unique : (q r : List Cell) → Solution sys p₀ ms q → Solution sys p₀ ms r → q ≡ r
     solution-unique q r s t = let a = solution-run q s in let b = solution-run r t in cc
-
-    -- if a run fails or overflows, there is no solution
-    pub no-solution : (i : ℕ) (ms′ : List Mem) → (runEqs sys l p₀ ms ≡ failedAt i ms′) ⊎ (runEqs sys l p₀ ms ≡ overflowedAt i ms′) → (q : List Cell) → ¬ Solution sys p₀ ms q
-    no-solution i ms′ (inl e) q s = let r = solution-run q s in let z : _≡_ {A = ℕ} 0 1 = cc in omega arith
-    no-solution i ms′ (inr e) q s = let r = solution-run q s in let z : _≡_ {A = ℕ} 0 1 = cc in omega arith
