@@ -20,7 +20,7 @@ use Rattle.ol_spec.specs.Eval.{callees, calleesAll}
 use Rattle.ol_spec.specs.Step.{equationSites}
 use Rattle.ol_spec.specs.Admission.{Item, firstIf, first, numbered, fault6, fault7, fault8, inConstant, inEquation, calleeIn, mayCall, callsWhere, badCall, nodeCalls, fault9, fault10, fault11, Constants, all, stuckAt, constants, stuckPlace, constantValues, fault12, fault13, fault14, Judged, admitted, refuseAt, judgeRead, judge}
 use Rattle.ol_spec.specs.declared.Value.{Value}
-use Rattle.ol_spec.proofs.Good.{Plain, PlainAll}
+use Rattle.ol_spec.proofs.Segments.{Plain, PlainAll}
 use Rattle.ol_spec.proofs.Runs.{PlainEqs}
 use Rattle.ol_spec.proofs.Lists.{All}
 use Rattle.ol_spec.proofs.ReadFacts.{EquationRead}

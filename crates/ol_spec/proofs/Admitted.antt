@@ -31,11 +31,11 @@ use Rattle.ol_spec.specs.declared.Outcome.the-variants as Out
 use Rattle.ol_spec.proofs.Tests.{T-and, and-T, member-in, in-member}
 use Rattle.ol_spec.proofs.Lists.{All, all-at, all-in, all-join}
 use Rattle.ol_spec.proofs.Ordering.{Placed, placed-or-stuck}
-use Rattle.ol_spec.proofs.Values.{Fine, FineOut, fit-fine}
+use Rattle.ol_spec.proofs.Values.{Fine, FineOut, fit-fine, fine-closed}
 use Rattle.ol_spec.proofs.Cells.{AllFine}
-use Rattle.ol_spec.proofs.Good.{Plain, Good, none-good, arityIn, eval-meets}
-use Rattle.ol_spec.proofs.Runs.{PlainEqs, plain-at, fine-append}
-use Rattle.ol_spec.proofs.Calls.{mayBe}
+use Rattle.ol_spec.proofs.Segments.{Plain, Good, none-good, anyRecord, arityIn, eval-meets}
+use Rattle.ol_spec.proofs.Runs.{PlainEqs, plain-at}
+use Rattle.ol_spec.proofs.Calls.{mayBe, Callable}
 use Rattle.ol_spec.proofs.Counts.{CountIs, rhs-count, calls-count}
 use Rattle.ol_spec.proofs.ReadFacts.{TyOk, VariableRead, TupleOk, NameRead, EnumRead, EquationRead, NodeRead, ConstantRead, FileRead, file-read}
 use Rattle.ol_spec.proofs.Admits.{Admits, admits, Clean, first-clean, clean-parts, clean-each, okFor, plain-calls, plain-eqs-more, callee-allowed, site-allowed, node-plain}
@@ -80,13 +80,10 @@ module _ (f : File) (short : (x : ℕ) → T (member x (concat (f .enums))) → 
   abbrev never : ℕ → ℕ → Bool
   never c m = false
 
-  abbrev always : ℕ → List ℕ → Bool
-  always k r = true
-
   constant-fine : (xs : List ℕ) (vs : List Value) (e : Expr) → AllFine ens vs → Plain never e → FineOut ens (eval (globals f xs vs) noVariables noCalls e [] .out)
   constant-fine xs vs e h p =
-      eval-meets (globals f xs vs) always never noVariables noCalls short tt tt h (λ k ws r t fs q. absurd t) e [] p
-      (subst (λ l. Good (globals f xs vs) always l []) (sym (no-members (callees e) (λ c m. callee-allowed never e c p m .1))) (none-good (globals f xs vs) always)) .out
+      eval-meets {calls = noCalls} (record { closed = fine-closed ens; variants = λ x t. (t, short x t); constants = h; keeps = λ k ws r t fs q. absurd t }) noVariables tt tt e [] p
+      (subst (λ l. Good (globals f xs vs) anyRecord l []) (sym (no-members (callees e) (λ c m. callee-allowed never e c p m .1))) none-good) .out
 
   constants-fine : (cs : List (ℕ × Constant)) (xs : List ℕ) (us vs : List Value) → AllFine ens us → All (λ c. Plain never (c .1 .value)) cs → constantsFrom f xs us cs ≡ all vs → AllFine ens vs × (length vs ≡ length us + length cs)
   constants-fine [] xs us vs h p e = let z : us ≡ vs = cc in (subst (AllFine ens) z h, ap length (sym z) ∙ omega arith)
@@ -98,7 +95,7 @@ module _ (f : File) (short : (x : ℕ) → T (member x (concat (f .enums))) → 
           → ((v : Value) → AllFine ens (us ++ fit (c .1 .ty) v ∷ []) → constantsFrom f (xs ++ c .1 .name ∷ []) (us ++ fit (c .1 .ty) v ∷ []) cs ≡ all vs → AllFine ens vs × (length vs ≡ length (us ++ fit (c .1 .ty) v ∷ []) + length cs))
           → AllFine ens vs × (length vs ≡ length us + length (c ∷ cs))
       go (Out.Value v) q e k =
-          let w = k v (fine-append ens us (fit (c .1 .ty) v ∷ []) h (fit-fine ens (c .1 .ty) v q, tt)) e in
+          let w = k v (all-join (Fine ens) us (fit (c .1 .ty) v ∷ []) h (fit-fine ens (c .1 .ty) v q, tt)) e in
           (w .0, w .1 ∙ omega (arith, length-append us (fit (c .1 .ty) v ∷ [])))
       go Out.Failure q e k = let z : _≡_ {A = ℕ} 0 1 = cc in absurd (omega arith)
       go Out.Overflow q e k = let z : _≡_ {A = ℕ} 0 1 = cc in absurd (omega arith)
@@ -130,12 +127,8 @@ unplaced-placed qs e = ⊎-elim (λ p. p) (λ s. absurd (never-both (s .is-left)
 -- ---- the facts
 
 pub record Facts (f : File) (vs : List Value) : Type 0 where
-  pub short : (x : ℕ) → T (member x (concat (f .enums))) → x < 2 ^ 16
-  pub constantsFine : AllFine (concat (f .enums)) vs
+  pub callable : Callable f vs
   pub constantCount : length vs ≡ length (f .constants)
-  pub lower : (k c : ℕ) → c ∈ sites (getD (f .nodes) k noNode) → c < k
-  pub plain : (k : ℕ) → PlainEqs (mayBe (globalsOf f vs)) (getD (f .nodes) k noNode .equations)
-  pub fresh-fine : (k : ℕ) → AllFine (concat (f .enums)) (defaults (f .enums) (variables (getD (f .nodes) k noNode)))
   pub some-node : 1 ≤ length (f .nodes)
   pub mainly : MainOk f vs
 
@@ -289,12 +282,8 @@ module _ (ld : Loader) (s : List ℕ) (f : File) (vs : List Value) (read : FileR
   pub facts : Facts f vs
   facts =
       record {
-        short = is-short;
-        constantsFine = are-constants .0;
+        callable = record { short = is-short; constantsFine = are-constants .0; lower = is-lower; plain = is-plain; fresh-fine = is-fresh-fine };
         constantCount = are-constants .1;
-        lower = is-lower;
-        plain = is-plain;
-        fresh-fine = is-fresh-fine;
         some-node = read .some-node;
         mainly = main-ok;
       }

@@ -17,6 +17,7 @@ use Rattle.ol_spec.specs.Cell.{tag, payload, cell, cells, valueBy, value
 use Rattle.ol_spec.specs.declared.Value.{Value}
 use Rattle.ol_spec.specs.declared.Value.the-variants as Val
 use Rattle.ol_spec.proofs.Tests.{T-and, and-T}
+use Rattle.ol_spec.proofs.Lists.{All}
 use Rattle.ol_spec.proofs.Values.{Fine, Small, signed-small}
 
 number-back : (k n : ℕ) → numberOf (n / 256 ^ k) (bytesOf k n) ≡ n
@@ -108,8 +109,7 @@ same-eq (x ∷ l) (y ∷ m) t = let w = T-and (eqb x y) (same l m) t in ap₂ {C
 
 -- all of them
 abbrev pub AllFine : List ℕ → List Value → Type 0
-AllFine vs [] = Unit {0}
-AllFine vs (c ∷ cs) = Fine vs c × AllFine vs cs
+AllFine vs cs = All (Fine vs) cs
 
 pub length-cell : (v : Value) → length (cell v) ≡ 9
 length-cell v = ap suc (length-bytes 8 (payload v))

@@ -16,7 +16,7 @@ use Rattle.ol_spec.specs.declared.Value.{Value}
 use Rattle.ol_spec.specs.declared.Outcome.{Outcome}
 use Rattle.ol_spec.specs.declared.Outcome.the-variants as Out
 use Rattle.ol_spec.proofs.Tests.{T-and}
-use Rattle.ol_spec.proofs.Good.{Plain, arityIn}
+use Rattle.ol_spec.proofs.Segments.{Plain, arityIn}
 use Rattle.ol_spec.proofs.Runs.{length-assign, length-values, length-fitAll}
 use Rattle.ol_spec.proofs.Calls.{mayBe}
 

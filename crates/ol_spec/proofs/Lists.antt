@@ -6,7 +6,7 @@ use mathlib.Core.Logic.{_⊎_, inl, inr, ⊎-elim}
 use mathlib.Core.Option.{Option, none, some}
 use mathlib.Core.Path.{_≡_, refl, sym, ap, subst, _∙_}
 use native.Mathlib.Omega.{arith}
-use lib.ListN.{length, drop, getD, getElem?}
+use lib.ListN.{length, take, drop, getD, set, getElem?}
 use lib.Dec.{T}
 use Rattle.ol_theory.specs.Member.{_∈_, Distinct}
 use Rattle.ol_spec.specs.Lists.{maybe, anyOf, allOf, concat}
@@ -60,6 +60,24 @@ module _ {A : Type 0} where
   pub all-join : (P : A → Type 0) (a b : List A) → All P a → All P b → All P (a ++ b)
   all-join P [] b h k = k
   all-join P (x ∷ a) b h k = (h .0, all-join P a b (h .1) k)
+
+  pub all-drop : (P : A → Type 0) (n : ℕ) (a : List A) → All P a → All P (drop n a)
+  all-drop P zero [] h = tt
+  all-drop P (suc n) [] h = tt
+  all-drop P zero (x ∷ a) h = h
+  all-drop P (suc n) (x ∷ a) h = all-drop P n a (h .1)
+
+  pub all-take : (P : A → Type 0) (n : ℕ) (a : List A) → All P a → All P (take n a)
+  all-take P zero [] h = tt
+  all-take P (suc n) [] h = tt
+  all-take P zero (x ∷ a) h = tt
+  all-take P (suc n) (x ∷ a) h = (h .0, all-take P n a (h .1))
+
+  pub all-set : (P : A → Type 0) (a : List A) (i : ℕ) (v : A) → All P a → P v → All P (set a i v)
+  all-set P [] zero v h k = tt
+  all-set P [] (suc i) v h k = tt
+  all-set P (x ∷ a) zero v h k = (k, h .1)
+  all-set P (x ∷ a) (suc i) v h k = (h .0, all-set P a i v (h .1) k)
 
   -- ---- lists of lists
 

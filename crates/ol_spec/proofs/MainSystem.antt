@@ -25,7 +25,7 @@ use Rattle.ol_spec.proofs.Tests.{T-true, T-false, member-in, in-member,
 use Rattle.ol_spec.proofs.Lists.{getElem-getD, in-concat, distinct-parts, addSome, found, in-found, found-in}
 use Rattle.ol_spec.proofs.Ordering.{depsOf, deps-in}
 use Rattle.ol_spec.proofs.Congruence.{kindIn, rhs-same}
-use Rattle.ol_spec.proofs.Good.{arityIn}
+use Rattle.ol_spec.proofs.Segments.{arityIn}
 use Rattle.ol_spec.proofs.Counts.{CountIs}
 use Rattle.ol_spec.proofs.MainFacts.{namesOf}
 

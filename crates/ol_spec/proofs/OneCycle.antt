@@ -27,7 +27,7 @@ use Rattle.ol_spec.specs.declared.Value.the-variants as Val
 use Rattle.ol_spec.proofs.Tests.{member-in, in-member}
 use Rattle.ol_spec.proofs.Lists.{getElem-getD, getD-getElem, getElem-inside, concat-in, in-found, found-in}
 use Rattle.ol_spec.proofs.Ordering.{Placed}
-use Rattle.ol_spec.proofs.Good.{arityIn}
+use Rattle.ol_spec.proofs.Segments.{arityIn}
 use Rattle.ol_spec.proofs.Runs.{length-values}
 use Rattle.ol_spec.proofs.Counts.{CountIs}
 use Rattle.ol_spec.proofs.MainFacts.{namesOf}

@@ -23,7 +23,7 @@ use Rattle.ol_spec.proofs.Tests.{T-and}
 pub use Rattle.ol_spec.proofs.Lists.{All}
 use Rattle.ol_spec.proofs.Offsets.{steps, same-item}
 use Rattle.ol_spec.proofs.Values.{signed-small, cond-T}
-use Rattle.ol_spec.proofs.Good.{Plain, PlainAll}
+use Rattle.ol_spec.proofs.Segments.{Plain, PlainAll}
 
 -- whatever the reader reads has the property
 pub record Yields {A : Type 0} (r : Reader A) (P : A → Type 0) : Type 0 where

@@ -107,16 +107,16 @@ module _ (f : File) (os : List Node) (last : Node) (rs : List Equation) (p₀ : 
 
     low : (c : ℕ) → c ∈ sites n1 → c < K
     unfolding K
-    low c m = F1 .lower (length os) c (subst (λ n. c ∈ sites n) (last-is os last ∙ sym (getD-append-seam os last [] noNode)) m)
+    low c m = F1 .callable .lower (length os) c (subst (λ n. c ∈ sites n) (last-is os last ∙ sym (getD-append-seam os last [] noNode)) m)
 
     calls-same : (c : ℕ) → c ∈ sites n1 → (ws : List Value) (r : List ℕ) → calls g1 c ws r ≡ calls g2 c ws r
     calls-same c m ws r =
-        calls-other g1 (os ++ last′ ∷ []) _ (all-sizes f os last rs p₀) (outs-same f os last rs p₀) K below (F1 .lower) depth (length (g1 .nodes)) c (low c m) ws r
+        calls-other g1 (os ++ last′ ∷ []) _ (all-sizes f os last rs p₀) (outs-same f os last rs p₀) K below (F1 .callable .lower) depth (length (g1 .nodes)) c (low c m) ws r
         ∙ ap (λ d. callsAt g2 d c ws r) depth
 
     fresh-same : (c : ℕ) → c ∈ sites n1 → freshAt g1 (length (g1 .nodes)) c ≡ freshAt g2 (length (g2 .nodes)) c
     fresh-same c m =
-        fresh-other g1 (os ++ last′ ∷ []) _ (all-sizes f os last rs p₀) (outs-same f os last rs p₀) K below (F1 .lower) depth (length (g1 .nodes)) c (low c m)
+        fresh-other g1 (os ++ last′ ∷ []) _ (all-sizes f os last rs p₀) (outs-same f os last rs p₀) K below (F1 .callable .lower) depth (length (g1 .nodes)) c (low c m)
         ∙ ap (λ d. freshAt g2 d c) depth
 
     -- ---- the second file's system is the first's, relisted

@@ -27,10 +27,11 @@ use Rattle.ol_spec.specs.declared.Value.the-variants as Val
 use Rattle.ol_spec.specs.declared.Fault.{Fault}
 use Rattle.ol_spec.specs.declared.Cycled.the-variants as Cyc
 use Rattle.ol_spec.proofs.Tests.{T-and, and-T, T-true, true-T}
+use Rattle.ol_spec.proofs.Values.{Fine}
 use Rattle.ol_spec.proofs.Cells.{AllFine, good-fine, cells-back, length-cells, same-refl, same-eq}
-use Rattle.ol_spec.proofs.Good.{Rec}
-use Rattle.ol_spec.proofs.Runs.{PlainEqs, Segs, segs-concat, segs-length, split-segs, split-concat, Instance, inner-good, RunGood, run-meets, start-length, started-instance, length-values}
-use Rattle.ol_spec.proofs.Calls.{mayBe, isGood, Keeps, calls-keep, fresh-main, fresh-rec, fresh-sites}
+use Rattle.ol_spec.proofs.Segments.{Rec}
+use Rattle.ol_spec.proofs.Runs.{length-values, PlainEqs, Segs, segs-concat, segs-length, split-segs, split-concat, RunGood, run-meets, start-length, Instance, old-fine, inner-good, started-instance}
+use Rattle.ol_spec.proofs.Calls.{mayBe, isGood, calls-sound, fresh-main, fresh-rec, fresh-sites}
 use Rattle.ol_spec.proofs.MainFacts.{main-at}
 use Rattle.ol_spec.proofs.Lists.{All, concat-append, map-drop}
 use Rattle.ol_spec.proofs.MainSystem.{viewOn}
@@ -130,17 +131,14 @@ module _ (f : File) (vs : List Value) (F : Facts f vs) where
   is-main : n ≡ getD (f .nodes) K noNode
   is-main = main-at (f .nodes) (F .some-node)
 
-  pub plain-main : PlainEqs (mayBe g) (n .equations)
-  plain-main = subst (λ x. PlainEqs (mayBe g) (x .equations)) (sym is-main) (F .plain K)
-
-  pub keep : Keeps f vs (F .lower) (F .short) (F .constantsFine) (F .plain) (F .fresh-fine) (calls g)
-  keep = calls-keep f vs (F .lower) (F .short) (F .constantsFine) (F .plain) (F .fresh-fine) (length (f .nodes))
+  plain-main : PlainEqs (mayBe g) (n .equations)
+  plain-main = subst (λ x. PlainEqs (mayBe g) (x .equations)) (sym is-main) (F .callable .plain K)
 
   abbrev p : ℕ → List ℕ → Bool
-  p = isGood f vs (F .lower)
+  p = isGood f vs
 
-  abbrev pub Inst : List ℕ → Type 0
-  Inst r = Instance g p (mayBe g) (calls g) (F .short) (F .constantsFine) keep n plain-main r
+  abbrev Inst : List ℕ → Type 0
+  Inst r = Instance g p n r
 
   -- well formed: what 15 asks
   pub record StateWell (old : List ℕ) : Type 0 where
@@ -190,13 +188,10 @@ module _ (f : File) (vs : List Value) (F : Facts f vs) where
   -- ---- the start
 
   fresh-inst : Inst (freshRecord g n)
-  fresh-inst =
-      let h = subst (λ m. (q : PlainEqs (mayBe g) (m .equations)) → Instance g p (mayBe g) (calls g) (F .short) (F .constantsFine) keep m q (freshRecord g m)) (sym is-main)
-      (λ q. let x = fresh-main f vs (F .lower) (F .short) (F .constantsFine) (F .plain) (F .fresh-fine) (calls g) keep K (omega (arith, F .some-node)) in record { sized = x .sized; own = x .own; inner = x .inner }) in
-      h plain-main
+  fresh-inst = subst (λ m. Instance g p m (freshRecord g m)) (sym is-main) (fresh-main (F .callable) K (omega (arith, F .some-node)))
 
   fresh-cells : AllFine (concat (f .enums)) (defaults (f .enums) (variables n))
-  fresh-cells = subst (λ m. AllFine (concat (f .enums)) (defaults (f .enums) (variables m))) (sym is-main) (F .fresh-fine K)
+  fresh-cells = subst (λ m. AllFine (concat (f .enums)) (defaults (f .enums) (variables m))) (sym is-main) (F .callable .fresh-fine K)
 
   pub start-ok : StateOk (freshState f vs)
   unfolding freshState
@@ -222,16 +217,16 @@ module _ (f : File) (vs : List Value) (F : Facts f vs) where
         ap (oldCells n) e ∙ ap (λ m. valuesOf m (cells ds ++ rest)) (sym len) ∙ cells-back (concat (f .enums)) ds rest fresh-cells,
         ap isFresh e,
         ap (oldSegs g n) e ∙ ap (split g (n .equations)) (drop-at (0 ∷ cells ds) rest (ownSize n) (omega (arith, length-cells ds)) ∙ sym (fresh-concat g (n .equations)))
-            ∙ split-concat g p (n .equations) (map (freshSeg g) (n .equations)) (fresh-segs (n .equations) (λ c m. fresh-rec f vs (F .lower) (F .short) (F .constantsFine) (F .plain) (F .fresh-fine) (length (f .nodes)) c (low c m) (low c m))),
+            ∙ split-concat g p (n .equations) (map (freshSeg g) (n .equations)) (fresh-segs (n .equations) (λ c m. fresh-rec (F .callable) (length (f .nodes)) c (low c m) (low c m))),
       )
     where
       low : (c : ℕ) → c ∈ sites n → c < length (f .nodes)
-      low c m = omega (arith, F .lower K c (subst (λ x. c ∈ sites x) is-main m), F .some-node)
+      low c m = omega (arith, F .callable .lower K c (subst (λ x. c ∈ sites x) is-main m), F .some-node)
 
       fresh-segs : (qs : List Equation) → ((c : ℕ) → c ∈ concat (map equationSites qs) → Rec g p c (freshAt g (length (f .nodes)) c)) → Segs g p qs (map (freshSeg g) qs)
       fresh-segs [] h = tt
       fresh-segs (x ∷ qs) h = (
-        fresh-sites f vs (F .lower) (F .short) (F .constantsFine) (F .plain) (F .fresh-fine) (freshAt g (length (f .nodes))) (callees (x .rhs)) (λ c m. h c (in-left (concat (map equationSites qs)) m)),
+        fresh-sites (F .callable) (freshAt g (length (f .nodes))) (callees (x .rhs)) (λ c m. h c (in-left (concat (map equationSites qs)) m)),
         fresh-segs qs (λ c m. h c (in-right (callees (x .rhs)) m)),
       )
 
@@ -249,14 +244,14 @@ module _ (f : File) (vs : List Value) (F : Facts f vs) where
     each = T-and (eqb (length ins) (9 * length (n .inputs))) _ good-ins .1
 
     ws-fine : AllFine (concat (f .enums)) ws
-    ws-fine = each-fine (f .enums) (F .short) (n .inputs) ins each
+    ws-fine = each-fine (f .enums) (F .callable .short) (n .inputs) ins each
 
-    pub ran : RunGood g p (mayBe g) (calls g) (F .short) (F .constantsFine) keep n plain-main (length (variables n)) (mainRun f vs old ins)
+    ran : RunGood (Fine (concat (f .enums))) g p n (length (variables n)) (mainRun f vs old ins)
     unfolding mainRun
-    ran = run-meets g p (mayBe g) (calls g) (F .short) (F .constantsFine) keep n plain-main ws rec ws-fine (length-values (length (n .inputs)) ins) (h .inst)
+    ran = run-meets (calls-sound (F .callable) (length (f .nodes))) n plain-main ws rec ws-fine (length-values (length (n .inputs)) ins) (old-fine (F .callable .short) (h .inst)) (inner-good (h .inst))
 
     pub begins : length (begin f vs (F .mainly) old ws) ≡ length (variables n)
-    begins = start-length g p (mayBe g) (calls g) (F .short) (F .constantsFine) keep n plain-main ws rec (length-values (length (n .inputs)) ins)
+    begins = start-length n ws rec (length-values (length (n .inputs)) ins)
 
     pub begin-kinds : InKind f (oldCells n rec) → InKind f (begin f vs (F .mainly) old ws)
     begin-kinds hk =
@@ -270,7 +265,7 @@ module _ (f : File) (vs : List Value) (F : Facts f vs) where
         ∙ sym all
 
     pub counted : length (oldSegs g n rec) ≡ length (n .equations)
-    counted = segs-length g p (n .equations) _ (split-segs g p (n .equations) _ (inner-good g p (mayBe g) (calls g) (F .short) (F .constantsFine) keep n plain-main (h .inst)))
+    counted = segs-length g p (n .equations) _ (split-segs g p (n .equations) _ (inner-good (h .inst)))
 
     -- a finished run, as the theory has it
     pub finishes : mainRun f vs old ins .end ≡ finished → Y.runEqs (sys f vs (F .mainly) old) (order (n .equations)) (begin f vs (F .mainly) old ws) (oldSegs g n rec) ≡ Y.finished (mainRun f vs old ins .cells) (mainRun f vs old ins .segs)
@@ -288,12 +283,10 @@ module _ (f : File) (vs : List Value) (F : Facts f vs) where
         let cs = mainRun f vs old ins .cells in
         ap₂ (λ m l. valuesOf m l) (sym (ran .counted)) (sym (append-nil (cells cs))) ∙ cells-back (concat (f .enums)) cs [] (ran .fine)
 
-    pub answered-well : StateWell (take (headSize f) old ++ startedRecord (mainRun f vs old ins .cells) (mainRun f vs old ins .segs))
+    answered-well : StateWell (take (headSize f) old ++ startedRecord (mainRun f vs old ins .cells) (mainRun f vs old ins .segs))
     answered-well =
-        let cs = mainRun f vs old ins .cells in
-        let ss = mainRun f vs old ins .segs in
-        subst (λ l. StateWell (l ++ startedRecord cs ss)) (sym (h .head))
-        (well-parts (startedRecord cs ss) (started-instance g p (mayBe g) (calls g) (F .short) (F .constantsFine) keep n plain-main cs ss (ran .fine) (ran .counted) (ran .segs)))
+        let u = mainRun f vs old ins in
+        subst (λ l. StateWell (l ++ startedRecord (u .cells) (u .segs))) (sym (h .head)) (well-parts (startedRecord (u .cells) (u .segs)) (started-instance u ran))
 
     -- the parts of the state that it leaves
     left-rec : (cs : List Value) (ss : List (List ℕ)) → drop (headSize f) (take (headSize f) old ++ startedRecord cs ss) ≡ startedRecord cs ss
