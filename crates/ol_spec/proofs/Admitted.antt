@@ -124,6 +124,11 @@ unplaced-placed qs e = ⊎-elim (λ p. p) (λ s. absurd (never-both (s .is-left)
     never-both : {k : ℕ} → unplaced qs ≡ some k → unplaced qs ≡ none → ⊥
     never-both a b = let z : _≡_ {A = ℕ} 0 1 = cc in omega arith
 
+-- the equations of each node are ordered
+pub node-placed : (f : File) → fault11 f ≡ none → (k : ℕ) → k < length (f .nodes) → Placed (getD (f .nodes) k noNode .equations)
+unfolding fault11
+node-placed f e k b = unplaced-placed (getD (f .nodes) k noNode .equations) (all-at (λ n. unplaced (n .equations) ≡ none) (f .nodes) k noNode (rings-none (nodesStart f) (f .nodes) e) b)
+
 -- ---- the facts
 
 pub record Facts (f : File) (vs : List Value) : Type 0 where
@@ -266,7 +271,6 @@ module _ (ld : Loader) (s : List ℕ) (f : File) (vs : List Value) (read : FileR
   plain-main = subst (λ n. PlainEqs (mayBe g) (n .equations)) (sym is-main) (is-plain K)
 
   main-ok : MainOk f vs
-  unfolding fault11
   main-ok =
       record {
         distinct = subst (λ n. Distinct (variableNames n)) (sym is-main) (distinct-names f (a .no6) K inside);
@@ -276,7 +280,7 @@ module _ (ld : Loader) (s : List ℕ) (f : File) (vs : List Value) (read : FileR
             (λ i x m k. fresh-out (takenIn f M) (concat (map namesOf (M .equations))) (names-fresh f (a .no8) K inside) x (names-in (M .equations) i x m) (in-left (constantNames f ++ variants f) k));
         arity = subst (λ n. (i : ℕ) → i < length (n .equations) → arityIn g (rhsOf (equationAt n i .rhs)) ≡ length (equationAt n i .names)) (sym is-main) arity-at;
         counts = λ first before. counts-at (main f) plain-main first before;
-        placed = subst (λ n. Placed (n .equations)) (sym is-main) (unplaced-placed (M .equations) (all-at (λ n. unplaced (n .equations) ≡ none) (f .nodes) K noNode (rings-none (nodesStart f) (f .nodes) (a .no11)) inside));
+        placed = subst (λ n. Placed (n .equations)) (sym is-main) (node-placed f (a .no11) K inside);
       }
 
   pub facts : Facts f vs

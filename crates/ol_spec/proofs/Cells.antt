@@ -1,13 +1,13 @@
 -- A cell and its value: each is had back from the other.
 use Prim.Native.Nat.{ℕ, zero, suc, _+_, _-_, _*_, _/_, _%_, _^_, _<_}
 use mathlib.Core.Bool.{Bool, true, false, _&&_, cond}
-use mathlib.Core.List.{List, [], _∷_, _++_}
+use mathlib.Core.List.{List, [], _∷_, _++_, append-nil}
 use mathlib.Core.Path.{_≡_, refl, sym, ap, ap₂, subst, _∙_}
 use native.Mathlib.Nat.{mod-eq-of-lt, div-eq-of-lt, div-div-eq-div-mul, div-add-mod', pow-suc, div-one}
 use native.Mathlib.Omega.{arith}
 use lib.IntN.{ℤ, pos, negsuc}
 use lib.Dec.{T, ltb, eqb, ltb→lt, lt→ltb, eqb-refl, eqb→eq}
-use lib.ListN.{length, drop, getD, length-append}
+use lib.ListN.{length, take, drop, getD, length-append, length-drop, take-append-drop}
 use lib.Ieee.{binary32, binary64}
 use lib.Ieee.Bits as B
 use Rattle.ol_spec.specs.Lists.{member, same}
@@ -130,3 +130,15 @@ module _ (vs : List ℕ) where
   pub good-cells : (cs : List Value) (t : List ℕ) → AllFine vs cs → T (goodCells vs (length cs) (cells cs ++ t))
   good-cells [] t f = tt
   good-cells (c ∷ cs) t f = and-T (goodCell vs (cell c)) (goodCells vs (length cs) (cells cs ++ t)) (good-cell c (f .0)) (good-cells cs t (f .1))
+
+-- Cells and values are inverse: fine values are had back from their cells, and good cells from their values.
+pub cells-values : (vs : List ℕ) (cs : List Value) → AllFine vs cs → valuesOf (length cs) (cells cs) ≡ cs
+cells-values vs cs f = ap (valuesOf (length cs)) (sym (append-nil (cells cs))) ∙ cells-back vs cs [] f
+
+pub values-cells : (vs : List ℕ) (n : ℕ) (s : List ℕ) → length s ≡ 9 * n → T (goodCells vs n s) → cells (valuesOf n s) ≡ s
+values-cells vs zero [] e h = refl
+values-cells vs zero (x ∷ s) e h = absurd (omega arith)
+values-cells vs (suc n) s e h =
+    let w = T-and (goodCell vs (take 9 s)) _ h in
+    ap₂ _++_ (same-eq (cell (valueOf (take 9 s))) (take 9 s) (T-and (same (cell (valueOf (take 9 s))) (take 9 s)) _ (w .0) .0)) (values-cells vs n (drop 9 s) (length-drop 9 s ∙ omega arith) (w .1))
+    ∙ take-append-drop 9 s

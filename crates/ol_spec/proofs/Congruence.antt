@@ -1,20 +1,23 @@
--- An evaluation depends on the present cells only through the cells of the names that it reads and through the real kinds of all cells.
-use Prim.Native.Nat.{ℕ}
+-- An evaluation depends on the present cells only through the cells of the names that it reads and through the kinds of all cells.
+use Prim.Native.Nat.{ℕ, zero, suc}
 use mathlib.Core.Bool.{Bool}
-use mathlib.Core.List.{List, _++_, List·Memᴰ·head as here, Memᴰ·append-left as in-left, Memᴰ·append-right as in-right}
+use mathlib.Core.List.{List, [], _∷_, _++_, map, List·Memᴰ·head as here, Memᴰ·append-left as in-left, Memᴰ·append-right as in-right}
 use mathlib.Core.Option.{Option, none, some}
-use mathlib.Core.Path.{_≡_, refl, ap, ap₂}
+use mathlib.Core.Path.{_≡_, refl, sym, ap, ap₂, _∙_}
 use native.Mathlib.Omega.{arith}
-use lib.ListN.{take, drop}
+use lib.ListN.{take, drop, getElem?}
 use Rattle.ol_theory.specs.Member.{_∈_}
-use Rattle.ol_spec.specs.Lists.{maybe, orElse, lookup}
+use Rattle.ol_spec.specs.Lists.{maybe, orElse, position, lookup}
 use Rattle.ol_spec.specs.Syntax.{Expr, boolLit, intLit, floatLit, charLit, var, unary, binary, ifThenElse, pre, arrow, cast, call, tuple, Exprs, nil}
-use Rattle.ol_spec.specs.Syntax.{cons, rhsOf}
+use Rattle.ol_spec.specs.Syntax.{cons, rhsOf, Node, variableNames}
+use Rattle.ol_spec.specs.Cell.{tag}
 use Rattle.ol_spec.specs.Types.{castTo}
 use Rattle.ol_spec.specs.Operators.{unaryOf, binaryOf}
 use Rattle.ol_spec.specs.Order.{reads, readsAll}
-use Rattle.ol_spec.specs.Eval.{Globals, Scope, Calls, RealKind, notReal, kindOfValue, join, arithmetic, isDouble?, hasCall, segSize, recordSize, mapEval, orFailure, next, nextAll, condition, choose, enter, singleEval, severalEval, constantOf, variantOf, realKind, eval, evalAll, evalRhs}
+use Rattle.ol_spec.specs.Eval.{Globals, Scope, Calls, RealKind, notReal, isSingle, isDouble, kindOfValue, join, arithmetic, isDouble?, hasCall, segSize, recordSize, mapEval, orFailure, next, nextAll, condition, choose, enter, singleEval, severalEval, constantOf, variantOf, realKind, eval, evalAll, evalRhs}
+use Rattle.ol_spec.specs.Step.{equationAt, evalEquation}
 use Rattle.ol_spec.specs.declared.Value.{Value}
+use Rattle.ol_spec.specs.declared.Value.the-variants as Val
 
 -- whether there is a value, and its real kind
 abbrev pub kindIn : Option Value → Option RealKind
@@ -92,17 +95,57 @@ module _ (g : Globals) (names : List ℕ) (before : List Value) (first : Bool) (
     evalAll-same (cons e es) h seg =
         λ i. nextAll (eval-same e (left (readsAll es) h) (take (segSize g e) seg) i) (λ rest. evalAll-same es (right (reads e) h) rest i) (drop (segSize g e) seg)
 
-  pub rhs-same : (e : Expr) → Agree (reads e) → (seg : List ℕ) → evalRhs g (with p) calls (rhsOf e) seg ≡ evalRhs g (with q) calls (rhsOf e) seg
-  rhs-same (boolLit b) h seg = ap severalEval (eval-same (boolLit b) h seg)
-  rhs-same (intLit i) h seg = ap severalEval (eval-same (intLit i) h seg)
-  rhs-same (floatLit b) h seg = ap severalEval (eval-same (floatLit b) h seg)
-  rhs-same (charLit c) h seg = ap severalEval (eval-same (charLit c) h seg)
-  rhs-same (var x) h seg = ap severalEval (eval-same (var x) h seg)
-  rhs-same (unary op e) h seg = ap severalEval (eval-same (unary op e) h seg)
-  rhs-same (binary op l r) h seg = ap severalEval (eval-same (binary op l r) h seg)
-  rhs-same (ifThenElse c t e) h seg = ap severalEval (eval-same (ifThenElse c t e) h seg)
-  rhs-same (pre e) h seg = ap severalEval (eval-same (pre e) h seg)
-  rhs-same (arrow a b) h seg = ap severalEval (eval-same (arrow a b) h seg)
-  rhs-same (cast t e) h seg = ap severalEval (eval-same (cast t e) h seg)
-  rhs-same (call k es) h seg = ap (enter (calls k) (take (recordSize g k) seg)) (evalAll-same es h (drop (recordSize g k) seg))
-  rhs-same (tuple es) h seg = evalAll-same es h seg
+  pub evalRhs-same : (e : Expr) → Agree (reads e) → (seg : List ℕ) → evalRhs g (with p) calls (rhsOf e) seg ≡ evalRhs g (with q) calls (rhsOf e) seg
+  evalRhs-same (boolLit b) h seg = ap severalEval (eval-same (boolLit b) h seg)
+  evalRhs-same (intLit i) h seg = ap severalEval (eval-same (intLit i) h seg)
+  evalRhs-same (floatLit b) h seg = ap severalEval (eval-same (floatLit b) h seg)
+  evalRhs-same (charLit c) h seg = ap severalEval (eval-same (charLit c) h seg)
+  evalRhs-same (var x) h seg = ap severalEval (eval-same (var x) h seg)
+  evalRhs-same (unary op e) h seg = ap severalEval (eval-same (unary op e) h seg)
+  evalRhs-same (binary op l r) h seg = ap severalEval (eval-same (binary op l r) h seg)
+  evalRhs-same (ifThenElse c t e) h seg = ap severalEval (eval-same (ifThenElse c t e) h seg)
+  evalRhs-same (pre e) h seg = ap severalEval (eval-same (pre e) h seg)
+  evalRhs-same (arrow a b) h seg = ap severalEval (eval-same (arrow a b) h seg)
+  evalRhs-same (cast t e) h seg = ap severalEval (eval-same (cast t e) h seg)
+  evalRhs-same (call k es) h seg = ap (enter (calls k) (take (recordSize g k) seg)) (evalAll-same es h (drop (recordSize g k) seg))
+  evalRhs-same (tuple es) h seg = evalAll-same es h seg
+
+-- ---- a real kind by its tag
+
+kindByTag : ℕ → RealKind
+kindByTag zero = notReal
+kindByTag (suc zero) = notReal
+kindByTag (suc (suc zero)) = isDouble
+kindByTag (suc (suc (suc zero))) = isSingle
+kindByTag (suc (suc (suc (suc n)))) = notReal
+
+kind-tag : (v : Value) → kindOfValue v ≡ kindByTag (tag v)
+unfolding kindByTag
+kind-tag (Val.Bool b) = refl
+kind-tag (Val.Int i) = refl
+kind-tag (Val.Float x) = refl
+kind-tag (Val.Float32 x) = refl
+kind-tag (Val.Enum v) = refl
+
+tags-kinds : (p q : List Value) (j : ℕ) → map tag p ≡ map tag q → kindIn (getElem? p j) ≡ kindIn (getElem? q j)
+tags-kinds p q j e = by-tags p j ∙ ap (λ l. kindsOf (getElem? l j)) e ∙ sym (by-tags q j)
+  where
+    kindsOf : Option ℕ → Option RealKind
+    kindsOf none = none
+    kindsOf (some t) = some (kindByTag t)
+
+    by-tags : (l : List Value) (j : ℕ) → kindIn (getElem? l j) ≡ kindsOf (getElem? (map tag l) j)
+    by-tags [] zero = refl
+    by-tags [] (suc j) = refl
+    by-tags (v ∷ l) zero = ap some (kind-tag v)
+    by-tags (v ∷ l) (suc j) = by-tags l j
+
+-- Congruence: on cells of the same kinds that agree at the names that equation i reads in the cycle, its right side gives the same, outcome and segment.
+pub eval-congruent : (g : Globals) (calls : Calls) (n : Node) (first : Bool) (before p q : List Value) (i : ℕ) (seg : List ℕ) → map tag p ≡ map tag q
+    → ((x : ℕ) → x ∈ reads (equationAt n i .rhs) → lookup x (variableNames n) p ≡ lookup x (variableNames n) q)
+    → evalEquation g calls n first before p i seg ≡ evalEquation g calls n first before q i seg
+eval-congruent g calls n first before p q i seg kinds same = evalRhs-same g (variableNames n) before first calls p q (λ x. go (position x (variableNames n))) (equationAt n i .rhs) same seg
+  where
+    go : (o : Option ℕ) → kindIn (maybe none (getElem? p) o) ≡ kindIn (maybe none (getElem? q) o)
+    go none = refl
+    go (some j) = tags-kinds p q j kinds

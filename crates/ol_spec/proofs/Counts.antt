@@ -17,7 +17,7 @@ use Rattle.ol_spec.specs.declared.Outcome.{Outcome}
 use Rattle.ol_spec.specs.declared.Outcome.the-variants as Out
 use Rattle.ol_spec.proofs.Tests.{T-and}
 use Rattle.ol_spec.proofs.Segments.{Plain, arityIn}
-use Rattle.ol_spec.proofs.Runs.{length-assign, length-values, length-fitAll}
+use Rattle.ol_spec.proofs.Runs.{store-length, length-values, length-fitAll}
 use Rattle.ol_spec.proofs.Calls.{mayBe}
 
 abbrev pub CountIs : ℕ → Outcomes → Type 0
@@ -84,7 +84,7 @@ runAll-cells g calls n first before [] cs ss = refl
 runAll-cells g calls n first before (i ∷ is) cs ss = go (evalEquation g calls n first before cs i (getD ss i []) .out) _ (λ cs′ ss′. runAll-cells g calls n first before is cs′ ss′)
   where
     go : (o : Outcomes) (s : List ℕ) → ((cs′ : List Value) (ss′ : List (List ℕ)) → length (runAll g calls n first before is cs′ ss′ .cells) ≡ length cs′) → length (storeOn n i o s (runAll g calls n first before is) cs ss .cells) ≡ length cs
-    go (values ws) s k = k (assign n (equationAt n i .names) ws cs) (set ss i s) ∙ length-assign n (equationAt n i .names) ws cs
+    go (values ws) s k = k (assign n (equationAt n i .names) ws cs) (set ss i s) ∙ store-length n (equationAt n i .names) ws cs
     go failure s k = refl
     go overflow s k = refl
 

@@ -6,7 +6,8 @@ use mathlib.Core.Logic.{_⊎_, inl, inr, ⊎-elim}
 use mathlib.Core.Option.{Option, none, some}
 use mathlib.Core.Path.{_≡_, refl, sym, ap, ap₂, subst, _∙_}
 use native.Mathlib.Omega.{arith}
-use lib.ListN.{length, getD, getElem?, set, length-map}
+use lib.ListN.{length, getD, getElem?, set, length-map, List·getD-map}
+use lib.Seq.{ext-getD}
 use lib.Dec.{T, eqb, eqb→eq}
 use Rattle.ol_theory.specs.Member.{_∈_, Distinct}
 use Rattle.ol_theory.specs.Order as O
@@ -17,14 +18,14 @@ use Rattle.ol_spec.specs.Syntax.{Ty, bool, Equation, Node, variables, va
 use Rattle.ol_spec.specs.Cell.{tag}
 use Rattle.ol_spec.specs.Types.{fit}
 use Rattle.ol_spec.specs.Order.{reads, later, definerFrom, definer}
-use Rattle.ol_spec.specs.Eval.{Globals, Calls, Evals, Outcomes, values, failure, overflow, RealKind, notReal, isSingle, isDouble, kindOfValue}
+use Rattle.ol_spec.specs.Eval.{Globals, Calls, Evals, Outcomes, values, failure, overflow}
 use Rattle.ol_spec.specs.Step.{putAt, assign, Ended, finished, failedAt, overflowedAt, Run, noEquation, equationAt, storeOn, store, evalEquation, runAll}
 use Rattle.ol_spec.specs.declared.Value.{Value}
 use Rattle.ol_spec.specs.declared.Value.the-variants as Val
 use Rattle.ol_spec.proofs.Tests.{T-true, T-false, member-in, in-member, eq-eqb}
 use Rattle.ol_spec.proofs.Lists.{getElem-getD, in-concat, distinct-parts, addSome, found, in-found, found-in}
 use Rattle.ol_spec.proofs.Ordering.{depsOf, deps-in}
-use Rattle.ol_spec.proofs.Congruence.{kindIn, rhs-same}
+use Rattle.ol_spec.proofs.Congruence.{eval-congruent}
 use Rattle.ol_spec.proofs.Segments.{arityIn}
 use Rattle.ol_spec.proofs.Counts.{CountIs}
 use Rattle.ol_spec.proofs.MainFacts.{namesOf}
@@ -67,23 +68,6 @@ position-of ns j d b =
     let w = position-in (getD ns j 0) ns (get-in ns j b) in
     let g = position-get (getD ns j 0) ns (w .0) (w .1) in
     w .1 ∙ ap some (get-same ns (w .0) j d (g .0) b (g .1))
-
--- ---- a real kind by its tag
-
-kindByTag : ℕ → RealKind
-kindByTag zero = notReal
-kindByTag (suc zero) = notReal
-kindByTag (suc (suc zero)) = isDouble
-kindByTag (suc (suc (suc zero))) = isSingle
-kindByTag (suc (suc (suc (suc n)))) = notReal
-
-kind-tag : (v : Value) → kindOfValue v ≡ kindByTag (tag v)
-unfolding kindByTag
-kind-tag (Val.Bool b) = refl
-kind-tag (Val.Int i) = refl
-kind-tag (Val.Float x) = refl
-kind-tag (Val.Float32 x) = refl
-kind-tag (Val.Enum v) = refl
 
 -- ---- the names of equations
 
@@ -244,22 +228,19 @@ module _ (n : Node) where
         go none = inl refl
         go (some j) = inr (j, refl)
 
-    kinds-same : (p q : List Value) → length p ≡ length (variables n) → length q ≡ length (variables n) → Y.SameKinds system p q → (x : ℕ) → kindIn (lookup x (variableNames n) p) ≡ kindIn (lookup x (variableNames n) q)
-    kinds-same p q ep eq k x =
-        ⊎-elim
-        (λ e. ap (λ o. kindIn (maybe none (getElem? p) o)) e ∙ sym (ap (λ o. kindIn (maybe none (getElem? q) o)) e))
-        (λ w. ap kindIn (lookup-at x (w .0) p ep (w .1)) ∙ ap some (kind-tag (getD p (w .0) (Val.Bool false)) ∙ ap kindByTag (k (w .0) (position-inside x (w .0) (w .1))) ∙ sym (kind-tag (getD q (w .0) (Val.Bool false)))) ∙ sym (ap kindIn (lookup-at x (w .0) q eq (w .1))))
-        (none-or x)
+    tags-same : (p q : List Value) → length p ≡ length (variables n) → length q ≡ length (variables n) → Y.SameKinds system p q → map tag p ≡ map tag q
+    tags-same p q ep eq k =
+        ext-getD 0 (map tag p) (map tag q) (length-map p tag ∙ ep ∙ sym eq ∙ sym (length-map q tag)) (λ x b.
+        List·getD-map tag p x (Val.Bool false) ∙ k x (omega (arith, length-map p tag)) ∙ sym (List·getD-map tag q x (Val.Bool false)))
 
-    pub local : (i : ℕ) (p q : List Value) (s : List ℕ) → length p ≡ length (variables n) → length q ≡ length (variables n)
+    local : (i : ℕ) (p q : List Value) (s : List ℕ) → length p ≡ length (variables n) → length q ≡ length (variables n)
         → ((x : ℕ) → x ∈ slots (reads (equationAt n i .rhs)) → Y.at system p x ≡ Y.at system q x) → Y.SameKinds system p q → system .eval i p s ≡ system .eval i q s
     local i p q s ep eq h k =
         ap (λ (r : Evals). (fitOuts (equationAt n i .names) (r .out), r .seg))
-        (rhs-same g (variableNames n) before first calls p q (kinds-same p q ep eq k) (equationAt n i .rhs)
-        (λ x m. ⊎-elim
+        (eval-congruent g calls n first before p q i s (tags-same p q ep eq k) (λ x m. ⊎-elim
         (λ e. ap (maybe none (getElem? p)) e ∙ sym (ap (maybe none (getElem? q)) e))
         (λ w. lookup-at x (w .0) p ep (w .1) ∙ ap some (h (w .0) (found-in slot (reads (equationAt n i .rhs)) x (w .0) m (w .1))) ∙ sym (lookup-at x (w .0) q eq (w .1)))
-        (none-or x)) s)
+        (none-or x)))
 
     module _ (apart : Distinct (concat (map namesOf (n .equations)))) (known : (i : ℕ) → Known (equationAt n i .names))
         (arity : (i : ℕ) → i < length (n .equations) → arityIn g (rhsOf (equationAt n i .rhs)) ≡ length (equationAt n i .names))

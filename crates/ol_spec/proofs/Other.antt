@@ -183,3 +183,12 @@ module _ (g : Globals) (ns : List Node) (sz : List ℕ) (sizes : g .sizes ≡ sz
     calls-other (suc d) k b ws r =
         callBy-other (nodeAt g k .kind) (callsAt g d) (callsAt other d) (nodeAt g k) (λ c m. omega (arith, lower k c m)) (λ c m ws r. calls-other d c (omega (arith, lower k c m)) ws r) ws r
         ∙ ap (λ n. callBy other (n .kind) (callsAt other d) n ws r) (below k b)
+
+-- calls at enough depth do not depend on the depth
+pub calls-stable : (g : Globals) → ((k c : ℕ) → c ∈ sites (nodeAt g k) → c < k) → (d d′ k : ℕ) → k < d → k < d′ → (ws : List Value) (r : List ℕ) → callsAt g d k ws r ≡ callsAt g d′ k ws r
+unfolding callsAt
+calls-stable g lower zero d′ k h h′ ws r = absurd (omega arith)
+calls-stable g lower (suc d) zero k h h′ ws r = absurd (omega arith)
+calls-stable g lower (suc d) (suc d′) k h h′ ws r =
+    callBy-other g (g .nodes) (g .sizes) refl (λ c. refl) k (λ c b. refl) lower refl (nodeAt g k .kind) (callsAt g d) (callsAt g d′) (nodeAt g k) (λ c m. lower k c m)
+    (λ c m ws r. calls-stable g lower d d′ c (omega (arith, lower k c m)) (omega (arith, lower k c m)) ws r) ws r

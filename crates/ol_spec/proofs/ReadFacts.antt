@@ -50,10 +50,6 @@ module _ {A : Type 0} where
 abbrev AllOf : {A : Type 0} → (A → Type 0) → ℕ → List A → Type 0
 AllOf P k xs = All P xs × (length xs ≡ k)
 
-many-nil : {A : Type 0} (r : Reader A) (P : A → Type 0) → Yields (many 0 r) (AllOf P 0)
-unfolding many
-many-nil r P = given [] _ (tt, refl)
-
 many-yields : {A : Type 0} (k : ℕ) (r : Reader A) (P : A → Type 0) → Yields r P → Yields (many k r) (AllOf P k)
 unfolding many
 many-yields zero r P h = given [] _ (tt, refl)

@@ -38,11 +38,11 @@ module _ (n : Node) where
   length-putAt none v cs = refl
   length-putAt (some i) v cs = length-set cs i (fit (getD (map typeOf (variables n)) i bool) v)
 
-  pub length-assign : (xs : List ℕ) (ws cs : List Value) → length (assign n xs ws cs) ≡ length cs
+  pub store-length : (xs : List ℕ) (ws cs : List Value) → length (assign n xs ws cs) ≡ length cs
   unfolding assign
-  length-assign [] ws cs = refl
-  length-assign (x ∷ xs) [] cs = refl
-  length-assign (x ∷ xs) (w ∷ ws) cs = length-assign xs ws _ ∙ length-putAt (position x (variableNames n)) w cs
+  store-length [] ws cs = refl
+  store-length (x ∷ xs) [] cs = refl
+  store-length (x ∷ xs) (w ∷ ws) cs = store-length xs ws _ ∙ length-putAt (position x (variableNames n)) w cs
 
 pub length-fitAll : (xs : List Variable) (ws : List Value) → length ws ≡ length xs → length (fitAll xs ws) ≡ length xs
 unfolding fitAll
@@ -161,7 +161,7 @@ module _ {Q : Value → Type 0} {g : Globals} {p : ℕ → List ℕ → Bool} {o
           → RunGood Q g p n (length cs) (storeOn n i o s (runAll g calls n first before is) cs ss)
       go (values ws) s m x k f =
           let w = f (assign n (equationAt n i .names) ws cs) (set ss i s) (all-assign (sound .closed) n (equationAt n i .names) ws cs (x .0) fc) k in
-          record { fine = w .fine; counted = w .counted ∙ length-assign n (equationAt n i .names) ws cs; segs = w .segs }
+          record { fine = w .fine; counted = w .counted ∙ store-length n (equationAt n i .names) ws cs; segs = w .segs }
       go failure s m x k f = record { fine = fc; counted = refl; segs = k }
       go overflow s m x k f = record { fine = fc; counted = refl; segs = k }
 

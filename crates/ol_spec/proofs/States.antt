@@ -1,7 +1,7 @@
 -- The state through a list of cycles: it is well formed and its main cells have their kinds, so that each answered cycle solves the main equations.
 use Prim.Native.Nat.{ℕ, zero, suc, _+_, _*_, _-_, _^_, _<_, _≤_}
 use mathlib.Core.Bool.{Bool, true, false, not, _&&_, _||_}
-use mathlib.Core.List.{List, [], _∷_, _++_, map, map-append, append-nil, append-assoc, Memᴰ·append-left as in-left, Memᴰ·append-right as in-right}
+use mathlib.Core.List.{List, [], _∷_, _++_, map, map-append, append-assoc, Memᴰ·append-left as in-left, Memᴰ·append-right as in-right}
 use mathlib.Core.Path.{_≡_, refl, sym, ap, ap₂, subst, _∙_}
 use native.Mathlib.Omega.{arith}
 use lib.ListN.{length, take, drop, getD, length-append, length-drop, length-map, take-append-drop}
@@ -25,10 +25,11 @@ use Rattle.ol_spec.specs.Demand3.{Turn, Made, nextState, history, InKind
 use Rattle.ol_spec.specs.declared.Value.{Value}
 use Rattle.ol_spec.specs.declared.Value.the-variants as Val
 use Rattle.ol_spec.specs.declared.Fault.{Fault}
+use Rattle.ol_spec.specs.declared.Cycled.{Cycled}
 use Rattle.ol_spec.specs.declared.Cycled.the-variants as Cyc
 use Rattle.ol_spec.proofs.Tests.{T-and, and-T, T-true, true-T}
 use Rattle.ol_spec.proofs.Values.{Fine}
-use Rattle.ol_spec.proofs.Cells.{AllFine, good-fine, cells-back, length-cells, same-refl, same-eq}
+use Rattle.ol_spec.proofs.Cells.{AllFine, good-fine, cells-back, cells-values, length-cells, same-refl, same-eq}
 use Rattle.ol_spec.proofs.Segments.{Rec}
 use Rattle.ol_spec.proofs.Runs.{length-values, PlainEqs, Segs, segs-concat, segs-length, split-segs, split-concat, RunGood, run-meets, start-length, Instance, old-fine, inner-good, started-instance}
 use Rattle.ol_spec.proofs.Calls.{mayBe, isGood, calls-sound, fresh-main, fresh-rec, fresh-sites}
@@ -117,6 +118,10 @@ fresh-concat g (q ∷ qs) =
     let h = freshAt g (length (g .nodes)) in
     ap (λ l. freshSeg g q ++ l) (fresh-concat g qs)
     ∙ sym (ap concat (map-append h (callees (q .rhs)) (concat (map equationSites qs))) ∙ concat-append (map h (callees (q .rhs))) (map h (concat (map equationSites qs))))
+
+-- the cycle's old state is well formed, and it is not refused with 15
+abbrev pub Not15 : File → List Value → Made → Type 0
+Not15 f vs m = (goodState f vs (m .old) ≡ true) × ((q : ℕ) → ¬ (m .result .answer ≡ Cyc.Refused (faultAt 15 q)))
 
 module _ (f : File) (vs : List Value) (F : Facts f vs) where
   abbrev g : Globals
@@ -281,7 +286,7 @@ module _ (f : File) (vs : List Value) (F : Facts f vs) where
     pub given-back : valuesOf (length (variables n)) (cells (mainRun f vs old ins .cells)) ≡ mainRun f vs old ins .cells
     given-back =
         let cs = mainRun f vs old ins .cells in
-        ap₂ (λ m l. valuesOf m l) (sym (ran .counted)) (sym (append-nil (cells cs))) ∙ cells-back (concat (f .enums)) cs [] (ran .fine)
+        ap (λ m. valuesOf m (cells cs)) (sym (ran .counted)) ∙ cells-values (concat (f .enums)) cs (ran .fine)
 
     answered-well : StateWell (take (headSize f) old ++ startedRecord (mainRun f vs old ins .cells) (mainRun f vs old ins .segs))
     answered-well =
@@ -397,12 +402,23 @@ module _ (f : File) (vs : List Value) (F : Facts f vs) where
       (w .0, all-solve ld s e ts _ (record { well = cycle-well ld s e t old (h .well) .1; kinds = w .1 }))
 
   -- every old state of a list is well formed, and 15 is never answered
-  abbrev pub Not15 : Made → Type 0
-  Not15 m = (goodState f vs (m .old) ≡ true) × ((q : ℕ) → ¬ (m .result .answer ≡ Cyc.Refused (faultAt 15 q)))
-
-  pub no-15 : (ld : Loader) (s : List ℕ) → judge ld s ≡ admitted f vs → (ts : List Turn) (old : List ℕ) → StateWell old → All Not15 (history ld s ts old)
+  pub no-15 : (ld : Loader) (s : List ℕ) → judge ld s ≡ admitted f vs → (ts : List Turn) (old : List ℕ) → StateWell old → All (Not15 f vs) (history ld s ts old)
   no-15 ld s e [] old h = tt
   no-15 ld s e (t ∷ ts) old h = let w = cycle-well ld s e t old h in ((well-good h, w .0), no-15 ld s e ts _ (w .1))
+
+  -- a cycle that is not refused leaves a well-formed state
+  pub not-refused : (ld : Loader) (s : List ℕ) → judge ld s ≡ admitted f vs → (old ins new vals : List ℕ) → ((x : Fault) → ¬ (cycle ld s old ins new vals .answer ≡ Cyc.Refused x)) → StateWell (cycle ld s old ins new vals .new)
+  unfolding cycle
+  not-refused ld s e old ins new vals h = go (goodState f vs old) refl
+    where
+      left : (a : Cycled) → ((x : Fault) → ¬ (a ≡ Cyc.Refused x)) → StateWell (nextState a old (cycle ld s old ins new vals .new)) → StateWell (cycle ld s old ins new vals .new)
+      left Cyc.Answered h w = w
+      left (Cyc.Stopped x) h w = w
+      left (Cyc.Refused x) h w = absurd (h x refl)
+
+      go : (b : Bool) → goodState f vs old ≡ b → StateWell (cycle ld s old ins new vals .new)
+      go true q = left (cycle ld s old ins new vals .answer) h (cycle-well ld s e (record { inputs = ins; new = new; values = vals }) old (good-well q) .1)
+      go false q = absurd (h (faultAt 15 0) (ap (λ j. cycleJudged j old ins new vals .answer) e ∙ ap (λ b. cycleUnless (not b) (not (goodInputs f ins)) (not (fits17 f new vals)) f vs old ins new vals .answer) q))
 
 pub solution-claim : (ld : Loader) → SolutionClaim ld
 unfolding SolutionClaim

@@ -13,11 +13,7 @@ pub if-case {κ} : {P : Type 0} {C : Type 0} (R : C → Type κ) (d : Dec P) {a 
 if-case R (yes p) f g = f p
 if-case R (no n) f g = g n
 
--- two ifs are the same, if they agree where it comes to that
-pub if-else : {P : Type 0} {C : Type 0} (d : Dec P) (a : C) {b b′ : C} → (¬ P → b ≡ b′) → ite d a b ≡ ite d a b′
-if-else (yes p) a f = refl
-if-else (no n) a f = f n
-
+-- two ifs on the same condition are the same
 pub if-iff : {P Q : Type 0} {C : Type 0} (d : Dec P) (e : Dec Q) → (P → Q) → (Q → P) → (a b : C) → ite d a b ≡ ite e a b
 if-iff (yes p) (yes q) f g a b = refl
 if-iff (yes p) (no q) f g a b = absurd (q (f p))
