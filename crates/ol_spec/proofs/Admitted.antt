@@ -1,7 +1,7 @@
 -- Everything that the proofs of demand 3 use of an admitted file that was read from bytes.
 use Prim.Native.Nat.{ℕ, zero, suc, _+_, _-_, _^_, _<_, _≤_}
 use mathlib.Core.Bool.{Bool, true, false, _&&_}
-use mathlib.Core.List.{List, [], _∷_, _++_, map, List·Memᴰ·head as here, List·Memᴰ·not-nil as in-nil, List·Memᴰ·cases-cons as in-cons, List·Memᴰ·append-cases as in-append, Memᴰ·append-left as in-left, Memᴰ·append-right as in-right}
+use mathlib.Core.List.{List, [], _∷_, _++_, map, List·Memᴰ·head as here, List·Memᴰ·not-nil as in-nil, List·Memᴰ·append-cases as in-append, Memᴰ·append-left as in-left, Memᴰ·append-right as in-right}
 use mathlib.Core.Logic.{⊎-elim, by-cases}
 use mathlib.Core.Option.{Option, none, some}
 use mathlib.Core.Path.{_≡_, refl, sym, ap, subst, _∙_}

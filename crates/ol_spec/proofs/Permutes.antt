@@ -1,6 +1,6 @@
 -- A list in another sequence: what holds of all holds of all, names stay distinct, sizes stay, and an index goes to an index.
 use Prim.Native.Nat.{ℕ, zero, suc, _+_, _<_}
-use mathlib.Core.List.{List, [], _∷_, _++_, map, List·Memᴰ·head as here, List·Memᴰ·tail as there, List·Memᴰ·not-nil as in-nil, List·Memᴰ·cases-cons as in-cons, List·Memᴰ·append-cases as in-append, Memᴰ·append-left as in-left, Memᴰ·append-right as in-right, Memᴰ·cast}
+use mathlib.Core.List.{List, [], _∷_, _++_, map, List·Memᴰ·head as here, List·Memᴰ·tail as there, List·Memᴰ·cases-cons as in-cons, List·Memᴰ·append-cases as in-append, Memᴰ·append-left as in-left, Memᴰ·append-right as in-right, Memᴰ·cast}
 use mathlib.Core.Logic.{⊎-elim}
 use mathlib.Core.Path.{_≡_, refl, sym, ap, subst, _∙_}
 use native.Mathlib.Omega.{arith}

@@ -1,25 +1,25 @@
 -- A relisted file is admitted, with the same constants.
 use Prim.Native.Nat.{ℕ, zero, suc, _+_, _<_}
 use mathlib.Core.Bool.{Bool, true, false, not, _&&_, cond}
-use mathlib.Core.List.{List, [], _∷_, _++_, map, List·Memᴰ·not-nil as in-nil}
+use mathlib.Core.List.{List, [], _∷_, _++_, map}
 use mathlib.Core.Logic.{⊎-elim}
 use mathlib.Core.Option.{Option, none, some}
 use mathlib.Core.Path.{_≡_, refl, sym, ap, ap₂, subst, _∙_}
 use native.Mathlib.Omega.{arith}
-use lib.ListN.{length, drop, getD, getElem?}
+use lib.ListN.{length, drop, getD}
 use lib.Dec.{ltb, eqb}
 use Rattle.ol_theory.specs.Member.{_∈_, Distinct}
 use Rattle.ol_theory.proofs.OrderProof.{ring-map}
 use Rattle.ol_spec.specs.Lists.{concat, member, orElse, maybe}
 use Rattle.ol_spec.specs.Syntax.{NodeKind, Function, Operator, Imported, Expr, boolLit, intLit, floatLit, charLit, var, unary, binary, ifThenElse, pre}
 use Rattle.ol_spec.specs.Syntax.{arrow, cast, call, tuple, Exprs, nil, cons, Rhs, items, outputsOf, one, rhsOf, nameOf, Equation, Node}
-use Rattle.ol_spec.specs.Syntax.{Constant, File, noNode, lastOf, main, variableNames}
+use Rattle.ol_spec.specs.Syntax.{Constant, File, noNode, lastOf, variableNames}
 use Rattle.ol_spec.specs.Places.{exprSize, tySize, nodeSize, equationSize, placed, placedNodes, placedConstants, placedEquations, placedNames, rhsPlace}
 use Rattle.ol_spec.specs.Places.{collect, collectAll, nodesStart, mainPlace}
 use Rattle.ol_spec.specs.Read.{readFile, got}
 use Rattle.ol_spec.specs.Limits.{Loader}
 use Rattle.ol_spec.specs.Order.{reads, definerFrom, unplaced, Ring}
-use Rattle.ol_spec.specs.Step.{siteSizeBy, siteSize, noSize, sizesAt, instanceSize, noEquation, globals, ownSize}
+use Rattle.ol_spec.specs.Step.{siteSizeBy, siteSize, noSize, sizesAt, instanceSize, globals, ownSize}
 use Rattle.ol_spec.specs.Admission.{Item, first, numbered, variants, constantNames, nodeDeclares, enumDeclares, clashes, fault6, unseenItem, usedAt, used, constantUses, equationUses, nodeUses, fault7, nodeDefines, fault8, inConstant, inEquation, inNode, mayCall, callItem, callsWhere, badCall, nodeCalls, fault9, arity, severalIn, shapeItem, equationShape, nodeShape, fault10, placeAt, ringIn, firstSome, fault11, all, noCalls, noVariables, afterConstant, constantsFrom, constants, headSize, stateSize, atMain, fault13, isOperator, fault14}
 use Rattle.ol_spec.specs.Demand3.{Permuted, withEquations, withNodes}
 use Rattle.ol_spec.specs.declared.Value.{Value}

@@ -14,7 +14,7 @@ use Rattle.ol_theory.specs.Relist.{relisted, relistedMems}
 use Rattle.ol_theory.proofs.Members.{map-cong}
 use Rattle.ol_theory.proofs.RelistProof.{relisted-each, relisted-run}
 use Rattle.ol_spec.specs.Lists.{concat, position}
-use Rattle.ol_spec.specs.Syntax.{Variable, Equation, Node, File, noNode, variables, variableNames, nameOf, main, rhsOf}
+use Rattle.ol_spec.specs.Syntax.{Variable, Equation, Node, File, noNode, variables, nameOf, main, rhsOf}
 use Rattle.ol_spec.specs.Read.{readFile, got}
 use Rattle.ol_spec.specs.Cell.{tag, cells, valuesOf}
 use Rattle.ol_spec.specs.Types.{defaults, kind}
@@ -22,10 +22,10 @@ use Rattle.ol_spec.specs.Limits.{Loader}
 use Rattle.ol_spec.specs.Order.{reads, order}
 use Rattle.ol_spec.specs.Eval.{Globals, callees, nodeAt, evalRhs}
 use Rattle.ol_spec.specs.Step.{sites, isFresh, oldCells, oldSegs, startedRecord, Ended, finished, failedAt, overflowedAt, Run, noEquation, equationAt, scope, evalEquation, run, calls, callsAt, freshAt}
-use Rattle.ol_spec.specs.Admission.{admitted, judge, verdict, admission, headSize, stateSize}
+use Rattle.ol_spec.specs.Admission.{admitted, judge, verdict, admission, headSize}
 use Rattle.ol_spec.specs.State.{globalsOf, freshState, goodEach, goodInputs}
 use Rattle.ol_spec.specs.Cycle.{CycleCall, endOn, mainRun, endRun, cycleUnless, fits17, cycle}
-use Rattle.ol_spec.specs.Demand3.{Turn, Made, nextState, history, InKind, KeepsKinds, Permuted, withEquations, withNodes, Alike, AllAlike, NotStopped, SameAnswer, AgreeUntil, Bytes, RelistingClaim}
+use Rattle.ol_spec.specs.Demand3.{Turn, nextState, history, InKind, KeepsKinds, Permuted, withEquations, withNodes, Alike, AllAlike, NotStopped, SameAnswer, AgreeUntil, Bytes, RelistingClaim}
 use Rattle.ol_spec.specs.declared.Value.{Value}
 use Rattle.ol_spec.specs.declared.Value.the-variants as Val
 use Rattle.ol_spec.specs.declared.Verdict.the-variants as Adm

@@ -16,7 +16,7 @@ use Rattle.ol_spec.specs.Syntax.{Expr, boolLit, intLit, floatLit, charLi
 use Rattle.ol_spec.specs.Syntax.{cons, count, nameIn, Rhs, items, outputsOf, one, rhsOf}
 use Rattle.ol_spec.specs.Types.{castTo}
 use Rattle.ol_spec.specs.Operators.{unaryOf, binaryOf}
-use Rattle.ol_spec.specs.Eval.{Globals, Scope, Calls, Eval, Evals, Outcomes, values, failure, overflow, Branch, Branches, callees, calleesAll, nodeAt, recordSize, sizeIn, sitesSize, segSize, eval, evalAll, evalRhs, next, nextOn, nextAll, nextAllOn, condition, choose, branchesOn, untaken, dropFailure, commonReal, enter, enterOn, single, singleEval, several, severalEval, consOut, orFailure, thenOut, mapEval, constantOf, variantOf, presentOf, beforeOf, preOf}
+use Rattle.ol_spec.specs.Eval.{Globals, Scope, Calls, Eval, Evals, Outcomes, values, failure, overflow, Branch, Branches, callees, calleesAll, nodeAt, recordSize, sizeIn, sitesSize, segSize, eval, evalAll, evalRhs, next, nextOn, nextAll, nextAllOn, condition, choose, branchesOn, untaken, dropFailure, commonReal, enter, enterOn, single, singleEval, several, severalEval, consOut, orFailure, thenOut, mapEval, constantOf, presentOf, beforeOf, preOf}
 use Rattle.ol_spec.specs.State.{goodSites}
 use Rattle.ol_spec.specs.declared.Value.{Value}
 use Rattle.ol_spec.specs.declared.Value.the-variants as Val

@@ -6,7 +6,7 @@ use Prim.Native.Nat.{ℕ, zero, suc, _+_, _≤_, _<_, zero-le}
 use native.Mathlib.Omega.{arith}
 use native.Mathlib.Decide.{ℕ-discrete}
 use lib.ListN.{length, getD}
-use Rattle.ol_theory.specs.Member.{_∈_, from, upto, Distinct, mem?}
+use Rattle.ol_theory.specs.Member.{_∈_, from, upto, Distinct}
 
 -- a property of both branches is one of the if
 pub if-case {κ} : {P : Type 0} {C : Type 0} (R : C → Type κ) (d : Dec P) {a b : C} → (P → R a) → (¬ P → R b) → R (ite d a b)

@@ -1,13 +1,13 @@
 -- A system that is listed in another sequence has the same solution.
 use mathlib.Core.Path.{_≡_, sym, ap, subst, _∙_}
-use mathlib.Core.List.{List, map}
+use mathlib.Core.List.{List}
 use Prim.Native.Nat.{ℕ, _<_}
 use native.Mathlib.Omega.{arith}
-use lib.ListN.{length, getD, length-map}
+use lib.ListN.{length, length-map}
 use lib.Seq.{ext-getD}
 use Rattle.ol_theory.specs.Member.{_∈_, upto}
 use Rattle.ol_theory.specs.Order.{ValidOrder}
-use Rattle.ol_theory.specs.System.{System, at, memory, deps, finished, runEqs, SameKinds, Solution, newMems, Lawful}
+use Rattle.ol_theory.specs.System.{System, memory, deps, finished, runEqs, SameKinds, Solution, newMems, Lawful}
 use Rattle.ol_theory.specs.Relist.{Permutation, relisted, relistedMems}
 use Rattle.ol_theory.proofs.Members.{in-upto, length-from, map-upto, map-cong}
 use Rattle.ol_theory.proofs.SystemProof.{new-memory, run-solution, solution-run}
