@@ -27,7 +27,8 @@ unfolding sitesSize
 sitesSize-same s s′ [] h = refl
 sitesSize-same s s′ (k ∷ ks) h = ap₂ _+_ (h k (here refl)) (sitesSize-same s s′ ks (λ c m. h c (there m)))
 
-goodSites-same : (g : Globals) (p p′ : ℕ → List ℕ → Bool) (ks : List ℕ) (s : List ℕ) → ((c : ℕ) (r : List ℕ) → c ∈ ks → p c r ≡ p′ c r) → goodSites g p ks s ≡ goodSites g p′ ks s
+goodSites-same : (g : Globals) (p p′ : ℕ → List ℕ → Bool) (ks : List ℕ) (s : List ℕ) → ((c : ℕ) (r : List ℕ) → c ∈ ks → p c r ≡ p′ c r)
+    → goodSites g p ks s ≡ goodSites g p′ ks s
 unfolding goodSites
 goodSites-same g p p′ [] s h = refl
 goodSites-same g p p′ (k ∷ ks) s h = ap₂ _&&_ (h k _ (here refl)) (goodSites-same g p p′ ks _ (λ c r m. h c r (there m)))
@@ -81,7 +82,8 @@ module _ {f : File} {vs : List Value} (a : Callable f vs) where
 
   -- ---- depth
 
-  goodBy-same : (t : NodeKind) (p p′ : ℕ → List ℕ → Bool) (n : Node) (r : List ℕ) → ((c : ℕ) (r : List ℕ) → c ∈ sites n → p c r ≡ p′ c r) → goodBy g t p n r ≡ goodBy g t p′ n r
+  goodBy-same : (t : NodeKind) (p p′ : ℕ → List ℕ → Bool) (n : Node) (r : List ℕ) → ((c : ℕ) (r : List ℕ) → c ∈ sites n → p c r ≡ p′ c r)
+      → goodBy g t p n r ≡ goodBy g t p′ n r
   goodBy-same Function p p′ n r h = refl
   goodBy-same Operator p p′ n r h = ap (λ b. goodOwn g n r && b) (goodSites-same g p p′ (sites n) _ h)
   goodBy-same Imported p p′ n r h = refl
@@ -111,7 +113,8 @@ module _ {f : File} {vs : List Value} (a : Callable f vs) where
   from-instance k r h o q =
       record { sized = q .sized ∙ sym (size-of k Operator h o); good = subst T (sym (good-of k Operator r h o)) (and-T (goodOwn g (nodeAt g k) r) _ (q .own) (q .inner)) }
 
-  no-record : (k : ℕ) (t : NodeKind) → k < D → nodeAt g k .kind ≡ t → siteSizeBy t (g .sizes) (nodeAt g k) ≡ 0 → T (goodBy g t (isGood f vs) (nodeAt g k) []) → Rec g (isGood f vs) k []
+  no-record : (k : ℕ) (t : NodeKind) → k < D → nodeAt g k .kind ≡ t → siteSizeBy t (g .sizes) (nodeAt g k) ≡ 0 → T (goodBy g t (isGood f vs) (nodeAt g k) [])
+      → Rec g (isGood f vs) k []
   no-record k t h e z b = record { sized = sym (size-of k t h e ∙ z); good = subst T (sym (good-of k t [] h e)) b }
 
   -- ---- fresh records
@@ -125,7 +128,8 @@ module _ {f : File} {vs : List Value} (a : Callable f vs) where
   fresh-rec zero k h b = absurd (omega arith)
   fresh-rec (suc d) k h b = go (nodeAt g k .kind) refl (λ c m. fresh-rec d c (omega (arith, a .lower k c m)) (omega (arith, a .lower k c m)))
     where
-      go : (t : NodeKind) → nodeAt g k .kind ≡ t → ((c : ℕ) → c ∈ sites (nodeAt g k) → Rec g (isGood f vs) c (freshAt g d c)) → Rec g (isGood f vs) k (freshBy g t (freshAt g d) (nodeAt g k))
+      go : (t : NodeKind) → nodeAt g k .kind ≡ t → ((c : ℕ) → c ∈ sites (nodeAt g k) → Rec g (isGood f vs) c (freshAt g d c))
+          → Rec g (isGood f vs) k (freshBy g t (freshAt g d) (nodeAt g k))
       go Function e i = no-record k Function b e refl tt
       go Operator e i = from-instance k _ b e (fresh-instance (freshAt g d) (fresh-sites (freshAt g d) (sites (nodeAt g k)) i) (a .fresh-fine k))
       go Imported e i = no-record k Imported b e refl tt
@@ -147,7 +151,8 @@ module _ {f : File} {vs : List Value} (a : Callable f vs) where
     opens : (k : ℕ) (r : List ℕ) → k < D → nodeAt g k .kind ≡ Operator → Rec g p k r → Opened Q p k r
     fresh-opens : (k : ℕ) → k < D → Opened Q p k (freshRecord g (nodeAt g k))
     fresh : (k : ℕ) → k < D → nodeAt g k .kind ≡ Operator → Rec g p k (freshRecord g (nodeAt g k))
-    started : (k : ℕ) (u : Run) → k < D → nodeAt g k .kind ≡ Operator → RunGood Q g p (nodeAt g k) (length (variables (nodeAt g k))) u → Rec g p k (startedRecord (u .cells) (u .segs))
+    started : (k : ℕ) (u : Run) → k < D → nodeAt g k .kind ≡ Operator → RunGood Q g p (nodeAt g k) (length (variables (nodeAt g k))) u
+        → Rec g p k (startedRecord (u .cells) (u .segs))
 
   keeps : {Q : Value → Type 0} {p : ℕ → List ℕ → Bool} → Kept Q p → (d : ℕ) → Sound Q g p (mayBe g) (callsAt g d)
   unfolding callsAt instance
@@ -162,7 +167,8 @@ module _ {f : File} {vs : List Value} (a : Callable f vs) where
             go k ws r f q (nodeAt g k .kind) refl (ltb→lt k D (w .0)) (eqb→eq (length ws) (length (nodeAt g k .inputs)) (w .1)) (keeps h d);
       }
     where
-      go : (k : ℕ) (ws : List Value) (r : List ℕ) → All Q ws → Rec g p k r → (t : NodeKind) → nodeAt g k .kind ≡ t → k < D → length ws ≡ length (nodeAt g k .inputs) → Sound Q g p (mayBe g) (callsAt g d)
+      go : (k : ℕ) (ws : List Value) (r : List ℕ) → All Q ws → Rec g p k r → (t : NodeKind) → nodeAt g k .kind ≡ t → k < D → length ws ≡ length (nodeAt g k .inputs)
+          → Sound Q g p (mayBe g) (callsAt g d)
           → Called Q g p k (callBy g t (callsAt g d) (nodeAt g k) ws r)
       go k ws r f q Function e b l sound =
           record { seg = q; out = leave-outputs Q g p (nodeAt g k) (freshRecord g (nodeAt g k)) _ (step-meets sound (nodeAt g k) (a .plain k) ws _ f l (h .fresh-opens k b .0) (h .fresh-opens k b .1)) }

@@ -70,7 +70,8 @@ module _ (ld : Loader) (s : List ℕ) (f : File) (vs : List Value) (bytes : Byte
   start-well-formed = let F = admitted-facts ld s f vs bytes e in well-good f vs F (start-ok f vs F .well)
 
   -- A cycle that is answered or stopped leaves a well-formed state, whatever it was lent.
-  pub cycle-well-formed : (old ins new vals : List ℕ) → ((x : Fault) → ¬ (cycle ld s old ins new vals .answer ≡ Cyc.Refused x)) → goodState f vs (cycle ld s old ins new vals .new) ≡ true
+  pub cycle-well-formed : (old ins new vals : List ℕ) → ((x : Fault) → ¬ (cycle ld s old ins new vals .answer ≡ Cyc.Refused x))
+      → goodState f vs (cycle ld s old ins new vals .new) ≡ true
   cycle-well-formed old ins new vals h = let F = admitted-facts ld s f vs bytes e in well-good f vs F (not-refused f vs F ld s e old ins new vals h)
 
   -- So, in a list of cycles from the start, every old state is well formed, and no cycle is refused with 15.

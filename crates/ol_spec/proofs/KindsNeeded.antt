@@ -61,6 +61,7 @@ relisted =
     file (node Operator (x 3 float32 ∷ []) (x 1 (int 4) ∷ []) (x 2 (int 4) ∷ [])
     (2 ≔ floatLit 4607182418800017408 ∷ 1 ≔ ifThenElse (boolLit true) (var 3) (pre (var 2)) ∷ []) ∷ [])
 
-other-values : cycle relayLoader (encode f) (freshState f []) (turn .inputs) (turn .new) (turn .values) .values ≡ cycle relayLoader (encode relisted) (freshState relisted []) (turn .inputs) (turn .new) (turn .values) .values → ⊥
+other-values : cycle relayLoader (encode f) (freshState f []) (turn .inputs) (turn .new) (turn .values) .values ≡ cycle relayLoader (encode relisted) (freshState relisted []) (turn .inputs) (turn .new) (turn .values) .values
+    → ⊥
 unfolding f relisted turn everything
 other-values e = let z : _≡_ {A = ℕ} 3 2 = ap (λ (l : List ℕ). getD l 9 0) e in omega arith

@@ -36,7 +36,8 @@ pub position-get : (x : ℕ) (ns : List ℕ) (j : ℕ) → position x ns ≡ som
 position-get x [] j e = let z : _≡_ {A = ℕ} 0 1 = cc in absurd (omega arith)
 position-get x (y ∷ ns) j e = go (eqb x y) refl (position x ns) refl (position-get x ns) e
   where
-    go : (b : Bool) → eqb x y ≡ b → (o : Option ℕ) → position x ns ≡ o → ((j : ℕ) → position x ns ≡ some j → (j < length ns) × (getD ns j 0 ≡ x)) → positionIf b o ≡ some j → (j < length (y ∷ ns)) × (getD (y ∷ ns) j 0 ≡ x)
+    go : (b : Bool) → eqb x y ≡ b → (o : Option ℕ) → position x ns ≡ o → ((j : ℕ) → position x ns ≡ some j → (j < length ns) × (getD ns j 0 ≡ x))
+        → positionIf b o ≡ some j → (j < length (y ∷ ns)) × (getD (y ∷ ns) j 0 ≡ x)
     go true h o p k e = let z : 0 ≡ j = cc in (omega arith, subst (λ i. getD (y ∷ ns) i 0 ≡ x) z (sym (eqb→eq x y (subst T (sym h) tt))))
     go false h none p k e = let z : _≡_ {A = ℕ} 0 1 = cc in absurd (omega arith)
     go false h (some i) p k e = let z : suc i ≡ j = cc in let w = k i p in (omega (arith, w .0), subst (λ i. getD (y ∷ ns) i 0 ≡ x) z (w .1))
@@ -141,7 +142,8 @@ module _ (n : Node) where
       store-nil (y ∷ l) cs = refl
   assign-store (x ∷ xs) (v ∷ vs) cs = assign-store xs vs _ ∙ go (slot x)
     where
-      go : (o : Option ℕ) → Y.store (slots xs) (fitted xs vs) (putAt n o v cs) ≡ Y.store (addSome o (slots xs)) (addFitted (map typeOf (variables n)) o v (fitted xs vs)) cs
+      go : (o : Option ℕ)
+          → Y.store (slots xs) (fitted xs vs) (putAt n o v cs) ≡ Y.store (addSome o (slots xs)) (addFitted (map typeOf (variables n)) o v (fitted xs vs)) cs
       go none = refl
       go (some j) = refl
 
@@ -218,7 +220,8 @@ module _ (n : Node) where
     position-inside : (x j : ℕ) → position x (variableNames n) ≡ some j → j < length (variables n)
     position-inside x j e = omega (arith, position-get x (variableNames n) j e .0, length-map (variables n) nameOf)
 
-    lookup-at : (x j : ℕ) (p : List Value) → length p ≡ length (variables n) → position x (variableNames n) ≡ some j → lookup x (variableNames n) p ≡ some (getD p j (Val.Bool false))
+    lookup-at : (x j : ℕ) (p : List Value) → length p ≡ length (variables n) → position x (variableNames n) ≡ some j
+        → lookup x (variableNames n) p ≡ some (getD p j (Val.Bool false))
     lookup-at x j p e h = ap (maybe none (getElem? p)) h ∙ getElem-getD p j (Val.Bool false) (omega (arith, position-inside x j h))
 
     none-or : (x : ℕ) → (position x (variableNames n) ≡ none) ⊎ ((j : ℕ) × (position x (variableNames n) ≡ some j))
@@ -248,7 +251,8 @@ module _ (n : Node) where
       slot-name : (i x : ℕ) → x ∈ slots (equationAt n i .names) → (y : ℕ) × (y ∈ equationAt n i .names) × (getD (variableNames n) x 0 ≡ y)
       slot-name i x m = let w = in-found slot (equationAt n i .names) x m in (w .0, w .1, position-get (w .0) (variableNames n) x (w .2) .1)
 
-      out-arity : (xs : List ℕ) (o : Outcomes) (vs : List Value) (a : ℕ) → Known xs → a ≡ length xs → CountIs a o → fitOuts xs o ≡ Y.values vs → length vs ≡ length (slots xs)
+      out-arity : (xs : List ℕ) (o : Outcomes) (vs : List Value) (a : ℕ) → Known xs → a ≡ length xs → CountIs a o → fitOuts xs o ≡ Y.values vs
+          → length vs ≡ length (slots xs)
       out-arity xs (values ws) vs a h e c q = let z : fitted xs ws ≡ vs = cc in ap length (sym z) ∙ fitted-length xs ws h (c ∙ e) ∙ sym (slots-length xs h)
       out-arity xs failure vs a h e c q = let z : _≡_ {A = ℕ} 0 1 = cc in absurd (omega arith)
       out-arity xs overflow vs a h e c q = let z : _≡_ {A = ℕ} 0 1 = cc in absurd (omega arith)

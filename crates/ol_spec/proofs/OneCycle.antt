@@ -7,7 +7,7 @@ use mathlib.Core.Option.{some}
 use mathlib.Core.Path.{_≡_, refl, sym, ap, subst, _∙_}
 use native.Mathlib.Omega.{arith}
 use native.Mathlib.Decide.{ℕ-discrete, decLt}
-use lib.ListN.{length, take, drop, getD, getElem?, length-append, length-map, List·getD-append, List·getD-map}
+use lib.ListN.{length, take, drop, getD, getElem?, length-map, List·getD-append, List·getD-map}
 use lib.Seq.{set-getD, getD-take, getD-drop, getD-append-add, length-take-le, ext-getD}
 use lib.Dec.{T, T-not, not-T}
 use Rattle.ol_theory.specs.Member.{_∈_, Distinct}
@@ -25,25 +25,28 @@ use Rattle.ol_spec.specs.Demand3.{InKind, mainRecord, rightSide, Satisfi
 use Rattle.ol_spec.specs.declared.Value.{Value}
 use Rattle.ol_spec.specs.declared.Value.the-variants as Val
 use Rattle.ol_spec.proofs.Tests.{member-in, in-member}
-use Rattle.ol_spec.proofs.Lists.{getElem-getD, getD-getElem, getElem-inside, concat-in, in-found, found-in}
+use Rattle.ol_spec.proofs.Lists.{getElem-getD, getD-getElem, getElem-inside, getD-is, concat-in, in-found, found-in}
 use Rattle.ol_spec.proofs.Ordering.{Placed}
 use Rattle.ol_spec.proofs.Segments.{arityIn}
-use Rattle.ol_spec.proofs.Runs.{length-values}
+use Rattle.ol_spec.proofs.Runs.{variables-length, length-values}
 use Rattle.ol_spec.proofs.Counts.{CountIs}
 use Rattle.ol_spec.proofs.MainFacts.{namesOf}
 use Rattle.ol_spec.proofs.MainSystem.{position-get, position-of, get-in, slot, slots, fitted, assign-store, slots-length, fitted-length, Known, fitOuts, system, view, run-view, names-in, lawful, valid-order}
 use Rattle.ol_spec.proofs.Same.{values?, search-below}
 
--- what is known of an admitted file's main node
-pub record MainOk (f : File) (vs : List Value) : Type 0 where
-  pub distinct : Distinct (variableNames (main f))
-  pub apart : Distinct (concat (map namesOf (main f .equations)))
-  pub known : (i : ℕ) → Known (main f) (equationAt (main f) i .names)
-  pub no-input : (i x : ℕ) → x ∈ equationAt (main f) i .names → ¬ (x ∈ map nameOf (main f .inputs))
-  pub arity : (i : ℕ) → i < length (main f .equations) → arityIn (globalsOf f vs) (rhsOf (equationAt (main f) i .rhs)) ≡ length (equationAt (main f) i .names)
+-- what is known of a node of an admitted file
+pub record NodeOk (g : Globals) (n : Node) : Type 0 where
+  pub distinct : Distinct (variableNames n)
+  pub apart : Distinct (concat (map namesOf (n .equations)))
+  pub known : (i : ℕ) → Known n (equationAt n i .names)
+  pub no-input : (i x : ℕ) → x ∈ equationAt n i .names → ¬ (x ∈ map nameOf (n .inputs))
+  pub arity : (i : ℕ) → i < length (n .equations) → arityIn g (rhsOf (equationAt n i .rhs)) ≡ length (equationAt n i .names)
   pub counts : (first : Bool) (before : List Value) (i : ℕ) (p : List Value) (s : List ℕ)
-      → CountIs (arityIn (globalsOf f vs) (rhsOf (equationAt (main f) i .rhs))) (evalEquation (globalsOf f vs) (calls (globalsOf f vs)) (main f) first before p i s .out)
-  pub placed : Placed (main f .equations)
+      → CountIs (arityIn g (rhsOf (equationAt n i .rhs))) (evalEquation g (calls g) n first before p i s .out)
+  pub placed : Placed (n .equations)
+
+abbrev pub MainOk : File → List Value → Type 0
+MainOk f vs = NodeOk (globalsOf f vs) (main f)
 
 tags-kinds : (p q : List Value) (d : Value) → map tag p ≡ map tag q → (x : ℕ) → tag (getD p x d) ≡ tag (getD q x d)
 tags-kinds p q d e x = sym (List·getD-map tag p x d) ∙ ap (λ l. getD l x (tag d)) e ∙ List·getD-map tag q x d
@@ -78,13 +81,14 @@ module _ (f : File) (vs : List Value) (ok : MainOk f vs) (old : List ℕ) where
   sys = system n g (calls g) (isFresh rec) (oldCells n rec)
 
   pub sys-lawful : Y.Lawful sys
-  sys-lawful = lawful n g (calls g) (isFresh rec) (oldCells n rec) (ok .apart) (ok .known) (ok .arity) (λ i p s. ok .counts (isFresh rec) (oldCells n rec) i p s)
+  sys-lawful = lawful n g (calls g) (isFresh rec) (oldCells n rec) (ok .apart) (ok .known) (ok .arity) (ok .counts (isFresh rec) (oldCells n rec))
 
   pub sys-valid : O.ValidOrder (length (n .equations)) (Y.deps sys) (order (n .equations))
   sys-valid =
-      valid-order n g (calls g) (isFresh rec) (oldCells n rec) (ok .apart) (ok .known) (ok .arity) (λ i p s. ok .counts (isFresh rec) (oldCells n rec) i p s) (order (n .equations)) (ok .placed .valid)
+      valid-order n g (calls g) (isFresh rec) (oldCells n rec) (ok .apart) (ok .known) (ok .arity) (ok .counts (isFresh rec) (oldCells n rec)) (order (n .equations)) (ok .placed .valid)
 
-  right-count : (cs : List Value) (i : ℕ) → i < length (n .equations) → (ws : List Value) → rightSide f vs old cs i ≡ values ws → length ws ≡ length (equationAt n i .names)
+  right-count : (cs : List Value) (i : ℕ) → i < length (n .equations) → (ws : List Value) → rightSide f vs old cs i ≡ values ws
+      → length ws ≡ length (equationAt n i .names)
   right-count cs i b ws e = subst (CountIs (arityIn g (rhsOf (equationAt n i .rhs)))) e (ok .counts (isFresh rec) (oldCells n rec) i cs (getD segs i [])) ∙ ok .arity i b
 
   sat-satisfies : (cs : List Value) (i : ℕ) → i < length (n .equations) → Y.Sat sys cs segs i → Satisfies f vs old cs i
@@ -101,10 +105,11 @@ module _ (f : File) (vs : List Value) (ok : MainOk f vs) (old : List ℕ) where
   satisfies-sat : (cs : List Value) (i : ℕ) → i < length (n .equations) → length cs ≡ length (variables n) → Satisfies f vs old cs i → Y.Sat sys cs segs i
   satisfies-sat cs i b e s =
       let xs = equationAt n i .names in
-      let stored : Y.store (slots n xs) (fitted n xs (s .results)) cs ≡ cs = sym (assign-store n xs (s .results) cs) ∙ s .exactly in
-      ap (fitOuts n xs) (s .succeeds)
-      ∙ ap Y.values (sym (ap (λ c. map (λ x. getD c x (Val.Bool false)) (slots n xs)) (sym stored)
-      ∙ YP.store-read (slots n xs) (fitted n xs (s .results)) cs (Val.Bool false) (sys-lawful .once i b) (λ x m. omega (arith, sys-lawful .slots i b x m, e)) (fitted-length n xs (s .results) (ok .known i) (s .each) ∙ sym (slots-length n xs (ok .known i)))))
+      let us = fitted n xs (s .results) in
+      let stored : Y.store (slots n xs) us cs ≡ cs = sym (assign-store n xs (s .results) cs) ∙ s .exactly in
+      let each : length us ≡ length (slots n xs) = fitted-length n xs (s .results) (ok .known i) (s .each) ∙ sym (slots-length n xs (ok .known i)) in
+      let read = YP.store-read (slots n xs) us cs (Val.Bool false) (sys-lawful .once i b) (λ x m. omega (arith, sys-lawful .slots i b x m, e)) each in
+      ap (fitOuts n xs) (s .succeeds) ∙ ap Y.values (sym read ∙ ap (λ c. map (λ x. getD c x (Val.Bool false)) (slots n xs)) stored)
 
   satisfies? : (ds : List Value) (i : ℕ) → Dec (Satisfies f vs old ds i)
   satisfies? ds i = go (rightSide f vs old ds i) refl
@@ -145,12 +150,17 @@ module _ (f : File) (vs : List Value) (ok : MainOk f vs) (old : List ℕ) where
       ∙ List·getD-append (map nameOf (n .inputs)) (map nameOf rest) 0 x (omega (arith, length-map (n .inputs) nameOf)) in
       ok .no-input (w .0) (name x) (w .2) (Memᴰ·cast same (get-in (map nameOf (n .inputs)) x (omega (arith, length-map (n .inputs) nameOf)))))
 
+  abbrev noVariable : Variable
+  noVariable = record { name = 0; ty = bool }
+
   -- the name of a variable that no equation defines stands in no equation's names
-  not-defined : (x : ℕ) (v : Variable) → getElem? (variables n) x ≡ some v → T (not (member (v .name) (definedNames f vs old))) ↔ (¬ (name x ∈ concat (map namesOf (n .equations))))
+  not-defined : (x : ℕ) (v : Variable) → getElem? (variables n) x ≡ some v
+      → T (not (member (v .name) (definedNames f vs old))) ↔ (¬ (name x ∈ concat (map namesOf (n .equations))))
   not-defined x v e =
-      let same : name x ≡ v .name = List·getD-map nameOf (variables n) x (record { name = 0; ty = bool }) ∙ ap nameOf (getD-getElem (variables n) x _ ∙ ap (maybe (record { name = 0; ty = bool }) (λ a. a)) e) in (
-        λ t m. T-not (member (v .name) (definedNames f vs old)) t (in-member (v .name) (definedNames f vs old) (Memᴰ·cast (sym same) m)),
-        λ h. not-T (member (v .name) (definedNames f vs old)) (λ t. h (Memᴰ·cast same (member-in (v .name) (definedNames f vs old) t))),
+      let names = definedNames f vs old in
+      let same : name x ≡ v .name = List·getD-map nameOf (variables n) x noVariable ∙ ap nameOf (getD-is (variables n) x noVariable v e) in (
+        λ t m. T-not (member (v .name) names) t (in-member (v .name) names (Memᴰ·cast (sym same) m)),
+        λ h. not-T (member (v .name) names) (λ t. h (Memᴰ·cast same (member-in (v .name) names t))),
       )
 
   -- ---- the cells that a cycle starts from: the inputs, and the old cells of the others
@@ -162,7 +172,9 @@ module _ (f : File) (vs : List Value) (ok : MainOk f vs) (old : List ℕ) where
   at cs x = getD cs x (Val.Bool false)
 
   -- the run as the theory has it
-  pub run-theory : (ins : List Value) → view n g (calls g) (isFresh rec) (oldCells n rec) (runAll g (calls g) n (isFresh rec) (oldCells n rec) (order (n .equations)) (begin ins) segs) ≡ Y.runEqs sys (order (n .equations)) (begin ins) segs
+  pub run-theory : (ins : List Value)
+      → view n g (calls g) (isFresh rec) (oldCells n rec) (runAll g (calls g) n (isFresh rec) (oldCells n rec) (order (n .equations)) (begin ins) segs)
+      ≡ Y.runEqs sys (order (n .equations)) (begin ins) segs
   run-theory ins = run-view n g (calls g) (isFresh rec) (oldCells n rec) (order (n .equations)) (begin ins) segs
 
   pub same-kinds : (ins : List Value) → InKind f (begin ins) → (cs : List Value) → InKind f cs → Y.SameKinds sys cs (begin ins)
@@ -180,30 +192,28 @@ module _ (f : File) (vs : List Value) (ok : MainOk f vs) (old : List ℕ) where
         ap (at (begin ins)) q ∙ getD-append-add ins (drop (length (n .inputs)) (oldCells n rec)) k (Val.Bool false)
         ∙ getD-drop (length (n .inputs)) (oldCells n rec) k (Val.Bool false) ∙ ap (at (oldCells n rec)) r
 
-  module _ (ins : List Value) (inputs : length ins ≡ length (n .inputs)) (begins : length (begin ins) ≡ length (variables n)) (kinds : InKind f (begin ins)) (counted : length segs ≡ length (n .equations)) where
+  module _ (ins : List Value) (inputs : length ins ≡ length (n .inputs)) (begins : length (begin ins) ≡ length (variables n)) (kinds : InKind f (begin ins))
+      (counted : length segs ≡ length (n .equations)) where
     kind-length : (cs : List Value) → InKind f cs → length cs ≡ length (variables n)
     kind-length cs k = sym (length-map cs tag) ∙ ap length k ∙ length-map (variables n) _
 
     -- a solution is a choice, and a choice that satisfies all equations is a solution
     chosen : (cs : List Value) → InKind f cs → Y.Solution sys (begin ins) segs cs → Choice f vs old ins cs
     chosen cs k sol =
+        let k′ = length (n .inputs) in
+        let size = kind-length cs k in
+        let taken : length (take k′ cs) ≡ k′ = length-take-le k′ cs (omega (arith, size, variables-length n)) in
         record {
           inKind = k;
-          inputs = ext-getD (Val.Bool false) (take (length (n .inputs)) cs) ins (length-take-le (length (n .inputs)) cs (omega (arith, size, variables-length)) ∙ sym inputs) (λ x b.
-              let h : x < length (n .inputs) = omega (arith, length-take-le (length (n .inputs)) cs (omega (arith, size, variables-length))) in
-              getD-take (length (n .inputs)) cs x (Val.Bool false) h ∙ sol .kept x (omega (arith, variables-length)) (input-undefined x h) ∙ begin-input ins inputs x h);
+          inputs = ext-getD (Val.Bool false) (take k′ cs) ins (taken ∙ sym inputs) (λ x b.
+              let h : x < k′ = omega (arith, taken) in
+              getD-take k′ cs x (Val.Bool false) h ∙ sol .kept x (omega (arith, variables-length n)) (input-undefined x h) ∙ begin-input ins inputs x h);
           held = λ x v h e t.
               let b = getElem-inside (variables n) x v e in
               getElem-getD cs x (Val.Bool false) (omega (arith, size))
               ∙ ap some (sol .kept x b (name-undefined x (not-defined x v e .0 t)) ∙ begin-other ins inputs x h)
               ∙ sym (getElem-getD (oldCells n rec) x (Val.Bool false) (omega (arith, length-values (length (variables n)) (drop 1 rec))));
         }
-      where
-        size : length cs ≡ length (variables n)
-        size = kind-length cs k
-
-        variables-length : length (variables n) ≡ length (n .inputs) + length (n .outputs) + length (n .locals)
-        variables-length = length-append (n .inputs ++ n .outputs) (n .locals) ∙ ap (λ m. m + length (n .locals)) (length-append (n .inputs) (n .outputs))
 
     choice-solution : (ds : List Value) → Choice f vs old ins ds → ((i : ℕ) → i < length (n .equations) → Satisfies f vs old ds i) → Y.Solution sys (begin ins) segs ds
     choice-solution ds c all =
@@ -214,8 +224,8 @@ module _ (f : File) (vs : List Value) (ok : MainOk f vs) (old : List ℕ) where
           kept = λ x h u. by-cases (decLt x (length (n .inputs)))
               (λ b. sym (getD-take (length (n .inputs)) ds x (Val.Bool false) b) ∙ ap (λ l. at l x) (c .inputs) ∙ sym (begin-input ins inputs x b))
               (λ b.
-              let v = getD (variables n) x (record { name = 0; ty = bool }) in
-              let e = getElem-getD (variables n) x (record { name = 0; ty = bool }) h in
+              let v = getD (variables n) x noVariable in
+              let e = getElem-getD (variables n) x noVariable h in
               let o = oldCells n rec in
               getD-getElem ds x (Val.Bool false) ∙ ap (maybe (Val.Bool false) (λ a. a)) (c .held x v (omega arith) e (not-defined x v e .1 (slot-undefined x h u)))
               ∙ sym (getD-getElem o x (Val.Bool false)) ∙ sym (begin-other ins inputs x (omega arith)));

@@ -119,7 +119,8 @@ module _ (qs : List Equation) where
       differs : ¬ (i ≡ k) → suc i ≤ k
       differs h = omega arith
 
-      go : (t : Bool) → (suc i ≤ k → (j : ℕ) × (firstOutside qs done (suc i) rs ≡ some j)) → member i done ≡ t → (j : ℕ) × (outsideIf t i (firstOutside qs done (suc i) rs) ≡ some j)
+      go : (t : Bool) → (suc i ≤ k → (j : ℕ) × (firstOutside qs done (suc i) rs ≡ some j)) → member i done ≡ t
+          → (j : ℕ) × (outsideIf t i (firstOutside qs done (suc i) rs) ≡ some j)
       go false h e = (i, refl)
       go true h e = h (differs (λ p. u (subst (λ x. x ∈ done) p (member-in i done (true-T (member i done) e)))))
 

@@ -166,11 +166,13 @@ module _ (g : Globals) (ns : List Node) (sz : List ℕ) (sizes : g .sizes ≡ sz
         go (failedAt i) = ap (λ l. record { out = failure; seg = l }) (fresh-record-other n h)
         go (overflowedAt i) = refl
 
-    instance-other : (calls calls′ : Calls) (n : Node) → ((c : ℕ) → c ∈ sites n → c < K) → Same calls calls′ (sites n) → (ws : List Value) (r : List ℕ) → instance g calls n ws r ≡ instance other calls′ n ws r
+    instance-other : (calls calls′ : Calls) (n : Node) → ((c : ℕ) → c ∈ sites n → c < K) → Same calls calls′ (sites n) → (ws : List Value) (r : List ℕ)
+        → instance g calls n ws r ≡ instance other calls′ n ws r
     unfolding instance
     instance-other calls calls′ n h e ws r = ap (leave g n r) (run-other calls calls′ n e (fitAll (n .inputs) ws) r) ∙ leave-other n r _ h
 
-    callBy-other : (t : NodeKind) (calls calls′ : Calls) (n : Node) → ((c : ℕ) → c ∈ sites n → c < K) → Same calls calls′ (sites n) → (ws : List Value) (r : List ℕ) → callBy g t calls n ws r ≡ callBy other t calls′ n ws r
+    callBy-other : (t : NodeKind) (calls calls′ : Calls) (n : Node) → ((c : ℕ) → c ∈ sites n → c < K) → Same calls calls′ (sites n) → (ws : List Value) (r : List ℕ)
+        → callBy g t calls n ws r ≡ callBy other t calls′ n ws r
     callBy-other Function calls calls′ n h e ws r =
         let q : instance g calls n ws (freshRecord g n) ≡ instance other calls′ n ws (freshRecord other n) = ap (instance g calls n ws) (fresh-record-other n h) ∙ instance-other calls calls′ n h e ws (freshRecord other n) in
         λ i. record { out = q i .out; seg = r }
@@ -185,7 +187,8 @@ module _ (g : Globals) (ns : List Node) (sz : List ℕ) (sizes : g .sizes ≡ sz
         ∙ ap (λ n. callBy other (n .kind) (callsAt other d) n ws r) (below k b)
 
 -- calls at enough depth do not depend on the depth
-pub calls-stable : (g : Globals) → ((k c : ℕ) → c ∈ sites (nodeAt g k) → c < k) → (d d′ k : ℕ) → k < d → k < d′ → (ws : List Value) (r : List ℕ) → callsAt g d k ws r ≡ callsAt g d′ k ws r
+pub calls-stable : (g : Globals) → ((k c : ℕ) → c ∈ sites (nodeAt g k) → c < k) → (d d′ k : ℕ) → k < d → k < d′ → (ws : List Value) (r : List ℕ)
+    → callsAt g d k ws r ≡ callsAt g d′ k ws r
 unfolding callsAt
 calls-stable g lower zero d′ k h h′ ws r = absurd (omega arith)
 calls-stable g lower (suc d) zero k h h′ ws r = absurd (omega arith)

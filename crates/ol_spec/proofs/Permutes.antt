@@ -39,7 +39,8 @@ perm-length (keep p) = ap suc (perm-length p)
 perm-length swap = refl
 perm-length (both p q) = perm-length q ∙ perm-length p
 
-pub perm-sites : (sizes : List ℕ) {qs rs : List Equation} → Permuted qs rs → sitesSize sizes (concat (map equationSites rs)) ≡ sitesSize sizes (concat (map equationSites qs))
+pub perm-sites : (sizes : List ℕ) {qs rs : List Equation} → Permuted qs rs
+    → sitesSize sizes (concat (map equationSites rs)) ≡ sitesSize sizes (concat (map equationSites qs))
 perm-sites sizes empty = refl
 perm-sites sizes (keep {q = q} {qs = qs} {rs = rs} p) = sites-append sizes (equationSites q) (concat (map equationSites rs)) ∙ ap (λ m. sitesSize sizes (equationSites q) + m) (perm-sites sizes p) ∙ sym (sites-append sizes (equationSites q) (concat (map equationSites qs)))
 perm-sites sizes (swap {q = q} {r = r} {qs = qs}) =

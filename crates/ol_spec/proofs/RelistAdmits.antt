@@ -97,7 +97,8 @@ clean-moved is js e c = flags-clean js (subst CleanF e (clean-flags is c))
 Still : (ℕ × Equation → List Item) → Type 0
 Still h = (a a′ : ℕ) (q : Equation) → flags (h (a, q)) ≡ flags (h (a′, q))
 
-perm-clean : (h : ℕ × Equation → List Item) → Still h → {qs rs : List Equation} → Permuted qs rs → (at at′ : ℕ) → Clean (concat (map h (placed equationSize at qs))) → Clean (concat (map h (placed equationSize at′ rs)))
+perm-clean : (h : ℕ × Equation → List Item) → Still h → {qs rs : List Equation} → Permuted qs rs → (at at′ : ℕ) → Clean (concat (map h (placed equationSize at qs)))
+    → Clean (concat (map h (placed equationSize at′ rs)))
 unfolding Still
 perm-clean h still {qs} {rs} p at at′ c =
     each-clean h (placed equationSize at′ rs) (spread at′ rs (perm-all (λ q. (a : ℕ) × Clean (h (a, q))) p (all-placed equationSize (λ x. Clean (h x)) at qs (clean-each h (placed equationSize at qs) c))))
@@ -205,7 +206,8 @@ module _ (last last′ : Node) where
     replace (o ∷ os) at h = (each at o (h .0), replace os (at + nodeSize o) (h .1))
 
   module _ (P P′ : ℕ × (ℕ × Node) → Type 0) (each : (k a : ℕ) (n : Node) → P (k, (a, n)) → P′ (k, (a, n))) (at-last : (k a : ℕ) → P (k, (a, last)) → P′ (k, (a, last′))) where
-    replace-numbered : (os : List Node) (k at : ℕ) → All P (numbered k (placed nodeSize at (os ++ last ∷ []))) → All P′ (numbered k (placed nodeSize at (os ++ last′ ∷ [])))
+    replace-numbered : (os : List Node) (k at : ℕ) → All P (numbered k (placed nodeSize at (os ++ last ∷ [])))
+        → All P′ (numbered k (placed nodeSize at (os ++ last′ ∷ [])))
     replace-numbered [] k at h = (at-last k at (h .0), tt)
     replace-numbered (o ∷ os) k at h = (each k at o (h .0), replace-numbered os (suc k) (at + nodeSize o) (h .1))
 
@@ -214,7 +216,8 @@ module _ (last last′ : Node) where
   declares-same e [] k at = ap (λ l. l ++ []) (e k at)
   declares-same e (o ∷ os) k at = ap (λ l. nodeDeclares (k, (at, o)) ++ l) (declares-same e os (suc k) (at + nodeSize o))
 
-  rings-same : (os : List Node) (at : ℕ) → All (λ n. unplaced (n .equations) ≡ none) (os ++ last ∷ []) → unplaced (last′ .equations) ≡ none → firstSome (map ringIn (placed nodeSize at (os ++ last′ ∷ []))) ≡ none
+  rings-same : (os : List Node) (at : ℕ) → All (λ n. unplaced (n .equations) ≡ none) (os ++ last ∷ []) → unplaced (last′ .equations) ≡ none
+      → firstSome (map ringIn (placed nodeSize at (os ++ last′ ∷ []))) ≡ none
   rings-same [] at h e = ap (λ o. orElse (maybe none (λ i. some (placeAt (placedEquations at last′) i)) o) none) e
   rings-same (o ∷ os) at h e =
       ap (λ x. orElse (maybe none (λ i. some (placeAt (placedEquations at o) i)) x) (firstSome (map ringIn (placed nodeSize (at + nodeSize o) (os ++ last′ ∷ []))))) (h .0)

@@ -41,7 +41,8 @@ use Rattle.ol_spec.proofs.Other.{site-in, equation-other, fresh-other, 
 use Rattle.ol_spec.proofs.RelistAdmits.{ending, last-is, get-below, length-last, all-sizes, outs-same, state-same, relist-admits}
 use Rattle.ol_spec.proofs.States.{freshSeg, StateOk, start-ok, fresh-parts, begins, begin-kinds, counted, finishes, answered-ok, left-parts, given-back, made, refused-not, cycle-is}
 
-view-finished : (e : Ended) (n : Node) (g : Globals) (first : Bool) (before cs ps : List Value) (ss ms : List (List ℕ)) → viewOn n g (calls g) first before e cs ss ≡ Y.finished ps ms → (e ≡ finished) × (cs ≡ ps) × (ss ≡ ms)
+view-finished : (e : Ended) (n : Node) (g : Globals) (first : Bool) (before cs ps : List Value) (ss ms : List (List ℕ))
+    → viewOn n g (calls g) first before e cs ss ≡ Y.finished ps ms → (e ≡ finished) × (cs ≡ ps) × (ss ≡ ms)
 view-finished finished n g first before cs ps ss ms e = (refl, cc, cc)
 view-finished (failedAt i) n g first before cs ps ss ms e = let z : _≡_ {A = ℕ} 0 1 = cc in absurd (omega arith)
 view-finished (overflowedAt i) n g first before cs ps ss ms e = let z : _≡_ {A = ℕ} 0 1 = cc in absurd (omega arith)
@@ -130,7 +131,8 @@ module _ (f : File) (os : List Node) (last : Node) (rs : List Equation) (p₀ : 
     slots-same : (i : ℕ) (h : Equation → List ℕ) → slots n2 (h (equationAt n2 i)) ≡ slots n1 (h (equationAt n1 (to i)))
     slots-same i h = ap₂ (λ ns q. found (λ x. position x ns) (h q)) (ap (map nameOf) variables-same) (at-same i)
 
-    right-same : (first : Bool) (before cs : List Value) (i : ℕ) (s : List ℕ) → evalEquation g2 (calls g2) n2 first before cs i s ≡ evalEquation g1 (calls g1) n1 first before cs (to i) s
+    right-same : (first : Bool) (before cs : List Value) (i : ℕ) (s : List ℕ)
+        → evalEquation g2 (calls g2) n2 first before cs i s ≡ evalEquation g1 (calls g1) n1 first before cs (to i) s
     right-same first before cs i s =
         ap₂ (λ n q. evalRhs g2 (scope n first before cs) (calls g2) (rhsOf (q .rhs)) s) is-last (at-same i)
         ∙ sym (equation-other g1 (os ++ last′ ∷ []) _ (all-sizes f os last rs p₀) (outs-same f os last rs p₀) (calls g1) (calls g2) n1 calls-same first before cs (to i) s)
@@ -249,7 +251,8 @@ module _ (f : File) (os : List Node) (last : Node) (rs : List Equation) (p₀ : 
         NotStopped (c .answer) → KeepsKinds a1 (made t old c)
         → SameAnswer (made t old c) (made t′ old′ c′) × Rel (nextState (c .answer) old (c .new)) (nextState (c′ .answer) old′ (c′ .new))
 
-    run-both : (t t′ : Turn) (old old′ ins : List ℕ) → Rel old old′ → T (goodInputs a1 ins) → Both t t′ old old′ (endRun a1 old (t .values) (mainRun a1 vs old ins)) (endRun a2 old′ (t′ .values) (mainRun a2 vs old′ ins))
+    run-both : (t t′ : Turn) (old old′ ins : List ℕ) → Rel old old′ → T (goodInputs a1 ins)
+        → Both t t′ old old′ (endRun a1 old (t .values) (mainRun a1 vs old ins)) (endRun a2 old′ (t′ .values) (mainRun a2 vs old′ ins))
     run-both t t′ old old′ ins rel gi = go (mainRun a1 vs old ins .end) refl
       where
         u : Run
@@ -266,19 +269,22 @@ module _ (f : File) (os : List Node) (last : Node) (rs : List Equation) (p₀ : 
         go (failedAt i) e ns k = absurd ns
         go (overflowedAt i) e ns k = absurd ns
 
-    cycle-both : (ld : Loader) (s s′ : List ℕ) → judge ld s ≡ admitted a1 vs → judge ld s′ ≡ admitted a2 vs → (t t′ : Turn) → Alike t t′ → (old old′ : List ℕ) → Rel old old′
+    cycle-both : (ld : Loader) (s s′ : List ℕ) → judge ld s ≡ admitted a1 vs → judge ld s′ ≡ admitted a2 vs → (t t′ : Turn) → Alike t t′ → (old old′ : List ℕ)
+        → Rel old old′
         → Both t t′ old old′ (cycle ld s old (t .inputs) (t .new) (t .values)) (cycle ld s′ old′ (t′ .inputs) (t′ .new) (t′ .values))
     cycle-both ld s s′ e e′ t t′ l old old′ rel =
         subst (λ ins. Both t t′ old old′ (cycle ld s old (t .inputs) (t .new) (t .values)) (cycle ld s′ old′ ins (t′ .new) (t′ .values))) (sym (l .inputs))
         (rw (cycle-is a1 vs F1 ld s e old (t .inputs) (t .new) (t .values) (rel .ok1 .well), cycle-is a2 vs F2 ld s′ e′ old′ (t .inputs) (t′ .new) (t′ .values) (rel .ok2 .well), inputs-good (t .inputs), fits-same t t′ l)
         (go (goodInputs a1 (t .inputs)) refl (fits17 a1 (t .new) (t .values))))
       where
-        go : (b : Bool) → goodInputs a1 (t .inputs) ≡ b → (b′ : Bool) → Both t t′ old old′ (cycleUnless false (not b) (not b′) a1 vs old (t .inputs) (t .new) (t .values)) (cycleUnless false (not b) (not b′) a2 vs old′ (t .inputs) (t′ .new) (t′ .values))
+        go : (b : Bool) → goodInputs a1 (t .inputs) ≡ b → (b′ : Bool)
+            → Both t t′ old old′ (cycleUnless false (not b) (not b′) a1 vs old (t .inputs) (t .new) (t .values)) (cycleUnless false (not b) (not b′) a2 vs old′ (t .inputs) (t′ .new) (t′ .values))
         go false q b′ ns k = (record { answer = refl; values = λ a. absurd (refused-not a) }, rel)
         go true q false ns k = (record { answer = refl; values = λ a. absurd (refused-not a) }, rel)
         go true q true ns k = run-both t t′ old old′ (t .inputs) rel (true-T (goodInputs a1 (t .inputs)) q) ns k
 
-    agree : (ld : Loader) (s s′ : List ℕ) → judge ld s ≡ admitted a1 vs → judge ld s′ ≡ admitted a2 vs → (ts ts′ : List Turn) → AllAlike ts ts′ → (old old′ : List ℕ) → Rel old old′
+    agree : (ld : Loader) (s s′ : List ℕ) → judge ld s ≡ admitted a1 vs → judge ld s′ ≡ admitted a2 vs → (ts ts′ : List Turn) → AllAlike ts ts′ → (old old′ : List ℕ)
+        → Rel old old′
         → AgreeUntil a1 (history ld s ts old) (history ld s′ ts′ old′)
     agree ld s s′ e e′ [] [] l old old′ rel = tt
     agree ld s s′ e e′ [] (t′ ∷ ts′) l old old′ rel = absurd l
@@ -301,7 +307,8 @@ module _ (ld : Loader) (f : File) (os : List Node) (last : Node) (rs : List Equa
   abbrev Claim : List ℕ → List ℕ → List Value → List Turn → List Turn → File → File → Type 0
   Claim s s′ vs ts ts′ f f′ = (judge ld s′ ≡ admitted f′ vs) × (admission ld s′ ≡ admission ld s) × AgreeUntil f (history ld s ts (freshState f vs)) (history ld s′ ts′ (freshState f′ vs))
 
-  relist-two : (s s′ : List ℕ) (vs : List Value) (at : ℕ) (ts ts′ : List Turn) → Bytes s → judge ld s ≡ admitted (ending f os last) vs → readFile s′ ld ≡ got (ending f os (withEquations last rs)) at → AllAlike ts ts′
+  relist-two : (s s′ : List ℕ) (vs : List Value) (at : ℕ) (ts ts′ : List Turn) → Bytes s → judge ld s ≡ admitted (ending f os last) vs
+      → readFile s′ ld ≡ got (ending f os (withEquations last rs)) at → AllAlike ts ts′
       → Claim s s′ vs ts ts′ (ending f os last) (ending f os (withEquations last rs))
   relist-two s s′ vs at ts ts′ b e r l =
       let f1 = ending f os last in

@@ -23,7 +23,10 @@ use Rattle.ol_spec.proofs.Values.{Fine, Closed}
 use Rattle.ol_spec.proofs.Cells.{AllFine, same-refl, length-cells, good-fine, good-cells}
 use Rattle.ol_spec.proofs.Segments.{Good, none-good, joined, parts, GivesAll, MeetsAll, Sound, Plain, arityIn, rhs-meets}
 
--- ---- storing
+-- ---- numbers of variables and values
+
+pub variables-length : (n : Node) → length (variables n) ≡ length (n .inputs) + length (n .outputs) + length (n .locals)
+variables-length n = length-append (n .inputs ++ n .outputs) (n .locals) ∙ ap (λ m. m + length (n .locals)) (length-append (n .inputs) (n .outputs))
 
 pub length-values : (n : ℕ) (s : List ℕ) → length (valuesOf n s) ≡ n
 length-values zero s = refl
@@ -32,6 +35,8 @@ length-values (suc n) s = ap suc (length-values n (drop 9 s))
 pub fine-values : (vs : List ℕ) → ((x : ℕ) → T (member x vs) → x < 2 ^ 16) → (n : ℕ) (s : List ℕ) → T (goodCells vs n s) → AllFine vs (valuesOf n s)
 fine-values vs short zero s t = tt
 fine-values vs short (suc n) s t = let w = T-and (goodCell vs (take 9 s)) _ t in (good-fine vs short (take 9 s) (w .0), fine-values vs short n (drop 9 s) (w .1))
+
+-- ---- storing
 
 module _ (n : Node) where
   length-putAt : (o : Option ℕ) (v : Value) (cs : List Value) → length (putAt n o v cs) ≡ length cs
@@ -137,9 +142,11 @@ pub record RunGood (Q : Value → Type 0) (g : Globals) (p : ℕ → List ℕ �
   pub segs : Segs g p (n .equations) (u .segs)
 
 -- the cells that a run starts from
-pub start-length : (n : Node) (ins : List Value) (r : List ℕ) → length ins ≡ length (n .inputs) → length (ins ++ drop (length (n .inputs)) (oldCells n r)) ≡ length (variables n)
+pub start-length : (n : Node) (ins : List Value) (r : List ℕ) → length ins ≡ length (n .inputs)
+    → length (ins ++ drop (length (n .inputs)) (oldCells n r)) ≡ length (variables n)
 start-length n ins r e =
-    length-append ins _ ∙ omega (arith, length-drop (length (n .inputs)) (oldCells n r), length-values (length (variables n)) (drop 1 r), length-append (n .inputs ++ n .outputs) (n .locals), length-append (n .inputs) (n .outputs))
+    let old = oldCells n r in
+    length-append ins _ ∙ omega (arith, length-drop (length (n .inputs)) old, length-values (length (variables n)) (drop 1 r), variables-length n)
 
 module _ {Q : Value → Type 0} {g : Globals} {p : ℕ → List ℕ → Bool} {ok : ℕ → ℕ → Bool} {calls : Calls} (sound : Sound Q g p ok calls) (n : Node) (plain : PlainEqs ok (n .equations)) where
   -- an equation's right side
@@ -169,9 +176,10 @@ module _ {Q : Value → Type 0} {g : Globals} {p : ℕ → List ℕ → Bool} {o
       → RunGood Q g p n (length (variables n)) (run g calls n ins r)
   unfolding run
   run-meets ins r f e old h =
+      let cs = ins ++ drop (length (n .inputs)) (oldCells n r) in
+      let all = all-join Q ins _ f (all-drop Q (length (n .inputs)) (oldCells n r) old) in
       subst (λ m. RunGood Q g p n m (run g calls n ins r)) (start-length n ins r e)
-      (runAll-meets (isFresh r) (oldCells n r) (order (n .equations)) (ins ++ drop (length (n .inputs)) (oldCells n r)) (oldSegs g n r) old (all-join Q ins _ f (all-drop Q (length (n .inputs)) (oldCells n r) old))
-      (split-segs g p (n .equations) _ h))
+      (runAll-meets (isFresh r) (oldCells n r) (order (n .equations)) cs (oldSegs g n r) old all (split-segs g p (n .equations) _ h))
 
   -- a cycle of an instance
   pub step-meets : (ws : List Value) (r : List ℕ) → All Q ws → length ws ≡ length (n .inputs) → All Q (oldCells n r) → Good g p (sites n) (drop (ownSize n) r)
@@ -181,7 +189,8 @@ module _ {Q : Value → Type 0} {g : Globals} {p : ℕ → List ℕ → Bool} {o
 -- ---- what an instance leaves
 
 module _ (Q : Value → Type 0) (g : Globals) (p : ℕ → List ℕ → Bool) (n : Node) where
-  pub started-length : (cs : List Value) (ss : List (List ℕ)) → length cs ≡ length (variables n) → Segs g p (n .equations) ss → length (startedRecord cs ss) ≡ ownSize n + sitesSize (g .sizes) (sites n)
+  pub started-length : (cs : List Value) (ss : List (List ℕ)) → length cs ≡ length (variables n) → Segs g p (n .equations) ss
+      → length (startedRecord cs ss) ≡ ownSize n + sitesSize (g .sizes) (sites n)
   started-length cs ss e h = ap suc (length-append (cells cs) (concat ss)) ∙ omega (arith, length-cells cs, segs-concat g p (n .equations) ss h .sized)
 
   pub leave-outputs : (r : List ℕ) (u : Run) → RunGood Q g p n (length (variables n)) u → GivesAll Q (length (n .outputs)) (leave g n r u .out)
@@ -190,8 +199,7 @@ module _ (Q : Value → Type 0) (g : Globals) (p : ℕ → List ℕ → Bool) (n
     where
       enough : length (outputsIn n (u .cells)) ≡ length (n .outputs)
       enough =
-          length-take-le (length (n .outputs)) (drop (length (n .inputs)) (u .cells))
-          (omega (arith, m .counted, length-drop (length (n .inputs)) (u .cells), length-append (n .inputs ++ n .outputs) (n .locals), length-append (n .inputs) (n .outputs)))
+          length-take-le (length (n .outputs)) (drop (length (n .inputs)) (u .cells)) (omega (arith, m .counted, length-drop (length (n .inputs)) (u .cells), variables-length n))
 
       go : (e : Ended) → GivesAll Q (length (n .outputs)) (leaveOn g n r e (u .cells) (u .segs) .out)
       go finished = (all-take Q (length (n .outputs)) _ (all-drop Q (length (n .inputs)) (u .cells) (m .fine)), enough)
@@ -234,12 +242,15 @@ module _ {g : Globals} {p : ℕ → List ℕ → Bool} {n : Node} where
       let rest = concat (u .segs) in
       record {
         sized = started-length (Fine vs) g p n cs (u .segs) (m .counted) (m .segs);
-        own = and-T (leb 1 1 && goodCells vs (length (variables n)) (cells cs ++ rest)) _ (subst (λ m. T (goodCells vs m (cells cs ++ rest))) (m .counted) (good-cells vs cs rest (m .fine))) tt;
-        inner = subst (λ l. T (goodSites g p (sites n) l)) (sym (drop-at (1 ∷ cells cs) rest (ownSize n) (omega (arith, length-cells cs, m .counted)))) (segs-concat g p (n .equations) (u .segs) (m .segs) .good);
+        own = and-T (leb 1 1 && goodCells vs (length (variables n)) (cells cs ++ rest)) _
+            (subst (λ m. T (goodCells vs m (cells cs ++ rest))) (m .counted) (good-cells vs cs rest (m .fine))) tt;
+        inner = subst (λ l. T (goodSites g p (sites n) l)) (sym (drop-at (1 ∷ cells cs) rest (ownSize n) (omega (arith, length-cells cs, m .counted))))
+            (segs-concat g p (n .equations) (u .segs) (m .segs) .good);
       }
 
   -- a fresh instance, its call sites' records given by f
-  pub fresh-instance : (f : ℕ → List ℕ) → Good g p (sites n) (concat (map f (sites n))) → AllFine (concat (g .enums)) (defaults (g .enums) (variables n)) → Instance g p n (freshInstance g f n)
+  pub fresh-instance : (f : ℕ → List ℕ) → Good g p (sites n) (concat (map f (sites n))) → AllFine (concat (g .enums)) (defaults (g .enums) (variables n))
+      → Instance g p n (freshInstance g f n)
   unfolding goodOwn
   fresh-instance f h d =
       let vs = concat (g .enums) in
@@ -248,7 +259,8 @@ module _ {g : Globals} {p : ℕ → List ℕ → Bool} {n : Node} where
       let rest = concat (map f (sites n)) in
       record {
         sized = ap suc (length-append (cells cs) rest) ∙ omega (arith, length-cells cs, h .sized);
-        own = and-T (leb 0 1 && goodCells vs (length (variables n)) (cells cs ++ rest)) _ (subst (λ m. T (goodCells vs m (cells cs ++ rest))) e (good-cells vs cs rest d))
+        own = and-T (leb 0 1 && goodCells vs (length (variables n)) (cells cs ++ rest)) _
+            (subst (λ m. T (goodCells vs m (cells cs ++ rest))) e (good-cells vs cs rest d))
             (subst (λ l. T (same l (cells cs))) (sym (take-at (cells cs) rest (9 * length (variables n)) (length-cells cs ∙ ap (λ m. 9 * m) e))) (same-refl (cells cs)));
         inner = subst (λ l. T (goodSites g p (sites n) l)) (sym (drop-at (0 ∷ cells cs) rest (ownSize n) (omega (arith, length-cells cs)))) (h .good);
       }

@@ -140,7 +140,8 @@ module _ (Q : Value → Type 0) (g : Globals) (p : ℕ → List ℕ → Bool) wh
     out : Gives Q (r .out)
 
 module _ {Q : Value → Type 0} {g : Globals} {p : ℕ → List ℕ → Bool} where
-  next-meets : (a b : List ℕ) (r : Eval) (k : Value → List ℕ → Eval) (rest : List ℕ) → Meets Q g p a r → Good g p b rest → ((v : Value) → Q v → Meets Q g p b (k v rest)) → Meets Q g p (a ++ b) (next r k rest)
+  next-meets : (a b : List ℕ) (r : Eval) (k : Value → List ℕ → Eval) (rest : List ℕ) → Meets Q g p a r → Good g p b rest → ((v : Value) → Q v → Meets Q g p b (k v rest))
+      → Meets Q g p (a ++ b) (next r k rest)
   unfolding next
   next-meets a b r k rest m q h = go (r .out) (m .out)
     where
@@ -157,7 +158,8 @@ module _ {Q : Value → Type 0} {g : Globals} {p : ℕ → List ℕ → Bool} wh
       go Out.Failure f = tt
       go Out.Overflow f = tt
 
-  nextAll-meets : (a b : List ℕ) (n : ℕ) (r : Eval) (k : List ℕ → Evals) (rest : List ℕ) → Meets Q g p a r → Good g p b rest → MeetsAll Q g p b n (k rest) → MeetsAll Q g p (a ++ b) (suc n) (nextAll r k rest)
+  nextAll-meets : (a b : List ℕ) (n : ℕ) (r : Eval) (k : List ℕ → Evals) (rest : List ℕ) → Meets Q g p a r → Good g p b rest → MeetsAll Q g p b n (k rest)
+      → MeetsAll Q g p (a ++ b) (suc n) (nextAll r k rest)
   unfolding nextAll
   nextAll-meets a b n r k rest m q h = go (r .out) (m .out)
     where
@@ -201,7 +203,8 @@ module _ {Q : Value → Type 0} {g : Globals} {p : ℕ → List ℕ → Bool} wh
 
   -- ---- branches
 
-  untaken-kept : (a b : List ℕ) (c : Bool) (v : Value) (seg : List ℕ) (o : Branch) → Good g p a seg → Q v → Good g p b (o .seg) → Meets Q g p b (o .run (o .seg)) → Kept Q g p a b (untaken c v seg o)
+  untaken-kept : (a b : List ℕ) (c : Bool) (v : Value) (seg : List ℕ) (o : Branch) → Good g p a seg → Q v → Good g p b (o .seg) → Meets Q g p b (o .run (o .seg))
+      → Kept Q g p a b (untaken c v seg o)
   untaken-kept a b true v seg o x f y m = record { taken = x; other = m .seg; out = go (o .run (o .seg) .out) }
     where
       go : (w : Outcome) → Gives Q (dropFailure v w)
@@ -211,17 +214,20 @@ module _ {Q : Value → Type 0} {g : Globals} {p : ℕ → List ℕ → Bool} wh
   untaken-kept a b false v seg o x f y m = record { taken = x; other = y; out = f }
 
   module _ (closed : Closed Q) where
-    branches-kept : (a b : List ℕ) (w : Outcome) (seg : List ℕ) (o : Branch) → Gives Q w → Good g p a seg → Good g p b (o .seg) → Meets Q g p b (o .run (o .seg)) → Kept Q g p a b (branchesOn w seg o)
+    branches-kept : (a b : List ℕ) (w : Outcome) (seg : List ℕ) (o : Branch) → Gives Q w → Good g p a seg → Good g p b (o .seg) → Meets Q g p b (o .run (o .seg))
+        → Kept Q g p a b (branchesOn w seg o)
     branches-kept a b (Out.Value v) seg o f x y m = untaken-kept a b (o .calls) (commonReal (o .wide) v) seg o x (closed .commons (o .wide) v f) y m
     branches-kept a b Out.Failure seg o f x y m = record { taken = x; other = y; out = tt }
     branches-kept a b Out.Overflow seg o f x y m = record { taken = x; other = y; out = tt }
 
-    choose-meets : (a b : List ℕ) (t : Bool) (x y : Branch) → Good g p a (x .seg) → Good g p b (y .seg) → Meets Q g p a (x .run (x .seg)) → Meets Q g p b (y .run (y .seg)) → Meets Q g p (a ++ b) (choose t x y)
+    choose-meets : (a b : List ℕ) (t : Bool) (x y : Branch) → Good g p a (x .seg) → Good g p b (y .seg) → Meets Q g p a (x .run (x .seg))
+        → Meets Q g p b (y .run (y .seg)) → Meets Q g p (a ++ b) (choose t x y)
     unfolding choose
     choose-meets a b true x y p q h k = let r = branches-kept a b (x .run (x .seg) .out) (x .run (x .seg) .seg) y (h .out) (h .seg) q k in record { seg = joined a (r .taken) (r .other); out = r .out }
     choose-meets a b false x y p q h k = let r = branches-kept b a (y .run (y .seg) .out) (y .run (y .seg) .seg) x (k .out) (k .seg) p h in record { seg = joined a (r .other) (r .taken); out = r .out }
 
-  condition-meets : (b : List ℕ) (k : Bool → List ℕ → Eval) (v : Value) (rest : List ℕ) → Good g p b rest → ((t : Bool) → Meets Q g p b (k t rest)) → Meets Q g p b (condition k v rest)
+  condition-meets : (b : List ℕ) (k : Bool → List ℕ → Eval) (v : Value) (rest : List ℕ) → Good g p b rest → ((t : Bool) → Meets Q g p b (k t rest))
+      → Meets Q g p b (condition k v rest)
   unfolding condition
   condition-meets b k (Val.Bool t) rest q h = h t
   condition-meets b k (Val.Int i) rest q h = record { seg = q; out = tt }

@@ -73,7 +73,8 @@ each-tags ens (x ∷ xs) s h =
     let w = T-and (goodCell (concat ens) (take 9 s) && inType ens (x .ty) (valueOf (take 9 s))) _ h in
     ap₂ {C = List ℕ} (λ a l. a ∷ l) (inType-tag ens (x .ty) (valueOf (take 9 s)) (T-and (goodCell (concat ens) (take 9 s)) _ (w .0) .1)) (each-tags ens xs (drop 9 s) (w .1))
 
-each-fine : (ens : List (List ℕ)) → ((x : ℕ) → T (member x (concat ens)) → x < 2 ^ 16) → (xs : List Variable) (s : List ℕ) → T (goodEach ens xs s) → AllFine (concat ens) (valuesOf (length xs) s)
+each-fine : (ens : List (List ℕ)) → ((x : ℕ) → T (member x (concat ens)) → x < 2 ^ 16) → (xs : List Variable) (s : List ℕ) → T (goodEach ens xs s)
+    → AllFine (concat ens) (valuesOf (length xs) s)
 each-fine ens short [] s h = tt
 each-fine ens short (x ∷ xs) s h =
     let w = T-and (goodCell (concat ens) (take 9 s) && inType ens (x .ty) (valueOf (take 9 s))) _ h in
@@ -98,7 +99,8 @@ cells-part vs (suc m) a b c e =
       ap₂ {C = List Value} (λ x y. valueOf x ∷ valuesOf m y) tb db ∙ ap {B = List Value} (λ y. valueOf (take 9 a) ∷ y) (w .1) ∙ sym (ap₂ {C = List Value} (λ x y. valueOf x ∷ valuesOf m y) tc dc),
     )
 
-own-part : (g : Globals) (n : Node) (a b c : List ℕ) → length a ≡ ownSize n → (T (goodOwn g n (a ++ b)) → T (goodOwn g n (a ++ c))) × (oldCells n (a ++ b) ≡ oldCells n (a ++ c))
+own-part : (g : Globals) (n : Node) (a b c : List ℕ) → length a ≡ ownSize n
+    → (T (goodOwn g n (a ++ b)) → T (goodOwn g n (a ++ c))) × (oldCells n (a ++ b) ≡ oldCells n (a ++ c))
 unfolding goodOwn
 own-part g n [] b c e = absurd (omega arith)
 own-part g n (x ∷ a) b c e =
@@ -273,13 +275,15 @@ module _ (f : File) (vs : List Value) (F : Facts f vs) where
     counted = segs-length g p (n .equations) _ (split-segs g p (n .equations) _ (inner-good (h .inst)))
 
     -- a finished run, as the theory has it
-    pub finishes : mainRun f vs old ins .end ≡ finished → Y.runEqs (sys f vs (F .mainly) old) (order (n .equations)) (begin f vs (F .mainly) old ws) (oldSegs g n rec) ≡ Y.finished (mainRun f vs old ins .cells) (mainRun f vs old ins .segs)
+    pub finishes : mainRun f vs old ins .end ≡ finished
+        → Y.runEqs (sys f vs (F .mainly) old) (order (n .equations)) (begin f vs (F .mainly) old ws) (oldSegs g n rec) ≡ Y.finished (mainRun f vs old ins .cells) (mainRun f vs old ins .segs)
     unfolding mainRun run
     finishes e =
         sym (run-theory f vs (F .mainly) old ws) ∙ ap (λ x. viewOn n g (calls g) (isFresh rec) (oldCells n rec) x (mainRun f vs old ins .cells) (mainRun f vs old ins .segs)) e
 
     -- an answered cycle
-    pub new-cells : InKind f (oldCells n rec) → mainRun f vs old ins .end ≡ finished → InKind f (mainRun f vs old ins .cells) → Solves f vs old ws (mainRun f vs old ins .cells)
+    pub new-cells : InKind f (oldCells n rec) → mainRun f vs old ins .end ≡ finished → InKind f (mainRun f vs old ins .cells)
+        → Solves f vs old ws (mainRun f vs old ins .cells)
     new-cells hk e k =
         solves f vs (F .mainly) old ws (length-values (length (n .inputs)) ins) begins (begin-kinds hk) counted (mainRun f vs old ins .cells) (mainRun f vs old ins .segs) (finishes e) k
 
@@ -360,7 +364,8 @@ module _ (f : File) (vs : List Value) (F : Facts f vs) where
       go (failedAt i) = (λ q e. let z : _≡_ {A = ℕ} 0 1 = cc in omega arith, failed-well old (t .inputs) h gi)
       go (overflowedAt i) = (λ q e. let z : _≡_ {A = ℕ} 0 1 = cc in omega arith, h)
 
-  cycle-well : (ld : Loader) (s : List ℕ) → judge ld s ≡ admitted f vs → (t : Turn) (old : List ℕ) → StateWell old → Well old (cycle ld s old (t .inputs) (t .new) (t .values))
+  cycle-well : (ld : Loader) (s : List ℕ) → judge ld s ≡ admitted f vs → (t : Turn) (old : List ℕ) → StateWell old
+      → Well old (cycle ld s old (t .inputs) (t .new) (t .values))
   cycle-well ld s e t old h = rw (cycle-is ld s e old (t .inputs) (t .new) (t .values) h) (go (goodInputs f (t .inputs)) refl (fits17 f (t .new) (t .values)))
     where
       go : (b : Bool) → goodInputs f (t .inputs) ≡ b → (b′ : Bool) → Well old (cycleUnless false (not b) (not b′) f vs old (t .inputs) (t .new) (t .values))
@@ -387,7 +392,8 @@ module _ (f : File) (vs : List Value) (F : Facts f vs) where
       go (failedAt i) e k = (λ a. let z : _≡_ {A = ℕ} 0 1 = cc in absurd (omega arith), failed-kinds old (t .inputs) (h .well) gi (h .kinds))
       go (overflowedAt i) e k = (λ a. let z : _≡_ {A = ℕ} 0 1 = cc in absurd (omega arith), h .kinds)
 
-  cycle-right : (ld : Loader) (s : List ℕ) → judge ld s ≡ admitted f vs → (t : Turn) (old : List ℕ) → StateOk old → Right t old (cycle ld s old (t .inputs) (t .new) (t .values))
+  cycle-right : (ld : Loader) (s : List ℕ) → judge ld s ≡ admitted f vs → (t : Turn) (old : List ℕ) → StateOk old
+      → Right t old (cycle ld s old (t .inputs) (t .new) (t .values))
   cycle-right ld s e t old h = rw (cycle-is ld s e old (t .inputs) (t .new) (t .values) (h .well)) (go (goodInputs f (t .inputs)) refl (fits17 f (t .new) (t .values)))
     where
       go : (b : Bool) → goodInputs f (t .inputs) ≡ b → (b′ : Bool) → Right t old (cycleUnless false (not b) (not b′) f vs old (t .inputs) (t .new) (t .values))
@@ -407,11 +413,13 @@ module _ (f : File) (vs : List Value) (F : Facts f vs) where
   no-15 ld s e (t ∷ ts) old h = let w = cycle-well ld s e t old h in ((well-good h, w .0), no-15 ld s e ts _ (w .1))
 
   -- a cycle that is not refused leaves a well-formed state
-  pub not-refused : (ld : Loader) (s : List ℕ) → judge ld s ≡ admitted f vs → (old ins new vals : List ℕ) → ((x : Fault) → ¬ (cycle ld s old ins new vals .answer ≡ Cyc.Refused x)) → StateWell (cycle ld s old ins new vals .new)
+  pub not-refused : (ld : Loader) (s : List ℕ) → judge ld s ≡ admitted f vs → (old ins new vals : List ℕ)
+      → ((x : Fault) → ¬ (cycle ld s old ins new vals .answer ≡ Cyc.Refused x)) → StateWell (cycle ld s old ins new vals .new)
   unfolding cycle
   not-refused ld s e old ins new vals h = go (goodState f vs old) refl
     where
-      left : (a : Cycled) → ((x : Fault) → ¬ (a ≡ Cyc.Refused x)) → StateWell (nextState a old (cycle ld s old ins new vals .new)) → StateWell (cycle ld s old ins new vals .new)
+      left : (a : Cycled) → ((x : Fault) → ¬ (a ≡ Cyc.Refused x)) → StateWell (nextState a old (cycle ld s old ins new vals .new))
+          → StateWell (cycle ld s old ins new vals .new)
       left Cyc.Answered h w = w
       left (Cyc.Stopped x) h w = w
       left (Cyc.Refused x) h w = absurd (h x refl)

@@ -27,7 +27,8 @@ module _ {A : Type 0} where
   store-other (x ∷ xs) [] p d y h = refl
   store-other (x ∷ xs) (v ∷ vs) p d y h = store-other xs vs (set p x v) d y (λ m. h (there m)) ∙ getD-set-other p x y v d (λ e. h (here e))
 
-  pub store-read : (xs : List ℕ) (vs p : List A) (d : A) → Distinct xs → ((x : ℕ) → x ∈ xs → x < length p) → length vs ≡ length xs → map (λ x. getD (store xs vs p) x d) xs ≡ vs
+  pub store-read : (xs : List ℕ) (vs p : List A) (d : A) → Distinct xs → ((x : ℕ) → x ∈ xs → x < length p) → length vs ≡ length xs
+      → map (λ x. getD (store xs vs p) x d) xs ≡ vs
   unfolding store
   store-read [] [] p d u b e = refl
   store-read [] (v ∷ vs) p d u b e = absurd (omega arith)
