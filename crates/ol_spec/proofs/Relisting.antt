@@ -39,7 +39,7 @@ use Rattle.ol_spec.proofs.Admitted.{Facts, facts}
 use Rattle.ol_spec.proofs.Permutes.{perm-all, perm-length, listing}
 use Rattle.ol_spec.proofs.Other.{site-in, equation-other, fresh-other, calls-other}
 use Rattle.ol_spec.proofs.RelistAdmits.{ending, last-is, get-below, length-last, all-sizes, outs-same, state-same, relist-admits}
-use Rattle.ol_spec.proofs.States.{freshSeg, StateOk, start-ok, fresh-parts, begins, begin-kinds, counted, finishes, answered-ok, left-parts, given-back, made, refused-not, cycle-is}
+use Rattle.ol_spec.proofs.States.{freshSeg, StateOk, start-ok, fresh-parts, begins, begin-kinds, counted, finishes, answered-ok, answered-parts, given-back, made, refused-not, cycle-is}
 
 view-finished : (e : Ended) (n : Node) (g : Globals) (first : Bool) (before cs ps : List Value) (ss ms : List (List ℕ))
     → viewOn n g (calls g) first before e cs ss ≡ Y.finished ps ms → (e ≡ finished) × (cs ≡ ps) × (ss ≡ ms)
@@ -182,6 +182,13 @@ module _ (f : File) (os : List Node) (last : Node) (rs : List Equation) (p₀ : 
     fits-same t t′ l =
         λ i. eqb (l .new i) (state-same f os last rs p₀ i) && eqb (l .values i) (9 * length (variables-same i))
 
+    fresh-listed : map (freshSeg g2) (n2 .equations) ≡ listed (map (freshSeg g1) (n1 .equations))
+    fresh-listed =
+        relisted-each (A false []) to (map (freshSeg g1) (n1 .equations)) (map (freshSeg g2) (n2 .equations)) (length-map (n2 .equations) (freshSeg g2) ∙ equations-length) (λ i b.
+        List·getD-map (freshSeg g2) (n2 .equations) i noEquation ∙ ap (freshSeg g2) (at-same i)
+        ∙ ap concat (sym (map-cong _ _ (callees (equationAt n1 (to i) .rhs)) (λ c m. fresh-same c (site-in (n1 .equations) (to i) c m))))
+        ∙ sym (List·getD-map (freshSeg g1) (n1 .equations) (to i) noEquation))
+
     start-rel : Rel (freshState a1 vs) (freshState a2 vs)
     start-rel =
         let w1 = fresh-parts a1 vs F1 in
@@ -189,17 +196,15 @@ module _ (f : File) (os : List Node) (last : Node) (rs : List Equation) (p₀ : 
         record {
           ok1 = start-ok a1 vs F1;
           ok2 = start-ok a2 vs F2;
-          cellsSame = w2 .0 ∙ ap (λ xs. defaults (f .enums) xs) variables-same ∙ sym (w1 .0);
-          freshSame = w2 .1 ∙ sym (w1 .1);
-          segsSame = relisted-each (A false []) to (oldSegs g1 n1 (r1 (freshState a1 vs))) (oldSegs g2 n2 (r1 (freshState a2 vs))) (ap length (w2 .2) ∙ length-map (n2 .equations) (freshSeg g2) ∙ equations-length) (λ i b.
-              ap (λ l. getD l i []) (w2 .2) ∙ List·getD-map (freshSeg g2) (n2 .equations) i noEquation ∙ ap (freshSeg g2) (at-same i)
-              ∙ ap concat (sym (map-cong _ _ (callees (equationAt n1 (to i) .rhs)) (λ c m. fresh-same c (site-in (n1 .equations) (to i) c m))))
-              ∙ sym (ap (λ l. getD l (to i) []) (w1 .2) ∙ List·getD-map (freshSeg g1) (n1 .equations) (to i) noEquation));
+          cellsSame = w2 .cells ∙ ap (λ xs. defaults (f .enums) xs) variables-same ∙ sym (w1 .cells);
+          freshSame = w2 .first ∙ sym (w1 .first);
+          segsSame = w2 .segs ∙ fresh-listed ∙ ap listed (sym (w1 .segs));
         }
 
     -- ---- a cycle
 
-    module _ (old old′ ins : List ℕ) (rel : Rel old old′) (good1 : T (goodInputs a1 ins)) (good2 : T (goodInputs a2 ins)) (done : mainRun a1 vs old ins .end ≡ finished) (kinds : InKind a1 (mainRun a1 vs old ins .cells)) where
+    module _ (old old′ ins : List ℕ) (rel : Rel old old′) (good1 : T (goodInputs a1 ins)) (good2 : T (goodInputs a2 ins))
+        (done : mainRun a1 vs old ins .end ≡ finished) (kinds : InKind a1 (mainRun a1 vs old ins .cells)) where
       abbrev u1 : Run
       u1 = mainRun a1 vs old ins
 
@@ -235,14 +240,14 @@ module _ (f : File) (os : List Node) (last : Node) (rs : List Equation) (p₀ : 
 
       next-rel : Rel (take (headSize a1) old ++ startedRecord (u1 .cells) (u1 .segs)) (take (headSize a2) old′ ++ startedRecord (u2 .cells) (u2 .segs))
       next-rel =
-          let w1 = left-parts a1 vs F1 old ins (rel .ok1 .well) good1 in
-          let w2 = left-parts a2 vs F2 old′ ins (rel .ok2 .well) good2 in
+          let w1 = answered-parts a1 vs F1 old ins (rel .ok1 .well) good1 in
+          let w2 = answered-parts a2 vs F2 old′ ins (rel .ok2 .well) good2 in
           record {
             ok1 = answered-ok a1 vs F1 old ins (rel .ok1 .well) good1 kinds;
             ok2 = answered-ok a2 vs F2 old′ ins (rel .ok2 .well) good2 (subst (InKind a2) (sym (ran2 .1)) (kinds-same (u1 .cells) kinds));
-            cellsSame = w2 .0 ∙ ran2 .1 ∙ sym (w1 .0);
-            freshSame = w2 .1 ∙ sym (w1 .1);
-            segsSame = w2 .2 ∙ ran2 .2 ∙ ap listed (sym (w1 .2));
+            cellsSame = w2 .cells ∙ ran2 .1 ∙ sym (w1 .cells);
+            freshSame = w2 .first ∙ sym (w1 .first);
+            segsSame = w2 .segs ∙ ran2 .2 ∙ ap listed (sym (w1 .segs));
           }
 
     -- what is shown of each cycle

@@ -27,7 +27,7 @@ use Rattle.ol_spec.specs.declared.Value.the-variants as Val
 use Rattle.ol_spec.specs.declared.Fault.{Fault}
 use Rattle.ol_spec.specs.declared.Cycled.{Cycled}
 use Rattle.ol_spec.specs.declared.Cycled.the-variants as Cyc
-use Rattle.ol_spec.proofs.Tests.{T-and, and-T, T-true, true-T}
+use Rattle.ol_spec.proofs.Tests.{T-and, and-T, T-true, true-T, eq-eqb}
 use Rattle.ol_spec.proofs.Values.{Fine}
 use Rattle.ol_spec.proofs.Cells.{AllFine, good-fine, cells-back, cells-values, length-cells, same-refl, same-eq}
 use Rattle.ol_spec.proofs.Segments.{Rec}
@@ -95,8 +95,12 @@ cells-part vs (suc m) a b c e =
     let db = drop-append-le 9 a b h in
     let dc = drop-append-le 9 a c h in
     let w = cells-part vs m (drop 9 a) b c (length-drop 9 a ∙ omega arith) in (
-      ap₂ (λ x y. goodCell vs x && goodCells vs m y) tb db ∙ ap (λ y. goodCell vs (take 9 a) && y) (w .0) ∙ sym (ap₂ (λ x y. goodCell vs x && goodCells vs m y) tc dc),
-      ap₂ {C = List Value} (λ x y. valueOf x ∷ valuesOf m y) tb db ∙ ap {B = List Value} (λ y. valueOf (take 9 a) ∷ y) (w .1) ∙ sym (ap₂ {C = List Value} (λ x y. valueOf x ∷ valuesOf m y) tc dc),
+      ap₂ (λ x y. goodCell vs x && goodCells vs m y) tb db
+          ∙ ap (λ y. goodCell vs (take 9 a) && y) (w .0)
+          ∙ sym (ap₂ (λ x y. goodCell vs x && goodCells vs m y) tc dc),
+      ap₂ {C = List Value} (λ x y. valueOf x ∷ valuesOf m y) tb db
+          ∙ ap {B = List Value} (λ y. valueOf (take 9 a) ∷ y) (w .1)
+          ∙ sym (ap₂ {C = List Value} (λ x y. valueOf x ∷ valuesOf m y) tc dc),
     )
 
 own-part : (g : Globals) (n : Node) (a b c : List ℕ) → length a ≡ ownSize n
@@ -163,7 +167,7 @@ module _ (f : File) (vs : List Value) (F : Facts f vs) where
   unfolding goodState
   well-good {old} h =
       T-true _ (and-T (eqb (length old) (stateSize f) && same (take (headSize f) old) (cells vs)) _
-      (and-T (eqb (length old) (stateSize f)) _ (subst (λ m. T (eqb (length old) m)) (h .sized) (eqb-refl (length old))) (subst (λ l. T (same l (cells vs))) (sym (h .head)) (same-refl (cells vs))))
+      (and-T (eqb (length old) (stateSize f)) _ (eq-eqb _ _ (h .sized)) (subst (λ l. T (same l (cells vs))) (sym (h .head)) (same-refl (cells vs))))
       (and-T (goodOwn g n (drop (headSize f) old)) _ (h .inst .own) (h .inst .inner)))
 
   pub good-well : {old : List ℕ} → goodState f vs old ≡ true → StateWell old
@@ -174,7 +178,11 @@ module _ (f : File) (vs : List Value) (F : Facts f vs) where
       let u = T-and (eqb (length old) (stateSize f)) _ (w .0) in
       let v = T-and (goodOwn g n rest) _ (w .1) in
       let sized : length old ≡ stateSize f = eqb→eq (length old) (stateSize f) (u .0) in
-      record { sized = sized; head = same-eq (take (headSize f) old) (cells vs) (u .1); inst = record { sized = length-drop (headSize f) old ∙ omega arith; own = v .0; inner = v .1 } }
+      record {
+        sized = sized;
+        head = same-eq (take (headSize f) old) (cells vs) (u .1);
+        inst = record { sized = length-drop (headSize f) old ∙ omega arith; own = v .0; inner = v .1 };
+      }
 
   head-length : length (cells vs) ≡ headSize f
   head-length = length-cells vs ∙ ap (λ m. 9 * m) (F .constantCount)
@@ -189,8 +197,21 @@ module _ (f : File) (vs : List Value) (F : Facts f vs) where
         inst = subst Inst (sym (drop-at (cells vs) r (headSize f) head-length)) i;
       }
 
-  ok-kinds : (r : List ℕ) → InKind f (oldCells n r) → InKind f (oldCells n (drop (headSize f) (cells vs ++ r)))
-  ok-kinds r k = subst (λ l. InKind f (oldCells n l)) (sym (drop-at (cells vs) r (headSize f) head-length)) k
+  -- what stands in a state: the main cells, whether the main instance is fresh, and the main equations' segments
+  pub record Parts (st : List ℕ) (cs : List Value) (b : Bool) (ss : List (List ℕ)) : Type 0 where
+    pub cells : oldCells n (drop (headSize f) st) ≡ cs
+    pub first : isFresh (drop (headSize f) st) ≡ b
+    pub segs : oldSegs g n (drop (headSize f) st) ≡ ss
+
+  parts-of : (b : ℕ) (cs : List Value) (ss : List (List ℕ)) → AllFine (concat (f .enums)) cs → length cs ≡ length (variables n) → Segs g p (n .equations) ss
+      → Parts (cells vs ++ (b ∷ cells cs ++ concat ss)) cs (eqb b 0) ss
+  parts-of b cs ss fine e h =
+      let q = drop-at (cells vs) (b ∷ cells cs ++ concat ss) (headSize f) head-length in
+      record {
+        cells = ap (oldCells n) q ∙ ap (λ m. valuesOf m (cells cs ++ concat ss)) (sym e) ∙ cells-back (concat (f .enums)) cs (concat ss) fine;
+        first = ap isFresh q;
+        segs = ap (oldSegs g n) q ∙ ap (split g (n .equations)) (drop-at (b ∷ cells cs) (concat ss) (ownSize n) (omega (arith, length-cells cs))) ∙ split-concat g p (n .equations) ss h;
+      }
 
   -- ---- the start
 
@@ -200,42 +221,29 @@ module _ (f : File) (vs : List Value) (F : Facts f vs) where
   fresh-cells : AllFine (concat (f .enums)) (defaults (f .enums) (variables n))
   fresh-cells = subst (λ m. AllFine (concat (f .enums)) (defaults (f .enums) (variables m))) (sym is-main) (F .callable .fresh-fine K)
 
-  pub start-ok : StateOk (freshState f vs)
-  unfolding freshState
-  start-ok =
-      let ds = defaults (f .enums) (variables n) in
-      let rest = concat (map (freshAt g (length (f .nodes))) (sites n)) in
-      record {
-        well = well-parts (freshRecord g n) fresh-inst;
-        kinds = ok-kinds (freshRecord g n)
-            (ap (map tag) (ap (λ m. valuesOf m (cells ds ++ rest)) (sym (length-map (variables n) (defaultOf (f .enums)))) ∙ cells-back (concat (f .enums)) ds rest fresh-cells) ∙ default-tags (f .enums) (variables n));
-      }
-
-  -- the parts of the fresh state
-  pub fresh-parts : let r = drop (headSize f) (freshState f vs) in
-      (oldCells n r ≡ defaults (f .enums) (variables n)) × (isFresh r ≡ true) × (oldSegs g n r ≡ map (freshSeg g) (n .equations))
-  unfolding freshState
-  fresh-parts =
-      let ds = defaults (f .enums) (variables n) in
-      let rest = concat (map (freshAt g (length (f .nodes))) (sites n)) in
-      let e : drop (headSize f) (cells vs ++ freshRecord g n) ≡ freshRecord g n = drop-at (cells vs) (freshRecord g n) (headSize f) head-length in
-      let len : length ds ≡ length (variables n) = length-map (variables n) (defaultOf (f .enums)) in
-      let q = freshAt g (length (f .nodes)) in (
-        ap (oldCells n) e ∙ ap (λ m. valuesOf m (cells ds ++ rest)) (sym len) ∙ cells-back (concat (f .enums)) ds rest fresh-cells,
-        ap isFresh e,
-        ap (oldSegs g n) e ∙ ap (split g (n .equations)) (drop-at (0 ∷ cells ds) rest (ownSize n) (omega (arith, length-cells ds)) ∙ sym (fresh-concat g (n .equations)))
-            ∙ split-concat g p (n .equations) (map (freshSeg g) (n .equations)) (fresh-segs (n .equations) (λ c m. fresh-rec (F .callable) (length (f .nodes)) c (low c m) (low c m))),
-      )
+  fresh-segs : Segs g p (n .equations) (map (freshSeg g) (n .equations))
+  fresh-segs = go (n .equations) (λ c m. fresh-rec (F .callable) (length (f .nodes)) c (low c m) (low c m))
     where
       low : (c : ℕ) → c ∈ sites n → c < length (f .nodes)
       low c m = omega (arith, F .callable .lower K c (subst (λ x. c ∈ sites x) is-main m), F .some-node)
 
-      fresh-segs : (qs : List Equation) → ((c : ℕ) → c ∈ concat (map equationSites qs) → Rec g p c (freshAt g (length (f .nodes)) c)) → Segs g p qs (map (freshSeg g) qs)
-      fresh-segs [] h = tt
-      fresh-segs (x ∷ qs) h = (
+      go : (qs : List Equation) → ((c : ℕ) → c ∈ concat (map equationSites qs) → Rec g p c (freshAt g (length (f .nodes)) c)) → Segs g p qs (map (freshSeg g) qs)
+      go [] h = tt
+      go (x ∷ qs) h = (
         fresh-sites (F .callable) (freshAt g (length (f .nodes))) (callees (x .rhs)) (λ c m. h c (in-left (concat (map equationSites qs)) m)),
-        fresh-segs qs (λ c m. h c (in-right (callees (x .rhs)) m)),
+        go qs (λ c m. h c (in-right (callees (x .rhs)) m)),
       )
+
+  pub fresh-parts : Parts (freshState f vs) (defaults (f .enums) (variables n)) true (map (freshSeg g) (n .equations))
+  unfolding freshState
+  fresh-parts =
+      let ds = defaults (f .enums) (variables n) in
+      subst (λ l. Parts (cells vs ++ (0 ∷ cells ds ++ l)) ds true (map (freshSeg g) (n .equations))) (fresh-concat g (n .equations))
+      (parts-of 0 ds (map (freshSeg g) (n .equations)) fresh-cells (length-map (variables n) (defaultOf (f .enums))) fresh-segs)
+
+  pub start-ok : StateOk (freshState f vs)
+  unfolding freshState
+  start-ok = record { well = well-parts (freshRecord g n) fresh-inst; kinds = ap (map tag) (fresh-parts .cells) ∙ default-tags (f .enums) (variables n) }
 
   -- ---- a cycle
 
@@ -246,16 +254,18 @@ module _ (f : File) (vs : List Value) (F : Facts f vs) where
     abbrev ws : List Value
     ws = valuesOf (length (n .inputs)) ins
 
+    abbrev u : Run
+    u = mainRun f vs old ins
+
     each : T (goodEach (f .enums) (n .inputs) ins)
     unfolding goodInputs
     each = T-and (eqb (length ins) (9 * length (n .inputs))) _ good-ins .1
 
-    ws-fine : AllFine (concat (f .enums)) ws
-    ws-fine = each-fine (f .enums) (F .callable .short) (n .inputs) ins each
-
-    ran : RunGood (Fine (concat (f .enums))) g p n (length (variables n)) (mainRun f vs old ins)
+    ran : RunGood (Fine (concat (f .enums))) g p n (length (variables n)) u
     unfolding mainRun
-    ran = run-meets (calls-sound (F .callable) (length (f .nodes))) n plain-main ws rec ws-fine (length-values (length (n .inputs)) ins) (old-fine (F .callable .short) (h .inst)) (inner-good (h .inst))
+    ran =
+        let fine = each-fine (f .enums) (F .callable .short) (n .inputs) ins each in
+        run-meets (calls-sound (F .callable) (length (f .nodes))) n plain-main ws rec fine (length-values (length (n .inputs)) ins) (old-fine (F .callable .short) (h .inst)) (inner-good (h .inst))
 
     pub begins : length (begin f vs (F .mainly) old ws) ≡ length (variables n)
     begins = start-length n ws rec (length-values (length (n .inputs)) ins)
@@ -264,84 +274,73 @@ module _ (f : File) (vs : List Value) (F : Facts f vs) where
     begin-kinds hk =
         let ks : Variable → ℕ = λ v. kind (f .enums) (v .ty) in
         let is = n .inputs in
-        let os = n .outputs in
-        let ls = n .locals in
-        let all : map ks (variables n) ≡ map ks is ++ map ks (os ++ ls) = ap (map ks) (append-assoc is os ls) ∙ map-append ks is (os ++ ls) in
-        map-append tag ws (drop (length is) (oldCells n rec))
-        ∙ ap₂ _++_ (each-tags (f .enums) is ins each) (map-drop tag (length is) (oldCells n rec) ∙ ap (drop (length is)) (hk ∙ all) ∙ drop-at (map ks is) (map ks (os ++ ls)) (length is) (length-map is ks))
-        ∙ sym all
+        let rest = n .outputs ++ n .locals in
+        let all : map ks (variables n) ≡ map ks is ++ map ks rest = ap (map ks) (append-assoc is (n .outputs) (n .locals)) ∙ map-append ks is rest in
+        let others : map tag (drop (length is) (oldCells n rec)) ≡ map ks rest =
+        map-drop tag (length is) (oldCells n rec) ∙ ap (drop (length is)) (hk ∙ all) ∙ drop-at (map ks is) (map ks rest) (length is) (length-map is ks) in
+        map-append tag ws (drop (length is) (oldCells n rec)) ∙ ap₂ _++_ (each-tags (f .enums) is ins each) others ∙ sym all
 
     pub counted : length (oldSegs g n rec) ≡ length (n .equations)
     counted = segs-length g p (n .equations) _ (split-segs g p (n .equations) _ (inner-good (h .inst)))
 
     -- a finished run, as the theory has it
-    pub finishes : mainRun f vs old ins .end ≡ finished
-        → Y.runEqs (sys f vs (F .mainly) old) (order (n .equations)) (begin f vs (F .mainly) old ws) (oldSegs g n rec) ≡ Y.finished (mainRun f vs old ins .cells) (mainRun f vs old ins .segs)
+    pub finishes : u .end ≡ finished → Y.runEqs (sys f vs (F .mainly) old) (order (n .equations)) (begin f vs (F .mainly) old ws) (oldSegs g n rec) ≡ Y.finished (u .cells) (u .segs)
     unfolding mainRun run
-    finishes e =
-        sym (run-theory f vs (F .mainly) old ws) ∙ ap (λ x. viewOn n g (calls g) (isFresh rec) (oldCells n rec) x (mainRun f vs old ins .cells) (mainRun f vs old ins .segs)) e
+    finishes e = sym (run-theory f vs (F .mainly) old ws) ∙ ap (λ x. viewOn n g (calls g) (isFresh rec) (oldCells n rec) x (u .cells) (u .segs)) e
 
-    -- an answered cycle
-    pub new-cells : InKind f (oldCells n rec) → mainRun f vs old ins .end ≡ finished → InKind f (mainRun f vs old ins .cells)
-        → Solves f vs old ws (mainRun f vs old ins .cells)
-    new-cells hk e k =
-        solves f vs (F .mainly) old ws (length-values (length (n .inputs)) ins) begins (begin-kinds hk) counted (mainRun f vs old ins .cells) (mainRun f vs old ins .segs) (finishes e) k
+    new-cells : InKind f (oldCells n rec) → u .end ≡ finished → InKind f (u .cells) → Solves f vs old ws (u .cells)
+    new-cells hk e k = solves f vs (F .mainly) old ws (length-values (length (n .inputs)) ins) begins (begin-kinds hk) counted (u .cells) (u .segs) (finishes e) k
 
-    pub given-back : valuesOf (length (variables n)) (cells (mainRun f vs old ins .cells)) ≡ mainRun f vs old ins .cells
-    given-back =
-        let cs = mainRun f vs old ins .cells in
-        ap (λ m. valuesOf m (cells cs)) (sym (ran .counted)) ∙ cells-values (concat (f .enums)) cs (ran .fine)
+    pub given-back : valuesOf (length (variables n)) (cells (u .cells)) ≡ u .cells
+    given-back = ap (λ m. valuesOf m (cells (u .cells))) (sym (ran .counted)) ∙ cells-values (concat (f .enums)) (u .cells) (ran .fine)
 
-    answered-well : StateWell (take (headSize f) old ++ startedRecord (mainRun f vs old ins .cells) (mainRun f vs old ins .segs))
-    answered-well =
-        let u = mainRun f vs old ins in
-        subst (λ l. StateWell (l ++ startedRecord (u .cells) (u .segs))) (sym (h .head)) (well-parts (startedRecord (u .cells) (u .segs)) (started-instance u ran))
+    -- the state that an answered cycle leaves
+    abbrev answered : List ℕ
+    answered = take (headSize f) old ++ startedRecord (u .cells) (u .segs)
 
-    -- the parts of the state that it leaves
-    left-rec : (cs : List Value) (ss : List (List ℕ)) → drop (headSize f) (take (headSize f) old ++ startedRecord cs ss) ≡ startedRecord cs ss
-    left-rec cs ss = ap (λ l. drop (headSize f) (l ++ startedRecord cs ss)) (h .head) ∙ drop-at (cells vs) (startedRecord cs ss) (headSize f) head-length
+    answered-well : StateWell answered
+    answered-well = subst (λ l. StateWell (l ++ startedRecord (u .cells) (u .segs))) (sym (h .head)) (well-parts (startedRecord (u .cells) (u .segs)) (started-instance u ran))
 
-    pub left-parts : let r = drop (headSize f) (take (headSize f) old ++ startedRecord (mainRun f vs old ins .cells) (mainRun f vs old ins .segs)) in
-        (oldCells n r ≡ mainRun f vs old ins .cells) × (isFresh r ≡ false) × (oldSegs g n r ≡ mainRun f vs old ins .segs)
-    left-parts =
-        let cs = mainRun f vs old ins .cells in
-        let ss = mainRun f vs old ins .segs in
-        let e = left-rec cs ss in (
-          ap (oldCells n) e ∙ ap (λ m. valuesOf m (cells cs ++ concat ss)) (sym (ran .counted)) ∙ cells-back (concat (f .enums)) cs (concat ss) (ran .fine),
-          ap isFresh e,
-          ap (oldSegs g n) e ∙ ap (split g (n .equations)) (drop-at (1 ∷ cells cs) (concat ss) (ownSize n) (omega (arith, length-cells cs, ran .counted))) ∙ split-concat g p (n .equations) ss (ran .segs),
-        )
+    pub answered-parts : Parts answered (u .cells) false (u .segs)
+    answered-parts = subst (λ l. Parts (l ++ startedRecord (u .cells) (u .segs)) (u .cells) false (u .segs)) (sym (h .head)) (parts-of 1 (u .cells) (u .segs) (ran .fine) (ran .counted) (ran .segs))
 
-    own-length : length (take (ownSize n) rec) ≡ ownSize n
+    pub answered-ok : InKind f (u .cells) → StateOk answered
+    answered-ok k = record { well = answered-well; kinds = ap (map tag) (answered-parts .cells) ∙ k }
+
+    -- the state that a cycle leaves where evaluation fails: the record's own part is the old one
+    abbrev failed : List ℕ
+    failed = take (headSize f + ownSize n) old ++ concat (u .segs)
+
+    abbrev own : List ℕ
+    own = take (ownSize n) rec
+
+    own-length : length own ≡ ownSize n
     own-length = length-take-le (ownSize n) rec (omega (arith, h .inst .sized))
 
-    pub answered-ok : InKind f (mainRun f vs old ins .cells) → StateOk (take (headSize f) old ++ startedRecord (mainRun f vs old ins .cells) (mainRun f vs old ins .segs))
-    answered-ok k = record { well = answered-well; kinds = ap (map tag) (left-parts .0) ∙ k }
+    own-kept : (T (goodOwn g n rec) → T (goodOwn g n (own ++ concat (u .segs)))) × (oldCells n rec ≡ oldCells n (own ++ concat (u .segs)))
+    own-kept =
+        subst (λ l. (T (goodOwn g n l) → T (goodOwn g n (own ++ concat (u .segs)))) × (oldCells n l ≡ oldCells n (own ++ concat (u .segs)))) (take-append-drop (ownSize n) rec)
+        (own-part g n own (drop (ownSize n) rec) (concat (u .segs)) own-length)
 
-    failed-parts : let ss = mainRun f vs old ins .segs in take (headSize f + ownSize n) old ++ concat ss ≡ cells vs ++ (take (ownSize n) rec ++ concat ss)
-    failed-parts =
-        let ss = mainRun f vs old ins .segs in
-        ap (λ l. l ++ concat ss) (take-add (headSize f) (ownSize n) old ∙ ap (λ l. l ++ take (ownSize n) rec) (h .head)) ∙ append-assoc (cells vs) (take (ownSize n) rec) (concat ss)
+    failed-is : failed ≡ cells vs ++ (own ++ concat (u .segs))
+    failed-is =
+        ap (λ l. l ++ concat (u .segs)) (take-add (headSize f) (ownSize n) old ∙ ap (λ l. l ++ own) (h .head)) ∙ append-assoc (cells vs) own (concat (u .segs))
 
-    own-kept : let ss = mainRun f vs old ins .segs in (T (goodOwn g n (take (ownSize n) rec ++ drop (ownSize n) rec)) → T (goodOwn g n (take (ownSize n) rec ++ concat ss))) × (oldCells n (take (ownSize n) rec ++ drop (ownSize n) rec) ≡ oldCells n (take (ownSize n) rec ++ concat ss))
-    own-kept = own-part g n (take (ownSize n) rec) (drop (ownSize n) rec) (concat (mainRun f vs old ins .segs)) own-length
-
-    failed-well : StateWell (take (headSize f + ownSize n) old ++ concat (mainRun f vs old ins .segs))
+    failed-well : StateWell failed
     failed-well =
-        let ss = mainRun f vs old ins .segs in
-        let a = take (ownSize n) rec in
-        let gs = segs-concat g p (n .equations) ss (ran .segs) in
-        subst StateWell (sym failed-parts)
-        (well-parts (a ++ concat ss)
+        let gs = segs-concat g p (n .equations) (u .segs) (ran .segs) in
+        subst StateWell (sym failed-is)
+        (well-parts (own ++ concat (u .segs))
         (record {
-          sized = length-append a (concat ss) ∙ ap₂ _+_ own-length (gs .sized);
-          own = own-kept .0 (subst (λ l. T (goodOwn g n l)) (sym (take-append-drop (ownSize n) rec)) (h .inst .own));
-          inner = subst (λ l. T (goodSites g p (sites n) l)) (sym (drop-at a (concat ss) (ownSize n) own-length)) (gs .good);
+          sized = length-append own (concat (u .segs)) ∙ ap₂ _+_ own-length (gs .sized);
+          own = own-kept .0 (h .inst .own);
+          inner = subst (λ l. T (goodSites g p (sites n) l)) (sym (drop-at own (concat (u .segs)) (ownSize n) own-length)) (gs .good);
         }))
 
-    failed-kinds : InKind f (oldCells n rec) → InKind f (oldCells n (drop (headSize f) (take (headSize f + ownSize n) old ++ concat (mainRun f vs old ins .segs))))
+    failed-kinds : InKind f (oldCells n rec) → InKind f (oldCells n (drop (headSize f) failed))
     failed-kinds hk =
-        subst (λ l. InKind f (oldCells n (drop (headSize f) l))) (sym failed-parts) (ok-kinds _ (ap (map tag) (sym (own-kept .1) ∙ ap (oldCells n) (take-append-drop (ownSize n) rec)) ∙ hk))
+        ap (λ l. map tag (oldCells n (drop (headSize f) l))) failed-is
+        ∙ ap (λ l. map tag (oldCells n l)) (drop-at (cells vs) (own ++ concat (u .segs)) (headSize f) head-length) ∙ ap (map tag) (sym (own-kept .1)) ∙ hk
 
   -- ---- a cycle of a list
 
@@ -376,7 +375,8 @@ module _ (f : File) (vs : List Value) (F : Facts f vs) where
   -- where the kinds are kept, an answered cycle's values solve the equations
   abbrev Right : Turn → List ℕ → CycleCall → Type 0
   Right t old c =
-      KeepsKinds f (made t old c) → (Answered (made t old c) → Solves f vs old (lent f (made t old c)) (given f (made t old c))) × InKind f (oldCells n (drop (headSize f) (nextState (c .answer) old (c .new))))
+      let m = made t old c in
+      KeepsKinds f m → (Answered m → Solves f vs old (lent f m) (given f m)) × InKind f (oldCells n (drop (headSize f) (nextState (c .answer) old (c .new))))
 
   run-right : (t : Turn) (old : List ℕ) → StateOk old → T (goodInputs f (t .inputs)) → Right t old (endRun f old (t .values) (mainRun f vs old (t .inputs)))
   run-right t old h gi = go (mainRun f vs old (t .inputs) .end) refl
@@ -388,7 +388,8 @@ module _ (f : File) (vs : List Value) (F : Facts f vs) where
       go finished e k =
           let back = given-back old (t .inputs) (h .well) gi in
           let ks = subst (InKind f) back (k refl) in
-          (λ a. subst (Solves f vs old (valuesOf (length (n .inputs)) (t .inputs))) (sym back) (new-cells old (t .inputs) (h .well) gi (h .kinds) e ks), answered-ok old (t .inputs) (h .well) gi ks .kinds)
+          let cs = new-cells old (t .inputs) (h .well) gi (h .kinds) e ks in
+          (λ a. subst (Solves f vs old (valuesOf (length (n .inputs)) (t .inputs))) (sym back) cs, answered-ok old (t .inputs) (h .well) gi ks .kinds)
       go (failedAt i) e k = (λ a. let z : _≡_ {A = ℕ} 0 1 = cc in absurd (omega arith), failed-kinds old (t .inputs) (h .well) gi (h .kinds))
       go (overflowedAt i) e k = (λ a. let z : _≡_ {A = ℕ} 0 1 = cc in absurd (omega arith), h .kinds)
 
@@ -426,7 +427,9 @@ module _ (f : File) (vs : List Value) (F : Facts f vs) where
 
       go : (b : Bool) → goodState f vs old ≡ b → StateWell (cycle ld s old ins new vals .new)
       go true q = left (cycle ld s old ins new vals .answer) h (cycle-well ld s e (record { inputs = ins; new = new; values = vals }) old (good-well q) .1)
-      go false q = absurd (h (faultAt 15 0) (ap (λ j. cycleJudged j old ins new vals .answer) e ∙ ap (λ b. cycleUnless (not b) (not (goodInputs f ins)) (not (fits17 f new vals)) f vs old ins new vals .answer) q))
+      go false q =
+          absurd (h (faultAt 15 0)
+          (ap (λ j. cycleJudged j old ins new vals .answer) e ∙ ap (λ b. cycleUnless (not b) (not (goodInputs f ins)) (not (fits17 f new vals)) f vs old ins new vals .answer) q))
 
 pub solution-claim : (ld : Loader) → SolutionClaim ld
 unfolding SolutionClaim
