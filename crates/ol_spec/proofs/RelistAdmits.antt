@@ -12,21 +12,21 @@ use Rattle.ol_theory.specs.Member.{_∈_, Distinct}
 use Rattle.ol_theory.proofs.OrderProof.{ring-map}
 use Rattle.ol_spec.specs.Lists.{concat, member, orElse, maybe}
 use Rattle.ol_spec.specs.Syntax.{NodeKind, Function, Operator, Imported, Expr, boolLit, intLit, floatLit, charLit, var, unary, binary, ifThenElse, pre}
-use Rattle.ol_spec.specs.Syntax.{arrow, cast, call, tuple, Exprs, nil, cons, Rhs, items, outputsOf, one, rhsOf, nameOf, Equation, Node}
+use Rattle.ol_spec.specs.Syntax.{arrow, cast, call, tuple, Exprs, nil, cons, Rhs, items, outputsOf, one, rhsOf, nameOf, nameIn, Equation, Node}
 use Rattle.ol_spec.specs.Syntax.{Constant, File, noNode, lastOf, variableNames}
-use Rattle.ol_spec.specs.Places.{exprSize, tySize, nodeSize, equationSize, placed, placedNodes, placedConstants, placedEquations, placedNames, rhsPlace}
+use Rattle.ol_spec.specs.Places.{placedEnums, exprSize, tySize, nodeSize, equationSize, placed, placedNodes, placedConstants, placedEquations, placedNames, rhsPlace}
 use Rattle.ol_spec.specs.Places.{collect, collectAll, nodesStart, mainPlace}
 use Rattle.ol_spec.specs.Read.{readFile, got}
 use Rattle.ol_spec.specs.Limits.{Loader}
 use Rattle.ol_spec.specs.Order.{reads, definerFrom, unplaced, Ring}
 use Rattle.ol_spec.specs.Step.{siteSizeBy, siteSize, noSize, sizesAt, instanceSize, globals, ownSize}
-use Rattle.ol_spec.specs.Admission.{Item, first, numbered, variants, constantNames, nodeDeclares, enumDeclares, clashes, fault6, unseenItem, usedAt, used, constantUses, equationUses, nodeUses, fault7, nodeDefines, fault8, inConstant, inEquation, inNode, mayCall, callItem, callsWhere, badCall, nodeCalls, fault9, arity, severalIn, shapeItem, equationShape, nodeShape, fault10, placeAt, ringIn, firstSome, fault11, all, noCalls, noVariables, afterConstant, constantsFrom, constants, headSize, stateSize, atMain, fault13, isOperator, fault14}
+use Rattle.ol_spec.specs.Admission.{Item, constant, declaredAs, placedConstantName, first, numbered, variants, constantNames, nodeDeclares, enumDeclares, clashes, fault6, unseenItem, usedAt, constantUses, equationUses, nodeUses, fault7, nodeDefines, fault8, inConstant, inEquation, inNode, mayCall, callItem, callsWhere, badCall, nodeCalls, fault9, arity, shapeItem, equationShape, nodeShape, fault10, placeAt, ringIn, firstSome, fault11, all, noCalls, noVariables, afterConstant, constantsFrom, constants, headSize, stateSize, atMain, fault13, isOperator, fault14}
 use Rattle.ol_spec.specs.Demand3.{Permuted, withEquations, withNodes}
 use Rattle.ol_spec.specs.declared.Value.{Value}
 use Rattle.ol_spec.proofs.Tests.{member-in}
 use Rattle.ol_spec.proofs.Ordering.{depsOf, in-deps, deps-in, later-cases, ring-theory, theory-ring, Placed, placed-or-stuck}
 use Rattle.ol_spec.proofs.Lists.{All}
-use Rattle.ol_spec.proofs.Admits.{Admits, Clean, first-clean, clean-first, clean-parts, clean-join, clean-each, each-clean, all-placed}
+use Rattle.ol_spec.proofs.Admits.{Admits, Clean, first-clean, clean-first, clean-parts, clean-join, each-clean, equation-clean}
 use Rattle.ol_spec.proofs.MainFacts.{namesOf, defines-fresh, fresh-defines}
 use Rattle.ol_spec.proofs.MainSystem.{namesAt, definer-is}
 use Rattle.ol_spec.proofs.OneCycle.{MainOk}
@@ -36,119 +36,94 @@ use Rattle.ol_spec.proofs.Other.{eval-other}
 
 -- ---- places do not matter
 
-abbrev flags : {A : Type 0} → List (ℕ × A) → List A
-flags [] = []
-flags (x ∷ xs) = x .1 ∷ flags xs
+-- the same items at other places
+data Moved {A : Type 0} : List (ℕ × A) → List (ℕ × A) → Type 0 where
+  nothing : Moved [] []
+  item : {at at′ : ℕ} {x : A} {a b : List (ℕ × A)} → Moved a b → Moved ((at, x) ∷ a) ((at′, x) ∷ b)
 
-flags-append : {A : Type 0} (a b : List (ℕ × A)) → flags (a ++ b) ≡ flags a ++ flags b
-flags-append [] b = refl
-flags-append {A} (x ∷ a) b = ap {B = List A} (λ l. x .1 ∷ l) (flags-append a b)
+join : {A : Type 0} {a a′ b b′ : List (ℕ × A)} → Moved a a′ → Moved b b′ → Moved (a ++ b) (a′ ++ b′)
+join nothing h = h
+join (item m) h = item (join m h)
 
-flags-join : {A : Type 0} (a a′ b b′ : List (ℕ × A)) → flags a ≡ flags a′ → flags b ≡ flags b′ → flags (a ++ b) ≡ flags (a′ ++ b′)
-flags-join a a′ b b′ e h = flags-append a b ∙ ap₂ _++_ e h ∙ sym (flags-append a′ b′)
+behind-first : {A : Type 0} {a b : List (ℕ × A)} → Moved a b → Moved (drop 1 a) (drop 1 b)
+behind-first nothing = nothing
+behind-first (item m) = m
 
-module _ {A : Type 0} (f : ℕ → Expr → List (ℕ × A)) (still : (at at′ : ℕ) (e : Expr) → flags (f at e) ≡ flags (f at′ e)) where
+clean-moved : {is js : List Item} → Moved is js → Clean is → Clean js
+clean-moved nothing c = tt
+clean-moved (item m) c = (c .0, clean-moved m (c .1))
+
+module _ {A : Type 0} (f : ℕ → Expr → List (ℕ × A)) (still : (at at′ : ℕ) (e : Expr) → Moved (f at e) (f at′ e)) where
   mutual
     unfolding collect
 
-    collect-still : (at at′ : ℕ) (e : Expr) → flags (collect f at e) ≡ flags (collect f at′ e)
+    collect-still : (at at′ : ℕ) (e : Expr) → Moved (collect f at e) (collect f at′ e)
     collect-still at at′ (boolLit b) = still at at′ (boolLit b)
     collect-still at at′ (intLit i) = still at at′ (intLit i)
     collect-still at at′ (floatLit b) = still at at′ (floatLit b)
     collect-still at at′ (charLit c) = still at at′ (charLit c)
     collect-still at at′ (var x) = still at at′ (var x)
-    collect-still at at′ (unary op e) = flags-join (f at (unary op e)) (f at′ (unary op e)) _ _ (still at at′ (unary op e)) (collect-still (at + 2) (at′ + 2) e)
+    collect-still at at′ (unary op e) = join (still at at′ (unary op e)) (collect-still (at + 2) (at′ + 2) e)
     collect-still at at′ (binary op l r) =
-        flags-join (f at (binary op l r)) (f at′ (binary op l r)) _ _ (still at at′ (binary op l r))
-        (flags-join (collect f (at + 2) l) (collect f (at′ + 2) l) _ _ (collect-still (at + 2) (at′ + 2) l) (collect-still (at + 2 + exprSize l) (at′ + 2 + exprSize l) r))
+        join (still at at′ (binary op l r)) (join (collect-still (at + 2) (at′ + 2) l) (collect-still (at + 2 + exprSize l) (at′ + 2 + exprSize l) r))
     collect-still at at′ (ifThenElse c t e) =
-        flags-join (f at (ifThenElse c t e)) (f at′ (ifThenElse c t e)) _ _ (still at at′ (ifThenElse c t e))
-        (flags-join (collect f (at + 1) c) (collect f (at′ + 1) c) _ _ (collect-still (at + 1) (at′ + 1) c)
-        (flags-join (collect f (at + 1 + exprSize c) t) (collect f (at′ + 1 + exprSize c) t) _ _ (collect-still (at + 1 + exprSize c) (at′ + 1 + exprSize c) t) (collect-still (at + 1 + exprSize c + exprSize t) (at′ + 1 + exprSize c + exprSize t) e)))
-    collect-still at at′ (pre e) = flags-join (f at (pre e)) (f at′ (pre e)) _ _ (still at at′ (pre e)) (collect-still (at + 1) (at′ + 1) e)
+        join (still at at′ (ifThenElse c t e)) (join (collect-still (at + 1) (at′ + 1) c)
+        (join (collect-still (at + 1 + exprSize c) (at′ + 1 + exprSize c) t) (collect-still (at + 1 + exprSize c + exprSize t) (at′ + 1 + exprSize c + exprSize t) e)))
+    collect-still at at′ (pre e) = join (still at at′ (pre e)) (collect-still (at + 1) (at′ + 1) e)
     collect-still at at′ (arrow a b) =
-        flags-join (f at (arrow a b)) (f at′ (arrow a b)) _ _ (still at at′ (arrow a b))
-        (flags-join (collect f (at + 1) a) (collect f (at′ + 1) a) _ _ (collect-still (at + 1) (at′ + 1) a) (collect-still (at + 1 + exprSize a) (at′ + 1 + exprSize a) b))
-    collect-still at at′ (cast t e) = flags-join (f at (cast t e)) (f at′ (cast t e)) _ _ (still at at′ (cast t e)) (collect-still (at + 1 + tySize t) (at′ + 1 + tySize t) e)
-    collect-still at at′ (call k es) = flags-join (f at (call k es)) (f at′ (call k es)) _ _ (still at at′ (call k es)) (all-still (at + 3) (at′ + 3) es)
-    collect-still at at′ (tuple es) = flags-join (f at (tuple es)) (f at′ (tuple es)) _ _ (still at at′ (tuple es)) (all-still (at + 2) (at′ + 2) es)
+        join (still at at′ (arrow a b)) (join (collect-still (at + 1) (at′ + 1) a) (collect-still (at + 1 + exprSize a) (at′ + 1 + exprSize a) b))
+    collect-still at at′ (cast t e) = join (still at at′ (cast t e)) (collect-still (at + 1 + tySize t) (at′ + 1 + tySize t) e)
+    collect-still at at′ (call k es) = join (still at at′ (call k es)) (all-still (at + 3) (at′ + 3) es)
+    collect-still at at′ (tuple es) = join (still at at′ (tuple es)) (all-still (at + 2) (at′ + 2) es)
 
-    all-still : (at at′ : ℕ) (es : Exprs) → flags (collectAll f at es) ≡ flags (collectAll f at′ es)
-    all-still at at′ nil = refl
-    all-still at at′ (cons e es) = flags-join (collect f at e) (collect f at′ e) _ _ (collect-still at at′ e) (all-still (at + exprSize e) (at′ + exprSize e) es)
-
-abbrev CleanF : List Bool → Type 0
-CleanF [] = Unit {0}
-CleanF (b ∷ bs) = (b ≡ false) × CleanF bs
-
-clean-flags : (is : List Item) → Clean is → CleanF (flags is)
-clean-flags [] c = tt
-clean-flags (i ∷ is) c = (c .0, clean-flags is (c .1))
-
-flags-clean : (is : List Item) → CleanF (flags is) → Clean is
-flags-clean [] c = tt
-flags-clean (i ∷ is) c = (c .0, flags-clean is (c .1))
-
-clean-moved : (is js : List Item) → flags is ≡ flags js → Clean is → Clean js
-clean-moved is js e c = flags-clean js (subst CleanF e (clean-flags is c))
+    all-still : (at at′ : ℕ) (es : Exprs) → Moved (collectAll f at es) (collectAll f at′ es)
+    all-still at at′ nil = nothing
+    all-still at at′ (cons e es) = join (collect-still at at′ e) (all-still (at + exprSize e) (at′ + exprSize e) es)
 
 -- ---- equations in another sequence
 
 Still : (ℕ × Equation → List Item) → Type 0
-Still h = (a a′ : ℕ) (q : Equation) → flags (h (a, q)) ≡ flags (h (a′, q))
+Still h = (a a′ : ℕ) (q : Equation) → Moved (h (a, q)) (h (a′, q))
 
 perm-clean : (h : ℕ × Equation → List Item) → Still h → {qs rs : List Equation} → Permuted qs rs → (at at′ : ℕ) → Clean (concat (map h (placed equationSize at qs)))
     → Clean (concat (map h (placed equationSize at′ rs)))
 unfolding Still
 perm-clean h still {qs} {rs} p at at′ c =
-    each-clean h (placed equationSize at′ rs) (spread at′ rs (perm-all (λ q. (a : ℕ) × Clean (h (a, q))) p (all-placed equationSize (λ x. Clean (h x)) at qs (clean-each h (placed equationSize at qs) c))))
+    each-clean h (placed equationSize at′ rs) (spread at′ rs (perm-all (λ q. (a : ℕ) × Clean (h (a, q))) p (equation-clean h at qs c)))
   where
     spread : (at : ℕ) (xs : List Equation) → All (λ q. (a : ℕ) × Clean (h (a, q))) xs → All (λ x. Clean (h x)) (placed equationSize at xs)
     spread at [] k = tt
-    spread at (x ∷ xs) k = (clean-moved (h (k .0 .0, x)) (h (at, x)) (still (k .0 .0) at x) (k .0 .1), spread (at + equationSize x) xs (k .1))
+    spread at (x ∷ xs) k = (clean-moved (still (k .0 .0) at x) (k .0 .1), spread (at + equationSize x) xs (k .1))
 
 calls-still : (p : ℕ → ℕ → Bool) → Still (inEquation (callsWhere p))
 unfolding Still
 calls-still p a a′ q = collect-still (callsWhere p) (λ at at′ e. go at at′ (rhsOf e)) (rhsPlace a q) (rhsPlace a′ q) (q .rhs)
   where
-    go : (at at′ : ℕ) (r : Rhs) → flags (callItem p at r) ≡ flags (callItem p at′ r)
-    go at at′ (items es) = refl
-    go at at′ (outputsOf k es) = refl
-    go at at′ (one e) = refl
+    go : (at at′ : ℕ) (r : Rhs) → Moved (callItem p at r) (callItem p at′ r)
+    go at at′ (items es) = nothing
+    go at at′ (outputsOf k es) = item nothing
+    go at at′ (one e) = nothing
 
-unseen-flags : (visible : List ℕ) (xs ys : List (ℕ × ℕ)) → flags xs ≡ flags ys → flags (map (unseenItem visible) xs) ≡ flags (map (unseenItem visible) ys)
-unseen-flags visible xs ys e = go xs ∙ ap (map (λ x. not (member x visible))) e ∙ sym (go ys)
-  where
-    go : (xs : List (ℕ × ℕ)) → flags (map (unseenItem visible) xs) ≡ map (λ x. not (member x visible)) (flags xs)
-    go [] = refl
-    go (x ∷ xs) = ap (λ l. not (member (x .1) visible) ∷ l) (go xs)
+unseen-still : (visible : List ℕ) {xs ys : List (ℕ × ℕ)} → Moved xs ys → Moved (map (unseenItem visible) xs) (map (unseenItem visible) ys)
+unseen-still visible nothing = nothing
+unseen-still visible (item m) = item (unseen-still visible m)
 
-names-still : (a a′ : ℕ) (xs : List ℕ) → flags (placedNames a xs) ≡ flags (placedNames a′ xs)
-names-still a a′ [] = refl
-names-still a a′ (x ∷ xs) = ap (λ l. x ∷ l) (names-still (a + 2) (a′ + 2) xs)
+names-still : (a a′ : ℕ) (xs : List ℕ) → Moved (placedNames a xs) (placedNames a′ xs)
+names-still a a′ [] = nothing
+names-still a a′ (x ∷ xs) = item (names-still (a + 2) (a′ + 2) xs)
 
 uses-still : (visible : List ℕ) → Still (equationUses visible)
 unfolding Still
 uses-still visible a a′ q =
-    unseen-flags visible (placedNames (a + 1) (q .names) ++ used (rhsPlace a q) (q .rhs)) (placedNames (a′ + 1) (q .names) ++ used (rhsPlace a′ q) (q .rhs)) (flags-join (placedNames (a + 1) (q .names)) (placedNames (a′ + 1) (q .names)) (used (rhsPlace a q) (q .rhs)) (used (rhsPlace a′ q) (q .rhs)) (names-still (a + 1) (a′ + 1) (q .names))
-    (collect-still usedAt (λ at at′ e. go at at′ (Rattle.ol_spec.specs.Syntax.nameIn e)) (rhsPlace a q) (rhsPlace a′ q) (q .rhs)))
+    unseen-still visible (join (names-still (a + 1) (a′ + 1) (q .names)) (collect-still usedAt (λ at at′ e. go at at′ (nameIn e)) (rhsPlace a q) (rhsPlace a′ q) (q .rhs)))
   where
-    go : (at at′ : ℕ) (o : Option ℕ) → flags (maybe [] (λ x. (at + 1, x) ∷ []) o) ≡ flags (maybe [] (λ x. (at′ + 1, x) ∷ []) o)
-    go at at′ none = refl
-    go at at′ (some x) = refl
-
-drop-flags : (a b : List Item) → flags a ≡ flags b → flags (drop 1 a) ≡ flags (drop 1 b)
-drop-flags a b e = go a ∙ ap (drop 1) e ∙ sym (go b)
-  where
-    go : (l : List Item) → flags (drop 1 l) ≡ drop 1 (flags l)
-    go [] = refl
-    go (x ∷ l) = refl
+    go : (at at′ : ℕ) (o : Option ℕ) → Moved (maybe [] (λ x. (at + 1, x) ∷ []) o) (maybe [] (λ x. (at′ + 1, x) ∷ []) o)
+    go at at′ none = nothing
+    go at at′ (some x) = item nothing
 
 shape-still : (f : File) → Still (equationShape f)
 unfolding Still
-shape-still f a a′ q =
-    ap {B = List Bool} (λ l. (ltb 1 (length (q .names)) && not (severalIn f (q .rhs))) ∷ (severalIn f (q .rhs) && not (eqb (arity f (rhsOf (q .rhs))) (length (q .names)))) ∷ l)
-    (drop-flags (inEquation (shapeItem f) (a, q)) (inEquation (shapeItem f) (a′, q)) (collect-still (shapeItem f) (λ at at′ e. refl) (rhsPlace a q) (rhsPlace a′ q) (q .rhs)))
+shape-still f a a′ q = item (item (behind-first (collect-still (shapeItem f) (λ at at′ e. item nothing) (rhsPlace a q) (rhsPlace a′ q) (q .rhs))))
 
 -- ---- a ring of the relisted equations is one of the first
 
@@ -200,16 +175,18 @@ module _ (last last′ : Node) where
   length-last [] = refl
   length-last (o ∷ os) = ap suc (length-last os)
 
-  module _ (P P′ : ℕ × Node → Type 0) (each : (a : ℕ) (n : Node) → P (a, n) → P′ (a, n)) (at-last : (a : ℕ) → P (a, last) → P′ (a, last′)) where
-    replace : (os : List Node) (at : ℕ) → All P (placed nodeSize at (os ++ last ∷ [])) → All P′ (placed nodeSize at (os ++ last′ ∷ []))
-    replace [] at h = (at-last at (h .0), tt)
-    replace (o ∷ os) at h = (each at o (h .0), replace os (at + nodeSize o) (h .1))
+  -- items of all nodes are without fault, if they are with the other last node
+  module _ (h h′ : ℕ × Node → List Item) (each : (a : ℕ) (n : Node) → Clean (h (a, n)) → Clean (h′ (a, n))) (at-last : (a : ℕ) → Clean (h (a, last)) → Clean (h′ (a, last′))) where
+    replace : (os : List Node) (at : ℕ) → Clean (concat (map h (placed nodeSize at (os ++ last ∷ [])))) → Clean (concat (map h′ (placed nodeSize at (os ++ last′ ∷ []))))
+    replace [] at c = clean-join (h′ (at, last′)) [] (at-last at (clean-parts (h (at, last)) [] c .0)) tt
+    replace (o ∷ os) at c = let w = clean-parts (h (at, o)) _ c in clean-join (h′ (at, o)) _ (each at o (w .0)) (replace os (at + nodeSize o) (w .1))
 
-  module _ (P P′ : ℕ × (ℕ × Node) → Type 0) (each : (k a : ℕ) (n : Node) → P (k, (a, n)) → P′ (k, (a, n))) (at-last : (k a : ℕ) → P (k, (a, last)) → P′ (k, (a, last′))) where
-    replace-numbered : (os : List Node) (k at : ℕ) → All P (numbered k (placed nodeSize at (os ++ last ∷ [])))
-        → All P′ (numbered k (placed nodeSize at (os ++ last′ ∷ [])))
-    replace-numbered [] k at h = (at-last k at (h .0), tt)
-    replace-numbered (o ∷ os) k at h = (each k at o (h .0), replace-numbered os (suc k) (at + nodeSize o) (h .1))
+  module _ (h h′ : ℕ × (ℕ × Node) → List Item) (each : (k a : ℕ) (n : Node) → Clean (h (k, (a, n))) → Clean (h′ (k, (a, n))))
+      (at-last : (k a : ℕ) → Clean (h (k, (a, last))) → Clean (h′ (k, (a, last′)))) where
+    replace-numbered : (os : List Node) (k at : ℕ) → Clean (concat (map h (numbered k (placed nodeSize at (os ++ last ∷ [])))))
+        → Clean (concat (map h′ (numbered k (placed nodeSize at (os ++ last′ ∷ [])))))
+    replace-numbered [] k at c = clean-join (h′ (k, (at, last′))) [] (at-last k at (clean-parts (h (k, (at, last))) [] c .0)) tt
+    replace-numbered (o ∷ os) k at c = let w = clean-parts (h (k, (at, o))) _ c in clean-join (h′ (k, (at, o))) _ (each k at o (w .0)) (replace-numbered os (suc k) (at + nodeSize o) (w .1))
 
   declares-same : ((k a : ℕ) → nodeDeclares (k, (a, last)) ≡ nodeDeclares (k, (a, last′))) → (os : List Node) (k at : ℕ)
       → concat (map nodeDeclares (numbered k (placed nodeSize at (os ++ last ∷ [])))) ≡ concat (map nodeDeclares (numbered k (placed nodeSize at (os ++ last′ ∷ []))))
@@ -222,6 +199,9 @@ module _ (last last′ : Node) where
   rings-same (o ∷ os) at h e =
       ap (λ x. orElse (maybe none (λ i. some (placeAt (placedEquations at o) i)) x) (firstSome (map ringIn (placed nodeSize (at + nodeSize o) (os ++ last′ ∷ []))))) (h .0)
       ∙ rings-same os (at + nodeSize o) (h .1) e
+
+first-kept : (a b a′ b′ : List Item) → (Clean a → Clean a′) → (Clean b → Clean b′) → first (a ++ b) ≡ none → first (a′ ++ b′) ≡ none
+first-kept a b a′ b′ f g e = let c = clean-parts a b (first-clean (a ++ b) e) in clean-first (a′ ++ b′) (clean-join a′ b′ (f (c .0)) (g (c .1)))
 
 -- the file with these nodes and this last one, which is the main one
 abbrev pub ending : File → List Node → Node → File
@@ -261,32 +241,34 @@ module _ (f : File) (os : List Node) (last : Node) (rs : List Equation) (p : Per
   pub outs-same : (k : ℕ) → getD (os ++ last ∷ []) k noNode .outputs ≡ getD (os ++ last′ ∷ []) k noNode .outputs
   outs-same = get-last last last′ (λ n. n .outputs) refl os
 
+  abbrev globals-seen : List ℕ
+  globals-seen = constantNames f ++ variants f
+
   -- 6
   no6′ : fault6 f1 ≡ none → fault6 f2 ≡ none
   unfolding fault6
-  no6′ e = ap (λ l. first (clashes [] (concat (map enumDeclares (numbered 0 (Rattle.ol_spec.specs.Places.placedEnums f))) ++ Rattle.ol_spec.specs.Admission.declaredAs Rattle.ol_spec.specs.Admission.constant (map Rattle.ol_spec.specs.Admission.placedConstantName (placedConstants f)) ++ l))) (sym (declares-same last last′ (λ k a. refl) os 0 (nodesStart f))) ∙ e
+  no6′ e =
+      let a = concat (map enumDeclares (numbered 0 (placedEnums f))) ++ declaredAs constant (map placedConstantName (placedConstants f)) in
+      ap (λ l. first (clashes [] (a ++ l))) (sym (declares-same last last′ (λ k a. refl) os 0 (nodesStart f))) ∙ e
 
   -- 7
   no7′ : fault7 f1 ≡ none → fault7 f2 ≡ none
   unfolding fault7
-  no7′ e =
+  no7′ =
       let a = constantUses (variants f) (placedConstants f) in
-      let h = nodeUses (constantNames f ++ variants f) in
-      let bs = concat (map h (placedNodes f1)) in
-      let cs = concat (map h (placedNodes f2)) in
-      let c = clean-parts a bs (first-clean (a ++ bs) e) in
-      clean-first (a ++ cs) (clean-join a cs (c .0) (each-clean h (placedNodes f2)
-      (replace last last′ (λ x. Clean (h x)) (λ x. Clean (h x)) (λ a n x. x) (λ a. perm-clean (equationUses (variableNames last ++ (constantNames f ++ variants f))) (uses-still (variableNames last ++ (constantNames f ++ variants f))) p _ _) os (nodesStart f) (clean-each h (placedNodes f1) (c .1)))))
+      let h = nodeUses globals-seen in
+      let seen = variableNames last ++ globals-seen in
+      first-kept a (concat (map h (placedNodes f1))) a (concat (map h (placedNodes f2))) (λ x. x)
+      (replace last last′ h h (λ a n x. x) (λ a. perm-clean (equationUses seen) (uses-still seen) p _ _) os (nodesStart f))
 
   -- 8
   no8′ : fault8 f1 ≡ none → fault8 f2 ≡ none
   unfolding fault8
   no8′ e =
-      let h = nodeDefines (constantNames f ++ variants f) in
-      clean-first (concat (map h (placedNodes f2))) (each-clean h (placedNodes f2)
-      (replace last last′ (λ x. Clean (h x)) (λ x. Clean (h x)) (λ a n x. x)
-      (λ a c. fresh-defines (constantNames f ++ variants f) a last′ (perm-fresh (map nameOf (last .inputs) ++ (constantNames f ++ variants f)) p (defines-fresh (constantNames f ++ variants f) a last c)))
-      os (nodesStart f) (clean-each h (placedNodes f1) (first-clean (concat (map h (placedNodes f1))) e))))
+      let h = nodeDefines globals-seen in
+      let kept : (a : ℕ) → Clean (h (a, last)) → Clean (h (a, last′)) =
+      λ a c. fresh-defines globals-seen a last′ (perm-fresh (map nameOf (last .inputs) ++ globals-seen) p (defines-fresh globals-seen a last c)) in
+      clean-first (concat (map h (placedNodes f2))) (replace last last′ h h (λ a n x. x) kept os (nodesStart f) (first-clean (concat (map h (placedNodes f1))) e))
 
   -- 9
   bad-same : (k : ℕ) (n : Node) → badCall f1 k n ≡ badCall f2 k n
@@ -294,16 +276,12 @@ module _ (f : File) (os : List Node) (last : Node) (rs : List Equation) (p : Per
 
   no9′ : fault9 f1 ≡ none → fault9 f2 ≡ none
   unfolding fault9
-  no9′ e =
+  no9′ =
       let a = concat (map (inConstant (callsWhere (λ c args. true))) (placedConstants f)) in
-      let bs = concat (map (nodeCalls f1) (numbered 0 (placedNodes f1))) in
-      let cs = concat (map (nodeCalls f2) (numbered 0 (placedNodes f2))) in
-      let c = clean-parts a bs (first-clean (a ++ bs) e) in
-      clean-first (a ++ cs) (clean-join a cs (c .0) (each-clean (nodeCalls f2) (numbered 0 (placedNodes f2))
-      (replace-numbered last last′ (λ x. Clean (nodeCalls f1 x)) (λ x. Clean (nodeCalls f2 x))
-      (λ k a n x. subst (λ b. Clean (inNode (callsWhere b) (a, n))) (bad-same k n) x)
-      (λ k a x. perm-clean (inEquation (callsWhere (badCall f2 k last))) (calls-still _) p _ _ (subst (λ b. Clean (inNode (callsWhere b) (a, last))) (bad-same k last) x))
-      os 0 (nodesStart f) (clean-each (nodeCalls f1) (numbered 0 (placedNodes f1)) (c .1)))))
+      let other : (k a : ℕ) (n : Node) → Clean (nodeCalls f1 (k, (a, n))) → Clean (nodeCalls f2 (k, (a, n))) =
+      λ k a n. subst (λ b. Clean (inNode (callsWhere b) (a, n))) (bad-same k n) in
+      first-kept a (concat (map (nodeCalls f1) (numbered 0 (placedNodes f1)))) a (concat (map (nodeCalls f2) (numbered 0 (placedNodes f2)))) (λ x. x)
+      (replace-numbered last last′ (nodeCalls f1) (nodeCalls f2) other (λ k a x. perm-clean (inEquation (callsWhere (badCall f2 k last))) (calls-still _) p _ _ (other k a last x)) os 0 (nodesStart f))
 
   -- 10
   arity-same : (r : Rhs) → arity f1 r ≡ arity f2 r
@@ -322,17 +300,12 @@ module _ (f : File) (os : List Node) (last : Node) (rs : List Equation) (p : Per
 
   no10′ : fault10 f1 ≡ none → fault10 f2 ≡ none
   unfolding fault10
-  no10′ e =
-      let a = concat (map (inConstant (shapeItem f1)) (placedConstants f)) in
-      let a′ = concat (map (inConstant (shapeItem f2)) (placedConstants f)) in
-      let bs = concat (map (nodeShape f1) (placedNodes f1)) in
-      let cs = concat (map (nodeShape f2) (placedNodes f2)) in
-      let c = clean-parts a bs (first-clean (a ++ bs) e) in
-      clean-first (a′ ++ cs) (clean-join a′ cs (subst (λ h. Clean (concat (map (inConstant h) (placedConstants f)))) item-same (c .0)) (each-clean (nodeShape f2) (placedNodes f2)
-      (replace last last′ (λ x. Clean (nodeShape f1 x)) (λ x. Clean (nodeShape f2 x))
-      (λ a n x. subst (λ h. Clean (concat (map h (placedEquations a n)))) shape-same x)
-      (λ a x. perm-clean (equationShape f2) (shape-still f2) p _ _ (subst (λ h. Clean (concat (map h (placedEquations a last)))) shape-same x))
-      os (nodesStart f) (clean-each (nodeShape f1) (placedNodes f1) (c .1)))))
+  no10′ =
+      let other : (a : ℕ) (n : Node) → Clean (nodeShape f1 (a, n)) → Clean (nodeShape f2 (a, n)) = λ a n. subst (λ h. Clean (concat (map h (placedEquations a n)))) shape-same in
+      first-kept (concat (map (inConstant (shapeItem f1)) (placedConstants f))) (concat (map (nodeShape f1) (placedNodes f1)))
+      (concat (map (inConstant (shapeItem f2)) (placedConstants f))) (concat (map (nodeShape f2) (placedNodes f2)))
+      (subst (λ h. Clean (concat (map (inConstant h) (placedConstants f)))) item-same)
+      (replace last last′ (nodeShape f1) (nodeShape f2) other (λ a x. perm-clean (equationShape f2) (shape-still f2) p _ _ (other a last x)) os (nodesStart f))
 
   -- 11
   no11′ : Distinct (concat (map namesOf (last .equations))) → Placed (last .equations) → fault11 f1 ≡ none → fault11 f2 ≡ none
@@ -354,8 +327,9 @@ module _ (f : File) (os : List Node) (last : Node) (rs : List Equation) (p : Per
   pub state-same : stateSize f2 ≡ stateSize f1
   unfolding stateSize
   state-same =
+      let sizes = sizesAt (length (os ++ last ∷ [])) (os ++ last ∷ []) in
       ap (λ m. headSize f + m)
-      (ap₂ (λ s n. instanceSize s n) (sym all-sizes) (last-is os last′) ∙ ap (λ m. ownSize last + m) (perm-sites _ p) ∙ ap (instanceSize (sizesAt (length (os ++ last ∷ [])) (os ++ last ∷ []))) (sym (last-is os last)))
+      (ap₂ (λ s n. instanceSize s n) (sym all-sizes) (last-is os last′) ∙ ap (λ m. ownSize last + m) (perm-sites sizes p) ∙ ap (instanceSize sizes) (sym (last-is os last)))
 
   cond-none : (b : Bool) (x : ℕ) → cond b (some x) none ≡ none → b ≡ false
   cond-none true x e = let z : _≡_ {A = ℕ} 0 1 = cc in absurd (omega arith)
@@ -380,7 +354,8 @@ module _ (f : File) (os : List Node) (last : Node) (rs : List Equation) (p : Per
         no8 = no8′ (a .no8);
         no9 = no9′ (a .no9);
         no10 = no10′ (a .no10);
-        no11 = no11′ (subst (λ n. Distinct (concat (map namesOf (n .equations)))) (last-is os last) (m .apart)) (subst (λ n. Placed (n .equations)) (last-is os last) (m .placed)) (a .no11);
+        no11 = no11′ (subst (λ n. Distinct (concat (map namesOf (n .equations)))) (last-is os last) (m .apart)) (subst (λ n. Placed (n .equations)) (last-is os last) (m .placed))
+            (a .no11);
         no12 = no12′ vs (a .no12);
         no13 = no13′ ld (a .no13);
         no14 = no14′ (a .no14);

@@ -4,7 +4,7 @@ use mathlib.Core.Bool.{Bool, true, false, not, _&&_}
 use mathlib.Core.List.{List, [], _∷_, _++_, map}
 use mathlib.Core.Path.{_≡_, refl, sym, ap, ap₂, subst, _∙_}
 use native.Mathlib.Omega.{arith}
-use lib.ListN.{length, take, drop, getD, length-map, List·getD-map}
+use lib.ListN.{length, take, drop, length-map, List·getD-map}
 use lib.Seq.{getD-append-seam}
 use lib.Dec.{T, eqb}
 use Rattle.ol_theory.specs.Member.{_∈_}

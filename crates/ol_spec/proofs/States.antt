@@ -6,7 +6,7 @@ use mathlib.Core.Path.{_≡_, refl, sym, ap, ap₂, subst, _∙_}
 use native.Mathlib.Omega.{arith}
 use lib.ListN.{length, take, drop, getD, length-append, length-drop, length-map, take-append-drop}
 use lib.Seq.{take-at, drop-at, length-take-le, take-append-le, drop-append-le, take-add}
-use lib.Dec.{T, leb, eqb, eqb→eq, eqb-refl}
+use lib.Dec.{T, leb, eqb, eqb→eq}
 use Rattle.ol_theory.specs.Member.{_∈_}
 use Rattle.ol_theory.specs.System as Y
 use Rattle.ol_spec.specs.Lists.{concat, same, member}
