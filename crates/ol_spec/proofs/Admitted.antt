@@ -273,7 +273,8 @@ module _ (ld : Loader) (s : List ℕ) (f : File) (vs : List Value) (read : FileR
           known = known-at;
           no-input = λ i x m v. new-name i x m (in-left (constantNames f ++ variants f) v);
           arity = arity-at;
-          counts = λ first before i p s. rhs-count g (scope n first before p) (calls g) (calls-count g (length (f .nodes))) (equationAt n i .rhs) s (plain-at (mayBe g) (n .equations) i (is-plain k));
+          counts = λ first before i p s.
+              rhs-count g (scope n first before p) (calls g) (calls-count g (length (f .nodes))) (equationAt n i .rhs) s (plain-at (mayBe g) (n .equations) i (is-plain k));
           placed = node-placed f (a .no11) k b;
         }
 

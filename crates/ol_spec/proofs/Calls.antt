@@ -136,7 +136,8 @@ module _ {f : File} {vs : List Value} (a : Callable f vs) where
 
   pub fresh-main : (k : ℕ) → k < D → Inst f vs k (freshRecord g (nodeAt g k))
   fresh-main k b =
-      fresh-instance (freshAt g D) (fresh-sites (freshAt g D) (sites (nodeAt g k)) (λ c m. fresh-rec D c (omega (arith, a .lower k c m)) (omega (arith, a .lower k c m)))) (a .fresh-fine k)
+      let each : (c : ℕ) → c ∈ sites (nodeAt g k) → Rec g (isGood f vs) c (freshAt g D c) = λ c m. fresh-rec D c (omega (arith, a .lower k c m)) (omega (arith, a .lower k c m)) in
+      fresh-instance (freshAt g D) (fresh-sites (freshAt g D) (sites (nodeAt g k)) each) (a .fresh-fine k)
 
   -- ---- calls
 
@@ -171,7 +172,8 @@ module _ {f : File} {vs : List Value} (a : Callable f vs) where
           → Sound Q g p (mayBe g) (callsAt g d)
           → Called Q g p k (callBy g t (callsAt g d) (nodeAt g k) ws r)
       go k ws r f q Function e b l sound =
-          record { seg = q; out = leave-outputs Q g p (nodeAt g k) (freshRecord g (nodeAt g k)) _ (step-meets sound (nodeAt g k) (a .plain k) ws _ f l (h .fresh-opens k b .0) (h .fresh-opens k b .1)) }
+          let o = h .fresh-opens k b in
+          record { seg = q; out = leave-outputs Q g p (nodeAt g k) (freshRecord g (nodeAt g k)) _ (step-meets sound (nodeAt g k) (a .plain k) ws _ f l (o .0) (o .1)) }
       go k ws r f q Operator e b l sound =
           let o = h .opens k r b e q in
           let m = step-meets sound (nodeAt g k) (a .plain k) ws r f l (o .0) (o .1) in

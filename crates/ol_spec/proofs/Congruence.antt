@@ -144,7 +144,8 @@ tags-kinds p q j e = by-tags p j ∙ ap (λ l. kindsOf (getElem? l j)) e ∙ sym
 pub eval-congruent : (g : Globals) (calls : Calls) (n : Node) (first : Bool) (before p q : List Value) (i : ℕ) (seg : List ℕ) → map tag p ≡ map tag q
     → ((x : ℕ) → x ∈ reads (equationAt n i .rhs) → lookup x (variableNames n) p ≡ lookup x (variableNames n) q)
     → evalEquation g calls n first before p i seg ≡ evalEquation g calls n first before q i seg
-eval-congruent g calls n first before p q i seg kinds same = evalRhs-same g (variableNames n) before first calls p q (λ x. go (position x (variableNames n))) (equationAt n i .rhs) same seg
+eval-congruent g calls n first before p q i seg kinds same =
+    evalRhs-same g (variableNames n) before first calls p q (λ x. go (position x (variableNames n))) (equationAt n i .rhs) same seg
   where
     go : (o : Option ℕ) → kindIn (maybe none (getElem? p) o) ≡ kindIn (maybe none (getElem? q) o)
     go none = refl

@@ -76,7 +76,8 @@ module _ (g : Globals) (s : Scope) (calls : Calls) (counts : Counts g calls) whe
   rhs-count (arrow a b) seg p = several-count (eval g s calls (arrow a b) seg .out)
   rhs-count (cast t e) seg p = several-count (eval g s calls (cast t e) seg .out)
   rhs-count (call k es) seg p =
-      enter-count (count es) _ (calls k) (take (recordSize g k) seg) _ (evalAll-count es (drop (recordSize g k) seg)) (λ ws e. counts k ws _ (subst (λ m. T (mayBe g k m)) (sym e) (p .0)))
+      enter-count (count es) _ (calls k) (take (recordSize g k) seg) _ (evalAll-count es (drop (recordSize g k) seg))
+      (λ ws e. counts k ws _ (subst (λ m. T (mayBe g k m)) (sym e) (p .0)))
   rhs-count (tuple es) seg p = evalAll-count es seg
 
 pub runAll-cells : (g : Globals) (calls : Calls) (n : Node) (first : Bool) (before : List Value) (is : List ℕ) (cs : List Value) (ss : List (List ℕ))

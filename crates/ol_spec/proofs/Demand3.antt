@@ -6,7 +6,7 @@ use mathlib.Core.Option.{some}
 use mathlib.Core.Path.{_≡_, sym, ap, subst, _∙_}
 use native.Mathlib.Omega.{arith}
 use lib.ListN.{length, getD, getElem?}
-use lib.Dec.{ltb, lt→ltb}
+use lib.Dec.{T, ltb, lt→ltb}
 use Rattle.ol_spec.specs.Syntax.{Node, File, noNode}
 use Rattle.ol_spec.specs.Limits.{Loader, relayLoader}
 use Rattle.ol_spec.specs.Order.{order, Ring}
@@ -25,7 +25,7 @@ use Rattle.ol_spec.proofs.Lists.{All, getD-is, getElem-inside}
 use Rattle.ol_spec.proofs.Values.{all-any}
 use Rattle.ol_spec.proofs.Segments.{any-good}
 use Rattle.ol_spec.proofs.Runs.{equation-meets}
-use Rattle.ol_spec.proofs.Calls.{calls-sized, fresh-rec}
+use Rattle.ol_spec.proofs.Calls.{mayBe, calls-sized, fresh-rec}
 use Rattle.ol_spec.proofs.Other.{calls-stable}
 use Rattle.ol_spec.proofs.Admits.{admits}
 use Rattle.ol_spec.proofs.Admitted.{node-placed, admitted-facts}
@@ -80,20 +80,24 @@ module _ (ld : Loader) (s : List ℕ) (f : File) (vs : List Value) (bytes : Byte
 
   -- Admission reports the length of the start state, and of every state that an answered or stopped cycle leaves.
   pub state-length : (admission ld s ≡ Adm.Admitted (length (freshState f vs)))
-      × ((old ins new vals : List ℕ) → ((x : Fault) → ¬ (cycle ld s old ins new vals .answer ≡ Cyc.Refused x)) → admission ld s ≡ Adm.Admitted (length (cycle ld s old ins new vals .new)))
+      × ((old ins new vals : List ℕ) → ((x : Fault) → ¬ (cycle ld s old ins new vals .answer ≡ Cyc.Refused x))
+      → admission ld s ≡ Adm.Admitted (length (cycle ld s old ins new vals .new)))
   state-length =
-      let F = admitted-facts ld s f vs bytes e in
-      (ap verdict e ∙ ap Adm.Admitted (sym (start-ok f vs F .well .sized)), λ old ins new vals h. ap verdict e ∙ ap Adm.Admitted (sym (not-refused f vs F ld s e old ins new vals h .sized)))
+      let F = admitted-facts ld s f vs bytes e in (
+        ap verdict e ∙ ap Adm.Admitted (sym (start-ok f vs F .well .sized)),
+        λ old ins new vals h. ap verdict e ∙ ap Adm.Admitted (sym (not-refused f vs F ld s e old ins new vals h .sized)),
+      )
 
   -- A call site's fresh record has its size, and a call with as many arguments as the node has inputs leaves a record of that size.
-  pub record-length : (k : ℕ) → k < length (f .nodes)
-      → (length (freshAt (globalsOf f vs) (length (f .nodes)) k) ≡ recordSize (globalsOf f vs) k)
-      × ((ws : List Value) (r : List ℕ) → length ws ≡ length (nodeAt (globalsOf f vs) k .inputs) → length r ≡ recordSize (globalsOf f vs) k → length (calls (globalsOf f vs) k ws r .seg) ≡ recordSize (globalsOf f vs) k)
+  pub record-length : (k : ℕ) → k < length (f .nodes) → let g = globalsOf f vs in
+      (length (freshAt g (length (f .nodes)) k) ≡ recordSize g k)
+      × ((ws : List Value) (r : List ℕ) → length ws ≡ length (nodeAt g k .inputs) → length r ≡ recordSize g k → length (calls g k ws r .seg) ≡ recordSize g k)
   record-length k b =
-      let c = admitted-facts ld s f vs bytes e .callable in (
-        fresh-rec c (length (f .nodes)) k b b .sized,
-        λ ws r l h. calls-sized c (length (f .nodes)) .keeps k ws r (and-T (ltb k (length (f .nodes))) _ (lt→ltb k (length (f .nodes)) b) (eq-eqb _ _ l)) (all-any ws) (record { sized = h; good = tt }) .seg .sized,
-      )
+      let c = admitted-facts ld s f vs bytes e .callable in
+      let d = length (f .nodes) in
+      let may : (ws : List Value) → length ws ≡ length (nodeAt (globalsOf f vs) k .inputs) → T (mayBe (globalsOf f vs) k (length ws)) =
+      λ ws l. and-T (ltb k d) _ (lt→ltb k d b) (eq-eqb _ _ l) in
+      (fresh-rec c d k b b .sized, λ ws r l h. calls-sized c d .keeps k ws r (may ws l) (all-any ws) (record { sized = h; good = tt }) .seg .sized)
 
   -- Calls at enough depth do not depend on the depth: as deep as there are nodes suffices.
   pub depth-enough : (d k : ℕ) → k < d → k < length (f .nodes) → (ws : List Value) (r : List ℕ) → callsAt (globalsOf f vs) d k ws r ≡ calls (globalsOf f vs) k ws r
@@ -104,4 +108,5 @@ module _ (ld : Loader) (s : List ℕ) (f : File) (vs : List Value) (bytes : Byte
       length seg ≡ segSize g (equationAt n i .rhs) → length (evalEquation g (calls g) n first before cs i seg .seg) ≡ length seg
   eval-segment k first before cs i seg h =
       let c = admitted-facts ld s f vs bytes e .callable in
-      equation-meets (calls-sized c (length (f .nodes))) (nodeAt (globalsOf f vs) k) (c .plain k) first before cs i seg (all-any before) (all-any cs) (any-good _ seg h) .seg .sized ∙ sym h
+      let n = nodeAt (globalsOf f vs) k in
+      equation-meets (calls-sized c (length (f .nodes))) n (c .plain k) first before cs i seg (all-any before) (all-any cs) (any-good _ seg h) .seg .sized ∙ sym h

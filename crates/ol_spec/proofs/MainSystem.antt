@@ -103,7 +103,8 @@ unfolding definerFrom
 definer-is k [] x zero u m = absurd (in-nil m)
 definer-is k [] x (suc d) u m = absurd (in-nil m)
 definer-is k (q ∷ qs) x zero u m =
-    ap₂ (λ o b. later o b k) (no-definer (suc k) qs x (λ i n. distinct-parts (q .names) (concat (map namesOf qs)) u .2 x m (names-in qs i x n))) (T-true (member x (q .names)) (in-member x (q .names) m))
+    let others = no-definer (suc k) qs x (λ i n. distinct-parts (q .names) (concat (map namesOf qs)) u .2 x m (names-in qs i x n)) in
+    ap₂ (λ o b. later o b k) others (T-true (member x (q .names)) (in-member x (q .names) m))
     ∙ ap some (omega arith)
 definer-is k (q ∷ qs) x (suc d) u m =
     ap (λ o. later o (member x (q .names)) k) (definer-is (suc k) qs x d (distinct-parts (q .names) (concat (map namesOf qs)) u .1) m) ∙ ap some (omega arith)
@@ -207,10 +208,11 @@ module _ (n : Node) where
     pub run-view : (is : List ℕ) (cs : List Value) (ss : List (List ℕ)) → view (runAll g calls n first before is cs ss) ≡ Y.runEqs system is cs ss
     unfolding runAll store Y.runEqs Y.onward
     run-view [] cs ss = refl
-    run-view (i ∷ is) cs ss = go (evalEquation g calls n first before cs i (getD ss i []) .out) (evalEquation g calls n first before cs i (getD ss i []) .seg) (λ cs′ ss′. run-view is cs′ ss′)
+    run-view (i ∷ is) cs ss = let r = evalEquation g calls n first before cs i (getD ss i []) in go (r .out) (r .seg) (λ cs′ ss′. run-view is cs′ ss′)
       where
         go : (o : Outcomes) (s : List ℕ) → ((cs′ : List Value) (ss′ : List (List ℕ)) → view (runAll g calls n first before is cs′ ss′) ≡ Y.runEqs system is cs′ ss′)
-            → view (storeOn n i o s (runAll g calls n first before is) cs ss) ≡ Y.onward i (set ss i s) (λ vs. Y.runEqs system is (Y.store (slots (equationAt n i .names)) vs cs) (set ss i s)) (fitOuts (equationAt n i .names) o)
+            → view (storeOn n i o s (runAll g calls n first before is) cs ss)
+            ≡ Y.onward i (set ss i s) (λ vs. Y.runEqs system is (Y.store (slots (equationAt n i .names)) vs cs) (set ss i s)) (fitOuts (equationAt n i .names) o)
         go (values vs) s k = k _ _ ∙ ap (λ c. Y.runEqs system is c (set ss i s)) (assign-store (equationAt n i .names) vs cs)
         go failure s k = refl
         go overflow s k = refl

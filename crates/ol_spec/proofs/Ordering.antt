@@ -110,7 +110,8 @@ module _ (qs : List Equation) where
 
   outside-none : (done : List ℕ) (i : ℕ) (rs : List Equation) → ((k : ℕ) → i ≤ k → k < i + length rs → k ∈ done) → firstOutside qs done i rs ≡ none
   outside-none done i [] f = refl
-  outside-none done i (r ∷ rs) f = rw (T-true (member i done) (in-member i done (f i (omega arith) (omega arith)))) (outside-none done (suc i) rs (λ k a b. f k (omega arith) (omega arith)))
+  outside-none done i (r ∷ rs) f =
+      rw (T-true (member i done) (in-member i done (f i (omega arith) (omega arith)))) (outside-none done (suc i) rs (λ k a b. f k (omega arith) (omega arith)))
 
   outside-some : (done : List ℕ) (i : ℕ) (rs : List Equation) (k : ℕ) → i ≤ k → k < i + length rs → ¬ (k ∈ done) → (j : ℕ) × (firstOutside qs done i rs ≡ some j)
   outside-some done i [] k a b u = absurd (omega arith)
@@ -131,7 +132,9 @@ module _ (qs : List Equation) where
     where
       go : (o : Option Equation) → T (maybe false (λ q. anyOf (λ x. maybe false (eqb j) (definer qs x)) (reads (q .rhs))) o) → j ∈ depsBy o
       go none t = absurd t
-      go (some q) t = let w = any-in (λ x. maybe false (eqb j) (definer qs x)) (reads (q .rhs)) t in found-in (definer qs) (reads (q .rhs)) (w .0) j (w .1) (test-some (definer qs (w .0)) j (w .2))
+      go (some q) t =
+          let w = any-in (λ x. maybe false (eqb j) (definer qs x)) (reads (q .rhs)) t in
+          found-in (definer qs) (reads (q .rhs)) (w .0) j (w .1) (test-some (definer qs (w .0)) j (w .2))
 
   pub deps-reads : (i j : ℕ) → j ∈ depsOf i → T (readsFrom qs i j)
   deps-reads i j m = go (getElem? qs i) m
@@ -164,7 +167,9 @@ module _ (qs : List Equation) where
 
   pub ring-theory : Ring qs → O.Ring (length qs) depsOf
   unfolding Ring
-  ring-theory c = let w = chain-leads (c .1) in record { first = c .0; rest = w .0; inside = λ i m. ⊎-elim (λ e. omega (arith, chain-inside (c .1))) (w .2 i) (in-cons m); around = w .1 }
+  ring-theory c =
+      let w = chain-leads (c .1) in
+      record { first = c .0; rest = w .0; inside = λ i m. ⊎-elim (λ e. omega (arith, chain-inside (c .1))) (w .2 i) (in-cons m); around = w .1 }
 
   pub theory-ring : O.Ring (length qs) depsOf → Ring qs
   unfolding Ring

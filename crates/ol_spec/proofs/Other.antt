@@ -67,7 +67,8 @@ module _ (g : Globals) (ns : List Node) (sz : List ℕ) (sizes : g .sizes ≡ sz
         eval-other (binary op l r) h seg =
             let hl = left {a = callees l} (callees r) h in
             let hr = right (callees l) {b = callees r} h in
-            λ i. next (eval-other l hl (take (sitesSize (sizes i) (callees l)) seg) i) (λ v rest. mapEval (binaryOf op v) (eval-other r hr rest i)) (drop (sitesSize (sizes i) (callees l)) seg)
+            λ i. next (eval-other l hl (take (sitesSize (sizes i) (callees l)) seg) i) (λ v rest. mapEval (binaryOf op v) (eval-other r hr rest i))
+            (drop (sitesSize (sizes i) (callees l)) seg)
         eval-other (ifThenElse c t e) h seg =
             let hc = left {a = callees c} (callees t ++ callees e) h in
             let ht = left {a = callees t} (callees e) (right (callees c) h) in
@@ -155,7 +156,8 @@ module _ (g : Globals) (ns : List Node) (sz : List ℕ) (sizes : g .sizes ≡ sz
         ∙ ap (λ n. freshBy other (n .kind) (freshAt other d) n) (below k b)
 
     pub fresh-record-other : (n : Node) → ((c : ℕ) → c ∈ sites n → c < K) → freshRecord g n ≡ freshRecord other n
-    fresh-record-other n h = fresh-instance-other (freshAt g (length (g .nodes))) (freshAt other (length ns)) n (λ c m. fresh-other (length (g .nodes)) c (h c m) ∙ ap (λ d. freshAt other d c) depth)
+    fresh-record-other n h =
+        fresh-instance-other (freshAt g (length (g .nodes))) (freshAt other (length ns)) n (λ c m. fresh-other (length (g .nodes)) c (h c m) ∙ ap (λ d. freshAt other d c) depth)
 
     leave-other : (n : Node) (r : List ℕ) (u : Run) → ((c : ℕ) → c ∈ sites n → c < K) → leave g n r u ≡ leave other n r u
     unfolding leave
@@ -174,7 +176,8 @@ module _ (g : Globals) (ns : List Node) (sz : List ℕ) (sizes : g .sizes ≡ sz
     callBy-other : (t : NodeKind) (calls calls′ : Calls) (n : Node) → ((c : ℕ) → c ∈ sites n → c < K) → Same calls calls′ (sites n) → (ws : List Value) (r : List ℕ)
         → callBy g t calls n ws r ≡ callBy other t calls′ n ws r
     callBy-other Function calls calls′ n h e ws r =
-        let q : instance g calls n ws (freshRecord g n) ≡ instance other calls′ n ws (freshRecord other n) = ap (instance g calls n ws) (fresh-record-other n h) ∙ instance-other calls calls′ n h e ws (freshRecord other n) in
+        let q : instance g calls n ws (freshRecord g n) ≡ instance other calls′ n ws (freshRecord other n) =
+        ap (instance g calls n ws) (fresh-record-other n h) ∙ instance-other calls calls′ n h e ws (freshRecord other n) in
         λ i. record { out = q i .out; seg = r }
     callBy-other Operator calls calls′ n h e ws r = instance-other calls calls′ n h e ws r
     callBy-other Imported calls calls′ n h e ws r = refl
@@ -183,7 +186,8 @@ module _ (g : Globals) (ns : List Node) (sz : List ℕ) (sizes : g .sizes ≡ sz
     unfolding callsAt
     calls-other zero k b ws r = refl
     calls-other (suc d) k b ws r =
-        callBy-other (nodeAt g k .kind) (callsAt g d) (callsAt other d) (nodeAt g k) (λ c m. omega (arith, lower k c m)) (λ c m ws r. calls-other d c (omega (arith, lower k c m)) ws r) ws r
+        callBy-other (nodeAt g k .kind) (callsAt g d) (callsAt other d) (nodeAt g k) (λ c m. omega (arith, lower k c m))
+        (λ c m ws r. calls-other d c (omega (arith, lower k c m)) ws r) ws r
         ∙ ap (λ n. callBy other (n .kind) (callsAt other d) n ws r) (below k b)
 
 -- calls at enough depth do not depend on the depth

@@ -143,7 +143,12 @@ module _ (s : List ℕ) (bytes : T (allOf (λ b. ltb b 256) s)) where
 
   coded-in : (m : ℕ) → Yields (coded s (upTo m)) (λ e. e < m)
   unfolding coded
-  coded-in m = record { is = λ at e n h. let t = steps (byte s at) _ e n h in known-yields at (getElem? (upTo m) (t .value)) (λ e. e < m) (λ a p. omega (arith, from-inside 0 m (t .value) a p)) .is (t .at) e n (t .rest) }
+  coded-in m =
+      record {
+        is = λ at e n h.
+            let t = steps (byte s at) _ e n h in
+            known-yields at (getElem? (upTo m) (t .value)) (λ e. e < m) (λ a p. omega (arith, from-inside 0 m (t .value) a p)) .is (t .at) e n (t .rest);
+      }
 
   count-yields : (lo hi : ℕ) → Yields (countR s lo hi) (λ n. lo ≤ n)
   unfolding countR
@@ -154,7 +159,8 @@ module _ (s : List ℕ) (bytes : T (allOf (λ b. ltb b 256) s)) where
       go at v n m c false e h = let z : _≡_ {A = ℕ} 0 1 = cc in absurd (omega arith)
 
   section-yields : {A : Type 0} (lo hi : ℕ) (r : Reader A) (P : A → Type 0) → Yields r P → Yields (sectionR s lo hi r) (λ xs. All P xs × (lo ≤ length xs))
-  section-yields lo hi r P h = bind (countR s lo hi) (λ n. lo ≤ n) _ _ (count-yields lo hi) (λ n p. record { is = λ at xs m e. let w = many-yields n r P h .is at xs m e in (w .0, omega (arith, w .1)) })
+  section-yields lo hi r P h =
+      bind (countR s lo hi) (λ n. lo ≤ n) _ _ (count-yields lo hi) (λ n p. record { is = λ at xs m e. let w = many-yields n r P h .is at xs m e in (w .0, omega (arith, w .1)) })
 
   module _ (l : Limits) (m : ℕ) where
     ty-yields : Yields (tyR s l m) (TyOk m)

@@ -279,11 +279,13 @@ module _ (f : File) (os : List Node) (last : Node) (rs : List Equation) (p₀ : 
         → Both t t′ old old′ (cycle ld s old (t .inputs) (t .new) (t .values)) (cycle ld s′ old′ (t′ .inputs) (t′ .new) (t′ .values))
     cycle-both ld s s′ e e′ t t′ l old old′ rel =
         subst (λ ins. Both t t′ old old′ (cycle ld s old (t .inputs) (t .new) (t .values)) (cycle ld s′ old′ ins (t′ .new) (t′ .values))) (sym (l .inputs))
-        (rw (cycle-is a1 vs F1 ld s e old (t .inputs) (t .new) (t .values) (rel .ok1 .well), cycle-is a2 vs F2 ld s′ e′ old′ (t .inputs) (t′ .new) (t′ .values) (rel .ok2 .well), inputs-good (t .inputs), fits-same t t′ l)
-        (go (goodInputs a1 (t .inputs)) refl (fits17 a1 (t .new) (t .values))))
+        (let c1 = cycle-is a1 vs F1 ld s e old (t .inputs) (t .new) (t .values) (rel .ok1 .well) in
+        let c2 = cycle-is a2 vs F2 ld s′ e′ old′ (t .inputs) (t′ .new) (t′ .values) (rel .ok2 .well) in
+        rw (c1, c2, inputs-good (t .inputs), fits-same t t′ l) (go (goodInputs a1 (t .inputs)) refl (fits17 a1 (t .new) (t .values))))
       where
         go : (b : Bool) → goodInputs a1 (t .inputs) ≡ b → (b′ : Bool)
-            → Both t t′ old old′ (cycleUnless false (not b) (not b′) a1 vs old (t .inputs) (t .new) (t .values)) (cycleUnless false (not b) (not b′) a2 vs old′ (t .inputs) (t′ .new) (t′ .values))
+            → Both t t′ old old′ (cycleUnless false (not b) (not b′) a1 vs old (t .inputs) (t .new) (t .values))
+            (cycleUnless false (not b) (not b′) a2 vs old′ (t .inputs) (t′ .new) (t′ .values))
         go false q b′ ns k = (record { answer = refl; values = λ a. absurd (refused-not a) }, rel)
         go true q false ns k = (record { answer = refl; values = λ a. absurd (refused-not a) }, rel)
         go true q true ns k = run-both t t′ old old′ (t .inputs) rel (true-T (goodInputs a1 (t .inputs)) q) ns k
@@ -303,14 +305,20 @@ module _ (ld : Loader) (f : File) (os : List Node) (last : Node) (rs : List Equa
   -- what was read of the first file was read of the second
   relisted-read : FileRead (ending f os last) → FileRead (ending f os (withEquations last rs))
   relisted-read r =
-      record { enumsRead = r .enumsRead; constantsRead = r .constantsRead; nodesRead = go os (r .nodesRead); some-node = omega (arith, length-last last (withEquations last rs) os, r .some-node) }
+      record {
+        enumsRead = r .enumsRead;
+        constantsRead = r .constantsRead;
+        nodesRead = go os (r .nodesRead);
+        some-node = omega (arith, length-last last (withEquations last rs) os, r .some-node);
+      }
     where
       go : (os : List Node) → All (NodeRead (length (f .enums))) (os ++ last ∷ []) → All (NodeRead (length (f .enums))) (os ++ withEquations last rs ∷ [])
       go [] h = let x = h .0 in (record { ins = x .ins; outs = x .outs; locs = x .locs; some-out = x .some-out; eqs = perm-all EquationRead p (x .eqs) }, tt)
       go (o ∷ os) h = (h .0, go os (h .1))
 
   abbrev Claim : List ℕ → List ℕ → List Value → List Turn → List Turn → File → File → Type 0
-  Claim s s′ vs ts ts′ f f′ = (judge ld s′ ≡ admitted f′ vs) × (admission ld s′ ≡ admission ld s) × AgreeUntil f (history ld s ts (freshState f vs)) (history ld s′ ts′ (freshState f′ vs))
+  Claim s s′ vs ts ts′ f f′ =
+      (judge ld s′ ≡ admitted f′ vs) × (admission ld s′ ≡ admission ld s) × AgreeUntil f (history ld s ts (freshState f vs)) (history ld s′ ts′ (freshState f′ vs))
 
   relist-two : (s s′ : List ℕ) (vs : List Value) (at : ℕ) (ts ts′ : List Turn) → Bytes s → judge ld s ≡ admitted (ending f os last) vs
       → readFile s′ ld ≡ got (ending f os (withEquations last rs)) at → AllAlike ts ts′

@@ -148,7 +148,8 @@ start-length n ins r e =
     let old = oldCells n r in
     length-append ins _ ∙ omega (arith, length-drop (length (n .inputs)) old, length-values (length (variables n)) (drop 1 r), variables-length n)
 
-module _ {Q : Value → Type 0} {g : Globals} {p : ℕ → List ℕ → Bool} {ok : ℕ → ℕ → Bool} {calls : Calls} (sound : Sound Q g p ok calls) (n : Node) (plain : PlainEqs ok (n .equations)) where
+module _ {Q : Value → Type 0} {g : Globals} {p : ℕ → List ℕ → Bool} {ok : ℕ → ℕ → Bool} {calls : Calls} (sound : Sound Q g p ok calls)
+    (n : Node) (plain : PlainEqs ok (n .equations)) where
   -- an equation's right side
   pub equation-meets : (first : Bool) (before cs : List Value) (i : ℕ) (s : List ℕ) → All Q before → All Q cs → Good g p (callees (equationAt n i .rhs)) s
       → MeetsAll Q g p (callees (equationAt n i .rhs)) (arityIn g (rhsOf (equationAt n i .rhs))) (evalEquation g calls n first before cs i s)
@@ -229,7 +230,8 @@ module _ {g : Globals} {p : ℕ → List ℕ → Bool} {n : Node} where
   unfolding goodOwn
   old-fine {r} short h =
       let vs = concat (g .enums) in
-      fine-values vs short (length (variables n)) (drop 1 r) (T-and (leb (getD r 0 0) 1) _ (T-and (leb (getD r 0 0) 1 && goodCells vs (length (variables n)) (drop 1 r)) _ (h .own) .0) .1)
+      let m = length (variables n) in
+      fine-values vs short m (drop 1 r) (T-and (leb (getD r 0 0) 1) _ (T-and (leb (getD r 0 0) 1 && goodCells vs m (drop 1 r)) _ (h .own) .0) .1)
 
   pub inner-good : {r : List ℕ} → Instance g p n r → Good g p (sites n) (drop (ownSize n) r)
   inner-good {r} h = record { sized = length-drop (ownSize n) r ∙ omega (arith, h .sized); good = h .inner }

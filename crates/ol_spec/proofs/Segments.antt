@@ -223,8 +223,12 @@ module _ {Q : Value → Type 0} {g : Globals} {p : ℕ → List ℕ → Bool} wh
     choose-meets : (a b : List ℕ) (t : Bool) (x y : Branch) → Good g p a (x .seg) → Good g p b (y .seg) → Meets Q g p a (x .run (x .seg))
         → Meets Q g p b (y .run (y .seg)) → Meets Q g p (a ++ b) (choose t x y)
     unfolding choose
-    choose-meets a b true x y p q h k = let r = branches-kept a b (x .run (x .seg) .out) (x .run (x .seg) .seg) y (h .out) (h .seg) q k in record { seg = joined a (r .taken) (r .other); out = r .out }
-    choose-meets a b false x y p q h k = let r = branches-kept b a (y .run (y .seg) .out) (y .run (y .seg) .seg) x (k .out) (k .seg) p h in record { seg = joined a (r .other) (r .taken); out = r .out }
+    choose-meets a b true x y p q h k =
+        let r = branches-kept a b (x .run (x .seg) .out) (x .run (x .seg) .seg) y (h .out) (h .seg) q k in
+        record { seg = joined a (r .taken) (r .other); out = r .out }
+    choose-meets a b false x y p q h k =
+        let r = branches-kept b a (y .run (y .seg) .out) (y .run (y .seg) .seg) x (k .out) (k .seg) p h in
+        record { seg = joined a (r .other) (r .taken); out = r .out }
 
   condition-meets : (b : List ℕ) (k : Bool → List ℕ → Eval) (v : Value) (rest : List ℕ) → Good g p b rest → ((t : Bool) → Meets Q g p b (k t rest))
       → Meets Q g p b (condition k v rest)
@@ -344,7 +348,8 @@ module _ {Q : Value → Type 0} {g : Globals} {p : ℕ → List ℕ → Bool} {o
     eval-meets (call k es) seg x h =
         let w = head-good h in
         single-meets (k ∷ calleesAll es) _ _
-        (enter-meets k (calleesAll es) (count es) (calls k) _ _ (w .0) (evalAll-meets es _ (x .1) (w .1)) (λ ws f n. sound .keeps k ws _ (subst (λ m. T (ok k m)) (sym n) (x .0)) f (w .0)))
+        (enter-meets k (calleesAll es) (count es) (calls k) _ _ (w .0) (evalAll-meets es _ (x .1) (w .1))
+        (λ ws f n. sound .keeps k ws _ (subst (λ m. T (ok k m)) (sym n) (x .0)) f (w .0)))
     eval-meets (tuple es) seg x h = record { seg = h; out = tt }
 
     pub evalAll-meets : (es : Exprs) (seg : List ℕ) → PlainAll ok es → Good g p (calleesAll es) seg → MeetsAll Q g p (calleesAll es) (count es) (evalAll g s calls es seg)
@@ -367,5 +372,6 @@ module _ {Q : Value → Type 0} {g : Globals} {p : ℕ → List ℕ → Bool} {o
   rhs-meets (cast t e) seg x h = several-meets _ _ (eval-meets (cast t e) seg x h)
   rhs-meets (call k es) seg x h =
       let w = head-good h in
-      enter-meets k (calleesAll es) (count es) (calls k) _ _ (w .0) (evalAll-meets es _ (x .1) (w .1)) (λ ws f n. sound .keeps k ws _ (subst (λ m. T (ok k m)) (sym n) (x .0)) f (w .0))
+      enter-meets k (calleesAll es) (count es) (calls k) _ _ (w .0) (evalAll-meets es _ (x .1) (w .1))
+      (λ ws f n. sound .keeps k ws _ (subst (λ m. T (ok k m)) (sym n) (x .0)) f (w .0))
   rhs-meets (tuple es) seg x h = evalAll-meets es seg x h

@@ -265,7 +265,8 @@ module _ (f : File) (vs : List Value) (F : Facts f vs) where
     unfolding mainRun
     ran =
         let fine = each-fine (f .enums) (F .callable .short) (n .inputs) ins each in
-        run-meets (calls-sound (F .callable) (length (f .nodes))) n plain-main ws rec fine (length-values (length (n .inputs)) ins) (old-fine (F .callable .short) (h .inst)) (inner-good (h .inst))
+        run-meets (calls-sound (F .callable) (length (f .nodes))) n plain-main ws rec fine (length-values (length (n .inputs)) ins)
+        (old-fine (F .callable .short) (h .inst)) (inner-good (h .inst))
 
     pub begins : length (begin f vs (F .mainly) old ws) ≡ length (variables n)
     begins = start-length n ws rec (length-values (length (n .inputs)) ins)
@@ -302,7 +303,8 @@ module _ (f : File) (vs : List Value) (F : Facts f vs) where
     answered-well = subst (λ l. StateWell (l ++ startedRecord (u .cells) (u .segs))) (sym (h .head)) (well-parts (startedRecord (u .cells) (u .segs)) (started-instance u ran))
 
     pub answered-parts : Parts answered (u .cells) false (u .segs)
-    answered-parts = subst (λ l. Parts (l ++ startedRecord (u .cells) (u .segs)) (u .cells) false (u .segs)) (sym (h .head)) (parts-of 1 (u .cells) (u .segs) (ran .fine) (ran .counted) (ran .segs))
+    answered-parts =
+        subst (λ l. Parts (l ++ startedRecord (u .cells) (u .segs)) (u .cells) false (u .segs)) (sym (h .head)) (parts-of 1 (u .cells) (u .segs) (ran .fine) (ran .counted) (ran .segs))
 
     pub answered-ok : InKind f (u .cells) → StateOk answered
     answered-ok k = record { well = answered-well; kinds = ap (map tag) (answered-parts .cells) ∙ k }
