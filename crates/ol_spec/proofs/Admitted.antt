@@ -90,10 +90,13 @@ module _ (f : File) (short : (x : ℕ) → T (member x (concat (f .enums))) → 
   constants-fine [] xs us vs h p e = let z : us ≡ vs = cc in (subst (AllFine ens) z h, ap length (sym z) ∙ omega arith)
   constants-fine (c ∷ cs) xs us vs h p e =
       go (eval (globals f xs us) noVariables noCalls (c .1 .value) [] .out) (constant-fine xs us (c .1 .value) h (p .0)) e
-      (λ v q. constants-fine cs (xs ++ c .1 .name ∷ []) (us ++ fit (c .1 .ty) v ∷ []) vs q (p .1))
+      (λ v q. constants-fine cs (xs ++ c .1 .name ∷ []) (more v) vs q (p .1))
     where
-      go : (o : Outcome) → FineOut ens o → afterConstant (c .0) (λ v. constantsFrom f (xs ++ c .1 .name ∷ []) (us ++ fit (c .1 .ty) v ∷ []) cs) o ≡ all vs
-          → ((v : Value) → AllFine ens (us ++ fit (c .1 .ty) v ∷ []) → constantsFrom f (xs ++ c .1 .name ∷ []) (us ++ fit (c .1 .ty) v ∷ []) cs ≡ all vs → AllFine ens vs × (length vs ≡ length (us ++ fit (c .1 .ty) v ∷ []) + length cs))
+      more : Value → List Value
+      more v = us ++ fit (c .1 .ty) v ∷ []
+
+      go : (o : Outcome) → FineOut ens o → afterConstant (c .0) (λ v. constantsFrom f (xs ++ c .1 .name ∷ []) (more v) cs) o ≡ all vs
+          → ((v : Value) → AllFine ens (more v) → constantsFrom f (xs ++ c .1 .name ∷ []) (more v) cs ≡ all vs → AllFine ens vs × (length vs ≡ length (more v) + length cs))
           → AllFine ens vs × (length vs ≡ length us + length (c ∷ cs))
       go (Out.Value v) q e k =
           let w = k v (all-join (Fine ens) us (fit (c .1 .ty) v ∷ []) h (fit-fine ens (c .1 .ty) v q, tt)) e in
