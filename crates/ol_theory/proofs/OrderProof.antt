@@ -184,6 +184,12 @@ module _ (n : ℕ) (deps : ℕ → List ℕ) where
       passes-add deps n k n (k - n) [] (omega arith)
       ∙ passes-idle deps n (k - n) (order n deps) (pass-idle deps (upto n) (order n deps) (settled .1) .0)
 
+  -- who stops at the first pass that adds nothing has the order
+  pub passes-stop : (k : ℕ) → k ≤ n → length (pass deps (upto n) (passes n deps k [])) ≤ length (passes n deps k []) → passes n deps k [] ≡ order n deps
+  unfolding order
+  passes-stop k h p =
+      sym (passes-add deps n n k (n - k) [] (omega arith) ∙ passes-idle deps n (n - k) (passes n deps k []) (pass-idle deps (upto n) (passes n deps k []) p .0))
+
   -- a list with fewer than n entries leaves one of 0 .. n-1 out
   pub left-out : (l : List ℕ) → length l < n → (i : ℕ) × (i < n) × (¬ (i ∈ l))
   left-out l h =
