@@ -30,6 +30,7 @@ use Rattle.ol_spec.specs.declared.Outcome.{Outcome}
 use Rattle.ol_spec.specs.declared.Outcome.the-variants as Out
 use Rattle.ol_spec.proofs.Tests.{T-and, and-T, member-in, in-member}
 use Rattle.ol_spec.proofs.Lists.{All, all-at, all-in, all-join}
+use Rattle.ol_spec.proofs.Rights.{by-right}
 use Rattle.ol_spec.proofs.Ordering.{Placed, placed-or-stuck}
 use Rattle.ol_spec.proofs.Values.{Fine, FineOut, fit-fine, fine-closed}
 use Rattle.ol_spec.proofs.Cells.{AllFine}
@@ -229,19 +230,11 @@ module _ (ld : Loader) (s : List ℕ) (f : File) (vs : List Value) (read : FileR
     n = getD (f .nodes) k noNode
 
     arity-some : (e : Expr) → TupleOk (rhsOf e) → Plain (mayBe g) e → 1 ≤ arity f (rhsOf e)
-    arity-some (boolLit b) r p = omega arith
-    arity-some (intLit i) r p = omega arith
-    arity-some (floatLit b) r p = omega arith
-    arity-some (charLit c) r p = omega arith
-    arity-some (var x) r p = omega arith
-    arity-some (unary op e) r p = omega arith
-    arity-some (binary op l x) r p = omega arith
-    arity-some (ifThenElse c t e) r p = omega arith
-    arity-some (pre e) r p = omega arith
-    arity-some (arrow x y) r p = omega arith
-    arity-some (cast t e) r p = omega arith
-    arity-some (call k es) r p = node-read k (ltb→lt k (length (f .nodes)) (T-and (ltb k (length (f .nodes))) _ (p .0) .0)) .some-out
-    arity-some (tuple es) r p = omega arith
+    arity-some =
+        by-right (λ e r. TupleOk r → Plain (mayBe g) e → 1 ≤ arity f r)
+        (λ e r p. omega arith)
+        (λ k es r p. node-read k (ltb→lt k (length (f .nodes)) (T-and (ltb k (length (f .nodes))) _ (p .0) .0)) .some-out)
+        (λ es r p. omega arith)
 
     arity-same : (r : Rhs) → arityIn g r ≡ arity f r
     arity-same (items es) = refl

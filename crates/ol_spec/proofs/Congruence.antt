@@ -18,6 +18,7 @@ use Rattle.ol_spec.specs.Eval.{Globals, Scope, Calls, RealKind, notReal,
 use Rattle.ol_spec.specs.Step.{equationAt, evalEquation}
 use Rattle.ol_spec.specs.declared.Value.{Value}
 use Rattle.ol_spec.specs.declared.Value.the-variants as Val
+use Rattle.ol_spec.proofs.Rights.{by-right}
 
 -- whether there is a value, and its real kind
 abbrev pub kindIn : Option Value → Option RealKind
@@ -96,19 +97,11 @@ module _ (g : Globals) (names : List ℕ) (before : List Value) (first : Bool) (
         λ i. nextAll (eval-same e (left (readsAll es) h) (take (segSize g e) seg) i) (λ rest. evalAll-same es (right (reads e) h) rest i) (drop (segSize g e) seg)
 
   pub evalRhs-same : (e : Expr) → Agree (reads e) → (seg : List ℕ) → evalRhs g (with p) calls (rhsOf e) seg ≡ evalRhs g (with q) calls (rhsOf e) seg
-  evalRhs-same (boolLit b) h seg = ap severalEval (eval-same (boolLit b) h seg)
-  evalRhs-same (intLit i) h seg = ap severalEval (eval-same (intLit i) h seg)
-  evalRhs-same (floatLit b) h seg = ap severalEval (eval-same (floatLit b) h seg)
-  evalRhs-same (charLit c) h seg = ap severalEval (eval-same (charLit c) h seg)
-  evalRhs-same (var x) h seg = ap severalEval (eval-same (var x) h seg)
-  evalRhs-same (unary op e) h seg = ap severalEval (eval-same (unary op e) h seg)
-  evalRhs-same (binary op l r) h seg = ap severalEval (eval-same (binary op l r) h seg)
-  evalRhs-same (ifThenElse c t e) h seg = ap severalEval (eval-same (ifThenElse c t e) h seg)
-  evalRhs-same (pre e) h seg = ap severalEval (eval-same (pre e) h seg)
-  evalRhs-same (arrow a b) h seg = ap severalEval (eval-same (arrow a b) h seg)
-  evalRhs-same (cast t e) h seg = ap severalEval (eval-same (cast t e) h seg)
-  evalRhs-same (call k es) h seg = ap (enter (calls k) (take (recordSize g k) seg)) (evalAll-same es h (drop (recordSize g k) seg))
-  evalRhs-same (tuple es) h seg = evalAll-same es h seg
+  evalRhs-same =
+      by-right (λ e r. Agree (reads e) → (seg : List ℕ) → evalRhs g (with p) calls r seg ≡ evalRhs g (with q) calls r seg)
+      (λ e h seg. ap severalEval (eval-same e h seg))
+      (λ k es h seg. ap (enter (calls k) (take (recordSize g k) seg)) (evalAll-same es h (drop (recordSize g k) seg)))
+      (λ es h seg. evalAll-same es h seg)
 
 -- ---- a real kind by its tag
 

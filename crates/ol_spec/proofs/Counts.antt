@@ -16,6 +16,7 @@ use Rattle.ol_spec.specs.declared.Value.{Value}
 use Rattle.ol_spec.specs.declared.Outcome.{Outcome}
 use Rattle.ol_spec.specs.declared.Outcome.the-variants as Out
 use Rattle.ol_spec.proofs.Tests.{T-and}
+use Rattle.ol_spec.proofs.Rights.{by-right}
 use Rattle.ol_spec.proofs.Segments.{Plain, arityIn}
 use Rattle.ol_spec.proofs.Runs.{variables-length, start-length, store-length, length-fitAll}
 use Rattle.ol_spec.proofs.Calls.{mayBe}
@@ -64,21 +65,13 @@ module _ (g : Globals) (s : Scope) (calls : Calls) (counts : Counts g calls) whe
   evalAll-count (cons e es) seg = nextAll-count (count es) (eval g s calls e (take (segSize g e) seg)) (evalAll g s calls es) (drop (segSize g e) seg) (evalAll-count es _)
 
   pub rhs-count : (e : Expr) (seg : List ℕ) → Plain (mayBe g) e → CountIs (arityIn g (rhsOf e)) (evalRhs g s calls (rhsOf e) seg .out)
-  rhs-count (boolLit b) seg p = several-count (eval g s calls (boolLit b) seg .out)
-  rhs-count (intLit i) seg p = several-count (eval g s calls (intLit i) seg .out)
-  rhs-count (floatLit b) seg p = several-count (eval g s calls (floatLit b) seg .out)
-  rhs-count (charLit c) seg p = several-count (eval g s calls (charLit c) seg .out)
-  rhs-count (var x) seg p = several-count (eval g s calls (var x) seg .out)
-  rhs-count (unary op e) seg p = several-count (eval g s calls (unary op e) seg .out)
-  rhs-count (binary op l r) seg p = several-count (eval g s calls (binary op l r) seg .out)
-  rhs-count (ifThenElse c t e) seg p = several-count (eval g s calls (ifThenElse c t e) seg .out)
-  rhs-count (pre e) seg p = several-count (eval g s calls (pre e) seg .out)
-  rhs-count (arrow a b) seg p = several-count (eval g s calls (arrow a b) seg .out)
-  rhs-count (cast t e) seg p = several-count (eval g s calls (cast t e) seg .out)
-  rhs-count (call k es) seg p =
+  rhs-count =
+      by-right (λ e r. (seg : List ℕ) → Plain (mayBe g) e → CountIs (arityIn g r) (evalRhs g s calls r seg .out))
+      (λ e seg p. several-count (eval g s calls e seg .out))
+      (λ k es seg p.
       enter-count (count es) _ (calls k) (take (recordSize g k) seg) _ (evalAll-count es (drop (recordSize g k) seg))
-      (λ ws e. counts k ws _ (subst (λ m. T (mayBe g k m)) (sym e) (p .0)))
-  rhs-count (tuple es) seg p = evalAll-count es seg
+      (λ ws e. counts k ws _ (subst (λ m. T (mayBe g k m)) (sym e) (p .0))))
+      (λ es seg p. evalAll-count es seg)
 
 pub runAll-cells : (g : Globals) (calls : Calls) (n : Node) (first : Bool) (before : List Value) (is : List ℕ) (cs : List Value) (ss : List (List ℕ))
     → length (runAll g calls n first before is cs ss .cells) ≡ length cs

@@ -18,6 +18,7 @@ use Rattle.ol_spec.specs.Eval.{Globals, Scope, Calls, failure, callees, 
 use Rattle.ol_spec.specs.Step.{Ended, finished, failedAt, overflowedAt, equationSites, sites, split, oldCells, isFresh, fitAll, noEquation, equationAt, Run, store, scope, evalEquation, runAll, run, freshInstance, freshBy, freshAt, freshRecord, leaveOn, leave, instance, callBy, callsAt}
 use Rattle.ol_spec.specs.declared.Value.{Value}
 use Rattle.ol_spec.proofs.Lists.{in-concat}
+use Rattle.ol_spec.proofs.Rights.{by-right}
 
 -- the call sites of an equation are sites of its node
 pub site-in : (qs : List Equation) (i c : ℕ) → c ∈ callees (getD qs i noEquation .rhs) → c ∈ concat (map equationSites qs)
@@ -100,22 +101,14 @@ module _ (g : Globals) (ns : List Node) (sz : List ℕ) (sizes : g .sizes ≡ sz
             λ i. nextAll (eval-other e he (take (sitesSize (sizes i) (callees e)) seg) i) (λ rest. evalAll-other es hs rest i) (drop (sitesSize (sizes i) (callees e)) seg)
 
       pub rhs-other : (e : Expr) → Same (callees e) → (seg : List ℕ) → evalRhs g s calls (rhsOf e) seg ≡ evalRhs other s calls′ (rhsOf e) seg
-      rhs-other (boolLit b) h seg = ap severalEval (eval-other (boolLit b) h seg)
-      rhs-other (intLit i) h seg = ap severalEval (eval-other (intLit i) h seg)
-      rhs-other (floatLit b) h seg = ap severalEval (eval-other (floatLit b) h seg)
-      rhs-other (charLit c) h seg = ap severalEval (eval-other (charLit c) h seg)
-      rhs-other (var x) h seg = ap severalEval (eval-other (var x) h seg)
-      rhs-other (unary op e) h seg = ap severalEval (eval-other (unary op e) h seg)
-      rhs-other (binary op l r) h seg = ap severalEval (eval-other (binary op l r) h seg)
-      rhs-other (ifThenElse c t e) h seg = ap severalEval (eval-other (ifThenElse c t e) h seg)
-      rhs-other (pre e) h seg = ap severalEval (eval-other (pre e) h seg)
-      rhs-other (arrow a b) h seg = ap severalEval (eval-other (arrow a b) h seg)
-      rhs-other (cast t e) h seg = ap severalEval (eval-other (cast t e) h seg)
-      rhs-other (call k es) h seg =
+      rhs-other =
+          by-right (λ e r. Same (callees e) → (seg : List ℕ) → evalRhs g s calls r seg ≡ evalRhs other s calls′ r seg)
+          (λ e h seg. ap severalEval (eval-other e h seg))
+          (λ k es h seg.
           let hk = h k (here refl) in
           let hs : Same (calleesAll es) = λ x m. h x (there m) in
-          λ i. enter (λ ws r. hk ws r i) (take (sizeIn (sizes i) k) seg) (evalAll-other es hs (drop (sizeIn (sizes i) k) seg) i)
-      rhs-other (tuple es) h seg = evalAll-other es h seg
+          λ i. enter (λ ws r. hk ws r i) (take (sizeIn (sizes i) k) seg) (evalAll-other es hs (drop (sizeIn (sizes i) k) seg) i))
+          (λ es h seg. evalAll-other es h seg)
 
     pub split-other : (qs : List Equation) (s : List ℕ) → split g qs s ≡ split other qs s
     unfolding split

@@ -24,6 +24,7 @@ use Rattle.ol_spec.specs.declared.Outcome.{Outcome}
 use Rattle.ol_spec.specs.declared.Outcome.the-variants as Out
 use Rattle.ol_spec.proofs.Tests.{T-and, and-T}
 use Rattle.ol_spec.proofs.Lists.{All}
+use Rattle.ol_spec.proofs.Rights.{by-right}
 use Rattle.ol_spec.proofs.Values.{Small, Gives, Closed, cond-T}
 
 -- ---- the sizes of call sites add up
@@ -359,19 +360,11 @@ module _ {Q : Value → Type 0} {g : Globals} {p : ℕ → List ℕ → Bool} {o
         nextAll-meets (callees e) (calleesAll es) (count es) _ _ _ (eval-meets e _ (x .0) (w .0)) (w .1) (evalAll-meets es _ (x .1) (w .1))
 
   pub rhs-meets : (e : Expr) (seg : List ℕ) → Plain ok e → Good g p (callees e) seg → MeetsAll Q g p (callees e) (arityIn g (rhsOf e)) (evalRhs g s calls (rhsOf e) seg)
-  rhs-meets (boolLit b) seg x h = several-meets _ _ (eval-meets (boolLit b) seg x h)
-  rhs-meets (intLit i) seg x h = several-meets _ _ (eval-meets (intLit i) seg x h)
-  rhs-meets (floatLit b) seg x h = several-meets _ _ (eval-meets (floatLit b) seg x h)
-  rhs-meets (charLit c) seg x h = several-meets _ _ (eval-meets (charLit c) seg x h)
-  rhs-meets (var n) seg x h = several-meets _ _ (eval-meets (var n) seg x h)
-  rhs-meets (unary op e) seg x h = several-meets _ _ (eval-meets (unary op e) seg x h)
-  rhs-meets (binary op l r) seg x h = several-meets _ _ (eval-meets (binary op l r) seg x h)
-  rhs-meets (ifThenElse c t e) seg x h = several-meets _ _ (eval-meets (ifThenElse c t e) seg x h)
-  rhs-meets (pre e) seg x h = several-meets _ _ (eval-meets (pre e) seg x h)
-  rhs-meets (arrow a b) seg x h = several-meets _ _ (eval-meets (arrow a b) seg x h)
-  rhs-meets (cast t e) seg x h = several-meets _ _ (eval-meets (cast t e) seg x h)
-  rhs-meets (call k es) seg x h =
+  rhs-meets =
+      by-right (λ e r. (seg : List ℕ) → Plain ok e → Good g p (callees e) seg → MeetsAll Q g p (callees e) (arityIn g r) (evalRhs g s calls r seg))
+      (λ e seg x h. several-meets _ _ (eval-meets e seg x h))
+      (λ k es seg x h.
       let w = head-good h in
       enter-meets k (calleesAll es) (count es) (calls k) _ _ (w .0) (evalAll-meets es _ (x .1) (w .1))
-      (λ ws f n. sound .keeps k ws _ (subst (λ m. T (ok k m)) (sym n) (x .0)) f (w .0))
-  rhs-meets (tuple es) seg x h = evalAll-meets es seg x h
+      (λ ws f n. sound .keeps k ws _ (subst (λ m. T (ok k m)) (sym n) (x .0)) f (w .0)))
+      (λ es seg x h. evalAll-meets es seg x h)
