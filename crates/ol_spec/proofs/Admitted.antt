@@ -13,8 +13,8 @@ use lib.Ieee.{binary32, binary64}
 use lib.Ieee.Bits as B
 use Rattle.ol_theory.specs.Member.{_∈_}
 use Rattle.ol_spec.specs.Lists.{concat, member, orElse, maybe}
-use Rattle.ol_spec.specs.Syntax.{Ty, bool, int, float32, float64, char, enum, Expr, boolLit, intLit, floatLit, charLit, var, unary, binary, ifThenElse}
-use Rattle.ol_spec.specs.Syntax.{pre, arrow, cast, call, tuple, Rhs, items, outputsOf, one, rhsOf, Variable, nameOf, Equation, Node, Constant, File}
+use Rattle.ol_spec.specs.Syntax.{Ty, bool, int, float32, float64, char, enum, Expr}
+use Rattle.ol_spec.specs.Syntax.{Rhs, items, outputsOf, one, rhsOf, Variable, nameOf, Equation, Node, Constant, File}
 use Rattle.ol_spec.specs.Syntax.{noNode, variables, variableNames}
 use Rattle.ol_spec.specs.Places.{placed, placedNodes, placedConstants, placedEquations, nodeSize, constantSize, constantsStart, nodesStart}
 use Rattle.ol_spec.specs.Types.{default, defaults, fit}

@@ -7,8 +7,8 @@ use native.Mathlib.Omega.{arith}
 use lib.ListN.{length, take, drop, getD, set, length-drop}
 use lib.Seq.{length-take-le}
 use lib.Dec.{T, ltb, eqb→eq}
-use Rattle.ol_spec.specs.Syntax.{NodeKind, Function, Operator, Imported, Expr, boolLit, intLit, floatLit, charLit, var, unary, binary, ifThenElse, pre}
-use Rattle.ol_spec.specs.Syntax.{arrow, cast, call, tuple, Exprs, nil, cons, count, rhsOf, Node, variables}
+use Rattle.ol_spec.specs.Syntax.{NodeKind, Function, Operator, Imported, Expr}
+use Rattle.ol_spec.specs.Syntax.{Exprs, nil, cons, count, rhsOf, Node, variables}
 use Rattle.ol_spec.specs.Order.{order}
 use Rattle.ol_spec.specs.Eval.{Globals, Scope, Calls, Eval, Evals, Outcomes, values, failure, overflow, nodeAt, recordSize, segSize, eval, evalAll, evalRhs, nextAll, nextAllOn, consOut, enter, enterOn, several}
 use Rattle.ol_spec.specs.Step.{oldCells, oldSegs, isFresh, fitAll, assign, Ended, finished, failedAt, overflowedAt, Run, equationAt, storeOn, store, evalEquation, runAll, run, leaveOn, leave, instance, callBy, callsAt, freshRecord}
