@@ -1,7 +1,7 @@
 -- Everything that the proofs of demand 3 use of an admitted file that was read from bytes.
 use Prim.Native.Nat.{ℕ, zero, suc, _+_, _-_, _^_, _<_, _≤_}
 use mathlib.Core.Bool.{Bool, true, false, _&&_}
-use mathlib.Core.List.{List, [], _∷_, _++_, map, List·Memᴰ·head as here, List·Memᴰ·not-nil as in-nil, List·Memᴰ·cases-cons as in-cons, List·Memᴰ·append-cases as in-append, Memᴰ·append-left as in-left, Memᴰ·append-right as in-right}
+use mathlib.Core.List.{List, [], _∷_, _++_, map, List·Memᴰ·head as here, List·Memᴰ·not-nil as in-nil, List·Memᴰ·append-cases as in-append, Memᴰ·append-left as in-left, Memᴰ·append-right as in-right}
 use mathlib.Core.Logic.{⊎-elim, by-cases}
 use mathlib.Core.Option.{Option, none, some}
 use mathlib.Core.Path.{_≡_, refl, sym, ap, subst, _∙_}
@@ -11,41 +11,40 @@ use lib.ListN.{length, getD, length-append, List·getD-eq-default}
 use lib.Dec.{T, ltb, ltb→lt, lt→ltb}
 use lib.Ieee.{binary32, binary64}
 use lib.Ieee.Bits as B
-use Rattle.ol_theory.specs.Member.{_∈_, Distinct}
+use Rattle.ol_theory.specs.Member.{_∈_}
 use Rattle.ol_spec.specs.Lists.{concat, member, orElse, maybe}
-use Rattle.ol_spec.specs.Syntax.{Ty, bool, int, float32, float64, char, enum, Expr, boolLit, intLit, floatLit, charLit, var, unary, binary, ifThenElse}
-use Rattle.ol_spec.specs.Syntax.{pre, arrow, cast, call, tuple, Rhs, items, outputsOf, one, rhsOf, Variable, nameOf, Equation, Node, Constant, File}
-use Rattle.ol_spec.specs.Syntax.{noNode, main, variables, variableNames}
+use Rattle.ol_spec.specs.Syntax.{Ty, bool, int, float32, float64, char, enum, Expr}
+use Rattle.ol_spec.specs.Syntax.{Rhs, items, outputsOf, one, rhsOf, Variable, nameOf, Equation, Node, Constant, File}
+use Rattle.ol_spec.specs.Syntax.{noNode, variables, variableNames}
 use Rattle.ol_spec.specs.Places.{placed, placedNodes, placedConstants, placedEquations, nodeSize, constantSize, constantsStart, nodesStart}
 use Rattle.ol_spec.specs.Types.{default, defaults, fit}
 use Rattle.ol_spec.specs.Limits.{Loader}
 use Rattle.ol_spec.specs.Order.{unplaced}
 use Rattle.ol_spec.specs.Eval.{Globals, callees, eval}
-use Rattle.ol_spec.specs.Step.{sites, noEquation, equationAt, evalEquation, scope, calls, globals}
+use Rattle.ol_spec.specs.Step.{sites, noEquation, equationAt, scope, calls, globals}
 use Rattle.ol_spec.specs.State.{globalsOf}
-use Rattle.ol_spec.specs.Admission.{placeAt, calleeIn, mayCall, arity, inConstant, callsWhere, nodeCalls, numbered, fault9, ringIn, firstSome, fault11, constantNames, variants, all, noCalls, noVariables, afterConstant, constantsFrom, constants}
+use Rattle.ol_spec.specs.Admission.{placeAt, calleeIn, mayCall, arity, inConstant, callsWhere, nodeCalls, numbered, fault9, ringIn, firstSome, fault11, constantNames, variants, all, noCalls, noVariables, afterConstant, constantsFrom, constants, admitted, judge}
+use Rattle.ol_spec.specs.Demand3.{Bytes}
 use Rattle.ol_spec.specs.declared.Value.{Value}
 use Rattle.ol_spec.specs.declared.Outcome.{Outcome}
 use Rattle.ol_spec.specs.declared.Outcome.the-variants as Out
 use Rattle.ol_spec.proofs.Tests.{T-and, and-T, member-in, in-member}
+use Rattle.ol_spec.proofs.Lists.{All, all-at, all-in, all-join}
+use Rattle.ol_spec.proofs.Rights.{by-right}
 use Rattle.ol_spec.proofs.Ordering.{Placed, placed-or-stuck}
-use Rattle.ol_spec.proofs.Values.{Fine, FineOut, fit-fine}
+use Rattle.ol_spec.proofs.Values.{Fine, FineOut, fit-fine, fine-closed}
 use Rattle.ol_spec.proofs.Cells.{AllFine}
-use Rattle.ol_spec.proofs.Good.{Plain, Good, none-good, arityIn, eval-meets}
-use Rattle.ol_spec.proofs.Runs.{PlainEqs, plain-at, fine-append}
-use Rattle.ol_spec.proofs.Calls.{mayBe}
-use Rattle.ol_spec.proofs.Counts.{CountIs, rhs-count, calls-count}
-use Rattle.ol_spec.proofs.ReadFacts.{All, TyOk, VariableRead, TupleOk, NameRead, EnumRead, EquationRead, NodeRead, ConstantRead, FileRead}
-use Rattle.ol_spec.proofs.Admits.{Admits, Clean, first-clean, clean-parts, clean-each, all-at, okFor, plain-calls, plain-eqs-more, callee-allowed, site-allowed, node-plain}
+use Rattle.ol_spec.proofs.Segments.{Plain, Good, none-good, anyRecord, arityIn, eval-meets}
+use Rattle.ol_spec.proofs.Runs.{PlainEqs, plain-at}
+use Rattle.ol_spec.proofs.Calls.{mayBe, Callable}
+use Rattle.ol_spec.proofs.Counts.{rhs-count, calls-count}
+use Rattle.ol_spec.proofs.ReadFacts.{TyOk, VariableRead, TupleOk, NameRead, EnumRead, EquationRead, NodeRead, ConstantRead, FileRead, file-read}
+use Rattle.ol_spec.proofs.Admits.{Admits, admits, Clean, first-clean, clean-parts, clean-each, okFor, plain-calls, plain-eqs-more, callee-allowed, site-allowed, node-plain}
 use Rattle.ol_spec.proofs.MainFacts.{main-at, fresh-out, fresh-distinct, distinct-names, names-seen, names-fresh, namesOf, seenBy, takenIn, Shaped, shapes, shaped-arity}
-use Rattle.ol_spec.proofs.MainSystem.{Known, in-concat}
-use Rattle.ol_spec.proofs.OneCycle.{MainOk}
+use Rattle.ol_spec.proofs.MainSystem.{Known, names-in}
+use Rattle.ol_spec.proofs.OneCycle.{NodeOk, MainOk}
 
 -- ---- lists
-
-all-in : (P : ℕ → Type 0) (xs : List ℕ) (x : ℕ) → All P xs → x ∈ xs → P x
-all-in P [] x h m = absurd (in-nil m)
-all-in P (y ∷ xs) x h m = ⊎-elim (λ e. subst P (sym e) (h .0)) (all-in P xs x (h .1)) (in-cons m)
 
 concat-all : (P : ℕ → Type 0) (ls : List (List ℕ)) (x : ℕ) → All (All P) ls → x ∈ concat ls → P x
 concat-all P [] x h m = absurd (in-nil m)
@@ -82,25 +81,26 @@ module _ (f : File) (short : (x : ℕ) → T (member x (concat (f .enums))) → 
   abbrev never : ℕ → ℕ → Bool
   never c m = false
 
-  abbrev always : ℕ → List ℕ → Bool
-  always k r = true
-
   constant-fine : (xs : List ℕ) (vs : List Value) (e : Expr) → AllFine ens vs → Plain never e → FineOut ens (eval (globals f xs vs) noVariables noCalls e [] .out)
   constant-fine xs vs e h p =
-      eval-meets (globals f xs vs) always never noVariables noCalls short tt tt h (λ k ws r t fs q. absurd t) e [] p
-      (subst (λ l. Good (globals f xs vs) always l []) (sym (no-members (callees e) (λ c m. callee-allowed never e c p m .1))) (none-good (globals f xs vs) always)) .out
+      eval-meets {calls = noCalls} (record { closed = fine-closed ens; variants = λ x t. (t, short x t); constants = h; keeps = λ k ws r t fs q. absurd t }) noVariables tt tt e [] p
+      (subst (λ l. Good (globals f xs vs) anyRecord l []) (sym (no-members (callees e) (λ c m. callee-allowed never e c p m .1))) none-good) .out
 
-  constants-fine : (cs : List (ℕ × Constant)) (xs : List ℕ) (us vs : List Value) → AllFine ens us → All (λ c. Plain never (c .1 .value)) cs → constantsFrom f xs us cs ≡ all vs → AllFine ens vs × (length vs ≡ length us + length cs)
+  constants-fine : (cs : List (ℕ × Constant)) (xs : List ℕ) (us vs : List Value) → AllFine ens us → All (λ c. Plain never (c .1 .value)) cs
+      → constantsFrom f xs us cs ≡ all vs → AllFine ens vs × (length vs ≡ length us + length cs)
   constants-fine [] xs us vs h p e = let z : us ≡ vs = cc in (subst (AllFine ens) z h, ap length (sym z) ∙ omega arith)
   constants-fine (c ∷ cs) xs us vs h p e =
       go (eval (globals f xs us) noVariables noCalls (c .1 .value) [] .out) (constant-fine xs us (c .1 .value) h (p .0)) e
-      (λ v q. constants-fine cs (xs ++ c .1 .name ∷ []) (us ++ fit (c .1 .ty) v ∷ []) vs q (p .1))
+      (λ v q. constants-fine cs (xs ++ c .1 .name ∷ []) (more v) vs q (p .1))
     where
-      go : (o : Outcome) → FineOut ens o → afterConstant (c .0) (λ v. constantsFrom f (xs ++ c .1 .name ∷ []) (us ++ fit (c .1 .ty) v ∷ []) cs) o ≡ all vs
-          → ((v : Value) → AllFine ens (us ++ fit (c .1 .ty) v ∷ []) → constantsFrom f (xs ++ c .1 .name ∷ []) (us ++ fit (c .1 .ty) v ∷ []) cs ≡ all vs → AllFine ens vs × (length vs ≡ length (us ++ fit (c .1 .ty) v ∷ []) + length cs))
+      more : Value → List Value
+      more v = us ++ fit (c .1 .ty) v ∷ []
+
+      go : (o : Outcome) → FineOut ens o → afterConstant (c .0) (λ v. constantsFrom f (xs ++ c .1 .name ∷ []) (more v) cs) o ≡ all vs
+          → ((v : Value) → AllFine ens (more v) → constantsFrom f (xs ++ c .1 .name ∷ []) (more v) cs ≡ all vs → AllFine ens vs × (length vs ≡ length (more v) + length cs))
           → AllFine ens vs × (length vs ≡ length us + length (c ∷ cs))
       go (Out.Value v) q e k =
-          let w = k v (fine-append ens us (fit (c .1 .ty) v ∷ []) h (fit-fine ens (c .1 .ty) v q, tt)) e in
+          let w = k v (all-join (Fine ens) us (fit (c .1 .ty) v ∷ []) h (fit-fine ens (c .1 .ty) v q, tt)) e in
           (w .0, w .1 ∙ omega (arith, length-append us (fit (c .1 .ty) v ∷ [])))
       go Out.Failure q e k = let z : _≡_ {A = ℕ} 0 1 = cc in absurd (omega arith)
       go Out.Overflow q e k = let z : _≡_ {A = ℕ} 0 1 = cc in absurd (omega arith)
@@ -119,7 +119,8 @@ rings-none at [] e = tt
 rings-none at (n ∷ ns) e = go (ringIn (at, n)) refl e (rings-none (at + nodeSize n) ns)
   where
     go : (o : Option ℕ) → ringIn (at, n) ≡ o → orElse o (firstSome (map ringIn (placed nodeSize (at + nodeSize n) ns))) ≡ none
-        → (firstSome (map ringIn (placed nodeSize (at + nodeSize n) ns)) ≡ none → All (λ n. unplaced (n .equations) ≡ none) ns) → All (λ n. unplaced (n .equations) ≡ none) (n ∷ ns)
+        → (firstSome (map ringIn (placed nodeSize (at + nodeSize n) ns)) ≡ none → All (λ n. unplaced (n .equations) ≡ none) ns)
+        → All (λ n. unplaced (n .equations) ≡ none) (n ∷ ns)
     go none h e k = (ring-none at n h, k e)
     go (some p) h e k = let z : _≡_ {A = ℕ} 0 1 = cc in absurd (omega arith)
 
@@ -129,15 +130,16 @@ unplaced-placed qs e = ⊎-elim (λ p. p) (λ s. absurd (never-both (s .is-left)
     never-both : {k : ℕ} → unplaced qs ≡ some k → unplaced qs ≡ none → ⊥
     never-both a b = let z : _≡_ {A = ℕ} 0 1 = cc in omega arith
 
+-- the equations of each node are ordered
+pub node-placed : (f : File) → fault11 f ≡ none → (k : ℕ) → k < length (f .nodes) → Placed (getD (f .nodes) k noNode .equations)
+unfolding fault11
+node-placed f e k b = unplaced-placed (getD (f .nodes) k noNode .equations) (all-at (λ n. unplaced (n .equations) ≡ none) (f .nodes) k noNode (rings-none (nodesStart f) (f .nodes) e) b)
+
 -- ---- the facts
 
 pub record Facts (f : File) (vs : List Value) : Type 0 where
-  pub short : (x : ℕ) → T (member x (concat (f .enums))) → x < 2 ^ 16
-  pub constantsFine : AllFine (concat (f .enums)) vs
+  pub callable : Callable f vs
   pub constantCount : length vs ≡ length (f .constants)
-  pub lower : (k c : ℕ) → c ∈ sites (getD (f .nodes) k noNode) → c < k
-  pub plain : (k : ℕ) → PlainEqs (mayBe (globalsOf f vs)) (getD (f .nodes) k noNode .equations)
-  pub fresh-fine : (k : ℕ) → AllFine (concat (f .enums)) (defaults (f .enums) (variables (getD (f .nodes) k noNode)))
   pub some-node : 1 ≤ length (f .nodes)
   pub mainly : MainOk f vs
 
@@ -191,116 +193,96 @@ module _ (ld : Loader) (s : List ℕ) (f : File) (vs : List Value) (read : FileR
   defaults-fine [] h = tt
   defaults-fine (x ∷ xs) h = (default-fine (x .ty) (h .0), defaults-fine xs (h .1))
 
-  all-join : {A : Type 0} (P : A → Type 0) (xs ys : List A) → All P xs → All P ys → All P (xs ++ ys)
-  all-join P [] ys h k = k
-  all-join P (x ∷ xs) ys h k = (h .0, all-join P xs ys (h .1) k)
-
   is-fresh-fine : (k : ℕ) → AllFine (concat (f .enums)) (defaults (f .enums) (variables (getD (f .nodes) k noNode)))
   is-fresh-fine k =
       by-cases (decLt k (length (f .nodes)))
       (λ b.
       let n = getD (f .nodes) k noNode in
       let r = node-read k b in
-      defaults-fine (variables n) (all-join (VariableRead (length (f .enums))) (n .inputs ++ n .outputs) (n .locals) (all-join (VariableRead (length (f .enums))) (n .inputs) (n .outputs) (r .ins) (r .outs)) (r .locs)))
+      let join = all-join (VariableRead (length (f .enums))) in
+      defaults-fine (variables n) (join (n .inputs ++ n .outputs) (n .locals) (join (n .inputs) (n .outputs) (r .ins) (r .outs)) (r .locs)))
       (λ h. subst (λ n. AllFine (concat (f .enums)) (defaults (f .enums) (variables n))) (sym (beyond k h)) tt)
 
   constants-plain : All (λ c. Plain (λ c m. false) (c .1 .value)) (placedConstants f)
   unfolding fault9
   constants-plain =
-      let xs = concat (map (inConstant (callsWhere (λ c args. true))) (placedConstants f)) in
+      let h = inConstant (callsWhere (λ c args. true)) in
+      let xs = concat (map h (placedConstants f)) in
       let ys = concat (map (nodeCalls f) (numbered 0 (placedNodes f))) in
-      go (placedConstants f) (placed-all constantSize ConstantRead _ (f .constants) (read .constantsRead)) (clean-each (inConstant (callsWhere (λ c args. true))) (placedConstants f) (clean-parts xs ys (first-clean (xs ++ ys) (a .no9)) .0))
+      let clean = clean-each h (placedConstants f) (clean-parts xs ys (first-clean (xs ++ ys) (a .no9)) .0) in
+      go (placedConstants f) (placed-all constantSize ConstantRead _ (f .constants) (read .constantsRead)) clean
     where
-      go : (cs : List (ℕ × Constant)) → All (λ p. ConstantRead (p .1)) cs → All (λ c. Clean (inConstant (callsWhere (λ c args. true)) c)) cs → All (λ c. Plain (λ c m. false) (c .1 .value)) cs
+      go : (cs : List (ℕ × Constant)) → All (λ p. ConstantRead (p .1)) cs → All (λ c. Clean (inConstant (callsWhere (λ c args. true)) c)) cs
+          → All (λ c. Plain (λ c m. false) (c .1 .value)) cs
       go [] r c = tt
       go (p ∷ cs) r c = (plain-calls (λ c m. false) _ (p .1 .value) (r .0 .0) (c .0), go cs (r .1) (c .1))
 
   are-constants : AllFine (concat (f .enums)) vs × (length vs ≡ length (f .constants))
   unfolding constants
-  are-constants = let w = constants-fine f is-short (placedConstants f) [] [] vs tt constants-plain (a .no12) in (w .0, w .1 ∙ omega (arith, length-placed constantSize (constantsStart f) (f .constants)))
+  are-constants =
+      let w = constants-fine f is-short (placedConstants f) [] [] vs tt constants-plain (a .no12) in
+      (w .0, w .1 ∙ omega (arith, length-placed constantSize (constantsStart f) (f .constants)))
 
-  -- ---- the main node
+  -- ---- each node
 
-  abbrev K : ℕ
-  K = length (f .nodes) - 1
+  module _ (k : ℕ) (b : k < length (f .nodes)) where
+    abbrev n : Node
+    n = getD (f .nodes) k noNode
 
-  inside : K < length (f .nodes)
-  inside = omega (arith, read .some-node)
+    arity-some : (e : Expr) → TupleOk (rhsOf e) → Plain (mayBe g) e → 1 ≤ arity f (rhsOf e)
+    arity-some =
+        by-right (λ e r. TupleOk r → Plain (mayBe g) e → 1 ≤ arity f r)
+        (λ e r p. omega arith)
+        (λ k es r p. node-read k (ltb→lt k (length (f .nodes)) (T-and (ltb k (length (f .nodes))) _ (p .0) .0)) .some-out)
+        (λ es r p. omega arith)
 
-  is-main : main f ≡ getD (f .nodes) K noNode
-  is-main = main-at (f .nodes) (read .some-node)
+    arity-same : (r : Rhs) → arityIn g r ≡ arity f r
+    arity-same (items es) = refl
+    arity-same (outputsOf k es) = refl
+    arity-same (one e) = refl
 
-  all-get : (P : Equation → Type 0) (qs : List Equation) (i : ℕ) → i < length qs → All P qs → P (getD qs i noEquation)
-  all-get P qs i b h = all-at P qs i noEquation h b
+    -- a name that an equation defines is no input, constant or variant
+    new-name : (i x : ℕ) → x ∈ equationAt n i .names → ¬ (x ∈ takenIn f n)
+    new-name i x m = fresh-out (takenIn f n) (concat (map namesOf (n .equations))) (names-fresh f (a .no8) k b) x (names-in (n .equations) i x m)
 
-  arity-some : (e : Expr) → TupleOk (rhsOf e) → Plain (mayBe g) e → 1 ≤ arity f (rhsOf e)
-  arity-some (boolLit b) r p = omega arith
-  arity-some (intLit i) r p = omega arith
-  arity-some (floatLit b) r p = omega arith
-  arity-some (charLit c) r p = omega arith
-  arity-some (var x) r p = omega arith
-  arity-some (unary op e) r p = omega arith
-  arity-some (binary op l x) r p = omega arith
-  arity-some (ifThenElse c t e) r p = omega arith
-  arity-some (pre e) r p = omega arith
-  arity-some (arrow x y) r p = omega arith
-  arity-some (cast t e) r p = omega arith
-  arity-some (call k es) r p = node-read k (ltb→lt k (length (f .nodes)) (T-and (ltb k (length (f .nodes))) _ (p .0) .0)) .some-out
-  arity-some (tuple es) r p = omega arith
+    known-at : (i : ℕ) → Known n (equationAt n i .names)
+    known-at i x m =
+        let seen : ℕ → Type 0 = λ x. T (member x (seenBy f n)) in
+        by-cases (decLt i (length (n .equations)))
+        (λ h.
+        let s = all-in seen (equationAt n i .names) x (all-at (λ q. All seen (q .names)) (n .equations) i noEquation (names-seen f (a .no7) k b) h) m in
+        ⊎-elim (λ v. v) (λ v. absurd (new-name i x m (in-right (map nameOf (n .inputs)) v))) (in-append (variableNames n) (member-in x (seenBy f n) s)))
+        (λ h. absurd (in-nil (subst (λ q. x ∈ q .names) (List·getD-eq-default (n .equations) noEquation (omega arith)) m)))
 
-  arity-same : (r : Rhs) → arityIn g r ≡ arity f r
-  arity-same (items es) = refl
-  arity-same (outputsOf k es) = refl
-  arity-same (one e) = refl
+    arity-at : (i : ℕ) → i < length (n .equations) → arityIn g (rhsOf (equationAt n i .rhs)) ≡ length (equationAt n i .names)
+    arity-at i h =
+        let q = equationAt n i in
+        let r = all-at EquationRead (n .equations) i noEquation (node-read k b .eqs) h in
+        let shaped = all-at (Shaped f) (n .equations) i noEquation (shapes f (a .no10) k b) h in
+        arity-same (rhsOf (q .rhs)) ∙ shaped-arity f q shaped (r .named) (arity-some (q .rhs) (r .right .1) (plain-at (mayBe g) (n .equations) i (is-plain k)))
 
-  abbrev M : Node
-  M = getD (f .nodes) K noNode
-
-  known-at : (i : ℕ) → Known M (equationAt M i .names)
-  known-at i x m =
-      by-cases (decLt i (length (M .equations)))
-      (λ b.
-      let s = all-in (λ x. T (member x (seenBy f M))) (equationAt M i .names) x (all-get (λ q. All (λ x. T (member x (seenBy f M))) (q .names)) (M .equations) i b (names-seen f (a .no7) K inside)) m in
-      let o = fresh-out (takenIn f M) (concat (map namesOf (M .equations))) (names-fresh f (a .no8) K inside) x (in-concat (M .equations) i x m) in
-      ⊎-elim (λ k. k) (λ k. absurd (o (in-right (map nameOf (M .inputs)) k))) (in-append (variableNames M) (member-in x (seenBy f M) s)))
-      (λ h. absurd (in-nil (subst (λ q. x ∈ q .names) (List·getD-eq-default (M .equations) noEquation (omega arith)) m)))
-
-  arity-at : (i : ℕ) → i < length (M .equations) → arityIn g (rhsOf (equationAt M i .rhs)) ≡ length (equationAt M i .names)
-  arity-at i b =
-      let q = equationAt M i in
-      let r = all-get EquationRead (M .equations) i b (node-read K inside .eqs) in
-      arity-same (rhsOf (q .rhs)) ∙ shaped-arity f q (all-get (Shaped f) (M .equations) i b (shapes f (a .no10) K inside)) (r .named) (arity-some (q .rhs) (r .right .1) (plain-at (mayBe g) (M .equations) i (is-plain K)))
-
-  counts-at : (n : Node) → PlainEqs (mayBe g) (n .equations) → (first : Bool) (before : List Value) (i : ℕ) (p : List Value) (s : List ℕ)
-      → CountIs (arityIn g (rhsOf (equationAt n i .rhs))) (evalEquation g (calls g) n first before p i s .out)
-  counts-at n h first before i p s = rhs-count g (scope n first before p) (calls g) (calls-count g (length (f .nodes))) (equationAt n i .rhs) s (plain-at (mayBe g) (n .equations) i h)
-
-  plain-main : PlainEqs (mayBe g) (main f .equations)
-  plain-main = subst (λ n. PlainEqs (mayBe g) (n .equations)) (sym is-main) (is-plain K)
-
-  main-ok : MainOk f vs
-  unfolding fault11
-  main-ok =
-      record {
-        distinct = subst (λ n. Distinct (variableNames n)) (sym is-main) (distinct-names f (a .no6) K inside);
-        apart = subst (λ n. Distinct (concat (map namesOf (n .equations)))) (sym is-main) (fresh-distinct (takenIn f M) (concat (map namesOf (M .equations))) (names-fresh f (a .no8) K inside));
-        known = subst (λ n. (i : ℕ) → Known n (equationAt n i .names)) (sym is-main) known-at;
-        no-input = subst (λ n. (i x : ℕ) → x ∈ equationAt n i .names → ¬ (x ∈ map nameOf (n .inputs))) (sym is-main)
-            (λ i x m k. fresh-out (takenIn f M) (concat (map namesOf (M .equations))) (names-fresh f (a .no8) K inside) x (in-concat (M .equations) i x m) (in-left (constantNames f ++ variants f) k));
-        arity = subst (λ n. (i : ℕ) → i < length (n .equations) → arityIn g (rhsOf (equationAt n i .rhs)) ≡ length (equationAt n i .names)) (sym is-main) arity-at;
-        counts = λ first before. counts-at (main f) plain-main first before;
-        placed = subst (λ n. Placed (n .equations)) (sym is-main) (unplaced-placed (M .equations) (all-at (λ n. unplaced (n .equations) ≡ none) (f .nodes) K noNode (rings-none (nodesStart f) (f .nodes) (a .no11)) inside));
-      }
+    node-ok : NodeOk g n
+    node-ok =
+        record {
+          distinct = distinct-names f (a .no6) k b;
+          apart = fresh-distinct (takenIn f n) (concat (map namesOf (n .equations))) (names-fresh f (a .no8) k b);
+          known = known-at;
+          no-input = λ i x m v. new-name i x m (in-left (constantNames f ++ variants f) v);
+          arity = arity-at;
+          counts = λ first before i p s.
+              rhs-count g (scope n first before p) (calls g) (calls-count g (length (f .nodes))) (equationAt n i .rhs) s (plain-at (mayBe g) (n .equations) i (is-plain k));
+          placed = node-placed f (a .no11) k b;
+        }
 
   pub facts : Facts f vs
   facts =
       record {
-        short = is-short;
-        constantsFine = are-constants .0;
+        callable = record { short = is-short; constantsFine = are-constants .0; lower = is-lower; plain = is-plain; fresh-fine = is-fresh-fine };
         constantCount = are-constants .1;
-        lower = is-lower;
-        plain = is-plain;
-        fresh-fine = is-fresh-fine;
         some-node = read .some-node;
-        mainly = main-ok;
+        mainly = subst (NodeOk g) (sym (main-at (f .nodes) (read .some-node))) (node-ok (length (f .nodes) - 1) (omega (arith, read .some-node)));
       }
+
+-- of a file of bytes that is admitted
+pub admitted-facts : (ld : Loader) (s : List ℕ) (f : File) (vs : List Value) → Bytes s → judge ld s ≡ admitted f vs → Facts f vs
+admitted-facts ld s f vs bytes e = let a = admits ld s f vs e in facts ld s f vs (file-read s bytes ld f (a .end) (a .read)) a

@@ -1,31 +1,32 @@
 -- A node's run as a run of the theory's system: cells are values, a memory is an equation's segment, a kind is a tag, slots are the positions of variables.
 use Prim.Native.Nat.{ℕ, zero, suc, _+_, _<_}
 use mathlib.Core.Bool.{Bool, true, false}
-use mathlib.Core.List.{List, [], _∷_, _++_, map, List·Memᴰ·head as here, List·Memᴰ·tail as there, List·Memᴰ·not-nil as in-nil, List·Memᴰ·cases-cons as in-cons, Memᴰ·append-left as in-left, Memᴰ·append-right as in-right, Memᴰ·cast}
+use mathlib.Core.List.{List, [], _∷_, map, List·Memᴰ·head as here, List·Memᴰ·tail as there, List·Memᴰ·not-nil as in-nil, List·Memᴰ·cases-cons as in-cons, Memᴰ·cast}
 use mathlib.Core.Logic.{_⊎_, inl, inr, ⊎-elim}
 use mathlib.Core.Option.{Option, none, some}
 use mathlib.Core.Path.{_≡_, refl, sym, ap, ap₂, subst, _∙_}
 use native.Mathlib.Omega.{arith}
-use lib.ListN.{length, getD, getElem?, set, length-map}
+use lib.ListN.{length, getD, getElem?, set, length-map, List·getD-map}
+use lib.Seq.{ext-getD}
 use lib.Dec.{T, eqb, eqb→eq}
 use Rattle.ol_theory.specs.Member.{_∈_, Distinct}
 use Rattle.ol_theory.specs.Order as O
 use Rattle.ol_theory.specs.System as Y
-use Rattle.ol_theory.specs.SystemProof as YP
+use Rattle.ol_theory.proofs.SystemProof as YP
 use Rattle.ol_spec.specs.Lists.{maybe, concat, member, positionIf, position, lookup}
-use Rattle.ol_spec.specs.Syntax.{bool, Equation, Node, variables, variableNames, nameOf, typeOf, rhsOf}
+use Rattle.ol_spec.specs.Syntax.{Ty, bool, Equation, Node, variables, variableNames, nameOf, typeOf, rhsOf}
 use Rattle.ol_spec.specs.Cell.{tag}
 use Rattle.ol_spec.specs.Types.{fit}
 use Rattle.ol_spec.specs.Order.{reads, later, definerFrom, definer}
-use Rattle.ol_spec.specs.Eval.{Globals, Calls, Evals, Outcomes, values, failure, overflow, RealKind, notReal, isSingle, isDouble, kindOfValue}
+use Rattle.ol_spec.specs.Eval.{Globals, Calls, Evals, Outcomes, values, failure, overflow}
 use Rattle.ol_spec.specs.Step.{putAt, assign, Ended, finished, failedAt, overflowedAt, Run, noEquation, equationAt, storeOn, store, evalEquation, runAll}
-use Rattle.ol_spec.specs.Demand3.{withEquations}
 use Rattle.ol_spec.specs.declared.Value.{Value}
 use Rattle.ol_spec.specs.declared.Value.the-variants as Val
 use Rattle.ol_spec.proofs.Tests.{T-true, T-false, member-in, in-member, eq-eqb}
-use Rattle.ol_spec.proofs.Ordering.{depsOf, depsBy, definers-in}
-use Rattle.ol_spec.proofs.Congruence.{kindIn, rhs-same}
-use Rattle.ol_spec.proofs.Good.{arityIn}
+use Rattle.ol_spec.proofs.Lists.{getElem-getD, in-concat, distinct-parts, addSome, found, in-found, found-in}
+use Rattle.ol_spec.proofs.Ordering.{depsOf, deps-in}
+use Rattle.ol_spec.proofs.Congruence.{eval-congruent}
+use Rattle.ol_spec.proofs.Segments.{arityIn}
 use Rattle.ol_spec.proofs.Counts.{CountIs}
 use Rattle.ol_spec.proofs.MainFacts.{namesOf}
 
@@ -35,7 +36,8 @@ pub position-get : (x : ℕ) (ns : List ℕ) (j : ℕ) → position x ns ≡ som
 position-get x [] j e = let z : _≡_ {A = ℕ} 0 1 = cc in absurd (omega arith)
 position-get x (y ∷ ns) j e = go (eqb x y) refl (position x ns) refl (position-get x ns) e
   where
-    go : (b : Bool) → eqb x y ≡ b → (o : Option ℕ) → position x ns ≡ o → ((j : ℕ) → position x ns ≡ some j → (j < length ns) × (getD ns j 0 ≡ x)) → positionIf b o ≡ some j → (j < length (y ∷ ns)) × (getD (y ∷ ns) j 0 ≡ x)
+    go : (b : Bool) → eqb x y ≡ b → (o : Option ℕ) → position x ns ≡ o → ((j : ℕ) → position x ns ≡ some j → (j < length ns) × (getD ns j 0 ≡ x))
+        → positionIf b o ≡ some j → (j < length (y ∷ ns)) × (getD (y ∷ ns) j 0 ≡ x)
     go true h o p k e = let z : 0 ≡ j = cc in (omega arith, subst (λ i. getD (y ∷ ns) i 0 ≡ x) z (sym (eqb→eq x y (subst T (sym h) tt))))
     go false h none p k e = let z : _≡_ {A = ℕ} 0 1 = cc in absurd (omega arith)
     go false h (some i) p k e = let z : suc i ≡ j = cc in let w = k i p in (omega (arith, w .0), subst (λ i. getD (y ∷ ns) i 0 ≡ x) z (w .1))
@@ -68,64 +70,27 @@ position-of ns j d b =
     let g = position-get (getD ns j 0) ns (w .0) (w .1) in
     w .1 ∙ ap some (get-same ns (w .0) j d (g .0) b (g .1))
 
-getElem-getD : {A : Type 0} (l : List A) (i : ℕ) (d : A) → i < length l → getElem? l i ≡ some (getD l i d)
-getElem-getD [] i d b = absurd (omega arith)
-getElem-getD (x ∷ l) zero d b = refl
-getElem-getD (x ∷ l) (suc i) d b = getElem-getD l i d (omega arith)
-
--- ---- a real kind by its tag
-
-kindByTag : ℕ → RealKind
-kindByTag zero = notReal
-kindByTag (suc zero) = notReal
-kindByTag (suc (suc zero)) = isDouble
-kindByTag (suc (suc (suc zero))) = isSingle
-kindByTag (suc (suc (suc (suc n)))) = notReal
-
-kind-tag : (v : Value) → kindOfValue v ≡ kindByTag (tag v)
-unfolding kindByTag
-kind-tag (Val.Bool b) = refl
-kind-tag (Val.Int i) = refl
-kind-tag (Val.Float x) = refl
-kind-tag (Val.Float32 x) = refl
-kind-tag (Val.Enum v) = refl
-
 -- ---- the names of equations
-
-distinct-left : (a b : List ℕ) → Distinct (a ++ b) → Distinct a
-distinct-left [] b d = tt
-distinct-left (x ∷ a) b d = (λ m. d .0 (in-left b m), distinct-left a b (d .1))
-
-distinct-right : (a b : List ℕ) → Distinct (a ++ b) → Distinct b
-distinct-right [] b d = d
-distinct-right (x ∷ a) b d = distinct-right a b (d .1)
-
-distinct-apart : (a b : List ℕ) (x : ℕ) → Distinct (a ++ b) → x ∈ a → ¬ (x ∈ b)
-distinct-apart [] b x d m = absurd (in-nil m)
-distinct-apart (y ∷ a) b x d m = λ k. ⊎-elim (λ e. d .0 (in-right a (Memᴰ·cast (sym e) k))) (λ n. distinct-apart a b x (d .1) n k) (in-cons m)
 
 abbrev pub namesAt : List Equation → ℕ → List ℕ
 namesAt qs i = getD qs i noEquation .names
 
-pub in-concat : (qs : List Equation) (i x : ℕ) → x ∈ namesAt qs i → x ∈ concat (map namesOf qs)
-in-concat [] zero x m = absurd (in-nil m)
-in-concat [] (suc i) x m = absurd (in-nil m)
-in-concat (q ∷ qs) zero x m = in-left (concat (map namesOf qs)) m
-in-concat (q ∷ qs) (suc i) x m = in-right (q .names) (in-concat qs i x m)
+pub names-in : (qs : List Equation) (i x : ℕ) → x ∈ namesAt qs i → x ∈ concat (map namesOf qs)
+names-in = in-concat namesOf noEquation (λ w. in-nil (w .1))
 
-pub names-distinct : (qs : List Equation) (i : ℕ) → Distinct (concat (map namesOf qs)) → Distinct (namesAt qs i)
+names-distinct : (qs : List Equation) (i : ℕ) → Distinct (concat (map namesOf qs)) → Distinct (namesAt qs i)
 names-distinct [] zero d = tt
 names-distinct [] (suc i) d = tt
-names-distinct (q ∷ qs) zero d = distinct-left (q .names) _ d
-names-distinct (q ∷ qs) (suc i) d = names-distinct qs i (distinct-right (q .names) _ d)
+names-distinct (q ∷ qs) zero d = distinct-parts (q .names) (concat (map namesOf qs)) d .0
+names-distinct (q ∷ qs) (suc i) d = names-distinct qs i (distinct-parts (q .names) (concat (map namesOf qs)) d .1)
 
-pub names-single : (qs : List Equation) (i j x : ℕ) → Distinct (concat (map namesOf qs)) → x ∈ namesAt qs i → x ∈ namesAt qs j → i ≡ j
+names-single : (qs : List Equation) (i j x : ℕ) → Distinct (concat (map namesOf qs)) → x ∈ namesAt qs i → x ∈ namesAt qs j → i ≡ j
 names-single [] zero j x d a b = absurd (in-nil a)
 names-single [] (suc i) j x d a b = absurd (in-nil a)
 names-single (q ∷ qs) zero zero x d a b = refl
-names-single (q ∷ qs) zero (suc j) x d a b = absurd (distinct-apart (q .names) (concat (map namesOf qs)) x d a (in-concat qs j x b))
-names-single (q ∷ qs) (suc i) zero x d a b = absurd (distinct-apart (q .names) (concat (map namesOf qs)) x d b (in-concat qs i x a))
-names-single (q ∷ qs) (suc i) (suc j) x d a b = ap suc (names-single qs i j x (distinct-right (q .names) _ d) a b)
+names-single (q ∷ qs) zero (suc j) x d a b = absurd (distinct-parts (q .names) (concat (map namesOf qs)) d .2 x a (names-in qs j x b))
+names-single (q ∷ qs) (suc i) zero x d a b = absurd (distinct-parts (q .names) (concat (map namesOf qs)) d .2 x b (names-in qs i x a))
+names-single (q ∷ qs) (suc i) (suc j) x d a b = ap suc (names-single qs i j x (distinct-parts (q .names) (concat (map namesOf qs)) d .1) a b)
 
 no-definer : (k : ℕ) (qs : List Equation) (x : ℕ) → ((i : ℕ) → ¬ (x ∈ namesAt qs i)) → definerFrom k qs x ≡ none
 unfolding definerFrom
@@ -138,80 +103,61 @@ unfolding definerFrom
 definer-is k [] x zero u m = absurd (in-nil m)
 definer-is k [] x (suc d) u m = absurd (in-nil m)
 definer-is k (q ∷ qs) x zero u m =
-    ap₂ (λ o b. later o b k) (no-definer (suc k) qs x (λ i n. distinct-apart (q .names) (concat (map namesOf qs)) x u m (in-concat qs i x n))) (T-true (member x (q .names)) (in-member x (q .names) m))
+    let others = no-definer (suc k) qs x (λ i n. distinct-parts (q .names) (concat (map namesOf qs)) u .2 x m (names-in qs i x n)) in
+    ap₂ (λ o b. later o b k) others (T-true (member x (q .names)) (in-member x (q .names) m))
     ∙ ap some (omega arith)
 definer-is k (q ∷ qs) x (suc d) u m =
-    ap (λ o. later o (member x (q .names)) k) (definer-is (suc k) qs x d (distinct-right (q .names) _ u) m) ∙ ap some (omega arith)
+    ap (λ o. later o (member x (q .names)) k) (definer-is (suc k) qs x d (distinct-parts (q .names) (concat (map namesOf qs)) u .1) m) ∙ ap some (omega arith)
 
 -- ---- the system
 
+-- values, fitted to the types at the places that are found for the names
+abbrev addFitted : List Ty → Option ℕ → Value → List Value → List Value
+addFitted ts none v l = l
+addFitted ts (some j) v l = fit (getD ts j bool) v ∷ l
+
+pub fittedBy : (ℕ → Option ℕ) → List Ty → List ℕ → List Value → List Value
+fittedBy find ts [] vs = []
+fittedBy find ts (x ∷ xs) [] = []
+fittedBy find ts (x ∷ xs) (v ∷ vs) = addFitted ts (find x) v (fittedBy find ts xs vs)
+
 module _ (n : Node) where
-  abbrev addSlot : Option ℕ → List ℕ → List ℕ
-  addSlot none l = l
-  addSlot (some j) l = j ∷ l
+  abbrev pub slot : ℕ → Option ℕ
+  slot x = position x (variableNames n)
 
   -- the positions of names
-  pub slots : List ℕ → List ℕ
-  slots [] = []
-  slots (x ∷ xs) = addSlot (position x (variableNames n)) (slots xs)
-
-  abbrev addFitted : Option ℕ → Value → List Value → List Value
-  addFitted none v l = l
-  addFitted (some j) v l = fit (getD (map typeOf (variables n)) j bool) v ∷ l
+  abbrev pub slots : List ℕ → List ℕ
+  slots xs = found slot xs
 
   -- the values of names, fitted
-  pub fitted : List ℕ → List Value → List Value
-  fitted [] vs = []
-  fitted (x ∷ xs) [] = []
-  fitted (x ∷ xs) (v ∷ vs) = addFitted (position x (variableNames n)) v (fitted xs vs)
+  abbrev pub fitted : List ℕ → List Value → List Value
+  fitted xs vs = fittedBy slot (map typeOf (variables n)) xs vs
 
   pub assign-store : (xs : List ℕ) (vs cs : List Value) → assign n xs vs cs ≡ Y.store (slots xs) (fitted xs vs) cs
-  unfolding assign slots fitted Y.store
+  unfolding assign found fittedBy Y.store
   assign-store [] vs cs = refl
   assign-store (x ∷ xs) [] cs = sym (store-nil (slots (x ∷ xs)) cs)
     where
       store-nil : (l : List ℕ) (cs : List Value) → Y.store l [] cs ≡ cs
       store-nil [] cs = refl
       store-nil (y ∷ l) cs = refl
-  assign-store (x ∷ xs) (v ∷ vs) cs = assign-store xs vs _ ∙ go (position x (variableNames n))
+  assign-store (x ∷ xs) (v ∷ vs) cs = assign-store xs vs _ ∙ go (slot x)
     where
-      go : (o : Option ℕ) → Y.store (slots xs) (fitted xs vs) (putAt n o v cs) ≡ Y.store (addSlot o (slots xs)) (addFitted o v (fitted xs vs)) cs
+      go : (o : Option ℕ)
+          → Y.store (slots xs) (fitted xs vs) (putAt n o v cs) ≡ Y.store (addSome o (slots xs)) (addFitted (map typeOf (variables n)) o v (fitted xs vs)) cs
       go none = refl
       go (some j) = refl
 
-  pub in-slots : (xs : List ℕ) (j : ℕ) → j ∈ slots xs → (x : ℕ) × (x ∈ xs) × (position x (variableNames n) ≡ some j)
-  unfolding slots
-  in-slots [] j m = absurd (in-nil m)
-  in-slots (x ∷ xs) j m = go (position x (variableNames n)) refl m (λ k. in-slots xs j k)
-    where
-      go : (o : Option ℕ) → position x (variableNames n) ≡ o → j ∈ addSlot o (slots xs) → (j ∈ slots xs → (y : ℕ) × (y ∈ xs) × (position y (variableNames n) ≡ some j)) → (y : ℕ) × (y ∈ (x ∷ xs)) × (position y (variableNames n) ≡ some j)
-      go none e m k = let w = k m in (w .0, there (w .1), w .2)
-      go (some i) e m k = ⊎-elim (λ p. (x, here refl, e ∙ ap some (sym p))) (λ q. let w = k q in (w .0, there (w .1), w .2)) (in-cons m)
-
-  slot-head : (o : Option ℕ) (l : List ℕ) (j : ℕ) → o ≡ some j → j ∈ addSlot o l
-  slot-head none l j e = let z : _≡_ {A = ℕ} 0 1 = cc in absurd (omega arith)
-  slot-head (some i) l j e = let z : j ≡ i = cc in here z
-
-  slot-tail : (o : Option ℕ) (l : List ℕ) (j : ℕ) → j ∈ l → j ∈ addSlot o l
-  slot-tail none l j m = m
-  slot-tail (some i) l j m = there m
-
-  pub slots-in : (xs : List ℕ) (x j : ℕ) → x ∈ xs → position x (variableNames n) ≡ some j → j ∈ slots xs
-  unfolding slots
-  slots-in [] x j m e = absurd (in-nil m)
-  slots-in (y ∷ xs) x j m e =
-      ⊎-elim (λ p. slot-head (position y (variableNames n)) (slots xs) j (ap (λ z. position z (variableNames n)) (sym p) ∙ e)) (λ k. slot-tail (position y (variableNames n)) (slots xs) j (slots-in xs x j k e)) (in-cons m)
-
   pub slots-distinct : (xs : List ℕ) → Distinct xs → Distinct (slots xs)
-  unfolding slots
+  unfolding found
   slots-distinct [] d = tt
-  slots-distinct (x ∷ xs) d = go (position x (variableNames n)) refl (slots-distinct xs (d .1))
+  slots-distinct (x ∷ xs) d = go (slot x) refl (slots-distinct xs (d .1))
     where
-      go : (o : Option ℕ) → position x (variableNames n) ≡ o → Distinct (slots xs) → Distinct (addSlot o (slots xs))
+      go : (o : Option ℕ) → slot x ≡ o → Distinct (slots xs) → Distinct (addSome o (slots xs))
       go none e u = u
       go (some j) e u = (
         λ m.
-            let w = in-slots xs j m in
+            let w = in-found slot xs j m in
             d .0 (Memᴰ·cast (sym (position-get x (variableNames n) j e .1) ∙ position-get (w .0) (variableNames n) j (w .2) .1) (w .1)),
         u,
       )
@@ -221,12 +167,12 @@ module _ (n : Node) where
   Known xs = (x : ℕ) → x ∈ xs → x ∈ variableNames n
 
   pub slots-length : (xs : List ℕ) → Known xs → length (slots xs) ≡ length xs
-  unfolding slots
+  unfolding found
   slots-length [] h = refl
   slots-length (x ∷ xs) h = let w = position-in x (variableNames n) (h x (here refl)) in rw (w .1) (ap suc (slots-length xs (λ y m. h y (there m))))
 
   pub fitted-length : (xs : List ℕ) (vs : List Value) → Known xs → length vs ≡ length xs → length (fitted xs vs) ≡ length xs
-  unfolding fitted
+  unfolding fittedBy
   fitted-length [] vs h e = refl
   fitted-length (x ∷ xs) [] h e = absurd (omega arith)
   fitted-length (x ∷ xs) (v ∷ vs) h e = let w = position-in x (variableNames n) (h x (here refl)) in rw (w .1) (ap suc (fitted-length xs vs (λ y m. h y (there m)) (omega arith)))
@@ -262,10 +208,11 @@ module _ (n : Node) where
     pub run-view : (is : List ℕ) (cs : List Value) (ss : List (List ℕ)) → view (runAll g calls n first before is cs ss) ≡ Y.runEqs system is cs ss
     unfolding runAll store Y.runEqs Y.onward
     run-view [] cs ss = refl
-    run-view (i ∷ is) cs ss = go (evalEquation g calls n first before cs i (getD ss i []) .out) (evalEquation g calls n first before cs i (getD ss i []) .seg) (λ cs′ ss′. run-view is cs′ ss′)
+    run-view (i ∷ is) cs ss = let r = evalEquation g calls n first before cs i (getD ss i []) in go (r .out) (r .seg) (λ cs′ ss′. run-view is cs′ ss′)
       where
         go : (o : Outcomes) (s : List ℕ) → ((cs′ : List Value) (ss′ : List (List ℕ)) → view (runAll g calls n first before is cs′ ss′) ≡ Y.runEqs system is cs′ ss′)
-            → view (storeOn n i o s (runAll g calls n first before is) cs ss) ≡ Y.onward i (set ss i s) (λ vs. Y.runEqs system is (Y.store (slots (equationAt n i .names)) vs cs) (set ss i s)) (fitOuts (equationAt n i .names) o)
+            → view (storeOn n i o s (runAll g calls n first before is) cs ss)
+            ≡ Y.onward i (set ss i s) (λ vs. Y.runEqs system is (Y.store (slots (equationAt n i .names)) vs cs) (set ss i s)) (fitOuts (equationAt n i .names) o)
         go (values vs) s k = k _ _ ∙ ap (λ c. Y.runEqs system is c (set ss i s)) (assign-store (equationAt n i .names) vs cs)
         go failure s k = refl
         go overflow s k = refl
@@ -275,7 +222,8 @@ module _ (n : Node) where
     position-inside : (x j : ℕ) → position x (variableNames n) ≡ some j → j < length (variables n)
     position-inside x j e = omega (arith, position-get x (variableNames n) j e .0, length-map (variables n) nameOf)
 
-    lookup-at : (x j : ℕ) (p : List Value) → length p ≡ length (variables n) → position x (variableNames n) ≡ some j → lookup x (variableNames n) p ≡ some (getD p j (Val.Bool false))
+    lookup-at : (x j : ℕ) (p : List Value) → length p ≡ length (variables n) → position x (variableNames n) ≡ some j
+        → lookup x (variableNames n) p ≡ some (getD p j (Val.Bool false))
     lookup-at x j p e h = ap (maybe none (getElem? p)) h ∙ getElem-getD p j (Val.Bool false) (omega (arith, position-inside x j h))
 
     none-or : (x : ℕ) → (position x (variableNames n) ≡ none) ⊎ ((j : ℕ) × (position x (variableNames n) ≡ some j))
@@ -285,30 +233,28 @@ module _ (n : Node) where
         go none = inl refl
         go (some j) = inr (j, refl)
 
-    kinds-same : (p q : List Value) → length p ≡ length (variables n) → length q ≡ length (variables n) → Y.SameKinds system p q → (x : ℕ) → kindIn (lookup x (variableNames n) p) ≡ kindIn (lookup x (variableNames n) q)
-    kinds-same p q ep eq k x =
-        ⊎-elim
-        (λ e. ap (λ o. kindIn (maybe none (getElem? p) o)) e ∙ sym (ap (λ o. kindIn (maybe none (getElem? q) o)) e))
-        (λ w. ap kindIn (lookup-at x (w .0) p ep (w .1)) ∙ ap some (kind-tag (getD p (w .0) (Val.Bool false)) ∙ ap kindByTag (k (w .0) (position-inside x (w .0) (w .1))) ∙ sym (kind-tag (getD q (w .0) (Val.Bool false)))) ∙ sym (ap kindIn (lookup-at x (w .0) q eq (w .1))))
-        (none-or x)
+    tags-same : (p q : List Value) → length p ≡ length (variables n) → length q ≡ length (variables n) → Y.SameKinds system p q → map tag p ≡ map tag q
+    tags-same p q ep eq k =
+        ext-getD 0 (map tag p) (map tag q) (length-map p tag ∙ ep ∙ sym eq ∙ sym (length-map q tag)) (λ x b.
+        List·getD-map tag p x (Val.Bool false) ∙ k x (omega (arith, length-map p tag)) ∙ sym (List·getD-map tag q x (Val.Bool false)))
 
-    pub local : (i : ℕ) (p q : List Value) (s : List ℕ) → length p ≡ length (variables n) → length q ≡ length (variables n)
+    local : (i : ℕ) (p q : List Value) (s : List ℕ) → length p ≡ length (variables n) → length q ≡ length (variables n)
         → ((x : ℕ) → x ∈ slots (reads (equationAt n i .rhs)) → Y.at system p x ≡ Y.at system q x) → Y.SameKinds system p q → system .eval i p s ≡ system .eval i q s
     local i p q s ep eq h k =
         ap (λ (r : Evals). (fitOuts (equationAt n i .names) (r .out), r .seg))
-        (rhs-same g (variableNames n) before first calls p q (kinds-same p q ep eq k) (equationAt n i .rhs)
-        (λ x m. ⊎-elim
+        (eval-congruent g calls n first before p q i s (tags-same p q ep eq k) (λ x m. ⊎-elim
         (λ e. ap (maybe none (getElem? p)) e ∙ sym (ap (maybe none (getElem? q)) e))
-        (λ w. lookup-at x (w .0) p ep (w .1) ∙ ap some (h (w .0) (slots-in _ x (w .0) m (w .1))) ∙ sym (lookup-at x (w .0) q eq (w .1)))
-        (none-or x)) s)
+        (λ w. lookup-at x (w .0) p ep (w .1) ∙ ap some (h (w .0) (found-in slot (reads (equationAt n i .rhs)) x (w .0) m (w .1))) ∙ sym (lookup-at x (w .0) q eq (w .1)))
+        (none-or x)))
 
     module _ (apart : Distinct (concat (map namesOf (n .equations)))) (known : (i : ℕ) → Known (equationAt n i .names))
         (arity : (i : ℕ) → i < length (n .equations) → arityIn g (rhsOf (equationAt n i .rhs)) ≡ length (equationAt n i .names))
         (counts : (i : ℕ) (p : List Value) (s : List ℕ) → CountIs (arityIn g (rhsOf (equationAt n i .rhs))) (evalEquation g calls n first before p i s .out)) where
       slot-name : (i x : ℕ) → x ∈ slots (equationAt n i .names) → (y : ℕ) × (y ∈ equationAt n i .names) × (getD (variableNames n) x 0 ≡ y)
-      slot-name i x m = let w = in-slots (equationAt n i .names) x m in (w .0, w .1, position-get (w .0) (variableNames n) x (w .2) .1)
+      slot-name i x m = let w = in-found slot (equationAt n i .names) x m in (w .0, w .1, position-get (w .0) (variableNames n) x (w .2) .1)
 
-      out-arity : (xs : List ℕ) (o : Outcomes) (vs : List Value) (a : ℕ) → Known xs → a ≡ length xs → CountIs a o → fitOuts xs o ≡ Y.values vs → length vs ≡ length (slots xs)
+      out-arity : (xs : List ℕ) (o : Outcomes) (vs : List Value) (a : ℕ) → Known xs → a ≡ length xs → CountIs a o → fitOuts xs o ≡ Y.values vs
+          → length vs ≡ length (slots xs)
       out-arity xs (values ws) vs a h e c q = let z : fitted xs ws ≡ vs = cc in ap length (sym z) ∙ fitted-length xs ws h (c ∙ e) ∙ sym (slots-length xs h)
       out-arity xs failure vs a h e c q = let z : _≡_ {A = ℕ} 0 1 = cc in absurd (omega arith)
       out-arity xs overflow vs a h e c q = let z : _≡_ {A = ℕ} 0 1 = cc in absurd (omega arith)
@@ -316,7 +262,7 @@ module _ (n : Node) where
       pub lawful : Y.Lawful system
       lawful =
           record {
-            slots = λ i b x m. let w = in-slots (equationAt n i .names) x m in position-inside (w .0) x (w .2);
+            slots = λ i b x m. let w = in-found slot (equationAt n i .names) x m in position-inside (w .0) x (w .2);
             once = λ i b. slots-distinct (equationAt n i .names) (names-distinct (n .equations) i apart);
             single = λ i j bi bj x mi mj.
                 let a = slot-name i x mi in
@@ -330,17 +276,11 @@ module _ (n : Node) where
       deps-same : (i d : ℕ) → d ∈ Y.deps system i → d ∈ depsOf (n .equations) i
       deps-same i d m =
           let w = YP.in-deps system i d m in
-          let r = in-slots (reads (equationAt n i .rhs)) (w .0) (w .1) in
+          let r = in-found slot (reads (equationAt n i .rhs)) (w .0) (w .1) in
           let l = slot-name d (w .0) (w .3) in
           let e = position-get (r .0) (variableNames n) (w .0) (r .2) .1 in
           let def : definer (n .equations) (r .0) ≡ some d = definer-is 0 (n .equations) (r .0) d apart (Memᴰ·cast (sym e ∙ l .2) (l .1)) ∙ ap some (omega arith) in
-          go i (n .equations) (r .0) d (r .1) def
-        where
-          go : (i : ℕ) (qs : List Equation) (x d : ℕ) → x ∈ reads (getD qs i noEquation .rhs) → definer (n .equations) x ≡ some d → d ∈ depsBy (n .equations) (getElem? qs i)
-          go zero [] x d m e = absurd (in-nil m)
-          go (suc i) [] x d m e = absurd (in-nil m)
-          go zero (q ∷ qs) x d m e = definers-in (n .equations) (reads (q .rhs)) x d m e
-          go (suc i) (q ∷ qs) x d m e = go i qs x d m e
+          deps-in (n .equations) (n .equations) i d (r .0) (r .1) def
 
       in-order-less : (seen l : List ℕ) → O.InOrder (depsOf (n .equations)) seen l → O.InOrder (Y.deps system) seen l
       in-order-less seen [] o = tt
@@ -348,21 +288,3 @@ module _ (n : Node) where
 
       pub valid-order : (l : List ℕ) → O.ValidOrder (length (n .equations)) (depsOf (n .equations)) l → O.ValidOrder (length (n .equations)) (Y.deps system) l
       valid-order l v = record { inside = v .inside; complete = v .complete; inOrder = in-order-less [] l (v .inOrder) }
-
--- ---- with other equations, names have the same positions and values are fitted alike
-
-pub slots-with : (n : Node) (rs : List Equation) (xs : List ℕ) → slots (withEquations n rs) xs ≡ slots n xs
-unfolding slots
-slots-with n rs [] = refl
-slots-with n rs (x ∷ xs) = ap (λ l. addSlot n (position x (variableNames n)) l) (slots-with n rs xs)
-
-pub fitted-with : (n : Node) (rs : List Equation) (xs : List ℕ) (vs : List Value) → fitted (withEquations n rs) xs vs ≡ fitted n xs vs
-unfolding fitted
-fitted-with n rs [] vs = refl
-fitted-with n rs (x ∷ xs) [] = refl
-fitted-with n rs (x ∷ xs) (v ∷ vs) = ap (addFitted n (position x (variableNames n)) v) (fitted-with n rs xs vs)
-
-pub fitOuts-with : (n : Node) (rs : List Equation) (xs : List ℕ) (o : Outcomes) → fitOuts (withEquations n rs) xs o ≡ fitOuts n xs o
-fitOuts-with n rs xs (values vs) = ap Y.values (fitted-with n rs xs vs)
-fitOuts-with n rs xs failure = refl
-fitOuts-with n rs xs overflow = refl

@@ -1,52 +1,43 @@
 -- The state through a list of cycles: it is well formed and its main cells have their kinds, so that each answered cycle solves the main equations.
 use Prim.Native.Nat.{ℕ, zero, suc, _+_, _*_, _-_, _^_, _<_, _≤_}
 use mathlib.Core.Bool.{Bool, true, false, not, _&&_, _||_}
-use mathlib.Core.List.{List, [], _∷_, _++_, map, append-nil, append-assoc, Memᴰ·append-left as in-left, Memᴰ·append-right as in-right}
+use mathlib.Core.List.{List, [], _∷_, _++_, map, map-append, append-assoc, Memᴰ·append-left as in-left, Memᴰ·append-right as in-right}
 use mathlib.Core.Path.{_≡_, refl, sym, ap, ap₂, subst, _∙_}
 use native.Mathlib.Omega.{arith}
 use lib.ListN.{length, take, drop, getD, length-append, length-drop, length-map, take-append-drop}
 use lib.Seq.{take-at, drop-at, length-take-le, take-append-le, drop-append-le, take-add}
-use lib.Dec.{T, leb, eqb, eqb→eq, eqb-refl}
+use lib.Dec.{T, leb, eqb, eqb→eq}
 use Rattle.ol_theory.specs.Member.{_∈_}
+use Rattle.ol_theory.specs.System as Y
 use Rattle.ol_spec.specs.Lists.{concat, same, member}
 use Rattle.ol_spec.specs.Syntax.{Ty, bool, int, float32, float64, char, enum, Variable, Equation, Node, File, noNode, variables, main}
 use Rattle.ol_spec.specs.Cell.{tag, cells, valueOf, valuesOf, goodCell, goodCells}
 use Rattle.ol_spec.specs.Types.{IntTy, intIn, inType, defaultOf, defaults, kind}
 use Rattle.ol_spec.specs.Limits.{Loader}
+use Rattle.ol_spec.specs.Order.{order}
 use Rattle.ol_spec.specs.Eval.{Globals, callees}
 use Rattle.ol_spec.specs.Step.{equationSites, sites, ownSize, isFresh, oldCells, oldSegs, split, startedRecord, Ended, finished, failedAt, overflowedAt, Run, run, calls, freshAt, freshRecord}
 use Rattle.ol_spec.specs.Admission.{admitted, judge, headSize, stateSize}
 use Rattle.ol_spec.specs.State.{globalsOf, freshState, goodSites, goodOwn, goodState, goodEach, goodInputs}
 use Rattle.ol_spec.specs.Answers.{faultAt}
-use Rattle.ol_spec.specs.Cycle.{CycleCall, endOn, mainRun, endRun, noCycle, cycleUnless, fits17, cycleJudged, cycle}
-use Rattle.ol_spec.specs.Demand3.{Turn, nextState, history, InKind, given, Answered, KeepsKinds, Solves, AllSolve, Bytes, SolutionClaim}
+use Rattle.ol_spec.specs.Cycle.{CycleCall, endOn, mainRun, endRun, cycleUnless, fits17, cycleJudged, cycle}
+use Rattle.ol_spec.specs.Demand3.{Turn, Made, nextState, history, InKind, lent, given, Answered, KeepsKinds, Solves, AllSolve, SolutionClaim}
 use Rattle.ol_spec.specs.declared.Value.{Value}
 use Rattle.ol_spec.specs.declared.Value.the-variants as Val
 use Rattle.ol_spec.specs.declared.Fault.{Fault}
+use Rattle.ol_spec.specs.declared.Cycled.{Cycled}
 use Rattle.ol_spec.specs.declared.Cycled.the-variants as Cyc
-use Rattle.ol_spec.proofs.Tests.{T-and, and-T, T-true, true-T}
-use Rattle.ol_spec.proofs.Cells.{AllFine, good-fine, cells-back, length-cells, same-refl}
-use Rattle.ol_spec.proofs.Good.{Rec}
-use Rattle.ol_spec.proofs.Runs.{PlainEqs, Segs, segs-concat, segs-length, split-segs, split-concat, Instance, inner-good, RunGood, run-meets, start-length, started-instance, length-values}
-use Rattle.ol_spec.proofs.Calls.{mayBe, isGood, Keeps, calls-keep, fresh-main, fresh-rec, fresh-sites}
+use Rattle.ol_spec.proofs.Tests.{T-and, and-T, T-true, true-T, eq-eqb}
+use Rattle.ol_spec.proofs.Values.{Fine}
+use Rattle.ol_spec.proofs.Cells.{AllFine, good-fine, cells-back, cells-values, length-cells, same-refl, same-eq}
+use Rattle.ol_spec.proofs.Segments.{Rec}
+use Rattle.ol_spec.proofs.Runs.{length-values, PlainEqs, Segs, segs-concat, segs-length, split-segs, split-concat, RunGood, run-meets, start-length, Instance, old-fine, inner-good, started-instance}
+use Rattle.ol_spec.proofs.Calls.{mayBe, isGood, calls-sound, fresh-main, fresh-rec, fresh-sites}
 use Rattle.ol_spec.proofs.MainFacts.{main-at}
-use Rattle.ol_spec.proofs.ReadFacts.{All, file-read}
-use Rattle.ol_spec.proofs.Admits.{admits}
+use Rattle.ol_spec.proofs.Lists.{All, concat-append, map-drop}
 use Rattle.ol_spec.proofs.MainSystem.{viewOn}
-use Rattle.ol_spec.proofs.OneCycle.{begin, solves}
-use Rattle.ol_spec.proofs.Admitted.{Facts, facts}
-
--- ---- lists
-
-map-append : {A B : Type 0} (h : A → B) (a b : List A) → map h (a ++ b) ≡ map h a ++ map h b
-map-append h [] b = refl
-map-append h (x ∷ a) b = ap (λ l. h x ∷ l) (map-append h a b)
-
-map-drop : {A B : Type 0} (h : A → B) (n : ℕ) (l : List A) → map h (drop n l) ≡ drop n (map h l)
-map-drop h zero [] = refl
-map-drop h (suc n) [] = refl
-map-drop h zero (x ∷ l) = refl
-map-drop h (suc n) (x ∷ l) = map-drop h n l
+use Rattle.ol_spec.proofs.OneCycle.{sys, begin, run-theory, solves}
+use Rattle.ol_spec.proofs.Admitted.{Facts, admitted-facts}
 
 -- ---- inputs
 
@@ -65,8 +56,16 @@ inType-tag ens float64 v h = eqb→eq (tag v) 2 h
 inType-tag ens char v h = intIn-tag _ v ens h
 inType-tag ens (enum e) v h = eqb→eq (tag v) 4 (T-and (eqb (tag v) 4) _ h .0)
 
+-- ---- answers
+
 same-fault : {x y : Fault} → Cyc.Refused x ≡ Cyc.Refused y → x ≡ y
 same-fault e = cc
+
+pub refused-not : {x : Fault} → Cyc.Refused x ≡ Cyc.Answered → ⊥
+refused-not e = let z : _≡_ {A = ℕ} 0 1 = cc in omega arith
+
+abbrev pub made : Turn → List ℕ → CycleCall → Made
+made t old c = record { turn = t; old = old; result = c }
 
 each-tags : (ens : List (List ℕ)) (xs : List Variable) (s : List ℕ) → T (goodEach ens xs s) → map tag (valuesOf (length xs) s) ≡ map (λ v. kind ens (v .ty)) xs
 each-tags ens [] s h = refl
@@ -74,7 +73,8 @@ each-tags ens (x ∷ xs) s h =
     let w = T-and (goodCell (concat ens) (take 9 s) && inType ens (x .ty) (valueOf (take 9 s))) _ h in
     ap₂ {C = List ℕ} (λ a l. a ∷ l) (inType-tag ens (x .ty) (valueOf (take 9 s)) (T-and (goodCell (concat ens) (take 9 s)) _ (w .0) .1)) (each-tags ens xs (drop 9 s) (w .1))
 
-each-fine : (ens : List (List ℕ)) → ((x : ℕ) → T (member x (concat ens)) → x < 2 ^ 16) → (xs : List Variable) (s : List ℕ) → T (goodEach ens xs s) → AllFine (concat ens) (valuesOf (length xs) s)
+each-fine : (ens : List (List ℕ)) → ((x : ℕ) → T (member x (concat ens)) → x < 2 ^ 16) → (xs : List Variable) (s : List ℕ) → T (goodEach ens xs s)
+    → AllFine (concat ens) (valuesOf (length xs) s)
 each-fine ens short [] s h = tt
 each-fine ens short (x ∷ xs) s h =
     let w = T-and (goodCell (concat ens) (take 9 s) && inType ens (x .ty) (valueOf (take 9 s))) _ h in
@@ -95,11 +95,16 @@ cells-part vs (suc m) a b c e =
     let db = drop-append-le 9 a b h in
     let dc = drop-append-le 9 a c h in
     let w = cells-part vs m (drop 9 a) b c (length-drop 9 a ∙ omega arith) in (
-      ap₂ (λ x y. goodCell vs x && goodCells vs m y) tb db ∙ ap (λ y. goodCell vs (take 9 a) && y) (w .0) ∙ sym (ap₂ (λ x y. goodCell vs x && goodCells vs m y) tc dc),
-      ap₂ {C = List Value} (λ x y. valueOf x ∷ valuesOf m y) tb db ∙ ap {B = List Value} (λ y. valueOf (take 9 a) ∷ y) (w .1) ∙ sym (ap₂ {C = List Value} (λ x y. valueOf x ∷ valuesOf m y) tc dc),
+      ap₂ (λ x y. goodCell vs x && goodCells vs m y) tb db
+          ∙ ap (λ y. goodCell vs (take 9 a) && y) (w .0)
+          ∙ sym (ap₂ (λ x y. goodCell vs x && goodCells vs m y) tc dc),
+      ap₂ {C = List Value} (λ x y. valueOf x ∷ valuesOf m y) tb db
+          ∙ ap {B = List Value} (λ y. valueOf (take 9 a) ∷ y) (w .1)
+          ∙ sym (ap₂ {C = List Value} (λ x y. valueOf x ∷ valuesOf m y) tc dc),
     )
 
-own-part : (g : Globals) (n : Node) (a b c : List ℕ) → length a ≡ ownSize n → (T (goodOwn g n (a ++ b)) → T (goodOwn g n (a ++ c))) × (oldCells n (a ++ b) ≡ oldCells n (a ++ c))
+own-part : (g : Globals) (n : Node) (a b c : List ℕ) → length a ≡ ownSize n
+    → (T (goodOwn g n (a ++ b)) → T (goodOwn g n (a ++ c))) × (oldCells n (a ++ b) ≡ oldCells n (a ++ c))
 unfolding goodOwn
 own-part g n [] b c e = absurd (omega arith)
 own-part g n (x ∷ a) b c e =
@@ -113,16 +118,16 @@ own-part g n (x ∷ a) b c e =
 abbrev pub freshSeg : Globals → Equation → List ℕ
 freshSeg g q = concat (map (freshAt g (length (g .nodes))) (callees (q .rhs)))
 
-concat-append : (a b : List (List ℕ)) → concat (a ++ b) ≡ concat a ++ concat b
-concat-append [] b = refl
-concat-append (x ∷ a) b = ap (λ l. x ++ l) (concat-append a b) ∙ sym (append-assoc x (concat a) (concat b))
-
 fresh-concat : (g : Globals) (qs : List Equation) → concat (map (freshSeg g) qs) ≡ concat (map (freshAt g (length (g .nodes))) (concat (map equationSites qs)))
 fresh-concat g [] = refl
 fresh-concat g (q ∷ qs) =
     let h = freshAt g (length (g .nodes)) in
     ap (λ l. freshSeg g q ++ l) (fresh-concat g qs)
     ∙ sym (ap concat (map-append h (callees (q .rhs)) (concat (map equationSites qs))) ∙ concat-append (map h (callees (q .rhs))) (map h (concat (map equationSites qs))))
+
+-- the cycle's old state is well formed, and it is not refused with 15
+abbrev pub Not15 : File → List Value → Made → Type 0
+Not15 f vs m = (goodState f vs (m .old) ≡ true) × ((q : ℕ) → ¬ (m .result .answer ≡ Cyc.Refused (faultAt 15 q)))
 
 module _ (f : File) (vs : List Value) (F : Facts f vs) where
   abbrev g : Globals
@@ -137,17 +142,14 @@ module _ (f : File) (vs : List Value) (F : Facts f vs) where
   is-main : n ≡ getD (f .nodes) K noNode
   is-main = main-at (f .nodes) (F .some-node)
 
-  pub plain-main : PlainEqs (mayBe g) (n .equations)
-  plain-main = subst (λ x. PlainEqs (mayBe g) (x .equations)) (sym is-main) (F .plain K)
-
-  pub keep : Keeps f vs (F .lower) (F .short) (F .constantsFine) (F .plain) (F .fresh-fine) (calls g)
-  keep = calls-keep f vs (F .lower) (F .short) (F .constantsFine) (F .plain) (F .fresh-fine) (length (f .nodes))
+  plain-main : PlainEqs (mayBe g) (n .equations)
+  plain-main = subst (λ x. PlainEqs (mayBe g) (x .equations)) (sym is-main) (F .callable .plain K)
 
   abbrev p : ℕ → List ℕ → Bool
-  p = isGood f vs (F .lower)
+  p = isGood f vs
 
-  abbrev pub Inst : List ℕ → Type 0
-  Inst r = Instance g p (mayBe g) (calls g) (F .short) (F .constantsFine) keep n plain-main r
+  abbrev Inst : List ℕ → Type 0
+  Inst r = Instance g p n r
 
   -- well formed: what 15 asks
   pub record StateWell (old : List ℕ) : Type 0 where
@@ -160,12 +162,27 @@ module _ (f : File) (vs : List Value) (F : Facts f vs) where
     pub well : StateWell old
     pub kinds : InKind f (oldCells n (drop (headSize f) old))
 
-  pub ok-good : {old : List ℕ} → StateWell old → goodState f vs old ≡ true
+  -- a state is well formed exactly if 15 does not hold of it
+  pub well-good : {old : List ℕ} → StateWell old → goodState f vs old ≡ true
   unfolding goodState
-  ok-good {old} h =
+  well-good {old} h =
       T-true _ (and-T (eqb (length old) (stateSize f) && same (take (headSize f) old) (cells vs)) _
-      (and-T (eqb (length old) (stateSize f)) _ (subst (λ m. T (eqb (length old) m)) (h .sized) (eqb-refl (length old))) (subst (λ l. T (same l (cells vs))) (sym (h .head)) (same-refl (cells vs))))
+      (and-T (eqb (length old) (stateSize f)) _ (eq-eqb _ _ (h .sized)) (subst (λ l. T (same l (cells vs))) (sym (h .head)) (same-refl (cells vs))))
       (and-T (goodOwn g n (drop (headSize f) old)) _ (h .inst .own) (h .inst .inner)))
+
+  pub good-well : {old : List ℕ} → goodState f vs old ≡ true → StateWell old
+  unfolding goodState stateSize
+  good-well {old} e =
+      let rest = drop (headSize f) old in
+      let w = T-and (eqb (length old) (stateSize f) && same (take (headSize f) old) (cells vs)) _ (true-T (goodState f vs old) e) in
+      let u = T-and (eqb (length old) (stateSize f)) _ (w .0) in
+      let v = T-and (goodOwn g n rest) _ (w .1) in
+      let sized : length old ≡ stateSize f = eqb→eq (length old) (stateSize f) (u .0) in
+      record {
+        sized = sized;
+        head = same-eq (take (headSize f) old) (cells vs) (u .1);
+        inst = record { sized = length-drop (headSize f) old ∙ omega arith; own = v .0; inner = v .1 };
+      }
 
   head-length : length (cells vs) ≡ headSize f
   head-length = length-cells vs ∙ ap (λ m. 9 * m) (F .constantCount)
@@ -180,56 +197,53 @@ module _ (f : File) (vs : List Value) (F : Facts f vs) where
         inst = subst Inst (sym (drop-at (cells vs) r (headSize f) head-length)) i;
       }
 
-  ok-kinds : (r : List ℕ) → InKind f (oldCells n r) → InKind f (oldCells n (drop (headSize f) (cells vs ++ r)))
-  ok-kinds r k = subst (λ l. InKind f (oldCells n l)) (sym (drop-at (cells vs) r (headSize f) head-length)) k
+  -- what stands in a state: the main cells, whether the main instance is fresh, and the main equations' segments
+  pub record Parts (st : List ℕ) (cs : List Value) (b : Bool) (ss : List (List ℕ)) : Type 0 where
+    pub cells : oldCells n (drop (headSize f) st) ≡ cs
+    pub first : isFresh (drop (headSize f) st) ≡ b
+    pub segs : oldSegs g n (drop (headSize f) st) ≡ ss
+
+  parts-of : (b : ℕ) (cs : List Value) (ss : List (List ℕ)) → AllFine (concat (f .enums)) cs → length cs ≡ length (variables n) → Segs g p (n .equations) ss
+      → Parts (cells vs ++ (b ∷ cells cs ++ concat ss)) cs (eqb b 0) ss
+  parts-of b cs ss fine e h =
+      let q = drop-at (cells vs) (b ∷ cells cs ++ concat ss) (headSize f) head-length in
+      record {
+        cells = ap (oldCells n) q ∙ ap (λ m. valuesOf m (cells cs ++ concat ss)) (sym e) ∙ cells-back (concat (f .enums)) cs (concat ss) fine;
+        first = ap isFresh q;
+        segs = ap (oldSegs g n) q ∙ ap (split g (n .equations)) (drop-at (b ∷ cells cs) (concat ss) (ownSize n) (omega (arith, length-cells cs))) ∙ split-concat g p (n .equations) ss h;
+      }
 
   -- ---- the start
 
   fresh-inst : Inst (freshRecord g n)
-  fresh-inst =
-      let h = subst (λ m. (q : PlainEqs (mayBe g) (m .equations)) → Instance g p (mayBe g) (calls g) (F .short) (F .constantsFine) keep m q (freshRecord g m)) (sym is-main)
-      (λ q. let x = fresh-main f vs (F .lower) (F .short) (F .constantsFine) (F .plain) (F .fresh-fine) (calls g) keep K (omega (arith, F .some-node)) in record { sized = x .sized; own = x .own; inner = x .inner }) in
-      h plain-main
+  fresh-inst = subst (λ m. Instance g p m (freshRecord g m)) (sym is-main) (fresh-main (F .callable) K (omega (arith, F .some-node)))
 
   fresh-cells : AllFine (concat (f .enums)) (defaults (f .enums) (variables n))
-  fresh-cells = subst (λ m. AllFine (concat (f .enums)) (defaults (f .enums) (variables m))) (sym is-main) (F .fresh-fine K)
+  fresh-cells = subst (λ m. AllFine (concat (f .enums)) (defaults (f .enums) (variables m))) (sym is-main) (F .callable .fresh-fine K)
 
-  pub start-ok : StateOk (freshState f vs)
-  unfolding freshState
-  start-ok =
-      let ds = defaults (f .enums) (variables n) in
-      let rest = concat (map (freshAt g (length (f .nodes))) (sites n)) in
-      record {
-        well = well-parts (freshRecord g n) fresh-inst;
-        kinds = ok-kinds (freshRecord g n)
-            (ap (map tag) (ap (λ m. valuesOf m (cells ds ++ rest)) (sym (length-map (variables n) (defaultOf (f .enums)))) ∙ cells-back (concat (f .enums)) ds rest fresh-cells) ∙ default-tags (f .enums) (variables n));
-      }
+  fresh-segs : Segs g p (n .equations) (map (freshSeg g) (n .equations))
+  fresh-segs = go (n .equations) (λ c m. fresh-rec (F .callable) (length (f .nodes)) c (low c m) (low c m))
+    where
+      low : (c : ℕ) → c ∈ sites n → c < length (f .nodes)
+      low c m = omega (arith, F .callable .lower K c (subst (λ x. c ∈ sites x) is-main m), F .some-node)
 
-  -- the parts of the fresh state
-  pub fresh-parts : let r = drop (headSize f) (freshState f vs) in
-      (oldCells n r ≡ defaults (f .enums) (variables n)) × (isFresh r ≡ true) × (oldSegs g n r ≡ map (freshSeg g) (n .equations))
+      go : (qs : List Equation) → ((c : ℕ) → c ∈ concat (map equationSites qs) → Rec g p c (freshAt g (length (f .nodes)) c)) → Segs g p qs (map (freshSeg g) qs)
+      go [] h = tt
+      go (x ∷ qs) h = (
+        fresh-sites (F .callable) (freshAt g (length (f .nodes))) (callees (x .rhs)) (λ c m. h c (in-left (concat (map equationSites qs)) m)),
+        go qs (λ c m. h c (in-right (callees (x .rhs)) m)),
+      )
+
+  pub fresh-parts : Parts (freshState f vs) (defaults (f .enums) (variables n)) true (map (freshSeg g) (n .equations))
   unfolding freshState
   fresh-parts =
       let ds = defaults (f .enums) (variables n) in
-      let rest = concat (map (freshAt g (length (f .nodes))) (sites n)) in
-      let e : drop (headSize f) (cells vs ++ freshRecord g n) ≡ freshRecord g n = drop-at (cells vs) (freshRecord g n) (headSize f) head-length in
-      let len : length ds ≡ length (variables n) = length-map (variables n) (defaultOf (f .enums)) in
-      let q = freshAt g (length (f .nodes)) in (
-        ap (oldCells n) e ∙ ap (λ m. valuesOf m (cells ds ++ rest)) (sym len) ∙ cells-back (concat (f .enums)) ds rest fresh-cells,
-        ap isFresh e,
-        ap (oldSegs g n) e ∙ ap (split g (n .equations)) (drop-at (0 ∷ cells ds) rest (ownSize n) (omega (arith, length-cells ds)) ∙ sym (fresh-concat g (n .equations)))
-            ∙ split-concat g p (n .equations) (map (freshSeg g) (n .equations)) (fresh-segs (n .equations) (λ c m. fresh-rec f vs (F .lower) (F .short) (F .constantsFine) (F .plain) (F .fresh-fine) (length (f .nodes)) c (low c m) (low c m))),
-      )
-    where
-      low : (c : ℕ) → c ∈ sites n → c < length (f .nodes)
-      low c m = omega (arith, F .lower K c (subst (λ x. c ∈ sites x) is-main m), F .some-node)
+      subst (λ l. Parts (cells vs ++ (0 ∷ cells ds ++ l)) ds true (map (freshSeg g) (n .equations))) (fresh-concat g (n .equations))
+      (parts-of 0 ds (map (freshSeg g) (n .equations)) fresh-cells (length-map (variables n) (defaultOf (f .enums))) fresh-segs)
 
-      fresh-segs : (qs : List Equation) → ((c : ℕ) → c ∈ concat (map equationSites qs) → Rec g p c (freshAt g (length (f .nodes)) c)) → Segs g p qs (map (freshSeg g) qs)
-      fresh-segs [] h = tt
-      fresh-segs (x ∷ qs) h = (
-        fresh-sites f vs (F .lower) (F .short) (F .constantsFine) (F .plain) (F .fresh-fine) (freshAt g (length (f .nodes))) (callees (x .rhs)) (λ c m. h c (in-left (concat (map equationSites qs)) m)),
-        fresh-segs qs (λ c m. h c (in-right (callees (x .rhs)) m)),
-      )
+  pub start-ok : StateOk (freshState f vs)
+  unfolding freshState
+  start-ok = record { well = well-parts (freshRecord g n) fresh-inst; kinds = ap (map tag) (fresh-parts .cells) ∙ default-tags (f .enums) (variables n) }
 
   -- ---- a cycle
 
@@ -240,113 +254,131 @@ module _ (f : File) (vs : List Value) (F : Facts f vs) where
     abbrev ws : List Value
     ws = valuesOf (length (n .inputs)) ins
 
+    abbrev u : Run
+    u = mainRun f vs old ins
+
     each : T (goodEach (f .enums) (n .inputs) ins)
     unfolding goodInputs
     each = T-and (eqb (length ins) (9 * length (n .inputs))) _ good-ins .1
 
-    ws-fine : AllFine (concat (f .enums)) ws
-    ws-fine = each-fine (f .enums) (F .short) (n .inputs) ins each
-
-    pub ran : RunGood g p (mayBe g) (calls g) (F .short) (F .constantsFine) keep n plain-main (length (variables n)) (mainRun f vs old ins)
+    ran : RunGood (Fine (concat (f .enums))) g p n (length (variables n)) u
     unfolding mainRun
-    ran = run-meets g p (mayBe g) (calls g) (F .short) (F .constantsFine) keep n plain-main ws rec ws-fine (length-values (length (n .inputs)) ins) (h .inst)
+    ran =
+        let fine = each-fine (f .enums) (F .callable .short) (n .inputs) ins each in
+        run-meets (calls-sound (F .callable) (length (f .nodes))) n plain-main ws rec fine (length-values (length (n .inputs)) ins)
+        (old-fine (F .callable .short) (h .inst)) (inner-good (h .inst))
 
     pub begins : length (begin f vs (F .mainly) old ws) ≡ length (variables n)
-    begins = start-length g p (mayBe g) (calls g) (F .short) (F .constantsFine) keep n plain-main ws rec (length-values (length (n .inputs)) ins)
+    begins = start-length n ws rec (length-values (length (n .inputs)) ins)
 
     pub begin-kinds : InKind f (oldCells n rec) → InKind f (begin f vs (F .mainly) old ws)
     begin-kinds hk =
         let ks : Variable → ℕ = λ v. kind (f .enums) (v .ty) in
         let is = n .inputs in
-        let os = n .outputs in
-        let ls = n .locals in
-        let all : map ks (variables n) ≡ map ks is ++ map ks (os ++ ls) = ap (map ks) (append-assoc is os ls) ∙ map-append ks is (os ++ ls) in
-        map-append tag ws (drop (length is) (oldCells n rec))
-        ∙ ap₂ _++_ (each-tags (f .enums) is ins each) (map-drop tag (length is) (oldCells n rec) ∙ ap (drop (length is)) (hk ∙ all) ∙ drop-at (map ks is) (map ks (os ++ ls)) (length is) (length-map is ks))
-        ∙ sym all
+        let rest = n .outputs ++ n .locals in
+        let all : map ks (variables n) ≡ map ks is ++ map ks rest = ap (map ks) (append-assoc is (n .outputs) (n .locals)) ∙ map-append ks is rest in
+        let others : map tag (drop (length is) (oldCells n rec)) ≡ map ks rest =
+        map-drop tag (length is) (oldCells n rec) ∙ ap (drop (length is)) (hk ∙ all) ∙ drop-at (map ks is) (map ks rest) (length is) (length-map is ks) in
+        map-append tag ws (drop (length is) (oldCells n rec)) ∙ ap₂ _++_ (each-tags (f .enums) is ins each) others ∙ sym all
 
     pub counted : length (oldSegs g n rec) ≡ length (n .equations)
-    counted = segs-length g p (n .equations) _ (split-segs g p (n .equations) _ (inner-good g p (mayBe g) (calls g) (F .short) (F .constantsFine) keep n plain-main (h .inst)))
+    counted = segs-length g p (n .equations) _ (split-segs g p (n .equations) _ (inner-good (h .inst)))
 
-    -- an answered cycle
-    pub new-cells : InKind f (oldCells n rec) → mainRun f vs old ins .end ≡ finished → InKind f (mainRun f vs old ins .cells) → Solves f vs old (mainRun f vs old ins .cells)
+    -- a finished run, as the theory has it
+    pub finishes : u .end ≡ finished → Y.runEqs (sys f vs (F .mainly) old) (order (n .equations)) (begin f vs (F .mainly) old ws) (oldSegs g n rec) ≡ Y.finished (u .cells) (u .segs)
     unfolding mainRun run
-    new-cells hk e k =
-        solves f vs (F .mainly) old ws (length-values (length (n .inputs)) ins) begins (begin-kinds hk) counted (mainRun f vs old ins .cells) (mainRun f vs old ins .segs)
-        (ap (λ x. viewOn n g (calls g) (isFresh rec) (oldCells n rec) x (mainRun f vs old ins .cells) (mainRun f vs old ins .segs)) e) k
+    finishes e = sym (run-theory f vs (F .mainly) old ws) ∙ ap (λ x. viewOn n g (calls g) (isFresh rec) (oldCells n rec) x (u .cells) (u .segs)) e
 
-    pub given-back : valuesOf (length (variables n)) (cells (mainRun f vs old ins .cells)) ≡ mainRun f vs old ins .cells
-    given-back =
-        let cs = mainRun f vs old ins .cells in
-        ap₂ (λ m l. valuesOf m l) (sym (ran .counted)) (sym (append-nil (cells cs))) ∙ cells-back (concat (f .enums)) cs [] (ran .fine)
+    new-cells : InKind f (oldCells n rec) → u .end ≡ finished → InKind f (u .cells) → Solves f vs old ws (u .cells)
+    new-cells hk e k = solves f vs (F .mainly) old ws (length-values (length (n .inputs)) ins) begins (begin-kinds hk) counted (u .cells) (u .segs) (finishes e) k
 
-    pub answered-well : StateWell (take (headSize f) old ++ startedRecord (mainRun f vs old ins .cells) (mainRun f vs old ins .segs))
-    answered-well =
-        let cs = mainRun f vs old ins .cells in
-        let ss = mainRun f vs old ins .segs in
-        subst (λ l. StateWell (l ++ startedRecord cs ss)) (sym (h .head))
-        (well-parts (startedRecord cs ss) (started-instance g p (mayBe g) (calls g) (F .short) (F .constantsFine) keep n plain-main cs ss (ran .fine) (ran .counted) (ran .segs)))
+    pub given-back : valuesOf (length (variables n)) (cells (u .cells)) ≡ u .cells
+    given-back = ap (λ m. valuesOf m (cells (u .cells))) (sym (ran .counted)) ∙ cells-values (concat (f .enums)) (u .cells) (ran .fine)
 
-    -- the parts of the state that it leaves
-    left-rec : (cs : List Value) (ss : List (List ℕ)) → drop (headSize f) (take (headSize f) old ++ startedRecord cs ss) ≡ startedRecord cs ss
-    left-rec cs ss = ap (λ l. drop (headSize f) (l ++ startedRecord cs ss)) (h .head) ∙ drop-at (cells vs) (startedRecord cs ss) (headSize f) head-length
+    -- the state that an answered cycle leaves
+    abbrev answered : List ℕ
+    answered = take (headSize f) old ++ startedRecord (u .cells) (u .segs)
 
-    pub left-parts : let r = drop (headSize f) (take (headSize f) old ++ startedRecord (mainRun f vs old ins .cells) (mainRun f vs old ins .segs)) in
-        (oldCells n r ≡ mainRun f vs old ins .cells) × (isFresh r ≡ false) × (oldSegs g n r ≡ mainRun f vs old ins .segs)
-    left-parts =
-        let cs = mainRun f vs old ins .cells in
-        let ss = mainRun f vs old ins .segs in
-        let e = left-rec cs ss in (
-          ap (oldCells n) e ∙ ap (λ m. valuesOf m (cells cs ++ concat ss)) (sym (ran .counted)) ∙ cells-back (concat (f .enums)) cs (concat ss) (ran .fine),
-          ap isFresh e,
-          ap (oldSegs g n) e ∙ ap (split g (n .equations)) (drop-at (1 ∷ cells cs) (concat ss) (ownSize n) (omega (arith, length-cells cs, ran .counted))) ∙ split-concat g p (n .equations) ss (ran .segs),
-        )
+    answered-well : StateWell answered
+    answered-well = subst (λ l. StateWell (l ++ startedRecord (u .cells) (u .segs))) (sym (h .head)) (well-parts (startedRecord (u .cells) (u .segs)) (started-instance u ran))
 
-    own-length : length (take (ownSize n) rec) ≡ ownSize n
+    pub answered-parts : Parts answered (u .cells) false (u .segs)
+    answered-parts =
+        subst (λ l. Parts (l ++ startedRecord (u .cells) (u .segs)) (u .cells) false (u .segs)) (sym (h .head)) (parts-of 1 (u .cells) (u .segs) (ran .fine) (ran .counted) (ran .segs))
+
+    pub answered-ok : InKind f (u .cells) → StateOk answered
+    answered-ok k = record { well = answered-well; kinds = ap (map tag) (answered-parts .cells) ∙ k }
+
+    -- the state that a cycle leaves where evaluation fails: the record's own part is the old one
+    abbrev failed : List ℕ
+    failed = take (headSize f + ownSize n) old ++ concat (u .segs)
+
+    abbrev own : List ℕ
+    own = take (ownSize n) rec
+
+    own-length : length own ≡ ownSize n
     own-length = length-take-le (ownSize n) rec (omega (arith, h .inst .sized))
 
-    pub answered-ok : InKind f (mainRun f vs old ins .cells) → StateOk (take (headSize f) old ++ startedRecord (mainRun f vs old ins .cells) (mainRun f vs old ins .segs))
-    answered-ok k = record { well = answered-well; kinds = ap (map tag) (left-parts .0) ∙ k }
+    own-kept : (T (goodOwn g n rec) → T (goodOwn g n (own ++ concat (u .segs)))) × (oldCells n rec ≡ oldCells n (own ++ concat (u .segs)))
+    own-kept =
+        subst (λ l. (T (goodOwn g n l) → T (goodOwn g n (own ++ concat (u .segs)))) × (oldCells n l ≡ oldCells n (own ++ concat (u .segs)))) (take-append-drop (ownSize n) rec)
+        (own-part g n own (drop (ownSize n) rec) (concat (u .segs)) own-length)
 
-    failed-parts : let ss = mainRun f vs old ins .segs in take (headSize f + ownSize n) old ++ concat ss ≡ cells vs ++ (take (ownSize n) rec ++ concat ss)
-    failed-parts =
-        let ss = mainRun f vs old ins .segs in
-        ap (λ l. l ++ concat ss) (take-add (headSize f) (ownSize n) old ∙ ap (λ l. l ++ take (ownSize n) rec) (h .head)) ∙ append-assoc (cells vs) (take (ownSize n) rec) (concat ss)
+    failed-is : failed ≡ cells vs ++ (own ++ concat (u .segs))
+    failed-is =
+        ap (λ l. l ++ concat (u .segs)) (take-add (headSize f) (ownSize n) old ∙ ap (λ l. l ++ own) (h .head)) ∙ append-assoc (cells vs) own (concat (u .segs))
 
-    own-kept : let ss = mainRun f vs old ins .segs in (T (goodOwn g n (take (ownSize n) rec ++ drop (ownSize n) rec)) → T (goodOwn g n (take (ownSize n) rec ++ concat ss))) × (oldCells n (take (ownSize n) rec ++ drop (ownSize n) rec) ≡ oldCells n (take (ownSize n) rec ++ concat ss))
-    own-kept = own-part g n (take (ownSize n) rec) (drop (ownSize n) rec) (concat (mainRun f vs old ins .segs)) own-length
-
-    failed-well : StateWell (take (headSize f + ownSize n) old ++ concat (mainRun f vs old ins .segs))
+    failed-well : StateWell failed
     failed-well =
-        let ss = mainRun f vs old ins .segs in
-        let a = take (ownSize n) rec in
-        let gs = segs-concat g p (n .equations) ss (ran .segs) in
-        subst StateWell (sym failed-parts)
-        (well-parts (a ++ concat ss)
+        let gs = segs-concat g p (n .equations) (u .segs) (ran .segs) in
+        subst StateWell (sym failed-is)
+        (well-parts (own ++ concat (u .segs))
         (record {
-          sized = length-append a (concat ss) ∙ ap₂ _+_ own-length (gs .sized);
-          own = own-kept .0 (subst (λ l. T (goodOwn g n l)) (sym (take-append-drop (ownSize n) rec)) (h .inst .own));
-          inner = subst (λ l. T (goodSites g p (sites n) l)) (sym (drop-at a (concat ss) (ownSize n) own-length)) (gs .good);
+          sized = length-append own (concat (u .segs)) ∙ ap₂ _+_ own-length (gs .sized);
+          own = own-kept .0 (h .inst .own);
+          inner = subst (λ l. T (goodSites g p (sites n) l)) (sym (drop-at own (concat (u .segs)) (ownSize n) own-length)) (gs .good);
         }))
 
-    failed-ok : InKind f (oldCells n rec) → StateOk (take (headSize f + ownSize n) old ++ concat (mainRun f vs old ins .segs))
-    failed-ok hk =
-        record {
-          well = failed-well;
-          kinds = subst (λ l. InKind f (oldCells n (drop (headSize f) l))) (sym failed-parts) (ok-kinds _ (ap (map tag) (sym (own-kept .1) ∙ ap (oldCells n) (take-append-drop (ownSize n) rec)) ∙ hk));
-        }
+    failed-kinds : InKind f (oldCells n rec) → InKind f (oldCells n (drop (headSize f) failed))
+    failed-kinds hk =
+        ap (λ l. map tag (oldCells n (drop (headSize f) l))) failed-is
+        ∙ ap (λ l. map tag (oldCells n l)) (drop-at (cells vs) (own ++ concat (u .segs)) (headSize f) head-length) ∙ ap (map tag) (sym (own-kept .1)) ∙ hk
 
-  -- what is shown of each cycle
+  -- ---- a cycle of a list
+
+  -- on a well-formed state a cycle is refused with 16 or 17, or runs
+  pub cycle-is : (ld : Loader) (s : List ℕ) → judge ld s ≡ admitted f vs → (old ins new vals : List ℕ) → StateWell old
+      → cycle ld s old ins new vals ≡ cycleUnless false (not (goodInputs f ins)) (not (fits17 f new vals)) f vs old ins new vals
+  unfolding cycle
+  cycle-is ld s e old ins new vals h =
+      ap (λ j. cycleJudged j old ins new vals) e ∙ ap (λ b. cycleUnless (not b) (not (goodInputs f ins)) (not (fits17 f new vals)) f vs old ins new vals) (well-good h)
+
+  -- whatever the kinds, it is not refused with 15, and the state stays well formed
+  abbrev Well : List ℕ → CycleCall → Type 0
+  Well old c = ((q : ℕ) → ¬ (c .answer ≡ Cyc.Refused (faultAt 15 q))) × StateWell (nextState (c .answer) old (c .new))
+
+  run-well : (t : Turn) (old : List ℕ) → StateWell old → T (goodInputs f (t .inputs)) → Well old (endRun f old (t .values) (mainRun f vs old (t .inputs)))
+  run-well t old h gi = go (mainRun f vs old (t .inputs) .end)
+    where
+      go : (e : Ended) → Well old (endOn f old (t .values) e (mainRun f vs old (t .inputs) .cells) (mainRun f vs old (t .inputs) .segs))
+      go finished = (λ q e. refused-not (sym e), answered-well old (t .inputs) h gi)
+      go (failedAt i) = (λ q e. let z : _≡_ {A = ℕ} 0 1 = cc in omega arith, failed-well old (t .inputs) h gi)
+      go (overflowedAt i) = (λ q e. let z : _≡_ {A = ℕ} 0 1 = cc in omega arith, h)
+
+  cycle-well : (ld : Loader) (s : List ℕ) → judge ld s ≡ admitted f vs → (t : Turn) (old : List ℕ) → StateWell old
+      → Well old (cycle ld s old (t .inputs) (t .new) (t .values))
+  cycle-well ld s e t old h = rw (cycle-is ld s e old (t .inputs) (t .new) (t .values) h) (go (goodInputs f (t .inputs)) refl (fits17 f (t .new) (t .values)))
+    where
+      go : (b : Bool) → goodInputs f (t .inputs) ≡ b → (b′ : Bool) → Well old (cycleUnless false (not b) (not b′) f vs old (t .inputs) (t .new) (t .values))
+      go false q b′ = (λ x e. omega (arith, ap (λ (y : Fault). y .number) (same-fault e)), h)
+      go true q false = (λ x e. omega (arith, ap (λ (y : Fault). y .number) (same-fault e)), h)
+      go true q true = run-well t old h (true-T (goodInputs f (t .inputs)) q)
+
+  -- where the kinds are kept, an answered cycle's values solve the equations
   abbrev Right : Turn → List ℕ → CycleCall → Type 0
   Right t old c =
-      KeepsKinds f (record { turn = t; old = old; result = c })
-      → (Answered (record { turn = t; old = old; result = c }) → Solves f vs old (given f (record { turn = t; old = old; result = c }))) × StateOk (nextState (c .answer) old (c .new))
-
-  refused-right : (t : Turn) (old : List ℕ) (num place : ℕ) → StateOk old → Right t old (noCycle num place (t .new) (t .values))
-  refused-right t old num place h k = (λ e. absurd (never e), h)
-    where
-      never : Cyc.Refused (faultAt num place) ≡ Cyc.Answered → ⊥
-      never e = let z : _≡_ {A = ℕ} 0 1 = cc in omega arith
+      let m = made t old c in
+      KeepsKinds f m → (Answered m → Solves f vs old (lent f m) (given f m)) × InKind f (oldCells n (drop (headSize f) (nextState (c .answer) old (c .new))))
 
   run-right : (t : Turn) (old : List ℕ) → StateOk old → T (goodInputs f (t .inputs)) → Right t old (endRun f old (t .values) (mainRun f vs old (t .inputs)))
   run-right t old h gi = go (mainRun f vs old (t .inputs) .end) refl
@@ -354,76 +386,53 @@ module _ (f : File) (vs : List Value) (F : Facts f vs) where
       u : Run
       u = mainRun f vs old (t .inputs)
 
-      never : {x : _} → Cyc.Stopped x ≡ Cyc.Answered → ⊥
-      never e = let z : _≡_ {A = ℕ} 0 1 = cc in omega arith
-
       go : (e : Ended) → u .end ≡ e → Right t old (endOn f old (t .values) e (u .cells) (u .segs))
       go finished e k =
           let back = given-back old (t .inputs) (h .well) gi in
           let ks = subst (InKind f) back (k refl) in
-          (λ a. subst (Solves f vs old) (sym back) (new-cells old (t .inputs) (h .well) gi (h .kinds) e ks), answered-ok old (t .inputs) (h .well) gi ks)
-      go (failedAt i) e k = (λ a. absurd (never a), failed-ok old (t .inputs) (h .well) gi (h .kinds))
-      go (overflowedAt i) e k = (λ a. absurd (never a), h)
+          let cs = new-cells old (t .inputs) (h .well) gi (h .kinds) e ks in
+          (λ a. subst (Solves f vs old (valuesOf (length (n .inputs)) (t .inputs))) (sym back) cs, answered-ok old (t .inputs) (h .well) gi ks .kinds)
+      go (failedAt i) e k = (λ a. let z : _≡_ {A = ℕ} 0 1 = cc in absurd (omega arith), failed-kinds old (t .inputs) (h .well) gi (h .kinds))
+      go (overflowedAt i) e k = (λ a. let z : _≡_ {A = ℕ} 0 1 = cc in absurd (omega arith), h .kinds)
 
-  cycle-right : (ld : Loader) (s : List ℕ) → judge ld s ≡ admitted f vs → (t : Turn) (old : List ℕ) → StateOk old → Right t old (cycle ld s old (t .inputs) (t .new) (t .values))
-  unfolding cycle
-  cycle-right ld s e t old h =
-      subst (λ j. Right t old (cycleJudged j old (t .inputs) (t .new) (t .values))) (sym e)
-      (subst (λ b. Right t old (cycleUnless (not b) (not (goodInputs f (t .inputs))) (not (fits17 f (t .new) (t .values))) f vs old (t .inputs) (t .new) (t .values))) (sym (ok-good (h .well)))
-      (go (goodInputs f (t .inputs)) refl (fits17 f (t .new) (t .values))))
+  cycle-right : (ld : Loader) (s : List ℕ) → judge ld s ≡ admitted f vs → (t : Turn) (old : List ℕ) → StateOk old
+      → Right t old (cycle ld s old (t .inputs) (t .new) (t .values))
+  cycle-right ld s e t old h = rw (cycle-is ld s e old (t .inputs) (t .new) (t .values) (h .well)) (go (goodInputs f (t .inputs)) refl (fits17 f (t .new) (t .values)))
     where
       go : (b : Bool) → goodInputs f (t .inputs) ≡ b → (b′ : Bool) → Right t old (cycleUnless false (not b) (not b′) f vs old (t .inputs) (t .new) (t .values))
-      go false q b′ = refused-right t old 16 0 h
-      go true q false = refused-right t old 17 0 h
-      go true q true = run-right t old h (true-T (goodInputs f (t .inputs)) q)
+      go false q b′ k = (λ a. absurd (refused-not a), h .kinds)
+      go true q false k = (λ a. absurd (refused-not a), h .kinds)
+      go true q true k = run-right t old h (true-T (goodInputs f (t .inputs)) q) k
 
-  all-solve : (ld : Loader) (s : List ℕ) → judge ld s ≡ admitted f vs → (ts : List Turn) (old : List ℕ) → StateOk old → AllSolve f vs (history ld s ts old)
+  pub all-solve : (ld : Loader) (s : List ℕ) → judge ld s ≡ admitted f vs → (ts : List Turn) (old : List ℕ) → StateOk old → AllSolve f vs (history ld s ts old)
   all-solve ld s e [] old h = tt
-  all-solve ld s e (t ∷ ts) old h = λ k. let w = cycle-right ld s e t old h k in (w .0, all-solve ld s e ts _ (w .1))
+  all-solve ld s e (t ∷ ts) old h = λ k.
+      let w = cycle-right ld s e t old h k in
+      (w .0, all-solve ld s e ts _ (record { well = cycle-well ld s e t old (h .well) .1; kinds = w .1 }))
 
-  -- ---- 15 never occurs: each state of a list is well formed, whatever the kinds
-
-  abbrev Fine15 : List ℕ → CycleCall → Type 0
-  Fine15 old c = ((q : ℕ) → ¬ (c .answer ≡ Cyc.Refused (faultAt 15 q))) × StateWell (nextState (c .answer) old (c .new))
-
-  other-number : (m q : ℕ) → ¬ (m ≡ 15) → ¬ (Cyc.Refused (faultAt m 0) ≡ Cyc.Refused (faultAt 15 q))
-  other-number m q h e = h (ap (λ (x : Fault). x .number) (same-fault e))
-
-  run-fine : (t : Turn) (old : List ℕ) → StateWell old → T (goodInputs f (t .inputs)) → Fine15 old (endRun f old (t .values) (mainRun f vs old (t .inputs)))
-  run-fine t old h gi = go (mainRun f vs old (t .inputs) .end)
-    where
-      go : (e : Ended) → Fine15 old (endOn f old (t .values) e (mainRun f vs old (t .inputs) .cells) (mainRun f vs old (t .inputs) .segs))
-      go finished = (λ q e. let z : _≡_ {A = ℕ} 0 1 = cc in omega arith, answered-well old (t .inputs) h gi)
-      go (failedAt i) = (λ q e. let z : _≡_ {A = ℕ} 0 1 = cc in omega arith, failed-well old (t .inputs) h gi)
-      go (overflowedAt i) = (λ q e. let z : _≡_ {A = ℕ} 0 1 = cc in omega arith, h)
-
-  cycle-fine : (ld : Loader) (s : List ℕ) → judge ld s ≡ admitted f vs → (t : Turn) (old : List ℕ) → StateWell old → Fine15 old (cycle ld s old (t .inputs) (t .new) (t .values))
-  unfolding cycle
-  cycle-fine ld s e t old h =
-      subst (λ j. Fine15 old (cycleJudged j old (t .inputs) (t .new) (t .values))) (sym e)
-      (subst (λ b. Fine15 old (cycleUnless (not b) (not (goodInputs f (t .inputs))) (not (fits17 f (t .new) (t .values))) f vs old (t .inputs) (t .new) (t .values))) (sym (ok-good h))
-      (go (goodInputs f (t .inputs)) refl (fits17 f (t .new) (t .values))))
-    where
-      go : (b : Bool) → goodInputs f (t .inputs) ≡ b → (b′ : Bool) → Fine15 old (cycleUnless false (not b) (not b′) f vs old (t .inputs) (t .new) (t .values))
-      go false q b′ = (λ x. other-number 16 x (λ e. omega arith), h)
-      go true q false = (λ x. other-number 17 x (λ e. omega arith), h)
-      go true q true = run-fine t old h (true-T (goodInputs f (t .inputs)) q)
-
-  no-15 : (ld : Loader) (s : List ℕ) → judge ld s ≡ admitted f vs → (ts : List Turn) (old : List ℕ) → StateWell old → All (λ m. (goodState f vs (m .old) ≡ true) × ((q : ℕ) → ¬ (m .result .answer ≡ Cyc.Refused (faultAt 15 q)))) (history ld s ts old)
+  -- every old state of a list is well formed, and 15 is never answered
+  pub no-15 : (ld : Loader) (s : List ℕ) → judge ld s ≡ admitted f vs → (ts : List Turn) (old : List ℕ) → StateWell old → All (Not15 f vs) (history ld s ts old)
   no-15 ld s e [] old h = tt
-  no-15 ld s e (t ∷ ts) old h = let w = cycle-fine ld s e t old h in ((ok-good h, w .0), no-15 ld s e ts _ (w .1))
+  no-15 ld s e (t ∷ ts) old h = let w = cycle-well ld s e t old h in ((well-good h, w .0), no-15 ld s e ts _ (w .1))
 
--- of an admitted file, in a list of cycles from its start state, every old state is well formed: 15 is never answered
-pub never-15 : (ld : Loader) (s : List ℕ) (f : File) (vs : List Value) (ts : List Turn) → Bytes s → judge ld s ≡ admitted f vs
-    → All (λ m. (goodState f vs (m .old) ≡ true) × ((q : ℕ) → ¬ (m .result .answer ≡ Cyc.Refused (faultAt 15 q)))) (history ld s ts (freshState f vs))
-never-15 ld s f vs ts bytes e =
-    let a = admits ld s f vs e in
-    let F = facts ld s f vs (file-read s bytes ld f (a .end) (a .read)) a in
-    no-15 f vs F ld s e ts (freshState f vs) (start-ok f vs F .well)
+  -- a cycle that is not refused leaves a well-formed state
+  pub not-refused : (ld : Loader) (s : List ℕ) → judge ld s ≡ admitted f vs → (old ins new vals : List ℕ)
+      → ((x : Fault) → ¬ (cycle ld s old ins new vals .answer ≡ Cyc.Refused x)) → StateWell (cycle ld s old ins new vals .new)
+  unfolding cycle
+  not-refused ld s e old ins new vals h = go (goodState f vs old) refl
+    where
+      left : (a : Cycled) → ((x : Fault) → ¬ (a ≡ Cyc.Refused x)) → StateWell (nextState a old (cycle ld s old ins new vals .new))
+          → StateWell (cycle ld s old ins new vals .new)
+      left Cyc.Answered h w = w
+      left (Cyc.Stopped x) h w = w
+      left (Cyc.Refused x) h w = absurd (h x refl)
+
+      go : (b : Bool) → goodState f vs old ≡ b → StateWell (cycle ld s old ins new vals .new)
+      go true q = left (cycle ld s old ins new vals .answer) h (cycle-well ld s e (record { inputs = ins; new = new; values = vals }) old (good-well q) .1)
+      go false q =
+          absurd (h (faultAt 15 0)
+          (ap (λ j. cycleJudged j old ins new vals .answer) e ∙ ap (λ b. cycleUnless (not b) (not (goodInputs f ins)) (not (fits17 f new vals)) f vs old ins new vals .answer) q))
 
 pub solution-claim : (ld : Loader) → SolutionClaim ld
 unfolding SolutionClaim
-solution-claim ld s f vs ts bytes e =
-    let a = admits ld s f vs e in
-    let F = facts ld s f vs (file-read s bytes ld f (a .end) (a .read)) a in
-    all-solve f vs F ld s e ts (freshState f vs) (start-ok f vs F)
+solution-claim ld s f vs ts bytes e = let F = admitted-facts ld s f vs bytes e in all-solve f vs F ld s e ts (freshState f vs) (start-ok f vs F)

@@ -1,7 +1,7 @@
 -- The values that cells can hold: within 64 bits, within their format, and variants. Every operation gives such values.
 use Prim.Native.Nat.{ℕ, zero, suc, _-_, _*_, _%_, _^_, _<_, _≤_}
 use mathlib.Core.Bool.{Bool, true, false, not, cond}
-use mathlib.Core.List.{List}
+use mathlib.Core.List.{List, [], _∷_}
 use native.Mathlib.Nat.{mod-lt}
 use native.Mathlib.Omega.{arith}
 use lib.IntN.{ℤ, pos, negsuc, negℤ, _+ℤ_, _-ℤ_, _*ℤ_}
@@ -9,6 +9,7 @@ use lib.Signed.{mag, remZ, quotZ, mag-rem, mag-shr}
 use lib.Dec.{T, ltb, ltb→lt, nltb→le}
 use lib.Bits as Bits
 use lib.Ieee.{Float, nan, inf, fin, binary32, binary64, fits}
+use lib.Ieee.Bits as B
 use lib.Ieee.Fits as F
 use lib.Ieee.Casts as C
 use Rattle.ol_spec.specs.Lists.{member}
@@ -24,6 +25,7 @@ use Rattle.ol_spec.specs.declared.Value.{Value}
 use Rattle.ol_spec.specs.declared.Value.the-variants as Val
 use Rattle.ol_spec.specs.declared.Outcome.{Outcome}
 use Rattle.ol_spec.specs.declared.Outcome.the-variants as Out
+use Rattle.ol_spec.proofs.Lists.{All}
 
 abbrev pub Small : ℤ → Type 0
 Small i = mag i < 2 ^ 63
@@ -36,10 +38,14 @@ Fine vs (Val.Float x) = T (fits binary64 x)
 Fine vs (Val.Float32 x) = T (fits binary32 x)
 Fine vs (Val.Enum v) = T (member v vs) × (v < 2 ^ 16)
 
+-- the value of an outcome, if it has one, has the property
+abbrev pub Gives : (Value → Type 0) → Outcome → Type 0
+Gives Q (Out.Value v) = Q v
+Gives Q Out.Failure = Unit {0}
+Gives Q Out.Overflow = Unit {0}
+
 abbrev pub FineOut : List ℕ → Outcome → Type 0
-FineOut vs (Out.Value v) = Fine vs v
-FineOut vs Out.Failure = Unit {0}
-FineOut vs Out.Overflow = Unit {0}
+FineOut vs o = Gives (Fine vs) o
 
 pub cond-T : {A : Type 0} (P : A → Type 0) (b : Bool) (x y : A) → (T b → P x) → (T (not b) → P y) → P (cond b x y)
 cond-T P true x y f g = f tt
@@ -269,3 +275,54 @@ module _ (vs : List ℕ) where
 
   pub binary-fine : (op : BinOp) (v w : Value) → Fine vs v → Fine vs w → FineOut vs (binaryOf op v w)
   binary-fine op v w f h = onPair-fine op (pair v w) (pair-fine v w f h)
+
+-- ---- a property of values that evaluation keeps: being fine is one, and so is none at all
+
+pub record Closed (Q : Value → Type 0) : Type 0 where
+  pub bools : (b : Bool) → Q (Val.Bool b)
+  pub ints : (i : ℤ) → Small i → Q (Val.Int i)
+  pub doubles : (b : ℕ) → Q (Val.Float (R.fromBits R.double b))
+  pub fits : (t : Ty) (v : Value) → Q v → Q (fit t v)
+  pub casts : (t : Ty) (v : Value) → Q v → Gives Q (castTo t v)
+  pub unaries : (op : UnaryOp) (v : Value) → Q v → Gives Q (unaryOf op v)
+  pub binaries : (op : BinOp) (v w : Value) → Q v → Q w → Gives Q (binaryOf op v w)
+  pub commons : (wide : Bool) (v : Value) → Q v → Q (commonReal wide v)
+
+pub fine-closed : (vs : List ℕ) → Closed (Fine vs)
+unfolding R.fromBits
+fine-closed vs =
+    record {
+      bools = λ b. tt;
+      ints = λ i h. h;
+      doubles = λ b. B.ofBits-fits binary64 b;
+      fits = fit-fine vs;
+      casts = cast-fine vs;
+      unaries = unary-fine vs;
+      binaries = binary-fine vs;
+      commons = common-fine vs;
+    }
+
+abbrev pub Any : Value → Type 0
+Any v = Unit {0}
+
+pub all-any : (vs : List Value) → All Any vs
+all-any [] = tt
+all-any (v ∷ vs) = (tt, all-any vs)
+
+any-out : (o : Outcome) → Gives Any o
+any-out (Out.Value v) = tt
+any-out Out.Failure = tt
+any-out Out.Overflow = tt
+
+pub any-closed : Closed Any
+any-closed =
+    record {
+      bools = λ b. tt;
+      ints = λ i h. tt;
+      doubles = λ b. tt;
+      fits = λ t v h. tt;
+      casts = λ t v h. any-out (castTo t v);
+      unaries = λ op v h. any-out (unaryOf op v);
+      binaries = λ op v w h k. any-out (binaryOf op v w);
+      commons = λ wide v h. tt;
+    }

@@ -1,5 +1,5 @@
 -- A system of equations over cells, each equation with a memory of its own: the definitions.
--- SystemProof has the theorems.
+-- proofs/SystemProof has the theorems.
 use mathlib.Core.Path.{_≡_}
 use mathlib.Core.List.{List, [], _∷_, map, filter, flatMap}
 use Prim.Native.Nat.{ℕ, _<_}

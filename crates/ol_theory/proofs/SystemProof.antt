@@ -7,9 +7,10 @@ use native.Mathlib.Omega.{arith}
 use native.Mathlib.Decide.{decLt, ℕ-discrete}
 use lib.ListN.{length, getD, set, length-set, length-map, List·getD-eq-default}
 use lib.Seq.{getD-set-same, getD-set-other, ext-getD}
-use Rattle.ol_theory.specs.Member.{_∈_, upto, Distinct, mem?, upto-in, in-upto, length-from, reverse-left, in-filter, filter-in, in-flatMap, flatMap-in, map-cong, map-agree, map-upto}
+use Rattle.ol_theory.specs.Member.{_∈_, upto, Distinct, mem?}
 use Rattle.ol_theory.specs.Order.{InOrder, ValidOrder}
-use Rattle.ol_theory.specs.System.{Out, values, failed, overflowed, System, at, memory, deps, store, Run, finished, failedAt, overflowedAt, onward, runEqs, SameKinds, Undefined, Sat, Solution, newMems, Lawful}
+use Rattle.ol_theory.specs.System.{Out, values, failed, overflowed, System, at, memory, deps, store, Run, finished, onward, runEqs, SameKinds, Undefined, Sat, Solution, newMems, Lawful}
+use Rattle.ol_theory.proofs.Members.{upto-in, in-upto, length-from, reverse-left, in-filter, filter-in, in-flatMap, flatMap-in, map-cong, map-agree, map-upto}
 
 -- ==== lists
 
@@ -26,7 +27,8 @@ module _ {A : Type 0} where
   store-other (x ∷ xs) [] p d y h = refl
   store-other (x ∷ xs) (v ∷ vs) p d y h = store-other xs vs (set p x v) d y (λ m. h (there m)) ∙ getD-set-other p x y v d (λ e. h (here e))
 
-  pub store-read : (xs : List ℕ) (vs p : List A) (d : A) → Distinct xs → ((x : ℕ) → x ∈ xs → x < length p) → length vs ≡ length xs → map (λ x. getD (store xs vs p) x d) xs ≡ vs
+  pub store-read : (xs : List ℕ) (vs p : List A) (d : A) → Distinct xs → ((x : ℕ) → x ∈ xs → x < length p) → length vs ≡ length xs
+      → map (λ x. getD (store xs vs p) x d) xs ≡ vs
   unfolding store
   store-read [] [] p d u b e = refl
   store-read [] (v ∷ vs) p d u b e = absurd (omega arith)
@@ -78,7 +80,8 @@ module _ {Cell Mem : Type 0} (sys : System Cell Mem) where
       let f = frame l (store (sys .lhs i) (w .0) c) _ p ms′ (w .2) in
       (f .0 ∙ length-store (sys .lhs i) (w .0) c, λ x h. f .1 x (λ d. h (d .0, there (d .1), d .2)) ∙ store-other (sys .lhs i) (w .0) c (sys .noCell) x (λ m. h (i, here refl, m)))
 
-  module _ (ok : Lawful sys) (p₀ q : List Cell) (ms : List Mem) (size : length q ≡ sys .m) (kinds : SameKinds sys q p₀) (kept : (x : ℕ) → Undefined sys x → at sys q x ≡ at sys p₀ x) where
+  module _ (ok : Lawful sys) (p₀ q : List Cell) (ms : List Mem) (size : length q ≡ sys .m) (kinds : SameKinds sys q p₀)
+      (kept : (x : ℕ) → Undefined sys x → at sys q x ≡ at sys p₀ x) where
     abbrev new : ℕ → Mem
     new j = (sys .eval j q (memory sys ms j)) .1
 
@@ -144,12 +147,11 @@ module _ {Cell Mem : Type 0} (sys : System Cell Mem) where
     arrives sat [] seen c cm st o b all = let d = done seen c cm st all in ap₂ finished (d .0) (d .1)
     arrives sat (i ∷ l) seen c cm st o b all =
         let bi = b i (here refl) in
-        let vs = map (at sys q) (sys .lhs i) in
+        let xs = sys .lhs i in
+        let vs = map (at sys q) xs in
+        let read = store-read xs vs c (sys .noCell) (ok .once i bi) (λ x m. omega (arith, ok .slots i bi x m, st .cells)) (length-map xs (at sys q)) in
         run-step i l c cm _ vs (key seen c cm st i bi (o .0) (o .1)) (sat i bi)
-        ∙ arrives sat l (i ∷ seen) _ _
-        (advance seen c cm st i bi vs (new i) refl
-        (map-agree _ (at sys q) (sys .lhs i) (store-read (sys .lhs i) vs c (sys .noCell) (ok .once i bi) (λ x m. omega (arith, ok .slots i bi x m, st .cells)) (length-map (sys .lhs i) (at sys q)))))
-        (o .2) (λ j m. b j (there m)) all
+        ∙ arrives sat l (i ∷ seen) _ _ (advance seen c cm st i bi vs (new i) refl (map-agree _ (at sys q) xs read)) (o .2) (λ j m. b j (there m)) all
 
     -- what a run arrives at satisfies its equations
     satisfied : (ms′ : List Mem) (l seen : List ℕ) (c : List Cell) (cm : List Mem) → State seen c cm → InOrder (deps sys) seen l
@@ -168,7 +170,9 @@ module _ {Cell Mem : Type 0} (sys : System Cell Mem) where
         store-read (sys .lhs i) vs c (sys .noCell) (ok .once i bi) (λ x mx. omega (arith, ok .slots i bi x mx, st .cells)) (ok .arity i bi c (memory sys cm i) vs (st .cells) (w .1)) in
         ⊎-elim
         (λ p. subst (λ x. Sat sys q ms x) (sym p) (ap (λ (r : Out Cell × Mem). r .0) (sym k) ∙ w .1 ∙ ap values (sym (map-cong (at sys q) (at sys c′) (sys .lhs i) later ∙ read))))
-        (λ mj. satisfied ms′ l (i ∷ seen) c′ _ (advance seen c cm st i bi vs _ (ap (λ (r : Out Cell × Mem). r .1) k) (λ x mx. sym (later x mx))) (o .2) (λ y my. b y (there my)) (w .2) j mj)
+        (λ mj.
+        let next = advance seen c cm st i bi vs _ (ap (λ (r : Out Cell × Mem). r .1) k) (λ x mx. sym (later x mx)) in
+        satisfied ms′ l (i ∷ seen) c′ _ next (o .2) (λ y my. b y (there my)) (w .2) j mj)
         (in-cons m)
 
   -- ==== the theorems
@@ -188,25 +192,23 @@ module _ {Cell Mem : Type 0} (sys : System Cell Mem) where
     pub run-solution : (p : List Cell) (ms′ : List Mem) → runEqs sys l p₀ ms ≡ finished p ms′ → SameKinds sys p p₀ → Solution sys p₀ ms p
     run-solution p ms′ e k =
         let f = frame l p₀ ms p ms′ e in
+        let size = f .0 ∙ cells in
         let kept : (x : ℕ) → Undefined sys x → at sys p x ≡ at sys p₀ x = λ x u. f .1 x (λ d. u (d .0) (valid .inside (d .0) (d .1)) (d .2)) in
+        let first = start ok p₀ p ms size k kept cells mems in
         record {
-          size = f .0 ∙ cells;
+          size = size;
           kinds = k;
           kept = λ x h. kept x;
-          holds = λ i b. satisfied ok p₀ p ms (f .0 ∙ cells) k kept ms′ l [] p₀ ms (start ok p₀ p ms (f .0 ∙ cells) k kept cells mems) (valid .inOrder) (valid .inside) e i (valid .complete i b);
+          holds = λ i b. satisfied ok p₀ p ms size k kept ms′ l [] p₀ ms first (valid .inOrder) (valid .inside) e i (valid .complete i b);
         }
 
     -- L: if there is a solution, a run along any valid order finishes with it, and with its memories
     pub solution-run : (q : List Cell) → Solution sys p₀ ms q → runEqs sys l p₀ ms ≡ finished q (newMems sys q ms)
     solution-run q s =
         let kept = kept-everywhere p₀ q cells (s .size) (s .kept) in
-        arrives ok p₀ q ms (s .size) (s .kinds) kept (s .holds) l [] p₀ ms (start ok p₀ q ms (s .size) (s .kinds) kept cells mems) (valid .inOrder) (valid .inside) (λ j b. reverse-left l [] (valid .complete j b))
+        let first = start ok p₀ q ms (s .size) (s .kinds) kept cells mems in
+        arrives ok p₀ q ms (s .size) (s .kinds) kept (s .holds) l [] p₀ ms first (valid .inOrder) (valid .inside) (λ j b. reverse-left l [] (valid .complete j b))
 
     -- U: there is at most one solution
     pub solution-unique : (q r : List Cell) → Solution sys p₀ ms q → Solution sys p₀ ms r → q ≡ r
     solution-unique q r s t = let a = solution-run q s in let b = solution-run r t in cc
-
-    -- if a run fails or overflows, there is no solution
-    pub no-solution : (i : ℕ) (ms′ : List Mem) → (runEqs sys l p₀ ms ≡ failedAt i ms′) ⊎ (runEqs sys l p₀ ms ≡ overflowedAt i ms′) → (q : List Cell) → ¬ Solution sys p₀ ms q
-    no-solution i ms′ (inl e) q s = let r = solution-run q s in let z : _≡_ {A = ℕ} 0 1 = cc in omega arith
-    no-solution i ms′ (inr e) q s = let r = solution-run q s in let z : _≡_ {A = ℕ} 0 1 = cc in omega arith
