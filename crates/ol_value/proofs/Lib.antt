@@ -1,0 +1,5 @@
+pub mod Backs
+pub mod Sums
+pub mod Products
+pub mod Words
+pub mod Magnitudes

@@ -1,0 +1,2 @@
+// Everything that evaluation does to single values: document 01, "The cell".
+pub mod ints;
