@@ -3,3 +3,4 @@ pub mod Sums
 pub mod Products
 pub mod Words
 pub mod Magnitudes
+pub mod Widths

@@ -54,3 +54,9 @@ module _ {a : ℤ} (fa : SFits w64 a) where
 
   pub size-negative : leZ (pos 0) (back a) ≡ false → suc (mag a) ≡ natAbs a
   size-negative t = sym (ap natAbs (negative a (sign-is fa t)))
+
+pub nonneg-true : (a : ℤ) → leZ (pos 0) a ≡ true → nonNeg a ≡ true
+nonneg-true a t = ap nonNeg (natural a t)
+
+pub nonneg-false : (a : ℤ) → leZ (pos 0) a ≡ false → nonNeg a ≡ false
+nonneg-false a t = ap nonNeg (negative a t)

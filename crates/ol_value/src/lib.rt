@@ -1,2 +1,3 @@
 // Everything that evaluation does to single values: document 01, "The cell".
 pub mod ints;
+pub mod types;
