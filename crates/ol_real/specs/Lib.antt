@@ -1,0 +1,3 @@
+pub mod Ieee754
+pub mod Encoding
+pub mod Holds
