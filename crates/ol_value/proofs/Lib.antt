@@ -4,3 +4,4 @@ pub mod Products
 pub mod Words
 pub mod Magnitudes
 pub mod Widths
+pub mod TypeCodes

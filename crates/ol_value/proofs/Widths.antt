@@ -16,7 +16,7 @@ use mir.Val.{SFits, toZ, ofZ}
 use mir.Facts.{toZ-ofZ, toZ-pos}
 use Rattle.ol_spec.specs.Numbers.{residue, signed}
 use Rattle.ol_spec.specs.Types.{IntTy, signedTo, unsignedTo, whole, intTys, intTy, narrow, inRange}
-use Rattle.ol_value.specs.declared.types.IntType.{IntType}
+use Rattle.ol_value.specs.declared.narrowing.IntType.{IntType}
 use Rattle.ol_value.specs.Codes.{intTyOf, Narrow}
 use Rattle.ol_value.proofs.Backs.{back}
 use Rattle.ol_value.proofs.Magnitudes.{natural, negative}

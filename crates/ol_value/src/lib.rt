@@ -1,3 +1,4 @@
 // Everything that evaluation does to single values: document 01, "The cell".
 pub mod ints;
+pub mod narrowing;
 pub mod types;

@@ -1,145 +1,174 @@
-// Types: their widths and ranges, and what storing and casting make of a value. A type is its
-// code; an enum's number is looked up by the caller.
+// Types: their defaults and kinds, and what storing and casting make of a value. A type is its code;
+// an enum's number is looked up by the caller.
 ghost use mathlib.Core.Path.{_≡_};
-ghost use Prim.Native.Nat.{_<_, _≤_, _^_};
-ghost use Rattle.ol_spec.specs.Numbers.{residue, signed};
-ghost use Rattle.ol_spec.specs.Types.{intTy, narrow, inRange};
-ghost use Rattle.ol_value.specs.Codes.{intTyOf, Narrow};
-use crate::ints::magnitude;
+ghost use mathlib.Core.List.{List, []};
+ghost use Prim.Native.Nat.{ℕ};
+ghost use lib.ListN.{getD};
+ghost use Rattle.ol_spec.specs.Types.{intTy, default, kind, fitInt, fitSingle, fitDouble, fit};
+ghost use Rattle.ol_spec.specs.Types.{castInt, castReal, castTo};
+ghost use Rattle.ol_value.specs.Codes.{tyOf, isNumber, inKind};
 
-// An integer type's width in bits, and whether it has a sign.
-pub struct IntType {
-    pub bits: u64,
-    pub signed: bool,
+use crate::narrowing::{in_range, narrow_int};
+use ol_real::{f32_to_f64, f32_to_i64, f64_to_f32, f64_to_i64, i64_to_f32, i64_to_f64};
+use ol_spec::{Outcome, Value};
+
+// A value as a variable of an integer type holds it.
+fn fit_int(code: u8, v: Value) -> Value
+    ensures { λ r. ⌜ r ≡ fitInt (intTy code) v ⌝ }
+{
+    match v {
+        Value::Bool(_) => v,
+        Value::Int(i) => Value::Int(narrow_int(code, i)),
+        Value::Float(_) => v,
+        Value::Float32(_) => v,
+        Value::Enum(_) => v,
+    }
 }
 
-// The one table, by type code: Bool has no width of its own, then Int8 to Int64 and Uint8 to Uint64.
-const INT_TYPES: [IntType; 9] = [
-    IntType {
-        bits: 64,
-        signed: true,
-    },
-    IntType {
-        bits: 8,
-        signed: true,
-    },
-    IntType {
-        bits: 16,
-        signed: true,
-    },
-    IntType {
-        bits: 32,
-        signed: true,
-    },
-    IntType {
-        bits: 64,
-        signed: true,
-    },
-    IntType {
-        bits: 8,
-        signed: false,
-    },
-    IntType {
-        bits: 16,
-        signed: false,
-    },
-    IntType {
-        bits: 32,
-        signed: false,
-    },
-    IntType {
-        bits: 64,
-        signed: false,
-    },
-];
-
-// The width and sign of the integer type with this code; another type's code leaves the number.
-pub fn int_type(code: u8) -> IntType
-    ensures { λ r. ⌜ intTyOf r ≡ intTy code ⌝ }
+// A value as a Float32 variable holds it.
+fn fit_single(v: Value) -> Value
+    ensures { λ r. ⌜ r ≡ fitSingle v ⌝ }
 {
-    let c = code as usize;
-    if c < 9 {
-        INT_TYPES[c]
+    match v {
+        Value::Bool(_) => v,
+        Value::Int(i) => Value::Float32(i64_to_f32(i)),
+        Value::Float(x) => Value::Float32(f64_to_f32(x)),
+        Value::Float32(_) => v,
+        Value::Enum(_) => v,
+    }
+}
+
+// A value as a Float64 variable holds it.
+fn fit_double(v: Value) -> Value
+    ensures { λ r. ⌜ r ≡ fitDouble v ⌝ }
+{
+    match v {
+        Value::Bool(_) => v,
+        Value::Int(i) => Value::Float(i64_to_f64(i)),
+        Value::Float(_) => v,
+        Value::Float32(x) => Value::Float(f32_to_f64(x)),
+        Value::Enum(_) => v,
+    }
+}
+
+// Document 01's `fit_to`: a value as a variable of the type holds it.
+pub fn fit_to(code: u8, v: Value) -> Value
+    ensures { λ r. ⌜ ((e : ℕ) → r ≡ fit (tyOf code e) v) ⌝ }
+{
+    match code {
+        1..=8 => fit_int(code, v),
+        9 => fit_single(v),
+        10 => fit_double(v),
+        _ => v,
+    }
+}
+
+// A cast to an integer type.
+fn cast_int(code: u8, v: Value) -> Outcome
+    ensures { λ r. ⌜ r ≡ castInt (intTy code) v ⌝ }
+{
+    match v {
+        Value::Bool(_) => Outcome::Failure,
+        Value::Int(i) => Outcome::Value(Value::Int(narrow_int(code, i))),
+        Value::Float(x) => Outcome::Value(Value::Int(narrow_int(code, f64_to_i64(x)))),
+        Value::Float32(x) => Outcome::Value(Value::Int(narrow_int(code, f32_to_i64(x)))),
+        Value::Enum(_) => Outcome::Failure,
+    }
+}
+
+// Whether a value is a number.
+fn is_number(v: Value) -> bool
+    ensures { λ r. ⌜ r ≡ isNumber v ⌝ }
+{
+    match v {
+        Value::Bool(_) => false,
+        Value::Int(_) => true,
+        Value::Float(_) => true,
+        Value::Float32(_) => true,
+        Value::Enum(_) => false,
+    }
+}
+
+// A cast to Float32.
+fn cast_single(v: Value) -> Outcome
+    ensures { λ r. ⌜ r ≡ castReal fitSingle v ⌝ }
+{
+    if is_number(v) {
+        Outcome::Value(fit_single(v))
     } else {
-        IntType {
-            bits: 64,
-            signed: true,
-        }
+        Outcome::Failure
     }
 }
 
-// 2 to the power b.
-fn power(b: u64) -> u64
-    requires { ⌜ b < 64 ⌝ }
-    ensures { λ r. ⌜ r ≡ 2 ^ b ⌝ }
+// A cast to Float64.
+fn cast_double(v: Value) -> Outcome
+    ensures { λ r. ⌜ r ≡ castReal fitDouble v ⌝ }
 {
-    1 << b
-}
-
-// The b bits of i in two's complement.
-fn residue_of(b: u64, i: i64) -> u64
-    requires { ⌜ b ≤ 32 ⌝ }
-    ensures { λ r. ⌜ r ≡ residue b i ⌝ }
-{
-    let m = power(b);
-    let n = magnitude(i) % m;
-    if 0 <= i { n } else { m - 1 - n }
-}
-
-// The b bits n, read as signed.
-fn signed_of(b: u64, n: u64) -> i64
-    requires { ⌜ (0 < b) × (b ≤ 32) ⌝ }
-    requires { ⌜ n < 2 ^ b ⌝ }
-    ensures { λ r. ⌜ r ≡ signed b n ⌝ }
-{
-    let half = power(b - 1);
-    if n < half {
-        n as i64
+    if is_number(v) {
+        Outcome::Value(fit_double(v))
     } else {
-        let m = power(b);
-        -1 - (m - 1 - n) as i64
+        Outcome::Failure
     }
 }
 
-// A number as an integer type of this width and sign holds it.
-fn narrow_to(t: IntType, i: i64) -> i64
-    requires { ⌜ Narrow (intTyOf t) ⌝ }
-    ensures { λ r. ⌜ r ≡ narrow (intTyOf t) i ⌝ }
+// Document 01's `cast_value`.
+pub fn cast_value(code: u8, v: Value) -> Outcome
+    ensures { λ r. ⌜ ((e : ℕ) → r ≡ castTo (tyOf code e) v) ⌝ }
 {
-    let b = t.bits;
-    if b == 64 {
-        return i;
+    match code {
+        1..=8 => cast_int(code, v),
+        9 => cast_single(v),
+        10 => cast_double(v),
+        _ => Outcome::Failure,
     }
-    let n = residue_of(b, i);
-    if t.signed { signed_of(b, n) } else { n as i64 }
 }
 
-// Document 01's `narrow_int`.
-pub fn narrow_int(code: u8, i: i64) -> i64
-    ensures { λ r. ⌜ r ≡ narrow (intTy code) i ⌝ }
+// What a variable of the type holds in a fresh record; `first` is an enum's first variant.
+pub fn default_value(code: u8, first: u16) -> Value
+    ensures { λ r. ⌜ ((enums : List (List ℕ)) (e : ℕ) → getD (getD enums e []) 0 0 ≡ first → r ≡ default enums (tyOf code e)) ⌝ }
 {
-    narrow_to(int_type(code), i)
+    match code {
+        0 => Value::Bool(false),
+        1..=8 | 11 => Value::Int(0),
+        9 => Value::Float32(0.0),
+        10 => Value::Float(0.0),
+        _ => Value::Enum(first),
+    }
 }
 
-// Whether a number is in the range of this width and sign.
-fn within(t: IntType, i: i64) -> bool
-    requires { ⌜ Narrow (intTyOf t) ⌝ }
-    ensures { λ r. ⌜ r ≡ inRange (intTyOf t) i ⌝ }
+// A type's kind, the tag that its default has.
+pub fn kind_of(code: u8) -> u8
+    ensures { λ r. ⌜ ((enums : List (List ℕ)) (e : ℕ) → r ≡ kind enums (tyOf code e)) ⌝ }
 {
-    let b = t.bits;
-    if b == 64 {
-        return true;
+    match code {
+        0 => 0,
+        1..=8 | 11 => 1,
+        9 => 3,
+        10 => 2,
+        _ => 4,
     }
-    let m = magnitude(i);
-    if t.signed {
-        return m < power(b - 1);
-    }
-    if 0 <= i { m < power(b) } else { false }
 }
 
-// Whether a number is in the range of the integer type with this code.
-pub fn in_range(code: u8, i: i64) -> bool
-    ensures { λ r. ⌜ r ≡ inRange (intTy code) i ⌝ }
+// Whether an input's value is of its type's kind and range. The caller looks an enum's name up.
+pub fn in_type(code: u8, v: Value) -> bool
+    ensures { λ r. ⌜ ((e : ℕ) → r ≡ inKind (tyOf code e) v) ⌝ }
 {
-    within(int_type(code), i)
+    match v {
+        Value::Bool(_) => code == 0,
+        Value::Int(i) => int_in_type(code, i),
+        Value::Float(_) => code == 10,
+        Value::Float32(_) => code == 9,
+        Value::Enum(_) => 12 <= code,
+    }
+}
+
+// Whether an integer is of the type's kind and range: a Char is 0 to 255, as a Uint8 is.
+fn int_in_type(code: u8, i: i64) -> bool
+    ensures { λ r. ⌜ ((e : ℕ) → r ≡ inKind (tyOf code e) (Value.Int i)) ⌝ }
+{
+    match code {
+        1..=8 => in_range(code, i),
+        11 => in_range(5, i),
+        _ => false,
+    }
 }

@@ -8,8 +8,8 @@ use mir.Facts.{toZ-ofZ}
 use Rattle.ol_value.proofs.Magnitudes.{sign-is, nonneg-true, nonneg-false}
 use Rattle.ol_value.proofs.Widths.{whole-is, signed-ty, unsigned-ty, narrow-bits}
 use borrow.Author.Needs.{needs}
-use Rattle.ol_value.proofs.types.within.Statement.{statement}
-use Rattle.ol_value.proofs.types.within.Tie as tie
+use Rattle.ol_value.proofs.narrowing.within.Statement.{statement}
+use Rattle.ol_value.proofs.narrowing.within.Tie as tie
 
 returns : tie.Need-returns
 returns c = rw (whole-is (c .before .args .t) (c .if1 .taken))

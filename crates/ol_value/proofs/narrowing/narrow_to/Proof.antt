@@ -7,8 +7,8 @@ use mir.Facts.{toZ-ofZ, toZ-pos}
 use mir.Syntax.{w64}
 use Rattle.ol_spec.specs.Types.{narrow, IntTy}
 use Rattle.ol_value.proofs.Widths.{residue-lt, natural-fits, whole-is, signed-ty, unsigned-ty, narrow-bits}
-use Rattle.ol_value.proofs.types.narrow_to.Statement.{statement}
-use Rattle.ol_value.proofs.types.narrow_to.Tie as tie
+use Rattle.ol_value.proofs.narrowing.narrow_to.Statement.{statement}
+use Rattle.ol_value.proofs.narrowing.narrow_to.Tie as tie
 
 returns : tie.Need-returns
 returns c = let s = c .before in rw (whole-is (s .args .t) (c .if1 .taken)) (toZ-ofZ (s .fits .i))

@@ -5,8 +5,8 @@ use Rattle.ol_spec.specs.Types.{narrow}
 use Rattle.ol_value.specs.Codes.{Narrow}
 use Rattle.ol_value.proofs.Widths.{narrows}
 use borrow.Author.Needs.{needs}
-use Rattle.ol_value.proofs.types.narrow_int.Statement.{statement}
-use Rattle.ol_value.proofs.types.narrow_int.Tie as tie
+use Rattle.ol_value.proofs.narrowing.narrow_int.Statement.{statement}
+use Rattle.ol_value.proofs.narrowing.narrow_int.Tie as tie
 
 int-type-requires : tie.Need-int-type-requires
 int-type-requires c κs = search needs

@@ -1,7 +1,7 @@
 use borrow.Author.Needs.{needs}
 use Rattle.ol_value.proofs.Widths.{table-entry, table-end}
-use Rattle.ol_value.proofs.types.int_type.Statement.{statement}
-use Rattle.ol_value.proofs.types.int_type.Tie as tie
+use Rattle.ol_value.proofs.narrowing.int_type.Statement.{statement}
+use Rattle.ol_value.proofs.narrowing.int_type.Tie as tie
 
 mul-result : tie.Need-mul-result
 mul-result c = search needs

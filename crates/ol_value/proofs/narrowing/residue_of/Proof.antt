@@ -7,8 +7,8 @@ use mir.Facts.{toZ-ofZ}
 use borrow.Author.Needs.{needs}
 use Rattle.ol_value.proofs.Magnitudes.{sign-is}
 use Rattle.ol_value.proofs.Widths.{power-pos, residue-natural, residue-negative}
-use Rattle.ol_value.proofs.types.residue_of.Statement.{statement}
-use Rattle.ol_value.proofs.types.residue_of.Tie as tie
+use Rattle.ol_value.proofs.narrowing.residue_of.Statement.{statement}
+use Rattle.ol_value.proofs.narrowing.residue_of.Tie as tie
 
 power-requires : tie.Need-power-requires
 power-requires c κs = search needs

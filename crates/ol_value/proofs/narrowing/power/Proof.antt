@@ -1,7 +1,7 @@
 use borrow.Author.Needs.{needs}
 use Rattle.ol_value.proofs.Widths.{power-is}
-use Rattle.ol_value.proofs.types.power.Statement.{statement}
-use Rattle.ol_value.proofs.types.power.Tie as tie
+use Rattle.ol_value.proofs.narrowing.power.Statement.{statement}
+use Rattle.ol_value.proofs.narrowing.power.Tie as tie
 
 shl-result : tie.Need-shl-result
 shl-result c = search needs

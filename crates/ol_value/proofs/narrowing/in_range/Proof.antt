@@ -3,8 +3,8 @@ use mir.Facts.{toZ-ofZ}
 use Rattle.ol_spec.specs.Types.{inRange}
 use Rattle.ol_value.proofs.Widths.{narrows}
 use borrow.Author.Needs.{needs}
-use Rattle.ol_value.proofs.types.in_range.Statement.{statement}
-use Rattle.ol_value.proofs.types.in_range.Tie as tie
+use Rattle.ol_value.proofs.narrowing.in_range.Statement.{statement}
+use Rattle.ol_value.proofs.narrowing.in_range.Tie as tie
 
 int-type-requires : tie.Need-int-type-requires
 int-type-requires c κs = search needs

@@ -2,8 +2,8 @@ use mathlib.Core.Path.{_≡_, sym}
 use Prim.Native.Nat.{_<_, _≤_}
 use Rattle.ol_value.proofs.Widths.{natural-fits, signed-low, rest-fits, negated-fits, signed-high}
 use borrow.Author.Needs.{needs}
-use Rattle.ol_value.proofs.types.signed_of.Statement.{statement}
-use Rattle.ol_value.proofs.types.signed_of.Tie as tie
+use Rattle.ol_value.proofs.narrowing.signed_of.Statement.{statement}
+use Rattle.ol_value.proofs.narrowing.signed_of.Tie as tie
 
 sub-power : tie.Need-sub-power
 sub-power c = search needs
