@@ -5,4 +5,6 @@ pub mod Operations
 pub mod Encodings
 pub mod Reals
 pub mod Conversions
+pub mod Narrowing
+pub mod Singles
 pub mod Examples

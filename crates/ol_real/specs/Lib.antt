@@ -1,3 +1,4 @@
 pub mod Ieee754
 pub mod Encoding
 pub mod Holds
+pub mod Kept
