@@ -80,12 +80,13 @@ exact-done z t = ap (λ i. Out.Value (Val.Int i)) (toZ-ofZ (asks {z = z} t)) ∙
 exact-over : (z : ℤ) → ltb (mag z) (2 ^ 63) ≡ false → Out.Overflow ≡ exact z
 exact-over z t = rw t
 
-module _ (f : ℤ → ℤ → ℤ) {a b : ℤ} (fa : SFits w64 a) (fb : SFits w64 b) where
-  pub backs : f (back a) (back b) ≡ f a b
-  backs i = f (toZ-ofZ fa i) (toZ-ofZ fb i)
+-- what is made of two numbers read back
+pub backs : {A : Type 0} (f : ℤ → ℤ → A) {a b : ℤ} → SFits w64 a → SFits w64 b → f (back a) (back b) ≡ f a b
+backs f fa fb i = f (toZ-ofZ fa i) (toZ-ofZ fb i)
 
+module _ (f : ℤ → ℤ → ℤ) {a b : ℤ} (fa : SFits w64 a) (fb : SFits w64 b) where
   pub op-done : ltb (mag (f (back a) (back b))) (2 ^ 63) ≡ true → Out.Value (Val.Int (back (f (back a) (back b)))) ≡ exact (f a b)
-  op-done t = exact-done (f (back a) (back b)) t ∙ ap exact backs
+  op-done t = exact-done (f (back a) (back b)) t ∙ ap exact (backs f fa fb)
 
   pub op-over : ltb (mag (f (back a) (back b))) (2 ^ 63) ≡ false → Out.Overflow ≡ exact (f a b)
-  op-over t = exact-over (f (back a) (back b)) t ∙ ap exact backs
+  op-over t = exact-over (f (back a) (back b)) t ∙ ap exact (backs f fa fb)

@@ -5,3 +5,4 @@ pub mod Words
 pub mod Magnitudes
 pub mod Widths
 pub mod TypeCodes
+pub mod OpCodes

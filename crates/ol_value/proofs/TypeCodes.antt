@@ -142,6 +142,7 @@ in-type-is enums code e v = go (getD tyCodes code enumT) v
     and-true : (b : Bool) → b ≡ b && true
     and-true true = refl
     and-true false = refl
+
     go : (t : TyCode) (v : Value) → inType enums (tyFrom e t) v ≡ inKind (tyFrom e t) v && isVariant (getD enums e []) v
     go boolT (Val.Bool b) = refl
     go boolT (Val.Int i) = refl

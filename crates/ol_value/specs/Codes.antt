@@ -9,12 +9,15 @@ use Rattle.ol_spec.specs.Syntax.{Ty, bool, int, float32, float64, char, enum, U
 use Rattle.ol_spec.specs.Read.{TyCode, boolT, float32T, float64T, charT, enumT, intT, tyCodes, unaryOps, binOps}
 use Rattle.ol_spec.specs.Types.{IntTy, signedTo, unsignedTo, whole, intTy, intIn}
 use Rattle.ol_spec.specs.Cell.{tag}
-use Rattle.ol_spec.specs.Operators.{unaryOf, binaryOf}
+use Rattle.ol_spec.specs.Real.{single, double}
+use Rattle.ol_spec.specs.Operators.{unaryOf, Pair, bools, ints, reals, names, unlike, pair, onPair}
 use Rattle.ol_spec.specs.declared.Value.{Value}
 use Rattle.ol_spec.specs.declared.Value.the-variants as Val
 use Rattle.ol_spec.specs.declared.Outcome.{Outcome}
 use Rattle.ol_spec.specs.declared.Outcome.the-variants as Out
 use Rattle.ol_value.specs.declared.narrowing.IntType.{IntType}
+use Rattle.ol_value.specs.declared.pairs.Operands.{Operands}
+use Rattle.ol_value.specs.declared.pairs.Operands.the-variants as Opd
 
 -- ---- integer types
 
@@ -60,9 +63,21 @@ inKind (enum e) v = eqb (tag v) 4
 
 -- ---- operators
 
--- an unknown code fails
+-- what two operands are, by their kinds
+abbrev pub pairOf : Operands → Pair
+pairOf (Opd.Bools a b) = bools a b
+pairOf (Opd.Ints i j) = ints i j
+pairOf (Opd.Singles x y) = reals single x y
+pairOf (Opd.Doubles x y) = reals double x y
+pairOf (Opd.Names v w) = names v w
+pairOf Opd.Unlike = unlike
+
+-- by the operator's code; an unknown one fails, and a file with one is turned back
 abbrev pub unaryBy : ℕ → Value → Outcome
 unaryBy op v = maybe Out.Failure (λ o. unaryOf o v) (getElem? unaryOps op)
 
+abbrev pub pairBy : ℕ → Pair → Outcome
+pairBy op p = maybe Out.Failure (λ o. onPair o p) (getElem? binOps op)
+
 abbrev pub binaryBy : ℕ → Value → Value → Outcome
-binaryBy op v w = maybe Out.Failure (λ o. binaryOf o v w) (getElem? binOps op)
+binaryBy op v w = pairBy op (pair v w)

@@ -5,7 +5,6 @@ ghost use Prim.Native.Nat.{_<_, _≤_, _^_};
 ghost use Rattle.ol_spec.specs.Numbers.{residue, signed};
 ghost use Rattle.ol_spec.specs.Types.{intTy, narrow, inRange};
 ghost use Rattle.ol_value.specs.Codes.{intTyOf, Narrow};
-
 use crate::ints::magnitude;
 
 // An integer type's width in bits, and whether it has a sign.

@@ -7,10 +7,16 @@ ghost use lib.ListN.{getD};
 ghost use Rattle.ol_spec.specs.Types.{intTy, default, kind, fitInt, fitSingle, fitDouble, fit};
 ghost use Rattle.ol_spec.specs.Types.{castInt, castReal, castTo};
 ghost use Rattle.ol_value.specs.Codes.{tyOf, isNumber, inKind};
-
-use crate::narrowing::{in_range, narrow_int};
-use ol_real::{f32_to_f64, f32_to_i64, f64_to_f32, f64_to_i64, i64_to_f32, i64_to_f64};
-use ol_spec::{Outcome, Value};
+use crate::narrowing::in_range;
+use crate::narrowing::narrow_int;
+use ol_real::f32_to_f64;
+use ol_real::f32_to_i64;
+use ol_real::f64_to_f32;
+use ol_real::f64_to_i64;
+use ol_real::i64_to_f32;
+use ol_real::i64_to_f64;
+use ol_spec::Outcome;
+use ol_spec::Value;
 
 // A value as a variable of an integer type holds it.
 fn fit_int(code: u8, v: Value) -> Value
