@@ -42,7 +42,7 @@ table =
     ∷ record { bits = 64; signed = false }
     ∷ []
 
--- its rule, at every entry
+-- its rule, over the whole table: each entry says what the definition's table says
 table-rule : map intTyOf table ≡ intTys
 table-rule = refl
 

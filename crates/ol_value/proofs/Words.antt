@@ -1,6 +1,6 @@
 -- The operations on the 64 bits of an integer, and its shifts.
 use mathlib.Core.Path.{_≡_, refl, sym, ap, ap₂, subst, _∙_}
-use mathlib.Core.Bool.{Bool, true, false, cond}
+use mathlib.Core.Bool.{Bool, true, false, _&&_}
 use Prim.Native.Nat.{ℕ, zero, suc, _*_, _/_, _%_, _≤_, _<_, _^_}
 use native.Mathlib.Omega.{arith}
 use borrow.Author.Tests.{ltb-true, le-leb}
@@ -22,49 +22,44 @@ bits-done f {a} {b} fa fb = ap (λ z. Out.Value (Val.Int z)) (signed-is (f (ofZ 
 
 -- ---- shifts, by their counts
 
--- the tests, of the count itself
-module _ {b : ℤ} (fb : SFits w64 b) where
-  pub low-is : {t : Bool} → leZ (pos 0) (back b) ≡ t → leZ (pos 0) b ≡ t
-  low-is e = ap (leZ (pos 0)) (sym (toZ-ofZ fb)) ∙ e
+-- the test of `is_count`
+abbrev pub isCount : ℤ → Bool
+isCount b = leZ (pos 0) b && ltZ b (pos 64)
 
-  pub high-is : {t : Bool} → ltZ (back b) (pos 64) ≡ t → ltZ b (pos 64) ≡ t
-  high-is e = ap (λ z. ltZ z (pos 64)) (sym (toZ-ofZ fb)) ∙ e
+-- its first half holds of a natural number
+natural-count : (n : ℕ) {t : Bool} → isCount (pos n) ≡ t → ltb n 64 ≡ t
+natural-count n e = ap (λ b. b && ltb n 64) (sym (le-leb 0 n (omega arith))) ∙ e
 
-count-below : (b : ℤ) → leZ (pos 0) b ≡ true → ltZ b (pos 64) ≡ true → ofZ w64 b < 64
-count-below (pos n) l h = ltb-true n 64 h
-count-below (negsuc n) l h = no-true l
+count-below : (b : ℤ) → isCount b ≡ true → ofZ w64 b < 64
+count-below (pos n) t = ltb-true n 64 (natural-count n t)
+count-below (negsuc n) t = no-true t
 
-shift-done : (f : ℕ → ℤ) (b : ℤ) → leZ (pos 0) b ≡ true → ltZ b (pos 64) ≡ true → Out.Value (Val.Int (f (ofZ w64 b))) ≡ shiftBy f b
-shift-done f (pos n) l h = rw h
-shift-done f (negsuc n) l h = no-true l
+shift-done : (f : ℕ → ℤ) (b : ℤ) → isCount b ≡ true → Out.Value (Val.Int (f (ofZ w64 b))) ≡ shiftBy f b
+shift-done f (pos n) t = rw (natural-count n t)
+shift-done f (negsuc n) t = no-true t
 
-shift-high : (f : ℕ → ℤ) (b : ℤ) → ltZ b (pos 64) ≡ false → Out.Failure ≡ shiftBy f b
-shift-high f (pos n) h = rw h
-shift-high f (negsuc n) h = refl
+shift-not : (f : ℕ → ℤ) (b : ℤ) → isCount b ≡ false → Out.Failure ≡ shiftBy f b
+shift-not f (pos n) t = rw (natural-count n t)
+shift-not f (negsuc n) t = refl
 
-shift-low : (f : ℕ → ℤ) (b : ℤ) → leZ (pos 0) b ≡ false → Out.Failure ≡ shiftBy f b
-shift-low f (pos n) l = no-true (sym l ∙ le-leb 0 n (omega arith))
-shift-low f (negsuc n) l = refl
+-- of a count read back
+count-is : {b : ℤ} {t : Bool} → SFits w64 b → isCount (back b) ≡ t → isCount b ≡ t
+count-is fb e = ap isCount (sym (toZ-ofZ fb)) ∙ e
 
-module _ {a b : ℤ} (fa : SFits w64 a) (fb : SFits w64 b) where
-  pub count-asks : leZ (pos 0) (back b) ≡ true → ltZ (back b) (pos 64) ≡ true → ofZ w64 b < 64
-  count-asks l h = count-below b (low-is fb l) (high-is fb h)
+pub count-asks : {b : ℤ} → SFits w64 b → isCount (back b) ≡ true → ofZ w64 b < 64
+count-asks {b} fb t = count-below b (count-is fb t)
 
-  pub shl-done : leZ (pos 0) (back b) ≡ true → ltZ (back b) (pos 64) ≡ true → Out.Value (Val.Int (toZ w64 (ofZ w64 a * 2 ^ ofZ w64 b % 2 ^ 64))) ≡ shiftBy (λ k. signed 64 (residue 64 a * 2 ^ k % 2 ^ 64)) b
-  shl-done l h =
+pub no-count : (f : ℕ → ℤ) {b : ℤ} → SFits w64 b → isCount (back b) ≡ false → Out.Failure ≡ shiftBy f b
+no-count f {b} fb t = shift-not f b (count-is fb t)
+
+module _ {a b : ℤ} (fa : SFits w64 a) (fb : SFits w64 b) (t : isCount (back b) ≡ true) where
+  pub shl-done : Out.Value (Val.Int (toZ w64 (ofZ w64 a * 2 ^ ofZ w64 b % 2 ^ 64))) ≡ shiftBy (λ k. signed 64 (residue 64 a * 2 ^ k % 2 ^ 64)) b
+  shl-done =
       ap (λ z. Out.Value (Val.Int z)) (signed-is (ofZ w64 a * 2 ^ ofZ w64 b % 2 ^ 64) ∙ ap (λ n. signed 64 (n * 2 ^ ofZ w64 b % 2 ^ 64)) (residue-is a fa))
-      ∙ shift-done (λ k. signed 64 (residue 64 a * 2 ^ k % 2 ^ 64)) b (low-is fb l) (high-is fb h)
+      ∙ shift-done (λ k. signed 64 (residue 64 a * 2 ^ k % 2 ^ 64)) b (count-is fb t)
 
   shr-back : (m : ℕ) → back (shrZ (back a) m) ≡ shrZ a m
   shr-back m = ap (λ z. back (shrZ z m)) (toZ-ofZ fa) ∙ toZ-ofZ {z = shrZ a m} (record { sfits = omega (arith, mag-shr a m, fa .sfits) })
 
-  pub shr-done : leZ (pos 0) (back b) ≡ true → ltZ (back b) (pos 64) ≡ true → Out.Value (Val.Int (back (shrZ (back a) (2 ^ ofZ w64 b)))) ≡ shiftBy (λ k. shrZ a (2 ^ k)) b
-  shr-done l h = ap (λ z. Out.Value (Val.Int z)) (shr-back (2 ^ ofZ w64 b)) ∙ shift-done (λ k. shrZ a (2 ^ k)) b (low-is fb l) (high-is fb h)
-
--- a count that fails
-module _ (f : ℕ → ℤ) {b : ℤ} (fb : SFits w64 b) where
-  pub too-high : ltZ (back b) (pos 64) ≡ false → Out.Failure ≡ shiftBy f b
-  too-high h = shift-high f b (high-is fb h)
-
-  pub too-low : leZ (pos 0) (back b) ≡ false → Out.Failure ≡ shiftBy f b
-  too-low l = shift-low f b (low-is fb l)
+  pub shr-done : Out.Value (Val.Int (back (shrZ (back a) (2 ^ ofZ w64 b)))) ≡ shiftBy (λ k. shrZ a (2 ^ k)) b
+  shr-done = ap (λ z. Out.Value (Val.Int z)) (shr-back (2 ^ ofZ w64 b)) ∙ shift-done (λ k. shrZ a (2 ^ k)) b (count-is fb t)

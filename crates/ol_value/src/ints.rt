@@ -1,7 +1,7 @@
 // Integers of 64 bits: each operation of `eval_binary` on two of them, with the overflow ends
 // refused.
 ghost use mathlib.Core.Path.{_≡_};
-ghost use mathlib.Core.Bool.{not};
+ghost use mathlib.Core.Bool.{_&&_};
 ghost use Prim.Native.Nat.{_*_, _%_, _^_};
 ghost use lib.Dec.{ltb};
 ghost use lib.IntN.{pos, negℤ, _+ℤ_, _-ℤ_, _*ℤ_, natAbs};
@@ -163,28 +163,33 @@ pub fn bit_xor(a: i64, b: i64) -> Outcome
     Outcome::Value(Value::Int(a ^ b))
 }
 
-// A shift count outside 0..63 fails.
+// Whether a shift takes this count: 0 to 63.
+fn is_count(b: i64) -> bool
+    ensures { λ r. ⌜ r ≡ leZ (pos 0) b && ltZ b (pos 64) ⌝ }
+{
+    (0 <= b) & (b < 64)
+}
+
+// Bits past the 64th are dropped; another count fails.
 pub fn shl_ints(a: i64, b: i64) -> Outcome
     ensures { λ r. ⌜ r ≡ shiftBy (λ k. signed 64 (residue 64 a * 2 ^ k % 2 ^ 64)) b ⌝ }
 {
-    if 0 <= b {
-        if b < 64 {
-            return Outcome::Value(Value::Int(a << b));
-        }
+    if is_count(b) {
+        Outcome::Value(Value::Int(a << b))
+    } else {
+        Outcome::Failure
     }
-    Outcome::Failure
 }
 
-// The sign bit is copied: -8 shr 1 is -4.
+// The sign bit is copied: -8 shr 1 is -4; another count fails.
 pub fn shr_ints(a: i64, b: i64) -> Outcome
     ensures { λ r. ⌜ r ≡ shiftBy (λ k. shrZ a (2 ^ k)) b ⌝ }
 {
-    if 0 <= b {
-        if b < 64 {
-            return Outcome::Value(Value::Int(a >> b));
-        }
+    if is_count(b) {
+        Outcome::Value(Value::Int(a >> b))
+    } else {
+        Outcome::Failure
     }
-    Outcome::Failure
 }
 
 pub fn eq_ints(a: i64, b: i64) -> bool

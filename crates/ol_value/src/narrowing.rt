@@ -17,39 +17,39 @@ pub struct IntType {
 const INT_TYPES: [IntType; 9] = [
     IntType {
         bits: 64,
-        signed: true,
+        signed: true, // Bool
     },
     IntType {
         bits: 8,
-        signed: true,
+        signed: true, // Int8
     },
     IntType {
         bits: 16,
-        signed: true,
+        signed: true, // Int16
     },
     IntType {
         bits: 32,
-        signed: true,
+        signed: true, // Int32
     },
     IntType {
         bits: 64,
-        signed: true,
+        signed: true, // Int64
     },
     IntType {
         bits: 8,
-        signed: false,
+        signed: false, // Uint8
     },
     IntType {
         bits: 16,
-        signed: false,
+        signed: false, // Uint16
     },
     IntType {
         bits: 32,
-        signed: false,
+        signed: false, // Uint32
     },
     IntType {
         bits: 64,
-        signed: false,
+        signed: false, // Uint64
     },
 ];
 

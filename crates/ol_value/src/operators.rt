@@ -3,7 +3,7 @@
 ghost use mathlib.Core.Path.{_≡_};
 ghost use Prim.Native.Nat.{_≤_};
 ghost use Rattle.ol_spec.specs.Real.{single, double};
-ghost use Rattle.ol_spec.specs.Operators.{notOf, negOf, boolOut, bools, ints, reals, names, unlike};
+ghost use Rattle.ol_spec.specs.Operators.{notOf, negOf, divReal, boolOut, bools, ints, reals, names, unlike};
 ghost use Rattle.ol_value.specs.Codes.{unaryBy, pairBy, binaryBy};
 use crate::ints::add_ints;
 use crate::ints::bit_and;
@@ -114,7 +114,18 @@ fn compare_singles(op: u8, x: f32, y: f32) -> bool
     }
 }
 
-// Add to Div of two singles, rounded once; a zero divisor fails.
+// A zero divisor fails, -0.0 too.
+fn div_singles(x: f32, y: f32) -> Outcome
+    ensures { λ r. ⌜ r ≡ divReal single x y ⌝ }
+{
+    if y == 0.0f32 {
+        Outcome::Failure
+    } else {
+        Outcome::Value(Value::Float32(x / y))
+    }
+}
+
+// Add to Div of two singles, rounded once.
 fn compute_singles(op: u8, x: f32, y: f32) -> Outcome
     requires { ⌜ (10 ≤ op) × (op ≤ 13) ⌝ }
     ensures { λ r. ⌜ r ≡ pairBy op (reals single x y) ⌝ }
@@ -123,13 +134,7 @@ fn compute_singles(op: u8, x: f32, y: f32) -> Outcome
         10 => Outcome::Value(Value::Float32(x + y)),
         11 => Outcome::Value(Value::Float32(x - y)),
         12 => Outcome::Value(Value::Float32(x * y)),
-        _ => {
-            if y == 0.0 {
-                Outcome::Failure
-            } else {
-                Outcome::Value(Value::Float32(x / y))
-            }
-        }
+        _ => div_singles(x, y),
     }
 }
 
@@ -158,7 +163,18 @@ fn compare_doubles(op: u8, x: f64, y: f64) -> bool
     }
 }
 
-// Add to Div of two doubles, rounded once; a zero divisor fails.
+// A zero divisor fails, -0.0 too.
+fn div_doubles(x: f64, y: f64) -> Outcome
+    ensures { λ r. ⌜ r ≡ divReal double x y ⌝ }
+{
+    if y == 0.0f64 {
+        Outcome::Failure
+    } else {
+        Outcome::Value(Value::Float(x / y))
+    }
+}
+
+// Add to Div of two doubles, rounded once.
 fn compute_doubles(op: u8, x: f64, y: f64) -> Outcome
     requires { ⌜ (10 ≤ op) × (op ≤ 13) ⌝ }
     ensures { λ r. ⌜ r ≡ pairBy op (reals double x y) ⌝ }
@@ -167,13 +183,7 @@ fn compute_doubles(op: u8, x: f64, y: f64) -> Outcome
         10 => Outcome::Value(Value::Float(x + y)),
         11 => Outcome::Value(Value::Float(x - y)),
         12 => Outcome::Value(Value::Float(x * y)),
-        _ => {
-            if y == 0.0 {
-                Outcome::Failure
-            } else {
-                Outcome::Value(Value::Float(x / y))
-            }
-        }
+        _ => div_doubles(x, y),
     }
 }
 

@@ -1,22 +1,20 @@
-use Rattle.ol_value.proofs.Words.{count-asks, shl-done, too-high, too-low}
+use mathlib.Core.Path.{sym, _∙_}
+use Rattle.ol_value.proofs.Words.{count-asks, no-count, shl-done}
+use borrow.Author.Needs.{needs}
 use Rattle.ol_value.proofs.ints.shl_ints.Statement.{statement}
 use Rattle.ol_value.proofs.ints.shl_ints.Tie as tie
 
+is-count-requires : tie.Need-is-count-requires
+is-count-requires c κs = search needs
+
 shl-t5 : tie.Need-shl-t5
-shl-t5 c =
-    let s = c .before .before in
-    count-asks (s .fits .a) (s .fits .b) (c .before .if1 .taken) (c .if2 .taken)
+shl-t5 c = count-asks (c .before .before .fits .b) (sym (c .before .is-count .ensures) ∙ c .if1 .taken)
 
 returns : tie.Need-returns
-returns c =
-    let s = c .before .before in
-    shl-done (s .fits .a) (s .fits .b) (c .before .if1 .taken) (c .if2 .taken)
+returns c = shl-done (c .before .before .fits .a) (c .before .before .fits .b) (sym (c .before .is-count .ensures) ∙ c .if1 .taken)
 
 returns-2 : tie.Need-returns-2
-returns-2 c = too-high _ (c .before .before .fits .b) (c .if2 .left)
-
-returns-3 : tie.Need-returns-3
-returns-3 c = too-low _ (c .before .fits .b) (c .if1 .left)
+returns-2 c = no-count _ (c .before .before .fits .b) (sym (c .before .is-count .ensures) ∙ c .if1 .left)
 
 pub shl-ints-spec : {M : Type 1} → statement M
-shl-ints-spec = tie.close (tie.spec shl-t5 returns returns-2 returns-3)
+shl-ints-spec = tie.close (tie.spec is-count-requires shl-t5 returns returns-2)

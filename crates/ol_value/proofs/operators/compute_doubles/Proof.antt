@@ -1,10 +1,13 @@
 use mathlib.Core.Path.{_≡_}
 use native.Mathlib.Omega.{arith}
-use lib.Ieee.{ofBits}
-use Rattle.ol_spec.specs.Real.{addR, subR, mulR, divR, eqR}
+use borrow.Author.Needs.{needs}
+use Rattle.ol_spec.specs.Real.{addR, subR, mulR}
 use Rattle.ol_spec.specs.Operators.{onPair}
 use Rattle.ol_value.proofs.operators.compute_doubles.Statement.{statement}
 use Rattle.ol_value.proofs.operators.compute_doubles.Tie as tie
+
+div-doubles-requires : tie.Need-div-doubles-requires
+div-doubles-requires c κs = search needs
 
 returns : tie.Need-returns
 unfolding onPair addR
@@ -19,12 +22,10 @@ unfolding onPair mulR
 returns-3 c = rw (c .match .keys3)
 
 returns-4 : tie.Need-returns-4
-unfolding onPair divR eqR ofBits
-returns-4 c = let e : c .before .before .args .op ≡ 13 = omega arith in rw (e, c .if1 .taken)
-
-returns-5 : tie.Need-returns-5
-unfolding onPair divR eqR ofBits
-returns-5 c = let e : c .before .before .args .op ≡ 13 = omega arith in rw (e, c .if1 .left)
+unfolding onPair
+returns-4 c =
+    let e : c .before .before .args .op ≡ 13 = omega arith in
+    rw e (c .div-doubles .ensures)
 
 pub compute-doubles-spec : {M : Type 1} → statement M
-compute-doubles-spec = tie.close (tie.spec returns returns-2 returns-3 returns-4 returns-5)
+compute-doubles-spec = tie.close (tie.spec div-doubles-requires returns returns-2 returns-3 returns-4)
