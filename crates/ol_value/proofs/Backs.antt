@@ -1,21 +1,20 @@
 -- What the code has of an integer, a number read back from its 64 bits, is the number itself; and its tests on bits are tests on numbers.
-use mathlib.Core.Path.{_≡_, refl, sym, ap, ap₂, _∙_}
+use mathlib.Core.Path.{_≡_, refl, sym, ap, _∙_}
 use mathlib.Core.Bool.{Bool, true, false, cond, _&&_}
-use Prim.Native.Nat.{ℕ, zero, suc, _-_, _%_, _≤_, _<_, _^_}
+use Prim.Native.Nat.{ℕ, suc, _-_, _≤_, _<_, _^_}
 use native.Mathlib.Nat.{mod-eq-of-lt}
 use native.Mathlib.Omega.{arith}
 use native.Mathlib.Decide.{decLe}
 use borrow.Author.Tests.{le-leb, lt-leb, ltb-true, eqb-true, eqb-false, ne-eqb}
 use lib.Dec.{ltb, leb, eqb}
 use lib.IntN.{ℤ, pos, negsuc}
-use lib.Signed.{mag, leZ}
+use lib.Signed.{mag}
 use mir.Syntax.{w64}
 use mir.Val.{SFits, toZ, ofZ, sel}
 use mir.Facts.{toZ-ofZ}
 use Rattle.ol_spec.specs.Numbers.{residue, signed}
 use Rattle.ol_spec.specs.Operators.{exact, eqZ}
 use Rattle.ol_spec.specs.declared.Value.the-variants as Val
-use Rattle.ol_spec.specs.declared.Outcome.{Outcome}
 use Rattle.ol_spec.specs.declared.Outcome.the-variants as Out
 
 pub no-true {ℓ} : {A : Type ℓ} → false ≡ true → A

@@ -1,9 +1,9 @@
 -- Numbers and their big-endian bytes: the turns of `read_number` and `write_number`, and a cell's parts.
 use mathlib.Core.Path.{_≡_, refl, sym, ap, ap₂, subst, _∙_}
 use mathlib.Core.Bool.{Bool, true, false, _&&_}
-use mathlib.Core.List.{List, [], _∷_, _++_, append-assoc}
+use mathlib.Core.List.{List, [], _∷_, _++_}
 use Prim.Native.Nat.{ℕ, zero, suc, _+_, _-_, _*_, _/_, _%_, _^_, _≤_, _<_}
-use native.Mathlib.Nat.{pow-suc, pow-le-pow-right, div-div-eq-div-mul, div-one, add-suc, one-le-pow}
+use native.Mathlib.Nat.{pow-suc, pow-le-pow-right, div-div-eq-div-mul, div-one}
 use native.Mathlib.Numerals.{add-one}
 use native.Mathlib.Omega.{arith}
 use native.Mathlib.Decide.{decLt}
@@ -13,7 +13,7 @@ use lib.Seq.{take-suc, drop-cons, append-snoc, getD-take, getD-drop, length-take
 use Rattle.ol_spec.specs.Lists.{same}
 use Rattle.ol_spec.specs.Numbers.{bytesOf, numberOf}
 use Rattle.ol_spec.specs.Cell.{tag, payload, cell, valueBy, valueOf}
-use Rattle.ol_spec.proofs.Cells.{bytes-back, length-bytes, same-refl, same-eq}
+use Rattle.ol_spec.proofs.Cells.{bytes-back, same-refl, same-eq}
 use Rattle.ol_spec.specs.declared.Value.{Value}
 use Rattle.ol_spec.specs.declared.Value.the-variants as Val
 

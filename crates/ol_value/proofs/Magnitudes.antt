@@ -1,14 +1,14 @@
 -- An integer's magnitude and sign: `mag` is n for n and for -(n + 1).
 use mathlib.Core.Path.{_≡_, refl, sym, ap, subst, _∙_}
 use mathlib.Core.Bool.{Bool, true, false}
-use Prim.Native.Nat.{ℕ, zero, suc, _+_, _-_, _<_, _^_}
+use Prim.Native.Nat.{ℕ, suc, _-_, _<_, _^_}
 use native.Mathlib.Omega.{arith}
 use borrow.Author.Tests.{le-ltb, le-leb}
-use lib.Dec.{T, ltb, leb}
+use lib.Dec.{T}
 use lib.IntN.{ℤ, pos, negsuc, natAbs, _-ℤ_}
 use lib.Signed.{mag, leZ, nonNeg}
 use mir.Syntax.{w64}
-use mir.Val.{Fits, SFits, toZ, ofZ}
+use mir.Val.{Fits, SFits}
 use mir.Facts.{toZ-ofZ}
 use Rattle.ol_value.proofs.Backs.{no-true, back}
 

@@ -1,23 +1,23 @@
 -- Operators by their codes: the operators that a pair of operands refuses.
-use mathlib.Core.Path.{_≡_, refl, sym, ap, subst, _∙_}
+use mathlib.Core.Path.{_≡_, refl, ap}
 use mathlib.Core.Bool.{Bool, true, false, _&&_, _||_}
 use mathlib.Core.List.{List, [], _∷_}
 use mathlib.Core.Option.{Option, none, some}
-use Prim.Native.Nat.{ℕ, zero, suc, _<_, _≤_}
-use borrow.Author.Tests.{le-leb, lt-leb, ne-eqb}
+use Prim.Native.Nat.{ℕ, zero, suc, _<_}
+use borrow.Author.Tests.{lt-leb, ne-eqb}
 use lib.Dec.{T, leb, eqb}
 use lib.ListN.{getElem?}
 use lib.IntN.{ℤ}
 use lib.Ieee.{Float, Format}
 use Rattle.ol_spec.specs.Lists.{maybe}
-use Rattle.ol_spec.specs.Syntax.{BinOp}
-use Rattle.ol_spec.specs.Read.{binOps}
-use Rattle.ol_spec.specs.Operators.{Pair, bools, ints, reals, names, unlike, onPair}
+use Rattle.ol_spec.specs.Syntax.{BinOp, UnaryOp}
+use Rattle.ol_spec.specs.Read.{binOps, unaryOps}
+use Rattle.ol_spec.specs.Operators.{Pair, bools, ints, reals, names, unlike, onPair, binaryOf, unaryOf}
 use Rattle.ol_spec.specs.declared.Value.{Value}
 use Rattle.ol_spec.specs.declared.Outcome.{Outcome}
 use Rattle.ol_spec.specs.declared.Outcome.the-variants as Out
 use Rattle.ol_spec.proofs.Tests.{T-and}
-use Rattle.ol_value.specs.Codes.{pairBy, unaryBy}
+use Rattle.ol_value.specs.Codes.{pairBy, binaryBy, unaryBy}
 
 -- a test of each operator with its code, over the whole table
 abbrev every : (ℕ → BinOp → Bool) → List BinOp → Bool
@@ -103,3 +103,11 @@ pub unary-refuse : (v : Value) (op : ℕ) → (op ≡ 0 → ⊥) → (op ≡ 1 �
 unary-refuse v zero e n = absurd (e refl)
 unary-refuse v (suc zero) e n = absurd (n refl)
 unary-refuse v (suc (suc op)) e n = refl
+
+-- ---- at a code that the reader knows
+
+pub binary-known : (op : ℕ) {o : BinOp} → getElem? binOps op ≡ some o → (v w : Value) → binaryBy op v w ≡ binaryOf o v w
+binary-known op e v w = ap (maybe Out.Failure (λ o. binaryOf o v w)) e
+
+pub unary-known : (op : ℕ) {o : UnaryOp} → getElem? unaryOps op ≡ some o → (v : Value) → unaryBy op v ≡ unaryOf o v
+unary-known op e v = ap (maybe Out.Failure (λ o. unaryOf o v)) e

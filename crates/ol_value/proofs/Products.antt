@@ -1,6 +1,5 @@
 -- Products, quotients, remainders and negation of integers of 64 bits: the tests of `product_fits`, `quotient_fits` and `neg_int`.
 use mathlib.Core.Path.{_≡_, refl, sym, ap, ap₂, subst, _∙_}
-use mathlib.Core.Logic.{_↔_}
 use mathlib.Core.Bool.{Bool, true, false, not, cond, Bool·beq}
 use Prim.Native.Nat.{ℕ, zero, suc, _+_, _-_, _*_, _/_, _≤_, _<_, _^_}
 use native.Mathlib.Nat.{div-one, div-le-self, div-lt-self, le-div-iff-mul-le, mul-comm}
@@ -9,9 +8,9 @@ use native.Mathlib.Decide.{decLt}
 use borrow.Author.Tests.{lt-ltb, le-ltb, eq-eqb, ne-eqb}
 use lib.Dec.{ltb, leb, eqb}
 use lib.IntN.{ℤ, pos, negsuc, negℤ, natAbs, _+ℤ_, _-ℤ_, _*ℤ_, +ℤ-idl, zero-*ℤ}
-use lib.Signed.{mag, leZ, ltZ, quotZ, remZ, mag-rem}
+use lib.Signed.{mag, ltZ, quotZ, remZ, mag-rem}
 use mir.Syntax.{w64}
-use mir.Val.{SFits, toZ, ofZ}
+use mir.Val.{SFits, ofZ}
 use mir.Facts.{toZ-ofZ}
 use Rattle.ol_spec.specs.Operators.{exact, divInt, modInt, eqZ}
 use Rattle.ol_spec.specs.declared.Value.the-variants as Val

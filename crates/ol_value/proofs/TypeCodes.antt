@@ -1,17 +1,18 @@
 -- Types by their codes: the cases of a code, and what fitting, casting and the tests of inputs make of each.
-use mathlib.Core.Path.{_≡_, refl, sym, ap, subst, _∙_}
+use mathlib.Core.Path.{_≡_, refl, sym, ap}
 use mathlib.Core.Bool.{Bool, true, false, not, _&&_, _||_}
-use mathlib.Core.List.{List, []}
+use mathlib.Core.List.{List, [], _∷_}
+use mathlib.Core.Option.{Option, none, some}
 use Prim.Native.Nat.{ℕ, zero, suc, _≤_, _<_}
 use native.Mathlib.Omega.{arith}
 use borrow.Author.Tests.{le-leb, lt-leb, ne-eqb}
 use lib.Dec.{leb, eqb}
 use lib.IntN.{ℤ}
 use lib.Ieee.{Float}
-use lib.ListN.{getD}
+use lib.ListN.{getD, getElem?}
 use Rattle.ol_spec.specs.Syntax.{Ty, bool, int, float32, float64, char, enum}
 use Rattle.ol_spec.specs.Read.{TyCode, boolT, float32T, float64T, charT, enumT, intT, tyCodes}
-use Rattle.ol_spec.specs.Types.{fit, castTo, castReal, inType, inRange, intTy}
+use Rattle.ol_spec.specs.Types.{fit, castTo, castReal, inType}
 use Rattle.ol_spec.specs.Lists.{member}
 use Rattle.ol_spec.specs.Cell.{tag, isVariant}
 use Rattle.ol_spec.specs.declared.Value.{Value}
@@ -179,3 +180,16 @@ variant-is ns (Val.Int i) = refl
 variant-is ns (Val.Float x) = refl
 variant-is ns (Val.Float32 x) = refl
 variant-is ns (Val.Enum v) = refl
+
+-- ---- at a code that the reader knows
+
+entry-known : {A : Type 0} (l : List A) (n : ℕ) (a d : A) → getElem? l n ≡ some a → getD l n d ≡ a
+entry-known [] n a d e = absurd (none-some e)
+  where
+    none-some : _≡_ {A = Option _} none (some a) → ⊥
+    none-some p = let z : _≡_ {A = ℕ} 0 1 = cc in omega arith
+entry-known (x ∷ l) zero a d e = cc
+entry-known (x ∷ l) (suc n) a d e = entry-known l n a d e
+
+pub ty-known : (code : ℕ) {t : TyCode} → getElem? tyCodes code ≡ some t → (e : ℕ) → tyOf code e ≡ tyFrom e t
+ty-known code {t} h e = ap (tyFrom e) (entry-known tyCodes code t enumT h)

@@ -1,21 +1,20 @@
 -- The widths and signs of integer types: the table's rule, and the steps of `narrow_int` and `in_range`.
 use mathlib.Core.Path.{_≡_, refl, sym, ap, subst, _∙_}
-use mathlib.Core.Bool.{Bool, true, false, cond, _&&_}
+use mathlib.Core.Bool.{Bool, true, false, cond}
 use mathlib.Core.List.{List, [], _∷_, map}
-use Prim.Native.Nat.{ℕ, zero, suc, _+_, _-_, _*_, _%_, _^_, _≤_, _<_}
+use Prim.Native.Nat.{ℕ, zero, suc, _-_, _*_, _%_, _^_, _≤_, _<_}
 use native.Mathlib.Nat.{mod-eq-of-lt, mod-lt, one-mul, zero-add}
 use native.Mathlib.Omega.{arith}
 use borrow.Author.Tests.{lt-ltb, le-ltb, eq-eqb, ne-eqb}
-use lib.Dec.{ltb, eqb}
-use lib.ListN.{length, getD, List·getD-map, List·getD-eq-default}
+use lib.ListN.{length, getD, List·getD-eq-default}
 use lib.Pow.{pow-pos, pow-mono, pow-lt}
 use lib.IntN.{ℤ, pos, negsuc, _-ℤ_}
-use lib.Signed.{mag, leZ, nonNeg}
+use lib.Signed.{mag, leZ}
 use mir.Syntax.{w64}
-use mir.Val.{SFits, toZ, ofZ}
+use mir.Val.{SFits, toZ}
 use mir.Facts.{toZ-ofZ, toZ-pos}
 use Rattle.ol_spec.specs.Numbers.{residue, signed}
-use Rattle.ol_spec.specs.Types.{IntTy, signedTo, unsignedTo, whole, intTys, intTy, narrow, inRange}
+use Rattle.ol_spec.specs.Types.{IntTy, signedTo, unsignedTo, whole, intTys, intTy}
 use Rattle.ol_value.specs.declared.narrowing.IntType.{IntType}
 use Rattle.ol_value.specs.Codes.{intTyOf, Narrow}
 use Rattle.ol_value.proofs.Backs.{back}

@@ -1,10 +1,10 @@
 -- The operations on the 64 bits of an integer, and its shifts.
-use mathlib.Core.Path.{_≡_, refl, sym, ap, ap₂, subst, _∙_}
+use mathlib.Core.Path.{_≡_, refl, sym, ap, ap₂, _∙_}
 use mathlib.Core.Bool.{Bool, true, false, _&&_}
-use Prim.Native.Nat.{ℕ, zero, suc, _*_, _/_, _%_, _≤_, _<_, _^_}
+use Prim.Native.Nat.{ℕ, _*_, _%_, _<_, _^_}
 use native.Mathlib.Omega.{arith}
 use borrow.Author.Tests.{ltb-true, le-leb}
-use lib.Dec.{ltb, leb}
+use lib.Dec.{ltb}
 use lib.IntN.{ℤ, pos, negsuc}
 use lib.Signed.{leZ, ltZ, shrZ, mag-shr}
 use mir.Syntax.{w64}
@@ -13,7 +13,6 @@ use mir.Facts.{toZ-ofZ}
 use Rattle.ol_spec.specs.Numbers.{residue, signed}
 use Rattle.ol_spec.specs.Operators.{onBits, shiftBy}
 use Rattle.ol_spec.specs.declared.Value.the-variants as Val
-use Rattle.ol_spec.specs.declared.Outcome.{Outcome}
 use Rattle.ol_spec.specs.declared.Outcome.the-variants as Out
 use Rattle.ol_value.proofs.Backs.{no-true, back, signed-is, residue-is}
 

@@ -5,7 +5,7 @@ use mathlib.Core.List.{[]}
 use lib.Dec.{eqb}
 use lib.ListN.{getD, getElem?}
 use Rattle.ol_spec.specs.Lists.{maybe}
-use Rattle.ol_spec.specs.Syntax.{Ty, bool, int, float32, float64, char, enum, UnaryOp, BinOp}
+use Rattle.ol_spec.specs.Syntax.{Ty, bool, int, float32, float64, char, enum}
 use Rattle.ol_spec.specs.Read.{TyCode, boolT, float32T, float64T, charT, enumT, intT, tyCodes, unaryOps, binOps}
 use Rattle.ol_spec.specs.Types.{IntTy, signedTo, unsignedTo, whole, intTy, intIn}
 use Rattle.ol_spec.specs.Cell.{tag}

@@ -209,3 +209,15 @@ pub fn le_ints(a: i64, b: i64) -> bool
 {
     a <= b
 }
+
+pub fn gt_ints(a: i64, b: i64) -> bool
+    ensures { λ r. ⌜ r ≡ ltZ b a ⌝ }
+{
+    a > b
+}
+
+pub fn ge_ints(a: i64, b: i64) -> bool
+    ensures { λ r. ⌜ r ≡ leZ b a ⌝ }
+{
+    a >= b
+}

@@ -11,6 +11,8 @@ use crate::ints::bit_or;
 use crate::ints::bit_xor;
 use crate::ints::div_ints;
 use crate::ints::eq_ints;
+use crate::ints::ge_ints;
+use crate::ints::gt_ints;
 use crate::ints::le_ints;
 use crate::ints::lt_ints;
 use crate::ints::mod_ints;
@@ -55,8 +57,8 @@ fn compare_ints(op: u8, i: i64, j: i64) -> bool
         5 => !eq_ints(i, j),
         6 => lt_ints(i, j),
         7 => le_ints(i, j),
-        8 => lt_ints(j, i),
-        _ => le_ints(j, i),
+        8 => gt_ints(i, j),
+        _ => ge_ints(i, j),
     }
 }
 

@@ -143,7 +143,7 @@ pub fn default_value(code: u8, first: u16) -> Value
 }
 
 // A type's kind, the tag that its default has.
-pub fn kind_of(code: u8) -> u8
+pub fn kind(code: u8) -> u8
     ensures { λ r. ⌜ ((enums : List (List ℕ)) (e : ℕ) → r ≡ kind enums (tyOf code e)) ⌝ }
 {
     match code {

@@ -1,8 +1,8 @@
-use mathlib.Core.Path.{_≡_, sym, ap, ap₂, _∙_}
+use mathlib.Core.Path.{ap₂, _∙_}
 use mathlib.Core.List.{_++_, _∷_}
 use Prim.Native.Nat.{_+_}
 use native.Mathlib.Omega.{arith}
-use lib.ListN.{length, take, drop, set, length-set}
+use lib.ListN.{take, drop, length-set}
 use Rattle.ol_spec.specs.Numbers.{bytesOf}
 use Rattle.ol_value.proofs.Digits.{cell-written}
 use borrow.Author.Needs.{needs}

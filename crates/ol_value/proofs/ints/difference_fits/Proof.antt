@@ -2,8 +2,6 @@ use mir.Facts.{toZ-ofZ}
 use Rattle.ol_value.proofs.Sums.{difference-down, difference-up, difference-down-asks, difference-up-asks}
 use Rattle.ol_value.proofs.ints.difference_fits.Statement.{statement}
 use Rattle.ol_value.proofs.ints.difference_fits.Tie as tie
-use Rattle.ol_value.proofs.ints.difference_fits.Reads as reads
-use Rattle.ol_value.proofs.ints.difference_fits.Lts as lts
 
 add-result : tie.Need-add-result
 add-result c =

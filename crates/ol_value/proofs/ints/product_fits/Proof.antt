@@ -1,7 +1,5 @@
-use mathlib.Core.Path.{_≡_, sym, ap, ap₂, _∙_}
-use mathlib.Core.Bool.{Bool·beq}
-use lib.IntN.{natAbs, pos}
-use lib.Signed.{ltZ}
+use mathlib.Core.Path.{sym, ap, _∙_}
+use lib.IntN.{natAbs}
 use mir.Facts.{toZ-ofZ}
 use borrow.Author.Needs.{needs}
 use Rattle.ol_value.proofs.Products.{zero-product, like-product, unlike-product}

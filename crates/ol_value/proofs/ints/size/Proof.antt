@@ -2,7 +2,6 @@ use mathlib.Core.Path.{_∙_, ap}
 use lib.Signed.{mag}
 use mir.Facts.{toZ-ofZ}
 use native.Mathlib.Omega.{arith}
-use native.Mathlib.Numerals.{add-one}
 use borrow.Author.Needs.{needs}
 use Rattle.ol_value.proofs.Magnitudes.{size-natural, size-negative}
 use Rattle.ol_value.proofs.ints.size.Statement.{statement}

@@ -2,8 +2,6 @@ use mir.Facts.{toZ-ofZ}
 use Rattle.ol_value.proofs.Sums.{sum-up, sum-down, sum-up-asks, sum-down-asks}
 use Rattle.ol_value.proofs.ints.sum_fits.Statement.{statement}
 use Rattle.ol_value.proofs.ints.sum_fits.Tie as tie
-use Rattle.ol_value.proofs.ints.sum_fits.Reads as reads
-use Rattle.ol_value.proofs.ints.sum_fits.Lts as lts
 
 sub-result : tie.Need-sub-result
 sub-result c =

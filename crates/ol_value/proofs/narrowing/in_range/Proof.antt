@@ -1,4 +1,4 @@
-use mathlib.Core.Path.{sym, subst, _∙_, ap₂}
+use mathlib.Core.Path.{_∙_, ap₂}
 use mir.Facts.{toZ-ofZ}
 use Rattle.ol_spec.specs.Types.{inRange}
 use Rattle.ol_value.proofs.Widths.{narrows}

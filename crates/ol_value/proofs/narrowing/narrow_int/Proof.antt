@@ -1,8 +1,7 @@
-use mathlib.Core.Path.{sym, subst, _∙_, ap₂}
+use mathlib.Core.Path.{_∙_, ap₂}
 use mir.Facts.{toZ-ofZ}
 use borrow.Author.Needs.{sfits-of}
 use Rattle.ol_spec.specs.Types.{narrow}
-use Rattle.ol_value.specs.Codes.{Narrow}
 use Rattle.ol_value.proofs.Widths.{narrows}
 use borrow.Author.Needs.{needs}
 use Rattle.ol_value.proofs.narrowing.narrow_int.Statement.{statement}

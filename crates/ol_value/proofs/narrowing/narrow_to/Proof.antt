@@ -1,12 +1,9 @@
 use Rattle.ol_value.proofs.Widths.{few-bits, residue-lt, natural-fits, whole-is, signed-ty, unsigned-ty, narrow-bits}
 use borrow.Author.Needs.{sfits-of}
 use Rattle.ol_spec.specs.Numbers.{residue, signed}
-use mathlib.Core.Path.{_≡_, sym, subst, _∙_, ap}
-use native.Mathlib.Omega.{arith}
-use lib.IntN.{pos}
+use mathlib.Core.Path.{_∙_, ap}
 use mir.Facts.{toZ-ofZ, toZ-pos}
 use mir.Syntax.{w64}
-use Rattle.ol_spec.specs.Types.{narrow, IntTy}
 use Rattle.ol_value.proofs.narrowing.narrow_to.Statement.{statement}
 use Rattle.ol_value.proofs.narrowing.narrow_to.Tie as tie
 

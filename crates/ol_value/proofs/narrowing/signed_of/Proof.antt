@@ -1,7 +1,5 @@
 use native.Mathlib.Omega.{arith}
 use Rattle.ol_value.proofs.Widths.{few-bits, rest-small, natural-fits, signed-low, negated-fits, signed-high}
-use mathlib.Core.Path.{_≡_, sym}
-use Prim.Native.Nat.{_<_, _≤_}
 use borrow.Author.Needs.{needs}
 use Rattle.ol_value.proofs.narrowing.signed_of.Statement.{statement}
 use Rattle.ol_value.proofs.narrowing.signed_of.Tie as tie

@@ -1,9 +1,8 @@
-use mathlib.Core.Path.{_≡_, sym, ap, ap₂, _∙_}
-use mathlib.Core.Bool.{_&&_}
-use Prim.Native.Nat.{_^_, _-_}
+use mathlib.Core.Path.{ap, ap₂, _∙_}
+use Prim.Native.Nat.{_-_}
 use native.Mathlib.Omega.{arith}
 use lib.Dec.{ltb}
-use lib.Signed.{mag, nonNeg}
+use lib.Signed.{mag}
 use mir.Facts.{toZ-ofZ}
 use Rattle.ol_value.proofs.Magnitudes.{sign-is, nonneg-true, nonneg-false}
 use Rattle.ol_value.proofs.Widths.{whole-is, signed-ty, unsigned-ty, narrow-bits}

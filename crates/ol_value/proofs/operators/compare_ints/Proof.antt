@@ -20,11 +20,11 @@ lt-ints-requires c κs = search needs
 le-ints-requires : tie.Need-le-ints-requires
 le-ints-requires c κs = search needs
 
-lt-ints-requires-2 : tie.Need-lt-ints-requires-2
-lt-ints-requires-2 c κs = search needs
+gt-ints-requires : tie.Need-gt-ints-requires
+gt-ints-requires c κs = search needs
 
-le-ints-requires-2 : tie.Need-le-ints-requires-2
-le-ints-requires-2 c κs = search needs
+ge-ints-requires : tie.Need-ge-ints-requires
+ge-ints-requires c κs = search needs
 
 returns : tie.Need-returns
 unfolding onPair
@@ -44,13 +44,13 @@ returns-4 c = rw (c .before .match .keys4) (ap boolOut (c .le-ints .ensures ∙ 
 
 returns-5 : tie.Need-returns-5
 unfolding onPair
-returns-5 c = rw (c .before .match .keys5) (ap boolOut (c .lt-ints2 .ensures ∙ backs ltZ (c .before .before .fits .j) (c .before .before .fits .i)))
+returns-5 c = rw (c .before .match .keys5) (ap boolOut (c .gt-ints .ensures ∙ backs ltZ (c .before .before .fits .j) (c .before .before .fits .i)))
 
 returns-6 : tie.Need-returns-6
 unfolding onPair
 returns-6 c =
     let e : c .before .before .args .op ≡ 9 = omega arith in
-    rw e (ap boolOut (c .le-ints2 .ensures ∙ backs leZ (c .before .before .fits .j) (c .before .before .fits .i)))
+    rw e (ap boolOut (c .ge-ints .ensures ∙ backs leZ (c .before .before .fits .j) (c .before .before .fits .i)))
 
 pub compare-ints-spec : {M : Type 1} → statement M
 compare-ints-spec =
@@ -60,8 +60,8 @@ compare-ints-spec =
     eq-ints-requires-2
     lt-ints-requires
     le-ints-requires
-    lt-ints-requires-2
-    le-ints-requires-2
+    gt-ints-requires
+    ge-ints-requires
     returns
     returns-2
     returns-3

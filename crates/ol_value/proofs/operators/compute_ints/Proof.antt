@@ -1,4 +1,4 @@
-use mathlib.Core.Path.{_≡_, ap, _∙_}
+use mathlib.Core.Path.{_≡_, _∙_}
 use native.Mathlib.Omega.{arith}
 use lib.IntN.{_+ℤ_, _-ℤ_, _*ℤ_}
 use Rattle.ol_spec.specs.Operators.{onPair, exact, divInt, modInt}

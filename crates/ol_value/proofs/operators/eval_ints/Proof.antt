@@ -1,4 +1,4 @@
-use mathlib.Core.Path.{ap, _∙_}
+use mathlib.Core.Path.{_∙_}
 use Rattle.ol_spec.specs.Operators.{ints}
 use Rattle.ol_value.specs.Codes.{pairBy}
 use Rattle.ol_value.proofs.Backs.{backs}

@@ -1,7 +1,4 @@
-use mathlib.Core.Path.{_≡_, _∙_, ap}
-use lib.IntN.{ℤ}
-use mir.Syntax.{w64}
-use mir.Val.{toZ, ofZ}
+use mathlib.Core.Path.{_∙_, ap}
 use mir.Facts.{toZ-ofZ}
 use borrow.Author.Needs.{sfits-of}
 use Rattle.ol_spec.specs.Types.{narrow, intTy}

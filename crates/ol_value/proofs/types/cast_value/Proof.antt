@@ -1,5 +1,3 @@
-use native.Mathlib.Omega.{arith}
-use mathlib.Core.Path.{_∙_, ap, sym}
 use Rattle.ol_spec.specs.Types.{castTo}
 use Rattle.ol_value.proofs.TypeCodes.{int-code, low-code, high-code, cast-other}
 use borrow.Author.Needs.{needs}

@@ -1,5 +1,5 @@
 use native.Mathlib.Omega.{arith}
-use mathlib.Core.Path.{_∙_, ap, sym}
+use mathlib.Core.Path.{ap, sym}
 use lib.Ieee.{ofBits}
 use Rattle.ol_spec.specs.declared.Value.the-variants as Val
 use Rattle.ol_value.proofs.TypeCodes.{int-code, enum-code}

@@ -1,4 +1,4 @@
-use mathlib.Core.Path.{_∙_, ap, sym}
+use mathlib.Core.Path.{_∙_, ap}
 use mir.Facts.{toZ-ofZ}
 use Rattle.ol_spec.specs.Types.{inRange, intTy}
 use Rattle.ol_value.proofs.TypeCodes.{int-code, low-int, high-int}
