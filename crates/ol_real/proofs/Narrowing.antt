@@ -1,21 +1,20 @@
 -- What the proofs of the conversions to a single cite: the digits that a format keeps of a fraction, as the code finds them, and the bits of the rounded number.
-use mathlib.Core.Path.{_≡_, refl, sym, ap, _∙_, subst}
+use mathlib.Core.Path.{_≡_, sym, ap, _∙_, subst}
 use mathlib.Core.Logic.{_⊎_, inl, inr, ⊎-elim, by-cases}
-use mathlib.Core.Bool.{Bool, true, false, not, cond}
-use Prim.Native.Nat.{ℕ, zero, suc, _+_, _-_, _*_, _/_, _%_, _^_, _≤_, _<_, compare, Ordering, Ordering·lt, Ordering·eq, Ordering·gt}
-use native.Mathlib.Nat.{le-trans, le-of-eq, le-of-lt, le-suc, lt-irrefl, lt-of-lt-of-le, lt-of-le-of-lt, mul-pos, mul-assoc, mul-comm, mul-one, mul-left-comm, mul-right-comm, mul-le-mul-right, mul-lt-mul-of-pos-right, mul-lt-mul-of-pos-left, mul-le-mul-left, mul-le-mul, le-of-mul-le-mul-right, lt-of-mul-lt-mul-right, suc-mul, pow-succ', div-lt-iff-lt-mul, le-div-iff-mul-le, zero-mul, zero-lt-suc}
+use mathlib.Core.Bool.{Bool, true, false, cond}
+use Prim.Native.Nat.{ℕ, suc, _+_, _-_, _*_, _/_, _%_, _^_, _≤_, _<_, compare, Ordering, Ordering·lt, Ordering·eq, Ordering·gt}
+use native.Mathlib.Nat.{le-trans, le-of-eq, le-suc, lt-irrefl, lt-of-lt-of-le, lt-of-le-of-lt, mul-pos, mul-assoc, mul-comm, mul-one, mul-left-comm, mul-right-comm, mul-le-mul-right, mul-lt-mul-of-pos-right, mul-lt-mul-of-pos-left, mul-le-mul-left, mul-le-mul, le-of-mul-le-mul-right, lt-of-mul-lt-mul-right, suc-mul, pow-succ', div-lt-iff-lt-mul, le-div-iff-mul-le, zero-lt-suc}
 use native.Mathlib.Omega.{arith}
-use native.Mathlib.Decide.{ℕ-discrete, decLe, decLt}
+use native.Mathlib.Decide.{decLe, decLt}
 use lib.Dec.{T, ltb, lt→ltb}
 use borrow.Author.Tests.{le-ltb}
 use lib.Pow.{pow-add, pow-pos, pow-mono, pow-lt}
-use lib.Ieee.{Float, nan, inf, fin, Format, prec, emax, low, hid, ones, top, size, nearest, odd, units, round, fits}
+use lib.Ieee.{inf, Format, prec, emax, low, hid, ones, top, size, nearest, odd, units, round}
 use lib.Ieee as Ieee
-use lib.Ieee.Digits.{size-le, size-reaches}
+use lib.Ieee.Digits.{size-le}
 use lib.Ieee.Fits.{two, round-is, nearest-le, odd-fits}
-use lib.Ieee.Exact.{HasValue, odd-sign}
+use lib.Ieee.Exact.{odd-sign}
 use lib.Ieee.Nearest.{closest, closest-same, div-same, nearest-ge}
-use lib.Ieee.Scale.{round-same}
 use Rattle.ol_real.specs.Ieee754.{Datum}
 use Rattle.ol_real.specs.Encoding.{Encodes}
 use Rattle.ol_real.proofs.Rounding.{Cmp, cmp, size-more, top-all, top-lead}

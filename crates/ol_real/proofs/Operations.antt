@@ -9,7 +9,7 @@ use lib.IntN.{ℤ, pos, negsuc, negℤ, subℕ, _+ℤ_, +ℤ-comm, +ℤ-idl, +�
 use lib.Dec.{T, eqb, eqb·suc-zero, ltb, eqb→eq, ltb→lt, nltb→le, leb·zero, leb·suc-zero, leb·suc-suc}
 use lib.Pow.{pow-pos}
 use lib.Signed.{ltZ}
-use lib.Ieee.{Float, nan, inf, fin, prec, emax, round, fits, up, down, neg, sum, add, sub, mul, div, ofInt, toSigned, lt, le, eq, below, level, binary32, binary64}
+use lib.Ieee.{Float, nan, inf, fin, emax, round, fits, up, down, neg, sum, add, sub, mul, div, ofInt, toSigned, lt, le, eq, below, level, binary32, binary64}
 use lib.Ieee as Ieee
 use lib.Ieee.Fits.{up-pos, down-pos, two, fits-widens, and-i, and-l, and-r, eq→eqb}
 use Rattle.ol_real.specs.Ieee754.{Format, double, lowest, gap, Rounds, RoundsTo, Counts, signed, unlike, Sum, negated, Negation, Difference, Product, Quotient, FromInt, Converted, saturated, WholePart, Truncated, Less, Equal, LessEq}
@@ -45,19 +45,19 @@ module _ (f : Format) (P : 2 ≤ f .p) (M : 1 ≤ f .emax) where
       (h .0, record { holds = h .1; only = λ r q. rounds-one f s num den r (h .0) (omega arith) D q (h .1) })
 
   roundsTo : (t : Bool) (z : ℤ) (den : ℕ) → 0 < den → One (RoundsTo f t z den)
-  roundsTo t (pos zero) den D = given (fin t 0 (pos 0))
+  roundsTo t (pos zero) den D = given _
   roundsTo t (pos (suc n)) den D = rounds false (suc n) den D
   roundsTo t (negsuc n) den D = rounds true (suc n) den D
 
   pub sum-one : (x y : Float) → One (Sum f x y)
   unfolding Sum
-  sum-one nan y = given nan
-  sum-one (inf s) nan = given nan
-  sum-one (inf s) (inf t) = given (cond (unlike s t) nan (inf s))
-  sum-one (inf s) (fin t n d) = given (inf s)
-  sum-one (fin s m e) nan = given nan
-  sum-one (fin s m e) (inf t) = given (inf t)
-  sum-one (fin s m e) (fin t n d) = roundsTo (s && t) (signed s (m * up e * down d) +ℤ signed t (n * up d * down e)) (down e * down d) (mul-pos (down-pos e) (down-pos d))
+  sum-one nan y = given _
+  sum-one (inf s) nan = given _
+  sum-one (inf s) (inf t) = given _
+  sum-one (inf s) (fin t n d) = given _
+  sum-one (fin s m e) nan = given _
+  sum-one (fin s m e) (inf t) = given _
+  sum-one (fin s m e) (fin t n d) = roundsTo (s && t) (signed s (m * up e * down d) +ℤ signed t (n * up d * down e)) _ (mul-pos (down-pos e) (down-pos d))
 
   pub difference-one : (x y : Float) → One (Difference f x y)
   unfolding Difference
@@ -65,27 +65,27 @@ module _ (f : Format) (P : 2 ≤ f .p) (M : 1 ≤ f .emax) where
 
   pub product-one : (x y : Float) → One (Product f x y)
   unfolding Product
-  product-one nan y = given nan
-  product-one (inf s) nan = given nan
-  product-one (inf s) (inf t) = given (inf (unlike s t))
-  product-one (inf s) (fin t zero d) = given nan
-  product-one (inf s) (fin t (suc n) d) = given (inf (unlike s t))
-  product-one (fin s m e) nan = given nan
-  product-one (fin s zero e) (inf t) = given nan
-  product-one (fin s (suc m) e) (inf t) = given (inf (unlike s t))
-  product-one (fin s m e) (fin t n d) = rounds (unlike s t) (m * up e * (n * up d)) (down e * down d) (mul-pos (down-pos e) (down-pos d))
+  product-one nan y = given _
+  product-one (inf s) nan = given _
+  product-one (inf s) (inf t) = given _
+  product-one (inf s) (fin t zero d) = given _
+  product-one (inf s) (fin t (suc n) d) = given _
+  product-one (fin s m e) nan = given _
+  product-one (fin s zero e) (inf t) = given _
+  product-one (fin s (suc m) e) (inf t) = given _
+  product-one (fin s m e) (fin t n d) = rounds _ _ _ (mul-pos (down-pos e) (down-pos d))
 
   pub quotient-one : (x y : Float) → One (Quotient f x y)
   unfolding Quotient
-  quotient-one nan y = given nan
-  quotient-one (inf s) nan = given nan
-  quotient-one (inf s) (inf t) = given nan
-  quotient-one (inf s) (fin t n d) = given (inf (unlike s t))
-  quotient-one (fin s m e) nan = given nan
-  quotient-one (fin s m e) (inf t) = given (fin (unlike s t) 0 (pos 0))
-  quotient-one (fin s zero e) (fin t zero d) = given nan
-  quotient-one (fin s (suc m) e) (fin t zero d) = given (inf (unlike s t))
-  quotient-one (fin s m e) (fin t (suc n) d) = rounds (unlike s t) (m * up e * down d) (suc n * up d * down e) (mul-pos (mul-pos (zero-lt-suc n) (up-pos d)) (down-pos e))
+  quotient-one nan y = given _
+  quotient-one (inf s) nan = given _
+  quotient-one (inf s) (inf t) = given _
+  quotient-one (inf s) (fin t n d) = given _
+  quotient-one (fin s m e) nan = given _
+  quotient-one (fin s m e) (inf t) = given _
+  quotient-one (fin s zero e) (fin t zero d) = given _
+  quotient-one (fin s (suc m) e) (fin t zero d) = given _
+  quotient-one (fin s m e) (fin t (suc n) d) = rounds _ _ _ (mul-pos (mul-pos (zero-lt-suc n) (up-pos d)) (down-pos e))
 
   pub fromInt-one : (z : ℤ) → One (FromInt f z)
   unfolding FromInt
@@ -93,16 +93,16 @@ module _ (f : Format) (P : 2 ≤ f .p) (M : 1 ≤ f .emax) where
 
   pub converted-one : (x : Float) → One (Converted f x)
   unfolding Converted
-  converted-one nan = given nan
-  converted-one (inf s) = given (inf s)
-  converted-one (fin s m e) = rounds s (m * up e) (down e) (down-pos e)
+  converted-one nan = given _
+  converted-one (inf s) = given _
+  converted-one (fin s m e) = rounds _ _ _ (down-pos e)
 
   pub one-result : OneResult f
   one-result = record { sum = sum-one; difference = difference-one; product = product-one; quotient = quotient-one; fromInt = fromInt-one; converted = converted-one }
 
 pub negation-one : (x : Float) → One (Negation x)
 unfolding Negation
-negation-one x = given (negated x)
+negation-one x = given _
 
 cut : (a b : ℕ) → 0 < b → WholePart a b (a / b)
 cut a b B = record { least = div-mul-le-self a b; most = lt-of-lt-of-le (lt-div-mul-add B) (le-of-eq (sym (suc-mul (a / b) b))) }
@@ -114,8 +114,8 @@ whole-one a b t u B h k = le-antisymm
 
 pub truncated-one : (x : Float) → One (Truncated x)
 unfolding Truncated
-truncated-one nan = given (pos 0)
-truncated-one (inf false) = given (pos (2 ^ 63 - 1))
+truncated-one nan = given _
+truncated-one (inf false) = given _
 truncated-one (inf true) = given (negℤ (pos (2 ^ 63)))
 truncated-one (fin s m e) =
     let w : ℕ = m * up e / down e in

@@ -1,8 +1,8 @@
 -- ol_spec's names for the operations on reals give IEEE 754's results: `ieee754-holds`.
-use mathlib.Core.Path.{_≡_, refl, sym, ap, _∙_, subst}
-use mathlib.Core.Logic.{_≢_, _↔_}
+use mathlib.Core.Path.{_≡_, refl, sym}
+use mathlib.Core.Logic.{_≢_}
 use mathlib.Core.Bool.{not}
-use Prim.Native.Nat.{ℕ, suc, _*_, _^_, _≤_, _<_}
+use Prim.Native.Nat.{ℕ, _*_, _^_, _<_}
 use native.Mathlib.Nat.{lt-of-lt-of-le, le-of-eq}
 use lib.IntN.{ℤ}
 use lib.Dec.{T}
@@ -10,20 +10,19 @@ use lib.Ieee.{Float, nan, inf, fin, binary32, binary64, up, down, top, isNan}
 use lib.Ieee as Ieee
 use lib.Ieee.Fits.{two, down-pos, round-fits, nan-fits, inf-fits, add-fits, sub-fits, mul-fits, div-fits, neg-fits, ofInt-fits, fits-widens}
 use lib.Ieee.Bits.{ofBits-fits, ofBits-toBits, toBits-lt, toBits-ofBits}
-use Rattle.ol_spec.specs.Real.{Real, Precision, fromBits, toBits, addR, subR, mulR, divR, negR, ofInt, roundSingle, widen, truncate, eqR, ltR, leR}
-use Rattle.ol_real.specs.Ieee754.{single, double, IsValue, Sum, Difference, Product, Quotient, Negation, FromInt, Converted, Truncated, Equal, Less, LessEq}
-use Rattle.ol_real.specs.Encoding.{Encodes}
-use Rattle.ol_real.specs.Holds.{Only, One, AtFormat, Ieee754Holds}
+use Rattle.ol_spec.specs.Real.{Real, Precision, zeroR, fromBits, toBits, addR, subR, mulR, divR, negR, ofInt, roundSingle, truncate, eqR, ltR, leR}
+use Rattle.ol_real.specs.Ieee754.{single, double, Sum, Difference, Product, Quotient, Negation, FromInt, Converted, Truncated}
+use Rattle.ol_real.specs.Holds.{Only, AtFormat, Ieee754Holds}
 use Rattle.ol_real.proofs.Values.{of, reaches, fits-value, value-fits, round-rounds}
 use Rattle.ol_real.proofs.Operations as O
 use Rattle.ol_real.proofs.Encodings.{encodes-one, ofBits-encodes, toBits-encodes, encodes-back}
 
 -- a datum that is not the NaN
-no-nan : (x : Float) → x ≢ nan → T (not (isNan x))
+not-nan : (x : Float) → x ≢ nan → T (not (isNan x))
 unfolding isNan
-no-nan nan h = absurd (h refl)
-no-nan (inf s) h = tt
-no-nan (fin s m e) h = tt
+not-nan nan h = absurd (h refl)
+not-nan (inf s) h = tt
+not-nan (fin s m e) h = tt
 
 module _ (f : Precision) where
   sum : (x y : Real) → Only (Sum (of f) x y) (addR f x y)
@@ -46,6 +45,11 @@ module _ (f : Precision) where
   unfolding ofInt
   fromInt z = O.only-at (FromInt (of f) z) (O.fromInt-one (of f) (two f) (reaches f) z) (Ieee.ofInt f z) (O.ofInt-fromInt f z)
 
+zero-bits : (f : Precision) → fromBits f 0 ≡ zeroR
+unfolding fromBits Ieee.ofBits
+zero-bits binary32 = refl
+zero-bits binary64 = refl
+
 -- a precision's names, where its patterns have k bits
 at-format : (f : Precision) (k : ℕ) → 2 * top f ≡ 2 ^ k → AtFormat (of f) f k
 unfolding addR subR mulR divR negR ofInt fromBits toBits
@@ -63,13 +67,14 @@ at-format f k K =
       quotient-value = λ x y. fits-value f _ (div-fits f x y);
       fromInt-value = λ z. fits-value f _ (ofInt-fits f z);
       negation-value = λ x h. fits-value f _ (neg-fits f x (value-fits f x h));
+      zero-decoded = zero-bits f;
       decoded = λ b h. record { holds = ofBits-encodes f b (in-bits b h); only = λ x e. encodes-one (of f) b x (Ieee.ofBits f b) e (ofBits-encodes f b (in-bits b h)) };
       decoded-value = λ b. fits-value f _ (ofBits-fits f b);
       encoded = λ x h. toBits-encodes f x (value-fits f x h);
       encoded-bits = λ x h. lt-of-lt-of-le (toBits-lt f x (value-fits f x h)) (le-of-eq K);
-      encoded-only = λ x b n h e. encodes-back f b x (in-bits b h) (no-nan x n) e;
+      encoded-only = λ x b n h e. encodes-back f b x (in-bits b h) (not-nan x n) e;
       decoded-encoded = λ x h. ofBits-toBits f x (value-fits f x h);
-      encoded-decoded = λ b h n. toBits-ofBits f b (in-bits b h) (no-nan (Ieee.ofBits f b) n);
+      encoded-decoded = λ b h n. toBits-ofBits f b (in-bits b h) (not-nan (Ieee.ofBits f b) n);
     }
 
 rounded : (x : Real) → Converted single x (roundSingle x)

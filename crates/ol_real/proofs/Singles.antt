@@ -3,12 +3,12 @@ use mathlib.Core.Path.{_≡_, refl, sym, ap, _∙_, subst}
 use mathlib.Core.Logic.{_⊎_, inl, inr, by-cases}
 use mathlib.Core.Bool.{Bool, true, false, not, cond}
 use Prim.Native.Nat.{ℕ, zero, suc, _+_, _-_, _*_, _/_, _%_, _^_, _≤_, _<_}
-use native.Mathlib.Nat.{le-trans, le-of-eq, lt-of-lt-of-le, lt-of-le-of-lt, lt-irrefl, mul-pos, mul-assoc, mul-one, one-mul, mul-le-mul-left, mul-le-mul-right, div-lt-iff-lt-mul, div-eq-of-lt, mod-lt, mod-le, mod-eq-of-lt, mod-eq-sub-mod, mod-mod-of-dvd, dvd-mul-right, zero-lt-suc}
+use native.Mathlib.Nat.{le-trans, le-of-eq, lt-of-lt-of-le, lt-irrefl, mul-pos, mul-assoc, mul-one, one-mul, mul-le-mul-left, mul-le-mul-right, div-lt-iff-lt-mul, div-eq-of-lt, mod-lt, mod-le, mod-eq-of-lt, mod-mod-of-dvd, dvd-mul-right, zero-lt-suc}
 use native.Mathlib.Omega.{arith}
 use native.Mathlib.Decide.{decLt, ℕ-discrete}
 use borrow.Author.Tests.{le-ltb, lt-leb, le-leb, ne-eqb}
-use lib.Dec.{T, ltb, leb, eqb, lit<, nltb→le}
-use lib.IntN.{ℤ, pos}
+use lib.Dec.{T, ltb, eqb, lit<, nltb→le}
+use lib.IntN.{pos}
 use lib.Pow.{pow-add, pow-pos, pow-mono, shl-exact}
 use lib.Bits.{bitAnd, and-mask, mask-lt}
 use lib.Count.{leadingZeros, leading-top}

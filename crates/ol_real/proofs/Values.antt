@@ -16,19 +16,13 @@ use lib.Ieee.Fits.{up-pos, down-pos, and-l, and-r, two, odd-fits, round-is}
 use lib.Ieee.Digits.{minus-val}
 use lib.Ieee.Exact.{HasValue, odd-sign}
 use lib.Ieee.Order.{drop, kept}
-use Rattle.ol_real.specs.Ieee754.{Format, single, double, lowest, Form, Number, gap, Nearest, Overflows, Rounds, OneForm, Counts, Datum, IsValue}
+use Rattle.ol_real.specs.Ieee754.{Format, lowest, Form, Number, gap, Nearest, Overflows, Rounds, OneForm, Counts, Datum, IsValue}
 use Rattle.ol_real.proofs.Rounding.{regrid, mul-even, pow-even, exp-less, top-lead, top-all, top, res, largest, largest-top, top-from, half-pos, over, no-overflow, res-nearest, overflows-units, units-overflow, nearest-one, kept-le}
 
 -- ==== lib.Ieee's formats
 
 abbrev pub of : Ieee.Format → Format
 of f = record { p = prec f; emax = emax f }
-
-pub of-single : of Ieee.binary32 ≡ single
-of-single = refl
-
-pub of-double : of Ieee.binary64 ≡ double
-of-double = refl
 
 pub reaches : (f : Ieee.Format) → 1 ≤ emax f
 reaches Ieee.binary32 = lit≤ tt
@@ -210,12 +204,6 @@ module _ (f : Ieee.Format) (s : Bool) (num den : ℕ) (D : 0 < den) where
 
   pub round-rounds : Rounds (of f) s num den (round f s num den)
   round-rounds = subst (λ (x : Float). Rounds (of f) s num den x) (sym (round-is f s num den)) units-rounds
-
--- ==== what is rounded is a datum of the format
-pub rounds-value : (f : Format) (s : Bool) (num den : ℕ) (x : Float) → Rounds f s num den x → IsValue f x
-rounds-value f s num den (inf t) h = tt
-rounds-value f s num den (fin t m e) h =
-    let r : Nearest f (num * 2 ^ lowest f) den (h .1 .n) = h .1 .nearest in (h .1 .written, h .1 .n, h .1 .counts, record { c = r .c; k = r .k; form = r .form })
 
 -- ==== a datum of the format is its own rounding
 own-overflow : (f : Format) (x den n : ℕ) (P : 2 ≤ f .p) (M : 1 ≤ f .emax) → 0 < den → Number f n → x * 2 ^ lowest f ≡ n * den → ¬ Overflows f x den

@@ -7,7 +7,7 @@ use lib.IntN.{ℤ}
 use lib.Dec.{T}
 use lib.Ieee.{nan}
 use Rattle.ol_spec.specs.Real as R
-use Rattle.ol_spec.specs.Real.{Real, Precision, fromBits, toBits, addR, subR, mulR, divR, negR, ofInt, roundSingle, widen, truncate, eqR, ltR, leR}
+use Rattle.ol_spec.specs.Real.{Real, Precision, zeroR, fromBits, toBits, addR, subR, mulR, divR, negR, ofInt, roundSingle, widen, truncate, eqR, ltR, leR}
 use Rattle.ol_real.specs.Ieee754.{Format, single, double, IsValue, Sum, Difference, Product, Quotient, Negation, FromInt, Converted, Truncated, Equal, Less, LessEq}
 use Rattle.ol_real.specs.Encoding.{Encodes}
 
@@ -43,6 +43,8 @@ pub record AtFormat (g : Format) (f : Precision) (k : ℕ) : Type 0 where
   pub quotient-value : (x y : Real) → IsValue g (divR f x y)
   pub fromInt-value : (z : ℤ) → IsValue g (ofInt f z)
   pub negation-value : (x : Real) → IsValue g x → IsValue g (negR x)
+  -- 0.0 is the pattern of zeros
+  pub zero-decoded : fromBits f 0 ≡ zeroR
   -- each pattern encodes one datum, a NaN's the one NaN; each datum has a pattern, and one only but for the NaN
   pub decoded : (b : ℕ) → b < 2 ^ k → Only (Encodes g b) (fromBits f b)
   pub decoded-value : (b : ℕ) → IsValue g (fromBits f b)
@@ -52,6 +54,7 @@ pub record AtFormat (g : Format) (f : Precision) (k : ℕ) : Type 0 where
   pub decoded-encoded : (x : Real) → IsValue g x → fromBits f (toBits f x) ≡ x
   pub encoded-decoded : (b : ℕ) → b < 2 ^ k → fromBits f b ≢ nan → toBits f (fromBits f b) ≡ b
 
+-- every name of ol_spec's reals
 pub record Ieee754Holds : Type 0 where
   pub one-result : (g : Format) → 2 ≤ g .p → 1 ≤ g .emax → OneResult g
   pub at-single : AtFormat single R.single 32

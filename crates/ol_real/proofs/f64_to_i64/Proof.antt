@@ -3,8 +3,8 @@ use mir.Syntax.{w64}
 use mir.ValLaws.{toZ-ofZ}
 use lib.Dec.{T}
 use lib.IntN.{pos}
-use mathlib.Core.Bool.{Bool, true, false, not}
-use lib.Ieee.{Float, fin, le, lt, isNan}
+use mathlib.Core.Bool.{true, false, not}
+use lib.Ieee.{Float, fin, le, isNan}
 use Rattle.ol_spec.specs.Real.{truncate}
 use Rattle.ol_real.proofs.Conversions.{yes, no, no-nan, less-of-not, limit, lower-limit, nan-cut, cut-high, cut-low}
 use Rattle.ol_real.proofs.f64_to_i64.Statement.{statement}
