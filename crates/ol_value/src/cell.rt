@@ -15,12 +15,14 @@ use ol_real::f64_bits;
 use ol_real::f64_of_bits;
 use ol_spec::Value;
 
+// A byte as a number.
 fn wide(b: u8) -> u64
     ensures { λ r. ⌜ r ≡ b ⌝ }
 {
     b as u64
 }
 
+// A number's last byte.
 fn low_byte(n: u64) -> u8
     ensures { λ r. ⌜ r ≡ n % 256 ⌝ }
 {
@@ -74,6 +76,7 @@ pub fn int_of_bits(p: u64) -> i64
     }
 }
 
+// A value's tag: 0 Bool, 1 Int, 2 Float, 3 Float32, 4 Enum.
 pub fn tag_of(v: Value) -> u8
     ensures { λ r. ⌜ r ≡ tag v ⌝ }
 {
@@ -86,6 +89,7 @@ pub fn tag_of(v: Value) -> u8
     }
 }
 
+// A value's payload.
 pub fn payload_of(v: Value) -> u64
     ensures { λ r. ⌜ r ≡ payload v ⌝ }
 {

@@ -77,6 +77,7 @@ fn quotient_fits(a: i64, b: i64) -> bool
     if b == -1 { a != LOWEST } else { true }
 }
 
+// Add: the sum, or an overflow.
 pub fn add_ints(a: i64, b: i64) -> Outcome
     ensures { λ r. ⌜ r ≡ exact (a +ℤ b) ⌝ }
 {
@@ -87,6 +88,7 @@ pub fn add_ints(a: i64, b: i64) -> Outcome
     }
 }
 
+// Sub: the difference, or an overflow.
 pub fn sub_ints(a: i64, b: i64) -> Outcome
     ensures { λ r. ⌜ r ≡ exact (a -ℤ b) ⌝ }
 {
@@ -97,6 +99,7 @@ pub fn sub_ints(a: i64, b: i64) -> Outcome
     }
 }
 
+// Mul: the product, or an overflow.
 pub fn mul_ints(a: i64, b: i64) -> Outcome
     ensures { λ r. ⌜ r ≡ exact (a *ℤ b) ⌝ }
 {
@@ -107,6 +110,7 @@ pub fn mul_ints(a: i64, b: i64) -> Outcome
     }
 }
 
+// Neg: the lowest number overflows.
 pub fn neg_int(a: i64) -> Outcome
     ensures { λ r. ⌜ r ≡ exact (negℤ a) ⌝ }
 {
@@ -145,18 +149,21 @@ pub fn mod_ints(a: i64, b: i64) -> Outcome
     }
 }
 
+// BitAnd of the 64 bits.
 pub fn bit_and(a: i64, b: i64) -> Outcome
     ensures { λ r. ⌜ r ≡ onBits bitAnd a b ⌝ }
 {
     Outcome::Value(Value::Int(a & b))
 }
 
+// BitOr of the 64 bits.
 pub fn bit_or(a: i64, b: i64) -> Outcome
     ensures { λ r. ⌜ r ≡ onBits bitOr a b ⌝ }
 {
     Outcome::Value(Value::Int(a | b))
 }
 
+// BitXor of the 64 bits.
 pub fn bit_xor(a: i64, b: i64) -> Outcome
     ensures { λ r. ⌜ r ≡ onBits bitXor a b ⌝ }
 {
@@ -192,30 +199,35 @@ pub fn shr_ints(a: i64, b: i64) -> Outcome
     }
 }
 
+// Eq.
 pub fn eq_ints(a: i64, b: i64) -> bool
     ensures { λ r. ⌜ r ≡ eqZ a b ⌝ }
 {
     a == b
 }
 
+// Lt.
 pub fn lt_ints(a: i64, b: i64) -> bool
     ensures { λ r. ⌜ r ≡ ltZ a b ⌝ }
 {
     a < b
 }
 
+// Le.
 pub fn le_ints(a: i64, b: i64) -> bool
     ensures { λ r. ⌜ r ≡ leZ a b ⌝ }
 {
     a <= b
 }
 
+// Gt.
 pub fn gt_ints(a: i64, b: i64) -> bool
     ensures { λ r. ⌜ r ≡ ltZ b a ⌝ }
 {
     a > b
 }
 
+// Ge.
 pub fn ge_ints(a: i64, b: i64) -> bool
     ensures { λ r. ⌜ r ≡ leZ b a ⌝ }
 {

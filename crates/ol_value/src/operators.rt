@@ -33,6 +33,7 @@ fn bool_out(b: bool) -> Outcome
     Outcome::Value(Value::Bool(b))
 }
 
+// And to Neq of two Bools.
 fn eval_bools(op: u8, a: bool, b: bool) -> Outcome
     ensures { λ r. ⌜ r ≡ pairBy op (bools a b) ⌝ }
 {
@@ -90,6 +91,7 @@ fn combine_ints(op: u8, i: i64, j: i64) -> Outcome
     }
 }
 
+// Eq to Shr of two integers.
 fn eval_ints(op: u8, i: i64, j: i64) -> Outcome
     ensures { λ r. ⌜ r ≡ pairBy op (ints i j) ⌝ }
 {
@@ -140,6 +142,7 @@ fn compute_singles(op: u8, x: f32, y: f32) -> Outcome
     }
 }
 
+// Eq to Div of two singles.
 fn eval_singles(op: u8, x: f32, y: f32) -> Outcome
     ensures { λ r. ⌜ r ≡ pairBy op (reals single x y) ⌝ }
 {
@@ -189,6 +192,7 @@ fn compute_doubles(op: u8, x: f64, y: f64) -> Outcome
     }
 }
 
+// Eq to Div of two doubles.
 fn eval_doubles(op: u8, x: f64, y: f64) -> Outcome
     ensures { λ r. ⌜ r ≡ pairBy op (reals double x y) ⌝ }
 {
@@ -199,6 +203,7 @@ fn eval_doubles(op: u8, x: f64, y: f64) -> Outcome
     }
 }
 
+// Eq and Neq of two names.
 fn eval_names(op: u8, v: u16, w: u16) -> Outcome
     ensures { λ r. ⌜ r ≡ pairBy op (names v w) ⌝ }
 {
@@ -235,6 +240,7 @@ pub fn eval_binary(op: u8, l: Value, r: Value) -> Outcome
     }
 }
 
+// Not, of a Bool.
 pub fn unary_not(v: Value) -> Outcome
     ensures { λ r. ⌜ r ≡ notOf v ⌝ }
 {
@@ -247,6 +253,7 @@ pub fn unary_not(v: Value) -> Outcome
     }
 }
 
+// Neg, of a number.
 pub fn unary_neg(v: Value) -> Outcome
     ensures { λ r. ⌜ r ≡ negOf v ⌝ }
 {

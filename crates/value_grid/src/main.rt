@@ -12,12 +12,14 @@ use std::num::wrapping_add_u64;
 // How many cells the grid has.
 const CELLS: u64 = 42;
 
+// The next byte of the list.
 fn next_byte() -> u8 {
     let mut one = [0u8; 1];
     io::read_full(STDIN_FILENO, &mut one);
     one[0]
 }
 
+// The next nine bytes of the list.
 fn next_cell() -> [u8; 9] {
     let mut nine = [0u8; 9];
     io::read_full(STDIN_FILENO, &mut nine);
@@ -42,6 +44,7 @@ fn value_agrees(head: u8, nine: [u8; 9], v: Value) -> bool {
     }
 }
 
+// Whether an answer is this outcome.
 fn outcome_agrees(head: u8, nine: [u8; 9], o: Outcome) -> bool {
     match o {
         Outcome::Value(v) => value_agrees(head, nine, v),
@@ -79,6 +82,7 @@ fn cell_agrees() -> bool {
     mine == (next_byte() == 1)
 }
 
+// A code, of a small number.
 fn code(x: u64) -> u8 {
     (x % 256) as u8
 }
@@ -135,6 +139,7 @@ fn report(label: &[u8], section: u8, count: u64, grid: &[u8]) {
     io::write_all(STDOUT_FILENO, b"\n");
 }
 
+// Each section of the list, with a line on each.
 fn main() {
     let mut space = [0u8; 378];
     io::read_full(STDIN_FILENO, &mut space);
