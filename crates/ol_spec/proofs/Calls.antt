@@ -52,6 +52,10 @@ module _ (ns : List Node) (lower : (k c : ℕ) → c ∈ sites (getD ns k noNode
       ∙ siteSizeBy-same (n .kind) _ _ n (sitesSize-same _ _ (sites n) (λ c m. sizes-stable d d′ c (omega (arith, lower k c m)) (omega (arith, lower k c m))))
       ∙ sym (sizes-suc d′ k)
 
+  -- the bytes of a call site of node k, by the sizes of all
+  pub site-size : (k : ℕ) → k < length ns → sizeIn (sizesAt (length ns) ns) k ≡ siteSize (sizesAt (length ns) ns) (getD ns k noNode)
+  site-size k h = sizes-stable (length ns) (suc (length ns)) k h (omega arith) ∙ sizes-suc (length ns) k
+
 -- a number that every node may call with so many arguments
 abbrev pub mayBe : Globals → ℕ → ℕ → Bool
 mayBe g c m = ltb c (length (g .nodes)) && eqb m (length (nodeAt g c .inputs))
@@ -97,7 +101,7 @@ module _ {f : File} {vs : List Value} (a : Callable f vs) where
 
   -- a call site's size, and whether its record is good, where that depth suffices
   size-of : (k : ℕ) (t : NodeKind) → k < D → nodeAt g k .kind ≡ t → recordSize g k ≡ siteSizeBy t (g .sizes) (nodeAt g k)
-  size-of k t h e = sizes-stable (f .nodes) (a .lower) D (suc D) k h (omega arith) ∙ sizes-suc (f .nodes) (a .lower) D k ∙ ap (λ t. siteSizeBy t (g .sizes) (nodeAt g k)) e
+  size-of k t h e = site-size (f .nodes) (a .lower) k h ∙ ap (λ t. siteSizeBy t (g .sizes) (nodeAt g k)) e
 
   good-of : (k : ℕ) (t : NodeKind) (r : List ℕ) → k < D → nodeAt g k .kind ≡ t → isGood f vs k r ≡ goodBy g t (isGood f vs) (nodeAt g k) r
   unfolding goodAt
