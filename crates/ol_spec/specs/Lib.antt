@@ -19,5 +19,6 @@ pub mod Cycle
 pub mod Demand3
 pub mod Build
 pub mod Bench
+pub mod Within
 pub mod Examples
 pub mod Readings
