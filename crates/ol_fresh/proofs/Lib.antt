@@ -1,3 +1,6 @@
 pub mod Walk
 pub mod Filling
 pub mod Cells
+pub mod Fits
+pub mod Told
+pub mod Records
