@@ -4,3 +4,4 @@ pub mod Cells
 pub mod Fits
 pub mod Told
 pub mod Records
+pub mod Fresh

@@ -110,6 +110,9 @@ module _ {f : File} {s tab rows : List ℕ} (known : Known f s tab rows) {k : �
   pub operator-size : nodeOf f k .kind ≡ Operator → siteBytes f k ≡ ownSize (nodeOf f k) + sitesSize (sizesOf f) (sites (nodeOf f k))
   operator-size e = size-of f [] (known .lower) k below ∙ ap (λ t. siteSizeBy t (sizesOf f) (nodeOf f k)) e
 
+  pub own-room : nodeOf f k .kind ≡ Operator → 1 + 9 * rowAt rows k 4 ≤ siteBytes f k
+  own-room e = omega (arith, own-size, operator-size e)
+
   pub no-size : (nodeOf f k .kind ≡ Operator → ⊥) → siteBytes f k ≡ 0
   no-size other = size-of f [] (known .lower) k below ∙ go (nodeOf f k .kind) other
     where
@@ -179,3 +182,8 @@ module _ {f : File} {s tab rows : List ℕ} (known : Known f s tab rows) {k : �
 
     pub no-site : r .found ≡ false → callees rest ≡ []
     no-site e = subst (λ b. NextBy b f s at (callees rest) r) e (n .next (rest .left))
+
+-- none are left: all bytes are used
+pub all-used : {f : File} {s : List ℕ} {k total used at eqs pending : ℕ} (rest : Rest f s k total used at eqs pending) → callees rest ≡ [] → used ≡ total
+unfolding sitesSize
+all-used {f} {s} {k} {total} {used} rest e = let q = ap (sitesSize (sizesOf f)) e in omega (arith, rest .room, q)
