@@ -6,7 +6,7 @@ use mathlib.Core.Path.{_≡_, refl, sym, ap, subst, _∙_}
 use native.Mathlib.Omega.{arith}
 use native.Mathlib.Nat.{zero-add}
 use lib.Dec.{T}
-use lib.ListN.{length, getD}
+use lib.ListN.{length, getD, length-append}
 use Rattle.ol_theory.specs.Member.{_∈_}
 use Rattle.ol_spec.specs.Lists.{concat}
 use Rattle.ol_spec.specs.Syntax.{NodeKind, Function, Operator, Imported, Exprs, nil, Node, File, variables, noNode}
@@ -90,6 +90,14 @@ module _ {f : File} {s tab rows : List ℕ} (known : Known f s tab rows) {k : �
       let fs = fits f (known .within) in
       ap (cellsAt tab rows k 0) (row-of .variables)
       ∙ cells-told (f .enums) rows (known .rowed .firsts) (fs .variants) tab k (variables (nodeOf f k)) 0 (fits-here .vars) (λ j h. ap (codeAt tab k) (zero-add j) ∙ t .codes j h) (λ j h. ap (enumAt tab k) (zero-add j) ∙ t .enums j h)
+
+  pub variables-told : rowAt rows k 4 ≡ length (variables (nodeOf f k))
+  variables-told = row-of .variables
+
+  pub few-variables : rowAt rows k 4 ≤ 112
+  few-variables =
+      let n = nodeOf f k in
+      omega (arith, variables-told, length-append (n .inputs ++ n .outputs) (n .locals), length-append (n .inputs) (n .outputs), fits-here .inputs, fits-here .outputs, fits-here .locals)
 
   pub own-size : 1 + 9 * rowAt rows k 4 ≡ ownSize (nodeOf f k)
   own-size = ap (λ n. 1 + 9 * n) (row-of .variables)

@@ -1,3 +1,60 @@
 // An old state and inputs, judged: 15 and 16.
+ghost use mathlib.Core.Path.{_≡_};
+ghost use mathlib.Core.List.{List};
+ghost use lib.ListN.{length};
+ghost use Rattle.ol_spec.specs.declared.Value.{Value};
+ghost use Rattle.ol_spec.specs.State.{globalsOf, goodAt};
+ghost use Rattle.ol_tree.specs.At.{fileAt};
+ghost use Rattle.ol_tree.specs.Tables.{Variants};
+ghost use Rattle.ol_fresh.specs.Known.{Sited};
+
 pub mod cells; // cells.rt: cells and bytes
 pub mod own; // own.rt: a record's started byte and cells
+
+use ol_fresh::defaults::row;
+use ol_fresh::sites::next_site;
+use own::good_own;
+
+// Whether the record of a call site of node k, which is all of `r`, is good: its own bytes, then the
+// records of its own call sites. Only an Operator's call site has one.
+pub fn good_record(
+    file: &[u8],
+    tab: &[u8],
+    rows: &[usize],
+    variants: &[u8],
+    k: usize,
+    r: &[u8],
+) -> bool
+    requires { ⌜ Sited (fileAt (now file)) (now file) (now tab) (now rows) k (now r) × Variants (fileAt (now file)) (now variants) ⌝ }
+    ensures { λ b. ⌜ ((vs : List Value) → b ≡ goodAt (globalsOf (fileAt (now (file .entry))) vs) (length (fileAt (now (file .entry)) .nodes)) k (now (r .entry))) ⌝ }
+{
+    if row(rows, k, 0) == 1 {
+        if good_own(tab, rows, variants, k, r) {
+            let mut used = 1 + 9 * row(rows, k, 4);
+            let mut at = row(rows, k, 1);
+            let mut eqs = row(rows, k, 5);
+            let mut pending: usize = 0;
+            loop {
+                let s = next_site(file, at, eqs, pending);
+                if s.found {
+                    let c = s.callee;
+                    let end = used + row(rows, c, 6);
+                    if good_record(file, tab, rows, variants, c, &r[used..end]) {
+                        used = end;
+                        at = s.at;
+                        eqs = s.eqs;
+                        pending = s.pending;
+                    } else {
+                        return false;
+                    }
+                } else {
+                    return true;
+                }
+            }
+        } else {
+            false
+        }
+    } else {
+        true
+    }
+}
