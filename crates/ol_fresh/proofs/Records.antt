@@ -1,5 +1,5 @@
 -- A node's record: where its equations stand, what the tables say of it, and the walk over its call sites with the bytes of their records.
-use Prim.Native.Nat.{ℕ, zero, suc, _+_, _*_, _<_, _≤_, min}
+use Prim.Native.Nat.{ℕ, zero, suc, _+_, _-_, _*_, _<_, _≤_, min}
 use mathlib.Core.Bool.{Bool, true, false}
 use mathlib.Core.List.{List, [], _∷_, _++_, map, List·Memᴰ·head as here, List·Memᴰ·tail as there}
 use mathlib.Core.Path.{_≡_, refl, sym, ap, subst, _∙_}
@@ -8,11 +8,11 @@ use native.Mathlib.Nat.{zero-add}
 use lib.Dec.{T}
 use lib.ListN.{length, getD, length-append}
 use Rattle.ol_theory.specs.Member.{_∈_}
-use Rattle.ol_spec.specs.Lists.{concat}
-use Rattle.ol_spec.specs.Syntax.{NodeKind, Function, Operator, Imported, Exprs, nil, Node, File, variables, noNode}
+use Rattle.ol_spec.specs.Lists.{concat, sum}
+use Rattle.ol_spec.specs.Syntax.{NodeKind, Function, Operator, Imported, Exprs, nil, Node, File, variables, noNode, lastOf, main}
 use Rattle.ol_spec.specs.Cell.{cells}
 use Rattle.ol_spec.specs.Types.{defaults}
-use Rattle.ol_spec.specs.Places.{placed, nodeSize, placedNodes, equationsStart}
+use Rattle.ol_spec.specs.Places.{placed, nodeSize, constantSize, constantsStart, placedNodes, equationsStart}
 use Rattle.ol_spec.specs.Encode.{encode, kindCode, nodeBytes, equationBytes}
 use Rattle.ol_spec.specs.Limits.{base}
 use Rattle.ol_spec.specs.Within.{nodeFits}
@@ -25,8 +25,9 @@ use Rattle.ol_spec.proofs.RoundTrip.Parts.{Here, here-nil, here-back}
 use Rattle.ol_spec.proofs.RoundTrip.Placed.{NodeHere, node-here, FileHere, file-here}
 use Rattle.ol_tree.specs.Tables.{Rows, Tab, RowOf, TabOf, codeAt, enumAt, rowAt, nodeOf, siteBytes, placeOf, sizeCap}
 use Rattle.ol_tree.specs.Heads.{Standing}
+use Rattle.ol_tree.proofs.Heads.{here-first}
 use Rattle.ol_fresh.specs.declared.sites.Site.{Site}
-use Rattle.ol_fresh.specs.Known.{Known}
+use Rattle.ol_fresh.specs.Known.{Counted, Known}
 use Rattle.ol_fresh.specs.Ahead.{sitesLeft, Ahead, ahead, Later, Met, NextBy, NextSite}
 use Rattle.ol_fresh.specs.Defaults.{cellsAt}
 use Rattle.ol_fresh.proofs.Fits.{Fits, fits, NodeFits, node-fits, all-nth}
@@ -131,6 +132,38 @@ module _ {f : File} {s tab rows : List ℕ} (known : Known f s tab rows) {k : �
 
   pub size-told : siteBytes f k ≤ sizeCap → rowAt rows k 6 ≡ siteBytes f k
   size-told h = row-of .size ∙ omega arith
+
+-- ---- the main node
+
+pub record Count (f : File) (s rows : List ℕ) : Type 0 where
+  pub after : 1 ≤ rowAt rows 0 7
+  pub is : getD s (rowAt rows 0 7 - 1) 0 ≡ length (f .nodes)
+  pub some : 1 ≤ length (f .nodes)
+
+-- the nodes' count stands before the first node
+pub nodes-count : {f : File} {s rows : List ℕ} → Counted f s rows → Count f s rows
+nodes-count {f} {s} {rows} c =
+    let some = fits f (c .within) .some in
+    let at = constantsStart f + sum (map constantSize (f .constants)) in
+    let p : rowAt rows 0 7 ≡ at + 1 = c .rowed .rowsOf 0 (omega arith) .place ∙ first (f .nodes) (at + 1) some in
+    let q : at ≡ rowAt rows 0 7 - 1 = omega arith in
+    let h = subst (λ l. Here l at (length (f .nodes) ∷ [])) (c .encoded) (file-here f .nodes .0) in
+    record { after = omega arith; is = ap (λ n. getD s n 0) (sym q) ∙ here-first (length (f .nodes)) [] h; some = some }
+  where
+    first : (ns : List Node) (at : ℕ) → 1 ≤ length ns → placeOf (placed nodeSize at ns) 0 ≡ at
+    first [] at h = absurd (omega arith)
+    first (n ∷ ns) at h = refl
+
+-- the main node is the last one
+pub main-is : (f : File) (k : ℕ) → k + 1 ≡ length (f .nodes) → main f ≡ nodeOf f k
+main-is f k e = go (f .nodes) k e
+  where
+    go : (ns : List Node) (k : ℕ) → k + 1 ≡ length ns → lastOf ns ≡ getD ns k noNode
+    go [] k e = absurd (omega arith)
+    go (n ∷ []) zero e = refl
+    go (n ∷ []) (suc k) e = absurd (omega arith)
+    go (n ∷ m ∷ ns) zero e = absurd (omega arith)
+    go (n ∷ m ∷ ns) (suc k) e = go (m ∷ ns) k (omega arith)
 
 -- ---- the walk over the records of its call sites
 

@@ -12,6 +12,12 @@ use Rattle.ol_spec.specs.Within.{within}
 use Rattle.ol_spec.specs.Step.{sites}
 use Rattle.ol_tree.specs.Tables.{Rows, Tab, nodeOf, siteBytes, sizeCap}
 
+-- the file is the encoding of its tree, and `rows` is right
+pub record Counted (f : File) (s rows : List ℕ) : Type 0 where
+  pub encoded : encode f ≡ s
+  pub within : T (within relayLoader f)
+  pub rowed : Rows f rows
+
 pub record Known (f : File) (s tab rows : List ℕ) : Type 0 where
   pub encoded : encode f ≡ s
   pub within : T (within relayLoader f)

@@ -1,19 +1,29 @@
 // Fresh records, and the walk over the call sites of a node.
 ghost use mathlib.Core.Path.{_≡_};
 ghost use mathlib.Core.List.{List};
+ghost use Prim.Native.Nat.{_+_};
 ghost use lib.ListN.{length};
 ghost use Rattle.ol_spec.specs.declared.Value.{Value};
 ghost use Rattle.ol_spec.specs.Step.{freshAt};
 ghost use Rattle.ol_spec.specs.State.{globalsOf};
 ghost use Rattle.ol_tree.specs.At.{fileAt};
-ghost use Rattle.ol_fresh.specs.Known.{Sited};
+ghost use Rattle.ol_fresh.specs.Known.{Counted, Sited};
 
 pub mod defaults; // defaults.rt: the started byte and the default cells of a fresh record
 pub mod sites; // sites.rt: the call sites of a node, in file order
 
 use defaults::row;
 use defaults::write_own;
+use ol_check::bytes::byte;
 use sites::next_site;
+
+// The number of the main node, the last one: the nodes' count stands before the first node.
+pub fn main_node(file: &[u8], rows: &[usize]) -> usize
+    requires { ⌜ Counted (fileAt (now file)) (now file) (now rows) ⌝ }
+    ensures { λ r. ⌜ r + 1 ≡ length (fileAt (now (file .entry)) .nodes) ⌝ }
+{
+    byte(file, row(rows, 0, 7) - 1) - 1
+}
 
 // Writes the fresh record of a call site of node k, which is all of `out`: byte 0 and default cells,
 // then the fresh records of its own call sites. Only an Operator's call site has one.
