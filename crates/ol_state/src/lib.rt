@@ -3,15 +3,19 @@ ghost use mathlib.Core.Path.{_≡_};
 ghost use mathlib.Core.List.{List};
 ghost use lib.ListN.{length};
 ghost use Rattle.ol_spec.specs.declared.Value.{Value};
-ghost use Rattle.ol_spec.specs.State.{globalsOf, goodAt};
+ghost use Rattle.ol_spec.specs.Cell.{cells};
+ghost use Rattle.ol_spec.specs.State.{globalsOf, goodAt, goodState};
 ghost use Rattle.ol_tree.specs.At.{fileAt};
 ghost use Rattle.ol_tree.specs.Tables.{Variants};
 ghost use Rattle.ol_fresh.specs.Known.{Sited};
+ghost use Rattle.ol_state.specs.Ready.{Ready};
 
 pub mod cells; // cells.rt: cells and bytes
 pub mod own; // own.rt: a record's started byte and cells
 
+use cells::same_bytes;
 use ol_fresh::defaults::row;
+use ol_fresh::main_node;
 use ol_fresh::sites::next_site;
 use own::good_own;
 
@@ -56,5 +60,31 @@ pub fn good_record(
         }
     } else {
         true
+    }
+}
+
+// 15: whether an old state is well formed: its length, the constants' cells, then the main record.
+// `consts` has the constants' cells.
+pub fn good_state(
+    file: &[u8],
+    tab: &[u8],
+    rows: &[usize],
+    variants: &[u8],
+    consts: &[u8],
+    state: &[u8],
+) -> bool
+    requires { ⌜ Ready (fileAt (now file)) (now file) (now tab) (now rows) (now variants) (now consts) ⌝ }
+    ensures { λ b. ⌜ ((vs : List Value) → now (consts .entry) ≡ cells vs → b ≡ goodState (fileAt (now (file .entry))) vs (now (state .entry))) ⌝ }
+{
+    let k = main_node(file, rows);
+    let head = consts.len();
+    if state.len() == head + row(rows, k, 6) {
+        if same_bytes(&state[..head], consts) {
+            good_record(file, tab, rows, variants, k, &state[head..])
+        } else {
+            false
+        }
+    } else {
+        false
     }
 }
