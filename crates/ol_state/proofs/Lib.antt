@@ -1,3 +1,4 @@
 pub mod Judged
 pub mod Records
 pub mod States
+pub mod Enums

@@ -1,2 +1,3 @@
 pub mod Own
 pub mod Ready
+pub mod Inputs

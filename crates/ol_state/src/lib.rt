@@ -11,6 +11,7 @@ ghost use Rattle.ol_fresh.specs.Known.{Sited};
 ghost use Rattle.ol_state.specs.Ready.{Ready};
 
 pub mod cells; // cells.rt: cells and bytes
+pub mod inputs; // inputs.rt: inputs
 pub mod own; // own.rt: a record's started byte and cells
 
 use cells::same_bytes;
