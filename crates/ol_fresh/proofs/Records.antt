@@ -45,10 +45,10 @@ abbrev pub sizesOf : File → List ℕ
 sizesOf f = sizesAt (length (f .nodes)) (f .nodes)
 
 module _ {f : File} {s tab rows : List ℕ} (known : Known f s tab rows) {k : ℕ} (below : k < length (f .nodes)) where
-  row-of : RowOf f rows k
+  pub row-of : RowOf f rows k
   row-of = known .rowed .rowsOf k below
 
-  fits-here : NodeFits (length (f .enums)) (nodeOf f k)
+  pub fits-here : NodeFits (length (f .enums)) (nodeOf f k)
   fits-here = node-fits (all-nth (nodeFits base (length (f .enums))) (f .nodes) noNode k (fits f (known .within) .node) below)
 
   node-at : NodeHere s (placeOf (placedNodes f) k) (nodeOf f k)

@@ -2,3 +2,4 @@ pub mod Judged
 pub mod Records
 pub mod States
 pub mod Enums
+pub mod Each

@@ -4,10 +4,10 @@ ghost use mathlib.Core.List.{List};
 ghost use lib.ListN.{length};
 ghost use Rattle.ol_spec.specs.declared.Value.{Value};
 ghost use Rattle.ol_spec.specs.Cell.{cells};
-ghost use Rattle.ol_spec.specs.State.{globalsOf, goodAt, goodState};
+ghost use Rattle.ol_spec.specs.State.{globalsOf, goodAt, goodState, goodInputs};
 ghost use Rattle.ol_tree.specs.At.{fileAt};
 ghost use Rattle.ol_tree.specs.Tables.{Variants};
-ghost use Rattle.ol_fresh.specs.Known.{Sited};
+ghost use Rattle.ol_fresh.specs.Known.{Known, Sited};
 ghost use Rattle.ol_state.specs.Ready.{Ready};
 
 pub mod cells; // cells.rt: cells and bytes
@@ -15,6 +15,8 @@ pub mod inputs; // inputs.rt: inputs
 pub mod own; // own.rt: a record's started byte and cells
 
 use cells::same_bytes;
+use inputs::judge_input;
+use ol_check::bytes::byte;
 use ol_fresh::defaults::row;
 use ol_fresh::main_node;
 use ol_fresh::sites::next_site;
@@ -85,6 +87,32 @@ pub fn good_state(
         } else {
             false
         }
+    } else {
+        false
+    }
+}
+
+// 16: whether inputs are a cell for each input of the main node, good, and of its type's kind, range
+// and enum.
+pub fn good_inputs(file: &[u8], tab: &[u8], rows: &[usize], variants: &[u8], inputs: &[u8]) -> bool
+    requires { ⌜ Known (fileAt (now file)) (now file) (now tab) (now rows) × Variants (fileAt (now file)) (now variants) ⌝ }
+    ensures { λ b. ⌜ b ≡ goodInputs (fileAt (now (file .entry))) (now (inputs .entry)) ⌝ }
+{
+    let k = main_node(file, rows);
+    let n = row(rows, k, 2);
+    if inputs.len() == 9 * n {
+        let mut i: usize = 0;
+        while i < n {
+            let p = 2560 + (k * 112 + i) * 2;
+            let code = byte(tab, p);
+            let number = byte(tab, p + 1);
+            if judge_input(file, variants, code, number, inputs, 9 * i) {
+                i += 1;
+            } else {
+                return false;
+            }
+        }
+        true
     } else {
         false
     }
