@@ -5,3 +5,4 @@ pub mod Fits
 pub mod Told
 pub mod Records
 pub mod Fresh
+pub mod Admission

@@ -3,3 +3,4 @@ pub mod Records
 pub mod States
 pub mod Enums
 pub mod Each
+pub mod Admission
