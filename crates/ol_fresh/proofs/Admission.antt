@@ -1,16 +1,16 @@
 -- An admitted file, with tables that are right, is what the walks are told.
 use Prim.Native.Nat.{ℕ}
 use mathlib.Core.List.{List}
-use mathlib.Core.Path.{_≡_, sym, ap, subst, _∙_}
+use mathlib.Core.Path.{_≡_, ap}
 use lib.ListN.{length}
 use Rattle.ol_spec.specs.Syntax.{File}
 use Rattle.ol_spec.specs.Limits.{relayLoader}
 use Rattle.ol_spec.specs.Admission.{judge, admitted}
 use Rattle.ol_spec.specs.Demand3.{Bytes}
 use Rattle.ol_spec.specs.declared.Value.{Value}
-use Rattle.ol_spec.proofs.ReadFacts.{FileRead, file-read}
-use Rattle.ol_spec.proofs.Admits.{Admits, admits}
-use Rattle.ol_spec.proofs.Admitted.{Facts, facts}
+use Rattle.ol_spec.proofs.ReadFacts.{file-read}
+use Rattle.ol_spec.proofs.Admits.{admits}
+use Rattle.ol_spec.proofs.Admitted.{facts}
 use Rattle.ol_spec.proofs.RoundTrip.{encode-read}
 use Rattle.ol_tree.specs.At.{noFile, itemOf, fileAt}
 use Rattle.ol_tree.specs.Tables.{Rows, Tab}

@@ -1,16 +1,15 @@
 -- What the limits say of a file's parts: how many nodes there are, and that equations, types and variants fit.
-use Prim.Native.Nat.{ℕ, zero, suc, _+_, _<_, _≤_}
-use mathlib.Core.Bool.{Bool, true, false, _&&_, cond}
+use Prim.Native.Nat.{ℕ, zero, suc, _<_, _≤_}
+use mathlib.Core.Bool.{Bool, true, false, cond}
 use mathlib.Core.List.{List, [], _∷_, _++_}
 use mathlib.Core.Option.{none, some}
-use mathlib.Core.Path.{_≡_, refl, sym, ap, subst, _∙_}
 use native.Mathlib.Omega.{arith}
-use lib.Dec.{T, leb, ltb, eqb, leb→le, ltb→lt}
+use lib.Dec.{T, leb, eqb, leb→le}
 use lib.ListN.{length, getD}
 use Rattle.ol_spec.specs.Lists.{maybe, allOf}
-use Rattle.ol_spec.specs.Syntax.{Variable, Node, File, variables, noNode}
+use Rattle.ol_spec.specs.Syntax.{Node, File, variables}
 use Rattle.ol_spec.specs.Limits.{base, relayLoader}
-use Rattle.ol_spec.specs.Within.{byteFits, nameFits, countFits, sectionFits, tyFits, variableFits, constantFits, equationFits, nodeFits, enumFits, sectionsFit, within}
+use Rattle.ol_spec.specs.Within.{byteFits, countFits, sectionFits, variableFits, constantFits, equationFits, nodeFits, enumFits, sectionsFit, within}
 use Rattle.ol_spec.proofs.Tests.{T-and, and-T}
 
 pub all-nth : {A : Type 0} (p : A → Bool) (xs : List A) (d : A) (i : ℕ) → T (allOf p xs) → i < length xs → T (p (getD xs i d))

@@ -1,28 +1,28 @@
 -- Fresh records: as deep as there are nodes suffices, and a record is written from the front on.
 use Prim.Native.Nat.{ℕ, zero, suc, _+_, _-_, _*_, _<_, _≤_}
 use mathlib.Core.List.{List, [], _∷_, _++_, map, List·Memᴰ·head as here, List·Memᴰ·tail as there}
-use mathlib.Core.Path.{_≡_, refl, sym, ap, ap₂, subst, _∙_}
+use mathlib.Core.Path.{_≡_, refl, sym, ap, ap₂, _∙_}
 use native.Mathlib.Omega.{arith}
-use lib.ListN.{length, take, drop, getD, length-append, length-drop, drop-of-length-le}
+use lib.ListN.{length, take, drop, length-drop, drop-of-length-le}
 use lib.Seq.{length-take-le}
 use mathlib.Core.Bool.{true, false}
 use Rattle.ol_theory.specs.Member.{_∈_}
 use Rattle.ol_spec.specs.Lists.{concat}
-use Rattle.ol_spec.specs.Syntax.{NodeKind, Function, Operator, Imported, Node, File, variables, noNode}
+use Rattle.ol_spec.specs.Syntax.{NodeKind, Function, Operator, Imported, Node, File, variables}
 use Rattle.ol_spec.specs.Cell.{cells}
 use Rattle.ol_spec.specs.Types.{defaults}
 use Rattle.ol_spec.specs.Eval.{Globals, nodeAt}
 use Rattle.ol_spec.specs.Step.{sites, freshInstance, freshBy, freshAt}
 use Rattle.ol_spec.specs.State.{globalsOf}
 use Rattle.ol_spec.specs.declared.Value.{Value}
-use Rattle.ol_tree.specs.Tables.{rowAt, nodeOf, siteBytes, sizeCap}
+use Rattle.ol_tree.specs.Tables.{rowAt, nodeOf, sizeCap}
 use Rattle.ol_fresh.specs.declared.sites.Site.{Site}
 use Rattle.ol_fresh.specs.Known.{Known, Sited}
 use Rattle.ol_fresh.specs.Defaults.{cellsAt}
 use Rattle.ol_fresh.proofs.Cells.{length-cellsAt}
 use Rattle.ol_fresh.proofs.Filling.{Filling, putPart, fill-none, fill-at, fill-left, fill-more, fill-part, fill-done}
 use Rattle.ol_fresh.specs.Ahead.{NextSite}
-use Rattle.ol_fresh.proofs.Records.{Rest, callees, Start, Turn, rest-start, next-site, no-site, default-cells, own-room, is-operator, no-operator, no-size, all-used}
+use Rattle.ol_fresh.proofs.Records.{Rest, callees, Turn, rest-start, next-site, no-site, default-cells, own-room, is-operator, no-operator, no-size, all-used}
 
 map-same : (p p′ : ℕ → List ℕ) (ks : List ℕ) → ((c : ℕ) → c ∈ ks → p c ≡ p′ c) → concat (map p ks) ≡ concat (map p′ ks)
 map-same p p′ [] h = refl

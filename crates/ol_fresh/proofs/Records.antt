@@ -1,36 +1,34 @@
 -- A node's record: where its equations stand, what the tables say of it, and the walk over its call sites with the bytes of their records.
-use Prim.Native.Nat.{ℕ, zero, suc, _+_, _-_, _*_, _<_, _≤_, min}
-use mathlib.Core.Bool.{Bool, true, false}
+use Prim.Native.Nat.{ℕ, zero, suc, _+_, _-_, _*_, _<_, _≤_}
+use mathlib.Core.Bool.{true, false}
 use mathlib.Core.List.{List, [], _∷_, _++_, map, List·Memᴰ·head as here, List·Memᴰ·tail as there}
 use mathlib.Core.Path.{_≡_, refl, sym, ap, subst, _∙_}
 use native.Mathlib.Omega.{arith}
 use native.Mathlib.Nat.{zero-add}
-use lib.Dec.{T}
 use lib.ListN.{length, getD, length-append}
 use Rattle.ol_theory.specs.Member.{_∈_}
 use Rattle.ol_spec.specs.Lists.{concat, sum}
-use Rattle.ol_spec.specs.Syntax.{NodeKind, Function, Operator, Imported, Exprs, nil, Node, File, variables, noNode, lastOf, main}
+use Rattle.ol_spec.specs.Syntax.{NodeKind, Function, Operator, Imported, nil, Node, File, variables, noNode, lastOf, main}
 use Rattle.ol_spec.specs.Cell.{cells}
 use Rattle.ol_spec.specs.Types.{defaults}
 use Rattle.ol_spec.specs.Places.{placed, nodeSize, constantSize, constantsStart, placedNodes, equationsStart}
 use Rattle.ol_spec.specs.Encode.{encode, kindCode, nodeBytes, equationBytes}
 use Rattle.ol_spec.specs.Limits.{base}
 use Rattle.ol_spec.specs.Within.{nodeFits}
-use Rattle.ol_spec.specs.Eval.{sizeIn, sitesSize}
+use Rattle.ol_spec.specs.Eval.{sitesSize}
 use Rattle.ol_spec.specs.Step.{sites, ownSize, sizesAt, siteSizeBy}
 use Rattle.ol_spec.proofs.ReadFacts.{All}
 use Rattle.ol_spec.proofs.Segments.{sites-cons}
 use Rattle.ol_spec.proofs.Calls.{size-of}
 use Rattle.ol_spec.proofs.RoundTrip.Parts.{Here, here-nil, here-back}
-use Rattle.ol_spec.proofs.RoundTrip.Placed.{NodeHere, node-here, FileHere, file-here}
-use Rattle.ol_tree.specs.Tables.{Rows, Tab, RowOf, TabOf, codeAt, enumAt, rowAt, nodeOf, siteBytes, placeOf, sizeCap}
-use Rattle.ol_tree.specs.Heads.{Standing}
+use Rattle.ol_spec.proofs.RoundTrip.Placed.{NodeHere, node-here, file-here}
+use Rattle.ol_tree.specs.Tables.{RowOf, codeAt, enumAt, rowAt, nodeOf, siteBytes, placeOf, sizeCap}
 use Rattle.ol_tree.proofs.Heads.{here-first}
 use Rattle.ol_fresh.specs.declared.sites.Site.{Site}
 use Rattle.ol_fresh.specs.Known.{Counted, Known}
 use Rattle.ol_fresh.specs.Ahead.{sitesLeft, Ahead, ahead, Later, Met, NextBy, NextSite}
 use Rattle.ol_fresh.specs.Defaults.{cellsAt}
-use Rattle.ol_fresh.proofs.Fits.{Fits, fits, NodeFits, node-fits, all-nth}
+use Rattle.ol_fresh.proofs.Fits.{fits, NodeFits, node-fits, all-nth}
 use Rattle.ol_fresh.proofs.Told.{cells-told}
 
 -- ---- the node of a number

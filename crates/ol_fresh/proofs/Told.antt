@@ -1,11 +1,10 @@
 -- The default cells that the tables tell are those of the node's variables.
-use Prim.Native.Nat.{ℕ, zero, suc, _+_, _/_, _%_, _^_, _<_, _≤_}
-use mathlib.Core.Bool.{Bool, true, false, _&&_}
+use Prim.Native.Nat.{ℕ, suc, _+_, _/_, _%_, _^_, _<_}
 use mathlib.Core.List.{List, [], _∷_, _++_, map}
-use mathlib.Core.Path.{_≡_, refl, sym, ap, ap₂, subst, _∙_}
+use mathlib.Core.Path.{_≡_, refl, sym, ap, ap₂, _∙_}
 use native.Mathlib.Omega.{arith}
 use native.Mathlib.Nat.{div-one}
-use lib.Dec.{T, leb, ltb, eqb, leb→le, ltb→lt}
+use lib.Dec.{T, leb, leb→le, ltb→lt}
 use lib.Ieee.{toBits}
 use lib.ListN.{length, getD}
 use borrow.Author.Tests.{ne-eqb}
@@ -16,10 +15,10 @@ use Rattle.ol_spec.specs.Syntax.{Ty, bool, int, float32, float64, char, enum, V
 use Rattle.ol_spec.specs.Cell.{cell, cells}
 use Rattle.ol_spec.specs.Types.{default, defaults}
 use Rattle.ol_spec.specs.Limits.{base}
-use Rattle.ol_spec.specs.Within.{tyFits, nameFits, variableFits, enumFits, sectionFits, countFits}
+use Rattle.ol_spec.specs.Within.{tyFits, nameFits, variableFits, enumFits, countFits}
 use Rattle.ol_spec.proofs.Tests.{T-and}
 use Rattle.ol_tree.specs.Tables.{tyCode, tyEnum, codeAt, enumAt, firstAt}
-use Rattle.ol_fresh.specs.Defaults.{kindBy, lowBy, defaultCell, cellAt, cellsAt}
+use Rattle.ol_fresh.specs.Defaults.{defaultCell, cellsAt}
 use Rattle.ol_fresh.proofs.Fits.{all-nth}
 
 -- a 16-bit name in eight bytes

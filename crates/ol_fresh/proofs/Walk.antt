@@ -1,10 +1,10 @@
 -- The walk over a node's call sites, step by step: the names of an equation, or the head of an expression, are passed.
 use Prim.Native.Nat.{ℕ, zero, suc, _+_, _-_, _*_, _<_, _≤_}
-use mathlib.Core.Bool.{Bool, true, false, _&&_}
+use mathlib.Core.Bool.{true}
 use mathlib.Core.List.{List, [], _∷_, _++_, map, append-assoc, append-nil}
 use mathlib.Core.Path.{_≡_, refl, sym, ap, subst, _∙_}
 use native.Mathlib.Omega.{arith}
-use lib.Dec.{T, leb}
+use lib.Dec.{T}
 use lib.ListN.{length, getD, length-append}
 use Rattle.ol_spec.specs.Lists.{concat, allOf}
 use Rattle.ol_spec.specs.Syntax.{Expr, boolLit, intLit, floatLit, charLit, var, unary, binary, ifThenElse, pre, arrow, cast, call, tuple}
@@ -12,15 +12,14 @@ use Rattle.ol_spec.specs.Syntax.{Exprs, nil, cons, count, Equation, File}
 use Rattle.ol_spec.specs.Places.{exprSize, exprsSize}
 use Rattle.ol_spec.specs.Encode.{nameBytes, sectionBytes, exprBytes, exprsBytes, equationBytes}
 use Rattle.ol_spec.specs.Limits.{base}
-use Rattle.ol_spec.specs.Within.{levels, exprFits, equationFits, sectionFits, nameFits}
+use Rattle.ol_spec.specs.Within.{exprFits, equationFits, sectionFits, nameFits}
 use Rattle.ol_spec.specs.Eval.{callees, calleesAll}
 use Rattle.ol_spec.specs.Step.{equationSites}
 use Rattle.ol_spec.proofs.Tests.{T-and, and-T}
 use Rattle.ol_spec.proofs.RoundTrip.Parts.{Here, here-front, here-back, here-inside}
 use Rattle.ol_spec.proofs.RoundTrip.Items.{names-size, expr-size, exprs-size}
-use Rattle.ol_tree.specs.Heads.{partsOf, headSize, joined, partsAt, nextAt, HeadIs, Standing}
-use Rattle.ol_tree.proofs.Heads.{Headed, headed, joined-count, parts-told, next-told, head-ends, here-first}
-use Rattle.ol_fresh.specs.declared.sites.Site.{Site}
+use Rattle.ol_tree.specs.Heads.{partsOf, joined, partsAt, nextAt, HeadIs, Standing}
+use Rattle.ol_tree.proofs.Heads.{headed, joined-count, parts-told, next-told, head-ends, here-first}
 use Rattle.ol_fresh.specs.Ahead.{sitesLeft, Ahead, ahead, Later, Met}
 
 -- the same bytes at an offset that is equal

@@ -1,12 +1,12 @@
 -- The call sites of a node, met head by head: what is left of its equations at a place of the file.
-use Prim.Native.Nat.{ℕ, _+_, _<_, _≤_}
+use Prim.Native.Nat.{ℕ, _+_, _<_}
 use mathlib.Core.Bool.{Bool, true, false}
 use mathlib.Core.List.{List, [], _∷_, _++_, map}
 use mathlib.Core.Path.{_≡_}
 use lib.Dec.{T}
 use lib.ListN.{length}
 use Rattle.ol_spec.specs.Lists.{concat, allOf}
-use Rattle.ol_spec.specs.Syntax.{Expr, Exprs, count, Equation, File}
+use Rattle.ol_spec.specs.Syntax.{Exprs, count, Equation, File}
 use Rattle.ol_spec.specs.Places.{exprsSize}
 use Rattle.ol_spec.specs.Encode.{equationBytes}
 use Rattle.ol_spec.specs.Limits.{base}

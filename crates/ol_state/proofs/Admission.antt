@@ -2,8 +2,8 @@
 use Prim.Native.Nat.{ℕ, _*_, _≤_}
 use mathlib.Core.Bool.{Bool, true, false, not, cond}
 use mathlib.Core.List.{List}
-use mathlib.Core.Option.{Option, none, some}
-use mathlib.Core.Path.{_≡_, refl, sym, ap, subst, _∙_}
+use mathlib.Core.Option.{none, some}
+use mathlib.Core.Path.{_≡_, refl, ap, subst, _∙_}
 use native.Mathlib.Omega.{arith}
 use borrow.Author.Tests.{ltb-false}
 use lib.Dec.{T, ltb, eqb}
@@ -13,16 +13,15 @@ use Rattle.ol_spec.specs.Syntax.{NodeKind, Function, Operator, Imported, File, 
 use Rattle.ol_spec.specs.Limits.{base, relayLoader}
 use Rattle.ol_spec.specs.Within.{byteFits, sectionsFit, within}
 use Rattle.ol_spec.specs.Cell.{cells}
-use Rattle.ol_spec.specs.Admission.{judge, admitted, isOperator, atMain, headSize, stateSize}
+use Rattle.ol_spec.specs.Admission.{judge, admitted, isOperator, atMain, stateSize}
 use Rattle.ol_spec.specs.Demand3.{Bytes}
 use Rattle.ol_spec.specs.declared.Value.{Value}
 use Rattle.ol_spec.proofs.Tests.{T-and}
 use Rattle.ol_spec.proofs.Cells.{length-cells}
 use Rattle.ol_spec.proofs.ReadFacts.{file-read}
-use Rattle.ol_spec.proofs.Admits.{Admits, admits}
-use Rattle.ol_spec.proofs.Admitted.{Facts, facts}
+use Rattle.ol_spec.proofs.Admits.{admits}
+use Rattle.ol_spec.proofs.Admitted.{facts}
 use Rattle.ol_tree.specs.Tables.{Rows, Tab, Variants}
-use Rattle.ol_fresh.specs.Known.{Known}
 use Rattle.ol_fresh.proofs.Admission.{admitted-known}
 use Rattle.ol_state.specs.Ready.{Ready}
 

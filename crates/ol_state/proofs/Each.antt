@@ -1,14 +1,13 @@
 -- The inputs of the main node, judged one after the other.
-use Prim.Native.Nat.{ℕ, zero, suc, _+_, _-_, _*_, _<_, _≤_}
-use mathlib.Core.Bool.{Bool, true, false, _&&_}
-use mathlib.Core.List.{List, [], _∷_, _++_, map}
+use Prim.Native.Nat.{ℕ, suc, _+_, _*_, _<_, _≤_}
+use mathlib.Core.Bool.{true, false, _&&_}
+use mathlib.Core.List.{List, _∷_, _++_, map}
 use mathlib.Core.Path.{_≡_, refl, sym, ap, ap₂, subst, _∙_}
 use native.Mathlib.Omega.{arith}
-use lib.Dec.{T, eqb, leb, leb→le}
+use lib.Dec.{T, leb, leb→le}
 use lib.ListN.{length, take, drop, getD, drop-of-length-le, length-append, List·getD-append, List·getD-map}
 use lib.Seq.{drop-cons, drop-drop}
 use borrow.Author.Tests.{eq-eqb, ne-eqb}
-use Rattle.ol_spec.specs.Lists.{concat, allOf}
 use Rattle.ol_spec.specs.Syntax.{Ty, bool, int, float32, float64, char, enum, Variable, Node, File, main, variables, typeOf}
 use Rattle.ol_spec.specs.Cell.{valueOf, goodCell}
 use Rattle.ol_spec.specs.Types.{inType}

@@ -1,16 +1,16 @@
 -- Inputs judged: where an enum stands, its names, and each cell by its type.
-use Prim.Native.Nat.{ℕ, zero, suc, _+_, _-_, _*_, _<_, _≤_}
+use Prim.Native.Nat.{ℕ, suc, _+_, _*_, _<_, _≤_}
 use mathlib.Core.Bool.{Bool, true, false, not, _&&_, _||_}
 use mathlib.Core.List.{List, [], _∷_, map}
-use mathlib.Core.Path.{_≡_, refl, sym, ap, ap₂, subst, _∙_}
+use mathlib.Core.Path.{_≡_, refl, sym, ap, subst, _∙_}
 use native.Mathlib.Omega.{arith}
-use lib.Dec.{T, eqb, ltb, leb, ltb→lt}
-use lib.ListN.{length, take, drop, getD, drop-of-length-le}
+use lib.Dec.{T, eqb, ltb→lt}
+use lib.ListN.{length, drop, getD, drop-of-length-le}
 use lib.Seq.{drop-cons, drop-drop}
 use borrow.Author.Tests.{eq-eqb, ne-eqb, eqb-true, eqb-false}
 use Rattle.ol_spec.specs.Lists.{concat, allOf, member}
 use Rattle.ol_spec.specs.Syntax.{File}
-use Rattle.ol_spec.specs.Places.{enumSize, placed, placedEnums}
+use Rattle.ol_spec.specs.Places.{enumSize, placed}
 use Rattle.ol_spec.specs.Encode.{encode, nameBytes, sectionBytes}
 use Rattle.ol_spec.specs.Limits.{base, relayLoader}
 use Rattle.ol_spec.specs.Within.{nameFits, countFits, enumFits, tyFits, within}
@@ -23,7 +23,7 @@ use Rattle.ol_spec.specs.declared.Value.the-variants as Val
 use Rattle.ol_spec.proofs.ReadFacts.{All}
 use Rattle.ol_spec.proofs.Tests.{T-and}
 use Rattle.ol_spec.proofs.RoundTrip.Parts.{Here, here-front, here-back}
-use Rattle.ol_spec.proofs.RoundTrip.Placed.{FileHere, file-here}
+use Rattle.ol_spec.proofs.RoundTrip.Placed.{file-here}
 use Rattle.ol_value.specs.Codes.{tyFrom, tyOf, nameIn, inKind}
 use Rattle.ol_value.proofs.TypeCodes.{in-type-is, variant-is}
 use Rattle.ol_tree.specs.Heads.{nameAt}

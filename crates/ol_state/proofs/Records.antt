@@ -1,23 +1,23 @@
 -- Records judged: a record's own bytes, then the records of its call sites, one after the other.
-use Prim.Native.Nat.{ℕ, zero, suc, _+_, _-_, _*_, _<_, _≤_}
+use Prim.Native.Nat.{ℕ, _+_, _-_, _*_, _≤_}
 use mathlib.Core.Bool.{Bool, true, false, _&&_}
-use mathlib.Core.List.{List, [], _∷_}
-use mathlib.Core.Path.{_≡_, refl, sym, ap, subst, _∙_}
+use mathlib.Core.List.{List}
+use mathlib.Core.Path.{_≡_, refl, sym, ap, _∙_}
 use native.Mathlib.Omega.{arith}
 use lib.ListN.{length, take, drop, length-drop}
 use lib.Seq.{length-take-le, drop-drop}
-use Rattle.ol_spec.specs.Syntax.{NodeKind, Function, Operator, Imported, File, variables}
-use Rattle.ol_spec.specs.Step.{sites, ownSize}
+use Rattle.ol_spec.specs.Syntax.{NodeKind, Function, Operator, Imported, File}
+use Rattle.ol_spec.specs.Step.{sites}
 use Rattle.ol_spec.specs.State.{globalsOf, goodOwn, goodSites, goodBy, goodAt}
 use Rattle.ol_spec.specs.Admission.{variants}
 use Rattle.ol_spec.specs.declared.Value.{Value}
 use Rattle.ol_spec.proofs.Calls.{good-of}
-use Rattle.ol_tree.specs.Tables.{Tells, Variants, rowAt, nodeOf, siteBytes, sizeCap}
+use Rattle.ol_tree.specs.Tables.{rowAt, nodeOf, siteBytes}
 use Rattle.ol_fresh.specs.declared.sites.Site.{Site}
-use Rattle.ol_fresh.specs.Known.{Known, Sited}
+use Rattle.ol_fresh.specs.Known.{Sited}
 use Rattle.ol_fresh.specs.Ahead.{NextSite}
 use Rattle.ol_fresh.specs.Defaults.{cellsAt}
-use Rattle.ol_fresh.proofs.Records.{Rest, callees, Turn, rest-start, next-site, no-site, default-cells, own-size, is-operator, no-operator, variables-told}
+use Rattle.ol_fresh.proofs.Records.{Rest, callees, Turn, rest-start, next-site, no-site, default-cells, is-operator, no-operator, variables-told}
 use Rattle.ol_state.specs.Own.{goodBytes}
 use Rattle.ol_state.proofs.Judged.{and-pass, and-stop}
 

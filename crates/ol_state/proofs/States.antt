@@ -1,22 +1,21 @@
 -- A state judged: its length, the constants' cells, and the main record.
-use Prim.Native.Nat.{ℕ, zero, suc, _+_, _-_, _*_, _<_, _≤_}
-use mathlib.Core.Bool.{Bool, true, false, _&&_}
-use mathlib.Core.List.{List, []}
-use mathlib.Core.Path.{_≡_, refl, sym, ap, ap₂, subst, _∙_}
+use Prim.Native.Nat.{ℕ, _+_, _<_}
+use mathlib.Core.Bool.{Bool, true, false}
+use mathlib.Core.List.{List}
+use mathlib.Core.Path.{_≡_, sym, ap, ap₂, _∙_}
 use native.Mathlib.Omega.{arith}
-use lib.Dec.{eqb}
 use lib.ListN.{length, take, drop, length-drop}
 use borrow.Author.Tests.{eq-eqb, ne-eqb}
 use Rattle.ol_spec.specs.Lists.{same}
 use Rattle.ol_spec.specs.Syntax.{Operator, File, Node, main}
 use Rattle.ol_spec.specs.Cell.{cells}
 use Rattle.ol_spec.specs.Step.{instanceSize}
-use Rattle.ol_spec.specs.State.{globalsOf, goodBy, goodRecord, goodAt, goodState}
+use Rattle.ol_spec.specs.State.{globalsOf, goodBy, goodRecord, goodState}
 use Rattle.ol_spec.specs.Admission.{headSize, stateSize}
 use Rattle.ol_spec.specs.declared.Value.{Value}
 use Rattle.ol_spec.proofs.Calls.{good-of}
-use Rattle.ol_tree.specs.Tables.{rowAt, nodeOf, siteBytes, sizeCap}
-use Rattle.ol_fresh.specs.Known.{Counted, Known, Sited}
+use Rattle.ol_tree.specs.Tables.{rowAt, nodeOf, siteBytes}
+use Rattle.ol_fresh.specs.Known.{Counted, Sited}
 use Rattle.ol_fresh.proofs.Filling.{tailOf, tail-all}
 use Rattle.ol_fresh.proofs.Records.{sizesOf, main-is, operator-size, size-told, few-nodes}
 use Rattle.ol_state.specs.Ready.{Ready}
