@@ -3,17 +3,16 @@ use Prim.Native.Nat.{ℕ, zero, suc, _+_, _-_, _*_, _<_, _≤_}
 use mathlib.Core.List.{List, [], _∷_, _++_, map, List·Memᴰ·head as here, List·Memᴰ·tail as there}
 use mathlib.Core.Path.{_≡_, refl, sym, ap, ap₂, _∙_}
 use native.Mathlib.Omega.{arith}
-use lib.ListN.{length, take, drop, length-drop, drop-of-length-le}
-use lib.Seq.{length-take-le}
+use lib.ListN.{length, take, drop, drop-of-length-le}
 use mathlib.Core.Bool.{true, false}
 use Rattle.ol_theory.specs.Member.{_∈_}
 use Rattle.ol_spec.specs.Lists.{concat}
-use Rattle.ol_spec.specs.Syntax.{NodeKind, Function, Operator, Imported, Node, File, variables}
+use Rattle.ol_spec.specs.Syntax.{NodeKind, Function, Operator, Imported, Node, File, variables, main}
 use Rattle.ol_spec.specs.Cell.{cells}
 use Rattle.ol_spec.specs.Types.{defaults}
 use Rattle.ol_spec.specs.Eval.{Globals, nodeAt}
-use Rattle.ol_spec.specs.Step.{sites, freshInstance, freshBy, freshAt}
-use Rattle.ol_spec.specs.State.{globalsOf}
+use Rattle.ol_spec.specs.Step.{sites, freshInstance, freshBy, freshAt, freshRecord}
+use Rattle.ol_spec.specs.State.{globalsOf, freshState}
 use Rattle.ol_spec.specs.declared.Value.{Value}
 use Rattle.ol_tree.specs.Tables.{rowAt, nodeOf, sizeCap}
 use Rattle.ol_fresh.specs.declared.sites.Site.{Site}
@@ -22,7 +21,7 @@ use Rattle.ol_fresh.specs.Defaults.{cellsAt}
 use Rattle.ol_fresh.proofs.Cells.{length-cellsAt}
 use Rattle.ol_fresh.proofs.Filling.{Filling, putPart, fill-none, fill-at, fill-left, fill-more, fill-part, fill-done}
 use Rattle.ol_fresh.specs.Ahead.{NextSite}
-use Rattle.ol_fresh.proofs.Records.{Rest, callees, Turn, rest-start, next-site, no-site, default-cells, own-room, is-operator, no-operator, no-size, all-used}
+use Rattle.ol_fresh.proofs.Records.{Rest, callees, Turn, rest-start, next-site, no-site, default-cells, own-room, is-operator, no-operator, no-size, all-used, part-long, main-is}
 
 map-same : (p p′ : ℕ → List ℕ) (ks : List ℕ) → ((c : ℕ) → c ∈ ks → p c ≡ p′ c) → concat (map p ks) ≡ concat (map p′ ks)
 map-same p p′ [] h = refl
@@ -112,17 +111,6 @@ module _ {f : File} {s tab rows : List ℕ} (known : Known f s tab rows) {k : �
   turn-of e = next-site known below (going .rest) (going .small) n e
 
   module _ (e : r .found ≡ true) {z : ℕ} (size : z ≡ rowAt rows (r .callee) 6) where
-    pub part-room : used + z ≤ length out
-    part-room = omega (arith, turn-of e .room, going .filled [] .long)
-
-    part-long : length (take (used + z - used) (drop used out)) ≡ z
-    part-long = let m : used + z - used ≡ z = omega arith in rw m (length-take-le z (drop used out) (omega (arith, part-room, length-drop used out)))
-
-    pub part-sited : Sited f s tab rows (r .callee) (take (used + z - used) (drop used out))
-    part-sited =
-        let t = turn-of e in
-        record { known = known; below = omega (arith, t .lower); sized = part-long ∙ size ∙ t .size; small = omega (arith, part-long, t .room, going .small) }
-
     -- it is written
     pub going-on : (x : List ℕ) → length x ≡ length (take (used + z - used) (drop used out)) → ((vs : List Value) → x ≡ freshOf f vs (r .callee)) → Going f s k base (used + z) (putPart used (used + z - used) out x) (r .at) (r .eqs) (r .pending)
     going-on x kept fresh =
@@ -134,7 +122,7 @@ module _ {f : File} {s tab rows : List ℕ} (known : Known f s tab rows) {k : �
         (record {
           rest = t .next;
           small = going .small;
-          filled = λ vs. fill-part (freshOf f vs (r .callee)) _ a (sym (ap length (fresh vs)) ∙ kept ∙ part-long ∙ size) (t .room) (used + a - used) m x (fresh vs) (fill-left (ap (freshAll f vs) (t .is)) (going .filled vs));
+          filled = λ vs. fill-part (freshOf f vs (r .callee)) _ a (sym (ap length (fresh vs)) ∙ kept ∙ part-long known below t (going .small) size out (going .filled [] .long) ∙ size) (t .room) (used + a - used) m x (fresh vs) (fill-left (ap (freshAll f vs) (t .is)) (going .filled vs));
         })
 
   -- all are written
@@ -142,3 +130,11 @@ module _ {f : File} {s tab rows : List ℕ} (known : Known f s tab rows) {k : �
   going-done e vs =
       let none = no-site known below (going .rest) (going .small) n e in
       fill-done (going .filled vs) (ap (freshAll f vs) none ∙ sym (drop-of-length-le base {i = used} (omega (arith, all-used (going .rest) none))))
+
+-- the main node's fresh record is that of a call site of its number
+pub fresh-main : (f : File) (vs : List Value) → ((k c : ℕ) → c ∈ sites (nodeOf f k) → c < k) → (k : ℕ) → k + 1 ≡ length (f .nodes) → main f .kind ≡ Operator → freshState f vs ≡ cells vs ++ freshOf f vs k
+unfolding freshState
+fresh-main f vs lower k last o =
+    let m = main-is f k last in
+    ap (λ r. cells vs ++ r)
+    (ap (freshRecord (globalsOf f vs)) m ∙ sym (fresh-record f vs lower k (omega arith) (ap (λ (n : Node). n .kind) (sym m) ∙ o)))

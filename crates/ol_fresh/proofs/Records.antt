@@ -5,7 +5,8 @@ use mathlib.Core.List.{List, [], _∷_, _++_, map, List·Memᴰ·head as here, L
 use mathlib.Core.Path.{_≡_, refl, sym, ap, subst, _∙_}
 use native.Mathlib.Omega.{arith}
 use native.Mathlib.Nat.{zero-add}
-use lib.ListN.{length, getD, length-append}
+use lib.ListN.{length, take, drop, getD, length-append, length-drop}
+use lib.Seq.{length-take-le}
 use Rattle.ol_theory.specs.Member.{_∈_}
 use Rattle.ol_spec.specs.Lists.{concat, sum}
 use Rattle.ol_spec.specs.Syntax.{NodeKind, Function, Operator, Imported, nil, Node, File, variables, noNode, lastOf, main}
@@ -25,7 +26,7 @@ use Rattle.ol_spec.proofs.RoundTrip.Placed.{NodeHere, node-here, file-here}
 use Rattle.ol_tree.specs.Tables.{RowOf, codeAt, enumAt, rowAt, nodeOf, siteBytes, placeOf, sizeCap}
 use Rattle.ol_tree.proofs.Heads.{here-first}
 use Rattle.ol_fresh.specs.declared.sites.Site.{Site}
-use Rattle.ol_fresh.specs.Known.{Counted, Known}
+use Rattle.ol_fresh.specs.Known.{Counted, Known, Sited}
 use Rattle.ol_fresh.specs.Ahead.{sitesLeft, Ahead, ahead, Later, Met, NextBy, NextSite}
 use Rattle.ol_fresh.specs.Defaults.{cellsAt}
 use Rattle.ol_fresh.proofs.Fits.{fits, NodeFits, node-fits, all-nth}
@@ -133,6 +134,9 @@ module _ {f : File} {s tab rows : List ℕ} (known : Known f s tab rows) {k : �
 
 -- ---- the main node
 
+pub counted : {f : File} {s tab rows : List ℕ} → Known f s tab rows → Counted f s rows
+counted known = record { encoded = known .encoded; within = known .within; rowed = known .rowed }
+
 pub record Count (f : File) (s rows : List ℕ) : Type 0 where
   pub after : 1 ≤ rowAt rows 0 7
   pub is : getD s (rowAt rows 0 7 - 1) 0 ≡ length (f .nodes)
@@ -221,6 +225,17 @@ module _ {f : File} {s tab rows : List ℕ} (known : Known f s tab rows) {k : �
 
     pub no-site : r .found ≡ false → callees rest ≡ []
     no-site e = subst (λ b. NextBy b f s at (callees rest) r) e (n .next (rest .left))
+
+-- the part of a list that is the record of the next call site
+module _ {f : File} {s tab rows : List ℕ} (known : Known f s tab rows) {k : ℕ} (below : k < length (f .nodes)) {total used at : ℕ} {cs : List ℕ} {r : Site} (t : Turn f s rows k total used at cs r) (small : total ≤ sizeCap) {z : ℕ} (size : z ≡ rowAt rows (r .callee) 6) (l : List ℕ) (long : length l ≡ total) where
+  pub part-room : used + z ≤ length l
+  part-room = omega (arith, t .room)
+
+  pub part-long : length (take (used + z - used) (drop used l)) ≡ z
+  part-long = let m : used + z - used ≡ z = omega arith in rw m (length-take-le z (drop used l) (omega (arith, part-room, length-drop used l)))
+
+  pub part-sited : Sited f s tab rows (r .callee) (take (used + z - used) (drop used l))
+  part-sited = record { known = known; below = omega (arith, t .lower); sized = part-long ∙ size ∙ t .size; small = omega (arith, part-long, t .room) }
 
 -- none are left: all bytes are used
 pub all-used : {f : File} {s : List ℕ} {k total used at eqs pending : ℕ} (rest : Rest f s k total used at eqs pending) → callees rest ≡ [] → used ≡ total

@@ -23,7 +23,7 @@ use Rattle.ol_tree.proofs.Heads.{headed, joined-count, parts-told, next-told, h
 use Rattle.ol_fresh.specs.Ahead.{sitesLeft, Ahead, ahead, Later, Met}
 
 -- the same bytes at an offset that is equal
-moved : {s w : List ℕ} {at at′ : ℕ} → at ≡ at′ → Here s at w → Here s at′ w
+pub moved : {s w : List ℕ} {at at′ : ℕ} → at ≡ at′ → Here s at w → Here s at′ w
 moved {s} {w} e h = subst (λ n. Here s n w) e h
 
 -- ---- callees, by heads

@@ -19,7 +19,7 @@ use Rattle.ol_spec.proofs.Tests.{T-and}
 use Rattle.ol_tree.specs.Tables.{Variants, tyCode, tyEnum, codeAt, enumAt, rowAt, nodeOf}
 use Rattle.ol_value.specs.Codes.{tyOf}
 use Rattle.ol_value.proofs.TypeCodes.{int-code}
-use Rattle.ol_fresh.specs.Known.{Counted, Known}
+use Rattle.ol_fresh.specs.Known.{Known}
 use Rattle.ol_fresh.proofs.Fits.{all-nth}
 use Rattle.ol_fresh.proofs.Records.{row-of, fits-here, main-is, few-nodes}
 use Rattle.ol_state.specs.Inputs.{Typed, goodInput}
@@ -38,9 +38,6 @@ noVariable : Variable
 noVariable = record { name = 0; ty = bool }
 
 module _ {f : File} {s tab rows : List ℕ} (known : Known f s tab rows) where
-  pub counted : Counted f s rows
-  counted = record { encoded = known .encoded; within = known .within; rowed = known .rowed }
-
   module _ (k : ℕ) (last : k + 1 ≡ length (f .nodes)) where
     below : k < length (f .nodes)
     below = omega arith

@@ -28,11 +28,9 @@ use Rattle.ol_value.specs.Codes.{tyFrom, tyOf, nameIn, inKind}
 use Rattle.ol_value.proofs.TypeCodes.{in-type-is, variant-is}
 use Rattle.ol_tree.specs.Heads.{nameAt}
 use Rattle.ol_tree.proofs.Heads.{here-first, here-name}
+use Rattle.ol_fresh.proofs.Walk.{moved}
 use Rattle.ol_fresh.proofs.Fits.{fits, all-nth}
 use Rattle.ol_state.specs.Inputs.{EnumAt, goodInput}
-
-moved : {s w : List ℕ} {at at′ : ℕ} → at ≡ at′ → Here s at w → Here s at′ w
-moved {s} {w} e h = subst (λ n. Here s n w) e h
 
 -- ---- where an enum stands
 

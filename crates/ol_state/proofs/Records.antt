@@ -1,11 +1,11 @@
 -- Records judged: a record's own bytes, then the records of its call sites, one after the other.
-use Prim.Native.Nat.{ℕ, _+_, _-_, _*_, _≤_}
+use Prim.Native.Nat.{ℕ, _+_, _-_, _*_}
 use mathlib.Core.Bool.{Bool, true, false, _&&_}
 use mathlib.Core.List.{List}
 use mathlib.Core.Path.{_≡_, refl, sym, ap, _∙_}
 use native.Mathlib.Omega.{arith}
-use lib.ListN.{length, take, drop, length-drop}
-use lib.Seq.{length-take-le, drop-drop}
+use lib.ListN.{length, take, drop}
+use lib.Seq.{drop-drop}
 use Rattle.ol_spec.specs.Syntax.{NodeKind, Function, Operator, Imported, File}
 use Rattle.ol_spec.specs.Step.{sites}
 use Rattle.ol_spec.specs.State.{globalsOf, goodOwn, goodSites, goodBy, goodAt}
@@ -77,17 +77,6 @@ module _ {f : File} {s tab rows : List ℕ} {k : ℕ} {r : List ℕ} (h : Sited 
   turn-of e = next-site (h .known) (h .below) (judging .rest) (h .small) n e
 
   module _ (e : x .found ≡ true) {z : ℕ} (size : z ≡ rowAt rows (x .callee) 6) where
-    pub part-room : used + z ≤ length r
-    part-room = omega (arith, turn-of e .room)
-
-    part-long : length (take (used + z - used) (drop used r)) ≡ z
-    part-long = let m : used + z - used ≡ z = omega arith in rw m (length-take-le z (drop used r) (omega (arith, part-room, length-drop used r)))
-
-    pub part-sited : Sited f s tab rows (x .callee) (take (used + z - used) (drop used r))
-    part-sited =
-        let t = turn-of e in
-        record { known = h .known; below = omega (arith, t .lower, h .below); sized = part-long ∙ size ∙ t .size; small = omega (arith, part-long, t .room, h .small) }
-
     -- the first of the records that are left, and the others
     next-good : (vs : List Value) → goodOf f vs k r ≡ goodOf f vs (x .callee) (take (used + z - used) (drop used r)) && goodAll f vs (callees (turn-of e .next)) (drop (used + z) r)
     unfolding goodSites

@@ -15,7 +15,7 @@ use Rattle.ol_spec.specs.Admission.{headSize, stateSize}
 use Rattle.ol_spec.specs.declared.Value.{Value}
 use Rattle.ol_spec.proofs.Calls.{good-of}
 use Rattle.ol_tree.specs.Tables.{rowAt, nodeOf, siteBytes}
-use Rattle.ol_fresh.specs.Known.{Counted, Sited}
+use Rattle.ol_fresh.specs.Known.{Sited}
 use Rattle.ol_fresh.proofs.Filling.{tailOf, tail-all}
 use Rattle.ol_fresh.proofs.Records.{sizesOf, main-is, operator-size, size-told, few-nodes}
 use Rattle.ol_state.specs.Ready.{Ready}
@@ -23,9 +23,6 @@ use Rattle.ol_state.proofs.Judged.{and-pass, and-stop}
 use Rattle.ol_state.proofs.Records.{goodOf}
 
 module _ {f : File} {s tab rows table consts : List ℕ} (h : Ready f s tab rows table consts) where
-  pub counted : Counted f s rows
-  counted = record { encoded = h .known .encoded; within = h .known .within; rowed = h .known .rowed }
-
   module _ (k : ℕ) (last : k + 1 ≡ length (f .nodes)) where
     below : k < length (f .nodes)
     below = omega arith

@@ -6,8 +6,9 @@ use lib.ListN.{length, drop}
 use Rattle.ol_spec.specs.Syntax.{main}
 use Rattle.ol_spec.specs.State.{goodEach}
 use Rattle.ol_tree.specs.At.{fileAt}
+use Rattle.ol_fresh.proofs.Records.{counted}
 use Rattle.ol_state.proofs.Judged.{and-pass, and-stop}
-use Rattle.ol_state.proofs.Each.{counted, few, few-inputs, input-typed, each-next, each-none, inputs-length, inputs-each}
+use Rattle.ol_state.proofs.Each.{few, few-inputs, input-typed, each-next, each-none, inputs-length, inputs-each}
 -- </uses>
 use Rattle.ol_state.proofs.good_inputs.Statement.{statement}
 use Rattle.ol_state.proofs.good_inputs.Tie as tie

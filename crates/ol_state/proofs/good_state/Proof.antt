@@ -3,7 +3,8 @@ use mathlib.Core.Path.{sym, ap, _∙_}
 use native.Mathlib.Omega.{arith}
 use lib.ListN.{length}
 use lib.Seq.{length-take-le}
-use Rattle.ol_state.proofs.States.{counted, few, main-size, main-sited, other-length, other-constants, main-decides}
+use Rattle.ol_fresh.proofs.Records.{counted}
+use Rattle.ol_state.proofs.States.{few, main-size, main-sited, other-length, other-constants, main-decides}
 -- </uses>
 use borrow.Author.Needs.{needs}
 use Rattle.ol_state.proofs.good_state.Statement.{statement}
@@ -20,7 +21,7 @@ main-node-requires : tie.Need-main-node-requires
 main-node-requires c κs =
     let start = c .before .before .before .before .before .before in
     let h = start .pre in
-    counted h
+    counted (h .known)
 
 -- src/lib.rt:81:30
 row-requires : tie.Need-row-requires

@@ -6,8 +6,8 @@ use mathlib.Core.Path.{sym, ap, _∙_}
 use native.Mathlib.Omega.{arith}
 use lib.ListN.{length}
 use Rattle.ol_tree.specs.At.{fileAt}
-use Rattle.ol_fresh.proofs.Records.{few-nodes, own-room, is-operator}
-use Rattle.ol_fresh.proofs.Fresh.{Going, going-start, turn-of, part-room, part-sited, going-on, going-done, none-written}
+use Rattle.ol_fresh.proofs.Records.{few-nodes, own-room, is-operator, part-room, part-sited}
+use Rattle.ol_fresh.proofs.Fresh.{Going, going-start, turn-of, going-on, going-done, none-written}
 -- </uses>
 use Prim.Native.Nat.{ℕ}
 use borrow.Author.Needs.{needs}
@@ -103,7 +103,8 @@ pub add-end : (t : ℕ) → write-fresh-lts.Need-add-end (Q t) (write-fresh-at t
 add-end t c =
     let start = c .before .before .before .before .before .before .before .before .before .before .before .before .before .before .before .before .before in
     let h = start .pre .1 in
-    let room = part-room (h .known) (h .below) (c .before .before .before .loop .inv) (c .before .before .next-site .ensures) (c .before .if2 .taken) (c .row5 .ensures) in
+    let t = turn-of (h .known) (h .below) (c .before .before .before .loop .inv) (c .before .before .next-site .ensures) (c .before .if2 .taken) in
+    let room = part-room (h .known) (h .below) t (c .before .before .before .loop .inv .small) (c .row5 .ensures) (c .before .before .before .loop .out) (c .before .before .before .loop .inv .filled [] .long) in
     omega (arith, room, c .before .before .before .loop .inv .filled [] .long, c .before .before .before .loop .inv .small)
 
 pub sub-write-fresh : (t : ℕ) → write-fresh-lts.Need-sub-write-fresh (Q t) (write-fresh-at t) write-fresh.Post Inv-loop μ-loop
@@ -116,7 +117,8 @@ pub part-write-fresh-end : (t : ℕ) → write-fresh-lts.Need-part-write-fresh-e
 part-write-fresh-end t c =
     let start = c .before .before .before .before .before .before .before .before .before .before .before .before .before .before .before .before .before in
     let h = start .pre .1 in
-    let room = part-room (h .known) (h .below) (c .before .before .before .loop .inv) (c .before .before .next-site .ensures) (c .before .if2 .taken) (c .row5 .ensures) in
+    let t = turn-of (h .known) (h .below) (c .before .before .before .loop .inv) (c .before .before .next-site .ensures) (c .before .if2 .taken) in
+    let room = part-room (h .known) (h .below) t (c .before .before .before .loop .inv .small) (c .row5 .ensures) (c .before .before .before .loop .out) (c .before .before .before .loop .inv .filled [] .long) in
     omega (arith, room)
 
 pub write-fresh-requires : (t : ℕ) → write-fresh-lts.Need-write-fresh-requires (Q t) (write-fresh-at t) write-fresh.Post Inv-loop μ-loop
@@ -124,7 +126,7 @@ write-fresh-requires t c κs =
     let start = c .before .before .before .before .before .before .before .before .before .before .before .before .before .before .before .before .before .before in
     let h = start .pre .1 in
     let t = turn-of (h .known) (h .below) (c .before .before .before .before .loop .inv) (c .before .before .before .next-site .ensures) (c .before .before .if2 .taken) in
-    (omega (arith, t .lower, start .pre .0), part-sited (h .known) (h .below) (c .before .before .before .before .loop .inv) (c .before .before .before .next-site .ensures) (c .before .before .if2 .taken) (c .before .row5 .ensures))
+    (omega (arith, t .lower, start .pre .0), part-sited (h .known) (h .below) t (c .before .before .before .before .loop .inv .small) (c .before .row5 .ensures) (c .before .before .before .before .loop .out) (c .before .before .before .before .loop .inv .filled [] .long))
 
 pub loop-less : (t : ℕ) → write-fresh-lts.Need-loop-less (Q t) (write-fresh-at t) write-fresh.Post Inv-loop μ-loop
 loop-less t c =

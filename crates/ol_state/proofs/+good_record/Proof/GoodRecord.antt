@@ -1,12 +1,12 @@
 -- The needs of `good_record`. Assumes nothing.
 -- <uses>
 use Prim.Native.Nat.{_-_}
-use mathlib.Core.Path.{sym, ap, _∙_}
+use mathlib.Core.Path.{refl, sym, ap, _∙_}
 use native.Mathlib.Omega.{arith}
 use lib.ListN.{length}
 use Rattle.ol_tree.specs.At.{fileAt}
-use Rattle.ol_fresh.proofs.Records.{few-nodes, few-variables, own-room, is-operator}
-use Rattle.ol_state.proofs.Records.{Judging, none-judged, own-bad, judging-start, turn-of, part-room, part-sited, judging-on, judging-stop, judging-done}
+use Rattle.ol_fresh.proofs.Records.{few-nodes, few-variables, own-room, is-operator, part-room, part-sited}
+use Rattle.ol_state.proofs.Records.{Judging, none-judged, own-bad, judging-start, turn-of, judging-on, judging-stop, judging-done}
 -- </uses>
 use Prim.Native.Nat.{ℕ}
 use borrow.Author.Needs.{needs}
@@ -103,7 +103,8 @@ pub add-end : (t : ℕ) → good-record-lts.Need-add-end (Q t) (good-record-at t
 add-end t c =
     let start = c .before .before .before .before .before .before .before .before .before .before .before .before .before .before .before .before in
     let h = start .pre .1 .0 in
-    let room = part-room h (c .before .before .before .loop .inv) (c .before .before .next-site .ensures) (c .before .if3 .taken) (c .row5 .ensures) in
+    let t = turn-of h (c .before .before .before .loop .inv) (c .before .before .next-site .ensures) (c .before .if3 .taken) in
+    let room = part-room (h .known) (h .below) t (h .small) (c .row5 .ensures) (start .args .r .now) refl in
     omega (arith, room, h .small)
 
 pub sub-good-record : (t : ℕ) → good-record-lts.Need-sub-good-record (Q t) (good-record-at t) good-record.Post Inv-loop μ-loop
@@ -116,7 +117,8 @@ pub part-good-record-end : (t : ℕ) → good-record-lts.Need-part-good-record-e
 part-good-record-end t c =
     let start = c .before .before .before .before .before .before .before .before .before .before .before .before .before .before .before .before in
     let h = start .pre .1 .0 in
-    let room = part-room h (c .before .before .before .loop .inv) (c .before .before .next-site .ensures) (c .before .if3 .taken) (c .row5 .ensures) in
+    let t = turn-of h (c .before .before .before .loop .inv) (c .before .before .next-site .ensures) (c .before .if3 .taken) in
+    let room = part-room (h .known) (h .below) t (h .small) (c .row5 .ensures) (start .args .r .now) refl in
     omega (arith, room)
 
 pub good-record-requires : (t : ℕ) → good-record-lts.Need-good-record-requires (Q t) (good-record-at t) good-record.Post Inv-loop μ-loop
@@ -124,7 +126,7 @@ good-record-requires t c κs =
     let start = c .before .before .before .before .before .before .before .before .before .before .before .before .before .before .before .before .before in
     let h = start .pre .1 .0 in
     let t = turn-of h (c .before .before .before .before .loop .inv) (c .before .before .before .next-site .ensures) (c .before .before .if3 .taken) in
-    (omega (arith, t .lower, start .pre .0), (part-sited h (c .before .before .before .before .loop .inv) (c .before .before .before .next-site .ensures) (c .before .before .if3 .taken) (c .before .row5 .ensures), start .pre .1 .1))
+    (omega (arith, t .lower, start .pre .0), (part-sited (h .known) (h .below) t (h .small) (c .before .row5 .ensures) (start .args .r .now) refl, start .pre .1 .1))
 
 pub loop-less : (t : ℕ) → good-record-lts.Need-loop-less (Q t) (good-record-at t) good-record.Post Inv-loop μ-loop
 loop-less t c =
