@@ -18,6 +18,7 @@ pub record Counted (f : File) (s rows : List ℕ) : Type 0 where
   pub within : T (within relayLoader f)
   pub rowed : Rows f rows
 
+-- besides, every call is of a node of a lower number, and `tab` is right
 pub record Known (f : File) (s tab rows : List ℕ) : Type 0 where
   pub encoded : encode f ≡ s
   pub within : T (within relayLoader f)
