@@ -6,15 +6,16 @@ use mathlib.Core.Bool.{Bool, false}
 use mathlib.Core.List.{List, [], _∷_, map}
 use mathlib.Core.Option.{Option, none, some}
 use mathlib.Core.Path.{_≡_}
+use lib.Dec.{eqb}
 use lib.ListN.{length, getD}
-use Rattle.ol_spec.specs.Lists.{maybe, position}
+use Rattle.ol_spec.specs.Lists.{maybe, position, member}
 use Rattle.ol_spec.specs.Syntax.{Ty, bool, int, float32, float64, char, enum, Expr, Node, File, noNode, variables, variableNames, typeOf}
 use Rattle.ol_spec.specs.Places.{placedNodes, placedEquations, equationsStart, rhsPlace, collect}
 use Rattle.ol_spec.specs.Encode.{kindCode}
 use Rattle.ol_spec.specs.Order.{order}
 use Rattle.ol_spec.specs.Eval.{sizeIn}
 use Rattle.ol_spec.specs.Step.{sizesAt}
-use Rattle.ol_spec.specs.Admission.{Item, constantNames, used, callsWhere, badCall}
+use Rattle.ol_spec.specs.Admission.{Item, constantNames, used, callsWhere, badCall, variants}
 
 -- ---- types as bytes: the type code, and an enum's number (0 for another type)
 
@@ -143,3 +144,13 @@ pub record TabOf (f : File) (tab : List ℕ) (k : ℕ) : Type 0 where
 pub record Tab (f : File) (size : ℕ) (tab : List ℕ) : Type 0 where
   pub long : slotsFrom + size ≤ length tab
   pub tabsOf : (k : ℕ) → k < length (f .nodes) → TabOf f tab k
+
+-- ---- variants
+
+-- a table of bytes by name: 1 for these names, another byte for every other
+abbrev pub Tells : List ℕ → List ℕ → Type 0
+Tells table names = (x : ℕ) → eqb (getD table x 0) 1 ≡ member x names
+
+-- of the variants of all enums
+pub record Variants (f : File) (table : List ℕ) : Type 0 where
+  pub tells : Tells table (variants f)

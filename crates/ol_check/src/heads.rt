@@ -1,0 +1,74 @@
+// Expressions, head by head: an expression is its head and its parts directly behind it.
+use super::bytes::byte;
+ghost use mathlib.Core.Path.{_≡_};
+ghost use Prim.Native.Nat.{ℕ, _≤_, _<_, _+_};
+ghost use lib.ListN.{getD, length};
+ghost use Rattle.ol_spec.specs.Syntax.{Exprs, count};
+ghost use Rattle.ol_spec.specs.Places.{exprsSize};
+ghost use Rattle.ol_tree.specs.Heads.{tySizeAt, partsAt, nextAt, Standing};
+ghost use Rattle.ol_check.specs.Walks.{HeadOf};
+
+// By an expression's code, up to Arrow: how many parts it has, and how many bytes its head.
+const PARTS: [usize; 10] = [0, 0, 0, 0, 0, 1, 2, 3, 1, 2];
+
+const SIZES: [usize; 10] = [2, 9, 9, 2, 3, 2, 2, 1, 1, 1];
+
+// How many parts an expression has, and where they start.
+pub struct Parts {
+    pub count: usize,
+    pub start: usize,
+}
+
+// How many bytes the type at `at` has.
+pub fn ty_size(file: &[u8], at: usize) -> usize
+    ensures { λ r. ⌜ r ≡ tySizeAt (now (file .entry)) at ⌝ }
+{
+    if byte(file, at) == 12 { 2 } else { 1 }
+}
+
+// The head of the expression at `at`.
+pub fn head(file: &[u8], at: usize) -> Parts
+    requires { ⌜ at < length (now file) ⌝ }
+    ensures { λ r. ⌜ HeadOf (now (file .entry)) at r ⌝ }
+{
+    let c = byte(file, at);
+    if c < 10 {
+        Parts {
+            count: PARTS[c],
+            start: at + SIZES[c],
+        }
+    } else if c == 10 {
+        Parts {
+            count: 1,
+            start: at + 1 + ty_size(file, at + 1),
+        }
+    } else if c == 11 {
+        Parts {
+            count: byte(file, at + 2),
+            start: at + 3,
+        }
+    } else {
+        Parts {
+            count: byte(file, at + 1),
+            start: at + 2,
+        }
+    }
+}
+
+// Where the expressions end that stand at `at`, so many one after the other.
+pub fn skip(file: &[u8], parts: usize, at: usize) -> usize
+    requires { ⌜ (parts < 256) × (length (now file) ≤ 32768) ⌝ }
+    ensures { λ r. ⌜ ((enums : ℕ) (es : Exprs) → count es ≡ parts → Standing (now (file .entry)) enums at es → r ≡ at + exprsSize es) ⌝ }
+{
+    let mut next = at;
+    let mut left = parts;
+    while 0 < left {
+        if file.len() <= next {
+            return next;
+        }
+        let h = head(file, next);
+        left = left - 1 + h.count;
+        next = h.start;
+    }
+    next
+}

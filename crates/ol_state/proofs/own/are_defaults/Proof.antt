@@ -1,0 +1,83 @@
+-- <uses>
+use Prim.Native.Nat.{_*_}
+use mathlib.Core.List.{_++_}
+use mathlib.Core.Path.{_≡_, sym, ap, ap₂, _∙_}
+use native.Mathlib.Omega.{arith}
+use lib.ListN.{length, take, drop}
+use lib.Seq.{length-take-le, take-at}
+use Rattle.ol_spec.specs.Lists.{same}
+use Rattle.ol_tree.specs.Tables.{rowAt}
+use Rattle.ol_fresh.specs.Defaults.{cellsAt}
+use Rattle.ol_fresh.proofs.Cells.{length-cellsAt}
+-- </uses>
+use borrow.Author.Needs.{needs}
+use Rattle.ol_state.proofs.own.are_defaults.Statement.{statement}
+use Rattle.ol_state.proofs.own.are_defaults.Tie as tie
+use Rattle.ol_state.proofs.own.are_defaults.Reads as reads
+use Rattle.ol_state.proofs.own.are_defaults.Lts as lts
+use Rattle.ol_fresh.proofs.defaults.row.Reads as row-reads
+use Rattle.ol_fresh.proofs.defaults.write_defaults.Reads as write-defaults-reads
+use Rattle.ol_state.proofs.cells.same_bytes.Reads as same-bytes-reads
+
+-- src/own.rt:19:34
+slice-aggregate-write-defaults : tie.Need-slice-aggregate-write-defaults
+slice-aggregate-write-defaults c = search needs
+
+-- src/own.rt:19:5
+write-defaults-requires : tie.Need-write-defaults-requires
+write-defaults-requires c κs = search needs
+
+-- src/own.rt:20:19
+row-requires : tie.Need-row-requires
+row-requires c κs = search needs
+
+-- src/own.rt:20:15
+mul-end : tie.Need-mul-end
+mul-end c = search needs
+
+-- src/own.rt:21:16
+slice-aggregate-same-bytes : tie.Need-slice-aggregate-same-bytes
+slice-aggregate-same-bytes c =
+    let start = c .before .before .before .before .before .before .before .before in
+    let r = c .before .row .ensures in
+    sym (length-take-le (9 * c .before .row .result) (start .args .cells .now) (omega (arith, start .pre .2, r)))
+
+-- src/own.rt:21:31
+array-share-prefix-defaults : tie.Need-array-share-prefix-defaults
+array-share-prefix-defaults c = search needs
+
+-- src/own.rt:21:31
+slice-aggregate-same-bytes-2 : tie.Need-slice-aggregate-same-bytes-2
+slice-aggregate-same-bytes-2 c =
+    let start = c .before .before .before .before .before .before .before .before .before in
+    let r = c .before .before .row .ensures in
+    sym (length-take-le (9 * c .before .before .row .result) (c .before .before .before .before .write-defaults .last .1 .1 .1 .0) (omega (arith, start .pre .1, r, c .before .before .before .before .write-defaults .kept .1 .1 .1 .0)))
+
+-- src/own.rt:21:5
+same-bytes-requires : tie.Need-same-bytes-requires
+same-bytes-requires c κs = search needs
+
+-- src/own.rt:14:1
+returns : tie.Need-returns
+returns c =
+    let start = c .before .before .before .before .before .before .before .before .before .before in
+    let n = rowAt (start .args .rows .now) (start .args .k) 4 in
+    let cells = cellsAt (start .args .tab .now) (start .args .rows .now) (start .args .k) 0 n in
+    let r = c .before .before .before .row .ensures in
+    let e : take (9 * c .before .before .before .row .result) (c .before .before .before .before .before .write-defaults .last .1 .1 .1 .0) ≡ cells =
+    ap (λ m. take (9 * m) (c .before .before .before .before .before .write-defaults .last .1 .1 .1 .0)) r ∙ ap (take (9 * n)) (c .before .before .before .before .before .write-defaults .ensures) ∙ take-at cells _ (9 * n) (length-cellsAt (start .args .tab .now) (start .args .rows .now) (start .args .k) 0 n) in
+    c .same-bytes .ensures ∙ ap₂ same (ap (λ m. take (9 * m) (start .args .cells .now)) r) e
+
+pub are-defaults-spec : {M : Type 1} → statement M
+are-defaults-spec =
+    tie.close
+    (tie.spec
+    slice-aggregate-write-defaults
+    write-defaults-requires
+    row-requires
+    mul-end
+    slice-aggregate-same-bytes
+    array-share-prefix-defaults
+    slice-aggregate-same-bytes-2
+    same-bytes-requires
+    returns)
