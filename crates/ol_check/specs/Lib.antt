@@ -1,2 +1,3 @@
 pub mod Founds
 pub mod Walks
+pub mod RowsDone

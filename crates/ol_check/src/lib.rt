@@ -1,6 +1,7 @@
 // Admission's faults 6 to 10, 13 and 14, and the tables of a file that reads without fault.
 pub mod bytes; // bytes.rt: bytes, names and table entries
 pub mod heads; // heads.rt: expressions, head by head
+pub mod rows; // rows.rt: the rows of the nodes, the first variants and the types
 
 // A fault's place, or none.
 pub enum Found {

@@ -40,7 +40,7 @@ module _ {A : Type 0} (bytes : A → List ℕ) (fits : A → Bool) {s : List ℕ
   section-listed : (lo hi : ℕ) (xs : List A) → T (sectionFits lo hi fits xs) → Here s at (sectionBytes bytes xs) → Listed bytes fits s (at + 1) xs
   section-listed lo hi xs t h = record { here = here-back (length xs ∷ []) _ h; fit = T-and (countFits lo hi (length xs)) _ t .1 }
 
-section-few : {A : Type 0} (fits : A → Bool) (lo hi : ℕ) (xs : List A) → T (sectionFits lo hi fits xs) → (lo ≤ length xs) × (length xs ≤ hi)
+pub section-few : {A : Type 0} (fits : A → Bool) (lo hi : ℕ) (xs : List A) → T (sectionFits lo hi fits xs) → (lo ≤ length xs) × (length xs ≤ hi)
 section-few fits lo hi xs t =
     let w = T-and (byteFits (length xs)) _ (T-and (countFits lo hi (length xs)) _ t .0) in
     let v = T-and (leb lo (length xs)) _ (w .1) in
@@ -84,6 +84,7 @@ node-stands {s} {enums} {at} n t h =
     let l = T-and (sectionFits 0 64 ok (n .locals)) _ (o .1) in
     let p = node-here at n h in
     record {
+      inside = omega (arith, here-inside (p .kind) (omega arith));
       kind = here-first (kindCode (n .kind)) [] (p .kind);
       inputCount = section-count variableBytes ok (n .inputs) (p .inputs);
       inputs = subst (λ a. Listed variableBytes ok s a (n .inputs)) (omega arith) (section-listed variableBytes ok 0 32 (n .inputs) (i .0) (p .inputs));

@@ -1,5 +1,5 @@
 -- Where the items of a file stand, told by its bytes: counts, names, types, and behind them the items, each a list that starts at an offset.
-use Prim.Native.Nat.{ℕ, _+_, _*_, _≤_}
+use Prim.Native.Nat.{ℕ, _+_, _*_, _≤_, _<_}
 use mathlib.Core.Bool.{Bool}
 use mathlib.Core.List.{List, map}
 use mathlib.Core.Path.{_≡_}
@@ -47,6 +47,7 @@ module _ (s : List ℕ) (enums at : ℕ) where
     pub rhs : Standing s enums (rhsPlace at q) (cons (q .rhs) nil)
 
   pub record NodeStands (n : Node) : Type 0 where
+    pub inside : at < length s
     pub kind : getD s at 0 ≡ kindCode (n .kind)
     pub inputCount : getD s (at + 1) 0 ≡ length (n .inputs)
     pub inputs : Listed variableBytes (variableFits base enums) s (at + 2) (n .inputs)
