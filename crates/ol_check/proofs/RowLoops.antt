@@ -13,7 +13,7 @@ use lib.Dec.{T, ltb, leb, eqb, leb→le}
 use borrow.Author.Tests.{ne-eqb}
 use Rattle.ol_spec.specs.Lists.{sum, concat, allOf}
 use Rattle.ol_spec.specs.Syntax.{Ty, bool, Variable, Equation, Node, Constant, File, variables, typeOf, noNode, Exprs, nil, cons}
-use Rattle.ol_spec.specs.Places.{tySize, enumSize, variableSize, equationSize, constantSize, nodeSize, outputsStart, localsStart, equationsStart, placed, exprsSize}
+use Rattle.ol_spec.specs.Places.{tySize, enumSize, variableSize, equationSize, constantSize, nodeSize, outputsStart, localsStart, equationsStart, placed, exprsSize, constantsStart, nodesStart}
 use Rattle.ol_spec.specs.Encode.{kindCode, nameBytes, sectionBytes, variableBytes, equationBytes, constantBytes, nodeBytes}
 use Rattle.ol_spec.specs.Limits.{base}
 use Rattle.ol_spec.specs.Within.{countFits, sectionFits, nameFits, enumFits, variableFits, equationFits, constantFits, nodeFits}
@@ -22,13 +22,13 @@ use Rattle.ol_spec.proofs.RoundTrip.Parts.{Here, here-front, here-back, here-in
 use Rattle.ol_spec.proofs.RoundTrip.Items.{names-size, variable-size, equation-size, constant-size, node-size}
 use Rattle.ol_tree.specs.Tables.{tyCode, tyEnum, rowAt, firstAt, placeOf}
 use Rattle.ol_tree.specs.Heads.{nameAt, tySizeAt, tyEnumAt, TyIs, Standing}
-use Rattle.ol_tree.specs.Stands.{Listed, VariableStands, ConstantStands, EquationStands, NodeStands}
+use Rattle.ol_tree.specs.Stands.{Listed, VariableStands, ConstantStands, EquationStands, NodeStands, FileStands}
 use Rattle.ol_tree.proofs.Heads.{here-first, here-name}
 use Rattle.ol_tree.proofs.HeadsFile.{Passing, Item, passing-start, passing-item, passing-end, variable-stands, constant-stands, equation-stands, node-stands, section-few}
 use Rattle.ol_check.proofs.Walking.{ty-small}
 use Rattle.ol_check.specs.Founds.{Byte}
 use Rattle.ol_check.specs.RowsDone.{Enums, EnumsAre, EnumsDone, ConstantsEnd, EquationsEnd, typeSet, TypeAt, noVariable, VariablesAre, VariablesDone, putAll}
-use Rattle.ol_check.specs.RowsDone.{NodeRow, NodeTypes, NodeIs, NodeDone, NodesAre, NodesDone}
+use Rattle.ol_check.specs.RowsDone.{NodeRow, NodeTypes, NodeIs, NodeDone, NodesAre, NodesDone, TablesDone}
 
 -- an item with a byte stands inside the file
 pub item-in : {s : List ℕ} {at : ℕ} {w : List ℕ} (n : ℕ) → Here s at w → length w ≡ n → 1 ≤ n → length s ≤ at → ⊥
@@ -441,4 +441,41 @@ module _ {s rows₀ : List ℕ} {count at : ℕ} where
         record {
           above = g .above;
           done = λ enums ns q h. let w = g .going enums ns q h in record { row = λ j lt. w .row j (omega (arith, g .few)); typed = λ j lt. w .typed j (omega (arith, g .few)) };
+        }
+
+-- ---- the whole file
+
+module _ {s : List ℕ} {f : File} (st : FileStands s f) {rows₀ rows₁ : List ℕ} {ec c : ℕ} (eb : Byte s 1 ec) (enums : EnumsDone s rows₀ rows₁ ec 2 c) where
+  abbrev pub enums-are : EnumsAre (f .enums) rows₁ 2 c
+  enums-are = enums .done (f .enums) (sym (eb .is ∙ st .enumCount)) (st .enums)
+
+  -- the count of the constants stands behind the enums
+  pub constants-at : c + 1 ≡ constantsStart f
+  constants-at = omega (arith, enums-are .ends)
+
+  pub constants-count : {cc : ℕ} → Byte s c cc → length (f .constants) ≡ cc
+  constants-count b = sym (b .is ∙ ap (λ p. getD s p 0) (omega (arith, enums-are .ends)) ∙ st .constantCount)
+
+  module _ {cc n : ℕ} (cb : Byte s c cc) (ends : ConstantsEnd s cc (c + 1) n) where
+    pub nodes-at : n + 1 ≡ nodesStart f
+    nodes-at =
+        let e = ends (length (f .enums)) (f .constants) (constants-count cb) (subst (λ p. Listed constantBytes (constantFits base (length (f .enums))) s p (f .constants)) (sym constants-at) (st .constants)) in
+        omega (arith, e, constants-at)
+
+    pub nodes-count : {nc : ℕ} → Byte s n nc → length (f .nodes) ≡ nc
+    nodes-count b =
+        let at : n ≡ constantsStart f + sum (map constantSize (f .constants)) = omega (arith, nodes-at) in
+        sym (b .is ∙ ap (λ p. getD s p 0) at ∙ st .nodeCount)
+
+    pub tables-done : {rows₂ types₂ : List ℕ} {nc : ℕ} → Byte s n nc → NodesDone s rows₁ rows₂ types₂ nc (n + 1) → TablesDone f rows₂ types₂ (record { constants = c; nodes = n })
+    tables-done {rows₂} {types₂} nb nodes =
+        let m = length (f .enums) in
+        let w = nodes .done m (f .nodes) (nodes-count nb) (subst (λ p. Listed nodeBytes (nodeFits base m) s p (f .nodes)) (sym nodes-at) (st .nodes)) in
+        record {
+          sections = record { constants = constants-at; nodes = nodes-at };
+          are = record {
+            row = λ k lt. subst (λ a. NodeRow (getD (f .nodes) k noNode) (placeOf (placed nodeSize a (f .nodes)) k) k rows₂) nodes-at (w .row k lt);
+            firsts = λ e lt. nodes .above (256 + e) (omega arith) ∙ enums-are .firsts e lt;
+            typed = λ k lt. w .typed k lt;
+          };
         }

@@ -5,13 +5,14 @@ use mathlib.Core.Path.{_≡_}
 use lib.ListN.{length, getD, set}
 use Rattle.ol_spec.specs.Lists.{sum, concat}
 use Rattle.ol_spec.specs.Syntax.{Ty, bool, Variable, Equation, Node, Constant, File, variables, typeOf, noNode}
-use Rattle.ol_spec.specs.Places.{enumSize, variableSize, equationSize, constantSize, nodeSize, equationsStart, placed}
+use Rattle.ol_spec.specs.Places.{enumSize, variableSize, equationSize, constantSize, nodeSize, equationsStart, placed, placedNodes, constantsStart, nodesStart}
 use Rattle.ol_spec.specs.Encode.{kindCode, nameBytes, sectionBytes, variableBytes, equationBytes, constantBytes, nodeBytes}
 use Rattle.ol_spec.specs.Limits.{base}
 use Rattle.ol_spec.specs.Within.{enumFits, variableFits, equationFits, constantFits, nodeFits}
-use Rattle.ol_tree.specs.Tables.{tyCode, tyEnum, rowAt, firstAt, placeOf}
+use Rattle.ol_tree.specs.Tables.{tyCode, tyEnum, rowAt, firstAt, placeOf, nodeOf}
 use Rattle.ol_tree.specs.Heads.{tyEnumAt}
 use Rattle.ol_tree.specs.Stands.{Listed, NodeStands}
+use Rattle.ol_check.specs.declared.rows.Sections.{Sections}
 
 -- ---- enums
 
@@ -103,3 +104,20 @@ pub record NodesAre (ns : List Node) (at : ℕ) (rows types : List ℕ) : Type 0
 pub record NodesDone (s rows rows′ types′ : List ℕ) (count at : ℕ) : Type 0 where
   pub above : (j : ℕ) → 256 ≤ j → getD rows′ j 0 ≡ getD rows j 0
   pub done : (enums : ℕ) (ns : List Node) → length ns ≡ count → Listed nodeBytes (nodeFits base enums) s at ns → NodesAre ns at rows′ types′
+
+-- ---- the whole file
+
+-- the rows, but for the sizes, the first variants, and the types
+pub record RowsAre (f : File) (rows types : List ℕ) : Type 0 where
+  pub row : (k : ℕ) → k < length (f .nodes) → NodeRow (nodeOf f k) (placeOf (placedNodes f) k) k rows
+  pub firsts : (e : ℕ) → e < length (f .enums) → firstAt rows e ≡ getD (getD (f .enums) e []) 0 0
+  pub typed : (k : ℕ) → k < length (f .nodes) → NodeTypes (nodeOf f k) k types
+
+-- where the counts of the constants and of the nodes stand
+pub record SectionsAre (f : File) (r : Sections) : Type 0 where
+  pub constants : r .constants + 1 ≡ constantsStart f
+  pub nodes : r .nodes + 1 ≡ nodesStart f
+
+pub record TablesDone (f : File) (rows types : List ℕ) (r : Sections) : Type 0 where
+  pub sections : SectionsAre f r
+  pub are : RowsAre f rows types

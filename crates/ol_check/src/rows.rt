@@ -10,7 +10,9 @@ ghost use mathlib.Core.List.{[], _∷_};
 ghost use Prim.Native.Nat.{ℕ, _≤_, _<_, _+_, _*_};
 ghost use lib.ListN.{getD, length, set};
 ghost use Rattle.ol_tree.specs.Heads.{tyEnumAt};
-ghost use Rattle.ol_check.specs.RowsDone.{EnumsDone, ConstantsEnd, EquationsEnd, typeSet, VariablesDone, putAll, NodeDone, NodesDone};
+ghost use Rattle.ol_check.specs.RowsDone.{EnumsDone, ConstantsEnd, EquationsEnd, typeSet, VariablesDone, putAll, NodeDone, NodesDone, TablesDone};
+ghost use Rattle.ol_tree.specs.At.{fileAt};
+ghost use Rattle.ol_tree.specs.Stands.{FileReads};
 
 // Where the section of names at `at` ends.
 pub fn names_end(file: &[u8], at: usize) -> usize
@@ -170,5 +172,25 @@ fn node_rows(file: &[u8], rows: &mut [usize], types: &mut [u8], count: usize, at
     while k < count {
         next = node_row(file, rows, types, k, next);
         k += 1;
+    }
+}
+
+// Where the counts of a file's constants and of its nodes stand.
+pub struct Sections {
+    pub constants: usize,
+    pub nodes: usize,
+}
+
+// The rows, but for the sizes, and the types of a file that reads without fault.
+pub fn rows_of(file: &[u8], rows: &mut [usize], types: &mut [u8]) -> Sections
+    requires { ⌜ FileReads (now file) × (length (now rows) ≡ 272) × (length (now types) ≡ 7168) ⌝ }
+    ensures { λ r. ⌜ TablesDone (fileAt (now (file .entry))) (now (rows .exit)) (now (types .exit)) r ⌝ }
+{
+    let c = enum_rows(file, rows, byte(file, 1), 2);
+    let n = constants_end(file, byte(file, c), c + 1);
+    node_rows(file, rows, types, byte(file, n), n + 1);
+    Sections {
+        constants: c,
+        nodes: n,
     }
 }

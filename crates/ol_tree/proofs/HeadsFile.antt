@@ -134,6 +134,7 @@ stands f t =
     let at-n : Here (encode f) (constantsStart f + sum (map constantSize (f .constants))) nb = moved (omega (arith, length-append eb cb)) (here-back (b ++ eb ++ cb) nb h) in
     record {
       short = ok .1;
+      inside = omega (arith, here-inside at-n (omega arith));
       enumCount = section-count (sectionBytes nameBytes) (enumFits base) (f .enums) at-e;
       enums = section-listed (sectionBytes nameBytes) (enumFits base) 0 16 (f .enums) (e .0) at-e;
       constantCount = section-count constantBytes (constantFits base m) (f .constants) at-c;

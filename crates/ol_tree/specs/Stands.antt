@@ -65,6 +65,7 @@ module _ (s : List ℕ) (enums at : ℕ) where
 -- the file's sections
 pub record FileStands (s : List ℕ) (f : File) : Type 0 where
   pub short : length s ≤ 32768
+  pub inside : nodesStart f ≤ length s
   pub enumCount : getD s 1 0 ≡ length (f .enums)
   pub enums : Listed (sectionBytes nameBytes) (enumFits base) s 2 (f .enums)
   pub constantCount : getD s (1 + sectionSize enumSize (f .enums)) 0 ≡ length (f .constants)
