@@ -1,2 +1,4 @@
 pub mod Walking
 pub mod RowLoops
+pub mod HeadTests
+pub mod WalkLoop

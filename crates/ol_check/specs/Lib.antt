@@ -1,3 +1,4 @@
 pub mod Founds
 pub mod Walks
 pub mod RowsDone
+pub mod Judging

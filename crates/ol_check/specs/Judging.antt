@@ -1,0 +1,94 @@
+-- Faults 7, 9 and 10 at the heads of expressions, as the bytes and the tables tell them.
+use Prim.Native.Nat.{ℕ, _+_, _-_, _*_, _≤_, _<_}
+use mathlib.Core.Bool.{Bool, true, false, not, _&&_, _||_, cond}
+use mathlib.Core.List.{List, [], _∷_, _++_, map}
+use mathlib.Core.Option.{Option, none, some}
+use mathlib.Core.Path.{_≡_}
+use lib.ListN.{length, getD, set}
+use lib.Dec.{ltb, eqb}
+use Rattle.ol_spec.specs.Lists.{orElse, member}
+use Rattle.ol_spec.specs.Syntax.{Expr, Exprs, count}
+use Rattle.ol_spec.specs.Places.{collectAll, exprsSize}
+use Rattle.ol_spec.specs.Admission.{Item, first}
+use Rattle.ol_tree.specs.Tables.{rowAt}
+use Rattle.ol_tree.specs.Heads.{nameAt, Standing}
+use Rattle.ol_check.specs.Founds.{placeOf}
+use Rattle.ol_check.specs.declared.judge.Faults.{Faults}
+
+-- ---- heads
+
+abbrev pub headAt : ℕ → Expr → List ℕ
+headAt at e = at ∷ []
+
+-- where the heads of these expressions stand, in file order
+abbrev pub heads : ℕ → Exprs → List ℕ
+heads at es = collectAll headAt at es
+
+-- ---- 7, and the slots
+
+-- the expression at p is a Var of a name that has no entry
+abbrev pub unseenB : List ℕ → List ℕ → ℕ → Bool
+unseenB s names p = eqb (getD s p 0) 4 && eqb (getD names (nameAt s (p + 1)) 0) 0
+
+abbrev pub unseenHead : List ℕ → List ℕ → ℕ → Item
+unseenHead s names p = (p + 1, unseenB s names p)
+
+-- a name's slot, by its entry
+abbrev pub slotOfEntry : ℕ → ℕ
+slotOfEntry e = cond (eqb e 0) 255 (cond (eqb e 255) 255 (e - 1))
+
+-- the slot of the name at p is stored
+abbrev pub slotPut : List ℕ → List ℕ → List ℕ → ℕ → List ℕ
+slotPut s names slots p = set slots p (slotOfEntry (getD names (nameAt s p) 0))
+
+-- and that of the expression at p, if it is a Var
+abbrev pub slotHead : List ℕ → List ℕ → List ℕ → ℕ → List ℕ
+slotHead s names slots p = cond (eqb (getD s p 0) 4) (slotPut s names slots (p + 1)) slots
+
+unfoldable pub slotHeads : List ℕ → List ℕ → List ℕ → List ℕ → List ℕ
+slotHeads s names slots [] = slots
+slotHeads s names slots (p ∷ ps) = slotHeads s names (slotHead s names slots p) ps
+
+-- ---- 9
+
+-- whether a node of the kind coded a may call one of the kind coded b
+abbrev pub mayB : ℕ → ℕ → Bool
+mayB a b = not (eqb b 2) && not (eqb a 0 && eqb b 1)
+
+-- a call of node c with so many arguments, in node k, is faulted
+abbrev pub badB : List ℕ → ℕ → ℕ → ℕ → Bool
+badB rows k c arguments = not (ltb c k && mayB (rowAt rows k 0) (rowAt rows c 0) && eqb arguments (rowAt rows c 2))
+
+abbrev pub calledB : List ℕ → List ℕ → ℕ → ℕ → Bool
+calledB s rows k p = eqb (getD s p 0) 11 && badB rows k (getD s (p + 1) 0) (getD s (p + 2) 0)
+
+abbrev pub calledHead : List ℕ → List ℕ → ℕ → ℕ → Item
+calledHead s rows k p = (p, calledB s rows k p)
+
+-- ---- 10
+
+-- how many outputs node c has, in a file of so many nodes
+abbrev pub outputsB : List ℕ → ℕ → ℕ → ℕ
+outputsB rows nodes c = cond (ltb c nodes) (rowAt rows c 3) 0
+
+-- how many values the expression at p has
+abbrev pub arityB : List ℕ → List ℕ → ℕ → ℕ → ℕ
+arityB s rows nodes p =
+    cond (eqb (getD s p 0) 12) (getD s (p + 1) 0) (cond (eqb (getD s p 0) 11) (outputsB rows nodes (getD s (p + 1) 0)) 1)
+
+abbrev pub severalHead : List ℕ → List ℕ → ℕ → ℕ → Item
+severalHead s rows nodes p = (p, ltb 1 (arityB s rows nodes p))
+
+-- ---- a walk
+
+-- a fault found so far, or the first among the items
+abbrev pub foundIn : Option ℕ → List Item → Option ℕ
+foundIn found is = orElse found (first is)
+
+-- the expressions es, which stand where the walk stood, are judged
+pub record Walked (s names rows : List ℕ) (nodes k : ℕ) (es : Exprs) (slots slots′ : List ℕ) (f r : Faults) : Type 0 where
+  pub next : r .next ≡ f .next + exprsSize es
+  pub slotted : slots′ ≡ slotHeads s names slots (heads (f .next) es)
+  pub unseen : placeOf (r .unseen) ≡ foundIn (placeOf (f .unseen)) (map (unseenHead s names) (heads (f .next) es))
+  pub called : placeOf (r .called) ≡ foundIn (placeOf (f .called)) (map (calledHead s rows k) (heads (f .next) es))
+  pub shaped : placeOf (r .shaped) ≡ foundIn (placeOf (f .shaped)) (map (severalHead s rows nodes) (heads (f .next) es))
