@@ -2,3 +2,4 @@ pub mod Walking
 pub mod RowLoops
 pub mod HeadTests
 pub mod WalkLoop
+pub mod HeadLaws

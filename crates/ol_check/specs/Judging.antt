@@ -7,9 +7,9 @@ use mathlib.Core.Path.{_≡_}
 use lib.ListN.{length, getD, set}
 use lib.Dec.{ltb, eqb}
 use Rattle.ol_spec.specs.Lists.{orElse, member}
-use Rattle.ol_spec.specs.Syntax.{Expr, Exprs, count}
+use Rattle.ol_spec.specs.Syntax.{Expr, Exprs, count, File}
 use Rattle.ol_spec.specs.Places.{collectAll, exprsSize}
-use Rattle.ol_spec.specs.Admission.{Item, first}
+use Rattle.ol_spec.specs.Admission.{Item, first, calleeIn}
 use Rattle.ol_tree.specs.Tables.{rowAt}
 use Rattle.ol_tree.specs.Heads.{nameAt, Standing}
 use Rattle.ol_check.specs.Founds.{placeOf}
@@ -92,3 +92,15 @@ pub record Walked (s names rows : List ℕ) (nodes k : ℕ) (es : Exprs) (slots 
   pub unseen : placeOf (r .unseen) ≡ foundIn (placeOf (f .unseen)) (map (unseenHead s names) (heads (f .next) es))
   pub called : placeOf (r .called) ≡ foundIn (placeOf (f .called)) (map (calledHead s rows k) (heads (f .next) es))
   pub shaped : placeOf (r .shaped) ≡ foundIn (placeOf (f .shaped)) (map (severalHead s rows nodes) (heads (f .next) es))
+
+-- ---- what the tables say of the tree
+
+-- a name has no entry exactly if it is not visible
+abbrev pub Knows : List ℕ → List ℕ → Type 0
+Knows names visible = (x : ℕ) → eqb (getD names x 0) 0 ≡ not (member x visible)
+
+-- In a file f: which names are visible, which calls are faulted, and how many outputs each node has
+pub record Context (f : File) (k : ℕ) (names rows : List ℕ) (nodes : ℕ) (visible : List ℕ) (bad : ℕ → ℕ → Bool) : Type 0 where
+  pub knows : Knows names visible
+  pub calls : (c n : ℕ) → badB rows k c n ≡ bad c n
+  pub outputs : (c : ℕ) → outputsB rows nodes c ≡ length (calleeIn f c .outputs)
