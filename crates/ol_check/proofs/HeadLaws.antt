@@ -16,7 +16,7 @@ use Rattle.ol_spec.proofs.Walks.{first-append}
 use Rattle.ol_tree.specs.Tables.{Each}
 use Rattle.ol_tree.specs.Heads.{nameAt, partsOf, headSize, joined, HeadIs, Standing}
 use Rattle.ol_tree.proofs.Heads.{headed, head-some, head-ends, walk-head}
-use Rattle.ol_check.specs.Judging.{headAt, heads, unseenB, unseenHead, slotOfEntry, slotPut, slotHead, slotHeads, badB, calledB, calledHead, outputsB, arityB, severalHead, Knows}
+use Rattle.ol_check.specs.Judging.{headAt, heads, unseenB, unseenHead, slotOfEntry, slotPut, slotHead, slotHeads, badB, calledB, calledHead, outputsB, arityB, severalHead, Knows, SlotIs}
 
 -- a list of expressions, head by head
 pub data Flat (s : List ℕ) : ℕ → Exprs → Type 0 where
@@ -139,10 +139,6 @@ module _ (s rows : List ℕ) (nodes : ℕ) (f : File) (outputs : (c : ℕ) → o
   several-law w = heads-first (severalHead s rows nodes) (shapeItem f) (λ at e h. ap (λ n. firstIf (ltb 1 n) at none) (sym (arity-is at e h))) w
 
 -- ---- slots
-
--- the slot that a name's entry gives stands at the name's place
-pub record SlotIs (names slots : List ℕ) (p : ℕ × ℕ) : Type 0 where
-  pub is : getD slots (p .0) 0 ≡ slotOfEntry (getD names (p .1) 0)
 
 module _ (s names : List ℕ) where
   slot-length : (slots : List ℕ) (p : ℕ) → length (slotHead s names slots p) ≡ length slots

@@ -3,3 +3,4 @@ pub mod RowLoops
 pub mod HeadTests
 pub mod WalkLoop
 pub mod HeadLaws
+pub mod EquationLaws

@@ -7,12 +7,13 @@ use mathlib.Core.Path.{_≡_}
 use lib.ListN.{length, getD, set}
 use lib.Dec.{ltb, eqb}
 use Rattle.ol_spec.specs.Lists.{orElse, member}
-use Rattle.ol_spec.specs.Syntax.{Expr, Exprs, count, File}
-use Rattle.ol_spec.specs.Places.{collectAll, exprsSize}
-use Rattle.ol_spec.specs.Admission.{Item, first, calleeIn}
-use Rattle.ol_tree.specs.Tables.{rowAt}
-use Rattle.ol_tree.specs.Heads.{nameAt, Standing}
+use Rattle.ol_spec.specs.Syntax.{Expr, Exprs, nil, cons, count, Equation, File}
+use Rattle.ol_spec.specs.Places.{collectAll, exprsSize, exprSize, equationSize, placedNames, rhsPlace}
+use Rattle.ol_spec.specs.Admission.{Item, first, calleeIn, used, equationUses, inEquation, callsWhere, equationShape}
+use Rattle.ol_tree.specs.Tables.{rowAt, Each}
+use Rattle.ol_tree.specs.Heads.{nameAt, partsOf, headSize, joined, Standing}
 use Rattle.ol_check.specs.Founds.{placeOf}
+use Rattle.ol_check.specs.declared.Found.{Found}
 use Rattle.ol_check.specs.declared.judge.Faults.{Faults}
 
 -- ---- heads
@@ -104,3 +105,48 @@ pub record Context (f : File) (k : ℕ) (names rows : List ℕ) (nodes : ℕ) (v
   pub knows : Knows names visible
   pub calls : (c n : ℕ) → badB rows k c n ≡ bad c n
   pub outputs : (c : ℕ) → outputsB rows nodes c ≡ length (calleeIn f c .outputs)
+
+-- the slot that a name's entry gives stands at the name's place
+pub record SlotIs (names slots : List ℕ) (p : ℕ × ℕ) : Type 0 where
+  pub is : getD slots (p .0) 0 ≡ slotOfEntry (getD names (p .1) 0)
+
+-- ---- names that an equation defines
+
+abbrev pub entryItem : List ℕ → ℕ × ℕ → Item
+entryItem names p = (p .0, eqb (getD names (p .1) 0) 0)
+
+unfoldable pub slotNames : List ℕ → List ℕ → List (ℕ × ℕ) → List ℕ
+slotNames names slots [] = slots
+slotNames names slots (p ∷ ps) = slotNames names (set slots (p .0) (slotOfEntry (getD names (p .1) 0))) ps
+
+pub record NamesSeen (names : List ℕ) (ps : List (ℕ × ℕ)) (slots slots′ : List ℕ) (found r : Found) : Type 0 where
+  pub unseen : placeOf r ≡ foundIn (placeOf found) (map (entryItem names) ps)
+  pub slotted : slots′ ≡ slotNames names slots ps
+
+-- ---- a right side, and an equation
+
+-- several names and not several values; several values and not as many names
+abbrev pub loneB : ℕ → ℕ → Bool
+loneB names values = ltb 1 names && not (ltb 1 values)
+
+abbrev pub otherB : ℕ → ℕ → Bool
+otherB names values = ltb 1 values && not (eqb values names)
+
+-- the right side e of the equation at `at`, which has so many names
+pub record RootJudged (s names rows : List ℕ) (nodes k at many : ℕ) (e : Expr) (slots slots′ : List ℕ) (f r : Faults) : Type 0 where
+  pub next : r .next ≡ f .next + exprSize e
+  pub slotted : slots′ ≡ slotHeads s names slots (heads (f .next) (cons e nil))
+  pub unseen : placeOf (r .unseen) ≡ foundIn (placeOf (f .unseen)) (map (unseenHead s names) (heads (f .next) (cons e nil)))
+  pub called : placeOf (r .called) ≡ foundIn (placeOf (f .called)) (map (calledHead s rows k) (heads (f .next) (cons e nil)))
+  pub shaped : placeOf (r .shaped)
+      ≡ foundIn (placeOf (f .shaped)) ((at, loneB many (arityB s rows nodes (f .next))) ∷ (f .next, otherB many (arityB s rows nodes (f .next)))
+      ∷ map (severalHead s rows nodes) (heads (f .next + headSize e) (joined (partsOf e) nil)))
+
+-- the equation q at `at`, in the file f
+pub record EquationJudged (s names : List ℕ) (f : File) (visible : List ℕ) (bad : ℕ → ℕ → Bool) (at : ℕ) (q : Equation) (slots slots′ : List ℕ) (g r : Faults) : Type 0 where
+  pub next : r .next ≡ at + equationSize q
+  pub unseen : placeOf (r .unseen) ≡ foundIn (placeOf (g .unseen)) (equationUses visible (at, q))
+  pub called : placeOf (r .called) ≡ foundIn (placeOf (g .called)) (inEquation (callsWhere bad) (at, q))
+  pub shaped : placeOf (r .shaped) ≡ foundIn (placeOf (g .shaped)) (equationShape f (at, q))
+  pub below : (j : ℕ) → j ≤ at → getD slots′ j 0 ≡ getD slots j 0
+  pub held : length s ≤ length slots → Each (SlotIs names slots′) (placedNames (at + 1) (q .names) ++ used (rhsPlace at q) (q .rhs))

@@ -12,6 +12,12 @@ ghost use lib.ListN.{getD, length, set};
 ghost use Rattle.ol_spec.specs.Syntax.{Exprs, count};
 ghost use Rattle.ol_tree.specs.Heads.{nameAt, Standing};
 ghost use Rattle.ol_check.specs.Judging.{unseenB, slotOfEntry, slotPut, slotHead, mayB, badB, calledB, outputsB, arityB, Walked};
+ghost use Rattle.ol_check.specs.Judging.{NamesSeen, loneB, otherB, RootJudged, Context, EquationJudged};
+ghost use mathlib.Core.List.{List};
+ghost use mathlib.Core.Bool.{Bool};
+ghost use Rattle.ol_spec.specs.Syntax.{Expr, nil, cons, Equation, File};
+ghost use Rattle.ol_spec.specs.Places.{placedNames};
+ghost use Rattle.ol_tree.specs.Stands.{Names, EquationStands};
 
 // The first fault of each number so far, and where the walk stands.
 pub struct Faults {
@@ -170,4 +176,126 @@ fn walk(
         shaped,
         next,
     }
+}
+
+// So many names from `at` on: the first that has no entry, and each one's slot.
+fn seen_names(
+    file: &[u8],
+    names: &[u8],
+    slots: &mut [u8],
+    many: usize,
+    at: usize,
+    found: Found,
+) -> Found
+    requires { ⌜ (many < 256) × (at ≤ 40000) ⌝ }
+    ensures { λ r. ⌜ ((xs : List ℕ) → length xs ≡ many → Names (now (file .entry)) 0 at xs → NamesSeen (now (names .entry)) (placedNames at xs) (now (slots .entry)) (now (slots .exit)) found r) ⌝ }
+{
+    let mut next = at;
+    let mut i = 0;
+    let mut unseen = found;
+    while i < many {
+        let e = byte(names, name(file, next));
+        unseen = earlier(unseen, e == 0, next);
+        put_byte(slots, next, slot(e));
+        next += 2;
+        i += 1;
+    }
+    unseen
+}
+
+// Several names, and not several values.
+fn lone(many: usize, values: usize) -> bool
+    ensures { λ r. ⌜ r ≡ loneB many values ⌝ }
+{
+    if 1 < many { values <= 1 } else { false }
+}
+
+// Several values, and not as many names.
+fn other(many: usize, values: usize) -> bool
+    ensures { λ r. ⌜ r ≡ otherB many values ⌝ }
+{
+    if 1 < values { values != many } else { false }
+}
+
+// The right side of the equation at `at`, which has so many names. The walk stands at the right side.
+fn root(
+    file: &[u8],
+    names: &[u8],
+    slots: &mut [u8],
+    rows: &[usize],
+    nodes: usize,
+    node: usize,
+    at: usize,
+    many: usize,
+    f: Faults,
+) -> Faults
+    requires { ⌜ (node < 256) × (length (now file) ≤ 32768) ⌝ }
+    ensures { λ r. ⌜ ((enums : ℕ) (e : Expr) → Standing (now (file .entry)) enums (f .next) (cons e nil) → RootJudged (now (file .entry)) (now (names .entry)) (now (rows .entry)) nodes node at many e (now (slots .entry)) (now (slots .exit)) f r) ⌝ }
+{
+    let next = f.next;
+    if file.len() <= next {
+        return f;
+    }
+    let u = f.unseen;
+    let c = f.called;
+    let s = f.shaped;
+    let h = head(file, next);
+    let values = arity_at(file, rows, nodes, next);
+    slot_head(file, names, slots, next);
+    let unseen = earlier(u, unseen_at(file, names, next), next + 1);
+    let called = earlier(c, called_at(file, rows, node, next), next);
+    let few = earlier(s, lone(many, values), at);
+    let shaped = earlier(few, other(many, values), next);
+    walk(
+        file,
+        names,
+        slots,
+        rows,
+        nodes,
+        node,
+        h.count,
+        Faults {
+            unseen,
+            called,
+            shaped,
+            next: h.start,
+        },
+    )
+}
+
+// The equation where the walk stands.
+fn equation(
+    file: &[u8],
+    names: &[u8],
+    slots: &mut [u8],
+    rows: &[usize],
+    nodes: usize,
+    node: usize,
+    f: Faults,
+) -> Faults
+    requires { ⌜ (node < 256) × (f .next < length (now file)) × (length (now file) ≤ 32768) ⌝ }
+    ensures { λ r. ⌜ ((t : File) (visible : List ℕ) (bad : ℕ → ℕ → Bool) (enums : ℕ) (q : Equation) → Context t node (now (names .entry)) (now (rows .entry)) nodes visible bad → EquationStands (now (file .entry)) enums (f .next) q → EquationJudged (now (file .entry)) (now (names .entry)) t visible bad (f .next) q (now (slots .entry)) (now (slots .exit)) f r) ⌝ }
+{
+    let at = f.next;
+    let many = byte(file, at);
+    let u = f.unseen;
+    let called = f.called;
+    let shaped = f.shaped;
+    let unseen = seen_names(file, names, slots, many, at + 1, u);
+    root(
+        file,
+        names,
+        slots,
+        rows,
+        nodes,
+        node,
+        at,
+        many,
+        Faults {
+            unseen,
+            called,
+            shaped,
+            next: at + 1 + 2 * many,
+        },
+    )
 }
