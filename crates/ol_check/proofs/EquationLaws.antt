@@ -28,12 +28,12 @@ use Rattle.ol_tree.proofs.HeadsFile.{Passing, Item as PassedItem, passing-start
 use Rattle.ol_check.specs.Founds.{Byte, placeOf, earliest}
 use Rattle.ol_check.specs.Walks.{HeadOf}
 use Rattle.ol_check.specs.Judging.{headAt, heads, unseenB, unseenHead, slotOfEntry, slotHead, slotHeads, calledB, calledHead, arityB, severalHead, foundIn, Walked}
-use Rattle.ol_check.specs.Judging.{Knows, Context, SlotIs, entryItem, slotNames, NamesSeen, loneB, otherB, RootJudged, EquationJudged}
+use Rattle.ol_check.specs.Judging.{Knows, Context, SlotIs, entryItem, slotNames, NamesSeen, loneB, otherB, RootJudged, EquationJudged, namesIn, slotEquation, slotEquations, EquationsJudged}
 use Rattle.ol_check.specs.declared.Found.{Found}
 use Rattle.ol_check.specs.declared.heads.Parts.{Parts}
 use Rattle.ol_check.specs.declared.judge.Faults.{Faults}
 use Rattle.ol_check.proofs.WalkLoop.{found-step, found-none}
-use Rattle.ol_check.proofs.HeadLaws.{Flat, flat, unseen-law, called-law, several-law, arity-is, slots-below, slots-held}
+use Rattle.ol_check.proofs.HeadLaws.{Flat, flat, unseen-law, called-law, several-law, arity-is, slots-below, slots-length, slots-held}
 
 -- ---- names
 
@@ -179,6 +179,7 @@ module _ {s names rows : List ℕ} {nodes k many : ℕ} (slots slots₁ slots₂
     → RootJudged s names rows nodes k (g .next) many e slots₁ slots₂ (record { unseen = u; called = g .called; shaped = g .shaped; next = g .next + 1 + 2 * many }) r) where
   pub equation-judged : (t : File) (visible : List ℕ) (bad : ℕ → ℕ → Bool) (enums : ℕ) (q : Equation) → Context t k names rows nodes visible bad → EquationStands s enums (g .next) q
       → EquationJudged s names t visible bad (g .next) q slots slots₂ g r
+  unfolding slotEquation
   equation-judged t visible bad enums q ctx st =
       let at = g .next in
       let e = q .rhs in
@@ -208,14 +209,29 @@ module _ {s names rows : List ℕ} {nodes k many : ℕ} (slots slots₁ slots₂
         called = w .called ∙ ap (orElse (placeOf (g .called))) (called-law s rows k bad (ctx .calls) f ∙ ap first (walk-one (callsWhere bad) p e) ∙ ap (λ a. first (collect (callsWhere bad) a e)) (sym place));
         shaped = w .shaped ∙ ap (λ x. orElse (placeOf (g .shaped)) (firstIf (loneB many (arityB s rows nodes p)) at (firstIf (otherB many (arityB s rows nodes p)) p x))) inner
             ∙ rw (ar, ← len) refl;
-        below = λ j le. ap (λ l. getD l j 0) (w .slotted) ∙ slots-below s names f slots₁ j (omega arith) ∙ ap (λ l. getD l j 0) (n .slotted) ∙ names-below names (q .names) slots (at + 1) j (omega arith);
-        held = λ room.
-            let far = headed e nil right .inside in
-            let tail : Each (SlotIs names slots₂) (used (rhsPlace at q) e) =
-            subst (λ a. Each (SlotIs names slots₂) (used a e)) (sym place)
-            (subst (Each (SlotIs names slots₂)) (walk-one usedAt p e)
-            (subst (λ l. Each (SlotIs names l) (collectAll usedAt p (cons e nil))) (sym (w .slotted))
-            (slots-held s names f slots₁ (omega (arith, ap length (n .slotted), names-length names (q .names) slots (at + 1)))))) in
-            names-held names (q .names) slots slots₂ (at + 1) (omega arith)
-            (λ j lt. ap (λ l. getD l j 0) (w .slotted) ∙ slots-below s names f slots₁ j (omega arith) ∙ ap (λ l. getD l j 0) (n .slotted)) (used (rhsPlace at q) e) tail;
+        slotted = w .slotted ∙ ap (λ l. slotHeads s names l (heads p (cons e nil))) (n .slotted) ∙ ap (λ a. slotHeads s names (slotNames names slots ps) (heads a (cons e nil))) (sym place);
       }
+
+-- ---- the slots of an equation's names
+
+module _ (s names : List ℕ) {enums at : ℕ} {q : Equation} (st : EquationStands s enums at q) where
+  pub equation-below : (slots : List ℕ) (j : ℕ) → j ≤ at → getD (slotEquation s names slots (at, q)) j 0 ≡ getD slots j 0
+  unfolding slotEquation
+  equation-below slots j le = slots-below s names (flat (st .rhs)) (slotNames names slots (placedNames (at + 1) (q .names))) j (omega arith) ∙ names-below names (q .names) slots (at + 1) j (omega arith)
+
+  pub equation-length : (slots : List ℕ) → length (slotEquation s names slots (at, q)) ≡ length slots
+  unfolding slotEquation
+  equation-length slots = slots-length s names (heads (rhsPlace at q) (cons (q .rhs) nil)) _ ∙ names-length names (q .names) slots (at + 1)
+
+  pub equation-held : (slots final : List ℕ) → length s ≤ length slots → ((j : ℕ) → j < at + equationSize q → getD final j 0 ≡ getD (slotEquation s names slots (at, q)) j 0) → Each (SlotIs names final) (namesIn (at, q))
+  unfolding slotEquation
+  equation-held slots final room same =
+      let p = rhsPlace at q in
+      let e = q .rhs in
+      let f = flat (st .rhs) in
+      let mid = slotNames names slots (placedNames (at + 1) (q .names)) in
+      let far = headed e nil (st .rhs) .inside in
+      let tail : Each (SlotIs names final) (used p e) =
+          subst (Each (SlotIs names final)) (walk-one usedAt p e)
+          (slots-held s names f mid final (omega (arith, names-length names (q .names) slots (at + 1))) (λ j lt. same j (omega arith))) in
+      names-held names (q .names) slots final (at + 1) (omega arith) (λ j lt. same j (omega arith) ∙ slots-below s names f mid j (omega arith)) (used p e) tail

@@ -155,6 +155,11 @@ module _ (s names : List ℕ) where
       go true = getD-set-other slots (p + 1) j _ 0 ne
       go false = refl
 
+  pub slots-length : (ps slots : List ℕ) → length (slotHeads s names slots ps) ≡ length slots
+  unfolding slotHeads
+  slots-length [] slots = refl
+  slots-length (p ∷ ps) slots = slots-length ps (slotHead s names slots p) ∙ slot-length slots p
+
   -- a walk leaves what stands before it
   pub slots-below : {at : ℕ} {es : Exprs} → Flat s at es → (slots : List ℕ) (j : ℕ) → j ≤ at → getD (slotHeads s names slots (heads at es)) j 0 ≡ getD slots j 0
   unfolding slotHeads collectAll
@@ -181,16 +186,17 @@ module _ (s names : List ℕ) where
   each-slot slots at (call k es) rest h slots′ room kept tail = tail
   each-slot slots at (tuple es) rest h slots′ room kept tail = tail
 
-  -- every name used has the slot of its entry
-  pub slots-held : {at : ℕ} {es : Exprs} → Flat s at es → (slots : List ℕ) → length s ≤ length slots → Each (SlotIs names (slotHeads s names slots (heads at es))) (collectAll usedAt at es)
+  -- every name used has the slot of its entry, wherever what the walk leaves is kept
+  pub slots-held : {at : ℕ} {es : Exprs} → Flat s at es → (slots final : List ℕ) → length s ≤ length slots
+      → ((j : ℕ) → j < at + exprsSize es → getD final j 0 ≡ getD (slotHeads s names slots (heads at es)) j 0) → Each (SlotIs names final) (collectAll usedAt at es)
   unfolding slotHeads collectAll
-  slots-held ended slots room = tt
-  slots-held (headAnd {at} {e} {es} w h r) slots room =
+  slots-held ended slots final room same = tt
+  slots-held (headAnd {at} {e} {es} w h r) slots final room same =
       let next = slotHead s names slots at in
       let rest = joined (partsOf e) es in
-      let all = slotHeads s names next (heads (at + headSize e) rest) in
-      let same : slotHeads s names slots (heads at (cons e es)) ≡ all = ap (slotHeads s names slots) (walk-head headAt at e es) in
-      let tail = slots-held r next (omega (arith, slot-length slots at)) in
-      subst (λ l. Each (SlotIs names (slotHeads s names slots (heads at (cons e es)))) l) (sym (walk-head usedAt at e es))
-      (subst (λ final. Each (SlotIs names final) (usedAt at e ++ collectAll usedAt (at + headSize e) rest)) (sym same)
-      (each-slot slots at e (collectAll usedAt (at + headSize e) rest) h all (λ three. omega arith) (λ three. slots-below r next (at + 1) (omega arith)) tail))
+      let all : slotHeads s names slots (heads at (cons e es)) ≡ slotHeads s names next (heads (at + headSize e) rest) = ap (slotHeads s names slots) (walk-head headAt at e es) in
+      let ends = head-ends e es at in
+      let tail = slots-held r next final (omega (arith, slot-length slots at)) (λ j lt. same j (omega arith) ∙ ap (λ l. getD l j 0) all) in
+      subst (Each (SlotIs names final)) (sym (walk-head usedAt at e es))
+      (each-slot slots at e (collectAll usedAt (at + headSize e) rest) h final (λ three. omega arith)
+      (λ three. same (at + 1) (omega arith) ∙ ap (λ l. getD l (at + 1) 0) all ∙ slots-below r next (at + 1) (omega arith)) tail)

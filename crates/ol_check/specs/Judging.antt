@@ -6,9 +6,9 @@ use mathlib.Core.Option.{Option, none, some}
 use mathlib.Core.Path.{_≡_}
 use lib.ListN.{length, getD, set}
 use lib.Dec.{ltb, eqb}
-use Rattle.ol_spec.specs.Lists.{orElse, member}
+use Rattle.ol_spec.specs.Lists.{orElse, member, concat}
 use Rattle.ol_spec.specs.Syntax.{Expr, Exprs, nil, cons, count, Equation, File}
-use Rattle.ol_spec.specs.Places.{collectAll, exprsSize, exprSize, equationSize, placedNames, rhsPlace}
+use Rattle.ol_spec.specs.Places.{collectAll, exprsSize, exprSize, equationSize, placed, placedNames, rhsPlace}
 use Rattle.ol_spec.specs.Admission.{Item, first, calleeIn, used, equationUses, inEquation, callsWhere, equationShape}
 use Rattle.ol_tree.specs.Tables.{rowAt, Each}
 use Rattle.ol_tree.specs.Heads.{nameAt, partsOf, headSize, joined, Standing}
@@ -142,11 +142,30 @@ pub record RootJudged (s names rows : List ℕ) (nodes k at many : ℕ) (e : Exp
       ≡ foundIn (placeOf (f .shaped)) ((at, loneB many (arityB s rows nodes (f .next))) ∷ (f .next, otherB many (arityB s rows nodes (f .next)))
       ∷ map (severalHead s rows nodes) (heads (f .next + headSize e) (joined (partsOf e) nil)))
 
+-- the names of an equation, defined and used, with their places
+abbrev pub namesIn : ℕ × Equation → List (ℕ × ℕ)
+namesIn p = placedNames (p .0 + 1) (p .1 .names) ++ used (rhsPlace (p .0) (p .1)) (p .1 .rhs)
+
+-- the slots after an equation's names are stored, and after those of many
+unfoldable pub slotEquation : List ℕ → List ℕ → List ℕ → ℕ × Equation → List ℕ
+slotEquation s names slots p =
+    slotHeads s names (slotNames names slots (placedNames (p .0 + 1) (p .1 .names))) (heads (rhsPlace (p .0) (p .1)) (cons (p .1 .rhs) nil))
+
+unfoldable pub slotEquations : List ℕ → List ℕ → List ℕ → List (ℕ × Equation) → List ℕ
+slotEquations s names slots [] = slots
+slotEquations s names slots (p ∷ ps) = slotEquations s names (slotEquation s names slots p) ps
+
 -- the equation q at `at`, in the file f
 pub record EquationJudged (s names : List ℕ) (f : File) (visible : List ℕ) (bad : ℕ → ℕ → Bool) (at : ℕ) (q : Equation) (slots slots′ : List ℕ) (g r : Faults) : Type 0 where
   pub next : r .next ≡ at + equationSize q
   pub unseen : placeOf (r .unseen) ≡ foundIn (placeOf (g .unseen)) (equationUses visible (at, q))
   pub called : placeOf (r .called) ≡ foundIn (placeOf (g .called)) (inEquation (callsWhere bad) (at, q))
   pub shaped : placeOf (r .shaped) ≡ foundIn (placeOf (g .shaped)) (equationShape f (at, q))
-  pub below : (j : ℕ) → j ≤ at → getD slots′ j 0 ≡ getD slots j 0
-  pub held : length s ≤ length slots → Each (SlotIs names slots′) (placedNames (at + 1) (q .names) ++ used (rhsPlace at q) (q .rhs))
+  pub slotted : slots′ ≡ slotEquation s names slots (at, q)
+
+-- so many equations
+pub record EquationsJudged (s names : List ℕ) (f : File) (visible : List ℕ) (bad : ℕ → ℕ → Bool) (at : ℕ) (qs : List Equation) (slots slots′ : List ℕ) (g r : Faults) : Type 0 where
+  pub unseen : placeOf (r .unseen) ≡ foundIn (placeOf (g .unseen)) (concat (map (equationUses visible) (placed equationSize at qs)))
+  pub called : placeOf (r .called) ≡ foundIn (placeOf (g .called)) (concat (map (inEquation (callsWhere bad)) (placed equationSize at qs)))
+  pub shaped : placeOf (r .shaped) ≡ foundIn (placeOf (g .shaped)) (concat (map (equationShape f) (placed equationSize at qs)))
+  pub slotted : slots′ ≡ slotEquations s names slots (placed equationSize at qs)
