@@ -12,19 +12,22 @@ use lib.Dec.{T, ltb, leb, eqb}
 use borrow.Author.Tests.{lt-ltb, le-ltb, le-leb, lt-leb}
 use native.Mathlib.Decide.{decLe}
 use mathlib.Core.Logic.{by-cases}
-use Rattle.ol_spec.specs.Lists.{orElse, member}
+use Rattle.ol_spec.specs.Lists.{orElse, member, concat}
 use Rattle.ol_spec.specs.Syntax.{Expr, Exprs, nil, cons, count, Equation, File, rhsOf}
 use Rattle.ol_spec.specs.Places.{exprsSize, exprSize, equationSize, collect, collectAll, placed, placedNames, rhsPlace}
-use Rattle.ol_spec.specs.Encode.{nameBytes}
-use Rattle.ol_spec.specs.Within.{nameFits}
+use Rattle.ol_spec.specs.Encode.{nameBytes, equationBytes}
+use Rattle.ol_spec.specs.Limits.{base}
+use Rattle.ol_spec.specs.Within.{nameFits, equationFits}
 use Rattle.ol_spec.specs.Admission.{Item, first, firstIf, unseenItem, unseen, usedAt, used, callsWhere, shapeItem, severalIn, arity, equationUses, inEquation, equationShape}
 use Rattle.ol_spec.proofs.Walks.{first-append}
 use Rattle.ol_spec.proofs.Cells.{length-bytes}
+use Rattle.ol_spec.proofs.RoundTrip.Parts.{here-inside}
+use Rattle.ol_spec.proofs.RoundTrip.Items.{equation-size}
 use Rattle.ol_tree.specs.Tables.{Each}
 use Rattle.ol_tree.specs.Heads.{nameAt, partsOf, headSize, joined, HeadIs, Standing}
 use Rattle.ol_tree.specs.Stands.{Listed, Names, EquationStands}
 use Rattle.ol_tree.proofs.Heads.{here-name, headed, walk-head, walk-one, root-head, head-ends, parts-told, next-told, joined-count}
-use Rattle.ol_tree.proofs.HeadsFile.{Passing, Item as PassedItem, passing-start, passing-item, passing-end}
+use Rattle.ol_tree.proofs.HeadsFile.{Passing, Item as PassedItem, passing-start, passing-item, passing-end, equation-stands}
 use Rattle.ol_check.specs.Founds.{Byte, placeOf, earliest}
 use Rattle.ol_check.specs.Walks.{HeadOf}
 use Rattle.ol_check.specs.Judging.{headAt, heads, unseenB, unseenHead, slotOfEntry, slotHead, slotHeads, calledB, calledHead, arityB, severalHead, foundIn, Walked}
@@ -232,6 +235,75 @@ module _ (s names : List ℕ) {enums at : ℕ} {q : Equation} (st : EquationStan
       let mid = slotNames names slots (placedNames (at + 1) (q .names)) in
       let far = headed e nil (st .rhs) .inside in
       let tail : Each (SlotIs names final) (used p e) =
-          subst (Each (SlotIs names final)) (walk-one usedAt p e)
-          (slots-held s names f mid final (omega (arith, names-length names (q .names) slots (at + 1))) (λ j lt. same j (omega arith))) in
+      subst (Each (SlotIs names final)) (walk-one usedAt p e)
+      (slots-held s names f mid final (omega (arith, names-length names (q .names) slots (at + 1))) (λ j lt. same j (omega arith))) in
       names-held names (q .names) slots final (at + 1) (omega arith) (λ j lt. same j (omega arith) ∙ slots-below s names f mid j (omega arith)) (used p e) tail
+
+-- ---- so many equations
+
+noEquation : Equation
+noEquation = record { names = []; rhs = Rattle.ol_spec.specs.Syntax.boolLit false }
+
+-- what is left of a list of items, each of which gives items
+abbrev Left : {A : Type 0} → (ℕ × A → List Item) → (A → ℕ) → List A → ℕ → ℕ → List Item
+Left g size xs i next = concat (map g (placed size next (drop i xs)))
+
+-- an item of the list is judged
+left-step : {A : Type 0} (g : ℕ × A → List Item) (size : A → ℕ) (d : A) (xs : List A) (i next next′ : ℕ) (o o′ z : Option ℕ) → i < length xs → next′ ≡ next + size (getD xs i d) → o′ ≡ foundIn o (g (next, getD xs i d))
+    → foundIn o (Left g size xs i next) ≡ z → foundIn o′ (Left g size xs (i + 1) next′) ≡ z
+left-step g size d xs i next next′ o o′ z lt en eo ez =
+    let x = getD xs i d in
+    ap (λ n. foundIn o′ (Left g size xs (i + 1) n)) en ∙ ap (λ y. foundIn y (Left g size xs (i + 1) (next + size x))) eo
+    ∙ found-append o (g (next, x)) (Left g size xs (i + 1) (next + size x)) ∙ ap (λ l. foundIn o (concat (map g l))) (sym (placed-on size d xs i next lt)) ∙ ez
+
+left-none : {A : Type 0} (g : ℕ × A → List Item) (size : A → ℕ) (xs : List A) (i next : ℕ) (o z : Option ℕ) → length xs ≤ i → foundIn o (Left g size xs i next) ≡ z → o ≡ z
+left-none g size xs i next o z le ez = sym (found-none o) ∙ ap (λ l. foundIn o (concat (map g (placed size next l)))) (sym (drop-of-length-le xs le)) ∙ ez
+
+abbrev pub EquationPassing : List ℕ → ℕ → ℕ → List Equation → ℕ → ℕ → Type 0
+EquationPassing s enums at qs i next = Passing equationBytes (equationFits base enums) equationSize s at qs i next
+
+pub record EquationsGoing (s names : List ℕ) (t : File) (visible : List ℕ) (bad : ℕ → ℕ → Bool) (enums : ℕ) (qs : List Equation) (slots₀ : List ℕ) (f : Faults) (slots : List ℕ) (g : Faults) (i : ℕ) : Type 0 where
+  pub passing : EquationPassing s enums (f .next) qs i (g .next)
+  pub unseen : foundIn (placeOf (g .unseen)) (concat (map (equationUses visible) (placed equationSize (g .next) (drop i qs)))) ≡ foundIn (placeOf (f .unseen)) (concat (map (equationUses visible) (placed equationSize (f .next) qs)))
+  pub called : foundIn (placeOf (g .called)) (concat (map (inEquation (callsWhere bad)) (placed equationSize (g .next) (drop i qs)))) ≡ foundIn (placeOf (f .called)) (concat (map (inEquation (callsWhere bad)) (placed equationSize (f .next) qs)))
+  pub shaped : foundIn (placeOf (g .shaped)) (concat (map (equationShape t) (placed equationSize (g .next) (drop i qs)))) ≡ foundIn (placeOf (f .shaped)) (concat (map (equationShape t) (placed equationSize (f .next) qs)))
+  pub slotted : slotEquations s names slots (placed equationSize (g .next) (drop i qs)) ≡ slotEquations s names slots₀ (placed equationSize (f .next) qs)
+
+module _ {s names : List ℕ} {t : File} {visible : List ℕ} {bad : ℕ → ℕ → Bool} {enums : ℕ} {qs : List Equation} {slots₀ : List ℕ} {f : Faults} where
+  pub equations-start : Listed equationBytes (equationFits base enums) s (f .next) qs → EquationsGoing s names t visible bad enums qs slots₀ f slots₀ f 0
+  equations-start h = record { passing = passing-start equationBytes (equationFits base enums) equationSize h; unseen = refl; called = refl; shaped = refl; slotted = refl }
+
+  module _ {slots : List ℕ} {g : Faults} {i : ℕ} (w : EquationsGoing s names t visible bad enums qs slots₀ f slots g i) where
+    equation-at : i < length qs → PassedItem equationBytes (equationFits base enums) equationSize s (f .next) qs i (g .next) (getD qs i noEquation)
+    equation-at lt = passing-item equation-size noEquation (w .passing) lt
+
+    pub equations-turn : i < length qs → (slots′ : List ℕ) (r : Faults) → ((q : Equation) → EquationStands s enums (g .next) q → EquationJudged s names t visible bad (g .next) q slots slots′ g r)
+        → EquationsGoing s names t visible bad enums qs slots₀ f slots′ r (i + 1)
+    unfolding slotEquations
+    equations-turn lt slots′ r judged =
+        let it = equation-at lt in
+        let q = getD qs i noEquation in
+        let j = judged q (equation-stands q (it .fit) (it .here)) in
+        let on = placed-on equationSize noEquation qs i (g .next) lt in
+        record {
+          passing = subst (EquationPassing s enums (f .next) qs (i + 1)) (sym (j .next)) (it .on);
+          unseen = left-step (equationUses visible) equationSize noEquation qs i (g .next) (r .next) (placeOf (g .unseen)) _ _ lt (j .next) (j .unseen) (w .unseen);
+          called = left-step (inEquation (callsWhere bad)) equationSize noEquation qs i (g .next) (r .next) (placeOf (g .called)) _ _ lt (j .next) (j .called) (w .called);
+          shaped = left-step (equationShape t) equationSize noEquation qs i (g .next) (r .next) (placeOf (g .shaped)) _ _ lt (j .next) (j .shaped) (w .shaped);
+          slotted = ap (λ n. slotEquations s names slots′ (placed equationSize n (drop (i + 1) qs))) (j .next)
+              ∙ ap (λ l. slotEquations s names l (placed equationSize (g .next + equationSize q) (drop (i + 1) qs))) (j .slotted)
+              ∙ ap (slotEquations s names slots) (sym on) ∙ w .slotted;
+        }
+
+    pub equations-cut : i < length qs → length s ≤ g .next → ⊥
+    equations-cut lt out = omega (arith, here-inside (equation-at lt .here) (omega (arith, equation-size (getD qs i noEquation))), equation-size (getD qs i noEquation))
+
+    pub equations-done : length qs ≤ i → EquationsJudged s names t visible bad (f .next) qs slots₀ slots f g
+    unfolding slotEquations
+    equations-done over =
+        record {
+          unseen = left-none (equationUses visible) equationSize qs i (g .next) (placeOf (g .unseen)) _ over (w .unseen);
+          called = left-none (inEquation (callsWhere bad)) equationSize qs i (g .next) (placeOf (g .called)) _ over (w .called);
+          shaped = left-none (equationShape t) equationSize qs i (g .next) (placeOf (g .shaped)) _ over (w .shaped);
+          slotted = ap (λ l. slotEquations s names slots (placed equationSize (g .next) l)) (sym (drop-of-length-le qs over)) ∙ w .slotted;
+        }

@@ -12,12 +12,12 @@ ghost use lib.ListN.{getD, length, set};
 ghost use Rattle.ol_spec.specs.Syntax.{Exprs, count};
 ghost use Rattle.ol_tree.specs.Heads.{nameAt, Standing};
 ghost use Rattle.ol_check.specs.Judging.{unseenB, slotOfEntry, slotPut, slotHead, mayB, badB, calledB, outputsB, arityB, Walked};
-ghost use Rattle.ol_check.specs.Judging.{NamesSeen, loneB, otherB, RootJudged, Context, EquationJudged};
+ghost use Rattle.ol_check.specs.Judging.{NamesSeen, loneB, otherB, RootJudged, Context, EquationJudged, EquationsJudged};
 ghost use mathlib.Core.List.{List};
 ghost use mathlib.Core.Bool.{Bool};
 ghost use Rattle.ol_spec.specs.Syntax.{Expr, nil, cons, Equation, File};
 ghost use Rattle.ol_spec.specs.Places.{placedNames};
-ghost use Rattle.ol_tree.specs.Stands.{Names, EquationStands};
+ghost use Rattle.ol_tree.specs.Stands.{Names, EquationStands, Equations};
 
 // The first fault of each number so far, and where the walk stands.
 pub struct Faults {
@@ -298,4 +298,31 @@ fn equation(
             next: at + 1 + 2 * many,
         },
     )
+}
+
+// So many equations from where the walk stands.
+fn equations(
+    file: &[u8],
+    names: &[u8],
+    slots: &mut [u8],
+    rows: &[usize],
+    nodes: usize,
+    node: usize,
+    many: usize,
+    f: Faults,
+) -> Faults
+    requires { ⌜ (node < 256) × (length (now file) ≤ 32768) ⌝ }
+    ensures { λ r. ⌜ ((t : File) (visible : List ℕ) (bad : ℕ → ℕ → Bool) (enums : ℕ) (qs : List Equation) → Context t node (now (names .entry)) (now (rows .entry)) nodes visible bad → length qs ≡ many → Equations (now (file .entry)) enums (f .next) qs → EquationsJudged (now (file .entry)) (now (names .entry)) t visible bad (f .next) qs (now (slots .entry)) (now (slots .exit)) f r) ⌝ }
+{
+    let mut g = f;
+    let mut i = 0;
+    while i < many {
+        let at = g.next;
+        if file.len() <= at {
+            return g;
+        }
+        g = equation(file, names, slots, rows, nodes, node, g);
+        i += 1;
+    }
+    g
 }
