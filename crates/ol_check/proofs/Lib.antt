@@ -4,3 +4,4 @@ pub mod HeadTests
 pub mod WalkLoop
 pub mod HeadLaws
 pub mod EquationLaws
+pub mod EntryLoops

@@ -2,3 +2,4 @@ pub mod Founds
 pub mod Walks
 pub mod RowsDone
 pub mod Judging
+pub mod Entries
