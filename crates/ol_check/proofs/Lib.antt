@@ -5,3 +5,4 @@ pub mod WalkLoop
 pub mod HeadLaws
 pub mod EquationLaws
 pub mod EntryLoops
+pub mod EntryLaws

@@ -10,9 +10,9 @@ use lib.ListN.{length, getD, drop, take, length-append}
 use lib.Seq.{drop-cons, take-all}
 use lib.Dec.{T, leb, ltb, eqb, leb→le, lt→ltb}
 use Rattle.ol_spec.specs.Lists.{maybe, sum, concat, allOf}
-use Rattle.ol_spec.specs.Syntax.{Expr, Exprs, nil, cons, Variable, Equation, Node, Constant, File}
+use Rattle.ol_spec.specs.Syntax.{Expr, Exprs, nil, cons, Variable, Equation, Node, Constant, File, noNode}
 use Rattle.ol_spec.specs.Places.{tySize, sectionSize, enumSize, constantSize, variableSize, equationSize, nodeSize, constantsStart, nodesStart, outputsStart}
-use Rattle.ol_spec.specs.Places.{localsStart, equationsStart, rhsPlace}
+use Rattle.ol_spec.specs.Places.{localsStart, equationsStart, rhsPlace, placed, placedNodes}
 use Rattle.ol_spec.specs.Encode.{kindCode, tyBytes, nameBytes, exprBytes, sectionBytes, variableBytes, equationBytes, constantBytes, nodeBytes, encode}
 use Rattle.ol_spec.specs.Read.{got, readFile}
 use Rattle.ol_spec.specs.Limits.{base, relayLoader}
@@ -24,6 +24,7 @@ use Rattle.ol_spec.proofs.RoundTrip.Parts.{Here, here-front, here-back, here-se
 use Rattle.ol_spec.proofs.RoundTrip.Items.{ty-size, names-size, section-size, items-size, variable-size, equation-size, constant-size, node-size, variables-size}
 use Rattle.ol_spec.proofs.RoundTrip.Placed.{NodeHere, node-here, variable-here, constant-here, equation-here}
 use Rattle.ol_tree.specs.At.{fileAt}
+use Rattle.ol_tree.specs.Tables.{placeOf, nodeOf}
 use Rattle.ol_tree.specs.Heads.{nameAt, TyIs, Standing}
 use Rattle.ol_tree.specs.Stands.{Listed, VariableStands, ConstantStands, EquationStands, NodeStands, FileStands, FileReads}
 use Rattle.ol_tree.proofs.Heads.{here-first, here-byte-at, here-name, here-ty}
@@ -199,3 +200,25 @@ module _ {A : Type 0} {bytes : A → List ℕ} {fits : A → Bool} {size : A →
   -- behind the last item
   pub passing-end : Passing bytes fits size s at xs i next → length xs ≤ i → next ≡ at + sum (map size xs)
   passing-end p h = p .place ∙ ap (λ l. at + sum (map size l)) (take-all i xs h)
+
+-- any item of the list
+pub passing-nth : {A : Type 0} {bytes : A → List ℕ} {fits : A → Bool} {size : A → ℕ} {s : List ℕ} {at : ℕ} {xs : List A} → ((x : A) → length (bytes x) ≡ size x) → A → Listed bytes fits s at xs
+    → (i : ℕ) → i ≤ length xs → Passing bytes fits size s at xs i (at + sum (map size (take i xs)))
+passing-nth {size = size} {at = at} each d h zero le = let z : at ≡ at + 0 = omega arith in subst (Passing _ _ size _ at _ 0) z (passing-start _ _ size h)
+passing-nth {bytes = bytes} {fits = fits} {size = size} {s = s} {at = at} {xs = xs} each d h (suc i) le =
+    let it = passing-item each d (passing-nth {bytes = bytes} {fits = fits} {size = size} {s = s} {at = at} {xs = xs} each d h i (omega arith)) (omega arith) in
+    let e : at + sum (map size (take i xs)) + size (getD xs i d) ≡ at + sum (map size (take (suc i) xs)) = omega (arith, sum-take size d xs i (omega arith)) in
+    subst (λ j. Passing bytes fits size s at xs j (at + sum (map size (take (suc i) xs)))) (add-one i) (subst (Passing bytes fits size s at xs (i + 1)) e (it .on))
+
+-- the place of item number i
+pub placed-at : {A : Type 0} (size : A → ℕ) (xs : List A) (at i : ℕ) → i < length xs → getD (map (λ p. p .0) (placed size at xs)) i 0 ≡ at + sum (map size (take i xs))
+placed-at size [] at i h = absurd (omega arith)
+placed-at size (x ∷ xs) at zero h = omega arith
+placed-at size (x ∷ xs) at (suc i) h = omega (arith, placed-at size xs (at + size x) i (omega arith))
+
+-- a node of the file stands at its place
+pub node-at : {s : List ℕ} {f : File} → FileStands s f → (k : ℕ) → k < length (f .nodes) → NodeStands s (length (f .enums)) (placeOf (placedNodes f) k) (nodeOf f k)
+node-at {s} {f} st k lt =
+    let it = passing-item node-size noNode (passing-nth node-size noNode (st .nodes) k (omega arith)) lt in
+    let n = nodeOf f k in
+    subst (λ a. NodeStands s (length (f .enums)) a n) (sym (placed-at nodeSize (f .nodes) (nodesStart f) k lt)) (node-stands n (it .fit) (it .here))
