@@ -14,7 +14,7 @@ use Rattle.ol_spec.specs.Lists.{member, anyOf}
 use Rattle.ol_spec.specs.Syntax.{Variable, nameOf}
 use Rattle.ol_tree.specs.Tables.{Each}
 use Rattle.ol_check.specs.Judging.{Knows}
-use Rattle.ol_check.specs.Entries.{declared, forgot, declareAll, forgetAll, variableEntries}
+use Rattle.ol_check.specs.Entries.{declared, forgot, declareAll, forgetAll, variableEntries, Global}
 
 -- ---- one after the other
 
@@ -109,10 +109,6 @@ knows-all names visible (d ∷ ds) k ok =
     λ y. w y ∙ ap not (member-move y (d .0) (map firstOf ds) visible)
 
 -- ---- taking back
-
--- the table outside a node: no entry is a variable's
-abbrev pub Global : List ℕ → Type 0
-Global names = (y : ℕ) → getD names y 0 ≤ 112 → getD names y 0 ≡ 0
 
 declare-low : (y : ℕ) (names : List ℕ) (ds : List (ℕ × ℕ)) → Each (λ d. d .1 ≤ 112) ds → getD names y 0 ≤ 112 → getD (declareAll names ds) y 0 ≤ 112
 unfolding declareAll

@@ -6,3 +6,4 @@ pub mod HeadLaws
 pub mod EquationLaws
 pub mod EntryLoops
 pub mod EntryLaws
+pub mod NodeLaws

@@ -54,3 +54,7 @@ pub record VariablesEntered (vs : List Variable) (names names′ : List ℕ) (fi
 pub record VariablesForgotten (vs : List Variable) (names names′ : List ℕ) (at r : ℕ) : Type 0 where
   pub ends : r ≡ at + sum (map variableSize vs)
   pub forgotten : names′ ≡ forgetAll names (map (λ v. v .name) vs)
+
+-- the table outside a node: no entry is a variable's
+abbrev pub Global : List ℕ → Type 0
+Global names = (y : ℕ) → getD names y 0 ≤ 112 → getD names y 0 ≡ 0

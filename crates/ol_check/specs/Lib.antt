@@ -3,3 +3,4 @@ pub mod Walks
 pub mod RowsDone
 pub mod Judging
 pub mod Entries
+pub mod NodesJudged

@@ -301,7 +301,7 @@ fn equation(
 }
 
 // So many equations from where the walk stands.
-fn equations(
+pub fn equations(
     file: &[u8],
     names: &[u8],
     slots: &mut [u8],

@@ -4,6 +4,7 @@ pub mod heads; // heads.rt: expressions, head by head
 pub mod rows; // rows.rt: the rows of the nodes, the first variants and the types
 pub mod judge; // judge.rt: faults 7, 9 and 10, and the slots
 pub mod names; // names.rt: the table by name
+pub mod nodes; // nodes.rt: faults 7, 9 and 10 of the nodes
 
 // A fault's place, or none.
 pub enum Found {
