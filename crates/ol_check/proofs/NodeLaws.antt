@@ -6,16 +6,21 @@ use mathlib.Core.Logic.{by-cases}
 use mathlib.Core.Path.{_≡_, refl, sym, ap, subst, _∙_}
 use native.Mathlib.Omega.{arith}
 use native.Mathlib.Decide.{decLt}
-use lib.ListN.{length, getD, set, length-append, List·getD-eq-default}
+use lib.ListN.{length, getD, set, drop, length-append, List·getD-eq-default, drop-of-length-le}
+use lib.Seq.{drop-cons}
+use native.Mathlib.Numerals.{add-one}
+use mathlib.Core.Option.{Option, none, some}
 use lib.Dec.{T, ltb, leb, eqb}
 use borrow.Author.Tests.{lt-ltb, le-ltb}
 use Rattle.ol_spec.specs.Lists.{sum, concat}
 use Rattle.ol_spec.specs.Syntax.{NodeKind, Function, Operator, Imported, Variable, Equation, Node, File, variables, variableNames, nameOf, noNode}
-use Rattle.ol_spec.specs.Places.{variableSize, outputsStart, localsStart, equationsStart, placedNodes, placed, equationSize}
+use Rattle.ol_spec.specs.Places.{variableSize, outputsStart, localsStart, equationsStart, placedNodes, placed, equationSize, nodeSize, nodesStart}
 use Rattle.ol_spec.specs.Encode.{kindCode, variableBytes, equationBytes}
 use Rattle.ol_spec.specs.Limits.{base}
 use Rattle.ol_spec.specs.Within.{variableFits, equationFits}
-use Rattle.ol_spec.specs.Admission.{calleeIn, badCall, mayCall, equationUses, inEquation, callsWhere, equationShape}
+use Rattle.ol_spec.specs.Admission.{calleeIn, badCall, mayCall, equationUses, inEquation, callsWhere, equationShape, Item, nodeUses, nodeCalls, nodeShape, numbered}
+use Rattle.ol_spec.proofs.Walks.{first-append}
+use Rattle.ol_check.proofs.WalkLoop.{found-none}
 use Rattle.ol_tree.specs.At.{fileAt}
 use Rattle.ol_tree.specs.Tables.{rowAt, nodeOf, Each}
 use Rattle.ol_tree.specs.Stands.{Listed, Variables, Equations, NodeStands, FileStands}
@@ -24,7 +29,7 @@ use Rattle.ol_check.specs.Founds.{Byte, placeOf}
 use Rattle.ol_check.specs.RowsDone.{NodeRow}
 use Rattle.ol_check.specs.Entries.{declareAll, forgetAll, variableEntries, VariablesEntered, VariablesForgotten, Global}
 use Rattle.ol_check.specs.Judging.{mayB, badB, outputsB, Knows, Context, EquationsJudged, foundIn, slotEquations}
-use Rattle.ol_check.specs.NodesJudged.{placeIn, NodeReady, nodeTable, Covered, NodeJudged}
+use Rattle.ol_check.specs.NodesJudged.{placeIn, NodeReady, nodeTable, Covered, NodeJudged, RowsReady, slotNodes, NodesJudged}
 use Rattle.ol_check.specs.declared.judge.Faults.{Faults}
 use Rattle.ol_check.proofs.EntryLaws.{declare-append, forget-append, entries-append, declare-length, Enterable, knows-all, restored}
 
@@ -175,3 +180,76 @@ module _ {s rows : List ℕ} {nodes k : ℕ} (rd : NodeReady s rows nodes k) (st
 pub node-back : {s rows : List ℕ} {nodes k : ℕ} → NodeReady s rows nodes k → FileStands s (fileAt s) → (names : List ℕ) {n₁ n₂ : List ℕ} → Global names → n₁ ≡ nodeTable names (nodeOf (fileAt s) k)
     → n₂ ≡ forgetAll n₁ (map nameOf (variables (nodeOf (fileAt s) k))) → n₂ ≡ names
 node-back {s} {rows} {nodes} {k} rd st names global e₁ e₂ = e₂ ∙ ap (λ l. forgetAll l (map nameOf (variables (nodeOf (fileAt s) k)))) e₁ ∙ node-restored rd names st global
+
+-- ---- all nodes
+
+-- an item of a list, with its place
+placed-get : {A : Type 0} (size : A → ℕ) (d : A) (xs : List A) (at k : ℕ) → k < length xs → getD (placed size at xs) k (0, d) ≡ (getD (map (λ p. p .0) (placed size at xs)) k 0, getD xs k d)
+placed-get size d [] at k lt = absurd (omega arith)
+placed-get size d (x ∷ xs) at zero lt = refl
+placed-get size d (x ∷ xs) at (suc k) lt = placed-get size d xs (at + size x) k (omega arith)
+
+placed-length : {A : Type 0} (size : A → ℕ) (xs : List A) (at : ℕ) → length (placed size at xs) ≡ length xs
+placed-length size [] at = refl
+placed-length size (x ∷ xs) at = ap suc (placed-length size xs (at + size x))
+
+-- node k is the first of those that are left
+nodes-on : (f : File) (k : ℕ) → k < length (f .nodes) → drop k (placedNodes f) ≡ (placeIn f k, nodeOf f k) ∷ drop (k + 1) (placedNodes f)
+nodes-on f k lt =
+    drop-cons (placedNodes f) k (0, noNode) (omega (arith, placed-length nodeSize (f .nodes) (nodesStart f)))
+    ∙ ap (λ x. x ∷ drop (suc k) (placedNodes f)) (placed-get nodeSize noNode (f .nodes) (nodesStart f) k lt)
+    ∙ ap (λ n. (placeIn f k, nodeOf f k) ∷ drop n (placedNodes f)) (sym (add-one k))
+
+found-append : (o : Option ℕ) (is js : List Item) → foundIn (foundIn o is) js ≡ foundIn o (is ++ js)
+found-append none is js = sym (first-append is js)
+found-append (some p) is js = refl
+
+-- the items of an element, and of those that are left after it
+left-on : {A : Type 0} (g : A → List Item) (l rest : List A) (x : A) (o o′ z : Option ℕ) → l ≡ x ∷ rest → o′ ≡ foundIn o (g x) → foundIn o (concat (map g l)) ≡ z → foundIn o′ (concat (map g rest)) ≡ z
+left-on g l rest x o o′ z el eo ez = ap (λ y. foundIn y (concat (map g rest))) eo ∙ found-append o (g x) (concat (map g rest)) ∙ ap (λ m. foundIn o (concat (map g m))) (sym el) ∙ ez
+
+pub record NodesGoing (s names : List ℕ) (f : File) (visible : List ℕ) (slots₀ : List ℕ) (g₀ : Faults) (slots : List ℕ) (g : Faults) (k : ℕ) : Type 0 where
+  pub unseen : foundIn (placeOf (g .unseen)) (concat (map (nodeUses visible) (drop k (placedNodes f)))) ≡ foundIn (placeOf (g₀ .unseen)) (concat (map (nodeUses visible) (placedNodes f)))
+  pub called : foundIn (placeOf (g .called)) (concat (map (nodeCalls f) (numbered k (drop k (placedNodes f))))) ≡ foundIn (placeOf (g₀ .called)) (concat (map (nodeCalls f) (numbered 0 (placedNodes f))))
+  pub shaped : foundIn (placeOf (g .shaped)) (concat (map (nodeShape f) (drop k (placedNodes f)))) ≡ foundIn (placeOf (g₀ .shaped)) (concat (map (nodeShape f) (placedNodes f)))
+  pub slotted : slotNodes s names slots (drop k (placedNodes f)) ≡ slotNodes s names slots₀ (placedNodes f)
+
+module _ {s names : List ℕ} {f : File} {visible slots₀ : List ℕ} {g₀ : Faults} where
+  pub nodes-start : NodesGoing s names f visible slots₀ g₀ slots₀ g₀ 0
+  nodes-start = record { unseen = refl; called = refl; shaped = refl; slotted = refl }
+
+  module _ {slots : List ℕ} {g : Faults} {k : ℕ} (w : NodesGoing s names f visible slots₀ g₀ slots g k) where
+    pub nodes-turn : k < length (f .nodes) → (slots′ : List ℕ) (r : Faults) → NodeJudged s names f visible k slots slots′ g r → NodesGoing s names f visible slots₀ g₀ slots′ r (k + 1)
+    unfolding slotNodes
+    nodes-turn lt slots′ r j =
+        let x : ℕ × Node = (placeIn f k, nodeOf f k) in
+        let on = nodes-on f k lt in
+        let rest = drop (k + 1) (placedNodes f) in
+        let counted : numbered k (drop k (placedNodes f)) ≡ (k, x) ∷ numbered (k + 1) rest = ap (numbered k) on ∙ ap (λ n. (k, x) ∷ numbered n rest) (sym (add-one k)) in
+        record {
+          unseen = left-on (nodeUses visible) (drop k (placedNodes f)) rest x (placeOf (g .unseen)) _ _ on (j .unseen) (w .unseen);
+          called = left-on (nodeCalls f) (numbered k (drop k (placedNodes f))) (numbered (k + 1) rest) (k, x) (placeOf (g .called)) _ _ counted (j .called) (w .called);
+          shaped = left-on (nodeShape f) (drop k (placedNodes f)) rest x (placeOf (g .shaped)) _ _ on (j .shaped) (w .shaped);
+          slotted = ap (λ l. slotNodes s names l rest) (j .slotted) ∙ ap (slotNodes s names slots) (sym on) ∙ w .slotted;
+        }
+
+    pub nodes-judged : length (f .nodes) ≤ k → NodesJudged s names f visible slots₀ slots g₀ g
+    unfolding slotNodes
+    nodes-judged over =
+        let empty : drop k (placedNodes f) ≡ [] = drop-of-length-le (placedNodes f) {i = k} (omega (arith, placed-length nodeSize (f .nodes) (nodesStart f))) in
+        record {
+          unseen = sym (found-none (placeOf (g .unseen))) ∙ ap (λ l. foundIn (placeOf (g .unseen)) (concat (map (nodeUses visible) l))) (sym empty) ∙ w .unseen;
+          called = sym (found-none (placeOf (g .called))) ∙ ap (λ l. foundIn (placeOf (g .called)) (concat (map (nodeCalls f) (numbered k l)))) (sym empty) ∙ w .called;
+          shaped = sym (found-none (placeOf (g .shaped))) ∙ ap (λ l. foundIn (placeOf (g .shaped)) (concat (map (nodeShape f) l))) (sym empty) ∙ w .shaped;
+          slotted = ap (slotNodes s names slots) (sym empty) ∙ w .slotted;
+        }
+
+pub ready-at : {s rows : List ℕ} {nodes : ℕ} → RowsReady s rows nodes → (k : ℕ) → k < nodes → NodeReady s rows nodes k
+ready-at rd k lt = record { reads = rd .reads; row = rd .row; many = rd .many; low = lt; few = rd .few }
+
+-- the table is the one at the start
+pub judged-same : {s names names₀ : List ℕ} {f : File} {k : ℕ} {slots slots′ : List ℕ} {g r : Faults} → names ≡ names₀
+    → ((visible : List ℕ) → Knows names visible → Covered (length names) (nodeOf f k) → NodeJudged s names f visible k slots slots′ g r)
+    → (visible : List ℕ) → Knows names₀ visible → Covered (length names₀) (nodeOf f k) → NodeJudged s names₀ f visible k slots slots′ g r
+judged-same {s} {names} {names₀} {f} {k} {slots} {slots′} {g} {r} e h =
+    subst (λ l. (visible : List ℕ) → Knows l visible → Covered (length l) (nodeOf f k) → NodeJudged s l f visible k slots slots′ g r) e h

@@ -14,7 +14,7 @@ ghost use Rattle.ol_tree.specs.At.{fileAt};
 ghost use Rattle.ol_tree.specs.Tables.{nodeOf};
 ghost use Rattle.ol_check.specs.Entries.{declareAll, forgetAll, variableEntries, Global};
 ghost use Rattle.ol_check.specs.Judging.{Knows};
-ghost use Rattle.ol_check.specs.NodesJudged.{NodeReady, nodeTable, Covered, NodeJudged};
+ghost use Rattle.ol_check.specs.NodesJudged.{NodeReady, nodeTable, Covered, NodeJudged, RowsReady, AllCovered, NodesJudged};
 
 // Enters the variables of node `k`.
 fn declare_node(file: &[u8], names: &mut [u8], rows: &[usize], nodes: usize, k: usize)
@@ -78,4 +78,25 @@ fn node(
     );
     forget_node(file, names, rows, nodes, k);
     r
+}
+
+// Judges all nodes.
+pub fn judge_nodes(
+    file: &[u8],
+    names: &mut [u8],
+    slots: &mut [u8],
+    rows: &[usize],
+    nodes: usize,
+    f: Faults,
+) -> Faults
+    requires { ⌜ RowsReady (now file) (now rows) nodes × Global (now names) ⌝ }
+    ensures { λ r. ⌜ (now (names .exit) ≡ now (names .entry)) × ((visible : List ℕ) → Knows (now (names .entry)) visible → AllCovered (length (now (names .entry))) (fileAt (now (file .entry))) → NodesJudged (now (file .entry)) (now (names .entry)) (fileAt (now (file .entry))) visible (now (slots .entry)) (now (slots .exit)) f r) ⌝ }
+{
+    let mut g = f;
+    let mut k = 0;
+    while k < nodes {
+        g = node(file, names, slots, rows, nodes, k, g);
+        k += 1;
+    }
+    g
 }
