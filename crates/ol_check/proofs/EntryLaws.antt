@@ -83,7 +83,7 @@ member-move y x (z ∷ a) b = ap (λ m. eqb y z || m) (member-move y x a b) ∙ 
     swap true false r = refl
     swap false q r = refl
 
-knows-step : (names visible : List ℕ) (x e : ℕ) → Knows names visible → x < length names → 1 ≤ e → Knows (declared names x e) (x ∷ visible)
+pub knows-step : (names visible : List ℕ) (x e : ℕ) → Knows names visible → x < length names → 1 ≤ e → Knows (declared names x e) (x ∷ visible)
 knows-step names visible x e k lt he y =
     eq-cases y x
     (λ q. rw (q, eq-eqb x x refl)

@@ -7,3 +7,4 @@ pub mod EquationLaws
 pub mod EntryLoops
 pub mod EntryLaws
 pub mod NodeLaws
+pub mod ConstantLaws

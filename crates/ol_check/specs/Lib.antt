@@ -4,3 +4,4 @@ pub mod RowsDone
 pub mod Judging
 pub mod Entries
 pub mod NodesJudged
+pub mod ConstantsJudged

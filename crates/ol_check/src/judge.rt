@@ -135,7 +135,7 @@ fn outputs(rows: &[usize], nodes: usize, c: usize) -> usize
 }
 
 // So many expressions of node `node`, one after the other from where the walk stands.
-fn walk(
+pub fn walk(
     file: &[u8],
     names: &[u8],
     slots: &mut [u8],

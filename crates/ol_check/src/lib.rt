@@ -5,6 +5,7 @@ pub mod rows; // rows.rt: the rows of the nodes, the first variants and the type
 pub mod judge; // judge.rt: faults 7, 9 and 10, and the slots
 pub mod names; // names.rt: the table by name
 pub mod nodes; // nodes.rt: faults 7, 9 and 10 of the nodes
+pub mod constants; // constants.rt: faults 7, 9 and 10 of the constants
 
 // A fault's place, or none.
 pub enum Found {
