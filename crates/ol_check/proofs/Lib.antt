@@ -8,3 +8,4 @@ pub mod EntryLoops
 pub mod EntryLaws
 pub mod NodeLaws
 pub mod ConstantLaws
+pub mod FileLaws

@@ -5,3 +5,4 @@ pub mod Judging
 pub mod Entries
 pub mod NodesJudged
 pub mod ConstantsJudged
+pub mod FileJudged

@@ -3,6 +3,7 @@ use super::bytes::byte;
 use super::bytes::name;
 use super::bytes::put_byte;
 use super::heads::ty_size;
+use super::rows::names_end;
 ghost use mathlib.Core.Path.{_≡_};
 ghost use mathlib.Core.List.{List, map};
 ghost use Prim.Native.Nat.{ℕ, _≤_, _<_, _+_, _*_};
@@ -10,6 +11,8 @@ ghost use lib.ListN.{length};
 ghost use Rattle.ol_spec.specs.Syntax.{Variable};
 ghost use Rattle.ol_tree.specs.Stands.{Names, Variables};
 ghost use Rattle.ol_check.specs.Entries.{declared, forgot, declareAll, variantEntry, VariablesEntered, VariablesForgotten};
+ghost use Rattle.ol_spec.specs.Lists.{concat};
+ghost use Rattle.ol_check.specs.RowsDone.{Enums};
 
 // Enters a name, unless it has an entry.
 pub fn declare(names: &mut [u8], x: usize, e: u8)
@@ -75,6 +78,23 @@ fn declare_variants(file: &[u8], names: &mut [u8], count: usize, at: usize)
     while i < count {
         declare(names, name(file, next), 255);
         next += 2;
+        i += 1;
+    }
+}
+
+// Enters the variants of so many enums from `at` on.
+pub fn declare_enums(file: &[u8], names: &mut [u8], count: usize, at: usize)
+    requires { ⌜ length (now file) ≤ 32768 ⌝ }
+    ensures { λ r. ⌜ ((es : List (List ℕ)) → length es ≡ count → Enums (now (file .entry)) at es → now (names .exit) ≡ declareAll (now (names .entry)) (map variantEntry (concat es))) ⌝ }
+{
+    let mut next = at;
+    let mut i = 0;
+    while i < count {
+        if file.len() <= next {
+            return;
+        }
+        declare_variants(file, names, byte(file, next), next + 1);
+        next = names_end(file, next);
         i += 1;
     }
 }
