@@ -9,3 +9,4 @@ pub mod EntryLaws
 pub mod NodeLaws
 pub mod ConstantLaws
 pub mod FileLaws
+pub mod SizeLaws

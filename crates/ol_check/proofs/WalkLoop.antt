@@ -43,12 +43,12 @@ module _ {s : List ℕ} {enums at : ℕ} {es : Exprs} {left next : ℕ} (g : Goi
       ap (heads next) (t .are) ∙ walk-head headAt next e o
       ∙ ap (λ n. next ∷ heads n (joined (partsOf e) o)) (sym (h .next ∙ next-told s next e (t .headed .head)))
 
-heads-none : (at : ℕ) (es : Exprs) → count es ≡ 0 → heads at es ≡ []
+pub heads-none : (at : ℕ) (es : Exprs) → count es ≡ 0 → heads at es ≡ []
 unfolding collectAll
 heads-none at nil e = refl
 heads-none at (cons x es) e = absurd (omega arith)
 
-zero-left : {n : ℕ} (left : ℕ) → (0 < left → ⊥) → n ≡ left → n ≡ 0
+pub zero-left : {n : ℕ} (left : ℕ) → (0 < left → ⊥) → n ≡ left → n ≡ 0
 zero-left left over e = by-cases (decLe left 0) (λ h. omega arith) (λ h. absurd (over (omega arith)))
 
 -- of the expressions es at `at`, those at `next` are left to be judged

@@ -6,3 +6,4 @@ pub mod Entries
 pub mod NodesJudged
 pub mod ConstantsJudged
 pub mod FileJudged
+pub mod Sizes
