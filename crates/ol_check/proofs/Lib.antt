@@ -10,3 +10,4 @@ pub mod NodeLaws
 pub mod ConstantLaws
 pub mod FileLaws
 pub mod SizeLaws
+pub mod SlotLaws
