@@ -35,7 +35,7 @@ entries-append first (v ∷ vs) ws =
 
 -- ---- lengths
 
-cond-length : (b : Bool) (names : List ℕ) (x e : ℕ) → length (cond b (set names x e) names) ≡ length names
+pub cond-length : (b : Bool) (names : List ℕ) (x e : ℕ) → length (cond b (set names x e) names) ≡ length names
 cond-length true names x e = length-set names x e
 cond-length false names x e = refl
 
@@ -47,7 +47,7 @@ declare-length names (d ∷ ds) = declare-length (declared names (d .0) (d .1)) 
 -- ---- one entry
 
 -- equal or not
-eq-cases : {P : Type 0} (y x : ℕ) → (y ≡ x → P) → ((y ≡ x → ⊥) → P) → P
+pub eq-cases : {P : Type 0} (y x : ℕ) → (y ≡ x → P) → ((y ≡ x → ⊥) → P) → P
 eq-cases y x f g = by-cases (decLe y x) (λ a. by-cases (decLe x y) (λ b. f (omega arith)) (λ nb. g (λ e. omega arith))) (λ na. g (λ e. omega arith))
 
 -- a store of one entry, or none
@@ -55,16 +55,16 @@ put-other : (b : Bool) (names : List ℕ) (x e y : ℕ) → (y ≡ x → ⊥) �
 put-other true names x e y ne = getD-set-other names x y e 0 ne
 put-other false names x e y ne = refl
 
-declared-other : (names : List ℕ) (x e y : ℕ) → (y ≡ x → ⊥) → getD (declared names x e) y 0 ≡ getD names y 0
+pub declared-other : (names : List ℕ) (x e y : ℕ) → (y ≡ x → ⊥) → getD (declared names x e) y 0 ≡ getD names y 0
 declared-other names x e y ne = put-other (eqb (getD names x 0) 0) names x e y ne
 
 forgot-other : (names : List ℕ) (x y : ℕ) → (y ≡ x → ⊥) → getD (forgot names x) y 0 ≡ getD names y 0
 forgot-other names x y ne = put-other (leb (getD names x 0) 112) names x 0 y ne
 
-declared-taken : (names : List ℕ) (x e : ℕ) → (getD names x 0 ≡ 0 → ⊥) → declared names x e ≡ names
+pub declared-taken : (names : List ℕ) (x e : ℕ) → (getD names x 0 ≡ 0 → ⊥) → declared names x e ≡ names
 declared-taken names x e h = rw (ne-eqb (getD names x 0) 0 h) refl
 
-declared-free : (names : List ℕ) (x e : ℕ) → getD names x 0 ≡ 0 → declared names x e ≡ set names x e
+pub declared-free : (names : List ℕ) (x e : ℕ) → getD names x 0 ≡ 0 → declared names x e ≡ set names x e
 declared-free names x e z = rw z refl
 
 set-small : (names : List ℕ) (x e n : ℕ) → e ≤ n → getD names x 0 ≤ n → getD (set names x e) x 0 ≤ n
@@ -121,7 +121,7 @@ declare-low y names (d ∷ ds) ok h =
     (λ nz. rw (declared-taken names (d .0) (d .1) nz) (omega (arith, ap (λ n. getD names n 0) q)))))
     (λ ne. omega (arith, declared-other names (d .0) (d .1) y ne)))
 
-declare-high : (y : ℕ) (names : List ℕ) (ds : List (ℕ × ℕ)) → 1 ≤ getD names y 0 → getD (declareAll names ds) y 0 ≡ getD names y 0
+pub declare-high : (y : ℕ) (names : List ℕ) (ds : List (ℕ × ℕ)) → 1 ≤ getD names y 0 → getD (declareAll names ds) y 0 ≡ getD names y 0
 unfolding declareAll
 declare-high y names [] h = refl
 declare-high y names (d ∷ ds) h =

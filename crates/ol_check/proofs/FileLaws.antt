@@ -107,11 +107,11 @@ constants-high : (i : ℕ) (cs : List Constant) → Each (λ d. 113 ≤ d .1) (c
 constants-high i [] = tt
 constants-high i (c ∷ cs) = (omega arith, constants-high (i + 1) cs)
 
-variants-ok : (room : ℕ) (xs : List ℕ) → Each (λ x. x < room) xs → Each (Enterable room) (map variantEntry xs)
+pub variants-ok : (room : ℕ) (xs : List ℕ) → Each (λ x. x < room) xs → Each (Enterable room) (map variantEntry xs)
 variants-ok room [] h = tt
 variants-ok room (x ∷ xs) h = ((h .0, omega arith), variants-ok room xs (h .1))
 
-constants-ok : (room i : ℕ) (cs : List Constant) → Each (λ c. c .name < room) cs → Each (Enterable room) (constantEntries i cs)
+pub constants-ok : (room i : ℕ) (cs : List Constant) → Each (λ c. c .name < room) cs → Each (Enterable room) (constantEntries i cs)
 constants-ok room i [] h = tt
 constants-ok room i (c ∷ cs) h = ((h .0, omega arith), constants-ok room (i + 1) cs (h .1))
 

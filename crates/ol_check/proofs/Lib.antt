@@ -11,3 +11,4 @@ pub mod ConstantLaws
 pub mod FileLaws
 pub mod SizeLaws
 pub mod SlotLaws
+pub mod SlotEntries

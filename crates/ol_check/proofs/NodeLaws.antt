@@ -107,6 +107,11 @@ may-told Imported Function = refl
 may-told Imported Operator = refl
 may-told Imported Imported = refl
 
+-- entries of variables, within the table
+pub entries-ok : (room first : ℕ) (vs : List Variable) → Each (λ v. v .name < room) vs → Each (Enterable room) (variableEntries first vs)
+entries-ok room first [] h = tt
+entries-ok room first (v ∷ vs) h = ((h .0, omega arith), entries-ok room (first + 1) vs (h .1))
+
 module _ {s rows : List ℕ} {nodes k : ℕ} (rd : NodeReady s rows nodes k) where
   calls-told : (c n : ℕ) → badB rows k c n ≡ badCall (fileAt s) k (nodeOf (fileAt s) k) c n
   calls-told c n =
@@ -124,11 +129,6 @@ module _ {s rows : List ℕ} {nodes k : ℕ} (rd : NodeReady s rows nodes k) whe
       by-cases (decLt c nodes)
       (λ lt. rw (lt-ltb c nodes lt) (rd .row c (omega (arith, rd .many)) .outputs))
       (λ no. rw (le-ltb c nodes (omega arith)) (ap (λ n. length (n .outputs)) (sym (List·getD-eq-default (fileAt s .nodes) noNode {n = c} (omega (arith, rd .many))))))
-
-  -- entries of variables, within the table
-  entries-ok : (room first : ℕ) (vs : List Variable) → Each (λ v. v .name < room) vs → Each (Enterable room) (variableEntries first vs)
-  entries-ok room first [] h = tt
-  entries-ok room first (v ∷ vs) h = ((h .0, omega arith), entries-ok room (first + 1) vs (h .1))
 
   entries-names : (first : ℕ) (vs : List Variable) → map (λ d. d .0) (variableEntries first vs) ≡ map nameOf vs
   entries-names first [] = refl

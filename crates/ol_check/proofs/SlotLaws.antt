@@ -57,9 +57,10 @@ module _ (s names : List ℕ) (enums : ℕ) where
   equations-held [] at h slots final room same = tt
   equations-held (q ∷ qs) at h slots final room same =
       let w = equations-cons s enums at q qs h in
-      let next = slotEquation s names slots (at, q) in
-      (equation-held s names (w .0) slots final room (λ j lt. same j (omega arith) ∙ equations-below qs (at + equationSize q) (w .1) next j (omega arith)),
-       equations-held qs (at + equationSize q) (w .1) next final (omega (arith, equation-length s names (w .0) slots)) (λ j lt. same j (omega arith)))
+      let next = slotEquation s names slots (at, q) in (
+        equation-held s names (w .0) slots final room (λ j lt. same j (omega arith) ∙ equations-below qs (at + equationSize q) (w .1) next j (omega arith)),
+        equations-held qs (at + equationSize q) (w .1) next final (omega (arith, equation-length s names (w .0) slots)) (λ j lt. same j (omega arith)),
+      )
 
 -- ---- nodes
 
@@ -81,9 +82,10 @@ module _ (s names : List ℕ) (enums : ℕ) where
   nodes-held [] at h slots final room same = tt
   nodes-held (n ∷ ns) at h slots final room same =
       let w = nodes-cons s enums at n ns h in
-      let next = slotEquations s (nodeTable names n) slots (placedEquations at n) in
-      (equations-held s (nodeTable names n) enums (n .equations) (equationsStart at n + 1) (w .0 .equations) slots final room (λ j lt. same j (omega arith) ∙ nodes-below ns (at + nodeSize n) (w .1) next j (omega arith)),
-       nodes-held ns (at + nodeSize n) (w .1) next final (omega (arith, equations-length s (nodeTable names n) enums (n .equations) (equationsStart at n + 1) (w .0 .equations) slots)) (λ j lt. same j (omega arith)))
+      let next = slotEquations s (nodeTable names n) slots (placedEquations at n) in (
+        equations-held s (nodeTable names n) enums (n .equations) (equationsStart at n + 1) (w .0 .equations) slots final room (λ j lt. same j (omega arith) ∙ nodes-below ns (at + nodeSize n) (w .1) next j (omega arith)),
+        nodes-held ns (at + nodeSize n) (w .1) next final (omega (arith, equations-length s (nodeTable names n) enums (n .equations) (equationsStart at n + 1) (w .0 .equations) slots)) (λ j lt. same j (omega arith)),
+      )
 
 -- what the walk over a file's nodes leaves
 pub file-slotted : {s : List ℕ} {f : File} → FileStands s f → (names slots : List ℕ) → length s ≤ length slots → Each (NodeSlotted names (slotNodes s names slots (placedNodes f))) (placedNodes f)
