@@ -1,1 +1,14 @@
 pub mod Walking
+pub mod RowLoops
+pub mod HeadTests
+pub mod WalkLoop
+pub mod HeadLaws
+pub mod EquationLaws
+pub mod EntryLoops
+pub mod EntryLaws
+pub mod NodeLaws
+pub mod ConstantLaws
+pub mod FileLaws
+pub mod SizeLaws
+pub mod SlotLaws
+pub mod SlotEntries

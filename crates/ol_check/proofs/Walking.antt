@@ -97,7 +97,7 @@ pub record Going (s : List ℕ) (enums at : ℕ) (es : Exprs) (left next : ℕ) 
   pub many : count rest ≡ left
   pub ends : at + exprsSize es ≡ next + exprsSize rest
 
-pub going-start : {s : List ℕ} {enums at : ℕ} {es : Exprs} {n : ℕ} → count es ≡ n → Standing s enums at es → Going s enums at es n at
+unfoldable pub going-start : {s : List ℕ} {enums at : ℕ} {es : Exprs} {n : ℕ} → count es ≡ n → Standing s enums at es → Going s enums at es n at
 going-start {es = es} e h = record { rest = es; stands = h; many = e; ends = refl }
 
 -- the first of those that are left
@@ -117,7 +117,7 @@ going-turn {s} {enums} {at} {es} {left} {next} g h = first-of s enums at es (g .
 
 module _ {s : List ℕ} {enums at : ℕ} {es : Exprs} {left next : ℕ} (g : Going s enums at es left next) (t : Turn g) (p : Parts) (h : HeadOf s next p) where
   -- the walk's next list, after a head
-  pub going-on : Going s enums at es (left - 1 + p .count) (p .start)
+  unfoldable pub going-on : Going s enums at es (left - 1 + p .count) (p .start)
   going-on =
       let e = t .expr in
       let o = t .others in

@@ -158,7 +158,7 @@ module _ (enums : ℕ) where
   head-is (call k es) t h = (here-first 11 _ h, here-byte-at (headBytes (call k es)) h 1 (omega arith), here-byte-at (headBytes (call k es)) h 2 (omega arith))
   head-is (tuple es) t h = (here-first 12 _ h, here-byte-at (headBytes (tuple es)) h 1 (omega arith))
 
-head-some : (e : Expr) → 1 ≤ headSize e
+pub head-some : (e : Expr) → 1 ≤ headSize e
 head-some (boolLit b) = omega arith
 head-some (intLit i) = omega arith
 head-some (floatLit b) = omega arith
@@ -178,6 +178,7 @@ head-some (tuple es) = omega arith
 -- the head of the first stands here, and behind it its parts and the others
 pub record Headed (s : List ℕ) (enums at : ℕ) (e : Expr) (es : Exprs) : Type 0 where
   pub inside : at < length s
+  pub whole : at + headSize e ≤ length s
   pub head : HeadIs s at e
   pub rest : Standing s enums (at + headSize e) (joined (partsOf e) es)
 
@@ -191,6 +192,7 @@ headed {s} {enums} {at} e es h =
     let front = here-front (headBytes e) _ here in
     record {
       inside = omega (arith, here-inside front (omega (arith, head-size e, head-some e)), head-size e, head-some e);
+      whole = omega (arith, here-inside front (omega (arith, head-size e, head-some e)), head-size e);
       head = head-is enums e (w .0) front;
       rest = record { here = subst (λ n. Here s (at + n) (exprsBytes (joined (partsOf e) es))) (head-size e) (here-back (headBytes e) _ here); fit = joined-fit enums (partsOf e) es (parts-fit enums e (w .0)) (w .1) };
     }
@@ -293,3 +295,11 @@ module _ {B : Type 0} (f : ℕ → Expr → List B) where
       ap (λ w. w ++ collectAll f (at + exprSize e) es) (collect-head at e) ∙ append-assoc (f at e) _ _
       ∙ ap (λ w. f at e ++ w)
       (ap (λ n. collectAll f (at + headSize e) (partsOf e) ++ collectAll f n es) (omega (arith, parts-size e)) ∙ sym (collect-joined (at + headSize e) (partsOf e) es))
+
+  -- what f gives at an expression, then what the walk gives at its parts, for one expression
+  pub root-head : (at : ℕ) (e : Expr) → collect f at e ≡ f at e ++ collectAll f (at + headSize e) (partsOf e)
+  root-head = collect-head
+
+  pub walk-one : (at : ℕ) (e : Expr) → collectAll f at (cons e nil) ≡ collect f at e
+  unfolding collectAll
+  walk-one at e = append-nil (collect f at e)

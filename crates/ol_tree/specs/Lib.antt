@@ -1,3 +1,4 @@
 pub mod At
 pub mod Tables
 pub mod Heads
+pub mod Stands

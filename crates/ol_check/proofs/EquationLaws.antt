@@ -1,0 +1,309 @@
+-- An equation: its names, its right side, and what is inside that.
+use Prim.Native.Nat.{ℕ, zero, suc, _+_, _-_, _*_, _≤_, _<_}
+use mathlib.Core.Bool.{Bool, true, false, not, _&&_, cond}
+use mathlib.Core.List.{List, [], _∷_, _++_, map}
+use mathlib.Core.Option.{Option, none, some}
+use mathlib.Core.Path.{_≡_, refl, sym, ap, subst, _∙_}
+use native.Mathlib.Omega.{arith}
+use native.Mathlib.Numerals.{add-one}
+use lib.ListN.{length, getD, set, drop, length-set, drop-of-length-le}
+use lib.Seq.{getD-set-same, getD-set-other, drop-cons}
+use lib.Dec.{T, ltb, leb, eqb}
+use borrow.Author.Tests.{lt-ltb, le-ltb, le-leb, lt-leb}
+use native.Mathlib.Decide.{decLe}
+use mathlib.Core.Logic.{by-cases}
+use Rattle.ol_spec.specs.Lists.{orElse, member, concat}
+use Rattle.ol_spec.specs.Syntax.{Expr, Exprs, nil, cons, count, Equation, File, rhsOf}
+use Rattle.ol_spec.specs.Places.{exprsSize, exprSize, equationSize, collect, collectAll, placed, placedNames, rhsPlace}
+use Rattle.ol_spec.specs.Encode.{nameBytes, equationBytes}
+use Rattle.ol_spec.specs.Limits.{base}
+use Rattle.ol_spec.specs.Within.{nameFits, equationFits}
+use Rattle.ol_spec.specs.Admission.{Item, first, firstIf, unseenItem, unseen, usedAt, used, callsWhere, shapeItem, severalIn, arity, equationUses, inEquation, equationShape}
+use Rattle.ol_spec.proofs.Walks.{first-append}
+use Rattle.ol_spec.proofs.Cells.{length-bytes}
+use Rattle.ol_spec.proofs.RoundTrip.Parts.{here-inside}
+use Rattle.ol_spec.proofs.RoundTrip.Items.{equation-size}
+use Rattle.ol_tree.specs.Tables.{Each}
+use Rattle.ol_tree.specs.Heads.{nameAt, partsOf, headSize, joined, HeadIs, Standing}
+use Rattle.ol_tree.specs.Stands.{Listed, Names, EquationStands}
+use Rattle.ol_tree.proofs.Heads.{here-name, headed, walk-head, walk-one, root-head, head-ends, parts-told, next-told, joined-count}
+use Rattle.ol_tree.proofs.HeadsFile.{Passing, Item as PassedItem, passing-start, passing-item, passing-end, equation-stands}
+use Rattle.ol_check.specs.Founds.{Byte, placeOf, earliest}
+use Rattle.ol_check.specs.Walks.{HeadOf}
+use Rattle.ol_check.specs.Judging.{headAt, heads, unseenB, unseenHead, slotOfEntry, slotHead, slotHeads, calledB, calledHead, arityB, severalHead, foundIn, Walked}
+use Rattle.ol_check.specs.Judging.{Knows, Context, SlotIs, entryItem, slotNames, NamesSeen, loneB, otherB, RootJudged, EquationJudged, namesIn, slotEquation, slotEquations, EquationsJudged}
+use Rattle.ol_check.specs.declared.Found.{Found}
+use Rattle.ol_check.specs.declared.heads.Parts.{Parts}
+use Rattle.ol_check.specs.declared.judge.Faults.{Faults}
+use Rattle.ol_check.proofs.WalkLoop.{found-step, found-none}
+use Rattle.ol_check.proofs.HeadLaws.{Flat, flat, unseen-law, called-law, several-law, arity-is, slots-below, slots-length, slots-held}
+
+-- ---- names
+
+two : (x : ℕ) → length (nameBytes x) ≡ 2
+two x = length-bytes 2 x
+
+abbrev pub NamePassing : List ℕ → ℕ → List ℕ → ℕ → ℕ → Type 0
+NamePassing s at xs i next = Passing nameBytes nameFits (λ x. 2) s at xs i next
+
+-- the items of a list from number i on, with their places
+pub placed-on : {A : Type 0} (size : A → ℕ) (d : A) (xs : List A) (i next : ℕ) → i < length xs → placed size next (drop i xs) ≡ (next, getD xs i d) ∷ placed size (next + size (getD xs i d)) (drop (i + 1) xs)
+placed-on size d xs i next lt = rw (add-one i) (ap (placed size next) (drop-cons xs i d lt))
+
+pub record NamesGoing (s names : List ℕ) (xs : List ℕ) (at : ℕ) (slots₀ : List ℕ) (found : Found) (slots : List ℕ) (u : Found) (i next : ℕ) : Type 0 where
+  pub passing : NamePassing s at xs i next
+  pub unseen : foundIn (placeOf u) (map (entryItem names) (placedNames next (drop i xs))) ≡ foundIn (placeOf found) (map (entryItem names) (placedNames at xs))
+  pub slotted : slotNames names slots (placedNames next (drop i xs)) ≡ slotNames names slots₀ (placedNames at xs)
+
+module _ {s names xs : List ℕ} {at : ℕ} {slots₀ : List ℕ} {found : Found} where
+  pub names-start : Names s 0 at xs → NamesGoing s names xs at slots₀ found slots₀ found 0 at
+  names-start h = record { passing = passing-start nameBytes nameFits (λ x. 2) h; unseen = refl; slotted = refl }
+
+  module _ {slots : List ℕ} {u : Found} {i next : ℕ} (g : NamesGoing s names xs at slots₀ found slots u i next) where
+    pub names-turn : i < length xs → (x e b : ℕ) (u′ : Found) (slots′ : List ℕ) → x ≡ nameAt s next → Byte names x e → placeOf u′ ≡ earliest (placeOf u) (eqb e 0) next
+        → b ≡ slotOfEntry e → slots′ ≡ set slots next b → NamesGoing s names xs at slots₀ found slots′ u′ (i + 1) (next + 2)
+    unfolding slotNames
+    names-turn lt x e b u′ slots′ ex be eu eb es =
+        let y = getD xs i 0 in
+        let it = passing-item two 0 (g .passing) lt in
+        let same : x ≡ y = ex ∙ here-name y (it .fit) (it .here) in
+        let ee : e ≡ getD names y 0 = be .is ∙ ap (λ n. getD names n 0) same in
+        let on = placed-on (λ n. 2) 0 xs i next lt in
+        let rest = placedNames (next + 2) (drop (i + 1) xs) in
+        record {
+          passing = it .on;
+          unseen = ap (λ o. foundIn o (map (entryItem names) rest)) (eu ∙ ap (λ n. earliest (placeOf u) (eqb n 0) next) ee)
+              ∙ found-step (placeOf u) (eqb (getD names y 0) 0) next (map (entryItem names) rest)
+              ∙ ap (λ l. foundIn (placeOf u) (map (entryItem names) l)) (sym on) ∙ g .unseen;
+          slotted = ap (λ l. slotNames names l rest) (es ∙ ap (set slots next) (eb ∙ ap slotOfEntry ee)) ∙ ap (slotNames names slots) (sym on) ∙ g .slotted;
+        }
+
+    pub names-done : length xs ≤ i → NamesSeen names (placedNames at xs) slots₀ slots found u
+    unfolding slotNames
+    names-done over =
+        let empty : drop i xs ≡ [] = drop-of-length-le xs over in
+        record {
+          unseen = sym (found-none (placeOf u)) ∙ ap (λ l. foundIn (placeOf u) (map (entryItem names) (placedNames next l))) (sym empty) ∙ g .unseen;
+          slotted = ap (λ l. slotNames names slots (placedNames next l)) (sym empty) ∙ g .slotted;
+        }
+
+-- what stands outside the names is left, and each name has the slot of its entry
+module _ (names : List ℕ) where
+  pub names-below : (xs slots : List ℕ) (at j : ℕ) → j < at → getD (slotNames names slots (placedNames at xs)) j 0 ≡ getD slots j 0
+  unfolding slotNames
+  names-below [] slots at j lt = refl
+  names-below (x ∷ xs) slots at j lt = names-below xs (set slots at _) (at + 2) j (omega arith) ∙ getD-set-other slots at j _ 0 (λ q. omega arith)
+
+  pub names-length : (xs slots : List ℕ) (at : ℕ) → length (slotNames names slots (placedNames at xs)) ≡ length slots
+  unfolding slotNames
+  names-length [] slots at = refl
+  names-length (x ∷ xs) slots at = names-length xs (set slots at _) (at + 2) ∙ length-set slots at _
+
+  pub names-held : (xs slots final : List ℕ) (at : ℕ) → at + 2 * length xs ≤ length slots → ((j : ℕ) → j < at + 2 * length xs → getD final j 0 ≡ getD (slotNames names slots (placedNames at xs)) j 0)
+      → (rest : List (ℕ × ℕ)) → Each (SlotIs names final) rest → Each (SlotIs names final) (placedNames at xs ++ rest)
+  unfolding slotNames
+  names-held [] slots final at room same rest tail = tail
+  names-held (x ∷ xs) slots final at room same rest tail = (
+    record { is = same at (omega arith) ∙ names-below xs (set slots at _) (at + 2) at (omega arith) ∙ getD-set-same slots at _ 0 (omega arith) },
+    names-held xs (set slots at _) final (at + 2) (omega (arith, length-set slots at (slotOfEntry (getD names x 0)))) (λ j lt. same j (omega arith)) rest tail,
+  )
+
+-- ---- the right side
+
+pub lone-several : (n v : ℕ) → 1 < n → leb v 1 ≡ loneB n v
+lone-several n v lt =
+    rw (lt-ltb 1 n lt) (by-cases (decLe v 1) (λ le. le-leb v 1 le ∙ ap not (sym (le-ltb 1 v le)))
+    (λ no. let more : 1 < v = omega arith in lt-leb v 1 more ∙ ap not (sym (lt-ltb 1 v more))))
+
+pub lone-one : (n v : ℕ) → n ≤ 1 → false ≡ loneB n v
+lone-one n v le = rw (le-ltb 1 n le) refl
+
+pub other-several : (n v : ℕ) → 1 < v → not (eqb v n) ≡ otherB n v
+other-several n v lt = rw (lt-ltb 1 v lt) refl
+
+pub other-one : (n v : ℕ) → v ≤ 1 → false ≡ otherB n v
+other-one n v le = rw (le-ltb 1 v le) refl
+
+module _ {s names rows : List ℕ} {nodes k at many : ℕ} (slots : List ℕ) {slots₁ slots₂ : List ℕ} {f r : Faults} {p : Parts} {u c h : Found} (few : Found) {bu bc bl bo : Bool} {v : ℕ}
+    (hp : HeadOf s (f .next) p) (ev : v ≡ arityB s rows nodes (f .next)) (es : slots₁ ≡ slotHead s names slots (f .next))
+    (eu : placeOf u ≡ earliest (placeOf (f .unseen)) bu (f .next + 1)) (fu : bu ≡ unseenB s names (f .next))
+    (ec : placeOf c ≡ earliest (placeOf (f .called)) bc (f .next)) (fc : bc ≡ calledB s rows k (f .next))
+    (el : placeOf few ≡ earliest (placeOf (f .shaped)) bl at) (fl : bl ≡ loneB many v)
+    (eo : placeOf h ≡ earliest (placeOf few) bo (f .next)) (fo : bo ≡ otherB many v)
+    (walked : (enums : ℕ) (xs : Exprs) → count xs ≡ p .count → Standing s enums (p .start) xs → Walked s names rows nodes k xs slots₁ slots₂ (record { unseen = u; called = c; shaped = h; next = p .start }) r) where
+  pub root-judged : (enums : ℕ) (e : Expr) → Standing s enums (f .next) (cons e nil) → RootJudged s names rows nodes k at many e slots slots₂ f r
+  unfolding slotHeads
+  root-judged enums e st =
+      let n = f .next in
+      let hd = headed e nil st in
+      let rest = joined (partsOf e) nil in
+      let start : p .start ≡ n + headSize e = hp .next ∙ next-told s n e (hd .head) in
+      let w = walked enums rest (omega (arith, joined-count (partsOf e) nil, hp .parts, parts-told s n e (hd .head))) (subst (λ a. Standing s enums a rest) (sym start) (hd .rest)) in
+      let all : heads n (cons e nil) ≡ n ∷ heads (p .start) rest = walk-head headAt n e nil ∙ ap (λ a. n ∷ heads a rest) (sym start) in
+      record {
+        next = omega (arith, w .next, start, head-ends e nil n);
+        slotted = w .slotted ∙ ap (λ l. slotHeads s names l (heads (p .start) rest)) es ∙ ap (slotHeads s names slots) (sym all);
+        unseen = w .unseen ∙ ap (λ o. foundIn o (map (unseenHead s names) (heads (p .start) rest))) (eu ∙ ap (λ b. earliest (placeOf (f .unseen)) b (n + 1)) fu)
+            ∙ found-step (placeOf (f .unseen)) (unseenB s names n) (n + 1) (map (unseenHead s names) (heads (p .start) rest)) ∙ ap (λ l. foundIn (placeOf (f .unseen)) (map (unseenHead s names) l)) (sym all);
+        called = w .called ∙ ap (λ o. foundIn o (map (calledHead s rows k) (heads (p .start) rest))) (ec ∙ ap (λ b. earliest (placeOf (f .called)) b n) fc)
+            ∙ found-step (placeOf (f .called)) (calledB s rows k n) n (map (calledHead s rows k) (heads (p .start) rest)) ∙ ap (λ l. foundIn (placeOf (f .called)) (map (calledHead s rows k) l)) (sym all);
+        shaped =
+            let items = map (severalHead s rows nodes) (heads (p .start) rest) in
+            let a = arityB s rows nodes n in
+            w .shaped ∙ ap (λ o. foundIn o items) (eo ∙ ap (λ b. earliest (placeOf few) b n) (fo ∙ ap (otherB many) ev))
+            ∙ found-step (placeOf few) (otherB many a) n items ∙ ap (λ o. foundIn o ((n, otherB many a) ∷ items)) (el ∙ ap (λ b. earliest (placeOf (f .shaped)) b at) (fl ∙ ap (loneB many) ev))
+            ∙ found-step (placeOf (f .shaped)) (loneB many a) at ((n, otherB many a) ∷ items)
+            ∙ ap (λ m. foundIn (placeOf (f .shaped)) ((at, loneB many a) ∷ (n, otherB many a) ∷ map (severalHead s rows nodes) (heads m rest))) start;
+      }
+
+-- ---- an equation
+
+found-append : (o : Option ℕ) (is js : List Item) → foundIn (foundIn o is) js ≡ foundIn o (is ++ js)
+found-append none is js = sym (first-append is js)
+found-append (some p) is js = refl
+
+joined-nil : (es : Exprs) → joined es nil ≡ es
+unfolding joined
+joined-nil nil = refl
+joined-nil (cons e es) = ap (cons e) (joined-nil es)
+
+map-append : {A B : Type 0} (f : A → B) (xs ys : List A) → map f (xs ++ ys) ≡ map f xs ++ map f ys
+map-append f [] ys = refl
+map-append f (x ∷ xs) ys = ap (λ l. f x ∷ l) (map-append f xs ys)
+
+entries-seen : (names visible : List ℕ) → Knows names visible → (ps : List (ℕ × ℕ)) → map (entryItem names) ps ≡ map (unseenItem visible) ps
+entries-seen names visible knows [] = refl
+entries-seen names visible knows (p ∷ ps) =
+    ap (λ b. (p .0, b) ∷ map (entryItem names) ps) (knows (p .1)) ∙ ap (λ l. unseenItem visible p ∷ l) (entries-seen names visible knows ps)
+
+module _ {s names rows : List ℕ} {nodes k many : ℕ} (slots slots₁ slots₂ : List ℕ) {g r : Faults} (u : Found) (mb : Byte s (g .next) many)
+    (seen : (xs : List ℕ) → length xs ≡ many → Names s 0 (g .next + 1) xs → NamesSeen names (placedNames (g .next + 1) xs) slots slots₁ (g .unseen) u)
+    (rooted : (enums : ℕ) (e : Expr) → Standing s enums (g .next + 1 + 2 * many) (cons e nil)
+    → RootJudged s names rows nodes k (g .next) many e slots₁ slots₂ (record { unseen = u; called = g .called; shaped = g .shaped; next = g .next + 1 + 2 * many }) r) where
+  pub equation-judged : (t : File) (visible : List ℕ) (bad : ℕ → ℕ → Bool) (enums : ℕ) (q : Equation) → Context t k names rows nodes visible bad → EquationStands s enums (g .next) q
+      → EquationJudged s names t visible bad (g .next) q slots slots₂ g r
+  unfolding slotEquation
+  equation-judged t visible bad enums q ctx st =
+      let at = g .next in
+      let e = q .rhs in
+      let len : length (q .names) ≡ many = sym (mb .is ∙ st .count) in
+      let p = at + 1 + 2 * many in
+      let place : rhsPlace at q ≡ p = omega arith in
+      let right = subst (λ a. Standing s enums a (cons e nil)) place (st .rhs) in
+      let f = flat right in
+      let n = seen (q .names) len (st .names) in
+      let w = rooted enums e right in
+      let ps = placedNames (at + 1) (q .names) in
+      let hd = headed e nil right .head in
+      let ar : arityB s rows nodes p ≡ arity t (rhsOf e) = arity-is s rows nodes t (ctx .outputs) p e hd in
+      let inner : first (map (severalHead s rows nodes) (heads (p + headSize e) (joined (partsOf e) nil))) ≡ first (drop 1 (inEquation (shapeItem t) (at, q))) =
+      several-law s rows nodes t (ctx .outputs) (flat (headed e nil right .rest))
+      ∙ ap (λ l. first (collectAll (shapeItem t) (p + headSize e) l)) (joined-nil (partsOf e))
+      ∙ ap (λ l. first (drop 1 l)) (sym (root-head (shapeItem t) p e)) ∙ ap (λ a. first (drop 1 (collect (shapeItem t) a e))) (sym place) in
+      record {
+        next = omega (arith, w .next);
+        unseen = w .unseen ∙ ap (λ o. foundIn o (map (unseenHead s names) (heads p (cons e nil)))) (n .unseen)
+            ∙ ap (orElse (foundIn (placeOf (g .unseen)) (map (entryItem names) ps))) (unseen-law s names visible (ctx .knows) f)
+            ∙ found-append (placeOf (g .unseen)) (map (entryItem names) ps) (map (unseenItem visible) (collectAll usedAt p (cons e nil)))
+            ∙ ap (λ l. foundIn (placeOf (g .unseen)) (l ++ map (unseenItem visible) (collectAll usedAt p (cons e nil)))) (entries-seen names visible (ctx .knows) ps)
+            ∙ ap (λ l. foundIn (placeOf (g .unseen)) (map (unseenItem visible) ps ++ map (unseenItem visible) l)) (walk-one usedAt p e)
+            ∙ ap (foundIn (placeOf (g .unseen))) (sym (map-append (unseenItem visible) ps (used p e)))
+            ∙ ap (λ a. foundIn (placeOf (g .unseen)) (unseen visible (ps ++ used a e))) (sym place);
+        called = w .called ∙ ap (orElse (placeOf (g .called))) (called-law s rows k bad (ctx .calls) f ∙ ap first (walk-one (callsWhere bad) p e) ∙ ap (λ a. first (collect (callsWhere bad) a e)) (sym place));
+        shaped = w .shaped ∙ ap (λ x. orElse (placeOf (g .shaped)) (firstIf (loneB many (arityB s rows nodes p)) at (firstIf (otherB many (arityB s rows nodes p)) p x))) inner
+            ∙ rw (ar, ← len) refl;
+        slotted = w .slotted ∙ ap (λ l. slotHeads s names l (heads p (cons e nil))) (n .slotted) ∙ ap (λ a. slotHeads s names (slotNames names slots ps) (heads a (cons e nil))) (sym place);
+      }
+
+-- ---- the slots of an equation's names
+
+module _ (s names : List ℕ) {enums at : ℕ} {q : Equation} (st : EquationStands s enums at q) where
+  pub equation-below : (slots : List ℕ) (j : ℕ) → j ≤ at → getD (slotEquation s names slots (at, q)) j 0 ≡ getD slots j 0
+  unfolding slotEquation
+  equation-below slots j le = slots-below s names (flat (st .rhs)) (slotNames names slots (placedNames (at + 1) (q .names))) j (omega arith) ∙ names-below names (q .names) slots (at + 1) j (omega arith)
+
+  pub equation-length : (slots : List ℕ) → length (slotEquation s names slots (at, q)) ≡ length slots
+  unfolding slotEquation
+  equation-length slots = slots-length s names (heads (rhsPlace at q) (cons (q .rhs) nil)) _ ∙ names-length names (q .names) slots (at + 1)
+
+  pub equation-held : (slots final : List ℕ) → length s ≤ length slots → ((j : ℕ) → j < at + equationSize q → getD final j 0 ≡ getD (slotEquation s names slots (at, q)) j 0) → Each (SlotIs names final) (namesIn (at, q))
+  unfolding slotEquation
+  equation-held slots final room same =
+      let p = rhsPlace at q in
+      let e = q .rhs in
+      let f = flat (st .rhs) in
+      let mid = slotNames names slots (placedNames (at + 1) (q .names)) in
+      let far = headed e nil (st .rhs) .inside in
+      let tail : Each (SlotIs names final) (used p e) =
+      subst (Each (SlotIs names final)) (walk-one usedAt p e)
+      (slots-held s names f mid final (omega (arith, names-length names (q .names) slots (at + 1))) (λ j lt. same j (omega arith))) in
+      names-held names (q .names) slots final (at + 1) (omega arith) (λ j lt. same j (omega arith) ∙ slots-below s names f mid j (omega arith)) (used p e) tail
+
+-- ---- so many equations
+
+noEquation : Equation
+noEquation = record { names = []; rhs = Rattle.ol_spec.specs.Syntax.boolLit false }
+
+-- what is left of a list of items, each of which gives items
+abbrev Left : {A : Type 0} → (ℕ × A → List Item) → (A → ℕ) → List A → ℕ → ℕ → List Item
+Left g size xs i next = concat (map g (placed size next (drop i xs)))
+
+-- an item of the list is judged
+left-step : {A : Type 0} (g : ℕ × A → List Item) (size : A → ℕ) (d : A) (xs : List A) (i next next′ : ℕ) (o o′ z : Option ℕ) → i < length xs → next′ ≡ next + size (getD xs i d) → o′ ≡ foundIn o (g (next, getD xs i d))
+    → foundIn o (Left g size xs i next) ≡ z → foundIn o′ (Left g size xs (i + 1) next′) ≡ z
+left-step g size d xs i next next′ o o′ z lt en eo ez =
+    let x = getD xs i d in
+    ap (λ n. foundIn o′ (Left g size xs (i + 1) n)) en ∙ ap (λ y. foundIn y (Left g size xs (i + 1) (next + size x))) eo
+    ∙ found-append o (g (next, x)) (Left g size xs (i + 1) (next + size x)) ∙ ap (λ l. foundIn o (concat (map g l))) (sym (placed-on size d xs i next lt)) ∙ ez
+
+left-none : {A : Type 0} (g : ℕ × A → List Item) (size : A → ℕ) (xs : List A) (i next : ℕ) (o z : Option ℕ) → length xs ≤ i → foundIn o (Left g size xs i next) ≡ z → o ≡ z
+left-none g size xs i next o z le ez = sym (found-none o) ∙ ap (λ l. foundIn o (concat (map g (placed size next l)))) (sym (drop-of-length-le xs le)) ∙ ez
+
+abbrev pub EquationPassing : List ℕ → ℕ → ℕ → List Equation → ℕ → ℕ → Type 0
+EquationPassing s enums at qs i next = Passing equationBytes (equationFits base enums) equationSize s at qs i next
+
+pub record EquationsGoing (s names : List ℕ) (t : File) (visible : List ℕ) (bad : ℕ → ℕ → Bool) (enums : ℕ) (qs : List Equation) (slots₀ : List ℕ) (f : Faults) (slots : List ℕ) (g : Faults) (i : ℕ) : Type 0 where
+  pub passing : EquationPassing s enums (f .next) qs i (g .next)
+  pub unseen : foundIn (placeOf (g .unseen)) (concat (map (equationUses visible) (placed equationSize (g .next) (drop i qs)))) ≡ foundIn (placeOf (f .unseen)) (concat (map (equationUses visible) (placed equationSize (f .next) qs)))
+  pub called : foundIn (placeOf (g .called)) (concat (map (inEquation (callsWhere bad)) (placed equationSize (g .next) (drop i qs)))) ≡ foundIn (placeOf (f .called)) (concat (map (inEquation (callsWhere bad)) (placed equationSize (f .next) qs)))
+  pub shaped : foundIn (placeOf (g .shaped)) (concat (map (equationShape t) (placed equationSize (g .next) (drop i qs)))) ≡ foundIn (placeOf (f .shaped)) (concat (map (equationShape t) (placed equationSize (f .next) qs)))
+  pub slotted : slotEquations s names slots (placed equationSize (g .next) (drop i qs)) ≡ slotEquations s names slots₀ (placed equationSize (f .next) qs)
+
+module _ {s names : List ℕ} {t : File} {visible : List ℕ} {bad : ℕ → ℕ → Bool} {enums : ℕ} {qs : List Equation} {slots₀ : List ℕ} {f : Faults} where
+  pub equations-start : Listed equationBytes (equationFits base enums) s (f .next) qs → EquationsGoing s names t visible bad enums qs slots₀ f slots₀ f 0
+  equations-start h = record { passing = passing-start equationBytes (equationFits base enums) equationSize h; unseen = refl; called = refl; shaped = refl; slotted = refl }
+
+  module _ {slots : List ℕ} {g : Faults} {i : ℕ} (w : EquationsGoing s names t visible bad enums qs slots₀ f slots g i) where
+    equation-at : i < length qs → PassedItem equationBytes (equationFits base enums) equationSize s (f .next) qs i (g .next) (getD qs i noEquation)
+    equation-at lt = passing-item equation-size noEquation (w .passing) lt
+
+    pub equations-turn : i < length qs → (slots′ : List ℕ) (r : Faults) → ((q : Equation) → EquationStands s enums (g .next) q → EquationJudged s names t visible bad (g .next) q slots slots′ g r)
+        → EquationsGoing s names t visible bad enums qs slots₀ f slots′ r (i + 1)
+    unfolding slotEquations
+    equations-turn lt slots′ r judged =
+        let it = equation-at lt in
+        let q = getD qs i noEquation in
+        let j = judged q (equation-stands q (it .fit) (it .here)) in
+        let on = placed-on equationSize noEquation qs i (g .next) lt in
+        record {
+          passing = subst (EquationPassing s enums (f .next) qs (i + 1)) (sym (j .next)) (it .on);
+          unseen = left-step (equationUses visible) equationSize noEquation qs i (g .next) (r .next) (placeOf (g .unseen)) _ _ lt (j .next) (j .unseen) (w .unseen);
+          called = left-step (inEquation (callsWhere bad)) equationSize noEquation qs i (g .next) (r .next) (placeOf (g .called)) _ _ lt (j .next) (j .called) (w .called);
+          shaped = left-step (equationShape t) equationSize noEquation qs i (g .next) (r .next) (placeOf (g .shaped)) _ _ lt (j .next) (j .shaped) (w .shaped);
+          slotted = ap (λ n. slotEquations s names slots′ (placed equationSize n (drop (i + 1) qs))) (j .next)
+              ∙ ap (λ l. slotEquations s names l (placed equationSize (g .next + equationSize q) (drop (i + 1) qs))) (j .slotted)
+              ∙ ap (slotEquations s names slots) (sym on) ∙ w .slotted;
+        }
+
+    pub equations-cut : i < length qs → length s ≤ g .next → ⊥
+    equations-cut lt out = omega (arith, here-inside (equation-at lt .here) (omega (arith, equation-size (getD qs i noEquation))), equation-size (getD qs i noEquation))
+
+    pub equations-done : length qs ≤ i → EquationsJudged s names t visible bad (f .next) qs slots₀ slots f g
+    unfolding slotEquations
+    equations-done over =
+        record {
+          unseen = left-none (equationUses visible) equationSize qs i (g .next) (placeOf (g .unseen)) _ over (w .unseen);
+          called = left-none (inEquation (callsWhere bad)) equationSize qs i (g .next) (placeOf (g .called)) _ over (w .called);
+          shaped = left-none (equationShape t) equationSize qs i (g .next) (placeOf (g .shaped)) _ over (w .shaped);
+          slotted = ap (λ l. slotEquations s names slots (placed equationSize (g .next) l)) (sym (drop-of-length-le qs over)) ∙ w .slotted;
+        }

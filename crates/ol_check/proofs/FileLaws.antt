@@ -1,0 +1,206 @@
+-- A whole file: variants, constants, nodes.
+use Prim.Native.Nat.{ℕ, zero, suc, _+_, _-_, _*_, _≤_, _<_}
+use mathlib.Core.Bool.{Bool, true, false, not, _&&_, cond}
+use mathlib.Core.List.{List, [], _∷_, _++_, map, append-nil, append-assoc}
+use mathlib.Core.Option.{Option, none, some}
+use mathlib.Core.Logic.{by-cases}
+use mathlib.Core.Path.{_≡_, refl, sym, ap, subst, _∙_}
+use native.Mathlib.Omega.{arith}
+use native.Mathlib.Numerals.{add-one}
+use native.Mathlib.Decide.{decLe}
+use lib.ListN.{length, getD, set, drop, drop-of-length-le}
+use lib.Seq.{drop-cons, getD-set-same, getD-set-other, set-out}
+use lib.Dec.{T, ltb, eqb}
+use borrow.Author.Tests.{ne-eqb}
+use Rattle.ol_spec.specs.Lists.{orElse, concat, member, sum}
+use Rattle.ol_spec.specs.Syntax.{Constant, File, constantName}
+use Rattle.ol_spec.specs.Places.{enumSize, constantSize, constantsStart, nodesStart, placed, placedConstants, placedNodes, sectionSize}
+use Rattle.ol_spec.specs.Encode.{nameBytes, sectionBytes, constantBytes}
+use Rattle.ol_spec.specs.Limits.{base}
+use Rattle.ol_spec.specs.Within.{enumFits, countFits, nameFits, constantFits}
+use Rattle.ol_spec.specs.Admission.{Item, first, variants, constantNames, constantUses, nodeUses, nodeCalls, nodeShape, inConstant, callsWhere, shapeItem, numbered, fault7, fault9, fault10}
+use Rattle.ol_spec.proofs.Tests.{T-and}
+use Rattle.ol_spec.proofs.Walks.{first-append}
+use Rattle.ol_spec.proofs.RoundTrip.Parts.{Here, here-inside, here-back}
+use Rattle.ol_spec.proofs.RoundTrip.Items.{names-size}
+use Rattle.ol_tree.specs.At.{fileAt}
+use Rattle.ol_tree.specs.Tables.{Each}
+use Rattle.ol_tree.specs.Stands.{Listed, Names, FileStands}
+use Rattle.ol_tree.proofs.Heads.{here-first}
+use Rattle.ol_tree.proofs.HeadsFile.{Passing, Item as PassedItem, passing-start, passing-item, passing-end}
+use Rattle.ol_check.specs.Founds.{Byte, placeOf}
+use Rattle.ol_check.specs.RowsDone.{Enums, SectionsAre}
+use Rattle.ol_check.specs.Entries.{declared, declareAll, variantEntry, constantEntries, Global}
+use Rattle.ol_check.specs.Judging.{foundIn, Knows}
+use Rattle.ol_check.specs.NodesJudged.{RowsReady, NodesJudged, slotNodes}
+use Rattle.ol_check.specs.ConstantsJudged.{ConstantsJudged, ConstantsReady, slotConstants}
+use Rattle.ol_check.specs.FileJudged.{FileReady, NamesWithin, variantTable, globalTable, FileJudged}
+use Rattle.ol_check.specs.declared.judge.Faults.{Faults}
+use Rattle.ol_check.specs.declared.rows.Sections.{Sections}
+use Rattle.ol_check.proofs.EntryLaws.{declare-append, Enterable, knows-all, declare-length}
+use Rattle.ol_check.proofs.NodeLaws.{outputs-told, ready-at}
+
+-- ---- the variants of the enums
+
+pub record EnumsGoing (s : List ℕ) (es : List (List ℕ)) (names₀ names : List ℕ) (at i next : ℕ) : Type 0 where
+  pub passing : Passing (sectionBytes nameBytes) (enumFits base) enumSize s at es i next
+  pub entered : declareAll names (map variantEntry (concat (drop i es))) ≡ declareAll names₀ (map variantEntry (concat es))
+
+map-append : (xs ys : List ℕ) → map variantEntry (xs ++ ys) ≡ map variantEntry xs ++ map variantEntry ys
+map-append [] ys = refl
+map-append (x ∷ xs) ys = ap (λ l. variantEntry x ∷ l) (map-append xs ys)
+
+module _ {s : List ℕ} {es : List (List ℕ)} {names₀ : List ℕ} {at : ℕ} where
+  pub enums-start : Enums s at es → EnumsGoing s es names₀ names₀ at 0 at
+  enums-start h = record { passing = passing-start (sectionBytes nameBytes) (enumFits base) enumSize h; entered = refl }
+
+  module _ {names : List ℕ} {i next : ℕ} (g : EnumsGoing s es names₀ names at i next) where
+    enum-at : i < length es → PassedItem (sectionBytes nameBytes) (enumFits base) enumSize s at es i next (getD es i [])
+    enum-at lt = passing-item names-size [] (g .passing) lt
+
+    pub enums-cut : i < length es → length s ≤ next → ⊥
+    enums-cut lt out = omega (arith, here-inside (enum-at lt .here) (omega (arith, names-size (getD es i []))), names-size (getD es i []))
+
+    pub enums-turn : i < length es → (n r : ℕ) (names′ : List ℕ) → Byte s next n → r ≡ next + 1 + 2 * getD s next 0
+        → ((xs : List ℕ) → length xs ≡ n → Names s 0 (next + 1) xs → names′ ≡ declareAll names (map variantEntry xs)) → EnumsGoing s es names₀ names′ at (i + 1) r
+    enums-turn lt n r names′ b er h =
+        let it = enum-at lt in
+        let vs = getD es i [] in
+        let many = here-first (length vs) _ (it .here) in
+        let w = h vs (sym (b .is ∙ many)) (record { here = here-back (length vs ∷ []) _ (it .here); fit = T-and (countFits 1 32 (length vs)) _ (it .fit) .1 }) in
+        record {
+          passing = subst (Passing (sectionBytes nameBytes) (enumFits base) enumSize s at es (i + 1)) (omega (arith, er, many)) (it .on);
+          entered = ap (λ l. declareAll l (map variantEntry (concat (drop (i + 1) es)))) w ∙ sym (declare-append names (map variantEntry vs) (map variantEntry (concat (drop (i + 1) es))))
+              ∙ ap (declareAll names) (sym (map-append vs (concat (drop (i + 1) es)))) ∙ ap (λ m. declareAll names (map variantEntry (vs ++ concat (drop m es)))) (add-one i)
+              ∙ ap (λ l. declareAll names (map variantEntry (concat l))) (sym (drop-cons es i [] lt)) ∙ g .entered;
+        }
+
+    pub enums-done : length es ≤ i → names ≡ declareAll names₀ (map variantEntry (concat es))
+    unfolding declareAll
+    enums-done over = ap (λ l. declareAll names (map variantEntry (concat l))) (sym (drop-of-length-le es over)) ∙ g .entered
+
+-- ---- the table outside the nodes
+
+-- entries above a variable's leave the table so
+global-step : (names : List ℕ) (x e : ℕ) → Global names → 113 ≤ e → Global (declared names x e)
+global-step names x e g high y low = go (eqb (getD names x 0) 0) low
+  where
+    go : (b : Bool) → getD (cond b (set names x e) names) y 0 ≤ 112 → getD (cond b (set names x e) names) y 0 ≡ 0
+    go false low = g y low
+    go true low =
+        by-cases (decLe (length names) x) (λ out. rw (set-out names x e out) (g y (subst (λ l. getD l y 0 ≤ 112) (set-out names x e out) low)))
+        (λ lt. by-cases (decLe y x) (λ a. by-cases (decLe x y)
+        (λ b. let same : y ≡ x = omega arith in absurd (omega (arith, low, ap (λ n. getD (set names x e) n 0) same, getD-set-same names x e 0 (omega arith))))
+        (λ nb. let o = getD-set-other names x y e 0 (λ q. omega arith) in o ∙ g y (omega arith)))
+        (λ na. let o = getD-set-other names x y e 0 (λ q. omega arith) in o ∙ g y (omega arith)))
+
+global-all : (names : List ℕ) (ds : List (ℕ × ℕ)) → Global names → Each (λ d. 113 ≤ d .1) ds → Global (declareAll names ds)
+unfolding declareAll
+global-all names [] g h = g
+global-all names (d ∷ ds) g h = global-all (declared names (d .0) (d .1)) ds (global-step names (d .0) (d .1) g (h .0)) (h .1)
+
+variants-high : (xs : List ℕ) → Each (λ d. 113 ≤ d .1) (map variantEntry xs)
+variants-high [] = tt
+variants-high (x ∷ xs) = (omega arith, variants-high xs)
+
+constants-high : (i : ℕ) (cs : List Constant) → Each (λ d. 113 ≤ d .1) (constantEntries i cs)
+constants-high i [] = tt
+constants-high i (c ∷ cs) = (omega arith, constants-high (i + 1) cs)
+
+pub variants-ok : (room : ℕ) (xs : List ℕ) → Each (λ x. x < room) xs → Each (Enterable room) (map variantEntry xs)
+variants-ok room [] h = tt
+variants-ok room (x ∷ xs) h = ((h .0, omega arith), variants-ok room xs (h .1))
+
+pub constants-ok : (room i : ℕ) (cs : List Constant) → Each (λ c. c .name < room) cs → Each (Enterable room) (constantEntries i cs)
+constants-ok room i [] h = tt
+constants-ok room i (c ∷ cs) h = ((h .0, omega arith), constants-ok room (i + 1) cs (h .1))
+
+variant-names : (xs : List ℕ) → map (λ d. d .0) (map variantEntry xs) ++ [] ≡ xs
+variant-names [] = refl
+variant-names (x ∷ xs) = ap (λ l. x ∷ l) (variant-names xs)
+
+constant-names : (i : ℕ) (cs : List Constant) → map (λ d. d .0) (constantEntries i cs) ≡ map constantName cs
+constant-names i [] = refl
+constant-names i (c ∷ cs) = ap (λ l. c .name ∷ l) (constant-names (i + 1) cs)
+
+module _ (names : List ℕ) (f : File) (empty : (x : ℕ) → getD names x 0 ≡ 0) (within : NamesWithin (length names) f) where
+  pub variants-known : Knows (variantTable names f) (variants f)
+  variants-known =
+      subst (Knows (variantTable names f)) (variant-names (variants f))
+      (knows-all names [] (map variantEntry (variants f)) (λ x. rw (empty x) refl) (variants-ok (length names) (variants f) (within .variants)))
+
+  pub globals-known : Knows (globalTable names f) (constantNames f ++ variants f)
+  globals-known =
+      subst (λ l. Knows (globalTable names f) (l ++ variants f)) (constant-names 0 (f .constants))
+      (knows-all (variantTable names f) (variants f) (constantEntries 0 (f .constants)) variants-known
+      (subst (λ n. Each (Enterable n) (constantEntries 0 (f .constants))) (sym (declare-length names (map variantEntry (variants f)))) (constants-ok (length names) 0 (f .constants) (within .constants))))
+
+  pub globals-global : Global (globalTable names f)
+  globals-global = global-all (variantTable names f) (constantEntries 0 (f .constants)) (global-all names (map variantEntry (variants f)) (λ y low. empty y) (variants-high (variants f))) (constants-high 0 (f .constants))
+
+-- ---- the file
+
+module _ {s rows names : List ℕ} {at : Sections} (rd : FileReady s rows names at) (within : NamesWithin (length names) (fileAt s)) (st : FileStands s (fileAt s)) where
+  pub rows-ready : {nodes : ℕ} → Byte s (at .nodes) nodes → RowsReady s rows nodes
+  rows-ready b =
+      let place : at .nodes ≡ constantsStart (fileAt s) + sum (map constantSize (fileAt s .constants)) = omega (arith, rd .sections .nodes) in
+      let many = b .is ∙ ap (λ p. getD s p 0) place ∙ st .nodeCount in
+      record { reads = rd .reads; row = rd .row; many = many; few = omega (arith, st .fewNodes) }
+
+  pub constant-count : {n : ℕ} → Byte s (at .constants) n → length (fileAt s .constants) ≡ n
+  constant-count b = sym (b .is ∙ ap (λ p. getD s p 0) (omega (arith, rd .sections .constants)) ∙ st .constantCount)
+
+  pub enum-count : {n : ℕ} → Byte s 1 n → length (fileAt s .enums) ≡ n
+  enum-count b = sym (b .is ∙ st .enumCount)
+
+  module _ {nodes ec cc : ℕ} {names₁ : List ℕ} (nb : Byte s (at .nodes) nodes) (eb : Byte s 1 ec) (cb : Byte s (at .constants) cc)
+      (entered : (es : List (List ℕ)) → length es ≡ ec → Enums s 2 es → names₁ ≡ declareAll names (map variantEntry (concat es))) where
+    pub table-is : names₁ ≡ variantTable names (fileAt s)
+    table-is = entered (fileAt s .enums) (enum-count eb) (st .enums)
+
+    constants-ready : ConstantsReady s names₁ rows nodes (fileAt s) (variants (fileAt s)) (length (fileAt s .enums)) (at .constants + 1) (fileAt s .constants)
+    constants-ready =
+        let f = fileAt s in
+        let rr = rows-ready nb in
+        let same : length names ≡ length names₁ = sym (ap length table-is ∙ declare-length names (map variantEntry (variants f))) in
+        record {
+          knows = subst (λ l. Knows l (variants f)) (sym table-is) (variants-known names f (rd .empty) within);
+          outputs = outputs-told (ready-at rr 0 (omega (arith, rr .many, st .someNode)));
+          covered = subst (λ n. Each (λ c. c .name < n) (f .constants)) same (within .constants);
+          stand = subst (λ p. Listed constantBytes (constantFits base (length (f .enums))) s p (f .constants)) (sym (rd .sections .constants)) (st .constants);
+        }
+
+    module _ {names₂ slots slots₁ : List ℕ} {g₀ g : Faults} (en : g₀ .next ≡ at .constants + 1) (eu : placeOf (g₀ .unseen) ≡ none) (ec₀ : placeOf (g₀ .called) ≡ none) (eh : placeOf (g₀ .shaped) ≡ none)
+        (constants : (t : File) (visible : List ℕ) (enums : ℕ) (cs : List Constant) → length cs ≡ cc → ConstantsReady s names₁ rows nodes t visible enums (g₀ .next) cs → ConstantsJudged s names₁ t visible (g₀ .next) cs slots slots₁ names₂ g₀ g) where
+      abbrev cj : ConstantsJudged s names₁ (fileAt s) (variants (fileAt s)) (g₀ .next) (fileAt s .constants) slots slots₁ names₂ g₀ g
+      cj = constants (fileAt s) (variants (fileAt s)) (length (fileAt s .enums)) (fileAt s .constants) (constant-count cb)
+          (subst (λ p. ConstantsReady s names₁ rows nodes (fileAt s) (variants (fileAt s)) (length (fileAt s .enums)) p (fileAt s .constants)) (sym en) constants-ready)
+
+      pub global-is : names₂ ≡ globalTable names (fileAt s)
+      global-is = cj .entered ∙ ap (λ l. declareAll l (constantEntries 0 (fileAt s .constants))) table-is
+
+      pub global-ready : Global names₂
+      global-ready = subst Global (sym global-is) (globals-global names (fileAt s) (rd .empty) within)
+
+      module _ {names₃ slots₂ : List ℕ} {r : Faults} (same : names₃ ≡ names₂)
+          (nodesJudged : (visible : List ℕ) → Knows names₂ visible → Rattle.ol_check.specs.NodesJudged.AllCovered (length names₂) (fileAt s) → NodesJudged s names₂ (fileAt s) visible slots₁ slots₂ g r) where
+        pub file-judged : FileJudged s (fileAt s) names names₃ slots slots₂ r
+        unfolding fault7 fault9 fault10
+        file-judged =
+            let f = fileAt s in
+            let length-same : length names ≡ length names₂ = sym (ap length global-is ∙ declare-length (variantTable names f) (constantEntries 0 (f .constants)) ∙ declare-length names (map variantEntry (variants f))) in
+            let nj = nodesJudged (constantNames f ++ variants f) (subst (λ l. Knows l (constantNames f ++ variants f)) (sym global-is) (globals-known names f (rd .empty) within))
+            (subst (λ n. Rattle.ol_check.specs.NodesJudged.AllCovered n f) length-same (within .nodes)) in
+            let start : g₀ .next ≡ constantsStart f = en ∙ rd .sections .constants in
+            let cs = f .constants in
+            record {
+              unseen = nj .unseen ∙ ap (λ o. foundIn o (concat (map (nodeUses (constantNames f ++ variants f)) (placedNodes f)))) (cj .unseen ∙ ap (λ o. foundIn o (constantUses (variants f) (placed constantSize (g₀ .next) cs))) eu ∙ ap (λ p. first (constantUses (variants f) (placed constantSize p cs))) start)
+                  ∙ sym (first-append (constantUses (variants f) (placedConstants f)) (concat (map (nodeUses (constantNames f ++ variants f)) (placedNodes f))));
+              called = nj .called ∙ ap (λ o. foundIn o (concat (map (nodeCalls f) (numbered 0 (placedNodes f))))) (cj .called ∙ ap (λ o. foundIn o (concat (map (inConstant (callsWhere (λ x n. true))) (placed constantSize (g₀ .next) cs)))) ec₀ ∙ ap (λ p. first (concat (map (inConstant (callsWhere (λ x n. true))) (placed constantSize p cs)))) start)
+                  ∙ sym (first-append (concat (map (inConstant (callsWhere (λ x n. true))) (placedConstants f))) (concat (map (nodeCalls f) (numbered 0 (placedNodes f)))));
+              shaped = nj .shaped ∙ ap (λ o. foundIn o (concat (map (nodeShape f) (placedNodes f)))) (cj .shaped ∙ ap (λ o. foundIn o (concat (map (inConstant (shapeItem f)) (placed constantSize (g₀ .next) cs)))) eh ∙ ap (λ p. first (concat (map (inConstant (shapeItem f)) (placed constantSize p cs)))) start)
+                  ∙ sym (first-append (concat (map (inConstant (shapeItem f)) (placedConstants f))) (concat (map (nodeShape f) (placedNodes f))));
+              entered = same ∙ global-is;
+              slotted = nj .slotted ∙ ap (λ l. slotNodes s l slots₁ (placedNodes f)) global-is
+                  ∙ ap (λ l. slotNodes s (globalTable names f) l (placedNodes f)) (cj .slotted ∙ ap (λ p. slotConstants s names₁ slots 0 (placed constantSize p cs)) start ∙ ap (λ l. slotConstants s l slots 0 (placedConstants f)) table-is);
+            }

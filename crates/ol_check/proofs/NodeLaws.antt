@@ -1,0 +1,255 @@
+-- A node: its variables entered and taken back, and its equations judged.
+use Prim.Native.Nat.{ℕ, zero, suc, _+_, _-_, _*_, _≤_, _<_}
+use mathlib.Core.Bool.{Bool, true, false, not, _&&_, cond}
+use mathlib.Core.List.{List, [], _∷_, _++_, map, append-assoc}
+use mathlib.Core.Logic.{by-cases}
+use mathlib.Core.Path.{_≡_, refl, sym, ap, subst, _∙_}
+use native.Mathlib.Omega.{arith}
+use native.Mathlib.Decide.{decLt}
+use lib.ListN.{length, getD, set, drop, length-append, List·getD-eq-default, drop-of-length-le}
+use lib.Seq.{drop-cons}
+use native.Mathlib.Numerals.{add-one}
+use mathlib.Core.Option.{Option, none, some}
+use lib.Dec.{T, ltb, leb, eqb}
+use borrow.Author.Tests.{lt-ltb, le-ltb}
+use Rattle.ol_spec.specs.Lists.{sum, concat}
+use Rattle.ol_spec.specs.Syntax.{NodeKind, Function, Operator, Imported, Variable, Equation, Node, File, variables, variableNames, nameOf, noNode}
+use Rattle.ol_spec.specs.Places.{variableSize, outputsStart, localsStart, equationsStart, placedNodes, placed, equationSize, nodeSize, nodesStart}
+use Rattle.ol_spec.specs.Encode.{kindCode, variableBytes, equationBytes}
+use Rattle.ol_spec.specs.Limits.{base}
+use Rattle.ol_spec.specs.Within.{variableFits, equationFits}
+use Rattle.ol_spec.specs.Admission.{calleeIn, badCall, mayCall, equationUses, inEquation, callsWhere, equationShape, Item, nodeUses, nodeCalls, nodeShape, numbered}
+use Rattle.ol_spec.proofs.Walks.{first-append}
+use Rattle.ol_check.proofs.WalkLoop.{found-none}
+use Rattle.ol_tree.specs.At.{fileAt}
+use Rattle.ol_tree.specs.Tables.{rowAt, nodeOf, Each}
+use Rattle.ol_tree.specs.Stands.{Listed, Variables, Equations, NodeStands, FileStands}
+use Rattle.ol_tree.proofs.HeadsFile.{node-at}
+use Rattle.ol_check.specs.Founds.{Byte, placeOf}
+use Rattle.ol_check.specs.RowsDone.{NodeRow}
+use Rattle.ol_check.specs.Entries.{declareAll, forgetAll, variableEntries, VariablesEntered, VariablesForgotten, Global}
+use Rattle.ol_check.specs.Judging.{mayB, badB, outputsB, Knows, Context, EquationsJudged, foundIn, slotEquations}
+use Rattle.ol_check.specs.NodesJudged.{placeIn, NodeReady, nodeTable, Covered, NodeJudged, RowsReady, slotNodes, NodesJudged}
+use Rattle.ol_check.specs.declared.judge.Faults.{Faults}
+use Rattle.ol_check.proofs.EntryLaws.{declare-append, forget-append, entries-append, declare-length, Enterable, knows-all, restored}
+
+-- ---- the sections of variables
+
+-- a row's counts and places are those of the node that stands there
+module _ {s rows : List ℕ} {nodes k : ℕ} (rd : NodeReady s rows nodes k) (st : FileStands s (fileAt s)) where
+  abbrev the : Node
+  the = nodeOf (fileAt s) k
+
+  abbrev pub ready-row : NodeRow (nodeOf (fileAt s) k) (placeIn (fileAt s) k) k rows
+  ready-row = rd .row k (omega (arith, rd .low, rd .many))
+
+  abbrev pub ready-node : NodeStands s (length (fileAt s .enums)) (placeIn (fileAt s) k) (nodeOf (fileAt s) k)
+  ready-node = node-at st k (omega (arith, rd .low, rd .many))
+
+  module _ {at i oc : ℕ} (ea : at ≡ getD rows (k * 8 + 7) 0) (ei : i ≡ getD rows (k * 8 + 2) 0) (eo : oc ≡ getD rows (k * 8 + 3) 0) where
+    pub at-is : at ≡ placeIn (fileAt s) k
+    at-is = ea ∙ ready-row .place
+
+    pub inputs-are : i ≡ length (the .inputs)
+    inputs-are = ei ∙ ready-row .inputs
+
+    pub outputs-are : oc ≡ length (the .outputs)
+    outputs-are = eo ∙ ready-row .outputs
+
+    -- the sections of the variables, where the code finds them
+    pub inputs-there : Variables s (length (fileAt s .enums)) (at + 2) (the .inputs)
+    inputs-there = subst (λ a. Listed variableBytes (variableFits base (length (fileAt s .enums))) s (a + 2) (the .inputs)) (sym at-is) (ready-node .inputs)
+
+    module _ {o : ℕ} (oe : o ≡ at + 2 + sum (map variableSize (the .inputs))) where
+      pub outputs-there : Variables s (length (fileAt s .enums)) (o + 1) (the .outputs)
+      outputs-there =
+          let e : o ≡ outputsStart (placeIn (fileAt s) k) the = omega (arith, at-is) in
+          subst (λ a. Listed variableBytes (variableFits base (length (fileAt s .enums))) s (a + 1) (the .outputs)) (sym e) (ready-node .outputs)
+
+      module _ {l : ℕ} (le : l ≡ o + 1 + sum (map variableSize (the .outputs))) where
+        locals-at : l ≡ localsStart (placeIn (fileAt s) k) the
+        locals-at = omega (arith, at-is)
+
+        pub locals-are : {lc : ℕ} → Byte s l lc → lc ≡ length (the .locals)
+        locals-are b = b .is ∙ ap (λ p. getD s p 0) locals-at ∙ ready-node .localCount
+
+        pub locals-there : Variables s (length (fileAt s .enums)) (l + 1) (the .locals)
+        locals-there = subst (λ a. Listed variableBytes (variableFits base (length (fileAt s .enums))) s (a + 1) (the .locals)) (sym locals-at) (ready-node .locals)
+
+-- three sections of variables, one after the other
+pub entered-three : {a b c : List Variable} {names n₁ n₂ n₃ : List ℕ} {i j x y z p q r : ℕ} → i ≡ length a → j ≡ length b → VariablesEntered a names n₁ 0 x p → VariablesEntered b n₁ n₂ i y q → VariablesEntered c n₂ n₃ (i + j) z r
+    → n₃ ≡ declareAll names (variableEntries 0 (a ++ b ++ c))
+entered-three {a} {b} {c} {names} {n₁} {n₂} {n₃} {i} {j} ei ej u v w =
+    let second : variableEntries 0 a ++ variableEntries i b ≡ variableEntries 0 (a ++ b) = ap (λ n. variableEntries 0 a ++ variableEntries n b) (omega arith) ∙ sym (entries-append 0 a b) in
+    let third : variableEntries 0 (a ++ b) ++ variableEntries (i + j) c ≡ variableEntries 0 (a ++ b ++ c) = ap (λ n. variableEntries 0 (a ++ b) ++ variableEntries n c) (omega (arith, length-append a b)) ∙ sym (entries-append 0 (a ++ b) c) in
+    w .entered ∙ ap (λ l. declareAll l (variableEntries (i + j) c)) (v .entered ∙ ap (λ l. declareAll l (variableEntries i b)) (u .entered) ∙ sym (declare-append names (variableEntries 0 a) (variableEntries i b)) ∙ ap (declareAll names) second)
+    ∙ sym (declare-append names (variableEntries 0 (a ++ b)) (variableEntries (i + j) c)) ∙ ap (declareAll names) third
+
+map-append : (xs ys : List Variable) → map nameOf (xs ++ ys) ≡ map nameOf xs ++ map nameOf ys
+map-append [] ys = refl
+map-append (x ∷ xs) ys = ap (λ l. x .name ∷ l) (map-append xs ys)
+
+pub forgotten-three : {a b c : List Variable} {names n₁ n₂ n₃ : List ℕ} {x y z p q r : ℕ} → VariablesForgotten a names n₁ x p → VariablesForgotten b n₁ n₂ y q → VariablesForgotten c n₂ n₃ z r → n₃ ≡ forgetAll names (map nameOf (a ++ b ++ c))
+forgotten-three {a} {b} {c} {names} u v w =
+    w .forgotten ∙ ap (λ l. forgetAll l (map nameOf c)) (v .forgotten ∙ ap (λ l. forgetAll l (map nameOf b)) (u .forgotten) ∙ sym (forget-append names (map nameOf a) (map nameOf b)) ∙ ap (forgetAll names) (sym (map-append a b)))
+    ∙ sym (forget-append names (map nameOf (a ++ b)) (map nameOf c)) ∙ ap (forgetAll names) (sym (map-append (a ++ b) c))
+
+-- ---- the context of a node's equations
+
+may-told : (a b : NodeKind) → mayB (kindCode a) (kindCode b) ≡ mayCall a b
+may-told Function Function = refl
+may-told Function Operator = refl
+may-told Function Imported = refl
+may-told Operator Function = refl
+may-told Operator Operator = refl
+may-told Operator Imported = refl
+may-told Imported Function = refl
+may-told Imported Operator = refl
+may-told Imported Imported = refl
+
+-- entries of variables, within the table
+pub entries-ok : (room first : ℕ) (vs : List Variable) → Each (λ v. v .name < room) vs → Each (Enterable room) (variableEntries first vs)
+entries-ok room first [] h = tt
+entries-ok room first (v ∷ vs) h = ((h .0, omega arith), entries-ok room (first + 1) vs (h .1))
+
+module _ {s rows : List ℕ} {nodes k : ℕ} (rd : NodeReady s rows nodes k) where
+  calls-told : (c n : ℕ) → badB rows k c n ≡ badCall (fileAt s) k (nodeOf (fileAt s) k) c n
+  calls-told c n =
+      by-cases (decLt c k)
+      (λ lt.
+      let mine = rd .row k (omega (arith, rd .low, rd .many)) in
+      let its = rd .row c (omega (arith, rd .low, rd .many)) in
+      let may : mayB (rowAt rows k 0) (rowAt rows c 0) ≡ mayCall (nodeOf (fileAt s) k .kind) (nodeOf (fileAt s) c .kind) =
+      ap (λ x. mayB x (rowAt rows c 0)) (mine .kind) ∙ ap (mayB (kindCode (nodeOf (fileAt s) k .kind))) (its .kind) ∙ may-told (nodeOf (fileAt s) k .kind) (nodeOf (fileAt s) c .kind) in
+      ap (λ b. not (ltb c k && b && eqb n (rowAt rows c 2))) may ∙ ap (λ m. not (ltb c k && mayCall (nodeOf (fileAt s) k .kind) (nodeOf (fileAt s) c .kind) && eqb n m)) (its .inputs))
+      (λ no. let high : ltb c k ≡ false = le-ltb c k (omega arith) in rw high refl)
+
+  pub outputs-told : (c : ℕ) → outputsB rows nodes c ≡ length (calleeIn (fileAt s) c .outputs)
+  outputs-told c =
+      by-cases (decLt c nodes)
+      (λ lt. rw (lt-ltb c nodes lt) (rd .row c (omega (arith, rd .many)) .outputs))
+      (λ no. rw (le-ltb c nodes (omega arith)) (ap (λ n. length (n .outputs)) (sym (List·getD-eq-default (fileAt s .nodes) noNode {n = c} (omega (arith, rd .many))))))
+
+  entries-names : (first : ℕ) (vs : List Variable) → map (λ d. d .0) (variableEntries first vs) ≡ map nameOf vs
+  entries-names first [] = refl
+  entries-names first (v ∷ vs) = ap (λ l. v .name ∷ l) (entries-names (first + 1) vs)
+
+  entries-low : (first : ℕ) (vs : List Variable) → first + length vs ≤ 112 → Each (λ d. d .1 ≤ 112) (variableEntries first vs)
+  entries-low first [] h = tt
+  entries-low first (v ∷ vs) h = (omega arith, entries-low (first + 1) vs (omega arith))
+
+  pub node-context : (names visible : List ℕ) → Knows names visible → Covered (length names) (nodeOf (fileAt s) k)
+      → Context (fileAt s) k (nodeTable names (nodeOf (fileAt s) k)) rows nodes (variableNames (nodeOf (fileAt s) k) ++ visible) (badCall (fileAt s) k (nodeOf (fileAt s) k))
+  node-context names visible knows covered =
+      let n = nodeOf (fileAt s) k in
+      let w = knows-all names visible (variableEntries 0 (variables n)) knows (entries-ok (length names) 0 (variables n) covered) in
+      record { knows = subst (λ l. Knows (nodeTable names n) (l ++ visible)) (entries-names 0 (variables n)) w; calls = calls-told; outputs = outputs-told }
+
+  pub node-restored : (names : List ℕ) → FileStands s (fileAt s) → Global names → forgetAll (nodeTable names (nodeOf (fileAt s) k)) (map nameOf (variables (nodeOf (fileAt s) k))) ≡ names
+  node-restored names st global =
+      let n = nodeOf (fileAt s) k in
+      let ns = node-at st k (omega (arith, rd .low, rd .many)) in
+      let few : length (variables n) ≤ 112 = omega (arith, ns .fewInputs, ns .fewOutputs, ns .fewLocals, length-append (n .inputs ++ n .outputs) (n .locals), length-append (n .inputs) (n .outputs)) in
+      ap (forgetAll (nodeTable names n)) (sym (entries-names 0 (variables n))) ∙ restored names (variableEntries 0 (variables n)) global (entries-low 0 (variables n) (omega arith))
+
+-- ---- a node
+
+module _ {s rows : List ℕ} {nodes k : ℕ} (rd : NodeReady s rows nodes k) (st : FileStands s (fileAt s)) (names : List ℕ) {n₁ slots slots′ : List ℕ} {m a : ℕ} {g r : Faults}
+    (en : n₁ ≡ nodeTable names (nodeOf (fileAt s) k)) (em : m ≡ getD rows (k * 8 + 5) 0) (ea : a ≡ getD rows (k * 8 + 1) 0)
+    (eqs : (t : File) (visible : List ℕ) (bad : ℕ → ℕ → Bool) (enums : ℕ) (qs : List Equation) → Context t k n₁ rows nodes visible bad → length qs ≡ m → Equations s enums a qs
+    → EquationsJudged s n₁ t visible bad a qs slots slots′ (record { unseen = g .unseen; called = g .called; shaped = g .shaped; next = a }) r) where
+  pub node-judged : (visible : List ℕ) → Knows names visible → Covered (length names) (nodeOf (fileAt s) k) → NodeJudged s names (fileAt s) visible k slots slots′ g r
+  node-judged visible knows covered =
+      let f = fileAt s in
+      let n = nodeOf f k in
+      let p = placeIn f k in
+      let row = rd .row k (omega (arith, rd .low, rd .many)) in
+      let ns = node-at st k (omega (arith, rd .low, rd .many)) in
+      let here : a ≡ equationsStart p n + 1 = ea ∙ row .equations in
+      let ctx = subst (λ l. Context f k l rows nodes (variableNames n ++ visible) (badCall f k n)) (sym en) (node-context rd names visible knows covered) in
+      let w = eqs f (variableNames n ++ visible) (badCall f k n) (length (f .enums)) (n .equations) ctx (sym (em ∙ row .count))
+      (subst (λ x. Listed equationBytes (equationFits base (length (f .enums))) s x (n .equations)) (sym here) (ns .equations)) in
+      record {
+        unseen = w .unseen ∙ ap (λ x. foundIn (placeOf (g .unseen)) (concat (map (equationUses (variableNames n ++ visible)) (placed equationSize x (n .equations))))) here;
+        called = w .called ∙ ap (λ x. foundIn (placeOf (g .called)) (concat (map (inEquation (callsWhere (badCall f k n))) (placed equationSize x (n .equations))))) here;
+        shaped = w .shaped ∙ ap (λ x. foundIn (placeOf (g .shaped)) (concat (map (equationShape f) (placed equationSize x (n .equations))))) here;
+        slotted = w .slotted ∙ ap (λ x. slotEquations s n₁ slots (placed equationSize x (n .equations))) here ∙ ap (λ l. slotEquations s l slots (placed equationSize (equationsStart p n + 1) (n .equations))) en;
+      }
+
+-- entered and taken back
+pub node-back : {s rows : List ℕ} {nodes k : ℕ} → NodeReady s rows nodes k → FileStands s (fileAt s) → (names : List ℕ) {n₁ n₂ : List ℕ} → Global names → n₁ ≡ nodeTable names (nodeOf (fileAt s) k)
+    → n₂ ≡ forgetAll n₁ (map nameOf (variables (nodeOf (fileAt s) k))) → n₂ ≡ names
+node-back {s} {rows} {nodes} {k} rd st names global e₁ e₂ = e₂ ∙ ap (λ l. forgetAll l (map nameOf (variables (nodeOf (fileAt s) k)))) e₁ ∙ node-restored rd names st global
+
+-- ---- all nodes
+
+-- an item of a list, with its place
+placed-get : {A : Type 0} (size : A → ℕ) (d : A) (xs : List A) (at k : ℕ) → k < length xs → getD (placed size at xs) k (0, d) ≡ (getD (map (λ p. p .0) (placed size at xs)) k 0, getD xs k d)
+placed-get size d [] at k lt = absurd (omega arith)
+placed-get size d (x ∷ xs) at zero lt = refl
+placed-get size d (x ∷ xs) at (suc k) lt = placed-get size d xs (at + size x) k (omega arith)
+
+placed-length : {A : Type 0} (size : A → ℕ) (xs : List A) (at : ℕ) → length (placed size at xs) ≡ length xs
+placed-length size [] at = refl
+placed-length size (x ∷ xs) at = ap suc (placed-length size xs (at + size x))
+
+-- node k is the first of those that are left
+nodes-on : (f : File) (k : ℕ) → k < length (f .nodes) → drop k (placedNodes f) ≡ (placeIn f k, nodeOf f k) ∷ drop (k + 1) (placedNodes f)
+nodes-on f k lt =
+    drop-cons (placedNodes f) k (0, noNode) (omega (arith, placed-length nodeSize (f .nodes) (nodesStart f)))
+    ∙ ap (λ x. x ∷ drop (suc k) (placedNodes f)) (placed-get nodeSize noNode (f .nodes) (nodesStart f) k lt)
+    ∙ ap (λ n. (placeIn f k, nodeOf f k) ∷ drop n (placedNodes f)) (sym (add-one k))
+
+found-append : (o : Option ℕ) (is js : List Item) → foundIn (foundIn o is) js ≡ foundIn o (is ++ js)
+found-append none is js = sym (first-append is js)
+found-append (some p) is js = refl
+
+-- the items of an element, and of those that are left after it
+left-on : {A : Type 0} (g : A → List Item) (l rest : List A) (x : A) (o o′ z : Option ℕ) → l ≡ x ∷ rest → o′ ≡ foundIn o (g x) → foundIn o (concat (map g l)) ≡ z → foundIn o′ (concat (map g rest)) ≡ z
+left-on g l rest x o o′ z el eo ez = ap (λ y. foundIn y (concat (map g rest))) eo ∙ found-append o (g x) (concat (map g rest)) ∙ ap (λ m. foundIn o (concat (map g m))) (sym el) ∙ ez
+
+pub record NodesGoing (s names : List ℕ) (f : File) (visible : List ℕ) (slots₀ : List ℕ) (g₀ : Faults) (slots : List ℕ) (g : Faults) (k : ℕ) : Type 0 where
+  pub unseen : foundIn (placeOf (g .unseen)) (concat (map (nodeUses visible) (drop k (placedNodes f)))) ≡ foundIn (placeOf (g₀ .unseen)) (concat (map (nodeUses visible) (placedNodes f)))
+  pub called : foundIn (placeOf (g .called)) (concat (map (nodeCalls f) (numbered k (drop k (placedNodes f))))) ≡ foundIn (placeOf (g₀ .called)) (concat (map (nodeCalls f) (numbered 0 (placedNodes f))))
+  pub shaped : foundIn (placeOf (g .shaped)) (concat (map (nodeShape f) (drop k (placedNodes f)))) ≡ foundIn (placeOf (g₀ .shaped)) (concat (map (nodeShape f) (placedNodes f)))
+  pub slotted : slotNodes s names slots (drop k (placedNodes f)) ≡ slotNodes s names slots₀ (placedNodes f)
+
+module _ {s names : List ℕ} {f : File} {visible slots₀ : List ℕ} {g₀ : Faults} where
+  pub nodes-start : NodesGoing s names f visible slots₀ g₀ slots₀ g₀ 0
+  nodes-start = record { unseen = refl; called = refl; shaped = refl; slotted = refl }
+
+  module _ {slots : List ℕ} {g : Faults} {k : ℕ} (w : NodesGoing s names f visible slots₀ g₀ slots g k) where
+    pub nodes-turn : k < length (f .nodes) → (slots′ : List ℕ) (r : Faults) → NodeJudged s names f visible k slots slots′ g r → NodesGoing s names f visible slots₀ g₀ slots′ r (k + 1)
+    unfolding slotNodes
+    nodes-turn lt slots′ r j =
+        let x : ℕ × Node = (placeIn f k, nodeOf f k) in
+        let on = nodes-on f k lt in
+        let rest = drop (k + 1) (placedNodes f) in
+        let counted : numbered k (drop k (placedNodes f)) ≡ (k, x) ∷ numbered (k + 1) rest = ap (numbered k) on ∙ ap (λ n. (k, x) ∷ numbered n rest) (sym (add-one k)) in
+        record {
+          unseen = left-on (nodeUses visible) (drop k (placedNodes f)) rest x (placeOf (g .unseen)) _ _ on (j .unseen) (w .unseen);
+          called = left-on (nodeCalls f) (numbered k (drop k (placedNodes f))) (numbered (k + 1) rest) (k, x) (placeOf (g .called)) _ _ counted (j .called) (w .called);
+          shaped = left-on (nodeShape f) (drop k (placedNodes f)) rest x (placeOf (g .shaped)) _ _ on (j .shaped) (w .shaped);
+          slotted = ap (λ l. slotNodes s names l rest) (j .slotted) ∙ ap (slotNodes s names slots) (sym on) ∙ w .slotted;
+        }
+
+    pub nodes-judged : length (f .nodes) ≤ k → NodesJudged s names f visible slots₀ slots g₀ g
+    unfolding slotNodes
+    nodes-judged over =
+        let empty : drop k (placedNodes f) ≡ [] = drop-of-length-le (placedNodes f) {i = k} (omega (arith, placed-length nodeSize (f .nodes) (nodesStart f))) in
+        record {
+          unseen = sym (found-none (placeOf (g .unseen))) ∙ ap (λ l. foundIn (placeOf (g .unseen)) (concat (map (nodeUses visible) l))) (sym empty) ∙ w .unseen;
+          called = sym (found-none (placeOf (g .called))) ∙ ap (λ l. foundIn (placeOf (g .called)) (concat (map (nodeCalls f) (numbered k l)))) (sym empty) ∙ w .called;
+          shaped = sym (found-none (placeOf (g .shaped))) ∙ ap (λ l. foundIn (placeOf (g .shaped)) (concat (map (nodeShape f) l))) (sym empty) ∙ w .shaped;
+          slotted = ap (slotNodes s names slots) (sym empty) ∙ w .slotted;
+        }
+
+pub ready-at : {s rows : List ℕ} {nodes : ℕ} → RowsReady s rows nodes → (k : ℕ) → k < nodes → NodeReady s rows nodes k
+ready-at rd k lt = record { reads = rd .reads; row = rd .row; many = rd .many; low = lt; few = rd .few }
+
+-- the table is the one at the start
+pub judged-same : {s names names₀ : List ℕ} {f : File} {k : ℕ} {slots slots′ : List ℕ} {g r : Faults} → names ≡ names₀
+    → ((visible : List ℕ) → Knows names visible → Covered (length names) (nodeOf f k) → NodeJudged s names f visible k slots slots′ g r)
+    → (visible : List ℕ) → Knows names₀ visible → Covered (length names₀) (nodeOf f k) → NodeJudged s names₀ f visible k slots slots′ g r
+judged-same {s} {names} {names₀} {f} {k} {slots} {slots′} {g} {r} e h =
+    subst (λ l. (visible : List ℕ) → Knows l visible → Covered (length l) (nodeOf f k) → NodeJudged s l f visible k slots slots′ g r) e h

@@ -1,0 +1,481 @@
+-- The loops that build rows and types: what holds after so many items.
+use Prim.Native.Nat.{ℕ, zero, suc, _+_, _*_, _-_, _≤_, _<_}
+use mathlib.Core.Bool.{Bool, true, false, _&&_, cond}
+use mathlib.Core.List.{List, [], _∷_, _++_, map}
+use mathlib.Core.Logic.{by-cases}
+use mathlib.Core.Path.{_≡_, refl, sym, ap, subst, _∙_}
+use native.Mathlib.Omega.{arith}
+use native.Mathlib.Decide.{decLe, decLt}
+use lib.ListN.{length, getD, set, take, drop, length-set, length-append, List·getD-append}
+use lib.Seq.{getD-set-same, getD-set-other, getD-append-add}
+use native.Mathlib.Nat.{add-assoc}
+use lib.Dec.{T, ltb, leb, eqb, leb→le}
+use borrow.Author.Tests.{ne-eqb}
+use Rattle.ol_spec.specs.Lists.{sum, concat, allOf}
+use Rattle.ol_spec.specs.Syntax.{Ty, bool, Variable, Equation, Node, Constant, File, variables, typeOf, noNode, Exprs, nil, cons}
+use Rattle.ol_spec.specs.Places.{tySize, enumSize, variableSize, equationSize, constantSize, nodeSize, outputsStart, localsStart, equationsStart, placed, exprsSize, constantsStart, nodesStart}
+use Rattle.ol_spec.specs.Encode.{kindCode, nameBytes, sectionBytes, variableBytes, equationBytes, constantBytes, nodeBytes}
+use Rattle.ol_spec.specs.Limits.{base}
+use Rattle.ol_spec.specs.Within.{countFits, sectionFits, nameFits, enumFits, variableFits, equationFits, constantFits, nodeFits}
+use Rattle.ol_spec.proofs.Tests.{T-and}
+use Rattle.ol_spec.proofs.RoundTrip.Parts.{Here, here-front, here-back, here-inside}
+use Rattle.ol_spec.proofs.RoundTrip.Items.{names-size, variable-size, equation-size, constant-size, node-size}
+use Rattle.ol_tree.specs.Tables.{tyCode, tyEnum, rowAt, firstAt, placeOf}
+use Rattle.ol_tree.specs.Heads.{nameAt, tySizeAt, tyEnumAt, TyIs, Standing}
+use Rattle.ol_tree.specs.Stands.{Listed, VariableStands, ConstantStands, EquationStands, NodeStands, FileStands}
+use Rattle.ol_tree.proofs.Heads.{here-first, here-name}
+use Rattle.ol_tree.proofs.HeadsFile.{Passing, Item, passing-start, passing-item, passing-end, variable-stands, constant-stands, equation-stands, node-stands, section-few}
+use Rattle.ol_check.proofs.Walking.{ty-small}
+use Rattle.ol_check.specs.Founds.{Byte}
+use Rattle.ol_check.specs.RowsDone.{Enums, EnumsAre, EnumsDone, ConstantsEnd, EquationsEnd, typeSet, TypeAt, noVariable, VariablesAre, VariablesDone, putAll}
+use Rattle.ol_check.specs.RowsDone.{NodeRow, NodeTypes, NodeIs, NodeDone, NodesAre, NodesDone, TablesDone}
+
+-- an item with a byte stands inside the file
+pub item-in : {s : List ℕ} {at : ℕ} {w : List ℕ} (n : ℕ) → Here s at w → length w ≡ n → 1 ≤ n → length s ≤ at → ⊥
+item-in n h e some out = omega (arith, here-inside h (omega arith))
+
+-- ---- enums
+
+-- a name of a section of names
+pub first-name : {s : List ℕ} {at : ℕ} (vs : List ℕ) → 1 ≤ length vs → T (allOf nameFits vs) → Here s at (concat (map nameBytes vs)) → nameAt s at ≡ getD vs 0 0
+first-name [] some t h = absurd (omega arith)
+first-name (x ∷ vs) some t h = here-name x (T-and (nameFits x) _ t .0) (here-front (nameBytes x) _ h)
+
+enum-some : (vs : List ℕ) → T (enumFits base vs) → 1 ≤ length vs
+enum-some vs t = leb→le 1 (length vs) (T-and (leb 1 (length vs)) _ (T-and (ltb (length vs) 256) _ (T-and (countFits 1 32 (length vs)) _ t .0) .1) .0)
+
+abbrev pub EnumPassing : List ℕ → ℕ → List (List ℕ) → ℕ → ℕ → Type 0
+EnumPassing s at es e next = Passing (sectionBytes nameBytes) (enumFits base) enumSize s at es e next
+
+pub record EnumGoing (s : List ℕ) (es : List (List ℕ)) (rows : List ℕ) (at e next : ℕ) : Type 0 where
+  pub passing : EnumPassing s at es e next
+  pub firsts : (i : ℕ) → i < e → firstAt rows i ≡ getD (getD es i []) 0 0
+
+pub record EnumsGoing (s rows₀ rows : List ℕ) (count at next e : ℕ) : Type 0 where
+  pub few : e ≤ count
+  pub long : length rows ≡ 272
+  pub kept : (j : ℕ) → j < 256 → getD rows j 0 ≡ getD rows₀ j 0
+  pub going : (es : List (List ℕ)) → length es ≡ count → Enums s at es → EnumGoing s es rows at e next
+
+module _ {s rows₀ : List ℕ} {count at : ℕ} where
+  pub enums-start : length rows₀ ≡ 272 → EnumsGoing s rows₀ rows₀ count at at 0
+  enums-start long = record { few = omega arith; long = long; kept = λ j h. refl; going = λ es e h. record { passing = passing-start (sectionBytes nameBytes) (enumFits base) enumSize h; firsts = λ i lt. absurd (omega arith) } }
+
+  module _ {rows : List ℕ} {next e : ℕ} (g : EnumsGoing s rows₀ rows count at next e) where
+    enum-item : (es : List (List ℕ)) → length es ≡ count → Enums s at es → e < count → Item (sectionBytes nameBytes) (enumFits base) enumSize s at es e next (getD es e [])
+    enum-item es q h lt = passing-item names-size [] (g .going es q h .passing) (omega arith)
+
+    pub enums-turn : count ≤ 16 → e < count → (x r : ℕ) → x ≡ nameAt s (next + 1) → r ≡ next + 1 + 2 * getD s next 0 → EnumsGoing s rows₀ (set rows (256 + e) x) count at r (e + 1)
+    enums-turn most lt x r ex er =
+        record {
+          few = omega arith;
+          long = length-set rows (256 + e) x ∙ g .long;
+          kept = λ j h. getD-set-other rows (256 + e) j x 0 (λ q. omega arith) ∙ g .kept j h;
+          going = λ es q h.
+              let it = enum-item es q h lt in
+              let vs = getD es e [] in
+              let n = here-first (length vs) _ (it .here) in
+              let name = first-name vs (enum-some vs (it .fit)) (T-and (countFits 1 32 (length vs)) _ (it .fit) .1) (here-back (length vs ∷ []) _ (it .here)) in
+              record {
+                passing = subst (EnumPassing s at es (e + 1)) (omega (arith, er, n)) (it .on);
+                firsts = λ i below. by-cases (decLt i e)
+                    (λ old. getD-set-other rows (256 + e) (256 + i) x 0 (λ q. omega arith) ∙ g .going es q h .firsts i old)
+                    (λ new. let same : i ≡ e = omega arith in rw same (getD-set-same rows (256 + e) x 0 (omega (arith, g .long)) ∙ ex ∙ name));
+              };
+        }
+
+    pub enums-in : e < count → length s ≤ next → (es : List (List ℕ)) → length es ≡ count → Enums s at es → ⊥
+    enums-in lt out es q h = let it = enum-item es q h lt in item-in _ (it .here) (names-size (getD es e [])) (omega arith) out
+
+    pub enums-done : count ≤ e → EnumsDone s rows₀ rows count at next
+    enums-done over =
+        record {
+          kept = g .kept;
+          done = λ es q h.
+              let w = g .going es q h in
+              record { ends = passing-end (w .passing) (omega arith); firsts = λ i lt. w .firsts i (omega (arith, g .few)) };
+        }
+
+    -- the file ends before the enums do: none stand there
+    pub enums-cut : e < count → length s ≤ next → EnumsDone s rows₀ rows count at next
+    enums-cut lt out = record { kept = g .kept; done = λ es q h. absurd (enums-in lt out es q h) }
+
+-- ---- where constants and equations end
+
+-- after i of the items, the next one stands at `next`
+abbrev pub ConstantPassing : List ℕ → ℕ → ℕ → ℕ → ℕ → Type 0
+ConstantPassing s count at next i =
+    (enums : ℕ) (cs : List Constant) → length cs ≡ count → Listed constantBytes (constantFits base enums) s at cs → Passing constantBytes (constantFits base enums) constantSize s at cs i next
+
+noConstant : Constant
+noConstant = record { name = 0; ty = bool; value = Rattle.ol_spec.specs.Syntax.boolLit false }
+
+module _ {s : List ℕ} {count at next i : ℕ} (g : ConstantPassing s count at next i) where
+  constant-item : (enums : ℕ) (cs : List Constant) → length cs ≡ count → Listed constantBytes (constantFits base enums) s at cs → i < count
+      → Item constantBytes (constantFits base enums) constantSize s at cs i next (getD cs i noConstant)
+  constant-item enums cs q h lt = passing-item constant-size noConstant (g enums cs q h) (omega arith)
+
+  pub constant-turn : (n r : ℕ) → i < count → n ≡ tySizeAt s (next + 2) → ((enums : ℕ) (es : Exprs) → Rattle.ol_spec.specs.Syntax.count es ≡ 1 → Standing s enums (next + 2 + n) es → r ≡ next + 2 + n + exprsSize es) → ConstantPassing s count at r (i + 1)
+  constant-turn n r lt en er enums cs q h =
+      let it = constant-item enums cs q h lt in
+      let c = getD cs i noConstant in
+      let st = constant-stands c (it .fit) (it .here) in
+      let same : n ≡ tySize (c .ty) = en ∙ st .ty .size in
+      let end = er enums (cons (c .value) nil) refl (subst (λ m. Standing s enums (next + 2 + m) (cons (c .value) nil)) (sym same) (st .value)) in
+      subst (Passing constantBytes (constantFits base enums) constantSize s at cs (i + 1)) (omega (arith, end, same)) (it .on)
+
+  pub constant-cut : i < count → length s ≤ next → ConstantsEnd s count at next
+  constant-cut lt out enums cs q h = absurd (item-in _ (constant-item enums cs q h lt .here) (constant-size (getD cs i noConstant)) (omega arith) out)
+
+  pub constant-done : count ≤ i → ConstantsEnd s count at next
+  constant-done over enums cs q h = passing-end (g enums cs q h) (omega arith)
+
+abbrev pub EquationPassing : List ℕ → ℕ → ℕ → ℕ → ℕ → Type 0
+EquationPassing s count at next i =
+    (enums : ℕ) (qs : List Equation) → length qs ≡ count → Listed equationBytes (equationFits base enums) s at qs → Passing equationBytes (equationFits base enums) equationSize s at qs i next
+
+noEquation : Equation
+noEquation = record { names = []; rhs = Rattle.ol_spec.specs.Syntax.boolLit false }
+
+module _ {s : List ℕ} {count at next i : ℕ} (g : EquationPassing s count at next i) where
+  equation-item : (enums : ℕ) (qs : List Equation) → length qs ≡ count → Listed equationBytes (equationFits base enums) s at qs → i < count
+      → Item equationBytes (equationFits base enums) equationSize s at qs i next (getD qs i noEquation)
+  equation-item enums qs q h lt = passing-item equation-size noEquation (g enums qs q h) (omega arith)
+
+  pub equation-turn : (n r : ℕ) → i < count → n ≡ next + 1 + 2 * getD s next 0 → ((enums : ℕ) (es : Exprs) → Rattle.ol_spec.specs.Syntax.count es ≡ 1 → Standing s enums n es → r ≡ n + exprsSize es) → EquationPassing s count at r (i + 1)
+  equation-turn n r lt en er enums qs q h =
+      let it = equation-item enums qs q h lt in
+      let x = getD qs i noEquation in
+      let st = equation-stands x (it .fit) (it .here) in
+      let same : n ≡ next + 1 + 2 * length (x .names) = omega (arith, en, st .count) in
+      let end = er enums (cons (x .rhs) nil) refl (subst (λ m. Standing s enums m (cons (x .rhs) nil)) (sym same) (st .rhs)) in
+      subst (Passing equationBytes (equationFits base enums) equationSize s at qs (i + 1)) (omega (arith, end, same)) (it .on)
+
+  pub equation-cut : i < count → length s ≤ next → EquationsEnd s count at next
+  equation-cut lt out enums qs q h = absurd (item-in _ (equation-item enums qs q h lt .here) (equation-size (getD qs i noEquation)) (omega arith) out)
+
+  pub equation-done : count ≤ i → EquationsEnd s count at next
+  equation-done over enums qs q h = passing-end (g enums qs q h) (omega arith)
+
+-- ---- types
+
+pub record VariableGoing (s types : List ℕ) (vs : List Variable) (enums first at next i : ℕ) : Type 0 where
+  pub passing : Passing variableBytes (variableFits base enums) variableSize s at vs i next
+  pub typed : (j : ℕ) → j < i → TypeAt types (first + j) (getD vs j noVariable .ty)
+
+pub record VariablesGoing (s types₀ types : List ℕ) (first count at next i : ℕ) : Type 0 where
+  pub few : i ≤ count
+  pub near : next ≤ at + 4 * i
+  pub long : length types ≡ length types₀
+  pub below : (j : ℕ) → j < first * 2 → getD types j 0 ≡ getD types₀ j 0
+  pub above : (j : ℕ) → (first + i) * 2 ≤ j → getD types j 0 ≡ getD types₀ j 0
+  pub going : (enums : ℕ) (vs : List Variable) → length vs ≡ count → (first + count) * 2 ≤ length types₀ → Listed variableBytes (variableFits base enums) s at vs → VariableGoing s types vs enums first at next i
+
+type-length : (types : List ℕ) (i : ℕ) (s : List ℕ) (at : ℕ) → length (typeSet types i s at) ≡ length types
+type-length types i s at = length-set (set types (i * 2) (getD s at 0)) (i * 2 + 1) (tyEnumAt s at) ∙ length-set types (i * 2) (getD s at 0)
+
+-- a type's two stores
+pub type-stored : (types t u s : List ℕ) (i at c n : ℕ) → Byte s at c → t ≡ set types (i * 2) c → u ≡ set t (i * 2 + 1) n → n ≡ tyEnumAt s at → u ≡ typeSet types i s at
+type-stored types t u s i at c n b et eu en = eu ∙ rw (et, en, b .is) refl
+
+pub enum-told : (s : List ℕ) (at c n : ℕ) → Byte s at c → c ≡ 12 → n ≡ getD s (at + 1) 0 → n ≡ tyEnumAt s at
+enum-told s at c n b e h = rw (← b .is, e) h
+
+pub enum-none : (s : List ℕ) (at c : ℕ) → Byte s at c → (c ≡ 12 → ⊥) → 0 ≡ tyEnumAt s at
+enum-none s at c b e = rw (← b .is, ne-eqb c 12 e) refl
+
+-- entries of other variables stay
+type-other : (types : List ℕ) (i : ℕ) (s : List ℕ) (at j : ℕ) → (j ≡ i * 2 → ⊥) → (j ≡ i * 2 + 1 → ⊥) → getD (typeSet types i s at) j 0 ≡ getD types j 0
+type-other types i s at j a b = getD-set-other (set types (i * 2) (getD s at 0)) (i * 2 + 1) j _ 0 b ∙ getD-set-other types (i * 2) j _ 0 a
+
+type-kept : (types : List ℕ) (i : ℕ) (s : List ℕ) (at j : ℕ) (t : Ty) → j < i → TypeAt types j t → TypeAt (typeSet types i s at) j t
+type-kept types i s at j t lt h =
+    record {
+      code = type-other types i s at (j * 2) (λ e. omega arith) (λ e. omega arith) ∙ h .code;
+      number = type-other types i s at (j * 2 + 1) (λ e. omega arith) (λ e. omega arith) ∙ h .number;
+    }
+
+type-new : (types : List ℕ) (i : ℕ) (s : List ℕ) (at : ℕ) (t : Ty) → i * 2 + 1 < length types → TyIs s at t → TypeAt (typeSet types i s at) i t
+type-new types i s at t room h =
+    let first = set types (i * 2) (getD s at 0) in
+    record {
+      code = getD-set-other first (i * 2 + 1) (i * 2) _ 0 (λ e. omega arith) ∙ getD-set-same types (i * 2) _ 0 (omega arith) ∙ h .code;
+      number = getD-set-same first (i * 2 + 1) _ 0 (omega (arith, length-set types (i * 2) (getD s at 0))) ∙ h .number;
+    }
+
+module _ {s types₀ : List ℕ} {first count at : ℕ} where
+  pub variables-start : VariablesGoing s types₀ types₀ first count at at 0
+  variables-start = record { few = omega arith; near = omega arith; long = refl; below = λ j h. refl; above = λ j h. refl; going = λ enums vs q room h. record { passing = passing-start variableBytes (variableFits base enums) variableSize h; typed = λ j lt. absurd (omega arith) } }
+
+  module _ {types : List ℕ} {next i : ℕ} (g : VariablesGoing s types₀ types first count at next i) where
+    pub variables-turn : i < count → (n : ℕ) → n ≡ tySizeAt s (next + 2) → VariablesGoing s types₀ (typeSet types (first + i) s (next + 2)) first count at (next + 2 + n) (i + 1)
+    variables-turn lt n en =
+        record {
+          few = omega arith;
+          near = omega (arith, g .near, en, ty-small s (next + 2));
+          long = type-length types (first + i) s (next + 2) ∙ g .long;
+          below = λ j h. type-other types (first + i) s (next + 2) j (λ e. omega arith) (λ e. omega arith) ∙ g .below j h;
+          above = λ j h. type-other types (first + i) s (next + 2) j (λ e. omega arith) (λ e. omega arith) ∙ g .above j (omega arith);
+          going = λ enums vs q room h.
+              let w = g .going enums vs q room h in
+              let it = passing-item variable-size noVariable (w .passing) (omega arith) in
+              let v = getD vs i noVariable in
+              let st = variable-stands v (it .fit) (it .here) in
+              let same : n ≡ tySize (v .ty) = en ∙ st .ty .size in
+              record {
+                passing = subst (Passing variableBytes (variableFits base enums) variableSize s at vs (i + 1)) (omega (arith, same)) (it .on);
+                typed = λ j below. by-cases (decLt j i)
+                    (λ old. type-kept types (first + i) s (next + 2) (first + j) _ (omega arith) (w .typed j old))
+                    (λ new. let e : j ≡ i = omega arith in rw e (type-new types (first + i) s (next + 2) _ (omega (arith, g .long)) (st .ty)));
+              };
+        }
+
+    pub variables-cut : i < count → length s ≤ next → VariablesDone s types₀ types first count at next
+    variables-cut lt out =
+        record {
+          near = omega (arith, g .near);
+          below = g .below;
+          above = λ j h. g .above j (omega arith);
+          done = λ enums vs q room h.
+              let it = passing-item variable-size noVariable (g .going enums vs q room h .passing) (omega arith) in
+              absurd (item-in _ (it .here) (variable-size (getD vs i noVariable)) (omega arith) out);
+        }
+
+    pub variables-done : count ≤ i → VariablesDone s types₀ types first count at next
+    variables-done over =
+        record {
+          near = omega (arith, g .near, g .few);
+          below = g .below;
+          above = λ j h. g .above j (omega (arith, g .few));
+          done = λ enums vs q room h.
+              let w = g .going enums vs q room h in
+              record { ends = passing-end (w .passing) (omega arith); typed = λ j lt. w .typed j (omega arith) };
+        }
+
+-- ---- nodes
+
+-- a row's entries, and those outside it
+pub put-outside : (rows ns : List ℕ) (i j : ℕ) → (i ≤ j → j < i + length ns → ⊥) → getD (putAll rows i ns) j 0 ≡ getD rows j 0
+put-outside rows [] i j h = refl
+put-outside rows (n ∷ ns) i j h = put-outside (set rows i n) ns (i + 1) j (λ a b. h (omega arith) (omega arith)) ∙ getD-set-other rows i j n 0 (λ e. h (omega arith) (omega arith))
+
+pub put-length : (rows ns : List ℕ) (i : ℕ) → length (putAll rows i ns) ≡ length rows
+put-length rows [] i = refl
+put-length rows (n ∷ ns) i = put-length (set rows i n) ns (i + 1) ∙ length-set rows i n
+
+pub put-inside : (rows ns : List ℕ) (i j : ℕ) → j < length ns → i + length ns ≤ length rows → getD (putAll rows i ns) (i + j) 0 ≡ getD ns j 0
+put-inside rows [] i j h room = absurd (omega arith)
+put-inside rows (n ∷ ns) i zero h room =
+    let z : i + 0 ≡ i = omega arith in
+    rw z (put-outside (set rows i n) ns (i + 1) i (λ a b. omega arith) ∙ getD-set-same rows i n 0 (omega arith))
+put-inside rows (n ∷ ns) i (suc j) h room =
+    let z : i + suc j ≡ i + 1 + j = omega arith in
+    rw z (put-inside (set rows i n) ns (i + 1) j (omega arith) (omega (arith, length-set rows i n)))
+
+-- a type below what is written stays
+type-below : {types types′ : List ℕ} {t : Ty} (first i : ℕ) → ((j : ℕ) → j < first * 2 → getD types′ j 0 ≡ getD types j 0) → i < first → TypeAt types i t → TypeAt types′ i t
+type-below first i same lt h = record { code = same (i * 2) (omega arith) ∙ h .code; number = same (i * 2 + 1) (omega arith) ∙ h .number }
+
+-- the types of two lists of variables, one behind the other
+types-append : (types : List ℕ) (first : ℕ) (vs ws : List Variable) → ((i : ℕ) → i < length vs → TypeAt types (first + i) (getD vs i noVariable .ty))
+    → ((i : ℕ) → i < length ws → TypeAt types (first + length vs + i) (getD ws i noVariable .ty)) → (i : ℕ) → i < length (vs ++ ws) → TypeAt types (first + i) (getD (vs ++ ws) i noVariable .ty)
+types-append types first vs ws a b i lt =
+    by-cases (decLt i (length vs))
+    (λ low. rw (List·getD-append vs ws noVariable i low) (a i low))
+    (λ high.
+    let j = i - length vs in
+    let e : length vs + j ≡ i = omega arith in
+    let q : first + length vs + j ≡ first + i = omega arith in
+    let w = b j (omega (arith, length-append vs ws)) in
+    subst (λ m. TypeAt types (first + m) (getD (vs ++ ws) m noVariable .ty)) e
+    (rw (getD-append-add vs ws j noVariable) (subst (λ m. TypeAt types m (getD ws j noVariable .ty)) (add-assoc first (length vs) j) w)))
+
+module _ (rows : List ℕ) {s rows′ types t₁ t₂ t₃ : List ℕ} {k at i o oc l lc q qc kind r : ℕ} (low : k < 32) (long : length rows ≡ 272) (wide : length types ≡ 7168)
+    (ib : Byte s (at + 1) i) (v₁ : VariablesDone s types t₁ (k * 112) i (at + 2) o) (l₁ : length t₁ ≡ length types)
+    (ob : Byte s o oc) (v₂ : VariablesDone s t₁ t₂ (k * 112 + i) oc (o + 1) l) (l₂ : length t₂ ≡ length t₁)
+    (lb : Byte s l lc) (v₃ : VariablesDone s t₂ t₃ (k * 112 + i + oc) lc (l + 1) q)
+    (qb : Byte s q qc) (kb : Byte s at kind) (put : rows′ ≡ putAll rows (k * 8) (kind ∷ (q + 1) ∷ i ∷ oc ∷ (i + oc + lc) ∷ qc ∷ 0 ∷ at ∷ [])) (end : EquationsEnd s qc (q + 1) r) where
+  -- what stands in the file where the sections start
+  node-is : (enums : ℕ) (n : Node) → NodeStands s enums at n → NodeIs n at k rows′ t₃ r
+  node-is enums n st =
+      let ei : length (n .inputs) ≡ i = sym (ib .is ∙ st .inputCount) in
+      let w₁ = v₁ .done enums (n .inputs) ei (omega (arith, st .fewInputs)) (st .inputs) in
+      let eo : o ≡ outputsStart at n = omega (arith, w₁ .ends) in
+      let no : length (n .outputs) ≡ oc = sym (ob .is ∙ ap (λ p. getD s p 0) eo ∙ st .outputCount) in
+      let w₂ = v₂ .done enums (n .outputs) no (omega (arith, st .fewInputs, st .fewOutputs)) (subst (λ p. Listed variableBytes (variableFits base enums) s (p + 1) (n .outputs)) (sym eo) (st .outputs)) in
+      let el : l ≡ localsStart at n = omega (arith, w₂ .ends, eo) in
+      let nl : length (n .locals) ≡ lc = sym (lb .is ∙ ap (λ p. getD s p 0) el ∙ st .localCount) in
+      let w₃ = v₃ .done enums (n .locals) nl (omega (arith, st .fewInputs, st .fewOutputs, st .fewLocals)) (subst (λ p. Listed variableBytes (variableFits base enums) s (p + 1) (n .locals)) (sym el) (st .locals)) in
+      let eq : q ≡ equationsStart at n = omega (arith, w₃ .ends, el) in
+      let nq : length (n .equations) ≡ qc = sym (qb .is ∙ ap (λ p. getD s p 0) eq ∙ st .equationCount) in
+      let er = end enums (n .equations) nq (subst (λ p. Listed equationBytes (equationFits base enums) s (p + 1) (n .equations)) (sym eq) (st .equations)) in
+      let ns = kind ∷ (q + 1) ∷ i ∷ oc ∷ (i + oc + lc) ∷ qc ∷ 0 ∷ at ∷ [] in
+      let at-entry : (j : ℕ) → j < 8 → rowAt rows′ k j ≡ getD ns j 0 = λ j h. rw put (put-inside rows ns (k * 8) j h (omega (arith, long))) in
+      record {
+        ends = omega (arith, er, eq);
+        row = record {
+          kind = at-entry 0 (omega arith) ∙ kb .is ∙ st .kind;
+          equations = at-entry 1 (omega arith) ∙ ap (λ p. p + 1) eq;
+          inputs = at-entry 2 (omega arith) ∙ sym ei;
+          outputs = at-entry 3 (omega arith) ∙ sym no;
+          variables = at-entry 4 (omega arith) ∙ omega (arith, length-append (n .inputs ++ n .outputs) (n .locals), length-append (n .inputs) (n .outputs));
+          count = at-entry 5 (omega arith) ∙ sym nq;
+          place = at-entry 7 (omega arith);
+        };
+        typed = record {
+          are = types-append t₃ (k * 112) (n .inputs ++ n .outputs) (n .locals)
+              (types-append t₃ (k * 112) (n .inputs) (n .outputs)
+              (λ j h. type-below {types = t₂} (k * 112 + i + oc) _ (v₃ .below) (omega arith) (type-below {types = t₁} (k * 112 + i) _ (v₂ .below) (omega arith) (w₁ .typed j h)))
+              (λ j h. subst (λ m. TypeAt t₃ m (getD (n .outputs) j noVariable .ty)) (omega arith) (type-below (k * 112 + i + oc) _ (v₃ .below) (omega arith) (w₂ .typed j h))))
+              (λ j h. subst (λ m. TypeAt t₃ m (getD (n .locals) j noVariable .ty)) (omega (arith, length-append (n .inputs) (n .outputs))) (w₃ .typed j h));
+        };
+      }
+
+  pub node-done : NodeDone s rows rows′ types t₃ k at r
+  node-done =
+      let ns = kind ∷ (q + 1) ∷ i ∷ oc ∷ (i + oc + lc) ∷ qc ∷ 0 ∷ at ∷ [] in
+      record {
+        below = λ j h. rw put (put-outside rows ns (k * 8) j (λ a b. omega arith));
+        above = λ j h. rw put (put-outside rows ns (k * 8) j (λ a b. omega arith));
+        typed = λ j h. v₃ .below j (omega arith) ∙ v₂ .below j (omega arith) ∙ v₁ .below j (omega arith);
+        done = node-is;
+      }
+
+-- the file ends before the node: none stands there
+pub node-cut : {s rows types : List ℕ} {k at : ℕ} → length s ≤ at → NodeDone s rows rows types types k at at
+node-cut {s} {rows} {types} {k} {at} out =
+    record { below = λ j h. refl; above = λ j h. refl; typed = λ j h. refl; done = λ enums n st. absurd (omega (arith, st .inside)) }
+
+-- the place of item number i
+placed-at : {A : Type 0} (size : A → ℕ) (xs : List A) (at i : ℕ) → i < length xs → getD (map (λ p. p .0) (placed size at xs)) i 0 ≡ at + sum (map size (take i xs))
+placed-at size [] at i h = absurd (omega arith)
+placed-at size (x ∷ xs) at zero h = omega arith
+placed-at size (x ∷ xs) at (suc i) h = omega (arith, placed-at size xs (at + size x) i (omega arith))
+
+pub record NodeGoing (s : List ℕ) (ns : List Node) (enums : ℕ) (rows types : List ℕ) (at k next : ℕ) : Type 0 where
+  pub passing : Passing nodeBytes (nodeFits base enums) nodeSize s at ns k next
+  pub row : (j : ℕ) → j < k → NodeRow (getD ns j noNode) (placeOf (placed nodeSize at ns) j) j rows
+  pub typed : (j : ℕ) → j < k → NodeTypes (getD ns j noNode) j types
+
+pub record NodesGoing (s rows₀ rows types : List ℕ) (count at next k : ℕ) : Type 0 where
+  pub few : k ≤ count
+  pub long : length rows ≡ 272
+  pub wide : length types ≡ 7168
+  pub above : (j : ℕ) → 256 ≤ j → getD rows j 0 ≡ getD rows₀ j 0
+  pub going : (enums : ℕ) (ns : List Node) → length ns ≡ count → Listed nodeBytes (nodeFits base enums) s at ns → NodeGoing s ns enums rows types at k next
+
+-- a row below what is written stays
+row-below : {rows rows′ : List ℕ} {n : Node} {at : ℕ} (k j : ℕ) → ((i : ℕ) → i < k * 8 → getD rows′ i 0 ≡ getD rows i 0) → j < k → NodeRow n at j rows → NodeRow n at j rows′
+row-below k j same lt h =
+    record {
+      kind = same (j * 8 + 0) (omega arith) ∙ h .kind;
+      equations = same (j * 8 + 1) (omega arith) ∙ h .equations;
+      inputs = same (j * 8 + 2) (omega arith) ∙ h .inputs;
+      outputs = same (j * 8 + 3) (omega arith) ∙ h .outputs;
+      variables = same (j * 8 + 4) (omega arith) ∙ h .variables;
+      count = same (j * 8 + 5) (omega arith) ∙ h .count;
+      place = same (j * 8 + 7) (omega arith) ∙ h .place;
+    }
+
+-- a node of few variables: its types stay where those below are kept
+types-below : {types types′ : List ℕ} {n : Node} (k j : ℕ) → length (variables n) ≤ 112 → ((i : ℕ) → i < k * 224 → getD types′ i 0 ≡ getD types i 0) → j < k → NodeTypes n j types → NodeTypes n j types′
+types-below {n = n} k j few same lt h =
+    record { are = λ i il. type-below (k * 112) (j * 112 + i) (λ m ml. same m (omega arith)) (omega arith) (h .are i il) }
+
+few-variables : {s : List ℕ} {enums at : ℕ} {n : Node} → NodeStands s enums at n → length (variables n) ≤ 112
+few-variables {n = n} st = omega (arith, st .fewInputs, st .fewOutputs, st .fewLocals, length-append (n .inputs ++ n .outputs) (n .locals), length-append (n .inputs) (n .outputs))
+
+-- so many nodes have few variables each
+each-few : (enums : ℕ) (ns : List Node) (j : ℕ) → j < length ns → T (allOf (nodeFits base enums) ns) → length (variables (getD ns j noNode)) ≤ 112
+each-few enums [] j lt t = absurd (omega arith)
+each-few enums (n ∷ ns) zero lt t = node-few n (T-and (nodeFits base enums n) _ t .0)
+  where
+    node-few : (n : Node) → T (nodeFits base enums n) → length (variables n) ≤ 112
+    node-few n t =
+        let ok = variableFits base enums in
+        let i = T-and (sectionFits 0 32 ok (n .inputs)) _ t in
+        let o = T-and (sectionFits 1 16 ok (n .outputs)) _ (i .1) in
+        let l = T-and (sectionFits 0 64 ok (n .locals)) _ (o .1) in
+        omega (
+          arith,
+          section-few ok 0 32 (n .inputs) (i .0) .1,
+          section-few ok 1 16 (n .outputs) (o .0) .1,
+          section-few ok 0 64 (n .locals) (l .0) .1,
+          length-append (n .inputs ++ n .outputs) (n .locals),
+          length-append (n .inputs) (n .outputs),
+        )
+each-few enums (n ∷ ns) (suc j) lt t = each-few enums ns j (omega arith) (T-and (nodeFits base enums n) _ t .1)
+
+module _ {s rows₀ : List ℕ} {count at : ℕ} where
+  pub nodes-start : (types : List ℕ) → length rows₀ ≡ 272 → length types ≡ 7168 → NodesGoing s rows₀ rows₀ types count at at 0
+  nodes-start types long wide =
+      record { few = omega arith; long = long; wide = wide; above = λ j h. refl; going = λ enums ns q h. record { passing = passing-start nodeBytes (nodeFits base enums) nodeSize h; row = λ j lt. absurd (omega arith); typed = λ j lt. absurd (omega arith) } }
+
+  module _ {rows types : List ℕ} {next k : ℕ} (g : NodesGoing s rows₀ rows types count at next k) where
+    pub nodes-turn : (rows′ types′ : List ℕ) (r : ℕ) → count ≤ 32 → k < count → length rows′ ≡ length rows → length types′ ≡ length types → NodeDone s rows rows′ types types′ k next r → NodesGoing s rows₀ rows′ types′ count at r (k + 1)
+    nodes-turn rows′ types′ r most lt el et d =
+        record {
+          few = omega arith;
+          long = el ∙ g .long;
+          wide = et ∙ g .wide;
+          above = λ j h. d .above j (omega arith) ∙ g .above j h;
+          going = λ enums ns q h.
+              let w = g .going enums ns q h in
+              let it = passing-item node-size noNode (w .passing) (omega arith) in
+              let n = getD ns k noNode in
+              let is = d .done enums n (node-stands n (it .fit) (it .here)) in
+              let p : next ≡ placeOf (placed nodeSize at ns) k = w .passing .place ∙ sym (placed-at nodeSize ns at k (omega arith)) in
+              record {
+                passing = subst (Passing nodeBytes (nodeFits base enums) nodeSize s at ns (k + 1)) (sym (is .ends)) (it .on);
+                row = λ j below. by-cases (decLt j k)
+                    (λ old. row-below k j (d .below) old (w .row j old))
+                    (λ new. let e : j ≡ k = omega arith in rw e (subst (λ a. NodeRow n a k rows′) p (is .row)));
+                typed = λ j below. by-cases (decLt j k)
+                    (λ old. types-below k j (each-few enums ns j (omega arith) (h .fit)) (d .typed) old (w .typed j old))
+                    (λ new. let e : j ≡ k = omega arith in rw e (is .typed));
+              };
+        }
+
+    pub nodes-done : count ≤ k → NodesDone s rows₀ rows types count at
+    nodes-done over =
+        record {
+          above = g .above;
+          done = λ enums ns q h. let w = g .going enums ns q h in record { row = λ j lt. w .row j (omega (arith, g .few)); typed = λ j lt. w .typed j (omega (arith, g .few)) };
+        }
+
+-- ---- the whole file
+
+module _ {s : List ℕ} {f : File} (st : FileStands s f) {rows₀ rows₁ : List ℕ} {ec c : ℕ} (eb : Byte s 1 ec) (enums : EnumsDone s rows₀ rows₁ ec 2 c) where
+  abbrev pub enums-are : EnumsAre (f .enums) rows₁ 2 c
+  enums-are = enums .done (f .enums) (sym (eb .is ∙ st .enumCount)) (st .enums)
+
+  -- the count of the constants stands behind the enums
+  pub constants-at : c + 1 ≡ constantsStart f
+  constants-at = omega (arith, enums-are .ends)
+
+  pub constants-count : {cc : ℕ} → Byte s c cc → length (f .constants) ≡ cc
+  constants-count b = sym (b .is ∙ ap (λ p. getD s p 0) (omega (arith, enums-are .ends)) ∙ st .constantCount)
+
+  module _ {cc n : ℕ} (cb : Byte s c cc) (ends : ConstantsEnd s cc (c + 1) n) where
+    pub nodes-at : n + 1 ≡ nodesStart f
+    nodes-at =
+        let e = ends (length (f .enums)) (f .constants) (constants-count cb) (subst (λ p. Listed constantBytes (constantFits base (length (f .enums))) s p (f .constants)) (sym constants-at) (st .constants)) in
+        omega (arith, e, constants-at)
+
+    pub nodes-count : {nc : ℕ} → Byte s n nc → length (f .nodes) ≡ nc
+    nodes-count b =
+        let at : n ≡ constantsStart f + sum (map constantSize (f .constants)) = omega (arith, nodes-at) in
+        sym (b .is ∙ ap (λ p. getD s p 0) at ∙ st .nodeCount)
+
+    pub tables-done : {rows₂ types₂ : List ℕ} {nc : ℕ} → Byte s n nc → NodesDone s rows₁ rows₂ types₂ nc (n + 1) → TablesDone f rows₂ types₂ (record { constants = c; nodes = n })
+    tables-done {rows₂} {types₂} nb nodes =
+        let m = length (f .enums) in
+        let w = nodes .done m (f .nodes) (nodes-count nb) (subst (λ p. Listed nodeBytes (nodeFits base m) s p (f .nodes)) (sym nodes-at) (st .nodes)) in
+        record {
+          sections = record { constants = constants-at; nodes = nodes-at };
+          are = record {
+            row = λ k lt. subst (λ a. NodeRow (getD (f .nodes) k noNode) (placeOf (placed nodeSize a (f .nodes)) k) k rows₂) nodes-at (w .row k lt);
+            firsts = λ e lt. nodes .above (256 + e) (omega arith) ∙ enums-are .firsts e lt;
+            typed = λ k lt. w .typed k lt;
+          };
+        }

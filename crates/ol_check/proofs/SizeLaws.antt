@@ -1,0 +1,123 @@
+-- Fault 14, and the sums of record lengths.
+use Prim.Native.Nat.{ℕ, zero, suc, _+_, _-_, _*_, _≤_, _<_, min}
+use mathlib.Core.Bool.{Bool, true, false, not, _&&_, cond}
+use mathlib.Core.List.{List, [], _∷_, map}
+use mathlib.Core.Option.{Option, none, some}
+use mathlib.Core.Path.{_≡_, refl, sym, ap, subst, _∙_}
+use native.Mathlib.Omega.{arith}
+use native.Mathlib.Nat.{add-zero}
+use lib.ListN.{length, getD}
+use lib.Dec.{ltb, eqb}
+use borrow.Author.Tests.{lt-ltb, le-ltb, ne-eqb}
+use Rattle.ol_spec.specs.Lists.{sum}
+use Rattle.ol_spec.specs.Syntax.{NodeKind, Function, Operator, Imported, Node, File, Exprs, nil, cons, count, noNode, lastOf, main}
+use Rattle.ol_spec.specs.Places.{exprsSize, placedNodes, placed, nodeSize, nodesStart, mainPlace}
+use Rattle.ol_spec.specs.Encode.{kindCode}
+use Rattle.ol_spec.specs.Admission.{isOperator, atMain, fault14}
+use Rattle.ol_tree.specs.At.{fileAt}
+use Rattle.ol_tree.specs.Tables.{rowAt, nodeOf}
+use Rattle.ol_tree.specs.Heads.{Standing}
+use Rattle.ol_check.specs.Founds.{Byte}
+use Rattle.ol_check.specs.Walks.{HeadOf}
+use Rattle.ol_check.specs.Judging.{heads}
+use Rattle.ol_check.specs.NodesJudged.{placeIn, RowsReady}
+use Rattle.ol_check.specs.Sizes.{siteB, SitesSized}
+use Rattle.ol_check.specs.declared.heads.Parts.{Parts}
+use Rattle.ol_check.specs.declared.size.Sized.{Sized}
+use Rattle.ol_check.proofs.Walking.{Going, going-start, Turn, going-turn, going-on, going-done, going-in}
+use Rattle.ol_check.proofs.WalkLoop.{heads-on, heads-none, zero-left}
+
+-- ---- the last node
+
+last-node : (ns : List Node) (k : ℕ) → length ns ≡ suc k → lastOf ns ≡ getD ns k noNode
+last-node [] k e = absurd (omega arith)
+last-node (n ∷ []) zero e = refl
+last-node (n ∷ []) (suc k) e = absurd (omega arith)
+last-node (n ∷ m ∷ ns) zero e = absurd (omega arith)
+last-node (n ∷ m ∷ ns) (suc k) e = last-node (m ∷ ns) k (omega arith)
+
+last-place : (ps : List (ℕ × Node)) (k : ℕ) → length ps ≡ suc k → mainPlace ps ≡ getD (map (λ p. p .0) ps) k 0
+last-place [] k e = absurd (omega arith)
+last-place (p ∷ []) zero e = refl
+last-place (p ∷ []) (suc k) e = absurd (omega arith)
+last-place (p ∷ q ∷ ps) zero e = absurd (omega arith)
+last-place (p ∷ q ∷ ps) (suc k) e = last-place (q ∷ ps) k (omega arith)
+
+placed-length : (xs : List Node) (at : ℕ) → length (placed nodeSize at xs) ≡ length xs
+placed-length [] at = refl
+placed-length (x ∷ xs) at = ap suc (placed-length xs (at + nodeSize x))
+
+operator-is : (a : NodeKind) → kindCode a ≡ 1 → isOperator a ≡ true
+operator-is Function e = absurd (omega arith)
+operator-is Operator e = refl
+operator-is Imported e = absurd (omega arith)
+
+operator-not : (a : NodeKind) → (kindCode a ≡ 1 → ⊥) → isOperator a ≡ false
+operator-not Function e = refl
+operator-not Operator e = absurd (e refl)
+operator-not Imported e = refl
+
+module _ {s rows : List ℕ} {nodes : ℕ} (rd : RowsReady s rows nodes) (some-node : 1 ≤ nodes) where
+  the-main : main (fileAt s) ≡ nodeOf (fileAt s) (nodes - 1)
+  the-main = last-node (fileAt s .nodes) (nodes - 1) (omega (arith, rd .many))
+
+  the-place : mainPlace (placedNodes (fileAt s)) ≡ placeIn (fileAt s) (nodes - 1)
+  the-place = last-place (placedNodes (fileAt s)) (nodes - 1) (omega (arith, rd .many, placed-length (fileAt s .nodes) (nodesStart (fileAt s))))
+
+  kind-told : (x : ℕ) → x ≡ getD rows ((nodes - 1) * 8) 0 → x ≡ kindCode (main (fileAt s) .kind)
+  kind-told x e = e ∙ ap (λ n. getD rows n 0) (sym (add-zero ((nodes - 1) * 8))) ∙ rd .row (nodes - 1) (omega (arith, rd .many)) .kind ∙ ap (λ n. kindCode (n .kind)) (sym the-main)
+
+  pub main-operator : (x : ℕ) → x ≡ getD rows ((nodes - 1) * 8) 0 → x ≡ 1 → none ≡ fault14 (fileAt s)
+  main-operator x e one = ap (λ b. atMain (fileAt s) (not b)) (sym (operator-is (main (fileAt s) .kind) (sym (kind-told x e) ∙ one)))
+
+  pub main-other : (x p : ℕ) → x ≡ getD rows ((nodes - 1) * 8) 0 → (x ≡ 1 → ⊥) → p ≡ getD rows ((nodes - 1) * 8 + 7) 0 → some p ≡ fault14 (fileAt s)
+  main-other x p e other ep =
+      ap some (ep ∙ rd .row (nodes - 1) (omega (arith, rd .many)) .place ∙ sym the-place)
+      ∙ ap (λ b. atMain (fileAt s) (not b)) (sym (operator-not (main (fileAt s) .kind) (λ q. other (kind-told x e ∙ q))))
+
+-- ---- call sites
+
+module _ (s rows : List ℕ) (nodes p b : ℕ) (bb : Byte s p b) where
+  pub site-call : (c r : ℕ) → b ≡ 11 → Byte s (p + 1) c → c < nodes → r ≡ getD rows (c * 8 + 6) 0 → r ≡ siteB s rows nodes p
+  site-call c r e bc lt er = er ∙ rw (← bb .is, e, ← bc .is, lt-ltb c nodes lt) refl
+
+  pub site-absent : (c : ℕ) → b ≡ 11 → Byte s (p + 1) c → nodes ≤ c → 0 ≡ siteB s rows nodes p
+  site-absent c e bc le = rw (← bb .is, e, ← bc .is, le-ltb c nodes le) refl
+
+  pub site-none : (b ≡ 11 → ⊥) → 0 ≡ siteB s rows nodes p
+  site-none e = rw (← bb .is, ne-eqb b 11 e) refl
+
+min-add : (a b r c : ℕ) → min (min (a + b) c + r) c ≡ min (a + (b + r)) c
+min-add a b r c = omega arith
+
+min-cap : (a c : ℕ) → a ≤ c → min (a + 0) c ≡ a
+min-cap a c le = omega arith
+
+pub record SitesGoing (s rows : List ℕ) (nodes enums : ℕ) (es : Exprs) (start at size left next : ℕ) : Type 0 where
+  pub going : Going s enums at es left next
+  pub sized : min (size + sum (map (siteB s rows nodes) (heads next (going .rest)))) 65536 ≡ min (start + sum (map (siteB s rows nodes) (heads at es))) 65536
+
+module _ {s rows : List ℕ} {nodes enums : ℕ} {es : Exprs} {start at : ℕ} where
+  pub sites-start : {n : ℕ} → count es ≡ n → Standing s enums at es → SitesGoing s rows nodes enums es start at start n at
+  unfolding going-start
+  sites-start e st = record { going = going-start e st; sized = refl }
+
+  module _ {size left next : ℕ} (g : SitesGoing s rows nodes enums es start at size left next) where
+    pub sites-turn : 0 < left → (p : Parts) → HeadOf s next p → (x size′ : ℕ) → x ≡ siteB s rows nodes next → size′ ≡ min (size + x) 65536
+        → SitesGoing s rows nodes enums es start at size′ (left - 1 + p .count) (p .start)
+    sites-turn lt p hp x size′ ex es′ =
+        let t = going-turn (g .going) lt in
+        let r = sum (map (siteB s rows nodes) (heads (p .start) (going-on (g .going) t p hp .rest))) in
+        record {
+          going = going-on (g .going) t p hp;
+          sized = ap (λ n. min (n + r) 65536) (es′ ∙ ap (λ y. min (size + y) 65536) ex) ∙ min-add size (siteB s rows nodes next) r 65536
+              ∙ ap (λ l. min (size + sum (map (siteB s rows nodes) l)) 65536) (sym (heads-on (g .going) t p hp)) ∙ g .sized;
+        }
+
+    pub sites-done : size ≤ 65536 → (0 < left → ⊥) → (r : Sized) → r .size ≡ size → r .next ≡ next → SitesSized s rows nodes es start at r
+    sites-done cap over r e₁ e₂ =
+        let empty : heads next (g .going .rest) ≡ [] = heads-none next (g .going .rest) (zero-left left over (g .going .many)) in
+        record {
+          next = e₂ ∙ going-done (g .going) over;
+          size = e₁ ∙ sym (min-cap size 65536 cap) ∙ ap (λ l. min (size + sum (map (siteB s rows nodes) l)) 65536) (sym empty) ∙ g .sized;
+        }

@@ -1,0 +1,104 @@
+-- The walk over expressions, head by head: what is left to be judged.
+use Prim.Native.Nat.{ℕ, _+_, _-_, _≤_, _<_}
+use mathlib.Core.Bool.{Bool, true, false}
+use mathlib.Core.List.{List, [], _∷_, _++_, map}
+use mathlib.Core.Option.{Option, none, some}
+use mathlib.Core.Path.{_≡_, refl, sym, ap, subst, _∙_}
+use native.Mathlib.Omega.{arith}
+use native.Mathlib.Decide.{decLe}
+use mathlib.Core.Logic.{by-cases}
+use lib.ListN.{length, length-set}
+use lib.Dec.{ltb}
+use Rattle.ol_spec.specs.Lists.{orElse}
+use Rattle.ol_spec.specs.Syntax.{Expr, Exprs, nil, cons, count}
+use Rattle.ol_spec.specs.Places.{exprsSize, collectAll}
+use Rattle.ol_spec.specs.Admission.{Item, first, firstIf}
+use Rattle.ol_tree.specs.Heads.{partsOf, headSize, joined, Standing}
+use Rattle.ol_tree.proofs.Heads.{walk-head, next-told}
+use Rattle.ol_check.specs.Founds.{placeOf, earliest}
+use Rattle.ol_check.specs.Walks.{HeadOf}
+use Rattle.ol_check.specs.Judging.{headAt, heads, unseenB, unseenHead, slotHead, slotHeads, calledB, calledHead, arityB, severalHead, foundIn, Walked}
+use Rattle.ol_check.specs.declared.Found.{Found}
+use Rattle.ol_check.specs.declared.heads.Parts.{Parts}
+use Rattle.ol_check.specs.declared.judge.Faults.{Faults}
+use Rattle.ol_check.proofs.Walking.{Going, going-start, Turn, going-turn, going-on, going-done, going-in}
+
+-- an item is judged
+pub found-step : (o : Option ℕ) (b : Bool) (q : ℕ) (is : List Item) → foundIn (earliest o b q) is ≡ foundIn o ((q, b) ∷ is)
+found-step none true q is = refl
+found-step none false q is = refl
+found-step (some p) b q is = refl
+
+pub found-none : (o : Option ℕ) → foundIn o [] ≡ o
+found-none none = refl
+found-none (some p) = refl
+
+module _ {s : List ℕ} {enums at : ℕ} {es : Exprs} {left next : ℕ} (g : Going s enums at es left next) (t : Turn g) (p : Parts) (h : HeadOf s next p) where
+  -- the heads that are left, after the first
+  pub heads-on : heads next (g .rest) ≡ next ∷ heads (p .start) (going-on g t p h .rest)
+  unfolding going-on
+  heads-on =
+      let e = t .expr in
+      let o = t .others in
+      ap (heads next) (t .are) ∙ walk-head headAt next e o
+      ∙ ap (λ n. next ∷ heads n (joined (partsOf e) o)) (sym (h .next ∙ next-told s next e (t .headed .head)))
+
+pub heads-none : (at : ℕ) (es : Exprs) → count es ≡ 0 → heads at es ≡ []
+unfolding collectAll
+heads-none at nil e = refl
+heads-none at (cons x es) e = absurd (omega arith)
+
+pub zero-left : {n : ℕ} (left : ℕ) → (0 < left → ⊥) → n ≡ left → n ≡ 0
+zero-left left over e = by-cases (decLe left 0) (λ h. omega arith) (λ h. absurd (over (omega arith)))
+
+-- of the expressions es at `at`, those at `next` are left to be judged
+pub record WalkGoing (s names rows : List ℕ) (nodes k enums : ℕ) (es : Exprs) (at : ℕ) (slots₀ : List ℕ) (u₀ c₀ h₀ : Found) (slots : List ℕ) (u c h : Found) (left next : ℕ) : Type 0 where
+  pub going : Going s enums at es left next
+  pub slotted : slotHeads s names slots (heads next (going .rest)) ≡ slotHeads s names slots₀ (heads at es)
+  pub unseen : foundIn (placeOf u) (map (unseenHead s names) (heads next (going .rest))) ≡ foundIn (placeOf u₀) (map (unseenHead s names) (heads at es))
+  pub called : foundIn (placeOf c) (map (calledHead s rows k) (heads next (going .rest))) ≡ foundIn (placeOf c₀) (map (calledHead s rows k) (heads at es))
+  pub shaped : foundIn (placeOf h) (map (severalHead s rows nodes) (heads next (going .rest))) ≡ foundIn (placeOf h₀) (map (severalHead s rows nodes) (heads at es))
+
+module _ {s names rows : List ℕ} {nodes k enums : ℕ} {es : Exprs} {at : ℕ} {slots₀ : List ℕ} {u₀ c₀ h₀ : Found} where
+  pub walk-start : {n : ℕ} → count es ≡ n → Standing s enums at es → WalkGoing s names rows nodes k enums es at slots₀ u₀ c₀ h₀ slots₀ u₀ c₀ h₀ n at
+  unfolding going-start
+  walk-start e st = record { going = going-start e st; slotted = refl; unseen = refl; called = refl; shaped = refl }
+
+  module _ {slots : List ℕ} {u c h : Found} {left next : ℕ} (g : WalkGoing s names rows nodes k enums es at slots₀ u₀ c₀ h₀ slots u c h left next) where
+    module _ (lt : 0 < left) (p : Parts) (hp : HeadOf s next p) where
+      -- one kind of item, after the first head
+      step-found : (item : ℕ → Item) (o o′ z : Option ℕ) (b : Bool) (q : ℕ) → item next ≡ (q, b) → o′ ≡ earliest o b q → foundIn o (map item (heads next (g .going .rest))) ≡ z
+          → foundIn o′ (map item (heads (p .start) (going-on (g .going) (going-turn (g .going) lt) p hp .rest))) ≡ z
+      step-found item o o′ z b q ei eo ez =
+          let r = map item (heads (p .start) (going-on (g .going) (going-turn (g .going) lt) p hp .rest)) in
+          ap (λ x. foundIn x r) eo ∙ found-step o b q r
+          ∙ ap (λ i. foundIn o (i ∷ r)) (sym ei)
+          ∙ ap (λ l. foundIn o (map item l)) (sym (heads-on (g .going) (going-turn (g .going) lt) p hp)) ∙ ez
+
+      pub walk-turn : (slots′ : List ℕ) (u′ c′ h′ : Found) (bu bc : Bool) (n : ℕ) → slots′ ≡ slotHead s names slots next
+          → placeOf u′ ≡ earliest (placeOf u) bu (next + 1) → bu ≡ unseenB s names next → placeOf c′ ≡ earliest (placeOf c) bc next → bc ≡ calledB s rows k next
+          → placeOf h′ ≡ earliest (placeOf h) (ltb 1 n) next → n ≡ arityB s rows nodes next
+          → WalkGoing s names rows nodes k enums es at slots₀ u₀ c₀ h₀ slots′ u′ c′ h′ (left - 1 + p .count) (p .start)
+      unfolding slotHeads
+      walk-turn slots′ u′ c′ h′ bu bc n es′ eu fu ec fc eh fh =
+          record {
+            going = going-on (g .going) (going-turn (g .going) lt) p hp;
+            slotted = ap (λ l. slotHeads s names l (heads (p .start) (going-on (g .going) (going-turn (g .going) lt) p hp .rest))) es′
+                ∙ ap (slotHeads s names slots) (sym (heads-on (g .going) (going-turn (g .going) lt) p hp)) ∙ g .slotted;
+            unseen = step-found (unseenHead s names) (placeOf u) _ _ _ _ refl (eu ∙ ap (λ b. earliest (placeOf u) b (next + 1)) fu) (g .unseen);
+            called = step-found (calledHead s rows k) (placeOf c) _ _ _ _ refl (ec ∙ ap (λ b. earliest (placeOf c) b next) fc) (g .called);
+            shaped = step-found (severalHead s rows nodes) (placeOf h) _ _ _ _ refl (eh ∙ ap (λ n. earliest (placeOf h) (ltb 1 n) next) fh) (g .shaped);
+          }
+
+    pub walk-done : (f r : Faults) → (0 < left → ⊥) → f .next ≡ at → f .unseen ≡ u₀ → f .called ≡ c₀ → f .shaped ≡ h₀ → r .next ≡ next → r .unseen ≡ u → r .called ≡ c → r .shaped ≡ h
+        → Walked s names rows nodes k es slots₀ slots f r
+    unfolding slotHeads
+    walk-done f r over ea eu₀ ec₀ eh₀ en eu ec eh =
+        let empty : heads next (g .going .rest) ≡ [] = heads-none next (g .going .rest) (zero-left left over (g .going .many)) in
+        record {
+          next = en ∙ going-done (g .going) over ∙ ap (λ a. a + exprsSize es) (sym ea);
+          slotted = ap (slotHeads s names slots) (sym empty) ∙ g .slotted ∙ ap (λ a. slotHeads s names slots₀ (heads a es)) (sym ea);
+          unseen = rw (eu, eu₀, ea) (sym (found-none (placeOf u)) ∙ ap (λ l. foundIn (placeOf u) (map (unseenHead s names) l)) (sym empty) ∙ g .unseen);
+          called = rw (ec, ec₀, ea) (sym (found-none (placeOf c)) ∙ ap (λ l. foundIn (placeOf c) (map (calledHead s rows k) l)) (sym empty) ∙ g .called);
+          shaped = rw (eh, eh₀, ea) (sym (found-none (placeOf h)) ∙ ap (λ l. foundIn (placeOf h) (map (severalHead s rows nodes) l)) (sym empty) ∙ g .shaped);
+        }

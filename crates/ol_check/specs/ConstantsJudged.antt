@@ -1,0 +1,48 @@
+-- Faults 7, 9 and 10 of the constants, and their slots.
+use Prim.Native.Nat.{ℕ, _+_, _<_}
+use mathlib.Core.Bool.{true}
+use mathlib.Core.List.{List, [], _∷_, map}
+use mathlib.Core.Path.{_≡_}
+use lib.ListN.{length}
+use Rattle.ol_spec.specs.Lists.{concat}
+use Rattle.ol_spec.specs.Syntax.{Constant, File, nil, cons}
+use Rattle.ol_spec.specs.Places.{constantSize, placed}
+use Rattle.ol_spec.specs.Encode.{constantBytes}
+use Rattle.ol_spec.specs.Limits.{base}
+use Rattle.ol_spec.specs.Within.{constantFits}
+use Rattle.ol_spec.specs.Admission.{valuePlace, constantUses, inConstant, callsWhere, shapeItem, calleeIn}
+use Rattle.ol_tree.specs.Tables.{Each}
+use Rattle.ol_tree.specs.Stands.{Listed}
+use Rattle.ol_check.specs.Founds.{placeOf}
+use Rattle.ol_check.specs.Entries.{declared, declareAll, constantEntries}
+use Rattle.ol_check.specs.Judging.{heads, slotHeads, outputsB, foundIn, Knows, Walked}
+use Rattle.ol_check.specs.declared.judge.Faults.{Faults}
+
+-- the walk at a place
+abbrev pub walkAt : Faults → ℕ → Faults
+walkAt f p = record { unseen = f .unseen; called = f .called; shaped = f .shaped; next = p }
+
+-- constant number i, where the walk stands
+pub record ConstantJudged (s names rows : List ℕ) (nodes i : ℕ) (c : Constant) (slots slots′ names′ : List ℕ) (f r : Faults) : Type 0 where
+  pub walked : Walked s names rows nodes 0 (cons (c .value) nil) slots slots′ (walkAt f (valuePlace (f .next) c)) r
+  pub entered : names′ ≡ declared names (c .name) (i + 113)
+
+-- the slots after the constants' values, the first constant being number i
+unfoldable pub slotConstants : List ℕ → List ℕ → List ℕ → ℕ → List (ℕ × Constant) → List ℕ
+slotConstants s names slots i [] = slots
+slotConstants s names slots i (c ∷ cs) =
+    slotConstants s (declared names (c .1 .name) (i + 113)) (slotHeads s names slots (heads (valuePlace (c .0) (c .1)) (cons (c .1 .value) nil))) (i + 1) cs
+
+pub record ConstantsJudged (s names : List ℕ) (f : File) (visible : List ℕ) (at : ℕ) (cs : List Constant) (slots slots′ names′ : List ℕ) (g r : Faults) : Type 0 where
+  pub unseen : placeOf (r .unseen) ≡ foundIn (placeOf (g .unseen)) (constantUses visible (placed constantSize at cs))
+  pub called : placeOf (r .called) ≡ foundIn (placeOf (g .called)) (concat (map (inConstant (callsWhere (λ c args. true))) (placed constantSize at cs)))
+  pub shaped : placeOf (r .shaped) ≡ foundIn (placeOf (g .shaped)) (concat (map (inConstant (shapeItem f)) (placed constantSize at cs)))
+  pub entered : names′ ≡ declareAll names (constantEntries 0 cs)
+  pub slotted : slots′ ≡ slotConstants s names slots 0 (placed constantSize at cs)
+
+-- what a file's constants are judged by: the names seen before them, the outputs of the nodes, and room in the table
+pub record ConstantsReady (s names rows : List ℕ) (nodes : ℕ) (f : File) (visible : List ℕ) (enums at : ℕ) (cs : List Constant) : Type 0 where
+  pub knows : Knows names visible
+  pub outputs : (c : ℕ) → outputsB rows nodes c ≡ length (calleeIn f c .outputs)
+  pub covered : Each (λ c. c .name < length names) cs
+  pub stand : Listed constantBytes (constantFits base enums) s at cs

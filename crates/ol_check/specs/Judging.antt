@@ -1,0 +1,171 @@
+-- Faults 7, 9 and 10 at the heads of expressions, as the bytes and the tables tell them.
+use Prim.Native.Nat.{ℕ, _+_, _-_, _*_, _≤_, _<_}
+use mathlib.Core.Bool.{Bool, true, false, not, _&&_, _||_, cond}
+use mathlib.Core.List.{List, [], _∷_, _++_, map}
+use mathlib.Core.Option.{Option, none, some}
+use mathlib.Core.Path.{_≡_}
+use lib.ListN.{length, getD, set}
+use lib.Dec.{ltb, eqb}
+use Rattle.ol_spec.specs.Lists.{orElse, member, concat}
+use Rattle.ol_spec.specs.Syntax.{Expr, Exprs, nil, cons, count, Equation, File}
+use Rattle.ol_spec.specs.Places.{collectAll, exprsSize, exprSize, equationSize, placed, placedNames, rhsPlace}
+use Rattle.ol_spec.specs.Admission.{Item, first, calleeIn, used, equationUses, inEquation, callsWhere, equationShape}
+use Rattle.ol_tree.specs.Tables.{rowAt, Each}
+use Rattle.ol_tree.specs.Heads.{nameAt, partsOf, headSize, joined, Standing}
+use Rattle.ol_check.specs.Founds.{placeOf}
+use Rattle.ol_check.specs.declared.Found.{Found}
+use Rattle.ol_check.specs.declared.judge.Faults.{Faults}
+
+-- ---- heads
+
+abbrev pub headAt : ℕ → Expr → List ℕ
+headAt at e = at ∷ []
+
+-- where the heads of these expressions stand, in file order
+abbrev pub heads : ℕ → Exprs → List ℕ
+heads at es = collectAll headAt at es
+
+-- ---- 7, and the slots
+
+-- the expression at p is a Var of a name that has no entry
+abbrev pub unseenB : List ℕ → List ℕ → ℕ → Bool
+unseenB s names p = eqb (getD s p 0) 4 && eqb (getD names (nameAt s (p + 1)) 0) 0
+
+abbrev pub unseenHead : List ℕ → List ℕ → ℕ → Item
+unseenHead s names p = (p + 1, unseenB s names p)
+
+-- a name's slot, by its entry
+abbrev pub slotOfEntry : ℕ → ℕ
+slotOfEntry e = cond (eqb e 0) 255 (cond (eqb e 255) 255 (e - 1))
+
+-- the slot of the name at p is stored
+abbrev pub slotPut : List ℕ → List ℕ → List ℕ → ℕ → List ℕ
+slotPut s names slots p = set slots p (slotOfEntry (getD names (nameAt s p) 0))
+
+-- and that of the expression at p, if it is a Var
+abbrev pub slotHead : List ℕ → List ℕ → List ℕ → ℕ → List ℕ
+slotHead s names slots p = cond (eqb (getD s p 0) 4) (slotPut s names slots (p + 1)) slots
+
+unfoldable pub slotHeads : List ℕ → List ℕ → List ℕ → List ℕ → List ℕ
+slotHeads s names slots [] = slots
+slotHeads s names slots (p ∷ ps) = slotHeads s names (slotHead s names slots p) ps
+
+-- ---- 9
+
+-- whether a node of the kind coded a may call one of the kind coded b
+abbrev pub mayB : ℕ → ℕ → Bool
+mayB a b = not (eqb b 2) && not (eqb a 0 && eqb b 1)
+
+-- a call of node c with so many arguments, in node k, is faulted
+abbrev pub badB : List ℕ → ℕ → ℕ → ℕ → Bool
+badB rows k c arguments = not (ltb c k && mayB (rowAt rows k 0) (rowAt rows c 0) && eqb arguments (rowAt rows c 2))
+
+abbrev pub calledB : List ℕ → List ℕ → ℕ → ℕ → Bool
+calledB s rows k p = eqb (getD s p 0) 11 && badB rows k (getD s (p + 1) 0) (getD s (p + 2) 0)
+
+abbrev pub calledHead : List ℕ → List ℕ → ℕ → ℕ → Item
+calledHead s rows k p = (p, calledB s rows k p)
+
+-- ---- 10
+
+-- how many outputs node c has, in a file of so many nodes
+abbrev pub outputsB : List ℕ → ℕ → ℕ → ℕ
+outputsB rows nodes c = cond (ltb c nodes) (rowAt rows c 3) 0
+
+-- how many values the expression at p has
+abbrev pub arityB : List ℕ → List ℕ → ℕ → ℕ → ℕ
+arityB s rows nodes p =
+    cond (eqb (getD s p 0) 12) (getD s (p + 1) 0) (cond (eqb (getD s p 0) 11) (outputsB rows nodes (getD s (p + 1) 0)) 1)
+
+abbrev pub severalHead : List ℕ → List ℕ → ℕ → ℕ → Item
+severalHead s rows nodes p = (p, ltb 1 (arityB s rows nodes p))
+
+-- ---- a walk
+
+-- a fault found so far, or the first among the items
+abbrev pub foundIn : Option ℕ → List Item → Option ℕ
+foundIn found is = orElse found (first is)
+
+-- the expressions es, which stand where the walk stood, are judged
+pub record Walked (s names rows : List ℕ) (nodes k : ℕ) (es : Exprs) (slots slots′ : List ℕ) (f r : Faults) : Type 0 where
+  pub next : r .next ≡ f .next + exprsSize es
+  pub slotted : slots′ ≡ slotHeads s names slots (heads (f .next) es)
+  pub unseen : placeOf (r .unseen) ≡ foundIn (placeOf (f .unseen)) (map (unseenHead s names) (heads (f .next) es))
+  pub called : placeOf (r .called) ≡ foundIn (placeOf (f .called)) (map (calledHead s rows k) (heads (f .next) es))
+  pub shaped : placeOf (r .shaped) ≡ foundIn (placeOf (f .shaped)) (map (severalHead s rows nodes) (heads (f .next) es))
+
+-- ---- what the tables say of the tree
+
+-- a name has no entry exactly if it is not visible
+abbrev pub Knows : List ℕ → List ℕ → Type 0
+Knows names visible = (x : ℕ) → eqb (getD names x 0) 0 ≡ not (member x visible)
+
+-- In a file f: which names are visible, which calls are faulted, and how many outputs each node has
+pub record Context (f : File) (k : ℕ) (names rows : List ℕ) (nodes : ℕ) (visible : List ℕ) (bad : ℕ → ℕ → Bool) : Type 0 where
+  pub knows : Knows names visible
+  pub calls : (c n : ℕ) → badB rows k c n ≡ bad c n
+  pub outputs : (c : ℕ) → outputsB rows nodes c ≡ length (calleeIn f c .outputs)
+
+-- the slot that a name's entry gives stands at the name's place
+pub record SlotIs (names slots : List ℕ) (p : ℕ × ℕ) : Type 0 where
+  pub is : getD slots (p .0) 0 ≡ slotOfEntry (getD names (p .1) 0)
+
+-- ---- names that an equation defines
+
+abbrev pub entryItem : List ℕ → ℕ × ℕ → Item
+entryItem names p = (p .0, eqb (getD names (p .1) 0) 0)
+
+unfoldable pub slotNames : List ℕ → List ℕ → List (ℕ × ℕ) → List ℕ
+slotNames names slots [] = slots
+slotNames names slots (p ∷ ps) = slotNames names (set slots (p .0) (slotOfEntry (getD names (p .1) 0))) ps
+
+pub record NamesSeen (names : List ℕ) (ps : List (ℕ × ℕ)) (slots slots′ : List ℕ) (found r : Found) : Type 0 where
+  pub unseen : placeOf r ≡ foundIn (placeOf found) (map (entryItem names) ps)
+  pub slotted : slots′ ≡ slotNames names slots ps
+
+-- ---- a right side, and an equation
+
+-- several names and not several values; several values and not as many names
+abbrev pub loneB : ℕ → ℕ → Bool
+loneB names values = ltb 1 names && not (ltb 1 values)
+
+abbrev pub otherB : ℕ → ℕ → Bool
+otherB names values = ltb 1 values && not (eqb values names)
+
+-- the right side e of the equation at `at`, which has so many names
+pub record RootJudged (s names rows : List ℕ) (nodes k at many : ℕ) (e : Expr) (slots slots′ : List ℕ) (f r : Faults) : Type 0 where
+  pub next : r .next ≡ f .next + exprSize e
+  pub slotted : slots′ ≡ slotHeads s names slots (heads (f .next) (cons e nil))
+  pub unseen : placeOf (r .unseen) ≡ foundIn (placeOf (f .unseen)) (map (unseenHead s names) (heads (f .next) (cons e nil)))
+  pub called : placeOf (r .called) ≡ foundIn (placeOf (f .called)) (map (calledHead s rows k) (heads (f .next) (cons e nil)))
+  pub shaped : placeOf (r .shaped)
+      ≡ foundIn (placeOf (f .shaped)) ((at, loneB many (arityB s rows nodes (f .next))) ∷ (f .next, otherB many (arityB s rows nodes (f .next)))
+      ∷ map (severalHead s rows nodes) (heads (f .next + headSize e) (joined (partsOf e) nil)))
+
+-- the names of an equation, defined and used, with their places
+abbrev pub namesIn : ℕ × Equation → List (ℕ × ℕ)
+namesIn p = placedNames (p .0 + 1) (p .1 .names) ++ used (rhsPlace (p .0) (p .1)) (p .1 .rhs)
+
+-- the slots after an equation's names are stored, and after those of many
+unfoldable pub slotEquation : List ℕ → List ℕ → List ℕ → ℕ × Equation → List ℕ
+slotEquation s names slots p =
+    slotHeads s names (slotNames names slots (placedNames (p .0 + 1) (p .1 .names))) (heads (rhsPlace (p .0) (p .1)) (cons (p .1 .rhs) nil))
+
+unfoldable pub slotEquations : List ℕ → List ℕ → List ℕ → List (ℕ × Equation) → List ℕ
+slotEquations s names slots [] = slots
+slotEquations s names slots (p ∷ ps) = slotEquations s names (slotEquation s names slots p) ps
+
+-- the equation q at `at`, in the file f
+pub record EquationJudged (s names : List ℕ) (f : File) (visible : List ℕ) (bad : ℕ → ℕ → Bool) (at : ℕ) (q : Equation) (slots slots′ : List ℕ) (g r : Faults) : Type 0 where
+  pub next : r .next ≡ at + equationSize q
+  pub unseen : placeOf (r .unseen) ≡ foundIn (placeOf (g .unseen)) (equationUses visible (at, q))
+  pub called : placeOf (r .called) ≡ foundIn (placeOf (g .called)) (inEquation (callsWhere bad) (at, q))
+  pub shaped : placeOf (r .shaped) ≡ foundIn (placeOf (g .shaped)) (equationShape f (at, q))
+  pub slotted : slots′ ≡ slotEquation s names slots (at, q)
+
+-- so many equations
+pub record EquationsJudged (s names : List ℕ) (f : File) (visible : List ℕ) (bad : ℕ → ℕ → Bool) (at : ℕ) (qs : List Equation) (slots slots′ : List ℕ) (g r : Faults) : Type 0 where
+  pub unseen : placeOf (r .unseen) ≡ foundIn (placeOf (g .unseen)) (concat (map (equationUses visible) (placed equationSize at qs)))
+  pub called : placeOf (r .called) ≡ foundIn (placeOf (g .called)) (concat (map (inEquation (callsWhere bad)) (placed equationSize at qs)))
+  pub shaped : placeOf (r .shaped) ≡ foundIn (placeOf (g .shaped)) (concat (map (equationShape f) (placed equationSize at qs)))
+  pub slotted : slots′ ≡ slotEquations s names slots (placed equationSize at qs)

@@ -1,0 +1,68 @@
+-- Faults 7, 9 and 10 of a node's equations, and their slots.
+use Prim.Native.Nat.{ℕ, _<_, _≤_}
+use mathlib.Core.List.{List, [], _∷_, map}
+use mathlib.Core.Path.{_≡_}
+use lib.ListN.{length}
+use Rattle.ol_spec.specs.Syntax.{Variable, Node, File, variables}
+use Rattle.ol_spec.specs.Places.{placedNodes, placedEquations}
+use Rattle.ol_spec.specs.Lists.{concat}
+use Rattle.ol_spec.specs.Admission.{nodeUses, nodeCalls, nodeShape, numbered}
+use Rattle.ol_tree.specs.At.{fileAt}
+use Rattle.ol_tree.specs.Tables.{nodeOf, Each}
+use Rattle.ol_tree.specs.Tables as Tables
+use Rattle.ol_tree.specs.Stands.{FileReads}
+use Rattle.ol_check.specs.Founds.{placeOf}
+use Rattle.ol_check.specs.RowsDone.{NodeRow}
+use Rattle.ol_check.specs.Entries.{declareAll, variableEntries}
+use Rattle.ol_check.specs.Judging.{foundIn, slotEquations}
+use Rattle.ol_check.specs.declared.judge.Faults.{Faults}
+
+-- where node k stands
+abbrev pub placeIn : File → ℕ → ℕ
+placeIn f k = Tables.placeOf (placedNodes f) k
+
+-- the file reads without fault, the rows are its nodes', and k is one of them
+pub record NodeReady (s rows : List ℕ) (nodes k : ℕ) : Type 0 where
+  pub reads : FileReads s
+  pub row : (j : ℕ) → j < length (fileAt s .nodes) → NodeRow (nodeOf (fileAt s) j) (placeIn (fileAt s) j) j rows
+  pub many : nodes ≡ length (fileAt s .nodes)
+  pub low : k < nodes
+  pub few : nodes ≤ 32
+
+-- the table by name inside node n
+abbrev pub nodeTable : List ℕ → Node → List ℕ
+nodeTable names n = declareAll names (variableEntries 0 (variables n))
+
+-- the node's names are within the table
+abbrev pub Covered : ℕ → Node → Type 0
+Covered room n = Each (λ v. v .name < room) (variables n)
+
+pub record NodeJudged (s names : List ℕ) (f : File) (visible : List ℕ) (k : ℕ) (slots slots′ : List ℕ) (g r : Faults) : Type 0 where
+  pub unseen : placeOf (r .unseen) ≡ foundIn (placeOf (g .unseen)) (nodeUses visible (placeIn f k, nodeOf f k))
+  pub called : placeOf (r .called) ≡ foundIn (placeOf (g .called)) (nodeCalls f (k, (placeIn f k, nodeOf f k)))
+  pub shaped : placeOf (r .shaped) ≡ foundIn (placeOf (g .shaped)) (nodeShape f (placeIn f k, nodeOf f k))
+  pub slotted : slots′ ≡ slotEquations s (nodeTable names (nodeOf f k)) slots (placedEquations (placeIn f k) (nodeOf f k))
+
+-- ---- all nodes
+
+-- the file reads without fault, and the rows are its nodes'
+pub record RowsReady (s rows : List ℕ) (nodes : ℕ) : Type 0 where
+  pub reads : FileReads s
+  pub row : (j : ℕ) → j < length (fileAt s .nodes) → NodeRow (nodeOf (fileAt s) j) (placeIn (fileAt s) j) j rows
+  pub many : nodes ≡ length (fileAt s .nodes)
+  pub few : nodes ≤ 32
+
+-- every node's names are within the table
+abbrev pub AllCovered : ℕ → File → Type 0
+AllCovered room f = (k : ℕ) → k < length (f .nodes) → Covered room (nodeOf f k)
+
+-- the slots after the nodes' equations
+unfoldable pub slotNodes : List ℕ → List ℕ → List ℕ → List (ℕ × Node) → List ℕ
+slotNodes s names slots [] = slots
+slotNodes s names slots (n ∷ ns) = slotNodes s names (slotEquations s (nodeTable names (n .1)) slots (placedEquations (n .0) (n .1))) ns
+
+pub record NodesJudged (s names : List ℕ) (f : File) (visible : List ℕ) (slots slots′ : List ℕ) (g r : Faults) : Type 0 where
+  pub unseen : placeOf (r .unseen) ≡ foundIn (placeOf (g .unseen)) (concat (map (nodeUses visible) (placedNodes f)))
+  pub called : placeOf (r .called) ≡ foundIn (placeOf (g .called)) (concat (map (nodeCalls f) (numbered 0 (placedNodes f))))
+  pub shaped : placeOf (r .shaped) ≡ foundIn (placeOf (g .shaped)) (concat (map (nodeShape f) (placedNodes f)))
+  pub slotted : slots′ ≡ slotNodes s names slots (placedNodes f)

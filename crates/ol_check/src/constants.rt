@@ -1,0 +1,75 @@
+// Faults 7, 9 and 10 of the constants: each sees the variants and the constants before it.
+use super::bytes::name;
+use super::heads::ty_size;
+use super::judge::Faults;
+use super::judge::walk;
+use super::names::declare;
+ghost use mathlib.Core.Path.{_≡_};
+ghost use mathlib.Core.List.{List};
+ghost use Prim.Native.Nat.{ℕ, _≤_, _<_};
+ghost use lib.ListN.{length};
+ghost use Rattle.ol_spec.specs.Syntax.{Constant, File};
+ghost use Rattle.ol_tree.specs.Stands.{ConstantStands};
+ghost use Rattle.ol_check.specs.ConstantsJudged.{ConstantJudged, ConstantsJudged, ConstantsReady};
+
+// Constant number `i`, where the walk stands: its value is judged, then its name entered.
+fn constant(
+    file: &[u8],
+    names: &mut [u8],
+    slots: &mut [u8],
+    rows: &[usize],
+    nodes: usize,
+    i: usize,
+    f: Faults,
+) -> Faults
+    requires { ⌜ (f .next < length (now file)) × (length (now file) ≤ 32768) × (i < 64) ⌝ }
+    ensures { λ r. ⌜ ((enums : ℕ) (c : Constant) → ConstantStands (now (file .entry)) enums (f .next) c → ConstantJudged (now (file .entry)) (now (names .entry)) (now (rows .entry)) nodes i c (now (slots .entry)) (now (slots .exit)) (now (names .exit)) f r) ⌝ }
+{
+    let at = f.next;
+    let unseen = f.unseen;
+    let called = f.called;
+    let shaped = f.shaped;
+    let r = walk(
+        file,
+        names,
+        slots,
+        rows,
+        nodes,
+        0,
+        1,
+        Faults {
+            unseen,
+            called,
+            shaped,
+            next: at + 2 + ty_size(file, at + 2),
+        },
+    );
+    declare(names, name(file, at), (i + 113) as u8);
+    r
+}
+
+// So many constants from where the walk stands.
+pub fn judge_constants(
+    file: &[u8],
+    names: &mut [u8],
+    slots: &mut [u8],
+    rows: &[usize],
+    nodes: usize,
+    many: usize,
+    f: Faults,
+) -> Faults
+    requires { ⌜ (length (now file) ≤ 32768) × (many ≤ 64) ⌝ }
+    ensures { λ r. ⌜ ((t : File) (visible : List ℕ) (enums : ℕ) (cs : List Constant) → length cs ≡ many → ConstantsReady (now (file .entry)) (now (names .entry)) (now (rows .entry)) nodes t visible enums (f .next) cs → ConstantsJudged (now (file .entry)) (now (names .entry)) t visible (f .next) cs (now (slots .entry)) (now (slots .exit)) (now (names .exit)) f r) ⌝ }
+{
+    let mut g = f;
+    let mut i = 0;
+    while i < many {
+        let at = g.next;
+        if file.len() <= at {
+            return g;
+        }
+        g = constant(file, names, slots, rows, nodes, i, g);
+        i += 1;
+    }
+    g
+}

@@ -1,0 +1,45 @@
+// Faults 7, 9 and 10 of a whole file, and the slots of its names.
+use super::Found;
+use super::bytes::byte;
+use super::constants::judge_constants;
+use super::judge::Faults;
+use super::names::declare_enums;
+use super::nodes::judge_nodes;
+use super::rows::Sections;
+ghost use mathlib.Core.Path.{_≡_};
+ghost use lib.ListN.{length};
+ghost use Rattle.ol_tree.specs.At.{fileAt};
+ghost use Rattle.ol_check.specs.FileJudged.{FileReady, NamesWithin, FileJudged};
+
+// Faults 7, 9 and 10 of a file that reads without fault. The table by name is empty, and longer
+// than every declared name.
+pub fn faults(
+    file: &[u8],
+    rows: &[usize],
+    sections: Sections,
+    names: &mut [u8],
+    slots: &mut [u8],
+) -> Faults
+    requires { ⌜ FileReady (now file) (now rows) (now names) sections × NamesWithin (length (now names)) (fileAt (now file)) ⌝ }
+    ensures { λ r. ⌜ FileJudged (now (file .entry)) (fileAt (now (file .entry))) (now (names .entry)) (now (names .exit)) (now (slots .entry)) (now (slots .exit)) r ⌝ }
+{
+    let c = sections.constants;
+    let n = sections.nodes;
+    let nodes = byte(file, n);
+    declare_enums(file, names, byte(file, 1), 2);
+    let g = judge_constants(
+        file,
+        names,
+        slots,
+        rows,
+        nodes,
+        byte(file, c),
+        Faults {
+            unseen: Found::Nothing,
+            called: Found::Nothing,
+            shaped: Found::Nothing,
+            next: c + 1,
+        },
+    );
+    judge_nodes(file, names, slots, rows, nodes, g)
+}

@@ -1,0 +1,328 @@
+// Faults 7, 9 and 10 of every expression and equation, and the slots of the names.
+use super::Found;
+use super::bytes::byte;
+use super::bytes::earlier;
+use super::bytes::entry;
+use super::bytes::name;
+use super::bytes::put_byte;
+use super::heads::head;
+ghost use mathlib.Core.Path.{_≡_};
+ghost use Prim.Native.Nat.{ℕ, _≤_, _<_, _+_, _*_};
+ghost use lib.ListN.{getD, length, set};
+ghost use Rattle.ol_spec.specs.Syntax.{Exprs, count};
+ghost use Rattle.ol_tree.specs.Heads.{nameAt, Standing};
+ghost use Rattle.ol_check.specs.Judging.{unseenB, slotOfEntry, slotPut, slotHead, mayB, badB, calledB, outputsB, arityB, Walked};
+ghost use Rattle.ol_check.specs.Judging.{NamesSeen, loneB, otherB, RootJudged, Context, EquationJudged, EquationsJudged};
+ghost use mathlib.Core.List.{List};
+ghost use mathlib.Core.Bool.{Bool};
+ghost use Rattle.ol_spec.specs.Syntax.{Expr, nil, cons, Equation, File};
+ghost use Rattle.ol_spec.specs.Places.{placedNames};
+ghost use Rattle.ol_tree.specs.Stands.{Names, EquationStands, Equations};
+
+// The first fault of each number so far, and where the walk stands.
+pub struct Faults {
+    pub unseen: Found,
+    pub called: Found,
+    pub shaped: Found,
+    pub next: usize,
+}
+
+// A name's slot, by its entry.
+fn slot(e: usize) -> u8
+    requires { ⌜ e < 256 ⌝ }
+    ensures { λ r. ⌜ r ≡ slotOfEntry e ⌝ }
+{
+    if e == 0 {
+        255
+    } else if e == 255 {
+        255
+    } else {
+        (e - 1) as u8
+    }
+}
+
+// Stores the slot of the name at `at`.
+fn put_slot(file: &[u8], names: &[u8], slots: &mut [u8], at: usize)
+    ensures { λ r. ⌜ now (slots .exit) ≡ slotPut (now (file .entry)) (now (names .entry)) (now (slots .entry)) at ⌝ }
+{
+    put_byte(slots, at, slot(byte(names, name(file, at))));
+}
+
+// Stores the slot of the expression at `at`, if it is a Var.
+fn slot_head(file: &[u8], names: &[u8], slots: &mut [u8], at: usize)
+    requires { ⌜ at < length (now file) ⌝ }
+    ensures { λ r. ⌜ now (slots .exit) ≡ slotHead (now (file .entry)) (now (names .entry)) (now (slots .entry)) at ⌝ }
+{
+    if byte(file, at) == 4 {
+        put_slot(file, names, slots, at + 1);
+    }
+}
+
+// Whether the expression at `at` is a Var of an undeclared name.
+fn unseen_at(file: &[u8], names: &[u8], at: usize) -> bool
+    requires { ⌜ at < length (now file) ⌝ }
+    ensures { λ r. ⌜ r ≡ unseenB (now (file .entry)) (now (names .entry)) at ⌝ }
+{
+    if byte(file, at) == 4 {
+        byte(names, name(file, at + 1)) == 0
+    } else {
+        false
+    }
+}
+
+// Whether a node of kind `caller` may call one of kind `callee`.
+fn may_call(caller: usize, callee: usize) -> bool
+    ensures { λ r. ⌜ r ≡ mayB caller callee ⌝ }
+{
+    if callee == 2 {
+        false
+    } else if caller == 0 {
+        callee != 1
+    } else {
+        true
+    }
+}
+
+// Whether a call of node `c` with so many arguments in node `node` is faulted.
+fn bad_call(rows: &[usize], node: usize, c: usize, arguments: usize) -> bool
+    requires { ⌜ (node < 256) × (c < 256) ⌝ }
+    ensures { λ r. ⌜ r ≡ badB (now (rows .entry)) node c arguments ⌝ }
+{
+    if c < node {
+        if may_call(entry(rows, node * 8), entry(rows, c * 8)) {
+            arguments != entry(rows, c * 8 + 2)
+        } else {
+            true
+        }
+    } else {
+        true
+    }
+}
+
+// Whether the expression at `at`, in node `node`, is a faulted call.
+fn called_at(file: &[u8], rows: &[usize], node: usize, at: usize) -> bool
+    requires { ⌜ (node < 256) × (at < length (now file)) ⌝ }
+    ensures { λ r. ⌜ r ≡ calledB (now (file .entry)) (now (rows .entry)) node at ⌝ }
+{
+    if byte(file, at) == 11 {
+        bad_call(rows, node, byte(file, at + 1), byte(file, at + 2))
+    } else {
+        false
+    }
+}
+
+// How many values the expression at `at` has, in a file of so many nodes.
+fn arity_at(file: &[u8], rows: &[usize], nodes: usize, at: usize) -> usize
+    requires { ⌜ at < length (now file) ⌝ }
+    ensures { λ r. ⌜ r ≡ arityB (now (file .entry)) (now (rows .entry)) nodes at ⌝ }
+{
+    let code = byte(file, at);
+    if code == 12 {
+        byte(file, at + 1)
+    } else if code == 11 {
+        outputs(rows, nodes, byte(file, at + 1))
+    } else {
+        1
+    }
+}
+
+// How many outputs node `c` has; 0 for an absent one.
+fn outputs(rows: &[usize], nodes: usize, c: usize) -> usize
+    requires { ⌜ c < 256 ⌝ }
+    ensures { λ r. ⌜ r ≡ outputsB (now (rows .entry)) nodes c ⌝ }
+{
+    if c < nodes { entry(rows, c * 8 + 3) } else { 0 }
+}
+
+// So many expressions of node `node`, one after the other from where the walk stands.
+pub fn walk(
+    file: &[u8],
+    names: &[u8],
+    slots: &mut [u8],
+    rows: &[usize],
+    nodes: usize,
+    node: usize,
+    parts: usize,
+    f: Faults,
+) -> Faults
+    requires { ⌜ (node < 256) × (parts < 256) × (length (now file) ≤ 32768) ⌝ }
+    ensures { λ r. ⌜ ((enums : ℕ) (es : Exprs) → count es ≡ parts → Standing (now (file .entry)) enums (f .next) es → Walked (now (file .entry)) (now (names .entry)) (now (rows .entry)) nodes node es (now (slots .entry)) (now (slots .exit)) f r) ⌝ }
+{
+    let mut next = f.next;
+    let mut left = parts;
+    let mut unseen = f.unseen;
+    let mut called = f.called;
+    let mut shaped = f.shaped;
+    while 0 < left {
+        if file.len() <= next {
+            return Faults {
+                unseen,
+                called,
+                shaped,
+                next,
+            };
+        }
+        let h = head(file, next);
+        slot_head(file, names, slots, next);
+        unseen = earlier(unseen, unseen_at(file, names, next), next + 1);
+        called = earlier(called, called_at(file, rows, node, next), next);
+        shaped = earlier(shaped, 1 < arity_at(file, rows, nodes, next), next);
+        left = left - 1 + h.count;
+        next = h.start;
+    }
+    Faults {
+        unseen,
+        called,
+        shaped,
+        next,
+    }
+}
+
+// So many names from `at` on: the first that has no entry, and each one's slot.
+fn seen_names(
+    file: &[u8],
+    names: &[u8],
+    slots: &mut [u8],
+    many: usize,
+    at: usize,
+    found: Found,
+) -> Found
+    requires { ⌜ (many < 256) × (at ≤ 40000) ⌝ }
+    ensures { λ r. ⌜ ((xs : List ℕ) → length xs ≡ many → Names (now (file .entry)) 0 at xs → NamesSeen (now (names .entry)) (placedNames at xs) (now (slots .entry)) (now (slots .exit)) found r) ⌝ }
+{
+    let mut next = at;
+    let mut i = 0;
+    let mut unseen = found;
+    while i < many {
+        let e = byte(names, name(file, next));
+        unseen = earlier(unseen, e == 0, next);
+        put_byte(slots, next, slot(e));
+        next += 2;
+        i += 1;
+    }
+    unseen
+}
+
+// Several names, and not several values.
+fn lone(many: usize, values: usize) -> bool
+    ensures { λ r. ⌜ r ≡ loneB many values ⌝ }
+{
+    if 1 < many { values <= 1 } else { false }
+}
+
+// Several values, and not as many names.
+fn other(many: usize, values: usize) -> bool
+    ensures { λ r. ⌜ r ≡ otherB many values ⌝ }
+{
+    if 1 < values { values != many } else { false }
+}
+
+// The right side of the equation at `at`, which has so many names. The walk stands at the right side.
+fn root(
+    file: &[u8],
+    names: &[u8],
+    slots: &mut [u8],
+    rows: &[usize],
+    nodes: usize,
+    node: usize,
+    at: usize,
+    many: usize,
+    f: Faults,
+) -> Faults
+    requires { ⌜ (node < 256) × (length (now file) ≤ 32768) ⌝ }
+    ensures { λ r. ⌜ ((enums : ℕ) (e : Expr) → Standing (now (file .entry)) enums (f .next) (cons e nil) → RootJudged (now (file .entry)) (now (names .entry)) (now (rows .entry)) nodes node at many e (now (slots .entry)) (now (slots .exit)) f r) ⌝ }
+{
+    let next = f.next;
+    if file.len() <= next {
+        return f;
+    }
+    let u = f.unseen;
+    let c = f.called;
+    let s = f.shaped;
+    let h = head(file, next);
+    let values = arity_at(file, rows, nodes, next);
+    slot_head(file, names, slots, next);
+    let unseen = earlier(u, unseen_at(file, names, next), next + 1);
+    let called = earlier(c, called_at(file, rows, node, next), next);
+    let few = earlier(s, lone(many, values), at);
+    let shaped = earlier(few, other(many, values), next);
+    walk(
+        file,
+        names,
+        slots,
+        rows,
+        nodes,
+        node,
+        h.count,
+        Faults {
+            unseen,
+            called,
+            shaped,
+            next: h.start,
+        },
+    )
+}
+
+// The equation where the walk stands.
+fn equation(
+    file: &[u8],
+    names: &[u8],
+    slots: &mut [u8],
+    rows: &[usize],
+    nodes: usize,
+    node: usize,
+    f: Faults,
+) -> Faults
+    requires { ⌜ (node < 256) × (f .next < length (now file)) × (length (now file) ≤ 32768) ⌝ }
+    ensures { λ r. ⌜ ((t : File) (visible : List ℕ) (bad : ℕ → ℕ → Bool) (enums : ℕ) (q : Equation) → Context t node (now (names .entry)) (now (rows .entry)) nodes visible bad → EquationStands (now (file .entry)) enums (f .next) q → EquationJudged (now (file .entry)) (now (names .entry)) t visible bad (f .next) q (now (slots .entry)) (now (slots .exit)) f r) ⌝ }
+{
+    let at = f.next;
+    let many = byte(file, at);
+    let u = f.unseen;
+    let called = f.called;
+    let shaped = f.shaped;
+    let unseen = seen_names(file, names, slots, many, at + 1, u);
+    root(
+        file,
+        names,
+        slots,
+        rows,
+        nodes,
+        node,
+        at,
+        many,
+        Faults {
+            unseen,
+            called,
+            shaped,
+            next: at + 1 + 2 * many,
+        },
+    )
+}
+
+// So many equations from where the walk stands.
+pub fn equations(
+    file: &[u8],
+    names: &[u8],
+    slots: &mut [u8],
+    rows: &[usize],
+    nodes: usize,
+    node: usize,
+    many: usize,
+    f: Faults,
+) -> Faults
+    requires { ⌜ (node < 256) × (length (now file) ≤ 32768) ⌝ }
+    ensures { λ r. ⌜ ((t : File) (visible : List ℕ) (bad : ℕ → ℕ → Bool) (enums : ℕ) (qs : List Equation) → Context t node (now (names .entry)) (now (rows .entry)) nodes visible bad → length qs ≡ many → Equations (now (file .entry)) enums (f .next) qs → EquationsJudged (now (file .entry)) (now (names .entry)) t visible bad (f .next) qs (now (slots .entry)) (now (slots .exit)) f r) ⌝ }
+{
+    let mut g = f;
+    let mut i = 0;
+    while i < many {
+        let at = g.next;
+        if file.len() <= at {
+            return g;
+        }
+        g = equation(file, names, slots, rows, nodes, node, g);
+        i += 1;
+    }
+    g
+}

@@ -1,0 +1,102 @@
+// Faults 7, 9 and 10 of the nodes: a node's variables are entered, its equations judged, and its variables taken back.
+use super::bytes::byte;
+use super::bytes::entry;
+use super::judge::Faults;
+use super::judge::equations;
+use super::names::declare_variables;
+use super::names::forget_variables;
+ghost use mathlib.Core.Path.{_≡_};
+ghost use mathlib.Core.List.{List, map};
+ghost use Prim.Native.Nat.{ℕ, _≤_, _<_, _+_, _*_};
+ghost use lib.ListN.{length};
+ghost use Rattle.ol_spec.specs.Syntax.{variables, nameOf};
+ghost use Rattle.ol_tree.specs.At.{fileAt};
+ghost use Rattle.ol_tree.specs.Tables.{nodeOf};
+ghost use Rattle.ol_check.specs.Entries.{declareAll, forgetAll, variableEntries, Global};
+ghost use Rattle.ol_check.specs.Judging.{Knows};
+ghost use Rattle.ol_check.specs.NodesJudged.{NodeReady, nodeTable, Covered, NodeJudged, RowsReady, AllCovered, NodesJudged};
+
+// Enters the variables of node `k`.
+fn declare_node(file: &[u8], names: &mut [u8], rows: &[usize], nodes: usize, k: usize)
+    requires { ⌜ NodeReady (now file) (now rows) nodes k ⌝ }
+    ensures { λ r. ⌜ now (names .exit) ≡ nodeTable (now (names .entry)) (nodeOf (fileAt (now (file .entry))) k) ⌝ }
+{
+    let at = entry(rows, k * 8 + 7);
+    let inputs = entry(rows, k * 8 + 2);
+    let outputs = entry(rows, k * 8 + 3);
+    let o = declare_variables(file, names, 0, inputs, at + 2);
+    let l = declare_variables(file, names, inputs, outputs, o + 1);
+    let locals = byte(file, l);
+    declare_variables(file, names, inputs + outputs, locals, l + 1);
+}
+
+// Takes the entries of the variables of node `k` back.
+fn forget_node(file: &[u8], names: &mut [u8], rows: &[usize], nodes: usize, k: usize)
+    requires { ⌜ NodeReady (now file) (now rows) nodes k ⌝ }
+    ensures { λ r. ⌜ now (names .exit) ≡ forgetAll (now (names .entry)) (map nameOf (variables (nodeOf (fileAt (now (file .entry))) k))) ⌝ }
+{
+    let at = entry(rows, k * 8 + 7);
+    let inputs = entry(rows, k * 8 + 2);
+    let outputs = entry(rows, k * 8 + 3);
+    let o = forget_variables(file, names, inputs, at + 2);
+    let l = forget_variables(file, names, outputs, o + 1);
+    let locals = byte(file, l);
+    forget_variables(file, names, locals, l + 1);
+}
+
+// Judges node `k`. The table by name is as before in the end.
+fn node(
+    file: &[u8],
+    names: &mut [u8],
+    slots: &mut [u8],
+    rows: &[usize],
+    nodes: usize,
+    k: usize,
+    f: Faults,
+) -> Faults
+    requires { ⌜ NodeReady (now file) (now rows) nodes k × Global (now names) ⌝ }
+    ensures { λ r. ⌜ (now (names .exit) ≡ now (names .entry)) × ((visible : List ℕ) → Knows (now (names .entry)) visible → Covered (length (now (names .entry))) (nodeOf (fileAt (now (file .entry))) k) → NodeJudged (now (file .entry)) (now (names .entry)) (fileAt (now (file .entry))) visible k (now (slots .entry)) (now (slots .exit)) f r) ⌝ }
+{
+    declare_node(file, names, rows, nodes, k);
+    let unseen = f.unseen;
+    let called = f.called;
+    let shaped = f.shaped;
+    let r = equations(
+        file,
+        names,
+        slots,
+        rows,
+        nodes,
+        k,
+        entry(rows, k * 8 + 5),
+        Faults {
+            unseen,
+            called,
+            shaped,
+            next: entry(rows, k * 8 + 1),
+        },
+    );
+    forget_node(file, names, rows, nodes, k);
+    r
+}
+
+// Judges all nodes.
+pub fn judge_nodes(
+    file: &[u8],
+    names: &mut [u8],
+    slots: &mut [u8],
+    rows: &[usize],
+    nodes: usize,
+    f: Faults,
+) -> Faults
+    requires { ⌜ RowsReady (now file) (now rows) nodes × Global (now names) ⌝ }
+    ensures { λ r. ⌜ (now (names .exit) ≡ now (names .entry)) × ((visible : List ℕ) → Knows (now (names .entry)) visible → AllCovered (length (now (names .entry))) (fileAt (now (file .entry))) → NodesJudged (now (file .entry)) (now (names .entry)) (fileAt (now (file .entry))) visible (now (slots .entry)) (now (slots .exit)) f r) ⌝ }
+{
+    let mut g = f;
+    let mut k = 0;
+    while k < nodes {
+        g = node(file, names, slots, rows, nodes, k, g);
+        k += 1;
+    }
+    g
+}

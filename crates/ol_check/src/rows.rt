@@ -1,0 +1,196 @@
+// The rows of the nodes, the first variants, and the types of the variables.
+use super::bytes::byte;
+use super::bytes::name;
+use super::bytes::put;
+use super::bytes::put_byte;
+use super::heads::skip;
+use super::heads::ty_size;
+ghost use mathlib.Core.Path.{_≡_};
+ghost use mathlib.Core.List.{[], _∷_};
+ghost use Prim.Native.Nat.{ℕ, _≤_, _<_, _+_, _*_};
+ghost use lib.ListN.{getD, length, set};
+ghost use Rattle.ol_tree.specs.Heads.{tyEnumAt};
+ghost use Rattle.ol_check.specs.RowsDone.{EnumsDone, ConstantsEnd, EquationsEnd, typeSet, VariablesDone, putAll, NodeDone, NodesDone, TablesDone};
+ghost use Rattle.ol_tree.specs.At.{fileAt};
+ghost use Rattle.ol_tree.specs.Stands.{FileReads};
+
+// Where the section of names at `at` ends.
+pub fn names_end(file: &[u8], at: usize) -> usize
+    requires { ⌜ at < length (now file) ⌝ }
+    ensures { λ r. ⌜ r ≡ at + 1 + 2 * getD (now (file .entry)) at 0 ⌝ }
+{
+    at + 1 + 2 * byte(file, at)
+}
+
+// So many enums from `at` on: the first variant of each is stored, and where they end is answered.
+fn enum_rows(file: &[u8], rows: &mut [usize], count: usize, at: usize) -> usize
+    requires { ⌜ (count ≤ 16) × (length (now rows) ≡ 272) ⌝ }
+    ensures { λ r. ⌜ EnumsDone (now (file .entry)) (now (rows .entry)) (now (rows .exit)) count at r ⌝ }
+{
+    let mut next = at;
+    let mut e = 0;
+    while e < count {
+        if file.len() <= next {
+            return next;
+        }
+        put(rows, 256 + e, name(file, next + 1));
+        next = names_end(file, next);
+        e += 1;
+    }
+    next
+}
+
+// Where so many constants from `at` on end.
+fn constants_end(file: &[u8], count: usize, at: usize) -> usize
+    requires { ⌜ length (now file) ≤ 32768 ⌝ }
+    ensures { λ r. ⌜ ConstantsEnd (now (file .entry)) count at r ⌝ }
+{
+    let mut next = at;
+    let mut i = 0;
+    while i < count {
+        if file.len() <= next {
+            return next;
+        }
+        next = skip(file, 1, next + 2 + ty_size(file, next + 2));
+        i += 1;
+    }
+    next
+}
+
+// Where so many equations from `at` on end.
+fn equations_end(file: &[u8], count: usize, at: usize) -> usize
+    requires { ⌜ length (now file) ≤ 32768 ⌝ }
+    ensures { λ r. ⌜ EquationsEnd (now (file .entry)) count at r ⌝ }
+{
+    let mut next = at;
+    let mut i = 0;
+    while i < count {
+        if file.len() <= next {
+            return next;
+        }
+        next = skip(file, 1, names_end(file, next));
+        i += 1;
+    }
+    next
+}
+
+// Stores the type at `at` as that of variable `i`.
+fn put_type(file: &[u8], types: &mut [u8], i: usize, at: usize)
+    requires { ⌜ (i < 8192) × (at ≤ 40000) ⌝ }
+    ensures { λ r. ⌜ now (types .exit) ≡ typeSet (now (types .entry)) i (now (file .entry)) at ⌝ }
+{
+    let code = byte(file, at);
+    put_byte(types, i * 2, code as u8);
+    if code == 12 {
+        put_byte(types, i * 2 + 1, byte(file, at + 1) as u8);
+    } else {
+        put_byte(types, i * 2 + 1, 0);
+    }
+}
+
+// So many variables from `at` on: their types are stored from number `first` on, and where they
+// end is answered.
+fn variable_types(file: &[u8], types: &mut [u8], first: usize, count: usize, at: usize) -> usize
+    requires { ⌜ (first < 4096) × (count < 256) × (length (now file) ≤ 32768) ⌝ }
+    ensures { λ r. ⌜ VariablesDone (now (file .entry)) (now (types .entry)) (now (types .exit)) first count at r ⌝ }
+{
+    let mut next = at;
+    let mut i = 0;
+    while i < count {
+        if file.len() <= next {
+            return next;
+        }
+        put_type(file, types, first + i, next + 2);
+        next = next + 2 + ty_size(file, next + 2);
+        i += 1;
+    }
+    next
+}
+
+// Stores a row's eight entries from `i` on.
+fn put_row(
+    rows: &mut [usize],
+    i: usize,
+    kind: usize,
+    equations: usize,
+    inputs: usize,
+    outputs: usize,
+    variables: usize,
+    count: usize,
+    place: usize,
+)
+    requires { ⌜ i < 4096 ⌝ }
+    ensures { λ r. ⌜ now (rows .exit) ≡ putAll (now (rows .entry)) i (kind ∷ equations ∷ inputs ∷ outputs ∷ variables ∷ count ∷ 0 ∷ place ∷ []) ⌝ }
+{
+    put(rows, i, kind);
+    put(rows, i + 1, equations);
+    put(rows, i + 1 + 1, inputs);
+    put(rows, i + 1 + 1 + 1, outputs);
+    put(rows, i + 1 + 1 + 1 + 1, variables);
+    put(rows, i + 1 + 1 + 1 + 1 + 1, count);
+    put(rows, i + 1 + 1 + 1 + 1 + 1 + 1, 0);
+    put(rows, i + 1 + 1 + 1 + 1 + 1 + 1 + 1, place);
+}
+
+// The row of node `k`, which stands at `at`, and the types of its variables; where the node ends
+// is answered.
+fn node_row(file: &[u8], rows: &mut [usize], types: &mut [u8], k: usize, at: usize) -> usize
+    requires { ⌜ (k < 32) × (length (now file) ≤ 32768) × (length (now rows) ≡ 272) × (length (now types) ≡ 7168) ⌝ }
+    ensures { λ r. ⌜ NodeDone (now (file .entry)) (now (rows .entry)) (now (rows .exit)) (now (types .entry)) (now (types .exit)) k at r ⌝ }
+{
+    if file.len() <= at {
+        return at;
+    }
+    let inputs = byte(file, at + 1);
+    let o = variable_types(file, types, k * 112, inputs, at + 2);
+    let outputs = byte(file, o);
+    let l = variable_types(file, types, k * 112 + inputs, outputs, o + 1);
+    let locals = byte(file, l);
+    let q = variable_types(file, types, k * 112 + inputs + outputs, locals, l + 1);
+    let count = byte(file, q);
+    put_row(
+        rows,
+        k * 8,
+        byte(file, at),
+        q + 1,
+        inputs,
+        outputs,
+        inputs + outputs + locals,
+        count,
+        at,
+    );
+    equations_end(file, count, q + 1)
+}
+
+// So many nodes from `at` on.
+fn node_rows(file: &[u8], rows: &mut [usize], types: &mut [u8], count: usize, at: usize)
+    requires { ⌜ (count ≤ 32) × (length (now file) ≤ 32768) × (length (now rows) ≡ 272) × (length (now types) ≡ 7168) ⌝ }
+    ensures { λ r. ⌜ NodesDone (now (file .entry)) (now (rows .entry)) (now (rows .exit)) (now (types .exit)) count at ⌝ }
+{
+    let mut next = at;
+    let mut k = 0;
+    while k < count {
+        next = node_row(file, rows, types, k, next);
+        k += 1;
+    }
+}
+
+// Where the counts of a file's constants and of its nodes stand.
+pub struct Sections {
+    pub constants: usize,
+    pub nodes: usize,
+}
+
+// The rows, but for the sizes, and the types of a file that reads without fault.
+pub fn rows_of(file: &[u8], rows: &mut [usize], types: &mut [u8]) -> Sections
+    requires { ⌜ FileReads (now file) × (length (now rows) ≡ 272) × (length (now types) ≡ 7168) ⌝ }
+    ensures { λ r. ⌜ TablesDone (fileAt (now (file .entry))) (now (rows .exit)) (now (types .exit)) r ⌝ }
+{
+    let c = enum_rows(file, rows, byte(file, 1), 2);
+    let n = constants_end(file, byte(file, c), c + 1);
+    node_rows(file, rows, types, byte(file, n), n + 1);
+    Sections {
+        constants: c,
+        nodes: n,
+    }
+}

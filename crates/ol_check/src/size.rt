@@ -1,0 +1,78 @@
+// Fault 14, and the lengths of the records.
+use super::Found;
+use super::bytes::byte;
+use super::bytes::entry;
+use super::heads::head;
+ghost use mathlib.Core.Path.{_≡_};
+ghost use Prim.Native.Nat.{ℕ, _≤_, _<_, _+_, min};
+ghost use lib.ListN.{length};
+ghost use Rattle.ol_spec.specs.Syntax.{Exprs, count};
+ghost use Rattle.ol_spec.specs.Admission.{fault14};
+ghost use Rattle.ol_tree.specs.At.{fileAt};
+ghost use Rattle.ol_tree.specs.Heads.{Standing};
+ghost use Rattle.ol_check.specs.Founds.{placeOf};
+ghost use Rattle.ol_check.specs.NodesJudged.{RowsReady};
+ghost use Rattle.ol_check.specs.Sizes.{siteB, SitesSized};
+
+// Fault 14: the last node is no Operator.
+pub fn not_operator(file: &[u8], rows: &[usize], nodes: usize) -> Found
+    requires { ⌜ RowsReady (now file) (now rows) nodes × (1 ≤ nodes) ⌝ }
+    ensures { λ r. ⌜ placeOf r ≡ fault14 (fileAt (now (file .entry))) ⌝ }
+{
+    let k = nodes - 1;
+    if entry(rows, k * 8) == 1 {
+        Found::Nothing
+    } else {
+        Found::At(entry(rows, k * 8 + 7))
+    }
+}
+
+// A sum that stops at 65536.
+fn capped(a: usize, b: usize) -> usize
+    ensures { λ r. ⌜ r ≡ min (a + b) 65536 ⌝ }
+{
+    if a < 65536 {
+        if b < 65536 - a { a + b } else { 65536 }
+    } else {
+        65536
+    }
+}
+
+// The bytes of the record of the expression at `at`, if it is a call.
+fn site(file: &[u8], rows: &[usize], nodes: usize, at: usize) -> usize
+    requires { ⌜ at < length (now file) ⌝ }
+    ensures { λ r. ⌜ r ≡ siteB (now (file .entry)) (now (rows .entry)) nodes at ⌝ }
+{
+    if byte(file, at) == 11 {
+        let c = byte(file, at + 1);
+        if c < nodes { entry(rows, c * 8 + 6) } else { 0 }
+    } else {
+        0
+    }
+}
+
+// A sum, and where the walk stands.
+pub struct Sized {
+    pub size: usize,
+    pub next: usize,
+}
+
+// The records of the call sites in so many expressions from `at` on, added to `start`.
+fn sites(file: &[u8], rows: &[usize], nodes: usize, parts: usize, start: usize, at: usize) -> Sized
+    requires { ⌜ (parts < 256) × (length (now file) ≤ 32768) × (start ≤ 65536) ⌝ }
+    ensures { λ r. ⌜ ((enums : ℕ) (es : Exprs) → count es ≡ parts → Standing (now (file .entry)) enums at es → SitesSized (now (file .entry)) (now (rows .entry)) nodes es start at r) ⌝ }
+{
+    let mut next = at;
+    let mut left = parts;
+    let mut size = start;
+    while 0 < left {
+        if file.len() <= next {
+            return Sized { size, next };
+        }
+        let h = head(file, next);
+        size = capped(size, site(file, rows, nodes, next));
+        left = left - 1 + h.count;
+        next = h.start;
+    }
+    Sized { size, next }
+}
