@@ -1,6 +1,6 @@
 -- An expression that is read at a place, taken apart by its code byte: the bytes that stand there, its tree, its parts and where it ends.
 use Prim.Native.Nat.{ℕ, zero, suc, _+_, _-_, _*_, _<_, _≤_}
-use mathlib.Core.Bool.{Bool, true, false, _&&_}
+use mathlib.Core.Bool.{Bool, true, false, _&&_, cond}
 use mathlib.Core.List.{List, [], _∷_, _++_, append-nil, append-assoc}
 use mathlib.Core.Option.{Option, none, some}
 use mathlib.Core.Path.{_≡_, refl, sym, ap, subst, _∙_}
@@ -9,13 +9,15 @@ use native.Mathlib.Nat.{add-zero, add-assoc}
 use lib.ListN.{length, getElem?, getD, take, drop}
 use lib.Seq.{drop-cons}
 use lib.Dec.{T, eqb, leb, leb→le}
-use Rattle.ol_spec.specs.Syntax.{Ty, UnaryOp, BinOp, Expr, boolLit, intLit, floatLit, charLit, var, unary, binary, ifThenElse, pre, arrow, cast, call, tuple}
+use Rattle.ol_spec.specs.Syntax.{Ty, bool, int, float32, float64, char, enum, UnaryOp, BinOp, Expr, boolLit, intLit, floatLit, charLit, var, unary, binary, ifThenElse, pre, arrow, cast, call, tuple}
 use Rattle.ol_spec.specs.Syntax.{Exprs, nil, cons, count}
 use Rattle.ol_spec.specs.Numbers.{numberOf, signed}
 use Rattle.ol_spec.specs.Places.{exprSize, exprsSize, tySize, collect, collectAll}
 use Rattle.ol_spec.specs.Read.{Read, got, fault, Reader, thenRead, known, byte, orEnd, number, coded, countR, within?, manyExprs, exprR, exprBody, tyR}
 use Rattle.ol_spec.specs.Read.{ExprCode, boolCode, intCode, floatCode, charCode, varCode, unaryCode, binaryCode, ifCode, preCode, arrowCode, castCode}
 use Rattle.ol_spec.specs.Read.{callCode, tupleCode, bools, unaryOps, binOps, exprCodes, tyCodes, tyBody, TyCode, boolT, float32T, float64T, charT, enumT, intT}
+use Rattle.ol_spec.specs.Lists.{maybe}
+use Rattle.ol_spec.specs.Limits.{base}
 use Rattle.ol_spec.specs.Eval.{callees, calleesAll}
 use Rattle.ol_spec.specs.declared.Limits.{Limits}
 use Rattle.ol_spec.proofs.Tests.{T-and}
@@ -29,6 +31,40 @@ use Rattle.ol_tree.specs.Parts.{partsOf, headOf, ownSites}
 pub each-append : {A : Type 0} (P : A → Type 0) (xs ys : List A) → Each P (xs ++ ys) → Each P xs × Each P ys
 each-append P [] ys h = (tt, h)
 each-append P (x ∷ xs) ys h = let t = each-append P xs ys (h .1) in ((h .0, t .0), t .1)
+
+-- ---- the last of 13 codes
+
+above : (b k : ℕ) → k ≤ b → ¬ (b ≡ k) → suc k ≤ b
+above b k h n = omega arith
+
+pub last-code : (b : ℕ) → b < 13 → ¬ (b ≡ 0) → ¬ (b ≡ 1) → ¬ (b ≡ 2) → ¬ (b ≡ 3) → ¬ (b ≡ 4) → ¬ (b ≡ 5) → ¬ (b ≡ 6) → ¬ (b ≡ 7) → ¬ (b ≡ 8) → ¬ (b ≡ 9) → ¬ (b ≡ 10) → ¬ (b ≡ 11) → b ≡ 12
+last-code b h n0 n1 n2 n3 n4 n5 n6 n7 n8 n9 n10 n11 =
+    let a1 = above b 0 (from-zero b) n0 in
+    let a2 = above b 1 a1 n1 in
+    let a3 = above b 2 a2 n2 in
+    let a4 = above b 3 a3 n3 in
+    let a5 = above b 4 a4 n4 in
+    let a6 = above b 5 a5 n5 in
+    let a7 = above b 6 a6 n6 in
+    let a8 = above b 7 a7 n7 in
+    let a9 = above b 8 a8 n8 in
+    let a10 = above b 9 a9 n9 in
+    let a11 = above b 10 a10 n10 in
+    squeezed b h (above b 11 a11 n11)
+  where
+    from-zero : (b : ℕ) → 0 ≤ b
+    from-zero b = omega arith
+
+    squeezed : (b : ℕ) → b < 13 → 12 ≤ b → b ≡ 12
+    squeezed b h l = omega arith
+
+pub type-some : (t : Ty) → 1 ≤ tySize t
+type-some bool = omega arith
+type-some (int c) = omega arith
+type-some float32 = omega arith
+type-some float64 = omega arith
+type-some char = omega arith
+type-some (enum e) = omega arith
 
 -- ---- what is collected from an expression is its own, and its parts'
 
@@ -241,6 +277,11 @@ module _ (s : List ℕ) where
         body = rw d (subst (λ (y : ExprCode). exprBody s (limitsAt s) (enumsAt s) (R n) y (at + 1) ≡ got (exprAt s (suc n) at) (endAt s (suc n) at)) c (rw (p .ends) at (t .rest)));
       }
 
+  pub reads-in : (level at : ℕ) → Reads s level at → at < length s
+  unfolding exprR
+  reads-in zero at h = absurd (omega (arith, reads-deep zero at h))
+  reads-in (suc n) at h = let t = steps (coded s exprCodes at) _ _ _ (h .is) in code-is exprCodes at (t .value) (t .at) (t .first) .within
+
   -- some code stands there
   pub some-code : (level at : ℕ) → Reads s level at → getD s at 0 < 13
   unfolding exprR
@@ -251,6 +292,7 @@ module _ (s : List ℕ) where
     where
       none-some : {x : ExprCode} → none ≡ some x → ⊥
       none-some e = let z : _≡_ {A = ℕ} 0 1 = cc in omega arith
+
       below : (b : ℕ) {x : ExprCode} → getElem? exprCodes b ≡ some x → b < 13
       below b e = go b 13 exprCodes refl e
         where
@@ -432,48 +474,57 @@ module _ (s : List ℕ) where
   codeNumber charT = 11
   codeNumber enumT = 12
 
-  type-code : (b : ℕ) (c : TyCode) → getElem? tyCodes b ≡ some c → codeNumber c ≡ b
-  unfolding codeNumber
-  type-code zero c h = ap codeNumber (sym (same-code h))
-  type-code (suc zero) c h = ap codeNumber (sym (same-code h))
-  type-code (suc (suc zero)) c h = ap codeNumber (sym (same-code h))
-  type-code (suc (suc (suc zero))) c h = ap codeNumber (sym (same-code h))
-  type-code (suc (suc (suc (suc zero)))) c h = ap codeNumber (sym (same-code h))
-  type-code (suc (suc (suc (suc (suc zero))))) c h = ap codeNumber (sym (same-code h))
-  type-code (suc (suc (suc (suc (suc (suc zero)))))) c h = ap codeNumber (sym (same-code h))
-  type-code (suc (suc (suc (suc (suc (suc (suc zero))))))) c h = ap codeNumber (sym (same-code h))
-  type-code (suc (suc (suc (suc (suc (suc (suc (suc zero)))))))) c h = ap codeNumber (sym (same-code h))
-  type-code (suc (suc (suc (suc (suc (suc (suc (suc (suc zero))))))))) c h = ap codeNumber (sym (same-code h))
-  type-code (suc (suc (suc (suc (suc (suc (suc (suc (suc (suc zero)))))))))) c h = ap codeNumber (sym (same-code h))
-  type-code (suc (suc (suc (suc (suc (suc (suc (suc (suc (suc (suc zero))))))))))) c h = ap codeNumber (sym (same-code h))
-  type-code (suc (suc (suc (suc (suc (suc (suc (suc (suc (suc (suc (suc zero)))))))))))) c h = ap codeNumber (sym (same-code h))
+  codeSize : TyCode → ℕ
+  codeSize boolT = 1
+  codeSize (intT c) = 1
+  codeSize float32T = 1
+  codeSize float64T = 1
+  codeSize charT = 1
+  codeSize enumT = 2
+
+  type-code : (b : ℕ) (c : TyCode) → getElem? tyCodes b ≡ some c → (codeNumber c ≡ b) × (codeSize c ≡ cond (eqb b 12) 2 1)
+  unfolding codeNumber codeSize
+  type-code zero c h = (ap codeNumber (sym (same-code h)), ap codeSize (sym (same-code h)))
+  type-code (suc zero) c h = (ap codeNumber (sym (same-code h)), ap codeSize (sym (same-code h)))
+  type-code (suc (suc zero)) c h = (ap codeNumber (sym (same-code h)), ap codeSize (sym (same-code h)))
+  type-code (suc (suc (suc zero))) c h = (ap codeNumber (sym (same-code h)), ap codeSize (sym (same-code h)))
+  type-code (suc (suc (suc (suc zero)))) c h = (ap codeNumber (sym (same-code h)), ap codeSize (sym (same-code h)))
+  type-code (suc (suc (suc (suc (suc zero))))) c h = (ap codeNumber (sym (same-code h)), ap codeSize (sym (same-code h)))
+  type-code (suc (suc (suc (suc (suc (suc zero)))))) c h = (ap codeNumber (sym (same-code h)), ap codeSize (sym (same-code h)))
+  type-code (suc (suc (suc (suc (suc (suc (suc zero))))))) c h = (ap codeNumber (sym (same-code h)), ap codeSize (sym (same-code h)))
+  type-code (suc (suc (suc (suc (suc (suc (suc (suc zero)))))))) c h = (ap codeNumber (sym (same-code h)), ap codeSize (sym (same-code h)))
+  type-code (suc (suc (suc (suc (suc (suc (suc (suc (suc zero))))))))) c h = (ap codeNumber (sym (same-code h)), ap codeSize (sym (same-code h)))
+  type-code (suc (suc (suc (suc (suc (suc (suc (suc (suc (suc zero)))))))))) c h = (ap codeNumber (sym (same-code h)), ap codeSize (sym (same-code h)))
+  type-code (suc (suc (suc (suc (suc (suc (suc (suc (suc (suc (suc zero))))))))))) c h = (ap codeNumber (sym (same-code h)), ap codeSize (sym (same-code h)))
+  type-code (suc (suc (suc (suc (suc (suc (suc (suc (suc (suc (suc (suc zero)))))))))))) c h = (ap codeNumber (sym (same-code h)), ap codeSize (sym (same-code h)))
   type-code (suc (suc (suc (suc (suc (suc (suc (suc (suc (suc (suc (suc (suc zero))))))))))))) c h = let z : _≡_ {A = ℕ} 0 1 = cc in absurd (omega arith)
   type-code (suc (suc (suc (suc (suc (suc (suc (suc (suc (suc (suc (suc (suc (suc b)))))))))))))) c h = let z : _≡_ {A = ℕ} 0 1 = cc in absurd (omega arith)
 
   pub record TypeIs (at : ℕ) (t : Ty) (n : ℕ) : Type 0 where
     pub code : tyCode t ≡ getD s at 0
+    pub size : tySize t ≡ cond (eqb (getD s at 0) 12) 2 1
     pub inside : at + tySize t ≤ length s
     pub ends : n ≡ at + tySize t
 
-  type-body : (c : TyCode) (at m : ℕ) (t : Ty) (n : ℕ) → at < length s → m ≡ at + 1 → codeNumber c ≡ getD s at 0 → tyBody s (limitsAt s) (enumsAt s) c m ≡ got t n → TypeIs at t n
-  unfolding codeNumber
-  type-body boolT at m t n w e c h = rw (← same-item h) (record { code = c; inside = omega arith; ends = sym (same-end h) ∙ e })
-  type-body float32T at m t n w e c h = rw (← same-item h) (record { code = c; inside = omega arith; ends = sym (same-end h) ∙ e })
-  type-body float64T at m t n w e c h = rw (← same-item h) (record { code = c; inside = omega arith; ends = sym (same-end h) ∙ e })
-  type-body charT at m t n w e c h = rw (← same-item h) (record { code = c; inside = omega arith; ends = sym (same-end h) ∙ e })
-  type-body enumT at m t n w e c h =
+  type-body : (c : TyCode) (at m : ℕ) (t : Ty) (n : ℕ) → at < length s → m ≡ at + 1 → codeNumber c ≡ getD s at 0 → codeSize c ≡ cond (eqb (getD s at 0) 12) 2 1 → tyBody s (limitsAt s) (enumsAt s) c m ≡ got t n → TypeIs at t n
+  unfolding codeNumber codeSize
+  type-body boolT at m t n w e c z h = rw (← same-item h) (record { code = c; size = z; inside = omega arith; ends = sym (same-end h) ∙ e })
+  type-body float32T at m t n w e c z h = rw (← same-item h) (record { code = c; size = z; inside = omega arith; ends = sym (same-end h) ∙ e })
+  type-body float64T at m t n w e c z h = rw (← same-item h) (record { code = c; size = z; inside = omega arith; ends = sym (same-end h) ∙ e })
+  type-body charT at m t n w e c z h = rw (← same-item h) (record { code = c; size = z; inside = omega arith; ends = sym (same-end h) ∙ e })
+  type-body enumT at m t n w e c z h =
       let u = steps (coded s _ m) _ t n h in
       let p = code-is _ m (u .value) (u .at) (u .first) in
-      rw (← same-item (u .rest)) (record { code = c; inside = omega (arith, p .within); ends = sym (same-end (u .rest)) ∙ omega (arith, p .ends) })
-  type-body (intT k) at m t n w e c h = rw (← same-item h) (record { code = c; inside = omega arith; ends = sym (same-end h) ∙ e })
+      rw (← same-item (u .rest)) (record { code = c; size = z; inside = omega (arith, p .within); ends = sym (same-end (u .rest)) ∙ omega (arith, p .ends) })
+  type-body (intT k) at m t n w e c z h = rw (← same-item h) (record { code = c; size = z; inside = omega arith; ends = sym (same-end h) ∙ e })
 
   pub type-is : (at : ℕ) (t : Ty) (n : ℕ) → tyR s (limitsAt s) (enumsAt s) at ≡ got t n → TypeIs at t n
   type-is at t n h =
       let u = steps (coded s tyCodes at) _ t n h in
       let p = code-is tyCodes at (u .value) (u .at) (u .first) in
-      type-body (u .value) at (u .at) t n (p .within) (p .ends) (type-code (getD s at 0) (u .value) (p .is)) (u .rest)
+      type-body (u .value) at (u .at) t n (p .within) (p .ends) (type-code (getD s at 0) (u .value) (p .is) .0) (type-code (getD s at 0) (u .value) (p .is) .1) (u .rest)
 
-  pub cast-form : (level at : ℕ) → Reads s level at → getD s at 0 ≡ 10 → (t : Ty) × Formed level at (cast t (first (level - 1) (at + (1 + tySize t)))) 1 × (tyCode t ≡ getD s (at + 1) 0)
+  pub cast-form : (level at : ℕ) → Reads s level at → getD s at 0 ≡ 10 → (t : Ty) × Formed level at (cast t (first (level - 1) (at + (1 + tySize t)))) 1 × (tyCode t ≡ getD s (at + 1) 0) × (tySize t ≡ cond (eqb (getD s (at + 1) 0) 12) 2 1)
   cast-form level at h c =
       let b = body-at level at castCode h (ap (getElem? exprCodes) c) in
       let t = steps (tyR s (limitsAt s) (enumsAt s) (at + 1)) _ _ _ (b .body) in
@@ -481,11 +532,19 @@ module _ (s : List ℕ) where
       let m = at + (1 + tySize (t .value)) in
       let w = part-at (level - 1) (t .at) m _ _ _ (omega (arith, p .ends)) (t .rest) in
       let o = one-all (level - 1) m (w .read) in
-      (t .value, record { tree = sym (same-item (w .rest)); parts = sym (o .0); read = one-read (level - 1) m (w .read); ends = sym (same-end (w .rest)) ∙ sym (o .1); inside = omega (arith, p .inside); deep = b .deep }, p .code)
+      (t .value, record { tree = sym (same-item (w .rest)); parts = sym (o .0); read = one-read (level - 1) m (w .read); ends = sym (same-end (w .rest)) ∙ sym (o .1); inside = omega (arith, p .inside); deep = b .deep }, p .code, p .size)
 
   -- 11 and 12: a callee, and so many parts
 
-  pub call-form : (level at : ℕ) → Reads s level at → getD s at 0 ≡ 11 → Formed level at (call (getD s (at + 1) 0) (exprsAt s (level - 1) (getD s (at + 2) 0) (at + 3))) (getD s (at + 2) 0) × (getD s (at + 2) 0 ≤ limitsAt s .arguments)
+  -- every format byte has the same limits, or none
+  pub limits-base : limitsAt s ≡ base
+  limits-base = go (eqb (getD s 0 0) 1)
+    where
+      go : (b : Bool) → maybe base (λ l. l) (cond b (some base) none) ≡ base
+      go true = refl
+      go false = refl
+
+  pub call-form : (level at : ℕ) → Reads s level at → getD s at 0 ≡ 11 → Formed level at (call (getD s (at + 1) 0) (exprsAt s (level - 1) (getD s (at + 2) 0) (at + 3))) (getD s (at + 2) 0) × (getD s (at + 2) 0 ≤ 32)
   call-form level at h c =
       let b = body-at level at callCode h (ap (getElem? exprCodes) c) in
       let t = steps (byte s (at + 1)) _ _ _ (b .body) in
@@ -494,30 +553,34 @@ module _ (s : List ℕ) where
       let u = steps (countR s 0 (limitsAt s .arguments) (t .at)) _ _ _ (t .rest) in
       let q = subst (λ (k : ℕ). CountIs 0 (limitsAt s .arguments) k (u .value) (u .at)) a (count-is 0 (limitsAt s .arguments) (t .at) (u .value) (u .at) (u .first)) in
       let w = many-at (level - 1) (u .value) (u .at) (at + 3) _ _ _ (omega (arith, q .ends)) (u .rest) in
-      let r = subst (λ (k : ℕ). ReadsAll s (level - 1) k (at + 3)) (sym (q .is)) (w .read) in
-      (record {
-        tree = sym (same-item (w .rest)) ∙ (λ i. call (sym (p .is) i) (exprsAt s (level - 1) (sym (q .is) i) (at + 3)));
-        parts = refl;
-        read = r;
-        ends = sym (same-end (w .rest)) ∙ ap (λ (k : ℕ). endsAt s (level - 1) k (at + 3)) (sym (q .is));
-        inside = omega (arith, q .within);
-        deep = b .deep;
-      }, omega (arith, q .is, q .most))
+      let r = subst (λ (k : ℕ). ReadsAll s (level - 1) k (at + 3)) (sym (q .is)) (w .read) in (
+        record {
+          tree = sym (same-item (w .rest)) ∙ (λ i. call (sym (p .is) i) (exprsAt s (level - 1) (sym (q .is) i) (at + 3)));
+          parts = refl;
+          read = r;
+          ends = sym (same-end (w .rest)) ∙ ap (λ (k : ℕ). endsAt s (level - 1) k (at + 3)) (sym (q .is));
+          inside = omega (arith, q .within);
+          deep = b .deep;
+        },
+        omega (arith, q .is, q .most, ap (λ (l : Limits). l .arguments) limits-base),
+      )
 
-  pub tuple-form : (level at : ℕ) → Reads s level at → getD s at 0 ≡ 12 → Formed level at (tuple (exprsAt s (level - 1) (getD s (at + 1) 0) (at + 2))) (getD s (at + 1) 0) × (getD s (at + 1) 0 ≤ limitsAt s .items)
+  pub tuple-form : (level at : ℕ) → Reads s level at → getD s at 0 ≡ 12 → Formed level at (tuple (exprsAt s (level - 1) (getD s (at + 1) 0) (at + 2))) (getD s (at + 1) 0) × (getD s (at + 1) 0 ≤ 16)
   tuple-form level at h c =
       let b = body-at level at tupleCode h (ap (getElem? exprCodes) c) in
       let u = steps (countR s 2 (limitsAt s .items) (at + 1)) _ _ _ (b .body) in
       let q = count-is 2 (limitsAt s .items) (at + 1) (u .value) (u .at) (u .first) in
-      let w = many-at (level - 1) (u .value) (u .at) (at + 2) _ _ _ (omega (arith, q .ends)) (u .rest) in
-      (record {
-        tree = sym (same-item (w .rest)) ∙ (λ i. tuple (exprsAt s (level - 1) (sym (q .is) i) (at + 2)));
-        parts = refl;
-        read = subst (λ (k : ℕ). ReadsAll s (level - 1) k (at + 2)) (sym (q .is)) (w .read);
-        ends = sym (same-end (w .rest)) ∙ ap (λ (k : ℕ). endsAt s (level - 1) k (at + 2)) (sym (q .is));
-        inside = omega (arith, q .within);
-        deep = b .deep;
-      }, omega (arith, q .is, q .most))
+      let w = many-at (level - 1) (u .value) (u .at) (at + 2) _ _ _ (omega (arith, q .ends)) (u .rest) in (
+        record {
+          tree = sym (same-item (w .rest)) ∙ (λ i. tuple (exprsAt s (level - 1) (sym (q .is) i) (at + 2)));
+          parts = refl;
+          read = subst (λ (k : ℕ). ReadsAll s (level - 1) k (at + 2)) (sym (q .is)) (w .read);
+          ends = sym (same-end (w .rest)) ∙ ap (λ (k : ℕ). endsAt s (level - 1) k (at + 2)) (sym (q .is));
+          inside = omega (arith, q .within);
+          deep = b .deep;
+        },
+        omega (arith, q .is, q .most, ap (λ (l : Limits). l .items) limits-base),
+      )
 
   -- ---- what is collected from several expressions is the first's, and the others' from where it ends
 

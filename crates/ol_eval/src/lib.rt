@@ -1,0 +1,3 @@
+// Expressions, equations and node instances, evaluated where their bytes stand. Document 01, "The state".
+pub mod skip;
+pub mod tables;
