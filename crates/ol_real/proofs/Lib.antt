@@ -1,0 +1,10 @@
+-- The proofs that the reals are those of IEEE 754. `Reals` has the theorem; the others are what it rests on.
+pub mod Rounding
+pub mod Values
+pub mod Operations
+pub mod Encodings
+pub mod Reals
+pub mod Conversions
+pub mod Narrowing
+pub mod Singles
+pub mod Examples

@@ -1,0 +1,4 @@
+pub mod Ieee754
+pub mod Encoding
+pub mod Holds
+pub mod Kept

@@ -1,0 +1,172 @@
+-- Types by their codes: the cases of a code, and what fitting, casting and the tests of inputs make of each.
+use mathlib.Core.Path.{_≡_, refl, sym, ap, subst, _∙_}
+use mathlib.Core.Bool.{Bool, true, false, _&&_}
+use mathlib.Core.List.{List, []}
+use Prim.Native.Nat.{ℕ, zero, suc, _≤_, _<_}
+use native.Mathlib.Omega.{arith}
+use borrow.Author.Tests.{le-leb, lt-leb, ne-eqb}
+use lib.Dec.{leb, eqb}
+use lib.IntN.{ℤ}
+use lib.Ieee.{Float}
+use lib.ListN.{getD}
+use Rattle.ol_spec.specs.Syntax.{Ty, bool, int, float32, float64, char, enum}
+use Rattle.ol_spec.specs.Read.{TyCode, boolT, float32T, float64T, charT, enumT, intT, tyCodes}
+use Rattle.ol_spec.specs.Types.{fit, castTo, castReal, inType, inRange, intTy}
+use Rattle.ol_spec.specs.Cell.{isVariant}
+use Rattle.ol_spec.specs.declared.Value.{Value}
+use Rattle.ol_spec.specs.declared.Value.the-variants as Val
+use Rattle.ol_spec.specs.declared.Outcome.the-variants as Out
+use Rattle.ol_value.specs.Codes.{tyFrom, tyOf, isNumber, inKind}
+use Rattle.ol_value.proofs.Backs.{no-true}
+
+-- the cases of a code
+by-code : (P : ℕ → TyCode → Type 0) → P 0 boolT → ((c : ℕ) → 1 ≤ c → c ≤ 8 → P c (intT c)) → P 9 float32T → P 10 float64T → P 11 charT → ((c : ℕ) → 12 ≤ c → P c enumT) → (code : ℕ) → P code (getD tyCodes code enumT)
+by-code P b i f d c e zero = b
+by-code P b i f d c e (suc zero) = i 1 (omega arith) (omega arith)
+by-code P b i f d c e (suc (suc zero)) = i 2 (omega arith) (omega arith)
+by-code P b i f d c e (suc (suc (suc zero))) = i 3 (omega arith) (omega arith)
+by-code P b i f d c e (suc (suc (suc (suc zero)))) = i 4 (omega arith) (omega arith)
+by-code P b i f d c e (suc (suc (suc (suc (suc zero))))) = i 5 (omega arith) (omega arith)
+by-code P b i f d c e (suc (suc (suc (suc (suc (suc zero)))))) = i 6 (omega arith) (omega arith)
+by-code P b i f d c e (suc (suc (suc (suc (suc (suc (suc zero))))))) = i 7 (omega arith) (omega arith)
+by-code P b i f d c e (suc (suc (suc (suc (suc (suc (suc (suc zero)))))))) = i 8 (omega arith) (omega arith)
+by-code P b i f d c e (suc (suc (suc (suc (suc (suc (suc (suc (suc zero))))))))) = f
+by-code P b i f d c e (suc (suc (suc (suc (suc (suc (suc (suc (suc (suc zero)))))))))) = d
+by-code P b i f d c e (suc (suc (suc (suc (suc (suc (suc (suc (suc (suc (suc zero))))))))))) = c
+by-code P b i f d c e (suc (suc (suc (suc (suc (suc (suc (suc (suc (suc (suc (suc zero)))))))))))) = e 12 (omega arith)
+by-code P b i f d c e (suc (suc (suc (suc (suc (suc (suc (suc (suc (suc (suc (suc (suc n))))))))))))) = e (suc (suc (suc (suc (suc (suc (suc (suc (suc (suc (suc (suc (suc n))))))))))))) (omega arith)
+
+-- an integer type's code
+pub int-code : (code e : ℕ) → 1 ≤ code → code < 9 → tyOf code e ≡ int code
+int-code code e =
+    by-code (λ c t. 1 ≤ c → c < 9 → tyFrom e t ≡ int c)
+    (λ l h. absurd (omega arith)) (λ c p q l h. refl) (λ l h. absurd (omega arith)) (λ l h. absurd (omega arith)) (λ l h. absurd (omega arith)) (λ c p l h. absurd (omega arith))
+    code
+
+-- an enum's code
+pub enum-code : (code e : ℕ) → 9 ≤ code → (code ≡ 9 → ⊥) → (code ≡ 10 → ⊥) → (code ≡ 11 → ⊥) → tyOf code e ≡ enum e
+enum-code code e =
+    by-code (λ c t. 9 ≤ c → (c ≡ 9 → ⊥) → (c ≡ 10 → ⊥) → (c ≡ 11 → ⊥) → tyFrom e t ≡ enum e)
+    (λ l f d k. absurd (omega arith)) (λ c p q l f d k. absurd (omega arith)) (λ l f d k. absurd (f refl)) (λ l f d k. absurd (d refl)) (λ l f d k. absurd (k refl)) (λ c p l f d k. refl)
+    code
+
+-- the types that fitting leaves alone and casting refuses
+abbrev Other : Ty → Type 0
+Other bool = Unit {0}
+Other (int c) = ⊥
+Other float32 = ⊥
+Other float64 = ⊥
+Other char = Unit {0}
+Other (enum e) = Unit {0}
+
+pub low-code : (code e : ℕ) → code < 1 → Other (tyOf code e)
+low-code zero e h = tt
+low-code (suc code) e h = absurd (omega (arith, h))
+
+pub high-code : (code e : ℕ) → 9 ≤ code → (code ≡ 9 → ⊥) → (code ≡ 10 → ⊥) → Other (tyOf code e)
+high-code code e =
+    by-code (λ c t. 9 ≤ c → (c ≡ 9 → ⊥) → (c ≡ 10 → ⊥) → Other (tyFrom e t))
+    (λ l f d. tt) (λ c p q l f d. omega arith) (λ l f d. f refl) (λ l f d. d refl) (λ l f d. tt) (λ c p l f d. tt)
+    code
+
+pub fit-other : (t : Ty) (v : Value) → Other t → v ≡ fit t v
+unfolding fit
+fit-other bool v o = refl
+fit-other (int c) v o = absurd o
+fit-other float32 v o = absurd o
+fit-other float64 v o = absurd o
+fit-other char v o = refl
+fit-other (enum e) v o = refl
+
+pub cast-other : (t : Ty) (v : Value) → Other t → Out.Failure ≡ castTo t v
+unfolding castTo
+cast-other bool v o = refl
+cast-other (int c) v o = absurd o
+cast-other float32 v o = absurd o
+cast-other float64 v o = absurd o
+cast-other char v o = refl
+cast-other (enum e) v o = refl
+
+-- a cast to a real: of a number, and of another value
+pub cast-number : (f : Value → Value) (v : Value) → isNumber v ≡ true → Out.Value (f v) ≡ castReal f v
+cast-number f (Val.Bool b) t = no-true t
+cast-number f (Val.Int i) t = refl
+cast-number f (Val.Float x) t = refl
+cast-number f (Val.Float32 x) t = refl
+cast-number f (Val.Enum v) t = no-true t
+
+pub cast-not : (f : Value → Value) (v : Value) → isNumber v ≡ false → Out.Failure ≡ castReal f v
+cast-not f (Val.Bool b) t = refl
+cast-not f (Val.Int i) t = no-true (sym t)
+cast-not f (Val.Float x) t = no-true (sym t)
+cast-not f (Val.Float32 x) t = no-true (sym t)
+cast-not f (Val.Enum v) t = refl
+
+-- ---- the tests of inputs, by the kind of the value
+
+module _ (e : ℕ) where
+  pub bool-in : (b : Bool) (code : ℕ) → eqb code 0 ≡ inKind (tyOf code e) (Val.Bool b)
+  bool-in b =
+      by-code (λ c t. eqb c 0 ≡ inKind (tyFrom e t) (Val.Bool b))
+      refl (λ c p q. ne-eqb c 0 (λ z. omega arith)) refl refl refl (λ c p. ne-eqb c 0 (λ z. omega arith))
+
+  pub float-in : (x : Float) (code : ℕ) → eqb code 10 ≡ inKind (tyOf code e) (Val.Float x)
+  float-in x =
+      by-code (λ c t. eqb c 10 ≡ inKind (tyFrom e t) (Val.Float x))
+      refl (λ c p q. ne-eqb c 10 (λ z. omega arith)) refl refl refl (λ c p. ne-eqb c 10 (λ z. omega arith))
+
+  pub single-in : (x : Float) (code : ℕ) → eqb code 9 ≡ inKind (tyOf code e) (Val.Float32 x)
+  single-in x =
+      by-code (λ c t. eqb c 9 ≡ inKind (tyFrom e t) (Val.Float32 x))
+      refl (λ c p q. ne-eqb c 9 (λ z. omega arith)) refl refl refl (λ c p. ne-eqb c 9 (λ z. omega arith))
+
+  pub enum-in : (v code : ℕ) → leb 12 code ≡ inKind (tyOf code e) (Val.Enum v)
+  enum-in v =
+      by-code (λ c t. leb 12 c ≡ inKind (tyFrom e t) (Val.Enum v))
+      refl (λ c p q. lt-leb 12 c (omega arith)) refl refl refl (λ c p. le-leb 12 c p)
+
+  -- no integer is in another type's range
+  pub low-int : (code : ℕ) → code < 1 → (i : ℤ) → false ≡ inKind (tyOf code e) (Val.Int i)
+  low-int zero h i = refl
+  low-int (suc code) h i = absurd (omega (arith, h))
+
+  pub high-int : (code : ℕ) → 9 ≤ code → (code ≡ 11 → ⊥) → (i : ℤ) → false ≡ inKind (tyOf code e) (Val.Int i)
+  high-int =
+      by-code (λ c t. 9 ≤ c → (c ≡ 11 → ⊥) → (i : ℤ) → false ≡ inKind (tyFrom e t) (Val.Int i))
+      (λ l k i. absurd (omega arith)) (λ c p q l k i. absurd (omega arith)) (λ l k i. refl) (λ l k i. refl) (λ l k i. absurd (k refl)) (λ c p l k i. refl)
+
+-- what is left of `inType` where `in_type` has answered: an enum's name is one of its variants
+pub in-type-is : (enums : List (List ℕ)) (code e : ℕ) (v : Value) → inType enums (tyOf code e) v ≡ inKind (tyOf code e) v && isVariant (getD enums e []) v
+in-type-is enums code e v = go (getD tyCodes code enumT) v
+  where
+    and-true : (b : Bool) → b ≡ b && true
+    and-true true = refl
+    and-true false = refl
+
+    go : (t : TyCode) (v : Value) → inType enums (tyFrom e t) v ≡ inKind (tyFrom e t) v && isVariant (getD enums e []) v
+    go boolT (Val.Bool b) = refl
+    go boolT (Val.Int i) = refl
+    go boolT (Val.Float x) = refl
+    go boolT (Val.Float32 x) = refl
+    go boolT (Val.Enum w) = refl
+    go float32T (Val.Bool b) = refl
+    go float32T (Val.Int i) = refl
+    go float32T (Val.Float x) = refl
+    go float32T (Val.Float32 x) = refl
+    go float32T (Val.Enum w) = refl
+    go float64T (Val.Bool b) = refl
+    go float64T (Val.Int i) = refl
+    go float64T (Val.Float x) = refl
+    go float64T (Val.Float32 x) = refl
+    go float64T (Val.Enum w) = refl
+    go charT (Val.Bool b) = refl
+    go charT (Val.Int i) = and-true _
+    go charT (Val.Float x) = refl
+    go charT (Val.Float32 x) = refl
+    go charT (Val.Enum w) = refl
+    go enumT v = refl
+    go (intT c) (Val.Bool b) = refl
+    go (intT c) (Val.Int i) = and-true _
+    go (intT c) (Val.Float x) = refl
+    go (intT c) (Val.Float32 x) = refl
+    go (intT c) (Val.Enum w) = refl

@@ -1,0 +1,49 @@
+use borrow.Author.Needs.{sfits-of}
+use Rattle.ol_spec.specs.Numbers.{residue, signed}
+use mathlib.Core.Path.{_≡_, sym, subst, _∙_, ap}
+use native.Mathlib.Omega.{arith}
+use lib.IntN.{pos}
+use mir.Facts.{toZ-ofZ, toZ-pos}
+use mir.Syntax.{w64}
+use Rattle.ol_spec.specs.Types.{narrow, IntTy}
+use Rattle.ol_value.proofs.Widths.{residue-lt, natural-fits, whole-is, signed-ty, unsigned-ty, narrow-bits}
+use Rattle.ol_value.proofs.narrowing.narrow_to.Statement.{statement}
+use Rattle.ol_value.proofs.narrowing.narrow_to.Tie as tie
+
+returns : tie.Need-returns
+returns c = let s = c .before in rw (whole-is (s .args .t) (c .if1 .taken)) (toZ-ofZ (s .fits .i))
+
+residue-of-requires : tie.Need-residue-of-requires
+residue-of-requires c κs = let s = c .before in narrow-bits (s .args .t) (c .if1 .left) (s .pre) .1
+
+signed-of-requires : tie.Need-signed-of-requires
+signed-of-requires c κs =
+    let s = c .before .before .before in
+    (narrow-bits (s .args .t) (c .before .before .if1 .left) (s .pre), rw (c .before .residue-of .ensures, toZ-ofZ (s .fits .i)) (residue-lt (s .args .t .bits) (s .args .i)))
+
+cast-result : tie.Need-cast-result
+cast-result c =
+    let s = c .before .before .before in
+    rw (c .before .residue-of .ensures, toZ-ofZ (s .fits .i))
+    (natural-fits (s .args .t .bits) _ (narrow-bits (s .args .t) (c .before .before .if1 .left) (s .pre) .1) (residue-lt (s .args .t .bits) (s .args .i)))
+
+returns-2 : tie.Need-returns-2
+returns-2 c =
+    let s = c .before .before .before .before in
+    rw (signed-ty (s .args .t) (c .before .before .before .if1 .left) (c .before .if2 .taken))
+    (toZ-ofZ (sfits-of (c .signed-of .ok))
+    ∙ c .signed-of .ensures
+    ∙ ap (signed (s .args .t .bits)) (c .before .before .residue-of .ensures ∙ ap (residue (s .args .t .bits)) (toZ-ofZ (s .fits .i))))
+
+returns-3 : tie.Need-returns-3
+returns-3 c =
+    let s = c .before .before .before in
+    let b = s .args .t .bits in
+    let e = c .before .residue-of .ensures ∙ ap (residue b) (toZ-ofZ (s .fits .i)) in
+    let h = natural-fits b (residue b (s .args .i)) (narrow-bits (s .args .t) (c .before .before .if1 .left) (s .pre) .1) (residue-lt b (s .args .i)) in
+    rw (unsigned-ty (s .args .t) (c .before .before .if1 .left) (c .if2 .left), e) (toZ-pos w64 (h .sfits))
+
+pub narrow-to-spec : {M : Type 1} → statement M
+narrow-to-spec =
+    tie.close
+    (tie.spec returns residue-of-requires signed-of-requires cast-result returns-2 returns-3)

@@ -1,0 +1,180 @@
+// Types: their defaults and kinds, and what storing and casting make of a value. A type is its code;
+// an enum's number is looked up by the caller.
+ghost use mathlib.Core.Path.{_≡_};
+ghost use mathlib.Core.List.{List, []};
+ghost use Prim.Native.Nat.{ℕ};
+ghost use lib.ListN.{getD};
+ghost use Rattle.ol_spec.specs.Types.{intTy, default, kind, fitInt, fitSingle, fitDouble, fit};
+ghost use Rattle.ol_spec.specs.Types.{castInt, castReal, castTo};
+ghost use Rattle.ol_value.specs.Codes.{tyOf, isNumber, inKind};
+use crate::narrowing::in_range;
+use crate::narrowing::narrow_int;
+use ol_real::f32_to_f64;
+use ol_real::f32_to_i64;
+use ol_real::f64_to_f32;
+use ol_real::f64_to_i64;
+use ol_real::i64_to_f32;
+use ol_real::i64_to_f64;
+use ol_spec::Outcome;
+use ol_spec::Value;
+
+// A value as a variable of an integer type holds it.
+fn fit_int(code: u8, v: Value) -> Value
+    ensures { λ r. ⌜ r ≡ fitInt (intTy code) v ⌝ }
+{
+    match v {
+        Value::Bool(_) => v,
+        Value::Int(i) => Value::Int(narrow_int(code, i)),
+        Value::Float(_) => v,
+        Value::Float32(_) => v,
+        Value::Enum(_) => v,
+    }
+}
+
+// A value as a Float32 variable holds it.
+fn fit_single(v: Value) -> Value
+    ensures { λ r. ⌜ r ≡ fitSingle v ⌝ }
+{
+    match v {
+        Value::Bool(_) => v,
+        Value::Int(i) => Value::Float32(i64_to_f32(i)),
+        Value::Float(x) => Value::Float32(f64_to_f32(x)),
+        Value::Float32(_) => v,
+        Value::Enum(_) => v,
+    }
+}
+
+// A value as a Float64 variable holds it.
+fn fit_double(v: Value) -> Value
+    ensures { λ r. ⌜ r ≡ fitDouble v ⌝ }
+{
+    match v {
+        Value::Bool(_) => v,
+        Value::Int(i) => Value::Float(i64_to_f64(i)),
+        Value::Float(_) => v,
+        Value::Float32(x) => Value::Float(f32_to_f64(x)),
+        Value::Enum(_) => v,
+    }
+}
+
+// Document 01's `fit_to`: a value as a variable of the type holds it.
+pub fn fit_to(code: u8, v: Value) -> Value
+    ensures { λ r. ⌜ ((e : ℕ) → r ≡ fit (tyOf code e) v) ⌝ }
+{
+    match code {
+        1..=8 => fit_int(code, v),
+        9 => fit_single(v),
+        10 => fit_double(v),
+        _ => v,
+    }
+}
+
+// A cast to an integer type.
+fn cast_int(code: u8, v: Value) -> Outcome
+    ensures { λ r. ⌜ r ≡ castInt (intTy code) v ⌝ }
+{
+    match v {
+        Value::Bool(_) => Outcome::Failure,
+        Value::Int(i) => Outcome::Value(Value::Int(narrow_int(code, i))),
+        Value::Float(x) => Outcome::Value(Value::Int(narrow_int(code, f64_to_i64(x)))),
+        Value::Float32(x) => Outcome::Value(Value::Int(narrow_int(code, f32_to_i64(x)))),
+        Value::Enum(_) => Outcome::Failure,
+    }
+}
+
+// Whether a value is a number.
+fn is_number(v: Value) -> bool
+    ensures { λ r. ⌜ r ≡ isNumber v ⌝ }
+{
+    match v {
+        Value::Bool(_) => false,
+        Value::Int(_) => true,
+        Value::Float(_) => true,
+        Value::Float32(_) => true,
+        Value::Enum(_) => false,
+    }
+}
+
+// A cast to Float32.
+fn cast_single(v: Value) -> Outcome
+    ensures { λ r. ⌜ r ≡ castReal fitSingle v ⌝ }
+{
+    if is_number(v) {
+        Outcome::Value(fit_single(v))
+    } else {
+        Outcome::Failure
+    }
+}
+
+// A cast to Float64.
+fn cast_double(v: Value) -> Outcome
+    ensures { λ r. ⌜ r ≡ castReal fitDouble v ⌝ }
+{
+    if is_number(v) {
+        Outcome::Value(fit_double(v))
+    } else {
+        Outcome::Failure
+    }
+}
+
+// Document 01's `cast_value`.
+pub fn cast_value(code: u8, v: Value) -> Outcome
+    ensures { λ r. ⌜ ((e : ℕ) → r ≡ castTo (tyOf code e) v) ⌝ }
+{
+    match code {
+        1..=8 => cast_int(code, v),
+        9 => cast_single(v),
+        10 => cast_double(v),
+        _ => Outcome::Failure,
+    }
+}
+
+// What a variable of the type holds in a fresh record; `first` is an enum's first variant.
+pub fn default_value(code: u8, first: u16) -> Value
+    ensures { λ r. ⌜ ((enums : List (List ℕ)) (e : ℕ) → getD (getD enums e []) 0 0 ≡ first → r ≡ default enums (tyOf code e)) ⌝ }
+{
+    match code {
+        0 => Value::Bool(false),
+        1..=8 | 11 => Value::Int(0),
+        9 => Value::Float32(0.0),
+        10 => Value::Float(0.0),
+        _ => Value::Enum(first),
+    }
+}
+
+// A type's kind, the tag that its default has.
+pub fn kind_of(code: u8) -> u8
+    ensures { λ r. ⌜ ((enums : List (List ℕ)) (e : ℕ) → r ≡ kind enums (tyOf code e)) ⌝ }
+{
+    match code {
+        0 => 0,
+        1..=8 | 11 => 1,
+        9 => 3,
+        10 => 2,
+        _ => 4,
+    }
+}
+
+// Whether an input's value is of its type's kind and range. The caller looks an enum's name up.
+pub fn in_type(code: u8, v: Value) -> bool
+    ensures { λ r. ⌜ ((e : ℕ) → r ≡ inKind (tyOf code e) v) ⌝ }
+{
+    match v {
+        Value::Bool(_) => code == 0,
+        Value::Int(i) => int_in_type(code, i),
+        Value::Float(_) => code == 10,
+        Value::Float32(_) => code == 9,
+        Value::Enum(_) => 12 <= code,
+    }
+}
+
+// Whether an integer is of the type's kind and range: a Char is 0 to 255, as a Uint8 is.
+fn int_in_type(code: u8, i: i64) -> bool
+    ensures { λ r. ⌜ ((e : ℕ) → r ≡ inKind (tyOf code e) (Value.Int i)) ⌝ }
+{
+    match code {
+        1..=8 => in_range(code, i),
+        11 => in_range(5, i),
+        _ => false,
+    }
+}
