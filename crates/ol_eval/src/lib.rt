@@ -1,3 +1,4 @@
 // Expressions, equations and node instances, evaluated where their bytes stand. Document 01, "The state".
+pub mod outcomes;
 pub mod skip;
 pub mod tables;
