@@ -1,2 +1,3 @@
 pub mod Backs
 pub mod Passing
+pub mod RealKinds
