@@ -6,3 +6,4 @@ pub mod Magnitudes
 pub mod Widths
 pub mod TypeCodes
 pub mod OpCodes
+pub mod Digits

@@ -1,6 +1,6 @@
 -- Types by their codes: the cases of a code, and what fitting, casting and the tests of inputs make of each.
 use mathlib.Core.Path.{_≡_, refl, sym, ap, subst, _∙_}
-use mathlib.Core.Bool.{Bool, true, false, _&&_}
+use mathlib.Core.Bool.{Bool, true, false, not, _&&_, _||_}
 use mathlib.Core.List.{List, []}
 use Prim.Native.Nat.{ℕ, zero, suc, _≤_, _<_}
 use native.Mathlib.Omega.{arith}
@@ -12,11 +12,12 @@ use lib.ListN.{getD}
 use Rattle.ol_spec.specs.Syntax.{Ty, bool, int, float32, float64, char, enum}
 use Rattle.ol_spec.specs.Read.{TyCode, boolT, float32T, float64T, charT, enumT, intT, tyCodes}
 use Rattle.ol_spec.specs.Types.{fit, castTo, castReal, inType, inRange, intTy}
-use Rattle.ol_spec.specs.Cell.{isVariant}
+use Rattle.ol_spec.specs.Lists.{member}
+use Rattle.ol_spec.specs.Cell.{tag, isVariant}
 use Rattle.ol_spec.specs.declared.Value.{Value}
 use Rattle.ol_spec.specs.declared.Value.the-variants as Val
 use Rattle.ol_spec.specs.declared.Outcome.the-variants as Out
-use Rattle.ol_value.specs.Codes.{tyFrom, tyOf, isNumber, inKind}
+use Rattle.ol_value.specs.Codes.{tyFrom, tyOf, isNumber, nameIn, inKind}
 use Rattle.ol_value.proofs.Backs.{no-true}
 
 -- the cases of a code
@@ -170,3 +171,11 @@ in-type-is enums code e v = go (getD tyCodes code enumT) v
     go (intT c) (Val.Float x) = refl
     go (intT c) (Val.Float32 x) = refl
     go (intT c) (Val.Enum w) = refl
+
+-- an Enum's name looked up, where a value is one
+pub variant-is : (ns : List ℕ) (v : Value) → isVariant ns v ≡ not (eqb (tag v) 4) || member (nameIn v) ns
+variant-is ns (Val.Bool b) = refl
+variant-is ns (Val.Int i) = refl
+variant-is ns (Val.Float x) = refl
+variant-is ns (Val.Float32 x) = refl
+variant-is ns (Val.Enum v) = refl

@@ -95,30 +95,33 @@ residue-lt b (negsuc n) = omega (arith, pow-pos b)
 
 -- ---- bits as a number
 
-module _ (b n : ℕ) (h : b ≤ 32) (l : n < 2 ^ b) where
-  pub natural-fits : SFits w64 (pos n)
-  natural-fits = record { sfits = omega (arith, power-32 h) }
+pub natural-fits : {n : ℕ} → n < 2 ^ 63 → SFits w64 (pos n)
+natural-fits h = record { sfits = h }
 
-  pub signed-low : n < 2 ^ (b - 1) → toZ w64 n ≡ signed b n
-  signed-low t = toZ-pos w64 {n = n} (natural-fits .sfits) ∙ rw (lt-ltb n (2 ^ (b - 1)) t)
+-- of at most 32 bits
+pub few-bits : {b n : ℕ} → b ≤ 32 → n < 2 ^ b → n < 2 ^ 63
+few-bits h l = omega (arith, power-32 h)
 
+pub rest-small : (b n : ℕ) → b ≤ 32 → 2 ^ b - 1 - n < 2 ^ 63
+rest-small b n h = omega (arith, power-32 h)
+
+pub signed-low : (b n : ℕ) → n < 2 ^ 63 → n < 2 ^ (b - 1) → toZ w64 n ≡ signed b n
+signed-low b n h t = toZ-pos w64 {n = n} h ∙ rw (lt-ltb n (2 ^ (b - 1)) t)
+
+-- the upper half: -1 less the rest to the highest bits
+module _ (r : ℕ) (h : r < 2 ^ 63) where
   minus-one-minus : (k : ℕ) → negsuc 0 -ℤ pos k ≡ negsuc k
   minus-one-minus zero = refl
   minus-one-minus (suc k) = ap (λ m. negsuc (suc m)) (zero-add k)
 
-  pub rest-fits : SFits w64 (pos (2 ^ b - 1 - n))
-  rest-fits = record { sfits = omega (arith, power-32 h) }
+  negated : negsuc 0 -ℤ toZ w64 r ≡ negsuc r
+  negated = ap (λ z. negsuc 0 -ℤ z) (toZ-pos w64 {n = r} h) ∙ minus-one-minus r
 
-  negated : negsuc 0 -ℤ toZ w64 (2 ^ b - 1 - n) ≡ negsuc (2 ^ b - 1 - n)
-  negated = ap (λ z. negsuc 0 -ℤ z) (toZ-pos w64 {n = 2 ^ b - 1 - n} (rest-fits .sfits)) ∙ minus-one-minus (2 ^ b - 1 - n)
+  pub negated-fits : SFits w64 (negsuc 0 -ℤ toZ w64 r)
+  negated-fits = subst (SFits w64) (sym negated) (record { sfits = h })
 
-  pub negated-fits : SFits w64 (negsuc 0 -ℤ toZ w64 (2 ^ b - 1 - n))
-  negated-fits = subst (SFits w64) (sym negated) (record { sfits = rest-fits .sfits })
-
-  pub signed-high : 2 ^ (b - 1) ≤ n → back (negsuc 0 -ℤ toZ w64 (2 ^ b - 1 - n)) ≡ signed b n
-  signed-high t =
-      let e : 2 ^ b - 1 - n ≡ 2 ^ b - suc n = omega arith in
-      toZ-ofZ negated-fits ∙ negated ∙ ap negsuc e ∙ rw (le-ltb n (2 ^ (b - 1)) t)
+  pub signed-high : (b n : ℕ) → r ≡ 2 ^ b - suc n → 2 ^ (b - 1) ≤ n → back (negsuc 0 -ℤ toZ w64 r) ≡ signed b n
+  signed-high b n e t = toZ-ofZ negated-fits ∙ negated ∙ ap negsuc e ∙ rw (le-ltb n (2 ^ (b - 1)) t)
 
 -- ---- an entry, by its tests
 

@@ -52,6 +52,14 @@ isNumber (Val.Float x) = true
 isNumber (Val.Float32 x) = true
 isNumber (Val.Enum v) = false
 
+-- an Enum's name
+abbrev pub nameIn : Value → ℕ
+nameIn (Val.Bool b) = 0
+nameIn (Val.Int i) = 0
+nameIn (Val.Float x) = 0
+nameIn (Val.Float32 x) = 0
+nameIn (Val.Enum v) = v
+
 -- an input's value is of its type's kind and range. Whether a name is one of the enum's is the rest of `inType`
 abbrev pub inKind : Ty → Value → Bool
 inKind bool v = eqb (tag v) 0

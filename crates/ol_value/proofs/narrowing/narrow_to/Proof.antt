@@ -1,3 +1,4 @@
+use Rattle.ol_value.proofs.Widths.{few-bits, residue-lt, natural-fits, whole-is, signed-ty, unsigned-ty, narrow-bits}
 use borrow.Author.Needs.{sfits-of}
 use Rattle.ol_spec.specs.Numbers.{residue, signed}
 use mathlib.Core.Path.{_≡_, sym, subst, _∙_, ap}
@@ -6,7 +7,6 @@ use lib.IntN.{pos}
 use mir.Facts.{toZ-ofZ, toZ-pos}
 use mir.Syntax.{w64}
 use Rattle.ol_spec.specs.Types.{narrow, IntTy}
-use Rattle.ol_value.proofs.Widths.{residue-lt, natural-fits, whole-is, signed-ty, unsigned-ty, narrow-bits}
 use Rattle.ol_value.proofs.narrowing.narrow_to.Statement.{statement}
 use Rattle.ol_value.proofs.narrowing.narrow_to.Tie as tie
 
@@ -23,9 +23,8 @@ signed-of-requires c κs =
 
 cast-result : tie.Need-cast-result
 cast-result c =
-    let s = c .before .before .before in
-    rw (c .before .residue-of .ensures, toZ-ofZ (s .fits .i))
-    (natural-fits (s .args .t .bits) _ (narrow-bits (s .args .t) (c .before .before .if1 .left) (s .pre) .1) (residue-lt (s .args .t .bits) (s .args .i)))
+    rw (c .before .residue-of .ensures, toZ-ofZ (c .before .before .before .fits .i))
+    (natural-fits (few-bits (narrow-bits (c .before .before .before .args .t) (c .before .before .if1 .left) (c .before .before .before .pre) .1) (residue-lt (c .before .before .before .args .t .bits) (c .before .before .before .args .i))))
 
 returns-2 : tie.Need-returns-2
 returns-2 c =
@@ -37,11 +36,10 @@ returns-2 c =
 
 returns-3 : tie.Need-returns-3
 returns-3 c =
-    let s = c .before .before .before in
-    let b = s .args .t .bits in
-    let e = c .before .residue-of .ensures ∙ ap (residue b) (toZ-ofZ (s .fits .i)) in
-    let h = natural-fits b (residue b (s .args .i)) (narrow-bits (s .args .t) (c .before .before .if1 .left) (s .pre) .1) (residue-lt b (s .args .i)) in
-    rw (unsigned-ty (s .args .t) (c .before .before .if1 .left) (c .if2 .left), e) (toZ-pos w64 (h .sfits))
+    let b = c .before .before .before .args .t .bits in
+    let e = c .before .residue-of .ensures ∙ ap (residue b) (toZ-ofZ (c .before .before .before .fits .i)) in
+    rw (unsigned-ty (c .before .before .before .args .t) (c .before .before .if1 .left) (c .if2 .left), e)
+    (toZ-pos w64 (few-bits (narrow-bits (c .before .before .before .args .t) (c .before .before .if1 .left) (c .before .before .before .pre) .1) (residue-lt b (c .before .before .before .args .i))))
 
 pub narrow-to-spec : {M : Type 1} → statement M
 narrow-to-spec =

@@ -1,6 +1,7 @@
+use native.Mathlib.Omega.{arith}
+use Rattle.ol_value.proofs.Widths.{few-bits, rest-small, natural-fits, signed-low, negated-fits, signed-high}
 use mathlib.Core.Path.{_≡_, sym}
 use Prim.Native.Nat.{_<_, _≤_}
-use Rattle.ol_value.proofs.Widths.{natural-fits, signed-low, rest-fits, negated-fits, signed-high}
 use borrow.Author.Needs.{needs}
 use Rattle.ol_value.proofs.narrowing.signed_of.Statement.{statement}
 use Rattle.ol_value.proofs.narrowing.signed_of.Tie as tie
@@ -12,7 +13,7 @@ power-requires : tie.Need-power-requires
 power-requires c κs = search needs
 
 cast-result : tie.Need-cast-result
-cast-result c = let s = c .before .before in natural-fits (s .args .b) (s .args .n) (s .pre .0 .1) (s .pre .1)
+cast-result c = natural-fits (few-bits (c .before .before .pre .0 .1) (c .before .before .pre .1))
 
 power-requires-2 : tie.Need-power-requires-2
 power-requires-2 c κs = search needs
@@ -24,21 +25,18 @@ sub-result-2 : tie.Need-sub-result-2
 sub-result-2 c = search needs
 
 cast-result-2 : tie.Need-cast-result-2
-cast-result-2 c = let s = c .before .before .before in rw (c .power2 .ensures) (rest-fits (s .args .b) (s .args .n) (s .pre .0 .1) (s .pre .1))
+cast-result-2 c = rw (c .power2 .ensures) (natural-fits (rest-small (c .before .before .before .args .b) (c .before .before .before .args .n) (c .before .before .before .pre .0 .1)))
 
 sub-result-3 : tie.Need-sub-result-3
-sub-result-3 c = let s = c .before .before .before in rw (c .power2 .ensures) (negated-fits (s .args .b) (s .args .n) (s .pre .0 .1) (s .pre .1))
+sub-result-3 c = rw (c .power2 .ensures) (negated-fits _ (rest-small (c .before .before .before .args .b) (c .before .before .before .args .n) (c .before .before .before .pre .0 .1)))
 
 returns : tie.Need-returns
-returns c =
-    let s = c .before .before in
-    signed-low (s .args .b) (s .args .n) (s .pre .0 .1) (s .pre .1) (rw (c .before .power .ensures) at (c .if1 .taken))
+returns c = signed-low (c .before .before .args .b) (c .before .before .args .n) (few-bits (c .before .before .pre .0 .1) (c .before .before .pre .1)) (rw (c .before .power .ensures) at (c .if1 .taken))
 
 returns-2 : tie.Need-returns-2
 returns-2 c =
-    let s = c .before .before .before in
     rw (c .power2 .ensures)
-    (signed-high (s .args .b) (s .args .n) (s .pre .0 .1) (s .pre .1) (rw (c .before .before .power .ensures) at (c .before .if1 .left)))
+    (signed-high _ (rest-small (c .before .before .before .args .b) (c .before .before .before .args .n) (c .before .before .before .pre .0 .1)) (c .before .before .before .args .b) (c .before .before .before .args .n) (omega arith) (rw (c .before .before .power .ensures) at (c .before .if1 .left)))
 
 pub signed-of-spec : {M : Type 1} → statement M
 signed-of-spec =
