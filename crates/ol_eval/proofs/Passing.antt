@@ -18,7 +18,7 @@ use Rattle.ol_tree.specs.At.{fileAt, exprAt, endAt, exprsAt, endsAt, Reads, Rea
 use Rattle.ol_tree.specs.Tables.{Each, Rows, RowOf, rowAt, siteBytes, sizeCap}
 use Rattle.ol_tree.specs.Parts.{partsOf, headOf, ownSites}
 use Rattle.ol_tree.proofs.Forms.{each-append, callees-parts, Formed, Parted, parted, one-read, one-tree, callees-all, none-read, reads-in, some-code}
-use Rattle.ol_tree.proofs.Forms.{bool-form, int-form, float-form, char-form, var-form, unary-form, binary-form, if-form, pre-form, arrow-form, cast-form, call-form, tuple-form}
+use Rattle.ol_tree.proofs.Forms.{by-form, call-form}
 use Rattle.ol_eval.specs.Walk.{nodesIn, sizesIn, Below, FormIs, Sized, Passable, Skips, SkipsTo, eitherOf}
 use Rattle.ol_eval.specs.declared.skip.Form.{Form}
 use Rattle.ol_eval.specs.declared.skip.Passed.{Passed}
@@ -64,23 +64,9 @@ module _ (s : List ℕ) where
 
   -- another form has none
   pub own-none : (level at : ℕ) → Reads s level at → ¬ (getD s at 0 ≡ 11) → ownSites (exprAt s level at) ≡ []
-  own-none level at h n = go (getD s at 0) refl (some-code s level at h) n
-    where
-      go : (b : ℕ) → getD s at 0 ≡ b → b < 13 → ¬ (b ≡ 11) → ownSites (exprAt s level at) ≡ []
-      go zero e l n = ap ownSites (bool-form s level at h e .0 .tree)
-      go (suc zero) e l n = ap ownSites (int-form s level at h e .tree)
-      go (suc (suc zero)) e l n = ap ownSites (float-form s level at h e .tree)
-      go (suc (suc (suc zero))) e l n = ap ownSites (char-form s level at h e .tree)
-      go (suc (suc (suc (suc zero)))) e l n = ap ownSites (var-form s level at h e .tree)
-      go (suc (suc (suc (suc (suc zero))))) e l n = ap ownSites (unary-form s level at h e .1 .tree)
-      go (suc (suc (suc (suc (suc (suc zero)))))) e l n = ap ownSites (binary-form s level at h e .1 .tree)
-      go (suc (suc (suc (suc (suc (suc (suc zero))))))) e l n = ap ownSites (if-form s level at h e .tree)
-      go (suc (suc (suc (suc (suc (suc (suc (suc zero)))))))) e l n = ap ownSites (pre-form s level at h e .tree)
-      go (suc (suc (suc (suc (suc (suc (suc (suc (suc zero))))))))) e l n = ap ownSites (arrow-form s level at h e .tree)
-      go (suc (suc (suc (suc (suc (suc (suc (suc (suc (suc zero)))))))))) e l n = ap ownSites (cast-form s level at h e .1 .tree)
-      go (suc (suc (suc (suc (suc (suc (suc (suc (suc (suc (suc zero))))))))))) e l n = absurd (n refl)
-      go (suc (suc (suc (suc (suc (suc (suc (suc (suc (suc (suc (suc zero)))))))))))) e l n = ap ownSites (tuple-form s level at h e .0 .tree)
-      go (suc (suc (suc (suc (suc (suc (suc (suc (suc (suc (suc (suc (suc b))))))))))))) e l n = absurd (omega arith)
+  own-none level at h =
+      by-form s (λ c e. ¬ (c ≡ 11) → ownSites e ≡ []) (λ b n. refl) (λ i n. refl) (λ b n. refl) (λ c n. refl) (λ x n. refl) (λ op e n. refl) (λ op l r n. refl)
+      (λ c t e n. refl) (λ e n. refl) (λ a b n. refl) (λ t e n. refl) (λ k es n. absurd (n refl)) (λ es n. refl) level at h
 
   -- its parts can be passed over
   pub parts-passable : {rows : List ℕ} {level at : ℕ} {r : Form} → Passable s rows level 1 at → FormIs s level at r → Passable s rows (level - 1) (r .count) (r .start)

@@ -9,8 +9,10 @@ ghost use Rattle.ol_spec.specs.Eval.{RealKind, thenOut, commonReal, kindOfType,
 ghost use Rattle.ol_value.specs.Codes.{tyOf, unaryBy};
 ghost use Rattle.ol_eval.specs.Outcomes.{doneOf, binaryOut, testOf, untestedOf, runsOf, dropOut, singleOf, commonOut, realCode, outcomeKind};
 use ol_real::f32_to_f64;
-use ol_spec::{Outcome, Value};
-use ol_value::operators::{eval_binary, eval_unary};
+use ol_spec::Outcome;
+use ol_spec::Value;
+use ol_value::operators::eval_binary;
+use ol_value::operators::eval_unary;
 use ol_value::types::cast_value;
 
 // A value, which is had back from its cell.
@@ -80,13 +82,7 @@ pub fn test_of(o: Outcome) -> u8
 {
     match o {
         Outcome::Value(v) => match v {
-            Value::Bool(b) => {
-                if b {
-                    1
-                } else {
-                    0
-                }
-            }
+            Value::Bool(b) => { if b { 1 } else { 0 } }
             Value::Int(_) => 2,
             Value::Float(_) => 2,
             Value::Float32(_) => 2,

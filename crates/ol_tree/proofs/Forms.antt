@@ -8,6 +8,7 @@ use native.Mathlib.Omega.{arith}
 use native.Mathlib.Nat.{add-zero, add-assoc}
 use lib.ListN.{length, getElem?, getD, take, drop}
 use lib.Seq.{drop-cons}
+use lib.IntN.{ℤ}
 use lib.Dec.{T, eqb, leb, leb→le}
 use Rattle.ol_spec.specs.Syntax.{Ty, bool, int, float32, float64, char, enum, UnaryOp, BinOp, Expr, boolLit, intLit, floatLit, charLit, var, unary, binary, ifThenElse, pre, arrow, cast, call, tuple}
 use Rattle.ol_spec.specs.Syntax.{Exprs, nil, cons, count}
@@ -24,7 +25,7 @@ use Rattle.ol_spec.proofs.Tests.{T-and}
 use Rattle.ol_spec.proofs.Offsets.{steps, same-end, same-item, expr-ends}
 use Rattle.ol_tree.specs.At.{itemOf, endOf, limitsAt, enumsAt, exprAt, endAt, exprsAt, endsAt, Reads, ReadsAll}
 use Rattle.ol_tree.specs.Tables.{tyCode, Each}
-use Rattle.ol_tree.specs.Parts.{partsOf, headOf, ownSites}
+use Rattle.ol_tree.specs.Parts.{partsOf, headOf, ownSites, Proper}
 
 -- ---- lists
 
@@ -482,49 +483,58 @@ module _ (s : List ℕ) where
   codeSize charT = 1
   codeSize enumT = 2
 
-  type-code : (b : ℕ) (c : TyCode) → getElem? tyCodes b ≡ some c → (codeNumber c ≡ b) × (codeSize c ≡ cond (eqb b 12) 2 1)
-  unfolding codeNumber codeSize
-  type-code zero c h = (ap codeNumber (sym (same-code h)), ap codeSize (sym (same-code h)))
-  type-code (suc zero) c h = (ap codeNumber (sym (same-code h)), ap codeSize (sym (same-code h)))
-  type-code (suc (suc zero)) c h = (ap codeNumber (sym (same-code h)), ap codeSize (sym (same-code h)))
-  type-code (suc (suc (suc zero))) c h = (ap codeNumber (sym (same-code h)), ap codeSize (sym (same-code h)))
-  type-code (suc (suc (suc (suc zero)))) c h = (ap codeNumber (sym (same-code h)), ap codeSize (sym (same-code h)))
-  type-code (suc (suc (suc (suc (suc zero))))) c h = (ap codeNumber (sym (same-code h)), ap codeSize (sym (same-code h)))
-  type-code (suc (suc (suc (suc (suc (suc zero)))))) c h = (ap codeNumber (sym (same-code h)), ap codeSize (sym (same-code h)))
-  type-code (suc (suc (suc (suc (suc (suc (suc zero))))))) c h = (ap codeNumber (sym (same-code h)), ap codeSize (sym (same-code h)))
-  type-code (suc (suc (suc (suc (suc (suc (suc (suc zero)))))))) c h = (ap codeNumber (sym (same-code h)), ap codeSize (sym (same-code h)))
-  type-code (suc (suc (suc (suc (suc (suc (suc (suc (suc zero))))))))) c h = (ap codeNumber (sym (same-code h)), ap codeSize (sym (same-code h)))
-  type-code (suc (suc (suc (suc (suc (suc (suc (suc (suc (suc zero)))))))))) c h = (ap codeNumber (sym (same-code h)), ap codeSize (sym (same-code h)))
-  type-code (suc (suc (suc (suc (suc (suc (suc (suc (suc (suc (suc zero))))))))))) c h = (ap codeNumber (sym (same-code h)), ap codeSize (sym (same-code h)))
-  type-code (suc (suc (suc (suc (suc (suc (suc (suc (suc (suc (suc (suc zero)))))))))))) c h = (ap codeNumber (sym (same-code h)), ap codeSize (sym (same-code h)))
+  CodeProper : TyCode → Type 0
+  CodeProper boolT = Unit {0}
+  CodeProper (intT c) = (1 ≤ c) × (c ≤ 8)
+  CodeProper float32T = Unit {0}
+  CodeProper float64T = Unit {0}
+  CodeProper charT = Unit {0}
+  CodeProper enumT = Unit {0}
+
+  type-code : (b : ℕ) (c : TyCode) → getElem? tyCodes b ≡ some c → (codeNumber c ≡ b) × (codeSize c ≡ cond (eqb b 12) 2 1) × CodeProper c
+  unfolding codeNumber codeSize CodeProper
+  type-code zero c h = (ap codeNumber (sym (same-code h)), ap codeSize (sym (same-code h)), subst CodeProper (same-code h) tt)
+  type-code (suc zero) c h = (ap codeNumber (sym (same-code h)), ap codeSize (sym (same-code h)), subst CodeProper (same-code h) (omega arith, omega arith))
+  type-code (suc (suc zero)) c h = (ap codeNumber (sym (same-code h)), ap codeSize (sym (same-code h)), subst CodeProper (same-code h) (omega arith, omega arith))
+  type-code (suc (suc (suc zero))) c h = (ap codeNumber (sym (same-code h)), ap codeSize (sym (same-code h)), subst CodeProper (same-code h) (omega arith, omega arith))
+  type-code (suc (suc (suc (suc zero)))) c h = (ap codeNumber (sym (same-code h)), ap codeSize (sym (same-code h)), subst CodeProper (same-code h) (omega arith, omega arith))
+  type-code (suc (suc (suc (suc (suc zero))))) c h = (ap codeNumber (sym (same-code h)), ap codeSize (sym (same-code h)), subst CodeProper (same-code h) (omega arith, omega arith))
+  type-code (suc (suc (suc (suc (suc (suc zero)))))) c h = (ap codeNumber (sym (same-code h)), ap codeSize (sym (same-code h)), subst CodeProper (same-code h) (omega arith, omega arith))
+  type-code (suc (suc (suc (suc (suc (suc (suc zero))))))) c h = (ap codeNumber (sym (same-code h)), ap codeSize (sym (same-code h)), subst CodeProper (same-code h) (omega arith, omega arith))
+  type-code (suc (suc (suc (suc (suc (suc (suc (suc zero)))))))) c h = (ap codeNumber (sym (same-code h)), ap codeSize (sym (same-code h)), subst CodeProper (same-code h) (omega arith, omega arith))
+  type-code (suc (suc (suc (suc (suc (suc (suc (suc (suc zero))))))))) c h = (ap codeNumber (sym (same-code h)), ap codeSize (sym (same-code h)), subst CodeProper (same-code h) tt)
+  type-code (suc (suc (suc (suc (suc (suc (suc (suc (suc (suc zero)))))))))) c h = (ap codeNumber (sym (same-code h)), ap codeSize (sym (same-code h)), subst CodeProper (same-code h) tt)
+  type-code (suc (suc (suc (suc (suc (suc (suc (suc (suc (suc (suc zero))))))))))) c h = (ap codeNumber (sym (same-code h)), ap codeSize (sym (same-code h)), subst CodeProper (same-code h) tt)
+  type-code (suc (suc (suc (suc (suc (suc (suc (suc (suc (suc (suc (suc zero)))))))))))) c h = (ap codeNumber (sym (same-code h)), ap codeSize (sym (same-code h)), subst CodeProper (same-code h) tt)
   type-code (suc (suc (suc (suc (suc (suc (suc (suc (suc (suc (suc (suc (suc zero))))))))))))) c h = let z : _≡_ {A = ℕ} 0 1 = cc in absurd (omega arith)
   type-code (suc (suc (suc (suc (suc (suc (suc (suc (suc (suc (suc (suc (suc (suc b)))))))))))))) c h = let z : _≡_ {A = ℕ} 0 1 = cc in absurd (omega arith)
 
   pub record TypeIs (at : ℕ) (t : Ty) (n : ℕ) : Type 0 where
     pub code : tyCode t ≡ getD s at 0
     pub size : tySize t ≡ cond (eqb (getD s at 0) 12) 2 1
+    pub proper : Proper t
     pub inside : at + tySize t ≤ length s
     pub ends : n ≡ at + tySize t
 
-  type-body : (c : TyCode) (at m : ℕ) (t : Ty) (n : ℕ) → at < length s → m ≡ at + 1 → codeNumber c ≡ getD s at 0 → codeSize c ≡ cond (eqb (getD s at 0) 12) 2 1 → tyBody s (limitsAt s) (enumsAt s) c m ≡ got t n → TypeIs at t n
-  unfolding codeNumber codeSize
-  type-body boolT at m t n w e c z h = rw (← same-item h) (record { code = c; size = z; inside = omega arith; ends = sym (same-end h) ∙ e })
-  type-body float32T at m t n w e c z h = rw (← same-item h) (record { code = c; size = z; inside = omega arith; ends = sym (same-end h) ∙ e })
-  type-body float64T at m t n w e c z h = rw (← same-item h) (record { code = c; size = z; inside = omega arith; ends = sym (same-end h) ∙ e })
-  type-body charT at m t n w e c z h = rw (← same-item h) (record { code = c; size = z; inside = omega arith; ends = sym (same-end h) ∙ e })
-  type-body enumT at m t n w e c z h =
+  type-body : (c : TyCode) (at m : ℕ) (t : Ty) (n : ℕ) → at < length s → m ≡ at + 1 → codeNumber c ≡ getD s at 0 → codeSize c ≡ cond (eqb (getD s at 0) 12) 2 1 → CodeProper c → tyBody s (limitsAt s) (enumsAt s) c m ≡ got t n → TypeIs at t n
+  unfolding codeNumber codeSize CodeProper
+  type-body boolT at m t n w e c z o h = rw (← same-item h) (record { code = c; size = z; proper = o; inside = omega arith; ends = sym (same-end h) ∙ e })
+  type-body float32T at m t n w e c z o h = rw (← same-item h) (record { code = c; size = z; proper = o; inside = omega arith; ends = sym (same-end h) ∙ e })
+  type-body float64T at m t n w e c z o h = rw (← same-item h) (record { code = c; size = z; proper = o; inside = omega arith; ends = sym (same-end h) ∙ e })
+  type-body charT at m t n w e c z o h = rw (← same-item h) (record { code = c; size = z; proper = o; inside = omega arith; ends = sym (same-end h) ∙ e })
+  type-body enumT at m t n w e c z o h =
       let u = steps (coded s _ m) _ t n h in
       let p = code-is _ m (u .value) (u .at) (u .first) in
-      rw (← same-item (u .rest)) (record { code = c; size = z; inside = omega (arith, p .within); ends = sym (same-end (u .rest)) ∙ omega (arith, p .ends) })
-  type-body (intT k) at m t n w e c z h = rw (← same-item h) (record { code = c; size = z; inside = omega arith; ends = sym (same-end h) ∙ e })
+      rw (← same-item (u .rest)) (record { code = c; size = z; proper = o; inside = omega (arith, p .within); ends = sym (same-end (u .rest)) ∙ omega (arith, p .ends) })
+  type-body (intT k) at m t n w e c z o h = rw (← same-item h) (record { code = c; size = z; proper = o; inside = omega arith; ends = sym (same-end h) ∙ e })
 
   pub type-is : (at : ℕ) (t : Ty) (n : ℕ) → tyR s (limitsAt s) (enumsAt s) at ≡ got t n → TypeIs at t n
   type-is at t n h =
       let u = steps (coded s tyCodes at) _ t n h in
       let p = code-is tyCodes at (u .value) (u .at) (u .first) in
-      type-body (u .value) at (u .at) t n (p .within) (p .ends) (type-code (getD s at 0) (u .value) (p .is) .0) (type-code (getD s at 0) (u .value) (p .is) .1) (u .rest)
+      type-body (u .value) at (u .at) t n (p .within) (p .ends) (type-code (getD s at 0) (u .value) (p .is) .0) (type-code (getD s at 0) (u .value) (p .is) .1) (type-code (getD s at 0) (u .value) (p .is) .2) (u .rest)
 
-  pub cast-form : (level at : ℕ) → Reads s level at → getD s at 0 ≡ 10 → (t : Ty) × Formed level at (cast t (first (level - 1) (at + (1 + tySize t)))) 1 × (tyCode t ≡ getD s (at + 1) 0) × (tySize t ≡ cond (eqb (getD s (at + 1) 0) 12) 2 1)
+  pub cast-form : (level at : ℕ) → Reads s level at → getD s at 0 ≡ 10 → (t : Ty) × Formed level at (cast t (first (level - 1) (at + (1 + tySize t)))) 1 × (tyCode t ≡ getD s (at + 1) 0) × (tySize t ≡ cond (eqb (getD s (at + 1) 0) 12) 2 1) × Proper t
   cast-form level at h c =
       let b = body-at level at castCode h (ap (getElem? exprCodes) c) in
       let t = steps (tyR s (limitsAt s) (enumsAt s) (at + 1)) _ _ _ (b .body) in
@@ -532,7 +542,7 @@ module _ (s : List ℕ) where
       let m = at + (1 + tySize (t .value)) in
       let w = part-at (level - 1) (t .at) m _ _ _ (omega (arith, p .ends)) (t .rest) in
       let o = one-all (level - 1) m (w .read) in
-      (t .value, record { tree = sym (same-item (w .rest)); parts = sym (o .0); read = one-read (level - 1) m (w .read); ends = sym (same-end (w .rest)) ∙ sym (o .1); inside = omega (arith, p .inside); deep = b .deep }, p .code, p .size)
+      (t .value, record { tree = sym (same-item (w .rest)); parts = sym (o .0); read = one-read (level - 1) m (w .read); ends = sym (same-end (w .rest)) ∙ sym (o .1); inside = omega (arith, p .inside); deep = b .deep }, p .code, p .size, p .proper)
 
   -- 11 and 12: a callee, and so many parts
 
@@ -581,6 +591,30 @@ module _ (s : List ℕ) where
         },
         omega (arith, q .is, q .most, ap (λ (l : Limits). l .items) limits-base),
       )
+
+  -- what holds of every form with its code holds of the form at a place
+  pub by-form : (P : ℕ → Expr → Type 0)
+      → ((b : Bool) → P 0 (boolLit b)) → ((i : ℤ) → P 1 (intLit i)) → ((n : ℕ) → P 2 (floatLit n)) → ((c : ℕ) → P 3 (charLit c)) → ((x : ℕ) → P 4 (var x))
+      → ((op : UnaryOp) (e : Expr) → P 5 (unary op e)) → ((op : BinOp) (l r : Expr) → P 6 (binary op l r)) → ((c t e : Expr) → P 7 (ifThenElse c t e))
+      → ((e : Expr) → P 8 (pre e)) → ((a b : Expr) → P 9 (arrow a b)) → ((t : Ty) (e : Expr) → P 10 (cast t e)) → ((k : ℕ) (es : Exprs) → P 11 (call k es))
+      → ((es : Exprs) → P 12 (tuple es)) → (level at : ℕ) → Reads s level at → P (getD s at 0) (exprAt s level at)
+  by-form P p0 p1 p2 p3 p4 p5 p6 p7 p8 p9 p10 p11 p12 level at h = go (getD s at 0) refl (some-code level at h)
+    where
+      go : (b : ℕ) → getD s at 0 ≡ b → b < 13 → P b (exprAt s level at)
+      go zero e l = subst (P 0) (sym (bool-form level at h e .0 .tree)) (p0 _)
+      go (suc zero) e l = subst (P 1) (sym (int-form level at h e .tree)) (p1 _)
+      go (suc (suc zero)) e l = subst (P 2) (sym (float-form level at h e .tree)) (p2 _)
+      go (suc (suc (suc zero))) e l = subst (P 3) (sym (char-form level at h e .tree)) (p3 _)
+      go (suc (suc (suc (suc zero)))) e l = subst (P 4) (sym (var-form level at h e .tree)) (p4 _)
+      go (suc (suc (suc (suc (suc zero))))) e l = subst (P 5) (sym (unary-form level at h e .1 .tree)) (p5 _ _)
+      go (suc (suc (suc (suc (suc (suc zero)))))) e l = subst (P 6) (sym (binary-form level at h e .1 .tree)) (p6 _ _ _)
+      go (suc (suc (suc (suc (suc (suc (suc zero))))))) e l = subst (P 7) (sym (if-form level at h e .tree)) (p7 _ _ _)
+      go (suc (suc (suc (suc (suc (suc (suc (suc zero)))))))) e l = subst (P 8) (sym (pre-form level at h e .tree)) (p8 _)
+      go (suc (suc (suc (suc (suc (suc (suc (suc (suc zero))))))))) e l = subst (P 9) (sym (arrow-form level at h e .tree)) (p9 _ _)
+      go (suc (suc (suc (suc (suc (suc (suc (suc (suc (suc zero)))))))))) e l = subst (P 10) (sym (cast-form level at h e .1 .tree)) (p10 _ _)
+      go (suc (suc (suc (suc (suc (suc (suc (suc (suc (suc (suc zero))))))))))) e l = subst (P 11) (sym (call-form level at h e .0 .tree)) (p11 _ _)
+      go (suc (suc (suc (suc (suc (suc (suc (suc (suc (suc (suc (suc zero)))))))))))) e l = subst (P 12) (sym (tuple-form level at h e .0 .tree)) (p12 _)
+      go (suc (suc (suc (suc (suc (suc (suc (suc (suc (suc (suc (suc (suc b))))))))))))) e l = absurd (omega arith)
 
   -- ---- what is collected from several expressions is the first's, and the others' from where it ends
 

@@ -1,7 +1,8 @@
 -- An expression's direct parts in file order, the bytes that stand before the first of them, and its own call site.
-use Prim.Native.Nat.{ℕ, _+_}
+use Prim.Native.Nat.{ℕ, _+_, _≤_}
 use mathlib.Core.List.{List, [], _∷_}
 use Rattle.ol_spec.specs.Syntax.{Expr, boolLit, intLit, floatLit, charLit, var, unary, binary, ifThenElse, pre, arrow, cast, call, tuple, Exprs, nil, cons}
+use Rattle.ol_spec.specs.Syntax.{Ty, bool, int, float32, float64, char, enum}
 use Rattle.ol_spec.specs.Places.{tySize}
 
 abbrev pub partsOf : Expr → Exprs
@@ -50,3 +51,12 @@ ownSites (arrow a b) = []
 ownSites (cast t e) = []
 ownSites (call k es) = k ∷ []
 ownSites (tuple es) = []
+
+-- an integer type has a code from 1 to 8
+abbrev pub Proper : Ty → Type 0
+Proper bool = Unit {0}
+Proper (int c) = (1 ≤ c) × (c ≤ 8)
+Proper float32 = Unit {0}
+Proper float64 = Unit {0}
+Proper char = Unit {0}
+Proper (enum e) = Unit {0}
