@@ -1,3 +1,4 @@
 pub mod Outcomes
 pub mod Plans
+pub mod Post
 pub mod Walk
