@@ -1,4 +1,5 @@
 pub mod Backs
+pub mod Constant
 pub mod Evals
 pub mod Lending
 pub mod Naming

@@ -1,3 +1,4 @@
+pub mod Constants
 pub mod Outcomes
 pub mod Plans
 pub mod Post

@@ -187,7 +187,7 @@ pub fn eval(
 }
 
 // Where the type with this code, which stands at `at`, ends.
-fn after_type(code: u8, at: usize) -> usize
+pub fn after_type(code: u8, at: usize) -> usize
     requires { ⌜ at < 65536 ⌝ }
     ensures { λ r. ⌜ r ≡ at + cond (eqb code 12) 2 1 ⌝ }
 {

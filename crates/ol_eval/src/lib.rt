@@ -1,4 +1,5 @@
 // Expressions, equations and node instances, evaluated where their bytes stand. Document 01, "The state".
+pub mod constants;
 pub mod cycle;
 pub mod names;
 pub mod outcomes;

@@ -122,7 +122,7 @@ pub fn drop_failure(taken: Outcome, other: Outcome) -> Outcome
     match other {
         Outcome::Value(_) => taken,
         Outcome::Failure => taken,
-        Outcome::Overflow => Outcome::Overflow,
+        Outcome::Overflow => other,
     }
 }
 
