@@ -18,6 +18,8 @@ use Rattle.ol_tree.specs.Parts.{Proper}
 use Rattle.ol_eval.specs.Walk.{nodesIn}
 use Rattle.ol_eval.specs.Plans.{Program, Named, knownIn, globalsIn}
 use Rattle.ol_eval.specs.Post.{Never}
+use Rattle.ol_eval.specs.declared.constants.Found.{Found}
+use Rattle.ol_eval.specs.declared.constants.Found.the-variants as Fnd
 
 abbrev pub noConstant : ℕ × Constant
 noConstant = (0, record { name = 0; ty = bool; value = boolLit false })
@@ -46,3 +48,17 @@ pub record ConstantReady (file tab rows : List ℕ) (i : ℕ) : Type 0 where
 abbrev pub constantOut : List ℕ → List ℕ → ℕ → Outcome
 constantOut file consts i =
     thenOut (λ v. Out.Value (fit (constantAt file i .1 .ty) v)) (eval (globalsIn file consts) noVariables noCalls (constantAt file i .1 .value) [] .out)
+
+-- all constants can be evaluated, the first of which is at `at`
+pub record ConstantsReady (file tab rows consts : List ℕ) (nodes at count : ℕ) : Type 0 where
+  pub each : (i : ℕ) → i < length (fileAt file .constants) → ConstantReady file tab rows i
+  pub counted : count ≡ length (fileAt file .constants)
+  pub begins : 0 < count → at ≡ constantAt file 0 .0
+  pub nodes-is : nodes ≡ nodesIn file
+  pub long : length consts ≡ 9 * count
+  pub few : count ≤ 64
+
+-- what evaluating them gives: their cells, or the place of the first that has no value
+abbrev pub ConstantsAre : Constants → Found → List ℕ → Type 0
+ConstantsAre (all vs) r cs = (r ≡ Fnd.All) × (cs ≡ cells vs) × (valuesOf (length vs) cs ≡ vs)
+ConstantsAre (stuckAt p) r cs = r ≡ Fnd.Stuck p
