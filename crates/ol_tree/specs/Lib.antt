@@ -2,3 +2,4 @@ pub mod At
 pub mod Tables
 pub mod Heads
 pub mod Stands
+pub mod Parts

@@ -1,0 +1,9 @@
+pub mod Backs
+pub mod Constant
+pub mod Evals
+pub mod Lending
+pub mod Naming
+pub mod Passing
+pub mod Planning
+pub mod Readying
+pub mod RealKinds

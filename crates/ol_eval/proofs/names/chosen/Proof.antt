@@ -1,0 +1,51 @@
+-- <uses>
+use mathlib.Core.Path.{_≡_, refl, sym, ap, subst, _∙_}
+use Rattle.ol_spec.specs.Eval.{realKind}
+use Rattle.ol_tree.specs.At.{exprAt}
+use mathlib.Core.Bool.{Bool, true, false}
+use Rattle.ol_eval.specs.Plans.{globalsIn, scopeIn}
+use Rattle.ol_eval.proofs.RealKinds.{common-wide, common-plain}
+-- </uses>
+use borrow.Author.Needs.{needs}
+use Rattle.ol_eval.proofs.names.chosen.Statement.{statement}
+use Rattle.ol_eval.proofs.names.chosen.Tie as tie
+use Rattle.ol_eval.proofs.names.chosen.Reads as reads
+use Rattle.ol_eval.proofs.names.chosen.Lts as lts
+use Rattle.ol_eval.proofs.names.real_kind.Reads as real-kind-reads
+use Rattle.ol_eval.proofs.outcomes.common_out.Reads as common-out-reads
+use Rattle.ol_eval.proofs.outcomes.is_single.Reads as is-single-reads
+
+-- src/names.rt:212:8
+is-single-requires : tie.Need-is-single-requires
+is-single-requires c κs = search needs
+
+-- src/names.rt:213:13
+real-kind-requires : tie.Need-real-kind-requires
+real-kind-requires c κs =
+    let start = c .before .before .before .before .before .before .before in
+    start .pre
+
+-- src/names.rt:214:9
+common-out-requires : tie.Need-common-out-requires
+common-out-requires c κs = search needs
+
+-- src/names.rt:198:1
+returns : tie.Need-returns
+returns c =
+    let start = c .before .before .before .before .before .before .before .before .before in
+    let f = start .args .file .now in
+    let K = realKind (globalsIn f (start .args .consts .now)) (scopeIn f (start .args .node) false (start .args .cells .now) (start .args .cells .now)) (exprAt f (start .args .level) (start .args .at)) in
+    common-wide K (c .before .real-kind .result) (start .args .taken) (c .before .real-kind .ensures) (c .common-out .ensures)
+
+-- src/names.rt:198:1
+returns-2 : tie.Need-returns-2
+returns-2 c =
+    let start = c .before .before .before .before .before .before .before in
+    let f = start .args .file .now in
+    let K = realKind (globalsIn f (start .args .consts .now)) (scopeIn f (start .args .node) false (start .args .cells .now) (start .args .cells .now)) (exprAt f (start .args .level) (start .args .at)) in
+    common-plain K (start .args .taken) (sym (c .before .is-single .ensures) ∙ c .if1 .left)
+
+pub chosen-spec : {M : Type 1} → statement M
+chosen-spec =
+    tie.close
+    (tie.spec is-single-requires real-kind-requires common-out-requires returns returns-2)

@@ -1,0 +1,5 @@
+pub mod Constants
+pub mod Outcomes
+pub mod Plans
+pub mod Post
+pub mod Walk

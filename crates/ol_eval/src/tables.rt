@@ -1,0 +1,41 @@
+// Entries of the tables of a file.
+
+ghost use mathlib.Core.Path.{_≡_};
+ghost use Prim.Native.Nat.{_<_, _≤_};
+ghost use lib.ListN.{length};
+ghost use Prim.Native.Nat.{_+_};
+ghost use Rattle.ol_tree.specs.Tables.{rowsLength, rowAt, codeAt, slotAt, slotsFrom};
+
+// A byte as a number.
+pub fn number(b: u8) -> usize
+    ensures { λ r. ⌜ (r ≡ b) × (r < 256) ⌝ }
+{
+    b as usize
+}
+
+// Entry j of node k's row.
+pub fn row(rows: &[usize], k: usize, j: usize) -> usize
+    requires { ⌜ (length (now rows) ≡ rowsLength) × (k < 32) × (j < 8) ⌝ }
+    ensures { λ r. ⌜ r ≡ rowAt (now (rows .entry)) k j ⌝ }
+{
+    let i = k * 8 + j;
+    rows[i]
+}
+
+// The type code of variable i of node k.
+pub fn code_of(tab: &[u8], k: usize, i: usize) -> u8
+    requires { ⌜ (slotsFrom ≤ length (now tab)) × (k < 32) × (i < 112) ⌝ }
+    ensures { λ r. ⌜ r ≡ codeAt (now (tab .entry)) k i ⌝ }
+{
+    let p = 2560 + (k * 112 + i) * 2;
+    tab[p]
+}
+
+// The slot of the name that stands at a place.
+pub fn slot_at(tab: &[u8], at: usize) -> usize
+    requires { ⌜ slotsFrom + at < length (now tab) ⌝ }
+    ensures { λ r. ⌜ r ≡ slotAt (now (tab .entry)) at ⌝ }
+{
+    let p = 9728 + at;
+    number(tab[p])
+}
