@@ -117,7 +117,7 @@ module _ {file tab rows : List ℕ} where
 abbrev pub Kept : Value → Type 0
 Kept v = valueOf (cell v) ≡ v
 
-cells-append : (vs : List Value) (w : Value) → cells (vs ++ w ∷ []) ≡ cells vs ++ cell w
+pub cells-append : (vs : List Value) (w : Value) → cells (vs ++ w ∷ []) ≡ cells vs ++ cell w
 cells-append [] w = append-nil (cell w)
 cells-append (v ∷ vs) w = ap (λ (l : List ℕ). cell v ++ l) (cells-append vs w) ∙ sym (append-assoc (cell v) (cells vs) (cell w))
 

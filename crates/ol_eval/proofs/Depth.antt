@@ -1,15 +1,18 @@
 -- An evaluation depends on calls only through its callees; so the depth of calls does not matter, once it suffices.
 use Prim.Native.Nat.{ℕ, zero, suc, _<_, _≤_}
 use mathlib.Core.Bool.{Bool}
-use mathlib.Core.List.{List, [], _∷_, _++_}
+use mathlib.Core.List.{List, [], _∷_, _++_, map}
 use mathlib.Core.Path.{_≡_, refl, sym, ap, _∙_}
 use native.Mathlib.Omega.{arith}
 use lib.ListN.{length, take, drop, getD}
 use Rattle.ol_spec.specs.Syntax.{NodeKind, Function, Operator, Imported, Node, Expr, boolLit, intLit, floatLit, charLit, var, unary, binary, ifThenElse, pre, arrow, cast, call, tuple, Exprs, nil, cons, rhsOf, variables}
-use Rattle.ol_spec.specs.Types.{castTo}
+use Rattle.ol_spec.specs.Types.{castTo, defaults}
 use Rattle.ol_spec.specs.Operators.{unaryOf, binaryOf}
 use Rattle.ol_spec.specs.Order.{order}
 use Rattle.ol_spec.specs.Eval.{Globals, Scope, Calls, Eval, Evals, nodeAt, callees, calleesAll, hasCall, isDouble?, realKind, segSize, recordSize, mapEval, next, nextAll, condition, choose, enter, singleEval, severalEval, eval, evalAll, evalRhs}
+use Rattle.ol_spec.specs.Lists.{concat}
+use Rattle.ol_spec.specs.Cell.{cells}
+use Rattle.ol_spec.specs.Step.{sites, freshBy, freshAt}
 use Rattle.ol_spec.specs.Step.{Run, scope, equationAt, evalEquation, store, runAll, run, isFresh, oldCells, oldSegs, fitAll, leave, instance, freshRecord, callBy, callsAt, calls}
 use Rattle.ol_spec.specs.declared.Value.{Value}
 use Rattle.ol_tree.specs.Tables.{Each}
@@ -110,3 +113,27 @@ module _ (g : Globals) (lower : (k i : ℕ) → Each (Below k) (callees (equatio
   pub calls-of : (k : ℕ) (vs : List Value) (r : List ℕ) → k < length (g .nodes) → calls g k vs r ≡ callBy g (nodeAt g k .kind) (calls g) (nodeAt g k) vs r
   unfolding callsAt
   calls-of k vs r h = calls-stable (length (g .nodes)) (suc (length (g .nodes))) k h (omega arith) vs r
+
+-- fresh records likewise
+map-same : (p q : ℕ → List ℕ) (ks : List ℕ) → Each (λ k. p k ≡ q k) ks → map p ks ≡ map q ks
+map-same p q [] h = refl
+map-same p q (k ∷ ks) h = λ i. h .0 i ∷ map-same p q ks (h .1) i
+
+freshBy-same : (g : Globals) (t : NodeKind) (p q : ℕ → List ℕ) (n : Node) → Each (λ k. p k ≡ q k) (sites n) → freshBy g t p n ≡ freshBy g t q n
+freshBy-same g Function p q n h = refl
+freshBy-same g Operator p q n h = ap (λ (rs : List (List ℕ)). 0 ∷ cells (defaults (g .enums) (variables n)) ++ concat rs) (map-same p q (sites n) h)
+freshBy-same g Imported p q n h = refl
+
+module _ (g : Globals) (lower : (k : ℕ) → Each (Below k) (sites (nodeAt g k))) where
+  pub fresh-stable : (d e k : ℕ) → k < d → k < e → freshAt g d k ≡ freshAt g e k
+  unfolding freshAt
+  fresh-stable zero e k h l = absurd (omega arith)
+  fresh-stable (suc d) zero k h l = absurd (omega arith)
+  fresh-stable (suc d) (suc e) k h l =
+      freshBy-same g (nodeAt g k .kind) (freshAt g d) (freshAt g e) (nodeAt g k)
+      (each-map (Below k) (λ c. freshAt g d c ≡ freshAt g e c) (λ c b. fresh-stable d e c (omega arith) (omega arith)) (sites (nodeAt g k)) (lower k))
+
+  -- a call site's fresh record is that of its node, by the same fresh records
+  pub fresh-of : (k : ℕ) → k < length (g .nodes) → freshAt g (length (g .nodes)) k ≡ freshBy g (nodeAt g k .kind) (freshAt g (length (g .nodes))) (nodeAt g k)
+  unfolding freshAt
+  fresh-of k h = fresh-stable (length (g .nodes)) (suc (length (g .nodes))) k h (omega arith)
