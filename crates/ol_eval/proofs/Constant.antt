@@ -34,6 +34,7 @@ use Rattle.ol_eval.specs.Constants.{ConstantReady, ConstantsReady, Const
 use Rattle.ol_eval.specs.declared.cycle.Step.{Step}
 use Rattle.ol_eval.proofs.Passing.{callees-one}
 use Rattle.ol_eval.proofs.Planning.{segs-one, each-both, each-map}
+use Rattle.ol_eval.proofs.Depth.{Agrees, eval-calls}
 use Rattle.ol_eval.proofs.RealKinds.{proper-type}
 
 -- the size of a type, by its code
@@ -49,37 +50,8 @@ size-code char p = refl
 size-code (enum e) p = refl
 
 -- an expression without calls does not depend on what calls mean
-module _ (g : Globals) (s : Scope) (c d : Calls) where
-  mutual
-    unfolding eval
-
-    pub uncalled : (e : Expr) → Each Never (callees e) → (seg : List ℕ) → eval g s c e seg ≡ eval g s d e seg
-    uncalled (boolLit b) h seg = refl
-    uncalled (intLit i) h seg = refl
-    uncalled (floatLit b) h seg = refl
-    uncalled (charLit b) h seg = refl
-    uncalled (var x) h seg = refl
-    uncalled (unary op e) h seg = λ i. mapEval (unaryOf op) (uncalled e h seg i)
-    uncalled (binary op l r) h seg =
-        let t = each-append Never (callees l) (callees r) h in
-        λ i. next (uncalled l (t .0) (take (segSize g l) seg) i) (λ v rest. mapEval (binaryOf op v) (uncalled r (t .1) rest i)) (drop (segSize g l) seg)
-    uncalled (ifThenElse b t e) h seg =
-        let u = each-append Never (callees b) (callees t ++ callees e) h in
-        let w = each-append Never (callees t) (callees e) (u .1) in
-        λ i. next (uncalled b (u .0) (take (segSize g b) seg) i)
-        (condition (λ x rest. choose x
-        (record { calls = hasCall t; wide = isDouble? (realKind g s t); run = λ sg. uncalled t (w .0) sg i; seg = take (segSize g t) rest })
-        (record { calls = hasCall e; wide = isDouble? (realKind g s e); run = λ sg. uncalled e (w .1) sg i; seg = drop (segSize g t) rest })))
-        (drop (segSize g b) seg)
-    uncalled (pre e) h seg = refl
-    uncalled (arrow a b) h seg =
-        let t = each-append Never (callees a) (callees b) h in
-        λ i. choose (s .first)
-        (record { calls = hasCall a; wide = isDouble? (realKind g s a); run = λ sg. uncalled a (t .0) sg i; seg = take (segSize g a) seg })
-        (record { calls = hasCall b; wide = isDouble? (realKind g s b); run = λ sg. uncalled b (t .1) sg i; seg = drop (segSize g a) seg })
-    uncalled (cast t e) h seg = λ i. mapEval (castTo t) (uncalled e h seg i)
-    uncalled (call k es) h seg = absurd (h .0)
-    uncalled (tuple es) h seg = refl
+pub uncalled : (g : Globals) (s : Scope) (c d : Calls) (e : Expr) → Each Never (callees e) → (seg : List ℕ) → eval g s c e seg ≡ eval g s d e seg
+uncalled g s c d e h seg = eval-calls g s c d e (each-map Never (Agrees c d) (λ k n. absurd n) (callees e) h) seg
 
 -- behind the last node there is none
 pub beyond : (file : List ℕ) → nodeIn file (nodesIn file) ≡ noNode
@@ -145,7 +117,7 @@ module _ {file tab rows : List ℕ} where
 abbrev pub Kept : Value → Type 0
 Kept v = valueOf (cell v) ≡ v
 
-cells-append : (vs : List Value) (w : Value) → cells (vs ++ w ∷ []) ≡ cells vs ++ cell w
+pub cells-append : (vs : List Value) (w : Value) → cells (vs ++ w ∷ []) ≡ cells vs ++ cell w
 cells-append [] w = append-nil (cell w)
 cells-append (v ∷ vs) w = ap (λ (l : List ℕ). cell v ++ l) (cells-append vs w) ∙ sym (append-assoc (cell v) (cells vs) (cell w))
 

@@ -1,5 +1,7 @@
 pub mod Backs
 pub mod Constant
+pub mod Copying
+pub mod Depth
 pub mod Evals
 pub mod Lending
 pub mod Naming
