@@ -16,7 +16,8 @@ use Rattle.ol_spec.specs.Step.{sizesAt}
 use Rattle.ol_spec.proofs.Segments.{sites-cons, sites-append}
 use Rattle.ol_tree.specs.At.{fileAt, exprAt, endAt, exprsAt, endsAt, Reads, ReadsAll}
 use Rattle.ol_tree.specs.Tables.{Each, Rows, RowOf, rowAt, siteBytes, sizeCap}
-use Rattle.ol_tree.specs.Parts.{partsOf, headOf, ownSites}
+use Rattle.ol_tree.specs.Heads.{partsOf, headSize as headOf}
+use Rattle.ol_tree.specs.Parts.{ownSites}
 use Rattle.ol_tree.proofs.Forms.{each-append, callees-parts, Formed, Parted, parted, one-read, one-tree, callees-all, none-read, reads-in, some-code}
 use Rattle.ol_tree.proofs.Forms.{by-form, call-form}
 use Rattle.ol_eval.specs.Walk.{nodesIn, sizesIn, Below, FormIs, Sized, Passable, Skips, SkipsTo, eitherOf}

@@ -14,7 +14,8 @@ use Rattle.ol_spec.proofs.Tests.{T-and, true-T, false-T}
 use Rattle.ol_spec.proofs.Segments.{sites-append}
 use Rattle.ol_tree.specs.At.{fileAt, nodeIn, exprAt, endAt, exprsAt, endsAt, Reads, ReadsAll}
 use Rattle.ol_tree.specs.Tables.{Each, Sound}
-use Rattle.ol_tree.specs.Parts.{partsOf, headOf, ownSites}
+use Rattle.ol_tree.specs.Heads.{partsOf, headSize as headOf}
+use Rattle.ol_tree.specs.Parts.{ownSites}
 use Rattle.ol_tree.proofs.Forms.{each-append, Formed, parted, one-read, one-tree, none-read, collected, collected-form, callees-all, callees-form, var-form, pre-form, call-form, reads-in}
 use Rattle.ol_eval.specs.Walk.{nodesIn, sizesIn, Below, Passable}
 use Rattle.ol_eval.specs.Plans.{Named, Program, Plan, segsAt, segAt, nameAt, Nameable, Looked}

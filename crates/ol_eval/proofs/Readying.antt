@@ -13,7 +13,8 @@ use Rattle.ol_spec.specs.declared.Outcome.{Outcome}
 use Rattle.ol_eval.specs.Outcomes.{commonOut}
 use Rattle.ol_tree.specs.At.{exprAt, endAt, exprsAt, endsAt, Reads, ReadsAll}
 use Rattle.ol_tree.specs.Tables.{Each, tyCode, tyEnum}
-use Rattle.ol_tree.specs.Parts.{headOf, ownSites, partsOf, Proper}
+use Rattle.ol_tree.specs.Heads.{headSize as headOf, partsOf}
+use Rattle.ol_tree.specs.Parts.{ownSites, Proper}
 use Rattle.ol_tree.proofs.Forms.{each-append, Formed, callees-all, callees-form, one-read, one-tree, parted, none-read, by-form, callees-parts}
 use Rattle.ol_eval.specs.Walk.{Passable, Skips, SkipsTo}
 use Rattle.ol_eval.specs.declared.skip.Passed.{Passed}

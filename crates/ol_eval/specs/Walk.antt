@@ -10,7 +10,8 @@ use Rattle.ol_spec.specs.Eval.{callees, calleesAll, sitesSize}
 use Rattle.ol_spec.specs.Step.{sizesAt}
 use Rattle.ol_tree.specs.At.{fileAt, exprAt, endAt, exprsAt, endsAt, Reads, ReadsAll}
 use Rattle.ol_tree.specs.Tables.{Each, Rows}
-use Rattle.ol_tree.specs.Parts.{partsOf, headOf, ownSites}
+use Rattle.ol_tree.specs.Heads.{partsOf, headSize as headOf}
+use Rattle.ol_tree.specs.Parts.{ownSites}
 use Rattle.ol_eval.specs.declared.skip.Form.{Form}
 use Rattle.ol_eval.specs.declared.skip.Passed.{Passed}
 

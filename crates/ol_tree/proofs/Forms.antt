@@ -25,7 +25,8 @@ use Rattle.ol_spec.proofs.Tests.{T-and}
 use Rattle.ol_spec.proofs.Offsets.{steps, same-end, same-item, expr-ends}
 use Rattle.ol_tree.specs.At.{itemOf, endOf, limitsAt, enumsAt, exprAt, endAt, exprsAt, endsAt, Reads, ReadsAll}
 use Rattle.ol_tree.specs.Tables.{tyCode, Each}
-use Rattle.ol_tree.specs.Parts.{partsOf, headOf, ownSites, Proper}
+use Rattle.ol_tree.specs.Heads.{partsOf, headSize as headOf}
+use Rattle.ol_tree.specs.Parts.{ownSites, Proper}
 
 -- ---- lists
 
