@@ -21,7 +21,7 @@ use Rattle.ol_eval.specs.declared.skip.Passed.{Passed}
 use Rattle.ol_eval.specs.Plans.{Plan, Cells, segsAt, segAt, evalIn, Leaf, globalsIn, scopeIn}
 use Rattle.ol_eval.specs.Post.{Never, Ready, Meets, EvalsTo, ChooseTo, chooseIn}
 use Rattle.ol_eval.specs.declared.cycle.Step.{Step}
-use Rattle.ol_eval.proofs.Lending.{tailOf, putTail, tail-all, take-put, drop-take}
+use Rattle.ol_eval.proofs.Lending.{tailOf, putTail, tail-all, take-put}
 use Rattle.ol_eval.proofs.Passing.{callees-one, own-call}
 use Rattle.ol_eval.proofs.RealKinds.{proper-type}
 use Rattle.ol_spec.specs.Operators.{unaryOf, binaryOf}
@@ -122,13 +122,6 @@ pub moved-choice : (f consts : List ℕ) (test : Bool) (level node : ℕ) (first
 moved-choice f consts test level node first cells before {q = q} {s = s} {r = r} {new = new} e g h =
     subst (λ (y : List ℕ). ChooseTo f consts test level q node first cells before y r new) g
     (subst (λ (x : ℕ). ChooseTo f consts test level x node first cells before s r new) e h)
-
--- the segment of several is the first's, then the others'
-pub first-seg : (n k : ℕ) (s : List ℕ) → take n (take (n + k) s) ≡ take n s
-first-seg n k s = take-take n (n + k) s (omega arith)
-
-pub other-seg : (n k : ℕ) (s : List ℕ) → drop n (take (n + k) s) ≡ take k (drop n s)
-other-seg n k s = let e : (n + k) - n ≡ k = omega arith in drop-take n (n + k) s ∙ ap (λ (m : ℕ). take m (drop n s)) e
 
 -- two in sequence, and three
 pub two-segs : (f : List ℕ) (level at : ℕ) → ReadsAll f level 2 at → segsAt f level 2 at ≡ segAt f level at + segAt f level (endAt f level at)
