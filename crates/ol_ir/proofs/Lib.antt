@@ -1,0 +1,6 @@
+pub mod Bytes
+pub mod Onward
+pub mod Forms
+pub mod Heads
+pub mod Exprs
+pub mod Files

@@ -1,0 +1,3 @@
+pub mod Nexts
+pub mod Heads
+pub mod Nodes

@@ -1,0 +1,155 @@
+// Variables, equations and nodes.
+use super::Counted;
+use super::Next;
+use super::expr::exprs;
+use super::read::bytes;
+use super::read::code;
+use super::read::count;
+use super::types::ty;
+use ol_spec::Limits;
+ghost use mathlib.Core.Path.{_≡_};
+ghost use Rattle.ol_spec.specs.Read.{many, nameR, sectionR, variableR, equationR, nodeR};
+ghost use Rattle.ol_ir.specs.Nexts.{nextOf};
+ghost use Rattle.ol_ir.specs.Nodes.{interfaceR};
+
+// A variable: its name and its type.
+pub fn variable(file: &[u8], enums: usize, at: usize) -> Next
+    ensures { λ r. ⌜ ((l : Limits) → r ≡ nextOf (variableR (now (file .entry)) l enums at)) ⌝ }
+{
+    match bytes(file, 2, at) {
+        Next::At(p) => ty(file, enums, p),
+        Next::Refused(f) => Next::Refused(f),
+    }
+}
+
+// So many variables.
+fn variables(file: &[u8], enums: usize, count: usize, at: usize) -> Next
+    ensures { λ r. ⌜ ((l : Limits) → r ≡ nextOf (many count (variableR (now (file .entry)) l enums) at)) ⌝ }
+{
+    let mut next = at;
+    let mut left = count;
+    while 0 < left {
+        left -= 1;
+        match variable(file, enums, next) {
+            Next::At(p) => {
+                next = p;
+            }
+            Next::Refused(f) => {
+                return Next::Refused(f);
+            }
+        }
+    }
+    Next::At(next)
+}
+
+// A section of variables.
+pub fn variable_section(file: &[u8], lo: usize, hi: usize, enums: usize, at: usize) -> Next
+    ensures { λ r. ⌜ ((l : Limits) → r ≡ nextOf (sectionR (now (file .entry)) lo hi (variableR (now (file .entry)) l enums) at)) ⌝ }
+{
+    match count(file, lo, hi, at) {
+        Counted::Items(n, p) => variables(file, enums, n, p),
+        Counted::Refused(f) => Next::Refused(f),
+    }
+}
+
+// An equation's names, or an enum's variants: from one to so many names.
+pub fn names(file: &[u8], most: usize, at: usize) -> Next
+    ensures { λ r. ⌜ r ≡ nextOf (sectionR (now (file .entry)) 1 most (nameR (now (file .entry))) at) ⌝ }
+{
+    match count(file, 1, most, at) {
+        Counted::Items(n, p) => bytes(file, 2 * n, p),
+        Counted::Refused(f) => Next::Refused(f),
+    }
+}
+
+// An equation: the names that it defines, and its right side.
+pub fn equation(
+    file: &[u8],
+    most: usize,
+    nesting: usize,
+    arguments: usize,
+    items: usize,
+    enums: usize,
+    at: usize,
+) -> Next
+    ensures { λ r. ⌜ ((l : Limits) → l .names ≡ most → l .nesting ≡ nesting → l .arguments ≡ arguments → l .items ≡ items → r ≡ nextOf (equationR (now (file .entry)) l enums at)) ⌝ }
+{
+    match names(file, most, at) {
+        Next::At(p) => exprs(file, arguments, items, enums, nesting, 1, p),
+        Next::Refused(f) => Next::Refused(f),
+    }
+}
+
+// So many equations.
+fn equations(
+    file: &[u8],
+    most: usize,
+    nesting: usize,
+    arguments: usize,
+    items: usize,
+    enums: usize,
+    count: usize,
+    at: usize,
+) -> Next
+    ensures { λ r. ⌜ ((l : Limits) → l .names ≡ most → l .nesting ≡ nesting → l .arguments ≡ arguments → l .items ≡ items → r ≡ nextOf (many count (equationR (now (file .entry)) l enums) at)) ⌝ }
+{
+    let mut next = at;
+    let mut left = count;
+    while 0 < left {
+        left -= 1;
+        match equation(file, most, nesting, arguments, items, enums, next) {
+            Next::At(p) => {
+                next = p;
+            }
+            Next::Refused(f) => {
+                return Next::Refused(f);
+            }
+        }
+    }
+    Next::At(next)
+}
+
+// A section of equations.
+fn equation_section(file: &[u8], limits: Limits, enums: usize, at: usize) -> Next
+    ensures { λ r. ⌜ r ≡ nextOf (sectionR (now (file .entry)) 0 (limits .equations) (equationR (now (file .entry)) limits enums) at) ⌝ }
+{
+    match count(file, 0, limits.equations, at) {
+        Counted::Items(n, p) => equations(
+            file,
+            limits.names,
+            limits.nesting,
+            limits.arguments,
+            limits.items,
+            enums,
+            n,
+            p,
+        ),
+        Counted::Refused(f) => Next::Refused(f),
+    }
+}
+
+// What stands in front of a node's equations: its kind, inputs, outputs and locals.
+pub fn interface(file: &[u8], limits: Limits, enums: usize, at: usize) -> Next
+    ensures { λ r. ⌜ r ≡ nextOf (interfaceR (now (file .entry)) limits enums at) ⌝ }
+{
+    match code(file, 3, at) {
+        Next::At(p) => match variable_section(file, 0, limits.inputs, enums, p) {
+            Next::At(q) => match variable_section(file, 1, limits.outputs, enums, q) {
+                Next::At(r) => variable_section(file, 0, limits.locals, enums, r),
+                Next::Refused(f) => Next::Refused(f),
+            },
+            Next::Refused(f) => Next::Refused(f),
+        },
+        Next::Refused(f) => Next::Refused(f),
+    }
+}
+
+// A node.
+pub fn node(file: &[u8], limits: Limits, enums: usize, at: usize) -> Next
+    ensures { λ r. ⌜ r ≡ nextOf (nodeR (now (file .entry)) limits enums at) ⌝ }
+{
+    match interface(file, limits, enums, at) {
+        Next::At(p) => equation_section(file, limits, enums, p),
+        Next::Refused(f) => Next::Refused(f),
+    }
+}
