@@ -1,27 +1,22 @@
 -- What reading the sections and the whole file answers, by what the readers of its parts answer.
 use Prim.Native.Nat.{ℕ, zero, suc, _≤_, _<_}
-use mathlib.Core.Bool.{cond}
 use mathlib.Core.List.{List, _∷_}
-use mathlib.Core.Path.{_≡_, refl, sym, ap, _∙_}
+use mathlib.Core.Path.{_≡_, refl, sym, ap, subst, _∙_}
 use native.Mathlib.Omega.{arith}
 use lib.ListN.{length, getD}
-use lib.Dec.{ltb}
 use borrow.Author.Tests.{lt-ltb, le-ltb, eq-eqb, ne-eqb}
 use Rattle.ol_spec.specs.Syntax.{File}
 use Rattle.ol_spec.specs.Limits.{base, relayLoader}
-use Rattle.ol_spec.specs.Read.{Read, got, fault, Reader, thenRead, give, many, countR, sectionR, constantR, nodeR, enumR, sectionsR}
-use Rattle.ol_spec.specs.Read.{atEnd, readFile}
+use Rattle.ol_spec.specs.Read.{Read, got, fault, Reader, thenRead, give, many, countR, sectionR, readFile}
 use Rattle.ol_spec.specs.Answers.{faultAt}
 use Rattle.ol_spec.specs.declared.Fault.{Fault}
-use Rattle.ol_spec.specs.declared.Limits.{Limits}
 use Rattle.ol_ir.specs.Nexts.{nextOf, countedOf, listOf, partsOf, readingOf, afterFormat}
+use Rattle.ol_ir.specs.Walks.{loadedOf, readOf}
 use Rattle.ol_ir.specs.declared.Next.{Next}
 use Rattle.ol_ir.specs.declared.Next.the-variants as Nxt
 use Rattle.ol_ir.specs.declared.Counted.{Counted}
 use Rattle.ol_ir.specs.declared.Counted.the-variants as Cnt
-use Rattle.ol_ir.specs.declared.Reading.the-variants as Rdg
 use Rattle.ol_ir.proofs.Bytes.{byte-in, byte-out}
-use Rattle.ol_ir.proofs.Onward.{onward, ItemChain, next-then, next-give, list-then}
 
 -- ---- so many items are a list of that length
 
@@ -43,6 +38,10 @@ long-many : {A : Type 0} (r : Reader A) (n at : ℕ) → Long n (many n r at)
 unfolding many Long
 long-many r zero at = refl
 long-many r (suc n) at = long-then (suc n) (r at) _ (λ x p. long-cons n x (many n r p) (long-many r n p))
+
+pub many-long : {A : Type 0} (r : Reader A) (k at : ℕ) (xs : List A) (n : ℕ) → many k r at ≡ got xs n → length xs ≡ k
+unfolding Long
+many-long r k at xs n e = subst (Long k) e (long-many r k at)
 
 long-list : {A : Type 0} (n : ℕ) (r : Read (List A)) → Long n r → listOf r ≡ partsOf n (nextOf r)
 unfolding listOf partsOf nextOf Long
@@ -75,63 +74,29 @@ module _ {A : Type 0} (s : List ℕ) (lo hi : ℕ) (r : Reader A) (at : ℕ) {x 
   pub list-none : {f : Fault} → x ≡ Cnt.Refused f → Cnt.Refused f ≡ listOf (sectionR s lo hi r at)
   list-none {f} g = sym (list-fault (countR s lo hi at) f (sym e ∙ g))
 
--- ---- the sections
-
-module _ (s : List ℕ) (format : ℕ) (l : Limits) (at : ℕ) where
-  pub sections-chain : ItemChain (nextOf (sectionsR s format l at)) (listOf (sectionR s 0 (l .enums) (enumR s l) at)) (λ n p. onward (nextOf (sectionR s 0 (l .constants) (constantR s l n) p)) (λ q. nextOf (sectionR s 1 (l .nodes) (nodeR s l n) q)))
-  sections-chain =
-      record {
-        is =
-            list-then (sectionR s 0 (l .enums) (enumR s l) at) _ _ (λ es n.
-            next-then (sectionR s 0 (l .constants) (constantR s l (length es)) n) _ _ (λ cs m.
-            next-give (sectionR s 1 (l .nodes) (nodeR s l (length es)) m) _));
-      }
-
--- ---- the end of the file
-
-end-read : (s : List ℕ) (r : Read File) (p : ℕ) → nextOf r ≡ Nxt.At p → readingOf (thenRead r (atEnd s)) ≡ readingOf (cond (ltb p (length s)) (fault 2 p) r)
-unfolding nextOf thenRead
-end-read s (got f q) p g = let z : q ≡ p = cc in rw z refl
-end-read s (fault n q) p g = let z : _≡_ {A = ℕ} 0 1 = cc in absurd (omega arith)
-
-end-fault : (s : List ℕ) (r : Read File) (f : Fault) → nextOf r ≡ Nxt.Refused f → readingOf (thenRead r (atEnd s)) ≡ Rdg.Refused f
-unfolding nextOf thenRead readingOf
-end-fault s (got a q) f g = let z : _≡_ {A = ℕ} 0 1 = cc in absurd (omega arith)
-end-fault s (fault n q) f g = let z : faultAt n q ≡ f = cc in ap Rdg.Refused z
-
-read-done : (r : Read File) (p : ℕ) → nextOf r ≡ Nxt.At p → readingOf r ≡ Rdg.Done
-unfolding nextOf readingOf
-read-done (got a q) p g = refl
-read-done (fault n q) p g = let z : _≡_ {A = ℕ} 0 1 = cc in absurd (omega arith)
-
-module _ (s : List ℕ) (r : Read File) {x : Next} (e : x ≡ nextOf r) where
-  pub end-more : {p : ℕ} → x ≡ Nxt.At p → p < length s → Rdg.Refused (faultAt 2 p) ≡ readingOf (thenRead r (atEnd s))
-  unfolding readingOf
-  end-more {p} g h = sym (end-read s r p (sym e ∙ g) ∙ rw (lt-ltb p (length s) h) refl)
-
-  pub end-done : {p : ℕ} → x ≡ Nxt.At p → length s ≤ p → Rdg.Done ≡ readingOf (thenRead r (atEnd s))
-  end-done {p} g h = sym (end-read s r p (sym e ∙ g) ∙ rw (le-ltb p (length s) h) (read-done r p (sym e ∙ g)))
-
-  pub end-halt : {f : Fault} → x ≡ Nxt.Refused f → Rdg.Refused f ≡ readingOf (thenRead r (atEnd s))
-  end-halt {f} g = sym (end-fault s r f (sym e ∙ g))
-
--- ---- the file
+-- ---- the whole file
 
 module _ (s : List ℕ) where
-  pub file-long : 32768 < length s → Rdg.Refused (faultAt 1 32768) ≡ readingOf (readFile s relayLoader)
-  unfolding readFile readingOf
-  file-long h = sym (rw (lt-ltb 32768 (length s) h) refl)
+  pub file-long : 32768 < length s → readFile s relayLoader ≡ fault 1 32768
+  unfolding readFile
+  file-long h = rw (lt-ltb 32768 (length s) h) refl
 
   module _ (short : length s ≤ 32768) where
-    pub file-empty : length s ≡ 0 → Rdg.Refused (faultAt 2 0) ≡ readingOf (readFile s relayLoader)
-    unfolding readFile readingOf thenRead
-    file-empty h = sym (rw (le-ltb 32768 (length s) short, byte-out s 0 (omega arith), h) refl)
+    pub file-empty : length s ≡ 0 → readFile s relayLoader ≡ fault 2 0
+    unfolding readFile thenRead
+    file-empty h = rw (le-ltb 32768 (length s) short, byte-out s 0 (omega arith), h) refl
 
     module _ (some : length s ≡ 0 → ⊥) where
-      pub file-known : getD s 0 0 ≡ 1 → readingOf (afterFormat s base) ≡ readingOf (readFile s relayLoader)
+      pub file-known : getD s 0 0 ≡ 1 → readFile s relayLoader ≡ afterFormat s base
       unfolding readFile afterFormat thenRead
-      file-known h = sym (rw (le-ltb 32768 (length s) short, byte-in s 0 (omega arith), eq-eqb (getD s 0 0) 1 h) refl)
+      file-known h = rw (le-ltb 32768 (length s) short, byte-in s 0 (omega arith), eq-eqb (getD s 0 0) 1 h) refl
 
-      pub file-unknown : (getD s 0 0 ≡ 1 → ⊥) → Rdg.Refused (faultAt 3 0) ≡ readingOf (readFile s relayLoader)
-      unfolding readFile readingOf thenRead
-      file-unknown h = sym (rw (le-ltb 32768 (length s) short, byte-in s 0 (omega arith), ne-eqb (getD s 0 0) 1 h) refl)
+      pub file-unknown : (getD s 0 0 ≡ 1 → ⊥) → readFile s relayLoader ≡ fault 3 0
+      unfolding readFile thenRead
+      file-unknown h = rw (le-ltb 32768 (length s) short, byte-in s 0 (omega arith), ne-eqb (getD s 0 0) 1 h) refl
+
+-- whether it was read
+pub read-loaded : (r : Read File) → readOf (loadedOf r) ≡ readingOf r
+unfolding readOf loadedOf readingOf
+read-loaded (got f at) = refl
+read-loaded (fault n p) = refl

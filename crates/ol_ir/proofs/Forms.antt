@@ -8,9 +8,8 @@ use native.Mathlib.Decide.{decLe}
 use lib.ListN.{length, getD, getElem?}
 use Rattle.ol_spec.specs.Lists.{upTo}
 use Rattle.ol_spec.specs.Syntax.{Expr}
-use Rattle.ol_spec.specs.Read.{Read, got, fault, Reader, thenRead, known, many, manyExprs, byte, number, nameR, coded, countR, sectionR}
-use Rattle.ol_spec.specs.Read.{tyCodes, enumT, tyBody, tyR, exprR, variableR, constantR, equationR, nodeR}
-use Rattle.ol_spec.specs.Read.{nodeKinds}
+use Rattle.ol_spec.specs.Read.{Read, got, fault, Reader, thenRead, known, many, manyExprs, byte, number, nameR, coded, countR, sectionR, tyCodes}
+use Rattle.ol_spec.specs.Read.{enumT, tyBody, tyR, exprR, variableR, constantR, equationR, nodeR, nodeKinds}
 use Rattle.ol_spec.specs.Answers.{faultAt}
 use Rattle.ol_spec.specs.declared.Limits.{Limits}
 use Rattle.ol_ir.specs.Nexts.{nextOf, countedOf}
@@ -18,8 +17,7 @@ use Rattle.ol_ir.specs.Nodes.{interfaceR}
 use Rattle.ol_ir.specs.declared.Next.{Next}
 use Rattle.ol_ir.specs.declared.Next.the-variants as Nxt
 use Rattle.ol_ir.proofs.Bytes.{byte-in, byte-out, coded-is, coded-none, coded-end, get-some, get-out}
-use Rattle.ol_ir.proofs.Onward.{onward, repeat, next-then, next-give, counted-then, Chain, ItemChain, many-next}
-use Rattle.ol_ir.proofs.Onward.{exprs-next, repeat-one}
+use Rattle.ol_ir.proofs.Onward.{onward, repeat, next-then, next-give, counted-then, Chain, ItemChain, many-next, exprs-next, repeat-one}
 
 onward-assoc : (x : Next) (k h : ℕ → Next) → onward (onward x k) h ≡ onward x (λ p. onward (k p) h)
 unfolding onward

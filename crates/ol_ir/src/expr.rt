@@ -1,18 +1,22 @@
 // Expressions: operator first, the parts directly behind it.
 use super::Counted;
 use super::Next;
+use super::Scan;
 use super::read::bytes;
 use super::read::code;
 use super::read::count;
+use super::read::name;
 use super::read::refused;
 use super::read::uncounted;
 use super::types::ty;
 ghost use mathlib.Core.Path.{_≡_};
-ghost use Prim.Native.Nat.{ℕ};
-ghost use Rattle.ol_spec.specs.Read.{manyExprs, exprR};
+ghost use Prim.Native.Nat.{ℕ, _≤_, _<_};
+ghost use Rattle.ol_spec.specs.Read.{got, manyExprs, exprR};
 ghost use Rattle.ol_spec.specs.declared.Limits.{Limits};
 ghost use Rattle.ol_ir.specs.Nexts.{nextOf, countedOf, partsOf};
+ghost use Rattle.ol_spec.specs.Syntax.{Expr};
 ghost use Rattle.ol_ir.specs.Heads.{headR, callHead};
+ghost use Rattle.ol_ir.specs.Parts.{scanOf};
 
 // So many parts, the first of which starts where reading goes on.
 fn parts(n: usize, next: Next) -> Counted
@@ -118,4 +122,38 @@ pub fn exprs(
         }
     }
     Next::At(next)
+}
+
+// What a scan for reads finds at an expression: a Var's name, nothing under Pre, the parts of any
+// other.
+pub fn scan(
+    file: &[u8],
+    arguments: usize,
+    items: usize,
+    enums: usize,
+    nesting: usize,
+    at: usize,
+) -> Scan
+    ensures { λ r. ⌜ ((l : Limits) (d : ℕ) (e : Expr) (n : ℕ) → l .arguments ≡ arguments → l .items ≡ items → d ≤ nesting → exprR (now (file .entry)) l enums d at ≡ got e n → r ≡ scanOf at e) ⌝ }
+    ensures { λ r. ⌜ ((x q : ℕ) → r ≡ Scan.Name x q → x < 65536) ⌝ }
+{
+    if at < file.len() {
+        let c = file[at];
+        let p = at + 1;
+        if c == 4 {
+            Scan::Name(name(file, p), at + 3)
+        } else if c == 8 {
+            match exprs(file, arguments, items, enums, nesting, 1, p) {
+                Next::At(q) => Scan::Parts(0, q),
+                Next::Refused(f) => Scan::Refused(f),
+            }
+        } else {
+            match head(file, arguments, items, enums, at) {
+                Counted::Items(n, q) => Scan::Parts(n, q),
+                Counted::Refused(f) => Scan::Refused(f),
+            }
+        }
+    } else {
+        Scan::Parts(0, at)
+    }
 }

@@ -24,3 +24,17 @@ pub enum Reading {
     Done,
     Refused(Fault),
 }
+
+// What loading a file finds: how many enums and how many nodes it has.
+pub enum Loaded {
+    Nodes(usize, usize),
+    Refused(Fault),
+}
+
+// What a scan for reads finds at an expression: a Var's name, or how many parts are left to scan,
+// and where the scan goes on.
+pub enum Scan {
+    Name(usize, usize),
+    Parts(usize, usize),
+    Refused(Fault),
+}

@@ -5,12 +5,20 @@ use super::expr::exprs;
 use super::read::bytes;
 use super::read::code;
 use super::read::count;
+use super::read::keep;
 use super::types::ty;
 use ol_spec::Limits;
+ghost use lib.Seq.{sets};
+ghost use mathlib.Core.List.{map};
 ghost use mathlib.Core.Path.{_≡_};
-ghost use Rattle.ol_spec.specs.Read.{many, nameR, sectionR, variableR, equationR, nodeR};
+ghost use Prim.Native.Nat.{ℕ, _+_};
+ghost use lib.ListN.{length};
+ghost use Rattle.ol_spec.specs.Syntax.{Node};
+ghost use Rattle.ol_spec.specs.Places.{equationsStart, placedEquations};
+ghost use Rattle.ol_spec.specs.Read.{got, many, nameR, sectionR, variableR, equationR, nodeR};
 ghost use Rattle.ol_ir.specs.Nexts.{nextOf};
 ghost use Rattle.ol_ir.specs.Nodes.{interfaceR};
+ghost use Rattle.ol_ir.specs.Walks.{placeOf, placesOf};
 
 // A variable: its name and its type.
 pub fn variable(file: &[u8], enums: usize, at: usize) -> Next
@@ -151,5 +159,65 @@ pub fn node(file: &[u8], limits: Limits, enums: usize, at: usize) -> Next
     match interface(file, limits, enums, at) {
         Next::At(p) => equation_section(file, limits, enums, p),
         Next::Refused(f) => Next::Refused(f),
+    }
+}
+
+// Where so many equations start: entry k of the table gets equation k's place.
+fn equation_places(
+    file: &[u8],
+    limits: Limits,
+    enums: usize,
+    count: usize,
+    at: usize,
+    starts: &mut [usize],
+)
+    ensures { λ _. ⌜ now (starts .exit) ≡ sets (now (starts .entry)) 0 (placesOf count (equationR (now (file .entry)) limits enums) at) ⌝ }
+{
+    let mut next = at;
+    let mut left = count;
+    let mut i: usize = 0;
+    while 0 < left {
+        keep(starts, i, next);
+        left -= 1;
+        i += 1;
+        match equation(
+            file,
+            limits.names,
+            limits.nesting,
+            limits.arguments,
+            limits.items,
+            enums,
+            next,
+        ) {
+            Next::At(p) => {
+                next = p;
+            }
+            Next::Refused(_) => {
+                return;
+            }
+        }
+    }
+}
+
+// The equations of the node that starts at `at`: how many there are, and where each starts.
+pub fn equation_starts(
+    file: &[u8],
+    limits: Limits,
+    enums: usize,
+    at: usize,
+    starts: &mut [usize],
+) -> Counted
+    ensures many { λ r. ⌜ ((n : Node) (end : ℕ) → nodeR (now (file .entry)) limits enums at ≡ got n end → r ≡ Counted.Items (length (n .equations)) (equationsStart at n + 1)) ⌝ }
+    ensures places { λ _. ⌜ ((n : Node) (end : ℕ) → nodeR (now (file .entry)) limits enums at ≡ got n end → now (starts .exit) ≡ sets (now (starts .entry)) 0 (map placeOf (placedEquations at n))) ⌝ }
+{
+    match interface(file, limits, enums, at) {
+        Next::At(p) => match count(file, 0, limits.equations, p) {
+            Counted::Items(n, q) => {
+                equation_places(file, limits, enums, n, q, starts);
+                Counted::Items(n, q)
+            }
+            Counted::Refused(f) => Counted::Refused(f),
+        },
+        Next::Refused(f) => Counted::Refused(f),
     }
 }

@@ -3,9 +3,10 @@ use super::Counted;
 use super::Next;
 use ol_spec::Fault;
 ghost use mathlib.Core.Path.{_≡_};
-ghost use Prim.Native.Nat.{_≤_};
+ghost use Prim.Native.Nat.{ℕ, _≤_, _<_};
+ghost use lib.ListN.{set};
 ghost use Rattle.ol_spec.specs.Lists.{upTo};
-ghost use Rattle.ol_spec.specs.Read.{number, coded, countR};
+ghost use Rattle.ol_spec.specs.Read.{got, number, nameR, coded, countR};
 ghost use Rattle.ol_spec.specs.Answers.{faultAt};
 ghost use Rattle.ol_ir.specs.Nexts.{nextOf, countedOf};
 
@@ -71,5 +72,31 @@ pub fn count(file: &[u8], lo: usize, hi: usize, at: usize) -> Counted
         }
     } else {
         uncounted(2, file.len())
+    }
+}
+
+// A name: two bytes of the file, or 0 where it ends.
+pub fn name(file: &[u8], at: usize) -> usize
+    ensures small { λ r. ⌜ r < 65536 ⌝ }
+    ensures read { λ r. ⌜ ((x n : ℕ) → nameR (now (file .entry)) at ≡ got x n → r ≡ x) ⌝ }
+{
+    if at < file.len() {
+        let p = at + 1;
+        if p < file.len() {
+            (file[at] as usize) * 256 + (file[p] as usize)
+        } else {
+            0
+        }
+    } else {
+        0
+    }
+}
+
+// Puts a place into a table, as far as the table goes.
+pub fn keep(table: &mut [usize], i: usize, place: usize)
+    ensures { λ _. ⌜ now (table .exit) ≡ set (now (table .entry)) i place ⌝ }
+{
+    if i < table.len() {
+        table[i] = place;
     }
 }
