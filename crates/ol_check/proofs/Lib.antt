@@ -12,3 +12,4 @@ pub mod FileLaws
 pub mod SizeLaws
 pub mod SlotLaws
 pub mod SlotEntries
+pub mod TabLaws
