@@ -13,3 +13,4 @@ pub mod SizeLaws
 pub mod SlotLaws
 pub mod SlotEntries
 pub mod TabLaws
+pub mod Sorts
