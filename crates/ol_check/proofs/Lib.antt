@@ -14,3 +14,4 @@ pub mod SlotLaws
 pub mod SlotEntries
 pub mod TabLaws
 pub mod Sorts
+pub mod FileSlots
