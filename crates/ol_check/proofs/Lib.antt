@@ -12,3 +12,6 @@ pub mod FileLaws
 pub mod SizeLaws
 pub mod SlotLaws
 pub mod SlotEntries
+pub mod TabLaws
+pub mod Sorts
+pub mod FileSlots
