@@ -11,7 +11,7 @@ use Rattle.ol_spec.specs.Step.{sites}
 use Rattle.ol_spec.specs.State.{globalsOf, goodOwn, goodSites, goodBy, goodAt}
 use Rattle.ol_spec.specs.Admission.{variants}
 use Rattle.ol_spec.specs.declared.Value.{Value}
-use Rattle.ol_spec.proofs.Calls.{good-of}
+use Rattle.ol_spec.proofs.Calls.{good-site}
 use Rattle.ol_tree.specs.Tables.{rowAt, nodeOf, siteBytes}
 use Rattle.ol_fresh.specs.declared.sites.Site.{Site}
 use Rattle.ol_fresh.specs.Known.{Sited}
@@ -41,7 +41,7 @@ bytesGood f tab rows k r = goodBytes (variants f) (cellsAt tab rows k 0 (rowAt r
 module _ {f : File} {s tab rows : List ℕ} {k : ℕ} {r : List ℕ} (h : Sited f s tab rows k r) where
   -- no Operator: there is no record
   pub none-judged : (rowAt rows k 0 ≡ 1 → ⊥) → (vs : List Value) → true ≡ goodOf f vs k r
-  none-judged other vs = sym (good-of f vs (h .known .lower) k r (h .below) ∙ go (nodeOf f k .kind) (no-operator (h .known) (h .below) other))
+  none-judged other vs = sym (good-site f vs (h .known .lower) k r (h .below) ∙ go (nodeOf f k .kind) (no-operator (h .known) (h .below) other))
     where
       go : (t : NodeKind) → (t ≡ Operator → ⊥) → goodBy (globalsOf f vs) t (goodOf f vs) (nodeOf f k) r ≡ true
       go Function q = refl
@@ -55,7 +55,7 @@ module _ {f : File} {s tab rows : List ℕ} {k : ℕ} {r : List ℕ} (h : Sited 
       let o = is-operator (h .known) (h .below) one in
       let n = nodeOf f k in
       let v = variables-told (h .known) (h .below) in
-      good-of f vs (h .known .lower) k r (h .below)
+      good-site f vs (h .known .lower) k r (h .below)
       ∙ ap (λ t. goodBy (globalsOf f vs) t (goodOf f vs) n r) o
       ∙ (λ i. goodBytes (variants f) (sym (default-cells (h .known) (h .below)) i) (sym v i) r && goodAll f vs (sites n) (drop (1 + 9 * sym v i) r))
 

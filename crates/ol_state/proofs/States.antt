@@ -13,7 +13,7 @@ use Rattle.ol_spec.specs.Step.{instanceSize}
 use Rattle.ol_spec.specs.State.{globalsOf, goodBy, goodRecord, goodState}
 use Rattle.ol_spec.specs.Admission.{headSize, stateSize}
 use Rattle.ol_spec.specs.declared.Value.{Value}
-use Rattle.ol_spec.proofs.Calls.{good-of}
+use Rattle.ol_spec.proofs.Calls.{good-site}
 use Rattle.ol_tree.specs.Tables.{rowAt, nodeOf, siteBytes}
 use Rattle.ol_fresh.specs.Known.{Sited}
 use Rattle.ol_fresh.proofs.Filling.{tailOf, tail-all}
@@ -71,6 +71,6 @@ module _ {f : File} {s tab rows table consts : List ℕ} (h : Ready f s tab rows
       main-decides l t good vs e =
           let q : length state ≡ stateSize f = omega (arith, l, size, main-size) in
           let c : same (take (headSize f) state) (cells vs) ≡ true = ap₂ same (ap (λ m. take m state) (sym (h .head))) (sym e) ∙ sym t in
-          let m = good-of f vs (h .known .lower) k (drop (headSize f) state) below ∙ ap (λ t. goodBy (globalsOf f vs) t (goodOf f vs) (nodeOf f k) (drop (headSize f) state)) operator in
+          let m = good-site f vs (h .known .lower) k (drop (headSize f) state) below ∙ ap (λ t. goodBy (globalsOf f vs) t (goodOf f vs) (nodeOf f k) (drop (headSize f) state)) operator in
           good vs ∙ ap (goodOf f vs k) (tail-all (length consts) state ∙ ap (λ n. drop n state) (h .head)) ∙ m ∙ ap (λ n. goodRecord (globalsOf f vs) n (drop (headSize f) state)) (sym is-main)
           ∙ sym (and-pass (and-pass (eq-eqb _ _ q) ∙ c))
