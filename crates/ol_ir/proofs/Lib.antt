@@ -1,0 +1,11 @@
+pub mod Bytes
+pub mod Onward
+pub mod Forms
+pub mod Heads
+pub mod Exprs
+pub mod Files
+pub mod Sizes
+pub mod Trees
+pub mod Items
+pub mod Scans
+pub mod Load

@@ -1,0 +1,5 @@
+pub mod Nexts
+pub mod Heads
+pub mod Nodes
+pub mod Parts
+pub mod Walks
