@@ -1,9 +1,10 @@
-// Times the reader of ol_ir (linked as libread_bench.a) beside a plain sum of the same bytes. Run by bench/read.
+// Times the reader of ol_ir beside a plain sum of the same bytes, and the ordering of ol_order (linked as libread_bench.a). Run by bench/read.
 use std::hint::black_box;
 use std::time::Instant;
 
 extern "C" {
     fn ol_read_bench(file: *const u8, length: usize) -> u64;
+    fn ol_order_bench(file: *const u8, length: usize, buffer: *mut usize, entries: usize) -> u8;
 }
 
 const LENGTH: usize = 32_768;
@@ -109,6 +110,29 @@ fn timed(turns: u64, run: &mut dyn FnMut() -> u64) -> (f64, f64) {
     (least, all.elapsed().as_nanos() as f64 / 1000.0 / turns as f64)
 }
 
+// A file of one node, with a chain of 80 equations: each reads from the next in the file, or from the one before it.
+fn chain(against: bool) -> Vec<u8> {
+    let reads = |k: u16| if against && k < 80 { var(k + 1) } else if !against && k > 1 { var(k - 1) } else { vec![0, 1] };
+    file(&[node(&(1..=80).map(|k| equation(k, &reads(k))).collect::<Vec<_>>())])
+}
+
+fn order(f: &[u8], order: &mut [usize]) -> u8 {
+    unsafe { ol_order_bench(black_box(f.as_ptr()), f.len(), order.as_mut_ptr(), order.len()) }
+}
+
+// Ordering a chain of 80 equations in file order, and one against it.
+fn time_chains(turns: u64) {
+    println!("microseconds for the order of a chain of 80 equations");
+    println!("{:<8} {:>9} {:>9}", "", "ordering", "mean");
+    for (name, against) in [("in order", false), ("against", true)] {
+        let (f, mut entries) = (chain(against), [0; 80]);
+        assert_eq!(order(&f, &mut entries), 0);
+        assert!((0..80).all(|k| entries[k] == if against { 79 - k } else { k }));
+        let (ours, mean) = timed(turns, &mut || order(&f, &mut entries) as u64);
+        println!("{:<8} {:>9.1} {:>9.1}", name, ours, mean);
+    }
+}
+
 fn main() {
     let turns: u64 = std::env::args().nth(1).and_then(|a| a.parse().ok()).unwrap_or(2000);
     println!("microseconds for {} bytes: the least and the mean of {} runs", LENGTH, turns);
@@ -122,4 +146,5 @@ fn main() {
         let (sum, sum_mean) = timed(turns, &mut || byte_sum(black_box(&f)));
         println!("{:<8} {:>9.1} {:>9.1}   {:>9.1} {:>9.1}", name, ours, mean, sum, sum_mean);
     }
+    time_chains(turns);
 }

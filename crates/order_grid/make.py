@@ -7,8 +7,10 @@
 #
 # The list, all numbers big-endian. First six sections, of the files whose reading answers 0 (no fault), 1, 2, 3, 4 and 5: how many files
 # (two bytes), then of each file how many of its bytes are given (two), these bytes, its length (two), the other bytes being 0, and the
-# answer, a number (one) and a place (two).
-import os, random, struct, subprocess, sys
+# answer, a number (one) and a place (two). Then ten sections of orderings: how many files (two), then of each file its bytes, as above,
+# how many questions (two), and of each question the node's number (two), the buffer's length (two), the answer, as above, and for the
+# number 0 the order, a byte for each entry.
+import itertools, os, random, struct, subprocess, sys
 
 rng = random.Random(5)
 two = lambda n: struct.pack('>H', n)
@@ -130,6 +132,168 @@ def reading_sections():
     for number, them in enumerate(by_number): print(number, len(them), 'files,', len({a[1] for _, a in them}), 'places')
     return b''.join(two(len(them)) + b''.join(given(f) + bytes([a[0]]) + two(a[1]) for f, a in them) for them in by_number)
 
-out = reading_sections()
+# ---- nodes to order
+
+# a node whose equations define and read the names given: up to 16 are outputs, up to 64 locals, and `declared` says which
+def ordered(eqs, declared=None):
+    names = list(dict.fromkeys(n for ns, _ in eqs for n in ns)) if declared is None else declared
+    names = names or [1]
+    return node(1, [], [int64(n) for n in names[:16]], [int64(n) for n in names[16:80]], [equation(ns, e) for ns, e in eqs])
+
+# an expression that reads these names, in this sequence
+def reads(names):
+    if not names: return rng.choice([true, integer(1), real(0.5), b'\x03\x07', b'\x0b\x00\x00'])
+    e = var(names[-1])
+    for n in reversed(names[:-1]): e = b'\x06\x0a' + var(n) + e
+    return e
+
+def graph(edges): return [([k + 1], reads([j + 1 for j in js])) for k, js in enumerate(edges)]
+
+def shuffled(n): return rng.sample(range(n), n)
+
+# equation places[k] reads that at places[k + 1], and the last one what `end` says
+def chain(places, end=()):
+    edges = [[] for _ in places]
+    for k, p in enumerate(places): edges[p] = [places[k + 1]] if k + 1 < len(places) else list(end)
+    return graph(edges)
+
+def perms(n): return [list(p) for p in itertools.permutations(range(n))]
+
+def chains():
+    for n in range(1, 5):
+        for p in perms(n): yield ordered(chain(p))
+    for n in (6, 10, 25, 40):
+        for p in (list(range(n)), list(range(n))[::-1], shuffled(n)): yield ordered(chain(p))
+
+def rings():
+    for n in range(1, 9):
+        for _ in range(3):
+            p = shuffled(n)
+            yield ordered(chain(p, [p[0]]))
+            # a tail that leads into a ring
+            yield ordered(chain(p, [p[n // 2]]))
+            # equations that the ring neither reads nor is read by, and one that it reads
+            q = chain(p, [p[0]])
+            k = rng.randrange(n + 1)
+            yield ordered(q[:k] + [([90], var(91)), ([91], true)] + q[k:])
+            q[p[0]] = (q[p[0]][0], b'\x06\x0a' + q[p[0]][1] + var(90))
+            yield ordered(q[:k] + [([90], true)] + q[k:])
+
+def self_reads():
+    one = lambda e, *more: ordered([([1], e), *more])
+    for e in (var(1), pre + var(1), b'\x09' + true + pre + var(1), b'\x09' + var(1) + true, b'\x06\x0a' + var(1) + pre + var(1), unary + pre + unary + var(1)):
+        yield one(e)
+        yield one(e, ([1], integer(2)))
+        yield one(e, ([2], var(1)), ([1], integer(2)))
+        yield one(e, ([1], var(1)))
+    yield ordered([([1], integer(2)), ([1], var(1))])
+    yield ordered([([1, 2], b'\x0c\x02' + var(2) + true)])
+    yield ordered([([1, 2], b'\x0c\x02' + true + true), ([2, 3], b'\x0c\x02' + var(1) + var(3))])
+
+def doubles():
+    for _ in range(90):
+        n, names = rng.randrange(2, 9), rng.randrange(1, 5)
+        yield ordered([(rng.sample(range(1, 6), rng.choice([1, 1, 2])), reads([rng.randrange(1, names + 2) for _ in range(rng.choice([0, 0, 1, 1, 2]))])) for _ in range(n)])
+
+# names that are read or defined and not declared, the greatest and the least among them
+def undeclared():
+    for _ in range(40):
+        pool = rng.sample([0, 1, 2, 255, 256, 257, 511, 512, 32768, 65279, 65534, 65535], 6)
+        n = rng.randrange(1, 7)
+        yield ordered([([rng.choice(pool)], reads([rng.choice(pool) for _ in range(rng.choice([0, 1, 1, 2]))])) for _ in range(n)], [7])
+
+# a read at each part of each form, and the same under Pre
+def forms():
+    x = var(2)
+    parts = [b'\x05\x00' + x, b'\x05\x01' + x, b'\x06\x0a' + x + true, b'\x06\x0a' + true + x, b'\x07' + x + true + true, b'\x07' + true + x + true, b'\x07' + true + true + x,
+             b'\x09' + x + true, b'\x09' + true + x, b'\x0a\x03' + x, b'\x0b\x00\x01' + x, b'\x0b\x00\x03' + true + true + x, b'\x0c\x02' + x + true, b'\x0c\x03' + true + true + x, x]
+    for e in parts:
+        yield ordered([([1], e), ([2], true)])
+        yield ordered([([1], pre + e), ([2], true)])
+        yield ordered([([1], b'\x06\x0a' + (pre + e) + e), ([2], var(3)), ([3], b'\x04\x00\x09')])
+        yield ordered([([1], b'\x06\x0a' + (pre + e) + true), ([2], var(1))])
+    for levels in (22, 23, 24): yield ordered([([1], nest(levels, b'\x05\x00', x)), ([2], nest(levels, pre, var(1)))])
+
+def eighty():
+    n = 80
+    up = list(range(n))
+    for p in (up, up[::-1], up[::2] + up[1::2], up[1::2][::-1] + up[::2], shuffled(n), shuffled(n)): yield ordered(chain(p))
+    for p in (up, shuffled(n)): yield ordered(chain(p, [p[0]]))
+    yield ordered(chain(up, [79]))
+    yield ordered(graph([[] for _ in range(n)]))
+    yield ordered([([1], true)] * n)
+    yield ordered([([1], var(1))] * n)
+    yield ordered([([k % 7], var((k + 1) % 7)) for k in range(n)])
+    for density in (0.01, 0.02): yield ordered(graph([[j for j in range(n) if j != k and rng.random() < density] for k in range(n)]))
+    order = shuffled(n)
+    yield ordered(graph([[j for j in range(n) if order[j] < order[k] and rng.random() < 0.05] for k in range(n)]))
+
+def random_nodes():
+    for _ in range(80):
+        n = rng.randrange(0, 12)
+        order = shuffled(n)
+        density, free = rng.choice([0.1, 0.2, 0.4]), rng.random() < 0.4
+        yield ordered(graph([[j for j in range(n) if (free or order[j] < order[k]) and rng.random() < density] for k in range(n)]))
+
+# nodes into files, so many into one
+def packed(nodes, each=16):
+    nodes = list(nodes)
+    return [file(nodes[k:k + each]) for k in range(0, len(nodes), each)]
+
+def equations_of(f, k):
+    # where the node's count of equations stands: behind the sections of its variables
+    at = 4
+    for _ in range(k + 1):
+        at += 1
+        for _ in range(3): at += 1 + 3 * f[at]
+        count, at = f[at], at + 1
+        for _ in range(count): at = skip(f, at + 1 + 2 * f[at])
+    return count
+
+parts_of = {0: (1, 0), 1: (8, 0), 2: (8, 0), 3: (1, 0), 4: (2, 0), 5: (1, 1), 6: (1, 2), 7: (0, 3), 8: (0, 1), 9: (0, 2), 10: (1, 1)}
+def skip(f, at):
+    if f[at] == 11: size, n = 2, f[at + 2]
+    elif f[at] == 12: size, n = 1, f[at + 1]
+    else: size, n = parts_of[f[at]]
+    at += 1 + size
+    for _ in range(n): at = skip(f, at)
+    return at
+
+# the questions of a file: a node's number, and the buffer's length
+def right(f): return [(k, equations_of(f, k)) for k in range(f[3])]
+def wrong(f):
+    for k in range(f[3]):
+        n = equations_of(f, k)
+        for m in sorted({0, n - 1, n + 1, n + 80, 256, 256 + n} - {n, -1}): yield (k, m)
+def absent(f): return [(k, m) for k in (f[3], f[3] + 1, 32, 255, 256, 257, 32768, 65535) for m in (0, 1, 3)]
+
+# an order is the oracle's; a buffer of another length than the order's is fault 17
+def answer(words, length):
+    if words[1] == 'refused': return bytes([int(words[2])]) + two(int(words[3]))
+    if len(words) - 2 != length: return b'\x11' + two(0)
+    return b'\x00' + two(0) + bytes(int(w) for w in words[2:])
+
+def ordering_section(label, files, questions):
+    asks = [(f, list(questions(f))) for f in files]
+    answers = iter(asked([line for f, qs in asks for line in ['file ' + f.hex()] + ['order %d' % k for k, _ in qs]]))
+    out, total, seen = two(len(asks)), 0, set()
+    for f, qs in asks:
+        assert next(answers)[0] == 'admit'
+        said = [answer(next(answers), m) for _, m in qs]
+        seen |= {s[0] for s in said}
+        out += given(f) + two(len(qs)) + b''.join(two(k) + two(m) + s for (k, m), s in zip(qs, said))
+        total += len(qs)
+    print(label, total, 'questions, answers', sorted(seen))
+    return out
+
+def ordering_sections():
+    sorts = [('chains', chains), ('rings', rings), ('self-reads', self_reads), ('double definitions', doubles), ('undeclared names', undeclared),
+             ('forms', forms), ('80 equations', eighty), ('random nodes', random_nodes)]
+    files = [(label, packed(make())) for label, make in sorts]
+    some = [f for _, fs in files for f in fs[:1]]
+    out = b''.join(ordering_section(label, fs, right) for label, fs in files)
+    return out + ordering_section('wrong buffers', some, wrong) + ordering_section('absent nodes', some[:2] + [counter], absent)
+
+out = reading_sections() + ordering_sections()
 open(os.path.join(os.path.dirname(os.path.abspath(sys.argv[0])), 'stdin'), 'wb').write(out)
 print(len(out), 'bytes')
