@@ -27,7 +27,7 @@ def one(e): return file([node(1, [], [int64(1)], [], [equation([1], e)])])
 
 # ---- files to read
 
-true, unary, pre, yes = b'\x00\x01', b'\x05\x00', b'\x08', b'\x00\x00'
+true, false, unary, pre = b'\x00\x01', b'\x00\x00', b'\x05\x00', b'\x08'
 # every section, every form, every kind of type
 whole = file(
     [node(0, [name(1) + b'\x04'], [name(2) + b'\x09'], [], [equation([2], b'\x0a\x09' + var(1))]),
@@ -40,7 +40,7 @@ whole = file(
 counter = bytes.fromhex('01000001010001000104000101000109010000000000000000060a08040001010000000000000001')
 
 def nest(levels, wrap, leaf): return wrap * (levels - 1) + leaf
-wraps = [b'\x05\x00', b'\x05\x01', b'\x08', b'\x0a\x04', b'\x0b\x00\x01', b'\x06\x00' + true, b'\x09' + true, b'\x07' + true + true, b'\x0c\x02' + yes]
+wraps = [b'\x05\x00', b'\x05\x01', b'\x08', b'\x0a\x04', b'\x0b\x00\x01', b'\x06\x00' + true, b'\x09' + true, b'\x07' + true + true, b'\x0c\x02' + false]
 leaves = [true, integer(1), real(1.5), b'\x03\x00', var(1), b'\x0b\x00\x00', b'\x0d', b'\xff', b'\x00\x02', b'']
 
 def deep():
@@ -85,13 +85,13 @@ def lengths():
     yield b''
     yield b'\x02'
     # the longest that reads: Tuples of Tuples, of which so many items are Vars, a byte longer than Bools
-    def longest(vars):
-        items = iter([var(1)] * vars + [true] * (59 * 256))
+    def longest(longer):
+        items = iter([var(1)] * longer + [true] * (59 * 256))
         tuples = lambda: b'\x0c\x10' + b''.join(b'\x0c\x10' + b''.join(next(items) for _ in range(16)) for _ in range(16))
         return file([node(1, [], [int64(1)], [], [equation([1], tuples()) for _ in range(59)])])
-    vars = 32768 - len(longest(0))
-    yield longest(vars)
-    yield longest(vars + 1)
+    longer = 32768 - len(longest(0))
+    yield longest(longer)
+    yield longest(longer + 1)
 
 def damaged():
     for n in range(len(whole)): yield whole[:n]
@@ -180,12 +180,12 @@ def rings():
             yield ordered(q[:k] + [([90], true)] + q[k:])
 
 def self_reads():
-    one = lambda e, *more: ordered([([1], e), *more])
+    of = lambda e, *more: ordered([([1], e), *more])
     for e in (var(1), pre + var(1), b'\x09' + true + pre + var(1), b'\x09' + var(1) + true, b'\x06\x0a' + var(1) + pre + var(1), unary + pre + unary + var(1)):
-        yield one(e)
-        yield one(e, ([1], integer(2)))
-        yield one(e, ([2], var(1)), ([1], integer(2)))
-        yield one(e, ([1], var(1)))
+        yield of(e)
+        yield of(e, ([1], integer(2)))
+        yield of(e, ([2], var(1)), ([1], integer(2)))
+        yield of(e, ([1], var(1)))
     yield ordered([([1], integer(2)), ([1], var(1))])
     yield ordered([([1, 2], b'\x0c\x02' + var(2) + true)])
     yield ordered([([1, 2], b'\x0c\x02' + true + true), ([2, 3], b'\x0c\x02' + var(1) + var(3))])
