@@ -1,10 +1,14 @@
 -- What reading the sections and the whole file answers, by what the readers of its parts answer.
 use Prim.Native.Nat.{ℕ, zero, suc, _≤_, _<_}
+use mathlib.Core.Bool.{Bool, true, false}
 use mathlib.Core.List.{List, _∷_}
 use mathlib.Core.Path.{_≡_, refl, sym, ap, subst, _∙_}
+use mathlib.Core.Logic.{by-cases}
+use native.Mathlib.Decide.{decLe}
 use native.Mathlib.Omega.{arith}
 use lib.ListN.{length, getD}
-use borrow.Author.Tests.{lt-ltb, le-ltb, eq-eqb, ne-eqb}
+use lib.Dec.{eqb}
+use borrow.Author.Tests.{lt-ltb, le-ltb, eq-eqb, ne-eqb, eqb-true, eqb-false}
 use Rattle.ol_spec.specs.Syntax.{File}
 use Rattle.ol_spec.specs.Limits.{base, relayLoader}
 use Rattle.ol_spec.specs.Read.{Read, got, fault, Reader, thenRead, give, many, countR, sectionR, readFile}
@@ -100,3 +104,18 @@ pub read-loaded : (r : Read File) → readOf (loadedOf r) ≡ readingOf r
 unfolding readOf loadedOf readingOf
 read-loaded (got f at) = refl
 read-loaded (fault n p) = refl
+
+-- a file that was read has the format that is known
+pub file-after : (s : List ℕ) (f : File) (end : ℕ) → readFile s relayLoader ≡ got f end → afterFormat s base ≡ got f end
+file-after s f end e =
+    by-cases (decLe (length s) 32768) (λ short.
+    by-cases (decLe (length s) 0) (λ none. absurd (never (sym (file-empty s short (omega arith)) ∙ e))) (λ some.
+    tested short (λ z. some (omega arith)) (eqb (getD s 0 0) 1) refl))
+    (λ long. absurd (never (sym (file-long s (omega arith)) ∙ e)))
+  where
+    never : {a b : ℕ} → fault a b ≡ got f end → ⊥
+    never h = let z : _≡_ {A = ℕ} 0 1 = cc in omega arith
+
+    tested : length s ≤ 32768 → (length s ≡ 0 → ⊥) → (b : Bool) → eqb (getD s 0 0) 1 ≡ b → afterFormat s base ≡ got f end
+    tested short some true h = sym (file-known s short some (eqb-true (getD s 0 0) 1 h)) ∙ e
+    tested short some false h = absurd (never (sym (file-unknown s short some (eqb-false (getD s 0 0) 1 h)) ∙ e))

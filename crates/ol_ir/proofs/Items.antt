@@ -8,10 +8,8 @@ use native.Mathlib.Omega.{arith}
 use lib.ListN.{length, getElem?, set}
 use lib.Seq.{sets}
 use Rattle.ol_spec.specs.Syntax.{Equation, Node}
-use Rattle.ol_spec.specs.Places.{placed, sectionSize, variableSize, equationSize, equationsStart, placedEquations}
-use Rattle.ol_spec.specs.Places.{rhsPlace}
-use Rattle.ol_spec.specs.Read.{Read, got, fault, Reader, many, countR, coded, nodeKinds, nameR, sectionR, variableR}
-use Rattle.ol_spec.specs.Read.{equationR, exprR, nodeR}
+use Rattle.ol_spec.specs.Places.{placed, sectionSize, variableSize, equationSize, equationsStart, placedEquations, rhsPlace}
+use Rattle.ol_spec.specs.Read.{Read, got, fault, Reader, many, countR, coded, nodeKinds, nameR, sectionR, variableR, equationR, exprR, nodeR}
 use Rattle.ol_spec.specs.Answers.{faultAt}
 use Rattle.ol_spec.specs.declared.Fault.{Fault}
 use Rattle.ol_spec.specs.declared.Limits.{Limits}
@@ -23,6 +21,7 @@ use Rattle.ol_ir.specs.declared.Next.{Next}
 use Rattle.ol_ir.specs.declared.Next.the-variants as Nxt
 use Rattle.ol_ir.specs.declared.Counted.{Counted}
 use Rattle.ol_ir.specs.declared.Counted.the-variants as Cnt
+use Rattle.ol_ir.proofs.Bytes.{counted-is}
 use Rattle.ol_ir.proofs.Sizes.{Takes, takes-count, takes-coded, takes-section, takes-names, takes-variable, takes-equation}
 use Rattle.ol_ir.proofs.Trees.{then-got}
 use Rattle.ol_ir.proofs.Files.{many-long}
@@ -213,3 +212,13 @@ pub equation-read : (s : List ℕ) (l : Limits) (enums at : ℕ) (n : Node) (end
 equation-read s l enums at n end r i p q e =
     let a = section-at s 0 (l .equations) (equationR s l enums) (equationsStart at n) (n .equations) end (node-at s l enums at n end r .equations) in
     placed-read s equationSize (equationR s l enums) (takes-equation s l enums) (length (n .equations)) (equationsStart at n + 1) (n .equations) end (a .items) i p q e
+
+-- a count that was read is within its limits
+pub within : (s : List ℕ) (lo hi at n p : ℕ) → countR s lo hi at ≡ got n p → n ≤ hi
+unfolding countedOf
+within s lo hi at n p e = counted-is s lo hi at n p (sym (ap countedOf e)) .high
+
+pub few-equations : (s : List ℕ) (l : Limits) (enums at : ℕ) (n : Node) (end : ℕ) → nodeR s l enums at ≡ got n end → length (n .equations) ≤ l .equations
+few-equations s l enums at n end r =
+    within s 0 (l .equations) (equationsStart at n) (length (n .equations)) (equationsStart at n + 1)
+    (section-at s 0 (l .equations) (equationR s l enums) (equationsStart at n) (n .equations) end (node-at s l enums at n end r .equations) .counted)

@@ -10,10 +10,8 @@ use lib.Seq.{sets}
 use lib.Dec.{ltb}
 use borrow.Author.Tests.{lt-ltb, le-ltb}
 use Rattle.ol_spec.specs.Syntax.{Node, Constant, File}
-use Rattle.ol_spec.specs.Places.{placed, enumSize, constantSize, nodeSize}
-use Rattle.ol_spec.specs.Places.{placedNodes, nodesStart}
-use Rattle.ol_spec.specs.Read.{Read, got, fault, thenRead, give, many, countR, sectionR, constantR}
-use Rattle.ol_spec.specs.Read.{nodeR, enumR, sectionsR, atEnd}
+use Rattle.ol_spec.specs.Places.{placed, enumSize, constantSize, nodeSize, placedNodes, nodesStart}
+use Rattle.ol_spec.specs.Read.{Read, got, fault, thenRead, give, many, countR, sectionR, constantR, nodeR, enumR, sectionsR, atEnd}
 use Rattle.ol_spec.specs.Answers.{faultAt}
 use Rattle.ol_spec.specs.declared.Fault.{Fault}
 use Rattle.ol_spec.specs.declared.Limits.{Limits}
@@ -26,11 +24,10 @@ use Rattle.ol_ir.specs.declared.Counted.{Counted}
 use Rattle.ol_ir.specs.declared.Counted.the-variants as Cnt
 use Rattle.ol_ir.specs.declared.Loaded.{Loaded}
 use Rattle.ol_ir.specs.declared.Loaded.the-variants as Ldd
-use Rattle.ol_ir.proofs.Sizes.{takes-section, takes-constant}
-use Rattle.ol_ir.proofs.Sizes.{takes-node, takes-enum}
+use Rattle.ol_ir.proofs.Sizes.{takes-section, takes-constant, takes-node, takes-enum}
 use Rattle.ol_ir.proofs.Trees.{then-got, then-fault}
 use Rattle.ol_ir.proofs.Files.{many-long}
-use Rattle.ol_ir.proofs.Items.{from-next, from-halt, from-items, from-no-items, places-placed, placed-read, section-at}
+use Rattle.ol_ir.proofs.Items.{within, from-next, from-halt, from-items, from-no-items, places-placed, placed-read, section-at}
 
 -- ---- the nodes, to the end of the file
 
@@ -216,3 +213,8 @@ module _ (s : List ℕ) (l : Limits) (f : File) (end : ℕ) (r : afterFormat s l
       let a = section-at s 1 (l .nodes) (nodeR s l (length (f .enums))) (nodesStart f - 1) (f .nodes) end (w .0) in
       let one : nodesStart f - 1 + 1 ≡ nodesStart f = omega (arith, w .1) in
       placed-read s nodeSize (nodeR s l (length (f .enums))) (takes-node s l (length (f .enums))) (length (f .nodes)) (nodesStart f) (f .nodes) end (subst (λ m. many (length (f .nodes)) (nodeR s l (length (f .enums))) m ≡ got (f .nodes) end) one (a .items)) k p n e
+
+  pub few-nodes : length (f .nodes) ≤ l .nodes
+  few-nodes =
+      within s 1 (l .nodes) (nodesStart f - 1) (length (f .nodes)) (nodesStart f - 1 + 1)
+      (section-at s 1 (l .nodes) (nodeR s l (length (f .enums))) (nodesStart f - 1) (f .nodes) end (nodes-at .0) .counted)

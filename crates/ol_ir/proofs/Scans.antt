@@ -7,8 +7,7 @@ use native.Mathlib.Omega.{arith}
 use lib.ListN.{length, getD, getElem?}
 use Rattle.ol_spec.specs.Syntax.{Expr, boolLit, intLit, floatLit, charLit, var, unary, binary, ifThenElse, pre, arrow, cast, call, tuple, count}
 use Rattle.ol_spec.specs.Places.{exprSize}
-use Rattle.ol_spec.specs.Read.{got, thenRead, manyExprs, byte, number, nameR, coded, exprCodes, ExprCode, exprBody, exprR, varCode}
-use Rattle.ol_spec.specs.Read.{preCode}
+use Rattle.ol_spec.specs.Read.{got, thenRead, manyExprs, byte, number, nameR, coded, exprCodes, ExprCode, exprBody, exprR, varCode, preCode}
 use Rattle.ol_spec.specs.Answers.{faultAt}
 use Rattle.ol_spec.specs.declared.Fault.{Fault}
 use Rattle.ol_spec.specs.declared.Limits.{Limits}

@@ -13,10 +13,10 @@ use Rattle.ol_spec.specs.Lists.{sum, upTo}
 use Rattle.ol_spec.specs.Numbers.{signed}
 use Rattle.ol_spec.specs.Syntax.{Ty, Expr, Exprs, count}
 use Rattle.ol_spec.specs.Places.{tySize, exprSize, exprsSize, variableSize, equationSize, enumSize, constantSize, sectionSize, nodeSize}
-use Rattle.ol_spec.specs.Read.{got, fault, Reader, thenRead, give, known, many, manyExprs, byte, number, nameR, coded, within?, countR}
-use Rattle.ol_spec.specs.Read.{sectionR, TyCode, boolT, float32T, float64T, charT, enumT, intT, tyCodes, tyBody, tyR, exprCodes, ExprCode, exprBody}
-use Rattle.ol_spec.specs.Read.{exprR, rootR, boolCode, intCode, floatCode, charCode, varCode, unaryCode, binaryCode, ifCode, preCode, arrowCode}
-use Rattle.ol_spec.specs.Read.{castCode, callCode, tupleCode, bools, unaryOps, binOps, nodeKinds, variableR, constantR, equationR, nodeR, enumR}
+use Rattle.ol_spec.specs.Read.{got, fault, Reader, thenRead, give, known, many, manyExprs, byte, number, nameR, coded, within?, countR, sectionR}
+use Rattle.ol_spec.specs.Read.{TyCode, boolT, float32T, float64T, charT, enumT, intT, tyCodes, tyBody, tyR, exprCodes, ExprCode, exprBody, exprR}
+use Rattle.ol_spec.specs.Read.{rootR, boolCode, intCode, floatCode, charCode, varCode, unaryCode, binaryCode, ifCode, preCode, arrowCode, castCode}
+use Rattle.ol_spec.specs.Read.{callCode, tupleCode, bools, unaryOps, binOps, nodeKinds, variableR, constantR, equationR, nodeR, enumR}
 use Rattle.ol_spec.specs.declared.Limits.{Limits}
 use Rattle.ol_spec.proofs.Offsets.{steps, same-item, same-end}
 use Rattle.ol_ir.proofs.Bytes.{byte-in, byte-out}

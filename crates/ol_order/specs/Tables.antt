@@ -1,0 +1,86 @@
+-- The tables of the ordering: the equations at their places, which equation defines a name, which equations are placed.
+use Prim.Native.Nat.{ℕ, zero, suc}
+use mathlib.Core.Bool.{Bool, true, false, cond}
+use mathlib.Core.List.{List, [], _∷_, map}
+use mathlib.Core.Option.{Option, none, some}
+use lib.ListN.{length, getD, set}
+use lib.Dec.{ltb, eqb}
+use Rattle.ol_spec.specs.Syntax.{boolLit, Equation, Node, noNode}
+use Rattle.ol_spec.specs.Read.{Read, got, fault, equationR, nodeR}
+use Rattle.ol_spec.specs.Order.{order, unplaced}
+use Rattle.ol_spec.specs.Cycle.{OrderingCall, noOrder}
+use Rattle.ol_spec.specs.declared.Limits.{Limits}
+use Rattle.ol_spec.specs.declared.Sorted.the-variants as Sort
+
+-- ---- what stands at a place: the readings, with a default where there is a fault
+
+abbrev pub noEquation : Equation
+noEquation = record { names = []; rhs = boolLit false }
+
+abbrev pub equationIn : Read Equation → Equation
+equationIn (got q n) = q
+equationIn (fault n p) = noEquation
+
+abbrev pub nodeIn : Read Node → Node
+nodeIn (got n m) = n
+nodeIn (fault n p) = noNode
+
+unfoldable pub equationAt : List ℕ → Limits → ℕ → ℕ → Equation
+equationAt s l enums at = equationIn (equationR s l enums at)
+
+unfoldable pub nodeAt : List ℕ → Limits → ℕ → ℕ → Node
+nodeAt s l enums at = nodeIn (nodeR s l enums at)
+
+abbrev pub equationsAt : List ℕ → Limits → ℕ → List ℕ → List Equation
+equationsAt s l enums starts = map (equationAt s l enums) starts
+
+-- ---- the table of definers: entry x is the index of x's last definer, or 255
+
+-- each of the names gets i
+unfoldable pub put : List ℕ → ℕ → List ℕ → List ℕ
+put [] i table = table
+put (x ∷ xs) i table = put xs i (set table x i)
+
+-- each equation's names get its index, the first having the index i
+unfoldable pub putAll : ℕ → List Equation → List ℕ → List ℕ
+putAll i [] table = table
+putAll i (q ∷ qs) table = putAll (suc i) qs (put (q .names) i table)
+
+abbrev pub definerCode : Option ℕ → ℕ
+definerCode none = 255
+definerCode (some j) = j
+
+-- whether the name's definer has a flag, and it is 0
+unfoldable pub waitsFor : List ℕ → List ℕ → ℕ → Bool
+waitsFor definers placed x = cond (ltb (getD definers x 0) (length placed)) (eqb (getD placed (getD definers x 0) 0) 0) false
+
+-- ---- the flags of the placed equations
+
+abbrev pub flagOf : Bool → ℕ
+flagOf true = 1
+flagOf false = 0
+
+unfoldable pub zeros : List ℕ → ℕ
+zeros [] = 0
+zeros (zero ∷ l) = suc (zeros l)
+zeros (suc n ∷ l) = zeros l
+
+-- the first 0, or the length
+unfoldable pub firstZero : List ℕ → ℕ
+firstZero [] = 0
+firstZero (zero ∷ l) = 0
+firstZero (suc n ∷ l) = suc (firstZero l)
+
+-- ---- the answer
+
+abbrev pub orderIf : Bool → List Equation → List ℕ → OrderingCall
+orderIf true qs buf = record { answer = Sort.Done; buffer = order qs }
+orderIf false qs buf = noOrder 17 0 buf
+
+abbrev pub orderUnless : Option ℕ → List Equation → List ℕ → List ℕ → OrderingCall
+orderUnless (some i) qs starts buf = noOrder 11 (getD starts i 0) buf
+orderUnless none qs starts buf = orderIf (eqb (length buf) (length qs)) qs buf
+
+-- the ordering of these equations, which start at these places
+unfoldable pub orderOf : List Equation → List ℕ → List ℕ → OrderingCall
+orderOf qs starts buf = orderUnless (unplaced qs) qs starts buf
