@@ -28,7 +28,7 @@ loop-holds c = (omega (arith, c .before .before .pre .0), c .before .before .pre
 
 -- src/size.rt:70:13
 returns : tie.Need-returns Inv-loop μ-loop
-returns c = λ enums es e h. absurd (going-in (c .before .before .loop .inv .2 enums es e h .going) (c .before .loop-test .taken) (c .if1 .taken))
+returns c = (c .before .before .loop .inv .1, λ enums es e h. absurd (going-in (c .before .before .loop .inv .2 enums es e h .going) (c .before .loop-test .taken) (c .if1 .taken)))
 
 -- src/size.rt:75:13
 head-requires : tie.Need-head-requires Inv-loop μ-loop
@@ -64,7 +64,7 @@ loop-again c = (
 
 -- src/size.rt:61:1
 returns-2 : tie.Need-returns-2 Inv-loop μ-loop
-returns-2 c = λ enums es e h. sites-done (c .before .loop .inv .2 enums es e h) (c .before .loop .inv .1) (λ lt. omega (arith, c .loop-test .left)) _ refl refl
+returns-2 c = (c .before .loop .inv .1, λ enums es e h. sites-done (c .before .loop .inv .2 enums es e h) (c .before .loop .inv .1) (λ lt. omega (arith, c .loop-test .left)) _ refl refl)
 
 pub sites-spec : {M : Type 1} → statement M
 sites-spec =
