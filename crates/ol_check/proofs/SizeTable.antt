@@ -3,46 +3,50 @@ use Prim.Native.Nat.{ℕ, zero, suc, _+_, _-_, _*_, _≤_, _<_, min}
 use mathlib.Core.Bool.{Bool, true, false, _&&_, cond}
 use mathlib.Core.List.{List, [], _∷_, _++_, map, append-assoc, append-nil, List·Memᴰ·head as here, List·Memᴰ·tail as there, List·Memᴰ·not-nil as in-nil}
 use mathlib.Core.Logic.{by-cases}
-use mathlib.Core.Option.{none}
+use mathlib.Core.Option.{none, some}
 use mathlib.Core.Path.{_≡_, refl, sym, ap, subst, _∙_}
 use native.Mathlib.Omega.{arith}
 use native.Mathlib.Decide.{decLt}
 use native.Mathlib.Nat.{add-zero}
 use native.Mathlib.Numerals.{add-one}
-use lib.ListN.{length, getD, set, drop, length-set, length-append, drop-of-length-le, List·getD-eq-default}
+use lib.ListN.{length, getD, set, drop, length-set, drop-of-length-le, List·getD-eq-default}
 use lib.Seq.{getD-set-same, getD-set-other, drop-cons}
-use lib.Dec.{T, ltb, ltb→lt}
-use borrow.Author.Tests.{lt-ltb}
+use lib.Dec.{T, ltb, leb, eqb, ltb→lt}
+use borrow.Author.Tests.{lt-ltb, le-ltb}
 use Rattle.ol_theory.specs.Member.{_∈_}
-use Rattle.ol_spec.specs.Lists.{sum, concat}
+use Rattle.ol_spec.specs.Lists.{sum, concat, maybe}
 use Rattle.ol_spec.specs.Syntax.{NodeKind, Function, Operator, Imported, Node, File, Equation, noNode, variables}
 use Rattle.ol_spec.specs.Syntax.{Expr, boolLit, intLit, floatLit, charLit, var, unary, binary, ifThenElse, pre, arrow, cast, call, tuple, Exprs, nil, cons}
 use Rattle.ol_spec.specs.Places.{equationSize, equationsStart, collectAll}
-use Rattle.ol_spec.specs.Encode.{kindCode, equationBytes}
+use Rattle.ol_spec.specs.Encode.{kindCode, equationBytes, encode}
 use Rattle.ol_spec.specs.Limits.{base, relayLoader}
-use Rattle.ol_spec.specs.Within.{equationFits}
+use Rattle.ol_spec.specs.Within.{byteFits, equationFits, sectionsFit, within}
 use Rattle.ol_spec.specs.Eval.{callees, calleesAll, sizeIn, sitesSize}
-use Rattle.ol_spec.specs.Step.{noEquation, equationSites, sites, ownSize, siteSizeBy, sizesAt}
-use Rattle.ol_spec.specs.Admission.{calleeIn, mayCall, fault9}
+use Rattle.ol_spec.specs.Step.{noEquation, equationSites, sites, ownSize, instanceSize, siteSizeBy, sizesAt}
+use Rattle.ol_spec.specs.Admission.{calleeIn, mayCall, fault9, stateSize, atMain, fault13}
 use Rattle.ol_spec.specs.Demand3.{Bytes}
 use Rattle.ol_spec.proofs.Tests.{T-and}
 use Rattle.ol_spec.proofs.Lists.{all-at}
 use Rattle.ol_spec.proofs.ReadFacts.{NodeRead, file-read}
 use Rattle.ol_spec.proofs.Admits.{okFor, site-allowed, node-plain}
 use Rattle.ol_spec.proofs.Calls.{site-size}
+use Rattle.ol_spec.proofs.RoundTrip.{encode-read}
 use Rattle.ol_spec.proofs.RoundTrip.Items.{equation-size}
 use Rattle.ol_tree.specs.At.{fileAt}
-use Rattle.ol_tree.specs.Tables.{rowAt, nodeOf, sizeCap, siteBytes}
+use Rattle.ol_tree.specs.Tables.{rowAt, nodeOf, sizeCap, siteBytes, firstAt, RowOf, Rows}
 use Rattle.ol_tree.specs.Heads.{partsOf, headSize, joined, HeadIs, Standing}
 use Rattle.ol_tree.specs.Stands.{Listed, FileReads, FileStands, NodeStands}
 use Rattle.ol_tree.proofs.Heads.{walk-head}
-use Rattle.ol_tree.proofs.HeadsFile.{Passing, Item, passing-start, passing-item, equation-stands, node-at}
+use Rattle.ol_tree.proofs.HeadsFile.{Passing, Item, passing-start, passing-item, equation-stands, file-stands, node-at}
+use Rattle.ol_check.specs.Founds.{Byte}
 use Rattle.ol_check.specs.RowsDone.{NodeRow}
 use Rattle.ol_check.specs.Judging.{headAt, heads}
 use Rattle.ol_check.specs.NodesJudged.{placeIn, NodeReady, RowsReady}
-use Rattle.ol_check.specs.Sizes.{siteB, SitesSized, calleeB, EquationsSized, instanceB, recordB, SizesDone}
+use Rattle.ol_check.specs.Sizes.{siteB, SitesSized, calleeB, EquationsSized, instanceB, recordB, SizesIn, SizesDone, StateReady}
 use Rattle.ol_check.specs.declared.size.Sized.{Sized}
-use Rattle.ol_check.proofs.RowLoops.{item-in}
+use Rattle.ol_check.proofs.RowLoops.{item-in, few-variables}
+use Rattle.ol_check.proofs.TabLaws.{row-of}
+use Rattle.ol_check.proofs.SizeLaws.{the-main, the-place, min-add}
 use Rattle.ol_check.proofs.HeadLaws.{Flat, ended, headAnd, flat}
 
 -- ---- sums
@@ -141,9 +145,6 @@ pub record EquationsGoing (s rows : List ℕ) (nodes enums : ℕ) (qs : List Equ
   pub passing : Passing equationBytes (equationFits base enums) equationSize s at qs i next
   pub sized : min (size + sum (map (calleeB rows nodes) (concat (map equationSites (drop i qs))))) 65536 ≡ min (start + sum (map (calleeB rows nodes) (concat (map equationSites qs)))) 65536
 
-min-on : (a b r c : ℕ) → min (min (a + b) c + r) c ≡ min (a + (b + r)) c
-min-on a b r c = omega arith
-
 module _ {s rows : List ℕ} {nodes enums : ℕ} {qs : List Equation} {start at : ℕ} where
   pub equations-start : Listed equationBytes (equationFits base enums) s at qs → EquationsGoing s rows nodes enums qs start at start 0 at
   equations-start h = record { passing = passing-start equationBytes (equationFits base enums) equationSize h; sized = refl }
@@ -173,7 +174,7 @@ module _ {s rows : List ℕ} {nodes enums : ℕ} {qs : List Equation} {start at 
         record {
           passing = subst (Passing equationBytes (equationFits base enums) equationSize s at qs (i + 1)) (omega (arith, w .next, same)) (it .on);
           sized = ap (λ m. min (m + sum (map c rest)) 65536) (w .size ∙ ap (λ m. min (size + m) 65536) here-sum)
-              ∙ min-on size (sum (map c (callees (x .rhs)))) (sum (map c rest)) 65536
+              ∙ min-add size (sum (map c (callees (x .rhs)))) (sum (map c rest)) 65536
               ∙ ap (λ m. min (size + m) 65536) (sym (sum-append c (callees (x .rhs)) rest))
               ∙ ap (λ l. min (size + sum (map c (concat (map equationSites l)))) 65536) (sym on) ∙ g .sized;
         }
@@ -187,19 +188,14 @@ module _ {s rows : List ℕ} {nodes enums : ℕ} {qs : List Equation} {start at 
 -- ---- a node
 
 module _ {s rows : List ℕ} {nodes k : ℕ} (rd : NodeReady s rows nodes k) (st : FileStands s (fileAt s)) where
-  abbrev the : Node
-  the = nodeOf (fileAt s) k
-
   the-row : NodeRow (nodeOf (fileAt s) k) (placeIn (fileAt s) k) k rows
   the-row = rd .row k (omega (arith, rd .low, rd .many))
 
   the-node : NodeStands s (length (fileAt s .enums)) (placeIn (fileAt s) k) (nodeOf (fileAt s) k)
   the-node = node-at st k (omega (arith, rd .low, rd .many))
 
-  pub few-variables : (v : ℕ) → v ≡ getD rows (k * 8 + 4) 0 → v ≤ 112
-  few-variables v e =
-      let n = nodeOf (fileAt s) k in
-      omega (arith, e, the-row .variables, the-node .fewInputs, the-node .fewOutputs, the-node .fewLocals, length-append (n .inputs ++ n .outputs) (n .locals), length-append (n .inputs) (n .outputs))
+  pub few-in-row : (v : ℕ) → v ≡ getD rows (k * 8 + 4) 0 → v ≤ 112
+  few-in-row v e = omega (arith, e, the-row .variables, few-variables the-node)
 
   pub instance-sized : (v m a r : ℕ) → v ≡ getD rows (k * 8 + 4) 0 → m ≡ getD rows (k * 8 + 5) 0 → a ≡ getD rows (k * 8 + 1) 0 → EquationsSized s rows nodes m (1 + 9 * v) a r
       → r ≡ min (instanceB rows nodes (nodeOf (fileAt s) k)) 65536
@@ -303,3 +299,55 @@ module _ {s rows₀ rows : List ℕ} {nodes k : ℕ} (rd : RowsReady s rows₀ n
 
   pub sizes-done : nodes ≤ k → SizesDone (fileAt s) rows₀ rows
   sizes-done over = record { row = rows-kept; others = g .others; above = g .above; sizes = λ no j h. g .sizes no j (omega (arith, rd .many)) }
+
+-- the rows are the file's
+pub rows-sized : {f : File} {rows rows′ : List ℕ} → length rows′ ≡ 272 → ((e : ℕ) → e < length (f .enums) → firstAt rows e ≡ getD (getD (f .enums) e []) 0 0) → SizesDone f rows rows′
+    → fault9 f ≡ none → Rows f rows′
+rows-sized long firsts d no9 =
+    record { long = long; rowsOf = λ k lt. row-of (d .row k lt) (d .sizes no9 k lt); firsts = λ e lt. d .above (256 + e) (omega arith) ∙ firsts e lt }
+
+-- ---- the state
+
+cap-right : (a i c : ℕ) → min (a + min i c) c ≡ min (a + i) c
+cap-right a i c = omega arith
+
+relay-state : (f : File) → T (within relayLoader f) → maybe 0 (λ l. l .state) (relayLoader .limits (f .format)) ≡ 32768
+unfolding within
+relay-state f t = go (eqb (f .format) 1) (T-and (byteFits (f .format)) _ t .1)
+  where
+    go : (b : Bool) → T (maybe false (sectionsFit f) (cond b (some base) none) && leb (length (encode f)) 32768) → maybe 0 (λ l. l .state) (cond b (some base) none) ≡ 32768
+    go true t = refl
+    go false t = absurd t
+
+module _ {s rows : List ℕ} {nodes constants : ℕ} (bytes : Bytes s) (rd : StateReady s rows nodes constants) where
+  pub state-sized : (c m r : ℕ) → Byte s constants c → m ≡ min (instanceB rows nodes (nodeOf (fileAt s) (nodes - 1))) 65536 → r ≡ min (9 * c + m) 65536
+      → fault9 (fileAt s) ≡ none → SizesIn (fileAt s) rows → r ≡ min (stateSize (fileAt s)) 65536
+  unfolding stateSize
+  state-sized c m r bc em er no9 sizes =
+      let f = fileAt s in
+      let all = sizesAt (length (f .nodes)) (f .nodes) in
+      let st = file-stands bytes (rd .ready .reads) in
+      let many : c ≡ length (f .constants) = bc .is ∙ ap (λ p. getD s p 0) (omega (arith, rd .counted)) ∙ st .constantCount in
+      let low : nodes - 1 < nodes = omega (arith, rd .some-node) in
+      let inst = by-kind bytes (rd .ready .reads) no9 rows nodes (nodes - 1) (rd .ready .many) low (λ j h. sizes j (omega (arith, rd .ready .many))) Operator in
+      er ∙ ap (λ n. min (9 * c + n) 65536) (em ∙ inst) ∙ cap-right (9 * c) (instanceSize all (nodeOf f (nodes - 1))) 65536
+      ∙ ap (λ n. min (9 * n + instanceSize all (nodeOf f (nodes - 1))) 65536) many
+      ∙ ap (λ n. min (9 * length (f .constants) + instanceSize all n) 65536) (sym (the-main (rd .ready) (rd .some-node)))
+
+  limit-is : maybe 0 (λ l. l .state) (relayLoader .limits (fileAt s .format)) ≡ 32768
+  limit-is = relay-state (fileAt s) (encode-read relayLoader s (fileAt s) (rd .ready .reads .end) bytes (rd .ready .reads .is) .2)
+
+  pub state-long : (n p : ℕ) → (fault9 (fileAt s) ≡ none → SizesIn (fileAt s) rows → n ≡ min (stateSize (fileAt s)) 65536) → 32768 < n → p ≡ getD rows ((nodes - 1) * 8 + 7) 0
+      → fault9 (fileAt s) ≡ none → SizesIn (fileAt s) rows → some p ≡ fault13 relayLoader (fileAt s)
+  state-long n p en lt ep no9 sizes =
+      let f = fileAt s in
+      let e = en no9 sizes in
+      ap some (ep ∙ rd .ready .row (nodes - 1) (omega (arith, rd .ready .many, rd .some-node)) .place ∙ sym (the-place (rd .ready) (rd .some-node)))
+      ∙ ap (atMain f) (sym (lt-ltb 32768 (stateSize f) (omega (arith, e)))) ∙ ap (λ l. atMain f (ltb l (stateSize f))) (sym limit-is)
+
+  pub state-short : (n : ℕ) → (fault9 (fileAt s) ≡ none → SizesIn (fileAt s) rows → n ≡ min (stateSize (fileAt s)) 65536) → n ≤ 32768
+      → fault9 (fileAt s) ≡ none → SizesIn (fileAt s) rows → none ≡ fault13 relayLoader (fileAt s)
+  state-short n en le no9 sizes =
+      let f = fileAt s in
+      let e = en no9 sizes in
+      ap (atMain f) (sym (le-ltb 32768 (stateSize f) (omega (arith, e)))) ∙ ap (λ l. atMain f (ltb l (stateSize f))) (sym limit-is)

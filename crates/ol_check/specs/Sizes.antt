@@ -8,17 +8,18 @@ use lib.ListN.{length, getD}
 use lib.Dec.{ltb, eqb}
 use Rattle.ol_spec.specs.Lists.{sum, concat}
 use Rattle.ol_spec.specs.Syntax.{Exprs, NodeKind, Function, Operator, Imported, Equation, Node, File}
-use Rattle.ol_spec.specs.Places.{exprsSize}
+use Rattle.ol_spec.specs.Places.{exprsSize, constantsStart}
 use Rattle.ol_spec.specs.Encode.{equationBytes}
 use Rattle.ol_spec.specs.Limits.{base}
 use Rattle.ol_spec.specs.Within.{equationFits}
 use Rattle.ol_spec.specs.Step.{equationSites, sites, ownSize}
 use Rattle.ol_spec.specs.Admission.{fault9}
+use Rattle.ol_tree.specs.At.{fileAt}
 use Rattle.ol_tree.specs.Stands.{Listed}
 use Rattle.ol_tree.specs.Tables.{rowAt, sizeCap, siteBytes, nodeOf}
 use Rattle.ol_check.specs.RowsDone.{NodeRow}
 use Rattle.ol_check.specs.Judging.{heads}
-use Rattle.ol_check.specs.NodesJudged.{placeIn}
+use Rattle.ol_check.specs.NodesJudged.{placeIn, RowsReady}
 use Rattle.ol_check.specs.declared.size.Sized.{Sized}
 
 -- the bytes of the record of the expression at p, if it is a call of one of so many nodes
@@ -50,9 +51,19 @@ recordB Function size = 0
 recordB Operator size = size
 recordB Imported size = 0
 
+-- the lengths of the records are in the rows
+abbrev pub SizesIn : File → List ℕ → Type 0
+SizesIn f rows = (k : ℕ) → k < length (f .nodes) → rowAt rows k 6 ≡ min (siteBytes f k) sizeCap
+
 -- the lengths of the records are in the rows, where 9 does not hold, and all else is as before
 pub record SizesDone (f : File) (rows rows′ : List ℕ) : Type 0 where
   pub row : (k : ℕ) → k < length (f .nodes) → NodeRow (nodeOf f k) (placeIn f k) k rows′
   pub others : (k j : ℕ) → j < 8 → (j ≡ 6 → ⊥) → rowAt rows′ k j ≡ rowAt rows k j
   pub above : (j : ℕ) → 256 ≤ j → getD rows′ j 0 ≡ getD rows j 0
-  pub sizes : fault9 f ≡ none → (k : ℕ) → k < length (f .nodes) → rowAt rows′ k 6 ≡ min (siteBytes f k) sizeCap
+  pub sizes : fault9 f ≡ none → SizesIn f rows′
+
+-- the file reads without fault, the rows are its nodes', and the count of its constants stands at `constants`
+pub record StateReady (s rows : List ℕ) (nodes constants : ℕ) : Type 0 where
+  pub ready : RowsReady s rows nodes
+  pub some-node : 1 ≤ nodes
+  pub counted : constants + 1 ≡ constantsStart (fileAt s)

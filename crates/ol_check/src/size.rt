@@ -1,4 +1,4 @@
-// Fault 14, and the lengths of the records.
+// Faults 13 and 14, and the lengths of the records.
 use super::Found;
 use super::bytes::byte;
 use super::bytes::entry;
@@ -6,16 +6,18 @@ use super::bytes::put;
 use super::heads::head;
 use super::rows::names_end;
 ghost use mathlib.Core.Path.{_≡_};
+ghost use mathlib.Core.Option.{none};
 ghost use Prim.Native.Nat.{ℕ, _≤_, _<_, _+_, min};
 ghost use lib.ListN.{length};
 ghost use Rattle.ol_spec.specs.Syntax.{Exprs, count};
-ghost use Rattle.ol_spec.specs.Admission.{fault14};
+ghost use Rattle.ol_spec.specs.Limits.{relayLoader};
+ghost use Rattle.ol_spec.specs.Admission.{stateSize, fault9, fault13, fault14};
 ghost use Rattle.ol_tree.specs.At.{fileAt};
 ghost use Rattle.ol_tree.specs.Heads.{Standing};
 ghost use Rattle.ol_tree.specs.Tables.{nodeOf};
 ghost use Rattle.ol_check.specs.Founds.{placeOf};
 ghost use Rattle.ol_check.specs.NodesJudged.{NodeReady, RowsReady};
-ghost use Rattle.ol_check.specs.Sizes.{siteB, SitesSized, EquationsSized, instanceB, recordB, SizesDone};
+ghost use Rattle.ol_check.specs.Sizes.{siteB, SitesSized, EquationsSized, instanceB, recordB, SizesIn, SizesDone, StateReady};
 
 // Fault 14: the last node is no Operator.
 pub fn not_operator(file: &[u8], rows: &[usize], nodes: usize) -> Found
@@ -140,5 +142,28 @@ pub fn sizes_of(file: &[u8], rows: &mut [usize], nodes: usize)
         let size = record_size(file, rows, nodes, k);
         put(rows, k * 8 + 6, size);
         k += 1;
+    }
+}
+
+// The state's length, up to 65536: the constants' cells, then an instance of the last node. The
+// count of the constants stands at `constants`.
+pub fn state_size(file: &[u8], rows: &[usize], nodes: usize, constants: usize) -> usize
+    requires { ⌜ StateReady (now file) (now rows) nodes constants ⌝ }
+    ensures { λ r. ⌜ (fault9 (fileAt (now (file .entry))) ≡ none → SizesIn (fileAt (now (file .entry))) (now (rows .entry)) → r ≡ min (stateSize (fileAt (now (file .entry)))) 65536) ⌝ }
+{
+    let many = byte(file, constants);
+    let main = instance(file, rows, nodes, nodes - 1);
+    capped(9 * many, main)
+}
+
+// Fault 13: the state is too long.
+pub fn too_long(file: &[u8], rows: &[usize], nodes: usize, constants: usize) -> Found
+    requires { ⌜ StateReady (now file) (now rows) nodes constants ⌝ }
+    ensures { λ r. ⌜ (fault9 (fileAt (now (file .entry))) ≡ none → SizesIn (fileAt (now (file .entry))) (now (rows .entry)) → placeOf r ≡ fault13 relayLoader (fileAt (now (file .entry)))) ⌝ }
+{
+    if 32768 < state_size(file, rows, nodes, constants) {
+        Found::At(entry(rows, (nodes - 1) * 8 + 7))
+    } else {
+        Found::Nothing
     }
 }

@@ -1,4 +1,4 @@
-use Rattle.ol_check.proofs.SizeTable.{few-variables, instance-sized}
+use Rattle.ol_check.proofs.SizeTable.{few-in-row, instance-sized}
 use Rattle.ol_tree.proofs.HeadsFile.{file-stands, bytes-of}
 use native.Mathlib.Omega.{arith}
 use borrow.Author.Needs.{needs}
@@ -47,17 +47,17 @@ entry-requires-3 c κs = search needs
 
 -- src/size.rt:111:50
 mul-equation-sites : tie.Need-mul-equation-sites
-mul-equation-sites c = let few = few-variables (c .before .before .before .before .before .pre) (file-stands (bytes-of (c .before .before .before .before .before .args .file .now) (λ i. omega (arith, c .before .before .before .before .shared-slice-known .given i))) (c .before .before .before .before .before .pre .reads)) _ (c .before .before .entry .ensures) in omega (arith, few)
+mul-equation-sites c = let few = few-in-row (c .before .before .before .before .before .pre) (file-stands (bytes-of (c .before .before .before .before .before .args .file .now) (λ i. omega (arith, c .before .before .before .before .shared-slice-known .given i))) (c .before .before .before .before .before .pre .reads)) _ (c .before .before .entry .ensures) in omega (arith, few)
 
 -- src/size.rt:111:46
 add-equation-sites : tie.Need-add-equation-sites
-add-equation-sites c = let few = few-variables (c .before .before .before .before .before .pre) (file-stands (bytes-of (c .before .before .before .before .before .args .file .now) (λ i. omega (arith, c .before .before .before .before .shared-slice-known .given i))) (c .before .before .before .before .before .pre .reads)) _ (c .before .before .entry .ensures) in omega (arith, few)
+add-equation-sites c = let few = few-in-row (c .before .before .before .before .before .pre) (file-stands (bytes-of (c .before .before .before .before .before .args .file .now) (λ i. omega (arith, c .before .before .before .before .shared-slice-known .given i))) (c .before .before .before .before .before .pre .reads)) _ (c .before .before .entry .ensures) in omega (arith, few)
 
 -- src/size.rt:111:5
 equation-sites-requires : tie.Need-equation-sites-requires
 equation-sites-requires c κs =
     let st = file-stands (bytes-of (c .before .before .before .before .before .args .file .now) (λ i. omega (arith, c .before .before .before .before .shared-slice-known .given i))) (c .before .before .before .before .before .pre .reads) in
-    let few = few-variables (c .before .before .before .before .before .pre) st _ (c .before .before .entry .ensures) in
+    let few = few-in-row (c .before .before .before .before .before .pre) st _ (c .before .before .entry .ensures) in
     (st .short, omega (arith, few))
 
 -- src/size.rt:104:1
