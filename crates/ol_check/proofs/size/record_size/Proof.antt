@@ -9,23 +9,23 @@ use Rattle.ol_check.proofs.size.record_size.Lts as lts
 use Rattle.ol_check.proofs.bytes.entry.Reads as entry-reads
 use Rattle.ol_check.proofs.size.instance.Reads as instance-reads
 
--- src/size.rt:119:20
+-- src/size.rt:128:20
 mul-entry : tie.Need-mul-entry
 mul-entry c = search needs
 
--- src/size.rt:119:8
+-- src/size.rt:128:8
 entry-requires : tie.Need-entry-requires
 entry-requires c κs = search needs
 
--- src/size.rt:120:9
+-- src/size.rt:129:9
 instance-requires : tie.Need-instance-requires
 instance-requires c κs = search needs
 
--- src/size.rt:115:1
+-- src/size.rt:124:1
 returns : tie.Need-returns
 returns c = record-operator (c .before .before .before .before .before .pre) (file-stands (bytes-of (c .before .before .before .before .before .args .file .now) (λ i. omega (arith, c .before .before .before .before .shared-slice-known .given i))) (c .before .before .before .before .before .pre .reads)) _ _ (c .before .before .entry .ensures) (c .before .if1 .taken) (c .instance .ensures)
 
--- src/size.rt:115:1
+-- src/size.rt:124:1
 returns-2 : tie.Need-returns-2
 returns-2 c = record-other (c .before .before .before .before .pre) (file-stands (bytes-of (c .before .before .before .before .args .file .now) (λ i. omega (arith, c .before .before .before .shared-slice-known .given i))) (c .before .before .before .before .pre .reads)) _ (c .before .entry .ensures) (c .if1 .left)
 

@@ -17,43 +17,43 @@ Inv-loop file rows₀ nodes k₀ rows k = SizesGoing file rows₀ rows k
 abbrev μ-loop : tie.MeasureT-loop
 μ-loop file rows₀ nodes k₀ rows k = nodes - k
 
--- src/size.rt:132:5
+-- src/size.rt:141:5
 loop-holds : tie.Need-loop-holds Inv-loop μ-loop
 loop-holds c = sizes-start (c .before .before .pre .1)
 
--- src/size.rt:133:13
+-- src/size.rt:142:13
 record-size-requires : tie.Need-record-size-requires Inv-loop μ-loop
 record-size-requires c κs = sizes-ready (c .before .before .before .before .before .pre .0) (c .before .before .loop .inv) (c .before .loop-test .taken)
 
--- src/size.rt:134:19
+-- src/size.rt:143:19
 mul-put : tie.Need-mul-put Inv-loop μ-loop
 mul-put c = omega (arith, c .before .before .before .before .before .before .before .pre .0 .few)
 
--- src/size.rt:134:19
+-- src/size.rt:143:19
 add-put : tie.Need-add-put Inv-loop μ-loop
 add-put c = omega (arith, c .before .before .before .before .before .before .before .pre .0 .few)
 
--- src/size.rt:134:9
+-- src/size.rt:143:9
 put-requires : tie.Need-put-requires Inv-loop μ-loop
 put-requires c κs = search needs
 
--- src/size.rt:135:9
+-- src/size.rt:144:9
 add-k : tie.Need-add-k Inv-loop μ-loop
 add-k c = omega arith
 
--- src/size.rt:132:5
+-- src/size.rt:141:5
 loop-less : tie.Need-loop-less Inv-loop μ-loop
 loop-less c = omega arith
 
--- src/size.rt:132:5
+-- src/size.rt:141:5
 loop-again : tie.Need-loop-again Inv-loop μ-loop
 loop-again c = sizes-turn (c .before .before .before .before .before .before .before .before .before .before .pre .0) (c .before .before .before .before .before .before .before .loop .inv) (bytes-of (c .before .before .before .before .before .before .before .before .before .before .args .file .now) (λ i. omega (arith, c .before .before .before .before .before .before .before .before .before .shared-slice-known .given i))) (c .before .before .before .before .before .before .loop-test .taken) _ _ (c .before .before .before .before .record-size .ensures) (c .before .before .put .ensures)
 
--- src/size.rt:127:1
+-- src/size.rt:136:1
 same-length : tie.Need-same-length Inv-loop μ-loop
 same-length c = c .before .loop .inv .long ∙ sym (c .before .before .before .before .pre .1)
 
--- src/size.rt:127:1
+-- src/size.rt:136:1
 returns : tie.Need-returns Inv-loop μ-loop
 returns c = sizes-done (c .before .before .before .before .pre .0) (c .before .loop .inv) (c .loop-test .left)
 
