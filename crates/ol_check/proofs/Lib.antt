@@ -15,3 +15,4 @@ pub mod SlotEntries
 pub mod TabLaws
 pub mod Sorts
 pub mod FileSlots
+pub mod SizeTable

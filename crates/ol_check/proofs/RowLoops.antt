@@ -382,7 +382,7 @@ types-below : {types types′ : List ℕ} {n : Node} (k j : ℕ) → length (var
 types-below {n = n} k j few same lt h =
     record { are = λ i il. type-below (k * 112) (j * 112 + i) (λ m ml. same m (omega arith)) (omega arith) (h .are i il) }
 
-few-variables : {s : List ℕ} {enums at : ℕ} {n : Node} → NodeStands s enums at n → length (variables n) ≤ 112
+pub few-variables : {s : List ℕ} {enums at : ℕ} {n : Node} → NodeStands s enums at n → length (variables n) ≤ 112
 few-variables {n = n} st = omega (arith, st .fewInputs, st .fewOutputs, st .fewLocals, length-append (n .inputs ++ n .outputs) (n .locals), length-append (n .inputs) (n .outputs))
 
 -- so many nodes have few variables each

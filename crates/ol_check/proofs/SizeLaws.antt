@@ -58,10 +58,10 @@ operator-not Operator e = absurd (e refl)
 operator-not Imported e = refl
 
 module _ {s rows : List ℕ} {nodes : ℕ} (rd : RowsReady s rows nodes) (some-node : 1 ≤ nodes) where
-  the-main : main (fileAt s) ≡ nodeOf (fileAt s) (nodes - 1)
+  pub the-main : main (fileAt s) ≡ nodeOf (fileAt s) (nodes - 1)
   the-main = last-node (fileAt s .nodes) (nodes - 1) (omega (arith, rd .many))
 
-  the-place : mainPlace (placedNodes (fileAt s)) ≡ placeIn (fileAt s) (nodes - 1)
+  pub the-place : mainPlace (placedNodes (fileAt s)) ≡ placeIn (fileAt s) (nodes - 1)
   the-place = last-place (placedNodes (fileAt s)) (nodes - 1) (omega (arith, rd .many, placed-length (fileAt s .nodes) (nodesStart (fileAt s))))
 
   kind-told : (x : ℕ) → x ≡ getD rows ((nodes - 1) * 8) 0 → x ≡ kindCode (main (fileAt s) .kind)
@@ -87,7 +87,7 @@ module _ (s rows : List ℕ) (nodes p b : ℕ) (bb : Byte s p b) where
   pub site-none : (b ≡ 11 → ⊥) → 0 ≡ siteB s rows nodes p
   site-none e = rw (← bb .is, ne-eqb b 11 e) refl
 
-min-add : (a b r c : ℕ) → min (min (a + b) c + r) c ≡ min (a + (b + r)) c
+pub min-add : (a b r c : ℕ) → min (min (a + b) c + r) c ≡ min (a + (b + r)) c
 min-add a b r c = omega arith
 
 min-cap : (a c : ℕ) → a ≤ c → min (a + 0) c ≡ a

@@ -8,39 +8,39 @@ use Rattle.ol_check.proofs.size.site.Lts as lts
 use Rattle.ol_check.proofs.bytes.byte.Reads as byte-reads
 use Rattle.ol_check.proofs.bytes.entry.Reads as entry-reads
 
--- src/size.rt:46:8
+-- src/size.rt:51:8
 byte-requires : tie.Need-byte-requires
 byte-requires c κs = search needs
 
--- src/size.rt:47:28
+-- src/size.rt:52:28
 add-byte : tie.Need-add-byte
 add-byte c = search needs
 
--- src/size.rt:47:13
+-- src/size.rt:52:13
 byte-requires-2 : tie.Need-byte-requires-2
 byte-requires-2 c κs = search needs
 
--- src/size.rt:48:36
+-- src/size.rt:53:36
 mul-entry : tie.Need-mul-entry
 mul-entry c = omega (arith, c .before .byte2 .ensures .small)
 
--- src/size.rt:48:36
+-- src/size.rt:53:36
 add-entry : tie.Need-add-entry
 add-entry c = omega (arith, c .before .byte2 .ensures .small)
 
--- src/size.rt:48:24
+-- src/size.rt:53:24
 entry-requires : tie.Need-entry-requires
 entry-requires c κs = search needs
 
--- src/size.rt:42:1
+-- src/size.rt:47:1
 returns : tie.Need-returns
 returns c = site-call _ (c .before .before .before .before .before .before .before .args .rows .now) _ _ _ (c .before .before .before .before .byte .ensures) _ _ (c .before .before .before .if1 .taken) (c .before .before .byte2 .ensures) (c .before .if2 .taken) (c .entry .ensures)
 
--- src/size.rt:42:1
+-- src/size.rt:47:1
 returns-2 : tie.Need-returns-2
 returns-2 c = site-absent _ (c .before .before .before .before .before .before .args .rows .now) (c .before .before .before .before .before .before .args .nodes) _ _ (c .before .before .before .byte .ensures) _ (c .before .before .if1 .taken) (c .before .byte2 .ensures) (c .if2 .left)
 
--- src/size.rt:42:1
+-- src/size.rt:47:1
 returns-3 : tie.Need-returns-3
 returns-3 c = site-none _ (c .before .before .before .before .args .rows .now) (c .before .before .before .before .args .nodes) _ _ (c .before .byte .ensures) (c .if1 .left)
 
