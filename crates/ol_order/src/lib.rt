@@ -15,7 +15,6 @@ use ol_spec::Fault;
 use ol_spec::Limits;
 use ol_spec::Sorted;
 ghost use mathlib.Core.List.{List, []};
-ghost use mathlib.Core.Option.{some};
 ghost use mathlib.Core.Path.{_≡_};
 ghost use Prim.Native.Nat.{ℕ, _≤_, _<_};
 ghost use lib.ListN.{length, getD, take};
@@ -25,6 +24,7 @@ ghost use Rattle.ol_spec.specs.Order.{pass, order as inOrder};
 ghost use Rattle.ol_spec.specs.Cycle.{orderNode, ordering};
 ghost use Rattle.ol_order.specs.Tables.{equationsAt, nodeAt, put, putAll, waitsFor, firstZero, orderOf};
 ghost use Rattle.ol_order.specs.Post.{Readable, NodeReads, Definers, State};
+ghost use mathlib.Core.Option.{some};
 
 // No name has a definer: 255 stands for none.
 fn no_definers() -> [u8; 65536]
@@ -112,42 +112,40 @@ fn pass(
     'equations: while i < starts.len() {
         let k = i;
         i += 1;
-        if placed[k] != 0 {
-            continue;
-        }
-        let Next::At(p) = names(file, limits.names, starts[k]) else {
-            continue;
-        };
-        let mut at = p;
-        let mut left: usize = 1;
-        while 0 < left {
-            left -= 1;
-            match scan(
-                file,
-                limits.arguments,
-                limits.items,
-                enums,
-                limits.nesting,
-                at,
-            ) {
-                Scan::Name(x, q) => {
-                    if waits(definers, placed, x) {
-                        continue 'equations;
+        if placed[k] == 0 {
+            if let Next::At(p) = names(file, limits.names, starts[k]) {
+                let mut at = p;
+                let mut left: usize = 1;
+                while 0 < left {
+                    left -= 1;
+                    match scan(
+                        file,
+                        limits.arguments,
+                        limits.items,
+                        enums,
+                        limits.nesting,
+                        at,
+                    ) {
+                        Scan::Name(x, q) => {
+                            if waits(definers, placed, x) {
+                                continue 'equations;
+                            }
+                            at = q;
+                        }
+                        Scan::Parts(m, q) => {
+                            left += m;
+                            at = q;
+                        }
+                        Scan::Refused(_) => {
+                            continue 'equations;
+                        }
                     }
-                    at = q;
                 }
-                Scan::Parts(m, q) => {
-                    left += m;
-                    at = q;
-                }
-                Scan::Refused(_) => {
-                    continue 'equations;
-                }
+                placed[k] = 1;
+                order[n] = k;
+                n += 1;
             }
         }
-        placed[k] = 1;
-        order[n] = k;
-        n += 1;
     }
     n
 }

@@ -40,14 +40,6 @@ slice-read-if1 c =
     let start = c .before .before .before .before .before .before .before .before in
     (omega (arith, (as-many (start .args .file .now) (start .args .limits) (start .args .enums) (start .args .starts .now)), c .before .equations-test .taken, c .before .before .equations .inv .state .flagged))
 
-equations-less : tie.Need-equations-less Inv-loop μ-loop Inv-equations μ-equations
-equations-less c = omega (arith, c .before .before .equations-test .taken)
-
-equations-again : tie.Need-equations-again Inv-loop μ-loop Inv-equations μ-equations
-equations-again c =
-    let start = c .before .before .before .before .before .before .before .before .before in
-    passing-placed (equations (start .args .file .now) (start .args .limits) (start .args .enums) (start .args .starts .now)) (c .before .before .before .equations .inv) ((omega (arith, (as-many (start .args .file .now) (start .args .limits) (start .args .enums) (start .args .starts .now)), c .before .before .equations-test .taken))) (c .if1 .taken)
-
 mul-names : tie.Need-mul-names Inv-loop μ-loop Inv-equations μ-equations
 mul-names c = omega (arith, c .before .before .equations-test .taken)
 
@@ -59,17 +51,6 @@ names-requires c κs = search needs
 
 enum-known-p : tie.Need-enum-known-p Inv-loop μ-loop Inv-equations μ-equations
 enum-known-p c = search needs
-
-enum-told : tie.Need-enum-told Inv-loop μ-loop Inv-equations μ-equations
-enum-told c = search needs
-
-equations-less-2 : tie.Need-equations-less-2 Inv-loop μ-loop Inv-equations μ-equations
-equations-less-2 c = omega (arith, c .before .before .before .before .before .before .equations-test .taken)
-
-equations-again-2 : tie.Need-equations-again-2 Inv-loop μ-loop Inv-equations μ-equations
-equations-again-2 c =
-    let start = c .before .before .before .before .before .before .before .before .before .before .before .before .before in
-    no-names (start .args .file .now) (start .args .limits) (start .args .enums) (start .args .starts .now) (start .pre .0) (c .before .before .before .before .before .before .before .equations .i) (c .before .before .before .before .before .before .equations-test .taken) (c .before .before .names .ensures) (c .enum-told .given .1)
 
 loop-holds : tie.Need-loop-holds Inv-loop μ-loop Inv-equations μ-equations
 loop-holds c =
@@ -90,11 +71,11 @@ waits-requires c κs =
     let start = c .before .before .before .before .before .before .before .before .before .before .before .before .before .before .before .before .before .before .before .before .before in
     omega (arith, (c .before .before .before .before .scan .ensures .1 _ _ (c .before .before .x .given .1)), start .pre .1 .0 .long)
 
-equations-less-3 : tie.Need-equations-less-3 Inv-loop μ-loop Inv-equations μ-equations
-equations-less-3 c = omega (arith, c .before .before .before .before .before .before .before .before .before .before .before .before .before .before .before .before .equations-test .taken)
+equations-less : tie.Need-equations-less Inv-loop μ-loop Inv-equations μ-equations
+equations-less c = omega (arith, c .before .before .before .before .before .before .before .before .before .before .before .before .before .before .before .before .equations-test .taken)
 
-equations-again-3 : tie.Need-equations-again-3 Inv-loop μ-loop Inv-equations μ-equations
-equations-again-3 c =
+equations-again : tie.Need-equations-again Inv-loop μ-loop Inv-equations μ-equations
+equations-again c =
     let start = c .before .before .before .before .before .before .before .before .before .before .before .before .before .before .before .before .before .before .before .before .before .before .before in
     passing-waits (equations (start .args .file .now) (start .args .limits) (start .args .enums) (start .args .starts .now)) (c .before .before .before .before .before .before .before .before .before .before .before .before .before .before .before .before .before .equations .inv) ((omega (arith, (as-many (start .args .file .now) (start .args .limits) (start .args .enums) (start .args .starts .now)), c .before .before .before .before .before .before .before .before .before .before .before .before .before .before .before .before .equations-test .taken))) ((ready-here (start .args .file .now) (start .args .limits) (start .args .enums) (start .args .starts .now) (take (c .before .before .before .before .before .before .before .before .before .before .before .before .before .before .before .before .before .equations .n) (c .before .before .before .before .before .before .before .before .before .before .before .before .before .before .before .before .before .equations .order)) (c .before .before .before .before .before .before .before .before .before .before .before .before .before .before .before .before .before .equations .i) (c .before .before .before .before .before .before .before .before .before .before .before .before .before .before .before .before .equations-test .taken)) (name-waits (start .args .file .now) (start .args .limits) (start .args .enums) (settled (equations (start .args .file .now) (start .args .limits) (start .args .enums) (start .args .starts .now)) (take (c .before .before .before .before .before .before .before .before .before .before .before .before .before .before .before .before .before .equations .n) (c .before .before .before .before .before .before .before .before .before .before .before .before .before .before .before .before .before .equations .order))) (c .before .before .before .before .before .before .before .before .loop .inv) (c .before .before .before .before .before .before .before .loop-test .taken) (λ e n f. c .before .before .before .before .before .before .scan .ensures .0 (start .args .limits) (start .args .limits .nesting) e n refl refl (omega arith) f) (c .before .before .before .before .x .given .1) (is-waiting (start .args .file .now) (start .args .limits) (start .args .enums) (start .args .starts .now) (start .pre .0) (c .before .before .before .before .before .before .before .before .before .before .before .before .before .before .before .before .before .equations .inv .state) (start .pre .1 .0) (c .before .before .before .before .x .given .0 .0) ((c .before .before .before .before .before .before .scan .ensures .1 _ _ (c .before .before .before .before .x .given .1))) (c .before .waits .ensures) (c .if2 .taken))))
 
@@ -126,16 +107,16 @@ loop-again-2 c =
     let start = c .before .before .before .before .before .before .before .before .before .before .before .before .before .before .before .before .before .before .before .before in
     parts-pending (start .args .file .now) (start .args .limits) (start .args .enums) (settled (equations (start .args .file .now) (start .args .limits) (start .args .enums) (start .args .starts .now)) (take (c .before .before .before .before .before .before .before .before .before .before .before .before .before .before .equations .n) (c .before .before .before .before .before .before .before .before .before .before .before .before .before .before .equations .order))) (c .before .before .before .before .before .loop .inv) (c .before .before .before .before .loop-test .taken) (λ e n f. c .before .before .before .scan .ensures .0 (start .args .limits) (start .args .limits .nesting) e n refl refl (omega arith) f) (c .before .m .given .1)
 
-enum-told-2 : tie.Need-enum-told-2 Inv-loop μ-loop Inv-equations μ-equations
-enum-told-2 c = search needs
+enum-told : tie.Need-enum-told Inv-loop μ-loop Inv-equations μ-equations
+enum-told c = search needs
 
-equations-less-4 : tie.Need-equations-less-4 Inv-loop μ-loop Inv-equations μ-equations
-equations-less-4 c = omega (arith, c .before .before .before .before .before .before .before .before .before .before .before .before .equations-test .taken)
+equations-less-2 : tie.Need-equations-less-2 Inv-loop μ-loop Inv-equations μ-equations
+equations-less-2 c = omega (arith, c .before .before .before .before .before .before .before .before .before .before .before .before .equations-test .taken)
 
-equations-again-4 : tie.Need-equations-again-4 Inv-loop μ-loop Inv-equations μ-equations
-equations-again-4 c =
+equations-again-2 : tie.Need-equations-again-2 Inv-loop μ-loop Inv-equations μ-equations
+equations-again-2 c =
     let start = c .before .before .before .before .before .before .before .before .before .before .before .before .before .before .before .before .before .before .before in
-    not-refused (start .args .file .now) (start .args .limits) (start .args .enums) (settled (equations (start .args .file .now) (start .args .limits) (start .args .enums) (start .args .starts .now)) (take (c .before .before .before .before .before .before .before .before .before .before .before .before .before .equations .n) (c .before .before .before .before .before .before .before .before .before .before .before .before .before .equations .order))) (c .before .before .before .before .loop .inv) (c .before .before .before .loop-test .taken) (λ e n f. c .before .before .scan .ensures .0 (start .args .limits) (start .args .limits .nesting) e n refl refl (omega arith) f) (c .enum-told2 .given .1)
+    not-refused (start .args .file .now) (start .args .limits) (start .args .enums) (settled (equations (start .args .file .now) (start .args .limits) (start .args .enums) (start .args .starts .now)) (take (c .before .before .before .before .before .before .before .before .before .before .before .before .before .equations .n) (c .before .before .before .before .before .before .before .before .before .before .before .before .before .equations .order))) (c .before .before .before .before .loop .inv) (c .before .before .before .loop-test .taken) (λ e n f. c .before .before .scan .ensures .0 (start .args .limits) (start .args .limits .nesting) e n refl refl (omega arith) f) (c .enum-told .given .1)
 
 slice-write-placed : tie.Need-slice-write-placed Inv-loop μ-loop Inv-equations μ-equations
 slice-write-placed c =
@@ -145,25 +126,44 @@ slice-write-placed c =
 mul-order : tie.Need-mul-order Inv-loop μ-loop Inv-equations μ-equations
 mul-order c =
     let start = c .before .before .before .before .before .before .before .before .before .before .before .before .before .before .before .before in
-    omega (arith, room-for (c .before .before .before .before .before .before .before .before .before .before .equations .inv .state) (c .before .before .before .before .before .before .before .before .before .before .equations .i) ((omega (arith, (as-many (start .args .file .now) (start .args .limits) (start .args .enums) (start .args .starts .now)), c .before .before .before .before .before .before .before .before .before .equations-test .taken, c .before .before .before .before .before .before .before .before .before .before .equations .inv .state .flagged))) (c .before .before .before .before .before .before .before .if1 .left))
+    omega (arith, room-for (c .before .before .before .before .before .before .before .before .before .before .equations .inv .state) (c .before .before .before .before .before .before .before .before .before .before .equations .i) ((omega (arith, (as-many (start .args .file .now) (start .args .limits) (start .args .enums) (start .args .starts .now)), c .before .before .before .before .before .before .before .before .before .equations-test .taken, c .before .before .before .before .before .before .before .before .before .before .equations .inv .state .flagged))) (c .before .before .before .before .before .before .before .if1 .taken))
 
 slice-write-order : tie.Need-slice-write-order Inv-loop μ-loop Inv-equations μ-equations
 slice-write-order c =
     let start = c .before .before .before .before .before .before .before .before .before .before .before .before .before .before .before .before in
-    omega (arith, room-for (c .before .before .before .before .before .before .before .before .before .before .equations .inv .state) (c .before .before .before .before .before .before .before .before .before .before .equations .i) ((omega (arith, (as-many (start .args .file .now) (start .args .limits) (start .args .enums) (start .args .starts .now)), c .before .before .before .before .before .before .before .before .before .equations-test .taken, c .before .before .before .before .before .before .before .before .before .before .equations .inv .state .flagged))) (c .before .before .before .before .before .before .before .if1 .left))
+    omega (arith, room-for (c .before .before .before .before .before .before .before .before .before .before .equations .inv .state) (c .before .before .before .before .before .before .before .before .before .before .equations .i) ((omega (arith, (as-many (start .args .file .now) (start .args .limits) (start .args .enums) (start .args .starts .now)), c .before .before .before .before .before .before .before .before .before .equations-test .taken, c .before .before .before .before .before .before .before .before .before .before .equations .inv .state .flagged))) (c .before .before .before .before .before .before .before .if1 .taken))
 
 add-n : tie.Need-add-n Inv-loop μ-loop Inv-equations μ-equations
 add-n c =
     let start = c .before .before .before .before .before .before .before .before .before .before .before .before .before .before .before .before in
-    omega (arith, room-for (c .before .before .before .before .before .before .before .before .before .before .equations .inv .state) (c .before .before .before .before .before .before .before .before .before .before .equations .i) ((omega (arith, (as-many (start .args .file .now) (start .args .limits) (start .args .enums) (start .args .starts .now)), c .before .before .before .before .before .before .before .before .before .equations-test .taken, c .before .before .before .before .before .before .before .before .before .before .equations .inv .state .flagged))) (c .before .before .before .before .before .before .before .if1 .left))
+    omega (arith, room-for (c .before .before .before .before .before .before .before .before .before .before .equations .inv .state) (c .before .before .before .before .before .before .before .before .before .before .equations .i) ((omega (arith, (as-many (start .args .file .now) (start .args .limits) (start .args .enums) (start .args .starts .now)), c .before .before .before .before .before .before .before .before .before .equations-test .taken, c .before .before .before .before .before .before .before .before .before .before .equations .inv .state .flagged))) (c .before .before .before .before .before .before .before .if1 .taken))
+
+equations-less-3 : tie.Need-equations-less-3 Inv-loop μ-loop Inv-equations μ-equations
+equations-less-3 c = omega (arith, c .before .before .before .before .before .before .before .before .before .equations-test .taken)
+
+equations-again-3 : tie.Need-equations-again-3 Inv-loop μ-loop Inv-equations μ-equations
+equations-again-3 c =
+    let start = c .before .before .before .before .before .before .before .before .before .before .before .before .before .before .before .before in
+    passing-ready (equations (start .args .file .now) (start .args .limits) (start .args .enums) (start .args .starts .now)) (c .before .before .before .before .before .before .before .before .before .before .equations .inv) ((omega (arith, (as-many (start .args .file .now) (start .args .limits) (start .args .enums) (start .args .starts .now)), c .before .before .before .before .before .before .before .before .before .equations-test .taken))) (c .before .before .before .before .before .before .before .if1 .taken) ((ready-here (start .args .file .now) (start .args .limits) (start .args .enums) (start .args .starts .now) (take (c .before .before .before .before .before .before .before .before .before .before .equations .n) (c .before .before .before .before .before .before .before .before .before .before .equations .order)) (c .before .before .before .before .before .before .before .before .before .before .equations .i) (c .before .before .before .before .before .before .before .before .before .equations-test .taken)) (pending-done (start .args .file .now) (start .args .limits) (start .args .enums) (settled (equations (start .args .file .now) (start .args .limits) (start .args .enums) (start .args .starts .now)) (take (c .before .before .before .before .before .before .before .before .before .before .equations .n) (c .before .before .before .before .before .before .before .before .before .before .equations .order))) (c .before .loop .inv) (c .loop-test .left)))
+
+enum-told-2 : tie.Need-enum-told-2 Inv-loop μ-loop Inv-equations μ-equations
+enum-told-2 c = search needs
+
+equations-less-4 : tie.Need-equations-less-4 Inv-loop μ-loop Inv-equations μ-equations
+equations-less-4 c = omega (arith, c .before .before .before .before .before .before .equations-test .taken)
+
+equations-again-4 : tie.Need-equations-again-4 Inv-loop μ-loop Inv-equations μ-equations
+equations-again-4 c =
+    let start = c .before .before .before .before .before .before .before .before .before .before .before .before .before in
+    no-names (start .args .file .now) (start .args .limits) (start .args .enums) (start .args .starts .now) (start .pre .0) (c .before .before .before .before .before .before .before .equations .i) (c .before .before .before .before .before .before .equations-test .taken) (c .before .before .names .ensures) (c .enum-told2 .given .1)
 
 equations-less-5 : tie.Need-equations-less-5 Inv-loop μ-loop Inv-equations μ-equations
-equations-less-5 c = omega (arith, c .before .before .before .before .before .before .before .before .before .equations-test .taken)
+equations-less-5 c = omega (arith, c .before .before .equations-test .taken)
 
 equations-again-5 : tie.Need-equations-again-5 Inv-loop μ-loop Inv-equations μ-equations
 equations-again-5 c =
-    let start = c .before .before .before .before .before .before .before .before .before .before .before .before .before .before .before .before in
-    passing-ready (equations (start .args .file .now) (start .args .limits) (start .args .enums) (start .args .starts .now)) (c .before .before .before .before .before .before .before .before .before .before .equations .inv) ((omega (arith, (as-many (start .args .file .now) (start .args .limits) (start .args .enums) (start .args .starts .now)), c .before .before .before .before .before .before .before .before .before .equations-test .taken))) (c .before .before .before .before .before .before .before .if1 .left) ((ready-here (start .args .file .now) (start .args .limits) (start .args .enums) (start .args .starts .now) (take (c .before .before .before .before .before .before .before .before .before .before .equations .n) (c .before .before .before .before .before .before .before .before .before .before .equations .order)) (c .before .before .before .before .before .before .before .before .before .before .equations .i) (c .before .before .before .before .before .before .before .before .before .equations-test .taken)) (pending-done (start .args .file .now) (start .args .limits) (start .args .enums) (settled (equations (start .args .file .now) (start .args .limits) (start .args .enums) (start .args .starts .now)) (take (c .before .before .before .before .before .before .before .before .before .before .equations .n) (c .before .before .before .before .before .before .before .before .before .before .equations .order))) (c .before .loop .inv) (c .loop-test .left)))
+    let start = c .before .before .before .before .before .before .before .before .before in
+    passing-placed (equations (start .args .file .now) (start .args .limits) (start .args .enums) (start .args .starts .now)) (c .before .before .before .equations .inv) ((omega (arith, (as-many (start .args .file .now) (start .args .limits) (start .args .enums) (start .args .starts .now)), c .before .before .equations-test .taken))) (c .if1 .left)
 
 same-length : tie.Need-same-length Inv-loop μ-loop Inv-equations μ-equations
 same-length c =
@@ -191,35 +191,35 @@ pass-spec =
     equations-holds
     add-i
     slice-read-if1
-    equations-less
-    equations-again
     mul-names
     shared-slice-read-names
     names-requires
     enum-known-p
-    enum-told
-    equations-less-2
-    equations-again-2
     loop-holds
     sub-left
     scan-requires
     enum-known-x
     waits-requires
-    equations-less-3
-    equations-again-3
+    equations-less
+    equations-again
     loop-less
     loop-again
     enum-known-m
     add-left
     loop-less-2
     loop-again-2
-    enum-told-2
-    equations-less-4
-    equations-again-4
+    enum-told
+    equations-less-2
+    equations-again-2
     slice-write-placed
     mul-order
     slice-write-order
     add-n
+    equations-less-3
+    equations-again-3
+    enum-told-2
+    equations-less-4
+    equations-again-4
     equations-less-5
     equations-again-5
     same-length
