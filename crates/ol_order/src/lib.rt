@@ -15,6 +15,7 @@ use ol_spec::Fault;
 use ol_spec::Limits;
 use ol_spec::Sorted;
 ghost use mathlib.Core.List.{List, []};
+ghost use mathlib.Core.Option.{some};
 ghost use mathlib.Core.Path.{_≡_};
 ghost use Prim.Native.Nat.{ℕ, _≤_, _<_};
 ghost use lib.ListN.{length, getD, take};
@@ -24,7 +25,6 @@ ghost use Rattle.ol_spec.specs.Order.{pass, order as inOrder};
 ghost use Rattle.ol_spec.specs.Cycle.{orderNode, ordering};
 ghost use Rattle.ol_order.specs.Tables.{equationsAt, nodeAt, put, putAll, waitsFor, firstZero, orderOf};
 ghost use Rattle.ol_order.specs.Post.{Readable, NodeReads, Definers, State};
-ghost use mathlib.Core.Option.{some};
 
 // No name has a definer: 255 stands for none.
 fn no_definers() -> [u8; 65536]
