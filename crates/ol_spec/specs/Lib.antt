@@ -1,23 +1,30 @@
-pub mod Lists
-pub mod Numbers
-pub mod Limits
-pub mod Syntax
-pub mod Places
-pub mod Read
-pub mod Encode
-pub mod Within
-pub mod Real
-pub mod Cell
-pub mod Types
-pub mod Operators
-pub mod Order
-pub mod Eval
-pub mod Step
+-- the public calls: the ordering, the start, the cycle; each answer's number and place; demand 3
+pub mod Cycle
 pub mod Answers
+pub mod Demand3
+-- admission (6 to 14), the state's bytes and the inputs (15, 16)
 pub mod Admission
 pub mod State
-pub mod Cycle
-pub mod Demand3
+-- nodes, records and calls; expressions; the order of equations
+pub mod Step
+pub mod Eval
+pub mod Order
+-- values: operators, types, cells, reals
+pub mod Operators
+pub mod Types
+pub mod Cell
+pub mod Real
+-- the file: reading (1 to 5), the trees that it can hold, writing, places, the tree, the limits
+pub mod Read
+pub mod Within
+pub mod Encode
+pub mod Places
+pub mod Syntax
+pub mod Limits
+-- numbers as bytes, lists
+pub mod Numbers
+pub mod Lists
+-- executed: document 01's examples, its bench cases, the readings of docs/DECISIONS.md
 pub mod Build
 pub mod Examples
 pub mod Bench
