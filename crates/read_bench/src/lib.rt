@@ -1,7 +1,9 @@
 // The reader of ol_ir, the tables of ol_check and the ordering of ol_order, for bench/read to time.
+use ol_check::Found;
 use ol_check::bytes::byte;
 use ol_check::bytes::entry;
 use ol_check::file::faults;
+use ol_check::judge::Faults;
 use ol_check::rows::Sections;
 use ol_check::rows::rows_of;
 use ol_check::size::sizes_of;
@@ -59,6 +61,23 @@ fn sized(file: &[u8], rows: &mut [usize], types: &[u8], slots: &[u8], nodes: usi
     }
 }
 
+// Where the first of the faults 7, 9 and 10 is, or 0.
+fn first_place(found: Faults) -> usize {
+    let unseen = found.unseen;
+    let called = found.called;
+    let shaped = found.shaped;
+    match unseen {
+        Found::At(p) => p,
+        Found::Nothing => match called {
+            Found::At(p) => p,
+            Found::Nothing => match shaped {
+                Found::At(p) => p,
+                Found::Nothing => 0,
+            },
+        },
+    }
+}
+
 // The slots of the names, then the lengths of the records.
 fn slotted(file: &[u8], rows: &mut [usize], types: &[u8], sections: Sections) -> u64
     requires { ⌜ FileReads (now file) × (length (now rows) ≡ 272) × TablesDone (fileAt (now file)) (now rows) (now types) sections ⌝ }
@@ -66,8 +85,9 @@ fn slotted(file: &[u8], rows: &mut [usize], types: &[u8], sections: Sections) ->
     let mut names = [0u8; 65536];
     let mut slots = [0u8; 32768];
     let nodes = byte(file, sections.nodes);
-    faults(file, rows, sections, &mut names, &mut slots);
-    sized(file, rows, types, &slots, nodes)
+    let found = faults(file, rows, sections, &mut names, &mut slots);
+    let size = sized(file, rows, types, &slots, nodes);
+    if first_place(found) < 65536 { size } else { 0 }
 }
 
 // All tables of a file that reads without fault.
