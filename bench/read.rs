@@ -138,9 +138,9 @@ fn time_chains(turns: u64) {
     }
 }
 
-// Reading a file and building its tables.
+// Reading a file and building its rows, types, slots and record lengths; no orders.
 fn time_tables(turns: u64, shapes: &[Shape]) {
-    println!("microseconds for {} bytes, with all tables", LENGTH);
+    println!("microseconds for {} bytes, with the rows, types, slots and record lengths", LENGTH);
     println!("{:<8} {:>18} {:>9}", "", "reading and tables", "mean");
     for (name, each, item) in shapes {
         let f = filled(*each, item);

@@ -90,7 +90,7 @@ fn slotted(file: &[u8], rows: &mut [usize], types: &[u8], sections: Sections) ->
     if first_place(found) < 65536 { size } else { 0 }
 }
 
-// All tables of a file that reads without fault.
+// Rows, types, slots and record lengths of a file that reads without fault; no orders.
 fn tables(file: &[u8]) -> u64
     requires { ⌜ FileReads (now file) ⌝ }
 {
