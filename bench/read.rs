@@ -1,9 +1,11 @@
-// Times the reader of ol_ir beside a plain sum of the same bytes, and the ordering of ol_order (linked as libread_bench.a). Run by bench/read.
+// Times the reader of ol_ir beside a plain sum of the same bytes, the reader with the tables of ol_check, and the ordering of ol_order
+// (linked as libread_bench.a). Run by bench/read.
 use std::hint::black_box;
 use std::time::Instant;
 
 extern "C" {
     fn ol_read_bench(file: *const u8, length: usize) -> u64;
+    fn ol_tables_bench(file: *const u8, length: usize) -> u64;
     fn ol_order_bench(file: *const u8, length: usize, buffer: *mut usize, entries: usize) -> u8;
 }
 
@@ -67,6 +69,9 @@ fn filled(each: usize, item: &dyn Fn(usize) -> Vec<u8>) -> Vec<u8> {
     assert_eq!(f.len(), LENGTH);
     f
 }
+
+// A file's name, the equations of each of its nodes, and their right sides.
+type Shape<'a> = (&'a str, usize, &'a dyn Fn(usize) -> Vec<u8>);
 
 // Right sides of the three sorts that relays have: counters, conditions and choices of reals.
 fn mixed(k: usize) -> Vec<u8> {
@@ -133,11 +138,24 @@ fn time_chains(turns: u64) {
     }
 }
 
+// Reading a file and building its rows, types, slots and record lengths; no orders.
+fn time_tables(turns: u64, shapes: &[Shape]) {
+    println!("microseconds for {} bytes, with the rows, types, slots and record lengths", LENGTH);
+    println!("{:<8} {:>18} {:>9}", "", "reading and tables", "mean");
+    for (name, each, item) in shapes {
+        let f = filled(*each, item);
+        let tables = || unsafe { ol_tables_bench(black_box(f.as_ptr()), f.len()) };
+        assert!(tables() <= 65_536, "fault {}", tables() - 65_536);
+        let (ours, mean) = timed(turns, &mut || tables());
+        println!("{:<8} {:>18.1} {:>9.1}", name, ours, mean);
+    }
+}
+
 fn main() {
     let turns: u64 = std::env::args().nth(1).and_then(|a| a.parse().ok()).unwrap_or(2000);
     println!("microseconds for {} bytes: the least and the mean of {} runs", LENGTH, turns);
     println!("{:<8} {:>9} {:>9}   {:>9} {:>9}", "", "reading", "mean", "byte sum", "mean");
-    let shapes: [(&str, usize, &dyn Fn(usize) -> Vec<u8>); 4] = [("mixed", 35, &mixed), ("bools", 80, &bools), ("nots", 80, &nots), ("sums", 80, &sums)];
+    let shapes: [Shape; 4] = [("mixed", 35, &mixed), ("bools", 80, &bools), ("nots", 80, &nots), ("sums", 80, &sums)];
     for (name, each, item) in shapes {
         let f = filled(each, item);
         let read = || unsafe { ol_read_bench(black_box(f.as_ptr()), f.len()) };
@@ -146,5 +164,6 @@ fn main() {
         let (sum, sum_mean) = timed(turns, &mut || byte_sum(black_box(&f)));
         println!("{:<8} {:>9.1} {:>9.1}   {:>9.1} {:>9.1}", name, ours, mean, sum, sum_mean);
     }
+    time_tables(turns, &shapes);
     time_chains(turns);
 }

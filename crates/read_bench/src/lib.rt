@@ -1,8 +1,24 @@
-// The reader of ol_ir and the ordering of ol_order, for bench/read to time.
+// The reader of ol_ir, the tables of ol_check and the ordering of ol_order, for bench/read to time.
+use ol_check::Found;
+use ol_check::bytes::byte;
+use ol_check::bytes::entry;
+use ol_check::file::faults;
+use ol_check::judge::Faults;
+use ol_check::rows::Sections;
+use ol_check::rows::rows_of;
+use ol_check::size::sizes_of;
 use ol_ir::Loaded;
+use ol_ir::Reading;
 use ol_ir::project::load_file;
+use ol_ir::project::read_file;
 use ol_order::evaluation_order;
 use ol_spec::Sorted;
+ghost use mathlib.Core.Path.{_≡_};
+ghost use lib.ListN.{length};
+ghost use Rattle.ol_tree.specs.At.{fileAt};
+ghost use Rattle.ol_tree.specs.Stands.{FileReads};
+ghost use Rattle.ol_check.specs.RowsDone.{TablesDone};
+ghost use Rattle.ol_check.specs.NodesJudged.{RowsReady};
 
 // How many nodes a loaded file has; of a refused one its fault's number, above 256.
 fn digest(l: Loaded) -> u64 {
@@ -17,6 +33,80 @@ fn digest(l: Loaded) -> u64 {
 pub extern "C" fn ol_read_bench(file: &[u8]) -> u64 {
     let mut starts = [0usize; 32];
     digest(load_file(file, &mut starts))
+}
+
+// The length of the last node's records.
+fn last_size(rows: &[usize], nodes: usize) -> usize {
+    if 0 < nodes {
+        if nodes <= 32 {
+            entry(rows, nodes * 8 - 2)
+        } else {
+            0
+        }
+    } else {
+        0
+    }
+}
+
+// The lengths of the records; that of the last node's, with the first variable's type and the last slot.
+fn sized(file: &[u8], rows: &mut [usize], types: &[u8], slots: &[u8], nodes: usize) -> u64
+    requires { ⌜ RowsReady (now file) (now rows) nodes × (length (now rows) ≡ 272) ⌝ }
+{
+    sizes_of(file, rows, nodes);
+    let size = last_size(rows, nodes) as u64;
+    if byte(types, 0) + byte(slots, 32767) < 512 {
+        size
+    } else {
+        0
+    }
+}
+
+// Where the first of the faults 7, 9 and 10 is, or 0.
+fn first_place(found: Faults) -> usize {
+    let unseen = found.unseen;
+    let called = found.called;
+    let shaped = found.shaped;
+    match unseen {
+        Found::At(p) => p,
+        Found::Nothing => match called {
+            Found::At(p) => p,
+            Found::Nothing => match shaped {
+                Found::At(p) => p,
+                Found::Nothing => 0,
+            },
+        },
+    }
+}
+
+// The slots of the names, then the lengths of the records.
+fn slotted(file: &[u8], rows: &mut [usize], types: &[u8], sections: Sections) -> u64
+    requires { ⌜ FileReads (now file) × (length (now rows) ≡ 272) × TablesDone (fileAt (now file)) (now rows) (now types) sections ⌝ }
+{
+    let mut names = [0u8; 65536];
+    let mut slots = [0u8; 32768];
+    let nodes = byte(file, sections.nodes);
+    let found = faults(file, rows, sections, &mut names, &mut slots);
+    let size = sized(file, rows, types, &slots, nodes);
+    if first_place(found) < 65536 { size } else { 0 }
+}
+
+// Rows, types, slots and record lengths of a file that reads without fault; no orders.
+fn tables(file: &[u8]) -> u64
+    requires { ⌜ FileReads (now file) ⌝ }
+{
+    let mut rows = [0usize; 272];
+    let mut types = [0u8; 7168];
+    let sections = rows_of(file, &mut rows, &mut types);
+    slotted(file, &mut rows, &types, sections)
+}
+
+// Reads a file and builds its tables; of a refused one its fault's number, above 65,536.
+#[no_mangle]
+pub extern "C" fn ol_tables_bench(file: &[u8]) -> u64 {
+    match read_file(file) {
+        Reading::Done => tables(file),
+        Reading::Refused(f) => 65536 + f.number as u64,
+    }
 }
 
 // 0 for an order, else its fault's number.
