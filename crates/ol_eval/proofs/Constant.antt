@@ -29,8 +29,9 @@ use Rattle.ol_tree.specs.Parts.{Proper}
 use Rattle.ol_tree.proofs.Forms.{each-append, one-tree, parted, reads-end}
 use Rattle.ol_eval.specs.Walk.{nodesIn, sizesIn, Below, Passable}
 use Rattle.ol_eval.specs.Plans.{Plan, Cells, knownIn, globalsIn, scopeIn, widthIn, segAt, segsAt, evalIn}
-use Rattle.ol_eval.specs.Post.{Never, Ready, Meets, EvalsTo}
-use Rattle.ol_eval.specs.Constants.{ConstantReady, ConstantsReady, ConstantsAre, noConstant, constantAt, valueAt, constantOut}
+use Rattle.ol_eval.specs.Post.{Ready, Meets, EvalsTo}
+use Rattle.ol_eval.specs.Constants.{Never, ConstantReady, ConstantsReady, ConstantsAre, noConstant, constantAt, valueAt, constantOut}
+use Rattle.ol_eval.specs.Nodes.{Enters}
 use Rattle.ol_eval.specs.declared.cycle.Step.{Step}
 use Rattle.ol_eval.proofs.Passing.{callees-one}
 use Rattle.ol_eval.proofs.Planning.{segs-one, each-both, each-map}
@@ -74,7 +75,7 @@ module _ {file tab rows : List ℕ} where
         same = e;
         room = omega (arith, no-bytes (sizesIn file) (calleesAll (exprsAt file 24 1 (valueAt file (knownIn consts)))) (p .closed));
         small = l;
-        closed = p .closed;
+        calls = each-map Never (Enters file tab rows consts (nodesIn file)) (λ c n. absurd n) (calleesAll (exprsAt file 24 1 (valueAt file (knownIn consts)))) (p .closed);
       }
 
   pub constant-out : (consts : List ℕ) → ConstantReady file tab rows (knownIn consts) → (cells before old : List ℕ) {r : Step} {new : List ℕ} (code : ℕ) {o : Outcome} → code ≡ getD file (constantAt file (knownIn consts) .0 + 2) 0 → EvalsTo file consts 24 (valueAt file (knownIn consts)) (nodesIn file) true cells before old r new → ((e : ℕ) → o ≡ thenOut (λ v. Out.Value (fit (tyOf code e) v)) (r .out)) → o ≡ constantOut file consts (knownIn consts)

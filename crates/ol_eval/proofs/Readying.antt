@@ -19,7 +19,8 @@ use Rattle.ol_tree.proofs.Forms.{each-append, Formed, callees-all, callees-form
 use Rattle.ol_eval.specs.Walk.{Passable, Skips, SkipsTo}
 use Rattle.ol_eval.specs.declared.skip.Passed.{Passed}
 use Rattle.ol_eval.specs.Plans.{Plan, Cells, segsAt, segAt, evalIn, Leaf, globalsIn, scopeIn}
-use Rattle.ol_eval.specs.Post.{Never, Ready, Meets, EvalsTo, ChooseTo, chooseIn}
+use Rattle.ol_eval.specs.Post.{Ready, Meets, EvalsTo, ChooseTo, chooseIn}
+use Rattle.ol_eval.specs.Nodes.{Enters}
 use Rattle.ol_eval.specs.declared.cycle.Step.{Step}
 use Rattle.ol_eval.proofs.Lending.{tailOf, putTail, tail-all, take-put}
 use Rattle.ol_eval.proofs.Passing.{callees-one, own-call}
@@ -36,9 +37,10 @@ use Rattle.ol_eval.proofs.Planning.{plan-head, plan-first, plan-rest, p
 use Rattle.ol_eval.proofs.Evals.{rest-old, rest-new}
 
 module _ {f tab rows consts : List ℕ} {node : ℕ} {cells before : List ℕ} where
-  closed-both : {level n at : ℕ} {old new : List ℕ} → Ready f tab rows consts level (suc n) at node cells before old new → Each Never (callees (exprAt f level at)) × Each Never (calleesAll (exprsAt f level n (endAt f level at)))
-  closed-both {level} {n} {at} p =
-      each-append Never (callees (exprAt f level at)) (calleesAll (exprsAt f level n (endAt f level at))) (subst (Each Never) (callees-all f level n at (p .plan .reads)) (p .closed))
+  -- the callees of the first, and of the others
+  calls-both : {level n at : ℕ} {old new : List ℕ} → Ready f tab rows consts level (suc n) at node cells before old new → Each (Enters f tab rows consts node) (callees (exprAt f level at)) × Each (Enters f tab rows consts node) (calleesAll (exprsAt f level n (endAt f level at)))
+  calls-both {level} {n} {at} p =
+      each-append (Enters f tab rows consts node) (callees (exprAt f level at)) (calleesAll (exprsAt f level n (endAt f level at))) (subst (Each (Enters f tab rows consts node)) (callees-all f level n at (p .plan .reads)) (p .calls))
 
   -- the first of several
   pub ready-first : {level n at : ℕ} {old new : List ℕ} → Ready f tab rows consts level (suc n) at node cells before old new → Ready f tab rows consts level 1 at node cells before old new
@@ -51,7 +53,7 @@ module _ {f tab rows consts : List ℕ} {node : ℕ} {cells before : List ℕ} w
         same = p .same;
         room = omega (arith, p .room, segs-first f (p .plan));
         small = p .small;
-        closed = subst (Each Never) (sym (callees-one f level at (q .reads))) (closed-both p .0);
+        calls = subst (Each (Enters f tab rows consts node)) (sym (callees-one f level at (q .reads))) (calls-both p .0);
       }
 
   -- the others, on what follows the first's segment
@@ -65,7 +67,7 @@ module _ {f tab rows consts : List ℕ} {node : ℕ} {cells before : List ℕ} w
         same = b ∙ sym a;
         room = omega (arith, p .room, segs-cons f level n at (p .plan .reads));
         small = omega (arith, p .small);
-        closed = closed-both p .1;
+        calls = calls-both p .1;
       }
 
   pub ready-rest : {level n at : ℕ} {old n₀ new : List ℕ} {w : Eval} {x : ℕ} {l : Step} → Ready f tab rows consts level (suc n) at node cells before old n₀ → Meets w x (segAt f level at) old l new → length new ≡ length n₀ → Ready f tab rows consts level n (endAt f level at) node cells before (tailOf (l .used) old) (tailOf (l .used) new)
@@ -89,7 +91,7 @@ module _ {f tab rows consts : List ℕ} {node : ℕ} {cells before : List ℕ} w
         same = take-put u new x (subst (λ (l : List ℕ). u ≤ length l) (sym (p .same)) le) ∙ ap (take u) (p .same);
         room = omega (arith, segs-one f level at (q .plan .reads), len);
         small = omega (arith, p .small, len);
-        closed = q .closed;
+        calls = q .calls;
       }
 
   -- the parts of a form that is no call
@@ -103,7 +105,7 @@ module _ {f tab rows consts : List ℕ} {node : ℕ} {cells before : List ℕ} w
         same = p .same;
         room = omega (arith, segs-form f (p .plan .reads) g o, p .room);
         small = p .small;
-        closed = subst (Each Never) e (p .closed);
+        calls = subst (Each (Enters f tab rows consts node)) e (p .calls);
       }
 
   pub ready-pass : {level n at : ℕ} {old new : List ℕ} → Ready f tab rows consts level n at node cells before old new → Passable f rows level n at
@@ -222,8 +224,3 @@ binary-is b op e w K rest = ap (λ (q : Option BinOp). next w (λ v s. mapEval (
 -- the branch that the test takes
 pub first-is : (f consts : List ℕ) (level at node : ℕ) (first test : Bool) (cells before s : List ℕ) → first ≡ test → chooseIn f consts first level at node first cells before s ≡ chooseIn f consts test level at node first cells before s
 first-is f consts level at node first test cells before s e = ap (λ (b : Bool). chooseIn f consts b level at node first cells before s) e
-
--- there is no call
-pub no-calls : (f : List ℕ) (level at : ℕ) → Reads f level at → ReadsAll f level 1 at → getD f at 0 ≡ 11 → Each Never (calleesAll (exprsAt f level 1 at)) → ⊥
-no-calls f level at h r e c =
-    subst (Each Never) (callees-one f level at r ∙ callees-parts (exprAt f level at) ∙ ap (λ (ks : List ℕ). ks ++ calleesAll (partsOf (exprAt f level at))) (own-call f level at h e)) c .0

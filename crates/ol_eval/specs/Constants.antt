@@ -17,9 +17,12 @@ use Rattle.ol_tree.specs.Tables.{Each, Sound, tyCode}
 use Rattle.ol_tree.specs.Parts.{Proper}
 use Rattle.ol_eval.specs.Walk.{nodesIn}
 use Rattle.ol_eval.specs.Plans.{Program, Named, knownIn, globalsIn}
-use Rattle.ol_eval.specs.Post.{Never}
 use Rattle.ol_eval.specs.declared.constants.Found.{Found}
 use Rattle.ol_eval.specs.declared.constants.Found.the-variants as Fnd
+
+-- no callee
+abbrev pub Never : ℕ → Type 0
+Never c = ⊥
 
 abbrev pub noConstant : ℕ × Constant
 noConstant = (0, record { name = 0; ty = bool; value = boolLit false })

@@ -1,5 +1,9 @@
+pub mod Calls
 pub mod Constants
+pub mod Equations
+pub mod Nodes
 pub mod Outcomes
 pub mod Plans
 pub mod Post
+pub mod Stores
 pub mod Walk

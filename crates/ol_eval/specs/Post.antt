@@ -10,13 +10,10 @@ use Rattle.ol_value.specs.Codes.{binaryBy}
 use Rattle.ol_tree.specs.At.{exprAt, endAt, exprsAt, endsAt}
 use Rattle.ol_tree.specs.Tables.{Each}
 use Rattle.ol_eval.specs.Plans.{Plan, Cells, segsAt, segAt, evalIn, globalsIn, scopeIn}
+use Rattle.ol_eval.specs.Nodes.{Enters}
 use Rattle.ol_eval.specs.declared.cycle.Step.{Step}
 
--- no callee
-abbrev pub Never : ℕ → Type 0
-Never c = ⊥
-
--- n expressions from `at` on can be evaluated on the parts `old` and `new` of the two states; there is no call in them
+-- n expressions from `at` on can be evaluated on the parts `old` and `new` of the two states
 pub record Ready (file tab rows consts : List ℕ) (level n at node : ℕ) (cells before old new : List ℕ) : Type 0 where
   pub plan : Plan file tab rows consts node level n at
   pub present : Cells file node cells
@@ -24,7 +21,7 @@ pub record Ready (file tab rows consts : List ℕ) (level n at node : ℕ) (cell
   pub same : new ≡ old
   pub room : segsAt file level n at ≤ length old
   pub small : length old ≤ 32768
-  pub closed : Each Never (calleesAll (exprsAt file level n at))
+  pub calls : Each (Enters file tab rows consts node) (calleesAll (exprsAt file level n at))
 
 -- what an evaluation gives: its outcome, where the expression ends, the bytes of its records, and the new state
 pub record Meets (want : Eval) (next used : ℕ) (old : List ℕ) (r : Step) (new : List ℕ) : Type 0 where

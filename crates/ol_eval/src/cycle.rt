@@ -1,10 +1,23 @@
-// Evaluation of expressions that contain no call, over the parts of the two states that hold their records.
+// Evaluation of expressions, over the parts of the two states that hold their records, and the running of the nodes that they call.
 ghost use mathlib.Core.Path.{_≡_};
 ghost use mathlib.Core.Bool.{true, false};
 ghost use Prim.Native.Nat.{_+_, _<_};
 ghost use lib.Dec.{eqb};
 ghost use mathlib.Core.Bool.{cond};
 ghost use Rattle.ol_eval.specs.Post.{Ready, EvalsTo, TwoTo, ChooseTo, IfTo};
+ghost use Rattle.ol_eval.specs.Calls.{Passes, AllTo, EntersTo, Steppable, SiteTo, Runnable, RunTo, EquationReady, RhsReady, EquationTo};
+ghost use Rattle.ol_spec.specs.Syntax.{Function, Operator};
+ghost use Rattle.ol_tree.specs.At.{nodeIn};
+ghost use lib.ListN.{length, getD};
+use crate::copies::assign;
+use crate::copies::copy;
+use crate::copies::copy_cells;
+use crate::copies::less;
+use crate::copies::passed;
+use crate::copies::single_out;
+use crate::copies::store_out;
+use crate::copies::write_cells;
+use crate::equations::equations;
 use crate::names::chosen;
 use crate::names::leaf_out;
 use crate::outcomes::binary_out;
@@ -17,13 +30,32 @@ use crate::outcomes::unary_out;
 use crate::outcomes::untested;
 use crate::skip::pass;
 use crate::skip::pass_all;
+use crate::tables::number;
+use crate::tables::order_at;
+use crate::tables::row;
+use ol_fresh::defaults::write_defaults;
+use ol_fresh::write_fresh;
 use ol_spec::Outcome;
+use ol_value::cell::write_cell;
 
 // What evaluating an expression gives: its outcome, where it ends, and the bytes of its records.
 pub struct Step {
     pub out: Outcome,
     pub next: usize,
     pub used: usize,
+}
+
+// What evaluating several expressions, or a call, gives: how it ended (0 with values, 1 at a failure, 2 at an overflow), where they end, and the bytes of their records.
+pub struct Ran {
+    pub end: u8,
+    pub next: usize,
+    pub used: usize,
+}
+
+// How a run of a node's equations ended, likewise, and the equation that ended it.
+pub struct Ended {
+    pub end: u8,
+    pub index: usize,
 }
 
 // The expression at `at`.
@@ -159,11 +191,20 @@ pub fn eval(
                 used: r.used,
             }
         }
-        11 => Step {
-            out: Outcome::Failure,
-            next: at,
-            used: 0,
-        },
+        11 => eval_call(
+            file,
+            tab,
+            rows,
+            consts,
+            at,
+            level,
+            node,
+            first,
+            cells,
+            before,
+            old,
+            new,
+        ),
         _ => {
             let s = pass(file, rows, at, level);
             Step {
@@ -480,5 +521,508 @@ fn eval_second(
             next: e.next,
             used: n + e.used,
         }
+    }
+}
+
+// The call at `at`, as one value.
+fn eval_call(
+    file: &[u8],
+    tab: &[u8],
+    rows: &[usize],
+    consts: &[u8],
+    at: usize,
+    level: usize,
+    node: usize,
+    first: bool,
+    cells: &[u8],
+    before: &[u8],
+    old: &[u8],
+    new: &mut [u8],
+) -> Step
+    requires { ⌜ Ready (now file) (now tab) (now rows) (now consts) level 1 at node (now cells) (now before) (now old) (now new) × (getD (now file) at 0 ≡ 11) ⌝ }
+    ensures { λ r. ⌜ EvalsTo (now (file .entry)) (now (consts .entry)) level at node first (now (cells .entry)) (now (before .entry)) (now (old .entry)) r (now (new .exit)) ⌝ }
+{
+    let mut callee = [0u8; 1008];
+    let r = enter(
+        file,
+        tab,
+        rows,
+        consts,
+        at,
+        level,
+        node,
+        first,
+        cells,
+        before,
+        &mut callee,
+        old,
+        new,
+    );
+    let p = at + 1;
+    let k = number(file[p]);
+    let outputs = row(rows, k, 3);
+    let inputs = row(rows, k, 2);
+    Step {
+        out: single_out(r.end, outputs, inputs, &callee),
+        next: r.next,
+        used: r.used,
+    }
+}
+
+// The call at `at`: its arguments, and then the callee, whose cells are left in `callee`.
+fn enter(
+    file: &[u8],
+    tab: &[u8],
+    rows: &[usize],
+    consts: &[u8],
+    at: usize,
+    level: usize,
+    node: usize,
+    first: bool,
+    cells: &[u8],
+    before: &[u8],
+    callee: &mut [u8],
+    old: &[u8],
+    new: &mut [u8],
+) -> Ran
+    requires { ⌜ Ready (now file) (now tab) (now rows) (now consts) level 1 at node (now cells) (now before) (now old) (now new) × (getD (now file) at 0 ≡ 11) × (length (now callee) ≡ 1008) ⌝ }
+    ensures { λ r. ⌜ EntersTo (now (file .entry)) (now (consts .entry)) level at node first (now (cells .entry)) (now (before .entry)) (now (old .entry)) r (now (callee .exit)) (now (new .exit)) ⌝ }
+{
+    let p = at + 1;
+    let k = number(file[p]);
+    let q = at + 2;
+    let n = number(file[q]);
+    let size = row(rows, k, 6);
+    let a = eval_all(
+        true,
+        k,
+        n,
+        file,
+        tab,
+        rows,
+        consts,
+        at + 3,
+        level - 1,
+        node,
+        first,
+        cells,
+        before,
+        callee,
+        &old[size..],
+        &mut new[size..],
+    );
+    let used = size + a.used;
+    let end = a.end;
+    if end == 0 {
+        let e = step_site(
+            file,
+            tab,
+            rows,
+            consts,
+            k,
+            callee,
+            &old[..size],
+            &mut new[..size],
+        );
+        Ran {
+            end: e,
+            next: a.next,
+            used: used,
+        }
+    } else {
+        Ran {
+            end: end,
+            next: a.next,
+            used: used,
+        }
+    }
+}
+
+// n expressions, left to right up to the first failure or overflow. Their values go to `to`, as arguments of node k or as they are.
+fn eval_all(
+    fits: bool,
+    k: usize,
+    n: usize,
+    file: &[u8],
+    tab: &[u8],
+    rows: &[usize],
+    consts: &[u8],
+    at: usize,
+    level: usize,
+    node: usize,
+    first: bool,
+    cells: &[u8],
+    before: &[u8],
+    to: &mut [u8],
+    old: &[u8],
+    new: &mut [u8],
+) -> Ran
+    requires { ⌜ Ready (now file) (now tab) (now rows) (now consts) level n at node (now cells) (now before) (now old) (now new) × Passes (now file) fits k n (now to) ⌝ }
+    ensures { λ r. ⌜ AllTo (now (file .entry)) (now (consts .entry)) fits k n level at node first (now (cells .entry)) (now (before .entry)) (now (old .entry)) r (now (to .exit)) (now (new .exit)) ⌝ }
+{
+    let mut pos = at;
+    let mut used: usize = 0;
+    let mut i: usize = 0;
+    while i < n {
+        let r = eval(
+            file,
+            tab,
+            rows,
+            consts,
+            pos,
+            level,
+            node,
+            first,
+            cells,
+            before,
+            &old[used..],
+            &mut new[used..],
+        );
+        let o = r.out;
+        used += r.used;
+        pos = r.next;
+        match o {
+            Outcome::Value(v) => {
+                let w = passed(tab, fits, k, i, v);
+                write_cell(w, to, 9 * i);
+            }
+            Outcome::Failure => {
+                let s = pass_all(file, rows, pos, level, n - i - 1);
+                return Ran {
+                    end: 1,
+                    next: s.next,
+                    used: used + s.used,
+                };
+            }
+            Outcome::Overflow => {
+                let s = pass_all(file, rows, pos, level, n - i - 1);
+                return Ran {
+                    end: 2,
+                    next: s.next,
+                    used: used + s.used,
+                };
+            }
+        }
+        i += 1;
+    }
+    Ran {
+        end: 0,
+        next: pos,
+        used: used,
+    }
+}
+
+// A call of node k, whose arguments are in `callee`, on its record.
+fn step_site(
+    file: &[u8],
+    tab: &[u8],
+    rows: &[usize],
+    consts: &[u8],
+    k: usize,
+    callee: &mut [u8],
+    old: &[u8],
+    new: &mut [u8],
+) -> u8
+    requires { ⌜ Steppable (now file) (now tab) (now rows) (now consts) k (now callee) (now old) (now new) ⌝ }
+    ensures { λ r. ⌜ SiteTo (now (file .entry)) (now (consts .entry)) k (now (callee .entry)) (now (old .entry)) r (now (callee .exit)) (now (new .exit)) ⌝ }
+{
+    let kind = row(rows, k, 0);
+    if kind == 1 {
+        step_instance(file, tab, rows, consts, k, callee, old, new)
+    } else {
+        step_function(file, tab, rows, consts, k, callee, old, new)
+    }
+}
+
+// A cycle of an instance of node k on its record.
+fn step_instance(
+    file: &[u8],
+    tab: &[u8],
+    rows: &[usize],
+    consts: &[u8],
+    k: usize,
+    callee: &mut [u8],
+    old: &[u8],
+    new: &mut [u8],
+) -> u8
+    requires { ⌜ Steppable (now file) (now tab) (now rows) (now consts) k (now callee) (now old) (now new) × (nodeIn (now file) k .kind ≡ Operator) ⌝ }
+    ensures { λ r. ⌜ SiteTo (now (file .entry)) (now (consts .entry)) k (now (callee .entry)) (now (old .entry)) r (now (callee .exit)) (now (new .exit)) ⌝ }
+{
+    let n = row(rows, k, 4);
+    let own = 1 + 9 * n;
+    let inputs = row(rows, k, 2);
+    let started = old[0];
+    copy_cells(inputs, n, &old[1..], callee);
+    let r = run(
+        file,
+        tab,
+        rows,
+        consts,
+        k,
+        started == 0,
+        callee,
+        &old[1..],
+        &old[own..],
+        &mut new[own..],
+    );
+    let end = r.end;
+    if end == 0 {
+        new[0] = 1;
+        write_cells(n, callee, &mut new[1..]);
+        0
+    } else if end == 1 {
+        write_fresh(file, tab, rows, k, new);
+        1
+    } else {
+        copy(old, new);
+        2
+    }
+}
+
+// A call of Function k: as on a fresh record, which is not kept.
+fn step_function(
+    file: &[u8],
+    tab: &[u8],
+    rows: &[usize],
+    consts: &[u8],
+    k: usize,
+    callee: &mut [u8],
+    old: &[u8],
+    new: &mut [u8],
+) -> u8
+    requires { ⌜ Steppable (now file) (now tab) (now rows) (now consts) k (now callee) (now old) (now new) × (nodeIn (now file) k .kind ≡ Function) ⌝ }
+    ensures { λ r. ⌜ SiteTo (now (file .entry)) (now (consts .entry)) k (now (callee .entry)) (now (old .entry)) r (now (callee .exit)) (now (new .exit)) ⌝ }
+{
+    let n = row(rows, k, 4);
+    let inputs = row(rows, k, 2);
+    let mut fresh = [0u8; 1008];
+    write_defaults(tab, rows, k, &mut fresh);
+    copy_cells(inputs, n, &fresh, callee);
+    let r = run(file, tab, rows, consts, k, true, callee, &fresh, old, new);
+    r.end
+}
+
+// All equations of node k in evaluation order, on the cells that it starts from.
+pub fn run(
+    file: &[u8],
+    tab: &[u8],
+    rows: &[usize],
+    consts: &[u8],
+    k: usize,
+    first: bool,
+    cells: &mut [u8],
+    before: &[u8],
+    old: &[u8],
+    new: &mut [u8],
+) -> Ended
+    requires { ⌜ Runnable (now file) (now tab) (now rows) (now consts) k (now cells) (now before) (now old) (now new) ⌝ }
+    ensures { λ r. ⌜ RunTo (now (file .entry)) (now (consts .entry)) k first (now (cells .entry)) (now (before .entry)) (now (old .entry)) r (now (cells .exit)) (now (new .exit)) ⌝ }
+{
+    let mut places = [0usize; 80];
+    let mut offsets = [0usize; 81];
+    equations(file, rows, k, &mut places, &mut offsets);
+    let n = row(rows, k, 5);
+    let mut j: usize = 0;
+    while j < n {
+        let i = order_at(tab, k, j);
+        let at = places[i];
+        let a = offsets[i];
+        let i1 = i + 1;
+        let b = offsets[i1];
+        let e = equation(
+            file,
+            tab,
+            rows,
+            consts,
+            at,
+            i,
+            k,
+            first,
+            cells,
+            before,
+            &old[a..b],
+            &mut new[a..b],
+        );
+        if e != 0 {
+            return Ended { end: e, index: i };
+        }
+        j += 1;
+    }
+    Ended { end: 0, index: 0 }
+}
+
+// Equation i of node, which stands at `at`: its right side is evaluated, and its values are stored.
+fn equation(
+    file: &[u8],
+    tab: &[u8],
+    rows: &[usize],
+    consts: &[u8],
+    at: usize,
+    i: usize,
+    node: usize,
+    first: bool,
+    cells: &mut [u8],
+    before: &[u8],
+    old: &[u8],
+    new: &mut [u8],
+) -> u8
+    requires { ⌜ EquationReady (now file) (now tab) (now rows) (now consts) node i at (now cells) (now before) (now old) (now new) ⌝ }
+    ensures { λ r. ⌜ EquationTo (now (file .entry)) (now (consts .entry)) node i first (now (cells .entry)) (now (before .entry)) (now (old .entry)) r (now (cells .exit)) (now (new .exit)) ⌝ }
+{
+    let n = number(file[at]);
+    let rhs = at + 1 + 2 * n;
+    let code = file[rhs];
+    if code == 11 {
+        call_equation(
+            file,
+            tab,
+            rows,
+            consts,
+            at,
+            rhs,
+            n,
+            i,
+            node,
+            first,
+            cells,
+            before,
+            old,
+            new,
+        )
+    } else if code == 12 {
+        tuple_equation(
+            file,
+            tab,
+            rows,
+            consts,
+            at,
+            rhs,
+            n,
+            i,
+            node,
+            first,
+            cells,
+            before,
+            old,
+            new,
+        )
+    } else {
+        let r = eval(
+            file,
+            tab,
+            rows,
+            consts,
+            rhs,
+            24,
+            node,
+            first,
+            cells,
+            before,
+            old,
+            new,
+        );
+        let o = r.out;
+        store_out(tab, node, at + 1, o, cells)
+    }
+}
+
+// An equation whose right side is a call: its outputs are stored.
+fn call_equation(
+    file: &[u8],
+    tab: &[u8],
+    rows: &[usize],
+    consts: &[u8],
+    at: usize,
+    rhs: usize,
+    n: usize,
+    i: usize,
+    node: usize,
+    first: bool,
+    cells: &mut [u8],
+    before: &[u8],
+    old: &[u8],
+    new: &mut [u8],
+) -> u8
+    requires { ⌜ EquationReady (now file) (now tab) (now rows) (now consts) node i at (now cells) (now before) (now old) (now new) × RhsReady (now file) node i rhs n 11 ⌝ }
+    ensures { λ r. ⌜ EquationTo (now (file .entry)) (now (consts .entry)) node i first (now (cells .entry)) (now (before .entry)) (now (old .entry)) r (now (cells .exit)) (now (new .exit)) ⌝ }
+{
+    let mut callee = [0u8; 1008];
+    let r = enter(
+        file,
+        tab,
+        rows,
+        consts,
+        rhs,
+        24,
+        node,
+        first,
+        cells,
+        before,
+        &mut callee,
+        old,
+        new,
+    );
+    let end = r.end;
+    if end == 0 {
+        let p = rhs + 1;
+        let k = number(file[p]);
+        let outputs = row(rows, k, 3);
+        let from = 9 * row(rows, k, 2);
+        let m = less(n, outputs);
+        assign(tab, node, at + 1, m, &callee[from..], cells);
+        0
+    } else {
+        end
+    }
+}
+
+// An equation whose right side is a Tuple: its items are stored once all have succeeded.
+fn tuple_equation(
+    file: &[u8],
+    tab: &[u8],
+    rows: &[usize],
+    consts: &[u8],
+    at: usize,
+    rhs: usize,
+    n: usize,
+    i: usize,
+    node: usize,
+    first: bool,
+    cells: &mut [u8],
+    before: &[u8],
+    old: &[u8],
+    new: &mut [u8],
+) -> u8
+    requires { ⌜ EquationReady (now file) (now tab) (now rows) (now consts) node i at (now cells) (now before) (now old) (now new) × RhsReady (now file) node i rhs n 12 ⌝ }
+    ensures { λ r. ⌜ EquationTo (now (file .entry)) (now (consts .entry)) node i first (now (cells .entry)) (now (before .entry)) (now (old .entry)) r (now (cells .exit)) (now (new .exit)) ⌝ }
+{
+    let mut items = [0u8; 1008];
+    let p = rhs + 1;
+    let count = number(file[p]);
+    let r = eval_all(
+        false,
+        0,
+        count,
+        file,
+        tab,
+        rows,
+        consts,
+        rhs + 2,
+        23,
+        node,
+        first,
+        cells,
+        before,
+        &mut items,
+        old,
+        new,
+    );
+    let end = r.end;
+    if end == 0 {
+        let m = less(n, count);
+        assign(tab, node, at + 1, m, &items, cells);
+        0
+    } else {
+        end
     }
 }

@@ -1,21 +1,21 @@
 -- The tables that every public call builds of a file that reads without fault: what each entry is, in terms of the file's tree.
 -- `rows` has eight numbers for each of 32 nodes, then one for each of 16 enums. `tab` has bytes: the nodes' evaluation orders (80 entries for each of 32 nodes), the types of
--- their variables (two bytes for each of 112 variables of 32 nodes), and for each place of the file the slot of the Var's name that stands there.
+-- their variables (two bytes for each of 112 variables of 32 nodes), and for each place of the file the slot of the name that stands there: a Var's, or one that an equation defines.
 use Prim.Native.Nat.{ℕ, _+_, _*_, _<_, _≤_, min}
 use mathlib.Core.Bool.{Bool, false}
 use mathlib.Core.List.{List, [], _∷_, map}
 use mathlib.Core.Option.{Option, none, some}
 use mathlib.Core.Path.{_≡_}
 use lib.Dec.{eqb}
-use lib.ListN.{length, getD}
+use lib.ListN.{length, take, getD}
 use Rattle.ol_spec.specs.Lists.{maybe, position, member}
-use Rattle.ol_spec.specs.Syntax.{Ty, bool, int, float32, float64, char, enum, Expr, Node, File, noNode, variables, variableNames, typeOf}
-use Rattle.ol_spec.specs.Places.{placedNodes, placedEquations, equationsStart, rhsPlace, collect}
+use Rattle.ol_spec.specs.Syntax.{Ty, bool, int, float32, float64, char, enum, Expr, boolLit, Constant, Node, File, noNode, variables, variableNames, typeOf}
+use Rattle.ol_spec.specs.Places.{placedConstants, placedNodes, placedEquations, placedNames, equationsStart, rhsPlace, collect}
 use Rattle.ol_spec.specs.Encode.{kindCode}
 use Rattle.ol_spec.specs.Order.{order}
 use Rattle.ol_spec.specs.Eval.{sizeIn}
 use Rattle.ol_spec.specs.Step.{sizesAt}
-use Rattle.ol_spec.specs.Admission.{Item, constantNames, used, callsWhere, badCall, variants}
+use Rattle.ol_spec.specs.Admission.{Item, constantNames, used, valuePlace, callsWhere, badCall, variants}
 
 -- ---- types as bytes: the type code, and an enum's number (0 for another type)
 
@@ -140,10 +140,18 @@ pub record TabOf (f : File) (tab : List ℕ) (k : ℕ) : Type 0 where
   pub codes : (i : ℕ) → i < length (variables (nodeOf f k)) → codeAt tab k i ≡ tyCode (getD (map typeOf (variables (nodeOf f k))) i bool)
   pub enums : (i : ℕ) → i < length (variables (nodeOf f k)) → enumAt tab k i ≡ tyEnum (getD (map typeOf (variables (nodeOf f k))) i bool)
   pub slots : Each (λ q. Slotted tab (variableNames (nodeOf f k)) (constantNames f) (rhsPlace (q .0) (q .1)) (q .1 .rhs)) (placedEquations (placeOf (placedNodes f) k) (nodeOf f k))
+  -- the names that the equations define
+  pub defined : Each (λ q. Each (HasSlot tab (variableNames (nodeOf f k)) (constantNames f)) (placedNames (q .0 + 1) (q .1 .names))) (placedEquations (placeOf (placedNodes f) k) (nodeOf f k))
+
+-- constant i with its place
+abbrev pub constantOf : File → ℕ → ℕ × Constant
+constantOf f i = getD (placedConstants f) i (0, record { name = 0; ty = bool; value = boolLit false })
 
 pub record Tab (f : File) (size : ℕ) (tab : List ℕ) : Type 0 where
   pub long : slotsFrom + size ≤ length tab
   pub tabsOf : (k : ℕ) → k < length (f .nodes) → TabOf f tab k
+  -- a constant's expression sees the constants before it
+  pub constants : (i : ℕ) → i < length (f .constants) → Slotted tab [] (take i (constantNames f)) (valuePlace (constantOf f i .0) (constantOf f i .1)) (constantOf f i .1 .value)
 
 -- ---- variants
 

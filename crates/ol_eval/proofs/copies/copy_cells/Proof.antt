@@ -1,0 +1,66 @@
+use borrow.Author.Needs.{needs}
+use Rattle.ol_eval.proofs.copies.copy_cells.Statement.{statement}
+use Rattle.ol_eval.proofs.copies.copy_cells.Tie as tie
+use Rattle.ol_eval.proofs.copies.copy_cells.Reads as reads
+use Rattle.ol_eval.proofs.copies.copy_cells.Lts as lts
+use Rattle.ol_eval.proofs.copies.copy.Reads as copy-reads
+
+-- src/copies.rt:37:13
+mul-a : tie.Need-mul-a
+mul-a c = search needs
+
+-- src/copies.rt:38:13
+mul-b : tie.Need-mul-b
+mul-b c = search needs
+
+-- src/copies.rt:39:10
+sub-copy : tie.Need-sub-copy
+sub-copy c = search needs
+
+-- src/copies.rt:39:10
+part-copy-start : tie.Need-part-copy-start
+part-copy-start c = search needs
+
+-- src/copies.rt:39:10
+part-copy-end : tie.Need-part-copy-end
+part-copy-end c = search needs
+
+-- src/copies.rt:39:23
+sub-copy-2 : tie.Need-sub-copy-2
+sub-copy-2 c = search needs
+
+-- src/copies.rt:39:23
+part-copy-start-2 : tie.Need-part-copy-start-2
+part-copy-start-2 c = search needs
+
+-- src/copies.rt:39:23
+part-copy-end-2 : tie.Need-part-copy-end-2
+part-copy-end-2 c = search needs
+
+-- src/copies.rt:39:5
+copy-requires : tie.Need-copy-requires
+copy-requires c κs = search needs
+
+-- src/copies.rt:33:1
+same-length : tie.Need-same-length
+same-length c = search needs
+
+-- src/copies.rt:33:1
+returns : tie.Need-returns
+returns c = ?
+
+pub copy-cells-spec : {M : Type 1} → statement M
+copy-cells-spec =
+    tie.close
+    (tie.spec
+    mul-a
+    mul-b
+    sub-copy
+    part-copy-start
+    part-copy-end
+    sub-copy-2
+    part-copy-start-2
+    part-copy-end-2
+    copy-requires
+    same-length
+    returns)

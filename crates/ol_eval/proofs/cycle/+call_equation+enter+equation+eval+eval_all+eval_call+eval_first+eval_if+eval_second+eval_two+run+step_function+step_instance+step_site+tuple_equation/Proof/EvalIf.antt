@@ -1,0 +1,312 @@
+-- The needs of `eval_if`. Assumes nothing.
+-- <uses>
+use mathlib.Core.Path.{_≡_, refl, sym, ap, subst, _∙_}
+use mathlib.Core.Bool.{Bool, true, false}
+use mathlib.Core.List.{List}
+use Prim.Native.Nat.{ℕ, _+_, _-_, _≤_, _<_}
+use native.Mathlib.Omega.{arith}
+use lib.ListN.{length, take, drop, getD}
+use lib.Seq.{length-take-le}
+use Rattle.ol_spec.specs.declared.Value.{Value}
+use Rattle.ol_spec.specs.Eval.{Eval, next, mapEval, choose, condition, eval}
+use Rattle.ol_value.specs.Codes.{binaryBy}
+use Rattle.ol_tree.specs.At.{exprAt, endAt}
+use Rattle.ol_tree.proofs.Forms.{parted}
+use Rattle.ol_eval.specs.Walk.{SkipsTo}
+use Rattle.ol_eval.specs.Plans.{evalIn, segAt, segsAt}
+use Rattle.ol_eval.specs.Post.{branchIn, chooseIn}
+use Rattle.ol_eval.proofs.Lending.{length-put, length-put-front, putTail, tail-all}
+use Rattle.ol_eval.proofs.Planning.{segs-cons}
+use Rattle.ol_eval.proofs.Evals.{rest-old, two-done, two-stop, if-taken, if-stop, first-ran, first-not, second-ran, second-not, seq-as}
+use Rattle.ol_eval.proofs.Readying.{ready-first, ready-rest, ready-tail, ready-front, ready-pass, ready-seg, moved, moved-choice, moved-skip, skip-one, two-segs, two-ends, chosen-is}
+-- </uses>
+use Prim.Native.Nat.{ℕ}
+use borrow.Author.Needs.{needs}
+use Rattle.ol_eval.proofs.cycle.eval.Reads as eval
+use Rattle.ol_eval.proofs.cycle.eval_first.Reads as eval-first
+use Rattle.ol_eval.proofs.cycle.eval_if.Reads as eval-if
+use Rattle.ol_eval.proofs.cycle.eval_second.Reads as eval-second
+use Rattle.ol_eval.proofs.skip.pass_all.Reads as pass-all-reads
+use Rattle.ol_eval.proofs.outcomes.test_of.Reads as test-of-reads
+use Rattle.ol_eval.proofs.outcomes.untested.Reads as untested-reads
+use Rattle.ol_eval.proofs.cycle.+call_equation+enter+equation+eval+eval_all+eval_call+eval_first+eval_if+eval_second+eval_two+run+step_function+step_instance+step_site+tuple_equation.Lts-eval_if as eval-if-lts
+use Rattle.ol_eval.proofs.cycle.+call_equation+enter+equation+eval+eval_all+eval_call+eval_first+eval_if+eval_second+eval_two+run+step_function+step_instance+step_site+tuple_equation.Proof.Common.{eval-if-at, eval-below, eval-first-below, eval-second-below}
+
+-- what it knows of its callees
+abbrev pub Q : ℕ → eval-if-lts.Claims
+Q t = (eval-below t, eval.Post, test-of-reads.Asked, test-of-reads.Learnt, eval-first-below t, eval-first.Post, eval-second-below t, eval-second.Post, pass-all-reads.Asked, pass-all-reads.Learnt, untested-reads.Asked, untested-reads.Learnt)
+
+pub eval-requires : (t : ℕ) → eval-if-lts.Need-eval-requires (Q t) (eval-if-at t) eval-if.Post
+eval-requires t c κs =
+    let start = c .before .before .before .before .before .before .before .before .before in
+    let p = start .pre .1 in
+    (omega (arith, start .pre .0), ready-first p)
+
+pub test-of-requires : (t : ℕ) → eval-if-lts.Need-test-of-requires (Q t) (eval-if-at t) eval-if.Post
+test-of-requires t c κs = tt
+
+pub sub-eval-first : (t : ℕ) → eval-if-lts.Need-sub-eval-first (Q t) (eval-if-at t) eval-if.Post
+sub-eval-first t c =
+    let start = c .before .before .before .before .before .before .before .before .before .before .before .before .before .before in
+    let p = start .pre .1 in
+    let le = ready-seg p in
+    let h = c .before .before .before .before .eval .ensures in
+    omega (arith, h .used-is, le)
+
+pub part-eval-first-start : (t : ℕ) → eval-if-lts.Need-part-eval-first-start (Q t) (eval-if-at t) eval-if.Post
+part-eval-first-start t c =
+    let start = c .before .before .before .before .before .before .before .before .before .before .before .before .before .before in
+    let p = start .pre .1 in
+    let le = ready-seg p in
+    let h = c .before .before .before .before .eval .ensures in
+    omega (arith, h .used-is, le)
+
+pub part-eval-first-end : (t : ℕ) → eval-if-lts.Need-part-eval-first-end (Q t) (eval-if-at t) eval-if.Post
+part-eval-first-end t c =
+    let start = c .before .before .before .before .before .before .before .before .before .before .before .before .before .before in
+    let p = start .pre .1 in
+    let le = ready-seg p in
+    let h = c .before .before .before .before .eval .ensures in
+    omega (arith, h .used-is, le)
+
+pub sub-eval-first-2 : (t : ℕ) → eval-if-lts.Need-sub-eval-first-2 (Q t) (eval-if-at t) eval-if.Post
+sub-eval-first-2 t c =
+    let start = c .before .before .before .before .before .before .before .before .before .before .before .before .before .before .before in
+    let p = start .pre .1 in
+    let le = ready-seg p in
+    let h = c .before .before .before .before .before .eval .ensures in
+    let K = c .before .before .before .before .before .eval .kept .1 .1 .1 .1 .1 .1 .1 .1 .1 .1 .1 .0 in
+    omega (arith, h .used-is, le, K, ap length (p .same))
+
+pub part-eval-first-start-2 : (t : ℕ) → eval-if-lts.Need-part-eval-first-start-2 (Q t) (eval-if-at t) eval-if.Post
+part-eval-first-start-2 t c =
+    let start = c .before .before .before .before .before .before .before .before .before .before .before .before .before .before .before in
+    let p = start .pre .1 in
+    let le = ready-seg p in
+    let h = c .before .before .before .before .before .eval .ensures in
+    let K = c .before .before .before .before .before .eval .kept .1 .1 .1 .1 .1 .1 .1 .1 .1 .1 .1 .0 in
+    omega (arith, h .used-is, le, K, ap length (p .same))
+
+pub part-eval-first-end-2 : (t : ℕ) → eval-if-lts.Need-part-eval-first-end-2 (Q t) (eval-if-at t) eval-if.Post
+part-eval-first-end-2 t c =
+    let start = c .before .before .before .before .before .before .before .before .before .before .before .before .before .before .before in
+    let p = start .pre .1 in
+    let le = ready-seg p in
+    let h = c .before .before .before .before .before .eval .ensures in
+    let K = c .before .before .before .before .before .eval .kept .1 .1 .1 .1 .1 .1 .1 .1 .1 .1 .1 .0 in
+    omega (arith, h .used-is, le, K, ap length (p .same))
+
+pub eval-first-requires : (t : ℕ) → eval-if-lts.Need-eval-first-requires (Q t) (eval-if-at t) eval-if.Post
+eval-first-requires t c κs =
+    let start = c .before .before .before .before .before .before .before .before .before .before .before .before .before .before .before .before in
+    let p = start .pre .1 in
+    let h = c .before .before .before .before .before .before .eval .ensures in
+    let K = c .before .before .before .before .before .before .eval .kept .1 .1 .1 .1 .1 .1 .1 .1 .1 .1 .1 .0 in
+    (omega (arith, start .pre .0), rw (h .next-is) (ready-rest p h K))
+
+pub add-t28 : (t : ℕ) → eval-if-lts.Need-add-t28 (Q t) (eval-if-at t) eval-if.Post
+add-t28 t c =
+    let start = c .before .before .before .before .before .before .before .before .before .before .before .before .before .before .before .before .before .before .before .before in
+    let p = start .pre .1 in
+    let f = start .args .file .now in
+    let kk = start .args .consts .now in
+    let L = start .args .level in
+    let a = start .args .at in
+    let n = start .args .node in
+    let F = start .args .first in
+    let cl = start .args .cells .now in
+    let bb = start .args .before .now in
+    let h = c .before .before .before .before .before .before .before .before .before .before .eval .ensures in
+    let segs = segs-cons f L 2 a (p .plan .reads) in
+    let g1 = moved-choice f kk true L n F cl bb (c .before .before .before .before .before .before .before .before .before .before .eval .ensures .next-is) (rest-old (c .before .before .before .before .before .before .before .before .before .before .eval .ensures)) (c .before .before .before .eval-first .ensures) in
+    omega (arith, h .used-is, g1 .used-is, segs, p .room, p .small)
+
+pub sub-eval-second : (t : ℕ) → eval-if-lts.Need-sub-eval-second (Q t) (eval-if-at t) eval-if.Post
+sub-eval-second t c =
+    let start = c .before .before .before .before .before .before .before .before .before .before .before .before .before .before .before in
+    let p = start .pre .1 in
+    let le = ready-seg p in
+    let h = c .before .before .before .before .before .eval .ensures in
+    omega (arith, h .used-is, le)
+
+pub part-eval-second-start : (t : ℕ) → eval-if-lts.Need-part-eval-second-start (Q t) (eval-if-at t) eval-if.Post
+part-eval-second-start t c =
+    let start = c .before .before .before .before .before .before .before .before .before .before .before .before .before .before .before in
+    let p = start .pre .1 in
+    let le = ready-seg p in
+    let h = c .before .before .before .before .before .eval .ensures in
+    omega (arith, h .used-is, le)
+
+pub part-eval-second-end : (t : ℕ) → eval-if-lts.Need-part-eval-second-end (Q t) (eval-if-at t) eval-if.Post
+part-eval-second-end t c =
+    let start = c .before .before .before .before .before .before .before .before .before .before .before .before .before .before .before in
+    let p = start .pre .1 in
+    let le = ready-seg p in
+    let h = c .before .before .before .before .before .eval .ensures in
+    omega (arith, h .used-is, le)
+
+pub sub-eval-second-2 : (t : ℕ) → eval-if-lts.Need-sub-eval-second-2 (Q t) (eval-if-at t) eval-if.Post
+sub-eval-second-2 t c =
+    let start = c .before .before .before .before .before .before .before .before .before .before .before .before .before .before .before .before in
+    let p = start .pre .1 in
+    let le = ready-seg p in
+    let h = c .before .before .before .before .before .before .eval .ensures in
+    let K = c .before .before .before .before .before .before .eval .kept .1 .1 .1 .1 .1 .1 .1 .1 .1 .1 .1 .0 in
+    omega (arith, h .used-is, le, K, ap length (p .same))
+
+pub part-eval-second-start-2 : (t : ℕ) → eval-if-lts.Need-part-eval-second-start-2 (Q t) (eval-if-at t) eval-if.Post
+part-eval-second-start-2 t c =
+    let start = c .before .before .before .before .before .before .before .before .before .before .before .before .before .before .before .before in
+    let p = start .pre .1 in
+    let le = ready-seg p in
+    let h = c .before .before .before .before .before .before .eval .ensures in
+    let K = c .before .before .before .before .before .before .eval .kept .1 .1 .1 .1 .1 .1 .1 .1 .1 .1 .1 .0 in
+    omega (arith, h .used-is, le, K, ap length (p .same))
+
+pub part-eval-second-end-2 : (t : ℕ) → eval-if-lts.Need-part-eval-second-end-2 (Q t) (eval-if-at t) eval-if.Post
+part-eval-second-end-2 t c =
+    let start = c .before .before .before .before .before .before .before .before .before .before .before .before .before .before .before .before in
+    let p = start .pre .1 in
+    let le = ready-seg p in
+    let h = c .before .before .before .before .before .before .eval .ensures in
+    let K = c .before .before .before .before .before .before .eval .kept .1 .1 .1 .1 .1 .1 .1 .1 .1 .1 .1 .0 in
+    omega (arith, h .used-is, le, K, ap length (p .same))
+
+pub eval-second-requires : (t : ℕ) → eval-if-lts.Need-eval-second-requires (Q t) (eval-if-at t) eval-if.Post
+eval-second-requires t c κs =
+    let start = c .before .before .before .before .before .before .before .before .before .before .before .before .before .before .before .before .before in
+    let p = start .pre .1 in
+    let h = c .before .before .before .before .before .before .before .eval .ensures in
+    let K = c .before .before .before .before .before .before .before .eval .kept .1 .1 .1 .1 .1 .1 .1 .1 .1 .1 .1 .0 in
+    (omega (arith, start .pre .0), rw (h .next-is) (ready-rest p h K))
+
+pub add-t38 : (t : ℕ) → eval-if-lts.Need-add-t38 (Q t) (eval-if-at t) eval-if.Post
+add-t38 t c =
+    let start = c .before .before .before .before .before .before .before .before .before .before .before .before .before .before .before .before .before .before .before .before .before in
+    let p = start .pre .1 in
+    let f = start .args .file .now in
+    let kk = start .args .consts .now in
+    let L = start .args .level in
+    let a = start .args .at in
+    let n = start .args .node in
+    let F = start .args .first in
+    let cl = start .args .cells .now in
+    let bb = start .args .before .now in
+    let h = c .before .before .before .before .before .before .before .before .before .before .before .eval .ensures in
+    let segs = segs-cons f L 2 a (p .plan .reads) in
+    let g2 = moved-choice f kk false L n F cl bb (c .before .before .before .before .before .before .before .before .before .before .before .eval .ensures .next-is) (rest-old (c .before .before .before .before .before .before .before .before .before .before .before .eval .ensures)) (c .before .before .before .eval-second .ensures) in
+    omega (arith, h .used-is, g2 .used-is, segs, p .room, p .small)
+
+pub pass-all-requires : (t : ℕ) → eval-if-lts.Need-pass-all-requires (Q t) (eval-if-at t) eval-if.Post
+pass-all-requires t c κs =
+    let start = c .before .before .before .before .before .before .before .before .before .before .before .before .before .before .before in
+    let p = start .pre .1 in
+    let h = c .before .before .before .before .before .eval .ensures in
+    let K = c .before .before .before .before .before .eval .kept .1 .1 .1 .1 .1 .1 .1 .1 .1 .1 .1 .0 in
+    rw (h .next-is) (ready-pass (ready-rest p h K))
+
+pub untested-requires : (t : ℕ) → eval-if-lts.Need-untested-requires (Q t) (eval-if-at t) eval-if.Post
+untested-requires t c κs = tt
+
+pub add-t46 : (t : ℕ) → eval-if-lts.Need-add-t46 (Q t) (eval-if-at t) eval-if.Post
+add-t46 t c =
+    let start = c .before .before .before .before .before .before .before .before .before .before .before .before .before .before .before .before .before .before in
+    let p = start .pre .1 in
+    let f = start .args .file .now in
+    let L = start .args .level in
+    let a = start .args .at in
+    let h = c .before .before .before .before .before .before .before .before .eval .ensures in
+    let segs = segs-cons f L 2 a (p .plan .reads) in
+    let q = (moved-skip f L 2 (c .before .before .before .before .before .before .before .before .eval .ensures .next-is) (c .before .before .pass-all .ensures)) in
+    omega (arith, h .used-is, q .used-is, segs, p .room, p .small)
+
+pub same-length : (t : ℕ) → eval-if-lts.Need-same-length (Q t) (eval-if-at t) eval-if.Post
+same-length t c =
+    let start = c .before .before .before .before .before .before .before .before .before .before .before .before .before .before .before .before .before .before .before .before in
+    let p = start .pre .1 in
+    let le = ready-seg p in
+    let h = c .before .before .before .before .before .before .before .before .before .before .eval .ensures in
+    let K = c .before .before .before .before .before .before .before .before .before .before .eval .kept .1 .1 .1 .1 .1 .1 .1 .1 .1 .1 .1 .0 in
+    let N = c .before .before .before .before .before .before .before .before .before .before .eval .last .1 .1 .1 .1 .1 .1 .1 .1 .1 .1 .1 .0 in
+    length-put (c .before .before .before .before .before .before .before .before .before .before .eval .result .used) N (c .before .before .before .eval-first .last .1 .1 .1 .1 .1 .1 .1 .1 .1 .1 .1 .0) (omega (arith, h .used-is, le, K, ap length (p .same))) (c .before .before .before .eval-first .kept .1 .1 .1 .1 .1 .1 .1 .1 .1 .1 .1 .0) ∙ K
+
+pub returns : (t : ℕ) → eval-if-lts.Need-returns (Q t) (eval-if-at t) eval-if.Post
+returns t c =
+    let start = c .before .before .before .before .before .before .before .before .before .before .before .before .before .before .before .before .before .before .before .before in
+    let p = start .pre .1 in
+    let f = start .args .file .now in
+    let kk = start .args .consts .now in
+    let L = start .args .level in
+    let a = start .args .at in
+    let n = start .args .node in
+    let F = start .args .first in
+    let cl = start .args .cells .now in
+    let bb = start .args .before .now in
+    let le = ready-seg p in
+    let mid = endAt f L a in
+    let n1 = segAt f L a in
+    let h = c .before .before .before .before .before .before .before .before .before .before .eval .ensures in
+    let K = c .before .before .before .before .before .before .before .before .before .before .eval .kept .1 .1 .1 .1 .1 .1 .1 .1 .1 .1 .1 .0 in
+    let m2 = segsAt f L 2 (endAt f L a) in
+    let segs = segs-cons f L 2 a (p .plan .reads) in
+    let ends = parted f L 2 a (p .plan .reads) .ends in
+    let g1 = moved-choice f kk true L n F cl bb (c .before .before .before .before .before .before .before .before .before .before .eval .ensures .next-is) (rest-old (c .before .before .before .before .before .before .before .before .before .before .eval .ensures)) (c .before .before .before .eval-first .ensures) in
+    seq-as ((λ (x y : List ℕ). next (evalIn f kk n F cl bb (exprAt f L a) x) (condition (λ (b : Bool) (rest : List ℕ). chooseIn f kk b L mid n F cl bb rest)) y)) n1 m2 segs ends (if-taken ((λ (b : Bool) (rest : List ℕ). chooseIn f kk b L mid n F cl bb rest)) true h g1 (K ∙ ap length (p .same)) le (sym (c .before .before .before .before .before .before .before .test-of .ensures) ∙ c .before .before .before .before .before .before .if1 .taken))
+
+pub same-length-2 : (t : ℕ) → eval-if-lts.Need-same-length-2 (Q t) (eval-if-at t) eval-if.Post
+same-length-2 t c =
+    let start = c .before .before .before .before .before .before .before .before .before .before .before .before .before .before .before .before .before .before .before .before .before in
+    let p = start .pre .1 in
+    let le = ready-seg p in
+    let h = c .before .before .before .before .before .before .before .before .before .before .before .eval .ensures in
+    let K = c .before .before .before .before .before .before .before .before .before .before .before .eval .kept .1 .1 .1 .1 .1 .1 .1 .1 .1 .1 .1 .0 in
+    let N = c .before .before .before .before .before .before .before .before .before .before .before .eval .last .1 .1 .1 .1 .1 .1 .1 .1 .1 .1 .1 .0 in
+    length-put (c .before .before .before .before .before .before .before .before .before .before .before .eval .result .used) N (c .before .before .before .eval-second .last .1 .1 .1 .1 .1 .1 .1 .1 .1 .1 .1 .0) (omega (arith, h .used-is, le, K, ap length (p .same))) (c .before .before .before .eval-second .kept .1 .1 .1 .1 .1 .1 .1 .1 .1 .1 .1 .0) ∙ K
+
+pub returns-2 : (t : ℕ) → eval-if-lts.Need-returns-2 (Q t) (eval-if-at t) eval-if.Post
+returns-2 t c =
+    let start = c .before .before .before .before .before .before .before .before .before .before .before .before .before .before .before .before .before .before .before .before .before in
+    let p = start .pre .1 in
+    let f = start .args .file .now in
+    let kk = start .args .consts .now in
+    let L = start .args .level in
+    let a = start .args .at in
+    let n = start .args .node in
+    let F = start .args .first in
+    let cl = start .args .cells .now in
+    let bb = start .args .before .now in
+    let le = ready-seg p in
+    let mid = endAt f L a in
+    let n1 = segAt f L a in
+    let h = c .before .before .before .before .before .before .before .before .before .before .before .eval .ensures in
+    let K = c .before .before .before .before .before .before .before .before .before .before .before .eval .kept .1 .1 .1 .1 .1 .1 .1 .1 .1 .1 .1 .0 in
+    let m2 = segsAt f L 2 (endAt f L a) in
+    let segs = segs-cons f L 2 a (p .plan .reads) in
+    let ends = parted f L 2 a (p .plan .reads) .ends in
+    let g2 = moved-choice f kk false L n F cl bb (c .before .before .before .before .before .before .before .before .before .before .before .eval .ensures .next-is) (rest-old (c .before .before .before .before .before .before .before .before .before .before .before .eval .ensures)) (c .before .before .before .eval-second .ensures) in
+    seq-as ((λ (x y : List ℕ). next (evalIn f kk n F cl bb (exprAt f L a) x) (condition (λ (b : Bool) (rest : List ℕ). chooseIn f kk b L mid n F cl bb rest)) y)) n1 m2 segs ends (if-taken ((λ (b : Bool) (rest : List ℕ). chooseIn f kk b L mid n F cl bb rest)) false h g2 (K ∙ ap length (p .same)) le (sym (c .before .before .before .before .before .before .before .before .test-of .ensures) ∙ c .before .before .before .before .before .before .if2 .taken))
+
+pub same-length-3 : (t : ℕ) → eval-if-lts.Need-same-length-3 (Q t) (eval-if-at t) eval-if.Post
+same-length-3 t c =
+    let K = c .before .before .before .before .before .before .before .before .eval .kept .1 .1 .1 .1 .1 .1 .1 .1 .1 .1 .1 .0 in
+    K
+
+pub returns-3 : (t : ℕ) → eval-if-lts.Need-returns-3 (Q t) (eval-if-at t) eval-if.Post
+returns-3 t c =
+    let start = c .before .before .before .before .before .before .before .before .before .before .before .before .before .before .before .before .before .before in
+    let p = start .pre .1 in
+    let f = start .args .file .now in
+    let kk = start .args .consts .now in
+    let L = start .args .level in
+    let a = start .args .at in
+    let n = start .args .node in
+    let F = start .args .first in
+    let cl = start .args .cells .now in
+    let bb = start .args .before .now in
+    let mid = endAt f L a in
+    let n1 = segAt f L a in
+    let h = c .before .before .before .before .before .before .before .before .eval .ensures in
+    let m2 = segsAt f L 2 (endAt f L a) in
+    let segs = segs-cons f L 2 a (p .plan .reads) in
+    let ends = parted f L 2 a (p .plan .reads) .ends in
+    seq-as ((λ (x y : List ℕ). next (evalIn f kk n F cl bb (exprAt f L a) x) (condition (λ (b : Bool) (rest : List ℕ). chooseIn f kk b L mid n F cl bb rest)) y)) n1 m2 segs ends (if-stop ((λ (b : Bool) (rest : List ℕ). chooseIn f kk b L mid n F cl bb rest)) h ((moved-skip f L 2 (c .before .before .before .before .before .before .before .before .eval .ensures .next-is) (c .before .before .pass-all .ensures))) (λ e. c .before .before .before .before .if1 .left (c .before .before .before .before .before .test-of .ensures ∙ e)) (λ e. c .before .before .before .if2 .left (c .before .before .before .before .before .test-of .ensures ∙ e)) (c .before .untested .ensures))
