@@ -2,6 +2,7 @@ pub mod Backs
 pub mod Constant
 pub mod Copying
 pub mod Depth
+pub mod Equating
 pub mod Evals
 pub mod Lending
 pub mod Naming

@@ -1,4 +1,5 @@
 pub mod Constants
+pub mod Equations
 pub mod Outcomes
 pub mod Plans
 pub mod Post

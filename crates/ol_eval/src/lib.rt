@@ -2,6 +2,7 @@
 pub mod constants;
 pub mod copies;
 pub mod cycle;
+pub mod equations;
 pub mod names;
 pub mod outcomes;
 pub mod skip;
