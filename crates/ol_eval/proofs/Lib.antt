@@ -10,3 +10,4 @@ pub mod Passing
 pub mod Planning
 pub mod Readying
 pub mod RealKinds
+pub mod Running
