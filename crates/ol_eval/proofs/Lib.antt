@@ -2,6 +2,7 @@ pub mod Backs
 pub mod Constant
 pub mod Copying
 pub mod Depth
+pub mod Equating
 pub mod Evals
 pub mod Lending
 pub mod Naming
@@ -9,3 +10,4 @@ pub mod Passing
 pub mod Planning
 pub mod Readying
 pub mod RealKinds
+pub mod Running
