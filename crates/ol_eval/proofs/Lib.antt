@@ -9,3 +9,4 @@ pub mod Passing
 pub mod Planning
 pub mod Readying
 pub mod RealKinds
+pub mod Storing

@@ -2,4 +2,5 @@ pub mod Constants
 pub mod Outcomes
 pub mod Plans
 pub mod Post
+pub mod Stores
 pub mod Walk

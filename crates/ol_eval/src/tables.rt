@@ -4,7 +4,7 @@ ghost use mathlib.Core.Path.{_≡_};
 ghost use Prim.Native.Nat.{_<_, _≤_};
 ghost use lib.ListN.{length};
 ghost use Prim.Native.Nat.{_+_};
-ghost use Rattle.ol_tree.specs.Tables.{rowsLength, rowAt, codeAt, slotAt, slotsFrom};
+ghost use Rattle.ol_tree.specs.Tables.{rowsLength, rowAt, codeAt, slotAt, slotsFrom, orderAt};
 
 // A byte as a number.
 pub fn number(b: u8) -> usize
@@ -37,5 +37,14 @@ pub fn slot_at(tab: &[u8], at: usize) -> usize
     ensures { λ r. ⌜ r ≡ slotAt (now (tab .entry)) at ⌝ }
 {
     let p = 9728 + at;
+    number(tab[p])
+}
+
+// Which equation of node k runs j-th.
+pub fn order_at(tab: &[u8], k: usize, j: usize) -> usize
+    requires { ⌜ (slotsFrom ≤ length (now tab)) × (k < 32) × (j < 80) ⌝ }
+    ensures { λ r. ⌜ (r ≡ orderAt (now (tab .entry)) k j) × (r < 256) ⌝ }
+{
+    let p = k * 80 + j;
     number(tab[p])
 }
