@@ -11,3 +11,4 @@ pub mod Planning
 pub mod Readying
 pub mod RealKinds
 pub mod Running
+pub mod Storing
