@@ -10,5 +10,7 @@ pub mod Passing
 pub mod Planning
 pub mod Readying
 pub mod RealKinds
+pub mod Rights
 pub mod Running
 pub mod Storing
+pub mod Turns
