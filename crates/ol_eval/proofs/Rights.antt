@@ -5,7 +5,7 @@ use mathlib.Core.List.{List, [], _∷_, _++_, append-nil}
 use mathlib.Core.Path.{_≡_, refl, sym, ap, subst, _∙_}
 use native.Mathlib.Omega.{arith}
 use lib.Dec.{T}
-use lib.ListN.{length, take, drop, getD, drop-of-length-le}
+use lib.ListN.{length, take, drop, getD, length-drop, drop-of-length-le}
 use lib.Seq.{take-all, drop-cons}
 use Rattle.ol_spec.specs.Lists.{allOf}
 use Rattle.ol_spec.specs.Syntax.{Expr, Exprs, tuple, Node, noNode, variables, variableNames, Rhs, one, rhsOf}
@@ -38,6 +38,10 @@ use Rattle.ol_eval.proofs.Planning.{each-map, sounds-below, segs-one, s
 use Rattle.ol_eval.proofs.Readying.{ready-parts}
 use Rattle.ol_eval.proofs.Storing.{typed, storable, assign-least, values-take}
 
+-- what an array of n bytes lends from u on
+pub tail-whole : (n u : ℕ) (s : List ℕ) → length s ≡ n → take (n - u) (drop u s) ≡ drop u s
+tail-whole n u s e = take-all (n - u) (drop u s) (omega (arith, length-drop u s))
+
 -- ---- an equation's names
 
 -- what holds of the names with their places holds of name j
@@ -59,6 +63,18 @@ names-some {file} k i r b h =
     let s = T-and (sectionFits 1 (base .names) nameFits (q .names)) _ t .0 in
     let c = T-and (countFits 1 (base .names) (length (q .names))) _ s .0 in
     lib.Dec.leb→le 1 (length (q .names)) (T-and (lib.Dec.leb 1 (length (q .names))) _ (T-and (byteFits (length (q .names))) _ c .1) .0)
+
+-- the values that are stored are no more than the names; the names stand before the right side
+pub record Least (file : List ℕ) (k i at rhs m : ℕ) : Type 0 where
+  pub least : m ≤ length (equationIn file k i .names)
+  pub place : at + 1 ≤ rhs
+
+-- what the table tells of the callee of the call at rhs
+pub record CalleeRow (file rows : List ℕ) (rhs c : ℕ) : Type 0 where
+  pub small : c < 32
+  pub width : length (nodeIn file (getD file (rhs + 1) 0) .inputs) + length (nodeIn file (getD file (rhs + 1) 0) .outputs) ≤ 112
+  pub inputs : rowAt rows c 2 ≡ length (nodeIn file (getD file (rhs + 1) 0) .inputs)
+  pub outputs : rowAt rows c 3 ≡ length (nodeIn file (getD file (rhs + 1) 0) .outputs)
 
 module _ {file tab rows consts : List ℕ} {k i at : ℕ} {cells before old new : List ℕ} (q : EquationReady file tab rows consts k i at cells before old new) where
   plan : EquationPlan file tab rows consts k i
@@ -232,6 +248,9 @@ module _ {file tab rows consts : List ℕ} {k i at : ℕ} {cells before old new 
       go failure n = tt
       go overflow n = tt
 
+  pub names-least : {rhs n code m : ℕ} (total : ℕ) → RhsReady file k i rhs n code → m ≡ min n total → Least file k i at rhs m
+  names-least total p e = record { least = omega (arith, e, p .count); place = omega (arith, p .place, q .place) }
+
   module _ {rhs n : ℕ} where
     -- a call: its callee
     pub call-inside : RhsReady file k i rhs n 11 → (rhs + 3 ≤ length file) × (getD file (rhs + 1) 0 < k)
@@ -241,6 +260,19 @@ module _ {file tab rows consts : List ℕ} {k i at : ℕ} {cells before old new 
         let c : getD file a 0 ≡ 11 = ap (λ (x : ℕ). getD file x 0) (sym e) ∙ p .code-is in
         let l = plan-call file (plan .plan) c .lower in
         (omega (arith, e, call-form file 24 a reads c .0 .inside), subst (λ (x : ℕ). getD file (x + 1) 0 < k) (sym e) l)
+
+    pub callee-row : RhsReady file k i rhs n 11 → (c : ℕ) → c ≡ getD file (rhs + 1) 0 → CalleeRow file rows rhs c
+    callee-row p c e =
+        let g = getD file (rhs + 1) 0 in
+        let z = q .running .program .sized in
+        let l : g < nodesIn file = omega (arith, call-inside p .1, q .below) in
+        let t = z .table .rowsOf g l in
+        record {
+          small = omega (arith, z .few);
+          width = omega (arith, q .running .program .width g, variables-length (nodeIn file g));
+          inputs = ap (λ (x : ℕ). rowAt rows x 2) e ∙ t .inputs;
+          outputs = ap (λ (x : ℕ). rowAt rows x 3) e ∙ t .outputs;
+        }
 
     pub call-done : (first : Bool) (m : ℕ) (callee cells′ : List ℕ) {new′ : List ℕ} {r : Ran} → RhsReady file k i rhs n 11 → EntersTo file consts 24 rhs k first cells before old r callee new′ → r .end ≡ 0
         → m ≡ min n (length (nodeIn file (getD file (rhs + 1) 0) .outputs)) → (from : List ℕ) → from ≡ drop (9 * length (nodeIn file (getD file (rhs + 1) 0) .inputs)) callee
@@ -266,6 +298,11 @@ module _ {file tab rows consts : List ℕ} {k i at : ℕ} {cells before old new 
     pub tuple-ready : RhsReady file k i rhs n 12 → (count : ℕ) → count ≡ getD file (rhs + 1) 0 → Ready file tab rows consts 23 count (rhs + 2) k cells before old new
     tuple-ready p count e =
         subst (λ (c : ℕ). Ready file tab rows consts 23 c (rhs + 2) k cells before old new) (sym e) (ready-parts (equation-ready rhs (p .place)) (tuple-is p .0) refl)
+
+    pub tuple-passes : RhsReady file k i rhs n 12 → (count : ℕ) → count ≡ getD file (rhs + 1) 0 → {to : List ℕ} → length to ≡ 1008 → Passes file false 0 count to
+    tuple-passes p count e l =
+        let t = tuple-inside p .1 in
+        record { room = omega arith; few = omega arith; small = omega arith; callee = λ h. absurd (let z : _≡_ {A = ℕ} 0 1 = cc in omega arith) }
 
     tuple-eval : (first : Bool) (p : RhsReady file k i rhs n 12) (count : ℕ) → count ≡ getD file (rhs + 1) 0 → allIn file consts 23 count (rhs + 2) k first cells before (take (segsAt file 23 count (rhs + 2)) old) ≡ W first
     tuple-eval first p count e =
