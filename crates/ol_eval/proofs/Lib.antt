@@ -1,4 +1,5 @@
 pub mod Backs
+pub mod Calling
 pub mod Constant
 pub mod Copying
 pub mod Depth
