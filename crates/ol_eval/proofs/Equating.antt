@@ -1,24 +1,25 @@
 -- Laws of a node's equations: their places, and where the records of each start.
 use Prim.Native.Nat.{ℕ, zero, suc, _+_, _*_, _<_, _≤_}
-use mathlib.Core.List.{List, [], _∷_, _++_, map, append-nil, append-assoc}
+use mathlib.Core.List.{List, [], _∷_, map}
 use mathlib.Core.Path.{_≡_, refl, sym, ap, subst, _∙_}
 use native.Mathlib.Omega.{arith}
 use native.Mathlib.Decide.{ℕ-discrete}
-use lib.ListN.{length, take, drop, getD, set, length-set}
+use lib.ListN.{length, getD, set, length-set}
 use lib.Seq.{getD-set-same, getD-set-other, take-all}
 use Rattle.ol_spec.specs.Lists.{concat}
 use Rattle.ol_spec.specs.Syntax.{Equation, Expr}
 use Rattle.ol_spec.specs.Places.{placed, placedNodes, exprSize, equationSize, equationsStart}
-use Rattle.ol_spec.specs.Eval.{callees, calleesAll, sitesSize}
+use Rattle.ol_spec.specs.Eval.{callees, sitesSize}
 use Rattle.ol_spec.specs.Step.{equationSites, sites, noEquation}
-use Rattle.ol_spec.proofs.Segments.{sites-append}
-use Rattle.ol_tree.specs.At.{fileAt, nodeIn, exprAt, endAt, exprsAt}
+use Rattle.ol_tree.specs.At.{fileAt, nodeIn}
 use Rattle.ol_tree.specs.Tables.{Each, rowAt, placeOf}
 use Rattle.ol_tree.proofs.Forms.{one-tree, parted, reads-end, reads-in}
 use Rattle.ol_eval.specs.Walk.{nodesIn, sizesIn, Below, Passable, SkipsTo}
-use Rattle.ol_eval.specs.Equations.{countIn, placeIn, equationIn, rhsIn, offsetIn, EquationStands, EquationsStand, EquationsAre}
+use Rattle.ol_eval.specs.Equations.{countIn, placeIn, equationIn, rhsIn, offsetIn, EquationsStand, EquationsAre}
 use Rattle.ol_eval.specs.declared.skip.Passed.{Passed}
+use Rattle.ol_eval.specs.Plans.{globalsIn}
 use Rattle.ol_eval.proofs.Passing.{callees-one}
+use Rattle.ol_eval.proofs.Running.{offset-next, offset-total}
 
 -- ---- the items of a section and their places
 
@@ -35,31 +36,16 @@ module _ {A : Type 0} (size : A → ℕ) where
 
 -- ---- the bytes of the records of the first equations
 
-sites-suc : (qs : List Equation) (i : ℕ) → i < length qs → concat (map equationSites (take (suc i) qs)) ≡ concat (map equationSites (take i qs)) ++ callees (getD qs i noEquation .rhs)
-sites-suc [] i h = absurd (omega arith)
-sites-suc (q ∷ qs) zero h = append-nil (callees (q .rhs))
-sites-suc (q ∷ qs) (suc i) h =
-    ap (λ (ks : List ℕ). callees (q .rhs) ++ ks) (sites-suc qs i (omega arith)) ∙ sym (append-assoc (callees (q .rhs)) (concat (map equationSites (take i qs))) (callees (getD qs i noEquation .rhs)))
-
-sites-upto : (sizes : List ℕ) (qs : List Equation) (i : ℕ) → sitesSize sizes (concat (map equationSites (take i qs))) ≤ sitesSize sizes (concat (map equationSites qs))
-sites-upto sizes [] zero = omega arith
-sites-upto sizes [] (suc i) = omega arith
-sites-upto sizes (q ∷ qs) zero = omega (arith, sites-append sizes [] (concat (map equationSites (q ∷ qs))))
-sites-upto sizes (q ∷ qs) (suc i) =
-    omega (arith, sites-append sizes (callees (q .rhs)) (concat (map equationSites (take i qs))), sites-append sizes (callees (q .rhs)) (concat (map equationSites qs)), sites-upto sizes qs i)
-
 module _ (file : List ℕ) (k : ℕ) where
   pub offset-zero : offsetIn file k 0 ≡ 0
   unfolding sitesSize
   offset-zero = refl
 
   pub offset-suc : (i : ℕ) → i < countIn file k → offsetIn file k (suc i) ≡ offsetIn file k i + sitesSize (sizesIn file) (callees (equationIn file k i .rhs))
-  offset-suc i h =
-      let qs = nodeIn file k .equations in
-      ap (sitesSize (sizesIn file)) (sites-suc qs i h) ∙ sites-append (sizesIn file) (concat (map equationSites (take i qs))) (callees (getD qs i noEquation .rhs))
+  offset-suc i h = offset-next (globalsIn file []) (nodeIn file k .equations) i h
 
   pub offset-upto : (i : ℕ) → offsetIn file k i ≤ sitesSize (sizesIn file) (sites (nodeIn file k))
-  offset-upto i = sites-upto (sizesIn file) (nodeIn file k .equations) i
+  offset-upto i = offset-total (globalsIn file []) (nodeIn file k .equations) i
 
   pub offset-all : offsetIn file k (countIn file k) ≡ sitesSize (sizesIn file) (sites (nodeIn file k))
   offset-all =

@@ -4,37 +4,36 @@ use mathlib.Core.Bool.{Bool, false}
 use mathlib.Core.List.{List, [], _∷_, _++_, append-nil}
 use mathlib.Core.Path.{_≡_, refl, sym, ap, subst, _∙_}
 use native.Mathlib.Omega.{arith}
-use lib.Dec.{T}
+use lib.Dec.{leb, leb→le}
 use lib.ListN.{length, take, drop, getD, length-drop, drop-of-length-le}
 use lib.Seq.{take-all, drop-cons}
-use Rattle.ol_spec.specs.Lists.{allOf}
-use Rattle.ol_spec.specs.Syntax.{Expr, Exprs, tuple, Node, noNode, variables, variableNames, Rhs, one, rhsOf}
-use Rattle.ol_spec.specs.Places.{placed, placedNames}
+use Rattle.ol_spec.specs.Syntax.{Expr, tuple, noNode, variables, Rhs, one, rhsOf}
+use Rattle.ol_spec.specs.Places.{placedNames}
 use Rattle.ol_spec.specs.Limits.{base}
 use Rattle.ol_spec.specs.Within.{equationFits, nodeFits, sectionFits, countFits, byteFits, nameFits}
 use Rattle.ol_spec.specs.Cell.{valuesOf}
-use Rattle.ol_spec.specs.Eval.{Eval, Evals, Outcomes, values, failure, overflow, callees, calleesAll, sitesSize, several, severalEval, evalRhs}
+use Rattle.ol_spec.specs.Eval.{Evals, Outcomes, values, failure, overflow, callees, calleesAll, sitesSize, several, severalEval, evalRhs}
 use Rattle.ol_spec.specs.Step.{assign, noEquation, evalEquation, calls}
 use Rattle.ol_spec.specs.declared.Value.{Value}
 use Rattle.ol_spec.specs.declared.Outcome.{Outcome}
 use Rattle.ol_spec.specs.declared.Outcome.the-variants as Out
 use Rattle.ol_spec.proofs.Tests.{T-and}
 use Rattle.ol_spec.proofs.Runs.{length-values, variables-length}
-use Rattle.ol_tree.specs.At.{fileAt, nodeIn, exprAt, endAt, exprsAt, endsAt, Reads, ReadsAll}
-use Rattle.ol_tree.specs.Tables.{Each, HasSlot, slotsFrom, slotAt, rowAt}
+use Rattle.ol_tree.specs.At.{fileAt, nodeIn, exprAt, exprsAt, Reads, ReadsAll}
+use Rattle.ol_tree.specs.Tables.{Each, HasSlot, rowAt}
 use Rattle.ol_tree.proofs.Forms.{Formed, parted, reads-in, by-form, call-form, tuple-form}
 use Rattle.ol_fresh.proofs.Fits.{all-nth, fits, node-fits}
 use Rattle.ol_eval.specs.Walk.{nodesIn, sizesIn, Below}
-use Rattle.ol_eval.specs.Plans.{Cells, Plan, globalsIn, scopeIn, widthIn, namesIn, constantsIn, segsAt, segAt}
-use Rattle.ol_eval.specs.Post.{Ready, Meets, EvalsTo}
+use Rattle.ol_eval.specs.Plans.{evalIn, globalsIn, scopeIn, widthIn, namesIn, constantsIn, segsAt, segAt}
+use Rattle.ol_eval.specs.Post.{Ready, EvalsTo}
 use Rattle.ol_eval.specs.Nodes.{EquationPlan, Running, Enters}
-use Rattle.ol_eval.specs.Calls.{endCode, Holds, asIs, RanTo, Did, Passes, AllTo, allIn, outputsAt, rhsEval, EntersTo, EquationReady, RhsReady, EquationTo}
+use Rattle.ol_eval.specs.Calls.{passedAll, endCode, Holds, asIs, Did, Passes, AllTo, allIn, rhsEval, EntersTo, EquationReady, RhsReady, EquationTo}
 use Rattle.ol_eval.specs.Equations.{countIn, placeIn, rhsIn, equationIn}
-use Rattle.ol_eval.specs.Stores.{cellsIn, Typed, Storable, StoresOut, endOf, Slots, Assignable, Assigns}
+use Rattle.ol_eval.specs.Stores.{cellsIn, Storable, StoresOut, endOf, Assignable, Assigns}
 use Rattle.ol_eval.specs.declared.cycle.Step.{Step}
 use Rattle.ol_eval.specs.declared.cycle.Ran.{Ran}
 use Rattle.ol_eval.proofs.Passing.{callees-one}
-use Rattle.ol_eval.proofs.Planning.{each-map, sounds-below, segs-one, segs-form, plan-head, plan-call}
+use Rattle.ol_eval.proofs.Planning.{each-map, sounds-below, segs-one, segs-form, plan-call}
 use Rattle.ol_eval.proofs.Readying.{ready-parts}
 use Rattle.ol_eval.proofs.Storing.{typed, storable, assign-least, values-take}
 
@@ -62,7 +61,7 @@ names-some {file} k i r b h =
     let t = all-nth (equationFits base m) (nodeIn file k .equations) noEquation i (n .equations) h in
     let s = T-and (sectionFits 1 (base .names) nameFits (q .names)) _ t .0 in
     let c = T-and (countFits 1 (base .names) (length (q .names))) _ s .0 in
-    lib.Dec.leb→le 1 (length (q .names)) (T-and (lib.Dec.leb 1 (length (q .names))) _ (T-and (byteFits (length (q .names))) _ c .1) .0)
+    leb→le 1 (length (q .names)) (T-and (leb 1 (length (q .names))) _ (T-and (byteFits (length (q .names))) _ c .1) .0)
 
 -- the values that are stored are no more than the names; the names stand before the right side
 pub record Least (file : List ℕ) (k i at rhs m : ℕ) : Type 0 where
@@ -198,7 +197,7 @@ module _ {file tab rows consts : List ℕ} {k i at : ℕ} {cells before old new 
   pub one-done : (first : Bool) (rhs end : ℕ) (cells′ : List ℕ) {new′ : List ℕ} {r : Step} → rhs ≡ rhsIn file k i → ¬ (getD file rhs 0 ≡ 11) → ¬ (getD file rhs 0 ≡ 12) → EvalsTo file consts 24 rhs k first cells before old r new′
       → end ≡ endOf (r .out) → StoresOut tab k (at + 1) (r .out) cells cells′ → EquationTo file consts k i first cells before old end cells′ new′
   one-done first rhs end cells′ {new′} {r} e n m h d s =
-      let G = Rattle.ol_eval.specs.Plans.evalIn file consts k first cells before (exprAt file 24 rhs) (take (segAt file 24 rhs) old) in
+      let G = evalIn file consts k first cells before (exprAt file 24 rhs) (take (segAt file 24 rhs) old) in
       let w : severalEval G ≡ W first = ap (λ (x : Rhs). evalRhs (globalsIn file consts) (scopeIn file k first cells before) (calls (globalsIn file consts)) x (take (segAt file 24 rhs) old)) (sym (right-one rhs e n m)) ∙ right-eval first rhs e in
       subst (λ (x : Evals). Did (λ vs. assign (nodeIn file k) (equationIn file k i .names) vs (valuesOf (widthIn file k) cells)) x end (valuesOf (widthIn file k) cells′) new′) w
       (record {
@@ -328,7 +327,7 @@ module _ {file tab rows consts : List ℕ} {k i at : ℕ} {cells before old new 
         several-done first G (r .end) m count to cells′ new′ (tuple-eval first p count e) z (h .end-is)
         (plain (G .out) (h .values-are)) (no-rest first (tuple-used p count e) (h .state)) (c ∙ ap (λ (x : ℕ). min x count) (p .count)) a
       where
-        plain : (o : Outcomes) → Holds (Rattle.ol_eval.specs.Calls.passedAll false (nodeIn file 0 .inputs)) o (valuesOf count to) → Holds asIs o (valuesOf count to)
+        plain : (o : Outcomes) → Holds (passedAll false (nodeIn file 0 .inputs)) o (valuesOf count to) → Holds asIs o (valuesOf count to)
         plain (values vs) h = h
         plain failure h = tt
         plain overflow h = tt

@@ -1,16 +1,16 @@
 -- Laws of running equations: their segments in the state, and what is left of a run after some of them.
 use Prim.Native.Nat.{ℕ, zero, suc, _+_, _-_, _<_, _≤_}
 use mathlib.Core.Bool.{Bool}
-use mathlib.Core.List.{List, [], _∷_, _++_, map, append-nil, append-assoc, List·Memᴰ·head as here, List·Memᴰ·tail as there}
-use mathlib.Core.Path.{_≡_, refl, sym, ap, subst, _∙_}
+use mathlib.Core.List.{List, [], _∷_, _++_, map, append-assoc, List·Memᴰ·head as here, List·Memᴰ·tail as there}
+use mathlib.Core.Path.{_≡_, refl, sym, ap, _∙_}
 use native.Mathlib.Omega.{arith}
-use lib.ListN.{length, take, drop, getD, set, length-append, length-drop, take-append-drop, drop-of-length-le}
-use lib.Seq.{length-take-le, take-at, drop-at, drop-drop, take-add, getD-set-other, take-all, take-append-le, drop-append-le}
+use lib.ListN.{length, take, drop, getD, set, length-append, length-drop, take-append-drop}
+use lib.Seq.{length-take-le, take-at, drop-at, drop-drop, take-add, getD-set-other}
 use Rattle.ol_theory.specs.Member.{_∈_, Distinct}
 use Rattle.ol_spec.specs.Lists.{concat}
 use Rattle.ol_spec.specs.Syntax.{Equation, Node}
 use Rattle.ol_spec.specs.Eval.{Globals, Calls, Evals, values, failure, overflow, Outcomes, callees, sitesSize, segSize}
-use Rattle.ol_spec.specs.Step.{equationSites, sites, split, assign, noEquation, equationAt, Run, finished, failedAt, overflowedAt, store, storeOn, evalEquation, runAll}
+use Rattle.ol_spec.specs.Step.{equationSites, split, assign, noEquation, equationAt, Run, finished, failedAt, overflowedAt, store, storeOn, evalEquation, runAll}
 use Rattle.ol_spec.specs.declared.Value.{Value}
 use Rattle.ol_spec.proofs.Segments.{sites-append}
 use Rattle.ol_tree.specs.Tables.{Each}

@@ -1,31 +1,28 @@
 -- Laws of the run of a node's equations, over the bytes of the file and of the state.
-use Prim.Native.Nat.{ℕ, zero, suc, _+_, _-_, _*_, _<_, _≤_}
+use Prim.Native.Nat.{ℕ, suc, _+_, _-_, _<_, _≤_}
 use mathlib.Core.Bool.{Bool}
-use mathlib.Core.List.{List, [], _∷_, _++_, map}
+use mathlib.Core.List.{List, _∷_, _++_}
 use mathlib.Core.Path.{_≡_, refl, sym, ap, subst, _∙_}
 use native.Mathlib.Omega.{arith}
-use lib.ListN.{length, take, drop, getD, length-drop, drop-of-length-le}
+use lib.ListN.{length, take, drop, getD, drop-of-length-le}
 use lib.Seq.{drop-cons}
-use Rattle.ol_spec.specs.Lists.{concat}
-use Rattle.ol_spec.specs.Syntax.{Equation}
 use Rattle.ol_spec.specs.Cell.{valuesOf}
 use Rattle.ol_spec.specs.Order.{order}
-use Rattle.ol_spec.specs.Eval.{Globals, Evals, Outcomes, values, failure, overflow, callees, calleesAll, sitesSize}
-use Rattle.ol_spec.specs.Step.{sites, assign, equationAt, Run, finished, failedAt, overflowedAt, evalEquation, calls}
+use Rattle.ol_spec.specs.Eval.{Evals, Outcomes, values, failure, overflow, callees, calleesAll, sitesSize}
+use Rattle.ol_spec.specs.Step.{sites, assign, finished, failedAt, overflowedAt, evalEquation, calls}
 use Rattle.ol_spec.specs.Step.{Ended as Ending}
 use Rattle.ol_spec.specs.declared.Value.{Value}
-use Rattle.ol_tree.specs.At.{fileAt, nodeIn, exprAt, exprsAt}
-use Rattle.ol_tree.specs.Tables.{Each, orderAt, rowAt}
+use Rattle.ol_tree.specs.At.{fileAt, nodeIn, exprsAt}
+use Rattle.ol_tree.specs.Tables.{Each}
 use Rattle.ol_eval.specs.Walk.{nodesIn, sizesIn, Below}
-use Rattle.ol_eval.specs.Plans.{Cells, globalsIn, widthIn}
+use Rattle.ol_eval.specs.Plans.{globalsIn, widthIn}
 use Rattle.ol_eval.specs.Nodes.{Running}
-use Rattle.ol_eval.specs.Calls.{endCode, Holds, Did, Runnable, runIn, EndsAs, RunMeets, RunTo, EquationReady, EquationTo}
-use Rattle.ol_eval.specs.Equations.{countIn, placeIn, rhsIn, equationIn, EquationsStand, EquationsAre, offsetIn}
-use Rattle.ol_eval.specs.declared.cycle.Ended.{Ended}
+use Rattle.ol_eval.specs.Calls.{endCode, Holds, Did, Runnable, runIn, EndsAs, RunTo, EquationReady, EquationTo}
+use Rattle.ol_eval.specs.Equations.{countIn, rhsIn, equationIn, EquationsStand, EquationsAre, offsetIn}
 use Rattle.ol_eval.proofs.Passing.{callees-one}
 use Rattle.ol_eval.proofs.Planning.{each-map, sounds-below}
 use Rattle.ol_eval.proofs.Equating.{offset-suc, offset-upto}
-use Rattle.ol_eval.proofs.Running.{midOf, putMid, length-mid, segOf, putSeg, sizeOf, offsetOf, Left, rightOf, left-start, left-turn, left-failed, left-over, left-done}
+use Rattle.ol_eval.proofs.Running.{midOf, putMid, length-mid, segOf, putSeg, sizeOf, Left, rightOf, left-start, left-turn, left-failed, left-over, left-done}
 
 -- the equations of a node that can be run stand in the file
 pub stands : {file tab rows consts : List ℕ} (k : ℕ) → Running file tab rows consts → k < nodesIn file → sitesSize (sizesIn file) (sites (nodeIn file k)) ≤ 32768 → EquationsStand file rows k
