@@ -27,6 +27,7 @@ use Rattle.ol_eval.specs.declared.cycle.Step.{Step}
 use Rattle.ol_eval.specs.declared.cycle.Ran.{Ran}
 use Rattle.ol_eval.proofs.Lending.{tailOf, putTail, tail-all, put-tail, take-put, drop-put, drop-take}
 use Rattle.ol_eval.proofs.Passing.{callees-one, row-size}
+use Rattle.ol_eval.proofs.RealKinds.{input-below}
 use Rattle.ol_eval.proofs.Planning.{Callee, plan-head, plan-parts, plan-call, segs-one}
 
 -- ---- how several values end
@@ -160,6 +161,10 @@ module _ {file tab rows consts : List ℕ} {level at node : ℕ} {cells before o
 
   pub call-passes : {to : List ℕ} → length to ≡ 1008 → Passes file true k n to
   call-passes l = record { room = omega (arith, call-few); few = omega (arith, call-few); small = call-small; callee = λ e. (call-below, call-arity) }
+
+  -- its first output has a cell
+  pub call-cells : (i : ℕ) → i ≡ rowAt rows k 2 → i < 112
+  call-cells i e = input-below k i (p .plan .program) call-below e
 
   -- the arguments, on what follows the call site's record
   pub call-args : (u : ℕ) → u ≡ rowAt rows k 6 → Ready file tab rows consts (level - 1) n (at + 3) node cells before (tailOf u old) (tailOf u new)
