@@ -13,5 +13,6 @@ pub mod Readying
 pub mod RealKinds
 pub mod Rights
 pub mod Running
+pub mod Stepping
 pub mod Storing
 pub mod Turns
