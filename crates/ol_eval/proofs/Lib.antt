@@ -6,6 +6,9 @@ pub mod Evals
 pub mod Lending
 pub mod Naming
 pub mod Passing
+pub mod Placing
 pub mod Planning
 pub mod Readying
 pub mod RealKinds
+pub mod Seen
+pub mod Standing
