@@ -1,3 +1,5 @@
+pub mod Admitted
+pub mod AdmittedConstants
 pub mod Backs
 pub mod Constant
 pub mod Copying

@@ -1,16 +1,16 @@
 -- The names that a node's equations and the constants see, by their slots; and a constant's expression has no call.
 use Prim.Native.Nat.{ℕ, zero, suc, _+_, _≤_, _<_}
-use mathlib.Core.Bool.{Bool, true, false, not, _||_}
+use mathlib.Core.Bool.{Bool, true, false, _||_}
 use mathlib.Core.List.{List, [], _∷_, _++_, map, List·Memᴰ·head as here, List·Memᴰ·tail as there, List·Memᴰ·append-cases as in-append}
 use mathlib.Core.Logic.{_⊎_, inl, inr, ⊎-elim}
 use mathlib.Core.Option.{Option, none, some}
-use mathlib.Core.Path.{_≡_, refl, sym, ap, subst, _∙_}
+use mathlib.Core.Path.{_≡_, refl}
 use native.Mathlib.Omega.{arith}
 use lib.ListN.{length, take, getD}
 use lib.Dec.{T, eqb, eqb→eq}
 use Rattle.ol_theory.specs.Member.{_∈_}
 use Rattle.ol_spec.specs.Lists.{member, position, positionIf}
-use Rattle.ol_spec.specs.Syntax.{Constant, constantName, Expr, boolLit, intLit, floatLit, charLit, var, unary, binary, ifThenElse, pre, arrow, cast, call, tuple, Exprs, nil, cons, count}
+use Rattle.ol_spec.specs.Syntax.{Constant, constantName, Expr, boolLit, intLit, floatLit, charLit, var, unary, binary, ifThenElse, pre, arrow, cast, call, tuple, Exprs, nil, cons}
 use Rattle.ol_spec.specs.Places.{placed, constantSize, exprSize, collect, collectAll}
 use Rattle.ol_spec.specs.Eval.{callees, calleesAll}
 use Rattle.ol_spec.specs.Admission.{Item, unseenItem, used, valuePlace, constantUses, callsWhere}

@@ -1,22 +1,20 @@
 -- An expression that stands in a file is read there, and what a type that stands there is.
-use Prim.Native.Nat.{ℕ, zero, suc, _+_, _≤_, _<_}
-use mathlib.Core.Bool.{Bool, true, false, _&&_}
+use Prim.Native.Nat.{ℕ, zero, suc, _+_, _≤_}
+use mathlib.Core.Bool.{Bool}
 use mathlib.Core.List.{List, [], _∷_, _++_, map}
-use mathlib.Core.Path.{_≡_, refl, sym, ap, subst, _∙_}
-use native.Mathlib.Omega.{arith}
+use mathlib.Core.Path.{_≡_, ap, _∙_}
 use lib.ListN.{length, getD}
 use lib.Dec.{T, leb, leb→le}
 use Rattle.ol_spec.specs.Lists.{allOf}
-use Rattle.ol_spec.specs.Syntax.{Ty, bool, int, float32, float64, char, enum, Expr, Exprs, nil, cons, Variable, typeOf}
+use Rattle.ol_spec.specs.Syntax.{Ty, bool, int, float32, float64, char, enum, Expr, nil, cons, Variable, typeOf}
 use Rattle.ol_spec.specs.Places.{collect, collectAll}
 use Rattle.ol_spec.specs.Encode.{exprBytes}
-use Rattle.ol_spec.specs.Read.{got, exprR}
+use Rattle.ol_spec.specs.Read.{exprR}
 use Rattle.ol_spec.specs.Limits.{base}
 use Rattle.ol_spec.specs.Within.{nameFits, tyFits, rootFits, variableFits}
 use Rattle.ol_spec.specs.declared.Limits.{Limits}
 use Rattle.ol_spec.proofs.Tests.{T-and, and-T}
 use Rattle.ol_spec.proofs.RoundTrip.Parts.{Here}
-use Rattle.ol_spec.proofs.RoundTrip.Agree.{Takes}
 use Rattle.ol_spec.proofs.RoundTrip.Taken.{root-takes}
 use Rattle.ol_tree.specs.At.{fileAt, exprAt, exprsAt, ReadsAll}
 use Rattle.ol_tree.specs.Parts.{Proper}
