@@ -1,6 +1,7 @@
 pub mod Admitted
 pub mod AdmittedConstants
 pub mod Backs
+pub mod Calling
 pub mod Constant
 pub mod Copying
 pub mod Depth

@@ -278,7 +278,7 @@ eval-call-requires t c κs =
     let a = start .args .at in
     let h = plan-head f (p .plan) in
     let deep = reads-deep f L a h in
-    (omega (arith, start .pre .0, deep), p, c .before .match .keys6)
+    (omega (arith, start .pre .0, deep), (p, c .before .match .keys6))
 
 pub pass-requires : (t : ℕ) → eval-lts.Need-pass-requires (Q t) (eval-at t) eval.Post
 pass-requires t c κs =
