@@ -244,10 +244,10 @@ module _ {file tab rows consts : List ℕ} {level at node : ℕ} {cells before o
         let w = rhsEval file consts level at node first cells before (take (segAt file level at) old) in
         let row = p .plan .program .sized .table .rowsOf k call-below in
         let left : Leaves (w .out) (r .end) outputs (drop (9 * i) callee) =
-            leaves (w .out) (r .end) outputs (drop (9 * i) callee) (h .end-is)
-            (subst (λ (m : ℕ). Holds asIs (w .out) (valuesOf m (drop (9 * i) callee))) (sym (oE ∙ row .outputs))
-            (subst (λ (m : ℕ). Holds asIs (w .out) (valuesOf (length (nodeIn file k .outputs)) (drop (9 * m) callee))) (sym (iE ∙ row .inputs))
-            (subst (λ (c : ℕ). Holds asIs (w .out) (outputsAt file c callee)) (sym kE) (h .values-are)))) in
+        leaves (w .out) (r .end) outputs (drop (9 * i) callee) (h .end-is)
+        (subst (λ (m : ℕ). Holds asIs (w .out) (valuesOf m (drop (9 * i) callee))) (sym (oE ∙ row .outputs))
+        (subst (λ (m : ℕ). Holds asIs (w .out) (valuesOf (length (nodeIn file k .outputs)) (drop (9 * m) callee))) (sym (iE ∙ row .inputs))
+        (subst (λ (c : ℕ). Holds asIs (w .out) (outputsAt file c callee)) (sym kE) (h .values-are)))) in
         subst (λ (x : Eval). Meets x (endAt file level at) (segAt file level at) old (record { out = o; next = r .next; used = r .used }) new′) (sym (single-is (take (segAt file level at) old)))
         (record { out = s (w .out) left; next-is = h .next-is; used-is = h .used-is; state = h .state })
       where

@@ -51,7 +51,7 @@ unseen-all visible (p ∷ ps) c = (not-false (member (p .1) visible) (c .0), uns
 abbrev pub Before : List ℕ → List ℕ → ℕ × ℕ → Type 0
 Before xs visible p = (p .1 ∈ xs) ⊎ T (member (p .1) visible)
 
--- where it stands
+-- the names that it uses, with their places
 abbrev pub usesOf : ℕ × Constant → List (ℕ × ℕ)
 usesOf c = used (valuePlace (c .0) (c .1)) (c .1 .value)
 
