@@ -1,3 +1,5 @@
+pub mod Admitted
+pub mod AdmittedConstants
 pub mod Backs
 pub mod Calling
 pub mod Constant
@@ -8,6 +10,7 @@ pub mod Evals
 pub mod Lending
 pub mod Naming
 pub mod Passing
+pub mod Placing
 pub mod Planning
 pub mod Readying
 pub mod RealKinds
@@ -16,3 +19,5 @@ pub mod Running
 pub mod Stepping
 pub mod Storing
 pub mod Turns
+pub mod Seen
+pub mod Standing

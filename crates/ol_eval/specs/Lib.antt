@@ -1,3 +1,4 @@
+pub mod Admitted
 pub mod Calls
 pub mod Constants
 pub mod Equations
