@@ -18,3 +18,7 @@ pub mod TabLaws
 pub mod Sorts
 pub mod FileSlots
 pub mod SizeTable
+pub mod ClashLaws
+pub mod ClashLoops
+pub mod ClashFile
+pub mod NamesBelow

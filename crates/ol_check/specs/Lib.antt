@@ -7,3 +7,4 @@ pub mod NodesJudged
 pub mod ConstantsJudged
 pub mod FileJudged
 pub mod Sizes
+pub mod Clashing

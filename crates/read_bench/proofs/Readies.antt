@@ -18,7 +18,7 @@ use Rattle.ol_check.specs.NodesJudged.{RowsReady}
 use Rattle.ol_check.specs.FileJudged.{FileReady, NamesWithin}
 use Rattle.ol_check.specs.declared.rows.Sections.{Sections}
 use Rattle.ol_check.proofs.FileLaws as FileLaws
-use Rattle.read_bench.proofs.Within.{names-within}
+use Rattle.ol_check.proofs.NamesBelow.{high-within}
 
 abbrev isRefused : Reading → ℕ
 isRefused Rdg.Done = 0
@@ -39,7 +39,7 @@ zero-at (suc n) zero = refl
 zero-at (suc n) (suc x) = zero-at n x
 
 pub names-ready : {s : List ℕ} → FileStands s (fileAt s) → NamesWithin (length (replicate {A = ℕ} 65536 0)) (fileAt s)
-names-ready {s} st = subst (λ m. NamesWithin m (fileAt s)) (sym (length-replicate {A = ℕ} 65536 0)) (names-within (fileAt s) st)
+names-ready {s} st = subst (λ m. NamesWithin m (fileAt s)) (sym (length-replicate {A = ℕ} 65536 0)) (high-within (fileAt s) st)
 
 module _ {s rows types : List ℕ} {c : Sections} where
   -- with an empty table by name
