@@ -1,0 +1,1 @@
+// The orders of all nodes of a file.
