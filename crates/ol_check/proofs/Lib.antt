@@ -6,7 +6,9 @@ pub mod HeadLaws
 pub mod EquationLaws
 pub mod EntryLoops
 pub mod EntryLaws
+pub mod EntryPlaces
 pub mod NodeLaws
+pub mod Definitions
 pub mod ConstantLaws
 pub mod FileLaws
 pub mod SizeLaws

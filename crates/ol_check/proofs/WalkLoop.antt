@@ -90,14 +90,15 @@ module _ {s names rows : List ℕ} {nodes k enums : ℕ} {es : Exprs} {at : ℕ}
             shaped = step-found (severalHead s rows nodes) (placeOf h) _ _ _ _ refl (eh ∙ ap (λ n. earliest (placeOf h) (ltb 1 n) next) fh) (g .shaped);
           }
 
-    pub walk-done : (f r : Faults) → (0 < left → ⊥) → f .next ≡ at → f .unseen ≡ u₀ → f .called ≡ c₀ → f .shaped ≡ h₀ → r .next ≡ next → r .unseen ≡ u → r .called ≡ c → r .shaped ≡ h
+    pub walk-done : (f r : Faults) → (0 < left → ⊥) → f .next ≡ at → f .unseen ≡ u₀ → f .called ≡ c₀ → f .shaped ≡ h₀ → r .again ≡ f .again → r .next ≡ next → r .unseen ≡ u → r .called ≡ c → r .shaped ≡ h
         → Walked s names rows nodes k es slots₀ slots f r
     unfolding slotHeads
-    walk-done f r over ea eu₀ ec₀ eh₀ en eu ec eh =
+    walk-done f r over ea eu₀ ec₀ eh₀ eg en eu ec eh =
         let empty : heads next (g .going .rest) ≡ [] = heads-none next (g .going .rest) (zero-left left over (g .going .many)) in
         record {
           next = en ∙ going-done (g .going) over ∙ ap (λ a. a + exprsSize es) (sym ea);
           slotted = ap (slotHeads s names slots) (sym empty) ∙ g .slotted ∙ ap (λ a. slotHeads s names slots₀ (heads a es)) (sym ea);
+          again = eg;
           unseen = rw (eu, eu₀, ea) (sym (found-none (placeOf u)) ∙ ap (λ l. foundIn (placeOf u) (map (unseenHead s names) l)) (sym empty) ∙ g .unseen);
           called = rw (ec, ec₀, ea) (sym (found-none (placeOf c)) ∙ ap (λ l. foundIn (placeOf c) (map (calledHead s rows k) l)) (sym empty) ∙ g .called);
           shaped = rw (eh, eh₀, ea) (sym (found-none (placeOf h)) ∙ ap (λ l. foundIn (placeOf h) (map (severalHead s rows nodes) l)) (sym empty) ∙ g .shaped);

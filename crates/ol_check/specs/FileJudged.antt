@@ -1,11 +1,12 @@
--- Faults 7, 9 and 10 of a whole file, and the slots of its names.
+-- Faults 7 to 10 of a whole file, and the slots of its names.
 use Prim.Native.Nat.{ℕ, _<_}
 use mathlib.Core.List.{List, [], map}
+use mathlib.Core.Option.{none}
 use mathlib.Core.Path.{_≡_}
 use lib.ListN.{length, getD}
 use Rattle.ol_spec.specs.Syntax.{File}
 use Rattle.ol_spec.specs.Places.{placedConstants, placedNodes}
-use Rattle.ol_spec.specs.Admission.{variants, fault7, fault9, fault10}
+use Rattle.ol_spec.specs.Admission.{variants, fault7, fault8, fault9, fault10}
 use Rattle.ol_tree.specs.At.{fileAt}
 use Rattle.ol_tree.specs.Tables.{nodeOf, Each}
 use Rattle.ol_tree.specs.Stands.{FileReads}
@@ -37,8 +38,10 @@ variantTable names f = declareAll names (map variantEntry (variants f))
 abbrev pub globalTable : List ℕ → File → List ℕ
 globalTable names f = declareAll (variantTable names f) (constantEntries 0 (f .constants))
 
+-- 8 where 7 does not hold
 pub record FileJudged (s : List ℕ) (f : File) (names names′ slots slots′ : List ℕ) (r : Faults) : Type 0 where
   pub unseen : placeOf (r .unseen) ≡ fault7 f
+  pub again : fault7 f ≡ none → placeOf (r .again) ≡ fault8 f
   pub called : placeOf (r .called) ≡ fault9 f
   pub shaped : placeOf (r .shaped) ≡ fault10 f
   pub entered : names′ ≡ globalTable names f

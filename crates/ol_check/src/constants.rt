@@ -27,6 +27,7 @@ fn constant(
 {
     let at = f.next;
     let unseen = f.unseen;
+    let again = f.again;
     let called = f.called;
     let shaped = f.shaped;
     let r = walk(
@@ -39,6 +40,7 @@ fn constant(
         1,
         Faults {
             unseen,
+            again,
             called,
             shaped,
             next: at + 2 + ty_size(file, at + 2),

@@ -1,4 +1,4 @@
-// Faults 7, 9 and 10 of a whole file, and the slots of its names.
+// Faults 7 to 10 of a whole file, and the slots of its names.
 use super::Found;
 use super::bytes::byte;
 use super::constants::judge_constants;
@@ -11,7 +11,7 @@ ghost use lib.ListN.{length};
 ghost use Rattle.ol_tree.specs.At.{fileAt};
 ghost use Rattle.ol_check.specs.FileJudged.{FileReady, NamesWithin, FileJudged};
 
-// Faults 7, 9 and 10 of a file that reads without fault. The table by name is empty, and longer
+// Faults 7 to 10 of a file that reads without fault. The table by name is empty, and longer
 // than every declared name.
 pub fn faults(
     file: &[u8],
@@ -36,6 +36,7 @@ pub fn faults(
         byte(file, c),
         Faults {
             unseen: Found::Nothing,
+            again: Found::Nothing,
             called: Found::Nothing,
             shaped: Found::Nothing,
             next: c + 1,

@@ -1,4 +1,4 @@
-// Faults 7, 9 and 10 of every expression and equation, and the slots of the names.
+// Faults 7 to 10 of every expression and equation, and the slots of the names.
 use super::Found;
 use super::bytes::byte;
 use super::bytes::earlier;
@@ -12,16 +12,16 @@ ghost use lib.ListN.{getD, length, set};
 ghost use Rattle.ol_spec.specs.Syntax.{Exprs, count};
 ghost use Rattle.ol_tree.specs.Heads.{nameAt, Standing};
 ghost use Rattle.ol_check.specs.Judging.{unseenB, slotOfEntry, slotPut, slotHead, mayB, badB, calledB, outputsB, arityB, Walked};
-ghost use Rattle.ol_check.specs.Judging.{NamesSeen, loneB, otherB, RootJudged, Context, EquationJudged, EquationsJudged};
+ghost use Rattle.ol_check.specs.Judging.{takenB, NamesDefined, loneB, otherB, RootJudged, Context, EquationJudged, EquationsJudged};
 ghost use mathlib.Core.List.{List};
 ghost use mathlib.Core.Bool.{Bool};
 ghost use Rattle.ol_spec.specs.Syntax.{Expr, nil, cons, Equation, File};
-ghost use Rattle.ol_spec.specs.Places.{placedNames};
 ghost use Rattle.ol_tree.specs.Stands.{Names, EquationStands, Equations};
 
 // The first fault of each number so far, and where the walk stands.
 pub struct Faults {
     pub unseen: Found,
+    pub again: Found,
     pub called: Found,
     pub shaped: Found,
     pub next: usize,
@@ -153,10 +153,12 @@ pub fn walk(
     let mut unseen = f.unseen;
     let mut called = f.called;
     let mut shaped = f.shaped;
+    let again = f.again;
     while 0 < left {
         if file.len() <= next {
             return Faults {
                 unseen,
+                again,
                 called,
                 shaped,
                 next,
@@ -172,35 +174,63 @@ pub fn walk(
     }
     Faults {
         unseen,
+        again,
         called,
         shaped,
         next,
     }
 }
 
-// So many names from `at` on: the first that has no entry, and each one's slot.
-fn seen_names(
+// Whether a name with this entry may not be defined: it is an input, a constant, a variant, or
+// defined before. `defined` is by entry.
+fn taken(defined: &[u8], inputs: usize, e: usize) -> bool
+    ensures { λ r. ⌜ r ≡ takenB (now (defined .entry)) inputs e ⌝ }
+{
+    if e <= inputs {
+        true
+    } else if 112 < e {
+        true
+    } else {
+        byte(defined, e) != 0
+    }
+}
+
+// So many names that an equation defines, from where the walk stands: the first that has no entry,
+// the first that may not be defined, and each one's slot.
+fn define(
     file: &[u8],
     names: &[u8],
     slots: &mut [u8],
+    defined: &mut [u8],
+    inputs: usize,
     many: usize,
-    at: usize,
-    found: Found,
-) -> Found
-    requires { ⌜ (many < 256) × (at ≤ 40000) ⌝ }
-    ensures { λ r. ⌜ ((xs : List ℕ) → length xs ≡ many → Names (now (file .entry)) 0 at xs → NamesSeen (now (names .entry)) (placedNames at xs) (now (slots .entry)) (now (slots .exit)) found r) ⌝ }
+    f: Faults,
+) -> Faults
+    requires { ⌜ (many < 256) × (f .next ≤ 40000) ⌝ }
+    ensures { λ r. ⌜ ((xs : List ℕ) → length xs ≡ many → Names (now (file .entry)) 0 (f .next) xs → NamesDefined (now (names .entry)) inputs xs (now (slots .entry)) (now (slots .exit)) (now (defined .entry)) (now (defined .exit)) f r) ⌝ }
 {
-    let mut next = at;
+    let mut next = f.next;
     let mut i = 0;
-    let mut unseen = found;
+    let mut unseen = f.unseen;
+    let mut again = f.again;
+    let called = f.called;
+    let shaped = f.shaped;
     while i < many {
         let e = byte(names, name(file, next));
         unseen = earlier(unseen, e == 0, next);
+        again = earlier(again, taken(defined, inputs, e), next);
         put_byte(slots, next, slot(e));
+        put_byte(defined, e, 1);
         next += 2;
         i += 1;
     }
-    unseen
+    Faults {
+        unseen,
+        again,
+        called,
+        shaped,
+        next,
+    }
 }
 
 // Several names, and not several values.
@@ -237,6 +267,7 @@ fn root(
         return f;
     }
     let u = f.unseen;
+    let again = f.again;
     let c = f.called;
     let s = f.shaped;
     let h = head(file, next);
@@ -256,6 +287,7 @@ fn root(
         h.count,
         Faults {
             unseen,
+            again,
             called,
             shaped,
             next: h.start,
@@ -263,56 +295,60 @@ fn root(
     )
 }
 
-// The equation where the walk stands.
+// The equation where the walk stands, in a node of so many inputs.
 fn equation(
     file: &[u8],
     names: &[u8],
     slots: &mut [u8],
+    defined: &mut [u8],
     rows: &[usize],
     nodes: usize,
     node: usize,
+    inputs: usize,
     f: Faults,
 ) -> Faults
     requires { ⌜ (node < 256) × (f .next < length (now file)) × (length (now file) ≤ 32768) ⌝ }
-    ensures { λ r. ⌜ ((t : File) (visible : List ℕ) (bad : ℕ → ℕ → Bool) (enums : ℕ) (q : Equation) → Context t node (now (names .entry)) (now (rows .entry)) nodes visible bad → EquationStands (now (file .entry)) enums (f .next) q → EquationJudged (now (file .entry)) (now (names .entry)) t visible bad (f .next) q (now (slots .entry)) (now (slots .exit)) f r) ⌝ }
+    ensures { λ r. ⌜ ((t : File) (visible : List ℕ) (bad : ℕ → ℕ → Bool) (enums : ℕ) (q : Equation) → Context t node (now (names .entry)) (now (rows .entry)) nodes visible bad → EquationStands (now (file .entry)) enums (f .next) q → EquationJudged (now (file .entry)) (now (names .entry)) t visible bad inputs (f .next) q (now (slots .entry)) (now (slots .exit)) (now (defined .entry)) (now (defined .exit)) f r) ⌝ }
 {
     let at = f.next;
     let many = byte(file, at);
-    let u = f.unseen;
+    let unseen = f.unseen;
+    let again = f.again;
     let called = f.called;
     let shaped = f.shaped;
-    let unseen = seen_names(file, names, slots, many, at + 1, u);
-    root(
+    let d = define(
         file,
         names,
         slots,
-        rows,
-        nodes,
-        node,
-        at,
+        defined,
+        inputs,
         many,
         Faults {
             unseen,
+            again,
             called,
             shaped,
-            next: at + 1 + 2 * many,
+            next: at + 1,
         },
-    )
+    );
+    root(file, names, slots, rows, nodes, node, at, many, d)
 }
 
-// So many equations from where the walk stands.
+// So many equations of a node of so many inputs, from where the walk stands.
 pub fn equations(
     file: &[u8],
     names: &[u8],
     slots: &mut [u8],
+    defined: &mut [u8],
     rows: &[usize],
     nodes: usize,
     node: usize,
+    inputs: usize,
     many: usize,
     f: Faults,
 ) -> Faults
     requires { ⌜ (node < 256) × (length (now file) ≤ 32768) ⌝ }
-    ensures { λ r. ⌜ ((t : File) (visible : List ℕ) (bad : ℕ → ℕ → Bool) (enums : ℕ) (qs : List Equation) → Context t node (now (names .entry)) (now (rows .entry)) nodes visible bad → length qs ≡ many → Equations (now (file .entry)) enums (f .next) qs → EquationsJudged (now (file .entry)) (now (names .entry)) t visible bad (f .next) qs (now (slots .entry)) (now (slots .exit)) f r) ⌝ }
+    ensures { λ r. ⌜ ((t : File) (visible : List ℕ) (bad : ℕ → ℕ → Bool) (enums : ℕ) (qs : List Equation) → Context t node (now (names .entry)) (now (rows .entry)) nodes visible bad → length qs ≡ many → Equations (now (file .entry)) enums (f .next) qs → EquationsJudged (now (file .entry)) (now (names .entry)) t visible bad inputs (f .next) qs (now (slots .entry)) (now (slots .exit)) (now (defined .entry)) (now (defined .exit)) f r) ⌝ }
 {
     let mut g = f;
     let mut i = 0;
@@ -321,7 +357,7 @@ pub fn equations(
         if file.len() <= at {
             return g;
         }
-        g = equation(file, names, slots, rows, nodes, node, g);
+        g = equation(file, names, slots, defined, rows, nodes, node, inputs, g);
         i += 1;
     }
     g

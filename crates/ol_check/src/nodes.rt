@@ -1,4 +1,4 @@
-// Faults 7, 9 and 10 of the nodes: a node's variables are entered, its equations judged, and its variables taken back.
+// Faults 7 to 10 of the nodes: a node's variables are entered, its equations judged, and its variables taken back.
 use super::bytes::byte;
 use super::bytes::entry;
 use super::judge::Faults;
@@ -59,18 +59,23 @@ fn node(
 {
     declare_node(file, names, rows, nodes, k);
     let unseen = f.unseen;
+    let again = f.again;
     let called = f.called;
     let shaped = f.shaped;
+    let mut defined = [0u8; 256];
     let r = equations(
         file,
         names,
         slots,
+        &mut defined,
         rows,
         nodes,
         k,
+        entry(rows, k * 8 + 2),
         entry(rows, k * 8 + 5),
         Faults {
             unseen,
+            again,
             called,
             shaped,
             next: entry(rows, k * 8 + 1),

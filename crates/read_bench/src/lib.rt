@@ -61,21 +61,21 @@ fn sized(file: &[u8], rows: &mut [usize], types: &[u8], slots: &[u8], nodes: usi
     }
 }
 
-// Where the first of the faults 7, 9 and 10 is, or 0.
+// A fault's place, or else another's.
+fn first_of(a: Found, b: usize) -> usize {
+    match a {
+        Found::At(p) => p,
+        Found::Nothing => b,
+    }
+}
+
+// Where the first of the faults 7 to 10 is, or 0.
 fn first_place(found: Faults) -> usize {
     let unseen = found.unseen;
+    let again = found.again;
     let called = found.called;
     let shaped = found.shaped;
-    match unseen {
-        Found::At(p) => p,
-        Found::Nothing => match called {
-            Found::At(p) => p,
-            Found::Nothing => match shaped {
-                Found::At(p) => p,
-                Found::Nothing => 0,
-            },
-        },
-    }
+    first_of(unseen, first_of(again, first_of(called, first_of(shaped, 0))))
 }
 
 // The slots of the names, then the lengths of the records.

@@ -12,9 +12,6 @@ use borrow.Author.Needs.{needs}
 use native.Mathlib.Omega.{arith}
 use Rattle.ol_check.proofs.nodes.judge_nodes.Statement.{statement}
 use Rattle.ol_check.proofs.nodes.judge_nodes.Tie as tie
-use Rattle.ol_check.proofs.nodes.judge_nodes.Reads as reads
-use Rattle.ol_check.proofs.nodes.judge_nodes.Lts as lts
-use Rattle.ol_check.proofs.nodes.node.Reads as node-reads
 
 abbrev Inv-loop : tie.InvT-loop
 Inv-loop file names₀ slots₀ rows nodes g₀ k₀ names slots g k =
@@ -23,23 +20,18 @@ Inv-loop file names₀ slots₀ rows nodes g₀ k₀ names slots g k =
 abbrev μ-loop : tie.MeasureT-loop
 μ-loop file names₀ slots₀ rows nodes g₀ k₀ names slots g k = nodes - k
 
--- src/nodes.rt:97:5
 loop-holds : tie.Need-loop-holds Inv-loop μ-loop
 loop-holds c = (refl, refl, λ visible kn cv. nodes-start)
 
--- src/nodes.rt:98:9
 node-requires : tie.Need-node-requires Inv-loop μ-loop
 node-requires c κs = (ready-at (c .before .before .before .before .before .before .before .before .pre .0) (c .before .before .before .loop .k) (c .before .before .loop-test .taken), subst Global (sym (c .before .before .before .loop .inv .0)) (c .before .before .before .before .before .before .before .before .pre .1))
 
--- src/nodes.rt:99:9
 add-k : tie.Need-add-k Inv-loop μ-loop
 add-k c = omega arith
 
--- src/nodes.rt:97:5
 loop-less : tie.Need-loop-less Inv-loop μ-loop
 loop-less c = omega arith
 
--- src/nodes.rt:97:5
 loop-again : tie.Need-loop-again Inv-loop μ-loop
 loop-again c = (
   c .before .before .before .before .node .ensures .0 ∙ c .before .before .before .before .before .before .before .before .loop .inv .0,
@@ -48,29 +40,14 @@ loop-again c = (
       (judged-same (c .before .before .before .before .before .before .before .before .loop .inv .0) (c .before .before .before .before .node .ensures .1) visible kn (cv (c .before .before .before .before .before .before .before .before .loop .k) (omega (arith, c .before .before .before .before .before .before .before .loop-test .taken, c .before .before .before .before .before .before .before .before .before .before .before .before .before .pre .0 .many)))),
 )
 
--- src/nodes.rt:84:1
 same-length : tie.Need-same-length Inv-loop μ-loop
 same-length c = ap length (c .before .loop .inv .0)
 
--- src/nodes.rt:84:1
 same-length-2 : tie.Need-same-length-2 Inv-loop μ-loop
 same-length-2 c = c .before .loop .inv .1
 
--- src/nodes.rt:84:1
 returns : tie.Need-returns Inv-loop μ-loop
 returns c = (c .before .loop .inv .0, λ visible kn cv. nodes-judged (c .before .loop .inv .2 visible kn cv) (omega (arith, c .loop-test .left, c .before .before .before .before .before .before .pre .0 .many)))
 
 pub judge-nodes-spec : {M : Type 1} → statement M
-judge-nodes-spec =
-    tie.close
-    (tie.spec
-    Inv-loop
-    μ-loop
-    loop-holds
-    node-requires
-    add-k
-    loop-less
-    loop-again
-    same-length
-    same-length-2
-    returns)
+judge-nodes-spec = tie.close (tie.spec Inv-loop μ-loop loop-holds node-requires add-k loop-less loop-again same-length same-length-2 returns)
