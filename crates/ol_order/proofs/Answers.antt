@@ -3,25 +3,34 @@ use Prim.Native.Nat.{ℕ, zero, suc, _≤_, _<_}
 use mathlib.Core.List.{List, [], _∷_}
 use mathlib.Core.Path.{_≡_, refl, sym, ap, _∙_}
 use native.Mathlib.Omega.{arith}
-use lib.ListN.{length, getD, take, replicate, length-replicate}
+use mathlib.Core.Option.{some}
+use mathlib.Core.Logic.{by-cases}
+use native.Mathlib.Decide.{decLe}
+use lib.ListN.{length, getD, take, replicate, length-replicate, List·getD-eq-default}
 use borrow.Author.Tests.{eq-eqb, ne-eqb}
 use Rattle.ol_spec.specs.Syntax.{Equation}
-use Rattle.ol_spec.specs.Order.{order}
+use Rattle.ol_spec.specs.Order.{definer, order}
 use Rattle.ol_spec.specs.Cycle.{OrderingCall, noOrder}
-use Rattle.ol_order.specs.Tables.{putAll, zeros, firstZero, orderOf}
-use Rattle.ol_order.specs.Post.{Definers, State}
+use Rattle.ol_order.specs.Tables.{putAll, definerCode, zeros, firstZero, orderOf}
+use Rattle.ol_order.specs.Post.{Blank, Definers, State, Sorts}
 use Rattle.ol_order.proofs.Definers.{definers-is, length-putAll}
 use Rattle.ol_order.proofs.Passing.{unplaced-some, unplaced-none, all-placed}
 use Rattle.ol_spec.specs.declared.Sorted.the-variants as Sort
 
 -- ---- the tables at the start
 
-pub definers-made : (qs : List Equation) (t w : List ℕ) → 65536 ≡ length t → ((x : ℕ) → x < 65536 → getD t x 0 ≡ 255) → w ≡ putAll 0 qs t → Definers qs w
-definers-made qs t w h f e =
-    record {
-      long = ap length e ∙ (length-putAll 0 qs t ∙ sym h);
-      is = λ x i. ap (λ l. getD l x 0) e ∙ definers-is qs t x (omega arith) (f x i);
-    }
+-- a table with an entry for each name
+pub blank-all : (qs : List Equation) {t : List ℕ} → 65536 ≡ length t → ((x : ℕ) → getD t x 255 ≡ 255) → Blank qs t
+blank-all qs h f = record { is = f; all = λ x i j. absurd (omega arith) }
+
+pub definers-made : (qs : List Equation) (t w : List ℕ) → Blank qs t → w ≡ putAll 0 qs t → Definers qs w
+definers-made qs t w blank e = record { is = λ x h. by-cases (decLe (length t) x) (outside x h) (inside x h) }
+  where
+    inside : (x : ℕ) → x < 65536 → (length t ≤ x → ⊥) → getD w x 255 ≡ definerCode (definer qs x)
+    inside x h i = ap (λ l. getD l x 255) e ∙ definers-is qs t x (omega arith) (blank .is x)
+
+    outside : (x : ℕ) → x < 65536 → length t ≤ x → getD w x 255 ≡ definerCode (definer qs x)
+    outside x h i = List·getD-eq-default w 255 (omega (arith, ap length e, length-putAll 0 qs t)) ∙ sym (ap definerCode (blank .all x i h))
 
 abbrev noughts : ℕ → List ℕ
 noughts n = replicate n 0
@@ -42,24 +51,33 @@ unfolding zeros
 count-noughts zero = refl
 count-noughts (suc n) = ap suc (count-noughts n)
 
-pub state-start : (qs : List Equation) (n : ℕ) → length qs ≡ n → n ≤ 80 → State qs [] (take n (noughts 80)) (take n (noughts 80)) 0
-state-start qs n e h =
+pub state-start : (qs : List Equation) (n : ℕ) (order : List ℕ) → length qs ≡ n → n ≤ 80 → length order ≡ length qs → State qs [] (take n (noughts 80)) order 0
+state-start qs n order e h r =
     let z = take-noughts n 80 h in
     record {
       front = refl;
       flags = λ j i. ap (λ (l : List ℕ). getD l j 0) z ∙ all-nought n j;
       flagged = ap length z ∙ (length-replicate n 0 ∙ sym e);
-      room = ap length z ∙ (length-replicate n 0 ∙ sym e);
+      room = r;
       left = omega (arith, ap zeros z, count-noughts n);
     }
 
 -- ---- the answer, by what the passes leave
 
-module _ {qs : List Equation} {p o : List ℕ} {n first : ℕ} (starts buf : List ℕ) (st : State qs (order qs) p o n) (e : first ≡ firstZero p) where
+pub sorts-made : {qs : List Equation} {p o : List ℕ} {n first : ℕ} → State qs (order qs) p o n → first ≡ firstZero p → Sorts qs o first
+sorts-made {first = first} st e =
+    record {
+      long = st .room;
+      ring = λ h. (unplaced-some st (omega (arith, st .flagged)) ∙ ap some (sym e));
+      placed = λ h. unplaced-none st (omega (arith, st .flagged));
+      order = λ h. all-placed st (omega (arith, st .flagged));
+    }
+
+module _ {qs : List Equation} {o : List ℕ} {first : ℕ} (starts buf : List ℕ) (so : Sorts qs o first) where
   -- a ring
   pub answer-ring : first < length qs → noOrder 11 (getD starts first 0) buf ≡ orderOf qs starts buf
   unfolding orderOf
-  answer-ring h = sym (rw (unplaced-some st (omega (arith, st .flagged))) (ap (λ i. noOrder 11 (getD starts i 0) buf) (sym e)))
+  answer-ring h = sym (rw (so .ring h) refl)
 
   module _ (h : length qs ≤ first) where
     abbrev ordered : OrderingCall
@@ -67,11 +85,11 @@ module _ {qs : List Equation} {p o : List ℕ} {n first : ℕ} (starts buf : Lis
 
     pub answer-done : length buf ≡ length qs → ordered ≡ orderOf qs starts buf
     unfolding orderOf
-    answer-done f = sym (rw (unplaced-none st (omega (arith, st .flagged)), eq-eqb (length buf) (length qs) f) (ap (λ l. orderedAs l) (sym (all-placed st (omega (arith, st .flagged))))))
+    answer-done f = sym (rw (so .placed h, eq-eqb (length buf) (length qs) f) (ap (λ l. orderedAs l) (sym (so .order h))))
       where
         orderedAs : List ℕ → OrderingCall
         orderedAs l = record { answer = Sort.Done; buffer = l }
 
     pub answer-short : (length buf ≡ length qs → ⊥) → noOrder 17 0 buf ≡ orderOf qs starts buf
     unfolding orderOf
-    answer-short f = sym (rw (unplaced-none st (omega (arith, st .flagged)), ne-eqb (length buf) (length qs) f) refl)
+    answer-short f = sym (rw (so .placed h, ne-eqb (length buf) (length qs) f) refl)

@@ -6,7 +6,7 @@ use mathlib.Core.Option.{Option, none, some}
 use mathlib.Core.Path.{_≡_, refl, sym, ap, subst, _∙_}
 use native.Mathlib.Numerals.{add-one}
 use native.Mathlib.Omega.{arith}
-use lib.ListN.{length, getD, set, drop, length-set, drop-of-length-le}
+use lib.ListN.{length, getD, set, drop, replicate, length-set, drop-of-length-le}
 use lib.Seq.{drop-cons, getD-set-same, getD-set-other}
 use lib.Dec.{eqb}
 use borrow.Author.Tests.{eqb-true, eqb-false}
@@ -27,6 +27,13 @@ use Rattle.ol_ir.specs.declared.Counted.{Counted}
 use Rattle.ol_ir.specs.declared.Counted.the-variants as Cnt
 use Rattle.ol_ir.proofs.Items.{SectionAt, section-at, equation-at}
 
+-- an entry of the table is the same with any default
+pub in-range : (t : List ℕ) (x : ℕ) → x < length t → getD t x 0 ≡ getD t x 255
+in-range [] zero h = absurd (omega arith)
+in-range [] (suc x) h = absurd (omega arith)
+in-range (y ∷ t) zero h = refl
+in-range (y ∷ t) (suc x) h = in-range t x (omega arith)
+
 -- ---- one equation's names
 
 pub length-put : (xs : List ℕ) (i : ℕ) (t : List ℕ) → length (put xs i t) ≡ length t
@@ -38,17 +45,17 @@ cond-same : {A : Type 0} (b : Bool) (a : A) → cond b a a ≡ a
 cond-same true a = refl
 cond-same false a = refl
 
-put-get : (xs : List ℕ) (i : ℕ) (t : List ℕ) (x : ℕ) → x < length t → getD (put xs i t) x 0 ≡ cond (member x xs) i (getD t x 0)
+put-get : (xs : List ℕ) (i : ℕ) (t : List ℕ) (x : ℕ) → x < length t → getD (put xs i t) x 255 ≡ cond (member x xs) i (getD t x 255)
 unfolding put
 put-get [] i t x h = refl
 put-get (y ∷ xs) i t x h =
     put-get xs i (set t y i) x (omega (arith, length-set t y i)) ∙ go (eqb x y) refl
   where
-    go : (b : Bool) → eqb x y ≡ b → cond (member x xs) i (getD (set t y i) x 0) ≡ cond (b || member x xs) i (getD t x 0)
+    go : (b : Bool) → eqb x y ≡ b → cond (member x xs) i (getD (set t y i) x 255) ≡ cond (b || member x xs) i (getD t x 255)
     go true e =
         let p : y ≡ x = sym (eqb-true x y e) in
-        ap (cond (member x xs) i) (subst (λ z. getD (set t z i) x 0 ≡ i) (sym p) (getD-set-same t x i 0 h)) ∙ cond-same (member x xs) i
-    go false e = ap (cond (member x xs) i) (getD-set-other t y x i 0 (eqb-false x y e))
+        ap (cond (member x xs) i) (subst (λ z. getD (set t z i) x 255 ≡ i) (sym p) (getD-set-same t x i 255 h)) ∙ cond-same (member x xs) i
+    go false e = ap (cond (member x xs) i) (getD-set-other t y x i 255 (eqb-false x y e))
 
 -- ---- all equations
 
@@ -62,20 +69,27 @@ later-code (some j) b i v = refl
 later-code none true i v = refl
 later-code none false i v = refl
 
-putAll-get : (i : ℕ) (qs : List Equation) (t : List ℕ) (x : ℕ) → x < length t → getD (putAll i qs t) x 0 ≡ orCode (definerFrom i qs x) (getD t x 0)
+putAll-get : (i : ℕ) (qs : List Equation) (t : List ℕ) (x : ℕ) → x < length t → getD (putAll i qs t) x 255 ≡ orCode (definerFrom i qs x) (getD t x 255)
 unfolding putAll definerFrom orCode
 putAll-get i [] t x h = refl
 putAll-get i (q ∷ qs) t x h =
     putAll-get (suc i) qs (put (q .names) i t) x (omega (arith, length-put (q .names) i t))
-    ∙ (ap (orCode (definerFrom (suc i) qs x)) (put-get (q .names) i t x h) ∙ later-code (definerFrom (suc i) qs x) (member x (q .names)) i (getD t x 0))
+    ∙ (ap (orCode (definerFrom (suc i) qs x)) (put-get (q .names) i t x h) ∙ later-code (definerFrom (suc i) qs x) (member x (q .names)) i (getD t x 255))
 
 code-or : (o : Option ℕ) → orCode o 255 ≡ definerCode o
 unfolding orCode
 code-or none = refl
 code-or (some j) = refl
 
+-- a table in which no name has a definer
+pub no-entry : (n x : ℕ) → getD {A = ℕ} (replicate n 255) x 255 ≡ 255
+no-entry zero zero = refl
+no-entry zero (suc x) = refl
+no-entry (suc n) zero = refl
+no-entry (suc n) (suc x) = no-entry n x
+
 -- the whole table, from one in which no name has a definer
-pub definers-is : (qs : List Equation) (t : List ℕ) (x : ℕ) → x < length t → getD t x 0 ≡ 255 → getD (putAll 0 qs t) x 0 ≡ definerCode (definer qs x)
+pub definers-is : (qs : List Equation) (t : List ℕ) (x : ℕ) → x < length t → getD t x 255 ≡ 255 → getD (putAll 0 qs t) x 255 ≡ definerCode (definer qs x)
 definers-is qs t x h e = putAll-get 0 qs t x h ∙ (ap (orCode (definerFrom 0 qs x)) e ∙ code-or (definerFrom 0 qs x))
 
 pub length-putAll : (i : ℕ) (qs : List Equation) (t : List ℕ) → length (putAll i qs t) ≡ length t
@@ -112,9 +126,9 @@ module _ {s w table : List ℕ} {i left at n : ℕ} (ps : Puts s w i left at n t
   puts-end h = sym (ps .is ∙ ap (λ xs. put xs i table) (many-none (nameR s) left at (ps .names) n h (ps .read)))
 
   module _ {x : ℕ} {y : Next} (u : 0 < left) (c : (z m : ℕ) → nameR s at ≡ got z m → x ≡ z) (e : y ≡ nextOf (nameR s at)) where
-    pub puts-turn : {q : ℕ} → y ≡ Nxt.At q → Puts s w i (left - 1) q n (set table x i)
+    pub puts-turn : {q : ℕ} {t : List ℕ} → t ≡ set table x i → y ≡ Nxt.At q → Puts s w i (left - 1) q n t
     unfolding put nextOf
-    puts-turn {q} g =
+    puts-turn {q} {t} k g =
         let f = many-first (nameR s) left at (ps .names) n u (ps .read) in
         let a : x ≡ f .0 = c (f .0) (f .2) (f .3) in
         let b : Nxt.At (f .2) ≡ Nxt.At q = sym (e ∙ ap nextOf (f .3)) ∙ g in
@@ -122,7 +136,7 @@ module _ {s w table : List ℕ} {i left at n : ℕ} (ps : Puts s w i left at n t
         record {
           names = f .1;
           read = subst (λ v. many (left - 1) (nameR s) v ≡ got (f .1) n) d (f .4);
-          is = ps .is ∙ (ap (λ xs. put xs i table) (sym (f .5)) ∙ ap (λ v. put (f .1) i (set table v i)) (sym a));
+          is = ps .is ∙ (ap (λ xs. put xs i table) (sym (f .5)) ∙ (ap (λ v. put (f .1) i (set table v i)) (sym a) ∙ ap (put (f .1) i) (sym k)));
         }
 
     pub puts-not : {f : Fault} {t : Type 0} → y ≡ Nxt.Refused f → t

@@ -93,6 +93,16 @@ module _ {qs : List Equation} {list placed order : List ℕ} {n : ℕ} (st : Sta
 
 -- ---- waiting
 
+module _ (definers placed : List ℕ) (x : ℕ) {d : ℕ} (e : d ≡ getD definers x 255) where
+  -- the definer has a flag
+  pub waits-placed : d < length placed → eqb (getD placed d 0) 0 ≡ waitsFor definers placed x
+  unfolding waitsFor
+  waits-placed h = sym (rw (sym e, lt-ltb d (length placed) h) refl)
+
+  pub waits-none : length placed ≤ d → false ≡ waitsFor definers placed x
+  unfolding waitsFor
+  waits-none h = sym (rw (sym e, le-ltb d (length placed) h) refl)
+
 -- the name's definer is placed, or it has none
 abbrev pub settled : List Equation → List ℕ → ℕ → Bool
 settled qs list x = maybe true (λ j. member j list) (definer qs x)

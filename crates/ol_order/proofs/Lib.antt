@@ -5,3 +5,4 @@ pub mod Passing
 pub mod Turns
 pub mod Answers
 pub mod Nodes
+pub mod Rows

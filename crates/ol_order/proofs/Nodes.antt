@@ -33,21 +33,21 @@ use Rattle.ol_ir.proofs.Load.{node-read, few-nodes}
 -- ---- placed items
 
 module _ {A : Type 0} where
-  abbrev itemOf : ℕ × A → A
+  abbrev pub itemOf : ℕ × A → A
   itemOf p = p .1
 
-  place-get : (ps : List (ℕ × A)) (k : ℕ) → k < length ps → (p : ℕ) × (x : A) × (getElem? ps k ≡ some (p, x)) × (getD (map placeOf ps) k 0 ≡ p)
+  pub place-get : (ps : List (ℕ × A)) (k : ℕ) → k < length ps → (p : ℕ) × (x : A) × (getElem? ps k ≡ some (p, x)) × (getD (map placeOf ps) k 0 ≡ p)
   place-get [] zero h = absurd (omega arith)
   place-get [] (suc k) h = absurd (omega arith)
   place-get (q ∷ ps) zero h = (q .0, q .1, refl, refl)
   place-get (q ∷ ps) (suc k) h = place-get ps k (omega arith)
 
   module _ (size : A → ℕ) where
-    length-placed : (at : ℕ) (xs : List A) → length (placed size at xs) ≡ length xs
+    pub length-placed : (at : ℕ) (xs : List A) → length (placed size at xs) ≡ length xs
     length-placed at [] = refl
     length-placed at (x ∷ xs) = ap suc (length-placed (at + size x) xs)
 
-    items-placed : (at : ℕ) (xs : List A) → map itemOf (placed size at xs) ≡ xs
+    pub items-placed : (at : ℕ) (xs : List A) → map itemOf (placed size at xs) ≡ xs
     items-placed at [] = refl
     items-placed at (x ∷ xs) = ap (λ l. x ∷ l) (items-placed (at + size x) xs)
 
@@ -100,7 +100,7 @@ module _ (s : List ℕ) (l : Limits) (enums : ℕ) where
           few = omega (arith, long-starts, few-equations s l enums at n end r);
         }
 
-place-same : (ps : List (ℕ × Equation)) (i : ℕ) → placeAt ps i ≡ getD (map placeOf ps) i 0
+pub place-same : (ps : List (ℕ × Equation)) (i : ℕ) → placeAt ps i ≡ getD (map placeOf ps) i 0
 place-same [] zero = refl
 place-same [] (suc i) = refl
 place-same (q ∷ ps) zero = refl

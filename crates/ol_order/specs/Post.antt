@@ -1,12 +1,13 @@
 -- What the functions of the ordering ask and give.
 use Prim.Native.Nat.{ℕ, _+_, _≤_, _<_}
 use mathlib.Core.List.{List}
+use mathlib.Core.Option.{none, some}
 use mathlib.Core.Path.{_≡_}
 use lib.ListN.{length, getD, take}
 use Rattle.ol_spec.specs.Lists.{member}
 use Rattle.ol_spec.specs.Syntax.{Equation}
 use Rattle.ol_spec.specs.Read.{got, equationR, nodeR}
-use Rattle.ol_spec.specs.Order.{definer}
+use Rattle.ol_spec.specs.Order.{definer, order, unplaced}
 use Rattle.ol_spec.specs.declared.Limits.{Limits}
 use Rattle.ol_order.specs.Tables.{equationAt, nodeAt, definerCode, flagOf, zeros}
 
@@ -21,10 +22,14 @@ pub record NodeReads (s : List ℕ) (l : Limits) (enums at : ℕ) : Type 0 where
   pub is : nodeR s l enums at ≡ got (nodeAt s l enums at) end
   pub few : l .equations ≤ 80
 
+-- no name has a definer in the table yet, and every name that an equation defines has an entry
+pub record Blank (qs : List Equation) (table : List ℕ) : Type 0 where
+  pub is : (x : ℕ) → getD table x 255 ≡ 255
+  pub all : (x : ℕ) → length table ≤ x → x < 65536 → definer qs x ≡ none
+
 -- the table has each name's last definer
 pub record Definers (qs : List Equation) (table : List ℕ) : Type 0 where
-  pub long : length table ≡ 65536
-  pub is : (x : ℕ) → x < 65536 → getD table x 0 ≡ definerCode (definer qs x)
+  pub is : (x : ℕ) → x < 65536 → getD table x 255 ≡ definerCode (definer qs x)
 
 -- The first n entries of `order` are the list of those placed, and each equation has its flag.
 pub record State (qs : List Equation) (list placed order : List ℕ) (n : ℕ) : Type 0 where
@@ -33,3 +38,10 @@ pub record State (qs : List Equation) (list placed order : List ℕ) (n : ℕ) :
   pub flagged : length placed ≡ length qs
   pub room : length order ≡ length qs
   pub left : n + zeros placed ≡ length qs
+
+-- r is the first equation that is never placed, or their number; then `order` is their order
+pub record Sorts (qs : List Equation) (ord : List ℕ) (r : ℕ) : Type 0 where
+  pub long : length ord ≡ length qs
+  pub ring : r < length qs → unplaced qs ≡ some r
+  pub placed : length qs ≤ r → unplaced qs ≡ none
+  pub order : length qs ≤ r → ord ≡ order qs

@@ -52,7 +52,7 @@ definerCode (some j) = j
 
 -- whether the name's definer has a flag, and it is 0
 unfoldable pub waitsFor : List ℕ → List ℕ → ℕ → Bool
-waitsFor definers placed x = cond (ltb (getD definers x 0) (length placed)) (eqb (getD placed (getD definers x 0) 0) 0) false
+waitsFor definers placed x = cond (ltb (getD definers x 255) (length placed)) (eqb (getD placed (getD definers x 255) 0) 0) false
 
 -- ---- the flags of the placed equations
 

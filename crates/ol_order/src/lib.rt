@@ -1,4 +1,6 @@
 // The order of a node's equations: document 01, "The order".
+pub mod table; // table.rt: the orders of all nodes of a file
+
 use ol_ir::Counted;
 use ol_ir::Loaded;
 use ol_ir::Next;
@@ -18,33 +20,40 @@ ghost use mathlib.Core.List.{List, []};
 ghost use mathlib.Core.Option.{some};
 ghost use mathlib.Core.Path.{_≡_};
 ghost use Prim.Native.Nat.{ℕ, _≤_, _<_};
-ghost use lib.ListN.{length, getD, take};
+ghost use lib.ListN.{length, getD, set, take};
 ghost use Rattle.ol_spec.specs.Limits.{relayLoader};
 ghost use Rattle.ol_spec.specs.Read.{got, many, nameR};
 ghost use Rattle.ol_spec.specs.Order.{pass, order as inOrder};
 ghost use Rattle.ol_spec.specs.Cycle.{orderNode, ordering};
 ghost use Rattle.ol_order.specs.Tables.{equationsAt, nodeAt, put, putAll, waitsFor, firstZero, orderOf};
-ghost use Rattle.ol_order.specs.Post.{Readable, NodeReads, Definers, State};
+ghost use Rattle.ol_order.specs.Post.{Readable, NodeReads, Blank, Definers, State, Sorts};
 
 // No name has a definer: 255 stands for none.
 fn no_definers() -> [u8; 65536]
     ensures long { λ r. ⌜ 65536 ≡ length r ⌝ }
-    ensures none { λ r. ⌜ ((x : ℕ) → x < 65536 → getD r x 0 ≡ 255) ⌝ }
+    ensures none { λ r. ⌜ ((x : ℕ) → getD r x 255 ≡ 255) ⌝ }
 {
     [255; 65536]
 }
 
+// A name gets the equation's index, where the table has an entry for it.
+fn enter(definers: &mut [u8], x: usize, index: u8)
+    ensures { λ _. ⌜ now (definers .exit) ≡ set (now (definers .entry)) x index ⌝ }
+{
+    if x < definers.len() {
+        definers[x] = index;
+    }
+}
+
 // Each of so many names gets the equation's index.
 fn define(file: &[u8], count: usize, at: usize, index: u8, definers: &mut [u8])
-    requires { ⌜ length (now definers) ≡ 65536 ⌝ }
     ensures { λ _. ⌜ ((xs : List ℕ) (n : ℕ) → many count (nameR (now (file .entry))) at ≡ got xs n → now (definers .exit) ≡ put xs index (now (definers .entry))) ⌝ }
 {
     let mut next = at;
     let mut left = count;
     while 0 < left {
         left -= 1;
-        let x = name(file, next);
-        definers[x] = index;
+        enter(definers, name(file, next), index);
         match bytes(file, 2, next) {
             Next::At(p) => {
                 next = p;
@@ -58,7 +67,6 @@ fn define(file: &[u8], count: usize, at: usize, index: u8, definers: &mut [u8])
 
 // Which equation defines each name: of several the last.
 fn define_all(file: &[u8], most: usize, starts: &[usize], definers: &mut [u8])
-    requires { ⌜ length (now definers) ≡ 65536 ⌝ }
     requires { ⌜ length (now starts) ≤ 80 ⌝ }
     ensures { λ _. ⌜ ((l : Limits) (enums : ℕ) → l .names ≡ most → Readable (now (file .entry)) l enums (now (starts .entry)) → now (definers .exit) ≡ putAll 0 (equationsAt (now (file .entry)) l enums (now (starts .entry))) (now (definers .entry))) ⌝ }
 {
@@ -78,12 +86,22 @@ fn define_all(file: &[u8], most: usize, starts: &[usize], definers: &mut [u8])
     }
 }
 
+// A name's definer: 255 for none, also where the table has no entry for the name.
+fn definer(definers: &[u8], x: usize) -> usize
+    ensures { λ r. ⌜ r ≡ getD (now (definers .entry)) x 255 ⌝ }
+{
+    if x < definers.len() {
+        definers[x] as usize
+    } else {
+        255
+    }
+}
+
 // Whether a name's definer is an equation that is not placed yet.
 fn waits(definers: &[u8], placed: &[u8], x: usize) -> bool
-    requires { ⌜ x < length (now definers) ⌝ }
     ensures { λ r. ⌜ r ≡ waitsFor (now (definers .entry)) (now (placed .entry)) x ⌝ }
 {
-    let d = definers[x] as usize;
+    let d = definer(definers, x);
     if d < placed.len() {
         placed[d] == 0
     } else {
@@ -204,6 +222,28 @@ fn copy(order: &[usize], buffer: &mut [usize])
     }
 }
 
+// Places the equations that start at these places, with a table in which no name has a definer
+// yet: the first that is not placed, or their number. The buffer gets their order.
+pub fn sort(
+    file: &[u8],
+    limits: Limits,
+    enums: usize,
+    starts: &[usize],
+    definers: &mut [u8],
+    order: &mut [usize],
+) -> usize
+    requires { ⌜ Readable (now file) limits enums (now starts) ⌝ }
+    requires { ⌜ Blank (equationsAt (now file) limits enums (now starts)) (now definers) ⌝ }
+    requires { ⌜ length (now order) ≡ length (now starts) ⌝ }
+    ensures { λ r. ⌜ Sorts (equationsAt (now (file .entry)) limits enums (now (starts .entry))) (now (order .exit)) r ⌝ }
+{
+    define_all(file, limits.names, starts, definers);
+    let mut flags = [0u8; 80];
+    let placed = &mut flags[..starts.len()];
+    passes(file, limits, enums, starts, definers, placed, order);
+    first_unplaced(placed)
+}
+
 // The order of the equations that start at these places.
 fn order_equations(
     file: &[u8],
@@ -217,14 +257,10 @@ fn order_equations(
     ensures written { λ _. ⌜ now (buffer .exit) ≡ orderOf (equationsAt (now (file .entry)) limits enums (now (starts .entry))) (now (starts .entry)) (now (buffer .entry)) .buffer ⌝ }
 {
     let mut definers = no_definers();
-    define_all(file, limits.names, starts, &mut definers);
-    let mut flags = [0u8; 80];
     let mut space = [0usize; 80];
     let n = starts.len();
-    let placed = &mut flags[..n];
     let order = &mut space[..n];
-    passes(file, limits, enums, starts, &definers, placed, order);
-    let first = first_unplaced(placed);
+    let first = sort(file, limits, enums, starts, &mut definers, order);
     if first < n {
         Sorted::Refused(Fault {
             number: 11,

@@ -27,12 +27,12 @@ loop-holds c = (refl, λ l enums en rd. record { is = refl })
 cast-k : tie.Need-cast-k Inv-loop μ-loop
 cast-k c =
     let start = c .before .before .before .before .before in
-    omega (arith, start .pre .1)
+    omega (arith, start .pre)
 
 mul-at : tie.Need-mul-at Inv-loop μ-loop
 mul-at c =
     let start = c .before .before .before .before .before in
-    omega (arith, start .pre .1)
+    omega (arith, start .pre)
 
 shared-slice-read-at : tie.Need-shared-slice-read-at Inv-loop μ-loop
 shared-slice-read-at c = omega arith
@@ -40,7 +40,7 @@ shared-slice-read-at c = omega arith
 add-i : tie.Need-add-i Inv-loop μ-loop
 add-i c =
     let start = c .before .before .before .before .before .before in
-    omega (arith, start .pre .1)
+    omega (arith, start .pre)
 
 count-requires : tie.Need-count-requires Inv-loop μ-loop
 count-requires c κs = search needs
@@ -49,14 +49,12 @@ enum-known-n : tie.Need-enum-known-n Inv-loop μ-loop
 enum-known-n c = search needs
 
 define-requires : tie.Need-define-requires Inv-loop μ-loop
-define-requires c κs =
-    let start = c .before .before .before .before .before .before .before .before .before .before .before in
-    c .before .before .before .before .before .before .before .loop .inv .0 ∙ start .pre .0
+define-requires c κs = search needs
 
 loop-less : tie.Need-loop-less Inv-loop μ-loop
 loop-less c =
     let start = c .before .before .before .before .before .before .before .before .before .before .before .before .before .before in
-    omega (arith, start .pre .1)
+    omega (arith, start .pre)
 
 loop-again : tie.Need-loop-again Inv-loop μ-loop
 loop-again c =

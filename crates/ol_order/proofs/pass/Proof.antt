@@ -67,9 +67,7 @@ enum-known-x : tie.Need-enum-known-x Inv-loop μ-loop Inv-equations μ-equations
 enum-known-x c = search needs
 
 waits-requires : tie.Need-waits-requires Inv-loop μ-loop Inv-equations μ-equations
-waits-requires c κs =
-    let start = c .before .before .before .before .before .before .before .before .before .before .before .before .before .before .before .before .before .before .before .before .before in
-    omega (arith, (c .before .before .before .before .scan .ensures .1 _ _ (c .before .before .x .given .1)), start .pre .1 .0 .long)
+waits-requires c κs = search needs
 
 equations-less : tie.Need-equations-less Inv-loop μ-loop Inv-equations μ-equations
 equations-less c = omega (arith, c .before .before .before .before .before .before .before .before .before .before .before .before .before .before .before .before .equations-test .taken)

@@ -1,0 +1,161 @@
+// The orders of all nodes of a file, as bytes: entry k * 80 + j is the index of the equation of node k
+// that runs j-th.
+use crate::no_definers;
+use crate::sort;
+use ol_ir::Counted;
+use ol_ir::node::equation_starts;
+use ol_ir::project::base;
+use ol_spec::Limits;
+ghost use mathlib.Core.Bool.{Bool, true};
+ghost use mathlib.Core.Path.{_≡_};
+ghost use Prim.Native.Nat.{ℕ, _≤_, _<_};
+ghost use lib.ListN.{length, getD};
+ghost use Rattle.ol_spec.specs.Syntax.{File};
+ghost use Rattle.ol_spec.specs.Limits.{relayLoader};
+ghost use Rattle.ol_spec.specs.Read.{got, readFile};
+ghost use Rattle.ol_order.specs.Tables.{equationsAt, nodeAt};
+ghost use Rattle.ol_order.specs.Post.{Readable, NodeReads, Blank};
+ghost use Rattle.ol_order.specs.Orders.{Small, LowNames, EquationsDone, NodeDone, NodesStand, OrdersDone};
+
+// The place of the first equation that is never placed, if there is one.
+pub enum Ring {
+    At(usize),
+    Nothing,
+}
+
+// No name below 1,024 has a definer.
+fn low_definers() -> [u8; 1024]
+    ensures long { λ r. ⌜ 1024 ≡ length r ⌝ }
+    ensures none { λ r. ⌜ ((x : ℕ) → getD r x 255 ≡ 255) ⌝ }
+{
+    [255; 1024]
+}
+
+// Copies an order into bytes.
+fn copy_bytes(order: &[usize], out: &mut [u8])
+    requires { ⌜ length (now order) ≤ length (now out) ⌝ }
+    requires { ⌜ Small (now order) ⌝ }
+    ensures { λ _. ⌜ ((j : ℕ) → j < length (now (order .entry)) → getD (now (out .exit)) j 0 ≡ getD (now (order .entry)) j 0) ⌝ }
+{
+    let mut i = 0;
+    while i < order.len() {
+        out[i] = order[i] as u8;
+        i += 1;
+    }
+}
+
+// The order of the equations that start at these places, with a table in which no name has a
+// definer yet.
+fn order_starts(
+    file: &[u8],
+    limits: Limits,
+    enums: usize,
+    starts: &[usize],
+    definers: &mut [u8],
+    out: &mut [u8],
+) -> Ring
+    requires { ⌜ Readable (now file) limits enums (now starts) ⌝ }
+    requires { ⌜ Blank (equationsAt (now file) limits enums (now starts)) (now definers) ⌝ }
+    requires { ⌜ length (now out) ≡ 80 ⌝ }
+    ensures { λ r. ⌜ EquationsDone (equationsAt (now (file .entry)) limits enums (now (starts .entry))) (now (starts .entry)) (now (out .exit)) r ⌝ }
+{
+    let mut space = [0usize; 80];
+    let n = starts.len();
+    let order = &mut space[..n];
+    let first = sort(file, limits, enums, starts, definers, order);
+    if first < n {
+        Ring::At(starts[first])
+    } else {
+        copy_bytes(order, out);
+        Ring::Nothing
+    }
+}
+
+// The order of the equations of the node that starts at `at`, with a table in which no name has a
+// definer yet.
+fn order_with(
+    file: &[u8],
+    limits: Limits,
+    enums: usize,
+    at: usize,
+    definers: &mut [u8],
+    out: &mut [u8],
+) -> Ring
+    requires { ⌜ NodeReads (now file) limits enums at ⌝ }
+    requires { ⌜ Blank (nodeAt (now file) limits enums at .equations) (now definers) ⌝ }
+    requires { ⌜ length (now out) ≡ 80 ⌝ }
+    ensures { λ r. ⌜ NodeDone at (nodeAt (now (file .entry)) limits enums at) (now (out .exit)) r ⌝ }
+{
+    let mut space = [0usize; 80];
+    match equation_starts(file, limits, enums, at, &mut space) {
+        Counted::Items(n, _) => order_starts(file, limits, enums, &space[..n], definers, out),
+        Counted::Refused(_) => Ring::Nothing,
+    }
+}
+
+// The order of a node's equations that define names below 1,024 only.
+fn order_low(file: &[u8], limits: Limits, enums: usize, at: usize, out: &mut [u8]) -> Ring
+    requires { ⌜ NodeReads (now file) limits enums at ⌝ }
+    requires { ⌜ LowNames (nodeAt (now file) limits enums at .equations) ⌝ }
+    requires { ⌜ length (now out) ≡ 80 ⌝ }
+    ensures { λ r. ⌜ NodeDone at (nodeAt (now (file .entry)) limits enums at) (now (out .exit)) r ⌝ }
+{
+    let mut definers = low_definers();
+    order_with(file, limits, enums, at, &mut definers, out)
+}
+
+// The order of a node's equations that define any names.
+fn order_high(file: &[u8], limits: Limits, enums: usize, at: usize, out: &mut [u8]) -> Ring
+    requires { ⌜ NodeReads (now file) limits enums at ⌝ }
+    requires { ⌜ length (now out) ≡ 80 ⌝ }
+    ensures { λ r. ⌜ NodeDone at (nodeAt (now (file .entry)) limits enums at) (now (out .exit)) r ⌝ }
+{
+    let mut definers = no_definers();
+    order_with(file, limits, enums, at, &mut definers, out)
+}
+
+// The order of a node's equations.
+fn order_row(
+    file: &[u8],
+    limits: Limits,
+    enums: usize,
+    at: usize,
+    low: bool,
+    out: &mut [u8],
+) -> Ring
+    requires { ⌜ NodeReads (now file) limits enums at ⌝ }
+    requires { ⌜ (low ≡ true → LowNames (nodeAt (now file) limits enums at .equations)) ⌝ }
+    requires { ⌜ length (now out) ≡ 80 ⌝ }
+    ensures { λ r. ⌜ NodeDone at (nodeAt (now (file .entry)) limits enums at) (now (out .exit)) r ⌝ }
+{
+    if low {
+        order_low(file, limits, enums, at, out)
+    } else {
+        order_high(file, limits, enums, at, out)
+    }
+}
+
+// The orders of all nodes of a file that reads without fault, and that start at these places: the
+// place of the first equation that is never placed, of the first node that has one. With `low` every
+// name that an equation defines is below 1,024.
+pub fn orders_of(file: &[u8], enums: usize, places: &[usize], low: bool, orders: &mut [u8]) -> Ring
+    requires { ⌜ NodesStand (now file) enums (now places) low ⌝ }
+    requires { ⌜ length (now orders) ≡ 2560 ⌝ }
+    ensures { λ r. ⌜ ((f : File) (end : ℕ) → readFile (now (file .entry)) relayLoader ≡ got f end → OrdersDone f (now (orders .exit)) r) ⌝ }
+{
+    let limits = base();
+    let mut k = 0;
+    while k < places.len() {
+        let from = k * 80;
+        let end = from + 80;
+        match order_row(file, limits, enums, places[k], low, &mut orders[from..end]) {
+            Ring::At(p) => {
+                return Ring::At(p);
+            }
+            Ring::Nothing => {
+                k += 1;
+            }
+        }
+    }
+    Ring::Nothing
+}
