@@ -1,3 +1,4 @@
+pub mod Arguments
 pub mod Backs
 pub mod Calling
 pub mod Constant
