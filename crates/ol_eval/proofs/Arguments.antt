@@ -222,22 +222,22 @@ module _ {want : Evals} {file tab rows consts : List ℕ} {fits : Bool} {k n at 
         let rest = take behind (drop (used + seg) old) in
         let lt : i < n = omega (arith, g .whole) in
         let t : Going want file tab rows consts fits k n at level node first cells before old left (i + 1) (endAt file level pos) (used + seg) to′ (putTail used new x) =
-            record {
-              values = g .values ++ v ∷ [];
-              head = g .head ++ here .seg;
-              counted = length-append (g .values) (v ∷ []) ∙ ap (λ (m : ℕ). m + 1) (g .counted);
-              whole = omega (arith, g .whole);
-              sized = length-append (g .head) (here .seg) ∙ (λ j. g .sized j + here-length j);
-              state = state-is;
-              ready = ready-next;
-              out-is = g .out-is ∙ ap (λ (e : Evals). consAll (g .values) (e .out)) R ∙ sym (cons-snoc (g .values) v (later rest .out));
-              seg-is = g .seg-is ∙ ap (λ (e : Evals). g .head ++ e .seg) R ∙ sym (append-assoc (g .head) (here .seg) (later rest .seg));
-              total = total-is;
-              ends = g .ends ∙ parted file level left pos (g .ready .plan .reads) .ends;
-              stored = ap (valuesOf (i + 1)) write ∙ values-next i to w (omega (arith, lt, g .long)) kw ∙ ap (λ (vs : List Value). vs ++ w ∷ []) (g .stored) ∙ passed-snoc fits k n i (g .ready .plan .program) c lt (g .values) (g .counted) v w pw;
-              long = omega (arith, g .long, keep);
-              within = omega (arith, going-seg, length-drop used old, g .within);
-            } in
+        record {
+          values = g .values ++ v ∷ [];
+          head = g .head ++ here .seg;
+          counted = length-append (g .values) (v ∷ []) ∙ ap (λ (m : ℕ). m + 1) (g .counted);
+          whole = omega (arith, g .whole);
+          sized = length-append (g .head) (here .seg) ∙ (λ j. g .sized j + here-length j);
+          state = state-is;
+          ready = ready-next;
+          out-is = g .out-is ∙ ap (λ (e : Evals). consAll (g .values) (e .out)) R ∙ sym (cons-snoc (g .values) v (later rest .out));
+          seg-is = g .seg-is ∙ ap (λ (e : Evals). g .head ++ e .seg) R ∙ sym (append-assoc (g .head) (here .seg) (later rest .seg));
+          total = total-is;
+          ends = g .ends ∙ parted file level left pos (g .ready .plan .reads) .ends;
+          stored = ap (valuesOf (i + 1)) write ∙ values-next i to w (omega (arith, lt, g .long)) kw ∙ ap (λ (vs : List Value). vs ++ w ∷ []) (g .stored) ∙ passed-snoc fits k n i (g .ready .plan .program) c lt (g .values) (g .counted) v w pw;
+          long = omega (arith, g .long, keep);
+          within = omega (arith, going-seg, length-drop used old, g .within);
+        } in
         subst (λ (m : ℕ). Going want file tab rows consts fits k n at level node first cells before old left (i + 1) (r .next) (used + m) to′ (putTail used new x)) (sym (h .used-is))
         (subst (λ (m : ℕ). Going want file tab rows consts fits k n at level node first cells before old left (i + 1) m (used + seg) to′ (putTail used new x)) (sym (h .next-is)) t)
 
