@@ -1,5 +1,6 @@
 pub mod Admitted
 pub mod AdmittedConstants
+pub mod Arguments
 pub mod Backs
 pub mod Calling
 pub mod Constant
