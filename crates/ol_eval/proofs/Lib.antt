@@ -9,3 +9,5 @@ pub mod Passing
 pub mod Planning
 pub mod Readying
 pub mod RealKinds
+pub mod Stepping
+pub mod Storing

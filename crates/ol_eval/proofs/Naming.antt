@@ -27,7 +27,7 @@ use Rattle.ol_eval.specs.Plans.{knownIn, constantsIn, globalsIn, widthIn
 no-some : {A : Type 0} {x : A} → none ≡ some x → ⊥
 no-some e = let z : _≡_ {A = ℕ} 0 1 = cc in omega arith
 
-position-in : (x : ℕ) (ns : List ℕ) (i : ℕ) → position x ns ≡ some i → i < length ns
+pub position-in : (x : ℕ) (ns : List ℕ) (i : ℕ) → position x ns ≡ some i → i < length ns
 position-in x [] i h = absurd (no-some h)
 position-in x (n ∷ ns) i h = go (eqb x n) (position x ns) i (position-in x ns) h
   where
@@ -77,7 +77,7 @@ look-up x ns n s i e h = ap (maybe none (getElem? (valuesOf n s))) e ∙ get-val
 pub look-none : (x : ℕ) (ns : List ℕ) (vs : List Value) → position x ns ≡ none → lookup x ns vs ≡ none
 look-none x ns vs e = ap (maybe none (getElem? vs)) e
 
-length-names : (vs : List Variable) → length (mathlib.Core.List.map nameOf vs) ≡ length vs
+pub length-names : (vs : List Variable) → length (mathlib.Core.List.map nameOf vs) ≡ length vs
 length-names [] = refl
 length-names (v ∷ vs) = ap suc (length-names vs)
 

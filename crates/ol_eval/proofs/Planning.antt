@@ -46,44 +46,48 @@ sound-call f k n c m h =
     let b = T-and (ltb c k) (mayCall (n .kind) (calleeIn f c .kind)) (a .0) in
     record { lower = ltb→lt c k (b .0); kinds = b .1; arity = eqb→eq m (length (calleeIn f c .inputs)) (a .1) }
 
-module _ (f : File) (k : ℕ) (n : Node) where
+module _ (f : File) (k : ℕ) (n : Node) (P : ℕ → Type 0) (is : (c m : ℕ) → badCall f k n c m ≡ false → P c) where
   abbrev items : ℕ → Expr → List Item
   items = callsWhere (badCall f k n)
 
   mutual
     unfolding collect
 
-    -- the callees of calls without fault are of lower numbers
-    pub sound-below : (at : ℕ) (e : Expr) → Each Sound (collect items at e) → Each (Below k) (callees e)
-    sound-below at (boolLit b) h = tt
-    sound-below at (intLit i) h = tt
-    sound-below at (floatLit b) h = tt
-    sound-below at (charLit c) h = tt
-    sound-below at (var x) h = tt
-    sound-below at (unary op e) h = sound-below (at + 2) e h
-    sound-below at (binary op l r) h =
+    -- the callees of calls without fault are as such a call's is
+    pub sound-each : (at : ℕ) (e : Expr) → Each Sound (collect items at e) → Each P (callees e)
+    sound-each at (boolLit b) h = tt
+    sound-each at (intLit i) h = tt
+    sound-each at (floatLit b) h = tt
+    sound-each at (charLit c) h = tt
+    sound-each at (var x) h = tt
+    sound-each at (unary op e) h = sound-each (at + 2) e h
+    sound-each at (binary op l r) h =
         let t = each-append Sound (collect items (at + 2) l) (collect items (at + 2 + exprSize l) r) h in
-        each-both (Below k) (callees l) (callees r) (sound-below _ l (t .0)) (sound-below _ r (t .1))
-    sound-below at (ifThenElse c t e) h =
+        each-both P (callees l) (callees r) (sound-each _ l (t .0)) (sound-each _ r (t .1))
+    sound-each at (ifThenElse c t e) h =
         let C = collect items (at + 1) c in
         let D = collect items (at + 1 + exprSize c) t in
         let E = collect items (at + 1 + exprSize c + exprSize t) e in
         let u = each-append Sound C (D ++ E) h in
         let v = each-append Sound D E (u .1) in
-        each-both (Below k) (callees c) (callees t ++ callees e) (sound-below _ c (u .0)) (each-both (Below k) (callees t) (callees e) (sound-below _ t (v .0)) (sound-below _ e (v .1)))
-    sound-below at (pre e) h = sound-below (at + 1) e h
-    sound-below at (arrow a b) h =
+        each-both P (callees c) (callees t ++ callees e) (sound-each _ c (u .0)) (each-both P (callees t) (callees e) (sound-each _ t (v .0)) (sound-each _ e (v .1)))
+    sound-each at (pre e) h = sound-each (at + 1) e h
+    sound-each at (arrow a b) h =
         let t = each-append Sound (collect items (at + 1) a) (collect items (at + 1 + exprSize a) b) h in
-        each-both (Below k) (callees a) (callees b) (sound-below _ a (t .0)) (sound-below _ b (t .1))
-    sound-below at (cast t e) h = sound-below _ e h
-    sound-below at (call c es) h = (sound-call f k n c (count es) (h .0) .lower, sounds-below (at + 3) es (h .1))
-    sound-below at (tuple es) h = sounds-below (at + 2) es h
+        each-both P (callees a) (callees b) (sound-each _ a (t .0)) (sound-each _ b (t .1))
+    sound-each at (cast t e) h = sound-each _ e h
+    sound-each at (call c es) h = (is c (count es) (h .0), sounds-each (at + 3) es (h .1))
+    sound-each at (tuple es) h = sounds-each (at + 2) es h
 
-    pub sounds-below : (at : ℕ) (es : Exprs) → Each Sound (collectAll items at es) → Each (Below k) (calleesAll es)
-    sounds-below at nil h = tt
-    sounds-below at (cons e es) h =
+    pub sounds-each : (at : ℕ) (es : Exprs) → Each Sound (collectAll items at es) → Each P (calleesAll es)
+    sounds-each at nil h = tt
+    sounds-each at (cons e es) h =
         let t = each-append Sound (collect items at e) (collectAll items (at + exprSize e) es) h in
-        each-both (Below k) (callees e) (calleesAll es) (sound-below at e (t .0)) (sounds-below _ es (t .1))
+        each-both P (callees e) (calleesAll es) (sound-each at e (t .0)) (sounds-each _ es (t .1))
+
+-- they are of lower numbers
+pub sounds-below : (f : File) (k : ℕ) (n : Node) (at : ℕ) (es : Exprs) → Each Sound (collectAll (callsWhere (badCall f k n)) at es) → Each (Below k) (calleesAll es)
+sounds-below f k n at es h = sounds-each f k n (Below k) (λ c m b. sound-call f k n c m b .lower) at es h
 
 module _ (s : List ℕ) where
   one-collected : {B : Type 0} (g : ℕ → Expr → List B) (level at : ℕ) → ReadsAll s level 1 at → collectAll g at (exprsAt s level 1 at) ≡ collect g at (exprAt s level at)

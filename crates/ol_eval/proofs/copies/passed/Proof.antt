@@ -1,3 +1,16 @@
+-- <uses>
+use mathlib.Core.Path.{sym, ap, _∙_}
+use mathlib.Core.Bool.{Bool}
+use Rattle.ol_spec.specs.declared.Value.{Value}
+use Rattle.ol_spec.specs.Types.{fit}
+use Rattle.ol_spec.specs.Cell.{cell, valueOf}
+use Prim.Native.Nat.{ℕ}
+use mathlib.Core.Path.{_≡_}
+use Rattle.ol_tree.specs.Tables.{codeAt}
+use Rattle.ol_value.specs.Codes.{tyOf}
+use Rattle.ol_eval.specs.Stores.{passedBy}
+use Rattle.ol_eval.proofs.Storing.{kept-back}
+-- </uses>
 use borrow.Author.Needs.{needs}
 use Rattle.ol_eval.proofs.copies.passed.Statement.{statement}
 use Rattle.ol_eval.proofs.copies.passed.Tie as tie
@@ -25,11 +38,15 @@ kept-requires-2 c κs = search needs
 
 -- src/copies.rt:57:1
 returns : tie.Need-returns
-returns c = ?
+returns c =
+    let start = c .before .before .before .before .before in
+    (λ e. c .kept .ensures .0 ∙ c .before .fit-to .ensures e ∙ ap (λ (c : ℕ). fit (tyOf c e) (start .args .v)) (c .before .before .code-of .ensures) ∙ ap (λ (b : Bool). passedBy b (tyOf (codeAt (start .args .tab .now) (start .args .k) (start .args .i)) e) (start .args .v)) (sym (c .before .before .before .if1 .taken)), kept-back (c .kept .result) (c .before .fit-to .result) (c .kept .ensures .0) (c .kept .ensures .1))
 
 -- src/copies.rt:57:1
 returns-2 : tie.Need-returns-2
-returns-2 c = ?
+returns-2 c =
+    let start = c .before .before .before in
+    (λ e. c .kept2 .ensures .0 ∙ ap (λ (b : Bool). passedBy b (tyOf (codeAt (start .args .tab .now) (start .args .k) (start .args .i)) e) (start .args .v)) (sym (c .before .if1 .left)), kept-back (c .kept2 .result) (start .args .v) (c .kept2 .ensures .0) (c .kept2 .ensures .1))
 
 pub passed-spec : {M : Type 1} → statement M
 passed-spec =

@@ -1,3 +1,11 @@
+-- <uses>
+use mathlib.Core.Path.{_≡_, refl, sym, ap, subst, _∙_}
+use Prim.Native.Nat.{ℕ, _+_, _-_, _*_, _≤_, _<_}
+use native.Mathlib.Omega.{arith}
+use lib.ListN.{drop}
+use Rattle.ol_eval.specs.Stores.{Leaves}
+use Rattle.ol_eval.proofs.Storing.{one-output, other-outputs, failed-call, overflowed-call}
+-- </uses>
 use borrow.Author.Needs.{needs}
 use Rattle.ol_eval.proofs.copies.single_out.Statement.{statement}
 use Rattle.ol_eval.proofs.copies.single_out.Tie as tie
@@ -7,27 +15,43 @@ use Rattle.ol_value.proofs.cell.read_cell.Reads as read-cell-reads
 
 -- src/copies.rt:118:45
 mul-read-cell : tie.Need-mul-read-cell
-mul-read-cell c = search needs
+mul-read-cell c =
+    let start = c .before .before .before in
+    omega (arith, start .pre .0)
 
 -- src/copies.rt:118:28
 read-cell-requires : tie.Need-read-cell-requires
-read-cell-requires c κs = search needs
+read-cell-requires c κs =
+    let start = c .before .before .before in
+    start .pre .1
 
 -- src/copies.rt:112:1
 returns : tie.Need-returns
-returns c = ?
+returns c =
+    let start = c .before .before .before .before in
+    let cells = drop (9 * start .args .i) (start .args .cells .now) in
+    λ os h. one-output os (start .args .end) (c .read-cell .result) cells (c .before .before .if1 .taken) (c .read-cell .ensures) (subst (λ (n : ℕ). Leaves os (start .args .end) n cells) (c .before .if2 .taken) h)
 
 -- src/copies.rt:112:1
 returns-2 : tie.Need-returns-2
-returns-2 c = ?
+returns-2 c =
+    let start = c .before .before .before in
+    let cells = drop (9 * start .args .i) (start .args .cells .now) in
+    λ os h. other-outputs os (start .args .end) (start .args .outputs) cells (c .before .if1 .taken) (c .if2 .left) h
 
 -- src/copies.rt:112:1
 returns-3 : tie.Need-returns-3
-returns-3 c = ?
+returns-3 c =
+    let start = c .before .before .before in
+    let cells = drop (9 * start .args .i) (start .args .cells .now) in
+    λ os h. failed-call os (start .args .end) (start .args .outputs) cells (c .if3 .taken) h
 
 -- src/copies.rt:112:1
 returns-4 : tie.Need-returns-4
-returns-4 c = ?
+returns-4 c =
+    let start = c .before .before .before in
+    let cells = drop (9 * start .args .i) (start .args .cells .now) in
+    λ os h. overflowed-call os (start .args .end) (start .args .outputs) cells (c .before .if1 .left) (c .if3 .left) h
 
 pub single-out-spec : {M : Type 1} → statement M
 single-out-spec =
