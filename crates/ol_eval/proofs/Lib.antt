@@ -4,6 +4,7 @@ pub mod Copying
 pub mod Depth
 pub mod Evals
 pub mod Lending
+pub mod MainCycle
 pub mod Naming
 pub mod Passing
 pub mod Planning

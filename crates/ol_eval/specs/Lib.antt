@@ -1,6 +1,7 @@
 pub mod Calls
 pub mod Constants
 pub mod Equations
+pub mod MainCycle
 pub mod Nodes
 pub mod Outcomes
 pub mod Plans
