@@ -1,12 +1,12 @@
 -- Laws of copying cells, passing values on and storing them.
 use Prim.Native.Nat.{ℕ, zero, suc, _+_, _-_, _*_, _<_, _≤_, min}
-use mathlib.Core.Bool.{Bool, true, false}
+use mathlib.Core.Bool.{Bool}
 use mathlib.Core.List.{List, [], _∷_, _++_, map, append-assoc}
 use mathlib.Core.Option.{Option, none, some}
-use mathlib.Core.Path.{_≡_, refl, sym, ap, subst, _∙_}
+use mathlib.Core.Path.{_≡_, refl, sym, ap, _∙_}
 use native.Mathlib.Omega.{arith}
-use lib.ListN.{length, take, drop, getD, set, length-append, length-drop}
-use lib.Seq.{take-at, drop-at, drop-drop, take-add, length-take-le, set-out, set-append-seam}
+use lib.ListN.{length, take, drop, getD, set, length-drop}
+use lib.Seq.{take-at, drop-at, drop-drop, take-add, length-take-le}
 use Rattle.ol_spec.specs.Lists.{position}
 use Rattle.ol_spec.specs.Syntax.{Ty, bool, Variable, Node, variables, variableNames, typeOf}
 use Rattle.ol_spec.specs.Cell.{cell, cells, valueOf, valuesOf}
@@ -18,11 +18,11 @@ use Rattle.ol_spec.specs.declared.Outcome.{Outcome}
 use Rattle.ol_spec.specs.declared.Outcome.the-variants as Out
 use Rattle.ol_spec.proofs.Runs.{length-values}
 use Rattle.ol_value.specs.Codes.{tyOf}
-use Rattle.ol_tree.specs.At.{fileAt, nodeIn}
-use Rattle.ol_tree.specs.Tables.{slotsFrom, slotAt, slotOf, slotBy, codeAt, enumAt, HasSlot}
+use Rattle.ol_tree.specs.At.{nodeIn}
+use Rattle.ol_tree.specs.Tables.{slotsFrom, slotAt, slotBy, codeAt, enumAt, HasSlot}
 use Rattle.ol_eval.specs.Walk.{nodesIn}
 use Rattle.ol_eval.specs.Plans.{Program}
-use Rattle.ol_eval.specs.Stores.{passedBy, cellsIn, Typed, Storable, Stores, StoresOut, Slots, Assignable, Assigns, Leaves}
+use Rattle.ol_eval.specs.Stores.{passedBy, cellsIn, Typed, Storable, Stores, StoresOut, Assignable, Assigns, Leaves}
 use Rattle.ol_eval.proofs.Copying.{values-snoc}
 use Rattle.ol_eval.proofs.Naming.{position-in, length-names}
 use Rattle.ol_eval.proofs.RealKinds.{proper-type}

@@ -1,4 +1,10 @@
 -- The needs of `step_instance`. Assumes nothing.
+-- <uses>
+use mathlib.Core.Path.{refl, ap, _∙_}
+use native.Mathlib.Omega.{arith}
+use lib.ListN.{length}
+use Rattle.ol_eval.proofs.Stepping.{few, long, narrow, inputs-first, own-room, own-new, cells-room, put-length, set-length, cells-new, record-length, fresh-sited, instance-runnable, entered, instance-finished, instance-failed, instance-overflowed}
+-- </uses>
 use Prim.Native.Nat.{ℕ}
 use borrow.Author.Needs.{needs}
 use Rattle.ol_eval.proofs.copies.copy_cells.Reads as copy-cells-reads
@@ -16,106 +22,338 @@ abbrev pub Q : ℕ → step-instance-lts.Claims
 Q t = (row-reads.Asked, row-reads.Learnt, copy-cells-reads.Asked, copy-cells-reads.Learnt, run-below t, run.Post, write-cells-reads.Asked, write-cells-reads.Learnt, write-fresh-reads.Asked, write-fresh-reads.Learnt, copy-reads.Asked, copy-reads.Learnt)
 
 pub row-requires : (t : ℕ) → step-instance-lts.Need-row-requires (Q t) (step-instance-at t) step-instance.Post
-row-requires t c κs = ?
+row-requires t c κs =
+    let start = c .before .before .before .before .before .before .before in
+    let h = start .pre .1 .0 in
+    (long h, few h, omega arith)
 
 pub mul-own : (t : ℕ) → step-instance-lts.Need-mul-own (Q t) (step-instance-at t) step-instance.Post
-mul-own t c = ?
+mul-own t c =
+    let start = c .before .before .before .before .before .before .before .before in
+    let h = start .pre .1 .0 in
+    let n = c .row .result in
+    let w = c .row .ensures in
+    omega (arith, narrow h n w)
 
 pub add-own : (t : ℕ) → step-instance-lts.Need-add-own (Q t) (step-instance-at t) step-instance.Post
-add-own t c = ?
+add-own t c =
+    let start = c .before .before .before .before .before .before .before .before in
+    let h = start .pre .1 .0 in
+    let n = c .row .result in
+    let w = c .row .ensures in
+    omega (arith, narrow h n w)
 
 pub row-requires-2 : (t : ℕ) → step-instance-lts.Need-row-requires-2 (Q t) (step-instance-at t) step-instance.Post
-row-requires-2 t c κs = ?
+row-requires-2 t c κs =
+    let start = c .before .before .before .before .before .before .before .before in
+    let h = start .pre .1 .0 in
+    (long h, few h, omega arith)
 
 pub shared-slice-read-started : (t : ℕ) → step-instance-lts.Need-shared-slice-read-started (Q t) (step-instance-at t) step-instance.Post
-shared-slice-read-started t c = ?
+shared-slice-read-started t c =
+    let start = c .before .before .before .before .before .before .before .before .before .before in
+    let h = start .pre .1 .0 in
+    let o = start .pre .1 .1 in
+    let n = c .before .before .row .result in
+    let w = c .before .before .row .ensures in
+    let room = own-room h n o w in
+    omega (arith, room)
 
 pub sub-copy-cells : (t : ℕ) → step-instance-lts.Need-sub-copy-cells (Q t) (step-instance-at t) step-instance.Post
-sub-copy-cells t c = ?
+sub-copy-cells t c =
+    let start = c .before .before .before .before .before .before .before .before .before .before in
+    let h = start .pre .1 .0 in
+    let o = start .pre .1 .1 in
+    let n = c .before .before .row .result in
+    let w = c .before .before .row .ensures in
+    let room = own-room h n o w in
+    omega (arith, room)
 
 pub part-copy-cells-start : (t : ℕ) → step-instance-lts.Need-part-copy-cells-start (Q t) (step-instance-at t) step-instance.Post
-part-copy-cells-start t c = ?
+part-copy-cells-start t c =
+    let start = c .before .before .before .before .before .before .before .before .before .before in
+    let h = start .pre .1 .0 in
+    let o = start .pre .1 .1 in
+    let n = c .before .before .row .result in
+    let w = c .before .before .row .ensures in
+    let room = own-room h n o w in
+    omega (arith, room)
 
 pub part-copy-cells-end : (t : ℕ) → step-instance-lts.Need-part-copy-cells-end (Q t) (step-instance-at t) step-instance.Post
-part-copy-cells-end t c = ?
+part-copy-cells-end t c =
+    let start = c .before .before .before .before .before .before .before .before .before .before in
+    let h = start .pre .1 .0 in
+    let o = start .pre .1 .1 in
+    let n = c .before .before .row .result in
+    let w = c .before .before .row .ensures in
+    let room = own-room h n o w in
+    omega (arith, room)
 
 pub copy-cells-requires : (t : ℕ) → step-instance-lts.Need-copy-cells-requires (Q t) (step-instance-at t) step-instance.Post
-copy-cells-requires t c κs = ?
+copy-cells-requires t c κs =
+    let start = c .before .before .before .before .before .before .before .before .before .before .before .before in
+    let h = start .pre .1 .0 in
+    let o = start .pre .1 .1 in
+    let n = c .before .before .before .before .row .result in
+    let w = c .before .before .before .before .row .ensures in
+    let i = c .before .before .before .row2 .result in
+    let iw = c .before .before .before .row2 .ensures in
+    (inputs-first h n i w iw, narrow h n w, cells-room h n o w, omega (arith, h .room, narrow h n w))
 
 pub sub-run : (t : ℕ) → step-instance-lts.Need-sub-run (Q t) (step-instance-at t) step-instance.Post
-sub-run t c = ?
+sub-run t c =
+    let start = c .before .before .before .before .before .before .before .before .before .before .before .before .before .before .before .before in
+    let h = start .pre .1 .0 in
+    let o = start .pre .1 .1 in
+    let n = c .before .before .before .before .before .before .before .before .row .result in
+    let w = c .before .before .before .before .before .before .before .before .row .ensures in
+    let room = own-room h n o w in
+    omega (arith, room)
 
 pub part-run-start : (t : ℕ) → step-instance-lts.Need-part-run-start (Q t) (step-instance-at t) step-instance.Post
-part-run-start t c = ?
+part-run-start t c =
+    let start = c .before .before .before .before .before .before .before .before .before .before .before .before .before .before .before .before in
+    let h = start .pre .1 .0 in
+    let o = start .pre .1 .1 in
+    let n = c .before .before .before .before .before .before .before .before .row .result in
+    let w = c .before .before .before .before .before .before .before .before .row .ensures in
+    let room = own-room h n o w in
+    omega (arith, room)
 
 pub part-run-end : (t : ℕ) → step-instance-lts.Need-part-run-end (Q t) (step-instance-at t) step-instance.Post
-part-run-end t c = ?
+part-run-end t c =
+    let start = c .before .before .before .before .before .before .before .before .before .before .before .before .before .before .before .before in
+    let h = start .pre .1 .0 in
+    let o = start .pre .1 .1 in
+    let n = c .before .before .before .before .before .before .before .before .row .result in
+    let w = c .before .before .before .before .before .before .before .before .row .ensures in
+    let room = own-room h n o w in
+    omega (arith, room)
 
 pub sub-run-2 : (t : ℕ) → step-instance-lts.Need-sub-run-2 (Q t) (step-instance-at t) step-instance.Post
-sub-run-2 t c = ?
+sub-run-2 t c =
+    let start = c .before .before .before .before .before .before .before .before .before .before .before .before .before .before .before .before .before in
+    let h = start .pre .1 .0 in
+    let o = start .pre .1 .1 in
+    let n = c .before .before .before .before .before .before .before .before .before .row .result in
+    let w = c .before .before .before .before .before .before .before .before .before .row .ensures in
+    let room = own-room h n o w in
+    omega (arith, room)
 
 pub part-run-start-2 : (t : ℕ) → step-instance-lts.Need-part-run-start-2 (Q t) (step-instance-at t) step-instance.Post
-part-run-start-2 t c = ?
+part-run-start-2 t c =
+    let start = c .before .before .before .before .before .before .before .before .before .before .before .before .before .before .before .before .before in
+    let h = start .pre .1 .0 in
+    let o = start .pre .1 .1 in
+    let n = c .before .before .before .before .before .before .before .before .before .row .result in
+    let w = c .before .before .before .before .before .before .before .before .before .row .ensures in
+    let room = own-room h n o w in
+    omega (arith, room)
 
 pub part-run-end-2 : (t : ℕ) → step-instance-lts.Need-part-run-end-2 (Q t) (step-instance-at t) step-instance.Post
-part-run-end-2 t c = ?
+part-run-end-2 t c =
+    let start = c .before .before .before .before .before .before .before .before .before .before .before .before .before .before .before .before .before in
+    let h = start .pre .1 .0 in
+    let o = start .pre .1 .1 in
+    let n = c .before .before .before .before .before .before .before .before .before .row .result in
+    let w = c .before .before .before .before .before .before .before .before .before .row .ensures in
+    let room = own-room h n o w in
+    omega (arith, room)
 
 pub sub-run-3 : (t : ℕ) → step-instance-lts.Need-sub-run-3 (Q t) (step-instance-at t) step-instance.Post
-sub-run-3 t c = ?
+sub-run-3 t c =
+    let start = c .before .before .before .before .before .before .before .before .before .before .before .before .before .before .before .before .before .before in
+    let h = start .pre .1 .0 in
+    let o = start .pre .1 .1 in
+    let n = c .before .before .before .before .before .before .before .before .before .before .row .result in
+    let w = c .before .before .before .before .before .before .before .before .before .before .row .ensures in
+    omega (arith, own-new h n o w)
 
 pub part-run-start-3 : (t : ℕ) → step-instance-lts.Need-part-run-start-3 (Q t) (step-instance-at t) step-instance.Post
-part-run-start-3 t c = ?
+part-run-start-3 t c =
+    let start = c .before .before .before .before .before .before .before .before .before .before .before .before .before .before .before .before .before .before in
+    let h = start .pre .1 .0 in
+    let o = start .pre .1 .1 in
+    let n = c .before .before .before .before .before .before .before .before .before .before .row .result in
+    let w = c .before .before .before .before .before .before .before .before .before .before .row .ensures in
+    omega (arith, own-new h n o w)
 
 pub part-run-end-3 : (t : ℕ) → step-instance-lts.Need-part-run-end-3 (Q t) (step-instance-at t) step-instance.Post
-part-run-end-3 t c = ?
+part-run-end-3 t c =
+    let start = c .before .before .before .before .before .before .before .before .before .before .before .before .before .before .before .before .before .before in
+    let h = start .pre .1 .0 in
+    let o = start .pre .1 .1 in
+    let n = c .before .before .before .before .before .before .before .before .before .before .row .result in
+    let w = c .before .before .before .before .before .before .before .before .before .before .row .ensures in
+    omega (arith, own-new h n o w)
 
 pub run-requires : (t : ℕ) → step-instance-lts.Need-run-requires (Q t) (step-instance-at t) step-instance.Post
-run-requires t c κs = ?
+run-requires t c κs =
+    let start = c .before .before .before .before .before .before .before .before .before .before .before .before .before .before .before .before .before .before .before in
+    let h = start .pre .1 .0 in
+    let o = start .pre .1 .1 in
+    let n = c .before .before .before .before .before .before .before .before .before .before .before .row .result in
+    let w = c .before .before .before .before .before .before .before .before .before .before .before .row .ensures in
+    (omega (arith, start .pre .0), instance-runnable h n _ o w (c .before .before .before .before .before .before .copy-cells .kept .1 .1 .1 .0))
 
 pub slice-write-new : (t : ℕ) → step-instance-lts.Need-slice-write-new (Q t) (step-instance-at t) step-instance.Post
-slice-write-new t c = ?
+slice-write-new t c =
+    let start = c .before .before .before .before .before .before .before .before .before .before .before .before .before .before .before .before .before .before .before .before .before .before .before .before .before in
+    let h = start .pre .1 .0 in
+    let o = start .pre .1 .1 in
+    let n = c .before .before .before .before .before .before .before .before .before .before .before .before .before .before .before .before .before .row .result in
+    let w = c .before .before .before .before .before .before .before .before .before .before .before .before .before .before .before .before .before .row .ensures in
+    let x = c .before .before .before .before .before .run .last .1 .1 .1 .1 .1 .1 .1 .1 .1 .0 in
+    let kx = c .before .before .before .before .before .run .kept .1 .1 .1 .1 .1 .1 .1 .1 .1 .0 in
+    omega (arith, put-length h n x o w kx, own-new h n o w)
 
 pub sub-write-cells : (t : ℕ) → step-instance-lts.Need-sub-write-cells (Q t) (step-instance-at t) step-instance.Post
-sub-write-cells t c = ?
+sub-write-cells t c =
+    let start = c .before .before .before .before .before .before .before .before .before .before .before .before .before .before .before .before .before .before .before .before .before .before .before .before .before .before in
+    let h = start .pre .1 .0 in
+    let o = start .pre .1 .1 in
+    let n = c .before .before .before .before .before .before .before .before .before .before .before .before .before .before .before .before .before .before .row .result in
+    let w = c .before .before .before .before .before .before .before .before .before .before .before .before .before .before .before .before .before .before .row .ensures in
+    let x = c .before .before .before .before .before .before .run .last .1 .1 .1 .1 .1 .1 .1 .1 .1 .0 in
+    let kx = c .before .before .before .before .before .before .run .kept .1 .1 .1 .1 .1 .1 .1 .1 .1 .0 in
+    omega (arith, set-length h n x o w kx, own-new h n o w)
 
 pub part-write-cells-start : (t : ℕ) → step-instance-lts.Need-part-write-cells-start (Q t) (step-instance-at t) step-instance.Post
-part-write-cells-start t c = ?
+part-write-cells-start t c =
+    let start = c .before .before .before .before .before .before .before .before .before .before .before .before .before .before .before .before .before .before .before .before .before .before .before .before .before .before in
+    let h = start .pre .1 .0 in
+    let o = start .pre .1 .1 in
+    let n = c .before .before .before .before .before .before .before .before .before .before .before .before .before .before .before .before .before .before .row .result in
+    let w = c .before .before .before .before .before .before .before .before .before .before .before .before .before .before .before .before .before .before .row .ensures in
+    let x = c .before .before .before .before .before .before .run .last .1 .1 .1 .1 .1 .1 .1 .1 .1 .0 in
+    let kx = c .before .before .before .before .before .before .run .kept .1 .1 .1 .1 .1 .1 .1 .1 .1 .0 in
+    omega (arith, set-length h n x o w kx, own-new h n o w)
 
 pub part-write-cells-end : (t : ℕ) → step-instance-lts.Need-part-write-cells-end (Q t) (step-instance-at t) step-instance.Post
-part-write-cells-end t c = ?
+part-write-cells-end t c =
+    let start = c .before .before .before .before .before .before .before .before .before .before .before .before .before .before .before .before .before .before .before .before .before .before .before .before .before .before in
+    let h = start .pre .1 .0 in
+    let o = start .pre .1 .1 in
+    let n = c .before .before .before .before .before .before .before .before .before .before .before .before .before .before .before .before .before .before .row .result in
+    let w = c .before .before .before .before .before .before .before .before .before .before .before .before .before .before .before .before .before .before .row .ensures in
+    let x = c .before .before .before .before .before .before .run .last .1 .1 .1 .1 .1 .1 .1 .1 .1 .0 in
+    let kx = c .before .before .before .before .before .before .run .kept .1 .1 .1 .1 .1 .1 .1 .1 .1 .0 in
+    omega (arith, set-length h n x o w kx, own-new h n o w)
 
 pub write-cells-requires : (t : ℕ) → step-instance-lts.Need-write-cells-requires (Q t) (step-instance-at t) step-instance.Post
-write-cells-requires t c κs = ?
+write-cells-requires t c κs =
+    let start = c .before .before .before .before .before .before .before .before .before .before .before .before .before .before .before .before .before .before .before .before .before .before .before .before .before .before .before in
+    let h = start .pre .1 .0 in
+    let o = start .pre .1 .1 in
+    let n = c .before .before .before .before .before .before .before .before .before .before .before .before .before .before .before .before .before .before .before .row .result in
+    let w = c .before .before .before .before .before .before .before .before .before .before .before .before .before .before .before .before .before .before .before .row .ensures in
+    let x = c .before .before .before .before .before .before .before .run .last .1 .1 .1 .1 .1 .1 .1 .1 .1 .0 in
+    let kx = c .before .before .before .before .before .before .before .run .kept .1 .1 .1 .1 .1 .1 .1 .1 .1 .0 in
+    let kc = c .before .before .before .before .before .before .before .run .kept .1 .1 .1 .1 .1 .1 .0 ∙ c .before .before .before .before .before .before .before .before .before .before .before .before .before .before .copy-cells .kept .1 .1 .1 .0 in
+    (narrow h n w, omega (arith, kc, h .room, narrow h n w), cells-new h n x o w kx)
 
 pub write-fresh-requires : (t : ℕ) → step-instance-lts.Need-write-fresh-requires (Q t) (step-instance-at t) step-instance.Post
-write-fresh-requires t c κs = ?
+write-fresh-requires t c κs =
+    let start = c .before .before .before .before .before .before .before .before .before .before .before .before .before .before .before .before .before .before .before .before .before .before .before .before .before .before .before in
+    let h = start .pre .1 .0 in
+    let o = start .pre .1 .1 in
+    let n = c .before .before .before .before .before .before .before .before .before .before .before .before .before .before .before .before .before .before .before .row .result in
+    let w = c .before .before .before .before .before .before .before .before .before .before .before .before .before .before .before .before .before .before .before .row .ensures in
+    let x = c .before .before .before .before .before .before .before .run .last .1 .1 .1 .1 .1 .1 .1 .1 .1 .0 in
+    let kx = c .before .before .before .before .before .before .before .run .kept .1 .1 .1 .1 .1 .1 .1 .1 .1 .0 in
+    fresh-sited h n x o w kx
 
 pub copy-requires : (t : ℕ) → step-instance-lts.Need-copy-requires (Q t) (step-instance-at t) step-instance.Post
-copy-requires t c κs = ?
+copy-requires t c κs =
+    let start = c .before .before .before .before .before .before .before .before .before .before .before .before .before .before .before .before .before .before .before .before .before .before .before .before .before .before .before in
+    let h = start .pre .1 .0 in
+    let o = start .pre .1 .1 in
+    let n = c .before .before .before .before .before .before .before .before .before .before .before .before .before .before .before .before .before .before .before .row .result in
+    let w = c .before .before .before .before .before .before .before .before .before .before .before .before .before .before .before .before .before .before .before .row .ensures in
+    let x = c .before .before .before .before .before .before .before .run .last .1 .1 .1 .1 .1 .1 .1 .1 .1 .0 in
+    let kx = c .before .before .before .before .before .before .before .run .kept .1 .1 .1 .1 .1 .1 .1 .1 .1 .0 in
+    put-length h n x o w kx ∙ ap length (h .same)
 
 pub same-length : (t : ℕ) → step-instance-lts.Need-same-length (Q t) (step-instance-at t) step-instance.Post
-same-length t c = ?
+same-length t c =
+    let kc = c .before .before .before .before .before .before .before .before .before .before .run .kept .1 .1 .1 .1 .1 .1 .0 ∙ c .before .before .before .before .before .before .before .before .before .before .before .before .before .before .before .before .before .copy-cells .kept .1 .1 .1 .0 in
+    kc
 
 pub same-length-2 : (t : ℕ) → step-instance-lts.Need-same-length-2 (Q t) (step-instance-at t) step-instance.Post
-same-length-2 t c = ?
+same-length-2 t c =
+    let start = c .before .before .before .before .before .before .before .before .before .before .before .before .before .before .before .before .before .before .before .before .before .before .before .before .before .before .before .before .before .before in
+    let h = start .pre .1 .0 in
+    let o = start .pre .1 .1 in
+    let n = c .before .before .before .before .before .before .before .before .before .before .before .before .before .before .before .before .before .before .before .before .before .before .row .result in
+    let w = c .before .before .before .before .before .before .before .before .before .before .before .before .before .before .before .before .before .before .before .before .before .before .row .ensures in
+    let x = c .before .before .before .before .before .before .before .before .before .before .run .last .1 .1 .1 .1 .1 .1 .1 .1 .1 .0 in
+    let kx = c .before .before .before .before .before .before .before .before .before .before .run .kept .1 .1 .1 .1 .1 .1 .1 .1 .1 .0 in
+    record-length h n x (c .before .before .write-cells .last .1 .1 .0) o w kx (c .before .before .write-cells .kept .1 .1 .0)
 
 pub returns : (t : ℕ) → step-instance-lts.Need-returns (Q t) (step-instance-at t) step-instance.Post
-returns t c = ?
+returns t c =
+    let start = c .before .before .before .before .before .before .before .before .before .before .before .before .before .before .before .before .before .before .before .before .before .before .before .before .before .before .before .before .before .before in
+    let h = start .pre .1 .0 in
+    let o = start .pre .1 .1 in
+    let w = c .before .before .before .before .before .before .before .before .before .before .before .before .before .before .before .before .before .before .before .before .before .before .row .ensures in
+    let iw = c .before .before .before .before .before .before .before .before .before .before .before .before .before .before .before .before .before .before .before .before .before .row2 .ensures in
+    let cells = c .before .before .before .before .before .before .before .before .before .before .run .last .1 .1 .1 .1 .1 .1 .0 in
+    let x = c .before .before .before .before .before .before .before .before .before .before .run .last .1 .1 .1 .1 .1 .1 .1 .1 .1 .0 in
+    let e = entered h o w iw refl (c .before .before .before .before .before .before .before .before .before .before .before .before .before .before .before .before .before .copy-cells .ensures) in
+    instance-finished e (c .before .before .before .before .before .before .before .before .before .before .run .result) cells x (c .before .before .write-cells .last .1 .1 .0) (c .before .before .before .before .before .before .before .before .before .before .run .ensures) (c .before .before .before .before .before .if1 .taken) (c .before .before .write-cells .ensures)
 
 pub same-length-3 : (t : ℕ) → step-instance-lts.Need-same-length-3 (Q t) (step-instance-at t) step-instance.Post
-same-length-3 t c = ?
+same-length-3 t c =
+    let kc = c .before .before .before .before .before .before .before .before .before .before .run .kept .1 .1 .1 .1 .1 .1 .0 ∙ c .before .before .before .before .before .before .before .before .before .before .before .before .before .before .before .before .before .copy-cells .kept .1 .1 .1 .0 in
+    kc
 
 pub same-length-4 : (t : ℕ) → step-instance-lts.Need-same-length-4 (Q t) (step-instance-at t) step-instance.Post
-same-length-4 t c = ?
+same-length-4 t c =
+    let start = c .before .before .before .before .before .before .before .before .before .before .before .before .before .before .before .before .before .before .before .before .before .before .before .before .before .before .before .before .before .before in
+    let h = start .pre .1 .0 in
+    let o = start .pre .1 .1 in
+    let n = c .before .before .before .before .before .before .before .before .before .before .before .before .before .before .before .before .before .before .before .before .before .before .row .result in
+    let w = c .before .before .before .before .before .before .before .before .before .before .before .before .before .before .before .before .before .before .before .before .before .before .row .ensures in
+    let x = c .before .before .before .before .before .before .before .before .before .before .run .last .1 .1 .1 .1 .1 .1 .1 .1 .1 .0 in
+    let kx = c .before .before .before .before .before .before .before .before .before .before .run .kept .1 .1 .1 .1 .1 .1 .1 .1 .1 .0 in
+    c .before .before .write-fresh .kept .1 .1 .1 .1 .0 ∙ put-length h n x o w kx
 
 pub returns-2 : (t : ℕ) → step-instance-lts.Need-returns-2 (Q t) (step-instance-at t) step-instance.Post
-returns-2 t c = ?
+returns-2 t c =
+    let start = c .before .before .before .before .before .before .before .before .before .before .before .before .before .before .before .before .before .before .before .before .before .before .before .before .before .before .before .before .before .before in
+    let h = start .pre .1 .0 in
+    let o = start .pre .1 .1 in
+    let w = c .before .before .before .before .before .before .before .before .before .before .before .before .before .before .before .before .before .before .before .before .before .before .row .ensures in
+    let iw = c .before .before .before .before .before .before .before .before .before .before .before .before .before .before .before .before .before .before .before .before .before .row2 .ensures in
+    let cells = c .before .before .before .before .before .before .before .before .before .before .run .last .1 .1 .1 .1 .1 .1 .0 in
+    let x = c .before .before .before .before .before .before .before .before .before .before .run .last .1 .1 .1 .1 .1 .1 .1 .1 .1 .0 in
+    let e = entered h o w iw refl (c .before .before .before .before .before .before .before .before .before .before .before .before .before .before .before .before .before .copy-cells .ensures) in
+    instance-failed e (c .before .before .before .before .before .before .before .before .before .before .run .result) cells x (c .before .before .write-fresh .last .1 .1 .1 .1 .0) (c .before .before .before .before .before .before .before .before .before .before .run .ensures) (c .before .before .before .before .if2 .taken) (c .before .before .write-fresh .ensures)
 
 pub same-length-5 : (t : ℕ) → step-instance-lts.Need-same-length-5 (Q t) (step-instance-at t) step-instance.Post
-same-length-5 t c = ?
+same-length-5 t c =
+    let kc = c .before .before .before .before .before .before .before .before .before .before .run .kept .1 .1 .1 .1 .1 .1 .0 ∙ c .before .before .before .before .before .before .before .before .before .before .before .before .before .before .before .before .before .copy-cells .kept .1 .1 .1 .0 in
+    kc
 
 pub same-length-6 : (t : ℕ) → step-instance-lts.Need-same-length-6 (Q t) (step-instance-at t) step-instance.Post
-same-length-6 t c = ?
+same-length-6 t c =
+    let start = c .before .before .before .before .before .before .before .before .before .before .before .before .before .before .before .before .before .before .before .before .before .before .before .before .before .before .before .before .before .before in
+    let h = start .pre .1 .0 in
+    let o = start .pre .1 .1 in
+    let n = c .before .before .before .before .before .before .before .before .before .before .before .before .before .before .before .before .before .before .before .before .before .before .row .result in
+    let w = c .before .before .before .before .before .before .before .before .before .before .before .before .before .before .before .before .before .before .before .before .before .before .row .ensures in
+    let x = c .before .before .before .before .before .before .before .before .before .before .run .last .1 .1 .1 .1 .1 .1 .1 .1 .1 .0 in
+    let kx = c .before .before .before .before .before .before .before .before .before .before .run .kept .1 .1 .1 .1 .1 .1 .1 .1 .1 .0 in
+    c .before .before .copy .kept .1 .0 ∙ put-length h n x o w kx
 
 pub returns-3 : (t : ℕ) → step-instance-lts.Need-returns-3 (Q t) (step-instance-at t) step-instance.Post
-returns-3 t c = ?
+returns-3 t c =
+    let start = c .before .before .before .before .before .before .before .before .before .before .before .before .before .before .before .before .before .before .before .before .before .before .before .before .before .before .before .before .before .before in
+    let h = start .pre .1 .0 in
+    let o = start .pre .1 .1 in
+    let w = c .before .before .before .before .before .before .before .before .before .before .before .before .before .before .before .before .before .before .before .before .before .before .row .ensures in
+    let iw = c .before .before .before .before .before .before .before .before .before .before .before .before .before .before .before .before .before .before .before .before .before .row2 .ensures in
+    let cells = c .before .before .before .before .before .before .before .before .before .before .run .last .1 .1 .1 .1 .1 .1 .0 in
+    let x = c .before .before .before .before .before .before .before .before .before .before .run .last .1 .1 .1 .1 .1 .1 .1 .1 .1 .0 in
+    let e = entered h o w iw refl (c .before .before .before .before .before .before .before .before .before .before .before .before .before .before .before .before .before .copy-cells .ensures) in
+    instance-overflowed e (c .before .before .before .before .before .before .before .before .before .before .run .result) cells x (c .before .before .copy .last .1 .0) (c .before .before .before .before .before .before .before .before .before .before .run .ensures) (c .before .before .before .before .before .if1 .left) (c .before .before .before .before .if2 .left) (c .before .before .copy .ensures)
