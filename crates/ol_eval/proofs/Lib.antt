@@ -1,7 +1,10 @@
+pub mod Arguments
 pub mod Backs
+pub mod Calling
 pub mod Constant
 pub mod Copying
 pub mod Depth
+pub mod Equating
 pub mod Evals
 pub mod Lending
 pub mod MainCycle
@@ -10,5 +13,8 @@ pub mod Passing
 pub mod Planning
 pub mod Readying
 pub mod RealKinds
+pub mod Rights
+pub mod Running
 pub mod Stepping
 pub mod Storing
+pub mod Turns

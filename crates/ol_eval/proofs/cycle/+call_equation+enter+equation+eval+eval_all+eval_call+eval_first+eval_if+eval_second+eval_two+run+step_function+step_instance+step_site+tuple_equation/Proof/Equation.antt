@@ -1,4 +1,11 @@
 -- The needs of `equation`. Assumes nothing.
+-- <uses>
+use mathlib.Core.Path.{_≡_, refl, sym, ap, subst, _∙_}
+use Prim.Native.Nat.{_+_, _-_, _*_, _≤_, _<_}
+use native.Mathlib.Omega.{arith}
+use lib.ListN.{length, getD}
+use Rattle.ol_eval.proofs.Rights.{names-inside, right-place, right-ready, equation-ready, first-storable, one-done}
+-- </uses>
 use Prim.Native.Nat.{ℕ}
 use borrow.Author.Needs.{needs}
 use Rattle.ol_eval.proofs.cycle.call_equation.Reads as call-equation
@@ -15,61 +22,117 @@ abbrev pub Q : ℕ → equation-lts.Claims
 Q t = (number-reads.Asked, number-reads.Learnt, call-equation-below t, call-equation.Post, tuple-equation-below t, tuple-equation.Post, eval-below t, eval.Post, store-out-reads.Asked, store-out-reads.Learnt)
 
 pub shared-slice-read-number : (t : ℕ) → equation-lts.Need-shared-slice-read-number (Q t) (equation-at t) equation.Post
-shared-slice-read-number t c = ?
+shared-slice-read-number t c =
+    let start = c .before .before .before .before .before .before .before .before .before in
+    let p = start .pre .1 in
+    omega (arith, names-inside p (getD (start .args .file .now) (start .args .at) 0) refl)
 
 pub number-requires : (t : ℕ) → equation-lts.Need-number-requires (Q t) (equation-at t) equation.Post
-number-requires t c κs = ?
+number-requires t c κs = tt
 
 pub add-rhs : (t : ℕ) → equation-lts.Need-add-rhs (Q t) (equation-at t) equation.Post
-add-rhs t c = ?
+add-rhs t c =
+    let start = c .before .before .before .before .before .before .before .before .before .before in
+    let p = start .pre .1 in
+    let n = c .number .result in
+    let ne = c .number .ensures .0 in
+    let s = names-inside p n ne in
+    omega (arith, s .0, s .1)
 
 pub mul-rhs : (t : ℕ) → equation-lts.Need-mul-rhs (Q t) (equation-at t) equation.Post
-mul-rhs t c = ?
+mul-rhs t c =
+    let start = c .before .before .before .before .before .before .before .before .before .before in
+    let p = start .pre .1 in
+    let n = c .number .result in
+    let ne = c .number .ensures .0 in
+    let s = names-inside p n ne in
+    omega (arith, s .0, s .1)
 
 pub add-rhs-2 : (t : ℕ) → equation-lts.Need-add-rhs-2 (Q t) (equation-at t) equation.Post
-add-rhs-2 t c = ?
+add-rhs-2 t c =
+    let start = c .before .before .before .before .before .before .before .before .before .before in
+    let p = start .pre .1 in
+    let n = c .number .result in
+    let ne = c .number .ensures .0 in
+    let s = names-inside p n ne in
+    omega (arith, s .0, s .1)
 
 pub shared-slice-read-code : (t : ℕ) → equation-lts.Need-shared-slice-read-code (Q t) (equation-at t) equation.Post
-shared-slice-read-code t c = ?
+shared-slice-read-code t c =
+    let start = c .before .before .before .before .before .before .before .before .before .before .before in
+    let p = start .pre .1 in
+    let n = c .before .number .result in
+    let ne = c .before .number .ensures .0 in
+    let s = names-inside p n ne in
+    s .0
 
 pub call-equation-requires : (t : ℕ) → equation-lts.Need-call-equation-requires (Q t) (equation-at t) equation.Post
-call-equation-requires t c κs = ?
+call-equation-requires t c κs =
+    let start = c .before .before .before .before .before .before .before .before .before .before .before .before .before .before in
+    let p = start .pre .1 in
+    let n = c .before .before .before .before .number .result in
+    let ne = c .before .before .before .before .number .ensures .0 in
+    (omega (arith, start .pre .0), (p, right-ready p n 11 ne (c .before .before .if1 .taken)))
 
 pub tuple-equation-requires : (t : ℕ) → equation-lts.Need-tuple-equation-requires (Q t) (equation-at t) equation.Post
-tuple-equation-requires t c κs = ?
+tuple-equation-requires t c κs =
+    let start = c .before .before .before .before .before .before .before .before .before .before .before .before .before .before .before in
+    let p = start .pre .1 in
+    let n = c .before .before .before .before .before .number .result in
+    let ne = c .before .before .before .before .before .number .ensures .0 in
+    (omega (arith, start .pre .0), (p, right-ready p n 12 ne (c .before .before .if2 .taken)))
 
 pub eval-requires : (t : ℕ) → equation-lts.Need-eval-requires (Q t) (equation-at t) equation.Post
-eval-requires t c κs = ?
+eval-requires t c κs =
+    let start = c .before .before .before .before .before .before .before .before .before .before .before .before .before .before .before in
+    let p = start .pre .1 in
+    let n = c .before .before .before .before .before .number .result in
+    let ne = c .before .before .before .before .before .number .ensures .0 in
+    (omega (arith, start .pre .0), equation-ready p ((start .args .at + 1 + 2 * n)) (right-place p n ne))
 
 pub add-store-out : (t : ℕ) → equation-lts.Need-add-store-out (Q t) (equation-at t) equation.Post
-add-store-out t c = ?
+add-store-out t c =
+    let start = c .before .before .before .before .before .before .before .before .before .before .before .before .before .before .before .before .before .before in
+    let p = start .pre .1 in
+    let n = c .before .before .before .before .before .before .before .before .number .result in
+    let ne = c .before .before .before .before .before .before .before .before .number .ensures .0 in
+    let s = names-inside p n ne in
+    omega (arith, s .0, s .1)
 
 pub store-out-requires : (t : ℕ) → equation-lts.Need-store-out-requires (Q t) (equation-at t) equation.Post
-store-out-requires t c κs = ?
+store-out-requires t c κs =
+    let start = c .before .before .before .before .before .before .before .before .before .before .before .before .before .before .before .before .before .before .before in
+    let p = start .pre .1 in
+    first-storable p
 
 pub same-length : (t : ℕ) → equation-lts.Need-same-length (Q t) (equation-at t) equation.Post
-same-length t c = ?
+same-length t c = c .before .before .before .before .call-equation .kept .1 .1 .1 .1 .1 .1 .1 .1 .1 .1 .0
 
 pub same-length-2 : (t : ℕ) → equation-lts.Need-same-length-2 (Q t) (equation-at t) equation.Post
-same-length-2 t c = ?
+same-length-2 t c = c .before .before .before .before .call-equation .kept .1 .1 .1 .1 .1 .1 .1 .1 .1 .1 .1 .1 .1 .0
 
 pub returns : (t : ℕ) → equation-lts.Need-returns (Q t) (equation-at t) equation.Post
-returns t c = ?
+returns t c = c .before .before .before .before .call-equation .ensures
 
 pub same-length-3 : (t : ℕ) → equation-lts.Need-same-length-3 (Q t) (equation-at t) equation.Post
-same-length-3 t c = ?
+same-length-3 t c = c .before .before .before .before .tuple-equation .kept .1 .1 .1 .1 .1 .1 .1 .1 .1 .1 .0
 
 pub same-length-4 : (t : ℕ) → equation-lts.Need-same-length-4 (Q t) (equation-at t) equation.Post
-same-length-4 t c = ?
+same-length-4 t c = c .before .before .before .before .tuple-equation .kept .1 .1 .1 .1 .1 .1 .1 .1 .1 .1 .1 .1 .1 .0
 
 pub returns-2 : (t : ℕ) → equation-lts.Need-returns-2 (Q t) (equation-at t) equation.Post
-returns-2 t c = ?
+returns-2 t c = c .before .before .before .before .tuple-equation .ensures
 
 pub same-length-5 : (t : ℕ) → equation-lts.Need-same-length-5 (Q t) (equation-at t) equation.Post
-same-length-5 t c = ?
+same-length-5 t c = c .before .before .store-out .kept .1 .1 .1 .1 .0
 
 pub same-length-6 : (t : ℕ) → equation-lts.Need-same-length-6 (Q t) (equation-at t) equation.Post
-same-length-6 t c = ?
+same-length-6 t c = c .before .before .before .before .before .before .eval .kept .1 .1 .1 .1 .1 .1 .1 .1 .1 .1 .1 .0
 
 pub returns-3 : (t : ℕ) → equation-lts.Need-returns-3 (Q t) (equation-at t) equation.Post
-returns-3 t c = ?
+returns-3 t c =
+    let start = c .before .before .before .before .before .before .before .before .before .before .before .before .before .before .before .before .before .before .before .before .before .before in
+    let p = start .pre .1 in
+    let n = c .before .before .before .before .before .before .before .before .before .before .before .before .number .result in
+    let ne = c .before .before .before .before .before .before .before .before .before .before .before .before .number .ensures .0 in
+    one-done p (start .args .first) ((start .args .at + 1 + 2 * n)) (c .before .before .store-out .result) (c .before .before .store-out .last .1 .1 .1 .1 .0) (right-place p n ne) (c .before .before .before .before .before .before .before .before .before .before .if1 .left) (c .before .before .before .before .before .before .before .before .before .if2 .left) (c .before .before .before .before .before .before .eval .ensures) (c .before .before .store-out .ensures .0) (c .before .before .store-out .ensures .1)

@@ -1,4 +1,17 @@
 -- The needs of `eval_call`. Assumes nothing.
+-- <uses>
+use mathlib.Core.Path.{_≡_, refl, sym, ap, subst, _∙_}
+use mathlib.Core.Bool.{Bool, true, false}
+use mathlib.Core.List.{List, _++_}
+use Prim.Native.Nat.{ℕ, _+_, _-_, _*_, _≤_, _<_}
+use native.Mathlib.Omega.{arith}
+use lib.ListN.{length, take, drop, getD}
+use lib.Seq.{length-take-le}
+use Rattle.ol_tree.proofs.Forms.{reads-in}
+use Rattle.ol_eval.proofs.Lending.{length-put, length-put-front, putTail}
+use Rattle.ol_eval.proofs.Planning.{plan-head}
+use Rattle.ol_eval.proofs.Calling.{call-at, call-small, call-cells, call-single}
+-- </uses>
 use Prim.Native.Nat.{ℕ}
 use borrow.Author.Needs.{needs}
 use Rattle.ol_eval.proofs.cycle.enter.Reads as enter
@@ -14,34 +27,93 @@ abbrev pub Q : ℕ → eval-call-lts.Claims
 Q t = (enter-below t, enter.Post, number-reads.Asked, number-reads.Learnt, row-reads.Asked, row-reads.Learnt, single-out-reads.Asked, single-out-reads.Learnt)
 
 pub slice-aggregate-enter : (t : ℕ) → eval-call-lts.Need-slice-aggregate-enter (Q t) (eval-call-at t) eval-call.Post
-slice-aggregate-enter t c = ?
+slice-aggregate-enter t c = refl
 
 pub enter-requires : (t : ℕ) → eval-call-lts.Need-enter-requires (Q t) (eval-call-at t) eval-call.Post
-enter-requires t c κs = ?
+enter-requires t c κs =
+    let start = c .before .before .before .before .before .before .before .before .before .before in
+    let p = start .pre .1 .0 in
+    let b = start .pre .1 .1 in
+    (omega (arith, start .pre .0), (p, b, refl))
 
 pub add-p : (t : ℕ) → eval-call-lts.Need-add-p (Q t) (eval-call-at t) eval-call.Post
-add-p t c = ?
+add-p t c =
+    let start = c .before .before .before .before .before .before .before .before .before .before .before .before .before .before in
+    let p = start .pre .1 .0 in
+    let f = start .args .file .now in
+    let a = start .args .at in
+    omega (arith, reads-in f (start .args .level) a (plan-head f (p .plan)), start .good)
 
 pub shared-slice-read-number : (t : ℕ) → eval-call-lts.Need-shared-slice-read-number (Q t) (eval-call-at t) eval-call.Post
-shared-slice-read-number t c = ?
+shared-slice-read-number t c =
+    let start = c .before .before .before .before .before .before .before .before .before .before .before .before .before .before .before in
+    let p = start .pre .1 .0 in
+    let b = start .pre .1 .1 in
+    let f = start .args .file .now in
+    let a = start .args .at in
+    let n = getD f (a + 2) 0 in
+    omega (arith, call-at p b (getD f (a + 1) 0) n refl refl .inside)
 
 pub number-requires : (t : ℕ) → eval-call-lts.Need-number-requires (Q t) (eval-call-at t) eval-call.Post
-number-requires t c κs = ?
+number-requires t c κs = tt
 
 pub row-requires : (t : ℕ) → eval-call-lts.Need-row-requires (Q t) (eval-call-at t) eval-call.Post
-row-requires t c κs = ?
+row-requires t c κs =
+    let start = c .before .before .before .before .before .before .before .before .before .before .before .before .before .before .before .before in
+    let p = start .pre .1 .0 in
+    let b = start .pre .1 .1 in
+    let f = start .args .file .now in
+    let a = start .args .at in
+    let n = getD f (a + 2) 0 in
+    let k = c .number .result in
+    let kE = c .number .ensures .0 in
+    let T = p .plan .program .sized .table .long in
+    (T, call-small p b k n kE refl, omega arith)
 
 pub row-requires-2 : (t : ℕ) → eval-call-lts.Need-row-requires-2 (Q t) (eval-call-at t) eval-call.Post
-row-requires-2 t c κs = ?
+row-requires-2 t c κs =
+    let start = c .before .before .before .before .before .before .before .before .before .before .before .before .before .before .before .before .before in
+    let p = start .pre .1 .0 in
+    let b = start .pre .1 .1 in
+    let f = start .args .file .now in
+    let a = start .args .at in
+    let n = getD f (a + 2) 0 in
+    let k = c .before .number .result in
+    let kE = c .before .number .ensures .0 in
+    let T = p .plan .program .sized .table .long in
+    (T, call-small p b k n kE refl, omega arith)
 
 pub slice-aggregate-single-out : (t : ℕ) → eval-call-lts.Need-slice-aggregate-single-out (Q t) (eval-call-at t) eval-call.Post
-slice-aggregate-single-out t c = ?
+slice-aggregate-single-out t c =
+    let K = c .before .before .before .before .before .before .before .before .enter .kept .1 .1 .1 .1 .1 .1 .1 .1 .1 .1 .0 in
+    sym K
 
 pub single-out-requires : (t : ℕ) → eval-call-lts.Need-single-out-requires (Q t) (eval-call-at t) eval-call.Post
-single-out-requires t c κs = ?
+single-out-requires t c κs =
+    let start = c .before .before .before .before .before .before .before .before .before .before .before .before .before .before .before .before .before .before .before in
+    let p = start .pre .1 .0 in
+    let b = start .pre .1 .1 in
+    let f = start .args .file .now in
+    let a = start .args .at in
+    let n = getD f (a + 2) 0 in
+    let k = c .before .before .before .number .result in
+    let kE = c .before .before .before .number .ensures .0 in
+    let K = c .before .before .before .before .before .before .before .before .enter .kept .1 .1 .1 .1 .1 .1 .1 .1 .1 .1 .0 in
+    let i = call-cells p b k n kE refl (c .before .row2 .result) (c .before .row2 .ensures) in
+    (omega (arith, i), omega (arith, i, K))
 
 pub same-length : (t : ℕ) → eval-call-lts.Need-same-length (Q t) (eval-call-at t) eval-call.Post
-same-length t c = ?
+same-length t c = c .before .before .before .before .before .before .before .before .before .enter .kept .1 .1 .1 .1 .1 .1 .1 .1 .1 .1 .1 .1 .0
 
 pub returns : (t : ℕ) → eval-call-lts.Need-returns (Q t) (eval-call-at t) eval-call.Post
-returns t c = ?
+returns t c =
+    let start = c .before .before .before .before .before .before .before .before .before .before .before .before .before .before .before .before .before .before .before .before in
+    let p = start .pre .1 .0 in
+    let b = start .pre .1 .1 in
+    let f = start .args .file .now in
+    let a = start .args .at in
+    let n = getD f (a + 2) 0 in
+    let k = c .before .before .before .before .number .result in
+    let kE = c .before .before .before .before .number .ensures .0 in
+    let C = c .before .before .before .before .before .before .before .before .before .enter .last .1 .1 .1 .1 .1 .1 .1 .1 .1 .1 .0 in
+    call-single p b k n kE refl (start .args .first) C (c .before .before .before .row .result) (c .before .before .row2 .result) (c .before .before .before .before .before .before .before .before .before .enter .ensures) (c .before .before .before .row .ensures) (c .before .before .row2 .ensures) (c .single-out .ensures)

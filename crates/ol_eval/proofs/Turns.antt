@@ -1,0 +1,188 @@
+-- Laws of the run of a node's equations, over the bytes of the file and of the state.
+use Prim.Native.Nat.{ℕ, suc, _+_, _-_, _<_, _≤_}
+use mathlib.Core.Bool.{Bool}
+use mathlib.Core.List.{List, _∷_, _++_}
+use mathlib.Core.Path.{_≡_, refl, sym, ap, subst, _∙_}
+use native.Mathlib.Omega.{arith}
+use lib.ListN.{length, take, drop, getD, drop-of-length-le}
+use lib.Seq.{drop-cons}
+use Rattle.ol_spec.specs.Cell.{valuesOf}
+use Rattle.ol_spec.specs.Order.{order}
+use Rattle.ol_spec.specs.Eval.{Evals, Outcomes, values, failure, overflow, callees, calleesAll, sitesSize}
+use Rattle.ol_spec.specs.Step.{sites, assign, finished, failedAt, overflowedAt, evalEquation, calls}
+use Rattle.ol_spec.specs.Step.{Ended as Ending}
+use Rattle.ol_spec.specs.declared.Value.{Value}
+use Rattle.ol_tree.specs.At.{fileAt, nodeIn, exprsAt}
+use Rattle.ol_tree.specs.Tables.{Each}
+use Rattle.ol_eval.specs.Walk.{nodesIn, sizesIn, Below}
+use Rattle.ol_eval.specs.Plans.{globalsIn, widthIn}
+use Rattle.ol_eval.specs.Nodes.{Running}
+use Rattle.ol_eval.specs.Calls.{endCode, Holds, Did, Runnable, runIn, EndsAs, RunTo, EquationReady, EquationTo}
+use Rattle.ol_eval.specs.Equations.{countIn, rhsIn, equationIn, EquationsStand, EquationsAre, offsetIn}
+use Rattle.ol_eval.proofs.Passing.{callees-one}
+use Rattle.ol_eval.proofs.Planning.{each-map, sounds-below}
+use Rattle.ol_eval.proofs.Equating.{offset-suc, offset-upto}
+use Rattle.ol_eval.proofs.Running.{midOf, putMid, length-mid, segOf, putSeg, sizeOf, Left, rightOf, left-start, left-turn, left-failed, left-over, left-done}
+
+-- the equations of a node that can be run stand in the file
+pub stands : {file tab rows consts : List ℕ} (k : ℕ) → Running file tab rows consts → k < nodesIn file → sitesSize (sizesIn file) (sites (nodeIn file k)) ≤ 32768 → EquationsStand file rows k
+stands {file} k r b room =
+    let n = r .nodes k b in
+    record {
+      sized = r .program .sized;
+      inside = b;
+      few = n .few;
+      room = room;
+      each = λ i h.
+          let q = n .equations i h in
+          let a = rhsIn file k i in
+          let c = callees-one file 24 a (q .plan .reads) ∙ ap callees (q .tree) in
+          record {
+            count = q .count;
+            reads = q .plan .reads;
+            tree = q .tree;
+            below = subst (Each (Below (nodesIn file))) c (each-map (Below k) (Below (nodesIn file)) (λ x l. omega arith) (calleesAll (exprsAt file 24 1 a)) (sounds-below (fileAt file) k (nodeIn file k) a (exprsAt file 24 1 a) (q .plan .sound)));
+          };
+    }
+
+-- equation i's part of the state, by where it starts and ends
+mid-seg : (file consts : List ℕ) (k i a b : ℕ) (s : List ℕ) → i < countIn file k → a ≡ offsetIn file k i → b ≡ offsetIn file k (suc i) → midOf a b s ≡ segOf (globalsIn file consts) (nodeIn file k .equations) i s
+mid-seg file consts k i a b s h e f =
+    let z : b - a ≡ sitesSize (sizesIn file) (callees (equationIn file k i .rhs)) = omega (arith, e, f, offset-suc file k i h) in
+    λ j. take (z j) (drop (e j) s)
+
+put-seg : (file consts : List ℕ) (k i a b : ℕ) (s x : List ℕ) → i < countIn file k → a ≡ offsetIn file k i → b ≡ offsetIn file k (suc i) → putMid a b s x ≡ putSeg (globalsIn file consts) (nodeIn file k .equations) i s x
+put-seg file consts k i a b s x h e f =
+    let z : b - a ≡ sitesSize (sizesIn file) (callees (equationIn file k i .rhs)) = omega (arith, e, f, offset-suc file k i h) in
+    λ j. take (e j) s ++ (x ++ drop (z j) (drop (e j) s))
+
+-- what is left of the run of node k
+abbrev pub LeftIn : List ℕ → List ℕ → ℕ → Bool → List ℕ → List ℕ → List ℕ → List ℕ → List ℕ → List ℕ → Type 0
+LeftIn file consts k first cells₀ before old is cells new =
+    Left (globalsIn file consts) (calls (globalsIn file consts)) (nodeIn file k) first (valuesOf (widthIn file k) before) (runIn file consts k first cells₀ before old) is (valuesOf (widthIn file k) cells) old new
+
+pub run-start : {file tab rows consts : List ℕ} {k : ℕ} (first : Bool) {cells before old new : List ℕ} → Runnable file tab rows consts k cells before old new → LeftIn file consts k first cells before old (order (nodeIn file k .equations)) cells new
+run-start {file} {tab} {rows} {consts} {k} first {cells} {before} {old} p =
+    let n = p .running .nodes k (p .below) in
+    subst (λ (s : List ℕ). LeftIn file consts k first cells before old (order (nodeIn file k .equations)) cells s) (sym (p .same))
+    (left-start (order (nodeIn file k .equations)) (valuesOf (widthIn file k) cells) old (p .sized) (n .inside) (n .once))
+
+-- the equation whose turn it is
+pub run-next : (file consts : List ℕ) (k : ℕ) (first : Bool) (cells₀ before old cells new : List ℕ) (i j : ℕ) → LeftIn file consts k first cells₀ before old (drop j (order (nodeIn file k .equations))) cells new → j < length (order (nodeIn file k .equations)) → i ≡ getD (order (nodeIn file k .equations)) j 0 → LeftIn file consts k first cells₀ before old (i ∷ drop (j + 1) (order (nodeIn file k .equations))) cells new
+run-next file consts k first cells₀ before old cells new i j l h e =
+    let o = order (nodeIn file k .equations) in
+    let s : suc j ≡ j + 1 = omega arith in
+    subst (λ (is : List ℕ). LeftIn file consts k first cells₀ before old is cells new) (drop-cons o j 0 h ∙ (λ t. sym e t ∷ drop (s t) o)) l
+
+module _ {file tab rows consts : List ℕ} {k : ℕ} (first : Bool) {cells₀ before old new₀ : List ℕ} (p : Runnable file tab rows consts k cells₀ before old new₀) where
+  module _ {i : ℕ} {is : List ℕ} (cells : List ℕ) {new : List ℕ} (l : LeftIn file consts k first cells₀ before old (i ∷ is) cells new) {places offsets : List ℕ} (q : EquationsAre file k places offsets) where
+    index : i < countIn file k
+    index = l .inside .0
+
+    starts : getD offsets i 0 ≡ offsetIn file k i
+    starts = q .offset i (omega (arith, index))
+
+    ends : getD offsets (i + 1) 0 ≡ offsetIn file k (suc i)
+    ends = let s : i + 1 ≡ suc i = omega arith in q .offset (i + 1) (omega (arith, index)) ∙ ap (offsetIn file k) s
+
+    -- its part lies in the state
+    pub turn-part : (getD offsets i 0 ≤ getD offsets (i + 1) 0) × (getD offsets (i + 1) 0 ≤ length old) × (length new ≡ length old)
+    turn-part = (omega (arith, starts, ends, offset-suc file k i index), omega (arith, ends, offset-upto file k (suc i), p .sized), l .sized ∙ sym (p .sized))
+
+    part-size : getD offsets (i + 1) 0 - getD offsets i 0 ≡ sitesSize (sizesIn file) (callees (equationIn file k i .rhs))
+    part-size = omega (arith, starts, ends, offset-suc file k i index)
+
+    -- it can be evaluated on its part
+    pub turn-ready : length cells ≡ length cells₀ → EquationReady file tab rows consts k i (getD places i 0) cells before (midOf (getD offsets i 0) (getD offsets (i + 1) 0) old) (midOf (getD offsets i 0) (getD offsets (i + 1) 0) new)
+    turn-ready c =
+        let a = getD offsets i 0 in
+        let b = getD offsets (i + 1) 0 in
+        let t = turn-part in
+        let m = length-mid a b old (t .0) (t .1) in
+        record {
+          running = p .running;
+          below = p .below;
+          index = index;
+          place = q .place i index;
+          present = record { long = omega (arith, c, p .present .long) };
+          previous = p .previous;
+          sized = m ∙ part-size;
+          small = omega (arith, m, t .1, p .small);
+          same = mid-seg file consts k i a b new index starts ends ∙ l .untouched .0 ∙ sym (mid-seg file consts k i a b old index starts ends);
+        }
+
+    abbrev E : Evals
+    E = rightOf (globalsIn file consts) (calls (globalsIn file consts)) (nodeIn file k) first (valuesOf (widthIn file k) before) (valuesOf (widthIn file k) cells) i old
+
+    moved-did : {e : ℕ} {got : List Value} {x : List ℕ} → (make : List Value → List Value)
+        → Did make (evalEquation (globalsIn file consts) (calls (globalsIn file consts)) (nodeIn file k) first (valuesOf (widthIn file k) before) (valuesOf (widthIn file k) cells) i (midOf (getD offsets i 0) (getD offsets (i + 1) 0) old)) e got x → Did make E e got x
+    moved-did {e} {got} {x} make d =
+        subst (λ (s : List ℕ). Did make (evalEquation (globalsIn file consts) (calls (globalsIn file consts)) (nodeIn file k) first (valuesOf (widthIn file k) before) (valuesOf (widthIn file k) cells) i s) e got x)
+        (mid-seg file consts k i (getD offsets i 0) (getD offsets (i + 1) 0) old index starts ends) d
+
+    sized-as : (x : List ℕ) → length x ≡ length (midOf (getD offsets i 0) (getD offsets (i + 1) 0) new) → length x ≡ sizeOf (globalsIn file consts) (nodeIn file k .equations) i
+    sized-as x c =
+        let t = turn-part in
+        c ∙ length-mid (getD offsets i 0) (getD offsets (i + 1) 0) new (t .0) (omega (arith, t .1, t .2)) ∙ part-size
+
+    -- its values are stored: the run goes on
+    pub turn-goes : (e : ℕ) (cells′ x : List ℕ) → e ≡ 0 → length x ≡ length (midOf (getD offsets i 0) (getD offsets (i + 1) 0) new)
+        → EquationTo file consts k i first cells before (midOf (getD offsets i 0) (getD offsets (i + 1) 0) old) e cells′ x → LeftIn file consts k first cells₀ before old is cells′ (putMid (getD offsets i 0) (getD offsets (i + 1) 0) new x)
+    turn-goes e cells′ x z c d =
+        subst (λ (s : List ℕ). LeftIn file consts k first cells₀ before old is cells′ s) (sym (put-seg file consts k i (getD offsets i 0) (getD offsets (i + 1) 0) new x index starts ends))
+        (go (E .out) refl (w .end-is) (w .values-are))
+      where
+        w : Did (λ vs. assign (nodeIn file k) (equationIn file k i .names) vs (valuesOf (widthIn file k) cells)) E e (valuesOf (widthIn file k) cells′) x
+        w = moved-did (λ vs. assign (nodeIn file k) (equationIn file k i .names) vs (valuesOf (widthIn file k) cells)) d
+
+        go : (o : Outcomes) → E .out ≡ o → e ≡ endCode o → Holds (λ vs. assign (nodeIn file k) (equationIn file k i .names) vs (valuesOf (widthIn file k) cells)) o (valuesOf (widthIn file k) cells′)
+            → LeftIn file consts k first cells₀ before old is cells′ (putSeg (globalsIn file consts) (nodeIn file k .equations) i new x)
+        go (values vs) f n h =
+            subst (λ (cs : List Value). Left (globalsIn file consts) (calls (globalsIn file consts)) (nodeIn file k) first (valuesOf (widthIn file k) before) (runIn file consts k first cells₀ before old) is cs old (putSeg (globalsIn file consts) (nodeIn file k .equations) i new x)) (sym h)
+            (left-turn l vs x f (w .state) (sized-as x c))
+        go failure f n h = absurd (omega arith)
+        go overflow f n h = absurd (omega arith)
+
+    -- it fails or overflows: the run ends
+    pub turn-stops : (e : ℕ) (cells′ x : List ℕ) → ¬ (e ≡ 0) → length x ≡ length (midOf (getD offsets i 0) (getD offsets (i + 1) 0) new)
+        → EquationTo file consts k i first cells before (midOf (getD offsets i 0) (getD offsets (i + 1) 0) old) e cells′ x → RunTo file consts k first cells₀ before old (record { end = e; index = i }) cells′ (putMid (getD offsets i 0) (getD offsets (i + 1) 0) new x)
+    turn-stops e cells′ x z c d = go (E .out) refl (w .end-is)
+      where
+        w : Did (λ vs. assign (nodeIn file k) (equationIn file k i .names) vs (valuesOf (widthIn file k) cells)) E e (valuesOf (widthIn file k) cells′) x
+        w = moved-did (λ vs. assign (nodeIn file k) (equationIn file k i .names) vs (valuesOf (widthIn file k) cells)) d
+
+        put : putMid (getD offsets i 0) (getD offsets (i + 1) 0) new x ≡ putSeg (globalsIn file consts) (nodeIn file k .equations) i new x
+        put = put-seg file consts k i (getD offsets i 0) (getD offsets (i + 1) 0) new x index starts ends
+
+        go : (o : Outcomes) → E .out ≡ o → e ≡ endCode o → RunTo file consts k first cells₀ before old (record { end = e; index = i }) cells′ (putMid (getD offsets i 0) (getD offsets (i + 1) 0) new x)
+        go (values vs) f n = absurd (z n)
+        go failure f n =
+            let r = left-failed l x f (w .state) (sized-as x c) in
+            record {
+              ends = subst (λ (y : Ending). EndsAs y (record { end = e; index = i })) (sym (r .0)) (n, refl);
+              cells-are = λ h. absurd (no-end (sym (r .0) ∙ h));
+              state = put ∙ r .1;
+            }
+          where
+            no-end : failedAt i ≡ finished → ⊥
+            no-end h = let y : _≡_ {A = ℕ} 0 1 = cc in omega arith
+        go overflow f n =
+            let r = left-over l x f (w .state) (sized-as x c) in
+            record {
+              ends = subst (λ (y : Ending). EndsAs y (record { end = e; index = i })) (sym (r .0)) (n, refl);
+              cells-are = λ h. absurd (no-end (sym (r .0) ∙ h));
+              state = put ∙ r .1;
+            }
+          where
+            no-end : overflowedAt i ≡ finished → ⊥
+            no-end h = let y : _≡_ {A = ℕ} 0 1 = cc in omega arith
+
+-- all have run
+pub run-done : (file consts : List ℕ) (k : ℕ) (first : Bool) (cells₀ before old cells new : List ℕ) (j : ℕ) → LeftIn file consts k first cells₀ before old (drop j (order (nodeIn file k .equations))) cells new → length (order (nodeIn file k .equations)) ≤ j → RunTo file consts k first cells₀ before old (record { end = 0; index = 0 }) cells new
+run-done file consts k first cells₀ before old cells new j l h =
+    let r = left-done (subst (λ (is : List ℕ). LeftIn file consts k first cells₀ before old is cells new) (drop-of-length-le (order (nodeIn file k .equations)) h) l) in
+    record {
+      ends = subst (λ (y : Ending). EndsAs y (record { end = 0; index = 0 })) (sym (r .0)) refl;
+      cells-are = λ _. r .1;
+      state = r .2;
+    }
