@@ -9,6 +9,7 @@ pub mod Depth
 pub mod Equating
 pub mod Evals
 pub mod Lending
+pub mod MainCycle
 pub mod Naming
 pub mod Passing
 pub mod Placing

@@ -2,6 +2,7 @@ pub mod Admitted
 pub mod Calls
 pub mod Constants
 pub mod Equations
+pub mod MainCycle
 pub mod Nodes
 pub mod Outcomes
 pub mod Plans

@@ -3,6 +3,7 @@ pub mod constants;
 pub mod copies;
 pub mod cycle;
 pub mod equations;
+pub mod main_cycle;
 pub mod names;
 pub mod outcomes;
 pub mod skip;
