@@ -20,3 +20,4 @@ pub mod ClashLaws
 pub mod ClashLoops
 pub mod ClashFile
 pub mod NamesBelow
+pub mod VariantLaws
