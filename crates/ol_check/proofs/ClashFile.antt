@@ -134,7 +134,7 @@ module _ {s rows : List ℕ} {c : Sections} (rd : DeclaredReady s rows c) (st : 
       (constants (length (f .enums)) (f .constants) count (subst (λ p. Listed constantBytes (constantFits base (length (f .enums))) s p (f .constants)) (sym start) (st .constants))) in
       let all : Sorts (declared f) sorts s₃ none true (placeOf (r .found)) (r .low) = sorts-two (sorts-two we wc) nodes in
       record {
-        finds = λ blank. all .finds ∙ clash-is sorts st (blank .empty) (blank .below);
+        finds = λ blank. all .finds ∙ clash-is sorts st (blank .zero) (blank .below);
         lows = all .lows;
       }
 

@@ -22,3 +22,4 @@ pub mod ClashLaws
 pub mod ClashLoops
 pub mod ClashFile
 pub mod NamesBelow
+pub mod VariantLaws

@@ -7,6 +7,7 @@ use mathlib.Core.Path.{_≡_}
 use lib.ListN.{length, getD, set}
 use lib.Dec.{ltb, leb, eqb}
 use Rattle.ol_spec.specs.Lists.{orElse, allOf}
+use Rattle.ol_spec.specs.Syntax.{File}
 use Rattle.ol_spec.specs.Admission.{Sort, variant, constant, variable, Declared, firstIf, declared, fault6}
 use Rattle.ol_tree.specs.At.{fileAt}
 use Rattle.ol_tree.specs.Heads.{nameAt}
@@ -69,11 +70,11 @@ pub record DeclaredReady (s rows : List ℕ) (at : Sections) : Type 0 where
   pub sections : SectionsAre (fileAt s) at
 
 -- every entry is 0, and every declared name has one
-pub record Blank (s sorts : List ℕ) : Type 0 where
-  pub empty : (x : ℕ) → getD sorts x 0 ≡ 0
-  pub below : Each (λ d. d .name < length sorts) (declared (fileAt s))
+pub record Blank (f : File) (names : List ℕ) : Type 0 where
+  pub zero : (x : ℕ) → getD names x 0 ≡ 0
+  pub below : Each (λ d. d .name < length names) (declared f)
 
 -- every declared name was met: where the table was blank, the first clash is the file's
 pub record FileSorted (s sorts : List ℕ) (r : Sorting) : Type 0 where
-  pub finds : Blank s sorts → placeOf (r .found) ≡ fault6 (fileAt s)
+  pub finds : Blank (fileAt s) sorts → placeOf (r .found) ≡ fault6 (fileAt s)
   pub lows : r .low ≡ allOf isLow (declared (fileAt s))

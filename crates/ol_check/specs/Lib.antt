@@ -8,3 +8,4 @@ pub mod ConstantsJudged
 pub mod FileJudged
 pub mod Sizes
 pub mod Clashing
+pub mod VariantTable

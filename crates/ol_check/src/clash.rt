@@ -272,7 +272,7 @@ pub fn sort_file(file: &[u8], rows: &[usize], sections: Sections, sorts: &mut [u
 
 // Fault 6. The table is 0 everywhere, and longer than every declared name.
 pub fn fault6(file: &[u8], rows: &[usize], sections: Sections, sorts: &mut [u8]) -> Found
-    requires { ⌜ DeclaredReady (now file) (now rows) sections × Blank (now file) (now sorts) ⌝ }
+    requires { ⌜ DeclaredReady (now file) (now rows) sections × Blank (fileAt (now file)) (now sorts) ⌝ }
     ensures { λ r. ⌜ placeOf r ≡ fault6 (fileAt (now (file .entry))) ⌝ }
 {
     let r = sort_file(file, rows, sections, sorts);

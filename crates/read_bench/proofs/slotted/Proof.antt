@@ -1,8 +1,6 @@
--- <uses>
 use native.Mathlib.Omega.{arith}
 use Rattle.ol_tree.proofs.HeadsFile.{bytes-of, file-stands}
 use Rattle.read_bench.proofs.Readies.{names-ready, file-ready, rows-ready}
--- </uses>
 use borrow.Author.Needs.{needs}
 use Rattle.read_bench.proofs.slotted.Statement.{statement}
 use Rattle.read_bench.proofs.slotted.Tie as tie
