@@ -7,7 +7,7 @@ pub mod names; // names.rt: the table by name
 pub mod nodes; // nodes.rt: faults 7 to 10 of the nodes
 pub mod constants; // constants.rt: faults 7, 9 and 10 of the constants
 pub mod file; // file.rt: faults 7 to 10 of a whole file
-pub mod size; // size.rt: fault 14, and the lengths of the records
+pub mod size; // size.rt: faults 13 and 14, and the lengths of records
 
 // A fault's place, or none.
 pub enum Found {
