@@ -71,6 +71,7 @@ pub record ConstantsGoing (s : List ℕ) (t : File) (visible : List ℕ) (enums 
   pub seen : List ℕ
   pub knows : Knows names seen
   pub unseen : foundIn (placeOf (g .unseen)) (constantUses seen (placed constantSize (g .next) (drop i cs))) ≡ foundIn (placeOf (f .unseen)) (constantUses visible (placed constantSize (f .next) cs))
+  pub again : g .again ≡ f .again
   pub called : foundIn (placeOf (g .called)) (concat (map (inConstant (callsWhere (λ c args. true))) (placed constantSize (g .next) (drop i cs)))) ≡ foundIn (placeOf (f .called)) (concat (map (inConstant (callsWhere (λ c args. true))) (placed constantSize (f .next) cs)))
   pub shaped : foundIn (placeOf (g .shaped)) (concat (map (inConstant (shapeItem t)) (placed constantSize (g .next) (drop i cs)))) ≡ foundIn (placeOf (f .shaped)) (concat (map (inConstant (shapeItem t)) (placed constantSize (f .next) cs)))
   pub entered : declareAll names (constantEntries i (drop i cs)) ≡ declareAll names₀ (constantEntries 0 cs)
@@ -78,7 +79,7 @@ pub record ConstantsGoing (s : List ℕ) (t : File) (visible : List ℕ) (enums 
 
 module _ {s names₀ rows : List ℕ} {nodes : ℕ} {t : File} {visible : List ℕ} {enums : ℕ} {cs : List Constant} {slots₀ : List ℕ} {f : Faults} (rd : ConstantsReady s names₀ rows nodes t visible enums (f .next) cs) where
   pub constants-start : ConstantsGoing s t visible enums cs names₀ slots₀ f names₀ slots₀ f 0
-  constants-start = record { passing = passing-start constantBytes (constantFits base enums) constantSize (rd .stand); seen = visible; knows = rd .knows; unseen = refl; called = refl; shaped = refl; entered = refl; slotted = refl }
+  constants-start = record { passing = passing-start constantBytes (constantFits base enums) constantSize (rd .stand); seen = visible; knows = rd .knows; unseen = refl; again = refl; called = refl; shaped = refl; entered = refl; slotted = refl }
 
   module _ {names slots : List ℕ} {g : Faults} {i : ℕ} (w : ConstantsGoing s t visible enums cs names₀ slots₀ f names slots g i) where
     constant-at : i < length cs → PassedItem constantBytes (constantFits base enums) constantSize s (f .next) cs i (g .next) (getD cs i noConstant)
@@ -110,6 +111,7 @@ module _ {s names₀ rows : List ℕ} {nodes : ℕ} {t : File} {visible : List �
           unseen = ap (λ o. foundIn o (constantUses (c .name ∷ w .seen) rest)) (v .unseen ∙ ap (orElse (placeOf (g .unseen))) (unseen-law s names (w .seen) (w .knows) fl ∙ ap (λ l. first (map (unseenItem (w .seen)) l)) (walk-one usedAt p (c .value))))
               ∙ found-append (placeOf (g .unseen)) (unseen (w .seen) (used p (c .value))) (constantUses (c .name ∷ w .seen) rest)
               ∙ ap (λ l. foundIn (placeOf (g .unseen)) (constantUses (w .seen) l)) (sym on) ∙ w .unseen;
+          again = v .again ∙ w .again;
           called = ap (λ o. foundIn o (concat (map (inConstant (callsWhere (λ x n. true))) rest))) (v .called ∙ ap (orElse (placeOf (g .called))) (called-law s rows 0 (λ x n. true) (no-call rows) fl ∙ ap first (walk-one (callsWhere (λ x n. true)) p (c .value))))
               ∙ found-append (placeOf (g .called)) (inConstant (callsWhere (λ x n. true)) (at, c)) _ ∙ ap (λ l. foundIn (placeOf (g .called)) (concat (map (inConstant (callsWhere (λ x n. true))) l))) (sym on) ∙ w .called;
           shaped = ap (λ o. foundIn o (concat (map (inConstant (shapeItem t)) rest))) (v .shaped ∙ ap (orElse (placeOf (g .shaped))) (several-law s rows nodes t (rd .outputs) fl ∙ ap first (walk-one (shapeItem t) p (c .value))))
@@ -125,6 +127,7 @@ module _ {s names₀ rows : List ℕ} {nodes : ℕ} {t : File} {visible : List �
         let empty : drop i cs ≡ [] = drop-of-length-le cs over in
         record {
           unseen = sym (found-none (placeOf (g .unseen))) ∙ ap (λ l. foundIn (placeOf (g .unseen)) (constantUses (w .seen) (placed constantSize (g .next) l))) (sym empty) ∙ w .unseen;
+          again = w .again;
           called = sym (found-none (placeOf (g .called))) ∙ ap (λ l. foundIn (placeOf (g .called)) (concat (map (inConstant (callsWhere (λ x n. true))) (placed constantSize (g .next) l)))) (sym empty) ∙ w .called;
           shaped = sym (found-none (placeOf (g .shaped))) ∙ ap (λ l. foundIn (placeOf (g .shaped)) (concat (map (inConstant (shapeItem t)) (placed constantSize (g .next) l)))) (sym empty) ∙ w .shaped;
           entered = ap (λ l. declareAll names (constantEntries i l)) (sym empty) ∙ w .entered;

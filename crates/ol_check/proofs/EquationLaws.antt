@@ -1,7 +1,7 @@
 -- An equation: its names, its right side, and what is inside that.
-use Prim.Native.Nat.{ℕ, zero, suc, _+_, _-_, _*_, _≤_, _<_}
+use Prim.Native.Nat.{ℕ, zero, suc, _+_, _-_, _*_, _≤_, _<_, min}
 use mathlib.Core.Bool.{Bool, true, false, not, _&&_, cond}
-use mathlib.Core.List.{List, [], _∷_, _++_, map}
+use mathlib.Core.List.{List, [], _∷_, _++_, map, append-nil}
 use mathlib.Core.Option.{Option, none, some}
 use mathlib.Core.Path.{_≡_, refl, sym, ap, subst, _∙_}
 use native.Mathlib.Omega.{arith}
@@ -12,13 +12,15 @@ use lib.Dec.{T, ltb, leb, eqb}
 use borrow.Author.Tests.{lt-ltb, le-ltb, le-leb, lt-leb}
 use native.Mathlib.Decide.{decLe}
 use mathlib.Core.Logic.{by-cases}
-use Rattle.ol_spec.specs.Lists.{orElse, member, concat}
+use Rattle.ol_spec.specs.Lists.{orElse, member, concat, sum}
 use Rattle.ol_spec.specs.Syntax.{Expr, Exprs, nil, cons, count, Equation, File, rhsOf}
 use Rattle.ol_spec.specs.Places.{exprsSize, exprSize, equationSize, collect, collectAll, placed, placedNames, rhsPlace}
 use Rattle.ol_spec.specs.Encode.{nameBytes, equationBytes}
 use Rattle.ol_spec.specs.Limits.{base}
 use Rattle.ol_spec.specs.Within.{nameFits, equationFits}
-use Rattle.ol_spec.specs.Admission.{Item, first, firstIf, unseenItem, unseen, usedAt, used, callsWhere, shapeItem, severalIn, arity, equationUses, inEquation, equationShape}
+use Rattle.ol_spec.specs.Admission.{Item, first, firstIf, unseenItem, unseen, usedAt, used, callsWhere, shapeItem, severalIn, arity, equationUses, inEquation, equationShape, definedBy}
+use Rattle.ol_spec.specs.Eval.{callees}
+use Rattle.ol_spec.specs.Step.{equationSites}
 use Rattle.ol_spec.proofs.Walks.{first-append}
 use Rattle.ol_spec.proofs.Cells.{length-bytes}
 use Rattle.ol_spec.proofs.RoundTrip.Parts.{here-inside}
@@ -31,11 +33,13 @@ use Rattle.ol_tree.proofs.HeadsFile.{Passing, Item as PassedItem, passing-start
 use Rattle.ol_check.specs.Founds.{Byte, placeOf, earliest}
 use Rattle.ol_check.specs.Walks.{HeadOf}
 use Rattle.ol_check.specs.Judging.{headAt, heads, unseenB, unseenHead, slotOfEntry, slotHead, slotHeads, calledB, calledHead, arityB, severalHead, foundIn, Walked}
-use Rattle.ol_check.specs.Judging.{Knows, Context, SlotIs, entryItem, slotNames, NamesSeen, loneB, otherB, RootJudged, EquationJudged, namesIn, slotEquation, slotEquations, EquationsJudged}
+use Rattle.ol_check.specs.Judging.{Knows, Context, SlotIs, entryItem, slotNames, takenB, markAll, againB, NamesDefined, loneB, otherB, RootJudged, EquationJudged, namesIn, slotEquation, slotEquations, EquationsJudged}
 use Rattle.ol_check.specs.declared.Found.{Found}
 use Rattle.ol_check.specs.declared.heads.Parts.{Parts}
 use Rattle.ol_check.specs.declared.judge.Faults.{Faults}
-use Rattle.ol_check.proofs.WalkLoop.{found-step, found-none}
+use Rattle.ol_check.specs.Records.{siteB, calleeB}
+use Rattle.ol_check.proofs.WalkLoop.{found-step, found-none, min-add, min-cap, Adding}
+use Rattle.ol_check.proofs.CalleeLaws.{sum-append, sites-callees}
 use Rattle.ol_check.proofs.HeadLaws.{Flat, flat, unseen-law, called-law, several-law, arity-is, slots-below, slots-length, slots-held}
 
 -- ---- names
@@ -50,41 +54,57 @@ NamePassing s at xs i next = Passing nameBytes nameFits (λ x. 2) s at xs i next
 pub placed-on : {A : Type 0} (size : A → ℕ) (d : A) (xs : List A) (i next : ℕ) → i < length xs → placed size next (drop i xs) ≡ (next, getD xs i d) ∷ placed size (next + size (getD xs i d)) (drop (i + 1) xs)
 placed-on size d xs i next lt = rw (add-one i) (ap (placed size next) (drop-cons xs i d lt))
 
-pub record NamesGoing (s names : List ℕ) (xs : List ℕ) (at : ℕ) (slots₀ : List ℕ) (found : Found) (slots : List ℕ) (u : Found) (i next : ℕ) : Type 0 where
+pub record NamesGoing (s names : List ℕ) (inputs : ℕ) (xs : List ℕ) (at : ℕ) (slots₀ defined₀ : List ℕ) (u₀ a₀ : Found) (slots defined : List ℕ) (u a : Found) (i next : ℕ) : Type 0 where
   pub passing : NamePassing s at xs i next
-  pub unseen : foundIn (placeOf u) (map (entryItem names) (placedNames next (drop i xs))) ≡ foundIn (placeOf found) (map (entryItem names) (placedNames at xs))
+  pub unseen : foundIn (placeOf u) (map (entryItem names) (placedNames next (drop i xs))) ≡ foundIn (placeOf u₀) (map (entryItem names) (placedNames at xs))
+  pub again : foundIn (placeOf a) (againB names inputs defined (placedNames next (drop i xs))) ≡ foundIn (placeOf a₀) (againB names inputs defined₀ (placedNames at xs))
   pub slotted : slotNames names slots (placedNames next (drop i xs)) ≡ slotNames names slots₀ (placedNames at xs)
+  pub marked : markAll names defined (placedNames next (drop i xs)) ≡ markAll names defined₀ (placedNames at xs)
 
-module _ {s names xs : List ℕ} {at : ℕ} {slots₀ : List ℕ} {found : Found} where
-  pub names-start : Names s 0 at xs → NamesGoing s names xs at slots₀ found slots₀ found 0 at
-  names-start h = record { passing = passing-start nameBytes nameFits (λ x. 2) h; unseen = refl; slotted = refl }
+module _ {s names : List ℕ} {inputs : ℕ} {xs : List ℕ} {at : ℕ} {slots₀ defined₀ : List ℕ} {u₀ a₀ : Found} where
+  pub names-start : Names s 0 at xs → NamesGoing s names inputs xs at slots₀ defined₀ u₀ a₀ slots₀ defined₀ u₀ a₀ 0 at
+  names-start h = record { passing = passing-start nameBytes nameFits (λ x. 2) h; unseen = refl; again = refl; slotted = refl; marked = refl }
 
-  module _ {slots : List ℕ} {u : Found} {i next : ℕ} (g : NamesGoing s names xs at slots₀ found slots u i next) where
-    pub names-turn : i < length xs → (x e b : ℕ) (u′ : Found) (slots′ : List ℕ) → x ≡ nameAt s next → Byte names x e → placeOf u′ ≡ earliest (placeOf u) (eqb e 0) next
-        → b ≡ slotOfEntry e → slots′ ≡ set slots next b → NamesGoing s names xs at slots₀ found slots′ u′ (i + 1) (next + 2)
-    unfolding slotNames
-    names-turn lt x e b u′ slots′ ex be eu eb es =
+  module _ {slots defined : List ℕ} {u a : Found} {i next : ℕ} (g : NamesGoing s names inputs xs at slots₀ defined₀ u₀ a₀ slots defined u a i next) where
+    pub names-turn : i < length xs → (x e b : ℕ) (t : Bool) (u′ a′ : Found) (slots′ defined′ : List ℕ) → x ≡ nameAt s next → Byte names x e → placeOf u′ ≡ earliest (placeOf u) (eqb e 0) next
+        → t ≡ takenB defined inputs e → placeOf a′ ≡ earliest (placeOf a) t next → b ≡ slotOfEntry e → slots′ ≡ set slots next b → defined′ ≡ set defined e 1
+        → NamesGoing s names inputs xs at slots₀ defined₀ u₀ a₀ slots′ defined′ u′ a′ (i + 1) (next + 2)
+    unfolding slotNames markAll againB
+    names-turn lt x e b t u′ a′ slots′ defined′ ex be eu et ea eb es ed =
         let y = getD xs i 0 in
         let it = passing-item two 0 (g .passing) lt in
         let same : x ≡ y = ex ∙ here-name y (it .fit) (it .here) in
         let ee : e ≡ getD names y 0 = be .is ∙ ap (λ n. getD names n 0) same in
         let on = placed-on (λ n. 2) 0 xs i next lt in
         let rest = placedNames (next + 2) (drop (i + 1) xs) in
+        let put : defined′ ≡ set defined (getD names y 0) 1 = ed ∙ ap (λ n. set defined n 1) ee in
         record {
           passing = it .on;
           unseen = ap (λ o. foundIn o (map (entryItem names) rest)) (eu ∙ ap (λ n. earliest (placeOf u) (eqb n 0) next) ee)
               ∙ found-step (placeOf u) (eqb (getD names y 0) 0) next (map (entryItem names) rest)
               ∙ ap (λ l. foundIn (placeOf u) (map (entryItem names) l)) (sym on) ∙ g .unseen;
+          again = ap (λ o. foundIn o (againB names inputs defined′ rest)) (ea ∙ ap (λ c. earliest (placeOf a) c next) (et ∙ ap (takenB defined inputs) ee))
+              ∙ found-step (placeOf a) (takenB defined inputs (getD names y 0)) next (againB names inputs defined′ rest)
+              ∙ ap (λ l. foundIn (placeOf a) ((next, takenB defined inputs (getD names y 0)) ∷ againB names inputs l rest)) put
+              ∙ ap (λ l. foundIn (placeOf a) (againB names inputs defined l)) (sym on) ∙ g .again;
           slotted = ap (λ l. slotNames names l rest) (es ∙ ap (set slots next) (eb ∙ ap slotOfEntry ee)) ∙ ap (slotNames names slots) (sym on) ∙ g .slotted;
+          marked = ap (λ l. markAll names l rest) put ∙ ap (markAll names defined) (sym on) ∙ g .marked;
         }
 
-    pub names-done : length xs ≤ i → NamesSeen names (placedNames at xs) slots₀ slots found u
-    unfolding slotNames
-    names-done over =
+    pub names-done : (f r : Faults) → i ≤ length xs → length xs ≤ i → next ≡ at + 2 * i → f .next ≡ at → f .unseen ≡ u₀ → f .again ≡ a₀ → r .called ≡ f .called → r .shaped ≡ f .shaped → r .size ≡ f .size
+        → r .next ≡ next → r .unseen ≡ u → r .again ≡ a → NamesDefined names inputs xs slots₀ slots defined₀ defined f r
+    unfolding slotNames markAll againB
+    names-done f r under over en ea eu₀ ea₀ ec eh ez er eu er₂ =
         let empty : drop i xs ≡ [] = drop-of-length-le xs over in
         record {
-          unseen = sym (found-none (placeOf u)) ∙ ap (λ l. foundIn (placeOf u) (map (entryItem names) (placedNames next l))) (sym empty) ∙ g .unseen;
-          slotted = ap (λ l. slotNames names slots (placedNames next l)) (sym empty) ∙ g .slotted;
+          next = omega arith;
+          unseen = rw (eu, eu₀, ea) (sym (found-none (placeOf u)) ∙ ap (λ l. foundIn (placeOf u) (map (entryItem names) (placedNames next l))) (sym empty) ∙ g .unseen);
+          again = rw (er₂, ea₀, ea) (sym (found-none (placeOf a)) ∙ ap (λ l. foundIn (placeOf a) (againB names inputs defined (placedNames next l))) (sym empty) ∙ g .again);
+          called = ec;
+          shaped = eh;
+          sized = ez;
+          slotted = rw ea (ap (λ l. slotNames names slots (placedNames next l)) (sym empty) ∙ g .slotted);
+          marked = rw ea (ap (λ l. markAll names defined (placedNames next l)) (sym empty) ∙ g .marked);
         }
 
 -- what stands outside the names is left, and each name has the slot of its entry
@@ -124,13 +144,14 @@ other-several n v lt = rw (lt-ltb 1 v lt) refl
 pub other-one : (n v : ℕ) → v ≤ 1 → false ≡ otherB n v
 other-one n v le = rw (le-ltb 1 v le) refl
 
-module _ {s names rows : List ℕ} {nodes k at many : ℕ} (slots : List ℕ) {slots₁ slots₂ : List ℕ} {f r : Faults} {p : Parts} {u c h : Found} (few : Found) {bu bc bl bo : Bool} {v : ℕ}
+module _ {s names rows : List ℕ} {nodes k at many : ℕ} (slots : List ℕ) {slots₁ slots₂ : List ℕ} {f r : Faults} {p : Parts} {u c h : Found} (few : Found) {bu bc bl bo : Bool} {v x z : ℕ}
     (hp : HeadOf s (f .next) p) (ev : v ≡ arityB s rows nodes (f .next)) (es : slots₁ ≡ slotHead s names slots (f .next))
     (eu : placeOf u ≡ earliest (placeOf (f .unseen)) bu (f .next + 1)) (fu : bu ≡ unseenB s names (f .next))
     (ec : placeOf c ≡ earliest (placeOf (f .called)) bc (f .next)) (fc : bc ≡ calledB s rows k (f .next))
     (el : placeOf few ≡ earliest (placeOf (f .shaped)) bl at) (fl : bl ≡ loneB many v)
     (eo : placeOf h ≡ earliest (placeOf few) bo (f .next)) (fo : bo ≡ otherB many v)
-    (walked : (enums : ℕ) (xs : Exprs) → count xs ≡ p .count → Standing s enums (p .start) xs → Walked s names rows nodes k xs slots₁ slots₂ (record { unseen = u; called = c; shaped = h; next = p .start }) r) where
+    (ez : z ≡ min (f .size + x) 65536) (fz : x ≡ siteB s rows nodes (f .next))
+    (walked : (enums : ℕ) (xs : Exprs) → count xs ≡ p .count → Standing s enums (p .start) xs → Walked s names rows nodes k xs slots₁ slots₂ (record { unseen = u; again = f .again; called = c; shaped = h; size = z; next = p .start }) r) where
   pub root-judged : (enums : ℕ) (e : Expr) → Standing s enums (f .next) (cons e nil) → RootJudged s names rows nodes k at many e slots slots₂ f r
   unfolding slotHeads
   root-judged enums e st =
@@ -142,6 +163,11 @@ module _ {s names rows : List ℕ} {nodes k at many : ℕ} (slots : List ℕ) {s
       let all : heads n (cons e nil) ≡ n ∷ heads (p .start) rest = walk-head headAt n e nil ∙ ap (λ a. n ∷ heads a rest) (sym start) in
       record {
         next = omega (arith, w .next, start, head-ends e nil n);
+        again = w .again;
+        sized = λ le.
+            let rs = sum (map (siteB s rows nodes) (heads (p .start) rest)) in
+            w .sized (omega (arith, ez)) ∙ ap (λ m. min (m + rs) 65536) (ez ∙ ap (λ y. min (f .size + y) 65536) fz) ∙ min-add (f .size) (siteB s rows nodes n) rs 65536
+            ∙ ap (λ l. min (f .size + sum (map (siteB s rows nodes) l)) 65536) (sym all);
         slotted = w .slotted ∙ ap (λ l. slotHeads s names l (heads (p .start) rest)) es ∙ ap (slotHeads s names slots) (sym all);
         unseen = w .unseen ∙ ap (λ o. foundIn o (map (unseenHead s names) (heads (p .start) rest))) (eu ∙ ap (λ b. earliest (placeOf (f .unseen)) b (n + 1)) fu)
             ∙ found-step (placeOf (f .unseen)) (unseenB s names n) (n + 1) (map (unseenHead s names) (heads (p .start) rest)) ∙ ap (λ l. foundIn (placeOf (f .unseen)) (map (unseenHead s names) l)) (sym all);
@@ -176,22 +202,22 @@ entries-seen names visible knows [] = refl
 entries-seen names visible knows (p ∷ ps) =
     ap (λ b. (p .0, b) ∷ map (entryItem names) ps) (knows (p .1)) ∙ ap (λ l. unseenItem visible p ∷ l) (entries-seen names visible knows ps)
 
-module _ {s names rows : List ℕ} {nodes k many : ℕ} (slots slots₁ slots₂ : List ℕ) {g r : Faults} (u : Found) (mb : Byte s (g .next) many)
-    (seen : (xs : List ℕ) → length xs ≡ many → Names s 0 (g .next + 1) xs → NamesSeen names (placedNames (g .next + 1) xs) slots slots₁ (g .unseen) u)
-    (rooted : (enums : ℕ) (e : Expr) → Standing s enums (g .next + 1 + 2 * many) (cons e nil)
-    → RootJudged s names rows nodes k (g .next) many e slots₁ slots₂ (record { unseen = u; called = g .called; shaped = g .shaped; next = g .next + 1 + 2 * many }) r) where
+module _ {s names rows : List ℕ} {nodes k many inputs : ℕ} (slots slots₁ slots₂ defined defined₁ : List ℕ) {g r : Faults} (d : Faults) (mb : Byte s (g .next) many)
+    (named : (xs : List ℕ) → length xs ≡ many → Names s 0 (g .next + 1) xs
+    → NamesDefined names inputs xs slots slots₁ defined defined₁ (record { unseen = g .unseen; again = g .again; called = g .called; shaped = g .shaped; size = g .size; next = g .next + 1 }) d)
+    (rooted : (enums : ℕ) (e : Expr) → Standing s enums (d .next) (cons e nil) → RootJudged s names rows nodes k (g .next) many e slots₁ slots₂ d r) where
   pub equation-judged : (t : File) (visible : List ℕ) (bad : ℕ → ℕ → Bool) (enums : ℕ) (q : Equation) → Context t k names rows nodes visible bad → EquationStands s enums (g .next) q
-      → EquationJudged s names t visible bad (g .next) q slots slots₂ g r
+      → EquationJudged s names rows nodes t visible bad inputs (g .next) q slots slots₂ defined defined₁ g r
   unfolding slotEquation
   equation-judged t visible bad enums q ctx st =
       let at = g .next in
       let e = q .rhs in
       let len : length (q .names) ≡ many = sym (mb .is ∙ st .count) in
-      let p = at + 1 + 2 * many in
-      let place : rhsPlace at q ≡ p = omega arith in
+      let n = named (q .names) len (st .names) in
+      let p = d .next in
+      let place : rhsPlace at q ≡ p = omega (arith, n .next) in
       let right = subst (λ a. Standing s enums a (cons e nil)) place (st .rhs) in
       let f = flat right in
-      let n = seen (q .names) len (st .names) in
       let w = rooted enums e right in
       let ps = placedNames (at + 1) (q .names) in
       let hd = headed e nil right .head in
@@ -201,7 +227,7 @@ module _ {s names rows : List ℕ} {nodes k many : ℕ} (slots slots₁ slots₂
       ∙ ap (λ l. first (collectAll (shapeItem t) (p + headSize e) l)) (joined-nil (partsOf e))
       ∙ ap (λ l. first (drop 1 l)) (sym (root-head (shapeItem t) p e)) ∙ ap (λ a. first (drop 1 (collect (shapeItem t) a e))) (sym place) in
       record {
-        next = omega (arith, w .next);
+        next = omega (arith, w .next, n .next, len);
         unseen = w .unseen ∙ ap (λ o. foundIn o (map (unseenHead s names) (heads p (cons e nil)))) (n .unseen)
             ∙ ap (orElse (foundIn (placeOf (g .unseen)) (map (entryItem names) ps))) (unseen-law s names visible (ctx .knows) f)
             ∙ found-append (placeOf (g .unseen)) (map (entryItem names) ps) (map (unseenItem visible) (collectAll usedAt p (cons e nil)))
@@ -209,9 +235,15 @@ module _ {s names rows : List ℕ} {nodes k many : ℕ} (slots slots₁ slots₂
             ∙ ap (λ l. foundIn (placeOf (g .unseen)) (map (unseenItem visible) ps ++ map (unseenItem visible) l)) (walk-one usedAt p e)
             ∙ ap (foundIn (placeOf (g .unseen))) (sym (map-append (unseenItem visible) ps (used p e)))
             ∙ ap (λ a. foundIn (placeOf (g .unseen)) (unseen visible (ps ++ used a e))) (sym place);
-        called = w .called ∙ ap (orElse (placeOf (g .called))) (called-law s rows k bad (ctx .calls) f ∙ ap first (walk-one (callsWhere bad) p e) ∙ ap (λ a. first (collect (callsWhere bad) a e)) (sym place));
-        shaped = w .shaped ∙ ap (λ x. orElse (placeOf (g .shaped)) (firstIf (loneB many (arityB s rows nodes p)) at (firstIf (otherB many (arityB s rows nodes p)) p x))) inner
-            ∙ rw (ar, ← len) refl;
+        again = ap placeOf (w .again) ∙ n .again;
+        called = w .called ∙ ap (λ x. foundIn (placeOf x) (map (calledHead s rows k) (heads p (cons e nil)))) (n .called) ∙ ap (orElse (placeOf (g .called))) (called-law s rows k bad (ctx .calls) f ∙ ap first (walk-one (callsWhere bad) p e) ∙ ap (λ a. first (collect (callsWhere bad) a e)) (sym place));
+        shaped = w .shaped ∙ ap (λ x. orElse (placeOf (d .shaped)) (firstIf (loneB many (arityB s rows nodes p)) at (firstIf (otherB many (arityB s rows nodes p)) p x))) inner
+            ∙ rw (ar, ← len, n .shaped, ← place) refl;
+        marked = n .marked;
+        sized = λ le.
+            let sites : sum (map (siteB s rows nodes) (heads p (cons e nil))) ≡ sum (map (calleeB rows nodes) (callees e)) =
+            sites-callees s rows nodes f ∙ ap (λ l. sum (map (calleeB rows nodes) l)) (append-nil (callees e)) in
+            w .sized (omega (arith, n .sized)) ∙ ap (λ m. min (m + sum (map (siteB s rows nodes) (heads p (cons e nil)))) 65536) (n .sized) ∙ ap (λ m. min (g .size + m) 65536) sites;
         slotted = w .slotted ∙ ap (λ l. slotHeads s names l (heads p (cons e nil))) (n .slotted) ∙ ap (λ a. slotHeads s names (slotNames names slots ps) (heads a (cons e nil))) (sym place);
       }
 
@@ -259,28 +291,36 @@ left-step g size d xs i next next′ o o′ z lt en eo ez =
 left-none : {A : Type 0} (g : ℕ × A → List Item) (size : A → ℕ) (xs : List A) (i next : ℕ) (o z : Option ℕ) → length xs ≤ i → foundIn o (Left g size xs i next) ≡ z → o ≡ z
 left-none g size xs i next o z le ez = sym (found-none o) ∙ ap (λ l. foundIn o (concat (map g (placed size next l)))) (sym (drop-of-length-le xs le)) ∙ ez
 
+-- names that are defined, and those after them
+again-append : (names : List ℕ) (inputs : ℕ) (defined : List ℕ) (ps qs : List (ℕ × ℕ)) → againB names inputs defined (ps ++ qs) ≡ againB names inputs defined ps ++ againB names inputs (markAll names defined ps) qs
+unfolding againB markAll
+again-append names inputs defined [] qs = refl
+again-append names inputs defined (p ∷ ps) qs = ap (λ l. (p .0, takenB defined inputs (getD names (p .1) 0)) ∷ l) (again-append names inputs (set defined (getD names (p .1) 0) 1) ps qs)
+
 abbrev pub EquationPassing : List ℕ → ℕ → ℕ → List Equation → ℕ → ℕ → Type 0
 EquationPassing s enums at qs i next = Passing equationBytes (equationFits base enums) equationSize s at qs i next
 
-pub record EquationsGoing (s names : List ℕ) (t : File) (visible : List ℕ) (bad : ℕ → ℕ → Bool) (enums : ℕ) (qs : List Equation) (slots₀ : List ℕ) (f : Faults) (slots : List ℕ) (g : Faults) (i : ℕ) : Type 0 where
+pub record EquationsGoing (s names rows : List ℕ) (nodes : ℕ) (t : File) (visible : List ℕ) (bad : ℕ → ℕ → Bool) (inputs enums : ℕ) (qs : List Equation) (slots₀ defined₀ : List ℕ) (f : Faults) (slots defined : List ℕ) (g : Faults) (i : ℕ) : Type 0 where
   pub passing : EquationPassing s enums (f .next) qs i (g .next)
   pub unseen : foundIn (placeOf (g .unseen)) (concat (map (equationUses visible) (placed equationSize (g .next) (drop i qs)))) ≡ foundIn (placeOf (f .unseen)) (concat (map (equationUses visible) (placed equationSize (f .next) qs)))
+  pub again : foundIn (placeOf (g .again)) (againB names inputs defined (concat (map definedBy (placed equationSize (g .next) (drop i qs))))) ≡ foundIn (placeOf (f .again)) (againB names inputs defined₀ (concat (map definedBy (placed equationSize (f .next) qs))))
   pub called : foundIn (placeOf (g .called)) (concat (map (inEquation (callsWhere bad)) (placed equationSize (g .next) (drop i qs)))) ≡ foundIn (placeOf (f .called)) (concat (map (inEquation (callsWhere bad)) (placed equationSize (f .next) qs)))
   pub shaped : foundIn (placeOf (g .shaped)) (concat (map (equationShape t) (placed equationSize (g .next) (drop i qs)))) ≡ foundIn (placeOf (f .shaped)) (concat (map (equationShape t) (placed equationSize (f .next) qs)))
   pub slotted : slotEquations s names slots (placed equationSize (g .next) (drop i qs)) ≡ slotEquations s names slots₀ (placed equationSize (f .next) qs)
+  pub sized : Adding (f .size) (map (calleeB rows nodes) (concat (map equationSites qs))) (g .size) (map (calleeB rows nodes) (concat (map equationSites (drop i qs))))
 
-module _ {s names : List ℕ} {t : File} {visible : List ℕ} {bad : ℕ → ℕ → Bool} {enums : ℕ} {qs : List Equation} {slots₀ : List ℕ} {f : Faults} where
-  pub equations-start : Listed equationBytes (equationFits base enums) s (f .next) qs → EquationsGoing s names t visible bad enums qs slots₀ f slots₀ f 0
-  equations-start h = record { passing = passing-start equationBytes (equationFits base enums) equationSize h; unseen = refl; called = refl; shaped = refl; slotted = refl }
+module _ {s names rows : List ℕ} {nodes : ℕ} {t : File} {visible : List ℕ} {bad : ℕ → ℕ → Bool} {inputs enums : ℕ} {qs : List Equation} {slots₀ defined₀ : List ℕ} {f : Faults} where
+  pub equations-start : Listed equationBytes (equationFits base enums) s (f .next) qs → EquationsGoing s names rows nodes t visible bad inputs enums qs slots₀ defined₀ f slots₀ defined₀ f 0
+  equations-start h = record { passing = passing-start equationBytes (equationFits base enums) equationSize h; unseen = refl; again = refl; called = refl; shaped = refl; slotted = refl; sized = λ le. (le, refl) }
 
-  module _ {slots : List ℕ} {g : Faults} {i : ℕ} (w : EquationsGoing s names t visible bad enums qs slots₀ f slots g i) where
+  module _ {slots defined : List ℕ} {g : Faults} {i : ℕ} (w : EquationsGoing s names rows nodes t visible bad inputs enums qs slots₀ defined₀ f slots defined g i) where
     equation-at : i < length qs → PassedItem equationBytes (equationFits base enums) equationSize s (f .next) qs i (g .next) (getD qs i noEquation)
     equation-at lt = passing-item equation-size noEquation (w .passing) lt
 
-    pub equations-turn : i < length qs → (slots′ : List ℕ) (r : Faults) → ((q : Equation) → EquationStands s enums (g .next) q → EquationJudged s names t visible bad (g .next) q slots slots′ g r)
-        → EquationsGoing s names t visible bad enums qs slots₀ f slots′ r (i + 1)
+    pub equations-turn : i < length qs → (slots′ defined′ : List ℕ) (r : Faults) → ((q : Equation) → EquationStands s enums (g .next) q → EquationJudged s names rows nodes t visible bad inputs (g .next) q slots slots′ defined defined′ g r)
+        → EquationsGoing s names rows nodes t visible bad inputs enums qs slots₀ defined₀ f slots′ defined′ r (i + 1)
     unfolding slotEquations
-    equations-turn lt slots′ r judged =
+    equations-turn lt slots′ defined′ r judged =
         let it = equation-at lt in
         let q = getD qs i noEquation in
         let j = judged q (equation-stands q (it .fit) (it .here)) in
@@ -288,22 +328,45 @@ module _ {s names : List ℕ} {t : File} {visible : List ℕ} {bad : ℕ → ℕ
         record {
           passing = subst (EquationPassing s enums (f .next) qs (i + 1)) (sym (j .next)) (it .on);
           unseen = left-step (equationUses visible) equationSize noEquation qs i (g .next) (r .next) (placeOf (g .unseen)) _ _ lt (j .next) (j .unseen) (w .unseen);
+          again =
+              let here = definedBy (g .next, q) in
+              let rest = concat (map definedBy (placed equationSize (g .next + equationSize q) (drop (i + 1) qs))) in
+              ap (λ n. foundIn (placeOf (r .again)) (againB names inputs defined′ (concat (map definedBy (placed equationSize n (drop (i + 1) qs)))))) (j .next)
+              ∙ ap (λ o. foundIn o (againB names inputs defined′ rest)) (j .again) ∙ ap (λ l. foundIn (foundIn (placeOf (g .again)) (againB names inputs defined here)) (againB names inputs l rest)) (j .marked)
+              ∙ found-append (placeOf (g .again)) (againB names inputs defined here) (againB names inputs (markAll names defined here) rest)
+              ∙ ap (foundIn (placeOf (g .again))) (sym (again-append names inputs defined here rest))
+              ∙ ap (λ l. foundIn (placeOf (g .again)) (againB names inputs defined (concat (map definedBy l)))) (sym on) ∙ w .again;
           called = left-step (inEquation (callsWhere bad)) equationSize noEquation qs i (g .next) (r .next) (placeOf (g .called)) _ _ lt (j .next) (j .called) (w .called);
           shaped = left-step (equationShape t) equationSize noEquation qs i (g .next) (r .next) (placeOf (g .shaped)) _ _ lt (j .next) (j .shaped) (w .shaped);
           slotted = ap (λ n. slotEquations s names slots′ (placed equationSize n (drop (i + 1) qs))) (j .next)
               ∙ ap (λ l. slotEquations s names l (placed equationSize (g .next + equationSize q) (drop (i + 1) qs))) (j .slotted)
               ∙ ap (slotEquations s names slots) (sym on) ∙ w .slotted;
+          sized = λ le.
+              let v = w .sized le in
+              let a = j .sized (v .0) in
+              let c = calleeB rows nodes in
+              let rest = concat (map equationSites (drop (i + 1) qs)) in
+              let left : drop i qs ≡ q ∷ drop (i + 1) qs = drop-cons qs i noEquation lt ∙ ap (λ m. q ∷ drop m qs) (sym (add-one i)) in (
+                omega (arith, a),
+                ap (λ m. min (m + sum (map c rest)) 65536) a ∙ min-add (g .size) (sum (map c (equationSites q))) (sum (map c rest)) 65536
+                    ∙ ap (λ m. min (g .size + m) 65536) (sym (sum-append c (equationSites q) rest))
+                    ∙ ap (λ l. min (g .size + sum (map c (concat (map equationSites l)))) 65536) (sym left) ∙ v .1,
+              );
         }
 
     pub equations-cut : i < length qs → length s ≤ g .next → ⊥
     equations-cut lt out = omega (arith, here-inside (equation-at lt .here) (omega (arith, equation-size (getD qs i noEquation))), equation-size (getD qs i noEquation))
 
-    pub equations-done : length qs ≤ i → EquationsJudged s names t visible bad (f .next) qs slots₀ slots f g
-    unfolding slotEquations
+    pub equations-done : length qs ≤ i → EquationsJudged s names rows nodes t visible bad inputs (f .next) qs slots₀ slots defined₀ defined f g
+    unfolding slotEquations againB
     equations-done over =
         record {
           unseen = left-none (equationUses visible) equationSize qs i (g .next) (placeOf (g .unseen)) _ over (w .unseen);
+          again = sym (found-none (placeOf (g .again))) ∙ ap (λ l. foundIn (placeOf (g .again)) (againB names inputs defined (concat (map definedBy (placed equationSize (g .next) l))))) (sym (drop-of-length-le qs over)) ∙ w .again;
           called = left-none (inEquation (callsWhere bad)) equationSize qs i (g .next) (placeOf (g .called)) _ over (w .called);
           shaped = left-none (equationShape t) equationSize qs i (g .next) (placeOf (g .shaped)) _ over (w .shaped);
           slotted = ap (λ l. slotEquations s names slots (placed equationSize (g .next) l)) (sym (drop-of-length-le qs over)) ∙ w .slotted;
+          sized = λ le.
+              let v = w .sized le in
+              sym (min-cap (g .size) 65536 (v .0)) ∙ ap (λ l. min (g .size + sum (map (calleeB rows nodes) (concat (map equationSites l)))) 65536) (sym (drop-of-length-le qs over)) ∙ v .1;
         }

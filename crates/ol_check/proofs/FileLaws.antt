@@ -18,7 +18,7 @@ use Rattle.ol_spec.specs.Places.{enumSize, constantSize, constantsStart, nodesS
 use Rattle.ol_spec.specs.Encode.{nameBytes, sectionBytes, constantBytes}
 use Rattle.ol_spec.specs.Limits.{base}
 use Rattle.ol_spec.specs.Within.{enumFits, countFits, nameFits, constantFits}
-use Rattle.ol_spec.specs.Admission.{Item, first, variants, constantNames, constantUses, nodeUses, nodeCalls, nodeShape, inConstant, callsWhere, shapeItem, numbered, fault7, fault9, fault10}
+use Rattle.ol_spec.specs.Admission.{Item, first, variants, constantNames, constantUses, nodeUses, nodeCalls, nodeShape, inConstant, callsWhere, shapeItem, numbered, fault7, fault8, fault9, fault10, nodeDefines}
 use Rattle.ol_spec.proofs.Tests.{T-and}
 use Rattle.ol_spec.proofs.Walks.{first-append}
 use Rattle.ol_spec.proofs.RoundTrip.Parts.{Here, here-inside, here-back}
@@ -32,13 +32,15 @@ use Rattle.ol_check.specs.Founds.{Byte, placeOf}
 use Rattle.ol_check.specs.RowsDone.{Enums, SectionsAre}
 use Rattle.ol_check.specs.Entries.{declared, declareAll, variantEntry, constantEntries, Global}
 use Rattle.ol_check.specs.Judging.{foundIn, Knows}
-use Rattle.ol_check.specs.NodesJudged.{RowsReady, NodesJudged, slotNodes}
+use Rattle.ol_check.specs.NodesJudged.{RowsReady, nodeAgain, NodesJudged, slotNodes}
 use Rattle.ol_check.specs.ConstantsJudged.{ConstantsJudged, ConstantsReady, slotConstants}
+use Rattle.ol_check.specs.Sizes.{NodesSized}
 use Rattle.ol_check.specs.FileJudged.{FileReady, NamesWithin, variantTable, globalTable, FileJudged}
 use Rattle.ol_check.specs.declared.judge.Faults.{Faults}
 use Rattle.ol_check.specs.declared.rows.Sections.{Sections}
 use Rattle.ol_check.proofs.EntryLaws.{declare-append, Enterable, knows-all, declare-length}
 use Rattle.ol_check.proofs.NodeLaws.{outputs-told, ready-at}
+use Rattle.ol_check.proofs.Definitions.{nodes-defined}
 
 -- ---- the variants of the enums
 
@@ -170,7 +172,7 @@ module _ {s rows names : List ℕ} {at : Sections} (rd : FileReady s rows names 
           stand = subst (λ p. Listed constantBytes (constantFits base (length (f .enums))) s p (f .constants)) (sym (rd .sections .constants)) (st .constants);
         }
 
-    module _ {names₂ slots slots₁ : List ℕ} {g₀ g : Faults} (en : g₀ .next ≡ at .constants + 1) (eu : placeOf (g₀ .unseen) ≡ none) (ec₀ : placeOf (g₀ .called) ≡ none) (eh : placeOf (g₀ .shaped) ≡ none)
+    module _ {names₂ slots slots₁ : List ℕ} {g₀ g : Faults} (en : g₀ .next ≡ at .constants + 1) (eu : placeOf (g₀ .unseen) ≡ none) (eg : placeOf (g₀ .again) ≡ none) (ec₀ : placeOf (g₀ .called) ≡ none) (eh : placeOf (g₀ .shaped) ≡ none)
         (constants : (t : File) (visible : List ℕ) (enums : ℕ) (cs : List Constant) → length cs ≡ cc → ConstantsReady s names₁ rows nodes t visible enums (g₀ .next) cs → ConstantsJudged s names₁ t visible (g₀ .next) cs slots slots₁ names₂ g₀ g) where
       abbrev cj : ConstantsJudged s names₁ (fileAt s) (variants (fileAt s)) (g₀ .next) (fileAt s .constants) slots slots₁ names₂ g₀ g
       cj = constants (fileAt s) (variants (fileAt s)) (length (fileAt s .enums)) (fileAt s .constants) (constant-count cb)
@@ -182,20 +184,24 @@ module _ {s rows names : List ℕ} {at : Sections} (rd : FileReady s rows names 
       pub global-ready : Global names₂
       global-ready = subst Global (sym global-is) (globals-global names (fileAt s) (rd .empty) within)
 
-      module _ {names₃ slots₂ : List ℕ} {r : Faults} (same : names₃ ≡ names₂)
-          (nodesJudged : (visible : List ℕ) → Knows names₂ visible → Rattle.ol_check.specs.NodesJudged.AllCovered (length names₂) (fileAt s) → NodesJudged s names₂ (fileAt s) visible slots₁ slots₂ g r) where
-        pub file-judged : FileJudged s (fileAt s) names names₃ slots slots₂ r
-        unfolding fault7 fault9 fault10
+      module _ {names₃ slots₂ rows′ : List ℕ} {r : Faults} (same : names₃ ≡ names₂)
+          (nodesJudged : (visible : List ℕ) → Knows names₂ visible → Rattle.ol_check.specs.NodesJudged.AllCovered (length names₂) (fileAt s) → NodesJudged s names₂ (fileAt s) visible slots₁ slots₂ g r × NodesSized (fileAt s) rows rows′ (r .size)) where
+        pub file-judged : FileJudged s (fileAt s) names names₃ slots slots₂ rows rows′ r
+        unfolding fault7 fault8 fault9 fault10
         file-judged =
             let f = fileAt s in
             let length-same : length names ≡ length names₂ = sym (ap length global-is ∙ declare-length (variantTable names f) (constantEntries 0 (f .constants)) ∙ declare-length names (map variantEntry (variants f))) in
-            let nj = nodesJudged (constantNames f ++ variants f) (subst (λ l. Knows l (constantNames f ++ variants f)) (sym global-is) (globals-known names f (rd .empty) within))
-            (subst (λ n. Rattle.ol_check.specs.NodesJudged.AllCovered n f) length-same (within .nodes)) in
+            let known = subst (λ l. Knows l (constantNames f ++ variants f)) (sym global-is) (globals-known names f (rd .empty) within) in
+            let covered = subst (λ n. Rattle.ol_check.specs.NodesJudged.AllCovered n f) length-same (within .nodes) in
+            let both = nodesJudged (constantNames f ++ variants f) known covered in
+            let nj = both .0 in
             let start : g₀ .next ≡ constantsStart f = en ∙ rd .sections .constants in
             let cs = f .constants in
             record {
               unseen = nj .unseen ∙ ap (λ o. foundIn o (concat (map (nodeUses (constantNames f ++ variants f)) (placedNodes f)))) (cj .unseen ∙ ap (λ o. foundIn o (constantUses (variants f) (placed constantSize (g₀ .next) cs))) eu ∙ ap (λ p. first (constantUses (variants f) (placed constantSize p cs))) start)
                   ∙ sym (first-append (constantUses (variants f) (placedConstants f)) (concat (map (nodeUses (constantNames f ++ variants f)) (placedNodes f))));
+              again = λ no7. nj .again ∙ ap (λ o. foundIn o (concat (map (nodeAgain names₂) (placedNodes f)))) (ap placeOf (cj .again) ∙ eg)
+                  ∙ ap first (nodes-defined st names₂ global-ready known covered no7);
               called = nj .called ∙ ap (λ o. foundIn o (concat (map (nodeCalls f) (numbered 0 (placedNodes f))))) (cj .called ∙ ap (λ o. foundIn o (concat (map (inConstant (callsWhere (λ x n. true))) (placed constantSize (g₀ .next) cs)))) ec₀ ∙ ap (λ p. first (concat (map (inConstant (callsWhere (λ x n. true))) (placed constantSize p cs)))) start)
                   ∙ sym (first-append (concat (map (inConstant (callsWhere (λ x n. true))) (placedConstants f))) (concat (map (nodeCalls f) (numbered 0 (placedNodes f)))));
               shaped = nj .shaped ∙ ap (λ o. foundIn o (concat (map (nodeShape f) (placedNodes f)))) (cj .shaped ∙ ap (λ o. foundIn o (concat (map (inConstant (shapeItem f)) (placed constantSize (g₀ .next) cs)))) eh ∙ ap (λ p. first (concat (map (inConstant (shapeItem f)) (placed constantSize p cs)))) start)
@@ -203,4 +209,6 @@ module _ {s rows names : List ℕ} {at : Sections} (rd : FileReady s rows names 
               entered = same ∙ global-is;
               slotted = nj .slotted ∙ ap (λ l. slotNodes s l slots₁ (placedNodes f)) global-is
                   ∙ ap (λ l. slotNodes s (globalTable names f) l (placedNodes f)) (cj .slotted ∙ ap (λ p. slotConstants s names₁ slots 0 (placed constantSize p cs)) start ∙ ap (λ l. slotConstants s l slots 0 (placedConstants f)) table-is);
+              sized = both .1 .done;
+              main = both .1 .main (st .someNode);
             }

@@ -3,10 +3,13 @@ pub mod RowLoops
 pub mod HeadTests
 pub mod WalkLoop
 pub mod HeadLaws
+pub mod CalleeLaws
 pub mod EquationLaws
 pub mod EntryLoops
 pub mod EntryLaws
+pub mod EntryPlaces
 pub mod NodeLaws
+pub mod Definitions
 pub mod ConstantLaws
 pub mod FileLaws
 pub mod SizeLaws

@@ -1,12 +1,13 @@
 -- A node: its variables entered and taken back, and its equations judged.
-use Prim.Native.Nat.{ℕ, zero, suc, _+_, _-_, _*_, _≤_, _<_}
+use Prim.Native.Nat.{ℕ, zero, suc, _+_, _-_, _*_, _≤_, _<_, min}
 use mathlib.Core.Bool.{Bool, true, false, not, _&&_, cond}
 use mathlib.Core.List.{List, [], _∷_, _++_, map, append-assoc}
 use mathlib.Core.Logic.{by-cases}
 use mathlib.Core.Path.{_≡_, refl, sym, ap, subst, _∙_}
 use native.Mathlib.Omega.{arith}
+use native.Mathlib.Nat.{add-zero}
 use native.Mathlib.Decide.{decLt}
-use lib.ListN.{length, getD, set, drop, length-append, List·getD-eq-default, drop-of-length-le}
+use lib.ListN.{length, getD, set, drop, replicate, length-append, List·getD-eq-default, drop-of-length-le}
 use lib.Seq.{drop-cons}
 use native.Mathlib.Numerals.{add-one}
 use mathlib.Core.Option.{Option, none, some}
@@ -18,7 +19,8 @@ use Rattle.ol_spec.specs.Places.{variableSize, outputsStart, localsStart, equat
 use Rattle.ol_spec.specs.Encode.{kindCode, variableBytes, equationBytes}
 use Rattle.ol_spec.specs.Limits.{base}
 use Rattle.ol_spec.specs.Within.{variableFits, equationFits}
-use Rattle.ol_spec.specs.Admission.{calleeIn, badCall, mayCall, equationUses, inEquation, callsWhere, equationShape, Item, nodeUses, nodeCalls, nodeShape, numbered}
+use Rattle.ol_spec.specs.Admission.{calleeIn, badCall, mayCall, equationUses, inEquation, callsWhere, equationShape, Item, definedBy, nodeUses, nodeCalls, nodeShape, numbered}
+use Rattle.ol_spec.specs.Step.{sites}
 use Rattle.ol_spec.proofs.Walks.{first-append}
 use Rattle.ol_check.proofs.WalkLoop.{found-none}
 use Rattle.ol_tree.specs.At.{fileAt}
@@ -27,10 +29,12 @@ use Rattle.ol_tree.specs.Stands.{Listed, Variables, Equations, NodeStands, File
 use Rattle.ol_tree.proofs.HeadsFile.{node-at}
 use Rattle.ol_check.specs.Founds.{Byte, placeOf}
 use Rattle.ol_check.specs.RowsDone.{NodeRow}
+use Rattle.ol_check.specs.Records.{calleeB, recordBy}
 use Rattle.ol_check.specs.Entries.{declareAll, forgetAll, variableEntries, VariablesEntered, VariablesForgotten, Global}
-use Rattle.ol_check.specs.Judging.{mayB, badB, outputsB, Knows, Context, EquationsJudged, foundIn, slotEquations}
-use Rattle.ol_check.specs.NodesJudged.{placeIn, NodeReady, nodeTable, Covered, NodeJudged, RowsReady, slotNodes, NodesJudged}
+use Rattle.ol_check.specs.Judging.{mayB, badB, outputsB, Knows, Context, EquationsJudged, foundIn, slotEquations, againB}
+use Rattle.ol_check.specs.NodesJudged.{placeIn, NodeReady, nodeTable, Covered, nodeAgain, NodeJudged, RowsReady, slotNodes, NodesJudged}
 use Rattle.ol_check.specs.declared.judge.Faults.{Faults}
+use Rattle.ol_check.proofs.RowLoops.{few-variables}
 use Rattle.ol_check.proofs.EntryLaws.{declare-append, forget-append, entries-append, declare-length, Enterable, knows-all, restored}
 
 -- ---- the sections of variables
@@ -112,6 +116,15 @@ pub entries-ok : (room first : ℕ) (vs : List Variable) → Each (λ v. v .name
 entries-ok room first [] h = tt
 entries-ok room first (v ∷ vs) h = ((h .0, omega arith), entries-ok room (first + 1) vs (h .1))
 
+entries-names : (first : ℕ) (vs : List Variable) → map (λ d. d .0) (variableEntries first vs) ≡ map nameOf vs
+entries-names first [] = refl
+entries-names first (v ∷ vs) = ap (λ l. v .name ∷ l) (entries-names (first + 1) vs)
+
+-- a node's table knows the node's variables and what is visible outside
+pub node-knows : (names visible : List ℕ) → Knows names visible → (n : Node) → Covered (length names) n → Knows (nodeTable names n) (variableNames n ++ visible)
+node-knows names visible knows n covered =
+    subst (λ l. Knows (nodeTable names n) (l ++ visible)) (entries-names 0 (variables n)) (knows-all names visible (variableEntries 0 (variables n)) knows (entries-ok (length names) 0 (variables n) covered))
+
 module _ {s rows : List ℕ} {nodes k : ℕ} (rd : NodeReady s rows nodes k) where
   calls-told : (c n : ℕ) → badB rows k c n ≡ badCall (fileAt s) k (nodeOf (fileAt s) k) c n
   calls-told c n =
@@ -130,10 +143,6 @@ module _ {s rows : List ℕ} {nodes k : ℕ} (rd : NodeReady s rows nodes k) whe
       (λ lt. rw (lt-ltb c nodes lt) (rd .row c (omega (arith, rd .many)) .outputs))
       (λ no. rw (le-ltb c nodes (omega arith)) (ap (λ n. length (n .outputs)) (sym (List·getD-eq-default (fileAt s .nodes) noNode {n = c} (omega (arith, rd .many))))))
 
-  entries-names : (first : ℕ) (vs : List Variable) → map (λ d. d .0) (variableEntries first vs) ≡ map nameOf vs
-  entries-names first [] = refl
-  entries-names first (v ∷ vs) = ap (λ l. v .name ∷ l) (entries-names (first + 1) vs)
-
   entries-low : (first : ℕ) (vs : List Variable) → first + length vs ≤ 112 → Each (λ d. d .1 ≤ 112) (variableEntries first vs)
   entries-low first [] h = tt
   entries-low first (v ∷ vs) h = (omega arith, entries-low (first + 1) vs (omega arith))
@@ -141,9 +150,7 @@ module _ {s rows : List ℕ} {nodes k : ℕ} (rd : NodeReady s rows nodes k) whe
   pub node-context : (names visible : List ℕ) → Knows names visible → Covered (length names) (nodeOf (fileAt s) k)
       → Context (fileAt s) k (nodeTable names (nodeOf (fileAt s) k)) rows nodes (variableNames (nodeOf (fileAt s) k) ++ visible) (badCall (fileAt s) k (nodeOf (fileAt s) k))
   node-context names visible knows covered =
-      let n = nodeOf (fileAt s) k in
-      let w = knows-all names visible (variableEntries 0 (variables n)) knows (entries-ok (length names) 0 (variables n) covered) in
-      record { knows = subst (λ l. Knows (nodeTable names n) (l ++ visible)) (entries-names 0 (variables n)) w; calls = calls-told; outputs = outputs-told }
+      record { knows = node-knows names visible knows (nodeOf (fileAt s) k) covered; calls = calls-told; outputs = outputs-told }
 
   pub node-restored : (names : List ℕ) → FileStands s (fileAt s) → Global names → forgetAll (nodeTable names (nodeOf (fileAt s) k)) (map nameOf (variables (nodeOf (fileAt s) k))) ≡ names
   node-restored names st global =
@@ -154,11 +161,11 @@ module _ {s rows : List ℕ} {nodes k : ℕ} (rd : NodeReady s rows nodes k) whe
 
 -- ---- a node
 
-module _ {s rows : List ℕ} {nodes k : ℕ} (rd : NodeReady s rows nodes k) (st : FileStands s (fileAt s)) (names : List ℕ) {n₁ slots slots′ : List ℕ} {m a : ℕ} {g r : Faults}
-    (en : n₁ ≡ nodeTable names (nodeOf (fileAt s) k)) (em : m ≡ getD rows (k * 8 + 5) 0) (ea : a ≡ getD rows (k * 8 + 1) 0)
+module _ {s rows : List ℕ} {nodes k : ℕ} (rd : NodeReady s rows nodes k) (st : FileStands s (fileAt s)) (names : List ℕ) {n₁ slots slots′ defined′ : List ℕ} {m a i v : ℕ} {g r : Faults}
+    (en : n₁ ≡ nodeTable names (nodeOf (fileAt s) k)) (em : m ≡ getD rows (k * 8 + 5) 0) (ea : a ≡ getD rows (k * 8 + 1) 0) (ei : i ≡ getD rows (k * 8 + 2) 0) (ev : v ≡ getD rows (k * 8 + 4) 0)
     (eqs : (t : File) (visible : List ℕ) (bad : ℕ → ℕ → Bool) (enums : ℕ) (qs : List Equation) → Context t k n₁ rows nodes visible bad → length qs ≡ m → Equations s enums a qs
-    → EquationsJudged s n₁ t visible bad a qs slots slots′ (record { unseen = g .unseen; called = g .called; shaped = g .shaped; next = a }) r) where
-  pub node-judged : (visible : List ℕ) → Knows names visible → Covered (length names) (nodeOf (fileAt s) k) → NodeJudged s names (fileAt s) visible k slots slots′ g r
+    → EquationsJudged s n₁ rows nodes t visible bad i a qs slots slots′ (replicate 256 0) defined′ (record { unseen = g .unseen; again = g .again; called = g .called; shaped = g .shaped; size = 1 + 9 * v; next = a }) r) where
+  pub node-judged : (visible : List ℕ) → Knows names visible → Covered (length names) (nodeOf (fileAt s) k) → NodeJudged s names rows nodes (fileAt s) visible k slots slots′ g r
   node-judged visible knows covered =
       let f = fileAt s in
       let n = nodeOf f k in
@@ -171,10 +178,18 @@ module _ {s rows : List ℕ} {nodes k : ℕ} (rd : NodeReady s rows nodes k) (st
       (subst (λ x. Listed equationBytes (equationFits base (length (f .enums))) s x (n .equations)) (sym here) (ns .equations)) in
       record {
         unseen = w .unseen ∙ ap (λ x. foundIn (placeOf (g .unseen)) (concat (map (equationUses (variableNames n ++ visible)) (placed equationSize x (n .equations))))) here;
+        again = w .again ∙ ap (λ x. foundIn (placeOf (g .again)) (againB n₁ i (replicate 256 0) (concat (map definedBy (placed equationSize x (n .equations)))))) here
+            ∙ ap (λ l. foundIn (placeOf (g .again)) (againB l i (replicate 256 0) (concat (map definedBy (placed equationSize (equationsStart p n + 1) (n .equations)))))) en
+            ∙ ap (λ x. foundIn (placeOf (g .again)) (againB (nodeTable names n) x (replicate 256 0) (concat (map definedBy (placed equationSize (equationsStart p n + 1) (n .equations)))))) (ei ∙ row .inputs);
         called = w .called ∙ ap (λ x. foundIn (placeOf (g .called)) (concat (map (inEquation (callsWhere (badCall f k n))) (placed equationSize x (n .equations))))) here;
         shaped = w .shaped ∙ ap (λ x. foundIn (placeOf (g .shaped)) (concat (map (equationShape f) (placed equationSize x (n .equations))))) here;
         slotted = w .slotted ∙ ap (λ x. slotEquations s n₁ slots (placed equationSize x (n .equations))) here ∙ ap (λ l. slotEquations s l slots (placed equationSize (equationsStart p n + 1) (n .equations))) en;
+        sized = w .sized (omega (arith, ev, row .variables, few-variables ns)) ∙ ap (λ x. min (1 + 9 * x + sum (map (calleeB rows nodes) (sites n))) 65536) (ev ∙ row .variables);
       }
+
+-- the length of the node's records is stored
+pub size-stored : (rows : List ℕ) (k : ℕ) {rows′ : List ℕ} {kind size : ℕ} (z : ℕ) → kind ≡ getD rows (k * 8) 0 → size ≡ recordBy kind z → rows′ ≡ set rows (k * 8 + 6) size → rows′ ≡ set rows (k * 8 + 6) (recordBy (rowAt rows k 0) z)
+size-stored rows k {rows′} {kind} {size} z ek es er = er ∙ ap (set rows (k * 8 + 6)) (es ∙ ap (λ x. recordBy x z) (ek ∙ ap (λ n. getD rows n 0) (sym (add-zero (k * 8)))))
 
 -- entered and taken back
 pub node-back : {s rows : List ℕ} {nodes k : ℕ} → NodeReady s rows nodes k → FileStands s (fileAt s) → (names : List ℕ) {n₁ n₂ : List ℕ} → Global names → n₁ ≡ nodeTable names (nodeOf (fileAt s) k)
@@ -210,16 +225,17 @@ left-on g l rest x o o′ z el eo ez = ap (λ y. foundIn y (concat (map g rest))
 
 pub record NodesGoing (s names : List ℕ) (f : File) (visible : List ℕ) (slots₀ : List ℕ) (g₀ : Faults) (slots : List ℕ) (g : Faults) (k : ℕ) : Type 0 where
   pub unseen : foundIn (placeOf (g .unseen)) (concat (map (nodeUses visible) (drop k (placedNodes f)))) ≡ foundIn (placeOf (g₀ .unseen)) (concat (map (nodeUses visible) (placedNodes f)))
+  pub again : foundIn (placeOf (g .again)) (concat (map (nodeAgain names) (drop k (placedNodes f)))) ≡ foundIn (placeOf (g₀ .again)) (concat (map (nodeAgain names) (placedNodes f)))
   pub called : foundIn (placeOf (g .called)) (concat (map (nodeCalls f) (numbered k (drop k (placedNodes f))))) ≡ foundIn (placeOf (g₀ .called)) (concat (map (nodeCalls f) (numbered 0 (placedNodes f))))
   pub shaped : foundIn (placeOf (g .shaped)) (concat (map (nodeShape f) (drop k (placedNodes f)))) ≡ foundIn (placeOf (g₀ .shaped)) (concat (map (nodeShape f) (placedNodes f)))
   pub slotted : slotNodes s names slots (drop k (placedNodes f)) ≡ slotNodes s names slots₀ (placedNodes f)
 
 module _ {s names : List ℕ} {f : File} {visible slots₀ : List ℕ} {g₀ : Faults} where
   pub nodes-start : NodesGoing s names f visible slots₀ g₀ slots₀ g₀ 0
-  nodes-start = record { unseen = refl; called = refl; shaped = refl; slotted = refl }
+  nodes-start = record { unseen = refl; again = refl; called = refl; shaped = refl; slotted = refl }
 
   module _ {slots : List ℕ} {g : Faults} {k : ℕ} (w : NodesGoing s names f visible slots₀ g₀ slots g k) where
-    pub nodes-turn : k < length (f .nodes) → (slots′ : List ℕ) (r : Faults) → NodeJudged s names f visible k slots slots′ g r → NodesGoing s names f visible slots₀ g₀ slots′ r (k + 1)
+    pub nodes-turn : k < length (f .nodes) → (slots′ : List ℕ) (r : Faults) {rows : List ℕ} {nodes : ℕ} → NodeJudged s names rows nodes f visible k slots slots′ g r → NodesGoing s names f visible slots₀ g₀ slots′ r (k + 1)
     unfolding slotNodes
     nodes-turn lt slots′ r j =
         let x : ℕ × Node = (placeIn f k, nodeOf f k) in
@@ -228,6 +244,7 @@ module _ {s names : List ℕ} {f : File} {visible slots₀ : List ℕ} {g₀ : F
         let counted : numbered k (drop k (placedNodes f)) ≡ (k, x) ∷ numbered (k + 1) rest = ap (numbered k) on ∙ ap (λ n. (k, x) ∷ numbered n rest) (sym (add-one k)) in
         record {
           unseen = left-on (nodeUses visible) (drop k (placedNodes f)) rest x (placeOf (g .unseen)) _ _ on (j .unseen) (w .unseen);
+          again = left-on (nodeAgain names) (drop k (placedNodes f)) rest x (placeOf (g .again)) _ _ on (j .again) (w .again);
           called = left-on (nodeCalls f) (numbered k (drop k (placedNodes f))) (numbered (k + 1) rest) (k, x) (placeOf (g .called)) _ _ counted (j .called) (w .called);
           shaped = left-on (nodeShape f) (drop k (placedNodes f)) rest x (placeOf (g .shaped)) _ _ on (j .shaped) (w .shaped);
           slotted = ap (λ l. slotNodes s names l rest) (j .slotted) ∙ ap (slotNodes s names slots) (sym on) ∙ w .slotted;
@@ -239,6 +256,7 @@ module _ {s names : List ℕ} {f : File} {visible slots₀ : List ℕ} {g₀ : F
         let empty : drop k (placedNodes f) ≡ [] = drop-of-length-le (placedNodes f) {i = k} (omega (arith, placed-length nodeSize (f .nodes) (nodesStart f))) in
         record {
           unseen = sym (found-none (placeOf (g .unseen))) ∙ ap (λ l. foundIn (placeOf (g .unseen)) (concat (map (nodeUses visible) l))) (sym empty) ∙ w .unseen;
+          again = sym (found-none (placeOf (g .again))) ∙ ap (λ l. foundIn (placeOf (g .again)) (concat (map (nodeAgain names) l))) (sym empty) ∙ w .again;
           called = sym (found-none (placeOf (g .called))) ∙ ap (λ l. foundIn (placeOf (g .called)) (concat (map (nodeCalls f) (numbered k l)))) (sym empty) ∙ w .called;
           shaped = sym (found-none (placeOf (g .shaped))) ∙ ap (λ l. foundIn (placeOf (g .shaped)) (concat (map (nodeShape f) l))) (sym empty) ∙ w .shaped;
           slotted = ap (slotNodes s names slots) (sym empty) ∙ w .slotted;
@@ -248,8 +266,8 @@ pub ready-at : {s rows : List ℕ} {nodes : ℕ} → RowsReady s rows nodes → 
 ready-at rd k lt = record { reads = rd .reads; row = rd .row; many = rd .many; low = lt; few = rd .few }
 
 -- the table is the one at the start
-pub judged-same : {s names names₀ : List ℕ} {f : File} {k : ℕ} {slots slots′ : List ℕ} {g r : Faults} → names ≡ names₀
-    → ((visible : List ℕ) → Knows names visible → Covered (length names) (nodeOf f k) → NodeJudged s names f visible k slots slots′ g r)
-    → (visible : List ℕ) → Knows names₀ visible → Covered (length names₀) (nodeOf f k) → NodeJudged s names₀ f visible k slots slots′ g r
-judged-same {s} {names} {names₀} {f} {k} {slots} {slots′} {g} {r} e h =
-    subst (λ l. (visible : List ℕ) → Knows l visible → Covered (length l) (nodeOf f k) → NodeJudged s l f visible k slots slots′ g r) e h
+pub judged-same : {s names names₀ rows : List ℕ} {nodes : ℕ} {f : File} {k : ℕ} {slots slots′ : List ℕ} {g r : Faults} → names ≡ names₀
+    → ((visible : List ℕ) → Knows names visible → Covered (length names) (nodeOf f k) → NodeJudged s names rows nodes f visible k slots slots′ g r)
+    → (visible : List ℕ) → Knows names₀ visible → Covered (length names₀) (nodeOf f k) → NodeJudged s names₀ rows nodes f visible k slots slots′ g r
+judged-same {s} {names} {names₀} {rows} {nodes} {f} {k} {slots} {slots′} {g} {r} e h =
+    subst (λ l. (visible : List ℕ) → Knows l visible → Covered (length l) (nodeOf f k) → NodeJudged s l rows nodes f visible k slots slots′ g r) e h

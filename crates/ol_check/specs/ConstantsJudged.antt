@@ -20,7 +20,7 @@ use Rattle.ol_check.specs.declared.judge.Faults.{Faults}
 
 -- the walk at a place
 abbrev pub walkAt : Faults → ℕ → Faults
-walkAt f p = record { unseen = f .unseen; called = f .called; shaped = f .shaped; next = p }
+walkAt f p = record { unseen = f .unseen; again = f .again; called = f .called; shaped = f .shaped; size = f .size; next = p }
 
 -- constant number i, where the walk stands
 pub record ConstantJudged (s names rows : List ℕ) (nodes i : ℕ) (c : Constant) (slots slots′ names′ : List ℕ) (f r : Faults) : Type 0 where
@@ -35,6 +35,7 @@ slotConstants s names slots i (c ∷ cs) =
 
 pub record ConstantsJudged (s names : List ℕ) (f : File) (visible : List ℕ) (at : ℕ) (cs : List Constant) (slots slots′ names′ : List ℕ) (g r : Faults) : Type 0 where
   pub unseen : placeOf (r .unseen) ≡ foundIn (placeOf (g .unseen)) (constantUses visible (placed constantSize at cs))
+  pub again : r .again ≡ g .again
   pub called : placeOf (r .called) ≡ foundIn (placeOf (g .called)) (concat (map (inConstant (callsWhere (λ c args. true))) (placed constantSize at cs)))
   pub shaped : placeOf (r .shaped) ≡ foundIn (placeOf (g .shaped)) (concat (map (inConstant (shapeItem f)) (placed constantSize at cs)))
   pub entered : names′ ≡ declareAll names (constantEntries 0 cs)

@@ -27,8 +27,10 @@ fn constant(
 {
     let at = f.next;
     let unseen = f.unseen;
+    let again = f.again;
     let called = f.called;
     let shaped = f.shaped;
+    let size = f.size;
     let r = walk(
         file,
         names,
@@ -39,8 +41,10 @@ fn constant(
         1,
         Faults {
             unseen,
+            again,
             called,
             shaped,
+            size,
             next: at + 2 + ty_size(file, at + 2),
         },
     );

@@ -1,4 +1,4 @@
-// Faults 7, 9 and 10 of every expression and equation, and the slots of the names.
+// Faults 7 to 10 of every expression and equation, the slots of the names, and the records of the call sites.
 use super::Found;
 use super::bytes::byte;
 use super::bytes::earlier;
@@ -6,24 +6,28 @@ use super::bytes::entry;
 use super::bytes::name;
 use super::bytes::put_byte;
 use super::heads::head;
+use super::size::capped;
+use super::size::site;
 ghost use mathlib.Core.Path.{_≡_};
 ghost use Prim.Native.Nat.{ℕ, _≤_, _<_, _+_, _*_};
 ghost use lib.ListN.{getD, length, set};
 ghost use Rattle.ol_spec.specs.Syntax.{Exprs, count};
 ghost use Rattle.ol_tree.specs.Heads.{nameAt, Standing};
 ghost use Rattle.ol_check.specs.Judging.{unseenB, slotOfEntry, slotPut, slotHead, mayB, badB, calledB, outputsB, arityB, Walked};
-ghost use Rattle.ol_check.specs.Judging.{NamesSeen, loneB, otherB, RootJudged, Context, EquationJudged, EquationsJudged};
+ghost use Rattle.ol_check.specs.Judging.{takenB, NamesDefined, loneB, otherB, RootJudged, Context, EquationJudged, EquationsJudged};
 ghost use mathlib.Core.List.{List};
 ghost use mathlib.Core.Bool.{Bool};
 ghost use Rattle.ol_spec.specs.Syntax.{Expr, nil, cons, Equation, File};
-ghost use Rattle.ol_spec.specs.Places.{placedNames};
 ghost use Rattle.ol_tree.specs.Stands.{Names, EquationStands, Equations};
 
-// The first fault of each number so far, and where the walk stands.
+// The first fault of each number so far, the bytes of the records of a node's call sites so far, and
+// where the walk stands.
 pub struct Faults {
     pub unseen: Found,
+    pub again: Found,
     pub called: Found,
     pub shaped: Found,
+    pub size: usize,
     pub next: usize,
 }
 
@@ -153,12 +157,16 @@ pub fn walk(
     let mut unseen = f.unseen;
     let mut called = f.called;
     let mut shaped = f.shaped;
+    let mut size = f.size;
+    let again = f.again;
     while 0 < left {
         if file.len() <= next {
             return Faults {
                 unseen,
+                again,
                 called,
                 shaped,
+                size,
                 next,
             };
         }
@@ -167,40 +175,72 @@ pub fn walk(
         unseen = earlier(unseen, unseen_at(file, names, next), next + 1);
         called = earlier(called, called_at(file, rows, node, next), next);
         shaped = earlier(shaped, 1 < arity_at(file, rows, nodes, next), next);
+        size = capped(size, site(file, rows, nodes, next));
         left = left - 1 + h.count;
         next = h.start;
     }
     Faults {
         unseen,
+        again,
         called,
         shaped,
+        size,
         next,
     }
 }
 
-// So many names from `at` on: the first that has no entry, and each one's slot.
-fn seen_names(
+// Whether a name with this entry may not be defined: it is an input, a constant, a variant, or
+// defined before. `defined` is by entry.
+fn taken(defined: &[u8], inputs: usize, e: usize) -> bool
+    ensures { λ r. ⌜ r ≡ takenB (now (defined .entry)) inputs e ⌝ }
+{
+    if e <= inputs {
+        true
+    } else if 112 < e {
+        true
+    } else {
+        byte(defined, e) != 0
+    }
+}
+
+// So many names that an equation defines, from where the walk stands: the first that has no entry,
+// the first that may not be defined, and each one's slot.
+fn define(
     file: &[u8],
     names: &[u8],
     slots: &mut [u8],
+    defined: &mut [u8],
+    inputs: usize,
     many: usize,
-    at: usize,
-    found: Found,
-) -> Found
-    requires { ⌜ (many < 256) × (at ≤ 40000) ⌝ }
-    ensures { λ r. ⌜ ((xs : List ℕ) → length xs ≡ many → Names (now (file .entry)) 0 at xs → NamesSeen (now (names .entry)) (placedNames at xs) (now (slots .entry)) (now (slots .exit)) found r) ⌝ }
+    f: Faults,
+) -> Faults
+    requires { ⌜ (many < 256) × (f .next ≤ 40000) ⌝ }
+    ensures { λ r. ⌜ ((xs : List ℕ) → length xs ≡ many → Names (now (file .entry)) 0 (f .next) xs → NamesDefined (now (names .entry)) inputs xs (now (slots .entry)) (now (slots .exit)) (now (defined .entry)) (now (defined .exit)) f r) ⌝ }
 {
-    let mut next = at;
+    let mut next = f.next;
     let mut i = 0;
-    let mut unseen = found;
+    let mut unseen = f.unseen;
+    let mut again = f.again;
+    let called = f.called;
+    let shaped = f.shaped;
+    let size = f.size;
     while i < many {
         let e = byte(names, name(file, next));
         unseen = earlier(unseen, e == 0, next);
+        again = earlier(again, taken(defined, inputs, e), next);
         put_byte(slots, next, slot(e));
+        put_byte(defined, e, 1);
         next += 2;
         i += 1;
     }
-    unseen
+    Faults {
+        unseen,
+        again,
+        called,
+        shaped,
+        size,
+        next,
+    }
 }
 
 // Several names, and not several values.
@@ -237,6 +277,7 @@ fn root(
         return f;
     }
     let u = f.unseen;
+    let again = f.again;
     let c = f.called;
     let s = f.shaped;
     let h = head(file, next);
@@ -246,6 +287,7 @@ fn root(
     let called = earlier(c, called_at(file, rows, node, next), next);
     let few = earlier(s, lone(many, values), at);
     let shaped = earlier(few, other(many, values), next);
+    let size = capped(f.size, site(file, rows, nodes, next));
     walk(
         file,
         names,
@@ -256,63 +298,71 @@ fn root(
         h.count,
         Faults {
             unseen,
+            again,
             called,
             shaped,
+            size,
             next: h.start,
         },
     )
 }
 
-// The equation where the walk stands.
+// The equation where the walk stands, in a node of so many inputs.
 fn equation(
     file: &[u8],
     names: &[u8],
     slots: &mut [u8],
+    defined: &mut [u8],
     rows: &[usize],
     nodes: usize,
     node: usize,
+    inputs: usize,
     f: Faults,
 ) -> Faults
     requires { ⌜ (node < 256) × (f .next < length (now file)) × (length (now file) ≤ 32768) ⌝ }
-    ensures { λ r. ⌜ ((t : File) (visible : List ℕ) (bad : ℕ → ℕ → Bool) (enums : ℕ) (q : Equation) → Context t node (now (names .entry)) (now (rows .entry)) nodes visible bad → EquationStands (now (file .entry)) enums (f .next) q → EquationJudged (now (file .entry)) (now (names .entry)) t visible bad (f .next) q (now (slots .entry)) (now (slots .exit)) f r) ⌝ }
+    ensures { λ r. ⌜ ((t : File) (visible : List ℕ) (bad : ℕ → ℕ → Bool) (enums : ℕ) (q : Equation) → Context t node (now (names .entry)) (now (rows .entry)) nodes visible bad → EquationStands (now (file .entry)) enums (f .next) q → EquationJudged (now (file .entry)) (now (names .entry)) (now (rows .entry)) nodes t visible bad inputs (f .next) q (now (slots .entry)) (now (slots .exit)) (now (defined .entry)) (now (defined .exit)) f r) ⌝ }
 {
     let at = f.next;
     let many = byte(file, at);
-    let u = f.unseen;
+    let unseen = f.unseen;
+    let again = f.again;
     let called = f.called;
     let shaped = f.shaped;
-    let unseen = seen_names(file, names, slots, many, at + 1, u);
-    root(
+    let size = f.size;
+    let d = define(
         file,
         names,
         slots,
-        rows,
-        nodes,
-        node,
-        at,
+        defined,
+        inputs,
         many,
         Faults {
             unseen,
+            again,
             called,
             shaped,
-            next: at + 1 + 2 * many,
+            size,
+            next: at + 1,
         },
-    )
+    );
+    root(file, names, slots, rows, nodes, node, at, many, d)
 }
 
-// So many equations from where the walk stands.
+// So many equations of a node of so many inputs, from where the walk stands.
 pub fn equations(
     file: &[u8],
     names: &[u8],
     slots: &mut [u8],
+    defined: &mut [u8],
     rows: &[usize],
     nodes: usize,
     node: usize,
+    inputs: usize,
     many: usize,
     f: Faults,
 ) -> Faults
     requires { ⌜ (node < 256) × (length (now file) ≤ 32768) ⌝ }
-    ensures { λ r. ⌜ ((t : File) (visible : List ℕ) (bad : ℕ → ℕ → Bool) (enums : ℕ) (qs : List Equation) → Context t node (now (names .entry)) (now (rows .entry)) nodes visible bad → length qs ≡ many → Equations (now (file .entry)) enums (f .next) qs → EquationsJudged (now (file .entry)) (now (names .entry)) t visible bad (f .next) qs (now (slots .entry)) (now (slots .exit)) f r) ⌝ }
+    ensures { λ r. ⌜ ((t : File) (visible : List ℕ) (bad : ℕ → ℕ → Bool) (enums : ℕ) (qs : List Equation) → Context t node (now (names .entry)) (now (rows .entry)) nodes visible bad → length qs ≡ many → Equations (now (file .entry)) enums (f .next) qs → EquationsJudged (now (file .entry)) (now (names .entry)) (now (rows .entry)) nodes t visible bad inputs (f .next) qs (now (slots .entry)) (now (slots .exit)) (now (defined .entry)) (now (defined .exit)) f r) ⌝ }
 {
     let mut g = f;
     let mut i = 0;
@@ -321,7 +371,7 @@ pub fn equations(
         if file.len() <= at {
             return g;
         }
-        g = equation(file, names, slots, rows, nodes, node, g);
+        g = equation(file, names, slots, defined, rows, nodes, node, inputs, g);
         i += 1;
     }
     g

@@ -9,9 +9,6 @@ use borrow.Author.Needs.{needs}
 use native.Mathlib.Omega.{arith}
 use Rattle.ol_check.proofs.constants.judge_constants.Statement.{statement}
 use Rattle.ol_check.proofs.constants.judge_constants.Tie as tie
-use Rattle.ol_check.proofs.constants.judge_constants.Reads as reads
-use Rattle.ol_check.proofs.constants.judge_constants.Lts as lts
-use Rattle.ol_check.proofs.constants.constant.Reads as constant-reads
 
 abbrev Inv-loop : tie.InvT-loop
 Inv-loop file names₀ slots₀ rows nodes many g₀ i₀ names slots g i =
@@ -20,35 +17,27 @@ Inv-loop file names₀ slots₀ rows nodes many g₀ i₀ names slots g i =
 abbrev μ-loop : tie.MeasureT-loop
 μ-loop file names₀ slots₀ rows nodes many g₀ i₀ names slots g i = many - i
 
--- src/constants.rt:66:5
 loop-holds : tie.Need-loop-holds Inv-loop μ-loop
 loop-holds c = (refl, refl, λ t visible enums cs q rd. constants-start rd)
 
--- src/constants.rt:69:13
 same-length : tie.Need-same-length Inv-loop μ-loop
 same-length c = c .before .before .loop .inv .0
 
--- src/constants.rt:69:13
 same-length-2 : tie.Need-same-length-2 Inv-loop μ-loop
 same-length-2 c = c .before .before .loop .inv .1
 
--- src/constants.rt:69:13
 returns : tie.Need-returns Inv-loop μ-loop
 returns c = λ t visible enums cs q rd. absurd (constants-cut rd (c .before .before .loop .inv .2 t visible enums cs q rd) (omega (arith, c .before .loop-test .taken)) (c .if1 .taken))
 
--- src/constants.rt:71:9
 constant-requires : tie.Need-constant-requires Inv-loop μ-loop
 constant-requires c κs = (omega (arith, c .before .before .if1 .left), c .before .before .before .before .before .before .before .before .before .pre .0, omega (arith, c .before .before .before .loop-test .taken, c .before .before .before .before .before .before .before .before .before .pre .1))
 
--- src/constants.rt:72:9
 add-i : tie.Need-add-i Inv-loop μ-loop
 add-i c = omega arith
 
--- src/constants.rt:66:5
 loop-less : tie.Need-loop-less Inv-loop μ-loop
 loop-less c = omega arith
 
--- src/constants.rt:66:5
 loop-again : tie.Need-loop-again Inv-loop μ-loop
 loop-again c = (
   c .before .before .before .before .constant .kept .1 .0 ∙ c .before .before .before .before .before .before .before .before .before .loop .inv .0,
@@ -56,32 +45,14 @@ loop-again c = (
   λ t visible enums cs q rd. constants-turn rd (c .before .before .before .before .before .before .before .before .before .loop .inv .2 t visible enums cs q rd) (omega (arith, c .before .before .before .before .before .before .before .before .loop-test .taken)) (c .before .before .before .before .before .before .before .before .before .loop .inv .0) _ _ _ (c .before .before .before .before .constant .ensures enums),
 )
 
--- src/constants.rt:52:1
 same-length-3 : tie.Need-same-length-3 Inv-loop μ-loop
 same-length-3 c = c .before .loop .inv .0
 
--- src/constants.rt:52:1
 same-length-4 : tie.Need-same-length-4 Inv-loop μ-loop
 same-length-4 c = c .before .loop .inv .1
 
--- src/constants.rt:52:1
 returns-2 : tie.Need-returns-2 Inv-loop μ-loop
 returns-2 c = λ t visible enums cs q rd. constants-done rd (c .before .loop .inv .2 t visible enums cs q rd) (omega (arith, c .loop-test .left))
 
 pub judge-constants-spec : {M : Type 1} → statement M
-judge-constants-spec =
-    tie.close
-    (tie.spec
-    Inv-loop
-    μ-loop
-    loop-holds
-    same-length
-    same-length-2
-    returns
-    constant-requires
-    add-i
-    loop-less
-    loop-again
-    same-length-3
-    same-length-4
-    returns-2)
+judge-constants-spec = tie.close (tie.spec Inv-loop μ-loop loop-holds same-length same-length-2 returns constant-requires add-i loop-less loop-again same-length-3 same-length-4 returns-2)

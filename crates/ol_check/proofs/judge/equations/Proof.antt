@@ -11,65 +11,46 @@ use borrow.Author.Needs.{needs}
 use native.Mathlib.Omega.{arith}
 use Rattle.ol_check.proofs.judge.equations.Statement.{statement}
 use Rattle.ol_check.proofs.judge.equations.Tie as tie
-use Rattle.ol_check.proofs.judge.equations.Reads as reads
-use Rattle.ol_check.proofs.judge.equations.Lts as lts
-use Rattle.ol_check.proofs.judge.equation.Reads as equation-reads
 
 abbrev Inv-loop : tie.InvT-loop
-Inv-loop file names slots₀ rows nodes node many g₀ i₀ slots g i =
-    (length slots ≡ length slots₀) × ((t : File) (visible : List ℕ) (bad : ℕ → ℕ → Bool) (enums : ℕ) (qs : List Equation) → Context t node names rows nodes visible bad → length qs ≡ many → Equations file enums (g₀ .next) qs → EquationsGoing file names t visible bad enums qs slots₀ g₀ slots g i)
+Inv-loop file names slots₀ defined₀ rows nodes node inputs many g₀ i₀ slots defined g i =
+    (length slots ≡ length slots₀) × (length defined ≡ length defined₀) × ((t : File) (visible : List ℕ) (bad : ℕ → ℕ → Bool) (enums : ℕ) (qs : List Equation) → Context t node names rows nodes visible bad → length qs ≡ many → Equations file enums (g₀ .next) qs → EquationsGoing file names rows nodes t visible bad inputs enums qs slots₀ defined₀ g₀ slots defined g i)
 
 abbrev μ-loop : tie.MeasureT-loop
-μ-loop file names slots₀ rows nodes node many g₀ i₀ slots g i = many - i
+μ-loop file names slots₀ defined₀ rows nodes node inputs many g₀ i₀ slots defined g i = many - i
 
--- src/judge.rt:319:5
 loop-holds : tie.Need-loop-holds Inv-loop μ-loop
-loop-holds c = (refl, λ t visible bad enums qs x q h. equations-start h)
+loop-holds c = (refl, refl, λ t visible bad enums qs x q h. equations-start h)
 
--- src/judge.rt:322:13
 same-length : tie.Need-same-length Inv-loop μ-loop
 same-length c = c .before .before .loop .inv .0
 
--- src/judge.rt:322:13
+same-length-2 : tie.Need-same-length-2 Inv-loop μ-loop
+same-length-2 c = c .before .before .loop .inv .1
+
 returns : tie.Need-returns Inv-loop μ-loop
-returns c = λ t visible bad enums qs x q h. absurd (equations-cut (c .before .before .loop .inv .1 t visible bad enums qs x q h) (omega (arith, c .before .loop-test .taken)) (c .if1 .taken))
+returns c = λ t visible bad enums qs x q h. absurd (equations-cut (c .before .before .loop .inv .2 t visible bad enums qs x q h) (omega (arith, c .before .loop-test .taken)) (c .if1 .taken))
 
--- src/judge.rt:324:9
 equation-requires : tie.Need-equation-requires Inv-loop μ-loop
-equation-requires c κs = (c .before .before .before .before .before .before .before .before .pre .0, omega (arith, c .before .if1 .left), c .before .before .before .before .before .before .before .before .pre .1)
+equation-requires c κs = (c .before .before .before .before .before .before .before .before .before .before .pre .0, omega (arith, c .before .before .if1 .left), c .before .before .before .before .before .before .before .before .before .before .pre .1)
 
--- src/judge.rt:325:9
 add-i : tie.Need-add-i Inv-loop μ-loop
 add-i c = omega arith
 
--- src/judge.rt:319:5
 loop-less : tie.Need-loop-less Inv-loop μ-loop
 loop-less c = omega arith
 
--- src/judge.rt:319:5
 loop-again : tie.Need-loop-again Inv-loop μ-loop
-loop-again c = (c .before .before .equation .kept .1 .1 .0 ∙ c .before .before .before .before .before .before .loop .inv .0, λ t visible bad enums qs x q h. equations-turn (c .before .before .before .before .before .before .loop .inv .1 t visible bad enums qs x q h) (omega (arith, c .before .before .before .before .before .loop-test .taken)) _ _ (λ y st. c .before .before .equation .ensures t visible bad enums y x st))
+loop-again c = (c .before .before .before .before .equation .kept .1 .1 .0 ∙ c .before .before .before .before .before .before .before .before .before .loop .inv .0, c .before .before .before .before .equation .kept .1 .1 .1 .0 ∙ c .before .before .before .before .before .before .before .before .before .loop .inv .1, λ t visible bad enums qs x q h. equations-turn (c .before .before .before .before .before .before .before .before .before .loop .inv .2 t visible bad enums qs x q h) (omega (arith, c .before .before .before .before .before .before .before .before .loop-test .taken)) _ _ _ (λ y st. c .before .before .before .before .equation .ensures t visible bad enums y x st))
 
--- src/judge.rt:304:1
-same-length-2 : tie.Need-same-length-2 Inv-loop μ-loop
-same-length-2 c = c .before .loop .inv .0
+same-length-3 : tie.Need-same-length-3 Inv-loop μ-loop
+same-length-3 c = c .before .loop .inv .0
 
--- src/judge.rt:304:1
+same-length-4 : tie.Need-same-length-4 Inv-loop μ-loop
+same-length-4 c = c .before .loop .inv .1
+
 returns-2 : tie.Need-returns-2 Inv-loop μ-loop
-returns-2 c = λ t visible bad enums qs x q h. equations-done (c .before .loop .inv .1 t visible bad enums qs x q h) (omega (arith, c .loop-test .left))
+returns-2 c = λ t visible bad enums qs x q h. equations-done (c .before .loop .inv .2 t visible bad enums qs x q h) (omega (arith, c .loop-test .left))
 
 pub equations-spec : {M : Type 1} → statement M
-equations-spec =
-    tie.close
-    (tie.spec
-    Inv-loop
-    μ-loop
-    loop-holds
-    same-length
-    returns
-    equation-requires
-    add-i
-    loop-less
-    loop-again
-    same-length-2
-    returns-2)
+equations-spec = tie.close (tie.spec Inv-loop μ-loop loop-holds same-length same-length-2 returns equation-requires add-i loop-less loop-again same-length-3 same-length-4 returns-2)
