@@ -1,7 +1,7 @@
 -- An equation: its names, its right side, and what is inside that.
-use Prim.Native.Nat.{ℕ, zero, suc, _+_, _-_, _*_, _≤_, _<_}
+use Prim.Native.Nat.{ℕ, zero, suc, _+_, _-_, _*_, _≤_, _<_, min}
 use mathlib.Core.Bool.{Bool, true, false, not, _&&_, cond}
-use mathlib.Core.List.{List, [], _∷_, _++_, map}
+use mathlib.Core.List.{List, [], _∷_, _++_, map, append-nil}
 use mathlib.Core.Option.{Option, none, some}
 use mathlib.Core.Path.{_≡_, refl, sym, ap, subst, _∙_}
 use native.Mathlib.Omega.{arith}
@@ -12,13 +12,15 @@ use lib.Dec.{T, ltb, leb, eqb}
 use borrow.Author.Tests.{lt-ltb, le-ltb, le-leb, lt-leb}
 use native.Mathlib.Decide.{decLe}
 use mathlib.Core.Logic.{by-cases}
-use Rattle.ol_spec.specs.Lists.{orElse, member, concat}
+use Rattle.ol_spec.specs.Lists.{orElse, member, concat, sum}
 use Rattle.ol_spec.specs.Syntax.{Expr, Exprs, nil, cons, count, Equation, File, rhsOf}
 use Rattle.ol_spec.specs.Places.{exprsSize, exprSize, equationSize, collect, collectAll, placed, placedNames, rhsPlace}
 use Rattle.ol_spec.specs.Encode.{nameBytes, equationBytes}
 use Rattle.ol_spec.specs.Limits.{base}
 use Rattle.ol_spec.specs.Within.{nameFits, equationFits}
 use Rattle.ol_spec.specs.Admission.{Item, first, firstIf, unseenItem, unseen, usedAt, used, callsWhere, shapeItem, severalIn, arity, equationUses, inEquation, equationShape, definedBy}
+use Rattle.ol_spec.specs.Eval.{callees}
+use Rattle.ol_spec.specs.Step.{equationSites}
 use Rattle.ol_spec.proofs.Walks.{first-append}
 use Rattle.ol_spec.proofs.Cells.{length-bytes}
 use Rattle.ol_spec.proofs.RoundTrip.Parts.{here-inside}
@@ -35,7 +37,9 @@ use Rattle.ol_check.specs.Judging.{Knows, Context, SlotIs, entryItem, sl
 use Rattle.ol_check.specs.declared.Found.{Found}
 use Rattle.ol_check.specs.declared.heads.Parts.{Parts}
 use Rattle.ol_check.specs.declared.judge.Faults.{Faults}
-use Rattle.ol_check.proofs.WalkLoop.{found-step, found-none}
+use Rattle.ol_check.specs.Records.{siteB, calleeB}
+use Rattle.ol_check.proofs.WalkLoop.{found-step, found-none, min-add, min-cap, Adding}
+use Rattle.ol_check.proofs.CalleeLaws.{sum-append, sites-callees}
 use Rattle.ol_check.proofs.HeadLaws.{Flat, flat, unseen-law, called-law, several-law, arity-is, slots-below, slots-length, slots-held}
 
 -- ---- names
@@ -87,10 +91,10 @@ module _ {s names : List ℕ} {inputs : ℕ} {xs : List ℕ} {at : ℕ} {slots�
           marked = ap (λ l. markAll names l rest) put ∙ ap (markAll names defined) (sym on) ∙ g .marked;
         }
 
-    pub names-done : (f r : Faults) → i ≤ length xs → length xs ≤ i → next ≡ at + 2 * i → f .next ≡ at → f .unseen ≡ u₀ → f .again ≡ a₀ → r .called ≡ f .called → r .shaped ≡ f .shaped
+    pub names-done : (f r : Faults) → i ≤ length xs → length xs ≤ i → next ≡ at + 2 * i → f .next ≡ at → f .unseen ≡ u₀ → f .again ≡ a₀ → r .called ≡ f .called → r .shaped ≡ f .shaped → r .size ≡ f .size
         → r .next ≡ next → r .unseen ≡ u → r .again ≡ a → NamesDefined names inputs xs slots₀ slots defined₀ defined f r
     unfolding slotNames markAll againB
-    names-done f r under over en ea eu₀ ea₀ ec eh er eu er₂ =
+    names-done f r under over en ea eu₀ ea₀ ec eh ez er eu er₂ =
         let empty : drop i xs ≡ [] = drop-of-length-le xs over in
         record {
           next = omega arith;
@@ -98,6 +102,7 @@ module _ {s names : List ℕ} {inputs : ℕ} {xs : List ℕ} {at : ℕ} {slots�
           again = rw (er₂, ea₀, ea) (sym (found-none (placeOf a)) ∙ ap (λ l. foundIn (placeOf a) (againB names inputs defined (placedNames next l))) (sym empty) ∙ g .again);
           called = ec;
           shaped = eh;
+          sized = ez;
           slotted = rw ea (ap (λ l. slotNames names slots (placedNames next l)) (sym empty) ∙ g .slotted);
           marked = rw ea (ap (λ l. markAll names defined (placedNames next l)) (sym empty) ∙ g .marked);
         }
@@ -139,13 +144,14 @@ other-several n v lt = rw (lt-ltb 1 v lt) refl
 pub other-one : (n v : ℕ) → v ≤ 1 → false ≡ otherB n v
 other-one n v le = rw (le-ltb 1 v le) refl
 
-module _ {s names rows : List ℕ} {nodes k at many : ℕ} (slots : List ℕ) {slots₁ slots₂ : List ℕ} {f r : Faults} {p : Parts} {u c h : Found} (few : Found) {bu bc bl bo : Bool} {v : ℕ}
+module _ {s names rows : List ℕ} {nodes k at many : ℕ} (slots : List ℕ) {slots₁ slots₂ : List ℕ} {f r : Faults} {p : Parts} {u c h : Found} (few : Found) {bu bc bl bo : Bool} {v x z : ℕ}
     (hp : HeadOf s (f .next) p) (ev : v ≡ arityB s rows nodes (f .next)) (es : slots₁ ≡ slotHead s names slots (f .next))
     (eu : placeOf u ≡ earliest (placeOf (f .unseen)) bu (f .next + 1)) (fu : bu ≡ unseenB s names (f .next))
     (ec : placeOf c ≡ earliest (placeOf (f .called)) bc (f .next)) (fc : bc ≡ calledB s rows k (f .next))
     (el : placeOf few ≡ earliest (placeOf (f .shaped)) bl at) (fl : bl ≡ loneB many v)
     (eo : placeOf h ≡ earliest (placeOf few) bo (f .next)) (fo : bo ≡ otherB many v)
-    (walked : (enums : ℕ) (xs : Exprs) → count xs ≡ p .count → Standing s enums (p .start) xs → Walked s names rows nodes k xs slots₁ slots₂ (record { unseen = u; again = f .again; called = c; shaped = h; next = p .start }) r) where
+    (ez : z ≡ min (f .size + x) 65536) (fz : x ≡ siteB s rows nodes (f .next))
+    (walked : (enums : ℕ) (xs : Exprs) → count xs ≡ p .count → Standing s enums (p .start) xs → Walked s names rows nodes k xs slots₁ slots₂ (record { unseen = u; again = f .again; called = c; shaped = h; size = z; next = p .start }) r) where
   pub root-judged : (enums : ℕ) (e : Expr) → Standing s enums (f .next) (cons e nil) → RootJudged s names rows nodes k at many e slots slots₂ f r
   unfolding slotHeads
   root-judged enums e st =
@@ -158,6 +164,10 @@ module _ {s names rows : List ℕ} {nodes k at many : ℕ} (slots : List ℕ) {s
       record {
         next = omega (arith, w .next, start, head-ends e nil n);
         again = w .again;
+        sized = λ le.
+            let rs = sum (map (siteB s rows nodes) (heads (p .start) rest)) in
+            w .sized (omega (arith, ez)) ∙ ap (λ m. min (m + rs) 65536) (ez ∙ ap (λ y. min (f .size + y) 65536) fz) ∙ min-add (f .size) (siteB s rows nodes n) rs 65536
+            ∙ ap (λ l. min (f .size + sum (map (siteB s rows nodes) l)) 65536) (sym all);
         slotted = w .slotted ∙ ap (λ l. slotHeads s names l (heads (p .start) rest)) es ∙ ap (slotHeads s names slots) (sym all);
         unseen = w .unseen ∙ ap (λ o. foundIn o (map (unseenHead s names) (heads (p .start) rest))) (eu ∙ ap (λ b. earliest (placeOf (f .unseen)) b (n + 1)) fu)
             ∙ found-step (placeOf (f .unseen)) (unseenB s names n) (n + 1) (map (unseenHead s names) (heads (p .start) rest)) ∙ ap (λ l. foundIn (placeOf (f .unseen)) (map (unseenHead s names) l)) (sym all);
@@ -194,10 +204,10 @@ entries-seen names visible knows (p ∷ ps) =
 
 module _ {s names rows : List ℕ} {nodes k many inputs : ℕ} (slots slots₁ slots₂ defined defined₁ : List ℕ) {g r : Faults} (d : Faults) (mb : Byte s (g .next) many)
     (named : (xs : List ℕ) → length xs ≡ many → Names s 0 (g .next + 1) xs
-    → NamesDefined names inputs xs slots slots₁ defined defined₁ (record { unseen = g .unseen; again = g .again; called = g .called; shaped = g .shaped; next = g .next + 1 }) d)
+    → NamesDefined names inputs xs slots slots₁ defined defined₁ (record { unseen = g .unseen; again = g .again; called = g .called; shaped = g .shaped; size = g .size; next = g .next + 1 }) d)
     (rooted : (enums : ℕ) (e : Expr) → Standing s enums (d .next) (cons e nil) → RootJudged s names rows nodes k (g .next) many e slots₁ slots₂ d r) where
   pub equation-judged : (t : File) (visible : List ℕ) (bad : ℕ → ℕ → Bool) (enums : ℕ) (q : Equation) → Context t k names rows nodes visible bad → EquationStands s enums (g .next) q
-      → EquationJudged s names t visible bad inputs (g .next) q slots slots₂ defined defined₁ g r
+      → EquationJudged s names rows nodes t visible bad inputs (g .next) q slots slots₂ defined defined₁ g r
   unfolding slotEquation
   equation-judged t visible bad enums q ctx st =
       let at = g .next in
@@ -230,6 +240,10 @@ module _ {s names rows : List ℕ} {nodes k many inputs : ℕ} (slots slots₁ s
         shaped = w .shaped ∙ ap (λ x. orElse (placeOf (d .shaped)) (firstIf (loneB many (arityB s rows nodes p)) at (firstIf (otherB many (arityB s rows nodes p)) p x))) inner
             ∙ rw (ar, ← len, n .shaped, ← place) refl;
         marked = n .marked;
+        sized = λ le.
+            let sites : sum (map (siteB s rows nodes) (heads p (cons e nil))) ≡ sum (map (calleeB rows nodes) (callees e)) =
+            sites-callees s rows nodes f ∙ ap (λ l. sum (map (calleeB rows nodes) l)) (append-nil (callees e)) in
+            w .sized (omega (arith, n .sized)) ∙ ap (λ m. min (m + sum (map (siteB s rows nodes) (heads p (cons e nil)))) 65536) (n .sized) ∙ ap (λ m. min (g .size + m) 65536) sites;
         slotted = w .slotted ∙ ap (λ l. slotHeads s names l (heads p (cons e nil))) (n .slotted) ∙ ap (λ a. slotHeads s names (slotNames names slots ps) (heads a (cons e nil))) (sym place);
       }
 
@@ -286,24 +300,25 @@ again-append names inputs defined (p ∷ ps) qs = ap (λ l. (p .0, takenB define
 abbrev pub EquationPassing : List ℕ → ℕ → ℕ → List Equation → ℕ → ℕ → Type 0
 EquationPassing s enums at qs i next = Passing equationBytes (equationFits base enums) equationSize s at qs i next
 
-pub record EquationsGoing (s names : List ℕ) (t : File) (visible : List ℕ) (bad : ℕ → ℕ → Bool) (inputs enums : ℕ) (qs : List Equation) (slots₀ defined₀ : List ℕ) (f : Faults) (slots defined : List ℕ) (g : Faults) (i : ℕ) : Type 0 where
+pub record EquationsGoing (s names rows : List ℕ) (nodes : ℕ) (t : File) (visible : List ℕ) (bad : ℕ → ℕ → Bool) (inputs enums : ℕ) (qs : List Equation) (slots₀ defined₀ : List ℕ) (f : Faults) (slots defined : List ℕ) (g : Faults) (i : ℕ) : Type 0 where
   pub passing : EquationPassing s enums (f .next) qs i (g .next)
   pub unseen : foundIn (placeOf (g .unseen)) (concat (map (equationUses visible) (placed equationSize (g .next) (drop i qs)))) ≡ foundIn (placeOf (f .unseen)) (concat (map (equationUses visible) (placed equationSize (f .next) qs)))
   pub again : foundIn (placeOf (g .again)) (againB names inputs defined (concat (map definedBy (placed equationSize (g .next) (drop i qs))))) ≡ foundIn (placeOf (f .again)) (againB names inputs defined₀ (concat (map definedBy (placed equationSize (f .next) qs))))
   pub called : foundIn (placeOf (g .called)) (concat (map (inEquation (callsWhere bad)) (placed equationSize (g .next) (drop i qs)))) ≡ foundIn (placeOf (f .called)) (concat (map (inEquation (callsWhere bad)) (placed equationSize (f .next) qs)))
   pub shaped : foundIn (placeOf (g .shaped)) (concat (map (equationShape t) (placed equationSize (g .next) (drop i qs)))) ≡ foundIn (placeOf (f .shaped)) (concat (map (equationShape t) (placed equationSize (f .next) qs)))
   pub slotted : slotEquations s names slots (placed equationSize (g .next) (drop i qs)) ≡ slotEquations s names slots₀ (placed equationSize (f .next) qs)
+  pub sized : Adding (f .size) (map (calleeB rows nodes) (concat (map equationSites qs))) (g .size) (map (calleeB rows nodes) (concat (map equationSites (drop i qs))))
 
-module _ {s names : List ℕ} {t : File} {visible : List ℕ} {bad : ℕ → ℕ → Bool} {inputs enums : ℕ} {qs : List Equation} {slots₀ defined₀ : List ℕ} {f : Faults} where
-  pub equations-start : Listed equationBytes (equationFits base enums) s (f .next) qs → EquationsGoing s names t visible bad inputs enums qs slots₀ defined₀ f slots₀ defined₀ f 0
-  equations-start h = record { passing = passing-start equationBytes (equationFits base enums) equationSize h; unseen = refl; again = refl; called = refl; shaped = refl; slotted = refl }
+module _ {s names rows : List ℕ} {nodes : ℕ} {t : File} {visible : List ℕ} {bad : ℕ → ℕ → Bool} {inputs enums : ℕ} {qs : List Equation} {slots₀ defined₀ : List ℕ} {f : Faults} where
+  pub equations-start : Listed equationBytes (equationFits base enums) s (f .next) qs → EquationsGoing s names rows nodes t visible bad inputs enums qs slots₀ defined₀ f slots₀ defined₀ f 0
+  equations-start h = record { passing = passing-start equationBytes (equationFits base enums) equationSize h; unseen = refl; again = refl; called = refl; shaped = refl; slotted = refl; sized = λ le. (le, refl) }
 
-  module _ {slots defined : List ℕ} {g : Faults} {i : ℕ} (w : EquationsGoing s names t visible bad inputs enums qs slots₀ defined₀ f slots defined g i) where
+  module _ {slots defined : List ℕ} {g : Faults} {i : ℕ} (w : EquationsGoing s names rows nodes t visible bad inputs enums qs slots₀ defined₀ f slots defined g i) where
     equation-at : i < length qs → PassedItem equationBytes (equationFits base enums) equationSize s (f .next) qs i (g .next) (getD qs i noEquation)
     equation-at lt = passing-item equation-size noEquation (w .passing) lt
 
-    pub equations-turn : i < length qs → (slots′ defined′ : List ℕ) (r : Faults) → ((q : Equation) → EquationStands s enums (g .next) q → EquationJudged s names t visible bad inputs (g .next) q slots slots′ defined defined′ g r)
-        → EquationsGoing s names t visible bad inputs enums qs slots₀ defined₀ f slots′ defined′ r (i + 1)
+    pub equations-turn : i < length qs → (slots′ defined′ : List ℕ) (r : Faults) → ((q : Equation) → EquationStands s enums (g .next) q → EquationJudged s names rows nodes t visible bad inputs (g .next) q slots slots′ defined defined′ g r)
+        → EquationsGoing s names rows nodes t visible bad inputs enums qs slots₀ defined₀ f slots′ defined′ r (i + 1)
     unfolding slotEquations
     equations-turn lt slots′ defined′ r judged =
         let it = equation-at lt in
@@ -326,12 +341,23 @@ module _ {s names : List ℕ} {t : File} {visible : List ℕ} {bad : ℕ → ℕ
           slotted = ap (λ n. slotEquations s names slots′ (placed equationSize n (drop (i + 1) qs))) (j .next)
               ∙ ap (λ l. slotEquations s names l (placed equationSize (g .next + equationSize q) (drop (i + 1) qs))) (j .slotted)
               ∙ ap (slotEquations s names slots) (sym on) ∙ w .slotted;
+          sized = λ le.
+              let v = w .sized le in
+              let a = j .sized (v .0) in
+              let c = calleeB rows nodes in
+              let rest = concat (map equationSites (drop (i + 1) qs)) in
+              let left : drop i qs ≡ q ∷ drop (i + 1) qs = drop-cons qs i noEquation lt ∙ ap (λ m. q ∷ drop m qs) (sym (add-one i)) in (
+                omega (arith, a),
+                ap (λ m. min (m + sum (map c rest)) 65536) a ∙ min-add (g .size) (sum (map c (equationSites q))) (sum (map c rest)) 65536
+                    ∙ ap (λ m. min (g .size + m) 65536) (sym (sum-append c (equationSites q) rest))
+                    ∙ ap (λ l. min (g .size + sum (map c (concat (map equationSites l)))) 65536) (sym left) ∙ v .1,
+              );
         }
 
     pub equations-cut : i < length qs → length s ≤ g .next → ⊥
     equations-cut lt out = omega (arith, here-inside (equation-at lt .here) (omega (arith, equation-size (getD qs i noEquation))), equation-size (getD qs i noEquation))
 
-    pub equations-done : length qs ≤ i → EquationsJudged s names t visible bad inputs (f .next) qs slots₀ slots defined₀ defined f g
+    pub equations-done : length qs ≤ i → EquationsJudged s names rows nodes t visible bad inputs (f .next) qs slots₀ slots defined₀ defined f g
     unfolding slotEquations againB
     equations-done over =
         record {
@@ -340,4 +366,7 @@ module _ {s names : List ℕ} {t : File} {visible : List ℕ} {bad : ℕ → ℕ
           called = left-none (inEquation (callsWhere bad)) equationSize qs i (g .next) (placeOf (g .called)) _ over (w .called);
           shaped = left-none (equationShape t) equationSize qs i (g .next) (placeOf (g .shaped)) _ over (w .shaped);
           slotted = ap (λ l. slotEquations s names slots (placed equationSize (g .next) l)) (sym (drop-of-length-le qs over)) ∙ w .slotted;
+          sized = λ le.
+              let v = w .sized le in
+              sym (min-cap (g .size) 65536 (v .0)) ∙ ap (λ l. min (g .size + sum (map (calleeB rows nodes) (concat (map equationSites l)))) 65536) (sym (drop-of-length-le qs over)) ∙ v .1;
         }

@@ -34,6 +34,7 @@ use Rattle.ol_check.specs.Entries.{declared, declareAll, variantEntry, c
 use Rattle.ol_check.specs.Judging.{foundIn, Knows}
 use Rattle.ol_check.specs.NodesJudged.{RowsReady, nodeAgain, NodesJudged, slotNodes}
 use Rattle.ol_check.specs.ConstantsJudged.{ConstantsJudged, ConstantsReady, slotConstants}
+use Rattle.ol_check.specs.Sizes.{NodesSized}
 use Rattle.ol_check.specs.FileJudged.{FileReady, NamesWithin, variantTable, globalTable, FileJudged}
 use Rattle.ol_check.specs.declared.judge.Faults.{Faults}
 use Rattle.ol_check.specs.declared.rows.Sections.{Sections}
@@ -183,16 +184,17 @@ module _ {s rows names : List ℕ} {at : Sections} (rd : FileReady s rows names 
       pub global-ready : Global names₂
       global-ready = subst Global (sym global-is) (globals-global names (fileAt s) (rd .empty) within)
 
-      module _ {names₃ slots₂ : List ℕ} {r : Faults} (same : names₃ ≡ names₂)
-          (nodesJudged : (visible : List ℕ) → Knows names₂ visible → Rattle.ol_check.specs.NodesJudged.AllCovered (length names₂) (fileAt s) → NodesJudged s names₂ (fileAt s) visible slots₁ slots₂ g r) where
-        pub file-judged : FileJudged s (fileAt s) names names₃ slots slots₂ r
+      module _ {names₃ slots₂ rows′ : List ℕ} {r : Faults} (same : names₃ ≡ names₂)
+          (nodesJudged : (visible : List ℕ) → Knows names₂ visible → Rattle.ol_check.specs.NodesJudged.AllCovered (length names₂) (fileAt s) → NodesJudged s names₂ (fileAt s) visible slots₁ slots₂ g r × NodesSized (fileAt s) rows rows′ (r .size)) where
+        pub file-judged : FileJudged s (fileAt s) names names₃ slots slots₂ rows rows′ r
         unfolding fault7 fault8 fault9 fault10
         file-judged =
             let f = fileAt s in
             let length-same : length names ≡ length names₂ = sym (ap length global-is ∙ declare-length (variantTable names f) (constantEntries 0 (f .constants)) ∙ declare-length names (map variantEntry (variants f))) in
             let known = subst (λ l. Knows l (constantNames f ++ variants f)) (sym global-is) (globals-known names f (rd .empty) within) in
             let covered = subst (λ n. Rattle.ol_check.specs.NodesJudged.AllCovered n f) length-same (within .nodes) in
-            let nj = nodesJudged (constantNames f ++ variants f) known covered in
+            let both = nodesJudged (constantNames f ++ variants f) known covered in
+            let nj = both .0 in
             let start : g₀ .next ≡ constantsStart f = en ∙ rd .sections .constants in
             let cs = f .constants in
             record {
@@ -207,4 +209,6 @@ module _ {s rows names : List ℕ} {at : Sections} (rd : FileReady s rows names 
               entered = same ∙ global-is;
               slotted = nj .slotted ∙ ap (λ l. slotNodes s l slots₁ (placedNodes f)) global-is
                   ∙ ap (λ l. slotNodes s (globalTable names f) l (placedNodes f)) (cj .slotted ∙ ap (λ p. slotConstants s names₁ slots 0 (placed constantSize p cs)) start ∙ ap (λ l. slotConstants s l slots 0 (placedConstants f)) table-is);
+              sized = both .1 .done;
+              main = both .1 .main (st .someNode);
             }

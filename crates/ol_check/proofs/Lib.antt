@@ -3,6 +3,7 @@ pub mod RowLoops
 pub mod HeadTests
 pub mod WalkLoop
 pub mod HeadLaws
+pub mod CalleeLaws
 pub mod EquationLaws
 pub mod EntryLoops
 pub mod EntryLaws

@@ -1,10 +1,11 @@
 -- A node: its variables entered and taken back, and its equations judged.
-use Prim.Native.Nat.{ℕ, zero, suc, _+_, _-_, _*_, _≤_, _<_}
+use Prim.Native.Nat.{ℕ, zero, suc, _+_, _-_, _*_, _≤_, _<_, min}
 use mathlib.Core.Bool.{Bool, true, false, not, _&&_, cond}
 use mathlib.Core.List.{List, [], _∷_, _++_, map, append-assoc}
 use mathlib.Core.Logic.{by-cases}
 use mathlib.Core.Path.{_≡_, refl, sym, ap, subst, _∙_}
 use native.Mathlib.Omega.{arith}
+use native.Mathlib.Nat.{add-zero}
 use native.Mathlib.Decide.{decLt}
 use lib.ListN.{length, getD, set, drop, replicate, length-append, List·getD-eq-default, drop-of-length-le}
 use lib.Seq.{drop-cons}
@@ -19,6 +20,7 @@ use Rattle.ol_spec.specs.Encode.{kindCode, variableBytes, equationBytes}
 use Rattle.ol_spec.specs.Limits.{base}
 use Rattle.ol_spec.specs.Within.{variableFits, equationFits}
 use Rattle.ol_spec.specs.Admission.{calleeIn, badCall, mayCall, equationUses, inEquation, callsWhere, equationShape, Item, definedBy, nodeUses, nodeCalls, nodeShape, numbered}
+use Rattle.ol_spec.specs.Step.{sites}
 use Rattle.ol_spec.proofs.Walks.{first-append}
 use Rattle.ol_check.proofs.WalkLoop.{found-none}
 use Rattle.ol_tree.specs.At.{fileAt}
@@ -27,10 +29,12 @@ use Rattle.ol_tree.specs.Stands.{Listed, Variables, Equations, NodeStands, File
 use Rattle.ol_tree.proofs.HeadsFile.{node-at}
 use Rattle.ol_check.specs.Founds.{Byte, placeOf}
 use Rattle.ol_check.specs.RowsDone.{NodeRow}
+use Rattle.ol_check.specs.Records.{calleeB, recordBy}
 use Rattle.ol_check.specs.Entries.{declareAll, forgetAll, variableEntries, VariablesEntered, VariablesForgotten, Global}
 use Rattle.ol_check.specs.Judging.{mayB, badB, outputsB, Knows, Context, EquationsJudged, foundIn, slotEquations, againB}
 use Rattle.ol_check.specs.NodesJudged.{placeIn, NodeReady, nodeTable, Covered, nodeAgain, NodeJudged, RowsReady, slotNodes, NodesJudged}
 use Rattle.ol_check.specs.declared.judge.Faults.{Faults}
+use Rattle.ol_check.proofs.RowLoops.{few-variables}
 use Rattle.ol_check.proofs.EntryLaws.{declare-append, forget-append, entries-append, declare-length, Enterable, knows-all, restored}
 
 -- ---- the sections of variables
@@ -157,11 +161,11 @@ module _ {s rows : List ℕ} {nodes k : ℕ} (rd : NodeReady s rows nodes k) whe
 
 -- ---- a node
 
-module _ {s rows : List ℕ} {nodes k : ℕ} (rd : NodeReady s rows nodes k) (st : FileStands s (fileAt s)) (names : List ℕ) {n₁ slots slots′ defined′ : List ℕ} {m a i : ℕ} {g r : Faults}
-    (en : n₁ ≡ nodeTable names (nodeOf (fileAt s) k)) (em : m ≡ getD rows (k * 8 + 5) 0) (ea : a ≡ getD rows (k * 8 + 1) 0) (ei : i ≡ getD rows (k * 8 + 2) 0)
+module _ {s rows : List ℕ} {nodes k : ℕ} (rd : NodeReady s rows nodes k) (st : FileStands s (fileAt s)) (names : List ℕ) {n₁ slots slots′ defined′ : List ℕ} {m a i v : ℕ} {g r : Faults}
+    (en : n₁ ≡ nodeTable names (nodeOf (fileAt s) k)) (em : m ≡ getD rows (k * 8 + 5) 0) (ea : a ≡ getD rows (k * 8 + 1) 0) (ei : i ≡ getD rows (k * 8 + 2) 0) (ev : v ≡ getD rows (k * 8 + 4) 0)
     (eqs : (t : File) (visible : List ℕ) (bad : ℕ → ℕ → Bool) (enums : ℕ) (qs : List Equation) → Context t k n₁ rows nodes visible bad → length qs ≡ m → Equations s enums a qs
-    → EquationsJudged s n₁ t visible bad i a qs slots slots′ (replicate 256 0) defined′ (record { unseen = g .unseen; again = g .again; called = g .called; shaped = g .shaped; next = a }) r) where
-  pub node-judged : (visible : List ℕ) → Knows names visible → Covered (length names) (nodeOf (fileAt s) k) → NodeJudged s names (fileAt s) visible k slots slots′ g r
+    → EquationsJudged s n₁ rows nodes t visible bad i a qs slots slots′ (replicate 256 0) defined′ (record { unseen = g .unseen; again = g .again; called = g .called; shaped = g .shaped; size = 1 + 9 * v; next = a }) r) where
+  pub node-judged : (visible : List ℕ) → Knows names visible → Covered (length names) (nodeOf (fileAt s) k) → NodeJudged s names rows nodes (fileAt s) visible k slots slots′ g r
   node-judged visible knows covered =
       let f = fileAt s in
       let n = nodeOf f k in
@@ -180,7 +184,12 @@ module _ {s rows : List ℕ} {nodes k : ℕ} (rd : NodeReady s rows nodes k) (st
         called = w .called ∙ ap (λ x. foundIn (placeOf (g .called)) (concat (map (inEquation (callsWhere (badCall f k n))) (placed equationSize x (n .equations))))) here;
         shaped = w .shaped ∙ ap (λ x. foundIn (placeOf (g .shaped)) (concat (map (equationShape f) (placed equationSize x (n .equations))))) here;
         slotted = w .slotted ∙ ap (λ x. slotEquations s n₁ slots (placed equationSize x (n .equations))) here ∙ ap (λ l. slotEquations s l slots (placed equationSize (equationsStart p n + 1) (n .equations))) en;
+        sized = w .sized (omega (arith, ev, row .variables, few-variables ns)) ∙ ap (λ x. min (1 + 9 * x + sum (map (calleeB rows nodes) (sites n))) 65536) (ev ∙ row .variables);
       }
+
+-- the length of the node's records is stored
+pub size-stored : (rows : List ℕ) (k : ℕ) {rows′ : List ℕ} {kind size : ℕ} (z : ℕ) → kind ≡ getD rows (k * 8) 0 → size ≡ recordBy kind z → rows′ ≡ set rows (k * 8 + 6) size → rows′ ≡ set rows (k * 8 + 6) (recordBy (rowAt rows k 0) z)
+size-stored rows k {rows′} {kind} {size} z ek es er = er ∙ ap (set rows (k * 8 + 6)) (es ∙ ap (λ x. recordBy x z) (ek ∙ ap (λ n. getD rows n 0) (sym (add-zero (k * 8)))))
 
 -- entered and taken back
 pub node-back : {s rows : List ℕ} {nodes k : ℕ} → NodeReady s rows nodes k → FileStands s (fileAt s) → (names : List ℕ) {n₁ n₂ : List ℕ} → Global names → n₁ ≡ nodeTable names (nodeOf (fileAt s) k)
@@ -226,7 +235,7 @@ module _ {s names : List ℕ} {f : File} {visible slots₀ : List ℕ} {g₀ : F
   nodes-start = record { unseen = refl; again = refl; called = refl; shaped = refl; slotted = refl }
 
   module _ {slots : List ℕ} {g : Faults} {k : ℕ} (w : NodesGoing s names f visible slots₀ g₀ slots g k) where
-    pub nodes-turn : k < length (f .nodes) → (slots′ : List ℕ) (r : Faults) → NodeJudged s names f visible k slots slots′ g r → NodesGoing s names f visible slots₀ g₀ slots′ r (k + 1)
+    pub nodes-turn : k < length (f .nodes) → (slots′ : List ℕ) (r : Faults) {rows : List ℕ} {nodes : ℕ} → NodeJudged s names rows nodes f visible k slots slots′ g r → NodesGoing s names f visible slots₀ g₀ slots′ r (k + 1)
     unfolding slotNodes
     nodes-turn lt slots′ r j =
         let x : ℕ × Node = (placeIn f k, nodeOf f k) in
@@ -257,8 +266,8 @@ pub ready-at : {s rows : List ℕ} {nodes : ℕ} → RowsReady s rows nodes → 
 ready-at rd k lt = record { reads = rd .reads; row = rd .row; many = rd .many; low = lt; few = rd .few }
 
 -- the table is the one at the start
-pub judged-same : {s names names₀ : List ℕ} {f : File} {k : ℕ} {slots slots′ : List ℕ} {g r : Faults} → names ≡ names₀
-    → ((visible : List ℕ) → Knows names visible → Covered (length names) (nodeOf f k) → NodeJudged s names f visible k slots slots′ g r)
-    → (visible : List ℕ) → Knows names₀ visible → Covered (length names₀) (nodeOf f k) → NodeJudged s names₀ f visible k slots slots′ g r
-judged-same {s} {names} {names₀} {f} {k} {slots} {slots′} {g} {r} e h =
-    subst (λ l. (visible : List ℕ) → Knows l visible → Covered (length l) (nodeOf f k) → NodeJudged s l f visible k slots slots′ g r) e h
+pub judged-same : {s names names₀ rows : List ℕ} {nodes : ℕ} {f : File} {k : ℕ} {slots slots′ : List ℕ} {g r : Faults} → names ≡ names₀
+    → ((visible : List ℕ) → Knows names visible → Covered (length names) (nodeOf f k) → NodeJudged s names rows nodes f visible k slots slots′ g r)
+    → (visible : List ℕ) → Knows names₀ visible → Covered (length names₀) (nodeOf f k) → NodeJudged s names₀ rows nodes f visible k slots slots′ g r
+judged-same {s} {names} {names₀} {rows} {nodes} {f} {k} {slots} {slots′} {g} {r} e h =
+    subst (λ l. (visible : List ℕ) → Knows l visible → Covered (length l) (nodeOf f k) → NodeJudged s l rows nodes f visible k slots slots′ g r) e h

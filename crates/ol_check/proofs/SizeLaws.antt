@@ -1,4 +1,4 @@
--- Fault 14, and the sums of record lengths.
+-- Fault 14, and the length of a call site's record.
 use Prim.Native.Nat.{ℕ, zero, suc, _+_, _-_, _*_, _≤_, _<_, min}
 use mathlib.Core.Bool.{Bool, true, false, not, _&&_, cond}
 use mathlib.Core.List.{List, [], _∷_, map}
@@ -9,23 +9,15 @@ use native.Mathlib.Nat.{add-zero}
 use lib.ListN.{length, getD}
 use lib.Dec.{ltb, eqb}
 use borrow.Author.Tests.{lt-ltb, le-ltb, ne-eqb}
-use Rattle.ol_spec.specs.Lists.{sum}
-use Rattle.ol_spec.specs.Syntax.{NodeKind, Function, Operator, Imported, Node, File, Exprs, nil, cons, count, noNode, lastOf, main}
-use Rattle.ol_spec.specs.Places.{exprsSize, placedNodes, placed, nodeSize, nodesStart, mainPlace}
+use Rattle.ol_spec.specs.Syntax.{NodeKind, Function, Operator, Imported, Node, File, noNode, lastOf, main}
+use Rattle.ol_spec.specs.Places.{placedNodes, placed, nodeSize, nodesStart, mainPlace}
 use Rattle.ol_spec.specs.Encode.{kindCode}
 use Rattle.ol_spec.specs.Admission.{isOperator, atMain, fault14}
 use Rattle.ol_tree.specs.At.{fileAt}
 use Rattle.ol_tree.specs.Tables.{rowAt, nodeOf}
-use Rattle.ol_tree.specs.Heads.{Standing}
 use Rattle.ol_check.specs.Founds.{Byte}
-use Rattle.ol_check.specs.Walks.{HeadOf}
-use Rattle.ol_check.specs.Judging.{heads}
 use Rattle.ol_check.specs.NodesJudged.{placeIn, RowsReady}
-use Rattle.ol_check.specs.Sizes.{siteB, SitesSized}
-use Rattle.ol_check.specs.declared.heads.Parts.{Parts}
-use Rattle.ol_check.specs.declared.size.Sized.{Sized}
-use Rattle.ol_check.proofs.Walking.{Going, going-start, Turn, going-turn, going-on, going-done, going-in}
-use Rattle.ol_check.proofs.WalkLoop.{heads-on, heads-none, zero-left}
+use Rattle.ol_check.specs.Records.{siteB, recordBy}
 
 -- ---- the last node
 
@@ -87,37 +79,9 @@ module _ (s rows : List ℕ) (nodes p b : ℕ) (bb : Byte s p b) where
   pub site-none : (b ≡ 11 → ⊥) → 0 ≡ siteB s rows nodes p
   site-none e = rw (← bb .is, ne-eqb b 11 e) refl
 
-pub min-add : (a b r c : ℕ) → min (min (a + b) c + r) c ≡ min (a + (b + r)) c
-min-add a b r c = omega arith
+-- an Operator's call sites have records
+pub record-operator : (kind size : ℕ) → kind ≡ 1 → size ≡ recordBy kind size
+record-operator kind size e = rw e refl
 
-min-cap : (a c : ℕ) → a ≤ c → min (a + 0) c ≡ a
-min-cap a c le = omega arith
-
-pub record SitesGoing (s rows : List ℕ) (nodes enums : ℕ) (es : Exprs) (start at size left next : ℕ) : Type 0 where
-  pub going : Going s enums at es left next
-  pub sized : min (size + sum (map (siteB s rows nodes) (heads next (going .rest)))) 65536 ≡ min (start + sum (map (siteB s rows nodes) (heads at es))) 65536
-
-module _ {s rows : List ℕ} {nodes enums : ℕ} {es : Exprs} {start at : ℕ} where
-  pub sites-start : {n : ℕ} → count es ≡ n → Standing s enums at es → SitesGoing s rows nodes enums es start at start n at
-  unfolding going-start
-  sites-start e st = record { going = going-start e st; sized = refl }
-
-  module _ {size left next : ℕ} (g : SitesGoing s rows nodes enums es start at size left next) where
-    pub sites-turn : 0 < left → (p : Parts) → HeadOf s next p → (x size′ : ℕ) → x ≡ siteB s rows nodes next → size′ ≡ min (size + x) 65536
-        → SitesGoing s rows nodes enums es start at size′ (left - 1 + p .count) (p .start)
-    sites-turn lt p hp x size′ ex es′ =
-        let t = going-turn (g .going) lt in
-        let r = sum (map (siteB s rows nodes) (heads (p .start) (going-on (g .going) t p hp .rest))) in
-        record {
-          going = going-on (g .going) t p hp;
-          sized = ap (λ n. min (n + r) 65536) (es′ ∙ ap (λ y. min (size + y) 65536) ex) ∙ min-add size (siteB s rows nodes next) r 65536
-              ∙ ap (λ l. min (size + sum (map (siteB s rows nodes) l)) 65536) (sym (heads-on (g .going) t p hp)) ∙ g .sized;
-        }
-
-    pub sites-done : size ≤ 65536 → (0 < left → ⊥) → (r : Sized) → r .size ≡ size → r .next ≡ next → SitesSized s rows nodes es start at r
-    sites-done cap over r e₁ e₂ =
-        let empty : heads next (g .going .rest) ≡ [] = heads-none next (g .going .rest) (zero-left left over (g .going .many)) in
-        record {
-          next = e₂ ∙ going-done (g .going) over;
-          size = e₁ ∙ sym (min-cap size 65536 cap) ∙ ap (λ l. min (size + sum (map (siteB s rows nodes) l)) 65536) (sym empty) ∙ g .sized;
-        }
+pub record-other : (kind size : ℕ) → (kind ≡ 1 → ⊥) → 0 ≡ recordBy kind size
+record-other kind size e = rw (ne-eqb kind 1 e) refl

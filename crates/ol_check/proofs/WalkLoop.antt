@@ -1,5 +1,5 @@
 -- The walk over expressions, head by head: what is left to be judged.
-use Prim.Native.Nat.{ℕ, _+_, _-_, _≤_, _<_}
+use Prim.Native.Nat.{ℕ, _+_, _-_, _≤_, _<_, min}
 use mathlib.Core.Bool.{Bool, true, false}
 use mathlib.Core.List.{List, [], _∷_, _++_, map}
 use mathlib.Core.Option.{Option, none, some}
@@ -9,7 +9,7 @@ use native.Mathlib.Decide.{decLe}
 use mathlib.Core.Logic.{by-cases}
 use lib.ListN.{length, length-set}
 use lib.Dec.{ltb}
-use Rattle.ol_spec.specs.Lists.{orElse}
+use Rattle.ol_spec.specs.Lists.{orElse, sum}
 use Rattle.ol_spec.specs.Syntax.{Expr, Exprs, nil, cons, count}
 use Rattle.ol_spec.specs.Places.{exprsSize, collectAll}
 use Rattle.ol_spec.specs.Admission.{Item, first, firstIf}
@@ -17,6 +17,7 @@ use Rattle.ol_tree.specs.Heads.{partsOf, headSize, joined, Standing}
 use Rattle.ol_tree.proofs.Heads.{walk-head, next-told}
 use Rattle.ol_check.specs.Founds.{placeOf, earliest}
 use Rattle.ol_check.specs.Walks.{HeadOf}
+use Rattle.ol_check.specs.Records.{siteB}
 use Rattle.ol_check.specs.Judging.{headAt, heads, unseenB, unseenHead, slotHead, slotHeads, calledB, calledHead, arityB, severalHead, foundIn, Walked}
 use Rattle.ol_check.specs.declared.Found.{Found}
 use Rattle.ol_check.specs.declared.heads.Parts.{Parts}
@@ -51,20 +52,32 @@ heads-none at (cons x es) e = absurd (omega arith)
 pub zero-left : {n : ℕ} (left : ℕ) → (0 < left → ⊥) → n ≡ left → n ≡ 0
 zero-left left over e = by-cases (decLe left 0) (λ h. omega arith) (λ h. absurd (over (omega arith)))
 
+-- sums up to a cap
+pub min-add : (a b r c : ℕ) → min (min (a + b) c + r) c ≡ min (a + (b + r)) c
+min-add a b r c = omega arith
+
+pub min-cap : (a c : ℕ) → a ≤ c → min (a + 0) c ≡ a
+min-cap a c le = omega arith
+
+-- the sum so far, and what is left to be added to it, give what all gives
+abbrev pub Adding : ℕ → List ℕ → ℕ → List ℕ → Type 0
+Adding start xs size rest = start ≤ 65536 → (size ≤ 65536) × (min (size + sum rest) 65536 ≡ min (start + sum xs) 65536)
+
 -- of the expressions es at `at`, those at `next` are left to be judged
-pub record WalkGoing (s names rows : List ℕ) (nodes k enums : ℕ) (es : Exprs) (at : ℕ) (slots₀ : List ℕ) (u₀ c₀ h₀ : Found) (slots : List ℕ) (u c h : Found) (left next : ℕ) : Type 0 where
+pub record WalkGoing (s names rows : List ℕ) (nodes k enums : ℕ) (es : Exprs) (at : ℕ) (slots₀ : List ℕ) (u₀ c₀ h₀ : Found) (z₀ : ℕ) (slots : List ℕ) (u c h : Found) (z left next : ℕ) : Type 0 where
   pub going : Going s enums at es left next
   pub slotted : slotHeads s names slots (heads next (going .rest)) ≡ slotHeads s names slots₀ (heads at es)
   pub unseen : foundIn (placeOf u) (map (unseenHead s names) (heads next (going .rest))) ≡ foundIn (placeOf u₀) (map (unseenHead s names) (heads at es))
   pub called : foundIn (placeOf c) (map (calledHead s rows k) (heads next (going .rest))) ≡ foundIn (placeOf c₀) (map (calledHead s rows k) (heads at es))
   pub shaped : foundIn (placeOf h) (map (severalHead s rows nodes) (heads next (going .rest))) ≡ foundIn (placeOf h₀) (map (severalHead s rows nodes) (heads at es))
+  pub sized : Adding z₀ (map (siteB s rows nodes) (heads at es)) z (map (siteB s rows nodes) (heads next (going .rest)))
 
-module _ {s names rows : List ℕ} {nodes k enums : ℕ} {es : Exprs} {at : ℕ} {slots₀ : List ℕ} {u₀ c₀ h₀ : Found} where
-  pub walk-start : {n : ℕ} → count es ≡ n → Standing s enums at es → WalkGoing s names rows nodes k enums es at slots₀ u₀ c₀ h₀ slots₀ u₀ c₀ h₀ n at
+module _ {s names rows : List ℕ} {nodes k enums : ℕ} {es : Exprs} {at : ℕ} {slots₀ : List ℕ} {u₀ c₀ h₀ : Found} {z₀ : ℕ} where
+  pub walk-start : {n : ℕ} → count es ≡ n → Standing s enums at es → WalkGoing s names rows nodes k enums es at slots₀ u₀ c₀ h₀ z₀ slots₀ u₀ c₀ h₀ z₀ n at
   unfolding going-start
-  walk-start e st = record { going = going-start e st; slotted = refl; unseen = refl; called = refl; shaped = refl }
+  walk-start e st = record { going = going-start e st; slotted = refl; unseen = refl; called = refl; shaped = refl; sized = λ le. (le, refl) }
 
-  module _ {slots : List ℕ} {u c h : Found} {left next : ℕ} (g : WalkGoing s names rows nodes k enums es at slots₀ u₀ c₀ h₀ slots u c h left next) where
+  module _ {slots : List ℕ} {u c h : Found} {z left next : ℕ} (g : WalkGoing s names rows nodes k enums es at slots₀ u₀ c₀ h₀ z₀ slots u c h z left next) where
     module _ (lt : 0 < left) (p : Parts) (hp : HeadOf s next p) where
       -- one kind of item, after the first head
       step-found : (item : ℕ → Item) (o o′ z : Option ℕ) (b : Bool) (q : ℕ) → item next ≡ (q, b) → o′ ≡ earliest o b q → foundIn o (map item (heads next (g .going .rest))) ≡ z
@@ -75,12 +88,12 @@ module _ {s names rows : List ℕ} {nodes k enums : ℕ} {es : Exprs} {at : ℕ}
           ∙ ap (λ i. foundIn o (i ∷ r)) (sym ei)
           ∙ ap (λ l. foundIn o (map item l)) (sym (heads-on (g .going) (going-turn (g .going) lt) p hp)) ∙ ez
 
-      pub walk-turn : (slots′ : List ℕ) (u′ c′ h′ : Found) (bu bc : Bool) (n : ℕ) → slots′ ≡ slotHead s names slots next
+      pub walk-turn : (slots′ : List ℕ) (u′ c′ h′ : Found) (bu bc : Bool) (n x z′ : ℕ) → slots′ ≡ slotHead s names slots next
           → placeOf u′ ≡ earliest (placeOf u) bu (next + 1) → bu ≡ unseenB s names next → placeOf c′ ≡ earliest (placeOf c) bc next → bc ≡ calledB s rows k next
-          → placeOf h′ ≡ earliest (placeOf h) (ltb 1 n) next → n ≡ arityB s rows nodes next
-          → WalkGoing s names rows nodes k enums es at slots₀ u₀ c₀ h₀ slots′ u′ c′ h′ (left - 1 + p .count) (p .start)
+          → placeOf h′ ≡ earliest (placeOf h) (ltb 1 n) next → n ≡ arityB s rows nodes next → z′ ≡ min (z + x) 65536 → x ≡ siteB s rows nodes next
+          → WalkGoing s names rows nodes k enums es at slots₀ u₀ c₀ h₀ z₀ slots′ u′ c′ h′ z′ (left - 1 + p .count) (p .start)
       unfolding slotHeads
-      walk-turn slots′ u′ c′ h′ bu bc n es′ eu fu ec fc eh fh =
+      walk-turn slots′ u′ c′ h′ bu bc n x z′ es′ eu fu ec fc eh fh ez fz =
           record {
             going = going-on (g .going) (going-turn (g .going) lt) p hp;
             slotted = ap (λ l. slotHeads s names l (heads (p .start) (going-on (g .going) (going-turn (g .going) lt) p hp .rest))) es′
@@ -88,12 +101,19 @@ module _ {s names rows : List ℕ} {nodes k enums : ℕ} {es : Exprs} {at : ℕ}
             unseen = step-found (unseenHead s names) (placeOf u) _ _ _ _ refl (eu ∙ ap (λ b. earliest (placeOf u) b (next + 1)) fu) (g .unseen);
             called = step-found (calledHead s rows k) (placeOf c) _ _ _ _ refl (ec ∙ ap (λ b. earliest (placeOf c) b next) fc) (g .called);
             shaped = step-found (severalHead s rows nodes) (placeOf h) _ _ _ _ refl (eh ∙ ap (λ n. earliest (placeOf h) (ltb 1 n) next) fh) (g .shaped);
+            sized = λ le.
+                let w = g .sized le in
+                let r = sum (map (siteB s rows nodes) (heads (p .start) (going-on (g .going) (going-turn (g .going) lt) p hp .rest))) in (
+                  omega (arith, ez),
+                  ap (λ n. min (n + r) 65536) (ez ∙ ap (λ y. min (z + y) 65536) fz) ∙ min-add z (siteB s rows nodes next) r 65536
+                      ∙ ap (λ l. min (z + sum (map (siteB s rows nodes) l)) 65536) (sym (heads-on (g .going) (going-turn (g .going) lt) p hp)) ∙ w .1,
+                );
           }
 
-    pub walk-done : (f r : Faults) → (0 < left → ⊥) → f .next ≡ at → f .unseen ≡ u₀ → f .called ≡ c₀ → f .shaped ≡ h₀ → r .again ≡ f .again → r .next ≡ next → r .unseen ≡ u → r .called ≡ c → r .shaped ≡ h
+    pub walk-done : (f r : Faults) → (0 < left → ⊥) → f .next ≡ at → f .unseen ≡ u₀ → f .called ≡ c₀ → f .shaped ≡ h₀ → f .size ≡ z₀ → r .again ≡ f .again → r .next ≡ next → r .unseen ≡ u → r .called ≡ c → r .shaped ≡ h → r .size ≡ z
         → Walked s names rows nodes k es slots₀ slots f r
     unfolding slotHeads
-    walk-done f r over ea eu₀ ec₀ eh₀ eg en eu ec eh =
+    walk-done f r over ea eu₀ ec₀ eh₀ ez₀ eg en eu ec eh ez =
         let empty : heads next (g .going .rest) ≡ [] = heads-none next (g .going .rest) (zero-left left over (g .going .many)) in
         record {
           next = en ∙ going-done (g .going) over ∙ ap (λ a. a + exprsSize es) (sym ea);
@@ -102,4 +122,8 @@ module _ {s names rows : List ℕ} {nodes k enums : ℕ} {es : Exprs} {at : ℕ}
           unseen = rw (eu, eu₀, ea) (sym (found-none (placeOf u)) ∙ ap (λ l. foundIn (placeOf u) (map (unseenHead s names) l)) (sym empty) ∙ g .unseen);
           called = rw (ec, ec₀, ea) (sym (found-none (placeOf c)) ∙ ap (λ l. foundIn (placeOf c) (map (calledHead s rows k) l)) (sym empty) ∙ g .called);
           shaped = rw (eh, eh₀, ea) (sym (found-none (placeOf h)) ∙ ap (λ l. foundIn (placeOf h) (map (severalHead s rows nodes) l)) (sym empty) ∙ g .shaped);
+          sized = λ le.
+              let w = g .sized (omega (arith, ez₀, le)) in
+              ez ∙ sym (min-cap z 65536 (w .0)) ∙ ap (λ l. min (z + sum (map (siteB s rows nodes) l)) 65536) (sym empty) ∙ w .1
+              ∙ ap (λ m. min (m + sum (map (siteB s rows nodes) (heads at es))) 65536) (sym ez₀) ∙ ap (λ a. min (f .size + sum (map (siteB s rows nodes) (heads a es))) 65536) (sym ea);
         }

@@ -20,7 +20,7 @@ use Rattle.ol_check.specs.declared.judge.Faults.{Faults}
 
 -- the walk at a place
 abbrev pub walkAt : Faults → ℕ → Faults
-walkAt f p = record { unseen = f .unseen; again = f .again; called = f .called; shaped = f .shaped; next = p }
+walkAt f p = record { unseen = f .unseen; again = f .again; called = f .called; shaped = f .shaped; size = f .size; next = p }
 
 -- constant number i, where the walk stands
 pub record ConstantJudged (s names rows : List ℕ) (nodes i : ℕ) (c : Constant) (slots slots′ names′ : List ℕ) (f r : Faults) : Type 0 where

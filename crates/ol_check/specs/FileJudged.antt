@@ -1,4 +1,4 @@
--- Faults 7 to 10 of a whole file, and the slots of its names.
+-- Faults 7 to 10 of a whole file, the slots of its names, and the lengths of its records.
 use Prim.Native.Nat.{ℕ, _<_}
 use mathlib.Core.List.{List, [], map}
 use mathlib.Core.Option.{none}
@@ -15,6 +15,7 @@ use Rattle.ol_check.specs.RowsDone.{NodeRow, SectionsAre}
 use Rattle.ol_check.specs.Entries.{declareAll, variantEntry, constantEntries}
 use Rattle.ol_check.specs.NodesJudged.{placeIn, AllCovered, slotNodes}
 use Rattle.ol_check.specs.ConstantsJudged.{slotConstants}
+use Rattle.ol_check.specs.Sizes.{SizesDone, MainSized}
 use Rattle.ol_check.specs.declared.judge.Faults.{Faults}
 use Rattle.ol_check.specs.declared.rows.Sections.{Sections}
 
@@ -39,10 +40,12 @@ abbrev pub globalTable : List ℕ → File → List ℕ
 globalTable names f = declareAll (variantTable names f) (constantEntries 0 (f .constants))
 
 -- 8 where 7 does not hold
-pub record FileJudged (s : List ℕ) (f : File) (names names′ slots slots′ : List ℕ) (r : Faults) : Type 0 where
+pub record FileJudged (s : List ℕ) (f : File) (names names′ slots slots′ rows rows′ : List ℕ) (r : Faults) : Type 0 where
   pub unseen : placeOf (r .unseen) ≡ fault7 f
   pub again : fault7 f ≡ none → placeOf (r .again) ≡ fault8 f
   pub called : placeOf (r .called) ≡ fault9 f
   pub shaped : placeOf (r .shaped) ≡ fault10 f
   pub entered : names′ ≡ globalTable names f
   pub slotted : slots′ ≡ slotNodes s (globalTable names f) (slotConstants s (variantTable names f) slots 0 (placedConstants f)) (placedNodes f)
+  pub sized : SizesDone f rows rows′
+  pub main : fault9 f ≡ none → MainSized f (r .size)

@@ -1,18 +1,20 @@
 -- Faults 7 to 10 at the names and the heads of expressions, as the bytes and the tables tell them.
-use Prim.Native.Nat.{ℕ, _+_, _-_, _*_, _≤_, _<_}
+use Prim.Native.Nat.{ℕ, _+_, _-_, _*_, _≤_, _<_, min}
 use mathlib.Core.Bool.{Bool, true, false, not, _&&_, _||_, cond}
 use mathlib.Core.List.{List, [], _∷_, _++_, map}
 use mathlib.Core.Option.{Option, none, some}
 use mathlib.Core.Path.{_≡_}
 use lib.ListN.{length, getD, set}
 use lib.Dec.{ltb, leb, eqb}
-use Rattle.ol_spec.specs.Lists.{orElse, member, concat}
+use Rattle.ol_spec.specs.Lists.{orElse, member, concat, sum}
 use Rattle.ol_spec.specs.Syntax.{Expr, Exprs, nil, cons, count, Equation, File}
 use Rattle.ol_spec.specs.Places.{collectAll, exprsSize, exprSize, equationSize, placed, placedNames, rhsPlace}
 use Rattle.ol_spec.specs.Admission.{Item, first, calleeIn, used, equationUses, inEquation, callsWhere, equationShape, definedBy}
 use Rattle.ol_tree.specs.Tables.{rowAt, Each}
 use Rattle.ol_tree.specs.Heads.{nameAt, partsOf, headSize, joined, Standing}
+use Rattle.ol_spec.specs.Step.{equationSites}
 use Rattle.ol_check.specs.Founds.{placeOf}
+use Rattle.ol_check.specs.Records.{siteB, calleeB}
 use Rattle.ol_check.specs.declared.Found.{Found}
 use Rattle.ol_check.specs.declared.judge.Faults.{Faults}
 
@@ -86,6 +88,10 @@ severalHead s rows nodes p = (p, ltb 1 (arityB s rows nodes p))
 abbrev pub foundIn : Option ℕ → List Item → Option ℕ
 foundIn found is = orElse found (first is)
 
+-- a sum so far, after these are added to it: exact up to the cap
+abbrev pub Adds : ℕ → List ℕ → ℕ → Type 0
+Adds start xs r = start ≤ 65536 → r ≡ min (start + sum xs) 65536
+
 -- the expressions es, which stand where the walk stood, are judged
 pub record Walked (s names rows : List ℕ) (nodes k : ℕ) (es : Exprs) (slots slots′ : List ℕ) (f r : Faults) : Type 0 where
   pub next : r .next ≡ f .next + exprsSize es
@@ -94,6 +100,7 @@ pub record Walked (s names rows : List ℕ) (nodes k : ℕ) (es : Exprs) (slots 
   pub unseen : placeOf (r .unseen) ≡ foundIn (placeOf (f .unseen)) (map (unseenHead s names) (heads (f .next) es))
   pub called : placeOf (r .called) ≡ foundIn (placeOf (f .called)) (map (calledHead s rows k) (heads (f .next) es))
   pub shaped : placeOf (r .shaped) ≡ foundIn (placeOf (f .shaped)) (map (severalHead s rows nodes) (heads (f .next) es))
+  pub sized : Adds (f .size) (map (siteB s rows nodes) (heads (f .next) es)) (r .size)
 
 -- ---- what the tables say of the tree
 
@@ -141,6 +148,7 @@ pub record NamesDefined (names : List ℕ) (inputs : ℕ) (xs slots slots′ def
   pub again : placeOf (r .again) ≡ foundIn (placeOf (f .again)) (againB names inputs defined (placedNames (f .next) xs))
   pub called : r .called ≡ f .called
   pub shaped : r .shaped ≡ f .shaped
+  pub sized : r .size ≡ f .size
   pub slotted : slots′ ≡ slotNames names slots (placedNames (f .next) xs)
   pub marked : defined′ ≡ markAll names defined (placedNames (f .next) xs)
 
@@ -163,6 +171,7 @@ pub record RootJudged (s names rows : List ℕ) (nodes k at many : ℕ) (e : Exp
   pub shaped : placeOf (r .shaped)
       ≡ foundIn (placeOf (f .shaped)) ((at, loneB many (arityB s rows nodes (f .next))) ∷ (f .next, otherB many (arityB s rows nodes (f .next)))
       ∷ map (severalHead s rows nodes) (heads (f .next + headSize e) (joined (partsOf e) nil)))
+  pub sized : Adds (f .size) (map (siteB s rows nodes) (heads (f .next) (cons e nil))) (r .size)
 
 -- the names of an equation, defined and used, with their places
 abbrev pub namesIn : ℕ × Equation → List (ℕ × ℕ)
@@ -178,7 +187,7 @@ slotEquations s names slots [] = slots
 slotEquations s names slots (p ∷ ps) = slotEquations s names (slotEquation s names slots p) ps
 
 -- the equation q at `at`, in the file f and a node of so many inputs
-pub record EquationJudged (s names : List ℕ) (f : File) (visible : List ℕ) (bad : ℕ → ℕ → Bool) (inputs at : ℕ) (q : Equation) (slots slots′ defined defined′ : List ℕ) (g r : Faults) : Type 0 where
+pub record EquationJudged (s names rows : List ℕ) (nodes : ℕ) (f : File) (visible : List ℕ) (bad : ℕ → ℕ → Bool) (inputs at : ℕ) (q : Equation) (slots slots′ defined defined′ : List ℕ) (g r : Faults) : Type 0 where
   pub next : r .next ≡ at + equationSize q
   pub unseen : placeOf (r .unseen) ≡ foundIn (placeOf (g .unseen)) (equationUses visible (at, q))
   pub again : placeOf (r .again) ≡ foundIn (placeOf (g .again)) (againB names inputs defined (definedBy (at, q)))
@@ -186,11 +195,13 @@ pub record EquationJudged (s names : List ℕ) (f : File) (visible : List ℕ) (
   pub shaped : placeOf (r .shaped) ≡ foundIn (placeOf (g .shaped)) (equationShape f (at, q))
   pub slotted : slots′ ≡ slotEquation s names slots (at, q)
   pub marked : defined′ ≡ markAll names defined (definedBy (at, q))
+  pub sized : Adds (g .size) (map (calleeB rows nodes) (equationSites q)) (r .size)
 
 -- so many equations
-pub record EquationsJudged (s names : List ℕ) (f : File) (visible : List ℕ) (bad : ℕ → ℕ → Bool) (inputs at : ℕ) (qs : List Equation) (slots slots′ defined defined′ : List ℕ) (g r : Faults) : Type 0 where
+pub record EquationsJudged (s names rows : List ℕ) (nodes : ℕ) (f : File) (visible : List ℕ) (bad : ℕ → ℕ → Bool) (inputs at : ℕ) (qs : List Equation) (slots slots′ defined defined′ : List ℕ) (g r : Faults) : Type 0 where
   pub unseen : placeOf (r .unseen) ≡ foundIn (placeOf (g .unseen)) (concat (map (equationUses visible) (placed equationSize at qs)))
   pub again : placeOf (r .again) ≡ foundIn (placeOf (g .again)) (againB names inputs defined (concat (map definedBy (placed equationSize at qs))))
   pub called : placeOf (r .called) ≡ foundIn (placeOf (g .called)) (concat (map (inEquation (callsWhere bad)) (placed equationSize at qs)))
   pub shaped : placeOf (r .shaped) ≡ foundIn (placeOf (g .shaped)) (concat (map (equationShape f) (placed equationSize at qs)))
   pub slotted : slots′ ≡ slotEquations s names slots (placed equationSize at qs)
+  pub sized : Adds (g .size) (map (calleeB rows nodes) (concat (map equationSites qs))) (r .size)

@@ -1,11 +1,12 @@
 pub mod Founds
 pub mod Walks
 pub mod RowsDone
+pub mod Records
 pub mod Judging
 pub mod Entries
 pub mod NodesJudged
 pub mod ConstantsJudged
-pub mod FileJudged
 pub mod Sizes
+pub mod FileJudged
 pub mod Clashing
 pub mod VariantTable

@@ -1,5 +1,5 @@
 -- Faults 7 to 10 of a node's equations, and their slots.
-use Prim.Native.Nat.{ℕ, _<_, _≤_}
+use Prim.Native.Nat.{ℕ, _<_, _≤_, min}
 use mathlib.Core.List.{List, [], _∷_, map}
 use mathlib.Core.Path.{_≡_}
 use lib.ListN.{length, replicate}
@@ -13,6 +13,7 @@ use Rattle.ol_tree.specs.Tables as Tables
 use Rattle.ol_tree.specs.Stands.{FileReads}
 use Rattle.ol_check.specs.Founds.{placeOf}
 use Rattle.ol_check.specs.RowsDone.{NodeRow}
+use Rattle.ol_check.specs.Records.{instanceB}
 use Rattle.ol_check.specs.Entries.{declareAll, variableEntries}
 use Rattle.ol_check.specs.Judging.{foundIn, slotEquations, againB}
 use Rattle.ol_check.specs.declared.judge.Faults.{Faults}
@@ -41,12 +42,13 @@ Covered room n = Each (λ v. v .name < room) (variables n)
 abbrev pub nodeAgain : List ℕ → ℕ × Node → List Item
 nodeAgain names n = againB (nodeTable names (n .1)) (length (n .1 .inputs)) (replicate 256 0) (concat (map definedBy (placedEquations (n .0) (n .1))))
 
-pub record NodeJudged (s names : List ℕ) (f : File) (visible : List ℕ) (k : ℕ) (slots slots′ : List ℕ) (g r : Faults) : Type 0 where
+pub record NodeJudged (s names rows : List ℕ) (nodes : ℕ) (f : File) (visible : List ℕ) (k : ℕ) (slots slots′ : List ℕ) (g r : Faults) : Type 0 where
   pub unseen : placeOf (r .unseen) ≡ foundIn (placeOf (g .unseen)) (nodeUses visible (placeIn f k, nodeOf f k))
   pub again : placeOf (r .again) ≡ foundIn (placeOf (g .again)) (nodeAgain names (placeIn f k, nodeOf f k))
   pub called : placeOf (r .called) ≡ foundIn (placeOf (g .called)) (nodeCalls f (k, (placeIn f k, nodeOf f k)))
   pub shaped : placeOf (r .shaped) ≡ foundIn (placeOf (g .shaped)) (nodeShape f (placeIn f k, nodeOf f k))
   pub slotted : slots′ ≡ slotEquations s (nodeTable names (nodeOf f k)) slots (placedEquations (placeIn f k) (nodeOf f k))
+  pub sized : r .size ≡ min (instanceB rows nodes (nodeOf f k)) 65536
 
 -- ---- all nodes
 

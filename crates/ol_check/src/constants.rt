@@ -30,6 +30,7 @@ fn constant(
     let again = f.again;
     let called = f.called;
     let shaped = f.shaped;
+    let size = f.size;
     let r = walk(
         file,
         names,
@@ -43,6 +44,7 @@ fn constant(
             again,
             called,
             shaped,
+            size,
             next: at + 2 + ty_size(file, at + 2),
         },
     );

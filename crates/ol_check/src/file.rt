@@ -1,4 +1,4 @@
-// Faults 7 to 10 of a whole file, and the slots of its names.
+// Faults 7 to 10 of a whole file, the slots of its names, and the lengths of its records.
 use super::Found;
 use super::bytes::byte;
 use super::constants::judge_constants;
@@ -11,17 +11,17 @@ ghost use lib.ListN.{length};
 ghost use Rattle.ol_tree.specs.At.{fileAt};
 ghost use Rattle.ol_check.specs.FileJudged.{FileReady, NamesWithin, FileJudged};
 
-// Faults 7 to 10 of a file that reads without fault. The table by name is empty, and longer
-// than every declared name.
+// Faults 7 to 10 of a file that reads without fault, and the bytes of an instance of its last node.
+// The table by name is empty, and longer than every declared name.
 pub fn faults(
     file: &[u8],
-    rows: &[usize],
+    rows: &mut [usize],
     sections: Sections,
     names: &mut [u8],
     slots: &mut [u8],
 ) -> Faults
-    requires { ⌜ FileReady (now file) (now rows) (now names) sections × NamesWithin (length (now names)) (fileAt (now file)) ⌝ }
-    ensures { λ r. ⌜ FileJudged (now (file .entry)) (fileAt (now (file .entry))) (now (names .entry)) (now (names .exit)) (now (slots .entry)) (now (slots .exit)) r ⌝ }
+    requires { ⌜ FileReady (now file) (now rows) (now names) sections × NamesWithin (length (now names)) (fileAt (now file)) × (length (now rows) ≡ 272) ⌝ }
+    ensures { λ r. ⌜ FileJudged (now (file .entry)) (fileAt (now (file .entry))) (now (names .entry)) (now (names .exit)) (now (slots .entry)) (now (slots .exit)) (now (rows .entry)) (now (rows .exit)) r ⌝ }
 {
     let c = sections.constants;
     let n = sections.nodes;
@@ -39,6 +39,7 @@ pub fn faults(
             again: Found::Nothing,
             called: Found::Nothing,
             shaped: Found::Nothing,
+            size: 0,
             next: c + 1,
         },
     );

@@ -1,4 +1,4 @@
-// Faults 7 to 10 of every expression and equation, and the slots of the names.
+// Faults 7 to 10 of every expression and equation, the slots of the names, and the records of the call sites.
 use super::Found;
 use super::bytes::byte;
 use super::bytes::earlier;
@@ -6,6 +6,8 @@ use super::bytes::entry;
 use super::bytes::name;
 use super::bytes::put_byte;
 use super::heads::head;
+use super::size::capped;
+use super::size::site;
 ghost use mathlib.Core.Path.{_≡_};
 ghost use Prim.Native.Nat.{ℕ, _≤_, _<_, _+_, _*_};
 ghost use lib.ListN.{getD, length, set};
@@ -18,12 +20,14 @@ ghost use mathlib.Core.Bool.{Bool};
 ghost use Rattle.ol_spec.specs.Syntax.{Expr, nil, cons, Equation, File};
 ghost use Rattle.ol_tree.specs.Stands.{Names, EquationStands, Equations};
 
-// The first fault of each number so far, and where the walk stands.
+// The first fault of each number so far, the bytes of the records of a node's call sites so far, and
+// where the walk stands.
 pub struct Faults {
     pub unseen: Found,
     pub again: Found,
     pub called: Found,
     pub shaped: Found,
+    pub size: usize,
     pub next: usize,
 }
 
@@ -153,6 +157,7 @@ pub fn walk(
     let mut unseen = f.unseen;
     let mut called = f.called;
     let mut shaped = f.shaped;
+    let mut size = f.size;
     let again = f.again;
     while 0 < left {
         if file.len() <= next {
@@ -161,6 +166,7 @@ pub fn walk(
                 again,
                 called,
                 shaped,
+                size,
                 next,
             };
         }
@@ -169,6 +175,7 @@ pub fn walk(
         unseen = earlier(unseen, unseen_at(file, names, next), next + 1);
         called = earlier(called, called_at(file, rows, node, next), next);
         shaped = earlier(shaped, 1 < arity_at(file, rows, nodes, next), next);
+        size = capped(size, site(file, rows, nodes, next));
         left = left - 1 + h.count;
         next = h.start;
     }
@@ -177,6 +184,7 @@ pub fn walk(
         again,
         called,
         shaped,
+        size,
         next,
     }
 }
@@ -215,6 +223,7 @@ fn define(
     let mut again = f.again;
     let called = f.called;
     let shaped = f.shaped;
+    let size = f.size;
     while i < many {
         let e = byte(names, name(file, next));
         unseen = earlier(unseen, e == 0, next);
@@ -229,6 +238,7 @@ fn define(
         again,
         called,
         shaped,
+        size,
         next,
     }
 }
@@ -277,6 +287,7 @@ fn root(
     let called = earlier(c, called_at(file, rows, node, next), next);
     let few = earlier(s, lone(many, values), at);
     let shaped = earlier(few, other(many, values), next);
+    let size = capped(f.size, site(file, rows, nodes, next));
     walk(
         file,
         names,
@@ -290,6 +301,7 @@ fn root(
             again,
             called,
             shaped,
+            size,
             next: h.start,
         },
     )
@@ -308,7 +320,7 @@ fn equation(
     f: Faults,
 ) -> Faults
     requires { ⌜ (node < 256) × (f .next < length (now file)) × (length (now file) ≤ 32768) ⌝ }
-    ensures { λ r. ⌜ ((t : File) (visible : List ℕ) (bad : ℕ → ℕ → Bool) (enums : ℕ) (q : Equation) → Context t node (now (names .entry)) (now (rows .entry)) nodes visible bad → EquationStands (now (file .entry)) enums (f .next) q → EquationJudged (now (file .entry)) (now (names .entry)) t visible bad inputs (f .next) q (now (slots .entry)) (now (slots .exit)) (now (defined .entry)) (now (defined .exit)) f r) ⌝ }
+    ensures { λ r. ⌜ ((t : File) (visible : List ℕ) (bad : ℕ → ℕ → Bool) (enums : ℕ) (q : Equation) → Context t node (now (names .entry)) (now (rows .entry)) nodes visible bad → EquationStands (now (file .entry)) enums (f .next) q → EquationJudged (now (file .entry)) (now (names .entry)) (now (rows .entry)) nodes t visible bad inputs (f .next) q (now (slots .entry)) (now (slots .exit)) (now (defined .entry)) (now (defined .exit)) f r) ⌝ }
 {
     let at = f.next;
     let many = byte(file, at);
@@ -316,6 +328,7 @@ fn equation(
     let again = f.again;
     let called = f.called;
     let shaped = f.shaped;
+    let size = f.size;
     let d = define(
         file,
         names,
@@ -328,6 +341,7 @@ fn equation(
             again,
             called,
             shaped,
+            size,
             next: at + 1,
         },
     );
@@ -348,7 +362,7 @@ pub fn equations(
     f: Faults,
 ) -> Faults
     requires { ⌜ (node < 256) × (length (now file) ≤ 32768) ⌝ }
-    ensures { λ r. ⌜ ((t : File) (visible : List ℕ) (bad : ℕ → ℕ → Bool) (enums : ℕ) (qs : List Equation) → Context t node (now (names .entry)) (now (rows .entry)) nodes visible bad → length qs ≡ many → Equations (now (file .entry)) enums (f .next) qs → EquationsJudged (now (file .entry)) (now (names .entry)) t visible bad inputs (f .next) qs (now (slots .entry)) (now (slots .exit)) (now (defined .entry)) (now (defined .exit)) f r) ⌝ }
+    ensures { λ r. ⌜ ((t : File) (visible : List ℕ) (bad : ℕ → ℕ → Bool) (enums : ℕ) (qs : List Equation) → Context t node (now (names .entry)) (now (rows .entry)) nodes visible bad → length qs ≡ many → Equations (now (file .entry)) enums (f .next) qs → EquationsJudged (now (file .entry)) (now (names .entry)) (now (rows .entry)) nodes t visible bad inputs (f .next) qs (now (slots .entry)) (now (slots .exit)) (now (defined .entry)) (now (defined .exit)) f r) ⌝ }
 {
     let mut g = f;
     let mut i = 0;

@@ -1,20 +1,24 @@
-// Faults 7 to 10 of the nodes: a node's variables are entered, its equations judged, and its variables taken back.
+// Faults 7 to 10 of the nodes, and the lengths of their records: a node's variables are entered, its equations judged, and its variables taken back.
 use super::bytes::byte;
 use super::bytes::entry;
+use super::bytes::put;
 use super::judge::Faults;
 use super::judge::equations;
 use super::names::declare_variables;
 use super::names::forget_variables;
+use super::size::record_size;
 ghost use mathlib.Core.Path.{_≡_};
 ghost use mathlib.Core.List.{List, map};
 ghost use Prim.Native.Nat.{ℕ, _≤_, _<_, _+_, _*_};
-ghost use lib.ListN.{length};
+ghost use lib.ListN.{length, set};
 ghost use Rattle.ol_spec.specs.Syntax.{variables, nameOf};
 ghost use Rattle.ol_tree.specs.At.{fileAt};
-ghost use Rattle.ol_tree.specs.Tables.{nodeOf};
+ghost use Rattle.ol_tree.specs.Tables.{nodeOf, rowAt};
 ghost use Rattle.ol_check.specs.Entries.{declareAll, forgetAll, variableEntries, Global};
 ghost use Rattle.ol_check.specs.Judging.{Knows};
 ghost use Rattle.ol_check.specs.NodesJudged.{NodeReady, nodeTable, Covered, NodeJudged, RowsReady, AllCovered, NodesJudged};
+ghost use Rattle.ol_check.specs.Records.{recordBy};
+ghost use Rattle.ol_check.specs.Sizes.{NodesSized};
 
 // Enters the variables of node `k`.
 fn declare_node(file: &[u8], names: &mut [u8], rows: &[usize], nodes: usize, k: usize)
@@ -44,18 +48,18 @@ fn forget_node(file: &[u8], names: &mut [u8], rows: &[usize], nodes: usize, k: u
     forget_variables(file, names, locals, l + 1);
 }
 
-// Judges node `k`. The table by name is as before in the end.
+// Judges node `k`, and stores the length of its records. The table by name is as before in the end.
 fn node(
     file: &[u8],
     names: &mut [u8],
     slots: &mut [u8],
-    rows: &[usize],
+    rows: &mut [usize],
     nodes: usize,
     k: usize,
     f: Faults,
 ) -> Faults
     requires { ⌜ NodeReady (now file) (now rows) nodes k × Global (now names) ⌝ }
-    ensures { λ r. ⌜ (now (names .exit) ≡ now (names .entry)) × ((visible : List ℕ) → Knows (now (names .entry)) visible → Covered (length (now (names .entry))) (nodeOf (fileAt (now (file .entry))) k) → NodeJudged (now (file .entry)) (now (names .entry)) (fileAt (now (file .entry))) visible k (now (slots .entry)) (now (slots .exit)) f r) ⌝ }
+    ensures { λ r. ⌜ (now (names .exit) ≡ now (names .entry)) × (now (rows .exit) ≡ set (now (rows .entry)) (k * 8 + 6) (recordBy (rowAt (now (rows .entry)) k 0) (r .size))) × ((visible : List ℕ) → Knows (now (names .entry)) visible → Covered (length (now (names .entry))) (nodeOf (fileAt (now (file .entry))) k) → NodeJudged (now (file .entry)) (now (names .entry)) (now (rows .entry)) nodes (fileAt (now (file .entry))) visible k (now (slots .entry)) (now (slots .exit)) f r) ⌝ }
 {
     declare_node(file, names, rows, nodes, k);
     let unseen = f.unseen;
@@ -78,24 +82,27 @@ fn node(
             again,
             called,
             shaped,
+            size: 1 + 9 * entry(rows, k * 8 + 4),
             next: entry(rows, k * 8 + 1),
         },
     );
     forget_node(file, names, rows, nodes, k);
+    let size = record_size(entry(rows, k * 8), r.size);
+    put(rows, k * 8 + 6, size);
     r
 }
 
-// Judges all nodes.
+// Judges all nodes, and stores the lengths of their records; that of an instance of the last node is answered.
 pub fn judge_nodes(
     file: &[u8],
     names: &mut [u8],
     slots: &mut [u8],
-    rows: &[usize],
+    rows: &mut [usize],
     nodes: usize,
     f: Faults,
 ) -> Faults
-    requires { ⌜ RowsReady (now file) (now rows) nodes × Global (now names) ⌝ }
-    ensures { λ r. ⌜ (now (names .exit) ≡ now (names .entry)) × ((visible : List ℕ) → Knows (now (names .entry)) visible → AllCovered (length (now (names .entry))) (fileAt (now (file .entry))) → NodesJudged (now (file .entry)) (now (names .entry)) (fileAt (now (file .entry))) visible (now (slots .entry)) (now (slots .exit)) f r) ⌝ }
+    requires { ⌜ RowsReady (now file) (now rows) nodes × Global (now names) × (length (now rows) ≡ 272) ⌝ }
+    ensures { λ r. ⌜ (now (names .exit) ≡ now (names .entry)) × ((visible : List ℕ) → Knows (now (names .entry)) visible → AllCovered (length (now (names .entry))) (fileAt (now (file .entry))) → NodesJudged (now (file .entry)) (now (names .entry)) (fileAt (now (file .entry))) visible (now (slots .entry)) (now (slots .exit)) f r × NodesSized (fileAt (now (file .entry))) (now (rows .entry)) (now (rows .exit)) (r .size)) ⌝ }
 {
     let mut g = f;
     let mut k = 0;

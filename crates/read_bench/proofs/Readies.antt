@@ -14,12 +14,9 @@ use Rattle.ol_tree.specs.Stands.{FileReads, FileStands}
 use Rattle.ol_ir.specs.Walks.{loadedOf}
 use Rattle.ol_ir.specs.declared.Loaded.{Loaded}
 use Rattle.ol_ir.specs.declared.Loaded.the-variants as Ldd
-use Rattle.ol_check.specs.Founds.{Byte}
 use Rattle.ol_check.specs.RowsDone.{PlacesAre, TablesDone}
-use Rattle.ol_check.specs.NodesJudged.{RowsReady}
 use Rattle.ol_check.specs.FileJudged.{FileReady, NamesWithin}
 use Rattle.ol_check.specs.declared.rows.Sections.{Sections}
-use Rattle.ol_check.proofs.FileLaws as FileLaws
 use Rattle.ol_check.proofs.RowLoops.{places-kept}
 use Rattle.ol_check.proofs.NamesBelow.{high-within}
 
@@ -52,7 +49,3 @@ module _ {s rows types : List ℕ} {c : Sections} where
   -- with an empty table by name
   pub file-ready : (n : ℕ) → FileReads s → TablesDone (fileAt s) rows types c → FileReady s rows (replicate n 0) c
   file-ready n r d = record { reads = r; row = d .are .row; sections = d .sections; empty = zero-at n }
-
-  -- the number of the nodes, for the lengths of their records
-  pub rows-ready : {nodes : ℕ} → FileReads s → FileStands s (fileAt s) → TablesDone (fileAt s) rows types c → Byte s (c .nodes) nodes → RowsReady s rows nodes
-  rows-ready r st d b = FileLaws.rows-ready (file-ready 65536 r d) (names-ready st) st b

@@ -6,7 +6,6 @@ use ol_check::file::faults;
 use ol_check::judge::Faults;
 use ol_check::rows::Sections;
 use ol_check::rows::rows_of;
-use ol_check::size::sizes_of;
 use ol_ir::Loaded;
 use ol_ir::project::load_file;
 use ol_order::evaluation_order;
@@ -16,7 +15,6 @@ ghost use lib.ListN.{length};
 ghost use Rattle.ol_tree.specs.At.{fileAt};
 ghost use Rattle.ol_tree.specs.Stands.{FileReads};
 ghost use Rattle.ol_check.specs.RowsDone.{PlacesAre, TablesDone};
-ghost use Rattle.ol_check.specs.NodesJudged.{RowsReady};
 
 // How many nodes a loaded file has; of a refused one its fault's number, above 256.
 fn digest(l: Loaded) -> u64 {
@@ -46,11 +44,8 @@ fn last_size(rows: &[usize], nodes: usize) -> usize {
     }
 }
 
-// The lengths of the records; that of the last node's, with the first variable's type and the last slot.
-fn sized(file: &[u8], rows: &mut [usize], types: &[u8], slots: &[u8], nodes: usize) -> u64
-    requires { ⌜ RowsReady (now file) (now rows) nodes × (length (now rows) ≡ 272) ⌝ }
-{
-    sizes_of(file, rows, nodes);
+// The length of the last node's records, with the first variable's type and the last slot.
+fn sized(rows: &[usize], types: &[u8], slots: &[u8], nodes: usize) -> u64 {
     let size = last_size(rows, nodes) as u64;
     if byte(types, 0) + byte(slots, 32767) < 512 {
         size
@@ -73,10 +68,13 @@ fn first_place(found: Faults) -> usize {
     let again = found.again;
     let called = found.called;
     let shaped = found.shaped;
-    first_of(unseen, first_of(again, first_of(called, first_of(shaped, 0))))
+    first_of(
+        unseen,
+        first_of(again, first_of(called, first_of(shaped, 0))),
+    )
 }
 
-// The slots of the names, then the lengths of the records.
+// The slots of the names and the lengths of the records.
 fn slotted(file: &[u8], rows: &mut [usize], types: &[u8], sections: Sections) -> u64
     requires { ⌜ FileReads (now file) × (length (now rows) ≡ 272) × TablesDone (fileAt (now file)) (now rows) (now types) sections ⌝ }
 {
@@ -84,7 +82,7 @@ fn slotted(file: &[u8], rows: &mut [usize], types: &[u8], sections: Sections) ->
     let mut slots = [0u8; 32768];
     let nodes = byte(file, sections.nodes);
     let found = faults(file, rows, sections, &mut names, &mut slots);
-    let size = sized(file, rows, types, &slots, nodes);
+    let size = sized(rows, types, &slots, nodes);
     if first_place(found) < 65536 { size } else { 0 }
 }
 

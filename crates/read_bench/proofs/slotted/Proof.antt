@@ -1,6 +1,6 @@
 use native.Mathlib.Omega.{arith}
 use Rattle.ol_tree.proofs.HeadsFile.{bytes-of, file-stands}
-use Rattle.read_bench.proofs.Readies.{names-ready, file-ready, rows-ready}
+use Rattle.read_bench.proofs.Readies.{names-ready, file-ready}
 use borrow.Author.Needs.{needs}
 use Rattle.read_bench.proofs.slotted.Statement.{statement}
 use Rattle.read_bench.proofs.slotted.Tie as tie
@@ -11,53 +11,50 @@ use Rattle.ol_check.proofs.file.faults.Reads as faults-reads
 use Rattle.read_bench.proofs.first_place.Reads as first-place-reads
 use Rattle.read_bench.proofs.sized.Reads as sized-reads
 
--- src/lib.rt:87:9
+-- src/lib.rt:82:9
 byte-requires : tie.Need-byte-requires
 byte-requires c κs = search needs
 
--- src/lib.rt:88:46
+-- src/lib.rt:83:46
 slice-aggregate-faults : tie.Need-slice-aggregate-faults
 slice-aggregate-faults c = search needs
 
--- src/lib.rt:88:58
+-- src/lib.rt:83:58
 slice-aggregate-faults-2 : tie.Need-slice-aggregate-faults-2
 slice-aggregate-faults-2 c = search needs
 
--- src/lib.rt:88:9
+-- src/lib.rt:83:9
 faults-requires : tie.Need-faults-requires
 faults-requires c κs =
     let start = c .before .before .before .before .before .before .before in
     let st = file-stands (bytes-of (start .args .file .now) (λ i. omega (arith, c .before .before .before .before .before .before .shared-slice-known .given i))) (start .pre .0) in
-    (file-ready 65536 (start .pre .0) (start .pre .2), names-ready st)
+    (file-ready 65536 (start .pre .0) (start .pre .2), names-ready st, start .pre .1)
 
--- src/lib.rt:89:41
+-- src/lib.rt:84:35
 slice-aggregate-sized : tie.Need-slice-aggregate-sized
 slice-aggregate-sized c = search needs
 
--- src/lib.rt:89:9
+-- src/lib.rt:84:9
 sized-requires : tie.Need-sized-requires
-sized-requires c κs =
-    let start = c .before .before .before .before .before .before .before .before .before .before .before .before in
-    let st = file-stands (bytes-of (start .args .file .now) (λ i. omega (arith, c .before .before .before .before .before .before .before .before .before .before .before .shared-slice-known .given i))) (start .pre .0) in
-    (rows-ready (start .pre .0) st (start .pre .2) (c .before .before .before .before .before .before .before .before .byte .ensures), start .pre .1)
+sized-requires c κs = search needs
 
--- src/lib.rt:90:8
+-- src/lib.rt:85:8
 first-place-requires : tie.Need-first-place-requires
 first-place-requires c κs = search needs
 
--- src/lib.rt:82:1
+-- src/lib.rt:77:1
 same-length : tie.Need-same-length
 same-length c = search needs
 
--- src/lib.rt:82:1
+-- src/lib.rt:77:1
 returns : tie.Need-returns
 returns c = search needs
 
--- src/lib.rt:82:1
+-- src/lib.rt:77:1
 same-length-2 : tie.Need-same-length-2
 same-length-2 c = search needs
 
--- src/lib.rt:82:1
+-- src/lib.rt:77:1
 returns-2 : tie.Need-returns-2
 returns-2 c = search needs
 

@@ -6,8 +6,8 @@ use borrow.Author.Needs.{needs}
 use Rattle.ol_check.proofs.constants.constant.Statement.{statement}
 use Rattle.ol_check.proofs.constants.constant.Tie as tie
 
-add-t18 : tie.Need-add-t18
-add-t18 c = search needs
+add-t19 : tie.Need-add-t19
+add-t19 c = search needs
 
 add-ty-size : tie.Need-add-ty-size
 add-ty-size c = search needs
@@ -15,8 +15,8 @@ add-ty-size c = search needs
 ty-size-requires : tie.Need-ty-size-requires
 ty-size-requires c κs = search needs
 
-add-t21 : tie.Need-add-t21
-add-t21 c = omega (arith, ty-small (c .before .before .before .before .before .before .before .args .file .now) (c .before .before .before .before .before .before .before .args .f .next + 2), c .ty-size .ensures, c .before .before .before .before .before .before .before .pre)
+add-t22 : tie.Need-add-t22
+add-t22 c = omega (arith, ty-small (c .before .before .before .before .before .before .before .args .file .now) (c .before .before .before .before .before .before .before .args .f .next + 2), c .ty-size .ensures, c .before .before .before .before .before .before .before .pre)
 
 walk-requires : tie.Need-walk-requires
 walk-requires c κs = search needs
@@ -43,4 +43,4 @@ returns : tie.Need-returns
 returns c = constant-judged (c .before .before .before .before .before .before .before .before .before .before .before .before .before .before .before .args .names .now) (c .before .before .before .before .before .before .before .before .ty-size .ensures) (c .before .before .before .name .ensures) (c .before .before .before .before .before .before .before .walk .ensures) (c .before .before .declare .ensures)
 
 pub constant-spec : {M : Type 1} → statement M
-constant-spec = tie.close (tie.spec add-t18 add-ty-size ty-size-requires add-t21 walk-requires name-requires add-declare cast-declare declare-requires same-length same-length-2 returns)
+constant-spec = tie.close (tie.spec add-t19 add-ty-size ty-size-requires add-t22 walk-requires name-requires add-declare cast-declare declare-requires same-length same-length-2 returns)

@@ -7,8 +7,8 @@ use Rattle.ol_check.proofs.judge.equation.Tie as tie
 byte-requires : tie.Need-byte-requires
 byte-requires c κs = search needs
 
-add-t21 : tie.Need-add-t21
-add-t21 c = search needs
+add-t22 : tie.Need-add-t22
+add-t22 c = search needs
 
 define-requires : tie.Need-define-requires
 define-requires c κs = search needs
@@ -26,4 +26,4 @@ returns : tie.Need-returns
 returns c = equation-judged (c .before .before .before .before .before .before .before .before .before .before .before .before .before .before .before .before .before .args .slots .now) _ _ (c .before .before .before .before .before .before .before .before .before .before .before .before .before .before .before .before .before .args .defined .now) _ (c .before .before .before .before .before .before .before .before .define .result) (c .before .before .before .before .before .before .before .before .before .before .before .byte .ensures) (c .before .before .before .before .before .before .before .before .define .ensures) (c .before .before .root .ensures)
 
 pub equation-spec : {M : Type 1} → statement M
-equation-spec = tie.close (tie.spec byte-requires add-t21 define-requires root-requires same-length same-length-2 returns)
+equation-spec = tie.close (tie.spec byte-requires add-t22 define-requires root-requires same-length same-length-2 returns)

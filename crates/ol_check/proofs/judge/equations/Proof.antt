@@ -14,7 +14,7 @@ use Rattle.ol_check.proofs.judge.equations.Tie as tie
 
 abbrev Inv-loop : tie.InvT-loop
 Inv-loop file names slots₀ defined₀ rows nodes node inputs many g₀ i₀ slots defined g i =
-    (length slots ≡ length slots₀) × (length defined ≡ length defined₀) × ((t : File) (visible : List ℕ) (bad : ℕ → ℕ → Bool) (enums : ℕ) (qs : List Equation) → Context t node names rows nodes visible bad → length qs ≡ many → Equations file enums (g₀ .next) qs → EquationsGoing file names t visible bad inputs enums qs slots₀ defined₀ g₀ slots defined g i)
+    (length slots ≡ length slots₀) × (length defined ≡ length defined₀) × ((t : File) (visible : List ℕ) (bad : ℕ → ℕ → Bool) (enums : ℕ) (qs : List Equation) → Context t node names rows nodes visible bad → length qs ≡ many → Equations file enums (g₀ .next) qs → EquationsGoing file names rows nodes t visible bad inputs enums qs slots₀ defined₀ g₀ slots defined g i)
 
 abbrev μ-loop : tie.MeasureT-loop
 μ-loop file names slots₀ defined₀ rows nodes node inputs many g₀ i₀ slots defined g i = many - i

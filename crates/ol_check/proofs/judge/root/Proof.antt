@@ -1,6 +1,7 @@
 use Rattle.ol_check.proofs.EquationLaws.{root-judged}
 use Rattle.ol_spec.specs.Syntax.{nil}
 use Rattle.ol_tree.proofs.Heads.{headed}
+use mathlib.Core.Path.{_∙_}
 use native.Mathlib.Omega.{arith}
 use borrow.Author.Needs.{needs}
 use Rattle.ol_check.proofs.judge.root.Statement.{statement}
@@ -45,14 +46,20 @@ other-requires c κs = search needs
 earlier-requires-4 : tie.Need-earlier-requires-4
 earlier-requires-4 c κs = search needs
 
+site-requires : tie.Need-site-requires
+site-requires c κs = search needs
+
+capped-requires : tie.Need-capped-requires
+capped-requires c κs = search needs
+
 walk-requires : tie.Need-walk-requires
-walk-requires c κs = (c .before .before .before .before .before .before .before .before .before .before .before .before .before .before .before .before .before .before .before .before .pre .0, c .before .before .before .before .before .before .before .before .before .before .before .before .before .before .head .ensures .few, c .before .before .before .before .before .before .before .before .before .before .before .before .before .before .before .before .before .before .before .before .pre .1)
+walk-requires c κs = (c .before .before .before .before .before .before .before .before .before .before .before .before .before .before .before .before .before .before .before .before .before .before .pre .0, c .before .before .before .before .before .before .before .before .before .before .before .before .before .before .before .before .head .ensures .few, c .before .before .before .before .before .before .before .before .before .before .before .before .before .before .before .before .before .before .before .before .before .before .pre .1)
 
 same-length : tie.Need-same-length
-same-length c = search needs
+same-length c = c .before .before .walk .kept .1 .1 .0 ∙ c .before .before .before .before .before .before .before .before .before .before .before .before .before .before .before .before .slot-head .kept .1 .1 .0
 
 returns-2 : tie.Need-returns-2
-returns-2 c = root-judged (c .before .before .before .before .before .before .before .before .before .before .before .before .before .before .before .before .before .before .before .before .before .before .before .args .slots .now) (c .before .before .before .before .before .before .earlier3 .result) (c .before .before .before .before .before .before .before .before .before .before .before .before .before .before .before .before .before .head .ensures) (c .before .before .before .before .before .before .before .before .before .before .before .before .before .before .before .before .arity-at .ensures) (c .before .before .before .before .before .before .before .before .before .before .before .before .before .before .slot-head .ensures) (c .before .before .before .before .before .before .before .before .before .before .earlier .ensures) (c .before .before .before .before .before .before .before .before .before .before .before .unseen-at .ensures) (c .before .before .before .before .before .before .before .before .earlier2 .ensures) (c .before .before .before .before .before .before .before .before .before .called-at .ensures) (c .before .before .before .before .before .before .earlier3 .ensures) (c .before .before .before .before .before .before .before .lone .ensures) (c .before .before .before .before .earlier4 .ensures) (c .before .before .before .before .before .other .ensures) (c .before .before .walk .ensures)
+returns-2 c = root-judged (c .before .before .before .before .before .before .before .before .before .before .before .before .before .before .before .before .before .before .before .before .before .before .before .before .before .args .slots .now) (c .before .before .before .before .before .before .before .before .earlier3 .result) (c .before .before .before .before .before .before .before .before .before .before .before .before .before .before .before .before .before .before .before .head .ensures) (c .before .before .before .before .before .before .before .before .before .before .before .before .before .before .before .before .before .before .arity-at .ensures) (c .before .before .before .before .before .before .before .before .before .before .before .before .before .before .before .before .slot-head .ensures) (c .before .before .before .before .before .before .before .before .before .before .before .before .earlier .ensures) (c .before .before .before .before .before .before .before .before .before .before .before .before .before .unseen-at .ensures) (c .before .before .before .before .before .before .before .before .before .before .earlier2 .ensures) (c .before .before .before .before .before .before .before .before .before .before .before .called-at .ensures) (c .before .before .before .before .before .before .before .before .earlier3 .ensures) (c .before .before .before .before .before .before .before .before .before .lone .ensures) (c .before .before .before .before .before .before .earlier4 .ensures) (c .before .before .before .before .before .before .before .other .ensures) (c .before .before .before .before .capped .ensures) (c .before .before .before .before .before .site .ensures) (c .before .before .walk .ensures)
 
 pub root-spec : {M : Type 1} → statement M
-root-spec = tie.close (tie.spec returns head-requires arity-at-requires slot-head-requires unseen-at-requires add-earlier earlier-requires called-at-requires earlier-requires-2 lone-requires earlier-requires-3 other-requires earlier-requires-4 walk-requires same-length returns-2)
+root-spec = tie.close (tie.spec returns head-requires arity-at-requires slot-head-requires unseen-at-requires add-earlier earlier-requires called-at-requires earlier-requires-2 lone-requires earlier-requires-3 other-requires earlier-requires-4 site-requires capped-requires walk-requires same-length returns-2)

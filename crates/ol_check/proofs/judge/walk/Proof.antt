@@ -11,11 +11,11 @@ use Rattle.ol_check.proofs.judge.walk.Statement.{statement}
 use Rattle.ol_check.proofs.judge.walk.Tie as tie
 
 abbrev Inv-loop : tie.InvT-loop
-Inv-loop file names slots₀ rows nodes node parts next₀ left₀ unseen₀ called₀ shaped₀ again slots next left unseen called shaped =
-    (left ≤ 255 + 255 * next) × (length slots ≡ length slots₀) × ((enums : ℕ) (es : Exprs) → count es ≡ parts → Standing file enums next₀ es → WalkGoing file names rows nodes node enums es next₀ slots₀ unseen₀ called₀ shaped₀ slots unseen called shaped left next)
+Inv-loop file names slots₀ rows nodes node parts next₀ left₀ unseen₀ called₀ shaped₀ size₀ again slots next left unseen called shaped size =
+    (left ≤ 255 + 255 * next) × (length slots ≡ length slots₀) × ((enums : ℕ) (es : Exprs) → count es ≡ parts → Standing file enums next₀ es → WalkGoing file names rows nodes node enums es next₀ slots₀ unseen₀ called₀ shaped₀ size₀ slots unseen called shaped size left next)
 
 abbrev μ-loop : tie.MeasureT-loop
-μ-loop file names slots₀ rows nodes node parts next₀ left₀ unseen₀ called₀ shaped₀ again slots next left unseen called shaped =
+μ-loop file names slots₀ rows nodes node parts next₀ left₀ unseen₀ called₀ shaped₀ size₀ again slots next left unseen called shaped size =
     length file - next
 
 loop-holds : tie.Need-loop-holds Inv-loop μ-loop
@@ -54,27 +54,33 @@ arity-at-requires c κs = search needs
 earlier-requires-3 : tie.Need-earlier-requires-3 Inv-loop μ-loop
 earlier-requires-3 c κs = search needs
 
+site-requires : tie.Need-site-requires Inv-loop μ-loop
+site-requires c κs = search needs
+
+capped-requires : tie.Need-capped-requires Inv-loop μ-loop
+capped-requires c κs = search needs
+
 sub-left : tie.Need-sub-left Inv-loop μ-loop
 sub-left c = omega arith
 
 add-left : tie.Need-add-left Inv-loop μ-loop
-add-left c = omega (arith, c .before .before .before .before .before .before .before .before .before .before .before .head .ensures .few, c .before .before .before .before .before .before .before .before .before .before .before .before .before .before .loop .inv .0, c .before .before .before .before .before .before .before .before .before .before .before .before .if1 .left, c .before .before .before .before .before .before .before .before .before .before .before .before .before .before .before .before .before .before .before .pre .2)
+add-left c = omega (arith, c .before .before .before .before .before .before .before .before .before .before .before .before .before .head .ensures .few, c .before .before .before .before .before .before .before .before .before .before .before .before .before .before .before .before .loop .inv .0, c .before .before .before .before .before .before .before .before .before .before .before .before .before .before .if1 .left, c .before .before .before .before .before .before .before .before .before .before .before .before .before .before .before .before .before .before .before .before .before .pre .2)
 
 loop-less : tie.Need-loop-less Inv-loop μ-loop
-loop-less c = omega (arith, c .before .before .before .before .before .before .before .before .before .before .before .head .ensures .onward, c .before .before .before .before .before .before .before .before .before .before .before .before .if1 .left)
+loop-less c = omega (arith, c .before .before .before .before .before .before .before .before .before .before .before .before .before .head .ensures .onward, c .before .before .before .before .before .before .before .before .before .before .before .before .before .before .if1 .left)
 
 loop-again : tie.Need-loop-again Inv-loop μ-loop
 loop-again c = (
-  omega (arith, c .before .before .before .before .before .before .before .before .before .before .before .head .ensures .few, c .before .before .before .before .before .before .before .before .before .before .before .head .ensures .onward, c .before .before .before .before .before .before .before .before .before .before .before .before .before .before .loop .inv .0, c .before .before .before .before .before .before .before .before .before .before .before .before .before .loop-test .taken),
-  c .before .before .before .before .before .before .before .before .before .slot-head .kept .1 .1 .0 ∙ c .before .before .before .before .before .before .before .before .before .before .before .before .before .before .loop .inv .1,
-  λ enums es e h. walk-turn (c .before .before .before .before .before .before .before .before .before .before .before .before .before .before .loop .inv .2 enums es e h) (c .before .before .before .before .before .before .before .before .before .before .before .before .before .loop-test .taken) (c .before .before .before .before .before .before .before .before .before .before .before .head .result) (c .before .before .before .before .before .before .before .before .before .before .before .head .ensures) _ _ _ _ _ _ _ (c .before .before .before .before .before .before .before .before .before .slot-head .ensures) (c .before .before .before .before .before .earlier .ensures) (c .before .before .before .before .before .before .unseen-at .ensures) (c .before .before .before .earlier2 .ensures) (c .before .before .before .before .called-at .ensures) (c .before .earlier3 .ensures) (c .before .before .arity-at .ensures),
+  omega (arith, c .before .before .before .before .before .before .before .before .before .before .before .before .before .head .ensures .few, c .before .before .before .before .before .before .before .before .before .before .before .before .before .head .ensures .onward, c .before .before .before .before .before .before .before .before .before .before .before .before .before .before .before .before .loop .inv .0, c .before .before .before .before .before .before .before .before .before .before .before .before .before .before .before .loop-test .taken),
+  c .before .before .before .before .before .before .before .before .before .before .before .slot-head .kept .1 .1 .0 ∙ c .before .before .before .before .before .before .before .before .before .before .before .before .before .before .before .before .loop .inv .1,
+  λ enums es e h. walk-turn (c .before .before .before .before .before .before .before .before .before .before .before .before .before .before .before .before .loop .inv .2 enums es e h) (c .before .before .before .before .before .before .before .before .before .before .before .before .before .before .before .loop-test .taken) (c .before .before .before .before .before .before .before .before .before .before .before .before .before .head .result) (c .before .before .before .before .before .before .before .before .before .before .before .before .before .head .ensures) _ _ _ _ _ _ _ _ _ (c .before .before .before .before .before .before .before .before .before .before .before .slot-head .ensures) (c .before .before .before .before .before .before .before .earlier .ensures) (c .before .before .before .before .before .before .before .before .unseen-at .ensures) (c .before .before .before .before .before .earlier2 .ensures) (c .before .before .before .before .before .before .called-at .ensures) (c .before .before .before .earlier3 .ensures) (c .before .before .before .before .arity-at .ensures) (c .before .capped .ensures) (c .before .before .site .ensures),
 )
 
 same-length-2 : tie.Need-same-length-2 Inv-loop μ-loop
 same-length-2 c = c .before .loop .inv .1
 
 returns-2 : tie.Need-returns-2 Inv-loop μ-loop
-returns-2 c = λ enums es e h. walk-done (c .before .loop .inv .2 enums es e h) _ _ (λ lt. omega (arith, c .loop-test .left)) refl refl refl refl refl refl refl refl refl
+returns-2 c = λ enums es e h. walk-done (c .before .loop .inv .2 enums es e h) _ _ (λ lt. omega (arith, c .loop-test .left)) refl refl refl refl refl refl refl refl refl refl refl
 
 pub walk-spec : {M : Type 1} → statement M
-walk-spec = tie.close (tie.spec Inv-loop μ-loop loop-holds same-length returns head-requires slot-head-requires unseen-at-requires add-earlier earlier-requires called-at-requires earlier-requires-2 arity-at-requires earlier-requires-3 sub-left add-left loop-less loop-again same-length-2 returns-2)
+walk-spec = tie.close (tie.spec Inv-loop μ-loop loop-holds same-length returns head-requires slot-head-requires unseen-at-requires add-earlier earlier-requires called-at-requires earlier-requires-2 arity-at-requires earlier-requires-3 site-requires capped-requires sub-left add-left loop-less loop-again same-length-2 returns-2)

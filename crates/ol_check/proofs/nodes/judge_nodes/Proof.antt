@@ -1,5 +1,7 @@
 use Rattle.ol_check.proofs.NodeLaws.{judged-same}
 use Rattle.ol_check.proofs.NodeLaws.{NodesGoing, nodes-start, nodes-turn, nodes-judged, ready-at}
+use Rattle.ol_check.proofs.SizeTable.{RowsKept, kept-start, kept-turn, rows-kept, SizesGoing, sizes-start, sizes-turn, sizes-done}
+use Rattle.ol_tree.proofs.HeadsFile.{bytes-of}
 use Rattle.ol_check.specs.NodesJudged.{AllCovered}
 use Rattle.ol_check.specs.Judging.{Knows}
 use Rattle.ol_check.specs.Entries.{Global}
@@ -7,24 +9,24 @@ use Rattle.ol_tree.specs.At.{fileAt}
 use lib.ListN.{length}
 use mathlib.Core.List.{List}
 use mathlib.Core.Path.{_≡_, refl, sym, ap, subst, _∙_}
-use Prim.Native.Nat.{ℕ, _-_}
+use Prim.Native.Nat.{ℕ, _-_, _≤_}
 use borrow.Author.Needs.{needs}
 use native.Mathlib.Omega.{arith}
 use Rattle.ol_check.proofs.nodes.judge_nodes.Statement.{statement}
 use Rattle.ol_check.proofs.nodes.judge_nodes.Tie as tie
 
 abbrev Inv-loop : tie.InvT-loop
-Inv-loop file names₀ slots₀ rows nodes g₀ k₀ names slots g k =
-    (names ≡ names₀) × (length slots ≡ length slots₀) × ((visible : List ℕ) → Knows names₀ visible → AllCovered (length names₀) (fileAt file) → NodesGoing file names₀ (fileAt file) visible slots₀ g₀ slots g k)
+Inv-loop file names₀ slots₀ rows₀ nodes g₀ k₀ names slots rows g k =
+    (names ≡ names₀) × (length slots ≡ length slots₀) × RowsKept rows₀ rows × (k ≤ nodes) × ((visible : List ℕ) → Knows names₀ visible → AllCovered (length names₀) (fileAt file) → NodesGoing file names₀ (fileAt file) visible slots₀ g₀ slots g k × SizesGoing file rows (g .size) k)
 
 abbrev μ-loop : tie.MeasureT-loop
-μ-loop file names₀ slots₀ rows nodes g₀ k₀ names slots g k = nodes - k
+μ-loop file names₀ slots₀ rows₀ nodes g₀ k₀ names slots rows g k = nodes - k
 
 loop-holds : tie.Need-loop-holds Inv-loop μ-loop
-loop-holds c = (refl, refl, λ visible kn cv. nodes-start)
+loop-holds c = (refl, refl, kept-start (c .before .before .before .before .pre .2), omega arith, λ visible kn cv. (nodes-start, sizes-start))
 
 node-requires : tie.Need-node-requires Inv-loop μ-loop
-node-requires c κs = (ready-at (c .before .before .before .before .before .before .before .before .pre .0) (c .before .before .before .loop .k) (c .before .before .loop-test .taken), subst Global (sym (c .before .before .before .loop .inv .0)) (c .before .before .before .before .before .before .before .before .pre .1))
+node-requires c κs = (ready-at (rows-kept (c .before .before .before .before .before .before .before .before .before .pre .0) (c .before .before .before .before .loop .inv .2)) (c .before .before .before .before .loop .k) (c .before .before .before .loop-test .taken), subst Global (sym (c .before .before .before .before .loop .inv .0)) (c .before .before .before .before .before .before .before .before .before .pre .1))
 
 add-k : tie.Need-add-k Inv-loop μ-loop
 add-k c = omega arith
@@ -34,10 +36,16 @@ loop-less c = omega arith
 
 loop-again : tie.Need-loop-again Inv-loop μ-loop
 loop-again c = (
-  c .before .before .before .before .node .ensures .0 ∙ c .before .before .before .before .before .before .before .before .loop .inv .0,
-  c .before .before .before .before .node .kept .1 .1 .0 ∙ c .before .before .before .before .before .before .before .before .loop .inv .1,
-  λ visible kn cv. nodes-turn (c .before .before .before .before .before .before .before .before .loop .inv .2 visible kn cv) (omega (arith, c .before .before .before .before .before .before .before .loop-test .taken, c .before .before .before .before .before .before .before .before .before .before .before .before .before .pre .0 .many)) _ _
-      (judged-same (c .before .before .before .before .before .before .before .before .loop .inv .0) (c .before .before .before .before .node .ensures .1) visible kn (cv (c .before .before .before .before .before .before .before .before .loop .k) (omega (arith, c .before .before .before .before .before .before .before .loop-test .taken, c .before .before .before .before .before .before .before .before .before .before .before .before .before .pre .0 .many)))),
+  c .before .before .before .before .before .before .node .ensures .0 ∙ c .before .before .before .before .before .before .before .before .before .before .before .loop .inv .0,
+  c .before .before .before .before .before .before .node .kept .1 .1 .0 ∙ c .before .before .before .before .before .before .before .before .before .before .before .loop .inv .1,
+  kept-turn (c .before .before .before .before .before .before .before .before .before .before .before .loop .inv .2) (c .before .before .before .before .before .before .before .before .before .before .before .loop .k) _ _ (omega (arith, c .before .before .before .before .before .before .before .before .before .before .loop-test .taken, c .before .before .before .before .before .before .before .before .before .before .before .before .before .before .before .before .pre .0 .few)) (c .before .before .before .before .before .before .node .ensures .1),
+  omega (arith, c .before .before .before .before .before .before .before .before .before .before .loop-test .taken),
+  λ visible kn cv.
+      let both = c .before .before .before .before .before .before .before .before .before .before .before .loop .inv .4 visible kn cv in
+      let judged = judged-same (c .before .before .before .before .before .before .before .before .before .before .before .loop .inv .0) (c .before .before .before .before .before .before .node .ensures .2) visible kn (cv (c .before .before .before .before .before .before .before .before .before .before .before .loop .k) (omega (arith, c .before .before .before .before .before .before .before .before .before .before .loop-test .taken, c .before .before .before .before .before .before .before .before .before .before .before .before .before .before .before .before .pre .0 .many))) in (
+        nodes-turn (both .0) (omega (arith, c .before .before .before .before .before .before .before .before .before .before .loop-test .taken, c .before .before .before .before .before .before .before .before .before .before .before .before .before .before .before .before .pre .0 .many)) _ _ judged,
+        sizes-turn (c .before .before .before .before .before .before .before .before .before .before .before .before .before .before .before .before .pre .0) (c .before .before .before .before .before .before .before .before .before .before .before .loop .inv .2) (both .1) (bytes-of (c .before .before .before .before .before .before .before .before .before .before .before .before .before .before .before .before .args .file .now) (λ i. omega (arith, c .before .before .before .before .before .before .before .before .before .before .before .before .before .before .before .shared-slice-known .given i))) (c .before .before .before .before .before .before .before .before .before .before .loop-test .taken) _ _ (judged .sized) (c .before .before .before .before .before .before .node .ensures .1),
+      ),
 )
 
 same-length : tie.Need-same-length Inv-loop μ-loop
@@ -46,8 +54,11 @@ same-length c = ap length (c .before .loop .inv .0)
 same-length-2 : tie.Need-same-length-2 Inv-loop μ-loop
 same-length-2 c = c .before .loop .inv .1
 
+same-length-3 : tie.Need-same-length-3 Inv-loop μ-loop
+same-length-3 c = c .before .loop .inv .2 .long ∙ sym (c .before .before .before .before .before .before .pre .2)
+
 returns : tie.Need-returns Inv-loop μ-loop
-returns c = (c .before .loop .inv .0, λ visible kn cv. nodes-judged (c .before .loop .inv .2 visible kn cv) (omega (arith, c .loop-test .left, c .before .before .before .before .before .before .pre .0 .many)))
+returns c = (c .before .loop .inv .0, λ visible kn cv. let both = c .before .loop .inv .4 visible kn cv in (nodes-judged (both .0) (omega (arith, c .loop-test .left, c .before .before .before .before .before .before .pre .0 .many)), sizes-done (c .before .before .before .before .before .before .pre .0) (c .before .loop .inv .2) (both .1) (c .before .loop .inv .3) (c .loop-test .left)))
 
 pub judge-nodes-spec : {M : Type 1} → statement M
-judge-nodes-spec = tie.close (tie.spec Inv-loop μ-loop loop-holds node-requires add-k loop-less loop-again same-length same-length-2 returns)
+judge-nodes-spec = tie.close (tie.spec Inv-loop μ-loop loop-holds node-requires add-k loop-less loop-again same-length same-length-2 same-length-3 returns)

@@ -4,40 +4,27 @@ use native.Mathlib.Omega.{arith}
 use borrow.Author.Needs.{needs}
 use Rattle.ol_check.proofs.size.too_long.Statement.{statement}
 use Rattle.ol_check.proofs.size.too_long.Tie as tie
-use Rattle.ol_check.proofs.size.too_long.Reads as reads
-use Rattle.ol_check.proofs.size.too_long.Lts as lts
-use Rattle.ol_check.proofs.bytes.entry.Reads as entry-reads
-use Rattle.ol_check.proofs.size.state_size.Reads as state-size-reads
 
--- src/size.rt:164:16
 state-size-requires : tie.Need-state-size-requires
-state-size-requires c κs = search needs
+state-size-requires c κs = (c .before .before .pre .ready .reads, c .before .before .pre .counted)
 
--- src/size.rt:165:32
 sub-entry : tie.Need-sub-entry
 sub-entry c = search needs
 
--- src/size.rt:165:31
 mul-entry : tie.Need-mul-entry
 mul-entry c = search needs
 
--- src/size.rt:165:31
 add-entry : tie.Need-add-entry
 add-entry c = search needs
 
--- src/size.rt:165:19
 entry-requires : tie.Need-entry-requires
 entry-requires c κs = search needs
 
--- src/size.rt:160:1
 returns : tie.Need-returns
-returns c = state-long (bytes-of (c .before .before .before .before .before .args .file .now) (λ i. omega (arith, c .before .before .before .before .shared-slice-known .given i))) (c .before .before .before .before .before .pre) _ _ (c .before .before .state-size .ensures) (c .before .if1 .taken) (c .entry .ensures)
+returns c = state-long (bytes-of (c .before .before .before .before .before .args .file .now) (λ i. omega (arith, c .before .before .before .before .shared-slice-known .given i))) (c .before .before .before .before .before .pre) _ _ _ (c .before .before .state-size .ensures) (c .before .if1 .taken) (c .entry .ensures)
 
--- src/size.rt:160:1
 returns-2 : tie.Need-returns-2
-returns-2 c = state-short (bytes-of (c .before .before .before .before .args .file .now) (λ i. omega (arith, c .before .before .before .shared-slice-known .given i))) (c .before .before .before .before .pre) _ (c .before .state-size .ensures) (c .if1 .left)
+returns-2 c = state-short (bytes-of (c .before .before .before .before .args .file .now) (λ i. omega (arith, c .before .before .before .shared-slice-known .given i))) (c .before .before .before .before .pre) _ _ (c .before .state-size .ensures) (c .if1 .left)
 
 pub too-long-spec : {M : Type 1} → statement M
-too-long-spec =
-    tie.close
-    (tie.spec state-size-requires sub-entry mul-entry add-entry entry-requires returns returns-2)
+too-long-spec = tie.close (tie.spec state-size-requires sub-entry mul-entry add-entry entry-requires returns returns-2)
