@@ -16,6 +16,7 @@ pub mod SizeLaws
 pub mod SlotLaws
 pub mod SlotEntries
 pub mod TabLaws
+pub mod ConstantSlots
 pub mod Sorts
 pub mod FileSlots
 pub mod SizeTable

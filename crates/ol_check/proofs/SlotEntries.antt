@@ -23,7 +23,7 @@ use Rattle.ol_check.proofs.EntryPlaces.{declare-free, variable-entry, c
 use Rattle.ol_check.proofs.NodeLaws.{entries-ok}
 use Rattle.ol_check.proofs.FileLaws.{variants-ok, constants-ok}
 
-slot-small : (i : ℕ) → i < 254 → slotOfEntry (i + 1) ≡ i
+pub slot-small : (i : ℕ) → i < 254 → slotOfEntry (i + 1) ≡ i
 slot-small i lt = rw (ne-eqb (i + 1) 0 (λ q. omega arith), ne-eqb (i + 1) 255 (λ q. omega arith)) (omega arith)
 
 module _ (names : List ℕ) (f : File) (n : Node) (empty : (x : ℕ) → getD names x 0 ≡ 0) (within : NamesWithin (length names) f) (covered : Covered (length names) n) where

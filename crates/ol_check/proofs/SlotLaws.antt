@@ -69,7 +69,7 @@ abbrev pub NodeSlotted : List ℕ → List ℕ → ℕ × Node → Type 0
 NodeSlotted names slots n = Each (λ p. Each (SlotIs (nodeTable names (n .1)) slots) (namesIn p)) (placedEquations (n .0) (n .1))
 
 module _ (s names : List ℕ) (enums : ℕ) where
-  nodes-below : (ns : List Node) (at : ℕ) → Listed nodeBytes (nodeFits base enums) s at ns → (slots : List ℕ) (j : ℕ) → j ≤ at → getD (slotNodes s names slots (placed nodeSize at ns)) j 0 ≡ getD slots j 0
+  pub nodes-below : (ns : List Node) (at : ℕ) → Listed nodeBytes (nodeFits base enums) s at ns → (slots : List ℕ) (j : ℕ) → j ≤ at → getD (slotNodes s names slots (placed nodeSize at ns)) j 0 ≡ getD slots j 0
   unfolding slotNodes
   nodes-below [] at h slots j le = refl
   nodes-below (n ∷ ns) at h slots j le =

@@ -34,7 +34,12 @@ each-right : {A : Type 0} (P : A → Type 0) (xs ys : List A) → Each P (xs ++ 
 each-right P [] ys h = h
 each-right P (x ∷ xs) ys h = each-right P xs ys (h .1)
 
-each-map : {A : Type 0} (P Q : A → Type 0) → ((x : A) → P x → Q x) → (xs : List A) → Each P xs → Each Q xs
+-- the first
+each-left : {A : Type 0} (P : A → Type 0) (xs ys : List A) → Each P (xs ++ ys) → Each P xs
+each-left P [] ys h = tt
+each-left P (x ∷ xs) ys h = (h .0, each-left P xs ys (h .1))
+
+pub each-map : {A : Type 0} (P Q : A → Type 0) → ((x : A) → P x → Q x) → (xs : List A) → Each P xs → Each Q xs
 each-map P Q f [] h = tt
 each-map P Q f (x ∷ xs) h = (f x (h .0), each-map P Q f xs (h .1))
 
@@ -45,3 +50,11 @@ slots-told table slots tab variables constants there slot ps h =
     each-map (λ p. Each (SlotIs table slots) (namesIn p)) (λ q. Slotted tab variables constants (rhsPlace (q .0) (q .1)) (q .1 .rhs))
     (λ p w. each-map (SlotIs table slots) (HasSlot tab variables constants) (λ x e. there (x .0) ∙ e .is ∙ slot (x .1)) (used (rhsPlace (p .0) (p .1)) (p .1 .rhs))
     (each-right (SlotIs table slots) (placedNames (p .0 + 1) (p .1 .names)) (used (rhsPlace (p .0) (p .1)) (p .1 .rhs)) w)) ps h
+
+-- the same of the names that equations define
+pub defined-told : (table slots tab variables constants : List ℕ) → ((j : ℕ) → getD tab (slotsFrom + j) 0 ≡ getD slots j 0) → ((x : ℕ) → slotOfEntry (getD table x 0) ≡ slotOf variables constants x)
+    → (ps : List (ℕ × Equation)) → Each (λ p. Each (SlotIs table slots) (namesIn p)) ps → Each (λ q. Each (HasSlot tab variables constants) (placedNames (q .0 + 1) (q .1 .names))) ps
+defined-told table slots tab variables constants there slot ps h =
+    each-map (λ p. Each (SlotIs table slots) (namesIn p)) (λ q. Each (HasSlot tab variables constants) (placedNames (q .0 + 1) (q .1 .names)))
+    (λ p w. each-map (SlotIs table slots) (HasSlot tab variables constants) (λ x e. there (x .0) ∙ e .is ∙ slot (x .1)) (placedNames (p .0 + 1) (p .1 .names))
+    (each-left (SlotIs table slots) (placedNames (p .0 + 1) (p .1 .names)) (used (rhsPlace (p .0) (p .1)) (p .1 .rhs)) w)) ps h
