@@ -1,22 +1,20 @@
 -- The main instance's cycle: its run on the record in the state, and what is left, against the definition of the cycle.
-use Prim.Native.Nat.{ℕ, zero, suc, _+_, _-_, _*_, _≤_, _<_}
+use Prim.Native.Nat.{ℕ, suc, _+_, _-_, _*_, _≤_, _<_}
 use mathlib.Core.Bool.{Bool}
-use mathlib.Core.List.{List, [], _∷_, _++_, map, append-assoc, append-nil}
+use mathlib.Core.List.{List, [], _∷_, _++_, append-assoc, append-nil}
 use mathlib.Core.Path.{_≡_, refl, sym, ap, subst, _∙_}
 use native.Mathlib.Omega.{arith}
-use lib.ListN.{length, take, drop, getD, set, length-drop, length-map, length-append, length-set, drop-of-length-le, take-append-drop}
+use lib.ListN.{length, take, drop, set, length-drop, length-map, length-append, length-set, drop-of-length-le, take-append-drop}
 use lib.Seq.{take-all, take-add, drop-drop, drop-set-lt, set-split}
-use lib.Dec.{eqb}
-use Rattle.ol_spec.specs.Lists.{concat}
-use Rattle.ol_spec.specs.Syntax.{Node, File, variables, noNode, lastOf, main, constantName}
+use Rattle.ol_spec.specs.Syntax.{Node, File, main, constantName}
 use Rattle.ol_spec.specs.Cell.{cells, valuesOf}
 use Rattle.ol_spec.specs.Order.{order}
-use Rattle.ol_spec.specs.Eval.{Globals, sitesSize}
-use Rattle.ol_spec.specs.Step.{Run, finished, failedAt, overflowedAt, globals, sites, ownSize, instanceSize, startedRecord, isFresh, oldCells, oldSegs, calls, run, runAll, split}
+use Rattle.ol_spec.specs.Eval.{Globals}
+use Rattle.ol_spec.specs.Step.{Run, finished, failedAt, overflowedAt, globals, ownSize, instanceSize, isFresh, calls, run, runAll, split}
 use Rattle.ol_spec.specs.Step.{Ended as Ending}
 use Rattle.ol_spec.specs.Admission.{constantNames, headSize, stateSize}
 use Rattle.ol_spec.specs.State.{globalsOf}
-use Rattle.ol_spec.specs.Cycle.{CycleCall, endOn, endRun, mainRun}
+use Rattle.ol_spec.specs.Cycle.{endOn, endRun, mainRun}
 use Rattle.ol_spec.specs.Answers.{faultAt}
 use Rattle.ol_spec.specs.declared.Value.{Value}
 use Rattle.ol_spec.specs.declared.Cycled.{Cycled}

@@ -1,13 +1,11 @@
 -- What a cycle of the main instance asks and gives.
-use Prim.Native.Nat.{ℕ, suc, _+_, _*_, _≤_}
+use Prim.Native.Nat.{ℕ, suc, _*_, _≤_}
 use mathlib.Core.List.{List}
 use mathlib.Core.Path.{_≡_}
 use lib.ListN.{length, take, drop}
-use Rattle.ol_spec.specs.Syntax.{Operator, variables}
 use Rattle.ol_spec.specs.Cell.{valuesOf}
 use Rattle.ol_spec.specs.Step.{Run, ownSize, instanceSize, calls, run}
 use Rattle.ol_spec.specs.Admission.{stateSize}
-use Rattle.ol_spec.specs.State.{globalsOf}
 use Rattle.ol_spec.specs.Cycle.{CycleCall, mainRun, endRun}
 use Rattle.ol_spec.specs.declared.Value.{Value}
 use Rattle.ol_spec.specs.declared.Cycled.{Cycled}
