@@ -30,8 +30,8 @@ extern "C" {
 }
 
 // Each time is that of the fastest of so many batches, each of about so long.
-const BATCHES: usize = 25;
-const BATCH: Duration = Duration::from_millis(20);
+const BATCHES: usize = 400;
+const BATCH: Duration = Duration::from_millis(1);
 const COMPARED: usize = 200;
 
 // What our side is lent.
@@ -102,7 +102,7 @@ fn timed(call: &mut dyn FnMut()) -> f64 {
     let t = Instant::now();
     call();
     let once = t.elapsed().max(Duration::from_nanos(20));
-    let turns = (BATCH.as_nanos() / once.as_nanos()).clamp(3, 1_000_000) as u32;
+    let turns = (BATCH.as_nanos() / once.as_nanos()).clamp(1, 1_000_000) as u32;
     let mut least = f64::MAX;
     for _ in 0..BATCHES {
         let t = Instant::now();
@@ -144,7 +144,7 @@ fn measure(name: &str, bytes: &[u8], inputs: &[u8]) -> Row {
     }
     assert_eq!(ours.refused(), 17, "{name}: a refused cycle");
     let rust = timed(&mut || {
-        black_box(sim.step_full(&map));
+        let _ = black_box(sim.step_full(&map));
     });
     let cycle = timed(&mut || {
         black_box(ours.step());
