@@ -1,0 +1,171 @@
+// A million cycles of the counter and of the feeder file, each on the state that the one before it left. make.py says what the standard input holds.
+use libc::STDIN_FILENO;
+use libc::STDOUT_FILENO;
+use ol_spec::Cycled;
+use ol_spec::Started;
+use relay_text::answers::say_answered;
+use std::num::wrapping_add_u64;
+ghost use Prim.Native.Nat.{_≤_};
+ghost use lib.ListN.{length};
+
+// So many cycles are made in pairs, with the other inputs after each thousand.
+const PAIRS: usize = 500_000;
+
+const PHASE: usize = 1_000;
+
+// What was counted: the cycles that were answered, and those that left the fresh state again.
+struct Tally {
+    answered: u64,
+    fresh: u64,
+}
+
+fn is_answered(c: Cycled) -> bool {
+    match c {
+        Cycled::Answered => true,
+        Cycled::Stopped(_) => false,
+        Cycled::Refused(_) => false,
+    }
+}
+
+fn is_done(s: Started) -> bool {
+    match s {
+        Started::Done => true,
+        Started::Refused(_) => false,
+    }
+}
+
+// One more, where it is so.
+fn more(n: u64, is_so: bool) -> u64 {
+    if is_so {
+        wrapping_add_u64(n, 1)
+    } else {
+        n
+    }
+}
+
+// A cycle, counted.
+fn step(
+    t: Tally,
+    file: &[u8],
+    fresh: &[u8],
+    old: &[u8],
+    inputs: &[u8],
+    new: &mut [u8],
+    values: &mut [u8],
+) -> Tally {
+    let c = ol_sim::cycle(file, old, inputs, new, values);
+    Tally {
+        answered: more(t.answered, is_answered(c)),
+        fresh: more(t.fresh, check::same(new, fresh)),
+    }
+}
+
+// Two cycles: from a to b, and back.
+fn pair(
+    t: Tally,
+    file: &[u8],
+    fresh: &[u8],
+    a: &mut [u8],
+    inputs: &[u8],
+    b: &mut [u8],
+    values: &mut [u8],
+) -> Tally {
+    let u = step(t, file, fresh, a, inputs, b, values);
+    step(u, file, fresh, b, inputs, a, values)
+}
+
+// Pair i: the inputs change after each phase.
+fn turn(
+    t: Tally,
+    i: usize,
+    file: &[u8],
+    fresh: &[u8],
+    first: &[u8],
+    second: &[u8],
+    a: &mut [u8],
+    b: &mut [u8],
+    values: &mut [u8],
+) -> Tally {
+    if i / PHASE % 2 == 0 {
+        pair(t, file, fresh, a, first, b, values)
+    } else {
+        pair(t, file, fresh, a, second, b, values)
+    }
+}
+
+// All cycles.
+fn run(
+    file: &[u8],
+    fresh: &[u8],
+    first: &[u8],
+    second: &[u8],
+    a: &mut [u8],
+    b: &mut [u8],
+    values: &mut [u8],
+) -> Tally {
+    let mut t = Tally {
+        answered: 0,
+        fresh: 0,
+    };
+    let mut i = 0;
+    while i < PAIRS {
+        t = turn(t, i, file, fresh, first, second, a, b, values);
+        i += 1;
+    }
+    t
+}
+
+// What was counted, and the last values and state, as the oracle's line has them.
+fn tell(t: Tally, values: &[u8], state: &[u8])
+    requires { ⌜ (length (now values) ≤ 1008) × (length (now state) ≤ 1008) ⌝ }
+{
+    io::print_decimal(STDOUT_FILENO, t.answered);
+    io::write_all(STDOUT_FILENO, b" answered; the fresh state again ");
+    io::print_decimal(STDOUT_FILENO, t.fresh);
+    io::write_all(STDOUT_FILENO, b" times\n");
+    let mut out = io::buffer();
+    let n = say_answered(&mut out, values, state);
+    let k = relay_text::within(n, &out);
+    io::write_all(STDOUT_FILENO, &out[..k]);
+}
+
+// The counter, which has no inputs.
+fn count() {
+    let mut file = [0u8; 40];
+    io::read_full(STDIN_FILENO, &mut file);
+    let mut fresh = [0u8; 10];
+    let mut a = [0u8; 10];
+    let mut b = [0u8; 10];
+    let mut values = [0u8; 9];
+    let is_fresh = is_done(ol_sim::start(&file, &mut fresh));
+    let is_started = is_done(ol_sim::start(&file, &mut a));
+    if is_fresh & is_started {
+        let t = run(&file, &fresh, b"", b"", &mut a, &mut b, &mut values);
+        tell(t, &values, &a);
+    }
+}
+
+// The feeder file, with two lists of inputs.
+fn feed() {
+    let mut file = [0u8; 795];
+    io::read_full(STDIN_FILENO, &mut file);
+    let mut first = [0u8; 144];
+    io::read_full(STDIN_FILENO, &mut first);
+    let mut second = [0u8; 144];
+    io::read_full(STDIN_FILENO, &mut second);
+    let mut fresh = [0u8; 711];
+    let mut a = [0u8; 711];
+    let mut b = [0u8; 711];
+    let mut values = [0u8; 414];
+    let is_fresh = is_done(ol_sim::start(&file, &mut fresh));
+    let is_started = is_done(ol_sim::start(&file, &mut a));
+    if is_fresh & is_started {
+        let t = run(&file, &fresh, &first, &second, &mut a, &mut b, &mut values);
+        tell(t, &values, &a);
+    }
+}
+
+fn main() {
+    count();
+    feed();
+}

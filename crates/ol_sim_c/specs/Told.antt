@@ -1,0 +1,34 @@
+-- What a caller in C is told: the number as the function's result (0 where there is no fault), the place and the state's length through pointers.
+use Prim.Native.Nat.{ℕ}
+use mathlib.Core.List.{List}
+use mathlib.Core.Path.{_≡_}
+use Rattle.ol_spec.specs.Answers.{verdictFault, verdictLength, sortedFault, startedFault, cycledFault}
+use Rattle.ol_spec.specs.Cycle.{OrderingCall, StartCall, CycleCall}
+use Rattle.ol_spec.specs.declared.Fault.{Fault}
+use Rattle.ol_spec.specs.declared.Verdict.{Verdict}
+
+-- a fault, or that there is none
+pub record Tells (x : Fault) (number place : ℕ) : Type 0 where
+  pub number-is : number ≡ x .number
+  pub place-is : place ≡ x .place
+
+-- `ol_sim_admit`: the verdict, and the state's length (0 for a file that is not admitted)
+pub record Admits (v : Verdict) (number place size : ℕ) : Type 0 where
+  pub told : Tells (verdictFault v) number place
+  pub size-is : size ≡ verdictLength v
+
+-- `ol_sim_order`: the answer, and the buffer
+pub record Orders (w : OrderingCall) (number place : ℕ) (buffer : List ℕ) : Type 0 where
+  pub told : Tells (sortedFault (w .answer)) number place
+  pub written : buffer ≡ w .buffer
+
+-- `ol_sim_start`: the answer, and the state's buffer
+pub record Starts (w : StartCall) (number place : ℕ) (state : List ℕ) : Type 0 where
+  pub told : Tells (startedFault (w .answer)) number place
+  pub written : state ≡ w .state
+
+-- `ol_sim_cycle`: the answer, the new state and the values
+pub record Cycles (w : CycleCall) (number place : ℕ) (new values : List ℕ) : Type 0 where
+  pub told : Tells (cycledFault (w .answer)) number place
+  pub renewed : new ≡ w .new
+  pub valued : values ≡ w .values

@@ -1,0 +1,140 @@
+//! The counter of document 01, v1 = 0 -> pre v1 + 1, stepped from Rust over libol_sim_c.a. examples/rust/run builds and runs it.
+
+mod ffi {
+    extern "C" {
+        pub fn ol_sim_admit(file: *const u8, file_len: usize, place: *mut usize, state_len: *mut usize) -> u8;
+        pub fn ol_sim_order(file: *const u8, file_len: usize, node: usize, order: *mut usize, order_len: usize, place: *mut usize) -> u8;
+        pub fn ol_sim_start(file: *const u8, file_len: usize, state: *mut u8, state_len: usize, place: *mut usize) -> u8;
+        pub fn ol_sim_cycle(
+            file: *const u8,
+            file_len: usize,
+            old: *const u8,
+            old_len: usize,
+            inputs: *const u8,
+            inputs_len: usize,
+            new: *mut u8,
+            new_len: usize,
+            values: *mut u8,
+            values_len: usize,
+            place: *mut usize,
+        ) -> u8;
+    }
+}
+
+/// A fault's number, 1 to 19, and its place (include/ol_sim.h).
+#[derive(Debug, PartialEq)]
+struct Fault {
+    number: u8,
+    place: usize,
+}
+
+fn told(number: u8, place: usize) -> Result<(), Fault> {
+    if number == 0 {
+        Ok(())
+    } else {
+        Err(Fault { number, place })
+    }
+}
+
+// Rust's references keep the header's rules: a slice is never null, and what is lent to be written overlaps nothing else.
+
+/// The length of an admitted file's state.
+fn admit(file: &[u8]) -> Result<usize, Fault> {
+    let (mut place, mut length) = (0, 0);
+    let number = unsafe { ffi::ol_sim_admit(file.as_ptr(), file.len(), &mut place, &mut length) };
+    told(number, place).map(|()| length)
+}
+
+fn order(file: &[u8], node: usize, order: &mut [usize]) -> Result<(), Fault> {
+    let mut place = 0;
+    let number = unsafe { ffi::ol_sim_order(file.as_ptr(), file.len(), node, order.as_mut_ptr(), order.len(), &mut place) };
+    told(number, place)
+}
+
+fn start(file: &[u8], state: &mut [u8]) -> Result<(), Fault> {
+    let mut place = 0;
+    let number = unsafe { ffi::ol_sim_start(file.as_ptr(), file.len(), state.as_mut_ptr(), state.len(), &mut place) };
+    told(number, place)
+}
+
+fn cycle(file: &[u8], old: &[u8], inputs: &[u8], new: &mut [u8], values: &mut [u8]) -> Result<(), Fault> {
+    let mut place = 0;
+    let number = unsafe {
+        ffi::ol_sim_cycle(
+            file.as_ptr(),
+            file.len(),
+            old.as_ptr(),
+            old.len(),
+            inputs.as_ptr(),
+            inputs.len(),
+            new.as_mut_ptr(),
+            new.len(),
+            values.as_mut_ptr(),
+            values.len(),
+            &mut place,
+        )
+    };
+    told(number, place)
+}
+
+/// A program with its state: what an embedding keeps.
+struct Relay<'a> {
+    file: &'a [u8],
+    old: Vec<u8>,
+    new: Vec<u8>,
+}
+
+impl<'a> Relay<'a> {
+    fn new(file: &'a [u8]) -> Result<Self, Fault> {
+        let length = admit(file)?;
+        let mut old = vec![0; length];
+        start(file, &mut old)?;
+        Ok(Relay { file, old, new: vec![0; length] })
+    }
+
+    /// Steps once. After an answer and after a stop (18, 19) the new state is the state; after a refusal the old one still is.
+    fn step(&mut self, inputs: &[u8], values: &mut [u8]) -> Result<(), Fault> {
+        let r = cycle(self.file, &self.old, inputs, &mut self.new, values);
+        if !matches!(r, Err(Fault { number: 1..=17, .. })) {
+            std::mem::swap(&mut self.old, &mut self.new);
+        }
+        r
+    }
+}
+
+const COUNTER: [u8; 40] = [
+    0x01, 0x00, 0x00, 0x01, 0x01, 0x00, 0x01, 0x00, 0x01, 0x04, 0x00, 0x01, 0x01, 0x00, 0x01, 0x09, 0x01, 0, 0, 0, 0, 0, 0, 0, 0, 0x06, 0x0A, 0x08, 0x04, 0x00, 0x01,
+    0x01, 0, 0, 0, 0, 0, 0, 0, 1,
+];
+
+/// 9223372036854775807 + 1, so that its first cycle overflows.
+const OVERFLOWING: [u8; 35] = [
+    0x01, 0x00, 0x00, 0x01, 0x01, 0x00, 0x01, 0x00, 0x01, 0x04, 0x00, 0x01, 0x01, 0x00, 0x01, 0x06, 0x0A, 0x01, 0x7F, 0xFF, 0xFF, 0xFF, 0xFF, 0xFF, 0xFF, 0xFF, 0x01, 0, 0,
+    0, 0, 0, 0, 0, 1,
+];
+
+fn int(cell: &[u8]) -> i64 {
+    i64::from_be_bytes(cell[1..9].try_into().unwrap())
+}
+
+fn main() -> Result<(), Fault> {
+    let mut relay = Relay::new(&COUNTER)?;
+    println!("admitted; the state has {} bytes", relay.old.len());
+    let mut places = [0];
+    order(&COUNTER, 0, &mut places)?;
+    println!("order: {}", places[0]);
+    let mut values = [0; 9];
+    for k in 0..5 {
+        relay.step(&[], &mut values)?;
+        println!("cycle {k}: v1 = {}", int(&values));
+    }
+    // nine bytes are no state of the counter: refused, and nothing is written
+    let old = relay.old.clone();
+    let f = cycle(&COUNTER, &old[..9], &[], &mut relay.new, &mut values).unwrap_err();
+    println!("a state of 9 bytes: {} at {}; v1 is still {}", f.number, f.place, int(&values));
+    let f = admit(&COUNTER[..39]).unwrap_err();
+    println!("the file without its last byte: {} at {}", f.number, f.place);
+    let f = Relay::new(&OVERFLOWING)?.step(&[], &mut values).unwrap_err();
+    println!("an overflow: {} in equation {}", f.number, f.place);
+    Ok(())
+}
