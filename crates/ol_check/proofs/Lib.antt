@@ -20,3 +20,8 @@ pub mod ConstantSlots
 pub mod Sorts
 pub mod FileSlots
 pub mod SizeTable
+pub mod ClashLaws
+pub mod ClashLoops
+pub mod ClashFile
+pub mod NamesBelow
+pub mod VariantLaws

@@ -204,12 +204,12 @@ placed-get size d [] at k lt = absurd (omega arith)
 placed-get size d (x ∷ xs) at zero lt = refl
 placed-get size d (x ∷ xs) at (suc k) lt = placed-get size d xs (at + size x) k (omega arith)
 
-placed-length : {A : Type 0} (size : A → ℕ) (xs : List A) (at : ℕ) → length (placed size at xs) ≡ length xs
+pub placed-length : {A : Type 0} (size : A → ℕ) (xs : List A) (at : ℕ) → length (placed size at xs) ≡ length xs
 placed-length size [] at = refl
 placed-length size (x ∷ xs) at = ap suc (placed-length size xs (at + size x))
 
 -- node k is the first of those that are left
-nodes-on : (f : File) (k : ℕ) → k < length (f .nodes) → drop k (placedNodes f) ≡ (placeIn f k, nodeOf f k) ∷ drop (k + 1) (placedNodes f)
+pub nodes-on : (f : File) (k : ℕ) → k < length (f .nodes) → drop k (placedNodes f) ≡ (placeIn f k, nodeOf f k) ∷ drop (k + 1) (placedNodes f)
 nodes-on f k lt =
     drop-cons (placedNodes f) k (0, noNode) (omega (arith, placed-length nodeSize (f .nodes) (nodesStart f)))
     ∙ ap (λ x. x ∷ drop (suc k) (placedNodes f)) (placed-get nodeSize noNode (f .nodes) (nodesStart f) k lt)

@@ -1,34 +1,33 @@
 -- The loops that build rows and types: what holds after so many items.
 use Prim.Native.Nat.{ℕ, zero, suc, _+_, _*_, _-_, _≤_, _<_}
-use mathlib.Core.Bool.{Bool, true, false, _&&_, cond}
 use mathlib.Core.List.{List, [], _∷_, _++_, map}
 use mathlib.Core.Logic.{by-cases}
 use mathlib.Core.Path.{_≡_, refl, sym, ap, subst, _∙_}
 use native.Mathlib.Omega.{arith}
-use native.Mathlib.Decide.{decLe, decLt}
-use lib.ListN.{length, getD, set, take, drop, length-set, length-append, List·getD-append}
-use lib.Seq.{getD-set-same, getD-set-other, getD-append-add}
+use native.Mathlib.Decide.{decLt}
+use lib.ListN.{length, getD, set, drop, length-set, length-append, List·getD-append}
+use lib.Seq.{getD-set-same, getD-set-other, getD-append-add, sets, sets-eq}
 use native.Mathlib.Nat.{add-assoc}
-use lib.Dec.{T, ltb, leb, eqb, leb→le}
+use lib.Dec.{T, ltb, leb, leb→le}
 use borrow.Author.Tests.{ne-eqb}
 use Rattle.ol_spec.specs.Lists.{sum, concat, allOf}
-use Rattle.ol_spec.specs.Syntax.{Ty, bool, Variable, Equation, Node, Constant, File, variables, typeOf, noNode, Exprs, nil, cons}
-use Rattle.ol_spec.specs.Places.{tySize, enumSize, variableSize, equationSize, constantSize, nodeSize, outputsStart, localsStart, equationsStart, placed, exprsSize, constantsStart, nodesStart}
-use Rattle.ol_spec.specs.Encode.{kindCode, nameBytes, sectionBytes, variableBytes, equationBytes, constantBytes, nodeBytes}
+use Rattle.ol_spec.specs.Syntax.{Ty, Variable, Node, File, variables}
+use Rattle.ol_spec.specs.Places.{tySize, enumSize, variableSize, constantSize, nodeSize, outputsStart, localsStart, equationsStart, placed, placedNodes, constantsStart, nodesStart}
+use Rattle.ol_spec.specs.Encode.{nameBytes, sectionBytes, variableBytes}
 use Rattle.ol_spec.specs.Limits.{base}
-use Rattle.ol_spec.specs.Within.{countFits, sectionFits, nameFits, enumFits, variableFits, equationFits, constantFits, nodeFits}
+use Rattle.ol_spec.specs.Within.{countFits, nameFits, enumFits, variableFits}
 use Rattle.ol_spec.proofs.Tests.{T-and}
 use Rattle.ol_spec.proofs.RoundTrip.Parts.{Here, here-front, here-back, here-inside}
-use Rattle.ol_spec.proofs.RoundTrip.Items.{names-size, variable-size, equation-size, constant-size, node-size}
-use Rattle.ol_tree.specs.Tables.{tyCode, tyEnum, rowAt, firstAt, placeOf}
-use Rattle.ol_tree.specs.Heads.{nameAt, tySizeAt, tyEnumAt, TyIs, Standing}
-use Rattle.ol_tree.specs.Stands.{Listed, VariableStands, ConstantStands, EquationStands, NodeStands, FileStands}
+use Rattle.ol_spec.proofs.RoundTrip.Items.{names-size, variable-size}
+use Rattle.ol_tree.specs.Tables.{rowAt, firstAt, placeOf, nodeOf}
+use Rattle.ol_tree.specs.Heads.{nameAt, tySizeAt, tyEnumAt, TyIs}
+use Rattle.ol_tree.specs.Stands.{Listed, NodeStands, FileStands}
 use Rattle.ol_tree.proofs.Heads.{here-first, here-name}
-use Rattle.ol_tree.proofs.HeadsFile.{Passing, Item, passing-start, passing-item, passing-end, variable-stands, constant-stands, equation-stands, node-stands, section-few}
+use Rattle.ol_tree.proofs.HeadsFile.{Passing, Item, passing-start, passing-item, passing-end, variable-stands, node-at}
 use Rattle.ol_check.proofs.Walking.{ty-small}
 use Rattle.ol_check.specs.Founds.{Byte}
-use Rattle.ol_check.specs.RowsDone.{Enums, EnumsAre, EnumsDone, ConstantsEnd, EquationsEnd, typeSet, TypeAt, noVariable, VariablesAre, VariablesDone, putAll}
-use Rattle.ol_check.specs.RowsDone.{NodeRow, NodeTypes, NodeIs, NodeDone, NodesAre, NodesDone, TablesDone}
+use Rattle.ol_check.specs.RowsDone.{Enums, EnumsAre, EnumsDone, typeSet, TypeAt, noVariable, VariablesDone, putAll}
+use Rattle.ol_check.specs.RowsDone.{NodeRow, NodeTypes, NodeIs, NodeDone, PlacesAre, NodesDone, TablesDone}
 
 -- an item with a byte stands inside the file
 pub item-in : {s : List ℕ} {at : ℕ} {w : List ℕ} (n : ℕ) → Here s at w → length w ≡ n → 1 ≤ n → length s ≤ at → ⊥
@@ -99,63 +98,6 @@ module _ {s rows₀ : List ℕ} {count at : ℕ} where
     -- the file ends before the enums do: none stand there
     pub enums-cut : e < count → length s ≤ next → EnumsDone s rows₀ rows count at next
     enums-cut lt out = record { kept = g .kept; done = λ es q h. absurd (enums-in lt out es q h) }
-
--- ---- where constants and equations end
-
--- after i of the items, the next one stands at `next`
-abbrev pub ConstantPassing : List ℕ → ℕ → ℕ → ℕ → ℕ → Type 0
-ConstantPassing s count at next i =
-    (enums : ℕ) (cs : List Constant) → length cs ≡ count → Listed constantBytes (constantFits base enums) s at cs → Passing constantBytes (constantFits base enums) constantSize s at cs i next
-
-noConstant : Constant
-noConstant = record { name = 0; ty = bool; value = Rattle.ol_spec.specs.Syntax.boolLit false }
-
-module _ {s : List ℕ} {count at next i : ℕ} (g : ConstantPassing s count at next i) where
-  constant-item : (enums : ℕ) (cs : List Constant) → length cs ≡ count → Listed constantBytes (constantFits base enums) s at cs → i < count
-      → Item constantBytes (constantFits base enums) constantSize s at cs i next (getD cs i noConstant)
-  constant-item enums cs q h lt = passing-item constant-size noConstant (g enums cs q h) (omega arith)
-
-  pub constant-turn : (n r : ℕ) → i < count → n ≡ tySizeAt s (next + 2) → ((enums : ℕ) (es : Exprs) → Rattle.ol_spec.specs.Syntax.count es ≡ 1 → Standing s enums (next + 2 + n) es → r ≡ next + 2 + n + exprsSize es) → ConstantPassing s count at r (i + 1)
-  constant-turn n r lt en er enums cs q h =
-      let it = constant-item enums cs q h lt in
-      let c = getD cs i noConstant in
-      let st = constant-stands c (it .fit) (it .here) in
-      let same : n ≡ tySize (c .ty) = en ∙ st .ty .size in
-      let end = er enums (cons (c .value) nil) refl (subst (λ m. Standing s enums (next + 2 + m) (cons (c .value) nil)) (sym same) (st .value)) in
-      subst (Passing constantBytes (constantFits base enums) constantSize s at cs (i + 1)) (omega (arith, end, same)) (it .on)
-
-  pub constant-cut : i < count → length s ≤ next → ConstantsEnd s count at next
-  constant-cut lt out enums cs q h = absurd (item-in _ (constant-item enums cs q h lt .here) (constant-size (getD cs i noConstant)) (omega arith) out)
-
-  pub constant-done : count ≤ i → ConstantsEnd s count at next
-  constant-done over enums cs q h = passing-end (g enums cs q h) (omega arith)
-
-abbrev pub EquationPassing : List ℕ → ℕ → ℕ → ℕ → ℕ → Type 0
-EquationPassing s count at next i =
-    (enums : ℕ) (qs : List Equation) → length qs ≡ count → Listed equationBytes (equationFits base enums) s at qs → Passing equationBytes (equationFits base enums) equationSize s at qs i next
-
-noEquation : Equation
-noEquation = record { names = []; rhs = Rattle.ol_spec.specs.Syntax.boolLit false }
-
-module _ {s : List ℕ} {count at next i : ℕ} (g : EquationPassing s count at next i) where
-  equation-item : (enums : ℕ) (qs : List Equation) → length qs ≡ count → Listed equationBytes (equationFits base enums) s at qs → i < count
-      → Item equationBytes (equationFits base enums) equationSize s at qs i next (getD qs i noEquation)
-  equation-item enums qs q h lt = passing-item equation-size noEquation (g enums qs q h) (omega arith)
-
-  pub equation-turn : (n r : ℕ) → i < count → n ≡ next + 1 + 2 * getD s next 0 → ((enums : ℕ) (es : Exprs) → Rattle.ol_spec.specs.Syntax.count es ≡ 1 → Standing s enums n es → r ≡ n + exprsSize es) → EquationPassing s count at r (i + 1)
-  equation-turn n r lt en er enums qs q h =
-      let it = equation-item enums qs q h lt in
-      let x = getD qs i noEquation in
-      let st = equation-stands x (it .fit) (it .here) in
-      let same : n ≡ next + 1 + 2 * length (x .names) = omega (arith, en, st .count) in
-      let end = er enums (cons (x .rhs) nil) refl (subst (λ m. Standing s enums m (cons (x .rhs) nil)) (sym same) (st .rhs)) in
-      subst (Passing equationBytes (equationFits base enums) equationSize s at qs (i + 1)) (omega (arith, end, same)) (it .on)
-
-  pub equation-cut : i < count → length s ≤ next → EquationsEnd s count at next
-  equation-cut lt out enums qs q h = absurd (item-in _ (equation-item enums qs q h lt .here) (equation-size (getD qs i noEquation)) (omega arith) out)
-
-  pub equation-done : count ≤ i → EquationsEnd s count at next
-  equation-done over enums qs q h = passing-end (g enums qs q h) (omega arith)
 
 -- ---- types
 
@@ -290,13 +232,13 @@ types-append types first vs ws a b i lt =
     subst (λ m. TypeAt types (first + m) (getD (vs ++ ws) m noVariable .ty)) e
     (rw (getD-append-add vs ws j noVariable) (subst (λ m. TypeAt types m (getD ws j noVariable .ty)) (add-assoc first (length vs) j) w)))
 
-module _ (rows : List ℕ) {s rows′ types t₁ t₂ t₃ : List ℕ} {k at i o oc l lc q qc kind r : ℕ} (low : k < 32) (long : length rows ≡ 272) (wide : length types ≡ 7168)
+module _ (rows : List ℕ) {s rows′ types t₁ t₂ t₃ : List ℕ} {k at i o oc l lc q qc kind : ℕ} (low : k < 32) (long : length rows ≡ 272) (wide : length types ≡ 7168)
     (ib : Byte s (at + 1) i) (v₁ : VariablesDone s types t₁ (k * 112) i (at + 2) o) (l₁ : length t₁ ≡ length types)
     (ob : Byte s o oc) (v₂ : VariablesDone s t₁ t₂ (k * 112 + i) oc (o + 1) l) (l₂ : length t₂ ≡ length t₁)
     (lb : Byte s l lc) (v₃ : VariablesDone s t₂ t₃ (k * 112 + i + oc) lc (l + 1) q)
-    (qb : Byte s q qc) (kb : Byte s at kind) (put : rows′ ≡ putAll rows (k * 8) (kind ∷ (q + 1) ∷ i ∷ oc ∷ (i + oc + lc) ∷ qc ∷ 0 ∷ at ∷ [])) (end : EquationsEnd s qc (q + 1) r) where
+    (qb : Byte s q qc) (kb : Byte s at kind) (put : rows′ ≡ putAll rows (k * 8) (kind ∷ (q + 1) ∷ i ∷ oc ∷ (i + oc + lc) ∷ qc ∷ 0 ∷ at ∷ [])) where
   -- what stands in the file where the sections start
-  node-is : (enums : ℕ) (n : Node) → NodeStands s enums at n → NodeIs n at k rows′ t₃ r
+  node-is : (enums : ℕ) (n : Node) → NodeStands s enums at n → NodeIs n at k rows′ t₃
   node-is enums n st =
       let ei : length (n .inputs) ≡ i = sym (ib .is ∙ st .inputCount) in
       let w₁ = v₁ .done enums (n .inputs) ei (omega (arith, st .fewInputs)) (st .inputs) in
@@ -308,11 +250,9 @@ module _ (rows : List ℕ) {s rows′ types t₁ t₂ t₃ : List ℕ} {k at i o
       let w₃ = v₃ .done enums (n .locals) nl (omega (arith, st .fewInputs, st .fewOutputs, st .fewLocals)) (subst (λ p. Listed variableBytes (variableFits base enums) s (p + 1) (n .locals)) (sym el) (st .locals)) in
       let eq : q ≡ equationsStart at n = omega (arith, w₃ .ends, el) in
       let nq : length (n .equations) ≡ qc = sym (qb .is ∙ ap (λ p. getD s p 0) eq ∙ st .equationCount) in
-      let er = end enums (n .equations) nq (subst (λ p. Listed equationBytes (equationFits base enums) s (p + 1) (n .equations)) (sym eq) (st .equations)) in
       let ns = kind ∷ (q + 1) ∷ i ∷ oc ∷ (i + oc + lc) ∷ qc ∷ 0 ∷ at ∷ [] in
       let at-entry : (j : ℕ) → j < 8 → rowAt rows′ k j ≡ getD ns j 0 = λ j h. rw put (put-inside rows ns (k * 8) j h (omega (arith, long))) in
       record {
-        ends = omega (arith, er, eq);
         row = record {
           kind = at-entry 0 (omega arith) ∙ kb .is ∙ st .kind;
           equations = at-entry 1 (omega arith) ∙ ap (λ p. p + 1) eq;
@@ -331,7 +271,7 @@ module _ (rows : List ℕ) {s rows′ types t₁ t₂ t₃ : List ℕ} {k at i o
         };
       }
 
-  pub node-done : NodeDone s rows rows′ types t₃ k at r
+  pub node-done : NodeDone s rows rows′ types t₃ k at
   node-done =
       let ns = kind ∷ (q + 1) ∷ i ∷ oc ∷ (i + oc + lc) ∷ qc ∷ 0 ∷ at ∷ [] in
       record {
@@ -342,27 +282,21 @@ module _ (rows : List ℕ) {s rows′ types t₁ t₂ t₃ : List ℕ} {k at i o
       }
 
 -- the file ends before the node: none stands there
-pub node-cut : {s rows types : List ℕ} {k at : ℕ} → length s ≤ at → NodeDone s rows rows types types k at at
+pub node-cut : {s rows types : List ℕ} {k at : ℕ} → length s ≤ at → NodeDone s rows rows types types k at
 node-cut {s} {rows} {types} {k} {at} out =
     record { below = λ j h. refl; above = λ j h. refl; typed = λ j h. refl; done = λ enums n st. absurd (omega (arith, st .inside)) }
 
--- the place of item number i
-placed-at : {A : Type 0} (size : A → ℕ) (xs : List A) (at i : ℕ) → i < length xs → getD (map (λ p. p .0) (placed size at xs)) i 0 ≡ at + sum (map size (take i xs))
-placed-at size [] at i h = absurd (omega arith)
-placed-at size (x ∷ xs) at zero h = omega arith
-placed-at size (x ∷ xs) at (suc i) h = omega (arith, placed-at size xs (at + size x) i (omega arith))
+-- the nodes below number k have their rows and types
+pub record NodeGoing (f : File) (rows types : List ℕ) (k : ℕ) : Type 0 where
+  pub row : (j : ℕ) → j < k → NodeRow (nodeOf f j) (placeOf (placedNodes f) j) j rows
+  pub typed : (j : ℕ) → j < k → NodeTypes (nodeOf f j) j types
 
-pub record NodeGoing (s : List ℕ) (ns : List Node) (enums : ℕ) (rows types : List ℕ) (at k next : ℕ) : Type 0 where
-  pub passing : Passing nodeBytes (nodeFits base enums) nodeSize s at ns k next
-  pub row : (j : ℕ) → j < k → NodeRow (getD ns j noNode) (placeOf (placed nodeSize at ns) j) j rows
-  pub typed : (j : ℕ) → j < k → NodeTypes (getD ns j noNode) j types
-
-pub record NodesGoing (s rows₀ rows types : List ℕ) (count at next k : ℕ) : Type 0 where
+pub record NodesGoing (s places rows₀ rows types : List ℕ) (count k : ℕ) : Type 0 where
   pub few : k ≤ count
   pub long : length rows ≡ 272
   pub wide : length types ≡ 7168
   pub above : (j : ℕ) → 256 ≤ j → getD rows j 0 ≡ getD rows₀ j 0
-  pub going : (enums : ℕ) (ns : List Node) → length ns ≡ count → Listed nodeBytes (nodeFits base enums) s at ns → NodeGoing s ns enums rows types at k next
+  pub going : (f : File) → length (f .nodes) ≡ count → FileStands s f → PlacesAre f places → NodeGoing f rows types k
 
 -- a row below what is written stays
 row-below : {rows rows′ : List ℕ} {n : Node} {at : ℕ} (k j : ℕ) → ((i : ℕ) → i < k * 8 → getD rows′ i 0 ≡ getD rows i 0) → j < k → NodeRow n at j rows → NodeRow n at j rows′
@@ -385,65 +319,61 @@ types-below {n = n} k j few same lt h =
 pub few-variables : {s : List ℕ} {enums at : ℕ} {n : Node} → NodeStands s enums at n → length (variables n) ≤ 112
 few-variables {n = n} st = omega (arith, st .fewInputs, st .fewOutputs, st .fewLocals, length-append (n .inputs ++ n .outputs) (n .locals), length-append (n .inputs) (n .outputs))
 
--- so many nodes have few variables each
-each-few : (enums : ℕ) (ns : List Node) (j : ℕ) → j < length ns → T (allOf (nodeFits base enums) ns) → length (variables (getD ns j noNode)) ≤ 112
-each-few enums [] j lt t = absurd (omega arith)
-each-few enums (n ∷ ns) zero lt t = node-few n (T-and (nodeFits base enums n) _ t .0)
-  where
-    node-few : (n : Node) → T (nodeFits base enums n) → length (variables n) ≤ 112
-    node-few n t =
-        let ok = variableFits base enums in
-        let i = T-and (sectionFits 0 32 ok (n .inputs)) _ t in
-        let o = T-and (sectionFits 1 16 ok (n .outputs)) _ (i .1) in
-        let l = T-and (sectionFits 0 64 ok (n .locals)) _ (o .1) in
-        omega (
-          arith,
-          section-few ok 0 32 (n .inputs) (i .0) .1,
-          section-few ok 1 16 (n .outputs) (o .0) .1,
-          section-few ok 0 64 (n .locals) (l .0) .1,
-          length-append (n .inputs ++ n .outputs) (n .locals),
-          length-append (n .inputs) (n .outputs),
-        )
-each-few enums (n ∷ ns) (suc j) lt t = each-few enums ns j (omega arith) (T-and (nodeFits base enums n) _ t .1)
-
-module _ {s rows₀ : List ℕ} {count at : ℕ} where
-  pub nodes-start : (types : List ℕ) → length rows₀ ≡ 272 → length types ≡ 7168 → NodesGoing s rows₀ rows₀ types count at at 0
+module _ {s places rows₀ : List ℕ} {count : ℕ} where
+  pub nodes-start : (types : List ℕ) → length rows₀ ≡ 272 → length types ≡ 7168 → NodesGoing s places rows₀ rows₀ types count 0
   nodes-start types long wide =
-      record { few = omega arith; long = long; wide = wide; above = λ j h. refl; going = λ enums ns q h. record { passing = passing-start nodeBytes (nodeFits base enums) nodeSize h; row = λ j lt. absurd (omega arith); typed = λ j lt. absurd (omega arith) } }
+      record { few = omega arith; long = long; wide = wide; above = λ j h. refl; going = λ f q st at. record { row = λ j lt. absurd (omega arith); typed = λ j lt. absurd (omega arith) } }
 
-  module _ {rows types : List ℕ} {next k : ℕ} (g : NodesGoing s rows₀ rows types count at next k) where
-    pub nodes-turn : (rows′ types′ : List ℕ) (r : ℕ) → count ≤ 32 → k < count → length rows′ ≡ length rows → length types′ ≡ length types → NodeDone s rows rows′ types types′ k next r → NodesGoing s rows₀ rows′ types′ count at r (k + 1)
-    nodes-turn rows′ types′ r most lt el et d =
+  module _ {rows types : List ℕ} {k : ℕ} (g : NodesGoing s places rows₀ rows types count k) where
+    pub nodes-turn : (rows′ types′ : List ℕ) (at : ℕ) → count ≤ 32 → k < count → length rows′ ≡ length rows → length types′ ≡ length types → at ≡ getD places k 0 → NodeDone s rows rows′ types types′ k at → NodesGoing s places rows₀ rows′ types′ count (k + 1)
+    nodes-turn rows′ types′ at most lt el et ea d =
         record {
           few = omega arith;
           long = el ∙ g .long;
           wide = et ∙ g .wide;
           above = λ j h. d .above j (omega arith) ∙ g .above j h;
-          going = λ enums ns q h.
-              let w = g .going enums ns q h in
-              let it = passing-item node-size noNode (w .passing) (omega arith) in
-              let n = getD ns k noNode in
-              let is = d .done enums n (node-stands n (it .fit) (it .here)) in
-              let p : next ≡ placeOf (placed nodeSize at ns) k = w .passing .place ∙ sym (placed-at nodeSize ns at k (omega arith)) in
+          going = λ f q st pl.
+              let w = g .going f q st pl in
+              let here : at ≡ placeOf (placedNodes f) k = ea ∙ pl .at k (omega arith) in
+              let n = nodeOf f k in
+              let is = d .done (length (f .enums)) n (subst (λ a. NodeStands s (length (f .enums)) a n) (sym here) (node-at st k (omega arith))) in
               record {
-                passing = subst (Passing nodeBytes (nodeFits base enums) nodeSize s at ns (k + 1)) (sym (is .ends)) (it .on);
                 row = λ j below. by-cases (decLt j k)
                     (λ old. row-below k j (d .below) old (w .row j old))
-                    (λ new. let e : j ≡ k = omega arith in rw e (subst (λ a. NodeRow n a k rows′) p (is .row)));
+                    (λ new. let e : j ≡ k = omega arith in rw e (subst (λ a. NodeRow n a k rows′) here (is .row)));
                 typed = λ j below. by-cases (decLt j k)
-                    (λ old. types-below k j (each-few enums ns j (omega arith) (h .fit)) (d .typed) old (w .typed j old))
+                    (λ old. types-below k j (few-variables (node-at st j (omega arith))) (d .typed) old (w .typed j old))
                     (λ new. let e : j ≡ k = omega arith in rw e (is .typed));
               };
         }
 
-    pub nodes-done : count ≤ k → NodesDone s rows₀ rows types count at
+    pub nodes-done : count ≤ k → NodesDone s places rows₀ rows types count
     nodes-done over =
         record {
           above = g .above;
-          done = λ enums ns q h. let w = g .going enums ns q h in record { row = λ j lt. w .row j (omega (arith, g .few)); typed = λ j lt. w .typed j (omega (arith, g .few)) };
+          done = λ f q st pl. let w = g .going f q st pl in record { row = λ j lt. w .row j (omega (arith, g .few)); typed = λ j lt. w .typed j (omega (arith, g .few)) };
         }
 
 -- ---- the whole file
+
+-- the first node stands where the nodes start
+first-at : (ns : List Node) (at : ℕ) → 1 ≤ length ns → placeOf (placed nodeSize at ns) 0 ≡ at
+first-at [] at some = absurd (omega arith)
+first-at (n ∷ ns) at some = refl
+
+pub first-place : {s places : List ℕ} {f : File} → FileStands s f → PlacesAre f places → getD places 0 0 ≡ nodesStart f
+first-place {f = f} st pl = pl .at 0 (st .someNode) ∙ first-at (f .nodes) (nodesStart f) (st .someNode)
+
+-- the places that the reader keeps
+places-many : (ns : List Node) (at : ℕ) → length (map (λ p. p .0) (placed nodeSize at ns)) ≡ length ns
+places-many [] at = refl
+places-many (n ∷ ns) at = ap suc (places-many ns (at + nodeSize n))
+
+pub places-kept : (f : File) (starts places : List ℕ) → length (f .nodes) ≤ length starts → places ≡ sets starts 0 (map (λ p. p .0) (placedNodes f)) → PlacesAre f places
+places-kept f starts places room e =
+    let vs = map (λ p. p .0) (placedNodes f) in
+    let many : length vs ≡ length (f .nodes) = places-many (f .nodes) (nodesStart f) in
+    record { at = λ k lt. ap (λ l. getD l k 0) (e ∙ sets-eq vs starts 0 (omega (arith, many, room))) ∙ List·getD-append vs (drop (0 + length vs) starts) 0 k (omega (arith, many, lt)) }
 
 module _ {s : List ℕ} {f : File} (st : FileStands s f) {rows₀ rows₁ : List ℕ} {ec c : ℕ} (eb : Byte s 1 ec) (enums : EnumsDone s rows₀ rows₁ ec 2 c) where
   abbrev pub enums-are : EnumsAre (f .enums) rows₁ 2 c
@@ -453,29 +383,20 @@ module _ {s : List ℕ} {f : File} (st : FileStands s f) {rows₀ rows₁ : List
   pub constants-at : c + 1 ≡ constantsStart f
   constants-at = omega (arith, enums-are .ends)
 
-  pub constants-count : {cc : ℕ} → Byte s c cc → length (f .constants) ≡ cc
-  constants-count b = sym (b .is ∙ ap (λ p. getD s p 0) (omega (arith, enums-are .ends)) ∙ st .constantCount)
-
-  module _ {cc n : ℕ} (cb : Byte s c cc) (ends : ConstantsEnd s cc (c + 1) n) where
+  module _ {places : List ℕ} (pl : PlacesAre f places) {p n : ℕ} (ep : p ≡ getD places 0 0) (en : n ≡ p - 1) where
+    -- the count of the nodes stands before the first
     pub nodes-at : n + 1 ≡ nodesStart f
-    nodes-at =
-        let e = ends (length (f .enums)) (f .constants) (constants-count cb) (subst (λ p. Listed constantBytes (constantFits base (length (f .enums))) s p (f .constants)) (sym constants-at) (st .constants)) in
-        omega (arith, e, constants-at)
+    nodes-at = omega (arith, ep, en, first-place st pl)
 
     pub nodes-count : {nc : ℕ} → Byte s n nc → length (f .nodes) ≡ nc
     nodes-count b =
         let at : n ≡ constantsStart f + sum (map constantSize (f .constants)) = omega (arith, nodes-at) in
         sym (b .is ∙ ap (λ p. getD s p 0) at ∙ st .nodeCount)
 
-    pub tables-done : {rows₂ types₂ : List ℕ} {nc : ℕ} → Byte s n nc → NodesDone s rows₁ rows₂ types₂ nc (n + 1) → TablesDone f rows₂ types₂ (record { constants = c; nodes = n })
+    pub tables-done : {rows₂ types₂ : List ℕ} {nc : ℕ} → Byte s n nc → NodesDone s places rows₁ rows₂ types₂ nc → TablesDone f rows₂ types₂ (record { constants = c; nodes = n })
     tables-done {rows₂} {types₂} nb nodes =
-        let m = length (f .enums) in
-        let w = nodes .done m (f .nodes) (nodes-count nb) (subst (λ p. Listed nodeBytes (nodeFits base m) s p (f .nodes)) (sym nodes-at) (st .nodes)) in
+        let w = nodes .done f (nodes-count nb) st pl in
         record {
           sections = record { constants = constants-at; nodes = nodes-at };
-          are = record {
-            row = λ k lt. subst (λ a. NodeRow (getD (f .nodes) k noNode) (placeOf (placed nodeSize a (f .nodes)) k) k rows₂) nodes-at (w .row k lt);
-            firsts = λ e lt. nodes .above (256 + e) (omega arith) ∙ enums-are .firsts e lt;
-            typed = λ k lt. w .typed k lt;
-          };
+          are = record { row = w .row; firsts = λ e lt. nodes .above (256 + e) (omega arith) ∙ enums-are .firsts e lt; typed = w .typed };
         }

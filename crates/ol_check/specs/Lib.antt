@@ -8,3 +8,5 @@ pub mod NodesJudged
 pub mod ConstantsJudged
 pub mod Sizes
 pub mod FileJudged
+pub mod Clashing
+pub mod VariantTable

@@ -3,15 +3,15 @@ use Prim.Native.Nat.{ℕ, _+_, _*_, _≤_, _<_}
 use mathlib.Core.List.{List, [], _∷_, map}
 use mathlib.Core.Path.{_≡_}
 use lib.ListN.{length, getD, set}
-use Rattle.ol_spec.specs.Lists.{sum, concat}
-use Rattle.ol_spec.specs.Syntax.{Ty, bool, Variable, Equation, Node, Constant, File, variables, typeOf, noNode}
-use Rattle.ol_spec.specs.Places.{enumSize, variableSize, equationSize, constantSize, nodeSize, equationsStart, placed, placedNodes, constantsStart, nodesStart}
-use Rattle.ol_spec.specs.Encode.{kindCode, nameBytes, sectionBytes, variableBytes, equationBytes, constantBytes, nodeBytes}
+use Rattle.ol_spec.specs.Lists.{sum}
+use Rattle.ol_spec.specs.Syntax.{Ty, bool, Variable, Node, File, variables}
+use Rattle.ol_spec.specs.Places.{enumSize, variableSize, equationsStart, placedNodes, constantsStart, nodesStart}
+use Rattle.ol_spec.specs.Encode.{kindCode, nameBytes, sectionBytes, variableBytes}
 use Rattle.ol_spec.specs.Limits.{base}
-use Rattle.ol_spec.specs.Within.{enumFits, variableFits, equationFits, constantFits, nodeFits}
+use Rattle.ol_spec.specs.Within.{enumFits, variableFits}
 use Rattle.ol_tree.specs.Tables.{tyCode, tyEnum, rowAt, firstAt, placeOf, nodeOf}
 use Rattle.ol_tree.specs.Heads.{tyEnumAt}
-use Rattle.ol_tree.specs.Stands.{Listed, NodeStands}
+use Rattle.ol_tree.specs.Stands.{Listed, NodeStands, FileStands}
 use Rattle.ol_check.specs.declared.rows.Sections.{Sections}
 
 -- ---- enums
@@ -27,16 +27,6 @@ pub record EnumsAre (es : List (List ℕ)) (rows : List ℕ) (at r : ℕ) : Type
 pub record EnumsDone (s rows rows′ : List ℕ) (count at r : ℕ) : Type 0 where
   pub kept : (j : ℕ) → j < 256 → getD rows′ j 0 ≡ getD rows j 0
   pub done : (es : List (List ℕ)) → length es ≡ count → Enums s at es → EnumsAre es rows′ at r
-
--- ---- constants and equations
-
-abbrev pub ConstantsEnd : List ℕ → ℕ → ℕ → ℕ → Type 0
-ConstantsEnd s count at r =
-    (enums : ℕ) (cs : List Constant) → length cs ≡ count → Listed constantBytes (constantFits base enums) s at cs → r ≡ at + sum (map constantSize cs)
-
-abbrev pub EquationsEnd : List ℕ → ℕ → ℕ → ℕ → Type 0
-EquationsEnd s count at r =
-    (enums : ℕ) (qs : List Equation) → length qs ≡ count → Listed equationBytes (equationFits base enums) s at qs → r ≡ at + sum (map equationSize qs)
 
 -- ---- types
 
@@ -84,28 +74,31 @@ pub record NodeRow (n : Node) (at k : ℕ) (rows : List ℕ) : Type 0 where
 pub record NodeTypes (n : Node) (k : ℕ) (types : List ℕ) : Type 0 where
   pub are : (i : ℕ) → i < length (variables n) → TypeAt types (k * 112 + i) (getD (variables n) i noVariable .ty)
 
-pub record NodeIs (n : Node) (at k : ℕ) (rows types : List ℕ) (r : ℕ) : Type 0 where
-  pub ends : r ≡ at + nodeSize n
+pub record NodeIs (n : Node) (at k : ℕ) (rows types : List ℕ) : Type 0 where
   pub row : NodeRow n at k rows
   pub typed : NodeTypes n k types
 
 -- node k's row and types are stored, the other rows and the types below are as before
-pub record NodeDone (s rows rows′ types types′ : List ℕ) (k at r : ℕ) : Type 0 where
+pub record NodeDone (s rows rows′ types types′ : List ℕ) (k at : ℕ) : Type 0 where
   pub below : (j : ℕ) → j < k * 8 → getD rows′ j 0 ≡ getD rows j 0
   pub above : (j : ℕ) → k * 8 + 8 ≤ j → getD rows′ j 0 ≡ getD rows j 0
   pub typed : (j : ℕ) → j < k * 224 → getD types′ j 0 ≡ getD types j 0
-  pub done : (enums : ℕ) (n : Node) → NodeStands s enums at n → NodeIs n at k rows′ types′ r
-
--- so many nodes: each one's row and types
-pub record NodesAre (ns : List Node) (at : ℕ) (rows types : List ℕ) : Type 0 where
-  pub row : (k : ℕ) → k < length ns → NodeRow (getD ns k noNode) (placeOf (placed nodeSize at ns) k) k rows
-  pub typed : (k : ℕ) → k < length ns → NodeTypes (getD ns k noNode) k types
-
-pub record NodesDone (s rows rows′ types′ : List ℕ) (count at : ℕ) : Type 0 where
-  pub above : (j : ℕ) → 256 ≤ j → getD rows′ j 0 ≡ getD rows j 0
-  pub done : (enums : ℕ) (ns : List Node) → length ns ≡ count → Listed nodeBytes (nodeFits base enums) s at ns → NodesAre ns at rows′ types′
+  pub done : (enums : ℕ) (n : Node) → NodeStands s enums at n → NodeIs n at k rows′ types′
 
 -- ---- the whole file
+
+-- entry k is the place of node k
+pub record PlacesAre (f : File) (places : List ℕ) : Type 0 where
+  pub at : (k : ℕ) → k < length (f .nodes) → getD places k 0 ≡ placeOf (placedNodes f) k
+
+-- the row and the types of each node
+pub record NodesAre (f : File) (rows types : List ℕ) : Type 0 where
+  pub row : (k : ℕ) → k < length (f .nodes) → NodeRow (nodeOf f k) (placeOf (placedNodes f) k) k rows
+  pub typed : (k : ℕ) → k < length (f .nodes) → NodeTypes (nodeOf f k) k types
+
+pub record NodesDone (s places rows rows′ types′ : List ℕ) (count : ℕ) : Type 0 where
+  pub above : (j : ℕ) → 256 ≤ j → getD rows′ j 0 ≡ getD rows j 0
+  pub done : (f : File) → length (f .nodes) ≡ count → FileStands s f → PlacesAre f places → NodesAre f rows′ types′
 
 -- the rows, but for the sizes, the first variants, and the types
 pub record RowsAre (f : File) (rows types : List ℕ) : Type 0 where

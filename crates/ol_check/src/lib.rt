@@ -2,6 +2,8 @@
 pub mod bytes; // bytes.rt: bytes, names and table entries
 pub mod heads; // heads.rt: expressions, head by head
 pub mod rows; // rows.rt: the rows of the nodes, the first variants and the types
+pub mod clash; // clash.rt: fault 6, and whether all declared names are below 1,024
+pub mod variants; // variants.rt: the table of variants
 pub mod judge; // judge.rt: faults 7 to 10, and the slots
 pub mod names; // names.rt: the table by name
 pub mod nodes; // nodes.rt: faults 7 to 10 of the nodes

@@ -1,16 +1,15 @@
 // The rows of the nodes, the first variants, and the types of the variables.
 use super::bytes::byte;
+use super::bytes::entry;
 use super::bytes::name;
 use super::bytes::put;
 use super::bytes::put_byte;
-use super::heads::skip;
 use super::heads::ty_size;
 ghost use mathlib.Core.Path.{_≡_};
 ghost use mathlib.Core.List.{[], _∷_};
-ghost use Prim.Native.Nat.{ℕ, _≤_, _<_, _+_, _*_};
-ghost use lib.ListN.{getD, length, set};
-ghost use Rattle.ol_tree.specs.Heads.{tyEnumAt};
-ghost use Rattle.ol_check.specs.RowsDone.{EnumsDone, ConstantsEnd, EquationsEnd, typeSet, VariablesDone, putAll, NodeDone, NodesDone, TablesDone};
+ghost use Prim.Native.Nat.{_≤_, _<_, _+_, _*_};
+ghost use lib.ListN.{getD, length};
+ghost use Rattle.ol_check.specs.RowsDone.{EnumsDone, typeSet, VariablesDone, putAll, NodeDone, PlacesAre, NodesDone, TablesDone};
 ghost use Rattle.ol_tree.specs.At.{fileAt};
 ghost use Rattle.ol_tree.specs.Stands.{FileReads};
 
@@ -36,40 +35,6 @@ fn enum_rows(file: &[u8], rows: &mut [usize], count: usize, at: usize) -> usize
         put(rows, 256 + e, name(file, next + 1));
         next = names_end(file, next);
         e += 1;
-    }
-    next
-}
-
-// Where so many constants from `at` on end.
-fn constants_end(file: &[u8], count: usize, at: usize) -> usize
-    requires { ⌜ length (now file) ≤ 32768 ⌝ }
-    ensures { λ r. ⌜ ConstantsEnd (now (file .entry)) count at r ⌝ }
-{
-    let mut next = at;
-    let mut i = 0;
-    while i < count {
-        if file.len() <= next {
-            return next;
-        }
-        next = skip(file, 1, next + 2 + ty_size(file, next + 2));
-        i += 1;
-    }
-    next
-}
-
-// Where so many equations from `at` on end.
-fn equations_end(file: &[u8], count: usize, at: usize) -> usize
-    requires { ⌜ length (now file) ≤ 32768 ⌝ }
-    ensures { λ r. ⌜ EquationsEnd (now (file .entry)) count at r ⌝ }
-{
-    let mut next = at;
-    let mut i = 0;
-    while i < count {
-        if file.len() <= next {
-            return next;
-        }
-        next = skip(file, 1, names_end(file, next));
-        i += 1;
     }
     next
 }
@@ -132,14 +97,13 @@ fn put_row(
     put(rows, i + 1 + 1 + 1 + 1 + 1 + 1 + 1, place);
 }
 
-// The row of node `k`, which stands at `at`, and the types of its variables; where the node ends
-// is answered.
-fn node_row(file: &[u8], rows: &mut [usize], types: &mut [u8], k: usize, at: usize) -> usize
+// The row of node `k`, which stands at `at`, and the types of its variables.
+fn node_row(file: &[u8], rows: &mut [usize], types: &mut [u8], k: usize, at: usize)
     requires { ⌜ (k < 32) × (length (now file) ≤ 32768) × (length (now rows) ≡ 272) × (length (now types) ≡ 7168) ⌝ }
-    ensures { λ r. ⌜ NodeDone (now (file .entry)) (now (rows .entry)) (now (rows .exit)) (now (types .entry)) (now (types .exit)) k at r ⌝ }
+    ensures { λ r. ⌜ NodeDone (now (file .entry)) (now (rows .entry)) (now (rows .exit)) (now (types .entry)) (now (types .exit)) k at ⌝ }
 {
     if file.len() <= at {
-        return at;
+        return;
     }
     let inputs = byte(file, at + 1);
     let o = variable_types(file, types, k * 112, inputs, at + 2);
@@ -147,7 +111,6 @@ fn node_row(file: &[u8], rows: &mut [usize], types: &mut [u8], k: usize, at: usi
     let l = variable_types(file, types, k * 112 + inputs, outputs, o + 1);
     let locals = byte(file, l);
     let q = variable_types(file, types, k * 112 + inputs + outputs, locals, l + 1);
-    let count = byte(file, q);
     put_row(
         rows,
         k * 8,
@@ -156,21 +119,19 @@ fn node_row(file: &[u8], rows: &mut [usize], types: &mut [u8], k: usize, at: usi
         inputs,
         outputs,
         inputs + outputs + locals,
-        count,
+        byte(file, q),
         at,
     );
-    equations_end(file, count, q + 1)
 }
 
-// So many nodes from `at` on.
-fn node_rows(file: &[u8], rows: &mut [usize], types: &mut [u8], count: usize, at: usize)
+// So many nodes, each at its place.
+fn node_rows(file: &[u8], places: &[usize], rows: &mut [usize], types: &mut [u8], count: usize)
     requires { ⌜ (count ≤ 32) × (length (now file) ≤ 32768) × (length (now rows) ≡ 272) × (length (now types) ≡ 7168) ⌝ }
-    ensures { λ r. ⌜ NodesDone (now (file .entry)) (now (rows .entry)) (now (rows .exit)) (now (types .exit)) count at ⌝ }
+    ensures { λ r. ⌜ NodesDone (now (file .entry)) (now (places .entry)) (now (rows .entry)) (now (rows .exit)) (now (types .exit)) count ⌝ }
 {
-    let mut next = at;
     let mut k = 0;
     while k < count {
-        next = node_row(file, rows, types, k, next);
+        node_row(file, rows, types, k, entry(places, k));
         k += 1;
     }
 }
@@ -181,14 +142,15 @@ pub struct Sections {
     pub nodes: usize,
 }
 
-// The rows, but for the sizes, and the types of a file that reads without fault.
-pub fn rows_of(file: &[u8], rows: &mut [usize], types: &mut [u8]) -> Sections
-    requires { ⌜ FileReads (now file) × (length (now rows) ≡ 272) × (length (now types) ≡ 7168) ⌝ }
+// The rows, but for the sizes, and the types of a file that reads without fault, given the places
+// of its nodes. The count of the nodes stands before the first.
+pub fn rows_of(file: &[u8], places: &[usize], rows: &mut [usize], types: &mut [u8]) -> Sections
+    requires { ⌜ FileReads (now file) × PlacesAre (fileAt (now file)) (now places) × (length (now rows) ≡ 272) × (length (now types) ≡ 7168) ⌝ }
     ensures { λ r. ⌜ TablesDone (fileAt (now (file .entry))) (now (rows .exit)) (now (types .exit)) r ⌝ }
 {
     let c = enum_rows(file, rows, byte(file, 1), 2);
-    let n = constants_end(file, byte(file, c), c + 1);
-    node_rows(file, rows, types, byte(file, n), n + 1);
+    let n = entry(places, 0) - 1;
+    node_rows(file, places, rows, types, byte(file, n));
     Sections {
         constants: c,
         nodes: n,

@@ -7,16 +7,14 @@ use ol_check::judge::Faults;
 use ol_check::rows::Sections;
 use ol_check::rows::rows_of;
 use ol_ir::Loaded;
-use ol_ir::Reading;
 use ol_ir::project::load_file;
-use ol_ir::project::read_file;
 use ol_order::evaluation_order;
 use ol_spec::Sorted;
 ghost use mathlib.Core.Path.{_≡_};
 ghost use lib.ListN.{length};
 ghost use Rattle.ol_tree.specs.At.{fileAt};
 ghost use Rattle.ol_tree.specs.Stands.{FileReads};
-ghost use Rattle.ol_check.specs.RowsDone.{TablesDone};
+ghost use Rattle.ol_check.specs.RowsDone.{PlacesAre, TablesDone};
 
 // How many nodes a loaded file has; of a refused one its fault's number, above 256.
 fn digest(l: Loaded) -> u64 {
@@ -89,21 +87,22 @@ fn slotted(file: &[u8], rows: &mut [usize], types: &[u8], sections: Sections) ->
 }
 
 // Rows, types, slots and record lengths of a file that reads without fault; no orders.
-fn tables(file: &[u8]) -> u64
-    requires { ⌜ FileReads (now file) ⌝ }
+fn tables(file: &[u8], starts: &[usize]) -> u64
+    requires { ⌜ FileReads (now file) × PlacesAre (fileAt (now file)) (now starts) ⌝ }
 {
     let mut rows = [0usize; 272];
     let mut types = [0u8; 7168];
-    let sections = rows_of(file, &mut rows, &mut types);
+    let sections = rows_of(file, starts, &mut rows, &mut types);
     slotted(file, &mut rows, &types, sections)
 }
 
 // Reads a file and builds its tables; of a refused one its fault's number, above 65,536.
 #[no_mangle]
 pub extern "C" fn ol_tables_bench(file: &[u8]) -> u64 {
-    match read_file(file) {
-        Reading::Done => tables(file),
-        Reading::Refused(f) => 65536 + f.number as u64,
+    let mut starts = [0usize; 32];
+    match load_file(file, &mut starts) {
+        Loaded::Nodes(_, _) => tables(file, &starts),
+        Loaded::Refused(f) => 65536 + f.number as u64,
     }
 }
 

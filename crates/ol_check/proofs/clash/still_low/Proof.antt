@@ -1,0 +1,17 @@
+use mathlib.Core.Path.{refl}
+use borrow.Author.Needs.{needs}
+use Rattle.ol_check.proofs.clash.still_low.Statement.{statement}
+use Rattle.ol_check.proofs.clash.still_low.Tie as tie
+use Rattle.ol_check.proofs.clash.still_low.Reads as reads
+use Rattle.ol_check.proofs.clash.still_low.Lts as lts
+
+-- src/clash.rt:57:1
+returns : tie.Need-returns
+returns c = rw (c .if1 .taken) refl
+
+-- src/clash.rt:57:1
+returns-2 : tie.Need-returns-2
+returns-2 c = search needs
+
+pub still-low-spec : {M : Type 1} → statement M
+still-low-spec = tie.close (tie.spec returns returns-2)

@@ -1,0 +1,75 @@
+use Prim.Native.Nat.{ℕ, _+_, _*_, _-_}
+use mathlib.Core.List.{List}
+use mathlib.Core.Path.{_≡_, refl, _∙_}
+use lib.ListN.{length}
+use native.Mathlib.Omega.{arith}
+use borrow.Author.Needs.{needs}
+use Rattle.ol_tree.specs.Stands.{Names}
+use Rattle.ol_check.proofs.VariantLaws.{NamesGoing, names-start, names-turn, names-done}
+use Rattle.ol_check.proofs.variants.enter_names.Statement.{statement}
+use Rattle.ol_check.proofs.variants.enter_names.Tie as tie
+use Rattle.ol_check.proofs.variants.enter_names.Reads as reads
+use Rattle.ol_check.proofs.variants.enter_names.Lts as lts
+use Rattle.ol_check.proofs.bytes.name.Reads as name-reads
+use Rattle.ol_check.proofs.bytes.put_byte.Reads as put-byte-reads
+
+abbrev Inv-loop : tie.InvT-loop
+Inv-loop file table₀ count at next₀ i₀ table next i =
+    (next ≡ at + 2 * i) × (length table ≡ length table₀) × ((xs : List ℕ) → length xs ≡ count → Names file 0 at xs → NamesGoing file xs table₀ table at i next)
+
+abbrev μ-loop : tie.MeasureT-loop
+μ-loop file table₀ count at next₀ i₀ table next i = count - i
+
+-- src/variants.rt:23:5
+loop-holds : tie.Need-loop-holds Inv-loop μ-loop
+loop-holds c = (omega arith, refl, λ xs q h. names-start h)
+
+-- src/variants.rt:24:25
+name-requires : tie.Need-name-requires Inv-loop μ-loop
+name-requires c κs = search needs
+
+-- src/variants.rt:24:9
+put-byte-requires : tie.Need-put-byte-requires Inv-loop μ-loop
+put-byte-requires c κs = search needs
+
+-- src/variants.rt:25:9
+add-next : tie.Need-add-next Inv-loop μ-loop
+add-next c =
+    let start = c .before .before .before .before .before .before .before .before .before in
+    omega (arith, c .before .before .before .before .before .before .loop .inv .0, c .before .before .before .before .before .loop-test .taken, start .pre)
+
+-- src/variants.rt:26:9
+add-i : tie.Need-add-i Inv-loop μ-loop
+add-i c = omega arith
+
+-- src/variants.rt:23:5
+loop-less : tie.Need-loop-less Inv-loop μ-loop
+loop-less c = omega arith
+
+-- src/variants.rt:23:5
+loop-again : tie.Need-loop-again Inv-loop μ-loop
+loop-again c = (omega (arith, c .before .before .before .before .before .before .loop .inv .0), c .before .before .put-byte .kept .0 ∙ c .before .before .before .before .before .before .loop .inv .1, λ xs q h. names-turn (c .before .before .before .before .before .before .loop .inv .2 xs q h) (omega (arith, c .before .before .before .before .before .loop-test .taken)) _ _ (c .before .before .before .name .ensures) (c .before .before .put-byte .ensures))
+
+-- src/variants.rt:17:1
+same-length : tie.Need-same-length Inv-loop μ-loop
+same-length c = c .before .loop .inv .1
+
+-- src/variants.rt:17:1
+returns : tie.Need-returns Inv-loop μ-loop
+returns c = λ xs q h. names-done (c .before .loop .inv .2 xs q h) (omega (arith, c .loop-test .left))
+
+pub enter-names-spec : {M : Type 1} → statement M
+enter-names-spec =
+    tie.close
+    (tie.spec
+    Inv-loop
+    μ-loop
+    loop-holds
+    name-requires
+    put-byte-requires
+    add-next
+    add-i
+    loop-less
+    loop-again
+    same-length
+    returns)

@@ -1,0 +1,47 @@
+// The table of variants: 1 for each variant's name.
+use super::bytes::byte;
+use super::bytes::name;
+use super::bytes::put_byte;
+use super::rows::names_end;
+ghost use mathlib.Core.Path.{_≡_};
+ghost use mathlib.Core.List.{List};
+ghost use Prim.Native.Nat.{ℕ, _≤_, _<_};
+ghost use lib.ListN.{length};
+ghost use Rattle.ol_tree.specs.At.{fileAt};
+ghost use Rattle.ol_tree.specs.Stands.{Names, FileReads};
+ghost use Rattle.ol_tree.specs.Tables.{Variants};
+ghost use Rattle.ol_check.specs.VariantTable.{enterAll};
+ghost use Rattle.ol_check.specs.Clashing.{Blank};
+
+// Enters so many variants from `at` on.
+fn enter_names(file: &[u8], table: &mut [u8], count: usize, at: usize)
+    requires { ⌜ (count < 256) × (at ≤ 40000) ⌝ }
+    ensures { λ r. ⌜ ((xs : List ℕ) → length xs ≡ count → Names (now (file .entry)) 0 at xs → now (table .exit) ≡ enterAll (now (table .entry)) xs) ⌝ }
+{
+    let mut next = at;
+    let mut i = 0;
+    while i < count {
+        put_byte(table, name(file, next), 1);
+        next += 2;
+        i += 1;
+    }
+}
+
+// Enters the variants of a file that reads without fault. The table is 0 everywhere, and longer
+// than every declared name.
+pub fn enter_variants(file: &[u8], table: &mut [u8])
+    requires { ⌜ FileReads (now file) × Blank (fileAt (now file)) (now table) ⌝ }
+    ensures { λ r. ⌜ Variants (fileAt (now (file .entry))) (now (table .exit)) ⌝ }
+{
+    let count = byte(file, 1);
+    let mut next = 2;
+    let mut i = 0;
+    while i < count {
+        if file.len() <= next {
+            return;
+        }
+        enter_names(file, table, byte(file, next), next + 1);
+        next = names_end(file, next);
+        i += 1;
+    }
+}
