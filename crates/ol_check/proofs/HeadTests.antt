@@ -11,7 +11,7 @@ use borrow.Author.Tests.{lt-ltb, le-ltb, eq-eqb, ne-eqb}
 use Rattle.ol_tree.specs.Tables.{rowAt}
 use Rattle.ol_tree.specs.Heads.{nameAt}
 use Rattle.ol_check.specs.Founds.{Byte}
-use Rattle.ol_check.specs.Judging.{unseenB, slotOfEntry, slotPut, slotHead, mayB, badB, calledB, outputsB, arityB}
+use Rattle.ol_check.specs.Judging.{plainB, unseenB, slotOfEntry, slotPut, slotHead, mayB, badB, calledB, outputsB, arityB}
 
 pub may-imported : (a b : ℕ) → b ≡ 2 → false ≡ mayB a b
 may-imported a b e = rw e refl
@@ -51,6 +51,12 @@ module _ (s : List ℕ) (p c : ℕ) (b : Byte s p c) where
 
   pub arity-one : (rows : List ℕ) (nodes : ℕ) → (c ≡ 12 → ⊥) → (c ≡ 11 → ⊥) → 1 ≡ arityB s rows nodes p
   arity-one rows nodes h g = rw (← b .is, ne-eqb c 12 h, ne-eqb c 11 g) refl
+
+  pub plain-var : c ≡ 4 → false ≡ plainB s p
+  plain-var q = rw (← b .is, q) refl
+
+  pub plain-other : (c ≡ 4 → ⊥) → ltb c 11 ≡ plainB s p
+  plain-other q = rw (← b .is, ne-eqb c 4 q) refl
 
   pub unseen-var : (names : List ℕ) (x e : ℕ) → c ≡ 4 → x ≡ nameAt s (p + 1) → Byte names x e → eqb e 0 ≡ unseenB s names p
   unseen-var names x e q ex be = rw (← b .is, q, be .is, ex) refl

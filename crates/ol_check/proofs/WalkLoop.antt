@@ -1,24 +1,26 @@
 -- The walk over expressions, head by head: what is left to be judged.
 use Prim.Native.Nat.{ℕ, _+_, _-_, _≤_, _<_, min}
-use mathlib.Core.Bool.{Bool, true, false}
+use mathlib.Core.Bool.{Bool, true, false, not, _&&_, cond}
 use mathlib.Core.List.{List, [], _∷_, _++_, map}
 use mathlib.Core.Option.{Option, none, some}
 use mathlib.Core.Path.{_≡_, refl, sym, ap, subst, _∙_}
 use native.Mathlib.Omega.{arith}
 use native.Mathlib.Decide.{decLe}
 use mathlib.Core.Logic.{by-cases}
-use lib.ListN.{length, length-set}
-use lib.Dec.{ltb}
+use lib.ListN.{length, getD}
+use lib.Dec.{ltb, eqb}
+use borrow.Author.Tests.{ne-eqb, eqb-false, ltb-true}
 use Rattle.ol_spec.specs.Lists.{orElse, sum}
 use Rattle.ol_spec.specs.Syntax.{Expr, Exprs, nil, cons, count}
 use Rattle.ol_spec.specs.Places.{exprsSize, collectAll}
 use Rattle.ol_spec.specs.Admission.{Item, first, firstIf}
-use Rattle.ol_tree.specs.Heads.{partsOf, headSize, joined, Standing}
+use Rattle.ol_tree.specs.Tables.{rowAt}
+use Rattle.ol_tree.specs.Heads.{nameAt, partsOf, headSize, joined, Standing}
 use Rattle.ol_tree.proofs.Heads.{walk-head, next-told}
 use Rattle.ol_check.specs.Founds.{placeOf, earliest}
 use Rattle.ol_check.specs.Walks.{HeadOf}
 use Rattle.ol_check.specs.Records.{siteB}
-use Rattle.ol_check.specs.Judging.{headAt, heads, unseenB, unseenHead, slotHead, slotHeads, calledB, calledHead, arityB, severalHead, foundIn, Walked}
+use Rattle.ol_check.specs.Judging.{headAt, heads, plainB, unseenB, unseenHead, slotPut, slotHead, slotHeads, badB, outputsB, calledB, calledHead, arityB, severalHead, foundIn, Walked}
 use Rattle.ol_check.specs.declared.Found.{Found}
 use Rattle.ol_check.specs.declared.heads.Parts.{Parts}
 use Rattle.ol_check.specs.declared.judge.Faults.{Faults}
@@ -33,6 +35,19 @@ found-step (some p) b q is = refl
 pub found-none : (o : Option ℕ) → foundIn o [] ≡ o
 found-none none = refl
 found-none (some p) = refl
+
+earliest-not : (o : Option ℕ) (q : ℕ) → o ≡ earliest o false q
+earliest-not none q = refl
+earliest-not (some p) q = refl
+
+-- a plain head's code
+plain-code : (s : List ℕ) (p : ℕ) → plainB s p ≡ true → (getD s p 0 ≡ 4 → ⊥) × (getD s p 0 < 11)
+plain-code s p t = go (eqb (getD s p 0) 4) (ltb (getD s p 0) 11) refl refl t
+  where
+    go : (a b : Bool) → eqb (getD s p 0) 4 ≡ a → ltb (getD s p 0) 11 ≡ b → not a && b ≡ true → (getD s p 0 ≡ 4 → ⊥) × (getD s p 0 < 11)
+    go true b ea eb t = let z : _≡_ {A = ℕ} 0 1 = cc in absurd (omega arith)
+    go false false ea eb t = let z : _≡_ {A = ℕ} 0 1 = cc in absurd (omega arith)
+    go false true ea eb t = (eqb-false (getD s p 0) 4 ea, ltb-true (getD s p 0) 11 eb)
 
 module _ {s : List ℕ} {enums at : ℕ} {es : Exprs} {left next : ℕ} (g : Going s enums at es left next) (t : Turn g) (p : Parts) (h : HeadOf s next p) where
   -- the heads that are left, after the first
@@ -90,7 +105,7 @@ module _ {s names rows : List ℕ} {nodes k enums : ℕ} {es : Exprs} {at : ℕ}
 
       pub walk-turn : (slots′ : List ℕ) (u′ c′ h′ : Found) (bu bc : Bool) (n x z′ : ℕ) → slots′ ≡ slotHead s names slots next
           → placeOf u′ ≡ earliest (placeOf u) bu (next + 1) → bu ≡ unseenB s names next → placeOf c′ ≡ earliest (placeOf c) bc next → bc ≡ calledB s rows k next
-          → placeOf h′ ≡ earliest (placeOf h) (ltb 1 n) next → n ≡ arityB s rows nodes next → z′ ≡ min (z + x) 65536 → x ≡ siteB s rows nodes next
+          → placeOf h′ ≡ earliest (placeOf h) (ltb 1 n) next → n ≡ arityB s rows nodes next → (z ≤ 65536 → z′ ≡ min (z + x) 65536) → x ≡ siteB s rows nodes next
           → WalkGoing s names rows nodes k enums es at slots₀ u₀ c₀ h₀ z₀ slots′ u′ c′ h′ z′ (left - 1 + p .count) (p .start)
       unfolding slotHeads
       walk-turn slots′ u′ c′ h′ bu bc n x z′ es′ eu fu ec fc eh fh ez fz =
@@ -104,11 +119,25 @@ module _ {s names rows : List ℕ} {nodes k enums : ℕ} {es : Exprs} {at : ℕ}
             sized = λ le.
                 let w = g .sized le in
                 let r = sum (map (siteB s rows nodes) (heads (p .start) (going-on (g .going) (going-turn (g .going) lt) p hp .rest))) in (
-                  omega (arith, ez),
-                  ap (λ n. min (n + r) 65536) (ez ∙ ap (λ y. min (z + y) 65536) fz) ∙ min-add z (siteB s rows nodes next) r 65536
+                  omega (arith, ez (w .0)),
+                  ap (λ n. min (n + r) 65536) (ez (w .0) ∙ ap (λ y. min (z + y) 65536) fz) ∙ min-add z (siteB s rows nodes next) r 65536
                       ∙ ap (λ l. min (z + sum (map (siteB s rows nodes) l)) 65536) (sym (heads-on (g .going) (going-turn (g .going) lt) p hp)) ∙ w .1,
                 );
           }
+
+      -- at a plain head nothing changes
+      pub walk-plain : plainB s next ≡ true → WalkGoing s names rows nodes k enums es at slots₀ u₀ c₀ h₀ z₀ slots u c h z (left - 1 + p .count) (p .start)
+      walk-plain t =
+          let w = plain-code s next t in
+          let no4 : eqb (getD s next 0) 4 ≡ false = ne-eqb (getD s next 0) 4 (w .0) in
+          let no11 : eqb (getD s next 0) 11 ≡ false = ne-eqb (getD s next 0) 11 (λ q. omega (arith, w .1)) in
+          let no12 : eqb (getD s next 0) 12 ≡ false = ne-eqb (getD s next 0) 12 (λ q. omega (arith, w .1)) in
+          walk-turn slots u c h false false 1 0 z
+          (sym (ap (λ b. cond b (slotPut s names slots (next + 1)) slots) no4))
+          (earliest-not (placeOf u) (next + 1)) (sym (ap (λ b. b && eqb (getD names (nameAt s (next + 1)) 0) 0) no4))
+          (earliest-not (placeOf c) next) (sym (ap (λ b. b && badB rows k (getD s (next + 1) 0) (getD s (next + 2) 0)) no11))
+          (earliest-not (placeOf h) next) (sym (ap (λ b. cond b (getD s (next + 1) 0) (cond (eqb (getD s next 0) 11) (outputsB rows nodes (getD s (next + 1) 0)) 1)) no12 ∙ ap (λ b. cond b (outputsB rows nodes (getD s (next + 1) 0)) 1) no11))
+          (λ le. sym (min-cap z 65536 le)) (sym (ap (λ b. cond b (cond (ltb (getD s (next + 1) 0) nodes) (rowAt rows (getD s (next + 1) 0) 6) 0) 0) no11))
 
     pub walk-done : (f r : Faults) → (0 < left → ⊥) → f .next ≡ at → f .unseen ≡ u₀ → f .called ≡ c₀ → f .shaped ≡ h₀ → f .size ≡ z₀ → r .again ≡ f .again → r .next ≡ next → r .unseen ≡ u → r .called ≡ c → r .shaped ≡ h → r .size ≡ z
         → Walked s names rows nodes k es slots₀ slots f r

@@ -24,7 +24,7 @@ each-entry p (x ∷ l) zero t h = T-and (p x) _ t .0
 each-entry p (x ∷ l) (suc i) t h = each-entry p l i (T-and (p x) _ t .1) (omega arith)
 
 -- a size of the table is 1 to 9, a number of parts at most 3
-pub table-size : (c : ℕ) → c < 10 → (1 ≤ getD sizesTable c 0) × (getD sizesTable c 0 ≤ 9)
+table-size : (c : ℕ) → c < 10 → (1 ≤ getD sizesTable c 0) × (getD sizesTable c 0 ≤ 9)
 table-size c h =
     let w = T-and (leb 1 (getD sizesTable c 0)) _ (each-entry (λ n. leb 1 n && leb n 9) sizesTable c tt h) in
     (leb→le _ _ (w .0), leb→le _ _ (w .1))
@@ -45,8 +45,12 @@ cond-small false = omega arith
 pub ty-small : (s : List ℕ) (at : ℕ) → tySizeAt s at ≤ 2
 ty-small s at = cond-small (eqb (getD s at 0) 12)
 
+-- one that is not the least so far
+pub next-up : (n c : ℕ) → n ≤ c → (c ≡ n → ⊥) → n + 1 ≤ c
+next-up n c le ne = omega arith
+
 module _ (s : List ℕ) (at c : ℕ) (b : Byte s at c) where
-  pub head-low : c < 10 → HeadOf s at (record { count = getD partsTable c 0; start = at + getD sizesTable c 0 })
+  head-low : c < 10 → HeadOf s at (record { count = getD partsTable c 0; start = at + getD sizesTable c 0 })
   head-low h =
       let z = table-size c h in
       record {
@@ -56,6 +60,10 @@ module _ (s : List ℕ) (at c : ℕ) (b : Byte s at c) where
         onward = omega (arith, z .0);
         near = omega (arith, z .1);
       }
+
+  -- a code below 10, with its numbers in the tables
+  pub head-code : (n : ℕ) → n < 10 → c ≡ n → HeadOf s at (record { count = getD partsTable n 0; start = at + getD sizesTable n 0 })
+  head-code n h e = subst (λ m. HeadOf s at (record { count = getD partsTable m 0; start = at + getD sizesTable m 0 })) e (head-low (omega arith))
 
   pub head-cast : (n : ℕ) → 10 ≤ c → c ≡ 10 → n ≡ tySizeAt s (at + 1) → HeadOf s at (record { count = 1; start = at + 1 + n })
   head-cast n h e t =

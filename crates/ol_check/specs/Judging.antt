@@ -27,6 +27,10 @@ headAt at e = at ∷ []
 abbrev pub heads : ℕ → Exprs → List ℕ
 heads at es = collectAll headAt at es
 
+-- the expression at p is neither a Var nor a call nor a Tuple: nothing is to be judged at its head
+abbrev pub plainB : List ℕ → ℕ → Bool
+plainB s p = not (eqb (getD s p 0) 4) && ltb (getD s p 0) 11
+
 -- ---- 7, and the slots
 
 -- the expression at p is a Var of a name that has no entry

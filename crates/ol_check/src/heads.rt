@@ -8,11 +8,6 @@ ghost use Rattle.ol_spec.specs.Places.{exprsSize};
 ghost use Rattle.ol_tree.specs.Heads.{tySizeAt, partsAt, nextAt, Standing};
 ghost use Rattle.ol_check.specs.Walks.{HeadOf};
 
-// By an expression's code, up to Arrow: how many parts it has, and how many bytes its head.
-const PARTS: [usize; 10] = [0, 0, 0, 0, 0, 1, 2, 3, 1, 2];
-
-const SIZES: [usize; 10] = [2, 9, 9, 2, 3, 2, 2, 1, 1, 1];
-
 // How many parts an expression has, and where they start.
 pub struct Parts {
     pub count: usize,
@@ -26,16 +21,62 @@ pub fn ty_size(file: &[u8], at: usize) -> usize
     if byte(file, at) == 12 { 2 } else { 1 }
 }
 
-// The head of the expression at `at`.
+// The head of the expression at `at`. The numbers are those of ol_tree's tables by code, partsTable
+// and sizesTable; a constant array would be built anew at each use.
 pub fn head(file: &[u8], at: usize) -> Parts
     requires { ⌜ at < length (now file) ⌝ }
     ensures { λ r. ⌜ HeadOf (now (file .entry)) at r ⌝ }
 {
     let c = byte(file, at);
-    if c < 10 {
+    if c == 4 {
         Parts {
-            count: PARTS[c],
-            start: at + SIZES[c],
+            count: 0,
+            start: at + 3,
+        }
+    } else if c == 6 {
+        Parts {
+            count: 2,
+            start: at + 2,
+        }
+    } else if c == 0 {
+        Parts {
+            count: 0,
+            start: at + 2,
+        }
+    } else if c == 5 {
+        Parts {
+            count: 1,
+            start: at + 2,
+        }
+    } else if c == 1 {
+        Parts {
+            count: 0,
+            start: at + 9,
+        }
+    } else if c == 2 {
+        Parts {
+            count: 0,
+            start: at + 9,
+        }
+    } else if c == 3 {
+        Parts {
+            count: 0,
+            start: at + 2,
+        }
+    } else if c == 7 {
+        Parts {
+            count: 3,
+            start: at + 1,
+        }
+    } else if c == 8 {
+        Parts {
+            count: 1,
+            start: at + 1,
+        }
+    } else if c == 9 {
+        Parts {
+            count: 2,
+            start: at + 1,
         }
     } else if c == 10 {
         Parts {

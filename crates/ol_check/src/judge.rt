@@ -13,7 +13,7 @@ ghost use Prim.Native.Nat.{ℕ, _≤_, _<_, _+_, _*_};
 ghost use lib.ListN.{getD, length, set};
 ghost use Rattle.ol_spec.specs.Syntax.{Exprs, count};
 ghost use Rattle.ol_tree.specs.Heads.{nameAt, Standing};
-ghost use Rattle.ol_check.specs.Judging.{unseenB, slotOfEntry, slotPut, slotHead, mayB, badB, calledB, outputsB, arityB, Walked};
+ghost use Rattle.ol_check.specs.Judging.{unseenB, plainB, slotOfEntry, slotPut, slotHead, mayB, badB, calledB, outputsB, arityB, Walked};
 ghost use Rattle.ol_check.specs.Judging.{takenB, NamesDefined, loneB, otherB, RootJudged, Context, EquationJudged, EquationsJudged};
 ghost use mathlib.Core.List.{List};
 ghost use mathlib.Core.Bool.{Bool};
@@ -72,6 +72,15 @@ fn unseen_at(file: &[u8], names: &[u8], at: usize) -> bool
     } else {
         false
     }
+}
+
+// Whether the expression at `at` is neither a Var nor a call nor a Tuple.
+fn plain(file: &[u8], at: usize) -> bool
+    requires { ⌜ at < length (now file) ⌝ }
+    ensures { λ r. ⌜ r ≡ plainB (now (file .entry)) at ⌝ }
+{
+    let c = byte(file, at);
+    if c == 4 { false } else { c < 11 }
 }
 
 // Whether a node of kind `caller` may call one of kind `callee`.
@@ -171,6 +180,11 @@ pub fn walk(
             };
         }
         let h = head(file, next);
+        if plain(file, next) {
+            left = left - 1 + h.count;
+            next = h.start;
+            continue;
+        }
         slot_head(file, names, slots, next);
         unseen = earlier(unseen, unseen_at(file, names, next), next + 1);
         called = earlier(called, called_at(file, rows, node, next), next);
