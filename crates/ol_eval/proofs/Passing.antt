@@ -1,7 +1,7 @@
--- Laws of passing over expressions.
+-- Laws of passing over expressions, head by head.
 use Prim.Native.Nat.{ℕ, zero, suc, _+_, _-_, _*_, _<_, _≤_, min}
 use mathlib.Core.Bool.{Bool, true, false, not, cond}
-use mathlib.Core.List.{List, [], _∷_, _++_, append-nil}
+use mathlib.Core.List.{List, [], _∷_, _++_, append-nil, append-assoc}
 use mathlib.Core.Path.{_≡_, refl, sym, ap, subst, _∙_}
 use native.Mathlib.Omega.{arith}
 use native.Mathlib.Nat.{add-zero, zero-add, add-assoc}
@@ -10,16 +10,19 @@ use lib.Dec.{eqb}
 use native.Mathlib.Decide.{ℕ-discrete}
 use borrow.Author.Tests.{eq-eqb, ne-eqb}
 use Rattle.ol_spec.specs.Lists.{isEmpty}
+use Rattle.ol_spec.specs.Read.{thenRead, manyExprs}
 use Rattle.ol_spec.specs.Syntax.{Expr, Exprs, nil, cons, boolLit, intLit, floatLit, charLit, var, unary, binary, ifThenElse, pre, arrow, cast, call, tuple}
 use Rattle.ol_spec.specs.Eval.{callees, calleesAll, sitesSize, sizeIn}
 use Rattle.ol_spec.specs.Step.{sizesAt}
 use Rattle.ol_spec.proofs.Segments.{sites-cons, sites-append}
-use Rattle.ol_tree.specs.At.{fileAt, exprAt, endAt, exprsAt, endsAt, Reads, ReadsAll}
+use Rattle.ol_ir.proofs.Trees.{deeper-parts}
+use Rattle.ol_tree.specs.At.{fileAt, limitsAt, enumsAt, exprAt, endAt, exprsAt, endsAt, Reads, ReadsAll}
 use Rattle.ol_tree.specs.Tables.{Each, Rows, RowOf, rowAt, siteBytes, sizeCap}
 use Rattle.ol_tree.specs.Heads.{partsOf, headSize as headOf}
 use Rattle.ol_tree.specs.Parts.{ownSites}
-use Rattle.ol_tree.proofs.Forms.{each-append, callees-parts, Formed, Parted, parted, one-read, one-tree, callees-all, none-read, reads-in, some-code}
+use Rattle.ol_tree.proofs.Forms.{each-append, callees-parts, Formed, Parted, parted, reads-all, reads-end, one-read, one-tree, callees-all, none-read, reads-in, some-code}
 use Rattle.ol_tree.proofs.Forms.{by-form, call-form}
+use Rattle.ol_tree.proofs.Heads.{head-some, head-ends}
 use Rattle.ol_eval.specs.Walk.{nodesIn, sizesIn, Below, FormIs, Sized, Passable, Skips, SkipsTo, eitherOf}
 use Rattle.ol_eval.specs.declared.skip.Form.{Form}
 use Rattle.ol_eval.specs.declared.skip.Passed.{Passed}
@@ -52,10 +55,6 @@ module _ (s : List ℕ) where
   pub callees-one : (level at : ℕ) → ReadsAll s level 1 at → calleesAll (exprsAt s level 1 at) ≡ callees (exprAt s level at)
   callees-one level at h = ap calleesAll (one-tree s level at h .0) ∙ append-nil (callees (exprAt s level at))
 
-  split-one : (level at : ℕ) {r : Form} → ReadsAll s level 1 at → FormIs s level at r → calleesAll (exprsAt s level 1 at) ≡ ownSites (exprAt s level at) ++ calleesAll (exprsAt s (level - 1) (r .count) (r .start))
-  split-one level at h f =
-      callees-one level at h ∙ callees-parts (exprAt s level at) ∙ ap (λ (es : Exprs). ownSites (exprAt s level at) ++ calleesAll es) (f .parts)
-
   pub head-reads : {rows : List ℕ} {level n : ℕ} (at : ℕ) → Passable s rows level (suc n) at → Reads s level at
   head-reads {level = level} {n = n} at p = parted s level n at (p .reads) .head
 
@@ -68,20 +67,6 @@ module _ (s : List ℕ) where
   own-none level at h =
       by-form s (λ c e. ¬ (c ≡ 11) → ownSites e ≡ []) (λ b n. refl) (λ i n. refl) (λ b n. refl) (λ c n. refl) (λ x n. refl) (λ op e n. refl) (λ op l r n. refl)
       (λ c t e n. refl) (λ e n. refl) (λ a b n. refl) (λ t e n. refl) (λ k es n. absurd (n refl)) (λ es n. refl) level at h
-
-  -- its parts can be passed over
-  pub parts-passable : {rows : List ℕ} {level at : ℕ} {r : Form} → Passable s rows level 1 at → FormIs s level at r → Passable s rows (level - 1) (r .count) (r .start)
-  parts-passable {level = level} {at = at} {r = r} p f =
-      let own = ownSites (exprAt s level at) in
-      let rest = calleesAll (exprsAt s (level - 1) (r .count) (r .start)) in
-      let e = split-one level at (p .reads) f in
-      let room = subst (λ (ks : List ℕ). sitesSize (sizesIn s) ks ≤ 32768) e (p .room) in
-      record {
-        sized = p .sized;
-        reads = f .read;
-        below = each-append (Below (nodesIn s)) own rest (subst (Each (Below (nodesIn s))) e (p .below)) .1;
-        room = omega (arith, room, sites-append (sizesIn s) own rest);
-      }
 
   -- a callee, and the bytes of its record
   pub own-below : {rows : List ℕ} {level at : ℕ} → Passable s rows level 1 at → getD s at 0 ≡ 11 → getD s (at + 1) 0 < nodesIn s
@@ -120,17 +105,6 @@ module _ (s : List ℕ) where
       go (yes e) = rw (own-call level at h e, eq-eqb (getD s at 0) 11 e)
       go (no n) = rw (own-none level at h n, ne-eqb (getD s at 0) 11 n)
 
-  pub skips-form : {rows : List ℕ} {level at : ℕ} {r : Form} {o : ℕ} {b e : Bool} {p : Passed} → Passable s rows level 1 at → FormIs s level at r → o ≡ sitesSize (sizesIn s) (ownSites (exprAt s level at)) → b ≡ eqb (getD s at 0) 11 → SkipsTo s (level - 1) (r .count) (r .start) p → e ≡ eitherOf b (p .has) → SkipsTo s level 1 at (record { next = p .next; used = o + p .used; has = e })
-  skips-form {level = level} {at = at} {r = r} {b = b} {p = p} q f o c h e =
-      let own = ownSites (exprAt s level at) in
-      let rest = calleesAll (exprsAt s (level - 1) (r .count) (r .start)) in
-      let w = split-one level at (q .reads) f in
-      record {
-        next-is = h .next-is ∙ sym (f .ends) ∙ sym (one-tree s level at (q .reads) .1);
-        used-is = (λ i. o i + h .used-is i) ∙ sym (sites-append (sizesIn s) own rest) ∙ ap (sitesSize (sizesIn s)) (sym w);
-        has-is = e ∙ (λ i. eitherOf (c i) (h .has-is i)) ∙ sym (own-has level at rest (head-reads at q)) ∙ ap filled (sym w);
-      }
-
   -- ---- several, one after the other
 
   pub first-passable : {rows : List ℕ} {level n at : ℕ} → Passable s rows level (suc n) at → Passable s rows level 1 at
@@ -148,30 +122,85 @@ module _ (s : List ℕ) where
         room = subst (λ (ks : List ℕ). sitesSize (sizesIn s) ks ≤ 32768) (sym one) (omega (arith, room, sites-append (sizesIn s) (callees (exprAt s level at)) rest));
       }
 
-  pub rest-passable : {rows : List ℕ} {level n at : ℕ} → Passable s rows level (suc n) at → Passable s rows level n (endAt s level at)
-  rest-passable {level = level} {n = n} {at = at} p =
-      let t = parted s level n at (p .reads) in
-      let e = callees-all s level n at (p .reads) in
-      let rest = calleesAll (exprsAt s level n (endAt s level at)) in
-      let room = subst (λ (ks : List ℕ). sitesSize (sizesIn s) ks ≤ 32768) e (p .room) in
+  -- ---- head by head
+
+  -- what is read with one level less is read
+  raised : (level n at : ℕ) → 0 < level → ReadsAll s (level - 1) n at → ReadsAll s level n at × (exprsAt s level n at ≡ exprsAt s (level - 1) n at) × (endsAt s level n at ≡ endsAt s (level - 1) n at)
+  raised level n at d h = reads-all s level n at (exprsAt s (level - 1) n at) (endsAt s (level - 1) n at) (deeper-parts s (limitsAt s) (enumsAt s) (level - 1) level n at (omega arith) (h .are))
+
+  -- n are a, and b behind them from `mid` on
+  record Both (level n a b at mid : ℕ) : Type 0 where
+    reads : ReadsAll s level n at
+    callees : calleesAll (exprsAt s level n at) ≡ calleesAll (exprsAt s level a at) ++ calleesAll (exprsAt s level b mid)
+    ends : endsAt s level n at ≡ endsAt s level b mid
+
+  -- one, and n behind it
+  cons-read : (level n at : ℕ) → Reads s level at → ReadsAll s level n (endAt s level at) → ReadsAll s level (suc n) at
+  unfolding manyExprs thenRead
+  cons-read level n at p q = reads-all s level (suc n) at (cons (exprAt s level at) (exprsAt s level n (endAt s level at))) (endsAt s level n (endAt s level at)) (rw (p .is, q .are)) .0
+
+  both : (level a b at mid : ℕ) → ReadsAll s level a at → endsAt s level a at ≡ mid → ReadsAll s level b mid → Both level (a + b) a b at mid
+  both level zero b at mid p e q =
+      let n : b ≡ 0 + b = omega arith in
+      let m : mid ≡ at = sym e ∙ none-read s level at .1 in
+      let none = ap (λ (es : Exprs). calleesAll es ++ calleesAll (exprsAt s level b mid)) (sym (none-read s level mid .0)) in
+      subst (λ (k : ℕ). Both level k 0 b at mid) n (subst (λ (k : ℕ). Both level b 0 b k mid) m (record { reads = q; callees = none; ends = refl }))
+  both level (suc a) b at mid p e q =
+      let t = parted s level a at p in
+      let w = both level a b (endAt s level at) mid (t .tail) (sym (t .ends) ∙ e) q in
+      let n : suc (a + b) ≡ suc a + b = omega arith in
+      let r = cons-read level (a + b) at (t .head) (w .reads) in
+      let C = callees (exprAt s level at) in
+      let D = calleesAll (exprsAt s level a (endAt s level at)) in
+      let E = calleesAll (exprsAt s level b mid) in
+      subst (λ (k : ℕ). Both level k (suc a) b at mid) n (record {
+        reads = r;
+        callees = callees-all s level (a + b) at r ∙ ap (λ (ks : List ℕ). C ++ ks) (w .callees) ∙ sym (append-assoc C D E) ∙ ap (λ (ks : List ℕ). ks ++ E) (sym (callees-all s level a at p));
+        ends = parted s level (a + b) at r .ends ∙ w .ends;
+      })
+
+  -- the head of the first of `left` is passed over: n are left, its parts and the others
+  record Onward (level left n at : ℕ) (r : Form) : Type 0 where
+    reads : ReadsAll s level n (r .start)
+    callees : calleesAll (exprsAt s level left at) ≡ ownSites (exprAt s level at) ++ calleesAll (exprsAt s level n (r .start))
+    ends : endsAt s level n (r .start) ≡ endsAt s level left at
+
+  onward : (level left at : ℕ) {r : Form} → ReadsAll s level (suc left) at → FormIs s level at r → Onward level (suc left) (r .count + left) at r
+  onward level left at {r} h f =
+      let t = parted s level left at h in
+      let u = raised level (r .count) (r .start) (f .deep) (f .read) in
+      let w = both level (r .count) left (r .start) (endAt s level at) (u .0) (u .2 ∙ sym (f .ends)) (t .tail) in
+      let own = ownSites (exprAt s level at) in
+      let D = calleesAll (exprsAt s level (r .count) (r .start)) in
+      let E = calleesAll (exprsAt s level left (endAt s level at)) in
+      let first : callees (exprAt s level at) ≡ own ++ D = callees-parts (exprAt s level at) ∙ ap (λ (es : Exprs). own ++ calleesAll es) (f .parts ∙ sym (u .1)) in
       record {
-        sized = p .sized;
-        reads = t .tail;
-        below = each-append (Below (nodesIn s)) (callees (exprAt s level at)) rest (subst (Each (Below (nodesIn s))) e (p .below)) .1;
-        room = omega (arith, room, sites-append (sizesIn s) (callees (exprAt s level at)) rest);
+        reads = w .reads;
+        callees = callees-all s level left at h ∙ ap (λ (ks : List ℕ). ks ++ E) first ∙ append-assoc own D E ∙ ap (λ (ks : List ℕ). own ++ ks) (sym (w .callees));
+        ends = w .ends ∙ sym (t .ends);
       }
 
-  -- `left` of `count` are still to be passed over
+  -- there are no more expressions than bytes
+  many-few : (level n at : ℕ) → ReadsAll s level (suc n) at → at + suc n ≤ length s
+  many-few level zero at h = omega (arith, reads-in s level at (parted s level 0 at h .head))
+  many-few level (suc n) at h =
+      let t = parted s level (suc n) at h in
+      let e = exprAt s level at in
+      omega (arith, many-few level n (endAt s level at) (t .tail), reads-end s level at (t .head), head-some e, head-ends e nil at)
+
+  few-read : (level n at : ℕ) → ReadsAll s level n at → n ≤ length s
+  few-read level zero at h = omega arith
+  few-read level (suc n) at h = omega (arith, many-few level n at h)
+
+  -- `left` are still to be passed over, and then all `count` were
   pub record Left (rows : List ℕ) (level count at : ℕ) (next used : ℕ) (has : Bool) (left : ℕ) : Type 0 where
     pub rest : Passable s rows level left next
     pub sum : used + sitesSize (sizesIn s) (calleesAll (exprsAt s level left next)) ≡ sitesSize (sizesIn s) (calleesAll (exprsAt s level count at))
     pub ends : endsAt s level left next ≡ endsAt s level count at
     pub found : filled (calleesAll (exprsAt s level count at)) ≡ eitherOf has (filled (calleesAll (exprsAt s level left next)))
 
-  pub left-start : {rows : List ℕ} {level count at : ℕ} → Passable s rows level count at → Left rows level count at at 0 false (count - 0)
-  left-start {count = count} p =
-      let e : count - 0 ≡ count = omega arith in
-      rw e (record { rest = p; sum = zero-add _; ends = refl; found = refl })
+  pub left-start : {rows : List ℕ} {level count at : ℕ} → Passable s rows level count at → Left rows level count at at 0 false count
+  left-start p = record { rest = p; sum = zero-add _; ends = refl; found = refl }
 
   pub left-as : {rows : List ℕ} {level count at next used : ℕ} {has : Bool} {a b : ℕ} → a ≡ b → Left rows level count at next used has a → Left rows level count at next used has b
   left-as {rows} {level} {count} {at} {next} {used} {has} e l = subst (λ (k : ℕ). Left rows level count at next used has k) e l
@@ -180,29 +209,46 @@ module _ (s : List ℕ) where
   either-assoc true b c = refl
   either-assoc false b c = refl
 
-  filled-append : (a b : List ℕ) → filled (a ++ b) ≡ eitherOf (filled a) (filled b)
-  filled-append [] b = refl
-  filled-append (x ∷ a) b = refl
+  -- the first of those that are left
+  pub left-first : {rows : List ℕ} {level count at next used : ℕ} {has : Bool} {left : ℕ} → Left rows level count at next used has left → 0 < left → Passable s rows level 1 next
+  left-first {left = left} l h = first-passable (left-as {b = suc (left - 1)} (omega arith) l .rest)
 
-  pub left-turn : {rows : List ℕ} {level count at next used : ℕ} {has : Bool} {left : ℕ} {p : Passed} {e : Bool} → Left rows level count at next used has (suc left) → SkipsTo s level 1 next p → e ≡ eitherOf has (p .has) → Left rows level count at (p .next) (used + p .used) e left
-  left-turn {rows} {level} {count} {at} {next} {used} {has} {left} {p} {e} l h c =
-      let t = parted s level left next (l .rest .reads) in
-      let r = one-read s level next (t .head) in
-      let m = h .next-is ∙ one-tree s level next r .1 in
-      let w = callees-all s level left next (l .rest .reads) in
-      let one = callees-one level next r in
-      let C = callees (exprAt s level next) in
-      let D = calleesAll (exprsAt s level left (endAt s level next)) in
-      let used-is : p .used ≡ sitesSize (sizesIn s) C = h .used-is ∙ ap (sitesSize (sizesIn s)) one in
-      let has-is : p .has ≡ filled C = h .has-is ∙ ap filled one in
-      let sum′ : used + sitesSize (sizesIn s) (C ++ D) ≡ sitesSize (sizesIn s) (calleesAll (exprsAt s level count at)) = ap (λ (ks : List ℕ). used + sitesSize (sizesIn s) ks) (sym w) ∙ l .sum in
-      let found′ : filled (calleesAll (exprsAt s level count at)) ≡ eitherOf has (filled (C ++ D)) = l .found ∙ ap (λ (ks : List ℕ). eitherOf has (filled ks)) w in
-      rw m (record {
-        rest = rest-passable (l .rest);
-        sum = omega (arith, sum′, sites-append (sizesIn s) C D, used-is);
-        ends = sym (t .ends) ∙ l .ends;
-        found = found′ ∙ ap (eitherOf has) (filled-append C D) ∙ either-assoc has (filled C) (filled D) ∙ ap (λ (x : Bool). eitherOf x (filled D)) (ap (eitherOf has) (sym has-is) ∙ sym c);
-      })
+  module _ {rows : List ℕ} {level count at next used : ℕ} {has : Bool} {left : ℕ} {r : Form} (l : Left rows level count at next used has left) (h : 0 < left) (f : FormIs s level next r) where
+    -- what is left after the head
+    turn-reads : Onward level left (left - 1 + r .count) next r
+    turn-reads =
+        let e : suc (left - 1) ≡ left = omega arith in
+        let n : r .count + (left - 1) ≡ left - 1 + r .count = omega arith in
+        let w = onward level (left - 1) next {r = r} (subst (λ (k : ℕ). ReadsAll s level k next) (sym e) (l .rest .reads)) f in
+        subst (λ (k : ℕ). Onward level k (left - 1 + r .count) next r) e (subst (λ (k : ℕ). Onward level (suc (left - 1)) k next r) n w)
+
+    -- no more are left than the file has bytes
+    pub turn-few : left - 1 + r .count ≤ length s
+    turn-few = few-read level (left - 1 + r .count) (r .start) (turn-reads .reads)
+
+    -- the walk goes on in the file
+    pub turn-on : (next < r .start) × (next < length s)
+    turn-on = (omega (arith, f .start-is, head-some (exprAt s level next)), reads-in s level next (head-reads next (left-first l h)))
+
+    -- a turn of the walk
+    pub turn : {o : ℕ} {b e : Bool} → o ≡ sitesSize (sizesIn s) (ownSites (exprAt s level next)) → b ≡ eqb (getD s next 0) 11 → e ≡ eitherOf has b → Left rows level count at (r .start) (used + o) e (left - 1 + r .count)
+    turn {o} {b} {e} oo bb ee =
+        let w = turn-reads in
+        let own = ownSites (exprAt s level next) in
+        let K = calleesAll (exprsAt s level (left - 1 + r .count) (r .start)) in
+        let room : sitesSize (sizesIn s) (own ++ K) ≤ 32768 = subst (λ (ks : List ℕ). sitesSize (sizesIn s) ks ≤ 32768) (w .callees) (l .rest .room) in
+        let sum′ : used + sitesSize (sizesIn s) (own ++ K) ≡ sitesSize (sizesIn s) (calleesAll (exprsAt s level count at)) = ap (λ (ks : List ℕ). used + sitesSize (sizesIn s) ks) (sym (w .callees)) ∙ l .sum in
+        record {
+          rest = record {
+            sized = l .rest .sized;
+            reads = w .reads;
+            below = each-append (Below (nodesIn s)) own K (subst (Each (Below (nodesIn s))) (w .callees) (l .rest .below)) .1;
+            room = omega (arith, room, sites-append (sizesIn s) own K);
+          };
+          sum = omega (arith, sum′, sites-append (sizesIn s) own K, oo);
+          ends = w .ends ∙ l .ends;
+          found = l .found ∙ ap (λ (ks : List ℕ). eitherOf has (filled ks)) (w .callees) ∙ ap (eitherOf has) (own-has level next K (head-reads next (left-first l h))) ∙ either-assoc has (eqb (getD s next 0) 11) (filled K) ∙ ap (λ (x : Bool). eitherOf x (filled K)) (ap (eitherOf has) (sym bb) ∙ sym ee);
+        }
 
   pub left-done : {rows : List ℕ} {level count at next used : ℕ} {has : Bool} → Left rows level count at next used has 0 → SkipsTo s level count at (record { next = next; used = used; has = has })
   unfolding sitesSize

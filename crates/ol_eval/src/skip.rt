@@ -130,43 +130,35 @@ pub fn either(a: bool, b: bool) -> bool
     if a { true } else { b }
 }
 
-// Passes over the expression at `at`, of at most `level` levels.
-pub fn pass(file: &[u8], rows: &[usize], at: usize, level: usize) -> Passed
-    requires { ⌜ Passable (now file) (now rows) level 1 at ⌝ }
-    ensures { λ r. ⌜ SkipsTo (now (file .entry)) level 1 at r ⌝ }
-{
-    let f = form_at(file, at, level);
-    let own = own_size(file, rows, at, level);
-    let call = is_call(file, at);
-    let start = f.start;
-    let count = f.count;
-    let p = pass_all(file, rows, start, level - 1, count);
-    Passed {
-        next: p.next,
-        used: own + p.used,
-        has: either(call, p.has),
-    }
-}
-
-// Passes over `count` expressions, the first of which is at `at`.
+// Passes over `count` expressions, the first of which is at `at`, head by head: the parts of an expression stand behind its head, so they are the next to be passed over.
 pub fn pass_all(file: &[u8], rows: &[usize], at: usize, level: usize, count: usize) -> Passed
     requires { ⌜ Passable (now file) (now rows) level count at ⌝ }
     ensures { λ r. ⌜ SkipsTo (now (file .entry)) level count at r ⌝ }
 {
     let mut next = at;
+    let mut left = count;
     let mut used: usize = 0;
     let mut has = false;
-    let mut i: usize = 0;
-    while i < count {
-        let p = pass(file, rows, next, level);
-        next = p.next;
-        used += p.used;
-        has = either(has, p.has);
-        i += 1;
+    while left > 0 {
+        let f = form_at(file, next, level);
+        let own = own_size(file, rows, next, level);
+        let call = is_call(file, next);
+        used += own;
+        has = either(has, call);
+        left = left - 1 + f.count;
+        next = f.start;
     }
     Passed {
         next: next,
         used: used,
         has: has,
     }
+}
+
+// Passes over the expression at `at`, of at most `level` levels.
+pub fn pass(file: &[u8], rows: &[usize], at: usize, level: usize) -> Passed
+    requires { ⌜ Passable (now file) (now rows) level 1 at ⌝ }
+    ensures { λ r. ⌜ SkipsTo (now (file .entry)) level 1 at r ⌝ }
+{
+    pass_all(file, rows, at, level, 1)
 }
