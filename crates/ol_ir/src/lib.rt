@@ -37,5 +37,4 @@ pub enum Loaded {
 pub enum Scan {
     Name(usize, usize),
     Parts(usize, usize),
-    Refused(Fault),
 }

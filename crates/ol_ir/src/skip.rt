@@ -26,7 +26,7 @@ fn byte_at(file: &[u8], at: usize) -> usize
 }
 
 // The head of the expression at `at`.
-fn head_at(file: &[u8], at: usize) -> Parts
+pub fn head_at(file: &[u8], at: usize) -> Parts
     requires { ⌜ at < length (now file) ⌝ }
     ensures { λ r. ⌜ HeadSays (now (file .entry)) at r ⌝ }
 {

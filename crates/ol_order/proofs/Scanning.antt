@@ -12,7 +12,6 @@ use Rattle.ol_spec.specs.Syntax.{cons, count}
 use Rattle.ol_spec.specs.Places.{exprSize}
 use Rattle.ol_spec.specs.Read.{got, Reader, manyExprs, exprR}
 use Rattle.ol_spec.specs.Order.{reads, readsAll}
-use Rattle.ol_spec.specs.declared.Fault.{Fault}
 use Rattle.ol_spec.specs.declared.Limits.{Limits}
 use Rattle.ol_ir.specs.Parts.{headSize, partsIn, scanOf}
 use Rattle.ol_ir.specs.declared.Scan.{Scan}
@@ -200,13 +199,3 @@ module _ (s : List ℕ) (l : Limits) (enums : ℕ) (P : ℕ → Bool) where
                   ∙ ap (allOf P) (sym (reads-join (split .0) (first .1)))));
               inside = omega (arith, parts-few);
             }
-
-      -- it is no fault
-      pub not-refused : {f : Fault} {t : Type 0} → x ≡ Scn.Refused f → t
-      not-refused {f} {t} g = ⊎-elim one two (step-of s l enums (l .nesting) at (first .2) (first .0) (first .3))
-        where
-          one : Found at (first .0) (first .2) → t
-          one w = let h : Scn.Refused f ≡ Scn.Name (w .0) (first .2) = sym g ∙ (scanned ∙ w .1) in let z : _≡_ {A = ℕ} 0 1 = cc in absurd (omega arith)
-
-          two : Parted s l enums (l .nesting) at (first .0) (first .2) → t
-          two w = let h : Scn.Refused f ≡ Scn.Parts (w .0) (w .1) = sym g ∙ (scanned ∙ w .3) in let z : _≡_ {A = ℕ} 0 1 = cc in absurd (omega arith)
