@@ -196,13 +196,19 @@ module _ (s : List ℕ) (l : Limits) (enums at : ℕ) (n : Node) (end : ℕ) (r 
     pub equations-found : {k q : ℕ} → y ≡ Cnt.Items k q → Cnt.Items k q ≡ Cnt.Items (length (n .equations)) (equationsStart at n + 1)
     equations-found j = sym j ∙ equations-counted
 
-    pub equations-table : {k q : ℕ} → y ≡ Cnt.Items k q → placesOf k (equationR s l enums) q ≡ map placeOf (placedEquations at n)
-    equations-table {k} {q} j =
+    pub equations-items : {k q : ℕ} → y ≡ Cnt.Items k q → many k (equationR s l enums) q ≡ got (n .equations) end
+    equations-items {k} {q} j =
         let h = equations-found j in
         let u : k ≡ length (n .equations) = cc in
         let v : q ≡ equationsStart at n + 1 = cc in
         let a = section-at s 0 (l .equations) (equationR s l enums) (equationsStart at n) (n .equations) end (node-at s l enums at n end r .equations) in
-        rw (u, v) (places-placed s equationSize (equationR s l enums) (takes-equation s l enums) (length (n .equations)) (equationsStart at n + 1) (n .equations) end (a .items))
+        rw (u, v) (a .items)
+
+    pub equations-table : {k q : ℕ} → y ≡ Cnt.Items k q → placesOf k (equationR s l enums) q ≡ map placeOf (placedEquations at n)
+    equations-table {k} {q} j =
+        let h = equations-found j in
+        let v : q ≡ equationsStart at n + 1 = cc in
+        places-placed s equationSize (equationR s l enums) (takes-equation s l enums) k q (n .equations) end (equations-items j) ∙ ap (λ p. map placeOf (placed equationSize p (n .equations))) v
 
     pub no-equations : {f : Fault} {t : Type 0} → y ≡ Cnt.Refused f → t
     no-equations {f} j = let h : Cnt.Refused f ≡ Cnt.Items (length (n .equations)) (equationsStart at n + 1) = sym j ∙ equations-counted in let z : _≡_ {A = ℕ} 0 1 = cc in absurd (omega arith)

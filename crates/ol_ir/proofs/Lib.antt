@@ -9,3 +9,4 @@ pub mod Trees
 pub mod Items
 pub mod Scans
 pub mod Load
+pub mod Skips

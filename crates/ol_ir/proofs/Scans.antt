@@ -7,24 +7,21 @@ use native.Mathlib.Omega.{arith}
 use lib.ListN.{length, getD, getElem?}
 use Rattle.ol_spec.specs.Syntax.{Expr, boolLit, intLit, floatLit, charLit, var, unary, binary, ifThenElse, pre, arrow, cast, call, tuple, count}
 use Rattle.ol_spec.specs.Places.{exprSize}
-use Rattle.ol_spec.specs.Read.{got, thenRead, manyExprs, byte, number, nameR, coded, exprCodes, ExprCode, exprBody, exprR, varCode, preCode}
+use Rattle.ol_spec.specs.Read.{got, thenRead, byte, number, nameR, coded, exprCodes, ExprCode, exprBody, exprR, varCode, preCode}
 use Rattle.ol_spec.specs.Answers.{faultAt}
-use Rattle.ol_spec.specs.declared.Fault.{Fault}
 use Rattle.ol_spec.specs.declared.Limits.{Limits}
 use Rattle.ol_spec.proofs.Offsets.{steps, same-end, same-item}
-use Rattle.ol_ir.specs.Nexts.{nextOf, countedOf}
-use Rattle.ol_ir.specs.Heads.{headR}
+use Rattle.ol_ir.specs.Nexts.{nextOf}
 use Rattle.ol_ir.specs.Parts.{codeOf, headSize, partsIn, scanOf}
-use Rattle.ol_ir.specs.declared.Next.{Next}
+use Rattle.ol_ir.specs.Skips.{HeadSays}
+use Rattle.ol_ir.specs.declared.skip.Parts.{Parts}
 use Rattle.ol_ir.specs.declared.Next.the-variants as Nxt
-use Rattle.ol_ir.specs.declared.Counted.{Counted}
-use Rattle.ol_ir.specs.declared.Counted.the-variants as Cnt
 use Rattle.ol_ir.specs.declared.Scan.{Scan}
 use Rattle.ol_ir.specs.declared.Scan.the-variants as Scn
 use Rattle.ol_ir.proofs.Bytes.{byte-in, coded-is}
-use Rattle.ol_ir.proofs.Forms.{number-out, one-expr}
+use Rattle.ol_ir.proofs.Forms.{number-out}
 use Rattle.ol_ir.proofs.Sizes.{takes-expr}
-use Rattle.ol_ir.proofs.Trees.{then-got, deeper, expr-at}
+use Rattle.ol_ir.proofs.Trees.{then-got, expr-at}
 
 -- ---- names
 
@@ -69,22 +66,12 @@ module _ (s : List ℕ) (l : Limits) (enums d at : ℕ) (e : Expr) (n : ℕ) (g 
   pub scan-var : {x : ℕ} → getD s at 0 ≡ 4 → ((y m : ℕ) → nameR s (at + 1) ≡ got y m → x ≡ y) → Scn.Name x (at + 3) ≡ scanOf at e
   scan-var {x} b h = let w = var-at b in ap (λ y. Scn.Name y (at + 3)) (h (w .0) (w .1) (w .2)) ∙ ap (scanOf at) (sym (w .3))
 
-  module _ {x : Next} (nesting : ℕ) (b : getD s at 0 ≡ 8) (h : d ≤ nesting) (i : x ≡ nextOf (manyExprs 1 (exprR s l enums nesting) (at + 1))) where
-    operand-end : x ≡ Nxt.At n
-    unfolding nextOf
-    operand-end = let w = pre-at b in i ∙ one-expr (exprR s l enums nesting) (at + 1) ∙ ap nextOf (deeper s l enums (d - 1) nesting (at + 1) (omega arith) (w .1))
-
-    pub scan-pre : {q : ℕ} → x ≡ Nxt.At q → Scn.Parts 0 q ≡ scanOf at e
-    scan-pre {q} j =
-        let w = pre-at b in
-        let t = takes-expr s l enums (d - 1) .is (at + 1) (w .0) n (w .1) in
-        let k : Nxt.At q ≡ Nxt.At n = sym j ∙ operand-end in
-        let z : q ≡ n = cc in
-        let m : q ≡ at + 1 + exprSize (w .0) = omega (arith, t .ends, t .holds) in
-        ap (Scn.Parts 0) m ∙ ap (scanOf at) (sym (w .2))
-
-    pub scan-not-pre : {f : Fault} {z : Scan} → x ≡ Nxt.Refused f → z ≡ scanOf at e
-    scan-not-pre {f} j = let k : Nxt.Refused f ≡ Nxt.At n = sym j ∙ operand-end in let z : _≡_ {A = ℕ} 0 1 = cc in absurd (omega arith)
+  pub scan-pre : {q : ℕ} → getD s at 0 ≡ 8 → ((f : Expr) (m : ℕ) → exprR s l enums (d - 1) (at + 1) ≡ got f m → q ≡ m) → Scn.Parts 0 q ≡ scanOf at e
+  scan-pre {q} b h =
+      let w = pre-at b in
+      let t = takes-expr s l enums (d - 1) .is (at + 1) (w .0) n (w .1) in
+      let m : q ≡ at + 1 + exprSize (w .0) = omega (arith, h (w .0) n (w .1), t .ends, t .holds) in
+      ap (Scn.Parts 0) m ∙ ap (scanOf at) (sym (w .2))
 
   other : (e : Expr) → (codeOf e ≡ 4 → ⊥) → (codeOf e ≡ 8 → ⊥) → Scn.Parts (count (partsIn e)) (at + headSize e) ≡ scanOf at e
   other (boolLit b) u v = refl
@@ -101,21 +88,11 @@ module _ (s : List ℕ) (l : Limits) (enums d at : ℕ) (e : Expr) (n : ℕ) (g 
   other (call k es) u v = refl
   other (tuple es) u v = refl
 
-  module _ {x : Counted} (u : getD s at 0 ≡ 4 → ⊥) (v : getD s at 0 ≡ 8 → ⊥) (i : x ≡ countedOf (headR s l enums at)) where
-    head-found : x ≡ Cnt.Items (count (partsIn e)) (at + headSize e)
-    unfolding countedOf
-    head-found = i ∙ ap countedOf (expr-at s l enums d at e n g .head)
-
-    pub scan-parts : {k q : ℕ} → x ≡ Cnt.Items k q → Scn.Parts k q ≡ scanOf at e
-    scan-parts {k} {q} j =
-        let c = expr-at s l enums d at e n g .code in
-        let m : Cnt.Items k q ≡ Cnt.Items (count (partsIn e)) (at + headSize e) = sym j ∙ head-found in
-        let y : k ≡ count (partsIn e) = cc in
-        let z : q ≡ at + headSize e = cc in
-        rw (y, z) (other e (λ w. u (c ∙ w)) (λ w. v (c ∙ w)))
-
-    pub scan-no-parts : {f : Fault} {z : Scan} → x ≡ Cnt.Refused f → z ≡ scanOf at e
-    scan-no-parts {f} j = let m : Cnt.Refused f ≡ Cnt.Items (count (partsIn e)) (at + headSize e) = sym j ∙ head-found in let z : _≡_ {A = ℕ} 0 1 = cc in absurd (omega arith)
+  pub scan-parts : {r : Parts} → (getD s at 0 ≡ 4 → ⊥) → (getD s at 0 ≡ 8 → ⊥) → HeadSays s at r → Scn.Parts (r .count) (r .start) ≡ scanOf at e
+  scan-parts {r} u v h =
+      let c = expr-at s l enums d at e n g .code in
+      let k = h .is l enums d e n g in
+      rw (k .0, k .1) (other e (λ w. u (c ∙ w)) (λ w. v (c ∙ w)))
 
   -- no expression stands behind the end
   pub scan-end : {z : Scan} → length s ≤ at → z ≡ scanOf at e

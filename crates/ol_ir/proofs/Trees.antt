@@ -79,9 +79,6 @@ module _ (s : List ℕ) (l : Limits) (enums : ℕ) where
   keeps-deeper (suc k) zero h at = absurd (omega arith)
   keeps-deeper (suc k) (suc m) h at = after (coded s exprCodes at) _ _ (λ c n. keeps-body (exprR s l enums k) (exprR s l enums m) (λ p. keeps-deeper k m (omega arith) p) s l enums c n)
 
-  pub deeper : {e : Expr} {n : ℕ} (k m at : ℕ) → k ≤ m → exprR s l enums k at ≡ got e n → exprR s l enums m at ≡ got e n
-  deeper {e} {n} k m at h f = keeps-deeper k m h at .is e n f
-
   pub deeper-parts : {es : Exprs} {n : ℕ} (k m j at : ℕ) → k ≤ m → manyExprs j (exprR s l enums k) at ≡ got es n → manyExprs j (exprR s l enums m) at ≡ got es n
   deeper-parts {es} {n} k m j at h f = keeps-exprs (exprR s l enums k) (exprR s l enums m) (λ p. keeps-deeper k m h p) j at .is es n f
 

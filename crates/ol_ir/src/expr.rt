@@ -8,9 +8,11 @@ use super::read::count;
 use super::read::name;
 use super::read::refused;
 use super::read::uncounted;
+use super::skip::head_at;
+use super::skip::skip_expr;
 use super::types::ty;
 ghost use mathlib.Core.Path.{_≡_};
-ghost use Prim.Native.Nat.{ℕ, _≤_, _<_};
+ghost use Prim.Native.Nat.{ℕ, _<_};
 ghost use Rattle.ol_spec.specs.Read.{got, manyExprs, exprR};
 ghost use Rattle.ol_spec.specs.declared.Limits.{Limits};
 ghost use Rattle.ol_ir.specs.Nexts.{nextOf, countedOf, partsOf};
@@ -126,15 +128,8 @@ pub fn exprs(
 
 // What a scan for reads finds at an expression: a Var's name, nothing under Pre, the parts of any
 // other.
-pub fn scan(
-    file: &[u8],
-    arguments: usize,
-    items: usize,
-    enums: usize,
-    nesting: usize,
-    at: usize,
-) -> Scan
-    ensures { λ r. ⌜ ((l : Limits) (d : ℕ) (e : Expr) (n : ℕ) → l .arguments ≡ arguments → l .items ≡ items → d ≤ nesting → exprR (now (file .entry)) l enums d at ≡ got e n → r ≡ scanOf at e) ⌝ }
+pub fn scan(file: &[u8], at: usize) -> Scan
+    ensures { λ r. ⌜ ((l : Limits) (enums d : ℕ) (e : Expr) (n : ℕ) → exprR (now (file .entry)) l enums d at ≡ got e n → r ≡ scanOf at e) ⌝ }
     ensures { λ r. ⌜ ((x q : ℕ) → r ≡ Scan.Name x q → x < 65536) ⌝ }
 {
     if at < file.len() {
@@ -143,15 +138,10 @@ pub fn scan(
         if c == 4 {
             Scan::Name(name(file, p), at + 3)
         } else if c == 8 {
-            match exprs(file, arguments, items, enums, nesting, 1, p) {
-                Next::At(q) => Scan::Parts(0, q),
-                Next::Refused(f) => Scan::Refused(f),
-            }
+            Scan::Parts(0, skip_expr(file, p))
         } else {
-            match head(file, arguments, items, enums, at) {
-                Counted::Items(n, q) => Scan::Parts(n, q),
-                Counted::Refused(f) => Scan::Refused(f),
-            }
+            let h = head_at(file, at);
+            Scan::Parts(h.count, h.start)
         }
     } else {
         Scan::Parts(0, at)

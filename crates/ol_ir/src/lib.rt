@@ -4,6 +4,7 @@ use ol_spec::Fault;
 pub mod read; // read.rt: bytes, codes and counts
 pub mod types; // types.rt: types
 pub mod expr; // expr.rt: expressions
+pub mod skip; // skip.rt: expressions and equations passed over
 pub mod node; // node.rt: variables, equations and nodes
 pub mod project; // project.rt: enums, constants and the whole file
 
@@ -36,5 +37,4 @@ pub enum Loaded {
 pub enum Scan {
     Name(usize, usize),
     Parts(usize, usize),
-    Refused(Fault),
 }

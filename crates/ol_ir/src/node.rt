@@ -6,14 +6,15 @@ use super::read::bytes;
 use super::read::code;
 use super::read::count;
 use super::read::keep;
+use super::skip::skip_equation;
 use super::types::ty;
 use ol_spec::Limits;
 ghost use lib.Seq.{sets};
-ghost use mathlib.Core.List.{map};
+ghost use mathlib.Core.List.{List, map};
 ghost use mathlib.Core.Path.{_≡_};
 ghost use Prim.Native.Nat.{ℕ, _+_};
 ghost use lib.ListN.{length};
-ghost use Rattle.ol_spec.specs.Syntax.{Node};
+ghost use Rattle.ol_spec.specs.Syntax.{Equation, Node};
 ghost use Rattle.ol_spec.specs.Places.{equationsStart, placedEquations};
 ghost use Rattle.ol_spec.specs.Read.{got, many, nameR, sectionR, variableR, equationR, nodeR};
 ghost use Rattle.ol_ir.specs.Nexts.{nextOf};
@@ -163,15 +164,8 @@ pub fn node(file: &[u8], limits: Limits, enums: usize, at: usize) -> Next
 }
 
 // Where so many equations start: entry k of the table gets equation k's place.
-fn equation_places(
-    file: &[u8],
-    limits: Limits,
-    enums: usize,
-    count: usize,
-    at: usize,
-    starts: &mut [usize],
-)
-    ensures { λ _. ⌜ now (starts .exit) ≡ sets (now (starts .entry)) 0 (placesOf count (equationR (now (file .entry)) limits enums) at) ⌝ }
+fn equation_places(file: &[u8], count: usize, at: usize, starts: &mut [usize])
+    ensures { λ _. ⌜ ((l : Limits) (enums : ℕ) (qs : List Equation) (end : ℕ) → many count (equationR (now (file .entry)) l enums) at ≡ got qs end → now (starts .exit) ≡ sets (now (starts .entry)) 0 (placesOf count (equationR (now (file .entry)) l enums) at)) ⌝ }
 {
     let mut next = at;
     let mut left = count;
@@ -180,22 +174,7 @@ fn equation_places(
         keep(starts, i, next);
         left -= 1;
         i += 1;
-        match equation(
-            file,
-            limits.names,
-            limits.nesting,
-            limits.arguments,
-            limits.items,
-            enums,
-            next,
-        ) {
-            Next::At(p) => {
-                next = p;
-            }
-            Next::Refused(_) => {
-                return;
-            }
-        }
+        next = skip_equation(file, next);
     }
 }
 
@@ -213,7 +192,7 @@ pub fn equation_starts(
     match interface(file, limits, enums, at) {
         Next::At(p) => match count(file, 0, limits.equations, p) {
             Counted::Items(n, q) => {
-                equation_places(file, limits, enums, n, q, starts);
+                equation_places(file, n, q, starts);
                 Counted::Items(n, q)
             }
             Counted::Refused(f) => Counted::Refused(f),

@@ -1,5 +1,5 @@
 -- The scan for an expression's reads: what is left to scan are expressions, one behind the other.
-use Prim.Native.Nat.{ℕ, zero, suc, _+_, _-_, _≤_, _<_}
+use Prim.Native.Nat.{ℕ, _+_, _-_, _≤_, _<_}
 use mathlib.Core.Bool.{Bool, true, false, _&&_}
 use mathlib.Core.List.{List, [], _∷_, _++_, append-nil, append-assoc}
 use mathlib.Core.Logic.{_⊎_, inl, inr, ⊎-elim}
@@ -9,76 +9,22 @@ use lib.ListN.{length}
 use Rattle.ol_spec.specs.Lists.{allOf}
 use Rattle.ol_spec.specs.Syntax.{Expr, boolLit, intLit, floatLit, charLit, var, unary, binary, ifThenElse, pre, arrow, cast, call, tuple, Exprs, nil}
 use Rattle.ol_spec.specs.Syntax.{cons, count}
-use Rattle.ol_spec.specs.Places.{exprSize, exprsSize}
+use Rattle.ol_spec.specs.Places.{exprSize}
 use Rattle.ol_spec.specs.Read.{got, Reader, manyExprs, exprR}
 use Rattle.ol_spec.specs.Order.{reads, readsAll}
-use Rattle.ol_spec.specs.declared.Fault.{Fault}
 use Rattle.ol_spec.specs.declared.Limits.{Limits}
-use Rattle.ol_spec.proofs.Offsets.{steps, same-end, same-item}
 use Rattle.ol_ir.specs.Parts.{headSize, partsIn, scanOf}
 use Rattle.ol_ir.specs.declared.Scan.{Scan}
 use Rattle.ol_ir.specs.declared.Scan.the-variants as Scn
 use Rattle.ol_ir.proofs.Sizes.{takes-expr, takes-exprs}
+use Rattle.ol_ir.proofs.Skips.{join, many-first, many-join, many-none, some-size, count-size}
 use Rattle.ol_ir.proofs.Trees.{many-cons, deeper-parts, expr-at}
 
 -- ---- lists of expressions
 
-abbrev join : Exprs → Exprs → Exprs
-join nil ys = ys
-join (cons x xs) ys = cons x (join xs ys)
-
 reads-join : (xs ys : Exprs) → readsAll (join xs ys) ≡ readsAll xs ++ readsAll ys
 reads-join nil ys = refl
 reads-join (cons x xs) ys = ap (λ l. reads x ++ l) (reads-join xs ys) ∙ sym (append-assoc (reads x) (readsAll xs) (readsAll ys))
-
-module _ (r : Reader Expr) where
-  -- the first of those that were read, and the rest
-  many-first : (left at : ℕ) (es : Exprs) (m : ℕ) → 0 < left → manyExprs left r at ≡ got es m → (e : Expr) × (rest : Exprs) × (p : ℕ) × (r at ≡ got e p) × (manyExprs (left - 1) r p ≡ got rest m) × (cons e rest ≡ es)
-  unfolding manyExprs
-  many-first zero at es m h f = absurd (omega arith)
-  many-first (suc k) at es m h f =
-      let t = steps (r at) _ es m f in
-      let u = steps (manyExprs k r (t .at)) _ es m (t .rest) in
-      let one : suc k - 1 ≡ k = omega arith in
-      (t .value, u .value, t .at, t .first, rw one (u .first ∙ ap (got (u .value)) (same-end (u .rest))), same-item (u .rest))
-
-  many-join : (k at : ℕ) (xs ys : Exprs) (p j m : ℕ) → manyExprs k r at ≡ got xs p → manyExprs j r p ≡ got ys m → manyExprs (k + j) r at ≡ got (join xs ys) m
-  unfolding manyExprs
-  many-join zero at xs ys p j m f g =
-      let z : 0 + j ≡ j = omega arith in
-      let b : at ≡ p = same-end f in
-      rw z (subst (λ q. manyExprs j r q ≡ got ys m) (sym b) g ∙ ap (λ v. got (join v ys) m) (same-item f))
-  many-join (suc k) at xs ys p j m f g =
-      let t = steps (r at) _ xs p f in
-      let u = steps (manyExprs k r (t .at)) _ xs p (t .rest) in
-      let z : suc k + j ≡ suc (k + j) = omega arith in
-      let w = many-join k (t .at) (u .value) ys p j m (u .first ∙ ap (got (u .value)) (same-end (u .rest))) g in
-      rw z (many-cons r (k + j) at (t .first) w ∙ ap (λ v. got (join v ys) m) (same-item (u .rest)))
-
-  many-none : (left at : ℕ) (es : Exprs) (m : ℕ) → left ≤ 0 → manyExprs left r at ≡ got es m → es ≡ nil
-  unfolding manyExprs
-  many-none zero at es m h f = sym (same-item f)
-  many-none (suc k) at es m h f = absurd (omega arith)
-
--- an expression has a byte at least
-some-size : (e : Expr) → 1 ≤ exprSize e
-some-size (boolLit b) = omega arith
-some-size (intLit i) = omega arith
-some-size (floatLit b) = omega arith
-some-size (charLit c) = omega arith
-some-size (var x) = omega arith
-some-size (unary op e) = omega arith
-some-size (binary op l r) = omega arith
-some-size (ifThenElse c t e) = omega arith
-some-size (pre e) = omega arith
-some-size (arrow a b) = omega arith
-some-size (cast t e) = omega arith
-some-size (call k es) = omega arith
-some-size (tuple es) = omega arith
-
-count-size : (es : Exprs) → count es ≤ exprsSize es
-count-size nil = omega arith
-count-size (cons e es) = omega (arith, some-size e, count-size es)
 
 -- ---- a step of the scan
 
@@ -154,7 +100,7 @@ module _ (s : List ℕ) (l : Limits) (enums : ℕ) (P : ℕ → Bool) where
 
   module _ {want : Bool} {left at : ℕ} (pd : Pending s l enums want P left at) where
     pub pending-done : left ≤ 0 → want ≡ true
-    pending-done h = pd .is ∙ ap (λ v. allOf P (readsAll v)) (many-none (exprR s l enums (l .nesting)) left at (pd .exprs) (pd .end) h (pd .read))
+    pending-done h = pd .is ∙ ap (λ v. allOf P (readsAll v)) (many-none (exprR s l enums (l .nesting)) left at (pd .exprs) (pd .end) h (pd .read) .0)
 
     module _ {x : Scan} (u : 0 < left) (c : (e : Expr) (n : ℕ) → exprR s l enums (l .nesting) at ≡ got e n → x ≡ scanOf at e) where
       abbrev first : (e : Expr) × (rest : Exprs) × (p : ℕ) × (exprR s l enums (l .nesting) at ≡ got e p) × (manyExprs (left - 1) (exprR s l enums (l .nesting)) p ≡ got rest (pd .end)) × (cons e rest ≡ pd .exprs)
@@ -253,13 +199,3 @@ module _ (s : List ℕ) (l : Limits) (enums : ℕ) (P : ℕ → Bool) where
                   ∙ ap (allOf P) (sym (reads-join (split .0) (first .1)))));
               inside = omega (arith, parts-few);
             }
-
-      -- it is no fault
-      pub not-refused : {f : Fault} {t : Type 0} → x ≡ Scn.Refused f → t
-      not-refused {f} {t} g = ⊎-elim one two (step-of s l enums (l .nesting) at (first .2) (first .0) (first .3))
-        where
-          one : Found at (first .0) (first .2) → t
-          one w = let h : Scn.Refused f ≡ Scn.Name (w .0) (first .2) = sym g ∙ (scanned ∙ w .1) in let z : _≡_ {A = ℕ} 0 1 = cc in absurd (omega arith)
-
-          two : Parted s l enums (l .nesting) at (first .0) (first .2) → t
-          two w = let h : Scn.Refused f ≡ Scn.Parts (w .0) (w .1) = sym g ∙ (scanned ∙ w .3) in let z : _≡_ {A = ℕ} 0 1 = cc in absurd (omega arith)

@@ -136,14 +136,7 @@ fn pass(
                 let mut left: usize = 1;
                 while 0 < left {
                     left -= 1;
-                    match scan(
-                        file,
-                        limits.arguments,
-                        limits.items,
-                        enums,
-                        limits.nesting,
-                        at,
-                    ) {
+                    match scan(file, at) {
                         Scan::Name(x, q) => {
                             if waits(definers, placed, x) {
                                 continue 'equations;
@@ -153,9 +146,6 @@ fn pass(
                         Scan::Parts(m, q) => {
                             left += m;
                             at = q;
-                        }
-                        Scan::Refused(_) => {
-                            continue 'equations;
                         }
                     }
                 }

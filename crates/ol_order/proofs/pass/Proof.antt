@@ -1,13 +1,12 @@
 -- `ol_order::pass` meets its contract.
 use Prim.Native.Nat.{_-_}
-use mathlib.Core.Path.{refl, sym, _∙_}
+use mathlib.Core.Path.{sym, _∙_}
 use native.Mathlib.Omega.{arith}
 use lib.ListN.{length, take}
 use borrow.Author.Needs.{needs}
 use Rattle.ol_spec.specs.Order.{pass}
 use Rattle.ol_order.proofs.Flags.{settled, room-for}
-use Rattle.ol_order.proofs.Scanning.{Pending, pending-done, in-file, name-after, name-settled, name-waits, parts-after, parts-few}
-use Rattle.ol_order.proofs.Scanning.{parts-pending, not-refused}
+use Rattle.ol_order.proofs.Scanning.{Pending, pending-done, in-file, name-after, name-settled, name-waits, parts-after, parts-few, parts-pending}
 use Rattle.ol_order.proofs.Passing.{Passing, passing-start, passing-end, passing-placed, passing-waits, passing-ready}
 use Rattle.ol_order.proofs.Turns.{equations, as-many, readyAt, ready-here, scan-start, no-names, is-settled, is-waiting}
 use Rattle.ol_order.proofs.pass.Statement.{statement}
@@ -75,17 +74,17 @@ equations-less c = omega (arith, c .before .before .before .before .before .befo
 equations-again : tie.Need-equations-again Inv-loop μ-loop Inv-equations μ-equations
 equations-again c =
     let start = c .before .before .before .before .before .before .before .before .before .before .before .before .before .before .before .before .before .before .before .before .before .before .before in
-    passing-waits (equations (start .args .file .now) (start .args .limits) (start .args .enums) (start .args .starts .now)) (c .before .before .before .before .before .before .before .before .before .before .before .before .before .before .before .before .before .equations .inv) ((omega (arith, (as-many (start .args .file .now) (start .args .limits) (start .args .enums) (start .args .starts .now)), c .before .before .before .before .before .before .before .before .before .before .before .before .before .before .before .before .equations-test .taken))) ((ready-here (start .args .file .now) (start .args .limits) (start .args .enums) (start .args .starts .now) (take (c .before .before .before .before .before .before .before .before .before .before .before .before .before .before .before .before .before .equations .n) (c .before .before .before .before .before .before .before .before .before .before .before .before .before .before .before .before .before .equations .order)) (c .before .before .before .before .before .before .before .before .before .before .before .before .before .before .before .before .before .equations .i) (c .before .before .before .before .before .before .before .before .before .before .before .before .before .before .before .before .equations-test .taken)) (name-waits (start .args .file .now) (start .args .limits) (start .args .enums) (settled (equations (start .args .file .now) (start .args .limits) (start .args .enums) (start .args .starts .now)) (take (c .before .before .before .before .before .before .before .before .before .before .before .before .before .before .before .before .before .equations .n) (c .before .before .before .before .before .before .before .before .before .before .before .before .before .before .before .before .before .equations .order))) (c .before .before .before .before .before .before .before .before .loop .inv) (c .before .before .before .before .before .before .before .loop-test .taken) (λ e n f. c .before .before .before .before .before .before .scan .ensures .0 (start .args .limits) (start .args .limits .nesting) e n refl refl (omega arith) f) (c .before .before .before .before .x .given .1) (is-waiting (start .args .file .now) (start .args .limits) (start .args .enums) (start .args .starts .now) (start .pre .0) (c .before .before .before .before .before .before .before .before .before .before .before .before .before .before .before .before .before .equations .inv .state) (start .pre .1 .0) (c .before .before .before .before .x .given .0 .0) ((c .before .before .before .before .before .before .scan .ensures .1 _ _ (c .before .before .before .before .x .given .1))) (c .before .waits .ensures) (c .if2 .taken))))
+    passing-waits (equations (start .args .file .now) (start .args .limits) (start .args .enums) (start .args .starts .now)) (c .before .before .before .before .before .before .before .before .before .before .before .before .before .before .before .before .before .equations .inv) ((omega (arith, (as-many (start .args .file .now) (start .args .limits) (start .args .enums) (start .args .starts .now)), c .before .before .before .before .before .before .before .before .before .before .before .before .before .before .before .before .equations-test .taken))) ((ready-here (start .args .file .now) (start .args .limits) (start .args .enums) (start .args .starts .now) (take (c .before .before .before .before .before .before .before .before .before .before .before .before .before .before .before .before .before .equations .n) (c .before .before .before .before .before .before .before .before .before .before .before .before .before .before .before .before .before .equations .order)) (c .before .before .before .before .before .before .before .before .before .before .before .before .before .before .before .before .before .equations .i) (c .before .before .before .before .before .before .before .before .before .before .before .before .before .before .before .before .equations-test .taken)) (name-waits (start .args .file .now) (start .args .limits) (start .args .enums) (settled (equations (start .args .file .now) (start .args .limits) (start .args .enums) (start .args .starts .now)) (take (c .before .before .before .before .before .before .before .before .before .before .before .before .before .before .before .before .before .equations .n) (c .before .before .before .before .before .before .before .before .before .before .before .before .before .before .before .before .before .equations .order))) (c .before .before .before .before .before .before .before .before .loop .inv) (c .before .before .before .before .before .before .before .loop-test .taken) (λ e n f. c .before .before .before .before .before .before .scan .ensures .0 (start .args .limits) (start .args .enums) (start .args .limits .nesting) e n f) (c .before .before .before .before .x .given .1) (is-waiting (start .args .file .now) (start .args .limits) (start .args .enums) (start .args .starts .now) (start .pre .0) (c .before .before .before .before .before .before .before .before .before .before .before .before .before .before .before .before .before .equations .inv .state) (start .pre .1 .0) (c .before .before .before .before .x .given .0 .0) ((c .before .before .before .before .before .before .scan .ensures .1 _ _ (c .before .before .before .before .x .given .1))) (c .before .waits .ensures) (c .if2 .taken))))
 
 loop-less : tie.Need-loop-less Inv-loop μ-loop Inv-equations μ-equations
 loop-less c =
     let start = c .before .before .before .before .before .before .before .before .before .before .before .before .before .before .before .before .before .before .before .before .before .before .before in
-    omega (arith, name-after (start .args .file .now) (start .args .limits) (start .args .enums) (settled (equations (start .args .file .now) (start .args .limits) (start .args .enums) (start .args .starts .now)) (take (c .before .before .before .before .before .before .before .before .before .before .before .before .before .before .before .before .before .equations .n) (c .before .before .before .before .before .before .before .before .before .before .before .before .before .before .before .before .before .equations .order))) (c .before .before .before .before .before .before .before .before .loop .inv) (c .before .before .before .before .before .before .before .loop-test .taken) (λ e n f. c .before .before .before .before .before .before .scan .ensures .0 (start .args .limits) (start .args .limits .nesting) e n refl refl (omega arith) f) (c .before .before .before .before .x .given .1), in-file (start .args .file .now) (start .args .limits) (start .args .enums) (settled (equations (start .args .file .now) (start .args .limits) (start .args .enums) (start .args .starts .now)) (take (c .before .before .before .before .before .before .before .before .before .before .before .before .before .before .before .before .before .equations .n) (c .before .before .before .before .before .before .before .before .before .before .before .before .before .before .before .before .before .equations .order))) (c .before .before .before .before .before .before .before .before .loop .inv) (c .before .before .before .before .before .before .before .loop-test .taken) (λ e n f. c .before .before .before .before .before .before .scan .ensures .0 (start .args .limits) (start .args .limits .nesting) e n refl refl (omega arith) f))
+    omega (arith, name-after (start .args .file .now) (start .args .limits) (start .args .enums) (settled (equations (start .args .file .now) (start .args .limits) (start .args .enums) (start .args .starts .now)) (take (c .before .before .before .before .before .before .before .before .before .before .before .before .before .before .before .before .before .equations .n) (c .before .before .before .before .before .before .before .before .before .before .before .before .before .before .before .before .before .equations .order))) (c .before .before .before .before .before .before .before .before .loop .inv) (c .before .before .before .before .before .before .before .loop-test .taken) (λ e n f. c .before .before .before .before .before .before .scan .ensures .0 (start .args .limits) (start .args .enums) (start .args .limits .nesting) e n f) (c .before .before .before .before .x .given .1), in-file (start .args .file .now) (start .args .limits) (start .args .enums) (settled (equations (start .args .file .now) (start .args .limits) (start .args .enums) (start .args .starts .now)) (take (c .before .before .before .before .before .before .before .before .before .before .before .before .before .before .before .before .before .equations .n) (c .before .before .before .before .before .before .before .before .before .before .before .before .before .before .before .before .before .equations .order))) (c .before .before .before .before .before .before .before .before .loop .inv) (c .before .before .before .before .before .before .before .loop-test .taken) (λ e n f. c .before .before .before .before .before .before .scan .ensures .0 (start .args .limits) (start .args .enums) (start .args .limits .nesting) e n f))
 
 loop-again : tie.Need-loop-again Inv-loop μ-loop Inv-equations μ-equations
 loop-again c =
     let start = c .before .before .before .before .before .before .before .before .before .before .before .before .before .before .before .before .before .before .before .before .before .before .before in
-    name-settled (start .args .file .now) (start .args .limits) (start .args .enums) (settled (equations (start .args .file .now) (start .args .limits) (start .args .enums) (start .args .starts .now)) (take (c .before .before .before .before .before .before .before .before .before .before .before .before .before .before .before .before .before .equations .n) (c .before .before .before .before .before .before .before .before .before .before .before .before .before .before .before .before .before .equations .order))) (c .before .before .before .before .before .before .before .before .loop .inv) (c .before .before .before .before .before .before .before .loop-test .taken) (λ e n f. c .before .before .before .before .before .before .scan .ensures .0 (start .args .limits) (start .args .limits .nesting) e n refl refl (omega arith) f) (c .before .before .before .before .x .given .1) (is-settled (start .args .file .now) (start .args .limits) (start .args .enums) (start .args .starts .now) (start .pre .0) (c .before .before .before .before .before .before .before .before .before .before .before .before .before .before .before .before .before .equations .inv .state) (start .pre .1 .0) (c .before .before .before .before .x .given .0 .0) ((c .before .before .before .before .before .before .scan .ensures .1 _ _ (c .before .before .before .before .x .given .1))) (c .before .waits .ensures) (c .if2 .left))
+    name-settled (start .args .file .now) (start .args .limits) (start .args .enums) (settled (equations (start .args .file .now) (start .args .limits) (start .args .enums) (start .args .starts .now)) (take (c .before .before .before .before .before .before .before .before .before .before .before .before .before .before .before .before .before .equations .n) (c .before .before .before .before .before .before .before .before .before .before .before .before .before .before .before .before .before .equations .order))) (c .before .before .before .before .before .before .before .before .loop .inv) (c .before .before .before .before .before .before .before .loop-test .taken) (λ e n f. c .before .before .before .before .before .before .scan .ensures .0 (start .args .limits) (start .args .enums) (start .args .limits .nesting) e n f) (c .before .before .before .before .x .given .1) (is-settled (start .args .file .now) (start .args .limits) (start .args .enums) (start .args .starts .now) (start .pre .0) (c .before .before .before .before .before .before .before .before .before .before .before .before .before .before .before .before .before .equations .inv .state) (start .pre .1 .0) (c .before .before .before .before .x .given .0 .0) ((c .before .before .before .before .before .before .scan .ensures .1 _ _ (c .before .before .before .before .x .given .1))) (c .before .waits .ensures) (c .if2 .left))
 
 enum-known-m : tie.Need-enum-known-m Inv-loop μ-loop Inv-equations μ-equations
 enum-known-m c = search needs
@@ -93,28 +92,17 @@ enum-known-m c = search needs
 add-left : tie.Need-add-left Inv-loop μ-loop Inv-equations μ-equations
 add-left c =
     let start = c .before .before .before .before .before .before .before .before .before .before .before .before .before .before .before .before .before .before .before .before in
-    omega (arith, parts-few (start .args .file .now) (start .args .limits) (start .args .enums) (settled (equations (start .args .file .now) (start .args .limits) (start .args .enums) (start .args .starts .now)) (take (c .before .before .before .before .before .before .before .before .before .before .before .before .before .before .equations .n) (c .before .before .before .before .before .before .before .before .before .before .before .before .before .before .equations .order))) (c .before .before .before .before .before .loop .inv) (c .before .before .before .before .loop-test .taken) (λ e n f. c .before .before .before .scan .ensures .0 (start .args .limits) (start .args .limits .nesting) e n refl refl (omega arith) f) (c .before .m .given .1))
+    omega (arith, parts-few (start .args .file .now) (start .args .limits) (start .args .enums) (settled (equations (start .args .file .now) (start .args .limits) (start .args .enums) (start .args .starts .now)) (take (c .before .before .before .before .before .before .before .before .before .before .before .before .before .before .equations .n) (c .before .before .before .before .before .before .before .before .before .before .before .before .before .before .equations .order))) (c .before .before .before .before .before .loop .inv) (c .before .before .before .before .loop-test .taken) (λ e n f. c .before .before .before .scan .ensures .0 (start .args .limits) (start .args .enums) (start .args .limits .nesting) e n f) (c .before .m .given .1))
 
 loop-less-2 : tie.Need-loop-less-2 Inv-loop μ-loop Inv-equations μ-equations
 loop-less-2 c =
     let start = c .before .before .before .before .before .before .before .before .before .before .before .before .before .before .before .before .before .before .before .before in
-    omega (arith, parts-after (start .args .file .now) (start .args .limits) (start .args .enums) (settled (equations (start .args .file .now) (start .args .limits) (start .args .enums) (start .args .starts .now)) (take (c .before .before .before .before .before .before .before .before .before .before .before .before .before .before .equations .n) (c .before .before .before .before .before .before .before .before .before .before .before .before .before .before .equations .order))) (c .before .before .before .before .before .loop .inv) (c .before .before .before .before .loop-test .taken) (λ e n f. c .before .before .before .scan .ensures .0 (start .args .limits) (start .args .limits .nesting) e n refl refl (omega arith) f) (c .before .m .given .1), in-file (start .args .file .now) (start .args .limits) (start .args .enums) (settled (equations (start .args .file .now) (start .args .limits) (start .args .enums) (start .args .starts .now)) (take (c .before .before .before .before .before .before .before .before .before .before .before .before .before .before .equations .n) (c .before .before .before .before .before .before .before .before .before .before .before .before .before .before .equations .order))) (c .before .before .before .before .before .loop .inv) (c .before .before .before .before .loop-test .taken) (λ e n f. c .before .before .before .scan .ensures .0 (start .args .limits) (start .args .limits .nesting) e n refl refl (omega arith) f))
+    omega (arith, parts-after (start .args .file .now) (start .args .limits) (start .args .enums) (settled (equations (start .args .file .now) (start .args .limits) (start .args .enums) (start .args .starts .now)) (take (c .before .before .before .before .before .before .before .before .before .before .before .before .before .before .equations .n) (c .before .before .before .before .before .before .before .before .before .before .before .before .before .before .equations .order))) (c .before .before .before .before .before .loop .inv) (c .before .before .before .before .loop-test .taken) (λ e n f. c .before .before .before .scan .ensures .0 (start .args .limits) (start .args .enums) (start .args .limits .nesting) e n f) (c .before .m .given .1), in-file (start .args .file .now) (start .args .limits) (start .args .enums) (settled (equations (start .args .file .now) (start .args .limits) (start .args .enums) (start .args .starts .now)) (take (c .before .before .before .before .before .before .before .before .before .before .before .before .before .before .equations .n) (c .before .before .before .before .before .before .before .before .before .before .before .before .before .before .equations .order))) (c .before .before .before .before .before .loop .inv) (c .before .before .before .before .loop-test .taken) (λ e n f. c .before .before .before .scan .ensures .0 (start .args .limits) (start .args .enums) (start .args .limits .nesting) e n f))
 
 loop-again-2 : tie.Need-loop-again-2 Inv-loop μ-loop Inv-equations μ-equations
 loop-again-2 c =
     let start = c .before .before .before .before .before .before .before .before .before .before .before .before .before .before .before .before .before .before .before .before in
-    parts-pending (start .args .file .now) (start .args .limits) (start .args .enums) (settled (equations (start .args .file .now) (start .args .limits) (start .args .enums) (start .args .starts .now)) (take (c .before .before .before .before .before .before .before .before .before .before .before .before .before .before .equations .n) (c .before .before .before .before .before .before .before .before .before .before .before .before .before .before .equations .order))) (c .before .before .before .before .before .loop .inv) (c .before .before .before .before .loop-test .taken) (λ e n f. c .before .before .before .scan .ensures .0 (start .args .limits) (start .args .limits .nesting) e n refl refl (omega arith) f) (c .before .m .given .1)
-
-enum-told : tie.Need-enum-told Inv-loop μ-loop Inv-equations μ-equations
-enum-told c = search needs
-
-equations-less-2 : tie.Need-equations-less-2 Inv-loop μ-loop Inv-equations μ-equations
-equations-less-2 c = omega (arith, c .before .before .before .before .before .before .before .before .before .before .before .before .equations-test .taken)
-
-equations-again-2 : tie.Need-equations-again-2 Inv-loop μ-loop Inv-equations μ-equations
-equations-again-2 c =
-    let start = c .before .before .before .before .before .before .before .before .before .before .before .before .before .before .before .before .before .before .before in
-    not-refused (start .args .file .now) (start .args .limits) (start .args .enums) (settled (equations (start .args .file .now) (start .args .limits) (start .args .enums) (start .args .starts .now)) (take (c .before .before .before .before .before .before .before .before .before .before .before .before .before .equations .n) (c .before .before .before .before .before .before .before .before .before .before .before .before .before .equations .order))) (c .before .before .before .before .loop .inv) (c .before .before .before .loop-test .taken) (λ e n f. c .before .before .scan .ensures .0 (start .args .limits) (start .args .limits .nesting) e n refl refl (omega arith) f) (c .enum-told .given .1)
+    parts-pending (start .args .file .now) (start .args .limits) (start .args .enums) (settled (equations (start .args .file .now) (start .args .limits) (start .args .enums) (start .args .starts .now)) (take (c .before .before .before .before .before .before .before .before .before .before .before .before .before .before .equations .n) (c .before .before .before .before .before .before .before .before .before .before .before .before .before .before .equations .order))) (c .before .before .before .before .before .loop .inv) (c .before .before .before .before .loop-test .taken) (λ e n f. c .before .before .before .scan .ensures .0 (start .args .limits) (start .args .enums) (start .args .limits .nesting) e n f) (c .before .m .given .1)
 
 slice-write-placed : tie.Need-slice-write-placed Inv-loop μ-loop Inv-equations μ-equations
 slice-write-placed c =
@@ -136,30 +124,30 @@ add-n c =
     let start = c .before .before .before .before .before .before .before .before .before .before .before .before .before .before .before .before in
     omega (arith, room-for (c .before .before .before .before .before .before .before .before .before .before .equations .inv .state) (c .before .before .before .before .before .before .before .before .before .before .equations .i) ((omega (arith, (as-many (start .args .file .now) (start .args .limits) (start .args .enums) (start .args .starts .now)), c .before .before .before .before .before .before .before .before .before .equations-test .taken, c .before .before .before .before .before .before .before .before .before .before .equations .inv .state .flagged))) (c .before .before .before .before .before .before .before .if1 .taken))
 
-equations-less-3 : tie.Need-equations-less-3 Inv-loop μ-loop Inv-equations μ-equations
-equations-less-3 c = omega (arith, c .before .before .before .before .before .before .before .before .before .equations-test .taken)
+equations-less-2 : tie.Need-equations-less-2 Inv-loop μ-loop Inv-equations μ-equations
+equations-less-2 c = omega (arith, c .before .before .before .before .before .before .before .before .before .equations-test .taken)
 
-equations-again-3 : tie.Need-equations-again-3 Inv-loop μ-loop Inv-equations μ-equations
-equations-again-3 c =
+equations-again-2 : tie.Need-equations-again-2 Inv-loop μ-loop Inv-equations μ-equations
+equations-again-2 c =
     let start = c .before .before .before .before .before .before .before .before .before .before .before .before .before .before .before .before in
     passing-ready (equations (start .args .file .now) (start .args .limits) (start .args .enums) (start .args .starts .now)) (c .before .before .before .before .before .before .before .before .before .before .equations .inv) ((omega (arith, (as-many (start .args .file .now) (start .args .limits) (start .args .enums) (start .args .starts .now)), c .before .before .before .before .before .before .before .before .before .equations-test .taken))) (c .before .before .before .before .before .before .before .if1 .taken) ((ready-here (start .args .file .now) (start .args .limits) (start .args .enums) (start .args .starts .now) (take (c .before .before .before .before .before .before .before .before .before .before .equations .n) (c .before .before .before .before .before .before .before .before .before .before .equations .order)) (c .before .before .before .before .before .before .before .before .before .before .equations .i) (c .before .before .before .before .before .before .before .before .before .equations-test .taken)) (pending-done (start .args .file .now) (start .args .limits) (start .args .enums) (settled (equations (start .args .file .now) (start .args .limits) (start .args .enums) (start .args .starts .now)) (take (c .before .before .before .before .before .before .before .before .before .before .equations .n) (c .before .before .before .before .before .before .before .before .before .before .equations .order))) (c .before .loop .inv) (c .loop-test .left)))
 
-enum-told-2 : tie.Need-enum-told-2 Inv-loop μ-loop Inv-equations μ-equations
-enum-told-2 c = search needs
+enum-told : tie.Need-enum-told Inv-loop μ-loop Inv-equations μ-equations
+enum-told c = search needs
+
+equations-less-3 : tie.Need-equations-less-3 Inv-loop μ-loop Inv-equations μ-equations
+equations-less-3 c = omega (arith, c .before .before .before .before .before .before .equations-test .taken)
+
+equations-again-3 : tie.Need-equations-again-3 Inv-loop μ-loop Inv-equations μ-equations
+equations-again-3 c =
+    let start = c .before .before .before .before .before .before .before .before .before .before .before .before .before in
+    no-names (start .args .file .now) (start .args .limits) (start .args .enums) (start .args .starts .now) (start .pre .0) (c .before .before .before .before .before .before .before .equations .i) (c .before .before .before .before .before .before .equations-test .taken) (c .before .before .names .ensures) (c .enum-told .given .1)
 
 equations-less-4 : tie.Need-equations-less-4 Inv-loop μ-loop Inv-equations μ-equations
-equations-less-4 c = omega (arith, c .before .before .before .before .before .before .equations-test .taken)
+equations-less-4 c = omega (arith, c .before .before .equations-test .taken)
 
 equations-again-4 : tie.Need-equations-again-4 Inv-loop μ-loop Inv-equations μ-equations
 equations-again-4 c =
-    let start = c .before .before .before .before .before .before .before .before .before .before .before .before .before in
-    no-names (start .args .file .now) (start .args .limits) (start .args .enums) (start .args .starts .now) (start .pre .0) (c .before .before .before .before .before .before .before .equations .i) (c .before .before .before .before .before .before .equations-test .taken) (c .before .before .names .ensures) (c .enum-told2 .given .1)
-
-equations-less-5 : tie.Need-equations-less-5 Inv-loop μ-loop Inv-equations μ-equations
-equations-less-5 c = omega (arith, c .before .before .equations-test .taken)
-
-equations-again-5 : tie.Need-equations-again-5 Inv-loop μ-loop Inv-equations μ-equations
-equations-again-5 c =
     let start = c .before .before .before .before .before .before .before .before .before in
     passing-placed (equations (start .args .file .now) (start .args .limits) (start .args .enums) (start .args .starts .now)) (c .before .before .before .equations .inv) ((omega (arith, (as-many (start .args .file .now) (start .args .limits) (start .args .enums) (start .args .starts .now)), c .before .before .equations-test .taken))) (c .if1 .left)
 
@@ -206,20 +194,17 @@ pass-spec =
     add-left
     loop-less-2
     loop-again-2
-    enum-told
-    equations-less-2
-    equations-again-2
     slice-write-placed
     mul-order
     slice-write-order
     add-n
+    equations-less-2
+    equations-again-2
+    enum-told
     equations-less-3
     equations-again-3
-    enum-told-2
     equations-less-4
     equations-again-4
-    equations-less-5
-    equations-again-5
     same-length
     same-length-2
     returns)

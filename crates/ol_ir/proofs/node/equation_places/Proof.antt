@@ -1,26 +1,30 @@
 -- `ol_ir::node::equation_places` meets its contract.
-use Prim.Native.Nat.{_+_}
+use Prim.Native.Nat.{ℕ, _+_}
+use mathlib.Core.List.{List}
 use mathlib.Core.Path.{_≡_, refl, _∙_}
 use native.Mathlib.Omega.{arith}
 use lib.ListN.{length}
 use lib.Seq.{sets}
 use borrow.Author.Needs.{needs}
-use Rattle.ol_spec.specs.Read.{equationR}
+use Rattle.ol_spec.specs.Syntax.{Equation}
+use Rattle.ol_spec.specs.Read.{got, many, equationR}
+use Rattle.ol_spec.specs.declared.Limits.{Limits}
 use Rattle.ol_ir.specs.Walks.{placesOf}
-use Rattle.ol_ir.proofs.Items.{Puts, put-turn, put-halt, put-end}
+use Rattle.ol_ir.proofs.Skips.{Listed, listed-start, listed-turn, listed-end}
 use Rattle.ol_ir.proofs.node.equation_places.Statement.{statement}
 use Rattle.ol_ir.proofs.node.equation_places.Tie as tie
 
 abbrev Inv-loop : tie.InvT-loop
-Inv-loop file limits enums count at starts₀ next₀ left₀ i₀ starts next left i =
+Inv-loop file count at starts₀ next₀ left₀ i₀ starts next left i =
     (i + left ≡ count) × (length starts ≡ length starts₀)
-    × Puts (equationR file limits enums) (sets starts₀ 0 (placesOf count (equationR file limits enums) at)) i left next starts
+    × ((l : Limits) (enums : ℕ) (qs : List Equation) (end : ℕ) → many count (equationR file l enums) at ≡ got qs end
+    → Listed (equationR file l enums) (sets starts₀ 0 (placesOf count (equationR file l enums) at)) end i left next starts)
 
 abbrev μ-loop : tie.MeasureT-loop
-μ-loop file limits enums count at starts₀ next₀ left₀ i₀ starts next left i = left
+μ-loop file count at starts₀ next₀ left₀ i₀ starts next left i = left
 
 loop-holds : tie.Need-loop-holds Inv-loop μ-loop
-loop-holds c = (omega arith, refl, record { is = refl })
+loop-holds c = (omega arith, refl, λ l enums qs end h. listed-start h)
 
 keep-requires : tie.Need-keep-requires Inv-loop μ-loop
 keep-requires c κs = search needs
@@ -31,36 +35,21 @@ sub-left c = omega (arith, c .before .before .before .before .before .loop .inv 
 add-i : tie.Need-add-i Inv-loop μ-loop
 add-i c = omega (arith, c .before .before .before .before .before .loop .inv .0)
 
-equation-requires : tie.Need-equation-requires Inv-loop μ-loop
-equation-requires c κs = search needs
-
-enum-known-p : tie.Need-enum-known-p Inv-loop μ-loop
-enum-known-p c = search needs
+skip-equation-requires : tie.Need-skip-equation-requires Inv-loop μ-loop
+skip-equation-requires c κs = search needs
 
 loop-less : tie.Need-loop-less Inv-loop μ-loop
-loop-less c = omega (arith, c .before .before .before .before .before .before .before .before .before .loop .inv .0)
+loop-less c = omega (arith, c .before .before .before .before .before .before .loop .inv .0)
 
 loop-again : tie.Need-loop-again Inv-loop μ-loop
 loop-again c =
-    let start = c .before .before .before .before .before .before .before .before .before .before .before .before in
-    (omega (arith, c .before .before .before .before .before .before .before .before .before .loop .inv .0), c .before .before .before .before .before .before .keep .kept .0 ∙ c .before .before .before .before .before .before .before .before .before .loop .inv .1, put-turn (c .before .before .before .before .before .before .before .before .before .loop .inv .2) (c .before .before .before .before .before .before .before .before .loop-test .taken) (c .before .before .before .equation .ensures (start .args .limits) refl refl refl refl) (c .before .before .before .before .before .before .keep .ensures) (c .before .p .given .1))
-
-enum-told : tie.Need-enum-told Inv-loop μ-loop
-enum-told c = search needs
+    (omega (arith, c .before .before .before .before .before .before .loop .inv .0), c .before .before .before .keep .kept .0 ∙ c .before .before .before .before .before .before .loop .inv .1, λ l enums qs end h. listed-turn (c .before .before .before .before .before .before .loop .inv .2 l enums qs end h) (c .before .before .before .before .before .loop-test .taken) (λ q n r. c .skip-equation .ensures l enums q n r) (c .before .before .before .keep .ensures))
 
 same-length : tie.Need-same-length Inv-loop μ-loop
-same-length c = c .before .before .before .before .before .keep .kept .0 ∙ c .before .before .before .before .before .before .before .before .loop .inv .1
+same-length c = c .before .loop .inv .1
 
 returns : tie.Need-returns Inv-loop μ-loop
-returns c =
-    let start = c .before .before .before .before .before .before .before .before .before .before .before in
-    put-halt (c .before .before .before .before .before .before .before .before .loop .inv .2) (c .before .before .before .before .before .before .before .loop-test .taken) (c .before .before .equation .ensures (start .args .limits) refl refl refl refl) (c .before .before .before .before .before .keep .ensures) (c .enum-told .given .1)
-
-same-length-2 : tie.Need-same-length-2 Inv-loop μ-loop
-same-length-2 c = c .before .loop .inv .1
-
-returns-2 : tie.Need-returns-2 Inv-loop μ-loop
-returns-2 c = put-end (c .before .loop .inv .2) (c .loop-test .left)
+returns c = λ l enums qs end h. listed-end (c .before .loop .inv .2 l enums qs end h) (c .loop-test .left)
 
 pub equation-places-spec : {M : Type 1} → statement M
 equation-places-spec =
@@ -72,12 +61,8 @@ equation-places-spec =
     keep-requires
     sub-left
     add-i
-    equation-requires
-    enum-known-p
+    skip-equation-requires
     loop-less
     loop-again
-    enum-told
     same-length
-    returns
-    same-length-2
-    returns-2)
+    returns)

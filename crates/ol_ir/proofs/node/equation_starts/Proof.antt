@@ -2,7 +2,7 @@
 use mathlib.Core.Path.{_∙_, ap}
 use lib.Seq.{sets}
 use borrow.Author.Needs.{needs}
-use Rattle.ol_ir.proofs.Items.{no-front, equations-found, equations-table, no-equations}
+use Rattle.ol_ir.proofs.Items.{no-front, equations-found, equations-items, equations-table, no-equations}
 use Rattle.ol_ir.proofs.node.equation_starts.Statement.{statement}
 use Rattle.ol_ir.proofs.node.equation_starts.Tie as tie
 
@@ -28,12 +28,12 @@ enum-known-f-2 : tie.Need-enum-known-f-2
 enum-known-f-2 c = search needs
 
 same-length : tie.Need-same-length
-same-length c = c .before .before .equation-places .kept .1 .1 .1 .1 .1 .0
+same-length c = c .before .before .equation-places .kept .1 .1 .1 .0
 
 returns : tie.Need-returns
 returns c =
     let start = c .before .before .before .before .before .before .before .before .before .before .before .before .before .before in
-    (λ n end g. equations-found (start .args .file .now) (start .args .limits) (start .args .enums) (start .args .at) n end g (c .before .before .before .before .before .before .before .before .before .before .before .interface .ensures) (c .before .before .before .before .before .before .before .before .before .p .given .1) (c .before .before .before .before .before .before .before .count .ensures) (c .before .before .before .before .before .n .given .1), λ n end g. c .before .before .equation-places .ensures ∙ ap (λ l. sets (start .args .starts .now) 0 l) (equations-table (start .args .file .now) (start .args .limits) (start .args .enums) (start .args .at) n end g (c .before .before .before .before .before .before .before .before .before .before .before .interface .ensures) (c .before .before .before .before .before .before .before .before .before .p .given .1) (c .before .before .before .before .before .before .before .count .ensures) (c .before .before .before .before .before .n .given .1)))
+    (λ n end g. equations-found (start .args .file .now) (start .args .limits) (start .args .enums) (start .args .at) n end g (c .before .before .before .before .before .before .before .before .before .before .before .interface .ensures) (c .before .before .before .before .before .before .before .before .before .p .given .1) (c .before .before .before .before .before .before .before .count .ensures) (c .before .before .before .before .before .n .given .1), λ n end g. c .before .before .equation-places .ensures (start .args .limits) (start .args .enums) (n .equations) end (equations-items (start .args .file .now) (start .args .limits) (start .args .enums) (start .args .at) n end g (c .before .before .before .before .before .before .before .before .before .before .before .interface .ensures) (c .before .before .before .before .before .before .before .before .before .p .given .1) (c .before .before .before .before .before .before .before .count .ensures) (c .before .before .before .before .before .n .given .1)) ∙ ap (λ l. sets (start .args .starts .now) 0 l) (equations-table (start .args .file .now) (start .args .limits) (start .args .enums) (start .args .at) n end g (c .before .before .before .before .before .before .before .before .before .before .before .interface .ensures) (c .before .before .before .before .before .before .before .before .before .p .given .1) (c .before .before .before .before .before .before .before .count .ensures) (c .before .before .before .before .before .n .given .1)))
 
 returns-2 : tie.Need-returns-2
 returns-2 c =

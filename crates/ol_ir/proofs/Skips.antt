@@ -1,0 +1,314 @@
+-- Expressions and equations that were read, passed over head by head: what is left are expressions, one behind the other.
+use Prim.Native.Nat.{ℕ, zero, suc, _+_, _-_, _*_, _≤_, _<_}
+use mathlib.Core.List.{List, [], _∷_}
+use mathlib.Core.Logic.{by-cases}
+use mathlib.Core.Path.{_≡_, refl, sym, ap, subst, _∙_}
+use native.Mathlib.Decide.{decLe}
+use native.Mathlib.Omega.{arith}
+use lib.ListN.{length, getD, set}
+use lib.Seq.{sets}
+use Rattle.ol_spec.specs.Lists.{upTo}
+use Rattle.ol_spec.specs.Syntax.{Expr, boolLit, intLit, floatLit, charLit, var, unary, binary, ifThenElse, pre, arrow, cast, call, tuple, Exprs, nil}
+use Rattle.ol_spec.specs.Syntax.{cons, count, Equation}
+use Rattle.ol_spec.specs.Places.{exprSize, exprsSize, rhsPlace}
+use Rattle.ol_spec.specs.Read.{got, Reader, many, manyExprs, byte, coded, nameR, tyR, exprR, equationR, castCode, callCode, tupleCode}
+use Rattle.ol_spec.specs.Answers.{faultAt}
+use Rattle.ol_spec.specs.declared.Fault.{Fault}
+use Rattle.ol_spec.specs.declared.Limits.{Limits}
+use Rattle.ol_spec.proofs.Offsets.{steps, same-end, same-item}
+use Rattle.ol_ir.specs.Nexts.{nextOf, countedOf}
+use Rattle.ol_ir.specs.Parts.{codeOf, headSize, partsIn}
+use Rattle.ol_ir.specs.Skips.{HeadSays}
+use Rattle.ol_ir.specs.Walks.{placesOf}
+use Rattle.ol_ir.specs.declared.Next.the-variants as Nxt
+use Rattle.ol_ir.specs.declared.skip.Parts.{Parts}
+use Rattle.ol_ir.proofs.Bytes.{CountIs, counted-is}
+use Rattle.ol_ir.proofs.Forms.{ty-plain, ty-enum, ty-none, ty-end}
+use Rattle.ol_ir.proofs.Heads.{head-is}
+use Rattle.ol_ir.proofs.Sizes.{takes-byte, takes-coded, takes-expr, takes-exprs}
+use Rattle.ol_ir.proofs.Trees.{many-cons, deeper-parts, expr-at}
+use Rattle.ol_ir.proofs.Items.{from-next, Puts, put-turn, put-end, section-at, equation-at}
+
+-- ---- lists of expressions
+
+abbrev pub join : Exprs → Exprs → Exprs
+join nil ys = ys
+join (cons x xs) ys = cons x (join xs ys)
+
+module _ (r : Reader Expr) where
+  -- the first of those that were read, and the rest
+  pub many-first : (left at : ℕ) (es : Exprs) (m : ℕ) → 0 < left → manyExprs left r at ≡ got es m → (e : Expr) × (rest : Exprs) × (p : ℕ) × (r at ≡ got e p) × (manyExprs (left - 1) r p ≡ got rest m) × (cons e rest ≡ es)
+  unfolding manyExprs
+  many-first zero at es m h f = absurd (omega arith)
+  many-first (suc k) at es m h f =
+      let t = steps (r at) _ es m f in
+      let u = steps (manyExprs k r (t .at)) _ es m (t .rest) in
+      let one : suc k - 1 ≡ k = omega arith in
+      (t .value, u .value, t .at, t .first, rw one (u .first ∙ ap (got (u .value)) (same-end (u .rest))), same-item (u .rest))
+
+  pub many-join : (k at : ℕ) (xs ys : Exprs) (p j m : ℕ) → manyExprs k r at ≡ got xs p → manyExprs j r p ≡ got ys m → manyExprs (k + j) r at ≡ got (join xs ys) m
+  unfolding manyExprs
+  many-join zero at xs ys p j m f g =
+      let z : 0 + j ≡ j = omega arith in
+      let b : at ≡ p = same-end f in
+      rw z (subst (λ q. manyExprs j r q ≡ got ys m) (sym b) g ∙ ap (λ v. got (join v ys) m) (same-item f))
+  many-join (suc k) at xs ys p j m f g =
+      let t = steps (r at) _ xs p f in
+      let u = steps (manyExprs k r (t .at)) _ xs p (t .rest) in
+      let z : suc k + j ≡ suc (k + j) = omega arith in
+      let w = many-join k (t .at) (u .value) ys p j m (u .first ∙ ap (got (u .value)) (same-end (u .rest))) g in
+      rw z (many-cons r (k + j) at (t .first) w ∙ ap (λ v. got (join v ys) m) (same-item (u .rest)))
+
+  pub many-none : (left at : ℕ) (es : Exprs) (m : ℕ) → left ≤ 0 → manyExprs left r at ≡ got es m → (es ≡ nil) × (at ≡ m)
+  unfolding manyExprs
+  many-none zero at es m h f = (sym (same-item f), same-end f)
+  many-none (suc k) at es m h f = absurd (omega arith)
+
+-- an expression has a byte at least
+pub some-size : (e : Expr) → 1 ≤ exprSize e
+some-size (boolLit b) = omega arith
+some-size (intLit i) = omega arith
+some-size (floatLit b) = omega arith
+some-size (charLit c) = omega arith
+some-size (var x) = omega arith
+some-size (unary op e) = omega arith
+some-size (binary op l r) = omega arith
+some-size (ifThenElse c t e) = omega arith
+some-size (pre e) = omega arith
+some-size (arrow a b) = omega arith
+some-size (cast t e) = omega arith
+some-size (call k es) = omega arith
+some-size (tuple es) = omega arith
+
+pub count-size : (es : Exprs) → count es ≤ exprsSize es
+count-size nil = omega arith
+count-size (cons e es) = omega (arith, some-size e, count-size es)
+
+-- ---- a head, by its first byte
+
+-- by the code, up to Arrow: how many parts there are, and how many bytes stand in front of them
+abbrev partsTable : List ℕ
+partsTable = 0 ∷ 0 ∷ 0 ∷ 0 ∷ 0 ∷ 1 ∷ 2 ∷ 3 ∷ 1 ∷ 2 ∷ []
+
+abbrev sizesTable : List ℕ
+sizesTable = 2 ∷ 9 ∷ 9 ∷ 2 ∷ 3 ∷ 2 ∷ 2 ∷ 1 ∷ 1 ∷ 1 ∷ []
+
+fixed : (e : Expr) → codeOf e < 10 → (getD partsTable (codeOf e) 0 ≡ count (partsIn e)) × (getD sizesTable (codeOf e) 0 ≡ headSize e)
+fixed (boolLit b) h = (refl, refl)
+fixed (intLit i) h = (refl, refl)
+fixed (floatLit b) h = (refl, refl)
+fixed (charLit c) h = (refl, refl)
+fixed (var x) h = (refl, refl)
+fixed (unary op e) h = (refl, refl)
+fixed (binary op l r) h = (refl, refl)
+fixed (ifThenElse c t e) h = (refl, refl)
+fixed (pre e) h = (refl, refl)
+fixed (arrow a b) h = (refl, refl)
+fixed (cast t e) h = absurd (omega arith)
+fixed (call k es) h = absurd (omega arith)
+fixed (tuple es) h = absurd (omega arith)
+
+no-more : (e : Expr) → codeOf e ≤ 12
+no-more (boolLit b) = omega arith
+no-more (intLit i) = omega arith
+no-more (floatLit b) = omega arith
+no-more (charLit c) = omega arith
+no-more (var x) = omega arith
+no-more (unary op e) = omega arith
+no-more (binary op l r) = omega arith
+no-more (ifThenElse c t e) = omega arith
+no-more (pre e) = omega arith
+no-more (arrow a b) = omega arith
+no-more (cast t e) = omega arith
+no-more (call k es) = omega arith
+no-more (tuple es) = omega arith
+
+-- where a type ends that was read
+module _ (s : List ℕ) (l : Limits) (enums at p : ℕ) (e : nextOf (tyR s l enums at) ≡ Nxt.At p) where
+  no-type : (f : Fault) → Nxt.Refused f ≡ nextOf (tyR s l enums at) → ⊥
+  no-type f g = let h : Nxt.Refused f ≡ Nxt.At p = g ∙ e in let z : _≡_ {A = ℕ} 0 1 = cc in omega arith
+
+  type-inside : at < length s
+  type-inside = by-cases (decLe (length s) at) (λ gone. absurd (no-type (faultAt 2 (length s)) (ty-end s l enums at gone))) (λ no. omega arith)
+
+  type-two : getD s at 0 ≡ 12 → p ≡ at + 2
+  type-two b =
+      let w = from-next (coded s (upTo enums) (at + 1)) p (ty-enum s l enums at type-inside b ∙ e) in
+      let t = takes-coded s (upTo enums) .is (at + 1) (w .0) p (w .1) in
+      omega (arith, t .ends, t .holds)
+
+  type-one : (getD s at 0 ≡ 12 → ⊥) → p ≡ at + 1
+  type-one b =
+      by-cases (decLe 12 (getD s at 0)) (λ h. absurd (no-type (faultAt 3 at) (ty-none s l enums at type-inside (omega arith))))
+      (λ h. let g : Nxt.At (at + 1) ≡ Nxt.At p = ty-plain s l enums at type-inside (omega arith) ∙ e in let z : at + 1 ≡ p = cc in omega arith)
+
+module _ (s : List ℕ) (at : ℕ) where
+  -- a head whose parts its first byte says
+  pub says-fixed : (b k size : ℕ) → getD s at 0 ≡ b → b < 10 → k < 256 → 0 < size → getD partsTable b 0 ≡ k → getD sizesTable b 0 ≡ size → HeadSays s at (record { count = k; start = at + size })
+  says-fixed b k size e h i j f g =
+      record {
+        few = i;
+        onward = omega arith;
+        is = λ l enums d x n r.
+            let c : codeOf x ≡ b = sym (expr-at s l enums d at x n r .code) ∙ e in
+            let w = fixed x (omega arith) in
+            (sym f ∙ ap (λ v. getD partsTable v 0) (sym c) ∙ w .0, ap (λ v. at + v) (sym g ∙ ap (λ v. getD sizesTable v 0) (sym c) ∙ w .1));
+      }
+
+  module _ (h : at < length s) where
+    -- a Cast: its type has one byte or two
+    module _ (c : getD s at 0 ≡ 10) where
+      cast-type : (l : Limits) (enums d : ℕ) (e : Expr) (n : ℕ) → exprR s l enums d at ≡ got e n → (1 ≡ count (partsIn e)) × (nextOf (tyR s l enums (at + 1)) ≡ Nxt.At (at + headSize e))
+      unfolding nextOf
+      cast-type l enums d e n r =
+          let x = expr-at s l enums d at e n r in
+          let t = steps (tyR s l enums (at + 1)) _ (count (partsIn e)) (at + headSize e) (sym (head-is s l enums at 10 castCode h c refl) ∙ x .head) in
+          (same-item (t .rest), ap nextOf (t .first) ∙ ap Nxt.At (same-end (t .rest)))
+
+      pub says-enum : {b : ℕ} → b ≡ getD s (at + 1) 0 → b ≡ 12 → HeadSays s at (record { count = 1; start = at + 3 })
+      says-enum f g =
+          record {
+            few = omega arith;
+            onward = omega arith;
+            is = λ l enums d e n r. let w = cast-type l enums d e n r in (w .0, omega (arith, type-two s l enums (at + 1) (at + headSize e) (w .1) (sym f ∙ g)));
+          }
+
+      pub says-plain : {b : ℕ} → b ≡ getD s (at + 1) 0 → (b ≡ 12 → ⊥) → HeadSays s at (record { count = 1; start = at + 2 })
+      says-plain f g =
+          record {
+            few = omega arith;
+            onward = omega arith;
+            is = λ l enums d e n r. let w = cast-type l enums d e n r in (w .0, omega (arith, type-one s l enums (at + 1) (at + headSize e) (w .1) (λ i. g (f ∙ i))));
+          }
+
+    -- a call: its count of arguments stands behind the node's number
+    pub says-call : {k : ℕ} → getD s at 0 ≡ 11 → k < 256 → k ≡ getD s (at + 2) 0 → HeadSays s at (record { count = k; start = at + 3 })
+    unfolding countedOf
+    says-call {k} c i f =
+        record {
+          few = i;
+          onward = omega arith;
+          is = λ l enums d e n r.
+              let x = expr-at s l enums d at e n r in
+              let t = steps (byte s (at + 1)) _ (count (partsIn e)) (at + headSize e) (sym (head-is s l enums at 11 callCode h c refl) ∙ x .head) in
+              let u = takes-byte s .is (at + 1) (t .value) (t .at) (t .first) in
+              let w = counted-is s 0 (l .arguments) (t .at) (count (partsIn e)) (at + headSize e) (sym (ap countedOf (t .rest))) in
+              let p : t .at ≡ at + 2 = omega (arith, u .ends, u .holds) in
+              (f ∙ sym (w .value ∙ ap (λ v. getD s v 0) p), omega (arith, w .next));
+        }
+
+    -- a Tuple: its count stands behind the code
+    pub says-tuple : {k : ℕ} → 12 ≤ getD s at 0 → k < 256 → k ≡ getD s (at + 1) 0 → HeadSays s at (record { count = k; start = at + 2 })
+    unfolding countedOf
+    says-tuple {k} c i f =
+        record {
+          few = i;
+          onward = omega arith;
+          is = λ l enums d e n r.
+              let x = expr-at s l enums d at e n r in
+              let b : getD s at 0 ≡ 12 = omega (arith, x .code, no-more e) in
+              let w = counted-is s 2 (l .items) (at + 1) (count (partsIn e)) (at + headSize e) (sym (ap countedOf (sym (head-is s l enums at 12 tupleCode h b refl) ∙ x .head))) in
+              (f ∙ sym (w .value), omega (arith, w .next));
+        }
+
+-- ---- a walk over expressions
+
+-- `left` expressions are read from `next` on, to n
+pub record Passing (s : List ℕ) (l : Limits) (enums d n left next : ℕ) : Type 0 where
+  pub exprs : Exprs
+  pub read : manyExprs left (exprR s l enums d) next ≡ got exprs n
+  pub inside : next ≤ length s
+
+pub passing-start : {s : List ℕ} {l : Limits} {enums d at n : ℕ} {e : Expr} → exprR s l enums d at ≡ got e n → Passing s l enums d n 1 at
+unfolding manyExprs
+passing-start {s} {l} {enums} {d} {at} {n} {e} f =
+    record { exprs = cons e nil; read = many-cons (exprR s l enums d) 0 at f refl; inside = omega (arith, expr-at s l enums d at e n f .inside) }
+
+module _ {s : List ℕ} {l : Limits} {enums d n left next : ℕ} (p : Passing s l enums d n left next) where
+  -- no more than the file has bytes
+  pub passing-few : left ≤ length s
+  passing-few =
+      let t = takes-exprs s (exprR s l enums d) (takes-expr s l enums d) left .is next (p .exprs) n (p .read) in
+      omega (arith, t .ends, t .holds .0, t .holds .1, t .inside (p .inside), count-size (p .exprs))
+
+  pub passing-done : left ≤ 0 → next ≡ n
+  passing-done h = many-none (exprR s l enums d) left next (p .exprs) n h (p .read) .1
+
+  module _ (u : 0 < left) where
+    abbrev first : (e : Expr) × (rest : Exprs) × (m : ℕ) × (exprR s l enums d next ≡ got e m) × (manyExprs (left - 1) (exprR s l enums d) m ≡ got rest n) × (cons e rest ≡ p .exprs)
+    first = many-first (exprR s l enums d) left next (p .exprs) n u (p .read)
+
+    pub passing-in : next < length s
+    passing-in = let w = first in expr-at s l enums d next (w .0) (w .2) (w .3) .inside
+
+    -- an expression's parts take its place
+    pub passing-on : {r : Parts} → HeadSays s next r → Passing s l enums d n (left - 1 + r .count) (r .start)
+    passing-on {r} h =
+        let w = first in
+        let x = expr-at s l enums d next (w .0) (w .2) (w .3) in
+        let k = h .is l enums d (w .0) (w .2) (w .3) in
+        let more = count (partsIn (w .0)) in
+        let after = next + headSize (w .0) in
+        let parts : manyExprs more (exprR s l enums d) after ≡ got (partsIn (w .0)) (w .2) = deeper-parts s l enums (d - 1) d more after (omega arith) (x .parts) in
+        let all : manyExprs (more + (left - 1)) (exprR s l enums d) after ≡ got (join (partsIn (w .0)) (w .1)) n = many-join (exprR s l enums d) more after (partsIn (w .0)) (w .1) (w .2) (left - 1) n parts (w .4) in
+        let t = takes-exprs s (exprR s l enums d) (takes-expr s l enums d) left .is next (p .exprs) n (p .read) in
+        let v = takes-exprs s (exprR s l enums d) (takes-expr s l enums d) (more + (left - 1)) .is after (join (partsIn (w .0)) (w .1)) n all in
+        let many : more + (left - 1) ≡ left - 1 + r .count = omega (arith, k .0) in
+        record {
+          exprs = join (partsIn (w .0)) (w .1);
+          read = subst (λ m. manyExprs m (exprR s l enums d) (r .start) ≡ got (join (partsIn (w .0)) (w .1)) n) many (subst (λ q. manyExprs (more + (left - 1)) (exprR s l enums d) q ≡ got (join (partsIn (w .0)) (w .1)) n) (sym (k .1)) all);
+          inside = omega (arith, k .1, v .ends, t .inside (p .inside));
+        }
+
+-- ---- an equation
+
+module _ (s : List ℕ) (l : Limits) (enums at : ℕ) (q : Equation) (n : ℕ) (r : equationR s l enums at ≡ got q n) where
+  counted : CountIs s 1 (l .names) at (length (q .names)) (at + 1)
+  unfolding countedOf
+  counted =
+      let a = equation-at s l enums at q n r in
+      counted-is s 1 (l .names) at (length (q .names)) (at + 1) (sym (ap countedOf (section-at s 1 (l .names) (nameR s) at (q .names) (rhsPlace at q) (a .names) .counted)))
+
+  pub equation-inside : at < length s
+  equation-inside = counted .inside
+
+  -- its right side stands behind its names
+  pub equation-right : exprR s l enums (l .nesting) (at + 1 + 2 * getD s at 0) ≡ got (q .rhs) n
+  equation-right = subst (λ m. exprR s l enums (l .nesting) (at + 1 + 2 * m) ≡ got (q .rhs) n) (counted .value) (equation-at s l enums at q n r .right)
+
+-- ---- tables of the places of items that were read
+
+many-next : {A : Type 0} (r : Reader A) (left at : ℕ) (xs : List A) (m : ℕ) → 0 < left → many left r at ≡ got xs m → (x : A) × (rest : List A) × (p : ℕ) × (r at ≡ got x p) × (many (left - 1) r p ≡ got rest m)
+unfolding many
+many-next r zero at xs m h f = absurd (omega arith)
+many-next r (suc k) at xs m h f =
+    let t = steps (r at) _ xs m f in
+    let u = steps (many k r (t .at)) _ xs m (t .rest) in
+    let one : suc k - 1 ≡ k = omega arith in
+    (t .value, u .value, t .at, t .first, rw one (u .first ∙ ap (got (u .value)) (same-end (u .rest))))
+
+-- `left` items are read from `at` on, and w is the table with their places put at i
+pub record Listed {A : Type 0} (r : Reader A) (w : List ℕ) (end i left at : ℕ) (table : List ℕ) : Type 0 where
+  pub items : List A
+  pub read : many left r at ≡ got items end
+  pub puts : Puts r w i left at table
+
+module _ {A : Type 0} {r : Reader A} where
+  pub listed-start : {table : List ℕ} {left at end : ℕ} {xs : List A} → many left r at ≡ got xs end → Listed r (sets table 0 (placesOf left r at)) end 0 left at table
+  listed-start {xs = xs} e = record { items = xs; read = e; puts = record { is = refl } }
+
+  module _ {w table : List ℕ} {end i left at : ℕ} (p : Listed r w end i left at table) where
+    -- the next place is put, and the item ends at q
+    pub listed-turn : {t : List ℕ} {q : ℕ} → 0 < left → ((a : A) (n : ℕ) → r at ≡ got a n → q ≡ n) → t ≡ set table i at → Listed r w end (i + 1) (left - 1) q t
+    unfolding nextOf
+    listed-turn {t} {q} u f k =
+        let v = many-next r left at (p .items) end u (p .read) in
+        let e : q ≡ v .2 = f (v .0) (v .2) (v .3) in
+        record {
+          items = v .1;
+          read = subst (λ m. many (left - 1) r m ≡ got (v .1) end) (sym e) (v .4);
+          puts = put-turn {x = Nxt.At q} (p .puts) u (ap Nxt.At e ∙ sym (ap nextOf (v .3))) k refl;
+        }
+
+    pub listed-end : left ≤ 0 → table ≡ w
+    listed-end h = put-end (p .puts) h
