@@ -1,23 +1,26 @@
 -- Records judged: a record's own bytes, then the records of its call sites, one after the other.
-use Prim.Native.Nat.{ℕ, _+_, _-_, _*_}
+use Prim.Native.Nat.{ℕ, _+_, _-_, _*_, _<_, _≤_}
 use mathlib.Core.Bool.{Bool, true, false, _&&_}
-use mathlib.Core.List.{List}
+use mathlib.Core.List.{List, [], _∷_, List·Memᴰ·head as here, List·Memᴰ·tail as there}
 use mathlib.Core.Path.{_≡_, refl, sym, ap, _∙_}
 use native.Mathlib.Omega.{arith}
 use lib.ListN.{length, take, drop}
 use lib.Seq.{drop-drop}
+use Rattle.ol_theory.specs.Member.{_∈_}
 use Rattle.ol_spec.specs.Syntax.{NodeKind, Function, Operator, Imported, File}
+use Rattle.ol_spec.specs.Eval.{sitesSize}
 use Rattle.ol_spec.specs.Step.{sites}
 use Rattle.ol_spec.specs.State.{globalsOf, goodOwn, goodSites, goodBy, goodAt}
 use Rattle.ol_spec.specs.Admission.{variants}
 use Rattle.ol_spec.specs.declared.Value.{Value}
+use Rattle.ol_spec.proofs.Segments.{sites-cons}
 use Rattle.ol_spec.proofs.Calls.{good-site}
 use Rattle.ol_tree.specs.Tables.{rowAt, nodeOf, siteBytes}
 use Rattle.ol_fresh.specs.declared.sites.Site.{Site}
-use Rattle.ol_fresh.specs.Known.{Sited}
+use Rattle.ol_fresh.specs.Known.{Known, Sited}
 use Rattle.ol_fresh.specs.Ahead.{NextSite}
 use Rattle.ol_fresh.specs.Defaults.{cellsAt}
-use Rattle.ol_fresh.proofs.Records.{Rest, callees, Turn, rest-start, next-site, no-site, default-cells, is-operator, no-operator, variables-told}
+use Rattle.ol_fresh.proofs.Records.{Rest, callees, Turn, sizesOf, rest-start, next-site, no-site, default-cells, own-room, is-operator, no-operator, variables-told}
 use Rattle.ol_state.specs.Own.{goodBytes}
 use Rattle.ol_state.proofs.Judged.{and-pass, and-stop}
 
@@ -38,15 +41,39 @@ pub record Judging (f : File) (s : List ℕ) (k : ℕ) (r : List ℕ) (used at e
 abbrev pub bytesGood : File → List ℕ → List ℕ → ℕ → List ℕ → Bool
 bytesGood f tab rows k r = goodBytes (variants f) (cellsAt tab rows k 0 (rowAt rows k 4)) (rowAt rows k 4) r
 
-module _ {f : File} {s tab rows : List ℕ} {k : ℕ} {r : List ℕ} (h : Sited f s tab rows k r) where
-  -- no Operator: there is no record
-  pub none-judged : (rowAt rows k 0 ≡ 1 → ⊥) → (vs : List Value) → true ≡ goodOf f vs k r
-  none-judged other vs = sym (good-site f vs (h .known .lower) k r (h .below) ∙ go (nodeOf f k .kind) (no-operator (h .known) (h .below) other))
+module _ {f : File} {s tab rows : List ℕ} (known : Known f s tab rows) (vs : List Value) where
+  -- no Operator: every record is good
+  other-good : (k : ℕ) (r : List ℕ) → k < length (f .nodes) → (nodeOf f k .kind ≡ Operator → ⊥) → goodOf f vs k r ≡ true
+  other-good k r below other = good-site f vs (known .lower) k r below ∙ go (nodeOf f k .kind) other
     where
       go : (t : NodeKind) → (t ≡ Operator → ⊥) → goodBy (globalsOf f vs) t (goodOf f vs) (nodeOf f k) r ≡ true
       go Function q = refl
       go Operator q = absurd (q refl)
       go Imported q = refl
+
+  -- a call site without bytes is of no Operator
+  no-bytes : (k : ℕ) (r : List ℕ) → k < length (f .nodes) → siteBytes f k ≡ 0 → goodOf f vs k r ≡ true
+  no-bytes k r below z = other-good k r below (λ o. let e = own-room known below o in omega arith)
+
+  -- call sites without bytes have no record that could be bad
+  none-left : (cs r : List ℕ) → ((c : ℕ) → c ∈ cs → c < length (f .nodes)) → sitesSize (sizesOf f) cs ≡ 0 → goodAll f vs cs r ≡ true
+  unfolding goodSites
+  none-left [] r below z = refl
+  none-left (c ∷ cs) r below z =
+      let e : siteBytes f c + sitesSize (sizesOf f) cs ≡ 0 = sym (sites-cons (sizesOf f) c cs) ∙ z in
+      and-pass (no-bytes c (take (siteBytes f c) r) (below c (here refl)) (omega arith))
+      ∙ none-left cs (drop (siteBytes f c) r) (λ d m. below d (there m)) (omega arith)
+
+module _ {f : File} {s tab rows : List ℕ} {k : ℕ} {r : List ℕ} (h : Sited f s tab rows k r) where
+  -- no Operator: there is no record
+  pub none-judged : (rowAt rows k 0 ≡ 1 → ⊥) → (vs : List Value) → true ≡ goodOf f vs k r
+  none-judged other vs = sym (other-good (h .known) vs k r (h .below) (no-operator (h .known) (h .below) other))
+
+  -- all bytes are used
+  pub judging-full : {used at eqs pending : ℕ} → Judging f s k r used at eqs pending → length r ≤ used → (vs : List Value) → true ≡ goodOf f vs k r
+  judging-full {used} j full vs =
+      sym (j .left vs
+      ∙ none-left (h .known) vs (callees (j .rest)) (drop used r) (λ c m. omega (arith, j .rest .lower c m, h .below)) (omega (arith, j .rest .room, full)))
 
   -- an Operator's: its own bytes, and the records of its call sites
   operator-good : rowAt rows k 0 ≡ 1 → (vs : List Value) → goodOf f vs k r ≡ bytesGood f tab rows k r && goodAll f vs (sites (nodeOf f k)) (drop (1 + 9 * rowAt rows k 4) r)

@@ -23,7 +23,7 @@ use ol_fresh::sites::next_site;
 use own::good_own;
 
 // Whether the record of a call site of node k, which is all of `r`, is good: its own bytes, then the
-// records of its own call sites. Only an Operator's call site has one.
+// records of its own call sites, to the last byte. Only an Operator's call site has one.
 pub fn good_record(
     file: &[u8],
     tab: &[u8],
@@ -41,7 +41,7 @@ pub fn good_record(
             let mut at = row(rows, k, 1);
             let mut eqs = row(rows, k, 5);
             let mut pending: usize = 0;
-            loop {
+            while used < r.len() {
                 let s = next_site(file, at, eqs, pending);
                 if s.found {
                     let c = s.callee;
@@ -58,6 +58,7 @@ pub fn good_record(
                     return true;
                 }
             }
+            true
         } else {
             false
         }

@@ -6,7 +6,7 @@ use native.Mathlib.Omega.{arith}
 use lib.ListN.{length}
 use Rattle.ol_tree.specs.At.{fileAt}
 use Rattle.ol_fresh.proofs.Records.{few-nodes, few-variables, own-room, is-operator, part-room, part-sited}
-use Rattle.ol_state.proofs.Records.{Judging, none-judged, own-bad, judging-start, turn-of, judging-on, judging-stop, judging-done}
+use Rattle.ol_state.proofs.Records.{Judging, none-judged, own-bad, judging-start, turn-of, judging-on, judging-stop, judging-done, judging-full}
 -- </uses>
 use Prim.Native.Nat.{ℕ}
 use borrow.Author.Needs.{needs}
@@ -89,21 +89,21 @@ loop-holds t c =
     judging-start h one (sym (c .before .before .before .if2 .taken) ∙ c .before .before .before .before .good-own .ensures _ tells) (c .before .before .row2 .ensures) (c .before .row3 .ensures) (c .row4 .ensures)
 
 pub next-site-requires : (t : ℕ) → good-record-lts.Need-next-site-requires (Q t) (good-record-at t) good-record.Post Inv-loop μ-loop
-next-site-requires t c κs = c .loop .inv .rest .left
+next-site-requires t c κs = c .before .loop .inv .rest .left
 
 pub row-requires-5 : (t : ℕ) → good-record-lts.Need-row-requires-5 (Q t) (good-record-at t) good-record.Post Inv-loop μ-loop
 row-requires-5 t c κs =
-    let start = c .before .before .before .before .before .before .before .before .before .before .before .before .before .before .before in
+    let start = c .before .before .before .before .before .before .before .before .before .before .before .before .before .before .before .before in
     let h = start .pre .1 .0 in
     let few = few-nodes (h .known) (h .below) in
-    let t = turn-of h (c .before .before .loop .inv) (c .before .next-site .ensures) (c .if3 .taken) in
+    let t = turn-of h (c .before .before .before .loop .inv) (c .before .next-site .ensures) (c .if3 .taken) in
     (omega (arith, t .lower, few), omega arith)
 
 pub add-end : (t : ℕ) → good-record-lts.Need-add-end (Q t) (good-record-at t) good-record.Post Inv-loop μ-loop
 add-end t c =
-    let start = c .before .before .before .before .before .before .before .before .before .before .before .before .before .before .before .before in
+    let start = c .before .before .before .before .before .before .before .before .before .before .before .before .before .before .before .before .before in
     let h = start .pre .1 .0 in
-    let t = turn-of h (c .before .before .before .loop .inv) (c .before .before .next-site .ensures) (c .before .if3 .taken) in
+    let t = turn-of h (c .before .before .before .before .loop .inv) (c .before .before .next-site .ensures) (c .before .if3 .taken) in
     let room = part-room (h .known) (h .below) t (h .small) (c .row5 .ensures) (start .args .r .now) refl in
     omega (arith, room, h .small)
 
@@ -115,54 +115,60 @@ part-good-record-start t c = omega arith
 
 pub part-good-record-end : (t : ℕ) → good-record-lts.Need-part-good-record-end (Q t) (good-record-at t) good-record.Post Inv-loop μ-loop
 part-good-record-end t c =
-    let start = c .before .before .before .before .before .before .before .before .before .before .before .before .before .before .before .before in
+    let start = c .before .before .before .before .before .before .before .before .before .before .before .before .before .before .before .before .before in
     let h = start .pre .1 .0 in
-    let t = turn-of h (c .before .before .before .loop .inv) (c .before .before .next-site .ensures) (c .before .if3 .taken) in
+    let t = turn-of h (c .before .before .before .before .loop .inv) (c .before .before .next-site .ensures) (c .before .if3 .taken) in
     let room = part-room (h .known) (h .below) t (h .small) (c .row5 .ensures) (start .args .r .now) refl in
     omega (arith, room)
 
 pub good-record-requires : (t : ℕ) → good-record-lts.Need-good-record-requires (Q t) (good-record-at t) good-record.Post Inv-loop μ-loop
 good-record-requires t c κs =
-    let start = c .before .before .before .before .before .before .before .before .before .before .before .before .before .before .before .before .before in
+    let start = c .before .before .before .before .before .before .before .before .before .before .before .before .before .before .before .before .before .before in
     let h = start .pre .1 .0 in
-    let t = turn-of h (c .before .before .before .before .loop .inv) (c .before .before .before .next-site .ensures) (c .before .before .if3 .taken) in
+    let t = turn-of h (c .before .before .before .before .before .loop .inv) (c .before .before .before .next-site .ensures) (c .before .before .if3 .taken) in
     (omega (arith, t .lower, start .pre .0), (part-sited (h .known) (h .below) t (h .small) (c .before .row5 .ensures) (start .args .r .now) refl, start .pre .1 .1))
 
 pub loop-less : (t : ℕ) → good-record-lts.Need-loop-less (Q t) (good-record-at t) good-record.Post Inv-loop μ-loop
 loop-less t c =
-    let start = c .before .before .before .before .before .before .before .before .before .before .before .before .before .before .before .before .before .before .before in
+    let start = c .before .before .before .before .before .before .before .before .before .before .before .before .before .before .before .before .before .before .before .before in
     let h = start .pre .1 .0 in
-    let t = turn-of h (c .before .before .before .before .before .before .loop .inv) (c .before .before .before .before .before .next-site .ensures) (c .before .before .before .before .if3 .taken) in
+    let t = turn-of h (c .before .before .before .before .before .before .before .loop .inv) (c .before .before .before .before .before .next-site .ensures) (c .before .before .before .before .if3 .taken) in
     omega (arith, t .onward, t .inside)
 
 pub loop-again : (t : ℕ) → good-record-lts.Need-loop-again (Q t) (good-record-at t) good-record.Post Inv-loop μ-loop
 loop-again t c =
-    let start = c .before .before .before .before .before .before .before .before .before .before .before .before .before .before .before .before .before .before .before in
+    let start = c .before .before .before .before .before .before .before .before .before .before .before .before .before .before .before .before .before .before .before .before in
     let h = start .pre .1 .0 in
-    judging-on h (c .before .before .before .before .before .before .loop .inv) (c .before .before .before .before .before .next-site .ensures) (c .before .before .before .before .if3 .taken) (c .before .before .before .row5 .ensures) (λ vs. sym (c .if4 .taken) ∙ c .before .good-record .ensures vs)
+    judging-on h (c .before .before .before .before .before .before .before .loop .inv) (c .before .before .before .before .before .next-site .ensures) (c .before .before .before .before .if3 .taken) (c .before .before .before .row5 .ensures) (λ vs. sym (c .if4 .taken) ∙ c .before .good-record .ensures vs)
 
 pub returns : (t : ℕ) → good-record-lts.Need-returns (Q t) (good-record-at t) good-record.Post Inv-loop μ-loop
 returns t c =
-    let start = c .before .before .before .before .before .before .before .before .before .before .before .before .before .before .before .before .before .before .before in
+    let start = c .before .before .before .before .before .before .before .before .before .before .before .before .before .before .before .before .before .before .before .before in
     let h = start .pre .1 .0 in
-    judging-stop h (c .before .before .before .before .before .before .loop .inv) (c .before .before .before .before .before .next-site .ensures) (c .before .before .before .before .if3 .taken) (c .before .before .before .row5 .ensures) (λ vs. sym (c .if4 .left) ∙ c .before .good-record .ensures vs)
+    judging-stop h (c .before .before .before .before .before .before .before .loop .inv) (c .before .before .before .before .before .next-site .ensures) (c .before .before .before .before .if3 .taken) (c .before .before .before .row5 .ensures) (λ vs. sym (c .if4 .left) ∙ c .before .good-record .ensures vs)
 
 pub returns-2 : (t : ℕ) → good-record-lts.Need-returns-2 (Q t) (good-record-at t) good-record.Post Inv-loop μ-loop
 returns-2 t c =
-    let start = c .before .before .before .before .before .before .before .before .before .before .before .before .before .before .before in
+    let start = c .before .before .before .before .before .before .before .before .before .before .before .before .before .before .before .before in
     let h = start .pre .1 .0 in
-    judging-done h (c .before .before .loop .inv) (c .before .next-site .ensures) (c .if3 .left)
+    judging-done h (c .before .before .before .loop .inv) (c .before .next-site .ensures) (c .if3 .left)
 
 pub returns-3 : (t : ℕ) → good-record-lts.Need-returns-3 (Q t) (good-record-at t) good-record.Post Inv-loop μ-loop
 returns-3 t c =
+    let start = c .before .before .before .before .before .before .before .before .before .before .before .before .before .before in
+    let h = start .pre .1 .0 in
+    judging-full h (c .before .loop .inv) (c .loop-test .left)
+
+pub returns-4 : (t : ℕ) → good-record-lts.Need-returns-4 (Q t) (good-record-at t) good-record.Post Inv-loop μ-loop
+returns-4 t c =
     let start = c .before .before .before .before .before .before .before .before .before in
     let h = start .pre .1 .0 in
     let tells = start .pre .1 .1 .tells in
     let one = sym (c .before .before .before .row .ensures) ∙ c .before .before .if1 .taken in
     own-bad h one (sym (c .if2 .left) ∙ c .before .good-own .ensures _ tells)
 
-pub returns-4 : (t : ℕ) → good-record-lts.Need-returns-4 (Q t) (good-record-at t) good-record.Post Inv-loop μ-loop
-returns-4 t c =
+pub returns-5 : (t : ℕ) → good-record-lts.Need-returns-5 (Q t) (good-record-at t) good-record.Post Inv-loop μ-loop
+returns-5 t c =
     let start = c .before .before .before .before .before .before .before in
     let h = start .pre .1 .0 in
     none-judged h (λ e. c .if1 .left (c .before .row .ensures ∙ e))
