@@ -1,9 +1,9 @@
--- Numbers and their big-endian bytes: the turns of `read_number` and `write_number`, and a cell's parts.
+-- Numbers and their big-endian bytes: the halves of `read_number`, the turns of `write_number`, and a cell's parts.
 use mathlib.Core.Path.{_≡_, refl, sym, ap, ap₂, subst, _∙_}
 use mathlib.Core.Bool.{Bool, true, false, _&&_}
 use mathlib.Core.List.{List, [], _∷_, _++_}
 use Prim.Native.Nat.{ℕ, zero, suc, _+_, _-_, _*_, _/_, _%_, _^_, _≤_, _<_}
-use native.Mathlib.Nat.{pow-suc, pow-le-pow-right, div-div-eq-div-mul, div-one}
+use native.Mathlib.Nat.{pow-suc, div-div-eq-div-mul, div-one}
 use native.Mathlib.Numerals.{add-one}
 use native.Mathlib.Omega.{arith}
 use native.Mathlib.Decide.{decLt}
@@ -19,22 +19,43 @@ use Rattle.ol_spec.specs.declared.Value.the-variants as Val
 
 -- ---- reading
 
-number-snoc : (n : ℕ) (bs : List ℕ) (b : ℕ) → numberOf n (bs ++ (b ∷ [])) ≡ numberOf n bs * 256 + b
-number-snoc n [] b = refl
-number-snoc n (x ∷ bs) b = number-snoc (n * 256 + x) bs b
+-- the first byte of a part, and the others
+part-cons : (s : List ℕ) (at j k : ℕ) → at + j < length s → take (suc k) (drop (at + j) s) ≡ getD s (at + j) 0 ∷ take k (drop (at + (j + 1)) s)
+part-cons s at j k h = let e : at + (j + 1) ≡ suc (at + j) = omega arith in rw (e, drop-cons s (at + j) 0 h)
 
-module _ (s : List ℕ) (at k : ℕ) (room : at + 8 ≤ length s) (h : k < 8) where
-  -- one byte more
-  pub read-turn : (n b : ℕ) → n ≡ numberOf 0 (take k (drop at s)) → b ≡ getD s (at + k) 0 → n * 256 + b ≡ numberOf 0 (take (k + 1) (drop at s))
-  read-turn n b e f =
-      let l : k < length (drop at s) = rw (length-drop at s) (omega arith) in
-      rw (e, f, add-one k, take-suc (drop at s) k 0 l, getD-drop at s k 0) (sym (number-snoc 0 (take k (drop at s)) (getD s (at + k) 0)))
+-- four bytes as a number
+abbrev pub half : ℕ → ℕ → ℕ → ℕ → ℕ
+half a b c d = a * 16777216 + b * 65536 + c * 256 + d
 
-  pub read-room : (n : ℕ) → n < 256 ^ k → n < 2 ^ 56
-  read-room n l = omega (arith, pow-le-pow-right {n = 256} (omega arith) {i = k} {j = 7} (omega arith))
+half-digits : (n a b c d : ℕ) → (((n * 256 + a) * 256 + b) * 256 + c) * 256 + d ≡ n * 4294967296 + half a b c d
+half-digits n a b c d = omega arith
 
-  pub read-small : (n b : ℕ) → n < 256 ^ k → b < 256 → n * 256 + b < 256 ^ (k + 1)
-  read-small n b l m = rw (add-one k, pow-suc 256 k) (omega arith)
+module _ (s : List ℕ) (at : ℕ) (room : at + 4 ≤ length s) where
+  -- four bytes more
+  half-read : (n k : ℕ) → numberOf n (take (suc (suc (suc (suc k)))) (drop at s)) ≡ numberOf (n * 4294967296 + half (getD s at 0) (getD s (at + 1) 0) (getD s (at + 2) 0) (getD s (at + 3) 0)) (take k (drop (at + 4) s))
+  half-read n k =
+      let a = getD s at 0 in
+      let b = getD s (at + 1) 0 in
+      let c = getD s (at + 2) 0 in
+      let d = getD s (at + 3) 0 in
+      let e : at + 0 ≡ at = omega arith in
+      ap (λ m. numberOf n (take (suc (suc (suc (suc k)))) (drop m s))) (sym e)
+      ∙ ap (numberOf n) (part-cons s at 0 (suc (suc (suc k))) (omega arith) ∙ ap (λ m. getD s m 0 ∷ take (suc (suc (suc k))) (drop (at + 1) s)) e)
+      ∙ ap (numberOf (n * 256 + a)) (part-cons s at 1 (suc (suc k)) (omega arith))
+      ∙ ap (numberOf ((n * 256 + a) * 256 + b)) (part-cons s at 2 (suc k) (omega arith))
+      ∙ ap (numberOf (((n * 256 + a) * 256 + b) * 256 + c)) (part-cons s at 3 k (omega arith))
+      ∙ ap (λ m. numberOf m (take k (drop (at + 4) s))) (half-digits n a b c d)
+
+  pub half-is : {a b c d : ℕ} → a ≡ getD s at 0 → b ≡ getD s (at + 1) 0 → c ≡ getD s (at + 2) 0 → d ≡ getD s (at + 3) 0 → half a b c d ≡ numberOf 0 (take 4 (drop at s))
+  half-is e₁ e₂ e₃ e₄ = rw (e₁, e₂, e₃, e₄) (omega (arith, half-read 0 0))
+
+-- eight bytes are two halves
+pub halves-are : (s : List ℕ) (at : ℕ) {a b : ℕ} → at + 8 ≤ length s → a ≡ numberOf 0 (take 4 (drop at s)) → b ≡ numberOf 0 (take 4 (drop (at + 4) s)) → a * 4294967296 + b ≡ numberOf 0 (take 8 (drop at s))
+halves-are s at {a} {b} room e₁ e₂ =
+    let r : at + 4 ≤ length s = omega arith in
+    let q : at + 4 + 4 ≤ length s = omega arith in
+    let h = half (getD s at 0) (getD s (at + 1) 0) (getD s (at + 2) 0) (getD s (at + 3) 0) in
+    omega (arith, e₁, e₂, half-read s at r 0 0, half-read s (at + 4) q 0 0, half-read s at r 0 4 ∙ half-read s (at + 4) q (0 * 4294967296 + h) 0)
 
 -- ---- writing
 

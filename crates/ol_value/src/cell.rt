@@ -1,7 +1,7 @@
 // Cells: a value as nine bytes, its tag and then a 64-bit payload, big-endian.
 ghost use mathlib.Core.Path.{_≡_};
 ghost use mathlib.Core.List.{_++_};
-ghost use Prim.Native.Nat.{_+_, _%_, _≤_};
+ghost use Prim.Native.Nat.{_+_, _%_, _≤_, _<_};
 ghost use lib.Dec.{eqb};
 ghost use lib.ListN.{length, take, drop};
 ghost use Rattle.ol_spec.specs.Lists.{same};
@@ -17,7 +17,7 @@ use ol_spec::Value;
 
 // A byte as a number.
 fn wide(b: u8) -> u64
-    ensures { λ r. ⌜ r ≡ b ⌝ }
+    ensures { λ r. ⌜ (r ≡ b) × (r < 256) ⌝ }
 {
     b as u64
 }
@@ -29,18 +29,27 @@ fn low_byte(n: u64) -> u8
     (n % 256) as u8
 }
 
-// The 64-bit number at an offset.
+// The 32-bit number at an offset.
+fn read_half(bytes: &[u8], at: usize) -> u64
+    requires { ⌜ at + 4 ≤ length (now bytes) ⌝ }
+    ensures { λ r. ⌜ (r ≡ numberOf 0 (take 4 (drop at (now (bytes .entry))))) × (r < 4294967296) ⌝ }
+{
+    let a = wide(bytes[at]);
+    let b = wide(bytes[at + 1]);
+    let c = wide(bytes[at + 2]);
+    let d = wide(bytes[at + 3]);
+    a * 16777216 + b * 65536 + c * 256 + d
+}
+
+// The 64-bit number at an offset. Both halves are sums of bytes times powers of 256, which the
+// compiler makes one load.
 pub fn read_number(bytes: &[u8], at: usize) -> u64
     requires { ⌜ at + 8 ≤ length (now bytes) ⌝ }
     ensures { λ r. ⌜ r ≡ numberOf 0 (take 8 (drop at (now (bytes .entry)))) ⌝ }
 {
-    let mut n: u64 = 0;
-    let mut k: usize = 0;
-    while k < 8 {
-        n = n * 256 + wide(bytes[at + k]);
-        k += 1;
-    }
-    n
+    let a = read_half(bytes, at);
+    let b = read_half(bytes, at + 4);
+    a * 4294967296 + b
 }
 
 // Writes a number's eight bytes at an offset, the last one first.
