@@ -80,6 +80,32 @@ fit-other float64 v o = absurd o
 fit-other char v o = refl
 fit-other (enum e) v o = refl
 
+-- the values that fitting leaves alone, by the kind of the value
+module _ (e : ℕ) where
+  pub bool-fit : (b : Bool) (code : ℕ) → Val.Bool b ≡ fit (tyOf code e) (Val.Bool b)
+  unfolding fit
+  bool-fit b =
+      by-code (λ c t. Val.Bool b ≡ fit (tyFrom e t) (Val.Bool b))
+      refl (λ c p q. refl) refl refl refl (λ c p. refl)
+
+  pub float-fit : (x : Float) (code : ℕ) → (code ≡ 9 → ⊥) → Val.Float x ≡ fit (tyOf code e) (Val.Float x)
+  unfolding fit
+  float-fit x =
+      by-code (λ c t. (c ≡ 9 → ⊥) → Val.Float x ≡ fit (tyFrom e t) (Val.Float x))
+      (λ f. refl) (λ c p q f. refl) (λ f. absurd (f refl)) (λ f. refl) (λ f. refl) (λ c p f. refl)
+
+  pub single-fit : (x : Float) (code : ℕ) → (code ≡ 10 → ⊥) → Val.Float32 x ≡ fit (tyOf code e) (Val.Float32 x)
+  unfolding fit
+  single-fit x =
+      by-code (λ c t. (c ≡ 10 → ⊥) → Val.Float32 x ≡ fit (tyFrom e t) (Val.Float32 x))
+      (λ d. refl) (λ c p q d. refl) (λ d. refl) (λ d. absurd (d refl)) (λ d. refl) (λ c p d. refl)
+
+  pub enum-fit : (v code : ℕ) → Val.Enum v ≡ fit (tyOf code e) (Val.Enum v)
+  unfolding fit
+  enum-fit v =
+      by-code (λ c t. Val.Enum v ≡ fit (tyFrom e t) (Val.Enum v))
+      refl (λ c p q. refl) refl refl refl (λ c p. refl)
+
 pub cast-other : (t : Ty) (v : Value) → Other t → Out.Failure ≡ castTo t v
 unfolding castTo
 cast-other bool v o = refl

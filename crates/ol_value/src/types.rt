@@ -18,29 +18,16 @@ use ol_real::i64_to_f64;
 use ol_spec::Outcome;
 use ol_spec::Value;
 
-// A value as a variable of an integer type holds it.
-fn fit_int(code: u8, v: Value) -> Value
-    ensures { λ r. ⌜ r ≡ fitInt (intTy code) v ⌝ }
-{
-    match v {
-        Value::Bool(_) => v,
-        Value::Int(i) => Value::Int(narrow_int(code, i)),
-        Value::Float(_) => v,
-        Value::Float32(_) => v,
-        Value::Enum(_) => v,
-    }
-}
-
 // A value as a Float32 variable holds it.
 fn fit_single(v: Value) -> Value
     ensures { λ r. ⌜ r ≡ fitSingle v ⌝ }
 {
     match v {
-        Value::Bool(_) => v,
+        Value::Bool(b) => Value::Bool(b),
         Value::Int(i) => Value::Float32(i64_to_f32(i)),
         Value::Float(x) => Value::Float32(f64_to_f32(x)),
-        Value::Float32(_) => v,
-        Value::Enum(_) => v,
+        Value::Float32(x) => Value::Float32(x),
+        Value::Enum(w) => Value::Enum(w),
     }
 }
 
@@ -49,11 +36,23 @@ fn fit_double(v: Value) -> Value
     ensures { λ r. ⌜ r ≡ fitDouble v ⌝ }
 {
     match v {
-        Value::Bool(_) => v,
+        Value::Bool(b) => Value::Bool(b),
         Value::Int(i) => Value::Float(i64_to_f64(i)),
-        Value::Float(_) => v,
+        Value::Float(x) => Value::Float(x),
         Value::Float32(x) => Value::Float(f32_to_f64(x)),
-        Value::Enum(_) => v,
+        Value::Enum(w) => Value::Enum(w),
+    }
+}
+
+// An integer as a variable of the type holds it.
+fn fit_number(code: u8, i: i64) -> Value
+    ensures { λ r. ⌜ ((e : ℕ) → r ≡ fit (tyOf code e) (Value.Int i)) ⌝ }
+{
+    match code {
+        1..=8 => Value::Int(narrow_int(code, i)),
+        9 => Value::Float32(i64_to_f32(i)),
+        10 => Value::Float(i64_to_f64(i)),
+        _ => Value::Int(i),
     }
 }
 
@@ -61,11 +60,24 @@ fn fit_double(v: Value) -> Value
 pub fn fit_to(code: u8, v: Value) -> Value
     ensures { λ r. ⌜ ((e : ℕ) → r ≡ fit (tyOf code e) v) ⌝ }
 {
-    match code {
-        1..=8 => fit_int(code, v),
-        9 => fit_single(v),
-        10 => fit_double(v),
-        _ => v,
+    match v {
+        Value::Bool(b) => Value::Bool(b),
+        Value::Int(i) => fit_number(code, i),
+        Value::Float(x) => {
+            if code == 9 {
+                Value::Float32(f64_to_f32(x))
+            } else {
+                Value::Float(x)
+            }
+        }
+        Value::Float32(x) => {
+            if code == 10 {
+                Value::Float(f32_to_f64(x))
+            } else {
+                Value::Float32(x)
+            }
+        }
+        Value::Enum(w) => Value::Enum(w),
     }
 }
 

@@ -7,55 +7,41 @@ use borrow.Author.Needs.{needs}
 use Rattle.ol_value.proofs.types.fit_single.Statement.{statement}
 use Rattle.ol_value.proofs.types.fit_single.Tie as tie
 
-enum-told : tie.Need-enum-told
-enum-told c = search needs
-
 enum-known-v : tie.Need-enum-known-v
 enum-known-v c = search needs
-
-i64-to-f32-requires : tie.Need-i64-to-f32-requires
-i64-to-f32-requires c κs = search needs
 
 enum-known-v-2 : tie.Need-enum-known-v-2
 enum-known-v-2 c = search needs
 
+i64-to-f32-requires : tie.Need-i64-to-f32-requires
+i64-to-f32-requires c κs = search needs
+
+enum-known-v-3 : tie.Need-enum-known-v-3
+enum-known-v-3 c = search needs
+
 f64-to-f32-requires : tie.Need-f64-to-f32-requires
 f64-to-f32-requires c κs = search needs
 
-enum-told-2 : tie.Need-enum-told-2
-enum-told-2 c = search needs
+enum-known-v-4 : tie.Need-enum-known-v-4
+enum-known-v-4 c = search needs
 
-enum-told-3 : tie.Need-enum-told-3
-enum-told-3 c = search needs
+enum-known-v-5 : tie.Need-enum-known-v-5
+enum-known-v-5 c = search needs
 
 returns : tie.Need-returns
-returns c = search needs
+returns c = rw (c .before .v .given .1)
 
 returns-2 : tie.Need-returns-2
-returns-2 c = rw (c .before .before .v .given .1) (ap Val.Float32 (c .i64-to-f32 .ensures ∙ ap (ofInt single) (toZ-ofZ (sfits-of (c .before .known-told .given .0 .1)))))
+returns-2 c = rw (c .before .before .v2 .given .1) (ap Val.Float32 (c .i64-to-f32 .ensures ∙ ap (ofInt single) (toZ-ofZ (sfits-of (c .before .known-told2 .given .0 .1)))))
 
 returns-3 : tie.Need-returns-3
-returns-3 c = rw (c .before .before .v2 .given .1) (ap Val.Float32 (c .f64-to-f32 .ensures))
+returns-3 c = rw (c .before .before .v3 .given .1) (ap Val.Float32 (c .f64-to-f32 .ensures))
 
 returns-4 : tie.Need-returns-4
-returns-4 c = search needs
+returns-4 c = rw (c .before .v4 .given .1)
 
 returns-5 : tie.Need-returns-5
-returns-5 c = search needs
+returns-5 c = rw (c .before .v5 .given .1)
 
 pub fit-single-spec : {M : Type 1} → statement M
-fit-single-spec =
-    tie.close
-    (tie.spec
-    enum-told
-    enum-known-v
-    i64-to-f32-requires
-    enum-known-v-2
-    f64-to-f32-requires
-    enum-told-2
-    enum-told-3
-    returns
-    returns-2
-    returns-3
-    returns-4
-    returns-5)
+fit-single-spec = tie.close (tie.spec enum-known-v enum-known-v-2 i64-to-f32-requires enum-known-v-3 f64-to-f32-requires enum-known-v-4 enum-known-v-5 returns returns-2 returns-3 returns-4 returns-5)
