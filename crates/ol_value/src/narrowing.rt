@@ -9,7 +9,7 @@ use crate::ints::magnitude;
 
 // An integer type's width in bits, and whether it has a sign.
 pub struct IntType {
-    pub bits: u64,
+    pub bits: u8,
     pub signed: bool,
 }
 
@@ -106,7 +106,7 @@ fn narrow_to(t: IntType, i: i64) -> i64
     requires { ⌜ Narrow (intTyOf t) ⌝ }
     ensures { λ r. ⌜ r ≡ narrow (intTyOf t) i ⌝ }
 {
-    let b = t.bits;
+    let b = t.bits as u64;
     if b == 64 {
         return i;
     }
@@ -126,7 +126,7 @@ fn within(t: IntType, i: i64) -> bool
     requires { ⌜ Narrow (intTyOf t) ⌝ }
     ensures { λ r. ⌜ r ≡ inRange (intTyOf t) i ⌝ }
 {
-    let b = t.bits;
+    let b = t.bits as u64;
     if b == 64 {
         return true;
     }
