@@ -1,1 +1,11 @@
 pub mod Demand
+pub mod Chain
+pub mod Parts
+pub mod Lows
+pub mod Slotting
+pub mod Tables
+pub mod Steps
+pub mod Begins
+pub mod Reading
+pub mod Starts
+pub mod Cycles

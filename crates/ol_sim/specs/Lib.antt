@@ -1,2 +1,5 @@
-pub mod Demand
 pub mod Calls
+pub mod Demand
+pub mod Judging
+pub mod Starting
+pub mod Cycling

@@ -1,0 +1,155 @@
+-- Judging from its beginning: the rows, the tables by name, and the faults 6 to 10.
+use Prim.Native.Nat.{ℕ, zero, suc, _+_, _-_, _*_, _<_, _≤_}
+use mathlib.Core.Bool.{Bool, true}
+use mathlib.Core.List.{List, [], _∷_, _++_}
+use mathlib.Core.Option.{Option, none, some}
+use mathlib.Core.Path.{_≡_, refl, ap, sym, subst, _∙_}
+use native.Mathlib.Omega.{arith}
+use lib.ListN.{length, getD, take, drop, replicate, length-replicate, length-append, length-drop}
+use lib.Seq.{take-at, drop-at, length-take-le, drop-drop}
+use Rattle.ol_spec.specs.Limits.{relayLoader}
+use Rattle.ol_spec.specs.Syntax.{File}
+use Rattle.ol_spec.specs.Answers.{faultAt}
+use Rattle.ol_spec.specs.Admission as Adm
+use Rattle.ol_spec.specs.declared.Verdict.{Verdict}
+use Rattle.ol_tree.specs.At.{fileAt}
+use Rattle.ol_tree.specs.Stands.{FileReads, FileStands}
+use Rattle.ol_tree.specs.Tables.{Each}
+use Rattle.ol_check.specs.RowsDone.{TablesDone, PlacesAre}
+use Rattle.ol_check.specs.declared.rows.Sections.{Sections}
+use Rattle.ol_check.specs.FileJudged.{NamesWithin, FileJudged}
+use Rattle.ol_check.specs.FileJudged.{FileReady as Ready}
+use Rattle.ol_check.specs.declared.judge.Faults.{Faults}
+use Rattle.ol_check.specs.Clashing.{DeclaredReady, Blank}
+use Rattle.ol_sim.specs.Judging.{Judges, JudgesBy, whole, from6, verdictOf, Loads, FileReady, Rowed, Typed, SectionsReady, Empty, NamesReady, FaultsAre, Slots, ShapesReady}
+use Rattle.ol_sim.specs.declared.judge.Judged.{Judged}
+use Rattle.ol_sim.specs.declared.judge.Judged.the-variants as Jud
+use Rattle.ol_spec.specs.Demand3.{Bytes}
+use Rattle.ol_tree.proofs.HeadsFile.{file-stands}
+use Rattle.ol_check.proofs.SizeTable.{rows-sized}
+use Rattle.ol_sim.proofs.Parts.{tailOf, putTail, tail-all, take-put, drop-put, length-put, drop-take}
+
+-- ---- tables by name
+
+pub zero-at : (n x : ℕ) → _≡_ {A = ℕ} (getD (replicate n 0) x 0) 0
+zero-at zero zero = refl
+zero-at zero (suc x) = refl
+zero-at (suc n) zero = refl
+zero-at (suc n) (suc x) = zero-at n x
+
+pub blank-zeros : (f : File) (n : ℕ) → Each (λ d. d .name < n) (Adm.declared f) → Blank f (replicate n 0)
+blank-zeros f n h = record { zero = zero-at n; below = subst (λ m. Each (λ d. d .name < m) (Adm.declared f)) (sym (length-replicate {A = ℕ} n 0)) h }
+
+pub empty-zeros : (f : File) (n : ℕ) → NamesWithin n f → Empty f (replicate n 0)
+empty-zeros f n h = record { zero = zero-at n; within = subst (λ m. NamesWithin m f) (sym (length-replicate {A = ℕ} n 0)) h }
+
+-- ---- the rows
+
+pub rowed-done : {s places rows rows′ tab consts types : List ℕ} {enums : ℕ} {c : Sections} → FileReady s enums places rows tab consts → TablesDone (fileAt s) rows′ types c → length rows′ ≡ length rows → Rowed s rows′ c
+rowed-done h d e =
+    record { reads = h .loads .reads; stands = h .stands; long = e ∙ h .rowsLong; sections = d .sections; row = d .are .row; firsts = d .are .firsts }
+
+pub declared-ready : {s rows : List ℕ} {c : Sections} → Rowed s rows c → DeclaredReady s rows c
+declared-ready r = record { reads = r .reads; row = r .row; sections = r .sections }
+
+pub faults-ready : {s places rows tab names consts : List ℕ} {enums : ℕ} {c : Sections} {low : Bool} → NamesReady s enums places rows tab names consts c low → Ready s rows names c
+faults-ready h = let r = h .sections .rowed in record { reads = r .reads; row = r .row; sections = r .sections; empty = h .empty .zero }
+
+-- room for the types
+pub types-room : {s places rows tab consts : List ℕ} {enums : ℕ} → FileReady s enums places rows tab consts → length (take 7168 (drop 2560 tab)) ≡ 7168
+types-room {tab = tab} h = length-take-le 7168 (drop 2560 tab) (omega (arith, length-drop 2560 tab, h .tabLong))
+
+-- the nodes' places
+pub places-are : {s places rows tab consts : List ℕ} {enums : ℕ} → FileReady s enums places rows tab consts → PlacesAre (fileAt s) places
+places-are h = record { at = λ k lt. ap (λ l. getD l k 0) (h .loads .placed) }
+
+-- the types stand in the middle of the table
+middle : (tab x : List ℕ) → 9728 ≤ length tab → length x ≡ 7168 → take 7168 (drop 2560 (take 2560 tab ++ (x ++ drop 7168 (drop 2560 tab)))) ≡ x
+middle tab x l e = ap (take 7168) (drop-at (take 2560 tab) (x ++ drop 7168 (drop 2560 tab)) 2560 (length-take-le 2560 tab (omega arith))) ∙ take-at x (drop 7168 (drop 2560 tab)) 7168 e
+
+pub middle-long : (tab x : List ℕ) → 9728 ≤ length tab → length x ≡ 7168 → length (take 2560 tab ++ (x ++ drop 7168 (drop 2560 tab))) ≡ length tab
+middle-long tab x l e =
+    length-append (take 2560 tab) (x ++ drop 7168 (drop 2560 tab))
+    ∙ omega (arith, length-take-le 2560 tab (omega arith), length-append x (drop 7168 (drop 2560 tab)), length-drop 7168 (drop 2560 tab), length-drop 2560 tab, e)
+
+pub sections-ready : {s places rows rows′ tab consts : List ℕ} {enums : ℕ} {c : Sections} (x : List ℕ) → FileReady s enums places rows tab consts → TablesDone (fileAt s) rows′ x c → length rows′ ≡ length rows → length x ≡ length (take 7168 (drop 2560 tab)) → SectionsReady s enums places rows′ (take 2560 tab ++ (x ++ drop 7168 (drop 2560 tab))) consts c
+sections-ready {s} {tab = tab} x h d e k =
+    let long : length x ≡ 7168 = k ∙ length-take-le 7168 (drop 2560 tab) (omega (arith, length-drop 2560 tab, h .tabLong)) in
+    record {
+      loads = h .loads;
+      rowed = rowed-done h d e;
+      typed = subst (λ t. Typed (fileAt s) t) (sym (middle tab x (omega (arith, h .tabLong)) long)) (record { typed = d .are .typed });
+      tabLong = omega (arith, middle-long tab x (omega (arith, h .tabLong)) long, h .tabLong);
+      constsLong = h .constsLong;
+    }
+
+-- ---- 6 to 10
+
+faults-are : {s names names′ slots slots′ rows rows′ : List ℕ} {found : Faults} → FileJudged s (fileAt s) names names′ slots slots′ rows rows′ found → FaultsAre (fileAt s) found
+faults-are j = record { unseen = j .unseen; again = j .again; called = j .called; shaped = j .shaped }
+
+pub shapes-ready : {s places rows rows′ tab names names′ consts : List ℕ} {enums : ℕ} {c : Sections} {low : Bool} {found : Faults} (x : List ℕ) → NamesReady s enums places rows tab names consts c low → length rows′ ≡ length rows → length x ≡ length (tailOf 9728 tab) → Adm.fault6 (fileAt s) ≡ none → FileJudged s (fileAt s) names names′ (tailOf 9728 tab) x rows rows′ found → ShapesReady s enums places rows′ (putTail 9728 tab x) consts c low found
+shapes-ready {s} {rows = rows} {rows′} {tab} {names} {names′} {found = found} x h same e no6 j =
+    let d = h .sections in
+    let r = d .rowed in
+    let long : length rows′ ≡ 272 = same ∙ r .long in
+    let u : 9728 ≤ length tab = omega (arith, d .tabLong) in
+    record {
+      sections = record {
+        loads = d .loads;
+        rowed = record {
+          reads = r .reads;
+          stands = r .stands;
+          long = long;
+          sections = r .sections;
+          row = j .sized .row;
+          firsts = λ n g. j .sized .above (256 + n) (omega arith) ∙ r .firsts n g;
+        };
+        typed = subst (λ t. Typed (fileAt s) t) (sym (sym (drop-take 2560 9728 (putTail 9728 tab x)) ∙ ap (drop 2560) (take-put 9728 tab x u) ∙ drop-take 2560 9728 tab)) (d .typed);
+        tabLong = omega (arith, length-put 9728 tab x u e, d .tabLong);
+        constsLong = d .constsLong;
+      };
+      no6 = no6;
+      are = faults-are j;
+      slots = record {
+        names = names;
+        names′ = names′;
+        before = tailOf 9728 tab;
+        rows = rows;
+        rows′ = rows′;
+        found = found;
+        empty = h .empty;
+        long = omega (arith, ap length (tail-all 9728 tab), length-drop 9728 tab, d .tabLong);
+        judged = subst (λ t. FileJudged s (fileAt s) names names′ (tailOf 9728 tab) t rows rows′ found) (sym (drop-put 9728 tab x u)) j;
+      };
+      sized = λ no9. (rows-sized long (r .firsts) (j .sized) no9, j .main no9);
+      lows = h .lows;
+    }
+
+-- ---- the verdict
+
+pub judge-is : (s : List ℕ) → FileReads s → Adm.judge relayLoader s ≡ Adm.refuseFirst (from6 (fileAt s)) (whole (fileAt s))
+unfolding Adm.judge
+judge-is s h = ap (Adm.judgeRead relayLoader) (h .is)
+
+pub verdict-is : {s rows tab consts : List ℕ} {j : Judged} → FileReads s → Judges s (from6 (fileAt s)) rows tab consts j → verdictOf j ≡ Adm.admission relayLoader s
+verdict-is {s} {rows} {tab} {consts} {j} r h = go j (h .is)
+  where
+    go : (x : Judged) → JudgesBy s (from6 (fileAt s)) rows tab consts x → verdictOf x ≡ Adm.admission relayLoader s
+    go (Jud.Refused x) e = sym (ap Adm.verdict (judge-is s r ∙ e))
+    go (Jud.Admitted size main count low) e = ap Rattle.ol_spec.specs.declared.Verdict.the-variants.Admitted (e .1 .sized) ∙ sym (ap Adm.verdict (judge-is s r ∙ e .0))
+
+pub false-not-true : mathlib.Core.Bool.false ≡ true → ⊥
+false-not-true e = let z : _≡_ {A = ℕ} 0 1 = ap (λ b. mathlib.Core.Bool.cond b 1 0) e in omega arith
+
+-- ---- any file that reads without fault, with blank arrays
+
+pub file-ready : {s places : List ℕ} {enums : ℕ} (n : ℕ) → Loads s enums places → Bytes s → 9728 + length s ≤ n → FileReady s enums places (replicate 272 0) (replicate n 0) (replicate 576 0)
+file-ready n l b h =
+    record {
+      loads = l;
+      stands = file-stands b (l .reads);
+      rowsLong = length-replicate {A = ℕ} 272 0;
+      tabLong = omega (arith, length-replicate {A = ℕ} n 0, h);
+      constsLong = length-replicate {A = ℕ} 576 0;
+    }

@@ -1,0 +1,81 @@
+-- What loading the file finds, for the public functions.
+use Prim.Native.Nat.{ℕ, _≤_}
+use mathlib.Core.List.{List, map}
+use mathlib.Core.Path.{_≡_, refl, ap, sym, subst, _∙_}
+use native.Mathlib.Omega.{arith}
+use lib.ListN.{length, take, replicate, length-map}
+use lib.Seq.{sets}
+use Rattle.ol_spec.specs.Limits.{relayLoader}
+use Rattle.ol_spec.specs.Syntax.{File}
+use Rattle.ol_spec.specs.Places.{nodeSize, nodesStart, placedNodes}
+use Rattle.ol_spec.specs.Read.{Read, got, fault, readFile}
+use Rattle.ol_spec.specs.Answers.{faultAt}
+use Rattle.ol_spec.specs.Admission as Adm
+use Rattle.ol_spec.specs.Cycle.{StartCall, start, startJudged, noStart}
+use Rattle.ol_spec.specs.declared.Fault.{Fault}
+use Rattle.ol_spec.specs.declared.Verdict.{Verdict}
+use Rattle.ol_spec.specs.declared.Verdict.the-variants as Ver
+use Rattle.ol_spec.specs.declared.Started.the-variants as Sta
+use Rattle.ol_tree.specs.At.{fileAt, itemOf, noFile}
+use Rattle.ol_tree.specs.Stands.{FileReads, FileStands}
+use Rattle.ol_ir.specs.Walks.{placeOf, loadedOf}
+use Rattle.ol_ir.specs.declared.Loaded.{Loaded}
+use Rattle.ol_ir.specs.declared.Loaded.the-variants as Ldd
+use Rattle.ol_order.proofs.Nodes.{length-placed, table-front}
+use Rattle.ol_sim.specs.Calls.{StartsAs}
+use Rattle.ol_sim.specs.Judging.{Loads}
+
+-- the file was loaded
+loaded-file : (r : Read File) (e k : ℕ) → Ldd.Nodes e k ≡ loadedOf r → (f : File) × (end : ℕ) × (r ≡ got f end) × (length (f .enums) ≡ e) × (length (f .nodes) ≡ k)
+unfolding loadedOf
+loaded-file (got f end) e k h = (f, end, refl, cc, cc)
+loaded-file (fault n p) e k h = let z : _≡_ {A = ℕ} 0 1 = cc in absurd (omega arith)
+
+loaded-not : (r : Read File) (f : Fault) → Ldd.Refused f ≡ loadedOf r → r ≡ fault (f .number) (f .place)
+unfolding loadedOf
+loaded-not (got g end) f h = let z : _≡_ {A = ℕ} 0 1 = cc in absurd (omega arith)
+loaded-not (fault n p) f h = let z : faultAt n p ≡ f = cc in ap (λ (v : Fault). fault (v .number) (v .place)) z
+
+module _ (s : List ℕ) {r : Loaded} {enums n : ℕ} (e : r ≡ loadedOf (readFile s relayLoader)) (d : r ≡ Ldd.Nodes enums n) where
+  abbrev loaded : (f : File) × (end : ℕ) × (readFile s relayLoader ≡ got f end) × (length (f .enums) ≡ enums) × (length (f .nodes) ≡ n)
+  loaded = loaded-file (readFile s relayLoader) enums n (sym d ∙ e)
+
+  the-file : fileAt s ≡ loaded .0
+  the-file = ap (itemOf noFile) (loaded .2)
+
+  pub file-reads : FileReads s
+  file-reads = record { end = loaded .1; is = loaded .2 ∙ ap (λ f. got f (loaded .1)) (sym the-file) }
+
+  many-nodes : length (fileAt s .nodes) ≡ n
+  many-nodes = ap (λ (f : File). length (f .nodes)) the-file ∙ loaded .4
+
+  pub loads : {t : List ℕ} → FileStands s (fileAt s) → ((f : File) (end : ℕ) → readFile s relayLoader ≡ got f end → t ≡ sets (replicate 32 0) 0 (map placeOf (placedNodes f))) → Loads s enums (take n t)
+  loads {t} st i =
+      let w : length (map placeOf (placedNodes (fileAt s))) ≡ n = length-map (placedNodes (fileAt s)) placeOf ∙ length-placed nodeSize (nodesStart (fileAt s)) (fileAt s .nodes) ∙ many-nodes in
+      record {
+        reads = file-reads;
+        counted = ap (λ (f : File). length (f .enums)) the-file ∙ loaded .3;
+        placed = ap (take n) (i (fileAt s) (file-reads .end) (file-reads .is)) ∙ table-front 32 (map placeOf (placedNodes (fileAt s))) (omega (arith, w, many-nodes, st .fewNodes)) n w;
+      }
+
+  pub few-places : FileStands s (fileAt s) → n ≤ 32
+  few-places st = omega (arith, many-nodes, st .fewNodes)
+
+-- ---- a file that was not
+
+-- the fault that reading met
+read-fault : (s : List ℕ) {r : Loaded} {x : Fault} → r ≡ loadedOf (readFile s relayLoader) → r ≡ Ldd.Refused x → readFile s relayLoader ≡ fault (x .number) (x .place)
+read-fault s {r} {x} e d = loaded-not (readFile s relayLoader) x (sym d ∙ e)
+
+pub judge-refused : (s : List ℕ) {r : Loaded} {x : Fault} → r ≡ loadedOf (readFile s relayLoader) → r ≡ Ldd.Refused x → Adm.judge relayLoader s ≡ Adm.refused (x .number) (x .place)
+unfolding Adm.judge
+judge-refused s e d = ap (Adm.judgeRead relayLoader) (read-fault s e d)
+
+pub admission-refused : (s : List ℕ) {r : Loaded} {x : Fault} → r ≡ loadedOf (readFile s relayLoader) → r ≡ Ldd.Refused x → Ver.Refused x ≡ Adm.admission relayLoader s
+admission-refused s {r} {x} e d = sym (ap Adm.verdict (judge-refused s e d))
+
+pub start-refused : (s st : List ℕ) {r : Loaded} {x : Fault} → r ≡ loadedOf (readFile s relayLoader) → r ≡ Ldd.Refused x → StartsAs (start relayLoader s st) (Sta.Refused x) st
+unfolding start
+start-refused s st {r} {x} e d =
+    let w : start relayLoader s st ≡ noStart (x .number) (x .place) st = ap (λ j. startJudged j st) (judge-refused s e d) in
+    record { answered = sym (ap (λ (c : StartCall). c .answer) w); written = sym (ap (λ (c : StartCall). c .state) w) }

@@ -1,0 +1,147 @@
+-- The start: its ways out, and the fresh state put together.
+use Prim.Native.Nat.{ℕ, suc, _+_, _-_, _*_, _<_, _≤_}
+use mathlib.Core.Bool.{Bool, true, false}
+use mathlib.Core.List.{List, [], _∷_, _++_}
+use mathlib.Core.Path.{_≡_, refl, ap, sym, subst, _∙_}
+use native.Mathlib.Omega.{arith}
+use lib.Dec.{T, eqb, eqb→eq, eqb-refl}
+use lib.ListN.{length, take, drop, getD, length-append, length-drop}
+use lib.Seq.{take-at, drop-at, length-take-le}
+use Rattle.ol_spec.specs.Limits.{relayLoader}
+use Rattle.ol_spec.specs.Syntax.{File, Node, NodeKind, Function, Operator, Imported, noNode, main}
+use Rattle.ol_spec.specs.Cell.{cells}
+use Rattle.ol_spec.specs.Answers.{faultAt}
+use Rattle.ol_spec.specs.Step.{instanceSize, siteSizeBy, sizesAt, freshAt, freshRecord}
+use Rattle.ol_spec.specs.State.{globalsOf, freshState}
+use Rattle.ol_spec.specs.Admission as Adm
+use Rattle.ol_spec.specs.Cycle.{StartCall, start, startJudged, startFits}
+use Rattle.ol_spec.specs.declared.Started.{Started}
+use Rattle.ol_spec.specs.declared.Started.the-variants as Sta
+use Rattle.ol_spec.specs.declared.Fault.{Fault}
+use Rattle.ol_spec.specs.declared.Value.{Value}
+use Rattle.ol_spec.proofs.MainFacts.{main-at}
+use Rattle.ol_spec.proofs.Calls.{site-size}
+use Rattle.ol_tree.specs.At.{fileAt}
+use Rattle.ol_tree.specs.Stands.{FileReads}
+use Rattle.ol_tree.specs.Tables.{nodeOf, siteBytes}
+use Rattle.ol_fresh.specs.Known.{Sited}
+use Rattle.ol_fresh.proofs.Fresh.{fresh-record}
+use Rattle.ol_sim.specs.Calls.{StartsAs}
+use Rattle.ol_sim.specs.Judging.{Judges, Admits, valuesIn, from6, whole}
+use Rattle.ol_sim.specs.Starting.{StartReady}
+use Rattle.ol_sim.specs.declared.judge.Judged.{Judged}
+use Rattle.ol_sim.specs.declared.judge.Judged.the-variants as Jud
+use Rattle.ol_sim.proofs.Begins.{judge-is}
+use Rattle.ol_sim.proofs.Parts.{tailOf, putTail, put-tail, tail-all}
+
+-- ---- equal lengths, decided
+
+T-true : (b : Bool) → T b → b ≡ true
+T-true true t = refl
+T-true false t = absurd t
+
+pub eqb-same : (m n : ℕ) → m ≡ n → eqb m n ≡ true
+eqb-same m n e = subst (λ x. eqb m x ≡ true) e (T-true (eqb m m) (eqb-refl m))
+
+pub eqb-other : (m n : ℕ) → (m ≡ n → ⊥) → eqb m n ≡ false
+eqb-other m n h = go (eqb m n) (λ t. h (eqb→eq m n t))
+  where
+    go : (b : Bool) → (T b → ⊥) → b ≡ false
+    go true k = absurd (k tt)
+    go false k = refl
+
+-- ---- what was judged
+
+module _ {s rows tab consts : List ℕ} {j : Judged} (r : FileReads s) (h : Judges s (from6 (fileAt s)) rows tab consts j) where
+  pub admits-of : {size main count : ℕ} {low : Bool} → j ≡ Jud.Admitted size main count low → Admits s rows tab consts size main count low
+  admits-of {size} {main} {count} {low} e = subst (λ x. Judges s (from6 (fileAt s)) rows tab consts x) e h .is .1
+
+  pub judged-whole : {size main count : ℕ} {low : Bool} → j ≡ Jud.Admitted size main count low → Adm.judge relayLoader s ≡ whole (fileAt s)
+  judged-whole e = judge-is s r ∙ subst (λ x. Judges s (from6 (fileAt s)) rows tab consts x) e h .is .0
+
+  pub judged-refused : {x : Fault} → j ≡ Jud.Refused x → Adm.judge relayLoader s ≡ Adm.refused (x .number) (x .place)
+  judged-refused e = judge-is s r ∙ subst (λ x. Judges s (from6 (fileAt s)) rows tab consts x) e h .is
+
+-- ---- the ways out
+
+as-call : {w : StartCall} {a : Started} {t : List ℕ} (v : StartCall) → w ≡ v → a ≡ v .answer → t ≡ v .state → StartsAs w a t
+as-call v e p q = record { answered = p ∙ sym (ap (λ (c : StartCall). c .answer) e); written = q ∙ sym (ap (λ (c : StartCall). c .state) e) }
+
+pub starts-refused : (s : List ℕ) (st : List ℕ) {x : Fault} → Adm.judge relayLoader s ≡ Adm.refused (x .number) (x .place) → StartsAs (start relayLoader s st) (Sta.Refused x) st
+unfolding start
+starts-refused s st {x} e = as-call (startJudged (Adm.refused (x .number) (x .place)) st) (ap (λ j. startJudged j st) e) refl refl
+
+pub starts-done : (s : List ℕ) (st : List ℕ) {t : List ℕ} → Adm.judge relayLoader s ≡ whole (fileAt s) → length st ≡ Adm.stateSize (fileAt s) → t ≡ freshState (fileAt s) (valuesIn (fileAt s)) → StartsAs (start relayLoader s st) Sta.Done t
+unfolding start
+starts-done s st e l q =
+    as-call (startFits true (fileAt s) (valuesIn (fileAt s)) st)
+    (ap (λ j. startJudged j st) e ∙ ap (λ b. startFits b (fileAt s) (valuesIn (fileAt s)) st) (eqb-same (length st) (Adm.stateSize (fileAt s)) l)) refl q
+
+pub starts-unfit : (s : List ℕ) (st : List ℕ) → Adm.judge relayLoader s ≡ whole (fileAt s) → (length st ≡ Adm.stateSize (fileAt s) → ⊥) → StartsAs (start relayLoader s st) (Sta.Refused (faultAt 17 0)) st
+unfolding start
+starts-unfit s st e l =
+    as-call (startFits false (fileAt s) (valuesIn (fileAt s)) st)
+    (ap (λ j. startJudged j st) e ∙ ap (λ b. startFits b (fileAt s) (valuesIn (fileAt s)) st) (eqb-other (length st) (Adm.stateSize (fileAt s)) l)) refl refl
+
+-- ---- the main node
+
+pub main-is : (f : File) (m : ℕ) → suc m ≡ length (f .nodes) → main f ≡ nodeOf f m
+main-is f m e = main-at (f .nodes) (omega (arith, e)) ∙ ap (λ i. getD (f .nodes) i noNode) (omega (arith, e))
+
+operator-kind : (k : NodeKind) (f : File) → Adm.atMain f (mathlib.Core.Bool.not (Adm.isOperator k)) ≡ mathlib.Core.Option.none → k ≡ Operator
+operator-kind Operator f e = refl
+operator-kind Function f e = absurd (some-none e)
+  where
+    some-none : {n : ℕ} → mathlib.Core.Option.some n ≡ mathlib.Core.Option.none → ⊥
+    some-none e = let z : _≡_ {A = ℕ} 1 0 = ap (λ o. Rattle.ol_spec.specs.Lists.maybe 0 (λ x. 1) o) e in omega arith
+operator-kind Imported f e = absurd (some-none e)
+  where
+    some-none : {n : ℕ} → mathlib.Core.Option.some n ≡ mathlib.Core.Option.none → ⊥
+    some-none e = let z : _≡_ {A = ℕ} 1 0 = ap (λ o. Rattle.ol_spec.specs.Lists.maybe 0 (λ x. 1) o) e in omega arith
+
+pub main-operator : (f : File) (m : ℕ) → suc m ≡ length (f .nodes) → Adm.fault14 f ≡ mathlib.Core.Option.none → nodeOf f m .kind ≡ Operator
+main-operator f m e no14 = ap (λ (n : Node). n .kind) (sym (main-is f m e)) ∙ operator-kind (main f .kind) f no14
+
+-- ---- lengths
+
+state-is : (f : File) → Adm.stateSize f ≡ 9 * length (f .constants) + instanceSize (sizesAt (length (f .nodes)) (f .nodes)) (main f)
+unfolding Adm.stateSize
+state-is f = refl
+
+-- ---- the fresh state
+
+module _ {s rows tab consts : List ℕ} {m : ℕ} {state : List ℕ} (h : StartReady s rows tab consts m state) where
+  main-below : m < length (fileAt s .nodes)
+  main-below = omega (arith, h .last)
+
+  -- the main instance's record is that of a call site
+  site-is : siteBytes (fileAt s) m ≡ instanceSize (sizesAt (length (fileAt s .nodes)) (fileAt s .nodes)) (main (fileAt s))
+  site-is =
+      site-size (fileAt s .nodes) (h .known .lower) m main-below ∙ ap (λ t. siteSizeBy t (sizesAt (length (fileAt s .nodes)) (fileAt s .nodes)) (nodeOf (fileAt s) m)) (h .operator)
+      ∙ ap (instanceSize (sizesAt (length (fileAt s .nodes)) (fileAt s .nodes))) (sym (main-is (fileAt s) m (h .last)))
+
+  pub consts-fit : length consts ≤ length state
+  consts-fit = omega (arith, h .long, h .sized, state-is (fileAt s))
+
+  pub front-long : length (take (length consts) state) ≡ length consts
+  front-long = length-take-le (length consts) state consts-fit
+
+  -- the state with the constants' cells in it
+  pub begun-long : {x : List ℕ} → x ≡ consts → length (x ++ drop (length consts) state) ≡ length state
+  begun-long {x} e = length-append x (drop (length consts) state) ∙ omega (arith, ap length e, length-drop (length consts) state, consts-fit)
+
+  pub rest-sited : {x : List ℕ} → x ≡ consts → Sited (fileAt s) s tab rows m (tailOf (length consts) (x ++ drop (length consts) state))
+  rest-sited {x} e =
+      let st = x ++ drop (length consts) state in
+      let long : length (tailOf (length consts) st) ≡ siteBytes (fileAt s) m =
+      ap length (tail-all (length consts) st) ∙ length-drop (length consts) st ∙ omega (arith, begun-long e, h .long, h .sized, state-is (fileAt s), site-is) in
+      record { known = h .known; below = main-below; sized = long; small = omega (arith, long, site-is, h .sized, h .small, state-is (fileAt s)) }
+
+  pub fresh-whole : {x : List ℕ} (y : List ℕ) → x ≡ consts → ((vs : List Value) → y ≡ freshAt (globalsOf (fileAt s) vs) (length (fileAt s .nodes)) m) → putTail (length consts) (x ++ drop (length consts) state) y ≡ freshState (fileAt s) (valuesIn (fileAt s))
+  unfolding freshState
+  fresh-whole {x} y e q =
+      let vs = valuesIn (fileAt s) in
+      let g = globalsOf (fileAt s) vs in
+      put-tail (length consts) (x ++ drop (length consts) state) y
+      ∙ ap (λ t. t ++ y) (take-at x (drop (length consts) state) (length consts) (ap length e) ∙ e ∙ h .held)
+      ∙ ap (λ t. cells vs ++ t) (q vs ∙ fresh-record (fileAt s) vs (h .known .lower) m main-below (h .operator) ∙ ap (freshRecord g) (sym (main-is (fileAt s) m (h .last))))

@@ -1,0 +1,211 @@
+-- The steps of judging a file.
+use Prim.Native.Nat.{ℕ, zero, suc, _+_, _*_, _<_, _≤_, min}
+use mathlib.Core.Bool.{Bool, true, false, _&&_, cond}
+use mathlib.Core.List.{List, [], _∷_, _++_}
+use mathlib.Core.Logic.{by-cases}
+use mathlib.Core.Option.{Option, none, some}
+use mathlib.Core.Path.{_≡_, refl, ap, sym, subst, _∙_}
+use native.Mathlib.Omega.{arith}
+use native.Mathlib.Decide.{decLe}
+use native.Mathlib.Nat.{min-eq-left, min-eq-right}
+use lib.Dec.{T, ltb, leb, eqb}
+use borrow.Author.Tests.{lt-ltb, le-ltb}
+use lib.ListN.{length, getD, take, drop, length-append, length-drop, List·getD-append}
+use lib.Seq.{drop-drop, drop-at, take-at, length-take-le}
+use Rattle.ol_spec.specs.Limits.{base, relayLoader}
+use Rattle.ol_spec.specs.Syntax.{Node, File}
+use Rattle.ol_spec.specs.Cell.{cells, valuesOf}
+use Rattle.ol_spec.specs.Lists.{maybe}
+use Rattle.ol_spec.specs.Places.{nodeSize, nodesStart, placedNodes, mainPlace}
+use Rattle.ol_spec.specs.Encode.{encode}
+use Rattle.ol_spec.specs.Within.{byteFits, sectionsFit, within}
+use Rattle.ol_spec.proofs.Tests.{T-and}
+use Rattle.ol_order.proofs.Nodes.{length-placed}
+use Rattle.ol_spec.specs.Demand3.{Bytes}
+use Rattle.ol_spec.proofs.RoundTrip.{encode-read}
+use Rattle.ol_spec.specs.Admission as Adm
+use Rattle.ol_tree.specs.At.{fileAt}
+use Rattle.ol_tree.specs.Stands.{FileReads, FileStands}
+use Rattle.ol_tree.specs.Tables.{Rows, rowAt, placeOf, sizeCap}
+use Rattle.ol_tree.proofs.HeadsFile.{node-at}
+use Rattle.ol_check.specs.RowsDone.{SectionsAre}
+use Rattle.ol_check.specs.declared.rows.Sections.{Sections}
+use Rattle.ol_check.specs.NodesJudged.{RowsReady}
+use Rattle.ol_check.specs.Sizes.{MainSized}
+use Rattle.ol_check.specs.declared.judge.Faults.{Faults}
+use Rattle.ol_check.proofs.NamesBelow.{low-within}
+use Rattle.ol_order.specs.Orders.{ringPlace, NodesStand, OrdersDone}
+use Rattle.ol_order.specs.declared.table.Ring.{Ring}
+use Rattle.ol_order.specs.declared.table.Ring.the-variants as Rin
+use Rattle.ol_eval.specs.Admitted.{Admitted, Sound, Ordered}
+use Rattle.ol_eval.specs.Constants.{ConstantsAre}
+use Rattle.ol_eval.specs.declared.constants.Found.{Found}
+use Rattle.ol_eval.specs.declared.constants.Found.the-variants as Fnd
+use Rattle.ol_sim.specs.Judging.{Judges, Admits, Held, valuesIn, from13, MainReady, ConstantsReady, Typed, Slots, OrderReady, ShapesReady}
+use Rattle.ol_sim.proofs.Lows.{low-names}
+use Rattle.ol_sim.specs.declared.judge.Judged.the-variants as Jud
+use Rattle.ol_sim.proofs.Chain.{passed-by}
+use Rattle.ol_sim.proofs.Tables.{tab-whole}
+
+-- a capped sum below the cap is the sum
+uncapped : (a : ℕ) → min a 65536 ≤ 32768 → min a 65536 ≡ a
+uncapped a h = by-cases (decLe a 65536) (λ l. min-eq-left l) (λ g. absurd (omega (arith, min-eq-right {n = 65536} {m = a} (omega arith))))
+
+module _ {s rows tab consts : List ℕ} {size main count : ℕ} {low : Bool} where
+  pub main-done : MainReady s rows tab consts size main count low → Adm.fault13 relayLoader (fileAt s) ≡ none → size ≤ 32768 → Adm.fault14 (fileAt s) ≡ none → Judges s (from13 (fileAt s)) rows tab consts (Jud.Admitted size main count low)
+  main-done h no13 small no14 =
+      passed-by no13 (passed-by no14 (record { is = (refl, admits) }))
+    where
+      admits : Admits s rows tab consts size main count low
+      admits = record {
+        tables = h .tables;
+        sized = h .sized ∙ uncapped (Adm.stateSize (fileAt s)) (subst (λ n. n ≤ 32768) (h .sized) small);
+        small = small;
+        last = h .last;
+        counted = h .counted;
+        held = h .held;
+        operator = no14;
+        lows = h .lows;
+      }
+
+-- the counts of constants and of nodes, read where the sections start
+pub count-constants : {s : List ℕ} {c : Sections} {b : ℕ} → FileStands s (fileAt s) → SectionsAre (fileAt s) c → b ≡ getD s (c .constants) 0 → b ≡ length (fileAt s .constants)
+count-constants {s} st a e = e ∙ ap (λ i. getD s i 0) (omega (arith, a .constants)) ∙ st .constantCount
+
+pub count-nodes : {s : List ℕ} {c : Sections} {b : ℕ} → FileStands s (fileAt s) → SectionsAre (fileAt s) c → b ≡ getD s (c .nodes) 0 → b ≡ length (fileAt s .nodes)
+count-nodes {s} st a e = e ∙ ap (λ i. getD s i 0) (omega (arith, a .nodes)) ∙ st .nodeCount
+
+-- what evaluating the constants gave
+pub stuck-12 : (f : File) (cs : List ℕ) {p : ℕ} {r : Found} → ConstantsAre (Adm.constants f) r cs → r ≡ Fnd.Stuck p → Adm.fault12 f ≡ some p
+stuck-12 f cs {p} {r} h e = go (Adm.constants f) h
+  where
+    go : (c : Adm.Constants) → ConstantsAre c r cs → Adm.stuckPlace c ≡ some p
+    go (Adm.all vs) h = let z : _≡_ {A = ℕ} 0 1 = cc in absurd (omega arith)
+    go (Adm.stuckAt q) h = let z : Fnd.Stuck q ≡ Fnd.Stuck p = sym h ∙ e in let y : q ≡ p = cc in ap some y
+
+pub all-held : (f : File) (cs : List ℕ) {r : Found} → ConstantsAre (Adm.constants f) r cs → r ≡ Fnd.All → (Adm.fault12 f ≡ none) × Held f cs
+all-held f cs {r} h e = go (Adm.constants f) refl h
+  where
+    go : (c : Adm.Constants) → Adm.constants f ≡ c → ConstantsAre c r cs → (Adm.fault12 f ≡ none) × Held f cs
+    go (Adm.all vs) q h =
+        let w : valuesIn f ≡ vs = ap Adm.constantValues q in
+        (ap Adm.stuckPlace q, record { is = h .1 ∙ ap cells (sym w); back = subst (λ us. valuesOf (length us) cs ≡ us) (sym w) (h .2) })
+    go (Adm.stuckAt p) q h = let z : _≡_ {A = ℕ} 0 1 = cc in absurd (omega arith)
+
+-- the cells stand at the front of a buffer
+pub front-held : (f : File) (n : ℕ) (consts x : List ℕ) → n ≤ length consts → length x ≡ length (take n consts) → Held f x → Held f (take n (x ++ drop n consts))
+front-held f n consts x h e d = subst (Held f) (sym (take-at x (drop n consts) n (e ∙ length-take-le n consts h))) d
+
+pub some-none : {n : ℕ} → some n ≡ none → ⊥
+some-none e = let z : _≡_ {A = ℕ} 1 0 = ap (λ o. maybe 0 (λ x. 1) o) e in omega arith
+
+-- ---- the orders
+
+module _ {s places rows tab consts : List ℕ} {enums main : ℕ} {c : Sections} {low : Bool} (h : OrderReady s enums places rows tab consts c main low) where
+  pub nodes-stand : NodesStand s enums places low
+  nodes-stand =
+      let l = h .sections .loads in
+      record {
+        file = fileAt s;
+        end = l .reads .end;
+        is = l .reads .is;
+        counted = l .counted;
+        placed = l .placed;
+        lows = λ t. low-names (fileAt s) (h .sound .no7) (low-within 1024 (fileAt s) (h .lows t));
+      }
+
+  pub orders-room : length (take 2560 tab) ≡ 2560
+  orders-room = length-take-le 2560 tab (omega (arith, h .sections .tabLong))
+
+  module _ {x : List ℕ} {r : Ring} (same : length x ≡ length (take 2560 tab)) (o : OrdersDone (fileAt s) x r) where
+    pub orders-long : length (x ++ drop 2560 tab) ≡ length tab
+    orders-long = length-append x (drop 2560 tab) ∙ omega (arith, same, orders-room, length-drop 2560 tab, h .sections .tabLong)
+
+    behind : drop 2560 (x ++ drop 2560 tab) ≡ drop 2560 tab
+    behind = drop-at x (drop 2560 tab) 2560 (same ∙ orders-room)
+
+    front : (j : ℕ) → j < 2560 → getD (x ++ drop 2560 tab) j 0 ≡ getD x j 0
+    front j g = List·getD-append x (drop 2560 tab) 0 j (omega (arith, same, orders-room))
+
+    -- 6 to 11 do not hold, and all tables are there
+    pub constants-ready : {size : ℕ} → r ≡ Rin.Nothing → (MainSized (fileAt s) main → size ≡ min (Adm.stateSize (fileAt s)) 65536) → ConstantsReady s rows (x ++ drop 2560 tab) consts c size low
+    constants-ready e z =
+        let d = h .sections in
+        let st = d .rowed .stands in
+        let no11 : Adm.fault11 (fileAt s) ≡ none = sym (o .found) ∙ ap ringPlace e in
+        let slots : drop 9728 (x ++ drop 2560 tab) ≡ drop 9728 tab = sym (drop-drop 7168 2560 (x ++ drop 2560 tab)) ∙ ap (drop 7168) behind ∙ drop-drop 7168 2560 tab in
+        record {
+          tables = record {
+            reads = d .rowed .reads;
+            stands = st;
+            ordered = record { sound = h .sound; no11 = no11 };
+            rowed = h .rows-are;
+            tabled = tab-whole s (x ++ drop 2560 tab) st (h .sound .no6) (subst (λ t. Typed (fileAt s) (take 7168 t)) (sym behind) (d .typed)) (subst (λ t. Slots s (fileAt s) t) (sym slots) (h .slots))
+                (λ k lt j g. front (k * 80 + j) (omega (arith, node-at st k lt .fewEquations, st .fewNodes)) ∙ o .order no11 k lt j g) (omega (arith, orders-long, d .tabLong));
+          };
+          sections = d .rowed .sections;
+          constsLong = d .constsLong;
+          sized = z (h .main-is);
+          lows = h .lows;
+        }
+
+-- 7 to 10 do not hold
+pub order-ready : {s places rows tab consts : List ℕ} {enums : ℕ} {c : Sections} {low : Bool} {found : Faults} → ShapesReady s enums places rows tab consts c low found → Adm.fault7 (fileAt s) ≡ none → Adm.fault8 (fileAt s) ≡ none → Adm.fault9 (fileAt s) ≡ none → Adm.fault10 (fileAt s) ≡ none → OrderReady s enums places rows tab consts c (found .size) low
+order-ready h n7 n8 n9 n10 =
+    record {
+      sections = h .sections;
+      rows-are = h .sized n9 .0;
+      main-is = h .sized n9 .1;
+      slots = h .slots;
+      sound = record { no6 = h .no6; no7 = n7; no8 = n8; no9 = n9; no10 = n10 };
+      lows = h .lows;
+    }
+
+-- ---- 13 and 14
+
+-- the limit on the state's length
+relay-state : (f : File) → T (within relayLoader f) → maybe 0 (λ l. l .state) (relayLoader .limits (f .format)) ≡ 32768
+unfolding within
+relay-state f t = go (eqb (f .format) 1) (T-and (byteFits (f .format)) _ t .1)
+  where
+    go : (b : Bool) → T (maybe false (sectionsFit f) (cond b (some base) none) && leb (length (encode f)) 32768) → maybe 0 (λ l. l .state) (cond b (some base) none) ≡ 32768
+    go true t = refl
+    go false t = absurd t
+
+last-place : (ps : List (ℕ × Node)) (m : ℕ) → suc m ≡ length ps → placeOf ps m ≡ mainPlace ps
+last-place [] m e = absurd (omega arith)
+last-place (p ∷ []) zero e = refl
+last-place (p ∷ []) (suc m) e = absurd (omega arith)
+last-place (p ∷ q ∷ ps) zero e = absurd (omega arith)
+last-place (p ∷ q ∷ ps) (suc m) e = last-place (q ∷ ps) m (omega arith)
+
+-- the rows without the sizes
+pub main-ready : {s rows : List ℕ} {main : ℕ} → FileReads s → FileStands s (fileAt s) → Rows (fileAt s) rows → suc main ≡ length (fileAt s .nodes) → RowsReady s rows (main + 1)
+main-ready rd st rowed last =
+    record {
+      reads = rd;
+      row = λ j lt.
+          let r = rowed .rowsOf j lt in
+          record { kind = r .kind; equations = r .equations; inputs = r .inputs; outputs = r .outputs; variables = r .variables; count = r .count; place = r .place };
+      many = omega (arith, last);
+      few = omega (arith, last, st .fewNodes);
+    }
+
+module _ {s rows : List ℕ} {main size : ℕ} (bytes : Bytes s) (rd : FileReads s) (rowed : Rows (fileAt s) rows) (last : suc main ≡ length (fileAt s .nodes)) (sized : size ≡ min (Adm.stateSize (fileAt s)) sizeCap) where
+  limit-is : maybe 0 (λ l. l .state) (relayLoader .limits (fileAt s .format)) ≡ 32768
+  limit-is = relay-state (fileAt s) (encode-read relayLoader s (fileAt s) (rd .end) bytes (rd .is) .2)
+
+  place-is : rowAt rows main 7 ≡ mainPlace (placedNodes (fileAt s))
+  place-is =
+      rowed .rowsOf main (omega (arith, last)) .place
+      ∙ last-place (placedNodes (fileAt s)) main (last ∙ sym (length-placed nodeSize (nodesStart (fileAt s)) (fileAt s .nodes)))
+
+  pub state-long : {p : ℕ} → 32768 < size → p ≡ rowAt rows main 7 → some p ≡ Adm.fault13 relayLoader (fileAt s)
+  state-long lt e =
+      ap some (e ∙ place-is) ∙ ap (Adm.atMain (fileAt s)) (sym (lt-ltb 32768 (Adm.stateSize (fileAt s)) (omega (arith, sized))))
+      ∙ ap (λ l. Adm.atMain (fileAt s) (ltb l (Adm.stateSize (fileAt s)))) (sym limit-is)
+
+  pub state-short : size ≤ 32768 → none ≡ Adm.fault13 relayLoader (fileAt s)
+  state-short le =
+      ap (Adm.atMain (fileAt s)) (sym (le-ltb 32768 (Adm.stateSize (fileAt s)) (omega (arith, sized))))
+      ∙ ap (λ l. Adm.atMain (fileAt s) (ltb l (Adm.stateSize (fileAt s)))) (sym limit-is)

@@ -1,0 +1,65 @@
+-- The table of bytes, put together from its parts: orders, types and slots.
+use Prim.Native.Nat.{ℕ, zero, suc, _+_, _*_, _<_, _≤_}
+use mathlib.Core.Bool.{Bool, _&&_}
+use mathlib.Core.List.{List, [], _∷_, _++_}
+use mathlib.Core.Option.{none}
+use mathlib.Core.Path.{_≡_, ap, sym, _∙_}
+use native.Mathlib.Omega.{arith}
+use lib.Dec.{T}
+use lib.ListN.{length, getD, take, drop, length-append, List·getD-map}
+use lib.Seq.{getD-take, getD-drop}
+use Rattle.ol_spec.specs.Lists.{allOf}
+use Rattle.ol_spec.specs.Syntax.{Node, noNode, variables, typeOf}
+use Rattle.ol_spec.specs.Limits.{base}
+use Rattle.ol_spec.specs.Within.{sectionFits, variableFits, equationFits, nodeFits}
+use Rattle.ol_spec.specs.Admission.{fault6}
+use Rattle.ol_spec.proofs.Tests.{T-and}
+use Rattle.ol_tree.specs.At.{fileAt}
+use Rattle.ol_tree.specs.Stands.{FileStands}
+use Rattle.ol_tree.specs.Tables.{Tab, nodeOf, tyCode, tyEnum}
+use Rattle.ol_tree.proofs.HeadsFile.{section-few}
+use Rattle.ol_check.specs.RowsDone.{noVariable}
+use Rattle.ol_order.specs.Orders.{OrderOf}
+use Rattle.ol_sim.specs.Judging.{Typed, Slots}
+use Rattle.ol_sim.proofs.Slotting.{slots-in, defined-in, constants-in}
+
+all-nth : {A : Type 0} (p : A → Bool) (xs : List A) (d : A) (i : ℕ) → T (allOf p xs) → i < length xs → T (p (getD xs i d))
+all-nth p [] d i t h = absurd (omega arith)
+all-nth p (x ∷ xs) d zero t h = T-and (p x) _ t .0
+all-nth p (x ∷ xs) d (suc i) t h = all-nth p xs d i (T-and (p x) _ t .1) (omega arith)
+
+-- a node has at most 112 variables
+node-width : (enums : ℕ) (n : Node) → T (nodeFits base enums n) → length (variables n) ≤ 112
+node-width enums n t =
+    let w = T-and (sectionFits 0 32 (variableFits base enums) (n .inputs)) _ t in
+    let v = T-and (sectionFits 1 16 (variableFits base enums) (n .outputs)) _ (w .1) in
+    let u = T-and (sectionFits 0 64 (variableFits base enums) (n .locals)) _ (v .1) in
+    omega (arith, section-few (variableFits base enums) 0 32 (n .inputs) (w .0) .1, section-few (variableFits base enums) 1 16 (n .outputs) (v .0) .1, section-few (variableFits base enums) 0 64 (n .locals) (u .0) .1, length-append (n .inputs ++ n .outputs) (n .locals), length-append (n .inputs) (n .outputs))
+
+pub width : {s : List ℕ} → FileStands s (fileAt s) → (k : ℕ) → k < length (fileAt s .nodes) → length (variables (nodeOf (fileAt s) k)) ≤ 112
+width {s} st k h = node-width (length (fileAt s .enums)) (nodeOf (fileAt s) k) (all-nth (nodeFits base (length (fileAt s .enums))) (fileAt s .nodes) noNode k (st .nodes .fit) h)
+
+-- a byte of the types
+type-byte : (tab : List ℕ) (j : ℕ) → j < 7168 → getD tab (2560 + j) 0 ≡ getD (take 7168 (drop 2560 tab)) j 0
+type-byte tab j h = sym (getD-take 7168 (drop 2560 tab) j 0 h ∙ getD-drop 2560 tab j 0)
+
+-- all of `tab`
+pub tab-whole : (s tab : List ℕ) → FileStands s (fileAt s) → fault6 (fileAt s) ≡ none → Typed (fileAt s) (take 7168 (drop 2560 tab)) → Slots s (fileAt s) (drop 9728 tab) → ((k : ℕ) → k < length (fileAt s .nodes) → OrderOf (fileAt s) tab k) → 9728 + length s ≤ length tab → Tab (fileAt s) (length s) tab
+tab-whole s tab st no6 ty sl orders long =
+    record {
+      long = long;
+      tabsOf = λ k lt.
+          record {
+            orders = orders k lt;
+            codes = λ i l.
+                type-byte tab ((k * 112 + i) * 2) (omega (arith, width st k lt, st .fewNodes)) ∙ ty .typed k lt .are i l .code
+                ∙ ap tyCode (sym (List·getD-map typeOf (variables (nodeOf (fileAt s) k)) i noVariable));
+            enums = λ i l.
+                let e : 2560 + (k * 112 + i) * 2 + 1 ≡ 2560 + ((k * 112 + i) * 2 + 1) = omega arith in
+                ap (λ j. getD tab j 0) e ∙ type-byte tab ((k * 112 + i) * 2 + 1) (omega (arith, width st k lt, st .fewNodes)) ∙ ty .typed k lt .are i l .number
+                ∙ ap tyEnum (sym (List·getD-map typeOf (variables (nodeOf (fileAt s) k)) i noVariable));
+            slots = slots-in s tab st no6 sl k lt;
+            defined = defined-in s tab st no6 sl k lt;
+          };
+      constants = constants-in s tab st no6 sl;
+    }

@@ -1,0 +1,57 @@
+-- <uses>
+use mathlib.Core.Path.{_≡_, refl, sym, ap, _∙_}
+use Rattle.ol_tree.specs.At.{fileAt}
+use Rattle.ol_check.proofs.NamesBelow.{high-declared}
+use Rattle.ol_sim.proofs.Begins.{blank-zeros}
+-- </uses>
+use borrow.Author.Needs.{needs}
+use Rattle.ol_sim.proofs.cycling.cycle_low.Statement.{statement}
+use Rattle.ol_sim.proofs.cycling.cycle_low.Tie as tie
+use Rattle.ol_sim.proofs.cycling.cycle_low.Reads as reads
+use Rattle.ol_sim.proofs.cycling.cycle_low.Lts as lts
+use Rattle.ol_check.proofs.variants.enter_variants.Reads as enter-variants-reads
+use Rattle.ol_sim.proofs.cycling.cycle_unless.Reads as cycle-unless-reads
+
+-- src/cycling.rt:84:26
+slice-aggregate-enter-variants : tie.Need-slice-aggregate-enter-variants
+slice-aggregate-enter-variants c = search needs
+
+-- src/cycling.rt:84:5
+enter-variants-requires : tie.Need-enter-variants-requires
+enter-variants-requires c κs =
+    let start = c .before .before .before .before .before .before .before .before .before in
+    (start .pre .tables .reads, blank-zeros (fileAt (start .args .file .now)) 1024 (start .pre .lows refl))
+
+-- src/cycling.rt:89:9
+slice-aggregate-cycle-unless : tie.Need-slice-aggregate-cycle-unless
+slice-aggregate-cycle-unless c = search needs
+
+-- src/cycling.rt:85:5
+cycle-unless-requires : tie.Need-cycle-unless-requires
+cycle-unless-requires c κs =
+    let start = c .before .before .before .before .before .before .before .before .before .before .before .before .before .before in
+    record { low = _; ready = start .pre; tells = c .before .before .before .before .enter-variants .ensures }
+
+-- src/cycling.rt:68:1
+same-length : tie.Need-same-length
+same-length c = search needs
+
+-- src/cycling.rt:68:1
+same-length-2 : tie.Need-same-length-2
+same-length-2 c = search needs
+
+-- src/cycling.rt:68:1
+returns : tie.Need-returns
+returns c = search needs
+
+pub cycle-low-spec : {M : Type 1} → statement M
+cycle-low-spec =
+    tie.close
+    (tie.spec
+    slice-aggregate-enter-variants
+    enter-variants-requires
+    slice-aggregate-cycle-unless
+    cycle-unless-requires
+    same-length
+    same-length-2
+    returns)

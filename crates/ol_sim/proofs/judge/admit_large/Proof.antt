@@ -1,0 +1,53 @@
+-- <uses>
+use mathlib.Core.Path.{_≡_, refl, sym, ap, _∙_}
+use Prim.Native.Nat.{_+_, _-_, _≤_, _<_}
+use native.Mathlib.Omega.{arith}
+use Rattle.ol_tree.proofs.HeadsFile.{bytes-of, file-stands}
+use Rattle.ol_sim.proofs.Begins.{file-ready, verdict-is}
+-- </uses>
+use borrow.Author.Needs.{needs}
+use Rattle.ol_sim.proofs.judge.admit_large.Statement.{statement}
+use Rattle.ol_sim.proofs.judge.admit_large.Tie as tie
+use Rattle.ol_sim.proofs.judge.admit_large.Reads as reads
+use Rattle.ol_sim.proofs.judge.admit_large.Lts as lts
+use Rattle.ol_sim.proofs.judge.judge.Reads as judge-reads
+use Rattle.ol_sim.proofs.judge.verdict_on.Reads as verdict-on-reads
+
+-- src/judge.rt:331:9
+slice-aggregate-judge : tie.Need-slice-aggregate-judge
+slice-aggregate-judge c = search needs
+
+-- src/judge.rt:332:9
+slice-aggregate-judge-2 : tie.Need-slice-aggregate-judge-2
+slice-aggregate-judge-2 c = search needs
+
+-- src/judge.rt:333:9
+slice-aggregate-judge-3 : tie.Need-slice-aggregate-judge-3
+slice-aggregate-judge-3 c = search needs
+
+-- src/judge.rt:327:16
+judge-requires : tie.Need-judge-requires
+judge-requires c κs =
+    let start = c .before .before .before .before .before in
+    file-ready 42496 (start .pre) (bytes-of (start .args .file .now) (λ i. omega (arith, c .before .before .before .before .shared-slice-known .given i))) (omega (arith, file-stands (bytes-of (start .args .file .now) (λ i. omega (arith, c .before .before .before .before .shared-slice-known .given i))) (start .pre .reads) .short))
+
+-- src/judge.rt:327:5
+verdict-on-requires : tie.Need-verdict-on-requires
+verdict-on-requires c κs = search needs
+
+-- src/judge.rt:320:1
+returns : tie.Need-returns
+returns c =
+    let start = c .before .before .before .before .before .before .before .before .before .before in
+    c .verdict-on .ensures ∙ verdict-is (start .pre .reads) (c .before .before .before .before .judge .ensures)
+
+pub admit-large-spec : {M : Type 1} → statement M
+admit-large-spec =
+    tie.close
+    (tie.spec
+    slice-aggregate-judge
+    slice-aggregate-judge-2
+    slice-aggregate-judge-3
+    judge-requires
+    verdict-on-requires
+    returns)

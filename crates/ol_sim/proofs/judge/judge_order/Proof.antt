@@ -1,0 +1,106 @@
+-- <uses>
+use mathlib.Core.Path.{_≡_, refl, sym, ap, _∙_}
+use Prim.Native.Nat.{_+_, _-_, _*_, _≤_, _<_}
+use native.Mathlib.Omega.{arith}
+use lib.Seq.{length-take-le}
+use Rattle.ol_order.specs.Orders.{ringPlace}
+use Rattle.ol_sim.proofs.Chain.{refused-at, passed-by}
+use Rattle.ol_sim.proofs.Steps.{nodes-stand, orders-room, orders-long, constants-ready}
+-- </uses>
+use borrow.Author.Needs.{needs}
+use Rattle.ol_sim.proofs.judge.judge_order.Statement.{statement}
+use Rattle.ol_sim.proofs.judge.judge_order.Tie as tie
+use Rattle.ol_sim.proofs.judge.judge_order.Reads as reads
+use Rattle.ol_sim.proofs.judge.judge_order.Lts as lts
+use Rattle.ol_check.proofs.size.state_size.Reads as state-size-reads
+use Rattle.ol_order.proofs.table.orders_of.Reads as orders-of-reads
+use Rattle.ol_sim.proofs.judge.judge_constants.Reads as judge-constants-reads
+use Rattle.ol_sim.proofs.judge.refuse.Reads as refuse-reads
+
+-- src/judge.rt:120:47
+slice-relend-prefix-orders-of : tie.Need-slice-relend-prefix-orders-of
+slice-relend-prefix-orders-of c =
+    let start = c .before .before .before .before .before in
+    omega (arith, start .pre .sections .tabLong)
+
+-- src/judge.rt:120:47
+slice-aggregate-orders-of : tie.Need-slice-aggregate-orders-of
+slice-aggregate-orders-of c =
+    let start = c .before .before .before .before .before .before in
+    sym (orders-room (start .pre))
+
+-- src/judge.rt:120:11
+orders-of-requires : tie.Need-orders-of-requires
+orders-of-requires c κs =
+    let start = c .before .before .before .before .before .before in
+    (nodes-stand (start .pre), orders-room (start .pre))
+
+-- src/judge.rt:121:18
+enum-known-p : tie.Need-enum-known-p
+enum-known-p c = search needs
+
+-- src/judge.rt:121:24
+refuse-requires : tie.Need-refuse-requires
+refuse-requires c κs = search needs
+
+-- src/judge.rt:123:17
+enum-told : tie.Need-enum-told
+enum-told c = search needs
+
+-- src/judge.rt:124:17
+state-size-requires : tie.Need-state-size-requires
+state-size-requires c κs =
+    let start = c .before .before .before .before .before .before .before .before .before .before .before in
+    (start .pre .sections .rowed .reads, start .pre .sections .rowed .sections .constants)
+
+-- src/judge.rt:125:13
+judge-constants-requires : tie.Need-judge-constants-requires
+judge-constants-requires c κs =
+    let start = c .before .before .before .before .before .before .before .before .before .before .before .before .before .before in
+    constants-ready (start .pre) (c .before .before .before .before .before .before .before .orders-of .kept .1 .1 .1 .1 .0) (c .before .before .before .before .before .before .before .orders-of .ensures _ _ (start .pre .sections .loads .reads .is)) (c .before .before .before .enum-told .given .1) (c .before .before .state-size .ensures)
+
+-- src/judge.rt:106:1
+same-length : tie.Need-same-length
+same-length c =
+    let start = c .before .before .before .before .before .before .before .before .before .before .before .before .before in
+    orders-long (start .pre) (c .before .before .before .before .before .before .orders-of .kept .1 .1 .1 .1 .0) (c .before .before .before .before .before .before .orders-of .ensures _ _ (start .pre .sections .loads .reads .is))
+
+-- src/judge.rt:106:1
+returns : tie.Need-returns
+returns c =
+    let start = c .before .before .before .before .before .before .before .before .before .before .before .before .before in
+    refused-at (c .refuse .ensures) (sym ((c .before .before .before .before .before .before .orders-of .ensures _ _ (start .pre .sections .loads .reads .is)) .found) ∙ ap ringPlace (c .before .before .p .given .1))
+
+-- src/judge.rt:106:1
+same-length-2 : tie.Need-same-length-2
+same-length-2 c =
+    let start = c .before .before .before .before .before .before .before .before .before .before .before .before .before .before .before .before .before in
+    orders-long (start .pre) (c .before .before .before .before .before .before .before .before .before .before .orders-of .kept .1 .1 .1 .1 .0) (c .before .before .before .before .before .before .before .before .before .before .orders-of .ensures _ _ (start .pre .sections .loads .reads .is))
+
+-- src/judge.rt:106:1
+same-length-3 : tie.Need-same-length-3
+same-length-3 c = c .before .before .judge-constants .kept .1 .1 .1 .0
+
+-- src/judge.rt:106:1
+returns-2 : tie.Need-returns-2
+returns-2 c =
+    let start = c .before .before .before .before .before .before .before .before .before .before .before .before .before .before .before .before .before in
+    passed-by (sym ((c .before .before .before .before .before .before .before .before .before .before .orders-of .ensures _ _ (start .pre .sections .loads .reads .is)) .found) ∙ ap ringPlace (c .before .before .before .before .before .before .enum-told .given .1)) (c .before .before .judge-constants .ensures)
+
+pub judge-order-spec : {M : Type 1} → statement M
+judge-order-spec =
+    tie.close
+    (tie.spec
+    slice-relend-prefix-orders-of
+    slice-aggregate-orders-of
+    orders-of-requires
+    enum-known-p
+    refuse-requires
+    enum-told
+    state-size-requires
+    judge-constants-requires
+    same-length
+    returns
+    same-length-2
+    same-length-3
+    returns-2)

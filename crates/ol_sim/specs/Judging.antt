@@ -1,0 +1,183 @@
+-- What judging a file that reads without fault gives: the first of the faults that are still to be asked, or the file's tables.
+use Prim.Native.Nat.{ℕ, suc, _+_, _*_, _≤_, _<_, min}
+use mathlib.Core.Bool.{Bool, true}
+use mathlib.Core.List.{List, [], _∷_, map}
+use mathlib.Core.Option.{Option, none, some}
+use mathlib.Core.Path.{_≡_}
+use lib.ListN.{length, getD, take, drop}
+use Rattle.ol_spec.specs.Syntax.{File}
+use Rattle.ol_spec.specs.Places.{placedNodes}
+use Rattle.ol_spec.specs.Limits.{relayLoader}
+use Rattle.ol_spec.specs.Cell.{cells, valuesOf}
+use Rattle.ol_spec.specs.Admission as Adm
+use Rattle.ol_spec.specs.declared.Value.{Value}
+use Rattle.ol_spec.specs.declared.Verdict.{Verdict}
+use Rattle.ol_spec.specs.declared.Verdict.the-variants as Ver
+use Rattle.ol_tree.specs.At.{fileAt}
+use Rattle.ol_tree.specs.Tables.{Each, Rows, nodeOf, placeOf, firstAt, sizeCap}
+use Rattle.ol_tree.specs.Stands.{FileReads, FileStands}
+use Rattle.ol_ir.specs.Walks as Walks
+use Rattle.ol_check.specs.Founds as Founds
+use Rattle.ol_check.specs.RowsDone.{NodeRow, NodeTypes, SectionsAre}
+use Rattle.ol_check.specs.FileJudged.{NamesWithin, FileJudged}
+use Rattle.ol_check.specs.Sizes.{MainSized}
+use Rattle.ol_check.specs.declared.rows.Sections.{Sections}
+use Rattle.ol_check.specs.declared.judge.Faults.{Faults}
+use Rattle.ol_eval.specs.Admitted.{Sound, Admitted}
+use Rattle.ol_sim.specs.declared.judge.Judged.{Judged}
+use Rattle.ol_sim.specs.declared.judge.Judged.the-variants as Jud
+
+-- the faults from a number on, in their order
+abbrev pub from13 : File → List (ℕ × Option ℕ)
+from13 f = (13, Adm.fault13 relayLoader f) ∷ (14, Adm.fault14 f) ∷ []
+
+abbrev pub from12 : File → List (ℕ × Option ℕ)
+from12 f = (12, Adm.fault12 f) ∷ from13 f
+
+abbrev pub from11 : File → List (ℕ × Option ℕ)
+from11 f = (11, Adm.fault11 f) ∷ from12 f
+
+abbrev pub from7 : File → List (ℕ × Option ℕ)
+from7 f = (7, Adm.fault7 f) ∷ (8, Adm.fault8 f) ∷ (9, Adm.fault9 f) ∷ (10, Adm.fault10 f) ∷ from11 f
+
+abbrev pub from6 : File → List (ℕ × Option ℕ)
+from6 f = (6, Adm.fault6 f) ∷ from7 f
+
+-- the declared names are below 1,024 where this says so
+abbrev pub Low : File → Bool → Type 0
+Low f low = low ≡ true → Each (λ d. d .name < 1024) (Adm.declared f)
+
+-- the constants' values, none where one is stuck
+abbrev pub valuesIn : File → List Value
+valuesIn f = Adm.constantValues (Adm.constants f)
+
+-- the constants' cells, of which the values are read back
+pub record Held (f : File) (consts : List ℕ) : Type 0 where
+  pub is : consts ≡ cells (valuesIn f)
+  pub back : valuesOf (length (valuesIn f)) consts ≡ valuesIn f
+
+-- a file that is admitted: the length of its state, its main node's number, how many constants it has, its tables, and its constants' cells
+pub record Admits (s rows tab consts : List ℕ) (size main count : ℕ) (low : Bool) : Type 0 where
+  pub tables : Admitted s rows tab
+  pub sized : size ≡ Adm.stateSize (fileAt s)
+  pub small : size ≤ 32768
+  pub last : suc main ≡ length (fileAt s .nodes)
+  pub counted : count ≡ length (fileAt s .constants)
+  pub held : Held (fileAt s) (take (9 * count) consts)
+  pub operator : Adm.fault14 (fileAt s) ≡ none
+  pub lows : Low (fileAt s) low
+
+-- the file with its constants' values
+abbrev pub whole : File → Adm.Judged
+whole f = Adm.admitted f (valuesIn f)
+
+-- what judging gives, where the faults xs are still to be asked
+abbrev pub JudgesBy : List ℕ → List (ℕ × Option ℕ) → List ℕ → List ℕ → List ℕ → Judged → Type 0
+JudgesBy s xs rows tab consts (Jud.Refused x) = Adm.refuseFirst xs (whole (fileAt s)) ≡ Adm.refused (x .number) (x .place)
+JudgesBy s xs rows tab consts (Jud.Admitted size main count low) =
+    (Adm.refuseFirst xs (whole (fileAt s)) ≡ whole (fileAt s)) × Admits s rows tab consts size main count low
+
+pub record Judges (s : List ℕ) (xs : List (ℕ × Option ℕ)) (rows tab consts : List ℕ) (r : Judged) : Type 0 where
+  pub is : JudgesBy s xs rows tab consts r
+
+-- the verdict on a judged file
+abbrev pub verdictOf : Judged → Verdict
+verdictOf (Jud.Refused x) = Ver.Refused x
+verdictOf (Jud.Admitted size main count low) = Ver.Admitted size
+
+-- ---- what each step of judging is told
+
+-- the file reads without fault, with so many enums and its nodes at these places
+pub record Loads (s : List ℕ) (enums : ℕ) (places : List ℕ) : Type 0 where
+  pub reads : FileReads s
+  pub counted : length (fileAt s .enums) ≡ enums
+  pub placed : places ≡ map Walks.placeOf (placedNodes (fileAt s))
+
+-- and buffers for its tables
+pub record FileReady (s : List ℕ) (enums : ℕ) (places rows tab consts : List ℕ) : Type 0 where
+  pub loads : Loads s enums places
+  pub stands : FileStands s (fileAt s)
+  pub rowsLong : length rows ≡ 272
+  pub tabLong : 9728 + length s ≤ length tab
+  pub constsLong : length consts ≡ 576
+
+-- the rows but for the sizes, and the sections
+pub record Rowed (s rows : List ℕ) (c : Sections) : Type 0 where
+  pub reads : FileReads s
+  pub stands : FileStands s (fileAt s)
+  pub long : length rows ≡ 272
+  pub sections : SectionsAre (fileAt s) c
+  pub row : (k : ℕ) → k < length (fileAt s .nodes) → NodeRow (nodeOf (fileAt s) k) (placeOf (placedNodes (fileAt s)) k) k rows
+  pub firsts : (e : ℕ) → e < length (fileAt s .enums) → firstAt rows e ≡ getD (getD (fileAt s .enums) e []) 0 0
+
+-- the types of all variables
+pub record Typed (f : File) (types : List ℕ) : Type 0 where
+  pub typed : (k : ℕ) → k < length (f .nodes) → NodeTypes (nodeOf f k) k types
+
+pub record SectionsReady (s : List ℕ) (enums : ℕ) (places rows tab consts : List ℕ) (c : Sections) : Type 0 where
+  pub loads : Loads s enums places
+  pub rowed : Rowed s rows c
+  pub typed : Typed (fileAt s) (take 7168 (drop 2560 tab))
+  pub tabLong : 9728 + length s ≤ length tab
+  pub constsLong : length consts ≡ 576
+
+-- the table by name is 0 everywhere, and longer than every declared name
+pub record Empty (f : File) (names : List ℕ) : Type 0 where
+  pub zero : (x : ℕ) → getD names x 0 ≡ 0
+  pub within : NamesWithin (length names) f
+
+pub record NamesReady (s : List ℕ) (enums : ℕ) (places rows tab names consts : List ℕ) (c : Sections) (low : Bool) : Type 0 where
+  pub sections : SectionsReady s enums places rows tab consts c
+  pub empty : Empty (fileAt s) names
+  pub lows : Low (fileAt s) low
+
+-- the slots of all names, as the walk over the file leaves them
+pub record Slots (s : List ℕ) (f : File) (slots : List ℕ) : Type 0 where
+  pub names : List ℕ
+  pub names′ : List ℕ
+  pub before : List ℕ
+  pub rows : List ℕ
+  pub rows′ : List ℕ
+  pub found : Faults
+  pub empty : Empty f names
+  pub long : length s ≤ length before
+  pub judged : FileJudged s f names names′ before slots rows rows′ found
+
+-- 7 to 10
+pub record FaultsAre (f : File) (r : Faults) : Type 0 where
+  pub unseen : Founds.placeOf (r .unseen) ≡ Adm.fault7 f
+  pub again : Adm.fault7 f ≡ none → Founds.placeOf (r .again) ≡ Adm.fault8 f
+  pub called : Founds.placeOf (r .called) ≡ Adm.fault9 f
+  pub shaped : Founds.placeOf (r .shaped) ≡ Adm.fault10 f
+
+pub record ShapesReady (s : List ℕ) (enums : ℕ) (places rows tab consts : List ℕ) (c : Sections) (low : Bool) (found : Faults) : Type 0 where
+  pub sections : SectionsReady s enums places rows tab consts c
+  pub no6 : Adm.fault6 (fileAt s) ≡ none
+  pub are : FaultsAre (fileAt s) found
+  pub slots : Slots s (fileAt s) (drop 9728 tab)
+  pub sized : Adm.fault9 (fileAt s) ≡ none → Rows (fileAt s) rows × MainSized (fileAt s) (found .size)
+  pub lows : Low (fileAt s) low
+
+-- 6 to 10 do not hold, and the main instance has so many bytes
+pub record OrderReady (s : List ℕ) (enums : ℕ) (places rows tab consts : List ℕ) (c : Sections) (main : ℕ) (low : Bool) : Type 0 where
+  pub sections : SectionsReady s enums places rows tab consts c
+  pub rows-are : Rows (fileAt s) rows
+  pub main-is : MainSized (fileAt s) main
+  pub slots : Slots s (fileAt s) (drop 9728 tab)
+  pub sound : Sound (fileAt s)
+  pub lows : Low (fileAt s) low
+
+pub record ConstantsReady (s rows tab consts : List ℕ) (c : Sections) (size : ℕ) (low : Bool) : Type 0 where
+  pub tables : Admitted s rows tab
+  pub sections : SectionsAre (fileAt s) c
+  pub constsLong : length consts ≡ 576
+  pub sized : size ≡ min (Adm.stateSize (fileAt s)) sizeCap
+  pub lows : Low (fileAt s) low
+
+pub record MainReady (s rows tab consts : List ℕ) (size main count : ℕ) (low : Bool) : Type 0 where
+  pub tables : Admitted s rows tab
+  pub sized : size ≡ min (Adm.stateSize (fileAt s)) sizeCap
+  pub last : suc main ≡ length (fileAt s .nodes)
+  pub counted : count ≡ length (fileAt s .constants)
+  pub held : Held (fileAt s) (take (9 * count) consts)
+  pub lows : Low (fileAt s) low

@@ -1,0 +1,315 @@
+// The tables of a file that reads without fault, and faults 6 to 14 in their order.
+use ol_check::Found;
+use ol_check::bytes::byte;
+use ol_check::clash::sort_file;
+use ol_check::file::faults;
+use ol_check::judge::Faults;
+use ol_check::rows::Sections;
+use ol_check::rows::rows_of;
+use ol_check::size::not_operator;
+use ol_check::size::state_size;
+use ol_eval::constants;
+use ol_eval::constants::constant_values;
+use ol_fresh::defaults::row;
+use ol_order::table::Ring;
+use ol_order::table::orders_of;
+use ol_spec::Fault;
+use ol_spec::Verdict;
+ghost use mathlib.Core.Path.{_≡_};
+ghost use mathlib.Core.Bool.{true};
+ghost use mathlib.Core.Option.{none};
+ghost use Prim.Native.Nat.{suc, _≤_, min};
+ghost use lib.ListN.{length};
+ghost use Rattle.ol_spec.specs.Answers.{faultAt};
+ghost use Rattle.ol_spec.specs.Limits.{relayLoader};
+ghost use Rattle.ol_spec.specs.Admission.{admission, fault6, fault13, stateSize};
+ghost use Rattle.ol_tree.specs.At.{fileAt};
+ghost use Rattle.ol_tree.specs.Stands.{FileReads};
+ghost use Rattle.ol_tree.specs.Tables.{Rows, sizeCap};
+ghost use Rattle.ol_check.specs.Founds.{placeOf};
+ghost use Rattle.ol_sim.specs.Judging.{Judges, Low, verdictOf, from6, from7, from11, from12, from13, MainReady, ConstantsReady, OrderReady, ShapesReady, NamesReady, SectionsReady, FileReady, Loads};
+
+// What judging a file gives: its first fault, or the length of its state, its main node's number, how many
+// constants it has, and whether every declared name is known to be below 1,024.
+pub enum Judged {
+    Refused(Fault),
+    Admitted(usize, usize, usize, bool),
+}
+
+// A fault.
+fn refuse(number: u8, place: usize) -> Judged
+    ensures { λ r. ⌜ r ≡ Judged.Refused (faultAt number place) ⌝ }
+{
+    Judged::Refused(Fault { number, place })
+}
+
+// 13: the state, of this length, is too long.
+fn too_long(file: &[u8], rows: &[usize], main: usize, size: usize) -> Found
+    requires { ⌜ FileReads (now file) × Rows (fileAt (now file)) (now rows) × (suc main ≡ length (fileAt (now file) .nodes)) × (size ≡ min (stateSize (fileAt (now file))) sizeCap) ⌝ }
+    ensures { λ r. ⌜ (placeOf r ≡ fault13 relayLoader (fileAt (now (file .entry)))) × (placeOf r ≡ none → size ≤ 32768) ⌝ }
+{
+    if 32768 < size {
+        Found::At(row(rows, main, 7))
+    } else {
+        Found::Nothing
+    }
+}
+
+// 13 and 14.
+fn judge_main(
+    file: &[u8],
+    rows: &[usize],
+    tab: &[u8],
+    consts: &[u8],
+    size: usize,
+    main: usize,
+    count: usize,
+    low: bool,
+) -> Judged
+    requires { ⌜ MainReady (now file) (now rows) (now tab) (now consts) size main count low ⌝ }
+    ensures { λ r. ⌜ Judges (now (file .entry)) (from13 (fileAt (now (file .entry)))) (now (rows .entry)) (now (tab .entry)) (now (consts .entry)) r ⌝ }
+{
+    match too_long(file, rows, main, size) {
+        Found::At(p) => refuse(13, p),
+        Found::Nothing => match not_operator(file, rows, main + 1) {
+            Found::At(p) => refuse(14, p),
+            Found::Nothing => Judged::Admitted(size, main, count, low),
+        },
+    }
+}
+
+// 12 to 14: the constants' cells are written.
+fn judge_constants(
+    file: &[u8],
+    rows: &[usize],
+    tab: &[u8],
+    consts: &mut [u8],
+    sections: Sections,
+    size: usize,
+    low: bool,
+) -> Judged
+    requires { ⌜ ConstantsReady (now file) (now rows) (now tab) (now consts) sections size low ⌝ }
+    ensures { λ r. ⌜ Judges (now (file .entry)) (from12 (fileAt (now (file .entry)))) (now (rows .entry)) (now (tab .entry)) (now (consts .exit)) r ⌝ }
+{
+    let c = sections.constants;
+    let n = sections.nodes;
+    let count = byte(file, c);
+    let nodes = byte(file, n);
+    let end = 9 * count;
+    match constant_values(file, tab, rows, nodes, c + 1, count, &mut consts[..end]) {
+        constants::Found::Stuck(p) => refuse(12, p),
+        constants::Found::All => judge_main(file, rows, tab, consts, size, nodes - 1, count, low),
+    }
+}
+
+// 11 to 14: the orders are written. The main instance has so many bytes.
+fn judge_order(
+    file: &[u8],
+    enums: usize,
+    places: &[usize],
+    rows: &[usize],
+    tab: &mut [u8],
+    consts: &mut [u8],
+    sections: Sections,
+    main: usize,
+    low: bool,
+) -> Judged
+    requires { ⌜ OrderReady (now file) enums (now places) (now rows) (now tab) (now consts) sections main low ⌝ }
+    ensures { λ r. ⌜ Judges (now (file .entry)) (from11 (fileAt (now (file .entry)))) (now (rows .entry)) (now (tab .exit)) (now (consts .exit)) r ⌝ }
+{
+    match orders_of(file, enums, places, low, &mut tab[..2560]) {
+        Ring::At(p) => refuse(11, p),
+        Ring::Nothing => {
+            let c = sections.constants;
+            let size = state_size(file, c, main);
+            judge_constants(file, rows, tab, consts, sections, size, low)
+        }
+    }
+}
+
+// 7 to 14, of which 7 to 10 were looked for.
+fn judge_shapes(
+    file: &[u8],
+    enums: usize,
+    places: &[usize],
+    rows: &[usize],
+    tab: &mut [u8],
+    consts: &mut [u8],
+    sections: Sections,
+    low: bool,
+    found: Faults,
+) -> Judged
+    requires { ⌜ ShapesReady (now file) enums (now places) (now rows) (now tab) (now consts) sections low found ⌝ }
+    ensures { λ r. ⌜ Judges (now (file .entry)) (from7 (fileAt (now (file .entry)))) (now (rows .entry)) (now (tab .exit)) (now (consts .exit)) r ⌝ }
+{
+    let unseen = found.unseen;
+    let again = found.again;
+    let called = found.called;
+    let shaped = found.shaped;
+    let main = found.size;
+    match unseen {
+        Found::At(p) => refuse(7, p),
+        Found::Nothing => match again {
+            Found::At(p) => refuse(8, p),
+            Found::Nothing => match called {
+                Found::At(p) => refuse(9, p),
+                Found::Nothing => match shaped {
+                    Found::At(p) => refuse(10, p),
+                    Found::Nothing => judge_order(
+                        file,
+                        enums,
+                        places,
+                        rows,
+                        tab,
+                        consts,
+                        sections,
+                        main,
+                        low,
+                    ),
+                },
+            },
+        },
+    }
+}
+
+// 6 to 14, of which 6 was looked for, with an empty table by name.
+fn judge_names(
+    file: &[u8],
+    enums: usize,
+    places: &[usize],
+    rows: &mut [usize],
+    tab: &mut [u8],
+    names: &mut [u8],
+    consts: &mut [u8],
+    sections: Sections,
+    low: bool,
+    clash: Found,
+) -> Judged
+    requires { ⌜ NamesReady (now file) enums (now places) (now rows) (now tab) (now names) (now consts) sections low ⌝ }
+    requires { ⌜ placeOf clash ≡ fault6 (fileAt (now file)) ⌝ }
+    ensures { λ r. ⌜ Judges (now (file .entry)) (from6 (fileAt (now (file .entry)))) (now (rows .exit)) (now (tab .exit)) (now (consts .exit)) r ⌝ }
+{
+    match clash {
+        Found::At(p) => refuse(6, p),
+        Found::Nothing => {
+            let found = faults(file, rows, sections, names, &mut tab[9728..]);
+            judge_shapes(file, enums, places, rows, tab, consts, sections, low, found)
+        }
+    }
+}
+
+// With every declared name below 1,024.
+fn judge_low(
+    file: &[u8],
+    enums: usize,
+    places: &[usize],
+    rows: &mut [usize],
+    tab: &mut [u8],
+    consts: &mut [u8],
+    sections: Sections,
+    clash: Found,
+) -> Judged
+    requires { ⌜ SectionsReady (now file) enums (now places) (now rows) (now tab) (now consts) sections × Low (fileAt (now file)) true ⌝ }
+    requires { ⌜ placeOf clash ≡ fault6 (fileAt (now file)) ⌝ }
+    ensures { λ r. ⌜ Judges (now (file .entry)) (from6 (fileAt (now (file .entry)))) (now (rows .exit)) (now (tab .exit)) (now (consts .exit)) r ⌝ }
+{
+    let mut names = [0u8; 1024];
+    judge_names(
+        file,
+        enums,
+        places,
+        rows,
+        tab,
+        &mut names,
+        consts,
+        sections,
+        true,
+        clash,
+    )
+}
+
+// With any names.
+fn judge_high(
+    file: &[u8],
+    enums: usize,
+    places: &[usize],
+    rows: &mut [usize],
+    tab: &mut [u8],
+    consts: &mut [u8],
+    sections: Sections,
+) -> Judged
+    requires { ⌜ SectionsReady (now file) enums (now places) (now rows) (now tab) (now consts) sections ⌝ }
+    ensures { λ r. ⌜ Judges (now (file .entry)) (from6 (fileAt (now (file .entry)))) (now (rows .exit)) (now (tab .exit)) (now (consts .exit)) r ⌝ }
+{
+    let mut sorts = [0u8; 65536];
+    let s = sort_file(file, rows, sections, &mut sorts);
+    let clash = s.found;
+    let mut names = [0u8; 65536];
+    judge_names(
+        file,
+        enums,
+        places,
+        rows,
+        tab,
+        &mut names,
+        consts,
+        sections,
+        false,
+        clash,
+    )
+}
+
+// Judges a file that reads without fault, and writes its tables and its constants' cells.
+pub fn judge(
+    file: &[u8],
+    enums: usize,
+    places: &[usize],
+    rows: &mut [usize],
+    tab: &mut [u8],
+    consts: &mut [u8],
+) -> Judged
+    requires { ⌜ FileReady (now file) enums (now places) (now rows) (now tab) (now consts) ⌝ }
+    ensures { λ r. ⌜ Judges (now (file .entry)) (from6 (fileAt (now (file .entry)))) (now (rows .exit)) (now (tab .exit)) (now (consts .exit)) r ⌝ }
+{
+    let sections = rows_of(file, places, rows, &mut tab[2560..9728]);
+    let mut sorts = [0u8; 1024];
+    let s = sort_file(file, rows, sections, &mut sorts);
+    let clash = s.found;
+    if s.low {
+        judge_low(file, enums, places, rows, tab, consts, sections, clash)
+    } else {
+        judge_high(file, enums, places, rows, tab, consts, sections)
+    }
+}
+
+// The verdict on a judged file.
+fn verdict_on(j: Judged) -> Verdict
+    ensures { λ r. ⌜ r ≡ verdictOf j ⌝ }
+{
+    match j {
+        Judged::Refused(f) => Verdict::Refused(f),
+        Judged::Admitted(size, _, _, _) => Verdict::Admitted(size),
+    }
+}
+
+// Admission of a file of at most 1,024 bytes.
+pub fn admit_small(file: &[u8], enums: usize, places: &[usize]) -> Verdict
+    requires { ⌜ Loads (now file) enums (now places) × (length (now file) ≤ 1024) ⌝ }
+    ensures { λ r. ⌜ r ≡ admission relayLoader (now (file .entry)) ⌝ }
+{
+    let mut rows = [0usize; 272];
+    let mut tab = [0u8; 10752];
+    let mut consts = [0u8; 576];
+    verdict_on(judge(file, enums, places, &mut rows, &mut tab, &mut consts))
+}
+
+// Admission of any file.
+pub fn admit_large(file: &[u8], enums: usize, places: &[usize]) -> Verdict
+    requires { ⌜ Loads (now file) enums (now places) ⌝ }
+    ensures { λ r. ⌜ r ≡ admission relayLoader (now (file .entry)) ⌝ }
+{
+    let mut rows = [0usize; 272];
+    let mut tab = [0u8; 42496];
+    let mut consts = [0u8; 576];
+    verdict_on(judge(file, enums, places, &mut rows, &mut tab, &mut consts))
+}
