@@ -36,11 +36,7 @@ fn is_done(s: Started) -> bool {
 
 // One more, where it is so.
 fn more(n: u64, is_so: bool) -> u64 {
-    if is_so {
-        wrapping_add_u64(n, 1)
-    } else {
-        n
-    }
+    if is_so { wrapping_add_u64(n, 1) } else { n }
 }
 
 // A cycle, counted.

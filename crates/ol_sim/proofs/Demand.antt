@@ -56,8 +56,7 @@ session-history s ms b h t =
 ordering-holds : OrderingHolds
 unfolding OrderingHolds OrderingClaim
 ordering-holds s f at k n buf r buf′ e g h =
-    let c = demand3 .ordering s f at k n buf e g in
-    (
+    let c = demand3 .ordering s f at k n buf e g in (
       subst (λ (x : Sorted). ((p : ℕ) × (x ≡ Sort.Refused (faultAt 11 p))) ↔ Ring (n .equations)) (sym (h .answered)) (c .0),
       λ a l. (h .answered ∙ c .1 a l .0, subst (Orders (n .equations)) (sym (h .written)) (c .1 a l .1)),
     )
@@ -71,14 +70,13 @@ solution-holds s ms b h =
 relisting-holds : RelistingHolds
 unfolding RelistingHolds RelistingClaim
 relisting-holds s s′ ms ms′ t f′ at b h e r =
-    let q = demand3 .relisting s s′ (t .file) f′ (t .constants) at [] [] b (t .is) e r tt in
-    (
+    let q = demand3 .relisting s s′ (t .file) f′ (t .constants) at [] [] b (t .is) e r tt in (
       q .1,
       λ b′ h′ a.
-      let p = demand3 .relisting s s′ (t .file) f′ (t .constants) at (turns ms) (turns ms′) b (t .is) e r a in
-      let t′ : Tree s′ = record { file = f′; constants = t .constants; is = p .0 } in
-      subst (λ x. AgreeUntil (t .file) x ms′) (sym (session-history s ms b h t))
-      (subst (λ x. AgreeUntil (t .file) (history relayLoader s (turns ms) (freshState (t .file) (t .constants))) x) (sym (session-history s′ ms′ b′ h′ t′)) (p .2)),
+          let p = demand3 .relisting s s′ (t .file) f′ (t .constants) at (turns ms) (turns ms′) b (t .is) e r a in
+          let t′ : Tree s′ = record { file = f′; constants = t .constants; is = p .0 } in
+          subst (λ x. AgreeUntil (t .file) x ms′) (sym (session-history s ms b h t))
+          (subst (λ x. AgreeUntil (t .file) (history relayLoader s (turns ms) (freshState (t .file) (t .constants))) x) (sym (session-history s′ ms′ b′ h′ t′)) (p .2)),
     )
 
 pub demand3-holds : Demand3Holds

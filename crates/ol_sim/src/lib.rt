@@ -6,7 +6,10 @@ use ol_spec::Started;
 use ol_spec::Verdict;
 
 fn none() -> Fault {
-    Fault { number: 1, place: 0 }
+    Fault {
+        number: 1,
+        place: 0,
+    }
 }
 
 pub fn admission(file: &[u8]) -> Verdict {
