@@ -60,7 +60,7 @@ pub fn passed(tab: &[u8], fits: bool, k: usize, i: usize, v: Value) -> Value
 {
     if fits {
         let c = code_of(tab, k, i);
-        kept(fit_to(c, v))
+        kept(fit_to(c, kept(v)))
     } else {
         kept(v)
     }
@@ -86,7 +86,7 @@ pub fn store_out(tab: &[u8], k: usize, at: usize, o: Outcome, cells: &mut [u8]) 
 {
     match o {
         Outcome::Value(v) => {
-            store(tab, k, at, v, cells);
+            store(tab, k, at, kept(v), cells);
             0
         }
         Outcome::Failure => 1,

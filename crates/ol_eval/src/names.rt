@@ -16,6 +16,7 @@ use crate::outcomes::is_single;
 use crate::outcomes::join_kinds;
 use crate::outcomes::kind_of_outcome;
 use crate::outcomes::kind_of_type;
+use crate::outcomes::same_out;
 use crate::skip::pass;
 use crate::tables::code_of;
 use crate::tables::number;
@@ -228,6 +229,6 @@ pub fn chosen(
         let k = real_kind(file, tab, rows, consts, node, cells, at, level);
         common_out(k, taken)
     } else {
-        taken
+        same_out(taken)
     }
 }

@@ -15,16 +15,27 @@ use ol_value::operators::eval_binary;
 use ol_value::operators::eval_unary;
 use ol_value::types::cast_value;
 
-// A value, which is had back from its cell.
+// A value, made again from its parts (it is then moved part by part, which is fast); it is had back from its cell.
 pub fn kept(v: Value) -> Value
     ensures { λ r. ⌜ (r ≡ v) × (valueOf (cell v) ≡ v) ⌝ }
 {
     match v {
-        Value::Bool(_b) => v,
-        Value::Int(_i) => v,
-        Value::Float(_x) => v,
-        Value::Float32(_x) => v,
-        Value::Enum(_w) => v,
+        Value::Bool(b) => Value::Bool(b),
+        Value::Int(i) => Value::Int(i),
+        Value::Float(x) => Value::Float(x),
+        Value::Float32(x) => Value::Float32(x),
+        Value::Enum(w) => Value::Enum(w),
+    }
+}
+
+// An outcome, made again from its parts.
+pub fn same_out(o: Outcome) -> Outcome
+    ensures { λ r. ⌜ r ≡ o ⌝ }
+{
+    match o {
+        Outcome::Value(v) => Outcome::Value(kept(v)),
+        Outcome::Failure => Outcome::Failure,
+        Outcome::Overflow => Outcome::Overflow,
     }
 }
 
@@ -120,9 +131,9 @@ pub fn drop_failure(taken: Outcome, other: Outcome) -> Outcome
     ensures { λ r. ⌜ r ≡ dropOut taken other ⌝ }
 {
     match other {
-        Outcome::Value(_) => taken,
-        Outcome::Failure => taken,
-        Outcome::Overflow => other,
+        Outcome::Value(_) => same_out(taken),
+        Outcome::Failure => same_out(taken),
+        Outcome::Overflow => Outcome::Overflow,
     }
 }
 

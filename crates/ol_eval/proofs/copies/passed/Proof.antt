@@ -24,31 +24,42 @@ use Rattle.ol_value.proofs.types.fit_to.Reads as fit-to-reads
 code-of-requires : tie.Need-code-of-requires
 code-of-requires c κs = search needs
 
+-- src/copies.rt:63:24
+kept-requires : tie.Need-kept-requires
+kept-requires c κs = search needs
+
 -- src/copies.rt:63:14
 fit-to-requires : tie.Need-fit-to-requires
 fit-to-requires c κs = search needs
 
 -- src/copies.rt:63:9
-kept-requires : tie.Need-kept-requires
-kept-requires c κs = search needs
-
--- src/copies.rt:65:9
 kept-requires-2 : tie.Need-kept-requires-2
 kept-requires-2 c κs = search needs
+
+-- src/copies.rt:65:9
+kept-requires-3 : tie.Need-kept-requires-3
+kept-requires-3 c κs = search needs
 
 -- src/copies.rt:57:1
 returns : tie.Need-returns
 returns c =
-    let start = c .before .before .before .before .before in
-    (λ e. c .kept .ensures .0 ∙ c .before .fit-to .ensures e ∙ ap (λ (c : ℕ). fit (tyOf c e) (start .args .v)) (c .before .before .code-of .ensures) ∙ ap (λ (b : Bool). passedBy b (tyOf (codeAt (start .args .tab .now) (start .args .k) (start .args .i)) e) (start .args .v)) (sym (c .before .before .before .if1 .taken)), kept-back (c .kept .result) (c .before .fit-to .result) (c .kept .ensures .0) (c .kept .ensures .1))
+    let start = c .before .before .before .before .before .before in
+    (λ e. c .kept2 .ensures .0 ∙ c .before .fit-to .ensures e ∙ ap (λ (code : ℕ). fit (tyOf code e) (c .before .before .kept .result)) (c .before .before .before .code-of .ensures) ∙ ap (fit (tyOf (codeAt (start .args .tab .now) (start .args .k) (start .args .i)) e)) (c .before .before .kept .ensures .0) ∙ ap (λ (b : Bool). passedBy b (tyOf (codeAt (start .args .tab .now) (start .args .k) (start .args .i)) e) (start .args .v)) (sym (c .before .before .before .before .if1 .taken)), kept-back (c .kept2 .result) (c .before .fit-to .result) (c .kept2 .ensures .0) (c .kept2 .ensures .1))
 
 -- src/copies.rt:57:1
 returns-2 : tie.Need-returns-2
 returns-2 c =
     let start = c .before .before .before in
-    (λ e. c .kept2 .ensures .0 ∙ ap (λ (b : Bool). passedBy b (tyOf (codeAt (start .args .tab .now) (start .args .k) (start .args .i)) e) (start .args .v)) (sym (c .before .if1 .left)), kept-back (c .kept2 .result) (start .args .v) (c .kept2 .ensures .0) (c .kept2 .ensures .1))
+    (λ e. c .kept3 .ensures .0 ∙ ap (λ (b : Bool). passedBy b (tyOf (codeAt (start .args .tab .now) (start .args .k) (start .args .i)) e) (start .args .v)) (sym (c .before .if1 .left)), kept-back (c .kept3 .result) (start .args .v) (c .kept3 .ensures .0) (c .kept3 .ensures .1))
 
 pub passed-spec : {M : Type 1} → statement M
 passed-spec =
     tie.close
-    (tie.spec code-of-requires fit-to-requires kept-requires kept-requires-2 returns returns-2)
+    (tie.spec
+    code-of-requires
+    kept-requires
+    fit-to-requires
+    kept-requires-2
+    kept-requires-3
+    returns
+    returns-2)

@@ -1,6 +1,7 @@
 -- <uses>
 use mathlib.Core.Path.{refl, sym, ap, subst, _∙_}
 use Rattle.ol_spec.specs.Eval.{several}
+use Rattle.ol_spec.specs.declared.Outcome.the-variants as Out
 use Rattle.ol_eval.specs.Stores.{endOf}
 use Rattle.ol_eval.proofs.Storing.{out-stored, out-none, no-failure, no-overflow}
 -- </uses>
@@ -10,10 +11,15 @@ use Rattle.ol_eval.proofs.copies.store_out.Tie as tie
 use Rattle.ol_eval.proofs.copies.store_out.Reads as reads
 use Rattle.ol_eval.proofs.copies.store_out.Lts as lts
 use Rattle.ol_eval.proofs.copies.store.Reads as store-reads
+use Rattle.ol_eval.proofs.outcomes.kept.Reads as kept-reads
 
 -- src/copies.rt:88:24
 enum-known-o : tie.Need-enum-known-o
 enum-known-o c = search needs
+
+-- src/copies.rt:89:31
+kept-requires : tie.Need-kept-requires
+kept-requires c κs = search needs
 
 -- src/copies.rt:89:13
 store-requires : tie.Need-store-requires
@@ -34,8 +40,8 @@ same-length c = search needs
 -- src/copies.rt:83:1
 returns : tie.Need-returns
 returns c =
-    let start = c .before .before .before .before .before .before .before .before .before in
-    (ap endOf (sym (c .before .before .before .before .before .o .given .1)), out-stored (start .args .tab .now) (start .args .k) (start .args .at) (start .args .o) (c .before .before .before .before .before .o .given .0 .0) (start .args .cells .now) _ (c .before .before .before .before .before .o .given .1) (c .before .before .store .ensures))
+    let start = c .before .before .before .before .before .before .before .before .before .before in
+    (ap endOf (sym (c .before .before .before .before .before .before .o .given .1)), out-stored (start .args .tab .now) (start .args .k) (start .args .at) (start .args .o) (c .before .before .before .before .kept .result) (start .args .cells .now) _ (c .before .before .before .before .before .before .o .given .1 ∙ ap Out.Value (sym (c .before .before .before .before .kept .ensures .0))) (c .before .before .store .ensures))
 
 -- src/copies.rt:83:1
 returns-2 : tie.Need-returns-2
@@ -54,6 +60,7 @@ store-out-spec =
     tie.close
     (tie.spec
     enum-known-o
+    kept-requires
     store-requires
     enum-told
     enum-told-2

@@ -1,6 +1,8 @@
 -- <uses>
 use mathlib.Core.Path.{_≡_, refl, sym, ap, subst, _∙_}
 use native.Mathlib.Omega.{arith}
+use mir.Facts.{toZ-ofZ}
+use borrow.Author.Needs.{sfits-of}
 use Rattle.ol_spec.specs.declared.Value.the-variants as Val
 use Rattle.ol_eval.proofs.Backs.{back-from, bool-back, int-back, float-back, single-back, enum-back}
 -- </uses>
@@ -36,7 +38,7 @@ returns c = (sym (c .before .v .given .1), back-from (Val.Bool (c .before .v .gi
 
 -- src/outcomes.rt:7:1
 returns-2 : tie.Need-returns-2
-returns-2 c = (sym (c .before .v2 .given .1), back-from (Val.Int (c .before .v2 .given .0 .0)) (c .before .v2 .given .1) (int-back (c .before .v2 .given .0 .0) (c .known-told2 .given .0 .1)))
+returns-2 c = (ap Val.Int (toZ-ofZ (sfits-of (c .known-told2 .given .0 .1))) ∙ sym (c .before .v2 .given .1), back-from (Val.Int (c .before .v2 .given .0 .0)) (c .before .v2 .given .1) (int-back (c .before .v2 .given .0 .0) (c .known-told2 .given .0 .1)))
 
 -- src/outcomes.rt:7:1
 returns-3 : tie.Need-returns-3
