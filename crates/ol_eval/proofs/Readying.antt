@@ -7,18 +7,18 @@ use native.Mathlib.Omega.{arith}
 use lib.ListN.{length, take, drop, getD, length-drop, take-append-drop}
 use lib.Seq.{length-take-le, take-take}
 use Rattle.ol_spec.specs.Lists.{isEmpty, maybe}
-use Rattle.ol_spec.specs.Syntax.{Expr, boolLit, intLit, floatLit, charLit, var, unary, binary, ifThenElse, pre, arrow, cast, call, tuple}
-use Rattle.ol_spec.specs.Eval.{Globals, Eval, callees, calleesAll, hasCall, RealKind, realKind, isDouble?, arithmetic, join, eval, thenOut, next, mapEval}
+use Rattle.ol_spec.specs.Syntax.{Expr, Exprs, boolLit, intLit, floatLit, charLit, var, unary, binary, ifThenElse, pre, arrow, cast, call, tuple}
+use Rattle.ol_spec.specs.Eval.{orFailure, presentOf, sitesSize, Globals, Eval, callees, calleesAll, hasCall, RealKind, realKind, isDouble?, arithmetic, join, eval, thenOut, next, mapEval}
 use Rattle.ol_spec.specs.declared.Outcome.{Outcome}
 use Rattle.ol_eval.specs.Outcomes.{commonOut}
 use Rattle.ol_tree.specs.At.{exprAt, endAt, exprsAt, endsAt, Reads, ReadsAll}
 use Rattle.ol_tree.specs.Tables.{Each, tyCode, tyEnum}
 use Rattle.ol_tree.specs.Heads.{headSize as headOf, partsOf}
 use Rattle.ol_tree.specs.Parts.{ownSites, Proper}
-use Rattle.ol_tree.proofs.Forms.{each-append, Formed, callees-all, callees-form, one-read, one-tree, parted, none-read, by-form, callees-parts}
-use Rattle.ol_eval.specs.Walk.{Passable, Skips, SkipsTo}
+use Rattle.ol_tree.proofs.Forms.{each-append, Formed, callees-all, callees-form, one-read, one-tree, parted, none-read, by-form, callees-parts, var-form}
+use Rattle.ol_eval.specs.Walk.{sizesIn, Passable, Skips, SkipsTo}
 use Rattle.ol_eval.specs.declared.skip.Passed.{Passed}
-use Rattle.ol_eval.specs.Plans.{Plan, Cells, segsAt, segAt, evalIn, Leaf, globalsIn, scopeIn}
+use Rattle.ol_eval.specs.Plans.{Plan, Cells, segsAt, segAt, evalIn, Leaf, globalsIn, scopeIn, nameAt}
 use Rattle.ol_eval.specs.Post.{Ready, Meets, EvalsTo, ChooseTo, chooseIn}
 use Rattle.ol_eval.specs.Nodes.{Enters}
 use Rattle.ol_eval.specs.declared.cycle.Step.{Step}
@@ -203,6 +203,13 @@ module _ (f consts : List ℕ) (level at node : ℕ) (first : Bool) (cells befor
         used-is = k .used-is;
         state = e ∙ sym (take-append-drop n old) ∙ ap (λ (x : List ℕ). x ++ drop n old) (sym (leaf-seg r l (take n old)));
       }
+
+  -- a Var yields its present value
+  pub var-evals : {old new : List ℕ} {o : Outcome} → ReadsAll f level 1 at → Reads f level at → getD f at 0 ≡ 4 → new ≡ old → o ≡ orFailure (presentOf (globalsIn f consts) (scopeIn f node false cells cells) (nameAt f (at + 1))) → EvalsTo f consts level at node first cells before old (record { out = o; next = at + 3; used = 0 }) new
+  unfolding eval sitesSize
+  var-evals {old} h r c e w =
+      let z = none-read f (level - 1) (at + 3) in
+      form-evals {old = old} (λ (seg : List ℕ). record { out = orFailure (presentOf (globalsIn f consts) (scopeIn f node false cells cells) (nameAt f (at + 1))); seg = seg }) h (var-form f level at r c) refl (λ seg. refl) (record { out = w; next-is = sym (z .1); used-is = sym (ap (λ (es : Exprs). sitesSize (sizesIn f) (calleesAll es)) (z .0)); state = e ∙ sym (take-append-drop (segsAt f (level - 1) 0 (at + 3)) old) })
 
 -- what was evaluated on just its segment
 pub fronted : (f consts : List ℕ) (level at node : ℕ) (first : Bool) (cells before s : List ℕ) {r : Step} {new : List ℕ} → EvalsTo f consts level at node first cells before (take (segAt f level at) s) r new → Meets (evalIn f consts node first cells before (exprAt f level at) (take (segAt f level at) s)) (endAt f level at) (segAt f level at) (take (segAt f level at) s) r new

@@ -20,6 +20,7 @@ use crate::copies::write_cells;
 use crate::equations::equations;
 use crate::names::chosen;
 use crate::names::leaf_out;
+use crate::names::present;
 use crate::outcomes::binary_out;
 use crate::outcomes::cast_out;
 use crate::outcomes::done;
@@ -58,8 +59,53 @@ pub struct Ended {
     pub index: usize,
 }
 
-// The expression at `at`.
+// The expression at `at`. A Var is read at once.
 pub fn eval(
+    file: &[u8],
+    tab: &[u8],
+    rows: &[usize],
+    consts: &[u8],
+    at: usize,
+    level: usize,
+    node: usize,
+    first: bool,
+    cells: &[u8],
+    before: &[u8],
+    old: &[u8],
+    new: &mut [u8],
+) -> Step
+    requires { ⌜ Ready (now file) (now tab) (now rows) (now consts) level 1 at node (now cells) (now before) (now old) (now new) ⌝ }
+    ensures { λ r. ⌜ EvalsTo (now (file .entry)) (now (consts .entry)) level at node first (now (cells .entry)) (now (before .entry)) (now (old .entry)) r (now (new .exit)) ⌝ }
+{
+    let code = file[at];
+    if code == 4 {
+        let p = at + 1;
+        let next = at + 3;
+        Step {
+            out: present(file, tab, consts, node, cells, p),
+            next: next,
+            used: 0,
+        }
+    } else {
+        eval_form(
+            file,
+            tab,
+            rows,
+            consts,
+            at,
+            level,
+            node,
+            first,
+            cells,
+            before,
+            old,
+            new,
+        )
+    }
+}
+
+// The expression at `at`, by its form.
+fn eval_form(
     file: &[u8],
     tab: &[u8],
     rows: &[usize],
@@ -81,7 +127,7 @@ pub fn eval(
     match code {
         5 => {
             let op = file[p];
-            let r = eval(
+            let r = eval_form(
                 file,
                 tab,
                 rows,
@@ -170,7 +216,7 @@ pub fn eval(
         10 => {
             let t = file[p];
             let q = after_type(t, p);
-            let r = eval(
+            let r = eval_form(
                 file,
                 tab,
                 rows,

@@ -133,7 +133,7 @@ pub fn drop_failure(taken: Outcome, other: Outcome) -> Outcome
     match other {
         Outcome::Value(_) => same_out(taken),
         Outcome::Failure => same_out(taken),
-        Outcome::Overflow => Outcome::Overflow,
+        Outcome::Overflow => same_out(other),
     }
 }
 

@@ -22,8 +22,8 @@ use Rattle.ol_eval.proofs.cycle.eval_all.Reads as eval-all
 use Rattle.ol_eval.proofs.skip.pass_all.Reads as pass-all-reads
 use Rattle.ol_eval.proofs.copies.passed.Reads as passed-reads
 use Rattle.ol_value.proofs.cell.write_cell.Reads as write-cell-reads
-use Rattle.ol_eval.proofs.cycle.+call_equation+enter+equation+eval+eval_all+eval_call+eval_first+eval_if+eval_second+eval_two+run+step_function+step_instance+step_site+tuple_equation.Lts-eval_all as eval-all-lts
-use Rattle.ol_eval.proofs.cycle.+call_equation+enter+equation+eval+eval_all+eval_call+eval_first+eval_if+eval_second+eval_two+run+step_function+step_instance+step_site+tuple_equation.Proof.Common.{eval-all-at, eval-below}
+use Rattle.ol_eval.proofs.cycle.+call_equation+enter+equation+eval+eval_all+eval_call+eval_first+eval_form+eval_if+eval_second+eval_two+run+step_function+step_instance+step_site+tuple_equation.Lts-eval_all as eval-all-lts
+use Rattle.ol_eval.proofs.cycle.+call_equation+enter+equation+eval+eval_all+eval_call+eval_first+eval_form+eval_if+eval_second+eval_two+run+step_function+step_instance+step_site+tuple_equation.Proof.Common.{eval-all-at, eval-below}
 
 -- what it knows of its callees
 abbrev pub Q : ℕ → eval-all-lts.Claims

@@ -13,8 +13,8 @@ use Rattle.ol_eval.proofs.cycle.eval_all.Reads as eval-all
 use Rattle.ol_eval.proofs.copies.less.Reads as less-reads
 use Rattle.ol_eval.proofs.tables.number.Reads as number-reads
 use Rattle.ol_eval.proofs.cycle.tuple_equation.Reads as tuple-equation
-use Rattle.ol_eval.proofs.cycle.+call_equation+enter+equation+eval+eval_all+eval_call+eval_first+eval_if+eval_second+eval_two+run+step_function+step_instance+step_site+tuple_equation.Lts-tuple_equation as tuple-equation-lts
-use Rattle.ol_eval.proofs.cycle.+call_equation+enter+equation+eval+eval_all+eval_call+eval_first+eval_if+eval_second+eval_two+run+step_function+step_instance+step_site+tuple_equation.Proof.Common.{tuple-equation-at, eval-all-below}
+use Rattle.ol_eval.proofs.cycle.+call_equation+enter+equation+eval+eval_all+eval_call+eval_first+eval_form+eval_if+eval_second+eval_two+run+step_function+step_instance+step_site+tuple_equation.Lts-tuple_equation as tuple-equation-lts
+use Rattle.ol_eval.proofs.cycle.+call_equation+enter+equation+eval+eval_all+eval_call+eval_first+eval_form+eval_if+eval_second+eval_two+run+step_function+step_instance+step_site+tuple_equation.Proof.Common.{tuple-equation-at, eval-all-below}
 
 -- what it knows of its callees
 abbrev pub Q : ℕ → tuple-equation-lts.Claims

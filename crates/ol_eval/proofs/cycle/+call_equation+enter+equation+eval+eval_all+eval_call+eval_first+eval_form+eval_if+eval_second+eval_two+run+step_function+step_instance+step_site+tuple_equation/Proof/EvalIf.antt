@@ -29,8 +29,8 @@ use Rattle.ol_eval.proofs.cycle.eval_second.Reads as eval-second
 use Rattle.ol_eval.proofs.skip.pass_all.Reads as pass-all-reads
 use Rattle.ol_eval.proofs.outcomes.test_of.Reads as test-of-reads
 use Rattle.ol_eval.proofs.outcomes.untested.Reads as untested-reads
-use Rattle.ol_eval.proofs.cycle.+call_equation+enter+equation+eval+eval_all+eval_call+eval_first+eval_if+eval_second+eval_two+run+step_function+step_instance+step_site+tuple_equation.Lts-eval_if as eval-if-lts
-use Rattle.ol_eval.proofs.cycle.+call_equation+enter+equation+eval+eval_all+eval_call+eval_first+eval_if+eval_second+eval_two+run+step_function+step_instance+step_site+tuple_equation.Proof.Common.{eval-if-at, eval-below, eval-first-below, eval-second-below}
+use Rattle.ol_eval.proofs.cycle.+call_equation+enter+equation+eval+eval_all+eval_call+eval_first+eval_form+eval_if+eval_second+eval_two+run+step_function+step_instance+step_site+tuple_equation.Lts-eval_if as eval-if-lts
+use Rattle.ol_eval.proofs.cycle.+call_equation+enter+equation+eval+eval_all+eval_call+eval_first+eval_form+eval_if+eval_second+eval_two+run+step_function+step_instance+step_site+tuple_equation.Proof.Common.{eval-if-at, eval-below, eval-first-below, eval-second-below}
 
 -- what it knows of its callees
 abbrev pub Q : ℕ → eval-if-lts.Claims

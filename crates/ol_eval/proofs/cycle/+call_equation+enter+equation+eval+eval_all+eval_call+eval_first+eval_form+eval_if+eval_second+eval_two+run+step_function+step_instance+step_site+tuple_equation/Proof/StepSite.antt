@@ -9,8 +9,8 @@ use Rattle.ol_eval.proofs.tables.row.Reads as row-reads
 use Rattle.ol_eval.proofs.cycle.step_function.Reads as step-function
 use Rattle.ol_eval.proofs.cycle.step_instance.Reads as step-instance
 use Rattle.ol_eval.proofs.cycle.step_site.Reads as step-site
-use Rattle.ol_eval.proofs.cycle.+call_equation+enter+equation+eval+eval_all+eval_call+eval_first+eval_if+eval_second+eval_two+run+step_function+step_instance+step_site+tuple_equation.Lts-step_site as step-site-lts
-use Rattle.ol_eval.proofs.cycle.+call_equation+enter+equation+eval+eval_all+eval_call+eval_first+eval_if+eval_second+eval_two+run+step_function+step_instance+step_site+tuple_equation.Proof.Common.{step-site-at, step-function-below, step-instance-below}
+use Rattle.ol_eval.proofs.cycle.+call_equation+enter+equation+eval+eval_all+eval_call+eval_first+eval_form+eval_if+eval_second+eval_two+run+step_function+step_instance+step_site+tuple_equation.Lts-step_site as step-site-lts
+use Rattle.ol_eval.proofs.cycle.+call_equation+enter+equation+eval+eval_all+eval_call+eval_first+eval_form+eval_if+eval_second+eval_two+run+step_function+step_instance+step_site+tuple_equation.Proof.Common.{step-site-at, step-function-below, step-instance-below}
 
 -- what it knows of its callees
 abbrev pub Q : ℕ → step-site-lts.Claims

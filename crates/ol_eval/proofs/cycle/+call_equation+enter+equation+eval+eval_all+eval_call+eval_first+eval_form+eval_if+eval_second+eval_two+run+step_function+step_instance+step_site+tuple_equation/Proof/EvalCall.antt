@@ -19,8 +19,8 @@ use Rattle.ol_eval.proofs.cycle.eval_call.Reads as eval-call
 use Rattle.ol_eval.proofs.tables.number.Reads as number-reads
 use Rattle.ol_eval.proofs.tables.row.Reads as row-reads
 use Rattle.ol_eval.proofs.copies.single_out.Reads as single-out-reads
-use Rattle.ol_eval.proofs.cycle.+call_equation+enter+equation+eval+eval_all+eval_call+eval_first+eval_if+eval_second+eval_two+run+step_function+step_instance+step_site+tuple_equation.Lts-eval_call as eval-call-lts
-use Rattle.ol_eval.proofs.cycle.+call_equation+enter+equation+eval+eval_all+eval_call+eval_first+eval_if+eval_second+eval_two+run+step_function+step_instance+step_site+tuple_equation.Proof.Common.{eval-call-at, enter-below}
+use Rattle.ol_eval.proofs.cycle.+call_equation+enter+equation+eval+eval_all+eval_call+eval_first+eval_form+eval_if+eval_second+eval_two+run+step_function+step_instance+step_site+tuple_equation.Lts-eval_call as eval-call-lts
+use Rattle.ol_eval.proofs.cycle.+call_equation+enter+equation+eval+eval_all+eval_call+eval_first+eval_form+eval_if+eval_second+eval_two+run+step_function+step_instance+step_site+tuple_equation.Proof.Common.{eval-call-at, enter-below}
 
 -- what it knows of its callees
 abbrev pub Q : ℕ → eval-call-lts.Claims

@@ -14,8 +14,8 @@ use Rattle.ol_eval.proofs.cycle.enter.Reads as enter
 use Rattle.ol_eval.proofs.copies.less.Reads as less-reads
 use Rattle.ol_eval.proofs.tables.number.Reads as number-reads
 use Rattle.ol_eval.proofs.tables.row.Reads as row-reads
-use Rattle.ol_eval.proofs.cycle.+call_equation+enter+equation+eval+eval_all+eval_call+eval_first+eval_if+eval_second+eval_two+run+step_function+step_instance+step_site+tuple_equation.Lts-call_equation as call-equation-lts
-use Rattle.ol_eval.proofs.cycle.+call_equation+enter+equation+eval+eval_all+eval_call+eval_first+eval_if+eval_second+eval_two+run+step_function+step_instance+step_site+tuple_equation.Proof.Common.{call-equation-at, enter-below}
+use Rattle.ol_eval.proofs.cycle.+call_equation+enter+equation+eval+eval_all+eval_call+eval_first+eval_form+eval_if+eval_second+eval_two+run+step_function+step_instance+step_site+tuple_equation.Lts-call_equation as call-equation-lts
+use Rattle.ol_eval.proofs.cycle.+call_equation+enter+equation+eval+eval_all+eval_call+eval_first+eval_form+eval_if+eval_second+eval_two+run+step_function+step_instance+step_site+tuple_equation.Proof.Common.{call-equation-at, enter-below}
 
 -- what it knows of its callees
 abbrev pub Q : ℕ → call-equation-lts.Claims

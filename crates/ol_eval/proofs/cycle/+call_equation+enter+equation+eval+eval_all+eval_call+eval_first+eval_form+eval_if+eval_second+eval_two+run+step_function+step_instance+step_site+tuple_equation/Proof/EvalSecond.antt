@@ -28,8 +28,8 @@ use Rattle.ol_eval.proofs.cycle.eval.Reads as eval
 use Rattle.ol_eval.proofs.cycle.eval_second.Reads as eval-second
 use Rattle.ol_eval.proofs.skip.pass.Reads as pass-reads
 use Rattle.ol_eval.proofs.outcomes.runs.Reads as runs-reads
-use Rattle.ol_eval.proofs.cycle.+call_equation+enter+equation+eval+eval_all+eval_call+eval_first+eval_if+eval_second+eval_two+run+step_function+step_instance+step_site+tuple_equation.Lts-eval_second as eval-second-lts
-use Rattle.ol_eval.proofs.cycle.+call_equation+enter+equation+eval+eval_all+eval_call+eval_first+eval_if+eval_second+eval_two+run+step_function+step_instance+step_site+tuple_equation.Proof.Common.{eval-second-at, eval-below}
+use Rattle.ol_eval.proofs.cycle.+call_equation+enter+equation+eval+eval_all+eval_call+eval_first+eval_form+eval_if+eval_second+eval_two+run+step_function+step_instance+step_site+tuple_equation.Lts-eval_second as eval-second-lts
+use Rattle.ol_eval.proofs.cycle.+call_equation+enter+equation+eval+eval_all+eval_call+eval_first+eval_form+eval_if+eval_second+eval_two+run+step_function+step_instance+step_site+tuple_equation.Proof.Common.{eval-second-at, eval-below}
 
 -- what it knows of its callees
 abbrev pub Q : ℕ → eval-second-lts.Claims

@@ -17,8 +17,8 @@ use Rattle.ol_eval.proofs.equations.equations.Reads as equations-reads
 use Rattle.ol_eval.proofs.tables.order_at.Reads as order-at-reads
 use Rattle.ol_eval.proofs.tables.row.Reads as row-reads
 use Rattle.ol_eval.proofs.cycle.run.Reads as run
-use Rattle.ol_eval.proofs.cycle.+call_equation+enter+equation+eval+eval_all+eval_call+eval_first+eval_if+eval_second+eval_two+run+step_function+step_instance+step_site+tuple_equation.Lts-run as run-lts
-use Rattle.ol_eval.proofs.cycle.+call_equation+enter+equation+eval+eval_all+eval_call+eval_first+eval_if+eval_second+eval_two+run+step_function+step_instance+step_site+tuple_equation.Proof.Common.{run-at, equation-below}
+use Rattle.ol_eval.proofs.cycle.+call_equation+enter+equation+eval+eval_all+eval_call+eval_first+eval_form+eval_if+eval_second+eval_two+run+step_function+step_instance+step_site+tuple_equation.Lts-run as run-lts
+use Rattle.ol_eval.proofs.cycle.+call_equation+enter+equation+eval+eval_all+eval_call+eval_first+eval_form+eval_if+eval_second+eval_two+run+step_function+step_instance+step_site+tuple_equation.Proof.Common.{run-at, equation-below}
 
 -- what it knows of its callees
 abbrev pub Q : ℕ → run-lts.Claims

@@ -27,8 +27,8 @@ use Rattle.ol_eval.proofs.outcomes.done.Reads as done-reads
 use Rattle.ol_eval.proofs.cycle.eval.Reads as eval
 use Rattle.ol_eval.proofs.cycle.eval_two.Reads as eval-two
 use Rattle.ol_eval.proofs.skip.pass.Reads as pass-reads
-use Rattle.ol_eval.proofs.cycle.+call_equation+enter+equation+eval+eval_all+eval_call+eval_first+eval_if+eval_second+eval_two+run+step_function+step_instance+step_site+tuple_equation.Lts-eval_two as eval-two-lts
-use Rattle.ol_eval.proofs.cycle.+call_equation+enter+equation+eval+eval_all+eval_call+eval_first+eval_if+eval_second+eval_two+run+step_function+step_instance+step_site+tuple_equation.Proof.Common.{eval-two-at, eval-below}
+use Rattle.ol_eval.proofs.cycle.+call_equation+enter+equation+eval+eval_all+eval_call+eval_first+eval_form+eval_if+eval_second+eval_two+run+step_function+step_instance+step_site+tuple_equation.Lts-eval_two as eval-two-lts
+use Rattle.ol_eval.proofs.cycle.+call_equation+enter+equation+eval+eval_all+eval_call+eval_first+eval_form+eval_if+eval_second+eval_two+run+step_function+step_instance+step_site+tuple_equation.Proof.Common.{eval-two-at, eval-below}
 
 -- what it knows of its callees
 abbrev pub Q : ℕ → eval-two-lts.Claims

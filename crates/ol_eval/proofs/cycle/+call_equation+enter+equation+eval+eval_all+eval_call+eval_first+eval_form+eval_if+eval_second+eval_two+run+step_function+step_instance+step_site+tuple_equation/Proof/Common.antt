@@ -16,6 +16,8 @@ use Rattle.ol_eval.proofs.cycle.eval_call.Reads as eval-call
 use Rattle.ol_eval.proofs.cycle.eval_call.Kinds as eval-call-kinds
 use Rattle.ol_eval.proofs.cycle.eval_first.Reads as eval-first
 use Rattle.ol_eval.proofs.cycle.eval_first.Kinds as eval-first-kinds
+use Rattle.ol_eval.proofs.cycle.eval_form.Reads as eval-form
+use Rattle.ol_eval.proofs.cycle.eval_form.Kinds as eval-form-kinds
 use Rattle.ol_eval.proofs.cycle.eval_if.Reads as eval-if
 use Rattle.ol_eval.proofs.cycle.eval_if.Kinds as eval-if-kinds
 use Rattle.ol_eval.proofs.cycle.eval_second.Reads as eval-second
@@ -37,7 +39,7 @@ abbrev pub μ-call-equation : Measures 8 call-equation-kinds.ps ℕ
 μ-call-equation κs a = a .1 .1 .1 .1 .1 .1 .1 .1 .0 * 256 + 248
 
 abbrev pub μ-enter : Measures 9 enter-kinds.ps ℕ
-μ-enter κs a = a .1 .1 .1 .1 .1 .1 .0 * 256 + a .1 .1 .1 .1 .1 .0 * 8 + 2
+μ-enter κs a = a .1 .1 .1 .1 .1 .1 .0 * 256 + a .1 .1 .1 .1 .1 .0 * 8 + 1
 
 abbrev pub μ-equation : Measures 8 equation-kinds.ps ℕ
 μ-equation κs a = a .1 .1 .1 .1 .1 .1 .0 * 256 + 249
@@ -49,10 +51,13 @@ abbrev pub μ-eval-all : Measures 9 eval-all-kinds.ps ℕ
 μ-eval-all κs a = a .1 .1 .1 .1 .1 .1 .1 .1 .1 .0 * 256 + a .1 .1 .1 .1 .1 .1 .1 .1 .0 * 8 + 7
 
 abbrev pub μ-eval-call : Measures 8 eval-call-kinds.ps ℕ
-μ-eval-call κs a = a .1 .1 .1 .1 .1 .1 .0 * 256 + a .1 .1 .1 .1 .1 .0 * 8 + 3
+μ-eval-call κs a = a .1 .1 .1 .1 .1 .1 .0 * 256 + a .1 .1 .1 .1 .1 .0 * 8 + 2
 
 abbrev pub μ-eval-first : Measures 8 eval-first-kinds.ps ℕ
 μ-eval-first κs a = a .1 .1 .1 .1 .1 .1 .0 * 256 + a .1 .1 .1 .1 .1 .0 * 8 + 5
+
+abbrev pub μ-eval-form : Measures 8 eval-form-kinds.ps ℕ
+μ-eval-form κs a = a .1 .1 .1 .1 .1 .1 .0 * 256 + a .1 .1 .1 .1 .1 .0 * 8 + 3
 
 abbrev pub μ-eval-if : Measures 8 eval-if-kinds.ps ℕ
 μ-eval-if κs a = a .1 .1 .1 .1 .1 .1 .0 * 256 + a .1 .1 .1 .1 .1 .0 * 8 + 6
@@ -130,6 +135,13 @@ eval-first-at t =
 abbrev pub eval-first-below : ℕ → In 8 eval-first-kinds.ps
 eval-first-below t =
     and 8 eval-first-kinds.ps (falls 8 eval-first-kinds.ps _<_ μ-eval-first t) eval-first.Pre
+
+abbrev pub eval-form-at : ℕ → In 8 eval-form-kinds.ps
+eval-form-at t = and 8 eval-form-kinds.ps (is 8 eval-form-kinds.ps μ-eval-form t) eval-form.Pre
+
+abbrev pub eval-form-below : ℕ → In 8 eval-form-kinds.ps
+eval-form-below t =
+    and 8 eval-form-kinds.ps (falls 8 eval-form-kinds.ps _<_ μ-eval-form t) eval-form.Pre
 
 abbrev pub eval-if-at : ℕ → In 8 eval-if-kinds.ps
 eval-if-at t = and 8 eval-if-kinds.ps (is 8 eval-if-kinds.ps μ-eval-if t) eval-if.Pre

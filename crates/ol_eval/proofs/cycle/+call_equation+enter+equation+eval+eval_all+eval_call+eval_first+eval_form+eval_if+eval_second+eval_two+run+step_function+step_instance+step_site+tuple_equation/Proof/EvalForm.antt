@@ -1,4 +1,4 @@
--- The needs of `eval`. Assumes nothing.
+-- The needs of `eval_form`. Assumes nothing.
 -- <uses>
 use mathlib.Core.Path.{_≡_, refl, sym, ap, subst, _∙_}
 use mathlib.Core.Bool.{Bool, true, false}
@@ -34,7 +34,7 @@ use Prim.Native.Nat.{ℕ}
 use borrow.Author.Needs.{needs}
 use Rattle.ol_eval.proofs.cycle.after_type.Reads as after-type-reads
 use Rattle.ol_eval.proofs.outcomes.cast_out.Reads as cast-out-reads
-use Rattle.ol_eval.proofs.cycle.eval.Reads as eval
+use Rattle.ol_eval.proofs.cycle.eval_form.Reads as eval-form
 use Rattle.ol_eval.proofs.cycle.eval_call.Reads as eval-call
 use Rattle.ol_eval.proofs.cycle.eval_first.Reads as eval-first
 use Rattle.ol_eval.proofs.cycle.eval_if.Reads as eval-if
@@ -43,14 +43,14 @@ use Rattle.ol_eval.proofs.cycle.eval_two.Reads as eval-two
 use Rattle.ol_eval.proofs.names.leaf_out.Reads as leaf-out-reads
 use Rattle.ol_eval.proofs.skip.pass.Reads as pass-reads
 use Rattle.ol_eval.proofs.outcomes.unary_out.Reads as unary-out-reads
-use Rattle.ol_eval.proofs.cycle.+call_equation+enter+equation+eval+eval_all+eval_call+eval_first+eval_if+eval_second+eval_two+run+step_function+step_instance+step_site+tuple_equation.Lts-eval as eval-lts
-use Rattle.ol_eval.proofs.cycle.+call_equation+enter+equation+eval+eval_all+eval_call+eval_first+eval_if+eval_second+eval_two+run+step_function+step_instance+step_site+tuple_equation.Proof.Common.{eval-at, eval-below, eval-call-below, eval-first-below, eval-if-below, eval-second-below, eval-two-below}
+use Rattle.ol_eval.proofs.cycle.+call_equation+enter+equation+eval+eval_all+eval_call+eval_first+eval_form+eval_if+eval_second+eval_two+run+step_function+step_instance+step_site+tuple_equation.Lts-eval_form as eval-form-lts
+use Rattle.ol_eval.proofs.cycle.+call_equation+enter+equation+eval+eval_all+eval_call+eval_first+eval_form+eval_if+eval_second+eval_two+run+step_function+step_instance+step_site+tuple_equation.Proof.Common.{eval-form-at, eval-form-below, eval-call-below, eval-first-below, eval-if-below, eval-second-below, eval-two-below}
 
 -- what it knows of its callees
-abbrev pub Q : ℕ → eval-lts.Claims
-Q t = (eval-below t, eval.Post, unary-out-reads.Asked, unary-out-reads.Learnt, eval-two-below t, eval-two.Post, eval-if-below t, eval-if.Post, eval-first-below t, eval-first.Post, eval-second-below t, eval-second.Post, after-type-reads.Asked, after-type-reads.Learnt, cast-out-reads.Asked, cast-out-reads.Learnt, eval-call-below t, eval-call.Post, pass-reads.Asked, pass-reads.Learnt, leaf-out-reads.Asked, leaf-out-reads.Learnt)
+abbrev pub Q : ℕ → eval-form-lts.Claims
+Q t = (eval-form-below t, eval-form.Post, unary-out-reads.Asked, unary-out-reads.Learnt, eval-two-below t, eval-two.Post, eval-if-below t, eval-if.Post, eval-first-below t, eval-first.Post, eval-second-below t, eval-second.Post, after-type-reads.Asked, after-type-reads.Learnt, cast-out-reads.Asked, cast-out-reads.Learnt, eval-call-below t, eval-call.Post, pass-reads.Asked, pass-reads.Learnt, leaf-out-reads.Asked, leaf-out-reads.Learnt)
 
-pub shared-slice-read-code : (t : ℕ) → eval-lts.Need-shared-slice-read-code (Q t) (eval-at t) eval.Post
+pub shared-slice-read-code : (t : ℕ) → eval-form-lts.Need-shared-slice-read-code (Q t) (eval-form-at t) eval-form.Post
 shared-slice-read-code t c =
     let start = c .before .before .before .before .before .before .before .before .before in
     let p = start .pre .1 in
@@ -60,7 +60,7 @@ shared-slice-read-code t c =
     let h = plan-head f (p .plan) in
     reads-in f L a h
 
-pub add-p : (t : ℕ) → eval-lts.Need-add-p (Q t) (eval-at t) eval.Post
+pub add-p : (t : ℕ) → eval-form-lts.Need-add-p (Q t) (eval-form-at t) eval-form.Post
 add-p t c =
     let start = c .before .before .before .before .before .before .before .before .before in
     let p = start .pre .1 in
@@ -70,7 +70,7 @@ add-p t c =
     let h = plan-head f (p .plan) in
     omega (arith, reads-in f L a h, start .good)
 
-pub shared-slice-read-op : (t : ℕ) → eval-lts.Need-shared-slice-read-op (Q t) (eval-at t) eval.Post
+pub shared-slice-read-op : (t : ℕ) → eval-form-lts.Need-shared-slice-read-op (Q t) (eval-form-at t) eval-form.Post
 shared-slice-read-op t c =
     let start = c .before .before .before .before .before .before .before .before .before .before .before in
     let p = start .pre .1 in
@@ -80,8 +80,8 @@ shared-slice-read-op t c =
     let h = plan-head f (p .plan) in
     omega (arith, (unary-form f L a h (c .before .match .keys1)) .1 .inside)
 
-pub add-eval : (t : ℕ) → eval-lts.Need-add-eval (Q t) (eval-at t) eval.Post
-add-eval t c =
+pub add-eval-form : (t : ℕ) → eval-form-lts.Need-add-eval-form (Q t) (eval-form-at t) eval-form.Post
+add-eval-form t c =
     let start = c .before .before .before .before .before .before .before .before .before .before .before in
     let p = start .pre .1 in
     let f = start .args .file .now in
@@ -90,8 +90,8 @@ add-eval t c =
     let h = plan-head f (p .plan) in
     omega (arith, (unary-form f L a h (c .before .match .keys1)) .1 .inside, start .good)
 
-pub sub-eval : (t : ℕ) → eval-lts.Need-sub-eval (Q t) (eval-at t) eval.Post
-sub-eval t c =
+pub sub-eval-form : (t : ℕ) → eval-form-lts.Need-sub-eval-form (Q t) (eval-form-at t) eval-form.Post
+sub-eval-form t c =
     let start = c .before .before .before .before .before .before .before .before .before .before .before in
     let p = start .pre .1 in
     let f = start .args .file .now in
@@ -101,8 +101,8 @@ sub-eval t c =
     let deep = reads-deep f L a h in
     deep
 
-pub eval-requires : (t : ℕ) → eval-lts.Need-eval-requires (Q t) (eval-at t) eval.Post
-eval-requires t c κs =
+pub eval-form-requires : (t : ℕ) → eval-form-lts.Need-eval-form-requires (Q t) (eval-form-at t) eval-form.Post
+eval-form-requires t c κs =
     let start = c .before .before .before .before .before .before .before .before .before .before .before .before in
     let p = start .pre .1 in
     let f = start .args .file .now in
@@ -112,10 +112,10 @@ eval-requires t c κs =
     let deep = reads-deep f L a h in
     (omega (arith, start .pre .0, deep), ready-parts p ((unary-form f L a h (c .before .before .match .keys1)) .1) refl)
 
-pub unary-out-requires : (t : ℕ) → eval-lts.Need-unary-out-requires (Q t) (eval-at t) eval.Post
+pub unary-out-requires : (t : ℕ) → eval-form-lts.Need-unary-out-requires (Q t) (eval-form-at t) eval-form.Post
 unary-out-requires t c κs = tt
 
-pub shared-slice-read-op-2 : (t : ℕ) → eval-lts.Need-shared-slice-read-op-2 (Q t) (eval-at t) eval.Post
+pub shared-slice-read-op-2 : (t : ℕ) → eval-form-lts.Need-shared-slice-read-op-2 (Q t) (eval-form-at t) eval-form.Post
 shared-slice-read-op-2 t c =
     let start = c .before .before .before .before .before .before .before .before .before .before .before in
     let p = start .pre .1 in
@@ -125,7 +125,7 @@ shared-slice-read-op-2 t c =
     let h = plan-head f (p .plan) in
     omega (arith, (binary-form f L a h (c .before .match .keys2)) .1 .inside)
 
-pub add-eval-two : (t : ℕ) → eval-lts.Need-add-eval-two (Q t) (eval-at t) eval.Post
+pub add-eval-two : (t : ℕ) → eval-form-lts.Need-add-eval-two (Q t) (eval-form-at t) eval-form.Post
 add-eval-two t c =
     let start = c .before .before .before .before .before .before .before .before .before .before .before in
     let p = start .pre .1 in
@@ -135,7 +135,7 @@ add-eval-two t c =
     let h = plan-head f (p .plan) in
     omega (arith, (binary-form f L a h (c .before .match .keys2)) .1 .inside, start .good)
 
-pub sub-eval-two : (t : ℕ) → eval-lts.Need-sub-eval-two (Q t) (eval-at t) eval.Post
+pub sub-eval-two : (t : ℕ) → eval-form-lts.Need-sub-eval-two (Q t) (eval-form-at t) eval-form.Post
 sub-eval-two t c =
     let start = c .before .before .before .before .before .before .before .before .before .before .before in
     let p = start .pre .1 in
@@ -146,7 +146,7 @@ sub-eval-two t c =
     let deep = reads-deep f L a h in
     deep
 
-pub eval-two-requires : (t : ℕ) → eval-lts.Need-eval-two-requires (Q t) (eval-at t) eval.Post
+pub eval-two-requires : (t : ℕ) → eval-form-lts.Need-eval-two-requires (Q t) (eval-form-at t) eval-form.Post
 eval-two-requires t c κs =
     let start = c .before .before .before .before .before .before .before .before .before .before .before .before in
     let p = start .pre .1 in
@@ -157,7 +157,7 @@ eval-two-requires t c κs =
     let deep = reads-deep f L a h in
     (omega (arith, start .pre .0, deep), ready-parts p ((binary-form f L a h (c .before .before .match .keys2)) .1) refl)
 
-pub sub-eval-if : (t : ℕ) → eval-lts.Need-sub-eval-if (Q t) (eval-at t) eval.Post
+pub sub-eval-if : (t : ℕ) → eval-form-lts.Need-sub-eval-if (Q t) (eval-form-at t) eval-form.Post
 sub-eval-if t c =
     let start = c .before .before .before .before .before .before .before .before .before .before in
     let p = start .pre .1 in
@@ -168,7 +168,7 @@ sub-eval-if t c =
     let deep = reads-deep f L a h in
     deep
 
-pub eval-if-requires : (t : ℕ) → eval-lts.Need-eval-if-requires (Q t) (eval-at t) eval.Post
+pub eval-if-requires : (t : ℕ) → eval-form-lts.Need-eval-if-requires (Q t) (eval-form-at t) eval-form.Post
 eval-if-requires t c κs =
     let start = c .before .before .before .before .before .before .before .before .before .before .before in
     let p = start .pre .1 in
@@ -179,7 +179,7 @@ eval-if-requires t c κs =
     let deep = reads-deep f L a h in
     (omega (arith, start .pre .0, deep), ready-parts p ((if-form f L a h (c .before .match .keys3))) refl)
 
-pub sub-eval-first : (t : ℕ) → eval-lts.Need-sub-eval-first (Q t) (eval-at t) eval.Post
+pub sub-eval-first : (t : ℕ) → eval-form-lts.Need-sub-eval-first (Q t) (eval-form-at t) eval-form.Post
 sub-eval-first t c =
     let start = c .before .before .before .before .before .before .before .before .before .before .before in
     let p = start .pre .1 in
@@ -190,7 +190,7 @@ sub-eval-first t c =
     let deep = reads-deep f L a h in
     deep
 
-pub eval-first-requires : (t : ℕ) → eval-lts.Need-eval-first-requires (Q t) (eval-at t) eval.Post
+pub eval-first-requires : (t : ℕ) → eval-form-lts.Need-eval-first-requires (Q t) (eval-form-at t) eval-form.Post
 eval-first-requires t c κs =
     let start = c .before .before .before .before .before .before .before .before .before .before .before .before in
     let p = start .pre .1 in
@@ -201,7 +201,7 @@ eval-first-requires t c κs =
     let deep = reads-deep f L a h in
     (omega (arith, start .pre .0, deep), ready-parts p ((arrow-form f L a h (c .before .before .match .keys4))) refl)
 
-pub sub-eval-second : (t : ℕ) → eval-lts.Need-sub-eval-second (Q t) (eval-at t) eval.Post
+pub sub-eval-second : (t : ℕ) → eval-form-lts.Need-sub-eval-second (Q t) (eval-form-at t) eval-form.Post
 sub-eval-second t c =
     let start = c .before .before .before .before .before .before .before .before .before .before .before in
     let p = start .pre .1 in
@@ -212,7 +212,7 @@ sub-eval-second t c =
     let deep = reads-deep f L a h in
     deep
 
-pub eval-second-requires : (t : ℕ) → eval-lts.Need-eval-second-requires (Q t) (eval-at t) eval.Post
+pub eval-second-requires : (t : ℕ) → eval-form-lts.Need-eval-second-requires (Q t) (eval-form-at t) eval-form.Post
 eval-second-requires t c κs =
     let start = c .before .before .before .before .before .before .before .before .before .before .before .before in
     let p = start .pre .1 in
@@ -223,7 +223,7 @@ eval-second-requires t c κs =
     let deep = reads-deep f L a h in
     (omega (arith, start .pre .0, deep), ready-parts p ((arrow-form f L a h (c .before .before .match .keys4))) refl)
 
-pub shared-slice-read-t : (t : ℕ) → eval-lts.Need-shared-slice-read-t (Q t) (eval-at t) eval.Post
+pub shared-slice-read-t : (t : ℕ) → eval-form-lts.Need-shared-slice-read-t (Q t) (eval-form-at t) eval-form.Post
 shared-slice-read-t t c =
     let start = c .before .before .before .before .before .before .before .before .before .before .before in
     let p = start .pre .1 in
@@ -233,7 +233,7 @@ shared-slice-read-t t c =
     let h = plan-head f (p .plan) in
     omega (arith, (cast-form f L a h (c .before .match .keys5)) .1 .inside, type-some ((cast-form f L a h (c .before .match .keys5)) .0))
 
-pub after-type-requires : (t : ℕ) → eval-lts.Need-after-type-requires (Q t) (eval-at t) eval.Post
+pub after-type-requires : (t : ℕ) → eval-form-lts.Need-after-type-requires (Q t) (eval-form-at t) eval-form.Post
 after-type-requires t c κs =
     let start = c .before .before .before .before .before .before .before .before .before .before .before in
     let p = start .pre .1 in
@@ -243,8 +243,8 @@ after-type-requires t c κs =
     let h = plan-head f (p .plan) in
     omega (arith, reads-in f L a h, p .plan .program .sized .small)
 
-pub sub-eval-2 : (t : ℕ) → eval-lts.Need-sub-eval-2 (Q t) (eval-at t) eval.Post
-sub-eval-2 t c =
+pub sub-eval-form-2 : (t : ℕ) → eval-form-lts.Need-sub-eval-form-2 (Q t) (eval-form-at t) eval-form.Post
+sub-eval-form-2 t c =
     let start = c .before .before .before .before .before .before .before .before .before .before .before .before in
     let p = start .pre .1 in
     let f = start .args .file .now in
@@ -254,8 +254,8 @@ sub-eval-2 t c =
     let deep = reads-deep f L a h in
     deep
 
-pub eval-requires-2 : (t : ℕ) → eval-lts.Need-eval-requires-2 (Q t) (eval-at t) eval.Post
-eval-requires-2 t c κs =
+pub eval-form-requires-2 : (t : ℕ) → eval-form-lts.Need-eval-form-requires-2 (Q t) (eval-form-at t) eval-form.Post
+eval-form-requires-2 t c κs =
     let start = c .before .before .before .before .before .before .before .before .before .before .before .before .before in
     let p = start .pre .1 in
     let f = start .args .file .now in
@@ -266,10 +266,10 @@ eval-requires-2 t c κs =
     let e : c .before .after-type .result ≡ a + (1 + tySize ((cast-form f L a h (c .before .before .before .match .keys5)) .0)) = c .before .after-type .ensures ∙ omega (arith, (cast-form f L a h (c .before .before .before .match .keys5)) .3) in
     (omega (arith, start .pre .0, deep), rw e (ready-parts p ((cast-form f L a h (c .before .before .before .match .keys5)) .1) refl))
 
-pub cast-out-requires : (t : ℕ) → eval-lts.Need-cast-out-requires (Q t) (eval-at t) eval.Post
+pub cast-out-requires : (t : ℕ) → eval-form-lts.Need-cast-out-requires (Q t) (eval-form-at t) eval-form.Post
 cast-out-requires t c κs = tt
 
-pub eval-call-requires : (t : ℕ) → eval-lts.Need-eval-call-requires (Q t) (eval-at t) eval.Post
+pub eval-call-requires : (t : ℕ) → eval-form-lts.Need-eval-call-requires (Q t) (eval-form-at t) eval-form.Post
 eval-call-requires t c κs =
     let start = c .before .before .before .before .before .before .before .before .before .before .before in
     let p = start .pre .1 in
@@ -280,22 +280,22 @@ eval-call-requires t c κs =
     let deep = reads-deep f L a h in
     (omega (arith, start .pre .0, deep), (p, c .before .match .keys6))
 
-pub pass-requires : (t : ℕ) → eval-lts.Need-pass-requires (Q t) (eval-at t) eval.Post
+pub pass-requires : (t : ℕ) → eval-form-lts.Need-pass-requires (Q t) (eval-form-at t) eval-form.Post
 pass-requires t c κs =
     let start = c .before .before .before .before .before .before .before .before .before .before in
     let p = start .pre .1 in
     ready-pass p
 
-pub leaf-out-requires : (t : ℕ) → eval-lts.Need-leaf-out-requires (Q t) (eval-at t) eval.Post
+pub leaf-out-requires : (t : ℕ) → eval-form-lts.Need-leaf-out-requires (Q t) (eval-form-at t) eval-form.Post
 leaf-out-requires t c κs =
     let start = c .before .before .before .before .before .before .before .before .before .before .before in
     let p = start .pre .1 in
     (p .plan, p .present, p .previous, (record { no-unary = c .before .match .rest .0 .0 .0 .0 .0 .1; no-binary = c .before .match .rest .0 .0 .0 .0 .1; no-if = c .before .match .rest .0 .0 .0 .1; no-arrow = c .before .match .rest .0 .0 .1; no-cast = c .before .match .rest .0 .1; no-call = c .before .match .rest .1 }))
 
-pub same-length : (t : ℕ) → eval-lts.Need-same-length (Q t) (eval-at t) eval.Post
-same-length t c = c .before .before .before .eval .kept .1 .1 .1 .1 .1 .1 .1 .1 .1 .1 .1 .0
+pub same-length : (t : ℕ) → eval-form-lts.Need-same-length (Q t) (eval-form-at t) eval-form.Post
+same-length t c = c .before .before .before .eval-form .kept .1 .1 .1 .1 .1 .1 .1 .1 .1 .1 .1 .0
 
-pub returns : (t : ℕ) → eval-lts.Need-returns (Q t) (eval-at t) eval.Post
+pub returns : (t : ℕ) → eval-form-lts.Need-returns (Q t) (eval-form-at t) eval-form.Post
 unfolding eval
 returns t c =
     let start = c .before .before .before .before .before .before .before .before .before .before .before .before .before .before .before .before in
@@ -310,12 +310,12 @@ returns t c =
     let bb = start .args .before .now in
     let h = plan-head f (p .plan) in
     let R = p .plan .reads in
-    one-evals f kk L a n F cl bb (λ (s : List ℕ). mapEval (unaryOf ((unary-form f L a h (c .before .before .before .before .before .before .match .keys1)) .0)) (evalIn f kk n F cl bb (exprAt f (L - 1) (a + 2)) s)) R ((unary-form f L a h (c .before .before .before .before .before .before .match .keys1)) .1) refl (λ s. refl) (mapped (unaryOf ((unary-form f L a h (c .before .before .before .before .before .before .match .keys1)) .0)) (c .before .before .before .eval .ensures) (unary-out-is (getD f (a + 1) 0) ((unary-form f L a h (c .before .before .before .before .before .before .match .keys1)) .0) (c .before .before .before .eval .result .out) ((unary-form f L a h (c .before .before .before .before .before .before .match .keys1)) .2) (c .unary-out .ensures)))
+    one-evals f kk L a n F cl bb (λ (s : List ℕ). mapEval (unaryOf ((unary-form f L a h (c .before .before .before .before .before .before .match .keys1)) .0)) (evalIn f kk n F cl bb (exprAt f (L - 1) (a + 2)) s)) R ((unary-form f L a h (c .before .before .before .before .before .before .match .keys1)) .1) refl (λ s. refl) (mapped (unaryOf ((unary-form f L a h (c .before .before .before .before .before .before .match .keys1)) .0)) (c .before .before .before .eval-form .ensures) (unary-out-is (getD f (a + 1) 0) ((unary-form f L a h (c .before .before .before .before .before .before .match .keys1)) .0) (c .before .before .before .eval-form .result .out) ((unary-form f L a h (c .before .before .before .before .before .before .match .keys1)) .2) (c .unary-out .ensures)))
 
-pub same-length-2 : (t : ℕ) → eval-lts.Need-same-length-2 (Q t) (eval-at t) eval.Post
+pub same-length-2 : (t : ℕ) → eval-form-lts.Need-same-length-2 (Q t) (eval-form-at t) eval-form.Post
 same-length-2 t c = c .before .before .eval-two .kept .1 .1 .1 .1 .1 .1 .1 .1 .1 .1 .1 .1 .0
 
-pub returns-2 : (t : ℕ) → eval-lts.Need-returns-2 (Q t) (eval-at t) eval.Post
+pub returns-2 : (t : ℕ) → eval-form-lts.Need-returns-2 (Q t) (eval-form-at t) eval-form.Post
 unfolding eval
 returns-2 t c =
     let start = c .before .before .before .before .before .before .before .before .before .before .before .before .before .before .before in
@@ -332,10 +332,10 @@ returns-2 t c =
     let R = p .plan .reads in
     form-evals f kk L a n F cl bb (twoIn f kk (getD f (a + 1) 0) (L - 1) (a + 2) n F cl bb) R ((binary-form f L a h (c .before .before .before .before .before .match .keys2)) .1) refl (λ s. binary-is (getD f (a + 1) 0) ((binary-form f L a h (c .before .before .before .before .before .match .keys2)) .0) ((binary-form f L a h (c .before .before .before .before .before .match .keys2)) .2) (evalIn f kk n F cl bb (exprAt f (L - 1) (a + 2)) (take (segAt f (L - 1) (a + 2)) s)) (evalIn f kk n F cl bb (exprAt f (L - 1) (endAt f (L - 1) (a + 2)))) (drop (segAt f (L - 1) (a + 2)) s)) (c .before .before .eval-two .ensures)
 
-pub same-length-3 : (t : ℕ) → eval-lts.Need-same-length-3 (Q t) (eval-at t) eval.Post
+pub same-length-3 : (t : ℕ) → eval-form-lts.Need-same-length-3 (Q t) (eval-form-at t) eval-form.Post
 same-length-3 t c = c .before .before .eval-if .kept .1 .1 .1 .1 .1 .1 .1 .1 .1 .1 .1 .0
 
-pub returns-3 : (t : ℕ) → eval-lts.Need-returns-3 (Q t) (eval-at t) eval.Post
+pub returns-3 : (t : ℕ) → eval-form-lts.Need-returns-3 (Q t) (eval-form-at t) eval-form.Post
 unfolding eval
 returns-3 t c =
     let start = c .before .before .before .before .before .before .before .before .before .before .before .before .before .before in
@@ -352,10 +352,10 @@ returns-3 t c =
     let R = p .plan .reads in
     form-evals f kk L a n F cl bb (ifIn f kk (L - 1) (a + 1) n F cl bb) R ((if-form f L a h (c .before .before .before .before .match .keys3))) refl (λ s. refl) (c .before .before .eval-if .ensures)
 
-pub same-length-4 : (t : ℕ) → eval-lts.Need-same-length-4 (Q t) (eval-at t) eval.Post
+pub same-length-4 : (t : ℕ) → eval-form-lts.Need-same-length-4 (Q t) (eval-form-at t) eval-form.Post
 same-length-4 t c = c .before .before .eval-first .kept .1 .1 .1 .1 .1 .1 .1 .1 .1 .1 .1 .0
 
-pub returns-4 : (t : ℕ) → eval-lts.Need-returns-4 (Q t) (eval-at t) eval.Post
+pub returns-4 : (t : ℕ) → eval-form-lts.Need-returns-4 (Q t) (eval-form-at t) eval-form.Post
 unfolding eval
 returns-4 t c =
     let start = c .before .before .before .before .before .before .before .before .before .before .before .before .before .before .before in
@@ -372,10 +372,10 @@ returns-4 t c =
     let R = p .plan .reads in
     form-evals f kk L a n F cl bb (chooseIn f kk true (L - 1) (a + 1) n F cl bb) R ((arrow-form f L a h (c .before .before .before .before .before .match .keys4))) refl (λ s. first-is f kk (L - 1) (a + 1) n F true cl bb s (c .before .before .before .before .if1 .taken)) (c .before .before .eval-first .ensures)
 
-pub same-length-5 : (t : ℕ) → eval-lts.Need-same-length-5 (Q t) (eval-at t) eval.Post
+pub same-length-5 : (t : ℕ) → eval-form-lts.Need-same-length-5 (Q t) (eval-form-at t) eval-form.Post
 same-length-5 t c = c .before .before .eval-second .kept .1 .1 .1 .1 .1 .1 .1 .1 .1 .1 .1 .0
 
-pub returns-5 : (t : ℕ) → eval-lts.Need-returns-5 (Q t) (eval-at t) eval.Post
+pub returns-5 : (t : ℕ) → eval-form-lts.Need-returns-5 (Q t) (eval-form-at t) eval-form.Post
 unfolding eval
 returns-5 t c =
     let start = c .before .before .before .before .before .before .before .before .before .before .before .before .before .before .before in
@@ -392,10 +392,10 @@ returns-5 t c =
     let R = p .plan .reads in
     form-evals f kk L a n F cl bb (chooseIn f kk false (L - 1) (a + 1) n F cl bb) R ((arrow-form f L a h (c .before .before .before .before .before .match .keys4))) refl (λ s. first-is f kk (L - 1) (a + 1) n F false cl bb s (c .before .before .before .before .if1 .left)) (c .before .before .eval-second .ensures)
 
-pub same-length-6 : (t : ℕ) → eval-lts.Need-same-length-6 (Q t) (eval-at t) eval.Post
-same-length-6 t c = c .before .before .before .eval2 .kept .1 .1 .1 .1 .1 .1 .1 .1 .1 .1 .1 .0
+pub same-length-6 : (t : ℕ) → eval-form-lts.Need-same-length-6 (Q t) (eval-form-at t) eval-form.Post
+same-length-6 t c = c .before .before .before .eval-form2 .kept .1 .1 .1 .1 .1 .1 .1 .1 .1 .1 .1 .0
 
-pub returns-6 : (t : ℕ) → eval-lts.Need-returns-6 (Q t) (eval-at t) eval.Post
+pub returns-6 : (t : ℕ) → eval-form-lts.Need-returns-6 (Q t) (eval-form-at t) eval-form.Post
 unfolding eval
 returns-6 t c =
     let start = c .before .before .before .before .before .before .before .before .before .before .before .before .before .before .before .before .before in
@@ -413,15 +413,15 @@ returns-6 t c =
     let R = p .plan .reads in
     let q = a + (1 + tySize ((cast-form f L a h (c .before .before .before .before .before .before .before .match .keys5)) .0)) in
     let e : c .before .before .before .before .before .after-type .result ≡ q = c .before .before .before .before .before .after-type .ensures ∙ omega (arith, (cast-form f L a h (c .before .before .before .before .before .before .before .match .keys5)) .3) in
-    one-evals f kk L a n F cl bb (λ (s : List ℕ). mapEval (castTo ((cast-form f L a h (c .before .before .before .before .before .before .before .match .keys5)) .0)) (evalIn f kk n F cl bb (exprAt f (L - 1) q) s)) R ((cast-form f L a h (c .before .before .before .before .before .before .before .match .keys5)) .1) refl (λ s. refl) (mapped (castTo ((cast-form f L a h (c .before .before .before .before .before .before .before .match .keys5)) .0)) (moved f kk (L - 1) n F cl bb e (refl {a = o}) (c .before .before .before .eval2 .ensures)) (cast-out-is (getD f (a + 1) 0) ((cast-form f L a h (c .before .before .before .before .before .before .before .match .keys5)) .0) (c .before .before .before .eval2 .result .out) ((cast-form f L a h (c .before .before .before .before .before .before .before .match .keys5)) .4) ((cast-form f L a h (c .before .before .before .before .before .before .before .match .keys5)) .2) (c .cast-out .ensures)))
+    one-evals f kk L a n F cl bb (λ (s : List ℕ). mapEval (castTo ((cast-form f L a h (c .before .before .before .before .before .before .before .match .keys5)) .0)) (evalIn f kk n F cl bb (exprAt f (L - 1) q) s)) R ((cast-form f L a h (c .before .before .before .before .before .before .before .match .keys5)) .1) refl (λ s. refl) (mapped (castTo ((cast-form f L a h (c .before .before .before .before .before .before .before .match .keys5)) .0)) (moved f kk (L - 1) n F cl bb e (refl {a = o}) (c .before .before .before .eval-form2 .ensures)) (cast-out-is (getD f (a + 1) 0) ((cast-form f L a h (c .before .before .before .before .before .before .before .match .keys5)) .0) (c .before .before .before .eval-form2 .result .out) ((cast-form f L a h (c .before .before .before .before .before .before .before .match .keys5)) .4) ((cast-form f L a h (c .before .before .before .before .before .before .before .match .keys5)) .2) (c .cast-out .ensures)))
 
-pub same-length-7 : (t : ℕ) → eval-lts.Need-same-length-7 (Q t) (eval-at t) eval.Post
+pub same-length-7 : (t : ℕ) → eval-form-lts.Need-same-length-7 (Q t) (eval-form-at t) eval-form.Post
 same-length-7 t c = c .before .before .eval-call .kept .1 .1 .1 .1 .1 .1 .1 .1 .1 .1 .1 .0
 
-pub returns-7 : (t : ℕ) → eval-lts.Need-returns-7 (Q t) (eval-at t) eval.Post
+pub returns-7 : (t : ℕ) → eval-form-lts.Need-returns-7 (Q t) (eval-form-at t) eval-form.Post
 returns-7 t c = c .before .before .eval-call .ensures
 
-pub returns-8 : (t : ℕ) → eval-lts.Need-returns-8 (Q t) (eval-at t) eval.Post
+pub returns-8 : (t : ℕ) → eval-form-lts.Need-returns-8 (Q t) (eval-form-at t) eval-form.Post
 returns-8 t c =
     let start = c .before .before .before .before .before .before .before .before .before .before .before .before in
     let p = start .pre .1 in

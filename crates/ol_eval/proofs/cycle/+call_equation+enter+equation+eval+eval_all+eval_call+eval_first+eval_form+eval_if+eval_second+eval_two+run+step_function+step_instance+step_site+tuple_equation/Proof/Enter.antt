@@ -19,8 +19,8 @@ use Rattle.ol_eval.proofs.cycle.eval_all.Reads as eval-all
 use Rattle.ol_eval.proofs.tables.number.Reads as number-reads
 use Rattle.ol_eval.proofs.tables.row.Reads as row-reads
 use Rattle.ol_eval.proofs.cycle.step_site.Reads as step-site
-use Rattle.ol_eval.proofs.cycle.+call_equation+enter+equation+eval+eval_all+eval_call+eval_first+eval_if+eval_second+eval_two+run+step_function+step_instance+step_site+tuple_equation.Lts-enter as enter-lts
-use Rattle.ol_eval.proofs.cycle.+call_equation+enter+equation+eval+eval_all+eval_call+eval_first+eval_if+eval_second+eval_two+run+step_function+step_instance+step_site+tuple_equation.Proof.Common.{enter-at, eval-all-below, step-site-below}
+use Rattle.ol_eval.proofs.cycle.+call_equation+enter+equation+eval+eval_all+eval_call+eval_first+eval_form+eval_if+eval_second+eval_two+run+step_function+step_instance+step_site+tuple_equation.Lts-enter as enter-lts
+use Rattle.ol_eval.proofs.cycle.+call_equation+enter+equation+eval+eval_all+eval_call+eval_first+eval_form+eval_if+eval_second+eval_two+run+step_function+step_instance+step_site+tuple_equation.Proof.Common.{enter-at, eval-all-below, step-site-below}
 
 -- what it knows of its callees
 abbrev pub Q : ℕ → enter-lts.Claims
