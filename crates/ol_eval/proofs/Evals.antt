@@ -247,6 +247,10 @@ second-ran a b {n = n} {k = k} {s = s} {new = new} {new′ = new′} {new″ = n
 pub mapped : {w : Eval} (f : Value → Outcome) {x n : ℕ} {s new : List ℕ} {l : Step} {o : Outcome} → Meets w x n s l new → o ≡ thenOut f (l .out) → Meets (mapEval f w) x n s (record { out = o; next = l .next; used = l .used }) new
 mapped f h j = record { out = j ∙ ap (thenOut f) (h .out); next-is = h .next-is; used-is = h .used-is; state = h .state }
 
+-- with its outcome made again
+pub remade : {w : Eval} {y k : ℕ} {s new : List ℕ} {r : Step} {o : Outcome} → o ≡ r .out → Meets w y k s r new → Meets w y k s (record { out = o; next = r .next; used = r .used }) new
+remade e h = record { out = e ∙ h .out; next-is = h .next-is; used-is = h .used-is; state = h .state }
+
 -- what was evaluated on the first's segment and the others', as it stands on the whole segment
 pub seq-as : (H : List ℕ → List ℕ → Eval) (n k : ℕ) {m y z : ℕ} {s new : List ℕ} {r : Step} → m ≡ n + k → z ≡ y → Meets (H (take n s) (take k (drop n s))) y (n + k) s r new → Meets (H (take n (take m s)) (drop n (take m s))) z m s r new
 seq-as H n k {m} {y} {z} {s} {new} {r} e f h =

@@ -26,6 +26,7 @@ use crate::outcomes::cast_out;
 use crate::outcomes::done;
 use crate::outcomes::drop_failure;
 use crate::outcomes::runs;
+use crate::outcomes::same_out;
 use crate::outcomes::test_of;
 use crate::outcomes::unary_out;
 use crate::outcomes::untested;
@@ -341,7 +342,7 @@ fn eval_two(
     } else {
         let s = pass(file, rows, mid, level);
         Step {
-            out: lo,
+            out: same_out(lo),
             next: s.next,
             used: n + s.used,
         }
@@ -401,7 +402,7 @@ fn eval_if(
         );
         let ro = r.out;
         Step {
-            out: ro,
+            out: same_out(ro),
             next: r.next,
             used: n + r.used,
         }
@@ -422,7 +423,7 @@ fn eval_if(
         );
         let ro = r.out;
         Step {
-            out: ro,
+            out: same_out(ro),
             next: r.next,
             used: n + r.used,
         }

@@ -17,7 +17,7 @@ use Rattle.ol_eval.specs.Plans.{evalIn, segAt, segsAt}
 use Rattle.ol_eval.specs.Post.{branchIn, chooseIn}
 use Rattle.ol_eval.proofs.Lending.{length-put, length-put-front, putTail, tail-all}
 use Rattle.ol_eval.proofs.Planning.{segs-cons}
-use Rattle.ol_eval.proofs.Evals.{rest-old, two-done, two-stop, if-taken, if-stop, first-ran, first-not, second-ran, second-not, seq-as}
+use Rattle.ol_eval.proofs.Evals.{rest-old, two-done, two-stop, if-taken, if-stop, first-ran, first-not, second-ran, second-not, seq-as, remade}
 use Rattle.ol_eval.proofs.Readying.{ready-first, ready-rest, ready-tail, ready-front, ready-pass, ready-seg, moved, moved-choice, moved-skip, skip-one, two-segs, two-ends, chosen-is}
 -- </uses>
 use Prim.Native.Nat.{ℕ}
@@ -27,6 +27,7 @@ use Rattle.ol_eval.proofs.cycle.eval_first.Reads as eval-first
 use Rattle.ol_eval.proofs.cycle.eval_if.Reads as eval-if
 use Rattle.ol_eval.proofs.cycle.eval_second.Reads as eval-second
 use Rattle.ol_eval.proofs.skip.pass_all.Reads as pass-all-reads
+use Rattle.ol_eval.proofs.outcomes.same_out.Reads as same-out-reads
 use Rattle.ol_eval.proofs.outcomes.test_of.Reads as test-of-reads
 use Rattle.ol_eval.proofs.outcomes.untested.Reads as untested-reads
 use Rattle.ol_eval.proofs.cycle.+call_equation+enter+equation+eval+eval_all+eval_call+eval_first+eval_form+eval_if+eval_second+eval_two+run+step_function+step_instance+step_site+tuple_equation.Lts-eval_if as eval-if-lts
@@ -34,7 +35,7 @@ use Rattle.ol_eval.proofs.cycle.+call_equation+enter+equation+eval+eval
 
 -- what it knows of its callees
 abbrev pub Q : ℕ → eval-if-lts.Claims
-Q t = (eval-below t, eval.Post, test-of-reads.Asked, test-of-reads.Learnt, eval-first-below t, eval-first.Post, eval-second-below t, eval-second.Post, pass-all-reads.Asked, pass-all-reads.Learnt, untested-reads.Asked, untested-reads.Learnt)
+Q t = (eval-below t, eval.Post, test-of-reads.Asked, test-of-reads.Learnt, eval-first-below t, eval-first.Post, same-out-reads.Asked, same-out-reads.Learnt, eval-second-below t, eval-second.Post, pass-all-reads.Asked, pass-all-reads.Learnt, untested-reads.Asked, untested-reads.Learnt)
 
 pub eval-requires : (t : ℕ) → eval-if-lts.Need-eval-requires (Q t) (eval-if-at t) eval-if.Post
 eval-requires t c κs =
@@ -104,9 +105,12 @@ eval-first-requires t c κs =
     let K = c .before .before .before .before .before .before .eval .kept .1 .1 .1 .1 .1 .1 .1 .1 .1 .1 .1 .0 in
     (omega (arith, start .pre .0), rw (h .next-is) (ready-rest p h K))
 
+pub same-out-requires : (t : ℕ) → eval-if-lts.Need-same-out-requires (Q t) (eval-if-at t) eval-if.Post
+same-out-requires t c κs = tt
+
 pub add-t28 : (t : ℕ) → eval-if-lts.Need-add-t28 (Q t) (eval-if-at t) eval-if.Post
 add-t28 t c =
-    let start = c .before .before .before .before .before .before .before .before .before .before .before .before .before .before .before .before .before .before .before .before in
+    let start = c .before .before .before .before .before .before .before .before .before .before .before .before .before .before .before .before .before .before .before .before .before in
     let p = start .pre .1 in
     let f = start .args .file .now in
     let kk = start .args .consts .now in
@@ -116,9 +120,9 @@ add-t28 t c =
     let F = start .args .first in
     let cl = start .args .cells .now in
     let bb = start .args .before .now in
-    let h = c .before .before .before .before .before .before .before .before .before .before .eval .ensures in
+    let h = c .before .before .before .before .before .before .before .before .before .before .before .eval .ensures in
     let segs = segs-cons f L 2 a (p .plan .reads) in
-    let g1 = moved-choice f kk true L n F cl bb (c .before .before .before .before .before .before .before .before .before .before .eval .ensures .next-is) (rest-old (c .before .before .before .before .before .before .before .before .before .before .eval .ensures)) (c .before .before .before .eval-first .ensures) in
+    let g1 = moved-choice f kk true L n F cl bb (c .before .before .before .before .before .before .before .before .before .before .before .eval .ensures .next-is) (rest-old (c .before .before .before .before .before .before .before .before .before .before .before .eval .ensures)) (c .before .before .before .before .eval-first .ensures) in
     omega (arith, h .used-is, g1 .used-is, segs, p .room, p .small)
 
 pub sub-eval-second : (t : ℕ) → eval-if-lts.Need-sub-eval-second (Q t) (eval-if-at t) eval-if.Post
@@ -180,9 +184,12 @@ eval-second-requires t c κs =
     let K = c .before .before .before .before .before .before .before .eval .kept .1 .1 .1 .1 .1 .1 .1 .1 .1 .1 .1 .0 in
     (omega (arith, start .pre .0), rw (h .next-is) (ready-rest p h K))
 
-pub add-t38 : (t : ℕ) → eval-if-lts.Need-add-t38 (Q t) (eval-if-at t) eval-if.Post
-add-t38 t c =
-    let start = c .before .before .before .before .before .before .before .before .before .before .before .before .before .before .before .before .before .before .before .before .before in
+pub same-out-requires-2 : (t : ℕ) → eval-if-lts.Need-same-out-requires-2 (Q t) (eval-if-at t) eval-if.Post
+same-out-requires-2 t c κs = tt
+
+pub add-t39 : (t : ℕ) → eval-if-lts.Need-add-t39 (Q t) (eval-if-at t) eval-if.Post
+add-t39 t c =
+    let start = c .before .before .before .before .before .before .before .before .before .before .before .before .before .before .before .before .before .before .before .before .before .before in
     let p = start .pre .1 in
     let f = start .args .file .now in
     let kk = start .args .consts .now in
@@ -192,9 +199,9 @@ add-t38 t c =
     let F = start .args .first in
     let cl = start .args .cells .now in
     let bb = start .args .before .now in
-    let h = c .before .before .before .before .before .before .before .before .before .before .before .eval .ensures in
+    let h = c .before .before .before .before .before .before .before .before .before .before .before .before .eval .ensures in
     let segs = segs-cons f L 2 a (p .plan .reads) in
-    let g2 = moved-choice f kk false L n F cl bb (c .before .before .before .before .before .before .before .before .before .before .before .eval .ensures .next-is) (rest-old (c .before .before .before .before .before .before .before .before .before .before .before .eval .ensures)) (c .before .before .before .eval-second .ensures) in
+    let g2 = moved-choice f kk false L n F cl bb (c .before .before .before .before .before .before .before .before .before .before .before .before .eval .ensures .next-is) (rest-old (c .before .before .before .before .before .before .before .before .before .before .before .before .eval .ensures)) (c .before .before .before .before .eval-second .ensures) in
     omega (arith, h .used-is, g2 .used-is, segs, p .room, p .small)
 
 pub pass-all-requires : (t : ℕ) → eval-if-lts.Need-pass-all-requires (Q t) (eval-if-at t) eval-if.Post
@@ -208,8 +215,8 @@ pass-all-requires t c κs =
 pub untested-requires : (t : ℕ) → eval-if-lts.Need-untested-requires (Q t) (eval-if-at t) eval-if.Post
 untested-requires t c κs = tt
 
-pub add-t46 : (t : ℕ) → eval-if-lts.Need-add-t46 (Q t) (eval-if-at t) eval-if.Post
-add-t46 t c =
+pub add-t48 : (t : ℕ) → eval-if-lts.Need-add-t48 (Q t) (eval-if-at t) eval-if.Post
+add-t48 t c =
     let start = c .before .before .before .before .before .before .before .before .before .before .before .before .before .before .before .before .before .before in
     let p = start .pre .1 in
     let f = start .args .file .now in
@@ -222,49 +229,16 @@ add-t46 t c =
 
 pub same-length : (t : ℕ) → eval-if-lts.Need-same-length (Q t) (eval-if-at t) eval-if.Post
 same-length t c =
-    let start = c .before .before .before .before .before .before .before .before .before .before .before .before .before .before .before .before .before .before .before .before in
-    let p = start .pre .1 in
-    let le = ready-seg p in
-    let h = c .before .before .before .before .before .before .before .before .before .before .eval .ensures in
-    let K = c .before .before .before .before .before .before .before .before .before .before .eval .kept .1 .1 .1 .1 .1 .1 .1 .1 .1 .1 .1 .0 in
-    let N = c .before .before .before .before .before .before .before .before .before .before .eval .last .1 .1 .1 .1 .1 .1 .1 .1 .1 .1 .1 .0 in
-    length-put (c .before .before .before .before .before .before .before .before .before .before .eval .result .used) N (c .before .before .before .eval-first .last .1 .1 .1 .1 .1 .1 .1 .1 .1 .1 .1 .0) (omega (arith, h .used-is, le, K, ap length (p .same))) (c .before .before .before .eval-first .kept .1 .1 .1 .1 .1 .1 .1 .1 .1 .1 .1 .0) ∙ K
-
-pub returns : (t : ℕ) → eval-if-lts.Need-returns (Q t) (eval-if-at t) eval-if.Post
-returns t c =
-    let start = c .before .before .before .before .before .before .before .before .before .before .before .before .before .before .before .before .before .before .before .before in
-    let p = start .pre .1 in
-    let f = start .args .file .now in
-    let kk = start .args .consts .now in
-    let L = start .args .level in
-    let a = start .args .at in
-    let n = start .args .node in
-    let F = start .args .first in
-    let cl = start .args .cells .now in
-    let bb = start .args .before .now in
-    let le = ready-seg p in
-    let mid = endAt f L a in
-    let n1 = segAt f L a in
-    let h = c .before .before .before .before .before .before .before .before .before .before .eval .ensures in
-    let K = c .before .before .before .before .before .before .before .before .before .before .eval .kept .1 .1 .1 .1 .1 .1 .1 .1 .1 .1 .1 .0 in
-    let m2 = segsAt f L 2 (endAt f L a) in
-    let segs = segs-cons f L 2 a (p .plan .reads) in
-    let ends = parted f L 2 a (p .plan .reads) .ends in
-    let g1 = moved-choice f kk true L n F cl bb (c .before .before .before .before .before .before .before .before .before .before .eval .ensures .next-is) (rest-old (c .before .before .before .before .before .before .before .before .before .before .eval .ensures)) (c .before .before .before .eval-first .ensures) in
-    seq-as ((λ (x y : List ℕ). next (evalIn f kk n F cl bb (exprAt f L a) x) (condition (λ (b : Bool) (rest : List ℕ). chooseIn f kk b L mid n F cl bb rest)) y)) n1 m2 segs ends (if-taken ((λ (b : Bool) (rest : List ℕ). chooseIn f kk b L mid n F cl bb rest)) true h g1 (K ∙ ap length (p .same)) le (sym (c .before .before .before .before .before .before .before .test-of .ensures) ∙ c .before .before .before .before .before .before .if1 .taken))
-
-pub same-length-2 : (t : ℕ) → eval-if-lts.Need-same-length-2 (Q t) (eval-if-at t) eval-if.Post
-same-length-2 t c =
     let start = c .before .before .before .before .before .before .before .before .before .before .before .before .before .before .before .before .before .before .before .before .before in
     let p = start .pre .1 in
     let le = ready-seg p in
     let h = c .before .before .before .before .before .before .before .before .before .before .before .eval .ensures in
     let K = c .before .before .before .before .before .before .before .before .before .before .before .eval .kept .1 .1 .1 .1 .1 .1 .1 .1 .1 .1 .1 .0 in
     let N = c .before .before .before .before .before .before .before .before .before .before .before .eval .last .1 .1 .1 .1 .1 .1 .1 .1 .1 .1 .1 .0 in
-    length-put (c .before .before .before .before .before .before .before .before .before .before .before .eval .result .used) N (c .before .before .before .eval-second .last .1 .1 .1 .1 .1 .1 .1 .1 .1 .1 .1 .0) (omega (arith, h .used-is, le, K, ap length (p .same))) (c .before .before .before .eval-second .kept .1 .1 .1 .1 .1 .1 .1 .1 .1 .1 .1 .0) ∙ K
+    length-put (c .before .before .before .before .before .before .before .before .before .before .before .eval .result .used) N (c .before .before .before .before .eval-first .last .1 .1 .1 .1 .1 .1 .1 .1 .1 .1 .1 .0) (omega (arith, h .used-is, le, K, ap length (p .same))) (c .before .before .before .before .eval-first .kept .1 .1 .1 .1 .1 .1 .1 .1 .1 .1 .1 .0) ∙ K
 
-pub returns-2 : (t : ℕ) → eval-if-lts.Need-returns-2 (Q t) (eval-if-at t) eval-if.Post
-returns-2 t c =
+pub returns : (t : ℕ) → eval-if-lts.Need-returns (Q t) (eval-if-at t) eval-if.Post
+returns t c =
     let start = c .before .before .before .before .before .before .before .before .before .before .before .before .before .before .before .before .before .before .before .before .before in
     let p = start .pre .1 in
     let f = start .args .file .now in
@@ -283,8 +257,41 @@ returns-2 t c =
     let m2 = segsAt f L 2 (endAt f L a) in
     let segs = segs-cons f L 2 a (p .plan .reads) in
     let ends = parted f L 2 a (p .plan .reads) .ends in
-    let g2 = moved-choice f kk false L n F cl bb (c .before .before .before .before .before .before .before .before .before .before .before .eval .ensures .next-is) (rest-old (c .before .before .before .before .before .before .before .before .before .before .before .eval .ensures)) (c .before .before .before .eval-second .ensures) in
-    seq-as ((λ (x y : List ℕ). next (evalIn f kk n F cl bb (exprAt f L a) x) (condition (λ (b : Bool) (rest : List ℕ). chooseIn f kk b L mid n F cl bb rest)) y)) n1 m2 segs ends (if-taken ((λ (b : Bool) (rest : List ℕ). chooseIn f kk b L mid n F cl bb rest)) false h g2 (K ∙ ap length (p .same)) le (sym (c .before .before .before .before .before .before .before .before .test-of .ensures) ∙ c .before .before .before .before .before .before .if2 .taken))
+    let g1 = moved-choice f kk true L n F cl bb (c .before .before .before .before .before .before .before .before .before .before .before .eval .ensures .next-is) (rest-old (c .before .before .before .before .before .before .before .before .before .before .before .eval .ensures)) (c .before .before .before .before .eval-first .ensures) in
+    remade (c .before .same-out .ensures) (seq-as ((λ (x y : List ℕ). next (evalIn f kk n F cl bb (exprAt f L a) x) (condition (λ (b : Bool) (rest : List ℕ). chooseIn f kk b L mid n F cl bb rest)) y)) n1 m2 segs ends (if-taken ((λ (b : Bool) (rest : List ℕ). chooseIn f kk b L mid n F cl bb rest)) true h g1 (K ∙ ap length (p .same)) le (sym (c .before .before .before .before .before .before .before .before .test-of .ensures) ∙ c .before .before .before .before .before .before .before .if1 .taken)))
+
+pub same-length-2 : (t : ℕ) → eval-if-lts.Need-same-length-2 (Q t) (eval-if-at t) eval-if.Post
+same-length-2 t c =
+    let start = c .before .before .before .before .before .before .before .before .before .before .before .before .before .before .before .before .before .before .before .before .before .before in
+    let p = start .pre .1 in
+    let le = ready-seg p in
+    let h = c .before .before .before .before .before .before .before .before .before .before .before .before .eval .ensures in
+    let K = c .before .before .before .before .before .before .before .before .before .before .before .before .eval .kept .1 .1 .1 .1 .1 .1 .1 .1 .1 .1 .1 .0 in
+    let N = c .before .before .before .before .before .before .before .before .before .before .before .before .eval .last .1 .1 .1 .1 .1 .1 .1 .1 .1 .1 .1 .0 in
+    length-put (c .before .before .before .before .before .before .before .before .before .before .before .before .eval .result .used) N (c .before .before .before .before .eval-second .last .1 .1 .1 .1 .1 .1 .1 .1 .1 .1 .1 .0) (omega (arith, h .used-is, le, K, ap length (p .same))) (c .before .before .before .before .eval-second .kept .1 .1 .1 .1 .1 .1 .1 .1 .1 .1 .1 .0) ∙ K
+
+pub returns-2 : (t : ℕ) → eval-if-lts.Need-returns-2 (Q t) (eval-if-at t) eval-if.Post
+returns-2 t c =
+    let start = c .before .before .before .before .before .before .before .before .before .before .before .before .before .before .before .before .before .before .before .before .before .before in
+    let p = start .pre .1 in
+    let f = start .args .file .now in
+    let kk = start .args .consts .now in
+    let L = start .args .level in
+    let a = start .args .at in
+    let n = start .args .node in
+    let F = start .args .first in
+    let cl = start .args .cells .now in
+    let bb = start .args .before .now in
+    let le = ready-seg p in
+    let mid = endAt f L a in
+    let n1 = segAt f L a in
+    let h = c .before .before .before .before .before .before .before .before .before .before .before .before .eval .ensures in
+    let K = c .before .before .before .before .before .before .before .before .before .before .before .before .eval .kept .1 .1 .1 .1 .1 .1 .1 .1 .1 .1 .1 .0 in
+    let m2 = segsAt f L 2 (endAt f L a) in
+    let segs = segs-cons f L 2 a (p .plan .reads) in
+    let ends = parted f L 2 a (p .plan .reads) .ends in
+    let g2 = moved-choice f kk false L n F cl bb (c .before .before .before .before .before .before .before .before .before .before .before .before .eval .ensures .next-is) (rest-old (c .before .before .before .before .before .before .before .before .before .before .before .before .eval .ensures)) (c .before .before .before .before .eval-second .ensures) in
+    remade (c .before .same-out2 .ensures) (seq-as ((λ (x y : List ℕ). next (evalIn f kk n F cl bb (exprAt f L a) x) (condition (λ (b : Bool) (rest : List ℕ). chooseIn f kk b L mid n F cl bb rest)) y)) n1 m2 segs ends (if-taken ((λ (b : Bool) (rest : List ℕ). chooseIn f kk b L mid n F cl bb rest)) false h g2 (K ∙ ap length (p .same)) le (sym (c .before .before .before .before .before .before .before .before .before .test-of .ensures) ∙ c .before .before .before .before .before .before .before .if2 .taken)))
 
 pub same-length-3 : (t : ℕ) → eval-if-lts.Need-same-length-3 (Q t) (eval-if-at t) eval-if.Post
 same-length-3 t c =

@@ -17,7 +17,7 @@ use Rattle.ol_eval.specs.Plans.{evalIn, segAt, segsAt}
 use Rattle.ol_eval.specs.Post.{branchIn, chooseIn}
 use Rattle.ol_eval.proofs.Lending.{length-put, length-put-front, putTail, tail-all}
 use Rattle.ol_eval.proofs.Planning.{segs-cons}
-use Rattle.ol_eval.proofs.Evals.{rest-old, two-done, two-stop, if-taken, if-stop, first-ran, first-not, second-ran, second-not, seq-as}
+use Rattle.ol_eval.proofs.Evals.{rest-old, two-done, two-stop, if-taken, if-stop, first-ran, first-not, second-ran, second-not, seq-as, remade}
 use Rattle.ol_eval.proofs.Readying.{ready-first, ready-rest, ready-tail, ready-front, ready-pass, ready-seg, moved, moved-choice, moved-skip, skip-one, two-segs, two-ends, chosen-is}
 -- </uses>
 use Prim.Native.Nat.{ℕ}
@@ -27,12 +27,13 @@ use Rattle.ol_eval.proofs.outcomes.done.Reads as done-reads
 use Rattle.ol_eval.proofs.cycle.eval.Reads as eval
 use Rattle.ol_eval.proofs.cycle.eval_two.Reads as eval-two
 use Rattle.ol_eval.proofs.skip.pass.Reads as pass-reads
+use Rattle.ol_eval.proofs.outcomes.same_out.Reads as same-out-reads
 use Rattle.ol_eval.proofs.cycle.+call_equation+enter+equation+eval+eval_all+eval_call+eval_first+eval_form+eval_if+eval_second+eval_two+run+step_function+step_instance+step_site+tuple_equation.Lts-eval_two as eval-two-lts
 use Rattle.ol_eval.proofs.cycle.+call_equation+enter+equation+eval+eval_all+eval_call+eval_first+eval_form+eval_if+eval_second+eval_two+run+step_function+step_instance+step_site+tuple_equation.Proof.Common.{eval-two-at, eval-below}
 
 -- what it knows of its callees
 abbrev pub Q : ℕ → eval-two-lts.Claims
-Q t = (eval-below t, eval.Post, done-reads.Asked, done-reads.Learnt, binary-out-reads.Asked, binary-out-reads.Learnt, pass-reads.Asked, pass-reads.Learnt)
+Q t = (eval-below t, eval.Post, done-reads.Asked, done-reads.Learnt, binary-out-reads.Asked, binary-out-reads.Learnt, pass-reads.Asked, pass-reads.Learnt, same-out-reads.Asked, same-out-reads.Learnt)
 
 pub eval-requires : (t : ℕ) → eval-two-lts.Need-eval-requires (Q t) (eval-two-at t) eval-two.Post
 eval-requires t c κs =
@@ -130,17 +131,20 @@ pass-requires t c κs =
     let K = c .before .before .before .before .eval .kept .1 .1 .1 .1 .1 .1 .1 .1 .1 .1 .1 .0 in
     rw (h .next-is) (ready-pass (ready-rest p h K))
 
-pub add-t34 : (t : ℕ) → eval-two-lts.Need-add-t34 (Q t) (eval-two-at t) eval-two.Post
-add-t34 t c =
-    let start = c .before .before .before .before .before .before .before .before .before .before .before .before .before .before .before .before in
+pub same-out-requires : (t : ℕ) → eval-two-lts.Need-same-out-requires (Q t) (eval-two-at t) eval-two.Post
+same-out-requires t c κs = tt
+
+pub add-t35 : (t : ℕ) → eval-two-lts.Need-add-t35 (Q t) (eval-two-at t) eval-two.Post
+add-t35 t c =
+    let start = c .before .before .before .before .before .before .before .before .before .before .before .before .before .before .before .before .before in
     let p = start .pre .1 in
     let f = start .args .file .now in
     let L = start .args .level in
     let a = start .args .at in
     let mid = endAt f L a in
-    let h = c .before .before .before .before .before .before .eval .ensures in
+    let h = c .before .before .before .before .before .before .before .eval .ensures in
     let segs = two-segs f L a (p .plan .reads) in
-    let q = (skip-one f L mid (parted f L 1 a (p .plan .reads) .tail) (moved-skip f L 1 (c .before .before .before .before .before .before .eval .ensures .next-is) (c .before .pass .ensures))) in
+    let q = (skip-one f L mid (parted f L 1 a (p .plan .reads) .tail) (moved-skip f L 1 (c .before .before .before .before .before .before .before .eval .ensures .next-is) (c .before .before .pass .ensures))) in
     omega (arith, h .used-is, q .used-is, segs, p .room, p .small)
 
 pub same-length : (t : ℕ) → eval-two-lts.Need-same-length (Q t) (eval-two-at t) eval-two.Post
@@ -180,12 +184,12 @@ returns t c =
 
 pub same-length-2 : (t : ℕ) → eval-two-lts.Need-same-length-2 (Q t) (eval-two-at t) eval-two.Post
 same-length-2 t c =
-    let K = c .before .before .before .before .before .before .eval .kept .1 .1 .1 .1 .1 .1 .1 .1 .1 .1 .1 .0 in
+    let K = c .before .before .before .before .before .before .before .eval .kept .1 .1 .1 .1 .1 .1 .1 .1 .1 .1 .1 .0 in
     K
 
 pub returns-2 : (t : ℕ) → eval-two-lts.Need-returns-2 (Q t) (eval-two-at t) eval-two.Post
 returns-2 t c =
-    let start = c .before .before .before .before .before .before .before .before .before .before .before .before .before .before .before .before in
+    let start = c .before .before .before .before .before .before .before .before .before .before .before .before .before .before .before .before .before in
     let p = start .pre .1 in
     let f = start .args .file .now in
     let kk = start .args .consts .now in
@@ -198,7 +202,7 @@ returns-2 t c =
     let mid = endAt f L a in
     let n1 = segAt f L a in
     let n2 = segAt f L (endAt f L a) in
-    let h = c .before .before .before .before .before .before .eval .ensures in
+    let h = c .before .before .before .before .before .before .before .eval .ensures in
     let segs = two-segs f L a (p .plan .reads) in
     let ends = two-ends f L a (p .plan .reads) in
-    seq-as ((λ (x y : List ℕ). next (evalIn f kk n F cl bb (exprAt f L a) x) (λ v rest. mapEval (binaryBy (start .args .op) v) (evalIn f kk n F cl bb (exprAt f L mid) rest)) y)) n1 n2 segs ends (two-stop (λ (v : Value) (rest : List ℕ). mapEval (binaryBy (start .args .op) v) (evalIn f kk n F cl bb (exprAt f L mid) rest)) h ((skip-one f L mid (parted f L 1 a (p .plan .reads) .tail) (moved-skip f L 1 (c .before .before .before .before .before .before .eval .ensures .next-is) (c .before .pass .ensures)))) (sym (c .before .before .if1 .left) ∙ c .before .before .before .done .ensures))
+    remade (c .before .same-out .ensures) (seq-as ((λ (x y : List ℕ). next (evalIn f kk n F cl bb (exprAt f L a) x) (λ v rest. mapEval (binaryBy (start .args .op) v) (evalIn f kk n F cl bb (exprAt f L mid) rest)) y)) n1 n2 segs ends (two-stop (λ (v : Value) (rest : List ℕ). mapEval (binaryBy (start .args .op) v) (evalIn f kk n F cl bb (exprAt f L mid) rest)) h ((skip-one f L mid (parted f L 1 a (p .plan .reads) .tail) (moved-skip f L 1 (c .before .before .before .before .before .before .before .eval .ensures .next-is) (c .before .before .pass .ensures)))) (sym (c .before .before .before .if1 .left) ∙ c .before .before .before .before .done .ensures)))
