@@ -2,7 +2,11 @@
 use std::time::Instant;
 
 extern "C" {
-    fn ol_value_bench(op: u8, cells: *mut u8, length: usize, turns: u64) -> u64;
+    fn ol_value_decode(cells: *const u8, length: usize) -> u64;
+    fn ol_value_encode(cells: *mut u8, length: usize) -> u64;
+    fn ol_value_add(cells: *const u8, length: usize) -> u64;
+    fn ol_value_fit(cells: *const u8, length: usize) -> u64;
+    fn ol_value_cast(cells: *const u8, length: usize) -> u64;
 }
 
 #[derive(Clone, Copy)]
@@ -50,10 +54,6 @@ fn write(v: Value, cells: &mut [u8], at: usize) {
     cells[at + 1..at + 9].copy_from_slice(&payload(v).to_be_bytes());
 }
 
-fn digest(v: Value) -> u64 {
-    payload(v) ^ ((tag(v) as u64) << 56)
-}
-
 // a value, or 1 for a failure and 2 for an overflow
 fn add(v: Value, w: Value) -> Result<Value, u64> {
     match (v, w) {
@@ -83,27 +83,46 @@ fn cast32(v: Value) -> Result<Value, u64> {
 }
 
 fn out(r: Result<Value, u64>) -> u64 {
-    r.map_or_else(|e| e, digest)
+    r.map_or_else(|e| e, payload)
+}
+
+// One operation on a cell, ours and the Rust's. Neither is inlined: both are timed with a call.
+fn ours(op: usize, cell: &mut [u8]) -> u64 {
+    let (p, n) = (cell.as_mut_ptr(), cell.len());
+    unsafe {
+        match op {
+            0 => ol_value_decode(p, n),
+            1 => ol_value_encode(p, n),
+            2 => ol_value_add(p, n),
+            3 => ol_value_fit(p, n),
+            _ => ol_value_cast(p, n),
+        }
+    }
 }
 
 #[inline(never)]
-fn rust(op: u8, cells: &mut [u8], turns: u64) -> u64 {
-    let mut sum = 0;
-    for i in 0..turns {
-        let at = (i % 8) as usize * 9;
-        let v = read(cells, at);
-        sum ^= match op {
-            0 => digest(v),
-            1 => {
-                write(v, cells, at);
-                1
-            }
-            2 => out(add(v, v)),
-            3 => digest(fit16(v)),
-            _ => out(cast32(v)),
-        };
+fn rust(op: usize, cell: &mut [u8]) -> u64 {
+    let v = read(cell, 0);
+    match op {
+        0 => payload(v),
+        1 => {
+            write(v, cell, 0);
+            1
+        }
+        2 => out(add(v, v)),
+        3 => payload(fit16(v)),
+        _ => out(cast32(v)),
     }
-    sum
+}
+
+// Nanoseconds per operation over eight cells in turn, and what the results come to together.
+fn timed(cells: &mut [u8], turns: u64, run: impl Fn(&mut [u8]) -> u64) -> (f64, u64) {
+    let t = Instant::now();
+    let sum = (0..turns).fold(0u64, |sum, i| {
+        let at = (i % 8) as usize * 9;
+        sum.rotate_left(1) ^ run(&mut cells[at..at + 9])
+    });
+    (t.elapsed().as_nanos() as f64 / turns as f64, sum)
 }
 
 fn main() {
@@ -115,13 +134,9 @@ fn main() {
     }
     println!("{:<8} {:>10} {:>10}   nanoseconds per operation, {} turns", "", "ol_value", "Rust", turns);
     for (op, name) in ["decode", "encode", "add", "fit", "cast"].iter().enumerate() {
-        let t = Instant::now();
-        let a = unsafe { ol_value_bench(op as u8, cells.as_mut_ptr(), cells.len(), turns) };
-        let ours = t.elapsed().as_nanos() as f64 / turns as f64;
-        let t = Instant::now();
-        let b = rust(op as u8, &mut cells, turns);
-        let theirs = t.elapsed().as_nanos() as f64 / turns as f64;
-        println!("{:<8} {:>10.2} {:>10.2}   {}", name, ours, theirs, if a == b { "same results" } else { "RESULTS DIFFER" });
+        let (mine, a) = timed(&mut cells, turns, |c| ours(op, c));
+        let (theirs, b) = timed(&mut cells, turns, |c| rust(op, c));
+        println!("{:<8} {:>10.2} {:>10.2}   {}", name, mine, theirs, if a == b { "same results" } else { "RESULTS DIFFER" });
         assert_eq!(a, b);
     }
 }

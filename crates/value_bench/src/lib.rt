@@ -1,52 +1,87 @@
-// The leaves of ol_value in a loop, for bench/values to time beside the same operations in Rust.
+// The leaves of ol_value, one operation a call, for bench/values to time beside the same operations in Rust.
 use ol_spec::Outcome;
 use ol_spec::Value;
-ghost use Prim.Native.Nat.{_≤_, _<_};
-ghost use lib.ListN.{length};
+use ol_value::cell::payload_of;
+use ol_value::cell::read_cell;
+use ol_value::cell::write_cell;
+use ol_value::operators::eval_binary;
+use ol_value::types::cast_value;
+use ol_value::types::fit_to;
+ghost use mathlib.Core.Path.{_≡_};
+ghost use mathlib.Core.List.{_++_};
+ghost use Prim.Native.Nat.{_<_, _≤_};
+ghost use lib.ListN.{length, drop};
+ghost use Rattle.ol_spec.specs.Cell.{cell, payload};
+ghost use Rattle.ol_spec.specs.Types.{fit, castTo};
+ghost use Rattle.ol_value.specs.Codes.{binaryBy, tyOf};
+ghost use Rattle.value_bench.specs.Digests.{firstValue, digestOf};
 
-// The bits of a value, and its tag.
-fn digest(v: Value) -> u64 {
-    ol_value::cell::payload_of(v) ^ ((ol_value::cell::tag_of(v) as u64) << 56)
+// The value of the first nine bytes; false where there are fewer.
+fn first_value(cells: &[u8]) -> Value
+    ensures { λ r. ⌜ r ≡ firstValue (now (cells .entry)) ⌝ }
+{
+    if cells.len() < 9 {
+        Value::Bool(false)
+    } else {
+        read_cell(cells, 0)
+    }
 }
 
-fn outcome_digest(o: Outcome) -> u64 {
+// A value's payload; 1 for a failure, 2 for an overflow.
+fn digest(o: Outcome) -> u64
+    ensures { λ r. ⌜ r ≡ digestOf o ⌝ }
+{
     match o {
-        Outcome::Value(v) => digest(v),
+        Outcome::Value(v) => payload_of(v),
         Outcome::Failure => 1,
         Outcome::Overflow => 2,
     }
 }
 
-// One operation on the k-th of eight cells: 0 decode, 1 decode and encode, 2 add, 3 fit to Int16, 4 cast to Int32.
-fn turn(op: u8, cells: &mut [u8], k: usize) -> u64
-    requires { ⌜ k < 8 ⌝ }
-    requires { ⌜ 72 ≤ length (now cells) ⌝ }
+// Reads a cell.
+#[no_mangle]
+pub extern "C" fn ol_value_decode(cells: &[u8]) -> u64
+    ensures { λ r. ⌜ r ≡ payload (firstValue (now (cells .entry))) ⌝ }
 {
-    let at = k * 9;
-    let v = ol_value::cell::read_cell(cells, at);
-    match op {
-        0 => digest(v),
-        1 => {
-            ol_value::cell::write_cell(v, cells, at);
-            1
-        }
-        2 => outcome_digest(ol_value::operators::eval_binary(10, v, v)),
-        3 => digest(ol_value::types::fit_to(2, v)),
-        _ => outcome_digest(ol_value::types::cast_value(3, v)),
+    payload_of(first_value(cells))
+}
+
+// Reads a cell and writes it back; whether there are nine bytes.
+#[no_mangle]
+pub extern "C" fn ol_value_encode(cells: &mut [u8]) -> u64
+    ensures short { λ r. ⌜ (length (now (cells .entry)) < 9 → (r ≡ 0) × (now (cells .exit) ≡ now (cells .entry))) ⌝ }
+    ensures written { λ r. ⌜ (9 ≤ length (now (cells .entry)) → (r ≡ 1) × (now (cells .exit) ≡ cell (firstValue (now (cells .entry))) ++ drop 9 (now (cells .entry)))) ⌝ }
+{
+    if cells.len() < 9 {
+        0
+    } else {
+        let v = first_value(cells);
+        write_cell(v, cells, 0);
+        1
     }
 }
 
-// So many operations, over eight cells in turn; the digests of their results, combined.
+// Adds a cell's value to itself.
 #[no_mangle]
-pub extern "C" fn ol_value_bench(op: u8, cells: &mut [u8], turns: u64) -> u64 {
-    let mut sum: u64 = 0;
-    if cells.len() < 72 {
-        return sum;
-    }
-    let mut i: u64 = 0;
-    while i < turns {
-        sum = sum ^ turn(op, cells, (i % 8) as usize);
-        i += 1;
-    }
-    sum
+pub extern "C" fn ol_value_add(cells: &[u8]) -> u64
+    ensures { λ r. ⌜ r ≡ digestOf (binaryBy 10 (firstValue (now (cells .entry))) (firstValue (now (cells .entry)))) ⌝ }
+{
+    let v = first_value(cells);
+    digest(eval_binary(10, v, v))
+}
+
+// Fits a cell's value to Int16.
+#[no_mangle]
+pub extern "C" fn ol_value_fit(cells: &[u8]) -> u64
+    ensures { λ r. ⌜ r ≡ payload (fit (tyOf 2 0) (firstValue (now (cells .entry)))) ⌝ }
+{
+    payload_of(fit_to(2, first_value(cells)))
+}
+
+// Casts a cell's value to Int32.
+#[no_mangle]
+pub extern "C" fn ol_value_cast(cells: &[u8]) -> u64
+    ensures { λ r. ⌜ r ≡ digestOf (castTo (tyOf 3 0) (firstValue (now (cells .entry)))) ⌝ }
+{
+    digest(cast_value(3, first_value(cells)))
 }
