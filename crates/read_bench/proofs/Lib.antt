@@ -1,1 +1,1 @@
-pub mod Readies
+pub mod Digests
