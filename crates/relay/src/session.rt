@@ -21,6 +21,7 @@ use relay_text::nth;
 use relay_text::put;
 use relay_text::within;
 use relay_text::words;
+ghost use mathlib.Core.Bool.{false};
 ghost use mathlib.Core.Path.{_≡_};
 ghost use Prim.Native.Nat.{_+_, _*_, _≤_};
 ghost use lib.ListN.{length};
@@ -56,7 +57,10 @@ pub struct Listed {
     pub count: usize,
 }
 
-pub fn closed() -> Session {
+// No file is open.
+pub fn closed() -> Session
+    ensures { λ r. ⌜ (r .is_open ≡ false) × (r .file ≡ 0) × (r .number ≡ 0) × (r .place ≡ 0) × (r .state ≡ 0) × (r .values ≡ 9) ⌝ }
+{
     Session {
         is_open: false,
         file: 0,
