@@ -10,23 +10,12 @@ use driver::file::File;
 use driver::{bridge, cell, file, hex};
 use ol_sim::{Sim, Value};
 
+#[path = "../include/ol_sim.rs"]
+mod ffi;
+use ffi::{ol_sim_admit, ol_sim_cycle, ol_sim_start};
+
 extern "C" {
     fn ol_read_bench(file: *const u8, file_len: usize) -> u64;
-    fn ol_sim_admit(file: *const u8, file_len: usize, place: *mut usize, state_len: *mut usize) -> u8;
-    fn ol_sim_start(file: *const u8, file_len: usize, state: *mut u8, state_len: usize, place: *mut usize) -> u8;
-    fn ol_sim_cycle(
-        file: *const u8,
-        file_len: usize,
-        old: *const u8,
-        old_len: usize,
-        inputs: *const u8,
-        inputs_len: usize,
-        new: *mut u8,
-        new_len: usize,
-        values: *mut u8,
-        values_len: usize,
-        place: *mut usize,
-    ) -> u8;
 }
 
 // Each time is that of the fastest of so many batches, each of about so long.

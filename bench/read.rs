@@ -1,12 +1,14 @@
-// Times the reader of ol_ir beside a plain sum of the same bytes, the reader with the tables of ol_check, and the ordering of ol_order
-// (linked as libread_bench.a). Run by bench/read.
+// Times the reader of ol_ir beside a plain sum of the same bytes (libread_bench.a), and admission, which reads a file and builds its rows,
+// types, slots and record lengths before it answers 8, and the ordering (libol_sim_c.a). Run by bench/read.
 use std::hint::black_box;
 use std::time::Instant;
 
+#[path = "../include/ol_sim.rs"]
+mod ffi;
+use ffi::{ol_sim_admit, ol_sim_order};
+
 extern "C" {
     fn ol_read_bench(file: *const u8, length: usize) -> u64;
-    fn ol_tables_bench(file: *const u8, length: usize) -> u64;
-    fn ol_order_bench(file: *const u8, length: usize, buffer: *mut usize, entries: usize) -> u8;
 }
 
 const LENGTH: usize = 32_768;
@@ -122,7 +124,8 @@ fn chain(against: bool) -> Vec<u8> {
 }
 
 fn order(f: &[u8], order: &mut [usize]) -> u8 {
-    unsafe { ol_order_bench(black_box(f.as_ptr()), f.len(), order.as_mut_ptr(), order.len()) }
+    let mut place = 0;
+    unsafe { ol_sim_order(black_box(f.as_ptr()), f.len(), 0, order.as_mut_ptr(), order.len(), &mut place) }
 }
 
 // Ordering a chain of 80 equations in file order, and one against it.
@@ -138,15 +141,19 @@ fn time_chains(turns: u64) {
     }
 }
 
-// Reading a file and building its rows, types, slots and record lengths; no orders.
+fn admit(f: &[u8]) -> u8 {
+    let (mut place, mut size) = (0, 0);
+    unsafe { ol_sim_admit(black_box(f.as_ptr()), f.len(), &mut place, &mut size) }
+}
+
+// Reading a file and building its rows, types, slots and record lengths; no orders. These files define names again: admission answers 8, and by then has built these tables.
 fn time_tables(turns: u64, shapes: &[Shape]) {
     println!("microseconds for {} bytes, with the rows, types, slots and record lengths", LENGTH);
     println!("{:<8} {:>18} {:>9}", "", "reading and tables", "mean");
     for (name, each, item) in shapes {
         let f = filled(*each, item);
-        let tables = || unsafe { ol_tables_bench(black_box(f.as_ptr()), f.len()) };
-        assert!(tables() <= 65_536, "fault {}", tables() - 65_536);
-        let (ours, mean) = timed(turns, &mut || tables());
+        assert_eq!(admit(&f), 8);
+        let (ours, mean) = timed(turns, &mut || admit(&f) as u64);
         println!("{:<8} {:>18.1} {:>9.1}", name, ours, mean);
     }
 }

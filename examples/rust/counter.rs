@@ -1,25 +1,7 @@
 //! The counter of document 01, v1 = 0 -> pre v1 + 1, stepped from Rust over libol_sim_c.a. examples/rust/run builds and runs it.
 
-mod ffi {
-    extern "C" {
-        pub fn ol_sim_admit(file: *const u8, file_len: usize, place: *mut usize, state_len: *mut usize) -> u8;
-        pub fn ol_sim_order(file: *const u8, file_len: usize, node: usize, order: *mut usize, order_len: usize, place: *mut usize) -> u8;
-        pub fn ol_sim_start(file: *const u8, file_len: usize, state: *mut u8, state_len: usize, place: *mut usize) -> u8;
-        pub fn ol_sim_cycle(
-            file: *const u8,
-            file_len: usize,
-            old: *const u8,
-            old_len: usize,
-            inputs: *const u8,
-            inputs_len: usize,
-            new: *mut u8,
-            new_len: usize,
-            values: *mut u8,
-            values_len: usize,
-            place: *mut usize,
-        ) -> u8;
-    }
-}
+#[path = "../../include/ol_sim.rs"]
+mod ffi;
 
 /// A fault's number, 1 to 19, and its place (include/ol_sim.h).
 #[derive(Debug, PartialEq)]
