@@ -8,8 +8,8 @@ use Rattle.ol_spec.specs.Lists.{sum}
 use Rattle.ol_spec.specs.Syntax.{Expr, boolLit, intLit, floatLit, charLit, var, unary, binary, ifThenElse, pre, arrow, cast, call, tuple, Exprs, nil, cons}
 use Rattle.ol_spec.specs.Places.{collectAll}
 use Rattle.ol_spec.specs.Eval.{callees, calleesAll}
-use Rattle.ol_tree.specs.Heads.{partsOf, headSize, joined, HeadIs}
-use Rattle.ol_tree.proofs.Heads.{walk-head}
+use Rattle.ol_tables.specs.Heads.{partsOf, headSize, joined, HeadIs}
+use Rattle.ol_tables.proofs.HeadLaws.{walk-head}
 use Rattle.ol_check.specs.Judging.{headAt, heads}
 use Rattle.ol_check.specs.Records.{siteB, calleeB}
 use Rattle.ol_check.proofs.HeadLaws.{Flat, ended, headAnd}
@@ -51,7 +51,7 @@ callees-head (cast t e) = sym (append-nil (callees e))
 callees-head (call k es) = refl
 callees-head (tuple es) = refl
 
-callees-joined : (es fs : Exprs) → calleesAll (joined es fs) ≡ calleesAll es ++ calleesAll fs
+pub callees-joined : (es fs : Exprs) → calleesAll (joined es fs) ≡ calleesAll es ++ calleesAll fs
 unfolding joined
 callees-joined nil fs = refl
 callees-joined (cons e es) fs = ap (λ l. callees e ++ l) (callees-joined es fs) ∙ sym (append-assoc (callees e) (calleesAll es) (calleesAll fs))

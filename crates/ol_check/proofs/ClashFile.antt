@@ -15,10 +15,11 @@ use Rattle.ol_spec.specs.Encode.{variableBytes, constantBytes}
 use Rattle.ol_spec.specs.Limits.{base}
 use Rattle.ol_spec.specs.Within.{variableFits, constantFits}
 use Rattle.ol_spec.specs.Admission.{Sort, variable, constant, Declared, numbered, declaredAs, placedVariableName, placedConstantName, enumDeclares, nodeDeclares, declared}
-use Rattle.ol_tree.specs.At.{fileAt}
-use Rattle.ol_tree.specs.Stands.{Listed, Variables, FileStands}
-use Rattle.ol_tree.specs.Tables.{Each, nodeOf}
-use Rattle.ol_check.specs.Founds.{Byte, placeOf}
+use Rattle.ol_tables.specs.At.{fileAt}
+use Rattle.ol_tables.specs.Stands.{Listed, Variables, FileStands}
+use Rattle.ol_tables.specs.Tables.{Each, nodeOf}
+use Rattle.ol_check.specs.Founds.{placeOf}
+use Rattle.ol_tables.specs.Heads.{Byte}
 use Rattle.ol_check.specs.RowsDone.{Enums}
 use Rattle.ol_check.specs.NodesJudged.{placeIn, NodeReady, RowsReady}
 use Rattle.ol_check.specs.Clashing.{sortCode, isLow, Sorts, Walks, Passes, DeclaredReady, FileSorted}

@@ -15,8 +15,8 @@ use Rattle.ol_spec.specs.Lists.{anyOf, concat}
 use Rattle.ol_spec.specs.Syntax.{Node, File}
 use Rattle.ol_spec.specs.Places.{placed, placedEnums, placedConstants, placedNodes, placedNames, placedVariables, enumSize, nodeSize, nodesStart}
 use Rattle.ol_spec.specs.Admission.{Sort, variant, constant, variable, Declared, apart, clash, clashes, first, firstIf, numbered, declaredAs, placedVariableName, placedConstantName, enumDeclares, nodeDeclares, declared, fault6}
-use Rattle.ol_tree.specs.Stands.{FileStands}
-use Rattle.ol_tree.specs.Tables.{Each}
+use Rattle.ol_tables.specs.Stands.{FileStands}
+use Rattle.ol_tables.specs.Tables.{Each}
 use Rattle.ol_check.specs.Clashing.{sortCode, meets, clashIn}
 use Rattle.ol_check.proofs.EntryLaws.{eq-cases}
 

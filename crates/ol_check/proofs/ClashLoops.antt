@@ -19,11 +19,12 @@ use Rattle.ol_spec.specs.Admission.{Sort, variant, constant, variable, Declared
 use Rattle.ol_spec.proofs.Tests.{T-and}
 use Rattle.ol_spec.proofs.RoundTrip.Parts.{here-inside, here-back}
 use Rattle.ol_spec.proofs.RoundTrip.Items.{names-size, variable-size, constant-size}
-use Rattle.ol_tree.specs.Heads.{nameAt, tySizeAt, Standing}
-use Rattle.ol_tree.specs.Stands.{Listed, Names, Variables, VariableStands, ConstantStands}
-use Rattle.ol_tree.proofs.Heads.{here-first, here-name}
-use Rattle.ol_tree.proofs.HeadsFile.{Passing, passing-start, passing-item, passing-end, variable-stands, constant-stands}
-use Rattle.ol_check.specs.Founds.{Byte, placeOf, earliest}
+use Rattle.ol_tables.specs.Heads.{nameAt, tySizeAt, Standing}
+use Rattle.ol_tables.specs.Stands.{Listed, Names, Variables, VariableStands, ConstantStands}
+use Rattle.ol_tables.proofs.HeadLaws.{here-first, here-name}
+use Rattle.ol_tables.proofs.HeadsFile.{Passing, passing-start, passing-item, passing-end, variable-stands, constant-stands}
+use Rattle.ol_check.specs.Founds.{placeOf, earliest}
+use Rattle.ol_tables.specs.Heads.{Byte}
 use Rattle.ol_check.specs.RowsDone.{Enums, noVariable}
 use Rattle.ol_check.specs.Clashing.{sortCode, meets, sortAll, clashIn, isLow, Sorts, Walks, Passes, NameSorted}
 use Rattle.ol_check.specs.declared.clash.Sorting.{Sorting}

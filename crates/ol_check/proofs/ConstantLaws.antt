@@ -1,36 +1,34 @@
 -- The constants, one after the other: each sees the variants and the constants before it.
-use Prim.Native.Nat.{ℕ, zero, suc, _+_, _-_, _*_, _≤_, _<_}
-use mathlib.Core.Bool.{Bool, true, false, not, _&&_, cond}
-use mathlib.Core.List.{List, [], _∷_, _++_, map}
-use mathlib.Core.Option.{Option, none, some}
+use Prim.Native.Nat.{ℕ, zero, suc, _+_, _-_, _≤_, _<_}
+use mathlib.Core.Bool.{true, false}
+use mathlib.Core.List.{List, [], _∷_, map}
 use mathlib.Core.Path.{_≡_, refl, sym, ap, subst, _∙_}
 use native.Mathlib.Omega.{arith}
 use native.Mathlib.Numerals.{add-one}
-use lib.ListN.{length, getD, set, drop, drop-of-length-le, length-set}
+use lib.ListN.{length, getD, drop, drop-of-length-le}
 use lib.Seq.{drop-cons}
-use lib.Dec.{ltb, eqb}
+use lib.Dec.{ltb}
 use borrow.Author.Tests.{le-ltb}
 use Rattle.ol_spec.specs.Lists.{orElse, concat}
-use Rattle.ol_spec.specs.Syntax.{bool, boolLit, Expr, nil, cons, Constant, File}
-use Rattle.ol_spec.specs.Places.{tySize, exprsSize, constantSize, placed, collect, collectAll}
+use Rattle.ol_spec.specs.Syntax.{bool, boolLit, nil, cons, Constant, File}
+use Rattle.ol_spec.specs.Places.{constantSize, placed}
 use Rattle.ol_spec.specs.Encode.{constantBytes}
 use Rattle.ol_spec.specs.Limits.{base}
 use Rattle.ol_spec.specs.Within.{constantFits}
-use Rattle.ol_spec.specs.Admission.{Item, first, unseenItem, unseen, usedAt, used, valuePlace, constantUses, inConstant, callsWhere, shapeItem, calleeIn}
-use Rattle.ol_spec.proofs.Walks.{first-append}
+use Rattle.ol_spec.specs.Admission.{first, unseenItem, unseen, usedAt, used, valuePlace, constantUses, inConstant, callsWhere, shapeItem}
 use Rattle.ol_spec.proofs.RoundTrip.Parts.{here-inside}
 use Rattle.ol_spec.proofs.RoundTrip.Items.{constant-size}
-use Rattle.ol_tree.specs.Heads.{nameAt, tySizeAt, Standing}
-use Rattle.ol_tree.specs.Tables.{Each}
-use Rattle.ol_tree.specs.Stands.{Listed, ConstantStands}
-use Rattle.ol_tree.proofs.Heads.{walk-one}
-use Rattle.ol_tree.proofs.HeadsFile.{Passing, Item as PassedItem, passing-start, passing-item, passing-end, constant-stands}
+use Rattle.ol_tables.specs.Heads.{nameAt, tySizeAt, Standing}
+use Rattle.ol_tables.specs.Tables.{Each}
+use Rattle.ol_tables.specs.Stands.{ConstantStands}
+use Rattle.ol_tables.proofs.HeadLaws.{walk-one}
+use Rattle.ol_tables.proofs.HeadsFile.{Passing, Item as PassedItem, passing-start, passing-item, constant-stands}
 use Rattle.ol_check.specs.Founds.{placeOf}
 use Rattle.ol_check.specs.Entries.{declared, declareAll, constantEntries}
-use Rattle.ol_check.specs.Judging.{heads, unseenHead, calledHead, severalHead, slotHeads, badB, outputsB, foundIn, Knows, Walked}
+use Rattle.ol_check.specs.Judging.{badB, foundIn, Knows, Walked}
 use Rattle.ol_check.specs.ConstantsJudged.{walkAt, ConstantJudged, slotConstants, ConstantsJudged, ConstantsReady}
-use Rattle.ol_check.specs.declared.judge.Faults.{Faults}
-use Rattle.ol_check.proofs.WalkLoop.{found-none}
+use Rattle.ol_check.specs.declared.Faults.{Faults}
+use Rattle.ol_check.proofs.WalkLoop.{found-none, found-append}
 use Rattle.ol_check.proofs.HeadLaws.{flat, unseen-law, called-law, several-law}
 use Rattle.ol_check.proofs.EquationLaws.{placed-on}
 use Rattle.ol_check.proofs.EntryLaws.{knows-step}
@@ -52,10 +50,6 @@ no-call rows x n = let high : ltb x 0 ≡ false = le-ltb x 0 (omega arith) in rw
 
 noConstant : Constant
 noConstant = record { name = 0; ty = bool; value = boolLit false }
-
-found-append : (o : Option ℕ) (is js : List Item) → foundIn (foundIn o is) js ≡ foundIn o (is ++ js)
-found-append none is js = sym (first-append is js)
-found-append (some p) is js = refl
 
 entries-on : (cs : List Constant) (i : ℕ) → i < length cs → constantEntries i (drop i cs) ≡ (getD cs i noConstant .name, i + 113) ∷ constantEntries (i + 1) (drop (i + 1) cs)
 entries-on cs i lt = ap (constantEntries i) (drop-cons cs i noConstant lt) ∙ ap (λ n. (getD cs i noConstant .name, i + 113) ∷ constantEntries (i + 1) (drop n cs)) (sym (add-one i))

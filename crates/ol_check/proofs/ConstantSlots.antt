@@ -15,10 +15,10 @@ use Rattle.ol_spec.specs.Limits.{base}
 use Rattle.ol_spec.specs.Within.{constantFits}
 use Rattle.ol_spec.specs.Admission.{variants, constantNames, valuePlace, usedAt, used}
 use Rattle.ol_spec.proofs.RoundTrip.Items.{constant-size}
-use Rattle.ol_tree.specs.Tables.{Each, slotOf, slotBy, constantSlot}
-use Rattle.ol_tree.specs.Stands.{Listed, ConstantStands, FileStands}
-use Rattle.ol_tree.proofs.Heads.{walk-one}
-use Rattle.ol_tree.proofs.HeadsFile.{passing-start, passing-item, constant-stands}
+use Rattle.ol_tables.specs.Tables.{Each, slotOf, slotBy, constantSlot}
+use Rattle.ol_tables.specs.Stands.{Listed, ConstantStands, FileStands}
+use Rattle.ol_tables.proofs.HeadLaws.{walk-one}
+use Rattle.ol_tables.proofs.HeadsFile.{passing-start, passing-item, constant-stands}
 use Rattle.ol_check.specs.Judging.{SlotIs, slotOfEntry, heads, slotHeads}
 use Rattle.ol_check.specs.Entries.{declared, declareAll, constantEntries, variantEntry}
 use Rattle.ol_check.specs.ConstantsJudged.{slotConstants}

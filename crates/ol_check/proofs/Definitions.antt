@@ -1,7 +1,7 @@
 -- Fault 8: a node's table by name and the table of defined entries tell which names may not be defined, where every defined name is declared.
-use Prim.Native.Nat.{ℕ, zero, suc, _+_, _-_, _*_, _≤_, _<_}
-use mathlib.Core.Bool.{Bool, true, false, not, _&&_, _||_, cond}
-use mathlib.Core.List.{List, [], _∷_, _++_, map, append-assoc}
+use Prim.Native.Nat.{ℕ, suc, _+_, _-_, _≤_, _<_}
+use mathlib.Core.Bool.{Bool, true, false, not, _||_}
+use mathlib.Core.List.{List, [], _∷_, _++_, map, append-assoc, map-append}
 use mathlib.Core.Logic.{by-cases}
 use mathlib.Core.Option.{Option, none, some}
 use mathlib.Core.Path.{_≡_, refl, sym, ap, subst, _∙_}
@@ -11,20 +11,20 @@ use native.Mathlib.Nat.{zero-add}
 use lib.ListN.{length, getD, set, replicate, length-set, length-replicate, getD-replicate, length-map, List·getD-eq-default}
 use lib.Seq.{getD-set-same, getD-set-other}
 use lib.Dec.{ltb, leb, eqb}
-use borrow.Author.Tests.{ne-eqb, eq-eqb, eqb-true, eqb-false, le-leb, lt-leb, lt-ltb, le-ltb}
-use Rattle.ol_spec.specs.Lists.{maybe, orElse, member, position, positionIf, concat}
-use Rattle.ol_spec.specs.Syntax.{Variable, Equation, Node, File, variables, variableNames, nameOf, noNode}
+use borrow.Author.Tests.{ne-eqb, eq-eqb, eqb-true, le-leb, lt-leb, lt-ltb, le-ltb}
+use Rattle.ol_spec.specs.Lists.{maybe, member, position, positionIf, concat}
+use Rattle.ol_spec.specs.Syntax.{Equation, Node, File, variables, variableNames, nameOf, noNode}
 use Rattle.ol_spec.specs.Places.{placed, placedNodes, placedEquations, placedConstants, nodeSize, nodesStart, rhsPlace}
-use Rattle.ol_spec.specs.Admission.{Item, first, firstIf, variants, constantNames, constantUses, unseenItem, unseen, used, equationUses, nodeUses, definedBy, again, nodeDefines, fault7}
-use Rattle.ol_spec.proofs.Walks.{first-append}
-use Rattle.ol_tree.specs.Tables.{Each, nodeOf}
-use Rattle.ol_tree.specs.Stands.{FileStands}
-use Rattle.ol_tree.proofs.HeadsFile.{node-at}
-use Rattle.ol_check.specs.Founds.{Byte}
+use Rattle.ol_spec.specs.Admission.{Item, first, firstIf, variants, constantNames, constantUses, unseen, used, equationUses, nodeUses, definedBy, again, nodeDefines, fault7}
+use Rattle.ol_tables.specs.Tables.{Each}
+use Rattle.ol_tables.specs.Stands.{FileStands}
+use Rattle.ol_tables.proofs.HeadsFile.{node-at}
+use Rattle.ol_tables.proofs.Forms.{each-join}
+use Rattle.ol_tables.specs.Heads.{Byte}
 use Rattle.ol_check.specs.Judging.{Knows, takenB, againB}
-use Rattle.ol_check.specs.Entries.{declareAll, variableEntries, Global}
+use Rattle.ol_check.specs.Entries.{variableEntries, Global}
 use Rattle.ol_check.specs.NodesJudged.{nodeTable, nodeAgain, Covered, AllCovered}
-use Rattle.ol_check.proofs.EntryLaws.{eq-cases, declare-high, Enterable}
+use Rattle.ol_check.proofs.EntryLaws.{eq-cases, declare-high}
 use Rattle.ol_check.proofs.EntryPlaces.{declare-free, variable-entry, position-at}
 use Rattle.ol_check.proofs.NodeLaws.{entries-ok, node-knows}
 use Rattle.ol_check.proofs.RowLoops.{few-variables}
@@ -91,10 +91,6 @@ member-behind x (y ∷ a) b m = go (eqb x y) (member-behind x a b m)
     go true q = refl
     go false q = q
 
-map-append : (xs ys : List Variable) → map nameOf (xs ++ ys) ≡ map nameOf xs ++ map nameOf ys
-map-append [] ys = refl
-map-append (x ∷ xs) ys = ap (λ l. x .name ∷ l) (map-append xs ys)
-
 -- ---- the entries of a node's names
 
 not-false : (b : Bool) → false ≡ not b → b ≡ true
@@ -147,7 +143,7 @@ module _ (names : List ℕ) (visible : List ℕ) (global : Global names) (knows 
   agrees-start defined empty x declared = go (entry-is x)
     where
       split : variableNames n ≡ map nameOf (n .inputs) ++ (map nameOf (n .outputs) ++ map nameOf (n .locals))
-      split = map-append (n .inputs ++ n .outputs) (n .locals) ∙ ap (λ l. l ++ map nameOf (n .locals)) (map-append (n .inputs) (n .outputs)) ∙ append-assoc (map nameOf (n .inputs)) (map nameOf (n .outputs)) (map nameOf (n .locals))
+      split = map-append nameOf (n .inputs ++ n .outputs) (n .locals) ∙ ap (λ l. l ++ map nameOf (n .locals)) (map-append nameOf (n .inputs) (n .outputs)) ∙ append-assoc (map nameOf (n .inputs)) (map nameOf (n .outputs)) (map nameOf (n .locals))
 
       go : Entry x → takenB defined inputs (entryOf x) ≡ member x (map nameOf (n .inputs) ++ visible)
       go (outer high m) = sym (taken-outer defined inputs (entryOf x) high) ∙ sym (member-behind x (map nameOf (n .inputs)) visible m)
@@ -193,7 +189,7 @@ module _ (names : List ℕ) (visible : List ℕ) (global : Global names) (knows 
 
 -- ---- names that are declared, where 7 does not hold
 
-clean-step : (b : Bool) (p : ℕ) (r : Option ℕ) → firstIf b p r ≡ none → (b ≡ false) × (r ≡ none)
+pub clean-step : (b : Bool) (p : ℕ) (r : Option ℕ) → firstIf b p r ≡ none → (b ≡ false) × (r ≡ none)
 clean-step true p r e = let z : _≡_ {A = ℕ} 0 1 = cc in absurd (omega arith)
 clean-step false p r e = (refl, e)
 
@@ -208,10 +204,6 @@ clean-each : {A : Type 0} (g : A → List Item) (xs : List A) → first (concat 
 clean-each g [] e = tt
 clean-each g (x ∷ xs) e = let w = clean-both (g x) (concat (map g xs)) e in (w .0, clean-each g xs (w .1))
 
-each-append : {A : Type 0} (P : A → Type 0) (xs ys : List A) → Each P xs → Each P ys → Each P (xs ++ ys)
-each-append P [] ys h k = k
-each-append P (x ∷ xs) ys h k = (h .0, each-append P xs ys (h .1) k)
-
 -- the names before others are seen
 clean-names : (table visible : List ℕ) → Knows table visible → (ps qs : List (ℕ × ℕ)) → first (unseen visible (ps ++ qs)) ≡ none → Each (λ p. getD table (p .1) 0 ≡ 0 → ⊥) ps
 clean-names table visible knows [] qs e = tt
@@ -224,7 +216,7 @@ clean-equations : (table visible : List ℕ) → Knows table visible → (qs : L
 clean-equations table visible knows [] e = tt
 clean-equations table visible knows (q ∷ qs) e =
     let w = clean-both (equationUses visible q) (concat (map (equationUses visible) qs)) e in
-    each-append (λ p. getD table (p .1) 0 ≡ 0 → ⊥) (definedBy q) (concat (map definedBy qs)) (clean-names table visible knows (definedBy q) (used (rhsPlace (q .0) (q .1)) (q .1 .rhs)) (w .0)) (clean-equations table visible knows qs (w .1))
+    each-join (λ p. getD table (p .1) 0 ≡ 0 → ⊥) (definedBy q) (concat (map definedBy qs)) (clean-names table visible knows (definedBy q) (used (rhsPlace (q .0) (q .1)) (q .1 .rhs)) (w .0)) (clean-equations table visible knows qs (w .1))
 
 abbrev noneDefined : List ℕ
 noneDefined = replicate 256 0

@@ -12,7 +12,7 @@ use lib.Dec.{T, ltb, leb, eqb, eqb→eq}
 use borrow.Author.Tests.{le-leb, lt-leb, ne-eqb, eqb-true, eqb-false, leb-true, leb-false, eq-eqb}
 use Rattle.ol_spec.specs.Lists.{member, anyOf}
 use Rattle.ol_spec.specs.Syntax.{Variable, nameOf}
-use Rattle.ol_tree.specs.Tables.{Each}
+use Rattle.ol_tables.specs.Tables.{Each}
 use Rattle.ol_check.specs.Judging.{Knows}
 use Rattle.ol_check.specs.Entries.{declared, forgot, declareAll, forgetAll, variableEntries, Global}
 

@@ -1,25 +1,23 @@
 -- The loops over the table by name: what is left to be entered or taken back.
-use Prim.Native.Nat.{ℕ, zero, suc, _+_, _-_, _*_, _≤_, _<_}
-use mathlib.Core.Bool.{Bool, true, false, not, _&&_, cond}
-use mathlib.Core.List.{List, [], _∷_, _++_, map}
+use Prim.Native.Nat.{ℕ, suc, _+_, _-_, _≤_, _<_}
+use mathlib.Core.List.{List, _∷_, map}
 use mathlib.Core.Path.{_≡_, refl, sym, ap, subst, _∙_}
 use native.Mathlib.Omega.{arith}
 use native.Mathlib.Numerals.{add-one}
 use lib.ListN.{length, getD, set, drop, drop-of-length-le}
 use lib.Seq.{drop-cons}
-use lib.Dec.{T, ltb, leb, eqb}
 use borrow.Author.Tests.{le-leb, lt-leb, ne-eqb}
 use Rattle.ol_spec.specs.Syntax.{Variable}
-use Rattle.ol_spec.specs.Places.{tySize, variableSize}
+use Rattle.ol_spec.specs.Places.{variableSize}
 use Rattle.ol_spec.specs.Encode.{nameBytes, variableBytes}
 use Rattle.ol_spec.specs.Limits.{base}
 use Rattle.ol_spec.specs.Within.{nameFits, variableFits}
 use Rattle.ol_spec.proofs.RoundTrip.Items.{variable-size}
-use Rattle.ol_tree.specs.Heads.{nameAt, tySizeAt}
-use Rattle.ol_tree.specs.Stands.{Listed, Names, Variables}
-use Rattle.ol_tree.proofs.Heads.{here-name}
-use Rattle.ol_tree.proofs.HeadsFile.{Passing, passing-start, passing-item, passing-end, variable-stands}
-use Rattle.ol_check.specs.Founds.{Byte}
+use Rattle.ol_tables.specs.Heads.{nameAt, tySizeAt}
+use Rattle.ol_tables.specs.Stands.{Names, Variables}
+use Rattle.ol_tables.proofs.HeadLaws.{here-name}
+use Rattle.ol_tables.proofs.HeadsFile.{Passing, passing-start, passing-item, passing-end, variable-stands}
+use Rattle.ol_tables.specs.Heads.{Byte}
 use Rattle.ol_check.specs.RowsDone.{noVariable}
 use Rattle.ol_check.specs.Entries.{declared, forgot, declareAll, forgetAll, variableEntries, variantEntry, VariablesEntered, VariablesForgotten}
 use Rattle.ol_check.proofs.EquationLaws.{NamePassing}
@@ -35,9 +33,6 @@ forgot-low names names′ x b bb z h = h ∙ rw (← bb .is, le-leb b 112 z) ref
 
 pub forgot-high : (names : List ℕ) (x b : ℕ) → Byte names x b → 112 < b → names ≡ forgot names x
 forgot-high names x b bb z = rw (← bb .is, lt-leb b 112 z) refl
-
-abbrev VariablePassing : List ℕ → ℕ → ℕ → List Variable → ℕ → ℕ → Type 0
-VariablePassing s enums at vs i next = Passing variableBytes (variableFits base enums) variableSize s at vs i next
 
 entries-on : (first : ℕ) (vs : List Variable) (i : ℕ) → i < length vs → variableEntries (first + i) (drop i vs) ≡ (getD vs i noVariable .name, first + i + 1) ∷ variableEntries (first + (i + 1)) (drop (i + 1) vs)
 entries-on first vs i lt =

@@ -11,7 +11,7 @@ use lib.Dec.{eqb}
 use borrow.Author.Tests.{ne-eqb, eq-eqb}
 use Rattle.ol_spec.specs.Lists.{maybe, member, position, positionIf}
 use Rattle.ol_spec.specs.Syntax.{Variable, Constant, nameOf, constantName}
-use Rattle.ol_tree.specs.Tables.{Each}
+use Rattle.ol_tables.specs.Tables.{Each}
 use Rattle.ol_check.specs.Entries.{declared, declareAll, variableEntries, constantEntries, variantEntry, entryIn}
 use Rattle.ol_check.proofs.EntryLaws.{Enterable, eq-cases, declared-other, declared-free, declare-high, cond-length}
 

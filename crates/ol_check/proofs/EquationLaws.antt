@@ -1,46 +1,46 @@
 -- An equation: its names, its right side, and what is inside that.
-use Prim.Native.Nat.{ℕ, zero, suc, _+_, _-_, _*_, _≤_, _<_, min}
-use mathlib.Core.Bool.{Bool, true, false, not, _&&_, cond}
-use mathlib.Core.List.{List, [], _∷_, _++_, map, append-nil}
-use mathlib.Core.Option.{Option, none, some}
+use Prim.Native.Nat.{ℕ, _+_, _-_, _*_, _≤_, _<_, min}
+use mathlib.Core.Bool.{Bool, false, not}
+use mathlib.Core.List.{List, [], _∷_, _++_, map, append-nil, map-append}
+use mathlib.Core.Option.{Option}
 use mathlib.Core.Path.{_≡_, refl, sym, ap, subst, _∙_}
 use native.Mathlib.Omega.{arith}
 use native.Mathlib.Numerals.{add-one}
 use lib.ListN.{length, getD, set, drop, length-set, drop-of-length-le}
 use lib.Seq.{getD-set-same, getD-set-other, drop-cons}
-use lib.Dec.{T, ltb, leb, eqb}
+use lib.Dec.{leb, eqb}
 use borrow.Author.Tests.{lt-ltb, le-ltb, le-leb, lt-leb}
 use native.Mathlib.Decide.{decLe}
 use mathlib.Core.Logic.{by-cases}
-use Rattle.ol_spec.specs.Lists.{orElse, member, concat, sum}
+use Rattle.ol_spec.specs.Lists.{orElse, concat, sum}
 use Rattle.ol_spec.specs.Syntax.{Expr, Exprs, nil, cons, count, Equation, File, rhsOf}
-use Rattle.ol_spec.specs.Places.{exprsSize, exprSize, equationSize, collect, collectAll, placed, placedNames, rhsPlace}
+use Rattle.ol_spec.specs.Places.{equationSize, collect, collectAll, placed, placedNames, rhsPlace}
 use Rattle.ol_spec.specs.Encode.{nameBytes, equationBytes}
 use Rattle.ol_spec.specs.Limits.{base}
 use Rattle.ol_spec.specs.Within.{nameFits, equationFits}
-use Rattle.ol_spec.specs.Admission.{Item, first, firstIf, unseenItem, unseen, usedAt, used, callsWhere, shapeItem, severalIn, arity, equationUses, inEquation, equationShape, definedBy}
+use Rattle.ol_spec.specs.Admission.{Item, first, firstIf, unseenItem, unseen, usedAt, used, callsWhere, shapeItem, arity, equationUses, inEquation, equationShape, definedBy}
 use Rattle.ol_spec.specs.Eval.{callees}
 use Rattle.ol_spec.specs.Step.{equationSites}
-use Rattle.ol_spec.proofs.Walks.{first-append}
 use Rattle.ol_spec.proofs.Cells.{length-bytes}
 use Rattle.ol_spec.proofs.RoundTrip.Parts.{here-inside}
 use Rattle.ol_spec.proofs.RoundTrip.Items.{equation-size}
-use Rattle.ol_tree.specs.Tables.{Each}
-use Rattle.ol_tree.specs.Heads.{nameAt, partsOf, headSize, joined, HeadIs, Standing}
-use Rattle.ol_tree.specs.Stands.{Listed, Names, EquationStands}
-use Rattle.ol_tree.proofs.Heads.{here-name, headed, walk-head, walk-one, root-head, head-ends, parts-told, next-told, joined-count}
-use Rattle.ol_tree.proofs.HeadsFile.{Passing, Item as PassedItem, passing-start, passing-item, passing-end, equation-stands}
-use Rattle.ol_check.specs.Founds.{Byte, placeOf, earliest}
-use Rattle.ol_check.specs.Walks.{HeadOf}
+use Rattle.ol_tables.specs.Tables.{Each}
+use Rattle.ol_tables.specs.Heads.{nameAt, partsOf, headSize, joined, Standing}
+use Rattle.ol_tables.specs.Stands.{Listed, Names, EquationStands}
+use Rattle.ol_tables.proofs.HeadLaws.{here-name, headed, walk-head, walk-one, root-head, head-ends, parts-told, next-told, joined-count}
+use Rattle.ol_tables.proofs.HeadsFile.{Passing, Item as PassedItem, passing-start, passing-item, equation-stands}
+use Rattle.ol_check.specs.Founds.{placeOf, earliest}
+use Rattle.ol_tables.specs.Heads.{Byte}
+use Rattle.ol_tables.specs.Walks.{HeadOf}
 use Rattle.ol_check.specs.Judging.{headAt, heads, unseenB, unseenHead, slotOfEntry, slotHead, slotHeads, calledB, calledHead, arityB, severalHead, foundIn, Walked}
 use Rattle.ol_check.specs.Judging.{Knows, Context, SlotIs, entryItem, slotNames, takenB, markAll, againB, NamesDefined, loneB, otherB, RootJudged, EquationJudged, namesIn, slotEquation, slotEquations, EquationsJudged}
 use Rattle.ol_check.specs.declared.Found.{Found}
-use Rattle.ol_check.specs.declared.heads.Parts.{Parts}
-use Rattle.ol_check.specs.declared.judge.Faults.{Faults}
+use Rattle.ol_tables.specs.declared.heads.Parts.{Parts}
+use Rattle.ol_check.specs.declared.Faults.{Faults}
 use Rattle.ol_check.specs.Records.{siteB, calleeB}
-use Rattle.ol_check.proofs.WalkLoop.{found-step, found-none, min-add, min-cap, Adding}
+use Rattle.ol_check.proofs.WalkLoop.{found-step, found-none, found-append, min-add, min-cap, Adding}
 use Rattle.ol_check.proofs.CalleeLaws.{sum-append, sites-callees}
-use Rattle.ol_check.proofs.HeadLaws.{Flat, flat, unseen-law, called-law, several-law, arity-is, slots-below, slots-length, slots-held}
+use Rattle.ol_check.proofs.HeadLaws.{flat, unseen-law, called-law, several-law, arity-is, slots-below, slots-length, slots-held}
 
 -- ---- names
 
@@ -158,7 +158,7 @@ module _ {s names rows : List ℕ} {nodes k at many : ℕ} (slots : List ℕ) {s
       let n = f .next in
       let hd = headed e nil st in
       let rest = joined (partsOf e) nil in
-      let start : p .start ≡ n + headSize e = hp .next ∙ next-told s n e (hd .head) in
+      let start : p .start ≡ n + headSize e = hp .next ∙ next-told s n e (hd .inside) (hd .head) in
       let w = walked enums rest (omega (arith, joined-count (partsOf e) nil, hp .parts, parts-told s n e (hd .head))) (subst (λ a. Standing s enums a rest) (sym start) (hd .rest)) in
       let all : heads n (cons e nil) ≡ n ∷ heads (p .start) rest = walk-head headAt n e nil ∙ ap (λ a. n ∷ heads a rest) (sym start) in
       record {
@@ -184,18 +184,10 @@ module _ {s names rows : List ℕ} {nodes k at many : ℕ} (slots : List ℕ) {s
 
 -- ---- an equation
 
-found-append : (o : Option ℕ) (is js : List Item) → foundIn (foundIn o is) js ≡ foundIn o (is ++ js)
-found-append none is js = sym (first-append is js)
-found-append (some p) is js = refl
-
 joined-nil : (es : Exprs) → joined es nil ≡ es
 unfolding joined
 joined-nil nil = refl
 joined-nil (cons e es) = ap (cons e) (joined-nil es)
-
-map-append : {A B : Type 0} (f : A → B) (xs ys : List A) → map f (xs ++ ys) ≡ map f xs ++ map f ys
-map-append f [] ys = refl
-map-append f (x ∷ xs) ys = ap (λ l. f x ∷ l) (map-append f xs ys)
 
 entries-seen : (names visible : List ℕ) → Knows names visible → (ps : List (ℕ × ℕ)) → map (entryItem names) ps ≡ map (unseenItem visible) ps
 entries-seen names visible knows [] = refl

@@ -1,8 +1,8 @@
 -- A whole file: variants, constants, nodes.
-use Prim.Native.Nat.{ℕ, zero, suc, _+_, _-_, _*_, _≤_, _<_}
-use mathlib.Core.Bool.{Bool, true, false, not, _&&_, cond}
-use mathlib.Core.List.{List, [], _∷_, _++_, map, append-nil, append-assoc}
-use mathlib.Core.Option.{Option, none, some}
+use Prim.Native.Nat.{ℕ, _+_, _-_, _*_, _≤_, _<_}
+use mathlib.Core.Bool.{Bool, true, false, cond}
+use mathlib.Core.List.{List, [], _∷_, _++_, map, map-append}
+use mathlib.Core.Option.{none}
 use mathlib.Core.Logic.{by-cases}
 use mathlib.Core.Path.{_≡_, refl, sym, ap, subst, _∙_}
 use native.Mathlib.Omega.{arith}
@@ -10,33 +10,33 @@ use native.Mathlib.Numerals.{add-one}
 use native.Mathlib.Decide.{decLe}
 use lib.ListN.{length, getD, set, drop, drop-of-length-le}
 use lib.Seq.{drop-cons, getD-set-same, getD-set-other, set-out}
-use lib.Dec.{T, ltb, eqb}
-use borrow.Author.Tests.{ne-eqb}
-use Rattle.ol_spec.specs.Lists.{orElse, concat, member, sum}
+use lib.Dec.{eqb}
+use Rattle.ol_spec.specs.Lists.{concat, sum}
 use Rattle.ol_spec.specs.Syntax.{Constant, File, constantName}
-use Rattle.ol_spec.specs.Places.{enumSize, constantSize, constantsStart, nodesStart, placed, placedConstants, placedNodes, sectionSize}
+use Rattle.ol_spec.specs.Places.{enumSize, constantSize, constantsStart, placed, placedConstants, placedNodes}
 use Rattle.ol_spec.specs.Encode.{nameBytes, sectionBytes, constantBytes}
 use Rattle.ol_spec.specs.Limits.{base}
-use Rattle.ol_spec.specs.Within.{enumFits, countFits, nameFits, constantFits}
-use Rattle.ol_spec.specs.Admission.{Item, first, variants, constantNames, constantUses, nodeUses, nodeCalls, nodeShape, inConstant, callsWhere, shapeItem, numbered, fault7, fault8, fault9, fault10, nodeDefines}
+use Rattle.ol_spec.specs.Within.{enumFits, countFits, constantFits}
+use Rattle.ol_spec.specs.Admission.{first, variants, constantNames, constantUses, nodeUses, nodeCalls, nodeShape, inConstant, callsWhere, shapeItem, numbered, fault7, fault8, fault9, fault10}
 use Rattle.ol_spec.proofs.Tests.{T-and}
 use Rattle.ol_spec.proofs.Walks.{first-append}
-use Rattle.ol_spec.proofs.RoundTrip.Parts.{Here, here-inside, here-back}
+use Rattle.ol_spec.proofs.RoundTrip.Parts.{here-inside, here-back}
 use Rattle.ol_spec.proofs.RoundTrip.Items.{names-size}
-use Rattle.ol_tree.specs.At.{fileAt}
-use Rattle.ol_tree.specs.Tables.{Each}
-use Rattle.ol_tree.specs.Stands.{Listed, Names, FileStands}
-use Rattle.ol_tree.proofs.Heads.{here-first}
-use Rattle.ol_tree.proofs.HeadsFile.{Passing, Item as PassedItem, passing-start, passing-item, passing-end}
-use Rattle.ol_check.specs.Founds.{Byte, placeOf}
-use Rattle.ol_check.specs.RowsDone.{Enums, SectionsAre}
+use Rattle.ol_tables.specs.At.{fileAt}
+use Rattle.ol_tables.specs.Tables.{Each}
+use Rattle.ol_tables.specs.Stands.{Listed, Names, FileStands}
+use Rattle.ol_tables.proofs.HeadLaws.{here-first}
+use Rattle.ol_tables.proofs.HeadsFile.{Passing, Item as PassedItem, passing-start, passing-item}
+use Rattle.ol_check.specs.Founds.{placeOf}
+use Rattle.ol_tables.specs.Heads.{Byte}
+use Rattle.ol_check.specs.RowsDone.{Enums}
 use Rattle.ol_check.specs.Entries.{declared, declareAll, variantEntry, constantEntries, Global}
 use Rattle.ol_check.specs.Judging.{foundIn, Knows}
 use Rattle.ol_check.specs.NodesJudged.{RowsReady, nodeAgain, NodesJudged, slotNodes}
 use Rattle.ol_check.specs.ConstantsJudged.{ConstantsJudged, ConstantsReady, slotConstants}
 use Rattle.ol_check.specs.Sizes.{NodesSized}
 use Rattle.ol_check.specs.FileJudged.{FileReady, NamesWithin, variantTable, globalTable, FileJudged}
-use Rattle.ol_check.specs.declared.judge.Faults.{Faults}
+use Rattle.ol_check.specs.declared.Faults.{Faults}
 use Rattle.ol_check.specs.declared.rows.Sections.{Sections}
 use Rattle.ol_check.proofs.EntryLaws.{declare-append, Enterable, knows-all, declare-length}
 use Rattle.ol_check.proofs.NodeLaws.{outputs-told, ready-at}
@@ -47,10 +47,6 @@ use Rattle.ol_check.proofs.Definitions.{nodes-defined}
 pub record EnumsGoing (s : List ℕ) (es : List (List ℕ)) (names₀ names : List ℕ) (at i next : ℕ) : Type 0 where
   pub passing : Passing (sectionBytes nameBytes) (enumFits base) enumSize s at es i next
   pub entered : declareAll names (map variantEntry (concat (drop i es))) ≡ declareAll names₀ (map variantEntry (concat es))
-
-map-append : (xs ys : List ℕ) → map variantEntry (xs ++ ys) ≡ map variantEntry xs ++ map variantEntry ys
-map-append [] ys = refl
-map-append (x ∷ xs) ys = ap (λ l. variantEntry x ∷ l) (map-append xs ys)
 
 module _ {s : List ℕ} {es : List (List ℕ)} {names₀ : List ℕ} {at : ℕ} where
   pub enums-start : Enums s at es → EnumsGoing s es names₀ names₀ at 0 at
@@ -73,7 +69,7 @@ module _ {s : List ℕ} {es : List (List ℕ)} {names₀ : List ℕ} {at : ℕ} 
         record {
           passing = subst (Passing (sectionBytes nameBytes) (enumFits base) enumSize s at es (i + 1)) (omega (arith, er, many)) (it .on);
           entered = ap (λ l. declareAll l (map variantEntry (concat (drop (i + 1) es)))) w ∙ sym (declare-append names (map variantEntry vs) (map variantEntry (concat (drop (i + 1) es))))
-              ∙ ap (declareAll names) (sym (map-append vs (concat (drop (i + 1) es)))) ∙ ap (λ m. declareAll names (map variantEntry (vs ++ concat (drop m es)))) (add-one i)
+              ∙ ap (declareAll names) (sym (map-append variantEntry vs (concat (drop (i + 1) es)))) ∙ ap (λ m. declareAll names (map variantEntry (vs ++ concat (drop m es)))) (add-one i)
               ∙ ap (λ l. declareAll names (map variantEntry (concat l))) (sym (drop-cons es i [] lt)) ∙ g .entered;
         }
 

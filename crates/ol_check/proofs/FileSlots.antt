@@ -1,27 +1,28 @@
--- The slots of a file, as ol_tree's tables say them: where 6 does not hold, every name in every equation of every node and in every constant's expression has its slot.
+-- The slots of a file, as ol_tables's tables say them: where 6 does not hold, every name in every equation of every node and in every constant's expression has its slot.
 use Prim.Native.Nat.{ℕ, zero, suc, _+_, _<_, _≤_}
-use mathlib.Core.List.{List, [], _∷_, _++_, map}
+use mathlib.Core.List.{List, [], _∷_, map}
 use mathlib.Core.Option.{none}
-use mathlib.Core.Path.{_≡_, refl, sym, ap, subst, _∙_}
+use mathlib.Core.Path.{_≡_, ap, _∙_}
 use native.Mathlib.Omega.{arith}
 use lib.ListN.{length, getD, take, length-map}
-use Rattle.ol_spec.specs.Syntax.{Node, File, variables, variableNames, nameOf, noNode, constantName}
+use Rattle.ol_spec.specs.Syntax.{File, variables, variableNames, nameOf, noNode, constantName}
 use Rattle.ol_spec.specs.Places.{placed, placedNames, placedNodes, placedEquations, placedConstants, nodeSize, constantsStart, nodesStart, rhsPlace}
 use Rattle.ol_spec.specs.Admission.{constantNames, valuePlace, used, fault6}
-use Rattle.ol_tree.specs.Tables.{Each, HasSlot, Slotted, slotOf, slotsFrom, nodeOf}
-use Rattle.ol_tree.specs.Stands.{FileStands}
-use Rattle.ol_tree.proofs.HeadsFile.{node-at}
+use Rattle.ol_tables.specs.Tables.{Each, HasSlot, Slotted, slotOf, slotsFrom, nodeOf}
+use Rattle.ol_tables.proofs.Forms.{each-map}
+use Rattle.ol_tables.specs.Stands.{FileStands}
+use Rattle.ol_tables.proofs.HeadsFile.{node-at}
 use Rattle.ol_check.specs.Judging.{SlotIs, slotOfEntry}
 use Rattle.ol_check.specs.Entries.{declareAll, constantEntries}
 use Rattle.ol_check.specs.NodesJudged.{placeIn, nodeTable, slotNodes}
 use Rattle.ol_check.specs.ConstantsJudged.{slotConstants}
 use Rattle.ol_check.specs.FileJudged.{NamesWithin, variantTable, globalTable, FileJudged}
-use Rattle.ol_check.specs.declared.judge.Faults.{Faults}
+use Rattle.ol_check.specs.declared.Faults.{Faults}
 use Rattle.ol_check.proofs.RowLoops.{few-variables}
 use Rattle.ol_check.proofs.SlotLaws.{NodeSlotted, nodes-below, file-slotted}
 use Rattle.ol_check.proofs.SlotEntries.{entry-slot}
 use Rattle.ol_check.proofs.Sorts.{constants-apart, variables-apart}
-use Rattle.ol_check.proofs.TabLaws.{each-map, slots-told, defined-told}
+use Rattle.ol_check.proofs.TabLaws.{slots-told, defined-told}
 use Rattle.ol_check.proofs.ConstantSlots.{placedConstant, constants-length, constants-held, constant-slot}
 
 each-placed : {A : Type 0} (P : ℕ × A → Type 0) (size : A → ℕ) (d : A) (xs : List A) (at k : ℕ) → k < length xs → Each P (placed size at xs) → P (getD (map (λ p. p .0) (placed size at xs)) k 0, getD xs k d)

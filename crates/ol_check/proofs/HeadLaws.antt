@@ -1,22 +1,22 @@
 -- What the tests at the heads say of the tree: the first faulted head is the first faulted item of a walk.
 use Prim.Native.Nat.{ℕ, zero, suc, _+_, _-_, _≤_, _<_}
-use mathlib.Core.Bool.{Bool, true, false, not, _&&_, cond}
-use mathlib.Core.List.{List, [], _∷_, _++_, map, append-nil}
-use mathlib.Core.Option.{Option, none, some}
+use mathlib.Core.Bool.{Bool, true, false, cond}
+use mathlib.Core.List.{List, [], _∷_, _++_, map, map-append}
+use mathlib.Core.Option.{Option, none}
 use mathlib.Core.Path.{_≡_, refl, sym, ap, subst, _∙_}
 use native.Mathlib.Omega.{arith}
-use lib.ListN.{length, getD, set, length-set}
+use lib.ListN.{length, getD, length-set}
 use lib.Seq.{getD-set-same, getD-set-other}
 use lib.Dec.{ltb, eqb}
-use Rattle.ol_spec.specs.Lists.{orElse, member}
+use Rattle.ol_spec.specs.Lists.{orElse}
 use Rattle.ol_spec.specs.Syntax.{Expr, boolLit, intLit, floatLit, charLit, var, unary, binary, ifThenElse, pre, arrow, cast, call, tuple, Exprs, nil, cons, count, File, rhsOf}
 use Rattle.ol_spec.specs.Places.{exprsSize, collectAll}
-use Rattle.ol_spec.specs.Admission.{Item, first, firstIf, unseenItem, usedAt, callsWhere, shapeItem, severalIn, arity, calleeIn}
+use Rattle.ol_spec.specs.Admission.{Item, first, firstIf, unseenItem, usedAt, callsWhere, shapeItem, arity, calleeIn}
 use Rattle.ol_spec.proofs.Walks.{first-append}
-use Rattle.ol_tree.specs.Tables.{Each}
-use Rattle.ol_tree.specs.Heads.{nameAt, partsOf, headSize, joined, HeadIs, Standing}
-use Rattle.ol_tree.proofs.Heads.{headed, head-some, head-ends, walk-head}
-use Rattle.ol_check.specs.Judging.{headAt, heads, unseenB, unseenHead, slotOfEntry, slotPut, slotHead, slotHeads, badB, calledB, calledHead, outputsB, arityB, severalHead, Knows, SlotIs}
+use Rattle.ol_tables.specs.Tables.{Each}
+use Rattle.ol_tables.specs.Heads.{partsOf, headSize, joined, HeadIs, Standing}
+use Rattle.ol_tables.proofs.HeadLaws.{headed, head-some, head-ends, walk-head}
+use Rattle.ol_check.specs.Judging.{headAt, heads, unseenHead, slotOfEntry, slotPut, slotHead, slotHeads, badB, calledHead, outputsB, arityB, severalHead, Knows, SlotIs}
 
 -- a list of expressions, head by head
 pub data Flat (s : List ℕ) : ℕ → Exprs → Type 0 where
@@ -60,10 +60,6 @@ module _ {s : List ℕ} (item : ℕ → Item) (g : ℕ → Expr → List Item) (
       ∙ ap (λ o. orElse o (first (map item (heads next rest)))) (sym (agree at e h))
       ∙ ap (orElse (first (g at e))) (heads-first r)
       ∙ sym (ap first (walk-head g at e es) ∙ first-append (g at e) (collectAll g next rest))
-
-map-append : {A B : Type 0} (f : A → B) (xs ys : List A) → map f (xs ++ ys) ≡ map f xs ++ map f ys
-map-append f [] ys = refl
-map-append f (x ∷ xs) ys = ap (λ l. f x ∷ l) (map-append f xs ys)
 
 -- a walk's items, mapped
 pub walk-map : {A B : Type 0} {s : List ℕ} (h : A → B) (f : ℕ → Expr → List A) {at : ℕ} {es : Exprs} → Flat s at es → map h (collectAll f at es) ≡ collectAll (λ p e. map h (f p e)) at es

@@ -8,9 +8,9 @@ use native.Mathlib.Nat.{add-zero}
 use lib.ListN.{getD, set}
 use lib.Dec.{ltb, eqb}
 use borrow.Author.Tests.{lt-ltb, le-ltb, eq-eqb, ne-eqb}
-use Rattle.ol_tree.specs.Tables.{rowAt}
-use Rattle.ol_tree.specs.Heads.{nameAt}
-use Rattle.ol_check.specs.Founds.{Byte}
+use Rattle.ol_tables.specs.Tables.{rowAt}
+use Rattle.ol_tables.specs.Heads.{nameAt}
+use Rattle.ol_tables.specs.Heads.{Byte}
 use Rattle.ol_check.specs.Judging.{plainB, unseenB, slotOfEntry, slotPut, slotHead, mayB, badB, calledB, outputsB, arityB}
 
 pub may-imported : (a b : ℕ) → b ≡ 2 → false ≡ mayB a b

@@ -1,4 +1,3 @@
-pub mod Walking
 pub mod RowLoops
 pub mod HeadTests
 pub mod WalkLoop

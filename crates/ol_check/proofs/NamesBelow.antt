@@ -6,25 +6,18 @@ use native.Mathlib.Omega.{arith}
 use lib.Dec.{T, ltb→lt}
 use lib.ListN.{length, getD}
 use Rattle.ol_spec.specs.Lists.{concat, allOf}
-use Rattle.ol_spec.specs.Syntax.{Variable, Constant, Node, File, variables, noNode}
+use Rattle.ol_spec.specs.Syntax.{Variable, Constant, Node, File, noNode}
 use Rattle.ol_spec.specs.Limits.{base}
 use Rattle.ol_spec.specs.Within.{countFits, sectionFits, nameFits, variableFits, constantFits, enumFits, nodeFits}
 use Rattle.ol_spec.specs.Places.{placed, placedEnums, placedConstants, placedNodes, placedNames, placedVariables, enumSize, constantSize, variableSize, nodeSize, constantsStart, nodesStart, outputsStart, localsStart}
 use Rattle.ol_spec.specs.Admission.{Sort, variant, constant, variable, Declared, numbered, declaredAs, placedVariableName, placedConstantName, enumDeclares, nodeDeclares, declared, variants}
 use Rattle.ol_spec.proofs.Tests.{T-and}
-use Rattle.ol_tree.specs.Stands.{FileStands}
-use Rattle.ol_tree.specs.Tables.{Each}
+use Rattle.ol_tables.specs.Stands.{FileStands}
+use Rattle.ol_tables.specs.Tables.{Each}
+use Rattle.ol_tables.proofs.Forms.{each-append, each-join}
 use Rattle.ol_check.specs.NodesJudged.{Covered}
 use Rattle.ol_check.specs.FileJudged.{NamesWithin}
 use Rattle.ol_check.proofs.ClashFile.{as-append}
-
-each-join : {A : Type 0} (P : A → Type 0) (xs ys : List A) → Each P xs → Each P ys → Each P (xs ++ ys)
-each-join P [] ys h k = k
-each-join P (x ∷ xs) ys h k = (h .0, each-join P xs ys (h .1) k)
-
-each-part : {A : Type 0} (P : A → Type 0) (xs ys : List A) → Each P (xs ++ ys) → Each P xs × Each P ys
-each-part P [] ys h = (tt, h)
-each-part P (x ∷ xs) ys h = let w = each-part P xs ys (h .1) in ((h .0, w .0), w .1)
 
 -- ---- from the parts to all, and back
 
@@ -46,13 +39,13 @@ module _ (room : ℕ) where
   enums-below : (i at : ℕ) (es : List (List ℕ)) → Each (λ x. x < room) (concat es) → Each Below (concat (map enumDeclares (numbered i (placed enumSize at es))))
   enums-below i at [] h = tt
   enums-below i at (vs ∷ es) h =
-      let w = each-part (λ x. x < room) vs (concat es) h in
+      let w = each-append (λ x. x < room) vs (concat es) h in
       each-join Below (enumDeclares (i, (at, vs))) _ (names-below (variant i) (at + 1) vs (w .0)) (enums-below (suc i) (at + enumSize vs) es (w .1))
 
   below-enums : (i at : ℕ) (es : List (List ℕ)) → Each Below (concat (map enumDeclares (numbered i (placed enumSize at es)))) → Each (λ x. x < room) (concat es)
   below-enums i at [] h = tt
   below-enums i at (vs ∷ es) h =
-      let w = each-part Below (enumDeclares (i, (at, vs))) (concat (map enumDeclares (numbered (suc i) (placed enumSize (at + enumSize vs) es)))) h in
+      let w = each-append Below (enumDeclares (i, (at, vs))) (concat (map enumDeclares (numbered (suc i) (placed enumSize (at + enumSize vs) es)))) h in
       each-join (λ x. x < room) vs (concat es) (below-names (variant i) (at + 1) vs (w .0)) (below-enums (suc i) (at + enumSize vs) es (w .1))
 
   constants-below : (at : ℕ) (cs : List Constant) → Each (λ c. c .name < room) cs → Each Below (declaredAs constant (map placedConstantName (placed constantSize at cs)))
@@ -87,8 +80,8 @@ module _ (room : ℕ) where
   node-below : (k at : ℕ) (n : Node) → Covered room n → Each Below (nodeDeclares (k, (at, n)))
   node-below k at n h =
       let u = variable k in
-      let w = each-part Named (n .inputs ++ n .outputs) (n .locals) h in
-      let v = each-part Named (n .inputs) (n .outputs) (w .0) in
+      let w = each-append Named (n .inputs ++ n .outputs) (n .locals) h in
+      let v = each-append Named (n .inputs) (n .outputs) (w .0) in
       let a = sectionOf u (at + 2) (n .inputs) in
       let b = sectionOf u (outputsStart at n + 1) (n .outputs) in
       let c = sectionOf u (localsStart at n + 1) (n .locals) in
@@ -101,8 +94,8 @@ module _ (room : ℕ) where
       let a = sectionOf u (at + 2) (n .inputs) in
       let b = sectionOf u (outputsStart at n + 1) (n .outputs) in
       let c = sectionOf u (localsStart at n + 1) (n .locals) in
-      let w = each-part Below (a ++ b) c (subst (Each Below) (three u at n) h) in
-      let v = each-part Below a b (w .0) in
+      let w = each-append Below (a ++ b) c (subst (Each Below) (three u at n) h) in
+      let v = each-append Below a b (w .0) in
       each-join Named (n .inputs ++ n .outputs) (n .locals) (each-join Named (n .inputs) (n .outputs) (below-variables u (at + 2) (n .inputs) (v .0)) (below-variables u (outputsStart at n + 1) (n .outputs) (v .1))) (below-variables u (localsStart at n + 1) (n .locals) (w .1))
 
   nodes-below : (k at : ℕ) (ns : List Node) → ((j : ℕ) → j < length ns → Covered room (getD ns j noNode)) → Each Below (concat (map nodeDeclares (numbered k (placed nodeSize at ns))))
@@ -111,8 +104,8 @@ module _ (room : ℕ) where
 
   below-nodes : (k at : ℕ) (ns : List Node) → Each Below (concat (map nodeDeclares (numbered k (placed nodeSize at ns)))) → (j : ℕ) → j < length ns → Covered room (getD ns j noNode)
   below-nodes k at [] h j lt = absurd (omega (arith, lt))
-  below-nodes k at (n ∷ ns) h zero lt = below-node k at n (each-part Below (nodeDeclares (k, (at, n))) (concat (map nodeDeclares (numbered (suc k) (placed nodeSize (at + nodeSize n) ns)))) h .0)
-  below-nodes k at (n ∷ ns) h (suc j) lt = below-nodes (suc k) (at + nodeSize n) ns (each-part Below (nodeDeclares (k, (at, n))) (concat (map nodeDeclares (numbered (suc k) (placed nodeSize (at + nodeSize n) ns)))) h .1) j (omega (arith, lt))
+  below-nodes k at (n ∷ ns) h zero lt = below-node k at n (each-append Below (nodeDeclares (k, (at, n))) (concat (map nodeDeclares (numbered (suc k) (placed nodeSize (at + nodeSize n) ns)))) h .0)
+  below-nodes k at (n ∷ ns) h (suc j) lt = below-nodes (suc k) (at + nodeSize n) ns (each-append Below (nodeDeclares (k, (at, n))) (concat (map nodeDeclares (numbered (suc k) (placed nodeSize (at + nodeSize n) ns)))) h .1) j (omega (arith, lt))
 
   -- all declared names, from the parts
   pub declared-below : (f : File) → NamesWithin room f → Each (λ d. d .name < room) (declared f)
@@ -126,8 +119,8 @@ module _ (room : ℕ) where
   low-within f h =
       let es = concat (map enumDeclares (numbered 0 (placedEnums f))) in
       let cs = declaredAs constant (map placedConstantName (placedConstants f)) in
-      let w = each-part Below (es ++ cs) (concat (map nodeDeclares (numbered 0 (placedNodes f)))) h in
-      let v = each-part Below es cs (w .0) in
+      let w = each-append Below (es ++ cs) (concat (map nodeDeclares (numbered 0 (placedNodes f)))) h in
+      let v = each-append Below es cs (w .0) in
       record { variants = below-enums 0 2 (f .enums) (v .0); constants = below-constants (constantsStart f) (f .constants) (v .1); nodes = below-nodes 0 (nodesStart f) (f .nodes) (w .1) }
 
 -- ---- a file that reads without fault

@@ -1,7 +1,7 @@
 -- A node: its variables entered and taken back, and its equations judged.
 use Prim.Native.Nat.{ℕ, zero, suc, _+_, _-_, _*_, _≤_, _<_, min}
-use mathlib.Core.Bool.{Bool, true, false, not, _&&_, cond}
-use mathlib.Core.List.{List, [], _∷_, _++_, map, append-assoc}
+use mathlib.Core.Bool.{Bool, false, not, _&&_}
+use mathlib.Core.List.{List, [], _∷_, _++_, map, map-append}
 use mathlib.Core.Logic.{by-cases}
 use mathlib.Core.Path.{_≡_, refl, sym, ap, subst, _∙_}
 use native.Mathlib.Omega.{arith}
@@ -10,8 +10,8 @@ use native.Mathlib.Decide.{decLt}
 use lib.ListN.{length, getD, set, drop, replicate, length-append, List·getD-eq-default, drop-of-length-le}
 use lib.Seq.{drop-cons}
 use native.Mathlib.Numerals.{add-one}
-use mathlib.Core.Option.{Option, none, some}
-use lib.Dec.{T, ltb, leb, eqb}
+use mathlib.Core.Option.{Option}
+use lib.Dec.{ltb, eqb}
 use borrow.Author.Tests.{lt-ltb, le-ltb}
 use Rattle.ol_spec.specs.Lists.{sum, concat}
 use Rattle.ol_spec.specs.Syntax.{NodeKind, Function, Operator, Imported, Variable, Equation, Node, File, variables, variableNames, nameOf, noNode}
@@ -21,21 +21,21 @@ use Rattle.ol_spec.specs.Limits.{base}
 use Rattle.ol_spec.specs.Within.{variableFits, equationFits}
 use Rattle.ol_spec.specs.Admission.{calleeIn, badCall, mayCall, equationUses, inEquation, callsWhere, equationShape, Item, definedBy, nodeUses, nodeCalls, nodeShape, numbered}
 use Rattle.ol_spec.specs.Step.{sites}
-use Rattle.ol_spec.proofs.Walks.{first-append}
-use Rattle.ol_check.proofs.WalkLoop.{found-none}
-use Rattle.ol_tree.specs.At.{fileAt}
-use Rattle.ol_tree.specs.Tables.{rowAt, nodeOf, Each}
-use Rattle.ol_tree.specs.Stands.{Listed, Variables, Equations, NodeStands, FileStands}
-use Rattle.ol_tree.proofs.HeadsFile.{node-at}
-use Rattle.ol_check.specs.Founds.{Byte, placeOf}
+use Rattle.ol_check.proofs.WalkLoop.{found-none, found-append}
+use Rattle.ol_tables.specs.At.{fileAt}
+use Rattle.ol_tables.specs.Tables.{rowAt, nodeOf, Each}
+use Rattle.ol_tables.specs.Stands.{Listed, Variables, Equations, NodeStands, FileStands}
+use Rattle.ol_tables.proofs.HeadsFile.{node-at}
+use Rattle.ol_check.specs.Founds.{placeOf}
+use Rattle.ol_tables.specs.Heads.{Byte}
 use Rattle.ol_check.specs.RowsDone.{NodeRow}
 use Rattle.ol_check.specs.Records.{calleeB, recordBy}
 use Rattle.ol_check.specs.Entries.{declareAll, forgetAll, variableEntries, VariablesEntered, VariablesForgotten, Global}
 use Rattle.ol_check.specs.Judging.{mayB, badB, outputsB, Knows, Context, EquationsJudged, foundIn, slotEquations, againB}
 use Rattle.ol_check.specs.NodesJudged.{placeIn, NodeReady, nodeTable, Covered, nodeAgain, NodeJudged, RowsReady, slotNodes, NodesJudged}
-use Rattle.ol_check.specs.declared.judge.Faults.{Faults}
+use Rattle.ol_check.specs.declared.Faults.{Faults}
 use Rattle.ol_check.proofs.RowLoops.{few-variables}
-use Rattle.ol_check.proofs.EntryLaws.{declare-append, forget-append, entries-append, declare-length, Enterable, knows-all, restored}
+use Rattle.ol_check.proofs.EntryLaws.{declare-append, forget-append, entries-append, Enterable, knows-all, restored}
 
 -- ---- the sections of variables
 
@@ -89,14 +89,10 @@ entered-three {a} {b} {c} {names} {n₁} {n₂} {n₃} {i} {j} ei ej u v w =
     w .entered ∙ ap (λ l. declareAll l (variableEntries (i + j) c)) (v .entered ∙ ap (λ l. declareAll l (variableEntries i b)) (u .entered) ∙ sym (declare-append names (variableEntries 0 a) (variableEntries i b)) ∙ ap (declareAll names) second)
     ∙ sym (declare-append names (variableEntries 0 (a ++ b)) (variableEntries (i + j) c)) ∙ ap (declareAll names) third
 
-map-append : (xs ys : List Variable) → map nameOf (xs ++ ys) ≡ map nameOf xs ++ map nameOf ys
-map-append [] ys = refl
-map-append (x ∷ xs) ys = ap (λ l. x .name ∷ l) (map-append xs ys)
-
 pub forgotten-three : {a b c : List Variable} {names n₁ n₂ n₃ : List ℕ} {x y z p q r : ℕ} → VariablesForgotten a names n₁ x p → VariablesForgotten b n₁ n₂ y q → VariablesForgotten c n₂ n₃ z r → n₃ ≡ forgetAll names (map nameOf (a ++ b ++ c))
 forgotten-three {a} {b} {c} {names} u v w =
-    w .forgotten ∙ ap (λ l. forgetAll l (map nameOf c)) (v .forgotten ∙ ap (λ l. forgetAll l (map nameOf b)) (u .forgotten) ∙ sym (forget-append names (map nameOf a) (map nameOf b)) ∙ ap (forgetAll names) (sym (map-append a b)))
-    ∙ sym (forget-append names (map nameOf (a ++ b)) (map nameOf c)) ∙ ap (forgetAll names) (sym (map-append (a ++ b) c))
+    w .forgotten ∙ ap (λ l. forgetAll l (map nameOf c)) (v .forgotten ∙ ap (λ l. forgetAll l (map nameOf b)) (u .forgotten) ∙ sym (forget-append names (map nameOf a) (map nameOf b)) ∙ ap (forgetAll names) (sym (map-append nameOf a b)))
+    ∙ sym (forget-append names (map nameOf (a ++ b)) (map nameOf c)) ∙ ap (forgetAll names) (sym (map-append nameOf (a ++ b) c))
 
 -- ---- the context of a node's equations
 
@@ -214,10 +210,6 @@ nodes-on f k lt =
     drop-cons (placedNodes f) k (0, noNode) (omega (arith, placed-length nodeSize (f .nodes) (nodesStart f)))
     ∙ ap (λ x. x ∷ drop (suc k) (placedNodes f)) (placed-get nodeSize noNode (f .nodes) (nodesStart f) k lt)
     ∙ ap (λ n. (placeIn f k, nodeOf f k) ∷ drop n (placedNodes f)) (sym (add-one k))
-
-found-append : (o : Option ℕ) (is js : List Item) → foundIn (foundIn o is) js ≡ foundIn o (is ++ js)
-found-append none is js = sym (first-append is js)
-found-append (some p) is js = refl
 
 -- the items of an element, and of those that are left after it
 left-on : {A : Type 0} (g : A → List Item) (l rest : List A) (x : A) (o o′ z : Option ℕ) → l ≡ x ∷ rest → o′ ≡ foundIn o (g x) → foundIn o (concat (map g l)) ≡ z → foundIn o′ (concat (map g rest)) ≡ z

@@ -5,8 +5,8 @@ use mathlib.Core.Logic.{by-cases}
 use mathlib.Core.Path.{_≡_, refl, sym, ap, subst, _∙_}
 use native.Mathlib.Omega.{arith}
 use native.Mathlib.Decide.{decLt}
-use lib.ListN.{length, getD, set, drop, length-set, length-append, List·getD-append}
-use lib.Seq.{getD-set-same, getD-set-other, getD-append-add, sets, sets-eq}
+use lib.ListN.{length, getD, set, length-set, length-append, List·getD-append}
+use lib.Seq.{getD-set-same, getD-set-other, getD-append-add}
 use native.Mathlib.Nat.{add-assoc}
 use lib.Dec.{T, ltb, leb, leb→le}
 use borrow.Author.Tests.{ne-eqb}
@@ -19,13 +19,13 @@ use Rattle.ol_spec.specs.Within.{countFits, nameFits, enumFits, variableFits}
 use Rattle.ol_spec.proofs.Tests.{T-and}
 use Rattle.ol_spec.proofs.RoundTrip.Parts.{Here, here-front, here-back, here-inside}
 use Rattle.ol_spec.proofs.RoundTrip.Items.{names-size, variable-size}
-use Rattle.ol_tree.specs.Tables.{rowAt, firstAt, placeOf, nodeOf}
-use Rattle.ol_tree.specs.Heads.{nameAt, tySizeAt, tyEnumAt, TyIs}
-use Rattle.ol_tree.specs.Stands.{Listed, NodeStands, FileStands}
-use Rattle.ol_tree.proofs.Heads.{here-first, here-name}
-use Rattle.ol_tree.proofs.HeadsFile.{Passing, Item, passing-start, passing-item, passing-end, variable-stands, node-at}
-use Rattle.ol_check.proofs.Walking.{ty-small}
-use Rattle.ol_check.specs.Founds.{Byte}
+use Rattle.ol_tables.specs.Tables.{rowAt, firstAt, placeOf, nodeOf}
+use Rattle.ol_tables.specs.Heads.{nameAt, tySizeAt, tyEnumAt, TyIs}
+use Rattle.ol_tables.specs.Stands.{Listed, NodeStands, FileStands}
+use Rattle.ol_tables.proofs.HeadLaws.{here-first, here-name}
+use Rattle.ol_tables.proofs.HeadsFile.{Passing, Item, passing-start, passing-item, passing-end, variable-stands, node-at}
+use Rattle.ol_tables.proofs.Walking.{ty-small}
+use Rattle.ol_tables.specs.Heads.{Byte}
 use Rattle.ol_check.specs.RowsDone.{Enums, EnumsAre, EnumsDone, typeSet, TypeAt, noVariable, VariablesDone, putAll}
 use Rattle.ol_check.specs.RowsDone.{NodeRow, NodeTypes, NodeIs, NodeDone, PlacesAre, NodesDone, TablesDone}
 
@@ -368,12 +368,6 @@ first-place {f = f} st pl = pl .at 0 (st .someNode) ∙ first-at (f .nodes) (nod
 places-many : (ns : List Node) (at : ℕ) → length (map (λ p. p .0) (placed nodeSize at ns)) ≡ length ns
 places-many [] at = refl
 places-many (n ∷ ns) at = ap suc (places-many ns (at + nodeSize n))
-
-pub places-kept : (f : File) (starts places : List ℕ) → length (f .nodes) ≤ length starts → places ≡ sets starts 0 (map (λ p. p .0) (placedNodes f)) → PlacesAre f places
-places-kept f starts places room e =
-    let vs = map (λ p. p .0) (placedNodes f) in
-    let many : length vs ≡ length (f .nodes) = places-many (f .nodes) (nodesStart f) in
-    record { at = λ k lt. ap (λ l. getD l k 0) (e ∙ sets-eq vs starts 0 (omega (arith, many, room))) ∙ List·getD-append vs (drop (0 + length vs) starts) 0 k (omega (arith, many, lt)) }
 
 module _ {s : List ℕ} {f : File} (st : FileStands s f) {rows₀ rows₁ : List ℕ} {ec c : ℕ} (eb : Byte s 1 ec) (enums : EnumsDone s rows₀ rows₁ ec 2 c) where
   abbrev pub enums-are : EnumsAre (f .enums) rows₁ 2 c

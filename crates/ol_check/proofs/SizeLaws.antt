@@ -13,9 +13,9 @@ use Rattle.ol_spec.specs.Syntax.{NodeKind, Function, Operator, Imported, Node, 
 use Rattle.ol_spec.specs.Places.{placedNodes, placed, nodeSize, nodesStart, mainPlace}
 use Rattle.ol_spec.specs.Encode.{kindCode}
 use Rattle.ol_spec.specs.Admission.{isOperator, atMain, fault14}
-use Rattle.ol_tree.specs.At.{fileAt}
-use Rattle.ol_tree.specs.Tables.{rowAt, nodeOf}
-use Rattle.ol_check.specs.Founds.{Byte}
+use Rattle.ol_tables.specs.At.{fileAt}
+use Rattle.ol_tables.specs.Tables.{rowAt, nodeOf}
+use Rattle.ol_tables.specs.Heads.{Byte}
 use Rattle.ol_check.specs.NodesJudged.{placeIn, RowsReady}
 use Rattle.ol_check.specs.Records.{siteB, recordBy}
 

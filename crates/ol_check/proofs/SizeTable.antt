@@ -1,44 +1,42 @@
 -- The table of record lengths, in ascending order of the nodes; the state's length and fault 13.
-use Prim.Native.Nat.{ℕ, zero, suc, _+_, _-_, _*_, _≤_, _<_, min}
-use mathlib.Core.Bool.{Bool, true, false, _&&_, cond}
+use Prim.Native.Nat.{ℕ, _+_, _-_, _*_, _≤_, _<_, min}
+use mathlib.Core.Bool.{_&&_}
 use mathlib.Core.List.{List, [], _∷_, map, List·Memᴰ·head as here, List·Memᴰ·tail as there, List·Memᴰ·not-nil as in-nil}
 use mathlib.Core.Logic.{by-cases}
-use mathlib.Core.Option.{none, some}
+use mathlib.Core.Option.{none}
 use mathlib.Core.Path.{_≡_, refl, sym, ap, subst, _∙_}
 use native.Mathlib.Omega.{arith}
 use native.Mathlib.Decide.{decLt}
 use lib.ListN.{length, getD, set, length-set, List·getD-eq-default}
 use lib.Seq.{getD-set-same, getD-set-other}
-use lib.Dec.{T, ltb, leb, eqb, ltb→lt}
-use borrow.Author.Tests.{lt-ltb, le-ltb}
+use lib.Dec.{ltb, ltb→lt}
+use borrow.Author.Tests.{lt-ltb}
 use Rattle.ol_theory.specs.Member.{_∈_}
-use Rattle.ol_spec.specs.Lists.{sum, maybe}
+use Rattle.ol_spec.specs.Lists.{sum}
 use Rattle.ol_spec.specs.Syntax.{NodeKind, Function, Operator, Imported, Node, File, noNode, main}
 use Rattle.ol_spec.specs.Places.{constantsStart}
-use Rattle.ol_spec.specs.Encode.{kindCode, encode}
-use Rattle.ol_spec.specs.Limits.{base, relayLoader}
-use Rattle.ol_spec.specs.Within.{byteFits, sectionsFit, within}
-use Rattle.ol_spec.specs.Eval.{sizeIn, sitesSize}
+use Rattle.ol_spec.specs.Encode.{kindCode}
+use Rattle.ol_spec.specs.Limits.{relayLoader}
+use Rattle.ol_spec.specs.Eval.{sitesSize}
 use Rattle.ol_spec.specs.Step.{sites, ownSize, instanceSize, siteSizeBy, sizesAt}
-use Rattle.ol_spec.specs.Admission.{calleeIn, mayCall, fault9, stateSize, atMain, fault13}
+use Rattle.ol_spec.specs.Admission.{calleeIn, mayCall, fault9, stateSize}
 use Rattle.ol_spec.specs.Demand3.{Bytes}
 use Rattle.ol_spec.proofs.Tests.{T-and}
 use Rattle.ol_spec.proofs.Lists.{all-at}
 use Rattle.ol_spec.proofs.ReadFacts.{NodeRead, file-read}
 use Rattle.ol_spec.proofs.Admits.{okFor, site-allowed, node-plain}
 use Rattle.ol_spec.proofs.Calls.{site-size}
-use Rattle.ol_spec.proofs.RoundTrip.{encode-read}
-use Rattle.ol_tree.specs.At.{fileAt}
-use Rattle.ol_tree.specs.Tables.{rowAt, nodeOf, sizeCap, siteBytes, firstAt, RowOf, Rows}
-use Rattle.ol_tree.specs.Stands.{FileReads}
-use Rattle.ol_tree.proofs.HeadsFile.{file-stands}
-use Rattle.ol_check.specs.Founds.{Byte}
+use Rattle.ol_tables.specs.At.{fileAt}
+use Rattle.ol_tables.specs.Tables.{rowAt, nodeOf, siteBytes, firstAt, Rows}
+use Rattle.ol_tables.specs.Stands.{FileReads}
+use Rattle.ol_tables.proofs.HeadsFile.{file-stands}
+use Rattle.ol_tables.specs.Heads.{Byte}
 use Rattle.ol_check.specs.RowsDone.{NodeRow}
-use Rattle.ol_check.specs.NodesJudged.{placeIn, RowsReady}
+use Rattle.ol_check.specs.NodesJudged.{RowsReady}
 use Rattle.ol_check.specs.Records.{calleeB, instanceB, recordBy}
-use Rattle.ol_check.specs.Sizes.{SizesIn, SizesDone, MainSized, NodesSized, StateReady}
+use Rattle.ol_check.specs.Sizes.{SizesDone, MainSized, NodesSized}
 use Rattle.ol_check.proofs.TabLaws.{row-of}
-use Rattle.ol_check.proofs.SizeLaws.{the-main, the-place}
+use Rattle.ol_check.proofs.SizeLaws.{the-main}
 
 -- ---- sums
 
@@ -168,14 +166,6 @@ rows-sized long firsts d no9 =
 cap-right : (a i c : ℕ) → min (a + min i c) c ≡ min (a + i) c
 cap-right a i c = omega arith
 
-relay-state : (f : File) → T (within relayLoader f) → maybe 0 (λ l. l .state) (relayLoader .limits (f .format)) ≡ 32768
-unfolding within
-relay-state f t = go (eqb (f .format) 1) (T-and (byteFits (f .format)) _ t .1)
-  where
-    go : (b : Bool) → T (maybe false (sectionsFit f) (cond b (some base) none) && leb (length (encode f)) 32768) → maybe 0 (λ l. l .state) (cond b (some base) none) ≡ 32768
-    go true t = refl
-    go false t = absurd t
-
 module _ {s : List ℕ} {constants : ℕ} (bytes : Bytes s) (reads : FileReads s) (counted : constants + 1 ≡ constantsStart (fileAt s)) where
   pub state-sized : (c m r : ℕ) → Byte s constants c → r ≡ min (9 * c + m) 65536 → MainSized (fileAt s) m → r ≡ min (stateSize (fileAt s)) 65536
   unfolding stateSize
@@ -185,21 +175,3 @@ module _ {s : List ℕ} {constants : ℕ} (bytes : Bytes s) (reads : FileReads s
       let st = file-stands bytes reads in
       let many : c ≡ length (f .constants) = bc .is ∙ ap (λ p. getD s p 0) (omega (arith, counted)) ∙ st .constantCount in
       er ∙ ap (λ n. min (9 * c + n) 65536) em ∙ cap-right (9 * c) size 65536 ∙ ap (λ n. min (9 * n + size) 65536) many
-
-module _ {s rows : List ℕ} {nodes constants : ℕ} (bytes : Bytes s) (rd : StateReady s rows nodes constants) where
-  limit-is : maybe 0 (λ l. l .state) (relayLoader .limits (fileAt s .format)) ≡ 32768
-  limit-is = relay-state (fileAt s) (encode-read relayLoader s (fileAt s) (rd .ready .reads .end) bytes (rd .ready .reads .is) .2)
-
-  pub state-long : (m n p : ℕ) → (MainSized (fileAt s) m → n ≡ min (stateSize (fileAt s)) 65536) → 32768 < n → p ≡ getD rows ((nodes - 1) * 8 + 7) 0
-      → MainSized (fileAt s) m → some p ≡ fault13 relayLoader (fileAt s)
-  state-long m n p en lt ep em =
-      let f = fileAt s in
-      let e = en em in
-      ap some (ep ∙ rd .ready .row (nodes - 1) (omega (arith, rd .ready .many, rd .some-node)) .place ∙ sym (the-place (rd .ready) (rd .some-node)))
-      ∙ ap (atMain f) (sym (lt-ltb 32768 (stateSize f) (omega (arith, e)))) ∙ ap (λ l. atMain f (ltb l (stateSize f))) (sym limit-is)
-
-  pub state-short : (m n : ℕ) → (MainSized (fileAt s) m → n ≡ min (stateSize (fileAt s)) 65536) → n ≤ 32768 → MainSized (fileAt s) m → none ≡ fault13 relayLoader (fileAt s)
-  state-short m n en le em =
-      let f = fileAt s in
-      let e = en em in
-      ap (atMain f) (sym (le-ltb 32768 (stateSize f) (omega (arith, e)))) ∙ ap (λ l. atMain f (ltb l (stateSize f))) (sym limit-is)

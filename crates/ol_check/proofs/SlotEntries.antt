@@ -13,7 +13,7 @@ use borrow.Author.Tests.{ne-eqb, eq-eqb, eqb-true}
 use Rattle.ol_spec.specs.Lists.{maybe, member, position, positionIf}
 use Rattle.ol_spec.specs.Syntax.{Variable, Constant, Node, File, variables, variableNames, nameOf, constantName}
 use Rattle.ol_spec.specs.Admission.{variants, constantNames}
-use Rattle.ol_tree.specs.Tables.{Each, slotOf, slotBy, constantSlot}
+use Rattle.ol_tables.specs.Tables.{Each, slotOf, slotBy, constantSlot}
 use Rattle.ol_check.specs.Judging.{slotOfEntry}
 use Rattle.ol_check.specs.Entries.{declared, declareAll, variableEntries, constantEntries, variantEntry, entryIn}
 use Rattle.ol_check.specs.NodesJudged.{nodeTable, Covered}

@@ -12,9 +12,9 @@ use Rattle.ol_spec.specs.Encode.{equationBytes, nodeBytes}
 use Rattle.ol_spec.specs.Limits.{base}
 use Rattle.ol_spec.specs.Within.{equationFits, nodeFits}
 use Rattle.ol_spec.proofs.RoundTrip.Items.{equation-size, node-size}
-use Rattle.ol_tree.specs.Tables.{Each}
-use Rattle.ol_tree.specs.Stands.{Listed, EquationStands, NodeStands, FileStands}
-use Rattle.ol_tree.proofs.HeadsFile.{passing-start, passing-item, equation-stands, node-stands}
+use Rattle.ol_tables.specs.Tables.{Each}
+use Rattle.ol_tables.specs.Stands.{Listed, EquationStands, NodeStands, FileStands}
+use Rattle.ol_tables.proofs.HeadsFile.{passing-start, passing-item, equation-stands, node-stands}
 use Rattle.ol_check.specs.Judging.{SlotIs, namesIn, slotEquation, slotEquations}
 use Rattle.ol_check.specs.NodesJudged.{nodeTable, slotNodes}
 use Rattle.ol_check.proofs.EquationLaws.{equation-below, equation-length, equation-held}

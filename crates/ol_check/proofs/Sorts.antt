@@ -1,10 +1,10 @@
 -- Where 6 does not hold, no name is of two sorts.
-use Prim.Native.Nat.{ℕ, zero, suc, _+_, _<_, _≤_}
+use Prim.Native.Nat.{ℕ, zero, suc, _+_, _<_}
 use mathlib.Core.Bool.{Bool, true, false, not, _&&_, _||_}
-use mathlib.Core.List.{List, [], _∷_, _++_, map}
+use mathlib.Core.List.{List, [], _∷_, _++_, map, map-append}
 use mathlib.Core.Logic.{_⊎_, inl, inr, ⊎-elim}
-use mathlib.Core.Option.{Option, none, some}
-use mathlib.Core.Path.{_≡_, refl, sym, ap, subst, _∙_}
+use mathlib.Core.Option.{none}
+use mathlib.Core.Path.{_≡_, refl, sym, ap, _∙_}
 use native.Mathlib.Omega.{arith}
 use lib.ListN.{length, getD}
 use lib.Dec.{eqb}
@@ -12,9 +12,11 @@ use borrow.Author.Tests.{eq-eqb, eqb-true}
 use Rattle.ol_spec.specs.Lists.{member, anyOf, concat}
 use Rattle.ol_spec.specs.Syntax.{Variable, Constant, Node, File, nameOf, constantName, variableNames, noNode}
 use Rattle.ol_spec.specs.Places.{placed, placedEnums, placedConstants, placedNodes, placedNames, placedVariables, enumSize, constantSize, variableSize, nodeSize}
-use Rattle.ol_spec.specs.Admission.{Item, first, firstIf, numbered, variants, constantNames, Sort, variant, constant, variable, Declared, apart, clash, declaredAt, declaredAs}
-use Rattle.ol_spec.specs.Admission.{placedVariableName, placedConstantName, enumDeclares, nodeDeclares, declared, clashes, fault6}
-use Rattle.ol_tree.specs.Tables.{Each, nodeOf}
+use Rattle.ol_spec.specs.Admission.{first, firstIf, numbered, variants, constantNames, Sort, variant, constant, variable, Declared, apart, clash, declaredAs}
+use Rattle.ol_spec.specs.Admission.{placedVariableName, placedConstantName, enumDeclares, nodeDeclares, clashes, fault6}
+use Rattle.ol_tables.specs.Tables.{Each, nodeOf}
+use Rattle.ol_tables.proofs.Forms.{each-join}
+use Rattle.ol_check.proofs.Definitions.{clean-step}
 
 -- variants, constants, variables
 abbrev kindOf : Sort → ℕ
@@ -32,10 +34,6 @@ apart-kinds constant (variable j) h = refl
 apart-kinds (variable i) (variant j) h = refl
 apart-kinds (variable i) constant h = refl
 apart-kinds (variable i) (variable j) h = absurd (h refl)
-
-clean-step : (b : Bool) (p : ℕ) (r : Option ℕ) → firstIf b p r ≡ none → (b ≡ false) × (r ≡ none)
-clean-step true p r e = let z : _≡_ {A = ℕ} 0 1 = cc in absurd (omega arith)
-clean-step false p r e = (refl, e)
 
 -- a declaration of x of a lower kind is among the earlier ones
 abbrev Seen : ℕ → ℕ → List Declared → Type 0
@@ -96,14 +94,6 @@ two-sorts x n a b c ka kb m = later x n b (after a []) (member-seen x n a [] ka 
 
 -- ---- the declarations of a file
 
-each-append : {A : Type 0} (P : A → Type 0) (xs ys : List A) → Each P xs → Each P ys → Each P (xs ++ ys)
-each-append P [] ys h k = k
-each-append P (x ∷ xs) ys h k = (h .0, each-append P xs ys (h .1) k)
-
-map-append : {A B : Type 0} (f : A → B) (xs ys : List A) → map f (xs ++ ys) ≡ map f xs ++ map f ys
-map-append f [] ys = refl
-map-append f (x ∷ xs) ys = ap (λ l. f x ∷ l) (map-append f xs ys)
-
 member-left : (x : ℕ) (a b : List ℕ) → member x a ≡ true → member x (a ++ b) ≡ true
 member-left x [] b m = let z : _≡_ {A = ℕ} 0 1 = cc in absurd (omega arith)
 member-left x (y ∷ a) b m = ⊎-elim (λ t. ap (λ q. q || member x (a ++ b)) t) (λ t. or-right (eqb x y) (member x (a ++ b)) (member-left x a b t)) (or-true (eqb x y) (member x a) m)
@@ -129,7 +119,7 @@ enum-names i at (vs ∷ es) =
 
 enum-kinds : (P : Sort → Type 0) → ((i : ℕ) → P (variant i)) → (i at : ℕ) (es : List (List ℕ)) → Each (λ d. P (d .sort)) (concat (map enumDeclares (numbered i (placed enumSize at es))))
 enum-kinds P h i at [] = tt
-enum-kinds P h i at (vs ∷ es) = each-append (λ d. P (d .sort)) (enumDeclares (i, (at, vs))) _ (as-kind (variant i) P (h i) (placedNames (at + 1) vs)) (enum-kinds P h (suc i) (at + enumSize vs) es)
+enum-kinds P h i at (vs ∷ es) = each-join (λ d. P (d .sort)) (enumDeclares (i, (at, vs))) _ (as-kind (variant i) P (h i) (placedNames (at + 1) vs)) (enum-kinds P h (suc i) (at + enumSize vs) es)
 
 constant-names : (at : ℕ) (cs : List Constant) → map (λ d. d .name) (declaredAs constant (map placedConstantName (placed constantSize at cs))) ≡ map constantName cs
 constant-names at [] = refl
@@ -159,7 +149,7 @@ node-names i at n = three-names (variable i) _ _ _ (n .inputs) (n .outputs) (n .
 
 node-kinds : (i at : ℕ) (ns : List Node) → Each (λ d. kindOf (d .sort) ≡ 2) (concat (map nodeDeclares (numbered i (placed nodeSize at ns))))
 node-kinds i at [] = tt
-node-kinds i at (n ∷ ns) = each-append (λ d. kindOf (d .sort) ≡ 2) (nodeDeclares (i, (at, n))) _ (as-kind (variable i) (λ s. kindOf s ≡ 2) refl (map placedVariableName (placedVariables at n))) (node-kinds (suc i) (at + nodeSize n) ns)
+node-kinds i at (n ∷ ns) = each-join (λ d. kindOf (d .sort) ≡ 2) (nodeDeclares (i, (at, n))) _ (as-kind (variable i) (λ s. kindOf s ≡ 2) refl (map placedVariableName (placedVariables at n))) (node-kinds (suc i) (at + nodeSize n) ns)
 
 node-member : (x i at : ℕ) (ns : List Node) (k : ℕ) → k < length ns → member x (variableNames (getD ns k noNode)) ≡ true → member x (map (λ d. d .name) (concat (map nodeDeclares (numbered i (placed nodeSize at ns))))) ≡ true
 node-member x i at [] k lt m = absurd (omega arith)
@@ -205,7 +195,7 @@ module _ (f : File) (no6 : fault6 f ≡ none) where
   variables-apart k lt x m =
       let here = node-member x 0 _ (f .nodes) k lt m in
       let low : Each (λ d. kindOf (d .sort) < 2) (enumsD ++ constantsD) =
-      each-append (λ d. kindOf (d .sort) < 2) enumsD constantsD (enum-kinds (λ s. kindOf s < 2) (λ i. omega arith) 0 2 (f .enums)) (as-kind constant (λ s. kindOf s < 2) (omega arith) (map placedConstantName (placedConstants f))) in
+      each-join (λ d. kindOf (d .sort) < 2) enumsD constantsD (enum-kinds (λ s. kindOf s < 2) (λ i. omega arith) 0 2 (f .enums)) (as-kind constant (λ s. kindOf s < 2) (omega arith) (map placedConstantName (placedConstants f))) in
       let not-there : member x (map (λ d. d .name) (enumsD ++ constantsD)) ≡ true → ⊥ = λ t. clear here (two-sorts x 2 (enumsD ++ constantsD) nodesD clean low (node-kinds 0 _ (f .nodes)) t) in (
         never-both (member x (constantNames f)) (λ t. not-there (ap (member x) (map-append (λ d. d .name) enumsD constantsD) ∙ member-right x (map (λ d. d .name) enumsD) _ (ap (member x) (constant-names _ (f .constants)) ∙ t))),
         never-both (member x (variants f)) (λ t. not-there (ap (member x) (map-append (λ d. d .name) enumsD constantsD) ∙ member-left x (map (λ d. d .name) enumsD) _ (ap (member x) (enum-names 0 2 (f .enums)) ∙ t))),

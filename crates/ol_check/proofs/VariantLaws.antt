@@ -19,12 +19,12 @@ use Rattle.ol_spec.specs.Admission.{variants}
 use Rattle.ol_spec.proofs.Tests.{T-and}
 use Rattle.ol_spec.proofs.RoundTrip.Parts.{here-inside, here-back}
 use Rattle.ol_spec.proofs.RoundTrip.Items.{names-size}
-use Rattle.ol_tree.specs.Heads.{nameAt}
-use Rattle.ol_tree.specs.Stands.{Names, FileStands}
-use Rattle.ol_tree.specs.Tables.{Each, Tells, Variants}
-use Rattle.ol_tree.proofs.Heads.{here-first, here-name}
-use Rattle.ol_tree.proofs.HeadsFile.{Passing, Item, passing-start, passing-item}
-use Rattle.ol_check.specs.Founds.{Byte}
+use Rattle.ol_tables.specs.Heads.{nameAt}
+use Rattle.ol_tables.specs.Stands.{Names, FileStands}
+use Rattle.ol_tables.specs.Tables.{Each, Tells, Variants}
+use Rattle.ol_tables.proofs.HeadLaws.{here-first, here-name}
+use Rattle.ol_tables.proofs.HeadsFile.{Passing, Item, passing-start, passing-item}
+use Rattle.ol_tables.specs.Heads.{Byte}
 use Rattle.ol_check.specs.VariantTable.{enterAll}
 use Rattle.ol_check.specs.Clashing.{Blank}
 use Rattle.ol_check.proofs.EquationLaws.{NamePassing}

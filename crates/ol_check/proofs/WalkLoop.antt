@@ -3,28 +3,29 @@ use Prim.Native.Nat.{ℕ, _+_, _-_, _≤_, _<_, min}
 use mathlib.Core.Bool.{Bool, true, false, not, _&&_, cond}
 use mathlib.Core.List.{List, [], _∷_, _++_, map}
 use mathlib.Core.Option.{Option, none, some}
-use mathlib.Core.Path.{_≡_, refl, sym, ap, subst, _∙_}
+use mathlib.Core.Path.{_≡_, refl, sym, ap, _∙_}
 use native.Mathlib.Omega.{arith}
 use native.Mathlib.Decide.{decLe}
 use mathlib.Core.Logic.{by-cases}
-use lib.ListN.{length, getD}
+use lib.ListN.{getD}
 use lib.Dec.{ltb, eqb}
 use borrow.Author.Tests.{ne-eqb, eqb-false, ltb-true}
-use Rattle.ol_spec.specs.Lists.{orElse, sum}
-use Rattle.ol_spec.specs.Syntax.{Expr, Exprs, nil, cons, count}
+use Rattle.ol_spec.proofs.Walks.{first-append}
+use Rattle.ol_spec.specs.Lists.{sum}
+use Rattle.ol_spec.specs.Syntax.{Exprs, nil, cons, count}
 use Rattle.ol_spec.specs.Places.{exprsSize, collectAll}
-use Rattle.ol_spec.specs.Admission.{Item, first, firstIf}
-use Rattle.ol_tree.specs.Tables.{rowAt}
-use Rattle.ol_tree.specs.Heads.{nameAt, partsOf, headSize, joined, Standing}
-use Rattle.ol_tree.proofs.Heads.{walk-head, next-told}
+use Rattle.ol_spec.specs.Admission.{Item}
+use Rattle.ol_tables.specs.Tables.{rowAt}
+use Rattle.ol_tables.specs.Heads.{nameAt, partsOf, joined, Standing}
+use Rattle.ol_tables.proofs.HeadLaws.{walk-head, next-told}
 use Rattle.ol_check.specs.Founds.{placeOf, earliest}
-use Rattle.ol_check.specs.Walks.{HeadOf}
+use Rattle.ol_tables.specs.Walks.{HeadOf}
 use Rattle.ol_check.specs.Records.{siteB}
 use Rattle.ol_check.specs.Judging.{headAt, heads, plainB, unseenB, unseenHead, slotPut, slotHead, slotHeads, badB, outputsB, calledB, calledHead, arityB, severalHead, foundIn, Walked}
 use Rattle.ol_check.specs.declared.Found.{Found}
-use Rattle.ol_check.specs.declared.heads.Parts.{Parts}
-use Rattle.ol_check.specs.declared.judge.Faults.{Faults}
-use Rattle.ol_check.proofs.Walking.{Going, going-start, Turn, going-turn, going-on, going-done, going-in}
+use Rattle.ol_tables.specs.declared.heads.Parts.{Parts}
+use Rattle.ol_check.specs.declared.Faults.{Faults}
+use Rattle.ol_tables.proofs.Walking.{Going, going-start, Turn, going-turn, going-on, going-done}
 
 -- an item is judged
 pub found-step : (o : Option ℕ) (b : Bool) (q : ℕ) (is : List Item) → foundIn (earliest o b q) is ≡ foundIn o ((q, b) ∷ is)
@@ -35,6 +36,10 @@ found-step (some p) b q is = refl
 pub found-none : (o : Option ℕ) → foundIn o [] ≡ o
 found-none none = refl
 found-none (some p) = refl
+
+pub found-append : (o : Option ℕ) (is js : List Item) → foundIn (foundIn o is) js ≡ foundIn o (is ++ js)
+found-append none is js = sym (first-append is js)
+found-append (some p) is js = refl
 
 earliest-not : (o : Option ℕ) (q : ℕ) → o ≡ earliest o false q
 earliest-not none q = refl
@@ -57,7 +62,7 @@ module _ {s : List ℕ} {enums at : ℕ} {es : Exprs} {left next : ℕ} (g : Goi
       let e = t .expr in
       let o = t .others in
       ap (heads next) (t .are) ∙ walk-head headAt next e o
-      ∙ ap (λ n. next ∷ heads n (joined (partsOf e) o)) (sym (h .next ∙ next-told s next e (t .headed .head)))
+      ∙ ap (λ n. next ∷ heads n (joined (partsOf e) o)) (sym (h .next ∙ next-told s next e (t .headed .inside) (t .headed .head)))
 
 pub heads-none : (at : ℕ) (es : Exprs) → count es ≡ 0 → heads at es ≡ []
 unfolding collectAll

@@ -9,10 +9,10 @@ use lib.Dec.{ltb, leb, eqb}
 use Rattle.ol_spec.specs.Lists.{orElse, allOf}
 use Rattle.ol_spec.specs.Syntax.{File}
 use Rattle.ol_spec.specs.Admission.{Sort, variant, constant, variable, Declared, firstIf, declared, fault6}
-use Rattle.ol_tree.specs.At.{fileAt}
-use Rattle.ol_tree.specs.Heads.{nameAt}
-use Rattle.ol_tree.specs.Stands.{FileReads}
-use Rattle.ol_tree.specs.Tables.{Each, nodeOf}
+use Rattle.ol_tables.specs.At.{fileAt}
+use Rattle.ol_tables.specs.Heads.{nameAt}
+use Rattle.ol_tables.specs.Stands.{FileReads}
+use Rattle.ol_tables.specs.Tables.{Each, nodeOf}
 use Rattle.ol_check.specs.Founds.{placeOf, earliest}
 use Rattle.ol_check.specs.RowsDone.{NodeRow, SectionsAre}
 use Rattle.ol_check.specs.NodesJudged.{placeIn}

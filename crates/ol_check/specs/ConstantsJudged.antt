@@ -11,12 +11,12 @@ use Rattle.ol_spec.specs.Encode.{constantBytes}
 use Rattle.ol_spec.specs.Limits.{base}
 use Rattle.ol_spec.specs.Within.{constantFits}
 use Rattle.ol_spec.specs.Admission.{valuePlace, constantUses, inConstant, callsWhere, shapeItem, calleeIn}
-use Rattle.ol_tree.specs.Tables.{Each}
-use Rattle.ol_tree.specs.Stands.{Listed}
+use Rattle.ol_tables.specs.Tables.{Each}
+use Rattle.ol_tables.specs.Stands.{Listed}
 use Rattle.ol_check.specs.Founds.{placeOf}
 use Rattle.ol_check.specs.Entries.{declared, declareAll, constantEntries}
 use Rattle.ol_check.specs.Judging.{heads, slotHeads, outputsB, foundIn, Knows, Walked}
-use Rattle.ol_check.specs.declared.judge.Faults.{Faults}
+use Rattle.ol_check.specs.declared.Faults.{Faults}
 
 -- the walk at a place
 abbrev pub walkAt : Faults → ℕ → Faults

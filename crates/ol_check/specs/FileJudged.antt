@@ -1,22 +1,22 @@
 -- Faults 7 to 10 of a whole file, the slots of its names, and the lengths of its records.
 use Prim.Native.Nat.{ℕ, _<_}
-use mathlib.Core.List.{List, [], map}
+use mathlib.Core.List.{List, map}
 use mathlib.Core.Option.{none}
 use mathlib.Core.Path.{_≡_}
 use lib.ListN.{length, getD}
 use Rattle.ol_spec.specs.Syntax.{File}
 use Rattle.ol_spec.specs.Places.{placedConstants, placedNodes}
 use Rattle.ol_spec.specs.Admission.{variants, fault7, fault8, fault9, fault10}
-use Rattle.ol_tree.specs.At.{fileAt}
-use Rattle.ol_tree.specs.Tables.{nodeOf, Each}
-use Rattle.ol_tree.specs.Stands.{FileReads}
+use Rattle.ol_tables.specs.At.{fileAt}
+use Rattle.ol_tables.specs.Tables.{nodeOf, Each}
+use Rattle.ol_tables.specs.Stands.{FileReads}
 use Rattle.ol_check.specs.Founds.{placeOf}
 use Rattle.ol_check.specs.RowsDone.{NodeRow, SectionsAre}
 use Rattle.ol_check.specs.Entries.{declareAll, variantEntry, constantEntries}
 use Rattle.ol_check.specs.NodesJudged.{placeIn, AllCovered, slotNodes}
 use Rattle.ol_check.specs.ConstantsJudged.{slotConstants}
 use Rattle.ol_check.specs.Sizes.{SizesDone, MainSized}
-use Rattle.ol_check.specs.declared.judge.Faults.{Faults}
+use Rattle.ol_check.specs.declared.Faults.{Faults}
 use Rattle.ol_check.specs.declared.rows.Sections.{Sections}
 
 -- the file reads without fault, with the rows of its nodes and its sections; the table by name is empty

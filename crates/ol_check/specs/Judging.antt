@@ -1,22 +1,21 @@
 -- Faults 7 to 10 at the names and the heads of expressions, as the bytes and the tables tell them.
-use Prim.Native.Nat.{ℕ, _+_, _-_, _*_, _≤_, _<_, min}
-use mathlib.Core.Bool.{Bool, true, false, not, _&&_, _||_, cond}
+use Prim.Native.Nat.{ℕ, _+_, _-_, _*_, _≤_, min}
+use mathlib.Core.Bool.{Bool, not, _&&_, _||_, cond}
 use mathlib.Core.List.{List, [], _∷_, _++_, map}
-use mathlib.Core.Option.{Option, none, some}
+use mathlib.Core.Option.{Option}
 use mathlib.Core.Path.{_≡_}
 use lib.ListN.{length, getD, set}
 use lib.Dec.{ltb, leb, eqb}
 use Rattle.ol_spec.specs.Lists.{orElse, member, concat, sum}
-use Rattle.ol_spec.specs.Syntax.{Expr, Exprs, nil, cons, count, Equation, File}
+use Rattle.ol_spec.specs.Syntax.{Expr, Exprs, nil, cons, Equation, File}
 use Rattle.ol_spec.specs.Places.{collectAll, exprsSize, exprSize, equationSize, placed, placedNames, rhsPlace}
 use Rattle.ol_spec.specs.Admission.{Item, first, calleeIn, used, equationUses, inEquation, callsWhere, equationShape, definedBy}
-use Rattle.ol_tree.specs.Tables.{rowAt, Each}
-use Rattle.ol_tree.specs.Heads.{nameAt, partsOf, headSize, joined, Standing}
+use Rattle.ol_tables.specs.Tables.{rowAt}
+use Rattle.ol_tables.specs.Heads.{nameAt, partsOf, headSize, joined}
 use Rattle.ol_spec.specs.Step.{equationSites}
 use Rattle.ol_check.specs.Founds.{placeOf}
 use Rattle.ol_check.specs.Records.{siteB, calleeB}
-use Rattle.ol_check.specs.declared.Found.{Found}
-use Rattle.ol_check.specs.declared.judge.Faults.{Faults}
+use Rattle.ol_check.specs.declared.Faults.{Faults}
 
 -- ---- heads
 

@@ -1,5 +1,4 @@
 pub mod Founds
-pub mod Walks
 pub mod RowsDone
 pub mod Records
 pub mod Judging

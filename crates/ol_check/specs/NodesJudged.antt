@@ -3,20 +3,20 @@ use Prim.Native.Nat.{ℕ, _<_, _≤_, min}
 use mathlib.Core.List.{List, [], _∷_, map}
 use mathlib.Core.Path.{_≡_}
 use lib.ListN.{length, replicate}
-use Rattle.ol_spec.specs.Syntax.{Variable, Node, File, variables}
+use Rattle.ol_spec.specs.Syntax.{Node, File, variables}
 use Rattle.ol_spec.specs.Places.{placedNodes, placedEquations}
 use Rattle.ol_spec.specs.Lists.{concat}
 use Rattle.ol_spec.specs.Admission.{Item, definedBy, nodeUses, nodeCalls, nodeShape, numbered}
-use Rattle.ol_tree.specs.At.{fileAt}
-use Rattle.ol_tree.specs.Tables.{nodeOf, Each}
-use Rattle.ol_tree.specs.Tables as Tables
-use Rattle.ol_tree.specs.Stands.{FileReads}
+use Rattle.ol_tables.specs.At.{fileAt}
+use Rattle.ol_tables.specs.Tables.{nodeOf, Each}
+use Rattle.ol_tables.specs.Tables as Tables
+use Rattle.ol_tables.specs.Stands.{FileReads}
 use Rattle.ol_check.specs.Founds.{placeOf}
 use Rattle.ol_check.specs.RowsDone.{NodeRow}
 use Rattle.ol_check.specs.Records.{instanceB}
 use Rattle.ol_check.specs.Entries.{declareAll, variableEntries}
 use Rattle.ol_check.specs.Judging.{foundIn, slotEquations, againB}
-use Rattle.ol_check.specs.declared.judge.Faults.{Faults}
+use Rattle.ol_check.specs.declared.Faults.{Faults}
 
 -- where node k stands
 abbrev pub placeIn : File → ℕ → ℕ

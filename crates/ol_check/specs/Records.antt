@@ -7,7 +7,7 @@ use lib.Dec.{ltb, eqb}
 use Rattle.ol_spec.specs.Lists.{sum}
 use Rattle.ol_spec.specs.Syntax.{Node}
 use Rattle.ol_spec.specs.Step.{sites, ownSize}
-use Rattle.ol_tree.specs.Tables.{rowAt}
+use Rattle.ol_tables.specs.Tables.{rowAt}
 
 -- the bytes of the record of the expression at p, if it is a call of one of so many nodes
 abbrev pub siteB : List ℕ → List ℕ → ℕ → ℕ → ℕ

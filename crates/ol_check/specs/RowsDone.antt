@@ -9,9 +9,9 @@ use Rattle.ol_spec.specs.Places.{enumSize, variableSize, equationsStart, placed
 use Rattle.ol_spec.specs.Encode.{kindCode, nameBytes, sectionBytes, variableBytes}
 use Rattle.ol_spec.specs.Limits.{base}
 use Rattle.ol_spec.specs.Within.{enumFits, variableFits}
-use Rattle.ol_tree.specs.Tables.{tyCode, tyEnum, rowAt, firstAt, placeOf, nodeOf}
-use Rattle.ol_tree.specs.Heads.{tyEnumAt}
-use Rattle.ol_tree.specs.Stands.{Listed, NodeStands, FileStands}
+use Rattle.ol_tables.specs.Tables.{tyCode, tyEnum, rowAt, firstAt, placeOf, nodeOf}
+use Rattle.ol_tables.specs.Heads.{tyEnumAt}
+use Rattle.ol_tables.specs.Stands.{Listed, NodeStands, FileStands}
 use Rattle.ol_check.specs.declared.rows.Sections.{Sections}
 
 -- ---- enums

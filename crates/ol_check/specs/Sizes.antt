@@ -1,17 +1,15 @@
 -- The lengths of the nodes' records, and of an instance of the last node.
-use Prim.Native.Nat.{ℕ, _+_, _≤_, _<_, min}
+use Prim.Native.Nat.{ℕ, _≤_, _<_, min}
 use mathlib.Core.List.{List}
 use mathlib.Core.Option.{none}
 use mathlib.Core.Path.{_≡_}
 use lib.ListN.{length, getD}
 use Rattle.ol_spec.specs.Syntax.{File, main}
-use Rattle.ol_spec.specs.Places.{constantsStart}
 use Rattle.ol_spec.specs.Step.{instanceSize, sizesAt}
 use Rattle.ol_spec.specs.Admission.{fault9}
-use Rattle.ol_tree.specs.At.{fileAt}
-use Rattle.ol_tree.specs.Tables.{rowAt, sizeCap, siteBytes, nodeOf}
+use Rattle.ol_tables.specs.Tables.{rowAt, sizeCap, siteBytes, nodeOf}
 use Rattle.ol_check.specs.RowsDone.{NodeRow}
-use Rattle.ol_check.specs.NodesJudged.{placeIn, RowsReady}
+use Rattle.ol_check.specs.NodesJudged.{placeIn}
 
 -- the lengths of the records are in the rows
 abbrev pub SizesIn : File → List ℕ → Type 0
@@ -31,9 +29,3 @@ MainSized f n = n ≡ min (instanceSize (sizesAt (length (f .nodes)) (f .nodes))
 pub record NodesSized (f : File) (rows rows′ : List ℕ) (n : ℕ) : Type 0 where
   pub done : SizesDone f rows rows′
   pub main : 1 ≤ length (f .nodes) → fault9 f ≡ none → MainSized f n
-
--- the file reads without fault, the rows are its nodes', and the count of its constants stands at `constants`
-pub record StateReady (s rows : List ℕ) (nodes constants : ℕ) : Type 0 where
-  pub ready : RowsReady s rows nodes
-  pub some-node : 1 ≤ nodes
-  pub counted : constants + 1 ≡ constantsStart (fileAt s)

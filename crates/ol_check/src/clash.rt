@@ -1,14 +1,16 @@
 // Fault 6, by a table that says of each name which sort declared it last: 0 none, an enum's number and 1, 17 a constant, a node's number and 18.
 // The same walk tells whether every declared name is below 1,024.
 use super::Found;
-use super::bytes::byte;
-use super::bytes::earlier;
-use super::bytes::entry;
-use super::bytes::name;
-use super::bytes::put_byte;
-use super::heads::skip;
-use super::heads::ty_size;
+use super::earlier;
 use super::rows::Sections;
+use ol_tables::bytes::byte;
+use ol_tables::bytes::entry;
+use ol_tables::bytes::name;
+use ol_tables::bytes::put_byte;
+use ol_tables::heads::skip;
+use ol_tables::heads::ty_size;
+use ol_tables::tables::COLUMNS;
+use ol_tables::tables::PLACE;
 ghost use mathlib.Core.Path.{_≡_};
 ghost use mathlib.Core.Bool.{true, _&&_};
 ghost use mathlib.Core.List.{List, map, [], _∷_};
@@ -21,14 +23,13 @@ ghost use Rattle.ol_spec.specs.Places.{placed, placedNames, placedNodes, enumSi
 ghost use Rattle.ol_spec.specs.Encode.{constantBytes};
 ghost use Rattle.ol_spec.specs.Limits.{base};
 ghost use Rattle.ol_spec.specs.Within.{constantFits};
-ghost use Rattle.ol_spec.specs.Admission.{Sort, constant, declared, declaredAs, declaredAt, placedVariableName, placedConstantName, enumDeclares, nodeDeclares, numbered, fault6};
-ghost use Rattle.ol_tree.specs.At.{fileAt};
-ghost use Rattle.ol_tree.specs.Stands.{Names, Variables, VariableStands, ConstantStands, Listed};
-ghost use Rattle.ol_tree.specs.Tables.{Each, nodeOf};
-ghost use Rattle.ol_check.specs.Founds.{placeOf};
+ghost use Rattle.ol_spec.specs.Admission.{Sort, constant, declaredAs, declaredAt, placedVariableName, placedConstantName, enumDeclares, nodeDeclares, numbered};
+ghost use Rattle.ol_tables.specs.At.{fileAt};
+ghost use Rattle.ol_tables.specs.Stands.{Names, Variables, VariableStands, ConstantStands, Listed};
+ghost use Rattle.ol_tables.specs.Tables.{nodeOf};
 ghost use Rattle.ol_check.specs.RowsDone.{Enums};
 ghost use Rattle.ol_check.specs.NodesJudged.{placeIn, NodeReady, RowsReady};
-ghost use Rattle.ol_check.specs.Clashing.{sortCode, meets, Walks, Passes, NameSorted, DeclaredReady, Blank, FileSorted};
+ghost use Rattle.ol_check.specs.Clashing.{sortCode, meets, Walks, Passes, NameSorted, DeclaredReady, FileSorted};
 
 // A walk over declarations: the first fault so far, whether every name so far is below 1,024, and
 // where the walk stands.
@@ -206,7 +207,7 @@ fn sort_node(
     requires { ⌜ NodeReady (now file) (now rows) nodes k ⌝ }
     ensures { λ r. ⌜ Walks (nodeDeclares (k, (placeIn (fileAt (now (file .entry))) k, nodeOf (fileAt (now (file .entry))) k))) (now (sorts .entry)) (now (sorts .exit)) g r ⌝ }
 {
-    let at = entry(rows, k * 8 + 7);
+    let at = entry(rows, k * COLUMNS + PLACE);
     let found = g.found;
     let low = g.low;
     let o = sort_variables(
@@ -268,23 +269,4 @@ pub fn sort_file(file: &[u8], rows: &[usize], sections: Sections, sorts: &mut [u
         },
     );
     sort_nodes(file, sorts, rows, byte(file, n), k)
-}
-
-// Fault 6. The table is 0 everywhere, and longer than every declared name.
-pub fn fault6(file: &[u8], rows: &[usize], sections: Sections, sorts: &mut [u8]) -> Found
-    requires { ⌜ DeclaredReady (now file) (now rows) sections × Blank (fileAt (now file)) (now sorts) ⌝ }
-    ensures { λ r. ⌜ placeOf r ≡ fault6 (fileAt (now (file .entry))) ⌝ }
-{
-    let r = sort_file(file, rows, sections, sorts);
-    r.found
-}
-
-// Whether every declared name is below 1,024.
-pub fn is_low(file: &[u8], rows: &[usize], sections: Sections) -> bool
-    requires { ⌜ DeclaredReady (now file) (now rows) sections ⌝ }
-    ensures { λ r. ⌜ (r ≡ true → Each (λ d. d .name < 1024) (declared (fileAt (now (file .entry))))) ⌝ }
-{
-    let mut none = [0u8; 1];
-    let r = sort_file(file, rows, sections, &mut none);
-    r.low
 }

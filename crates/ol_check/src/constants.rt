@@ -1,15 +1,15 @@
 // Faults 7, 9 and 10 of the constants: each sees the variants and the constants before it.
-use super::bytes::name;
-use super::heads::ty_size;
-use super::judge::Faults;
+use super::Faults;
 use super::judge::walk;
 use super::names::declare;
+use ol_tables::bytes::name;
+use ol_tables::heads::ty_size;
 ghost use mathlib.Core.Path.{_≡_};
 ghost use mathlib.Core.List.{List};
 ghost use Prim.Native.Nat.{ℕ, _≤_, _<_};
 ghost use lib.ListN.{length};
 ghost use Rattle.ol_spec.specs.Syntax.{Constant, File};
-ghost use Rattle.ol_tree.specs.Stands.{ConstantStands};
+ghost use Rattle.ol_tables.specs.Stands.{ConstantStands};
 ghost use Rattle.ol_check.specs.ConstantsJudged.{ConstantJudged, ConstantsJudged, ConstantsReady};
 
 // Constant number `i`, where the walk stands: its value is judged, then its name entered.
@@ -53,7 +53,7 @@ fn constant(
 }
 
 // So many constants from where the walk stands.
-pub fn judge_constants(
+pub(crate) fn judge_constants(
     file: &[u8],
     names: &mut [u8],
     slots: &mut [u8],

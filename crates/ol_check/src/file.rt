@@ -1,14 +1,14 @@
 // Faults 7 to 10 of a whole file, the slots of its names, and the lengths of its records.
+use super::Faults;
 use super::Found;
-use super::bytes::byte;
 use super::constants::judge_constants;
-use super::judge::Faults;
 use super::names::declare_enums;
 use super::nodes::judge_nodes;
 use super::rows::Sections;
+use ol_tables::bytes::byte;
 ghost use mathlib.Core.Path.{_≡_};
 ghost use lib.ListN.{length};
-ghost use Rattle.ol_tree.specs.At.{fileAt};
+ghost use Rattle.ol_tables.specs.At.{fileAt};
 ghost use Rattle.ol_check.specs.FileJudged.{FileReady, NamesWithin, FileJudged};
 
 // Faults 7 to 10 of a file that reads without fault, and the bytes of an instance of its last node.

@@ -1,35 +1,27 @@
 // Faults 7 to 10 of every expression and equation, the slots of the names, and the records of the call sites.
-use super::Found;
-use super::bytes::byte;
-use super::bytes::earlier;
-use super::bytes::entry;
-use super::bytes::name;
-use super::bytes::put_byte;
-use super::heads::head;
+use super::Faults;
+use super::earlier;
 use super::size::capped;
 use super::size::site;
+use ol_tables::bytes::byte;
+use ol_tables::bytes::entry;
+use ol_tables::bytes::name;
+use ol_tables::bytes::put_byte;
+use ol_tables::heads::head;
+use ol_tables::tables::COLUMNS;
+use ol_tables::tables::INPUTS;
+use ol_tables::tables::OUTPUTS;
 ghost use mathlib.Core.Path.{_≡_};
 ghost use Prim.Native.Nat.{ℕ, _≤_, _<_, _+_, _*_};
-ghost use lib.ListN.{getD, length, set};
+ghost use lib.ListN.{length};
 ghost use Rattle.ol_spec.specs.Syntax.{Exprs, count};
-ghost use Rattle.ol_tree.specs.Heads.{nameAt, Standing};
+ghost use Rattle.ol_tables.specs.Heads.{Standing};
 ghost use Rattle.ol_check.specs.Judging.{unseenB, plainB, slotOfEntry, slotPut, slotHead, mayB, badB, calledB, outputsB, arityB, Walked};
 ghost use Rattle.ol_check.specs.Judging.{takenB, NamesDefined, loneB, otherB, RootJudged, Context, EquationJudged, EquationsJudged};
 ghost use mathlib.Core.List.{List};
 ghost use mathlib.Core.Bool.{Bool};
 ghost use Rattle.ol_spec.specs.Syntax.{Expr, nil, cons, Equation, File};
-ghost use Rattle.ol_tree.specs.Stands.{Names, EquationStands, Equations};
-
-// The first fault of each number so far, the bytes of the records of a node's call sites so far, and
-// where the walk stands.
-pub struct Faults {
-    pub unseen: Found,
-    pub again: Found,
-    pub called: Found,
-    pub shaped: Found,
-    pub size: usize,
-    pub next: usize,
-}
+ghost use Rattle.ol_tables.specs.Stands.{Names, EquationStands, Equations};
 
 // A name's slot, by its entry.
 fn slot(e: usize) -> u8
@@ -102,8 +94,8 @@ fn bad_call(rows: &[usize], node: usize, c: usize, arguments: usize) -> bool
     ensures { λ r. ⌜ r ≡ badB (now (rows .entry)) node c arguments ⌝ }
 {
     if c < node {
-        if may_call(entry(rows, node * 8), entry(rows, c * 8)) {
-            arguments != entry(rows, c * 8 + 2)
+        if may_call(entry(rows, node * COLUMNS), entry(rows, c * COLUMNS)) {
+            arguments != entry(rows, c * COLUMNS + INPUTS)
         } else {
             true
         }
@@ -144,11 +136,15 @@ fn outputs(rows: &[usize], nodes: usize, c: usize) -> usize
     requires { ⌜ c < 256 ⌝ }
     ensures { λ r. ⌜ r ≡ outputsB (now (rows .entry)) nodes c ⌝ }
 {
-    if c < nodes { entry(rows, c * 8 + 3) } else { 0 }
+    if c < nodes {
+        entry(rows, c * COLUMNS + OUTPUTS)
+    } else {
+        0
+    }
 }
 
 // So many expressions of node `node`, one after the other from where the walk stands.
-pub fn walk(
+pub(crate) fn walk(
     file: &[u8],
     names: &[u8],
     slots: &mut [u8],
@@ -363,7 +359,7 @@ fn equation(
 }
 
 // So many equations of a node of so many inputs, from where the walk stands.
-pub fn equations(
+pub(crate) fn equations(
     file: &[u8],
     names: &[u8],
     slots: &mut [u8],

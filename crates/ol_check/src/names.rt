@@ -1,21 +1,21 @@
 // The table by name: entry 0 for none, a variable's index and 1, a constant's index and 113, 255 for a variant. The first entry of a name stays.
-use super::bytes::byte;
-use super::bytes::name;
-use super::bytes::put_byte;
-use super::heads::ty_size;
 use super::rows::names_end;
+use ol_tables::bytes::byte;
+use ol_tables::bytes::name;
+use ol_tables::bytes::put_byte;
+use ol_tables::heads::ty_size;
 ghost use mathlib.Core.Path.{_≡_};
 ghost use mathlib.Core.List.{List, map};
 ghost use Prim.Native.Nat.{ℕ, _≤_, _<_, _+_, _*_};
 ghost use lib.ListN.{length};
 ghost use Rattle.ol_spec.specs.Syntax.{Variable};
-ghost use Rattle.ol_tree.specs.Stands.{Names, Variables};
+ghost use Rattle.ol_tables.specs.Stands.{Names, Variables};
 ghost use Rattle.ol_check.specs.Entries.{declared, forgot, declareAll, variantEntry, VariablesEntered, VariablesForgotten};
 ghost use Rattle.ol_spec.specs.Lists.{concat};
 ghost use Rattle.ol_check.specs.RowsDone.{Enums};
 
 // Enters a name, unless it has an entry.
-pub fn declare(names: &mut [u8], x: usize, e: u8)
+pub(crate) fn declare(names: &mut [u8], x: usize, e: u8)
     ensures { λ r. ⌜ now (names .exit) ≡ declared (now (names .entry)) x e ⌝ }
 {
     if byte(names, x) == 0 {
@@ -33,7 +33,7 @@ fn forget(names: &mut [u8], x: usize)
 }
 
 // Enters so many variables from `at` on, the first as number `first`; where they end is answered.
-pub fn declare_variables(
+pub(crate) fn declare_variables(
     file: &[u8],
     names: &mut [u8],
     first: usize,
@@ -54,7 +54,7 @@ pub fn declare_variables(
 }
 
 // Takes the entries of so many variables from `at` on back; where they end is answered.
-pub fn forget_variables(file: &[u8], names: &mut [u8], count: usize, at: usize) -> usize
+pub(crate) fn forget_variables(file: &[u8], names: &mut [u8], count: usize, at: usize) -> usize
     requires { ⌜ (count ≤ 112) × (at ≤ 40000) ⌝ }
     ensures { λ r. ⌜ (r ≤ at + 4 * count) × ((enums : ℕ) (vs : List Variable) → length vs ≡ count → Variables (now (file .entry)) enums at vs → VariablesForgotten vs (now (names .entry)) (now (names .exit)) at r) ⌝ }
 {
@@ -83,7 +83,7 @@ fn declare_variants(file: &[u8], names: &mut [u8], count: usize, at: usize)
 }
 
 // Enters the variants of so many enums from `at` on.
-pub fn declare_enums(file: &[u8], names: &mut [u8], count: usize, at: usize)
+pub(crate) fn declare_enums(file: &[u8], names: &mut [u8], count: usize, at: usize)
     requires { ⌜ length (now file) ≤ 32768 ⌝ }
     ensures { λ r. ⌜ ((es : List (List ℕ)) → length es ≡ count → Enums (now (file .entry)) at es → now (names .exit) ≡ declareAll (now (names .entry)) (map variantEntry (concat es))) ⌝ }
 {

@@ -1,20 +1,28 @@
 // Faults 7 to 10 of the nodes, and the lengths of their records: a node's variables are entered, its equations judged, and its variables taken back.
-use super::bytes::byte;
-use super::bytes::entry;
-use super::bytes::put;
-use super::judge::Faults;
+use super::Faults;
 use super::judge::equations;
 use super::names::declare_variables;
 use super::names::forget_variables;
 use super::size::record_size;
+use ol_tables::bytes::byte;
+use ol_tables::bytes::entry;
+use ol_tables::bytes::put;
+use ol_tables::tables::COLUMNS;
+use ol_tables::tables::COUNT;
+use ol_tables::tables::EQUATIONS;
+use ol_tables::tables::INPUTS;
+use ol_tables::tables::OUTPUTS;
+use ol_tables::tables::PLACE;
+use ol_tables::tables::SIZE;
+use ol_tables::tables::VARIABLES;
 ghost use mathlib.Core.Path.{_≡_};
 ghost use mathlib.Core.List.{List, map};
-ghost use Prim.Native.Nat.{ℕ, _≤_, _<_, _+_, _*_};
+ghost use Prim.Native.Nat.{ℕ, _<_, _+_, _*_};
 ghost use lib.ListN.{length, set};
 ghost use Rattle.ol_spec.specs.Syntax.{variables, nameOf};
-ghost use Rattle.ol_tree.specs.At.{fileAt};
-ghost use Rattle.ol_tree.specs.Tables.{nodeOf, rowAt};
-ghost use Rattle.ol_check.specs.Entries.{declareAll, forgetAll, variableEntries, Global};
+ghost use Rattle.ol_tables.specs.At.{fileAt};
+ghost use Rattle.ol_tables.specs.Tables.{nodeOf, rowAt};
+ghost use Rattle.ol_check.specs.Entries.{forgetAll, Global};
 ghost use Rattle.ol_check.specs.Judging.{Knows};
 ghost use Rattle.ol_check.specs.NodesJudged.{NodeReady, nodeTable, Covered, NodeJudged, RowsReady, AllCovered, NodesJudged};
 ghost use Rattle.ol_check.specs.Records.{recordBy};
@@ -25,9 +33,9 @@ fn declare_node(file: &[u8], names: &mut [u8], rows: &[usize], nodes: usize, k: 
     requires { ⌜ NodeReady (now file) (now rows) nodes k ⌝ }
     ensures { λ r. ⌜ now (names .exit) ≡ nodeTable (now (names .entry)) (nodeOf (fileAt (now (file .entry))) k) ⌝ }
 {
-    let at = entry(rows, k * 8 + 7);
-    let inputs = entry(rows, k * 8 + 2);
-    let outputs = entry(rows, k * 8 + 3);
+    let at = entry(rows, k * COLUMNS + PLACE);
+    let inputs = entry(rows, k * COLUMNS + INPUTS);
+    let outputs = entry(rows, k * COLUMNS + OUTPUTS);
     let o = declare_variables(file, names, 0, inputs, at + 2);
     let l = declare_variables(file, names, inputs, outputs, o + 1);
     let locals = byte(file, l);
@@ -39,9 +47,9 @@ fn forget_node(file: &[u8], names: &mut [u8], rows: &[usize], nodes: usize, k: u
     requires { ⌜ NodeReady (now file) (now rows) nodes k ⌝ }
     ensures { λ r. ⌜ now (names .exit) ≡ forgetAll (now (names .entry)) (map nameOf (variables (nodeOf (fileAt (now (file .entry))) k))) ⌝ }
 {
-    let at = entry(rows, k * 8 + 7);
-    let inputs = entry(rows, k * 8 + 2);
-    let outputs = entry(rows, k * 8 + 3);
+    let at = entry(rows, k * COLUMNS + PLACE);
+    let inputs = entry(rows, k * COLUMNS + INPUTS);
+    let outputs = entry(rows, k * COLUMNS + OUTPUTS);
     let o = forget_variables(file, names, inputs, at + 2);
     let l = forget_variables(file, names, outputs, o + 1);
     let locals = byte(file, l);
@@ -75,25 +83,25 @@ fn node(
         rows,
         nodes,
         k,
-        entry(rows, k * 8 + 2),
-        entry(rows, k * 8 + 5),
+        entry(rows, k * COLUMNS + INPUTS),
+        entry(rows, k * COLUMNS + COUNT),
         Faults {
             unseen,
             again,
             called,
             shaped,
-            size: 1 + 9 * entry(rows, k * 8 + 4),
-            next: entry(rows, k * 8 + 1),
+            size: 1 + 9 * entry(rows, k * COLUMNS + VARIABLES),
+            next: entry(rows, k * COLUMNS + EQUATIONS),
         },
     );
     forget_node(file, names, rows, nodes, k);
-    let size = record_size(entry(rows, k * 8), r.size);
-    put(rows, k * 8 + 6, size);
+    let size = record_size(entry(rows, k * COLUMNS), r.size);
+    put(rows, k * COLUMNS + SIZE, size);
     r
 }
 
 // Judges all nodes, and stores the lengths of their records; that of an instance of the last node is answered.
-pub fn judge_nodes(
+pub(crate) fn judge_nodes(
     file: &[u8],
     names: &mut [u8],
     slots: &mut [u8],

@@ -1,20 +1,22 @@
 // The rows of the nodes, the first variants, and the types of the variables.
-use super::bytes::byte;
-use super::bytes::entry;
-use super::bytes::name;
-use super::bytes::put;
-use super::bytes::put_byte;
-use super::heads::ty_size;
+use ol_tables::bytes::byte;
+use ol_tables::bytes::entry;
+use ol_tables::bytes::name;
+use ol_tables::bytes::put;
+use ol_tables::bytes::put_byte;
+use ol_tables::heads::ty_size;
+use ol_tables::tables::COLUMNS;
+use ol_tables::tables::MOST_VARIABLES;
 ghost use mathlib.Core.Path.{_≡_};
 ghost use mathlib.Core.List.{[], _∷_};
 ghost use Prim.Native.Nat.{_≤_, _<_, _+_, _*_};
 ghost use lib.ListN.{getD, length};
 ghost use Rattle.ol_check.specs.RowsDone.{EnumsDone, typeSet, VariablesDone, putAll, NodeDone, PlacesAre, NodesDone, TablesDone};
-ghost use Rattle.ol_tree.specs.At.{fileAt};
-ghost use Rattle.ol_tree.specs.Stands.{FileReads};
+ghost use Rattle.ol_tables.specs.At.{fileAt};
+ghost use Rattle.ol_tables.specs.Stands.{FileReads};
 
 // Where the section of names at `at` ends.
-pub fn names_end(file: &[u8], at: usize) -> usize
+pub(crate) fn names_end(file: &[u8], at: usize) -> usize
     requires { ⌜ at < length (now file) ⌝ }
     ensures { λ r. ⌜ r ≡ at + 1 + 2 * getD (now (file .entry)) at 0 ⌝ }
 {
@@ -106,14 +108,20 @@ fn node_row(file: &[u8], rows: &mut [usize], types: &mut [u8], k: usize, at: usi
         return;
     }
     let inputs = byte(file, at + 1);
-    let o = variable_types(file, types, k * 112, inputs, at + 2);
+    let o = variable_types(file, types, k * MOST_VARIABLES, inputs, at + 2);
     let outputs = byte(file, o);
-    let l = variable_types(file, types, k * 112 + inputs, outputs, o + 1);
+    let l = variable_types(file, types, k * MOST_VARIABLES + inputs, outputs, o + 1);
     let locals = byte(file, l);
-    let q = variable_types(file, types, k * 112 + inputs + outputs, locals, l + 1);
+    let q = variable_types(
+        file,
+        types,
+        k * MOST_VARIABLES + inputs + outputs,
+        locals,
+        l + 1,
+    );
     put_row(
         rows,
-        k * 8,
+        k * COLUMNS,
         byte(file, at),
         q + 1,
         inputs,

@@ -1,15 +1,15 @@
 // The table of variants: 1 for each variant's name.
-use super::bytes::byte;
-use super::bytes::name;
-use super::bytes::put_byte;
 use super::rows::names_end;
+use ol_tables::bytes::byte;
+use ol_tables::bytes::name;
+use ol_tables::bytes::put_byte;
 ghost use mathlib.Core.Path.{_≡_};
 ghost use mathlib.Core.List.{List};
 ghost use Prim.Native.Nat.{ℕ, _≤_, _<_};
 ghost use lib.ListN.{length};
-ghost use Rattle.ol_tree.specs.At.{fileAt};
-ghost use Rattle.ol_tree.specs.Stands.{Names, FileReads};
-ghost use Rattle.ol_tree.specs.Tables.{Variants};
+ghost use Rattle.ol_tables.specs.At.{fileAt};
+ghost use Rattle.ol_tables.specs.Stands.{Names, FileReads};
+ghost use Rattle.ol_tables.specs.Tables.{Variants};
 ghost use Rattle.ol_check.specs.VariantTable.{enterAll};
 ghost use Rattle.ol_check.specs.Clashing.{Blank};
 

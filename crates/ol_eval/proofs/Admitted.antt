@@ -34,19 +34,20 @@ use Rattle.ol_spec.proofs.RoundTrip.{encode-read}
 use Rattle.ol_spec.proofs.RoundTrip.Parts.{Here}
 use Rattle.ol_spec.proofs.RoundTrip.Items.{equation-size}
 use Rattle.ol_spec.proofs.RoundTrip.Placed.{placed-here, equation-here}
-use Rattle.ol_tree.specs.At.{fileAt, nodeIn, exprAt, ReadsAll}
-use Rattle.ol_tree.specs.Stands.{NodeStands}
-use Rattle.ol_tree.specs.Tables.{Each, Sound, HasSlot, Slotted, placeOf, slotOf}
-use Rattle.ol_tree.specs.Parts.{Proper}
-use Rattle.ol_tree.proofs.HeadsFile.{node-at, equation-stands, section-few}
-use Rattle.ol_fresh.specs.Known.{Known}
+use Rattle.ol_tables.specs.At.{fileAt, nodeIn, exprAt, ReadsAll}
+use Rattle.ol_tables.specs.Stands.{NodeStands}
+use Rattle.ol_tables.specs.Tables.{Each, Sound, HasSlot, Slotted, placeOf, slotOf}
+use Rattle.ol_tables.specs.Parts.{Proper}
+use Rattle.ol_tables.proofs.HeadsFile.{node-at, equation-stands, section-few}
+use Rattle.ol_state.proofs.Fits.{all-join}
+use Rattle.ol_state.specs.Known.{Known}
 use Rattle.ol_eval.specs.Walk.{nodesIn, Below}
 use Rattle.ol_eval.specs.Plans.{knownIn, constantsIn, widthIn, namesIn, Program, Named}
 use Rattle.ol_eval.specs.Equations.{countIn, placeIn, equationIn, rhsIn}
 use Rattle.ol_eval.specs.Nodes.{EquationPlan, NodePlan, Running}
 use Rattle.ol_eval.specs.Admitted.{Admitted}
 use Rattle.ol_eval.proofs.Placing.{each-all, all-each, each-two, each-in, all-right, fits-all, clean-sound, item-at, place-at, number-at}
-use Rattle.ol_eval.proofs.Standing.{root-read, read-collected, variable-proper, fits-join}
+use Rattle.ol_eval.proofs.Standing.{root-read, read-collected, variable-proper}
 use Rattle.ol_eval.proofs.Seen.{slot-free, seen-parts, unseen-all}
 
 -- ---- the order
@@ -118,7 +119,7 @@ module _ {s rows tab : List ℕ} (a : Admitted s rows tab) where
       let n = nodeIn s k in
       let ns = stands-at k b in
       let ok = variableFits base (length (f .enums)) in
-      variable-proper (length (f .enums)) (variables n) i (fits-join ok (n .inputs ++ n .outputs) (n .locals) (fits-join ok (n .inputs) (n .outputs) (ns .inputs .fit) (ns .outputs .fit)) (ns .locals .fit)))
+      variable-proper (length (f .enums)) (variables n) i (all-join ok (n .inputs ++ n .outputs) (n .locals) (all-join ok (n .inputs) (n .outputs) (ns .inputs .fit) (ns .outputs .fit)) (ns .locals .fit)))
       (λ h. subst (λ n. Proper (getD (map typeOf (variables n)) i bool)) (sym (beyond k h)) (variable-proper 0 [] i tt))
 
   has-output : (k : ℕ) → k < nodesIn s → 1 ≤ length (nodeIn s k .outputs)
@@ -179,9 +180,6 @@ module _ {s rows tab : List ℕ} (a : Admitted s rows tab) where
 
     is-read : ReadsAll s 24 1 (rhsIn s k i) × (exprAt s 24 (rhsIn s k i) ≡ equationIn s k i .rhs)
     is-read = root-read s (q .rhs) (rhsIn s k i) (omega (arith, a .stands .fewEnums)) (T-and (sectionFits 1 16 nameFits (q .names)) _ is-fit .1) (equation-here place q is-here .1)
-
-    pub equation-some : 1 ≤ length (equationIn s k i .names)
-    equation-some = section-few nameFits 1 16 (q .names) (T-and (sectionFits 1 16 nameFits (q .names)) _ is-fit .0) .0
 
     -- the names that it uses are seen
     is-seen : All (λ p. T (member (p .1) (seenBy f (nodeIn s k)))) (used (rhsIn s k i) (equationIn s k i .rhs))

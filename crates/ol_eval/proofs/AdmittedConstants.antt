@@ -22,10 +22,10 @@ use Rattle.ol_spec.proofs.Admits.{Clean, first-clean, clean-parts, clean-each}
 use Rattle.ol_spec.proofs.RoundTrip.Parts.{Here, here-inside}
 use Rattle.ol_spec.proofs.RoundTrip.Items.{constant-size, ty-size}
 use Rattle.ol_spec.proofs.RoundTrip.Placed.{placed-here, constant-here}
-use Rattle.ol_tree.specs.At.{fileAt, nodeIn, exprAt, ReadsAll}
-use Rattle.ol_tree.specs.Tables.{Each, Sound, HasSlot, slotOf}
-use Rattle.ol_tree.proofs.Forms.{type-some}
-use Rattle.ol_tree.proofs.Heads.{here-ty}
+use Rattle.ol_tables.specs.At.{fileAt, nodeIn, exprAt, ReadsAll}
+use Rattle.ol_tables.specs.Tables.{Each, Sound, HasSlot, slotOf}
+use Rattle.ol_tables.proofs.Forms.{type-some}
+use Rattle.ol_tables.proofs.HeadLaws.{here-ty}
 use Rattle.ol_eval.specs.Walk.{nodesIn}
 use Rattle.ol_eval.specs.Plans.{knownIn, constantsIn, namesIn, Named}
 use Rattle.ol_eval.specs.Constants.{Never, noConstant, constantAt, valueAt, ConstantReady, ConstantsReady}

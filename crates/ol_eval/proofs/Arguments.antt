@@ -15,9 +15,9 @@ use Rattle.ol_spec.specs.declared.Value.{Value}
 use Rattle.ol_spec.specs.declared.Outcome.{Outcome}
 use Rattle.ol_spec.specs.declared.Outcome.the-variants as Out
 use Rattle.ol_value.specs.Codes.{tyOf}
-use Rattle.ol_tree.specs.At.{fileAt, nodeIn, exprAt, endAt, exprsAt, endsAt, ReadsAll}
-use Rattle.ol_tree.specs.Tables.{codeAt}
-use Rattle.ol_tree.proofs.Forms.{parted, none-read}
+use Rattle.ol_tables.specs.At.{fileAt, nodeIn, exprAt, endAt, exprsAt, endsAt, ReadsAll}
+use Rattle.ol_tables.specs.Tables.{codeAt}
+use Rattle.ol_tables.proofs.Forms.{parted, none-read}
 use Rattle.ol_eval.specs.Walk.{nodesIn, sizesIn, Passable, SkipsTo}
 use Rattle.ol_eval.specs.Plans.{Program, globalsIn, scopeIn, evalIn, segsAt, segAt}
 use Rattle.ol_eval.specs.Post.{Ready, Meets, EvalsTo}
@@ -26,7 +26,7 @@ use Rattle.ol_eval.specs.Calls.{endCode, Holds, RanTo, Passes, passedAll
 use Rattle.ol_eval.specs.declared.cycle.Step.{Step}
 use Rattle.ol_eval.specs.declared.cycle.Ran.{Ran}
 use Rattle.ol_eval.specs.declared.skip.Passed.{Passed}
-use Rattle.ol_eval.proofs.Lending.{tailOf, putTail, tail-all, put-tail, drop-take}
+use Rattle.ol_tables.proofs.Lending.{tailOf, putTail, tail-all, put-tail, drop-take}
 use Rattle.ol_eval.proofs.Planning.{segs-cons}
 use Rattle.ol_eval.proofs.Evals.{seg-length}
 use Rattle.ol_eval.proofs.Readying.{ready-first, ready-tail, ready-pass, ready-seg, moved-skip}

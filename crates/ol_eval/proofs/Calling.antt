@@ -14,9 +14,9 @@ use Rattle.ol_spec.specs.Step.{fitAll, calls}
 use Rattle.ol_spec.specs.Admission.{mayCall, calleeIn}
 use Rattle.ol_spec.specs.declared.Value.{Value}
 use Rattle.ol_spec.specs.declared.Outcome.{Outcome}
-use Rattle.ol_tree.specs.At.{fileAt, nodeIn, exprAt, endAt, exprsAt, endsAt, ReadsAll}
-use Rattle.ol_tree.specs.Tables.{Each, rowAt, siteBytes}
-use Rattle.ol_tree.proofs.Forms.{Formed, parted, none-read, callees-form, call-form}
+use Rattle.ol_tables.specs.At.{fileAt, nodeIn, exprAt, endAt, exprsAt, endsAt, ReadsAll}
+use Rattle.ol_tables.specs.Tables.{Each, rowAt, siteBytes}
+use Rattle.ol_tables.proofs.Forms.{Formed, parted, none-read, callees-form, call-form}
 use Rattle.ol_eval.specs.Walk.{nodesIn, sizesIn}
 use Rattle.ol_eval.specs.Plans.{globalsIn, scopeIn, evalIn, segsAt, segAt}
 use Rattle.ol_eval.specs.Nodes.{Running, Enters}
@@ -25,7 +25,7 @@ use Rattle.ol_eval.specs.Calls.{endCode, Holds, asIs, RanTo, Did, Passes
 use Rattle.ol_eval.specs.Stores.{Leaves}
 use Rattle.ol_eval.specs.declared.cycle.Step.{Step}
 use Rattle.ol_eval.specs.declared.cycle.Ran.{Ran}
-use Rattle.ol_eval.proofs.Lending.{tailOf, putTail, tail-all, put-tail, take-put, drop-put, drop-take}
+use Rattle.ol_tables.proofs.Lending.{tailOf, putTail, tail-all, put-tail, take-put, drop-put, drop-take}
 use Rattle.ol_eval.proofs.Passing.{callees-one, row-size}
 use Rattle.ol_eval.proofs.RealKinds.{input-below}
 use Rattle.ol_eval.proofs.Planning.{Callee, plan-head, plan-parts, plan-call, segs-one}

@@ -1,6 +1,6 @@
 -- Laws of the constants' values.
-use Prim.Native.Nat.{ℕ, zero, suc, _+_, _-_, _*_, _/_, _<_, _≤_}
-use mathlib.Core.Bool.{Bool, true, false, cond}
+use Prim.Native.Nat.{ℕ, zero, suc, _+_, _-_, _*_, _<_, _≤_}
+use mathlib.Core.Bool.{true, false, cond}
 use mathlib.Core.List.{List, [], _∷_, _++_, map, append-nil, append-assoc}
 use mathlib.Core.Path.{_≡_, refl, sym, ap, subst, _∙_}
 use native.Mathlib.Omega.{arith}
@@ -9,32 +9,29 @@ use lib.Dec.{eqb}
 use lib.Seq.{take-all, take-at, drop-at, length-take-le, drop-cons, take-suc}
 use Rattle.ol_spec.proofs.Cells.{length-cell, length-cells}
 use Rattle.ol_eval.specs.Outcomes.{doneOf}
-use Rattle.ol_eval.specs.declared.constants.Found.{Found}
 use Rattle.ol_eval.specs.declared.constants.Found.the-variants as Fnd
-use Rattle.ol_spec.specs.Syntax.{Constant, constantName, Ty, bool, int, float32, float64, char, enum, Node, noNode, variables, Expr, boolLit, intLit, floatLit, charLit, var, unary, binary, ifThenElse, pre, arrow, cast, call, tuple, Exprs, nil, cons}
+use Rattle.ol_spec.specs.Syntax.{Constant, constantName, Ty, bool, int, float32, float64, char, enum, Node, noNode, variables, Expr}
 use Rattle.ol_spec.specs.Places.{tySize, placed, placedConstants, constantSize, constantsStart, exprSize}
 use Rattle.ol_spec.specs.Cell.{valueOf, valuesOf, cell, cells}
-use Rattle.ol_spec.specs.Types.{castTo, fit}
-use Rattle.ol_spec.specs.Operators.{unaryOf, binaryOf}
-use Rattle.ol_spec.specs.Eval.{Globals, Scope, Calls, Eval, callees, calleesAll, hasCall, isDouble?, realKind, segSize, recordSize, sitesSize, mapEval, next, nextAll, condition, choose, enter, singleEval, eval, evalAll, thenOut}
+use Rattle.ol_spec.specs.Types.{fit}
+use Rattle.ol_spec.specs.Eval.{Globals, Scope, Calls, Eval, callees, calleesAll, sitesSize, next, eval, thenOut}
 use Rattle.ol_spec.specs.Step.{scope, calls, globals}
-use Rattle.ol_spec.specs.Admission.{noVariables, noCalls, constants, constantsFrom, constantNames, afterConstant, Constants, all, stuckAt}
+use Rattle.ol_spec.specs.Admission.{noVariables, noCalls, constants, constantsFrom, constantNames, afterConstant, Constants, stuckAt}
 use Rattle.ol_spec.specs.declared.Value.{Value}
 use Rattle.ol_spec.specs.declared.Outcome.{Outcome}
 use Rattle.ol_spec.specs.declared.Outcome.the-variants as Out
 use Rattle.ol_value.specs.Codes.{tyOf}
-use Rattle.ol_tree.specs.At.{fileAt, nodeIn, exprAt, endAt, exprsAt}
-use Rattle.ol_tree.specs.Tables.{Each, tyCode, tyEnum}
-use Rattle.ol_tree.specs.Parts.{Proper}
-use Rattle.ol_tree.proofs.Forms.{each-append, one-tree, parted, reads-end}
+use Rattle.ol_tables.specs.At.{fileAt, nodeIn, exprAt, endAt, exprsAt}
+use Rattle.ol_tables.specs.Tables.{Each, tyCode, tyEnum}
+use Rattle.ol_tables.specs.Parts.{Proper}
+use Rattle.ol_tables.proofs.Forms.{parted, reads-end, each-join, each-map}
 use Rattle.ol_eval.specs.Walk.{nodesIn, sizesIn, Below, Passable}
-use Rattle.ol_eval.specs.Plans.{Plan, Cells, knownIn, globalsIn, scopeIn, widthIn, segAt, segsAt, evalIn}
-use Rattle.ol_eval.specs.Post.{Ready, Meets, EvalsTo}
+use Rattle.ol_eval.specs.Plans.{knownIn, globalsIn, scopeIn, widthIn, segAt, evalIn}
+use Rattle.ol_eval.specs.Post.{Ready, EvalsTo}
 use Rattle.ol_eval.specs.Constants.{Never, ConstantReady, ConstantsReady, ConstantsAre, noConstant, constantAt, valueAt, constantOut}
 use Rattle.ol_eval.specs.Nodes.{Enters}
 use Rattle.ol_eval.specs.declared.cycle.Step.{Step}
 use Rattle.ol_eval.proofs.Passing.{callees-one}
-use Rattle.ol_eval.proofs.Planning.{segs-one, each-both, each-map}
 use Rattle.ol_eval.proofs.Depth.{Agrees, eval-calls}
 use Rattle.ol_eval.proofs.RealKinds.{proper-type}
 
@@ -247,7 +244,7 @@ module _ {file tab rows consts : List ℕ} {nodes at count : ℕ} (p : Constants
       let lc : length (cells (g .values ++ v ∷ [])) ≡ 9 * (i + 1) = length-cells (g .values ++ v ∷ []) ∙ ap (λ (n : ℕ). 9 * n) (length-append (g .values) (v ∷ []) ∙ ap (λ (n : ℕ). n + 1) (g .counted)) in
       record {
         values = g .values ++ v ∷ [];
-        had = each-both Kept (g .values) (v ∷ []) (g .had) (k, tt);
+        had = each-join Kept (g .values) (v ∷ []) (g .had) (k, tt);
         counted = length-append (g .values) (v ∷ []) ∙ ap (λ (n : ℕ). n + 1) (g .counted);
         long = ap length write′ ∙ length-append (cells (g .values ++ v ∷ [])) (drop (9 * i + 9) now) ∙ omega (arith, lc, length-drop (9 * i + 9) now, g .long);
         bytes = ap (take (9 * (i + 1))) write′ ∙ take-at (cells (g .values ++ v ∷ [])) (drop (9 * i + 9) now) (9 * (i + 1)) lc;

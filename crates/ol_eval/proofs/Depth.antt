@@ -1,24 +1,24 @@
 -- An evaluation depends on calls only through its callees; so the depth of calls does not matter, once it suffices.
-use Prim.Native.Nat.{ℕ, zero, suc, _<_, _≤_}
+use Prim.Native.Nat.{ℕ, zero, suc, _<_}
 use mathlib.Core.Bool.{Bool}
 use mathlib.Core.List.{List, [], _∷_, _++_, map}
-use mathlib.Core.Path.{_≡_, refl, sym, ap, _∙_}
+use mathlib.Core.Path.{_≡_, refl, ap}
 use native.Mathlib.Omega.{arith}
 use lib.ListN.{length, take, drop, getD}
 use Rattle.ol_spec.specs.Syntax.{NodeKind, Function, Operator, Imported, Node, Expr, boolLit, intLit, floatLit, charLit, var, unary, binary, ifThenElse, pre, arrow, cast, call, tuple, Exprs, nil, cons, rhsOf, variables}
 use Rattle.ol_spec.specs.Types.{castTo, defaults}
 use Rattle.ol_spec.specs.Operators.{unaryOf, binaryOf}
 use Rattle.ol_spec.specs.Order.{order}
-use Rattle.ol_spec.specs.Eval.{Globals, Scope, Calls, Eval, Evals, nodeAt, callees, calleesAll, hasCall, isDouble?, realKind, segSize, recordSize, mapEval, next, nextAll, condition, choose, enter, singleEval, severalEval, eval, evalAll, evalRhs}
+use Rattle.ol_spec.specs.Eval.{Globals, Scope, Calls, Evals, nodeAt, callees, calleesAll, hasCall, isDouble?, realKind, segSize, recordSize, mapEval, next, nextAll, condition, choose, enter, singleEval, severalEval, eval, evalAll, evalRhs}
 use Rattle.ol_spec.specs.Lists.{concat}
 use Rattle.ol_spec.specs.Cell.{cells}
 use Rattle.ol_spec.specs.Step.{sites, freshBy, freshAt}
-use Rattle.ol_spec.specs.Step.{Run, scope, equationAt, evalEquation, store, runAll, run, isFresh, oldCells, oldSegs, fitAll, leave, instance, freshRecord, callBy, callsAt, calls}
+use Rattle.ol_spec.specs.Step.{scope, equationAt, store, runAll, run, isFresh, oldCells, oldSegs, fitAll, leave, instance, freshRecord, callBy, callsAt, calls}
 use Rattle.ol_spec.specs.declared.Value.{Value}
-use Rattle.ol_tree.specs.Tables.{Each}
-use Rattle.ol_tree.proofs.Forms.{each-append}
+use Rattle.ol_tables.specs.Tables.{Each}
+use Rattle.ol_tables.proofs.Forms.{each-append}
 use Rattle.ol_eval.specs.Walk.{Below}
-use Rattle.ol_eval.proofs.Planning.{each-map}
+use Rattle.ol_tables.proofs.Forms.{each-map}
 
 -- two meanings of calls agree on a node
 abbrev pub Agrees : Calls → Calls → ℕ → Type 0

@@ -1,19 +1,18 @@
 -- Laws of a node's equations: their places, and where the records of each start.
 use Prim.Native.Nat.{ℕ, zero, suc, _+_, _*_, _<_, _≤_}
-use mathlib.Core.List.{List, [], _∷_, map}
+use mathlib.Core.List.{List, [], _∷_}
 use mathlib.Core.Path.{_≡_, refl, sym, ap, subst, _∙_}
 use native.Mathlib.Omega.{arith}
 use native.Mathlib.Decide.{ℕ-discrete}
 use lib.ListN.{length, getD, set, length-set}
-use lib.Seq.{getD-set-same, getD-set-other, take-all}
-use Rattle.ol_spec.specs.Lists.{concat}
-use Rattle.ol_spec.specs.Syntax.{Equation, Expr}
+use lib.Seq.{getD-set-same, getD-set-other}
+use Rattle.ol_spec.specs.Syntax.{Expr}
 use Rattle.ol_spec.specs.Places.{placed, placedNodes, exprSize, equationSize, equationsStart}
 use Rattle.ol_spec.specs.Eval.{callees, sitesSize}
-use Rattle.ol_spec.specs.Step.{equationSites, sites, noEquation}
-use Rattle.ol_tree.specs.At.{fileAt, nodeIn}
-use Rattle.ol_tree.specs.Tables.{Each, rowAt, placeOf}
-use Rattle.ol_tree.proofs.Forms.{one-tree, parted, reads-end, reads-in}
+use Rattle.ol_spec.specs.Step.{sites, noEquation}
+use Rattle.ol_tables.specs.At.{fileAt, nodeIn}
+use Rattle.ol_tables.specs.Tables.{Each, rowAt, placeOf}
+use Rattle.ol_tables.proofs.Forms.{one-tree, parted, reads-end, reads-in}
 use Rattle.ol_eval.specs.Walk.{nodesIn, sizesIn, Below, Passable, SkipsTo}
 use Rattle.ol_eval.specs.Equations.{countIn, placeIn, equationIn, rhsIn, offsetIn, EquationsStand, EquationsAre}
 use Rattle.ol_eval.specs.declared.skip.Passed.{Passed}
@@ -46,10 +45,6 @@ module _ (file : List ℕ) (k : ℕ) where
 
   pub offset-upto : (i : ℕ) → offsetIn file k i ≤ sitesSize (sizesIn file) (sites (nodeIn file k))
   offset-upto i = offset-total (globalsIn file []) (nodeIn file k .equations) i
-
-  pub offset-all : offsetIn file k (countIn file k) ≡ sitesSize (sizesIn file) (sites (nodeIn file k))
-  offset-all =
-      ap (λ (qs : List Equation). sitesSize (sizesIn file) (concat (map equationSites qs))) (take-all (countIn file k) (nodeIn file k .equations) (omega arith))
 
 -- ---- one equation
 

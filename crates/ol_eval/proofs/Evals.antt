@@ -17,7 +17,7 @@ use Rattle.ol_eval.specs.Walk.{Skips}
 use Rattle.ol_eval.specs.Post.{Meets}
 use Rattle.ol_eval.specs.declared.cycle.Step.{Step}
 use Rattle.ol_eval.specs.declared.skip.Passed.{Passed}
-use Rattle.ol_eval.proofs.Lending.{tailOf, putTail, tail-all, put-tail, take-put, drop-put, drop-take}
+use Rattle.ol_tables.proofs.Lending.{tailOf, putTail, tail-all, put-tail, take-put, drop-put, drop-take}
 
 -- the new segment is as long as the old
 pub seg-length : {w : Eval} {x n : ℕ} {s new : List ℕ} {r : Step} → Meets w x n s r new → length new ≡ length s → n ≤ length s → length (w .seg) ≡ n

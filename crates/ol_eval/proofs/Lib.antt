@@ -8,7 +8,6 @@ pub mod Copying
 pub mod Depth
 pub mod Equating
 pub mod Evals
-pub mod Lending
 pub mod MainCycle
 pub mod Naming
 pub mod Passing

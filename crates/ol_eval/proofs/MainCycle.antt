@@ -20,16 +20,16 @@ use Rattle.ol_spec.specs.declared.Value.{Value}
 use Rattle.ol_spec.specs.declared.Cycled.{Cycled}
 use Rattle.ol_spec.specs.declared.Cycled.the-variants as Cyc
 use Rattle.ol_spec.proofs.MainFacts.{main-at}
-use Rattle.ol_tree.specs.At.{fileAt, nodeIn}
+use Rattle.ol_tables.specs.At.{fileAt, nodeIn}
 use Rattle.ol_eval.specs.Walk.{nodesIn, sizesIn}
 use Rattle.ol_eval.specs.Plans.{knownIn, globalsIn, widthIn}
-use Rattle.ol_tree.specs.Tables.{rowAt}
-use Rattle.ol_fresh.proofs.Records.{few-nodes, variables-told, row-of}
+use Rattle.ol_tables.specs.Tables.{rowAt}
+use Rattle.ol_state.proofs.Instances.{few-nodes, variables-told, row-of}
 use Rattle.ol_eval.specs.Nodes.{Running}
 use Rattle.ol_eval.specs.Calls.{Runnable, RunMeets, RunTo, runIn, EndsAs}
 use Rattle.ol_eval.specs.MainCycle.{recordRun, RecordReady, RecordRan, RunReady, Cycles, CyclesTo}
 use Rattle.ol_eval.specs.declared.cycle.Ended.{Ended}
-use Rattle.ol_eval.proofs.Lending.{tailOf, putTail, tail-all, put-tail, take-put, drop-put, length-put}
+use Rattle.ol_tables.proofs.Lending.{tailOf, putTail, tail-all, put-tail, take-put, drop-put, length-put}
 use Rattle.ol_eval.proofs.Storing.{values-copied}
 
 -- the main node is the last

@@ -19,9 +19,9 @@ use Rattle.ol_spec.specs.declared.Value.the-variants as Val
 use Rattle.ol_spec.specs.declared.Outcome.{Outcome}
 use Rattle.ol_spec.specs.declared.Outcome.the-variants as Out
 use Rattle.ol_spec.proofs.Tests.{T-true}
-use Rattle.ol_tree.specs.At.{fileAt, nodeIn, exprAt, Reads}
-use Rattle.ol_tree.specs.Tables.{slotAt, slotOf, slotBy, constantSlot}
-use Rattle.ol_tree.proofs.Forms.{by-form, var-form}
+use Rattle.ol_tables.specs.At.{fileAt, nodeIn, exprAt, Reads}
+use Rattle.ol_tables.specs.Tables.{slotAt, slotOf, slotBy, constantSlot}
+use Rattle.ol_tables.proofs.Forms.{by-form, var-form}
 use Rattle.ol_eval.specs.Plans.{knownIn, constantsIn, globalsIn, widthIn, namesIn, scopeIn, nameAt, Named, Nameable, Looked, Cells}
 
 no-some : {A : Type 0} {x : A} → none ≡ some x → ⊥

@@ -1,31 +1,30 @@
 -- Laws of passing over expressions, head by head.
-use Prim.Native.Nat.{ℕ, zero, suc, _+_, _-_, _*_, _<_, _≤_, min}
+use Prim.Native.Nat.{ℕ, zero, suc, _+_, _-_, _<_, _≤_, min}
 use mathlib.Core.Bool.{Bool, true, false, not, cond}
 use mathlib.Core.List.{List, [], _∷_, _++_, append-nil, append-assoc}
 use mathlib.Core.Path.{_≡_, refl, sym, ap, subst, _∙_}
 use native.Mathlib.Omega.{arith}
-use native.Mathlib.Nat.{add-zero, zero-add, add-assoc}
+use native.Mathlib.Nat.{add-zero, zero-add}
 use lib.ListN.{length, getD}
 use lib.Dec.{eqb}
 use native.Mathlib.Decide.{ℕ-discrete}
 use borrow.Author.Tests.{eq-eqb, ne-eqb}
 use Rattle.ol_spec.specs.Lists.{isEmpty}
-use Rattle.ol_spec.specs.Read.{thenRead, manyExprs}
-use Rattle.ol_spec.specs.Syntax.{Expr, Exprs, nil, cons, boolLit, intLit, floatLit, charLit, var, unary, binary, ifThenElse, pre, arrow, cast, call, tuple}
+use Rattle.ol_spec.specs.Syntax.{Exprs, nil, count}
 use Rattle.ol_spec.specs.Eval.{callees, calleesAll, sitesSize, sizeIn}
-use Rattle.ol_spec.specs.Step.{sizesAt}
-use Rattle.ol_spec.proofs.Segments.{sites-cons, sites-append}
-use Rattle.ol_ir.proofs.Trees.{deeper-parts}
-use Rattle.ol_tree.specs.At.{fileAt, limitsAt, enumsAt, exprAt, endAt, exprsAt, endsAt, Reads, ReadsAll}
-use Rattle.ol_tree.specs.Tables.{Each, Rows, RowOf, rowAt, siteBytes, sizeCap}
-use Rattle.ol_tree.specs.Heads.{partsOf, headSize as headOf}
-use Rattle.ol_tree.specs.Parts.{ownSites}
-use Rattle.ol_tree.proofs.Forms.{each-append, callees-parts, Formed, Parted, parted, reads-all, reads-end, one-read, one-tree, callees-all, none-read, reads-in, some-code}
-use Rattle.ol_tree.proofs.Forms.{by-form, call-form}
-use Rattle.ol_tree.proofs.Heads.{head-some, head-ends}
-use Rattle.ol_eval.specs.Walk.{nodesIn, sizesIn, Below, FormIs, Sized, Passable, Skips, SkipsTo, eitherOf}
-use Rattle.ol_eval.specs.declared.skip.Form.{Form}
-use Rattle.ol_eval.specs.declared.skip.Passed.{Passed}
+use Rattle.ol_spec.proofs.Segments.{sites-append}
+use Rattle.ol_ir.proofs.Trees.{deeper-parts, expr-at}
+use Rattle.ol_ir.proofs.Skips.{head-told}
+use Rattle.ol_tables.specs.At.{limitsAt, enumsAt, exprAt, endAt, exprsAt, endsAt, Reads, ReadsAll}
+use Rattle.ol_tables.specs.Tables.{Each, rowAt}
+use Rattle.ol_tables.specs.Heads.{partsOf, headSize as headOf}
+use Rattle.ol_tables.specs.Walks.{HeadOf}
+use Rattle.ol_tables.specs.Parts.{ownSites}
+use Rattle.ol_tables.proofs.Forms.{each-append, callees-parts, parted, reads-all, reads-end, one-read, one-tree, callees-all, none-read, reads-in, cons-all}
+use Rattle.ol_tables.proofs.Forms.{by-form, call-form, cons-all}
+use Rattle.ol_tables.proofs.HeadLaws.{head-some, head-ends}
+use Rattle.ol_eval.specs.Walk.{nodesIn, sizesIn, Below, FormIs, Sized, Passable, SkipsTo, eitherOf}
+use Rattle.ol_tables.specs.declared.heads.Parts.{Parts}
 
 -- the size of a type, by its code
 pub enum-size : (b : ℕ) → b ≡ 12 → _≡_ {A = ℕ} (cond (eqb b 12) 2 1) 2
@@ -35,20 +34,17 @@ pub plain-size : (b : ℕ) → ¬ (b ≡ 12) → _≡_ {A = ℕ} (cond (eqb b 12
 plain-size b n = rw (ne-eqb b 12 n)
 
 module _ (s : List ℕ) where
-  -- the form that was found
-  pub form-is : (level at : ℕ) {t : Expr} {n : ℕ} → Formed s level at t n → FormIs s level at (record { start = at + headOf t; count = n })
-  form-is level at {t} {n} h =
-      record {
-        start-is = ap (λ (e : Expr). at + headOf e) (sym (h .tree));
-        parts = ap partsOf (h .tree) ∙ h .parts;
-        read = h .read;
-        ends = h .ends;
-        deep = h .deep;
-      }
-
-  -- likewise, where the place is known by an equation
-  pub form-from : (level at start : ℕ) {t : Expr} {n : ℕ} → Formed s level at t n → start ≡ at + headOf t → FormIs s level at (record { start = start; count = n })
-  form-from level at start {t} {n} h e = subst (λ (m : ℕ). FormIs s level at (record { start = m; count = n })) (sym e) (form-is level at h)
+  -- the form that a head tells
+  pub form-of : (level at : ℕ) {r : Parts} → Reads s level at → HeadOf s at r → FormIs s level at r
+  form-of level at {r} h t =
+      let e = exprAt s level at in
+      let n = endAt s level at in
+      let x = expr-at s (limitsAt s) (enumsAt s) level at e n (h .is) in
+      let k = head-told s (limitsAt s) (enumsAt s) level at e n (h .is) in
+      let c : r .count ≡ count (partsOf e) = t .parts ∙ k .0 in
+      let q : r .start ≡ at + headOf e = t .next ∙ k .1 in
+      let w = reads-all s (level - 1) (r .count) (r .start) (partsOf e) n (rw (c, q) (x .parts)) in
+      record { start-is = q; parts = sym (w .1); read = w .0; ends = sym (w .2); deep = x .level }
 
   -- ---- one expression, by its form
 
@@ -134,11 +130,6 @@ module _ (s : List ℕ) where
     callees : calleesAll (exprsAt s level n at) ≡ calleesAll (exprsAt s level a at) ++ calleesAll (exprsAt s level b mid)
     ends : endsAt s level n at ≡ endsAt s level b mid
 
-  -- one, and n behind it
-  cons-read : (level n at : ℕ) → Reads s level at → ReadsAll s level n (endAt s level at) → ReadsAll s level (suc n) at
-  unfolding manyExprs thenRead
-  cons-read level n at p q = reads-all s level (suc n) at (cons (exprAt s level at) (exprsAt s level n (endAt s level at))) (endsAt s level n (endAt s level at)) (rw (p .is, q .are)) .0
-
   both : (level a b at mid : ℕ) → ReadsAll s level a at → endsAt s level a at ≡ mid → ReadsAll s level b mid → Both level (a + b) a b at mid
   both level zero b at mid p e q =
       let n : b ≡ 0 + b = omega arith in
@@ -149,7 +140,7 @@ module _ (s : List ℕ) where
       let t = parted s level a at p in
       let w = both level a b (endAt s level at) mid (t .tail) (sym (t .ends) ∙ e) q in
       let n : suc (a + b) ≡ suc a + b = omega arith in
-      let r = cons-read level (a + b) at (t .head) (w .reads) in
+      let r = cons-all s level (a + b) at (t .head) (w .reads) in
       let C = callees (exprAt s level at) in
       let D = calleesAll (exprsAt s level a (endAt s level at)) in
       let E = calleesAll (exprsAt s level b mid) in
@@ -160,12 +151,12 @@ module _ (s : List ℕ) where
       })
 
   -- the head of the first of `left` is passed over: n are left, its parts and the others
-  record Onward (level left n at : ℕ) (r : Form) : Type 0 where
+  record Onward (level left n at : ℕ) (r : Parts) : Type 0 where
     reads : ReadsAll s level n (r .start)
     callees : calleesAll (exprsAt s level left at) ≡ ownSites (exprAt s level at) ++ calleesAll (exprsAt s level n (r .start))
     ends : endsAt s level n (r .start) ≡ endsAt s level left at
 
-  onward : (level left at : ℕ) {r : Form} → ReadsAll s level (suc left) at → FormIs s level at r → Onward level (suc left) (r .count + left) at r
+  onward : (level left at : ℕ) {r : Parts} → ReadsAll s level (suc left) at → FormIs s level at r → Onward level (suc left) (r .count + left) at r
   onward level left at {r} h f =
       let t = parted s level left at h in
       let u = raised level (r .count) (r .start) (f .deep) (f .read) in
@@ -213,7 +204,7 @@ module _ (s : List ℕ) where
   pub left-first : {rows : List ℕ} {level count at next used : ℕ} {has : Bool} {left : ℕ} → Left rows level count at next used has left → 0 < left → Passable s rows level 1 next
   left-first {left = left} l h = first-passable (left-as {b = suc (left - 1)} (omega arith) l .rest)
 
-  module _ {rows : List ℕ} {level count at next used : ℕ} {has : Bool} {left : ℕ} {r : Form} (l : Left rows level count at next used has left) (h : 0 < left) (f : FormIs s level next r) where
+  module _ {rows : List ℕ} {level count at next used : ℕ} {has : Bool} {left : ℕ} {r : Parts} (l : Left rows level count at next used has left) (h : 0 < left) (f : FormIs s level next r) where
     -- what is left after the head
     turn-reads : Onward level left (left - 1 + r .count) next r
     turn-reads =

@@ -13,7 +13,7 @@ use Rattle.ol_spec.specs.Admission.{Item, numbered}
 use Rattle.ol_spec.proofs.Tests.{T-and}
 use Rattle.ol_spec.proofs.Lists.{All}
 use Rattle.ol_spec.proofs.Admits.{Clean}
-use Rattle.ol_tree.specs.Tables.{Each, Sound}
+use Rattle.ol_tables.specs.Tables.{Each, Sound}
 
 module _ {A : Type 0} where
   -- the two ways to say it of a list

@@ -1,33 +1,25 @@
 -- Laws of plans: the parts of what can be evaluated can be evaluated.
-use Prim.Native.Nat.{ℕ, zero, suc, _+_, _-_, _*_, _<_, _≤_}
+use Prim.Native.Nat.{ℕ, suc, _+_, _-_, _<_, _≤_}
 use mathlib.Core.Bool.{Bool, true, false, not, _&&_}
-use mathlib.Core.List.{List, [], _∷_, _++_, append-nil}
-use mathlib.Core.Path.{_≡_, refl, sym, ap, subst, _∙_}
+use mathlib.Core.List.{List, [], _++_, append-nil}
+use mathlib.Core.Path.{_≡_, sym, ap, subst, _∙_}
 use native.Mathlib.Omega.{arith}
 use lib.ListN.{length, getD}
 use lib.Dec.{T, ltb, eqb, ltb→lt, eqb→eq}
-use Rattle.ol_spec.specs.Syntax.{NodeKind, File, Node, Expr, boolLit, intLit, floatLit, charLit, var, unary, binary, ifThenElse, pre, arrow, cast, call, tuple, Exprs, nil, cons, count}
+use Rattle.ol_spec.specs.Syntax.{File, Node, Expr, boolLit, intLit, floatLit, charLit, var, unary, binary, ifThenElse, pre, arrow, cast, call, tuple, Exprs, nil, cons, count}
 use Rattle.ol_spec.specs.Places.{collect, collectAll, exprSize}
 use Rattle.ol_spec.specs.Eval.{callees, calleesAll, sitesSize}
 use Rattle.ol_spec.specs.Admission.{Item, usedAt, callsWhere, badCall, mayCall, calleeIn}
-use Rattle.ol_spec.proofs.Tests.{T-and, true-T, false-T}
+use Rattle.ol_spec.proofs.Tests.{T-and, false-T}
 use Rattle.ol_spec.proofs.Segments.{sites-append}
-use Rattle.ol_tree.specs.At.{fileAt, nodeIn, exprAt, endAt, exprsAt, endsAt, Reads, ReadsAll}
-use Rattle.ol_tree.specs.Tables.{Each, Sound}
-use Rattle.ol_tree.specs.Heads.{partsOf, headSize as headOf}
-use Rattle.ol_tree.specs.Parts.{ownSites}
-use Rattle.ol_tree.proofs.Forms.{each-append, Formed, parted, one-read, one-tree, none-read, collected, collected-form, callees-all, callees-form, var-form, pre-form, call-form, reads-in}
+use Rattle.ol_tables.specs.At.{fileAt, nodeIn, exprAt, endAt, exprsAt, Reads, ReadsAll}
+use Rattle.ol_tables.specs.Tables.{Each, Sound}
+use Rattle.ol_tables.specs.Heads.{headSize as headOf}
+use Rattle.ol_tables.specs.Parts.{ownSites}
+use Rattle.ol_tables.proofs.Forms.{each-append, each-join, each-map, Formed, parted, one-read, none-read, collected, collected-form, callees-all, callees-form, var-form, pre-form, call-form}
 use Rattle.ol_eval.specs.Walk.{nodesIn, sizesIn, Below, Passable}
-use Rattle.ol_eval.specs.Plans.{Named, Program, Plan, segsAt, segAt, nameAt, Nameable, Looked}
+use Rattle.ol_eval.specs.Plans.{Named, Plan, segsAt, segAt, nameAt, Nameable, Looked}
 use Rattle.ol_eval.proofs.Passing.{callees-one}
-
-pub each-both : {A : Type 0} (P : A → Type 0) (xs ys : List A) → Each P xs → Each P ys → Each P (xs ++ ys)
-each-both P [] ys h k = k
-each-both P (x ∷ xs) ys h k = (h .0, each-both P xs ys (h .1) k)
-
-pub each-map : {A : Type 0} (P Q : A → Type 0) → ((a : A) → P a → Q a) → (xs : List A) → Each P xs → Each Q xs
-each-map P Q f [] h = tt
-each-map P Q f (x ∷ xs) h = (f x (h .0), each-map P Q f xs (h .1))
 
 not-false : (b : Bool) → not b ≡ false → T b
 not-false true h = tt
@@ -63,18 +55,18 @@ module _ (f : File) (k : ℕ) (n : Node) (P : ℕ → Type 0) (is : (c m : ℕ) 
     sound-each at (unary op e) h = sound-each (at + 2) e h
     sound-each at (binary op l r) h =
         let t = each-append Sound (collect items (at + 2) l) (collect items (at + 2 + exprSize l) r) h in
-        each-both P (callees l) (callees r) (sound-each _ l (t .0)) (sound-each _ r (t .1))
+        each-join P (callees l) (callees r) (sound-each _ l (t .0)) (sound-each _ r (t .1))
     sound-each at (ifThenElse c t e) h =
         let C = collect items (at + 1) c in
         let D = collect items (at + 1 + exprSize c) t in
         let E = collect items (at + 1 + exprSize c + exprSize t) e in
         let u = each-append Sound C (D ++ E) h in
         let v = each-append Sound D E (u .1) in
-        each-both P (callees c) (callees t ++ callees e) (sound-each _ c (u .0)) (each-both P (callees t) (callees e) (sound-each _ t (v .0)) (sound-each _ e (v .1)))
+        each-join P (callees c) (callees t ++ callees e) (sound-each _ c (u .0)) (each-join P (callees t) (callees e) (sound-each _ t (v .0)) (sound-each _ e (v .1)))
     sound-each at (pre e) h = sound-each (at + 1) e h
     sound-each at (arrow a b) h =
         let t = each-append Sound (collect items (at + 1) a) (collect items (at + 1 + exprSize a) b) h in
-        each-both P (callees a) (callees b) (sound-each _ a (t .0)) (sound-each _ b (t .1))
+        each-join P (callees a) (callees b) (sound-each _ a (t .0)) (sound-each _ b (t .1))
     sound-each at (cast t e) h = sound-each _ e h
     sound-each at (call c es) h = (is c (count es) (h .0), sounds-each (at + 3) es (h .1))
     sound-each at (tuple es) h = sounds-each (at + 2) es h
@@ -83,7 +75,7 @@ module _ (f : File) (k : ℕ) (n : Node) (P : ℕ → Type 0) (is : (c m : ℕ) 
     sounds-each at nil h = tt
     sounds-each at (cons e es) h =
         let t = each-append Sound (collect items at e) (collectAll items (at + exprSize e) es) h in
-        each-both P (callees e) (calleesAll es) (sound-each at e (t .0)) (sounds-each _ es (t .1))
+        each-join P (callees e) (calleesAll es) (sound-each at e (t .0)) (sounds-each _ es (t .1))
 
 -- they are of lower numbers
 pub sounds-below : (f : File) (k : ℕ) (n : Node) (at : ℕ) (es : Exprs) → Each Sound (collectAll (callsWhere (badCall f k n)) at es) → Each (Below k) (calleesAll es)

@@ -11,12 +11,12 @@ use lib.Dec.{eqb}
 use Rattle.ol_spec.specs.declared.Outcome.{Outcome}
 use Rattle.ol_spec.specs.declared.Outcome.the-variants as Out
 use Rattle.ol_spec.specs.Lists.{maybe}
-use Rattle.ol_tree.specs.At.{nodeIn}
+use Rattle.ol_tables.specs.At.{nodeIn}
 use Rattle.ol_eval.specs.Walk.{nodesIn}
 use Rattle.ol_eval.specs.Plans.{Program}
 use Rattle.ol_spec.specs.Read.{binOps}
-use Rattle.ol_tree.specs.Tables.{tyCode, tyEnum, rowAt, codeAt}
-use Rattle.ol_tree.specs.Parts.{Proper}
+use Rattle.ol_tables.specs.Tables.{tyCode, tyEnum, rowAt, codeAt}
+use Rattle.ol_tables.specs.Parts.{Proper}
 use Rattle.ol_spec.specs.Syntax.{Ty, bool, int, float32, float64, char, enum, Variable, Node, variables, typeOf, BinOp, Mod, BitAnd, BitOr, BitXor, Shl, Shr}
 use Rattle.ol_spec.specs.declared.Value.{Value}
 use Rattle.ol_spec.specs.declared.Value.the-variants as Val

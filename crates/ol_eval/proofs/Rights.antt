@@ -19,10 +19,10 @@ use Rattle.ol_spec.specs.declared.Outcome.{Outcome}
 use Rattle.ol_spec.specs.declared.Outcome.the-variants as Out
 use Rattle.ol_spec.proofs.Tests.{T-and}
 use Rattle.ol_spec.proofs.Runs.{length-values, variables-length}
-use Rattle.ol_tree.specs.At.{fileAt, nodeIn, exprAt, exprsAt, Reads, ReadsAll}
-use Rattle.ol_tree.specs.Tables.{Each, HasSlot, rowAt}
-use Rattle.ol_tree.proofs.Forms.{Formed, parted, reads-in, by-form, call-form, tuple-form}
-use Rattle.ol_fresh.proofs.Fits.{all-nth, fits, node-fits}
+use Rattle.ol_tables.specs.At.{fileAt, nodeIn, exprAt, exprsAt, Reads, ReadsAll}
+use Rattle.ol_tables.specs.Tables.{Each, HasSlot, rowAt}
+use Rattle.ol_tables.proofs.Forms.{Formed, parted, reads-in, by-form, call-form, tuple-form, each-map}
+use Rattle.ol_state.proofs.Fits.{all-nth, fits, node-fits}
 use Rattle.ol_eval.specs.Walk.{nodesIn, sizesIn, Below}
 use Rattle.ol_eval.specs.Plans.{evalIn, globalsIn, scopeIn, widthIn, namesIn, constantsIn, segsAt, segAt}
 use Rattle.ol_eval.specs.Post.{Ready, EvalsTo}
@@ -33,7 +33,7 @@ use Rattle.ol_eval.specs.Stores.{cellsIn, Storable, StoresOut, endOf, As
 use Rattle.ol_eval.specs.declared.cycle.Step.{Step}
 use Rattle.ol_eval.specs.declared.cycle.Ran.{Ran}
 use Rattle.ol_eval.proofs.Passing.{callees-one}
-use Rattle.ol_eval.proofs.Planning.{each-map, sounds-below, segs-one, segs-form, plan-call}
+use Rattle.ol_eval.proofs.Planning.{sounds-below, segs-one, segs-form, plan-call}
 use Rattle.ol_eval.proofs.Readying.{ready-parts}
 use Rattle.ol_eval.proofs.Storing.{typed, storable, assign-least, values-take}
 

@@ -13,7 +13,7 @@ use Rattle.ol_spec.specs.Eval.{Globals, Calls, Evals, values, failure, overflow
 use Rattle.ol_spec.specs.Step.{equationSites, split, assign, noEquation, equationAt, Run, finished, failedAt, overflowedAt, store, storeOn, evalEquation, runAll}
 use Rattle.ol_spec.specs.declared.Value.{Value}
 use Rattle.ol_spec.proofs.Segments.{sites-append}
-use Rattle.ol_tree.specs.Tables.{Each}
+use Rattle.ol_tables.specs.Tables.{Each}
 use Rattle.ol_eval.specs.Walk.{Below}
 
 -- ---- a part of a list

@@ -17,10 +17,10 @@ use Rattle.ol_spec.specs.Admission.{Item, unseenItem, used, valuePlace, constan
 use Rattle.ol_spec.proofs.Tests.{T-or, not-false, member-in, in-member}
 use Rattle.ol_spec.proofs.Lists.{All, all-map}
 use Rattle.ol_spec.proofs.Admits.{Clean, clean-parts}
-use Rattle.ol_tree.specs.Tables.{Each, Sound, slotOf}
+use Rattle.ol_tables.specs.Tables.{Each, Sound, slotOf}
 use Rattle.ol_eval.specs.Constants.{Never, noConstant}
 use Rattle.ol_eval.proofs.Naming.{slot-variant}
-use Rattle.ol_eval.proofs.Planning.{each-both}
+use Rattle.ol_tables.proofs.Forms.{each-join}
 
 -- ---- names
 
@@ -85,18 +85,18 @@ mutual
   no-callees at (unary op e) h = no-callees (at + 2) e h
   no-callees at (binary op l r) h =
       let t = clean-parts (collect anyCall (at + 2) l) (collect anyCall (at + 2 + exprSize l) r) h in
-      each-both Never (callees l) (callees r) (no-callees _ l (t .0)) (no-callees _ r (t .1))
+      each-join Never (callees l) (callees r) (no-callees _ l (t .0)) (no-callees _ r (t .1))
   no-callees at (ifThenElse c t e) h =
       let C = collect anyCall (at + 1) c in
       let D = collect anyCall (at + 1 + exprSize c) t in
       let E = collect anyCall (at + 1 + exprSize c + exprSize t) e in
       let u = clean-parts C (D ++ E) h in
       let v = clean-parts D E (u .1) in
-      each-both Never (callees c) (callees t ++ callees e) (no-callees _ c (u .0)) (each-both Never (callees t) (callees e) (no-callees _ t (v .0)) (no-callees _ e (v .1)))
+      each-join Never (callees c) (callees t ++ callees e) (no-callees _ c (u .0)) (each-join Never (callees t) (callees e) (no-callees _ t (v .0)) (no-callees _ e (v .1)))
   no-callees at (pre e) h = no-callees (at + 1) e h
   no-callees at (arrow a b) h =
       let t = clean-parts (collect anyCall (at + 1) a) (collect anyCall (at + 1 + exprSize a) b) h in
-      each-both Never (callees a) (callees b) (no-callees _ a (t .0)) (no-callees _ b (t .1))
+      each-join Never (callees a) (callees b) (no-callees _ a (t .0)) (no-callees _ b (t .1))
   no-callees at (cast t e) h = no-callees _ e h
   no-callees at (call c es) h = let z : _≡_ {A = ℕ} 0 1 = cc (h .0) in absurd (omega arith)
   no-callees at (tuple es) h = no-callees-all (at + 2) es h
@@ -105,7 +105,7 @@ mutual
   no-callees-all at nil h = tt
   no-callees-all at (cons e es) h =
       let t = clean-parts (collect anyCall at e) (collectAll anyCall (at + exprSize e) es) h in
-      each-both Never (callees e) (calleesAll es) (no-callees at e (t .0)) (no-callees-all _ es (t .1))
+      each-join Never (callees e) (calleesAll es) (no-callees at e (t .0)) (no-callees-all _ es (t .1))
 
 module _ (p : ℕ → ℕ → Bool) where
   mutual
@@ -121,7 +121,7 @@ module _ (p : ℕ → ℕ → Bool) where
     no-calls at (unary op e) h = no-calls (at + 2) e h
     no-calls at (binary op l r) h =
         let t = clean-parts (collect anyCall (at + 2) l) (collect anyCall (at + 2 + exprSize l) r) h in
-        each-both Sound (collect (callsWhere p) (at + 2) l) (collect (callsWhere p) (at + 2 + exprSize l) r) (no-calls _ l (t .0)) (no-calls _ r (t .1))
+        each-join Sound (collect (callsWhere p) (at + 2) l) (collect (callsWhere p) (at + 2 + exprSize l) r) (no-calls _ l (t .0)) (no-calls _ r (t .1))
     no-calls at (ifThenElse c t e) h =
         let C = collect anyCall (at + 1) c in
         let D = collect anyCall (at + 1 + exprSize c) t in
@@ -131,11 +131,11 @@ module _ (p : ℕ → ℕ → Bool) where
         let C′ = collect (callsWhere p) (at + 1) c in
         let D′ = collect (callsWhere p) (at + 1 + exprSize c) t in
         let E′ = collect (callsWhere p) (at + 1 + exprSize c + exprSize t) e in
-        each-both Sound C′ (D′ ++ E′) (no-calls _ c (u .0)) (each-both Sound D′ E′ (no-calls _ t (v .0)) (no-calls _ e (v .1)))
+        each-join Sound C′ (D′ ++ E′) (no-calls _ c (u .0)) (each-join Sound D′ E′ (no-calls _ t (v .0)) (no-calls _ e (v .1)))
     no-calls at (pre e) h = no-calls (at + 1) e h
     no-calls at (arrow a b) h =
         let t = clean-parts (collect anyCall (at + 1) a) (collect anyCall (at + 1 + exprSize a) b) h in
-        each-both Sound (collect (callsWhere p) (at + 1) a) (collect (callsWhere p) (at + 1 + exprSize a) b) (no-calls _ a (t .0)) (no-calls _ b (t .1))
+        each-join Sound (collect (callsWhere p) (at + 1) a) (collect (callsWhere p) (at + 1 + exprSize a) b) (no-calls _ a (t .0)) (no-calls _ b (t .1))
     no-calls at (cast t e) h = no-calls _ e h
     no-calls at (call c es) h = let z : _≡_ {A = ℕ} 0 1 = cc (h .0) in absurd (omega arith)
     no-calls at (tuple es) h = no-calls-all (at + 2) es h
@@ -144,4 +144,4 @@ module _ (p : ℕ → ℕ → Bool) where
     no-calls-all at nil h = tt
     no-calls-all at (cons e es) h =
         let t = clean-parts (collect anyCall at e) (collectAll anyCall (at + exprSize e) es) h in
-        each-both Sound (collect (callsWhere p) at e) (collectAll (callsWhere p) (at + exprSize e) es) (no-calls at e (t .0)) (no-calls-all _ es (t .1))
+        each-join Sound (collect (callsWhere p) at e) (collectAll (callsWhere p) (at + exprSize e) es) (no-calls at e (t .0)) (no-calls-all _ es (t .1))

@@ -1,7 +1,6 @@
 -- An expression that stands in a file is read there, and what a type that stands there is.
 use Prim.Native.Nat.{ℕ, zero, suc, _+_, _≤_}
-use mathlib.Core.Bool.{Bool}
-use mathlib.Core.List.{List, [], _∷_, _++_, map}
+use mathlib.Core.List.{List, [], _∷_, map}
 use mathlib.Core.Path.{_≡_, ap, _∙_}
 use lib.ListN.{length, getD}
 use lib.Dec.{T, leb, leb→le}
@@ -13,13 +12,13 @@ use Rattle.ol_spec.specs.Read.{exprR}
 use Rattle.ol_spec.specs.Limits.{base}
 use Rattle.ol_spec.specs.Within.{nameFits, tyFits, rootFits, variableFits}
 use Rattle.ol_spec.specs.declared.Limits.{Limits}
-use Rattle.ol_spec.proofs.Tests.{T-and, and-T}
+use Rattle.ol_spec.proofs.Tests.{T-and}
 use Rattle.ol_spec.proofs.RoundTrip.Parts.{Here}
 use Rattle.ol_spec.proofs.RoundTrip.Taken.{root-takes}
-use Rattle.ol_tree.specs.At.{fileAt, exprAt, exprsAt, ReadsAll}
-use Rattle.ol_tree.specs.Parts.{Proper}
-use Rattle.ol_tree.proofs.Forms.{reads, one-read, one-tree, limits-base}
-use Rattle.ol_tree.proofs.Heads.{walk-one}
+use Rattle.ol_tables.specs.At.{fileAt, exprAt, exprsAt, ReadsAll}
+use Rattle.ol_tables.specs.Parts.{Proper}
+use Rattle.ol_tables.proofs.Forms.{reads, one-read, one-tree, limits-base}
+use Rattle.ol_tables.proofs.HeadLaws.{walk-one}
 
 -- ---- expressions
 
@@ -50,7 +49,3 @@ variable-proper m [] zero t = tt
 variable-proper m [] (suc i) t = tt
 variable-proper m (v ∷ vs) zero t = type-proper m (v .ty) (T-and (nameFits (v .name)) _ (T-and (variableFits base m v) _ t .0) .1)
 variable-proper m (v ∷ vs) (suc i) t = variable-proper m vs i (T-and (variableFits base m v) _ t .1)
-
-pub fits-join : {A : Type 0} (p : A → Bool) (xs ys : List A) → T (allOf p xs) → T (allOf p ys) → T (allOf p (xs ++ ys))
-fits-join p [] ys t u = u
-fits-join p (x ∷ xs) ys t u = let w = T-and (p x) (allOf p xs) t in and-T (p x) _ (w .0) (fits-join p xs ys (w .1) u)

@@ -21,19 +21,19 @@ use Rattle.ol_spec.specs.Admission.{mayCall, badCall, constantNames}
 use Rattle.ol_spec.specs.declared.Value.{Value}
 use Rattle.ol_spec.proofs.Cells.{length-cells}
 use Rattle.ol_spec.proofs.Segments.{sites-append}
-use Rattle.ol_tree.specs.At.{fileAt, nodeIn, exprsAt}
-use Rattle.ol_tree.specs.Tables.{Each, rowAt, nodeOf}
-use Rattle.ol_tree.proofs.Forms.{each-append}
-use Rattle.ol_fresh.specs.Known.{Sited}
-use Rattle.ol_fresh.specs.Defaults.{cellsAt}
-use Rattle.ol_fresh.proofs.Records.{is-operator as fresh-operator, no-operator, operator-size, no-size, few-nodes, variables-told, default-cells, row-of}
+use Rattle.ol_tables.specs.At.{fileAt, nodeIn, exprsAt}
+use Rattle.ol_tables.specs.Tables.{Each, rowAt, nodeOf}
+use Rattle.ol_tables.proofs.Forms.{each-append}
+use Rattle.ol_state.specs.Known.{Sited}
+use Rattle.ol_state.specs.Defaults.{cellsAt}
+use Rattle.ol_state.proofs.Instances.{is-operator as fresh-operator, no-operator, operator-size, no-size, few-nodes, variables-told, default-cells, row-of}
 use Rattle.ol_eval.specs.Walk.{nodesIn, sizesIn, Below}
 use Rattle.ol_eval.specs.Plans.{knownIn, globalsIn, widthIn}
 use Rattle.ol_eval.specs.Equations.{countIn, equationIn, rhsIn}
 use Rattle.ol_eval.specs.Nodes.{Running}
 use Rattle.ol_eval.specs.Calls.{asIs, Did, outputsAt, Steppable, SiteTo, Runnable, runIn, EndsAs, RunMeets, RunTo}
 use Rattle.ol_eval.specs.declared.cycle.Ended.{Ended}
-use Rattle.ol_eval.proofs.Lending.{tailOf, putTail, tail-all, put-tail, drop-put, length-put}
+use Rattle.ol_tables.proofs.Lending.{tailOf, putTail, tail-all, put-tail, drop-put, length-put}
 use Rattle.ol_eval.proofs.Planning.{sound-call, sounds-each}
 use Rattle.ol_eval.proofs.Passing.{callees-one}
 use Rattle.ol_eval.proofs.Depth.{calls-of, fresh-of}

@@ -18,8 +18,8 @@ use Rattle.ol_spec.specs.declared.Outcome.{Outcome}
 use Rattle.ol_spec.specs.declared.Outcome.the-variants as Out
 use Rattle.ol_spec.proofs.Runs.{length-values}
 use Rattle.ol_value.specs.Codes.{tyOf}
-use Rattle.ol_tree.specs.At.{nodeIn}
-use Rattle.ol_tree.specs.Tables.{slotsFrom, slotAt, slotBy, codeAt, enumAt, HasSlot}
+use Rattle.ol_tables.specs.At.{nodeIn}
+use Rattle.ol_tables.specs.Tables.{slotsFrom, slotAt, slotBy, codeAt, enumAt, HasSlot}
 use Rattle.ol_eval.specs.Walk.{nodesIn}
 use Rattle.ol_eval.specs.Plans.{Program}
 use Rattle.ol_eval.specs.Stores.{passedBy, cellsIn, Typed, Storable, Stores, StoresOut, Assignable, Assigns, Leaves}

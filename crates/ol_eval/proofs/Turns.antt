@@ -12,15 +12,16 @@ use Rattle.ol_spec.specs.Eval.{Evals, Outcomes, values, failure, overflow, call
 use Rattle.ol_spec.specs.Step.{sites, assign, finished, failedAt, overflowedAt, evalEquation, calls}
 use Rattle.ol_spec.specs.Step.{Ended as Ending}
 use Rattle.ol_spec.specs.declared.Value.{Value}
-use Rattle.ol_tree.specs.At.{fileAt, nodeIn, exprsAt}
-use Rattle.ol_tree.specs.Tables.{Each}
+use Rattle.ol_tables.specs.At.{fileAt, nodeIn, exprsAt}
+use Rattle.ol_tables.specs.Tables.{Each}
+use Rattle.ol_tables.proofs.Forms.{each-map}
 use Rattle.ol_eval.specs.Walk.{nodesIn, sizesIn, Below}
 use Rattle.ol_eval.specs.Plans.{globalsIn, widthIn}
 use Rattle.ol_eval.specs.Nodes.{Running}
 use Rattle.ol_eval.specs.Calls.{endCode, Holds, Did, Runnable, runIn, EndsAs, RunTo, EquationReady, EquationTo}
 use Rattle.ol_eval.specs.Equations.{countIn, rhsIn, equationIn, EquationsStand, EquationsAre, offsetIn}
 use Rattle.ol_eval.proofs.Passing.{callees-one}
-use Rattle.ol_eval.proofs.Planning.{each-map, sounds-below}
+use Rattle.ol_eval.proofs.Planning.{sounds-below}
 use Rattle.ol_eval.proofs.Equating.{offset-suc, offset-upto}
 use Rattle.ol_eval.proofs.Running.{midOf, putMid, length-mid, segOf, putSeg, sizeOf, Left, rightOf, left-start, left-turn, left-failed, left-over, left-done}
 

@@ -6,9 +6,9 @@ use Prim.Native.Nat.{ℕ}
 use lib.ListN.{length}
 use Rattle.ol_spec.specs.Syntax.{File}
 use Rattle.ol_spec.specs.Admission.{fault6, fault7, fault8, fault9, fault10, fault11}
-use Rattle.ol_tree.specs.At.{fileAt}
-use Rattle.ol_tree.specs.Stands.{FileReads, FileStands}
-use Rattle.ol_tree.specs.Tables.{Rows, Tab}
+use Rattle.ol_tables.specs.At.{fileAt}
+use Rattle.ol_tables.specs.Stands.{FileReads, FileStands}
+use Rattle.ol_tables.specs.Tables.{Rows, Tab}
 
 -- 6 to 10 do not hold
 pub record Sound (f : File) : Type 0 where

@@ -12,8 +12,8 @@ use Rattle.ol_spec.specs.Eval.{Outcomes, values, failure, overflow, Evals, call
 use Rattle.ol_spec.specs.Step.{sites, fitAll, assign, split, Run, finished, failedAt, overflowedAt, evalEquation, runAll, calls}
 use Rattle.ol_spec.specs.Step.{Ended as Ending}
 use Rattle.ol_spec.specs.declared.Value.{Value}
-use Rattle.ol_tree.specs.At.{fileAt, nodeIn, exprAt, endAt, exprsAt, endsAt}
-use Rattle.ol_tree.specs.Tables.{siteBytes}
+use Rattle.ol_tables.specs.At.{fileAt, nodeIn, exprAt, endAt, exprsAt, endsAt}
+use Rattle.ol_tables.specs.Tables.{siteBytes}
 use Rattle.ol_eval.specs.Walk.{nodesIn, sizesIn}
 use Rattle.ol_eval.specs.Plans.{Cells, globalsIn, widthIn, scopeIn, segsAt, segAt}
 use Rattle.ol_eval.specs.Equations.{countIn, placeIn, equationIn, rhsIn}

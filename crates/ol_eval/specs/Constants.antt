@@ -12,9 +12,9 @@ use Rattle.ol_spec.specs.Eval.{calleesAll, eval, thenOut}
 use Rattle.ol_spec.specs.Admission.{usedAt, callsWhere, badCall, valuePlace, noVariables, noCalls, Constants, all, stuckAt}
 use Rattle.ol_spec.specs.declared.Outcome.{Outcome}
 use Rattle.ol_spec.specs.declared.Outcome.the-variants as Out
-use Rattle.ol_tree.specs.At.{fileAt, nodeIn, exprAt, endAt, exprsAt, ReadsAll}
-use Rattle.ol_tree.specs.Tables.{Each, Sound, tyCode}
-use Rattle.ol_tree.specs.Parts.{Proper}
+use Rattle.ol_tables.specs.At.{fileAt, nodeIn, exprAt, endAt, exprsAt, ReadsAll}
+use Rattle.ol_tables.specs.Tables.{Each, Sound, tyCode}
+use Rattle.ol_tables.specs.Parts.{Proper}
 use Rattle.ol_eval.specs.Walk.{nodesIn}
 use Rattle.ol_eval.specs.Plans.{Program, Named, knownIn, globalsIn}
 use Rattle.ol_eval.specs.declared.constants.Found.{Found}

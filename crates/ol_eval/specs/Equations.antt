@@ -8,8 +8,8 @@ use Rattle.ol_spec.specs.Syntax.{Equation}
 use Rattle.ol_spec.specs.Places.{placedNodes, placedEquations, rhsPlace}
 use Rattle.ol_spec.specs.Eval.{callees, sitesSize}
 use Rattle.ol_spec.specs.Step.{equationSites, sites, noEquation, equationAt}
-use Rattle.ol_tree.specs.At.{fileAt, nodeIn, exprAt, ReadsAll}
-use Rattle.ol_tree.specs.Tables.{Each, placeOf}
+use Rattle.ol_tables.specs.At.{fileAt, nodeIn, exprAt, ReadsAll}
+use Rattle.ol_tables.specs.Tables.{Each, placeOf}
 use Rattle.ol_eval.specs.Walk.{nodesIn, sizesIn, Below, Sized}
 
 -- how many equations node k has

@@ -9,7 +9,7 @@ use Rattle.ol_spec.specs.Admission.{stateSize}
 use Rattle.ol_spec.specs.Cycle.{CycleCall, mainRun, endRun}
 use Rattle.ol_spec.specs.declared.Value.{Value}
 use Rattle.ol_spec.specs.declared.Cycled.{Cycled}
-use Rattle.ol_tree.specs.At.{fileAt, nodeIn}
+use Rattle.ol_tables.specs.At.{fileAt, nodeIn}
 use Rattle.ol_eval.specs.Walk.{nodesIn, sizesIn}
 use Rattle.ol_eval.specs.Plans.{globalsIn, widthIn}
 use Rattle.ol_eval.specs.Nodes.{Running}

@@ -6,9 +6,9 @@ use lib.ListN.{length, getD}
 use Rattle.ol_theory.specs.Member.{Distinct}
 use Rattle.ol_spec.specs.Places.{placedNames}
 use Rattle.ol_spec.specs.Order.{order}
-use Rattle.ol_tree.specs.At.{fileAt, nodeIn, exprAt}
-use Rattle.ol_tree.specs.Tables.{Each, HasSlot}
-use Rattle.ol_fresh.specs.Known.{Known}
+use Rattle.ol_tables.specs.At.{fileAt, nodeIn, exprAt}
+use Rattle.ol_tables.specs.Tables.{Each, HasSlot}
+use Rattle.ol_state.specs.Known.{Known}
 use Rattle.ol_eval.specs.Walk.{nodesIn, Below}
 use Rattle.ol_eval.specs.Equations.{countIn, placeIn, equationIn, rhsIn}
 use Rattle.ol_eval.specs.Plans.{knownIn, constantsIn, namesIn, Program, Plan}

@@ -13,9 +13,9 @@ use Rattle.ol_spec.specs.Numbers.{numberOf}
 use Rattle.ol_spec.specs.Eval.{Globals, Scope, Eval, calleesAll, callees, sitesSize, eval}
 use Rattle.ol_spec.specs.Step.{globals, scope, calls}
 use Rattle.ol_spec.specs.Admission.{constantNames, usedAt, callsWhere, badCall}
-use Rattle.ol_tree.specs.At.{fileAt, nodeIn, exprAt, endAt, exprsAt, endsAt, Reads, ReadsAll}
-use Rattle.ol_tree.specs.Tables.{Each, Tab, HasSlot, slotOf, Sound, slotsFrom}
-use Rattle.ol_tree.specs.Parts.{Proper}
+use Rattle.ol_tables.specs.At.{fileAt, nodeIn, exprAt, endAt, exprsAt, endsAt, Reads, ReadsAll}
+use Rattle.ol_tables.specs.Tables.{Each, Tab, HasSlot, slotOf, Sound, slotsFrom}
+use Rattle.ol_tables.specs.Parts.{Proper}
 use Rattle.ol_eval.specs.Walk.{nodesIn, sizesIn, Sized}
 
 -- how many constants have their cells there, and their names

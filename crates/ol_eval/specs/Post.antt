@@ -7,8 +7,8 @@ use lib.ListN.{length, take, drop}
 use Rattle.ol_spec.specs.Syntax.{Expr}
 use Rattle.ol_spec.specs.Eval.{Eval, Branch, calleesAll, next, mapEval, choose, branch, condition}
 use Rattle.ol_value.specs.Codes.{binaryBy}
-use Rattle.ol_tree.specs.At.{exprAt, endAt, exprsAt, endsAt}
-use Rattle.ol_tree.specs.Tables.{Each}
+use Rattle.ol_tables.specs.At.{exprAt, endAt, exprsAt, endsAt}
+use Rattle.ol_tables.specs.Tables.{Each}
 use Rattle.ol_eval.specs.Plans.{Plan, Cells, segsAt, segAt, evalIn, globalsIn, scopeIn}
 use Rattle.ol_eval.specs.Nodes.{Enters}
 use Rattle.ol_eval.specs.declared.cycle.Step.{Step}

@@ -14,7 +14,7 @@ use Rattle.ol_spec.specs.declared.Value.{Value}
 use Rattle.ol_spec.specs.declared.Outcome.{Outcome}
 use Rattle.ol_spec.specs.declared.Outcome.the-variants as Out
 use Rattle.ol_value.specs.Codes.{tyOf}
-use Rattle.ol_tree.specs.Tables.{slotsFrom, slotAt, codeAt, enumAt, HasSlot}
+use Rattle.ol_tables.specs.Tables.{slotsFrom, slotAt, codeAt, enumAt, HasSlot}
 
 -- a value as it is passed on: fitted to a type, or as it is
 abbrev pub passedBy : Bool → Ty → Value → Value

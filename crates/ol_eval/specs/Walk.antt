@@ -1,18 +1,16 @@
 -- What passing over expressions asks and gives.
-use Prim.Native.Nat.{ℕ, zero, suc, _+_, _-_, _<_, _≤_}
+use Prim.Native.Nat.{ℕ, _+_, _-_, _<_, _≤_}
 use mathlib.Core.Bool.{Bool, true, false, not}
-use mathlib.Core.List.{List, []}
+use mathlib.Core.List.{List}
 use mathlib.Core.Path.{_≡_}
-use lib.ListN.{length, getD}
+use lib.ListN.{length}
 use Rattle.ol_spec.specs.Lists.{isEmpty}
-use Rattle.ol_spec.specs.Syntax.{File}
-use Rattle.ol_spec.specs.Eval.{callees, calleesAll, sitesSize}
+use Rattle.ol_spec.specs.Eval.{calleesAll, sitesSize}
 use Rattle.ol_spec.specs.Step.{sizesAt}
-use Rattle.ol_tree.specs.At.{fileAt, exprAt, endAt, exprsAt, endsAt, Reads, ReadsAll}
-use Rattle.ol_tree.specs.Tables.{Each, Rows}
-use Rattle.ol_tree.specs.Heads.{partsOf, headSize as headOf}
-use Rattle.ol_tree.specs.Parts.{ownSites}
-use Rattle.ol_eval.specs.declared.skip.Form.{Form}
+use Rattle.ol_tables.specs.At.{fileAt, exprAt, endAt, exprsAt, endsAt, ReadsAll}
+use Rattle.ol_tables.specs.Tables.{Each, Rows}
+use Rattle.ol_tables.specs.Heads.{partsOf, headSize as headOf}
+use Rattle.ol_tables.specs.declared.heads.Parts.{Parts}
 use Rattle.ol_eval.specs.declared.skip.Passed.{Passed}
 
 -- how many nodes the file has
@@ -28,7 +26,7 @@ abbrev pub Below : ℕ → ℕ → Type 0
 Below n c = c < n
 
 -- the form at a place: where its parts start, and how many there are
-pub record FormIs (file : List ℕ) (level at : ℕ) (r : Form) : Type 0 where
+pub record FormIs (file : List ℕ) (level at : ℕ) (r : Parts) : Type 0 where
   pub start-is : r .start ≡ at + headOf (exprAt file level at)
   pub parts : partsOf (exprAt file level at) ≡ exprsAt file (level - 1) (r .count) (r .start)
   pub read : ReadsAll file (level - 1) (r .count) (r .start)

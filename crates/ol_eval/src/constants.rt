@@ -9,7 +9,7 @@ ghost use Rattle.ol_eval.specs.Walk.{nodesIn};
 ghost use Rattle.ol_eval.specs.Plans.{knownIn};
 ghost use Rattle.ol_eval.specs.Constants.{ConstantReady, ConstantsReady, ConstantsAre, constantAt, valueAt, constantOut};
 ghost use Rattle.ol_spec.specs.Admission.{constants};
-ghost use Rattle.ol_tree.specs.At.{fileAt, endAt};
+ghost use Rattle.ol_tables.specs.At.{fileAt, endAt};
 use crate::cycle::after_type;
 use crate::cycle::eval;
 use crate::outcomes::kept;
@@ -36,7 +36,7 @@ fn fitted(code: u8, o: Outcome) -> Outcome
 }
 
 // The value of the constant at `at`, where those before it have their cells in `consts`; the file has so many nodes.
-pub fn constant_value(
+fn constant_value(
     file: &[u8],
     tab: &[u8],
     rows: &[usize],

@@ -6,7 +6,7 @@ ghost use lib.ListN.{length, take, drop};
 ghost use Rattle.ol_spec.specs.Cell.{cell, cells, valueOf, valuesOf};
 ghost use Rattle.ol_spec.specs.Eval.{Outcomes, single};
 ghost use Rattle.ol_value.specs.Codes.{tyOf};
-ghost use Rattle.ol_tree.specs.Tables.{slotsFrom, codeAt};
+ghost use Rattle.ol_tables.specs.Tables.{slotsFrom, codeAt};
 ghost use Rattle.ol_eval.specs.Stores.{passedBy, Storable, Stores, endOf, StoresOut, Assignable, Assigns, Leaves};
 use crate::outcomes::kept;
 use crate::tables::code_of;
@@ -30,7 +30,7 @@ pub fn copy(from: &[u8], to: &mut [u8])
 }
 
 // The cells from index `first` up to `last`.
-pub fn copy_cells(first: usize, last: usize, from: &[u8], to: &mut [u8])
+pub(crate) fn copy_cells(first: usize, last: usize, from: &[u8], to: &mut [u8])
     requires { ⌜ (first ≤ last) × (last ≤ 112) × (9 * last ≤ length (now from)) × (9 * last ≤ length (now to)) ⌝ }
     ensures { λ _. ⌜ now (to .exit) ≡ take (9 * first) (now (to .entry)) ++ (take (9 * last - 9 * first) (drop (9 * first) (now (from .entry))) ++ drop (9 * last) (now (to .entry))) ⌝ }
 {
@@ -40,7 +40,7 @@ pub fn copy_cells(first: usize, last: usize, from: &[u8], to: &mut [u8])
 }
 
 // n cells, each as its value's nine bytes.
-pub fn write_cells(n: usize, from: &[u8], to: &mut [u8])
+pub(crate) fn write_cells(n: usize, from: &[u8], to: &mut [u8])
     requires { ⌜ (n ≤ 112) × (9 * n ≤ length (now from)) × (9 * n ≤ length (now to)) ⌝ }
     ensures { λ _. ⌜ now (to .exit) ≡ cells (valuesOf n (now (from .entry))) ++ drop (9 * n) (now (to .entry)) ⌝ }
 {
@@ -54,7 +54,7 @@ pub fn write_cells(n: usize, from: &[u8], to: &mut [u8])
 }
 
 // A value as it is passed on: fitted to variable i of node k, or as it is.
-pub fn passed(tab: &[u8], fits: bool, k: usize, i: usize, v: Value) -> Value
+pub(crate) fn passed(tab: &[u8], fits: bool, k: usize, i: usize, v: Value) -> Value
     requires { ⌜ (slotsFrom ≤ length (now tab)) × (k < 32) × (i < 112) ⌝ }
     ensures { λ r. ⌜ ((e : ℕ) → r ≡ passedBy fits (tyOf (codeAt (now (tab .entry)) k i) e) v) × (valueOf (cell r) ≡ r) ⌝ }
 {
@@ -67,7 +67,7 @@ pub fn passed(tab: &[u8], fits: bool, k: usize, i: usize, v: Value) -> Value
 }
 
 // Stores a value, fitted, in the cell of the name that stands at `at`, a variable of node k.
-pub fn store(tab: &[u8], k: usize, at: usize, v: Value, cells: &mut [u8])
+fn store(tab: &[u8], k: usize, at: usize, v: Value, cells: &mut [u8])
     requires { ⌜ Storable (now tab) k at (now cells) ⌝ }
     ensures { λ _. ⌜ Stores (now (tab .entry)) k at v (now (cells .entry)) (now (cells .exit)) ⌝ }
 {
@@ -80,7 +80,7 @@ pub fn store(tab: &[u8], k: usize, at: usize, v: Value, cells: &mut [u8])
 }
 
 // Stores an outcome's value, if it has one; answers how the equation ended.
-pub fn store_out(tab: &[u8], k: usize, at: usize, o: Outcome, cells: &mut [u8]) -> u8
+pub(crate) fn store_out(tab: &[u8], k: usize, at: usize, o: Outcome, cells: &mut [u8]) -> u8
     requires { ⌜ Storable (now tab) k at (now cells) ⌝ }
     ensures { λ r. ⌜ (r ≡ endOf o) × StoresOut (now (tab .entry)) k at o (now (cells .entry)) (now (cells .exit)) ⌝ }
 {
@@ -95,7 +95,7 @@ pub fn store_out(tab: &[u8], k: usize, at: usize, o: Outcome, cells: &mut [u8]) 
 }
 
 // Stores n values, each in the cell of its name; the names stand from `at` on.
-pub fn assign(tab: &[u8], k: usize, at: usize, n: usize, from: &[u8], cells: &mut [u8])
+pub(crate) fn assign(tab: &[u8], k: usize, at: usize, n: usize, from: &[u8], cells: &mut [u8])
     requires { ⌜ Assignable (now tab) k at n (now from) (now cells) ⌝ }
     ensures { λ _. ⌜ Assigns (now (tab .entry)) k at n n (now (from .entry)) (now (cells .entry)) (now (cells .exit)) ⌝ }
 {
@@ -109,7 +109,7 @@ pub fn assign(tab: &[u8], k: usize, at: usize, n: usize, from: &[u8], cells: &mu
 }
 
 // The value of a call that ended so and has so many outputs, the first of which is the cell of index i.
-pub fn single_out(end: u8, outputs: usize, i: usize, cells: &[u8]) -> Outcome
+pub(crate) fn single_out(end: u8, outputs: usize, i: usize, cells: &[u8]) -> Outcome
     requires { ⌜ (i ≤ 112) × (9 * i + 9 ≤ length (now cells)) ⌝ }
     ensures { λ r. ⌜ ((os : Outcomes) → Leaves os end outputs (drop (9 * i) (now (cells .entry))) → r ≡ single os) ⌝ }
 {
@@ -127,7 +127,7 @@ pub fn single_out(end: u8, outputs: usize, i: usize, cells: &[u8]) -> Outcome
 }
 
 // The lesser of two numbers.
-pub fn less(a: usize, b: usize) -> usize
+pub(crate) fn less(a: usize, b: usize) -> usize
     ensures { λ r. ⌜ r ≡ min a b ⌝ }
 {
     if a < b { a } else { b }

@@ -7,7 +7,7 @@ ghost use mathlib.Core.Bool.{cond};
 ghost use Rattle.ol_eval.specs.Post.{Ready, EvalsTo, TwoTo, ChooseTo, IfTo};
 ghost use Rattle.ol_eval.specs.Calls.{Passes, AllTo, EntersTo, Steppable, SiteTo, Runnable, RunTo, EquationReady, RhsReady, EquationTo};
 ghost use Rattle.ol_spec.specs.Syntax.{Function, Operator};
-ghost use Rattle.ol_tree.specs.At.{nodeIn};
+ghost use Rattle.ol_tables.specs.At.{nodeIn};
 ghost use lib.ListN.{length, getD};
 use crate::copies::assign;
 use crate::copies::copy;
@@ -35,33 +35,40 @@ use crate::skip::pass_all;
 use crate::tables::number;
 use crate::tables::order_at;
 use crate::tables::row;
-use ol_fresh::defaults::write_defaults;
-use ol_fresh::write_fresh;
 use ol_spec::Outcome;
+use ol_state::defaults::write_defaults;
+use ol_state::fresh::write_fresh;
+use ol_tables::tables::COUNT;
+use ol_tables::tables::INPUTS;
+use ol_tables::tables::KIND;
+use ol_tables::tables::MOST_CELLS;
+use ol_tables::tables::OUTPUTS;
+use ol_tables::tables::SIZE;
+use ol_tables::tables::VARIABLES;
 use ol_value::cell::write_cell;
 
 // What evaluating an expression gives: its outcome, where it ends, and the bytes of its records.
-pub struct Step {
-    pub out: Outcome,
-    pub next: usize,
-    pub used: usize,
+pub(crate) struct Step {
+    pub(crate) out: Outcome,
+    pub(crate) next: usize,
+    pub(crate) used: usize,
 }
 
 // What evaluating several expressions, or a call, gives: how it ended (0 with values, 1 at a failure, 2 at an overflow), where they end, and the bytes of their records.
-pub struct Ran {
-    pub end: u8,
-    pub next: usize,
-    pub used: usize,
+pub(crate) struct Ran {
+    pub(crate) end: u8,
+    pub(crate) next: usize,
+    pub(crate) used: usize,
 }
 
 // How a run of a node's equations ended, likewise, and the equation that ended it.
-pub struct Ended {
-    pub end: u8,
-    pub index: usize,
+pub(crate) struct Ended {
+    pub(crate) end: u8,
+    pub(crate) index: usize,
 }
 
 // The expression at `at`. A Var is read at once.
-pub fn eval(
+pub(crate) fn eval(
     file: &[u8],
     tab: &[u8],
     rows: &[usize],
@@ -275,7 +282,7 @@ fn eval_form(
 }
 
 // Where the type with this code, which stands at `at`, ends.
-pub fn after_type(code: u8, at: usize) -> usize
+pub(crate) fn after_type(code: u8, at: usize) -> usize
     requires { ⌜ at < 65536 ⌝ }
     ensures { λ r. ⌜ r ≡ at + cond (eqb code 12) 2 1 ⌝ }
 {
@@ -589,7 +596,7 @@ fn eval_call(
     requires { ⌜ Ready (now file) (now tab) (now rows) (now consts) level 1 at node (now cells) (now before) (now old) (now new) × (getD (now file) at 0 ≡ 11) ⌝ }
     ensures { λ r. ⌜ EvalsTo (now (file .entry)) (now (consts .entry)) level at node first (now (cells .entry)) (now (before .entry)) (now (old .entry)) r (now (new .exit)) ⌝ }
 {
-    let mut callee = [0u8; 1008];
+    let mut callee = [0u8; MOST_CELLS];
     let r = enter(
         file,
         tab,
@@ -607,8 +614,8 @@ fn eval_call(
     );
     let p = at + 1;
     let k = number(file[p]);
-    let outputs = row(rows, k, 3);
-    let inputs = row(rows, k, 2);
+    let outputs = row(rows, k, OUTPUTS);
+    let inputs = row(rows, k, INPUTS);
     Step {
         out: single_out(r.end, outputs, inputs, &callee),
         next: r.next,
@@ -639,7 +646,7 @@ fn enter(
     let k = number(file[p]);
     let q = at + 2;
     let n = number(file[q]);
-    let size = row(rows, k, 6);
+    let size = row(rows, k, SIZE);
     let a = eval_all(
         true,
         k,
@@ -773,7 +780,7 @@ fn step_site(
     requires { ⌜ Steppable (now file) (now tab) (now rows) (now consts) k (now callee) (now old) (now new) ⌝ }
     ensures { λ r. ⌜ SiteTo (now (file .entry)) (now (consts .entry)) k (now (callee .entry)) (now (old .entry)) r (now (callee .exit)) (now (new .exit)) ⌝ }
 {
-    let kind = row(rows, k, 0);
+    let kind = row(rows, k, KIND);
     if kind == 1 {
         step_instance(file, tab, rows, consts, k, callee, old, new)
     } else {
@@ -795,9 +802,9 @@ fn step_instance(
     requires { ⌜ Steppable (now file) (now tab) (now rows) (now consts) k (now callee) (now old) (now new) × (nodeIn (now file) k .kind ≡ Operator) ⌝ }
     ensures { λ r. ⌜ SiteTo (now (file .entry)) (now (consts .entry)) k (now (callee .entry)) (now (old .entry)) r (now (callee .exit)) (now (new .exit)) ⌝ }
 {
-    let n = row(rows, k, 4);
+    let n = row(rows, k, VARIABLES);
     let own = 1 + 9 * n;
-    let inputs = row(rows, k, 2);
+    let inputs = row(rows, k, INPUTS);
     let started = old[0];
     copy_cells(inputs, n, &old[1..], callee);
     let r = run(
@@ -840,9 +847,9 @@ fn step_function(
     requires { ⌜ Steppable (now file) (now tab) (now rows) (now consts) k (now callee) (now old) (now new) × (nodeIn (now file) k .kind ≡ Function) ⌝ }
     ensures { λ r. ⌜ SiteTo (now (file .entry)) (now (consts .entry)) k (now (callee .entry)) (now (old .entry)) r (now (callee .exit)) (now (new .exit)) ⌝ }
 {
-    let n = row(rows, k, 4);
-    let inputs = row(rows, k, 2);
-    let mut fresh = [0u8; 1008];
+    let n = row(rows, k, VARIABLES);
+    let inputs = row(rows, k, INPUTS);
+    let mut fresh = [0u8; MOST_CELLS];
     write_defaults(tab, rows, k, &mut fresh);
     copy_cells(inputs, n, &fresh, callee);
     let r = run(file, tab, rows, consts, k, true, callee, &fresh, old, new);
@@ -850,7 +857,7 @@ fn step_function(
 }
 
 // All equations of node k in evaluation order, on the cells that it starts from.
-pub fn run(
+pub(crate) fn run(
     file: &[u8],
     tab: &[u8],
     rows: &[usize],
@@ -868,7 +875,7 @@ pub fn run(
     let mut places = [0usize; 80];
     let mut offsets = [0usize; 81];
     equations(file, rows, k, &mut places, &mut offsets);
-    let n = row(rows, k, 5);
+    let n = row(rows, k, COUNT);
     let mut j: usize = 0;
     while j < n {
         let i = order_at(tab, k, j);
@@ -993,7 +1000,7 @@ fn call_equation(
     requires { ⌜ EquationReady (now file) (now tab) (now rows) (now consts) node i at (now cells) (now before) (now old) (now new) × RhsReady (now file) node i rhs n 11 ⌝ }
     ensures { λ r. ⌜ EquationTo (now (file .entry)) (now (consts .entry)) node i first (now (cells .entry)) (now (before .entry)) (now (old .entry)) r (now (cells .exit)) (now (new .exit)) ⌝ }
 {
-    let mut callee = [0u8; 1008];
+    let mut callee = [0u8; MOST_CELLS];
     let r = enter(
         file,
         tab,
@@ -1013,8 +1020,8 @@ fn call_equation(
     if end == 0 {
         let p = rhs + 1;
         let k = number(file[p]);
-        let outputs = row(rows, k, 3);
-        let from = 9 * row(rows, k, 2);
+        let outputs = row(rows, k, OUTPUTS);
+        let from = 9 * row(rows, k, INPUTS);
         let m = less(n, outputs);
         assign(tab, node, at + 1, m, &callee[from..], cells);
         0
@@ -1043,7 +1050,7 @@ fn tuple_equation(
     requires { ⌜ EquationReady (now file) (now tab) (now rows) (now consts) node i at (now cells) (now before) (now old) (now new) × RhsReady (now file) node i rhs n 12 ⌝ }
     ensures { λ r. ⌜ EquationTo (now (file .entry)) (now (consts .entry)) node i first (now (cells .entry)) (now (before .entry)) (now (old .entry)) r (now (cells .exit)) (now (new .exit)) ⌝ }
 {
-    let mut items = [0u8; 1008];
+    let mut items = [0u8; MOST_CELLS];
     let p = rhs + 1;
     let count = number(file[p]);
     let r = eval_all(

@@ -1,10 +1,10 @@
-// Expressions, equations and node instances, evaluated where their bytes stand. Document 01, "The state".
+// An inner part of the runtime: expressions, equations and node instances of an admitted file, evaluated where their bytes stand. Document 01, "The state".
 pub mod constants;
 pub mod copies;
-pub mod cycle;
-pub mod equations;
+mod cycle;
+mod equations;
 pub mod main_cycle;
-pub mod names;
-pub mod outcomes;
-pub mod skip;
-pub mod tables;
+mod names;
+mod outcomes;
+mod skip;
+mod tables;

@@ -7,6 +7,9 @@ use crate::cycle::run;
 use crate::tables::row;
 use ol_spec::Cycled;
 use ol_spec::Fault;
+use ol_tables::tables::INPUTS;
+use ol_tables::tables::MOST_CELLS;
+use ol_tables::tables::VARIABLES;
 ghost use mathlib.Core.Path.{_≡_};
 ghost use mathlib.Core.List.{List, _∷_, _++_};
 ghost use Prim.Native.Nat.{_+_, _*_, _≤_};
@@ -39,8 +42,8 @@ fn run_record(
     requires { ⌜ RecordReady (now file) (now tab) (now rows) (now consts) main (now inputs) (now old) (now new) (now present) ⌝ }
     ensures { λ r. ⌜ RecordRan (now (file .entry)) (now (consts .entry)) main (now (inputs .entry)) (now (old .entry)) r (now (new .exit)) (now (present .exit)) ⌝ }
 {
-    let n = row(rows, main, 4);
-    let k = row(rows, main, 2);
+    let n = row(rows, main, VARIABLES);
+    let k = row(rows, main, INPUTS);
     let own = 1 + 9 * n;
     begin(k, n, inputs, &old[1..], present);
     let started = old[0];
@@ -83,9 +86,9 @@ pub fn run_main(
     requires { ⌜ RunReady (now file) (now tab) (now rows) (now consts) main (now old) (now inputs) (now new) (now values) ⌝ }
     ensures { λ r. ⌜ ((vs : List Value) → CyclesTo (now (file .entry)) (now (consts .entry)) vs (now (old .entry)) (now (inputs .entry)) (now (values .entry)) r (now (new .exit)) (now (values .exit))) ⌝ }
 {
-    let n = row(rows, main, 4);
+    let n = row(rows, main, VARIABLES);
     let head = consts.len();
-    let mut present = [0u8; 1008];
+    let mut present = [0u8; MOST_CELLS];
     copy(old, new);
     let r = run_record(
         file,

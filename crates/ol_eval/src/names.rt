@@ -7,7 +7,7 @@ ghost use lib.IntN.{pos};
 ghost use lib.ListN.{length, getD};
 ghost use Rattle.ol_spec.specs.Eval.{orFailure, presentOf, preOf, realKind, isDouble?, join, firstType};
 ghost use Rattle.ol_spec.specs.declared.Value.the-variants as Val;
-ghost use Rattle.ol_tree.specs.At.{exprAt, endAt, nodeIn};
+ghost use Rattle.ol_tables.specs.At.{exprAt, endAt, nodeIn};
 ghost use Rattle.ol_eval.specs.Outcomes.{realCode, commonOut};
 ghost use Rattle.ol_eval.specs.Walk.{nodesIn};
 ghost use Rattle.ol_eval.specs.Plans.{Program, globalsIn, scopeIn, Nameable, Looked, Plan, Cells, nameAt, Leaf, evalIn, segsAt};
@@ -24,6 +24,7 @@ use crate::tables::row;
 use crate::tables::slot_at;
 use ol_spec::Outcome;
 use ol_spec::Value;
+use ol_tables::tables::INPUTS;
 use ol_value::cell::read_cell;
 
 // A byte as a wider number.
@@ -52,7 +53,7 @@ fn variant(file: &[u8], at: usize) -> Value
 }
 
 // The name at `at`: a variable's present cell, a constant's value or a variant.
-pub fn present(
+pub(crate) fn present(
     file: &[u8],
     tab: &[u8],
     consts: &[u8],
@@ -74,7 +75,7 @@ pub fn present(
 }
 
 // Pre of the expression at `at`: fails at a first cycle, and on anything but a variable or constant.
-pub fn previous(
+fn previous(
     file: &[u8],
     tab: &[u8],
     consts: &[u8],
@@ -105,7 +106,7 @@ pub fn previous(
 }
 
 // What the form at `at` yields, where no part of it is evaluated: a literal, a Var, a Pre; a Tuple fails.
-pub fn leaf_out(
+pub(crate) fn leaf_out(
     file: &[u8],
     tab: &[u8],
     rows: &[usize],
@@ -138,13 +139,13 @@ fn call_kind(file: &[u8], tab: &[u8], rows: &[usize], k: usize) -> u8
     requires { ⌜ Program (now file) (now tab) (now rows) × (k < nodesIn (now file)) ⌝ }
     ensures { λ r. ⌜ r ≡ realCode (firstType (nodeIn (now (file .entry)) k .outputs)) ⌝ }
 {
-    let i = row(rows, k, 2);
+    let i = row(rows, k, INPUTS);
     let t = code_of(tab, k, i);
     kind_of_type(t)
 }
 
 // Whether the expression at `at` computes in single (1) or in double precision (2), or neither.
-pub fn real_kind(
+fn real_kind(
     file: &[u8],
     tab: &[u8],
     rows: &[usize],
@@ -211,7 +212,7 @@ fn real_kinds(
 }
 
 // The outcome of a taken branch, where the other is at `at`: a single widens if that one counts as double.
-pub fn chosen(
+pub(crate) fn chosen(
     file: &[u8],
     tab: &[u8],
     rows: &[usize],

@@ -16,7 +16,7 @@ use ol_value::operators::eval_unary;
 use ol_value::types::cast_value;
 
 // A value, made again from its parts (it is then moved part by part, which is fast); it is had back from its cell.
-pub fn kept(v: Value) -> Value
+pub(crate) fn kept(v: Value) -> Value
     ensures { λ r. ⌜ (r ≡ v) × (valueOf (cell v) ≡ v) ⌝ }
 {
     match v {
@@ -29,7 +29,7 @@ pub fn kept(v: Value) -> Value
 }
 
 // An outcome, made again from its parts.
-pub fn same_out(o: Outcome) -> Outcome
+pub(crate) fn same_out(o: Outcome) -> Outcome
     ensures { λ r. ⌜ r ≡ o ⌝ }
 {
     match o {
@@ -40,7 +40,7 @@ pub fn same_out(o: Outcome) -> Outcome
 }
 
 // Whether it is a value.
-pub fn done(o: Outcome) -> bool
+pub(crate) fn done(o: Outcome) -> bool
     ensures { λ r. ⌜ r ≡ doneOf o ⌝ }
 {
     match o {
@@ -51,7 +51,7 @@ pub fn done(o: Outcome) -> bool
 }
 
 // The outcome of a unary operator on its operand's.
-pub fn unary_out(op: u8, o: Outcome) -> Outcome
+pub(crate) fn unary_out(op: u8, o: Outcome) -> Outcome
     ensures { λ r. ⌜ r ≡ thenOut (unaryBy op) o ⌝ }
 {
     match o {
@@ -62,7 +62,7 @@ pub fn unary_out(op: u8, o: Outcome) -> Outcome
 }
 
 // The outcome of a cast of an operand's.
-pub fn cast_out(code: u8, o: Outcome) -> Outcome
+pub(crate) fn cast_out(code: u8, o: Outcome) -> Outcome
     ensures { λ r. ⌜ ((e : ℕ) → r ≡ thenOut (castTo (tyOf code e)) o) ⌝ }
 {
     match o {
@@ -73,7 +73,7 @@ pub fn cast_out(code: u8, o: Outcome) -> Outcome
 }
 
 // The outcome of a binary operator on its operands'.
-pub fn binary_out(op: u8, l: Outcome, r: Outcome) -> Outcome
+pub(crate) fn binary_out(op: u8, l: Outcome, r: Outcome) -> Outcome
     ensures { λ out. ⌜ out ≡ binaryOut op l r ⌝ }
 {
     match l {
@@ -88,7 +88,7 @@ pub fn binary_out(op: u8, l: Outcome, r: Outcome) -> Outcome
 }
 
 // A condition: 1 true, 0 false, 2 neither.
-pub fn test_of(o: Outcome) -> u8
+pub(crate) fn test_of(o: Outcome) -> u8
     ensures { λ r. ⌜ r ≡ testOf o ⌝ }
 {
     match o {
@@ -105,7 +105,7 @@ pub fn test_of(o: Outcome) -> u8
 }
 
 // What a choice comes to whose condition is no Bool: a value there fails.
-pub fn untested(o: Outcome) -> Outcome
+pub(crate) fn untested(o: Outcome) -> Outcome
     ensures { λ r. ⌜ r ≡ untestedOf o ⌝ }
 {
     match o {
@@ -116,7 +116,7 @@ pub fn untested(o: Outcome) -> Outcome
 }
 
 // Whether the branch not taken is evaluated: the taken one succeeded, and it contains a call.
-pub fn runs(taken: Outcome, has: bool) -> bool
+pub(crate) fn runs(taken: Outcome, has: bool) -> bool
     ensures { λ r. ⌜ r ≡ runsOf taken has ⌝ }
 {
     match taken {
@@ -127,7 +127,7 @@ pub fn runs(taken: Outcome, has: bool) -> bool
 }
 
 // The untaken branch's failure is dropped, its overflow is not.
-pub fn drop_failure(taken: Outcome, other: Outcome) -> Outcome
+pub(crate) fn drop_failure(taken: Outcome, other: Outcome) -> Outcome
     ensures { λ r. ⌜ r ≡ dropOut taken other ⌝ }
 {
     match other {
@@ -138,7 +138,7 @@ pub fn drop_failure(taken: Outcome, other: Outcome) -> Outcome
 }
 
 // Whether it is a single.
-pub fn is_single(o: Outcome) -> bool
+pub(crate) fn is_single(o: Outcome) -> bool
     ensures { λ r. ⌜ r ≡ singleOf o ⌝ }
 {
     match o {
@@ -168,7 +168,7 @@ fn widened(v: Value) -> Value
 }
 
 // A chosen single widens where the other branch counts as double.
-pub fn common_out(kind: u8, o: Outcome) -> Outcome
+pub(crate) fn common_out(kind: u8, o: Outcome) -> Outcome
     ensures { λ r. ⌜ r ≡ commonOut (eqb kind 2) o ⌝ }
 {
     match o {
@@ -185,7 +185,7 @@ pub fn common_out(kind: u8, o: Outcome) -> Outcome
 }
 
 // The real kind of a type.
-pub fn kind_of_type(code: u8) -> u8
+pub(crate) fn kind_of_type(code: u8) -> u8
     ensures { λ r. ⌜ ((e : ℕ) → r ≡ realCode (kindOfType (tyOf code e))) ⌝ }
 {
     match code {
@@ -196,7 +196,7 @@ pub fn kind_of_type(code: u8) -> u8
 }
 
 // The real kind of a value.
-pub fn kind_of_outcome(o: Outcome) -> u8
+pub(crate) fn kind_of_outcome(o: Outcome) -> u8
     ensures { λ r. ⌜ r ≡ outcomeKind o ⌝ }
 {
     match o {
@@ -213,7 +213,7 @@ pub fn kind_of_outcome(o: Outcome) -> u8
 }
 
 // The greater of two real kinds.
-pub fn join_kinds(a: u8, b: u8) -> u8
+pub(crate) fn join_kinds(a: u8, b: u8) -> u8
     ensures { λ r. ⌜ ((j k : RealKind) → a ≡ realCode j → b ≡ realCode k → r ≡ realCode (join j k)) ⌝ }
 {
     if a < b { b } else { a }

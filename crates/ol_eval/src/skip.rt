@@ -1,108 +1,25 @@
 // Passing over expressions: where they end, how many bytes the records of their call sites have, and whether they contain a call.
 use crate::tables::row;
+use ol_tables::heads::head;
+use ol_tables::tables::SIZE;
 ghost use mathlib.Core.Path.{_≡_};
-ghost use Prim.Native.Nat.{_≤_, _<_};
+ghost use Prim.Native.Nat.{_<_};
 ghost use lib.ListN.{length, getD};
 ghost use lib.Dec.{eqb};
 ghost use Rattle.ol_spec.specs.Eval.{sitesSize};
-ghost use Rattle.ol_tree.specs.At.{exprAt, Reads};
-ghost use Rattle.ol_tree.specs.Parts.{ownSites};
-ghost use Rattle.ol_eval.specs.Walk.{sizesIn, FormIs, Passable, SkipsTo, eitherOf};
-
-// Where an expression's parts start, and how many there are.
-pub struct Form {
-    pub start: usize,
-    pub count: usize,
-}
+ghost use Rattle.ol_tables.specs.At.{exprAt};
+ghost use Rattle.ol_tables.specs.Parts.{ownSites};
+ghost use Rattle.ol_eval.specs.Walk.{sizesIn, Passable, SkipsTo, eitherOf};
 
 // Where what was passed over ends, the bytes of its records, and whether it contains a call.
-pub struct Passed {
-    pub next: usize,
-    pub used: usize,
-    pub has: bool,
-}
-
-// The form at `at`, by its code byte.
-pub fn form_at(file: &[u8], at: usize, level: usize) -> Form
-    requires { ⌜ Reads (now file) level at ⌝ }
-    ensures { λ r. ⌜ FormIs (now (file .entry)) level at r ⌝ }
-{
-    let code = file[at];
-    match code {
-        0 => Form {
-            start: at + 2,
-            count: 0,
-        },
-        1 => Form {
-            start: at + 9,
-            count: 0,
-        },
-        2 => Form {
-            start: at + 9,
-            count: 0,
-        },
-        3 => Form {
-            start: at + 2,
-            count: 0,
-        },
-        4 => Form {
-            start: at + 3,
-            count: 0,
-        },
-        5 => Form {
-            start: at + 2,
-            count: 1,
-        },
-        6 => Form {
-            start: at + 2,
-            count: 2,
-        },
-        7 => Form {
-            start: at + 1,
-            count: 3,
-        },
-        8 => Form {
-            start: at + 1,
-            count: 1,
-        },
-        9 => Form {
-            start: at + 1,
-            count: 2,
-        },
-        10 => {
-            let p = at + 1;
-            let t = file[p];
-            if t == 12 {
-                Form {
-                    start: at + 3,
-                    count: 1,
-                }
-            } else {
-                Form {
-                    start: at + 2,
-                    count: 1,
-                }
-            }
-        }
-        11 => {
-            let p = at + 2;
-            Form {
-                start: at + 3,
-                count: file[p] as usize,
-            }
-        }
-        _ => {
-            let p = at + 1;
-            Form {
-                start: at + 2,
-                count: file[p] as usize,
-            }
-        }
-    }
+pub(crate) struct Passed {
+    pub(crate) next: usize,
+    pub(crate) used: usize,
+    pub(crate) has: bool,
 }
 
 // Whether the expression at `at` is a call.
-pub fn is_call(file: &[u8], at: usize) -> bool
+fn is_call(file: &[u8], at: usize) -> bool
     requires { ⌜ at < length (now file) ⌝ }
     ensures { λ r. ⌜ r ≡ eqb (getD (now (file .entry)) at 0) 11 ⌝ }
 {
@@ -110,28 +27,28 @@ pub fn is_call(file: &[u8], at: usize) -> bool
 }
 
 // The bytes of the record of the call site at `at`; 0 if it is no call.
-pub fn own_size(file: &[u8], rows: &[usize], at: usize, level: usize) -> usize
+fn own_size(file: &[u8], rows: &[usize], at: usize, level: usize) -> usize
     requires { ⌜ Passable (now file) (now rows) level 1 at ⌝ }
     ensures { λ r. ⌜ r ≡ sitesSize (sizesIn (now (file .entry))) (ownSites (exprAt (now (file .entry)) level at)) ⌝ }
 {
     if is_call(file, at) {
         let p = at + 1;
         let k = file[p] as usize;
-        row(rows, k, 6)
+        row(rows, k, SIZE)
     } else {
         0
     }
 }
 
 // One of two.
-pub fn either(a: bool, b: bool) -> bool
+fn either(a: bool, b: bool) -> bool
     ensures { λ r. ⌜ r ≡ eitherOf a b ⌝ }
 {
     if a { true } else { b }
 }
 
 // Passes over `count` expressions, the first of which is at `at`, head by head: the parts of an expression stand behind its head, so they are the next to be passed over.
-pub fn pass_all(file: &[u8], rows: &[usize], at: usize, level: usize, count: usize) -> Passed
+pub(crate) fn pass_all(file: &[u8], rows: &[usize], at: usize, level: usize, count: usize) -> Passed
     requires { ⌜ Passable (now file) (now rows) level count at ⌝ }
     ensures { λ r. ⌜ SkipsTo (now (file .entry)) level count at r ⌝ }
 {
@@ -140,13 +57,13 @@ pub fn pass_all(file: &[u8], rows: &[usize], at: usize, level: usize, count: usi
     let mut used: usize = 0;
     let mut has = false;
     while left > 0 {
-        let f = form_at(file, next, level);
+        let h = head(file, next);
         let own = own_size(file, rows, next, level);
         let call = is_call(file, next);
         used += own;
         has = either(has, call);
-        left = left - 1 + f.count;
-        next = f.start;
+        left = left - 1 + h.count;
+        next = h.start;
     }
     Passed {
         next: next,
@@ -156,7 +73,7 @@ pub fn pass_all(file: &[u8], rows: &[usize], at: usize, level: usize, count: usi
 }
 
 // Passes over the expression at `at`, of at most `level` levels.
-pub fn pass(file: &[u8], rows: &[usize], at: usize, level: usize) -> Passed
+pub(crate) fn pass(file: &[u8], rows: &[usize], at: usize, level: usize) -> Passed
     requires { ⌜ Passable (now file) (now rows) level 1 at ⌝ }
     ensures { λ r. ⌜ SkipsTo (now (file .entry)) level 1 at r ⌝ }
 {

@@ -68,9 +68,6 @@ pub record ItemChain (w : Next) (y : Counted) (k : ℕ → ℕ → Next) : Type 
 pub link : {y : Next} {k : ℕ → Next} → Chain (onward y k) y k
 link = record { is = refl }
 
-pub item-link : {y : Counted} {k : ℕ → ℕ → Next} → ItemChain (onItems y k) y k
-item-link = record { is = refl }
-
 -- a callee answered x, which stands for y: how the chain goes on
 
 module _ {x y w : Next} {k : ℕ → Next} where

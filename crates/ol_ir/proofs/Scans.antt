@@ -12,9 +12,10 @@ use Rattle.ol_spec.specs.Answers.{faultAt}
 use Rattle.ol_spec.specs.declared.Limits.{Limits}
 use Rattle.ol_spec.proofs.Offsets.{steps, same-end, same-item}
 use Rattle.ol_ir.specs.Nexts.{nextOf}
-use Rattle.ol_ir.specs.Parts.{codeOf, headSize, partsIn, scanOf}
-use Rattle.ol_ir.specs.Skips.{HeadSays}
-use Rattle.ol_ir.specs.declared.skip.Parts.{Parts}
+use Rattle.ol_tables.specs.Heads.{codeOf, headSize, partsOf}
+use Rattle.ol_tables.specs.Walks.{HeadOf}
+use Rattle.ol_tables.specs.declared.heads.Parts.{Parts}
+use Rattle.ol_ir.specs.Scans.{scanOf}
 use Rattle.ol_ir.specs.declared.Next.the-variants as Nxt
 use Rattle.ol_ir.specs.declared.Scan.{Scan}
 use Rattle.ol_ir.specs.declared.Scan.the-variants as Scn
@@ -22,6 +23,7 @@ use Rattle.ol_ir.proofs.Bytes.{byte-in, coded-is}
 use Rattle.ol_ir.proofs.Forms.{number-out}
 use Rattle.ol_ir.proofs.Sizes.{takes-expr}
 use Rattle.ol_ir.proofs.Trees.{then-got, expr-at}
+use Rattle.ol_ir.proofs.Skips.{head-told}
 
 -- ---- names
 
@@ -73,7 +75,7 @@ module _ (s : List ℕ) (l : Limits) (enums d at : ℕ) (e : Expr) (n : ℕ) (g 
       let m : q ≡ at + 1 + exprSize (w .0) = omega (arith, h (w .0) n (w .1), t .ends, t .holds) in
       ap (Scn.Parts 0) m ∙ ap (scanOf at) (sym (w .2))
 
-  other : (e : Expr) → (codeOf e ≡ 4 → ⊥) → (codeOf e ≡ 8 → ⊥) → Scn.Parts (count (partsIn e)) (at + headSize e) ≡ scanOf at e
+  other : (e : Expr) → (codeOf e ≡ 4 → ⊥) → (codeOf e ≡ 8 → ⊥) → Scn.Parts (count (partsOf e)) (at + headSize e) ≡ scanOf at e
   other (boolLit b) u v = refl
   other (intLit i) u v = refl
   other (floatLit b) u v = refl
@@ -88,11 +90,11 @@ module _ (s : List ℕ) (l : Limits) (enums d at : ℕ) (e : Expr) (n : ℕ) (g 
   other (call k es) u v = refl
   other (tuple es) u v = refl
 
-  pub scan-parts : {r : Parts} → (getD s at 0 ≡ 4 → ⊥) → (getD s at 0 ≡ 8 → ⊥) → HeadSays s at r → Scn.Parts (r .count) (r .start) ≡ scanOf at e
+  pub scan-parts : {r : Parts} → (getD s at 0 ≡ 4 → ⊥) → (getD s at 0 ≡ 8 → ⊥) → HeadOf s at r → Scn.Parts (r .count) (r .start) ≡ scanOf at e
   scan-parts {r} u v h =
       let c = expr-at s l enums d at e n g .code in
-      let k = h .is l enums d e n g in
-      rw (k .0, k .1) (other e (λ w. u (c ∙ w)) (λ w. v (c ∙ w)))
+      let k = head-told s l enums d at e n g in
+      rw (h .parts ∙ k .0, h .next ∙ k .1) (other e (λ w. u (c ∙ w)) (λ w. v (c ∙ w)))
 
   -- no expression stands behind the end
   pub scan-end : {z : Scan} → length s ≤ at → z ≡ scanOf at e

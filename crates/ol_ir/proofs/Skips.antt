@@ -1,39 +1,37 @@
 -- Expressions and equations that were read, passed over head by head: what is left are expressions, one behind the other.
 use Prim.Native.Nat.{ℕ, zero, suc, _+_, _-_, _*_, _≤_, _<_}
-use mathlib.Core.List.{List, [], _∷_}
+use mathlib.Core.List.{List}
 use mathlib.Core.Logic.{by-cases}
 use mathlib.Core.Path.{_≡_, refl, sym, ap, subst, _∙_}
-use native.Mathlib.Decide.{decLe}
+use native.Mathlib.Decide.{decLe, ℕ-discrete}
 use native.Mathlib.Omega.{arith}
 use lib.ListN.{length, getD, set}
 use lib.Seq.{sets}
+use borrow.Author.Tests.{lt-ltb, eq-eqb, ne-eqb}
 use Rattle.ol_spec.specs.Lists.{upTo}
 use Rattle.ol_spec.specs.Syntax.{Expr, boolLit, intLit, floatLit, charLit, var, unary, binary, ifThenElse, pre, arrow, cast, call, tuple, Exprs, nil}
 use Rattle.ol_spec.specs.Syntax.{cons, count, Equation}
-use Rattle.ol_spec.specs.Places.{exprSize, exprsSize, rhsPlace}
+use Rattle.ol_spec.specs.Places.{rhsPlace}
 use Rattle.ol_spec.specs.Read.{got, Reader, many, manyExprs, byte, coded, nameR, tyR, exprR, equationR, castCode, callCode, tupleCode}
 use Rattle.ol_spec.specs.Answers.{faultAt}
 use Rattle.ol_spec.specs.declared.Fault.{Fault}
 use Rattle.ol_spec.specs.declared.Limits.{Limits}
 use Rattle.ol_spec.proofs.Offsets.{steps, same-end, same-item}
+use Rattle.ol_tables.specs.Heads.{codeOf, headSize, partsOf, joined, partsTable, sizesTable, tySizeAt, partsAt, nextAt}
+use Rattle.ol_tables.specs.Walks.{skipBy, skipAt}
+use Rattle.ol_tables.proofs.HeadLaws.{head-some}
+use Rattle.ol_tables.proofs.Skipping.{count-size, skip-head, skip-none}
 use Rattle.ol_ir.specs.Nexts.{nextOf, countedOf}
-use Rattle.ol_ir.specs.Parts.{codeOf, headSize, partsIn}
-use Rattle.ol_ir.specs.Skips.{HeadSays}
 use Rattle.ol_ir.specs.Walks.{placesOf}
 use Rattle.ol_ir.specs.declared.Next.the-variants as Nxt
-use Rattle.ol_ir.specs.declared.skip.Parts.{Parts}
 use Rattle.ol_ir.proofs.Bytes.{CountIs, counted-is}
 use Rattle.ol_ir.proofs.Forms.{ty-plain, ty-enum, ty-none, ty-end}
 use Rattle.ol_ir.proofs.Heads.{head-is}
 use Rattle.ol_ir.proofs.Sizes.{takes-byte, takes-coded, takes-expr, takes-exprs}
-use Rattle.ol_ir.proofs.Trees.{many-cons, deeper-parts, expr-at}
+use Rattle.ol_ir.proofs.Trees.{many-cons, deeper-parts, ExprAt, expr-at}
 use Rattle.ol_ir.proofs.Items.{from-next, Puts, put-turn, put-end, section-at, equation-at}
 
 -- ---- lists of expressions
-
-abbrev pub join : Exprs → Exprs → Exprs
-join nil ys = ys
-join (cons x xs) ys = cons x (join xs ys)
 
 module _ (r : Reader Expr) where
   -- the first of those that were read, and the rest
@@ -46,54 +44,27 @@ module _ (r : Reader Expr) where
       let one : suc k - 1 ≡ k = omega arith in
       (t .value, u .value, t .at, t .first, rw one (u .first ∙ ap (got (u .value)) (same-end (u .rest))), same-item (u .rest))
 
-  pub many-join : (k at : ℕ) (xs ys : Exprs) (p j m : ℕ) → manyExprs k r at ≡ got xs p → manyExprs j r p ≡ got ys m → manyExprs (k + j) r at ≡ got (join xs ys) m
-  unfolding manyExprs
+  pub many-join : (k at : ℕ) (xs ys : Exprs) (p j m : ℕ) → manyExprs k r at ≡ got xs p → manyExprs j r p ≡ got ys m → manyExprs (k + j) r at ≡ got (joined xs ys) m
+  unfolding manyExprs joined
   many-join zero at xs ys p j m f g =
       let z : 0 + j ≡ j = omega arith in
       let b : at ≡ p = same-end f in
-      rw z (subst (λ q. manyExprs j r q ≡ got ys m) (sym b) g ∙ ap (λ v. got (join v ys) m) (same-item f))
+      rw z (subst (λ q. manyExprs j r q ≡ got ys m) (sym b) g ∙ ap (λ v. got (joined v ys) m) (same-item f))
   many-join (suc k) at xs ys p j m f g =
       let t = steps (r at) _ xs p f in
       let u = steps (manyExprs k r (t .at)) _ xs p (t .rest) in
       let z : suc k + j ≡ suc (k + j) = omega arith in
       let w = many-join k (t .at) (u .value) ys p j m (u .first ∙ ap (got (u .value)) (same-end (u .rest))) g in
-      rw z (many-cons r (k + j) at (t .first) w ∙ ap (λ v. got (join v ys) m) (same-item (u .rest)))
+      rw z (many-cons r (k + j) at (t .first) w ∙ ap (λ v. got (joined v ys) m) (same-item (u .rest)))
 
   pub many-none : (left at : ℕ) (es : Exprs) (m : ℕ) → left ≤ 0 → manyExprs left r at ≡ got es m → (es ≡ nil) × (at ≡ m)
   unfolding manyExprs
   many-none zero at es m h f = (sym (same-item f), same-end f)
   many-none (suc k) at es m h f = absurd (omega arith)
 
--- an expression has a byte at least
-pub some-size : (e : Expr) → 1 ≤ exprSize e
-some-size (boolLit b) = omega arith
-some-size (intLit i) = omega arith
-some-size (floatLit b) = omega arith
-some-size (charLit c) = omega arith
-some-size (var x) = omega arith
-some-size (unary op e) = omega arith
-some-size (binary op l r) = omega arith
-some-size (ifThenElse c t e) = omega arith
-some-size (pre e) = omega arith
-some-size (arrow a b) = omega arith
-some-size (cast t e) = omega arith
-some-size (call k es) = omega arith
-some-size (tuple es) = omega arith
-
-pub count-size : (es : Exprs) → count es ≤ exprsSize es
-count-size nil = omega arith
-count-size (cons e es) = omega (arith, some-size e, count-size es)
-
 -- ---- a head, by its first byte
 
--- by the code, up to Arrow: how many parts there are, and how many bytes stand in front of them
-abbrev partsTable : List ℕ
-partsTable = 0 ∷ 0 ∷ 0 ∷ 0 ∷ 0 ∷ 1 ∷ 2 ∷ 3 ∷ 1 ∷ 2 ∷ []
-
-abbrev sizesTable : List ℕ
-sizesTable = 2 ∷ 9 ∷ 9 ∷ 2 ∷ 3 ∷ 2 ∷ 2 ∷ 1 ∷ 1 ∷ 1 ∷ []
-
-fixed : (e : Expr) → codeOf e < 10 → (getD partsTable (codeOf e) 0 ≡ count (partsIn e)) × (getD sizesTable (codeOf e) 0 ≡ headSize e)
+fixed : (e : Expr) → codeOf e < 10 → (getD partsTable (codeOf e) 0 ≡ count (partsOf e)) × (getD sizesTable (codeOf e) 0 ≡ headSize e)
 fixed (boolLit b) h = (refl, refl)
 fixed (intLit i) h = (refl, refl)
 fixed (floatLit b) h = (refl, refl)
@@ -142,74 +113,60 @@ module _ (s : List ℕ) (l : Limits) (enums at p : ℕ) (e : nextOf (tyR s l enu
       by-cases (decLe 12 (getD s at 0)) (λ h. absurd (no-type (faultAt 3 at) (ty-none s l enums at type-inside (omega arith))))
       (λ h. let g : Nxt.At (at + 1) ≡ Nxt.At p = ty-plain s l enums at type-inside (omega arith) ∙ e in let z : at + 1 ≡ p = cc in omega arith)
 
-module _ (s : List ℕ) (at : ℕ) where
-  -- a head whose parts its first byte says
-  pub says-fixed : (b k size : ℕ) → getD s at 0 ≡ b → b < 10 → k < 256 → 0 < size → getD partsTable b 0 ≡ k → getD sizesTable b 0 ≡ size → HeadSays s at (record { count = k; start = at + size })
-  says-fixed b k size e h i j f g =
-      record {
-        few = i;
-        onward = omega arith;
-        is = λ l enums d x n r.
-            let c : codeOf x ≡ b = sym (expr-at s l enums d at x n r .code) ∙ e in
-            let w = fixed x (omega arith) in
-            (sym f ∙ ap (λ v. getD partsTable v 0) (sym c) ∙ w .0, ap (λ v. at + v) (sym g ∙ ap (λ v. getD sizesTable v 0) (sym c) ∙ w .1));
-      }
+-- of an expression that was read its bytes tell how many parts it has, and where they start
+module _ (s : List ℕ) (l : Limits) (enums d at : ℕ) (e : Expr) (n : ℕ) (r : exprR s l enums d at ≡ got e n) where
+  abbrev Told : Type 0
+  Told = (partsAt s at ≡ count (partsOf e)) × (nextAt s at ≡ at + headSize e)
 
-  module _ (h : at < length s) where
-    -- a Cast: its type has one byte or two
-    module _ (c : getD s at 0 ≡ 10) where
-      cast-type : (l : Limits) (enums d : ℕ) (e : Expr) (n : ℕ) → exprR s l enums d at ≡ got e n → (1 ≡ count (partsIn e)) × (nextOf (tyR s l enums (at + 1)) ≡ Nxt.At (at + headSize e))
-      unfolding nextOf
-      cast-type l enums d e n r =
-          let x = expr-at s l enums d at e n r in
-          let t = steps (tyR s l enums (at + 1)) _ (count (partsIn e)) (at + headSize e) (sym (head-is s l enums at 10 castCode h c refl) ∙ x .head) in
-          (same-item (t .rest), ap nextOf (t .first) ∙ ap Nxt.At (same-end (t .rest)))
+  read : ExprAt s l enums d at e n
+  read = expr-at s l enums d at e n r
 
-      pub says-enum : {b : ℕ} → b ≡ getD s (at + 1) 0 → b ≡ 12 → HeadSays s at (record { count = 1; start = at + 3 })
-      says-enum f g =
-          record {
-            few = omega arith;
-            onward = omega arith;
-            is = λ l enums d e n r. let w = cast-type l enums d e n r in (w .0, omega (arith, type-two s l enums (at + 1) (at + headSize e) (w .1) (sym f ∙ g)));
-          }
+  -- the first byte says it
+  told-fixed : codeOf e < 10 → Told
+  told-fixed h =
+      let x = read in
+      let w = fixed e h in
+      let low = lt-ltb (getD s at 0) 10 (omega (arith, x .code)) in
+      (rw low (ap (λ v. getD partsTable v 0) (x .code) ∙ w .0), rw (lt-ltb at (length s) (x .inside), low) (ap (λ v. at + v) (ap (λ v. getD sizesTable v 0) (x .code) ∙ w .1)))
 
-      pub says-plain : {b : ℕ} → b ≡ getD s (at + 1) 0 → (b ≡ 12 → ⊥) → HeadSays s at (record { count = 1; start = at + 2 })
-      says-plain f g =
-          record {
-            few = omega arith;
-            onward = omega arith;
-            is = λ l enums d e n r. let w = cast-type l enums d e n r in (w .0, omega (arith, type-one s l enums (at + 1) (at + headSize e) (w .1) (λ i. g (f ∙ i))));
-          }
+  -- a Cast: its type has one byte or two
+  told-cast : getD s at 0 ≡ 10 → Told
+  unfolding nextOf
+  told-cast c =
+      let x = read in
+      let t = steps (tyR s l enums (at + 1)) _ (count (partsOf e)) (at + headSize e) (sym (head-is s l enums at 10 castCode (x .inside) c refl) ∙ x .head) in
+      let q : nextOf (tyR s l enums (at + 1)) ≡ Nxt.At (at + headSize e) = ap nextOf (t .first) ∙ ap Nxt.At (same-end (t .rest)) in
+      let size : at + 1 + tySizeAt s (at + 1) ≡ at + headSize e =
+      by-cases (ℕ-discrete (getD s (at + 1) 0) 12) (λ y. rw (eq-eqb (getD s (at + 1) 0) 12 y) (omega (arith, type-two s l enums (at + 1) (at + headSize e) q y)))
+      (λ z. rw (ne-eqb (getD s (at + 1) 0) 12 z) (omega (arith, type-one s l enums (at + 1) (at + headSize e) q z))) in
+      (rw c (same-item (t .rest)), rw (lt-ltb at (length s) (x .inside), c) size)
 
-    -- a call: its count of arguments stands behind the node's number
-    pub says-call : {k : ℕ} → getD s at 0 ≡ 11 → k < 256 → k ≡ getD s (at + 2) 0 → HeadSays s at (record { count = k; start = at + 3 })
-    unfolding countedOf
-    says-call {k} c i f =
-        record {
-          few = i;
-          onward = omega arith;
-          is = λ l enums d e n r.
-              let x = expr-at s l enums d at e n r in
-              let t = steps (byte s (at + 1)) _ (count (partsIn e)) (at + headSize e) (sym (head-is s l enums at 11 callCode h c refl) ∙ x .head) in
-              let u = takes-byte s .is (at + 1) (t .value) (t .at) (t .first) in
-              let w = counted-is s 0 (l .arguments) (t .at) (count (partsIn e)) (at + headSize e) (sym (ap countedOf (t .rest))) in
-              let p : t .at ≡ at + 2 = omega (arith, u .ends, u .holds) in
-              (f ∙ sym (w .value ∙ ap (λ v. getD s v 0) p), omega (arith, w .next));
-        }
+  -- a call: its count of arguments stands behind the node's number
+  told-call : getD s at 0 ≡ 11 → Told
+  unfolding countedOf
+  told-call c =
+      let x = read in
+      let t = steps (byte s (at + 1)) _ (count (partsOf e)) (at + headSize e) (sym (head-is s l enums at 11 callCode (x .inside) c refl) ∙ x .head) in
+      let u = takes-byte s .is (at + 1) (t .value) (t .at) (t .first) in
+      let w = counted-is s 0 (l .arguments) (t .at) (count (partsOf e)) (at + headSize e) (sym (ap countedOf (t .rest))) in
+      let p : t .at ≡ at + 2 = omega (arith, u .ends, u .holds) in
+      (rw c (sym (w .value ∙ ap (λ v. getD s v 0) p)), rw (lt-ltb at (length s) (x .inside), c) (omega (arith, w .next)))
 
-    -- a Tuple: its count stands behind the code
-    pub says-tuple : {k : ℕ} → 12 ≤ getD s at 0 → k < 256 → k ≡ getD s (at + 1) 0 → HeadSays s at (record { count = k; start = at + 2 })
-    unfolding countedOf
-    says-tuple {k} c i f =
-        record {
-          few = i;
-          onward = omega arith;
-          is = λ l enums d e n r.
-              let x = expr-at s l enums d at e n r in
-              let b : getD s at 0 ≡ 12 = omega (arith, x .code, no-more e) in
-              let w = counted-is s 2 (l .items) (at + 1) (count (partsIn e)) (at + headSize e) (sym (ap countedOf (sym (head-is s l enums at 12 tupleCode h b refl) ∙ x .head))) in
-              (f ∙ sym (w .value), omega (arith, w .next));
-        }
+  -- a Tuple: its count stands behind the code
+  told-tuple : getD s at 0 ≡ 12 → Told
+  unfolding countedOf
+  told-tuple c =
+      let x = read in
+      let w = counted-is s 2 (l .items) (at + 1) (count (partsOf e)) (at + headSize e) (sym (ap countedOf (sym (head-is s l enums at 12 tupleCode (x .inside) c refl) ∙ x .head))) in
+      (rw c (sym (w .value)), rw (lt-ltb at (length s) (x .inside), c) (omega (arith, w .next)))
+
+  pub head-told : (partsAt s at ≡ count (partsOf e)) × (nextAt s at ≡ at + headSize e)
+  head-told =
+      let c = read .code in
+      by-cases (decLe 10 (codeOf e))
+      (λ high. by-cases (ℕ-discrete (codeOf e) 10) (λ y. told-cast (c ∙ y))
+      (λ z. by-cases (ℕ-discrete (codeOf e) 11) (λ y. told-call (c ∙ y)) (λ w. told-tuple (omega (arith, c, no-more e)))))
+      (λ low. told-fixed (omega arith))
 
 -- ---- a walk over expressions
 
@@ -242,23 +199,39 @@ module _ {s : List ℕ} {l : Limits} {enums d n left next : ℕ} (p : Passing s 
     passing-in = let w = first in expr-at s l enums d next (w .0) (w .2) (w .3) .inside
 
     -- an expression's parts take its place
-    pub passing-on : {r : Parts} → HeadSays s next r → Passing s l enums d n (left - 1 + r .count) (r .start)
-    passing-on {r} h =
+    pub passing-on : Passing s l enums d n (left - 1 + partsAt s next) (nextAt s next)
+    passing-on =
         let w = first in
         let x = expr-at s l enums d next (w .0) (w .2) (w .3) in
-        let k = h .is l enums d (w .0) (w .2) (w .3) in
-        let more = count (partsIn (w .0)) in
+        let k = head-told s l enums d next (w .0) (w .2) (w .3) in
+        let more = count (partsOf (w .0)) in
         let after = next + headSize (w .0) in
-        let parts : manyExprs more (exprR s l enums d) after ≡ got (partsIn (w .0)) (w .2) = deeper-parts s l enums (d - 1) d more after (omega arith) (x .parts) in
-        let all : manyExprs (more + (left - 1)) (exprR s l enums d) after ≡ got (join (partsIn (w .0)) (w .1)) n = many-join (exprR s l enums d) more after (partsIn (w .0)) (w .1) (w .2) (left - 1) n parts (w .4) in
+        let parts : manyExprs more (exprR s l enums d) after ≡ got (partsOf (w .0)) (w .2) = deeper-parts s l enums (d - 1) d more after (omega arith) (x .parts) in
+        let all : manyExprs (more + (left - 1)) (exprR s l enums d) after ≡ got (joined (partsOf (w .0)) (w .1)) n = many-join (exprR s l enums d) more after (partsOf (w .0)) (w .1) (w .2) (left - 1) n parts (w .4) in
         let t = takes-exprs s (exprR s l enums d) (takes-expr s l enums d) left .is next (p .exprs) n (p .read) in
-        let v = takes-exprs s (exprR s l enums d) (takes-expr s l enums d) (more + (left - 1)) .is after (join (partsIn (w .0)) (w .1)) n all in
-        let many : more + (left - 1) ≡ left - 1 + r .count = omega (arith, k .0) in
+        let v = takes-exprs s (exprR s l enums d) (takes-expr s l enums d) (more + (left - 1)) .is after (joined (partsOf (w .0)) (w .1)) n all in
+        let many : more + (left - 1) ≡ left - 1 + partsAt s next = omega (arith, k .0) in
         record {
-          exprs = join (partsIn (w .0)) (w .1);
-          read = subst (λ m. manyExprs m (exprR s l enums d) (r .start) ≡ got (join (partsIn (w .0)) (w .1)) n) many (subst (λ q. manyExprs (more + (left - 1)) (exprR s l enums d) q ≡ got (join (partsIn (w .0)) (w .1)) n) (sym (k .1)) all);
+          exprs = joined (partsOf (w .0)) (w .1);
+          read = subst (λ m. manyExprs m (exprR s l enums d) (nextAt s next) ≡ got (joined (partsOf (w .0)) (w .1)) n) many (subst (λ q. manyExprs (more + (left - 1)) (exprR s l enums d) q ≡ got (joined (partsOf (w .0)) (w .1)) n) (sym (k .1)) all);
           inside = omega (arith, k .1, v .ends, t .inside (p .inside));
         }
+
+-- where the walk ends
+pub skip-read : (s : List ℕ) (m left next : ℕ) {l : Limits} {enums d n : ℕ} → length s - next ≤ m → Passing s l enums d n left next → skipBy m s left next ≡ n
+skip-read s zero zero next h p = skip-none s 0 0 next (omega arith) ∙ passing-done p (omega arith)
+skip-read s zero (suc left) next h p = let i = passing-in p (omega arith) in absurd (omega arith)
+skip-read s (suc m) zero next h p = skip-none s (suc m) 0 next (omega arith) ∙ passing-done p (omega arith)
+skip-read s (suc m) (suc left) next {l} {enums} {d} h p =
+    let i = passing-in p (omega arith) in
+    let w = first p (omega arith) in
+    let k = head-told s l enums d next (w .0) (w .2) (w .3) in
+    let one : suc left - 1 ≡ left = omega arith in
+    skip-head s m left next i (omega (arith, passing-few p)) ∙ ap (λ c. skipBy m s (c + partsAt s next) (nextAt s next)) (sym one)
+    ∙ skip-read s m (suc left - 1 + partsAt s next) (nextAt s next) (omega (arith, k .1, head-some (w .0))) (passing-on p (omega arith))
+
+pub skip-expr : (s : List ℕ) (l : Limits) (enums d at : ℕ) {e : Expr} {n : ℕ} → exprR s l enums d at ≡ got e n → skipAt s 1 at ≡ n
+skip-expr s l enums d at f = skip-read s (length s) 1 at (omega arith) (passing-start f)
 
 -- ---- an equation
 

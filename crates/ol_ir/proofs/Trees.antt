@@ -17,7 +17,7 @@ use Rattle.ol_spec.specs.Read.{arrowCode, castCode, callCode, tupleCode, bools,
 use Rattle.ol_spec.specs.declared.Limits.{Limits}
 use Rattle.ol_spec.proofs.Offsets.{steps, same-end, same-item}
 use Rattle.ol_ir.specs.Heads.{headBody, headR}
-use Rattle.ol_ir.specs.Parts.{codeOf, headSize, partsIn}
+use Rattle.ol_tables.specs.Heads.{codeOf, headSize, partsOf}
 use Rattle.ol_ir.proofs.Bytes.{coded-is, coded-none, coded-end}
 use Rattle.ol_ir.proofs.Sizes.{Takes, takes-byte, takes-number, takes-coded, takes-count, takes-exprs, takes-ty, takes-expr}
 
@@ -156,18 +156,18 @@ module _ (r : Reader Expr) where
 -- what follows an expression's first byte at `at`
 record BodyAt (s : List ℕ) (l : Limits) (enums : ℕ) (r : Reader Expr) (c : ExprCode) (at : ℕ) (e : Expr) (n : ℕ) : Type 0 where
   code : numberOf c ≡ codeOf e
-  head : headBody s l enums c (at + 1) ≡ got (count (partsIn e)) (at + headSize e)
-  parts : manyExprs (count (partsIn e)) r (at + headSize e) ≡ got (partsIn e) n
+  head : headBody s l enums c (at + 1) ≡ got (count (partsOf e)) (at + headSize e)
+  parts : manyExprs (count (partsOf e)) r (at + headSize e) ≡ got (partsOf e) n
 
 -- k parts read by r from q on, behind a head of so many bytes with this code
 record PartsAt (r : Reader Expr) (k b size q : ℕ) (e : Expr) (n : ℕ) : Type 0 where
-  parts : manyExprs k r q ≡ got (partsIn e) n
-  many : count (partsIn e) ≡ k
+  parts : manyExprs k r q ≡ got (partsOf e) n
+  many : count (partsOf e) ≡ k
   code : b ≡ codeOf e
   head : headSize e ≡ size
 
 module _ (r : Reader Expr) (b size q : ℕ) (e : Expr) (n : ℕ) where
-  made : (k : ℕ) (e₀ : Expr) (es : Exprs) (m : ℕ) → manyExprs k r q ≡ got es m → count es ≡ k → partsIn e₀ ≡ es → b ≡ codeOf e₀ → headSize e₀ ≡ size → got e₀ m ≡ got e n → PartsAt r k b size q e n
+  made : (k : ℕ) (e₀ : Expr) (es : Exprs) (m : ℕ) → manyExprs k r q ≡ got es m → count es ≡ k → partsOf e₀ ≡ es → b ≡ codeOf e₀ → headSize e₀ ≡ size → got e₀ m ≡ got e n → PartsAt r k b size q e n
   made k e₀ es m h ct pt cd sz f =
       subst (λ v. PartsAt r k b size q v n) (same-item f) (record {
         parts = h ∙ (ap (got es) (same-end f) ∙ ap (λ v. got v n) (sym pt));
@@ -176,22 +176,22 @@ module _ (r : Reader Expr) (b size q : ℕ) (e : Expr) (n : ℕ) where
         head = sz;
       })
 
-  no-part : (e₀ : Expr) → partsIn e₀ ≡ nil → b ≡ codeOf e₀ → headSize e₀ ≡ size → got e₀ q ≡ got e n → PartsAt r 0 b size q e n
+  no-part : (e₀ : Expr) → partsOf e₀ ≡ nil → b ≡ codeOf e₀ → headSize e₀ ≡ size → got e₀ q ≡ got e n → PartsAt r 0 b size q e n
   no-part e₀ pt cd sz f = made 0 e₀ nil q (many-none r q) refl pt cd sz f
 
-  one-part : (g : Expr → Expr) → ((x : Expr) → partsIn (g x) ≡ cons x nil) → ((x : Expr) → b ≡ codeOf (g x)) → ((x : Expr) → headSize (g x) ≡ size) → thenRead (r q) (λ x. give (g x)) ≡ got e n → PartsAt r 1 b size q e n
+  one-part : (g : Expr → Expr) → ((x : Expr) → partsOf (g x) ≡ cons x nil) → ((x : Expr) → b ≡ codeOf (g x)) → ((x : Expr) → headSize (g x) ≡ size) → thenRead (r q) (λ x. give (g x)) ≡ got e n → PartsAt r 1 b size q e n
   one-part g pt cd sz f =
       let t = steps (r q) _ e n f in
       made 1 (g (t .value)) (cons (t .value) nil) (t .at) (last r q (t .first)) refl (pt (t .value)) (cd (t .value)) (sz (t .value)) (t .rest)
 
-  two-parts : (g : Expr → Expr → Expr) → ((x y : Expr) → partsIn (g x y) ≡ cons x (cons y nil)) → ((x y : Expr) → b ≡ codeOf (g x y)) → ((x y : Expr) → headSize (g x y) ≡ size) → thenRead (r q) (λ x p. thenRead (r p) (λ y. give (g x y))) ≡ got e n → PartsAt r 2 b size q e n
+  two-parts : (g : Expr → Expr → Expr) → ((x y : Expr) → partsOf (g x y) ≡ cons x (cons y nil)) → ((x y : Expr) → b ≡ codeOf (g x y)) → ((x y : Expr) → headSize (g x y) ≡ size) → thenRead (r q) (λ x p. thenRead (r p) (λ y. give (g x y))) ≡ got e n → PartsAt r 2 b size q e n
   two-parts g pt cd sz f =
       let t = steps (r q) _ e n f in
       let u = steps (r (t .at)) _ e n (t .rest) in
       made 2 (g (t .value) (u .value)) (cons (t .value) (cons (u .value) nil)) (u .at) (many-cons r 1 q (t .first) (last r (t .at) (u .first))) refl
       (pt (t .value) (u .value)) (cd (t .value) (u .value)) (sz (t .value) (u .value)) (u .rest)
 
-  three-parts : (g : Expr → Expr → Expr → Expr) → ((x y z : Expr) → partsIn (g x y z) ≡ cons x (cons y (cons z nil))) → ((x y z : Expr) → b ≡ codeOf (g x y z)) → ((x y z : Expr) → headSize (g x y z) ≡ size) → thenRead (r q) (λ x p. thenRead (r p) (λ y m. thenRead (r m) (λ z. give (g x y z)))) ≡ got e n → PartsAt r 3 b size q e n
+  three-parts : (g : Expr → Expr → Expr → Expr) → ((x y z : Expr) → partsOf (g x y z) ≡ cons x (cons y (cons z nil))) → ((x y z : Expr) → b ≡ codeOf (g x y z)) → ((x y z : Expr) → headSize (g x y z) ≡ size) → thenRead (r q) (λ x p. thenRead (r p) (λ y m. thenRead (r m) (λ z. give (g x y z)))) ≡ got e n → PartsAt r 3 b size q e n
   three-parts g pt cd sz f =
       let t = steps (r q) _ e n f in
       let u = steps (r (t .at)) _ e n (t .rest) in
@@ -200,7 +200,7 @@ module _ (r : Reader Expr) (b size q : ℕ) (e : Expr) (n : ℕ) where
       (many-cons r 2 q (t .first) (many-cons r 1 (t .at) (u .first) (last r (u .at) (v .first)))) refl
       (pt (t .value) (u .value) (v .value)) (cd (t .value) (u .value) (v .value)) (sz (t .value) (u .value) (v .value)) (v .rest)
 
-  several : (s : List ℕ) (k : ℕ) → Takes s r (λ a m. m ≡ exprSize a) → (g : Exprs → Expr) → ((es : Exprs) → partsIn (g es) ≡ es) → ((es : Exprs) → b ≡ codeOf (g es)) → ((es : Exprs) → headSize (g es) ≡ size) → thenRead (manyExprs k r q) (λ es. give (g es)) ≡ got e n → PartsAt r k b size q e n
+  several : (s : List ℕ) (k : ℕ) → Takes s r (λ a m. m ≡ exprSize a) → (g : Exprs → Expr) → ((es : Exprs) → partsOf (g es) ≡ es) → ((es : Exprs) → b ≡ codeOf (g es)) → ((es : Exprs) → headSize (g es) ≡ size) → thenRead (manyExprs k r q) (λ es. give (g es)) ≡ got e n → PartsAt r k b size q e n
   several s k h g pt cd sz f =
       let t = steps (manyExprs k r q) _ e n f in
       let u = takes-exprs s r h k .is q (t .value) (t .at) (t .first) in
@@ -274,8 +274,8 @@ pub record ExprAt (s : List ℕ) (l : Limits) (enums d at : ℕ) (e : Expr) (n :
   pub inside : at < length s
   pub level : 0 < d
   pub code : getD s at 0 ≡ codeOf e
-  pub head : headR s l enums at ≡ got (count (partsIn e)) (at + headSize e)
-  pub parts : manyExprs (count (partsIn e)) (exprR s l enums (d - 1)) (at + headSize e) ≡ got (partsIn e) n
+  pub head : headR s l enums at ≡ got (count (partsOf e)) (at + headSize e)
+  pub parts : manyExprs (count (partsOf e)) (exprR s l enums (d - 1)) (at + headSize e) ≡ got (partsOf e) n
 
 pub expr-at : (s : List ℕ) (l : Limits) (enums d at : ℕ) (e : Expr) (n : ℕ) → exprR s l enums d at ≡ got e n → ExprAt s l enums d at e n
 unfolding exprR headR

@@ -1,6 +1,5 @@
 pub mod Nexts
 pub mod Heads
 pub mod Nodes
-pub mod Parts
-pub mod Skips
+pub mod Scans
 pub mod Walks

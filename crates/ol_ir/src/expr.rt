@@ -8,9 +8,8 @@ use super::read::count;
 use super::read::name;
 use super::read::refused;
 use super::read::uncounted;
-use super::skip::head_at;
-use super::skip::skip_expr;
 use super::types::ty;
+use ol_tables::heads;
 ghost use mathlib.Core.Path.{_≡_};
 ghost use Prim.Native.Nat.{ℕ, _<_};
 ghost use Rattle.ol_spec.specs.Read.{got, manyExprs, exprR};
@@ -18,7 +17,7 @@ ghost use Rattle.ol_spec.specs.declared.Limits.{Limits};
 ghost use Rattle.ol_ir.specs.Nexts.{nextOf, countedOf, partsOf};
 ghost use Rattle.ol_spec.specs.Syntax.{Expr};
 ghost use Rattle.ol_ir.specs.Heads.{headR, callHead};
-ghost use Rattle.ol_ir.specs.Parts.{scanOf};
+ghost use Rattle.ol_ir.specs.Scans.{scanOf};
 
 // So many parts, the first of which starts where reading goes on.
 fn parts(n: usize, next: Next) -> Counted
@@ -41,7 +40,7 @@ fn call(file: &[u8], arguments: usize, at: usize) -> Counted
 }
 
 // An expression's head, and how many parts follow it.
-pub fn head(file: &[u8], arguments: usize, items: usize, enums: usize, at: usize) -> Counted
+fn head(file: &[u8], arguments: usize, items: usize, enums: usize, at: usize) -> Counted
     ensures { λ r. ⌜ ((l : Limits) → l .arguments ≡ arguments → l .items ≡ items → r ≡ countedOf (headR (now (file .entry)) l enums at)) ⌝ }
 {
     if at < file.len() {
@@ -80,7 +79,7 @@ fn deep(file: &[u8], at: usize) -> Next
 
 // So many expressions of at most `level` levels, one after the other. The parts of the last one
 // are read in its place.
-pub fn exprs(
+pub(crate) fn exprs(
     file: &[u8],
     arguments: usize,
     items: usize,
@@ -138,9 +137,9 @@ pub fn scan(file: &[u8], at: usize) -> Scan
         if c == 4 {
             Scan::Name(name(file, p), at + 3)
         } else if c == 8 {
-            Scan::Parts(0, skip_expr(file, p))
+            Scan::Parts(0, heads::skip(file, 1, p))
         } else {
-            let h = head_at(file, at);
+            let h = heads::head(file, at);
             Scan::Parts(h.count, h.start)
         }
     } else {

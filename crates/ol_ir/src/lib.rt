@@ -2,9 +2,9 @@
 use ol_spec::Fault;
 
 pub mod read; // read.rt: bytes, codes and counts
-pub mod types; // types.rt: types
+mod types; // types.rt: types
 pub mod expr; // expr.rt: expressions
-pub mod skip; // skip.rt: expressions and equations passed over
+mod skip; // skip.rt: equations passed over
 pub mod node; // node.rt: variables, equations and nodes
 pub mod project; // project.rt: enums, constants and the whole file
 

@@ -22,7 +22,7 @@ ghost use Rattle.ol_ir.specs.Nodes.{interfaceR};
 ghost use Rattle.ol_ir.specs.Walks.{placeOf, placesOf};
 
 // A variable: its name and its type.
-pub fn variable(file: &[u8], enums: usize, at: usize) -> Next
+pub(crate) fn variable(file: &[u8], enums: usize, at: usize) -> Next
     ensures { λ r. ⌜ ((l : Limits) → r ≡ nextOf (variableR (now (file .entry)) l enums at)) ⌝ }
 {
     match bytes(file, 2, at) {
@@ -52,7 +52,7 @@ fn variables(file: &[u8], enums: usize, count: usize, at: usize) -> Next
 }
 
 // A section of variables.
-pub fn variable_section(file: &[u8], lo: usize, hi: usize, enums: usize, at: usize) -> Next
+fn variable_section(file: &[u8], lo: usize, hi: usize, enums: usize, at: usize) -> Next
     ensures { λ r. ⌜ ((l : Limits) → r ≡ nextOf (sectionR (now (file .entry)) lo hi (variableR (now (file .entry)) l enums) at)) ⌝ }
 {
     match count(file, lo, hi, at) {
@@ -72,7 +72,7 @@ pub fn names(file: &[u8], most: usize, at: usize) -> Next
 }
 
 // An equation: the names that it defines, and its right side.
-pub fn equation(
+fn equation(
     file: &[u8],
     most: usize,
     nesting: usize,
@@ -138,7 +138,7 @@ fn equation_section(file: &[u8], limits: Limits, enums: usize, at: usize) -> Nex
 }
 
 // What stands in front of a node's equations: its kind, inputs, outputs and locals.
-pub fn interface(file: &[u8], limits: Limits, enums: usize, at: usize) -> Next
+fn interface(file: &[u8], limits: Limits, enums: usize, at: usize) -> Next
     ensures { λ r. ⌜ r ≡ nextOf (interfaceR (now (file .entry)) limits enums at) ⌝ }
 {
     match code(file, 3, at) {
@@ -154,7 +154,7 @@ pub fn interface(file: &[u8], limits: Limits, enums: usize, at: usize) -> Next
 }
 
 // A node.
-pub fn node(file: &[u8], limits: Limits, enums: usize, at: usize) -> Next
+pub(crate) fn node(file: &[u8], limits: Limits, enums: usize, at: usize) -> Next
     ensures { λ r. ⌜ r ≡ nextOf (nodeR (now (file .entry)) limits enums at) ⌝ }
 {
     match interface(file, limits, enums, at) {

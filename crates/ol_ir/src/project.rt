@@ -43,7 +43,7 @@ fn enums(file: &[u8], variants: usize, count: usize, at: usize) -> Next
 }
 
 // The enums: how many there are, and where the constants start.
-pub fn enum_section(file: &[u8], limits: Limits, at: usize) -> Counted
+fn enum_section(file: &[u8], limits: Limits, at: usize) -> Counted
     ensures { λ r. ⌜ r ≡ listOf (sectionR (now (file .entry)) 0 (limits .enums) (enumR (now (file .entry)) limits) at) ⌝ }
 {
     match count(file, 0, limits.enums, at) {
@@ -56,7 +56,7 @@ pub fn enum_section(file: &[u8], limits: Limits, at: usize) -> Counted
 }
 
 // A constant: its name, its type and its value.
-pub fn constant(
+fn constant(
     file: &[u8],
     nesting: usize,
     arguments: usize,
@@ -101,7 +101,7 @@ fn constants(
 }
 
 // The constants.
-pub fn constant_section(file: &[u8], limits: Limits, enums: usize, at: usize) -> Next
+fn constant_section(file: &[u8], limits: Limits, enums: usize, at: usize) -> Next
     ensures { λ r. ⌜ r ≡ nextOf (sectionR (now (file .entry)) 0 (limits .constants) (constantR (now (file .entry)) limits enums) at) ⌝ }
 {
     match count(file, 0, limits.constants, at) {
@@ -174,7 +174,7 @@ fn last_nodes(file: &[u8], limits: Limits, enums: usize, at: usize, starts: &mut
 
 // What follows the format byte, up to the file's end: entry k of the table gets the place at which
 // node k starts.
-pub fn load_limited(file: &[u8], limits: Limits, starts: &mut [usize]) -> Loaded
+fn load_limited(file: &[u8], limits: Limits, starts: &mut [usize]) -> Loaded
     ensures read { λ r. ⌜ r ≡ loadedOf (afterFormat (now (file .entry)) limits) ⌝ }
     ensures places { λ _. ⌜ ((f : File) (end : ℕ) → afterFormat (now (file .entry)) limits ≡ got f end → now (starts .exit) ≡ sets (now (starts .entry)) 0 (map placeOf (placedNodes f))) ⌝ }
 {
@@ -242,14 +242,6 @@ fn reading(l: Loaded) -> Reading
         Loaded::Nodes(_, _) => Reading::Done,
         Loaded::Refused(f) => Reading::Refused(f),
     }
-}
-
-// What follows the format byte, up to the file's end.
-pub fn read_limited(file: &[u8], limits: Limits) -> Reading
-    ensures { λ r. ⌜ r ≡ readingOf (afterFormat (now (file .entry)) limits) ⌝ }
-{
-    let mut starts = [0usize; 1];
-    reading(load_limited(file, limits, &mut starts))
 }
 
 // The whole file, by the relay's own loader.

@@ -3,7 +3,7 @@ use super::Counted;
 use super::Next;
 use ol_spec::Fault;
 ghost use mathlib.Core.Path.{_≡_};
-ghost use Prim.Native.Nat.{ℕ, _≤_, _<_};
+ghost use Prim.Native.Nat.{ℕ, _<_};
 ghost use lib.ListN.{set};
 ghost use Rattle.ol_spec.specs.Lists.{upTo};
 ghost use Rattle.ol_spec.specs.Read.{got, number, nameR, coded, countR};
@@ -11,26 +11,27 @@ ghost use Rattle.ol_spec.specs.Answers.{faultAt};
 ghost use Rattle.ol_ir.specs.Nexts.{nextOf, countedOf};
 
 // A fault, in the place of where the next item starts.
-pub fn refused(number: u8, place: usize) -> Next
+pub(crate) fn refused(number: u8, place: usize) -> Next
     ensures { λ r. ⌜ r ≡ Next.Refused (faultAt number place) ⌝ }
 {
     Next::Refused(Fault { number, place })
 }
 
 // A fault, in the place of a count.
-pub fn uncounted(number: u8, place: usize) -> Counted
+pub(crate) fn uncounted(number: u8, place: usize) -> Counted
     ensures { λ r. ⌜ r ≡ Counted.Refused (faultAt number place) ⌝ }
 {
     Counted::Refused(Fault { number, place })
 }
 
-// Passes over so many bytes, one or more.
+// Passes over so many bytes.
 pub fn bytes(file: &[u8], count: usize, at: usize) -> Next
-    requires { ⌜ 1 ≤ count ⌝ }
     ensures { λ r. ⌜ r ≡ nextOf (number (now (file .entry)) count 0 at) ⌝ }
 {
     let end = file.len();
-    if at < end {
+    if count == 0 {
+        Next::At(at)
+    } else if at < end {
         if count <= end - at {
             Next::At(at + count)
         } else {
@@ -42,7 +43,7 @@ pub fn bytes(file: &[u8], count: usize, at: usize) -> Next
 }
 
 // A byte that is a code below `bound`.
-pub fn code(file: &[u8], bound: usize, at: usize) -> Next
+pub(crate) fn code(file: &[u8], bound: usize, at: usize) -> Next
     ensures { λ r. ⌜ r ≡ nextOf (coded (now (file .entry)) (upTo bound) at) ⌝ }
 {
     if at < file.len() {
@@ -93,7 +94,7 @@ pub fn name(file: &[u8], at: usize) -> usize
 }
 
 // Puts a place into a table, as far as the table goes.
-pub fn keep(table: &mut [usize], i: usize, place: usize)
+pub(crate) fn keep(table: &mut [usize], i: usize, place: usize)
     ensures { λ _. ⌜ now (table .exit) ≡ set (now (table .entry)) i place ⌝ }
 {
     if i < table.len() {

@@ -8,7 +8,7 @@ ghost use Rattle.ol_spec.specs.declared.Limits.{Limits};
 ghost use Rattle.ol_ir.specs.Nexts.{nextOf};
 
 // A type: its code, and an enum's number.
-pub fn ty(file: &[u8], enums: usize, at: usize) -> Next
+pub(crate) fn ty(file: &[u8], enums: usize, at: usize) -> Next
     ensures { λ r. ⌜ ((l : Limits) → r ≡ nextOf (tyR (now (file .entry)) l enums at)) ⌝ }
 {
     if at < file.len() {

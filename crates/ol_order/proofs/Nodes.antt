@@ -151,12 +151,12 @@ module _ (s : List ℕ) (l : Limits) (enums at : ℕ) (nr : NodeReads s l enums 
 
 -- ---- what the table of the nodes answers
 
-loaded-file : (r : Read File) (e k : ℕ) → Ldd.Nodes e k ≡ loadedOf r → (f : File) × (end : ℕ) × (r ≡ got f end) × (length (f .enums) ≡ e) × (length (f .nodes) ≡ k)
+pub loaded-file : (r : Read File) (e k : ℕ) → Ldd.Nodes e k ≡ loadedOf r → (f : File) × (end : ℕ) × (r ≡ got f end) × (length (f .enums) ≡ e) × (length (f .nodes) ≡ k)
 unfolding loadedOf
 loaded-file (got f end) e k h = (f, end, refl, cc, cc)
 loaded-file (fault n p) e k h = let z : _≡_ {A = ℕ} 0 1 = cc in absurd (omega arith)
 
-loaded-not : (r : Read File) (f : Fault) → Ldd.Refused f ≡ loadedOf r → r ≡ fault (f .number) (f .place)
+pub loaded-not : (r : Read File) (f : Fault) → Ldd.Refused f ≡ loadedOf r → r ≡ fault (f .number) (f .place)
 unfolding loadedOf
 loaded-not (got g end) f h = let z : _≡_ {A = ℕ} 0 1 = cc in absurd (omega arith)
 loaded-not (fault n p) f h = let z : faultAt n p ≡ f = cc in ap (λ (v : Fault). fault (v .number) (v .place)) z

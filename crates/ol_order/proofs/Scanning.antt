@@ -13,16 +13,19 @@ use Rattle.ol_spec.specs.Places.{exprSize}
 use Rattle.ol_spec.specs.Read.{got, Reader, manyExprs, exprR}
 use Rattle.ol_spec.specs.Order.{reads, readsAll}
 use Rattle.ol_spec.specs.declared.Limits.{Limits}
-use Rattle.ol_ir.specs.Parts.{headSize, partsIn, scanOf}
+use Rattle.ol_tables.specs.Heads.{headSize, partsOf, joined}
+use Rattle.ol_tables.proofs.Skipping.{some-size, count-size}
+use Rattle.ol_ir.specs.Scans.{scanOf}
 use Rattle.ol_ir.specs.declared.Scan.{Scan}
 use Rattle.ol_ir.specs.declared.Scan.the-variants as Scn
 use Rattle.ol_ir.proofs.Sizes.{takes-expr, takes-exprs}
-use Rattle.ol_ir.proofs.Skips.{join, many-first, many-join, many-none, some-size, count-size}
+use Rattle.ol_ir.proofs.Skips.{many-first, many-join, many-none}
 use Rattle.ol_ir.proofs.Trees.{many-cons, deeper-parts, expr-at}
 
 -- ---- lists of expressions
 
-reads-join : (xs ys : Exprs) → readsAll (join xs ys) ≡ readsAll xs ++ readsAll ys
+reads-join : (xs ys : Exprs) → readsAll (joined xs ys) ≡ readsAll xs ++ readsAll ys
+unfolding joined
 reads-join nil ys = refl
 reads-join (cons x xs) ys = ap (λ l. reads x ++ l) (reads-join xs ys) ∙ sym (append-assoc (reads x) (readsAll xs) (readsAll ys))
 
@@ -40,10 +43,10 @@ module _ (s : List ℕ) (l : Limits) (enums d : ℕ) where
   Parted at e p = (k : ℕ) × (q : ℕ) × (parts : Exprs) × (scanOf at e ≡ Scn.Parts k q) × (manyExprs k r q ≡ got parts p) × (reads e ≡ readsAll parts) × (at < q)
 
   module _ (at : ℕ) (p : ℕ) where
-    parted : (e : Expr) → r at ≡ got e p → scanOf at e ≡ Scn.Parts (count (partsIn e)) (at + headSize e) → reads e ≡ readsAll (partsIn e) → 1 ≤ headSize e → Parted at e p
+    parted : (e : Expr) → r at ≡ got e p → scanOf at e ≡ Scn.Parts (count (partsOf e)) (at + headSize e) → reads e ≡ readsAll (partsOf e) → 1 ≤ headSize e → Parted at e p
     parted e f g h i =
         let x = expr-at s l enums d at e p f in
-        (count (partsIn e), at + headSize e, partsIn e, g, deeper-parts s l enums (d - 1) d (count (partsIn e)) (at + headSize e) (omega arith) (x .parts), h, omega arith)
+        (count (partsOf e), at + headSize e, partsOf e, g, deeper-parts s l enums (d - 1) d (count (partsOf e)) (at + headSize e) (omega arith) (x .parts), h, omega arith)
 
     step-of : (e : Expr) → r at ≡ got e p → Found at e p ⊎ Parted at e p
     unfolding manyExprs
@@ -170,10 +173,10 @@ module _ (s : List ℕ) (l : Limits) (enums : ℕ) (P : ℕ → Bool) where
                 let b : w .1 ≡ q = cc in
                 (w .2, subst (λ v. manyExprs v (exprR s l enums (l .nesting)) q ≡ got (w .2) (first .2)) a (subst (λ v. manyExprs (w .0) (exprR s l enums (l .nesting)) v ≡ got (w .2) (first .2)) b (w .4)), w .5, omega (arith, w .6))
 
-        joined : manyExprs (left - 1 + k) (exprR s l enums (l .nesting)) q ≡ got (join (split .0) (first .1)) (pd .end)
-        joined =
+        all-joined : manyExprs (left - 1 + k) (exprR s l enums (l .nesting)) q ≡ got (joined (split .0) (first .1)) (pd .end)
+        all-joined =
             let z : k + (left - 1) ≡ left - 1 + k = omega arith in
-            subst (λ v. manyExprs v (exprR s l enums (l .nesting)) q ≡ got (join (split .0) (first .1)) (pd .end)) z
+            subst (λ v. manyExprs v (exprR s l enums (l .nesting)) q ≡ got (joined (split .0) (first .1)) (pd .end)) z
             (many-join (exprR s l enums (l .nesting)) k q (split .0) (first .1) (first .2) (left - 1) (pd .end) (split .1) (first .4))
 
         pub parts-after : at < q
@@ -185,15 +188,15 @@ module _ (s : List ℕ) (l : Limits) (enums : ℕ) (P : ℕ → Bool) where
         -- no more than the file has bytes
         pub parts-few : left - 1 + k + q ≤ length s
         parts-few =
-            let t = takes-exprs s (exprR s l enums (l .nesting)) (takes-expr s l enums (l .nesting)) (left - 1 + k) .is q (join (split .0) (first .1)) (pd .end) joined in
-            omega (arith, t .ends, t .holds .0, t .holds .1, count-size (join (split .0) (first .1)), ended)
+            let t = takes-exprs s (exprR s l enums (l .nesting)) (takes-expr s l enums (l .nesting)) (left - 1 + k) .is q (joined (split .0) (first .1)) (pd .end) all-joined in
+            omega (arith, t .ends, t .holds .0, t .holds .1, count-size (joined (split .0) (first .1)), ended)
 
         pub parts-pending : Pending s l enums want P (left - 1 + k) q
         parts-pending =
             record {
-              exprs = join (split .0) (first .1);
+              exprs = joined (split .0) (first .1);
               end = pd .end;
-              read = joined;
+              read = all-joined;
               is =
                   want-first ∙ (ap (λ v. allOf P v && allOf P (readsAll (first .1))) (split .2) ∙ (sym (all-append P (readsAll (split .0)) (readsAll (first .1)))
                   ∙ ap (allOf P) (sym (reads-join (split .0) (first .1)))));

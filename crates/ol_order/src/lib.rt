@@ -214,7 +214,7 @@ fn copy(order: &[usize], buffer: &mut [usize])
 
 // Places the equations that start at these places, with a table in which no name has a definer
 // yet: the first that is not placed, or their number. The buffer gets their order.
-pub fn sort(
+pub(crate) fn sort(
     file: &[u8],
     limits: Limits,
     enums: usize,

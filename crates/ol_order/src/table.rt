@@ -6,7 +6,8 @@ use ol_ir::Counted;
 use ol_ir::node::equation_starts;
 use ol_ir::project::base;
 use ol_spec::Limits;
-ghost use mathlib.Core.Bool.{Bool, true};
+use ol_tables::tables::MOST_EQUATIONS;
+ghost use mathlib.Core.Bool.{true};
 ghost use mathlib.Core.Path.{_≡_};
 ghost use Prim.Native.Nat.{ℕ, _≤_, _<_};
 ghost use lib.ListN.{length, getD};
@@ -146,7 +147,7 @@ pub fn orders_of(file: &[u8], enums: usize, places: &[usize], low: bool, orders:
     let limits = base();
     let mut k = 0;
     while k < places.len() {
-        let from = k * 80;
+        let from = k * MOST_EQUATIONS;
         let end = from + 80;
         match order_row(file, limits, enums, places[k], low, &mut orders[from..end]) {
             Ring::At(p) => {

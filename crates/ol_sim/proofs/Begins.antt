@@ -1,33 +1,32 @@
 -- Judging from its beginning: the rows, the tables by name, and the faults 6 to 10.
-use Prim.Native.Nat.{ℕ, zero, suc, _+_, _-_, _*_, _<_, _≤_}
+use Prim.Native.Nat.{ℕ, zero, suc, _+_, _-_, _<_, _≤_}
 use mathlib.Core.Bool.{Bool, true}
-use mathlib.Core.List.{List, [], _∷_, _++_}
-use mathlib.Core.Option.{Option, none, some}
+use mathlib.Core.List.{List, _++_}
+use mathlib.Core.Option.{none}
 use mathlib.Core.Path.{_≡_, refl, ap, sym, subst, _∙_}
 use native.Mathlib.Omega.{arith}
 use lib.ListN.{length, getD, take, drop, replicate, length-replicate, length-append, length-drop}
-use lib.Seq.{take-at, drop-at, length-take-le, drop-drop}
+use lib.Seq.{take-at, drop-at, length-take-le}
 use Rattle.ol_spec.specs.Limits.{relayLoader}
 use Rattle.ol_spec.specs.Syntax.{File}
-use Rattle.ol_spec.specs.Answers.{faultAt}
 use Rattle.ol_spec.specs.Admission as Adm
 use Rattle.ol_spec.specs.declared.Verdict.{Verdict}
-use Rattle.ol_tree.specs.At.{fileAt}
-use Rattle.ol_tree.specs.Stands.{FileReads, FileStands}
-use Rattle.ol_tree.specs.Tables.{Each}
+use Rattle.ol_tables.specs.At.{fileAt}
+use Rattle.ol_tables.specs.Stands.{FileReads}
+use Rattle.ol_tables.specs.Tables.{Each}
 use Rattle.ol_check.specs.RowsDone.{TablesDone, PlacesAre}
 use Rattle.ol_check.specs.declared.rows.Sections.{Sections}
 use Rattle.ol_check.specs.FileJudged.{NamesWithin, FileJudged}
 use Rattle.ol_check.specs.FileJudged.{FileReady as Ready}
-use Rattle.ol_check.specs.declared.judge.Faults.{Faults}
+use Rattle.ol_check.specs.declared.Faults.{Faults}
 use Rattle.ol_check.specs.Clashing.{DeclaredReady, Blank}
-use Rattle.ol_sim.specs.Judging.{Judges, JudgesBy, whole, from6, verdictOf, Loads, FileReady, Rowed, Typed, SectionsReady, Empty, NamesReady, FaultsAre, Slots, ShapesReady}
+use Rattle.ol_sim.specs.Judging.{Judges, JudgesBy, whole, from6, verdictOf, Loads, FileReady, Rowed, Typed, SectionsReady, Empty, NamesReady, FaultsAre, ShapesReady}
 use Rattle.ol_sim.specs.declared.judge.Judged.{Judged}
 use Rattle.ol_sim.specs.declared.judge.Judged.the-variants as Jud
 use Rattle.ol_spec.specs.Demand3.{Bytes}
-use Rattle.ol_tree.proofs.HeadsFile.{file-stands}
+use Rattle.ol_tables.proofs.HeadsFile.{file-stands}
 use Rattle.ol_check.proofs.SizeTable.{rows-sized}
-use Rattle.ol_sim.proofs.Parts.{tailOf, putTail, tail-all, take-put, drop-put, length-put, drop-take}
+use Rattle.ol_tables.proofs.Lending.{tailOf, putTail, tail-all, take-put, drop-put, length-put, drop-take}
 
 -- ---- tables by name
 

@@ -5,7 +5,7 @@ use mathlib.Core.Option.{Option, none, some}
 use mathlib.Core.Path.{_≡_, ap, sym, _∙_, subst}
 use Rattle.ol_spec.specs.Answers.{faultAt}
 use Rattle.ol_spec.specs.Admission as Adm
-use Rattle.ol_tree.specs.At.{fileAt}
+use Rattle.ol_tables.specs.At.{fileAt}
 use Rattle.ol_sim.specs.Judging.{Judges, JudgesBy, whole}
 use Rattle.ol_sim.specs.declared.judge.Judged.{Judged}
 use Rattle.ol_sim.specs.declared.judge.Judged.the-variants as Jud

@@ -17,8 +17,8 @@ use Rattle.ol_spec.specs.Cycle.{CycleCall, cycle, cycleJudged, cycleUnless, fit
 use Rattle.ol_spec.specs.declared.Cycled.{Cycled}
 use Rattle.ol_spec.specs.declared.Cycled.the-variants as Cyc
 use Rattle.ol_spec.specs.declared.Fault.{Fault}
-use Rattle.ol_tree.specs.At.{fileAt}
-use Rattle.ol_tree.specs.Tables.{nodeOf, rowAt}
+use Rattle.ol_tables.specs.At.{fileAt}
+use Rattle.ol_tables.specs.Tables.{nodeOf, rowAt}
 use Rattle.ol_spec.proofs.Cells.{length-cells}
 use Rattle.ol_ir.specs.Walks.{loadedOf}
 use Rattle.ol_ir.specs.declared.Loaded.{Loaded}

@@ -1,6 +1,5 @@
 pub mod Demand
 pub mod Chain
-pub mod Parts
 pub mod Lows
 pub mod Slotting
 pub mod Tables

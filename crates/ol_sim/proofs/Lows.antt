@@ -2,26 +2,23 @@
 use Prim.Native.Nat.{ℕ, suc, _≤_, _<_}
 use mathlib.Core.Bool.{Bool, true, false, _||_}
 use mathlib.Core.List.{List, [], _∷_, _++_, map}
-use mathlib.Core.Option.{Option, none}
+use mathlib.Core.Option.{none}
 use mathlib.Core.Path.{_≡_, refl, ap, sym, subst, _∙_}
 use native.Mathlib.Omega.{arith}
 use lib.Dec.{T, eqb, eqb→eq, ltb→lt}
 use lib.ListN.{length, getD}
 use Rattle.ol_spec.specs.Lists.{member, allOf}
-use Rattle.ol_spec.specs.Syntax.{Variable, Constant, Equation, Node, File, noNode, nameOf, constantName, variables, variableNames}
-use Rattle.ol_spec.specs.Order.{later, definerFrom, definer}
+use Rattle.ol_spec.specs.Syntax.{Variable, Constant, Equation, File, noNode, nameOf, constantName, variables, variableNames}
+use Rattle.ol_spec.specs.Order.{later, definerFrom}
 use Rattle.ol_spec.specs.Admission.{declared, fault7, constantNames, variants}
 use Rattle.ol_spec.proofs.Lists.{All}
 use Rattle.ol_spec.proofs.Tests.{T-and}
 use Rattle.ol_spec.proofs.MainFacts.{seenBy, names-seen}
-use Rattle.ol_tree.specs.Tables.{Each}
+use Rattle.ol_tables.specs.Tables.{Each}
+use Rattle.ol_tables.proofs.Forms.{each-join}
 use Rattle.ol_check.specs.FileJudged.{NamesWithin}
 use Rattle.ol_order.specs.Orders.{LowNames}
 use Rattle.ol_check.specs.Clashing.{isLow}
-
-each-join : {A : Type 0} (P : A → Type 0) (xs ys : List A) → Each P xs → Each P ys → Each P (xs ++ ys)
-each-join P [] ys h k = k
-each-join P (x ∷ xs) ys h k = (h .0, each-join P xs ys (h .1) k)
 
 module _ (m : ℕ) where
   abbrev Small : ℕ → Type 0

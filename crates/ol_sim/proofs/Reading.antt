@@ -1,40 +1,27 @@
 -- What loading the file finds, for the public functions.
 use Prim.Native.Nat.{ℕ, _≤_}
 use mathlib.Core.List.{List, map}
-use mathlib.Core.Path.{_≡_, refl, ap, sym, subst, _∙_}
+use mathlib.Core.Path.{_≡_, ap, sym, _∙_}
 use native.Mathlib.Omega.{arith}
 use lib.ListN.{length, take, replicate, length-map}
 use lib.Seq.{sets}
 use Rattle.ol_spec.specs.Limits.{relayLoader}
 use Rattle.ol_spec.specs.Syntax.{File}
 use Rattle.ol_spec.specs.Places.{nodeSize, nodesStart, placedNodes}
-use Rattle.ol_spec.specs.Read.{Read, got, fault, readFile}
-use Rattle.ol_spec.specs.Answers.{faultAt}
+use Rattle.ol_spec.specs.Read.{got, fault, readFile}
 use Rattle.ol_spec.specs.Admission as Adm
 use Rattle.ol_spec.specs.Cycle.{StartCall, start, startJudged, noStart}
 use Rattle.ol_spec.specs.declared.Fault.{Fault}
-use Rattle.ol_spec.specs.declared.Verdict.{Verdict}
 use Rattle.ol_spec.specs.declared.Verdict.the-variants as Ver
 use Rattle.ol_spec.specs.declared.Started.the-variants as Sta
-use Rattle.ol_tree.specs.At.{fileAt, itemOf, noFile}
-use Rattle.ol_tree.specs.Stands.{FileReads, FileStands}
+use Rattle.ol_tables.specs.At.{fileAt, itemOf, noFile}
+use Rattle.ol_tables.specs.Stands.{FileReads, FileStands}
 use Rattle.ol_ir.specs.Walks.{placeOf, loadedOf}
 use Rattle.ol_ir.specs.declared.Loaded.{Loaded}
 use Rattle.ol_ir.specs.declared.Loaded.the-variants as Ldd
-use Rattle.ol_order.proofs.Nodes.{length-placed, table-front}
+use Rattle.ol_order.proofs.Nodes.{length-placed, table-front, loaded-file, loaded-not}
 use Rattle.ol_sim.specs.Calls.{StartsAs}
 use Rattle.ol_sim.specs.Judging.{Loads}
-
--- the file was loaded
-loaded-file : (r : Read File) (e k : ℕ) → Ldd.Nodes e k ≡ loadedOf r → (f : File) × (end : ℕ) × (r ≡ got f end) × (length (f .enums) ≡ e) × (length (f .nodes) ≡ k)
-unfolding loadedOf
-loaded-file (got f end) e k h = (f, end, refl, cc, cc)
-loaded-file (fault n p) e k h = let z : _≡_ {A = ℕ} 0 1 = cc in absurd (omega arith)
-
-loaded-not : (r : Read File) (f : Fault) → Ldd.Refused f ≡ loadedOf r → r ≡ fault (f .number) (f .place)
-unfolding loadedOf
-loaded-not (got g end) f h = let z : _≡_ {A = ℕ} 0 1 = cc in absurd (omega arith)
-loaded-not (fault n p) f h = let z : faultAt n p ≡ f = cc in ap (λ (v : Fault). fault (v .number) (v .place)) z
 
 module _ (s : List ℕ) {r : Loaded} {enums n : ℕ} (e : r ≡ loadedOf (readFile s relayLoader)) (d : r ≡ Ldd.Nodes enums n) where
   abbrev loaded : (f : File) × (end : ℕ) × (readFile s relayLoader ≡ got f end) × (length (f .enums) ≡ enums) × (length (f .nodes) ≡ n)

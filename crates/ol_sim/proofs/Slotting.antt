@@ -1,4 +1,4 @@
--- The slots, as ol_tree's tables say them: those of the names that equations use and define, and of those in constants.
+-- The slots, as ol_tables's tables say them: those of the names that equations use and define, and of those in constants.
 use Prim.Native.Nat.{ℕ, _+_, _<_}
 use mathlib.Core.List.{List, []}
 use mathlib.Core.Option.{none}
@@ -8,9 +8,9 @@ use lib.Seq.{getD-drop}
 use Rattle.ol_spec.specs.Syntax.{variableNames}
 use Rattle.ol_spec.specs.Places.{placedNodes, placedEquations, placedNames, rhsPlace}
 use Rattle.ol_spec.specs.Admission.{constantNames, fault6, valuePlace}
-use Rattle.ol_tree.specs.At.{fileAt}
-use Rattle.ol_tree.specs.Stands.{FileStands}
-use Rattle.ol_tree.specs.Tables.{Each, HasSlot, Slotted, nodeOf, placeOf, slotsFrom, constantOf}
+use Rattle.ol_tables.specs.At.{fileAt}
+use Rattle.ol_tables.specs.Stands.{FileStands}
+use Rattle.ol_tables.specs.Tables.{Each, HasSlot, Slotted, nodeOf, placeOf, slotsFrom, constantOf}
 use Rattle.ol_check.proofs.FileSlots.{judged-slots, judged-defined, judged-constants}
 use Rattle.ol_sim.specs.Judging.{Slots}
 

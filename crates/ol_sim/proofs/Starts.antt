@@ -1,12 +1,12 @@
 -- The start: its ways out, and the fresh state put together.
 use Prim.Native.Nat.{ℕ, suc, _+_, _-_, _*_, _<_, _≤_}
 use mathlib.Core.Bool.{Bool, true, false}
-use mathlib.Core.List.{List, [], _∷_, _++_}
+use mathlib.Core.List.{List, _++_}
 use mathlib.Core.Path.{_≡_, refl, ap, sym, subst, _∙_}
 use native.Mathlib.Omega.{arith}
 use lib.Dec.{T, eqb, eqb→eq, eqb-refl}
 use lib.ListN.{length, take, drop, getD, length-append, length-drop}
-use lib.Seq.{take-at, drop-at, length-take-le}
+use lib.Seq.{take-at, length-take-le}
 use Rattle.ol_spec.specs.Limits.{relayLoader}
 use Rattle.ol_spec.specs.Syntax.{File, Node, NodeKind, Function, Operator, Imported, noNode, main}
 use Rattle.ol_spec.specs.Cell.{cells}
@@ -21,18 +21,18 @@ use Rattle.ol_spec.specs.declared.Fault.{Fault}
 use Rattle.ol_spec.specs.declared.Value.{Value}
 use Rattle.ol_spec.proofs.MainFacts.{main-at}
 use Rattle.ol_spec.proofs.Calls.{site-size}
-use Rattle.ol_tree.specs.At.{fileAt}
-use Rattle.ol_tree.specs.Stands.{FileReads}
-use Rattle.ol_tree.specs.Tables.{nodeOf, siteBytes}
-use Rattle.ol_fresh.specs.Known.{Sited}
-use Rattle.ol_fresh.proofs.Fresh.{fresh-record}
+use Rattle.ol_tables.specs.At.{fileAt}
+use Rattle.ol_tables.specs.Stands.{FileReads}
+use Rattle.ol_tables.specs.Tables.{nodeOf, siteBytes}
+use Rattle.ol_state.specs.Known.{Sited}
+use Rattle.ol_state.proofs.FreshRecords.{fresh-record}
 use Rattle.ol_sim.specs.Calls.{StartsAs}
 use Rattle.ol_sim.specs.Judging.{Judges, Admits, valuesIn, from6, whole}
 use Rattle.ol_sim.specs.Starting.{StartReady}
 use Rattle.ol_sim.specs.declared.judge.Judged.{Judged}
 use Rattle.ol_sim.specs.declared.judge.Judged.the-variants as Jud
 use Rattle.ol_sim.proofs.Begins.{judge-is}
-use Rattle.ol_sim.proofs.Parts.{tailOf, putTail, put-tail, tail-all}
+use Rattle.ol_tables.proofs.Lending.{tailOf, putTail, put-tail, tail-all}
 
 -- ---- equal lengths, decided
 

@@ -3,7 +3,7 @@ use Prim.Native.Nat.{ℕ, zero, suc, _+_, _*_, _<_, _≤_, min}
 use mathlib.Core.Bool.{Bool, true, false, _&&_, cond}
 use mathlib.Core.List.{List, [], _∷_, _++_}
 use mathlib.Core.Logic.{by-cases}
-use mathlib.Core.Option.{Option, none, some}
+use mathlib.Core.Option.{none, some}
 use mathlib.Core.Path.{_≡_, refl, ap, sym, subst, _∙_}
 use native.Mathlib.Omega.{arith}
 use native.Mathlib.Decide.{decLe}
@@ -24,20 +24,20 @@ use Rattle.ol_order.proofs.Nodes.{length-placed}
 use Rattle.ol_spec.specs.Demand3.{Bytes}
 use Rattle.ol_spec.proofs.RoundTrip.{encode-read}
 use Rattle.ol_spec.specs.Admission as Adm
-use Rattle.ol_tree.specs.At.{fileAt}
-use Rattle.ol_tree.specs.Stands.{FileReads, FileStands}
-use Rattle.ol_tree.specs.Tables.{Rows, rowAt, placeOf, sizeCap}
-use Rattle.ol_tree.proofs.HeadsFile.{node-at}
+use Rattle.ol_tables.specs.At.{fileAt}
+use Rattle.ol_tables.specs.Stands.{FileReads, FileStands}
+use Rattle.ol_tables.specs.Tables.{Rows, rowAt, placeOf, sizeCap}
+use Rattle.ol_tables.proofs.HeadsFile.{node-at}
 use Rattle.ol_check.specs.RowsDone.{SectionsAre}
 use Rattle.ol_check.specs.declared.rows.Sections.{Sections}
 use Rattle.ol_check.specs.NodesJudged.{RowsReady}
 use Rattle.ol_check.specs.Sizes.{MainSized}
-use Rattle.ol_check.specs.declared.judge.Faults.{Faults}
+use Rattle.ol_check.specs.declared.Faults.{Faults}
 use Rattle.ol_check.proofs.NamesBelow.{low-within}
 use Rattle.ol_order.specs.Orders.{ringPlace, NodesStand, OrdersDone}
 use Rattle.ol_order.specs.declared.table.Ring.{Ring}
 use Rattle.ol_order.specs.declared.table.Ring.the-variants as Rin
-use Rattle.ol_eval.specs.Admitted.{Admitted, Sound, Ordered}
+use Rattle.ol_eval.specs.Admitted.{Admitted}
 use Rattle.ol_eval.specs.Constants.{ConstantsAre}
 use Rattle.ol_eval.specs.declared.constants.Found.{Found}
 use Rattle.ol_eval.specs.declared.constants.Found.the-variants as Fnd

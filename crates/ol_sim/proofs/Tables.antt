@@ -1,32 +1,26 @@
 -- The table of bytes, put together from its parts: orders, types and slots.
-use Prim.Native.Nat.{ℕ, zero, suc, _+_, _*_, _<_, _≤_}
-use mathlib.Core.Bool.{Bool, _&&_}
-use mathlib.Core.List.{List, [], _∷_, _++_}
+use Prim.Native.Nat.{ℕ, _+_, _*_, _<_, _≤_}
+use mathlib.Core.List.{List, _++_}
 use mathlib.Core.Option.{none}
 use mathlib.Core.Path.{_≡_, ap, sym, _∙_}
 use native.Mathlib.Omega.{arith}
 use lib.Dec.{T}
 use lib.ListN.{length, getD, take, drop, length-append, List·getD-map}
 use lib.Seq.{getD-take, getD-drop}
-use Rattle.ol_spec.specs.Lists.{allOf}
 use Rattle.ol_spec.specs.Syntax.{Node, noNode, variables, typeOf}
 use Rattle.ol_spec.specs.Limits.{base}
-use Rattle.ol_spec.specs.Within.{sectionFits, variableFits, equationFits, nodeFits}
+use Rattle.ol_spec.specs.Within.{sectionFits, variableFits, nodeFits}
 use Rattle.ol_spec.specs.Admission.{fault6}
 use Rattle.ol_spec.proofs.Tests.{T-and}
-use Rattle.ol_tree.specs.At.{fileAt}
-use Rattle.ol_tree.specs.Stands.{FileStands}
-use Rattle.ol_tree.specs.Tables.{Tab, nodeOf, tyCode, tyEnum}
-use Rattle.ol_tree.proofs.HeadsFile.{section-few}
+use Rattle.ol_tables.specs.At.{fileAt}
+use Rattle.ol_tables.specs.Stands.{FileStands}
+use Rattle.ol_tables.specs.Tables.{Tab, nodeOf, tyCode, tyEnum}
+use Rattle.ol_tables.proofs.HeadsFile.{section-few}
+use Rattle.ol_state.proofs.Fits.{all-nth}
 use Rattle.ol_check.specs.RowsDone.{noVariable}
 use Rattle.ol_order.specs.Orders.{OrderOf}
 use Rattle.ol_sim.specs.Judging.{Typed, Slots}
 use Rattle.ol_sim.proofs.Slotting.{slots-in, defined-in, constants-in}
-
-all-nth : {A : Type 0} (p : A → Bool) (xs : List A) (d : A) (i : ℕ) → T (allOf p xs) → i < length xs → T (p (getD xs i d))
-all-nth p [] d i t h = absurd (omega arith)
-all-nth p (x ∷ xs) d zero t h = T-and (p x) _ t .0
-all-nth p (x ∷ xs) d (suc i) t h = all-nth p xs d i (T-and (p x) _ t .1) (omega arith)
 
 -- a node has at most 112 variables
 node-width : (enums : ℕ) (n : Node) → T (nodeFits base enums n) → length (variables n) ≤ 112

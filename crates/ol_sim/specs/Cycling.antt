@@ -6,8 +6,8 @@ use mathlib.Core.Path.{_≡_}
 use lib.ListN.{length}
 use Rattle.ol_spec.specs.Syntax.{Operator}
 use Rattle.ol_spec.specs.Admission.{stateSize}
-use Rattle.ol_tree.specs.At.{fileAt}
-use Rattle.ol_tree.specs.Tables.{Variants, nodeOf}
+use Rattle.ol_tables.specs.At.{fileAt}
+use Rattle.ol_tables.specs.Tables.{Variants, nodeOf}
 use Rattle.ol_eval.specs.Nodes.{Running}
 use Rattle.ol_eval.specs.Admitted.{Admitted}
 use Rattle.ol_sim.specs.Judging.{Low, Held}

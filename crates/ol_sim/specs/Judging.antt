@@ -2,7 +2,7 @@
 use Prim.Native.Nat.{ℕ, suc, _+_, _*_, _≤_, _<_, min}
 use mathlib.Core.Bool.{Bool, true}
 use mathlib.Core.List.{List, [], _∷_, map}
-use mathlib.Core.Option.{Option, none, some}
+use mathlib.Core.Option.{Option, none}
 use mathlib.Core.Path.{_≡_}
 use lib.ListN.{length, getD, take, drop}
 use Rattle.ol_spec.specs.Syntax.{File}
@@ -13,16 +13,16 @@ use Rattle.ol_spec.specs.Admission as Adm
 use Rattle.ol_spec.specs.declared.Value.{Value}
 use Rattle.ol_spec.specs.declared.Verdict.{Verdict}
 use Rattle.ol_spec.specs.declared.Verdict.the-variants as Ver
-use Rattle.ol_tree.specs.At.{fileAt}
-use Rattle.ol_tree.specs.Tables.{Each, Rows, nodeOf, placeOf, firstAt, sizeCap}
-use Rattle.ol_tree.specs.Stands.{FileReads, FileStands}
+use Rattle.ol_tables.specs.At.{fileAt}
+use Rattle.ol_tables.specs.Tables.{Each, Rows, nodeOf, placeOf, firstAt, sizeCap}
+use Rattle.ol_tables.specs.Stands.{FileReads, FileStands}
 use Rattle.ol_ir.specs.Walks as Walks
 use Rattle.ol_check.specs.Founds as Founds
 use Rattle.ol_check.specs.RowsDone.{NodeRow, NodeTypes, SectionsAre}
 use Rattle.ol_check.specs.FileJudged.{NamesWithin, FileJudged}
 use Rattle.ol_check.specs.Sizes.{MainSized}
 use Rattle.ol_check.specs.declared.rows.Sections.{Sections}
-use Rattle.ol_check.specs.declared.judge.Faults.{Faults}
+use Rattle.ol_check.specs.declared.Faults.{Faults}
 use Rattle.ol_eval.specs.Admitted.{Sound, Admitted}
 use Rattle.ol_sim.specs.declared.judge.Judged.{Judged}
 use Rattle.ol_sim.specs.declared.judge.Judged.the-variants as Jud

@@ -6,9 +6,9 @@ use lib.ListN.{length}
 use Rattle.ol_spec.specs.Syntax.{Operator}
 use Rattle.ol_spec.specs.Cell.{cells}
 use Rattle.ol_spec.specs.Admission.{stateSize}
-use Rattle.ol_tree.specs.At.{fileAt}
-use Rattle.ol_tree.specs.Tables.{nodeOf}
-use Rattle.ol_fresh.specs.Known.{Known}
+use Rattle.ol_tables.specs.At.{fileAt}
+use Rattle.ol_tables.specs.Tables.{nodeOf}
+use Rattle.ol_state.specs.Known.{Known}
 use Rattle.ol_sim.specs.Judging.{valuesIn}
 
 -- a fresh state can be written: the constants' cells, an Operator as the main node, and a buffer of the state's length

@@ -3,11 +3,15 @@ use crate::judge::Judged;
 use crate::judge::judge;
 use ol_check::variants::enter_variants;
 use ol_eval::main_cycle::run_main;
-use ol_fresh::defaults::row;
 use ol_spec::Cycled;
 use ol_spec::Fault;
 use ol_state::good_inputs;
 use ol_state::good_state;
+use ol_tables::tables::LARGE_TAB;
+use ol_tables::tables::ROWS;
+use ol_tables::tables::SMALL_TAB;
+use ol_tables::tables::VARIABLES;
+use ol_tables::tables::row;
 ghost use mathlib.Core.Path.{_≡_};
 ghost use mathlib.Core.Bool.{true, false};
 ghost use Prim.Native.Nat.{_≤_};
@@ -15,7 +19,7 @@ ghost use lib.ListN.{length};
 ghost use Rattle.ol_spec.specs.Answers.{faultAt};
 ghost use Rattle.ol_spec.specs.Limits.{relayLoader};
 ghost use Rattle.ol_spec.specs.Cycle.{cycle, cycleJudged};
-ghost use Rattle.ol_tree.specs.At.{fileAt};
+ghost use Rattle.ol_tables.specs.At.{fileAt};
 ghost use Rattle.ol_sim.specs.Calls.{CyclesAs};
 ghost use Rattle.ol_sim.specs.Judging.{FileReady, Loads, whole};
 ghost use Rattle.ol_sim.specs.Cycling.{CycleReady, VariantsReady};
@@ -47,7 +51,7 @@ fn cycle_unless(
     if good_state(file, tab, rows, variants, consts, old) {
         if good_inputs(file, tab, rows, variants, inputs) {
             if new.len() == size {
-                let n = row(rows, main, 4);
+                let n = row(rows, main, VARIABLES);
                 if values.len() == 9 * n {
                     run_main(file, tab, rows, consts, main, old, inputs, new, values)
                 } else {
@@ -182,7 +186,7 @@ fn cycle_with(
 }
 
 // The cycle of a file of at most 1,024 bytes.
-pub fn cycle_small(
+pub(crate) fn cycle_small(
     file: &[u8],
     enums: usize,
     places: &[usize],
@@ -194,8 +198,8 @@ pub fn cycle_small(
     requires { ⌜ Loads (now file) enums (now places) × (length (now file) ≤ 1024) ⌝ }
     ensures { λ r. ⌜ CyclesAs (cycle relayLoader (now (file .entry)) (now (old .entry)) (now (inputs .entry)) (now (new .entry)) (now (values .entry))) r (now (new .exit)) (now (values .exit)) ⌝ }
 {
-    let mut rows = [0usize; 272];
-    let mut tab = [0u8; 10752];
+    let mut rows = [0usize; ROWS];
+    let mut tab = [0u8; SMALL_TAB];
     let mut consts = [0u8; 576];
     cycle_with(
         file,
@@ -212,7 +216,7 @@ pub fn cycle_small(
 }
 
 // The cycle of any file.
-pub fn cycle_large(
+pub(crate) fn cycle_large(
     file: &[u8],
     enums: usize,
     places: &[usize],
@@ -224,8 +228,8 @@ pub fn cycle_large(
     requires { ⌜ Loads (now file) enums (now places) ⌝ }
     ensures { λ r. ⌜ CyclesAs (cycle relayLoader (now (file .entry)) (now (old .entry)) (now (inputs .entry)) (now (new .entry)) (now (values .entry))) r (now (new .exit)) (now (values .exit)) ⌝ }
 {
-    let mut rows = [0usize; 272];
-    let mut tab = [0u8; 42496];
+    let mut rows = [0usize; ROWS];
+    let mut tab = [0u8; LARGE_TAB];
     let mut consts = [0u8; 576];
     cycle_with(
         file,

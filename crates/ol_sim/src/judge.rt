@@ -1,20 +1,26 @@
 // The tables of a file that reads without fault, and faults 6 to 14 in their order.
+use ol_check::Faults;
 use ol_check::Found;
-use ol_check::bytes::byte;
 use ol_check::clash::sort_file;
 use ol_check::file::faults;
-use ol_check::judge::Faults;
 use ol_check::rows::Sections;
 use ol_check::rows::rows_of;
 use ol_check::size::not_operator;
 use ol_check::size::state_size;
 use ol_eval::constants;
 use ol_eval::constants::constant_values;
-use ol_fresh::defaults::row;
 use ol_order::table::Ring;
 use ol_order::table::orders_of;
 use ol_spec::Fault;
 use ol_spec::Verdict;
+use ol_tables::bytes::byte;
+use ol_tables::tables::LARGE_TAB;
+use ol_tables::tables::PLACE;
+use ol_tables::tables::ROWS;
+use ol_tables::tables::SLOTS;
+use ol_tables::tables::SMALL_TAB;
+use ol_tables::tables::TYPES;
+use ol_tables::tables::row;
 ghost use mathlib.Core.Path.{_≡_};
 ghost use mathlib.Core.Bool.{true};
 ghost use mathlib.Core.Option.{none};
@@ -23,15 +29,15 @@ ghost use lib.ListN.{length};
 ghost use Rattle.ol_spec.specs.Answers.{faultAt};
 ghost use Rattle.ol_spec.specs.Limits.{relayLoader};
 ghost use Rattle.ol_spec.specs.Admission.{admission, fault6, fault13, stateSize};
-ghost use Rattle.ol_tree.specs.At.{fileAt};
-ghost use Rattle.ol_tree.specs.Stands.{FileReads};
-ghost use Rattle.ol_tree.specs.Tables.{Rows, sizeCap};
+ghost use Rattle.ol_tables.specs.At.{fileAt};
+ghost use Rattle.ol_tables.specs.Stands.{FileReads};
+ghost use Rattle.ol_tables.specs.Tables.{Rows, sizeCap};
 ghost use Rattle.ol_check.specs.Founds.{placeOf};
 ghost use Rattle.ol_sim.specs.Judging.{Judges, Low, verdictOf, from6, from7, from11, from12, from13, MainReady, ConstantsReady, OrderReady, ShapesReady, NamesReady, SectionsReady, FileReady, Loads};
 
 // What judging a file gives: its first fault, or the length of its state, its main node's number, how many
 // constants it has, and whether every declared name is known to be below 1,024.
-pub enum Judged {
+pub(crate) enum Judged {
     Refused(Fault),
     Admitted(usize, usize, usize, bool),
 }
@@ -49,7 +55,7 @@ fn too_long(file: &[u8], rows: &[usize], main: usize, size: usize) -> Found
     ensures { λ r. ⌜ (placeOf r ≡ fault13 relayLoader (fileAt (now (file .entry)))) × (placeOf r ≡ none → size ≤ 32768) ⌝ }
 {
     if 32768 < size {
-        Found::At(row(rows, main, 7))
+        Found::At(row(rows, main, PLACE))
     } else {
         Found::Nothing
     }
@@ -117,7 +123,7 @@ fn judge_order(
     requires { ⌜ OrderReady (now file) enums (now places) (now rows) (now tab) (now consts) sections main low ⌝ }
     ensures { λ r. ⌜ Judges (now (file .entry)) (from11 (fileAt (now (file .entry)))) (now (rows .entry)) (now (tab .exit)) (now (consts .exit)) r ⌝ }
 {
-    match orders_of(file, enums, places, low, &mut tab[..2560]) {
+    match orders_of(file, enums, places, low, &mut tab[..TYPES]) {
         Ring::At(p) => refuse(11, p),
         Ring::Nothing => {
             let c = sections.constants;
@@ -192,7 +198,7 @@ fn judge_names(
     match clash {
         Found::At(p) => refuse(6, p),
         Found::Nothing => {
-            let found = faults(file, rows, sections, names, &mut tab[9728..]);
+            let found = faults(file, rows, sections, names, &mut tab[SLOTS..]);
             judge_shapes(file, enums, places, rows, tab, consts, sections, low, found)
         }
     }
@@ -260,7 +266,7 @@ fn judge_high(
 }
 
 // Judges a file that reads without fault, and writes its tables and its constants' cells.
-pub fn judge(
+pub(crate) fn judge(
     file: &[u8],
     enums: usize,
     places: &[usize],
@@ -271,7 +277,7 @@ pub fn judge(
     requires { ⌜ FileReady (now file) enums (now places) (now rows) (now tab) (now consts) ⌝ }
     ensures { λ r. ⌜ Judges (now (file .entry)) (from6 (fileAt (now (file .entry)))) (now (rows .exit)) (now (tab .exit)) (now (consts .exit)) r ⌝ }
 {
-    let sections = rows_of(file, places, rows, &mut tab[2560..9728]);
+    let sections = rows_of(file, places, rows, &mut tab[TYPES..SLOTS]);
     let mut sorts = [0u8; 1024];
     let s = sort_file(file, rows, sections, &mut sorts);
     let clash = s.found;
@@ -293,23 +299,23 @@ fn verdict_on(j: Judged) -> Verdict
 }
 
 // Admission of a file of at most 1,024 bytes.
-pub fn admit_small(file: &[u8], enums: usize, places: &[usize]) -> Verdict
+pub(crate) fn admit_small(file: &[u8], enums: usize, places: &[usize]) -> Verdict
     requires { ⌜ Loads (now file) enums (now places) × (length (now file) ≤ 1024) ⌝ }
     ensures { λ r. ⌜ r ≡ admission relayLoader (now (file .entry)) ⌝ }
 {
-    let mut rows = [0usize; 272];
-    let mut tab = [0u8; 10752];
+    let mut rows = [0usize; ROWS];
+    let mut tab = [0u8; SMALL_TAB];
     let mut consts = [0u8; 576];
     verdict_on(judge(file, enums, places, &mut rows, &mut tab, &mut consts))
 }
 
 // Admission of any file.
-pub fn admit_large(file: &[u8], enums: usize, places: &[usize]) -> Verdict
+pub(crate) fn admit_large(file: &[u8], enums: usize, places: &[usize]) -> Verdict
     requires { ⌜ Loads (now file) enums (now places) ⌝ }
     ensures { λ r. ⌜ r ≡ admission relayLoader (now (file .entry)) ⌝ }
 {
-    let mut rows = [0usize; 272];
-    let mut tab = [0u8; 42496];
+    let mut rows = [0usize; ROWS];
+    let mut tab = [0u8; LARGE_TAB];
     let mut consts = [0u8; 576];
     verdict_on(judge(file, enums, places, &mut rows, &mut tab, &mut consts))
 }

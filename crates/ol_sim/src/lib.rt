@@ -1,7 +1,7 @@
 // The relay's public entry: admission, the start and the cycle. Each call judges the file itself.
-pub mod judge; // judge.rt: the tables of a file, and faults 6 to 14 in their order
-pub mod starting; // starting.rt: the fresh state
-pub mod cycling; // cycling.rt: a cycle of the main instance
+mod judge; // judge.rt: the tables of a file, and faults 6 to 14 in their order
+mod starting; // starting.rt: the fresh state
+mod cycling; // cycling.rt: a cycle of the main instance
 
 use cycling::cycle_large;
 use cycling::cycle_small;

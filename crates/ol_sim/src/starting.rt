@@ -2,16 +2,19 @@
 use crate::judge::Judged;
 use crate::judge::judge;
 use ol_eval::copies::copy;
-use ol_fresh::write_fresh;
 use ol_spec::Fault;
 use ol_spec::Started;
+use ol_state::fresh::write_fresh;
+use ol_tables::tables::LARGE_TAB;
+use ol_tables::tables::ROWS;
+use ol_tables::tables::SMALL_TAB;
 ghost use mathlib.Core.Path.{_≡_};
 ghost use Prim.Native.Nat.{_≤_};
 ghost use lib.ListN.{length};
 ghost use Rattle.ol_spec.specs.Limits.{relayLoader};
 ghost use Rattle.ol_spec.specs.Cycle.{start};
 ghost use Rattle.ol_spec.specs.State.{freshState};
-ghost use Rattle.ol_tree.specs.At.{fileAt};
+ghost use Rattle.ol_tables.specs.At.{fileAt};
 ghost use Rattle.ol_sim.specs.Calls.{StartsAs};
 ghost use Rattle.ol_sim.specs.Judging.{FileReady, Loads, valuesIn};
 ghost use Rattle.ol_sim.specs.Starting.{StartReady};
@@ -64,23 +67,23 @@ fn start_with(
 }
 
 // The start of a file of at most 1,024 bytes.
-pub fn start_small(file: &[u8], enums: usize, places: &[usize], state: &mut [u8]) -> Started
+pub(crate) fn start_small(file: &[u8], enums: usize, places: &[usize], state: &mut [u8]) -> Started
     requires { ⌜ Loads (now file) enums (now places) × (length (now file) ≤ 1024) ⌝ }
     ensures { λ r. ⌜ StartsAs (start relayLoader (now (file .entry)) (now (state .entry))) r (now (state .exit)) ⌝ }
 {
-    let mut rows = [0usize; 272];
-    let mut tab = [0u8; 10752];
+    let mut rows = [0usize; ROWS];
+    let mut tab = [0u8; SMALL_TAB];
     let mut consts = [0u8; 576];
     start_with(file, enums, places, &mut rows, &mut tab, &mut consts, state)
 }
 
 // The start of any file.
-pub fn start_large(file: &[u8], enums: usize, places: &[usize], state: &mut [u8]) -> Started
+pub(crate) fn start_large(file: &[u8], enums: usize, places: &[usize], state: &mut [u8]) -> Started
     requires { ⌜ Loads (now file) enums (now places) ⌝ }
     ensures { λ r. ⌜ StartsAs (start relayLoader (now (file .entry)) (now (state .entry))) r (now (state .exit)) ⌝ }
 {
-    let mut rows = [0usize; 272];
-    let mut tab = [0u8; 42496];
+    let mut rows = [0usize; ROWS];
+    let mut tab = [0u8; LARGE_TAB];
     let mut consts = [0u8; 576];
     start_with(file, enums, places, &mut rows, &mut tab, &mut consts, state)
 }

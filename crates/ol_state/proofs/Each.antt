@@ -16,12 +16,12 @@ use Rattle.ol_spec.specs.Admission.{variants}
 use Rattle.ol_spec.specs.Limits.{base}
 use Rattle.ol_spec.specs.Within.{tyFits, nameFits, variableFits}
 use Rattle.ol_spec.proofs.Tests.{T-and}
-use Rattle.ol_tree.specs.Tables.{Variants, tyCode, tyEnum, codeAt, enumAt, rowAt, nodeOf}
+use Rattle.ol_tables.specs.Tables.{Variants, tyCode, tyEnum, codeAt, enumAt, rowAt, nodeOf}
 use Rattle.ol_value.specs.Codes.{tyOf}
 use Rattle.ol_value.proofs.TypeCodes.{int-code}
-use Rattle.ol_fresh.specs.Known.{Known}
-use Rattle.ol_fresh.proofs.Fits.{all-nth}
-use Rattle.ol_fresh.proofs.Records.{row-of, fits-here, main-is, few-nodes}
+use Rattle.ol_state.specs.Known.{Known}
+use Rattle.ol_state.proofs.Fits.{all-nth}
+use Rattle.ol_state.proofs.Instances.{row-of, fits-here, main-is, few-nodes}
 use Rattle.ol_state.specs.Inputs.{Typed, goodInput}
 use Rattle.ol_state.proofs.Judged.{and-pass, and-stop}
 

@@ -26,10 +26,10 @@ use Rattle.ol_spec.proofs.RoundTrip.Parts.{Here, here-front, here-back}
 use Rattle.ol_spec.proofs.RoundTrip.Placed.{file-here}
 use Rattle.ol_value.specs.Codes.{tyFrom, tyOf, nameIn, inKind}
 use Rattle.ol_value.proofs.TypeCodes.{in-type-is, variant-is}
-use Rattle.ol_tree.specs.Heads.{nameAt}
-use Rattle.ol_tree.proofs.Heads.{here-first, here-name}
-use Rattle.ol_fresh.proofs.Walk.{moved}
-use Rattle.ol_fresh.proofs.Fits.{fits, all-nth}
+use Rattle.ol_tables.specs.Heads.{nameAt}
+use Rattle.ol_tables.proofs.HeadLaws.{here-first, here-name}
+use Rattle.ol_tables.proofs.HeadsFile.{moved}
+use Rattle.ol_state.proofs.Fits.{fits, all-nth}
 use Rattle.ol_state.specs.Inputs.{EnumAt, goodInput}
 
 -- ---- where an enum stands

@@ -1,6 +1,12 @@
+pub mod Walk
+pub mod Filling
+pub mod DefaultCells
+pub mod Fits
+pub mod Told
+pub mod Instances
+pub mod FreshRecords
 pub mod Judged
 pub mod Records
 pub mod States
 pub mod Enums
 pub mod Each
-pub mod Admission

@@ -15,12 +15,12 @@ use Rattle.ol_spec.specs.Admission.{variants}
 use Rattle.ol_spec.specs.declared.Value.{Value}
 use Rattle.ol_spec.proofs.Segments.{sites-cons}
 use Rattle.ol_spec.proofs.Calls.{good-site}
-use Rattle.ol_tree.specs.Tables.{rowAt, nodeOf, siteBytes}
-use Rattle.ol_fresh.specs.declared.sites.Site.{Site}
-use Rattle.ol_fresh.specs.Known.{Known, Sited}
-use Rattle.ol_fresh.specs.Ahead.{NextSite}
-use Rattle.ol_fresh.specs.Defaults.{cellsAt}
-use Rattle.ol_fresh.proofs.Records.{Rest, callees, Turn, sizesOf, rest-start, next-site, no-site, default-cells, own-room, is-operator, no-operator, variables-told}
+use Rattle.ol_tables.specs.Tables.{rowAt, nodeOf, siteBytes}
+use Rattle.ol_state.specs.declared.sites.Site.{Site}
+use Rattle.ol_state.specs.Known.{Known, Sited}
+use Rattle.ol_state.specs.Ahead.{NextSite}
+use Rattle.ol_state.specs.Defaults.{cellsAt}
+use Rattle.ol_state.proofs.Instances.{Rest, callees, Turn, sizesOf, rest-start, next-site, no-site, default-cells, own-room, is-operator, no-operator, variables-told}
 use Rattle.ol_state.specs.Own.{goodBytes}
 use Rattle.ol_state.proofs.Judged.{and-pass, and-stop}
 

@@ -14,10 +14,10 @@ use Rattle.ol_spec.specs.State.{globalsOf, goodBy, goodRecord, goodState}
 use Rattle.ol_spec.specs.Admission.{headSize, stateSize}
 use Rattle.ol_spec.specs.declared.Value.{Value}
 use Rattle.ol_spec.proofs.Calls.{good-site}
-use Rattle.ol_tree.specs.Tables.{rowAt, nodeOf, siteBytes}
-use Rattle.ol_fresh.specs.Known.{Sited}
-use Rattle.ol_fresh.proofs.Filling.{tailOf, tail-all}
-use Rattle.ol_fresh.proofs.Records.{sizesOf, main-is, operator-size, size-told, few-nodes}
+use Rattle.ol_tables.specs.Tables.{rowAt, nodeOf, siteBytes}
+use Rattle.ol_state.specs.Known.{Sited}
+use Rattle.ol_tables.proofs.Lending.{tailOf, tail-all}
+use Rattle.ol_state.proofs.Instances.{sizesOf, main-is, operator-size, size-told, few-nodes}
 use Rattle.ol_state.specs.Ready.{Ready}
 use Rattle.ol_state.proofs.Judged.{and-pass, and-stop}
 use Rattle.ol_state.proofs.Records.{goodOf}

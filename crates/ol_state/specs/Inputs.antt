@@ -13,7 +13,7 @@ use Rattle.ol_spec.specs.Admission.{variants}
 use Rattle.ol_spec.specs.Limits.{relayLoader}
 use Rattle.ol_spec.specs.Within.{within, tyFits}
 use Rattle.ol_spec.proofs.RoundTrip.Parts.{Here}
-use Rattle.ol_tree.specs.Tables.{Variants}
+use Rattle.ol_tables.specs.Tables.{Variants}
 use Rattle.ol_value.specs.Codes.{tyOf}
 
 -- enum e stands there, if there is one of that number

@@ -5,8 +5,8 @@ use mathlib.Core.Path.{_≡_}
 use lib.ListN.{length}
 use Rattle.ol_spec.specs.Syntax.{Operator, File, main}
 use Rattle.ol_spec.specs.Admission.{headSize, stateSize}
-use Rattle.ol_tree.specs.Tables.{Variants}
-use Rattle.ol_fresh.specs.Known.{Known}
+use Rattle.ol_tables.specs.Tables.{Variants}
+use Rattle.ol_state.specs.Known.{Known}
 
 pub record Ready (f : File) (s tab rows table consts : List ℕ) : Type 0 where
   pub known : Known f s tab rows

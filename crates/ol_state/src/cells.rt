@@ -5,14 +5,14 @@ ghost use Prim.Native.Nat.{ℕ, _+_, _*_, _≤_};
 ghost use lib.ListN.{length, take, drop};
 ghost use Rattle.ol_spec.specs.Lists.{same};
 ghost use Rattle.ol_spec.specs.Cell.{isVariant, goodCell, goodCells};
-ghost use Rattle.ol_tree.specs.Tables.{Tells};
-use ol_check::bytes::byte;
+ghost use Rattle.ol_tables.specs.Tables.{Tells};
 use ol_spec::Value;
+use ol_tables::bytes::byte;
 use ol_value::cell::good_cell;
 use ol_value::cell::read_cell;
 
 // Whether an Enum's name is a variant's; another value has none.
-pub fn is_variant(variants: &[u8], v: Value) -> bool
+fn is_variant(variants: &[u8], v: Value) -> bool
     ensures { λ r. ⌜ ((names : List ℕ) → Tells (now (variants .entry)) names → r ≡ isVariant names v) ⌝ }
 {
     match v {
@@ -25,7 +25,7 @@ pub fn is_variant(variants: &[u8], v: Value) -> bool
 }
 
 // Whether the cell at an offset is good.
-pub fn judge_cell(variants: &[u8], cells: &[u8], at: usize) -> bool
+pub(crate) fn judge_cell(variants: &[u8], cells: &[u8], at: usize) -> bool
     requires { ⌜ at + 9 ≤ length (now cells) ⌝ }
     ensures { λ r. ⌜ ((names : List ℕ) → Tells (now (variants .entry)) names → r ≡ goodCell names (take 9 (drop at (now (cells .entry))))) ⌝ }
 {
@@ -37,7 +37,7 @@ pub fn judge_cell(variants: &[u8], cells: &[u8], at: usize) -> bool
 }
 
 // Whether n cells are good.
-pub fn good_cells(variants: &[u8], n: usize, cells: &[u8]) -> bool
+pub(crate) fn good_cells(variants: &[u8], n: usize, cells: &[u8]) -> bool
     requires { ⌜ 9 * n ≤ length (now cells) ⌝ }
     ensures { λ r. ⌜ ((names : List ℕ) → Tells (now (variants .entry)) names → r ≡ goodCells names n (now (cells .entry))) ⌝ }
 {
@@ -53,7 +53,7 @@ pub fn good_cells(variants: &[u8], n: usize, cells: &[u8]) -> bool
 }
 
 // Whether two slices hold the same bytes.
-pub fn same_bytes(a: &[u8], b: &[u8]) -> bool
+pub(crate) fn same_bytes(a: &[u8], b: &[u8]) -> bool
     ensures { λ r. ⌜ r ≡ same (now (a .entry)) (now (b .entry)) ⌝ }
 {
     let n = a.len();

@@ -8,18 +8,18 @@ ghost use Rattle.ol_spec.specs.Lists.{member, allOf};
 ghost use Rattle.ol_spec.specs.Within.{nameFits};
 ghost use Rattle.ol_spec.specs.Encode.{encode, nameBytes, sectionBytes};
 ghost use Rattle.ol_spec.proofs.RoundTrip.Parts.{Here};
-ghost use Rattle.ol_tree.specs.At.{fileAt};
+ghost use Rattle.ol_tables.specs.At.{fileAt};
 ghost use Rattle.ol_state.specs.Inputs.{EnumAt, Typed, goodInput};
 use crate::cells::judge_cell;
-use ol_check::bytes::byte;
-use ol_check::bytes::name;
+use ol_tables::bytes::byte;
+use ol_tables::bytes::name;
 use ol_value::cell::is_enum;
 use ol_value::cell::name_of;
 use ol_value::cell::read_cell;
 use ol_value::types::in_type;
 
 // Where enum e stands.
-pub fn enum_at(file: &[u8], e: usize) -> usize
+fn enum_at(file: &[u8], e: usize) -> usize
     requires { ⌜ (e ≤ 255) × (encode (fileAt (now file)) ≡ now file) ⌝ }
     ensures { λ r. ⌜ EnumAt (fileAt (now (file .entry))) (now (file .entry)) e r ⌝ }
 {
@@ -33,7 +33,7 @@ pub fn enum_at(file: &[u8], e: usize) -> usize
 }
 
 // Whether a name is a variant of the enum at `at`.
-pub fn has_variant(file: &[u8], at: usize, v: usize) -> bool
+fn has_variant(file: &[u8], at: usize, v: usize) -> bool
     requires { ⌜ at ≤ 131072 ⌝ }
     ensures { λ r. ⌜ ((vs : List ℕ) → Here (now (file .entry)) at (sectionBytes nameBytes vs) → T (allOf nameFits vs) → r ≡ member v vs) ⌝ }
 {
@@ -49,7 +49,7 @@ pub fn has_variant(file: &[u8], at: usize, v: usize) -> bool
 }
 
 // Whether the cell at an offset is good and of the type with this code and enum's number.
-pub fn judge_input(
+pub(crate) fn judge_input(
     file: &[u8],
     variants: &[u8],
     code: usize,

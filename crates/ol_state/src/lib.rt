@@ -1,51 +1,55 @@
-// An old state and inputs, judged: 15 and 16.
+// An inner part of the runtime, the state: fresh records, and an old state and inputs, judged: 15 and 16.
 ghost use mathlib.Core.Path.{_≡_};
 ghost use mathlib.Core.List.{List};
 ghost use lib.ListN.{length};
 ghost use Rattle.ol_spec.specs.declared.Value.{Value};
 ghost use Rattle.ol_spec.specs.Cell.{cells};
 ghost use Rattle.ol_spec.specs.State.{globalsOf, goodAt, goodState, goodInputs};
-ghost use Rattle.ol_tree.specs.At.{fileAt};
-ghost use Rattle.ol_tree.specs.Tables.{Variants};
-ghost use Rattle.ol_fresh.specs.Known.{Known, Sited};
+ghost use Rattle.ol_tables.specs.At.{fileAt};
+ghost use Rattle.ol_tables.specs.Tables.{Variants};
+ghost use Rattle.ol_state.specs.Known.{Known, Sited};
 ghost use Rattle.ol_state.specs.Ready.{Ready};
 
-pub mod cells; // cells.rt: cells and bytes
-pub mod inputs; // inputs.rt: inputs
-pub mod own; // own.rt: a record's started byte and cells
+pub mod fresh; // fresh.rt: fresh records
+pub mod defaults; // defaults.rt: the started byte and the default cells of a fresh record
+mod sites; // sites.rt: the call sites of a node, in file order
+mod cells; // cells.rt: cells and bytes
+mod inputs; // inputs.rt: inputs
+mod own; // own.rt: a record's started byte and cells
 
+use crate::fresh::main_node;
+use crate::sites::next_site;
 use cells::same_bytes;
 use inputs::judge_input;
-use ol_check::bytes::byte;
-use ol_fresh::defaults::row;
-use ol_fresh::main_node;
-use ol_fresh::sites::next_site;
+use ol_tables::bytes::byte;
+use ol_tables::tables::COUNT;
+use ol_tables::tables::EQUATIONS;
+use ol_tables::tables::INPUTS;
+use ol_tables::tables::KIND;
+use ol_tables::tables::MOST_VARIABLES;
+use ol_tables::tables::SIZE;
+use ol_tables::tables::TYPES;
+use ol_tables::tables::VARIABLES;
+use ol_tables::tables::row;
 use own::good_own;
 
 // Whether the record of a call site of node k, which is all of `r`, is good: its own bytes, then the
 // records of its own call sites, to the last byte. Only an Operator's call site has one.
-pub fn good_record(
-    file: &[u8],
-    tab: &[u8],
-    rows: &[usize],
-    variants: &[u8],
-    k: usize,
-    r: &[u8],
-) -> bool
+fn good_record(file: &[u8], tab: &[u8], rows: &[usize], variants: &[u8], k: usize, r: &[u8]) -> bool
     requires { ⌜ Sited (fileAt (now file)) (now file) (now tab) (now rows) k (now r) × Variants (fileAt (now file)) (now variants) ⌝ }
     ensures { λ b. ⌜ ((vs : List Value) → b ≡ goodAt (globalsOf (fileAt (now (file .entry))) vs) (length (fileAt (now (file .entry)) .nodes)) k (now (r .entry))) ⌝ }
 {
-    if row(rows, k, 0) == 1 {
+    if row(rows, k, KIND) == 1 {
         if good_own(tab, rows, variants, k, r) {
-            let mut used = 1 + 9 * row(rows, k, 4);
-            let mut at = row(rows, k, 1);
-            let mut eqs = row(rows, k, 5);
+            let mut used = 1 + 9 * row(rows, k, VARIABLES);
+            let mut at = row(rows, k, EQUATIONS);
+            let mut eqs = row(rows, k, COUNT);
             let mut pending: usize = 0;
             while used < r.len() {
                 let s = next_site(file, at, eqs, pending);
                 if s.found {
                     let c = s.callee;
-                    let end = used + row(rows, c, 6);
+                    let end = used + row(rows, c, SIZE);
                     if good_record(file, tab, rows, variants, c, &r[used..end]) {
                         used = end;
                         at = s.at;
@@ -82,7 +86,7 @@ pub fn good_state(
 {
     let k = main_node(file, rows);
     let head = consts.len();
-    if state.len() == head + row(rows, k, 6) {
+    if state.len() == head + row(rows, k, SIZE) {
         if same_bytes(&state[..head], consts) {
             good_record(file, tab, rows, variants, k, &state[head..])
         } else {
@@ -100,11 +104,11 @@ pub fn good_inputs(file: &[u8], tab: &[u8], rows: &[usize], variants: &[u8], inp
     ensures { λ b. ⌜ b ≡ goodInputs (fileAt (now (file .entry))) (now (inputs .entry)) ⌝ }
 {
     let k = main_node(file, rows);
-    let n = row(rows, k, 2);
+    let n = row(rows, k, INPUTS);
     if inputs.len() == 9 * n {
         let mut i: usize = 0;
         while i < n {
-            let p = 2560 + (k * 112 + i) * 2;
+            let p = TYPES + (k * MOST_VARIABLES + i) * 2;
             let code = byte(tab, p);
             let number = byte(tab, p + 1);
             if judge_input(file, variants, code, number, inputs, 9 * i) {

@@ -4,33 +4,35 @@ ghost use mathlib.Core.List.{List};
 ghost use Prim.Native.Nat.{ℕ, _+_, _*_, _≤_};
 ghost use lib.ListN.{length, take};
 ghost use Rattle.ol_spec.specs.Lists.{same};
-ghost use Rattle.ol_tree.specs.Tables.{Tells, rowAt};
-ghost use Rattle.ol_fresh.specs.Defaults.{cellsAt};
+ghost use Rattle.ol_tables.specs.Tables.{Tells, rowAt};
+ghost use Rattle.ol_state.specs.Defaults.{cellsAt};
 ghost use Rattle.ol_state.specs.Own.{goodBytes};
 use crate::cells::good_cells;
 use crate::cells::same_bytes;
-use ol_fresh::defaults::row;
-use ol_fresh::defaults::write_defaults;
+use crate::defaults::write_defaults;
+use ol_tables::tables::MOST_CELLS;
+use ol_tables::tables::VARIABLES;
+use ol_tables::tables::row;
 
 // Whether the cells are the defaults of node k's variables.
-pub fn are_defaults(tab: &[u8], rows: &[usize], k: usize, cells: &[u8]) -> bool
+fn are_defaults(tab: &[u8], rows: &[usize], k: usize, cells: &[u8]) -> bool
     requires { ⌜ (k ≤ 65535) × (rowAt (now rows) k 4 ≤ 112) × (9 * rowAt (now rows) k 4 ≤ length (now cells)) ⌝ }
     ensures { λ r. ⌜ r ≡ same (take (9 * rowAt (now (rows .entry)) k 4) (now (cells .entry))) (cellsAt (now (tab .entry)) (now (rows .entry)) k 0 (rowAt (now (rows .entry)) k 4)) ⌝ }
 {
-    let mut defaults = [0u8; 1008];
+    let mut defaults = [0u8; MOST_CELLS];
     write_defaults(tab, rows, k, &mut defaults);
-    let end = 9 * row(rows, k, 4);
+    let end = 9 * row(rows, k, VARIABLES);
     same_bytes(&cells[..end], &defaults[..end])
 }
 
 // Whether a record's own bytes are good: its started byte, its cells, and these defaults where it is not started.
-pub fn good_own(tab: &[u8], rows: &[usize], variants: &[u8], k: usize, r: &[u8]) -> bool
+pub(crate) fn good_own(tab: &[u8], rows: &[usize], variants: &[u8], k: usize, r: &[u8]) -> bool
     requires { ⌜ (k ≤ 65535) × (rowAt (now rows) k 4 ≤ 112) × (1 + 9 * rowAt (now rows) k 4 ≤ length (now r)) ⌝ }
     ensures { λ b. ⌜ ((names : List ℕ) → Tells (now (variants .entry)) names → b ≡ goodBytes names (cellsAt (now (tab .entry)) (now (rows .entry)) k 0 (rowAt (now (rows .entry)) k 4)) (rowAt (now (rows .entry)) k 4) (now (r .entry))) ⌝ }
 {
     let started = r[0];
     if started <= 1 {
-        if good_cells(variants, row(rows, k, 4), &r[1..]) {
+        if good_cells(variants, row(rows, k, VARIABLES), &r[1..]) {
             if started == 0 {
                 are_defaults(tab, rows, k, &r[1..])
             } else {

@@ -43,7 +43,7 @@ fn read_half(bytes: &[u8], at: usize) -> u64
 
 // The 64-bit number at an offset. Both halves are sums of bytes times powers of 256, which the
 // compiler makes one load.
-pub fn read_number(bytes: &[u8], at: usize) -> u64
+fn read_number(bytes: &[u8], at: usize) -> u64
     requires { ⌜ at + 8 ≤ length (now bytes) ⌝ }
     ensures { λ r. ⌜ r ≡ numberOf 0 (take 8 (drop at (now (bytes .entry)))) ⌝ }
 {
@@ -53,7 +53,7 @@ pub fn read_number(bytes: &[u8], at: usize) -> u64
 }
 
 // Writes a number's eight bytes at an offset, the last one first.
-pub fn write_number(n: u64, out: &mut [u8], at: usize)
+fn write_number(n: u64, out: &mut [u8], at: usize)
     requires { ⌜ at + 8 ≤ length (now out) ⌝ }
     ensures { λ _. ⌜ now (out .exit) ≡ take at (now (out .entry)) ++ (bytesOf 8 n ++ drop (at + 8) (now (out .entry))) ⌝ }
 {
@@ -67,7 +67,7 @@ pub fn write_number(n: u64, out: &mut [u8], at: usize)
 }
 
 // The 64 bits of an integer.
-pub fn int_bits(i: i64) -> u64
+fn int_bits(i: i64) -> u64
     ensures { λ r. ⌜ r ≡ residue 64 i ⌝ }
 {
     let m = magnitude(i);
@@ -75,7 +75,7 @@ pub fn int_bits(i: i64) -> u64
 }
 
 // 64 bits, read as a signed integer.
-pub fn int_of_bits(p: u64) -> i64
+fn int_of_bits(p: u64) -> i64
     ensures { λ r. ⌜ r ≡ signed 64 p ⌝ }
 {
     if p < 9223372036854775808 {
@@ -86,7 +86,7 @@ pub fn int_of_bits(p: u64) -> i64
 }
 
 // A value's tag: 0 Bool, 1 Int, 2 Float, 3 Float32, 4 Enum.
-pub fn tag_of(v: Value) -> u8
+fn tag_of(v: Value) -> u8
     ensures { λ r. ⌜ r ≡ tag v ⌝ }
 {
     match v {
@@ -112,7 +112,7 @@ pub fn payload_of(v: Value) -> u64
 }
 
 // The value of a tag and a payload; a tag above 4 is read as 4, and its cell is bad.
-pub fn value_by(t: u8, p: u64) -> Value
+fn value_by(t: u8, p: u64) -> Value
     ensures { λ r. ⌜ r ≡ valueBy t p ⌝ }
 {
     match t {

@@ -40,7 +40,7 @@ fn difference_fits(a: i64, b: i64) -> bool
 }
 
 // n for n, and for -(n + 1) too.
-pub fn magnitude(a: i64) -> u64
+pub(crate) fn magnitude(a: i64) -> u64
     ensures { λ r. ⌜ r ≡ mag a ⌝ }
 {
     if 0 <= a { a as u64 } else { (-1 - a) as u64 }
@@ -78,7 +78,7 @@ fn quotient_fits(a: i64, b: i64) -> bool
 }
 
 // Add: the sum, or an overflow.
-pub fn add_ints(a: i64, b: i64) -> Outcome
+pub(crate) fn add_ints(a: i64, b: i64) -> Outcome
     ensures { λ r. ⌜ r ≡ exact (a +ℤ b) ⌝ }
 {
     if sum_fits(a, b) {
@@ -89,7 +89,7 @@ pub fn add_ints(a: i64, b: i64) -> Outcome
 }
 
 // Sub: the difference, or an overflow.
-pub fn sub_ints(a: i64, b: i64) -> Outcome
+pub(crate) fn sub_ints(a: i64, b: i64) -> Outcome
     ensures { λ r. ⌜ r ≡ exact (a -ℤ b) ⌝ }
 {
     if difference_fits(a, b) {
@@ -100,7 +100,7 @@ pub fn sub_ints(a: i64, b: i64) -> Outcome
 }
 
 // Mul: the product, or an overflow.
-pub fn mul_ints(a: i64, b: i64) -> Outcome
+pub(crate) fn mul_ints(a: i64, b: i64) -> Outcome
     ensures { λ r. ⌜ r ≡ exact (a *ℤ b) ⌝ }
 {
     if product_fits(a, b) {
@@ -111,7 +111,7 @@ pub fn mul_ints(a: i64, b: i64) -> Outcome
 }
 
 // Neg: the lowest number overflows.
-pub fn neg_int(a: i64) -> Outcome
+pub(crate) fn neg_int(a: i64) -> Outcome
     ensures { λ r. ⌜ r ≡ exact (negℤ a) ⌝ }
 {
     if a == LOWEST {
@@ -122,7 +122,7 @@ pub fn neg_int(a: i64) -> Outcome
 }
 
 // Toward zero: -7 / 2 is -3.
-pub fn div_ints(a: i64, b: i64) -> Outcome
+pub(crate) fn div_ints(a: i64, b: i64) -> Outcome
     ensures { λ r. ⌜ r ≡ divInt a b ⌝ }
 {
     if b == 0 {
@@ -136,7 +136,7 @@ pub fn div_ints(a: i64, b: i64) -> Outcome
 }
 
 // With the dividend's sign: -7 mod 2 is -1.
-pub fn mod_ints(a: i64, b: i64) -> Outcome
+pub(crate) fn mod_ints(a: i64, b: i64) -> Outcome
     ensures { λ r. ⌜ r ≡ modInt a b ⌝ }
 {
     if b == 0 {
@@ -150,21 +150,21 @@ pub fn mod_ints(a: i64, b: i64) -> Outcome
 }
 
 // BitAnd of the 64 bits.
-pub fn bit_and(a: i64, b: i64) -> Outcome
+pub(crate) fn bit_and(a: i64, b: i64) -> Outcome
     ensures { λ r. ⌜ r ≡ onBits bitAnd a b ⌝ }
 {
     Outcome::Value(Value::Int(a & b))
 }
 
 // BitOr of the 64 bits.
-pub fn bit_or(a: i64, b: i64) -> Outcome
+pub(crate) fn bit_or(a: i64, b: i64) -> Outcome
     ensures { λ r. ⌜ r ≡ onBits bitOr a b ⌝ }
 {
     Outcome::Value(Value::Int(a | b))
 }
 
 // BitXor of the 64 bits.
-pub fn bit_xor(a: i64, b: i64) -> Outcome
+pub(crate) fn bit_xor(a: i64, b: i64) -> Outcome
     ensures { λ r. ⌜ r ≡ onBits bitXor a b ⌝ }
 {
     Outcome::Value(Value::Int(a ^ b))
@@ -178,7 +178,7 @@ fn is_count(b: i64) -> bool
 }
 
 // Bits past the 64th are dropped; another count fails.
-pub fn shl_ints(a: i64, b: i64) -> Outcome
+pub(crate) fn shl_ints(a: i64, b: i64) -> Outcome
     ensures { λ r. ⌜ r ≡ shiftBy (λ k. signed 64 (residue 64 a * 2 ^ k % 2 ^ 64)) b ⌝ }
 {
     if is_count(b) {
@@ -189,7 +189,7 @@ pub fn shl_ints(a: i64, b: i64) -> Outcome
 }
 
 // The sign bit is copied: -8 shr 1 is -4; another count fails.
-pub fn shr_ints(a: i64, b: i64) -> Outcome
+pub(crate) fn shr_ints(a: i64, b: i64) -> Outcome
     ensures { λ r. ⌜ r ≡ shiftBy (λ k. shrZ a (2 ^ k)) b ⌝ }
 {
     if is_count(b) {
@@ -200,35 +200,35 @@ pub fn shr_ints(a: i64, b: i64) -> Outcome
 }
 
 // Eq.
-pub fn eq_ints(a: i64, b: i64) -> bool
+pub(crate) fn eq_ints(a: i64, b: i64) -> bool
     ensures { λ r. ⌜ r ≡ eqZ a b ⌝ }
 {
     a == b
 }
 
 // Lt.
-pub fn lt_ints(a: i64, b: i64) -> bool
+pub(crate) fn lt_ints(a: i64, b: i64) -> bool
     ensures { λ r. ⌜ r ≡ ltZ a b ⌝ }
 {
     a < b
 }
 
 // Le.
-pub fn le_ints(a: i64, b: i64) -> bool
+pub(crate) fn le_ints(a: i64, b: i64) -> bool
     ensures { λ r. ⌜ r ≡ leZ a b ⌝ }
 {
     a <= b
 }
 
 // Gt.
-pub fn gt_ints(a: i64, b: i64) -> bool
+pub(crate) fn gt_ints(a: i64, b: i64) -> bool
     ensures { λ r. ⌜ r ≡ ltZ b a ⌝ }
 {
     a > b
 }
 
 // Ge.
-pub fn ge_ints(a: i64, b: i64) -> bool
+pub(crate) fn ge_ints(a: i64, b: i64) -> bool
     ensures { λ r. ⌜ r ≡ leZ b a ⌝ }
 {
     a >= b

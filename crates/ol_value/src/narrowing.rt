@@ -8,9 +8,9 @@ ghost use Rattle.ol_value.specs.Codes.{intTyOf, Narrow};
 use crate::ints::magnitude;
 
 // An integer type's width in bits, and whether it has a sign.
-pub struct IntType {
-    pub bits: u8,
-    pub signed: bool,
+pub(crate) struct IntType {
+    pub(crate) bits: u8,
+    pub(crate) signed: bool,
 }
 
 // The one table, by type code: Bool has no width of its own, then Int8 to Int64 and Uint8 to Uint64.
@@ -54,7 +54,7 @@ const INT_TYPES: [IntType; 9] = [
 ];
 
 // The width and sign of the integer type with this code; another type's code leaves the number.
-pub fn int_type(code: u8) -> IntType
+fn int_type(code: u8) -> IntType
     ensures { λ r. ⌜ intTyOf r ≡ intTy code ⌝ }
 {
     let c = code as usize;
@@ -115,7 +115,7 @@ fn narrow_to(t: IntType, i: i64) -> i64
 }
 
 // Document 01's `narrow_int`.
-pub fn narrow_int(code: u8, i: i64) -> i64
+pub(crate) fn narrow_int(code: u8, i: i64) -> i64
     ensures { λ r. ⌜ r ≡ narrow (intTy code) i ⌝ }
 {
     narrow_to(int_type(code), i)
@@ -138,7 +138,7 @@ fn within(t: IntType, i: i64) -> bool
 }
 
 // Whether a number is in the range of the integer type with this code.
-pub fn in_range(code: u8, i: i64) -> bool
+pub(crate) fn in_range(code: u8, i: i64) -> bool
     ensures { λ r. ⌜ r ≡ inRange (intTy code) i ⌝ }
 {
     within(int_type(code), i)

@@ -241,7 +241,7 @@ pub fn eval_binary(op: u8, l: Value, r: Value) -> Outcome
 }
 
 // Not, of a Bool.
-pub fn unary_not(v: Value) -> Outcome
+fn unary_not(v: Value) -> Outcome
     ensures { λ r. ⌜ r ≡ notOf v ⌝ }
 {
     match v {
@@ -254,7 +254,7 @@ pub fn unary_not(v: Value) -> Outcome
 }
 
 // Neg, of a number.
-pub fn unary_neg(v: Value) -> Outcome
+fn unary_neg(v: Value) -> Outcome
     ensures { λ r. ⌜ r ≡ negOf v ⌝ }
 {
     match v {

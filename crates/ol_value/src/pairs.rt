@@ -6,7 +6,7 @@ use ol_real::f32_to_f64;
 use ol_spec::Value;
 
 // Two operands, by their kinds: two singles are singles, other reals are doubles.
-pub enum Operands {
+pub(crate) enum Operands {
     Bools(bool, bool),
     Ints(i64, i64),
     Singles(f32, f32),
@@ -81,7 +81,7 @@ fn with_name(v: u16, r: Value) -> Operands
 }
 
 // The operands of a binary operator, by their kinds.
-pub fn pair_up(l: Value, r: Value) -> Operands
+pub(crate) fn pair_up(l: Value, r: Value) -> Operands
     ensures { λ o. ⌜ pairOf o ≡ pair l r ⌝ }
 {
     match l {

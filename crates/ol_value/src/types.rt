@@ -4,7 +4,7 @@ ghost use mathlib.Core.Path.{_≡_};
 ghost use mathlib.Core.List.{List, []};
 ghost use Prim.Native.Nat.{ℕ};
 ghost use lib.ListN.{getD};
-ghost use Rattle.ol_spec.specs.Types.{intTy, default, kind, fitInt, fitSingle, fitDouble, fit};
+ghost use Rattle.ol_spec.specs.Types.{intTy, default, fitSingle, fitDouble, fit};
 ghost use Rattle.ol_spec.specs.Types.{castInt, castReal, castTo};
 ghost use Rattle.ol_value.specs.Codes.{tyOf, isNumber, inKind};
 use crate::narrowing::in_range;
@@ -151,19 +151,6 @@ pub fn default_value(code: u8, first: u16) -> Value
         9 => Value::Float32(0.0),
         10 => Value::Float(0.0),
         _ => Value::Enum(first),
-    }
-}
-
-// A type's kind, the tag that its default has.
-pub fn kind(code: u8) -> u8
-    ensures { λ r. ⌜ ((enums : List (List ℕ)) (e : ℕ) → r ≡ kind enums (tyOf code e)) ⌝ }
-{
-    match code {
-        0 => 0,
-        1..=8 | 11 => 1,
-        9 => 3,
-        10 => 2,
-        _ => 4,
     }
 }
 

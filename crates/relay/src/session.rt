@@ -58,7 +58,7 @@ pub struct Listed {
 }
 
 // No file is open.
-pub fn closed() -> Session
+pub(crate) fn closed() -> Session
     ensures { λ r. ⌜ (r .is_open ≡ false) × (r .file ≡ 0) × (r .number ≡ 0) × (r .place ≡ 0) × (r .state ≡ 0) × (r .values ≡ 9) ⌝ }
 {
     Session {
@@ -638,7 +638,7 @@ fn command_of(line: &[u8]) -> u8 {
 }
 
 // The answer to a line, and what is kept from then on; no answer where the line says nothing.
-pub fn answer(
+pub(crate) fn answer(
     no: usize,
     line: &[u8],
     s: Session,

@@ -64,7 +64,7 @@ fn skip(line: &[u8], at: usize, over: bool) -> usize
 }
 
 // The next word from `at` on; an empty one at the line's end.
-pub fn next_word(line: &[u8], at: usize) -> Word
+fn next_word(line: &[u8], at: usize) -> Word
     requires { ⌜ at ≤ length (now line) ⌝ }
     ensures { λ r. ⌜ (r .from ≤ r .to) × (r .to ≤ length (now (line .entry))) × (r ≡ wordAt (now (line .entry)) at) ⌝ }
 {
@@ -130,7 +130,7 @@ fn digit(c: u8) -> u8
 }
 
 // The bytes that a word in hexadecimal stands for, at the start of `out`; `-` stands for none.
-pub fn unhex(text: &[u8], out: &mut [u8]) -> Hex
+pub(crate) fn unhex(text: &[u8], out: &mut [u8]) -> Hex
     requires { ⌜ length (now text) ≤ length (now out) + length (now out) ⌝ }
     ensures { λ r. ⌜ Decoded (bytesOf (now (text .entry))) r (now (out .exit)) ⌝ }
 {
@@ -168,7 +168,7 @@ fn unhex_digits(text: &[u8], out: &mut [u8]) -> Hex
 }
 
 // The number that a word of decimal digits stands for.
-pub fn decimal(text: &[u8]) -> Number
+pub(crate) fn decimal(text: &[u8]) -> Number
     ensures { λ r. ⌜ r ≡ numberOf (now (text .entry)) ⌝ }
 {
     if text.len() == 0 {
@@ -223,7 +223,7 @@ fn glyph(d: u8) -> u8
 }
 
 // Puts bytes into `out` from `at` on, in hexadecimal; the place behind them.
-pub fn put_hex(out: &mut [u8], at: usize, bytes: &[u8]) -> usize
+pub(crate) fn put_hex(out: &mut [u8], at: usize, bytes: &[u8]) -> usize
     requires { ⌜ at + (1 + (length (now bytes) + length (now bytes))) ≤ length (now out) ⌝ }
     ensures { λ r. ⌜ (r ≤ at + (1 + (length (now (bytes .entry)) + length (now (bytes .entry))))) × (take r (now (out .exit)) ≡ take at (now (out .entry)) ++ hexWord (now (bytes .entry))) ⌝ }
 {
@@ -249,7 +249,7 @@ fn put_digits(out: &mut [u8], at: usize, bytes: &[u8]) -> usize
 }
 
 // Puts a number into `out` from `at` on, in decimal digits; the place behind it.
-pub fn put_number(out: &mut [u8], at: usize, n: usize) -> usize
+pub(crate) fn put_number(out: &mut [u8], at: usize, n: usize) -> usize
     requires { ⌜ at + 20 ≤ length (now out) ⌝ }
     ensures { λ r. ⌜ (r ≡ at + length (decimalWord n)) × (r ≤ at + 20) × (take r (now (out .exit)) ≡ take at (now (out .entry)) ++ decimalWord n) ⌝ }
 {

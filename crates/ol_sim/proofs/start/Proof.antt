@@ -2,7 +2,7 @@
 use mathlib.Core.Path.{_≡_, refl, sym, ap, _∙_}
 use native.Mathlib.Omega.{arith}
 use lib.Seq.{length-take-le}
-use Rattle.ol_tree.proofs.HeadsFile.{bytes-of, file-stands}
+use Rattle.ol_tables.proofs.HeadsFile.{bytes-of, file-stands}
 use Rattle.ol_sim.proofs.Reading.{file-reads, loads, few-places, start-refused}
 -- </uses>
 use borrow.Author.Needs.{needs}

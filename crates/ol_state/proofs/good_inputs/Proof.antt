@@ -5,8 +5,8 @@ use mathlib.Core.Path.{_≡_, refl, sym, ap, _∙_}
 use lib.ListN.{length, drop}
 use Rattle.ol_spec.specs.Syntax.{main}
 use Rattle.ol_spec.specs.State.{goodEach}
-use Rattle.ol_tree.specs.At.{fileAt}
-use Rattle.ol_fresh.proofs.Records.{counted}
+use Rattle.ol_tables.specs.At.{fileAt}
+use Rattle.ol_state.proofs.Instances.{counted}
 use Rattle.ol_state.proofs.Judged.{and-pass, and-stop}
 use Rattle.ol_state.proofs.Each.{few, few-inputs, input-typed, each-next, each-none, inputs-length, inputs-each}
 -- </uses>
@@ -14,9 +14,9 @@ use Rattle.ol_state.proofs.good_inputs.Statement.{statement}
 use Rattle.ol_state.proofs.good_inputs.Tie as tie
 use Rattle.ol_state.proofs.good_inputs.Reads as reads
 use Rattle.ol_state.proofs.good_inputs.Lts as lts
-use Rattle.ol_check.proofs.bytes.byte.Reads as byte-reads
-use Rattle.ol_fresh.proofs.defaults.row.Reads as row-reads
-use Rattle.ol_fresh.proofs.main_node.Reads as main-node-reads
+use Rattle.ol_tables.proofs.bytes.byte.Reads as byte-reads
+use Rattle.ol_tables.proofs.tables.row.Reads as row-reads
+use Rattle.ol_state.proofs.fresh.main_node.Reads as main-node-reads
 use Rattle.ol_state.proofs.inputs.judge_input.Reads as judge-input-reads
 
 abbrev Inv-loop : tie.InvT-loop
@@ -35,12 +35,7 @@ main-node-requires c κs =
 
 -- src/lib.rt:108:9
 row-requires : tie.Need-row-requires Inv-loop μ-loop
-row-requires c κs =
-    let start = c .before .before .before .before .before .before in
-    let h = start .pre .0 in
-    let k = c .main-node .result in
-    let last = c .main-node .ensures in
-    (omega (arith, few h k last), omega arith)
+row-requires c κs = tt
 
 -- src/lib.rt:109:24
 mul-if1 : tie.Need-mul-if1 Inv-loop μ-loop

@@ -3,7 +3,7 @@ use mathlib.Core.Path.{sym, ap, _∙_}
 use native.Mathlib.Omega.{arith}
 use lib.ListN.{length}
 use lib.Seq.{length-take-le}
-use Rattle.ol_fresh.proofs.Records.{counted}
+use Rattle.ol_state.proofs.Instances.{counted}
 use Rattle.ol_state.proofs.States.{few, main-size, main-sited, other-length, other-constants, main-decides}
 -- </uses>
 use borrow.Author.Needs.{needs}
@@ -11,8 +11,8 @@ use Rattle.ol_state.proofs.good_state.Statement.{statement}
 use Rattle.ol_state.proofs.good_state.Tie as tie
 use Rattle.ol_state.proofs.good_state.Reads as reads
 use Rattle.ol_state.proofs.good_state.Lts as lts
-use Rattle.ol_fresh.proofs.defaults.row.Reads as row-reads
-use Rattle.ol_fresh.proofs.main_node.Reads as main-node-reads
+use Rattle.ol_tables.proofs.tables.row.Reads as row-reads
+use Rattle.ol_state.proofs.fresh.main_node.Reads as main-node-reads
 use Rattle.ol_state.proofs.cells.same_bytes.Reads as same-bytes-reads
 use Rattle.ol_state.proofs.good_record.Reads as good-record-reads
 
@@ -25,12 +25,7 @@ main-node-requires c κs =
 
 -- src/lib.rt:81:30
 row-requires : tie.Need-row-requires
-row-requires c κs =
-    let start = c .before .before .before .before .before .before .before in
-    let h = start .pre in
-    let last = c .main-node .ensures in
-    let k = c .main-node .result in
-    (omega (arith, few h k last), omega arith)
+row-requires c κs = tt
 
 -- src/lib.rt:81:23
 add-if1 : tie.Need-add-if1

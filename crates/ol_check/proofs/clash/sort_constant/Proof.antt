@@ -1,4 +1,5 @@
-use mathlib.Core.Path.{refl}
+use mathlib.Core.Path.{refl, _∙_}
+use Rattle.ol_tables.proofs.Skipping.{skip-stands}
 use Rattle.ol_check.proofs.ClashLoops.{constant-walks}
 use borrow.Author.Needs.{needs}
 use Rattle.ol_check.proofs.clash.sort_constant.Statement.{statement}
@@ -6,7 +7,7 @@ use Rattle.ol_check.proofs.clash.sort_constant.Tie as tie
 use Rattle.ol_check.proofs.clash.sort_constant.Reads as reads
 use Rattle.ol_check.proofs.clash.sort_constant.Lts as lts
 use Rattle.ol_check.proofs.clash.sort_variable.Reads as sort-variable-reads
-use Rattle.ol_check.proofs.heads.skip.Reads as skip-reads
+use Rattle.ol_tables.proofs.heads.skip.Reads as skip-reads
 
 -- src/clash.rt:105:9
 sort-variable-requires : tie.Need-sort-variable-requires
@@ -22,7 +23,7 @@ same-length c = search needs
 
 -- src/clash.rt:101:1
 returns : tie.Need-returns
-returns c = constant-walks (c .before .before .before .sort-variable .ensures .1) refl refl (c .skip .ensures)
+returns c = constant-walks (c .before .before .before .sort-variable .ensures .1) refl refl (λ enums es e h. c .skip .ensures ∙ skip-stands e h)
 
 pub sort-constant-spec : {M : Type 1} → statement M
 sort-constant-spec = tie.close (tie.spec sort-variable-requires skip-requires same-length returns)

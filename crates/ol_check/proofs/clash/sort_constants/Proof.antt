@@ -7,7 +7,7 @@ use Rattle.ol_spec.specs.Syntax.{Constant}
 use Rattle.ol_spec.specs.Encode.{constantBytes}
 use Rattle.ol_spec.specs.Limits.{base}
 use Rattle.ol_spec.specs.Within.{constantFits}
-use Rattle.ol_tree.specs.Stands.{Listed}
+use Rattle.ol_tables.specs.Stands.{Listed}
 use Rattle.ol_check.proofs.ClashLoops.{ConstantsGoing, constants-start, constants-turn, constants-done, constants-cut}
 use Rattle.ol_check.proofs.clash.sort_constants.Statement.{statement}
 use Rattle.ol_check.proofs.clash.sort_constants.Tie as tie

@@ -1,12 +1,12 @@
 use native.Mathlib.Omega.{arith}
-use Rattle.ol_tree.proofs.HeadsFile.{file-stands, bytes-of}
+use Rattle.ol_tables.proofs.HeadsFile.{file-stands, bytes-of}
 use Rattle.ol_check.proofs.ClashFile.{nodes-ready, enums-few, constants-in, file-sorted}
 use borrow.Author.Needs.{needs}
 use Rattle.ol_check.proofs.clash.sort_file.Statement.{statement}
 use Rattle.ol_check.proofs.clash.sort_file.Tie as tie
 use Rattle.ol_check.proofs.clash.sort_file.Reads as reads
 use Rattle.ol_check.proofs.clash.sort_file.Lts as lts
-use Rattle.ol_check.proofs.bytes.byte.Reads as byte-reads
+use Rattle.ol_tables.proofs.bytes.byte.Reads as byte-reads
 use Rattle.ol_check.proofs.clash.sort_constants.Reads as sort-constants-reads
 use Rattle.ol_check.proofs.clash.sort_enums.Reads as sort-enums-reads
 use Rattle.ol_check.proofs.clash.sort_nodes.Reads as sort-nodes-reads

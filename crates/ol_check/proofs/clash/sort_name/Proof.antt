@@ -5,10 +5,10 @@ use Rattle.ol_check.proofs.clash.sort_name.Statement.{statement}
 use Rattle.ol_check.proofs.clash.sort_name.Tie as tie
 use Rattle.ol_check.proofs.clash.sort_name.Reads as reads
 use Rattle.ol_check.proofs.clash.sort_name.Lts as lts
-use Rattle.ol_check.proofs.bytes.byte.Reads as byte-reads
-use Rattle.ol_check.proofs.bytes.earlier.Reads as earlier-reads
-use Rattle.ol_check.proofs.bytes.name.Reads as name-reads
-use Rattle.ol_check.proofs.bytes.put_byte.Reads as put-byte-reads
+use Rattle.ol_tables.proofs.bytes.byte.Reads as byte-reads
+use Rattle.ol_check.proofs.earlier.Reads as earlier-reads
+use Rattle.ol_tables.proofs.bytes.name.Reads as name-reads
+use Rattle.ol_tables.proofs.bytes.put_byte.Reads as put-byte-reads
 use Rattle.ol_check.proofs.clash.clashes.Reads as clashes-reads
 use Rattle.ol_check.proofs.clash.still_low.Reads as still-low-reads
 

@@ -5,14 +5,14 @@ use mathlib.Core.Path.{_≡_, refl, sym, _∙_}
 use lib.ListN.{length}
 use native.Mathlib.Omega.{arith}
 use Rattle.ol_spec.specs.Admission.{Sort}
-use Rattle.ol_tree.specs.Stands.{Names}
+use Rattle.ol_tables.specs.Stands.{Names}
 use Rattle.ol_check.specs.Clashing.{sortCode}
 use Rattle.ol_check.proofs.ClashLoops.{NamesGoing, names-start, names-turn, names-done}
 use Rattle.ol_check.proofs.clash.sort_names.Statement.{statement}
 use Rattle.ol_check.proofs.clash.sort_names.Tie as tie
 use Rattle.ol_check.proofs.clash.sort_names.Reads as reads
 use Rattle.ol_check.proofs.clash.sort_names.Lts as lts
-use Rattle.ol_check.proofs.bytes.byte.Reads as byte-reads
+use Rattle.ol_tables.proofs.bytes.byte.Reads as byte-reads
 use Rattle.ol_check.proofs.clash.sort_name.Reads as sort-name-reads
 
 abbrev Inv-loop : tie.InvT-loop

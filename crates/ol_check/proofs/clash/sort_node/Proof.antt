@@ -1,12 +1,12 @@
 use native.Mathlib.Omega.{arith}
-use Rattle.ol_tree.proofs.HeadsFile.{file-stands, bytes-of}
+use Rattle.ol_tables.proofs.HeadsFile.{file-stands, bytes-of}
 use Rattle.ol_check.proofs.ClashFile.{place-in, node-walks}
 use borrow.Author.Needs.{needs}
 use Rattle.ol_check.proofs.clash.sort_node.Statement.{statement}
 use Rattle.ol_check.proofs.clash.sort_node.Tie as tie
 use Rattle.ol_check.proofs.clash.sort_node.Reads as reads
 use Rattle.ol_check.proofs.clash.sort_node.Lts as lts
-use Rattle.ol_check.proofs.bytes.entry.Reads as entry-reads
+use Rattle.ol_tables.proofs.bytes.entry.Reads as entry-reads
 use Rattle.ol_check.proofs.clash.sort_variables.Reads as sort-variables-reads
 
 -- src/clash.rt:205:26

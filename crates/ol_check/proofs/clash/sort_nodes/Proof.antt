@@ -2,7 +2,7 @@ use Prim.Native.Nat.{_-_}
 use mathlib.Core.Path.{_≡_, refl, _∙_}
 use lib.ListN.{length}
 use native.Mathlib.Omega.{arith}
-use Rattle.ol_tree.specs.At.{fileAt}
+use Rattle.ol_tables.specs.At.{fileAt}
 use Rattle.ol_check.proofs.NodeLaws.{ready-at}
 use Rattle.ol_check.proofs.ClashFile.{NodesGoing, nodes-start, nodes-turn, nodes-done}
 use Rattle.ol_check.proofs.clash.sort_nodes.Statement.{statement}

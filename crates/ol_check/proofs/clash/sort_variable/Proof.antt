@@ -1,7 +1,7 @@
 use Prim.Native.Nat.{_-_}
 use mathlib.Core.Path.{refl}
 use native.Mathlib.Omega.{arith}
-use Rattle.ol_check.proofs.Walking.{ty-small}
+use Rattle.ol_tables.proofs.Walking.{ty-small}
 use Rattle.ol_check.proofs.ClashLoops.{variable-walks}
 use borrow.Author.Needs.{needs}
 use Rattle.ol_check.proofs.clash.sort_variable.Statement.{statement}
@@ -9,7 +9,7 @@ use Rattle.ol_check.proofs.clash.sort_variable.Tie as tie
 use Rattle.ol_check.proofs.clash.sort_variable.Reads as reads
 use Rattle.ol_check.proofs.clash.sort_variable.Lts as lts
 use Rattle.ol_check.proofs.clash.sort_name.Reads as sort-name-reads
-use Rattle.ol_check.proofs.heads.ty_size.Reads as ty-size-reads
+use Rattle.ol_tables.proofs.heads.ty_size.Reads as ty-size-reads
 
 -- src/clash.rt:88:9
 sort-name-requires : tie.Need-sort-name-requires

@@ -6,14 +6,14 @@ use lib.ListN.{length}
 use native.Mathlib.Omega.{arith}
 use Rattle.ol_spec.specs.Syntax.{Variable}
 use Rattle.ol_spec.specs.Admission.{Sort}
-use Rattle.ol_tree.specs.Stands.{Variables}
+use Rattle.ol_tables.specs.Stands.{Variables}
 use Rattle.ol_check.specs.Clashing.{sortCode}
 use Rattle.ol_check.proofs.ClashLoops.{VariablesGoing, variables-start, variables-turn, variables-done}
 use Rattle.ol_check.proofs.clash.sort_variables.Statement.{statement}
 use Rattle.ol_check.proofs.clash.sort_variables.Tie as tie
 use Rattle.ol_check.proofs.clash.sort_variables.Reads as reads
 use Rattle.ol_check.proofs.clash.sort_variables.Lts as lts
-use Rattle.ol_check.proofs.bytes.byte.Reads as byte-reads
+use Rattle.ol_tables.proofs.bytes.byte.Reads as byte-reads
 use Rattle.ol_check.proofs.clash.sort_variable.Reads as sort-variable-reads
 
 abbrev Inv-loop : tie.InvT-loop

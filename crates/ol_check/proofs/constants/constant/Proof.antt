@@ -1,5 +1,5 @@
 use Rattle.ol_check.proofs.ConstantLaws.{constant-judged}
-use Rattle.ol_check.proofs.Walking.{ty-small}
+use Rattle.ol_tables.proofs.Walking.{ty-small}
 use Prim.Native.Nat.{_+_}
 use native.Mathlib.Omega.{arith}
 use borrow.Author.Needs.{needs}

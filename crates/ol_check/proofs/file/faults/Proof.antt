@@ -1,5 +1,5 @@
 use Rattle.ol_check.proofs.FileLaws.{rows-ready, constant-count, global-ready, file-judged}
-use Rattle.ol_tree.proofs.HeadsFile.{file-stands, bytes-of}
+use Rattle.ol_tables.proofs.HeadsFile.{file-stands, bytes-of}
 use mathlib.Core.Path.{refl}
 use native.Mathlib.Omega.{arith}
 use borrow.Author.Needs.{needs}

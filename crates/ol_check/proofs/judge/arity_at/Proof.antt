@@ -5,7 +5,7 @@ use Rattle.ol_check.proofs.judge.arity_at.Statement.{statement}
 use Rattle.ol_check.proofs.judge.arity_at.Tie as tie
 use Rattle.ol_check.proofs.judge.arity_at.Reads as reads
 use Rattle.ol_check.proofs.judge.arity_at.Lts as lts
-use Rattle.ol_check.proofs.bytes.byte.Reads as byte-reads
+use Rattle.ol_tables.proofs.bytes.byte.Reads as byte-reads
 use Rattle.ol_check.proofs.judge.outputs.Reads as outputs-reads
 
 -- src/judge.rt:113:9

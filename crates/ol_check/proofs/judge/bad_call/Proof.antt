@@ -5,7 +5,7 @@ use Rattle.ol_check.proofs.judge.bad_call.Statement.{statement}
 use Rattle.ol_check.proofs.judge.bad_call.Tie as tie
 use Rattle.ol_check.proofs.judge.bad_call.Reads as reads
 use Rattle.ol_check.proofs.judge.bad_call.Lts as lts
-use Rattle.ol_check.proofs.bytes.entry.Reads as entry-reads
+use Rattle.ol_tables.proofs.bytes.entry.Reads as entry-reads
 use Rattle.ol_check.proofs.judge.may_call.Reads as may-call-reads
 
 -- src/judge.rt:86:33

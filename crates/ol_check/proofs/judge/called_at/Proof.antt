@@ -5,7 +5,7 @@ use Rattle.ol_check.proofs.judge.called_at.Statement.{statement}
 use Rattle.ol_check.proofs.judge.called_at.Tie as tie
 use Rattle.ol_check.proofs.judge.called_at.Reads as reads
 use Rattle.ol_check.proofs.judge.called_at.Lts as lts
-use Rattle.ol_check.proofs.bytes.byte.Reads as byte-reads
+use Rattle.ol_tables.proofs.bytes.byte.Reads as byte-reads
 use Rattle.ol_check.proofs.judge.bad_call.Reads as bad-call-reads
 
 -- src/judge.rt:101:8

@@ -1,5 +1,5 @@
 use Rattle.ol_check.proofs.EquationLaws.{NamesGoing, names-start, names-turn, names-done}
-use Rattle.ol_tree.specs.Stands.{Names}
+use Rattle.ol_tables.specs.Stands.{Names}
 use lib.ListN.{length}
 use mathlib.Core.List.{List}
 use mathlib.Core.Path.{_≡_, refl, sym, _∙_}

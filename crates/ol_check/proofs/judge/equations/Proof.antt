@@ -1,6 +1,6 @@
 use Rattle.ol_check.proofs.EquationLaws.{EquationsGoing, equations-start, equations-turn, equations-done, equations-cut}
 use Rattle.ol_check.specs.Judging.{Context}
-use Rattle.ol_tree.specs.Stands.{Equations}
+use Rattle.ol_tables.specs.Stands.{Equations}
 use Rattle.ol_spec.specs.Syntax.{Equation, File}
 use lib.ListN.{length}
 use mathlib.Core.Bool.{Bool}

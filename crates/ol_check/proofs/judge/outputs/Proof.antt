@@ -5,7 +5,7 @@ use Rattle.ol_check.proofs.judge.outputs.Statement.{statement}
 use Rattle.ol_check.proofs.judge.outputs.Tie as tie
 use Rattle.ol_check.proofs.judge.outputs.Reads as reads
 use Rattle.ol_check.proofs.judge.outputs.Lts as lts
-use Rattle.ol_check.proofs.bytes.entry.Reads as entry-reads
+use Rattle.ol_tables.proofs.bytes.entry.Reads as entry-reads
 
 -- src/judge.rt:128:32
 mul-entry : tie.Need-mul-entry

@@ -5,9 +5,9 @@ use Rattle.ol_check.proofs.judge.put_slot.Statement.{statement}
 use Rattle.ol_check.proofs.judge.put_slot.Tie as tie
 use Rattle.ol_check.proofs.judge.put_slot.Reads as reads
 use Rattle.ol_check.proofs.judge.put_slot.Lts as lts
-use Rattle.ol_check.proofs.bytes.byte.Reads as byte-reads
-use Rattle.ol_check.proofs.bytes.name.Reads as name-reads
-use Rattle.ol_check.proofs.bytes.put_byte.Reads as put-byte-reads
+use Rattle.ol_tables.proofs.bytes.byte.Reads as byte-reads
+use Rattle.ol_tables.proofs.bytes.name.Reads as name-reads
+use Rattle.ol_tables.proofs.bytes.put_byte.Reads as put-byte-reads
 use Rattle.ol_check.proofs.judge.slot.Reads as slot-reads
 
 -- src/judge.rt:42:42

@@ -1,6 +1,6 @@
 use Rattle.ol_check.proofs.EquationLaws.{root-judged}
 use Rattle.ol_spec.specs.Syntax.{nil}
-use Rattle.ol_tree.proofs.Heads.{headed}
+use Rattle.ol_tables.proofs.HeadLaws.{headed}
 use mathlib.Core.Path.{_∙_}
 use native.Mathlib.Omega.{arith}
 use borrow.Author.Needs.{needs}

@@ -5,7 +5,7 @@ use Rattle.ol_check.proofs.judge.slot_head.Statement.{statement}
 use Rattle.ol_check.proofs.judge.slot_head.Tie as tie
 use Rattle.ol_check.proofs.judge.slot_head.Reads as reads
 use Rattle.ol_check.proofs.judge.slot_head.Lts as lts
-use Rattle.ol_check.proofs.bytes.byte.Reads as byte-reads
+use Rattle.ol_tables.proofs.bytes.byte.Reads as byte-reads
 use Rattle.ol_check.proofs.judge.put_slot.Reads as put-slot-reads
 
 -- src/judge.rt:50:8

@@ -5,8 +5,8 @@ use Rattle.ol_check.proofs.judge.unseen_at.Statement.{statement}
 use Rattle.ol_check.proofs.judge.unseen_at.Tie as tie
 use Rattle.ol_check.proofs.judge.unseen_at.Reads as reads
 use Rattle.ol_check.proofs.judge.unseen_at.Lts as lts
-use Rattle.ol_check.proofs.bytes.byte.Reads as byte-reads
-use Rattle.ol_check.proofs.bytes.name.Reads as name-reads
+use Rattle.ol_tables.proofs.bytes.byte.Reads as byte-reads
+use Rattle.ol_tables.proofs.bytes.name.Reads as name-reads
 
 -- src/judge.rt:60:8
 byte-requires : tie.Need-byte-requires

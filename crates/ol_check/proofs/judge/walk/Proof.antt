@@ -1,6 +1,6 @@
 use Rattle.ol_check.proofs.WalkLoop.{WalkGoing, walk-start, walk-turn, walk-plain, walk-done}
-use Rattle.ol_check.proofs.Walking.{going-in}
-use Rattle.ol_tree.specs.Heads.{Standing}
+use Rattle.ol_tables.proofs.Walking.{going-in}
+use Rattle.ol_tables.specs.Heads.{Standing}
 use Rattle.ol_spec.specs.Syntax.{Exprs, count}
 use lib.ListN.{length}
 use mathlib.Core.Path.{_≡_, refl, sym, _∙_}
@@ -40,11 +40,11 @@ add-left : tie.Need-add-left Inv-loop μ-loop
 add-left c = omega (arith, c .before .before .before .head .ensures .few, c .before .before .before .before .before .before .loop .inv .0, c .before .before .before .before .if1 .left, c .before .before .before .before .before .before .before .before .before .before .before .pre .2)
 
 loop-less : tie.Need-loop-less Inv-loop μ-loop
-loop-less c = omega (arith, c .before .before .before .head .ensures .onward, c .before .before .before .before .if1 .left)
+loop-less c = omega (arith, c .before .before .before .head .ensures .onward (omega (arith, c .before .before .before .before .if1 .left)), c .before .before .before .before .if1 .left)
 
 loop-again : tie.Need-loop-again Inv-loop μ-loop
 loop-again c = (
-  omega (arith, c .before .before .before .head .ensures .few, c .before .before .before .head .ensures .onward, c .before .before .before .before .before .before .loop .inv .0, c .before .before .before .before .before .loop-test .taken),
+  omega (arith, c .before .before .before .head .ensures .few, c .before .before .before .head .ensures .onward (omega (arith, c .before .before .before .before .if1 .left)), c .before .before .before .before .before .before .loop .inv .0, c .before .before .before .before .before .loop-test .taken),
   c .before .before .before .before .before .before .loop .inv .1,
   λ enums es e h. walk-plain (c .before .before .before .before .before .before .loop .inv .2 enums es e h) (c .before .before .before .before .before .loop-test .taken) (c .before .before .before .head .result) (c .before .before .before .head .ensures) (sym (c .before .before .plain .ensures) ∙ c .before .if2 .taken),
 )
@@ -86,11 +86,11 @@ add-left-2 : tie.Need-add-left-2 Inv-loop μ-loop
 add-left-2 c = omega (arith, c .before .before .before .before .before .before .before .before .before .before .before .before .before .before .before .head .ensures .few, c .before .before .before .before .before .before .before .before .before .before .before .before .before .before .before .before .before .before .loop .inv .0, c .before .before .before .before .before .before .before .before .before .before .before .before .before .before .before .before .if1 .left, c .before .before .before .before .before .before .before .before .before .before .before .before .before .before .before .before .before .before .before .before .before .before .before .pre .2)
 
 loop-less-2 : tie.Need-loop-less-2 Inv-loop μ-loop
-loop-less-2 c = omega (arith, c .before .before .before .before .before .before .before .before .before .before .before .before .before .before .before .head .ensures .onward, c .before .before .before .before .before .before .before .before .before .before .before .before .before .before .before .before .if1 .left)
+loop-less-2 c = omega (arith, c .before .before .before .before .before .before .before .before .before .before .before .before .before .before .before .head .ensures .onward (omega (arith, c .before .before .before .before .before .before .before .before .before .before .before .before .before .before .before .before .if1 .left)), c .before .before .before .before .before .before .before .before .before .before .before .before .before .before .before .before .if1 .left)
 
 loop-again-2 : tie.Need-loop-again-2 Inv-loop μ-loop
 loop-again-2 c = (
-  omega (arith, c .before .before .before .before .before .before .before .before .before .before .before .before .before .before .before .head .ensures .few, c .before .before .before .before .before .before .before .before .before .before .before .before .before .before .before .head .ensures .onward, c .before .before .before .before .before .before .before .before .before .before .before .before .before .before .before .before .before .before .loop .inv .0, c .before .before .before .before .before .before .before .before .before .before .before .before .before .before .before .before .before .loop-test .taken),
+  omega (arith, c .before .before .before .before .before .before .before .before .before .before .before .before .before .before .before .head .ensures .few, c .before .before .before .before .before .before .before .before .before .before .before .before .before .before .before .head .ensures .onward (omega (arith, c .before .before .before .before .before .before .before .before .before .before .before .before .before .before .before .before .if1 .left)), c .before .before .before .before .before .before .before .before .before .before .before .before .before .before .before .before .before .before .loop .inv .0, c .before .before .before .before .before .before .before .before .before .before .before .before .before .before .before .before .before .loop-test .taken),
   c .before .before .before .before .before .before .before .before .before .before .before .slot-head .kept .1 .1 .0 ∙ c .before .before .before .before .before .before .before .before .before .before .before .before .before .before .before .before .before .before .loop .inv .1,
   λ enums es e h. walk-turn (c .before .before .before .before .before .before .before .before .before .before .before .before .before .before .before .before .before .before .loop .inv .2 enums es e h) (c .before .before .before .before .before .before .before .before .before .before .before .before .before .before .before .before .before .loop-test .taken) (c .before .before .before .before .before .before .before .before .before .before .before .before .before .before .before .head .result) (c .before .before .before .before .before .before .before .before .before .before .before .before .before .before .before .head .ensures) _ _ _ _ _ _ _ _ _ (c .before .before .before .before .before .before .before .before .before .before .before .slot-head .ensures) (c .before .before .before .before .before .before .before .earlier .ensures) (c .before .before .before .before .before .before .before .before .unseen-at .ensures) (c .before .before .before .before .before .earlier2 .ensures) (c .before .before .before .before .before .before .called-at .ensures) (c .before .before .before .earlier3 .ensures) (c .before .before .before .before .arity-at .ensures) (λ le. c .before .capped .ensures) (c .before .before .site .ensures),
 )

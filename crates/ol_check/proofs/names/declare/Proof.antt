@@ -5,8 +5,8 @@ use Rattle.ol_check.proofs.names.declare.Statement.{statement}
 use Rattle.ol_check.proofs.names.declare.Tie as tie
 use Rattle.ol_check.proofs.names.declare.Reads as reads
 use Rattle.ol_check.proofs.names.declare.Lts as lts
-use Rattle.ol_check.proofs.bytes.byte.Reads as byte-reads
-use Rattle.ol_check.proofs.bytes.put_byte.Reads as put-byte-reads
+use Rattle.ol_tables.proofs.bytes.byte.Reads as byte-reads
+use Rattle.ol_tables.proofs.bytes.put_byte.Reads as put-byte-reads
 
 -- src/names.rt:18:8
 byte-requires : tie.Need-byte-requires

@@ -10,7 +10,7 @@ use Rattle.ol_check.proofs.names.declare_enums.Statement.{statement}
 use Rattle.ol_check.proofs.names.declare_enums.Tie as tie
 use Rattle.ol_check.proofs.names.declare_enums.Reads as reads
 use Rattle.ol_check.proofs.names.declare_enums.Lts as lts
-use Rattle.ol_check.proofs.bytes.byte.Reads as byte-reads
+use Rattle.ol_tables.proofs.bytes.byte.Reads as byte-reads
 use Rattle.ol_check.proofs.names.declare_variants.Reads as declare-variants-reads
 use Rattle.ol_check.proofs.rows.names_end.Reads as names-end-reads
 

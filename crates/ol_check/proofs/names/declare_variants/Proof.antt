@@ -1,5 +1,5 @@
 use Rattle.ol_check.proofs.EntryLoops.{VariantsGoing, variants-start, variants-turn, variants-done}
-use Rattle.ol_tree.specs.Stands.{Names}
+use Rattle.ol_tables.specs.Stands.{Names}
 use lib.ListN.{length}
 use mathlib.Core.List.{List}
 use mathlib.Core.Path.{_≡_, refl, sym, _∙_}
@@ -10,7 +10,7 @@ use Rattle.ol_check.proofs.names.declare_variants.Statement.{statement}
 use Rattle.ol_check.proofs.names.declare_variants.Tie as tie
 use Rattle.ol_check.proofs.names.declare_variants.Reads as reads
 use Rattle.ol_check.proofs.names.declare_variants.Lts as lts
-use Rattle.ol_check.proofs.bytes.name.Reads as name-reads
+use Rattle.ol_tables.proofs.bytes.name.Reads as name-reads
 use Rattle.ol_check.proofs.names.declare.Reads as declare-reads
 
 abbrev Inv-loop : tie.InvT-loop

@@ -5,8 +5,8 @@ use Rattle.ol_check.proofs.names.forget.Statement.{statement}
 use Rattle.ol_check.proofs.names.forget.Tie as tie
 use Rattle.ol_check.proofs.names.forget.Reads as reads
 use Rattle.ol_check.proofs.names.forget.Lts as lts
-use Rattle.ol_check.proofs.bytes.byte.Reads as byte-reads
-use Rattle.ol_check.proofs.bytes.put_byte.Reads as put-byte-reads
+use Rattle.ol_tables.proofs.bytes.byte.Reads as byte-reads
+use Rattle.ol_tables.proofs.bytes.put_byte.Reads as put-byte-reads
 
 -- src/names.rt:27:8
 byte-requires : tie.Need-byte-requires

@@ -1,6 +1,6 @@
 use Rattle.ol_check.proofs.EntryLoops.{ForgetGoing, forget-start, forget-turn, forget-done}
-use Rattle.ol_check.proofs.Walking.{ty-small}
-use Rattle.ol_tree.specs.Stands.{Variables}
+use Rattle.ol_tables.proofs.Walking.{ty-small}
+use Rattle.ol_tables.specs.Stands.{Variables}
 use Rattle.ol_spec.specs.Syntax.{Variable}
 use lib.ListN.{length}
 use mathlib.Core.List.{List}
@@ -12,8 +12,8 @@ use Rattle.ol_check.proofs.names.forget_variables.Statement.{statement}
 use Rattle.ol_check.proofs.names.forget_variables.Tie as tie
 use Rattle.ol_check.proofs.names.forget_variables.Reads as reads
 use Rattle.ol_check.proofs.names.forget_variables.Lts as lts
-use Rattle.ol_check.proofs.bytes.name.Reads as name-reads
-use Rattle.ol_check.proofs.heads.ty_size.Reads as ty-size-reads
+use Rattle.ol_tables.proofs.bytes.name.Reads as name-reads
+use Rattle.ol_tables.proofs.heads.ty_size.Reads as ty-size-reads
 use Rattle.ol_check.proofs.names.forget.Reads as forget-reads
 
 abbrev Inv-loop : tie.InvT-loop

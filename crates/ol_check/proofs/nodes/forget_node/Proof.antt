@@ -1,14 +1,14 @@
 use Rattle.ol_check.proofs.NodeLaws.{ready-node, at-is, inputs-are, outputs-are, inputs-there, outputs-there, locals-are, locals-there, forgotten-three}
 use mathlib.Core.Path.{sym}
-use Rattle.ol_tree.proofs.HeadsFile.{file-stands, bytes-of}
+use Rattle.ol_tables.proofs.HeadsFile.{file-stands, bytes-of}
 use native.Mathlib.Omega.{arith}
 use borrow.Author.Needs.{needs}
 use Rattle.ol_check.proofs.nodes.forget_node.Statement.{statement}
 use Rattle.ol_check.proofs.nodes.forget_node.Tie as tie
 use Rattle.ol_check.proofs.nodes.forget_node.Reads as reads
 use Rattle.ol_check.proofs.nodes.forget_node.Lts as lts
-use Rattle.ol_check.proofs.bytes.byte.Reads as byte-reads
-use Rattle.ol_check.proofs.bytes.entry.Reads as entry-reads
+use Rattle.ol_tables.proofs.bytes.byte.Reads as byte-reads
+use Rattle.ol_tables.proofs.bytes.entry.Reads as entry-reads
 use Rattle.ol_check.proofs.names.forget_variables.Reads as forget-variables-reads
 
 -- src/nodes.rt:38:26

@@ -1,11 +1,11 @@
 use Rattle.ol_check.proofs.NodeLaws.{judged-same}
 use Rattle.ol_check.proofs.NodeLaws.{NodesGoing, nodes-start, nodes-turn, nodes-judged, ready-at}
 use Rattle.ol_check.proofs.SizeTable.{RowsKept, kept-start, kept-turn, rows-kept, SizesGoing, sizes-start, sizes-turn, sizes-done}
-use Rattle.ol_tree.proofs.HeadsFile.{bytes-of}
+use Rattle.ol_tables.proofs.HeadsFile.{bytes-of}
 use Rattle.ol_check.specs.NodesJudged.{AllCovered}
 use Rattle.ol_check.specs.Judging.{Knows}
 use Rattle.ol_check.specs.Entries.{Global}
-use Rattle.ol_tree.specs.At.{fileAt}
+use Rattle.ol_tables.specs.At.{fileAt}
 use lib.ListN.{length}
 use mathlib.Core.List.{List}
 use mathlib.Core.Path.{_≡_, refl, sym, ap, subst, _∙_}

@@ -1,6 +1,6 @@
 use Rattle.ol_check.proofs.NodeLaws.{ready-row, ready-node, node-back, node-judged, size-stored}
 use Rattle.ol_check.proofs.RowLoops.{few-variables}
-use Rattle.ol_tree.proofs.HeadsFile.{file-stands, bytes-of}
+use Rattle.ol_tables.proofs.HeadsFile.{file-stands, bytes-of}
 use mathlib.Core.Path.{_∙_}
 use native.Mathlib.Omega.{arith}
 use borrow.Author.Needs.{needs}

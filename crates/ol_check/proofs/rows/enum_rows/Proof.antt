@@ -7,8 +7,8 @@ use Rattle.ol_check.proofs.rows.enum_rows.Statement.{statement}
 use Rattle.ol_check.proofs.rows.enum_rows.Tie as tie
 use Rattle.ol_check.proofs.rows.enum_rows.Reads as reads
 use Rattle.ol_check.proofs.rows.enum_rows.Lts as lts
-use Rattle.ol_check.proofs.bytes.name.Reads as name-reads
-use Rattle.ol_check.proofs.bytes.put.Reads as put-reads
+use Rattle.ol_tables.proofs.bytes.name.Reads as name-reads
+use Rattle.ol_tables.proofs.bytes.put.Reads as put-reads
 use Rattle.ol_check.proofs.rows.names_end.Reads as names-end-reads
 
 abbrev Inv-loop : tie.InvT-loop

@@ -4,7 +4,7 @@ use Rattle.ol_check.proofs.rows.node_row.Statement.{statement}
 use Rattle.ol_check.proofs.rows.node_row.Tie as tie
 use Rattle.ol_check.proofs.rows.node_row.Reads as reads
 use Rattle.ol_check.proofs.rows.node_row.Lts as lts
-use Rattle.ol_check.proofs.bytes.byte.Reads as byte-reads
+use Rattle.ol_tables.proofs.bytes.byte.Reads as byte-reads
 use Rattle.ol_check.proofs.rows.put_row.Reads as put-row-reads
 use Rattle.ol_check.proofs.rows.variable_types.Reads as variable-types-reads
 

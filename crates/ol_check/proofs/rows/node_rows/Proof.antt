@@ -7,7 +7,7 @@ use Rattle.ol_check.proofs.rows.node_rows.Statement.{statement}
 use Rattle.ol_check.proofs.rows.node_rows.Tie as tie
 use Rattle.ol_check.proofs.rows.node_rows.Reads as reads
 use Rattle.ol_check.proofs.rows.node_rows.Lts as lts
-use Rattle.ol_check.proofs.bytes.entry.Reads as entry-reads
+use Rattle.ol_tables.proofs.bytes.entry.Reads as entry-reads
 use Rattle.ol_check.proofs.rows.node_row.Reads as node-row-reads
 
 abbrev Inv-loop : tie.InvT-loop

@@ -5,7 +5,7 @@ use Rattle.ol_check.proofs.rows.put_row.Statement.{statement}
 use Rattle.ol_check.proofs.rows.put_row.Tie as tie
 use Rattle.ol_check.proofs.rows.put_row.Reads as reads
 use Rattle.ol_check.proofs.rows.put_row.Lts as lts
-use Rattle.ol_check.proofs.bytes.put.Reads as put-reads
+use Rattle.ol_tables.proofs.bytes.put.Reads as put-reads
 
 -- src/rows.rt:123:5
 put-requires : tie.Need-put-requires

@@ -5,8 +5,8 @@ use Rattle.ol_check.proofs.rows.put_type.Statement.{statement}
 use Rattle.ol_check.proofs.rows.put_type.Tie as tie
 use Rattle.ol_check.proofs.rows.put_type.Reads as reads
 use Rattle.ol_check.proofs.rows.put_type.Lts as lts
-use Rattle.ol_check.proofs.bytes.byte.Reads as byte-reads
-use Rattle.ol_check.proofs.bytes.put_byte.Reads as put-byte-reads
+use Rattle.ol_tables.proofs.bytes.byte.Reads as byte-reads
+use Rattle.ol_tables.proofs.bytes.put_byte.Reads as put-byte-reads
 
 -- src/rows.rt:80:9
 byte-requires : tie.Need-byte-requires

@@ -1,14 +1,14 @@
 use mathlib.Core.Path.{refl, _∙_}
 use native.Mathlib.Omega.{arith}
-use Rattle.ol_tree.proofs.HeadsFile.{file-stands, bytes-of}
+use Rattle.ol_tables.proofs.HeadsFile.{file-stands, bytes-of}
 use Rattle.ol_check.proofs.RowLoops.{first-place, nodes-count, tables-done}
 use borrow.Author.Needs.{needs}
 use Rattle.ol_check.proofs.rows.rows_of.Statement.{statement}
 use Rattle.ol_check.proofs.rows.rows_of.Tie as tie
 use Rattle.ol_check.proofs.rows.rows_of.Reads as reads
 use Rattle.ol_check.proofs.rows.rows_of.Lts as lts
-use Rattle.ol_check.proofs.bytes.byte.Reads as byte-reads
-use Rattle.ol_check.proofs.bytes.entry.Reads as entry-reads
+use Rattle.ol_tables.proofs.bytes.byte.Reads as byte-reads
+use Rattle.ol_tables.proofs.bytes.entry.Reads as entry-reads
 use Rattle.ol_check.proofs.rows.enum_rows.Reads as enum-rows-reads
 use Rattle.ol_check.proofs.rows.node_rows.Reads as node-rows-reads
 

@@ -1,14 +1,14 @@
 use Prim.Native.Nat.{_+_}
 use borrow.Author.Needs.{needs}
 use Rattle.ol_check.proofs.RowLoops.{VariablesGoing, variables-start, variables-turn, variables-done, variables-cut}
-use Rattle.ol_check.proofs.Walking.{ty-small}
+use Rattle.ol_tables.proofs.Walking.{ty-small}
 use Prim.Native.Nat.{_-_}
 use native.Mathlib.Omega.{arith}
 use Rattle.ol_check.proofs.rows.variable_types.Statement.{statement}
 use Rattle.ol_check.proofs.rows.variable_types.Tie as tie
 use Rattle.ol_check.proofs.rows.variable_types.Reads as reads
 use Rattle.ol_check.proofs.rows.variable_types.Lts as lts
-use Rattle.ol_check.proofs.heads.ty_size.Reads as ty-size-reads
+use Rattle.ol_tables.proofs.heads.ty_size.Reads as ty-size-reads
 use Rattle.ol_check.proofs.rows.put_type.Reads as put-type-reads
 
 abbrev Inv-loop : tie.InvT-loop

@@ -5,7 +5,7 @@ use Rattle.ol_check.proofs.size.not_operator.Statement.{statement}
 use Rattle.ol_check.proofs.size.not_operator.Tie as tie
 use Rattle.ol_check.proofs.size.not_operator.Reads as reads
 use Rattle.ol_check.proofs.size.not_operator.Lts as lts
-use Rattle.ol_check.proofs.bytes.entry.Reads as entry-reads
+use Rattle.ol_tables.proofs.bytes.entry.Reads as entry-reads
 
 -- src/size.rt:27:13
 sub-k : tie.Need-sub-k

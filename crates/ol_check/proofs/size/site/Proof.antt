@@ -5,8 +5,8 @@ use Rattle.ol_check.proofs.size.site.Statement.{statement}
 use Rattle.ol_check.proofs.size.site.Tie as tie
 use Rattle.ol_check.proofs.size.site.Reads as reads
 use Rattle.ol_check.proofs.size.site.Lts as lts
-use Rattle.ol_check.proofs.bytes.byte.Reads as byte-reads
-use Rattle.ol_check.proofs.bytes.entry.Reads as entry-reads
+use Rattle.ol_tables.proofs.bytes.byte.Reads as byte-reads
+use Rattle.ol_tables.proofs.bytes.entry.Reads as entry-reads
 
 -- src/size.rt:51:8
 byte-requires : tie.Need-byte-requires

@@ -1,5 +1,5 @@
 use Rattle.ol_check.proofs.SizeTable.{state-sized}
-use Rattle.ol_tree.proofs.HeadsFile.{bytes-of}
+use Rattle.ol_tables.proofs.HeadsFile.{bytes-of}
 use native.Mathlib.Omega.{arith}
 use borrow.Author.Needs.{needs}
 use Rattle.ol_check.proofs.size.state_size.Statement.{statement}

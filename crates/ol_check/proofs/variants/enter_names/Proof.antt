@@ -4,14 +4,14 @@ use mathlib.Core.Path.{_≡_, refl, _∙_}
 use lib.ListN.{length}
 use native.Mathlib.Omega.{arith}
 use borrow.Author.Needs.{needs}
-use Rattle.ol_tree.specs.Stands.{Names}
+use Rattle.ol_tables.specs.Stands.{Names}
 use Rattle.ol_check.proofs.VariantLaws.{NamesGoing, names-start, names-turn, names-done}
 use Rattle.ol_check.proofs.variants.enter_names.Statement.{statement}
 use Rattle.ol_check.proofs.variants.enter_names.Tie as tie
 use Rattle.ol_check.proofs.variants.enter_names.Reads as reads
 use Rattle.ol_check.proofs.variants.enter_names.Lts as lts
-use Rattle.ol_check.proofs.bytes.name.Reads as name-reads
-use Rattle.ol_check.proofs.bytes.put_byte.Reads as put-byte-reads
+use Rattle.ol_tables.proofs.bytes.name.Reads as name-reads
+use Rattle.ol_tables.proofs.bytes.put_byte.Reads as put-byte-reads
 
 abbrev Inv-loop : tie.InvT-loop
 Inv-loop file table₀ count at next₀ i₀ table next i =

@@ -3,15 +3,15 @@ use mathlib.Core.Path.{_≡_, refl, _∙_}
 use lib.ListN.{length}
 use native.Mathlib.Omega.{arith}
 use borrow.Author.Needs.{needs}
-use Rattle.ol_tree.specs.At.{fileAt}
-use Rattle.ol_tree.specs.Stands.{FileStands}
-use Rattle.ol_tree.proofs.HeadsFile.{file-stands, bytes-of}
+use Rattle.ol_tables.specs.At.{fileAt}
+use Rattle.ol_tables.specs.Stands.{FileStands}
+use Rattle.ol_tables.proofs.HeadsFile.{file-stands, bytes-of}
 use Rattle.ol_check.proofs.VariantLaws.{enum-count, EnumsGoing, enums-start, enums-cut, enums-turn, enums-done}
 use Rattle.ol_check.proofs.variants.enter_variants.Statement.{statement}
 use Rattle.ol_check.proofs.variants.enter_variants.Tie as tie
 use Rattle.ol_check.proofs.variants.enter_variants.Reads as reads
 use Rattle.ol_check.proofs.variants.enter_variants.Lts as lts
-use Rattle.ol_check.proofs.bytes.byte.Reads as byte-reads
+use Rattle.ol_tables.proofs.bytes.byte.Reads as byte-reads
 use Rattle.ol_check.proofs.rows.names_end.Reads as names-end-reads
 use Rattle.ol_check.proofs.variants.enter_names.Reads as enter-names-reads
 

@@ -5,7 +5,7 @@ use Prim.Native.Nat.{ℕ, _+_}
 use native.Mathlib.Omega.{arith}
 use lib.Dec.{eqb}
 use lib.ListN.{getD}
-use Rattle.ol_tree.proofs.Forms.{one-tree}
+use Rattle.ol_tables.proofs.Forms.{one-tree}
 use Rattle.ol_eval.specs.Walk.{SkipsTo}
 use Rattle.ol_eval.specs.Constants.{valueAt}
 use Rattle.ol_eval.proofs.Constant.{place-of, constant-passable}

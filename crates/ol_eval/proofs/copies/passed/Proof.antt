@@ -6,7 +6,7 @@ use Rattle.ol_spec.specs.Types.{fit}
 use Rattle.ol_spec.specs.Cell.{cell, valueOf}
 use Prim.Native.Nat.{ℕ}
 use mathlib.Core.Path.{_≡_}
-use Rattle.ol_tree.specs.Tables.{codeAt}
+use Rattle.ol_tables.specs.Tables.{codeAt}
 use Rattle.ol_value.specs.Codes.{tyOf}
 use Rattle.ol_eval.specs.Stores.{passedBy}
 use Rattle.ol_eval.proofs.Storing.{kept-back}

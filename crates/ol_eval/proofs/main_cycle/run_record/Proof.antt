@@ -2,7 +2,7 @@
 use mathlib.Core.Path.{_∙_}
 use native.Mathlib.Omega.{arith}
 use Prim.Native.Nat.{_+_, _*_}
-use Rattle.ol_eval.proofs.Lending.{length-put}
+use Rattle.ol_tables.proofs.Lending.{length-put}
 use Rattle.ol_eval.proofs.MainCycle.{row-room, narrow, own-room, own-new, begin-ready, record-runnable, record-ran}
 -- </uses>
 use borrow.Author.Needs.{needs}

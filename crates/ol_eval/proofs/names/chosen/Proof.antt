@@ -1,7 +1,7 @@
 -- <uses>
 use mathlib.Core.Path.{_≡_, refl, sym, ap, subst, _∙_}
 use Rattle.ol_spec.specs.Eval.{realKind}
-use Rattle.ol_tree.specs.At.{exprAt}
+use Rattle.ol_tables.specs.At.{exprAt}
 use mathlib.Core.Bool.{Bool, true, false}
 use Rattle.ol_eval.specs.Plans.{globalsIn, scopeIn}
 use Rattle.ol_eval.proofs.RealKinds.{common-wide, common-plain}

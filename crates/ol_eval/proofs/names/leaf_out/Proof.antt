@@ -10,7 +10,7 @@ use Rattle.ol_spec.specs.Cell.{valueBy}
 use Rattle.ol_spec.specs.Numbers.{numberOf}
 use Rattle.ol_spec.specs.declared.Value.the-variants as Val
 use Rattle.ol_spec.specs.declared.Outcome.the-variants as Out
-use Rattle.ol_tree.proofs.Forms.{reads-in, reads-deep, bool-form, int-form, float-form, char-form, var-form, pre-form, tuple-form, some-code, last-code}
+use Rattle.ol_tables.proofs.Forms.{reads-in, reads-deep, bool-form, int-form, float-form, char-form, var-form, pre-form, tuple-form, some-code, last-code}
 use Rattle.ol_eval.specs.Plans.{evalIn}
 use Rattle.ol_eval.proofs.Naming.{value-at}
 use Rattle.ol_eval.proofs.Planning.{plan-head, plan-name, plan-looked}

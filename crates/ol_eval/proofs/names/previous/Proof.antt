@@ -8,8 +8,8 @@ use lib.ListN.{getD}
 use Rattle.ol_spec.specs.Lists.{maybe}
 use Rattle.ol_spec.specs.Eval.{orFailure, preOf, beforeOf}
 use Rattle.ol_spec.specs.declared.Outcome.the-variants as Out
-use Rattle.ol_tree.specs.At.{exprAt}
-use Rattle.ol_tree.proofs.Forms.{reads-in, var-form}
+use Rattle.ol_tables.specs.At.{exprAt}
+use Rattle.ol_tables.proofs.Forms.{reads-in, var-form}
 use Rattle.ol_eval.specs.Plans.{globalsIn, scopeIn}
 use Rattle.ol_eval.proofs.Naming.{slot-cell, known-cell, was-variable, was-constant, was-variant, is-name, no-name, pre-is, pre-none}
 -- </uses>

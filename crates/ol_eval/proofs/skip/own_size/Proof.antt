@@ -4,7 +4,7 @@ use Prim.Native.Nat.{ℕ, _+_, _-_, _≤_, _<_}
 use native.Mathlib.Omega.{arith}
 use borrow.Author.Tests.{eqb-true, eqb-false}
 use lib.ListN.{length, getD}
-use Rattle.ol_tree.proofs.Forms.{reads-in, call-form}
+use Rattle.ol_tables.proofs.Forms.{reads-in, call-form}
 use Rattle.ol_eval.proofs.Passing.{head-reads, own-below, own-bytes, no-bytes}
 -- </uses>
 use Rattle.ol_eval.proofs.skip.own_size.Statement.{statement}

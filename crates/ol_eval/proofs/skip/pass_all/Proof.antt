@@ -3,15 +3,14 @@ use mathlib.Core.Path.{_≡_, refl, sym, ap, subst, _∙_}
 use Prim.Native.Nat.{ℕ, _+_, _-_, _≤_, _<_}
 use native.Mathlib.Omega.{arith}
 use lib.ListN.{length}
-use Rattle.ol_tree.proofs.Forms.{reads-in}
-use Rattle.ol_eval.proofs.Passing.{Left, left-start, left-as, left-first, head-reads, turn-few, turn-on, turn, left-done, left-room}
+use Rattle.ol_tables.proofs.Forms.{reads-in}
+use Rattle.ol_eval.proofs.Passing.{Left, left-start, left-as, left-first, head-reads, turn-few, turn-on, turn, left-done, left-room, form-of}
 -- </uses>
 use Rattle.ol_eval.proofs.skip.pass_all.Statement.{statement}
 use Rattle.ol_eval.proofs.skip.pass_all.Tie as tie
 use Rattle.ol_eval.proofs.skip.pass_all.Reads as reads
 use Rattle.ol_eval.proofs.skip.pass_all.Lts as lts
 use Rattle.ol_eval.proofs.skip.either.Reads as either-reads
-use Rattle.ol_eval.proofs.skip.form_at.Reads as form-at-reads
 use Rattle.ol_eval.proofs.skip.is_call.Reads as is-call-reads
 use Rattle.ol_eval.proofs.skip.own_size.Reads as own-size-reads
 
@@ -29,11 +28,8 @@ loop-holds c =
     left-start f (start .pre)
 
 -- src/skip.rt:143:13
-form-at-requires : tie.Need-form-at-requires Inv-loop μ-loop
-form-at-requires c κs =
-    let start = c .before .before .before .before in
-    let f = start .args .file .now in
-    (head-reads f (c .before .loop .next) (left-first f (c .before .loop .inv) (omega (arith, c .loop-test .taken))))
+head-requires : tie.Need-head-requires Inv-loop μ-loop
+head-requires c κs = tt
 
 -- src/skip.rt:144:13
 own-size-requires : tie.Need-own-size-requires Inv-loop μ-loop
@@ -55,7 +51,8 @@ add-used : tie.Need-add-used Inv-loop μ-loop
 add-used c =
     let start = c .before .before .before .before .before .before .before in
     let f = start .args .file .now in
-    let n = turn f (c .before .before .before .before .loop .inv) (omega (arith, c .before .before .before .loop-test .taken)) (c .before .before .form-at .ensures) (c .before .own-size .ensures) (c .is-call .ensures) refl in
+    let L = start .args .level in
+    let n = turn f (c .before .before .before .before .loop .inv) (omega (arith, c .before .before .before .loop-test .taken)) (form-of f L (c .before .before .before .before .loop .next) (head-reads f (c .before .before .before .before .loop .next) (left-first f (c .before .before .before .before .loop .inv) (omega (arith, c .before .before .before .loop-test .taken)))) (c .before .before .head .ensures)) (c .before .own-size .ensures) (c .is-call .ensures) refl in
     omega (arith, left-room f (start .pre) n)
 
 -- src/skip.rt:147:9
@@ -71,14 +68,16 @@ add-left : tie.Need-add-left Inv-loop μ-loop
 add-left c =
     let start = c .before .before .before .before .before .before .before .before .before in
     let f = start .args .file .now in
-    omega (arith, turn-few f (c .before .before .before .before .before .before .loop .inv) (omega (arith, c .before .before .before .before .before .loop-test .taken)) (c .before .before .before .before .form-at .ensures), start .pre .sized .small)
+    let L = start .args .level in
+    omega (arith, turn-few f (c .before .before .before .before .before .before .loop .inv) (omega (arith, c .before .before .before .before .before .loop-test .taken)) (form-of f L (c .before .before .before .before .before .before .loop .next) (head-reads f (c .before .before .before .before .before .before .loop .next) (left-first f (c .before .before .before .before .before .before .loop .inv) (omega (arith, c .before .before .before .before .before .loop-test .taken)))) (c .before .before .before .before .head .ensures)), start .pre .sized .small)
 
 -- src/skip.rt:142:5
 loop-less : tie.Need-loop-less Inv-loop μ-loop
 loop-less c =
     let start = c .before .before .before .before .before .before .before .before .before in
     let f = start .args .file .now in
-    let n = turn-on f (c .before .before .before .before .before .before .loop .inv) (omega (arith, c .before .before .before .before .before .loop-test .taken)) (c .before .before .before .before .form-at .ensures) in
+    let L = start .args .level in
+    let n = turn-on f (c .before .before .before .before .before .before .loop .inv) (omega (arith, c .before .before .before .before .before .loop-test .taken)) (form-of f L (c .before .before .before .before .before .before .loop .next) (head-reads f (c .before .before .before .before .before .before .loop .next) (left-first f (c .before .before .before .before .before .before .loop .inv) (omega (arith, c .before .before .before .before .before .loop-test .taken)))) (c .before .before .before .before .head .ensures)) in
     omega (arith, n .0, n .1)
 
 -- src/skip.rt:142:5
@@ -86,7 +85,8 @@ loop-again : tie.Need-loop-again Inv-loop μ-loop
 loop-again c =
     let start = c .before .before .before .before .before .before .before .before .before in
     let f = start .args .file .now in
-    turn f (c .before .before .before .before .before .before .loop .inv) (omega (arith, c .before .before .before .before .before .loop-test .taken)) (c .before .before .before .before .form-at .ensures) (c .before .before .before .own-size .ensures) (c .before .before .is-call .ensures) (c .before .either .ensures)
+    let L = start .args .level in
+    turn f (c .before .before .before .before .before .before .loop .inv) (omega (arith, c .before .before .before .before .before .loop-test .taken)) (form-of f L (c .before .before .before .before .before .before .loop .next) (head-reads f (c .before .before .before .before .before .before .loop .next) (left-first f (c .before .before .before .before .before .before .loop .inv) (omega (arith, c .before .before .before .before .before .loop-test .taken)))) (c .before .before .before .before .head .ensures)) (c .before .before .before .own-size .ensures) (c .before .before .is-call .ensures) (c .before .either .ensures)
 
 -- src/skip.rt:134:1
 returns : tie.Need-returns Inv-loop μ-loop
@@ -102,7 +102,7 @@ pass-all-spec =
     Inv-loop
     μ-loop
     loop-holds
-    form-at-requires
+    head-requires
     own-size-requires
     is-call-requires
     add-used

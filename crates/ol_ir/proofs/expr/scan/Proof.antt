@@ -1,9 +1,10 @@
 -- `ol_ir::expr::scan` meets its contract.
 use Prim.Native.Nat.{ℕ}
-use mathlib.Core.Path.{_≡_}
+use mathlib.Core.Path.{_≡_, _∙_}
 use native.Mathlib.Omega.{arith}
 use borrow.Author.Needs.{needs}
 use Rattle.ol_ir.proofs.Scans.{scan-var, scan-pre, scan-parts, scan-end}
+use Rattle.ol_ir.proofs.Skips.{skip-expr}
 use Rattle.ol_ir.proofs.expr.scan.Statement.{statement}
 use Rattle.ol_ir.proofs.expr.scan.Tie as tie
 
@@ -19,11 +20,11 @@ name-requires c κs = search needs
 add-t14 : tie.Need-add-t14
 add-t14 c = search needs
 
-skip-expr-requires : tie.Need-skip-expr-requires
-skip-expr-requires c κs = search needs
+skip-requires : tie.Need-skip-requires
+skip-requires c κs = search needs
 
-head-at-requires : tie.Need-head-at-requires
-head-at-requires c κs = search needs
+head-requires : tie.Need-head-requires
+head-requires c κs = search needs
 
 returns : tie.Need-returns
 returns c =
@@ -33,12 +34,12 @@ returns c =
 returns-2 : tie.Need-returns-2
 returns-2 c =
     let start = c .before .before .before .before .before .before in
-    (λ l enums d e n g. scan-pre (start .args .file .now) l enums d (start .args .at) e n g (c .before .if3 .taken) (λ f m r. c .skip-expr .ensures l enums _ f m r), λ x q j. let z : _≡_ {A = ℕ} 0 1 = cc in absurd (omega arith))
+    (λ l enums d e n g. scan-pre (start .args .file .now) l enums d (start .args .at) e n g (c .before .if3 .taken) (λ f m r. c .skip .ensures ∙ skip-expr (start .args .file .now) l enums _ _ r), λ x q j. let z : _≡_ {A = ℕ} 0 1 = cc in absurd (omega arith))
 
 returns-3 : tie.Need-returns-3
 returns-3 c =
     let start = c .before .before .before .before .before .before in
-    (λ l enums d e n g. scan-parts (start .args .file .now) l enums d (start .args .at) e n g (c .before .before .if2 .left) (c .before .if3 .left) (c .head-at .ensures), λ x q j. let z : _≡_ {A = ℕ} 0 1 = cc in absurd (omega arith))
+    (λ l enums d e n g. scan-parts (start .args .file .now) l enums d (start .args .at) e n g (c .before .before .if2 .left) (c .before .if3 .left) (c .head .ensures), λ x q j. let z : _≡_ {A = ℕ} 0 1 = cc in absurd (omega arith))
 
 returns-4 : tie.Need-returns-4
 returns-4 c =
@@ -53,8 +54,8 @@ scan-spec =
     add-p
     name-requires
     add-t14
-    skip-expr-requires
-    head-at-requires
+    skip-requires
+    head-requires
     returns
     returns-2
     returns-3

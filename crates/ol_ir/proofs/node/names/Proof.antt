@@ -21,9 +21,7 @@ mul-bytes c =
     omega (arith, (counted-is (start .args .file .now) 1 (start .args .most) (start .args .at) _ _ (sym (c .before .n .given .1) ∙ c .before .before .before .count .ensures)), c .before .before .before .before .shared-slice-known .given (start .args .at))
 
 bytes-requires : tie.Need-bytes-requires
-bytes-requires c κs =
-    let start = c .before .before .before .before .before in
-    omega (arith, (counted-is (start .args .file .now) 1 (start .args .most) (start .args .at) _ _ (sym (c .before .n .given .1) ∙ c .before .before .before .count .ensures)))
+bytes-requires c κs = search needs
 
 enum-known-f : tie.Need-enum-known-f
 enum-known-f c = search needs

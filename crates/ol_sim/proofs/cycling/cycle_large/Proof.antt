@@ -2,7 +2,7 @@
 use mathlib.Core.Path.{_≡_, refl, sym, ap, _∙_}
 use Prim.Native.Nat.{_+_, _-_, _≤_, _<_}
 use native.Mathlib.Omega.{arith}
-use Rattle.ol_tree.proofs.HeadsFile.{bytes-of, file-stands}
+use Rattle.ol_tables.proofs.HeadsFile.{bytes-of, file-stands}
 use Rattle.ol_sim.proofs.Begins.{file-ready}
 -- </uses>
 use borrow.Author.Needs.{needs}

@@ -2,7 +2,7 @@
 use mathlib.Core.Path.{_≡_, refl, sym, ap, _∙_}
 use Prim.Native.Nat.{_+_, _-_, _*_, _≤_, _<_}
 use native.Mathlib.Omega.{arith}
-use Rattle.ol_tree.specs.At.{fileAt}
+use Rattle.ol_tables.specs.At.{fileAt}
 use Rattle.ol_sim.specs.Judging.{valuesIn}
 use Rattle.ol_sim.proofs.Tables.{width}
 use Rattle.ol_sim.proofs.Cycles.{unless-15, unless-16, unless-17, unless-run, fits-yes, fits-new, fits-values, run-ready, state-ready, values-many}
@@ -13,7 +13,7 @@ use Rattle.ol_sim.proofs.cycling.cycle_unless.Tie as tie
 use Rattle.ol_sim.proofs.cycling.cycle_unless.Reads as reads
 use Rattle.ol_sim.proofs.cycling.cycle_unless.Lts as lts
 use Rattle.ol_eval.proofs.main_cycle.run_main.Reads as run-main-reads
-use Rattle.ol_fresh.proofs.defaults.row.Reads as row-reads
+use Rattle.ol_tables.proofs.tables.row.Reads as row-reads
 use Rattle.ol_sim.proofs.cycling.refuse.Reads as refuse-reads
 use Rattle.ol_state.proofs.good_inputs.Reads as good-inputs-reads
 use Rattle.ol_state.proofs.good_state.Reads as good-state-reads
@@ -32,9 +32,7 @@ good-inputs-requires c κs =
 
 -- src/cycling.rt:50:21
 row-requires : tie.Need-row-requires
-row-requires c κs =
-    let start = c .before .before .before .before .before .before .before .before .before .before .before .before .before .before in
-    (omega (arith, (start .pre .ready) .last, (start .pre .ready) .tables .stands .fewNodes), omega arith)
+row-requires c κs = tt
 
 -- src/cycling.rt:51:36
 mul-if4 : tie.Need-mul-if4

@@ -2,11 +2,11 @@
 use mathlib.Core.Path.{_≡_, refl, sym, ap, _∙_}
 use Prim.Native.Nat.{_+_, _-_, _*_, _≤_, _<_}
 use native.Mathlib.Omega.{arith}
-use Rattle.ol_tree.specs.At.{fileAt}
+use Rattle.ol_tables.specs.At.{fileAt}
 use lib.Seq.{length-take-le}
 use Rattle.ol_sim.proofs.Starts.{admits-of, judged-whole, judged-refused}
 use Rattle.ol_eval.proofs.Admitted.{running}
-use Rattle.ol_tree.proofs.HeadsFile.{bytes-of}
+use Rattle.ol_tables.proofs.HeadsFile.{bytes-of}
 use Rattle.ol_sim.proofs.Cycles.{cycle-whole, cycle-refused, cycle-ready}
 -- </uses>
 use borrow.Author.Needs.{needs}

@@ -1,6 +1,6 @@
 -- <uses>
 use mathlib.Core.Path.{_≡_, refl, sym, ap, _∙_}
-use Rattle.ol_tree.specs.At.{fileAt}
+use Rattle.ol_tables.specs.At.{fileAt}
 use Rattle.ol_sim.proofs.Lows.{lows-of}
 use Rattle.ol_sim.proofs.Begins.{rowed-done, declared-ready, sections-ready, places-are, types-room, middle-long, blank-zeros}
 use native.Mathlib.Omega.{arith}

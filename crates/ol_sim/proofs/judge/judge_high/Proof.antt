@@ -1,6 +1,6 @@
 -- <uses>
 use mathlib.Core.Path.{_≡_, refl}
-use Rattle.ol_tree.specs.At.{fileAt}
+use Rattle.ol_tables.specs.At.{fileAt}
 use Rattle.ol_check.proofs.NamesBelow.{high-within, high-declared}
 use Rattle.ol_sim.proofs.Begins.{declared-ready, blank-zeros, empty-zeros, false-not-true}
 -- </uses>

@@ -1,6 +1,6 @@
 -- <uses>
 use mathlib.Core.Path.{_≡_, refl}
-use Rattle.ol_tree.specs.At.{fileAt}
+use Rattle.ol_tables.specs.At.{fileAt}
 use Rattle.ol_check.proofs.NamesBelow.{low-within}
 use Rattle.ol_sim.proofs.Begins.{empty-zeros}
 -- </uses>

@@ -5,7 +5,7 @@ use native.Mathlib.Omega.{arith}
 use Rattle.ol_check.specs.Founds.{placeOf}
 use Rattle.ol_sim.proofs.Chain.{refused-at, passed-by}
 use Rattle.ol_sim.proofs.Begins.{faults-ready, shapes-ready}
-use Rattle.ol_sim.proofs.Parts.{length-put}
+use Rattle.ol_tables.proofs.Lending.{length-put}
 -- </uses>
 use borrow.Author.Needs.{needs}
 use Rattle.ol_sim.proofs.judge.judge_names.Statement.{statement}

@@ -3,20 +3,18 @@ use mathlib.Core.Path.{_≡_, refl, sym, ap, _∙_}
 use Prim.Native.Nat.{_+_, _-_, _≤_, _<_}
 use mathlib.Core.Option.{none, some}
 use native.Mathlib.Omega.{arith}
-use Rattle.ol_tree.proofs.HeadsFile.{bytes-of, file-stands}
+use Rattle.ol_tables.proofs.HeadsFile.{bytes-of, file-stands}
 use Rattle.ol_sim.proofs.Steps.{state-long, state-short, some-none}
 -- </uses>
 use Rattle.ol_sim.proofs.judge.too_long.Statement.{statement}
 use Rattle.ol_sim.proofs.judge.too_long.Tie as tie
 use Rattle.ol_sim.proofs.judge.too_long.Reads as reads
 use Rattle.ol_sim.proofs.judge.too_long.Lts as lts
-use Rattle.ol_fresh.proofs.defaults.row.Reads as row-reads
+use Rattle.ol_tables.proofs.tables.row.Reads as row-reads
 
 -- src/judge.rt:53:19
 row-requires : tie.Need-row-requires
-row-requires c κs =
-    let start = c .before .before .before in
-    (omega (arith, file-stands (bytes-of (start .args .file .now) (λ i. omega (arith, c .before .before .shared-slice-known .given i))) (start .pre .0) .fewNodes, start .pre .2), omega arith)
+row-requires c κs = tt
 
 -- src/judge.rt:48:1
 returns : tie.Need-returns

@@ -3,10 +3,10 @@ use mathlib.Core.Path.{_≡_, refl, sym, ap, _∙_}
 use Prim.Native.Nat.{_+_, _-_, _*_, _≤_, _<_}
 use native.Mathlib.Omega.{arith}
 use lib.Seq.{length-take-le}
-use Rattle.ol_tree.specs.At.{fileAt}
+use Rattle.ol_tables.specs.At.{fileAt}
 use Rattle.ol_sim.proofs.Starts.{admits-of, judged-whole, judged-refused, starts-refused, starts-done, starts-unfit, main-operator}
 use Rattle.ol_eval.proofs.Admitted.{known}
-use Rattle.ol_tree.proofs.HeadsFile.{bytes-of}
+use Rattle.ol_tables.proofs.HeadsFile.{bytes-of}
 -- </uses>
 use borrow.Author.Needs.{needs}
 use Rattle.ol_sim.proofs.starting.start_with.Statement.{statement}

@@ -3,7 +3,7 @@ use mathlib.Core.Path.{_≡_, refl, sym, ap, _∙_}
 use Prim.Native.Nat.{_+_, _-_, _≤_, _<_}
 use native.Mathlib.Omega.{arith}
 use lib.ListN.{length, take}
-use Rattle.ol_sim.proofs.Parts.{length-put}
+use Rattle.ol_tables.proofs.Lending.{length-put}
 use Rattle.ol_sim.proofs.Starts.{consts-fit, front-long, begun-long, rest-sited, fresh-whole}
 -- </uses>
 use borrow.Author.Needs.{needs}
@@ -12,7 +12,7 @@ use Rattle.ol_sim.proofs.starting.write_start.Tie as tie
 use Rattle.ol_sim.proofs.starting.write_start.Reads as reads
 use Rattle.ol_sim.proofs.starting.write_start.Lts as lts
 use Rattle.ol_eval.proofs.copies.copy.Reads as copy-reads
-use Rattle.ol_fresh.proofs.write_fresh.Reads as write-fresh-reads
+use Rattle.ol_state.proofs.fresh.write_fresh.Reads as write-fresh-reads
 
 -- src/starting.rt:32:18
 slice-relend-prefix-copy : tie.Need-slice-relend-prefix-copy

@@ -4,16 +4,16 @@ use Prim.Native.Nat.{_-_}
 use mathlib.Core.Path.{refl, sym, ap, _∙_}
 use native.Mathlib.Omega.{arith}
 use lib.ListN.{length}
-use Rattle.ol_tree.specs.At.{fileAt}
-use Rattle.ol_fresh.proofs.Records.{few-nodes, few-variables, own-room, is-operator, part-room, part-sited}
+use Rattle.ol_tables.specs.At.{fileAt}
+use Rattle.ol_state.proofs.Instances.{few-nodes, few-variables, own-room, is-operator, part-room, part-sited}
 use Rattle.ol_state.proofs.Records.{Judging, none-judged, own-bad, judging-start, turn-of, judging-on, judging-stop, judging-done, judging-full}
 -- </uses>
 use Prim.Native.Nat.{ℕ}
 use borrow.Author.Needs.{needs}
 use Rattle.ol_state.proofs.own.good_own.Reads as good-own-reads
 use Rattle.ol_state.proofs.good_record.Reads as good-record
-use Rattle.ol_fresh.proofs.sites.next_site.Reads as next-site-reads
-use Rattle.ol_fresh.proofs.defaults.row.Reads as row-reads
+use Rattle.ol_state.proofs.sites.next_site.Reads as next-site-reads
+use Rattle.ol_tables.proofs.tables.row.Reads as row-reads
 use Rattle.ol_state.proofs.+good_record.Lts-good_record as good-record-lts
 use Rattle.ol_state.proofs.+good_record.Proof.Common.{good-record-at, good-record-below}
 
@@ -28,11 +28,7 @@ abbrev pub μ-loop : good-record-lts.MeasureT-loop
 μ-loop file tab rows variants k r used₀ at₀ eqs₀ pending₀ used at eqs pending = length file - at
 
 pub row-requires : (t : ℕ) → good-record-lts.Need-row-requires (Q t) (good-record-at t) good-record.Post Inv-loop μ-loop
-row-requires t c κs =
-    let start = c .before .before .before .before .before in
-    let h = start .pre .1 .0 in
-    let few = few-nodes (h .known) (h .below) in
-    (omega (arith, few), omega arith)
+row-requires t c κs = tt
 
 pub good-own-requires : (t : ℕ) → good-record-lts.Need-good-own-requires (Q t) (good-record-at t) good-record.Post Inv-loop μ-loop
 good-own-requires t c κs =
@@ -44,11 +40,7 @@ good-own-requires t c κs =
     (omega (arith, few), few-variables (h .known) (h .below), omega (arith, own, h .sized))
 
 pub row-requires-2 : (t : ℕ) → good-record-lts.Need-row-requires-2 (Q t) (good-record-at t) good-record.Post Inv-loop μ-loop
-row-requires-2 t c κs =
-    let start = c .before .before .before .before .before .before .before .before .before in
-    let h = start .pre .1 .0 in
-    let few = few-nodes (h .known) (h .below) in
-    (omega (arith, few), omega arith)
+row-requires-2 t c κs = tt
 
 pub mul-used : (t : ℕ) → good-record-lts.Need-mul-used (Q t) (good-record-at t) good-record.Post Inv-loop μ-loop
 mul-used t c =
@@ -67,18 +59,10 @@ add-used t c =
     omega (arith, own, c .row2 .ensures, h .sized, h .small)
 
 pub row-requires-3 : (t : ℕ) → good-record-lts.Need-row-requires-3 (Q t) (good-record-at t) good-record.Post Inv-loop μ-loop
-row-requires-3 t c κs =
-    let start = c .before .before .before .before .before .before .before .before .before .before in
-    let h = start .pre .1 .0 in
-    let few = few-nodes (h .known) (h .below) in
-    (omega (arith, few), omega arith)
+row-requires-3 t c κs = tt
 
 pub row-requires-4 : (t : ℕ) → good-record-lts.Need-row-requires-4 (Q t) (good-record-at t) good-record.Post Inv-loop μ-loop
-row-requires-4 t c κs =
-    let start = c .before .before .before .before .before .before .before .before .before .before .before in
-    let h = start .pre .1 .0 in
-    let few = few-nodes (h .known) (h .below) in
-    (omega (arith, few), omega arith)
+row-requires-4 t c κs = tt
 
 pub loop-holds : (t : ℕ) → good-record-lts.Need-loop-holds (Q t) (good-record-at t) good-record.Post Inv-loop μ-loop
 loop-holds t c =
@@ -92,12 +76,7 @@ pub next-site-requires : (t : ℕ) → good-record-lts.Need-next-site-requires (
 next-site-requires t c κs = c .before .loop .inv .rest .left
 
 pub row-requires-5 : (t : ℕ) → good-record-lts.Need-row-requires-5 (Q t) (good-record-at t) good-record.Post Inv-loop μ-loop
-row-requires-5 t c κs =
-    let start = c .before .before .before .before .before .before .before .before .before .before .before .before .before .before .before .before in
-    let h = start .pre .1 .0 in
-    let few = few-nodes (h .known) (h .below) in
-    let t = turn-of h (c .before .before .before .loop .inv) (c .before .next-site .ensures) (c .if3 .taken) in
-    (omega (arith, t .lower, few), omega arith)
+row-requires-5 t c κs = tt
 
 pub add-end : (t : ℕ) → good-record-lts.Need-add-end (Q t) (good-record-at t) good-record.Post Inv-loop μ-loop
 add-end t c =

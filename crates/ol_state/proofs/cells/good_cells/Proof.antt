@@ -5,7 +5,7 @@ use Prim.Native.Nat.{ℕ, _≤_, _-_, _*_}
 use native.Mathlib.Omega.{arith}
 use lib.ListN.{drop}
 use Rattle.ol_spec.specs.Cell.{goodCells}
-use Rattle.ol_tree.specs.Tables.{Tells}
+use Rattle.ol_tables.specs.Tables.{Tells}
 use Rattle.ol_state.proofs.Judged.{and-pass, and-stop, cells-next, cells-none}
 -- </uses>
 use Rattle.ol_state.proofs.cells.good_cells.Statement.{statement}

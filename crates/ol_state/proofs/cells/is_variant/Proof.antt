@@ -8,7 +8,7 @@ use Rattle.ol_state.proofs.cells.is_variant.Statement.{statement}
 use Rattle.ol_state.proofs.cells.is_variant.Tie as tie
 use Rattle.ol_state.proofs.cells.is_variant.Reads as reads
 use Rattle.ol_state.proofs.cells.is_variant.Lts as lts
-use Rattle.ol_check.proofs.bytes.byte.Reads as byte-reads
+use Rattle.ol_tables.proofs.bytes.byte.Reads as byte-reads
 
 -- src/cells.rt:18:27
 enum-told : tie.Need-enum-told

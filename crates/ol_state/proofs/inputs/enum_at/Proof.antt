@@ -2,14 +2,14 @@
 use Prim.Native.Nat.{_≤_, _-_}
 use native.Mathlib.Omega.{arith}
 use mathlib.Core.Path.{sym, ap, _∙_}
-use Rattle.ol_tree.specs.At.{fileAt}
+use Rattle.ol_tables.specs.At.{fileAt}
 use Rattle.ol_state.proofs.Enums.{Walking, walk-start, walk-on, walk-end}
 -- </uses>
 use Rattle.ol_state.proofs.inputs.enum_at.Statement.{statement}
 use Rattle.ol_state.proofs.inputs.enum_at.Tie as tie
 use Rattle.ol_state.proofs.inputs.enum_at.Reads as reads
 use Rattle.ol_state.proofs.inputs.enum_at.Lts as lts
-use Rattle.ol_check.proofs.bytes.byte.Reads as byte-reads
+use Rattle.ol_tables.proofs.bytes.byte.Reads as byte-reads
 
 abbrev Inv-loop : tie.InvT-loop
 Inv-loop file e pos₀ i₀ pos i = (i ≤ e) × Walking (fileAt file) file i pos

@@ -14,8 +14,8 @@ use Rattle.ol_state.proofs.inputs.has_variant.Statement.{statement}
 use Rattle.ol_state.proofs.inputs.has_variant.Tie as tie
 use Rattle.ol_state.proofs.inputs.has_variant.Reads as reads
 use Rattle.ol_state.proofs.inputs.has_variant.Lts as lts
-use Rattle.ol_check.proofs.bytes.byte.Reads as byte-reads
-use Rattle.ol_check.proofs.bytes.name.Reads as name-reads
+use Rattle.ol_tables.proofs.bytes.byte.Reads as byte-reads
+use Rattle.ol_tables.proofs.bytes.name.Reads as name-reads
 
 abbrev Inv-loop : tie.InvT-loop
 Inv-loop file at v n j₀ j =

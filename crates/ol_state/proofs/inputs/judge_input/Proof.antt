@@ -5,7 +5,7 @@ use mathlib.Core.List.{List, []}
 use mathlib.Core.Path.{sym, ap, _∙_}
 use lib.ListN.{length, take, drop, getD}
 use Rattle.ol_spec.specs.Lists.{member}
-use Rattle.ol_tree.specs.At.{fileAt}
+use Rattle.ol_tables.specs.At.{fileAt}
 use Rattle.ol_state.proofs.Enums.{enum-names, enum-below, input-enum, input-other, input-kind, input-cell}
 -- </uses>
 use borrow.Author.Needs.{needs}

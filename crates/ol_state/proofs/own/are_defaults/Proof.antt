@@ -6,17 +6,17 @@ use native.Mathlib.Omega.{arith}
 use lib.ListN.{length, take, drop}
 use lib.Seq.{length-take-le, take-at}
 use Rattle.ol_spec.specs.Lists.{same}
-use Rattle.ol_tree.specs.Tables.{rowAt}
-use Rattle.ol_fresh.specs.Defaults.{cellsAt}
-use Rattle.ol_fresh.proofs.Cells.{length-cellsAt}
+use Rattle.ol_tables.specs.Tables.{rowAt}
+use Rattle.ol_state.specs.Defaults.{cellsAt}
+use Rattle.ol_state.proofs.DefaultCells.{length-cellsAt}
 -- </uses>
 use borrow.Author.Needs.{needs}
 use Rattle.ol_state.proofs.own.are_defaults.Statement.{statement}
 use Rattle.ol_state.proofs.own.are_defaults.Tie as tie
 use Rattle.ol_state.proofs.own.are_defaults.Reads as reads
 use Rattle.ol_state.proofs.own.are_defaults.Lts as lts
-use Rattle.ol_fresh.proofs.defaults.row.Reads as row-reads
-use Rattle.ol_fresh.proofs.defaults.write_defaults.Reads as write-defaults-reads
+use Rattle.ol_tables.proofs.tables.row.Reads as row-reads
+use Rattle.ol_state.proofs.defaults.write_defaults.Reads as write-defaults-reads
 use Rattle.ol_state.proofs.cells.same_bytes.Reads as same-bytes-reads
 
 -- src/own.rt:19:34
@@ -29,7 +29,7 @@ write-defaults-requires c κs = search needs
 
 -- src/own.rt:20:19
 row-requires : tie.Need-row-requires
-row-requires c κs = search needs
+row-requires c κs = tt
 
 -- src/own.rt:20:15
 mul-end : tie.Need-mul-end

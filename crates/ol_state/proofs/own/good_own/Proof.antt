@@ -6,9 +6,9 @@ use lib.ListN.{length, take, drop, length-drop}
 use borrow.Author.Tests.{le-leb, lt-leb, eq-eqb, ne-eqb}
 use Rattle.ol_spec.specs.Lists.{same}
 use Rattle.ol_spec.specs.Cell.{goodCells}
-use Rattle.ol_tree.specs.Tables.{rowAt}
-use Rattle.ol_fresh.specs.Defaults.{cellsAt}
-use Rattle.ol_fresh.proofs.Filling.{tail-all}
+use Rattle.ol_tables.specs.Tables.{rowAt}
+use Rattle.ol_state.specs.Defaults.{cellsAt}
+use Rattle.ol_tables.proofs.Lending.{tail-all}
 use Rattle.ol_state.proofs.Judged.{own-defaults, own-started, own-cells, own-byte}
 -- </uses>
 use borrow.Author.Needs.{needs}
@@ -16,7 +16,7 @@ use Rattle.ol_state.proofs.own.good_own.Statement.{statement}
 use Rattle.ol_state.proofs.own.good_own.Tie as tie
 use Rattle.ol_state.proofs.own.good_own.Reads as reads
 use Rattle.ol_state.proofs.own.good_own.Lts as lts
-use Rattle.ol_fresh.proofs.defaults.row.Reads as row-reads
+use Rattle.ol_tables.proofs.tables.row.Reads as row-reads
 use Rattle.ol_state.proofs.cells.good_cells.Reads as good-cells-reads
 use Rattle.ol_state.proofs.own.are_defaults.Reads as are-defaults-reads
 
@@ -28,9 +28,7 @@ shared-slice-read-started c =
 
 -- src/own.rt:31:33
 row-requires : tie.Need-row-requires
-row-requires c κs =
-    let start = c .before .before .before .before .before .before in
-    (start .pre .0, omega arith)
+row-requires c κs = tt
 
 -- src/own.rt:31:50
 sub-good-cells : tie.Need-sub-good-cells

@@ -3,7 +3,7 @@
 use mathlib.Core.Path.{_≡_, refl, sym, ap, subst, _∙_}
 use Prim.Native.Nat.{_+_}
 use native.Mathlib.Omega.{arith}
-use Rattle.ol_tree.proofs.Forms.{reads-in, var-form}
+use Rattle.ol_tables.proofs.Forms.{reads-in, var-form}
 use Rattle.ol_eval.proofs.Planning.{plan-head, plan-name}
 use Rattle.ol_eval.proofs.Readying.{var-evals}
 -- </uses>

@@ -6,12 +6,12 @@ use mathlib.Core.List.{List, _++_}
 use Prim.Native.Nat.{ℕ, suc, _+_, _-_, _*_, _≤_, _<_}
 use native.Mathlib.Omega.{arith}
 use lib.ListN.{length, take, drop}
-use Rattle.ol_tree.specs.At.{nodeIn}
+use Rattle.ol_tables.specs.At.{nodeIn}
 use Rattle.ol_eval.specs.Walk.{Passable, SkipsTo}
 use Rattle.ol_eval.specs.Plans.{segsAt}
 use Rattle.ol_eval.specs.Calls.{allIn, passedAll}
 use Rattle.ol_spec.specs.Cell.{valuesOf}
-use Rattle.ol_eval.proofs.Lending.{tailOf, tail-all, length-put}
+use Rattle.ol_tables.proofs.Lending.{tailOf, tail-all, length-put}
 use Rattle.ol_eval.proofs.Readying.{moved}
 use Rattle.ol_eval.proofs.Arguments.{left-none, left-suc, left-pass, left-done, Going, going-start, going-left, going-ready, going-length, going-passable, going-turn, going-failed, going-overflowed, going-used, going-done}
 -- </uses>

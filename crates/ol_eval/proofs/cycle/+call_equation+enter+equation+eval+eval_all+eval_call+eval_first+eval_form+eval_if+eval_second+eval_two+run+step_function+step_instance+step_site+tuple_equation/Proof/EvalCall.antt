@@ -7,8 +7,8 @@ use Prim.Native.Nat.{ℕ, _+_, _-_, _*_, _≤_, _<_}
 use native.Mathlib.Omega.{arith}
 use lib.ListN.{length, take, drop, getD}
 use lib.Seq.{length-take-le}
-use Rattle.ol_tree.proofs.Forms.{reads-in}
-use Rattle.ol_eval.proofs.Lending.{length-put, length-put-front, putTail}
+use Rattle.ol_tables.proofs.Forms.{reads-in}
+use Rattle.ol_tables.proofs.Lending.{length-put, length-put-front, putTail}
 use Rattle.ol_eval.proofs.Planning.{plan-head}
 use Rattle.ol_eval.proofs.Calling.{call-at, call-small, call-cells, call-single}
 -- </uses>

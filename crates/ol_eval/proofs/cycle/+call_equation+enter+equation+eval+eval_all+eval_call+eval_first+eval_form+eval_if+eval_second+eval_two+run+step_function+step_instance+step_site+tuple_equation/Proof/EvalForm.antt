@@ -10,12 +10,12 @@ use lib.Seq.{length-take-le}
 use Rattle.ol_spec.specs.declared.Value.{Value}
 use Rattle.ol_spec.specs.Eval.{Eval, next, mapEval, choose, condition, eval}
 use Rattle.ol_value.specs.Codes.{binaryBy}
-use Rattle.ol_tree.specs.At.{exprAt, endAt}
-use Rattle.ol_tree.proofs.Forms.{parted}
+use Rattle.ol_tables.specs.At.{exprAt, endAt}
+use Rattle.ol_tables.proofs.Forms.{parted}
 use Rattle.ol_eval.specs.Walk.{SkipsTo}
 use Rattle.ol_eval.specs.Plans.{evalIn, segAt, segsAt}
 use Rattle.ol_eval.specs.Post.{branchIn, chooseIn}
-use Rattle.ol_eval.proofs.Lending.{length-put, length-put-front, putTail, tail-all}
+use Rattle.ol_tables.proofs.Lending.{length-put, length-put-front, putTail, tail-all}
 use Rattle.ol_eval.proofs.Planning.{segs-cons}
 use Rattle.ol_eval.proofs.Evals.{rest-old, two-done, two-stop, if-taken, if-stop, first-ran, first-not, second-ran, second-not, seq-as}
 use Rattle.ol_eval.proofs.Readying.{ready-first, ready-rest, ready-tail, ready-front, ready-pass, ready-seg, moved, moved-choice, moved-skip, skip-one, two-segs, two-ends, chosen-is}
@@ -23,7 +23,7 @@ use Rattle.ol_spec.specs.Syntax.{Expr, unary, cast}
 use Rattle.ol_spec.specs.Operators.{unaryOf}
 use Rattle.ol_spec.specs.Types.{castTo}
 use Rattle.ol_spec.specs.Places.{tySize}
-use Rattle.ol_tree.proofs.Forms.{reads-in, reads-deep, unary-form, binary-form, if-form, arrow-form, cast-form, type-some}
+use Rattle.ol_tables.proofs.Forms.{reads-in, reads-deep, unary-form, binary-form, if-form, arrow-form, cast-form, type-some}
 use Rattle.ol_eval.specs.Post.{twoIn, ifIn}
 use Rattle.ol_eval.proofs.Planning.{plan-head}
 use Rattle.ol_eval.proofs.Passing.{callees-one, own-call}

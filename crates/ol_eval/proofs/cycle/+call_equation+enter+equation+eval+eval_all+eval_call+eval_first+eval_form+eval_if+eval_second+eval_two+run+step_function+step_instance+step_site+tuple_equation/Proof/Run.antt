@@ -6,7 +6,7 @@ use Prim.Native.Nat.{_+_, _-_, _*_, _≤_, _<_}
 use native.Mathlib.Omega.{arith}
 use lib.ListN.{length, getD, drop}
 use Rattle.ol_spec.specs.Order.{order}
-use Rattle.ol_tree.specs.At.{nodeIn}
+use Rattle.ol_tables.specs.At.{nodeIn}
 use Rattle.ol_eval.proofs.Running.{length-put-mid, length-mid}
 use Rattle.ol_eval.proofs.Turns.{stands, LeftIn, run-start, run-next, turn-part, turn-ready, turn-goes, turn-stops, run-done}
 -- </uses>

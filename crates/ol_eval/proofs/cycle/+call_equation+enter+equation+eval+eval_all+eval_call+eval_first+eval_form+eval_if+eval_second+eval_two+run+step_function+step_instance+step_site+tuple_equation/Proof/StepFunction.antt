@@ -11,7 +11,7 @@ use Rattle.ol_eval.proofs.copies.copy_cells.Reads as copy-cells-reads
 use Rattle.ol_eval.proofs.tables.row.Reads as row-reads
 use Rattle.ol_eval.proofs.cycle.run.Reads as run
 use Rattle.ol_eval.proofs.cycle.step_function.Reads as step-function
-use Rattle.ol_fresh.proofs.defaults.write_defaults.Reads as write-defaults-reads
+use Rattle.ol_state.proofs.defaults.write_defaults.Reads as write-defaults-reads
 use Rattle.ol_eval.proofs.cycle.+call_equation+enter+equation+eval+eval_all+eval_call+eval_first+eval_form+eval_if+eval_second+eval_two+run+step_function+step_instance+step_site+tuple_equation.Lts-step_function as step-function-lts
 use Rattle.ol_eval.proofs.cycle.+call_equation+enter+equation+eval+eval_all+eval_call+eval_first+eval_form+eval_if+eval_second+eval_two+run+step_function+step_instance+step_site+tuple_equation.Proof.Common.{step-function-at, run-below}
 

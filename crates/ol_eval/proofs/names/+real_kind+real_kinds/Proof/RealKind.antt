@@ -8,8 +8,8 @@ use lib.ListN.{getD, length}
 use Rattle.ol_spec.specs.Syntax.{Expr}
 use Rattle.ol_spec.specs.Eval.{realKind, RealKind, join, arithmetic, presentOf}
 use Rattle.ol_spec.specs.declared.Outcome.{Outcome}
-use Rattle.ol_tree.specs.At.{exprAt, nodeIn}
-use Rattle.ol_tree.proofs.Forms.{reads-in, reads-deep, float-form, var-form, unary-form, binary-form, if-form, pre-form, arrow-form, cast-form, call-form, by-form, one-tree, type-some}
+use Rattle.ol_tables.specs.At.{exprAt, nodeIn}
+use Rattle.ol_tables.proofs.Forms.{reads-in, reads-deep, float-form, var-form, unary-form, binary-form, if-form, pre-form, arrow-form, cast-form, call-form, by-form, one-tree, type-some}
 use Rattle.ol_eval.specs.Outcomes.{realCode, outcomeKind}
 use Rattle.ol_eval.specs.Plans.{globalsIn, scopeIn, nameAt}
 use Rattle.ol_eval.proofs.RealKinds.{arithmetic-code, plain-code, bits-code, code-kind, present-kind}

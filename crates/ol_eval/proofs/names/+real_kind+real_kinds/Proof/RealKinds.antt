@@ -5,8 +5,8 @@ use mathlib.Core.Bool.{Bool, true, false}
 use Prim.Native.Nat.{ℕ, _+_, _-_, _*_, _≤_, _<_}
 use native.Mathlib.Omega.{arith}
 use Rattle.ol_spec.specs.Eval.{realKind}
-use Rattle.ol_tree.specs.At.{exprAt, endAt}
-use Rattle.ol_tree.proofs.Forms.{one-tree}
+use Rattle.ol_tables.specs.At.{exprAt, endAt}
+use Rattle.ol_tables.proofs.Forms.{one-tree}
 use Rattle.ol_eval.specs.Outcomes.{realCode}
 use Rattle.ol_eval.specs.Plans.{globalsIn, scopeIn}
 use Rattle.ol_eval.proofs.Planning.{plan-rest, plan-first, plan-passable, segs-cons, segs-first, segs-one}

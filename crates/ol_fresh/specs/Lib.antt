@@ -1,3 +1,0 @@
-pub mod Known
-pub mod Ahead
-pub mod Defaults

@@ -1,0 +1,6 @@
+pub mod HeadLaws
+pub mod Walking
+pub mod Skipping
+pub mod HeadsFile
+pub mod Forms
+pub mod Lending

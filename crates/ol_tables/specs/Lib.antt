@@ -1,0 +1,6 @@
+pub mod At
+pub mod Tables
+pub mod Heads
+pub mod Walks
+pub mod Stands
+pub mod Parts

@@ -1,0 +1,60 @@
+// The tables of a file. `rows` has a row of eight numbers for each of 32 nodes, then the first variant of each of 16 enums. `tab` has bytes: the evaluation
+// orders, 80 entries for each node; the types, two bytes for each of 112 variables of each node; and for each place of the file the slot of the name there.
+use super::bytes::entry;
+ghost use mathlib.Core.Path.{_≡_};
+ghost use Rattle.ol_tables.specs.Tables.{rowAt};
+
+// The columns of a node's row, and how many there are.
+pub const KIND: usize = 0;
+
+pub const EQUATIONS: usize = 1; // where the first equation starts
+
+pub const INPUTS: usize = 2;
+
+pub const OUTPUTS: usize = 3;
+
+pub const VARIABLES: usize = 4;
+
+pub const COUNT: usize = 5; // how many equations there are
+
+pub const SIZE: usize = 6; // the bytes of the record at a call site
+
+pub const PLACE: usize = 7; // where the node starts
+
+pub const COLUMNS: usize = 8;
+
+// Where the first variants start in `rows`, and its length.
+pub const FIRSTS: usize = 256;
+
+pub const ROWS: usize = 272;
+
+// The most variables and equations of a node, and the bytes of its cells.
+pub const MOST_VARIABLES: usize = 112;
+
+pub const MOST_EQUATIONS: usize = 80;
+
+pub const MOST_CELLS: usize = 1008;
+
+// Where the types and the slots start in `tab`, and its length for a small file and for any.
+pub const TYPES: usize = 2560;
+
+pub const SLOTS: usize = 9728;
+
+pub const SMALL_TAB: usize = 10752;
+
+pub const LARGE_TAB: usize = 42496;
+
+// Entry j of node k's row; 0 past the end.
+pub fn row(rows: &[usize], k: usize, j: usize) -> usize
+    ensures { λ r. ⌜ r ≡ rowAt (now (rows .entry)) k j ⌝ }
+{
+    if k < rows.len() {
+        if j < rows.len() {
+            entry(rows, k * 8 + j)
+        } else {
+            0
+        }
+    } else {
+        0
+    }
+}

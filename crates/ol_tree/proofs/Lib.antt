@@ -1,3 +1,0 @@
-pub mod Heads
-pub mod HeadsFile
-pub mod Forms

@@ -1,5 +1,0 @@
-pub mod At
-pub mod Tables
-pub mod Heads
-pub mod Stands
-pub mod Parts
