@@ -14,10 +14,11 @@ use Rattle.ol_spec.specs.Limits.{base, relayLoader}
 use Rattle.ol_spec.specs.Read.{Read, got, fault, readFile, equationR, nodeR}
 use Rattle.ol_spec.specs.Order.{unplaced}
 use Rattle.ol_spec.specs.Admission.{placeAt}
-use Rattle.ol_spec.specs.Answers.{faultAt}
-use Rattle.ol_spec.specs.Cycle.{noOrder, orderFits, orderUnlessRing, orderNode, orderRead, ordering}
+use Rattle.ol_spec.specs.Answers.{faultAt, sortedFault}
+use Rattle.ol_spec.specs.Cycle.{OrderingCall, noOrder, orderFits, orderUnlessRing, orderNode, orderRead, ordering}
 use Rattle.ol_spec.specs.declared.Fault.{Fault}
 use Rattle.ol_spec.specs.declared.Limits.{Limits}
+use Rattle.ol_spec.specs.declared.Sorted.{Sorted}
 use Rattle.ol_order.specs.Tables.{equationIn, nodeIn, equationAt, nodeAt, equationsAt, orderIf, orderUnless, orderOf}
 use Rattle.ol_order.specs.Post.{Readable, NodeReads}
 use Rattle.ol_ir.specs.Walks.{placeOf, loadedOf}
@@ -211,3 +212,9 @@ module _ (s : List ℕ) {x : Loaded} (e : x ≡ loadedOf (readFile s relayLoader
       order-present l b =
           ap (λ n. orderNode (some (getD t node 0, n)) buf) (node-is l b)
           ∙ (ap (λ p. orderNode (some (p, entry .1)) buf) place-is ∙ sym (ap (λ r. orderRead r node buf) (loaded .2) ∙ ap (λ o. orderNode o buf) (entry .2)))
+
+-- what the ordering's call gives: the answer, the buffer, and the answer's number and place
+pub as-told : {r : Sorted} {b : List ℕ} {v w : OrderingCall} → r ≡ v .answer → b ≡ v .buffer → v ≡ w
+    → (r ≡ w .answer) × ((b ≡ w .buffer) × (sortedFault r ≡ sortedFault (w .answer)))
+as-told p q e =
+    (p ∙ ap (λ (c : OrderingCall). c .answer) e, (q ∙ ap (λ (c : OrderingCall). c .buffer) e, ap sortedFault (p ∙ ap (λ (c : OrderingCall). c .answer) e)))

@@ -24,6 +24,7 @@ ghost use lib.ListN.{length, getD, set, take};
 ghost use Rattle.ol_spec.specs.Limits.{relayLoader};
 ghost use Rattle.ol_spec.specs.Read.{got, many, nameR};
 ghost use Rattle.ol_spec.specs.Order.{pass, order as inOrder};
+ghost use Rattle.ol_spec.specs.Answers.{sortedFault};
 ghost use Rattle.ol_spec.specs.Cycle.{orderNode, ordering};
 ghost use Rattle.ol_order.specs.Tables.{equationsAt, nodeAt, put, putAll, waitsFor, firstZero, orderOf};
 ghost use Rattle.ol_order.specs.Post.{Readable, NodeReads, Blank, Definers, State, Sorts};
@@ -285,6 +286,7 @@ fn order_node(file: &[u8], limits: Limits, enums: usize, at: usize, buffer: &mut
 pub fn evaluation_order(file: &[u8], node: usize, buffer: &mut [usize]) -> Sorted
     ensures answer { λ r. ⌜ r ≡ ordering relayLoader (now (file .entry)) node (now (buffer .entry)) .answer ⌝ }
     ensures written { λ _. ⌜ now (buffer .exit) ≡ ordering relayLoader (now (file .entry)) node (now (buffer .entry)) .buffer ⌝ }
+    ensures told { λ r. ⌜ sortedFault r ≡ sortedFault (ordering relayLoader (now (file .entry)) node (now (buffer .entry)) .answer) ⌝ }
 {
     let mut nodes = [0usize; 32];
     match load_file(file, &mut nodes) {

@@ -3,21 +3,22 @@ use mathlib.Core.Path.{_≡_, refl, sym, ap, _∙_, subst}
 use mathlib.Core.Logic.{_⊎_, inl, inr, by-cases}
 use mathlib.Core.Bool.{Bool, true, false, not, cond}
 use Prim.Native.Nat.{ℕ, zero, suc, _+_, _-_, _*_, _/_, _%_, _^_, _≤_, _<_}
-use native.Mathlib.Nat.{le-trans, le-of-eq, le-of-lt, lt-of-lt-of-le, lt-of-le-of-lt, lt-irrefl, zero-lt-suc, zero-mul, mul-one, one-mul, mul-assoc, mul-comm, mul-left-comm, mul-right-comm, mul-pos, mul-le-mul-right, mul-le-mul-left, mul-lt-mul-of-pos-right, lt-of-mul-lt-mul-right, eq-of-mul-eq-mul-right, mul-le-mul, pow-succ'}
+use native.Mathlib.Nat.{le-trans, le-of-eq, le-of-lt, lt-of-lt-of-le, lt-of-le-of-lt, lt-irrefl, zero-lt-suc, zero-mul, mul-one, mul-assoc, mul-left-comm, mul-right-comm, mul-le-mul-right, mul-le-mul-left, mul-lt-mul-of-pos-right, eq-of-mul-eq-mul-right, mul-le-mul, pow-succ'}
 use native.Mathlib.Omega.{arith}
 use native.Mathlib.Decide.{ℕ-discrete, decLe, decLt}
-use lib.IntN.{ℤ, pos, negsuc}
-use lib.Dec.{T, ltb, eqb→eq, ltb→lt, leb→le, nltb→le, lit≤}
+use lib.IntN.{ℤ, pos}
+use lib.Dec.{T, ltb, ltb→lt, leb→le, nltb→le, lit≤}
 use lib.Arith.{bin-ind}
-use lib.Pow.{pow-add, pow-pos, pow-mono, pow-lt}
+use lib.Pow.{pow-pos, pow-mono, pow-lt}
 use lib.Ieee.{Float, nan, inf, fin, prec, emax, low, odd, units, round, fits, up, down, minus}
 use lib.Ieee as Ieee
-use lib.Ieee.Fits.{up-pos, down-pos, and-l, and-r, two, odd-fits, round-is}
+use lib.Ieee.Fits.{down-pos, and-l, and-r, two, odd-fits, round-is}
 use lib.Ieee.Digits.{minus-val}
 use lib.Ieee.Exact.{HasValue, odd-sign}
 use lib.Ieee.Order.{drop, kept}
-use Rattle.ol_real.specs.Ieee754.{Format, lowest, Form, Number, gap, Nearest, Overflows, Rounds, OneForm, Counts, Datum, IsValue}
-use Rattle.ol_real.proofs.Rounding.{regrid, mul-even, pow-even, exp-less, top-lead, top-all, top, res, largest, largest-top, top-from, half-pos, over, no-overflow, res-nearest, overflows-units, units-overflow, nearest-one, kept-le}
+use Rattle.ol_spec.proofs.Data.{form-one, fits-form, shift, in-range}
+use Rattle.ol_real.specs.Ieee754.{Format, lowest, Form, Number, gap, Overflows, Rounds, OneForm, Counts, Datum, IsValue}
+use Rattle.ol_real.proofs.Rounding.{exp-less, top-lead, top-all, top, res, largest, largest-top, top-from, half-pos, over, no-overflow, res-nearest, overflows-units, units-overflow, nearest-one, kept-le}
 
 -- ==== lib.Ieee's formats
 
@@ -30,36 +31,10 @@ reaches Ieee.binary64 = lit≤ tt
 
 -- ==== a number has one datum
 
-odd-more : (m n a b : ℕ) → m % 2 ≡ 1 → a < b → m * 2 ^ a ≡ n * 2 ^ b → ⊥
-odd-more m n a b o l h =
-    let e : m ≡ n * 2 ^ (b - a) = eq-of-mul-eq-mul-right (2 ^ a) (pow-pos a) m (n * 2 ^ (b - a)) (h ∙ regrid n b a (le-of-lt l)) in
-    omega (arith, ap (λ (x : ℕ). x % 2) (e ∙ mul-comm n (2 ^ (b - a))) ∙ mul-even (2 ^ (b - a)) n (pow-even (b - a) (omega arith)))
-
-odd-one : (m n a b : ℕ) → m % 2 ≡ 1 → n % 2 ≡ 1 → m * 2 ^ a ≡ n * 2 ^ b → (m ≡ n) × (a ≡ b)
-odd-one m n a b o q h = by-cases (ℕ-discrete a b)
-    (λ e. (eq-of-mul-eq-mul-right (2 ^ b) (pow-pos b) m n (ap (λ (x : ℕ). m * 2 ^ x) (sym e) ∙ h), e))
-    (λ d. absurd (by-cases (decLt a b) (λ l. odd-more m n a b o l h) (λ l. odd-more n m b a q (omega arith) (sym h))))
-
--- an odd number times a power of two, by cases on the two exponents
-odd-exps : (m n : ℕ) (d e : ℤ) → m % 2 ≡ 1 → n % 2 ≡ 1 → m * up d * down e ≡ n * up e * down d → (m ≡ n) × (d ≡ e)
-odd-exps m n (pos a) (pos b) o q h = let r = odd-one m n a b o q (sym (mul-one (m * 2 ^ a)) ∙ h ∙ mul-one (n * 2 ^ b)) in (r .0, ap pos (r .1))
-odd-exps m n (pos a) (negsuc b) o q h = absurd (odd-more n m 0 (a + suc b) q (omega arith) (sym (h ∙ mul-one (n * 1)) ∙ mul-assoc m (2 ^ a) (2 ^ suc b) ∙ ap (λ (x : ℕ). m * x) (sym (pow-add 2 a (suc b)))))
-odd-exps m n (negsuc a) (pos b) o q h = absurd (odd-more m n 0 (b + suc a) o (omega arith) (sym (mul-one (m * 1)) ∙ h ∙ mul-assoc n (2 ^ b) (2 ^ suc a) ∙ ap (λ (x : ℕ). n * x) (sym (pow-add 2 b (suc a)))))
-odd-exps m n (negsuc a) (negsuc b) o q h = let r = odd-one n m (suc a) (suc b) q o (sym (ap (λ (x : ℕ). x * 2 ^ suc a) (mul-one n)) ∙ sym h ∙ ap (λ (x : ℕ). x * 2 ^ suc b) (mul-one m)) in (sym (r .0), ap negsuc (omega (arith, r .1)))
-
 -- m * up d * l is n * down d, and m′ * up e * l is n * down e
 cross : (x y l n dd de : ℕ) → 0 < l → x * l ≡ n * dd → y * l ≡ n * de → x * de ≡ y * dd
 cross x y l n dd de L p q = eq-of-mul-eq-mul-right l L (x * de) (y * dd)
     (mul-right-comm x de l ∙ ap (λ (z : ℕ). z * de) p ∙ mul-right-comm n dd de ∙ ap (λ (z : ℕ). z * dd) (sym q) ∙ mul-right-comm y l dd)
-
-no-zero : (m n : ℕ) (d e : ℤ) → suc m * up d * down e ≡ 0 * up e * n → ⊥
-no-zero m n d e h = lt-irrefl 0 (lt-of-lt-of-le (mul-pos (mul-pos (zero-lt-suc m) (up-pos d)) (down-pos e)) (le-of-eq (h ∙ ap (λ (x : ℕ). x * n) (zero-mul (up e)) ∙ zero-mul n)))
-
-form-one : (m n : ℕ) (d e : ℤ) → OneForm m d → OneForm n e → m * up d * down e ≡ n * up e * down d → (m ≡ n) × (d ≡ e)
-form-one zero zero d e o q h = (refl, o ∙ sym q)
-form-one zero (suc n) d e o q h = absurd (no-zero n (down e) e d (sym h))
-form-one (suc m) zero d e o q h = absurd (no-zero m (down d) d e h)
-form-one (suc m) (suc n) d e o q h = odd-exps (suc m) (suc n) d e o q h
 
 pub datum-one : (f : Format) (s : Bool) (n : ℕ) (x y : Float) → Datum f s n x → Datum f s n y → x ≡ y
 datum-one f s n (fin t m d) (fin u k e) a b =
@@ -112,16 +87,6 @@ number-below f n P M w =
     lt-of-le-of-lt (le-of-eq (w .form .count)) (lt-of-lt-of-le (mul-lt-mul-of-pos-right (w .form .digits) (pow-pos (w .k)))
     (le-trans (mul-le-mul-left (2 ^ f .p) (pow-mono (omega (arith, w .form .range)))) (le-of-eq (top-all f P M 0 1 (zero-lt-suc 0)))))
 
-flat : (e : ℤ) → up e * down e ≡ 1 → e ≡ pos 0
-flat (pos zero) h = refl
-flat (pos (suc k)) h = absurd (omega (arith, pow-succ' 2 k, mul-one (2 ^ suc k)))
-flat (negsuc k) h = absurd (omega (arith, pow-succ' 2 k, one-mul (2 ^ suc k)))
-
-fits-form : (f : Ieee.Format) (s : Bool) (m : ℕ) (e : ℤ) → T (fits f (fin s m e)) → OneForm m e
-unfolding fits
-fits-form f s zero e t = flat e (eqb→eq (up e * down e) 1 t)
-fits-form f s (suc m) e t = eqb→eq (suc m % 2) 1 (search (and-l))
-
 pub fits-datum : (f : Ieee.Format) (s : Bool) (n : ℕ) (x : Float) → T (fits f x) → HasValue x s n (2 ^ low f) → Datum (of f) s n x
 fits-datum f s n (fin t m e) h v = (v .0, fits-form f t m e h, v .1)
 
@@ -138,17 +103,6 @@ value-fits f (fin s m e) v =
     (datum-one (of f) s (c * 2 ^ w .k) y (fin s m e) (fits-datum f s (c * 2 ^ w .k) y h (odd-sign (suc (prec f)) s c (w .k) (low f)))
     (refl, v .0, subst (λ (x : ℕ). Counts (of f) m e x) (w .form .count) (v .2))) h
 
--- m * 2 ^ e in units is m times a power of two
-shift : (m : ℕ) (e : ℤ) (l : ℕ) → down e ≤ 2 ^ l → (i : ℕ) × (m * up e * 2 ^ l ≡ m * 2 ^ i * down e)
-shift m (pos j) l h = (j + l, mul-assoc m (2 ^ j) (2 ^ l) ∙ ap (λ (x : ℕ). m * x) (sym (pow-add 2 j l)) ∙ sym (mul-one (m * 2 ^ (j + l))))
-shift m (negsuc j) l h =
-    let g : suc j ≤ l = by-cases (decLe (suc j) l) (λ y. y) (λ n. absurd (lt-irrefl (2 ^ l) (lt-of-lt-of-le (pow-lt (omega arith)) h))) in
-    (l - suc j, ap (λ (x : ℕ). x * 2 ^ l) (mul-one m) ∙ regrid m l (suc j) g)
-
-in-range : (f : Format) (x n d : ℕ) → x * 2 ^ lowest f ≡ n * d → x < 2 ^ suc (f .emax) * d → n < 2 ^ (lowest f + suc (f .emax))
-in-range f x n d e h = lt-of-mul-lt-mul-right d (lt-of-le-of-lt (le-of-eq (sym e)) (lt-of-lt-of-le (mul-lt-mul-of-pos-right h (pow-pos (lowest f)))
-    (le-of-eq (mul-right-comm (2 ^ suc (f .emax)) d (2 ^ lowest f) ∙ ap (λ (x : ℕ). x * d) (mul-comm (2 ^ suc (f .emax)) (2 ^ lowest f) ∙ sym (pow-add 2 (lowest f) (suc (f .emax))))))))
-
 pub fits-value : (f : Ieee.Format) (x : Float) → T (fits f x) → IsValue (of f) x
 unfolding fits
 fits-value f nan h = tt
@@ -164,7 +118,7 @@ fits-value f (fin s (suc m) e) h =
     let b : down e ≤ 2 ^ low f = leb→le (down e) (2 ^ low f) (search (and-l, and-r)) in
     let c : suc m * up e < 2 ^ suc (emax f) * down e = ltb→lt (suc m * up e) (2 ^ suc (emax f) * down e) (search (and-l, and-r)) in
     let i = shift (suc m) e (low f) b in
-    (fits-form f s (suc m) e h, suc m * 2 ^ i .0, i .1, number-of (of f) (suc m) (i .0) (two f) (reaches f) a (in-range (of f) (suc m * up e) (suc m * 2 ^ i .0) (down e) (i .1) c))
+    (fits-form f s (suc m) e h, suc m * 2 ^ i .0, i .1, number-of (of f) (suc m) (i .0) (two f) (reaches f) a (in-range (low f) (suc (emax f)) (suc m * up e) (suc m * 2 ^ i .0) (down e) (i .1) c))
 
 -- ==== the datum of the nearest number is the rounded one
 module _ (f : Format) (P : 2 ≤ f .p) (M : 1 ≤ f .emax) (s : Bool) (num den : ℕ) (D : 0 < den) where

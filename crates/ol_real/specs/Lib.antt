@@ -1,4 +1,5 @@
 pub mod Ieee754
 pub mod Encoding
 pub mod Holds
+pub mod Operators
 pub mod Kept

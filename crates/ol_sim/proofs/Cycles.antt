@@ -10,7 +10,7 @@ use lib.Seq.{length-take-le}
 use Rattle.ol_spec.specs.Limits.{relayLoader}
 use Rattle.ol_spec.specs.Syntax.{File, Node, variables, main}
 use Rattle.ol_spec.specs.Read.{readFile}
-use Rattle.ol_spec.specs.Answers.{faultAt}
+use Rattle.ol_spec.specs.Answers.{faultAt, cycledFault}
 use Rattle.ol_spec.specs.State.{goodState, goodInputs}
 use Rattle.ol_spec.specs.Admission as Adm
 use Rattle.ol_spec.specs.Cycle.{CycleCall, cycle, cycleJudged, cycleUnless, fits17, noCycle, endRun, mainRun}
@@ -36,13 +36,14 @@ as-call : {w : CycleCall} {r : Cycled} {n t : List ℕ} (v : CycleCall) → w �
 as-call v e h =
     record {
       answered = h .answered ∙ sym (ap (λ (c : CycleCall). c .answer) e);
+      told = h .told ∙ sym (ap (λ (c : CycleCall). cycledFault (c .answer)) e);
       renewed = h .renewed ∙ sym (ap (λ (c : CycleCall). c .new) e);
       valued = h .valued ∙ sym (ap (λ (c : CycleCall). c .values) e);
     }
 
 -- a refusal writes nothing
 refused-as : {r : Cycled} (n p : ℕ) (new vals : List ℕ) → r ≡ Cyc.Refused (faultAt n p) → CyclesAs (noCycle n p new vals) r new vals
-refused-as n p new vals e = record { answered = e; renewed = refl; valued = refl }
+refused-as n p new vals e = record { answered = e; told = ap cycledFault e; renewed = refl; valued = refl }
 
 -- ---- 15, 16 and 17
 
@@ -65,7 +66,7 @@ module _ (f : File) (old ins new vals : List ℕ) {r : Cycled} where
 
   pub unless-run : {n v : List ℕ} → goodState f (valuesIn f) old ≡ true → goodInputs f ins ≡ true → fits17 f new vals ≡ true → Cycles (endRun f old vals (mainRun f (valuesIn f) old ins)) r n v → CyclesAs (cycleJudged (whole f) old ins new vals) r n v
   unless-run p q t h =
-      as-call (endRun f old vals (mainRun f (valuesIn f) old ins)) (bools f old ins new vals true true true p q t) (record { answered = h .answered; renewed = h .renewed; valued = h .valued })
+      as-call (endRun f old vals (mainRun f (valuesIn f) old ins)) (bools f old ins new vals true true true p q t) (record { answered = h .answered; told = ap cycledFault (h .answered); renewed = h .renewed; valued = h .valued })
 
 -- ---- lengths
 

@@ -10,7 +10,7 @@ use lib.Seq.{take-at, length-take-le}
 use Rattle.ol_spec.specs.Limits.{relayLoader}
 use Rattle.ol_spec.specs.Syntax.{File, Node, NodeKind, Function, Operator, Imported, noNode, main}
 use Rattle.ol_spec.specs.Cell.{cells}
-use Rattle.ol_spec.specs.Answers.{faultAt}
+use Rattle.ol_spec.specs.Answers.{faultAt, startedFault}
 use Rattle.ol_spec.specs.Step.{instanceSize, siteSizeBy, sizesAt, freshAt, freshRecord}
 use Rattle.ol_spec.specs.State.{globalsOf, freshState}
 use Rattle.ol_spec.specs.Admission as Adm
@@ -65,7 +65,9 @@ module _ {s rows tab consts : List ℕ} {j : Judged} (r : FileReads s) (h : Judg
 -- ---- the ways out
 
 as-call : {w : StartCall} {a : Started} {t : List ℕ} (v : StartCall) → w ≡ v → a ≡ v .answer → t ≡ v .state → StartsAs w a t
-as-call v e p q = record { answered = p ∙ sym (ap (λ (c : StartCall). c .answer) e); written = q ∙ sym (ap (λ (c : StartCall). c .state) e) }
+as-call v e p q =
+    let a = p ∙ sym (ap (λ (c : StartCall). c .answer) e) in
+    record { answered = a; told = ap startedFault a; written = q ∙ sym (ap (λ (c : StartCall). c .state) e) }
 
 pub starts-refused : (s : List ℕ) (st : List ℕ) {x : Fault} → Adm.judge relayLoader s ≡ Adm.refused (x .number) (x .place) → StartsAs (start relayLoader s st) (Sta.Refused x) st
 unfolding start

@@ -33,6 +33,7 @@ ghost use Rattle.ol_tables.specs.At.{fileAt};
 ghost use Rattle.ol_tables.specs.Stands.{FileReads};
 ghost use Rattle.ol_tables.specs.Tables.{Rows, sizeCap};
 ghost use Rattle.ol_check.specs.Founds.{placeOf};
+ghost use Rattle.ol_sim.specs.Calls.{AdmitsAs};
 ghost use Rattle.ol_sim.specs.Judging.{Judges, Low, verdictOf, from6, from7, from11, from12, from13, MainReady, ConstantsReady, OrderReady, ShapesReady, NamesReady, SectionsReady, FileReady, Loads};
 
 // What judging a file gives: its first fault, or the length of its state, its main node's number, how many
@@ -301,7 +302,7 @@ fn verdict_on(j: Judged) -> Verdict
 // Admission of a file of at most 1,024 bytes.
 pub(crate) fn admit_small(file: &[u8], enums: usize, places: &[usize]) -> Verdict
     requires { ⌜ Loads (now file) enums (now places) × (length (now file) ≤ 1024) ⌝ }
-    ensures { λ r. ⌜ r ≡ admission relayLoader (now (file .entry)) ⌝ }
+    ensures { λ r. ⌜ AdmitsAs (admission relayLoader (now (file .entry))) r ⌝ }
 {
     let mut rows = [0usize; ROWS];
     let mut tab = [0u8; SMALL_TAB];
@@ -312,7 +313,7 @@ pub(crate) fn admit_small(file: &[u8], enums: usize, places: &[usize]) -> Verdic
 // Admission of any file.
 pub(crate) fn admit_large(file: &[u8], enums: usize, places: &[usize]) -> Verdict
     requires { ⌜ Loads (now file) enums (now places) ⌝ }
-    ensures { λ r. ⌜ r ≡ admission relayLoader (now (file .entry)) ⌝ }
+    ensures { λ r. ⌜ AdmitsAs (admission relayLoader (now (file .entry))) r ⌝ }
 {
     let mut rows = [0usize; ROWS];
     let mut tab = [0u8; LARGE_TAB];

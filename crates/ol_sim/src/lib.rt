@@ -15,15 +15,14 @@ use ol_spec::Started;
 use ol_spec::Verdict;
 use starting::start_large;
 use starting::start_small;
-ghost use mathlib.Core.Path.{_≡_};
 ghost use Rattle.ol_spec.specs.Limits.{relayLoader};
 ghost use Rattle.ol_spec.specs.Admission.{admission};
 ghost use Rattle.ol_spec.specs.Cycle.{ordering, start, cycle};
-ghost use Rattle.ol_sim.specs.Calls.{OrdersAs, StartsAs, CyclesAs};
+ghost use Rattle.ol_sim.specs.Calls.{AdmitsAs, OrdersAs, StartsAs, CyclesAs};
 
 // Whether a file is admitted: the length of its state, or its first fault.
 pub fn admission(file: &[u8]) -> Verdict
-    ensures { λ r. ⌜ r ≡ admission relayLoader (now (file .entry)) ⌝ }
+    ensures { λ r. ⌜ AdmitsAs (admission relayLoader (now (file .entry))) r ⌝ }
 {
     let mut starts = [0usize; 32];
     match load_file(file, &mut starts) {

@@ -60,7 +60,7 @@ first-variant ([] ∷ ls) zero h b = absurd (omega (arith, h .0 .some-variant))
 first-variant ((v ∷ vs) ∷ ls) zero h b = here refl
 first-variant (l ∷ ls) (suc e) h b = in-right l (first-variant ls e (h .1) (omega arith))
 
-no-members : (l : List ℕ) → ((c : ℕ) → ¬ (c ∈ l)) → l ≡ []
+pub no-members : (l : List ℕ) → ((c : ℕ) → ¬ (c ∈ l)) → l ≡ []
 no-members [] h = refl
 no-members (x ∷ l) h = absurd (h x (here refl))
 
@@ -81,7 +81,7 @@ module _ (f : File) (short : (x : ℕ) → T (member x (concat (f .enums))) → 
   abbrev never : ℕ → ℕ → Bool
   never c m = false
 
-  constant-fine : (xs : List ℕ) (vs : List Value) (e : Expr) → AllFine ens vs → Plain never e → FineOut ens (eval (globals f xs vs) noVariables noCalls e [] .out)
+  pub constant-fine : (xs : List ℕ) (vs : List Value) (e : Expr) → AllFine ens vs → Plain never e → FineOut ens (eval (globals f xs vs) noVariables noCalls e [] .out)
   constant-fine xs vs e h p =
       eval-meets {calls = noCalls} (record { closed = fine-closed ens; variants = λ x t. (t, short x t); constants = h; keeps = λ k ws r t fs q. absurd t }) noVariables tt tt e [] p
       (subst (λ l. Good (globals f xs vs) anyRecord l []) (sym (no-members (callees e) (λ c m. callee-allowed never e c p m .1))) none-good) .out
@@ -104,6 +104,10 @@ module _ (f : File) (short : (x : ℕ) → T (member x (concat (f .enums))) → 
           (w .0, w .1 ∙ omega (arith, length-append us (fit (c .1 .ty) v ∷ [])))
       go Out.Failure q e k = let z : _≡_ {A = ℕ} 0 1 = cc in absurd (omega arith)
       go Out.Overflow q e k = let z : _≡_ {A = ℕ} 0 1 = cc in absurd (omega arith)
+
+-- names are short
+pub short-names : (f : File) → FileRead f → (x : ℕ) → T (member x (concat (f .enums))) → x < 2 ^ 16
+short-names f read x t = concat-all NameRead (f .enums) x (enums-names (f .enums) (read .enumsRead)) (member-in x (concat (f .enums)) t)
 
 -- ---- no ring
 
@@ -143,20 +147,35 @@ pub record Facts (f : File) (vs : List Value) : Type 0 where
   pub some-node : 1 ≤ length (f .nodes)
   pub mainly : MainOk f vs
 
+-- no constant has a call
+pub plain-constants : (f : File) → fault9 f ≡ none → All ConstantRead (f .constants) → All (λ c. Plain (λ c m. false) (c .1 .value)) (placedConstants f)
+unfolding fault9
+plain-constants f no9 read =
+    let h = inConstant (callsWhere (λ c args. true)) in
+    let xs = concat (map h (placedConstants f)) in
+    let ys = concat (map (nodeCalls f) (numbered 0 (placedNodes f))) in
+    let clean = clean-each h (placedConstants f) (clean-parts xs ys (first-clean (xs ++ ys) no9) .0) in
+    go (placedConstants f) (placed-all constantSize ConstantRead _ (f .constants) read) clean
+  where
+    go : (cs : List (ℕ × Constant)) → All (λ p. ConstantRead (p .1)) cs → All (λ c. Clean (inConstant (callsWhere (λ c args. true)) c)) cs
+        → All (λ c. Plain (λ c m. false) (c .1 .value)) cs
+    go [] r c = tt
+    go (p ∷ cs) r c = (plain-calls (λ c m. false) _ (p .1 .value) (r .0 .0) (c .0), go cs (r .1) (c .1))
+
 module _ (ld : Loader) (s : List ℕ) (f : File) (vs : List Value) (read : FileRead f) (a : Admits ld s f vs) where
   abbrev g : Globals
   g = globalsOf f vs
 
   is-short : (x : ℕ) → T (member x (concat (f .enums))) → x < 2 ^ 16
-  is-short x t = concat-all NameRead (f .enums) x (enums-names (f .enums) (read .enumsRead)) (member-in x (concat (f .enums)) t)
+  is-short = short-names f read
 
-  node-read : (k : ℕ) → k < length (f .nodes) → NodeRead (length (f .enums)) (getD (f .nodes) k noNode)
+  pub node-read : (k : ℕ) → k < length (f .nodes) → NodeRead (length (f .enums)) (getD (f .nodes) k noNode)
   node-read k b = all-at (NodeRead (length (f .enums))) (f .nodes) k noNode (read .nodesRead) b
 
   beyond : (k : ℕ) → ¬ (k < length (f .nodes)) → getD (f .nodes) k noNode ≡ noNode
   beyond k h = List·getD-eq-default (f .nodes) noNode (omega arith)
 
-  plain-for : (k : ℕ) → k < length (f .nodes) → PlainEqs (okFor f k (getD (f .nodes) k noNode)) (getD (f .nodes) k noNode .equations)
+  pub plain-for : (k : ℕ) → k < length (f .nodes) → PlainEqs (okFor f k (getD (f .nodes) k noNode)) (getD (f .nodes) k noNode .equations)
   plain-for k b = node-plain f (a .no9) k b (node-read k b .eqs)
 
   is-lower : (k c : ℕ) → c ∈ sites (getD (f .nodes) k noNode) → c < k
@@ -168,7 +187,7 @@ module _ (ld : Loader) (s : List ℕ) (f : File) (vs : List Value) (read : FileR
       ltb→lt c k (T-and (ltb c k) _ (T-and (ltb c k && mayCall (n .kind) (calleeIn f c .kind)) _ (w .1) .0) .0))
       (λ h. absurd (in-nil (subst (λ n. c ∈ sites n) (beyond k h) m)))
 
-  ok-may : (k : ℕ) → k < length (f .nodes) → (c m : ℕ) → T (okFor f k (getD (f .nodes) k noNode) c m) → T (mayBe g c m)
+  pub ok-may : (k : ℕ) → k < length (f .nodes) → (c m : ℕ) → T (okFor f k (getD (f .nodes) k noNode) c m) → T (mayBe g c m)
   ok-may k b c m t =
       let n = getD (f .nodes) k noNode in
       let w = T-and (ltb c k && mayCall (n .kind) (calleeIn f c .kind)) _ t in
@@ -203,19 +222,8 @@ module _ (ld : Loader) (s : List ℕ) (f : File) (vs : List Value) (read : FileR
       defaults-fine (variables n) (join (n .inputs ++ n .outputs) (n .locals) (join (n .inputs) (n .outputs) (r .ins) (r .outs)) (r .locs)))
       (λ h. subst (λ n. AllFine (concat (f .enums)) (defaults (f .enums) (variables n))) (sym (beyond k h)) tt)
 
-  constants-plain : All (λ c. Plain (λ c m. false) (c .1 .value)) (placedConstants f)
-  unfolding fault9
-  constants-plain =
-      let h = inConstant (callsWhere (λ c args. true)) in
-      let xs = concat (map h (placedConstants f)) in
-      let ys = concat (map (nodeCalls f) (numbered 0 (placedNodes f))) in
-      let clean = clean-each h (placedConstants f) (clean-parts xs ys (first-clean (xs ++ ys) (a .no9)) .0) in
-      go (placedConstants f) (placed-all constantSize ConstantRead _ (f .constants) (read .constantsRead)) clean
-    where
-      go : (cs : List (ℕ × Constant)) → All (λ p. ConstantRead (p .1)) cs → All (λ c. Clean (inConstant (callsWhere (λ c args. true)) c)) cs
-          → All (λ c. Plain (λ c m. false) (c .1 .value)) cs
-      go [] r c = tt
-      go (p ∷ cs) r c = (plain-calls (λ c m. false) _ (p .1 .value) (r .0 .0) (c .0), go cs (r .1) (c .1))
+  pub constants-plain : All (λ c. Plain (λ c m. false) (c .1 .value)) (placedConstants f)
+  constants-plain = plain-constants f (a .no9) (read .constantsRead)
 
   are-constants : AllFine (concat (f .enums)) vs × (length vs ≡ length (f .constants))
   unfolding constants
@@ -261,7 +269,7 @@ module _ (ld : Loader) (s : List ℕ) (f : File) (vs : List Value) (read : FileR
         let shaped = all-at (Shaped f) (n .equations) i noEquation (shapes f (a .no10) k b) h in
         arity-same (rhsOf (q .rhs)) ∙ shaped-arity f q shaped (r .named) (arity-some (q .rhs) (r .right .1) (plain-at (mayBe g) (n .equations) i (is-plain k)))
 
-    node-ok : NodeOk g n
+    pub node-ok : NodeOk g n
     node-ok =
         record {
           distinct = distinct-names f (a .no6) k b;

@@ -16,7 +16,7 @@ use Rattle.ol_theory.specs.System as Y
 use Rattle.ol_theory.proofs.SystemProof as YP
 use Rattle.ol_spec.specs.Lists.{maybe, concat, member, position}
 use Rattle.ol_spec.specs.Syntax.{bool, Variable, Node, File, variables, variableNames, nameOf, main, rhsOf}
-use Rattle.ol_spec.specs.Cell.{tag}
+use Rattle.ol_spec.specs.Cell.{tag, cells}
 use Rattle.ol_spec.specs.Order.{order}
 use Rattle.ol_spec.specs.Eval.{Globals, Outcomes, values, failure, overflow}
 use Rattle.ol_spec.specs.Step.{isFresh, oldCells, oldSegs, assign, noEquation, equationAt, evalEquation, runAll, calls}
@@ -232,10 +232,11 @@ module _ (f : File) (vs : List Value) (ok : MainOk f vs) (old : List ℕ) where
           holds = λ i b. satisfies-sat ds i b size (all i b);
         }
 
-    pub solves : (cs : List Value) (ss : List (List ℕ)) → Y.runEqs sys (order (n .equations)) (begin ins) segs ≡ Y.finished cs ss → InKind f cs → Solves f vs old ins cs
+    pub solves : (cs : List Value) (ss : List (List ℕ)) → Y.runEqs sys (order (n .equations)) (begin ins) segs ≡ Y.finished cs ss → InKind f cs → Solves f vs old ins cs (cells cs)
     solves cs ss e k =
         let sol = YP.run-solution sys sys-lawful (order (n .equations)) sys-valid (begin ins) segs begins counted cs ss e (same-kinds ins kinds cs k) in
         record {
+          bytes = refl;
           choice = chosen cs k sol;
           satisfied = λ i b. sat-satisfies cs i b (sol .holds i b);
           unique = λ ds c d.

@@ -73,7 +73,7 @@ each-tags ens (x ∷ xs) s h =
     let w = T-and (goodCell (concat ens) (take 9 s) && inType ens (x .ty) (valueOf (take 9 s))) _ h in
     ap₂ {C = List ℕ} (λ a l. a ∷ l) (inType-tag ens (x .ty) (valueOf (take 9 s)) (T-and (goodCell (concat ens) (take 9 s)) _ (w .0) .1)) (each-tags ens xs (drop 9 s) (w .1))
 
-each-fine : (ens : List (List ℕ)) → ((x : ℕ) → T (member x (concat ens)) → x < 2 ^ 16) → (xs : List Variable) (s : List ℕ) → T (goodEach ens xs s)
+pub each-fine : (ens : List (List ℕ)) → ((x : ℕ) → T (member x (concat ens)) → x < 2 ^ 16) → (xs : List Variable) (s : List ℕ) → T (goodEach ens xs s)
     → AllFine (concat ens) (valuesOf (length xs) s)
 each-fine ens short [] s h = tt
 each-fine ens short (x ∷ xs) s h =
@@ -86,7 +86,7 @@ default-tags ens (x ∷ xs) = ap (λ l. kind ens (x .ty) ∷ l) (default-tags en
 
 -- ---- what a record's own part tells does not depend on what follows it
 
-cells-part : (vs : List ℕ) (m : ℕ) (a b c : List ℕ) → length a ≡ 9 * m → (goodCells vs m (a ++ b) ≡ goodCells vs m (a ++ c)) × (valuesOf m (a ++ b) ≡ valuesOf m (a ++ c))
+pub cells-part : (vs : List ℕ) (m : ℕ) (a b c : List ℕ) → length a ≡ 9 * m → (goodCells vs m (a ++ b) ≡ goodCells vs m (a ++ c)) × (valuesOf m (a ++ b) ≡ valuesOf m (a ++ c))
 cells-part vs zero a b c e = (refl, refl)
 cells-part vs (suc m) a b c e =
     let h : 9 ≤ length a = omega arith in
@@ -103,7 +103,7 @@ cells-part vs (suc m) a b c e =
           ∙ sym (ap₂ {C = List Value} (λ x y. valueOf x ∷ valuesOf m y) tc dc),
     )
 
-own-part : (g : Globals) (n : Node) (a b c : List ℕ) → length a ≡ ownSize n
+pub own-part : (g : Globals) (n : Node) (a b c : List ℕ) → length a ≡ ownSize n
     → (T (goodOwn g n (a ++ b)) → T (goodOwn g n (a ++ c))) × (oldCells n (a ++ b) ≡ oldCells n (a ++ c))
 unfolding goodOwn
 own-part g n [] b c e = absurd (omega arith)
@@ -118,7 +118,7 @@ own-part g n (x ∷ a) b c e =
 abbrev pub freshSeg : Globals → Equation → List ℕ
 freshSeg g q = concat (map (freshAt g (length (g .nodes))) (callees (q .rhs)))
 
-fresh-concat : (g : Globals) (qs : List Equation) → concat (map (freshSeg g) qs) ≡ concat (map (freshAt g (length (g .nodes))) (concat (map equationSites qs)))
+pub fresh-concat : (g : Globals) (qs : List Equation) → concat (map (freshSeg g) qs) ≡ concat (map (freshAt g (length (g .nodes))) (concat (map equationSites qs)))
 fresh-concat g [] = refl
 fresh-concat g (q ∷ qs) =
     let h = freshAt g (length (g .nodes)) in
@@ -130,25 +130,25 @@ abbrev pub Not15 : File → List Value → Made → Type 0
 Not15 f vs m = (goodState f vs (m .old) ≡ true) × ((q : ℕ) → ¬ (m .result .answer ≡ Cyc.Refused (faultAt 15 q)))
 
 module _ (f : File) (vs : List Value) (F : Facts f vs) where
-  abbrev g : Globals
+  abbrev pub g : Globals
   g = globalsOf f vs
 
-  abbrev n : Node
+  abbrev pub n : Node
   n = main f
 
-  abbrev K : ℕ
+  abbrev pub K : ℕ
   K = length (f .nodes) - 1
 
-  is-main : n ≡ getD (f .nodes) K noNode
+  pub is-main : n ≡ getD (f .nodes) K noNode
   is-main = main-at (f .nodes) (F .some-node)
 
-  plain-main : PlainEqs (mayBe g) (n .equations)
+  pub plain-main : PlainEqs (mayBe g) (n .equations)
   plain-main = subst (λ x. PlainEqs (mayBe g) (x .equations)) (sym is-main) (F .callable .plain K)
 
-  abbrev p : ℕ → List ℕ → Bool
+  abbrev pub p : ℕ → List ℕ → Bool
   p = isGood f vs
 
-  abbrev Inst : List ℕ → Type 0
+  abbrev pub Inst : List ℕ → Type 0
   Inst r = Instance g p n r
 
   -- well formed: what 15 asks
@@ -184,11 +184,11 @@ module _ (f : File) (vs : List Value) (F : Facts f vs) where
         inst = record { sized = length-drop (headSize f) old ∙ omega arith; own = v .0; inner = v .1 };
       }
 
-  head-length : length (cells vs) ≡ headSize f
+  pub head-length : length (cells vs) ≡ headSize f
   head-length = length-cells vs ∙ ap (λ m. 9 * m) (F .constantCount)
 
   -- a state from its parts
-  well-parts : (r : List ℕ) → Inst r → StateWell (cells vs ++ r)
+  pub well-parts : (r : List ℕ) → Inst r → StateWell (cells vs ++ r)
   unfolding stateSize
   well-parts r i =
       record {
@@ -203,7 +203,7 @@ module _ (f : File) (vs : List Value) (F : Facts f vs) where
     pub first : isFresh (drop (headSize f) st) ≡ b
     pub segs : oldSegs g n (drop (headSize f) st) ≡ ss
 
-  parts-of : (b : ℕ) (cs : List Value) (ss : List (List ℕ)) → AllFine (concat (f .enums)) cs → length cs ≡ length (variables n) → Segs g p (n .equations) ss
+  pub parts-of : (b : ℕ) (cs : List Value) (ss : List (List ℕ)) → AllFine (concat (f .enums)) cs → length cs ≡ length (variables n) → Segs g p (n .equations) ss
       → Parts (cells vs ++ (b ∷ cells cs ++ concat ss)) cs (eqb b 0) ss
   parts-of b cs ss fine e h =
       let q = drop-at (cells vs) (b ∷ cells cs ++ concat ss) (headSize f) head-length in
@@ -215,13 +215,13 @@ module _ (f : File) (vs : List Value) (F : Facts f vs) where
 
   -- ---- the start
 
-  fresh-inst : Inst (freshRecord g n)
+  pub fresh-inst : Inst (freshRecord g n)
   fresh-inst = subst (λ m. Instance g p m (freshRecord g m)) (sym is-main) (fresh-main (F .callable) K (omega (arith, F .some-node)))
 
-  fresh-cells : AllFine (concat (f .enums)) (defaults (f .enums) (variables n))
+  pub fresh-cells : AllFine (concat (f .enums)) (defaults (f .enums) (variables n))
   fresh-cells = subst (λ m. AllFine (concat (f .enums)) (defaults (f .enums) (variables m))) (sym is-main) (F .callable .fresh-fine K)
 
-  fresh-segs : Segs g p (n .equations) (map (freshSeg g) (n .equations))
+  pub fresh-segs : Segs g p (n .equations) (map (freshSeg g) (n .equations))
   fresh-segs = go (n .equations) (λ c m. fresh-rec (F .callable) (length (f .nodes)) c (low c m) (low c m))
     where
       low : (c : ℕ) → c ∈ sites n → c < length (f .nodes)
@@ -248,20 +248,20 @@ module _ (f : File) (vs : List Value) (F : Facts f vs) where
   -- ---- a cycle
 
   module _ (old ins : List ℕ) (h : StateWell old) (good-ins : T (goodInputs f ins)) where
-    abbrev rec : List ℕ
+    abbrev pub rec : List ℕ
     rec = drop (headSize f) old
 
-    abbrev ws : List Value
+    abbrev pub ws : List Value
     ws = valuesOf (length (n .inputs)) ins
 
-    abbrev u : Run
+    abbrev pub u : Run
     u = mainRun f vs old ins
 
-    each : T (goodEach (f .enums) (n .inputs) ins)
+    pub each : T (goodEach (f .enums) (n .inputs) ins)
     unfolding goodInputs
     each = T-and (eqb (length ins) (9 * length (n .inputs))) _ good-ins .1
 
-    ran : RunGood (Fine (concat (f .enums))) g p n (length (variables n)) u
+    pub ran : RunGood (Fine (concat (f .enums))) g p n (length (variables n)) u
     unfolding mainRun
     ran =
         let fine = each-fine (f .enums) (F .callable .short) (n .inputs) ins each in
@@ -289,17 +289,17 @@ module _ (f : File) (vs : List Value) (F : Facts f vs) where
     unfolding mainRun run
     finishes e = sym (run-theory f vs (F .mainly) old ws) ∙ ap (λ x. viewOn n g (calls g) (isFresh rec) (oldCells n rec) x (u .cells) (u .segs)) e
 
-    new-cells : InKind f (oldCells n rec) → u .end ≡ finished → InKind f (u .cells) → Solves f vs old ws (u .cells)
+    new-cells : InKind f (oldCells n rec) → u .end ≡ finished → InKind f (u .cells) → Solves f vs old ws (u .cells) (cells (u .cells))
     new-cells hk e k = solves f vs (F .mainly) old ws (length-values (length (n .inputs)) ins) begins (begin-kinds hk) counted (u .cells) (u .segs) (finishes e) k
 
     pub given-back : valuesOf (length (variables n)) (cells (u .cells)) ≡ u .cells
     given-back = ap (λ m. valuesOf m (cells (u .cells))) (sym (ran .counted)) ∙ cells-values (concat (f .enums)) (u .cells) (ran .fine)
 
     -- the state that an answered cycle leaves
-    abbrev answered : List ℕ
+    abbrev pub answered : List ℕ
     answered = take (headSize f) old ++ startedRecord (u .cells) (u .segs)
 
-    answered-well : StateWell answered
+    pub answered-well : StateWell answered
     answered-well = subst (λ l. StateWell (l ++ startedRecord (u .cells) (u .segs))) (sym (h .head)) (well-parts (startedRecord (u .cells) (u .segs)) (started-instance u ran))
 
     pub answered-parts : Parts answered (u .cells) false (u .segs)
@@ -310,25 +310,25 @@ module _ (f : File) (vs : List Value) (F : Facts f vs) where
     answered-ok k = record { well = answered-well; kinds = ap (map tag) (answered-parts .cells) ∙ k }
 
     -- the state that a cycle leaves where evaluation fails: the record's own part is the old one
-    abbrev failed : List ℕ
+    abbrev pub failed : List ℕ
     failed = take (headSize f + ownSize n) old ++ concat (u .segs)
 
-    abbrev own : List ℕ
+    abbrev pub own : List ℕ
     own = take (ownSize n) rec
 
-    own-length : length own ≡ ownSize n
+    pub own-length : length own ≡ ownSize n
     own-length = length-take-le (ownSize n) rec (omega (arith, h .inst .sized))
 
-    own-kept : (T (goodOwn g n rec) → T (goodOwn g n (own ++ concat (u .segs)))) × (oldCells n rec ≡ oldCells n (own ++ concat (u .segs)))
+    pub own-kept : (T (goodOwn g n rec) → T (goodOwn g n (own ++ concat (u .segs)))) × (oldCells n rec ≡ oldCells n (own ++ concat (u .segs)))
     own-kept =
         subst (λ l. (T (goodOwn g n l) → T (goodOwn g n (own ++ concat (u .segs)))) × (oldCells n l ≡ oldCells n (own ++ concat (u .segs)))) (take-append-drop (ownSize n) rec)
         (own-part g n own (drop (ownSize n) rec) (concat (u .segs)) own-length)
 
-    failed-is : failed ≡ cells vs ++ (own ++ concat (u .segs))
+    pub failed-is : failed ≡ cells vs ++ (own ++ concat (u .segs))
     failed-is =
         ap (λ l. l ++ concat (u .segs)) (take-add (headSize f) (ownSize n) old ∙ ap (λ l. l ++ own) (h .head)) ∙ append-assoc (cells vs) own (concat (u .segs))
 
-    failed-well : StateWell failed
+    pub failed-well : StateWell failed
     failed-well =
         let gs = segs-concat g p (n .equations) (u .segs) (ran .segs) in
         subst StateWell (sym failed-is)
@@ -354,10 +354,10 @@ module _ (f : File) (vs : List Value) (F : Facts f vs) where
       ap (λ j. cycleJudged j old ins new vals) e ∙ ap (λ b. cycleUnless (not b) (not (goodInputs f ins)) (not (fits17 f new vals)) f vs old ins new vals) (well-good h)
 
   -- whatever the kinds, it is not refused with 15, and the state stays well formed
-  abbrev Well : List ℕ → CycleCall → Type 0
+  abbrev pub Well : List ℕ → CycleCall → Type 0
   Well old c = ((q : ℕ) → ¬ (c .answer ≡ Cyc.Refused (faultAt 15 q))) × StateWell (nextState (c .answer) old (c .new))
 
-  run-well : (t : Turn) (old : List ℕ) → StateWell old → T (goodInputs f (t .inputs)) → Well old (endRun f old (t .values) (mainRun f vs old (t .inputs)))
+  pub run-well : (t : Turn) (old : List ℕ) → StateWell old → T (goodInputs f (t .inputs)) → Well old (endRun f old (t .values) (mainRun f vs old (t .inputs)))
   run-well t old h gi = go (mainRun f vs old (t .inputs) .end)
     where
       go : (e : Ended) → Well old (endOn f old (t .values) e (mainRun f vs old (t .inputs) .cells) (mainRun f vs old (t .inputs) .segs))
@@ -365,7 +365,7 @@ module _ (f : File) (vs : List Value) (F : Facts f vs) where
       go (failedAt i) = (λ q e. let z : _≡_ {A = ℕ} 0 1 = cc in omega arith, failed-well old (t .inputs) h gi)
       go (overflowedAt i) = (λ q e. let z : _≡_ {A = ℕ} 0 1 = cc in omega arith, h)
 
-  cycle-well : (ld : Loader) (s : List ℕ) → judge ld s ≡ admitted f vs → (t : Turn) (old : List ℕ) → StateWell old
+  pub cycle-well : (ld : Loader) (s : List ℕ) → judge ld s ≡ admitted f vs → (t : Turn) (old : List ℕ) → StateWell old
       → Well old (cycle ld s old (t .inputs) (t .new) (t .values))
   cycle-well ld s e t old h = rw (cycle-is ld s e old (t .inputs) (t .new) (t .values) h) (go (goodInputs f (t .inputs)) refl (fits17 f (t .new) (t .values)))
     where
@@ -378,7 +378,7 @@ module _ (f : File) (vs : List Value) (F : Facts f vs) where
   abbrev Right : Turn → List ℕ → CycleCall → Type 0
   Right t old c =
       let m = made t old c in
-      KeepsKinds f m → (Answered m → Solves f vs old (lent f m) (given f m)) × InKind f (oldCells n (drop (headSize f) (nextState (c .answer) old (c .new))))
+      KeepsKinds f m → (Answered m → Solves f vs old (lent f m) (given f m) (c .values)) × InKind f (oldCells n (drop (headSize f) (nextState (c .answer) old (c .new))))
 
   run-right : (t : Turn) (old : List ℕ) → StateOk old → T (goodInputs f (t .inputs)) → Right t old (endRun f old (t .values) (mainRun f vs old (t .inputs)))
   run-right t old h gi = go (mainRun f vs old (t .inputs) .end) refl
@@ -391,7 +391,7 @@ module _ (f : File) (vs : List Value) (F : Facts f vs) where
           let back = given-back old (t .inputs) (h .well) gi in
           let ks = subst (InKind f) back (k refl) in
           let cs = new-cells old (t .inputs) (h .well) gi (h .kinds) e ks in
-          (λ a. subst (Solves f vs old (valuesOf (length (n .inputs)) (t .inputs))) (sym back) cs, answered-ok old (t .inputs) (h .well) gi ks .kinds)
+          (λ a. subst (λ ds. Solves f vs old (valuesOf (length (n .inputs)) (t .inputs)) ds (cells (u .cells))) (sym back) cs, answered-ok old (t .inputs) (h .well) gi ks .kinds)
       go (failedAt i) e k = (λ a. let z : _≡_ {A = ℕ} 0 1 = cc in absurd (omega arith), failed-kinds old (t .inputs) (h .well) gi (h .kinds))
       go (overflowedAt i) e k = (λ a. let z : _≡_ {A = ℕ} 0 1 = cc in absurd (omega arith), h .kinds)
 

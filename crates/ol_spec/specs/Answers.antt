@@ -35,13 +35,12 @@ abbrev pub startedFault : Started → Fault
 startedFault Start.Done = noFault
 startedFault (Start.Refused x) = x
 
--- a stopped cycle's number is 18 or 19, a refused one's 1 to 17
 abbrev pub cycledFault : Cycled → Fault
 cycledFault Cyc.Answered = noFault
 cycledFault (Cyc.Stopped x) = x
 cycledFault (Cyc.Refused x) = x
 
--- the number of a cycle whose main equation has this outcome
+-- the number of a cycle whose main equation has this outcome: how a stopped cycle is numbered (Cycle)
 abbrev pub outcomeNumber : Outcome → ℕ
 outcomeNumber (Out.Value v) = 0
 outcomeNumber Out.Failure = 18

@@ -17,7 +17,8 @@ use Rattle.ol_spec.specs.Step.{Ended, finished, failedAt, overflowedAt, 
 use Rattle.ol_spec.specs.Admission.{placeAt, Judged, refused, admitted, judge, headSize, stateSize}
 use Rattle.ol_spec.specs.State.{globalsOf, freshState, goodState, goodInputs}
 use Rattle.ol_spec.specs.declared.Value.{Value}
-use Rattle.ol_spec.specs.Answers.{faultAt}
+use Rattle.ol_spec.specs.Answers.{faultAt, outcomeNumber}
+use Rattle.ol_spec.specs.declared.Outcome.the-variants as Out
 use Rattle.ol_spec.specs.declared.Sorted.{Sorted}
 use Rattle.ol_spec.specs.declared.Sorted.the-variants as Sort
 use Rattle.ol_spec.specs.declared.Started.{Started}
@@ -86,8 +87,8 @@ pub record CycleCall : Type 0 where
 abbrev pub endOn : File → List ℕ → List ℕ → Ended → List Value → List (List ℕ) → CycleCall
 endOn f old vals finished cs segs = record { answer = Cyc.Answered; new = take (headSize f) old ++ startedRecord cs segs; values = cells cs }
 endOn f old vals (failedAt i) cs segs =
-    record { answer = Cyc.Stopped (faultAt 18 i); new = take (headSize f + ownSize (main f)) old ++ concat segs; values = vals }
-endOn f old vals (overflowedAt i) cs segs = record { answer = Cyc.Stopped (faultAt 19 i); new = old; values = vals }
+    record { answer = Cyc.Stopped (faultAt (outcomeNumber Out.Failure) i); new = take (headSize f + ownSize (main f)) old ++ concat segs; values = vals }
+endOn f old vals (overflowedAt i) cs segs = record { answer = Cyc.Stopped (faultAt (outcomeNumber Out.Overflow) i); new = old; values = vals }
 
 -- the main instance's run
 unfoldable pub mainRun : File → List Value → List ℕ → List ℕ → Run

@@ -1,7 +1,21 @@
 -- the public calls: the ordering, the start, the cycle; each answer's number and place; demand 3
 pub mod Cycle
 pub mod Answers
+pub mod Faults
 pub mod Demand3
+-- the 1991 paper's `pre` and `->`
+pub mod Lustre
+-- the Rust source, as a definition
+pub mod RustLeaves
+pub mod RustOrder
+pub mod RustSim
+pub mod RustState
+pub mod AsRust
+pub mod Instances
+pub mod Sequences
+pub mod RustRuns
+pub mod LustreRuns
+pub mod Departures
 -- admission (6 to 14), the state's bytes and the inputs (15, 16)
 pub mod Admission
 pub mod State

@@ -1,9 +1,8 @@
 -- `ol_order::evaluation_order` meets its contract.
-use mathlib.Core.Path.{ap, _∙_}
+use mathlib.Core.Path.{refl}
 use native.Mathlib.Omega.{arith}
 use borrow.Author.Needs.{needs}
-use Rattle.ol_spec.specs.Cycle.{OrderingCall}
-use Rattle.ol_order.proofs.Nodes.{order-refused, order-absent, nodes-few, node-reads, order-present}
+use Rattle.ol_order.proofs.Nodes.{order-refused, order-absent, nodes-few, node-reads, order-present, as-told}
 use Rattle.ol_order.proofs.evaluation_order.Statement.{statement}
 use Rattle.ol_order.proofs.evaluation_order.Tie as tie
 
@@ -43,17 +42,18 @@ same-length c = search needs
 returns : tie.Need-returns
 returns c =
     let start = c .before .before .before .before .before .before .before .before .before .before .before .before .before .before in
-    (c .before .before .order-node .ensures .0 ∙ ap (λ (c : OrderingCall). c .answer) (order-present (start .args .file .now) (c .before .before .before .before .before .before .before .before .before .before .load-file .ensures .0) (start .args .node) (start .args .buffer .now) (c .before .before .before .before .before .before .before .enums .given .1) (c .before .before .before .before .before .before .before .before .before .before .load-file .ensures .1) (c .before .before .before .before .before .if1 .taken) (c .before .before .before .before .base .result) (c .before .before .before .before .base .ensures)), c .before .before .order-node .ensures .1 ∙ ap (λ (c : OrderingCall). c .buffer) (order-present (start .args .file .now) (c .before .before .before .before .before .before .before .before .before .before .load-file .ensures .0) (start .args .node) (start .args .buffer .now) (c .before .before .before .before .before .before .before .enums .given .1) (c .before .before .before .before .before .before .before .before .before .before .load-file .ensures .1) (c .before .before .before .before .before .if1 .taken) (c .before .before .before .before .base .result) (c .before .before .before .before .base .ensures)))
+    as-told (c .before .before .order-node .ensures .0) (c .before .before .order-node .ensures .1)
+    (order-present (start .args .file .now) (c .before .before .before .before .before .before .before .before .before .before .load-file .ensures .0) (start .args .node) (start .args .buffer .now) (c .before .before .before .before .before .before .before .enums .given .1) (c .before .before .before .before .before .before .before .before .before .before .load-file .ensures .1) (c .before .before .before .before .before .if1 .taken) (c .before .before .before .before .base .result) (c .before .before .before .before .base .ensures))
 
 returns-2 : tie.Need-returns-2
 returns-2 c =
     let start = c .before .before .before .before .before .before .before .before .before in
-    (ap (λ (c : OrderingCall). c .answer) (order-absent (start .args .file .now) (c .before .before .before .before .before .load-file .ensures .0) (start .args .node) (start .args .buffer .now) (c .before .before .enums .given .1) (c .if1 .left)), ap (λ (c : OrderingCall). c .buffer) (order-absent (start .args .file .now) (c .before .before .before .before .before .load-file .ensures .0) (start .args .node) (start .args .buffer .now) (c .before .before .enums .given .1) (c .if1 .left)))
+    as-told refl refl (order-absent (start .args .file .now) (c .before .before .before .before .before .load-file .ensures .0) (start .args .node) (start .args .buffer .now) (c .before .before .enums .given .1) (c .if1 .left))
 
 returns-3 : tie.Need-returns-3
 returns-3 c =
     let start = c .before .before .before .before .before .before .before .before in
-    (ap (λ (c : OrderingCall). c .answer) (order-refused (start .args .file .now) (c .before .before .before .before .load-file .ensures .0) (start .args .node) (start .args .buffer .now) (c .before .f .given .1)), ap (λ (c : OrderingCall). c .buffer) (order-refused (start .args .file .now) (c .before .before .before .before .load-file .ensures .0) (start .args .node) (start .args .buffer .now) (c .before .f .given .1)))
+    as-told refl refl (order-refused (start .args .file .now) (c .before .before .before .before .load-file .ensures .0) (start .args .node) (start .args .buffer .now) (c .before .f .given .1))
 
 pub evaluation-order-spec : {M : Type 1} → statement M
 evaluation-order-spec =

@@ -19,7 +19,7 @@ tell-requires : tie.Need-tell-requires
 tell-requires c κs = search needs
 
 returns : tie.Need-returns
-returns c = admits (c .before .before .before .before .admission .result) (admission relayLoader (c .before .before .before .before .before .before .args .file .now)) (c .before .before .before .verdict-length .result) (c .before .before .before .before .admission .ensures) (c .before .before .before .verdict-length .ensures) (c .before .before .verdict-fault .ensures) (c .tell .ensures)
+returns c = admits (c .before .before .before .before .admission .result) (admission relayLoader (c .before .before .before .before .before .before .args .file .now)) (c .before .before .before .verdict-length .result) (c .before .before .before .before .admission .ensures .answered) (c .before .before .before .verdict-length .ensures) (c .before .before .verdict-fault .ensures) (c .tell .ensures)
 
 pub ol-sim-admit-spec : {M : Type 1} → statement M
 ol-sim-admit-spec =

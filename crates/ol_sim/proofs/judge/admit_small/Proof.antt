@@ -3,6 +3,7 @@ use mathlib.Core.Path.{_≡_, refl, sym, ap, _∙_}
 use Prim.Native.Nat.{_+_, _-_, _≤_, _<_}
 use native.Mathlib.Omega.{arith}
 use Rattle.ol_tables.proofs.HeadsFile.{bytes-of, file-stands}
+use Rattle.ol_sim.proofs.Reading.{admits-as}
 use Rattle.ol_sim.proofs.Begins.{file-ready, verdict-is}
 -- </uses>
 use borrow.Author.Needs.{needs}
@@ -39,7 +40,7 @@ verdict-on-requires c κs = search needs
 returns : tie.Need-returns
 returns c =
     let start = c .before .before .before .before .before .before .before .before .before .before in
-    c .verdict-on .ensures ∙ verdict-is (start .pre .0 .reads) (c .before .before .before .before .judge .ensures)
+    admits-as (c .verdict-on .ensures ∙ verdict-is (start .pre .0 .reads) (c .before .before .before .before .judge .ensures))
 
 pub admit-small-spec : {M : Type 1} → statement M
 admit-small-spec =

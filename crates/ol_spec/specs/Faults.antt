@@ -1,0 +1,36 @@
+-- Which numbers each call answers, and where a cycle can stop. Types only: proofs/Faults proves the claim.
+use Prim.Native.Nat.{ℕ, _<_, _≤_}
+use mathlib.Core.List.{List}
+use mathlib.Core.Logic.{_⊎_}
+use mathlib.Core.Path.{_≡_}
+use lib.ListN.{length}
+use Rattle.ol_spec.specs.Syntax.{File, main}
+use Rattle.ol_spec.specs.Limits.{Loader}
+use Rattle.ol_spec.specs.Admission.{judge, admitted, admission}
+use Rattle.ol_spec.specs.Cycle.{ordering, start, cycle}
+use Rattle.ol_spec.specs.declared.Value.{Value}
+use Rattle.ol_spec.specs.declared.Fault.{Fault}
+use Rattle.ol_spec.specs.declared.Verdict.the-variants as Adm
+use Rattle.ol_spec.specs.declared.Sorted.the-variants as Sort
+use Rattle.ol_spec.specs.declared.Started.the-variants as Start
+use Rattle.ol_spec.specs.declared.Cycled.the-variants as Cyc
+
+-- the fault's number is one of these
+abbrev pub From : ℕ → ℕ → Fault → Type 0
+From low high x = (low ≤ x .number) × (x .number ≤ high)
+
+-- the main equations of an admitted file have this index
+pub record Inside (ld : Loader) (s : List ℕ) (i : ℕ) : Type 0 where
+  pub file : File
+  pub constants : List Value
+  pub is : judge ld s ≡ admitted file constants
+  pub below : i < length (main file .equations)
+
+-- Whatever a call is lent: admission refuses with 1 to 14; the ordering with 1 to 5, 11 or 17; the start with 1 to 14 or 17; the cycle with 1 to 17. A cycle stops with 18 or 19, and
+-- only in an admitted file, at one of its main equations.
+pub record NumbersClaim (ld : Loader) : Type 0 where
+  pub admission : (s : List ℕ) (x : Fault) → admission ld s ≡ Adm.Refused x → From 1 14 x
+  pub ordering : (s : List ℕ) (k : ℕ) (buf : List ℕ) (x : Fault) → ordering ld s k buf .answer ≡ Sort.Refused x → From 1 5 x ⊎ ((x .number ≡ 11) ⊎ (x .number ≡ 17))
+  pub start : (s st : List ℕ) (x : Fault) → start ld s st .answer ≡ Start.Refused x → From 1 14 x ⊎ (x .number ≡ 17)
+  pub refused : (s old ins new vals : List ℕ) (x : Fault) → cycle ld s old ins new vals .answer ≡ Cyc.Refused x → From 1 17 x
+  pub stopped : (s old ins new vals : List ℕ) (x : Fault) → cycle ld s old ins new vals .answer ≡ Cyc.Stopped x → ((x .number ≡ 18) ⊎ (x .number ≡ 19)) × Inside ld s (x .place)
