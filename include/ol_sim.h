@@ -64,7 +64,7 @@ enum ol_sim_number {
 };
 
 /* Judges a file. Answers 0 and 1 to 14.
- * Writes *place, and *state_len: the length of the file's state, 0 for a file that is not admitted. */
+ * Writes *place; on 0 also *state_len, the length of the file's state. A refusal leaves *state_len as it was. */
 uint8_t ol_sim_admit(const uint8_t *file, size_t file_len, size_t *place, size_t *state_len);
 
 /* The order in which the equations of a node run; nodes count from 0. Answers 0, 1 to 5, 3 at place 0 for an absent node, 11, then 17 unless order_len is the

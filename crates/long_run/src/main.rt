@@ -125,10 +125,25 @@ fn tell(t: Tally, values: &[u8], state: &[u8])
     io::write_all(STDOUT_FILENO, &out[..k]);
 }
 
+// Says that the input ends too early: what was read stands for nothing, and the run cannot pass.
+fn tell_cut() {
+    io::write_all(STDOUT_FILENO, b"the input is cut off\n");
+}
+
+// Says where bytes are left behind what is read.
+fn tell_left() {
+    let mut one = [0u8; 1];
+    if io::read_full(STDIN_FILENO, &mut one) > 0 {
+        io::write_all(STDOUT_FILENO, b"bytes are left behind the inputs\n");
+    }
+}
+
 // The counter, which has no inputs.
 fn count() {
     let mut file = [0u8; 40];
-    io::read_full(STDIN_FILENO, &mut file);
+    if io::read_full(STDIN_FILENO, &mut file) < 40 {
+        tell_cut();
+    }
     let mut fresh = [0u8; 10];
     let mut a = [0u8; 10];
     let mut b = [0u8; 10];
@@ -144,11 +159,17 @@ fn count() {
 // The feeder file, with two lists of inputs.
 fn feed() {
     let mut file = [0u8; 795];
-    io::read_full(STDIN_FILENO, &mut file);
+    if io::read_full(STDIN_FILENO, &mut file) < 795 {
+        tell_cut();
+    }
     let mut first = [0u8; 144];
-    io::read_full(STDIN_FILENO, &mut first);
+    if io::read_full(STDIN_FILENO, &mut first) < 144 {
+        tell_cut();
+    }
     let mut second = [0u8; 144];
-    io::read_full(STDIN_FILENO, &mut second);
+    if io::read_full(STDIN_FILENO, &mut second) < 144 {
+        tell_cut();
+    }
     let mut fresh = [0u8; 711];
     let mut a = [0u8; 711];
     let mut b = [0u8; 711];
@@ -164,4 +185,5 @@ fn feed() {
 fn main() {
     count();
     feed();
+    tell_left();
 }

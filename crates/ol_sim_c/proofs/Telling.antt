@@ -2,7 +2,7 @@
 use Prim.Native.Nat.{ℕ}
 use mathlib.Core.List.{List}
 use mathlib.Core.Path.{_≡_, ap, _∙_}
-use Rattle.ol_spec.specs.Answers.{verdictFault, verdictLength, sortedFault, startedFault, cycledFault}
+use Rattle.ol_spec.specs.Answers.{verdictFault, sortedFault, startedFault, cycledFault}
 use Rattle.ol_spec.specs.Cycle.{OrderingCall, StartCall, CycleCall}
 use Rattle.ol_spec.specs.declared.Fault.{Fault}
 use Rattle.ol_spec.specs.declared.Verdict.{Verdict}
@@ -10,16 +10,16 @@ use Rattle.ol_spec.specs.declared.Sorted.{Sorted}
 use Rattle.ol_spec.specs.declared.Started.{Started}
 use Rattle.ol_spec.specs.declared.Cycled.{Cycled}
 use Rattle.ol_sim.specs.Calls.{OrdersAs, StartsAs, CyclesAs}
-use Rattle.ol_sim_c.specs.Told.{Tells, Admits, Orders, Starts, Cycles}
+use Rattle.ol_sim_c.specs.Told.{Tells, sizeAfter, Admits, Orders, Starts, Cycles}
 
 -- a fault told is an equal fault told
 pub tells-same : {x : Fault} {number place : ℕ} → Tells x number place → (y : Fault) → x ≡ y → Tells y number place
 tells-same t y e = record { number-is = t .number-is ∙ ap (λ (z : Fault). z .number) e; place-is = t .place-is ∙ ap (λ (z : Fault). z .place) e }
 
 pub admits :
-    {x : Fault} {number place : ℕ} → (v w : Verdict) (size : ℕ) → v ≡ w → size ≡ verdictLength v → x ≡ verdictFault v → Tells x number place
-    → Admits w number place size
-admits v w size e z f t = record { told = tells-same t (verdictFault w) (f ∙ ap verdictFault e); size-is = z ∙ ap verdictLength e }
+    {x : Fault} {number place : ℕ} → (v w : Verdict) (before size : ℕ) → v ≡ w → size ≡ sizeAfter v before → x ≡ verdictFault v → Tells x number place
+    → Admits w before number place size
+admits v w before size e z f t = record { told = tells-same t (verdictFault w) (f ∙ ap verdictFault e); size-is = z ∙ ap (λ x. sizeAfter x before) e }
 
 pub orders :
     {w : OrderingCall} {r : Sorted} {buffer : List ℕ} {x : Fault} {number place : ℕ} → OrdersAs w r buffer → x ≡ sortedFault r → Tells x number place

@@ -2,20 +2,26 @@
 use Prim.Native.Nat.{ℕ}
 use mathlib.Core.List.{List}
 use mathlib.Core.Path.{_≡_}
-use Rattle.ol_spec.specs.Answers.{verdictFault, verdictLength, sortedFault, startedFault, cycledFault}
+use Rattle.ol_spec.specs.Answers.{verdictFault, sortedFault, startedFault, cycledFault}
 use Rattle.ol_spec.specs.Cycle.{OrderingCall, StartCall, CycleCall}
 use Rattle.ol_spec.specs.declared.Fault.{Fault}
 use Rattle.ol_spec.specs.declared.Verdict.{Verdict}
+use Rattle.ol_spec.specs.declared.Verdict.the-variants as Adm
 
 -- a fault, or that there is none
 pub record Tells (x : Fault) (number place : ℕ) : Type 0 where
   pub number-is : number ≡ x .number
   pub place-is : place ≡ x .place
 
--- `ol_sim_admit`: the verdict, and the state's length (0 for a file that is not admitted)
-pub record Admits (v : Verdict) (number place size : ℕ) : Type 0 where
+-- the state's length of a file that is admitted; of one that is refused what was there
+abbrev pub sizeAfter : Verdict → ℕ → ℕ
+sizeAfter (Adm.Admitted n) size = n
+sizeAfter (Adm.Refused x) size = size
+
+-- `ol_sim_admit`: the verdict, and the state's length, which a refusal leaves as it was
+pub record Admits (v : Verdict) (before number place size : ℕ) : Type 0 where
   pub told : Tells (verdictFault v) number place
-  pub size-is : size ≡ verdictLength v
+  pub size-is : size ≡ sizeAfter v before
 
 -- `ol_sim_order`: the answer, and the buffer
 pub record Orders (w : OrderingCall) (number place : ℕ) (buffer : List ℕ) : Type 0 where

@@ -7,9 +7,9 @@ use ol_spec::Verdict;
 ghost use mathlib.Core.Path.{_≡_};
 ghost use Rattle.ol_spec.specs.Limits.{relayLoader};
 ghost use Rattle.ol_spec.specs.Admission.{admission};
-ghost use Rattle.ol_spec.specs.Answers.{verdictFault, verdictLength, sortedFault, startedFault, cycledFault};
+ghost use Rattle.ol_spec.specs.Answers.{verdictFault, sortedFault, startedFault, cycledFault};
 ghost use Rattle.ol_spec.specs.Cycle.{ordering, start, cycle};
-ghost use Rattle.ol_sim_c.specs.Told.{Tells, Admits, Orders, Starts, Cycles};
+ghost use Rattle.ol_sim_c.specs.Told.{Tells, sizeAfter, Admits, Orders, Starts, Cycles};
 
 fn no_fault() -> Fault
     ensures { λ r. ⌜ r ≡ record { number = 0; place = 0 } ⌝ }
@@ -29,12 +29,13 @@ fn verdict_fault(v: Verdict) -> Fault
     }
 }
 
-fn verdict_length(v: Verdict) -> usize
-    ensures { λ r. ⌜ r ≡ verdictLength v ⌝ }
+// The length of the state of a file that is admitted, else the one that was there.
+fn size_after(v: Verdict, size: usize) -> usize
+    ensures { λ r. ⌜ r ≡ sizeAfter v size ⌝ }
 {
     match v {
         Verdict::Admitted(n) => n,
-        Verdict::Refused(_) => 0,
+        Verdict::Refused(_) => size,
     }
 }
 
@@ -74,13 +75,13 @@ fn tell(f: Fault, place: &mut usize) -> u8
     f.number
 }
 
-// Whether a file is admitted, with the length of its state.
+// Whether a file is admitted, with the length of its state; that of a file that is refused stays as it was.
 #[no_mangle]
 pub extern "C" fn ol_sim_admit(file: &[u8], place: &mut usize, size: &mut usize) -> u8
-    ensures { λ r. ⌜ Admits (admission relayLoader (now (file .entry))) r (now (place .exit)) (now (size .exit)) ⌝ }
+    ensures { λ r. ⌜ Admits (admission relayLoader (now (file .entry))) (now (size .entry)) r (now (place .exit)) (now (size .exit)) ⌝ }
 {
     let v = ol_sim::admission(file);
-    *size = verdict_length(v);
+    *size = size_after(v, *size);
     tell(verdict_fault(v), place)
 }
 

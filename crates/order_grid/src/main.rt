@@ -15,10 +15,25 @@ ghost use Rattle.io.specs.Counts.{Counts};
 // What each entry of a lent buffer holds before a call.
 const MARK: usize = 170;
 
+// Says that the list ends too early: what was read stands for nothing, and the run cannot pass.
+fn tell_cut() {
+    io::write_all(STDOUT_FILENO, b"the list is cut off\n");
+}
+
+// Says where bytes are left behind the list's last answer.
+fn tell_left() {
+    let mut one = [0u8; 1];
+    if io::read_full(STDIN_FILENO, &mut one) > 0 {
+        io::write_all(STDOUT_FILENO, b"bytes are left behind the list\n");
+    }
+}
+
 // The next byte of the list.
 fn next_byte() -> u8 {
     let mut one = [0u8; 1];
-    io::read_full(STDIN_FILENO, &mut one);
+    if io::read_full(STDIN_FILENO, &mut one) < 1 {
+        tell_cut();
+    }
     one[0]
 }
 
@@ -169,7 +184,9 @@ fn orderings(file: &[u8]) -> Tally {
 // The comparisons on the next file of the list, which is put into zeros.
 fn file_tally_in(orders: bool, zeros: &mut [u8]) -> Tally {
     let given = next_length(zeros);
-    io::read_full(STDIN_FILENO, &mut zeros[..given]);
+    if io::read_full(STDIN_FILENO, &mut zeros[..given]) < given {
+        tell_cut();
+    }
     let all = next_length(zeros);
     if orders {
         orderings(&zeros[..all])
@@ -229,4 +246,5 @@ fn main() {
     report(b"random nodes: ", true);
     report(b"wrong buffers: ", true);
     report(b"absent nodes: ", true);
+    tell_left();
 }

@@ -1,1 +1,4 @@
-pub mod Room
+pub mod Requests
+pub mod Reply
+pub mod Kept
+pub mod Turns

@@ -1,17 +1,20 @@
 // The line program: commands on standard input, one a line, answers on standard output, one a line. oracle/README.md has the protocol.
+mod request;
 mod session;
 
 use libc::STDIN_FILENO;
 use libc::STDOUT_FILENO;
-use relay_text::answers::say_error;
 use session::Session;
 ghost use mathlib.Core.Path.{_≡_};
-ghost use lib.ListN.{length};
-ghost use Rattle.relay.specs.Room.{Room};
+ghost use mathlib.Core.Bool.{true, cond, not};
+ghost use Prim.Native.Nat.{ℕ, _≤_, _-_};
+ghost use lib.ListN.{length, take};
+ghost use Rattle.relay.specs.Reply.{reply};
+ghost use Rattle.relay.specs.Kept.{standing, Replies};
+ghost use Rattle.relay.specs.Turns.{unread, begun, waiting, Takes, Refills, Gathers, Turned};
 
 // A piece of the input as it is read: its bytes from `at` up to `end` are not taken yet. The line's first
-// `length` bytes are there; a length above the line's buffer is that of a line that is too long. It is
-// whole once its end was met; the input is at its end once a read gives nothing.
+// `length` bytes are there. It is whole once its end was met; the input is at its end once a read gives nothing.
 struct Input {
     at: usize,
     end: usize,
@@ -21,9 +24,10 @@ struct Input {
 }
 
 // Moves bytes of the input into the line, up to a line's end. Of a line that is too long the bytes
-// that do not fit are dropped, and its length is told as one more than the buffer's.
+// that do not fit are dropped.
 fn take_line(input: &[u8], i: Input, line: &mut [u8]) -> Input
-    requires { ⌜ length (now line) ≡ 262144 ⌝ }
+    requires { ⌜ length (now line) ≡ 262145 ⌝ }
+    ensures { λ r. ⌜ Takes (begun i (now (line .entry))) (unread i (now (input .entry))) r (now (line .exit)) (now (input .entry)) ⌝ }
 {
     let mut at = i.at;
     let mut n = i.length;
@@ -42,8 +46,6 @@ fn take_line(input: &[u8], i: Input, line: &mut [u8]) -> Input
         }
         if n < line.len() {
             line[n] = b;
-            n += 1;
-        } else if n == line.len() {
             n += 1;
         }
     }
@@ -65,7 +67,9 @@ struct Turn {
 }
 
 // The input with something in it, unless it is at its end.
-fn refill(input: &mut [u8], i: Input) -> Input {
+fn refill(input: &mut [u8], i: Input) -> Input
+    ensures { λ r. ⌜ Refills i (now (input .entry)) r (now (input .exit)) ⌝ }
+{
     if i.at < i.end {
         return i;
     }
@@ -86,25 +90,16 @@ fn respond(
     n: usize,
     s: Session,
     line: &[u8],
-    file: &mut [u8],
-    state: &mut [u8],
-    bytes: &mut [u8],
-    inputs: &mut [u8],
-    new: &mut [u8],
-    values: &mut [u8],
-    out: &mut [u8],
+    file: &mut [u8; 131072],
+    state: &mut [u8; 131072],
+    bytes: &mut [u8; 131072],
+    inputs: &mut [u8; 131072],
+    new: &mut [u8; 131072],
+    values: &mut [u8; 4096],
+    out: &mut [u8; 393216],
 ) -> Answered
-    requires { ⌜ (length (now line) ≡ 262144) × (length (now file) ≡ 131072) × Room (now state) (now bytes) (now inputs) (now new) (now values) (now out) ⌝ }
+    ensures { λ r. ⌜ Replies (reply no (take n (now (line .entry))) (standing s (now (file .entry)) (now (state .entry)))) (r .length) (r .session) (now (file .exit)) (now (state .exit)) (now (out .exit)) ⌝ }
 {
-    if line.len() < n {
-        let n = say_error(out, no, b"line too long");
-        let k = relay_text::within(n, out);
-        let is_taken = io::write_all(STDOUT_FILENO, &out[..k]);
-        return Answered {
-            session: s,
-            is_taken,
-        };
-    }
     let m = relay_text::within(n, line);
     let r = session::answer(
         no,
@@ -118,17 +113,25 @@ fn respond(
         values,
         out,
     );
-    let k = relay_text::within(r.length, out);
-    let is_taken = io::write_all(STDOUT_FILENO, &out[..k]);
     let t = r.session;
+    let is_taken = write_front(out, r.length);
     Answered {
         session: t,
+        length: r.length,
         is_taken,
     }
 }
 
+// Writes the buffer's first n bytes.
+fn write_front(out: &[u8], n: usize) -> bool {
+    let k = relay_text::within(n, out);
+    io::write_all(STDOUT_FILENO, &out[..k])
+}
+
+// What is kept, the length of the answer, and whether it was taken.
 struct Answered {
     session: Session,
+    length: usize,
     is_taken: bool,
 }
 
@@ -138,10 +141,34 @@ fn next(n: usize) -> usize {
 
 // Takes what the input has of a line.
 fn gather(i: Input, input: &mut [u8], line: &mut [u8]) -> Input
-    requires { ⌜ length (now line) ≡ 262144 ⌝ }
+    requires { ⌜ length (now line) ≡ 262145 ⌝ }
+    ensures { λ r. ⌜ Gathers i (now (line .entry)) (now (input .entry)) r (now (line .exit)) (now (input .exit)) ⌝ }
 {
     let filled = refill(input, i);
     take_line(input, filled, line)
+}
+
+// Whether a line waits for more: its end is not met, and the input goes on, or there is nothing of it.
+fn is_waiting(i: Input) -> bool
+    ensures { λ r. ⌜ r ≡ waiting i ⌝ }
+{
+    if i.is_whole {
+        return false;
+    }
+    if i.is_end {
+        return i.length == 0;
+    }
+    true
+}
+
+// Whether the line that was answered is the last: the input is at its end, or the answer was not taken.
+fn is_last(ended: bool, taken: bool) -> bool
+    ensures { λ r. ⌜ r ≡ cond ended true (not taken) ⌝ }
+{
+    if ended {
+        return true;
+    }
+    !taken
 }
 
 // One turn: takes what the input has of a line, and answers the line once it is whole.
@@ -149,26 +176,26 @@ fn advance(
     t: Turn,
     input: &mut [u8],
     line: &mut [u8],
-    file: &mut [u8],
-    state: &mut [u8],
-    bytes: &mut [u8],
-    inputs: &mut [u8],
-    new: &mut [u8],
-    values: &mut [u8],
-    out: &mut [u8],
+    file: &mut [u8; 131072],
+    state: &mut [u8; 131072],
+    bytes: &mut [u8; 131072],
+    inputs: &mut [u8; 131072],
+    new: &mut [u8; 131072],
+    values: &mut [u8; 4096],
+    out: &mut [u8; 393216],
 ) -> Turn
-    requires { ⌜ (length (now line) ≡ 262144) × (length (now file) ≡ 131072) × Room (now state) (now bytes) (now inputs) (now new) (now values) (now out) ⌝ }
+    requires { ⌜ length (now line) ≡ 262145 ⌝ }
+    ensures { λ r. ⌜ Turned t r (now (line .entry)) (now (input .entry)) (now (file .entry)) (now (state .entry)) (now (line .exit)) (now (input .exit)) (now (file .exit)) (now (state .exit)) (now (out .exit)) ⌝ }
 {
     let before = t.input;
     let s = t.session;
     let taken = gather(before, input, line);
-    let is_end = taken.is_end;
-    if !taken.is_whole && (!is_end || taken.length == 0) {
+    if is_waiting(taken) {
         return Turn {
             session: s,
             input: taken,
             line: t.line,
-            is_over: is_end,
+            is_over: taken.is_end,
         };
     }
     let r = respond(
@@ -196,7 +223,7 @@ fn advance(
         session: kept,
         input: rest,
         line: next(t.line),
-        is_over: is_end || !r.is_taken,
+        is_over: is_last(taken.is_end, r.is_taken),
     }
 }
 
@@ -204,15 +231,15 @@ fn advance(
 fn serve(
     input: &mut [u8],
     line: &mut [u8],
-    file: &mut [u8],
-    state: &mut [u8],
-    bytes: &mut [u8],
-    inputs: &mut [u8],
-    new: &mut [u8],
-    values: &mut [u8],
-    out: &mut [u8],
+    file: &mut [u8; 131072],
+    state: &mut [u8; 131072],
+    bytes: &mut [u8; 131072],
+    inputs: &mut [u8; 131072],
+    new: &mut [u8; 131072],
+    values: &mut [u8; 4096],
+    out: &mut [u8; 393216],
 )
-    requires { ⌜ (length (now line) ≡ 262144) × (length (now file) ≡ 131072) × Room (now state) (now bytes) (now inputs) (now new) (now values) (now out) ⌝ }
+    requires { ⌜ length (now line) ≡ 262145 ⌝ }
 {
     let mut t = Turn {
         session: session::closed(),
@@ -233,11 +260,11 @@ fn serve(
     }
 }
 
-// Room for a line. The `ensures` gives only the length, as those of the crate io do.
-fn line_buffer() -> [u8; 262144]
-    ensures { λ r. ⌜ 262144 ≡ length r ⌝ }
+// Room for a line, and a character more, so that one that is too long is seen to be.
+fn line_buffer() -> [u8; 262145]
+    ensures { λ r. ⌜ 262145 ≡ length r ⌝ }
 {
-    [0; 262144]
+    [0; 262145]
 }
 
 // Room for the bytes that a line stands for.
@@ -247,18 +274,24 @@ fn bytes_buffer() -> [u8; 131072]
     [0; 131072]
 }
 
-// The buffers. A line of 262,144 characters stands for at most 131,072 bytes. The new state and the values have room for more than any
-// file's, so that a greater length that a command gives is as wrong as the buffer's.
+// Room for an answer.
+fn answer_buffer() -> [u8; 393216]
+    ensures { λ r. ⌜ 393216 ≡ length r ⌝ }
+{
+    [0; 393216]
+}
+
+// The buffers. A line of 262,144 characters stands for at most 131,072 bytes.
 fn main() {
     let mut input = io::large_buffer();
     let mut line = line_buffer();
     let mut file = bytes_buffer();
-    let mut state = io::large_buffer();
+    let mut state = bytes_buffer();
     let mut bytes = bytes_buffer();
     let mut inputs = bytes_buffer();
-    let mut new = io::large_buffer();
+    let mut new = bytes_buffer();
     let mut values = io::buffer();
-    let mut out = line_buffer();
+    let mut out = answer_buffer();
     serve(
         &mut input,
         &mut line,

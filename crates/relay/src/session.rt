@@ -1,14 +1,15 @@
-// What one command is answered with, over the public entry. The buffers hold what a session keeps: the
+// What a request is answered with, over the public entry. The buffers hold what a session keeps: the
 // file, and the state that the next cycle starts from.
+use crate::request::Lengths;
+use crate::request::Query;
+use crate::request::Reason;
+use crate::request::Request;
+use crate::request::ask;
 use ol_spec::Cycled;
 use ol_spec::Fault;
 use ol_spec::Sorted;
 use ol_spec::Started;
 use ol_spec::Verdict;
-use relay_text::Hex;
-use relay_text::Number;
-use relay_text::answers::bytes_of;
-use relay_text::answers::number_of;
 use relay_text::answers::say_admit;
 use relay_text::answers::say_answered;
 use relay_text::answers::say_error;
@@ -17,32 +18,51 @@ use relay_text::answers::say_order;
 use relay_text::answers::say_refused;
 use relay_text::answers::say_state;
 use relay_text::answers::say_stopped;
-use relay_text::nth;
 use relay_text::put;
 use relay_text::within;
-use relay_text::words;
-ghost use mathlib.Core.Bool.{false};
+ghost use mathlib.Core.Bool.{true, false};
 ghost use mathlib.Core.Path.{_≡_};
-ghost use Prim.Native.Nat.{_+_, _*_, _≤_};
-ghost use lib.ListN.{length};
+ghost use mathlib.Core.List.{List, []};
+ghost use Prim.Native.Nat.{ℕ, _+_, _*_, _≤_, min};
+ghost use lib.ListN.{length, take};
 ghost use Rattle.io.specs.Counts.{Counts};
-ghost use Rattle.relay.specs.Room.{Room};
+ghost use Rattle.ol_spec.specs.Limits.{relayLoader};
+ghost use Rattle.ol_spec.specs.Admission.{admission};
+ghost use Rattle.ol_spec.specs.Answers.{verdictFault, verdictLength};
+ghost use Rattle.ol_spec.specs.Cycle.{ordering, cycle};
+ghost use Rattle.ol_spec.specs.Demand3.{nextState};
+ghost use Rattle.ol_sim.specs.Calls.{OrdersAs, CyclesAs};
+ghost use Rattle.relay_text.specs.Lines.{Said, errorLine};
+ghost use Rattle.relay.specs.Requests.{startAgain, fileOf};
+ghost use Rattle.relay.specs.Reply.{Standing, reasonText, tellAbout, obey, reply, freshOf, admitText, startText, orderCall, orderText, orderEnds, told, stateFault, loadFault, loadTold, endText, cycleCall, cycleTold, atTold};
+ghost use Rattle.relay.specs.declared.request.Lengths.the-variants as Len;
+ghost use Rattle.relay.specs.Kept.{asked, askedIn, standing, Replies, Tells, Ends, Begins, refusedBy, orderBy17, Room};
 
-// The lengths of what is kept: the file's, its state's (0 where it is not admitted) and its values', as
-// far as that is known; the fault where it is not admitted, number 0 where it is.
+// Whether a file is open, its length, its state's length, and how long the values of its last cycle were.
 pub struct Session {
     pub is_open: bool,
     pub file: usize,
-    pub number: u8,
-    pub place: usize,
     pub state: usize,
     pub values: usize,
 }
 
 // What is kept from now on, and the length of the answer.
-pub struct Reply {
+pub struct Replied {
     pub session: Session,
     pub length: usize,
+}
+
+// The length of the answer, of the state, and of the values.
+pub struct Stood {
+    pub length: usize,
+    pub state: usize,
+    pub values: usize,
+}
+
+// What a file is admitted or refused with, and the length of its fresh state.
+pub struct Begun {
+    pub verdict: Verdict,
+    pub state: usize,
 }
 
 // How a cycle ended, and the length of its values.
@@ -59,56 +79,57 @@ pub struct Listed {
 
 // No file is open.
 pub(crate) fn closed() -> Session
-    ensures { λ r. ⌜ (r .is_open ≡ false) × (r .file ≡ 0) × (r .number ≡ 0) × (r .place ≡ 0) × (r .state ≡ 0) × (r .values ≡ 9) ⌝ }
+    ensures { λ r. ⌜ r .is_open ≡ false ⌝ }
 {
     Session {
         is_open: false,
         file: 0,
-        number: 0,
-        place: 0,
         state: 0,
-        values: 9,
+        values: 0,
+    }
+}
+
+// error LINE REASON
+fn say_reason(out: &mut [u8], no: usize, why: Reason) -> usize
+    requires { ⌜ 128 ≤ length (now out) ⌝ }
+    ensures { λ r. ⌜ Said (errorLine no (reasonText why)) r (now (out .exit)) ⌝ }
+{
+    match why {
+        Reason::LineTooLong => say_error(out, no, b"line too long"),
+        Reason::UnknownCommand => say_error(out, no, b"unknown command"),
+        Reason::WrongWords => say_error(out, no, b"wrong number of words"),
+        Reason::MalformedNumber => say_error(out, no, b"malformed number"),
+        Reason::MalformedHexadecimal => say_error(out, no, b"malformed hexadecimal"),
+        Reason::NoFile => say_error(out, no, b"no file"),
     }
 }
 
 // ---- the public entry
 
-fn refused(file: usize, f: Fault) -> Session {
-    Session {
-        is_open: true,
-        file,
-        number: f.number,
-        place: f.place,
-        state: 0,
-        values: 9,
-    }
-}
-
 // Judges a file, and starts it if it is admitted.
-fn judge(file: &[u8], state: &mut [u8]) -> Session {
+fn begin(file: &[u8], state: &mut [u8]) -> Begun
+    requires { ⌜ length (now state) ≡ 131072 ⌝ }
+    ensures { λ r. ⌜ Begins (now (file .entry)) (r .verdict) (r .state) (now (state .exit)) ⌝ }
+{
     match ol_sim::admission(file) {
-        Verdict::Refused(f) => refused(file.len(), f),
-        Verdict::Admitted(n) => begin(file, state, n),
-    }
-}
-
-// The fresh state of a file whose state has n bytes.
-fn begin(file: &[u8], state: &mut [u8], n: usize) -> Session {
-    let m = within(n, state);
-    match ol_sim::start(file, &mut state[..m]) {
-        Started::Refused(f) => refused(file.len(), f),
-        Started::Done => Session {
-            is_open: true,
-            file: file.len(),
-            number: 0,
-            place: 0,
-            state: m,
-            values: 9,
+        Verdict::Refused(f) => Begun {
+            verdict: Verdict::Refused(f),
+            state: 0,
         },
+        Verdict::Admitted(n) => {
+            let m = within(n, state);
+            ol_sim::start(file, &mut state[..m]);
+            Begun {
+                verdict: Verdict::Admitted(n),
+                state: m,
+            }
+        }
     }
 }
 
-fn is_refused_by(c: Cycled, number: u8) -> bool {
+fn is_refused_by(c: Cycled, number: u8) -> bool
+    ensures { λ r. ⌜ r ≡ refusedBy c number ⌝ }
+{
     match c {
         Cycled::Refused(f) => f.number == number,
         Cycled::Stopped(_) => false,
@@ -116,50 +137,70 @@ fn is_refused_by(c: Cycled, number: u8) -> bool {
     }
 }
 
-// A cycle with values of so many bytes.
+// A cycle with values of so many bytes, as far as the buffer goes.
 fn cycle_with(
     file: &[u8],
     old: &[u8],
     inputs: &[u8],
     new: &mut [u8],
     values: &mut [u8],
-    n: usize,
-) -> Cycled {
-    let v = within(n, values);
-    ol_sim::cycle(file, old, inputs, new, &mut values[..v])
+    v: usize,
+) -> Cycled
+    ensures { λ r. ⌜ CyclesAs (cycle relayLoader (now (file .entry)) (now (old .entry)) (now (inputs .entry)) (now (new .entry)) (take v (now (values .entry)))) r (now (new .exit)) (take v (now (values .exit))) ⌝ }
+{
+    let b = within(v, values);
+    ol_sim::cycle(file, old, inputs, new, &mut values[..b])
 }
 
-// A cycle with values of the right length, whatever that is: lengths from `least` on, cell by cell, up
-// to the first that is not answered with 17.
+// A cycle with values of the right length, whatever that is: so many cells, one more each time, up to
+// the first number that is not answered with 17. No file has more than 112 variables.
+fn try_lengths(file: &[u8], old: &[u8], inputs: &[u8], new: &mut [u8], values: &mut [u8]) -> Stepped
+    requires { ⌜ (length (now new) ≡ length (now old)) × (length (now values) ≡ 4096) ⌝ }
+    ensures { λ r. ⌜ Ends (cycleCall (now (file .entry)) (now (old .entry)) (now (inputs .entry)) Len.Right) (now (old .entry)) (r .cycled) (now (new .exit)) (take (r .values) (now (values .exit))) ⌝ }
+{
+    let mut k = 0;
+    while k < 113 {
+        let c = cycle_with(file, old, inputs, new, values, 9 * k);
+        if !is_refused_by(c, 17) {
+            return Stepped {
+                cycled: c,
+                values: 9 * k,
+            };
+        }
+        k += 1;
+    }
+    let c = cycle_with(file, old, inputs, new, values, 0);
+    Stepped {
+        cycled: c,
+        values: 0,
+    }
+}
+
+// The same, with a length that may be the right one tried first.
 fn step(
     file: &[u8],
     old: &[u8],
     inputs: &[u8],
     new: &mut [u8],
     values: &mut [u8],
-    least: usize,
+    likely: usize,
 ) -> Stepped
-    requires { ⌜ length (now values) ≤ 4096 ⌝ }
+    requires { ⌜ (length (now new) ≡ length (now old)) × (length (now values) ≡ 4096) ⌝ }
+    ensures { λ r. ⌜ Ends (cycleCall (now (file .entry)) (now (old .entry)) (now (inputs .entry)) Len.Right) (now (old .entry)) (r .cycled) (now (new .exit)) (take (r .values) (now (values .exit))) ⌝ }
 {
-    let mut n = least;
-    while n < values.len() {
-        let c = cycle_with(file, old, inputs, new, values, n);
-        if !is_refused_by(c, 17) {
-            return Stepped {
-                cycled: c,
-                values: n,
-            };
-        }
-        n = n + 9;
+    let c = cycle_with(file, old, inputs, new, values, likely);
+    if !is_refused_by(c, 17) {
+        return Stepped {
+            cycled: c,
+            values: likely,
+        };
     }
-    let c = cycle_with(file, old, inputs, new, values, least);
-    Stepped {
-        cycled: c,
-        values: least,
-    }
+    try_lengths(file, old, inputs, new, values)
 }
 
-fn is_out_of_length(r: Sorted) -> bool {
+fn is_out_of_length(r: Sorted) -> bool
+    ensures { λ x. ⌜ x ≡ orderBy17 r ⌝ }
+{
     match r {
         Sorted::Refused(f) => f.number == 17,
         Sorted::Done => false,
@@ -169,21 +210,27 @@ fn is_out_of_length(r: Sorted) -> bool {
 // A count of entries, at most as many as there are.
 fn among(n: usize, entries: &[usize]) -> usize
     ensures { λ r. ⌜ Counts r (now (entries .entry)) ⌝ }
+    ensures { λ r. ⌜ take r (now (entries .entry)) ≡ take n (now (entries .entry)) ⌝ }
 {
     if n <= entries.len() { n } else { entries.len() }
 }
 
-// The order of a node's equations with a buffer of n entries.
-fn order_with(file: &[u8], node: usize, entries: &mut [usize], n: usize) -> Sorted {
+// The order of a node's equations with a buffer of n entries, as far as there are so many.
+fn order_with(file: &[u8], node: usize, entries: &mut [usize], n: usize) -> Sorted
+    ensures { λ r. ⌜ OrdersAs (ordering relayLoader (now (file .entry)) node (take n (now (entries .entry)))) r (take n (now (entries .exit))) ⌝ }
+{
     let m = among(n, entries);
     ol_sim::evaluation_order(file, node, &mut entries[..m])
 }
 
-// The order of a node's equations, however many there are: lengths from 0 on, up to the first that is
-// not answered with 17.
-fn list(file: &[u8], node: usize, entries: &mut [usize]) -> Listed {
+// The order of a node's equations, however many there are: one entry more each time, up to the first
+// number that is not answered with 17. No node has more than 80 equations.
+fn list(file: &[u8], node: usize, entries: &mut [usize]) -> Listed
+    requires { ⌜ length (now entries) ≡ 80 ⌝ }
+    ensures { λ r. ⌜ orderEnds (r .sorted) (take (r .count) (now (entries .exit))) ≡ orderText (orderCall (now (file .entry)) node) ⌝ }
+{
     let mut n = 0;
-    while n < entries.len() {
+    while n < 81 {
         let r = order_with(file, node, entries, n);
         if !is_out_of_length(r) {
             return Listed {
@@ -193,54 +240,20 @@ fn list(file: &[u8], node: usize, entries: &mut [usize]) -> Listed {
         }
         n += 1;
     }
-    let r = order_with(file, node, entries, n);
+    let r = order_with(file, node, entries, 0);
     Listed {
         sorted: r,
-        count: n,
+        count: 0,
     }
 }
 
 // ---- the commands
 
-// file HEX
-fn file_command(
-    no: usize,
-    line: &[u8],
-    s: Session,
-    file: &mut [u8],
-    state: &mut [u8],
-    bytes: &mut [u8],
-    out: &mut [u8],
-) -> Reply
-    requires { ⌜ (length (now line) ≤ length (now bytes) + length (now bytes)) × (length (now bytes) ≤ length (now file)) × (128 ≤ length (now out)) ⌝ }
-    ensures { λ r. ⌜ r .length ≤ length (now (out .exit)) ⌝ }
-{
-    let Hex::Bytes(k) = bytes_of(line, 1, bytes) else {
-        let n = say_error(out, no, b"malformed hexadecimal");
-        return Reply {
-            session: s,
-            length: n,
-        };
-    };
-    let j = within(k, bytes);
-    put(file, 0, &bytes[..j]);
-    let m = within(j, file);
-    let t = judge(&file[..m], state);
-    let n = say_admit(out, t.number, t.place, t.state);
-    Reply {
-        session: t,
-        length: n,
-    }
-}
-
 // order NODE
-fn order_command(no: usize, line: &[u8], file: &[u8], out: &mut [u8]) -> usize
+fn order_command(node: usize, file: &[u8], out: &mut [u8]) -> usize
     requires { ⌜ 1696 ≤ length (now out) ⌝ }
-    ensures { λ r. ⌜ r ≤ length (now (out .exit)) ⌝ }
+    ensures { λ r. ⌜ Said (orderText (orderCall (now (file .entry)) node)) r (now (out .exit)) ⌝ }
 {
-    let Number::Of(node) = number_of(line, 1) else {
-        return say_error(out, no, b"malformed number");
-    };
     let mut entries = [0usize; 80];
     let l = list(file, node, &mut entries);
     let sorted = l.sorted;
@@ -253,107 +266,146 @@ fn order_command(no: usize, line: &[u8], file: &[u8], out: &mut [u8]) -> usize
     }
 }
 
-// start
-fn start_command(s: Session, file: &[u8], state: &mut [u8], out: &mut [u8]) -> Reply
-    requires { ⌜ 16 + 2 * length (now state) ≤ length (now out) ⌝ }
-    ensures { λ r. ⌜ r .length ≤ length (now (out .exit)) ⌝ }
+// file HEX: the answer to a file that is judged
+fn admit_command(v: Verdict, out: &mut [u8]) -> usize
+    requires { ⌜ 128 ≤ length (now out) ⌝ }
+    ensures { λ r. ⌜ Said (admitText v) r (now (out .exit)) ⌝ }
 {
-    let t = begin(file, state, s.state);
-    let m = within(t.state, state);
-    let n = say_state(out, &state[..m]);
-    Reply {
-        session: t,
-        length: n,
+    match v {
+        Verdict::Admitted(n) => say_admit(out, 0, 0, n),
+        Verdict::Refused(f) => say_admit(out, f.number, f.place, 0),
     }
 }
 
-// Whether a cycle could start from a state. Its buffers are empty, so that a good state ends in 16 or 17.
-fn is_good_state(file: &[u8], state: &[u8]) -> bool {
+// start: the answer to a file that is judged and started
+fn start_command(v: Verdict, state: &[u8], out: &mut [u8]) -> usize
+    requires { ⌜ 128 + 2 * length (now state) ≤ length (now out) ⌝ }
+    ensures { λ r. ⌜ Said (startText v (now (state .entry))) r (now (out .exit)) ⌝ }
+{
+    match v {
+        Verdict::Admitted(_) => say_state(out, state),
+        Verdict::Refused(f) => say_refused(out, f.number, f.place),
+    }
+}
+
+// The fault of the file or of the old state that a cycle is refused with; number 0 where there is none.
+fn state_fault(c: Cycled) -> Fault
+    ensures { λ r. ⌜ r ≡ stateFault c ⌝ }
+{
+    match c {
+        Cycled::Refused(f) => {
+            if f.number <= 15 {
+                f
+            } else {
+                Fault {
+                    number: 0,
+                    place: 0,
+                }
+            }
+        }
+        Cycled::Stopped(_) => Fault {
+            number: 0,
+            place: 0,
+        },
+        Cycled::Answered => Fault {
+            number: 0,
+            place: 0,
+        },
+    }
+}
+
+// Whether a cycle could start from a state: its buffers are empty, so that a good state ends in 16 or 17.
+fn load_fault(file: &[u8], state: &[u8]) -> Fault
+    ensures { λ r. ⌜ r ≡ loadFault (now (file .entry)) (now (state .entry)) ⌝ }
+{
     let mut new = [0u8; 1];
     let mut values = [0u8; 1];
     let c = ol_sim::cycle(file, state, b"", &mut new[..0], &mut values[..0]);
-    !is_refused_by(c, 15)
+    state_fault(c)
 }
 
-// Takes a state over where it is a good one.
-fn take_state(file: &[u8], state: &mut [u8], bytes: &[u8]) -> bool {
-    if state.len() < bytes.len() {
-        return false;
-    }
-    if !is_good_state(file, bytes) {
-        return false;
-    }
-    put(state, 0, bytes);
-    true
+// Puts a state in the place of the one that stands.
+fn replace(state: &mut [u8], new: &[u8])
+    requires { ⌜ length (now new) ≤ length (now state) ⌝ }
+    ensures { λ _. ⌜ take (length (now (new .entry))) (now (state .exit)) ≡ now (new .entry) ⌝ }
+{
+    put(state, 0, new);
 }
 
 // load STATE
 fn load_command(
-    no: usize,
-    line: &[u8],
     file: &[u8],
+    given: &[u8],
+    n: usize,
+    likely: usize,
     state: &mut [u8],
-    bytes: &mut [u8],
     out: &mut [u8],
-) -> usize
-    requires { ⌜ (length (now line) ≤ length (now bytes) + length (now bytes)) × (128 ≤ length (now out)) ⌝ }
-    ensures { λ r. ⌜ r ≤ length (now (out .exit)) ⌝ }
+) -> Stood
+    requires { ⌜ (length (now given) ≤ length (now state)) × (128 ≤ length (now out)) ⌝ }
+    ensures { λ r. ⌜ Tells (loadTold (now (file .entry)) (now (given .entry)) (take n (now (state .entry)))) (r .length) (r .state) (now (state .exit)) (now (out .exit)) ⌝ }
 {
-    let Hex::Bytes(k) = bytes_of(line, 1, bytes) else {
-        return say_error(out, no, b"malformed hexadecimal");
-    };
-    let j = within(k, bytes);
-    if take_state(file, state, &bytes[..j]) {
-        put(out, 0, b"loaded\n")
-    } else {
-        say_refused(out, 15, 0)
+    let f = load_fault(file, given);
+    if f.number == 0 {
+        replace(state, given);
+        let k = put(out, 0, b"loaded\n");
+        return Stood {
+            length: k,
+            state: given.len(),
+            values: likely,
+        };
+    }
+    let k = say_refused(out, f.number, f.place);
+    Stood {
+        length: k,
+        state: n,
+        values: likely,
     }
 }
 
-// The lengths of the new state and of the values that a cycle is lent.
-pub enum Lengths {
-    Right,
-    These(usize, usize),
-    Malformed,
-}
-
-// The lengths that a line gives behind its word number k, if it gives them.
-fn lengths_of(line: &[u8], k: usize) -> Lengths {
-    if words(line) <= k {
-        return Lengths::Right;
-    }
-    let Number::Of(new) = number_of(line, k) else {
-        return Lengths::Malformed;
-    };
-    let Number::Of(values) = number_of(line, k + 1) else {
-        return Lengths::Malformed;
-    };
-    Lengths::These(new, values)
-}
-
-// The cycle of a command that gives the lengths of the new state and of the values: what it wrote is taken over, and told.
-fn step_these(
+// Tells how a cycle ended, and takes the new state over where there is one.
+fn end(
+    c: Cycled,
     n: usize,
     v: usize,
-    s: Session,
-    file: &[u8],
     state: &mut [u8],
-    inputs: &[u8],
-    new: &mut [u8],
-    values: &mut [u8],
+    new: &[u8],
+    values: &[u8],
     out: &mut [u8],
-) -> usize
-    requires { ⌜ (length (now values) ≤ 4096) × (length (now new) ≤ length (now state)) × (128 + (2 * length (now values) + 2 * length (now new)) ≤ length (now out)) ⌝ }
-    ensures { λ r. ⌜ r ≤ length (now (out .exit)) ⌝ }
+) -> Stood
+    requires { ⌜ (length (now new) ≤ length (now state)) × (128 + (2 * length (now values) + 2 * length (now new)) ≤ length (now out)) ⌝ }
+    ensures { λ r. ⌜ Said (endText c (now (new .entry)) (now (values .entry))) (r .length) (now (out .exit)) × (take (r .state) (now (state .exit)) ≡ nextState c (take n (now (state .entry))) (now (new .entry))) ⌝ }
 {
-    let m = within(s.state, state);
-    let c = cycle_of(file, &state[..m], inputs, new, n, values, v);
-    let a = within(n, new);
-    let b = within(v, values);
-    ended(c, state, &new[..a], &values[..b], out)
+    match c {
+        Cycled::Answered => {
+            replace(state, new);
+            let k = say_answered(out, values, new);
+            Stood {
+                length: k,
+                state: new.len(),
+                values: v,
+            }
+        }
+        Cycled::Stopped(f) => {
+            replace(state, new);
+            let k = say_stopped(out, f.number, f.place, new);
+            Stood {
+                length: k,
+                state: new.len(),
+                values: v,
+            }
+        }
+        Cycled::Refused(f) => {
+            let k = say_refused(out, f.number, f.place);
+            Stood {
+                length: k,
+                state: n,
+                values: v,
+            }
+        }
+    }
 }
 
-// A cycle with a new state and values of so many bytes.
+// A cycle that is lent a new state and values of so many bytes, as far as the buffers go.
 fn cycle_of(
     file: &[u8],
     old: &[u8],
@@ -362,387 +414,321 @@ fn cycle_of(
     n: usize,
     values: &mut [u8],
     v: usize,
-) -> Cycled {
+) -> Cycled
+    ensures { λ r. ⌜ CyclesAs (cycle relayLoader (now (file .entry)) (now (old .entry)) (now (inputs .entry)) (take n (now (new .entry))) (take v (now (values .entry)))) r (take n (now (new .exit))) (take v (now (values .exit))) ⌝ }
+{
     let a = within(n, new);
     cycle_with(file, old, inputs, &mut new[..a], values, v)
 }
 
-// A cycle with a new state of so many bytes, and values of the right length.
+// A cycle that is lent a new state and values of the right lengths.
 fn step_of(
     file: &[u8],
     old: &[u8],
     inputs: &[u8],
     new: &mut [u8],
-    n: usize,
     values: &mut [u8],
-    least: usize,
+    likely: usize,
 ) -> Stepped
-    requires { ⌜ length (now values) ≤ 4096 ⌝ }
+    requires { ⌜ (length (now old) ≤ length (now new)) × (length (now values) ≡ 4096) ⌝ }
+    ensures { λ r. ⌜ Ends (cycleCall (now (file .entry)) (now (old .entry)) (now (inputs .entry)) Len.Right) (now (old .entry)) (r .cycled) (take (length (now (old .entry))) (now (new .exit))) (take (r .values) (now (values .exit))) ⌝ }
 {
+    let n = old.len();
+    step(file, old, inputs, &mut new[..n], values, likely)
+}
+
+// cycle INPUTS NEW VALUES
+fn cycle_these(
+    n: usize,
+    v: usize,
+    file: &[u8],
+    m: usize,
+    likely: usize,
+    inputs: &[u8],
+    state: &mut [u8],
+    new: &mut [u8],
+    values: &mut [u8],
+    out: &mut [u8],
+) -> Stood
+    requires { ⌜ Room (now state) (now new) (now values) (now out) ⌝ }
+    ensures { λ r. ⌜ Tells (cycleTold (now (file .entry)) (now (inputs .entry)) (Len.These n v) (take m (now (state .entry)))) (r .length) (r .state) (now (state .exit)) (now (out .exit)) ⌝ }
+{
+    let j = within(m, state);
+    let c = cycle_of(file, &state[..j], inputs, new, n, values, v);
     let a = within(n, new);
-    step(file, old, inputs, &mut new[..a], values, least)
+    let b = within(v, values);
+    end(c, j, likely, state, &new[..a], &values[..b], out)
 }
 
-// The cycle of a command that gives no lengths.
-fn step_right(
-    s: Session,
+// cycle INPUTS
+fn cycle_right(
     file: &[u8],
-    state: &mut [u8],
+    m: usize,
+    likely: usize,
     inputs: &[u8],
+    state: &mut [u8],
     new: &mut [u8],
     values: &mut [u8],
     out: &mut [u8],
-) -> Reply
-    requires { ⌜ (length (now values) ≤ 4096) × (length (now new) ≤ length (now state)) × (128 + (2 * length (now values) + 2 * length (now new)) ≤ length (now out)) ⌝ }
-    ensures { λ r. ⌜ r .length ≤ length (now (out .exit)) ⌝ }
+) -> Stood
+    requires { ⌜ Room (now state) (now new) (now values) (now out) ⌝ }
+    ensures { λ r. ⌜ Tells (cycleTold (now (file .entry)) (now (inputs .entry)) Len.Right (take m (now (state .entry)))) (r .length) (r .state) (now (state .exit)) (now (out .exit)) ⌝ }
 {
-    let m = within(s.state, state);
-    let r = step_of(file, &state[..m], inputs, new, s.state, values, s.values);
-    let a = within(s.state, new);
-    let b = within(r.values, values);
+    let j = within(m, state);
+    let r = step_of(file, &state[..j], inputs, new, values, likely);
     let c = r.cycled;
-    let k = ended(c, state, &new[..a], &values[..b], out);
-    let t = Session {
-        is_open: s.is_open,
-        file: s.file,
-        number: s.number,
-        place: s.place,
-        state: s.state,
-        values: r.values,
-    };
-    Reply {
-        session: t,
-        length: k,
-    }
-}
-
-// The cycle of a command that is well formed.
-fn step_told(
-    s: Session,
-    lengths: Lengths,
-    file: &[u8],
-    state: &mut [u8],
-    inputs: &[u8],
-    new: &mut [u8],
-    values: &mut [u8],
-    out: &mut [u8],
-) -> Reply
-    requires { ⌜ (length (now values) ≤ 4096) × (length (now new) ≤ length (now state)) × (128 + (2 * length (now values) + 2 * length (now new)) ≤ length (now out)) ⌝ }
-    ensures { λ r. ⌜ r .length ≤ length (now (out .exit)) ⌝ }
-{
-    match lengths {
-        Lengths::These(n, v) => {
-            let k = step_these(n, v, s, file, state, inputs, new, values, out);
-            Reply {
-                session: s,
-                length: k,
-            }
-        }
-        _ => step_right(s, file, state, inputs, new, values, out),
-    }
-}
-
-// Takes the new state over where there is one, and tells how a cycle ended.
-fn ended(c: Cycled, state: &mut [u8], new: &[u8], values: &[u8], out: &mut [u8]) -> usize
-    requires { ⌜ (length (now values) ≤ 4096) × (length (now new) ≤ length (now state)) × (128 + (2 * length (now values) + 2 * length (now new)) ≤ length (now out)) ⌝ }
-    ensures { λ r. ⌜ r ≤ length (now (out .exit)) ⌝ }
-{
-    match c {
-        Cycled::Answered => {
-            put(state, 0, new);
-            say_answered(out, values, new)
-        }
-        Cycled::Stopped(f) => {
-            put(state, 0, new);
-            say_stopped(out, f.number, f.place, new)
-        }
-        Cycled::Refused(f) => say_refused(out, f.number, f.place),
-    }
+    let b = within(r.values, values);
+    end(c, j, r.values, state, &new[..j], &values[..b], out)
 }
 
 // cycle INPUTS [LENGTHS]
 fn cycle_command(
-    no: usize,
-    line: &[u8],
-    s: Session,
+    l: Lengths,
     file: &[u8],
+    m: usize,
+    likely: usize,
+    inputs: &[u8],
     state: &mut [u8],
-    inputs: &mut [u8],
     new: &mut [u8],
     values: &mut [u8],
     out: &mut [u8],
-) -> Reply
-    requires { ⌜ (length (now line) ≤ length (now inputs) + length (now inputs)) × (length (now values) ≤ 4096) × (length (now new) ≤ length (now state)) × (128 + (2 * length (now values) + 2 * length (now new)) ≤ length (now out)) ⌝ }
-    ensures { λ r. ⌜ r .length ≤ length (now (out .exit)) ⌝ }
+) -> Stood
+    requires { ⌜ Room (now state) (now new) (now values) (now out) ⌝ }
+    ensures { λ r. ⌜ Tells (cycleTold (now (file .entry)) (now (inputs .entry)) l (take m (now (state .entry)))) (r .length) (r .state) (now (state .exit)) (now (out .exit)) ⌝ }
 {
-    let lengths = lengths_of(line, 2);
-    if let Lengths::Malformed = lengths {
-        let n = say_error(out, no, b"malformed number");
-        return Reply {
-            session: s,
-            length: n,
-        };
+    match l {
+        Lengths::These(n, v) => {
+            cycle_these(n, v, file, m, likely, inputs, state, new, values, out)
+        }
+        Lengths::Right => cycle_right(file, m, likely, inputs, state, new, values, out),
+        Lengths::Malformed => cycle_right(file, m, likely, inputs, state, new, values, out),
     }
-    let Hex::Bytes(k) = bytes_of(line, 1, inputs) else {
-        let n = say_error(out, no, b"malformed hexadecimal");
-        return Reply {
-            session: s,
-            length: n,
-        };
-    };
-    let j = within(k, inputs);
-    step_told(s, lengths, file, state, &inputs[..j], new, values, out)
 }
 
 // at STATE INPUTS [LENGTHS]
 fn at_command(
-    no: usize,
-    line: &[u8],
-    s: Session,
+    l: Lengths,
     file: &[u8],
+    m: usize,
+    likely: usize,
+    given: &[u8],
+    inputs: &[u8],
     state: &mut [u8],
-    bytes: &mut [u8],
-    inputs: &mut [u8],
     new: &mut [u8],
     values: &mut [u8],
     out: &mut [u8],
-) -> Reply
-    requires { ⌜ (length (now line) ≤ length (now bytes) + length (now bytes)) × (length (now line) ≤ length (now inputs) + length (now inputs)) × (length (now values) ≤ 4096) × (length (now new) ≤ length (now state)) × (128 + (2 * length (now values) + 2 * length (now new)) ≤ length (now out)) ⌝ }
-    ensures { λ r. ⌜ r .length ≤ length (now (out .exit)) ⌝ }
+) -> Stood
+    requires { ⌜ (length (now given) ≤ 131072) × Room (now state) (now new) (now values) (now out) ⌝ }
+    ensures { λ r. ⌜ Tells (atTold (now (file .entry)) (now (given .entry)) (now (inputs .entry)) l (take m (now (state .entry)))) (r .length) (r .state) (now (state .exit)) (now (out .exit)) ⌝ }
 {
-    let lengths = lengths_of(line, 3);
-    if let Lengths::Malformed = lengths {
-        let n = say_error(out, no, b"malformed number");
-        return Reply {
+    let f = load_fault(file, given);
+    if f.number == 0 {
+        replace(state, given);
+        return cycle_command(
+            l,
+            file,
+            given.len(),
+            likely,
+            inputs,
+            state,
+            new,
+            values,
+            out,
+        );
+    }
+    let k = say_refused(out, f.number, f.place);
+    Stood {
+        length: k,
+        state: m,
+        values: likely,
+    }
+}
+
+// start
+fn start_on(file: &[u8], likely: usize, state: &mut [u8], out: &mut [u8]) -> Stood
+    requires { ⌜ (length (now state) ≡ 131072) × (length (now out) ≡ 393216) ⌝ }
+    ensures { λ r. ⌜ Tells (told startAgain (now (file .entry)) []) (r .length) (r .state) (now (state .exit)) (now (out .exit)) ⌝ }
+{
+    let b = begin(file, state);
+    let v = b.verdict;
+    let m = within(b.state, state);
+    let k = start_command(v, &state[..m], out);
+    Stood {
+        length: k,
+        state: m,
+        values: likely,
+    }
+}
+
+// What is asked about the file that is open, whose state has m bytes.
+fn tell_about(
+    q: Query,
+    file: &[u8],
+    m: usize,
+    likely: usize,
+    bytes: &[u8],
+    inputs: &[u8],
+    state: &mut [u8],
+    new: &mut [u8],
+    values: &mut [u8],
+    out: &mut [u8],
+) -> Stood
+    requires { ⌜ (length (now bytes) ≡ 131072) × Room (now state) (now new) (now values) (now out) ⌝ }
+    ensures { λ r. ⌜ Tells (told (askedIn q (now (bytes .entry)) (now (inputs .entry))) (now (file .entry)) (take m (now (state .entry)))) (r .length) (r .state) (now (state .exit)) (now (out .exit)) ⌝ }
+{
+    match q {
+        Query::Order(node) => {
+            let k = order_command(node, file, out);
+            Stood {
+                length: k,
+                state: m,
+                values: likely,
+            }
+        }
+        Query::Start => start_on(file, likely, state, out),
+        Query::Load(n) => {
+            let k = within(n, bytes);
+            load_command(file, &bytes[..k], m, likely, state, out)
+        }
+        Query::Cycle(n, l) => {
+            let j = within(n, inputs);
+            cycle_command(l, file, m, likely, &inputs[..j], state, new, values, out)
+        }
+        Query::At(n, i, l) => {
+            let k = within(n, bytes);
+            let j = within(i, inputs);
+            at_command(
+                l,
+                file,
+                m,
+                likely,
+                &bytes[..k],
+                &inputs[..j],
+                state,
+                new,
+                values,
+                out,
+            )
+        }
+    }
+}
+
+// file HEX
+fn open_file(n: usize, bytes: &[u8], file: &mut [u8], state: &mut [u8], out: &mut [u8]) -> Replied
+    requires { ⌜ (length (now bytes) ≡ 131072) × (length (now file) ≡ 131072) × (length (now state) ≡ 131072) × (length (now out) ≡ 393216) ⌝ }
+    ensures { λ r. ⌜ ((no : ℕ) (st : Standing) → Replies (obey no (fileOf (take n (now (bytes .entry)))) st) (r .length) (r .session) (now (file .exit)) (now (state .exit)) (now (out .exit))) ⌝ }
+{
+    let k = within(n, bytes);
+    replace(file, &bytes[..k]);
+    let b = begin(&file[..k], state);
+    let v = b.verdict;
+    let length = admit_command(v, out);
+    Replied {
+        session: Session {
+            is_open: true,
+            file: k,
+            state: b.state,
+            values: 0,
+        },
+        length,
+    }
+}
+
+// What is asked about the file, where one is open.
+fn about_file(
+    no: usize,
+    q: Query,
+    s: Session,
+    file: &[u8],
+    bytes: &[u8],
+    inputs: &[u8],
+    state: &mut [u8],
+    new: &mut [u8],
+    values: &mut [u8],
+    out: &mut [u8],
+) -> Replied
+    requires { ⌜ (length (now bytes) ≡ 131072) × Room (now state) (now new) (now values) (now out) ⌝ }
+    ensures { λ r. ⌜ Replies (tellAbout no (askedIn q (now (bytes .entry)) (now (inputs .entry))) (standing s (now (file .entry)) (now (state .entry)))) (r .length) (r .session) (now (file .entry)) (now (state .exit)) (now (out .exit)) ⌝ }
+{
+    if !s.is_open {
+        let k = say_reason(out, no, Reason::NoFile);
+        return Replied {
             session: s,
-            length: n,
+            length: k,
         };
     }
-    let Hex::Bytes(k) = bytes_of(line, 2, inputs) else {
-        let n = say_error(out, no, b"malformed hexadecimal");
-        return Reply {
-            session: s,
-            length: n,
-        };
-    };
-    let j = within(k, inputs);
-    step_at(
-        no,
-        line,
-        s,
-        lengths,
-        file,
-        state,
+    let m = within(s.file, file);
+    let r = tell_about(
+        q,
+        &file[..m],
+        s.state,
+        s.values,
         bytes,
-        &inputs[..j],
+        inputs,
+        state,
         new,
         values,
         out,
-    )
+    );
+    Replied {
+        session: Session {
+            is_open: true,
+            file: m,
+            state: r.state,
+            values: r.values,
+        },
+        length: r.length,
+    }
 }
 
-// The cycle from a state that the line gives, with the inputs decoded.
-fn step_at(
+// The answer to a request, and what is kept from then on.
+fn obey(
     no: usize,
-    line: &[u8],
+    q: Request,
     s: Session,
-    lengths: Lengths,
-    file: &[u8],
-    state: &mut [u8],
-    bytes: &mut [u8],
+    bytes: &[u8],
     inputs: &[u8],
+    file: &mut [u8],
+    state: &mut [u8],
     new: &mut [u8],
     values: &mut [u8],
     out: &mut [u8],
-) -> Reply
-    requires { ⌜ (length (now line) ≤ length (now bytes) + length (now bytes)) × (length (now values) ≤ 4096) × (length (now new) ≤ length (now state)) × (128 + (2 * length (now values) + 2 * length (now new)) ≤ length (now out)) ⌝ }
-    ensures { λ r. ⌜ r .length ≤ length (now (out .exit)) ⌝ }
+) -> Replied
+    requires { ⌜ (length (now bytes) ≡ 131072) × (length (now file) ≡ 131072) × Room (now state) (now new) (now values) (now out) ⌝ }
+    ensures { λ r. ⌜ Replies (obey no (asked q (now (bytes .entry)) (now (inputs .entry))) (standing s (now (file .entry)) (now (state .entry)))) (r .length) (r .session) (now (file .exit)) (now (state .exit)) (now (out .exit)) ⌝ }
 {
-    let Hex::Bytes(k) = bytes_of(line, 1, bytes) else {
-        let n = say_error(out, no, b"malformed hexadecimal");
-        return Reply {
+    match q {
+        Request::Silent => Replied {
             session: s,
-            length: n,
-        };
-    };
-    let j = within(k, bytes);
-    if !take_state(file, state, &bytes[..j]) {
-        let n = say_refused(out, 15, 0);
-        return Reply {
-            session: s,
-            length: n,
-        };
-    }
-    step_told(s, lengths, file, state, inputs, new, values, out)
-}
-
-const UNKNOWN: u8 = 0;
-
-const FILE: u8 = 1;
-
-const ORDER: u8 = 2;
-
-const START: u8 = 3;
-
-const LOAD: u8 = 4;
-
-const CYCLE: u8 = 5;
-
-const AT: u8 = 6;
-
-// The command that a line's first word names.
-fn command(word: &[u8]) -> u8 {
-    if check::same(word, b"file") {
-        FILE
-    } else if check::same(word, b"order") {
-        ORDER
-    } else if check::same(word, b"start") {
-        START
-    } else if check::same(word, b"load") {
-        LOAD
-    } else if check::same(word, b"cycle") {
-        CYCLE
-    } else if check::same(word, b"at") {
-        AT
-    } else {
-        UNKNOWN
+            length: 0,
+        },
+        Request::Wrong(why) => {
+            let k = say_reason(out, no, why);
+            Replied {
+                session: s,
+                length: k,
+            }
+        }
+        Request::File(n) => open_file(n, bytes, file, state, out),
+        Request::About(x) => about_file(no, x, s, file, bytes, inputs, state, new, values, out),
     }
 }
 
-// Whether a command may have so many words, its own included.
-fn fits(command: u8, words: usize) -> bool {
-    match command {
-        FILE | ORDER | LOAD => words == 2,
-        START => words == 1,
-        CYCLE => words == 2 || words == 4,
-        _ => words == 3 || words == 5,
-    }
-}
-
-// Whether the line says nothing: it has no word, or begins with #.
-fn is_silent(line: &[u8]) -> bool {
-    let w = nth(line, 0);
-    let from = w.from;
-    if from < line.len() {
-        line[from] == b'#'
-    } else {
-        true
-    }
-}
-
-fn command_of(line: &[u8]) -> u8 {
-    let w = nth(line, 0);
-    let from = w.from;
-    let to = w.to;
-    command(&line[from..to])
-}
-
-// The answer to a line, and what is kept from then on; no answer where the line says nothing.
+// The answer to a line, and what is kept from then on: no text where the line says nothing.
 pub(crate) fn answer(
     no: usize,
     line: &[u8],
     s: Session,
-    file: &mut [u8],
-    state: &mut [u8],
-    bytes: &mut [u8],
-    inputs: &mut [u8],
-    new: &mut [u8],
-    values: &mut [u8],
-    out: &mut [u8],
-) -> Reply
-    requires { ⌜ (length (now line) ≤ 262144) × (length (now file) ≡ 131072) × Room (now state) (now bytes) (now inputs) (now new) (now values) (now out) ⌝ }
-    ensures { λ r. ⌜ r .length ≤ length (now (out .exit)) ⌝ }
+    file: &mut [u8; 131072],
+    state: &mut [u8; 131072],
+    bytes: &mut [u8; 131072],
+    inputs: &mut [u8; 131072],
+    new: &mut [u8; 131072],
+    values: &mut [u8; 4096],
+    out: &mut [u8; 393216],
+) -> Replied
+    ensures { λ r. ⌜ Replies (reply no (now (line .entry)) (standing s (now (file .entry)) (now (state .entry)))) (r .length) (r .session) (now (file .exit)) (now (state .exit)) (now (out .exit)) ⌝ }
 {
-    if is_silent(line) {
-        return Reply {
-            session: s,
-            length: 0,
-        };
-    }
-    let command = command_of(line);
-    if command == UNKNOWN {
-        let n = say_error(out, no, b"unknown command");
-        return Reply {
-            session: s,
-            length: n,
-        };
-    }
-    if !fits(command, words(line)) {
-        let n = say_error(out, no, b"wrong number of words");
-        return Reply {
-            session: s,
-            length: n,
-        };
-    }
-    if command == FILE {
-        return file_command(no, line, s, file, state, bytes, out);
-    }
-    if !s.is_open {
-        let n = say_error(out, no, b"no file");
-        return Reply {
-            session: s,
-            length: n,
-        };
-    }
-    let m = within(s.file, file);
-    answer_on(
-        no,
-        command,
-        line,
-        s,
-        &file[..m],
-        state,
-        bytes,
-        inputs,
-        new,
-        values,
-        out,
-    )
-}
-
-// The answer to a command about the file.
-fn answer_on(
-    no: usize,
-    command: u8,
-    line: &[u8],
-    s: Session,
-    file: &[u8],
-    state: &mut [u8],
-    bytes: &mut [u8],
-    inputs: &mut [u8],
-    new: &mut [u8],
-    values: &mut [u8],
-    out: &mut [u8],
-) -> Reply
-    requires { ⌜ (length (now line) ≤ 262144) × Room (now state) (now bytes) (now inputs) (now new) (now values) (now out) ⌝ }
-    ensures { λ r. ⌜ r .length ≤ length (now (out .exit)) ⌝ }
-{
-    if command == ORDER {
-        let n = order_command(no, line, file, out);
-        return Reply {
-            session: s,
-            length: n,
-        };
-    }
-    if s.number != 0 {
-        let n = say_refused(out, s.number, s.place);
-        return Reply {
-            session: s,
-            length: n,
-        };
-    }
-    if command == START {
-        return start_command(s, file, state, out);
-    }
-    if command == LOAD {
-        let n = load_command(no, line, file, state, bytes, out);
-        return Reply {
-            session: s,
-            length: n,
-        };
-    }
-    if command == CYCLE {
-        return cycle_command(no, line, s, file, state, inputs, new, values, out);
-    }
-    at_command(no, line, s, file, state, bytes, inputs, new, values, out)
+    let q = ask(line, bytes, inputs);
+    obey(no, q, s, bytes, inputs, file, state, new, values, out)
 }

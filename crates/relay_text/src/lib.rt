@@ -261,6 +261,7 @@ pub(crate) fn put_number(out: &mut [u8], at: usize, n: usize) -> usize
 // The number n, or the slice's length where that is less.
 pub fn within(n: usize, s: &[u8]) -> usize
     ensures { λ r. ⌜ Counts r (now (s .entry)) ⌝ }
+    ensures { λ r. ⌜ take r (now (s .entry)) ≡ take n (now (s .entry)) ⌝ }
 {
     if n <= s.len() { n } else { s.len() }
 }

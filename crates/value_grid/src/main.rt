@@ -12,17 +12,34 @@ use std::num::wrapping_add_u64;
 // How many cells the grid has.
 const CELLS: u64 = 42;
 
+// Says that the list ends too early: what was read stands for nothing, and the run cannot pass.
+fn tell_cut() {
+    io::write_all(STDOUT_FILENO, b"the list is cut off\n");
+}
+
+// Says where bytes are left behind the list's last answer.
+fn tell_left() {
+    let mut one = [0u8; 1];
+    if io::read_full(STDIN_FILENO, &mut one) > 0 {
+        io::write_all(STDOUT_FILENO, b"bytes are left behind the list\n");
+    }
+}
+
 // The next byte of the list.
 fn next_byte() -> u8 {
     let mut one = [0u8; 1];
-    io::read_full(STDIN_FILENO, &mut one);
+    if io::read_full(STDIN_FILENO, &mut one) < 1 {
+        tell_cut();
+    }
     one[0]
 }
 
 // The next nine bytes of the list.
 fn next_cell() -> [u8; 9] {
     let mut nine = [0u8; 9];
-    io::read_full(STDIN_FILENO, &mut nine);
+    if io::read_full(STDIN_FILENO, &mut nine) < 9 {
+        tell_cut();
+    }
     nine
 }
 
@@ -142,7 +159,9 @@ fn report(label: &[u8], section: u8, count: u64, grid: &[u8]) {
 // Each section of the list, with a line on each.
 fn main() {
     let mut space = [0u8; 378];
-    io::read_full(STDIN_FILENO, &mut space);
+    if io::read_full(STDIN_FILENO, &mut space) < 378 {
+        tell_cut();
+    }
     let grid: &[u8] = &space;
     report(b"binary operators: ", 0, 20 * CELLS * CELLS, grid);
     report(b"unary operators: ", 1, 2 * CELLS, grid);
@@ -151,4 +170,5 @@ fn main() {
     report(b"inputs: ", 4, 13 * CELLS, grid);
     report(b"defaults: ", 5, 13, grid);
     report(b"cells: ", 6, 17, grid);
+    tell_left();
 }

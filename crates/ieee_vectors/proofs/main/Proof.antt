@@ -5,7 +5,7 @@ use Rattle.ieee_vectors.proofs.main.Statement.{statement}
 use Rattle.ieee_vectors.proofs.main.Tie as tie
 
 abbrev Inv-loop : tie.InvT-loop
-Inv-loop right₀ wrong₀ left₀ right wrong left = right + wrong + left ≤ 100000
+Inv-loop right₀ wrong₀ left₀ right wrong left = right + wrong + left ≤ 18446744073709551615
 
 abbrev μ-loop : tie.MeasureT-loop
 μ-loop right₀ wrong₀ left₀ right wrong left = left

@@ -9,8 +9,8 @@ use Rattle.ol_sim_c.proofs.ol_sim_admit.Tie as tie
 admission-requires : tie.Need-admission-requires
 admission-requires c κs = search needs
 
-verdict-length-requires : tie.Need-verdict-length-requires
-verdict-length-requires c κs = search needs
+size-after-requires : tie.Need-size-after-requires
+size-after-requires c κs = search needs
 
 verdict-fault-requires : tie.Need-verdict-fault-requires
 verdict-fault-requires c κs = search needs
@@ -19,14 +19,14 @@ tell-requires : tie.Need-tell-requires
 tell-requires c κs = search needs
 
 returns : tie.Need-returns
-returns c = admits (c .before .before .before .before .admission .result) (admission relayLoader (c .before .before .before .before .before .before .args .file .now)) (c .before .before .before .verdict-length .result) (c .before .before .before .before .admission .ensures .answered) (c .before .before .before .verdict-length .ensures) (c .before .before .verdict-fault .ensures) (c .tell .ensures)
+returns c = admits (c .before .before .before .before .before .admission .result) (admission relayLoader (c .before .before .before .before .before .before .before .args .file .now)) (c .before .before .before .before .before .before .before .args .size .now) (c .before .before .before .size-after .result) (c .before .before .before .before .before .admission .ensures .answered) (c .before .before .before .size-after .ensures) (c .before .before .verdict-fault .ensures) (c .tell .ensures)
 
 pub ol-sim-admit-spec : {M : Type 1} → statement M
 ol-sim-admit-spec =
     tie.close
     (tie.spec
     admission-requires
-    verdict-length-requires
+    size-after-requires
     verdict-fault-requires
     tell-requires
     returns)

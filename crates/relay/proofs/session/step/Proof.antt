@@ -1,72 +1,64 @@
-use native.Mathlib.Omega.{arith}
+-- <uses>
+use lib.ListN.{take}
+use Rattle.relay.proofs.Tellings.{not-true, step-found}
+-- </uses>
 use borrow.Author.Needs.{needs}
-use Prim.Native.Nat.{_≤_, _-_}
-use mathlib.Core.Path.{_≡_, refl, _∙_}
-use lib.ListN.{length, length-set}
 use Rattle.relay.proofs.session.step.Statement.{statement}
 use Rattle.relay.proofs.session.step.Tie as tie
+use Rattle.relay.proofs.session.step.Reads as reads
+use Rattle.relay.proofs.session.step.Lts as lts
+use Rattle.relay.proofs.session.cycle_with.Reads as cycle-with-reads
+use Rattle.relay.proofs.session.is_refused_by.Reads as is-refused-by-reads
+use Rattle.relay.proofs.session.try_lengths.Reads as try-lengths-reads
 
-abbrev Inv-loop : tie.InvT-loop
-Inv-loop file old inputs new₀ values₀ least n₀ new values n = (length new ≡ length new₀) × (length values ≡ length values₀)
+-- src/session.rt:197:9
+cycle-with-requires : tie.Need-cycle-with-requires
+cycle-with-requires c κs = search needs
 
-abbrev μ-loop : tie.MeasureT-loop
-μ-loop file old inputs new₀ values₀ least n₀ new values n = length values - n
+-- src/session.rt:198:9
+is-refused-by-requires : tie.Need-is-refused-by-requires
+is-refused-by-requires c κs = search needs
 
-loop-holds : tie.Need-loop-holds Inv-loop μ-loop
-loop-holds c = (refl, refl)
+-- src/session.rt:199:9
+same-length : tie.Need-same-length
+same-length c = search needs
 
-cycle-with-requires : tie.Need-cycle-with-requires Inv-loop μ-loop
-cycle-with-requires c κs = tt
+-- src/session.rt:199:9
+same-length-2 : tie.Need-same-length-2
+same-length-2 c = search needs
 
-is-refused-by-requires : tie.Need-is-refused-by-requires Inv-loop μ-loop
-is-refused-by-requires c κs = tt
+-- src/session.rt:199:9
+returns : tie.Need-returns
+returns c =
+    let start = c .before .before .before .before .before .before .before .before .before .before .before .before .before .before in
+    step-found (start .args .file .now) (start .args .old .now) (start .args .inputs .now) (start .args .new .now) (c .before .before .before .before .before .before .cycle-with .last .1 .1 .1 .0) (take (start .args .likely) (start .args .values .now)) (take (start .args .likely) (c .before .before .before .before .before .before .cycle-with .last .1 .1 .1 .1 .0)) (c .before .before .before .before .before .before .cycle-with .result) (start .pre .0) (c .before .before .before .before .before .before .cycle-with .ensures) (c .before .is-refused-by .result) (c .before .is-refused-by .ensures) (not-true (c .before .is-refused-by .result) (c .if1 .taken))
 
-same-length : tie.Need-same-length Inv-loop μ-loop
-same-length c = c .before .before .before .before .before .before .cycle-with .kept .1 .1 .1 .0 ∙ c .before .before .before .before .before .before .before .before .before .before .loop .inv .0
+-- src/session.rt:204:5
+try-lengths-requires : tie.Need-try-lengths-requires
+try-lengths-requires c κs = search needs
 
-same-length-2 : tie.Need-same-length-2 Inv-loop μ-loop
-same-length-2 c = c .before .before .before .before .before .before .cycle-with .kept .1 .1 .1 .1 .0 ∙ c .before .before .before .before .before .before .before .before .before .before .loop .inv .1
+-- src/session.rt:186:1
+same-length-3 : tie.Need-same-length-3
+same-length-3 c = search needs
 
-returns : tie.Need-returns Inv-loop μ-loop
-returns c = tt
+-- src/session.rt:186:1
+same-length-4 : tie.Need-same-length-4
+same-length-4 c = search needs
 
-add-n : tie.Need-add-n Inv-loop μ-loop
-add-n c = omega arith
-
-loop-less : tie.Need-loop-less Inv-loop μ-loop
-loop-less c = omega (arith, c .before .before .before .before .before .before .cycle-with .kept .1 .1 .1 .1 .0)
-
-loop-again : tie.Need-loop-again Inv-loop μ-loop
-loop-again c = (c .before .before .before .before .before .before .cycle-with .kept .1 .1 .1 .0 ∙ c .before .before .before .before .before .before .before .before .before .before .loop .inv .0, c .before .before .before .before .before .before .cycle-with .kept .1 .1 .1 .1 .0 ∙ c .before .before .before .before .before .before .before .before .before .before .loop .inv .1)
-
-cycle-with-requires-2 : tie.Need-cycle-with-requires-2 Inv-loop μ-loop
-cycle-with-requires-2 c κs = tt
-
-same-length-3 : tie.Need-same-length-3 Inv-loop μ-loop
-same-length-3 c = c .before .before .before .before .cycle-with2 .kept .1 .1 .1 .0 ∙ c .before .before .before .before .before .before .before .before .loop .inv .0
-
-same-length-4 : tie.Need-same-length-4 Inv-loop μ-loop
-same-length-4 c = c .before .before .before .before .cycle-with2 .kept .1 .1 .1 .1 .0 ∙ c .before .before .before .before .before .before .before .before .loop .inv .1
-
-returns-2 : tie.Need-returns-2 Inv-loop μ-loop
-returns-2 c = tt
+-- src/session.rt:186:1
+returns-2 : tie.Need-returns-2
+returns-2 c = search needs
 
 pub step-spec : {M : Type 1} → statement M
 step-spec =
     tie.close
     (tie.spec
-    Inv-loop
-    μ-loop
-    loop-holds
     cycle-with-requires
     is-refused-by-requires
     same-length
     same-length-2
     returns
-    add-n
-    loop-less
-    loop-again
-    cycle-with-requires-2
+    try-lengths-requires
     same-length-3
     same-length-4
     returns-2)

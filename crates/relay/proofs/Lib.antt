@@ -1,0 +1,4 @@
+pub mod Calls
+pub mod Asks
+pub mod Tellings
+pub mod Lines

@@ -1,0 +1,197 @@
+-- The bytes of a line, taken one by one.
+use Prim.Native.Nat.{ℕ, suc, _+_, _≤_, _<_}
+use mathlib.Core.Bool.{Bool, true, false, not, cond}
+use mathlib.Core.List.{List, [], _∷_, _++_, append-nil, append-assoc}
+use mathlib.Core.Path.{_≡_, refl, sym, ap, subst, _∙_}
+use mathlib.Core.Logic.{by-cases}
+use native.Mathlib.Omega.{arith}
+use native.Mathlib.Decide.{decLe}
+use lib.ListN.{length, take, drop, getD, set, length-take, length-set, drop-of-length-le}
+use lib.Seq.{take-all, length-take-le, take-append-le, take-suc-set, drop-cons, getD-take}
+use lib.Dec.{eqb, eqb→eq}
+use Rattle.ol_spec.proofs.Tests.{T-true, T-false, eq-eqb}
+use Rattle.relay.specs.Requests.{asks}
+use Rattle.relay.specs.Reply.{Standing, obey, reply}
+use Rattle.relay.specs.Kept.{standing, Replies}
+use Rattle.relay.specs.Turns.{lineOf, restOf, hasEnd, cut, unread, begun, Takes, Refills, Gathers, Turned, waiting}
+use Rattle.relay.specs.declared.Turn.{Turn}
+use Rattle.relay.specs.declared.session.Session.{Session}
+use Rattle.relay.specs.declared.Input.{Input}
+use Rattle.relay.proofs.Asks.{asks-long}
+
+clash : (b : Bool) → b ≡ false → b ≡ true → ⊥
+clash b f t = let z : _≡_ {A = ℕ} 0 1 = cc in omega arith
+
+-- where the loop stands: the line's first n bytes, and what is unread, against those that it began with
+pub record Going (line₀ unread₀ line : List ℕ) (n : ℕ) (unread : List ℕ) : Type 0 where
+  pub long : length line ≡ 262145
+  pub ends : hasEnd unread₀ ≡ hasEnd unread
+  pub line-is : cut (line₀ ++ lineOf unread₀) ≡ cut (take n line ++ lineOf unread)
+  pub rest-is : restOf unread₀ ≡ restOf unread
+
+pub going-start : (line : List ℕ) (n : ℕ) (unread : List ℕ) → length line ≡ 262145 → Going (take n line) unread line n unread
+going-start line n unread h = record { long = h; ends = refl; line-is = refl; rest-is = refl }
+
+-- the next byte
+next-byte : (input : List ℕ) (at end : ℕ) → at < end → end ≤ length input → drop at (take end input) ≡ getD input at 0 ∷ drop (at + 1) (take end input)
+next-byte input at end lt le =
+    let long : at < length (take end input) = omega (arith, length-take-le end input le) in
+    let one : suc at ≡ at + 1 = omega arith in
+    drop-cons (take end input) at 0 long ∙ ap (λ x. x ∷ drop (suc at) (take end input)) (getD-take end input at 0 lt) ∙ ap (λ n. getD input at 0 ∷ drop n (take end input)) one
+
+short : (line : List ℕ) (n : ℕ) → length line ≡ 262145 → cut (take n line) ≡ take n line
+short line n h = take-all 262145 (take n line) (omega (arith, length-take n line))
+
+-- the line's end
+end-line : (b : ℕ) (l : List ℕ) → b ≡ 10 → lineOf (b ∷ l) ≡ []
+unfolding lineOf
+end-line b l e = rw (T-true (eqb b 10) (eq-eqb b 10 e)) refl
+
+end-rest : (b : ℕ) (l : List ℕ) → b ≡ 10 → restOf (b ∷ l) ≡ l
+unfolding restOf
+end-rest b l e = rw (T-true (eqb b 10) (eq-eqb b 10 e)) refl
+
+end-has : (b : ℕ) (l : List ℕ) → b ≡ 10 → hasEnd (b ∷ l) ≡ true
+unfolding hasEnd
+end-has b l e = rw (T-true (eqb b 10) (eq-eqb b 10 e)) refl
+
+on-line : (b : ℕ) (l : List ℕ) → ¬ (b ≡ 10) → lineOf (b ∷ l) ≡ b ∷ lineOf l
+unfolding lineOf
+on-line b l e = rw (T-false (eqb b 10) (λ t. e (eqb→eq b 10 t))) refl
+
+on-rest : (b : ℕ) (l : List ℕ) → ¬ (b ≡ 10) → restOf (b ∷ l) ≡ restOf l
+unfolding restOf
+on-rest b l e = rw (T-false (eqb b 10) (λ t. e (eqb→eq b 10 t))) refl
+
+on-has : (b : ℕ) (l : List ℕ) → ¬ (b ≡ 10) → hasEnd (b ∷ l) ≡ hasEnd l
+unfolding hasEnd
+on-has b l e = rw (T-false (eqb b 10) (λ t. e (eqb→eq b 10 t))) refl
+
+none-line : lineOf [] ≡ []
+unfolding lineOf
+none-line = refl
+
+none-rest : restOf [] ≡ []
+unfolding restOf
+none-rest = refl
+
+none-has : hasEnd [] ≡ false
+unfolding hasEnd
+none-has = refl
+
+module _ (line₀ unread₀ line input : List ℕ) (n at end : ℕ) (le : end ≤ length input) (g : Going line₀ unread₀ line n (drop at (take end input))) where
+  abbrev b : ℕ
+  b = getD input at 0
+
+  abbrev rest : List ℕ
+  rest = drop (at + 1) (take end input)
+
+  pub going-whole : (lt : at < end) → b ≡ 10 → Takes line₀ unread₀ (record { at = at + 1; end = end; length = n; «is_whole» = true; «is_end» = false }) line input
+  going-whole lt e =
+      let u = next-byte input at end lt le in
+      record {
+        whole = sym (g .ends ∙ ap hasEnd u ∙ end-has b rest e);
+        gone-on = sym (g .line-is ∙ ap (λ l. cut (take n line ++ lineOf l)) u ∙ ap (λ l. cut (take n line ++ l)) (end-line b rest e) ∙ ap cut (append-nil (take n line)) ∙ short line n (g .long));
+        left = sym (g .rest-is ∙ ap restOf u ∙ end-rest b rest e);
+      }
+
+  pub going-stored : (lt : at < end) → ¬ (b ≡ 10) → n < length line → Going line₀ unread₀ (set line n b) (n + 1) rest
+  going-stored lt e h =
+      let u = next-byte input at end lt le in
+      let one : suc n ≡ n + 1 = omega arith in
+      let stored : take n line ++ (b ∷ lineOf rest) ≡ take (n + 1) (set line n b) ++ lineOf rest = sym (append-assoc (take n line) (b ∷ []) (lineOf rest)) ∙ ap (λ l. l ++ lineOf rest) (sym (take-suc-set line n b h) ∙ ap (λ m. take m (set line n b)) one) in
+      record {
+        long = length-set line n b ∙ g .long;
+        ends = g .ends ∙ ap hasEnd u ∙ on-has b rest e;
+        line-is = g .line-is ∙ ap (λ l. cut (take n line ++ lineOf l)) u ∙ ap (λ l. cut (take n line ++ l)) (on-line b rest e) ∙ ap cut stored;
+        rest-is = g .rest-is ∙ ap restOf u ∙ on-rest b rest e;
+      }
+
+  full : length line ≤ n → (l : List ℕ) → cut (take n line ++ l) ≡ line
+  full h l =
+      let all : take n line ≡ line = take-all n line h in
+      ap (λ x. cut (x ++ l)) all ∙ take-append-le 262145 line l (omega (arith, g .long)) ∙ take-all 262145 line (omega (arith, g .long))
+
+  pub going-dropped : (lt : at < end) → ¬ (b ≡ 10) → length line ≤ n → Going line₀ unread₀ line n rest
+  going-dropped lt e h =
+      let u = next-byte input at end lt le in
+      record {
+        long = g .long;
+        ends = g .ends ∙ ap hasEnd u ∙ on-has b rest e;
+        line-is = g .line-is ∙ full h (lineOf (drop at (take end input))) ∙ sym (full h (lineOf rest));
+        rest-is = g .rest-is ∙ ap restOf u ∙ on-rest b rest e;
+      }
+
+  pub going-end : (f : Bool) → end ≤ at → Takes line₀ unread₀ (record { at = at; end = end; length = n; «is_whole» = false; «is_end» = f }) line input
+  going-end f h =
+      let u : drop at (take end input) ≡ [] = drop-of-length-le (take end input) {i = at} (omega (arith, length-take end input)) in
+      record {
+        whole = sym (g .ends ∙ ap hasEnd u ∙ none-has);
+        gone-on = sym (g .line-is ∙ ap (λ l. cut (take n line ++ lineOf l)) u ∙ ap (λ l. cut (take n line ++ l)) none-line ∙ ap cut (append-nil (take n line)) ∙ short line n (g .long));
+        left = u ∙ sym (g .rest-is ∙ ap restOf u ∙ none-rest);
+      }
+
+pub going-from : (line : List ℕ) (n at : ℕ) (x y : List ℕ) → length line ≡ 262145 → x ≡ y → Going (take n line) (drop at y) line n (drop at x)
+going-from line n at x y h e = subst (λ z. Going (take n line) (drop at z) line n (drop at x)) e (going-start line n (drop at x) h)
+
+-- ---- turns
+
+waits-part : (w e z : Bool) → cond w false (cond e z true) ≡ true → w ≡ false
+waits-part true e z h = let x : _≡_ {A = ℕ} 0 1 = cc in absurd (omega arith)
+waits-part false e z h = refl
+
+ends-part : (w e z : Bool) → cond w false (cond e z true) ≡ false → w ≡ false → e ≡ true
+ends-part w true z h f = refl
+ends-part true false z h f = let x : _≡_ {A = ℕ} 0 1 = cc in absurd (omega arith)
+ends-part false false z h f = let x : _≡_ {A = ℕ} 0 1 = cc in absurd (omega arith)
+
+pub not-whole : (i : Input) (b : Bool) → b ≡ waiting i → b ≡ true → i .«is_whole» ≡ false
+not-whole i b e h = waits-part (i .«is_whole») (i .«is_end») (eqb (i .length) 0) (sym e ∙ h)
+
+pub last-line : (i : Input) (b o t : Bool) → b ≡ waiting i → b ≡ false → o ≡ cond (i .«is_end») true (not t) → i .«is_whole» ≡ false → o ≡ true
+last-line i b o t e h l w = l ∙ ap (λ x. cond x true (not t)) (ends-part (i .«is_whole») (i .«is_end») (eqb (i .length) 0) (sym e ∙ h) w)
+
+pub gathers : (i f r : Input) (line input line′ input′ : List ℕ) → Refills i input f input′ → Takes (begun f line) (unread f input′) r line′ input′ → Gathers i line input r line′ input′
+gathers i f r line input line′ input′ h t =
+    record {
+      read = unread f input′;
+      same = λ lt. ap (λ (x : Input). unread x input′) (h .kept lt .0) ∙ ap (unread i) (h .kept lt .1);
+      takes = subst (λ n. Takes (take n line) (unread f input′) r line′ input′) (h .begun-is) t;
+    }
+
+pub turned-waits : (t : Turn) (taken : Input) (line input line′ input′ file state out : List ℕ) (over : Bool) → Gathers (t .input) line input taken line′ input′ → taken .«is_whole» ≡ false → Turned t (record { session = t .session; input = taken; line = t .line; «is_over» = over }) line input file state line′ input′ file state out
+turned-waits t taken line input line′ input′ file state out over g w =
+    record {
+      read = g .read;
+      same = g .same;
+      answered = λ h. absurd (clash (taken .«is_whole») w (g .takes .whole ∙ h));
+      rest = λ h. absurd (clash (taken .«is_whole») w (g .takes .whole ∙ h));
+      waits = λ h o. (g .takes .gone-on, refl);
+    }
+
+pub turned-answered : (t : Turn) (taken : Input) (line input line′ input′ file state file′ state′ out : List ℕ) (kept : Session) (n k : ℕ) (over : Bool) → Gathers (t .input) line input taken line′ input′ → Replies (reply (t .line) (take (taken .length) line′) (standing (t .session) file state)) n kept file′ state′ out → (taken .«is_whole» ≡ false → over ≡ true) → Turned t (record { session = kept; input = record { at = taken .at; end = taken .end; length = 0; «is_whole» = false; «is_end» = false }; line = k; «is_over» = over }) line input file state line′ input′ file′ state′ out
+turned-answered t taken line input line′ input′ file state file′ state′ out kept n k over g r w =
+    record {
+      read = g .read;
+      same = g .same;
+      answered = λ h. (n, subst (λ l. Replies (reply (t .line) l (standing (t .session) file state)) n kept file′ state′ out) (g .takes .gone-on) r);
+      rest = λ h. (g .takes .left, refl);
+      waits = λ h o. absurd (clash over o (w (g .takes .whole ∙ h)));
+    }
+
+pub of-part : {n : ℕ} {s : Session} {file state out : List ℕ} (number : ℕ) (a b : List ℕ) (st : Standing) → a ≡ b → Replies (reply number a st) n s file state out → Replies (reply number b st) n s file state out
+of-part {n} {s} {file} {state} {out} number a b st e h = subst (λ l. Replies (reply number l st) n s file state out) e h
+
+pub at-end : (i : Input) → i .«is_whole» ≡ false → i .«is_end» ≡ true → eqb (i .length) 0 ≡ waiting i
+at-end i w e = sym (ap (λ x. cond x false (cond (i .«is_end») (eqb (i .length) 0) true)) w ∙ ap (λ x. cond x (eqb (i .length) 0) true) e)
+
+-- ---- a line that is too long: what is kept of it is too long, too
+
+asks-cut : (line : List ℕ) → asks (cut line) ≡ asks line
+asks-cut line =
+    by-cases (decLe (length line) 262145) (λ le. ap asks (take-all 262145 line le))
+    (λ gt. asks-long (cut line) (omega (arith, length-take 262145 line)) ∙ sym (asks-long line (omega arith)))
+
+pub reply-cut : (number : ℕ) (line : List ℕ) (st : Standing) → reply number (cut line) st ≡ reply number line st
+unfolding reply
+reply-cut number line st = ap (λ x. obey number x st) (asks-cut line)

@@ -1,0 +1,65 @@
+-- The input as lines: what a turn of the loop does with the bytes that a read gave.
+-- Free are which bytes a read gives and how many at a time, and whether a write takes them: the contracts of read and write leave that open.
+use Prim.Native.Nat.{ℕ, _<_}
+use mathlib.Core.Bool.{Bool, true, false, cond}
+use mathlib.Core.List.{List, [], _∷_, _++_}
+use mathlib.Core.Path.{_≡_}
+use lib.ListN.{length, take, drop}
+use lib.Dec.{eqb}
+use Rattle.relay.specs.Reply.{reply}
+use Rattle.relay.specs.Kept.{standing, Replies}
+use Rattle.relay.specs.declared.Input.{Input}
+use Rattle.relay.specs.declared.Turn.{Turn}
+
+-- the bytes up to the first line's end, those behind it, and whether there is one
+unfoldable pub lineOf : List ℕ → List ℕ
+lineOf [] = []
+lineOf (x ∷ l) = cond (eqb x 10) [] (x ∷ lineOf l)
+
+unfoldable pub restOf : List ℕ → List ℕ
+restOf [] = []
+restOf (x ∷ l) = cond (eqb x 10) l (restOf l)
+
+unfoldable pub hasEnd : List ℕ → Bool
+hasEnd [] = false
+hasEnd (x ∷ l) = cond (eqb x 10) true (hasEnd l)
+
+-- a line, of which no more is kept than shows that it is too long
+abbrev pub cut : List ℕ → List ℕ
+cut l = take 262145 l
+
+-- what of the input is not taken yet, and what there is of the line
+abbrev pub unread : Input → List ℕ → List ℕ
+unread i input = drop (i .at) (take (i .end) input)
+
+abbrev pub begun : Input → List ℕ → List ℕ
+begun i line = take (i .length) line
+
+-- whether the line waits for more: its end is not met, and the input goes on, or there is nothing of the line
+abbrev pub waiting : Input → Bool
+waiting i = cond (i .«is_whole») false (cond (i .«is_end») (eqb (i .length) 0) true)
+
+-- the line goes on up to its end, or the input's; the rest is kept
+pub record Takes (line unread : List ℕ) (r : Input) (line′ input : List ℕ) : Type 0 where
+  pub whole : r .«is_whole» ≡ hasEnd unread
+  pub gone-on : take (r .length) line′ ≡ cut (line ++ lineOf unread)
+  pub left : drop (r .at) (take (r .end) input) ≡ restOf unread
+
+-- a read, where nothing is unread; what it gives is free
+pub record Refills (i : Input) (input : List ℕ) (r : Input) (input′ : List ℕ) : Type 0 where
+  pub begun-is : r .length ≡ i .length
+  pub kept : i .at < i .end → (r ≡ i) × (input′ ≡ input)
+
+-- the line goes on with what is unread; where nothing is, with what a read gives
+pub record Gathers (i : Input) (line input : List ℕ) (r : Input) (line′ input′ : List ℕ) : Type 0 where
+  pub read : List ℕ
+  pub same : i .at < i .end → read ≡ unread i input
+  pub takes : Takes (begun i line) read r line′ input′
+
+-- a turn: a line whose end is met is answered, and the rest stays unread; else the line waits for more, and what stands stays
+pub record Turned (t r : Turn) (line input file state line′ input′ file′ state′ out : List ℕ) : Type 0 where
+  pub read : List ℕ
+  pub same : t .input .at < t .input .end → read ≡ unread (t .input) input
+  pub answered : hasEnd read ≡ true → (n : ℕ) × Replies (reply (t .line) (cut (begun (t .input) line ++ lineOf read)) (standing (t .session) file state)) n (r .session) file′ state′ out
+  pub rest : hasEnd read ≡ true → (unread (r .input) input′ ≡ restOf read) × (begun (r .input) line′ ≡ [])
+  pub waits : hasEnd read ≡ false → r .«is_over» ≡ false → (begun (r .input) line′ ≡ cut (begun (t .input) line ++ lineOf read)) × (standing (r .session) file′ state′ ≡ standing (t .session) file state)
