@@ -24,7 +24,8 @@ use Rattle.ol_spec.specs.RustSim.{stuck, all-consts}
 use Rattle.ol_spec.specs.AsRust.{AsRust, RunsAsRust, constantPlace, ConstantsAsRust, OrdersAsRust}
 use Rattle.ol_spec.specs.Lustre.{PreArrowClaim}
 use Rattle.ol_spec.specs.Instances.{AllAtPast, InstancesClaim}
-use Rattle.ol_spec.specs.Sequences.{Sequences, SequencesClaim, NeverReturns, StartNeverReturns}
+use Rattle.ol_spec.specs.Sequences.{Sequences, SequencesClaim, NeverReturns}
+use Rattle.ol_spec.specs.Instants.{AllPass, InstancesNeverReturn, InstantsClaim, StartNeverReturns}
 use Rattle.ol_spec.proofs.Admits.{admits}
 use Rattle.ol_spec.proofs.Demand3.{demand3, start-writes}
 use Rattle.ol_spec.proofs.AsRust.{runs-as-rust}
@@ -32,13 +33,14 @@ use Rattle.ol_spec.proofs.RustFile.{constants-as-rust}
 use Rattle.ol_spec.proofs.RustOrder.{orders-as-rust}
 use Rattle.ol_spec.proofs.PreArrow.{pre-arrow-claim}
 use Rattle.ol_spec.proofs.Instances.{instances-claim}
-use Rattle.ol_spec.proofs.Sequences.{sequences-claim, start-never-returns}
+use Rattle.ol_spec.proofs.Sequences.{sequences-claim}
+use Rattle.ol_spec.proofs.Instants.{instants-claim, start-never-returns}
 use Rattle.ol_spec.proofs.Faults.{numbers-claim}
 use Rattle.ol_real.proofs.Reals.{ieee754-holds}
 use Rattle.ol_real.proofs.Operators.{operators-hold}
 use Rattle.ol_real.proofs.Formats.{formats-kept}
 use Rattle.ol_sim.specs.Calls.{CyclesAs}
-use Rattle.ol_sim.specs.Demand.{OrderingHolds, RingHolds, Cycles, Service, Tree, turns, SolutionHolds, RelistedHolds, RelistingHolds, Demand3Holds, RunsAsRustHolds, ConstantsAsRustHolds, OrdersAsRustHolds, PreArrowHolds, InstancesHolds, SequencesHolds, StartNeverReturnsHolds, Demand2Holds}
+use Rattle.ol_sim.specs.Demand.{OrderingHolds, RingHolds, Cycles, Service, Tree, turns, SolutionHolds, RelistedHolds, RelistingHolds, Demand3Holds, RunsAsRustHolds, ConstantsAsRustHolds, OrdersAsRustHolds, PreArrowHolds, InstancesHolds, SequencesHolds, InstantsHolds, StartNeverReturnsHolds, Demand2Holds}
 
 -- what a cycle answered and wrote is the definition's call
 called : {w : CycleCall} {r : CycleCall} → CyclesAs w (r .answer) (r .new) (r .values) → r ≡ w
@@ -169,11 +171,19 @@ sequences-hold s ms b h t =
     let w = sequences-claim relayLoader s (t .file) (t .constants) (turns ms) b (t .is) in
     (served s ms b h t (Sequences (t .file) (t .constants)) (w .0), w .1)
 
+instants-hold : InstantsHolds
+unfolding InstantsHolds InstantsClaim
+instants-hold s ms b h t =
+    let w = instants-claim relayLoader s (t .file) (t .constants) (turns ms) b (t .is) in
+    (w .0, w .1, served s ms b h t (AllPass (t .file) (t .constants) (w .0)) (w .2))
+
 never-returns-holds : StartNeverReturnsHolds
 unfolding StartNeverReturnsHolds StartNeverReturns
 never-returns-holds s ms b h t =
-    let w = start-never-returns relayLoader s (t .file) (t .constants) (turns ms) b (t .is) in
-    (served s ms b h t (NeverReturns (t .file) (t .constants)) (w .0), w .1)
+    let w = start-never-returns relayLoader s (t .file) (t .constants) (turns ms) b (t .is) in (
+      served s ms b h t (NeverReturns (t .file) (t .constants)) (w .0),
+      (w .1 .0, w .1 .1, served s ms b h t (InstancesNeverReturn (t .file) (t .constants) (w .1 .0)) (w .1 .2)),
+    )
 
 pub demand2-holds : Demand2Holds
 demand2-holds =
@@ -188,5 +198,6 @@ demand2-holds =
       pre-arrow-claim = pre-arrow-holds;
       instances-claim = instances-hold;
       sequences-claim = sequences-hold;
+      instants-claim = instants-hold;
       start-never-returns = never-returns-holds;
     }

@@ -27,7 +27,8 @@ use Rattle.ol_spec.specs.RustState.{stateBytes}
 use Rattle.ol_spec.specs.AsRust.{AsRust, constantPlace, equationPlace}
 use Rattle.ol_spec.specs.Lustre.{AtInstant, answers}
 use Rattle.ol_spec.specs.Instances.{AllAtPast}
-use Rattle.ol_spec.specs.Sequences.{Sequences, EveryInstance, NeverReturns, StaysStarted}
+use Rattle.ol_spec.specs.Sequences.{Sequences, EveryInstance, NeverReturns}
+use Rattle.ol_spec.specs.Instants.{AllPass, InstancesNeverReturn}
 use Rattle.ol_spec.specs.Faults.{NumbersClaim}
 use Rattle.ol_real.specs.Holds.{Ieee754Holds}
 use Rattle.ol_real.specs.Operators.{OperatorsHold, FormatsKept}
@@ -145,10 +146,16 @@ unfoldable pub SequencesHolds : Type 0
 SequencesHolds =
     (s : List ℕ) (ms : List Made) → Bytes s → Service s ms → (t : Tree s) → Sequences (t .file) (t .constants) ms × EveryInstance (t .file) (t .constants)
 
--- behind an answered cycle of a service no cycle was at a first instant
+-- each cycle of a service left the finished steps of each instance, added one, or made it fresh, with the cells of a finished step as the next entries of its sequences
+unfoldable pub InstantsHolds : Type 0
+InstantsHolds =
+    (s : List ℕ) (ms : List Made) → Bytes s → Service s ms → (t : Tree s) → (sim : Sim) × (new (t .file) ≡ some sim) × AllPass (t .file) (t .constants) sim ms
+
+-- behind an answered cycle of a service no cycle was at a first instant, nor was an instance behind a step that it finished, until its record went back to fresh
 unfoldable pub StartNeverReturnsHolds : Type 0
 StartNeverReturnsHolds =
-    (s : List ℕ) (ms : List Made) → Bytes s → Service s ms → (t : Tree s) → NeverReturns (t .file) (t .constants) ms × StaysStarted (t .file) (t .constants)
+    (s : List ℕ) (ms : List Made) → Bytes s → Service s ms → (t : Tree s)
+    → NeverReturns (t .file) (t .constants) ms × ((sim : Sim) × (new (t .file) ≡ some sim) × InstancesNeverReturn (t .file) (t .constants) sim ms)
 
 -- with what it says of reals and of numbers
 pub record Demand2Holds : Type 0 where
@@ -162,4 +169,5 @@ pub record Demand2Holds : Type 0 where
   pub pre-arrow-claim : PreArrowHolds
   pub instances-claim : InstancesHolds
   pub sequences-claim : SequencesHolds
+  pub instants-claim : InstantsHolds
   pub start-never-returns : StartNeverReturnsHolds

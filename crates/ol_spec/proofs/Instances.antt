@@ -233,7 +233,7 @@ module _ (f : File) (vs : List Value) where
         )
         go Imported e i h = tt
 
-    everywhere : (old : List ℕ) (sim : Sim) → MainRel f vs A F old sim → Everywhere f vs old sim
+    pub everywhere : (old : List ℕ) (sim : Sim) → MainRel f vs A F old sim → Everywhere f vs old sim
     everywhere old sim h =
         let D = length (f .nodes) in
         let r = drop (headSize f) old in (

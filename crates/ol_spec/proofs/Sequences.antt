@@ -1,4 +1,4 @@
--- Whole sequences of outcomes, and that a start value never comes back: specs/Sequences' claims.
+-- Whole sequences of outcomes, and that a main start value never comes back: specs/Sequences' claims.
 use Prim.Native.Nat.{ℕ, zero, suc, _<_}
 use mathlib.Core.Bool.{Bool, true, false}
 use mathlib.Core.List.{List, [], _∷_, _++_, map, append-assoc, List·Memᴰ·append-cases as in-append}
@@ -10,16 +10,16 @@ use lib.ListN.{length, take, drop, getElem?, length-map}
 use lib.Dec.{T}
 use Rattle.ol_theory.specs.Member.{_∈_}
 use Rattle.ol_spec.specs.Lists.{maybe, orElse, lookup, member}
-use Rattle.ol_spec.specs.Syntax.{Operator, Node, File, Expr, boolLit, var, ifThenElse, main, variables, variableNames, nameOf}
+use Rattle.ol_spec.specs.Syntax.{Node, File, Expr, boolLit, var, ifThenElse, main, variables, variableNames, nameOf}
 use Rattle.ol_spec.specs.Syntax as S
 use Rattle.ol_spec.specs.Limits.{Loader}
-use Rattle.ol_spec.specs.Eval.{Globals, Scope, Calls, Evals, failure, orFailure, eval, branch, Branch, firstTaken, secondTaken, branchesOn, choose, segSize, nodeAt, variantOf}
-use Rattle.ol_spec.specs.Step.{run, fitAll, isFresh, oldCells, scope, calls, Ended, finished, failedAt, overflowedAt, leave, leaveOn, instance, callBy, callsAt}
+use Rattle.ol_spec.specs.Eval.{Globals, Scope, Calls, orFailure, eval, branch, Branch, firstTaken, secondTaken, branchesOn, choose, segSize, variantOf}
+use Rattle.ol_spec.specs.Step.{isFresh, oldCells, scope, calls}
 use Rattle.ol_spec.specs.Admission.{constantNames, judge, admitted, headSize}
 use Rattle.ol_spec.specs.State.{globalsOf, freshState}
 use Rattle.ol_spec.specs.Demand3.{Bytes, Turn, Made, history, given, Answered}
 use Rattle.ol_spec.specs.Lustre.{pre, arrow, always, firstly, addAnswer, answers, sequenceOf, evalIn, AtInstant}
-use Rattle.ol_spec.specs.Sequences.{addInstant, instants, beside, orNil, outcomes, sides, leftOf, rightOf, cellsAt, scopeAt, outcomesAt, sidesAt, EveryInstance, SequencesClaim, StartNeverReturns}
+use Rattle.ol_spec.specs.Sequences.{addInstant, instants, beside, orNil, outcomes, sides, leftOf, rightOf, cellsAt, scopeAt, outcomesAt, sidesAt, EveryInstance, SequencesClaim, NeverReturns}
 use Rattle.ol_spec.specs.declared.Value.{Value}
 use Rattle.ol_spec.specs.declared.Outcome.{Outcome}
 use Rattle.ol_spec.specs.declared.Outcome.the-variants as Out
@@ -257,29 +257,10 @@ unfolding SequencesClaim
 sequences-claim ld s f vs ts bytes e =
     (record { arrows = arrows ld s f vs ts bytes e; pres = pres ld s f vs ts bytes e }, every-instance f vs (opened ld s f vs bytes e .rust))
 
--- ---- a start value never comes back
+-- ---- a main start value never comes back
 
--- a call that does not fail leaves a started record, if it was on one
-stays : (g : Globals) (d k : ℕ) (ws : List Value) (r : List ℕ) → nodeAt g k .kind ≡ Operator → isFresh r ≡ false → ¬ (callsAt g (suc d) k ws r .out ≡ failure)
-    → isFresh (callsAt g (suc d) k ws r .seg) ≡ false
-unfolding callsAt instance leave
-stays g d k ws r o e h =
-    subst Kept (sym (ap (λ t. callBy g t (callsAt g d) (nodeAt g k) ws r) o)) (λ q. go (run g (callsAt g d) (nodeAt g k) (fitAll (nodeAt g k .inputs) ws) r .end) q) h
-  where
-    Kept : Evals → Type 0
-    Kept v = ¬ (v .out ≡ failure) → isFresh (v .seg) ≡ false
-
-    go : (t : Ended) → Kept (leaveOn g (nodeAt g k) r t (run g (callsAt g d) (nodeAt g k) (fitAll (nodeAt g k .inputs) ws) r .cells) (run g (callsAt g d) (nodeAt g k) (fitAll (nodeAt g k .inputs) ws) r .segs))
-    go finished q = refl
-    go (failedAt i) q = absurd (q refl)
-    go (overflowedAt i) q = e
-
-pub start-never-returns : (ld : Loader) → StartNeverReturns ld
-unfolding StartNeverReturns
-start-never-returns ld s f vs ts bytes e = (
-  λ earlier x between m later q a.
-      let w = instants-of ld s f vs ts bytes e (earlier ++ x ∷ between) m later (q ∙ sym (append-assoc earlier (x ∷ between) (m ∷ later))) in
-      let z = some-answer x a f earlier between in
-      record { started = w .first ∙ z; takes = λ c d cs seg. w .takes c d cs seg ∙ ap (λ t. evalIn f vs m cs (ifThenElse (boolLit t) c d) seg) z },
-  stays (globalsOf f vs),
-)
+pub never-returns : (ld : Loader) (s : List ℕ) (f : File) (vs : List Value) (ts : List Turn) → Bytes s → judge ld s ≡ admitted f vs → NeverReturns f vs (history ld s ts (freshState f vs))
+never-returns ld s f vs ts bytes e earlier x between m later q a =
+    let w = instants-of ld s f vs ts bytes e (earlier ++ x ∷ between) m later (q ∙ sym (append-assoc earlier (x ∷ between) (m ∷ later))) in
+    let z = some-answer x a f earlier between in
+    record { started = w .first ∙ z; takes = λ c d cs seg. w .takes c d cs seg ∙ ap (λ t. evalIn f vs m cs (ifThenElse (boolLit t) c d) seg) z }

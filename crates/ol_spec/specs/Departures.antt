@@ -1,9 +1,11 @@
 -- What docs/DIFFERENCES says of the 1991 paper and of the sources' own comments, executed on its smallest inputs (K's row is in Examples).
-use mathlib.Core.List.{List, [], _∷_}
+use mathlib.Core.Bool.{true, false}
+use mathlib.Core.List.{List, [], _∷_, _++_}
 use mathlib.Core.Path.{_≡_, refl}
 use Rattle.ol_spec.specs.Real as R
-use Rattle.ol_spec.specs.Syntax.{int, float32, char, Function, Operator, Neg, Add, Div, Shr, floatLit, var, unary, binary, pre, arrow, call, nil}
+use Rattle.ol_spec.specs.Syntax.{bool, int, float32, char, Function, Operator, Neg, Add, Div, Shr, floatLit, var, unary, binary, ifThenElse, pre, arrow, call, nil}
 use Rattle.ol_spec.specs.Build.{everything, x, _≔_, node, file, num, i, neg, v1, counts, left, trace}
+use Rattle.ol_spec.specs.Examples.{bd}
 use Rattle.ol_spec.specs.declared.Value.the-variants as Val
 
 -- a Function is at its first instant at each call
@@ -19,6 +21,20 @@ stops-between : trace (file (counts ∷ node Operator (x 5 (int 4) ∷ []) (x 1 
     ≡ (0, 0, i 1 ∷ i 0 ∷ i 0 ∷ i 1 ∷ []) ∷ (18, 2, left 4) ∷ (0, 0, i 1 ∷ i 2 ∷ i 1 ∷ i 1 ∷ []) ∷ []
 unfolding everything
 stops-between = refl
+
+-- a cycle that overflows moves nothing: the step of n0 in it is undone
+overflow-between : trace (file (counts ∷ node Operator (x 4 (int 4) ∷ []) (x 1 (int 4) ∷ x 2 (int 4) ∷ []) [] (1 ≔ call 0 nil ∷ 2 ≔ binary Add (var 4) (num 1) ∷ []) ∷ []))
+    ((i 0 ∷ []) ∷ (i 9223372036854775807 ∷ []) ∷ (i 0 ∷ []) ∷ [])
+    ≡ (0, 0, i 0 ∷ i 0 ∷ i 1 ∷ []) ∷ (19, 1, left 3) ∷ (0, 0, i 0 ∷ i 1 ∷ i 1 ∷ []) ∷ []
+unfolding everything
+overflow-between = refl
+
+-- an instance that was not entered takes its first side later, though the cycle was answered and what stands before its call failed
+enters-later : trace (file (counts ∷ node Operator (x 4 bool ∷ x 5 (int 4) ∷ []) (x 1 (int 4) ∷ []) []
+    (1 ≔ ifThenElse (var 4) (num 0) (binary Add (binary Div (num 10) (var 5)) (call 0 nil)) ∷ []) ∷ [])) (bd true 0 ∷ bd false 1 ∷ bd false 1 ∷ [])
+    ≡ (0, 0, bd true 0 ++ i 0 ∷ []) ∷ (0, 0, bd false 1 ++ i 10 ∷ []) ∷ (0, 0, bd false 1 ++ i 11 ∷ []) ∷ []
+unfolding everything
+enters-later = refl
 
 -- a call behind a failure is not made
 skips-call : trace (file (counts ∷ node Operator (x 2 (int 4) ∷ []) (x 1 (int 4) ∷ []) [] (1 ≔ binary Add (binary Div (num 1) (var 2)) (call 0 nil) ∷ []) ∷ []))

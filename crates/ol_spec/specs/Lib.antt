@@ -13,6 +13,7 @@ pub mod RustState
 pub mod AsRust
 pub mod Instances
 pub mod Sequences
+pub mod Instants
 pub mod RustRuns
 pub mod LustreRuns
 pub mod Departures

@@ -15,8 +15,9 @@ use Rattle.ol_spec.specs.Admission.{stateSize}
 use Rattle.ol_spec.specs.State.{freshState}
 use Rattle.ol_spec.specs.Demand3.{Turn, Made, history}
 use Rattle.ol_spec.specs.Lustre.{pre, arrow, always, answers, sequenceOf}
-use Rattle.ol_spec.specs.RustSim.{Sim, getState, cycle, new}
+use Rattle.ol_spec.specs.RustSim.{Sim, new}
 use Rattle.ol_spec.specs.AsRust.{simAfter}
+use Rattle.ol_spec.specs.Instants.{pastAt}
 use Rattle.ol_spec.specs.Build.{counting, i}
 use Rattle.ol_spec.specs.Examples.{withK, bd}
 use Rattle.ol_spec.specs.RustRuns.{allOfRust}
@@ -61,11 +62,11 @@ counter-equation : right 0 ∷ right 1 ∷ right 2 ∷ [] ≡ v1 0 ∷ v1 1 ∷ 
 unfolding allOfRust
 counter-equation = refl
 
--- ---- K: the instants of its instance, whose call is expression 3 of node 1. It is called in each cycle; in the third one, untaken, it fails and is fresh again
+-- ---- K: the instants of its instance, at the one call site of main. It is called in each cycle; in the third one, untaken, it fails and is fresh again
 
 abbrev instants : Sim → List Made → List ℕ
 instants sim [] = []
-instants sim (m ∷ ms) = maybe 0 cycle (getState (1, 3) (sim .call-states)) ∷ instants (simAfter withK sim (m .turn)) ms
+instants sim (m ∷ ms) = length (pastAt withK [] 0 [] (m .old) sim) ∷ instants (simAfter withK sim (m .turn)) ms
 
 abbrev fromNew : Option Sim → List Made → List ℕ
 fromNew none ms = []

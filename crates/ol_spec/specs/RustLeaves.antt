@@ -1,5 +1,6 @@
 -- The leaves of the Rust: the functions of docs/src/crates/ol_sim/src/lib.rs and ol_ir that evaluation ends in, match by match. proofs/RustLeaves proves each equal to the one that
 -- the byte definitions use. A match is written arm after arm, in the source's sequence: an arm that does not match is none, and the next is tried.
+-- A NaN is one value here; in the Rust it has the machine's bits. Document 01: the oracle's NaNs compare alike. This and `cycle` (RustSim) are the two differences on admitted files.
 use Prim.Native.Nat.{ℕ, _-_, _*_, _^_}
 use mathlib.Core.Bool.{Bool, true, false, not, _&&_, _||_, Bool·beq, cond}
 use mathlib.Core.List.{List, [], _∷_, _++_}

@@ -76,7 +76,8 @@ mutual
     noStates : States
     stateAt : Key → State → States → States
 
--- the fields: `cycle` counts the finished steps (a `usize` in the Rust: the one difference on admitted files), `prev` has what they inserted
+-- the fields: `cycle` counts the finished steps (a `usize` in the Rust: one of the two differences on admitted files, the other is the NaN of RustLeaves), `prev` has what they
+-- inserted
 abbrev pub past : State → List Env
 past (state es calls) = es
 

@@ -1,5 +1,5 @@
--- The 1991 paper's `pre` and `->` on whole sequences of outcomes, over the instants of a list of cycles; and that a start value never comes back. Types only: proofs/Sequences
--- proves the claims.
+-- The 1991 paper's `pre` and `->` on whole sequences of outcomes, over the instants of a list of cycles; and that the main instance's start values never come back. Types only:
+-- proofs/Sequences proves the claims.
 use Prim.Native.Nat.{ℕ, suc, _<_}
 use mathlib.Core.Bool.{Bool, false, cond}
 use mathlib.Core.List.{List, [], _∷_, _++_, map}
@@ -8,12 +8,12 @@ use mathlib.Core.Path.{_≡_}
 use lib.ListN.{length, take, drop, getElem?}
 use lib.Dec.{T}
 use Rattle.ol_spec.specs.Lists.{maybe, member}
-use Rattle.ol_spec.specs.Syntax.{Operator, Node, File, Expr, boolLit, var, ifThenElse, main, variables, variableNames}
+use Rattle.ol_spec.specs.Syntax.{Node, File, Expr, boolLit, var, ifThenElse, main, variables, variableNames}
 use Rattle.ol_spec.specs.Syntax as S
 use Rattle.ol_spec.specs.Limits.{Loader}
-use Rattle.ol_spec.specs.Eval.{Scope, Calls, failure, hasCall, isDouble?, realKind, commonReal, dropFailure, segSize, eval, nodeAt}
+use Rattle.ol_spec.specs.Eval.{Scope, Calls, hasCall, isDouble?, realKind, commonReal, dropFailure, segSize, eval}
 use Rattle.ol_spec.specs.Types.{defaultOf}
-use Rattle.ol_spec.specs.Step.{isFresh, oldCells, scope, callsAt}
+use Rattle.ol_spec.specs.Step.{isFresh, oldCells, scope}
 use Rattle.ol_spec.specs.Admission.{constantNames, judge, admitted}
 use Rattle.ol_spec.specs.State.{globalsOf, freshState}
 use Rattle.ol_spec.specs.Demand3.{Bytes, Turn, Made, history, given, Answered, mainRecord}
@@ -118,14 +118,3 @@ pub record NotFirst (f : File) (vs : List Value) (m : Made) : Type 0 where
 abbrev pub NeverReturns : File → List Value → List Made → Type 0
 NeverReturns f vs ms =
     (earlier : List Made) (x : Made) (between : List Made) (m : Made) (later : List Made) → ms ≡ earlier ++ x ∷ (between ++ m ∷ later) → Answered x → NotFirst f vs m
-
--- a call of an Operator on a started record that does not fail leaves a started record
-abbrev pub StaysStarted : File → List Value → Type 0
-StaysStarted f vs =
-    (d k : ℕ) (ws : List Value) (r : List ℕ) → let g = globalsOf f vs in nodeAt g k .kind ≡ Operator → isFresh r ≡ false → ¬ (callsAt g (suc d) k ws r .out ≡ failure)
-    → isFresh (callsAt g (suc d) k ws r .seg) ≡ false
-
--- so a start value never comes back: in the main instance, at any length of service; in another, until it fails
-unfoldable pub StartNeverReturns : Loader → Type 0
-StartNeverReturns ld =
-    (s : List ℕ) (f : File) (vs : List Value) (ts : List Turn) → Bytes s → judge ld s ≡ admitted f vs → NeverReturns f vs (history ld s ts (freshState f vs)) × StaysStarted f vs
