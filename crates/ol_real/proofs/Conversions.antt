@@ -16,6 +16,7 @@ use lib.Ieee.Fits.{down-pos, and-i, and-l, and-r, eq→eqb}
 use lib.Ieee.Compare.{differs-from-itself}
 use lib.Ieee.Bits.{nanBits-is, nanBits-above}
 use Rattle.ol_spec.specs.Real.{toBits, fromBits, truncate}
+use Rattle.ol_spec.proofs.Tests.{T-or}
 
 -- ==== a test's answer as a fact
 pub yes : {b : Bool} → b ≡ true → T b
@@ -66,10 +67,6 @@ neither : (p q : Bool) → T (not (p || q)) → T (not p) × T (not q)
 neither true q h = absurd h
 neither false q h = (tt, h)
 
-either : (p q : Bool) → T (p || q) → T p ⊎ T q
-either true q h = inl tt
-either false q h = inr h
-
 unequal : (a b : ℕ) (t : Bool) → T t → T (not (eqb a b && t)) → a ≢ b
 unequal a b true t h e = T-not (eqb a b && true) h (and-i (eqb a b) true (eq→eqb e) tt)
 
@@ -118,7 +115,7 @@ cut-high (fin false m e) h =
     let n : ℕ = m * up e in
     let l : 1 * 2 ^ 63 * down e ≤ n * 1 = ⊎-elim (λ t. le-of-lt (ltb→lt (1 * 2 ^ 63 * down e) (n * 1) t))
     (λ t. le-of-eq (eqb→eq (1 * 2 ^ 63 * down e) (n * 1) (and-l (eqb (1 * 2 ^ 63 * down e) (n * 1)) true t)))
-    (either (ltb (1 * 2 ^ 63 * down e) (n * 1)) (eqb (1 * 2 ^ 63 * down e) (n * 1) && true) h) in
+    (T-or (ltb (1 * 2 ^ 63 * down e) (n * 1)) (eqb (1 * 2 ^ 63 * down e) (n * 1) && true) h) in
     ap pos (omega (arith, whole-least n (down e) (down-pos e) l))
 
 pub cut-low : (x : Float) → T (lt x (fin true 1 (pos 63))) → negℤ (pos (2 ^ 63)) ≡ truncate x

@@ -15,6 +15,7 @@ use lib.Ieee.Fits.{up-pos, down-pos, two, fits-widens, and-i, and-l, and-r, eq�
 use Rattle.ol_real.specs.Ieee754.{Format, double, lowest, gap, Rounds, RoundsTo, Counts, signed, unlike, Sum, negated, Negation, Difference, Product, Quotient, FromInt, Converted, saturated, WholePart, Truncated, Less, Equal, LessEq}
 use Rattle.ol_real.specs.Holds.{Only, One, OneResult}
 use Rattle.ol_real.proofs.Values.{of, datum-one, rounds-one, rounds-some, number-of, round-rounds, fits-value, value-rounds, reaches}
+use Rattle.ol_spec.proofs.Tests.{T-or}
 
 -- ==== zero rounds to a zero of its sign
 pub zero-rounds : (f : Format) (s : Bool) (den : ℕ) (x : Float) → 2 ≤ f .p → 1 ≤ f .emax → 0 < den → Rounds f s 0 den x → x ≡ fin s 0 (pos 0)
@@ -319,10 +320,6 @@ eq-equal (fin s m e) nan = (λ h. h, λ h. h)
 eq-equal (fin s m e) (inf t) = (λ h. h, λ h. h)
 eq-equal (fin s m e) (fin t n d) = (level-equal s t (m * up e * down d) (n * up d * down e), equal-level s t (m * up e * down d) (n * up d * down e))
 
-or-either : (a b : Bool) → T (a || b) → T a ⊎ T b
-or-either true b h = inl tt
-or-either false b h = inr h
-
 either-or : (a b : Bool) → T a ⊎ T b → T (a || b)
 either-or true b h = tt
 either-or false b (inl h) = absurd h
@@ -331,6 +328,6 @@ either-or false b (inr h) = h
 pub le-lessEq : (x y : Float) → T (le x y) ↔ LessEq x y
 unfolding le LessEq
 le-lessEq x y = (
-  λ h. ⊎-elim (λ l. inl (lt-less x y .0 l)) (λ q. inr (eq-equal x y .0 q)) (or-either (lt x y) (eq x y) h),
+  λ h. ⊎-elim (λ l. inl (lt-less x y .0 l)) (λ q. inr (eq-equal x y .0 q)) (T-or (lt x y) (eq x y) h),
   λ h. either-or (lt x y) (eq x y) (⊎-elim (λ l. inl (lt-less x y .1 l)) (λ q. inr (eq-equal x y .1 q)) h),
 )

@@ -19,6 +19,7 @@ use Rattle.ol_real.specs.Holds.{AtFormat}
 use Rattle.ol_real.specs.Operators.{Computes, OperatorsHold}
 use Rattle.ol_real.proofs.Values.{reaches, value-rounds}
 use Rattle.ol_real.proofs.Reals.{ieee754-holds}
+use Rattle.ol_spec.proofs.Cells.{cond-true, cond-false}
 
 -- ---- comparisons
 
@@ -57,14 +58,6 @@ apart x y h =
     h
 
 -- ---- two reals that compute at a precision
-
-cond-false : {A : Type 0} (b : Bool) (x y : A) → ¬ T b → cond b x y ≡ y
-cond-false true x y h = absurd (h tt)
-cond-false false x y h = refl
-
-cond-true : {A : Type 0} (b : Bool) (x y : A) → T b → cond b x y ≡ x
-cond-true true x y h = refl
-cond-true false x y h = absurd h
 
 module _ (v w : Value) (g : Format) (q : Precision) (k : ℕ) (put : Real → Value) (x y : Real)
     (at : AtFormat g q k) (paired : pair v w ≡ reals q x y) (made : (r : Real) → byPrecision q (Val.Float32 r) (Val.Float r) ≡ put r) where

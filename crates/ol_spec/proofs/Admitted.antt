@@ -68,7 +68,7 @@ placed-all : {A : Type 0} (size : A → ℕ) (P : A → Type 0) (at : ℕ) (xs :
 placed-all size P at [] h = tt
 placed-all size P at (x ∷ xs) h = (h .0, placed-all size P (at + size x) xs (h .1))
 
-length-placed : {A : Type 0} (size : A → ℕ) (at : ℕ) (xs : List A) → length (placed size at xs) ≡ length xs
+pub length-placed : {A : Type 0} (size : A → ℕ) (at : ℕ) (xs : List A) → length (placed size at xs) ≡ length xs
 length-placed size at [] = refl
 length-placed size at (x ∷ xs) = ap suc (length-placed size (at + size x) xs)
 

@@ -33,7 +33,7 @@ use Rattle.ol_spec.specs.declared.Cycled.the-variants as Cyc
 use Rattle.ol_spec.proofs.Tests.{T-and, T-true, true-T, eq-eqb}
 use Rattle.ol_spec.proofs.Lists.{distinct-parts}
 use Rattle.ol_spec.proofs.Values.{Fine}
-use Rattle.ol_spec.proofs.Runs.{length-values, RunGood}
+use Rattle.ol_spec.proofs.Runs.{length-values, fresh-front, RunGood}
 use Rattle.ol_spec.proofs.ReadFacts.{file-read}
 use Rattle.ol_spec.proofs.Admits.{admits}
 use Rattle.ol_spec.proofs.Admitted.{Facts, facts as facts-of}
@@ -215,13 +215,9 @@ module _ (f : File) (vs : List Value) (A : Facts f vs) (F : FileRust f vs) where
         after : rec (take (headSize f + ownSize n) old ++ concat (u .segs)) ≡ own ++ concat (u .segs)
         after = ap rec (failed-is f vs A old ins (h .well) good-ins) ∙ drop-at (cells vs) (own ++ concat (u .segs)) (headSize f) (head-length f vs A)
 
-        fresh-own : (a b c : List ℕ) → 0 < length a → isFresh (a ++ b) ≡ isFresh (a ++ c)
-        fresh-own [] b c q = absurd (omega arith)
-        fresh-own (x ∷ a) b c q = refl
-
         is-fresh : isFresh (own ++ concat (u .segs)) ≡ isFresh (rec old)
         is-fresh =
-            fresh-own own (concat (u .segs)) (drop (ownSize n) (rec old)) (omega (arith, own-length f vs A old ins (h .well) good-ins)) ∙ ap isFresh (take-append-drop (ownSize n) (rec old))
+            fresh-front own (concat (u .segs)) (drop (ownSize n) (rec old)) (omega (arith, own-length f vs A old ins (h .well) good-ins)) ∙ ap isFresh (take-append-drop (ownSize n) (rec old))
 
         same-cells : oldCells n (own ++ concat (u .segs)) ≡ oldCells n (rec old)
         same-cells = sym (own-kept f vs A old ins (h .well) good-ins .1)

@@ -37,6 +37,7 @@ use Rattle.ol_spec.proofs.Ordering.{Placed}
 use Rattle.ol_spec.proofs.Admits.{admits}
 use Rattle.ol_spec.proofs.Admitted.{node-placed}
 use Rattle.ol_spec.proofs.MainFacts.{main-at}
+use Rattle.ol_spec.proofs.States.{same-refused}
 
 -- ---- reading: 1 to 5
 
@@ -241,9 +242,6 @@ same-sort e = cc
 
 same-start : {x y : Fault} → Start.Refused x ≡ Start.Refused y → x ≡ y
 same-start e = cc
-
-same-refused : {x y : Fault} → Cyc.Refused x ≡ Cyc.Refused y → x ≡ y
-same-refused e = cc
 
 same-stopped : {x y : Fault} → Cyc.Stopped x ≡ Cyc.Stopped y → x ≡ y
 same-stopped e = cc

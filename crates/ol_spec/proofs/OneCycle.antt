@@ -61,7 +61,7 @@ out-values n xs (values ws) us e = (ws, refl, cc)
 out-values n xs failure us e = let z : _≡_ {A = ℕ} 0 1 = cc in absurd (omega arith)
 out-values n xs overflow us e = let z : _≡_ {A = ℕ} 0 1 = cc in absurd (omega arith)
 
-same-values : {a b : List Value} → values a ≡ values b → a ≡ b
+pub same-values : {a b : List Value} → values a ≡ values b → a ≡ b
 same-values e = cc
 
 module _ (f : File) (vs : List Value) (ok : MainOk f vs) (old : List ℕ) where

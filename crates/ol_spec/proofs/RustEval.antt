@@ -31,7 +31,7 @@ use Rattle.ol_spec.proofs.Tests.{T-true}
 use Rattle.ol_spec.proofs.Lists.{All}
 use Rattle.ol_spec.proofs.Rights.{by-right}
 use Rattle.ol_spec.proofs.Values.{Gives, cond-T}
-use Rattle.ol_spec.proofs.Segments.{Rec, Good, none-good, head-good, cons-good, Plain, PlainAll, Sound, GivesAll, eval-meets, evalAll-meets, rhs-meets}
+use Rattle.ol_spec.proofs.Segments.{Rec, Good, none-good, head-good, cons-good, Plain, PlainAll, Sound, GivesAll, eval-meets, evalAll-meets, rhs-meets, nil-good}
 
 -- what a right side or a call gives
 abbrev pub packOut : Outcomes → Result
@@ -147,14 +147,6 @@ module _ (g : Globals) (p : ℕ → List ℕ → Bool) (R : ℕ → List ℕ →
     other : Going (r .out) → Sites ks′ j′ (b .other) (r .calls)
     frame : (key : Key) → Outside g N ks j key → Outside g N ks′ j′ key → getState key (r .calls) ≡ getState key calls
 
-nil-sites : {g : Globals} {p : ℕ → List ℕ → Bool} {s : List ℕ} → Good g p [] s → s ≡ []
-unfolding sitesSize
-nil-sites {g} {p} {s} h = go s (h .sized)
-  where
-    go : (s : List ℕ) → length s ≡ 0 → s ≡ []
-    go [] e = refl
-    go (x ∷ s) e = absurd (omega arith)
-
 module _ {g : Globals} {p : ℕ → List ℕ → Bool} {R : ℕ → List ℕ → Option State → Type 0} {N : Home} where
   pub keep : {ks : List ℕ} {j : ℕ} {s : List ℕ} {calls calls′ : States} → ((m : ℕ) → j ≤ m → m < j + length ks → getState (keyAt N m) calls′ ≡ getState (keyAt N m) calls)
       → Sites g p R N ks j s calls → Sites g p R N ks j s calls′
@@ -203,7 +195,7 @@ module _ {g : Globals} {p : ℕ → List ℕ → Bool} {R : ℕ → List ℕ →
   pub sites-joined : (a : List ℕ) {b s t : List ℕ} {j : ℕ} {calls : States} → Sites g p R N a j s calls → Sites g p R N b (j + length a) t calls
       → Sites g p R N (a ++ b) j (s ++ t) calls
   sites-joined [] {b} {s} {t} {j} {calls} h m =
-      subst (λ l. Sites g p R N b j (l ++ t) calls) (sym (nil-sites (h .good))) (subst (λ i. Sites g p R N b i t calls) (omega arith) m)
+      subst (λ l. Sites g p R N b j (l ++ t) calls) (sym (nil-good (h .good))) (subst (λ i. Sites g p R N b i t calls) (omega arith) m)
   sites-joined (k ∷ a) {b} {s} {t} {j} {calls} h m =
       let w = sites-head h in
       let z = recordSize g k in

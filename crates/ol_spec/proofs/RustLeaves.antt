@@ -25,14 +25,9 @@ use Rattle.ol_spec.specs.declared.Value.{Value}
 use Rattle.ol_spec.specs.declared.Value.the-variants as Val
 use Rattle.ol_spec.specs.declared.Outcome.{Outcome}
 use Rattle.ol_spec.specs.declared.Outcome.the-variants as Out
+use Rattle.ol_spec.proofs.Tests.{bool-same}
 
 -- ---- i64
-
-bool-same : (a b : Bool) → (T a → T b) → (T b → T a) → a ≡ b
-bool-same true true f g = refl
-bool-same true false f g = absurd (f tt)
-bool-same false true f g = absurd (g tt)
-bool-same false false f g = refl
 
 and-true : (a b : Bool) → a ≡ b → a && true ≡ b
 and-true true b e = e

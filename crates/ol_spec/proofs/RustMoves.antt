@@ -10,8 +10,7 @@ use native.Mathlib.Decide.{decLt, ℕ-discrete}
 use lib.ListN.{length, getD}
 use lib.Dec.{T, eqb}
 use Rattle.ol_theory.specs.Member.{_∈_, Distinct}
-use Rattle.ol_theory.specs.Order.{InOrder}
-use Rattle.ol_theory.proofs.SystemProof.{in-order-new}
+use Rattle.ol_theory.proofs.SystemProof.{in-order-distinct}
 use Rattle.ol_spec.specs.Lists.{maybe}
 use Rattle.ol_spec.specs.Syntax.{NodeKind, Function, Operator, Imported, Equation, Node, File}
 use Rattle.ol_spec.specs.Syntax.{count, Expr, boolLit, intLit, floatLit, charLit, var, unary, binary, ifThenElse, pre, arrow, cast, call, tuple, Exprs, nil, cons}
@@ -232,10 +231,6 @@ apart [] i j h l = absurd (omega arith)
 apart (q ∷ qs) i zero h l = absurd (omega arith)
 apart (q ∷ qs) zero (suc j) h l = omega arith
 apart (q ∷ qs) (suc i) (suc j) h l = omega (arith, apart qs i j (omega arith) (omega arith))
-
-in-order-distinct : (deps : ℕ → List ℕ) (seen l : List ℕ) → InOrder deps seen l → Distinct l
-in-order-distinct deps seen [] h = tt
-in-order-distinct deps seen (i ∷ l) h = ((λ m. in-order-new deps (i ∷ seen) l (h .2) i m (here refl)), in-order-distinct deps (i ∷ seen) l (h .2))
 
 module _ (f : File) (si : StepInstance) (N : ℕ) (n : Node) (st : State) where
   abbrev qs : List Equation

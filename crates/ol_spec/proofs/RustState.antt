@@ -19,6 +19,7 @@ use Rattle.ol_spec.specs.RustSim.{Env, get, State, state, States, getSta
 use Rattle.ol_spec.specs.RustState.{startedByte, stateOr, calls-of, leftIn, sitesBytes, siteBytesBy, instanceBytes, siteBytes}
 use Rattle.ol_spec.specs.declared.Value.{Value}
 use Rattle.ol_spec.proofs.Tests.{T-and, true-T}
+use Rattle.ol_spec.proofs.Lists.{length-none}
 use Rattle.ol_spec.proofs.Cells.{values-cells}
 use Rattle.ol_spec.proofs.Segments.{Rec}
 use Rattle.ol_spec.proofs.Runs.{length-values, Instance, inner-good}
@@ -44,10 +45,6 @@ constants-read f (x ∷ xs) (v ∷ vs) env e q h =
 first-of : (r : List ℕ) → 1 ≤ length r → r ≡ getD r 0 0 ∷ drop 1 r
 first-of [] h = absurd (omega arith)
 first-of (x ∷ r) h = refl
-
-nothing : (r : List ℕ) → length r ≡ 0 → r ≡ []
-nothing [] e = refl
-nothing (x ∷ r) e = absurd (omega arith)
 
 none-left : (k : ℕ) → drop {A = ℕ} k [] ≡ []
 none-left zero = refl
@@ -104,7 +101,7 @@ module _ (f : File) (vs : List Value) (F : FileRust f vs) where
   sites-bytes : (d : ℕ) (N : Home) → SiteIs d → (cs : List (ℕ × ℕ)) (j : ℕ) (s : List ℕ) (calls : States) → Lie (N .addr) j cs → ((c : ℕ) → c ∈ map calleeOf cs → (c < d) × (c < D))
       → Sites g (p f vs) (RelAt f vs d) N (map calleeOf cs) j s calls → s ≡ sitesBytes f (siteBytes f d) (N .number) cs calls
   unfolding sitesSize
-  sites-bytes d N is [] j s calls l h q = nothing s (q .good .sized)
+  sites-bytes d N is [] j s calls l h q = length-none s (q .good .sized)
   sites-bytes d N is (c ∷ cs) j s calls l h q =
       let w = sites-head q in
       sym (take-append-drop (recordSize g (c .1)) s)
@@ -125,11 +122,11 @@ module _ (f : File) (vs : List Value) (F : FileRust f vs) where
   site-bytes (suc d) k r o h b q i = go (nodeAt g k .kind) refl (site-bytes d) i
     where
       go : (t : NodeKind) → nodeAt g k .kind ≡ t → SiteIs d → RelBy f vs t (RelAt f vs d) k r o → r ≡ siteBytesBy f t (siteBytes f d) k o
-      go Function e is i = nothing r (q .sized ∙ size-of (F .callable) k Function b e)
+      go Function e is i = length-none r (q .sized ∙ size-of (F .callable) k Function b e)
       go Operator e is i =
           instance-by d k is (nodeAt g k) r (stateOr o) (child-calls (stateOr o)) (F .nodes k b .ok .distinct) (to-instance (F .callable) k r b e q) i
           (λ c m. (omega (arith, F .callable .lower k c m), omega (arith, F .callable .lower k c m)))
-      go Imported e is i = nothing r (q .sized ∙ size-of (F .callable) k Imported b e)
+      go Imported e is i = length-none r (q .sized ∙ size-of (F .callable) k Imported b e)
 
   -- an instance's record
   pub instance-bytes : (d N : ℕ) (n : Node) (r : List ℕ) (st : State) (calls : States) → Distinct (variableNames n) → Instance g (p f vs) n r

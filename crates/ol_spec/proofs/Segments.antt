@@ -23,7 +23,7 @@ use Rattle.ol_spec.specs.declared.Value.the-variants as Val
 use Rattle.ol_spec.specs.declared.Outcome.{Outcome}
 use Rattle.ol_spec.specs.declared.Outcome.the-variants as Out
 use Rattle.ol_spec.proofs.Tests.{T-and, and-T}
-use Rattle.ol_spec.proofs.Lists.{All}
+use Rattle.ol_spec.proofs.Lists.{All, length-none}
 use Rattle.ol_spec.proofs.Rights.{by-right}
 use Rattle.ol_spec.proofs.Values.{Small, Gives, Closed, cond-T}
 
@@ -74,13 +74,9 @@ module _ {g : Globals} {p : ℕ → List ℕ → Bool} where
             (subst (λ l. T (goodSites g p ks l)) (sym (drop-at r s (recordSize g k) (a .sized))) (b .good));
       }
 
-  nil-good : {s : List ℕ} → Good g p [] s → s ≡ []
+  pub nil-good : {s : List ℕ} → Good g p [] s → s ≡ []
   unfolding sitesSize
-  nil-good {s} h = go s (h .sized)
-    where
-      go : (s : List ℕ) → length s ≡ 0 → s ≡ []
-      go [] e = refl
-      go (x ∷ s) e = absurd (omega arith)
+  nil-good {s} h = length-none s (h .sized)
 
   pub joined : (a : List ℕ) {b s t : List ℕ} → Good g p a s → Good g p b t → Good g p (a ++ b) (s ++ t)
   joined [] {b} {s} {t} h m = subst (λ l. Good g p b (l ++ t)) (sym (nil-good h)) m

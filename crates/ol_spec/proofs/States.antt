@@ -58,8 +58,8 @@ inType-tag ens (enum e) v h = eqb→eq (tag v) 4 (T-and (eqb (tag v) 4) _ h .0)
 
 -- ---- answers
 
-same-fault : {x y : Fault} → Cyc.Refused x ≡ Cyc.Refused y → x ≡ y
-same-fault e = cc
+pub same-refused : {x y : Fault} → Cyc.Refused x ≡ Cyc.Refused y → x ≡ y
+same-refused e = cc
 
 pub refused-not : {x : Fault} → Cyc.Refused x ≡ Cyc.Answered → ⊥
 refused-not e = let z : _≡_ {A = ℕ} 0 1 = cc in omega arith
@@ -370,8 +370,8 @@ module _ (f : File) (vs : List Value) (F : Facts f vs) where
   cycle-well ld s e t old h = rw (cycle-is ld s e old (t .inputs) (t .new) (t .values) h) (go (goodInputs f (t .inputs)) refl (fits17 f (t .new) (t .values)))
     where
       go : (b : Bool) → goodInputs f (t .inputs) ≡ b → (b′ : Bool) → Well old (cycleUnless false (not b) (not b′) f vs old (t .inputs) (t .new) (t .values))
-      go false q b′ = (λ x e. omega (arith, ap (λ (y : Fault). y .number) (same-fault e)), h)
-      go true q false = (λ x e. omega (arith, ap (λ (y : Fault). y .number) (same-fault e)), h)
+      go false q b′ = (λ x e. omega (arith, ap (λ (y : Fault). y .number) (same-refused e)), h)
+      go true q false = (λ x e. omega (arith, ap (λ (y : Fault). y .number) (same-refused e)), h)
       go true q true = run-well t old h (true-T (goodInputs f (t .inputs)) q)
 
   -- where the kinds are kept, an answered cycle's values solve the equations

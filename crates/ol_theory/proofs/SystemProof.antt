@@ -51,6 +51,10 @@ pub in-order-new : (deps : ℕ → List ℕ) (seen l : List ℕ) → InOrder dep
 in-order-new deps seen [] o j m = absurd (in-nil m)
 in-order-new deps seen (i ∷ l) o j m = λ s. ⊎-elim (λ e. o .0 (Memᴰ·cast (sym e) s)) (λ k. in-order-new deps (i ∷ seen) l (o .2) j k (there s)) (in-cons m)
 
+pub in-order-distinct : (deps : ℕ → List ℕ) (seen l : List ℕ) → InOrder deps seen l → Distinct l
+in-order-distinct deps seen [] h = tt
+in-order-distinct deps seen (i ∷ l) h = ((λ m. in-order-new deps (i ∷ seen) l (h .2) i m (here refl)), in-order-distinct deps (i ∷ seen) l (h .2))
+
 module _ {Cell Mem : Type 0} (sys : System Cell Mem) where
   pub in-deps : (i d : ℕ) → d ∈ deps sys i → (x : ℕ) × (x ∈ sys .reads i) × (d < sys .n) × (x ∈ sys .lhs d)
   unfolding deps

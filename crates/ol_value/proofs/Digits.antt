@@ -16,6 +16,7 @@ use Rattle.ol_spec.specs.Cell.{tag, payload, cell, valueBy, valueOf}
 use Rattle.ol_spec.proofs.Cells.{bytes-back, same-refl, same-eq}
 use Rattle.ol_spec.specs.declared.Value.{Value}
 use Rattle.ol_spec.specs.declared.Value.the-variants as Val
+use Rattle.ol_spec.proofs.Tests.{bool-same}
 
 -- ---- reading
 
@@ -117,16 +118,10 @@ digits-back n (b ∷ bs) h =
     let head : (n * 256 + b) % 256 ≡ b = omega (arith, h 0) in
     ap₂ {C = List ℕ} (λ x xs. x ∷ xs) (ap (λ m. m % 256) (number-high (n * 256 + b) bs (λ i. h (suc i))) ∙ head) (digits-back (n * 256 + b) bs (λ i. h (suc i)))
 
-T-eq : (a b : Bool) → (T a → T b) → (T b → T a) → a ≡ b
-T-eq true true f g = refl
-T-eq true false f g = absurd (f tt)
-T-eq false true f g = absurd (g tt)
-T-eq false false f g = refl
-
 -- a number's eight bytes are these exactly if it is these bytes' number
 same-number : (q : ℕ) (bs : List ℕ) → q < 2 ^ 64 → length bs ≡ 8 → Bytes bs → eqb q (numberOf 0 bs) ≡ same (bytesOf 8 q) bs
 same-number q bs small long h =
-    T-eq (eqb q (numberOf 0 bs)) (same (bytesOf 8 q) bs)
+    bool-same (eqb q (numberOf 0 bs)) (same (bytesOf 8 q) bs)
     (λ t. subst (λ l. T (same l bs)) (sym (ap₂ bytesOf (sym long) (eqb→eq q (numberOf 0 bs) t) ∙ digits-back 0 bs h)) (same-refl bs))
     (λ t. subst (λ m. T (eqb q m)) (sym (bytes-back q small) ∙ ap (numberOf 0) (same-eq (bytesOf 8 q) bs t)) (eqb-refl q))
 
