@@ -1,12 +1,12 @@
 /* The relay's Lustre cycle for C and for languages that call C: link libol_sim_c.a, which `rt staticlib ol_sim_c` writes.
  *
- * A program in the file form (docs/FORMAT.md; "document 01" elsewhere) is judged, started and stepped. The library keeps nothing between calls: the caller holds the file, the state and
- * every other buffer. It uses no heap, no file, no clock and no global data, so calls on different buffers may run in several threads. Of the C library it
- * needs memcpy and memset at most.
+ * A program in the form of docs/FORMAT.md is judged, started and stepped. The library keeps nothing between calls: the caller holds the file, the state and every
+ * other buffer. It uses no heap, no file, no clock and no global data, so calls on different buffers may run in several threads. Of the C library it needs memcpy
+ * and memset at most.
  *
  * Every function gives a number and a place.
  *   The number is the result: 0, or the fault's number (enum ol_sim_number).
- *   The place is written through the last pointer, at each call: 0 where the number is 0; for 1 to 14 an offset in the file; for 15 to 17 it is 0; for 18 and 19
+ *   The place is written through the pointer place, at each call: 0 where the number is 0; for 1 to 14 an offset in the file; for 15 to 17 it is 0; for 18 and 19
  *   the index of the main node's equation at which the cycle stopped, counted from 0 in the file's sequence.
  * What is said here of numbers, places and bytes written is proved of the Rattle source (crates/ol_sim_c). The archive is for x86-64 Linux, with the System V
  * calling convention. All this holds for callers that keep these rules:
@@ -43,8 +43,8 @@ enum ol_sim_length {
     OL_SIM_EQUATIONS_MAX = 80         /* the equations of a node */
 };
 
-/* Bytes of stack that a call may take: what bench/stack measures on the files of bench/worst.py, 276,704, 71,088, 276,768 and 3,058,928, with a third of it or more
- * on top, since frames are the compiler's. Nothing proves them; tests/header compares them with what is measured. */
+/* Bytes of stack that a call may take: the most that bench/stack measures (docs/PERFORMANCE.md has the figures), with a margin, since frames are the compiler's.
+ * Nothing proves them; tests/header compares them with what is measured. A thread with less may crash. */
 enum ol_sim_stack {
     OL_SIM_ADMIT_STACK = 384 * 1024,
     OL_SIM_ORDER_STACK = 128 * 1024,
