@@ -1,4 +1,4 @@
-/* Cells for C: nine bytes, a tag and a payload of 64 bits, big-endian. Plain C beside the library; nothing here is proved. */
+/* Cells for C (docs/FORMAT.md): nine bytes, a tag and a payload of 64 bits, big-endian. Plain C beside the library; nothing here is proved. */
 #ifndef OL_CELL_H
 #define OL_CELL_H
 
