@@ -64,9 +64,9 @@ def chain(way, first):
 
 
 def arguments(first):
-    """The way down is a call's argument: 22 calls in one another in each node would have 22 records, so only the calls of a Function nest."""
+    """The way down is a call's argument: 22 calls in one another in each node would have 22 records, so only the calls of a Function nest. The Function has choices down to the deepest level."""
     x, y = first, first + 1
-    nodes = [node(0, [(x, I64)], [(y, I64)], [], [eq(y, var(x))])]
+    nodes = [node(0, [(x, I64)], [(y, I64)], [], [eq(y, down('choices', var(x), LEVELS))])]
     for k in range(1, NODES):
         e = call(k - 1, var(x))
         while depth(e) < LEVELS:
@@ -86,7 +86,7 @@ def functions(first):
 
 
 def constants(first):
-    e = down('sums-right', i(1), LEVELS)
+    e = down('choices', i(1), LEVELS)
     return file([node(1, [], [(first, I64)], [], [eq(first, i(1))])], [(first + 1 + k, I64, e) for k in range(64)])
 
 

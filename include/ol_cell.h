@@ -1,4 +1,4 @@
-/* Cells for C: nine bytes, a tag and a payload of 64 bits, big-endian. Plain C beside the library; nothing here is proved. */
+/* Cells for C (docs/FORMAT.md): nine bytes, a tag and a payload of 64 bits, big-endian. Plain C beside the library; nothing here is proved. */
 #ifndef OL_CELL_H
 #define OL_CELL_H
 
@@ -13,6 +13,9 @@ static inline void ol_cell_put(uint8_t *cell, uint8_t tag, uint64_t payload) {
         cell[1 + k] = (uint8_t)(payload >> (56 - 8 * k));
 }
 
+/* The tag, an enum ol_cell_tag: which of the functions below reads the cell. */
+static inline uint8_t ol_cell_tag_of(const uint8_t *cell) { return cell[0]; }
+
 static inline uint64_t ol_cell_payload(const uint8_t *cell) {
     uint64_t payload = 0;
     for (int k = 0; k < 8; k++)
@@ -26,17 +29,19 @@ static inline void ol_cell_put_int(uint8_t *cell, int64_t i) { ol_cell_put(cell,
 
 static inline void ol_cell_put_enum(uint8_t *cell, uint16_t variant) { ol_cell_put(cell, OL_CELL_ENUM, variant); }
 
-/* Every NaN becomes the one NaN that cells have. */
+/* Every NaN becomes the one NaN that cells have. It is known by its bits: under -ffast-math a compiler takes x == x for true. */
 static inline void ol_cell_put_float(uint8_t *cell, double x) {
     uint64_t bits;
     memcpy(&bits, &x, 8);
-    ol_cell_put(cell, OL_CELL_FLOAT, x == x ? bits : UINT64_C(0x7FF8000000000000));
+    int is_nan = (bits & UINT64_C(0x7FFFFFFFFFFFFFFF)) > UINT64_C(0x7FF0000000000000);
+    ol_cell_put(cell, OL_CELL_FLOAT, is_nan ? UINT64_C(0x7FF8000000000000) : bits);
 }
 
 static inline void ol_cell_put_float32(uint8_t *cell, float x) {
     uint32_t bits;
     memcpy(&bits, &x, 4);
-    ol_cell_put(cell, OL_CELL_FLOAT32, x == x ? bits : UINT32_C(0x7FC00000));
+    int is_nan = (bits & UINT32_C(0x7FFFFFFF)) > UINT32_C(0x7F800000);
+    ol_cell_put(cell, OL_CELL_FLOAT32, is_nan ? UINT32_C(0x7FC00000) : bits);
 }
 
 static inline int ol_cell_bool(const uint8_t *cell) { return cell[8] != 0; }

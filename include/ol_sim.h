@@ -1,18 +1,25 @@
 /* The relay's Lustre cycle for C and for languages that call C: link libol_sim_c.a, which `rt staticlib ol_sim_c` writes.
  *
- * A program in document 01's file form is judged, started and stepped. The library keeps nothing between calls: the caller holds the file, the state and
- * every other buffer. It uses no heap, no file, no clock and no global data, so calls on different buffers may run in several threads. Of the C library it
- * needs memcpy and memset at most.
+ * A program in the form of docs/FORMAT.md is judged, started and stepped. The library keeps nothing between calls: the caller holds the file, the state and every
+ * other buffer. It uses no heap, no file, no clock and no global data, so calls on different buffers may run in several threads. Of the C library it needs memcpy
+ * and memset at most.
  *
  * Every function gives a number and a place.
  *   The number is the result: 0, or the fault's number (enum ol_sim_number).
- *   The place is written through the last pointer, at each call: 0 where the number is 0; for 1 to 14 an offset in the file; for 15 to 17 it is 0; for 18 and 19
+ *   The place is written through the pointer place, at each call: 0 where the number is 0; for 1 to 14 an offset in the file; for 15 to 17 it is 0; for 18 and 19
  *   the index of the main node's equation at which the cycle stopped, counted from 0 in the file's sequence.
- * What is said here of numbers, places and bytes written is proved of the Rattle source (crates/ol_sim_c). It holds for callers that keep these rules:
+ * What is said here of numbers, places and bytes written is proved of the Rattle source (crates/ol_sim_c). The archive is for x86-64 Linux, with the System V
+ * calling convention. All this holds for callers that keep these rules:
  *   - a pointer stands for as many bytes (entries) as the length behind it says; it is not NULL, also where the length is 0; entries of size_t are aligned;
+ *   - place and state_len point to one size_t each, aligned, and are not NULL;
+ *   - no buffer has more than PTRDIFF_MAX bytes;
+ *   - what a call reads is initialised: file, old_state, inputs, and *state_len, which ol_sim_admit leaves as it was when it refuses;
  *   - what a call writes (order, state, new_state, values, place, state_len) does not overlap anything else that the same call is lent. So the old and the new
  *     state are two buffers, which a caller exchanges after each cycle;
- *   - nobody else writes what is lent while the call runs.
+ *   - nobody else writes what is lent while the call runs;
+ *   - the floating-point environment is the one that a C program starts with: rounding to nearest, exceptions masked, neither flush-to-zero nor
+ *     denormals-are-zero (MXCSR 1F80, up to its flags). Linking a program with -ffast-math may set the last two: link without it;
+ *   - the stack has so many bytes left as enum ol_sim_stack says. A thread with less may crash.
  * No byte string makes a function fail, read out of its bounds or run for ever: files and states may come from anywhere. (Functions that call Functions can ask
  * for exponential work: such a cycle ends, but nobody waits for it.)
  */
@@ -34,6 +41,15 @@ enum ol_sim_length {
     OL_SIM_INPUTS_MAX = 9 * 32,       /* a cell for each input of the main node */
     OL_SIM_VALUES_MAX = 9 * 112,      /* a cell for each input (32), output (16) and local (64) of the main node */
     OL_SIM_EQUATIONS_MAX = 80         /* the equations of a node */
+};
+
+/* Bytes of stack that a call may take: the most that bench/stack measures (docs/PERFORMANCE.md has the figures), with a margin, since frames are the compiler's.
+ * Nothing proves them; tests/header compares them with what is measured. A thread with less may crash. */
+enum ol_sim_stack {
+    OL_SIM_ADMIT_STACK = 384 * 1024,
+    OL_SIM_ORDER_STACK = 128 * 1024,
+    OL_SIM_START_STACK = 384 * 1024,
+    OL_SIM_CYCLE_STACK = 4096 * 1024
 };
 
 /* The numbers. Of several faults the first by this order is told: 1; then 2 to 5 as they are met reading forward; then 6 to 17 by number. */

@@ -1,5 +1,12 @@
 //! The functions of libol_sim_c.a for Rust: include/ol_sim.h says what each answers and writes, and what it asks of its caller. Take it as a module.
+//! References and slices keep its rules on pointers, lengths and overlap; stack and floating-point environment are left to the caller.
 #![allow(dead_code)]
+
+/// Bytes of stack that a call may take: the header's `enum ol_sim_stack`. A thread with less may crash.
+pub const OL_SIM_ADMIT_STACK: usize = 384 * 1024;
+pub const OL_SIM_ORDER_STACK: usize = 128 * 1024;
+pub const OL_SIM_START_STACK: usize = 384 * 1024;
+pub const OL_SIM_CYCLE_STACK: usize = 4096 * 1024;
 
 extern "C" {
     pub fn ol_sim_admit(file: *const u8, file_len: usize, place: *mut usize, state_len: *mut usize) -> u8;
@@ -8,11 +15,11 @@ extern "C" {
     pub fn ol_sim_cycle(
         file: *const u8,
         file_len: usize,
-        old: *const u8,
+        old_state: *const u8,
         old_len: usize,
         inputs: *const u8,
         inputs_len: usize,
-        new: *mut u8,
+        new_state: *mut u8,
         new_len: usize,
         values: *mut u8,
         values_len: usize,

@@ -30,7 +30,7 @@ static uint8_t states[2][OL_SIM_STATE_MAX];
 static int stepped(void) {
     uint8_t values[OL_SIM_CELL];
     uint8_t none[1] = {0};
-    size_t place, state_len, order[1];
+    size_t place, state_len = 0, order[1];
     int now = 0;
     if (ol_sim_admit(counter, sizeof counter, &place, &state_len) != OL_SIM_DONE)
         return 1;
@@ -56,7 +56,7 @@ static int stepped(void) {
 static int turned_back(void) {
     uint8_t values[OL_SIM_CELL];
     uint8_t none[1] = {0};
-    size_t place, state_len;
+    size_t place, state_len = 0;
     uint8_t number = ol_sim_admit(counter, sizeof counter - 1, &place, &state_len);
     printf("the file without its last byte: %u at %zu\n", number, place);
     if (number != OL_SIM_FILE_LENGTH)
