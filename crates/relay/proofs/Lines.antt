@@ -1,5 +1,5 @@
 -- The bytes of a line, taken one by one.
-use Prim.Native.Nat.{ℕ, suc, _+_, _≤_, _<_}
+use Prim.Native.Nat.{ℕ, zero, suc, _+_, _≤_, _<_}
 use mathlib.Core.Bool.{Bool, true, false, not, cond}
 use mathlib.Core.List.{List, [], _∷_, _++_, append-nil, append-assoc}
 use mathlib.Core.Path.{_≡_, refl, sym, ap, subst, _∙_}
@@ -9,11 +9,12 @@ use native.Mathlib.Decide.{decLe}
 use lib.ListN.{length, take, drop, getD, set, length-take, length-set, drop-of-length-le}
 use lib.Seq.{take-all, length-take-le, take-append-le, take-suc-set, drop-cons, getD-take}
 use lib.Dec.{eqb, eqb→eq}
-use Rattle.ol_spec.proofs.Tests.{T-true, T-false, eq-eqb}
+use Rattle.ol_spec.proofs.Tests.{T-true, T-false, true-T, eq-eqb}
+use Rattle.relay_text.specs.Lines.{Said}
 use Rattle.relay.specs.Requests.{asks}
-use Rattle.relay.specs.Reply.{Standing, obey, reply}
+use Rattle.relay.specs.Reply.{Standing, Reply, obey, reply}
 use Rattle.relay.specs.Kept.{standing, Replies}
-use Rattle.relay.specs.Turns.{lineOf, restOf, hasEnd, cut, unread, begun, Takes, Refills, Gathers, Turned, waiting}
+use Rattle.relay.specs.Turns.{lineOf, restOf, hasEnd, cut, unread, begun, waitsFor, waiting, after, gone, Takes, Refills, Gathers, Turned}
 use Rattle.relay.specs.declared.Turn.{Turn}
 use Rattle.relay.specs.declared.session.Session.{Session}
 use Rattle.relay.specs.declared.Input.{Input}
@@ -93,6 +94,7 @@ module _ (line₀ unread₀ line input : List ℕ) (n at end : ℕ) (le : end �
         whole = sym (g .ends ∙ ap hasEnd u ∙ end-has b rest e);
         gone-on = sym (g .line-is ∙ ap (λ l. cut (take n line ++ lineOf l)) u ∙ ap (λ l. cut (take n line ++ l)) (end-line b rest e) ∙ ap cut (append-nil (take n line)) ∙ short line n (g .long));
         left = sym (g .rest-is ∙ ap restOf u ∙ end-rest b rest e);
+        long = g .long;
       }
 
   pub going-stored : (lt : at < end) → ¬ (b ≡ 10) → n < length line → Going line₀ unread₀ (set line n b) (n + 1) rest
@@ -129,6 +131,7 @@ module _ (line₀ unread₀ line input : List ℕ) (n at end : ℕ) (le : end �
         whole = sym (g .ends ∙ ap hasEnd u ∙ none-has);
         gone-on = sym (g .line-is ∙ ap (λ l. cut (take n line ++ lineOf l)) u ∙ ap (λ l. cut (take n line ++ l)) none-line ∙ ap cut (append-nil (take n line)) ∙ short line n (g .long));
         left = u ∙ sym (g .rest-is ∙ ap restOf u ∙ none-rest);
+        long = g .long;
       }
 
 pub going-from : (line : List ℕ) (n at : ℕ) (x y : List ℕ) → length line ≡ 262145 → x ≡ y → Going (take n line) (drop at y) line n (drop at x)
@@ -136,48 +139,83 @@ going-from line n at x y h e = subst (λ z. Going (take n line) (drop at z) line
 
 -- ---- turns
 
-waits-part : (w e z : Bool) → cond w false (cond e z true) ≡ true → w ≡ false
-waits-part true e z h = let x : _≡_ {A = ℕ} 0 1 = cc in absurd (omega arith)
-waits-part false e z h = refl
+pub over-part : (e t o : Bool) → o ≡ cond e true (not t) → o ≡ false → e ≡ false
+over-part true t o h f = absurd (clash o f h)
+over-part false t o h f = refl
 
-ends-part : (w e z : Bool) → cond w false (cond e z true) ≡ false → w ≡ false → e ≡ true
-ends-part w true z h f = refl
-ends-part true false z h f = let x : _≡_ {A = ℕ} 0 1 = cc in absurd (omega arith)
-ends-part false false z h f = let x : _≡_ {A = ℕ} 0 1 = cc in absurd (omega arith)
+-- a line of no bytes is empty
+not-zero : (n : ℕ) → eqb (suc n) 0 ≡ false
+not-zero n = T-false (eqb (suc n) 0) (λ t. omega (arith, eqb→eq (suc n) 0 t))
 
-pub not-whole : (i : Input) (b : Bool) → b ≡ waiting i → b ≡ true → i .«is_whole» ≡ false
-not-whole i b e h = waits-part (i .«is_whole») (i .«is_end») (eqb (i .length) 0) (sym e ∙ h)
+empty-same : (n : ℕ) (line l : List ℕ) → length line ≡ 262145 → take n line ≡ l → eqb n 0 ≡ eqb (length l) 0
+empty-same zero line l h e = ap (λ z. eqb (length z) 0) e
+empty-same (suc n) [] l h e = absurd (omega (arith, h))
+empty-same (suc n) (x ∷ line) l h e = not-zero n ∙ sym (not-zero (length (take n line))) ∙ ap (λ z. eqb (length z) 0) e
 
-pub last-line : (i : Input) (b o t : Bool) → b ≡ waiting i → b ≡ false → o ≡ cond (i .«is_end») true (not t) → i .«is_whole» ≡ false → o ≡ true
-last-line i b o t e h l w = l ∙ ap (λ x. cond x true (not t)) (ends-part (i .«is_whole») (i .«is_end») (eqb (i .length) 0) (sym e ∙ h) w)
+-- a line whose end is met is not the input's end
+pub never : (b : Bool) → false ≡ true → b ≡ true
+never b h = absurd (clash false refl h)
 
-pub gathers : (i f r : Input) (line input line′ input′ : List ℕ) → Refills i input f input′ → Takes (begun f line) (unread f input′) r line′ input′ → Gathers i line input r line′ input′
-gathers i f r line input line′ input′ h t =
+pub gathers : (i f r : Input) (line input line′ input′ : List ℕ) → Refills i input f input′ → Takes (begun f line) (unread f input′) r line′ input′ → (r .«is_end» ≡ true → f .«is_end» ≡ true) → Gathers i line input r line′ input′
+gathers i f r line input line′ input′ h t e =
     record {
       read = unread f input′;
       same = λ lt. ap (λ (x : Input). unread x input′) (h .kept lt .0) ∙ ap (unread i) (h .kept lt .1);
       takes = subst (λ n. Takes (take n line) (unread f input′) r line′ input′) (h .begun-is) t;
+      ended = λ o x. h .ended o (e x);
     }
 
-pub turned-waits : (t : Turn) (taken : Input) (line input line′ input′ file state out : List ℕ) (over : Bool) → Gathers (t .input) line input taken line′ input′ → taken .«is_whole» ≡ false → Turned t (record { session = t .session; input = taken; line = t .line; «is_over» = over }) line input file state line′ input′ file state out
-turned-waits t taken line input line′ input′ file state out over g w =
+pub refills-not : (i : Input) (input : List ℕ) → i .at < i .end → Refills i input i input
+refills-not i input lt = record { begun-is = refl; kept = λ h. (refl, refl); ended = λ o x. absurd (clash (i .«is_end») o x) }
+
+pub refills : (i : Input) (input input′ : List ℕ) (n : ℕ) → ¬ (i .at < i .end) → Refills i input (record { at = 0; end = n; length = i .length; «is_whole» = false; «is_end» = eqb n 0 }) input′
+refills i input input′ n ge =
+    record {
+      begun-is = refl;
+      kept = λ lt. absurd (ge lt);
+      ended = λ o x. ap (λ k. drop 0 (take k input′)) (eqb→eq n 0 (true-T (eqb n 0) x));
+    }
+
+-- what the program tests is whether the line waits
+waits-is : (t : Turn) (taken : Input) (line input line′ input′ : List ℕ) (g : Gathers (t .input) line input taken line′ input′) → waiting taken ≡ waitsFor (hasEnd (g .read)) (taken .«is_end») (length (gone t line (g .read)))
+waits-is t taken line input line′ input′ g =
+    ap (λ z. waitsFor z (taken .«is_end») (taken .length)) (g .takes .whole)
+    ∙ ap (λ z. cond (hasEnd (g .read)) false (cond (taken .«is_end») z true)) (empty-same (taken .length) line′ (gone t line (g .read)) (g .takes .long) (g .takes .gone-on))
+
+pub turned-waits : (t : Turn) (taken : Input) (line input line′ input′ file state out : List ℕ) → Gathers (t .input) line input taken line′ input′ → waiting taken ≡ true → Turned t (record { session = t .session; input = taken; line = t .line; «is_over» = taken .«is_end» }) line input file state out line′ input′ file state out
+turned-waits t taken line input line′ input′ file state out g w =
     record {
       read = g .read;
       same = g .same;
-      answered = λ h. absurd (clash (taken .«is_whole») w (g .takes .whole ∙ h));
-      rest = λ h. absurd (clash (taken .«is_whole») w (g .takes .whole ∙ h));
-      waits = λ h o. (g .takes .gone-on, refl);
+      left = g .takes .left;
+      ended = g .ended;
+      over = λ o. o;
+      answered = λ h. absurd (clash (waiting taken) (waits-is t taken line input line′ input′ g ∙ h) w);
+      next = λ h. absurd (clash (waiting taken) (waits-is t taken line input line′ input′ g ∙ h) w);
+      waits = λ h. (g .takes .gone-on, refl);
+      waits-too = λ h. (refl, refl);
     }
 
-pub turned-answered : (t : Turn) (taken : Input) (line input line′ input′ file state file′ state′ out : List ℕ) (kept : Session) (n k : ℕ) (over : Bool) → Gathers (t .input) line input taken line′ input′ → Replies (reply (t .line) (take (taken .length) line′) (standing (t .session) file state)) n kept file′ state′ out → (taken .«is_whole» ≡ false → over ≡ true) → Turned t (record { session = kept; input = record { at = taken .at; end = taken .end; length = 0; «is_whole» = false; «is_end» = false }; line = k; «is_over» = over }) line input file state line′ input′ file′ state′ out
-turned-answered t taken line input line′ input′ file state file′ state′ out kept n k over g r w =
+pub turned-answered : (t : Turn) (taken : Input) (line input line′ input′ file state out file′ state′ out′ : List ℕ) (kept : Session) (n k : ℕ) (over : Bool) → Gathers (t .input) line input taken line′ input′ → Replies (reply (t .line) (take (taken .length) line′) (standing (t .session) file state)) n kept file′ state′ out′ → waiting taken ≡ false → k ≡ after (t .line) → (over ≡ false → taken .«is_end» ≡ false) → Turned t (record { session = kept; input = record { at = taken .at; end = taken .end; length = 0; «is_whole» = false; «is_end» = taken .«is_end» }; line = k; «is_over» = over }) line input file state out line′ input′ file′ state′ out′
+turned-answered t taken line input line′ input′ file state out file′ state′ out′ kept n k over g r w a o =
     record {
       read = g .read;
       same = g .same;
-      answered = λ h. (n, subst (λ l. Replies (reply (t .line) l (standing (t .session) file state)) n kept file′ state′ out) (g .takes .gone-on) r);
-      rest = λ h. (g .takes .left, refl);
-      waits = λ h o. absurd (clash over o (w (g .takes .whole ∙ h)));
+      left = g .takes .left;
+      ended = g .ended;
+      over = o;
+      answered = λ h. (n, subst (λ l. Replies (reply (t .line) l (standing (t .session) file state)) n kept file′ state′ out′) (g .takes .gone-on) r);
+      next = λ h. (refl, a);
+      waits = λ h. absurd (clash (waiting taken) w (waits-is t taken line input line′ input′ g ∙ h));
+      waits-too = λ h. absurd (clash (waiting taken) w (waits-is t taken line input line′ input′ g ∙ h));
     }
+
+-- what is handed to the write: the buffer's front, and so the text
+pub front : (n k m : ℕ) (out : List ℕ) → k ≤ length out → k ≡ length (take k out) → take k out ≡ take n out → m ≡ length (take k out) → Said (take n out) m out
+front n k m out le c e w = record { inside = omega (arith, le, c, w); is = ap (λ z. take z out) (w ∙ sym c) ∙ e }
+
+pub handed : {w : Reply} {n m : ℕ} {s : Session} {file state out : List ℕ} → Replies w n s file state out → Said (take n out) m out → Replies w m s file state out
+handed r h = record { said = record { inside = h .inside; is = h .is ∙ r .said .is }; kept = r .kept }
 
 pub of-part : {n : ℕ} {s : Session} {file state out : List ℕ} (number : ℕ) (a b : List ℕ) (st : Standing) → a ≡ b → Replies (reply number a st) n s file state out → Replies (reply number b st) n s file state out
 of-part {n} {s} {file} {state} {out} number a b st e h = subst (λ l. Replies (reply number l st) n s file state out) e h

@@ -1,6 +1,6 @@
 -- The input as lines: what a turn of the loop does with the bytes that a read gave.
 -- Free are which bytes a read gives and how many at a time, and whether a write takes them: the contracts of read and write leave that open.
-use Prim.Native.Nat.{ℕ, _<_}
+use Prim.Native.Nat.{ℕ, _+_, _<_, min}
 use mathlib.Core.Bool.{Bool, true, false, cond}
 use mathlib.Core.List.{List, [], _∷_, _++_}
 use mathlib.Core.Path.{_≡_}
@@ -35,31 +35,54 @@ unread i input = drop (i .at) (take (i .end) input)
 abbrev pub begun : Input → List ℕ → List ℕ
 begun i line = take (i .length) line
 
--- whether the line waits for more: its end is not met, and the input goes on, or there is nothing of the line
+-- whether a line of so many bytes waits for more: its end is not met, and the input goes on, or there is nothing of the line
+abbrev pub waitsFor : Bool → Bool → ℕ → Bool
+waitsFor isWhole atEnd n = cond isWhole false (cond atEnd (eqb n 0) true)
+
 abbrev pub waiting : Input → Bool
-waiting i = cond (i .«is_whole») false (cond (i .«is_end») (eqb (i .length) 0) true)
+waiting i = waitsFor (i .«is_whole») (i .«is_end») (i .length)
+
+-- the number of the line behind this one; the last number there is stays
+abbrev pub after : ℕ → ℕ
+after n = min (n + 1) 18446744073709551615
 
 -- the line goes on up to its end, or the input's; the rest is kept
 pub record Takes (line unread : List ℕ) (r : Input) (line′ input : List ℕ) : Type 0 where
   pub whole : r .«is_whole» ≡ hasEnd unread
   pub gone-on : take (r .length) line′ ≡ cut (line ++ lineOf unread)
   pub left : drop (r .at) (take (r .end) input) ≡ restOf unread
+  pub long : length line′ ≡ 262145
 
--- a read, where nothing is unread; what it gives is free
+-- a read, where nothing is unread; what it gives is free. The input is at its end only where the read gives nothing
 pub record Refills (i : Input) (input : List ℕ) (r : Input) (input′ : List ℕ) : Type 0 where
   pub begun-is : r .length ≡ i .length
   pub kept : i .at < i .end → (r ≡ i) × (input′ ≡ input)
+  pub ended : i .«is_end» ≡ false → r .«is_end» ≡ true → unread r input′ ≡ []
 
 -- the line goes on with what is unread; where nothing is, with what a read gives
 pub record Gathers (i : Input) (line input : List ℕ) (r : Input) (line′ input′ : List ℕ) : Type 0 where
   pub read : List ℕ
   pub same : i .at < i .end → read ≡ unread i input
   pub takes : Takes (begun i line) read r line′ input′
+  pub ended : i .«is_end» ≡ false → r .«is_end» ≡ true → read ≡ []
 
--- a turn: a line whose end is met is answered, and the rest stays unread; else the line waits for more, and what stands stays
-pub record Turned (t r : Turn) (line input file state line′ input′ file′ state′ out : List ℕ) : Type 0 where
+-- what there is of the line once these bytes are read
+abbrev pub gone : Turn → List ℕ → List ℕ → List ℕ
+gone t line read = cut (begun (t .input) line ++ lineOf read)
+
+-- whether the line waits for more then
+abbrev pub waitsAt : Turn → Turn → List ℕ → List ℕ → Bool
+waitsAt t r line read = waitsFor (hasEnd read) (r .input .«is_end») (length (gone t line read))
+
+-- a turn, from t to r: a line whose end is met is answered, and so is a last line without one, if there is anything of it; the next line has the next number, and what is behind the line stays unread.
+-- Else the line waits for more, and what stands stays
+pub record Turned (t r : Turn) (line input file state out line′ input′ file′ state′ out′ : List ℕ) : Type 0 where
   pub read : List ℕ
   pub same : t .input .at < t .input .end → read ≡ unread (t .input) input
-  pub answered : hasEnd read ≡ true → (n : ℕ) × Replies (reply (t .line) (cut (begun (t .input) line ++ lineOf read)) (standing (t .session) file state)) n (r .session) file′ state′ out
-  pub rest : hasEnd read ≡ true → (unread (r .input) input′ ≡ restOf read) × (begun (r .input) line′ ≡ [])
-  pub waits : hasEnd read ≡ false → r .«is_over» ≡ false → (begun (r .input) line′ ≡ cut (begun (t .input) line ++ lineOf read)) × (standing (r .session) file′ state′ ≡ standing (t .session) file state)
+  pub left : unread (r .input) input′ ≡ restOf read
+  pub ended : t .input .«is_end» ≡ false → r .input .«is_end» ≡ true → read ≡ []
+  pub over : r .«is_over» ≡ false → r .input .«is_end» ≡ false
+  pub answered : waitsAt t r line read ≡ false → (n : ℕ) × Replies (reply (t .line) (gone t line read) (standing (t .session) file state)) n (r .session) file′ state′ out′
+  pub next : waitsAt t r line read ≡ false → (begun (r .input) line′ ≡ []) × (r .line ≡ after (t .line))
+  pub waits : waitsAt t r line read ≡ true → (begun (r .input) line′ ≡ gone t line read) × (standing (r .session) file′ state′ ≡ standing (t .session) file state)
+  pub waits-too : waitsAt t r line read ≡ true → (r .line ≡ t .line) × (out′ ≡ out)

@@ -1,5 +1,8 @@
-use Rattle.relay.proofs.Lines.{not-whole, last-line, turned-waits, turned-answered}
+-- <uses>
 use borrow.Author.Needs.{needs}
+use mathlib.Core.Path.{sym, _∙_}
+use Rattle.relay.proofs.Lines.{over-part, turned-waits, turned-answered}
+-- </uses>
 use Rattle.relay.proofs.advance.Statement.{statement}
 use Rattle.relay.proofs.advance.Tie as tie
 use Rattle.relay.proofs.advance.Reads as reads
@@ -30,8 +33,7 @@ same-length-2 c = search needs
 returns : tie.Need-returns
 returns c =
     let start = c .before .before .before .before .before .before .before .before .before .before .before .before .before in
-    let g = c .before .before .before .before .before .before in
-    turned-waits (start .args .t) (g .gather .result) (start .args .line .now) (start .args .input .now) (g .gather .last .1 .1 .0) (g .gather .last .1 .0) (start .args .file .now) (start .args .state .now) (start .args .out .now) (g .gather .result .«is_end») (g .gather .ensures) (not-whole (g .gather .result) (c .before .is-waiting .result) (c .before .is-waiting .ensures) (c .if1 .taken))
+    turned-waits (start .args .t) (c .before .before .before .before .before .before .gather .result) (start .args .line .now) (start .args .input .now) (c .before .before .before .before .before .before .gather .last .1 .1 .0) (c .before .before .before .before .before .before .gather .last .1 .0) (start .args .file .now) (start .args .state .now) (start .args .out .now) (c .before .before .before .before .before .before .gather .ensures) (sym (c .before .is-waiting .ensures) ∙ c .if1 .taken)
 
 -- src/main.rt:201:9
 respond-requires : tie.Need-respond-requires
@@ -57,9 +59,7 @@ same-length-4 c = search needs
 returns-2 : tie.Need-returns-2
 returns-2 c =
     let start = c .before .before .before .before .before .before .before .before .before .before .before .before .before .before .before .before .before .before .before .before .before .before .before .before .before in
-    let g = c .before .before .before .before .before .before .before .before .before .before .before .before .before .before .before .before .before .before in
-    let r = c .before .before .before in
-    turned-answered (start .args .t) (g .gather .result) (start .args .line .now) (start .args .input .now) (g .gather .last .1 .1 .0) (g .gather .last .1 .0) (start .args .file .now) (start .args .state .now) _ _ _ (r .respond .result .session) (r .respond .result .length) (c .before .next .result) (c .is-last .result) (g .gather .ensures) (r .respond .ensures) (last-line (g .gather .result) (c .before .before .before .before .before .before .before .before .before .before .before .before .before .is-waiting .result) (c .is-last .result) (r .respond .result .«is_taken») (c .before .before .before .before .before .before .before .before .before .before .before .before .before .is-waiting .ensures) (c .before .before .before .before .before .before .before .before .before .before .before .before .if1 .left) (c .is-last .ensures))
+    turned-answered (start .args .t) (c .before .before .before .before .before .before .before .before .before .before .before .before .before .before .before .before .before .before .gather .result) (start .args .line .now) (start .args .input .now) (c .before .before .before .before .before .before .before .before .before .before .before .before .before .before .before .before .before .before .gather .last .1 .1 .0) (c .before .before .before .before .before .before .before .before .before .before .before .before .before .before .before .before .before .before .gather .last .1 .0) (start .args .file .now) (start .args .state .now) (start .args .out .now) _ _ _ (c .before .before .before .respond .result .session) (c .before .before .before .respond .result .length) (c .before .next .result) (c .is-last .result) (c .before .before .before .before .before .before .before .before .before .before .before .before .before .before .before .before .before .before .gather .ensures) (c .before .before .before .respond .ensures) (sym (c .before .before .before .before .before .before .before .before .before .before .before .before .before .is-waiting .ensures) ∙ c .before .before .before .before .before .before .before .before .before .before .before .before .if1 .left) (c .before .next .ensures) (over-part (c .before .before .before .before .before .before .before .before .before .before .before .before .before .before .before .before .before .before .gather .result .«is_end») (c .before .before .before .respond .result .«is_taken») (c .is-last .result) (c .is-last .ensures))
 
 pub advance-spec : {M : Type 1} → statement M
 advance-spec =

@@ -1,5 +1,7 @@
-use Rattle.relay.proofs.Lines.{gathers}
+-- <uses>
 use borrow.Author.Needs.{needs}
+use Rattle.relay.proofs.Lines.{gathers}
+-- </uses>
 use Rattle.relay.proofs.gather.Statement.{statement}
 use Rattle.relay.proofs.gather.Tie as tie
 use Rattle.relay.proofs.gather.Reads as reads
@@ -27,7 +29,7 @@ same-length-2 c = search needs
 returns : tie.Need-returns
 returns c =
     let start = c .before .before .before .before .before .before .before .before .before .before .before in
-    gathers (start .args .i) (c .before .before .before .before .before .before .before .refill .result) (c .before .before .take-line .result) (start .args .line .now) (start .args .input .now) (c .before .before .take-line .last .1 .1 .0) (c .before .before .before .before .before .before .before .refill .last .0) (c .before .before .before .before .before .before .before .refill .ensures) (c .before .before .take-line .ensures)
+    gathers (start .args .i) (c .before .before .before .before .before .before .before .refill .result) (c .before .before .take-line .result) (start .args .line .now) (start .args .input .now) (c .before .before .take-line .last .1 .1 .0) (c .before .before .before .before .before .before .before .refill .last .0) (c .before .before .before .before .before .before .before .refill .ensures) (c .before .before .take-line .ensures .0) (c .before .before .take-line .ensures .1)
 
 pub gather-spec : {M : Type 1} → statement M
 gather-spec =
