@@ -3,3 +3,4 @@ pub mod Reply
 pub mod Kept
 pub mod Turns
 pub mod Sessions
+pub mod Examples
