@@ -14,7 +14,7 @@ use Rattle.relay_text.specs.Lines.{Said}
 use Rattle.relay.specs.Requests.{asks}
 use Rattle.relay.specs.Reply.{Standing, Reply, obey, reply}
 use Rattle.relay.specs.Kept.{standing, Replies}
-use Rattle.relay.specs.Turns.{lineOf, restOf, hasEnd, cut, unread, begun, waitsFor, waiting, after, gone, Takes, Refills, Gathers, Turned}
+use Rattle.relay.specs.Turns.{lineOf, restOf, hasEnd, cut, unread, begun, waitsFor, waiting, after, gone, Takes, Refills, Turned}
 use Rattle.relay.specs.declared.Turn.{Turn}
 use Rattle.relay.specs.declared.session.Session.{Session}
 use Rattle.relay.specs.declared.Input.{Input}
@@ -156,15 +156,6 @@ empty-same (suc n) (x ∷ line) l h e = not-zero n ∙ sym (not-zero (length (ta
 pub never : (b : Bool) → false ≡ true → b ≡ true
 never b h = absurd (clash false refl h)
 
-pub gathers : (i f r : Input) (line input line′ input′ : List ℕ) → Refills i input f input′ → Takes (begun f line) (unread f input′) r line′ input′ → (r .«is_end» ≡ true → f .«is_end» ≡ true) → Gathers i line input r line′ input′
-gathers i f r line input line′ input′ h t e =
-    record {
-      read = unread f input′;
-      same = λ lt. ap (λ (x : Input). unread x input′) (h .kept lt .0) ∙ ap (unread i) (h .kept lt .1);
-      takes = subst (λ n. Takes (take n line) (unread f input′) r line′ input′) (h .begun-is) t;
-      ended = λ o x. h .ended o (e x);
-    }
-
 pub refills-not : (i : Input) (input : List ℕ) → i .at < i .end → Refills i input i input
 refills-not i input lt = record { begun-is = refl; kept = λ h. (refl, refl); ended = λ o x. absurd (clash (i .«is_end») o x) }
 
@@ -177,37 +168,33 @@ refills i input input′ n ge =
     }
 
 -- what the program tests is whether the line waits
-waits-is : (t : Turn) (taken : Input) (line input line′ input′ : List ℕ) (g : Gathers (t .input) line input taken line′ input′) → waiting taken ≡ waitsFor (hasEnd (g .read)) (taken .«is_end») (length (gone t line (g .read)))
-waits-is t taken line input line′ input′ g =
-    ap (λ z. waitsFor z (taken .«is_end») (taken .length)) (g .takes .whole)
-    ∙ ap (λ z. cond (hasEnd (g .read)) false (cond (taken .«is_end») z true)) (empty-same (taken .length) line′ (gone t line (g .read)) (g .takes .long) (g .takes .gone-on))
+waits-is : (i taken : Input) (line input line′ : List ℕ) (g : Takes (begun i line) (unread i input) taken line′ input) → waiting taken ≡ waitsFor (hasEnd (unread i input)) (taken .«is_end») (length (gone i line input))
+waits-is i taken line input line′ g =
+    ap (λ z. waitsFor z (taken .«is_end») (taken .length)) (g .whole)
+    ∙ ap (λ z. cond (hasEnd (unread i input)) false (cond (taken .«is_end») z true)) (empty-same (taken .length) line′ (gone i line input) (g .long) (g .gone-on))
 
-pub turned-waits : (t : Turn) (taken : Input) (line input line′ input′ file state out : List ℕ) → Gathers (t .input) line input taken line′ input′ → waiting taken ≡ true → Turned t (record { session = t .session; input = taken; line = t .line; «is_over» = taken .«is_end» }) line input file state out line′ input′ file state out
-turned-waits t taken line input line′ input′ file state out g w =
+pub turned-waits : (t : Turn) (i taken : Input) (line input line′ file state out : List ℕ) → Takes (begun i line) (unread i input) taken line′ input → (taken .«is_end» ≡ true → i .«is_end» ≡ true) → waiting taken ≡ true → Turned t i (record { session = t .session; input = taken; line = t .line; «is_over» = taken .«is_end» }) line input file state out line′ file state out
+turned-waits t i taken line input line′ file state out g e w =
     record {
-      read = g .read;
-      same = g .same;
-      left = g .takes .left;
-      ended = g .ended;
+      left = g .left;
+      ended = e;
       over = λ o. o;
-      answered = λ h. absurd (clash (waiting taken) (waits-is t taken line input line′ input′ g ∙ h) w);
-      next = λ h. absurd (clash (waiting taken) (waits-is t taken line input line′ input′ g ∙ h) w);
-      waits = λ h. (g .takes .gone-on, refl);
+      answered = λ h. absurd (clash (waiting taken) (waits-is i taken line input line′ g ∙ h) w);
+      next = λ h. absurd (clash (waiting taken) (waits-is i taken line input line′ g ∙ h) w);
+      waits = λ h. (g .gone-on, refl);
       waits-too = λ h. (refl, refl);
     }
 
-pub turned-answered : (t : Turn) (taken : Input) (line input line′ input′ file state out file′ state′ out′ : List ℕ) (kept : Session) (n k : ℕ) (over : Bool) → Gathers (t .input) line input taken line′ input′ → Replies (reply (t .line) (take (taken .length) line′) (standing (t .session) file state)) n kept file′ state′ out′ → waiting taken ≡ false → k ≡ after (t .line) → (over ≡ false → taken .«is_end» ≡ false) → Turned t (record { session = kept; input = record { at = taken .at; end = taken .end; length = 0; «is_whole» = false; «is_end» = taken .«is_end» }; line = k; «is_over» = over }) line input file state out line′ input′ file′ state′ out′
-turned-answered t taken line input line′ input′ file state out file′ state′ out′ kept n k over g r w a o =
+pub turned-answered : (t : Turn) (i taken : Input) (line input line′ file state out file′ state′ out′ : List ℕ) (kept : Session) (n k : ℕ) (over : Bool) → Takes (begun i line) (unread i input) taken line′ input → (taken .«is_end» ≡ true → i .«is_end» ≡ true) → Replies (reply (t .line) (take (taken .length) line′) (standing (t .session) file state)) n kept file′ state′ out′ → waiting taken ≡ false → k ≡ after (t .line) → (over ≡ false → taken .«is_end» ≡ false) → Turned t i (record { session = kept; input = record { at = taken .at; end = taken .end; length = 0; «is_whole» = false; «is_end» = taken .«is_end» }; line = k; «is_over» = over }) line input file state out line′ file′ state′ out′
+turned-answered t i taken line input line′ file state out file′ state′ out′ kept n k over g e r w a o =
     record {
-      read = g .read;
-      same = g .same;
-      left = g .takes .left;
-      ended = g .ended;
+      left = g .left;
+      ended = e;
       over = o;
-      answered = λ h. (n, subst (λ l. Replies (reply (t .line) l (standing (t .session) file state)) n kept file′ state′ out′) (g .takes .gone-on) r);
+      answered = λ h. (n, subst (λ l. Replies (reply (t .line) l (standing (t .session) file state)) n kept file′ state′ out′) (g .gone-on) r);
       next = λ h. (refl, a);
-      waits = λ h. absurd (clash (waiting taken) w (waits-is t taken line input line′ input′ g ∙ h));
-      waits-too = λ h. absurd (clash (waiting taken) w (waits-is t taken line input line′ input′ g ∙ h));
+      waits = λ h. absurd (clash (waiting taken) w (waits-is i taken line input line′ g ∙ h));
+      waits-too = λ h. absurd (clash (waiting taken) w (waits-is i taken line input line′ g ∙ h));
     }
 
 -- what is handed to the write: the buffer's front, and so the text

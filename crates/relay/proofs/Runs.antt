@@ -12,7 +12,7 @@ use Rattle.ol_spec.proofs.Tests.{T-false}
 use Rattle.relay_text.specs.Lines.{Said}
 use Rattle.relay.specs.Reply.{Standing, closed, opened, reply}
 use Rattle.relay.specs.Kept.{standing, Replies}
-use Rattle.relay.specs.Turns.{lineOf, restOf, hasEnd, cut, unread, begun, waitsFor, waitsAt, gone, Turned}
+use Rattle.relay.specs.Turns.{lineOf, restOf, hasEnd, cut, unread, begun, waitsFor, waitsAt, gone, Refills, Turned}
 use Rattle.relay.specs.Sessions.{behind, endedBy, linesFrom, tailFrom, linesOf, tailOf, lastLine, allLines, session, lastText, Served}
 use Rattle.relay.specs.declared.Input.{Input}
 use Rattle.relay.specs.declared.Turn.{Turn}
@@ -218,24 +218,28 @@ record Step (n : ℕ) (r : Turn) (line input file state out : List ℕ) : Type 0
   pub served : Served r line input file state out
   pub grows : length (served .answered) ≤ n + 1
 
-module _ (t r : Turn) (line input file state out line′ input′ file′ state′ out′ : List ℕ) (s : Served t line input file state out) (d : Turned t r line input file state out line′ input′ file′ state′ out′) (o : t .input .«is_end» ≡ false) (lt : length (s .answered) < 18446744073709551615) where
+module _ (t r : Turn) (i : Input) (line input input′ file state out line′ file′ state′ out′ : List ℕ) (s : Served t line input file state out) (q : Refills (t .input) input i input′) (d : Turned t i r line input′ file state out line′ file′ state′ out′) (o : t .input .«is_end» ≡ false) (lt : length (s .answered) < 18446744073709551615) where
+  -- what the turn goes on with: what was unread, or what a read gave
+  abbrev more : List ℕ
+  more = unread i input′
+
   abbrev whole : List ℕ
-  whole = s .begins ++ lineOf (d .read)
+  whole = s .begins ++ lineOf more
 
-  reads : Reads (s .answered) (s .begins) (d .read)
-  reads = reads-on (t .input) input (s .read) (s .answered) (s .begins) (d .read) (s .in-turn o) (s .tail o) (d .same)
+  reads : Reads (s .answered) (s .begins) more
+  reads = reads-on (t .input) input (s .read) (s .answered) (s .begins) more (s .in-turn o) (s .tail o) (λ k. ap (λ (x : Input). unread x input′) (q .kept k .0) ∙ ap (unread (t .input)) (q .kept k .1))
 
-  gone-is : gone t line (d .read) ≡ cut whole
-  gone-is = ap (λ z. cut (z ++ lineOf (d .read))) (s .kept o) ∙ cut-less 262145 (s .begins) (lineOf (d .read))
+  gone-is : gone i line input′ ≡ cut whole
+  gone-is = ap (λ z. cut (z ++ lineOf more)) (ap (λ n. take n line) (q .begun-is) ∙ s .kept o) ∙ cut-less 262145 (s .begins) (lineOf more)
 
-  reply-is : reply (t .line) (gone t line (d .read)) (standing (t .session) file state) ≡ reply (1 + length (s .answered)) whole (session 1 (s .answered) closed .stands)
+  reply-is : reply (t .line) (gone i line input′) (standing (t .session) file state) ≡ reply (1 + length (s .answered)) whole (session 1 (s .answered) closed .stands)
   reply-is =
-      ap (λ z. reply z (gone t line (d .read)) (standing (t .session) file state)) (s .number lt)
+      ap (λ z. reply z (gone i line input′) (standing (t .session) file state)) (s .number lt)
       ∙ ap (λ z. reply (1 + length (s .answered)) z (standing (t .session) file state)) gone-is
       ∙ reply-cut (1 + length (s .answered)) whole (standing (t .session) file state)
       ∙ ap (λ z. reply (1 + length (s .answered)) whole z) (s .stands)
 
-  answered-more : waitsAt t r line (d .read) ≡ false → After (s .answered ++ (whole ∷ [])) r file′ state′ out′
+  answered-more : waitsAt i r line input′ ≡ false → After (s .answered ++ (whole ∷ [])) r file′ state′ out′
   answered-more w =
       let a = d .answered w in
       let one : length (s .answered ++ (whole ∷ [])) ≡ length (s .answered) + 1 = length-append (s .answered) (whole ∷ []) in
@@ -245,7 +249,7 @@ module _ (t r : Turn) (line input file state out line′ input′ file′ state�
         number = λ h. omega (arith, one, s .number lt, d .next w .1);
       }
 
-  waited : waitsAt t r line (d .read) ≡ true → After (s .answered) r file′ state′ out′
+  waited : waitsAt i r line input′ ≡ true → After (s .answered) r file′ state′ out′
   waited w =
       record {
         stands = d .waits w .1 ∙ s .stands;
@@ -254,21 +258,21 @@ module _ (t r : Turn) (line input file state out line′ input′ file′ state�
       }
 
   -- a line's end is met
-  line-ends : hasEnd (d .read) ≡ true → Step (length (s .answered)) r line′ input′ file′ state′ out′
+  line-ends : hasEnd more ≡ true → Step (length (s .answered)) r line′ input′ file′ state′ out′
   line-ends h =
-      let w : waitsAt t r line (d .read) ≡ false = ap (λ z. waitsFor z (r .input .«is_end») (length (gone t line (d .read)))) h in
+      let w : waitsAt i r line input′ ≡ false = ap (λ z. waitsFor z (r .input .«is_end») (length (gone i line input′))) h in
       let a = answered-more w in
-      let f = with-end (s .begins) (d .read) h in
+      let f = with-end (s .begins) more h in
       record {
         grows = omega (arith, length-append (s .answered) (whole ∷ []));
         served = record {
           read = reads .read;
           answered = s .answered ++ (whole ∷ []);
           begins = [];
-          in-turn = λ e. reads .lines-are ∙ ap (λ z. s .answered ++ z) (f .lines-are) ∙ sym (append-assoc (s .answered) (whole ∷ []) (linesFrom [] (restOf (d .read)))) ∙ ap (λ z. (s .answered ++ (whole ∷ [])) ++ linesFrom [] z) (sym (d .left));
+          in-turn = λ e. reads .lines-are ∙ ap (λ z. s .answered ++ z) (f .lines-are) ∙ sym (append-assoc (s .answered) (whole ∷ []) (linesFrom [] (restOf more))) ∙ ap (λ z. (s .answered ++ (whole ∷ [])) ++ linesFrom [] z) (sym (d .left));
           tail = λ e. reads .tail-is ∙ f .tail-is ∙ ap (tailFrom []) (sym (d .left));
           kept = λ e. d .next w .0;
-          all = λ e. clash (hasEnd (d .read)) (ap hasEnd (d .ended o e) ∙ none-has) h;
+          all = λ e. clash (hasEnd more) (ap hasEnd (q .ended o (d .ended e)) ∙ none-has) h;
           stands = a .stands;
           said = a .said;
           number = a .number;
@@ -276,11 +280,11 @@ module _ (t r : Turn) (line input file state out line′ input′ file′ state�
       }
 
   -- the line waits for more
-  line-waits : hasEnd (d .read) ≡ false → r .input .«is_end» ≡ false → Step (length (s .answered)) r line′ input′ file′ state′ out′
+  line-waits : hasEnd more ≡ false → r .input .«is_end» ≡ false → Step (length (s .answered)) r line′ input′ file′ state′ out′
   line-waits h e =
-      let w : waitsAt t r line (d .read) ≡ true = ap (λ z. waitsFor z (r .input .«is_end») (length (gone t line (d .read)))) h ∙ ap (λ z. cond z (eqb (length (gone t line (d .read))) 0) true) e in
+      let w : waitsAt i r line input′ ≡ true = ap (λ z. waitsFor z (r .input .«is_end») (length (gone i line input′))) h ∙ ap (λ z. cond z (eqb (length (gone i line input′)) 0) true) e in
       let a = waited w in
-      let f = without-end (s .begins) (d .read) h in
+      let f = without-end (s .begins) more h in
       record {
         grows = omega arith;
         served = record {
@@ -298,9 +302,9 @@ module _ (t r : Turn) (line input file state out line′ input′ file′ state�
       }
 
   -- the input is at its end
-  all-are : hasEnd (d .read) ≡ false → allLines (reads .read) ≡ s .answered ++ lastLine whole
+  all-are : hasEnd more ≡ false → allLines (reads .read) ≡ s .answered ++ lastLine whole
   all-are h =
-      let f = without-end (s .begins) (d .read) h in
+      let f = without-end (s .begins) more h in
       ap (λ z. z ++ lastLine (tailOf (reads .read))) (reads .lines-are ∙ ap (λ z. s .answered ++ z) (f .lines-are) ∙ append-nil (s .answered))
       ∙ ap (λ z. s .answered ++ lastLine z) (reads .tail-is ∙ f .tail-is)
 
@@ -322,19 +326,19 @@ module _ (t r : Turn) (line input file state out line′ input′ file′ state�
         };
       }
 
-  line-last : hasEnd (d .read) ≡ false → r .input .«is_end» ≡ true → Step (length (s .answered)) r line′ input′ file′ state′ out′
+  line-last : hasEnd more ≡ false → r .input .«is_end» ≡ true → Step (length (s .answered)) r line′ input′ file′ state′ out′
   line-last h e =
-      let w : waitsAt t r line (d .read) ≡ eqb (length (gone t line (d .read))) 0 = ap (λ z. waitsFor z (r .input .«is_end») (length (gone t line (d .read)))) h ∙ ap (λ z. cond z (eqb (length (gone t line (d .read))) 0) true) e in
-      let k : eqb (length (gone t line (d .read))) 0 ≡ eqb (length (cut whole)) 0 = ap (λ z. eqb (length z) 0) gone-is in
+      let w : waitsAt i r line input′ ≡ eqb (length (gone i line input′)) 0 = ap (λ z. waitsFor z (r .input .«is_end») (length (gone i line input′))) h ∙ ap (λ z. cond z (eqb (length (gone i line input′)) 0) true) e in
+      let k : eqb (length (gone i line input′)) 0 ≡ eqb (length (cut whole)) 0 = ap (λ z. eqb (length z) 0) gone-is in
       either
-      (eqb (length (gone t line (d .read))) 0)
+      (eqb (length (gone i line input′)) 0)
       (λ none. at-last (s .answered) (omega arith) e (sym (all-are h ∙ ap (λ z. s .answered ++ z) (no-last 262144 whole (sym k ∙ none)) ∙ append-nil (s .answered))) (waited (w ∙ none)))
       (λ some. at-last (s .answered ++ (whole ∷ [])) (omega (arith, length-append (s .answered) (whole ∷ []))) e (sym (all-are h ∙ ap (λ z. s .answered ++ z) (a-last 262144 whole (sym k ∙ some)))) (answered-more (w ∙ some)))
 
   step : Step (length (s .answered)) r line′ input′ file′ state′ out′
-  step = either (hasEnd (d .read)) line-ends (λ h. either (r .input .«is_end») (line-last h) (line-waits h))
+  step = either (hasEnd more) line-ends (λ h. either (r .input .«is_end») (line-last h) (line-waits h))
 
-pub serving-turn : (t r : Turn) (turns : ℕ) (line input file state out line′ input′ file′ state′ out′ : List ℕ) → Serving t turns line input file state out → Turned t r line input file state out line′ input′ file′ state′ out′ → t .«is_over» ≡ false → 0 < turns → Serving r (turns - 1) line′ input′ file′ state′ out′
-serving-turn t r turns line input file state out line′ input′ file′ state′ out′ g d o lt =
-    let one = step t r line input file state out line′ input′ file′ state′ out′ (g .served) d (g .over o) (omega (arith, g .room, lt)) in
+pub serving-turn : (t r : Turn) (i : Input) (turns : ℕ) (line input input′ file state out line′ file′ state′ out′ : List ℕ) → Serving t turns line input file state out → Refills (t .input) input i input′ → Turned t i r line input′ file state out line′ file′ state′ out′ → t .«is_over» ≡ false → 0 < turns → Serving r (turns - 1) line′ input′ file′ state′ out′
+serving-turn t r i turns line input input′ file state out line′ file′ state′ out′ g q d o lt =
+    let one = step t r i line input input′ file state out line′ file′ state′ out′ (g .served) q d (g .over o) (omega (arith, g .room, lt)) in
     record { served = one .served; over = d .over; room = omega (arith, one .grows, g .room, lt) }

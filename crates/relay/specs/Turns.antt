@@ -59,30 +59,20 @@ pub record Refills (i : Input) (input : List ℕ) (r : Input) (input′ : List �
   pub kept : i .at < i .end → (r ≡ i) × (input′ ≡ input)
   pub ended : i .«is_end» ≡ false → r .«is_end» ≡ true → unread r input′ ≡ []
 
--- the line goes on with what is unread; where nothing is, with what a read gives
-pub record Gathers (i : Input) (line input : List ℕ) (r : Input) (line′ input′ : List ℕ) : Type 0 where
-  pub read : List ℕ
-  pub same : i .at < i .end → read ≡ unread i input
-  pub takes : Takes (begun i line) read r line′ input′
-  pub ended : i .«is_end» ≡ false → r .«is_end» ≡ true → read ≡ []
+-- what there is of the line once what is unread is taken, and whether the line waits for more then
+abbrev pub gone : Input → List ℕ → List ℕ → List ℕ
+gone i line input = cut (begun i line ++ lineOf (unread i input))
 
--- what there is of the line once these bytes are read
-abbrev pub gone : Turn → List ℕ → List ℕ → List ℕ
-gone t line read = cut (begun (t .input) line ++ lineOf read)
+abbrev pub waitsAt : Input → Turn → List ℕ → List ℕ → Bool
+waitsAt i r line input = waitsFor (hasEnd (unread i input)) (r .input .«is_end») (length (gone i line input))
 
--- whether the line waits for more then
-abbrev pub waitsAt : Turn → Turn → List ℕ → List ℕ → Bool
-waitsAt t r line read = waitsFor (hasEnd read) (r .input .«is_end») (length (gone t line read))
-
--- a turn, from t to r: a line whose end is met is answered, and so is a last line without one, if there is anything of it; the next line has the next number, and what is behind the line stays unread.
+-- a turn, from t to r, with the input i: a line whose end is met is answered, and so is a last line without one, if there is anything of it; the next line has the next number, and what is behind the line stays unread.
 -- Else the line waits for more, and what stands stays
-pub record Turned (t r : Turn) (line input file state out line′ input′ file′ state′ out′ : List ℕ) : Type 0 where
-  pub read : List ℕ
-  pub same : t .input .at < t .input .end → read ≡ unread (t .input) input
-  pub left : unread (r .input) input′ ≡ restOf read
-  pub ended : t .input .«is_end» ≡ false → r .input .«is_end» ≡ true → read ≡ []
+pub record Turned (t : Turn) (i : Input) (r : Turn) (line input file state out line′ file′ state′ out′ : List ℕ) : Type 0 where
+  pub left : unread (r .input) input ≡ restOf (unread i input)
+  pub ended : r .input .«is_end» ≡ true → i .«is_end» ≡ true
   pub over : r .«is_over» ≡ false → r .input .«is_end» ≡ false
-  pub answered : waitsAt t r line read ≡ false → (n : ℕ) × Replies (reply (t .line) (gone t line read) (standing (t .session) file state)) n (r .session) file′ state′ out′
-  pub next : waitsAt t r line read ≡ false → (begun (r .input) line′ ≡ []) × (r .line ≡ after (t .line))
-  pub waits : waitsAt t r line read ≡ true → (begun (r .input) line′ ≡ gone t line read) × (standing (r .session) file′ state′ ≡ standing (t .session) file state)
-  pub waits-too : waitsAt t r line read ≡ true → (r .line ≡ t .line) × (out′ ≡ out)
+  pub answered : waitsAt i r line input ≡ false → (n : ℕ) × Replies (reply (t .line) (gone i line input) (standing (t .session) file state)) n (r .session) file′ state′ out′
+  pub next : waitsAt i r line input ≡ false → (begun (r .input) line′ ≡ []) × (r .line ≡ after (t .line))
+  pub waits : waitsAt i r line input ≡ true → (begun (r .input) line′ ≡ gone i line input) × (standing (r .session) file′ state′ ≡ standing (t .session) file state)
+  pub waits-too : waitsAt i r line input ≡ true → (r .line ≡ t .line) × (out′ ≡ out)

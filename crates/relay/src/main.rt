@@ -11,7 +11,7 @@ ghost use lib.ListN.{length, take};
 ghost use Rattle.relay_text.specs.Lines.{Said};
 ghost use Rattle.relay.specs.Reply.{reply};
 ghost use Rattle.relay.specs.Kept.{standing, Replies};
-ghost use Rattle.relay.specs.Turns.{unread, begun, waiting, after, Takes, Refills, Gathers, Turned};
+ghost use Rattle.relay.specs.Turns.{unread, begun, waiting, after, Takes, Refills, Turned};
 ghost use Rattle.relay.specs.Sessions.{Served};
 
 // A piece of the input as it is read: its bytes from `at` up to `end` are not taken yet. The line's first
@@ -163,15 +163,6 @@ fn next(n: usize) -> usize
     if n < usize::MAX { n + 1 } else { n }
 }
 
-// Takes what the input has of a line.
-fn gather(i: Input, input: &mut [u8], line: &mut [u8]) -> Input
-    requires { ⌜ length (now line) ≡ 262145 ⌝ }
-    ensures { λ r. ⌜ Gathers i (now (line .entry)) (now (input .entry)) r (now (line .exit)) (now (input .exit)) ⌝ }
-{
-    let filled = refill(input, i);
-    take_line(input, filled, line)
-}
-
 // Whether a line waits for more: its end is not met, and the input goes on, or there is nothing of it.
 fn is_waiting(i: Input) -> bool
     ensures { λ r. ⌜ r ≡ waiting i ⌝ }
@@ -195,10 +186,11 @@ fn is_last(ended: bool, taken: bool) -> bool
     !taken
 }
 
-// One turn: takes what the input has of a line, and answers the line once its end, or the input's, is met.
+// One turn, with an input that was refilled: takes what it has of a line, and answers the line once its end, or the input's, is met.
 fn advance(
     t: Turn,
-    input: &mut [u8],
+    i: Input,
+    input: &[u8],
     line: &mut [u8],
     file: &mut [u8; 131072],
     state: &mut [u8; 131072],
@@ -209,11 +201,10 @@ fn advance(
     out: &mut [u8; 393216],
 ) -> Turn
     requires { ⌜ length (now line) ≡ 262145 ⌝ }
-    ensures { λ r. ⌜ Turned t r (now (line .entry)) (now (input .entry)) (now (file .entry)) (now (state .entry)) (now (out .entry)) (now (line .exit)) (now (input .exit)) (now (file .exit)) (now (state .exit)) (now (out .exit)) ⌝ }
+    ensures { λ r. ⌜ Turned t i r (now (line .entry)) (now (input .entry)) (now (file .entry)) (now (state .entry)) (now (out .entry)) (now (line .exit)) (now (file .exit)) (now (state .exit)) (now (out .exit)) ⌝ }
 {
-    let before = t.input;
     let s = t.session;
-    let taken = gather(before, input, line);
+    let taken = take_line(input, i, line);
     if is_waiting(taken) {
         return Turn {
             session: s,
@@ -284,7 +275,21 @@ fn serve(
         if t.is_over {
             return t;
         }
-        t = advance(t, input, line, file, state, bytes, inputs, new, values, out);
+        let i = t.input;
+        let filled = refill(input, i);
+        t = advance(
+            t,
+            filled,
+            input,
+            line,
+            file,
+            state,
+            bytes,
+            inputs,
+            new,
+            values,
+            out,
+        );
         turns -= 1;
     }
     t
