@@ -157,15 +157,20 @@ pub never : (b : Bool) → false ≡ true → b ≡ true
 never b h = absurd (clash false refl h)
 
 pub refills-not : (i : Input) (input : List ℕ) → i .at < i .end → Refills i input i input
-refills-not i input lt = record { begun-is = refl; kept = λ h. (refl, refl); ended = λ o x. absurd (clash (i .«is_end») o x) }
+refills-not i input lt = record { begun-is = refl; kept = λ h. (refl, refl); fresh = λ ge. absurd (ge lt) }
 
-pub refills : (i : Input) (input input′ : List ℕ) (n : ℕ) → ¬ (i .at < i .end) → Refills i input (record { at = 0; end = n; length = i .length; «is_whole» = false; «is_end» = eqb n 0 }) input′
-refills i input input′ n ge =
-    record {
-      begun-is = refl;
-      kept = λ lt. absurd (ge lt);
-      ended = λ o x. ap (λ k. drop 0 (take k input′)) (eqb→eq n 0 (true-T (eqb n 0) x));
-    }
+pub refills : (i : Input) (input input′ : List ℕ) (n : ℕ) → n ≤ length input′ → ¬ (i .at < i .end) → Refills i input (record { at = 0; end = n; length = i .length; «is_whole» = false; «is_end» = eqb n 0 }) input′
+refills i input input′ n le ge = record { begun-is = refl; kept = λ lt. absurd (ge lt); fresh = λ h. (refl, le, refl) }
+
+-- an input that comes to its end has nothing unread
+pub ended-none : (i r : Input) (input input′ : List ℕ) → Refills i input r input′ → i .«is_end» ≡ false → r .«is_end» ≡ true → unread r input′ ≡ []
+ended-none i r input input′ q o e =
+    by-cases
+    (decLe (suc (i .at)) (i .end))
+    (λ lt. absurd (clash (r .«is_end») (ap (λ (x : Input). x .«is_end») (q .kept lt .0) ∙ o) e))
+    (λ ge.
+    let f = q .fresh ge in
+    ap (λ k. drop k (take (r .end) input′)) (f .0) ∙ ap (λ k. drop 0 (take k input′)) (eqb→eq (r .end) 0 (true-T (eqb (r .end) 0) (sym (f .2) ∙ e))))
 
 -- what the program tests is whether the line waits
 waits-is : (i taken : Input) (line input line′ : List ℕ) (g : Takes (begun i line) (unread i input) taken line′ input) → waiting taken ≡ waitsFor (hasEnd (unread i input)) (taken .«is_end») (length (gone i line input))

@@ -1,6 +1,6 @@
 -- The input as lines: what a turn of the loop does with the bytes that a read gave.
 -- Free are which bytes a read gives and how many at a time, and whether a write takes them: the contracts of read and write leave that open.
-use Prim.Native.Nat.{ℕ, _+_, _<_, min}
+use Prim.Native.Nat.{ℕ, _+_, _≤_, _<_, min}
 use mathlib.Core.Bool.{Bool, true, false, cond}
 use mathlib.Core.List.{List, [], _∷_, _++_}
 use mathlib.Core.Path.{_≡_}
@@ -53,11 +53,11 @@ pub record Takes (line unread : List ℕ) (r : Input) (line′ input : List ℕ)
   pub left : drop (r .at) (take (r .end) input) ≡ restOf unread
   pub long : length line′ ≡ 262145
 
--- a read, where nothing is unread; what it gives is free. The input is at its end only where the read gives nothing
+-- a read, where nothing is unread. Which bytes it gives is free; they stand at the start of the buffer, and the input is at its end exactly if there are none
 pub record Refills (i : Input) (input : List ℕ) (r : Input) (input′ : List ℕ) : Type 0 where
   pub begun-is : r .length ≡ i .length
   pub kept : i .at < i .end → (r ≡ i) × (input′ ≡ input)
-  pub ended : i .«is_end» ≡ false → r .«is_end» ≡ true → unread r input′ ≡ []
+  pub fresh : ¬ (i .at < i .end) → (r .at ≡ 0) × (r .end ≤ length input′) × (r .«is_end» ≡ eqb (r .end) 0)
 
 -- what there is of the line once what is unread is taken, and whether the line waits for more then
 abbrev pub gone : Input → List ℕ → List ℕ → List ℕ

@@ -32,7 +32,7 @@ same-length c = search needs
 returns-2 : tie.Need-returns-2
 returns-2 c =
     let start = c .before .before .before .before .before .before .before .before .before in
-    refills (start .args .i) (start .args .input .now) _ (c .count .result) (λ h. omega (arith, h, c .before .before .before .before .before .before .if1 .left))
+    refills (start .args .i) (start .args .input .now) _ (c .count .result) (c .count .ensures .0 .0) (λ h. omega (arith, h, c .before .before .before .before .before .before .if1 .left))
 
 pub refill-spec : {M : Type 1} → statement M
 refill-spec = tie.close (tie.spec returns read-requires count-requires same-length returns-2)
