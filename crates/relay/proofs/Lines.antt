@@ -87,11 +87,13 @@ module _ (line₀ unread₀ line input : List ℕ) (n at end : ℕ) (le : end �
   abbrev rest : List ℕ
   rest = drop (at + 1) (take end input)
 
-  pub going-whole : (lt : at < end) → b ≡ 10 → Takes line₀ unread₀ (record { at = at + 1; end = end; length = n; «is_whole» = true; «is_end» = false }) line input
-  going-whole lt e =
+  pub going-whole : (f : Bool) → (lt : at < end) → b ≡ 10 → Takes line₀ unread₀ f (record { at = at + 1; end = end; length = n; «is_whole» = true; «is_end» = false }) line input
+  going-whole f lt e =
       let u = next-byte input at end lt le in
+      let h : hasEnd unread₀ ≡ true = g .ends ∙ ap hasEnd u ∙ end-has b rest e in
       record {
-        whole = sym (g .ends ∙ ap hasEnd u ∙ end-has b rest e);
+        whole = sym h;
+        ended = sym (ap (λ z. cond z false f) h);
         gone-on = sym (g .line-is ∙ ap (λ l. cut (take n line ++ lineOf l)) u ∙ ap (λ l. cut (take n line ++ l)) (end-line b rest e) ∙ ap cut (append-nil (take n line)) ∙ short line n (g .long));
         left = sym (g .rest-is ∙ ap restOf u ∙ end-rest b rest e);
         long = g .long;
@@ -124,11 +126,13 @@ module _ (line₀ unread₀ line input : List ℕ) (n at end : ℕ) (le : end �
         rest-is = g .rest-is ∙ ap restOf u ∙ on-rest b rest e;
       }
 
-  pub going-end : (f : Bool) → end ≤ at → Takes line₀ unread₀ (record { at = at; end = end; length = n; «is_whole» = false; «is_end» = f }) line input
+  pub going-end : (f : Bool) → end ≤ at → Takes line₀ unread₀ f (record { at = at; end = end; length = n; «is_whole» = false; «is_end» = f }) line input
   going-end f h =
       let u : drop at (take end input) ≡ [] = drop-of-length-le (take end input) {i = at} (omega (arith, length-take end input)) in
+      let h : hasEnd unread₀ ≡ false = g .ends ∙ ap hasEnd u ∙ none-has in
       record {
-        whole = sym (g .ends ∙ ap hasEnd u ∙ none-has);
+        whole = sym h;
+        ended = sym (ap (λ z. cond z false f) h);
         gone-on = sym (g .line-is ∙ ap (λ l. cut (take n line ++ lineOf l)) u ∙ ap (λ l. cut (take n line ++ l)) none-line ∙ ap cut (append-nil (take n line)) ∙ short line n (g .long));
         left = u ∙ sym (g .rest-is ∙ ap restOf u ∙ none-rest);
         long = g .long;
@@ -152,49 +156,35 @@ empty-same zero line l h e = ap (λ z. eqb (length z) 0) e
 empty-same (suc n) [] l h e = absurd (omega (arith, h))
 empty-same (suc n) (x ∷ line) l h e = not-zero n ∙ sym (not-zero (length (take n line))) ∙ ap (λ z. eqb (length z) 0) e
 
--- a line whose end is met is not the input's end
-pub never : (b : Bool) → false ≡ true → b ≡ true
-never b h = absurd (clash false refl h)
-
 pub refills-not : (i : Input) (input : List ℕ) → i .at < i .end → Refills i input i input
 refills-not i input lt = record { begun-is = refl; kept = λ h. (refl, refl); fresh = λ ge. absurd (ge lt) }
 
 pub refills : (i : Input) (input input′ : List ℕ) (n : ℕ) → n ≤ length input′ → ¬ (i .at < i .end) → Refills i input (record { at = 0; end = n; length = i .length; «is_whole» = false; «is_end» = eqb n 0 }) input′
 refills i input input′ n le ge = record { begun-is = refl; kept = λ lt. absurd (ge lt); fresh = λ h. (refl, le, refl) }
 
--- an input that comes to its end has nothing unread
-pub ended-none : (i r : Input) (input input′ : List ℕ) → Refills i input r input′ → i .«is_end» ≡ false → r .«is_end» ≡ true → unread r input′ ≡ []
-ended-none i r input input′ q o e =
-    by-cases
-    (decLe (suc (i .at)) (i .end))
-    (λ lt. absurd (clash (r .«is_end») (ap (λ (x : Input). x .«is_end») (q .kept lt .0) ∙ o) e))
-    (λ ge.
-    let f = q .fresh ge in
-    ap (λ k. drop k (take (r .end) input′)) (f .0) ∙ ap (λ k. drop 0 (take k input′)) (eqb→eq (r .end) 0 (true-T (eqb (r .end) 0) (sym (f .2) ∙ e))))
-
 -- what the program tests is whether the line waits
-waits-is : (i taken : Input) (line input line′ : List ℕ) (g : Takes (begun i line) (unread i input) taken line′ input) → waiting taken ≡ waitsFor (hasEnd (unread i input)) (taken .«is_end») (length (gone i line input))
+waits-is : (i taken : Input) (line input line′ : List ℕ) (g : Takes (begun i line) (unread i input) (i .«is_end») taken line′ input) → waiting taken ≡ waitsFor (hasEnd (unread i input)) (taken .«is_end») (length (gone i line input))
 waits-is i taken line input line′ g =
     ap (λ z. waitsFor z (taken .«is_end») (taken .length)) (g .whole)
     ∙ ap (λ z. cond (hasEnd (unread i input)) false (cond (taken .«is_end») z true)) (empty-same (taken .length) line′ (gone i line input) (g .long) (g .gone-on))
 
-pub turned-waits : (t : Turn) (i taken : Input) (line input line′ file state out : List ℕ) → Takes (begun i line) (unread i input) taken line′ input → (taken .«is_end» ≡ true → i .«is_end» ≡ true) → waiting taken ≡ true → Turned t i (record { session = t .session; input = taken; line = t .line; «is_over» = taken .«is_end» }) line input file state out line′ file state out
-turned-waits t i taken line input line′ file state out g e w =
+pub turned-waits : (t : Turn) (i taken : Input) (line input line′ file state out : List ℕ) → Takes (begun i line) (unread i input) (i .«is_end») taken line′ input → waiting taken ≡ true → Turned t i (record { session = t .session; input = taken; line = t .line; «is_over» = taken .«is_end» }) line input file state out line′ file state out
+turned-waits t i taken line input line′ file state out g w =
     record {
       left = g .left;
-      ended = e;
+      ended = g .ended;
       over = λ o. o;
       answered = λ h. absurd (clash (waiting taken) (waits-is i taken line input line′ g ∙ h) w);
       next = λ h. absurd (clash (waiting taken) (waits-is i taken line input line′ g ∙ h) w);
       waits = λ h. (g .gone-on, refl);
-      waits-too = λ h. (refl, refl);
+      waits-too = λ h. (refl, refl, refl);
     }
 
-pub turned-answered : (t : Turn) (i taken : Input) (line input line′ file state out file′ state′ out′ : List ℕ) (kept : Session) (n k : ℕ) (over : Bool) → Takes (begun i line) (unread i input) taken line′ input → (taken .«is_end» ≡ true → i .«is_end» ≡ true) → Replies (reply (t .line) (take (taken .length) line′) (standing (t .session) file state)) n kept file′ state′ out′ → waiting taken ≡ false → k ≡ after (t .line) → (over ≡ false → taken .«is_end» ≡ false) → Turned t i (record { session = kept; input = record { at = taken .at; end = taken .end; length = 0; «is_whole» = false; «is_end» = taken .«is_end» }; line = k; «is_over» = over }) line input file state out line′ file′ state′ out′
-turned-answered t i taken line input line′ file state out file′ state′ out′ kept n k over g e r w a o =
+pub turned-answered : (t : Turn) (i taken : Input) (line input line′ file state out file′ state′ out′ : List ℕ) (kept : Session) (n k : ℕ) (over : Bool) → Takes (begun i line) (unread i input) (i .«is_end») taken line′ input → Replies (reply (t .line) (take (taken .length) line′) (standing (t .session) file state)) n kept file′ state′ out′ → waiting taken ≡ false → k ≡ after (t .line) → (over ≡ false → taken .«is_end» ≡ false) → Turned t i (record { session = kept; input = record { at = taken .at; end = taken .end; length = 0; «is_whole» = false; «is_end» = taken .«is_end» }; line = k; «is_over» = over }) line input file state out line′ file′ state′ out′
+turned-answered t i taken line input line′ file state out file′ state′ out′ kept n k over g r w a o =
     record {
       left = g .left;
-      ended = e;
+      ended = g .ended;
       over = o;
       answered = λ h. (n, subst (λ l. Replies (reply (t .line) l (standing (t .session) file state)) n kept file′ state′ out′) (g .gone-on) r);
       next = λ h. (refl, a);

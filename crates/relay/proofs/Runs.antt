@@ -17,7 +17,7 @@ use Rattle.relay.specs.Sessions.{behind, endedBy, linesFrom, tailFrom, l
 use Rattle.relay.specs.declared.Input.{Input}
 use Rattle.relay.specs.declared.Turn.{Turn}
 use Rattle.relay.specs.declared.session.Session.{Session}
-use Rattle.relay.proofs.Lines.{ended-none, reply-cut}
+use Rattle.relay.proofs.Lines.{reply-cut}
 
 clash : {A : Type 0} (b : Bool) → b ≡ false → b ≡ true → A
 clash b f t = let z : _≡_ {A = ℕ} 0 1 = cc in absurd (omega arith)
@@ -35,10 +35,6 @@ none-lines b = refl
 none-tail : (b : List ℕ) → tailFrom b [] ≡ b
 unfolding tailFrom
 none-tail b = refl
-
-none-has : hasEnd [] ≡ false
-unfolding hasEnd
-none-has = refl
 
 lines-append : (b l m : List ℕ) → linesFrom b (l ++ m) ≡ linesFrom b l ++ linesFrom (tailFrom b l) m
 unfolding linesFrom tailFrom
@@ -272,7 +268,7 @@ module _ (t r : Turn) (i : Input) (line input input′ file state out line′ fi
           in-turn = λ e. reads .lines-are ∙ ap (λ z. s .answered ++ z) (f .lines-are) ∙ sym (append-assoc (s .answered) (whole ∷ []) (linesFrom [] (restOf more))) ∙ ap (λ z. (s .answered ++ (whole ∷ [])) ++ linesFrom [] z) (sym (d .left));
           tail = λ e. reads .tail-is ∙ f .tail-is ∙ ap (tailFrom []) (sym (d .left));
           kept = λ e. d .next w .0;
-          all = λ e. clash (hasEnd more) (ap hasEnd (ended-none (t .input) i input input′ q o (d .ended e)) ∙ none-has) h;
+          all = λ e. clash (r .input .«is_end») (d .ended ∙ ap (λ z. cond z false (i .«is_end»)) h) e;
           stands = a .stands;
           said = a .said;
           number = a .number;

@@ -46,11 +46,12 @@ waiting i = waitsFor (i .«is_whole») (i .«is_end») (i .length)
 abbrev pub after : ℕ → ℕ
 after n = min (n + 1) 18446744073709551615
 
--- the line goes on up to its end, or the input's; the rest is kept
-pub record Takes (line unread : List ℕ) (r : Input) (line′ input : List ℕ) : Type 0 where
+-- the line goes on up to its end, or the input's; the rest is kept. Behind a line's end the input is not at its end
+pub record Takes (line unread : List ℕ) (atEnd : Bool) (r : Input) (line′ input : List ℕ) : Type 0 where
   pub whole : r .«is_whole» ≡ hasEnd unread
   pub gone-on : take (r .length) line′ ≡ cut (line ++ lineOf unread)
   pub left : drop (r .at) (take (r .end) input) ≡ restOf unread
+  pub ended : r .«is_end» ≡ cond (hasEnd unread) false atEnd
   pub long : length line′ ≡ 262145
 
 -- a read, where nothing is unread. Which bytes it gives is free; they stand at the start of the buffer, and the input is at its end exactly if there are none
@@ -67,12 +68,12 @@ abbrev pub waitsAt : Input → Turn → List ℕ → List ℕ → Bool
 waitsAt i r line input = waitsFor (hasEnd (unread i input)) (r .input .«is_end») (length (gone i line input))
 
 -- a turn, from t to r, with the input i: a line whose end is met is answered, and so is a last line without one, if there is anything of it; the next line has the next number, and what is behind the line stays unread.
--- Else the line waits for more, and what stands stays
+-- Else the line waits for more, and what stands stays; the run is over then only if the input is at its end
 pub record Turned (t : Turn) (i : Input) (r : Turn) (line input file state out line′ file′ state′ out′ : List ℕ) : Type 0 where
   pub left : unread (r .input) input ≡ restOf (unread i input)
-  pub ended : r .input .«is_end» ≡ true → i .«is_end» ≡ true
+  pub ended : r .input .«is_end» ≡ cond (hasEnd (unread i input)) false (i .«is_end»)
   pub over : r .«is_over» ≡ false → r .input .«is_end» ≡ false
   pub answered : waitsAt i r line input ≡ false → (n : ℕ) × Replies (reply (t .line) (gone i line input) (standing (t .session) file state)) n (r .session) file′ state′ out′
   pub next : waitsAt i r line input ≡ false → (begun (r .input) line′ ≡ []) × (r .line ≡ after (t .line))
   pub waits : waitsAt i r line input ≡ true → (begun (r .input) line′ ≡ gone i line input) × (standing (r .session) file′ state′ ≡ standing (t .session) file state)
-  pub waits-too : waitsAt i r line input ≡ true → (r .line ≡ t .line) × (out′ ≡ out)
+  pub waits-too : waitsAt i r line input ≡ true → (r .line ≡ t .line) × (out′ ≡ out) × (r .«is_over» ≡ r .input .«is_end»)

@@ -28,8 +28,7 @@ struct Input {
 // that do not fit are dropped.
 fn take_line(input: &[u8], i: Input, line: &mut [u8]) -> Input
     requires { ⌜ length (now line) ≡ 262145 ⌝ }
-    ensures { λ r. ⌜ Takes (begun i (now (line .entry))) (unread i (now (input .entry))) r (now (line .exit)) (now (input .entry)) ⌝ }
-    ensures { λ r. ⌜ (r .«is_end» ≡ true → i .«is_end» ≡ true) ⌝ }
+    ensures { λ r. ⌜ Takes (begun i (now (line .entry))) (unread i (now (input .entry))) (i .«is_end») r (now (line .exit)) (now (input .entry)) ⌝ }
 {
     let mut at = i.at;
     let mut n = i.length;

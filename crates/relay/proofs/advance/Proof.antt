@@ -29,7 +29,7 @@ same-length c = search needs
 returns : tie.Need-returns
 returns c =
     let start = c .before .before .before .before .before .before .before .before .before in
-    turned-waits (start .args .t) (start .args .i) (c .before .before .before .before .take-line .result) (start .args .line .now) (start .args .input .now) (c .before .before .before .before .take-line .last .1 .1 .0) (start .args .file .now) (start .args .state .now) (start .args .out .now) (c .before .before .before .before .take-line .ensures .0) (c .before .before .before .before .take-line .ensures .1) (sym (c .before .is-waiting .ensures) ∙ c .if1 .taken)
+    turned-waits (start .args .t) (start .args .i) (c .before .before .before .before .take-line .result) (start .args .line .now) (start .args .input .now) (c .before .before .before .before .take-line .last .1 .1 .0) (start .args .file .now) (start .args .state .now) (start .args .out .now) (c .before .before .before .before .take-line .ensures) (sym (c .before .is-waiting .ensures) ∙ c .if1 .taken)
 
 -- src/main.rt:215:9
 respond-requires : tie.Need-respond-requires
@@ -51,7 +51,7 @@ same-length-2 c = search needs
 returns-2 : tie.Need-returns-2
 returns-2 c =
     let start = c .before .before .before .before .before .before .before .before .before .before .before .before .before .before .before .before .before .before .before .before .before in
-    turned-answered (start .args .t) (start .args .i) (c .before .before .before .before .before .before .before .before .before .before .before .before .before .before .before .before .take-line .result) (start .args .line .now) (start .args .input .now) (c .before .before .before .before .before .before .before .before .before .before .before .before .before .before .before .before .take-line .last .1 .1 .0) (start .args .file .now) (start .args .state .now) (start .args .out .now) _ _ _ (c .before .before .before .respond .result .session) (c .before .before .before .respond .result .length) (c .before .next .result) (c .is-last .result) (c .before .before .before .before .before .before .before .before .before .before .before .before .before .before .before .before .take-line .ensures .0) (c .before .before .before .before .before .before .before .before .before .before .before .before .before .before .before .before .take-line .ensures .1) (c .before .before .before .respond .ensures) (sym (c .before .before .before .before .before .before .before .before .before .before .before .before .before .is-waiting .ensures) ∙ c .before .before .before .before .before .before .before .before .before .before .before .before .if1 .left) (c .before .next .ensures) (over-part (c .before .before .before .before .before .before .before .before .before .before .before .before .before .before .before .before .take-line .result .«is_end») (c .before .before .before .respond .result .«is_taken») (c .is-last .result) (c .is-last .ensures))
+    turned-answered (start .args .t) (start .args .i) (c .before .before .before .before .before .before .before .before .before .before .before .before .before .before .before .before .take-line .result) (start .args .line .now) (start .args .input .now) (c .before .before .before .before .before .before .before .before .before .before .before .before .before .before .before .before .take-line .last .1 .1 .0) (start .args .file .now) (start .args .state .now) (start .args .out .now) _ _ _ (c .before .before .before .respond .result .session) (c .before .before .before .respond .result .length) (c .before .next .result) (c .is-last .result) (c .before .before .before .before .before .before .before .before .before .before .before .before .before .before .before .before .take-line .ensures) (c .before .before .before .respond .ensures) (sym (c .before .before .before .before .before .before .before .before .before .before .before .before .before .is-waiting .ensures) ∙ c .before .before .before .before .before .before .before .before .before .before .before .before .if1 .left) (c .before .next .ensures) (over-part (c .before .before .before .before .before .before .before .before .before .before .before .before .before .before .before .before .take-line .result .«is_end») (c .before .before .before .respond .result .«is_taken») (c .is-last .result) (c .is-last .ensures))
 
 pub advance-spec : {M : Type 1} → statement M
 advance-spec =

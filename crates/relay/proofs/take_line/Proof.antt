@@ -4,7 +4,7 @@ use Prim.Native.Nat.{_≤_, _-_}
 use mathlib.Core.Path.{_≡_, refl, _∙_}
 use lib.ListN.{length, take, drop, length-set}
 use Rattle.relay.specs.Turns.{unread}
-use Rattle.relay.proofs.Lines.{Going, going-from, going-whole, going-stored, going-dropped, going-end, never}
+use Rattle.relay.proofs.Lines.{Going, going-from, going-whole, going-stored, going-dropped, going-end}
 -- </uses>
 use Rattle.relay.proofs.take_line.Statement.{statement}
 use Rattle.relay.proofs.take_line.Tie as tie
@@ -44,7 +44,7 @@ same-length c = c .before .before .before .loop .inv .1
 returns : tie.Need-returns Inv-loop μ-loop
 returns c =
     let start = c .before .before .before .before .before .before .before in
-    (going-whole (take (start .args .i .length) (start .args .line .now)) (unread (start .args .i) (start .args .input .now)) (c .before .before .before .loop .line) (start .args .input .now) (c .before .before .before .loop .n) (c .before .before .before .loop .at) (c .before .before .before .before .within .result) (c .before .before .before .loop .inv .0) (c .before .before .before .loop .inv .2) (c .before .before .loop-test .taken) (c .if1 .taken), never (start .args .i .«is_end»))
+    going-whole (take (start .args .i .length) (start .args .line .now)) (unread (start .args .i) (start .args .input .now)) (c .before .before .before .loop .line) (start .args .input .now) (c .before .before .before .loop .n) (c .before .before .before .loop .at) (c .before .before .before .before .within .result) (c .before .before .before .loop .inv .0) (c .before .before .before .loop .inv .2) (start .args .i .«is_end») (c .before .before .loop-test .taken) (c .if1 .taken)
 
 -- src/main.rt:43:13
 slice-write-line : tie.Need-slice-write-line Inv-loop μ-loop
@@ -82,7 +82,7 @@ same-length-2 c = c .before .loop .inv .1
 returns-2 : tie.Need-returns-2 Inv-loop μ-loop
 returns-2 c =
     let start = c .before .before .before .before .before in
-    (going-end (take (start .args .i .length) (start .args .line .now)) (unread (start .args .i) (start .args .input .now)) (c .before .loop .line) (start .args .input .now) (c .before .loop .n) (c .before .loop .at) (c .before .before .within .result) (c .before .loop .inv .0) (c .before .loop .inv .2) (start .args .i .«is_end») (omega (arith, c .loop-test .left)), λ e. e)
+    going-end (take (start .args .i .length) (start .args .line .now)) (unread (start .args .i) (start .args .input .now)) (c .before .loop .line) (start .args .input .now) (c .before .loop .n) (c .before .loop .at) (c .before .before .within .result) (c .before .loop .inv .0) (c .before .loop .inv .2) (start .args .i .«is_end») (omega (arith, c .loop-test .left))
 
 pub take-line-spec : {M : Type 1} → statement M
 take-line-spec =
