@@ -20,8 +20,9 @@ use Rattle.relay.specs.declared.session.Session.{Session}
 use Rattle.relay.specs.declared.Input.{Input}
 use Rattle.relay.proofs.Asks.{asks-long}
 
-clash : (b : Bool) → b ≡ false → b ≡ true → ⊥
-clash b f t = let z : _≡_ {A = ℕ} 0 1 = cc in omega arith
+-- no truth value is both
+pub clash : {A : Type 0} (b : Bool) → b ≡ false → b ≡ true → A
+clash b f t = let z : _≡_ {A = ℕ} 0 1 = cc in absurd (omega arith)
 
 -- where the loop stands: the line's first n bytes, and what is unread, against those that it began with
 pub record Going (line₀ unread₀ line : List ℕ) (n : ℕ) (unread : List ℕ) : Type 0 where
@@ -144,7 +145,7 @@ going-from line n at x y h e = subst (λ z. Going (take n line) (drop at z) line
 -- ---- turns
 
 pub over-part : (e t o : Bool) → o ≡ cond e true (not t) → o ≡ false → e ≡ false
-over-part true t o h f = absurd (clash o f h)
+over-part true t o h f = clash o f h
 over-part false t o h f = refl
 
 -- a line of no bytes is empty
@@ -174,8 +175,8 @@ turned-waits t i taken line input line′ file state out g w =
       left = g .left;
       ended = g .ended;
       over = λ o. o;
-      answered = λ h. absurd (clash (waiting taken) (waits-is i taken line input line′ g ∙ h) w);
-      next = λ h. absurd (clash (waiting taken) (waits-is i taken line input line′ g ∙ h) w);
+      answered = λ h. clash (waiting taken) (waits-is i taken line input line′ g ∙ h) w;
+      next = λ h. clash (waiting taken) (waits-is i taken line input line′ g ∙ h) w;
       waits = λ h. (g .gone-on, refl);
       waits-too = λ h. (refl, refl, refl);
     }
@@ -188,8 +189,8 @@ turned-answered t i taken line input line′ file state out file′ state′ out
       over = o;
       answered = λ h. (n, subst (λ l. Replies (reply (t .line) l (standing (t .session) file state)) n kept file′ state′ out′) (g .gone-on) r);
       next = λ h. (refl, a);
-      waits = λ h. absurd (clash (waiting taken) w (waits-is i taken line input line′ g ∙ h));
-      waits-too = λ h. absurd (clash (waiting taken) w (waits-is i taken line input line′ g ∙ h));
+      waits = λ h. clash (waiting taken) w (waits-is i taken line input line′ g ∙ h);
+      waits-too = λ h. clash (waiting taken) w (waits-is i taken line input line′ g ∙ h);
     }
 
 -- what is handed to the write: the buffer's front, and so the text

@@ -17,11 +17,9 @@ use Rattle.relay.specs.Sessions.{behind, endedBy, linesFrom, tailFrom, l
 use Rattle.relay.specs.declared.Input.{Input}
 use Rattle.relay.specs.declared.Turn.{Turn}
 use Rattle.relay.specs.declared.session.Session.{Session}
-use Rattle.relay.proofs.Lines.{reply-cut}
+use Rattle.relay.proofs.Lines.{clash, reply-cut}
 
-clash : {A : Type 0} (b : Bool) → b ≡ false → b ≡ true → A
-clash b f t = let z : _≡_ {A = ℕ} 0 1 = cc in absurd (omega arith)
-
+-- by the two truth values
 either : {A : Type 0} (b : Bool) → (b ≡ true → A) → (b ≡ false → A) → A
 either true f g = f refl
 either false f g = g refl
