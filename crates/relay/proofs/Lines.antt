@@ -1,5 +1,5 @@
 -- The bytes of a line, taken one by one.
-use Prim.Native.Nat.{ℕ, suc, _+_, _≤_, _<_}
+use Prim.Native.Nat.{ℕ, zero, suc, _+_, _≤_, _<_}
 use mathlib.Core.Bool.{Bool, true, false, not, cond}
 use mathlib.Core.List.{List, [], _∷_, _++_, append-nil, append-assoc}
 use mathlib.Core.Path.{_≡_, refl, sym, ap, subst, _∙_}
@@ -9,18 +9,20 @@ use native.Mathlib.Decide.{decLe}
 use lib.ListN.{length, take, drop, getD, set, length-take, length-set, drop-of-length-le}
 use lib.Seq.{take-all, length-take-le, take-append-le, take-suc-set, drop-cons, getD-take}
 use lib.Dec.{eqb, eqb→eq}
-use Rattle.ol_spec.proofs.Tests.{T-true, T-false, eq-eqb}
+use Rattle.ol_spec.proofs.Tests.{T-true, T-false, true-T, eq-eqb}
+use Rattle.relay_text.specs.Lines.{Said}
 use Rattle.relay.specs.Requests.{asks}
-use Rattle.relay.specs.Reply.{Standing, obey, reply}
+use Rattle.relay.specs.Reply.{Standing, Reply, obey, reply}
 use Rattle.relay.specs.Kept.{standing, Replies}
-use Rattle.relay.specs.Turns.{lineOf, restOf, hasEnd, cut, unread, begun, Takes, Refills, Gathers, Turned, waiting}
+use Rattle.relay.specs.Turns.{lineOf, restOf, hasEnd, cut, unread, begun, waitsFor, waiting, after, gone, Takes, Refills, Turned}
 use Rattle.relay.specs.declared.Turn.{Turn}
 use Rattle.relay.specs.declared.session.Session.{Session}
 use Rattle.relay.specs.declared.Input.{Input}
 use Rattle.relay.proofs.Asks.{asks-long}
 
-clash : (b : Bool) → b ≡ false → b ≡ true → ⊥
-clash b f t = let z : _≡_ {A = ℕ} 0 1 = cc in omega arith
+-- no truth value is both
+pub clash : {A : Type 0} (b : Bool) → b ≡ false → b ≡ true → A
+clash b f t = let z : _≡_ {A = ℕ} 0 1 = cc in absurd (omega arith)
 
 -- where the loop stands: the line's first n bytes, and what is unread, against those that it began with
 pub record Going (line₀ unread₀ line : List ℕ) (n : ℕ) (unread : List ℕ) : Type 0 where
@@ -86,13 +88,16 @@ module _ (line₀ unread₀ line input : List ℕ) (n at end : ℕ) (le : end �
   abbrev rest : List ℕ
   rest = drop (at + 1) (take end input)
 
-  pub going-whole : (lt : at < end) → b ≡ 10 → Takes line₀ unread₀ (record { at = at + 1; end = end; length = n; «is_whole» = true; «is_end» = false }) line input
-  going-whole lt e =
+  pub going-whole : (f : Bool) → (lt : at < end) → b ≡ 10 → Takes line₀ unread₀ f (record { at = at + 1; end = end; length = n; «is_whole» = true; «is_end» = false }) line input
+  going-whole f lt e =
       let u = next-byte input at end lt le in
+      let h : hasEnd unread₀ ≡ true = g .ends ∙ ap hasEnd u ∙ end-has b rest e in
       record {
-        whole = sym (g .ends ∙ ap hasEnd u ∙ end-has b rest e);
+        whole = sym h;
+        ended = sym (ap (λ z. cond z false f) h);
         gone-on = sym (g .line-is ∙ ap (λ l. cut (take n line ++ lineOf l)) u ∙ ap (λ l. cut (take n line ++ l)) (end-line b rest e) ∙ ap cut (append-nil (take n line)) ∙ short line n (g .long));
         left = sym (g .rest-is ∙ ap restOf u ∙ end-rest b rest e);
+        long = g .long;
       }
 
   pub going-stored : (lt : at < end) → ¬ (b ≡ 10) → n < length line → Going line₀ unread₀ (set line n b) (n + 1) rest
@@ -122,13 +127,16 @@ module _ (line₀ unread₀ line input : List ℕ) (n at end : ℕ) (le : end �
         rest-is = g .rest-is ∙ ap restOf u ∙ on-rest b rest e;
       }
 
-  pub going-end : (f : Bool) → end ≤ at → Takes line₀ unread₀ (record { at = at; end = end; length = n; «is_whole» = false; «is_end» = f }) line input
+  pub going-end : (f : Bool) → end ≤ at → Takes line₀ unread₀ f (record { at = at; end = end; length = n; «is_whole» = false; «is_end» = f }) line input
   going-end f h =
       let u : drop at (take end input) ≡ [] = drop-of-length-le (take end input) {i = at} (omega (arith, length-take end input)) in
+      let h : hasEnd unread₀ ≡ false = g .ends ∙ ap hasEnd u ∙ none-has in
       record {
-        whole = sym (g .ends ∙ ap hasEnd u ∙ none-has);
+        whole = sym h;
+        ended = sym (ap (λ z. cond z false f) h);
         gone-on = sym (g .line-is ∙ ap (λ l. cut (take n line ++ lineOf l)) u ∙ ap (λ l. cut (take n line ++ l)) none-line ∙ ap cut (append-nil (take n line)) ∙ short line n (g .long));
         left = u ∙ sym (g .rest-is ∙ ap restOf u ∙ none-rest);
+        long = g .long;
       }
 
 pub going-from : (line : List ℕ) (n at : ℕ) (x y : List ℕ) → length line ≡ 262145 → x ≡ y → Going (take n line) (drop at y) line n (drop at x)
@@ -136,48 +144,61 @@ going-from line n at x y h e = subst (λ z. Going (take n line) (drop at z) line
 
 -- ---- turns
 
-waits-part : (w e z : Bool) → cond w false (cond e z true) ≡ true → w ≡ false
-waits-part true e z h = let x : _≡_ {A = ℕ} 0 1 = cc in absurd (omega arith)
-waits-part false e z h = refl
+pub over-part : (e t o : Bool) → o ≡ cond e true (not t) → o ≡ false → e ≡ false
+over-part true t o h f = clash o f h
+over-part false t o h f = refl
 
-ends-part : (w e z : Bool) → cond w false (cond e z true) ≡ false → w ≡ false → e ≡ true
-ends-part w true z h f = refl
-ends-part true false z h f = let x : _≡_ {A = ℕ} 0 1 = cc in absurd (omega arith)
-ends-part false false z h f = let x : _≡_ {A = ℕ} 0 1 = cc in absurd (omega arith)
+-- a line of no bytes is empty
+not-zero : (n : ℕ) → eqb (suc n) 0 ≡ false
+not-zero n = T-false (eqb (suc n) 0) (λ t. omega (arith, eqb→eq (suc n) 0 t))
 
-pub not-whole : (i : Input) (b : Bool) → b ≡ waiting i → b ≡ true → i .«is_whole» ≡ false
-not-whole i b e h = waits-part (i .«is_whole») (i .«is_end») (eqb (i .length) 0) (sym e ∙ h)
+empty-same : (n : ℕ) (line l : List ℕ) → length line ≡ 262145 → take n line ≡ l → eqb n 0 ≡ eqb (length l) 0
+empty-same zero line l h e = ap (λ z. eqb (length z) 0) e
+empty-same (suc n) [] l h e = absurd (omega (arith, h))
+empty-same (suc n) (x ∷ line) l h e = not-zero n ∙ sym (not-zero (length (take n line))) ∙ ap (λ z. eqb (length z) 0) e
 
-pub last-line : (i : Input) (b o t : Bool) → b ≡ waiting i → b ≡ false → o ≡ cond (i .«is_end») true (not t) → i .«is_whole» ≡ false → o ≡ true
-last-line i b o t e h l w = l ∙ ap (λ x. cond x true (not t)) (ends-part (i .«is_whole») (i .«is_end») (eqb (i .length) 0) (sym e ∙ h) w)
+pub refills-not : (i : Input) (input : List ℕ) → i .at < i .end → Refills i input i input
+refills-not i input lt = record { begun-is = refl; kept = λ h. (refl, refl); fresh = λ ge. absurd (ge lt) }
 
-pub gathers : (i f r : Input) (line input line′ input′ : List ℕ) → Refills i input f input′ → Takes (begun f line) (unread f input′) r line′ input′ → Gathers i line input r line′ input′
-gathers i f r line input line′ input′ h t =
+pub refills : (i : Input) (input input′ : List ℕ) (n : ℕ) → n ≤ length input′ → ¬ (i .at < i .end) → Refills i input (record { at = 0; end = n; length = i .length; «is_whole» = false; «is_end» = eqb n 0 }) input′
+refills i input input′ n le ge = record { begun-is = refl; kept = λ lt. absurd (ge lt); fresh = λ h. (refl, le, refl) }
+
+-- what the program tests is whether the line waits
+waits-is : (i taken : Input) (line input line′ : List ℕ) (g : Takes (begun i line) (unread i input) (i .«is_end») taken line′ input) → waiting taken ≡ waitsFor (hasEnd (unread i input)) (taken .«is_end») (length (gone i line input))
+waits-is i taken line input line′ g =
+    ap (λ z. waitsFor z (taken .«is_end») (taken .length)) (g .whole)
+    ∙ ap (λ z. cond (hasEnd (unread i input)) false (cond (taken .«is_end») z true)) (empty-same (taken .length) line′ (gone i line input) (g .long) (g .gone-on))
+
+pub turned-waits : (t : Turn) (i taken : Input) (line input line′ file state out : List ℕ) → Takes (begun i line) (unread i input) (i .«is_end») taken line′ input → waiting taken ≡ true → Turned t i (record { session = t .session; input = taken; line = t .line; «is_over» = taken .«is_end» }) line input file state out line′ file state out
+turned-waits t i taken line input line′ file state out g w =
     record {
-      read = unread f input′;
-      same = λ lt. ap (λ (x : Input). unread x input′) (h .kept lt .0) ∙ ap (unread i) (h .kept lt .1);
-      takes = subst (λ n. Takes (take n line) (unread f input′) r line′ input′) (h .begun-is) t;
+      left = g .left;
+      ended = g .ended;
+      over = λ o. o;
+      answered = λ h. clash (waiting taken) (waits-is i taken line input line′ g ∙ h) w;
+      next = λ h. clash (waiting taken) (waits-is i taken line input line′ g ∙ h) w;
+      waits = λ h. (g .gone-on, refl);
+      waits-too = λ h. (refl, refl, refl);
     }
 
-pub turned-waits : (t : Turn) (taken : Input) (line input line′ input′ file state out : List ℕ) (over : Bool) → Gathers (t .input) line input taken line′ input′ → taken .«is_whole» ≡ false → Turned t (record { session = t .session; input = taken; line = t .line; «is_over» = over }) line input file state line′ input′ file state out
-turned-waits t taken line input line′ input′ file state out over g w =
+pub turned-answered : (t : Turn) (i taken : Input) (line input line′ file state out file′ state′ out′ : List ℕ) (kept : Session) (n k : ℕ) (over : Bool) → Takes (begun i line) (unread i input) (i .«is_end») taken line′ input → Replies (reply (t .line) (take (taken .length) line′) (standing (t .session) file state)) n kept file′ state′ out′ → waiting taken ≡ false → k ≡ after (t .line) → (over ≡ false → taken .«is_end» ≡ false) → Turned t i (record { session = kept; input = record { at = taken .at; end = taken .end; length = 0; «is_whole» = false; «is_end» = taken .«is_end» }; line = k; «is_over» = over }) line input file state out line′ file′ state′ out′
+turned-answered t i taken line input line′ file state out file′ state′ out′ kept n k over g r w a o =
     record {
-      read = g .read;
-      same = g .same;
-      answered = λ h. absurd (clash (taken .«is_whole») w (g .takes .whole ∙ h));
-      rest = λ h. absurd (clash (taken .«is_whole») w (g .takes .whole ∙ h));
-      waits = λ h o. (g .takes .gone-on, refl);
+      left = g .left;
+      ended = g .ended;
+      over = o;
+      answered = λ h. (n, subst (λ l. Replies (reply (t .line) l (standing (t .session) file state)) n kept file′ state′ out′) (g .gone-on) r);
+      next = λ h. (refl, a);
+      waits = λ h. clash (waiting taken) w (waits-is i taken line input line′ g ∙ h);
+      waits-too = λ h. clash (waiting taken) w (waits-is i taken line input line′ g ∙ h);
     }
 
-pub turned-answered : (t : Turn) (taken : Input) (line input line′ input′ file state file′ state′ out : List ℕ) (kept : Session) (n k : ℕ) (over : Bool) → Gathers (t .input) line input taken line′ input′ → Replies (reply (t .line) (take (taken .length) line′) (standing (t .session) file state)) n kept file′ state′ out → (taken .«is_whole» ≡ false → over ≡ true) → Turned t (record { session = kept; input = record { at = taken .at; end = taken .end; length = 0; «is_whole» = false; «is_end» = false }; line = k; «is_over» = over }) line input file state line′ input′ file′ state′ out
-turned-answered t taken line input line′ input′ file state file′ state′ out kept n k over g r w =
-    record {
-      read = g .read;
-      same = g .same;
-      answered = λ h. (n, subst (λ l. Replies (reply (t .line) l (standing (t .session) file state)) n kept file′ state′ out) (g .takes .gone-on) r);
-      rest = λ h. (g .takes .left, refl);
-      waits = λ h o. absurd (clash over o (w (g .takes .whole ∙ h)));
-    }
+-- what is handed to the write: the buffer's front, and so the text
+pub front : (n k m : ℕ) (out : List ℕ) → k ≤ length out → k ≡ length (take k out) → take k out ≡ take n out → m ≡ length (take k out) → Said (take n out) m out
+front n k m out le c e w = record { inside = omega (arith, le, c, w); is = ap (λ z. take z out) (w ∙ sym c) ∙ e }
+
+pub handed : {w : Reply} {n m : ℕ} {s : Session} {file state out : List ℕ} → Replies w n s file state out → Said (take n out) m out → Replies w m s file state out
+handed r h = record { said = record { inside = h .inside; is = h .is ∙ r .said .is }; kept = r .kept }
 
 pub of-part : {n : ℕ} {s : Session} {file state out : List ℕ} (number : ℕ) (a b : List ℕ) (st : Standing) → a ≡ b → Replies (reply number a st) n s file state out → Replies (reply number b st) n s file state out
 of-part {n} {s} {file} {state} {out} number a b st e h = subst (λ l. Replies (reply number l st) n s file state out) e h

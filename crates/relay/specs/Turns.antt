@@ -1,6 +1,6 @@
 -- The input as lines: what a turn of the loop does with the bytes that a read gave.
 -- Free are which bytes a read gives and how many at a time, and whether a write takes them: the contracts of read and write leave that open.
-use Prim.Native.Nat.{ℕ, _<_}
+use Prim.Native.Nat.{ℕ, _+_, _≤_, _<_, min}
 use mathlib.Core.Bool.{Bool, true, false, cond}
 use mathlib.Core.List.{List, [], _∷_, _++_}
 use mathlib.Core.Path.{_≡_}
@@ -35,31 +35,45 @@ unread i input = drop (i .at) (take (i .end) input)
 abbrev pub begun : Input → List ℕ → List ℕ
 begun i line = take (i .length) line
 
--- whether the line waits for more: its end is not met, and the input goes on, or there is nothing of the line
-abbrev pub waiting : Input → Bool
-waiting i = cond (i .«is_whole») false (cond (i .«is_end») (eqb (i .length) 0) true)
+-- whether a line of so many bytes waits for more: its end is not met, and the input goes on, or there is nothing of the line
+abbrev pub waitsFor : Bool → Bool → ℕ → Bool
+waitsFor isWhole atEnd n = cond isWhole false (cond atEnd (eqb n 0) true)
 
--- the line goes on up to its end, or the input's; the rest is kept
-pub record Takes (line unread : List ℕ) (r : Input) (line′ input : List ℕ) : Type 0 where
+abbrev pub waiting : Input → Bool
+waiting i = waitsFor (i .«is_whole») (i .«is_end») (i .length)
+
+-- the number of the line behind this one; the last number there is stays
+abbrev pub after : ℕ → ℕ
+after n = min (n + 1) 18446744073709551615
+
+-- the line goes on up to its end, or the input's; the rest is kept. Behind a line's end the input is not at its end
+pub record Takes (line unread : List ℕ) (atEnd : Bool) (r : Input) (line′ input : List ℕ) : Type 0 where
   pub whole : r .«is_whole» ≡ hasEnd unread
   pub gone-on : take (r .length) line′ ≡ cut (line ++ lineOf unread)
   pub left : drop (r .at) (take (r .end) input) ≡ restOf unread
+  pub ended : r .«is_end» ≡ cond (hasEnd unread) false atEnd
+  pub long : length line′ ≡ 262145
 
--- a read, where nothing is unread; what it gives is free
+-- a read, where nothing is unread. Which bytes it gives is free; they stand at the start of the buffer, and the input is at its end exactly if there are none
 pub record Refills (i : Input) (input : List ℕ) (r : Input) (input′ : List ℕ) : Type 0 where
   pub begun-is : r .length ≡ i .length
   pub kept : i .at < i .end → (r ≡ i) × (input′ ≡ input)
+  pub fresh : ¬ (i .at < i .end) → (r .at ≡ 0) × (r .end ≤ length input′) × (r .«is_end» ≡ eqb (r .end) 0)
 
--- the line goes on with what is unread; where nothing is, with what a read gives
-pub record Gathers (i : Input) (line input : List ℕ) (r : Input) (line′ input′ : List ℕ) : Type 0 where
-  pub read : List ℕ
-  pub same : i .at < i .end → read ≡ unread i input
-  pub takes : Takes (begun i line) read r line′ input′
+-- what there is of the line once what is unread is taken, and whether the line waits for more then
+abbrev pub gone : Input → List ℕ → List ℕ → List ℕ
+gone i line input = cut (begun i line ++ lineOf (unread i input))
 
--- a turn: a line whose end is met is answered, and the rest stays unread; else the line waits for more, and what stands stays
-pub record Turned (t r : Turn) (line input file state line′ input′ file′ state′ out : List ℕ) : Type 0 where
-  pub read : List ℕ
-  pub same : t .input .at < t .input .end → read ≡ unread (t .input) input
-  pub answered : hasEnd read ≡ true → (n : ℕ) × Replies (reply (t .line) (cut (begun (t .input) line ++ lineOf read)) (standing (t .session) file state)) n (r .session) file′ state′ out
-  pub rest : hasEnd read ≡ true → (unread (r .input) input′ ≡ restOf read) × (begun (r .input) line′ ≡ [])
-  pub waits : hasEnd read ≡ false → r .«is_over» ≡ false → (begun (r .input) line′ ≡ cut (begun (t .input) line ++ lineOf read)) × (standing (r .session) file′ state′ ≡ standing (t .session) file state)
+abbrev pub waitsAt : Input → Turn → List ℕ → List ℕ → Bool
+waitsAt i r line input = waitsFor (hasEnd (unread i input)) (r .input .«is_end») (length (gone i line input))
+
+-- a turn, from t to r, with the input i: a line whose end is met is answered, and so is a last line without one, if there is anything of it; the next line has the next number, and what is behind the line stays unread.
+-- Else the line waits for more, and what stands stays; the run is over then only if the input is at its end
+pub record Turned (t : Turn) (i : Input) (r : Turn) (line input file state out line′ file′ state′ out′ : List ℕ) : Type 0 where
+  pub left : unread (r .input) input ≡ restOf (unread i input)
+  pub ended : r .input .«is_end» ≡ cond (hasEnd (unread i input)) false (i .«is_end»)
+  pub over : r .«is_over» ≡ false → r .input .«is_end» ≡ false
+  pub answered : waitsAt i r line input ≡ false → (n : ℕ) × Replies (reply (t .line) (gone i line input) (standing (t .session) file state)) n (r .session) file′ state′ out′
+  pub next : waitsAt i r line input ≡ false → (begun (r .input) line′ ≡ []) × (r .line ≡ after (t .line))
+  pub waits : waitsAt i r line input ≡ true → (begun (r .input) line′ ≡ gone i line input) × (standing (r .session) file′ state′ ≡ standing (t .session) file state)
+  pub waits-too : waitsAt i r line input ≡ true → (r .line ≡ t .line) × (out′ ≡ out) × (r .«is_over» ≡ r .input .«is_end»)

@@ -7,11 +7,12 @@ use libc::STDOUT_FILENO;
 use session::Session;
 ghost use mathlib.Core.Path.{_≡_};
 ghost use mathlib.Core.Bool.{true, cond, not};
-ghost use Prim.Native.Nat.{ℕ, _≤_, _-_};
 ghost use lib.ListN.{length, take};
+ghost use Rattle.relay_text.specs.Lines.{Said};
 ghost use Rattle.relay.specs.Reply.{reply};
 ghost use Rattle.relay.specs.Kept.{standing, Replies};
-ghost use Rattle.relay.specs.Turns.{unread, begun, waiting, Takes, Refills, Gathers, Turned};
+ghost use Rattle.relay.specs.Turns.{unread, begun, waiting, after, Takes, Refills, Turned};
+ghost use Rattle.relay.specs.Sessions.{Served};
 
 // A piece of the input as it is read: its bytes from `at` up to `end` are not taken yet. The line's first
 // `length` bytes are there. It is whole once its end was met; the input is at its end once a read gives nothing.
@@ -27,7 +28,7 @@ struct Input {
 // that do not fit are dropped.
 fn take_line(input: &[u8], i: Input, line: &mut [u8]) -> Input
     requires { ⌜ length (now line) ≡ 262145 ⌝ }
-    ensures { λ r. ⌜ Takes (begun i (now (line .entry))) (unread i (now (input .entry))) r (now (line .exit)) (now (input .entry)) ⌝ }
+    ensures { λ r. ⌜ Takes (begun i (now (line .entry))) (unread i (now (input .entry))) (i .«is_end») r (now (line .exit)) (now (input .entry)) ⌝ }
 {
     let mut at = i.at;
     let mut n = i.length;
@@ -114,38 +115,51 @@ fn respond(
         out,
     );
     let t = r.session;
-    let is_taken = write_front(out, r.length);
+    let w = write_front(out, r.length);
     Answered {
         session: t,
-        length: r.length,
+        length: w.length,
+        is_taken: w.is_taken,
+    }
+}
+
+// How many bytes a write was handed, and whether it took them.
+struct Written {
+    length: usize,
+    is_taken: bool,
+}
+
+// Writes the bytes, all of them. Whether the system takes them is free.
+fn write(bytes: &[u8]) -> Written
+    ensures { λ r. ⌜ r .length ≡ length (now (bytes .entry)) ⌝ }
+{
+    let is_taken = io::write_all(STDOUT_FILENO, bytes);
+    Written {
+        length: bytes.len(),
         is_taken,
     }
 }
 
 // Writes the buffer's first n bytes.
-fn write_front(out: &[u8], n: usize) -> bool {
+fn write_front(out: &[u8], n: usize) -> Written
+    ensures { λ r. ⌜ Said (take n (now (out .entry))) (r .length) (now (out .entry)) ⌝ }
+{
     let k = relay_text::within(n, out);
-    io::write_all(STDOUT_FILENO, &out[..k])
+    write(&out[..k])
 }
 
-// What is kept, the length of the answer, and whether it was taken.
+// What is kept, the length of the answer as it was written, and whether it was taken.
 struct Answered {
     session: Session,
     length: usize,
     is_taken: bool,
 }
 
-fn next(n: usize) -> usize {
-    if n < usize::MAX { n + 1 } else { n }
-}
-
-// Takes what the input has of a line.
-fn gather(i: Input, input: &mut [u8], line: &mut [u8]) -> Input
-    requires { ⌜ length (now line) ≡ 262145 ⌝ }
-    ensures { λ r. ⌜ Gathers i (now (line .entry)) (now (input .entry)) r (now (line .exit)) (now (input .exit)) ⌝ }
+// The number of the line behind this one.
+fn next(n: usize) -> usize
+    ensures { λ r. ⌜ r ≡ after n ⌝ }
 {
-    let filled = refill(input, i);
-    take_line(input, filled, line)
+    if n < usize::MAX { n + 1 } else { n }
 }
 
 // Whether a line waits for more: its end is not met, and the input goes on, or there is nothing of it.
@@ -171,10 +185,11 @@ fn is_last(ended: bool, taken: bool) -> bool
     !taken
 }
 
-// One turn: takes what the input has of a line, and answers the line once it is whole.
+// One turn, with an input that was refilled: takes what it has of a line, and answers the line once its end, or the input's, is met.
 fn advance(
     t: Turn,
-    input: &mut [u8],
+    i: Input,
+    input: &[u8],
     line: &mut [u8],
     file: &mut [u8; 131072],
     state: &mut [u8; 131072],
@@ -185,11 +200,10 @@ fn advance(
     out: &mut [u8; 393216],
 ) -> Turn
     requires { ⌜ length (now line) ≡ 262145 ⌝ }
-    ensures { λ r. ⌜ Turned t r (now (line .entry)) (now (input .entry)) (now (file .entry)) (now (state .entry)) (now (line .exit)) (now (input .exit)) (now (file .exit)) (now (state .exit)) (now (out .exit)) ⌝ }
+    ensures { λ r. ⌜ Turned t i r (now (line .entry)) (now (input .entry)) (now (file .entry)) (now (state .entry)) (now (out .entry)) (now (line .exit)) (now (file .exit)) (now (state .exit)) (now (out .exit)) ⌝ }
 {
-    let before = t.input;
     let s = t.session;
-    let taken = gather(before, input, line);
+    let taken = take_line(input, i, line);
     if is_waiting(taken) {
         return Turn {
             session: s,
@@ -217,7 +231,7 @@ fn advance(
         end: taken.end,
         length: 0,
         is_whole: false,
-        is_end: false,
+        is_end: taken.is_end,
     };
     Turn {
         session: kept,
@@ -227,6 +241,7 @@ fn advance(
     }
 }
 
+// Answers the lines of the input in turn, up to the input's end or an answer that is not taken.
 // A proved loop has to end, and nothing says that the input does. So the loop counts its turns down from a number that no run uses up.
 fn serve(
     input: &mut [u8],
@@ -238,8 +253,9 @@ fn serve(
     new: &mut [u8; 131072],
     values: &mut [u8; 4096],
     out: &mut [u8; 393216],
-)
+) -> Turn
     requires { ⌜ length (now line) ≡ 262145 ⌝ }
+    ensures { λ r. ⌜ Served r (now (line .exit)) (now (input .exit)) (now (file .exit)) (now (state .exit)) (now (out .exit)) ⌝ }
 {
     let mut t = Turn {
         session: session::closed(),
@@ -254,10 +270,28 @@ fn serve(
         is_over: false,
     };
     let mut turns = u64::MAX;
-    while turns > 0 && !t.is_over {
-        t = advance(t, input, line, file, state, bytes, inputs, new, values, out);
+    while turns > 0 {
+        if t.is_over {
+            return t;
+        }
+        let i = t.input;
+        let filled = refill(input, i);
+        t = advance(
+            t,
+            filled,
+            input,
+            line,
+            file,
+            state,
+            bytes,
+            inputs,
+            new,
+            values,
+            out,
+        );
         turns -= 1;
     }
+    t
 }
 
 // Room for a line, and a character more, so that one that is too long is seen to be.

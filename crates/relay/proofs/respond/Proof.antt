@@ -1,7 +1,9 @@
+-- <uses>
+use borrow.Author.Needs.{needs}
 use lib.ListN.{take}
 use Rattle.relay.specs.Kept.{standing}
-use Rattle.relay.proofs.Lines.{of-part}
-use borrow.Author.Needs.{needs}
+use Rattle.relay.proofs.Lines.{of-part, handed}
+-- </uses>
 use Rattle.relay.proofs.respond.Statement.{statement}
 use Rattle.relay.proofs.respond.Tie as tie
 use Rattle.relay.proofs.respond.Reads as reads
@@ -30,7 +32,7 @@ write-front-requires c κs = search needs
 returns : tie.Need-returns
 returns c =
     let start = c .before .before .before .before .before .before .before .before .before .before .before .before .before .before .before in
-    of-part (start .args .no) (take (c .before .before .before .before .before .before .before .before .before .before .before .before .before .within .result) (start .args .line .now)) (take (start .args .n) (start .args .line .now)) (standing (start .args .s) (start .args .file .now) (start .args .state .now)) (c .before .before .before .before .before .before .before .before .before .before .before .before .before .within .ensures .1) (c .before .before .before .before .answer .ensures)
+    handed (of-part (start .args .no) (take (c .before .before .before .before .before .before .before .before .before .before .before .before .before .within .result) (start .args .line .now)) (take (start .args .n) (start .args .line .now)) (standing (start .args .s) (start .args .file .now) (start .args .state .now)) (c .before .before .before .before .before .before .before .before .before .before .before .before .before .within .ensures .1) (c .before .before .before .before .answer .ensures)) (c .write-front .ensures)
 
 pub respond-spec : {M : Type 1} → statement M
 respond-spec =

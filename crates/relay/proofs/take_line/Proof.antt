@@ -44,7 +44,7 @@ same-length c = c .before .before .before .loop .inv .1
 returns : tie.Need-returns Inv-loop μ-loop
 returns c =
     let start = c .before .before .before .before .before .before .before in
-    going-whole (take (start .args .i .length) (start .args .line .now)) (unread (start .args .i) (start .args .input .now)) (c .before .before .before .loop .line) (start .args .input .now) (c .before .before .before .loop .n) (c .before .before .before .loop .at) (c .before .before .before .before .within .result) (c .before .before .before .loop .inv .0) (c .before .before .before .loop .inv .2) (c .before .before .loop-test .taken) (c .if1 .taken)
+    going-whole (take (start .args .i .length) (start .args .line .now)) (unread (start .args .i) (start .args .input .now)) (c .before .before .before .loop .line) (start .args .input .now) (c .before .before .before .loop .n) (c .before .before .before .loop .at) (c .before .before .before .before .within .result) (c .before .before .before .loop .inv .0) (c .before .before .before .loop .inv .2) (start .args .i .«is_end») (c .before .before .loop-test .taken) (c .if1 .taken)
 
 -- src/main.rt:43:13
 slice-write-line : tie.Need-slice-write-line Inv-loop μ-loop
