@@ -9,6 +9,7 @@ use native.Mathlib.Nat.{add-zero}
 use lib.ListN.{length, getD}
 use lib.Dec.{ltb, eqb}
 use borrow.Author.Tests.{lt-ltb, le-ltb, ne-eqb}
+use Rattle.ol_spec.specs.Lists.{sum}
 use Rattle.ol_spec.specs.Syntax.{NodeKind, Function, Operator, Imported, Node, File, noNode, lastOf, main}
 use Rattle.ol_spec.specs.Places.{placedNodes, placed, nodeSize, nodesStart, mainPlace}
 use Rattle.ol_spec.specs.Encode.{kindCode}
@@ -17,7 +18,8 @@ use Rattle.ol_tables.specs.At.{fileAt}
 use Rattle.ol_tables.specs.Tables.{rowAt, nodeOf}
 use Rattle.ol_tables.specs.Heads.{Byte}
 use Rattle.ol_check.specs.NodesJudged.{placeIn, RowsReady}
-use Rattle.ol_check.specs.Records.{siteB, recordBy}
+use Rattle.ol_tables.proofs.Skipping.{own-callee, own-none}
+use Rattle.ol_check.specs.Records.{calleeB, siteB, recordBy}
 
 -- ---- the last node
 
@@ -70,14 +72,18 @@ module _ {s rows : List ℕ} {nodes : ℕ} (rd : RowsReady s rows nodes) (some-n
 -- ---- call sites
 
 module _ (s rows : List ℕ) (nodes p b : ℕ) (bb : Byte s p b) where
-  pub site-call : (c r : ℕ) → b ≡ 11 → Byte s (p + 1) c → c < nodes → r ≡ getD rows (c * 8 + 6) 0 → r ≡ siteB s rows nodes p
-  site-call c r e bc lt er = er ∙ rw (← bb .is, e, ← bc .is, lt-ltb c nodes lt) refl
+  -- a call's
+  called : (c : ℕ) → b ≡ 11 → Byte s (p + 1) c → calleeB rows nodes c ≡ siteB s rows nodes p
+  called c e bc = sym (add-zero (calleeB rows nodes c)) ∙ ap (λ ks. sum (map (calleeB rows nodes) ks)) (sym (own-callee bb e bc))
+
+  pub site-call : (c r : ℕ) → b ≡ 11 → Byte s (p + 1) c → c < nodes → r ≡ rowAt rows c 6 → r ≡ siteB s rows nodes p
+  site-call c r e bc lt er = er ∙ ap (λ t. cond t (rowAt rows c 6) 0) (sym (lt-ltb c nodes lt)) ∙ called c e bc
 
   pub site-absent : (c : ℕ) → b ≡ 11 → Byte s (p + 1) c → nodes ≤ c → 0 ≡ siteB s rows nodes p
-  site-absent c e bc le = rw (← bb .is, e, ← bc .is, le-ltb c nodes le) refl
+  site-absent c e bc le = ap (λ t. cond t (rowAt rows c 6) 0) (sym (le-ltb c nodes le)) ∙ called c e bc
 
   pub site-none : (b ≡ 11 → ⊥) → 0 ≡ siteB s rows nodes p
-  site-none e = rw (← bb .is, ne-eqb b 11 e) refl
+  site-none e = ap (λ ks. sum (map (calleeB rows nodes) ks)) (sym (own-none bb e))
 
 -- an Operator's call sites have records
 pub record-operator : (kind size : ℕ) → kind ≡ 1 → size ≡ recordBy kind size

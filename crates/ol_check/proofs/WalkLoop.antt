@@ -15,12 +15,11 @@ use Rattle.ol_spec.specs.Lists.{sum}
 use Rattle.ol_spec.specs.Syntax.{Exprs, nil, cons, count}
 use Rattle.ol_spec.specs.Places.{exprsSize, collectAll}
 use Rattle.ol_spec.specs.Admission.{Item}
-use Rattle.ol_tables.specs.Tables.{rowAt}
 use Rattle.ol_tables.specs.Heads.{nameAt, partsOf, joined, Standing}
 use Rattle.ol_tables.proofs.HeadLaws.{walk-head, next-told}
 use Rattle.ol_check.specs.Founds.{placeOf, earliest}
 use Rattle.ol_tables.specs.Walks.{HeadOf}
-use Rattle.ol_check.specs.Records.{siteB}
+use Rattle.ol_check.specs.Records.{siteB, calleeB}
 use Rattle.ol_check.specs.Judging.{headAt, heads, plainB, unseenB, unseenHead, slotPut, slotHead, slotHeads, badB, outputsB, calledB, calledHead, arityB, severalHead, foundIn, Walked}
 use Rattle.ol_check.specs.declared.Found.{Found}
 use Rattle.ol_tables.specs.declared.heads.Parts.{Parts}
@@ -142,7 +141,7 @@ module _ {s names rows : List ℕ} {nodes k enums : ℕ} {es : Exprs} {at : ℕ}
           (earliest-not (placeOf u) (next + 1)) (sym (ap (λ b. b && eqb (getD names (nameAt s (next + 1)) 0) 0) no4))
           (earliest-not (placeOf c) next) (sym (ap (λ b. b && badB rows k (getD s (next + 1) 0) (getD s (next + 2) 0)) no11))
           (earliest-not (placeOf h) next) (sym (ap (λ b. cond b (getD s (next + 1) 0) (cond (eqb (getD s next 0) 11) (outputsB rows nodes (getD s (next + 1) 0)) 1)) no12 ∙ ap (λ b. cond b (outputsB rows nodes (getD s (next + 1) 0)) 1) no11))
-          (λ le. sym (min-cap z 65536 le)) (sym (ap (λ b. cond b (cond (ltb (getD s (next + 1) 0) nodes) (rowAt rows (getD s (next + 1) 0) 6) 0) 0) no11))
+          (λ le. sym (min-cap z 65536 le)) (sym (ap (λ b. sum (map (calleeB rows nodes) (cond b (getD s (next + 1) 0 ∷ []) []))) no11))
 
     pub walk-done : (f r : Faults) → (0 < left → ⊥) → f .next ≡ at → f .unseen ≡ u₀ → f .called ≡ c₀ → f .shaped ≡ h₀ → f .size ≡ z₀ → r .again ≡ f .again → r .next ≡ next → r .unseen ≡ u → r .called ≡ c → r .shaped ≡ h → r .size ≡ z
         → Walked s names rows nodes k es slots₀ slots f r

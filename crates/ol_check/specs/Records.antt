@@ -2,20 +2,20 @@
 use Prim.Native.Nat.{ℕ, _+_}
 use mathlib.Core.Bool.{cond}
 use mathlib.Core.List.{List, map}
-use lib.ListN.{getD}
 use lib.Dec.{ltb, eqb}
 use Rattle.ol_spec.specs.Lists.{sum}
 use Rattle.ol_spec.specs.Syntax.{Node}
 use Rattle.ol_spec.specs.Step.{sites, ownSize}
 use Rattle.ol_tables.specs.Tables.{rowAt}
-
--- the bytes of the record of the expression at p, if it is a call of one of so many nodes
-abbrev pub siteB : List ℕ → List ℕ → ℕ → ℕ → ℕ
-siteB s rows nodes p = cond (eqb (getD s p 0) 11) (cond (ltb (getD s (p + 1) 0) nodes) (rowAt rows (getD s (p + 1) 0) 6) 0) 0
+use Rattle.ol_tables.specs.Walks.{ownAt}
 
 -- the bytes of the record of a call of c, if c is one of so many nodes
 abbrev pub calleeB : List ℕ → ℕ → ℕ → ℕ
 calleeB rows nodes c = cond (ltb c nodes) (rowAt rows c 6) 0
+
+-- the bytes of the record of the expression at p, if it is a call of one of so many nodes
+abbrev pub siteB : List ℕ → List ℕ → ℕ → ℕ → ℕ
+siteB s rows nodes p = sum (map (calleeB rows nodes) (ownAt s p))
 
 -- the bytes of an instance
 abbrev pub instanceB : List ℕ → ℕ → Node → ℕ

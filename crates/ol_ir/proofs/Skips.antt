@@ -1,8 +1,8 @@
 -- Expressions and equations that were read, passed over head by head: what is left are expressions, one behind the other.
 use Prim.Native.Nat.{ℕ, zero, suc, _+_, _-_, _*_, _≤_, _<_}
-use mathlib.Core.List.{List}
+use mathlib.Core.List.{List, _++_}
 use mathlib.Core.Logic.{by-cases}
-use mathlib.Core.Path.{_≡_, refl, sym, ap, subst, _∙_}
+use mathlib.Core.Path.{_≡_, refl, sym, ap, ap₂, subst, _∙_}
 use native.Mathlib.Decide.{decLe, ℕ-discrete}
 use native.Mathlib.Omega.{arith}
 use lib.ListN.{length, getD, set}
@@ -12,15 +12,19 @@ use Rattle.ol_spec.specs.Lists.{upTo}
 use Rattle.ol_spec.specs.Syntax.{Expr, boolLit, intLit, floatLit, charLit, var, unary, binary, ifThenElse, pre, arrow, cast, call, tuple, Exprs, nil}
 use Rattle.ol_spec.specs.Syntax.{cons, count, Equation}
 use Rattle.ol_spec.specs.Places.{rhsPlace}
+use Rattle.ol_spec.specs.Eval.{calleesAll}
 use Rattle.ol_spec.specs.Read.{got, Reader, many, manyExprs, byte, coded, nameR, tyR, exprR, equationR, castCode, callCode, tupleCode}
 use Rattle.ol_spec.specs.Answers.{faultAt}
 use Rattle.ol_spec.specs.declared.Fault.{Fault}
 use Rattle.ol_spec.specs.declared.Limits.{Limits}
 use Rattle.ol_spec.proofs.Offsets.{steps, same-end, same-item}
 use Rattle.ol_tables.specs.Heads.{codeOf, headSize, partsOf, joined, partsTable, sizesTable, tySizeAt, partsAt, nextAt}
-use Rattle.ol_tables.specs.Walks.{skipBy, skipAt}
+use Rattle.ol_tables.specs.At.{limitsAt, enumsAt, exprsAt, endsAt, ReadsAll}
+use Rattle.ol_tables.specs.Parts.{ownSites}
+use Rattle.ol_tables.specs.Walks.{skipBy, skipAt, sitesBy, sitesAt}
+use Rattle.ol_tables.proofs.Forms.{reads, reads-in, parted, none-read, own-read}
 use Rattle.ol_tables.proofs.HeadLaws.{head-some}
-use Rattle.ol_tables.proofs.Skipping.{count-size, skip-head, skip-none}
+use Rattle.ol_tables.proofs.Skipping.{count-size, callees-on, walk-next, walk-none}
 use Rattle.ol_ir.specs.Nexts.{nextOf, countedOf}
 use Rattle.ol_ir.specs.Walks.{placesOf}
 use Rattle.ol_ir.specs.declared.Next.the-variants as Nxt
@@ -199,7 +203,7 @@ module _ {s : List ℕ} {l : Limits} {enums d n left next : ℕ} (p : Passing s 
     passing-in = let w = first in expr-at s l enums d next (w .0) (w .2) (w .3) .inside
 
     -- an expression's parts take its place
-    pub passing-on : Passing s l enums d n (left - 1 + partsAt s next) (nextAt s next)
+    unfoldable pub passing-on : Passing s l enums d n (left - 1 + partsAt s next) (nextAt s next)
     passing-on =
         let w = first in
         let x = expr-at s l enums d next (w .0) (w .2) (w .3) in
@@ -218,20 +222,47 @@ module _ {s : List ℕ} {l : Limits} {enums d n left next : ℕ} (p : Passing s 
         }
 
 -- where the walk ends
-pub skip-read : (s : List ℕ) (m left next : ℕ) {l : Limits} {enums d n : ℕ} → length s - next ≤ m → Passing s l enums d n left next → skipBy m s left next ≡ n
-skip-read s zero zero next h p = skip-none s 0 0 next (omega arith) ∙ passing-done p (omega arith)
+pub skip-read : (s : List ℕ) (m left next : ℕ) {l : Limits} {enums d n : ℕ} → length s - next ≤ m → Passing s l enums d n left next → skipBy s m left next ≡ n
+skip-read s zero zero next h p = walk-none _ _ s 0 0 next (omega arith) ∙ passing-done p (omega arith)
 skip-read s zero (suc left) next h p = let i = passing-in p (omega arith) in absurd (omega arith)
-skip-read s (suc m) zero next h p = skip-none s (suc m) 0 next (omega arith) ∙ passing-done p (omega arith)
+skip-read s (suc m) zero next h p = walk-none _ _ s (suc m) 0 next (omega arith) ∙ passing-done p (omega arith)
 skip-read s (suc m) (suc left) next {l} {enums} {d} h p =
     let i = passing-in p (omega arith) in
     let w = first p (omega arith) in
     let k = head-told s l enums d next (w .0) (w .2) (w .3) in
     let one : suc left - 1 ≡ left = omega arith in
-    skip-head s m left next i (omega (arith, passing-few p)) ∙ ap (λ c. skipBy m s (c + partsAt s next) (nextAt s next)) (sym one)
+    walk-next _ _ s m left next i (omega (arith, passing-few p)) ∙ ap (λ c. skipBy s m (c + partsAt s next) (nextAt s next)) (sym one)
     ∙ skip-read s m (suc left - 1 + partsAt s next) (nextAt s next) (omega (arith, k .1, head-some (w .0))) (passing-on p (omega arith))
 
 pub skip-expr : (s : List ℕ) (l : Limits) (enums d at : ℕ) {e : Expr} {n : ℕ} → exprR s l enums d at ≡ got e n → skipAt s 1 at ≡ n
 skip-expr s l enums d at f = skip-read s (length s) 1 at (omega arith) (passing-start f)
+
+-- the callees that it meets
+pub sites-read : (s : List ℕ) (m left next : ℕ) {d n : ℕ} → length s - next ≤ m → (p : Passing s (limitsAt s) (enumsAt s) d n left next) → sitesBy s m left next ≡ calleesAll (p .exprs)
+unfolding passing-on
+sites-read s zero zero next {d} {n} h p = walk-none _ _ s 0 0 next (omega arith) ∙ sym (ap calleesAll (many-none (exprR s (limitsAt s) (enumsAt s) d) 0 next (p .exprs) n (omega arith) (p .read) .0))
+sites-read s zero (suc left) next h p = let i = passing-in p (omega arith) in absurd (omega arith)
+sites-read s (suc m) zero next {d} {n} h p = walk-none _ _ s (suc m) 0 next (omega arith) ∙ sym (ap calleesAll (many-none (exprR s (limitsAt s) (enumsAt s) d) 0 next (p .exprs) n (omega arith) (p .read) .0))
+sites-read s (suc m) (suc left) next {d} h p =
+    let u : 0 < suc left = omega arith in
+    let i = passing-in p u in
+    let w = first p u in
+    let k = head-told s (limitsAt s) (enumsAt s) d next (w .0) (w .2) (w .3) in
+    let r = reads s d next (w .0) (w .2) (w .3) in
+    let one : suc left - 1 ≡ left = omega arith in
+    walk-next _ _ s m left next i (omega (arith, passing-few p))
+    ∙ ap₂ (λ (ks ls : List ℕ). ks ++ ls) (own-read s d next (r .0) ∙ ap ownSites (r .1))
+    (ap (λ c. sitesBy s m (c + partsAt s next) (nextAt s next)) (sym one) ∙ sites-read s m (suc left - 1 + partsAt s next) (nextAt s next) (omega (arith, k .1, head-some (w .0))) (passing-on p u))
+    ∙ sym (callees-on (w .0) (w .1)) ∙ ap calleesAll (w .5)
+
+-- of so many expressions that are read there: where they end, and their callees
+pub walk-read : (s : List ℕ) (level n at : ℕ) → ReadsAll s level n at → (skipAt s n at ≡ endsAt s level n at) × (sitesAt s n at ≡ calleesAll (exprsAt s level n at))
+walk-read s level zero at h =
+    let z = none-read s level at in
+    (walk-none _ _ s (length s) 0 at (omega arith) ∙ sym (z .1), walk-none _ _ s (length s) 0 at (omega arith) ∙ sym (ap calleesAll (z .0)))
+walk-read s level (suc n) at h =
+    let p : Passing s (limitsAt s) (enumsAt s) level (endsAt s level (suc n) at) (suc n) at = record { exprs = exprsAt s level (suc n) at; read = h .are; inside = omega (arith, reads-in s level at (parted s level n at h .head)) } in
+    (skip-read s (length s) (suc n) at (omega arith) p, sites-read s (length s) (suc n) at (omega arith) p)
 
 -- ---- an equation
 

@@ -20,8 +20,8 @@ use Rattle.ol_state.specs.Known.{Known, Sited}
 use Rattle.ol_state.specs.Defaults.{cellsAt}
 use Rattle.ol_state.proofs.DefaultCells.{length-cellsAt}
 use Rattle.ol_state.proofs.Filling.{Filling, putPart, fill-none, fill-at, fill-left, fill-more, fill-part, fill-done}
-use Rattle.ol_state.specs.Ahead.{NextSite}
-use Rattle.ol_state.proofs.Instances.{Rest, callees, Turn, rest-start, next-site, no-site, default-cells, own-room, is-operator, no-operator, no-size, all-used, part-long, main-is}
+use Rattle.ol_state.specs.Ahead.{ahead, NextSite}
+use Rattle.ol_state.proofs.Instances.{Rest, Turn, sites-start, rest-start, next-site, no-site, default-cells, own-room, is-operator, no-operator, no-size, all-used, part-long, main-is}
 
 map-same : (p p′ : ℕ → List ℕ) (ks : List ℕ) → ((c : ℕ) → c ∈ ks → p c ≡ p′ c) → concat (map p ks) ≡ concat (map p′ ks)
 map-same p p′ [] h = refl
@@ -89,7 +89,7 @@ module _ {f : File} {s tab rows : List ℕ} {k : ℕ} {out₀ : List ℕ} (h : S
 pub record Going (f : File) (s : List ℕ) (k : ℕ) (base : List ℕ) (used : ℕ) (out : List ℕ) (at eqs pending : ℕ) : Type 0 where
   pub rest : Rest f s k (length base) used at eqs pending
   pub small : length base ≤ sizeCap
-  pub filled : (vs : List Value) → Filling (freshOf f vs k) base used out (freshAll f vs (callees rest))
+  pub filled : (vs : List Value) → Filling (freshOf f vs k) base used out (freshAll f vs (ahead s at eqs pending))
 
 pub going-start : {f : File} {s tab rows : List ℕ} {k : ℕ} {out₀ : List ℕ} (h : Sited f s tab rows k out₀) {out : List ℕ} {n a q : ℕ} → rowAt rows k 0 ≡ 1 → n ≡ rowAt rows k 4 → a ≡ rowAt rows k 1 → q ≡ rowAt rows k 5 → out ≡ 0 ∷ cellsAt tab rows k 0 (rowAt rows k 4) ++ drop (1 + 9 * rowAt rows k 4) out₀ → Going f s k out (1 + 9 * n) out a q 0
 going-start {f} {s} {tab} {rows} {k} {out₀} h {out} one e₁ e₂ e₃ e =
@@ -97,17 +97,16 @@ going-start {f} {s} {tab} {rows} {k} {out₀} h {out} one e₁ e₂ e₃ e =
     let room : 1 + 9 * rowAt rows k 4 ≤ length out₀ = omega (arith, own-room (h .known) (h .below) o, h .sized) in
     let w = own-fresh h one room e in
     let long = w [] .long in
-    let start = rest-start (h .known) (h .below) o (long ∙ h .sized) in
     rw (e₁, e₂, e₃)
     (record {
-      rest = start .rest;
+      rest = rest-start (h .known) (h .below) o (long ∙ h .sized);
       small = omega (arith, long, h .small);
-      filled = λ vs. record { is = w vs .is ∙ ap (λ cs. take (1 + 9 * rowAt rows k 4) out ++ freshAll f vs cs) (start .is); behind = refl; long = refl };
+      filled = λ vs. record { is = w vs .is ∙ ap (λ cs. take (1 + 9 * rowAt rows k 4) out ++ freshAll f vs cs) (sites-start (h .known) (h .below)); behind = refl; long = refl };
     })
 
-module _ {f : File} {s tab rows : List ℕ} (known : Known f s tab rows) {k : ℕ} (below : k < length (f .nodes)) {base out : List ℕ} {used at eqs pending : ℕ} (going : Going f s k base used out at eqs pending) {r : Site} (n : NextSite f s at eqs pending r) where
+module _ {f : File} {s tab rows : List ℕ} (known : Known f s tab rows) {k : ℕ} (below : k < length (f .nodes)) {base out : List ℕ} {used at eqs pending : ℕ} (going : Going f s k base used out at eqs pending) {r : Site} (n : NextSite s at eqs pending r) where
   -- the record of the next call site
-  pub turn-of : r .found ≡ true → Turn f s rows k (length base) used at (callees (going .rest)) r
+  pub turn-of : r .found ≡ true → Turn f s rows k (length base) used at eqs pending r
   turn-of e = next-site known below (going .rest) (going .small) n e
 
   module _ (e : r .found ≡ true) {z : ℕ} (size : z ≡ rowAt rows (r .callee) 6) where
@@ -122,7 +121,7 @@ module _ {f : File} {s tab rows : List ℕ} (known : Known f s tab rows) {k : �
         (record {
           rest = t .next;
           small = going .small;
-          filled = λ vs. fill-part (freshOf f vs (r .callee)) _ a (sym (ap length (fresh vs)) ∙ kept ∙ part-long known below t (going .small) size out (going .filled [] .long) ∙ size) (t .room) (used + a - used) m x (fresh vs) (fill-left (ap (freshAll f vs) (t .is)) (going .filled vs));
+          filled = λ vs. fill-part (freshOf f vs (r .callee)) _ a (sym (ap length (fresh vs)) ∙ kept ∙ part-long known below t (going .small) size out (going .filled [] .long) ∙ size) (t .room) (used + a - used) m x (fresh vs) (fill-left (ap (freshAll f vs) (t .met .is)) (going .filled vs));
         })
 
   -- all are written

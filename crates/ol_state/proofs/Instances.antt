@@ -2,7 +2,7 @@
 use Prim.Native.Nat.{ℕ, zero, suc, _+_, _-_, _*_, _<_, _≤_}
 use mathlib.Core.Bool.{true, false}
 use mathlib.Core.List.{List, [], _∷_, _++_, map, List·Memᴰ·head as here, List·Memᴰ·tail as there}
-use mathlib.Core.Path.{_≡_, refl, sym, ap, subst, _∙_}
+use mathlib.Core.Path.{_≡_, refl, sym, ap, ap₂, subst, _∙_}
 use native.Mathlib.Omega.{arith}
 use native.Mathlib.Nat.{zero-add}
 use lib.ListN.{length, take, drop, getD, length-append, length-drop}
@@ -27,10 +27,11 @@ use Rattle.ol_tables.specs.Tables.{RowOf, codeAt, enumAt, rowAt, nodeOf, siteBy
 use Rattle.ol_tables.proofs.HeadLaws.{here-first}
 use Rattle.ol_state.specs.declared.sites.Site.{Site}
 use Rattle.ol_state.specs.Known.{Counted, Known, Sited}
-use Rattle.ol_state.specs.Ahead.{sitesLeft, Ahead, ahead, Later, Met, NextBy, NextSite}
+use Rattle.ol_state.specs.Ahead.{ahead, SiteMet, NextBy, NextSite}
 use Rattle.ol_state.specs.Defaults.{cellsAt}
 use Rattle.ol_state.proofs.Fits.{fits, NodeFits, node-fits, all-nth}
 use Rattle.ol_state.proofs.Told.{cells-told}
+use Rattle.ol_state.proofs.Walk.{ahead-equations, equations-stand}
 
 -- ---- the node of a number
 
@@ -63,25 +64,13 @@ module _ {f : File} {s tab rows : List ℕ} (known : Known f s tab rows) {k : �
   few-nodes = omega (arith, fits f (known .within) .nodes)
 
   -- the walk over its call sites starts
-  pub sites-start : Later f s (rowAt rows k 1) (rowAt rows k 5) 0 (sites (nodeOf f k))
-  unfolding sitesLeft
+  pub sites-start : sites (nodeOf f k) ≡ ahead s (rowAt rows k 1) (rowAt rows k 5) 0
   sites-start =
       let n = nodeOf f k in
       let at = equationsStart (placeOf (placedNodes f) k) n in
-      let e : at + 1 + 0 ≡ at + 1 = omega arith in
-      rw (row-of .equations, row-of .count)
-      (record {
-        rest = record {
-          es = nil;
-          qs = n .equations;
-          standing = record { here = here-nil; fit = tt };
-          behind = subst (λ m. Here s m (concat (map equationBytes (n .equations)))) (sym e) (here-back (length (n .equations) ∷ []) _ (node-at .equations));
-          fit = fits-here .equations;
-          exprs = refl;
-          equations = refl;
-        };
-        same = refl;
-      })
+      sym (equations-stand s (length (f .enums)) (at + 1) (n .equations) (here-back (length (n .equations) ∷ []) _ (node-at .equations)) (fits-here .equations))
+      ∙ sym (ahead-equations s (at + 1) (length (n .equations)))
+      ∙ ap₂ (λ p m. ahead s p m 0) (sym (row-of .equations)) (sym (row-of .count))
 
   -- its default cells
   pub default-cells : cellsAt tab rows k 0 (rowAt rows k 4) ≡ cells (defaults (f .enums) (variables (nodeOf f k)))
@@ -169,65 +158,49 @@ main-is f k e = go (f .nodes) k e
 
 -- ---- the walk over the records of its call sites
 
--- these call sites are left, of nodes of lower numbers, and the records of a list with so many bytes follow from `used` on
+-- the call sites that are left are of nodes of lower numbers, and their records fill a list with so many bytes from `used` on
 pub record Rest (f : File) (s : List ℕ) (k total used at eqs pending : ℕ) : Type 0 where
-  pub left : Ahead f s at eqs pending
-  pub lower : (c : ℕ) → c ∈ ahead left → c < k
-  pub room : used + sitesSize (sizesOf f) (ahead left) ≡ total
-
-abbrev pub callees : {f : File} {s : List ℕ} {k total used at eqs pending : ℕ} → Rest f s k total used at eqs pending → List ℕ
-callees r = ahead (r .left)
-
--- all of them
-pub record Start (f : File) (s : List ℕ) (k total used at eqs : ℕ) (cs : List ℕ) : Type 0 where
-  pub rest : Rest f s k total used at eqs 0
-  pub is : cs ≡ callees rest
+  pub lower : (c : ℕ) → c ∈ ahead s at eqs pending → c < k
+  pub room : used + sitesSize (sizesOf f) (ahead s at eqs pending) ≡ total
 
 -- the next of them
-pub record Turn (f : File) (s rows : List ℕ) (k total used at : ℕ) (cs : List ℕ) (r : Site) : Type 0 where
+pub record Turn (f : File) (s rows : List ℕ) (k total used at eqs pending : ℕ) (r : Site) : Type 0 where
   pub lower : r .callee < k
   pub size : rowAt rows (r .callee) 6 ≡ siteBytes f (r .callee)
   pub room : used + rowAt rows (r .callee) 6 ≤ total
   pub next : Rest f s k total (used + rowAt rows (r .callee) 6) (r .at) (r .eqs) (r .pending)
-  pub is : cs ≡ r .callee ∷ callees next
-  pub onward : at < r .at
-  pub inside : at < length s
+  pub met : SiteMet s at eqs pending r
 
 module _ {f : File} {s tab rows : List ℕ} (known : Known f s tab rows) {k : ℕ} (below : k < length (f .nodes)) where
-  pub rest-start : {total : ℕ} → nodeOf f k .kind ≡ Operator → total ≡ siteBytes f k → Start f s k total (1 + 9 * rowAt rows k 4) (rowAt rows k 1) (rowAt rows k 5) (sites (nodeOf f k))
+  pub rest-start : {total : ℕ} → nodeOf f k .kind ≡ Operator → total ≡ siteBytes f k → Rest f s k total (1 + 9 * rowAt rows k 4) (rowAt rows k 1) (rowAt rows k 5) 0
   rest-start {total} o e =
       let l = sites-start known below in
       record {
-        rest = record {
-          left = l .rest;
-          lower = λ c m. known .lower k c (subst (λ (cs : List ℕ). c ∈ cs) (sym (l .same)) m);
-          room = ap (λ cs. 1 + 9 * rowAt rows k 4 + sitesSize (sizesOf f) cs) (sym (l .same)) ∙ omega (arith, own-size known below, operator-size known below o);
-        };
-        is = l .same;
+        lower = λ c m. known .lower k c (subst (λ (cs : List ℕ). c ∈ cs) (sym l) m);
+        room = ap (λ cs. 1 + 9 * rowAt rows k 4 + sitesSize (sizesOf f) cs) (sym l) ∙ omega (arith, own-size known below, operator-size known below o);
       }
 
-  module _ {total used at eqs pending : ℕ} (rest : Rest f s k total used at eqs pending) (small : total ≤ sizeCap) {r : Site} (n : NextSite f s at eqs pending r) where
-    pub next-site : r .found ≡ true → Turn f s rows k total used at (callees rest) r
+  module _ {total used at eqs pending : ℕ} (rest : Rest f s k total used at eqs pending) (small : total ≤ sizeCap) {r : Site} (n : NextSite s at eqs pending r) where
+    pub next-site : r .found ≡ true → Turn f s rows k total used at eqs pending r
     next-site e =
-        let m : Met f s at (callees rest) r = subst (λ b. NextBy b f s at (callees rest) r) e (n .next (rest .left)) in
+        let m : SiteMet s at eqs pending r = subst (λ b. NextBy b s at eqs pending r) e (n .next) in
+        let left = ahead s (r .at) (r .eqs) (r .pending) in
         let low = rest .lower (r .callee) (subst (λ (cs : List ℕ). r .callee ∈ cs) (sym (m .is)) (here refl)) in
-        let q : sitesSize (sizesOf f) (callees rest) ≡ siteBytes f (r .callee) + sitesSize (sizesOf f) (ahead (m .rest)) = ap (sitesSize (sizesOf f)) (m .is) ∙ sites-cons (sizesOf f) (r .callee) (ahead (m .rest)) in
+        let q : sitesSize (sizesOf f) (ahead s at eqs pending) ≡ siteBytes f (r .callee) + sitesSize (sizesOf f) left = ap (sitesSize (sizesOf f)) (m .is) ∙ sites-cons (sizesOf f) (r .callee) left in
         let size = size-told known {k = r .callee} (omega arith) (omega (arith, rest .room)) in
         record {
           lower = low;
           size = size;
           room = omega (arith, rest .room);
-          next = record { left = m .rest; lower = λ c x. rest .lower c (subst (λ (cs : List ℕ). c ∈ cs) (sym (m .is)) (there x)); room = omega (arith, rest .room) };
-          is = m .is;
-          onward = m .onward;
-          inside = m .inside;
+          next = record { lower = λ c x. rest .lower c (subst (λ (cs : List ℕ). c ∈ cs) (sym (m .is)) (there x)); room = omega (arith, rest .room) };
+          met = m;
         }
 
-    pub no-site : r .found ≡ false → callees rest ≡ []
-    no-site e = subst (λ b. NextBy b f s at (callees rest) r) e (n .next (rest .left))
+    pub no-site : r .found ≡ false → ahead s at eqs pending ≡ []
+    no-site e = subst (λ b. NextBy b s at eqs pending r) e (n .next)
 
 -- the part of a list that is the record of the next call site
-module _ {f : File} {s tab rows : List ℕ} (known : Known f s tab rows) {k : ℕ} (below : k < length (f .nodes)) {total used at : ℕ} {cs : List ℕ} {r : Site} (t : Turn f s rows k total used at cs r) (small : total ≤ sizeCap) {z : ℕ} (size : z ≡ rowAt rows (r .callee) 6) (l : List ℕ) (long : length l ≡ total) where
+module _ {f : File} {s tab rows : List ℕ} (known : Known f s tab rows) {k : ℕ} (below : k < length (f .nodes)) {total used at eqs pending : ℕ} {r : Site} (t : Turn f s rows k total used at eqs pending r) (small : total ≤ sizeCap) {z : ℕ} (size : z ≡ rowAt rows (r .callee) 6) (l : List ℕ) (long : length l ≡ total) where
   pub part-room : used + z ≤ length l
   part-room = omega (arith, t .room)
 
@@ -238,6 +211,6 @@ module _ {f : File} {s tab rows : List ℕ} (known : Known f s tab rows) {k : �
   part-sited = record { known = known; below = omega (arith, t .lower); sized = part-long ∙ size ∙ t .size; small = omega (arith, part-long, t .room) }
 
 -- none are left: all bytes are used
-pub all-used : {f : File} {s : List ℕ} {k total used at eqs pending : ℕ} (rest : Rest f s k total used at eqs pending) → callees rest ≡ [] → used ≡ total
+pub all-used : {f : File} {s : List ℕ} {k total used at eqs pending : ℕ} → Rest f s k total used at eqs pending → ahead s at eqs pending ≡ [] → used ≡ total
 unfolding sitesSize
-all-used {f} {s} {k} {total} {used} rest e = let q = ap (sitesSize (sizesOf f)) e in omega (arith, rest .room, q)
+all-used {f} rest e = let q = ap (sitesSize (sizesOf f)) e in omega (arith, rest .room, q)

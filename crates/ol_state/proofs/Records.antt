@@ -18,9 +18,9 @@ use Rattle.ol_spec.proofs.Calls.{good-site}
 use Rattle.ol_tables.specs.Tables.{rowAt, nodeOf, siteBytes}
 use Rattle.ol_state.specs.declared.sites.Site.{Site}
 use Rattle.ol_state.specs.Known.{Known, Sited}
-use Rattle.ol_state.specs.Ahead.{NextSite}
+use Rattle.ol_state.specs.Ahead.{ahead, NextSite}
 use Rattle.ol_state.specs.Defaults.{cellsAt}
-use Rattle.ol_state.proofs.Instances.{Rest, callees, Turn, sizesOf, rest-start, next-site, no-site, default-cells, own-room, is-operator, no-operator, variables-told}
+use Rattle.ol_state.proofs.Instances.{Rest, Turn, sizesOf, sites-start, rest-start, next-site, no-site, default-cells, own-room, is-operator, no-operator, variables-told}
 use Rattle.ol_state.specs.Own.{goodBytes}
 use Rattle.ol_state.proofs.Judged.{and-pass, and-stop}
 
@@ -35,7 +35,7 @@ goodAll f vs ks s = goodSites (globalsOf f vs) (goodOf f vs) ks s
 -- Node k's record r is good exactly if the records from `used` on are, those of the call sites that are left.
 pub record Judging (f : File) (s : List ℕ) (k : ℕ) (r : List ℕ) (used at eqs pending : ℕ) : Type 0 where
   pub rest : Rest f s k (length r) used at eqs pending
-  pub left : (vs : List Value) → goodOf f vs k r ≡ goodAll f vs (callees rest) (drop used r)
+  pub left : (vs : List Value) → goodOf f vs k r ≡ goodAll f vs (ahead s at eqs pending) (drop used r)
 
 -- a record's own bytes are good, by the tables
 abbrev pub bytesGood : File → List ℕ → List ℕ → ℕ → List ℕ → Bool
@@ -71,9 +71,9 @@ module _ {f : File} {s tab rows : List ℕ} {k : ℕ} {r : List ℕ} (h : Sited 
 
   -- all bytes are used
   pub judging-full : {used at eqs pending : ℕ} → Judging f s k r used at eqs pending → length r ≤ used → (vs : List Value) → true ≡ goodOf f vs k r
-  judging-full {used} j full vs =
+  judging-full {used} {at} {eqs} {pending} j full vs =
       sym (j .left vs
-      ∙ none-left (h .known) vs (callees (j .rest)) (drop used r) (λ c m. omega (arith, j .rest .lower c m, h .below)) (omega (arith, j .rest .room, full)))
+      ∙ none-left (h .known) vs (ahead s at eqs pending) (drop used r) (λ c m. omega (arith, j .rest .lower c m, h .below)) (omega (arith, j .rest .room, full)))
 
   -- an Operator's: its own bytes, and the records of its call sites
   operator-good : rowAt rows k 0 ≡ 1 → (vs : List Value) → goodOf f vs k r ≡ bytesGood f tab rows k r && goodAll f vs (sites (nodeOf f k)) (drop (1 + 9 * rowAt rows k 4) r)
@@ -91,37 +91,36 @@ module _ {f : File} {s tab rows : List ℕ} {k : ℕ} {r : List ℕ} (h : Sited 
 
   pub judging-start : {n a q : ℕ} → rowAt rows k 0 ≡ 1 → true ≡ bytesGood f tab rows k r → n ≡ rowAt rows k 4 → a ≡ rowAt rows k 1 → q ≡ rowAt rows k 5 → Judging f s k r (1 + 9 * n) a q 0
   judging-start one b e₁ e₂ e₃ =
-      let start = rest-start (h .known) (h .below) (is-operator (h .known) (h .below) one) (h .sized) in
       rw (e₁, e₂, e₃)
       (record {
-        rest = start .rest;
-        left = λ vs. operator-good one vs ∙ and-pass (sym b) ∙ ap (λ cs. goodAll f vs cs (drop (1 + 9 * rowAt rows k 4) r)) (start .is);
+        rest = rest-start (h .known) (h .below) (is-operator (h .known) (h .below) one) (h .sized);
+        left = λ vs. operator-good one vs ∙ and-pass (sym b) ∙ ap (λ cs. goodAll f vs cs (drop (1 + 9 * rowAt rows k 4) r)) (sites-start (h .known) (h .below));
       })
 
-module _ {f : File} {s tab rows : List ℕ} {k : ℕ} {r : List ℕ} (h : Sited f s tab rows k r) {used at eqs pending : ℕ} (judging : Judging f s k r used at eqs pending) {x : Site} (n : NextSite f s at eqs pending x) where
+module _ {f : File} {s tab rows : List ℕ} {k : ℕ} {r : List ℕ} (h : Sited f s tab rows k r) {used at eqs pending : ℕ} (judging : Judging f s k r used at eqs pending) {x : Site} (n : NextSite s at eqs pending x) where
   -- the record of the next call site
-  pub turn-of : x .found ≡ true → Turn f s rows k (length r) used at (callees (judging .rest)) x
+  pub turn-of : x .found ≡ true → Turn f s rows k (length r) used at eqs pending x
   turn-of e = next-site (h .known) (h .below) (judging .rest) (h .small) n e
 
   module _ (e : x .found ≡ true) {z : ℕ} (size : z ≡ rowAt rows (x .callee) 6) where
     -- the first of the records that are left, and the others
-    next-good : (vs : List Value) → goodOf f vs k r ≡ goodOf f vs (x .callee) (take (used + z - used) (drop used r)) && goodAll f vs (callees (turn-of e .next)) (drop (used + z) r)
+    next-good : (vs : List Value) → goodOf f vs k r ≡ goodOf f vs (x .callee) (take (used + z - used) (drop used r)) && goodAll f vs (ahead s (x .at) (x .eqs) (x .pending)) (drop (used + z) r)
     unfolding goodSites
     next-good vs =
         let t = turn-of e in
         let m : siteBytes f (x .callee) ≡ used + z - used = omega (arith, size, t .size) in
         let q : siteBytes f (x .callee) ≡ z = sym (size ∙ t .size) in
         judging .left vs
-        ∙ ap (λ cs. goodAll f vs cs (drop used r)) (t .is)
-        ∙ (λ i. goodOf f vs (x .callee) (take (m i) (drop used r)) && goodAll f vs (callees (t .next)) (drop (q i) (drop used r)))
-        ∙ ap (λ l. goodOf f vs (x .callee) (take (used + z - used) (drop used r)) && goodAll f vs (callees (t .next)) l) (drop-drop z used r)
+        ∙ ap (λ cs. goodAll f vs cs (drop used r)) (t .met .is)
+        ∙ (λ i. goodOf f vs (x .callee) (take (m i) (drop used r)) && goodAll f vs (ahead s (x .at) (x .eqs) (x .pending)) (drop (q i) (drop used r)))
+        ∙ ap (λ l. goodOf f vs (x .callee) (take (used + z - used) (drop used r)) && goodAll f vs (ahead s (x .at) (x .eqs) (x .pending)) l) (drop-drop z used r)
 
     -- it is good, or bad
     pub judging-on : ((vs : List Value) → true ≡ goodOf f vs (x .callee) (take (used + z - used) (drop used r))) → Judging f s k r (used + z) (x .at) (x .eqs) (x .pending)
     judging-on good =
         let t = turn-of e in
         record {
-          rest = record { left = t .next .left; lower = t .next .lower; room = omega (arith, t .next .room, size) };
+          rest = record { lower = t .next .lower; room = omega (arith, t .next .room, size) };
           left = λ vs. next-good vs ∙ and-pass (sym (good vs));
         }
 

@@ -1,8 +1,7 @@
-// The call sites of a node, in file order: the heads of its equations' expressions are met one by one.
-ghost use Rattle.ol_tables.specs.At.{fileAt};
-ghost use Rattle.ol_state.specs.Ahead.{Ahead, NextSite};
+// The call sites of a node, in file order: the calls in its equations' right sides are met one by one.
+ghost use Rattle.ol_state.specs.Ahead.{NextSite};
 use ol_tables::bytes::byte;
-use ol_tables::heads::head;
+use ol_tables::heads::next_call;
 
 // The next call site, if one was found: its callee, and what is left behind its head: the place, the
 // equations and the expressions of the present one.
@@ -16,41 +15,43 @@ pub(crate) struct Site {
 
 // Looks for the next call site, where `pending` expressions stand at `at` and `eqs` equations behind them.
 pub(crate) fn next_site(file: &[u8], at: usize, eqs: usize, pending: usize) -> Site
-    requires { ⌜ Ahead (fileAt (now file)) (now file) at eqs pending ⌝ }
-    ensures { λ r. ⌜ NextSite (fileAt (now (file .entry))) (now (file .entry)) at eqs pending r ⌝ }
+    ensures { λ r. ⌜ NextSite (now (file .entry)) at eqs pending r ⌝ }
 {
     let mut pos = at;
     let mut left = eqs;
     let mut more = pending;
     loop {
-        if more == 0 {
-            if left == 0 {
-                return Site {
-                    found: false,
-                    callee: 0,
-                    at: pos,
-                    eqs: 0,
-                    pending: 0,
-                };
-            }
-            pos = pos + 1 + 2 * byte(file, pos);
-            left -= 1;
-            more = 1;
-        } else {
-            let h = head(file, pos);
-            let parts = more - 1 + h.count;
-            let start = h.start;
-            if byte(file, pos) == 11 {
-                return Site {
-                    found: true,
-                    callee: byte(file, pos + 1),
-                    at: start,
-                    eqs: left,
-                    pending: parts,
-                };
-            }
-            pos = start;
-            more = parts;
+        let c = next_call(file, more, pos);
+        if c.found {
+            return Site {
+                found: true,
+                callee: c.callee,
+                at: c.at,
+                eqs: left,
+                pending: c.left,
+            };
         }
+        let end = c.at;
+        if left == 0 {
+            return Site {
+                found: false,
+                callee: 0,
+                at: end,
+                eqs: 0,
+                pending: 0,
+            };
+        }
+        if file.len() <= end {
+            return Site {
+                found: false,
+                callee: 0,
+                at: end,
+                eqs: 0,
+                pending: 0,
+            };
+        }
+        pos = end + 1 + 2 * byte(file, end);
+        left -= 1;
+        more = 1;
     }
 }

@@ -2,14 +2,17 @@
 use Prim.Native.Nat.{ℕ, zero, suc, _+_, _-_, _*_, _<_, _≤_}
 use mathlib.Core.Bool.{Bool, true, false, _&&_, cond}
 use mathlib.Core.List.{List, [], _∷_, _++_, append-nil}
+use mathlib.Core.Logic.{by-cases}
 use mathlib.Core.Option.{Option, none, some}
 use mathlib.Core.Path.{_≡_, refl, sym, ap, subst, _∙_}
+use native.Mathlib.Decide.{ℕ-discrete}
 use native.Mathlib.Omega.{arith}
 use native.Mathlib.Nat.{add-zero, add-assoc}
 use lib.ListN.{length, getElem?, getD, take, drop}
 use lib.Seq.{drop-cons}
 use lib.IntN.{ℤ}
 use lib.Dec.{T, eqb, leb, leb→le}
+use borrow.Author.Tests.{eq-eqb, ne-eqb}
 use Rattle.ol_spec.specs.Syntax.{Ty, bool, int, float32, float64, char, enum, UnaryOp, BinOp, Expr, boolLit, intLit, floatLit, charLit, var, unary, binary, ifThenElse, pre, arrow, cast, call, tuple}
 use Rattle.ol_spec.specs.Syntax.{Exprs, nil, cons}
 use Rattle.ol_spec.specs.Numbers.{numberOf, signed}
@@ -27,6 +30,7 @@ use Rattle.ol_tables.specs.At.{itemOf, endOf, limitsAt, enumsAt, exprAt,
 use Rattle.ol_tables.specs.Tables.{tyCode, Each}
 use Rattle.ol_tables.specs.Heads.{partsOf, headSize as headOf}
 use Rattle.ol_tables.specs.Parts.{ownSites, Proper}
+use Rattle.ol_tables.specs.Walks.{ownAt}
 
 -- ---- lists
 
@@ -643,3 +647,20 @@ module _ (s : List ℕ) where
 
   pub callees-form : (level at : ℕ) (t : Expr) (n : ℕ) → Formed level at t n → callees (exprAt s level at) ≡ ownSites t ++ calleesAll (exprsAt s (level - 1) n (at + headOf t))
   callees-form level at t n h = ap callees (h .tree) ∙ callees-parts t ∙ ap (λ (es : Exprs). ownSites t ++ calleesAll es) (h .parts)
+
+  -- ---- an expression's own call site
+
+  -- a call's callee
+  pub own-call : (level at : ℕ) → Reads s level at → getD s at 0 ≡ 11 → ownSites (exprAt s level at) ≡ getD s (at + 1) 0 ∷ []
+  own-call level at h e = ap ownSites (call-form level at h e .0 .tree)
+
+  -- another form has none
+  own-other : (level at : ℕ) → Reads s level at → ¬ (getD s at 0 ≡ 11) → ownSites (exprAt s level at) ≡ []
+  own-other level at h =
+      by-form (λ c e. ¬ (c ≡ 11) → ownSites e ≡ []) (λ b n. refl) (λ i n. refl) (λ b n. refl) (λ c n. refl) (λ x n. refl) (λ op e n. refl) (λ op l r n. refl)
+      (λ c t e n. refl) (λ e n. refl) (λ a b n. refl) (λ t e n. refl) (λ k es n. absurd (n refl)) (λ es n. refl) level at h
+
+  pub own-read : (level at : ℕ) → Reads s level at → ownAt s at ≡ ownSites (exprAt s level at)
+  own-read level at h =
+      by-cases (ℕ-discrete (getD s at 0) 11) (λ e. ap (λ b. cond b (getD s (at + 1) 0 ∷ []) []) (eq-eqb (getD s at 0) 11 e) ∙ sym (own-call level at h e))
+      (λ n. ap (λ b. cond b (getD s (at + 1) 0 ∷ []) []) (ne-eqb (getD s at 0) 11 n) ∙ sym (own-other level at h n))

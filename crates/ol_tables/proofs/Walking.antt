@@ -6,7 +6,7 @@ use mathlib.Core.Path.{_≡_, refl, sym, ap, subst, _∙_}
 use native.Mathlib.Omega.{arith}
 use lib.ListN.{length, getD, List·getD-eq-default}
 use lib.Dec.{T, ltb, leb, eqb, leb→le}
-use borrow.Author.Tests.{lt-ltb, le-ltb, eq-eqb, ne-eqb}
+use borrow.Author.Tests.{lt-ltb, le-ltb, eq-eqb, ne-eqb, ltb-true}
 use Rattle.ol_spec.specs.Lists.{allOf}
 use Rattle.ol_spec.proofs.Tests.{T-and}
 use Rattle.ol_spec.specs.Syntax.{Expr, Exprs, nil, cons, count}
@@ -48,6 +48,21 @@ ty-small s at = cond-small (eqb (getD s at 0) 12)
 -- one that is not the least so far
 pub next-up : (n c : ℕ) → n ≤ c → (c ≡ n → ⊥) → n + 1 ≤ c
 next-up n c le ne = omega arith
+
+-- a head has a byte at least
+pub next-on : (s : List ℕ) (at : ℕ) → at < length s → at < nextAt s at
+next-on s at i =
+    let c = getD s at 0 in
+    rw (lt-ltb at (length s) i) (pick (ltb c 10) (eqb c 10) (eqb c 11) (λ e. omega (arith, table-size c (ltb-true c 10 e) .0)))
+  where
+    two : (b d : Bool) → at < cond b (at + 1 + tySizeAt s (at + 1)) (cond d (at + 3) (at + 2))
+    two true d = omega arith
+    two false true = omega arith
+    two false false = omega arith
+
+    pick : (a b d : Bool) → (a ≡ true → at < at + getD sizesTable (getD s at 0) 0) → at < cond a (at + getD sizesTable (getD s at 0) 0) (cond b (at + 1 + tySizeAt s (at + 1)) (cond d (at + 3) (at + 2)))
+    pick true b d h = h refl
+    pick false b d h = two b d
 
 module _ (s : List ℕ) (at c : ℕ) (b : Byte s at c) (i : at < length s) where
   head-low : c < 10 → HeadOf s at (record { count = getD partsTable c 0; start = at + getD sizesTable c 0 })

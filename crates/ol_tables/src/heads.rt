@@ -4,7 +4,7 @@ ghost use mathlib.Core.Path.{_≡_};
 ghost use Prim.Native.Nat.{_<_};
 ghost use lib.ListN.{length};
 ghost use Rattle.ol_tables.specs.Heads.{tySizeAt};
-ghost use Rattle.ol_tables.specs.Walks.{HeadOf, skipAt};
+ghost use Rattle.ol_tables.specs.Walks.{HeadOf, skipAt, Calls};
 
 // How many parts an expression has, and where they start.
 pub struct Parts {
@@ -126,4 +126,58 @@ pub fn skip(file: &[u8], parts: usize, at: usize) -> usize
         next = h.start;
     }
     next
+}
+
+// The next call, if one was found: its callee, and what is left behind its head: the place and how many
+// expressions. If none was found, the place is the end.
+pub struct NextCall {
+    pub found: bool,
+    pub callee: usize,
+    pub at: usize,
+    pub left: usize,
+}
+
+// Looks for the next call among the expressions that stand at `at`, so many one after the other.
+pub fn next_call(file: &[u8], parts: usize, at: usize) -> NextCall
+    ensures { λ r. ⌜ Calls (r .found) (now (file .entry)) parts at r ⌝ }
+{
+    let mut next = at;
+    let mut left = parts;
+    while 0 < left {
+        if file.len() <= next {
+            return NextCall {
+                found: false,
+                callee: 0,
+                at: next,
+                left: 0,
+            };
+        }
+        if file.len() < left {
+            return NextCall {
+                found: false,
+                callee: 0,
+                at: next,
+                left: 0,
+            };
+        }
+        let h = head(file, next);
+        let start = h.start;
+        let rest = left - 1 + h.count;
+        if byte(file, next) == 11 {
+            return NextCall {
+                found: true,
+                callee: byte(file, next + 1),
+                at: start,
+                left: rest,
+            };
+        }
+        left = rest;
+        next = start;
+    }
+    NextCall {
+        found: false,
+        callee: 0,
+        at: next,
+        left: 0,
+    }
 }

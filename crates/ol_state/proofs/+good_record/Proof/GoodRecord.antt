@@ -73,7 +73,7 @@ loop-holds t c =
     judging-start h one (sym (c .before .before .before .if2 .taken) ∙ c .before .before .before .before .good-own .ensures _ tells) (c .before .before .row2 .ensures) (c .before .row3 .ensures) (c .row4 .ensures)
 
 pub next-site-requires : (t : ℕ) → good-record-lts.Need-next-site-requires (Q t) (good-record-at t) good-record.Post Inv-loop μ-loop
-next-site-requires t c κs = c .before .loop .inv .rest .left
+next-site-requires t c κs = tt
 
 pub row-requires-5 : (t : ℕ) → good-record-lts.Need-row-requires-5 (Q t) (good-record-at t) good-record.Post Inv-loop μ-loop
 row-requires-5 t c κs = tt
@@ -112,7 +112,7 @@ loop-less t c =
     let start = c .before .before .before .before .before .before .before .before .before .before .before .before .before .before .before .before .before .before .before .before in
     let h = start .pre .1 .0 in
     let t = turn-of h (c .before .before .before .before .before .before .before .loop .inv) (c .before .before .before .before .before .next-site .ensures) (c .before .before .before .before .if3 .taken) in
-    omega (arith, t .onward, t .inside)
+    omega (arith, t .met .onward, t .met .inside)
 
 pub loop-again : (t : ℕ) → good-record-lts.Need-loop-again (Q t) (good-record-at t) good-record.Post Inv-loop μ-loop
 loop-again t c =

@@ -3,29 +3,29 @@ use mathlib.Core.Path.{_≡_, refl, sym, _∙_}
 use native.Mathlib.Omega.{arith}
 use borrow.Author.Needs.{needs}
 use lib.ListN.{length}
-use Rattle.ol_tables.specs.Walks.{skipBy, skipAt}
-use Rattle.ol_tables.proofs.Skipping.{skip-none, skip-end, skip-many, skip-turn}
+use Rattle.ol_tables.specs.Walks.{skipAt}
+use Rattle.ol_tables.proofs.Skipping.{walk-none, walk-end, walk-many, walk-turn}
 use Rattle.ol_tables.proofs.heads.skip.Statement.{statement}
 use Rattle.ol_tables.proofs.heads.skip.Tie as tie
 use Rattle.ol_tables.proofs.heads.skip.Reads as reads
 use Rattle.ol_tables.proofs.heads.skip.Lts as lts
 use Rattle.ol_tables.proofs.heads.head.Reads as head-reads
 
--- `n` heads suffice for what is left
+-- what is left ends where all end
 abbrev Inv-loop : tie.InvT-loop
-Inv-loop file parts at next₀ left₀ next left = (n : ℕ) × (length file - next ≤ n) × (skipBy n file left next ≡ skipAt file parts at)
+Inv-loop file parts at next₀ left₀ next left = skipAt file left next ≡ skipAt file parts at
 
 abbrev μ-loop : tie.MeasureT-loop
 μ-loop file parts at next₀ left₀ next left = length file - next
 
 loop-holds : tie.Need-loop-holds Inv-loop μ-loop
-loop-holds c = (length (c .before .args .file .now), omega arith, refl)
+loop-holds c = refl
 
 returns : tie.Need-returns Inv-loop μ-loop
-returns c = let v = c .before .before .loop .inv in sym (skip-end _ (v .0) _ _ (c .if1 .taken)) ∙ v .2
+returns c = sym (walk-end _ _ _ _ _ _ (c .if1 .taken)) ∙ c .before .before .loop .inv
 
 returns-2 : tie.Need-returns-2 Inv-loop μ-loop
-returns-2 c = let v = c .before .before .before .loop .inv in sym (skip-many _ (v .0) _ _ (c .if2 .taken)) ∙ v .2
+returns-2 c = sym (walk-many _ _ _ _ _ _ (c .if2 .taken)) ∙ c .before .before .before .loop .inv
 
 head-requires : tie.Need-head-requires Inv-loop μ-loop
 head-requires c κs = search needs
@@ -41,13 +41,11 @@ loop-less c = omega (arith, c .before .head .ensures .onward (omega (arith, c .b
 
 loop-again : tie.Need-loop-again Inv-loop μ-loop
 loop-again c =
-    let v = c .before .before .before .before .before .loop .inv in
     let h = c .before .head .ensures in
-    let o = h .onward (omega (arith, c .before .before .before .if1 .left)) in
-    (v .0 - 1, omega (arith, v .1, o), sym (skip-turn _ (v .0) _ _ _ _ (c .before .before .before .before .loop-test .taken) (omega (arith, c .before .before .before .if1 .left)) (omega (arith, c .before .before .if2 .left)) (h .parts) (h .next) (v .1)) ∙ v .2)
+    sym (walk-turn _ _ _ _ _ (c .before .before .before .before .loop-test .taken) (omega (arith, c .before .before .before .if1 .left)) (omega (arith, c .before .before .if2 .left)) (h .parts) (h .next)) ∙ c .before .before .before .before .before .loop .inv
 
 returns-3 : tie.Need-returns-3 Inv-loop μ-loop
-returns-3 c = let v = c .before .loop .inv in sym (skip-none _ (v .0) _ _ (omega (arith, c .loop-test .left))) ∙ v .2
+returns-3 c = sym (walk-none _ _ _ _ _ _ (omega (arith, c .loop-test .left))) ∙ c .before .loop .inv
 
 pub skip-spec : {M : Type 1} → statement M
 skip-spec =

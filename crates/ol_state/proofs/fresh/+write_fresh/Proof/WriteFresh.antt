@@ -73,7 +73,7 @@ loop-holds t c =
     going-start h one (c .before .before .row2 .ensures) (c .before .row3 .ensures) (c .row4 .ensures) (c .before .before .before .before .before .write-own .ensures)
 
 pub next-site-requires : (t : ℕ) → write-fresh-lts.Need-next-site-requires (Q t) (write-fresh-at t) write-fresh.Post Inv-loop μ-loop
-next-site-requires t c κs = c .loop .inv .rest .left
+next-site-requires t c κs = tt
 
 pub row-requires-5 : (t : ℕ) → write-fresh-lts.Need-row-requires-5 (Q t) (write-fresh-at t) write-fresh.Post Inv-loop μ-loop
 row-requires-5 t c κs = tt
@@ -112,7 +112,7 @@ loop-less t c =
     let start = c .before .before .before .before .before .before .before .before .before .before .before .before .before .before .before .before .before .before .before .before .before in
     let h = start .pre .1 in
     let t = turn-of (h .known) (h .below) (c .before .before .before .before .before .before .before .loop .inv) (c .before .before .before .before .before .before .next-site .ensures) (c .before .before .before .before .before .if2 .taken) in
-    omega (arith, t .onward, t .inside)
+    omega (arith, t .met .onward, t .met .inside)
 
 pub loop-again : (t : ℕ) → write-fresh-lts.Need-loop-again (Q t) (write-fresh-at t) write-fresh.Post Inv-loop μ-loop
 loop-again t c =
