@@ -22,7 +22,10 @@ use Rattle.ol_eval.specs.Walk.{nodesIn, sizesIn, Passable, SkipsTo}
 use Rattle.ol_eval.specs.Plans.{Program, globalsIn, scopeIn, evalIn, segsAt, segAt}
 use Rattle.ol_eval.specs.Post.{Ready, Meets, EvalsTo}
 use Rattle.ol_eval.specs.Stores.{passedBy}
-use Rattle.ol_eval.specs.Calls.{endCode, Holds, RanTo, Passes, passedAll, allIn}
+use Rattle.ol_eval.specs.Outcomes.{endingOf}
+use Rattle.ol_eval.specs.declared.outcomes.Ending.{Ending}
+use Rattle.ol_eval.specs.declared.outcomes.Ending.the-variants as End
+use Rattle.ol_eval.specs.Calls.{Holds, RanTo, Passes, passedAll, allIn}
 use Rattle.ol_eval.specs.declared.cycle.Step.{Step}
 use Rattle.ol_eval.specs.declared.cycle.Ran.{Ran}
 use Rattle.ol_eval.specs.declared.skip.Passed.{Passed}
@@ -242,7 +245,7 @@ module _ {want : Evals} {file tab rows consts : List ℕ} {fits : Bool} {k n at 
         (subst (λ (m : ℕ). Going want file tab rows consts fits k n at level node first cells before old left (i + 1) m (used + seg) to′ (putTail used new x)) (sym (h .next-is)) t)
 
     -- it failed, or overflowed: the others are passed over
-    going-stop : {q : Passed} (make : List Value → List Value) (got : List Value) (e : ℕ) (out : Outcomes) (o : Outcome) → r .out ≡ o → ((w : List ℕ) (K : List ℕ → Evals) (rest : List ℕ) → nextAllOn o w K rest ≡ record { out = out; seg = w ++ rest }) → consAll (g .values) out ≡ out → e ≡ endCode out → Holds make out got → SkipsTo file level left (r .next) q → RanTo make want (endsAt file level n at) (segsAt file level n at) old (record { end = e; next = q .next; used = used + r .used + q .used }) got (putTail used new x)
+    going-stop : {q : Passed} (make : List Value → List Value) (got : List Value) (e : Ending) (out : Outcomes) (o : Outcome) → r .out ≡ o → ((w : List ℕ) (K : List ℕ → Evals) (rest : List ℕ) → nextAllOn o w K rest ≡ record { out = out; seg = w ++ rest }) → consAll (g .values) out ≡ out → e ≡ endingOf out → Holds make out got → SkipsTo file level left (r .next) q → RanTo make want (endsAt file level n at) (segsAt file level n at) old (record { end = e; next = q .next; used = used + r .used + q .used }) got (putTail used new x)
     going-stop {q} make got e out o ro stop cons ee hold skip =
         let s = moved-skip file level left (h .next-is) skip in
         let rest = take behind (drop (used + seg) old) in
@@ -250,7 +253,7 @@ module _ {want : Evals} {file tab rows consts : List ℕ} {fits : Bool} {k n at 
         let W : want .out ≡ out = g .out-is ∙ ap (λ (e : Evals). consAll (g .values) (e .out)) R ∙ cons in
         let d : drop (used + seg) old ≡ rest ++ drop (segsAt file level n at) old = sym (take-append-drop behind (drop (used + seg) old)) ∙ ap (λ (l : List ℕ). rest ++ l) (drop-drop behind (used + seg) old ∙ ap (λ (m : ℕ). drop m old) (sym total-is)) in
         record {
-          end-is = ee ∙ ap endCode (sym W);
+          end-is = ee ∙ ap endingOf (sym W);
           next-is = s .next-is ∙ sym (g .ends ∙ parted file level left pos (g .ready .plan .reads) .ends);
           used-is = (λ j. used + h .used-is j + s .used-is j) ∙ sym total-is;
           values-are = subst (λ (y : Outcomes). Holds make y got) (sym W) hold;
@@ -258,11 +261,11 @@ module _ {want : Evals} {file tab rows consts : List ℕ} {fits : Bool} {k n at 
               ∙ ap (λ (l : List ℕ). l ++ drop (segsAt file level n at) old) (append-assoc (g .head) (here .seg) rest ∙ sym (g .seg-is ∙ ap (λ (y : Evals). g .head ++ y .seg) R));
         }
 
-    pub going-failed : {q : Passed} (make : List Value → List Value) (got : List Value) → r .out ≡ Out.Failure → SkipsTo file level left (r .next) q → RanTo make want (endsAt file level n at) (segsAt file level n at) old (record { end = 1; next = q .next; used = used + r .used + q .used }) got (putTail used new x)
-    going-failed make got o s = going-stop make got 1 failure Out.Failure o (λ w K rest. refl) (cons-failure (g .values)) refl tt s
+    pub going-failed : {q : Passed} (make : List Value → List Value) (got : List Value) → r .out ≡ Out.Failure → SkipsTo file level left (r .next) q → RanTo make want (endsAt file level n at) (segsAt file level n at) old (record { end = End.Failed; next = q .next; used = used + r .used + q .used }) got (putTail used new x)
+    going-failed make got o s = going-stop make got End.Failed failure Out.Failure o (λ w K rest. refl) (cons-failure (g .values)) refl tt s
 
-    pub going-overflowed : {q : Passed} (make : List Value → List Value) (got : List Value) → r .out ≡ Out.Overflow → SkipsTo file level left (r .next) q → RanTo make want (endsAt file level n at) (segsAt file level n at) old (record { end = 2; next = q .next; used = used + r .used + q .used }) got (putTail used new x)
-    going-overflowed make got o s = going-stop make got 2 overflow Out.Overflow o (λ w K rest. refl) (cons-overflow (g .values)) refl tt s
+    pub going-overflowed : {q : Passed} (make : List Value → List Value) (got : List Value) → r .out ≡ Out.Overflow → SkipsTo file level left (r .next) q → RanTo make want (endsAt file level n at) (segsAt file level n at) old (record { end = End.Overflowed; next = q .next; used = used + r .used + q .used }) got (putTail used new x)
+    going-overflowed make got o s = going-stop make got End.Overflowed overflow Out.Overflow o (λ w K rest. refl) (cons-overflow (g .values)) refl tt s
 
     -- the bytes so far, and of all
     pub going-used : used + r .used ≤ segsAt file level n at
@@ -273,7 +276,7 @@ unfolding sitesSize
 none-segs file level at = ap (λ (es : Exprs). sitesSize (sizesIn file) (calleesAll es)) (none-read file level at .0)
 
 -- all have their values
-pub going-done : {want : Evals} {file tab rows consts : List ℕ} {fits : Bool} {k n at level node : ℕ} {first : Bool} {cells before old : List ℕ} {i pos used : ℕ} {to new : List ℕ} → Going want file tab rows consts fits k n at level node first cells before old 0 i pos used to new → RanTo (passedAll fits (nodeIn file k .inputs)) want (endsAt file level n at) (segsAt file level n at) old (record { end = 0; next = pos; used = used }) (valuesOf n to) new
+pub going-done : {want : Evals} {file tab rows consts : List ℕ} {fits : Bool} {k n at level node : ℕ} {first : Bool} {cells before old : List ℕ} {i pos used : ℕ} {to new : List ℕ} → Going want file tab rows consts fits k n at level node first cells before old 0 i pos used to new → RanTo (passedAll fits (nodeIn file k .inputs)) want (endsAt file level n at) (segsAt file level n at) old (record { end = End.Values; next = pos; used = used }) (valuesOf n to) new
 going-done {want} {file} {tab} {rows} {consts} {fits} {k} {n} {at} {level} {node} {first} {cells} {before} {old} {i} {pos} {used} {to} {new} g =
     let none = none-read file level pos in
     let z = none-segs file level pos in
@@ -283,7 +286,7 @@ going-done {want} {file} {tab} {rows} {consts} {fits} {k} {n} {at} {level} {node
     let t : segsAt file level n at ≡ used = omega (arith, g .total, z) in
     let seg : want .seg ≡ g .head = g .seg-is ∙ ap (λ (y : Evals). g .head ++ y .seg) R ∙ ap (λ (m : ℕ). g .head ++ take m (drop used old)) z ∙ append-nil (g .head) in
     record {
-      end-is = ap endCode (sym W);
+      end-is = ap endingOf (sym W);
       next-is = sym (g .ends ∙ none .1);
       used-is = sym t;
       values-are = subst (λ (y : Outcomes). Holds (passedAll fits (nodeIn file k .inputs)) y (valuesOf n to)) (sym W) (subst (λ (m : ℕ). valuesOf m to ≡ passedAll fits (nodeIn file k .inputs) (g .values)) e (g .stored));

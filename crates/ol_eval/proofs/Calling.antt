@@ -21,23 +21,27 @@ use Rattle.ol_eval.specs.Walk.{nodesIn, sizesIn}
 use Rattle.ol_eval.specs.Plans.{globalsIn, scopeIn, evalIn, segsAt, segAt}
 use Rattle.ol_eval.specs.Nodes.{Running, Enters}
 use Rattle.ol_eval.specs.Post.{Ready, Meets, EvalsTo}
-use Rattle.ol_eval.specs.Calls.{endCode, Holds, asIs, RanTo, Did, Passes, passedAll, allIn, AllTo, outputsAt, rhsEval, EntersTo, Steppable, SiteTo}
+use Rattle.ol_eval.specs.Outcomes.{endingOf}
+use Rattle.ol_eval.specs.declared.outcomes.Ending.{Ending}
+use Rattle.ol_eval.specs.declared.outcomes.Ending.the-variants as End
+use Rattle.ol_eval.specs.Calls.{Holds, asIs, RanTo, Did, Passes, passedAll, allIn, AllTo, outputsAt, rhsEval, EntersTo, Steppable, SiteTo}
 use Rattle.ol_eval.specs.Stores.{Leaves}
 use Rattle.ol_eval.specs.declared.cycle.Step.{Step}
 use Rattle.ol_eval.specs.declared.cycle.Ran.{Ran}
 use Rattle.ol_tables.proofs.Lending.{tailOf, putTail, tail-all, put-tail, take-put, drop-put, drop-take}
+use Rattle.ol_eval.proofs.Endings.{failed-values, over-values}
 use Rattle.ol_eval.proofs.Passing.{callees-one, row-size}
 use Rattle.ol_eval.proofs.RealKinds.{input-below}
 use Rattle.ol_eval.proofs.Planning.{Callee, plan-head, plan-parts, plan-call, segs-one}
 
 -- ---- how several values end
 
-pub zero-values : (o : Outcomes) → endCode o ≡ 0 → (vs : List Value) × (o ≡ values vs)
-zero-values (values vs) e = (vs, refl)
-zero-values failure e = absurd (omega arith)
-zero-values overflow e = absurd (omega arith)
+with-values : (o : Outcomes) → endingOf o ≡ End.Values → (vs : List Value) × (o ≡ values vs)
+with-values (values vs) e = (vs, refl)
+with-values failure e = failed-values refl e
+with-values overflow e = over-values refl e
 
-no-values : (make : List Value → List Value) (got : List Value) (o : Outcomes) → ¬ (endCode o ≡ 0) → Holds make o got
+no-values : (make : List Value → List Value) (got : List Value) (o : Outcomes) → ¬ (endingOf o ≡ End.Values) → Holds make o got
 no-values make got (values vs) h = absurd (h refl)
 no-values make got failure h = tt
 no-values make got overflow h = tt
@@ -46,25 +50,25 @@ enter-ran : (K : List Value → List ℕ → Evals) (own : List ℕ) (A : Evals)
 unfolding enter
 enter-ran K own A vs e = ap (λ (o : Outcomes). enterOn K own o (A .seg)) e
 
-enter-not : (K : List Value → List ℕ → Evals) (own : List ℕ) (A : Evals) → ¬ (endCode (A .out) ≡ 0) → enter K own A ≡ record { out = A .out; seg = own ++ A .seg }
+enter-not : (K : List Value → List ℕ → Evals) (own : List ℕ) (A : Evals) → ¬ (endingOf (A .out) ≡ End.Values) → enter K own A ≡ record { out = A .out; seg = own ++ A .seg }
 unfolding enter
 enter-not K own A h = go (A .out) h
   where
-    go : (o : Outcomes) → ¬ (endCode o ≡ 0) → enterOn K own o (A .seg) ≡ record { out = o; seg = own ++ A .seg }
+    go : (o : Outcomes) → ¬ (endingOf o ≡ End.Values) → enterOn K own o (A .seg) ≡ record { out = o; seg = own ++ A .seg }
     go (values vs) h = absurd (h refl)
     go failure h = refl
     go overflow h = refl
 
 -- the arguments succeeded, and the callee was called
-pub enter-done : {make : List Value → List Value} {A : Evals} {x m n : ℕ} {s new new₁ newS : List ℕ} {a : Ran} {got got₂ : List Value} {e : ℕ} (K : List Value → List ℕ → Evals) (u : ℕ) → RanTo make A x m (drop n s) a got new₁ → a .end ≡ 0 → ((vs : List Value) → got ≡ make vs → Did asIs (K vs (take n s)) e got₂ newS) → new ≡ s → u ≡ n → n ≤ length s → RanTo asIs (enter K (take n s) A) x (n + m) s (record { end = e; next = a .next; used = u + a .used }) got₂ (newS ++ drop u (putTail u new new₁))
+pub enter-done : {make : List Value → List Value} {A : Evals} {x m n : ℕ} {s new new₁ newS : List ℕ} {a : Ran} {got got₂ : List Value} {e : Ending} (K : List Value → List ℕ → Evals) (u : ℕ) → RanTo make A x m (drop n s) a got new₁ → a .end ≡ End.Values → ((vs : List Value) → got ≡ make vs → Did asIs (K vs (take n s)) e got₂ newS) → new ≡ s → u ≡ n → n ≤ length s → RanTo asIs (enter K (take n s) A) x (n + m) s (record { end = e; next = a .next; used = u + a .used }) got₂ (newS ++ drop u (putTail u new new₁))
 enter-done {make} {A} {x} {m} {n} {s} {new} {new₁} {newS} {a} {got} {got₂} {e} K u h z k same ue le =
-    let v = zero-values (A .out) (sym (h .end-is) ∙ z) in
+    let v = with-values (A .out) (sym (h .end-is) ∙ z) in
     let vs = v .0 in
     let d : Did asIs (K vs (take n s)) e got₂ newS = k vs (subst (λ (o : Outcomes). Holds make o got) (v .1) (h .values-are)) in
     let E = enter-ran K (take n s) A vs (v .1) in
     let b : drop u (putTail u new new₁) ≡ A .seg ++ drop (n + m) s = drop-put u new new₁ (omega (arith, ap length same)) ∙ h .state ∙ ap (λ (l : List ℕ). A .seg ++ l) (drop-drop m n s) in
     record {
-      end-is = d .end-is ∙ ap (λ (w : Evals). endCode (w .out)) (sym E);
+      end-is = d .end-is ∙ ap (λ (w : Evals). endingOf (w .out)) (sym E);
       next-is = h .next-is;
       used-is = (λ j. ue j + h .used-is j);
       values-are = subst (λ (w : Evals). Holds asIs (w .out) got₂) (sym E) (d .values-are);
@@ -72,12 +76,12 @@ enter-done {make} {A} {x} {m} {n} {s} {new} {new₁} {newS} {a} {got} {got₂} {
     }
 
 -- an argument failed or overflowed
-pub enter-stop : {make : List Value → List Value} {A : Evals} {x m n : ℕ} {s new new₁ : List ℕ} {a : Ran} {got : List Value} (got₂ : List Value) (K : List Value → List ℕ → Evals) (u : ℕ) → RanTo make A x m (drop n s) a got new₁ → ¬ (a .end ≡ 0) → new ≡ s → u ≡ n → RanTo asIs (enter K (take n s) A) x (n + m) s (record { end = a .end; next = a .next; used = u + a .used }) got₂ (putTail u new new₁)
+pub enter-stop : {make : List Value → List Value} {A : Evals} {x m n : ℕ} {s new new₁ : List ℕ} {a : Ran} {got : List Value} (got₂ : List Value) (K : List Value → List ℕ → Evals) (u : ℕ) → RanTo make A x m (drop n s) a got new₁ → ¬ (a .end ≡ End.Values) → new ≡ s → u ≡ n → RanTo asIs (enter K (take n s) A) x (n + m) s (record { end = a .end; next = a .next; used = u + a .used }) got₂ (putTail u new new₁)
 enter-stop {make} {A} {x} {m} {n} {s} {new} {new₁} {a} {got} got₂ K u h z same ue =
-    let no : ¬ (endCode (A .out) ≡ 0) = λ e. z (h .end-is ∙ e) in
+    let no : ¬ (endingOf (A .out) ≡ End.Values) = λ e. z (h .end-is ∙ e) in
     let E = enter-not K (take n s) A no in
     record {
-      end-is = h .end-is ∙ ap (λ (w : Evals). endCode (w .out)) (sym E);
+      end-is = h .end-is ∙ ap (λ (w : Evals). endingOf (w .out)) (sym E);
       next-is = h .next-is;
       used-is = (λ j. ue j + h .used-is j);
       values-are = subst (λ (w : Evals). Holds asIs (w .out) got₂) (sym E) (no-values asIs got₂ (A .out) no);
@@ -220,12 +224,12 @@ module _ {file tab rows consts : List ℕ} {level at node : ℕ} {cells before o
         subst (λ (m : ℕ). RanTo (fitAll (nodeIn file k .inputs)) (allIn file consts (level - 1) n (at + 3) node first cells before (take more (drop own old))) (endsAt file (level - 1) n (at + 3)) more (drop own old) a (valuesOf m callee) new₁) call-arity
         (subst (λ (s : List ℕ). RanTo (fitAll (nodeIn file k .inputs)) (allIn file consts (level - 1) n (at + 3) node first cells before (take more s)) (endsAt file (level - 1) n (at + 3)) more s a (valuesOf n callee) new₁) (tail-all u old ∙ ap (λ (m : ℕ). drop m old) (e ∙ call-size)) h)
 
-    pub call-done : (u : ℕ) → u ≡ rowAt rows k 6 → {a : Ran} (callee₁ callee₂ : List ℕ) {new₁ newS : List ℕ} {e : ℕ} → AllTo file consts true k n (level - 1) (at + 3) node first cells before (tailOf u old) a callee₁ new₁ → a .end ≡ 0 → SiteTo file consts k callee₁ (take u old) e callee₂ newS → EntersTo file consts level at node first cells before old (record { end = e; next = a .next; used = u + a .used }) callee₂ (newS ++ drop u (putTail u new new₁))
+    pub call-done : (u : ℕ) → u ≡ rowAt rows k 6 → {a : Ran} (callee₁ callee₂ : List ℕ) {new₁ newS : List ℕ} {e : Ending} → AllTo file consts true k n (level - 1) (at + 3) node first cells before (tailOf u old) a callee₁ new₁ → a .end ≡ End.Values → SiteTo file consts k callee₁ (take u old) e callee₂ newS → EntersTo file consts level at node first cells before old (record { end = e; next = a .next; used = u + a .used }) callee₂ (newS ++ drop u (putTail u new new₁))
     call-done u e {a} callee₁ callee₂ {new₁} {newS} {e = end} h z s =
         let y = e ∙ call-size in
         enters-as callee₂ (enter-done (calls (globalsIn file consts) k) u (args-moved u e callee₁ h) z (subst (λ (m : ℕ). SiteTo file consts k callee₁ (take m old) end callee₂ newS) y s) (p .same) y (omega (arith, call-room)))
 
-    pub call-stop : (u : ℕ) → u ≡ rowAt rows k 6 → {a : Ran} (callee₁ : List ℕ) {new₁ : List ℕ} → AllTo file consts true k n (level - 1) (at + 3) node first cells before (tailOf u old) a callee₁ new₁ → ¬ (a .end ≡ 0) → EntersTo file consts level at node first cells before old (record { end = a .end; next = a .next; used = u + a .used }) callee₁ (putTail u new new₁)
+    pub call-stop : (u : ℕ) → u ≡ rowAt rows k 6 → {a : Ran} (callee₁ : List ℕ) {new₁ : List ℕ} → AllTo file consts true k n (level - 1) (at + 3) node first cells before (tailOf u old) a callee₁ new₁ → ¬ (a .end ≡ End.Values) → EntersTo file consts level at node first cells before old (record { end = a .end; next = a .next; used = u + a .used }) callee₁ (putTail u new new₁)
     call-stop u e {a} callee₁ {new₁} h z =
         enters-as callee₁ (enter-stop (outputsAt file k callee₁) (calls (globalsIn file consts) k) u (args-moved u e callee₁ h) z (p .same) (e ∙ call-size))
 
@@ -251,7 +255,7 @@ module _ {file tab rows consts : List ℕ} {level at node : ℕ} {cells before o
         subst (λ (x : Eval). Meets x (endAt file level at) (segAt file level at) old (record { out = o; next = r .next; used = r .used }) new′) (sym (single-is (take (segAt file level at) old)))
         (record { out = s (w .out) left; next-is = h .next-is; used-is = h .used-is; state = h .state })
       where
-        leaves : (os : Outcomes) (e m : ℕ) (c : List ℕ) → e ≡ endCode os → Holds asIs os (valuesOf m c) → Leaves os e m c
+        leaves : (os : Outcomes) (e : Ending) (m : ℕ) (c : List ℕ) → e ≡ endingOf os → Holds asIs os (valuesOf m c) → Leaves os e m c
         leaves (values vs) e m c x y = (x, y)
         leaves failure e m c x y = x
         leaves overflow e m c x y = x

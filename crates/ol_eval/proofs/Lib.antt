@@ -6,6 +6,7 @@ pub mod Calling
 pub mod Constant
 pub mod Copying
 pub mod Depth
+pub mod Endings
 pub mod Equating
 pub mod Evals
 pub mod MainCycle

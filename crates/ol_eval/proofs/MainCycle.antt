@@ -11,7 +11,7 @@ use Rattle.ol_spec.specs.Cell.{cells, valuesOf}
 use Rattle.ol_spec.specs.Order.{order}
 use Rattle.ol_spec.specs.Eval.{Globals}
 use Rattle.ol_spec.specs.Step.{Run, finished, failedAt, overflowedAt, globals, ownSize, instanceSize, isFresh, calls, run, runAll, split}
-use Rattle.ol_spec.specs.Step.{Ended as Ending}
+use Rattle.ol_spec.specs.Step.{Ended as RunEnd}
 use Rattle.ol_spec.specs.Admission.{constantNames, headSize, stateSize}
 use Rattle.ol_spec.specs.State.{globalsOf}
 use Rattle.ol_spec.specs.Cycle.{endOn, endRun, mainRun}
@@ -28,8 +28,11 @@ use Rattle.ol_state.proofs.Instances.{few-nodes, variables-told, row-of}
 use Rattle.ol_eval.specs.Nodes.{Running}
 use Rattle.ol_eval.specs.Calls.{Runnable, RunMeets, RunTo, runIn, EndsAs}
 use Rattle.ol_eval.specs.MainCycle.{recordRun, RecordReady, RecordRan, RunReady, Cycles, CyclesTo}
+use Rattle.ol_eval.specs.Outcomes.{endingNumber}
 use Rattle.ol_eval.specs.declared.cycle.Ended.{Ended}
+use Rattle.ol_eval.specs.declared.outcomes.Ending.the-variants as End
 use Rattle.ol_tables.proofs.Lending.{tailOf, putTail, tail-all, put-tail, take-put, drop-put, length-put}
+use Rattle.ol_eval.proofs.Endings.{failed-values, over-values, over-failed}
 use Rattle.ol_eval.proofs.Storing.{values-copied}
 
 -- the main node is the last
@@ -70,33 +73,33 @@ main-run file consts k vs inputs old e g =
 
 module _ (f : File) (old vals : List ℕ) (U : Run) (r : Ended) (got : List Value) (segs : List ℕ) (m : RunMeets U r got segs) where
   -- a finished run is answered
-  pub ended-finished : (new vals′ : List ℕ) → r .end ≡ 0 → new ≡ take (headSize f) old ++ (1 ∷ cells got ++ segs) → vals′ ≡ cells got → Cycles (endRun f old vals U) Cyc.Answered new vals′
+  pub ended-finished : (new vals′ : List ℕ) → r .end ≡ End.Values → new ≡ take (headSize f) old ++ (1 ∷ cells got ++ segs) → vals′ ≡ cells got → Cycles (endRun f old vals U) Cyc.Answered new vals′
   ended-finished new vals′ z w v = go (U .end) (m .ends) (m .cells-are)
     where
-      go : (e : Ending) → EndsAs e r → (e ≡ finished → got ≡ U .cells) → Cycles (endOn f old vals e (U .cells) (U .segs)) Cyc.Answered new vals′
+      go : (e : RunEnd) → EndsAs e r → (e ≡ finished → got ≡ U .cells) → Cycles (endOn f old vals e (U .cells) (U .segs)) Cyc.Answered new vals′
       go finished s c =
           record { answered = refl; renewed = w ∙ (λ j. take (headSize f) old ++ (1 ∷ cells (c refl j) ++ m .state j)); valued = v ∙ ap cells (c refl) }
-      go (failedAt i) s c = absurd (omega (arith, s .0))
-      go (overflowedAt i) s c = absurd (omega (arith, s .0))
+      go (failedAt i) s c = failed-values (s .0) z
+      go (overflowedAt i) s c = over-values (s .0) z
 
   -- a failed one stops with 18: the main cells stay, the instances are moved
-  pub ended-failed : (new : List ℕ) → r .end ≡ 1 → new ≡ take (headSize f + ownSize (main f)) old ++ segs → Cycles (endRun f old vals U) (Cyc.Stopped (faultAt 18 (r .index))) new vals
+  pub ended-failed : (new : List ℕ) → r .end ≡ End.Failed → new ≡ take (headSize f + ownSize (main f)) old ++ segs → Cycles (endRun f old vals U) (Cyc.Stopped (faultAt (endingNumber End.Failed) (r .index))) new vals
   ended-failed new z w = go (U .end) (m .ends)
     where
-      go : (e : Ending) → EndsAs e r → Cycles (endOn f old vals e (U .cells) (U .segs)) (Cyc.Stopped (faultAt 18 (r .index))) new vals
-      go finished s = absurd (omega (arith, s))
+      go : (e : RunEnd) → EndsAs e r → Cycles (endOn f old vals e (U .cells) (U .segs)) (Cyc.Stopped (faultAt (endingNumber End.Failed) (r .index))) new vals
+      go finished s = failed-values z s
       go (failedAt i) s =
-          record { answered = ap (λ (j : ℕ). Cyc.Stopped (faultAt 18 j)) (s .1); renewed = w ∙ ap (λ (x : List ℕ). take (headSize f + ownSize (main f)) old ++ x) (m .state); valued = refl }
-      go (overflowedAt i) s = absurd (omega (arith, s .0))
+          record { answered = ap (λ (j : ℕ). Cyc.Stopped (faultAt (endingNumber End.Failed) j)) (s .1); renewed = w ∙ ap (λ (x : List ℕ). take (headSize f + ownSize (main f)) old ++ x) (m .state); valued = refl }
+      go (overflowedAt i) s = over-failed (s .0) z
 
   -- one that overflowed stops with 19: the state is the old one
-  pub ended-overflowed : (new : List ℕ) → ¬ (r .end ≡ 0) → ¬ (r .end ≡ 1) → new ≡ old → Cycles (endRun f old vals U) (Cyc.Stopped (faultAt 19 (r .index))) new vals
-  ended-overflowed new y z w = go (U .end) (m .ends)
+  pub ended-overflowed : (new : List ℕ) → r .end ≡ End.Overflowed → new ≡ old → Cycles (endRun f old vals U) (Cyc.Stopped (faultAt (endingNumber End.Overflowed) (r .index))) new vals
+  ended-overflowed new z w = go (U .end) (m .ends)
     where
-      go : (e : Ending) → EndsAs e r → Cycles (endOn f old vals e (U .cells) (U .segs)) (Cyc.Stopped (faultAt 19 (r .index))) new vals
-      go finished s = absurd (y s)
-      go (failedAt i) s = absurd (z (s .0))
-      go (overflowedAt i) s = record { answered = ap (λ (j : ℕ). Cyc.Stopped (faultAt 19 j)) (s .1); renewed = w; valued = refl }
+      go : (e : RunEnd) → EndsAs e r → Cycles (endOn f old vals e (U .cells) (U .segs)) (Cyc.Stopped (faultAt (endingNumber End.Overflowed) (r .index))) new vals
+      go finished s = over-values z s
+      go (failedAt i) s = over-failed z (s .0)
+      go (overflowedAt i) s = record { answered = ap (λ (j : ℕ). Cyc.Stopped (faultAt (endingNumber End.Overflowed) j)) (s .1); renewed = w; valued = refl }
 
 -- ---- the bytes of a record
 
@@ -280,7 +283,7 @@ module _ {file tab rows consts old inputs new vals : List ℕ} {k : ℕ} (h : Ru
         let d : drop (9 * n) vals ≡ [] = drop-of-length-le vals {i = 9 * n} (omega (arith, h .told, p)) in
         w ∙ (λ j. cells (valuesOf (p j) cells′) ++ d j) ∙ append-nil (cells got)
 
-    pub cycle-finished : (n : ℕ) (y vals′ : List ℕ) → n ≡ rowAt rows k 4 → r .end ≡ 0 → y ≡ 1 ∷ cells (valuesOf n cells′) ++ drop (1 + 9 * n) (tailOf H (putTail H copied x)) → vals′ ≡ cells (valuesOf n cells′) ++ drop (9 * n) vals
+    pub cycle-finished : (n : ℕ) (y vals′ : List ℕ) → n ≡ rowAt rows k 4 → r .end ≡ End.Values → y ≡ 1 ∷ cells (valuesOf n cells′) ++ drop (1 + 9 * n) (tailOf H (putTail H copied x)) → vals′ ≡ cells (valuesOf n cells′) ++ drop (9 * n) vals
         → (vs : List Value) → CyclesTo file consts vs old inputs vals Cyc.Answered (putTail H (putTail H copied x) y) vals′
     cycle-finished n y vals′ e z w v =
         ended Cyc.Answered (putTail H (putTail H copied x) y) vals′ (ended-finished f old vals U r got (drop own x) (m .ran) (putTail H (putTail H copied x) y) vals′ z (written-anew n y e w) (values-told n vals′ e v))
@@ -296,8 +299,8 @@ module _ {file tab rows consts old inputs new vals : List ℕ} {k : ℕ} (h : Ru
         ∙ ap (λ (l : List ℕ). l ++ D) (sym (take-add (headSize f) own old))
         ∙ ap (λ (q : Node). take (headSize f + ownSize q) old ++ D) (sym (main-is file k (h .last)))
 
-    pub cycle-failed : r .end ≡ 1 → (vs : List Value) → CyclesTo file consts vs old inputs vals (Cyc.Stopped (faultAt 18 (r .index))) (putTail H copied x) vals
-    cycle-failed z = ended (Cyc.Stopped (faultAt 18 (r .index))) (putTail H copied x) vals (ended-failed f old vals U r got (drop own x) (m .ran) (putTail H copied x) z cells-stay)
+    pub cycle-failed : r .end ≡ End.Failed → (vs : List Value) → CyclesTo file consts vs old inputs vals (Cyc.Stopped (faultAt (endingNumber End.Failed) (r .index))) (putTail H copied x) vals
+    cycle-failed z = ended (Cyc.Stopped (faultAt (endingNumber End.Failed) (r .index))) (putTail H copied x) vals (ended-failed f old vals U r got (drop own x) (m .ran) (putTail H copied x) z cells-stay)
 
-    pub cycle-overflowed : (new′ : List ℕ) → ¬ (r .end ≡ 0) → ¬ (r .end ≡ 1) → new′ ≡ old → (vs : List Value) → CyclesTo file consts vs old inputs vals (Cyc.Stopped (faultAt 19 (r .index))) new′ vals
-    cycle-overflowed new′ y z w = ended (Cyc.Stopped (faultAt 19 (r .index))) new′ vals (ended-overflowed f old vals U r got (drop own x) (m .ran) new′ y z w)
+    pub cycle-overflowed : (new′ : List ℕ) → r .end ≡ End.Overflowed → new′ ≡ old → (vs : List Value) → CyclesTo file consts vs old inputs vals (Cyc.Stopped (faultAt (endingNumber End.Overflowed) (r .index))) new′ vals
+    cycle-overflowed new′ z w = ended (Cyc.Stopped (faultAt (endingNumber End.Overflowed) (r .index))) new′ vals (ended-overflowed f old vals U r got (drop own x) (m .ran) new′ z w)

@@ -27,9 +27,12 @@ use Rattle.ol_eval.specs.Walk.{nodesIn, sizesIn, Below}
 use Rattle.ol_eval.specs.Plans.{evalIn, globalsIn, scopeIn, widthIn, namesIn, constantsIn, segsAt, segAt}
 use Rattle.ol_eval.specs.Post.{Ready, EvalsTo}
 use Rattle.ol_eval.specs.Nodes.{EquationPlan, Running, Enters}
-use Rattle.ol_eval.specs.Calls.{passedAll, endCode, Holds, asIs, Did, Passes, AllTo, allIn, rhsEval, EntersTo, EquationReady, RhsReady, EquationTo}
+use Rattle.ol_eval.specs.Calls.{passedAll, Holds, asIs, Did, Passes, AllTo, allIn, rhsEval, EntersTo, EquationReady, RhsReady, EquationTo}
 use Rattle.ol_eval.specs.Equations.{countIn, placeIn, rhsIn, equationIn}
-use Rattle.ol_eval.specs.Stores.{cellsIn, Storable, StoresOut, endOf, Assignable, Assigns}
+use Rattle.ol_eval.specs.Stores.{cellsIn, Storable, StoresOut, Assignable, Assigns}
+use Rattle.ol_eval.specs.Outcomes.{endingOf}
+use Rattle.ol_eval.specs.declared.outcomes.Ending.{Ending}
+use Rattle.ol_eval.specs.declared.outcomes.Ending.the-variants as End
 use Rattle.ol_eval.specs.declared.cycle.Step.{Step}
 use Rattle.ol_eval.specs.declared.cycle.Ran.{Ran}
 use Rattle.ol_eval.proofs.Passing.{callees-one}
@@ -194,23 +197,18 @@ module _ {file tab rows consts : List ℕ} {k i at : ℕ} {cells before old new 
       by-form file (λ c x. ¬ (c ≡ 11) → ¬ (c ≡ 12) → rhsOf x ≡ one x) (λ b n m. refl) (λ j n m. refl) (λ b n m. refl) (λ c n m. refl) (λ x n m. refl) (λ op x n m. refl) (λ op l r n m. refl)
       (λ c t x n m. refl) (λ x n m. refl) (λ a b n m. refl) (λ t x n m. refl) (λ c es n m. absurd (n refl)) (λ es n m. absurd (m refl)) 24 rhs (subst (Reads file 24) (sym e) reads) n m
 
-  pub one-done : (first : Bool) (rhs end : ℕ) (cells′ : List ℕ) {new′ : List ℕ} {r : Step} → rhs ≡ rhsIn file k i → ¬ (getD file rhs 0 ≡ 11) → ¬ (getD file rhs 0 ≡ 12) → EvalsTo file consts 24 rhs k first cells before old r new′
-      → end ≡ endOf (r .out) → StoresOut tab k (at + 1) (r .out) cells cells′ → EquationTo file consts k i first cells before old end cells′ new′
+  pub one-done : (first : Bool) (rhs : ℕ) (end : Ending) (cells′ : List ℕ) {new′ : List ℕ} {r : Step} → rhs ≡ rhsIn file k i → ¬ (getD file rhs 0 ≡ 11) → ¬ (getD file rhs 0 ≡ 12) → EvalsTo file consts 24 rhs k first cells before old r new′
+      → end ≡ endingOf (several (r .out)) → StoresOut tab k (at + 1) (r .out) cells cells′ → EquationTo file consts k i first cells before old end cells′ new′
   one-done first rhs end cells′ {new′} {r} e n m h d s =
       let G = evalIn file consts k first cells before (exprAt file 24 rhs) (take (segAt file 24 rhs) old) in
       let w : severalEval G ≡ W first = ap (λ (x : Rhs). evalRhs (globalsIn file consts) (scopeIn file k first cells before) (calls (globalsIn file consts)) x (take (segAt file 24 rhs) old)) (sym (right-one rhs e n m)) ∙ right-eval first rhs e in
       subst (λ (x : Evals). Did (λ vs. assign (nodeIn file k) (equationIn file k i .names) vs (valuesOf (widthIn file k) cells)) x end (valuesOf (widthIn file k) cells′) new′) w
       (record {
-        end-is = d ∙ ap endOf (h .out) ∙ code (G .out);
+        end-is = d ∙ ap (λ (o : Outcome). endingOf (several o)) (h .out);
         values-are = go (G .out) (h .out);
         state = no-rest first (ap (segAt file 24) e ∙ seg-is) (h .state);
       })
     where
-      code : (o : Outcome) → endOf o ≡ endCode (several o)
-      code (Out.Value v) = refl
-      code Out.Failure = refl
-      code Out.Overflow = refl
-
       go : (o : Outcome) → r .out ≡ o → Holds (λ vs. assign (nodeIn file k) (equationIn file k i .names) vs (valuesOf (widthIn file k) cells)) (several o) (valuesOf (widthIn file k) cells′)
       go (Out.Value v) f =
           let x = getD (equationIn file k i .names) 0 0 in
@@ -225,24 +223,24 @@ module _ {file tab rows consts : List ℕ} {k i at : ℕ} {cells before old new 
   -- ---- several values: a call's outputs, a Tuple's items
 
   -- all are there
-  pub several-done : (first : Bool) (W′ : Evals) (end m total : ℕ) (from cells′ new′ : List ℕ) → W′ ≡ W first → end ≡ 0 → end ≡ endCode (W′ .out) → Holds asIs (W′ .out) (valuesOf total from) → new′ ≡ W′ .seg
-      → m ≡ min (length (equationIn file k i .names)) total → Assigns tab k (at + 1) m m from cells cells′ → EquationTo file consts k i first cells before old 0 cells′ new′
+  pub several-done : (first : Bool) (W′ : Evals) (end : Ending) (m total : ℕ) (from cells′ new′ : List ℕ) → W′ ≡ W first → end ≡ End.Values → end ≡ endingOf (W′ .out) → Holds asIs (W′ .out) (valuesOf total from) → new′ ≡ W′ .seg
+      → m ≡ min (length (equationIn file k i .names)) total → Assigns tab k (at + 1) m m from cells cells′ → EquationTo file consts k i first cells before old End.Values cells′ new′
   several-done first W′ end m total from cells′ new′ w z e h s c a =
-      subst (λ (x : Evals). Did (λ vs. assign (nodeIn file k) (equationIn file k i .names) vs (valuesOf (widthIn file k) cells)) x 0 (valuesOf (widthIn file k) cells′) new′) w
+      subst (λ (x : Evals). Did (λ vs. assign (nodeIn file k) (equationIn file k i .names) vs (valuesOf (widthIn file k) cells)) x End.Values (valuesOf (widthIn file k) cells′) new′) w
       (record { end-is = sym z ∙ e; values-are = go (W′ .out) h (sym z ∙ e); state = s })
     where
-      go : (o : Outcomes) → Holds asIs o (valuesOf total from) → 0 ≡ endCode o → Holds (λ vs. assign (nodeIn file k) (equationIn file k i .names) vs (valuesOf (widthIn file k) cells)) o (valuesOf (widthIn file k) cells′)
+      go : (o : Outcomes) → Holds asIs o (valuesOf total from) → End.Values ≡ endingOf o → Holds (λ vs. assign (nodeIn file k) (equationIn file k i .names) vs (valuesOf (widthIn file k) cells)) o (valuesOf (widthIn file k) cells′)
       go (values vs) h n = values-assigned m total from cells′ vs c h a
       go failure h n = tt
       go overflow h n = tt
 
   -- one failed or overflowed
-  pub several-stops : (first : Bool) (W′ : Evals) (end : ℕ) (cells′ new′ : List ℕ) → W′ ≡ W first → ¬ (end ≡ 0) → end ≡ endCode (W′ .out) → new′ ≡ W′ .seg → EquationTo file consts k i first cells before old end cells′ new′
+  pub several-stops : (first : Bool) (W′ : Evals) (end : Ending) (cells′ new′ : List ℕ) → W′ ≡ W first → ¬ (end ≡ End.Values) → end ≡ endingOf (W′ .out) → new′ ≡ W′ .seg → EquationTo file consts k i first cells before old end cells′ new′
   several-stops first W′ end cells′ new′ w z e s =
       subst (λ (x : Evals). Did (λ vs. assign (nodeIn file k) (equationIn file k i .names) vs (valuesOf (widthIn file k) cells)) x end (valuesOf (widthIn file k) cells′) new′) w
       (record { end-is = e; values-are = go (W′ .out) e; state = s })
     where
-      go : (o : Outcomes) → end ≡ endCode o → Holds (λ vs. assign (nodeIn file k) (equationIn file k i .names) vs (valuesOf (widthIn file k) cells)) o (valuesOf (widthIn file k) cells′)
+      go : (o : Outcomes) → end ≡ endingOf o → Holds (λ vs. assign (nodeIn file k) (equationIn file k i .names) vs (valuesOf (widthIn file k) cells)) o (valuesOf (widthIn file k) cells′)
       go (values vs) n = absurd (z n)
       go failure n = tt
       go overflow n = tt
@@ -273,16 +271,16 @@ module _ {file tab rows consts : List ℕ} {k i at : ℕ} {cells before old new 
           outputs = ap (λ (x : ℕ). rowAt rows x 3) e ∙ t .outputs;
         }
 
-    pub call-done : (first : Bool) (m : ℕ) (callee cells′ : List ℕ) {new′ : List ℕ} {r : Ran} → RhsReady file k i rhs n 11 → EntersTo file consts 24 rhs k first cells before old r callee new′ → r .end ≡ 0
+    pub call-done : (first : Bool) (m : ℕ) (callee cells′ : List ℕ) {new′ : List ℕ} {r : Ran} → RhsReady file k i rhs n 11 → EntersTo file consts 24 rhs k first cells before old r callee new′ → r .end ≡ End.Values
         → m ≡ min n (length (nodeIn file (getD file (rhs + 1) 0) .outputs)) → (from : List ℕ) → from ≡ drop (9 * length (nodeIn file (getD file (rhs + 1) 0) .inputs)) callee
-        → Assigns tab k (at + 1) m m from cells cells′ → EquationTo file consts k i first cells before old 0 cells′ new′
+        → Assigns tab k (at + 1) m m from cells cells′ → EquationTo file consts k i first cells before old End.Values cells′ new′
     call-done first m callee cells′ {new′} {r} p h z c from f a =
         let G = rhsEval file consts 24 rhs k first cells before (take (segAt file 24 rhs) old) in
         let t = length (nodeIn file (getD file (rhs + 1) 0) .outputs) in
         several-done first G (r .end) m t from cells′ new′ (right-eval first rhs (p .place)) z (h .end-is)
         (subst (λ (l : List ℕ). Holds asIs (G .out) (valuesOf t l)) (sym f) (h .values-are)) (no-rest first (ap (segAt file 24) (p .place) ∙ seg-is) (h .state)) (c ∙ ap (λ (x : ℕ). min x t) (p .count)) a
 
-    pub call-stops : (first : Bool) (callee cells′ : List ℕ) {new′ : List ℕ} {r : Ran} → RhsReady file k i rhs n 11 → EntersTo file consts 24 rhs k first cells before old r callee new′ → ¬ (r .end ≡ 0) → EquationTo file consts k i first cells before old (r .end) cells′ new′
+    pub call-stops : (first : Bool) (callee cells′ : List ℕ) {new′ : List ℕ} {r : Ran} → RhsReady file k i rhs n 11 → EntersTo file consts 24 rhs k first cells before old r callee new′ → ¬ (r .end ≡ End.Values) → EquationTo file consts k i first cells before old (r .end) cells′ new′
     call-stops first callee cells′ {new′} {r} p h z =
         several-stops first (rhsEval file consts 24 rhs k first cells before (take (segAt file 24 rhs) old)) (r .end) cells′ new′ (right-eval first rhs (p .place)) z (h .end-is)
         (no-rest first (ap (segAt file 24) (p .place) ∙ seg-is) (h .state))
@@ -320,8 +318,8 @@ module _ {file tab rows consts : List ℕ} {k i at : ℕ} {cells before old new 
         let r = subst (λ (x : ℕ). ReadsAll file 24 1 x) (sym (p .place)) (plan .plan .reads) in
         ap (λ (c : ℕ). segsAt file 23 c (rhs + 2)) e ∙ sym (segs-form file r t refl) ∙ segs-one file 24 rhs r ∙ ap (segAt file 24) (p .place) ∙ seg-is
 
-    pub tuple-done : (first : Bool) (count m : ℕ) (to cells′ : List ℕ) {new′ : List ℕ} {r : Ran} → RhsReady file k i rhs n 12 → count ≡ getD file (rhs + 1) 0 → AllTo file consts false 0 count 23 (rhs + 2) k first cells before old r to new′ → r .end ≡ 0
-        → m ≡ min n count → Assigns tab k (at + 1) m m to cells cells′ → EquationTo file consts k i first cells before old 0 cells′ new′
+    pub tuple-done : (first : Bool) (count m : ℕ) (to cells′ : List ℕ) {new′ : List ℕ} {r : Ran} → RhsReady file k i rhs n 12 → count ≡ getD file (rhs + 1) 0 → AllTo file consts false 0 count 23 (rhs + 2) k first cells before old r to new′ → r .end ≡ End.Values
+        → m ≡ min n count → Assigns tab k (at + 1) m m to cells cells′ → EquationTo file consts k i first cells before old End.Values cells′ new′
     tuple-done first count m to cells′ {new′} {r} p e h z c a =
         let G = allIn file consts 23 count (rhs + 2) k first cells before (take (segsAt file 23 count (rhs + 2)) old) in
         several-done first G (r .end) m count to cells′ new′ (tuple-eval first p count e) z (h .end-is)
@@ -332,7 +330,7 @@ module _ {file tab rows consts : List ℕ} {k i at : ℕ} {cells before old new 
         plain failure h = tt
         plain overflow h = tt
 
-    pub tuple-stops : (first : Bool) (count : ℕ) (to cells′ : List ℕ) {new′ : List ℕ} {r : Ran} → RhsReady file k i rhs n 12 → count ≡ getD file (rhs + 1) 0 → AllTo file consts false 0 count 23 (rhs + 2) k first cells before old r to new′ → ¬ (r .end ≡ 0)
+    pub tuple-stops : (first : Bool) (count : ℕ) (to cells′ : List ℕ) {new′ : List ℕ} {r : Ran} → RhsReady file k i rhs n 12 → count ≡ getD file (rhs + 1) 0 → AllTo file consts false 0 count 23 (rhs + 2) k first cells before old r to new′ → ¬ (r .end ≡ End.Values)
         → EquationTo file consts k i first cells before old (r .end) cells′ new′
     tuple-stops first count to cells′ {new′} {r} p e h z =
         several-stops first (allIn file consts 23 count (rhs + 2) k first cells before (take (segsAt file 23 count (rhs + 2)) old)) (r .end) cells′ new′ (tuple-eval first p count e) z (h .end-is)

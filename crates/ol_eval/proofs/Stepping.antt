@@ -15,7 +15,7 @@ use Rattle.ol_spec.specs.Types.{defaultOf, defaults}
 use Rattle.ol_spec.specs.Order.{order}
 use Rattle.ol_spec.specs.Eval.{Globals, Evals, callees, sitesSize, sizeIn, segSize}
 use Rattle.ol_spec.specs.Step.{equationSites, sites, ownSize, isFresh, oldCells, split, outputsIn, fitAll, Run, finished, failedAt, overflowedAt, noEquation, equationAt, runAll, run, freshBy, freshAt, freshRecord, globals, leaveOn, leave, instance, callBy, calls}
-use Rattle.ol_spec.specs.Step.{Ended as Ending}
+use Rattle.ol_spec.specs.Step.{Ended as RunEnd}
 use Rattle.ol_spec.specs.State.{globalsOf}
 use Rattle.ol_spec.specs.Admission.{mayCall, badCall, constantNames}
 use Rattle.ol_spec.specs.declared.Value.{Value}
@@ -33,7 +33,10 @@ use Rattle.ol_eval.specs.Equations.{countIn, equationIn, rhsIn}
 use Rattle.ol_eval.specs.Nodes.{Running}
 use Rattle.ol_eval.specs.Calls.{asIs, Did, outputsAt, Steppable, SiteTo, Runnable, runIn, EndsAs, RunMeets, RunTo}
 use Rattle.ol_eval.specs.declared.cycle.Ended.{Ended}
+use Rattle.ol_eval.specs.declared.outcomes.Ending.{Ending}
+use Rattle.ol_eval.specs.declared.outcomes.Ending.the-variants as End
 use Rattle.ol_tables.proofs.Lending.{tailOf, putTail, tail-all, put-tail, drop-put, length-put}
+use Rattle.ol_eval.proofs.Endings.{failed-values, over-values, over-failed}
 use Rattle.ol_eval.proofs.Planning.{sound-call, sounds-each}
 use Rattle.ol_eval.proofs.Passing.{callees-one}
 use Rattle.ol_eval.proofs.Depth.{calls-of, fresh-of}
@@ -138,33 +141,33 @@ module _ {file tab rows consts : List ℕ} (ready : Running file tab rows consts
 
 module _ (g : Globals) (n : Node) where
   -- a finished run
-  pub left-finished : (old : List ℕ) (U : Run) (r : Ended) (got outs : List Value) (segs new : List ℕ) → RunMeets U r got segs → r .end ≡ 0 → outs ≡ outputsIn n got → new ≡ 1 ∷ cellBytes got ++ segs → Did asIs (leave g n old U) 0 outs new
+  pub left-finished : (old : List ℕ) (U : Run) (r : Ended) (got outs : List Value) (segs new : List ℕ) → RunMeets U r got segs → r .end ≡ End.Values → outs ≡ outputsIn n got → new ≡ 1 ∷ cellBytes got ++ segs → Did asIs (leave g n old U) End.Values outs new
   unfolding leave
   left-finished old U r got outs segs new m z o w = go (U .end) (m .ends) (m .cells-are)
     where
-      go : (e : Ending) → EndsAs e r → (e ≡ finished → got ≡ U .cells) → Did asIs (leaveOn g n old e (U .cells) (U .segs)) 0 outs new
+      go : (e : RunEnd) → EndsAs e r → (e ≡ finished → got ≡ U .cells) → Did asIs (leaveOn g n old e (U .cells) (U .segs)) End.Values outs new
       go finished s c = record { end-is = refl; values-are = o ∙ ap (outputsIn n) (c refl); state = w ∙ (λ j. 1 ∷ cellBytes (c refl j) ++ m .state j) }
-      go (failedAt i) s c = absurd (omega (arith, s .0))
-      go (overflowedAt i) s c = absurd (omega (arith, s .0))
+      go (failedAt i) s c = failed-values (s .0) z
+      go (overflowedAt i) s c = over-values (s .0) z
 
   -- a failed one
-  pub left-failed : (old : List ℕ) (U : Run) (r : Ended) (got outs : List Value) (segs new : List ℕ) → RunMeets U r got segs → r .end ≡ 1 → new ≡ freshRecord g n → Did asIs (leave g n old U) 1 outs new
+  pub left-failed : (old : List ℕ) (U : Run) (r : Ended) (got outs : List Value) (segs new : List ℕ) → RunMeets U r got segs → r .end ≡ End.Failed → new ≡ freshRecord g n → Did asIs (leave g n old U) End.Failed outs new
   unfolding leave
   left-failed old U r got outs segs new m z w = go (U .end) (m .ends)
     where
-      go : (e : Ending) → EndsAs e r → Did asIs (leaveOn g n old e (U .cells) (U .segs)) 1 outs new
-      go finished s = absurd (omega (arith, s))
+      go : (e : RunEnd) → EndsAs e r → Did asIs (leaveOn g n old e (U .cells) (U .segs)) End.Failed outs new
+      go finished s = failed-values z s
       go (failedAt i) s = record { end-is = refl; values-are = tt; state = w }
-      go (overflowedAt i) s = absurd (omega (arith, s .0))
+      go (overflowedAt i) s = over-failed (s .0) z
 
   -- one that overflowed
-  pub left-overflowed : (old : List ℕ) (U : Run) (r : Ended) (got outs : List Value) (segs new : List ℕ) → RunMeets U r got segs → ¬ (r .end ≡ 0) → ¬ (r .end ≡ 1) → new ≡ old → Did asIs (leave g n old U) 2 outs new
+  pub left-overflowed : (old : List ℕ) (U : Run) (r : Ended) (got outs : List Value) (segs new : List ℕ) → RunMeets U r got segs → r .end ≡ End.Overflowed → new ≡ old → Did asIs (leave g n old U) End.Overflowed outs new
   unfolding leave
-  left-overflowed old U r got outs segs new m y z w = go (U .end) (m .ends)
+  left-overflowed old U r got outs segs new m z w = go (U .end) (m .ends)
     where
-      go : (e : Ending) → EndsAs e r → Did asIs (leaveOn g n old e (U .cells) (U .segs)) 2 outs new
-      go finished s = absurd (y s)
-      go (failedAt i) s = absurd (z (s .0))
+      go : (e : RunEnd) → EndsAs e r → Did asIs (leaveOn g n old e (U .cells) (U .segs)) End.Overflowed outs new
+      go finished s = over-values z s
+      go (failedAt i) s = over-failed z (s .0)
       go (overflowedAt i) s = record { end-is = refl; values-are = tt; state = w }
 
   -- a Function's, on a record that is not kept
@@ -172,7 +175,7 @@ module _ (g : Globals) (n : Node) where
   unfolding leave
   left-function fresh old U r got outs segs new m o w = go (U .end) (m .ends) (m .cells-are)
     where
-      go : (e : Ending) → EndsAs e r → (e ≡ finished → got ≡ U .cells) → Did asIs (record { out = leaveOn g n fresh e (U .cells) (U .segs) .out; seg = old }) (r .end) outs new
+      go : (e : RunEnd) → EndsAs e r → (e ≡ finished → got ≡ U .cells) → Did asIs (record { out = leaveOn g n fresh e (U .cells) (U .segs) .out; seg = old }) (r .end) outs new
       go finished s c = record { end-is = s; values-are = o ∙ ap (outputsIn n) (c refl); state = w }
       go (failedAt i) s c = record { end-is = s .0; values-are = tt; state = w }
       go (overflowedAt i) s c = record { end-is = s .0; values-are = tt; state = w }
@@ -331,29 +334,29 @@ module _ {file tab rows consts callee old new : List ℕ} {k : ℕ} {first : Boo
   unfolding instance
   meant vs e = ap (leave glob node old) (runs-as vs e) ∙ sym (operator-call (h .site .running) k vs old (h .site .below) (h .operator))
 
-  ended : (end : ℕ) (cells′ new′ : List ℕ) → Did asIs (leave glob node old ran) end (outputsAt file k cells′) new′ → SiteTo file consts k callee old end cells′ new′
+  ended : (end : Ending) (cells′ new′ : List ℕ) → Did asIs (leave glob node old ran) end (outputsAt file k cells′) new′ → SiteTo file consts k callee old end cells′ new′
   ended end cells′ new′ d vs e = subst (λ (w : Evals). Did asIs w end (outputsAt file k cells′) new′) (meant vs e) d
 
   -- it finished
-  pub instance-finished : (r : Ended) (cells′ x y : List ℕ) → RunTo file consts k first cells (tailOf 1 old) (tailOf (1 + 9 * n) old) r cells′ x → r .end ≡ 0
-      → y ≡ cellBytes (valuesOf n cells′) ++ drop (9 * n) (tailOf 1 (set (putTail (1 + 9 * n) new x) 0 1)) → SiteTo file consts k callee old 0 cells′ (putTail 1 (set (putTail (1 + 9 * n) new x) 0 1) y)
+  pub instance-finished : (r : Ended) (cells′ x y : List ℕ) → RunTo file consts k first cells (tailOf 1 old) (tailOf (1 + 9 * n) old) r cells′ x → r .end ≡ End.Values
+      → y ≡ cellBytes (valuesOf n cells′) ++ drop (9 * n) (tailOf 1 (set (putTail (1 + 9 * n) new x) 0 1)) → SiteTo file consts k callee old End.Values cells′ (putTail 1 (set (putTail (1 + 9 * n) new x) 0 1) y)
   instance-finished r cells′ x y m z w =
       let s = h .site in
       let p = record-written (1 + 9 * n) n new x y (valuesOf n cells′) refl (own-new s n (h .operator) (h .width)) w ∙ ap (λ (q : ℕ). 1 ∷ cellBytes (valuesOf q cells′) ++ x) (width-is s n (h .width)) in
-      ended 0 cells′ (putTail 1 (set (putTail (1 + 9 * n) new x) 0 1) y) (left-finished glob node old ran r (valuesOf (widthIn file k) cells′) (outputsAt file k cells′) x _ m z (outputs-among node cells′) p)
+      ended End.Values cells′ (putTail 1 (set (putTail (1 + 9 * n) new x) 0 1) y) (left-finished glob node old ran r (valuesOf (widthIn file k) cells′) (outputsAt file k cells′) x _ m z (outputs-among node cells′) p)
 
   -- it failed
-  pub instance-failed : (r : Ended) (cells′ x new′ : List ℕ) → RunTo file consts k first cells (tailOf 1 old) (tailOf (1 + 9 * n) old) r cells′ x → r .end ≡ 1
-      → ((vs : List Value) → new′ ≡ freshAt (globalsOf (fileAt file) vs) (nodesIn file) k) → SiteTo file consts k callee old 1 cells′ new′
+  pub instance-failed : (r : Ended) (cells′ x new′ : List ℕ) → RunTo file consts k first cells (tailOf 1 old) (tailOf (1 + 9 * n) old) r cells′ x → r .end ≡ End.Failed
+      → ((vs : List Value) → new′ ≡ freshAt (globalsOf (fileAt file) vs) (nodesIn file) k) → SiteTo file consts k callee old End.Failed cells′ new′
   instance-failed r cells′ x new′ m z w =
       let s = h .site in
       let f = w (valuesOf (knownIn consts) consts) ∙ ap (λ (u : Globals). freshAt u (nodesIn file) k) (sym (all-known (s .running))) ∙ fresh-here (s .running) k (s .below) (h .operator) in
-      ended 1 cells′ new′ (left-failed glob node old ran r (valuesOf (widthIn file k) cells′) (outputsAt file k cells′) x new′ m z f)
+      ended End.Failed cells′ new′ (left-failed glob node old ran r (valuesOf (widthIn file k) cells′) (outputsAt file k cells′) x new′ m z f)
 
   -- it overflowed
-  pub instance-overflowed : (r : Ended) (cells′ x new′ : List ℕ) → RunTo file consts k first cells (tailOf 1 old) (tailOf (1 + 9 * n) old) r cells′ x → ¬ (r .end ≡ 0) → ¬ (r .end ≡ 1) → new′ ≡ old → SiteTo file consts k callee old 2 cells′ new′
-  instance-overflowed r cells′ x new′ m y z w =
-      ended 2 cells′ new′ (left-overflowed glob node old ran r (valuesOf (widthIn file k) cells′) (outputsAt file k cells′) x new′ m y z w)
+  pub instance-overflowed : (r : Ended) (cells′ x new′ : List ℕ) → RunTo file consts k first cells (tailOf 1 old) (tailOf (1 + 9 * n) old) r cells′ x → r .end ≡ End.Overflowed → new′ ≡ old → SiteTo file consts k callee old End.Overflowed cells′ new′
+  instance-overflowed r cells′ x new′ m z w =
+      ended End.Overflowed cells′ new′ (left-overflowed glob node old ran r (valuesOf (widthIn file k) cells′) (outputsAt file k cells′) x new′ m z w)
 
 -- ---- a call of a Function
 

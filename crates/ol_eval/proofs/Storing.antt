@@ -22,6 +22,9 @@ use Rattle.ol_tables.specs.At.{nodeIn}
 use Rattle.ol_tables.specs.Tables.{slotsFrom, slotAt, slotBy, codeAt, enumAt, HasSlot}
 use Rattle.ol_eval.specs.Walk.{nodesIn}
 use Rattle.ol_eval.specs.Plans.{Program}
+use Rattle.ol_eval.specs.declared.outcomes.Ending.{Ending}
+use Rattle.ol_eval.specs.declared.outcomes.Ending.the-variants as End
+use Rattle.ol_eval.proofs.Endings.{failed-values, over-values, over-failed}
 use Rattle.ol_eval.specs.Stores.{passedBy, cellsIn, Typed, Storable, Stores, StoresOut, Assignable, Assigns, Leaves}
 use Rattle.ol_eval.proofs.Copying.{values-snoc}
 use Rattle.ol_eval.proofs.Naming.{position-in, length-names}
@@ -232,24 +235,24 @@ assign-storable i now a l e = record { inside = omega (arith, a .inside); node =
 -- ---- the value of a call
 
 -- it has one output
-pub one-output : (os : Outcomes) (end : ℕ) (v : Value) (cells : List ℕ) → end ≡ 0 → v ≡ valueOf (take 9 cells) → Leaves os end 1 cells → Out.Value v ≡ single os
+pub one-output : (os : Outcomes) (end : Ending) (v : Value) (cells : List ℕ) → end ≡ End.Values → v ≡ valueOf (take 9 cells) → Leaves os end 1 cells → Out.Value v ≡ single os
 one-output (values vs) end v cells e w h = ap Out.Value w ∙ ap (λ (us : List Value). single (values us)) (h .1)
-one-output failure end v cells e w h = absurd (omega arith)
-one-output overflow end v cells e w h = absurd (omega arith)
+one-output failure end v cells e w h = failed-values h e
+one-output overflow end v cells e w h = over-values h e
 
-pub other-outputs : (os : Outcomes) (end n : ℕ) (cells : List ℕ) → end ≡ 0 → ¬ (n ≡ 1) → Leaves os end n cells → Out.Failure ≡ single os
+pub other-outputs : (os : Outcomes) (end : Ending) (n : ℕ) (cells : List ℕ) → end ≡ End.Values → ¬ (n ≡ 1) → Leaves os end n cells → Out.Failure ≡ single os
 other-outputs (values []) end n cells e w h = refl
 other-outputs (values (v ∷ [])) end n cells e w h = absurd (w (sym (length-values n cells) ∙ ap length (h .1)))
 other-outputs (values (v ∷ u ∷ vs)) end n cells e w h = refl
-other-outputs failure end n cells e w h = absurd (omega arith)
-other-outputs overflow end n cells e w h = absurd (omega arith)
+other-outputs failure end n cells e w h = failed-values h e
+other-outputs overflow end n cells e w h = over-values h e
 
-pub failed-call : (os : Outcomes) (end n : ℕ) (cells : List ℕ) → end ≡ 1 → Leaves os end n cells → Out.Failure ≡ single os
-failed-call (values vs) end n cells e h = absurd (omega (arith, h .0))
+pub failed-call : (os : Outcomes) (end : Ending) (n : ℕ) (cells : List ℕ) → end ≡ End.Failed → Leaves os end n cells → Out.Failure ≡ single os
+failed-call (values vs) end n cells e h = failed-values e (h .0)
 failed-call failure end n cells e h = refl
-failed-call overflow end n cells e h = absurd (omega arith)
+failed-call overflow end n cells e h = over-failed h e
 
-pub overflowed-call : (os : Outcomes) (end n : ℕ) (cells : List ℕ) → ¬ (end ≡ 0) → ¬ (end ≡ 1) → Leaves os end n cells → Out.Overflow ≡ single os
-overflowed-call (values vs) end n cells e f h = absurd (e (h .0))
-overflowed-call failure end n cells e f h = absurd (f h)
-overflowed-call overflow end n cells e f h = refl
+pub overflowed-call : (os : Outcomes) (end : Ending) (n : ℕ) (cells : List ℕ) → end ≡ End.Overflowed → Leaves os end n cells → Out.Overflow ≡ single os
+overflowed-call (values vs) end n cells e h = over-values e (h .0)
+overflowed-call failure end n cells e h = over-failed e h
+overflowed-call overflow end n cells e h = refl

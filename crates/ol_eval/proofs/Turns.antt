@@ -10,7 +10,7 @@ use Rattle.ol_spec.specs.Cell.{valuesOf}
 use Rattle.ol_spec.specs.Order.{order}
 use Rattle.ol_spec.specs.Eval.{Evals, Outcomes, values, failure, overflow, callees, calleesAll, sitesSize}
 use Rattle.ol_spec.specs.Step.{sites, assign, finished, failedAt, overflowedAt, evalEquation, calls}
-use Rattle.ol_spec.specs.Step.{Ended as Ending}
+use Rattle.ol_spec.specs.Step.{Ended as RunEnd}
 use Rattle.ol_spec.specs.declared.Value.{Value}
 use Rattle.ol_tables.specs.At.{fileAt, nodeIn, exprsAt}
 use Rattle.ol_tables.specs.Tables.{Each}
@@ -18,8 +18,12 @@ use Rattle.ol_tables.proofs.Forms.{each-map}
 use Rattle.ol_eval.specs.Walk.{nodesIn, sizesIn, Below}
 use Rattle.ol_eval.specs.Plans.{globalsIn, widthIn}
 use Rattle.ol_eval.specs.Nodes.{Running}
-use Rattle.ol_eval.specs.Calls.{endCode, Holds, Did, Runnable, runIn, EndsAs, RunTo, EquationReady, EquationTo}
+use Rattle.ol_eval.specs.Outcomes.{endingOf}
+use Rattle.ol_eval.specs.declared.outcomes.Ending.{Ending}
+use Rattle.ol_eval.specs.declared.outcomes.Ending.the-variants as End
+use Rattle.ol_eval.specs.Calls.{Holds, Did, Runnable, runIn, EndsAs, RunTo, EquationReady, EquationTo}
 use Rattle.ol_eval.specs.Equations.{countIn, rhsIn, equationIn, EquationsStand, EquationsAre, offsetIn}
+use Rattle.ol_eval.proofs.Endings.{failed-values, over-values}
 use Rattle.ol_eval.proofs.Passing.{callees-one}
 use Rattle.ol_eval.proofs.Planning.{sounds-below}
 use Rattle.ol_eval.proofs.Equating.{offset-suc, offset-upto}
@@ -115,7 +119,7 @@ module _ {file tab rows consts : List ℕ} {k : ℕ} (first : Bool) {cells₀ be
     abbrev E : Evals
     E = rightOf (globalsIn file consts) (calls (globalsIn file consts)) (nodeIn file k) first (valuesOf (widthIn file k) before) (valuesOf (widthIn file k) cells) i old
 
-    moved-did : {e : ℕ} {got : List Value} {x : List ℕ} → (make : List Value → List Value)
+    moved-did : {e : Ending} {got : List Value} {x : List ℕ} → (make : List Value → List Value)
         → Did make (evalEquation (globalsIn file consts) (calls (globalsIn file consts)) (nodeIn file k) first (valuesOf (widthIn file k) before) (valuesOf (widthIn file k) cells) i (midOf (getD offsets i 0) (getD offsets (i + 1) 0) old)) e got x → Did make E e got x
     moved-did {e} {got} {x} make d =
         subst (λ (s : List ℕ). Did make (evalEquation (globalsIn file consts) (calls (globalsIn file consts)) (nodeIn file k) first (valuesOf (widthIn file k) before) (valuesOf (widthIn file k) cells) i s) e got x)
@@ -127,7 +131,7 @@ module _ {file tab rows consts : List ℕ} {k : ℕ} (first : Bool) {cells₀ be
         c ∙ length-mid (getD offsets i 0) (getD offsets (i + 1) 0) new (t .0) (omega (arith, t .1, t .2)) ∙ part-size
 
     -- its values are stored: the run goes on
-    pub turn-goes : (e : ℕ) (cells′ x : List ℕ) → e ≡ 0 → length x ≡ length (midOf (getD offsets i 0) (getD offsets (i + 1) 0) new)
+    pub turn-goes : (e : Ending) (cells′ x : List ℕ) → e ≡ End.Values → length x ≡ length (midOf (getD offsets i 0) (getD offsets (i + 1) 0) new)
         → EquationTo file consts k i first cells before (midOf (getD offsets i 0) (getD offsets (i + 1) 0) old) e cells′ x → LeftIn file consts k first cells₀ before old is cells′ (putMid (getD offsets i 0) (getD offsets (i + 1) 0) new x)
     turn-goes e cells′ x z c d =
         subst (λ (s : List ℕ). LeftIn file consts k first cells₀ before old is cells′ s) (sym (put-seg file consts k i (getD offsets i 0) (getD offsets (i + 1) 0) new x index starts ends))
@@ -136,16 +140,16 @@ module _ {file tab rows consts : List ℕ} {k : ℕ} (first : Bool) {cells₀ be
         w : Did (λ vs. assign (nodeIn file k) (equationIn file k i .names) vs (valuesOf (widthIn file k) cells)) E e (valuesOf (widthIn file k) cells′) x
         w = moved-did (λ vs. assign (nodeIn file k) (equationIn file k i .names) vs (valuesOf (widthIn file k) cells)) d
 
-        go : (o : Outcomes) → E .out ≡ o → e ≡ endCode o → Holds (λ vs. assign (nodeIn file k) (equationIn file k i .names) vs (valuesOf (widthIn file k) cells)) o (valuesOf (widthIn file k) cells′)
+        go : (o : Outcomes) → E .out ≡ o → e ≡ endingOf o → Holds (λ vs. assign (nodeIn file k) (equationIn file k i .names) vs (valuesOf (widthIn file k) cells)) o (valuesOf (widthIn file k) cells′)
             → LeftIn file consts k first cells₀ before old is cells′ (putSeg (globalsIn file consts) (nodeIn file k .equations) i new x)
         go (values vs) f n h =
             subst (λ (cs : List Value). Left (globalsIn file consts) (calls (globalsIn file consts)) (nodeIn file k) first (valuesOf (widthIn file k) before) (runIn file consts k first cells₀ before old) is cs old (putSeg (globalsIn file consts) (nodeIn file k .equations) i new x)) (sym h)
             (left-turn l vs x f (w .state) (sized-as x c))
-        go failure f n h = absurd (omega arith)
-        go overflow f n h = absurd (omega arith)
+        go failure f n h = failed-values n z
+        go overflow f n h = over-values n z
 
     -- it fails or overflows: the run ends
-    pub turn-stops : (e : ℕ) (cells′ x : List ℕ) → ¬ (e ≡ 0) → length x ≡ length (midOf (getD offsets i 0) (getD offsets (i + 1) 0) new)
+    pub turn-stops : (e : Ending) (cells′ x : List ℕ) → ¬ (e ≡ End.Values) → length x ≡ length (midOf (getD offsets i 0) (getD offsets (i + 1) 0) new)
         → EquationTo file consts k i first cells before (midOf (getD offsets i 0) (getD offsets (i + 1) 0) old) e cells′ x → RunTo file consts k first cells₀ before old (record { end = e; index = i }) cells′ (putMid (getD offsets i 0) (getD offsets (i + 1) 0) new x)
     turn-stops e cells′ x z c d = go (E .out) refl (w .end-is)
       where
@@ -155,12 +159,12 @@ module _ {file tab rows consts : List ℕ} {k : ℕ} (first : Bool) {cells₀ be
         put : putMid (getD offsets i 0) (getD offsets (i + 1) 0) new x ≡ putSeg (globalsIn file consts) (nodeIn file k .equations) i new x
         put = put-seg file consts k i (getD offsets i 0) (getD offsets (i + 1) 0) new x index starts ends
 
-        go : (o : Outcomes) → E .out ≡ o → e ≡ endCode o → RunTo file consts k first cells₀ before old (record { end = e; index = i }) cells′ (putMid (getD offsets i 0) (getD offsets (i + 1) 0) new x)
+        go : (o : Outcomes) → E .out ≡ o → e ≡ endingOf o → RunTo file consts k first cells₀ before old (record { end = e; index = i }) cells′ (putMid (getD offsets i 0) (getD offsets (i + 1) 0) new x)
         go (values vs) f n = absurd (z n)
         go failure f n =
             let r = left-failed l x f (w .state) (sized-as x c) in
             record {
-              ends = subst (λ (y : Ending). EndsAs y (record { end = e; index = i })) (sym (r .0)) (n, refl);
+              ends = subst (λ (y : RunEnd). EndsAs y (record { end = e; index = i })) (sym (r .0)) (n, refl);
               cells-are = λ h. absurd (no-end (sym (r .0) ∙ h));
               state = put ∙ r .1;
             }
@@ -170,7 +174,7 @@ module _ {file tab rows consts : List ℕ} {k : ℕ} (first : Bool) {cells₀ be
         go overflow f n =
             let r = left-over l x f (w .state) (sized-as x c) in
             record {
-              ends = subst (λ (y : Ending). EndsAs y (record { end = e; index = i })) (sym (r .0)) (n, refl);
+              ends = subst (λ (y : RunEnd). EndsAs y (record { end = e; index = i })) (sym (r .0)) (n, refl);
               cells-are = λ h. absurd (no-end (sym (r .0) ∙ h));
               state = put ∙ r .1;
             }
@@ -179,11 +183,11 @@ module _ {file tab rows consts : List ℕ} {k : ℕ} (first : Bool) {cells₀ be
             no-end h = let y : _≡_ {A = ℕ} 0 1 = cc in omega arith
 
 -- all have run
-pub run-done : (file consts : List ℕ) (k : ℕ) (first : Bool) (cells₀ before old cells new : List ℕ) (j : ℕ) → LeftIn file consts k first cells₀ before old (drop j (order (nodeIn file k .equations))) cells new → length (order (nodeIn file k .equations)) ≤ j → RunTo file consts k first cells₀ before old (record { end = 0; index = 0 }) cells new
+pub run-done : (file consts : List ℕ) (k : ℕ) (first : Bool) (cells₀ before old cells new : List ℕ) (j : ℕ) → LeftIn file consts k first cells₀ before old (drop j (order (nodeIn file k .equations))) cells new → length (order (nodeIn file k .equations)) ≤ j → RunTo file consts k first cells₀ before old (record { end = End.Values; index = 0 }) cells new
 run-done file consts k first cells₀ before old cells new j l h =
     let r = left-done (subst (λ (is : List ℕ). LeftIn file consts k first cells₀ before old is cells new) (drop-of-length-le (order (nodeIn file k .equations)) h) l) in
     record {
-      ends = subst (λ (y : Ending). EndsAs y (record { end = 0; index = 0 })) (sym (r .0)) refl;
+      ends = subst (λ (y : RunEnd). EndsAs y (record { end = End.Values; index = 0 })) (sym (r .0)) refl;
       cells-are = λ _. r .1;
       state = r .2;
     }

@@ -10,7 +10,7 @@ use Rattle.ol_spec.specs.Cell.{valuesOf}
 use Rattle.ol_spec.specs.Order.{order}
 use Rattle.ol_spec.specs.Eval.{Outcomes, values, failure, overflow, Evals, callees, sitesSize, evalAll, evalRhs}
 use Rattle.ol_spec.specs.Step.{sites, fitAll, assign, split, Run, finished, failedAt, overflowedAt, evalEquation, runAll, calls}
-use Rattle.ol_spec.specs.Step.{Ended as Ending}
+use Rattle.ol_spec.specs.Step.{Ended as RunEnd}
 use Rattle.ol_spec.specs.declared.Value.{Value}
 use Rattle.ol_tables.specs.At.{fileAt, nodeIn, exprAt, endAt, exprsAt, endsAt}
 use Rattle.ol_tables.specs.Tables.{siteBytes}
@@ -18,14 +18,11 @@ use Rattle.ol_eval.specs.Walk.{nodesIn, sizesIn}
 use Rattle.ol_eval.specs.Plans.{Cells, globalsIn, widthIn, scopeIn, segsAt, segAt}
 use Rattle.ol_eval.specs.Equations.{countIn, placeIn, equationIn, rhsIn}
 use Rattle.ol_eval.specs.Nodes.{Running}
+use Rattle.ol_eval.specs.Outcomes.{endingOf}
+use Rattle.ol_eval.specs.declared.outcomes.Ending.{Ending}
+use Rattle.ol_eval.specs.declared.outcomes.Ending.the-variants as End
 use Rattle.ol_eval.specs.declared.cycle.Ran.{Ran}
 use Rattle.ol_eval.specs.declared.cycle.Ended.{Ended}
-
--- how an evaluation of several values ends, as a byte
-abbrev pub endCode : Outcomes → ℕ
-endCode (values vs) = 0
-endCode failure = 1
-endCode overflow = 2
 
 -- if there are values, `got` is what is made of them
 abbrev pub Holds : (List Value → List Value) → Outcomes → List Value → Type 0
@@ -38,15 +35,15 @@ asIs vs = vs
 
 -- what evaluating several values gives: how it ended, where the expressions end, the bytes of their records, the values, and the new state
 pub record RanTo (make : List Value → List Value) (want : Evals) (next used : ℕ) (old : List ℕ) (r : Ran) (got : List Value) (new : List ℕ) : Type 0 where
-  pub end-is : r .end ≡ endCode (want .out)
+  pub end-is : r .end ≡ endingOf (want .out)
   pub next-is : r .next ≡ next
   pub used-is : r .used ≡ used
   pub values-are : Holds make (want .out) got
   pub state : new ≡ want .seg ++ drop used old
 
 -- the same on just a segment: how it ended, the values, and the new segment
-pub record Did (make : List Value → List Value) (want : Evals) (end : ℕ) (got : List Value) (new : List ℕ) : Type 0 where
-  pub end-is : end ≡ endCode (want .out)
+pub record Did (make : List Value → List Value) (want : Evals) (end : Ending) (got : List Value) (new : List ℕ) : Type 0 where
+  pub end-is : end ≡ endingOf (want .out)
   pub values-are : Holds make (want .out) got
   pub state : new ≡ want .seg
 
@@ -98,7 +95,7 @@ pub record Steppable (file tab rows consts : List ℕ) (k : ℕ) (callee old new
   pub small : length old ≤ 32768
   pub same : new ≡ old
 
-abbrev pub SiteTo : List ℕ → List ℕ → ℕ → List ℕ → List ℕ → ℕ → List ℕ → List ℕ → Type 0
+abbrev pub SiteTo : List ℕ → List ℕ → ℕ → List ℕ → List ℕ → Ending → List ℕ → List ℕ → Type 0
 SiteTo file consts k callee old end callee′ new =
     (vs : List Value) → valuesOf (length (nodeIn file k .inputs)) callee ≡ fitAll (nodeIn file k .inputs) vs → Did asIs (calls (globalsIn file consts) k vs old) end (outputsAt file k callee′) new
 
@@ -118,11 +115,11 @@ abbrev pub runIn : List ℕ → List ℕ → ℕ → Bool → List ℕ → List 
 runIn file consts k first cells before old =
     runAll (globalsIn file consts) (calls (globalsIn file consts)) (nodeIn file k) first (valuesOf (widthIn file k) before) (order (nodeIn file k .equations)) (valuesOf (widthIn file k) cells) (split (globalsIn file consts) (nodeIn file k .equations) old)
 
--- how a run ended, as a byte, and the equation that ended it
-abbrev pub EndsAs : Ending → Ended → Type 0
-EndsAs finished r = r .end ≡ 0
-EndsAs (failedAt i) r = (r .end ≡ 1) × (r .index ≡ i)
-EndsAs (overflowedAt i) r = (r .end ≡ 2) × (r .index ≡ i)
+-- how a run ended, and the equation that ended it
+abbrev pub EndsAs : RunEnd → Ended → Type 0
+EndsAs finished r = r .end ≡ End.Values
+EndsAs (failedAt i) r = (r .end ≡ End.Failed) × (r .index ≡ i)
+EndsAs (overflowedAt i) r = (r .end ≡ End.Overflowed) × (r .index ≡ i)
 
 pub record RunMeets (want : Run) (r : Ended) (got : List Value) (new : List ℕ) : Type 0 where
   pub ends : EndsAs (want .end) r
@@ -151,7 +148,7 @@ pub record RhsReady (file : List ℕ) (k i rhs n code : ℕ) : Type 0 where
   pub count : n ≡ length (equationIn file k i .names)
   pub code-is : getD file rhs 0 ≡ code
 
-abbrev pub EquationTo : List ℕ → List ℕ → ℕ → ℕ → Bool → List ℕ → List ℕ → List ℕ → ℕ → List ℕ → List ℕ → Type 0
+abbrev pub EquationTo : List ℕ → List ℕ → ℕ → ℕ → Bool → List ℕ → List ℕ → List ℕ → Ending → List ℕ → List ℕ → Type 0
 EquationTo file consts k i first cells before old end cells′ new =
     Did (λ vs. assign (nodeIn file k) (equationIn file k i .names) vs (valuesOf (widthIn file k) cells))
     (evalEquation (globalsIn file consts) (calls (globalsIn file consts)) (nodeIn file k) first (valuesOf (widthIn file k) before) (valuesOf (widthIn file k) cells) i old)

@@ -3,12 +3,27 @@ use Prim.Native.Nat.{ℕ}
 use mathlib.Core.Bool.{Bool, true, false, cond}
 use mathlib.Core.Path.{_≡_}
 use lib.Dec.{eqb}
-use Rattle.ol_spec.specs.Eval.{RealKind, notReal, isSingle, isDouble, kindOfValue, commonReal, thenOut}
+use Rattle.ol_spec.specs.Eval.{RealKind, notReal, isSingle, isDouble, kindOfValue, commonReal, thenOut, Outcomes, values, failure, overflow}
+use Rattle.ol_spec.specs.Answers.{outcomeNumber}
 use Rattle.ol_value.specs.Codes.{binaryBy}
 use Rattle.ol_spec.specs.declared.Value.{Value}
 use Rattle.ol_spec.specs.declared.Value.the-variants as Val
 use Rattle.ol_spec.specs.declared.Outcome.{Outcome}
 use Rattle.ol_spec.specs.declared.Outcome.the-variants as Out
+use Rattle.ol_eval.specs.declared.outcomes.Ending.{Ending}
+use Rattle.ol_eval.specs.declared.outcomes.Ending.the-variants as End
+
+-- how several values end
+abbrev pub endingOf : Outcomes → Ending
+endingOf (values vs) = End.Values
+endingOf failure = End.Failed
+endingOf overflow = End.Overflowed
+
+-- an ending's number is its outcome's
+abbrev pub endingNumber : Ending → ℕ
+endingNumber End.Values = 0
+endingNumber End.Failed = outcomeNumber Out.Failure
+endingNumber End.Overflowed = outcomeNumber Out.Overflow
 
 -- it is a value
 abbrev pub doneOf : Outcome → Bool

@@ -12,9 +12,10 @@ use Rattle.ol_spec.specs.Eval.{Outcomes, values, failure, overflow, several}
 use Rattle.ol_spec.specs.Step.{putAt, assign}
 use Rattle.ol_spec.specs.declared.Value.{Value}
 use Rattle.ol_spec.specs.declared.Outcome.{Outcome}
-use Rattle.ol_spec.specs.declared.Outcome.the-variants as Out
 use Rattle.ol_value.specs.Codes.{tyOf}
 use Rattle.ol_tables.specs.Tables.{slotsFrom, slotAt, codeAt, enumAt, HasSlot}
+use Rattle.ol_eval.specs.declared.outcomes.Ending.{Ending}
+use Rattle.ol_eval.specs.declared.outcomes.Ending.the-variants as End
 
 -- a value as it is passed on: fitted to a type, or as it is
 abbrev pub passedBy : Bool → Ty → Value → Value
@@ -41,12 +42,6 @@ abbrev pub Stores : List ℕ → ℕ → ℕ → Value → List ℕ → List ℕ
 Stores tab k at v old new =
     (n : Node) (x : ℕ) (cs : List ℕ) → Typed tab k n → HasSlot tab (variableNames n) cs (at, x) → cellsIn n new ≡ putAt n (position x (variableNames n)) v (cellsIn n old)
 
--- how an equation ends: 0 with values, 1 at a failure, 2 at an overflow
-abbrev pub endOf : Outcome → ℕ
-endOf (Out.Value v) = 0
-endOf Out.Failure = 1
-endOf Out.Overflow = 2
-
 -- an outcome's value was stored, under the first name
 abbrev pub StoresOut : List ℕ → ℕ → ℕ → Outcome → List ℕ → List ℕ → Type 0
 StoresOut tab k at o old new =
@@ -71,7 +66,7 @@ Assigns tab k at n i from old new =
     (node : Node) (xs cs : List ℕ) → Typed tab k node → n ≤ length xs → Slots tab at n node xs cs → cellsIn node new ≡ assign node xs (valuesOf i from) (cellsIn node old)
 
 -- what a call left: how it ended, and n output values in `cells`
-abbrev pub Leaves : Outcomes → ℕ → ℕ → List ℕ → Type 0
-Leaves (values vs) end n cells = (end ≡ 0) × (valuesOf n cells ≡ vs)
-Leaves failure end n cells = end ≡ 1
-Leaves overflow end n cells = end ≡ 2
+abbrev pub Leaves : Outcomes → Ending → ℕ → List ℕ → Type 0
+Leaves (values vs) end n cells = (end ≡ End.Values) × (valuesOf n cells ≡ vs)
+Leaves failure end n cells = end ≡ End.Failed
+Leaves overflow end n cells = end ≡ End.Overflowed

@@ -4,10 +4,12 @@ ghost use mathlib.Core.List.{_++_};
 ghost use Prim.Native.Nat.{ℕ, _+_, _-_, _*_, _≤_, _<_, min};
 ghost use lib.ListN.{length, take, drop};
 ghost use Rattle.ol_spec.specs.Cell.{cell, cells, valueOf, valuesOf};
-ghost use Rattle.ol_spec.specs.Eval.{Outcomes, single};
+ghost use Rattle.ol_spec.specs.Eval.{Outcomes, single, several};
 ghost use Rattle.ol_value.specs.Codes.{tyOf};
 ghost use Rattle.ol_tables.specs.Tables.{slotsFrom, codeAt};
-ghost use Rattle.ol_eval.specs.Stores.{passedBy, Storable, Stores, endOf, StoresOut, Assignable, Assigns, Leaves};
+ghost use Rattle.ol_eval.specs.Outcomes.{endingOf};
+ghost use Rattle.ol_eval.specs.Stores.{passedBy, Storable, Stores, StoresOut, Assignable, Assigns, Leaves};
+use crate::outcomes::Ending;
 use crate::outcomes::kept;
 use crate::tables::code_of;
 use crate::tables::slot_at;
@@ -80,17 +82,17 @@ fn store(tab: &[u8], k: usize, at: usize, v: Value, cells: &mut [u8])
 }
 
 // Stores an outcome's value, if it has one; answers how the equation ended.
-pub(crate) fn store_out(tab: &[u8], k: usize, at: usize, o: Outcome, cells: &mut [u8]) -> u8
+pub(crate) fn store_out(tab: &[u8], k: usize, at: usize, o: Outcome, cells: &mut [u8]) -> Ending
     requires { ⌜ Storable (now tab) k at (now cells) ⌝ }
-    ensures { λ r. ⌜ (r ≡ endOf o) × StoresOut (now (tab .entry)) k at o (now (cells .entry)) (now (cells .exit)) ⌝ }
+    ensures { λ r. ⌜ (r ≡ endingOf (several o)) × StoresOut (now (tab .entry)) k at o (now (cells .entry)) (now (cells .exit)) ⌝ }
 {
     match o {
         Outcome::Value(v) => {
             store(tab, k, at, kept(v), cells);
-            0
+            Ending::Values
         }
-        Outcome::Failure => 1,
-        Outcome::Overflow => 2,
+        Outcome::Failure => Ending::Failed,
+        Outcome::Overflow => Ending::Overflowed,
     }
 }
 
@@ -109,20 +111,20 @@ pub(crate) fn assign(tab: &[u8], k: usize, at: usize, n: usize, from: &[u8], cel
 }
 
 // The value of a call that ended so and has so many outputs, the first of which is the cell of index i.
-pub(crate) fn single_out(end: u8, outputs: usize, i: usize, cells: &[u8]) -> Outcome
+pub(crate) fn single_out(end: Ending, outputs: usize, i: usize, cells: &[u8]) -> Outcome
     requires { ⌜ (i ≤ 112) × (9 * i + 9 ≤ length (now cells)) ⌝ }
     ensures { λ r. ⌜ ((os : Outcomes) → Leaves os end outputs (drop (9 * i) (now (cells .entry))) → r ≡ single os) ⌝ }
 {
-    if end == 0 {
-        if outputs == 1 {
-            Outcome::Value(read_cell(cells, 9 * i))
-        } else {
-            Outcome::Failure
+    match end {
+        Ending::Values => {
+            if outputs == 1 {
+                Outcome::Value(read_cell(cells, 9 * i))
+            } else {
+                Outcome::Failure
+            }
         }
-    } else if end == 1 {
-        Outcome::Failure
-    } else {
-        Outcome::Overflow
+        Ending::Failed => Outcome::Failure,
+        Ending::Overflowed => Outcome::Overflow,
     }
 }
 

@@ -1,4 +1,9 @@
 // Evaluation of expressions, over the parts of the two states that hold their records, and the running of the nodes that they call.
+// The functions of this file call each other in a cycle, and a number falls at each of these calls: node * 256 + level * 8 + rank.
+// node is the node that runs (`k` where it is called), and a callee comes before its caller; level is the number of levels that
+// an expression may have, at most 24, and counts as 31 where no expression is evaluated yet.
+// The ranks, at an expression's level: enter 1, eval_call 2, eval_form 3, eval 4, eval_first, eval_second and eval_two 5, eval_if 6,
+// eval_all 7; at level 31: call_equation and tuple_equation 0, equation 1, run 2, step_instance and step_function 3, step_site 4.
 ghost use mathlib.Core.Path.{_≡_};
 ghost use mathlib.Core.Bool.{true, false};
 ghost use Prim.Native.Nat.{_+_, _<_};
@@ -21,6 +26,7 @@ use crate::equations::equations;
 use crate::names::chosen;
 use crate::names::leaf_out;
 use crate::names::present;
+use crate::outcomes::Ending;
 use crate::outcomes::binary_out;
 use crate::outcomes::cast_out;
 use crate::outcomes::done;
@@ -54,16 +60,16 @@ pub(crate) struct Step {
     pub(crate) used: usize,
 }
 
-// What evaluating several expressions, or a call, gives: how it ended (0 with values, 1 at a failure, 2 at an overflow), where they end, and the bytes of their records.
+// What evaluating several expressions, or a call, gives: how it ended, where they end, and the bytes of their records.
 pub(crate) struct Ran {
-    pub(crate) end: u8,
+    pub(crate) end: Ending,
     pub(crate) next: usize,
     pub(crate) used: usize,
 }
 
-// How a run of a node's equations ended, likewise, and the equation that ended it.
+// How a run of a node's equations ended, and the equation that ended it.
 pub(crate) struct Ended {
-    pub(crate) end: u8,
+    pub(crate) end: Ending,
     pub(crate) index: usize,
 }
 
@@ -616,8 +622,9 @@ fn eval_call(
     let k = number(file[p]);
     let outputs = row(rows, k, OUTPUTS);
     let inputs = row(rows, k, INPUTS);
+    let end = r.end;
     Step {
-        out: single_out(r.end, outputs, inputs, &callee),
+        out: single_out(end, outputs, inputs, &callee),
         next: r.next,
         used: r.used,
     }
@@ -667,7 +674,7 @@ fn enter(
     );
     let used = size + a.used;
     let end = a.end;
-    if end == 0 {
+    if let Ending::Values = end {
         let e = step_site(
             file,
             tab,
@@ -743,7 +750,7 @@ fn eval_all(
             Outcome::Failure => {
                 let s = pass_all(file, rows, pos, level, n - i - 1);
                 return Ran {
-                    end: 1,
+                    end: Ending::Failed,
                     next: s.next,
                     used: used + s.used,
                 };
@@ -751,7 +758,7 @@ fn eval_all(
             Outcome::Overflow => {
                 let s = pass_all(file, rows, pos, level, n - i - 1);
                 return Ran {
-                    end: 2,
+                    end: Ending::Overflowed,
                     next: s.next,
                     used: used + s.used,
                 };
@@ -760,7 +767,7 @@ fn eval_all(
         i += 1;
     }
     Ran {
-        end: 0,
+        end: Ending::Values,
         next: pos,
         used: used,
     }
@@ -776,7 +783,7 @@ fn step_site(
     callee: &mut [u8],
     old: &[u8],
     new: &mut [u8],
-) -> u8
+) -> Ending
     requires { ⌜ Steppable (now file) (now tab) (now rows) (now consts) k (now callee) (now old) (now new) ⌝ }
     ensures { λ r. ⌜ SiteTo (now (file .entry)) (now (consts .entry)) k (now (callee .entry)) (now (old .entry)) r (now (callee .exit)) (now (new .exit)) ⌝ }
 {
@@ -798,7 +805,7 @@ fn step_instance(
     callee: &mut [u8],
     old: &[u8],
     new: &mut [u8],
-) -> u8
+) -> Ending
     requires { ⌜ Steppable (now file) (now tab) (now rows) (now consts) k (now callee) (now old) (now new) × (nodeIn (now file) k .kind ≡ Operator) ⌝ }
     ensures { λ r. ⌜ SiteTo (now (file .entry)) (now (consts .entry)) k (now (callee .entry)) (now (old .entry)) r (now (callee .exit)) (now (new .exit)) ⌝ }
 {
@@ -820,16 +827,20 @@ fn step_instance(
         &mut new[own..],
     );
     let end = r.end;
-    if end == 0 {
-        new[0] = 1;
-        write_cells(n, callee, &mut new[1..]);
-        0
-    } else if end == 1 {
-        write_fresh(file, tab, rows, k, new);
-        1
-    } else {
-        copy(old, new);
-        2
+    match end {
+        Ending::Values => {
+            new[0] = 1;
+            write_cells(n, callee, &mut new[1..]);
+            Ending::Values
+        }
+        Ending::Failed => {
+            write_fresh(file, tab, rows, k, new);
+            Ending::Failed
+        }
+        Ending::Overflowed => {
+            copy(old, new);
+            Ending::Overflowed
+        }
     }
 }
 
@@ -843,7 +854,7 @@ fn step_function(
     callee: &mut [u8],
     old: &[u8],
     new: &mut [u8],
-) -> u8
+) -> Ending
     requires { ⌜ Steppable (now file) (now tab) (now rows) (now consts) k (now callee) (now old) (now new) × (nodeIn (now file) k .kind ≡ Function) ⌝ }
     ensures { λ r. ⌜ SiteTo (now (file .entry)) (now (consts .entry)) k (now (callee .entry)) (now (old .entry)) r (now (callee .exit)) (now (new .exit)) ⌝ }
 {
@@ -897,12 +908,15 @@ pub(crate) fn run(
             &old[a..b],
             &mut new[a..b],
         );
-        if e != 0 {
+        let Ending::Values = e else {
             return Ended { end: e, index: i };
-        }
+        };
         j += 1;
     }
-    Ended { end: 0, index: 0 }
+    Ended {
+        end: Ending::Values,
+        index: 0,
+    }
 }
 
 // Equation i of node, which stands at `at`: its right side is evaluated, and its values are stored.
@@ -919,7 +933,7 @@ fn equation(
     before: &[u8],
     old: &[u8],
     new: &mut [u8],
-) -> u8
+) -> Ending
     requires { ⌜ EquationReady (now file) (now tab) (now rows) (now consts) node i at (now cells) (now before) (now old) (now new) ⌝ }
     ensures { λ r. ⌜ EquationTo (now (file .entry)) (now (consts .entry)) node i first (now (cells .entry)) (now (before .entry)) (now (old .entry)) r (now (cells .exit)) (now (new .exit)) ⌝ }
 {
@@ -996,7 +1010,7 @@ fn call_equation(
     before: &[u8],
     old: &[u8],
     new: &mut [u8],
-) -> u8
+) -> Ending
     requires { ⌜ EquationReady (now file) (now tab) (now rows) (now consts) node i at (now cells) (now before) (now old) (now new) × RhsReady (now file) node i rhs n 11 ⌝ }
     ensures { λ r. ⌜ EquationTo (now (file .entry)) (now (consts .entry)) node i first (now (cells .entry)) (now (before .entry)) (now (old .entry)) r (now (cells .exit)) (now (new .exit)) ⌝ }
 {
@@ -1017,14 +1031,14 @@ fn call_equation(
         new,
     );
     let end = r.end;
-    if end == 0 {
+    if let Ending::Values = end {
         let p = rhs + 1;
         let k = number(file[p]);
         let outputs = row(rows, k, OUTPUTS);
         let from = 9 * row(rows, k, INPUTS);
         let m = less(n, outputs);
         assign(tab, node, at + 1, m, &callee[from..], cells);
-        0
+        Ending::Values
     } else {
         end
     }
@@ -1046,7 +1060,7 @@ fn tuple_equation(
     before: &[u8],
     old: &[u8],
     new: &mut [u8],
-) -> u8
+) -> Ending
     requires { ⌜ EquationReady (now file) (now tab) (now rows) (now consts) node i at (now cells) (now before) (now old) (now new) × RhsReady (now file) node i rhs n 12 ⌝ }
     ensures { λ r. ⌜ EquationTo (now (file .entry)) (now (consts .entry)) node i first (now (cells .entry)) (now (before .entry)) (now (old .entry)) r (now (cells .exit)) (now (new .exit)) ⌝ }
 {
@@ -1072,10 +1086,10 @@ fn tuple_equation(
         new,
     );
     let end = r.end;
-    if end == 0 {
+    if let Ending::Values = end {
         let m = less(n, count);
         assign(tab, node, at + 1, m, &items, cells);
-        0
+        Ending::Values
     } else {
         end
     }

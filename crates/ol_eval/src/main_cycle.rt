@@ -4,6 +4,7 @@ use crate::copies::copy_cells;
 use crate::copies::write_cells;
 use crate::cycle::Ended;
 use crate::cycle::run;
+use crate::outcomes::Ending;
 use crate::tables::row;
 use ol_spec::Cycled;
 use ol_spec::Fault;
@@ -103,14 +104,16 @@ pub fn run_main(
     );
     let end = r.end;
     let place = r.index;
-    if end == 0 {
-        finish(n, &present, &mut new[head..]);
-        write_cells(n, &present, values);
-        Cycled::Answered
-    } else if end == 1 {
-        Cycled::Stopped(Fault { number: 18, place })
-    } else {
-        copy(old, new);
-        Cycled::Stopped(Fault { number: 19, place })
+    match end {
+        Ending::Values => {
+            finish(n, &present, &mut new[head..]);
+            write_cells(n, &present, values);
+            Cycled::Answered
+        }
+        Ending::Failed => Cycled::Stopped(Fault { number: 18, place }),
+        Ending::Overflowed => {
+            copy(old, new);
+            Cycled::Stopped(Fault { number: 19, place })
+        }
     }
 }

@@ -15,6 +15,13 @@ use ol_value::operators::eval_binary;
 use ol_value::operators::eval_unary;
 use ol_value::types::cast_value;
 
+// How several expressions, a call, an equation or a run of equations end: with values, at a failure, at an overflow.
+pub(crate) enum Ending {
+    Values,
+    Failed,
+    Overflowed,
+}
+
 // A value, made again from its parts (it is then moved part by part, which is fast); it is had back from its cell.
 pub(crate) fn kept(v: Value) -> Value
     ensures { λ r. ⌜ (r ≡ v) × (valueOf (cell v) ≡ v) ⌝ }

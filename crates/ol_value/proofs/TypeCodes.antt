@@ -1,5 +1,5 @@
 -- Types by their codes: the cases of a code, and what fitting, casting and the tests of inputs make of each.
-use mathlib.Core.Path.{_≡_, refl, sym, ap}
+use mathlib.Core.Path.{_≡_, refl, sym, ap, _∙_}
 use mathlib.Core.Bool.{Bool, true, false, not, _&&_, _||_}
 use mathlib.Core.List.{List, [], _∷_}
 use mathlib.Core.Option.{Option, none, some}
@@ -18,8 +18,10 @@ use Rattle.ol_spec.specs.Cell.{tag, isVariant}
 use Rattle.ol_spec.specs.declared.Value.{Value}
 use Rattle.ol_spec.specs.declared.Value.the-variants as Val
 use Rattle.ol_spec.specs.declared.Outcome.the-variants as Out
-use Rattle.ol_value.specs.Codes.{tyFrom, tyOf, isNumber, nameIn, inKind}
+use Rattle.ol_value.specs.declared.narrowing.TypeRow.{TypeRow}
+use Rattle.ol_value.specs.Codes.{rowSays, rowFor, tyFrom, tyOf, isNumber, nameIn, inKind}
 use Rattle.ol_value.proofs.Backs.{no-true}
+use Rattle.ol_value.proofs.Widths.{no-some, rangeless}
 
 -- the cases of a code
 by-code : (P : ℕ → TyCode → Type 0) → P 0 boolT → ((c : ℕ) → 1 ≤ c → c ≤ 8 → P c (intT c)) → P 9 float32T → P 10 float64T → P 11 charT → ((c : ℕ) → 12 ≤ c → P c enumT) → (code : ℕ) → P code (getD tyCodes code enumT)
@@ -45,13 +47,6 @@ int-code code e =
     (λ l h. absurd (omega arith)) (λ c p q l h. refl) (λ l h. absurd (omega arith)) (λ l h. absurd (omega arith)) (λ l h. absurd (omega arith)) (λ c p l h. absurd (omega arith))
     code
 
--- an enum's code
-pub enum-code : (code e : ℕ) → 9 ≤ code → (code ≡ 9 → ⊥) → (code ≡ 10 → ⊥) → (code ≡ 11 → ⊥) → tyOf code e ≡ enum e
-enum-code code e =
-    by-code (λ c t. 9 ≤ c → (c ≡ 9 → ⊥) → (c ≡ 10 → ⊥) → (c ≡ 11 → ⊥) → tyFrom e t ≡ enum e)
-    (λ l f d k. absurd (omega arith)) (λ c p q l f d k. absurd (omega arith)) (λ l f d k. absurd (f refl)) (λ l f d k. absurd (d refl)) (λ l f d k. absurd (k refl)) (λ c p l f d k. refl)
-    code
-
 -- the types that fitting leaves alone and casting refuses
 abbrev Other : Ty → Type 0
 Other bool = Unit {0}
@@ -61,15 +56,21 @@ Other float64 = ⊥
 Other char = Unit {0}
 Other (enum e) = Unit {0}
 
-pub low-code : (code e : ℕ) → code < 1 → Other (tyOf code e)
-low-code zero e h = tt
-low-code (suc code) e h = absurd (omega (arith, h))
-
-pub high-code : (code e : ℕ) → 9 ≤ code → (code ≡ 9 → ⊥) → (code ≡ 10 → ⊥) → Other (tyOf code e)
-high-code code e =
-    by-code (λ c t. 9 ≤ c → (c ≡ 9 → ⊥) → (c ≡ 10 → ⊥) → Other (tyFrom e t))
-    (λ l f d. tt) (λ c p q l f d. omega arith) (λ l f d. f refl) (λ l f d. d refl) (λ l f d. tt) (λ c p l f d. tt)
+-- by the row of a code: it does not narrow, and the type is no real
+pub other-code : (t : TypeRow) (code e : ℕ) → rowSays t ≡ rowFor (tyOf code e) → t .narrows ≡ false → (code ≡ 9 → ⊥) → (code ≡ 10 → ⊥) → Other (tyOf code e)
+other-code t code e =
+    by-code (λ c ty. rowSays t ≡ rowFor (tyFrom e ty) → t .narrows ≡ false → (c ≡ 9 → ⊥) → (c ≡ 10 → ⊥) → Other (tyFrom e ty))
+    (λ h s f d. tt) (λ c p q h s f d. no-true (sym s ∙ ap (λ r. r .1) h)) (λ h s f d. f refl) (λ h s f d. d refl) (λ h s f d. tt) (λ c p h s f d. tt)
     code
+
+-- it has no width, and the type is no Bool and no real: it is an enum
+pub enum-code : (t : TypeRow) (code e : ℕ) → rowSays t ≡ rowFor (tyOf code e) → t .bits ≡ 0 → (code ≡ 0 → ⊥) → (code ≡ 9 → ⊥) → (code ≡ 10 → ⊥) → tyOf code e ≡ enum e
+enum-code t code e h z = go code (rangeless t (tyOf code e) h z)
+  where
+    go : (code : ℕ) → rowFor (tyOf code e) .0 ≡ none → (code ≡ 0 → ⊥) → (code ≡ 9 → ⊥) → (code ≡ 10 → ⊥) → tyOf code e ≡ enum e
+    go =
+        by-code (λ c ty. rowFor (tyFrom e ty) .0 ≡ none → (c ≡ 0 → ⊥) → (c ≡ 9 → ⊥) → (c ≡ 10 → ⊥) → tyFrom e ty ≡ enum e)
+        (λ r b f d. absurd (b refl)) (λ c p q r b f d. no-some (sym r)) (λ r b f d. absurd (f refl)) (λ r b f d. absurd (d refl)) (λ r b f d. no-some (sym r)) (λ c p r b f d. refl)
 
 pub fit-other : (t : Ty) (v : Value) → Other t → v ≡ fit t v
 unfolding fit
@@ -152,16 +153,6 @@ module _ (e : ℕ) where
   enum-in v =
       by-code (λ c t. leb 12 c ≡ inKind (tyFrom e t) (Val.Enum v))
       refl (λ c p q. lt-leb 12 c (omega arith)) refl refl refl (λ c p. le-leb 12 c p)
-
-  -- no integer is in another type's range
-  pub low-int : (code : ℕ) → code < 1 → (i : ℤ) → false ≡ inKind (tyOf code e) (Val.Int i)
-  low-int zero h i = refl
-  low-int (suc code) h i = absurd (omega (arith, h))
-
-  pub high-int : (code : ℕ) → 9 ≤ code → (code ≡ 11 → ⊥) → (i : ℤ) → false ≡ inKind (tyOf code e) (Val.Int i)
-  high-int =
-      by-code (λ c t. 9 ≤ c → (c ≡ 11 → ⊥) → (i : ℤ) → false ≡ inKind (tyFrom e t) (Val.Int i))
-      (λ l k i. absurd (omega arith)) (λ c p q l k i. absurd (omega arith)) (λ l k i. refl) (λ l k i. refl) (λ l k i. absurd (k refl)) (λ c p l k i. refl)
 
 -- what is left of `inType` where `in_type` has answered: an enum's name is one of its variants
 pub in-type-is : (enums : List (List ℕ)) (code e : ℕ) (v : Value) → inType enums (tyOf code e) v ≡ inKind (tyOf code e) v && isVariant (getD enums e []) v

@@ -2,6 +2,7 @@
 use Prim.Native.Nat.{ℕ, _<_, _≤_}
 use mathlib.Core.Bool.{Bool, true, false, cond}
 use mathlib.Core.List.{[]}
+use mathlib.Core.Option.{Option, none, some}
 use lib.Dec.{eqb}
 use lib.ListN.{getD, getElem?}
 use Rattle.ol_spec.specs.Lists.{maybe}
@@ -15,15 +16,28 @@ use Rattle.ol_spec.specs.declared.Value.{Value}
 use Rattle.ol_spec.specs.declared.Value.the-variants as Val
 use Rattle.ol_spec.specs.declared.Outcome.{Outcome}
 use Rattle.ol_spec.specs.declared.Outcome.the-variants as Out
-use Rattle.ol_value.specs.declared.narrowing.IntType.{IntType}
+use Rattle.ol_value.specs.declared.narrowing.TypeRow.{TypeRow}
 use Rattle.ol_value.specs.declared.pairs.Operands.{Operands}
 use Rattle.ol_value.specs.declared.pairs.Operands.the-variants as Opd
 
--- ---- integer types
+-- ---- what the types make of integers
 
--- what an entry of the table says; 64 bits leave the number
-abbrev pub intTyOf : IntType → IntTy
+-- a row's width and sign; 64 bits leave the number
+abbrev pub intTyOf : TypeRow → IntTy
 intTyOf t = cond (eqb (t .bits) 64) whole (cond (t .signed) (signedTo (t .bits)) (unsignedTo (t .bits)))
+
+-- what a row says: the range of the integers that the type holds, if it holds any, and whether storing and casting narrow to it
+abbrev pub rowSays : TypeRow → Option IntTy × Bool
+rowSays t = (cond (eqb (t .bits) 0) none (some (intTyOf t)), t .narrows)
+
+-- the same of a type: a Char is 0 to 255, and is not narrowed
+abbrev pub rowFor : Ty → Option IntTy × Bool
+rowFor bool = (none, false)
+rowFor (int c) = (some (intTy c), true)
+rowFor float32 = (none, false)
+rowFor float64 = (none, false)
+rowFor char = (some (unsignedTo 8), false)
+rowFor (enum e) = (none, false)
 
 -- the widths that narrow: 1 to 32 bits
 abbrev pub Narrow : IntTy → Type 0

@@ -1,69 +1,101 @@
-// The widths and signs of integer types: one table by type code, used by narrowing and by the ranges
-// of inputs.
+// What each type makes of integers: one table by type code, read by narrowing, fitting, casting, defaults and the
+// ranges of inputs.
 ghost use mathlib.Core.Path.{_≡_};
-ghost use Prim.Native.Nat.{_<_, _≤_, _^_};
+ghost use Prim.Native.Nat.{ℕ, _<_, _≤_, _^_};
 ghost use Rattle.ol_spec.specs.Numbers.{residue, signed};
-ghost use Rattle.ol_spec.specs.Types.{intTy, narrow, inRange};
-ghost use Rattle.ol_value.specs.Codes.{intTyOf, Narrow};
+ghost use Rattle.ol_spec.specs.Types.{narrow, inRange};
+ghost use Rattle.ol_value.specs.Codes.{intTyOf, Narrow, tyOf, rowSays, rowFor};
 use crate::ints::magnitude;
 
-// An integer type's width in bits, and whether it has a sign.
-pub(crate) struct IntType {
+// A type's width in bits, 0 if it holds no integers; whether an integer that is stored in it or cast to it is
+// narrowed; and whether it has a sign.
+pub(crate) struct TypeRow {
     pub(crate) bits: u8,
+    pub(crate) narrows: bool,
     pub(crate) signed: bool,
 }
 
-// The one table, by type code: Bool has no width of its own, then Int8 to Int64 and Uint8 to Uint64.
-const INT_TYPES: [IntType; 9] = [
-    IntType {
-        bits: 64,
-        signed: true, // Bool
+// The one table, by type code. 64 bits leave the number; a Char has a range, and storing does not narrow it.
+const TYPE_ROWS: [TypeRow; 13] = [
+    TypeRow {
+        bits: 0,
+        narrows: false,
+        signed: false, // Bool
     },
-    IntType {
+    TypeRow {
         bits: 8,
+        narrows: true,
         signed: true, // Int8
     },
-    IntType {
+    TypeRow {
         bits: 16,
+        narrows: true,
         signed: true, // Int16
     },
-    IntType {
+    TypeRow {
         bits: 32,
+        narrows: true,
         signed: true, // Int32
     },
-    IntType {
+    TypeRow {
         bits: 64,
+        narrows: true,
         signed: true, // Int64
     },
-    IntType {
+    TypeRow {
         bits: 8,
+        narrows: true,
         signed: false, // Uint8
     },
-    IntType {
+    TypeRow {
         bits: 16,
+        narrows: true,
         signed: false, // Uint16
     },
-    IntType {
+    TypeRow {
         bits: 32,
+        narrows: true,
         signed: false, // Uint32
     },
-    IntType {
+    TypeRow {
         bits: 64,
+        narrows: true,
         signed: false, // Uint64
+    },
+    TypeRow {
+        bits: 0,
+        narrows: false,
+        signed: false, // Float32
+    },
+    TypeRow {
+        bits: 0,
+        narrows: false,
+        signed: false, // Float64
+    },
+    TypeRow {
+        bits: 8,
+        narrows: false,
+        signed: false, // Char
+    },
+    TypeRow {
+        bits: 0,
+        narrows: false,
+        signed: false, // Enum
     },
 ];
 
-// The width and sign of the integer type with this code; another type's code leaves the number.
-fn int_type(code: u8) -> IntType
-    ensures { λ r. ⌜ intTyOf r ≡ intTy code ⌝ }
+// The row of the type with this code; a code above 12 is read as an enum's.
+pub(crate) fn type_row(code: u8) -> TypeRow
+    ensures { λ r. ⌜ ((e : ℕ) → rowSays r ≡ rowFor (tyOf code e)) ⌝ }
 {
     let c = code as usize;
-    if c < 9 {
-        INT_TYPES[c]
+    if c < 13 {
+        TYPE_ROWS[c]
     } else {
-        IntType {
-            bits: 64,
-            signed: true,
+        TypeRow {
+            bits: 0,
+            narrows: false,
+            signed: false,
         }
     }
 }
@@ -101,8 +133,8 @@ fn signed_of(b: u64, n: u64) -> i64
     }
 }
 
-// A number as an integer type of this width and sign holds it.
-fn narrow_to(t: IntType, i: i64) -> i64
+// Document 01's `narrow_int`: a number as an integer type of this width and sign holds it.
+pub(crate) fn narrow_int(t: TypeRow, i: i64) -> i64
     requires { ⌜ Narrow (intTyOf t) ⌝ }
     ensures { λ r. ⌜ r ≡ narrow (intTyOf t) i ⌝ }
 {
@@ -114,15 +146,8 @@ fn narrow_to(t: IntType, i: i64) -> i64
     if t.signed { signed_of(b, n) } else { n as i64 }
 }
 
-// Document 01's `narrow_int`.
-pub(crate) fn narrow_int(code: u8, i: i64) -> i64
-    ensures { λ r. ⌜ r ≡ narrow (intTy code) i ⌝ }
-{
-    narrow_to(int_type(code), i)
-}
-
 // Whether a number is in the range of this width and sign.
-fn within(t: IntType, i: i64) -> bool
+pub(crate) fn in_range(t: TypeRow, i: i64) -> bool
     requires { ⌜ Narrow (intTyOf t) ⌝ }
     ensures { λ r. ⌜ r ≡ inRange (intTyOf t) i ⌝ }
 {
@@ -135,11 +160,4 @@ fn within(t: IntType, i: i64) -> bool
         return m < power(b - 1);
     }
     if 0 <= i { m < power(b) } else { false }
-}
-
-// Whether a number is in the range of the integer type with this code.
-pub(crate) fn in_range(code: u8, i: i64) -> bool
-    ensures { λ r. ⌜ r ≡ inRange (intTy code) i ⌝ }
-{
-    within(int_type(code), i)
 }

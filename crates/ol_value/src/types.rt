@@ -4,11 +4,13 @@ ghost use mathlib.Core.Path.{_≡_};
 ghost use mathlib.Core.List.{List, []};
 ghost use Prim.Native.Nat.{ℕ};
 ghost use lib.ListN.{getD};
-ghost use Rattle.ol_spec.specs.Types.{intTy, default, fitSingle, fitDouble, fit};
+ghost use Rattle.ol_spec.specs.Types.{default, fitSingle, fitDouble, fit};
 ghost use Rattle.ol_spec.specs.Types.{castInt, castReal, castTo};
-ghost use Rattle.ol_value.specs.Codes.{tyOf, isNumber, inKind};
+ghost use Rattle.ol_value.specs.Codes.{intTyOf, Narrow, tyOf, isNumber, inKind};
+use crate::narrowing::TypeRow;
 use crate::narrowing::in_range;
 use crate::narrowing::narrow_int;
+use crate::narrowing::type_row;
 use ol_real::f32_to_f64;
 use ol_real::f32_to_i64;
 use ol_real::f64_to_f32;
@@ -48,8 +50,11 @@ fn fit_double(v: Value) -> Value
 fn fit_number(code: u8, i: i64) -> Value
     ensures { λ r. ⌜ ((e : ℕ) → r ≡ fit (tyOf code e) (Value.Int i)) ⌝ }
 {
+    let t = type_row(code);
+    if t.narrows {
+        return Value::Int(narrow_int(t, i));
+    }
     match code {
-        1..=8 => Value::Int(narrow_int(code, i)),
         9 => Value::Float32(i64_to_f32(i)),
         10 => Value::Float(i64_to_f64(i)),
         _ => Value::Int(i),
@@ -81,15 +86,16 @@ pub fn fit_to(code: u8, v: Value) -> Value
     }
 }
 
-// A cast to an integer type.
-fn cast_int(code: u8, v: Value) -> Outcome
-    ensures { λ r. ⌜ r ≡ castInt (intTy code) v ⌝ }
+// A cast to an integer type of this width and sign.
+fn cast_int(t: TypeRow, v: Value) -> Outcome
+    requires { ⌜ Narrow (intTyOf t) ⌝ }
+    ensures { λ r. ⌜ r ≡ castInt (intTyOf t) v ⌝ }
 {
     match v {
         Value::Bool(_) => Outcome::Failure,
-        Value::Int(i) => Outcome::Value(Value::Int(narrow_int(code, i))),
-        Value::Float(x) => Outcome::Value(Value::Int(narrow_int(code, f64_to_i64(x)))),
-        Value::Float32(x) => Outcome::Value(Value::Int(narrow_int(code, f32_to_i64(x)))),
+        Value::Int(i) => Outcome::Value(Value::Int(narrow_int(t, i))),
+        Value::Float(x) => Outcome::Value(Value::Int(narrow_int(t, f64_to_i64(x)))),
+        Value::Float32(x) => Outcome::Value(Value::Int(narrow_int(t, f32_to_i64(x)))),
         Value::Enum(_) => Outcome::Failure,
     }
 }
@@ -133,8 +139,11 @@ fn cast_double(v: Value) -> Outcome
 pub fn cast_value(code: u8, v: Value) -> Outcome
     ensures { λ r. ⌜ ((e : ℕ) → r ≡ castTo (tyOf code e) v) ⌝ }
 {
+    let t = type_row(code);
+    if t.narrows {
+        return cast_int(t, v);
+    }
     match code {
-        1..=8 => cast_int(code, v),
         9 => cast_single(v),
         10 => cast_double(v),
         _ => Outcome::Failure,
@@ -147,10 +156,16 @@ pub fn default_value(code: u8, first: u16) -> Value
 {
     match code {
         0 => Value::Bool(false),
-        1..=8 | 11 => Value::Int(0),
         9 => Value::Float32(0.0),
         10 => Value::Float(0.0),
-        _ => Value::Enum(first),
+        _ => {
+            let t = type_row(code);
+            if t.bits == 0 {
+                Value::Enum(first)
+            } else {
+                Value::Int(0)
+            }
+        }
     }
 }
 
@@ -167,13 +182,10 @@ pub fn in_type(code: u8, v: Value) -> bool
     }
 }
 
-// Whether an integer is of the type's kind and range: a Char is 0 to 255, as a Uint8 is.
+// Whether an integer is of the type's kind and range.
 fn int_in_type(code: u8, i: i64) -> bool
     ensures { λ r. ⌜ ((e : ℕ) → r ≡ inKind (tyOf code e) (Value.Int i)) ⌝ }
 {
-    match code {
-        1..=8 => in_range(code, i),
-        11 => in_range(5, i),
-        _ => false,
-    }
+    let t = type_row(code);
+    if t.bits == 0 { false } else { in_range(t, i) }
 }

@@ -1,9 +1,10 @@
 use mathlib.Core.Path.{_∙_, ap}
 use mir.Facts.{toZ-ofZ}
 use borrow.Author.Needs.{sfits-of}
-use Rattle.ol_spec.specs.Types.{narrow, intTy}
+use Rattle.ol_spec.specs.Types.{narrow}
 use Rattle.ol_spec.specs.declared.Value.the-variants as Val
 use Rattle.ol_spec.specs.declared.Outcome.the-variants as Out
+use Rattle.ol_value.specs.Codes.{intTyOf}
 use borrow.Author.Needs.{needs}
 use Rattle.ol_value.proofs.types.cast_int.Statement.{statement}
 use Rattle.ol_value.proofs.types.cast_int.Tie as tie
@@ -42,13 +43,13 @@ returns : tie.Need-returns
 returns c = search needs
 
 returns-2 : tie.Need-returns-2
-returns-2 c = rw (c .before .before .v .given .1) (ap (λ i. Out.Value (Val.Int i)) (toZ-ofZ (sfits-of (c .narrow-int .ok)) ∙ c .narrow-int .ensures ∙ ap (narrow (intTy (c .before .before .before .before .args .code))) (toZ-ofZ (sfits-of (c .before .known-told .given .0 .1)))))
+returns-2 c = rw (c .before .before .v .given .1) (ap (λ i. Out.Value (Val.Int i)) (toZ-ofZ (sfits-of (c .narrow-int .ok)) ∙ c .narrow-int .ensures ∙ ap (narrow (intTyOf (c .before .before .before .before .args .t))) (toZ-ofZ (sfits-of (c .before .known-told .given .0 .1)))))
 
 returns-3 : tie.Need-returns-3
-returns-3 c = rw (c .before .before .before .v2 .given .1) (ap (λ i. Out.Value (Val.Int i)) (toZ-ofZ (sfits-of (c .narrow-int2 .ok)) ∙ c .narrow-int2 .ensures ∙ ap (narrow (intTy (c .before .before .before .before .before .args .code))) (toZ-ofZ (sfits-of (c .before .f64-to-i64 .ok)) ∙ c .before .f64-to-i64 .ensures)))
+returns-3 c = rw (c .before .before .before .v2 .given .1) (ap (λ i. Out.Value (Val.Int i)) (toZ-ofZ (sfits-of (c .narrow-int2 .ok)) ∙ c .narrow-int2 .ensures ∙ ap (narrow (intTyOf (c .before .before .before .before .before .args .t))) (toZ-ofZ (sfits-of (c .before .f64-to-i64 .ok)) ∙ c .before .f64-to-i64 .ensures)))
 
 returns-4 : tie.Need-returns-4
-returns-4 c = rw (c .before .before .before .v3 .given .1) (ap (λ i. Out.Value (Val.Int i)) (toZ-ofZ (sfits-of (c .narrow-int3 .ok)) ∙ c .narrow-int3 .ensures ∙ ap (narrow (intTy (c .before .before .before .before .before .args .code))) (toZ-ofZ (sfits-of (c .before .f32-to-i64 .ok)) ∙ c .before .f32-to-i64 .ensures)))
+returns-4 c = rw (c .before .before .before .v3 .given .1) (ap (λ i. Out.Value (Val.Int i)) (toZ-ofZ (sfits-of (c .narrow-int3 .ok)) ∙ c .narrow-int3 .ensures ∙ ap (narrow (intTyOf (c .before .before .before .before .before .args .t))) (toZ-ofZ (sfits-of (c .before .f32-to-i64 .ok)) ∙ c .before .f32-to-i64 .ensures)))
 
 returns-5 : tie.Need-returns-5
 returns-5 c = search needs

@@ -4,6 +4,7 @@ use mathlib.Core.Path.{_≡_, refl, sym, ap, subst, _∙_}
 use Prim.Native.Nat.{_+_, _-_, _*_, _≤_, _<_, min}
 use native.Mathlib.Omega.{arith}
 use lib.ListN.{length, getD, take, drop, length-drop}
+use Rattle.ol_eval.proofs.Endings.{unvalued}
 use Rattle.ol_eval.proofs.Rights.{equation-ready, call-inside, callee-row, tail-whole, names-least, values-assignable, call-done, call-stops}
 -- </uses>
 use Prim.Native.Nat.{ℕ}
@@ -31,9 +32,12 @@ enter-requires t c κs =
     let q = start .pre .1 .1 in
     (omega (arith, start .pre .0), (equation-ready p (start .args .rhs) (q .place), q .code-is, refl))
 
+pub enum-told : (t : ℕ) → call-equation-lts.Need-enum-told (Q t) (call-equation-at t) call-equation.Post
+enum-told t c = search needs
+
 pub add-p : (t : ℕ) → call-equation-lts.Need-add-p (Q t) (call-equation-at t) call-equation.Post
 add-p t c =
-    let start = c .before .before .before .before .before .before .before .before .before .before .before .before .before .before .before .before in
+    let start = c .before .before .before .before .before .before .before .before .before .before .before .before .before .before .before .before .before in
     let p = start .pre .1 .0 in
     let q = start .pre .1 .1 in
     let inside = call-inside p q in
@@ -41,7 +45,7 @@ add-p t c =
 
 pub shared-slice-read-number : (t : ℕ) → call-equation-lts.Need-shared-slice-read-number (Q t) (call-equation-at t) call-equation.Post
 shared-slice-read-number t c =
-    let start = c .before .before .before .before .before .before .before .before .before .before .before .before .before .before .before .before .before in
+    let start = c .before .before .before .before .before .before .before .before .before .before .before .before .before .before .before .before .before .before in
     let p = start .pre .1 .0 in
     let q = start .pre .1 .1 in
     let inside = call-inside p q in
@@ -52,7 +56,7 @@ number-requires t c κs = tt
 
 pub row-requires : (t : ℕ) → call-equation-lts.Need-row-requires (Q t) (call-equation-at t) call-equation.Post
 row-requires t c κs =
-    let start = c .before .before .before .before .before .before .before .before .before .before .before .before .before .before .before .before .before .before in
+    let start = c .before .before .before .before .before .before .before .before .before .before .before .before .before .before .before .before .before .before .before in
     let p = start .pre .1 .0 in
     let q = start .pre .1 .1 in
     let k = c .number .result in
@@ -62,7 +66,7 @@ row-requires t c κs =
 
 pub row-requires-2 : (t : ℕ) → call-equation-lts.Need-row-requires-2 (Q t) (call-equation-at t) call-equation.Post
 row-requires-2 t c κs =
-    let start = c .before .before .before .before .before .before .before .before .before .before .before .before .before .before .before .before .before .before .before in
+    let start = c .before .before .before .before .before .before .before .before .before .before .before .before .before .before .before .before .before .before .before .before in
     let p = start .pre .1 .0 in
     let q = start .pre .1 .1 in
     let k = c .before .number .result in
@@ -72,7 +76,7 @@ row-requires-2 t c κs =
 
 pub mul-from : (t : ℕ) → call-equation-lts.Need-mul-from (Q t) (call-equation-at t) call-equation.Post
 mul-from t c =
-    let start = c .before .before .before .before .before .before .before .before .before .before .before .before .before .before .before .before .before .before .before .before in
+    let start = c .before .before .before .before .before .before .before .before .before .before .before .before .before .before .before .before .before .before .before .before .before in
     let p = start .pre .1 .0 in
     let q = start .pre .1 .1 in
     let k = c .before .before .number .result in
@@ -86,7 +90,7 @@ less-requires t c κs = tt
 
 pub add-assign : (t : ℕ) → call-equation-lts.Need-add-assign (Q t) (call-equation-at t) call-equation.Post
 add-assign t c =
-    let start = c .before .before .before .before .before .before .before .before .before .before .before .before .before .before .before .before .before .before .before .before .before in
+    let start = c .before .before .before .before .before .before .before .before .before .before .before .before .before .before .before .before .before .before .before .before .before .before in
     let p = start .pre .1 .0 in
     let q = start .pre .1 .1 in
     let inside = call-inside p q in
@@ -95,7 +99,7 @@ add-assign t c =
 
 pub sub-assign : (t : ℕ) → call-equation-lts.Need-sub-assign (Q t) (call-equation-at t) call-equation.Post
 sub-assign t c =
-    let start = c .before .before .before .before .before .before .before .before .before .before .before .before .before .before .before .before .before .before .before .before .before in
+    let start = c .before .before .before .before .before .before .before .before .before .before .before .before .before .before .before .before .before .before .before .before .before .before in
     let p = start .pre .1 .0 in
     let q = start .pre .1 .1 in
     let k = c .before .before .before .number .result in
@@ -106,7 +110,7 @@ sub-assign t c =
 
 pub part-assign-start : (t : ℕ) → call-equation-lts.Need-part-assign-start (Q t) (call-equation-at t) call-equation.Post
 part-assign-start t c =
-    let start = c .before .before .before .before .before .before .before .before .before .before .before .before .before .before .before .before .before .before .before .before .before .before in
+    let start = c .before .before .before .before .before .before .before .before .before .before .before .before .before .before .before .before .before .before .before .before .before .before .before in
     let p = start .pre .1 .0 in
     let q = start .pre .1 .1 in
     let k = c .before .before .before .before .number .result in
@@ -117,7 +121,7 @@ part-assign-start t c =
 
 pub part-assign-end : (t : ℕ) → call-equation-lts.Need-part-assign-end (Q t) (call-equation-at t) call-equation.Post
 part-assign-end t c =
-    let start = c .before .before .before .before .before .before .before .before .before .before .before .before .before .before .before .before .before .before .before .before .before .before in
+    let start = c .before .before .before .before .before .before .before .before .before .before .before .before .before .before .before .before .before .before .before .before .before .before .before in
     let p = start .pre .1 .0 in
     let q = start .pre .1 .1 in
     let k = c .before .before .before .before .number .result in
@@ -128,7 +132,7 @@ part-assign-end t c =
 
 pub assign-requires : (t : ℕ) → call-equation-lts.Need-assign-requires (Q t) (call-equation-at t) call-equation.Post
 assign-requires t c κs =
-    let start = c .before .before .before .before .before .before .before .before .before .before .before .before .before .before .before .before .before .before .before .before .before .before .before .before in
+    let start = c .before .before .before .before .before .before .before .before .before .before .before .before .before .before .before .before .before .before .before .before .before .before .before .before .before in
     let p = start .pre .1 .0 in
     let q = start .pre .1 .1 in
     let k = c .before .before .before .before .before .before .number .result in
@@ -137,17 +141,17 @@ assign-requires t c κs =
     let outs = c .before .before .before .before .before .row .ensures ∙ row .outputs in
     let ins = c .before .before .before .before .row2 .ensures ∙ row .inputs in
     let m = names-least p (c .before .before .before .before .before .row .result) q (c .before .before .before .less .ensures) in
-    values-assignable p (c .before .before .before .less .result) (take (1008 - (9 * c .before .before .before .before .row2 .result)) (drop ((9 * c .before .before .before .before .row2 .result)) ((c .before .before .before .before .before .before .before .before .before .before .before .before .enter .last .1 .1 .1 .1 .1 .1 .1 .1 .1 .1 .0)))) (m .least) (omega (arith, c .before .before .before .less .ensures, outs, row .width)) (omega (arith, ap length ((tail-whole 1008 ((9 * c .before .before .before .before .row2 .result)) ((c .before .before .before .before .before .before .before .before .before .before .before .before .enter .last .1 .1 .1 .1 .1 .1 .1 .1 .1 .1 .0)) ((c .before .before .before .before .before .before .before .before .before .before .before .before .enter .kept .1 .1 .1 .1 .1 .1 .1 .1 .1 .1 .0)))), length-drop ((9 * c .before .before .before .before .row2 .result)) ((c .before .before .before .before .before .before .before .before .before .before .before .before .enter .last .1 .1 .1 .1 .1 .1 .1 .1 .1 .1 .0)), (c .before .before .before .before .before .before .before .before .before .before .before .before .enter .kept .1 .1 .1 .1 .1 .1 .1 .1 .1 .1 .0), c .before .before .before .less .ensures, outs, ins, row .width))
+    values-assignable p (c .before .before .before .less .result) (take (1008 - (9 * c .before .before .before .before .row2 .result)) (drop ((9 * c .before .before .before .before .row2 .result)) ((c .before .before .before .before .before .before .before .before .before .before .before .before .before .enter .last .1 .1 .1 .1 .1 .1 .1 .1 .1 .1 .0)))) (m .least) (omega (arith, c .before .before .before .less .ensures, outs, row .width)) (omega (arith, ap length ((tail-whole 1008 ((9 * c .before .before .before .before .row2 .result)) ((c .before .before .before .before .before .before .before .before .before .before .before .before .before .enter .last .1 .1 .1 .1 .1 .1 .1 .1 .1 .1 .0)) ((c .before .before .before .before .before .before .before .before .before .before .before .before .before .enter .kept .1 .1 .1 .1 .1 .1 .1 .1 .1 .1 .0)))), length-drop ((9 * c .before .before .before .before .row2 .result)) ((c .before .before .before .before .before .before .before .before .before .before .before .before .before .enter .last .1 .1 .1 .1 .1 .1 .1 .1 .1 .1 .0)), (c .before .before .before .before .before .before .before .before .before .before .before .before .before .enter .kept .1 .1 .1 .1 .1 .1 .1 .1 .1 .1 .0), c .before .before .before .less .ensures, outs, ins, row .width))
 
 pub same-length : (t : ℕ) → call-equation-lts.Need-same-length (Q t) (call-equation-at t) call-equation.Post
 same-length t c = c .before .before .assign .kept .1 .1 .1 .1 .1 .0
 
 pub same-length-2 : (t : ℕ) → call-equation-lts.Need-same-length-2 (Q t) (call-equation-at t) call-equation.Post
-same-length-2 t c = c .before .before .before .before .before .before .before .before .before .before .before .before .before .before .before .enter .kept .1 .1 .1 .1 .1 .1 .1 .1 .1 .1 .1 .1 .0
+same-length-2 t c = c .before .before .before .before .before .before .before .before .before .before .before .before .before .before .before .before .enter .kept .1 .1 .1 .1 .1 .1 .1 .1 .1 .1 .1 .1 .0
 
 pub returns : (t : ℕ) → call-equation-lts.Need-returns (Q t) (call-equation-at t) call-equation.Post
 returns t c =
-    let start = c .before .before .before .before .before .before .before .before .before .before .before .before .before .before .before .before .before .before .before .before .before .before .before .before .before .before .before in
+    let start = c .before .before .before .before .before .before .before .before .before .before .before .before .before .before .before .before .before .before .before .before .before .before .before .before .before .before .before .before in
     let p = start .pre .1 .0 in
     let q = start .pre .1 .1 in
     let k = c .before .before .before .before .before .before .before .before .before .number .result in
@@ -155,7 +159,7 @@ returns t c =
     let row = callee-row p q k ke in
     let outs = c .before .before .before .before .before .before .before .before .row .ensures ∙ row .outputs in
     let ins = c .before .before .before .before .before .before .before .row2 .ensures ∙ row .inputs in
-    call-done p (start .args .first) (c .before .before .before .before .before .before .less .result) ((c .before .before .before .before .before .before .before .before .before .before .before .before .before .before .before .enter .last .1 .1 .1 .1 .1 .1 .1 .1 .1 .1 .0)) (c .before .before .assign .last .1 .1 .1 .1 .1 .0) q (c .before .before .before .before .before .before .before .before .before .before .before .before .before .before .before .enter .ensures) (c .before .before .before .before .before .before .before .before .before .before .before .if1 .taken) (c .before .before .before .before .before .before .less .ensures ∙ ap (min (start .args .n)) outs) ((take (1008 - (9 * c .before .before .before .before .before .before .before .row2 .result)) (drop ((9 * c .before .before .before .before .before .before .before .row2 .result)) ((c .before .before .before .before .before .before .before .before .before .before .before .before .before .before .before .enter .last .1 .1 .1 .1 .1 .1 .1 .1 .1 .1 .0))))) ((tail-whole 1008 ((9 * c .before .before .before .before .before .before .before .row2 .result)) ((c .before .before .before .before .before .before .before .before .before .before .before .before .before .before .before .enter .last .1 .1 .1 .1 .1 .1 .1 .1 .1 .1 .0)) ((c .before .before .before .before .before .before .before .before .before .before .before .before .before .before .before .enter .kept .1 .1 .1 .1 .1 .1 .1 .1 .1 .1 .0))) ∙ ap (λ (z : ℕ). drop (9 * z) ((c .before .before .before .before .before .before .before .before .before .before .before .before .before .before .before .enter .last .1 .1 .1 .1 .1 .1 .1 .1 .1 .1 .0))) ins) (c .before .before .assign .ensures)
+    call-done p (start .args .first) (c .before .before .before .before .before .before .less .result) ((c .before .before .before .before .before .before .before .before .before .before .before .before .before .before .before .before .enter .last .1 .1 .1 .1 .1 .1 .1 .1 .1 .1 .0)) (c .before .before .assign .last .1 .1 .1 .1 .1 .0) q (c .before .before .before .before .before .before .before .before .before .before .before .before .before .before .before .before .enter .ensures) (c .before .before .before .before .before .before .before .before .before .before .before .enum-told .given .1) (c .before .before .before .before .before .before .less .ensures ∙ ap (min (start .args .n)) outs) ((take (1008 - (9 * c .before .before .before .before .before .before .before .row2 .result)) (drop ((9 * c .before .before .before .before .before .before .before .row2 .result)) ((c .before .before .before .before .before .before .before .before .before .before .before .before .before .before .before .before .enter .last .1 .1 .1 .1 .1 .1 .1 .1 .1 .1 .0))))) ((tail-whole 1008 ((9 * c .before .before .before .before .before .before .before .row2 .result)) ((c .before .before .before .before .before .before .before .before .before .before .before .before .before .before .before .before .enter .last .1 .1 .1 .1 .1 .1 .1 .1 .1 .1 .0)) ((c .before .before .before .before .before .before .before .before .before .before .before .before .before .before .before .before .enter .kept .1 .1 .1 .1 .1 .1 .1 .1 .1 .1 .0))) ∙ ap (λ (z : ℕ). drop (9 * z) ((c .before .before .before .before .before .before .before .before .before .before .before .before .before .before .before .before .enter .last .1 .1 .1 .1 .1 .1 .1 .1 .1 .1 .0))) ins) (c .before .before .assign .ensures)
 
 pub same-length-3 : (t : ℕ) → call-equation-lts.Need-same-length-3 (Q t) (call-equation-at t) call-equation.Post
 same-length-3 t c = refl
@@ -168,4 +172,4 @@ returns-2 t c =
     let start = c .before .before .before .before .before .before .before .before .before .before .before .before .before .before .before .before in
     let p = start .pre .1 .0 in
     let q = start .pre .1 .1 in
-    call-stops p (start .args .first) ((c .before .before .before .before .enter .last .1 .1 .1 .1 .1 .1 .1 .1 .1 .1 .0)) (start .args .cells .now) q (c .before .before .before .before .enter .ensures) (c .if1 .left)
+    call-stops p (start .args .first) ((c .before .before .before .before .enter .last .1 .1 .1 .1 .1 .1 .1 .1 .1 .1 .0)) (start .args .cells .now) q (c .before .before .before .before .enter .ensures) (unvalued (c .before .before .before .before .enter .result .end) (c .match .keys2))

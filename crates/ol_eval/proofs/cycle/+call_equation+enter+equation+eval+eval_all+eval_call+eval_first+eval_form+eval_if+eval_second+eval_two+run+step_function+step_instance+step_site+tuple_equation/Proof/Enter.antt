@@ -9,6 +9,7 @@ use lib.ListN.{length, take, drop, getD}
 use lib.Seq.{length-take-le}
 use Rattle.ol_tables.proofs.Forms.{reads-in}
 use Rattle.ol_tables.proofs.Lending.{length-put, length-put-front, putTail}
+use Rattle.ol_eval.proofs.Endings.{unvalued}
 use Rattle.ol_eval.proofs.Planning.{plan-head}
 use Rattle.ol_eval.proofs.Calling.{call-at, call-small, call-lower, call-size, call-room, call-passes, call-args, call-steps, call-used, call-done, call-stop}
 -- </uses>
@@ -216,46 +217,27 @@ add-used t c =
     let C1 = c .before .before .before .before .before .eval-all .last .1 .1 .1 .1 .1 .1 .1 .1 .1 .1 .1 .1 .1 .0 in
     omega (arith, call-used p b k n kE nE F u uE C1 (c .before .before .before .before .before .eval-all .ensures))
 
+pub enum-told : (t : ℕ) → enter-lts.Need-enum-told (Q t) (enter-at t) enter.Post
+enum-told t c = search needs
+
 pub slice-aggregate-step-site : (t : ℕ) → enter-lts.Need-slice-aggregate-step-site (Q t) (enter-at t) enter.Post
 slice-aggregate-step-site t c =
-    let start = c .before .before .before .before .before .before .before .before .before .before .before .before .before .before .before .before .before .before .before .before .before .before .before .before .before .before in
+    let start = c .before .before .before .before .before .before .before .before .before .before .before .before .before .before .before .before .before .before .before .before .before .before .before .before .before .before .before in
     let p = start .pre .1 .0 in
     let b = start .pre .1 .1 in
     let o = start .args .old .now in
-    let k = c .before .before .before .before .before .before .before .before .before .before .before .before .before .before .before .number .result in
-    let kE = c .before .before .before .before .before .before .before .before .before .before .before .before .before .before .before .number .ensures .0 in
-    let n = c .before .before .before .before .before .before .before .before .before .before .before .before .before .number2 .result in
-    let nE = c .before .before .before .before .before .before .before .before .before .before .before .before .before .number2 .ensures .0 in
-    let u = c .before .before .before .before .before .before .before .before .before .before .before .before .row .result in
-    let uE = c .before .before .before .before .before .before .before .before .before .before .before .before .row .ensures in
+    let k = c .before .before .before .before .before .before .before .before .before .before .before .before .before .before .before .before .number .result in
+    let kE = c .before .before .before .before .before .before .before .before .before .before .before .before .before .before .before .before .number .ensures .0 in
+    let n = c .before .before .before .before .before .before .before .before .before .before .before .before .before .before .number2 .result in
+    let nE = c .before .before .before .before .before .before .before .before .before .before .before .before .before .before .number2 .ensures .0 in
+    let u = c .before .before .before .before .before .before .before .before .before .before .before .before .before .row .result in
+    let uE = c .before .before .before .before .before .before .before .before .before .before .before .before .before .row .ensures in
     let z = call-size p b k n kE nE in
     let room = call-room p b k n kE nE in
     sym (length-take-le u o (omega (arith, uE, z, room)))
 
 pub slice-relend-prefix-step-site : (t : ℕ) → enter-lts.Need-slice-relend-prefix-step-site (Q t) (enter-at t) enter.Post
 slice-relend-prefix-step-site t c =
-    let start = c .before .before .before .before .before .before .before .before .before .before .before .before .before .before .before .before .before .before .before .before .before .before .before .before .before .before in
-    let p = start .pre .1 .0 in
-    let b = start .pre .1 .1 in
-    let w = start .args .new .now in
-    let k = c .before .before .before .before .before .before .before .before .before .before .before .before .before .before .before .number .result in
-    let kE = c .before .before .before .before .before .before .before .before .before .before .before .before .before .before .before .number .ensures .0 in
-    let n = c .before .before .before .before .before .before .before .before .before .before .before .before .before .number2 .result in
-    let nE = c .before .before .before .before .before .before .before .before .before .before .before .before .before .number2 .ensures .0 in
-    let u = c .before .before .before .before .before .before .before .before .before .before .before .before .row .result in
-    let uE = c .before .before .before .before .before .before .before .before .before .before .before .before .row .ensures in
-    let z = call-size p b k n kE nE in
-    let room = call-room p b k n kE nE in
-    let S = ap length (p .same) in
-    let K1 = c .before .before .before .before .before .before .before .before .eval-all .kept .1 .1 .1 .1 .1 .1 .1 .1 .1 .1 .1 .1 .1 .1 .1 .0 in
-    let N1 = c .before .before .before .before .before .before .before .before .eval-all .last .1 .1 .1 .1 .1 .1 .1 .1 .1 .1 .1 .1 .1 .1 .1 .0 in
-    let le = subst (λ (m : ℕ). m ≤ length w) (sym (uE ∙ z)) (omega (arith, room, S)) in
-    let len = length-put u w N1 le K1 in
-    let lep = subst (λ (m : ℕ). u ≤ m) (sym len) le in
-    lep
-
-pub slice-aggregate-step-site-2 : (t : ℕ) → enter-lts.Need-slice-aggregate-step-site-2 (Q t) (enter-at t) enter.Post
-slice-aggregate-step-site-2 t c =
     let start = c .before .before .before .before .before .before .before .before .before .before .before .before .before .before .before .before .before .before .before .before .before .before .before .before .before .before .before in
     let p = start .pre .1 .0 in
     let b = start .pre .1 .1 in
@@ -274,46 +256,68 @@ slice-aggregate-step-site-2 t c =
     let le = subst (λ (m : ℕ). m ≤ length w) (sym (uE ∙ z)) (omega (arith, room, S)) in
     let len = length-put u w N1 le K1 in
     let lep = subst (λ (m : ℕ). u ≤ m) (sym len) le in
+    lep
+
+pub slice-aggregate-step-site-2 : (t : ℕ) → enter-lts.Need-slice-aggregate-step-site-2 (Q t) (enter-at t) enter.Post
+slice-aggregate-step-site-2 t c =
+    let start = c .before .before .before .before .before .before .before .before .before .before .before .before .before .before .before .before .before .before .before .before .before .before .before .before .before .before .before .before in
+    let p = start .pre .1 .0 in
+    let b = start .pre .1 .1 in
+    let w = start .args .new .now in
+    let k = c .before .before .before .before .before .before .before .before .before .before .before .before .before .before .before .before .before .number .result in
+    let kE = c .before .before .before .before .before .before .before .before .before .before .before .before .before .before .before .before .before .number .ensures .0 in
+    let n = c .before .before .before .before .before .before .before .before .before .before .before .before .before .before .before .number2 .result in
+    let nE = c .before .before .before .before .before .before .before .before .before .before .before .before .before .before .before .number2 .ensures .0 in
+    let u = c .before .before .before .before .before .before .before .before .before .before .before .before .before .before .row .result in
+    let uE = c .before .before .before .before .before .before .before .before .before .before .before .before .before .before .row .ensures in
+    let z = call-size p b k n kE nE in
+    let room = call-room p b k n kE nE in
+    let S = ap length (p .same) in
+    let K1 = c .before .before .before .before .before .before .before .before .before .before .eval-all .kept .1 .1 .1 .1 .1 .1 .1 .1 .1 .1 .1 .1 .1 .1 .1 .0 in
+    let N1 = c .before .before .before .before .before .before .before .before .before .before .eval-all .last .1 .1 .1 .1 .1 .1 .1 .1 .1 .1 .1 .1 .1 .1 .1 .0 in
+    let le = subst (λ (m : ℕ). m ≤ length w) (sym (uE ∙ z)) (omega (arith, room, S)) in
+    let len = length-put u w N1 le K1 in
+    let lep = subst (λ (m : ℕ). u ≤ m) (sym len) le in
     sym (length-take-le u (putTail u w N1) lep)
 
 pub step-site-requires : (t : ℕ) → enter-lts.Need-step-site-requires (Q t) (enter-at t) enter.Post
 step-site-requires t c κs =
-    let start = c .before .before .before .before .before .before .before .before .before .before .before .before .before .before .before .before .before .before .before .before .before .before .before .before .before .before .before in
+    let start = c .before .before .before .before .before .before .before .before .before .before .before .before .before .before .before .before .before .before .before .before .before .before .before .before .before .before .before .before in
     let p = start .pre .1 .0 in
     let b = start .pre .1 .1 in
-    let k = c .before .before .before .before .before .before .before .before .before .before .before .before .before .before .before .before .number .result in
-    let kE = c .before .before .before .before .before .before .before .before .before .before .before .before .before .before .before .before .number .ensures .0 in
-    let n = c .before .before .before .before .before .before .before .before .before .before .before .before .before .before .number2 .result in
-    let nE = c .before .before .before .before .before .before .before .before .before .before .before .before .before .before .number2 .ensures .0 in
-    let u = c .before .before .before .before .before .before .before .before .before .before .before .before .before .row .result in
-    let uE = c .before .before .before .before .before .before .before .before .before .before .before .before .before .row .ensures in
-    let KA = c .before .before .before .before .before .before .before .before .before .eval-all .kept .1 .1 .1 .1 .1 .1 .1 .1 .1 .1 .1 .1 .1 .0 in
-    let N1 = c .before .before .before .before .before .before .before .before .before .eval-all .last .1 .1 .1 .1 .1 .1 .1 .1 .1 .1 .1 .1 .1 .1 .1 .0 in
+    let k = c .before .before .before .before .before .before .before .before .before .before .before .before .before .before .before .before .before .number .result in
+    let kE = c .before .before .before .before .before .before .before .before .before .before .before .before .before .before .before .before .before .number .ensures .0 in
+    let n = c .before .before .before .before .before .before .before .before .before .before .before .before .before .before .before .number2 .result in
+    let nE = c .before .before .before .before .before .before .before .before .before .before .before .before .before .before .before .number2 .ensures .0 in
+    let u = c .before .before .before .before .before .before .before .before .before .before .before .before .before .before .row .result in
+    let uE = c .before .before .before .before .before .before .before .before .before .before .before .before .before .before .row .ensures in
+    let KA = c .before .before .before .before .before .before .before .before .before .before .eval-all .kept .1 .1 .1 .1 .1 .1 .1 .1 .1 .1 .1 .1 .1 .0 in
+    let N1 = c .before .before .before .before .before .before .before .before .before .before .eval-all .last .1 .1 .1 .1 .1 .1 .1 .1 .1 .1 .1 .1 .1 .1 .1 .0 in
     (omega (arith, start .pre .0, call-lower p b k n kE nE), call-steps p b k n kE nE u uE N1 (KA ∙ start .pre .1 .2))
 
 pub same-length : (t : ℕ) → enter-lts.Need-same-length (Q t) (enter-at t) enter.Post
 same-length t c =
-    let KA = c .before .before .before .before .before .before .before .before .before .before .before .before .before .before .eval-all .kept .1 .1 .1 .1 .1 .1 .1 .1 .1 .1 .1 .1 .1 .0 in
+    let KA = c .before .before .before .before .before .before .before .before .before .before .before .before .before .before .before .eval-all .kept .1 .1 .1 .1 .1 .1 .1 .1 .1 .1 .1 .1 .1 .0 in
     let KC = c .before .before .before .before .step-site .kept .1 .1 .1 .1 .1 .0 in
     KC ∙ KA
 
 pub same-length-2 : (t : ℕ) → enter-lts.Need-same-length-2 (Q t) (enter-at t) enter.Post
 same-length-2 t c =
-    let start = c .before .before .before .before .before .before .before .before .before .before .before .before .before .before .before .before .before .before .before .before .before .before .before .before .before .before .before .before .before .before .before .before in
+    let start = c .before .before .before .before .before .before .before .before .before .before .before .before .before .before .before .before .before .before .before .before .before .before .before .before .before .before .before .before .before .before .before .before .before in
     let p = start .pre .1 .0 in
     let b = start .pre .1 .1 in
     let w = start .args .new .now in
-    let k = c .before .before .before .before .before .before .before .before .before .before .before .before .before .before .before .before .before .before .before .before .before .number .result in
-    let kE = c .before .before .before .before .before .before .before .before .before .before .before .before .before .before .before .before .before .before .before .before .before .number .ensures .0 in
-    let n = c .before .before .before .before .before .before .before .before .before .before .before .before .before .before .before .before .before .before .before .number2 .result in
-    let nE = c .before .before .before .before .before .before .before .before .before .before .before .before .before .before .before .before .before .before .before .number2 .ensures .0 in
-    let u = c .before .before .before .before .before .before .before .before .before .before .before .before .before .before .before .before .before .before .row .result in
-    let uE = c .before .before .before .before .before .before .before .before .before .before .before .before .before .before .before .before .before .before .row .ensures in
+    let k = c .before .before .before .before .before .before .before .before .before .before .before .before .before .before .before .before .before .before .before .before .before .before .number .result in
+    let kE = c .before .before .before .before .before .before .before .before .before .before .before .before .before .before .before .before .before .before .before .before .before .before .number .ensures .0 in
+    let n = c .before .before .before .before .before .before .before .before .before .before .before .before .before .before .before .before .before .before .before .before .number2 .result in
+    let nE = c .before .before .before .before .before .before .before .before .before .before .before .before .before .before .before .before .before .before .before .before .number2 .ensures .0 in
+    let u = c .before .before .before .before .before .before .before .before .before .before .before .before .before .before .before .before .before .before .before .row .result in
+    let uE = c .before .before .before .before .before .before .before .before .before .before .before .before .before .before .before .before .before .before .before .row .ensures in
     let z = call-size p b k n kE nE in
     let room = call-room p b k n kE nE in
     let S = ap length (p .same) in
-    let K1 = c .before .before .before .before .before .before .before .before .before .before .before .before .before .before .eval-all .kept .1 .1 .1 .1 .1 .1 .1 .1 .1 .1 .1 .1 .1 .1 .1 .0 in
-    let N1 = c .before .before .before .before .before .before .before .before .before .before .before .before .before .before .eval-all .last .1 .1 .1 .1 .1 .1 .1 .1 .1 .1 .1 .1 .1 .1 .1 .0 in
+    let K1 = c .before .before .before .before .before .before .before .before .before .before .before .before .before .before .before .eval-all .kept .1 .1 .1 .1 .1 .1 .1 .1 .1 .1 .1 .1 .1 .1 .1 .0 in
+    let N1 = c .before .before .before .before .before .before .before .before .before .before .before .before .before .before .before .eval-all .last .1 .1 .1 .1 .1 .1 .1 .1 .1 .1 .1 .1 .1 .1 .1 .0 in
     let K2 = c .before .before .before .before .step-site .kept .1 .1 .1 .1 .1 .1 .1 .0 in
     let N2 = c .before .before .before .before .step-site .last .1 .1 .1 .1 .1 .1 .1 .0 in
     let le = subst (λ (m : ℕ). m ≤ length w) (sym (uE ∙ z)) (omega (arith, room, S)) in
@@ -323,19 +327,19 @@ same-length-2 t c =
 
 pub returns : (t : ℕ) → enter-lts.Need-returns (Q t) (enter-at t) enter.Post
 returns t c =
-    let start = c .before .before .before .before .before .before .before .before .before .before .before .before .before .before .before .before .before .before .before .before .before .before .before .before .before .before .before .before .before .before .before .before in
+    let start = c .before .before .before .before .before .before .before .before .before .before .before .before .before .before .before .before .before .before .before .before .before .before .before .before .before .before .before .before .before .before .before .before .before in
     let p = start .pre .1 .0 in
     let b = start .pre .1 .1 in
     let F = start .args .first in
-    let k = c .before .before .before .before .before .before .before .before .before .before .before .before .before .before .before .before .before .before .before .before .before .number .result in
-    let kE = c .before .before .before .before .before .before .before .before .before .before .before .before .before .before .before .before .before .before .before .before .before .number .ensures .0 in
-    let n = c .before .before .before .before .before .before .before .before .before .before .before .before .before .before .before .before .before .before .before .number2 .result in
-    let nE = c .before .before .before .before .before .before .before .before .before .before .before .before .before .before .before .before .before .before .before .number2 .ensures .0 in
-    let u = c .before .before .before .before .before .before .before .before .before .before .before .before .before .before .before .before .before .before .row .result in
-    let uE = c .before .before .before .before .before .before .before .before .before .before .before .before .before .before .before .before .before .before .row .ensures in
-    let C1 = c .before .before .before .before .before .before .before .before .before .before .before .before .before .before .eval-all .last .1 .1 .1 .1 .1 .1 .1 .1 .1 .1 .1 .1 .1 .0 in
+    let k = c .before .before .before .before .before .before .before .before .before .before .before .before .before .before .before .before .before .before .before .before .before .before .number .result in
+    let kE = c .before .before .before .before .before .before .before .before .before .before .before .before .before .before .before .before .before .before .before .before .before .before .number .ensures .0 in
+    let n = c .before .before .before .before .before .before .before .before .before .before .before .before .before .before .before .before .before .before .before .before .number2 .result in
+    let nE = c .before .before .before .before .before .before .before .before .before .before .before .before .before .before .before .before .before .before .before .before .number2 .ensures .0 in
+    let u = c .before .before .before .before .before .before .before .before .before .before .before .before .before .before .before .before .before .before .before .row .result in
+    let uE = c .before .before .before .before .before .before .before .before .before .before .before .before .before .before .before .before .before .before .before .row .ensures in
+    let C1 = c .before .before .before .before .before .before .before .before .before .before .before .before .before .before .before .eval-all .last .1 .1 .1 .1 .1 .1 .1 .1 .1 .1 .1 .1 .1 .0 in
     let C2 = c .before .before .before .before .step-site .last .1 .1 .1 .1 .1 .0 in
-    call-done p b k n kE nE F u uE C1 C2 (c .before .before .before .before .before .before .before .before .before .before .before .before .before .before .eval-all .ensures) (c .before .before .before .before .before .before .before .before .if1 .taken) (c .before .before .before .before .step-site .ensures)
+    call-done p b k n kE nE F u uE C1 C2 (c .before .before .before .before .before .before .before .before .before .before .before .before .before .before .before .eval-all .ensures) (c .before .before .before .before .before .before .before .before .enum-told .given .1) (c .before .before .before .before .step-site .ensures)
 
 pub same-length-3 : (t : ℕ) → enter-lts.Need-same-length-3 (Q t) (enter-at t) enter.Post
 same-length-3 t c =
@@ -376,4 +380,4 @@ returns-2 t c =
     let u = c .before .before .before .before .before .before .before .before .before .before .row .result in
     let uE = c .before .before .before .before .before .before .before .before .before .before .row .ensures in
     let C1 = c .before .before .before .before .before .before .eval-all .last .1 .1 .1 .1 .1 .1 .1 .1 .1 .1 .1 .1 .1 .0 in
-    call-stop p b k n kE nE F u uE C1 (c .before .before .before .before .before .before .eval-all .ensures) (c .if1 .left)
+    call-stop p b k n kE nE F u uE C1 (c .before .before .before .before .before .before .eval-all .ensures) (unvalued (c .before .before .before .before .before .before .eval-all .result .end) (c .match .keys2))

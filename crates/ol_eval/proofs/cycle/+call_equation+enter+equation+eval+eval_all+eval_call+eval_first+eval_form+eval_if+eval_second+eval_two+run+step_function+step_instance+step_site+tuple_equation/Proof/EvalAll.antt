@@ -258,8 +258,8 @@ pass-all-requires-2 t c κs =
     let h = moved f (start .args .consts .now) (start .args .level) (start .args .node) (start .args .first) (start .args .cells .now) (start .args .before .now) (refl {a = c .before .before .before .before .before .before .before .before .before .loop .pos}) (tail-all u o) (c .before .before .before .before .before .eval .ensures) in
     subst (λ (m : ℕ). Passable f (start .args .rows .now) (start .args .level) m (c .before .before .before .before .before .eval .result .next)) (sym (left-pass n i)) (going-passable g h len)
 
-pub add-t41 : (t : ℕ) → eval-all-lts.Need-add-t41 (Q t) (eval-all-at t) eval-all.Post Inv-loop μ-loop
-add-t41 t c =
+pub add-t42 : (t : ℕ) → eval-all-lts.Need-add-t42 (Q t) (eval-all-at t) eval-all.Post Inv-loop μ-loop
+add-t42 t c =
     let start = c .before .before .before .before .before .before .before .before .before .before .before .before .before .before .before .before .before .before .before .before .before in
     let p = start .pre .1 .0 in
     let inv = c .before .before .before .before .before .before .before .before .before .before .before .loop .inv in

@@ -7,6 +7,7 @@ use native.Mathlib.Omega.{arith}
 use lib.ListN.{length, getD, drop}
 use Rattle.ol_spec.specs.Order.{order}
 use Rattle.ol_tables.specs.At.{nodeIn}
+use Rattle.ol_eval.proofs.Endings.{unvalued}
 use Rattle.ol_eval.proofs.Running.{length-put-mid, length-mid}
 use Rattle.ol_eval.proofs.Turns.{stands, LeftIn, run-start, run-next, turn-part, turn-ready, turn-goes, turn-stops, run-done}
 -- </uses>
@@ -292,6 +293,9 @@ equation-requires t c κs =
     let q = c .before .before .before .before .before .before .before .before .before .equations .ensures in
     (omega (arith, start .pre .0), turn-ready (start .args .first) p (c .before .before .before .before .before .loop .cells) l q (inv .1))
 
+pub enum-told : (t : ℕ) → run-lts.Need-enum-told (Q t) (run-at t) run.Post Inv-loop μ-loop
+enum-told t c = search needs
+
 pub same-length : (t : ℕ) → run-lts.Need-same-length (Q t) (run-at t) run.Post Inv-loop μ-loop
 same-length t c =
     let inv = c .before .before .before .before .before .before .before .before .before .before .before .loop .inv in
@@ -328,40 +332,40 @@ returns t c =
     let is = c .before .before .before .before .before .before .before .before .before .order-at .ensures .0 ∙ r .program .table .tabsOf k (p .below) .orders (c .before .before .before .before .before .before .before .before .before .before .before .loop .j) (omega (arith, lt, n)) in
     let l = run-next (start .args .file .now) (start .args .consts .now) k (start .args .first) (start .args .cells .now) (start .args .before .now) (start .args .old .now) (c .before .before .before .before .before .before .before .before .before .before .before .loop .cells) (c .before .before .before .before .before .before .before .before .before .before .before .loop .new) i (c .before .before .before .before .before .before .before .before .before .before .before .loop .j) (inv .3) (omega (arith, lt, n, node .all)) is in
     let q = c .before .before .before .before .before .before .before .before .before .before .before .before .before .before .before .equations .ensures in
-    turn-stops (start .args .first) p (c .before .before .before .before .before .before .before .before .before .before .before .loop .cells) l q (c .before .before .before .before .before .equation .result) (c .before .before .before .before .before .equation .last .1 .1 .1 .1 .1 .1 .1 .1 .0) (c .before .before .before .before .before .equation .last .1 .1 .1 .1 .1 .1 .1 .1 .1 .1 .1 .0) (c .if1 .taken) (c .before .before .before .before .before .equation .kept .1 .1 .1 .1 .1 .1 .1 .1 .1 .1 .1 .0) (c .before .before .before .before .before .equation .ensures)
+    turn-stops (start .args .first) p (c .before .before .before .before .before .before .before .before .before .before .before .loop .cells) l q (c .before .before .before .before .before .equation .result) (c .before .before .before .before .before .equation .last .1 .1 .1 .1 .1 .1 .1 .1 .0) (c .before .before .before .before .before .equation .last .1 .1 .1 .1 .1 .1 .1 .1 .1 .1 .1 .0) (unvalued (c .before .before .before .before .before .equation .result) (c .match .keys2)) (c .before .before .before .before .before .equation .kept .1 .1 .1 .1 .1 .1 .1 .1 .1 .1 .1 .0) (c .before .before .before .before .before .equation .ensures)
 
 pub add-j : (t : ℕ) → run-lts.Need-add-j (Q t) (run-at t) run.Post Inv-loop μ-loop
 add-j t c =
-    let start = c .before .before .before .before .before .before .before .before .before .before .before .before .before .before .before .before .before .before .before .before .before .before .before .before .before .before in
+    let start = c .before .before .before .before .before .before .before .before .before .before .before .before .before .before .before .before .before .before .before .before .before .before .before .before .before .before .before in
     let p = start .pre .1 in
     let k = start .args .k in
     let r = p .running in
     let node = r .nodes k (p .below) in
-    let n = c .before .before .before .before .before .before .before .before .before .before .before .before .row .ensures ∙ r .program .sized .table .rowsOf k (p .below) .count in
-    let lt = c .before .before .before .before .before .before .before .before .before .before .loop-test .taken in
+    let n = c .before .before .before .before .before .before .before .before .before .before .before .before .before .row .ensures ∙ r .program .sized .table .rowsOf k (p .below) .count in
+    let lt = c .before .before .before .before .before .before .before .before .before .before .before .loop-test .taken in
     omega (arith, lt, n, node .few)
 
 pub loop-less : (t : ℕ) → run-lts.Need-loop-less (Q t) (run-at t) run.Post Inv-loop μ-loop
 loop-less t c =
-    let lt = c .before .before .before .before .before .before .before .before .before .before .loop-test .taken in
+    let lt = c .before .before .before .before .before .before .before .before .before .before .before .loop-test .taken in
     omega (arith, lt)
 
 pub loop-again : (t : ℕ) → run-lts.Need-loop-again (Q t) (run-at t) run.Post Inv-loop μ-loop
 loop-again t c =
-    let start = c .before .before .before .before .before .before .before .before .before .before .before .before .before .before .before .before .before .before .before .before .before .before .before .before .before .before in
+    let start = c .before .before .before .before .before .before .before .before .before .before .before .before .before .before .before .before .before .before .before .before .before .before .before .before .before .before .before in
     let p = start .pre .1 in
     let k = start .args .k in
     let r = p .running in
     let node = r .nodes k (p .below) in
-    let n = c .before .before .before .before .before .before .before .before .before .before .before .before .row .ensures ∙ r .program .sized .table .rowsOf k (p .below) .count in
-    let lt = c .before .before .before .before .before .before .before .before .before .before .loop-test .taken in
-    let inv = c .before .before .before .before .before .before .before .before .before .before .before .loop .inv in
-    let i = c .before .before .before .before .before .before .before .before .before .order-at .result in
-    let is = c .before .before .before .before .before .before .before .before .before .order-at .ensures .0 ∙ r .program .table .tabsOf k (p .below) .orders (c .before .before .before .before .before .before .before .before .before .before .before .loop .j) (omega (arith, lt, n)) in
-    let l = run-next (start .args .file .now) (start .args .consts .now) k (start .args .first) (start .args .cells .now) (start .args .before .now) (start .args .old .now) (c .before .before .before .before .before .before .before .before .before .before .before .loop .cells) (c .before .before .before .before .before .before .before .before .before .before .before .loop .new) i (c .before .before .before .before .before .before .before .before .before .before .before .loop .j) (inv .3) (omega (arith, lt, n, node .all)) is in
-    let q = c .before .before .before .before .before .before .before .before .before .before .before .before .before .before .before .equations .ensures in
-    let t = turn-part (start .args .first) p (c .before .before .before .before .before .before .before .before .before .before .before .loop .cells) l q in
-    (omega (arith, lt), (c .before .before .before .before .before .equation .kept .1 .1 .1 .1 .1 .1 .1 .1 .0) ∙ inv .1, (length-put-mid (getD (c .before .before .before .before .before .before .before .before .before .before .before .before .before .before .before .equations .last .1 .1 .1 .1 .0) i 0) (getD (c .before .before .before .before .before .before .before .before .before .before .before .before .before .before .before .equations .last .1 .1 .1 .1 .0) (i + 1) 0) (c .before .before .before .before .before .before .before .before .before .before .before .loop .new) (c .before .before .before .before .before .equation .last .1 .1 .1 .1 .1 .1 .1 .1 .1 .1 .1 .0) (t .0) (omega (arith, t .1, t .2)) ((c .before .before .before .before .before .equation .kept .1 .1 .1 .1 .1 .1 .1 .1 .1 .1 .1 .0) ∙ length-mid (getD (c .before .before .before .before .before .before .before .before .before .before .before .before .before .before .before .equations .last .1 .1 .1 .1 .0) i 0) (getD (c .before .before .before .before .before .before .before .before .before .before .before .before .before .before .before .equations .last .1 .1 .1 .1 .0) (i + 1) 0) (c .before .before .before .before .before .before .before .before .before .before .before .loop .new) (t .0) (omega (arith, t .1, t .2)))) ∙ inv .2, turn-goes (start .args .first) p (c .before .before .before .before .before .before .before .before .before .before .before .loop .cells) l q (c .before .before .before .before .before .equation .result) (c .before .before .before .before .before .equation .last .1 .1 .1 .1 .1 .1 .1 .1 .0) (c .before .before .before .before .before .equation .last .1 .1 .1 .1 .1 .1 .1 .1 .1 .1 .1 .0) (c .if1 .left) (c .before .before .before .before .before .equation .kept .1 .1 .1 .1 .1 .1 .1 .1 .1 .1 .1 .0) (c .before .before .before .before .before .equation .ensures))
+    let n = c .before .before .before .before .before .before .before .before .before .before .before .before .before .row .ensures ∙ r .program .sized .table .rowsOf k (p .below) .count in
+    let lt = c .before .before .before .before .before .before .before .before .before .before .before .loop-test .taken in
+    let inv = c .before .before .before .before .before .before .before .before .before .before .before .before .loop .inv in
+    let i = c .before .before .before .before .before .before .before .before .before .before .order-at .result in
+    let is = c .before .before .before .before .before .before .before .before .before .before .order-at .ensures .0 ∙ r .program .table .tabsOf k (p .below) .orders (c .before .before .before .before .before .before .before .before .before .before .before .before .loop .j) (omega (arith, lt, n)) in
+    let l = run-next (start .args .file .now) (start .args .consts .now) k (start .args .first) (start .args .cells .now) (start .args .before .now) (start .args .old .now) (c .before .before .before .before .before .before .before .before .before .before .before .before .loop .cells) (c .before .before .before .before .before .before .before .before .before .before .before .before .loop .new) i (c .before .before .before .before .before .before .before .before .before .before .before .before .loop .j) (inv .3) (omega (arith, lt, n, node .all)) is in
+    let q = c .before .before .before .before .before .before .before .before .before .before .before .before .before .before .before .before .equations .ensures in
+    let t = turn-part (start .args .first) p (c .before .before .before .before .before .before .before .before .before .before .before .before .loop .cells) l q in
+    (omega (arith, lt), (c .before .before .before .before .before .before .equation .kept .1 .1 .1 .1 .1 .1 .1 .1 .0) ∙ inv .1, (length-put-mid (getD (c .before .before .before .before .before .before .before .before .before .before .before .before .before .before .before .before .equations .last .1 .1 .1 .1 .0) i 0) (getD (c .before .before .before .before .before .before .before .before .before .before .before .before .before .before .before .before .equations .last .1 .1 .1 .1 .0) (i + 1) 0) (c .before .before .before .before .before .before .before .before .before .before .before .before .loop .new) (c .before .before .before .before .before .before .equation .last .1 .1 .1 .1 .1 .1 .1 .1 .1 .1 .1 .0) (t .0) (omega (arith, t .1, t .2)) ((c .before .before .before .before .before .before .equation .kept .1 .1 .1 .1 .1 .1 .1 .1 .1 .1 .1 .0) ∙ length-mid (getD (c .before .before .before .before .before .before .before .before .before .before .before .before .before .before .before .before .equations .last .1 .1 .1 .1 .0) i 0) (getD (c .before .before .before .before .before .before .before .before .before .before .before .before .before .before .before .before .equations .last .1 .1 .1 .1 .0) (i + 1) 0) (c .before .before .before .before .before .before .before .before .before .before .before .before .loop .new) (t .0) (omega (arith, t .1, t .2)))) ∙ inv .2, turn-goes (start .args .first) p (c .before .before .before .before .before .before .before .before .before .before .before .before .loop .cells) l q (c .before .before .before .before .before .before .equation .result) (c .before .before .before .before .before .before .equation .last .1 .1 .1 .1 .1 .1 .1 .1 .0) (c .before .before .before .before .before .before .equation .last .1 .1 .1 .1 .1 .1 .1 .1 .1 .1 .1 .0) (c .enum-told .given .1) (c .before .before .before .before .before .before .equation .kept .1 .1 .1 .1 .1 .1 .1 .1 .1 .1 .1 .0) (c .before .before .before .before .before .before .equation .ensures))
 
 pub same-length-3 : (t : ℕ) → run-lts.Need-same-length-3 (Q t) (run-at t) run.Post Inv-loop μ-loop
 same-length-3 t c =

@@ -196,52 +196,22 @@ run-requires t c κs =
     let w = c .before .before .before .before .before .before .before .before .before .before .before .row .ensures in
     (omega (arith, start .pre .0), instance-runnable h n _ o w (c .before .before .before .before .before .before .copy-cells .kept .1 .1 .1 .0))
 
+pub enum-told : (t : ℕ) → step-instance-lts.Need-enum-told (Q t) (step-instance-at t) step-instance.Post
+enum-told t c = search needs
+
 pub slice-write-new : (t : ℕ) → step-instance-lts.Need-slice-write-new (Q t) (step-instance-at t) step-instance.Post
 slice-write-new t c =
-    let start = c .before .before .before .before .before .before .before .before .before .before .before .before .before .before .before .before .before .before .before .before .before .before .before .before .before in
+    let start = c .before .before .before .before .before .before .before .before .before .before .before .before .before .before .before .before .before .before .before .before .before .before .before .before .before .before in
     let h = start .pre .1 .0 in
     let o = start .pre .1 .1 in
-    let n = c .before .before .before .before .before .before .before .before .before .before .before .before .before .before .before .before .before .row .result in
-    let w = c .before .before .before .before .before .before .before .before .before .before .before .before .before .before .before .before .before .row .ensures in
-    let x = c .before .before .before .before .before .run .last .1 .1 .1 .1 .1 .1 .1 .1 .1 .0 in
-    let kx = c .before .before .before .before .before .run .kept .1 .1 .1 .1 .1 .1 .1 .1 .1 .0 in
+    let n = c .before .before .before .before .before .before .before .before .before .before .before .before .before .before .before .before .before .before .row .result in
+    let w = c .before .before .before .before .before .before .before .before .before .before .before .before .before .before .before .before .before .before .row .ensures in
+    let x = c .before .before .before .before .before .before .run .last .1 .1 .1 .1 .1 .1 .1 .1 .1 .0 in
+    let kx = c .before .before .before .before .before .before .run .kept .1 .1 .1 .1 .1 .1 .1 .1 .1 .0 in
     omega (arith, put-length h n x o w kx, own-new h n o w)
 
 pub sub-write-cells : (t : ℕ) → step-instance-lts.Need-sub-write-cells (Q t) (step-instance-at t) step-instance.Post
 sub-write-cells t c =
-    let start = c .before .before .before .before .before .before .before .before .before .before .before .before .before .before .before .before .before .before .before .before .before .before .before .before .before .before in
-    let h = start .pre .1 .0 in
-    let o = start .pre .1 .1 in
-    let n = c .before .before .before .before .before .before .before .before .before .before .before .before .before .before .before .before .before .before .row .result in
-    let w = c .before .before .before .before .before .before .before .before .before .before .before .before .before .before .before .before .before .before .row .ensures in
-    let x = c .before .before .before .before .before .before .run .last .1 .1 .1 .1 .1 .1 .1 .1 .1 .0 in
-    let kx = c .before .before .before .before .before .before .run .kept .1 .1 .1 .1 .1 .1 .1 .1 .1 .0 in
-    omega (arith, set-length h n x o w kx, own-new h n o w)
-
-pub part-write-cells-start : (t : ℕ) → step-instance-lts.Need-part-write-cells-start (Q t) (step-instance-at t) step-instance.Post
-part-write-cells-start t c =
-    let start = c .before .before .before .before .before .before .before .before .before .before .before .before .before .before .before .before .before .before .before .before .before .before .before .before .before .before in
-    let h = start .pre .1 .0 in
-    let o = start .pre .1 .1 in
-    let n = c .before .before .before .before .before .before .before .before .before .before .before .before .before .before .before .before .before .before .row .result in
-    let w = c .before .before .before .before .before .before .before .before .before .before .before .before .before .before .before .before .before .before .row .ensures in
-    let x = c .before .before .before .before .before .before .run .last .1 .1 .1 .1 .1 .1 .1 .1 .1 .0 in
-    let kx = c .before .before .before .before .before .before .run .kept .1 .1 .1 .1 .1 .1 .1 .1 .1 .0 in
-    omega (arith, set-length h n x o w kx, own-new h n o w)
-
-pub part-write-cells-end : (t : ℕ) → step-instance-lts.Need-part-write-cells-end (Q t) (step-instance-at t) step-instance.Post
-part-write-cells-end t c =
-    let start = c .before .before .before .before .before .before .before .before .before .before .before .before .before .before .before .before .before .before .before .before .before .before .before .before .before .before in
-    let h = start .pre .1 .0 in
-    let o = start .pre .1 .1 in
-    let n = c .before .before .before .before .before .before .before .before .before .before .before .before .before .before .before .before .before .before .row .result in
-    let w = c .before .before .before .before .before .before .before .before .before .before .before .before .before .before .before .before .before .before .row .ensures in
-    let x = c .before .before .before .before .before .before .run .last .1 .1 .1 .1 .1 .1 .1 .1 .1 .0 in
-    let kx = c .before .before .before .before .before .before .run .kept .1 .1 .1 .1 .1 .1 .1 .1 .1 .0 in
-    omega (arith, set-length h n x o w kx, own-new h n o w)
-
-pub write-cells-requires : (t : ℕ) → step-instance-lts.Need-write-cells-requires (Q t) (step-instance-at t) step-instance.Post
-write-cells-requires t c κs =
     let start = c .before .before .before .before .before .before .before .before .before .before .before .before .before .before .before .before .before .before .before .before .before .before .before .before .before .before .before in
     let h = start .pre .1 .0 in
     let o = start .pre .1 .1 in
@@ -249,8 +219,44 @@ write-cells-requires t c κs =
     let w = c .before .before .before .before .before .before .before .before .before .before .before .before .before .before .before .before .before .before .before .row .ensures in
     let x = c .before .before .before .before .before .before .before .run .last .1 .1 .1 .1 .1 .1 .1 .1 .1 .0 in
     let kx = c .before .before .before .before .before .before .before .run .kept .1 .1 .1 .1 .1 .1 .1 .1 .1 .0 in
-    let kc = c .before .before .before .before .before .before .before .run .kept .1 .1 .1 .1 .1 .1 .0 ∙ c .before .before .before .before .before .before .before .before .before .before .before .before .before .before .copy-cells .kept .1 .1 .1 .0 in
+    omega (arith, set-length h n x o w kx, own-new h n o w)
+
+pub part-write-cells-start : (t : ℕ) → step-instance-lts.Need-part-write-cells-start (Q t) (step-instance-at t) step-instance.Post
+part-write-cells-start t c =
+    let start = c .before .before .before .before .before .before .before .before .before .before .before .before .before .before .before .before .before .before .before .before .before .before .before .before .before .before .before in
+    let h = start .pre .1 .0 in
+    let o = start .pre .1 .1 in
+    let n = c .before .before .before .before .before .before .before .before .before .before .before .before .before .before .before .before .before .before .before .row .result in
+    let w = c .before .before .before .before .before .before .before .before .before .before .before .before .before .before .before .before .before .before .before .row .ensures in
+    let x = c .before .before .before .before .before .before .before .run .last .1 .1 .1 .1 .1 .1 .1 .1 .1 .0 in
+    let kx = c .before .before .before .before .before .before .before .run .kept .1 .1 .1 .1 .1 .1 .1 .1 .1 .0 in
+    omega (arith, set-length h n x o w kx, own-new h n o w)
+
+pub part-write-cells-end : (t : ℕ) → step-instance-lts.Need-part-write-cells-end (Q t) (step-instance-at t) step-instance.Post
+part-write-cells-end t c =
+    let start = c .before .before .before .before .before .before .before .before .before .before .before .before .before .before .before .before .before .before .before .before .before .before .before .before .before .before .before in
+    let h = start .pre .1 .0 in
+    let o = start .pre .1 .1 in
+    let n = c .before .before .before .before .before .before .before .before .before .before .before .before .before .before .before .before .before .before .before .row .result in
+    let w = c .before .before .before .before .before .before .before .before .before .before .before .before .before .before .before .before .before .before .before .row .ensures in
+    let x = c .before .before .before .before .before .before .before .run .last .1 .1 .1 .1 .1 .1 .1 .1 .1 .0 in
+    let kx = c .before .before .before .before .before .before .before .run .kept .1 .1 .1 .1 .1 .1 .1 .1 .1 .0 in
+    omega (arith, set-length h n x o w kx, own-new h n o w)
+
+pub write-cells-requires : (t : ℕ) → step-instance-lts.Need-write-cells-requires (Q t) (step-instance-at t) step-instance.Post
+write-cells-requires t c κs =
+    let start = c .before .before .before .before .before .before .before .before .before .before .before .before .before .before .before .before .before .before .before .before .before .before .before .before .before .before .before .before in
+    let h = start .pre .1 .0 in
+    let o = start .pre .1 .1 in
+    let n = c .before .before .before .before .before .before .before .before .before .before .before .before .before .before .before .before .before .before .before .before .row .result in
+    let w = c .before .before .before .before .before .before .before .before .before .before .before .before .before .before .before .before .before .before .before .before .row .ensures in
+    let x = c .before .before .before .before .before .before .before .before .run .last .1 .1 .1 .1 .1 .1 .1 .1 .1 .0 in
+    let kx = c .before .before .before .before .before .before .before .before .run .kept .1 .1 .1 .1 .1 .1 .1 .1 .1 .0 in
+    let kc = c .before .before .before .before .before .before .before .before .run .kept .1 .1 .1 .1 .1 .1 .0 ∙ c .before .before .before .before .before .before .before .before .before .before .before .before .before .before .before .copy-cells .kept .1 .1 .1 .0 in
     (narrow h n w, omega (arith, kc, h .room, narrow h n w), cells-new h n x o w kx)
+
+pub enum-told-2 : (t : ℕ) → step-instance-lts.Need-enum-told-2 (Q t) (step-instance-at t) step-instance.Post
+enum-told-2 t c = search needs
 
 pub write-fresh-requires : (t : ℕ) → step-instance-lts.Need-write-fresh-requires (Q t) (step-instance-at t) step-instance.Post
 write-fresh-requires t c κs =
@@ -262,6 +268,9 @@ write-fresh-requires t c κs =
     let x = c .before .before .before .before .before .before .before .run .last .1 .1 .1 .1 .1 .1 .1 .1 .1 .0 in
     let kx = c .before .before .before .before .before .before .before .run .kept .1 .1 .1 .1 .1 .1 .1 .1 .1 .0 in
     fresh-sited h n x o w kx
+
+pub enum-told-3 : (t : ℕ) → step-instance-lts.Need-enum-told-3 (Q t) (step-instance-at t) step-instance.Post
+enum-told-3 t c = search needs
 
 pub copy-requires : (t : ℕ) → step-instance-lts.Need-copy-requires (Q t) (step-instance-at t) step-instance.Post
 copy-requires t c κs =
@@ -276,31 +285,31 @@ copy-requires t c κs =
 
 pub same-length : (t : ℕ) → step-instance-lts.Need-same-length (Q t) (step-instance-at t) step-instance.Post
 same-length t c =
-    let kc = c .before .before .before .before .before .before .before .before .before .before .run .kept .1 .1 .1 .1 .1 .1 .0 ∙ c .before .before .before .before .before .before .before .before .before .before .before .before .before .before .before .before .before .copy-cells .kept .1 .1 .1 .0 in
+    let kc = c .before .before .before .before .before .before .before .before .before .before .before .run .kept .1 .1 .1 .1 .1 .1 .0 ∙ c .before .before .before .before .before .before .before .before .before .before .before .before .before .before .before .before .before .before .copy-cells .kept .1 .1 .1 .0 in
     kc
 
 pub same-length-2 : (t : ℕ) → step-instance-lts.Need-same-length-2 (Q t) (step-instance-at t) step-instance.Post
 same-length-2 t c =
-    let start = c .before .before .before .before .before .before .before .before .before .before .before .before .before .before .before .before .before .before .before .before .before .before .before .before .before .before .before .before .before .before in
+    let start = c .before .before .before .before .before .before .before .before .before .before .before .before .before .before .before .before .before .before .before .before .before .before .before .before .before .before .before .before .before .before .before in
     let h = start .pre .1 .0 in
     let o = start .pre .1 .1 in
-    let n = c .before .before .before .before .before .before .before .before .before .before .before .before .before .before .before .before .before .before .before .before .before .before .row .result in
-    let w = c .before .before .before .before .before .before .before .before .before .before .before .before .before .before .before .before .before .before .before .before .before .before .row .ensures in
-    let x = c .before .before .before .before .before .before .before .before .before .before .run .last .1 .1 .1 .1 .1 .1 .1 .1 .1 .0 in
-    let kx = c .before .before .before .before .before .before .before .before .before .before .run .kept .1 .1 .1 .1 .1 .1 .1 .1 .1 .0 in
+    let n = c .before .before .before .before .before .before .before .before .before .before .before .before .before .before .before .before .before .before .before .before .before .before .before .row .result in
+    let w = c .before .before .before .before .before .before .before .before .before .before .before .before .before .before .before .before .before .before .before .before .before .before .before .row .ensures in
+    let x = c .before .before .before .before .before .before .before .before .before .before .before .run .last .1 .1 .1 .1 .1 .1 .1 .1 .1 .0 in
+    let kx = c .before .before .before .before .before .before .before .before .before .before .before .run .kept .1 .1 .1 .1 .1 .1 .1 .1 .1 .0 in
     record-length h n x (c .before .before .write-cells .last .1 .1 .0) o w kx (c .before .before .write-cells .kept .1 .1 .0)
 
 pub returns : (t : ℕ) → step-instance-lts.Need-returns (Q t) (step-instance-at t) step-instance.Post
 returns t c =
-    let start = c .before .before .before .before .before .before .before .before .before .before .before .before .before .before .before .before .before .before .before .before .before .before .before .before .before .before .before .before .before .before in
+    let start = c .before .before .before .before .before .before .before .before .before .before .before .before .before .before .before .before .before .before .before .before .before .before .before .before .before .before .before .before .before .before .before in
     let h = start .pre .1 .0 in
     let o = start .pre .1 .1 in
-    let w = c .before .before .before .before .before .before .before .before .before .before .before .before .before .before .before .before .before .before .before .before .before .before .row .ensures in
-    let iw = c .before .before .before .before .before .before .before .before .before .before .before .before .before .before .before .before .before .before .before .before .before .row2 .ensures in
-    let cells = c .before .before .before .before .before .before .before .before .before .before .run .last .1 .1 .1 .1 .1 .1 .0 in
-    let x = c .before .before .before .before .before .before .before .before .before .before .run .last .1 .1 .1 .1 .1 .1 .1 .1 .1 .0 in
-    let e = entered h o w iw refl (c .before .before .before .before .before .before .before .before .before .before .before .before .before .before .before .before .before .copy-cells .ensures) in
-    instance-finished e (c .before .before .before .before .before .before .before .before .before .before .run .result) cells x (c .before .before .write-cells .last .1 .1 .0) (c .before .before .before .before .before .before .before .before .before .before .run .ensures) (c .before .before .before .before .before .if1 .taken) (c .before .before .write-cells .ensures)
+    let w = c .before .before .before .before .before .before .before .before .before .before .before .before .before .before .before .before .before .before .before .before .before .before .before .row .ensures in
+    let iw = c .before .before .before .before .before .before .before .before .before .before .before .before .before .before .before .before .before .before .before .before .before .before .row2 .ensures in
+    let cells = c .before .before .before .before .before .before .before .before .before .before .before .run .last .1 .1 .1 .1 .1 .1 .0 in
+    let x = c .before .before .before .before .before .before .before .before .before .before .before .run .last .1 .1 .1 .1 .1 .1 .1 .1 .1 .0 in
+    let e = entered h o w iw refl (c .before .before .before .before .before .before .before .before .before .before .before .before .before .before .before .before .before .before .copy-cells .ensures) in
+    instance-finished e (c .before .before .before .before .before .before .before .before .before .before .before .run .result) cells x (c .before .before .write-cells .last .1 .1 .0) (c .before .before .before .before .before .before .before .before .before .before .before .run .ensures) (c .before .before .before .before .before .enum-told .given .1) (c .before .before .write-cells .ensures)
 
 pub same-length-3 : (t : ℕ) → step-instance-lts.Need-same-length-3 (Q t) (step-instance-at t) step-instance.Post
 same-length-3 t c =
@@ -328,7 +337,7 @@ returns-2 t c =
     let cells = c .before .before .before .before .before .before .before .before .before .before .run .last .1 .1 .1 .1 .1 .1 .0 in
     let x = c .before .before .before .before .before .before .before .before .before .before .run .last .1 .1 .1 .1 .1 .1 .1 .1 .1 .0 in
     let e = entered h o w iw refl (c .before .before .before .before .before .before .before .before .before .before .before .before .before .before .before .before .before .copy-cells .ensures) in
-    instance-failed e (c .before .before .before .before .before .before .before .before .before .before .run .result) cells x (c .before .before .write-fresh .last .1 .1 .1 .1 .0) (c .before .before .before .before .before .before .before .before .before .before .run .ensures) (c .before .before .before .before .if2 .taken) (c .before .before .write-fresh .ensures)
+    instance-failed e (c .before .before .before .before .before .before .before .before .before .before .run .result) cells x (c .before .before .write-fresh .last .1 .1 .1 .1 .0) (c .before .before .before .before .before .before .before .before .before .before .run .ensures) (c .before .before .before .before .enum-told2 .given .1) (c .before .before .write-fresh .ensures)
 
 pub same-length-5 : (t : ℕ) → step-instance-lts.Need-same-length-5 (Q t) (step-instance-at t) step-instance.Post
 same-length-5 t c =
@@ -356,4 +365,4 @@ returns-3 t c =
     let cells = c .before .before .before .before .before .before .before .before .before .before .run .last .1 .1 .1 .1 .1 .1 .0 in
     let x = c .before .before .before .before .before .before .before .before .before .before .run .last .1 .1 .1 .1 .1 .1 .1 .1 .1 .0 in
     let e = entered h o w iw refl (c .before .before .before .before .before .before .before .before .before .before .before .before .before .before .before .before .before .copy-cells .ensures) in
-    instance-overflowed e (c .before .before .before .before .before .before .before .before .before .before .run .result) cells x (c .before .before .copy .last .1 .0) (c .before .before .before .before .before .before .before .before .before .before .run .ensures) (c .before .before .before .before .before .if1 .left) (c .before .before .before .before .if2 .left) (c .before .before .copy .ensures)
+    instance-overflowed e (c .before .before .before .before .before .before .before .before .before .before .run .result) cells x (c .before .before .copy .last .1 .0) (c .before .before .before .before .before .before .before .before .before .before .run .ensures) (c .before .before .before .before .enum-told3 .given .1) (c .before .before .copy .ensures)

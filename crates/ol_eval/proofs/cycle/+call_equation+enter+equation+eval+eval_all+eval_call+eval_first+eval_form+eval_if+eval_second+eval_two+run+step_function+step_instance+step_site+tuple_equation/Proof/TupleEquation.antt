@@ -4,6 +4,7 @@ use mathlib.Core.Path.{_≡_, refl, sym, ap, subst, _∙_}
 use Prim.Native.Nat.{_+_, _-_, _*_, _≤_, _<_, min}
 use native.Mathlib.Omega.{arith}
 use lib.ListN.{length, getD}
+use Rattle.ol_eval.proofs.Endings.{unvalued}
 use Rattle.ol_eval.proofs.Rights.{tuple-inside, tuple-ready, tuple-passes, names-least, values-assignable, tuple-done, tuple-stops}
 -- </uses>
 use Prim.Native.Nat.{ℕ}
@@ -59,47 +60,50 @@ eval-all-requires t c κs =
     let ce = c .before .before .before .number .ensures .0 in
     (omega (arith, start .pre .0), (tuple-ready p q count ce, tuple-passes p q count ce refl))
 
+pub enum-told : (t : ℕ) → tuple-equation-lts.Need-enum-told (Q t) (tuple-equation-at t) tuple-equation.Post
+enum-told t c = search needs
+
 pub less-requires : (t : ℕ) → tuple-equation-lts.Need-less-requires (Q t) (tuple-equation-at t) tuple-equation.Post
 less-requires t c κs = tt
 
 pub add-assign : (t : ℕ) → tuple-equation-lts.Need-add-assign (Q t) (tuple-equation-at t) tuple-equation.Post
 add-assign t c =
-    let start = c .before .before .before .before .before .before .before .before .before .before .before .before .before .before .before .before .before .before .before in
+    let start = c .before .before .before .before .before .before .before .before .before .before .before .before .before .before .before .before .before .before .before .before in
     let p = start .pre .1 .0 in
     let q = start .pre .1 .1 in
     let inside = tuple-inside p q in
-    let count = c .before .before .before .before .before .before .before .before .before .number .result in
+    let count = c .before .before .before .before .before .before .before .before .before .before .number .result in
     let m = names-least p count q (c .less .ensures) in
     omega (arith, inside .0, (p .running .program .sized .small), m .place)
 
 pub slice-aggregate-assign : (t : ℕ) → tuple-equation-lts.Need-slice-aggregate-assign (Q t) (tuple-equation-at t) tuple-equation.Post
-slice-aggregate-assign t c = sym ((c .before .before .before .before .before .before .eval-all .kept .1 .1 .1 .1 .1 .1 .1 .1 .1 .1 .1 .1 .1 .0))
+slice-aggregate-assign t c = sym ((c .before .before .before .before .before .before .before .eval-all .kept .1 .1 .1 .1 .1 .1 .1 .1 .1 .1 .1 .1 .1 .0))
 
 pub assign-requires : (t : ℕ) → tuple-equation-lts.Need-assign-requires (Q t) (tuple-equation-at t) tuple-equation.Post
 assign-requires t c κs =
-    let start = c .before .before .before .before .before .before .before .before .before .before .before .before .before .before .before .before .before .before .before .before .before in
+    let start = c .before .before .before .before .before .before .before .before .before .before .before .before .before .before .before .before .before .before .before .before .before .before in
     let p = start .pre .1 .0 in
     let q = start .pre .1 .1 in
     let inside = tuple-inside p q in
-    let count = c .before .before .before .before .before .before .before .before .before .before .before .number .result in
-    let ce = c .before .before .before .before .before .before .before .before .before .before .before .number .ensures .0 in
+    let count = c .before .before .before .before .before .before .before .before .before .before .before .before .number .result in
+    let ce = c .before .before .before .before .before .before .before .before .before .before .before .before .number .ensures .0 in
     let m = names-least p count q (c .before .before .less .ensures) in
-    values-assignable p (c .before .before .less .result) ((c .before .before .before .before .before .before .before .eval-all .last .1 .1 .1 .1 .1 .1 .1 .1 .1 .1 .1 .1 .1 .0)) (m .least) (omega (arith, c .before .before .less .ensures, ce, inside .1)) (omega (arith, (c .before .before .before .before .before .before .before .eval-all .kept .1 .1 .1 .1 .1 .1 .1 .1 .1 .1 .1 .1 .1 .0), c .before .before .less .ensures, ce, inside .1))
+    values-assignable p (c .before .before .less .result) ((c .before .before .before .before .before .before .before .before .eval-all .last .1 .1 .1 .1 .1 .1 .1 .1 .1 .1 .1 .1 .1 .0)) (m .least) (omega (arith, c .before .before .less .ensures, ce, inside .1)) (omega (arith, (c .before .before .before .before .before .before .before .before .eval-all .kept .1 .1 .1 .1 .1 .1 .1 .1 .1 .1 .1 .1 .1 .0), c .before .before .less .ensures, ce, inside .1))
 
 pub same-length : (t : ℕ) → tuple-equation-lts.Need-same-length (Q t) (tuple-equation-at t) tuple-equation.Post
 same-length t c = c .before .before .assign .kept .1 .1 .1 .1 .1 .0
 
 pub same-length-2 : (t : ℕ) → tuple-equation-lts.Need-same-length-2 (Q t) (tuple-equation-at t) tuple-equation.Post
-same-length-2 t c = c .before .before .before .before .before .before .before .before .before .before .eval-all .kept .1 .1 .1 .1 .1 .1 .1 .1 .1 .1 .1 .1 .1 .1 .1 .0
+same-length-2 t c = c .before .before .before .before .before .before .before .before .before .before .before .eval-all .kept .1 .1 .1 .1 .1 .1 .1 .1 .1 .1 .1 .1 .1 .1 .1 .0
 
 pub returns : (t : ℕ) → tuple-equation-lts.Need-returns (Q t) (tuple-equation-at t) tuple-equation.Post
 returns t c =
-    let start = c .before .before .before .before .before .before .before .before .before .before .before .before .before .before .before .before .before .before .before .before .before .before .before .before in
+    let start = c .before .before .before .before .before .before .before .before .before .before .before .before .before .before .before .before .before .before .before .before .before .before .before .before .before in
     let p = start .pre .1 .0 in
     let q = start .pre .1 .1 in
-    let count = c .before .before .before .before .before .before .before .before .before .before .before .before .before .before .number .result in
-    let ce = c .before .before .before .before .before .before .before .before .before .before .before .before .before .before .number .ensures .0 in
-    tuple-done p (start .args .first) count (c .before .before .before .before .before .less .result) ((c .before .before .before .before .before .before .before .before .before .before .eval-all .last .1 .1 .1 .1 .1 .1 .1 .1 .1 .1 .1 .1 .1 .0)) (c .before .before .assign .last .1 .1 .1 .1 .1 .0) q ce (c .before .before .before .before .before .before .before .before .before .before .eval-all .ensures) (c .before .before .before .before .before .before .if1 .taken) (c .before .before .before .before .before .less .ensures) (c .before .before .assign .ensures)
+    let count = c .before .before .before .before .before .before .before .before .before .before .before .before .before .before .before .number .result in
+    let ce = c .before .before .before .before .before .before .before .before .before .before .before .before .before .before .before .number .ensures .0 in
+    tuple-done p (start .args .first) count (c .before .before .before .before .before .less .result) ((c .before .before .before .before .before .before .before .before .before .before .before .eval-all .last .1 .1 .1 .1 .1 .1 .1 .1 .1 .1 .1 .1 .1 .0)) (c .before .before .assign .last .1 .1 .1 .1 .1 .0) q ce (c .before .before .before .before .before .before .before .before .before .before .before .eval-all .ensures) (c .before .before .before .before .before .before .enum-told .given .1) (c .before .before .before .before .before .less .ensures) (c .before .before .assign .ensures)
 
 pub same-length-3 : (t : ℕ) → tuple-equation-lts.Need-same-length-3 (Q t) (tuple-equation-at t) tuple-equation.Post
 same-length-3 t c = refl
@@ -114,4 +118,4 @@ returns-2 t c =
     let q = start .pre .1 .1 in
     let count = c .before .before .before .before .before .before .before .before .number .result in
     let ce = c .before .before .before .before .before .before .before .before .number .ensures .0 in
-    tuple-stops p (start .args .first) count ((c .before .before .before .before .eval-all .last .1 .1 .1 .1 .1 .1 .1 .1 .1 .1 .1 .1 .1 .0)) (start .args .cells .now) q ce (c .before .before .before .before .eval-all .ensures) (c .if1 .left)
+    tuple-stops p (start .args .first) count ((c .before .before .before .before .eval-all .last .1 .1 .1 .1 .1 .1 .1 .1 .1 .1 .1 .1 .1 .0)) (start .args .cells .now) q ce (c .before .before .before .before .eval-all .ensures) (unvalued (c .before .before .before .before .eval-all .result .end) (c .match .keys2))
