@@ -21,7 +21,7 @@ abbrev μ-loop : tie.MeasureT-loop
 
 abbrev Inv-equations : tie.InvT-equations
 Inv-equations file limits enums starts definers placed₀ order₀ done n₀ i₀ placed order n i =
-    Passing (equations file limits enums starts) (pass (equations file limits enums starts) 0 (equations file limits enums starts) (take done order₀)) i placed order n
+    Passing (equations file limits enums starts) (pass (equations file limits enums starts) 0 (equations file limits enums starts) (take done order₀)) i order₀ placed order n
 
 abbrev μ-equations : tie.MeasureT-equations
 μ-equations file limits enums starts definers placed₀ order₀ done n₀ i₀ placed order n i = length starts - i

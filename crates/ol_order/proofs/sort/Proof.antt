@@ -54,7 +54,9 @@ same-length-2 c = c .before .before .before .before .before .before .before .pas
 
 -- src/lib.rt:227:1
 returns : tie.Need-returns
-returns c = sorts-made (c .before .before .before .before .before .before .before .passes .ensures) (c .before .first-unplaced .ensures)
+returns c =
+    let start = c .before .before .before .before .before .before .before .before .before .before .before .before .before .before .before .before .before .before .before .before in
+    (sorts-made (start .pre .1 .1 ∙ sym (as-many (start .args .file .now) (start .args .limits) (start .args .enums) (start .args .starts .now))) (c .before .before .before .before .before .before .before .passes .ensures) (c .before .first-unplaced .ensures), (c .before .before .before .before .before .before .before .before .before .before .before .before .before .before .define-all .ensures (start .args .limits) (start .args .enums) refl (start .pre .0)))
 
 pub sort-spec : {M : Type 1} → statement M
 sort-spec =

@@ -1,10 +1,11 @@
 -- <uses>
-use mathlib.Core.Path.{sym, _∙_}
+use mathlib.Core.Path.{sym, ap, _∙_}
 use native.Mathlib.Omega.{arith}
 use lib.Seq.{length-take-le}
 use borrow.Author.Needs.{needs}
+use Rattle.ol_order.specs.Tables.{putAll}
 use Rattle.ol_order.proofs.Nodes.{counted-few, front-readable, not-counted}
-use Rattle.ol_order.proofs.Rows.{front-blank, node-done}
+use Rattle.ol_order.proofs.Rows.{front-blank, front-equations, node-done}
 -- </uses>
 use Rattle.ol_order.proofs.table.order_with.Statement.{statement}
 use Rattle.ol_order.proofs.table.order_with.Tie as tie
@@ -59,13 +60,13 @@ same-length-2 c = c .before .before .before .before .order-starts .kept .1 .1 .1
 returns : tie.Need-returns
 returns c =
     let start = c .before .before .before .before .before .before .before .before .before .before .before .before .before .before .before .before .before in
-    node-done (start .args .file .now) (start .args .limits) (start .args .enums) (start .args .at) (start .pre .0) (c .before .before .before .before .before .before .before .before .before .before .before .before .equation-starts .ensures .0 _ _ (start .pre .0 .is)) (c .before .before .before .before .before .before .before .before .before .n .given .1) (c .before .before .before .before .before .before .before .before .before .before .before .before .equation-starts .ensures .1 _ _ (start .pre .0 .is)) (c .before .before .before .before .order-starts .ensures)
+    (node-done (start .args .file .now) (start .args .limits) (start .args .enums) (start .args .at) (start .pre .0) (c .before .before .before .before .before .before .before .before .before .before .before .before .equation-starts .ensures .0 _ _ (start .pre .0 .is)) (c .before .before .before .before .before .before .before .before .before .n .given .1) (c .before .before .before .before .before .before .before .before .before .before .before .before .equation-starts .ensures .1 _ _ (start .pre .0 .is)) (c .before .before .before .before .order-starts .ensures .0), c .before .before .before .before .order-starts .ensures .1 ∙ ap (λ qs. putAll 0 qs (start .args .definers .now)) (front-equations (start .args .file .now) (start .args .limits) (start .args .enums) (start .args .at) (start .pre .0) (c .before .before .before .before .before .before .before .before .before .before .before .before .equation-starts .ensures .0 _ _ (start .pre .0 .is)) (c .before .before .before .before .before .before .before .before .before .n .given .1) (c .before .before .before .before .before .before .before .before .before .before .before .before .equation-starts .ensures .1 _ _ (start .pre .0 .is))))
 
 -- src/table.rt:76:1
 returns-2 : tie.Need-returns-2
 returns-2 c =
     let start = c .before .before .before .before .before .before .before .before in
-    not-counted (start .args .file .now) (start .args .limits) (start .args .enums) (start .args .at) (start .pre .0) (c .before .before .before .equation-starts .ensures .0 _ _ (start .pre .0 .is)) (c .enum-told .given .1)
+    (not-counted (start .args .file .now) (start .args .limits) (start .args .enums) (start .args .at) (start .pre .0) (c .before .before .before .equation-starts .ensures .0 _ _ (start .pre .0 .is)) (c .enum-told .given .1), not-counted (start .args .file .now) (start .args .limits) (start .args .enums) (start .args .at) (start .pre .0) (c .before .before .before .equation-starts .ensures .0 _ _ (start .pre .0 .is)) (c .enum-told .given .1))
 
 pub order-with-spec : {M : Type 1} → statement M
 order-with-spec =
