@@ -16,17 +16,16 @@ use ol_ir::read::name;
 use ol_spec::Fault;
 use ol_spec::Limits;
 use ol_spec::Sorted;
-ghost use mathlib.Core.List.{List, []};
+ghost use mathlib.Core.List.{[]};
 ghost use mathlib.Core.Option.{some};
 ghost use mathlib.Core.Path.{_≡_};
 ghost use Prim.Native.Nat.{ℕ, _≤_, _<_};
 ghost use lib.ListN.{length, getD, set, take, drop};
 ghost use Rattle.ol_spec.specs.Limits.{relayLoader};
-ghost use Rattle.ol_spec.specs.Read.{got, many, nameR};
 ghost use Rattle.ol_spec.specs.Order.{pass, order as inOrder};
 ghost use Rattle.ol_spec.specs.Answers.{sortedFault};
 ghost use Rattle.ol_spec.specs.Cycle.{orderNode, ordering};
-ghost use Rattle.ol_order.specs.Tables.{equationsAt, nodeAt, put, putAll, waitsFor, firstZero, orderOf};
+ghost use Rattle.ol_order.specs.Tables.{equationsAt, nodeAt, put, putAll, namesAt, putStarts, waitsFor, firstZero, orderOf};
 ghost use Rattle.ol_order.specs.Post.{Readable, NodeReads, Blank, Definers, State, Sorts};
 
 // No name has a definer: 255 stands for none.
@@ -46,9 +45,9 @@ fn enter(definers: &mut [u8], x: usize, index: u8)
     }
 }
 
-// Each of so many names gets the equation's index.
+// Each of so many names gets the equation's index, up to one that the file's end cuts off.
 fn define(file: &[u8], count: usize, at: usize, index: u8, definers: &mut [u8])
-    ensures { λ _. ⌜ ((xs : List ℕ) (n : ℕ) → many count (nameR (now (file .entry))) at ≡ got xs n → now (definers .exit) ≡ put xs index (now (definers .entry))) ⌝ }
+    ensures { λ _. ⌜ now (definers .exit) ≡ put (namesAt count (now (file .entry)) at) index (now (definers .entry)) ⌝ }
 {
     let mut next = at;
     let mut left = count;
@@ -66,10 +65,10 @@ fn define(file: &[u8], count: usize, at: usize, index: u8, definers: &mut [u8])
     }
 }
 
-// Which equation defines each name: of several the last.
+// Which equation defines each name: of several the last. Ends where no count of names stands.
 fn define_all(file: &[u8], most: usize, starts: &[usize], definers: &mut [u8])
     requires { ⌜ length (now starts) ≤ 80 ⌝ }
-    ensures { λ _. ⌜ ((l : Limits) (enums : ℕ) → l .names ≡ most → Readable (now (file .entry)) l enums (now (starts .entry)) → now (definers .exit) ≡ putAll 0 (equationsAt (now (file .entry)) l enums (now (starts .entry))) (now (definers .entry))) ⌝ }
+    ensures { λ _. ⌜ now (definers .exit) ≡ putStarts (now (file .entry)) most 0 (now (starts .entry)) (now (definers .entry)) ⌝ }
 {
     let mut i = 0;
     while i < starts.len() {
