@@ -124,7 +124,7 @@ module _ {s rows : List ℕ} {c : Sections} (rd : DeclaredReady s rows c) (st : 
   pub file-sorted : {ec cc : ℕ} {sorts s₁ s₂ s₃ : List ℕ} {fe fk : Option ℕ} {le lk : Bool} {r : Sorting} → Byte s 1 ec → Byte s (c .constants) cc
       → ((es : List (List ℕ)) → length es ≡ ec → Enums s 2 es → Sorts (concat (map enumDeclares (numbered 0 (placed enumSize 2 es)))) sorts s₁ none true fe le)
       → ((enums : ℕ) (cs : List Constant) → length cs ≡ cc → Listed constantBytes (constantFits base enums) s (c .constants + 1) cs → Sorts (declaredAs constant (map placedConstantName (placed constantSize (c .constants + 1) cs))) s₁ s₂ fe le fk lk)
-      → Sorts (concat (map nodeDeclares (numbered 0 (placedNodes (fileAt s))))) s₂ s₃ fk lk (placeOf (r .found)) (r .low) → FileSorted s sorts r
+      → Sorts (concat (map nodeDeclares (numbered 0 (placedNodes (fileAt s))))) s₂ s₃ fk lk (placeOf (r .found)) (r .low) → FileSorted s sorts s₃ r
   file-sorted {ec} {cc} {sorts} {s₁} {s₂} {s₃} {fe} {fk} {le} {lk} {r} eb cb enums constants nodes =
       let f = fileAt s in
       let start = rd .sections .constants in
@@ -135,6 +135,8 @@ module _ {s rows : List ℕ} {c : Sections} (rd : DeclaredReady s rows c) (st : 
       (constants (length (f .enums)) (f .constants) count (subst (λ p. Listed constantBytes (constantFits base (length (f .enums))) s p (f .constants)) (sym start) (st .constants))) in
       let all : Sorts (declared f) sorts s₃ none true (placeOf (r .found)) (r .low) = sorts-two (sorts-two we wc) nodes in
       record {
+        enters = all .enters;
+        clash = all .finds;
         finds = λ blank. all .finds ∙ clash-is sorts st (blank .zero) (blank .below);
         lows = all .lows;
       }
@@ -149,5 +151,5 @@ all-low : (ds : List Declared) → allOf isLow ds ≡ true → Each (λ d. d .na
 all-low [] e = tt
 all-low (d ∷ ds) e = let w = both (isLow d) (allOf isLow ds) e in (ltb-true (d .name) 1024 (w .0), all-low ds (w .1))
 
-pub low-names : {s sorts : List ℕ} {r : Sorting} → FileSorted s sorts r → r .low ≡ true → Each (λ d. d .name < 1024) (declared (fileAt s))
+pub low-names : {s sorts sorts′ : List ℕ} {r : Sorting} → FileSorted s sorts sorts′ r → r .low ≡ true → Each (λ d. d .name < 1024) (declared (fileAt s))
 low-names {s} w e = all-low (declared (fileAt s)) (sym (w .lows) ∙ e)

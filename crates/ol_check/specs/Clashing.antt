@@ -74,7 +74,10 @@ pub record Blank (f : File) (names : List ℕ) : Type 0 where
   pub zero : (x : ℕ) → getD names x 0 ≡ 0
   pub below : Each (λ d. d .name < length names) (declared f)
 
--- every declared name was met: where the table was blank, the first clash is the file's
-pub record FileSorted (s sorts : List ℕ) (r : Sorting) : Type 0 where
+-- Every declared name was met, also behind a clash: the table has each name's last sort over what it had before, and the first clash is the one that it shows; where the table was blank, it is the
+-- file's. Where the walk stood at last is free.
+pub record FileSorted (s sorts sorts′ : List ℕ) (r : Sorting) : Type 0 where
+  pub enters : sorts′ ≡ sortAll sorts (declared (fileAt s))
+  pub clash : placeOf (r .found) ≡ clashIn sorts (declared (fileAt s))
   pub finds : Blank (fileAt s) sorts → placeOf (r .found) ≡ fault6 (fileAt s)
   pub lows : r .low ≡ allOf isLow (declared (fileAt s))

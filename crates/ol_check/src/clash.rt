@@ -242,7 +242,7 @@ fn sort_nodes(file: &[u8], sorts: &mut [u8], rows: &[usize], nodes: usize, g: So
 // the table is 0 everywhere and longer than every name, and whether all are below 1,024.
 pub fn sort_file(file: &[u8], rows: &[usize], sections: Sections, sorts: &mut [u8]) -> Sorting
     requires { ⌜ DeclaredReady (now file) (now rows) sections ⌝ }
-    ensures { λ r. ⌜ FileSorted (now (file .entry)) (now (sorts .entry)) r ⌝ }
+    ensures { λ r. ⌜ FileSorted (now (file .entry)) (now (sorts .entry)) (now (sorts .exit)) r ⌝ }
 {
     let c = sections.constants;
     let n = sections.nodes;

@@ -176,43 +176,6 @@ module _ (s : List ℕ) (l : Limits) (enums : ℕ) where
         right = subst (λ m. exprR s l enums (l .nesting) m ≡ got (v .value) end) p (v .first ∙ ap (got (v .value)) (same-end (v .rest)));
       })
 
--- a node's equations, by what its front and their count answer
-module _ (s : List ℕ) (l : Limits) (enums at : ℕ) (n : Node) (end : ℕ) (r : nodeR s l enums at ≡ got n end) {x : Next} (e : x ≡ nextOf (interfaceR s l enums at)) where
-  front-end : x ≡ Nxt.At (equationsStart at n)
-  front-end = e ∙ node-at s l enums at n end r .front
-
-  pub no-front : {f : Fault} {t : Type 0} → x ≡ Nxt.Refused f → t
-  no-front {f} g = let h : Nxt.Refused f ≡ Nxt.At (equationsStart at n) = sym g ∙ front-end in let z : _≡_ {A = ℕ} 0 1 = cc in absurd (omega arith)
-
-  module _ {p : ℕ} {y : Counted} (g : x ≡ Nxt.At p) (i : y ≡ countedOf (countR s 0 (l .equations) p)) where
-    equations-counted : y ≡ Cnt.Items (length (n .equations)) (equationsStart at n + 1)
-    unfolding countedOf
-    equations-counted =
-        let h : Nxt.At p ≡ Nxt.At (equationsStart at n) = sym g ∙ front-end in
-        let z : p ≡ equationsStart at n = cc in
-        let a = section-at s 0 (l .equations) (equationR s l enums) (equationsStart at n) (n .equations) end (node-at s l enums at n end r .equations) in
-        i ∙ (ap (λ m. countedOf (countR s 0 (l .equations) m)) z ∙ ap countedOf (a .counted))
-
-    pub equations-found : {k q : ℕ} → y ≡ Cnt.Items k q → Cnt.Items k q ≡ Cnt.Items (length (n .equations)) (equationsStart at n + 1)
-    equations-found j = sym j ∙ equations-counted
-
-    pub equations-items : {k q : ℕ} → y ≡ Cnt.Items k q → many k (equationR s l enums) q ≡ got (n .equations) end
-    equations-items {k} {q} j =
-        let h = equations-found j in
-        let u : k ≡ length (n .equations) = cc in
-        let v : q ≡ equationsStart at n + 1 = cc in
-        let a = section-at s 0 (l .equations) (equationR s l enums) (equationsStart at n) (n .equations) end (node-at s l enums at n end r .equations) in
-        rw (u, v) (a .items)
-
-    pub equations-table : {k q : ℕ} → y ≡ Cnt.Items k q → placesOf k (equationR s l enums) q ≡ map placeOf (placedEquations at n)
-    equations-table {k} {q} j =
-        let h = equations-found j in
-        let v : q ≡ equationsStart at n + 1 = cc in
-        places-placed s equationSize (equationR s l enums) (takes-equation s l enums) k q (n .equations) end (equations-items j) ∙ ap (λ p. map placeOf (placed equationSize p (n .equations))) v
-
-    pub no-equations : {f : Fault} {t : Type 0} → y ≡ Cnt.Refused f → t
-    no-equations {f} j = let h : Cnt.Refused f ≡ Cnt.Items (length (n .equations)) (equationsStart at n + 1) = sym j ∙ equations-counted in let z : _≡_ {A = ℕ} 0 1 = cc in absurd (omega arith)
-
 -- each equation of a node was read where it stands
 pub equation-read : (s : List ℕ) (l : Limits) (enums at : ℕ) (n : Node) (end : ℕ) → nodeR s l enums at ≡ got n end → (i p : ℕ) (q : Equation) → getElem? (placedEquations at n) i ≡ some (p, q) → (m : ℕ) × (equationR s l enums p ≡ got q m)
 equation-read s l enums at n end r i p q e =

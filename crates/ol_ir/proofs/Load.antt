@@ -1,23 +1,24 @@
 -- The nodes of a file and the whole file, by what the readers of their parts answer; and where each node was read.
 use Prim.Native.Nat.{ℕ, _+_, _-_, _≤_, _<_}
 use mathlib.Core.Bool.{Bool, true, false, cond}
-use mathlib.Core.List.{List, map}
+use mathlib.Core.List.{List, [], map}
 use mathlib.Core.Option.{some}
 use mathlib.Core.Path.{_≡_, refl, sym, ap, subst, _∙_}
 use native.Mathlib.Omega.{arith}
 use lib.ListN.{length, getD, getElem?}
 use lib.Seq.{sets}
-use lib.Dec.{ltb}
-use borrow.Author.Tests.{lt-ltb, le-ltb}
+use lib.Dec.{ltb, eqb}
+use borrow.Author.Tests.{lt-ltb, le-ltb, eq-eqb, ne-eqb}
 use Rattle.ol_spec.specs.Syntax.{Node, Constant, File}
 use Rattle.ol_spec.specs.Places.{placed, enumSize, constantSize, nodeSize, placedNodes, nodesStart}
+use Rattle.ol_spec.specs.Limits.{base}
 use Rattle.ol_spec.specs.Read.{Read, got, fault, thenRead, give, many, countR, sectionR, constantR, nodeR, enumR, sectionsR, atEnd}
 use Rattle.ol_spec.specs.Answers.{faultAt}
 use Rattle.ol_spec.specs.declared.Fault.{Fault}
 use Rattle.ol_spec.specs.declared.Limits.{Limits}
 use Rattle.ol_spec.proofs.Offsets.{steps, same-end, same-item}
 use Rattle.ol_ir.specs.Nexts.{nextOf, countedOf, listOf, afterFormat}
-use Rattle.ol_ir.specs.Walks.{placeOf, loadedOf, nodesOf, lastNodes, placesOf}
+use Rattle.ol_ir.specs.Walks.{placeOf, loadedOf, nodesOf, lastNodes, placesOf, afterRead, nodePlaces, filePlaces, loadPlaces}
 use Rattle.ol_ir.specs.declared.Next.{Next}
 use Rattle.ol_ir.specs.declared.Next.the-variants as Nxt
 use Rattle.ol_ir.specs.declared.Counted.{Counted}
@@ -80,6 +81,14 @@ module _ (s : List ℕ) where
           let u : n ≡ length ns = same-item c in
           let v : p ≡ at + 1 = same-end c in
           rw (u, v) (places-placed s nodeSize (nodeR s l enums) (takes-node s l enums) (length ns) (at + 1) ns end (a .items))
+
+      pub all-placed : placesOf n (nodeR s l enums) p ≡ nodePlaces s l enums at
+      unfolding nodePlaces afterRead
+      all-placed = sym (ap (λ r. afterRead r (λ m q. placesOf m (nodeR s l enums) q)) counted-nodes)
+
+    pub none-placed : {x : Counted} {f : Fault} → x ≡ countedOf (countR s 1 (l .nodes) at) → x ≡ Cnt.Refused f → [] ≡ nodePlaces s l enums at
+    unfolding nodePlaces afterRead
+    none-placed {f = f} e g = sym (ap (λ r. afterRead r (λ m q. placesOf m (nodeR s l enums) q)) (from-no-items (countR s 1 (l .nodes) at) f (sym e ∙ g)))
 
     pub no-nodes : {x : Counted} {f : Fault} → x ≡ countedOf (countR s 1 (l .nodes) at) → x ≡ Cnt.Refused f → nodesFrom ≡ fault (f .number) (f .place)
     unfolding thenRead
@@ -170,6 +179,21 @@ module _ (s : List ℕ) where
             let a = load-nodes (d .enums) (d .constants) (sectionR s 1 (l .nodes) (nodeR s l n) q) f end (sym (ap (λ r. thenRead r (atEnd s)) (d .sections)) ∙ r) in
             h (a .0) end (a .1) ∙ (ap (λ m. sets w 0 (map placeOf (placed nodeSize m (a .0)))) (sym (d .start (a .0))) ∙ ap (λ (v : File). sets w 0 (map placeOf (placedNodes v))) (a .2))
 
+        places-here : (r : Read (List Constant)) → sectionR s 0 (l .constants) (constantR s l n) p ≡ r → filePlaces s l ≡ afterRead r (λ cs q. nodePlaces s l n q)
+        unfolding filePlaces afterRead
+        places-here r h =
+            let a = enums-read in
+            ap (λ v. afterRead v (λ es p. afterRead (sectionR s 0 (l .constants) (constantR s l (length es)) p) (λ cs q. nodePlaces s l (length es) q))) (a .1)
+            ∙ (ap (λ m. afterRead (sectionR s 0 (l .constants) (constantR s l m) p) (λ cs q. nodePlaces s l m q)) (a .2) ∙ ap (λ v. afterRead v (λ cs q. nodePlaces s l n q)) h)
+
+        pub load-places : {q : ℕ} → y ≡ Nxt.At q → nodePlaces s l n q ≡ filePlaces s l
+        unfolding afterRead
+        load-places {q} j = let b = from-next (sectionR s 0 (l .constants) (constantR s l n) p) q (sym i ∙ j) in sym (places-here (got (b .0) q) (b .1))
+
+        pub fault-places : {f : Fault} → y ≡ Nxt.Refused f → [] ≡ filePlaces s l
+        unfolding afterRead
+        fault-places {f} j = sym (places-here (fault (f .number) (f .place)) (from-halt (sectionR s 0 (l .constants) (constantR s l n) p) f (sym i ∙ j)))
+
         pub load-fault : {f : Fault} → y ≡ Nxt.Refused f → Ldd.Refused f ≡ loadedOf (afterFormat s l)
         unfolding afterFormat loadedOf
         load-fault {f} j =
@@ -177,6 +201,11 @@ module _ (s : List ℕ) where
             let b = from-halt (sectionR s 0 (l .constants) (constantR s l n) p) f (sym i ∙ j) in
             let c : sectionR s 0 (l .constants) (constantR s l (length (a .0))) p ≡ fault (f .number) (f .place) = subst (λ m. sectionR s 0 (l .constants) (constantR s l m) p ≡ fault (f .number) (f .place)) (sym (a .2)) b in
             sym (ap loadedOf (then-fault (sectionsR s (getD s 0 0) l 1) _ (then-got (sectionR s 0 (l .enums) (enumR s l) 1) _ (a .1) ∙ then-fault (sectionR s 0 (l .constants) (constantR s l (length (a .0))) p) _ c)))
+
+    pub none-places : {x : Counted} {f : Fault} → x ≡ listOf (sectionR s 0 (l .enums) (enumR s l) 1) → x ≡ Cnt.Refused f → [] ≡ filePlaces s l
+    unfolding filePlaces afterRead
+    none-places {f = f} e g =
+        sym (ap (λ v. afterRead v (λ es p. afterRead (sectionR s 0 (l .constants) (constantR s l (length es)) p) (λ cs q. nodePlaces s l (length es) q))) (from-no-list (sectionR s 0 (l .enums) (enumR s l) 1) f (sym e ∙ g)))
 
     pub load-none : {x : Counted} {f : Fault} → x ≡ listOf (sectionR s 0 (l .enums) (enumR s l) 1) → x ≡ Cnt.Refused f → Ldd.Refused f ≡ loadedOf (afterFormat s l)
     unfolding afterFormat loadedOf
@@ -187,6 +216,27 @@ module _ (s : List ℕ) where
   pub not-loaded : {f : Fault} {t : Type 0} {r : Read File} (g : File) (end : ℕ) → Ldd.Refused f ≡ loadedOf r → r ≡ got g end → t
   unfolding loadedOf
   not-loaded {f} g end e h = let i : Ldd.Refused f ≡ Ldd.Nodes (length (g .enums)) (length (g .nodes)) = e ∙ ap loadedOf h in let z : _≡_ {A = ℕ} 0 1 = cc in absurd (omega arith)
+
+-- ---- the places of a file's nodes, by its first byte
+
+module _ (s : List ℕ) where
+  pub places-long : 32768 < length s → [] ≡ loadPlaces s
+  unfolding loadPlaces
+  places-long h = sym (rw (lt-ltb 32768 (length s) h) refl)
+
+  module _ (short : length s ≤ 32768) where
+    pub places-empty : length s ≡ 0 → [] ≡ loadPlaces s
+    unfolding loadPlaces
+    places-empty h = sym (rw (le-ltb 32768 (length s) short, eq-eqb (length s) 0 h) refl)
+
+    module _ (some : length s ≡ 0 → ⊥) where
+      pub places-known : getD s 0 0 ≡ 1 → filePlaces s base ≡ loadPlaces s
+      unfolding loadPlaces
+      places-known h = sym (rw (le-ltb 32768 (length s) short, ne-eqb (length s) 0 some, eq-eqb (getD s 0 0) 1 h) refl)
+
+      pub places-unknown : (getD s 0 0 ≡ 1 → ⊥) → [] ≡ loadPlaces s
+      unfolding loadPlaces
+      places-unknown h = sym (rw (le-ltb 32768 (length s) short, ne-eqb (length s) 0 some, ne-eqb (getD s 0 0) 1 h) refl)
 
 -- ---- each node was read where it stands
 

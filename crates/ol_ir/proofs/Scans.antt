@@ -1,9 +1,13 @@
 -- What a scan for reads finds, by the byte at which it looks.
 use Prim.Native.Nat.{ℕ, zero, suc, _+_, _*_, _-_, _≤_, _<_}
+use mathlib.Core.Bool.{cond}
 use mathlib.Core.List.{List}
 use mathlib.Core.Option.{some}
+use mathlib.Core.Logic.{by-cases}
 use mathlib.Core.Path.{_≡_, refl, sym, ap, _∙_}
+use native.Mathlib.Decide.{decLe, ℕ-discrete}
 use native.Mathlib.Omega.{arith}
+use borrow.Author.Tests.{lt-ltb, le-ltb, eq-eqb, ne-eqb}
 use lib.ListN.{length, getD, getElem?}
 use Rattle.ol_spec.specs.Syntax.{Expr, boolLit, intLit, floatLit, charLit, var, unary, binary, ifThenElse, pre, arrow, cast, call, tuple, count}
 use Rattle.ol_spec.specs.Places.{exprSize}
@@ -12,34 +16,36 @@ use Rattle.ol_spec.specs.Answers.{faultAt}
 use Rattle.ol_spec.specs.declared.Limits.{Limits}
 use Rattle.ol_spec.proofs.Offsets.{steps, same-end, same-item}
 use Rattle.ol_ir.specs.Nexts.{nextOf}
-use Rattle.ol_tables.specs.Heads.{codeOf, headSize, partsOf}
-use Rattle.ol_tables.specs.Walks.{HeadOf}
-use Rattle.ol_tables.specs.declared.heads.Parts.{Parts}
-use Rattle.ol_ir.specs.Scans.{scanOf}
+use Rattle.ol_tables.specs.Heads.{codeOf, headSize, partsOf, nameAt, partsAt, nextAt}
+use Rattle.ol_tables.specs.Walks.{skipAt}
+use Rattle.ol_ir.specs.Scans.{scanOf, scanInside, scanAt}
 use Rattle.ol_ir.specs.declared.Next.the-variants as Nxt
-use Rattle.ol_ir.specs.declared.Scan.{Scan}
 use Rattle.ol_ir.specs.declared.Scan.the-variants as Scn
 use Rattle.ol_ir.proofs.Bytes.{byte-in, coded-is}
 use Rattle.ol_ir.proofs.Forms.{number-out}
 use Rattle.ol_ir.proofs.Sizes.{takes-expr}
 use Rattle.ol_ir.proofs.Trees.{then-got, expr-at}
-use Rattle.ol_ir.proofs.Skips.{head-told}
+use Rattle.ol_ir.proofs.Skips.{head-told, skip-expr}
 
 -- ---- names
 
 module _ (s : List ℕ) (at : ℕ) where
-  pub name-is : at + 1 < length s → nameR s at ≡ got (getD s at 0 * 256 + getD s (at + 1) 0) (at + 1 + 1)
+  name-is : at + 1 < length s → nameR s at ≡ got (getD s at 0 * 256 + getD s (at + 1) 0) (at + 1 + 1)
   unfolding number thenRead
   name-is h =
       let a : at < length s = omega arith in
       let z : (0 * 256 + getD s at 0) * 256 + getD s (at + 1) 0 ≡ getD s at 0 * 256 + getD s (at + 1) 0 = omega arith in
       then-got (byte s at) _ (byte-in s at a) ∙ (then-got (byte s (at + 1)) _ (byte-in s (at + 1) h) ∙ ap (λ v. got v (at + 1 + 1)) z)
 
-  pub name-none : length s ≤ at + 1 → (x n : ℕ) → nameR s at ≡ got x n → ⊥
+  name-none : length s ≤ at + 1 → (x n : ℕ) → nameR s at ≡ got x n → ⊥
   unfolding nextOf
   name-none h x n e =
       let f : Nxt.Refused (faultAt 2 (length s)) ≡ Nxt.At n = number-out s 2 at (omega arith) (omega arith) ∙ ap nextOf e in
       let z : _≡_ {A = ℕ} 0 1 = cc in omega arith
+
+  -- a name that was read is what the bytes say
+  pub name-told : (x n : ℕ) → nameR s at ≡ got x n → nameAt s at ≡ x
+  name-told x n e = by-cases (decLe (length s) (at + 1)) (λ gone. absurd (name-none gone x n e)) (λ here. same-item (sym (name-is (omega arith)) ∙ e))
 
 -- ---- expressions
 
@@ -65,14 +71,14 @@ module _ (s : List ℕ) (l : Limits) (enums d at : ℕ) (e : Expr) (n : ℕ) (g 
       let t = steps (exprR s l enums (d - 1) (at + 1)) _ e n (body-of s l enums d at e n preCode g (ap (getElem? exprCodes) b)) in
       (t .value, t .first ∙ ap (got (t .value)) (same-end (t .rest)), sym (same-item (t .rest)))
 
-  pub scan-var : {x : ℕ} → getD s at 0 ≡ 4 → ((y m : ℕ) → nameR s (at + 1) ≡ got y m → x ≡ y) → Scn.Name x (at + 3) ≡ scanOf at e
-  scan-var {x} b h = let w = var-at b in ap (λ y. Scn.Name y (at + 3)) (h (w .0) (w .1) (w .2)) ∙ ap (scanOf at) (sym (w .3))
+  scan-var : getD s at 0 ≡ 4 → Scn.Name (nameAt s (at + 1)) (at + 3) ≡ scanOf at e
+  scan-var b = let w = var-at b in ap (λ y. Scn.Name y (at + 3)) (name-told s (at + 1) (w .0) (w .1) (w .2)) ∙ ap (scanOf at) (sym (w .3))
 
-  pub scan-pre : {q : ℕ} → getD s at 0 ≡ 8 → ((f : Expr) (m : ℕ) → exprR s l enums (d - 1) (at + 1) ≡ got f m → q ≡ m) → Scn.Parts 0 q ≡ scanOf at e
-  scan-pre {q} b h =
+  scan-pre : getD s at 0 ≡ 8 → Scn.Parts 0 (skipAt s 1 (at + 1)) ≡ scanOf at e
+  scan-pre b =
       let w = pre-at b in
       let t = takes-expr s l enums (d - 1) .is (at + 1) (w .0) n (w .1) in
-      let m : q ≡ at + 1 + exprSize (w .0) = omega (arith, h (w .0) n (w .1), t .ends, t .holds) in
+      let m : skipAt s 1 (at + 1) ≡ at + 1 + exprSize (w .0) = skip-expr s l enums (d - 1) (at + 1) (w .1) ∙ omega (arith, t .ends, t .holds) in
       ap (Scn.Parts 0) m ∙ ap (scanOf at) (sym (w .2))
 
   other : (e : Expr) → (codeOf e ≡ 4 → ⊥) → (codeOf e ≡ 8 → ⊥) → Scn.Parts (count (partsOf e)) (at + headSize e) ≡ scanOf at e
@@ -90,12 +96,39 @@ module _ (s : List ℕ) (l : Limits) (enums d at : ℕ) (e : Expr) (n : ℕ) (g 
   other (call k es) u v = refl
   other (tuple es) u v = refl
 
-  pub scan-parts : {r : Parts} → (getD s at 0 ≡ 4 → ⊥) → (getD s at 0 ≡ 8 → ⊥) → HeadOf s at r → Scn.Parts (r .count) (r .start) ≡ scanOf at e
-  scan-parts {r} u v h =
+  scan-parts : (getD s at 0 ≡ 4 → ⊥) → (getD s at 0 ≡ 8 → ⊥) → Scn.Parts (partsAt s at) (nextAt s at) ≡ scanOf at e
+  scan-parts u v =
       let c = expr-at s l enums d at e n g .code in
       let k = head-told s l enums d at e n g in
-      rw (h .parts ∙ k .0, h .next ∙ k .1) (other e (λ w. u (c ∙ w)) (λ w. v (c ∙ w)))
+      ap (λ m. Scn.Parts m (nextAt s at)) (k .0) ∙ (ap (Scn.Parts (count (partsOf e))) (k .1) ∙ other e (λ w. u (c ∙ w)) (λ w. v (c ∙ w)))
 
-  -- no expression stands behind the end
-  pub scan-end : {z : Scan} → length s ≤ at → z ≡ scanOf at e
-  scan-end h = let i = expr-at s l enums d at e n g .inside in absurd (omega arith)
+  -- of an expression that was read its bytes tell what the scan finds
+  pub scan-told : scanAt s at ≡ scanOf at e
+  unfolding scanAt
+  scan-told =
+      ap (λ b. cond b (scanInside s at) (Scn.Parts 0 at)) (lt-ltb at (length s) (expr-at s l enums d at e n g .inside))
+      ∙ (by-cases (ℕ-discrete (getD s at 0) 4) (λ b. rw (eq-eqb (getD s at 0) 4 b) (scan-var b))
+      (λ u. rw (ne-eqb (getD s at 0) 4 u)
+      (by-cases (ℕ-discrete (getD s at 0) 8) (λ b. rw (eq-eqb (getD s at 0) 8 b) (scan-pre b)) (λ v. rw (ne-eqb (getD s at 0) 8 v) (scan-parts u v)))))
+
+-- what the scan finds, by the bytes
+module _ (s : List ℕ) (at : ℕ) where
+  module _ (h : at < length s) where
+    pub scans-name : getD s at 0 ≡ 4 → Scn.Name (nameAt s (at + 1)) (at + 3) ≡ scanAt s at
+    unfolding scanAt
+    scans-name b = sym (rw (lt-ltb at (length s) h, eq-eqb (getD s at 0) 4 b) refl)
+
+    pub scans-pre : getD s at 0 ≡ 8 → Scn.Parts 0 (skipAt s 1 (at + 1)) ≡ scanAt s at
+    unfolding scanAt
+    scans-pre b = sym (rw (lt-ltb at (length s) h, b) refl)
+
+    pub scans-parts : (getD s at 0 ≡ 4 → ⊥) → (getD s at 0 ≡ 8 → ⊥) → Scn.Parts (partsAt s at) (nextAt s at) ≡ scanAt s at
+    unfolding scanAt
+    scans-parts u v = sym (ap (λ b. cond b (scanInside s at) (Scn.Parts 0 at)) (lt-ltb at (length s) h) ∙ other-head)
+      where
+        other-head : scanInside s at ≡ Scn.Parts (partsAt s at) (nextAt s at)
+        other-head = rw (ne-eqb (getD s at 0) 4 u, ne-eqb (getD s at 0) 8 v) refl
+
+  pub scans-end : length s ≤ at → Scn.Parts 0 at ≡ scanAt s at
+  unfolding scanAt
+  scans-end h = sym (rw (le-ltb at (length s) h) refl)

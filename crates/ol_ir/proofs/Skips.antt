@@ -1,19 +1,20 @@
 -- Expressions and equations that were read, passed over head by head: what is left are expressions, one behind the other.
 use Prim.Native.Nat.{ℕ, zero, suc, _+_, _-_, _*_, _≤_, _<_}
-use mathlib.Core.List.{List, _++_}
+use mathlib.Core.List.{List, [], _∷_, _++_, map}
 use mathlib.Core.Logic.{by-cases}
 use mathlib.Core.Path.{_≡_, refl, sym, ap, ap₂, subst, _∙_}
 use native.Mathlib.Decide.{decLe, ℕ-discrete}
+use native.Mathlib.Numerals.{add-one}
 use native.Mathlib.Omega.{arith}
 use lib.ListN.{length, getD, set}
 use lib.Seq.{sets}
 use borrow.Author.Tests.{lt-ltb, eq-eqb, ne-eqb}
 use Rattle.ol_spec.specs.Lists.{upTo}
 use Rattle.ol_spec.specs.Syntax.{Expr, boolLit, intLit, floatLit, charLit, var, unary, binary, ifThenElse, pre, arrow, cast, call, tuple, Exprs, nil}
-use Rattle.ol_spec.specs.Syntax.{cons, count, Equation}
-use Rattle.ol_spec.specs.Places.{rhsPlace}
+use Rattle.ol_spec.specs.Syntax.{cons, count, Equation, Node}
+use Rattle.ol_spec.specs.Places.{rhsPlace, equationSize, equationsStart, placedEquations}
 use Rattle.ol_spec.specs.Eval.{calleesAll}
-use Rattle.ol_spec.specs.Read.{got, Reader, many, manyExprs, byte, coded, nameR, tyR, exprR, equationR, castCode, callCode, tupleCode}
+use Rattle.ol_spec.specs.Read.{Read, got, fault, Reader, many, manyExprs, byte, coded, countR, nameR, tyR, exprR, equationR, nodeR, castCode, callCode, tupleCode}
 use Rattle.ol_spec.specs.Answers.{faultAt}
 use Rattle.ol_spec.specs.declared.Fault.{Fault}
 use Rattle.ol_spec.specs.declared.Limits.{Limits}
@@ -26,14 +27,18 @@ use Rattle.ol_tables.proofs.Forms.{reads, reads-in, parted, none-read, own-read
 use Rattle.ol_tables.proofs.HeadLaws.{head-some}
 use Rattle.ol_tables.proofs.Skipping.{count-size, callees-on, walk-next, walk-none}
 use Rattle.ol_ir.specs.Nexts.{nextOf, countedOf}
-use Rattle.ol_ir.specs.Walks.{placesOf}
+use Rattle.ol_ir.specs.Nodes.{interfaceR, equationsR}
+use Rattle.ol_ir.specs.Walks.{placeOf, onPlaces, placesOf, afterRead, skipEquationAt, equationPlaces, startPlaces}
+use Rattle.ol_ir.specs.declared.Next.{Next}
 use Rattle.ol_ir.specs.declared.Next.the-variants as Nxt
+use Rattle.ol_ir.specs.declared.Counted.{Counted}
+use Rattle.ol_ir.specs.declared.Counted.the-variants as Cnt
 use Rattle.ol_ir.proofs.Bytes.{CountIs, counted-is}
 use Rattle.ol_ir.proofs.Forms.{ty-plain, ty-enum, ty-none, ty-end}
 use Rattle.ol_ir.proofs.Heads.{head-is}
-use Rattle.ol_ir.proofs.Sizes.{takes-byte, takes-coded, takes-expr, takes-exprs}
-use Rattle.ol_ir.proofs.Trees.{many-cons, deeper-parts, ExprAt, expr-at}
-use Rattle.ol_ir.proofs.Items.{from-next, Puts, put-turn, put-end, section-at, equation-at}
+use Rattle.ol_ir.proofs.Sizes.{takes-byte, takes-coded, takes-expr, takes-exprs, takes-equation}
+use Rattle.ol_ir.proofs.Trees.{then-got, then-fault, many-cons, deeper-parts, ExprAt, expr-at}
+use Rattle.ol_ir.proofs.Items.{from-next, from-halt, from-items, from-no-items, places-placed, SectionAt, section-at, node-at, equation-at}
 
 -- ---- lists of expressions
 
@@ -273,46 +278,96 @@ module _ (s : List ℕ) (l : Limits) (enums at : ℕ) (q : Equation) (n : ℕ) (
       let a = equation-at s l enums at q n r in
       counted-is s 1 (l .names) at (length (q .names)) (at + 1) (sym (ap countedOf (section-at s 1 (l .names) (nameR s) at (q .names) (rhsPlace at q) (a .names) .counted)))
 
-  pub equation-inside : at < length s
+  equation-inside : at < length s
   equation-inside = counted .inside
 
   -- its right side stands behind its names
-  pub equation-right : exprR s l enums (l .nesting) (at + 1 + 2 * getD s at 0) ≡ got (q .rhs) n
+  equation-right : exprR s l enums (l .nesting) (at + 1 + 2 * getD s at 0) ≡ got (q .rhs) n
   equation-right = subst (λ m. exprR s l enums (l .nesting) (at + 1 + 2 * m) ≡ got (q .rhs) n) (counted .value) (equation-at s l enums at q n r .right)
 
--- ---- tables of the places of items that were read
+  -- where it ends, passed over
+  pub equation-told : skipEquationAt s at ≡ n
+  unfolding skipEquationAt
+  equation-told = rw (lt-ltb at (length s) equation-inside) (skip-expr s l enums (l .nesting) _ equation-right)
 
-many-next : {A : Type 0} (r : Reader A) (left at : ℕ) (xs : List A) (m : ℕ) → 0 < left → many left r at ≡ got xs m → (x : A) × (rest : List A) × (p : ℕ) × (r at ≡ got x p) × (many (left - 1) r p ≡ got rest m)
-unfolding many
-many-next r zero at xs m h f = absurd (omega arith)
-many-next r (suc k) at xs m h f =
-    let t = steps (r at) _ xs m f in
-    let u = steps (many k r (t .at)) _ xs m (t .rest) in
+-- ---- tables of the places of equations
+
+pub places-turn : (s table t w : List ℕ) (i left at q : ℕ) → sets table i (equationPlaces left s at) ≡ w → 0 < left → q ≡ skipEquationAt s at → t ≡ set table i at → sets t (i + 1) (equationPlaces (left - 1) s q) ≡ w
+unfolding equationPlaces
+places-turn s table t w i zero at q e h f g = absurd (omega arith)
+places-turn s table t w i (suc k) at q e h f g =
     let one : suc k - 1 ≡ k = omega arith in
-    (t .value, u .value, t .at, t .first, rw one (u .first ∙ ap (got (u .value)) (same-end (u .rest))))
+    rw (one, add-one i) (ap (λ v. sets v (suc i) (equationPlaces k s q)) g ∙ (ap (λ v. sets (set table i at) (suc i) (equationPlaces k s v)) f ∙ e))
 
--- `left` items are read from `at` on, and w is the table with their places put at i
-pub record Listed {A : Type 0} (r : Reader A) (w : List ℕ) (end i left at : ℕ) (table : List ℕ) : Type 0 where
-  pub items : List A
-  pub read : many left r at ≡ got items end
-  pub puts : Puts r w i left at table
+pub places-end : (s table w : List ℕ) (i left at : ℕ) → sets table i (equationPlaces left s at) ≡ w → left ≤ 0 → table ≡ w
+unfolding equationPlaces
+places-end s table w i zero at e h = e
+places-end s table w i (suc k) at e h = absurd (omega arith)
 
-module _ {A : Type 0} {r : Reader A} where
-  pub listed-start : {table : List ℕ} {left at end : ℕ} {xs : List A} → many left r at ≡ got xs end → Listed r (sets table 0 (placesOf left r at)) end 0 left at table
-  listed-start {xs = xs} e = record { items = xs; read = e; puts = record { is = refl } }
+-- of equations that were read the walk finds the places
+places-told : (s : List ℕ) (l : Limits) (enums k at : ℕ) (qs : List Equation) (end : ℕ) → many k (equationR s l enums) at ≡ got qs end → equationPlaces k s at ≡ placesOf k (equationR s l enums) at
+unfolding many equationPlaces placesOf onPlaces
+places-told s l enums zero at qs end e = refl
+places-told s l enums (suc k) at qs end e =
+    let t = steps (equationR s l enums at) _ qs end e in
+    let u = steps (many k (equationR s l enums) (t .at)) _ qs end (t .rest) in
+    ap (λ v. at ∷ equationPlaces k s v) (equation-told s l enums at (t .value) (t .at) (t .first))
+    ∙ (ap (λ v. at ∷ v) (places-told s l enums k (t .at) (u .value) (u .at) (u .first)) ∙ sym (ap (λ r. at ∷ onPlaces r (placesOf k (equationR s l enums))) (t .first)))
 
-  module _ {w table : List ℕ} {end i left at : ℕ} (p : Listed r w end i left at table) where
-    -- the next place is put, and the item ends at q
-    pub listed-turn : {t : List ℕ} {q : ℕ} → 0 < left → ((a : A) (n : ℕ) → r at ≡ got a n → q ≡ n) → t ≡ set table i at → Listed r w end (i + 1) (left - 1) q t
-    unfolding nextOf
-    listed-turn {t} {q} u f k =
-        let v = many-next r left at (p .items) end u (p .read) in
-        let e : q ≡ v .2 = f (v .0) (v .2) (v .3) in
-        record {
-          items = v .1;
-          read = subst (λ m. many (left - 1) r m ≡ got (v .1) end) (sym e) (v .4);
-          puts = put-turn {x = Nxt.At q} (p .puts) u (ap Nxt.At e ∙ sym (ap nextOf (v .3))) k refl;
-        }
+-- ---- the equations of a node
 
-    pub listed-end : left ≤ 0 → table ≡ w
-    listed-end h = put-end (p .puts) h
+module _ (s : List ℕ) (l : Limits) (enums at : ℕ) where
+  places-after : {r : Read ℕ} → equationsR s l enums at ≡ r → startPlaces s l enums at ≡ afterRead r (λ n p. equationPlaces n s p)
+  unfolding startPlaces
+  places-after e = ap (λ v. afterRead v (λ n p. equationPlaces n s p)) e
+
+  -- by what the node's front and their count answer
+  module _ {x : Next} (e : x ≡ nextOf (interfaceR s l enums at)) where
+    module _ {p : ℕ} {y : Counted} (g : x ≡ Nxt.At p) (i : y ≡ countedOf (countR s 0 (l .equations) p)) where
+      counted-there : equationsR s l enums at ≡ countR s 0 (l .equations) p
+      unfolding equationsR
+      counted-there = then-got (interfaceR s l enums at) _ (from-next (interfaceR s l enums at) p (sym e ∙ g) .1)
+
+      pub starts-counted : y ≡ countedOf (equationsR s l enums at)
+      starts-counted = i ∙ sym (ap countedOf counted-there)
+
+      pub starts-placed : {n q : ℕ} → y ≡ Cnt.Items n q → equationPlaces n s q ≡ startPlaces s l enums at
+      unfolding afterRead
+      starts-placed {n} {q} j = sym (places-after (counted-there ∙ from-items (countR s 0 (l .equations) p) n q (sym i ∙ j)))
+
+      pub starts-uncounted : {f : Fault} → y ≡ Cnt.Refused f → [] ≡ startPlaces s l enums at
+      unfolding afterRead
+      starts-uncounted {f} j = sym (places-after (counted-there ∙ from-no-items (countR s 0 (l .equations) p) f (sym i ∙ j)))
+
+    module _ {f : Fault} (g : x ≡ Nxt.Refused f) where
+      front-fault : equationsR s l enums at ≡ fault (f .number) (f .place)
+      unfolding equationsR
+      front-fault = then-fault (interfaceR s l enums at) _ (from-halt (interfaceR s l enums at) f (sym e ∙ g))
+
+      pub front-refused : Cnt.Refused f ≡ countedOf (equationsR s l enums at)
+      unfolding countedOf
+      front-refused = sym (ap countedOf front-fault)
+
+      pub front-placed : [] ≡ startPlaces s l enums at
+      unfolding afterRead
+      front-placed = sym (places-after front-fault)
+
+  -- of a node that was read
+  module _ (n : Node) (end : ℕ) (r : nodeR s l enums at ≡ got n end) where
+    abbrev there : SectionAt s 0 (l .equations) (equationR s l enums) (equationsStart at n) (n .equations) end
+    there = section-at s 0 (l .equations) (equationR s l enums) (equationsStart at n) (n .equations) end (node-at s l enums at n end r .equations)
+
+    starts-read : equationsR s l enums at ≡ got (length (n .equations)) (equationsStart at n + 1)
+    unfolding equationsR
+    starts-read = then-got (interfaceR s l enums at) _ (from-next (interfaceR s l enums at) (equationsStart at n) (node-at s l enums at n end r .front) .1) ∙ there .counted
+
+    pub starts-told : {x : Counted} → x ≡ countedOf (equationsR s l enums at) → x ≡ Cnt.Items (length (n .equations)) (equationsStart at n + 1)
+    unfolding countedOf
+    starts-told e = e ∙ ap countedOf starts-read
+
+    pub starts-are : startPlaces s l enums at ≡ map placeOf (placedEquations at n)
+    unfolding afterRead
+    starts-are =
+        places-after starts-read
+        ∙ (places-told s l enums (length (n .equations)) (equationsStart at n + 1) (n .equations) end (there .items)
+        ∙ places-placed s equationSize (equationR s l enums) (takes-equation s l enums) (length (n .equations)) (equationsStart at n + 1) (n .equations) end (there .items))

@@ -2,7 +2,7 @@
 use Prim.Native.Nat.{ℕ}
 use mathlib.Core.List.{List, []}
 use Rattle.ol_spec.specs.Syntax.{Node}
-use Rattle.ol_spec.specs.Read.{Reader, thenRead, _>>=_, give, coded, nodeKinds, sectionR, variableR}
+use Rattle.ol_spec.specs.Read.{Reader, thenRead, _>>=_, give, coded, nodeKinds, countR, sectionR, variableR}
 use Rattle.ol_spec.specs.declared.Limits.{Limits}
 
 module _ (s : List ℕ) (l : Limits) (enums : ℕ) where
@@ -14,3 +14,7 @@ module _ (s : List ℕ) (l : Limits) (enums : ℕ) where
     os ← sectionR s 1 (l .outputs) (variableR s l enums)
     ls ← sectionR s 0 (l .locals) (variableR s l enums)
     give (record { kind = k; inputs = is; outputs = os; locals = ls; equations = [] })
+
+  -- a node up to the first of its equations: how many there are
+  unfoldable pub equationsR : Reader ℕ
+  equationsR at = thenRead (interfaceR at) (λ n. countR s 0 (l .equations))

@@ -12,12 +12,11 @@ use super::types::ty;
 use ol_tables::heads;
 ghost use mathlib.Core.Path.{_≡_};
 ghost use Prim.Native.Nat.{ℕ, _<_};
-ghost use Rattle.ol_spec.specs.Read.{got, manyExprs, exprR};
+ghost use Rattle.ol_spec.specs.Read.{manyExprs, exprR};
 ghost use Rattle.ol_spec.specs.declared.Limits.{Limits};
 ghost use Rattle.ol_ir.specs.Nexts.{nextOf, countedOf, partsOf};
-ghost use Rattle.ol_spec.specs.Syntax.{Expr};
 ghost use Rattle.ol_ir.specs.Heads.{headR, callHead};
-ghost use Rattle.ol_ir.specs.Scans.{scanOf};
+ghost use Rattle.ol_ir.specs.Scans.{scanAt};
 
 // So many parts, the first of which starts where reading goes on.
 fn parts(n: usize, next: Next) -> Counted
@@ -128,8 +127,8 @@ pub(crate) fn exprs(
 // What a scan for reads finds at an expression: a Var's name, nothing under Pre, the parts of any
 // other.
 pub fn scan(file: &[u8], at: usize) -> Scan
-    ensures { λ r. ⌜ ((l : Limits) (enums d : ℕ) (e : Expr) (n : ℕ) → exprR (now (file .entry)) l enums d at ≡ got e n → r ≡ scanOf at e) ⌝ }
-    ensures { λ r. ⌜ ((x q : ℕ) → r ≡ Scan.Name x q → x < 65536) ⌝ }
+    ensures is { λ r. ⌜ r ≡ scanAt (now (file .entry)) at ⌝ }
+    ensures small { λ r. ⌜ ((x q : ℕ) → r ≡ Scan.Name x q → x < 65536) ⌝ }
 {
     if at < file.len() {
         let c = file[at];

@@ -10,16 +10,11 @@ use super::skip::skip_equation;
 use super::types::ty;
 use ol_spec::Limits;
 ghost use lib.Seq.{sets};
-ghost use mathlib.Core.List.{List, map};
 ghost use mathlib.Core.Path.{_≡_};
-ghost use Prim.Native.Nat.{ℕ, _+_};
-ghost use lib.ListN.{length};
-ghost use Rattle.ol_spec.specs.Syntax.{Equation, Node};
-ghost use Rattle.ol_spec.specs.Places.{equationsStart, placedEquations};
-ghost use Rattle.ol_spec.specs.Read.{got, many, nameR, sectionR, variableR, equationR, nodeR};
-ghost use Rattle.ol_ir.specs.Nexts.{nextOf};
-ghost use Rattle.ol_ir.specs.Nodes.{interfaceR};
-ghost use Rattle.ol_ir.specs.Walks.{placeOf, placesOf};
+ghost use Rattle.ol_spec.specs.Read.{many, nameR, sectionR, variableR, equationR, nodeR};
+ghost use Rattle.ol_ir.specs.Nexts.{nextOf, countedOf};
+ghost use Rattle.ol_ir.specs.Nodes.{interfaceR, equationsR};
+ghost use Rattle.ol_ir.specs.Walks.{equationPlaces, startPlaces};
 
 // A variable: its name and its type.
 pub(crate) fn variable(file: &[u8], enums: usize, at: usize) -> Next
@@ -165,7 +160,7 @@ pub(crate) fn node(file: &[u8], limits: Limits, enums: usize, at: usize) -> Next
 
 // Where so many equations start: entry k of the table gets equation k's place.
 fn equation_places(file: &[u8], count: usize, at: usize, starts: &mut [usize])
-    ensures { λ _. ⌜ ((l : Limits) (enums : ℕ) (qs : List Equation) (end : ℕ) → many count (equationR (now (file .entry)) l enums) at ≡ got qs end → now (starts .exit) ≡ sets (now (starts .entry)) 0 (placesOf count (equationR (now (file .entry)) l enums) at)) ⌝ }
+    ensures { λ _. ⌜ now (starts .exit) ≡ sets (now (starts .entry)) 0 (equationPlaces count (now (file .entry)) at) ⌝ }
 {
     let mut next = at;
     let mut left = count;
@@ -186,8 +181,8 @@ pub fn equation_starts(
     at: usize,
     starts: &mut [usize],
 ) -> Counted
-    ensures many { λ r. ⌜ ((n : Node) (end : ℕ) → nodeR (now (file .entry)) limits enums at ≡ got n end → r ≡ Counted.Items (length (n .equations)) (equationsStart at n + 1)) ⌝ }
-    ensures places { λ _. ⌜ ((n : Node) (end : ℕ) → nodeR (now (file .entry)) limits enums at ≡ got n end → now (starts .exit) ≡ sets (now (starts .entry)) 0 (map placeOf (placedEquations at n))) ⌝ }
+    ensures many { λ r. ⌜ r ≡ countedOf (equationsR (now (file .entry)) limits enums at) ⌝ }
+    ensures places { λ _. ⌜ now (starts .exit) ≡ sets (now (starts .entry)) 0 (startPlaces (now (file .entry)) limits enums at) ⌝ }
 {
     match interface(file, limits, enums, at) {
         Next::At(p) => match count(file, 0, limits.equations, p) {

@@ -20,7 +20,7 @@ ghost use Rattle.ol_spec.specs.Places.{placed, nodeSize, placedNodes};
 ghost use Rattle.ol_spec.specs.Limits.{base, relayLoader};
 ghost use Rattle.ol_spec.specs.Read.{got, many, sectionR, enumR, constantR, nodeR, readFile};
 ghost use Rattle.ol_ir.specs.Nexts.{nextOf, listOf, readingOf, afterFormat};
-ghost use Rattle.ol_ir.specs.Walks.{placeOf, loadedOf, nodesOf, lastNodes, readOf, placesOf};
+ghost use Rattle.ol_ir.specs.Walks.{placeOf, loadedOf, nodesOf, lastNodes, readOf, placesOf, nodePlaces, filePlaces, loadPlaces};
 
 // So many enums.
 fn enums(file: &[u8], variants: usize, count: usize, at: usize) -> Next
@@ -153,6 +153,7 @@ fn nodes(
 fn last_nodes(file: &[u8], limits: Limits, enums: usize, at: usize, starts: &mut [usize]) -> Loaded
     ensures nodes { λ r. ⌜ r ≡ nodesOf enums (lastNodes (now (file .entry)) limits enums at) ⌝ }
     ensures places { λ _. ⌜ ((ns : List Node) (end : ℕ) → lastNodes (now (file .entry)) limits enums at ≡ got ns end → now (starts .exit) ≡ sets (now (starts .entry)) 0 (map placeOf (placed nodeSize (at + 1) ns))) ⌝ }
+    ensures all { λ _. ⌜ now (starts .exit) ≡ sets (now (starts .entry)) 0 (nodePlaces (now (file .entry)) limits enums at) ⌝ }
 {
     match count(file, 1, limits.nodes, at) {
         Counted::Items(n, p) => match nodes(file, limits, enums, n, p, starts) {
@@ -177,6 +178,7 @@ fn last_nodes(file: &[u8], limits: Limits, enums: usize, at: usize, starts: &mut
 fn load_limited(file: &[u8], limits: Limits, starts: &mut [usize]) -> Loaded
     ensures read { λ r. ⌜ r ≡ loadedOf (afterFormat (now (file .entry)) limits) ⌝ }
     ensures places { λ _. ⌜ ((f : File) (end : ℕ) → afterFormat (now (file .entry)) limits ≡ got f end → now (starts .exit) ≡ sets (now (starts .entry)) 0 (map placeOf (placedNodes f))) ⌝ }
+    ensures all { λ _. ⌜ now (starts .exit) ≡ sets (now (starts .entry)) 0 (filePlaces (now (file .entry)) limits) ⌝ }
 {
     match enum_section(file, limits, 1) {
         Counted::Items(n, p) => match constant_section(file, limits, n, p) {
@@ -213,6 +215,7 @@ pub fn base() -> Limits
 pub fn load_file(file: &[u8], starts: &mut [usize]) -> Loaded
     ensures read { λ r. ⌜ r ≡ loadedOf (readFile (now (file .entry)) relayLoader) ⌝ }
     ensures places { λ _. ⌜ ((f : File) (end : ℕ) → readFile (now (file .entry)) relayLoader ≡ got f end → now (starts .exit) ≡ sets (now (starts .entry)) 0 (map placeOf (placedNodes f))) ⌝ }
+    ensures all { λ _. ⌜ now (starts .exit) ≡ sets (now (starts .entry)) 0 (loadPlaces (now (file .entry))) ⌝ }
 {
     if 32768 < file.len() {
         Loaded::Refused(Fault {

@@ -3,11 +3,12 @@ use super::Counted;
 use super::Next;
 use ol_spec::Fault;
 ghost use mathlib.Core.Path.{_≡_};
-ghost use Prim.Native.Nat.{ℕ, _<_};
+ghost use Prim.Native.Nat.{_<_};
 ghost use lib.ListN.{set};
 ghost use Rattle.ol_spec.specs.Lists.{upTo};
-ghost use Rattle.ol_spec.specs.Read.{got, number, nameR, coded, countR};
+ghost use Rattle.ol_spec.specs.Read.{number, coded, countR};
 ghost use Rattle.ol_spec.specs.Answers.{faultAt};
+ghost use Rattle.ol_tables.specs.Heads.{nameAt};
 ghost use Rattle.ol_ir.specs.Nexts.{nextOf, countedOf};
 
 // A fault, in the place of where the next item starts.
@@ -76,17 +77,17 @@ pub fn count(file: &[u8], lo: usize, hi: usize, at: usize) -> Counted
     }
 }
 
-// A name: two bytes of the file, or 0 where it ends.
+// A name: two bytes of the file; a byte past its end is 0.
 pub fn name(file: &[u8], at: usize) -> usize
     ensures small { λ r. ⌜ r < 65536 ⌝ }
-    ensures read { λ r. ⌜ ((x n : ℕ) → nameR (now (file .entry)) at ≡ got x n → r ≡ x) ⌝ }
+    ensures is { λ r. ⌜ r ≡ nameAt (now (file .entry)) at ⌝ }
 {
     if at < file.len() {
         let p = at + 1;
         if p < file.len() {
             (file[at] as usize) * 256 + (file[p] as usize)
         } else {
-            0
+            (file[at] as usize) * 256
         }
     } else {
         0

@@ -1,12 +1,13 @@
 -- The answer: the tables at the start, and what the ordering answers once the passes are over.
-use Prim.Native.Nat.{ℕ, zero, suc, _≤_, _<_}
-use mathlib.Core.List.{List, [], _∷_}
+use Prim.Native.Nat.{ℕ, zero, suc, _+_, _≤_, _<_}
+use mathlib.Core.List.{List, [], _∷_, _++_}
 use mathlib.Core.Path.{_≡_, refl, sym, ap, _∙_}
 use native.Mathlib.Omega.{arith}
 use mathlib.Core.Option.{some}
 use mathlib.Core.Logic.{by-cases}
 use native.Mathlib.Decide.{decLe}
-use lib.ListN.{length, getD, take, replicate, length-replicate, List·getD-eq-default}
+use lib.ListN.{length, getD, take, drop, replicate, length-replicate, take-append-drop, List·getD-eq-default}
+use lib.Seq.{sets, sets-eq}
 use borrow.Author.Tests.{eq-eqb, ne-eqb}
 use Rattle.ol_spec.specs.Syntax.{Equation}
 use Rattle.ol_spec.specs.Order.{definer, order}
@@ -14,7 +15,7 @@ use Rattle.ol_spec.specs.Cycle.{OrderingCall, noOrder}
 use Rattle.ol_order.specs.Tables.{putAll, definerCode, zeros, firstZero, orderOf}
 use Rattle.ol_order.specs.Post.{Blank, Definers, State, Sorts}
 use Rattle.ol_order.proofs.Definers.{definers-is, length-putAll}
-use Rattle.ol_order.proofs.Passing.{unplaced-some, unplaced-none, all-placed}
+use Rattle.ol_order.proofs.Passing.{length-list, unplaced-some, unplaced-none, all-placed}
 use Rattle.ol_spec.specs.declared.Sorted.the-variants as Sort
 
 -- ---- the tables at the start
@@ -64,16 +65,36 @@ state-start qs n order e h r =
 
 -- ---- the answer, by what the passes leave
 
-pub sorts-made : {qs : List Equation} {p o : List ℕ} {n first : ℕ} → State qs (order qs) p o n → first ≡ firstZero p → Sorts qs o first
-sorts-made {first = first} st e =
+first-inside : (p : List ℕ) → firstZero p ≤ length p
+unfolding firstZero
+first-inside [] = omega arith
+first-inside (zero ∷ p) = omega arith
+first-inside (suc x ∷ p) = omega (arith, first-inside p)
+
+-- those placed in front, the rest as it was
+front-written : {qs : List Equation} {p o : List ℕ} {n : ℕ} (before : List ℕ) → length before ≡ length qs → State qs (order qs) p o n → drop n o ≡ drop n before → o ≡ sets before 0 (order qs)
+front-written {qs} {p} {o} {n} before b st h =
+    let l : length (order qs) ≡ n = length-list qs st in
+    let z : n ≡ 0 + length (order qs) = omega (arith, l) in
+    sym (take-append-drop n o)
+    ∙ (ap (λ v. v ++ drop n o) (st .front)
+    ∙ (ap (λ v. order qs ++ v) h
+    ∙ (ap (λ k. order qs ++ drop k before) z ∙ sym (sets-eq (order qs) before 0 (omega (arith, l, b, st .left))))))
+
+pub sorts-made : {qs : List Equation} {p o before : List ℕ} {n first : ℕ} → length before ≡ length qs → State qs (order qs) p o n × (drop n o ≡ drop n before) → first ≡ firstZero p → Sorts qs before o first
+sorts-made {qs} {p} {before = before} {first = first} b sh e =
+    let st = sh .0 in
     record {
       long = st .room;
+      inside = omega (arith, e, first-inside p, st .flagged);
+      few = omega (arith, length-list qs st, st .left);
+      written = front-written before b st (sh .1);
       ring = λ h. (unplaced-some st (omega (arith, st .flagged)) ∙ ap some (sym e));
       placed = λ h. unplaced-none st (omega (arith, st .flagged));
       order = λ h. all-placed st (omega (arith, st .flagged));
     }
 
-module _ {qs : List Equation} {o : List ℕ} {first : ℕ} (starts buf : List ℕ) (so : Sorts qs o first) where
+module _ {qs : List Equation} {before o : List ℕ} {first : ℕ} (starts buf : List ℕ) (so : Sorts qs before o first) where
   -- a ring
   pub answer-ring : first < length qs → noOrder 11 (getD starts first 0) buf ≡ orderOf qs starts buf
   unfolding orderOf

@@ -13,19 +13,21 @@ use borrow.Author.Tests.{eqb-true, eqb-false}
 use Rattle.ol_spec.specs.Lists.{member}
 use Rattle.ol_spec.specs.Syntax.{Equation}
 use Rattle.ol_spec.specs.Order.{later, definerFrom, definer}
-use Rattle.ol_spec.specs.Places.{rhsPlace}
-use Rattle.ol_spec.specs.Read.{got, Reader, many, countR, nameR}
+use Rattle.ol_spec.specs.Read.{got, many, countR, nameR, equationR}
 use Rattle.ol_spec.specs.declared.Fault.{Fault}
 use Rattle.ol_spec.specs.declared.Limits.{Limits}
-use Rattle.ol_spec.proofs.Offsets.{steps, same-end, same-item}
-use Rattle.ol_order.specs.Tables.{put, putAll, definerCode, equationAt, equationsAt}
+use Rattle.ol_spec.proofs.Offsets.{steps, same-item}
+use Rattle.ol_order.specs.Tables.{put, putAll, namesAt, onCount, putStarts, definerCode, equationAt, equationsAt}
 use Rattle.ol_order.specs.Post.{Readable}
+use Rattle.ol_tables.specs.Heads.{nameAt}
 use Rattle.ol_ir.specs.Nexts.{nextOf, countedOf}
+use Rattle.ol_ir.specs.Walks.{onPlaces}
 use Rattle.ol_ir.specs.declared.Next.{Next}
 use Rattle.ol_ir.specs.declared.Next.the-variants as Nxt
 use Rattle.ol_ir.specs.declared.Counted.{Counted}
 use Rattle.ol_ir.specs.declared.Counted.the-variants as Cnt
-use Rattle.ol_ir.proofs.Items.{SectionAt, section-at, equation-at}
+use Rattle.ol_ir.proofs.Items.{from-next, from-halt, from-items, from-no-items, section-at, equation-at}
+use Rattle.ol_ir.proofs.Scans.{name-told}
 
 -- an entry of the table is the same with any default
 pub in-range : (t : List ℕ) (x : ℕ) → x < length t → getD t x 0 ≡ getD t x 255
@@ -99,84 +101,79 @@ length-putAll i (q ∷ qs) t = length-putAll (suc i) qs (put (q .names) i t) ∙
 
 -- ---- the names of an equation, one after the other
 
-module _ {A : Type 0} (r : Reader A) where
-  many-first : (left at : ℕ) (xs : List A) (n : ℕ) → 0 < left → many left r at ≡ got xs n → (x : A) × (rest : List A) × (p : ℕ) × (r at ≡ got x p) × (many (left - 1) r p ≡ got rest n) × (x ∷ rest ≡ xs)
-  unfolding many
-  many-first zero at xs n h f = absurd (omega arith)
-  many-first (suc k) at xs n h f =
-      let t = steps (r at) _ xs n f in
-      let u = steps (many k r (t .at)) _ xs n (t .rest) in
-      let one : suc k - 1 ≡ k = omega arith in
-      (t .value, u .value, t .at, t .first, rw one (u .first ∙ ap (got (u .value)) (same-end (u .rest))), same-item (u .rest))
-
-  many-none : (left at : ℕ) (xs : List A) (n : ℕ) → left ≤ 0 → many left r at ≡ got xs n → xs ≡ []
-  unfolding many
-  many-none zero at xs n h f = sym (same-item f)
-  many-none (suc k) at xs n h f = absurd (omega arith)
+-- of names that were read the bytes tell which they are
+names-told : (s : List ℕ) (k at : ℕ) (xs : List ℕ) (n : ℕ) → many k (nameR s) at ≡ got xs n → namesAt k s at ≡ xs
+unfolding many namesAt onPlaces
+names-told s zero at xs n e = same-item e
+names-told s (suc k) at xs n e =
+    let t = steps (nameR s at) _ xs n e in
+    let u = steps (many k (nameR s) (t .at)) _ xs n (t .rest) in
+    ap (λ r. nameAt s at ∷ onPlaces r (namesAt k s)) (t .first)
+    ∙ (ap (λ x. x ∷ namesAt k s (t .at)) (name-told s at (t .value) (t .at) (t .first)) ∙ (ap (λ l. t .value ∷ l) (names-told s k (t .at) (u .value) (u .at) (u .first)) ∙ same-item (u .rest)))
 
 -- w is the table in which the names left, `left` of them from `at` on, get i
-pub record Puts (s : List ℕ) (w : List ℕ) (i left at n : ℕ) (table : List ℕ) : Type 0 where
-  pub names : List ℕ
-  pub read : many left (nameR s) at ≡ got names n
-  pub is : w ≡ put names i table
-
-module _ {s w table : List ℕ} {i left at n : ℕ} (ps : Puts s w i left at n table) where
+module _ (s table w : List ℕ) (i left at : ℕ) (e : put (namesAt left s at) i table ≡ w) where
   pub puts-end : left ≤ 0 → table ≡ w
-  unfolding put
-  puts-end h = sym (ps .is ∙ ap (λ xs. put xs i table) (many-none (nameR s) left at (ps .names) n h (ps .read)))
+  unfolding put namesAt
+  puts-end h = none left h e
+    where
+      none : (k : ℕ) → k ≤ 0 → put (namesAt k s at) i table ≡ w → table ≡ w
+      none zero g f = f
+      none (suc k) g f = absurd (omega arith)
 
-  module _ {x : ℕ} {y : Next} (u : 0 < left) (c : (z m : ℕ) → nameR s at ≡ got z m → x ≡ z) (e : y ≡ nextOf (nameR s at)) where
-    pub puts-turn : {q : ℕ} {t : List ℕ} → t ≡ set table x i → y ≡ Nxt.At q → Puts s w i (left - 1) q n t
-    unfolding put nextOf
-    puts-turn {q} {t} k g =
-        let f = many-first (nameR s) left at (ps .names) n u (ps .read) in
-        let a : x ≡ f .0 = c (f .0) (f .2) (f .3) in
-        let b : Nxt.At (f .2) ≡ Nxt.At q = sym (e ∙ ap nextOf (f .3)) ∙ g in
-        let d : f .2 ≡ q = cc in
-        record {
-          names = f .1;
-          read = subst (λ v. many (left - 1) (nameR s) v ≡ got (f .1) n) d (f .4);
-          is = ps .is ∙ (ap (λ xs. put xs i table) (sym (f .5)) ∙ (ap (λ v. put (f .1) i (set table v i)) (sym a) ∙ ap (put (f .1) i) (sym k)));
-        }
+  module _ (u : 0 < left) {x : ℕ} {t : List ℕ} {y : Next} (c : x ≡ nameAt s at) (k : t ≡ set table x i) (g : y ≡ nextOf (nameR s at)) where
+    name-put : put (onPlaces (nameR s at) (namesAt (left - 1) s)) i t ≡ w
+    unfolding put namesAt
+    name-put = next left u e
+      where
+        next : (m : ℕ) → 0 < m → put (namesAt m s at) i table ≡ w → put (onPlaces (nameR s at) (namesAt (m - 1) s)) i t ≡ w
+        next zero h f = absurd (omega arith)
+        next (suc m) h f =
+            let one : suc m - 1 ≡ m = omega arith in
+            rw one (ap (put (onPlaces (nameR s at) (namesAt m s)) i) (k ∙ ap (λ v. set table v i) c) ∙ f)
 
-    pub puts-not : {f : Fault} {t : Type 0} → y ≡ Nxt.Refused f → t
-    unfolding nextOf
-    puts-not {f} g =
-        let h = many-first (nameR s) left at (ps .names) n u (ps .read) in
-        let b : Nxt.At (h .2) ≡ Nxt.Refused f = sym (e ∙ ap nextOf (h .3)) ∙ g in
-        let z : _≡_ {A = ℕ} 0 1 = cc in
-        absurd (omega arith)
+    pub puts-turn : {q : ℕ} → y ≡ Nxt.At q → put (namesAt (left - 1) s q) i t ≡ w
+    unfolding onPlaces
+    puts-turn {q} h = let a = from-next (nameR s at) q (sym g ∙ h) in sym (ap (λ r. put (onPlaces r (namesAt (left - 1) s)) i t) (a .1)) ∙ name-put
+
+    pub puts-not : {f : Fault} → y ≡ Nxt.Refused f → t ≡ w
+    unfolding onPlaces put
+    puts-not {f} h = sym (ap (λ r. put (onPlaces r (namesAt (left - 1) s)) i t) (from-halt (nameR s at) f (sym g ∙ h))) ∙ name-put
 
 -- ---- the equations, one after the other
 
 -- w is the table in which the names of the equations from i on get their indices
-pub record PutsAll (s : List ℕ) (l : Limits) (enums : ℕ) (starts w : List ℕ) (i : ℕ) (table : List ℕ) : Type 0 where
-  pub is : w ≡ putAll i (equationsAt s l enums (drop i starts)) table
-
-module _ {s starts w table : List ℕ} {l : Limits} {enums i : ℕ} (ps : PutsAll s l enums starts w i table) where
+module _ (s starts table w : List ℕ) (most i : ℕ) (e : putStarts s most i (drop i starts) table ≡ w) where
   pub all-end : length starts ≤ i → table ≡ w
-  unfolding putAll
-  all-end h = sym (ps .is ∙ ap (λ k. putAll i (equationsAt s l enums k) table) (drop-of-length-le starts h))
+  unfolding putStarts
+  all-end h = sym (ap (λ k. putStarts s most i k table) (drop-of-length-le starts {i = i} h)) ∙ e
 
-  module _ (rd : Readable s l enums starts) (u : i < length starts) {x : Counted} (e : x ≡ countedOf (countR s 1 (l .names) (getD starts i 0))) where
-    abbrev q : Equation
-    q = equationAt s l enums (getD starts i 0)
+  module _ (u : i < length starts) {x : Counted} (g : x ≡ countedOf (countR s 1 most (getD starts i 0))) where
+    next-start : onCount (countR s 1 most (getD starts i 0)) (λ n p. putStarts s most (suc i) (drop (suc i) starts) (put (namesAt n s p) i table)) table ≡ w
+    unfolding putStarts
+    next-start = sym (ap (λ k. putStarts s most i k table) (drop-cons starts i 0 u)) ∙ e
 
-    names-at : SectionAt s 1 (l .names) (nameR s) (getD starts i 0) (q .names) (rhsPlace (getD starts i 0) q)
-    names-at = let f = rd .each i u in section-at s 1 (l .names) (nameR s) (getD starts i 0) (q .names) _ (equation-at s l enums (getD starts i 0) q (f .0) (f .1) .names)
+    pub all-turn : {n p : ℕ} {t : List ℕ} → x ≡ Cnt.Items n p → t ≡ put (namesAt n s p) i table → putStarts s most (i + 1) (drop (i + 1) starts) t ≡ w
+    all-turn {n} {p} {t} h k =
+        rw add-one
+        (ap (putStarts s most (suc i) (drop (suc i) starts)) k
+        ∙ (sym (ap (λ r. onCount r (λ n p. putStarts s most (suc i) (drop (suc i) starts) (put (namesAt n s p) i table)) table) (from-items (countR s 1 most (getD starts i 0)) n p (sym g ∙ h))) ∙ next-start))
 
-    counted : x ≡ Cnt.Items (length (q .names)) (getD starts i 0 + 1)
-    unfolding countedOf
-    counted = e ∙ ap countedOf (names-at .counted)
+    pub all-not : {f : Fault} → x ≡ Cnt.Refused f → table ≡ w
+    all-not {f} h = sym (ap (λ r. onCount r (λ n p. putStarts s most (suc i) (drop (suc i) starts) (put (namesAt n s p) i table)) table) (from-no-items (countR s 1 most (getD starts i 0)) f (sym g ∙ h))) ∙ next-start
 
-    pub all-turn : {n p : ℕ} {t : List ℕ} → x ≡ Cnt.Items n p → ((xs : List ℕ) (m : ℕ) → many n (nameR s) p ≡ got xs m → t ≡ put xs i table) → PutsAll s l enums starts w (i + 1) t
-    unfolding putAll
-    all-turn {n} {p} {t} g h =
-        let b : Cnt.Items n p ≡ Cnt.Items (length (q .names)) (getD starts i 0 + 1) = sym g ∙ counted in
-        let y : n ≡ length (q .names) = cc in
-        let z : p ≡ getD starts i 0 + 1 = cc in
-        let k : t ≡ put (q .names) i table = h (q .names) (rhsPlace (getD starts i 0) q) (subst (λ v. many v (nameR s) p ≡ got (q .names) (rhsPlace (getD starts i 0) q)) (sym y) (subst (λ v. many (length (q .names)) (nameR s) v ≡ got (q .names) (rhsPlace (getD starts i 0) q)) (sym z) (names-at .items))) in
-        record { is = rw (add-one, k) (ps .is ∙ ap (λ v. putAll i (equationsAt s l enums v) table) (drop-cons starts i 0 u)) }
+-- of equations that were read the names are theirs
+module _ (s : List ℕ) (l : Limits) (enums : ℕ) where
+  starts-put : (i : ℕ) (starts table : List ℕ) → ((k : ℕ) → k < length starts → (n : ℕ) × (equationR s l enums (getD starts k 0) ≡ got (equationAt s l enums (getD starts k 0)) n)) → putStarts s (l .names) i starts table ≡ putAll i (equationsAt s l enums starts) table
+  unfolding putStarts putAll
+  starts-put i [] table h = refl
+  starts-put i (a ∷ starts) table h =
+      let f = h 0 (omega arith) in
+      let q = equationAt s l enums a in
+      let c = section-at s 1 (l .names) (nameR s) a (q .names) _ (equation-at s l enums a q (f .0) (f .1) .names) in
+      ap (λ r. onCount r (λ n p. putStarts s (l .names) (suc i) starts (put (namesAt n s p) i table)) table) (c .counted)
+      ∙ (ap (λ xs. putStarts s (l .names) (suc i) starts (put xs i table)) (names-told s (length (q .names)) (a + 1) (q .names) _ (c .items))
+      ∙ starts-put (suc i) starts (put (q .names) i table) (λ k g. h (suc k) (omega arith)))
 
-    pub all-not : {f : Fault} {t : Type 0} → x ≡ Cnt.Refused f → t
-    all-not {f} g = let b : Cnt.Refused f ≡ Cnt.Items (length (q .names)) (getD starts i 0 + 1) = sym g ∙ counted in let z : _≡_ {A = ℕ} 0 1 = cc in absurd (omega arith)
+  pub starts-defined : (starts table : List ℕ) → Readable s l enums starts → putStarts s (l .names) 0 starts table ≡ putAll 0 (equationsAt s l enums starts) table
+  starts-defined starts table rd = starts-put 0 starts table (rd .each)

@@ -7,7 +7,7 @@ use mathlib.Core.Path.{_≡_, refl, sym, ap, subst, _∙_}
 use native.Mathlib.Numerals.{add-one}
 use native.Mathlib.Omega.{arith}
 use lib.ListN.{length, getD, take, drop, set, length-append, drop-of-length-le}
-use lib.Seq.{drop-cons, length-take-le}
+use lib.Seq.{drop-cons, drop-drop, drop-set-lt, length-take-le}
 use Rattle.ol_spec.specs.Lists.{allOf, member}
 use Rattle.ol_spec.specs.Syntax.{Equation}
 use Rattle.ol_spec.specs.Order.{reads, ready, place, pass, passes, order, outsideIf, firstOutside, unplaced}
@@ -19,6 +19,12 @@ use Rattle.ol_order.proofs.Flags.{is-placed, not-placed, place-state, s
 take-length : {A : Type 0} (l : List A) → take (length l) l ≡ l
 take-length [] = refl
 take-length (x ∷ l) = ap (λ m. x ∷ m) (take-length l)
+
+-- what lies behind is the same, also further on
+drop-further : (a b : List ℕ) (n m : ℕ) → n ≤ m → drop n a ≡ drop n b → drop m a ≡ drop m b
+drop-further a b n m h e =
+    let z : n + (m - n) ≡ m = omega arith in
+    subst (λ k. drop k a ≡ drop k b) z (sym (drop-drop (m - n) n a) ∙ (ap (drop (m - n)) e ∙ drop-drop (m - n) n b))
 
 -- the equation at a place
 pub equation-here : (s : List ℕ) (l : Limits) (enums : ℕ) (starts : List ℕ) (k : ℕ) → k < length starts → getD (equationsAt s l enums starts) k noEquation ≡ equationAt s l enums (getD starts k 0)
@@ -37,39 +43,41 @@ module _ (qs : List Equation) where
   unfolding pass
   pass-turn k list h = ap (λ rs. pass qs k rs list) (drop-cons qs k noEquation h)
 
-  -- w is what the pass gives, whose turn is at equation i
-  pub record Passing (w : List ℕ) (i : ℕ) (placed order : List ℕ) (n : ℕ) : Type 0 where
+  -- w is what the pass gives, whose turn is at equation i; behind those placed, the entries are as they were before it
+  pub record Passing (w : List ℕ) (i : ℕ) (before placed order : List ℕ) (n : ℕ) : Type 0 where
     pub inside : i ≤ length qs
     pub is : w ≡ pass qs i (drop i qs) (take n order)
     pub state : State qs (take n order) placed order n
+    pub behind : drop n order ≡ drop n before
 
-  pub passing-start : {placed order : List ℕ} {n : ℕ} → State qs (take n order) placed order n → Passing (pass qs 0 qs (take n order)) 0 placed order n
-  passing-start st = record { inside = omega arith; is = refl; state = st }
+  pub passing-start : {placed order : List ℕ} {n : ℕ} → State qs (take n order) placed order n → Passing (pass qs 0 qs (take n order)) 0 order placed order n
+  passing-start st = record { inside = omega arith; is = refl; state = st; behind = refl }
 
-  module _ {w placed order : List ℕ} {i n : ℕ} (ps : Passing w i placed order n) where
-    pub passing-end : length qs ≤ i → State qs w placed order n
+  module _ {w before placed order : List ℕ} {i n : ℕ} (ps : Passing w i before placed order n) where
+    pub passing-end : length qs ≤ i → State qs w placed order n × (drop n order ≡ drop n before)
     unfolding pass
     passing-end h =
         let e : w ≡ take n order = ps .is ∙ ap (λ rs. pass qs i rs (take n order)) (drop-of-length-le qs h) in
-        subst (λ v. State qs v placed order n) (sym e) (ps .state)
+        (subst (λ v. State qs v placed order n) (sym e) (ps .state), ps .behind)
 
     module _ (h : i < length qs) where
-      stays : (b : Bool) → (not (member i (take n order)) && ready qs (take n order) (getD qs i noEquation)) ≡ b → b ≡ false → Passing w (i + 1) placed order n
+      stays : (b : Bool) → (not (member i (take n order)) && ready qs (take n order) (getD qs i noEquation)) ≡ b → b ≡ false → Passing w (i + 1) before placed order n
       stays b e f =
           record {
             inside = omega arith;
             is = rw add-one (ps .is ∙ (pass-turn i (take n order) h ∙ ap (λ c. pass qs (suc i) (drop (suc i) qs) (place qs c i (take n order))) (e ∙ f)));
             state = ps .state;
+            behind = ps .behind;
           }
 
       -- it is placed already
-      pub passing-placed : (getD placed i 0 ≡ 0 → ⊥) → Passing w (i + 1) placed order n
+      pub passing-placed : (getD placed i 0 ≡ 0 → ⊥) → Passing w (i + 1) before placed order n
       passing-placed e =
           let m = is-placed (ps .state) i (omega (arith, ps .state .flagged)) e in
           stays _ refl (ap (λ b. not b && ready qs (take n order) (getD qs i noEquation)) m)
 
       -- it waits
-      pub passing-waits : ready qs (take n order) (getD qs i noEquation) ≡ false → Passing w (i + 1) placed order n
+      pub passing-waits : ready qs (take n order) (getD qs i noEquation) ≡ false → Passing w (i + 1) before placed order n
       passing-waits e = stays _ refl (ap (λ b. not (member i (take n order)) && b) e ∙ and-false (not (member i (take n order))))
         where
           and-false : (b : Bool) → (b && false) ≡ false
@@ -77,7 +85,7 @@ module _ (qs : List Equation) where
           and-false false = refl
 
       -- it is placed now
-      pub passing-ready : getD placed i 0 ≡ 0 → ready qs (take n order) (getD qs i noEquation) ≡ true → Passing w (i + 1) (set placed i 1) (set order n i) (n + 1)
+      pub passing-ready : getD placed i 0 ≡ 0 → ready qs (take n order) (getD qs i noEquation) ≡ true → Passing w (i + 1) before (set placed i 1) (set order n i) (n + 1)
       passing-ready e f =
           let b : i < length placed = omega (arith, ps .state .flagged) in
           let m = not-placed (ps .state) i b e in
@@ -87,6 +95,7 @@ module _ (qs : List Equation) where
             inside = omega arith;
             is = rw (add-one i) (ps .is ∙ (pass-turn i (take n order) h ∙ (ap (λ c. pass qs (suc i) (drop (suc i) qs) (place qs c i (take n order))) go ∙ ap (pass qs (suc i) (drop (suc i) qs)) (sym (st .front)))));
             state = subst (λ v. State qs v (set placed i 1) (set order n i) (n + 1)) (sym (st .front)) st;
+            behind = drop-set-lt (n + 1) order n i (omega arith) ∙ drop-further order before n (n + 1) (omega arith) (ps .behind);
           }
 
   -- ---- one pass after the other
@@ -116,7 +125,7 @@ module _ (qs : List Equation) where
   none-left zero list h = refl
   none-left (suc k) list h = absurd (omega arith)
 
-  length-list : {list placed order : List ℕ} {n : ℕ} → State qs list placed order n → length list ≡ n
+  pub length-list : {list placed order : List ℕ} {n : ℕ} → State qs list placed order n → length list ≡ n
   length-list {list} {placed} {order} {n} st =
       let h : n ≤ length order = omega (arith, st .left, st .room) in
       ap length (sym (st .front)) ∙ length-take-le n order h
@@ -125,34 +134,43 @@ module _ (qs : List Equation) where
   nothing [] e = refl
   nothing (x ∷ more) e = absurd (omega arith)
 
-  -- w is what `left` more passes give
-  pub record Passes (w : List ℕ) (left : ℕ) (placed order : List ℕ) (n : ℕ) : Type 0 where
+  -- w is what `left` more passes give; behind those placed, the entries are as they were before the first
+  pub record Passes (w : List ℕ) (left : ℕ) (before placed order : List ℕ) (n : ℕ) : Type 0 where
     pub is : w ≡ passes qs left (take n order)
     pub state : State qs (take n order) placed order n
+    pub behind : drop n order ≡ drop n before
 
   renew : {list placed order : List ℕ} {n : ℕ} → State qs list placed order n → State qs (take n order) placed order n
   renew {placed = placed} {order} {n} st = subst (λ v. State qs v placed order n) (sym (st .front)) st
 
-  module _ {w placed order p o : List ℕ} {left n m : ℕ} (ps : Passes w left placed order n) (u : 0 < left) (st : State qs (pass qs 0 qs (take n order)) p o m) where
-    pub passes-turn : Passes w (left - 1) p o m
-    passes-turn = record { is = ps .is ∙ (passes-step left (take n order) u ∙ ap (passes qs (left - 1)) (sym (st .front))); state = renew st }
+  module _ {w before placed order p o : List ℕ} {left n m : ℕ} (ps : Passes w left before placed order n) (u : 0 < left) (st : State qs (pass qs 0 qs (take n order)) p o m × (drop m o ≡ drop m order)) where
+    no-fewer : n ≤ m
+    no-fewer =
+        let a = pass-adds 0 qs (take n order) in
+        omega (arith, ap length (a .1), length-append (take n order) (a .0), length-list (st .0), length-list (ps .state))
+
+    still-behind : drop m o ≡ drop m before
+    still-behind = st .1 ∙ drop-further order before n m no-fewer (ps .behind)
+
+    pub passes-turn : Passes w (left - 1) before p o m
+    passes-turn = record { is = ps .is ∙ (passes-step left (take n order) u ∙ ap (passes qs (left - 1)) (sym (st .0 .front))); state = renew (st .0); behind = still-behind }
 
     -- the pass added none
-    pub passes-stop : m ≡ n → State qs w p o n
+    pub passes-stop : m ≡ n → State qs w p o n × (drop n o ≡ drop n before)
     passes-stop e =
         let a = pass-adds 0 qs (take n order) in
-        let b : length (take n order ++ a .0) ≡ n = ap length (sym (a .1)) ∙ (length-list st ∙ e) in
+        let b : length (take n order ++ a .0) ≡ n = ap length (sym (a .1)) ∙ (length-list (st .0) ∙ e) in
         let c : a .0 ≡ [] = nothing (a .0) (omega (arith, b, length-append (take n order) (a .0), length-list (ps .state))) in
         let d : pass qs 0 qs (take n order) ≡ take n order = a .1 ∙ (ap (λ l. take n order ++ l) c ∙ append-nil (take n order)) in
         let f : pass qs 0 qs (take n order) ≡ w = d ∙ sym (ps .is ∙ passes-idle left (take n order) d) in
-        subst (λ v. State qs w p o v) e (subst (λ v. State qs v p o m) f st)
+        (subst (λ v. State qs w p o v) e (subst (λ v. State qs v p o m) f (st .0)), subst (λ v. drop v o ≡ drop v before) e still-behind)
 
-  pub passes-end : {w placed order : List ℕ} {left n : ℕ} → Passes w left placed order n → left ≤ 0 → State qs w placed order n
-  passes-end {w} {placed} {order} {left} {n} ps h = subst (λ v. State qs v placed order n) (sym (ps .is ∙ none-left left (take n order) h)) (ps .state)
+  pub passes-end : {w before placed order : List ℕ} {left n : ℕ} → Passes w left before placed order n → left ≤ 0 → State qs w placed order n × (drop n order ≡ drop n before)
+  passes-end {w} {before} {placed} {order} {left} {n} ps h = (subst (λ v. State qs v placed order n) (sym (ps .is ∙ none-left left (take n order) h)) (ps .state), ps .behind)
 
-  pub passes-start : {placed ord : List ℕ} (left : ℕ) → length qs ≡ left → State qs [] placed ord 0 → Passes (order qs) left placed ord 0
+  pub passes-start : {placed ord : List ℕ} (left : ℕ) → length qs ≡ left → State qs [] placed ord 0 → Passes (order qs) left ord placed ord 0
   unfolding order
-  passes-start left e st = record { is = ap (λ k. passes qs k []) e; state = st }
+  passes-start left e st = record { is = ap (λ k. passes qs k []) e; state = st; behind = refl }
 
 -- ---- the first that is not placed
 

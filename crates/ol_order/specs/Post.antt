@@ -4,6 +4,7 @@ use mathlib.Core.List.{List}
 use mathlib.Core.Option.{none, some}
 use mathlib.Core.Path.{_≡_}
 use lib.ListN.{length, getD, take}
+use lib.Seq.{sets}
 use Rattle.ol_spec.specs.Lists.{member}
 use Rattle.ol_spec.specs.Syntax.{Equation}
 use Rattle.ol_spec.specs.Read.{got, equationR, nodeR}
@@ -39,9 +40,12 @@ pub record State (qs : List Equation) (list placed order : List ℕ) (n : ℕ) :
   pub room : length order ≡ length qs
   pub left : n + zeros placed ≡ length qs
 
--- r is the first equation that is never placed, or their number; then `order` is their order
-pub record Sorts (qs : List Equation) (ord : List ℕ) (r : ℕ) : Type 0 where
+-- r is the first equation that is never placed, or their number; then `ord` is their order. In both cases those placed stand in front, in their order, and the rest is as it was before
+pub record Sorts (qs : List Equation) (before ord : List ℕ) (r : ℕ) : Type 0 where
   pub long : length ord ≡ length qs
+  pub inside : r ≤ length qs
+  pub few : length (order qs) ≤ length qs
+  pub written : ord ≡ sets before 0 (order qs)
   pub ring : r < length qs → unplaced qs ≡ some r
   pub placed : length qs ≤ r → unplaced qs ≡ none
   pub order : length qs ≤ r → ord ≡ order qs

@@ -6,9 +6,11 @@ use mathlib.Core.Option.{Option, none, some}
 use lib.ListN.{length, getD, set}
 use lib.Dec.{ltb, eqb}
 use Rattle.ol_spec.specs.Syntax.{boolLit, Equation, Node, noNode}
-use Rattle.ol_spec.specs.Read.{Read, got, fault, equationR, nodeR}
+use Rattle.ol_spec.specs.Read.{Read, got, fault, countR, nameR, equationR, nodeR}
 use Rattle.ol_spec.specs.Order.{order, unplaced}
 use Rattle.ol_spec.specs.Cycle.{OrderingCall, noOrder}
+use Rattle.ol_tables.specs.Heads.{nameAt}
+use Rattle.ol_ir.specs.Walks.{onPlaces}
 use Rattle.ol_spec.specs.declared.Limits.{Limits}
 use Rattle.ol_spec.specs.declared.Sorted.the-variants as Sort
 
@@ -45,6 +47,20 @@ put (x ∷ xs) i table = put xs i (set table x i)
 unfoldable pub putAll : ℕ → List Equation → List ℕ → List ℕ
 putAll i [] table = table
 putAll i (q ∷ qs) table = putAll (suc i) qs (put (q .names) i table)
+
+-- for any bytes: so many names, one after the other, up to the first that the file's end cuts off
+unfoldable pub namesAt : ℕ → List ℕ → ℕ → List ℕ
+namesAt zero s at = []
+namesAt (suc n) s at = nameAt s at ∷ onPlaces (nameR s at) (namesAt n s)
+
+abbrev pub onCount : Read ℕ → (ℕ → ℕ → List ℕ) → List ℕ → List ℕ
+onCount (got n p) k table = k n p
+onCount (fault n p) k table = table
+
+-- the names at each of these places get its index, the first having the index i, up to the first place at which no count of names stands
+unfoldable pub putStarts : List ℕ → ℕ → ℕ → List ℕ → List ℕ → List ℕ
+putStarts s most i [] table = table
+putStarts s most i (a ∷ starts) table = onCount (countR s 1 most a) (λ n p. putStarts s most (suc i) starts (put (namesAt n s p) i table)) table
 
 abbrev pub definerCode : Option ℕ → ℕ
 definerCode none = 255

@@ -16,17 +16,16 @@ use ol_ir::read::name;
 use ol_spec::Fault;
 use ol_spec::Limits;
 use ol_spec::Sorted;
-ghost use mathlib.Core.List.{List, []};
+ghost use mathlib.Core.List.{[]};
 ghost use mathlib.Core.Option.{some};
 ghost use mathlib.Core.Path.{_≡_};
 ghost use Prim.Native.Nat.{ℕ, _≤_, _<_};
-ghost use lib.ListN.{length, getD, set, take};
+ghost use lib.ListN.{length, getD, set, take, drop};
 ghost use Rattle.ol_spec.specs.Limits.{relayLoader};
-ghost use Rattle.ol_spec.specs.Read.{got, many, nameR};
 ghost use Rattle.ol_spec.specs.Order.{pass, order as inOrder};
 ghost use Rattle.ol_spec.specs.Answers.{sortedFault};
 ghost use Rattle.ol_spec.specs.Cycle.{orderNode, ordering};
-ghost use Rattle.ol_order.specs.Tables.{equationsAt, nodeAt, put, putAll, waitsFor, firstZero, orderOf};
+ghost use Rattle.ol_order.specs.Tables.{equationsAt, nodeAt, put, putAll, namesAt, putStarts, waitsFor, firstZero, orderOf};
 ghost use Rattle.ol_order.specs.Post.{Readable, NodeReads, Blank, Definers, State, Sorts};
 
 // No name has a definer: 255 stands for none.
@@ -46,9 +45,9 @@ fn enter(definers: &mut [u8], x: usize, index: u8)
     }
 }
 
-// Each of so many names gets the equation's index.
+// Each of so many names gets the equation's index, up to one that the file's end cuts off.
 fn define(file: &[u8], count: usize, at: usize, index: u8, definers: &mut [u8])
-    ensures { λ _. ⌜ ((xs : List ℕ) (n : ℕ) → many count (nameR (now (file .entry))) at ≡ got xs n → now (definers .exit) ≡ put xs index (now (definers .entry))) ⌝ }
+    ensures { λ _. ⌜ now (definers .exit) ≡ put (namesAt count (now (file .entry)) at) index (now (definers .entry)) ⌝ }
 {
     let mut next = at;
     let mut left = count;
@@ -66,10 +65,10 @@ fn define(file: &[u8], count: usize, at: usize, index: u8, definers: &mut [u8])
     }
 }
 
-// Which equation defines each name: of several the last.
+// Which equation defines each name: of several the last. Ends where no count of names stands.
 fn define_all(file: &[u8], most: usize, starts: &[usize], definers: &mut [u8])
     requires { ⌜ length (now starts) ≤ 80 ⌝ }
-    ensures { λ _. ⌜ ((l : Limits) (enums : ℕ) → l .names ≡ most → Readable (now (file .entry)) l enums (now (starts .entry)) → now (definers .exit) ≡ putAll 0 (equationsAt (now (file .entry)) l enums (now (starts .entry))) (now (definers .entry))) ⌝ }
+    ensures { λ _. ⌜ now (definers .exit) ≡ putStarts (now (file .entry)) most 0 (now (starts .entry)) (now (definers .entry)) ⌝ }
 {
     let mut i = 0;
     while i < starts.len() {
@@ -110,7 +109,8 @@ fn waits(definers: &[u8], placed: &[u8], x: usize) -> bool
     }
 }
 
-// One pass over the equations in file order: each that waits for none is placed.
+// One pass over the equations in file order: each that waits for none is placed. Behind those placed,
+// the entries of `order` stay.
 fn pass(
     file: &[u8],
     limits: Limits,
@@ -124,7 +124,8 @@ fn pass(
     requires { ⌜ Readable (now file) limits enums (now starts) ⌝ }
     requires { ⌜ Definers (equationsAt (now file) limits enums (now starts)) (now definers) ⌝ }
     requires { ⌜ State (equationsAt (now file) limits enums (now starts)) (take done (now order)) (now placed) (now order) done ⌝ }
-    ensures { λ r. ⌜ State (equationsAt (now (file .entry)) limits enums (now (starts .entry))) (pass (equationsAt (now (file .entry)) limits enums (now (starts .entry))) 0 (equationsAt (now (file .entry)) limits enums (now (starts .entry))) (take done (now (order .entry)))) (now (placed .exit)) (now (order .exit)) r ⌝ }
+    ensures placed { λ r. ⌜ State (equationsAt (now (file .entry)) limits enums (now (starts .entry))) (pass (equationsAt (now (file .entry)) limits enums (now (starts .entry))) 0 (equationsAt (now (file .entry)) limits enums (now (starts .entry))) (take done (now (order .entry)))) (now (placed .exit)) (now (order .exit)) r ⌝ }
+    ensures behind { λ r. ⌜ drop r (now (order .exit)) ≡ drop r (now (order .entry)) ⌝ }
 {
     let mut n = done;
     let mut i = 0;
@@ -159,7 +160,8 @@ fn pass(
     n
 }
 
-// Passes, as many as there are equations, or until one places none: how many are placed.
+// Passes, as many as there are equations, or until one places none: how many are placed. Behind
+// those, the entries of `order` stay.
 fn passes(
     file: &[u8],
     limits: Limits,
@@ -172,7 +174,8 @@ fn passes(
     requires { ⌜ Readable (now file) limits enums (now starts) ⌝ }
     requires { ⌜ Definers (equationsAt (now file) limits enums (now starts)) (now definers) ⌝ }
     requires { ⌜ State (equationsAt (now file) limits enums (now starts)) [] (now placed) (now order) 0 ⌝ }
-    ensures { λ r. ⌜ State (equationsAt (now (file .entry)) limits enums (now (starts .entry))) (inOrder (equationsAt (now (file .entry)) limits enums (now (starts .entry)))) (now (placed .exit)) (now (order .exit)) r ⌝ }
+    ensures placed { λ r. ⌜ State (equationsAt (now (file .entry)) limits enums (now (starts .entry))) (inOrder (equationsAt (now (file .entry)) limits enums (now (starts .entry)))) (now (placed .exit)) (now (order .exit)) r ⌝ }
+    ensures behind { λ r. ⌜ drop r (now (order .exit)) ≡ drop r (now (order .entry)) ⌝ }
 {
     let mut done = 0;
     let mut left = starts.len();
@@ -214,7 +217,8 @@ fn copy(order: &[usize], buffer: &mut [usize])
 }
 
 // Places the equations that start at these places, with a table in which no name has a definer
-// yet: the first that is not placed, or their number. The buffer gets their order.
+// yet: the first that is not placed, or their number. The buffer gets the order of those placed, the
+// table the definers.
 pub(crate) fn sort(
     file: &[u8],
     limits: Limits,
@@ -226,7 +230,8 @@ pub(crate) fn sort(
     requires { ⌜ Readable (now file) limits enums (now starts) ⌝ }
     requires { ⌜ Blank (equationsAt (now file) limits enums (now starts)) (now definers) ⌝ }
     requires { ⌜ length (now order) ≡ length (now starts) ⌝ }
-    ensures { λ r. ⌜ Sorts (equationsAt (now (file .entry)) limits enums (now (starts .entry))) (now (order .exit)) r ⌝ }
+    ensures order { λ r. ⌜ Sorts (equationsAt (now (file .entry)) limits enums (now (starts .entry))) (now (order .entry)) (now (order .exit)) r ⌝ }
+    ensures table { λ _. ⌜ now (definers .exit) ≡ putAll 0 (equationsAt (now (file .entry)) limits enums (now (starts .entry))) (now (definers .entry)) ⌝ }
 {
     define_all(file, limits.names, starts, definers);
     let mut flags = [0u8; 80];

@@ -11,10 +11,11 @@ ghost use mathlib.Core.Bool.{true};
 ghost use mathlib.Core.Path.{_≡_};
 ghost use Prim.Native.Nat.{ℕ, _≤_, _<_};
 ghost use lib.ListN.{length, getD};
+ghost use lib.Seq.{sets};
 ghost use Rattle.ol_spec.specs.Syntax.{File};
 ghost use Rattle.ol_spec.specs.Limits.{relayLoader};
 ghost use Rattle.ol_spec.specs.Read.{got, readFile};
-ghost use Rattle.ol_order.specs.Tables.{equationsAt, nodeAt};
+ghost use Rattle.ol_order.specs.Tables.{equationsAt, nodeAt, putAll};
 ghost use Rattle.ol_order.specs.Post.{Readable, NodeReads, Blank};
 ghost use Rattle.ol_order.specs.Orders.{Small, LowNames, EquationsDone, NodeDone, NodesStand, OrdersDone};
 
@@ -32,11 +33,11 @@ fn low_definers() -> [u8; 1024]
     [255; 1024]
 }
 
-// Copies an order into bytes.
+// Copies an order into bytes, from their front on.
 fn copy_bytes(order: &[usize], out: &mut [u8])
     requires { ⌜ length (now order) ≤ length (now out) ⌝ }
     requires { ⌜ Small (now order) ⌝ }
-    ensures { λ _. ⌜ ((j : ℕ) → j < length (now (order .entry)) → getD (now (out .exit)) j 0 ≡ getD (now (order .entry)) j 0) ⌝ }
+    ensures { λ _. ⌜ now (out .exit) ≡ sets (now (out .entry)) 0 (now (order .entry)) ⌝ }
 {
     let mut i = 0;
     while i < order.len() {
@@ -58,7 +59,8 @@ fn order_starts(
     requires { ⌜ Readable (now file) limits enums (now starts) ⌝ }
     requires { ⌜ Blank (equationsAt (now file) limits enums (now starts)) (now definers) ⌝ }
     requires { ⌜ length (now out) ≡ 80 ⌝ }
-    ensures { λ r. ⌜ EquationsDone (equationsAt (now (file .entry)) limits enums (now (starts .entry))) (now (starts .entry)) (now (out .exit)) r ⌝ }
+    ensures order { λ r. ⌜ EquationsDone (equationsAt (now (file .entry)) limits enums (now (starts .entry))) (now (starts .entry)) (now (out .entry)) (now (out .exit)) r ⌝ }
+    ensures table { λ _. ⌜ now (definers .exit) ≡ putAll 0 (equationsAt (now (file .entry)) limits enums (now (starts .entry))) (now (definers .entry)) ⌝ }
 {
     let mut space = [0usize; 80];
     let n = starts.len();
@@ -85,7 +87,8 @@ fn order_with(
     requires { ⌜ NodeReads (now file) limits enums at ⌝ }
     requires { ⌜ Blank (nodeAt (now file) limits enums at .equations) (now definers) ⌝ }
     requires { ⌜ length (now out) ≡ 80 ⌝ }
-    ensures { λ r. ⌜ NodeDone at (nodeAt (now (file .entry)) limits enums at) (now (out .exit)) r ⌝ }
+    ensures order { λ r. ⌜ NodeDone at (nodeAt (now (file .entry)) limits enums at) (now (out .entry)) (now (out .exit)) r ⌝ }
+    ensures table { λ _. ⌜ now (definers .exit) ≡ putAll 0 (nodeAt (now (file .entry)) limits enums at .equations) (now (definers .entry)) ⌝ }
 {
     let mut space = [0usize; 80];
     match equation_starts(file, limits, enums, at, &mut space) {
@@ -99,7 +102,7 @@ fn order_low(file: &[u8], limits: Limits, enums: usize, at: usize, out: &mut [u8
     requires { ⌜ NodeReads (now file) limits enums at ⌝ }
     requires { ⌜ LowNames (nodeAt (now file) limits enums at .equations) ⌝ }
     requires { ⌜ length (now out) ≡ 80 ⌝ }
-    ensures { λ r. ⌜ NodeDone at (nodeAt (now (file .entry)) limits enums at) (now (out .exit)) r ⌝ }
+    ensures { λ r. ⌜ NodeDone at (nodeAt (now (file .entry)) limits enums at) (now (out .entry)) (now (out .exit)) r ⌝ }
 {
     let mut definers = low_definers();
     order_with(file, limits, enums, at, &mut definers, out)
@@ -109,7 +112,7 @@ fn order_low(file: &[u8], limits: Limits, enums: usize, at: usize, out: &mut [u8
 fn order_high(file: &[u8], limits: Limits, enums: usize, at: usize, out: &mut [u8]) -> Ring
     requires { ⌜ NodeReads (now file) limits enums at ⌝ }
     requires { ⌜ length (now out) ≡ 80 ⌝ }
-    ensures { λ r. ⌜ NodeDone at (nodeAt (now (file .entry)) limits enums at) (now (out .exit)) r ⌝ }
+    ensures { λ r. ⌜ NodeDone at (nodeAt (now (file .entry)) limits enums at) (now (out .entry)) (now (out .exit)) r ⌝ }
 {
     let mut definers = no_definers();
     order_with(file, limits, enums, at, &mut definers, out)
@@ -127,7 +130,7 @@ fn order_row(
     requires { ⌜ NodeReads (now file) limits enums at ⌝ }
     requires { ⌜ (low ≡ true → LowNames (nodeAt (now file) limits enums at .equations)) ⌝ }
     requires { ⌜ length (now out) ≡ 80 ⌝ }
-    ensures { λ r. ⌜ NodeDone at (nodeAt (now (file .entry)) limits enums at) (now (out .exit)) r ⌝ }
+    ensures { λ r. ⌜ NodeDone at (nodeAt (now (file .entry)) limits enums at) (now (out .entry)) (now (out .exit)) r ⌝ }
 {
     if low {
         order_low(file, limits, enums, at, out)
@@ -142,7 +145,7 @@ fn order_row(
 pub fn orders_of(file: &[u8], enums: usize, places: &[usize], low: bool, orders: &mut [u8]) -> Ring
     requires { ⌜ NodesStand (now file) enums (now places) low ⌝ }
     requires { ⌜ length (now orders) ≡ 2560 ⌝ }
-    ensures { λ r. ⌜ ((f : File) (end : ℕ) → readFile (now (file .entry)) relayLoader ≡ got f end → OrdersDone f (now (orders .exit)) r) ⌝ }
+    ensures { λ r. ⌜ ((f : File) (end : ℕ) → readFile (now (file .entry)) relayLoader ≡ got f end → OrdersDone f (now (orders .entry)) (now (orders .exit)) r) ⌝ }
 {
     let limits = base();
     let mut k = 0;

@@ -117,7 +117,7 @@ module _ {s places rows tab consts : List ℕ} {enums main : ℕ} {c : Sections}
   pub orders-room : length (take 2560 tab) ≡ 2560
   orders-room = length-take-le 2560 tab (omega (arith, h .sections .tabLong))
 
-  module _ {x : List ℕ} {r : Ring} (same : length x ≡ length (take 2560 tab)) (o : OrdersDone (fileAt s) x r) where
+  module _ {before x : List ℕ} {r : Ring} (same : length x ≡ length (take 2560 tab)) (o : OrdersDone (fileAt s) before x r) where
     pub orders-long : length (x ++ drop 2560 tab) ≡ length tab
     orders-long = length-append x (drop 2560 tab) ∙ omega (arith, same, orders-room, length-drop 2560 tab, h .sections .tabLong)
 

@@ -1,13 +1,10 @@
 -- <uses>
-use Prim.Native.Nat.{ℕ}
-use mathlib.Core.List.{List}
 use mathlib.Core.Path.{_≡_, refl, _∙_}
 use native.Mathlib.Omega.{arith}
 use lib.ListN.{length}
 use borrow.Author.Needs.{needs}
-use Rattle.ol_spec.specs.Read.{got, many, nameR}
-use Rattle.ol_order.specs.Tables.{put}
-use Rattle.ol_order.proofs.Definers.{Puts, puts-turn, puts-not, puts-end}
+use Rattle.ol_order.specs.Tables.{put, namesAt}
+use Rattle.ol_order.proofs.Definers.{puts-turn, puts-not, puts-end}
 -- </uses>
 use Rattle.ol_order.proofs.define.Statement.{statement}
 use Rattle.ol_order.proofs.define.Tie as tie
@@ -19,15 +16,14 @@ use Rattle.ol_order.proofs.enter.Reads as enter-reads
 
 abbrev Inv-loop : tie.InvT-loop
 Inv-loop file count at index definers₀ next₀ left₀ definers next left =
-    (length definers ≡ length definers₀)
-    × ((xs : List ℕ) (n : ℕ) → many count (nameR file) at ≡ got xs n → Puts file (put xs index definers₀) index left next n definers)
+    (length definers ≡ length definers₀) × (put (namesAt left file next) index definers ≡ put (namesAt count file at) index definers₀)
 
 abbrev μ-loop : tie.MeasureT-loop
 μ-loop file count at index definers₀ next₀ left₀ definers next left = left
 
 -- src/lib.rt:54:5
 loop-holds : tie.Need-loop-holds Inv-loop μ-loop
-loop-holds c = (refl, λ xs n e. record { names = xs; read = e; is = refl })
+loop-holds c = (refl, refl)
 
 -- src/lib.rt:55:9
 sub-left : tie.Need-sub-left Inv-loop μ-loop
@@ -55,7 +51,9 @@ loop-less c = omega arith
 
 -- src/lib.rt:54:5
 loop-again : tie.Need-loop-again Inv-loop μ-loop
-loop-again c = ((c .before .before .before .before .before .before .enter .kept .0 ∙ c .before .before .before .before .before .before .before .before .before .before .loop .inv .0), λ xs n e. puts-turn (c .before .before .before .before .before .before .before .before .before .before .loop .inv .1 xs n e) (c .before .before .before .before .before .before .before .before .before .loop-test .taken) (c .before .before .before .before .before .before .before .name .ensures .1) (c .before .before .before .bytes .ensures) (c .before .before .before .before .before .before .enter .ensures) (c .before .p .given .1))
+loop-again c =
+    let start = c .before .before .before .before .before .before .before .before .before .before .before .before .before in
+    ((c .before .before .before .before .before .before .enter .kept .0 ∙ c .before .before .before .before .before .before .before .before .before .before .loop .inv .0), puts-turn (start .args .file .now) _ _ _ _ _ (c .before .before .before .before .before .before .before .before .before .before .loop .inv .1) (c .before .before .before .before .before .before .before .before .before .loop-test .taken) (c .before .before .before .before .before .before .before .name .ensures .1) (c .before .before .before .before .before .before .enter .ensures) (c .before .before .before .bytes .ensures) (c .before .p .given .1))
 
 -- src/lib.rt:62:17
 enum-told : tie.Need-enum-told Inv-loop μ-loop
@@ -67,7 +65,9 @@ same-length c = (c .before .before .before .before .before .enter .kept .0 ∙ c
 
 -- src/lib.rt:62:17
 returns : tie.Need-returns Inv-loop μ-loop
-returns c = λ xs n e. puts-not (c .before .before .before .before .before .before .before .before .before .loop .inv .1 xs n e) (c .before .before .before .before .before .before .before .before .loop-test .taken) (c .before .before .before .before .before .before .name .ensures .1) (c .before .before .bytes .ensures) (c .enum-told .given .1)
+returns c =
+    let start = c .before .before .before .before .before .before .before .before .before .before .before .before in
+    puts-not (start .args .file .now) _ _ _ _ _ (c .before .before .before .before .before .before .before .before .before .loop .inv .1) (c .before .before .before .before .before .before .before .before .loop-test .taken) (c .before .before .before .before .before .before .name .ensures .1) (c .before .before .before .before .before .enter .ensures) (c .before .before .bytes .ensures) (c .enum-told .given .1)
 
 -- src/lib.rt:49:1
 same-length-2 : tie.Need-same-length-2 Inv-loop μ-loop
@@ -75,7 +75,9 @@ same-length-2 c = c .before .loop .inv .0
 
 -- src/lib.rt:49:1
 returns-2 : tie.Need-returns-2 Inv-loop μ-loop
-returns-2 c = λ xs n e. puts-end (c .before .loop .inv .1 xs n e) (c .loop-test .left)
+returns-2 c =
+    let start = c .before .before .before .before in
+    puts-end (start .args .file .now) _ _ _ _ _ (c .before .loop .inv .1) (c .loop-test .left)
 
 pub define-spec : {M : Type 1} → statement M
 define-spec =

@@ -1,28 +1,23 @@
 -- `ol_order::define_all` meets its contract.
-use Prim.Native.Nat.{ℕ, _-_}
-use mathlib.Core.Path.{_≡_, refl, sym, ap, _∙_}
+use Prim.Native.Nat.{_-_}
+use mathlib.Core.Path.{_≡_, refl, _∙_}
 use native.Mathlib.Omega.{arith}
-use lib.ListN.{length, getD}
+use lib.ListN.{length, drop}
 use borrow.Author.Needs.{needs}
-use Rattle.ol_spec.specs.Read.{countR}
-use Rattle.ol_spec.specs.declared.Limits.{Limits}
-use Rattle.ol_order.specs.Tables.{putAll, equationsAt}
-use Rattle.ol_order.specs.Post.{Readable}
-use Rattle.ol_order.proofs.Definers.{PutsAll, all-turn, all-not, all-end}
-use Rattle.ol_ir.specs.Nexts.{countedOf}
+use Rattle.ol_order.specs.Tables.{putStarts}
+use Rattle.ol_order.proofs.Definers.{all-turn, all-not, all-end}
 use Rattle.ol_order.proofs.define_all.Statement.{statement}
 use Rattle.ol_order.proofs.define_all.Tie as tie
 
 abbrev Inv-loop : tie.InvT-loop
 Inv-loop file most starts definers₀ i₀ definers i =
-    (length definers ≡ length definers₀)
-    × ((l : Limits) (enums : ℕ) → l .names ≡ most → Readable file l enums starts → PutsAll file l enums starts (putAll 0 (equationsAt file l enums starts) definers₀) i definers)
+    (length definers ≡ length definers₀) × (putStarts file most i (drop i starts) definers ≡ putStarts file most 0 starts definers₀)
 
 abbrev μ-loop : tie.MeasureT-loop
 μ-loop file most starts definers₀ i₀ definers i = length starts - i
 
 loop-holds : tie.Need-loop-holds Inv-loop μ-loop
-loop-holds c = (refl, λ l enums en rd. record { is = refl })
+loop-holds c = (refl, refl)
 
 cast-k : tie.Need-cast-k Inv-loop μ-loop
 cast-k c =
@@ -59,7 +54,7 @@ loop-less c =
 loop-again : tie.Need-loop-again Inv-loop μ-loop
 loop-again c =
     let start = c .before .before .before .before .before .before .before .before .before .before .before .before .before .before in
-    (c .before .before .define .kept .1 .1 .1 .1 .0 ∙ c .before .before .before .before .before .before .before .before .before .before .loop .inv .0, λ l enums en rd. all-turn (c .before .before .before .before .before .before .before .before .before .before .loop .inv .1 l enums en rd) rd (c .before .before .before .before .before .before .before .before .before .loop-test .taken) ((c .before .before .before .before .before .before .before .count .ensures ∙ ap (λ m. countedOf (countR (start .args .file .now) 1 m (getD (start .args .starts .now) (c .before .before .before .before .before .before .before .before .before .before .loop .i) 0))) (sym en))) (c .before .before .before .before .before .n .given .1) (c .before .before .define .ensures))
+    (c .before .before .define .kept .1 .1 .1 .1 .0 ∙ c .before .before .before .before .before .before .before .before .before .before .loop .inv .0, all-turn (start .args .file .now) (start .args .starts .now) _ _ _ _ (c .before .before .before .before .before .before .before .before .before .before .loop .inv .1) (c .before .before .before .before .before .before .before .before .before .loop-test .taken) (c .before .before .before .before .before .before .before .count .ensures) (c .before .before .before .before .before .n .given .1) (c .before .before .define .ensures))
 
 enum-told : tie.Need-enum-told Inv-loop μ-loop
 enum-told c = search needs
@@ -70,13 +65,15 @@ same-length c = c .before .before .before .before .before .loop .inv .0
 returns : tie.Need-returns Inv-loop μ-loop
 returns c =
     let start = c .before .before .before .before .before .before .before .before .before in
-    λ l enums en rd. all-not (c .before .before .before .before .before .loop .inv .1 l enums en rd) rd (c .before .before .before .before .loop-test .taken) ((c .before .before .count .ensures ∙ ap (λ m. countedOf (countR (start .args .file .now) 1 m (getD (start .args .starts .now) (c .before .before .before .before .before .loop .i) 0))) (sym en))) (c .enum-told .given .1)
+    all-not (start .args .file .now) (start .args .starts .now) _ _ _ _ (c .before .before .before .before .before .loop .inv .1) (c .before .before .before .before .loop-test .taken) (c .before .before .count .ensures) (c .enum-told .given .1)
 
 same-length-2 : tie.Need-same-length-2 Inv-loop μ-loop
 same-length-2 c = c .before .loop .inv .0
 
 returns-2 : tie.Need-returns-2 Inv-loop μ-loop
-returns-2 c = λ l enums en rd. all-end (c .before .loop .inv .1 l enums en rd) (c .loop-test .left)
+returns-2 c =
+    let start = c .before .before .before .before .before in
+    all-end (start .args .file .now) (start .args .starts .now) _ _ _ _ (c .before .loop .inv .1) (c .loop-test .left)
 
 pub define-all-spec : {M : Type 1} → statement M
 define-all-spec =

@@ -31,7 +31,7 @@ array-read-order-node c =
 order-node-requires : tie.Need-order-node-requires
 order-node-requires c κs =
     let start = c .before .before .before .before .before .before .before .before .before .before .before in
-    node-reads (start .args .file .now) (c .before .before .before .before .before .before .before .load-file .ensures .0) (start .args .node) (start .args .buffer .now) (c .before .before .before .before .enums .given .1) (c .before .before .before .before .before .before .before .load-file .ensures .1) (c .before .before .if1 .taken) (c .before .base .result) (c .before .base .ensures)
+    node-reads (start .args .file .now) (c .before .before .before .before .before .before .before .load-file .ensures .0) (start .args .node) (start .args .buffer .now) (c .before .before .before .before .enums .given .1) (c .before .before .before .before .before .before .before .load-file .ensures .1 .0) (c .before .before .if1 .taken) (c .before .base .result) (c .before .base .ensures)
 
 enum-known-f : tie.Need-enum-known-f
 enum-known-f c = search needs
@@ -43,7 +43,7 @@ returns : tie.Need-returns
 returns c =
     let start = c .before .before .before .before .before .before .before .before .before .before .before .before .before .before in
     as-told (c .before .before .order-node .ensures .0) (c .before .before .order-node .ensures .1)
-    (order-present (start .args .file .now) (c .before .before .before .before .before .before .before .before .before .before .load-file .ensures .0) (start .args .node) (start .args .buffer .now) (c .before .before .before .before .before .before .before .enums .given .1) (c .before .before .before .before .before .before .before .before .before .before .load-file .ensures .1) (c .before .before .before .before .before .if1 .taken) (c .before .before .before .before .base .result) (c .before .before .before .before .base .ensures))
+    (order-present (start .args .file .now) (c .before .before .before .before .before .before .before .before .before .before .load-file .ensures .0) (start .args .node) (start .args .buffer .now) (c .before .before .before .before .before .before .before .enums .given .1) (c .before .before .before .before .before .before .before .before .before .before .load-file .ensures .1 .0) (c .before .before .before .before .before .if1 .taken) (c .before .before .before .before .base .result) (c .before .before .before .before .base .ensures))
 
 returns-2 : tie.Need-returns-2
 returns-2 c =

@@ -57,13 +57,13 @@ shared-slice-read-t21 c = omega (arith, c .before .before .if1 .taken)
 copy-requires : tie.Need-copy-requires
 copy-requires c κs =
     let start = c .before .before .before .before .before .before .before .before .before .before .before .before .before .before .before in
-    c .before .before .if2 .taken ∙ (sym (as-many (start .args .file .now) (start .args .limits) (start .args .enums) (start .args .starts .now)) ∙ sym (c .before .before .before .before .before .before .before .sort .ensures .long))
+    c .before .before .if2 .taken ∙ (sym (as-many (start .args .file .now) (start .args .limits) (start .args .enums) (start .args .starts .now)) ∙ sym (c .before .before .before .before .before .before .before .sort .ensures .0 .long))
 
 -- src/lib.rt:248:1
 returns : tie.Need-returns
 returns c =
     let start = c .before .before .before .before .before .before .before .before .before .before .before .before .before .before in
-    (ap (λ (c : OrderingCall). c .answer) (answer-ring (start .args .starts .now) (start .args .buffer .now) (c .before .before .before .before .before .before .sort .ensures) (omega (arith, (as-many (start .args .file .now) (start .args .limits) (start .args .enums) (start .args .starts .now)), c .before .before .if1 .taken))), ap (λ (c : OrderingCall). c .buffer) (answer-ring (start .args .starts .now) (start .args .buffer .now) (c .before .before .before .before .before .before .sort .ensures) (omega (arith, (as-many (start .args .file .now) (start .args .limits) (start .args .enums) (start .args .starts .now)), c .before .before .if1 .taken))))
+    (ap (λ (c : OrderingCall). c .answer) (answer-ring (start .args .starts .now) (start .args .buffer .now) (c .before .before .before .before .before .before .sort .ensures .0) (omega (arith, (as-many (start .args .file .now) (start .args .limits) (start .args .enums) (start .args .starts .now)), c .before .before .if1 .taken))), ap (λ (c : OrderingCall). c .buffer) (answer-ring (start .args .starts .now) (start .args .buffer .now) (c .before .before .before .before .before .before .sort .ensures .0) (omega (arith, (as-many (start .args .file .now) (start .args .limits) (start .args .enums) (start .args .starts .now)), c .before .before .if1 .taken))))
 
 -- src/lib.rt:248:1
 same-length : tie.Need-same-length
@@ -73,13 +73,13 @@ same-length c = search needs
 returns-2 : tie.Need-returns-2
 returns-2 c =
     let start = c .before .before .before .before .before .before .before .before .before .before .before .before .before .before .before .before .before .before .before in
-    (ap (λ (c : OrderingCall). c .answer) (answer-done (start .args .starts .now) (start .args .buffer .now) (c .before .before .before .before .before .before .before .before .before .before .before .sort .ensures) (omega (arith, (as-many (start .args .file .now) (start .args .limits) (start .args .enums) (start .args .starts .now)), c .before .before .before .before .before .before .before .if1 .left)) (c .before .before .before .before .before .before .if2 .taken ∙ sym (as-many (start .args .file .now) (start .args .limits) (start .args .enums) (start .args .starts .now)))), c .before .before .before .copy .ensures ∙ ap (λ (c : OrderingCall). c .buffer) (answer-done (start .args .starts .now) (start .args .buffer .now) (c .before .before .before .before .before .before .before .before .before .before .before .sort .ensures) (omega (arith, (as-many (start .args .file .now) (start .args .limits) (start .args .enums) (start .args .starts .now)), c .before .before .before .before .before .before .before .if1 .left)) (c .before .before .before .before .before .before .if2 .taken ∙ sym (as-many (start .args .file .now) (start .args .limits) (start .args .enums) (start .args .starts .now)))))
+    (ap (λ (c : OrderingCall). c .answer) (answer-done (start .args .starts .now) (start .args .buffer .now) (c .before .before .before .before .before .before .before .before .before .before .before .sort .ensures .0) (omega (arith, (as-many (start .args .file .now) (start .args .limits) (start .args .enums) (start .args .starts .now)), c .before .before .before .before .before .before .before .if1 .left)) (c .before .before .before .before .before .before .if2 .taken ∙ sym (as-many (start .args .file .now) (start .args .limits) (start .args .enums) (start .args .starts .now)))), c .before .before .before .copy .ensures ∙ ap (λ (c : OrderingCall). c .buffer) (answer-done (start .args .starts .now) (start .args .buffer .now) (c .before .before .before .before .before .before .before .before .before .before .before .sort .ensures .0) (omega (arith, (as-many (start .args .file .now) (start .args .limits) (start .args .enums) (start .args .starts .now)), c .before .before .before .before .before .before .before .if1 .left)) (c .before .before .before .before .before .before .if2 .taken ∙ sym (as-many (start .args .file .now) (start .args .limits) (start .args .enums) (start .args .starts .now)))))
 
 -- src/lib.rt:248:1
 returns-3 : tie.Need-returns-3
 returns-3 c =
     let start = c .before .before .before .before .before .before .before .before .before .before .before .before .before .before in
-    (ap (λ (c : OrderingCall). c .answer) (answer-short (start .args .starts .now) (start .args .buffer .now) (c .before .before .before .before .before .before .sort .ensures) (omega (arith, (as-many (start .args .file .now) (start .args .limits) (start .args .enums) (start .args .starts .now)), c .before .before .if1 .left)) (λ e. c .before .if2 .left (e ∙ (as-many (start .args .file .now) (start .args .limits) (start .args .enums) (start .args .starts .now))))), ap (λ (c : OrderingCall). c .buffer) (answer-short (start .args .starts .now) (start .args .buffer .now) (c .before .before .before .before .before .before .sort .ensures) (omega (arith, (as-many (start .args .file .now) (start .args .limits) (start .args .enums) (start .args .starts .now)), c .before .before .if1 .left)) (λ e. c .before .if2 .left (e ∙ (as-many (start .args .file .now) (start .args .limits) (start .args .enums) (start .args .starts .now))))))
+    (ap (λ (c : OrderingCall). c .answer) (answer-short (start .args .starts .now) (start .args .buffer .now) (c .before .before .before .before .before .before .sort .ensures .0) (omega (arith, (as-many (start .args .file .now) (start .args .limits) (start .args .enums) (start .args .starts .now)), c .before .before .if1 .left)) (λ e. c .before .if2 .left (e ∙ (as-many (start .args .file .now) (start .args .limits) (start .args .enums) (start .args .starts .now))))), ap (λ (c : OrderingCall). c .buffer) (answer-short (start .args .starts .now) (start .args .buffer .now) (c .before .before .before .before .before .before .sort .ensures .0) (omega (arith, (as-many (start .args .file .now) (start .args .limits) (start .args .enums) (start .args .starts .now)), c .before .before .if1 .left)) (λ e. c .before .if2 .left (e ∙ (as-many (start .args .file .now) (start .args .limits) (start .args .enums) (start .args .starts .now))))))
 
 pub order-equations-spec : {M : Type 1} → statement M
 order-equations-spec =

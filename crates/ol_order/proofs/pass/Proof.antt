@@ -5,6 +5,7 @@ use native.Mathlib.Omega.{arith}
 use lib.ListN.{length, take}
 use borrow.Author.Needs.{needs}
 use Rattle.ol_spec.specs.Order.{pass}
+use Rattle.ol_ir.proofs.Scans.{scan-told}
 use Rattle.ol_order.proofs.Flags.{settled, room-for}
 use Rattle.ol_order.proofs.Scanning.{Pending, pending-done, in-file, name-after, name-settled, name-waits, parts-after, parts-few, parts-pending}
 use Rattle.ol_order.proofs.Passing.{Passing, passing-start, passing-end, passing-placed, passing-waits, passing-ready}
@@ -21,7 +22,7 @@ abbrev μ-loop : tie.MeasureT-loop
 
 abbrev Inv-equations : tie.InvT-equations
 Inv-equations file limits enums starts definers placed₀ order₀ done n₀ i₀ placed order n i =
-    Passing (equations file limits enums starts) (pass (equations file limits enums starts) 0 (equations file limits enums starts) (take done order₀)) i placed order n
+    Passing (equations file limits enums starts) (pass (equations file limits enums starts) 0 (equations file limits enums starts) (take done order₀)) i order₀ placed order n
 
 abbrev μ-equations : tie.MeasureT-equations
 μ-equations file limits enums starts definers placed₀ order₀ done n₀ i₀ placed order n i = length starts - i
@@ -74,17 +75,17 @@ equations-less c = omega (arith, c .before .before .before .before .before .befo
 equations-again : tie.Need-equations-again Inv-loop μ-loop Inv-equations μ-equations
 equations-again c =
     let start = c .before .before .before .before .before .before .before .before .before .before .before .before .before .before .before .before .before .before .before .before .before .before .before in
-    passing-waits (equations (start .args .file .now) (start .args .limits) (start .args .enums) (start .args .starts .now)) (c .before .before .before .before .before .before .before .before .before .before .before .before .before .before .before .before .before .equations .inv) ((omega (arith, (as-many (start .args .file .now) (start .args .limits) (start .args .enums) (start .args .starts .now)), c .before .before .before .before .before .before .before .before .before .before .before .before .before .before .before .before .equations-test .taken))) ((ready-here (start .args .file .now) (start .args .limits) (start .args .enums) (start .args .starts .now) (take (c .before .before .before .before .before .before .before .before .before .before .before .before .before .before .before .before .before .equations .n) (c .before .before .before .before .before .before .before .before .before .before .before .before .before .before .before .before .before .equations .order)) (c .before .before .before .before .before .before .before .before .before .before .before .before .before .before .before .before .before .equations .i) (c .before .before .before .before .before .before .before .before .before .before .before .before .before .before .before .before .equations-test .taken)) (name-waits (start .args .file .now) (start .args .limits) (start .args .enums) (settled (equations (start .args .file .now) (start .args .limits) (start .args .enums) (start .args .starts .now)) (take (c .before .before .before .before .before .before .before .before .before .before .before .before .before .before .before .before .before .equations .n) (c .before .before .before .before .before .before .before .before .before .before .before .before .before .before .before .before .before .equations .order))) (c .before .before .before .before .before .before .before .before .loop .inv) (c .before .before .before .before .before .before .before .loop-test .taken) (λ e n f. c .before .before .before .before .before .before .scan .ensures .0 (start .args .limits) (start .args .enums) (start .args .limits .nesting) e n f) (c .before .before .before .before .x .given .1) (is-waiting (start .args .file .now) (start .args .limits) (start .args .enums) (start .args .starts .now) (start .pre .0) (c .before .before .before .before .before .before .before .before .before .before .before .before .before .before .before .before .before .equations .inv .state) (start .pre .1 .0) (c .before .before .before .before .x .given .0 .0) ((c .before .before .before .before .before .before .scan .ensures .1 _ _ (c .before .before .before .before .x .given .1))) (c .before .waits .ensures) (c .if2 .taken))))
+    passing-waits (equations (start .args .file .now) (start .args .limits) (start .args .enums) (start .args .starts .now)) (c .before .before .before .before .before .before .before .before .before .before .before .before .before .before .before .before .before .equations .inv) ((omega (arith, (as-many (start .args .file .now) (start .args .limits) (start .args .enums) (start .args .starts .now)), c .before .before .before .before .before .before .before .before .before .before .before .before .before .before .before .before .equations-test .taken))) ((ready-here (start .args .file .now) (start .args .limits) (start .args .enums) (start .args .starts .now) (take (c .before .before .before .before .before .before .before .before .before .before .before .before .before .before .before .before .before .equations .n) (c .before .before .before .before .before .before .before .before .before .before .before .before .before .before .before .before .before .equations .order)) (c .before .before .before .before .before .before .before .before .before .before .before .before .before .before .before .before .before .equations .i) (c .before .before .before .before .before .before .before .before .before .before .before .before .before .before .before .before .equations-test .taken)) (name-waits (start .args .file .now) (start .args .limits) (start .args .enums) (settled (equations (start .args .file .now) (start .args .limits) (start .args .enums) (start .args .starts .now)) (take (c .before .before .before .before .before .before .before .before .before .before .before .before .before .before .before .before .before .equations .n) (c .before .before .before .before .before .before .before .before .before .before .before .before .before .before .before .before .before .equations .order))) (c .before .before .before .before .before .before .before .before .loop .inv) (c .before .before .before .before .before .before .before .loop-test .taken) (λ e n f. c .before .before .before .before .before .before .scan .ensures .0 ∙ scan-told (start .args .file .now) (start .args .limits) (start .args .enums) (start .args .limits .nesting) _ e n f) (c .before .before .before .before .x .given .1) (is-waiting (start .args .file .now) (start .args .limits) (start .args .enums) (start .args .starts .now) (start .pre .0) (c .before .before .before .before .before .before .before .before .before .before .before .before .before .before .before .before .before .equations .inv .state) (start .pre .1 .0) (c .before .before .before .before .x .given .0 .0) ((c .before .before .before .before .before .before .scan .ensures .1 _ _ (c .before .before .before .before .x .given .1))) (c .before .waits .ensures) (c .if2 .taken))))
 
 loop-less : tie.Need-loop-less Inv-loop μ-loop Inv-equations μ-equations
 loop-less c =
     let start = c .before .before .before .before .before .before .before .before .before .before .before .before .before .before .before .before .before .before .before .before .before .before .before in
-    omega (arith, name-after (start .args .file .now) (start .args .limits) (start .args .enums) (settled (equations (start .args .file .now) (start .args .limits) (start .args .enums) (start .args .starts .now)) (take (c .before .before .before .before .before .before .before .before .before .before .before .before .before .before .before .before .before .equations .n) (c .before .before .before .before .before .before .before .before .before .before .before .before .before .before .before .before .before .equations .order))) (c .before .before .before .before .before .before .before .before .loop .inv) (c .before .before .before .before .before .before .before .loop-test .taken) (λ e n f. c .before .before .before .before .before .before .scan .ensures .0 (start .args .limits) (start .args .enums) (start .args .limits .nesting) e n f) (c .before .before .before .before .x .given .1), in-file (start .args .file .now) (start .args .limits) (start .args .enums) (settled (equations (start .args .file .now) (start .args .limits) (start .args .enums) (start .args .starts .now)) (take (c .before .before .before .before .before .before .before .before .before .before .before .before .before .before .before .before .before .equations .n) (c .before .before .before .before .before .before .before .before .before .before .before .before .before .before .before .before .before .equations .order))) (c .before .before .before .before .before .before .before .before .loop .inv) (c .before .before .before .before .before .before .before .loop-test .taken) (λ e n f. c .before .before .before .before .before .before .scan .ensures .0 (start .args .limits) (start .args .enums) (start .args .limits .nesting) e n f))
+    omega (arith, name-after (start .args .file .now) (start .args .limits) (start .args .enums) (settled (equations (start .args .file .now) (start .args .limits) (start .args .enums) (start .args .starts .now)) (take (c .before .before .before .before .before .before .before .before .before .before .before .before .before .before .before .before .before .equations .n) (c .before .before .before .before .before .before .before .before .before .before .before .before .before .before .before .before .before .equations .order))) (c .before .before .before .before .before .before .before .before .loop .inv) (c .before .before .before .before .before .before .before .loop-test .taken) (λ e n f. c .before .before .before .before .before .before .scan .ensures .0 ∙ scan-told (start .args .file .now) (start .args .limits) (start .args .enums) (start .args .limits .nesting) _ e n f) (c .before .before .before .before .x .given .1), in-file (start .args .file .now) (start .args .limits) (start .args .enums) (settled (equations (start .args .file .now) (start .args .limits) (start .args .enums) (start .args .starts .now)) (take (c .before .before .before .before .before .before .before .before .before .before .before .before .before .before .before .before .before .equations .n) (c .before .before .before .before .before .before .before .before .before .before .before .before .before .before .before .before .before .equations .order))) (c .before .before .before .before .before .before .before .before .loop .inv) (c .before .before .before .before .before .before .before .loop-test .taken) (λ e n f. c .before .before .before .before .before .before .scan .ensures .0 ∙ scan-told (start .args .file .now) (start .args .limits) (start .args .enums) (start .args .limits .nesting) _ e n f))
 
 loop-again : tie.Need-loop-again Inv-loop μ-loop Inv-equations μ-equations
 loop-again c =
     let start = c .before .before .before .before .before .before .before .before .before .before .before .before .before .before .before .before .before .before .before .before .before .before .before in
-    name-settled (start .args .file .now) (start .args .limits) (start .args .enums) (settled (equations (start .args .file .now) (start .args .limits) (start .args .enums) (start .args .starts .now)) (take (c .before .before .before .before .before .before .before .before .before .before .before .before .before .before .before .before .before .equations .n) (c .before .before .before .before .before .before .before .before .before .before .before .before .before .before .before .before .before .equations .order))) (c .before .before .before .before .before .before .before .before .loop .inv) (c .before .before .before .before .before .before .before .loop-test .taken) (λ e n f. c .before .before .before .before .before .before .scan .ensures .0 (start .args .limits) (start .args .enums) (start .args .limits .nesting) e n f) (c .before .before .before .before .x .given .1) (is-settled (start .args .file .now) (start .args .limits) (start .args .enums) (start .args .starts .now) (start .pre .0) (c .before .before .before .before .before .before .before .before .before .before .before .before .before .before .before .before .before .equations .inv .state) (start .pre .1 .0) (c .before .before .before .before .x .given .0 .0) ((c .before .before .before .before .before .before .scan .ensures .1 _ _ (c .before .before .before .before .x .given .1))) (c .before .waits .ensures) (c .if2 .left))
+    name-settled (start .args .file .now) (start .args .limits) (start .args .enums) (settled (equations (start .args .file .now) (start .args .limits) (start .args .enums) (start .args .starts .now)) (take (c .before .before .before .before .before .before .before .before .before .before .before .before .before .before .before .before .before .equations .n) (c .before .before .before .before .before .before .before .before .before .before .before .before .before .before .before .before .before .equations .order))) (c .before .before .before .before .before .before .before .before .loop .inv) (c .before .before .before .before .before .before .before .loop-test .taken) (λ e n f. c .before .before .before .before .before .before .scan .ensures .0 ∙ scan-told (start .args .file .now) (start .args .limits) (start .args .enums) (start .args .limits .nesting) _ e n f) (c .before .before .before .before .x .given .1) (is-settled (start .args .file .now) (start .args .limits) (start .args .enums) (start .args .starts .now) (start .pre .0) (c .before .before .before .before .before .before .before .before .before .before .before .before .before .before .before .before .before .equations .inv .state) (start .pre .1 .0) (c .before .before .before .before .x .given .0 .0) ((c .before .before .before .before .before .before .scan .ensures .1 _ _ (c .before .before .before .before .x .given .1))) (c .before .waits .ensures) (c .if2 .left))
 
 enum-known-m : tie.Need-enum-known-m Inv-loop μ-loop Inv-equations μ-equations
 enum-known-m c = search needs
@@ -92,17 +93,17 @@ enum-known-m c = search needs
 add-left : tie.Need-add-left Inv-loop μ-loop Inv-equations μ-equations
 add-left c =
     let start = c .before .before .before .before .before .before .before .before .before .before .before .before .before .before .before .before .before .before .before .before in
-    omega (arith, parts-few (start .args .file .now) (start .args .limits) (start .args .enums) (settled (equations (start .args .file .now) (start .args .limits) (start .args .enums) (start .args .starts .now)) (take (c .before .before .before .before .before .before .before .before .before .before .before .before .before .before .equations .n) (c .before .before .before .before .before .before .before .before .before .before .before .before .before .before .equations .order))) (c .before .before .before .before .before .loop .inv) (c .before .before .before .before .loop-test .taken) (λ e n f. c .before .before .before .scan .ensures .0 (start .args .limits) (start .args .enums) (start .args .limits .nesting) e n f) (c .before .m .given .1))
+    omega (arith, parts-few (start .args .file .now) (start .args .limits) (start .args .enums) (settled (equations (start .args .file .now) (start .args .limits) (start .args .enums) (start .args .starts .now)) (take (c .before .before .before .before .before .before .before .before .before .before .before .before .before .before .equations .n) (c .before .before .before .before .before .before .before .before .before .before .before .before .before .before .equations .order))) (c .before .before .before .before .before .loop .inv) (c .before .before .before .before .loop-test .taken) (λ e n f. c .before .before .before .scan .ensures .0 ∙ scan-told (start .args .file .now) (start .args .limits) (start .args .enums) (start .args .limits .nesting) _ e n f) (c .before .m .given .1))
 
 loop-less-2 : tie.Need-loop-less-2 Inv-loop μ-loop Inv-equations μ-equations
 loop-less-2 c =
     let start = c .before .before .before .before .before .before .before .before .before .before .before .before .before .before .before .before .before .before .before .before in
-    omega (arith, parts-after (start .args .file .now) (start .args .limits) (start .args .enums) (settled (equations (start .args .file .now) (start .args .limits) (start .args .enums) (start .args .starts .now)) (take (c .before .before .before .before .before .before .before .before .before .before .before .before .before .before .equations .n) (c .before .before .before .before .before .before .before .before .before .before .before .before .before .before .equations .order))) (c .before .before .before .before .before .loop .inv) (c .before .before .before .before .loop-test .taken) (λ e n f. c .before .before .before .scan .ensures .0 (start .args .limits) (start .args .enums) (start .args .limits .nesting) e n f) (c .before .m .given .1), in-file (start .args .file .now) (start .args .limits) (start .args .enums) (settled (equations (start .args .file .now) (start .args .limits) (start .args .enums) (start .args .starts .now)) (take (c .before .before .before .before .before .before .before .before .before .before .before .before .before .before .equations .n) (c .before .before .before .before .before .before .before .before .before .before .before .before .before .before .equations .order))) (c .before .before .before .before .before .loop .inv) (c .before .before .before .before .loop-test .taken) (λ e n f. c .before .before .before .scan .ensures .0 (start .args .limits) (start .args .enums) (start .args .limits .nesting) e n f))
+    omega (arith, parts-after (start .args .file .now) (start .args .limits) (start .args .enums) (settled (equations (start .args .file .now) (start .args .limits) (start .args .enums) (start .args .starts .now)) (take (c .before .before .before .before .before .before .before .before .before .before .before .before .before .before .equations .n) (c .before .before .before .before .before .before .before .before .before .before .before .before .before .before .equations .order))) (c .before .before .before .before .before .loop .inv) (c .before .before .before .before .loop-test .taken) (λ e n f. c .before .before .before .scan .ensures .0 ∙ scan-told (start .args .file .now) (start .args .limits) (start .args .enums) (start .args .limits .nesting) _ e n f) (c .before .m .given .1), in-file (start .args .file .now) (start .args .limits) (start .args .enums) (settled (equations (start .args .file .now) (start .args .limits) (start .args .enums) (start .args .starts .now)) (take (c .before .before .before .before .before .before .before .before .before .before .before .before .before .before .equations .n) (c .before .before .before .before .before .before .before .before .before .before .before .before .before .before .equations .order))) (c .before .before .before .before .before .loop .inv) (c .before .before .before .before .loop-test .taken) (λ e n f. c .before .before .before .scan .ensures .0 ∙ scan-told (start .args .file .now) (start .args .limits) (start .args .enums) (start .args .limits .nesting) _ e n f))
 
 loop-again-2 : tie.Need-loop-again-2 Inv-loop μ-loop Inv-equations μ-equations
 loop-again-2 c =
     let start = c .before .before .before .before .before .before .before .before .before .before .before .before .before .before .before .before .before .before .before .before in
-    parts-pending (start .args .file .now) (start .args .limits) (start .args .enums) (settled (equations (start .args .file .now) (start .args .limits) (start .args .enums) (start .args .starts .now)) (take (c .before .before .before .before .before .before .before .before .before .before .before .before .before .before .equations .n) (c .before .before .before .before .before .before .before .before .before .before .before .before .before .before .equations .order))) (c .before .before .before .before .before .loop .inv) (c .before .before .before .before .loop-test .taken) (λ e n f. c .before .before .before .scan .ensures .0 (start .args .limits) (start .args .enums) (start .args .limits .nesting) e n f) (c .before .m .given .1)
+    parts-pending (start .args .file .now) (start .args .limits) (start .args .enums) (settled (equations (start .args .file .now) (start .args .limits) (start .args .enums) (start .args .starts .now)) (take (c .before .before .before .before .before .before .before .before .before .before .before .before .before .before .equations .n) (c .before .before .before .before .before .before .before .before .before .before .before .before .before .before .equations .order))) (c .before .before .before .before .before .loop .inv) (c .before .before .before .before .loop-test .taken) (λ e n f. c .before .before .before .scan .ensures .0 ∙ scan-told (start .args .file .now) (start .args .limits) (start .args .enums) (start .args .limits .nesting) _ e n f) (c .before .m .given .1)
 
 slice-write-placed : tie.Need-slice-write-placed Inv-loop μ-loop Inv-equations μ-equations
 slice-write-placed c =

@@ -9,7 +9,7 @@ use Rattle.ol_order.proofs.passes.Tie as tie
 
 abbrev Inv-loop : tie.InvT-loop
 Inv-loop file limits enums starts definers placed₀ order₀ done₀ left₀ placed order done left =
-    Passes (equations file limits enums starts) (inOrder (equations file limits enums starts)) left placed order done
+    Passes (equations file limits enums starts) (inOrder (equations file limits enums starts)) left order₀ placed order done
 
 abbrev μ-loop : tie.MeasureT-loop
 μ-loop file limits enums starts definers placed₀ order₀ done₀ left₀ placed order done left = left

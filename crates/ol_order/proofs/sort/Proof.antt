@@ -5,6 +5,7 @@ use native.Mathlib.Omega.{arith}
 use lib.ListN.{length, replicate}
 use lib.Seq.{length-take-le}
 use borrow.Author.Needs.{needs}
+use Rattle.ol_order.proofs.Definers.{starts-defined}
 use Rattle.ol_order.proofs.Turns.{equations, as-many}
 use Rattle.ol_order.proofs.Answers.{definers-made, state-start, sorts-made}
 -- </uses>
@@ -38,7 +39,7 @@ slice-aggregate-placed c =
 passes-requires : tie.Need-passes-requires
 passes-requires c κs =
     let start = c .before .before .before .before .before .before .before .before .before .before .before .before in
-    (start .pre .0, (definers-made (equations (start .args .file .now) (start .args .limits) (start .args .enums) (start .args .starts .now)) (start .args .definers .now) _ (start .pre .1 .0) (c .before .before .before .before .before .before .define-all .ensures (start .args .limits) (start .args .enums) refl (start .pre .0)), state-start (equations (start .args .file .now) (start .args .limits) (start .args .enums) (start .args .starts .now)) (length (start .args .starts .now)) (start .args .order .now) (as-many (start .args .file .now) (start .args .limits) (start .args .enums) (start .args .starts .now)) (start .pre .0 .few) (start .pre .1 .1 ∙ sym (as-many (start .args .file .now) (start .args .limits) (start .args .enums) (start .args .starts .now)))))
+    (start .pre .0, (definers-made (equations (start .args .file .now) (start .args .limits) (start .args .enums) (start .args .starts .now)) (start .args .definers .now) _ (start .pre .1 .0) (c .before .before .before .before .before .before .define-all .ensures ∙ starts-defined (start .args .file .now) (start .args .limits) (start .args .enums) (start .args .starts .now) (start .args .definers .now) (start .pre .0)), state-start (equations (start .args .file .now) (start .args .limits) (start .args .enums) (start .args .starts .now)) (length (start .args .starts .now)) (start .args .order .now) (as-many (start .args .file .now) (start .args .limits) (start .args .enums) (start .args .starts .now)) (start .pre .0 .few) (start .pre .1 .1 ∙ sym (as-many (start .args .file .now) (start .args .limits) (start .args .enums) (start .args .starts .now)))))
 
 -- src/lib.rt:244:5
 first-unplaced-requires : tie.Need-first-unplaced-requires
@@ -54,7 +55,9 @@ same-length-2 c = c .before .before .before .before .before .before .before .pas
 
 -- src/lib.rt:227:1
 returns : tie.Need-returns
-returns c = sorts-made (c .before .before .before .before .before .before .before .passes .ensures) (c .before .first-unplaced .ensures)
+returns c =
+    let start = c .before .before .before .before .before .before .before .before .before .before .before .before .before .before .before .before .before .before .before .before in
+    (sorts-made (start .pre .1 .1 ∙ sym (as-many (start .args .file .now) (start .args .limits) (start .args .enums) (start .args .starts .now))) (c .before .before .before .before .before .before .before .passes .ensures) (c .before .first-unplaced .ensures), (c .before .before .before .before .before .before .before .before .before .before .before .before .before .before .define-all .ensures ∙ starts-defined (start .args .file .now) (start .args .limits) (start .args .enums) (start .args .starts .now) (start .args .definers .now) (start .pre .0)))
 
 pub sort-spec : {M : Type 1} → statement M
 sort-spec =

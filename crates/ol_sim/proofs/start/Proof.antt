@@ -42,13 +42,13 @@ slice-aggregate-places c =
 start-small-requires : tie.Need-start-small-requires
 start-small-requires c κs =
     let start = c .before .before .before .before .before .before .before .before .before .before .before in
-    ((loads (start .args .file .now) (c .before .before .before .before .before .before .before .load-file .ensures .0) (c .before .before .before .before .enums .given .1) (file-stands (bytes-of (start .args .file .now) (λ i. omega (arith, c .before .before .before .before .before .before .before .before .before .before .shared-slice-known .given i))) (file-reads (start .args .file .now) (c .before .before .before .before .before .before .before .load-file .ensures .0) (c .before .before .before .before .enums .given .1))) (c .before .before .before .before .before .before .before .load-file .ensures .1)), c .before .if1 .taken)
+    ((loads (start .args .file .now) (c .before .before .before .before .before .before .before .load-file .ensures .0) (c .before .before .before .before .enums .given .1) (file-stands (bytes-of (start .args .file .now) (λ i. omega (arith, c .before .before .before .before .before .before .before .before .before .before .shared-slice-known .given i))) (file-reads (start .args .file .now) (c .before .before .before .before .before .before .before .load-file .ensures .0) (c .before .before .before .before .enums .given .1))) (c .before .before .before .before .before .before .before .load-file .ensures .1 .0)), c .before .if1 .taken)
 
 -- src/lib.rt:61:17
 start-large-requires : tie.Need-start-large-requires
 start-large-requires c κs =
     let start = c .before .before .before .before .before .before .before .before .before .before .before in
-    (loads (start .args .file .now) (c .before .before .before .before .before .before .before .load-file .ensures .0) (c .before .before .before .before .enums .given .1) (file-stands (bytes-of (start .args .file .now) (λ i. omega (arith, c .before .before .before .before .before .before .before .before .before .before .shared-slice-known .given i))) (file-reads (start .args .file .now) (c .before .before .before .before .before .before .before .load-file .ensures .0) (c .before .before .before .before .enums .given .1))) (c .before .before .before .before .before .before .before .load-file .ensures .1))
+    (loads (start .args .file .now) (c .before .before .before .before .before .before .before .load-file .ensures .0) (c .before .before .before .before .enums .given .1) (file-stands (bytes-of (start .args .file .now) (λ i. omega (arith, c .before .before .before .before .before .before .before .before .before .before .shared-slice-known .given i))) (file-reads (start .args .file .now) (c .before .before .before .before .before .before .before .load-file .ensures .0) (c .before .before .before .before .enums .given .1))) (c .before .before .before .before .before .before .before .load-file .ensures .1 .0))
 
 -- src/lib.rt:64:25
 enum-known-f : tie.Need-enum-known-f

@@ -1,10 +1,11 @@
 -- `ol_ir::expr::scan` meets its contract.
-use Prim.Native.Nat.{ℕ}
-use mathlib.Core.Path.{_≡_, _∙_}
+use Prim.Native.Nat.{ℕ, _+_}
+use mathlib.Core.Path.{_≡_, ap, _∙_}
 use native.Mathlib.Omega.{arith}
 use borrow.Author.Needs.{needs}
-use Rattle.ol_ir.proofs.Scans.{scan-var, scan-pre, scan-parts, scan-end}
-use Rattle.ol_ir.proofs.Skips.{skip-expr}
+use Rattle.ol_tables.specs.Heads.{partsAt}
+use Rattle.ol_ir.specs.declared.Scan.the-variants as Scn
+use Rattle.ol_ir.proofs.Scans.{scans-name, scans-pre, scans-parts, scans-end}
 use Rattle.ol_ir.proofs.expr.scan.Statement.{statement}
 use Rattle.ol_ir.proofs.expr.scan.Tie as tie
 
@@ -29,22 +30,22 @@ head-requires c κs = search needs
 returns : tie.Need-returns
 returns c =
     let start = c .before .before .before .before .before in
-    (λ l enums d e n g. scan-var (start .args .file .now) l enums d (start .args .at) e n g (c .before .if2 .taken) (c .name .ensures .1), λ x q j. let z : c .name .result ≡ x = cc in omega (arith, c .name .ensures .0))
+    (ap (λ x. Scn.Name x (start .args .at + 3)) (c .name .ensures .1) ∙ scans-name (start .args .file .now) (start .args .at) (c .before .before .before .if1 .taken) (c .before .if2 .taken), λ x q j. let z : c .name .result ≡ x = cc in omega (arith, c .name .ensures .0))
 
 returns-2 : tie.Need-returns-2
 returns-2 c =
     let start = c .before .before .before .before .before .before in
-    (λ l enums d e n g. scan-pre (start .args .file .now) l enums d (start .args .at) e n g (c .before .if3 .taken) (λ f m r. c .skip .ensures ∙ skip-expr (start .args .file .now) l enums _ _ r), λ x q j. let z : _≡_ {A = ℕ} 0 1 = cc in absurd (omega arith))
+    (ap (Scn.Parts 0) (c .skip .ensures) ∙ scans-pre (start .args .file .now) (start .args .at) (c .before .before .before .before .if1 .taken) (c .before .if3 .taken), λ x q j. let z : _≡_ {A = ℕ} 0 1 = cc in absurd (omega arith))
 
 returns-3 : tie.Need-returns-3
 returns-3 c =
     let start = c .before .before .before .before .before .before in
-    (λ l enums d e n g. scan-parts (start .args .file .now) l enums d (start .args .at) e n g (c .before .before .if2 .left) (c .before .if3 .left) (c .head .ensures), λ x q j. let z : _≡_ {A = ℕ} 0 1 = cc in absurd (omega arith))
+    (ap (λ m. Scn.Parts m (c .head .result .start)) (c .head .ensures .parts) ∙ (ap (Scn.Parts (partsAt (start .args .file .now) (start .args .at))) (c .head .ensures .next) ∙ scans-parts (start .args .file .now) (start .args .at) (c .before .before .before .before .if1 .taken) (c .before .before .if2 .left) (c .before .if3 .left)), λ x q j. let z : _≡_ {A = ℕ} 0 1 = cc in absurd (omega arith))
 
 returns-4 : tie.Need-returns-4
 returns-4 c =
     let start = c .before .before in
-    (λ l enums d e n g. scan-end (start .args .file .now) l enums d (start .args .at) e n g (c .if1 .left), λ x q j. let z : _≡_ {A = ℕ} 0 1 = cc in absurd (omega arith))
+    (scans-end (start .args .file .now) (start .args .at) (c .if1 .left), λ x q j. let z : _≡_ {A = ℕ} 0 1 = cc in absurd (omega arith))
 
 pub scan-spec : {M : Type 1} → statement M
 scan-spec =

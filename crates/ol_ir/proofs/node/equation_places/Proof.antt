@@ -1,30 +1,25 @@
 -- `ol_ir::node::equation_places` meets its contract.
-use Prim.Native.Nat.{ℕ, _+_}
-use mathlib.Core.List.{List}
+use Prim.Native.Nat.{_+_}
 use mathlib.Core.Path.{_≡_, refl, _∙_}
 use native.Mathlib.Omega.{arith}
 use lib.ListN.{length}
 use lib.Seq.{sets}
 use borrow.Author.Needs.{needs}
-use Rattle.ol_spec.specs.Syntax.{Equation}
-use Rattle.ol_spec.specs.Read.{got, many, equationR}
-use Rattle.ol_spec.specs.declared.Limits.{Limits}
-use Rattle.ol_ir.specs.Walks.{placesOf}
-use Rattle.ol_ir.proofs.Skips.{Listed, listed-start, listed-turn, listed-end}
+use Rattle.ol_ir.specs.Walks.{equationPlaces}
+use Rattle.ol_ir.proofs.Skips.{places-turn, places-end}
 use Rattle.ol_ir.proofs.node.equation_places.Statement.{statement}
 use Rattle.ol_ir.proofs.node.equation_places.Tie as tie
 
 abbrev Inv-loop : tie.InvT-loop
 Inv-loop file count at starts₀ next₀ left₀ i₀ starts next left i =
     (i + left ≡ count) × (length starts ≡ length starts₀)
-    × ((l : Limits) (enums : ℕ) (qs : List Equation) (end : ℕ) → many count (equationR file l enums) at ≡ got qs end
-    → Listed (equationR file l enums) (sets starts₀ 0 (placesOf count (equationR file l enums) at)) end i left next starts)
+    × (sets starts i (equationPlaces left file next) ≡ sets starts₀ 0 (equationPlaces count file at))
 
 abbrev μ-loop : tie.MeasureT-loop
 μ-loop file count at starts₀ next₀ left₀ i₀ starts next left i = left
 
 loop-holds : tie.Need-loop-holds Inv-loop μ-loop
-loop-holds c = (omega arith, refl, λ l enums qs end h. listed-start h)
+loop-holds c = (omega arith, refl, refl)
 
 keep-requires : tie.Need-keep-requires Inv-loop μ-loop
 keep-requires c κs = search needs
@@ -43,13 +38,16 @@ loop-less c = omega (arith, c .before .before .before .before .before .before .l
 
 loop-again : tie.Need-loop-again Inv-loop μ-loop
 loop-again c =
-    (omega (arith, c .before .before .before .before .before .before .loop .inv .0), c .before .before .before .keep .kept .0 ∙ c .before .before .before .before .before .before .loop .inv .1, λ l enums qs end h. listed-turn (c .before .before .before .before .before .before .loop .inv .2 l enums qs end h) (c .before .before .before .before .before .loop-test .taken) (λ q n r. c .skip-equation .ensures l enums q n r) (c .before .before .before .keep .ensures))
+    let start = c .before .before .before .before .before .before .before .before .before in
+    (omega (arith, c .before .before .before .before .before .before .loop .inv .0), c .before .before .before .keep .kept .0 ∙ c .before .before .before .before .before .before .loop .inv .1, places-turn (start .args .file .now) _ _ _ _ _ _ _ (c .before .before .before .before .before .before .loop .inv .2) (c .before .before .before .before .before .loop-test .taken) (c .skip-equation .ensures) (c .before .before .before .keep .ensures))
 
 same-length : tie.Need-same-length Inv-loop μ-loop
 same-length c = c .before .loop .inv .1
 
 returns : tie.Need-returns Inv-loop μ-loop
-returns c = λ l enums qs end h. listed-end (c .before .loop .inv .2 l enums qs end h) (c .loop-test .left)
+returns c =
+    let start = c .before .before .before .before in
+    places-end (start .args .file .now) _ _ _ _ _ (c .before .loop .inv .2) (c .loop-test .left)
 
 pub equation-places-spec : {M : Type 1} → statement M
 equation-places-spec =

@@ -1,8 +1,8 @@
 -- `ol_ir::node::equation_starts` meets its contract.
-use mathlib.Core.Path.{_∙_, ap}
+use mathlib.Core.Path.{sym, ap, _∙_}
 use lib.Seq.{sets}
 use borrow.Author.Needs.{needs}
-use Rattle.ol_ir.proofs.Items.{no-front, equations-found, equations-items, equations-table, no-equations}
+use Rattle.ol_ir.proofs.Skips.{starts-counted, starts-placed, starts-uncounted, front-refused, front-placed}
 use Rattle.ol_ir.proofs.node.equation_starts.Statement.{statement}
 use Rattle.ol_ir.proofs.node.equation_starts.Tie as tie
 
@@ -33,17 +33,18 @@ same-length c = c .before .before .equation-places .kept .1 .1 .1 .0
 returns : tie.Need-returns
 returns c =
     let start = c .before .before .before .before .before .before .before .before .before .before .before .before .before .before in
-    (λ n end g. equations-found (start .args .file .now) (start .args .limits) (start .args .enums) (start .args .at) n end g (c .before .before .before .before .before .before .before .before .before .before .before .interface .ensures) (c .before .before .before .before .before .before .before .before .before .p .given .1) (c .before .before .before .before .before .before .before .count .ensures) (c .before .before .before .before .before .n .given .1), λ n end g. c .before .before .equation-places .ensures (start .args .limits) (start .args .enums) (n .equations) end (equations-items (start .args .file .now) (start .args .limits) (start .args .enums) (start .args .at) n end g (c .before .before .before .before .before .before .before .before .before .before .before .interface .ensures) (c .before .before .before .before .before .before .before .before .before .p .given .1) (c .before .before .before .before .before .before .before .count .ensures) (c .before .before .before .before .before .n .given .1)) ∙ ap (λ l. sets (start .args .starts .now) 0 l) (equations-table (start .args .file .now) (start .args .limits) (start .args .enums) (start .args .at) n end g (c .before .before .before .before .before .before .before .before .before .before .before .interface .ensures) (c .before .before .before .before .before .before .before .before .before .p .given .1) (c .before .before .before .before .before .before .before .count .ensures) (c .before .before .before .before .before .n .given .1)))
+    let there = starts-counted (start .args .file .now) (start .args .limits) (start .args .enums) (start .args .at) (c .before .before .before .before .before .before .before .before .before .before .before .interface .ensures) (c .before .before .before .before .before .before .before .before .before .p .given .1) (c .before .before .before .before .before .before .before .count .ensures) in
+    (sym (c .before .before .before .before .before .n .given .1) ∙ there, c .before .before .equation-places .ensures ∙ ap (sets (start .args .starts .now) 0) (starts-placed (start .args .file .now) (start .args .limits) (start .args .enums) (start .args .at) (c .before .before .before .before .before .before .before .before .before .before .before .interface .ensures) (c .before .before .before .before .before .before .before .before .before .p .given .1) (c .before .before .before .before .before .before .before .count .ensures) (c .before .before .before .before .before .n .given .1)))
 
 returns-2 : tie.Need-returns-2
 returns-2 c =
     let start = c .before .before .before .before .before .before .before .before .before .before in
-    (λ n end g. no-equations (start .args .file .now) (start .args .limits) (start .args .enums) (start .args .at) n end g (c .before .before .before .before .before .before .before .interface .ensures) (c .before .before .before .before .before .p .given .1) (c .before .before .before .count .ensures) (c .before .f .given .1), λ n end g. no-equations (start .args .file .now) (start .args .limits) (start .args .enums) (start .args .at) n end g (c .before .before .before .before .before .before .before .interface .ensures) (c .before .before .before .before .before .p .given .1) (c .before .before .before .count .ensures) (c .before .f .given .1))
+    (sym (c .before .f .given .1) ∙ starts-counted (start .args .file .now) (start .args .limits) (start .args .enums) (start .args .at) (c .before .before .before .before .before .before .before .interface .ensures) (c .before .before .before .before .before .p .given .1) (c .before .before .before .count .ensures), ap (sets (start .args .starts .now) 0) (starts-uncounted (start .args .file .now) (start .args .limits) (start .args .enums) (start .args .at) (c .before .before .before .before .before .before .before .interface .ensures) (c .before .before .before .before .before .p .given .1) (c .before .before .before .count .ensures) (c .before .f .given .1)))
 
 returns-3 : tie.Need-returns-3
 returns-3 c =
     let start = c .before .before .before .before .before .before in
-    (λ n end g. no-front (start .args .file .now) (start .args .limits) (start .args .enums) (start .args .at) n end g (c .before .before .before .interface .ensures) (c .before .f2 .given .1), λ n end g. no-front (start .args .file .now) (start .args .limits) (start .args .enums) (start .args .at) n end g (c .before .before .before .interface .ensures) (c .before .f2 .given .1))
+    (front-refused (start .args .file .now) (start .args .limits) (start .args .enums) (start .args .at) (c .before .before .before .interface .ensures) (c .before .f2 .given .1), ap (sets (start .args .starts .now) 0) (front-placed (start .args .file .now) (start .args .limits) (start .args .enums) (start .args .at) (c .before .before .before .interface .ensures) (c .before .f2 .given .1)))
 
 pub equation-starts-spec : {M : Type 1} → statement M
 equation-starts-spec =

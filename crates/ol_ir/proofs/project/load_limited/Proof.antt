@@ -1,6 +1,8 @@
 -- `ol_ir::project::load_limited` meets its contract.
+use mathlib.Core.Path.{ap, _∙_}
+use lib.Seq.{sets}
 use borrow.Author.Needs.{needs}
-use Rattle.ol_ir.proofs.Load.{load-is, load-table, load-fault, load-none, not-loaded}
+use Rattle.ol_ir.proofs.Load.{load-is, load-table, load-fault, load-none, not-loaded, load-places, fault-places, none-places}
 use Rattle.ol_ir.proofs.project.load_limited.Statement.{statement}
 use Rattle.ol_ir.proofs.project.load_limited.Tie as tie
 
@@ -31,17 +33,17 @@ same-length c = c .before .before .last-nodes .kept .1 .1 .1 .1 .0
 returns : tie.Need-returns
 returns c =
     let start = c .before .before .before .before .before .before .before .before .before .before .before .before .before .before in
-    (load-is (start .args .file .now) (start .args .limits) (c .before .before .before .before .before .before .before .before .before .before .before .enum-section .ensures) (c .before .before .before .before .before .before .before .before .before .n .given .1) (c .before .before .before .before .before .before .before .constant-section .ensures) (c .before .before .before .before .before .q .given .1) (c .before .before .last-nodes .ensures .0), load-table (start .args .file .now) (start .args .limits) (c .before .before .before .before .before .before .before .before .before .before .before .enum-section .ensures) (c .before .before .before .before .before .before .before .before .before .n .given .1) (c .before .before .before .before .before .before .before .constant-section .ensures) (c .before .before .before .before .before .q .given .1) (c .before .before .last-nodes .ensures .1))
+    (load-is (start .args .file .now) (start .args .limits) (c .before .before .before .before .before .before .before .before .before .before .before .enum-section .ensures) (c .before .before .before .before .before .before .before .before .before .n .given .1) (c .before .before .before .before .before .before .before .constant-section .ensures) (c .before .before .before .before .before .q .given .1) (c .before .before .last-nodes .ensures .0), (load-table (start .args .file .now) (start .args .limits) (c .before .before .before .before .before .before .before .before .before .before .before .enum-section .ensures) (c .before .before .before .before .before .before .before .before .before .n .given .1) (c .before .before .before .before .before .before .before .constant-section .ensures) (c .before .before .before .before .before .q .given .1) (c .before .before .last-nodes .ensures .1 .0), c .before .before .last-nodes .ensures .1 .1 ∙ ap (sets (start .args .starts .now) 0) (load-places (start .args .file .now) (start .args .limits) (c .before .before .before .before .before .before .before .before .before .before .before .enum-section .ensures) (c .before .before .before .before .before .before .before .before .before .n .given .1) (c .before .before .before .before .before .before .before .constant-section .ensures) (c .before .before .before .before .before .q .given .1))))
 
 returns-2 : tie.Need-returns-2
 returns-2 c =
     let start = c .before .before .before .before .before .before .before .before .before .before in
-    ((load-fault (start .args .file .now) (start .args .limits) (c .before .before .before .before .before .before .before .enum-section .ensures) (c .before .before .before .before .before .n .given .1) (c .before .before .before .constant-section .ensures) (c .before .f .given .1)), λ f end g. not-loaded (start .args .file .now) f end ((load-fault (start .args .file .now) (start .args .limits) (c .before .before .before .before .before .before .before .enum-section .ensures) (c .before .before .before .before .before .n .given .1) (c .before .before .before .constant-section .ensures) (c .before .f .given .1))) g)
+    ((load-fault (start .args .file .now) (start .args .limits) (c .before .before .before .before .before .before .before .enum-section .ensures) (c .before .before .before .before .before .n .given .1) (c .before .before .before .constant-section .ensures) (c .before .f .given .1)), ((λ f end g. not-loaded (start .args .file .now) f end ((load-fault (start .args .file .now) (start .args .limits) (c .before .before .before .before .before .before .before .enum-section .ensures) (c .before .before .before .before .before .n .given .1) (c .before .before .before .constant-section .ensures) (c .before .f .given .1))) g), ap (sets (start .args .starts .now) 0) (fault-places (start .args .file .now) (start .args .limits) (c .before .before .before .before .before .before .before .enum-section .ensures) (c .before .before .before .before .before .n .given .1) (c .before .before .before .constant-section .ensures) (c .before .f .given .1))))
 
 returns-3 : tie.Need-returns-3
 returns-3 c =
     let start = c .before .before .before .before .before .before in
-    ((load-none (start .args .file .now) (start .args .limits) (c .before .before .before .enum-section .ensures) (c .before .f2 .given .1)), λ f end g. not-loaded (start .args .file .now) f end ((load-none (start .args .file .now) (start .args .limits) (c .before .before .before .enum-section .ensures) (c .before .f2 .given .1))) g)
+    ((load-none (start .args .file .now) (start .args .limits) (c .before .before .before .enum-section .ensures) (c .before .f2 .given .1)), ((λ f end g. not-loaded (start .args .file .now) f end ((load-none (start .args .file .now) (start .args .limits) (c .before .before .before .enum-section .ensures) (c .before .f2 .given .1))) g), ap (sets (start .args .starts .now) 0) (none-places (start .args .file .now) (start .args .limits) (c .before .before .before .enum-section .ensures) (c .before .f2 .given .1))))
 
 pub load-limited-spec : {M : Type 1} → statement M
 load-limited-spec =

@@ -1,8 +1,10 @@
 -- `ol_ir::skip::skip_equation` meets its contract.
-use mathlib.Core.Path.{_∙_}
+use mathlib.Core.Path.{refl, sym, _∙_}
 use native.Mathlib.Omega.{arith}
+use lib.ListN.{length}
 use borrow.Author.Needs.{needs}
-use Rattle.ol_ir.proofs.Skips.{equation-inside, equation-right, skip-expr}
+use borrow.Author.Tests.{lt-ltb, le-ltb}
+use Rattle.ol_ir.specs.Walks.{skipEquationAt}
 use Rattle.ol_ir.proofs.skip.skip_equation.Statement.{statement}
 use Rattle.ol_ir.proofs.skip.skip_equation.Tie as tie
 
@@ -25,14 +27,16 @@ skip-requires : tie.Need-skip-requires
 skip-requires c κs = search needs
 
 returns : tie.Need-returns
+unfolding skipEquationAt
 returns c =
     let start = c .before .before .before .before in
-    λ l enums q n h. c .skip .ensures ∙ skip-expr (start .args .file .now) l enums (l .nesting) _ (equation-right (start .args .file .now) l enums (start .args .at) q n h)
+    c .skip .ensures ∙ sym (rw (lt-ltb (start .args .at) (length (start .args .file .now)) (c .before .before .if1 .taken)) refl)
 
 returns-2 : tie.Need-returns-2
+unfolding skipEquationAt
 returns-2 c =
     let start = c .before .before in
-    λ l enums q n h. absurd (omega (arith, equation-inside (start .args .file .now) l enums (start .args .at) q n h, c .if1 .left))
+    sym (rw (le-ltb (start .args .at) (length (start .args .file .now)) (c .if1 .left)) refl)
 
 pub skip-equation-spec : {M : Type 1} → statement M
 skip-equation-spec =

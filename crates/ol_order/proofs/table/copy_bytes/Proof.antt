@@ -2,8 +2,9 @@
 use Prim.Native.Nat.{ℕ, _-_, _≤_, _<_}
 use mathlib.Core.Path.{_≡_, refl, _∙_}
 use native.Mathlib.Omega.{arith}
-use lib.ListN.{length, getD, length-set}
-use Rattle.ol_order.proofs.Rows.{copies-turn}
+use lib.ListN.{length, getD, drop, length-set}
+use lib.Seq.{sets}
+use Rattle.ol_order.proofs.Rows.{copies-turn, copies-end}
 -- </uses>
 use Rattle.ol_order.proofs.table.copy_bytes.Statement.{statement}
 use Rattle.ol_order.proofs.table.copy_bytes.Tie as tie
@@ -12,14 +13,14 @@ use Rattle.ol_order.proofs.table.copy_bytes.Lts as lts
 
 abbrev Inv-loop : tie.InvT-loop
 Inv-loop order out₀ i₀ out i =
-    (i ≤ length order) × (length out ≡ length out₀) × ((j : ℕ) → j < i → getD out j 0 ≡ getD order j 0)
+    (i ≤ length order) × (length out ≡ length out₀) × (sets out i (drop i order) ≡ sets out₀ 0 order)
 
 abbrev μ-loop : tie.MeasureT-loop
 μ-loop order out₀ i₀ out i = length order - i
 
 -- src/table.rt:41:5
 loop-holds : tie.Need-loop-holds Inv-loop μ-loop
-loop-holds c = (omega arith, refl, λ j h. absurd (omega arith))
+loop-holds c = (omega arith, refl, refl)
 
 -- src/table.rt:42:18
 mul-out : tie.Need-mul-out Inv-loop μ-loop
@@ -53,7 +54,7 @@ loop-less c = omega arith
 loop-again : tie.Need-loop-again Inv-loop μ-loop
 loop-again c =
     let start = c .before .before .before in
-    (omega arith, length-set {A = ℕ} (c .before .before .loop .out) (c .before .before .loop .i) (getD (start .args .order .now) (c .before .before .loop .i) 0) ∙ c .before .before .loop .inv .1, copies-turn (start .args .order .now) (c .before .before .loop .out) (c .before .before .loop .i) (c .before .loop-test .taken) (omega (arith, c .before .before .loop .inv .1, start .pre .0)) (c .before .before .loop .inv .2))
+    (omega arith, length-set {A = ℕ} (c .before .before .loop .out) (c .before .before .loop .i) (getD (start .args .order .now) (c .before .before .loop .i) 0) ∙ c .before .before .loop .inv .1, copies-turn (start .args .order .now) (c .before .before .loop .out) (sets (start .args .out .now) 0 (start .args .order .now)) (c .before .before .loop .i) (c .before .loop-test .taken) (c .before .before .loop .inv .2))
 
 -- src/table.rt:35:1
 same-length : tie.Need-same-length Inv-loop μ-loop
@@ -61,7 +62,9 @@ same-length c = c .before .loop .inv .1
 
 -- src/table.rt:35:1
 returns : tie.Need-returns Inv-loop μ-loop
-returns c = λ j h. c .before .loop .inv .2 j (omega (arith, c .loop-test .left))
+returns c =
+    let start = c .before .before in
+    copies-end (start .args .order .now) (c .before .loop .out) (sets (start .args .out .now) 0 (start .args .order .now)) (c .before .loop .i) (c .loop-test .left) (c .before .loop .inv .2)
 
 pub copy-bytes-spec : {M : Type 1} → statement M
 copy-bytes-spec =

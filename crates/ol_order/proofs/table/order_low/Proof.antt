@@ -30,7 +30,7 @@ same-length c = c .before .before .before .order-with .kept .1 .1 .1 .1 .1 .0
 
 -- src/table.rt:97:1
 returns : tie.Need-returns
-returns c = c .before .before .before .order-with .ensures
+returns c = c .before .before .before .order-with .ensures .0
 
 pub order-low-spec : {M : Type 1} → statement M
 order-low-spec =

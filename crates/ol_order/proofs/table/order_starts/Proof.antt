@@ -46,7 +46,7 @@ shared-slice-read-t20 c = omega (arith, c .before .before .if1 .taken)
 copy-bytes-requires : tie.Need-copy-bytes-requires
 copy-bytes-requires c κs =
     let start = c .before .before .before .before .before .before .before .before .before .before .before .before .before .before .before in
-    (omega (arith, c .before .before .before .before .before .before .before .sort .ensures .long, (as-many (start .args .file .now) (start .args .limits) (start .args .enums) (start .args .starts .now)), start .pre .0 .few, start .pre .1 .1), sorted-small (omega (arith, (as-many (start .args .file .now) (start .args .limits) (start .args .enums) (start .args .starts .now)), start .pre .0 .few)) (c .before .before .before .before .before .before .before .sort .ensures) (omega (arith, (as-many (start .args .file .now) (start .args .limits) (start .args .enums) (start .args .starts .now)), c .before .before .if1 .left)))
+    (omega (arith, c .before .before .before .before .before .before .before .sort .ensures .0 .long, (as-many (start .args .file .now) (start .args .limits) (start .args .enums) (start .args .starts .now)), start .pre .0 .few, start .pre .1 .1), sorted-small (omega (arith, (as-many (start .args .file .now) (start .args .limits) (start .args .enums) (start .args .starts .now)), start .pre .0 .few)) (c .before .before .before .before .before .before .before .sort .ensures .0) (omega (arith, (as-many (start .args .file .now) (start .args .limits) (start .args .enums) (start .args .starts .now)), c .before .before .if1 .left)))
 
 -- src/table.rt:49:1
 same-length : tie.Need-same-length
@@ -56,7 +56,7 @@ same-length c = c .before .before .before .before .before .before .before .sort 
 returns : tie.Need-returns
 returns c =
     let start = c .before .before .before .before .before .before .before .before .before .before .before .before .before .before .before in
-    equations-ring (start .args .starts .now) (start .args .out .now) (c .before .before .before .before .before .before .before .sort .ensures) (omega (arith, (as-many (start .args .file .now) (start .args .limits) (start .args .enums) (start .args .starts .now)), c .before .before .if1 .taken))
+    (equations-ring (start .args .starts .now) (start .args .out .now) (c .before .before .before .before .before .before .before .sort .ensures .0) (omega (arith, (as-many (start .args .file .now) (start .args .limits) (start .args .enums) (start .args .starts .now)), c .before .before .if1 .taken)), c .before .before .before .before .before .before .before .sort .ensures .1)
 
 -- src/table.rt:49:1
 same-length-2 : tie.Need-same-length-2
@@ -70,7 +70,7 @@ same-length-3 c = c .before .before .before .copy-bytes .kept .1 .0
 returns-2 : tie.Need-returns-2
 returns-2 c =
     let start = c .before .before .before .before .before .before .before .before .before .before .before .before .before .before .before .before .before .before .before in
-    equations-done (start .args .starts .now) _ (c .before .before .before .before .before .before .before .before .before .before .before .sort .ensures) (omega (arith, (as-many (start .args .file .now) (start .args .limits) (start .args .enums) (start .args .starts .now)), c .before .before .before .before .before .before .if1 .left)) (c .before .before .before .copy-bytes .ensures)
+    (equations-done (start .args .starts .now) (start .args .out .now) (c .before .before .before .before .before .before .before .before .before .before .before .sort .ensures .0) (omega (arith, (as-many (start .args .file .now) (start .args .limits) (start .args .enums) (start .args .starts .now)), c .before .before .before .before .before .before .if1 .left)) (omega (arith, c .before .before .before .before .before .before .before .before .before .before .before .sort .ensures .0 .long, (as-many (start .args .file .now) (start .args .limits) (start .args .enums) (start .args .starts .now)), start .pre .0 .few, start .pre .1 .1)) (c .before .before .before .copy-bytes .ensures), c .before .before .before .before .before .before .before .before .before .before .before .sort .ensures .1)
 
 pub order-starts-spec : {M : Type 1} → statement M
 order-starts-spec =

@@ -1,10 +1,13 @@
 -- <uses>
-use mathlib.Core.Path.{sym, _∙_}
+use mathlib.Core.Path.{sym, ap, _∙_}
 use native.Mathlib.Omega.{arith}
-use lib.Seq.{length-take-le}
+use lib.ListN.{replicate}
+use lib.Seq.{length-take-le, sets}
 use borrow.Author.Needs.{needs}
+use Rattle.ol_ir.proofs.Skips.{starts-told, starts-are}
+use Rattle.ol_order.specs.Tables.{putAll}
 use Rattle.ol_order.proofs.Nodes.{counted-few, front-readable, not-counted}
-use Rattle.ol_order.proofs.Rows.{front-blank, node-done}
+use Rattle.ol_order.proofs.Rows.{front-blank, front-equations, node-done}
 -- </uses>
 use Rattle.ol_order.proofs.table.order_with.Statement.{statement}
 use Rattle.ol_order.proofs.table.order_with.Tie as tie
@@ -29,19 +32,19 @@ enum-known-n c = search needs
 array-share-prefix-space : tie.Need-array-share-prefix-space
 array-share-prefix-space c =
     let start = c .before .before .before .before .before .before .before .before .before in
-    omega (arith, (counted-few (start .args .file .now) (start .args .limits) (start .args .enums) (start .args .at) (start .pre .0) (c .before .before .before .before .equation-starts .ensures .0 _ _ (start .pre .0 .is)) (c .before .n .given .1) (c .before .before .before .before .equation-starts .ensures .1 _ _ (start .pre .0 .is))), c .before .before .before .before .equation-starts .kept .1 .1 .1 .1 .0)
+    omega (arith, (counted-few (start .args .file .now) (start .args .limits) (start .args .enums) (start .args .at) (start .pre .0) (starts-told (start .args .file .now) (start .args .limits) (start .args .enums) (start .args .at) _ _ (start .pre .0 .is) (c .before .before .before .before .equation-starts .ensures .0)) (c .before .n .given .1) (c .before .before .before .before .equation-starts .ensures .1 ∙ ap (sets (replicate 80 0) 0) (starts-are (start .args .file .now) (start .args .limits) (start .args .enums) (start .args .at) _ _ (start .pre .0 .is)))), c .before .before .before .before .equation-starts .kept .1 .1 .1 .1 .0)
 
 -- src/table.rt:91:67
 slice-aggregate-order-starts : tie.Need-slice-aggregate-order-starts
 slice-aggregate-order-starts c =
     let start = c .before .before .before .before .before .before .before .before .before .before in
-    sym (length-take-le _ _ (omega (arith, (counted-few (start .args .file .now) (start .args .limits) (start .args .enums) (start .args .at) (start .pre .0) (c .before .before .before .before .before .equation-starts .ensures .0 _ _ (start .pre .0 .is)) (c .before .before .n .given .1) (c .before .before .before .before .before .equation-starts .ensures .1 _ _ (start .pre .0 .is))), c .before .before .before .before .before .equation-starts .kept .1 .1 .1 .1 .0)))
+    sym (length-take-le _ _ (omega (arith, (counted-few (start .args .file .now) (start .args .limits) (start .args .enums) (start .args .at) (start .pre .0) (starts-told (start .args .file .now) (start .args .limits) (start .args .enums) (start .args .at) _ _ (start .pre .0 .is) (c .before .before .before .before .before .equation-starts .ensures .0)) (c .before .before .n .given .1) (c .before .before .before .before .before .equation-starts .ensures .1 ∙ ap (sets (replicate 80 0) 0) (starts-are (start .args .file .now) (start .args .limits) (start .args .enums) (start .args .at) _ _ (start .pre .0 .is)))), c .before .before .before .before .before .equation-starts .kept .1 .1 .1 .1 .0)))
 
 -- src/table.rt:91:33
 order-starts-requires : tie.Need-order-starts-requires
 order-starts-requires c κs =
     let start = c .before .before .before .before .before .before .before .before .before .before .before .before in
-    (front-readable (start .args .file .now) (start .args .limits) (start .args .enums) (start .args .at) (start .pre .0) (c .before .before .before .before .before .before .before .equation-starts .ensures .0 _ _ (start .pre .0 .is)) (c .before .before .before .before .n .given .1) (c .before .before .before .before .before .before .before .equation-starts .ensures .1 _ _ (start .pre .0 .is)), (front-blank (start .args .file .now) (start .args .limits) (start .args .enums) (start .args .at) (start .pre .0) (c .before .before .before .before .before .before .before .equation-starts .ensures .0 _ _ (start .pre .0 .is)) (c .before .before .before .before .n .given .1) (c .before .before .before .before .before .before .before .equation-starts .ensures .1 _ _ (start .pre .0 .is)) (start .pre .1 .0), start .pre .1 .1))
+    (front-readable (start .args .file .now) (start .args .limits) (start .args .enums) (start .args .at) (start .pre .0) (starts-told (start .args .file .now) (start .args .limits) (start .args .enums) (start .args .at) _ _ (start .pre .0 .is) (c .before .before .before .before .before .before .before .equation-starts .ensures .0)) (c .before .before .before .before .n .given .1) (c .before .before .before .before .before .before .before .equation-starts .ensures .1 ∙ ap (sets (replicate 80 0) 0) (starts-are (start .args .file .now) (start .args .limits) (start .args .enums) (start .args .at) _ _ (start .pre .0 .is))), (front-blank (start .args .file .now) (start .args .limits) (start .args .enums) (start .args .at) (start .pre .0) (starts-told (start .args .file .now) (start .args .limits) (start .args .enums) (start .args .at) _ _ (start .pre .0 .is) (c .before .before .before .before .before .before .before .equation-starts .ensures .0)) (c .before .before .before .before .n .given .1) (c .before .before .before .before .before .before .before .equation-starts .ensures .1 ∙ ap (sets (replicate 80 0) 0) (starts-are (start .args .file .now) (start .args .limits) (start .args .enums) (start .args .at) _ _ (start .pre .0 .is))) (start .pre .1 .0), start .pre .1 .1))
 
 -- src/table.rt:92:32
 enum-told : tie.Need-enum-told
@@ -59,13 +62,13 @@ same-length-2 c = c .before .before .before .before .order-starts .kept .1 .1 .1
 returns : tie.Need-returns
 returns c =
     let start = c .before .before .before .before .before .before .before .before .before .before .before .before .before .before .before .before .before in
-    node-done (start .args .file .now) (start .args .limits) (start .args .enums) (start .args .at) (start .pre .0) (c .before .before .before .before .before .before .before .before .before .before .before .before .equation-starts .ensures .0 _ _ (start .pre .0 .is)) (c .before .before .before .before .before .before .before .before .before .n .given .1) (c .before .before .before .before .before .before .before .before .before .before .before .before .equation-starts .ensures .1 _ _ (start .pre .0 .is)) (c .before .before .before .before .order-starts .ensures)
+    (node-done (start .args .file .now) (start .args .limits) (start .args .enums) (start .args .at) (start .pre .0) (starts-told (start .args .file .now) (start .args .limits) (start .args .enums) (start .args .at) _ _ (start .pre .0 .is) (c .before .before .before .before .before .before .before .before .before .before .before .before .equation-starts .ensures .0)) (c .before .before .before .before .before .before .before .before .before .n .given .1) (c .before .before .before .before .before .before .before .before .before .before .before .before .equation-starts .ensures .1 ∙ ap (sets (replicate 80 0) 0) (starts-are (start .args .file .now) (start .args .limits) (start .args .enums) (start .args .at) _ _ (start .pre .0 .is))) (c .before .before .before .before .order-starts .ensures .0), c .before .before .before .before .order-starts .ensures .1 ∙ ap (λ qs. putAll 0 qs (start .args .definers .now)) (front-equations (start .args .file .now) (start .args .limits) (start .args .enums) (start .args .at) (start .pre .0) (starts-told (start .args .file .now) (start .args .limits) (start .args .enums) (start .args .at) _ _ (start .pre .0 .is) (c .before .before .before .before .before .before .before .before .before .before .before .before .equation-starts .ensures .0)) (c .before .before .before .before .before .before .before .before .before .n .given .1) (c .before .before .before .before .before .before .before .before .before .before .before .before .equation-starts .ensures .1 ∙ ap (sets (replicate 80 0) 0) (starts-are (start .args .file .now) (start .args .limits) (start .args .enums) (start .args .at) _ _ (start .pre .0 .is)))))
 
 -- src/table.rt:76:1
 returns-2 : tie.Need-returns-2
 returns-2 c =
     let start = c .before .before .before .before .before .before .before .before in
-    not-counted (start .args .file .now) (start .args .limits) (start .args .enums) (start .args .at) (start .pre .0) (c .before .before .before .equation-starts .ensures .0 _ _ (start .pre .0 .is)) (c .enum-told .given .1)
+    (not-counted (start .args .file .now) (start .args .limits) (start .args .enums) (start .args .at) (start .pre .0) (starts-told (start .args .file .now) (start .args .limits) (start .args .enums) (start .args .at) _ _ (start .pre .0 .is) (c .before .before .before .equation-starts .ensures .0)) (c .enum-told .given .1), not-counted (start .args .file .now) (start .args .limits) (start .args .enums) (start .args .at) (start .pre .0) (starts-told (start .args .file .now) (start .args .limits) (start .args .enums) (start .args .at) _ _ (start .pre .0 .is) (c .before .before .before .equation-starts .ensures .0)) (c .enum-told .given .1))
 
 pub order-with-spec : {M : Type 1} → statement M
 order-with-spec =

@@ -15,7 +15,7 @@ use Rattle.ol_ir.proofs.project.base.Reads as base-reads
 use Rattle.ol_order.proofs.table.order_row.Reads as order-row-reads
 
 abbrev Inv-loop : tie.InvT-loop
-Inv-loop file enums places low orders₀ limits k₀ orders k = (length orders ≡ length orders₀) × ((ns : NodesStand file enums places low) → Going ns k orders)
+Inv-loop file enums places low orders₀ limits k₀ orders k = (length orders ≡ length orders₀) × ((ns : NodesStand file enums places low) → Going ns orders₀ k orders)
 
 abbrev μ-loop : tie.MeasureT-loop
 μ-loop file enums places low orders₀ limits k₀ orders k = length places - k
@@ -101,7 +101,7 @@ same-length c =
 returns : tie.Need-returns Inv-loop μ-loop
 returns c =
     let start = c .before .before .before .before .before .before .before .before .before .before .before .before .before .before in
-    λ f end rd. going-ring (start .pre .0) (c .before .before .before .before .before .before .before .before .before .loop .inv .1 (start .pre .0)) (c .before .before .before .before .before .before .before .before .loop-test .taken) (c .before .before .before .before .before .before .before .before .before .before .base .ensures) (c .before .before .before .before .before .order-row .ensures) f end _ rd (c .before .p .given .1)
+    λ f end rd. going-ring (start .pre .0) (c .before .before .before .before .before .before .before .before .before .loop .inv .1 (start .pre .0)) (c .before .before .before .before .before .before .before .before .loop-test .taken) (c .before .before .before .before .before .before .before .before .before .before .base .ensures) (c .before .before .before .before .before .order-row .ensures) f end ((c .before .before .before .before .before .before .before .before .before .loop .k * 80) + 80 - (c .before .before .before .before .before .before .before .before .before .loop .k * 80)) refl rd (c .before .p .given .1)
 
 -- src/table.rt:162:17
 enum-told : tie.Need-enum-told Inv-loop μ-loop
@@ -126,7 +126,7 @@ loop-again : tie.Need-loop-again Inv-loop μ-loop
 loop-again c =
     let start = c .before .before .before .before .before .before .before .before .before .before .before .before .before in
     let few = few-places (start .pre .0) in
-    ((part-long (c .before .before .before .before .before .before .before .before .loop .orders) (c .before .before .before .before .order-row .last .1 .1 .1 .1 .1 .0) (c .before .before .before .before .before .before .before .before .loop .k * 80) (c .before .before .before .before .before .before .before .before .loop .inv .0 ∙ start .pre .1) (omega (arith, few)) (c .before .before .before .before .order-row .kept .1 .1 .1 .1 .1 .0)) ∙ sym (start .pre .1), λ ns. going-on ns (c .before .before .before .before .before .before .before .before .loop .inv .1 ns) (c .before .before .before .before .before .before .before .loop-test .taken) (c .before .before .before .before .before .before .before .before .before .base .ensures) (c .before .before .before .before .order-row .ensures) ((c .before .before .before .before .before .before .before .before .loop .k * 80) + 80 - (c .before .before .before .before .before .before .before .before .loop .k * 80)) ((c .before .before .before .before .order-row .kept .1 .1 .1 .1 .1 .0) ∙ part-80 (c .before .before .before .before .before .before .before .before .loop .orders) (c .before .before .before .before .before .before .before .before .loop .k * 80) (c .before .before .before .before .before .before .before .before .loop .inv .0 ∙ start .pre .1) (omega (arith, few))) (part-long (c .before .before .before .before .before .before .before .before .loop .orders) (c .before .before .before .before .order-row .last .1 .1 .1 .1 .1 .0) (c .before .before .before .before .before .before .before .before .loop .k * 80) (c .before .before .before .before .before .before .before .before .loop .inv .0 ∙ start .pre .1) (omega (arith, few)) (c .before .before .before .before .order-row .kept .1 .1 .1 .1 .1 .0)) (c .enum-told .given .1))
+    ((part-long (c .before .before .before .before .before .before .before .before .loop .orders) (c .before .before .before .before .order-row .last .1 .1 .1 .1 .1 .0) (c .before .before .before .before .before .before .before .before .loop .k * 80) (c .before .before .before .before .before .before .before .before .loop .inv .0 ∙ start .pre .1) (omega (arith, few)) (c .before .before .before .before .order-row .kept .1 .1 .1 .1 .1 .0)) ∙ sym (start .pre .1), λ ns. going-on ns (c .before .before .before .before .before .before .before .before .loop .inv .1 ns) (c .before .before .before .before .before .before .before .loop-test .taken) (c .before .before .before .before .before .before .before .before .before .base .ensures) (c .before .before .before .before .order-row .ensures) ((c .before .before .before .before .before .before .before .before .loop .k * 80) + 80 - (c .before .before .before .before .before .before .before .before .loop .k * 80)) (omega arith) refl ((c .before .before .before .before .order-row .kept .1 .1 .1 .1 .1 .0) ∙ part-80 (c .before .before .before .before .before .before .before .before .loop .orders) (c .before .before .before .before .before .before .before .before .loop .k * 80) (c .before .before .before .before .before .before .before .before .loop .inv .0 ∙ start .pre .1) (omega (arith, few))) (part-long (c .before .before .before .before .before .before .before .before .loop .orders) (c .before .before .before .before .order-row .last .1 .1 .1 .1 .1 .0) (c .before .before .before .before .before .before .before .before .loop .k * 80) (c .before .before .before .before .before .before .before .before .loop .inv .0 ∙ start .pre .1) (omega (arith, few)) (c .before .before .before .before .order-row .kept .1 .1 .1 .1 .1 .0)) (c .enum-told .given .1))
 
 -- src/table.rt:141:1
 same-length-2 : tie.Need-same-length-2 Inv-loop μ-loop
