@@ -3,15 +3,15 @@ use Prim.Native.Nat.{ℕ, suc, _+_, _≤_, _<_}
 use native.Mathlib.Numerals.{add-one}
 use native.Mathlib.Decide.{decLt}
 use native.Mathlib.Omega.{arith}
-use mathlib.Core.Bool.{Bool, true, false, cond}
+use mathlib.Core.Bool.{Bool, true, false, cond, _&&_}
 use mathlib.Core.List.{List, [], _∷_}
 use mathlib.Core.Logic.{by-cases}
-use mathlib.Core.Path.{_≡_, refl, ap, _∙_}
+use mathlib.Core.Path.{_≡_, refl, sym, ap, _∙_}
 use lib.Dec.{eqb}
 use lib.ListN.{length, getD, drop, drop-of-length-le}
 use lib.Seq.{drop-cons}
 use borrow.Author.Tests.{eqb-true, eq-eqb, ne-eqb}
-use Rattle.rows.specs.Rows.{one, agreeing, firstOther}
+use Rattle.rows.specs.Rows.{one, agreeing, firstOther, allAgree}
 
 -- nothing agrees with nothing
 agreeing-nil : (xs : List ℕ) → agreeing xs [] ≡ 0
@@ -84,3 +84,28 @@ pub same-agrees : (xs : List ℕ) → agreeing xs xs ≡ length xs
 unfolding agreeing
 same-agrees [] = refl
 same-agrees (x ∷ xs) = rw (eq-eqb x x refl) (omega (arith, same-agrees xs))
+
+-- all rows agree: the lists are as long as each other, and as many rows agree
+pub agree-length : (xs ws : List ℕ) → (length xs ≡ length ws → ⊥) → allAgree xs ws ≡ false
+unfolding allAgree
+agree-length [] [] h = absurd (h refl)
+agree-length [] (w ∷ ws) h = refl
+agree-length (x ∷ xs) [] h = refl
+agree-length (x ∷ xs) (w ∷ ws) h = rw (agree-length xs ws (λ e. h (ap suc e))) (and-false (eqb x w))
+  where
+    and-false : (b : Bool) → b && false ≡ false
+    and-false true = refl
+    and-false false = refl
+
+count-agrees : (b : Bool) (n m : ℕ) → n ≤ m → b && eqb n m ≡ eqb (one b + n) (suc m)
+count-agrees true n m h =
+    by-cases (decLt n m) (λ e. ne-eqb n m (λ q. omega arith) ∙ sym (ne-eqb (1 + n) (suc m) (λ q. omega arith)))
+    (λ e. eq-eqb n m (omega arith) ∙ sym (eq-eqb (1 + n) (suc m) (omega arith)))
+count-agrees false n m h = sym (ne-eqb (0 + n) (suc m) (λ q. omega arith))
+
+pub agree-count : (xs ws : List ℕ) → length xs ≡ length ws → allAgree xs ws ≡ eqb (agreeing xs ws) (length ws)
+unfolding agreeing allAgree
+agree-count [] [] h = refl
+agree-count [] (w ∷ ws) h = absurd (omega arith)
+agree-count (x ∷ xs) [] h = absurd (omega arith)
+agree-count (x ∷ xs) (w ∷ ws) h = rw (agree-count xs ws (omega arith)) (count-agrees (eqb x w) (agreeing xs ws) (length ws) (agreeing-most xs ws))

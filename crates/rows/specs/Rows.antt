@@ -1,6 +1,6 @@
 -- Rows that agree: a list of what was found beside a list of what was wanted. A row that only one of the two lists has does not agree.
 use Prim.Native.Nat.{ℕ, suc, _+_, _≤_, _<_}
-use mathlib.Core.Bool.{Bool, true, false, cond}
+use mathlib.Core.Bool.{Bool, true, false, cond, _&&_}
 use mathlib.Core.List.{List, [], _∷_}
 use mathlib.Core.Path.{_≡_}
 use lib.Dec.{eqb}
@@ -28,6 +28,13 @@ unfoldable pub firstOther : List ℕ → List ℕ → ℕ
 firstOther [] ws = 0
 firstOther (x ∷ xs) [] = 0
 firstOther (x ∷ xs) (w ∷ ws) = cond (eqb x w) (suc (firstOther xs ws)) 0
+
+-- whether all rows agree
+unfoldable pub allAgree : List ℕ → List ℕ → Bool
+allAgree [] [] = true
+allAgree [] (w ∷ ws) = false
+allAgree (x ∷ xs) [] = false
+allAgree (x ∷ xs) (w ∷ ws) = eqb x w && allAgree xs ws
 
 -- what a comparison answers
 pub record Compares (found wanted : List ℕ) (r : Compared) : Type 0 where

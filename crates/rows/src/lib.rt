@@ -1,6 +1,6 @@
 // The comparison that the programs of the gate make: a list of what was found with a list of what was wanted.
 ghost use mathlib.Core.Path.{_≡_};
-ghost use Rattle.rows.specs.Rows.{Lesser, agreeing, firstOther, Compares};
+ghost use Rattle.rows.specs.Rows.{Lesser, agreeing, firstOther, Compares, allAgree};
 
 // How many rows agree, and the index of the first that does not; where all do, how many there are.
 pub struct Compared {
@@ -53,5 +53,17 @@ pub fn compare(found: &[u64], wanted: &[u64]) -> Compared
     Compared {
         agreeing: agreeing(found, wanted),
         first: first_other(found, wanted),
+    }
+}
+
+// Whether all rows agree.
+pub fn agrees(found: &[u64], wanted: &[u64]) -> bool
+    ensures { λ r. ⌜ r ≡ allAgree (now (found .entry)) (now (wanted .entry)) ⌝ }
+{
+    if found.len() == wanted.len() {
+        let c = compare(found, wanted);
+        c.agreeing == wanted.len()
+    } else {
+        false
     }
 }
