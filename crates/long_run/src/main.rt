@@ -1,12 +1,15 @@
 // A million cycles of the counter and of the feeder file, each on the state that the one before it left. make.py says what the standard input holds.
+// Free are which bytes a read gives and whether a write takes them: `tell`, `tell_cut`, `tell_left` and `main` promise nothing of it.
 use libc::STDIN_FILENO;
 use libc::STDOUT_FILENO;
 use ol_spec::Cycled;
 use ol_spec::Started;
 use relay_text::answers::say_answered;
 use std::num::wrapping_add_u64;
+ghost use mathlib.Core.Path.{_≡_};
 ghost use Prim.Native.Nat.{_≤_};
 ghost use lib.ListN.{length};
+ghost use Rattle.long_run.specs.Runs.{isAnswered, isDone, more, none, Stepped, Stands, stand, both, inputsAt, after, runOf, Ran};
 
 // So many cycles are made in pairs, with the other inputs after each thousand.
 const PAIRS: usize = 500_000;
@@ -19,7 +22,10 @@ struct Tally {
     fresh: u64,
 }
 
-fn is_answered(c: Cycled) -> bool {
+// Whether a cycle was answered.
+fn is_answered(c: Cycled) -> bool
+    ensures { λ r. ⌜ r ≡ isAnswered c ⌝ }
+{
     match c {
         Cycled::Answered => true,
         Cycled::Stopped(_) => false,
@@ -27,7 +33,10 @@ fn is_answered(c: Cycled) -> bool {
     }
 }
 
-fn is_done(s: Started) -> bool {
+// Whether a start was made.
+fn is_done(s: Started) -> bool
+    ensures { λ r. ⌜ r ≡ isDone s ⌝ }
+{
     match s {
         Started::Done => true,
         Started::Refused(_) => false,
@@ -35,8 +44,10 @@ fn is_done(s: Started) -> bool {
 }
 
 // One more, where it is so.
-fn more(n: u64, is_so: bool) -> u64 {
-    if is_so { wrapping_add_u64(n, 1) } else { n }
+fn more(n: u64, so: bool) -> u64
+    ensures { λ r. ⌜ r ≡ more n so ⌝ }
+{
+    if so { wrapping_add_u64(n, 1) } else { n }
 }
 
 // A cycle, counted.
@@ -48,7 +59,9 @@ fn step(
     inputs: &[u8],
     new: &mut [u8],
     values: &mut [u8],
-) -> Tally {
+) -> Tally
+    ensures { λ r. ⌜ Stepped (now (file .entry)) (now (fresh .entry)) (now (old .entry)) (now (inputs .entry)) (now (new .entry)) (now (values .entry)) t r (now (new .exit)) (now (values .exit)) ⌝ }
+{
     let c = ol_sim::cycle(file, old, inputs, new, values);
     Tally {
         answered: more(t.answered, is_answered(c)),
@@ -65,7 +78,9 @@ fn pair(
     inputs: &[u8],
     b: &mut [u8],
     values: &mut [u8],
-) -> Tally {
+) -> Tally
+    ensures { λ r. ⌜ Stands (both (now (file .entry)) (now (fresh .entry)) (now (inputs .entry)) (stand t (now (a .entry)) (now (b .entry)) (now (values .entry)))) r (now (a .exit)) (now (b .exit)) (now (values .exit)) ⌝ }
+{
     let u = step(t, file, fresh, a, inputs, b, values);
     step(u, file, fresh, b, inputs, a, values)
 }
@@ -81,11 +96,23 @@ fn turn(
     a: &mut [u8],
     b: &mut [u8],
     values: &mut [u8],
-) -> Tally {
+) -> Tally
+    ensures { λ r. ⌜ Stands (both (now (file .entry)) (now (fresh .entry)) (inputsAt i (now (first .entry)) (now (second .entry))) (stand t (now (a .entry)) (now (b .entry)) (now (values .entry)))) r (now (a .exit)) (now (b .exit)) (now (values .exit)) ⌝ }
+{
     if i / PHASE % 2 == 0 {
         pair(t, file, fresh, a, first, b, values)
     } else {
         pair(t, file, fresh, a, second, b, values)
+    }
+}
+
+// Nothing counted.
+fn nothing() -> Tally
+    ensures { λ r. ⌜ r ≡ none ⌝ }
+{
+    Tally {
+        answered: 0,
+        fresh: 0,
     }
 }
 
@@ -98,11 +125,10 @@ fn run(
     a: &mut [u8],
     b: &mut [u8],
     values: &mut [u8],
-) -> Tally {
-    let mut t = Tally {
-        answered: 0,
-        fresh: 0,
-    };
+) -> Tally
+    ensures { λ r. ⌜ Stands (after (now (file .entry)) (now (fresh .entry)) (now (first .entry)) (now (second .entry)) 500000 (stand none (now (a .entry)) (now (b .entry)) (now (values .entry)))) r (now (a .exit)) (now (b .exit)) (now (values .exit)) ⌝ }
+{
+    let mut t = nothing();
     let mut i = 0;
     while i < PAIRS {
         t = turn(t, i, file, fresh, first, second, a, b, values);
@@ -138,8 +164,38 @@ fn tell_left() {
     }
 }
 
+// Starts a file twice, once for the state to compare with, makes all cycles and tells what was counted.
+fn run_file(
+    file: &[u8],
+    first: &[u8],
+    second: &[u8],
+    fresh: &mut [u8],
+    a: &mut [u8],
+    b: &mut [u8],
+    values: &mut [u8],
+) -> Tally
+    requires { ⌜ (length (now values) ≤ 1008) × (length (now a) ≤ 1008) ⌝ }
+    ensures { λ r. ⌜ r ≡ runOf (now (file .entry)) (now (first .entry)) (now (second .entry)) (now (fresh .entry)) (now (a .entry)) (now (b .entry)) (now (values .entry)) ⌝ }
+{
+    let is_fresh = is_done(ol_sim::start(file, fresh));
+    let is_started = is_done(ol_sim::start(file, a));
+    if is_fresh {
+        if is_started {
+            let t = run(file, fresh, first, second, a, b, values);
+            tell(t, values, a);
+            t
+        } else {
+            nothing()
+        }
+    } else {
+        nothing()
+    }
+}
+
 // The counter, which has no inputs.
-fn count() {
+fn count() -> Tally
+    ensures { λ r. ⌜ Ran r ⌝ }
+{
     let mut file = [0u8; 40];
     if io::read_full(STDIN_FILENO, &mut file) < 40 {
         tell_cut();
@@ -148,16 +204,13 @@ fn count() {
     let mut a = [0u8; 10];
     let mut b = [0u8; 10];
     let mut values = [0u8; 9];
-    let is_fresh = is_done(ol_sim::start(&file, &mut fresh));
-    let is_started = is_done(ol_sim::start(&file, &mut a));
-    if is_fresh & is_started {
-        let t = run(&file, &fresh, b"", b"", &mut a, &mut b, &mut values);
-        tell(t, &values, &a);
-    }
+    run_file(&file, b"", b"", &mut fresh, &mut a, &mut b, &mut values)
 }
 
 // The feeder file, with two lists of inputs.
-fn feed() {
+fn feed() -> Tally
+    ensures { λ r. ⌜ Ran r ⌝ }
+{
     let mut file = [0u8; 795];
     if io::read_full(STDIN_FILENO, &mut file) < 795 {
         tell_cut();
@@ -174,12 +227,15 @@ fn feed() {
     let mut a = [0u8; 711];
     let mut b = [0u8; 711];
     let mut values = [0u8; 414];
-    let is_fresh = is_done(ol_sim::start(&file, &mut fresh));
-    let is_started = is_done(ol_sim::start(&file, &mut a));
-    if is_fresh & is_started {
-        let t = run(&file, &fresh, &first, &second, &mut a, &mut b, &mut values);
-        tell(t, &values, &a);
-    }
+    run_file(
+        &file,
+        &first,
+        &second,
+        &mut fresh,
+        &mut a,
+        &mut b,
+        &mut values,
+    )
 }
 
 fn main() {

@@ -1,0 +1,4 @@
+pub mod Operations
+pub mod Sweeps
+pub mod Lines
+pub mod Examples
