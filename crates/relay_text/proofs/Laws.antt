@@ -3,12 +3,12 @@ use Prim.Native.Nat.{ℕ, zero, suc, _+_, _*_, _-_, _/_, _%_, _^_, _<_, _≤_}
 use native.Mathlib.Omega.{arith}
 use native.Mathlib.Nat.{pow-suc, pow-zero, one-le-pow}
 use native.Mathlib.Numerals.{add-one}
-use mathlib.Core.Path.{_≡_, refl, sym, ap, _∙_}
+use mathlib.Core.Path.{_≡_, refl, sym, ap, subst, _∙_}
 use mathlib.Core.Bool.{Bool, true, false, cond}
 use mathlib.Core.List.{List, [], _∷_, _++_, append-assoc, append-nil}
 use mathlib.Core.Option.{Option, none, some}
 use lib.ListN.{length, take, drop, getD, set, length-append, drop-of-length-le}
-use lib.Seq.{drop-cons, take-suc, take-suc-set}
+use lib.Seq.{drop-cons, drop-drop, take-suc, take-suc-set}
 use lib.Dec.{eqb, ltb, leb}
 use borrow.Author.Tests.{ltb-true, ltb-false, lt-ltb, le-ltb, eq-eqb, ne-eqb}
 use Rattle.relay_text.specs.Text.{sort, run, wordFrom, wordTo, wordAt, behind, wordsUpTo, hexValue, before, withByte, unhexed, glyphOf, hexed, withDigit, numberFrom, places}
@@ -144,6 +144,13 @@ hexed-more l i h = rw (add-one, take-suc l i 0 h) (hexed-append (take i l) (getD
 pub hexed-start : (at : ℕ) (out : List ℕ) → take (at + 0 + 0) out ≡ take at out ++ hexed []
 unfolding hexed
 hexed-start at out = let e : at + 0 + 0 ≡ at = omega arith in rw e (sym (append-nil (take at out)))
+
+-- behind what is put, and behind what was put before, every byte stays
+pub behind-on : (last out out₀ : List ℕ) (n r m : ℕ) → r ≡ m → n ≤ r → drop r last ≡ drop r out → drop n out ≡ drop n out₀ → drop m last ≡ drop m out₀
+behind-on last out out₀ n r m e h f g =
+    let z : n + (r - n) ≡ r = omega arith in
+    let further : drop r out ≡ drop r out₀ = subst (λ (k : ℕ). drop k out ≡ drop k out₀) z (sym (drop-drop (r - n) n out) ∙ ap (drop (r - n)) g ∙ drop-drop (r - n) n out₀) in
+    subst (λ (k : ℕ). drop k last ≡ drop k out₀) e (f ∙ further)
 
 -- one byte's digits are put behind those that stand there
 pub digits-more : (out₀ out last bytes : List ℕ) (at i r a b : ℕ) → i < length bytes → r ≡ at + i + i + 2

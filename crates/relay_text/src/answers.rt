@@ -10,7 +10,7 @@ use crate::unhex;
 ghost use mathlib.Core.Path.{_≡_};
 ghost use mathlib.Core.List.{_++_};
 ghost use Prim.Native.Nat.{_+_, _*_, _≤_};
-ghost use lib.ListN.{length, take};
+ghost use lib.ListN.{length, take, drop};
 ghost use Rattle.relay_text.specs.Text.{decimalWord, bytesOf, numberOf, Decoded};
 ghost use Rattle.relay_text.specs.Lines.{blank, lineEnd, withFault, errorLine, refusedLine, admitLine, stateLine, answeredLine, stoppedLine, orderLine, noOrderLine, Said, wordText};
 
@@ -25,7 +25,7 @@ fn end_line(out: &mut [u8], at: usize) -> usize
 // A number and a place behind what stands before `at`.
 fn put_fault(out: &mut [u8], at: usize, number: u8, place: usize) -> usize
     requires { ⌜ at + 41 ≤ length (now out) ⌝ }
-    ensures { λ r. ⌜ (r ≤ at + 41) × (take r (now (out .exit)) ≡ withFault (take at (now (out .entry))) number place) ⌝ }
+    ensures { λ r. ⌜ (r ≤ at + 41) × (take r (now (out .exit)) ≡ withFault (take at (now (out .entry))) number place) × (drop r (now (out .exit)) ≡ drop r (now (out .entry))) ⌝ }
 {
     let a = put_number(out, at, number as usize);
     let b = put(out, a, b" ");
@@ -127,7 +127,7 @@ pub fn say_order(out: &mut [u8], entries: &[usize]) -> usize
 // A blank and an index behind what stands before `at`.
 fn put_index(out: &mut [u8], at: usize, index: usize) -> usize
     requires { ⌜ at + 21 ≤ length (now out) ⌝ }
-    ensures { λ r. ⌜ (r ≤ at + 21) × (take r (now (out .exit)) ≡ take at (now (out .entry)) ++ blank ++ decimalWord index) ⌝ }
+    ensures { λ r. ⌜ (r ≤ at + 21) × (take r (now (out .exit)) ≡ take at (now (out .entry)) ++ blank ++ decimalWord index) × (drop r (now (out .exit)) ≡ drop r (now (out .entry))) ⌝ }
 {
     let a = put(out, at, b" ");
     put_number(out, a, index)

@@ -202,10 +202,10 @@ fn with_digit(v: usize, c: u8) -> usize
     }
 }
 
-// Puts a piece into `out` from `at` on; the place behind it.
+// Puts a piece into `out` from `at` on; the place behind it. Every byte from there on stays.
 pub fn put(out: &mut [u8], at: usize, piece: &[u8]) -> usize
     requires { ⌜ at + length (now piece) ≤ length (now out) ⌝ }
-    ensures { λ r. ⌜ (r ≡ at + length (now (piece .entry))) × (take r (now (out .exit)) ≡ take at (now (out .entry)) ++ now (piece .entry)) ⌝ }
+    ensures { λ r. ⌜ (r ≡ at + length (now (piece .entry))) × (take r (now (out .exit)) ≡ take at (now (out .entry)) ++ now (piece .entry)) × (drop r (now (out .exit)) ≡ drop r (now (out .entry))) ⌝ }
 {
     let mut i = 0;
     while i < piece.len() {
@@ -225,7 +225,7 @@ fn glyph(d: u8) -> u8
 // Puts bytes into `out` from `at` on, in hexadecimal; the place behind them.
 pub(crate) fn put_hex(out: &mut [u8], at: usize, bytes: &[u8]) -> usize
     requires { ⌜ at + (1 + (length (now bytes) + length (now bytes))) ≤ length (now out) ⌝ }
-    ensures { λ r. ⌜ (r ≤ at + (1 + (length (now (bytes .entry)) + length (now (bytes .entry))))) × (take r (now (out .exit)) ≡ take at (now (out .entry)) ++ hexWord (now (bytes .entry))) ⌝ }
+    ensures { λ r. ⌜ (r ≤ at + (1 + (length (now (bytes .entry)) + length (now (bytes .entry))))) × (take r (now (out .exit)) ≡ take at (now (out .entry)) ++ hexWord (now (bytes .entry))) × (drop r (now (out .exit)) ≡ drop r (now (out .entry))) ⌝ }
 {
     if bytes.len() == 0 {
         return put(out, at, b"-");
@@ -236,7 +236,7 @@ pub(crate) fn put_hex(out: &mut [u8], at: usize, bytes: &[u8]) -> usize
 // Puts bytes into `out` from `at` on, two digits for each; the place behind them.
 fn put_digits(out: &mut [u8], at: usize, bytes: &[u8]) -> usize
     requires { ⌜ at + (length (now bytes) + length (now bytes)) ≤ length (now out) ⌝ }
-    ensures { λ r. ⌜ (r ≡ at + length (hexed (now (bytes .entry)))) × (take r (now (out .exit)) ≡ take at (now (out .entry)) ++ hexed (now (bytes .entry))) ⌝ }
+    ensures { λ r. ⌜ (r ≡ at + length (hexed (now (bytes .entry)))) × (take r (now (out .exit)) ≡ take at (now (out .entry)) ++ hexed (now (bytes .entry))) × (drop r (now (out .exit)) ≡ drop r (now (out .entry))) ⌝ }
 {
     let mut i = 0;
     while i < bytes.len() {
@@ -251,7 +251,7 @@ fn put_digits(out: &mut [u8], at: usize, bytes: &[u8]) -> usize
 // Puts a number into `out` from `at` on, in decimal digits; the place behind it.
 pub(crate) fn put_number(out: &mut [u8], at: usize, n: usize) -> usize
     requires { ⌜ at + 20 ≤ length (now out) ⌝ }
-    ensures { λ r. ⌜ (r ≡ at + length (decimalWord n)) × (r ≤ at + 20) × (take r (now (out .exit)) ≡ take at (now (out .entry)) ++ decimalWord n) ⌝ }
+    ensures { λ r. ⌜ (r ≡ at + length (decimalWord n)) × (r ≤ at + 20) × (take r (now (out .exit)) ≡ take at (now (out .entry)) ++ decimalWord n) × (drop r (now (out .exit)) ≡ drop r (now (out .entry))) ⌝ }
 {
     let mut digits = [0u8; 20];
     let k = io::decimal(n as u64, &mut digits);

@@ -3,8 +3,8 @@ use native.Mathlib.Numerals.{add-one}
 use Prim.Native.Nat.{ℕ, _+_, _≤_, _-_}
 use mathlib.Core.Path.{_≡_, refl, sym, ap, _∙_}
 use mathlib.Core.List.{List, _++_}
-use lib.ListN.{length, length-set, take, set, getD}
-use lib.Seq.{paste, paste-zero, paste-suc, length-paste, take-paste, take-all}
+use lib.ListN.{length, length-set, take, drop, set, getD}
+use lib.Seq.{paste, paste-zero, paste-suc, length-paste, take-paste, drop-paste, take-all}
 use Rattle.relay_text.proofs.put.Statement.{statement}
 use Rattle.relay_text.proofs.put.Tie as tie
 
@@ -57,6 +57,7 @@ returns c =
       ap (take (start .args .at + c .before .loop .i)) (c .before .loop .inv .1)
           ∙ take-paste (start .args .out .now) (start .args .at) (start .args .piece .now) (c .before .loop .i) (omega arith) (omega arith)
           ∙ ap (λ (l : List ℕ). take (start .args .at) (start .args .out .now) ++ l) (take-all (c .before .loop .i) (start .args .piece .now) (omega arith)),
+      ap (drop (start .args .at + c .before .loop .i)) (c .before .loop .inv .1) ∙ drop-paste (start .args .out .now) (start .args .at) (start .args .piece .now) (c .before .loop .i) (omega arith) (omega arith),
     )
 
 pub put-spec : {M : Type 1} → statement M

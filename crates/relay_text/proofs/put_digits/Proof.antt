@@ -2,15 +2,15 @@ use native.Mathlib.Omega.{arith}
 use Prim.Native.Nat.{ℕ, _+_, _≤_, _-_}
 use mathlib.Core.Path.{_≡_, refl, sym, ap, _∙_}
 use mathlib.Core.List.{List, _++_, append-assoc, append-nil}
-use lib.ListN.{length, take}
+use lib.ListN.{length, take, drop}
 use lib.Seq.{take-all}
 use Rattle.relay_text.specs.Text.{hexed}
-use Rattle.relay_text.proofs.Laws.{hexed-start, digits-more, hexed-length}
+use Rattle.relay_text.proofs.Laws.{hexed-start, digits-more, hexed-length, behind-on}
 use Rattle.relay_text.proofs.put_digits.Statement.{statement}
 use Rattle.relay_text.proofs.put_digits.Tie as tie
 
 abbrev Inv-loop : tie.InvT-loop
-Inv-loop out₀ at bytes i₀ out i = (i ≤ length bytes) × (length out ≡ length out₀) × (take (at + i + i) out ≡ take at out₀ ++ hexed (take i bytes))
+Inv-loop out₀ at bytes i₀ out i = (i ≤ length bytes) × (length out ≡ length out₀) × (take (at + i + i) out ≡ take at out₀ ++ hexed (take i bytes)) × (drop (at + i + i) out ≡ drop (at + i + i) out₀)
 
 abbrev μ-loop : tie.MeasureT-loop
 μ-loop out₀ at bytes i₀ out i = length bytes - i
@@ -18,7 +18,7 @@ abbrev μ-loop : tie.MeasureT-loop
 loop-holds : tie.Need-loop-holds Inv-loop μ-loop
 loop-holds c =
     let start = c .before .before in
-    (omega arith, refl, hexed-start (start .args .at) (start .args .out .now))
+    (omega arith, refl, hexed-start (start .args .at) (start .args .out .now), refl)
 
 shared-slice-read-b : tie.Need-shared-slice-read-b Inv-loop μ-loop
 shared-slice-read-b c = omega arith
@@ -54,6 +54,8 @@ loop-again c =
       c .before .before .put .kept .0 ∙ c .before .before .before .before .before .before .before .before .before .loop .inv .1,
       digits-more (start .args .out .now) (c .before .before .before .before .before .before .before .before .before .loop .out) (c .before .before .put .last .0) (start .args .bytes .now) (start .args .at) (c .before .before .before .before .before .before .before .before .before .loop .i) (c .before .before .put .result) (c .before .before .before .before .before .before .glyph .result) (c .before .before .before .before .before .glyph2 .result)
           (omega arith) (c .before .before .put .ensures .0) (c .before .before .put .ensures .1) (c .before .before .before .before .before .before .glyph .ensures) (c .before .before .before .before .before .glyph2 .ensures) (c .before .before .before .before .before .before .before .before .before .loop .inv .2),
+      behind-on (c .before .before .put .last .0) (c .before .before .before .before .before .before .before .before .before .loop .out) (start .args .out .now) (start .args .at + c .before .before .before .before .before .before .before .before .before .loop .i + c .before .before .before .before .before .before .before .before .before .loop .i) (c .before .before .put .result) (start .args .at + (c .before .before .before .before .before .before .before .before .before .loop .i + 1) + (c .before .before .before .before .before .before .before .before .before .loop .i + 1))
+          (omega (arith, c .before .before .put .ensures .0)) (omega (arith, c .before .before .put .ensures .0)) (c .before .before .put .ensures .2) (c .before .before .before .before .before .before .before .before .before .loop .inv .3),
     )
 
 add-result : tie.Need-add-result Inv-loop μ-loop
@@ -70,6 +72,7 @@ returns c =
     let start = c .before .before .before .before in (
       omega (arith, hexed-length (start .args .bytes .now)),
       c .before .loop .inv .2 ∙ ap (λ (l : List ℕ). take (start .args .at) (start .args .out .now) ++ hexed l) (take-all (c .before .loop .i) (start .args .bytes .now) (omega arith)),
+      c .before .loop .inv .3,
     )
 
 pub put-digits-spec : {M : Type 1} → statement M

@@ -38,6 +38,7 @@ returns c =
       c .before .before .put .ensures .0 ∙ ap (λ (l : List ℕ). start .args .at + length l) w,
       omega (arith, c .before .before .put .ensures .0, c .before .before .before .before .before .decimal .ensures .0 .1, places-bound 19 (start .args .n)),
       c .before .before .put .ensures .1 ∙ ap (λ (l : List ℕ). take (start .args .at) (start .args .out .now) ++ l) w,
+      c .before .before .put .ensures .2,
     )
 
 pub put-number-spec : {M : Type 1} → statement M
