@@ -1,22 +1,29 @@
-use Prim.Native.Nat.{_≤_, _-_}
+use Rattle.value_grid.proofs.Laws.{agreed-most, agreed-none, agreed-at, agreed-more}
+use Rattle.value_grid.specs.Questions.{Agreed}
 use borrow.Author.Needs.{needs}
+use Prim.Native.Nat.{_≤_, _-_, _+_}
+use native.Mathlib.Omega.{arith}
 use Rattle.value_grid.proofs.agreed.Statement.{statement}
 use Rattle.value_grid.proofs.agreed.Tie as tie
+use Rattle.value_grid.proofs.agreed.Reads as reads
+use Rattle.value_grid.proofs.agreed.Lts as lts
+use Rattle.value_grid.proofs.ask.Reads as ask-reads
+use Rattle.value_grid.proofs.more.Reads as more-reads
 
 abbrev Inv-loop : tie.InvT-loop
-Inv-loop section count grid sum₀ t₀ sum t = t ≤ count
+Inv-loop section count grid sum₀ t₀ sum t = (t ≤ count) × Agreed section grid sum t
 
 abbrev μ-loop : tie.MeasureT-loop
 μ-loop section count grid sum₀ t₀ sum t = count - t
 
 loop-holds : tie.Need-loop-holds Inv-loop μ-loop
-loop-holds c = search needs
+loop-holds c = (omega arith, agreed-none (c .before .args .section) (c .before .args .grid .now))
 
 ask-requires : tie.Need-ask-requires Inv-loop μ-loop
 ask-requires c κs = search needs
 
-wrapping-add-u64-requires : tie.Need-wrapping-add-u64-requires Inv-loop μ-loop
-wrapping-add-u64-requires c κs = search needs
+more-requires : tie.Need-more-requires Inv-loop μ-loop
+more-requires c κs = omega (arith, agreed-most (c .before .before .loop .inv .1))
 
 add-t : tie.Need-add-t Inv-loop μ-loop
 add-t c = search needs
@@ -25,10 +32,10 @@ loop-less : tie.Need-loop-less Inv-loop μ-loop
 loop-less c = search needs
 
 loop-again : tie.Need-loop-again Inv-loop μ-loop
-loop-again c = search needs
+loop-again c = (omega arith, rw (c .more .ensures) (agreed-more (c .before .before .before .before .before .args .section) (c .before .before .before .before .before .args .grid .now) (c .before .before .before .loop .sum) (c .before .before .before .loop .t) _ (c .before .ask .ensures) (c .before .before .before .loop .inv .1)))
 
 returns : tie.Need-returns Inv-loop μ-loop
-returns c = search needs
+returns c = agreed-at (c .before .loop .inv .1) (omega arith)
 
 pub agreed-spec : {M : Type 1} → statement M
 agreed-spec =
@@ -38,7 +45,7 @@ agreed-spec =
     μ-loop
     loop-holds
     ask-requires
-    wrapping-add-u64-requires
+    more-requires
     add-t
     loop-less
     loop-again

@@ -1,0 +1,18 @@
+use native.Mathlib.Omega.{arith}
+use borrow.Author.Needs.{needs}
+use Rattle.value_grid.proofs.more.Statement.{statement}
+use Rattle.value_grid.proofs.more.Tie as tie
+use Rattle.value_grid.proofs.more.Reads as reads
+use Rattle.value_grid.proofs.more.Lts as lts
+
+add-result : tie.Need-add-result
+add-result c = search needs
+
+returns : tie.Need-returns
+returns c = rw (c .if1 .taken)
+
+returns-2 : tie.Need-returns-2
+returns-2 c = rw (c .if1 .left) (omega arith)
+
+pub more-spec : {M : Type 1} → statement M
+more-spec = tie.close (tie.spec add-result returns returns-2)
