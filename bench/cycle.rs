@@ -1,5 +1,5 @@
-// Times a cycle of the unchanged Rust (`Sim::step_full`, built with overflow checks) and of ours (libol_sim_c.a) on the same files, in one process on one thread:
-// lines NAME HEX INPUTS on standard input. Run by bench/run.
+// Times a cycle of the unchanged Rust (`Sim::step_full`, built with overflow checks), of ours (libol_sim_c.a) and, where bench/c has them, of the same equations written in C,
+// on the same files, in one process on one thread: lines NAME HEX INPUTS on standard input. Run by bench/run.
 use std::collections::BTreeMap;
 use std::hint::black_box;
 use std::io::BufRead;
@@ -16,6 +16,19 @@ use ffi::{ol_sim_admit, ol_sim_cycle, ol_sim_start};
 
 extern "C" {
     fn ol_read_bench(file: *const u8, file_len: usize) -> u64;
+    fn c_counter(inputs: *const u8, inputs_len: usize, values: *mut u8, values_len: usize) -> u8;
+    fn c_feeder30(inputs: *const u8, inputs_len: usize, values: *mut u8, values_len: usize) -> u8;
+}
+
+// The equations of a bench file in C (bench/c), which keep their own state.
+type InC = unsafe extern "C" fn(*const u8, usize, *mut u8, usize) -> u8;
+
+fn in_c(name: &str) -> Option<InC> {
+    match name {
+        "counter" => Some(c_counter),
+        "feeder30" => Some(c_feeder30),
+        _ => None,
+    }
 }
 
 // Each time is that of the fastest of so many batches, each of about so long.
@@ -115,6 +128,7 @@ struct Row {
     bytes: usize,
     rust: f64,
     ours: f64,
+    c: Option<f64>,
     // up to the end of reading, of admission, of the checks of state and inputs
     upto: [f64; 3],
 }
@@ -127,9 +141,15 @@ fn measure(name: &str, bytes: &[u8], inputs: &[u8]) -> Row {
     let given = cell::read_inputs(inputs, &f).expect("fitting inputs");
     let map: BTreeMap<String, Value> = f.main().inputs.iter().zip(&given).map(|(v, c)| (var_name(v.name.num), to_value(*c))).collect();
     let mut ours = Ours::new(bytes, inputs, f.main().vars().count());
+    let c = in_c(name);
+    let mut written = vec![0u8; ours.values.len()];
     for k in 0..COMPARED {
         let wanted = cells(&f, &sim.step_full(&map).ok().expect("step_full"));
         assert_eq!((ours.step(), &ours.values), (0, &wanted), "{name}: cycle {k}");
+        if let Some(step) = c {
+            let number = unsafe { step(inputs.as_ptr(), inputs.len(), written.as_mut_ptr(), written.len()) };
+            assert_eq!((number, &written), (0, &wanted), "{name} in C: cycle {k}");
+        }
     }
     assert_eq!(ours.refused(), 17, "{name}: a refused cycle");
     let rust = timed(&mut || {
@@ -148,16 +168,26 @@ fn measure(name: &str, bytes: &[u8], inputs: &[u8]) -> Row {
         black_box(ours.read());
     });
     assert_eq!(ours.step(), 0);
-    Row { name: name.to_string(), bytes: bytes.len(), rust, ours: cycle, upto: [read, admitted, checked] }
+    let c = c.map(|step| {
+        timed(&mut || {
+            let inputs = black_box(inputs);
+            black_box(unsafe { step(inputs.as_ptr(), inputs.len(), written.as_mut_ptr(), written.len()) });
+        })
+    });
+    Row { name: name.to_string(), bytes: bytes.len(), rust, ours: cycle, c, upto: [read, admitted, checked] }
 }
 
-// The measures: counter within 1 microsecond; feeder30 within a fifth of the Rust's time; large within the Rust's time and 1 millisecond.
-fn meets(r: &Row) -> &'static str {
+// The measures: counter at most 450 ns, K at most 950; feeder30 at most an eighth, large at most 0.3 of the Rust's time; with high names at most twice the file with low ones.
+fn meets(r: &Row, low: &[Row]) -> &'static str {
     let met = match r.name.as_str() {
-        "counter" => r.ours <= 1_000.0,
-        "feeder30" => 5.0 * r.ours <= r.rust,
-        "large" => r.ours <= r.rust && r.ours < 1_000_000.0,
-        _ => return "",
+        "counter" => r.ours <= 450.0,
+        "K" => r.ours <= 950.0,
+        "feeder30" => 8.0 * r.ours <= r.rust,
+        "large" => r.ours <= 0.3 * r.rust,
+        high => match low.iter().find(|l| high.strip_suffix("-high") == Some(&l.name)) {
+            Some(l) => r.ours <= 2.0 * l.ours,
+            None => return "",
+        },
     };
     if met {
         "met"
@@ -168,8 +198,9 @@ fn meets(r: &Row) -> &'static str {
 
 fn main() {
     println!("nanoseconds a cycle, the fastest of {BATCHES} batches");
-    println!("| file | bytes | Rust's step_full | ours | Rust / ours | reading | admission | state and inputs | evaluation | measure |");
-    println!("|---|---|---|---|---|---|---|---|---|---|");
+    println!("| file | bytes | Rust's step_full | in C | ours | Rust / ours | reading | admission | state and inputs | evaluation | measure |");
+    println!("|---|---|---|---|---|---|---|---|---|---|---|");
+    let mut rows: Vec<Row> = vec![];
     for line in std::io::stdin().lock().lines() {
         let line = line.expect("standard input");
         let w: Vec<&str> = line.split_whitespace().collect();
@@ -178,17 +209,19 @@ fn main() {
         let r = measure(w[0], &bytes, &inputs);
         let [read, admitted, checked] = r.upto;
         println!(
-            "| {} | {} | {:.0} | {:.0} | {:.2} | {:.0} | {:.0} | {:.0} | {:.0} | {} |",
+            "| {} | {} | {:.0} | {} | {:.0} | {:.2} | {:.0} | {:.0} | {:.0} | {:.0} | {} |",
             r.name,
             r.bytes,
             r.rust,
+            r.c.map_or("".to_string(), |c| format!("{c:.1}")),
             r.ours,
             r.rust / r.ours,
             read,
             admitted - read,
             checked - admitted,
             r.ours - checked,
-            meets(&r)
+            meets(&r, &rows)
         );
+        rows.push(r);
     }
 }
