@@ -1,4 +1,3 @@
-pub mod Demand
 pub mod Chain
 pub mod Lows
 pub mod Slotting

@@ -1,5 +1,4 @@
 pub mod Calls
-pub mod Demand
 pub mod Judging
 pub mod Starting
 pub mod Cycling

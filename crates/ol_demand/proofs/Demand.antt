@@ -39,8 +39,8 @@ use Rattle.ol_spec.proofs.Faults.{numbers-claim}
 use Rattle.ol_real.proofs.Reals.{ieee754-holds}
 use Rattle.ol_real.proofs.Operators.{operators-hold}
 use Rattle.ol_real.proofs.Formats.{formats-kept}
 use Rattle.ol_sim.specs.Calls.{CyclesAs}
-use Rattle.ol_sim.specs.Demand.{OrderingHolds, RingHolds, Cycles, Service, Tree, turns, SolutionHolds, RelistedHolds, RelistingHolds, Demand3Holds, RunsAsRustHolds, ConstantsAsRustHolds, OrdersAsRustHolds, PreArrowHolds, InstancesHolds, SequencesHolds, InstantsHolds, StartNeverReturnsHolds, Demand2Holds}
+use Rattle.ol_demand.specs.Demand.{OrderingHolds, RingHolds, Cycles, Service, Tree, turns, SolutionHolds, RelistedHolds, RelistingHolds, Demand3Holds, RunsAsRustHolds, ConstantsAsRustHolds, OrdersAsRustHolds, PreArrowHolds, InstancesHolds, SequencesHolds, InstantsHolds, StartNeverReturnsHolds, Demand2Holds}
 
 -- what a cycle answered and wrote is the definition's call
 called : {w : CycleCall} {r : CycleCall} → CyclesAs w (r .answer) (r .new) (r .values) → r ≡ w
