@@ -5,7 +5,6 @@ use mathlib.Core.List.{List, [], _∷_, _++_, map, map-append}
 use mathlib.Core.Logic.{by-cases}
 use mathlib.Core.Path.{_≡_, refl, sym, ap, subst, _∙_}
 use native.Mathlib.Omega.{arith}
-use native.Mathlib.Nat.{add-zero}
 use native.Mathlib.Decide.{decLt}
 use lib.ListN.{length, getD, set, drop, replicate, length-append, List·getD-eq-default, drop-of-length-le}
 use lib.Seq.{drop-cons}
@@ -185,8 +184,8 @@ module _ {s rows : List ℕ} {nodes k : ℕ} (rd : NodeReady s rows nodes k) (st
       }
 
 -- the length of the node's records is stored
-pub size-stored : (rows : List ℕ) (k : ℕ) {rows′ : List ℕ} {kind size : ℕ} (z : ℕ) → kind ≡ getD rows (k * 8) 0 → size ≡ recordBy kind z → rows′ ≡ set rows (k * 8 + 6) size → rows′ ≡ set rows (k * 8 + 6) (recordBy (rowAt rows k 0) z)
-size-stored rows k {rows′} {kind} {size} z ek es er = er ∙ ap (set rows (k * 8 + 6)) (es ∙ ap (λ x. recordBy x z) (ek ∙ ap (λ n. getD rows n 0) (sym (add-zero (k * 8)))))
+pub size-stored : (rows : List ℕ) (k : ℕ) {rows′ : List ℕ} {kind size : ℕ} (z : ℕ) → kind ≡ rowAt rows k 0 → size ≡ recordBy kind z → rows′ ≡ set rows (k * 8 + 6) size → rows′ ≡ set rows (k * 8 + 6) (recordBy (rowAt rows k 0) z)
+size-stored rows k {rows′} {kind} {size} z ek es er = er ∙ ap (set rows (k * 8 + 6)) (es ∙ ap (λ x. recordBy x z) ek)
 
 -- entered and taken back
 pub node-back : {s rows : List ℕ} {nodes k : ℕ} → NodeReady s rows nodes k → FileStands s (fileAt s) → (names : List ℕ) {n₁ n₂ : List ℕ} → Global names → n₁ ≡ nodeTable names (nodeOf (fileAt s) k)

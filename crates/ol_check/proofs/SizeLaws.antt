@@ -55,13 +55,13 @@ module _ {s rows : List ℕ} {nodes : ℕ} (rd : RowsReady s rows nodes) (some-n
   pub the-place : mainPlace (placedNodes (fileAt s)) ≡ placeIn (fileAt s) (nodes - 1)
   the-place = last-place (placedNodes (fileAt s)) (nodes - 1) (omega (arith, rd .many, length-placed nodeSize (nodesStart (fileAt s)) (fileAt s .nodes)))
 
-  kind-told : (x : ℕ) → x ≡ getD rows ((nodes - 1) * 8) 0 → x ≡ kindCode (main (fileAt s) .kind)
-  kind-told x e = e ∙ ap (λ n. getD rows n 0) (sym (add-zero ((nodes - 1) * 8))) ∙ rd .row (nodes - 1) (omega (arith, rd .many)) .kind ∙ ap (λ n. kindCode (n .kind)) (sym the-main)
+  kind-told : (x : ℕ) → x ≡ rowAt rows (nodes - 1) 0 → x ≡ kindCode (main (fileAt s) .kind)
+  kind-told x e = e ∙ rd .row (nodes - 1) (omega (arith, rd .many)) .kind ∙ ap (λ n. kindCode (n .kind)) (sym the-main)
 
-  pub main-operator : (x : ℕ) → x ≡ getD rows ((nodes - 1) * 8) 0 → x ≡ 1 → none ≡ fault14 (fileAt s)
+  pub main-operator : (x : ℕ) → x ≡ rowAt rows (nodes - 1) 0 → x ≡ 1 → none ≡ fault14 (fileAt s)
   main-operator x e one = ap (λ b. atMain (fileAt s) (not b)) (sym (operator-is (main (fileAt s) .kind) (sym (kind-told x e) ∙ one)))
 
-  pub main-other : (x p : ℕ) → x ≡ getD rows ((nodes - 1) * 8) 0 → (x ≡ 1 → ⊥) → p ≡ getD rows ((nodes - 1) * 8 + 7) 0 → some p ≡ fault14 (fileAt s)
+  pub main-other : (x p : ℕ) → x ≡ rowAt rows (nodes - 1) 0 → (x ≡ 1 → ⊥) → p ≡ rowAt rows (nodes - 1) 7 → some p ≡ fault14 (fileAt s)
   main-other x p e other ep =
       ap some (ep ∙ rd .row (nodes - 1) (omega (arith, rd .many)) .place ∙ sym the-place)
       ∙ ap (λ b. atMain (fileAt s) (not b)) (sym (operator-not (main (fileAt s) .kind) (λ q. other (kind-told x e ∙ q))))
