@@ -15,6 +15,7 @@ use Rattle.ol_spec.specs.Encode.{variableBytes, constantBytes}
 use Rattle.ol_spec.specs.Limits.{base}
 use Rattle.ol_spec.specs.Within.{variableFits, constantFits}
 use Rattle.ol_spec.specs.Admission.{Sort, variable, constant, Declared, numbered, declaredAs, placedVariableName, placedConstantName, enumDeclares, nodeDeclares, declared}
+use Rattle.ol_spec.proofs.Admitted.{length-placed}
 use Rattle.ol_tables.specs.At.{fileAt}
 use Rattle.ol_tables.specs.Stands.{Listed, Variables, FileStands}
 use Rattle.ol_tables.specs.Tables.{Each, nodeOf}
@@ -25,7 +26,8 @@ use Rattle.ol_check.specs.NodesJudged.{placeIn, NodeReady, RowsReady}
 use Rattle.ol_check.specs.Clashing.{sortCode, isLow, Sorts, Walks, Passes, DeclaredReady, FileSorted}
 use Rattle.ol_check.specs.declared.rows.Sections.{Sections}
 use Rattle.ol_check.specs.declared.clash.Sorting.{Sorting}
-use Rattle.ol_check.proofs.NodeLaws.{ready-row, ready-node, nodes-on, placed-length}
+use Rattle.ol_check.proofs.Truths.{and-split}
+use Rattle.ol_check.proofs.NodeLaws.{ready-row, ready-node, nodes-on}
 use Rattle.ol_check.proofs.ClashLaws.{clash-is}
 use Rattle.ol_check.proofs.ClashLoops.{Left, left-all, left-on, left-none, sorts-two}
 
@@ -103,7 +105,7 @@ module _ {f : File} {sorts₀ : List ℕ} {g : Sorting} where
 
     pub nodes-done : length (f .nodes) ≤ k → Walks (concat (map nodeDeclares (numbered 0 (placedNodes f)))) sorts₀ sorts g h
     nodes-done over =
-        let empty : drop k (placedNodes f) ≡ [] = drop-of-length-le (placedNodes f) {i = k} (omega (arith, placed-length nodeSize (f .nodes) (nodesStart f))) in
+        let empty : drop k (placedNodes f) ≡ [] = drop-of-length-le (placedNodes f) {i = k} (omega (arith, length-placed nodeSize (nodesStart f) (f .nodes))) in
         left-none (subst (λ l. Left (concat (map nodeDeclares (numbered k l))) sorts (placeOf (h .found)) (h .low) (nodesFrom f 0) sorts₀ (placeOf (g .found)) (g .low)) empty (w .left))
 
 -- ---- the file
@@ -143,13 +145,9 @@ module _ {s rows : List ℕ} {c : Sections} (rd : DeclaredReady s rows c) (st : 
 
 -- ---- names below 1,024
 
-both : (a b : Bool) → a && b ≡ true → (a ≡ true) × (b ≡ true)
-both true b e = (refl, e)
-both false b e = let z : _≡_ {A = ℕ} 0 1 = cc in absurd (omega arith)
-
 all-low : (ds : List Declared) → allOf isLow ds ≡ true → Each (λ d. d .name < 1024) ds
 all-low [] e = tt
-all-low (d ∷ ds) e = let w = both (isLow d) (allOf isLow ds) e in (ltb-true (d .name) 1024 (w .0), all-low ds (w .1))
+all-low (d ∷ ds) e = let w = and-split (isLow d) (allOf isLow ds) e in (ltb-true (d .name) 1024 (w .0), all-low ds (w .1))
 
 pub low-names : {s sorts sorts′ : List ℕ} {r : Sorting} → FileSorted s sorts sorts′ r → r .low ≡ true → Each (λ d. d .name < 1024) (declared (fileAt s))
 low-names {s} w e = all-low (declared (fileAt s)) (sym (w .lows) ∙ e)

@@ -1,6 +1,6 @@
 -- Fault 6 by the table of sorts: where declarations stand in the order of their sorts, the last one of a name decides whether the next one clashes.
 use Prim.Native.Nat.{ℕ, suc, _+_, _≤_, _<_}
-use mathlib.Core.Bool.{Bool, true, false, not, _&&_, _||_}
+use mathlib.Core.Bool.{Bool, true, false, not, _&&_, _||_, or-true}
 use mathlib.Core.List.{List, [], _∷_, _++_, map, append-assoc}
 use mathlib.Core.Logic.{_⊎_, inl, inr, ⊎-elim, by-cases}
 use mathlib.Core.Option.{Option}
@@ -15,9 +15,11 @@ use Rattle.ol_spec.specs.Lists.{anyOf, concat}
 use Rattle.ol_spec.specs.Syntax.{Node, File}
 use Rattle.ol_spec.specs.Places.{placed, placedEnums, placedConstants, placedNodes, placedNames, placedVariables, enumSize, nodeSize, nodesStart}
 use Rattle.ol_spec.specs.Admission.{Sort, variant, constant, variable, Declared, apart, clash, clashes, first, firstIf, numbered, declaredAs, placedVariableName, placedConstantName, enumDeclares, nodeDeclares, declared, fault6}
+use Rattle.ol_spec.proofs.Tests.{T-or, T-true, true-T, or-left, bool-same}
 use Rattle.ol_tables.specs.Stands.{FileStands}
 use Rattle.ol_tables.specs.Tables.{Each}
 use Rattle.ol_check.specs.Clashing.{sortCode, meets, clashIn}
+use Rattle.ol_check.proofs.Truths.{no-truth, never, and-split, or-split}
 use Rattle.ol_check.proofs.EntryLaws.{eq-cases}
 
 -- ---- the test
@@ -25,26 +27,6 @@ use Rattle.ol_check.proofs.EntryLaws.{eq-cases}
 -- the last one of the name meets this one: of the same sort, or of different kinds
 abbrev Meets : ℕ → ℕ → Type 0
 Meets last sort = (0 < last) × ((last ≡ sort) ⊎ ((last ≤ 17) × (17 ≤ sort)))
-
-or-split : (a b : Bool) → a || b ≡ true → (a ≡ true) ⊎ (b ≡ true)
-or-split true b e = inl refl
-or-split false b e = inr e
-
-and-split : (a b : Bool) → a && b ≡ true → (a ≡ true) × (b ≡ true)
-and-split true b e = (refl, e)
-and-split false b e = let z : _≡_ {A = ℕ} 0 1 = cc in absurd (omega arith)
-
-or-right : (a : Bool) → a || true ≡ true
-or-right true = refl
-or-right false = refl
-
-no-truth : {b : Bool} → b ≡ true → b ≡ false → ⊥
-no-truth t f = let z : _≡_ {A = ℕ} 0 1 = cc in omega arith
-
-same-truth : (a b : Bool) → (a ≡ true → b ≡ true) → (b ≡ true → a ≡ true) → a ≡ b
-same-truth true b f g = sym (f refl)
-same-truth false true f g = g refl
-same-truth false false f g = refl
 
 met : (last sort : ℕ) → meets last sort ≡ true → Meets last sort
 met last sort e =
@@ -54,7 +36,7 @@ met last sort e =
 meet : (last sort : ℕ) → Meets last sort → meets last sort ≡ true
 meet last sort h =
     rw (lt-ltb 0 last (h .0))
-    (⊎-elim (λ a. rw (eq-eqb last sort a) refl) (λ b. rw (le-leb last 17 (b .0), le-leb 17 sort (b .1)) (or-right (eqb last sort))) (h .1))
+    (⊎-elim (λ a. rw (eq-eqb last sort a) refl) (λ b. rw (le-leb last 17 (b .0), le-leb 17 sort (b .1)) (or-true (eqb last sort))) (h .1))
 
 pub clashes-none : (last sort : ℕ) → last ≡ 0 → false ≡ meets last sort
 clashes-none last sort e = rw e refl
@@ -81,19 +63,12 @@ positive (variant i) = omega arith
 positive constant = omega arith
 positive (variable k) = omega arith
 
-not-not : (b : Bool) → not (not b) ≡ b
-not-not true = refl
-not-not false = refl
-
-same-number : (i j a b : ℕ) → a ≡ i → b ≡ j → eqb i j ≡ eqb b a
-same-number i j a b p q = eq-cases i j (λ e. eq-eqb i j e ∙ sym (eq-eqb b a (omega arith))) (λ e. ne-eqb i j e ∙ sym (ne-eqb b a (λ w. e (omega arith))))
-
 -- two sorts are not apart exactly if the table's test says so
 told : (u w : Sort) → Small u → Small w → sortCode w ≤ sortCode u → not (apart u w) ≡ meets (sortCode w) (sortCode u)
 told (variant i) (variant j) a b le =
     eq-cases i j
     (λ e. rw (eq-eqb i j e) (sym (meet (j + 1) (i + 1) (omega arith, inl (omega arith)))))
-    (λ e. rw (ne-eqb i j e) (same-truth false (meets (j + 1) (i + 1)) (λ t. let z : _≡_ {A = ℕ} 0 1 = cc in absurd (omega arith)) (λ t. let m = met (j + 1) (i + 1) t in absurd (⊎-elim (λ q. e (omega arith)) (λ q. omega (arith, q .1)) (m .1)))))
+    (λ e. rw (ne-eqb i j e) (sym (never (meets (j + 1) (i + 1)) (λ t. let m = met (j + 1) (i + 1) t in ⊎-elim (λ q. e (omega arith)) (λ q. omega (arith, q .1)) (m .1)))))
 told (variant i) constant a b le = absurd (omega arith)
 told (variant i) (variable k) a b le = absurd (omega arith)
 told constant (variant j) a b le = sym (meet (j + 1) 17 (omega arith, inr (omega arith, omega arith)))
@@ -104,20 +79,20 @@ told (variable k) constant a b le = sym (meet 17 (k + 18) (omega arith, inr (ome
 told (variable i) (variable j) a b le =
     eq-cases i j
     (λ e. rw (eq-eqb i j e) (sym (meet (j + 18) (i + 18) (omega arith, inl (omega arith)))))
-    (λ e. rw (ne-eqb i j e) (same-truth false (meets (j + 18) (i + 18)) (λ t. let z : _≡_ {A = ℕ} 0 1 = cc in absurd (omega arith)) (λ t. let m = met (j + 18) (i + 18) t in absurd (⊎-elim (λ q. e (omega arith)) (λ q. omega (arith, q .0)) (m .1)))))
+    (λ e. rw (ne-eqb i j e) (sym (never (meets (j + 18) (i + 18)) (λ t. let m = met (j + 18) (i + 18) t in ⊎-elim (λ q. e (omega arith)) (λ q. omega (arith, q .0)) (m .1)))))
 
 -- where the one between did not clash, it decides alone
 between : (t c n : ℕ) → 0 < c → t ≤ c → c ≤ n → meets t c ≡ false → meets c n || meets t n ≡ meets c n
 between t c n pos tc cn un =
-    same-truth (meets c n || meets t n) (meets c n)
+    bool-same (meets c n || meets t n) (meets c n)
     (λ e. ⊎-elim (λ h. h) (λ h.
-    let m = met t n h in
-    meet c n (
+    let m = met t n (T-true (meets t n) h) in
+    true-T (meets c n) (meet c n (
       pos,
       ⊎-elim (λ q. absurd (no-truth (meet t c (m .0, inl (omega arith))) un))
           (λ q. by-cases (decLe c 17) (λ low. inr (low, q .1)) (λ high. absurd (no-truth (meet t c (m .0, inr (q .0, omega arith))) un))) (m .1),
-    )) (or-split (meets c n) (meets t n) e))
-    (λ e. rw e refl)
+    ))) (T-or (meets c n) (meets t n) e))
+    (or-left (meets c n) (meets t n))
 
 -- ---- the table tells the clashes with what was declared
 

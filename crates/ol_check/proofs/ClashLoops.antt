@@ -1,6 +1,6 @@
 -- The loops over declarations: what is left to be sorted.
 use Prim.Native.Nat.{ℕ, suc, _+_, _*_, _≤_, _<_}
-use mathlib.Core.Bool.{Bool, true, false, _&&_}
+use mathlib.Core.Bool.{Bool, true, false, _&&_, and-assoc, and-true}
 use mathlib.Core.List.{List, [], _∷_, _++_, map}
 use mathlib.Core.Option.{Option, none, some}
 use mathlib.Core.Path.{_≡_, refl, sym, ap, subst, _∙_}
@@ -25,9 +25,10 @@ use Rattle.ol_tables.proofs.HeadLaws.{here-first, here-name}
 use Rattle.ol_tables.proofs.HeadsFile.{Passing, passing-start, passing-item, passing-end, variable-stands, constant-stands}
 use Rattle.ol_check.specs.Founds.{placeOf, earliest}
 use Rattle.ol_tables.specs.Heads.{Byte}
-use Rattle.ol_check.specs.RowsDone.{Enums, noVariable}
+use Rattle.ol_check.specs.RowsDone.{Enums, noVariable, noConstant}
 use Rattle.ol_check.specs.Clashing.{sortCode, meets, sortAll, clashIn, isLow, Sorts, Walks, Passes, NameSorted}
 use Rattle.ol_check.specs.declared.clash.Sorting.{Sorting}
+use Rattle.ol_check.proofs.WalkLoop.{found-none}
 use Rattle.ol_check.proofs.EquationLaws.{NamePassing}
 
 -- ---- lists of declarations, one behind the other
@@ -35,18 +36,6 @@ use Rattle.ol_check.proofs.EquationLaws.{NamePassing}
 or-assoc : (a b c : Option ℕ) → orElse (orElse a b) c ≡ orElse a (orElse b c)
 or-assoc none b c = refl
 or-assoc (some p) b c = refl
-
-or-none : (a : Option ℕ) → orElse a none ≡ a
-or-none none = refl
-or-none (some p) = refl
-
-and-assoc : (a b c : Bool) → (a && b) && c ≡ a && (b && c)
-and-assoc true b c = refl
-and-assoc false b c = refl
-
-and-true : (a : Bool) → a && true ≡ a
-and-true true = refl
-and-true false = refl
 
 if-or : (b : Bool) (p : ℕ) (x y : Option ℕ) → firstIf b p (orElse x y) ≡ orElse (firstIf b p x) y
 if-or true p x y = refl
@@ -92,7 +81,7 @@ module _ {all : List Declared} {sorts₀ : List ℕ} {found₀ : Option ℕ} {lo
 
   pub left-none : {sorts : List ℕ} {found : Option ℕ} {low : Bool} → Left [] sorts found low all sorts₀ found₀ low₀ → Sorts all sorts₀ sorts found₀ low₀ found low
   unfolding clashIn sortAll
-  left-none {sorts} {found} {low} l = record { finds = sym (or-none found) ∙ l .finds; lows = sym (and-true low) ∙ l .lows; enters = l .enters }
+  left-none {sorts} {found} {low} l = record { finds = sym (found-none found) ∙ l .finds; lows = sym (and-true low) ∙ l .lows; enters = l .enters }
 
 -- two lists
 pub sorts-two : {a b : List Declared} {s₀ s₁ s₂ : List ℕ} {f₀ f₁ f₂ : Option ℕ} {l₀ l₁ l₂ : Bool} → Sorts a s₀ s₁ f₀ l₀ f₁ l₁ → Sorts b s₁ s₂ f₁ l₁ f₂ l₂ → Sorts (a ++ b) s₀ s₂ f₀ l₀ f₂ l₂
@@ -209,9 +198,6 @@ constant-walks {s} {sorts} {sorts′} {g} {h} {r} ran ef el er enums c st =
     let at : g .next + 2 + tySize (c .ty) ≡ h .next = omega (arith, one .ends) in
     let end = er enums (cons (c .value) nil) refl (subst (λ p. Standing s enums p (cons (c .value) nil)) at (st .value)) in
     record { walks = rw (ef, el) (one .walks); ends = omega (arith, end, at) }
-
-noConstant : Constant
-noConstant = record { name = 0; ty = Rattle.ol_spec.specs.Syntax.bool; value = Rattle.ol_spec.specs.Syntax.boolLit false }
 
 pub record ConstantsGoing (s : List ℕ) (enums : ℕ) (cs : List Constant) (sorts₀ : List ℕ) (g : Sorting) (sorts : List ℕ) (h : Sorting) (i : ℕ) : Type 0 where
   pub passing : Passing constantBytes (constantFits base enums) constantSize s (g .next) cs i (h .next)

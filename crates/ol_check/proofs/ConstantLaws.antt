@@ -10,7 +10,7 @@ use lib.Seq.{drop-cons}
 use lib.Dec.{ltb}
 use borrow.Author.Tests.{le-ltb}
 use Rattle.ol_spec.specs.Lists.{orElse, concat}
-use Rattle.ol_spec.specs.Syntax.{bool, boolLit, nil, cons, Constant, File}
+use Rattle.ol_spec.specs.Syntax.{nil, cons, Constant, File}
 use Rattle.ol_spec.specs.Places.{constantSize, placed}
 use Rattle.ol_spec.specs.Encode.{constantBytes}
 use Rattle.ol_spec.specs.Limits.{base}
@@ -24,6 +24,7 @@ use Rattle.ol_tables.specs.Stands.{ConstantStands}
 use Rattle.ol_tables.proofs.HeadLaws.{walk-one}
 use Rattle.ol_tables.proofs.HeadsFile.{Passing, Item as PassedItem, passing-start, passing-item, constant-stands}
 use Rattle.ol_check.specs.Founds.{placeOf}
+use Rattle.ol_check.specs.RowsDone.{noConstant}
 use Rattle.ol_check.specs.Entries.{declared, declareAll, constantEntries}
 use Rattle.ol_check.specs.Judging.{badB, foundIn, Knows, Walked}
 use Rattle.ol_check.specs.ConstantsJudged.{walkAt, ConstantJudged, slotConstants, ConstantsJudged, ConstantsReady}
@@ -47,9 +48,6 @@ constant-judged {s} names {rows} {nodes} {i} {n} {x} {slots} {slots′} {names�
 -- in a constant every call is faulted
 no-call : (rows : List ℕ) (x n : ℕ) → badB rows 0 x n ≡ true
 no-call rows x n = let high : ltb x 0 ≡ false = le-ltb x 0 (omega arith) in rw high refl
-
-noConstant : Constant
-noConstant = record { name = 0; ty = bool; value = boolLit false }
 
 entries-on : (cs : List Constant) (i : ℕ) → i < length cs → constantEntries i (drop i cs) ≡ (getD cs i noConstant .name, i + 113) ∷ constantEntries (i + 1) (drop (i + 1) cs)
 entries-on cs i lt = ap (constantEntries i) (drop-cons cs i noConstant lt) ∙ ap (λ n. (getD cs i noConstant .name, i + 113) ∷ constantEntries (i + 1) (drop n cs)) (sym (add-one i))

@@ -8,7 +8,7 @@ use native.Mathlib.Omega.{arith}
 use lib.ListN.{length, getD, set, take, length-map}
 use lib.Dec.{eqb}
 use Rattle.ol_spec.specs.Lists.{sum, maybe, member, position}
-use Rattle.ol_spec.specs.Syntax.{bool, boolLit, nil, cons, Constant, File, constantName}
+use Rattle.ol_spec.specs.Syntax.{nil, cons, Constant, File, constantName}
 use Rattle.ol_spec.specs.Places.{constantSize, placed, placedConstants, constantsStart}
 use Rattle.ol_spec.specs.Encode.{constantBytes}
 use Rattle.ol_spec.specs.Limits.{base}
@@ -20,17 +20,16 @@ use Rattle.ol_tables.specs.Stands.{Listed, ConstantStands, FileStands}
 use Rattle.ol_tables.proofs.HeadLaws.{walk-one}
 use Rattle.ol_tables.proofs.HeadsFile.{passing-start, passing-item, constant-stands}
 use Rattle.ol_check.specs.Judging.{SlotIs, slotOfEntry, heads, slotHeads}
+use Rattle.ol_check.specs.RowsDone.{noConstant}
 use Rattle.ol_check.specs.Entries.{declared, declareAll, constantEntries, variantEntry}
 use Rattle.ol_check.specs.ConstantsJudged.{slotConstants}
 use Rattle.ol_check.specs.FileJudged.{NamesWithin, variantTable}
+use Rattle.ol_check.proofs.Truths.{no-truth, never}
 use Rattle.ol_check.proofs.HeadLaws.{flat, slots-below, slots-length, slots-held}
 use Rattle.ol_check.proofs.EntryLaws.{Enterable, declare-high, declare-length}
 use Rattle.ol_check.proofs.EntryPlaces.{declare-free, constant-entry, variant-entry, position-at, position-none}
 use Rattle.ol_check.proofs.FileLaws.{variants-ok, constants-ok}
 use Rattle.ol_check.proofs.SlotEntries.{slot-small}
-
-abbrev noConstant : Constant
-noConstant = record { name = 0; ty = bool; value = boolLit false }
 
 -- constant i of a list, with its place
 abbrev pub placedConstant : List (ℕ × Constant) → ℕ → ℕ × Constant
@@ -124,15 +123,8 @@ module _ (names : List ℕ) (f : File) (empty : (x : ℕ) → getD names x 0 ≡
       go true e =
           let v : getD (variantTable names f) x 0 ≡ 255 = variant ∙ ap (λ c. cond c 255 0) e in
           let none-there : position x (take i (constantNames f)) ≡ none =
-          position-none x (take i (constantNames f)) (never (member x (take i (constantNames f))) (λ t. clear e (apart x (member-take x i (constantNames f) t)))) in
+          position-none x (take i (constantNames f)) (never (member x (take i (constantNames f))) (λ t. no-truth e (apart x (member-take x i (constantNames f) t)))) in
           ap slotOfEntry (declare-high x (variantTable names f) (constantEntries 0 (take i (f .constants))) (omega arith) ∙ v) ∙ sym (ap constantSlot none-there)
-        where
-          never : (b : Bool) → (b ≡ true → ⊥) → b ≡ false
-          never true h = absurd (h refl)
-          never false h = refl
-
-          clear : {b : Bool} → b ≡ true → b ≡ false → ⊥
-          clear t f = let z : _≡_ {A = ℕ} 0 1 = cc in omega arith
       go false e =
           let room : length names ≡ length (variantTable names f) = sym (declare-length names (map variantEntry (variants f))) in
           ap slotOfEntry (declare-free x (variantTable names f) (constantEntries 0 (take i (f .constants)))

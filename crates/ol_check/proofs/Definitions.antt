@@ -11,7 +11,7 @@ use native.Mathlib.Nat.{zero-add}
 use lib.ListN.{length, getD, set, replicate, length-set, length-replicate, getD-replicate, length-map, List·getD-eq-default}
 use lib.Seq.{getD-set-same, getD-set-other}
 use lib.Dec.{ltb, leb, eqb}
-use borrow.Author.Tests.{ne-eqb, eq-eqb, eqb-true, le-leb, lt-leb, lt-ltb, le-ltb}
+use borrow.Author.Tests.{not-true, not-false, ne-eqb, eq-eqb, eqb-true, le-leb, lt-leb, lt-ltb, le-ltb}
 use Rattle.ol_spec.specs.Lists.{maybe, member, position, positionIf, concat}
 use Rattle.ol_spec.specs.Syntax.{Equation, Node, File, variables, variableNames, nameOf, noNode}
 use Rattle.ol_spec.specs.Places.{placed, placedNodes, placedEquations, placedConstants, nodeSize, nodesStart, rhsPlace}
@@ -24,6 +24,7 @@ use Rattle.ol_tables.specs.Heads.{Byte}
 use Rattle.ol_check.specs.Judging.{Knows, takenB, againB}
 use Rattle.ol_check.specs.Entries.{variableEntries, Global}
 use Rattle.ol_check.specs.NodesJudged.{nodeTable, nodeAgain, Covered, AllCovered}
+use Rattle.ol_check.proofs.Truths.{member-behind}
 use Rattle.ol_check.proofs.EntryLaws.{eq-cases, declare-high}
 use Rattle.ol_check.proofs.EntryPlaces.{declare-free, variable-entry, position-at}
 use Rattle.ol_check.proofs.NodeLaws.{entries-ok, node-knows}
@@ -79,27 +80,11 @@ position-is x i (y ∷ xs) e = go (eqb x y) (λ t. eqb-true x y t) (position x x
     go false s none h e = let z : _≡_ {A = ℕ} 0 1 = cc in absurd (omega arith)
     go false s (some j) h e = let z : suc j ≡ i = cc in subst (λ n. getD (y ∷ xs) n 0 ≡ x) z (h j refl)
 
-member-front : (x : ℕ) (a b : List ℕ) → member x b ≡ false → member x (a ++ b) ≡ member x a
-member-front x [] b m = m
-member-front x (y ∷ a) b m = ap (λ q. eqb x y || q) (member-front x a b m)
-
-member-behind : (x : ℕ) (a b : List ℕ) → member x b ≡ true → member x (a ++ b) ≡ true
-member-behind x [] b m = m
-member-behind x (y ∷ a) b m = go (eqb x y) (member-behind x a b m)
-  where
-    go : (t : Bool) {c : Bool} → c ≡ true → t || c ≡ true
-    go true q = refl
-    go false q = q
+member-either : (x : ℕ) (a b : List ℕ) → member x b ≡ false → member x (a ++ b) ≡ member x a
+member-either x [] b m = m
+member-either x (y ∷ a) b m = ap (λ q. eqb x y || q) (member-either x a b m)
 
 -- ---- the entries of a node's names
-
-not-false : (b : Bool) → false ≡ not b → b ≡ true
-not-false true e = refl
-not-false false e = let z : _≡_ {A = ℕ} 0 1 = cc in absurd (omega arith)
-
-not-true : (b : Bool) → true ≡ not b → b ≡ false
-not-true true e = let z : _≡_ {A = ℕ} 0 1 = cc in absurd (omega arith)
-not-true false e = refl
 
 module _ (names : List ℕ) (visible : List ℕ) (global : Global names) (knows : Knows names visible) (n : Node) (few : length (variables n) ≤ 112) (covered : Covered (length names) n) where
   abbrev entryOf : ℕ → ℕ
@@ -119,11 +104,11 @@ module _ (names : List ℕ) (visible : List ℕ) (global : Global names) (knows 
       eq-cases (getD names x 0) 0
       (λ z. go (position x (variableNames n)) refl
       (declare-free x names (variableEntries 0 (variables n)) (entries-ok (length names) 0 (variables n) covered) z ∙ variable-entry x 0 (variables n))
-      (not-true (member x visible) (sym (eq-eqb (getD names x 0) 0 z) ∙ knows x)))
+      (not-true (member x visible) (sym (knows x) ∙ eq-eqb (getD names x 0) 0 z)))
       (λ nz.
       let same = declare-high x names (variableEntries 0 (variables n)) (omega arith) in
       by-cases (decLe (getD names x 0) 112) (λ low. absurd (nz (global x low)))
-      (λ high. outer (omega arith) (not-false (member x visible) (sym (ne-eqb (getD names x 0) 0 nz) ∙ knows x))))
+      (λ high. outer (omega arith) (not-false (member x visible) (sym (knows x) ∙ ne-eqb (getD names x 0) 0 nz))))
     where
       go : (p : Option ℕ) → position x (variableNames n) ≡ p → entryOf x ≡ maybe 0 (λ i. 0 + i + 1) p → member x visible ≡ false → Entry x
       go none ep e m = unknown e
@@ -153,8 +138,8 @@ module _ (names : List ℕ) (visible : List ℕ) (global : Global names) (knows 
           let w = position-front x i ins (map nameOf (n .outputs) ++ map nameOf (n .locals)) (ap (position x) (sym split) ∙ ep) in
           let long = length-map (n .inputs) nameOf in
           by-cases (decLt i inputs)
-          (λ low. sym (taken-input defined inputs (entryOf x) (omega (arith, e))) ∙ sym (member-front x ins visible m ∙ w .0 (omega arith)))
-          (λ no. taken-not defined inputs (entryOf x) (omega (arith, e)) (omega (arith, e)) (empty (entryOf x)) ∙ sym (member-front x ins visible m ∙ w .1 (omega arith)))
+          (λ low. sym (taken-input defined inputs (entryOf x) (omega (arith, e))) ∙ sym (member-either x ins visible m ∙ w .0 (omega arith)))
+          (λ no. taken-not defined inputs (entryOf x) (omega (arith, e)) (omega (arith, e)) (empty (entryOf x)) ∙ sym (member-either x ins visible m ∙ w .1 (omega arith)))
 
   agrees-next : (defined taken : List ℕ) (y : ℕ) → 113 ≤ length defined → (entryOf y ≡ 0 → ⊥) → Agrees defined taken → Agrees (set defined (entryOf y) 1) (y ∷ taken)
   agrees-next defined taken y room known agrees x declared =

@@ -20,7 +20,7 @@ use Rattle.ol_spec.specs.Limits.{base}
 use Rattle.ol_spec.specs.Within.{nameFits, equationFits}
 use Rattle.ol_spec.specs.Admission.{Item, first, firstIf, unseenItem, unseen, usedAt, used, callsWhere, shapeItem, arity, equationUses, inEquation, equationShape, definedBy}
 use Rattle.ol_spec.specs.Eval.{callees}
-use Rattle.ol_spec.specs.Step.{equationSites}
+use Rattle.ol_spec.specs.Step.{noEquation, equationSites}
 use Rattle.ol_spec.proofs.Cells.{length-bytes}
 use Rattle.ol_spec.proofs.RoundTrip.Parts.{here-inside}
 use Rattle.ol_spec.proofs.RoundTrip.Items.{equation-size}
@@ -264,9 +264,6 @@ module _ (s names : List ℕ) {enums at : ℕ} {q : Equation} (st : EquationStan
       names-held names (q .names) slots final (at + 1) (omega arith) (λ j lt. same j (omega arith) ∙ slots-below s names f mid j (omega arith)) (used p e) tail
 
 -- ---- so many equations
-
-noEquation : Equation
-noEquation = record { names = []; rhs = Rattle.ol_spec.specs.Syntax.boolLit false }
 
 -- what is left of a list of items, each of which gives items
 abbrev Left : {A : Type 0} → (ℕ × A → List Item) → (A → ℕ) → List A → ℕ → ℕ → List Item

@@ -4,7 +4,6 @@ use mathlib.Core.Bool.{Bool, true, false, not, _&&_, _||_, cond}
 use mathlib.Core.List.{List}
 use mathlib.Core.Path.{_≡_, refl, sym, ap, _∙_}
 use native.Mathlib.Omega.{arith}
-use native.Mathlib.Nat.{add-zero}
 use lib.ListN.{getD, set}
 use lib.Dec.{ltb, eqb}
 use borrow.Author.Tests.{lt-ltb, le-ltb, eq-eqb, ne-eqb}
@@ -24,13 +23,13 @@ may-other a b h g = rw (ne-eqb b 2 h, ne-eqb a 0 g) refl
 
 module _ (rows : List ℕ) (k c n : ℕ) where
   -- the kinds that two rows have
-  kinds-are : (x y : ℕ) (b : Bool) → x ≡ getD rows (k * 8) 0 → y ≡ getD rows (c * 8) 0 → b ≡ mayB x y → mayB (rowAt rows k 0) (rowAt rows c 0) ≡ b
-  kinds-are x y b ex ey eb = rw (add-zero (k * 8), add-zero (c * 8), ← ex, ← ey) (sym eb)
+  kinds-are : (x y : ℕ) (b : Bool) → x ≡ rowAt rows k 0 → y ≡ rowAt rows c 0 → b ≡ mayB x y → mayB (rowAt rows k 0) (rowAt rows c 0) ≡ b
+  kinds-are x y b ex ey eb = rw (← ex, ← ey) (sym eb)
 
-  pub bad-arity : (x y a : ℕ) (b : Bool) → c < k → x ≡ getD rows (k * 8) 0 → y ≡ getD rows (c * 8) 0 → b ≡ mayB x y → b ≡ true → a ≡ getD rows (c * 8 + 2) 0 → not (eqb n a) ≡ badB rows k c n
+  pub bad-arity : (x y a : ℕ) (b : Bool) → c < k → x ≡ rowAt rows k 0 → y ≡ rowAt rows c 0 → b ≡ mayB x y → b ≡ true → a ≡ rowAt rows c 2 → not (eqb n a) ≡ badB rows k c n
   bad-arity x y a b lt ex ey eb t ea = rw (lt-ltb c k lt, kinds-are x y b ex ey eb, t, ea) refl
 
-  pub bad-kind : (x y : ℕ) (b : Bool) → c < k → x ≡ getD rows (k * 8) 0 → y ≡ getD rows (c * 8) 0 → b ≡ mayB x y → b ≡ false → true ≡ badB rows k c n
+  pub bad-kind : (x y : ℕ) (b : Bool) → c < k → x ≡ rowAt rows k 0 → y ≡ rowAt rows c 0 → b ≡ mayB x y → b ≡ false → true ≡ badB rows k c n
   bad-kind x y b lt ex ey eb t = rw (lt-ltb c k lt, kinds-are x y b ex ey eb, t) refl
 
   pub bad-high : k ≤ c → true ≡ badB rows k c n

@@ -1,3 +1,4 @@
+pub mod Truths
 pub mod RowLoops
 pub mod HeadTests
 pub mod WalkLoop

@@ -5,7 +5,6 @@ use mathlib.Core.List.{List, [], _∷_, _++_, map, map-append}
 use mathlib.Core.Logic.{by-cases}
 use mathlib.Core.Path.{_≡_, refl, sym, ap, subst, _∙_}
 use native.Mathlib.Omega.{arith}
-use native.Mathlib.Nat.{add-zero}
 use native.Mathlib.Decide.{decLt}
 use lib.ListN.{length, getD, set, drop, replicate, length-append, List·getD-eq-default, drop-of-length-le}
 use lib.Seq.{drop-cons}
@@ -21,6 +20,7 @@ use Rattle.ol_spec.specs.Limits.{base}
 use Rattle.ol_spec.specs.Within.{variableFits, equationFits}
 use Rattle.ol_spec.specs.Admission.{calleeIn, badCall, mayCall, equationUses, inEquation, callsWhere, equationShape, Item, definedBy, nodeUses, nodeCalls, nodeShape, numbered}
 use Rattle.ol_spec.specs.Step.{sites}
+use Rattle.ol_spec.proofs.Admitted.{length-placed}
 use Rattle.ol_check.proofs.WalkLoop.{found-none, found-append}
 use Rattle.ol_tables.specs.At.{fileAt}
 use Rattle.ol_tables.specs.Tables.{rowAt, nodeOf, Each}
@@ -184,8 +184,8 @@ module _ {s rows : List ℕ} {nodes k : ℕ} (rd : NodeReady s rows nodes k) (st
       }
 
 -- the length of the node's records is stored
-pub size-stored : (rows : List ℕ) (k : ℕ) {rows′ : List ℕ} {kind size : ℕ} (z : ℕ) → kind ≡ getD rows (k * 8) 0 → size ≡ recordBy kind z → rows′ ≡ set rows (k * 8 + 6) size → rows′ ≡ set rows (k * 8 + 6) (recordBy (rowAt rows k 0) z)
-size-stored rows k {rows′} {kind} {size} z ek es er = er ∙ ap (set rows (k * 8 + 6)) (es ∙ ap (λ x. recordBy x z) (ek ∙ ap (λ n. getD rows n 0) (sym (add-zero (k * 8)))))
+pub size-stored : (rows : List ℕ) (k : ℕ) {rows′ : List ℕ} {kind size : ℕ} (z : ℕ) → kind ≡ rowAt rows k 0 → size ≡ recordBy kind z → rows′ ≡ set rows (k * 8 + 6) size → rows′ ≡ set rows (k * 8 + 6) (recordBy (rowAt rows k 0) z)
+size-stored rows k {rows′} {kind} {size} z ek es er = er ∙ ap (set rows (k * 8 + 6)) (es ∙ ap (λ x. recordBy x z) ek)
 
 -- entered and taken back
 pub node-back : {s rows : List ℕ} {nodes k : ℕ} → NodeReady s rows nodes k → FileStands s (fileAt s) → (names : List ℕ) {n₁ n₂ : List ℕ} → Global names → n₁ ≡ nodeTable names (nodeOf (fileAt s) k)
@@ -200,14 +200,10 @@ placed-get size d [] at k lt = absurd (omega arith)
 placed-get size d (x ∷ xs) at zero lt = refl
 placed-get size d (x ∷ xs) at (suc k) lt = placed-get size d xs (at + size x) k (omega arith)
 
-pub placed-length : {A : Type 0} (size : A → ℕ) (xs : List A) (at : ℕ) → length (placed size at xs) ≡ length xs
-placed-length size [] at = refl
-placed-length size (x ∷ xs) at = ap suc (placed-length size xs (at + size x))
-
 -- node k is the first of those that are left
 pub nodes-on : (f : File) (k : ℕ) → k < length (f .nodes) → drop k (placedNodes f) ≡ (placeIn f k, nodeOf f k) ∷ drop (k + 1) (placedNodes f)
 nodes-on f k lt =
-    drop-cons (placedNodes f) k (0, noNode) (omega (arith, placed-length nodeSize (f .nodes) (nodesStart f)))
+    drop-cons (placedNodes f) k (0, noNode) (omega (arith, length-placed nodeSize (nodesStart f) (f .nodes)))
     ∙ ap (λ x. x ∷ drop (suc k) (placedNodes f)) (placed-get nodeSize noNode (f .nodes) (nodesStart f) k lt)
     ∙ ap (λ n. (placeIn f k, nodeOf f k) ∷ drop n (placedNodes f)) (sym (add-one k))
 
@@ -245,7 +241,7 @@ module _ {s names : List ℕ} {f : File} {visible slots₀ : List ℕ} {g₀ : F
     pub nodes-judged : length (f .nodes) ≤ k → NodesJudged s names f visible slots₀ slots g₀ g
     unfolding slotNodes
     nodes-judged over =
-        let empty : drop k (placedNodes f) ≡ [] = drop-of-length-le (placedNodes f) {i = k} (omega (arith, placed-length nodeSize (f .nodes) (nodesStart f))) in
+        let empty : drop k (placedNodes f) ≡ [] = drop-of-length-le (placedNodes f) {i = k} (omega (arith, length-placed nodeSize (nodesStart f) (f .nodes))) in
         record {
           unseen = sym (found-none (placeOf (g .unseen))) ∙ ap (λ l. foundIn (placeOf (g .unseen)) (concat (map (nodeUses visible) l))) (sym empty) ∙ w .unseen;
           again = sym (found-none (placeOf (g .again))) ∙ ap (λ l. foundIn (placeOf (g .again)) (concat (map (nodeAgain names) l))) (sym empty) ∙ w .again;

@@ -14,6 +14,7 @@ use Rattle.ol_spec.specs.Syntax.{NodeKind, Function, Operator, Imported, Node, 
 use Rattle.ol_spec.specs.Places.{placedNodes, placed, nodeSize, nodesStart, mainPlace}
 use Rattle.ol_spec.specs.Encode.{kindCode}
 use Rattle.ol_spec.specs.Admission.{isOperator, atMain, fault14}
+use Rattle.ol_spec.proofs.Admitted.{length-placed}
 use Rattle.ol_tables.specs.At.{fileAt}
 use Rattle.ol_tables.specs.Tables.{rowAt, nodeOf}
 use Rattle.ol_tables.specs.Heads.{Byte}
@@ -37,10 +38,6 @@ last-place (p ∷ []) (suc k) e = absurd (omega arith)
 last-place (p ∷ q ∷ ps) zero e = absurd (omega arith)
 last-place (p ∷ q ∷ ps) (suc k) e = last-place (q ∷ ps) k (omega arith)
 
-placed-length : (xs : List Node) (at : ℕ) → length (placed nodeSize at xs) ≡ length xs
-placed-length [] at = refl
-placed-length (x ∷ xs) at = ap suc (placed-length xs (at + nodeSize x))
-
 operator-is : (a : NodeKind) → kindCode a ≡ 1 → isOperator a ≡ true
 operator-is Function e = absurd (omega arith)
 operator-is Operator e = refl
@@ -56,15 +53,15 @@ module _ {s rows : List ℕ} {nodes : ℕ} (rd : RowsReady s rows nodes) (some-n
   the-main = last-node (fileAt s .nodes) (nodes - 1) (omega (arith, rd .many))
 
   pub the-place : mainPlace (placedNodes (fileAt s)) ≡ placeIn (fileAt s) (nodes - 1)
-  the-place = last-place (placedNodes (fileAt s)) (nodes - 1) (omega (arith, rd .many, placed-length (fileAt s .nodes) (nodesStart (fileAt s))))
+  the-place = last-place (placedNodes (fileAt s)) (nodes - 1) (omega (arith, rd .many, length-placed nodeSize (nodesStart (fileAt s)) (fileAt s .nodes)))
 
-  kind-told : (x : ℕ) → x ≡ getD rows ((nodes - 1) * 8) 0 → x ≡ kindCode (main (fileAt s) .kind)
-  kind-told x e = e ∙ ap (λ n. getD rows n 0) (sym (add-zero ((nodes - 1) * 8))) ∙ rd .row (nodes - 1) (omega (arith, rd .many)) .kind ∙ ap (λ n. kindCode (n .kind)) (sym the-main)
+  kind-told : (x : ℕ) → x ≡ rowAt rows (nodes - 1) 0 → x ≡ kindCode (main (fileAt s) .kind)
+  kind-told x e = e ∙ rd .row (nodes - 1) (omega (arith, rd .many)) .kind ∙ ap (λ n. kindCode (n .kind)) (sym the-main)
 
-  pub main-operator : (x : ℕ) → x ≡ getD rows ((nodes - 1) * 8) 0 → x ≡ 1 → none ≡ fault14 (fileAt s)
+  pub main-operator : (x : ℕ) → x ≡ rowAt rows (nodes - 1) 0 → x ≡ 1 → none ≡ fault14 (fileAt s)
   main-operator x e one = ap (λ b. atMain (fileAt s) (not b)) (sym (operator-is (main (fileAt s) .kind) (sym (kind-told x e) ∙ one)))
 
-  pub main-other : (x p : ℕ) → x ≡ getD rows ((nodes - 1) * 8) 0 → (x ≡ 1 → ⊥) → p ≡ getD rows ((nodes - 1) * 8 + 7) 0 → some p ≡ fault14 (fileAt s)
+  pub main-other : (x p : ℕ) → x ≡ rowAt rows (nodes - 1) 0 → (x ≡ 1 → ⊥) → p ≡ rowAt rows (nodes - 1) 7 → some p ≡ fault14 (fileAt s)
   main-other x p e other ep =
       ap some (ep ∙ rd .row (nodes - 1) (omega (arith, rd .many)) .place ∙ sym the-place)
       ∙ ap (λ b. atMain (fileAt s) (not b)) (sym (operator-not (main (fileAt s) .kind) (λ q. other (kind-told x e ∙ q))))

@@ -5,8 +5,9 @@ use mathlib.Core.Path.{_≡_, refl, sym, ap, subst, _∙_}
 use native.Mathlib.Omega.{arith}
 use lib.ListN.{length, getD}
 use Rattle.ol_spec.specs.Lists.{sum}
-use Rattle.ol_spec.specs.Syntax.{boolLit, Equation, Node, File, noNode}
+use Rattle.ol_spec.specs.Syntax.{Equation, Node, File, noNode}
 use mathlib.Core.Bool.{false}
+use Rattle.ol_spec.specs.Step.{noEquation}
 use Rattle.ol_spec.specs.Places.{equationSize, nodeSize, placed, placedEquations, placedNodes, equationsStart, nodesStart}
 use Rattle.ol_spec.specs.Encode.{equationBytes, nodeBytes}
 use Rattle.ol_spec.specs.Limits.{base}
@@ -18,9 +19,6 @@ use Rattle.ol_tables.proofs.HeadsFile.{passing-start, passing-item, equation-st
 use Rattle.ol_check.specs.Judging.{SlotIs, namesIn, slotEquation, slotEquations}
 use Rattle.ol_check.specs.NodesJudged.{nodeTable, slotNodes}
 use Rattle.ol_check.proofs.EquationLaws.{equation-below, equation-length, equation-held}
-
-noEquation : Equation
-noEquation = record { names = []; rhs = boolLit false }
 
 -- the first of a list stands there, the others behind it
 equations-cons : (s : List ℕ) (enums at : ℕ) (q : Equation) (qs : List Equation) → Listed equationBytes (equationFits base enums) s at (q ∷ qs)

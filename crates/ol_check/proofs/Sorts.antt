@@ -16,6 +16,8 @@ use Rattle.ol_spec.specs.Admission.{first, firstIf, numbered, variants, constan
 use Rattle.ol_spec.specs.Admission.{placedVariableName, placedConstantName, enumDeclares, nodeDeclares, clashes, fault6}
 use Rattle.ol_tables.specs.Tables.{Each, nodeOf}
 use Rattle.ol_tables.proofs.Forms.{each-join}
+use Rattle.ol_check.proofs.Truths.{no-truth, never, or-split, or-behind, member-front, member-behind}
+use Rattle.ol_check.proofs.ClashFile.{as-append}
 use Rattle.ol_check.proofs.Definitions.{clean-step}
 
 -- variants, constants, variables
@@ -40,20 +42,12 @@ abbrev Seen : ℕ → ℕ → List Declared → Type 0
 Seen x n [] = ⊥
 Seen x n (d ∷ e) = ((d .name ≡ x) × (kindOf (d .sort) < n)) ⊎ Seen x n e
 
-or-true : (a b : Bool) → a || b ≡ true → (a ≡ true) ⊎ (b ≡ true)
-or-true true b e = inl refl
-or-true false b e = inr e
-
-or-right : (a b : Bool) → b ≡ true → a || b ≡ true
-or-right true b e = refl
-or-right false b e = e
-
 seen-clash : (x n : ℕ) (d : Declared) (e : List Declared) → d .name ≡ x → kindOf (d .sort) ≡ n → Seen x n e → anyOf (clash d) e ≡ true
 seen-clash x n d [] ex ek s = absurd s
 seen-clash x n d (u ∷ e) ex ek s =
     ⊎-elim
     (λ h. ap (λ b. b || anyOf (clash d) e) (ap (λ b. b && not (apart (d .sort) (u .sort))) (eq-eqb (d .name) (u .name) (ex ∙ sym (h .0))) ∙ ap not (apart-kinds (d .sort) (u .sort) (λ q. omega (arith, h .1)))))
-    (λ h. or-right (clash d u) (anyOf (clash d) e) (seen-clash x n d e ex ek h)) s
+    (λ h. or-behind (clash d u) (anyOf (clash d) e) (seen-clash x n d e ex ek h)) s
 
 -- so no later one of that kind declares it
 later : (x n : ℕ) (b e : List Declared) → Seen x n e → Each (λ d. kindOf (d .sort) ≡ n) b → first (clashes e b) ≡ none → member x (map (λ d. d .name) b) ≡ false
@@ -63,7 +57,7 @@ later x n (d ∷ b) e s k c =
     go (eqb x (d .name)) (λ t. eqb-true x (d .name) t) (w .0) (later x n b (d ∷ e) (inr s) (k .1) (w .1))
   where
     go : (q : Bool) → (q ≡ true → x ≡ d .name) → anyOf (clash d) e ≡ false → member x (map (λ u. u .name) b) ≡ false → q || member x (map (λ u. u .name) b) ≡ false
-    go true t f r = let h = seen-clash x n d e (sym (t refl)) (k .0) s in let z : _≡_ {A = ℕ} 0 1 = cc in absurd (omega arith)
+    go true t f r = absurd (no-truth (seen-clash x n d e (sym (t refl)) (k .0) s) f)
     go false t f r = r
 
 -- the earlier ones after a list
@@ -76,9 +70,9 @@ seen-after x n [] e s = s
 seen-after x n (d ∷ a) e s = seen-after x n a (d ∷ e) (inr s)
 
 member-seen : (x n : ℕ) (a e : List Declared) → Each (λ d. kindOf (d .sort) < n) a → member x (map (λ d. d .name) a) ≡ true → Seen x n (after a e)
-member-seen x n [] e k m = let z : _≡_ {A = ℕ} 0 1 = cc in absurd (omega arith)
+member-seen x n [] e k m = absurd (no-truth m refl)
 member-seen x n (d ∷ a) e k m =
-    ⊎-elim (λ t. seen-after x n a (d ∷ e) (inl (sym (eqb-true x (d .name) t), k .0))) (λ t. member-seen x n a (d ∷ e) (k .1) t) (or-true (eqb x (d .name)) (member x (map (λ u. u .name) a)) m)
+    ⊎-elim (λ t. seen-after x n a (d ∷ e) (inl (sym (eqb-true x (d .name) t), k .0))) (λ t. member-seen x n a (d ∷ e) (k .1) t) (or-split (eqb x (d .name)) (member x (map (λ u. u .name) a)) m)
 
 clean-after : (a b e : List Declared) → first (clashes e (a ++ b)) ≡ none → first (clashes (after a e) b) ≡ none
 clean-after [] b e c = c
@@ -93,14 +87,6 @@ pub two-sorts : (x n : ℕ) (a b : List Declared) → first (clashes [] (a ++ b)
 two-sorts x n a b c ka kb m = later x n b (after a []) (member-seen x n a [] ka m) kb (clean-after a b [] c)
 
 -- ---- the declarations of a file
-
-member-left : (x : ℕ) (a b : List ℕ) → member x a ≡ true → member x (a ++ b) ≡ true
-member-left x [] b m = let z : _≡_ {A = ℕ} 0 1 = cc in absurd (omega arith)
-member-left x (y ∷ a) b m = ⊎-elim (λ t. ap (λ q. q || member x (a ++ b)) t) (λ t. or-right (eqb x y) (member x (a ++ b)) (member-left x a b t)) (or-true (eqb x y) (member x a) m)
-
-member-right : (x : ℕ) (a b : List ℕ) → member x b ≡ true → member x (a ++ b) ≡ true
-member-right x [] b m = m
-member-right x (y ∷ a) b m = or-right (eqb x y) (member x (a ++ b)) (member-right x a b m)
 
 as-kind : (s : Sort) (P : Sort → Type 0) → P s → (ps : List (ℕ × ℕ)) → Each (λ d. P (d .sort)) (declaredAs s ps)
 as-kind s P h [] = tt
@@ -130,9 +116,8 @@ variable-names s at [] = refl
 variable-names s at (v ∷ vs) = ap (λ l. v .name ∷ l) (variable-names s (at + variableSize v) vs)
 
 -- the names of placed variables, one list behind the other
-as-append : (s : Sort) (a b : List (ℕ × Variable)) → map (λ d. d .name) (declaredAs s (map placedVariableName (a ++ b))) ≡ map (λ d. d .name) (declaredAs s (map placedVariableName a)) ++ map (λ d. d .name) (declaredAs s (map placedVariableName b))
-as-append s [] b = refl
-as-append s (p ∷ a) b = ap (λ l. p .1 .name ∷ l) (as-append s a b)
+names-append : (s : Sort) (a b : List (ℕ × Variable)) → map (λ d. d .name) (declaredAs s (map placedVariableName (a ++ b))) ≡ map (λ d. d .name) (declaredAs s (map placedVariableName a)) ++ map (λ d. d .name) (declaredAs s (map placedVariableName b))
+names-append s a b = ap (map (λ d. d .name)) (as-append s a b) ∙ map-append (λ d. d .name) (declaredAs s (map placedVariableName a)) (declaredAs s (map placedVariableName b))
 
 three-names : (s : Sort) (x y z : ℕ) (is os ls : List Variable)
     → map (λ d. d .name) (declaredAs s (map placedVariableName (placed variableSize x is ++ placed variableSize y os ++ placed variableSize z ls))) ≡ map nameOf (is ++ os ++ ls)
@@ -141,8 +126,8 @@ three-names s x y z is os ls =
     let b = placed variableSize y os in
     let c = placed variableSize z ls in
     let two : map (λ d. d .name) (declaredAs s (map placedVariableName (a ++ b))) ≡ map nameOf (is ++ os) =
-    as-append s a b ∙ ap (λ l. l ++ map (λ d. d .name) (declaredAs s (map placedVariableName b))) (variable-names s x is) ∙ ap (λ l. map nameOf is ++ l) (variable-names s y os) ∙ sym (map-append nameOf is os) in
-    as-append s (a ++ b) c ∙ ap (λ l. l ++ map (λ d. d .name) (declaredAs s (map placedVariableName c))) two ∙ ap (λ l. map nameOf (is ++ os) ++ l) (variable-names s z ls) ∙ sym (map-append nameOf (is ++ os) ls)
+    names-append s a b ∙ ap (λ l. l ++ map (λ d. d .name) (declaredAs s (map placedVariableName b))) (variable-names s x is) ∙ ap (λ l. map nameOf is ++ l) (variable-names s y os) ∙ sym (map-append nameOf is os) in
+    names-append s (a ++ b) c ∙ ap (λ l. l ++ map (λ d. d .name) (declaredAs s (map placedVariableName c))) two ∙ ap (λ l. map nameOf (is ++ os) ++ l) (variable-names s z ls) ∙ sym (map-append nameOf (is ++ os) ls)
 
 node-names : (i at : ℕ) (n : Node) → map (λ d. d .name) (nodeDeclares (i, (at, n))) ≡ variableNames n
 node-names i at n = three-names (variable i) _ _ _ (n .inputs) (n .outputs) (n .locals)
@@ -156,18 +141,11 @@ node-member x i at [] k lt m = absurd (omega arith)
 node-member x i at (n ∷ ns) zero lt m =
     let rest = concat (map nodeDeclares (numbered (suc i) (placed nodeSize (at + nodeSize n) ns))) in
     ap (member x) (map-append (λ d. d .name) (nodeDeclares (i, (at, n))) rest)
-    ∙ member-left x (map (λ d. d .name) (nodeDeclares (i, (at, n)))) (map (λ d. d .name) rest) (ap (member x) (node-names i at n) ∙ m)
+    ∙ member-front x (map (λ d. d .name) (nodeDeclares (i, (at, n)))) (map (λ d. d .name) rest) (ap (member x) (node-names i at n) ∙ m)
 node-member x i at (n ∷ ns) (suc k) lt m =
     let rest = concat (map nodeDeclares (numbered (suc i) (placed nodeSize (at + nodeSize n) ns))) in
     ap (member x) (map-append (λ d. d .name) (nodeDeclares (i, (at, n))) rest)
-    ∙ member-right x (map (λ d. d .name) (nodeDeclares (i, (at, n)))) (map (λ d. d .name) rest) (node-member x (suc i) (at + nodeSize n) ns k (omega arith) m)
-
-never-both : (b : Bool) → (b ≡ true → ⊥) → b ≡ false
-never-both true h = absurd (h refl)
-never-both false h = refl
-
-clear : {b : Bool} → b ≡ true → b ≡ false → ⊥
-clear t f = let z : _≡_ {A = ℕ} 0 1 = cc in omega arith
+    ∙ member-behind x (map (λ d. d .name) (nodeDeclares (i, (at, n)))) (map (λ d. d .name) rest) (node-member x (suc i) (at + nodeSize n) ns k (omega arith) m)
 
 module _ (f : File) (no6 : fault6 f ≡ none) where
   abbrev enumsD : List Declared
@@ -186,7 +164,7 @@ module _ (f : File) (no6 : fault6 f ≡ none) where
   -- a constant is no variant
   pub constants-apart : (x : ℕ) → member x (constantNames f) ≡ true → member x (variants f) ≡ false
   constants-apart x m =
-      never-both (member x (variants f)) (λ t. clear (ap (member x) (constant-names _ (f .constants)) ∙ m)
+      never (member x (variants f)) (λ t. no-truth (ap (member x) (constant-names _ (f .constants)) ∙ m)
       (two-sorts x 1 enumsD constantsD (clean-front (enumsD ++ constantsD) nodesD [] clean) (enum-kinds (λ s. kindOf s < 1) (λ i. omega arith) 0 2 (f .enums)) (as-kind constant (λ s. kindOf s ≡ 1) refl (map placedConstantName (placedConstants f)))
       (ap (member x) (enum-names 0 2 (f .enums)) ∙ t)))
 
@@ -196,7 +174,7 @@ module _ (f : File) (no6 : fault6 f ≡ none) where
       let here = node-member x 0 _ (f .nodes) k lt m in
       let low : Each (λ d. kindOf (d .sort) < 2) (enumsD ++ constantsD) =
       each-join (λ d. kindOf (d .sort) < 2) enumsD constantsD (enum-kinds (λ s. kindOf s < 2) (λ i. omega arith) 0 2 (f .enums)) (as-kind constant (λ s. kindOf s < 2) (omega arith) (map placedConstantName (placedConstants f))) in
-      let not-there : member x (map (λ d. d .name) (enumsD ++ constantsD)) ≡ true → ⊥ = λ t. clear here (two-sorts x 2 (enumsD ++ constantsD) nodesD clean low (node-kinds 0 _ (f .nodes)) t) in (
-        never-both (member x (constantNames f)) (λ t. not-there (ap (member x) (map-append (λ d. d .name) enumsD constantsD) ∙ member-right x (map (λ d. d .name) enumsD) _ (ap (member x) (constant-names _ (f .constants)) ∙ t))),
-        never-both (member x (variants f)) (λ t. not-there (ap (member x) (map-append (λ d. d .name) enumsD constantsD) ∙ member-left x (map (λ d. d .name) enumsD) _ (ap (member x) (enum-names 0 2 (f .enums)) ∙ t))),
+      let not-there : member x (map (λ d. d .name) (enumsD ++ constantsD)) ≡ true → ⊥ = λ t. no-truth here (two-sorts x 2 (enumsD ++ constantsD) nodesD clean low (node-kinds 0 _ (f .nodes)) t) in (
+        never (member x (constantNames f)) (λ t. not-there (ap (member x) (map-append (λ d. d .name) enumsD constantsD) ∙ member-behind x (map (λ d. d .name) enumsD) _ (ap (member x) (constant-names _ (f .constants)) ∙ t))),
+        never (member x (variants f)) (λ t. not-there (ap (member x) (map-append (λ d. d .name) enumsD constantsD) ∙ member-front x (map (λ d. d .name) enumsD) _ (ap (member x) (enum-names 0 2 (f .enums)) ∙ t))),
       )

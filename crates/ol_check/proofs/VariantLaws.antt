@@ -1,6 +1,6 @@
 -- The table of variants: what is left to be entered, and what the table tells in the end.
 use Prim.Native.Nat.{ℕ, zero, _+_, _*_, _≤_, _<_}
-use mathlib.Core.Bool.{Bool, true, false, _||_}
+use mathlib.Core.Bool.{Bool, _||_, or-true, or-false}
 use mathlib.Core.List.{List, [], _∷_, _++_}
 use mathlib.Core.Path.{_≡_, refl, sym, ap, subst, _∙_}
 use native.Mathlib.Omega.{arith}
@@ -37,14 +37,6 @@ enter-append table [] ys = refl
 enter-append table (x ∷ xs) ys = enter-append (set table x 1) xs ys
 
 -- ---- what the table tells
-
-or-true : (a : Bool) → a || true ≡ true
-or-true true = refl
-or-true false = refl
-
-or-false : (a : Bool) → a || false ≡ a
-or-false true = refl
-or-false false = refl
 
 entered : (x : ℕ) (table xs : List ℕ) → Each (λ y. y < length table) xs → eqb (getD (enterAll table xs) x 0) 1 ≡ member x xs || eqb (getD table x 0) 1
 unfolding enterAll

@@ -1,10 +1,11 @@
 -- What the builders of rows and types leave behind: for items that stand in the file, and what stays as it was.
 use Prim.Native.Nat.{ℕ, _+_, _*_, _≤_, _<_}
+use mathlib.Core.Bool.{false}
 use mathlib.Core.List.{List, [], _∷_, map}
 use mathlib.Core.Path.{_≡_}
 use lib.ListN.{length, getD, set}
 use Rattle.ol_spec.specs.Lists.{sum}
-use Rattle.ol_spec.specs.Syntax.{Ty, bool, Variable, Node, File, variables}
+use Rattle.ol_spec.specs.Syntax.{Ty, bool, boolLit, Variable, Constant, Node, File, variables}
 use Rattle.ol_spec.specs.Places.{enumSize, variableSize, equationsStart, placedNodes, constantsStart, nodesStart}
 use Rattle.ol_spec.specs.Encode.{kindCode, nameBytes, sectionBytes, variableBytes}
 use Rattle.ol_spec.specs.Limits.{base}
@@ -41,6 +42,9 @@ pub record TypeAt (types : List ℕ) (i : ℕ) (t : Ty) : Type 0 where
 
 abbrev pub noVariable : Variable
 noVariable = record { name = 0; ty = bool }
+
+abbrev pub noConstant : Constant
+noConstant = record { name = 0; ty = bool; value = boolLit false }
 
 pub record VariablesAre (vs : List Variable) (types : List ℕ) (first at r : ℕ) : Type 0 where
   pub ends : r ≡ at + sum (map variableSize vs)

@@ -4,13 +4,12 @@ use super::Found;
 use super::earlier;
 use super::rows::Sections;
 use ol_tables::bytes::byte;
-use ol_tables::bytes::entry;
 use ol_tables::bytes::name;
 use ol_tables::bytes::put_byte;
 use ol_tables::heads::skip;
 use ol_tables::heads::ty_size;
-use ol_tables::tables::COLUMNS;
 use ol_tables::tables::PLACE;
+use ol_tables::tables::row;
 ghost use mathlib.Core.Path.{_≡_};
 ghost use mathlib.Core.Bool.{true, _&&_};
 ghost use mathlib.Core.List.{List, map, [], _∷_};
@@ -207,7 +206,7 @@ fn sort_node(
     requires { ⌜ NodeReady (now file) (now rows) nodes k ⌝ }
     ensures { λ r. ⌜ Walks (nodeDeclares (k, (placeIn (fileAt (now (file .entry))) k, nodeOf (fileAt (now (file .entry))) k))) (now (sorts .entry)) (now (sorts .exit)) g r ⌝ }
 {
-    let at = entry(rows, k * COLUMNS + PLACE);
+    let at = row(rows, k, PLACE);
     let found = g.found;
     let low = g.low;
     let o = sort_variables(

@@ -4,13 +4,13 @@ use super::earlier;
 use super::size::capped;
 use super::size::site;
 use ol_tables::bytes::byte;
-use ol_tables::bytes::entry;
 use ol_tables::bytes::name;
 use ol_tables::bytes::put_byte;
 use ol_tables::heads::head;
-use ol_tables::tables::COLUMNS;
 use ol_tables::tables::INPUTS;
+use ol_tables::tables::KIND;
 use ol_tables::tables::OUTPUTS;
+use ol_tables::tables::row;
 ghost use mathlib.Core.Path.{_≡_};
 ghost use Prim.Native.Nat.{ℕ, _≤_, _<_, _+_, _*_};
 ghost use lib.ListN.{length};
@@ -94,8 +94,8 @@ fn bad_call(rows: &[usize], node: usize, c: usize, arguments: usize) -> bool
     ensures { λ r. ⌜ r ≡ badB (now (rows .entry)) node c arguments ⌝ }
 {
     if c < node {
-        if may_call(entry(rows, node * COLUMNS), entry(rows, c * COLUMNS)) {
-            arguments != entry(rows, c * COLUMNS + INPUTS)
+        if may_call(row(rows, node, KIND), row(rows, c, KIND)) {
+            arguments != row(rows, c, INPUTS)
         } else {
             true
         }
@@ -136,11 +136,7 @@ fn outputs(rows: &[usize], nodes: usize, c: usize) -> usize
     requires { ⌜ c < 256 ⌝ }
     ensures { λ r. ⌜ r ≡ outputsB (now (rows .entry)) nodes c ⌝ }
 {
-    if c < nodes {
-        entry(rows, c * COLUMNS + OUTPUTS)
-    } else {
-        0
-    }
+    if c < nodes { row(rows, c, OUTPUTS) } else { 0 }
 }
 
 // So many expressions of node `node`, one after the other from where the walk stands.

@@ -5,16 +5,17 @@ use super::names::declare_variables;
 use super::names::forget_variables;
 use super::size::record_size;
 use ol_tables::bytes::byte;
-use ol_tables::bytes::entry;
 use ol_tables::bytes::put;
 use ol_tables::tables::COLUMNS;
 use ol_tables::tables::COUNT;
 use ol_tables::tables::EQUATIONS;
 use ol_tables::tables::INPUTS;
+use ol_tables::tables::KIND;
 use ol_tables::tables::OUTPUTS;
 use ol_tables::tables::PLACE;
 use ol_tables::tables::SIZE;
 use ol_tables::tables::VARIABLES;
+use ol_tables::tables::row;
 ghost use mathlib.Core.Path.{_≡_};
 ghost use mathlib.Core.List.{List, map};
 ghost use Prim.Native.Nat.{ℕ, _<_, _+_, _*_};
@@ -33,9 +34,9 @@ fn declare_node(file: &[u8], names: &mut [u8], rows: &[usize], nodes: usize, k: 
     requires { ⌜ NodeReady (now file) (now rows) nodes k ⌝ }
     ensures { λ r. ⌜ now (names .exit) ≡ nodeTable (now (names .entry)) (nodeOf (fileAt (now (file .entry))) k) ⌝ }
 {
-    let at = entry(rows, k * COLUMNS + PLACE);
-    let inputs = entry(rows, k * COLUMNS + INPUTS);
-    let outputs = entry(rows, k * COLUMNS + OUTPUTS);
+    let at = row(rows, k, PLACE);
+    let inputs = row(rows, k, INPUTS);
+    let outputs = row(rows, k, OUTPUTS);
     let o = declare_variables(file, names, 0, inputs, at + 2);
     let l = declare_variables(file, names, inputs, outputs, o + 1);
     let locals = byte(file, l);
@@ -47,9 +48,9 @@ fn forget_node(file: &[u8], names: &mut [u8], rows: &[usize], nodes: usize, k: u
     requires { ⌜ NodeReady (now file) (now rows) nodes k ⌝ }
     ensures { λ r. ⌜ now (names .exit) ≡ forgetAll (now (names .entry)) (map nameOf (variables (nodeOf (fileAt (now (file .entry))) k))) ⌝ }
 {
-    let at = entry(rows, k * COLUMNS + PLACE);
-    let inputs = entry(rows, k * COLUMNS + INPUTS);
-    let outputs = entry(rows, k * COLUMNS + OUTPUTS);
+    let at = row(rows, k, PLACE);
+    let inputs = row(rows, k, INPUTS);
+    let outputs = row(rows, k, OUTPUTS);
     let o = forget_variables(file, names, inputs, at + 2);
     let l = forget_variables(file, names, outputs, o + 1);
     let locals = byte(file, l);
@@ -83,19 +84,19 @@ fn node(
         rows,
         nodes,
         k,
-        entry(rows, k * COLUMNS + INPUTS),
-        entry(rows, k * COLUMNS + COUNT),
+        row(rows, k, INPUTS),
+        row(rows, k, COUNT),
         Faults {
             unseen,
             again,
             called,
             shaped,
-            size: 1 + 9 * entry(rows, k * COLUMNS + VARIABLES),
-            next: entry(rows, k * COLUMNS + EQUATIONS),
+            size: 1 + 9 * row(rows, k, VARIABLES),
+            next: row(rows, k, EQUATIONS),
         },
     );
     forget_node(file, names, rows, nodes, k);
-    let size = record_size(entry(rows, k * COLUMNS), r.size);
+    let size = record_size(row(rows, k, KIND), r.size);
     put(rows, k * COLUMNS + SIZE, size);
     r
 }

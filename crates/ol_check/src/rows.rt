@@ -6,6 +6,7 @@ use ol_tables::bytes::put;
 use ol_tables::bytes::put_byte;
 use ol_tables::heads::ty_size;
 use ol_tables::tables::COLUMNS;
+use ol_tables::tables::FIRSTS;
 use ol_tables::tables::MOST_VARIABLES;
 ghost use mathlib.Core.Path.{_≡_};
 ghost use mathlib.Core.List.{[], _∷_};
@@ -34,7 +35,7 @@ fn enum_rows(file: &[u8], rows: &mut [usize], count: usize, at: usize) -> usize
         if file.len() <= next {
             return next;
         }
-        put(rows, 256 + e, name(file, next + 1));
+        put(rows, FIRSTS + e, name(file, next + 1));
         next = names_end(file, next);
         e += 1;
     }

@@ -1,10 +1,10 @@
 // Faults 13 and 14, and the lengths of records.
 use super::Found;
 use ol_tables::bytes::byte;
-use ol_tables::bytes::entry;
-use ol_tables::tables::COLUMNS;
+use ol_tables::tables::KIND;
 use ol_tables::tables::PLACE;
 use ol_tables::tables::SIZE;
+use ol_tables::tables::row;
 ghost use mathlib.Core.Path.{_≡_};
 ghost use Prim.Native.Nat.{_≤_, _<_, _+_, min};
 ghost use lib.ListN.{length};
@@ -23,10 +23,10 @@ pub fn not_operator(file: &[u8], rows: &[usize], nodes: usize) -> Found
     ensures { λ r. ⌜ placeOf r ≡ fault14 (fileAt (now (file .entry))) ⌝ }
 {
     let k = nodes - 1;
-    if entry(rows, k * COLUMNS) == 1 {
+    if row(rows, k, KIND) == 1 {
         Found::Nothing
     } else {
-        Found::At(entry(rows, k * COLUMNS + PLACE))
+        Found::At(row(rows, k, PLACE))
     }
 }
 
@@ -48,11 +48,7 @@ pub(crate) fn site(file: &[u8], rows: &[usize], nodes: usize, at: usize) -> usiz
 {
     if byte(file, at) == 11 {
         let c = byte(file, at + 1);
-        if c < nodes {
-            entry(rows, c * COLUMNS + SIZE)
-        } else {
-            0
-        }
+        if c < nodes { row(rows, c, SIZE) } else { 0 }
     } else {
         0
     }

@@ -5,49 +5,34 @@ use Rattle.ol_check.proofs.size.not_operator.Statement.{statement}
 use Rattle.ol_check.proofs.size.not_operator.Tie as tie
 use Rattle.ol_check.proofs.size.not_operator.Reads as reads
 use Rattle.ol_check.proofs.size.not_operator.Lts as lts
-use Rattle.ol_tables.proofs.bytes.entry.Reads as entry-reads
+use Rattle.ol_tables.proofs.tables.row.Reads as row-reads
 
 -- src/size.rt:27:13
 sub-k : tie.Need-sub-k
 sub-k c = c .before .before .pre .1
 
--- src/size.rt:28:20
-mul-entry : tie.Need-mul-entry
-mul-entry c = omega (arith, c .before .before .pre .0 .few)
-
 -- src/size.rt:28:8
-entry-requires : tie.Need-entry-requires
-entry-requires c κs = search needs
-
--- src/size.rt:31:31
-mul-entry-2 : tie.Need-mul-entry-2
-mul-entry-2 c = omega (arith, c .before .before .before .before .pre .0 .few)
-
--- src/size.rt:31:31
-add-entry : tie.Need-add-entry
-add-entry c = omega (arith, c .before .before .before .before .pre .0 .few)
+row-requires : tie.Need-row-requires
+row-requires c κs = search needs
 
 -- src/size.rt:31:19
-entry-requires-2 : tie.Need-entry-requires-2
-entry-requires-2 c κs = search needs
+row-requires-2 : tie.Need-row-requires-2
+row-requires-2 c κs = search needs
 
 -- src/size.rt:23:1
 returns : tie.Need-returns
-returns c = main-operator (c .before .before .before .before .pre .0) (c .before .before .before .before .pre .1) _ (c .before .entry .ensures) (c .if1 .taken)
+returns c = main-operator (c .before .before .before .before .pre .0) (c .before .before .before .before .pre .1) _ (c .before .row .ensures) (c .if1 .taken)
 
 -- src/size.rt:23:1
 returns-2 : tie.Need-returns-2
-returns-2 c = main-other (c .before .before .before .before .before .pre .0) (c .before .before .before .before .before .pre .1) _ _ (c .before .before .entry .ensures) (c .before .if1 .left) (c .entry2 .ensures)
+returns-2 c = main-other (c .before .before .before .before .before .pre .0) (c .before .before .before .before .before .pre .1) _ _ (c .before .before .row .ensures) (c .before .if1 .left) (c .row2 .ensures)
 
 pub not-operator-spec : {M : Type 1} → statement M
 not-operator-spec =
     tie.close
     (tie.spec
     sub-k
-    mul-entry
-    entry-requires
-    mul-entry-2
-    add-entry
-    entry-requires-2
+    row-requires
+    row-requires-2
     returns
     returns-2)

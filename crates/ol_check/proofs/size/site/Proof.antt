@@ -6,7 +6,7 @@ use Rattle.ol_check.proofs.size.site.Tie as tie
 use Rattle.ol_check.proofs.size.site.Reads as reads
 use Rattle.ol_check.proofs.size.site.Lts as lts
 use Rattle.ol_tables.proofs.bytes.byte.Reads as byte-reads
-use Rattle.ol_tables.proofs.bytes.entry.Reads as entry-reads
+use Rattle.ol_tables.proofs.tables.row.Reads as row-reads
 
 -- src/size.rt:51:8
 byte-requires : tie.Need-byte-requires
@@ -20,21 +20,13 @@ add-byte c = search needs
 byte-requires-2 : tie.Need-byte-requires-2
 byte-requires-2 c κs = search needs
 
--- src/size.rt:53:36
-mul-entry : tie.Need-mul-entry
-mul-entry c = omega (arith, c .before .byte2 .ensures .small)
-
--- src/size.rt:53:36
-add-entry : tie.Need-add-entry
-add-entry c = omega (arith, c .before .byte2 .ensures .small)
-
 -- src/size.rt:53:24
-entry-requires : tie.Need-entry-requires
-entry-requires c κs = search needs
+row-requires : tie.Need-row-requires
+row-requires c κs = search needs
 
 -- src/size.rt:47:1
 returns : tie.Need-returns
-returns c = site-call _ (c .before .before .before .before .before .before .before .args .rows .now) _ _ _ (c .before .before .before .before .byte .ensures) _ _ (c .before .before .before .if1 .taken) (c .before .before .byte2 .ensures) (c .before .if2 .taken) (c .entry .ensures)
+returns c = site-call _ (c .before .before .before .before .before .before .before .args .rows .now) _ _ _ (c .before .before .before .before .byte .ensures) _ _ (c .before .before .before .if1 .taken) (c .before .before .byte2 .ensures) (c .before .if2 .taken) (c .row .ensures)
 
 -- src/size.rt:47:1
 returns-2 : tie.Need-returns-2
@@ -51,9 +43,7 @@ site-spec =
     byte-requires
     add-byte
     byte-requires-2
-    mul-entry
-    add-entry
-    entry-requires
+    row-requires
     returns
     returns-2
     returns-3)
