@@ -1,35 +1,29 @@
 -- A whole file: variants, constants, nodes.
 use Prim.Native.Nat.{ℕ, _+_, _-_, _*_, _≤_, _<_}
 use mathlib.Core.Bool.{Bool, true, false, cond}
-use mathlib.Core.List.{List, [], _∷_, _++_, map, map-append}
+use mathlib.Core.List.{List, [], _∷_, _++_, map}
 use mathlib.Core.Option.{none}
 use mathlib.Core.Logic.{by-cases}
 use mathlib.Core.Path.{_≡_, refl, sym, ap, subst, _∙_}
 use native.Mathlib.Omega.{arith}
-use native.Mathlib.Numerals.{add-one}
 use native.Mathlib.Decide.{decLe}
-use lib.ListN.{length, getD, set, drop, drop-of-length-le}
-use lib.Seq.{drop-cons, getD-set-same, getD-set-other, set-out}
+use lib.ListN.{length, getD, set}
+use lib.Seq.{getD-set-same, getD-set-other, set-out}
 use lib.Dec.{eqb}
 use Rattle.ol_spec.specs.Lists.{concat, sum}
 use Rattle.ol_spec.specs.Syntax.{Constant, File, constantName}
-use Rattle.ol_spec.specs.Places.{enumSize, constantSize, constantsStart, placed, placedConstants, placedNodes}
-use Rattle.ol_spec.specs.Encode.{nameBytes, sectionBytes, constantBytes}
+use Rattle.ol_spec.specs.Places.{constantSize, constantsStart, placed, placedConstants, placedNodes}
+use Rattle.ol_spec.specs.Encode.{constantBytes}
 use Rattle.ol_spec.specs.Limits.{base}
-use Rattle.ol_spec.specs.Within.{enumFits, countFits, constantFits}
+use Rattle.ol_spec.specs.Within.{constantFits}
 use Rattle.ol_spec.specs.Admission.{first, variants, constantNames, constantUses, nodeUses, nodeCalls, nodeShape, inConstant, callsWhere, shapeItem, numbered, fault7, fault8, fault9, fault10}
-use Rattle.ol_spec.proofs.Tests.{T-and}
 use Rattle.ol_spec.proofs.Walks.{first-append}
-use Rattle.ol_spec.proofs.RoundTrip.Parts.{here-inside, here-back}
-use Rattle.ol_spec.proofs.RoundTrip.Items.{names-size}
 use Rattle.ol_tables.specs.At.{fileAt}
 use Rattle.ol_tables.specs.Tables.{Each}
-use Rattle.ol_tables.specs.Stands.{Listed, Names, FileStands}
-use Rattle.ol_tables.proofs.HeadLaws.{here-first}
-use Rattle.ol_tables.proofs.HeadsFile.{Passing, Item as PassedItem, passing-start, passing-item}
+use Rattle.ol_tables.specs.Stands.{Listed, FileStands}
 use Rattle.ol_check.specs.Founds.{placeOf}
 use Rattle.ol_tables.specs.Heads.{Byte}
-use Rattle.ol_check.specs.RowsDone.{Enums}
+use Rattle.ol_check.specs.Spans.{variantsFrom}
 use Rattle.ol_check.specs.Entries.{declared, declareAll, variantEntry, constantEntries, Global}
 use Rattle.ol_check.specs.Judging.{foundIn, Knows}
 use Rattle.ol_check.specs.NodesJudged.{RowsReady, nodeAgain, NodesJudged, slotNodes}
@@ -38,44 +32,10 @@ use Rattle.ol_check.specs.Sizes.{NodesSized}
 use Rattle.ol_check.specs.FileJudged.{FileReady, NamesWithin, variantTable, globalTable, FileJudged}
 use Rattle.ol_check.specs.declared.Faults.{Faults}
 use Rattle.ol_check.specs.declared.rows.Sections.{Sections}
-use Rattle.ol_check.proofs.EntryLaws.{declare-append, Enterable, knows-all, declare-length}
+use Rattle.ol_check.proofs.EntryLoops.{enums-told}
+use Rattle.ol_check.proofs.EntryLaws.{Enterable, knows-all, declare-length}
 use Rattle.ol_check.proofs.NodeLaws.{outputs-told, ready-at}
 use Rattle.ol_check.proofs.Definitions.{nodes-defined}
-
--- ---- the variants of the enums
-
-pub record EnumsGoing (s : List ℕ) (es : List (List ℕ)) (names₀ names : List ℕ) (at i next : ℕ) : Type 0 where
-  pub passing : Passing (sectionBytes nameBytes) (enumFits base) enumSize s at es i next
-  pub entered : declareAll names (map variantEntry (concat (drop i es))) ≡ declareAll names₀ (map variantEntry (concat es))
-
-module _ {s : List ℕ} {es : List (List ℕ)} {names₀ : List ℕ} {at : ℕ} where
-  pub enums-start : Enums s at es → EnumsGoing s es names₀ names₀ at 0 at
-  enums-start h = record { passing = passing-start (sectionBytes nameBytes) (enumFits base) enumSize h; entered = refl }
-
-  module _ {names : List ℕ} {i next : ℕ} (g : EnumsGoing s es names₀ names at i next) where
-    enum-at : i < length es → PassedItem (sectionBytes nameBytes) (enumFits base) enumSize s at es i next (getD es i [])
-    enum-at lt = passing-item names-size [] (g .passing) lt
-
-    pub enums-cut : i < length es → length s ≤ next → ⊥
-    enums-cut lt out = omega (arith, here-inside (enum-at lt .here) (omega (arith, names-size (getD es i []))), names-size (getD es i []))
-
-    pub enums-turn : i < length es → (n r : ℕ) (names′ : List ℕ) → Byte s next n → r ≡ next + 1 + 2 * getD s next 0
-        → ((xs : List ℕ) → length xs ≡ n → Names s 0 (next + 1) xs → names′ ≡ declareAll names (map variantEntry xs)) → EnumsGoing s es names₀ names′ at (i + 1) r
-    enums-turn lt n r names′ b er h =
-        let it = enum-at lt in
-        let vs = getD es i [] in
-        let many = here-first (length vs) _ (it .here) in
-        let w = h vs (sym (b .is ∙ many)) (record { here = here-back (length vs ∷ []) _ (it .here); fit = T-and (countFits 1 32 (length vs)) _ (it .fit) .1 }) in
-        record {
-          passing = subst (Passing (sectionBytes nameBytes) (enumFits base) enumSize s at es (i + 1)) (omega (arith, er, many)) (it .on);
-          entered = ap (λ l. declareAll l (map variantEntry (concat (drop (i + 1) es)))) w ∙ sym (declare-append names (map variantEntry vs) (map variantEntry (concat (drop (i + 1) es))))
-              ∙ ap (declareAll names) (sym (map-append variantEntry vs (concat (drop (i + 1) es)))) ∙ ap (λ m. declareAll names (map variantEntry (vs ++ concat (drop m es)))) (add-one i)
-              ∙ ap (λ l. declareAll names (map variantEntry (concat l))) (sym (drop-cons es i [] lt)) ∙ g .entered;
-        }
-
-    pub enums-done : length es ≤ i → names ≡ declareAll names₀ (map variantEntry (concat es))
-    unfolding declareAll
-    enums-done over = ap (λ l. declareAll names (map variantEntry (concat l))) (sym (drop-of-length-le es over)) ∙ g .entered
 
 -- ---- the table outside the nodes
 
@@ -152,9 +112,9 @@ module _ {s rows names : List ℕ} {at : Sections} (rd : FileReady s rows names 
   enum-count b = sym (b .is ∙ st .enumCount)
 
   module _ {nodes ec cc : ℕ} {names₁ : List ℕ} (nb : Byte s (at .nodes) nodes) (eb : Byte s 1 ec) (cb : Byte s (at .constants) cc)
-      (entered : (es : List (List ℕ)) → length es ≡ ec → Enums s 2 es → names₁ ≡ declareAll names (map variantEntry (concat es))) where
+      (entered : names₁ ≡ declareAll names (map variantEntry (variantsFrom s ec 2))) where
     pub table-is : names₁ ≡ variantTable names (fileAt s)
-    table-is = entered (fileAt s .enums) (enum-count eb) (st .enums)
+    table-is = enums-told s names entered (fileAt s .enums) (enum-count eb) (st .enums)
 
     constants-ready : ConstantsReady s names₁ rows nodes (fileAt s) (variants (fileAt s)) (length (fileAt s .enums)) (at .constants + 1) (fileAt s .constants)
     constants-ready =

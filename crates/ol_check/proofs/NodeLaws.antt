@@ -22,6 +22,7 @@ use Rattle.ol_spec.specs.Admission.{calleeIn, badCall, mayCall, equationUses, i
 use Rattle.ol_spec.specs.Step.{sites}
 use Rattle.ol_spec.proofs.Admitted.{length-placed}
 use Rattle.ol_check.proofs.WalkLoop.{found-none, found-append}
+use Rattle.ol_check.proofs.EntryLoops.{Entered, Forgotten}
 use Rattle.ol_tables.specs.At.{fileAt}
 use Rattle.ol_tables.specs.Tables.{rowAt, nodeOf, Each}
 use Rattle.ol_tables.specs.Stands.{Listed, Variables, Equations, NodeStands, FileStands}
@@ -30,7 +31,7 @@ use Rattle.ol_check.specs.Founds.{placeOf}
 use Rattle.ol_tables.specs.Heads.{Byte}
 use Rattle.ol_check.specs.RowsDone.{NodeRow}
 use Rattle.ol_check.specs.Records.{calleeB, recordBy}
-use Rattle.ol_check.specs.Entries.{declareAll, forgetAll, variableEntries, VariablesEntered, VariablesForgotten, Global}
+use Rattle.ol_check.specs.Entries.{declareAll, forgetAll, variableEntries, Global}
 use Rattle.ol_check.specs.Judging.{mayB, badB, outputsB, Knows, Context, EquationsJudged, foundIn, slotEquations, againB}
 use Rattle.ol_check.specs.NodesJudged.{placeIn, NodeReady, nodeTable, Covered, nodeAgain, NodeJudged, RowsReady, slotNodes, NodesJudged}
 use Rattle.ol_check.specs.declared.Faults.{Faults}
@@ -81,7 +82,7 @@ module _ {s rows : List ℕ} {nodes k : ℕ} (rd : NodeReady s rows nodes k) (st
         locals-there = subst (λ a. Listed variableBytes (variableFits base (length (fileAt s .enums))) s (a + 1) (the .locals)) (sym locals-at) (ready-node .locals)
 
 -- three sections of variables, one after the other
-pub entered-three : {a b c : List Variable} {names n₁ n₂ n₃ : List ℕ} {i j x y z p q r : ℕ} → i ≡ length a → j ≡ length b → VariablesEntered a names n₁ 0 x p → VariablesEntered b n₁ n₂ i y q → VariablesEntered c n₂ n₃ (i + j) z r
+pub entered-three : {a b c : List Variable} {names n₁ n₂ n₃ : List ℕ} {i j x y z p q r : ℕ} → i ≡ length a → j ≡ length b → Entered a names n₁ 0 x p → Entered b n₁ n₂ i y q → Entered c n₂ n₃ (i + j) z r
     → n₃ ≡ declareAll names (variableEntries 0 (a ++ b ++ c))
 entered-three {a} {b} {c} {names} {n₁} {n₂} {n₃} {i} {j} ei ej u v w =
     let second : variableEntries 0 a ++ variableEntries i b ≡ variableEntries 0 (a ++ b) = ap (λ n. variableEntries 0 a ++ variableEntries n b) (omega arith) ∙ sym (entries-append 0 a b) in
@@ -89,7 +90,7 @@ entered-three {a} {b} {c} {names} {n₁} {n₂} {n₃} {i} {j} ei ej u v w =
     w .entered ∙ ap (λ l. declareAll l (variableEntries (i + j) c)) (v .entered ∙ ap (λ l. declareAll l (variableEntries i b)) (u .entered) ∙ sym (declare-append names (variableEntries 0 a) (variableEntries i b)) ∙ ap (declareAll names) second)
     ∙ sym (declare-append names (variableEntries 0 (a ++ b)) (variableEntries (i + j) c)) ∙ ap (declareAll names) third
 
-pub forgotten-three : {a b c : List Variable} {names n₁ n₂ n₃ : List ℕ} {x y z p q r : ℕ} → VariablesForgotten a names n₁ x p → VariablesForgotten b n₁ n₂ y q → VariablesForgotten c n₂ n₃ z r → n₃ ≡ forgetAll names (map nameOf (a ++ b ++ c))
+pub forgotten-three : {a b c : List Variable} {names n₁ n₂ n₃ : List ℕ} {x y z p q r : ℕ} → Forgotten a names n₁ x p → Forgotten b n₁ n₂ y q → Forgotten c n₂ n₃ z r → n₃ ≡ forgetAll names (map nameOf (a ++ b ++ c))
 forgotten-three {a} {b} {c} {names} u v w =
     w .forgotten ∙ ap (λ l. forgetAll l (map nameOf c)) (v .forgotten ∙ ap (λ l. forgetAll l (map nameOf b)) (u .forgotten) ∙ sym (forget-append names (map nameOf a) (map nameOf b)) ∙ ap (forgetAll names) (sym (map-append nameOf a b)))
     ∙ sym (forget-append names (map nameOf (a ++ b)) (map nameOf c)) ∙ ap (forgetAll names) (sym (map-append nameOf (a ++ b) c))

@@ -6,7 +6,7 @@ use mathlib.Core.Path.{_≡_, refl, sym, ap, _∙_}
 use native.Mathlib.Omega.{arith}
 use lib.ListN.{length, getD}
 use lib.Dec.{T}
-use Rattle.ol_spec.specs.Lists.{sum}
+use Rattle.ol_spec.specs.Lists.{sum, concat}
 use Rattle.ol_spec.specs.Syntax.{Variable}
 use Rattle.ol_spec.specs.Places.{placed, placedNames, variableSize, enumSize}
 use Rattle.ol_spec.specs.Encode.{nameBytes, sectionBytes, variableBytes}
@@ -21,7 +21,8 @@ use Rattle.ol_tables.specs.Stands.{Listed, Names, Variables}
 use Rattle.ol_tables.proofs.Walking.{ty-small}
 use Rattle.ol_tables.proofs.HeadLaws.{here-first, here-name}
 use Rattle.ol_tables.proofs.HeadsFile.{passing-start, passing-item, variable-stands}
-use Rattle.ol_check.specs.Spans.{startsFrom, endFrom, behindName, behindVariable, namedAt, namesFrom, variablesFrom}
+use Rattle.ol_check.specs.Spans.{startsFrom, endFrom, behindName, behindVariable, behindEnum, namedAt, namesFrom, variablesFrom, namesOf, variantsFrom}
+use Rattle.ol_check.specs.RowsDone.{Enums}
 
 -- ---- those from number i on
 
@@ -100,3 +101,32 @@ pub record EnumStands (s : List ℕ) (at : ℕ) (xs : List ℕ) : Type 0 where
 pub enum-stands : {s : List ℕ} {at : ℕ} (xs : List ℕ) → T (enumFits base xs) → Here s at (sectionBytes nameBytes xs) → EnumStands s at xs
 enum-stands xs t h =
     record { count = here-first (length xs) _ h; names = record { here = here-back (length xs ∷ []) _ h; fit = T-and (countFits 1 32 (length xs)) _ t .1 } }
+
+placed-names : (at : ℕ) (xs : List ℕ) → namesOf (placedNames at xs) ≡ xs
+placed-names at [] = refl
+placed-names at (x ∷ xs) = ap (λ l. x ∷ l) (placed-names (at + 2) xs)
+
+-- enums that stand in the file
+pub variants-listed : {s : List ℕ} (at : ℕ) (es : List (List ℕ)) → Enums s at es → variantsFrom s (length es) at ≡ concat es
+unfolding variantsFrom
+variants-listed {s} at [] h = refl
+variants-listed {s} at (vs ∷ es) h =
+    let it = passing-item names-size vs (passing-start (sectionBytes nameBytes) (enumFits base) enumSize h) (omega arith) in
+    let st = enum-stands vs (it .fit) (it .here) in
+    let rest = variantsFrom s (length es) (behindEnum s at) in
+    let behind : behindEnum s at ≡ at + enumSize vs = omega (arith, st .count) in
+    ap (λ n. namesOf (namesFrom s n (at + 1)) ++ rest) (st .count) ∙ ap (λ l. namesOf l ++ rest) (names-listed vs (st .names)) ∙ ap (λ l. l ++ rest) (placed-names (at + 1) vs)
+    ∙ ap (λ p. vs ++ variantsFrom s (length es) p) behind ∙ ap (λ l. vs ++ l) (variants-listed (at + enumSize vs) es (it .on .left))
+
+-- those from number i on
+module _ (s : List ℕ) (count i next : ℕ) where
+  pub variants-on : i < count → variantsFrom s (count - i) next ≡ namesOf (namesFrom s (getD s next 0) (next + 1)) ++ variantsFrom s (count - (i + 1)) (behindEnum s next)
+  unfolding variantsFrom
+  variants-on lt = ap (λ n. variantsFrom s n next) (less-one count i lt)
+
+  pub variants-none : count ≤ i → variantsFrom s (count - i) next ≡ []
+  unfolding variantsFrom
+  variants-none le = ap (λ n. variantsFrom s n next) (none-less count i le)
+
+pub less-none : (count : ℕ) → count - 0 ≡ count
+less-none count = omega arith

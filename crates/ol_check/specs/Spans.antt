@@ -1,6 +1,6 @@
 -- Items that stand one behind the other, as the bytes tell them: names, variables, enums.
 use Prim.Native.Nat.{ℕ, zero, suc, _+_, _*_}
-use mathlib.Core.List.{List, [], _∷_, map}
+use mathlib.Core.List.{List, [], _∷_, _++_, map}
 use lib.ListN.{getD}
 use Rattle.ol_tables.specs.Heads.{nameAt, tySizeAt}
 
@@ -33,3 +33,12 @@ namesFrom s n at = map (namedAt s) (startsFrom behindName n at)
 
 abbrev pub variablesFrom : List ℕ → ℕ → ℕ → List (ℕ × ℕ)
 variablesFrom s n at = map (namedAt s) (startsFrom (behindVariable s) n at)
+
+-- the names alone
+abbrev pub namesOf : List (ℕ × ℕ) → List ℕ
+namesOf ps = map (λ p. p .1) ps
+
+-- the variants of so many enums from `at` on
+unfoldable pub variantsFrom : List ℕ → ℕ → ℕ → List ℕ
+variantsFrom s zero at = []
+variantsFrom s (suc n) at = namesOf (namesFrom s (getD s at 0) (at + 1)) ++ variantsFrom s n (behindEnum s at)

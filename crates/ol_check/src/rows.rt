@@ -12,21 +12,22 @@ ghost use mathlib.Core.Path.{_≡_};
 ghost use mathlib.Core.List.{[], _∷_};
 ghost use Prim.Native.Nat.{_≤_, _<_, _+_, _*_};
 ghost use lib.ListN.{getD, length};
+ghost use Rattle.ol_check.specs.Spans.{behindEnum};
 ghost use Rattle.ol_check.specs.RowsDone.{EnumsDone, typeSet, VariablesDone, putAll, NodeDone, PlacesAre, NodesDone, TablesDone};
 ghost use Rattle.ol_tables.specs.At.{fileAt};
 ghost use Rattle.ol_tables.specs.Stands.{FileReads};
 
 // Where the section of names at `at` ends.
 pub(crate) fn names_end(file: &[u8], at: usize) -> usize
-    requires { ⌜ at < length (now file) ⌝ }
-    ensures { λ r. ⌜ r ≡ at + 1 + 2 * getD (now (file .entry)) at 0 ⌝ }
+    requires { ⌜ at ≤ 40000 ⌝ }
+    ensures { λ r. ⌜ r ≡ behindEnum (now (file .entry)) at ⌝ }
 {
     at + 1 + 2 * byte(file, at)
 }
 
 // So many enums from `at` on: the first variant of each is stored, and where they end is answered.
 fn enum_rows(file: &[u8], rows: &mut [usize], count: usize, at: usize) -> usize
-    requires { ⌜ (count ≤ 16) × (length (now rows) ≡ 272) ⌝ }
+    requires { ⌜ (count ≤ 16) × (length (now rows) ≡ 272) × (length (now file) ≤ 32768) ⌝ }
     ensures { λ r. ⌜ EnumsDone (now (file .entry)) (now (rows .entry)) (now (rows .exit)) count at r ⌝ }
 {
     let mut next = at;

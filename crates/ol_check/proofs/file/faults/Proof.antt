@@ -1,5 +1,6 @@
 use Rattle.ol_check.proofs.FileLaws.{rows-ready, constant-count, global-ready, file-judged}
 use Rattle.ol_tables.proofs.HeadsFile.{file-stands, bytes-of}
+use Rattle.ol_check.proofs.VariantLaws.{few-enums}
 use mathlib.Core.Path.{refl}
 use native.Mathlib.Omega.{arith}
 use borrow.Author.Needs.{needs}
@@ -15,7 +16,7 @@ byte-requires-2 c κs = search needs
 declare-enums-requires : tie.Need-declare-enums-requires
 declare-enums-requires c κs =
     let st = file-stands (bytes-of (c .before .before .before .before .before .before .before .args .file .now) (λ i. omega (arith, c .before .before .before .before .before .before .shared-slice-known .given i))) (c .before .before .before .before .before .before .before .pre .0 .reads) in
-    st .short
+    (few-enums st (c .byte2 .ensures), omega arith)
 
 byte-requires-3 : tie.Need-byte-requires-3
 byte-requires-3 c κs = search needs

@@ -47,7 +47,7 @@ put-requires c κs = search needs
 
 -- src/rows.rt:35:9
 names-end-requires : tie.Need-names-end-requires Inv-loop μ-loop
-names-end-requires c κs = omega (arith, c .before .before .before .before .before .if1 .left)
+names-end-requires c κs = omega (arith, c .before .before .before .before .before .if1 .left, c .before .before .before .before .before .before .before .before .before .before .pre .2)
 
 -- src/rows.rt:36:9
 add-e : tie.Need-add-e Inv-loop μ-loop

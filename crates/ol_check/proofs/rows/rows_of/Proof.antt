@@ -21,7 +21,7 @@ enum-rows-requires : tie.Need-enum-rows-requires
 enum-rows-requires c κs =
     let start = c .before .before .before .before .before .before in
     let st = file-stands (bytes-of (start .args .file .now) (λ i. omega (arith, c .before .before .before .before .before .shared-slice-known .given i))) (start .pre .0) in
-    (omega (arith, c .byte .ensures .is, st .enumCount, st .fewEnums), start .pre .2)
+    (omega (arith, c .byte .ensures .is, st .enumCount, st .fewEnums), start .pre .2, st .short)
 
 -- src/rows.rt:159:13
 entry-requires : tie.Need-entry-requires
