@@ -9,76 +9,68 @@ use native.Mathlib.Numerals.{add-one}
 use lib.ListN.{length, getD, drop, drop-of-length-le}
 use borrow.Author.Tests.{ltb-true}
 use Rattle.ol_spec.specs.Lists.{concat, allOf, sum}
-use Rattle.ol_spec.specs.Syntax.{Variable, Constant, Node, File}
-use Rattle.ol_spec.specs.Places.{placed, placedConstants, placedNodes, enumSize, constantSize, variableSize, nodeSize, nodesStart, constantsStart, outputsStart, localsStart, sectionSize}
-use Rattle.ol_spec.specs.Encode.{variableBytes, constantBytes}
-use Rattle.ol_spec.specs.Limits.{base}
-use Rattle.ol_spec.specs.Within.{variableFits, constantFits}
-use Rattle.ol_spec.specs.Admission.{Sort, variable, constant, Declared, numbered, declaredAs, placedVariableName, placedConstantName, enumDeclares, nodeDeclares, declared}
+use Rattle.ol_spec.specs.Syntax.{Variable, Node, File}
+use Rattle.ol_spec.specs.Places.{placed, placedEnums, placedConstants, placedNodes, constantSize, variableSize, nodeSize, nodesStart, constantsStart, outputsStart, localsStart}
+use Rattle.ol_spec.specs.Admission.{Sort, variable, constant, Declared, numbered, declaredAt, declaredAs, placedVariableName, placedConstantName, enumDeclares, nodeDeclares, declared}
 use Rattle.ol_spec.proofs.Admitted.{length-placed}
 use Rattle.ol_tables.specs.At.{fileAt}
-use Rattle.ol_tables.specs.Stands.{Listed, Variables, FileStands}
-use Rattle.ol_tables.specs.Tables.{Each, nodeOf}
-use Rattle.ol_check.specs.Founds.{placeOf}
+use Rattle.ol_tables.specs.Stands.{Variables, FileStands}
+use Rattle.ol_tables.specs.Tables.{Each, nodeOf, rowAt}
 use Rattle.ol_tables.specs.Heads.{Byte}
-use Rattle.ol_check.specs.RowsDone.{Enums}
+use Rattle.ol_check.specs.Founds.{placeOf}
+use Rattle.ol_check.specs.Spans.{endFrom, behindVariable, variablesFrom}
 use Rattle.ol_check.specs.NodesJudged.{placeIn, NodeReady, RowsReady}
-use Rattle.ol_check.specs.Clashing.{sortCode, isLow, Sorts, Walks, Passes, DeclaredReady, FileSorted}
+use Rattle.ol_check.specs.Clashing.{isLow, Sorts, Walks, markedPlace, markedLow, VariablesSorted, enumsFrom, ConstantsAt, DeclaredReady, FileSorted}
 use Rattle.ol_check.specs.declared.rows.Sections.{Sections}
 use Rattle.ol_check.specs.declared.clash.Sorting.{Sorting}
 use Rattle.ol_check.proofs.Truths.{and-split}
+use Rattle.ol_check.proofs.SpanLaws.{variables-listed, variables-end}
 use Rattle.ol_check.proofs.NodeLaws.{ready-row, ready-node, nodes-on}
 use Rattle.ol_check.proofs.ClashLaws.{clash-is}
-use Rattle.ol_check.proofs.ClashLoops.{Left, left-all, left-on, left-none, sorts-two}
+use Rattle.ol_check.proofs.ClashLoops.{Left, left-all, left-on, left-none, sorts-two, of-variable, enums-listed}
 
 -- ---- a node
 
--- a section of variables, sorted from `at` on
-abbrev pub SectionSorted : List ℕ → ℕ → ℕ → List ℕ → List ℕ → Sorting → Sorting → Type 0
-SectionSorted s sort at sorts sorts′ g r =
-    (enums : ℕ) (u : Sort) (vs : List Variable) → sortCode u ≡ sort → getD s at 0 ≡ length vs → Variables s enums (at + 1) vs
-    → Passes (declaredAs u (map placedVariableName (placed variableSize (at + 1) vs))) (at + sectionSize variableSize vs) sorts sorts′ g r
-
 pub as-append : (u : Sort) (a b : List (ℕ × Variable)) → declaredAs u (map placedVariableName (a ++ b)) ≡ declaredAs u (map placedVariableName a) ++ declaredAs u (map placedVariableName b)
 as-append u [] b = refl
-as-append u (p ∷ a) b = ap (λ l. Rattle.ol_spec.specs.Admission.declaredAt u (placedVariableName p) ∷ l) (as-append u a b)
+as-append u (p ∷ a) b = ap (λ l. declaredAt u (placedVariableName p) ∷ l) (as-append u a b)
 
--- the variables of a section, from its count on
-abbrev sectionOf : Sort → ℕ → List Variable → List Declared
-sectionOf u at vs = declaredAs u (map placedVariableName (placed variableSize (at + 1) vs))
+-- the variables of a section that stands in the file
+section-walks : {s : List ℕ} (k enums : ℕ) {count at p r : ℕ} {sorts sorts′ marks marks′ : List ℕ} (vs : List Variable) → VariablesSorted s (k + 18) count p sorts sorts′ marks marks′ r → count ≡ length vs → p ≡ at → Variables s enums at vs
+    → Walks (declaredAs (variable k) (map placedVariableName (placed variableSize at vs))) sorts sorts′ marks marks′ × (r ≡ at + sum (map variableSize vs))
+section-walks {s} k enums {count} {at} {p} {r} {sorts} {sorts′} {marks} {marks′} vs w ec ep there = (
+  subst (λ ds. Walks ds sorts sorts′ marks marks′)
+      (ap (λ u. declaredAs u (variablesFrom s count p)) (of-variable k) ∙ ap (λ n. declaredAs (variable k) (variablesFrom s n p)) ec ∙ ap (λ q. declaredAs (variable k) (variablesFrom s (length vs) q)) ep ∙ ap (declaredAs (variable k)) (variables-listed enums vs there)) (w .walks),
+  w .ends ∙ ap (λ n. endFrom (behindVariable s) n p) ec ∙ ap (endFrom (behindVariable s) (length vs)) ep ∙ variables-end enums vs there,
+)
 
--- at another place
-section-at : {s : List ℕ} {sort : ℕ} {sorts sorts′ : List ℕ} {g r : Sorting} {p : ℕ} (enums : ℕ) (u : Sort) (vs : List Variable) (at : ℕ) → p ≡ at → SectionSorted s sort p sorts sorts′ g r → sortCode u ≡ sort → getD s at 0 ≡ length vs
-    → Variables s enums (at + 1) vs → Passes (sectionOf u at vs) (at + sectionSize variableSize vs) sorts sorts′ g r
-section-at {s} {sort} {sorts} {sorts′} {g} {r} enums u vs at e ran eu count there = subst (λ q. SectionSorted s sort q sorts sorts′ g r) e ran enums u vs eu count there
-
-module _ {s rows : List ℕ} {nodes k : ℕ} (rd : NodeReady s rows nodes k) (st : FileStands s (fileAt s)) {at : ℕ} (ea : at ≡ getD rows (k * 8 + 7) 0) where
+module _ {s rows : List ℕ} {nodes k : ℕ} (rd : NodeReady s rows nodes k) (st : FileStands s (fileAt s)) {at : ℕ} (ea : at ≡ rowAt rows k 7) where
   pub place-is : at ≡ placeIn (fileAt s) k
   place-is = ea ∙ ready-row rd st .place
 
   pub place-in : at < length s
   place-in = omega (arith, place-is, ready-node rd st .inside)
 
-  pub node-walks : {sorts s₁ s₂ s₃ : List ℕ} {f o l r : Sorting} → SectionSorted s (k + 18) (at + 1) sorts s₁ f o → SectionSorted s (k + 18) (o .next) s₁ s₂ o l
-      → SectionSorted s (k + 18) (l .next) s₂ s₃ l r → Walks (nodeDeclares (k, (placeIn (fileAt s) k, nodeOf (fileAt s) k))) sorts s₃ f r
-  node-walks {sorts} {s₁} {s₂} {s₃} {f} {o} {l} {r} r₁ r₂ r₃ =
+  pub node-walks : {is os ls o l r : ℕ} {sorts s₁ s₂ s₃ marks m₁ m₂ m₃ : List ℕ} → Byte s (at + 1) is → VariablesSorted s (k + 18) is (at + 2) sorts s₁ marks m₁ o → Byte s o os → VariablesSorted s (k + 18) os (o + 1) s₁ s₂ m₁ m₂ l
+      → Byte s l ls → VariablesSorted s (k + 18) ls (l + 1) s₂ s₃ m₂ m₃ r → Walks (nodeDeclares (k, (placeIn (fileAt s) k, nodeOf (fileAt s) k))) sorts s₃ marks m₃
+  node-walks {is} {os} {ls} {o} {l} {r} {sorts} {s₁} {s₂} {s₃} {marks} {m₁} {m₂} {m₃} bi r₁ bo r₂ bl r₃ =
       let n = nodeOf (fileAt s) k in
       let p = placeIn (fileAt s) k in
       let ns = ready-node rd st in
       let m = length (fileAt s .enums) in
       let u = variable k in
-      let w₁ = section-at m u (n .inputs) (p + 1) (ap (λ x. x + 1) place-is) r₁ refl (ns .inputCount) (subst (λ x. Listed variableBytes (variableFits base m) s x (n .inputs)) (omega arith) (ns .inputs)) in
-      let w₂ = section-at m u (n .outputs) (outputsStart p n) (w₁ .ends) r₂ refl (ns .outputCount) (ns .outputs) in
-      let w₃ = section-at m u (n .locals) (localsStart p n) (w₂ .ends) r₃ refl (ns .localCount) (ns .locals) in
-      let all = sorts-two (sorts-two (w₁ .walks) (w₂ .walks)) (w₃ .walks) in
+      let w₁ = section-walks k m {at = p + 2} (n .inputs) r₁ (bi .is ∙ ap (λ q. getD s (q + 1) 0) place-is ∙ ns .inputCount) (ap (λ q. q + 2) place-is) (ns .inputs) in
+      let eo : o ≡ outputsStart p n = w₁ .1 ∙ omega arith in
+      let w₂ = section-walks k m {at = outputsStart p n + 1} (n .outputs) r₂ (bo .is ∙ ap (λ q. getD s q 0) eo ∙ ns .outputCount) (ap (λ q. q + 1) eo) (ns .outputs) in
+      let el : l ≡ localsStart p n = w₂ .1 ∙ omega arith in
+      let w₃ = section-walks k m {at = localsStart p n + 1} (n .locals) r₃ (bl .is ∙ ap (λ q. getD s q 0) el ∙ ns .localCount) (ap (λ q. q + 1) el) (ns .locals) in
+      let all = sorts-two (sorts-two (w₁ .0 .is) (w₂ .0 .is)) (w₃ .0 .is) in
       let a = placed variableSize (p + 2) (n .inputs) in
       let b = placed variableSize (outputsStart p n + 1) (n .outputs) in
       let c = placed variableSize (localsStart p n + 1) (n .locals) in
-      let two : p + 1 + 1 ≡ p + 2 = omega arith in
-      let same : sectionOf u (p + 1) (n .inputs) ++ sectionOf u (outputsStart p n) (n .outputs) ++ sectionOf u (localsStart p n) (n .locals) ≡ nodeDeclares (k, (p, n)) =
-      ap (λ x. declaredAs u (map placedVariableName (placed variableSize x (n .inputs))) ++ sectionOf u (outputsStart p n) (n .outputs) ++ sectionOf u (localsStart p n) (n .locals)) two
-      ∙ ap (λ x. x ++ sectionOf u (localsStart p n) (n .locals)) (sym (as-append u a b)) ∙ sym (as-append u (a ++ b) c) in
-      subst (λ ds. Walks ds sorts s₃ f r) same all
+      let same : declaredAs u (map placedVariableName a) ++ declaredAs u (map placedVariableName b) ++ declaredAs u (map placedVariableName c) ≡ nodeDeclares (k, (p, n)) =
+      ap (λ x. x ++ declaredAs u (map placedVariableName c)) (sym (as-append u a b)) ∙ sym (as-append u (a ++ b) c) in
+      record { is = subst (λ ds. Sorts ds sorts s₃ (markedPlace marks) (markedLow marks) (markedPlace m₃) (markedLow m₃)) same all; long = w₃ .0 .long ∙ w₂ .0 .long ∙ w₁ .0 .long }
 
 -- ---- all nodes
 
@@ -86,27 +78,29 @@ module _ {s rows : List ℕ} {nodes k : ℕ} (rd : NodeReady s rows nodes k) (st
 abbrev pub nodesFrom : File → ℕ → List Declared
 nodesFrom f k = concat (map nodeDeclares (numbered k (drop k (placedNodes f))))
 
-pub record NodesGoing (f : File) (sorts₀ : List ℕ) (g : Sorting) (sorts : List ℕ) (h : Sorting) (k : ℕ) : Type 0 where
-  pub left : Left (nodesFrom f k) sorts (placeOf (h .found)) (h .low) (nodesFrom f 0) sorts₀ (placeOf (g .found)) (g .low)
+pub record NodesGoing (f : File) (sorts₀ marks₀ sorts marks : List ℕ) (k : ℕ) : Type 0 where
+  pub left : Left (nodesFrom f k) sorts (markedPlace marks) (markedLow marks) (nodesFrom f 0) sorts₀ (markedPlace marks₀) (markedLow marks₀)
+  pub long : length marks ≡ length marks₀
 
-module _ {f : File} {sorts₀ : List ℕ} {g : Sorting} where
-  pub nodes-start : NodesGoing f sorts₀ g sorts₀ g 0
-  nodes-start = record { left = left-all }
+module _ {f : File} {sorts₀ marks₀ : List ℕ} where
+  pub nodes-start : NodesGoing f sorts₀ marks₀ sorts₀ marks₀ 0
+  nodes-start = record { left = left-all; long = refl }
 
-  module _ {sorts : List ℕ} {h : Sorting} {k : ℕ} (w : NodesGoing f sorts₀ g sorts h k) where
-    pub nodes-turn : k < length (f .nodes) → {sorts′ : List ℕ} {r : Sorting} → Walks (nodeDeclares (k, (placeIn f k, nodeOf f k))) sorts sorts′ h r → NodesGoing f sorts₀ g sorts′ r (k + 1)
-    nodes-turn lt {sorts′} {r} one =
+  module _ {sorts marks : List ℕ} {k : ℕ} (w : NodesGoing f sorts₀ marks₀ sorts marks k) where
+    pub nodes-turn : k < length (f .nodes) → {sorts′ marks′ : List ℕ} → Walks (nodeDeclares (k, (placeIn f k, nodeOf f k))) sorts sorts′ marks marks′ → NodesGoing f sorts₀ marks₀ sorts′ marks′ (k + 1)
+    nodes-turn lt {sorts′} {marks′} one =
         let x : ℕ × Node = (placeIn f k, nodeOf f k) in
         let rest = drop (k + 1) (placedNodes f) in
         let counted : numbered k (drop k (placedNodes f)) ≡ (k, x) ∷ numbered (k + 1) rest = ap (numbered k) (nodes-on f k lt) ∙ ap (λ n. (k, x) ∷ numbered n rest) (sym (add-one k)) in
         record {
-          left = left-on (nodeDeclares (k, x)) (subst (λ l. Left (concat (map nodeDeclares l)) sorts (placeOf (h .found)) (h .low) (nodesFrom f 0) sorts₀ (placeOf (g .found)) (g .low)) counted (w .left)) one;
+          left = left-on (nodeDeclares (k, x)) (subst (λ l. Left (concat (map nodeDeclares l)) sorts (markedPlace marks) (markedLow marks) (nodesFrom f 0) sorts₀ (markedPlace marks₀) (markedLow marks₀)) counted (w .left)) (one .is);
+          long = one .long ∙ w .long;
         }
 
-    pub nodes-done : length (f .nodes) ≤ k → Walks (concat (map nodeDeclares (numbered 0 (placedNodes f)))) sorts₀ sorts g h
+    pub nodes-done : length (f .nodes) ≤ k → Walks (concat (map nodeDeclares (numbered 0 (placedNodes f)))) sorts₀ sorts marks₀ marks
     nodes-done over =
         let empty : drop k (placedNodes f) ≡ [] = drop-of-length-le (placedNodes f) {i = k} (omega (arith, length-placed nodeSize (nodesStart f) (f .nodes))) in
-        left-none (subst (λ l. Left (concat (map nodeDeclares (numbered k l))) sorts (placeOf (h .found)) (h .low) (nodesFrom f 0) sorts₀ (placeOf (g .found)) (g .low)) empty (w .left))
+        record { is = left-none (subst (λ l. Left (concat (map nodeDeclares (numbered k l))) sorts (markedPlace marks) (markedLow marks) (nodesFrom f 0) sorts₀ (markedPlace marks₀) (markedLow marks₀)) empty (w .left)); long = w .long }
 
 -- ---- the file
 
@@ -120,27 +114,22 @@ module _ {s rows : List ℕ} {c : Sections} (rd : DeclaredReady s rows c) (st : 
   pub enums-few : {n : ℕ} → Byte s 1 n → n ≤ 16
   enums-few b = omega (arith, b .is ∙ st .enumCount, st .fewEnums)
 
-  pub constants-in : c .constants < length s
-  constants-in = omega (arith, rd .sections .constants, st .inside)
+  pub constants-at : {n : ℕ} → Byte s (c .constants) n → ConstantsAt s n (c .constants + 1)
+  constants-at b = record { reads = rd .reads; many = b .is ∙ ap (λ p. getD s p 0) (omega (arith, rd .sections .constants)) ∙ st .constantCount; place = rd .sections .constants }
 
-  pub file-sorted : {ec cc : ℕ} {sorts s₁ s₂ s₃ : List ℕ} {fe fk : Option ℕ} {le lk : Bool} {r : Sorting} → Byte s 1 ec → Byte s (c .constants) cc
-      → ((es : List (List ℕ)) → length es ≡ ec → Enums s 2 es → Sorts (concat (map enumDeclares (numbered 0 (placed enumSize 2 es)))) sorts s₁ none true fe le)
-      → ((enums : ℕ) (cs : List Constant) → length cs ≡ cc → Listed constantBytes (constantFits base enums) s (c .constants + 1) cs → Sorts (declaredAs constant (map placedConstantName (placed constantSize (c .constants + 1) cs))) s₁ s₂ fe le fk lk)
-      → Sorts (concat (map nodeDeclares (numbered 0 (placedNodes (fileAt s))))) s₂ s₃ fk lk (placeOf (r .found)) (r .low) → FileSorted s sorts s₃ r
-  file-sorted {ec} {cc} {sorts} {s₁} {s₂} {s₃} {fe} {fk} {le} {lk} {r} eb cb enums constants nodes =
+  pub file-sorted : {ec : ℕ} {sorts s₁ s₂ s₃ m₁ m₂ m₃ : List ℕ} {r : Sorting} → Byte s 1 ec → Walks (enumsFrom s 0 ec 2) sorts s₁ (65536 ∷ 1 ∷ []) m₁
+      → Walks (declaredAs constant (map placedConstantName (placedConstants (fileAt s)))) s₁ s₂ m₁ m₂ → Walks (concat (map nodeDeclares (numbered 0 (placedNodes (fileAt s))))) s₂ s₃ m₂ m₃
+      → placeOf (r .found) ≡ markedPlace m₃ → r .low ≡ markedLow m₃ → FileSorted s sorts s₃ r
+  file-sorted {ec} {sorts} {s₁} {s₂} {s₃} {m₁} {m₂} {m₃} {r} eb enums constants nodes ef el =
       let f = fileAt s in
-      let start = rd .sections .constants in
-      let we = enums (f .enums) (sym (eb .is ∙ st .enumCount)) (st .enums) in
-      let count : length (f .constants) ≡ cc = sym (cb .is ∙ ap (λ p. getD s p 0) (omega (arith, rd .sections .constants)) ∙ st .constantCount) in
-      let wc : Sorts (declaredAs constant (map placedConstantName (placedConstants f))) s₁ s₂ fe le fk lk =
-      subst (λ p. Sorts (declaredAs constant (map placedConstantName (placed constantSize p (f .constants)))) s₁ s₂ fe le fk lk) start
-      (constants (length (f .enums)) (f .constants) count (subst (λ p. Listed constantBytes (constantFits base (length (f .enums))) s p (f .constants)) (sym start) (st .constants))) in
-      let all : Sorts (declared f) sorts s₃ none true (placeOf (r .found)) (r .low) = sorts-two (sorts-two we wc) nodes in
+      let we : Walks (concat (map enumDeclares (numbered 0 (placedEnums f)))) sorts s₁ (65536 ∷ 1 ∷ []) m₁ =
+      subst (λ ds. Walks ds sorts s₁ (65536 ∷ 1 ∷ []) m₁) (ap (λ n. enumsFrom s 0 n 2) (eb .is ∙ st .enumCount) ∙ enums-listed 0 2 (f .enums) (omega (arith, st .fewEnums)) (st .enums)) enums in
+      let all : Sorts (declared f) sorts s₃ none true (markedPlace m₃) (markedLow m₃) = sorts-two (sorts-two (we .is) (constants .is)) (nodes .is) in
       record {
         enters = all .enters;
-        clash = all .finds;
-        finds = λ blank. all .finds ∙ clash-is sorts st (blank .zero) (blank .below);
-        lows = all .lows;
+        clash = ef ∙ all .finds;
+        finds = λ blank. ef ∙ all .finds ∙ clash-is sorts st (blank .zero) (blank .below);
+        lows = el ∙ all .lows;
       }
 
 -- ---- names below 1,024

@@ -1,35 +1,34 @@
 -- The loops over declarations: what is left to be sorted.
-use Prim.Native.Nat.{ℕ, suc, _+_, _*_, _≤_, _<_}
-use mathlib.Core.Bool.{Bool, true, false, _&&_, and-assoc, and-true}
+use Prim.Native.Nat.{ℕ, suc, _+_, _-_, _*_, _≤_, _<_}
+use mathlib.Core.Bool.{Bool, true, false, _&&_, cond, and-assoc, and-true, and-false}
 use mathlib.Core.List.{List, [], _∷_, _++_, map}
 use mathlib.Core.Option.{Option, none, some}
 use mathlib.Core.Path.{_≡_, refl, sym, ap, subst, _∙_}
 use native.Mathlib.Omega.{arith}
 use native.Mathlib.Numerals.{add-one}
-use lib.ListN.{length, getD, set, drop, drop-of-length-le}
-use lib.Seq.{drop-cons}
-use lib.Dec.{ltb}
-use Rattle.ol_spec.specs.Lists.{orElse, concat, allOf, sum}
-use Rattle.ol_spec.specs.Syntax.{Variable, Constant, Exprs, nil, cons}
-use Rattle.ol_spec.specs.Places.{placed, placedNames, enumSize, constantSize, variableSize, exprsSize, tySize}
-use Rattle.ol_spec.specs.Encode.{nameBytes, sectionBytes, variableBytes, constantBytes}
+use lib.ListN.{length, getD, set, drop, drop-of-length-le, length-set}
+use lib.Seq.{drop-cons, getD-set-same, getD-set-other}
+use lib.Dec.{ltb, eqb}
+use borrow.Author.Tests.{ltb-false, eqb-true, eqb-false, lt-ltb, le-ltb, ne-eqb}
+use Rattle.ol_spec.specs.Lists.{orElse, concat, allOf}
+use Rattle.ol_spec.specs.Syntax.{Constant, nil, cons}
+use Rattle.ol_spec.specs.Places.{placed, enumSize, constantSize}
+use Rattle.ol_spec.specs.Encode.{nameBytes, sectionBytes, constantBytes}
 use Rattle.ol_spec.specs.Limits.{base}
-use Rattle.ol_spec.specs.Within.{countFits, nameFits, variableFits, constantFits, enumFits}
-use Rattle.ol_spec.specs.Admission.{Sort, variant, constant, variable, Declared, firstIf, numbered, declaredAt, declaredAs, placedVariableName, placedConstantName, enumDeclares}
-use Rattle.ol_spec.proofs.Tests.{T-and}
-use Rattle.ol_spec.proofs.RoundTrip.Parts.{here-inside, here-back}
-use Rattle.ol_spec.proofs.RoundTrip.Items.{names-size, variable-size, constant-size}
-use Rattle.ol_tables.specs.Heads.{nameAt, tySizeAt, Standing}
-use Rattle.ol_tables.specs.Stands.{Listed, Names, Variables, VariableStands, ConstantStands}
-use Rattle.ol_tables.proofs.HeadLaws.{here-first, here-name}
-use Rattle.ol_tables.proofs.HeadsFile.{Passing, passing-start, passing-item, passing-end, variable-stands, constant-stands}
-use Rattle.ol_check.specs.Founds.{placeOf, earliest}
-use Rattle.ol_tables.specs.Heads.{Byte}
-use Rattle.ol_check.specs.RowsDone.{Enums, noVariable, noConstant}
-use Rattle.ol_check.specs.Clashing.{sortCode, meets, sortAll, clashIn, isLow, Sorts, Walks, Passes, NameSorted}
-use Rattle.ol_check.specs.declared.clash.Sorting.{Sorting}
+use Rattle.ol_spec.specs.Within.{constantFits, enumFits}
+use Rattle.ol_spec.specs.Admission.{Sort, variant, constant, variable, Declared, firstIf, numbered, declaredAt, declaredAs, placedConstantName, enumDeclares}
+use Rattle.ol_spec.proofs.RoundTrip.Parts.{here-inside}
+use Rattle.ol_spec.proofs.RoundTrip.Items.{names-size, constant-size}
+use Rattle.ol_tables.specs.Heads.{Byte, nameAt, tySizeAt}
+use Rattle.ol_tables.specs.Walks.{skipAt}
+use Rattle.ol_tables.specs.Stands.{Listed}
+use Rattle.ol_tables.proofs.Skipping.{skip-stands}
+use Rattle.ol_tables.proofs.HeadsFile.{Passing, passing-start, passing-item, constant-stands}
+use Rattle.ol_check.specs.Spans.{startsFrom, endFrom, behindEnum, namedAt, namesFrom}
+use Rattle.ol_check.specs.RowsDone.{Enums, noConstant}
+use Rattle.ol_check.specs.Clashing.{sortCode, sortOf, meets, sortAll, clashIn, isLow, Sorts, Walks, placeAt, markedPlace, markedLow, firstPlace, enumsFrom}
+use Rattle.ol_check.proofs.SpanLaws.{starts-on, starts-none, end-on, end-none, names-listed, enum-stands}
 use Rattle.ol_check.proofs.WalkLoop.{found-none}
-use Rattle.ol_check.proofs.EquationLaws.{NamePassing}
 
 -- ---- lists of declarations, one behind the other
 
@@ -92,180 +91,178 @@ sorts-two {a} {b} {s₀} {s₁} {s₂} {f₀} {f₁} {f₂} {l₀} {l₁} {l₂}
       enters = w .enters ∙ ap (λ t. sortAll t b) (v .enters) ∙ sym (sort-append s₀ a b);
     }
 
+-- ---- sorts by their bytes
+
+pub code-of : (c : ℕ) → 0 < c → sortCode (sortOf c) ≡ c
+code-of c pos = go (ltb c 17) (eqb c 17) refl refl
+  where
+    go : (a b : Bool) → ltb c 17 ≡ a → eqb c 17 ≡ b → sortCode (cond a (variant (c - 1)) (cond b constant (variable (c - 18)))) ≡ c
+    go true b ea eb = omega (arith, pos)
+    go false true ea eb = sym (eqb-true c 17 eb)
+    go false false ea eb = omega (arith, ltb-false c 17 ea, eqb-false c 17 eb)
+
+pub of-variant : (e : ℕ) → e < 16 → sortOf (e + 1) ≡ variant e
+of-variant e lt = let less : e + 1 - 1 ≡ e = omega arith in rw (lt-ltb (e + 1) 17 (omega arith)) (ap variant less)
+
+pub of-variable : (k : ℕ) → sortOf (k + 18) ≡ variable k
+of-variable k = let less : k + 18 - 18 ≡ k = omega arith in rw (le-ltb (k + 18) 17 (omega arith), ne-eqb (k + 18) 17 (λ e. omega arith)) (ap variable less)
+
 -- ---- one name
 
-pub name-sorted : {s : List ℕ} {sort x b : ℕ} {q : Bool} {sorts sorts′ : List ℕ} {g r : Sorting} → x ≡ nameAt s (g .next) → Byte sorts x b → q ≡ meets b sort → sorts′ ≡ set sorts x sort → placeOf (r .found) ≡ earliest (placeOf (g .found)) q (g .next)
-    → r .low ≡ g .low && ltb x 1024 → r .next ≡ g .next + 2 → NameSorted s sort sorts sorts′ g r
-name-sorted {s} {sort} {x} {b} {q} {sorts} {sorts′} {g} {r} ex eb eq es ef el en =
-    record {
-      finds = ef ∙ ap (λ t. earliest (placeOf (g .found)) t (g .next)) (eq ∙ ap (λ n. meets n sort) (eb .is) ∙ ap (λ y. meets (getD sorts y 0) sort) ex);
-      lows = el ∙ ap (λ y. g .low && ltb y 1024) ex;
-      enters = es ∙ ap (λ y. set sorts y sort) ex;
-      on = en;
-    }
+place-first : (found : ℕ) (q : Bool) (at : ℕ) → at < 65536 → placeAt (firstPlace found q at) ≡ orElse (placeAt found) (firstIf q at none)
+place-first found q at lt = go (eqb found 65536) q refl
+  where
+    go : (t b : Bool) → eqb found 65536 ≡ t → placeAt (cond t (cond b at found) found) ≡ orElse (cond t none (some found)) (firstIf b at none)
+    go true true e = rw (ne-eqb at 65536 (λ w. omega arith)) refl
+    go true false e = rw e refl
+    go false b e = rw e refl
 
-pub name-walks : {s : List ℕ} {sort : ℕ} {sorts sorts′ : List ℕ} {g r : Sorting} → NameSorted s sort sorts sorts′ g r → (u : Sort) (x : ℕ) → sortCode u ≡ sort → nameAt s (g .next) ≡ x → Walks (declaredAt u (g .next, x) ∷ []) sorts sorts′ g r
+low-still : (low x : ℕ) → eqb (cond (ltb x 1024) low 0) 1 ≡ eqb low 1 && (ltb x 1024 && true)
+low-still low x = go (ltb x 1024)
+  where
+    go : (t : Bool) → eqb (cond t low 0) 1 ≡ eqb low 1 && (t && true)
+    go true = sym (and-true (eqb low 1))
+    go false = sym (and-false (eqb low 1))
+
+pub name-walks : (s : List ℕ) (sort at : ℕ) {x b p l : ℕ} {q : Bool} {sorts sorts′ marks marks′ : List ℕ} → 0 < sort → at < 65536 → length marks ≡ 2 → x ≡ nameAt s at → Byte sorts x b → q ≡ meets b sort → sorts′ ≡ set sorts x sort
+    → p ≡ firstPlace (getD marks 0 0) q at → l ≡ cond (ltb x 1024) (getD (set marks 0 p) 1 0) 0 → marks′ ≡ set (set marks 0 p) 1 l → Walks (declaredAt (sortOf sort) (namedAt s at) ∷ []) sorts sorts′ marks marks′
 unfolding clashIn sortAll
-name-walks {s} {sort} {sorts} {sorts′} {g} {r} h u x eu ex =
+name-walks s sort at {x} {b} {p} {l} {q} {sorts} {sorts′} {marks} {marks′} pos lt two ex eb eq es ep el em =
+    let m₁ = set marks 0 p in
+    let code = sym (code-of sort pos) in
+    let place : getD marks′ 0 0 ≡ p = ap (λ g. getD g 0 0) em ∙ getD-set-other m₁ 1 0 l 0 (λ e. omega arith) ∙ getD-set-same marks 0 p 0 (omega arith) in
+    let low : getD marks′ 1 0 ≡ l = ap (λ g. getD g 1 0) em ∙ getD-set-same m₁ 1 l 0 (omega (arith, length-set marks 0 p)) in
+    let kept : getD m₁ 1 0 ≡ getD marks 1 0 = getD-set-other marks 0 1 p 0 (λ e. omega arith) in
+    let meeting : q ≡ meets (getD sorts (nameAt s at) 0) (sortCode (sortOf sort)) = eq ∙ ap (λ n. meets n sort) (eb .is) ∙ ap (λ y. meets (getD sorts y 0) sort) ex ∙ ap (meets (getD sorts (nameAt s at) 0)) code in
     record {
-      finds = h .finds ∙ ap (λ y. earliest (placeOf (g .found)) (meets (getD sorts y 0) sort) (g .next)) ex ∙ ap (λ n. earliest (placeOf (g .found)) (meets (getD sorts x 0) n) (g .next)) (sym eu);
-      lows = h .lows ∙ ap (λ y. g .low && ltb y 1024) ex ∙ ap (λ b. g .low && b) (sym (and-true (ltb x 1024)));
-      enters = h .enters ∙ ap (λ y. set sorts y sort) ex ∙ ap (set sorts x) (sym eu);
+      is = record {
+        finds = ap placeAt (place ∙ ep) ∙ place-first (getD marks 0 0) q at lt ∙ ap (λ t. orElse (markedPlace marks) (firstIf t at none)) meeting;
+        lows = ap (λ n. eqb n 1) (low ∙ el) ∙ low-still (getD m₁ 1 0) x ∙ ap (λ n. eqb n 1 && (ltb x 1024 && true)) kept ∙ ap (λ y. markedLow marks && (ltb y 1024 && true)) ex;
+        enters = es ∙ ap (λ y. set sorts y sort) ex ∙ ap (set sorts (nameAt s at)) code;
+      };
+      long = ap length em ∙ length-set m₁ 1 l ∙ length-set marks 0 p;
     }
 
--- ---- a section of names
+-- ---- so many names, so many variables
 
-pub record NamesGoing (s : List ℕ) (u : Sort) (xs : List ℕ) (sorts₀ : List ℕ) (g : Sorting) (sorts : List ℕ) (h : Sorting) (i : ℕ) : Type 0 where
-  pub passing : NamePassing s (g .next) xs i (h .next)
-  pub left : Left (declaredAs u (placedNames (h .next) (drop i xs))) sorts (placeOf (h .found)) (h .low) (declaredAs u (placedNames (g .next) xs)) sorts₀ (placeOf (g .found)) (g .low)
+-- those from number i on are left, and end where all end
+pub record NamesGoing (behind : ℕ → ℕ) (s : List ℕ) (sort count at : ℕ) (sorts₀ marks₀ sorts marks : List ℕ) (i next : ℕ) : Type 0 where
+  pub left : Left (declaredAs (sortOf sort) (map (namedAt s) (startsFrom behind (count - i) next))) sorts (markedPlace marks) (markedLow marks)
+      (declaredAs (sortOf sort) (map (namedAt s) (startsFrom behind count at))) sorts₀ (markedPlace marks₀) (markedLow marks₀)
+  pub end : endFrom behind (count - i) next ≡ endFrom behind count at
+  pub long : length marks ≡ length marks₀
 
-twos : (xs : List ℕ) → sum (map (λ x. 2) xs) ≡ 2 * length xs
-twos [] = refl
-twos (x ∷ xs) = omega (arith, twos xs)
+module _ {behind : ℕ → ℕ} {s : List ℕ} {sort count at : ℕ} {sorts₀ marks₀ : List ℕ} where
+  pub names-start : NamesGoing behind s sort count at sorts₀ marks₀ sorts₀ marks₀ 0 at
+  names-start = let z : count - 0 ≡ count = omega arith in record { left = rw z left-all; end = rw z refl; long = refl }
 
-module _ {s : List ℕ} {u : Sort} {xs : List ℕ} {sorts₀ : List ℕ} {g : Sorting} where
-  pub names-start : Names s 0 (g .next) xs → NamesGoing s u xs sorts₀ g sorts₀ g 0
-  names-start st = record { passing = passing-start nameBytes nameFits (λ x. 2) st; left = left-all }
-
-  module _ {sorts : List ℕ} {h : Sorting} {i : ℕ} (w : NamesGoing s u xs sorts₀ g sorts h i) where
-    pub names-turn : i < length xs → {sort : ℕ} {sorts′ : List ℕ} {r : Sorting} → sortCode u ≡ sort → NameSorted s sort sorts sorts′ h r → NamesGoing s u xs sorts₀ g sorts′ r (i + 1)
-    names-turn lt {sort} {sorts′} {r} eu n =
-        let it = passing-item (λ y. refl) 0 (w .passing) lt in
-        let x = getD xs i 0 in
-        let rest : Left (declaredAt u (h .next, x) ∷ declaredAs u (placedNames (h .next + 2) (drop (suc i) xs))) sorts (placeOf (h .found)) (h .low) (declaredAs u (placedNames (g .next) xs)) sorts₀ (placeOf (g .found)) (g .low) =
-        subst (λ l. Left (declaredAs u (placedNames (h .next) l)) sorts (placeOf (h .found)) (h .low) (declaredAs u (placedNames (g .next) xs)) sorts₀ (placeOf (g .found)) (g .low)) (drop-cons xs i 0 lt) (w .left) in
+  module _ {sorts marks : List ℕ} {i next : ℕ} (w : NamesGoing behind s sort count at sorts₀ marks₀ sorts marks i next) where
+    pub names-turn : i < count → {sorts′ marks′ : List ℕ} {next′ : ℕ} → next′ ≡ behind next → Walks (declaredAt (sortOf sort) (namedAt s next) ∷ []) sorts sorts′ marks marks′
+        → NamesGoing behind s sort count at sorts₀ marks₀ sorts′ marks′ (i + 1) next′
+    names-turn lt {sorts′} {marks′} {next′} en one =
+        let all = declaredAs (sortOf sort) (map (namedAt s) (startsFrom behind count at)) in
+        let on : Left (declaredAt (sortOf sort) (namedAt s next) ∷ declaredAs (sortOf sort) (map (namedAt s) (startsFrom behind (count - (i + 1)) (behind next)))) sorts (markedPlace marks) (markedLow marks) all sorts₀ (markedPlace marks₀) (markedLow marks₀) =
+        subst (λ l. Left (declaredAs (sortOf sort) (map (namedAt s) l)) sorts (markedPlace marks) (markedLow marks) all sorts₀ (markedPlace marks₀) (markedLow marks₀)) (starts-on behind count i next lt) (w .left) in
         record {
-          passing = subst (NamePassing s (g .next) xs (i + 1)) (sym (n .on)) (it .on);
-          left = rw (n .on, add-one i) (left-on (declaredAt u (h .next, x) ∷ []) rest (name-walks n u x eu (here-name x (it .fit) (it .here))));
+          left = rw en (left-on (declaredAt (sortOf sort) (namedAt s next) ∷ []) on (one .is));
+          end = ap (endFrom behind (count - (i + 1))) en ∙ sym (end-on behind count i next lt) ∙ w .end;
+          long = one .long ∙ w .long;
         }
 
-    pub names-done : length xs ≤ i → Passes (declaredAs u (placedNames (g .next) xs)) (g .next + 2 * length xs) sorts₀ sorts g h
+    pub names-done : count ≤ i → Walks (declaredAs (sortOf sort) (map (namedAt s) (startsFrom behind count at))) sorts₀ sorts marks₀ marks
     names-done over =
         record {
-          walks = left-none (subst (λ l. Left (declaredAs u (placedNames (h .next) l)) sorts (placeOf (h .found)) (h .low) (declaredAs u (placedNames (g .next) xs)) sorts₀ (placeOf (g .found)) (g .low)) (drop-of-length-le xs over) (w .left));
-          ends = passing-end (w .passing) over ∙ ap (λ n. g .next + n) (twos xs);
+          is = left-none (subst (λ l. Left (declaredAs (sortOf sort) (map (namedAt s) l)) sorts (markedPlace marks) (markedLow marks) (declaredAs (sortOf sort) (map (namedAt s) (startsFrom behind count at))) sorts₀ (markedPlace marks₀) (markedLow marks₀))
+              (starts-none behind count i next over) (w .left));
+          long = w .long;
         }
 
--- ---- a variable, a section of variables
+    pub names-end : count ≤ i → next ≡ endFrom behind count at
+    names-end over = sym (end-none behind count i next over) ∙ w .end
 
-pub variable-walks : {s : List ℕ} {sort n : ℕ} {sorts sorts′ : List ℕ} {g h r : Sorting} → NameSorted s sort sorts sorts′ g h → n ≡ tySizeAt s (h .next) → placeOf (r .found) ≡ placeOf (h .found) → r .low ≡ h .low → r .next ≡ h .next + n
-    → (enums : ℕ) (v : Variable) (u : Sort) → sortCode u ≡ sort → VariableStands s enums (g .next) v → Passes (declaredAt u (g .next, v .name) ∷ []) (g .next + variableSize v) sorts sorts′ g r
-variable-walks {s} {sort} {n} {sorts} {sorts′} {g} {h} {r} ns en ef el er enums v u eu st =
-    record {
-      walks = rw (ef, el) (name-walks ns u (v .name) eu (st .name));
-      ends = omega (arith, er, en ∙ ap (tySizeAt s) (ns .on) ∙ st .ty .size, ns .on);
-    }
+-- ---- the constants
 
-pub record VariablesGoing (s : List ℕ) (enums : ℕ) (u : Sort) (vs : List Variable) (sorts₀ : List ℕ) (g : Sorting) (sorts : List ℕ) (h : Sorting) (i : ℕ) : Type 0 where
-  pub passing : Passing variableBytes (variableFits base enums) variableSize s (g .next) vs i (h .next)
-  pub left : Left (declaredAs u (map placedVariableName (placed variableSize (h .next) (drop i vs)))) sorts (placeOf (h .found)) (h .low) (declaredAs u (map placedVariableName (placed variableSize (g .next) vs))) sorts₀ (placeOf (g .found)) (g .low)
+pub record ConstantsGoing (s : List ℕ) (enums : ℕ) (cs : List Constant) (at : ℕ) (sorts₀ marks₀ sorts marks : List ℕ) (i next : ℕ) : Type 0 where
+  pub passing : Passing constantBytes (constantFits base enums) constantSize s at cs i next
+  pub left : Left (declaredAs constant (map placedConstantName (placed constantSize next (drop i cs)))) sorts (markedPlace marks) (markedLow marks)
+      (declaredAs constant (map placedConstantName (placed constantSize at cs))) sorts₀ (markedPlace marks₀) (markedLow marks₀)
+  pub long : length marks ≡ length marks₀
 
-module _ {s : List ℕ} {enums : ℕ} {u : Sort} {vs : List Variable} {sorts₀ : List ℕ} {g : Sorting} where
-  pub variables-start : Variables s enums (g .next) vs → VariablesGoing s enums u vs sorts₀ g sorts₀ g 0
-  variables-start st = record { passing = passing-start variableBytes (variableFits base enums) variableSize st; left = left-all }
+module _ {s : List ℕ} {enums : ℕ} {cs : List Constant} {at : ℕ} {sorts₀ marks₀ : List ℕ} where
+  pub constants-start : Listed constantBytes (constantFits base enums) s at cs → ConstantsGoing s enums cs at sorts₀ marks₀ sorts₀ marks₀ 0 at
+  constants-start st = record { passing = passing-start constantBytes (constantFits base enums) constantSize st; left = left-all; long = refl }
 
-  module _ {sorts : List ℕ} {h : Sorting} {i : ℕ} (w : VariablesGoing s enums u vs sorts₀ g sorts h i) where
-    pub variables-turn : i < length vs → {sort : ℕ} {sorts′ : List ℕ} {r : Sorting} → sortCode u ≡ sort
-        → ((m : ℕ) (v : Variable) (t : Sort) → sortCode t ≡ sort → VariableStands s m (h .next) v → Passes (declaredAt t (h .next, v .name) ∷ []) (h .next + variableSize v) sorts sorts′ h r)
-        → VariablesGoing s enums u vs sorts₀ g sorts′ r (i + 1)
-    variables-turn lt {sort} {sorts′} {r} eu ran =
-        let it = passing-item variable-size noVariable (w .passing) lt in
-        let v = getD vs i noVariable in
-        let one = ran enums v u eu (variable-stands v (it .fit) (it .here)) in
-        let all = declaredAs u (map placedVariableName (placed variableSize (g .next) vs)) in
-        let rest : Left (declaredAt u (h .next, v .name) ∷ declaredAs u (map placedVariableName (placed variableSize (h .next + variableSize v) (drop (suc i) vs)))) sorts (placeOf (h .found)) (h .low) all sorts₀ (placeOf (g .found)) (g .low) =
-        subst (λ l. Left (declaredAs u (map placedVariableName (placed variableSize (h .next) l))) sorts (placeOf (h .found)) (h .low) all sorts₀ (placeOf (g .found)) (g .low)) (drop-cons vs i noVariable lt) (w .left) in
-        record {
-          passing = subst (Passing variableBytes (variableFits base enums) variableSize s (g .next) vs (i + 1)) (sym (one .ends)) (it .on);
-          left = rw (one .ends, add-one i) (left-on (declaredAt u (h .next, v .name) ∷ []) rest (one .walks));
-        }
-
-    pub variables-done : length vs ≤ i → Passes (declaredAs u (map placedVariableName (placed variableSize (g .next) vs))) (g .next + sum (map variableSize vs)) sorts₀ sorts g h
-    variables-done over =
-        record {
-          walks = left-none (subst (λ l. Left (declaredAs u (map placedVariableName (placed variableSize (h .next) l))) sorts (placeOf (h .found)) (h .low) (declaredAs u (map placedVariableName (placed variableSize (g .next) vs))) sorts₀ (placeOf (g .found)) (g .low)) (drop-of-length-le vs over) (w .left));
-          ends = passing-end (w .passing) over;
-        }
-
--- ---- a constant, the constants
-
-pub constant-walks : {s : List ℕ} {sorts sorts′ : List ℕ} {g h r : Sorting}
-    → ((m : ℕ) (v : Variable) (t : Sort) → sortCode t ≡ 17 → VariableStands s m (g .next) v → Passes (declaredAt t (g .next, v .name) ∷ []) (g .next + variableSize v) sorts sorts′ g h)
-    → placeOf (r .found) ≡ placeOf (h .found) → r .low ≡ h .low → ((m : ℕ) (es : Exprs) → Rattle.ol_spec.specs.Syntax.count es ≡ 1 → Standing s m (h .next) es → r .next ≡ h .next + exprsSize es)
-    → (enums : ℕ) (c : Constant) → ConstantStands s enums (g .next) c → Passes (declaredAt constant (g .next, c .name) ∷ []) (g .next + constantSize c) sorts sorts′ g r
-constant-walks {s} {sorts} {sorts′} {g} {h} {r} ran ef el er enums c st =
-    let one = ran enums (record { name = c .name; ty = c .ty }) constant refl (record { name = st .name; ty = st .ty }) in
-    let at : g .next + 2 + tySize (c .ty) ≡ h .next = omega (arith, one .ends) in
-    let end = er enums (cons (c .value) nil) refl (subst (λ p. Standing s enums p (cons (c .value) nil)) at (st .value)) in
-    record { walks = rw (ef, el) (one .walks); ends = omega (arith, end, at) }
-
-pub record ConstantsGoing (s : List ℕ) (enums : ℕ) (cs : List Constant) (sorts₀ : List ℕ) (g : Sorting) (sorts : List ℕ) (h : Sorting) (i : ℕ) : Type 0 where
-  pub passing : Passing constantBytes (constantFits base enums) constantSize s (g .next) cs i (h .next)
-  pub left : Left (declaredAs constant (map placedConstantName (placed constantSize (h .next) (drop i cs)))) sorts (placeOf (h .found)) (h .low) (declaredAs constant (map placedConstantName (placed constantSize (g .next) cs))) sorts₀ (placeOf (g .found)) (g .low)
-
-module _ {s : List ℕ} {enums : ℕ} {cs : List Constant} {sorts₀ : List ℕ} {g : Sorting} where
-  pub constants-start : Listed constantBytes (constantFits base enums) s (g .next) cs → ConstantsGoing s enums cs sorts₀ g sorts₀ g 0
-  constants-start st = record { passing = passing-start constantBytes (constantFits base enums) constantSize st; left = left-all }
-
-  module _ {sorts : List ℕ} {h : Sorting} {i : ℕ} (w : ConstantsGoing s enums cs sorts₀ g sorts h i) where
-    pub constants-cut : i < length cs → length s ≤ h .next → ⊥
-    constants-cut lt out =
+  module _ {sorts marks : List ℕ} {i next : ℕ} (w : ConstantsGoing s enums cs at sorts₀ marks₀ sorts marks i next) where
+    pub constants-in : i < length cs → next < length s
+    constants-in lt =
         let it = passing-item constant-size noConstant (w .passing) lt in
         let c = getD cs i noConstant in
         omega (arith, here-inside (it .here) (omega (arith, constant-size c)), constant-size c)
 
-    pub constants-turn : i < length cs → {sorts′ : List ℕ} {r : Sorting}
-        → ((m : ℕ) (c : Constant) → ConstantStands s m (h .next) c → Passes (declaredAt constant (h .next, c .name) ∷ []) (h .next + constantSize c) sorts sorts′ h r) → ConstantsGoing s enums cs sorts₀ g sorts′ r (i + 1)
-    constants-turn lt {sorts′} {r} ran =
+    pub constants-turn : i < length cs → {sorts′ marks′ : List ℕ} {n next′ : ℕ} → Walks (declaredAt (sortOf 17) (namedAt s next) ∷ []) sorts sorts′ marks marks′ → n ≡ tySizeAt s (next + 2) → next′ ≡ skipAt s 1 (next + 2 + n)
+        → ConstantsGoing s enums cs at sorts₀ marks₀ sorts′ marks′ (i + 1) next′
+    constants-turn lt {sorts′} {marks′} {n} {next′} one en er =
         let it = passing-item constant-size noConstant (w .passing) lt in
         let c = getD cs i noConstant in
-        let one = ran enums c (constant-stands c (it .fit) (it .here)) in
-        let all = declaredAs constant (map placedConstantName (placed constantSize (g .next) cs)) in
-        let rest : Left (declaredAt constant (h .next, c .name) ∷ declaredAs constant (map placedConstantName (placed constantSize (h .next + constantSize c) (drop (suc i) cs)))) sorts (placeOf (h .found)) (h .low) all sorts₀ (placeOf (g .found)) (g .low) =
-        subst (λ l. Left (declaredAs constant (map placedConstantName (placed constantSize (h .next) l))) sorts (placeOf (h .found)) (h .low) all sorts₀ (placeOf (g .found)) (g .low)) (drop-cons cs i noConstant lt) (w .left) in
+        let st = constant-stands c (it .fit) (it .here) in
+        let all = declaredAs constant (map placedConstantName (placed constantSize at cs)) in
+        let behind : next′ ≡ next + constantSize c =
+        er ∙ ap (λ m. skipAt s 1 (next + 2 + m)) (en ∙ st .ty .size) ∙ skip-stands {es = cons (c .value) nil} refl (st .value) ∙ omega arith in
+        let rest : Left (declaredAt constant (next, c .name) ∷ declaredAs constant (map placedConstantName (placed constantSize (next + constantSize c) (drop (suc i) cs)))) sorts (markedPlace marks) (markedLow marks) all sorts₀ (markedPlace marks₀) (markedLow marks₀) =
+        subst (λ l. Left (declaredAs constant (map placedConstantName (placed constantSize next l))) sorts (markedPlace marks) (markedLow marks) all sorts₀ (markedPlace marks₀) (markedLow marks₀)) (drop-cons cs i noConstant lt) (w .left) in
         record {
-          passing = subst (Passing constantBytes (constantFits base enums) constantSize s (g .next) cs (i + 1)) (sym (one .ends)) (it .on);
-          left = rw (one .ends, add-one i) (left-on (declaredAt constant (h .next, c .name) ∷ []) rest (one .walks));
+          passing = subst (Passing constantBytes (constantFits base enums) constantSize s at cs (i + 1)) (sym behind) (it .on);
+          left = rw (behind, add-one i) (left-on (declaredAt constant (next, c .name) ∷ []) rest (subst (λ x. Walks (declaredAt constant (next, x) ∷ []) sorts sorts′ marks marks′) (st .name) one .is));
+          long = one .long ∙ w .long;
         }
 
-    pub constants-done : length cs ≤ i → Walks (declaredAs constant (map placedConstantName (placed constantSize (g .next) cs))) sorts₀ sorts g h
+    pub constants-done : length cs ≤ i → Walks (declaredAs constant (map placedConstantName (placed constantSize at cs))) sorts₀ sorts marks₀ marks
     constants-done over =
-        left-none (subst (λ l. Left (declaredAs constant (map placedConstantName (placed constantSize (h .next) l))) sorts (placeOf (h .found)) (h .low) (declaredAs constant (map placedConstantName (placed constantSize (g .next) cs))) sorts₀ (placeOf (g .found)) (g .low)) (drop-of-length-le cs over) (w .left))
+        record {
+          is = left-none (subst (λ l. Left (declaredAs constant (map placedConstantName (placed constantSize next l))) sorts (markedPlace marks) (markedLow marks) (declaredAs constant (map placedConstantName (placed constantSize at cs))) sorts₀ (markedPlace marks₀) (markedLow marks₀))
+              (drop-of-length-le cs over) (w .left));
+          long = w .long;
+        }
 
 -- ---- the enums
 
--- the variants of enums, the first being number e and standing at `at`
-abbrev pub variantsFrom : ℕ → ℕ → List (List ℕ) → List Declared
-variantsFrom e at es = concat (map enumDeclares (numbered e (placed enumSize at es)))
+pub record EnumsGoing (s : List ℕ) (count at : ℕ) (sorts₀ marks₀ sorts marks : List ℕ) (e next : ℕ) : Type 0 where
+  pub left : Left (enumsFrom s e (count - e) next) sorts (markedPlace marks) (markedLow marks) (enumsFrom s 0 count at) sorts₀ (markedPlace marks₀) (markedLow marks₀)
+  pub long : length marks ≡ length marks₀
 
-pub record EnumsGoing (s : List ℕ) (es : List (List ℕ)) (sorts₀ : List ℕ) (g : Sorting) (sorts : List ℕ) (h : Sorting) (e : ℕ) : Type 0 where
-  pub passing : Passing (sectionBytes nameBytes) (enumFits base) enumSize s (g .next) es e (h .next)
-  pub left : Left (variantsFrom e (h .next) (drop e es)) sorts (placeOf (h .found)) (h .low) (variantsFrom 0 (g .next) es) sorts₀ (placeOf (g .found)) (g .low)
+module _ {s : List ℕ} {count at : ℕ} {sorts₀ marks₀ : List ℕ} where
+  pub enums-start : EnumsGoing s count at sorts₀ marks₀ sorts₀ marks₀ 0 at
+  enums-start = let z : count - 0 ≡ count = omega arith in record { left = rw z left-all; long = refl }
 
-module _ {s : List ℕ} {es : List (List ℕ)} {sorts₀ : List ℕ} {g : Sorting} where
-  pub enums-start : Enums s (g .next) es → EnumsGoing s es sorts₀ g sorts₀ g 0
-  enums-start st = record { passing = passing-start (sectionBytes nameBytes) (enumFits base) enumSize st; left = left-all }
+  module _ {sorts marks : List ℕ} {e next : ℕ} (w : EnumsGoing s count at sorts₀ marks₀ sorts marks e next) where
+    pub enums-turn : e < count → {sorts′ marks′ : List ℕ} {many next′ : ℕ} → Byte s next many → next′ ≡ next + 1 + 2 * many
+        → Walks (declaredAs (sortOf (e + 1)) (namesFrom s many (next + 1))) sorts sorts′ marks marks′ → EnumsGoing s count at sorts₀ marks₀ sorts′ marks′ (e + 1) next′
+    unfolding enumsFrom
+    enums-turn lt {sorts′} {marks′} {many} {next′} em en one =
+        let less : count - e ≡ suc (count - (e + 1)) = omega arith in
+        let here = declaredAs (sortOf (e + 1)) (namesFrom s (getD s next 0) (next + 1)) in
+        let on : Left (here ++ enumsFrom s (e + 1) (count - (e + 1)) (behindEnum s next)) sorts (markedPlace marks) (markedLow marks) (enumsFrom s 0 count at) sorts₀ (markedPlace marks₀) (markedLow marks₀) =
+        subst (λ n. Left (enumsFrom s e n next) sorts (markedPlace marks) (markedLow marks) (enumsFrom s 0 count at) sorts₀ (markedPlace marks₀) (markedLow marks₀)) less (w .left) in
+        let behind : next′ ≡ behindEnum s next = en ∙ ap (λ n. next + 1 + 2 * n) (em .is) in
+        record { left = rw behind (left-on here on (subst (λ n. Walks (declaredAs (sortOf (e + 1)) (namesFrom s n (next + 1))) sorts sorts′ marks marks′) (em .is) one .is)); long = one .long ∙ w .long }
 
-  module _ {sorts : List ℕ} {h : Sorting} {e : ℕ} (w : EnumsGoing s es sorts₀ g sorts h e) where
-    pub enums-cut : e < length es → length s ≤ h .next → ⊥
-    enums-cut lt out =
-        let it = passing-item names-size [] (w .passing) lt in
-        let vs = getD es e [] in
-        omega (arith, here-inside (it .here) (omega (arith, names-size vs)), names-size vs)
+    pub enums-done : count ≤ e → Walks (enumsFrom s 0 count at) sorts₀ sorts marks₀ marks
+    unfolding enumsFrom
+    enums-done over =
+        let none-left : count - e ≡ 0 = omega arith in
+        record { is = left-none (subst (λ n. Left (enumsFrom s e n next) sorts (markedPlace marks) (markedLow marks) (enumsFrom s 0 count at) sorts₀ (markedPlace marks₀) (markedLow marks₀)) none-left (w .left)); long = w .long }
 
-    pub enums-turn : e < length es → {sorts′ : List ℕ} {r : Sorting}
-        → ((u : Sort) (xs : List ℕ) → sortCode u ≡ e + 1 → getD s (h .next) 0 ≡ length xs → Names s 0 (h .next + 1) xs → Passes (declaredAs u (placedNames (h .next + 1) xs)) (h .next + enumSize xs) sorts sorts′ h r)
-        → EnumsGoing s es sorts₀ g sorts′ r (e + 1)
-    enums-turn lt {sorts′} {r} ran =
-        let it = passing-item names-size [] (w .passing) lt in
-        let vs = getD es e [] in
-        let one = ran (variant e) vs refl (here-first (length vs) _ (it .here)) (record { here = here-back (length vs ∷ []) _ (it .here); fit = T-and (countFits 1 32 (length vs)) _ (it .fit) .1 }) in
-        let rest : Left (enumDeclares (e, (h .next, vs)) ++ variantsFrom (suc e) (h .next + enumSize vs) (drop (suc e) es)) sorts (placeOf (h .found)) (h .low) (variantsFrom 0 (g .next) es) sorts₀ (placeOf (g .found)) (g .low) =
-        subst (λ l. Left (variantsFrom e (h .next) l) sorts (placeOf (h .found)) (h .low) (variantsFrom 0 (g .next) es) sorts₀ (placeOf (g .found)) (g .low)) (drop-cons es e [] lt) (w .left) in
-        record {
-          passing = subst (Passing (sectionBytes nameBytes) (enumFits base) enumSize s (g .next) es (e + 1)) (sym (one .ends)) (it .on);
-          left = rw (one .ends, add-one e) (left-on (enumDeclares (e, (h .next, vs))) rest (one .walks));
-        }
-
-    pub enums-done : length es ≤ e → Walks (variantsFrom 0 (g .next) es) sorts₀ sorts g h
-    enums-done over = left-none (subst (λ l. Left (variantsFrom e (h .next) l) sorts (placeOf (h .found)) (h .low) (variantsFrom 0 (g .next) es) sorts₀ (placeOf (g .found)) (g .low)) (drop-of-length-le es over) (w .left))
+-- enums that stand in the file
+pub enums-listed : {s : List ℕ} (i at : ℕ) (es : List (List ℕ)) → i + length es ≤ 16 → Enums s at es → enumsFrom s i (length es) at ≡ concat (map enumDeclares (numbered i (placed enumSize at es)))
+unfolding enumsFrom
+enums-listed {s} i at [] few h = refl
+enums-listed {s} i at (vs ∷ es) few h =
+    let it = passing-item names-size vs (passing-start (sectionBytes nameBytes) (enumFits base) enumSize h) (omega arith) in
+    let st = enum-stands vs (it .fit) (it .here) in
+    let rest = enumsFrom s (i + 1) (length es) (behindEnum s at) in
+    let behind : behindEnum s at ≡ at + enumSize vs = omega (arith, st .count) in
+    ap (λ u. declaredAs u (namesFrom s (getD s at 0) (at + 1)) ++ rest) (of-variant i (omega arith))
+    ∙ ap (λ n. declaredAs (variant i) (namesFrom s n (at + 1)) ++ rest) (st .count)
+    ∙ ap (λ l. declaredAs (variant i) l ++ rest) (names-listed vs (st .names))
+    ∙ ap (λ p. enumDeclares (i, (at, vs)) ++ enumsFrom s (i + 1) (length es) p) behind
+    ∙ ap (λ l. enumDeclares (i, (at, vs)) ++ l) (enums-listed (i + 1) (at + enumSize vs) es (omega arith) (it .on .left) ∙ ap (λ n. concat (map enumDeclares (numbered n (placed enumSize (at + enumSize vs) es)))) (add-one i))

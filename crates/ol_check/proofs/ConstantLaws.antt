@@ -22,7 +22,7 @@ use Rattle.ol_tables.specs.Heads.{nameAt, tySizeAt, Standing}
 use Rattle.ol_tables.specs.Tables.{Each}
 use Rattle.ol_tables.specs.Stands.{ConstantStands}
 use Rattle.ol_tables.proofs.HeadLaws.{walk-one}
-use Rattle.ol_tables.proofs.HeadsFile.{Passing, Item as PassedItem, passing-start, passing-item, constant-stands}
+use Rattle.ol_tables.proofs.HeadsFile.{Passing, Item as PassedItem, passing-start, passing-item, constant-stands, passing-end}
 use Rattle.ol_check.specs.Founds.{placeOf}
 use Rattle.ol_check.specs.RowsDone.{noConstant}
 use Rattle.ol_check.specs.Entries.{declared, declareAll, constantEntries}
@@ -118,6 +118,7 @@ module _ {s names₀ rows : List ℕ} {nodes : ℕ} {t : File} {visible : List �
     constants-done over =
         let empty : drop i cs ≡ [] = drop-of-length-le cs over in
         record {
+          next = passing-end (w .passing) over;
           unseen = sym (found-none (placeOf (g .unseen))) ∙ ap (λ l. foundIn (placeOf (g .unseen)) (constantUses (w .seen) (placed constantSize (g .next) l))) (sym empty) ∙ w .unseen;
           again = w .again;
           called = sym (found-none (placeOf (g .called))) ∙ ap (λ l. foundIn (placeOf (g .called)) (concat (map (inConstant (callsWhere (λ x n. true))) (placed constantSize (g .next) l)))) (sym empty) ∙ w .called;

@@ -1,26 +1,21 @@
 -- The loops over the table by name: what is left to be entered or taken back.
-use Prim.Native.Nat.{ℕ, suc, _+_, _-_, _≤_, _<_}
-use mathlib.Core.List.{List, _∷_, map}
+use Prim.Native.Nat.{ℕ, suc, _+_, _-_, _*_, _≤_, _<_}
+use mathlib.Core.List.{List, [], _∷_, _++_, map, map-append}
 use mathlib.Core.Path.{_≡_, refl, sym, ap, subst, _∙_}
 use native.Mathlib.Omega.{arith}
-use native.Mathlib.Numerals.{add-one}
-use lib.ListN.{length, getD, set, drop, drop-of-length-le}
-use lib.Seq.{drop-cons}
+use lib.ListN.{length, getD, set}
 use borrow.Author.Tests.{le-leb, lt-leb, ne-eqb}
+use Rattle.ol_spec.specs.Lists.{sum, concat}
 use Rattle.ol_spec.specs.Syntax.{Variable}
-use Rattle.ol_spec.specs.Places.{variableSize}
-use Rattle.ol_spec.specs.Encode.{nameBytes, variableBytes}
-use Rattle.ol_spec.specs.Limits.{base}
-use Rattle.ol_spec.specs.Within.{nameFits, variableFits}
-use Rattle.ol_spec.proofs.RoundTrip.Items.{variable-size}
-use Rattle.ol_tables.specs.Heads.{nameAt, tySizeAt}
-use Rattle.ol_tables.specs.Stands.{Names, Variables}
-use Rattle.ol_tables.proofs.HeadLaws.{here-name}
-use Rattle.ol_tables.proofs.HeadsFile.{Passing, passing-start, passing-item, passing-end, variable-stands}
-use Rattle.ol_tables.specs.Heads.{Byte}
-use Rattle.ol_check.specs.RowsDone.{noVariable}
-use Rattle.ol_check.specs.Entries.{declared, forgot, declareAll, forgetAll, variableEntries, variantEntry, VariablesEntered, VariablesForgotten}
-use Rattle.ol_check.proofs.EquationLaws.{NamePassing}
+use Rattle.ol_spec.specs.Places.{placed, variableSize}
+use Rattle.ol_spec.specs.Admission.{placedVariableName}
+use Rattle.ol_tables.specs.Heads.{Byte, nameAt, tySizeAt}
+use Rattle.ol_tables.specs.Stands.{Variables}
+use Rattle.ol_check.specs.Spans.{startsFrom, endFrom, behindName, behindVariable, behindEnum, namedAt, namesOf, namesFrom, variablesFrom, variantsFrom}
+use Rattle.ol_check.specs.RowsDone.{Enums}
+use Rattle.ol_check.specs.Entries.{declared, forgot, declareAll, forgetAll, variableEntries, variantEntry, entriesFrom, VariablesEntered, VariablesForgotten}
+use Rattle.ol_check.proofs.SpanLaws.{starts-on, starts-none, end-on, end-none, less-none, variables-near, variables-listed, variables-end, variants-on, variants-none, variants-listed}
+use Rattle.ol_check.proofs.EntryLaws.{declare-append}
 
 pub declared-new : (names names′ : List ℕ) (x e b : ℕ) → Byte names x b → b ≡ 0 → names′ ≡ set names x e → names′ ≡ declared names x e
 declared-new names names′ x e b bb z h = h ∙ rw (← bb .is, z) refl
@@ -34,94 +29,153 @@ forgot-low names names′ x b bb z h = h ∙ rw (← bb .is, le-leb b 112 z) ref
 pub forgot-high : (names : List ℕ) (x b : ℕ) → Byte names x b → 112 < b → names ≡ forgot names x
 forgot-high names x b bb z = rw (← bb .is, lt-leb b 112 z) refl
 
-entries-on : (first : ℕ) (vs : List Variable) (i : ℕ) → i < length vs → variableEntries (first + i) (drop i vs) ≡ (getD vs i noVariable .name, first + i + 1) ∷ variableEntries (first + (i + 1)) (drop (i + 1) vs)
-entries-on first vs i lt =
-    ap (variableEntries (first + i)) (drop-cons vs i noVariable lt)
-    ∙ ap (λ n. (getD vs i noVariable .name, first + i + 1) ∷ variableEntries n (drop (suc i) vs)) (omega arith)
-    ∙ ap (λ n. (getD vs i noVariable .name, first + i + 1) ∷ variableEntries (first + (i + 1)) (drop n vs)) (sym (add-one i))
+-- ---- variables
 
--- those from number i on are left
-pub record EnterGoing (s : List ℕ) (enums : ℕ) (vs : List Variable) (names₀ names : List ℕ) (first at i next : ℕ) : Type 0 where
-  pub passing : Passing variableBytes (variableFits base enums) variableSize s at vs i next
-  pub entered : declareAll names (variableEntries (first + i) (drop i vs)) ≡ declareAll names₀ (variableEntries first vs)
+module _ (s : List ℕ) (count i next : ℕ) where
+  on : i < count → variablesFrom s (count - i) next ≡ namedAt s next ∷ variablesFrom s (count - (i + 1)) (behindVariable s next)
+  on lt = ap (map (namedAt s)) (starts-on (behindVariable s) count i next lt)
 
-pub record ForgetGoing (s : List ℕ) (enums : ℕ) (vs : List Variable) (names₀ names : List ℕ) (at i next : ℕ) : Type 0 where
-  pub passing : Passing variableBytes (variableFits base enums) variableSize s at vs i next
-  pub forgotten : forgetAll names (map (λ v. v .name) (drop i vs)) ≡ forgetAll names₀ (map (λ v. v .name) vs)
+  gone : count ≤ i → variablesFrom s (count - i) next ≡ []
+  gone over = ap (map (namedAt s)) (starts-none (behindVariable s) count i next over)
 
--- the next variable's name and the place behind it
-variable-on : (s : List ℕ) (enums at : ℕ) (vs : List Variable) (i next : ℕ) → Passing variableBytes (variableFits base enums) variableSize s at vs i next → i < length vs → (n : ℕ) → n ≡ tySizeAt s (next + 2)
-    → (nameAt s next ≡ getD vs i noVariable .name) × Passing variableBytes (variableFits base enums) variableSize s at vs (i + 1) (next + 2 + n)
-variable-on s enums at vs i next p lt n en =
-    let it = passing-item variable-size noVariable p lt in
-    let v = getD vs i noVariable in
-    let st = variable-stands v (it .fit) (it .here) in
-    (st .name, subst (Passing variableBytes (variableFits base enums) variableSize s at vs (i + 1)) (omega (arith, en, st .ty .size)) (it .on))
+pub record EnterGoing (s names₀ names : List ℕ) (first count at i next : ℕ) : Type 0 where
+  pub entered : declareAll names (entriesFrom (first + i) (variablesFrom s (count - i) next)) ≡ declareAll names₀ (entriesFrom first (variablesFrom s count at))
+  pub end : endFrom (behindVariable s) (count - i) next ≡ endFrom (behindVariable s) count at
 
-module _ {s : List ℕ} {enums : ℕ} {vs : List Variable} {names₀ : List ℕ} {at : ℕ} where
-  pub enter-start : {first : ℕ} → Variables s enums at vs → EnterGoing s enums vs names₀ names₀ first at 0 at
-  enter-start {first} h = record { passing = passing-start variableBytes (variableFits base enums) variableSize h; entered = ap (λ n. declareAll names₀ (variableEntries n vs)) (omega arith) }
+pub record ForgetGoing (s names₀ names : List ℕ) (count at i next : ℕ) : Type 0 where
+  pub forgotten : forgetAll names (namesOf (variablesFrom s (count - i) next)) ≡ forgetAll names₀ (namesOf (variablesFrom s count at))
+  pub end : endFrom (behindVariable s) (count - i) next ≡ endFrom (behindVariable s) count at
 
-  pub forget-start : Variables s enums at vs → ForgetGoing s enums vs names₀ names₀ at 0 at
-  forget-start h = record { passing = passing-start variableBytes (variableFits base enums) variableSize h; forgotten = refl }
+module _ {s names₀ : List ℕ} {count at : ℕ} where
+  pub enter-start : {first : ℕ} → EnterGoing s names₀ names₀ first count at 0 at
+  enter-start {first} = let z : first + 0 ≡ first = omega arith in record { entered = rw (less-none count, z) refl; end = rw (less-none count) refl }
+
+  pub forget-start : ForgetGoing s names₀ names₀ count at 0 at
+  forget-start = record { forgotten = rw (less-none count) refl; end = rw (less-none count) refl }
 
   module _ {names : List ℕ} {i next : ℕ} where
-    pub enter-turn : {first : ℕ} → EnterGoing s enums vs names₀ names first at i next → i < length vs → (x n : ℕ) (names′ : List ℕ) → x ≡ nameAt s next → n ≡ tySizeAt s (next + 2)
-        → names′ ≡ declared names x (first + i + 1) → EnterGoing s enums vs names₀ names′ first at (i + 1) (next + 2 + n)
+    pub enter-turn : {first : ℕ} → EnterGoing s names₀ names first count at i next → i < count → {x n : ℕ} {names′ : List ℕ} → x ≡ nameAt s next → n ≡ tySizeAt s (next + 2)
+        → names′ ≡ declared names x (first + i + 1) → EnterGoing s names₀ names′ first count at (i + 1) (next + 2 + n)
     unfolding declareAll
-    enter-turn {first} g lt x n names′ ex en h =
-        let w = variable-on s enums at vs i next (g .passing) lt n en in
+    enter-turn {first} g lt {x} {n} {names′} ex en h =
+        let number : first + (i + 1) ≡ first + i + 1 = omega arith in
+        let behind = ap (λ m. next + 2 + m) en in
         record {
-          passing = w .1;
-          entered = ap (λ l. declareAll l (variableEntries (first + (i + 1)) (drop (i + 1) vs))) (h ∙ ap (λ y. declared names y (first + i + 1)) (ex ∙ w .0))
-              ∙ ap (declareAll names) (sym (entries-on first vs i lt)) ∙ g .entered;
+          entered = ap (λ l. declareAll l (entriesFrom (first + (i + 1)) (variablesFrom s (count - (i + 1)) (next + 2 + n)))) (h ∙ ap (λ y. declared names y (first + i + 1)) ex)
+              ∙ ap (λ p. declareAll (declared names (nameAt s next) (first + i + 1)) (entriesFrom (first + (i + 1)) (variablesFrom s (count - (i + 1)) p))) behind
+              ∙ ap (λ m. declareAll (declared names (nameAt s next) (first + i + 1)) (entriesFrom m (variablesFrom s (count - (i + 1)) (behindVariable s next)))) number
+              ∙ ap (λ l. declareAll names (entriesFrom (first + i) l)) (sym (on s count i next lt)) ∙ g .entered;
+          end = ap (endFrom (behindVariable s) (count - (i + 1))) behind ∙ sym (end-on (behindVariable s) count i next lt) ∙ g .end;
         }
 
-    pub enter-done : {first : ℕ} → EnterGoing s enums vs names₀ names first at i next → length vs ≤ i → VariablesEntered vs names₀ names first at next
+    pub enter-done : {first : ℕ} → EnterGoing s names₀ names first count at i next → count ≤ i → VariablesEntered s names₀ names first count at next
     unfolding declareAll
     enter-done {first} g over =
-        record { ends = passing-end (g .passing) over; entered = ap (λ l. declareAll names (variableEntries (first + i) l)) (sym (drop-of-length-le vs over)) ∙ g .entered }
+        record { ends = sym (end-none (behindVariable s) count i next over) ∙ g .end; entered = ap (λ l. declareAll names (entriesFrom (first + i) l)) (sym (gone s count i next over)) ∙ g .entered }
 
-    pub forget-turn : ForgetGoing s enums vs names₀ names at i next → i < length vs → (x n : ℕ) (names′ : List ℕ) → x ≡ nameAt s next → n ≡ tySizeAt s (next + 2) → names′ ≡ forgot names x
-        → ForgetGoing s enums vs names₀ names′ at (i + 1) (next + 2 + n)
+    pub forget-turn : ForgetGoing s names₀ names count at i next → i < count → {x n : ℕ} {names′ : List ℕ} → x ≡ nameAt s next → n ≡ tySizeAt s (next + 2) → names′ ≡ forgot names x
+        → ForgetGoing s names₀ names′ count at (i + 1) (next + 2 + n)
     unfolding forgetAll
-    forget-turn g lt x n names′ ex en h =
-        let w = variable-on s enums at vs i next (g .passing) lt n en in
+    forget-turn g lt {x} {n} {names′} ex en h =
+        let behind = ap (λ m. next + 2 + m) en in
         record {
-          passing = w .1;
-          forgotten = ap (λ l. forgetAll l (map (λ v. v .name) (drop (i + 1) vs))) (h ∙ ap (forgot names) (ex ∙ w .0))
-              ∙ ap (λ m. forgetAll names (getD vs i noVariable .name ∷ map (λ v. v .name) (drop m vs))) (add-one i)
-              ∙ ap (λ l. forgetAll names (map (λ v. v .name) l)) (sym (drop-cons vs i noVariable lt)) ∙ g .forgotten;
+          forgotten = ap (λ l. forgetAll l (namesOf (variablesFrom s (count - (i + 1)) (next + 2 + n)))) (h ∙ ap (forgot names) ex)
+              ∙ ap (λ p. forgetAll (forgot names (nameAt s next)) (namesOf (variablesFrom s (count - (i + 1)) p))) behind ∙ ap (λ l. forgetAll names (namesOf l)) (sym (on s count i next lt)) ∙ g .forgotten;
+          end = ap (endFrom (behindVariable s) (count - (i + 1))) behind ∙ sym (end-on (behindVariable s) count i next lt) ∙ g .end;
         }
 
-    pub forget-done : ForgetGoing s enums vs names₀ names at i next → length vs ≤ i → VariablesForgotten vs names₀ names at next
+    pub forget-done : ForgetGoing s names₀ names count at i next → count ≤ i → VariablesForgotten s names₀ names count at next
     unfolding forgetAll
-    forget-done g over =
-        record { ends = passing-end (g .passing) over; forgotten = ap (λ l. forgetAll names (map (λ v. v .name) l)) (sym (drop-of-length-le vs over)) ∙ g .forgotten }
+    forget-done g over = record { ends = sym (end-none (behindVariable s) count i next over) ∙ g .end; forgotten = ap (λ l. forgetAll names (namesOf l)) (sym (gone s count i next over)) ∙ g .forgotten }
+
+-- at most four bytes each
+module _ {s names names′ : List ℕ} {count at r : ℕ} where
+  pub entered-near : {first : ℕ} → VariablesEntered s names names′ first count at r → r ≤ at + 4 * count
+  entered-near h = omega (arith, h .ends, variables-near s count at)
+
+  pub forgotten-near : VariablesForgotten s names names′ count at r → r ≤ at + 4 * count
+  forgotten-near h = omega (arith, h .ends, variables-near s count at)
+
+-- the variables vs stand there
+pub record Entered (vs : List Variable) (names names′ : List ℕ) (first at r : ℕ) : Type 0 where
+  pub ends : r ≡ at + sum (map variableSize vs)
+  pub entered : names′ ≡ declareAll names (variableEntries first vs)
+
+pub record Forgotten (vs : List Variable) (names names′ : List ℕ) (at r : ℕ) : Type 0 where
+  pub ends : r ≡ at + sum (map variableSize vs)
+  pub forgotten : names′ ≡ forgetAll names (map (λ v. v .name) vs)
+
+placed-entries : (first at : ℕ) (vs : List Variable) → entriesFrom first (map placedVariableName (placed variableSize at vs)) ≡ variableEntries first vs
+placed-entries first at [] = refl
+placed-entries first at (v ∷ vs) = ap (λ l. (v .name, first + 1) ∷ l) (placed-entries (first + 1) (at + variableSize v) vs)
+
+placed-names : (at : ℕ) (vs : List Variable) → namesOf (map placedVariableName (placed variableSize at vs)) ≡ map (λ v. v .name) vs
+placed-names at [] = refl
+placed-names at (v ∷ vs) = ap (λ l. v .name ∷ l) (placed-names (at + variableSize v) vs)
+
+module _ {s names names′ : List ℕ} {count at r : ℕ} where
+  pub entered-told : {first : ℕ} → VariablesEntered s names names′ first count at r → (enums : ℕ) (vs : List Variable) → length vs ≡ count → Variables s enums at vs → Entered vs names names′ first at r
+  entered-told {first} h enums vs e there =
+      record {
+        ends = h .ends ∙ ap (λ n. endFrom (behindVariable s) n at) (sym e) ∙ variables-end enums vs there;
+        entered = h .entered ∙ ap (λ n. declareAll names (entriesFrom first (variablesFrom s n at))) (sym e) ∙ ap (λ l. declareAll names (entriesFrom first l)) (variables-listed enums vs there)
+            ∙ ap (declareAll names) (placed-entries first at vs);
+      }
+
+  pub forgotten-told : VariablesForgotten s names names′ count at r → (enums : ℕ) (vs : List Variable) → length vs ≡ count → Variables s enums at vs → Forgotten vs names names′ at r
+  forgotten-told h enums vs e there =
+      record {
+        ends = h .ends ∙ ap (λ n. endFrom (behindVariable s) n at) (sym e) ∙ variables-end enums vs there;
+        forgotten = h .forgotten ∙ ap (λ n. forgetAll names (namesOf (variablesFrom s n at))) (sym e) ∙ ap (λ l. forgetAll names (namesOf l)) (variables-listed enums vs there) ∙ ap (forgetAll names) (placed-names at vs);
+      }
 
 -- ---- variants
 
-pub record VariantsGoing (s xs names₀ names : List ℕ) (at i next : ℕ) : Type 0 where
-  pub passing : NamePassing s at xs i next
-  pub entered : declareAll names (map variantEntry (drop i xs)) ≡ declareAll names₀ (map variantEntry xs)
+pub record VariantsGoing (s names₀ names : List ℕ) (count at i next : ℕ) : Type 0 where
+  pub entered : declareAll names (map variantEntry (namesOf (namesFrom s (count - i) next))) ≡ declareAll names₀ (map variantEntry (namesOf (namesFrom s count at)))
 
-module _ {s xs names₀ : List ℕ} {at : ℕ} where
-  pub variants-start : Names s 0 at xs → VariantsGoing s xs names₀ names₀ at 0 at
-  variants-start h = record { passing = passing-start nameBytes nameFits (λ x. 2) h; entered = refl }
+module _ {s names₀ : List ℕ} {count at : ℕ} where
+  pub variants-start : VariantsGoing s names₀ names₀ count at 0 at
+  variants-start = record { entered = rw (less-none count) refl }
 
-  module _ {names : List ℕ} {i next : ℕ} (g : VariantsGoing s xs names₀ names at i next) where
-    pub variants-turn : i < length xs → (x : ℕ) (names′ : List ℕ) → x ≡ nameAt s next → names′ ≡ declared names x 255 → VariantsGoing s xs names₀ names′ at (i + 1) (next + 2)
+  module _ {names : List ℕ} {i next : ℕ} (g : VariantsGoing s names₀ names count at i next) where
+    pub variants-turn : i < count → {x : ℕ} {names′ : List ℕ} → x ≡ nameAt s next → names′ ≡ declared names x 255 → VariantsGoing s names₀ names′ count at (i + 1) (next + 2)
     unfolding declareAll
-    variants-turn lt x names′ ex h =
-        let it = passing-item (λ y. refl) 0 (g .passing) lt in
-        let y = getD xs i 0 in
+    variants-turn lt {x} {names′} ex h =
         record {
-          passing = it .on;
-          entered = ap (λ l. declareAll l (map variantEntry (drop (i + 1) xs))) (h ∙ ap (λ z. declared names z 255) (ex ∙ here-name y (it .fit) (it .here)))
-              ∙ ap (λ m. declareAll names (variantEntry y ∷ map variantEntry (drop m xs))) (add-one i)
-              ∙ ap (λ l. declareAll names (map variantEntry l)) (sym (drop-cons xs i 0 lt)) ∙ g .entered;
+          entered = ap (λ l. declareAll l (map variantEntry (namesOf (namesFrom s (count - (i + 1)) (next + 2))))) (h ∙ ap (λ z. declared names z 255) ex)
+              ∙ ap (λ l. declareAll names (map variantEntry (namesOf (map (namedAt s) l)))) (sym (starts-on behindName count i next lt)) ∙ g .entered;
         }
 
-    pub variants-done : length xs ≤ i → names ≡ declareAll names₀ (map variantEntry xs)
+    pub variants-done : count ≤ i → names ≡ declareAll names₀ (map variantEntry (namesOf (namesFrom s count at)))
     unfolding declareAll
-    variants-done over = ap (λ l. declareAll names (map variantEntry l)) (sym (drop-of-length-le xs over)) ∙ g .entered
+    variants-done over = ap (λ l. declareAll names (map variantEntry (namesOf (map (namedAt s) l)))) (sym (starts-none behindName count i next over)) ∙ g .entered
+
+-- ---- the variants of enums
+
+pub record EnumsGoing (s names₀ names : List ℕ) (count at i next : ℕ) : Type 0 where
+  pub entered : declareAll names (map variantEntry (variantsFrom s (count - i) next)) ≡ declareAll names₀ (map variantEntry (variantsFrom s count at))
+
+module _ {s names₀ : List ℕ} {count at : ℕ} where
+  pub enums-start : EnumsGoing s names₀ names₀ count at 0 at
+  enums-start = record { entered = rw (less-none count) refl }
+
+  module _ {names : List ℕ} {i next : ℕ} (g : EnumsGoing s names₀ names count at i next) where
+    pub enums-turn : i < count → {n r : ℕ} {names′ : List ℕ} → Byte s next n → r ≡ behindEnum s next → names′ ≡ declareAll names (map variantEntry (namesOf (namesFrom s n (next + 1)))) → EnumsGoing s names₀ names′ count at (i + 1) r
+    enums-turn lt {n} {r} {names′} b er h =
+        let here = namesOf (namesFrom s (getD s next 0) (next + 1)) in
+        let rest = variantsFrom s (count - (i + 1)) (behindEnum s next) in
+        record {
+          entered = ap (λ p. declareAll names′ (map variantEntry (variantsFrom s (count - (i + 1)) p))) er
+              ∙ ap (λ l. declareAll l (map variantEntry rest)) (h ∙ ap (λ m. declareAll names (map variantEntry (namesOf (namesFrom s m (next + 1))))) (b .is))
+              ∙ sym (declare-append names (map variantEntry here) (map variantEntry rest)) ∙ ap (declareAll names) (sym (map-append variantEntry here rest))
+              ∙ ap (λ l. declareAll names (map variantEntry l)) (sym (variants-on s count i next lt)) ∙ g .entered;
+        }
+
+    pub enums-done : count ≤ i → names ≡ declareAll names₀ (map variantEntry (variantsFrom s count at))
+    unfolding declareAll
+    enums-done over = ap (λ l. declareAll names (map variantEntry l)) (sym (variants-none s count i next over)) ∙ g .entered
+
+pub enums-told : (s names : List ℕ) {names′ : List ℕ} {count at : ℕ} → names′ ≡ declareAll names (map variantEntry (variantsFrom s count at)) → (es : List (List ℕ)) → length es ≡ count → Enums s at es → names′ ≡ declareAll names (map variantEntry (concat es))
+enums-told s names {names′} {count} {at} h es e there =
+    h ∙ ap (λ n. declareAll names (map variantEntry (variantsFrom s n at))) (sym e) ∙ ap (λ l. declareAll names (map variantEntry l)) (variants-listed at es there)

@@ -286,6 +286,11 @@ unfolding againB markAll
 again-append names inputs defined [] qs = refl
 again-append names inputs defined (p ∷ ps) qs = ap (λ l. (p .0, takenB defined inputs (getD names (p .1) 0)) ∷ l) (again-append names inputs (set defined (getD names (p .1) 0) 1) ps qs)
 
+mark-append : (names defined : List ℕ) (ps qs : List (ℕ × ℕ)) → markAll names defined (ps ++ qs) ≡ markAll names (markAll names defined ps) qs
+unfolding markAll
+mark-append names defined [] qs = refl
+mark-append names defined (p ∷ ps) qs = mark-append names (set defined (getD names (p .1) 0) 1) ps qs
+
 abbrev pub EquationPassing : List ℕ → ℕ → ℕ → List Equation → ℕ → ℕ → Type 0
 EquationPassing s enums at qs i next = Passing equationBytes (equationFits base enums) equationSize s at qs i next
 
@@ -296,11 +301,12 @@ pub record EquationsGoing (s names rows : List ℕ) (nodes : ℕ) (t : File) (vi
   pub called : foundIn (placeOf (g .called)) (concat (map (inEquation (callsWhere bad)) (placed equationSize (g .next) (drop i qs)))) ≡ foundIn (placeOf (f .called)) (concat (map (inEquation (callsWhere bad)) (placed equationSize (f .next) qs)))
   pub shaped : foundIn (placeOf (g .shaped)) (concat (map (equationShape t) (placed equationSize (g .next) (drop i qs)))) ≡ foundIn (placeOf (f .shaped)) (concat (map (equationShape t) (placed equationSize (f .next) qs)))
   pub slotted : slotEquations s names slots (placed equationSize (g .next) (drop i qs)) ≡ slotEquations s names slots₀ (placed equationSize (f .next) qs)
+  pub marked : markAll names defined (concat (map definedBy (placed equationSize (g .next) (drop i qs)))) ≡ markAll names defined₀ (concat (map definedBy (placed equationSize (f .next) qs)))
   pub sized : Adding (f .size) (map (calleeB rows nodes) (concat (map equationSites qs))) (g .size) (map (calleeB rows nodes) (concat (map equationSites (drop i qs))))
 
 module _ {s names rows : List ℕ} {nodes : ℕ} {t : File} {visible : List ℕ} {bad : ℕ → ℕ → Bool} {inputs enums : ℕ} {qs : List Equation} {slots₀ defined₀ : List ℕ} {f : Faults} where
   pub equations-start : Listed equationBytes (equationFits base enums) s (f .next) qs → EquationsGoing s names rows nodes t visible bad inputs enums qs slots₀ defined₀ f slots₀ defined₀ f 0
-  equations-start h = record { passing = passing-start equationBytes (equationFits base enums) equationSize h; unseen = refl; again = refl; called = refl; shaped = refl; slotted = refl; sized = λ le. (le, refl) }
+  equations-start h = record { passing = passing-start equationBytes (equationFits base enums) equationSize h; unseen = refl; again = refl; called = refl; shaped = refl; slotted = refl; marked = refl; sized = λ le. (le, refl) }
 
   module _ {slots defined : List ℕ} {g : Faults} {i : ℕ} (w : EquationsGoing s names rows nodes t visible bad inputs enums qs slots₀ defined₀ f slots defined g i) where
     equation-at : i < length qs → PassedItem equationBytes (equationFits base enums) equationSize s (f .next) qs i (g .next) (getD qs i noEquation)
@@ -330,6 +336,11 @@ module _ {s names rows : List ℕ} {nodes : ℕ} {t : File} {visible : List ℕ}
           slotted = ap (λ n. slotEquations s names slots′ (placed equationSize n (drop (i + 1) qs))) (j .next)
               ∙ ap (λ l. slotEquations s names l (placed equationSize (g .next + equationSize q) (drop (i + 1) qs))) (j .slotted)
               ∙ ap (slotEquations s names slots) (sym on) ∙ w .slotted;
+          marked =
+              let here = definedBy (g .next, q) in
+              let rest = concat (map definedBy (placed equationSize (g .next + equationSize q) (drop (i + 1) qs))) in
+              ap (λ n. markAll names defined′ (concat (map definedBy (placed equationSize n (drop (i + 1) qs))))) (j .next) ∙ ap (λ l. markAll names l rest) (j .marked)
+              ∙ sym (mark-append names defined here rest) ∙ ap (λ l. markAll names defined (concat (map definedBy l))) (sym on) ∙ w .marked;
           sized = λ le.
               let v = w .sized le in
               let a = j .sized (v .0) in
@@ -347,7 +358,7 @@ module _ {s names rows : List ℕ} {nodes : ℕ} {t : File} {visible : List ℕ}
     equations-cut lt out = omega (arith, here-inside (equation-at lt .here) (omega (arith, equation-size (getD qs i noEquation))), equation-size (getD qs i noEquation))
 
     pub equations-done : length qs ≤ i → EquationsJudged s names rows nodes t visible bad inputs (f .next) qs slots₀ slots defined₀ defined f g
-    unfolding slotEquations againB
+    unfolding slotEquations againB markAll
     equations-done over =
         record {
           unseen = left-none (equationUses visible) equationSize qs i (g .next) (placeOf (g .unseen)) _ over (w .unseen);
@@ -355,6 +366,7 @@ module _ {s names rows : List ℕ} {nodes : ℕ} {t : File} {visible : List ℕ}
           called = left-none (inEquation (callsWhere bad)) equationSize qs i (g .next) (placeOf (g .called)) _ over (w .called);
           shaped = left-none (equationShape t) equationSize qs i (g .next) (placeOf (g .shaped)) _ over (w .shaped);
           slotted = ap (λ l. slotEquations s names slots (placed equationSize (g .next) l)) (sym (drop-of-length-le qs over)) ∙ w .slotted;
+          marked = ap (λ l. markAll names defined (concat (map definedBy (placed equationSize (g .next) l)))) (sym (drop-of-length-le qs over)) ∙ w .marked;
           sized = λ le.
               let v = w .sized le in
               sym (min-cap (g .size) 65536 (v .0)) ∙ ap (λ l. min (g .size + sum (map (calleeB rows nodes) (concat (map equationSites l)))) 65536) (sym (drop-of-length-le qs over)) ∙ v .1;

@@ -1,81 +1,42 @@
 -- A whole file: variants, constants, nodes.
 use Prim.Native.Nat.{ℕ, _+_, _-_, _*_, _≤_, _<_}
 use mathlib.Core.Bool.{Bool, true, false, cond}
-use mathlib.Core.List.{List, [], _∷_, _++_, map, map-append}
+use mathlib.Core.List.{List, [], _∷_, _++_, map}
 use mathlib.Core.Option.{none}
 use mathlib.Core.Logic.{by-cases}
 use mathlib.Core.Path.{_≡_, refl, sym, ap, subst, _∙_}
 use native.Mathlib.Omega.{arith}
-use native.Mathlib.Numerals.{add-one}
 use native.Mathlib.Decide.{decLe}
-use lib.ListN.{length, getD, set, drop, drop-of-length-le}
-use lib.Seq.{drop-cons, getD-set-same, getD-set-other, set-out}
+use lib.ListN.{length, getD, set}
+use lib.Seq.{getD-set-same, getD-set-other, set-out}
 use lib.Dec.{eqb}
 use Rattle.ol_spec.specs.Lists.{concat, sum}
 use Rattle.ol_spec.specs.Syntax.{Constant, File, constantName}
-use Rattle.ol_spec.specs.Places.{enumSize, constantSize, constantsStart, placed, placedConstants, placedNodes}
-use Rattle.ol_spec.specs.Encode.{nameBytes, sectionBytes, constantBytes}
+use Rattle.ol_spec.specs.Places.{constantSize, constantsStart, placed, placedConstants, placedNodes}
+use Rattle.ol_spec.specs.Encode.{constantBytes}
 use Rattle.ol_spec.specs.Limits.{base}
-use Rattle.ol_spec.specs.Within.{enumFits, countFits, constantFits}
+use Rattle.ol_spec.specs.Within.{constantFits}
 use Rattle.ol_spec.specs.Admission.{first, variants, constantNames, constantUses, nodeUses, nodeCalls, nodeShape, inConstant, callsWhere, shapeItem, numbered, fault7, fault8, fault9, fault10}
-use Rattle.ol_spec.proofs.Tests.{T-and}
 use Rattle.ol_spec.proofs.Walks.{first-append}
-use Rattle.ol_spec.proofs.RoundTrip.Parts.{here-inside, here-back}
-use Rattle.ol_spec.proofs.RoundTrip.Items.{names-size}
 use Rattle.ol_tables.specs.At.{fileAt}
 use Rattle.ol_tables.specs.Tables.{Each}
-use Rattle.ol_tables.specs.Stands.{Listed, Names, FileStands}
-use Rattle.ol_tables.proofs.HeadLaws.{here-first}
-use Rattle.ol_tables.proofs.HeadsFile.{Passing, Item as PassedItem, passing-start, passing-item}
+use Rattle.ol_tables.specs.Stands.{Listed, FileStands}
 use Rattle.ol_check.specs.Founds.{placeOf}
 use Rattle.ol_tables.specs.Heads.{Byte}
-use Rattle.ol_check.specs.RowsDone.{Enums}
+use Rattle.ol_check.specs.Spans.{variantsFrom}
 use Rattle.ol_check.specs.Entries.{declared, declareAll, variantEntry, constantEntries, Global}
-use Rattle.ol_check.specs.Judging.{foundIn, Knows}
-use Rattle.ol_check.specs.NodesJudged.{RowsReady, nodeAgain, NodesJudged, slotNodes}
+use Rattle.ol_check.specs.Judging.{foundIn, Knows, globalNames}
+use Rattle.ol_check.specs.NodesJudged.{RowsReady, AllCovered, NamesReady, nodeAgain, NodesJudged, slotNodes}
 use Rattle.ol_check.specs.ConstantsJudged.{ConstantsJudged, ConstantsReady, slotConstants}
 use Rattle.ol_check.specs.Sizes.{NodesSized}
 use Rattle.ol_check.specs.FileJudged.{FileReady, NamesWithin, variantTable, globalTable, FileJudged}
 use Rattle.ol_check.specs.declared.Faults.{Faults}
 use Rattle.ol_check.specs.declared.rows.Sections.{Sections}
-use Rattle.ol_check.proofs.EntryLaws.{declare-append, Enterable, knows-all, declare-length}
+use Rattle.ol_check.proofs.EntryLoops.{enums-told}
+use Rattle.ol_check.proofs.EntryLaws.{Enterable, knows-all, declare-length}
 use Rattle.ol_check.proofs.NodeLaws.{outputs-told, ready-at}
+use Rattle.ol_check.proofs.SizeTable.{last-any}
 use Rattle.ol_check.proofs.Definitions.{nodes-defined}
-
--- ---- the variants of the enums
-
-pub record EnumsGoing (s : List ℕ) (es : List (List ℕ)) (names₀ names : List ℕ) (at i next : ℕ) : Type 0 where
-  pub passing : Passing (sectionBytes nameBytes) (enumFits base) enumSize s at es i next
-  pub entered : declareAll names (map variantEntry (concat (drop i es))) ≡ declareAll names₀ (map variantEntry (concat es))
-
-module _ {s : List ℕ} {es : List (List ℕ)} {names₀ : List ℕ} {at : ℕ} where
-  pub enums-start : Enums s at es → EnumsGoing s es names₀ names₀ at 0 at
-  enums-start h = record { passing = passing-start (sectionBytes nameBytes) (enumFits base) enumSize h; entered = refl }
-
-  module _ {names : List ℕ} {i next : ℕ} (g : EnumsGoing s es names₀ names at i next) where
-    enum-at : i < length es → PassedItem (sectionBytes nameBytes) (enumFits base) enumSize s at es i next (getD es i [])
-    enum-at lt = passing-item names-size [] (g .passing) lt
-
-    pub enums-cut : i < length es → length s ≤ next → ⊥
-    enums-cut lt out = omega (arith, here-inside (enum-at lt .here) (omega (arith, names-size (getD es i []))), names-size (getD es i []))
-
-    pub enums-turn : i < length es → (n r : ℕ) (names′ : List ℕ) → Byte s next n → r ≡ next + 1 + 2 * getD s next 0
-        → ((xs : List ℕ) → length xs ≡ n → Names s 0 (next + 1) xs → names′ ≡ declareAll names (map variantEntry xs)) → EnumsGoing s es names₀ names′ at (i + 1) r
-    enums-turn lt n r names′ b er h =
-        let it = enum-at lt in
-        let vs = getD es i [] in
-        let many = here-first (length vs) _ (it .here) in
-        let w = h vs (sym (b .is ∙ many)) (record { here = here-back (length vs ∷ []) _ (it .here); fit = T-and (countFits 1 32 (length vs)) _ (it .fit) .1 }) in
-        record {
-          passing = subst (Passing (sectionBytes nameBytes) (enumFits base) enumSize s at es (i + 1)) (omega (arith, er, many)) (it .on);
-          entered = ap (λ l. declareAll l (map variantEntry (concat (drop (i + 1) es)))) w ∙ sym (declare-append names (map variantEntry vs) (map variantEntry (concat (drop (i + 1) es))))
-              ∙ ap (declareAll names) (sym (map-append variantEntry vs (concat (drop (i + 1) es)))) ∙ ap (λ m. declareAll names (map variantEntry (vs ++ concat (drop m es)))) (add-one i)
-              ∙ ap (λ l. declareAll names (map variantEntry (concat l))) (sym (drop-cons es i [] lt)) ∙ g .entered;
-        }
-
-    pub enums-done : length es ≤ i → names ≡ declareAll names₀ (map variantEntry (concat es))
-    unfolding declareAll
-    enums-done over = ap (λ l. declareAll names (map variantEntry (concat l))) (sym (drop-of-length-le es over)) ∙ g .entered
 
 -- ---- the table outside the nodes
 
@@ -145,18 +106,18 @@ module _ {s rows names : List ℕ} {at : Sections} (rd : FileReady s rows names 
       let many = b .is ∙ ap (λ p. getD s p 0) place ∙ st .nodeCount in
       record { reads = rd .reads; row = rd .row; many = many; few = omega (arith, st .fewNodes) }
 
-  pub constant-count : {n : ℕ} → Byte s (at .constants) n → length (fileAt s .constants) ≡ n
-  constant-count b = sym (b .is ∙ ap (λ p. getD s p 0) (omega (arith, rd .sections .constants)) ∙ st .constantCount)
+  pub constant-count : {n : ℕ} → Byte s (at .constants) n → n ≡ length (fileAt s .constants)
+  constant-count b = b .is ∙ ap (λ p. getD s p 0) (omega (arith, rd .sections .constants)) ∙ st .constantCount
 
   pub enum-count : {n : ℕ} → Byte s 1 n → length (fileAt s .enums) ≡ n
   enum-count b = sym (b .is ∙ st .enumCount)
 
   module _ {nodes ec cc : ℕ} {names₁ : List ℕ} (nb : Byte s (at .nodes) nodes) (eb : Byte s 1 ec) (cb : Byte s (at .constants) cc)
-      (entered : (es : List (List ℕ)) → length es ≡ ec → Enums s 2 es → names₁ ≡ declareAll names (map variantEntry (concat es))) where
+      (entered : names₁ ≡ declareAll names (map variantEntry (variantsFrom s ec 2))) where
     pub table-is : names₁ ≡ variantTable names (fileAt s)
-    table-is = entered (fileAt s .enums) (enum-count eb) (st .enums)
+    table-is = enums-told s names entered (fileAt s .enums) (enum-count eb) (st .enums)
 
-    constants-ready : ConstantsReady s names₁ rows nodes (fileAt s) (variants (fileAt s)) (length (fileAt s .enums)) (at .constants + 1) (fileAt s .constants)
+    pub constants-ready : ConstantsReady s names₁ rows nodes (fileAt s) (variants (fileAt s)) (length (fileAt s .enums)) (at .constants + 1) (fileAt s .constants)
     constants-ready =
         let f = fileAt s in
         let rr = rows-ready nb in
@@ -169,35 +130,33 @@ module _ {s rows names : List ℕ} {at : Sections} (rd : FileReady s rows names 
         }
 
     module _ {names₂ slots slots₁ : List ℕ} {g₀ g : Faults} (en : g₀ .next ≡ at .constants + 1) (eu : placeOf (g₀ .unseen) ≡ none) (eg : placeOf (g₀ .again) ≡ none) (ec₀ : placeOf (g₀ .called) ≡ none) (eh : placeOf (g₀ .shaped) ≡ none)
-        (constants : (t : File) (visible : List ℕ) (enums : ℕ) (cs : List Constant) → length cs ≡ cc → ConstantsReady s names₁ rows nodes t visible enums (g₀ .next) cs → ConstantsJudged s names₁ t visible (g₀ .next) cs slots slots₁ names₂ g₀ g) where
-      abbrev cj : ConstantsJudged s names₁ (fileAt s) (variants (fileAt s)) (g₀ .next) (fileAt s .constants) slots slots₁ names₂ g₀ g
-      cj = constants (fileAt s) (variants (fileAt s)) (length (fileAt s .enums)) (fileAt s .constants) (constant-count cb)
-          (subst (λ p. ConstantsReady s names₁ rows nodes (fileAt s) (variants (fileAt s)) (length (fileAt s .enums)) p (fileAt s .constants)) (sym en) constants-ready)
-
+        (cj : ConstantsJudged s names₁ (fileAt s) (variants (fileAt s)) (g₀ .next) (fileAt s .constants) slots slots₁ names₂ g₀ g) where
       pub global-is : names₂ ≡ globalTable names (fileAt s)
       global-is = cj .entered ∙ ap (λ l. declareAll l (constantEntries 0 (fileAt s .constants))) table-is
 
-      pub global-ready : Global names₂
-      global-ready = subst Global (sym global-is) (globals-global names (fileAt s) (rd .empty) within)
+      pub names-ready : NamesReady names₂ (fileAt s)
+      names-ready =
+          let f = fileAt s in
+          let same : length names ≡ length names₂ = sym (ap length global-is ∙ declare-length (variantTable names f) (constantEntries 0 (f .constants)) ∙ declare-length names (map variantEntry (variants f))) in
+          record {
+            global = subst Global (sym global-is) (globals-global names f (rd .empty) within);
+            knows = subst (λ l. Knows l (globalNames f)) (sym global-is) (globals-known names f (rd .empty) within);
+            covered = subst (λ n. AllCovered n f) same (within .nodes);
+          }
 
-      module _ {names₃ slots₂ rows′ : List ℕ} {r : Faults} (same : names₃ ≡ names₂)
-          (nodesJudged : (visible : List ℕ) → Knows names₂ visible → Rattle.ol_check.specs.NodesJudged.AllCovered (length names₂) (fileAt s) → NodesJudged s names₂ (fileAt s) visible slots₁ slots₂ g r × NodesSized (fileAt s) rows rows′ (r .size)) where
+      module _ {names₃ slots₂ rows′ : List ℕ} {r : Faults} (same : names₃ ≡ names₂) (nj : NodesJudged s names₂ (fileAt s) slots₁ slots₂ g r) (ns : NodesSized (fileAt s) rows rows′ (g .size) (r .size)) where
         pub file-judged : FileJudged s (fileAt s) names names₃ slots slots₂ rows rows′ r
         unfolding fault7 fault8 fault9 fault10
         file-judged =
             let f = fileAt s in
-            let length-same : length names ≡ length names₂ = sym (ap length global-is ∙ declare-length (variantTable names f) (constantEntries 0 (f .constants)) ∙ declare-length names (map variantEntry (variants f))) in
-            let known = subst (λ l. Knows l (constantNames f ++ variants f)) (sym global-is) (globals-known names f (rd .empty) within) in
-            let covered = subst (λ n. Rattle.ol_check.specs.NodesJudged.AllCovered n f) length-same (within .nodes) in
-            let both = nodesJudged (constantNames f ++ variants f) known covered in
-            let nj = both .0 in
+            let table-again : placeOf (r .again) ≡ first (concat (map (nodeAgain names₂) (placedNodes f))) = nj .again ∙ ap (λ o. foundIn o (concat (map (nodeAgain names₂) (placedNodes f)))) (ap placeOf (cj .again) ∙ eg) in
             let start : g₀ .next ≡ constantsStart f = en ∙ rd .sections .constants in
             let cs = f .constants in
             record {
               unseen = nj .unseen ∙ ap (λ o. foundIn o (concat (map (nodeUses (constantNames f ++ variants f)) (placedNodes f)))) (cj .unseen ∙ ap (λ o. foundIn o (constantUses (variants f) (placed constantSize (g₀ .next) cs))) eu ∙ ap (λ p. first (constantUses (variants f) (placed constantSize p cs))) start)
                   ∙ sym (first-append (constantUses (variants f) (placedConstants f)) (concat (map (nodeUses (constantNames f ++ variants f)) (placedNodes f))));
-              again = λ no7. nj .again ∙ ap (λ o. foundIn o (concat (map (nodeAgain names₂) (placedNodes f)))) (ap placeOf (cj .again) ∙ eg)
-                  ∙ ap first (nodes-defined st names₂ global-ready known covered no7);
+              taken = table-again ∙ ap (λ l. first (concat (map (nodeAgain l) (placedNodes f)))) global-is;
+              again = λ no7. table-again ∙ ap first (nodes-defined st names₂ (names-ready .global) (names-ready .knows) (names-ready .covered) no7);
               called = nj .called ∙ ap (λ o. foundIn o (concat (map (nodeCalls f) (numbered 0 (placedNodes f))))) (cj .called ∙ ap (λ o. foundIn o (concat (map (inConstant (callsWhere (λ x n. true))) (placed constantSize (g₀ .next) cs)))) ec₀ ∙ ap (λ p. first (concat (map (inConstant (callsWhere (λ x n. true))) (placed constantSize p cs)))) start)
                   ∙ sym (first-append (concat (map (inConstant (callsWhere (λ x n. true))) (placedConstants f))) (concat (map (nodeCalls f) (numbered 0 (placedNodes f)))));
               shaped = nj .shaped ∙ ap (λ o. foundIn o (concat (map (nodeShape f) (placedNodes f)))) (cj .shaped ∙ ap (λ o. foundIn o (concat (map (inConstant (shapeItem f)) (placed constantSize (g₀ .next) cs)))) eh ∙ ap (λ p. first (concat (map (inConstant (shapeItem f)) (placed constantSize p cs)))) start)
@@ -205,6 +164,8 @@ module _ {s rows names : List ℕ} {at : Sections} (rd : FileReady s rows names 
               entered = same ∙ global-is;
               slotted = nj .slotted ∙ ap (λ l. slotNodes s l slots₁ (placedNodes f)) global-is
                   ∙ ap (λ l. slotNodes s (globalTable names f) l (placedNodes f)) (cj .slotted ∙ ap (λ p. slotConstants s names₁ slots 0 (placed constantSize p cs)) start ∙ ap (λ l. slotConstants s l slots 0 (placedConstants f)) table-is);
-              sized = both .1 .done;
-              main = both .1 .main (st .someNode);
+              stored = ns .stored;
+              last = ns .last ∙ last-any (g .size) 0 rows (length (f .nodes)) 0 (f .nodes) (st .someNode);
+              sized = ns .done;
+              main = ns .main (st .someNode);
             }

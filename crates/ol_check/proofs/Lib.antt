@@ -1,4 +1,5 @@
 pub mod Truths
+pub mod SpanLaws
 pub mod RowLoops
 pub mod HeadTests
 pub mod WalkLoop

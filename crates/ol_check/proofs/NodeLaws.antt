@@ -22,6 +22,7 @@ use Rattle.ol_spec.specs.Admission.{calleeIn, badCall, mayCall, equationUses, i
 use Rattle.ol_spec.specs.Step.{sites}
 use Rattle.ol_spec.proofs.Admitted.{length-placed}
 use Rattle.ol_check.proofs.WalkLoop.{found-none, found-append}
+use Rattle.ol_check.proofs.EntryLoops.{Entered, Forgotten}
 use Rattle.ol_tables.specs.At.{fileAt}
 use Rattle.ol_tables.specs.Tables.{rowAt, nodeOf, Each}
 use Rattle.ol_tables.specs.Stands.{Listed, Variables, Equations, NodeStands, FileStands}
@@ -30,9 +31,9 @@ use Rattle.ol_check.specs.Founds.{placeOf}
 use Rattle.ol_tables.specs.Heads.{Byte}
 use Rattle.ol_check.specs.RowsDone.{NodeRow}
 use Rattle.ol_check.specs.Records.{calleeB, recordBy}
-use Rattle.ol_check.specs.Entries.{declareAll, forgetAll, variableEntries, VariablesEntered, VariablesForgotten, Global}
-use Rattle.ol_check.specs.Judging.{mayB, badB, outputsB, Knows, Context, EquationsJudged, foundIn, slotEquations, againB}
-use Rattle.ol_check.specs.NodesJudged.{placeIn, NodeReady, nodeTable, Covered, nodeAgain, NodeJudged, RowsReady, slotNodes, NodesJudged}
+use Rattle.ol_check.specs.Entries.{declareAll, forgetAll, variableEntries, Global}
+use Rattle.ol_check.specs.Judging.{mayB, badB, outputsB, Knows, Context, EquationsJudged, foundIn, slotEquations, againB, globalNames, seenIn, EquationsReady}
+use Rattle.ol_check.specs.NodesJudged.{placeIn, NodeReady, nodeTable, Covered, nodeAgain, NodeJudged, RowsReady, slotNodes, NodesJudged, NamesReady}
 use Rattle.ol_check.specs.declared.Faults.{Faults}
 use Rattle.ol_check.proofs.RowLoops.{few-variables}
 use Rattle.ol_check.proofs.EntryLaws.{declare-append, forget-append, entries-append, Enterable, knows-all, restored}
@@ -81,7 +82,7 @@ module _ {s rows : List ℕ} {nodes k : ℕ} (rd : NodeReady s rows nodes k) (st
         locals-there = subst (λ a. Listed variableBytes (variableFits base (length (fileAt s .enums))) s (a + 1) (the .locals)) (sym locals-at) (ready-node .locals)
 
 -- three sections of variables, one after the other
-pub entered-three : {a b c : List Variable} {names n₁ n₂ n₃ : List ℕ} {i j x y z p q r : ℕ} → i ≡ length a → j ≡ length b → VariablesEntered a names n₁ 0 x p → VariablesEntered b n₁ n₂ i y q → VariablesEntered c n₂ n₃ (i + j) z r
+pub entered-three : {a b c : List Variable} {names n₁ n₂ n₃ : List ℕ} {i j x y z p q r : ℕ} → i ≡ length a → j ≡ length b → Entered a names n₁ 0 x p → Entered b n₁ n₂ i y q → Entered c n₂ n₃ (i + j) z r
     → n₃ ≡ declareAll names (variableEntries 0 (a ++ b ++ c))
 entered-three {a} {b} {c} {names} {n₁} {n₂} {n₃} {i} {j} ei ej u v w =
     let second : variableEntries 0 a ++ variableEntries i b ≡ variableEntries 0 (a ++ b) = ap (λ n. variableEntries 0 a ++ variableEntries n b) (omega arith) ∙ sym (entries-append 0 a b) in
@@ -89,7 +90,7 @@ entered-three {a} {b} {c} {names} {n₁} {n₂} {n₃} {i} {j} ei ej u v w =
     w .entered ∙ ap (λ l. declareAll l (variableEntries (i + j) c)) (v .entered ∙ ap (λ l. declareAll l (variableEntries i b)) (u .entered) ∙ sym (declare-append names (variableEntries 0 a) (variableEntries i b)) ∙ ap (declareAll names) second)
     ∙ sym (declare-append names (variableEntries 0 (a ++ b)) (variableEntries (i + j) c)) ∙ ap (declareAll names) third
 
-pub forgotten-three : {a b c : List Variable} {names n₁ n₂ n₃ : List ℕ} {x y z p q r : ℕ} → VariablesForgotten a names n₁ x p → VariablesForgotten b n₁ n₂ y q → VariablesForgotten c n₂ n₃ z r → n₃ ≡ forgetAll names (map nameOf (a ++ b ++ c))
+pub forgotten-three : {a b c : List Variable} {names n₁ n₂ n₃ : List ℕ} {x y z p q r : ℕ} → Forgotten a names n₁ x p → Forgotten b n₁ n₂ y q → Forgotten c n₂ n₃ z r → n₃ ≡ forgetAll names (map nameOf (a ++ b ++ c))
 forgotten-three {a} {b} {c} {names} u v w =
     w .forgotten ∙ ap (λ l. forgetAll l (map nameOf c)) (v .forgotten ∙ ap (λ l. forgetAll l (map nameOf b)) (u .forgotten) ∙ sym (forget-append names (map nameOf a) (map nameOf b)) ∙ ap (forgetAll names) (sym (map-append nameOf a b)))
     ∙ sym (forget-append names (map nameOf (a ++ b)) (map nameOf c)) ∙ ap (forgetAll names) (sym (map-append nameOf (a ++ b) c))
@@ -157,21 +158,32 @@ module _ {s rows : List ℕ} {nodes k : ℕ} (rd : NodeReady s rows nodes k) whe
 
 -- ---- a node
 
+-- its equations stand where its row says
+pub equations-ready : {s rows : List ℕ} {nodes k : ℕ} → NodeReady s rows nodes k → FileStands s (fileAt s) → (names : List ℕ) {n₁ : List ℕ} {m a : ℕ} → NamesReady names (fileAt s) → n₁ ≡ nodeTable names (nodeOf (fileAt s) k) → m ≡ rowAt rows k 5
+    → a ≡ rowAt rows k 1 → EquationsReady s n₁ rows nodes k m a
+equations-ready {s} {rows} {nodes} {k} rd st names {n₁} {m} {a} nr en em ea =
+    let f = fileAt s in
+    let n = nodeOf f k in
+    let row = rd .row k (omega (arith, rd .low, rd .many)) in
+    record {
+      context = subst (λ l. Context f k l rows nodes (seenIn f k) (badCall f k n)) (sym en) (node-context rd names (globalNames f) (nr .knows) (nr .covered k (omega (arith, rd .low, rd .many))));
+      count = em ∙ row .count;
+      stand = subst (λ x. Listed equationBytes (equationFits base (length (f .enums))) s x (n .equations)) (sym (ea ∙ row .equations)) (node-at st k (omega (arith, rd .low, rd .many)) .equations);
+    }
+
 module _ {s rows : List ℕ} {nodes k : ℕ} (rd : NodeReady s rows nodes k) (st : FileStands s (fileAt s)) (names : List ℕ) {n₁ slots slots′ defined′ : List ℕ} {m a i v : ℕ} {g r : Faults}
     (en : n₁ ≡ nodeTable names (nodeOf (fileAt s) k)) (em : m ≡ getD rows (k * 8 + 5) 0) (ea : a ≡ getD rows (k * 8 + 1) 0) (ei : i ≡ getD rows (k * 8 + 2) 0) (ev : v ≡ getD rows (k * 8 + 4) 0)
-    (eqs : (t : File) (visible : List ℕ) (bad : ℕ → ℕ → Bool) (enums : ℕ) (qs : List Equation) → Context t k n₁ rows nodes visible bad → length qs ≡ m → Equations s enums a qs
-    → EquationsJudged s n₁ rows nodes t visible bad i a qs slots slots′ (replicate 256 0) defined′ (record { unseen = g .unseen; again = g .again; called = g .called; shaped = g .shaped; size = 1 + 9 * v; next = a }) r) where
-  pub node-judged : (visible : List ℕ) → Knows names visible → Covered (length names) (nodeOf (fileAt s) k) → NodeJudged s names rows nodes (fileAt s) visible k slots slots′ g r
-  node-judged visible knows covered =
+    (w : EquationsJudged s n₁ rows nodes (fileAt s) (seenIn (fileAt s) k) (badCall (fileAt s) k (nodeOf (fileAt s) k)) i a (nodeOf (fileAt s) k .equations) slots slots′ (replicate 256 0) defined′
+    (record { unseen = g .unseen; again = g .again; called = g .called; shaped = g .shaped; size = 1 + 9 * v; next = a }) r) where
+  pub node-judged : NodeJudged s names rows nodes (fileAt s) k slots slots′ g r
+  node-judged =
       let f = fileAt s in
       let n = nodeOf f k in
       let p = placeIn f k in
       let row = rd .row k (omega (arith, rd .low, rd .many)) in
       let ns = node-at st k (omega (arith, rd .low, rd .many)) in
+      let visible = globalNames f in
       let here : a ≡ equationsStart p n + 1 = ea ∙ row .equations in
-      let ctx = subst (λ l. Context f k l rows nodes (variableNames n ++ visible) (badCall f k n)) (sym en) (node-context rd names visible knows covered) in
-      let w = eqs f (variableNames n ++ visible) (badCall f k n) (length (f .enums)) (n .equations) ctx (sym (em ∙ row .count))
-      (subst (λ x. Listed equationBytes (equationFits base (length (f .enums))) s x (n .equations)) (sym here) (ns .equations)) in
       record {
         unseen = w .unseen ∙ ap (λ x. foundIn (placeOf (g .unseen)) (concat (map (equationUses (variableNames n ++ visible)) (placed equationSize x (n .equations))))) here;
         again = w .again ∙ ap (λ x. foundIn (placeOf (g .again)) (againB n₁ i (replicate 256 0) (concat (map definedBy (placed equationSize x (n .equations)))))) here
@@ -211,19 +223,19 @@ nodes-on f k lt =
 left-on : {A : Type 0} (g : A → List Item) (l rest : List A) (x : A) (o o′ z : Option ℕ) → l ≡ x ∷ rest → o′ ≡ foundIn o (g x) → foundIn o (concat (map g l)) ≡ z → foundIn o′ (concat (map g rest)) ≡ z
 left-on g l rest x o o′ z el eo ez = ap (λ y. foundIn y (concat (map g rest))) eo ∙ found-append o (g x) (concat (map g rest)) ∙ ap (λ m. foundIn o (concat (map g m))) (sym el) ∙ ez
 
-pub record NodesGoing (s names : List ℕ) (f : File) (visible : List ℕ) (slots₀ : List ℕ) (g₀ : Faults) (slots : List ℕ) (g : Faults) (k : ℕ) : Type 0 where
-  pub unseen : foundIn (placeOf (g .unseen)) (concat (map (nodeUses visible) (drop k (placedNodes f)))) ≡ foundIn (placeOf (g₀ .unseen)) (concat (map (nodeUses visible) (placedNodes f)))
+pub record NodesGoing (s names : List ℕ) (f : File) (slots₀ : List ℕ) (g₀ : Faults) (slots : List ℕ) (g : Faults) (k : ℕ) : Type 0 where
+  pub unseen : foundIn (placeOf (g .unseen)) (concat (map (nodeUses (globalNames f)) (drop k (placedNodes f)))) ≡ foundIn (placeOf (g₀ .unseen)) (concat (map (nodeUses (globalNames f)) (placedNodes f)))
   pub again : foundIn (placeOf (g .again)) (concat (map (nodeAgain names) (drop k (placedNodes f)))) ≡ foundIn (placeOf (g₀ .again)) (concat (map (nodeAgain names) (placedNodes f)))
   pub called : foundIn (placeOf (g .called)) (concat (map (nodeCalls f) (numbered k (drop k (placedNodes f))))) ≡ foundIn (placeOf (g₀ .called)) (concat (map (nodeCalls f) (numbered 0 (placedNodes f))))
   pub shaped : foundIn (placeOf (g .shaped)) (concat (map (nodeShape f) (drop k (placedNodes f)))) ≡ foundIn (placeOf (g₀ .shaped)) (concat (map (nodeShape f) (placedNodes f)))
   pub slotted : slotNodes s names slots (drop k (placedNodes f)) ≡ slotNodes s names slots₀ (placedNodes f)
 
-module _ {s names : List ℕ} {f : File} {visible slots₀ : List ℕ} {g₀ : Faults} where
-  pub nodes-start : NodesGoing s names f visible slots₀ g₀ slots₀ g₀ 0
+module _ {s names : List ℕ} {f : File} {slots₀ : List ℕ} {g₀ : Faults} where
+  pub nodes-start : NodesGoing s names f slots₀ g₀ slots₀ g₀ 0
   nodes-start = record { unseen = refl; again = refl; called = refl; shaped = refl; slotted = refl }
 
-  module _ {slots : List ℕ} {g : Faults} {k : ℕ} (w : NodesGoing s names f visible slots₀ g₀ slots g k) where
-    pub nodes-turn : k < length (f .nodes) → (slots′ : List ℕ) (r : Faults) {rows : List ℕ} {nodes : ℕ} → NodeJudged s names rows nodes f visible k slots slots′ g r → NodesGoing s names f visible slots₀ g₀ slots′ r (k + 1)
+  module _ {slots : List ℕ} {g : Faults} {k : ℕ} (w : NodesGoing s names f slots₀ g₀ slots g k) where
+    pub nodes-turn : k < length (f .nodes) → (slots′ : List ℕ) (r : Faults) {rows : List ℕ} {nodes : ℕ} → NodeJudged s names rows nodes f k slots slots′ g r → NodesGoing s names f slots₀ g₀ slots′ r (k + 1)
     unfolding slotNodes
     nodes-turn lt slots′ r j =
         let x : ℕ × Node = (placeIn f k, nodeOf f k) in
@@ -231,19 +243,19 @@ module _ {s names : List ℕ} {f : File} {visible slots₀ : List ℕ} {g₀ : F
         let rest = drop (k + 1) (placedNodes f) in
         let counted : numbered k (drop k (placedNodes f)) ≡ (k, x) ∷ numbered (k + 1) rest = ap (numbered k) on ∙ ap (λ n. (k, x) ∷ numbered n rest) (sym (add-one k)) in
         record {
-          unseen = left-on (nodeUses visible) (drop k (placedNodes f)) rest x (placeOf (g .unseen)) _ _ on (j .unseen) (w .unseen);
+          unseen = left-on (nodeUses (globalNames f)) (drop k (placedNodes f)) rest x (placeOf (g .unseen)) _ _ on (j .unseen) (w .unseen);
           again = left-on (nodeAgain names) (drop k (placedNodes f)) rest x (placeOf (g .again)) _ _ on (j .again) (w .again);
           called = left-on (nodeCalls f) (numbered k (drop k (placedNodes f))) (numbered (k + 1) rest) (k, x) (placeOf (g .called)) _ _ counted (j .called) (w .called);
           shaped = left-on (nodeShape f) (drop k (placedNodes f)) rest x (placeOf (g .shaped)) _ _ on (j .shaped) (w .shaped);
           slotted = ap (λ l. slotNodes s names l rest) (j .slotted) ∙ ap (slotNodes s names slots) (sym on) ∙ w .slotted;
         }
 
-    pub nodes-judged : length (f .nodes) ≤ k → NodesJudged s names f visible slots₀ slots g₀ g
+    pub nodes-judged : length (f .nodes) ≤ k → NodesJudged s names f slots₀ slots g₀ g
     unfolding slotNodes
     nodes-judged over =
         let empty : drop k (placedNodes f) ≡ [] = drop-of-length-le (placedNodes f) {i = k} (omega (arith, length-placed nodeSize (nodesStart f) (f .nodes))) in
         record {
-          unseen = sym (found-none (placeOf (g .unseen))) ∙ ap (λ l. foundIn (placeOf (g .unseen)) (concat (map (nodeUses visible) l))) (sym empty) ∙ w .unseen;
+          unseen = sym (found-none (placeOf (g .unseen))) ∙ ap (λ l. foundIn (placeOf (g .unseen)) (concat (map (nodeUses (globalNames f)) l))) (sym empty) ∙ w .unseen;
           again = sym (found-none (placeOf (g .again))) ∙ ap (λ l. foundIn (placeOf (g .again)) (concat (map (nodeAgain names) l))) (sym empty) ∙ w .again;
           called = sym (found-none (placeOf (g .called))) ∙ ap (λ l. foundIn (placeOf (g .called)) (concat (map (nodeCalls f) (numbered k l)))) (sym empty) ∙ w .called;
           shaped = sym (found-none (placeOf (g .shaped))) ∙ ap (λ l. foundIn (placeOf (g .shaped)) (concat (map (nodeShape f) l))) (sym empty) ∙ w .shaped;
@@ -254,8 +266,5 @@ pub ready-at : {s rows : List ℕ} {nodes : ℕ} → RowsReady s rows nodes → 
 ready-at rd k lt = record { reads = rd .reads; row = rd .row; many = rd .many; low = lt; few = rd .few }
 
 -- the table is the one at the start
-pub judged-same : {s names names₀ rows : List ℕ} {nodes : ℕ} {f : File} {k : ℕ} {slots slots′ : List ℕ} {g r : Faults} → names ≡ names₀
-    → ((visible : List ℕ) → Knows names visible → Covered (length names) (nodeOf f k) → NodeJudged s names rows nodes f visible k slots slots′ g r)
-    → (visible : List ℕ) → Knows names₀ visible → Covered (length names₀) (nodeOf f k) → NodeJudged s names₀ rows nodes f visible k slots slots′ g r
-judged-same {s} {names} {names₀} {rows} {nodes} {f} {k} {slots} {slots′} {g} {r} e h =
-    subst (λ l. (visible : List ℕ) → Knows l visible → Covered (length l) (nodeOf f k) → NodeJudged s l rows nodes f visible k slots slots′ g r) e h
+pub judged-same : {s names names₀ rows : List ℕ} {nodes : ℕ} {f : File} {k : ℕ} {slots slots′ : List ℕ} {g r : Faults} → names ≡ names₀ → NodeJudged s names rows nodes f k slots slots′ g r → NodeJudged s names₀ rows nodes f k slots slots′ g r
+judged-same {s} {names} {names₀} {rows} {nodes} {f} {k} {slots} {slots′} {g} {r} e h = subst (λ l. NodeJudged s l rows nodes f k slots slots′ g r) e h

@@ -26,12 +26,35 @@ use Rattle.ol_tables.proofs.HeadLaws.{here-first, here-name}
 use Rattle.ol_tables.proofs.HeadsFile.{Passing, Item, passing-start, passing-item, passing-end, variable-stands, node-at}
 use Rattle.ol_tables.proofs.Walking.{ty-small}
 use Rattle.ol_tables.specs.Heads.{Byte}
-use Rattle.ol_check.specs.RowsDone.{Enums, EnumsAre, EnumsDone, typeSet, TypeAt, noVariable, VariablesDone, putAll}
-use Rattle.ol_check.specs.RowsDone.{NodeRow, NodeTypes, NodeIs, NodeDone, PlacesAre, NodesDone, TablesDone}
+use Rattle.ol_check.specs.Spans.{endFrom, behindVariable, behindEnum}
+use Rattle.ol_check.specs.RowsDone.{Enums, EnumsAre, firstsFrom, EnumsStored, typeSet, TypeAt, noVariable, VariablesAre, typesFrom, TypesStored, putAll, outputsAt, localsAt, equationsAt, rowFrom, nodeTypes, NodeStored}
+use Rattle.ol_check.specs.RowsDone.{NodeRow, NodeTypes, NodeIs, PlacesAre, NodesAre, rowsFrom, nodesTypes, NodesStored, TablesDone}
+use Rattle.ol_check.proofs.SpanLaws.{less-none, end-on, end-none, variables-near}
 
--- an item with a byte stands inside the file
-pub item-in : {s : List ℕ} {at : ℕ} {w : List ℕ} (n : ℕ) → Here s at w → length w ≡ n → 1 ≤ n → length s ≤ at → ⊥
-item-in n h e some out = omega (arith, here-inside h (omega arith))
+-- ---- for items that stand in the file, and what stays as it was
+
+-- the first variants of so many enums are stored, and the nodes' rows are as before
+pub record EnumsDone (s rows rows′ : List ℕ) (count at r : ℕ) : Type 0 where
+  pub kept : (j : ℕ) → j < 256 → getD rows′ j 0 ≡ getD rows j 0
+  pub done : (es : List (List ℕ)) → length es ≡ count → Enums s at es → EnumsAre es rows′ at r
+
+-- the types of so many variables are stored from number `first` on, and the others are as before
+pub record VariablesDone (s types types′ : List ℕ) (first count at r : ℕ) : Type 0 where
+  pub near : r ≤ at + 4 * count
+  pub below : (j : ℕ) → j < first * 2 → getD types′ j 0 ≡ getD types j 0
+  pub above : (j : ℕ) → (first + count) * 2 ≤ j → getD types′ j 0 ≡ getD types j 0
+  pub done : (enums : ℕ) (vs : List Variable) → length vs ≡ count → (first + count) * 2 ≤ length types → Listed variableBytes (variableFits base enums) s at vs → VariablesAre vs types′ first at r
+
+-- node k's row and types are stored, the other rows and the types below are as before
+pub record NodeDone (s rows rows′ types types′ : List ℕ) (k at : ℕ) : Type 0 where
+  pub below : (j : ℕ) → j < k * 8 → getD rows′ j 0 ≡ getD rows j 0
+  pub above : (j : ℕ) → k * 8 + 8 ≤ j → getD rows′ j 0 ≡ getD rows j 0
+  pub typed : (j : ℕ) → j < k * 224 → getD types′ j 0 ≡ getD types j 0
+  pub done : (enums : ℕ) (n : Node) → NodeStands s enums at n → NodeIs n at k rows′ types′
+
+pub record NodesDone (s places rows rows′ types′ : List ℕ) (count : ℕ) : Type 0 where
+  pub above : (j : ℕ) → 256 ≤ j → getD rows′ j 0 ≡ getD rows j 0
+  pub done : (f : File) → length (f .nodes) ≡ count → FileStands s f → PlacesAre f places → NodesAre f rows′ types′
 
 -- ---- enums
 
@@ -83,9 +106,6 @@ module _ {s rows₀ : List ℕ} {count at : ℕ} where
               };
         }
 
-    pub enums-in : e < count → length s ≤ next → (es : List (List ℕ)) → length es ≡ count → Enums s at es → ⊥
-    enums-in lt out es q h = let it = enum-item es q h lt in item-in _ (it .here) (names-size (getD es e [])) (omega arith) out
-
     pub enums-done : count ≤ e → EnumsDone s rows₀ rows count at next
     enums-done over =
         record {
@@ -95,9 +115,41 @@ module _ {s rows₀ : List ℕ} {count at : ℕ} where
               record { ends = passing-end (w .passing) (omega arith); firsts = λ i lt. w .firsts i (omega (arith, g .few)) };
         }
 
-    -- the file ends before the enums do: none stand there
-    pub enums-cut : e < count → length s ≤ next → EnumsDone s rows₀ rows count at next
-    enums-cut lt out = record { kept = g .kept; done = λ es q h. absurd (enums-in lt out es q h) }
+-- the first variants, stored one after the other
+enums-replay : {s rows₀ : List ℕ} {count at : ℕ} (n : ℕ) {rows : List ℕ} {e next : ℕ} → count ≤ 16 → e + n ≡ count → EnumsGoing s rows₀ rows count at next e → EnumsDone s rows₀ (firstsFrom s e n next rows) count at (endFrom (behindEnum s) n next)
+unfolding firstsFrom endFrom
+enums-replay zero most eq g = enums-done g (omega arith)
+enums-replay {s} (suc n) {rows} {e} {next} most eq g = enums-replay n most (omega arith) (enums-turn g most (omega arith) (nameAt s (next + 1)) (behindEnum s next) refl refl)
+
+pub enums-told : {s rows rows′ : List ℕ} {count at r : ℕ} → count ≤ 16 → length rows ≡ 272 → EnumsStored s rows rows′ count at r → EnumsDone s rows rows′ count at r
+enums-told {s} {rows} {rows′} {count} {at} {r} most long h =
+    subst (λ p. EnumsDone s rows rows′ count at p) (sym (h .ends)) (subst (λ l. EnumsDone s rows l count at (endFrom (behindEnum s) count at)) (sym (h .stored)) (enums-replay count most (omega arith) (enums-start long)))
+
+-- those from number e on are left
+pub record FirstsGoing (s rows₀ rows : List ℕ) (count at e next : ℕ) : Type 0 where
+  pub left : firstsFrom s e (count - e) next rows ≡ firstsFrom s 0 count at rows₀
+  pub end : endFrom (behindEnum s) (count - e) next ≡ endFrom (behindEnum s) count at
+
+module _ {s rows₀ : List ℕ} {count at : ℕ} where
+  pub firsts-start : FirstsGoing s rows₀ rows₀ count at 0 at
+  firsts-start = record { left = rw (less-none count) refl; end = rw (less-none count) refl }
+
+  module _ {rows : List ℕ} {e next : ℕ} (g : FirstsGoing s rows₀ rows count at e next) where
+    pub firsts-turn : e < count → {x r : ℕ} {rows′ : List ℕ} → x ≡ nameAt s (next + 1) → rows′ ≡ set rows (256 + e) x → r ≡ behindEnum s next → FirstsGoing s rows₀ rows′ count at (e + 1) r
+    unfolding firstsFrom
+    firsts-turn lt {x} {r} {rows′} ex h er =
+        let less : count - e ≡ suc (count - (e + 1)) = omega arith in
+        record {
+          left = ap (λ p. firstsFrom s (e + 1) (count - (e + 1)) p rows′) er ∙ ap (firstsFrom s (e + 1) (count - (e + 1)) (behindEnum s next)) (h ∙ ap (set rows (256 + e)) ex)
+              ∙ ap (λ n. firstsFrom s e n next rows) (sym less) ∙ g .left;
+          end = ap (endFrom (behindEnum s) (count - (e + 1))) er ∙ sym (end-on (behindEnum s) count e next lt) ∙ g .end;
+        }
+
+    pub firsts-done : count ≤ e → EnumsStored s rows₀ rows count at next
+    unfolding firstsFrom
+    firsts-done over =
+        let none-left : count - e ≡ 0 = omega arith in
+        record { ends = sym (end-none (behindEnum s) count e next over) ∙ g .end; stored = ap (λ n. firstsFrom s e n next rows) (sym none-left) ∙ g .left }
 
 -- ---- types
 
@@ -172,17 +224,6 @@ module _ {s types₀ : List ℕ} {first count at : ℕ} where
               };
         }
 
-    pub variables-cut : i < count → length s ≤ next → VariablesDone s types₀ types first count at next
-    variables-cut lt out =
-        record {
-          near = omega (arith, g .near);
-          below = g .below;
-          above = λ j h. g .above j (omega arith);
-          done = λ enums vs q room h.
-              let it = passing-item variable-size noVariable (g .going enums vs q room h .passing) (omega arith) in
-              absurd (item-in _ (it .here) (variable-size (getD vs i noVariable)) (omega arith) out);
-        }
-
     pub variables-done : count ≤ i → VariablesDone s types₀ types first count at next
     variables-done over =
         record {
@@ -193,6 +234,57 @@ module _ {s types₀ : List ℕ} {first count at : ℕ} where
               let w = g .going enums vs q room h in
               record { ends = passing-end (w .passing) (omega arith); typed = λ j lt. w .typed j (omega arith) };
         }
+
+-- the types, stored one after the other
+types-replay : {s types₀ : List ℕ} {first count at : ℕ} (n : ℕ) {types : List ℕ} {next : ℕ} (i : ℕ) → i + n ≡ count → VariablesGoing s types₀ types first count at next i → VariablesDone s types₀ (typesFrom s (first + i) n next types) first count at (endFrom (behindVariable s) n next)
+unfolding typesFrom endFrom
+types-replay zero i eq g = variables-done g (omega arith)
+types-replay {s} {types₀} {first} {count} {at} (suc n) {types} {next} i eq g =
+    let number : first + (i + 1) ≡ first + i + 1 = omega arith in
+    subst (λ m. VariablesDone s types₀ (typesFrom s m n (behindVariable s next) (typeSet types (first + i) s (next + 2))) first count at (endFrom (behindVariable s) n (behindVariable s next))) number
+    (types-replay n (i + 1) (omega arith) (variables-turn g (omega arith) _ refl))
+
+pub types-told : {s types types′ : List ℕ} {first count at r : ℕ} → TypesStored s types types′ first count at r → VariablesDone s types types′ first count at r
+types-told {s} {types} {types′} {first} {count} {at} {r} h =
+    let none-yet : first + 0 ≡ first = omega arith in
+    subst (λ p. VariablesDone s types types′ first count at p) (sym (h .ends))
+    (subst (λ l. VariablesDone s types l first count at (endFrom (behindVariable s) count at)) (ap (λ m. typesFrom s m count at types) none-yet ∙ sym (h .stored)) (types-replay count 0 (omega arith) variables-start))
+
+types-length : (s : List ℕ) (n i at : ℕ) (types : List ℕ) → length (typesFrom s i n at types) ≡ length types
+unfolding typesFrom
+types-length s zero i at types = refl
+types-length s (suc n) i at types = types-length s n (i + 1) (behindVariable s at) (typeSet types i s (at + 2)) ∙ type-length types i s (at + 2)
+
+-- those from number i on are left
+pub record TypesGoing (s types₀ types : List ℕ) (first count at i next : ℕ) : Type 0 where
+  pub left : typesFrom s (first + i) (count - i) next types ≡ typesFrom s first count at types₀
+  pub end : endFrom (behindVariable s) (count - i) next ≡ endFrom (behindVariable s) count at
+
+module _ {s types₀ : List ℕ} {first count at : ℕ} where
+  pub types-start : TypesGoing s types₀ types₀ first count at 0 at
+  types-start = let none-yet : first + 0 ≡ first = omega arith in record { left = rw (less-none count, none-yet) refl; end = rw (less-none count) refl }
+
+  module _ {types : List ℕ} {i next : ℕ} (g : TypesGoing s types₀ types first count at i next) where
+    pub types-turn : i < count → {n : ℕ} {types′ : List ℕ} → types′ ≡ typeSet types (first + i) s (next + 2) → n ≡ tySizeAt s (next + 2) → TypesGoing s types₀ types′ first count at (i + 1) (next + 2 + n)
+    unfolding typesFrom
+    types-turn lt {n} {types′} h en =
+        let less : count - i ≡ suc (count - (i + 1)) = omega arith in
+        let number : first + (i + 1) ≡ first + i + 1 = omega arith in
+        let behind = ap (λ m. next + 2 + m) en in
+        record {
+          left = ap (λ p. typesFrom s (first + (i + 1)) (count - (i + 1)) p types′) behind ∙ ap (typesFrom s (first + (i + 1)) (count - (i + 1)) (behindVariable s next)) h
+              ∙ ap (λ m. typesFrom s m (count - (i + 1)) (behindVariable s next) (typeSet types (first + i) s (next + 2))) number ∙ ap (λ m. typesFrom s (first + i) m next types) (sym less) ∙ g .left;
+          end = ap (endFrom (behindVariable s) (count - (i + 1))) behind ∙ sym (end-on (behindVariable s) count i next lt) ∙ g .end;
+        }
+
+    pub types-done : count ≤ i → TypesStored s types₀ types first count at next
+    unfolding typesFrom
+    types-done over =
+        let none-left : count - i ≡ 0 = omega arith in
+        record { ends = sym (end-none (behindVariable s) count i next over) ∙ g .end; stored = ap (λ m. typesFrom s (first + i) m next types) (sym none-left) ∙ g .left }
+
+pub types-near : {s types types′ : List ℕ} {first count at r : ℕ} → TypesStored s types types′ first count at r → r ≤ at + 4 * count
+types-near {s} {count = count} {at = at} h = omega (arith, h .ends, variables-near s count at)
 
 -- ---- nodes
 
@@ -233,28 +325,28 @@ types-append types first vs ws a b i lt =
     (rw (getD-append-add vs ws j noVariable) (subst (λ m. TypeAt types m (getD ws j noVariable .ty)) (add-assoc first (length vs) j) w)))
 
 module _ (rows : List ℕ) {s rows′ types t₁ t₂ t₃ : List ℕ} {k at i o oc l lc q qc kind : ℕ} (low : k < 32) (long : length rows ≡ 272) (wide : length types ≡ 7168)
-    (ib : Byte s (at + 1) i) (v₁ : VariablesDone s types t₁ (k * 112) i (at + 2) o) (l₁ : length t₁ ≡ length types)
-    (ob : Byte s o oc) (v₂ : VariablesDone s t₁ t₂ (k * 112 + i) oc (o + 1) l) (l₂ : length t₂ ≡ length t₁)
-    (lb : Byte s l lc) (v₃ : VariablesDone s t₂ t₃ (k * 112 + i + oc) lc (l + 1) q)
-    (qb : Byte s q qc) (kb : Byte s at kind) (put : rows′ ≡ putAll rows (k * 8) (kind ∷ (q + 1) ∷ i ∷ oc ∷ (i + oc + lc) ∷ qc ∷ 0 ∷ at ∷ [])) where
+    (ib : i ≡ getD s (at + 1) 0) (v₁ : VariablesDone s types t₁ (k * 112) i (at + 2) o) (l₁ : length t₁ ≡ length types)
+    (ob : oc ≡ getD s o 0) (v₂ : VariablesDone s t₁ t₂ (k * 112 + i) oc (o + 1) l) (l₂ : length t₂ ≡ length t₁)
+    (lb : lc ≡ getD s l 0) (v₃ : VariablesDone s t₂ t₃ (k * 112 + i + oc) lc (l + 1) q)
+    (qb : qc ≡ getD s q 0) (kb : kind ≡ getD s at 0) (put : rows′ ≡ putAll rows (k * 8) (kind ∷ (q + 1) ∷ i ∷ oc ∷ (i + oc + lc) ∷ qc ∷ 0 ∷ at ∷ [])) where
   -- what stands in the file where the sections start
   node-is : (enums : ℕ) (n : Node) → NodeStands s enums at n → NodeIs n at k rows′ t₃
   node-is enums n st =
-      let ei : length (n .inputs) ≡ i = sym (ib .is ∙ st .inputCount) in
+      let ei : length (n .inputs) ≡ i = sym (ib ∙ st .inputCount) in
       let w₁ = v₁ .done enums (n .inputs) ei (omega (arith, st .fewInputs)) (st .inputs) in
       let eo : o ≡ outputsStart at n = omega (arith, w₁ .ends) in
-      let no : length (n .outputs) ≡ oc = sym (ob .is ∙ ap (λ p. getD s p 0) eo ∙ st .outputCount) in
+      let no : length (n .outputs) ≡ oc = sym (ob ∙ ap (λ p. getD s p 0) eo ∙ st .outputCount) in
       let w₂ = v₂ .done enums (n .outputs) no (omega (arith, st .fewInputs, st .fewOutputs)) (subst (λ p. Listed variableBytes (variableFits base enums) s (p + 1) (n .outputs)) (sym eo) (st .outputs)) in
       let el : l ≡ localsStart at n = omega (arith, w₂ .ends, eo) in
-      let nl : length (n .locals) ≡ lc = sym (lb .is ∙ ap (λ p. getD s p 0) el ∙ st .localCount) in
+      let nl : length (n .locals) ≡ lc = sym (lb ∙ ap (λ p. getD s p 0) el ∙ st .localCount) in
       let w₃ = v₃ .done enums (n .locals) nl (omega (arith, st .fewInputs, st .fewOutputs, st .fewLocals)) (subst (λ p. Listed variableBytes (variableFits base enums) s (p + 1) (n .locals)) (sym el) (st .locals)) in
       let eq : q ≡ equationsStart at n = omega (arith, w₃ .ends, el) in
-      let nq : length (n .equations) ≡ qc = sym (qb .is ∙ ap (λ p. getD s p 0) eq ∙ st .equationCount) in
+      let nq : length (n .equations) ≡ qc = sym (qb ∙ ap (λ p. getD s p 0) eq ∙ st .equationCount) in
       let ns = kind ∷ (q + 1) ∷ i ∷ oc ∷ (i + oc + lc) ∷ qc ∷ 0 ∷ at ∷ [] in
       let at-entry : (j : ℕ) → j < 8 → rowAt rows′ k j ≡ getD ns j 0 = λ j h. rw put (put-inside rows ns (k * 8) j h (omega (arith, long))) in
       record {
         row = record {
-          kind = at-entry 0 (omega arith) ∙ kb .is ∙ st .kind;
+          kind = at-entry 0 (omega arith) ∙ kb ∙ st .kind;
           equations = at-entry 1 (omega arith) ∙ ap (λ p. p + 1) eq;
           inputs = at-entry 2 (omega arith) ∙ sym ei;
           outputs = at-entry 3 (omega arith) ∙ sym no;
@@ -281,10 +373,38 @@ module _ (rows : List ℕ) {s rows′ types t₁ t₂ t₃ : List ℕ} {k at i o
         done = node-is;
       }
 
--- the file ends before the node: none stands there
-pub node-cut : {s rows types : List ℕ} {k at : ℕ} → length s ≤ at → NodeDone s rows rows types types k at
-node-cut {s} {rows} {types} {k} {at} out =
-    record { below = λ j h. refl; above = λ j h. refl; typed = λ j h. refl; done = λ enums n st. absurd (omega (arith, st .inside)) }
+-- what is stored, by the bytes
+pub node-stored : {s rows rows′ types t₁ t₂ t₃ : List ℕ} {k at i o oc l lc q qc kind : ℕ} → i ≡ getD s (at + 1) 0 → TypesStored s types t₁ (k * 112) i (at + 2) o → oc ≡ getD s o 0 → TypesStored s t₁ t₂ (k * 112 + i) oc (o + 1) l
+    → lc ≡ getD s l 0 → TypesStored s t₂ t₃ (k * 112 + i + oc) lc (l + 1) q → qc ≡ getD s q 0 → kind ≡ getD s at 0 → rows′ ≡ putAll rows (k * 8) (kind ∷ (q + 1) ∷ i ∷ oc ∷ (i + oc + lc) ∷ qc ∷ 0 ∷ at ∷ []) → NodeStored s rows rows′ types t₃ k at
+node-stored {s} {rows} {rows′} {types} {t₁} {t₂} {t₃} {k} {at} {i} {o} {oc} {l} {lc} {q} {qc} {kind} ei v₁ eoc v₂ elc v₃ eqc ek put =
+    let eo : o ≡ outputsAt s at = v₁ .ends ∙ ap (λ n. endFrom (behindVariable s) n (at + 2)) ei in
+    let no : oc ≡ getD s (outputsAt s at) 0 = eoc ∙ ap (λ p. getD s p 0) eo in
+    let el : l ≡ localsAt s at = v₂ .ends ∙ ap (λ n. endFrom (behindVariable s) n (o + 1)) no ∙ ap (λ p. endFrom (behindVariable s) (getD s (outputsAt s at) 0) (p + 1)) eo in
+    let nl : lc ≡ getD s (localsAt s at) 0 = elc ∙ ap (λ p. getD s p 0) el in
+    let eq : q ≡ equationsAt s at = v₃ .ends ∙ ap (λ n. endFrom (behindVariable s) n (l + 1)) nl ∙ ap (λ p. endFrom (behindVariable s) (getD s (localsAt s at) 0) (p + 1)) el in
+    let nq : qc ≡ getD s (equationsAt s at) 0 = eqc ∙ ap (λ p. getD s p 0) eq in
+    record {
+      row = put ∙ rw (ek, eq, nl, no, ei, nq) refl;
+      typed = v₃ .stored ∙ ap (typesFrom s (k * 112 + i + oc) lc (l + 1)) (v₂ .stored ∙ ap (typesFrom s (k * 112 + i) oc (o + 1)) (v₁ .stored)) ∙ rw (nl, no, ei, el, eo) refl;
+    }
+
+node-types-length : (s : List ℕ) (k at : ℕ) (types : List ℕ) → length (nodeTypes s k at types) ≡ length types
+node-types-length s k at types =
+    types-length s (getD s (localsAt s at) 0) _ (localsAt s at + 1) _ ∙ types-length s (getD s (outputsAt s at) 0) _ (outputsAt s at + 1) _ ∙ types-length s (getD s (at + 1) 0) (k * 112) (at + 2) types
+
+pub node-told : {s rows rows′ types types′ : List ℕ} {k at : ℕ} → k < 32 → length rows ≡ 272 → length types ≡ 7168 → NodeStored s rows rows′ types types′ k at → NodeDone s rows rows′ types types′ k at
+node-told {s} {rows} {rows′} {types} {types′} {k} {at} low long wide h =
+    let i = getD s (at + 1) 0 in
+    let oc = getD s (outputsAt s at) 0 in
+    let lc = getD s (localsAt s at) 0 in
+    let t₁ = typesFrom s (k * 112) i (at + 2) types in
+    let t₂ = typesFrom s (k * 112 + i) oc (outputsAt s at + 1) t₁ in
+    let t₃ = typesFrom s (k * 112 + i + oc) lc (localsAt s at + 1) t₂ in
+    let v₁ : TypesStored s types t₁ (k * 112) i (at + 2) (outputsAt s at) = record { ends = refl; stored = refl } in
+    let v₂ : TypesStored s t₁ t₂ (k * 112 + i) oc (outputsAt s at + 1) (localsAt s at) = record { ends = refl; stored = refl } in
+    let v₃ : TypesStored s t₂ t₃ (k * 112 + i + oc) lc (localsAt s at + 1) (equationsAt s at) = record { ends = refl; stored = refl } in
+    subst (λ l. NodeDone s rows rows′ types l k at) (sym (h .typed))
+    (node-done rows low long wide refl (types-told v₁) (types-length s i (k * 112) (at + 2) types) refl (types-told v₂) (types-length s oc (k * 112 + i) (outputsAt s at + 1) t₁) refl (types-told v₃) refl refl (h .row))
 
 -- the nodes below number k have their rows and types
 pub record NodeGoing (f : File) (rows types : List ℕ) (k : ℕ) : Type 0 where
@@ -354,6 +474,44 @@ module _ {s places rows₀ : List ℕ} {count : ℕ} where
           done = λ f q st pl. let w = g .going f q st pl in record { row = λ j lt. w .row j (omega (arith, g .few)); typed = λ j lt. w .typed j (omega (arith, g .few)) };
         }
 
+-- the rows and types, stored one after the other
+nodes-replay : {s places rows₀ : List ℕ} {count : ℕ} (n : ℕ) {rows types : List ℕ} {k : ℕ} → count ≤ 32 → k + n ≡ count → NodesGoing s places rows₀ rows types count k → NodesDone s places rows₀ (rowsFrom s places k n rows) (nodesTypes s places k n types) count
+unfolding rowsFrom nodesTypes
+nodes-replay zero most eq g = nodes-done g (omega arith)
+nodes-replay {s} {places} (suc n) {rows} {types} {k} most eq g =
+    let at = getD places k 0 in
+    let d : NodeStored s rows (putAll rows (k * 8) (rowFrom s at)) types (nodeTypes s k at types) k at = record { row = refl; typed = refl } in
+    nodes-replay n most (omega arith) (nodes-turn g _ _ at most (omega arith) (put-length rows (rowFrom s at) (k * 8)) (node-types-length s k at types) refl (node-told (omega arith) (g .long) (g .wide) d))
+
+pub nodes-told : {s places rows rows′ types types′ : List ℕ} {count : ℕ} → count ≤ 32 → length rows ≡ 272 → length types ≡ 7168 → NodesStored s places rows rows′ types types′ count → NodesDone s places rows rows′ types′ count
+nodes-told {s} {places} {rows} {rows′} {types} {types′} {count} most long wide h =
+    subst (λ l. NodesDone s places rows l types′ count) (sym (h .stored)) (subst (λ l. NodesDone s places rows (rowsFrom s places 0 count rows) l count) (sym (h .typed)) (nodes-replay count most (omega arith) (nodes-start types long wide)))
+
+-- those from number k on are left
+pub record RowsGoing (s places rows₀ types₀ rows types : List ℕ) (count k : ℕ) : Type 0 where
+  pub stored : rowsFrom s places k (count - k) rows ≡ rowsFrom s places 0 count rows₀
+  pub typed : nodesTypes s places k (count - k) types ≡ nodesTypes s places 0 count types₀
+
+module _ {s places rows₀ types₀ : List ℕ} {count : ℕ} where
+  pub rows-start : RowsGoing s places rows₀ types₀ rows₀ types₀ count 0
+  rows-start = record { stored = rw (less-none count) refl; typed = rw (less-none count) refl }
+
+  module _ {rows types : List ℕ} {k : ℕ} (g : RowsGoing s places rows₀ types₀ rows types count k) where
+    pub rows-turn : k < count → {at : ℕ} {rows′ types′ : List ℕ} → at ≡ getD places k 0 → NodeStored s rows rows′ types types′ k at → RowsGoing s places rows₀ types₀ rows′ types′ count (k + 1)
+    unfolding rowsFrom nodesTypes
+    rows-turn lt {at} {rows′} {types′} ea h =
+        let less : count - k ≡ suc (count - (k + 1)) = omega arith in
+        record {
+          stored = ap (rowsFrom s places (k + 1) (count - (k + 1))) (h .row ∙ ap (λ p. putAll rows (k * 8) (rowFrom s p)) ea) ∙ ap (λ n. rowsFrom s places k n rows) (sym less) ∙ g .stored;
+          typed = ap (nodesTypes s places (k + 1) (count - (k + 1))) (h .typed ∙ ap (λ p. nodeTypes s k p types) ea) ∙ ap (λ n. nodesTypes s places k n types) (sym less) ∙ g .typed;
+        }
+
+    pub rows-done : count ≤ k → NodesStored s places rows₀ rows types₀ types count
+    unfolding rowsFrom nodesTypes
+    rows-done over =
+        let none-left : count - k ≡ 0 = omega arith in
+        record { stored = ap (λ n. rowsFrom s places k n rows) (sym none-left) ∙ g .stored; typed = ap (λ n. nodesTypes s places k n types) (sym none-left) ∙ g .typed }
+
 -- ---- the whole file
 
 -- the first node stands where the nodes start
@@ -364,12 +522,23 @@ first-at (n ∷ ns) at some = refl
 pub first-place : {s places : List ℕ} {f : File} → FileStands s f → PlacesAre f places → getD places 0 0 ≡ nodesStart f
 first-place {f = f} st pl = pl .at 0 (st .someNode) ∙ first-at (f .nodes) (nodesStart f) (st .someNode)
 
+-- every node stands inside the file
+pub places-in : {s places : List ℕ} {f : File} → FileStands s f → PlacesAre f places → (k : ℕ) → k < length (f .nodes) → getD places k 0 ≤ 32768
+places-in st pl k lt = omega (arith, pl .at k lt, node-at st k lt .inside, st .short)
+
 -- the places that the reader keeps
 places-many : (ns : List Node) (at : ℕ) → length (map (λ p. p .0) (placed nodeSize at ns)) ≡ length ns
 places-many [] at = refl
 places-many (n ∷ ns) at = ap suc (places-many ns (at + nodeSize n))
 
-module _ {s : List ℕ} {f : File} (st : FileStands s f) {rows₀ rows₁ : List ℕ} {ec c : ℕ} (eb : Byte s 1 ec) (enums : EnumsDone s rows₀ rows₁ ec 2 c) where
+module _ {s : List ℕ} {f : File} (st : FileStands s f) {rows₀ rows₁ : List ℕ} {ec c : ℕ} (eb : Byte s 1 ec) (long : length rows₀ ≡ 272) (stored : EnumsStored s rows₀ rows₁ ec 2 c) where
+  -- there are at most 16
+  pub enums-few : ec ≤ 16
+  enums-few = omega (arith, eb .is ∙ st .enumCount, st .fewEnums)
+
+  pub enums : EnumsDone s rows₀ rows₁ ec 2 c
+  enums = enums-told enums-few long stored
+
   abbrev pub enums-are : EnumsAre (f .enums) rows₁ 2 c
   enums-are = enums .done (f .enums) (sym (eb .is ∙ st .enumCount)) (st .enums)
 
@@ -387,8 +556,9 @@ module _ {s : List ℕ} {f : File} (st : FileStands s f) {rows₀ rows₁ : List
         let at : n ≡ constantsStart f + sum (map constantSize (f .constants)) = omega (arith, nodes-at) in
         sym (b .is ∙ ap (λ p. getD s p 0) at ∙ st .nodeCount)
 
-    pub tables-done : {rows₂ types₂ : List ℕ} {nc : ℕ} → Byte s n nc → NodesDone s places rows₁ rows₂ types₂ nc → TablesDone f rows₂ types₂ (record { constants = c; nodes = n })
-    tables-done {rows₂} {types₂} nb nodes =
+    pub tables-done : {rows₂ types₁ types₂ : List ℕ} {nc : ℕ} → length rows₁ ≡ 272 → length types₁ ≡ 7168 → Byte s n nc → NodesStored s places rows₁ rows₂ types₁ types₂ nc → TablesDone f rows₂ types₂ (record { constants = c; nodes = n })
+    tables-done {rows₂} {types₁} {types₂} long₁ wide nb kept =
+        let nodes = nodes-told (omega (arith, nodes-count nb, st .fewNodes)) long₁ wide kept in
         let w = nodes .done f (nodes-count nb) st pl in
         record {
           sections = record { constants = constants-at; nodes = nodes-at };

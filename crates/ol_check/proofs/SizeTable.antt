@@ -7,8 +7,9 @@ use mathlib.Core.Option.{none}
 use mathlib.Core.Path.{_≡_, refl, sym, ap, subst, _∙_}
 use native.Mathlib.Omega.{arith}
 use native.Mathlib.Decide.{decLt}
-use lib.ListN.{length, getD, set, length-set, List·getD-eq-default}
-use lib.Seq.{getD-set-same, getD-set-other}
+use native.Mathlib.Numerals.{add-one}
+use lib.ListN.{length, getD, set, drop, drop-of-length-le, length-set, List·getD-eq-default}
+use lib.Seq.{drop-cons, getD-set-same, getD-set-other}
 use lib.Dec.{ltb, ltb→lt}
 use borrow.Author.Tests.{lt-ltb}
 use Rattle.ol_theory.specs.Member.{_∈_}
@@ -34,7 +35,7 @@ use Rattle.ol_tables.specs.Heads.{Byte}
 use Rattle.ol_check.specs.RowsDone.{NodeRow}
 use Rattle.ol_check.specs.NodesJudged.{RowsReady}
 use Rattle.ol_check.specs.Records.{calleeB, instanceB, recordBy}
-use Rattle.ol_check.specs.Sizes.{SizesDone, MainSized, NodesSized}
+use Rattle.ol_check.specs.Sizes.{SizesDone, MainSized, NodesSized, sizeNode, sizeNodes, lastSize}
 use Rattle.ol_check.proofs.TabLaws.{row-of}
 use Rattle.ol_check.proofs.SizeLaws.{the-main}
 
@@ -118,22 +119,36 @@ row-kept {n} {at} {k} g h =
 pub rows-kept : {s rows₀ rows : List ℕ} {nodes : ℕ} → RowsReady s rows₀ nodes → RowsKept rows₀ rows → RowsReady s rows nodes
 rows-kept rd g = record { reads = rd .reads; row = λ j lt. row-kept g (rd .row j lt); many = rd .many; few = rd .few }
 
+-- the last size does not depend on the one before the first node
+pub last-any : (a b : ℕ) (rows : List ℕ) (nodes k : ℕ) (ns : List Node) → 1 ≤ length ns → lastSize a rows nodes k ns ≡ lastSize b rows nodes k ns
+unfolding lastSize
+last-any a b rows nodes k [] some = absurd (omega arith)
+last-any a b rows nodes k (n ∷ ns) some = refl
+
 -- the records of the nodes below k are in the rows, and `size` is the last one's instance
-pub record SizesGoing (s rows : List ℕ) (size k : ℕ) : Type 0 where
+pub record SizesGoing (s rows₀ : List ℕ) (nodes size₀ : ℕ) (rows : List ℕ) (size k : ℕ) : Type 0 where
+  pub stored : sizeNodes rows nodes k (drop k (fileAt s .nodes)) ≡ sizeNodes rows₀ nodes 0 (fileAt s .nodes)
+  pub end : lastSize size rows nodes k (drop k (fileAt s .nodes)) ≡ lastSize size₀ rows₀ nodes 0 (fileAt s .nodes)
   pub sizes : fault9 (fileAt s) ≡ none → (j : ℕ) → j < k → rowAt rows j 6 ≡ min (siteBytes (fileAt s) j) 65536
   pub last : fault9 (fileAt s) ≡ none → 1 ≤ k → size ≡ min (instanceSize (sizesAt (length (fileAt s .nodes)) (fileAt s .nodes)) (nodeOf (fileAt s) (k - 1))) 65536
 
-pub sizes-start : {s rows : List ℕ} {size : ℕ} → SizesGoing s rows size 0
-sizes-start = record { sizes = λ no j h. absurd (omega arith); last = λ no h. absurd (omega arith) }
+pub sizes-start : {s rows : List ℕ} {nodes size : ℕ} → SizesGoing s rows nodes size rows size 0
+sizes-start = record { stored = refl; end = refl; sizes = λ no j h. absurd (omega arith); last = λ no h. absurd (omega arith) }
 
-module _ {s rows₀ rows : List ℕ} {nodes k : ℕ} (rd : RowsReady s rows₀ nodes) (kept : RowsKept rows₀ rows) {size₀ : ℕ} (g : SizesGoing s rows size₀ k) where
+module _ {s rows₀ rows : List ℕ} {nodes k : ℕ} (rd : RowsReady s rows₀ nodes) (kept : RowsKept rows₀ rows) {size₁ size₀ : ℕ} (g : SizesGoing s rows₀ nodes size₁ rows size₀ k) where
   pub sizes-turn : Bytes s → k < nodes → (size : ℕ) (rows′ : List ℕ) → size ≡ min (instanceB rows nodes (nodeOf (fileAt s) k)) 65536
-      → rows′ ≡ set rows (k * 8 + 6) (recordBy (rowAt rows k 0) size) → SizesGoing s rows′ size (k + 1)
+      → rows′ ≡ set rows (k * 8 + 6) (recordBy (rowAt rows k 0) size) → SizesGoing s rows₀ nodes size₁ rows′ size (k + 1)
+  unfolding sizeNodes lastSize
   sizes-turn bytes lt size rows′ es er =
       let f = fileAt s in
       let value = recordBy (rowAt rows k 0) size in
       let kind : rowAt rows k 0 ≡ kindCode (nodeOf f k .kind) = rows-kept rd kept .row k (omega (arith, rd .many)) .kind in
+      let on : drop k (f .nodes) ≡ nodeOf f k ∷ drop (k + 1) (f .nodes) = drop-cons (f .nodes) k noNode (omega (arith, rd .many)) ∙ ap (λ n. nodeOf f k ∷ drop n (f .nodes)) (sym (add-one k)) in
+      let row : rows′ ≡ sizeNode rows nodes k (nodeOf f k) = er ∙ ap (λ n. set rows (k * 8 + 6) (recordBy (rowAt rows k 0) n)) es in
       record {
+        stored = ap (λ l. sizeNodes l nodes (k + 1) (drop (k + 1) (f .nodes))) row ∙ ap (sizeNodes rows nodes k) (sym on) ∙ g .stored;
+        end = ap (λ l. lastSize size l nodes (k + 1) (drop (k + 1) (f .nodes))) row ∙ ap (λ n. lastSize n (sizeNode rows nodes k (nodeOf f k)) nodes (k + 1) (drop (k + 1) (f .nodes))) es
+            ∙ ap (lastSize size₀ rows nodes k) (sym on) ∙ g .end;
         sizes = λ no j h. by-cases (decLt j k)
             (λ old. ap (λ l. getD l (j * 8 + 6) 0) er ∙ getD-set-other rows (k * 8 + 6) (j * 8 + 6) value 0 (λ q. omega arith) ∙ g .sizes no j old)
             (λ new. let e : j ≡ k = omega arith in
@@ -145,11 +160,15 @@ module _ {s rows₀ rows : List ℕ} {nodes k : ℕ} (rd : RowsReady s rows₀ n
             ∙ ap (λ m. min (instanceSize (sizesAt (length (f .nodes)) (f .nodes)) (nodeOf f m)) 65536) (sym e);
       }
 
-  pub sizes-done : k ≤ nodes → nodes ≤ k → NodesSized (fileAt s) rows₀ rows size₀
+  pub sizes-done : k ≤ nodes → nodes ≤ k → NodesSized (fileAt s) rows₀ rows size₁ size₀
+  unfolding sizeNodes lastSize
   sizes-done under over =
       let f = fileAt s in
       let here : k ≡ nodes = omega arith in
+      let gone : drop k (f .nodes) ≡ [] = drop-of-length-le (f .nodes) {i = k} (omega (arith, rd .many)) in
       record {
+        stored = ap (sizeNodes rows nodes k) (sym gone) ∙ g .stored ∙ ap (λ n. sizeNodes rows₀ n 0 (f .nodes)) (rd .many);
+        last = ap (lastSize size₀ rows nodes k) (sym gone) ∙ g .end ∙ ap (λ n. lastSize size₁ rows₀ n 0 (f .nodes)) (rd .many);
         done = record { row = rows-kept rd kept .row; others = kept .others; above = kept .above; sizes = λ no j h. g .sizes no j (omega (arith, rd .many)) };
         main = λ one no. g .last no (omega (arith, rd .many)) ∙ ap (λ m. min (instanceSize (sizesAt (length (f .nodes)) (f .nodes)) (nodeOf f (m - 1))) 65536) here
             ∙ ap (λ n. min (instanceSize (sizesAt (length (f .nodes)) (f .nodes)) n) 65536) (sym (the-main rd (omega (arith, rd .many))));

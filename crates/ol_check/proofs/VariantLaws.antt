@@ -1,33 +1,23 @@
 -- The table of variants: what is left to be entered, and what the table tells in the end.
-use Prim.Native.Nat.{ℕ, zero, _+_, _*_, _≤_, _<_}
+use Prim.Native.Nat.{ℕ, zero, _+_, _-_, _*_, _≤_, _<_}
 use mathlib.Core.Bool.{Bool, _||_, or-true, or-false}
-use mathlib.Core.List.{List, [], _∷_, _++_}
+use mathlib.Core.List.{List, [], _∷_, _++_, map}
 use mathlib.Core.Path.{_≡_, refl, sym, ap, subst, _∙_}
 use native.Mathlib.Omega.{arith}
-use native.Mathlib.Numerals.{add-one}
-use lib.ListN.{length, getD, set, drop, length-set, drop-of-length-le}
-use lib.Seq.{drop-cons, getD-set-same, getD-set-other}
+use lib.ListN.{length, getD, set, length-set}
+use lib.Seq.{getD-set-same, getD-set-other}
 use lib.Dec.{eqb}
 use borrow.Author.Tests.{eq-eqb, ne-eqb}
 use Rattle.ol_spec.specs.Lists.{concat, member}
 use Rattle.ol_spec.specs.Syntax.{File}
-use Rattle.ol_spec.specs.Places.{enumSize}
-use Rattle.ol_spec.specs.Encode.{nameBytes, sectionBytes}
-use Rattle.ol_spec.specs.Limits.{base}
-use Rattle.ol_spec.specs.Within.{enumFits, countFits, nameFits}
 use Rattle.ol_spec.specs.Admission.{variants}
-use Rattle.ol_spec.proofs.Tests.{T-and}
-use Rattle.ol_spec.proofs.RoundTrip.Parts.{here-inside, here-back}
-use Rattle.ol_spec.proofs.RoundTrip.Items.{names-size}
-use Rattle.ol_tables.specs.Heads.{nameAt}
-use Rattle.ol_tables.specs.Stands.{Names, FileStands}
+use Rattle.ol_tables.specs.Heads.{Byte, nameAt}
+use Rattle.ol_tables.specs.Stands.{FileStands}
 use Rattle.ol_tables.specs.Tables.{Each, Tells, Variants}
-use Rattle.ol_tables.proofs.HeadLaws.{here-first, here-name}
-use Rattle.ol_tables.proofs.HeadsFile.{Passing, Item, passing-start, passing-item}
-use Rattle.ol_tables.specs.Heads.{Byte}
-use Rattle.ol_check.specs.VariantTable.{enterAll}
+use Rattle.ol_check.specs.Spans.{behindName, behindEnum, namedAt, namesOf, namesFrom, variantsFrom}
+use Rattle.ol_check.specs.VariantTable.{enterAll, VariantsEntered}
 use Rattle.ol_check.specs.Clashing.{Blank}
-use Rattle.ol_check.proofs.EquationLaws.{NamePassing}
+use Rattle.ol_check.proofs.SpanLaws.{starts-on, starts-none, less-none, variants-on, variants-none, variants-listed}
 use Rattle.ol_check.proofs.EntryLaws.{eq-cases}
 use Rattle.ol_check.proofs.NamesBelow.{low-within}
 
@@ -52,65 +42,52 @@ tells table xs zeros h x = entered x table xs h ∙ ap (λ n. member x xs || eqb
 
 -- ---- a section of names
 
-pub record NamesGoing (s xs table₀ table : List ℕ) (at i next : ℕ) : Type 0 where
-  pub passing : NamePassing s at xs i next
-  pub left : enterAll table (drop i xs) ≡ enterAll table₀ xs
+pub record NamesGoing (s table₀ table : List ℕ) (count at i next : ℕ) : Type 0 where
+  pub left : enterAll table (namesOf (namesFrom s (count - i) next)) ≡ enterAll table₀ (namesOf (namesFrom s count at))
 
-module _ {s xs table₀ : List ℕ} {at : ℕ} where
-  pub names-start : Names s 0 at xs → NamesGoing s xs table₀ table₀ at 0 at
-  names-start h = record { passing = passing-start nameBytes nameFits (λ x. 2) h; left = refl }
+module _ {s table₀ : List ℕ} {count at : ℕ} where
+  pub names-start : NamesGoing s table₀ table₀ count at 0 at
+  names-start = record { left = rw (less-none count) refl }
 
-  module _ {table : List ℕ} {i next : ℕ} (g : NamesGoing s xs table₀ table at i next) where
-    pub names-turn : i < length xs → (x : ℕ) (table′ : List ℕ) → x ≡ nameAt s next → table′ ≡ set table x 1 → NamesGoing s xs table₀ table′ at (i + 1) (next + 2)
+  module _ {table : List ℕ} {i next : ℕ} (g : NamesGoing s table₀ table count at i next) where
+    pub names-turn : i < count → {x : ℕ} {table′ : List ℕ} → x ≡ nameAt s next → table′ ≡ set table x 1 → NamesGoing s table₀ table′ count at (i + 1) (next + 2)
     unfolding enterAll
-    names-turn lt x table′ ex h =
-        let it = passing-item (λ y. refl) 0 (g .passing) lt in
-        let y = getD xs i 0 in
+    names-turn lt {x} {table′} ex h =
         record {
-          passing = it .on;
-          left = ap (λ l. enterAll l (drop (i + 1) xs)) (h ∙ ap (λ z. set table z 1) (ex ∙ here-name y (it .fit) (it .here))) ∙ ap (λ m. enterAll table (y ∷ drop m xs)) (add-one i) ∙ ap (enterAll table) (sym (drop-cons xs i 0 lt)) ∙ g .left;
+          left = ap (λ l. enterAll l (namesOf (namesFrom s (count - (i + 1)) (next + 2)))) (h ∙ ap (λ z. set table z 1) ex)
+              ∙ ap (λ l. enterAll table (namesOf (map (namedAt s) l))) (sym (starts-on behindName count i next lt)) ∙ g .left;
         }
 
-    pub names-done : length xs ≤ i → table ≡ enterAll table₀ xs
+    pub names-done : count ≤ i → table ≡ enterAll table₀ (namesOf (namesFrom s count at))
     unfolding enterAll
-    names-done over = ap (enterAll table) (sym (drop-of-length-le xs over)) ∙ g .left
+    names-done over = ap (λ l. enterAll table (namesOf (map (namedAt s) l))) (sym (starts-none behindName count i next over)) ∙ g .left
 
 -- ---- the enums of a file
 
-pub record EnumsGoing (s : List ℕ) (es : List (List ℕ)) (table₀ table : List ℕ) (i next : ℕ) : Type 0 where
-  pub passing : Passing (sectionBytes nameBytes) (enumFits base) enumSize s 2 es i next
-  pub left : enterAll table (concat (drop i es)) ≡ enterAll table₀ (concat es)
+pub record EnumsGoing (s table₀ table : List ℕ) (count i next : ℕ) : Type 0 where
+  pub left : enterAll table (variantsFrom s (count - i) next) ≡ enterAll table₀ (variantsFrom s count 2)
 
-pub enum-count : {s : List ℕ} {f : File} → FileStands s f → {n : ℕ} → Byte s 1 n → length (f .enums) ≡ n
-enum-count st b = sym (b .is ∙ st .enumCount)
+pub few-enums : {s : List ℕ} {f : File} → FileStands s f → {n : ℕ} → Byte s 1 n → n ≤ 16
+few-enums st b = omega (arith, b .is ∙ st .enumCount, st .fewEnums)
 
-module _ {s table₀ : List ℕ} {f : File} (st : FileStands s f) where
-  pub enums-start : EnumsGoing s (f .enums) table₀ table₀ 0 2
-  enums-start = record { passing = passing-start (sectionBytes nameBytes) (enumFits base) enumSize (st .enums); left = refl }
+module _ {s table₀ : List ℕ} {count : ℕ} where
+  pub enums-start : EnumsGoing s table₀ table₀ count 0 2
+  enums-start = record { left = rw (less-none count) refl }
 
-  module _ {table : List ℕ} {i next : ℕ} (g : EnumsGoing s (f .enums) table₀ table i next) where
-    enum-at : i < length (f .enums) → Item (sectionBytes nameBytes) (enumFits base) enumSize s 2 (f .enums) i next (getD (f .enums) i [])
-    enum-at lt = passing-item names-size [] (g .passing) lt
-
-    pub enums-cut : i < length (f .enums) → length s ≤ next → ⊥
-    enums-cut lt out = omega (arith, here-inside (enum-at lt .here) (omega (arith, names-size (getD (f .enums) i []))), names-size (getD (f .enums) i []))
-
-    pub enums-turn : i < length (f .enums) → (n r : ℕ) (table′ : List ℕ) → Byte s next n → r ≡ next + 1 + 2 * getD s next 0 → ((xs : List ℕ) → length xs ≡ n → Names s 0 (next + 1) xs → table′ ≡ enterAll table xs)
-        → EnumsGoing s (f .enums) table₀ table′ (i + 1) r
-    enums-turn lt n r table′ b er h =
-        let es = f .enums in
-        let it = enum-at lt in
-        let vs = getD es i [] in
-        let many = here-first (length vs) _ (it .here) in
-        let w = h vs (sym (b .is ∙ many)) (record { here = here-back (length vs ∷ []) _ (it .here); fit = T-and (countFits 1 32 (length vs)) _ (it .fit) .1 }) in
+  module _ {table : List ℕ} {i next : ℕ} (g : EnumsGoing s table₀ table count i next) where
+    pub enums-turn : i < count → {n r : ℕ} {table′ : List ℕ} → Byte s next n → r ≡ behindEnum s next → table′ ≡ enterAll table (namesOf (namesFrom s n (next + 1))) → EnumsGoing s table₀ table′ count (i + 1) r
+    enums-turn lt {n} {r} {table′} b er h =
+        let here = namesOf (namesFrom s (getD s next 0) (next + 1)) in
+        let rest = variantsFrom s (count - (i + 1)) (behindEnum s next) in
         record {
-          passing = subst (Passing (sectionBytes nameBytes) (enumFits base) enumSize s 2 es (i + 1)) (omega (arith, er, many)) (it .on);
-          left = ap (λ l. enterAll l (concat (drop (i + 1) es))) w ∙ sym (enter-append table vs (concat (drop (i + 1) es))) ∙ ap (λ m. enterAll table (vs ++ concat (drop m es))) (add-one i)
-              ∙ ap (λ l. enterAll table (concat l)) (sym (drop-cons es i [] lt)) ∙ g .left;
+          left = ap (λ p. enterAll table′ (variantsFrom s (count - (i + 1)) p)) er ∙ ap (λ l. enterAll l rest) (h ∙ ap (λ m. enterAll table (namesOf (namesFrom s m (next + 1)))) (b .is))
+              ∙ sym (enter-append table here rest) ∙ ap (enterAll table) (sym (variants-on s count i next lt)) ∙ g .left;
         }
 
-    pub enums-done : Blank f table₀ → length (f .enums) ≤ i → Variants f table
+    pub enums-done : {f : File} → FileStands s f → Byte s 1 count → Blank f table₀ → count ≤ i → VariantsEntered f table₀ table
     unfolding enterAll
-    enums-done blank over =
-        let all : table ≡ enterAll table₀ (variants f) = ap (λ l. enterAll table (concat l)) (sym (drop-of-length-le (f .enums) over)) ∙ g .left in
-        record { tells = subst (λ l. Tells l (variants f)) (sym all) (tells table₀ (variants f) (blank .zero) (low-within (length table₀) f (blank .below) .variants)) }
+    enums-done {f} st b blank over =
+        let many : count ≡ length (f .enums) = b .is ∙ st .enumCount in
+        let all : table ≡ enterAll table₀ (variants f) =
+        ap (enterAll table) (sym (variants-none s count i next over)) ∙ g .left ∙ ap (λ n. enterAll table₀ (variantsFrom s n 2)) many ∙ ap (enterAll table₀) (variants-listed 2 (f .enums) (st .enums)) in
+        record { enters = all; tells = record { tells = subst (λ l. Tells l (variants f)) (sym all) (tells table₀ (variants f) (blank .zero) (low-within (length table₀) f (blank .below) .variants)) } }

@@ -1,19 +1,20 @@
 -- Fault 6, by a table that says of each name which sort declared it last; and whether every declared name is below 1,024.
-use Prim.Native.Nat.{ℕ, _+_, _<_}
-use mathlib.Core.Bool.{Bool, _&&_, _||_}
-use mathlib.Core.List.{List, [], _∷_}
-use mathlib.Core.Option.{Option, none}
+use Prim.Native.Nat.{ℕ, zero, suc, _+_, _-_, _<_}
+use mathlib.Core.Bool.{Bool, _&&_, _||_, cond}
+use mathlib.Core.List.{List, [], _∷_, _++_}
+use mathlib.Core.Option.{Option, none, some}
 use mathlib.Core.Path.{_≡_}
 use lib.ListN.{length, getD, set}
 use lib.Dec.{ltb, leb, eqb}
 use Rattle.ol_spec.specs.Lists.{orElse, allOf}
 use Rattle.ol_spec.specs.Syntax.{File}
-use Rattle.ol_spec.specs.Admission.{Sort, variant, constant, variable, Declared, firstIf, declared, fault6}
+use Rattle.ol_spec.specs.Places.{constantsStart}
+use Rattle.ol_spec.specs.Admission.{Sort, variant, constant, variable, Declared, firstIf, declaredAs, declared, fault6}
 use Rattle.ol_tables.specs.At.{fileAt}
-use Rattle.ol_tables.specs.Heads.{nameAt}
 use Rattle.ol_tables.specs.Stands.{FileReads}
 use Rattle.ol_tables.specs.Tables.{Each, nodeOf}
-use Rattle.ol_check.specs.Founds.{placeOf, earliest}
+use Rattle.ol_check.specs.Founds.{placeOf}
+use Rattle.ol_check.specs.Spans.{endFrom, behindVariable, behindEnum, namesFrom, variablesFrom}
 use Rattle.ol_check.specs.RowsDone.{NodeRow, SectionsAre}
 use Rattle.ol_check.specs.NodesJudged.{placeIn}
 use Rattle.ol_check.specs.declared.rows.Sections.{Sections}
@@ -24,6 +25,10 @@ abbrev pub sortCode : Sort → ℕ
 sortCode (variant i) = i + 1
 sortCode constant = 17
 sortCode (variable k) = k + 18
+
+-- the sort of a byte that is not 0
+abbrev pub sortOf : ℕ → Sort
+sortOf c = cond (ltb c 17) (variant (c - 1)) (cond (eqb c 17) constant (variable (c - 18)))
 
 -- whether a declaration clashes with the last one of its name, whose byte is `last` and no higher; 0 is none
 abbrev pub meets : ℕ → ℕ → Bool
@@ -48,20 +53,41 @@ pub record Sorts (ds : List Declared) (sorts sorts′ : List ℕ) (found : Optio
   pub lows : low′ ≡ low && allOf isLow ds
   pub enters : sorts′ ≡ sortAll sorts ds
 
-abbrev pub Walks : List Declared → List ℕ → List ℕ → Sorting → Sorting → Type 0
-Walks ds sorts sorts′ g r = Sorts ds sorts sorts′ (placeOf (g .found)) (g .low) (placeOf (r .found)) (r .low)
+-- a place as a number: 65,536 is none
+abbrev pub placeAt : ℕ → Option ℕ
+placeAt p = cond (eqb p 65536) none (some p)
 
--- and ends there
-pub record Passes (ds : List Declared) (end : ℕ) (sorts sorts′ : List ℕ) (g r : Sorting) : Type 0 where
-  pub walks : Walks ds sorts sorts′ g r
-  pub ends : r .next ≡ end
+-- what a walk has marked: the first clash so far, and 1 while every name is below 1,024
+abbrev pub markedPlace : List ℕ → Option ℕ
+markedPlace marks = placeAt (getD marks 0 0)
 
--- one name, where the walk stands
-pub record NameSorted (s : List ℕ) (sort : ℕ) (sorts sorts′ : List ℕ) (g r : Sorting) : Type 0 where
-  pub finds : placeOf (r .found) ≡ earliest (placeOf (g .found)) (meets (getD sorts (nameAt s (g .next)) 0) sort) (g .next)
-  pub lows : r .low ≡ g .low && ltb (nameAt s (g .next)) 1024
-  pub enters : sorts′ ≡ set sorts (nameAt s (g .next)) sort
-  pub on : r .next ≡ g .next + 2
+abbrev pub markedLow : List ℕ → Bool
+markedLow marks = eqb (getD marks 1 0) 1
+
+-- what a walk over these declarations makes of the table and of its marks
+pub record Walks (ds : List Declared) (sorts sorts′ marks marks′ : List ℕ) : Type 0 where
+  pub is : Sorts ds sorts sorts′ (markedPlace marks) (markedLow marks) (markedPlace marks′) (markedLow marks′)
+  pub long : length marks′ ≡ length marks
+
+-- the first clash, after an item that may be one
+abbrev pub firstPlace : ℕ → Bool → ℕ → ℕ
+firstPlace found clashed at = cond (eqb found 65536) (cond clashed at found) found
+
+-- so many variables from `at` on, and where they end
+pub record VariablesSorted (s : List ℕ) (sort count at : ℕ) (sorts sorts′ marks marks′ : List ℕ) (r : ℕ) : Type 0 where
+  pub walks : Walks (declaredAs (sortOf sort) (variablesFrom s count at)) sorts sorts′ marks marks′
+  pub ends : r ≡ endFrom (behindVariable s) count at
+
+-- the variants of so many enums from `at` on, the first being number e
+unfoldable pub enumsFrom : List ℕ → ℕ → ℕ → ℕ → List Declared
+enumsFrom s e zero at = []
+enumsFrom s e (suc n) at = declaredAs (sortOf (e + 1)) (namesFrom s (getD s at 0) (at + 1)) ++ enumsFrom s (e + 1) n (behindEnum s at)
+
+-- the constants of a file that reads without fault stand from `at` on, so many
+pub record ConstantsAt (s : List ℕ) (count at : ℕ) : Type 0 where
+  pub reads : FileReads s
+  pub many : count ≡ length (fileAt s .constants)
+  pub place : at ≡ constantsStart (fileAt s)
 
 -- the file reads without fault, with the rows of its nodes and its sections
 pub record DeclaredReady (s rows : List ℕ) (at : Sections) : Type 0 where
@@ -75,7 +101,7 @@ pub record Blank (f : File) (names : List ℕ) : Type 0 where
   pub below : Each (λ d. d .name < length names) (declared f)
 
 -- Every declared name was met, also behind a clash: the table has each name's last sort over what it had before, and the first clash is the one that it shows; where the table was blank, it is the
--- file's. Where the walk stood at last is free.
+-- file's.
 pub record FileSorted (s sorts sorts′ : List ℕ) (r : Sorting) : Type 0 where
   pub enters : sorts′ ≡ sortAll sorts (declared (fileAt s))
   pub clash : placeOf (r .found) ≡ clashIn sorts (declared (fileAt s))

@@ -4,7 +4,7 @@ use mathlib.Core.Bool.{true}
 use mathlib.Core.List.{List, [], _∷_, map}
 use mathlib.Core.Path.{_≡_}
 use lib.ListN.{length}
-use Rattle.ol_spec.specs.Lists.{concat}
+use Rattle.ol_spec.specs.Lists.{concat, sum}
 use Rattle.ol_spec.specs.Syntax.{Constant, File, nil, cons}
 use Rattle.ol_spec.specs.Places.{constantSize, placed}
 use Rattle.ol_spec.specs.Encode.{constantBytes}
@@ -33,7 +33,9 @@ slotConstants s names slots i [] = slots
 slotConstants s names slots i (c ∷ cs) =
     slotConstants s (declared names (c .1 .name) (i + 113)) (slotHeads s names slots (heads (valuePlace (c .0) (c .1)) (cons (c .1 .value) nil))) (i + 1) cs
 
+-- The bytes of records so far are free: each node counts its own anew.
 pub record ConstantsJudged (s names : List ℕ) (f : File) (visible : List ℕ) (at : ℕ) (cs : List Constant) (slots slots′ names′ : List ℕ) (g r : Faults) : Type 0 where
+  pub next : r .next ≡ at + sum (map constantSize cs)
   pub unseen : placeOf (r .unseen) ≡ foundIn (placeOf (g .unseen)) (constantUses visible (placed constantSize at cs))
   pub again : r .again ≡ g .again
   pub called : placeOf (r .called) ≡ foundIn (placeOf (g .called)) (concat (map (inConstant (callsWhere (λ c args. true))) (placed constantSize at cs)))
@@ -41,7 +43,7 @@ pub record ConstantsJudged (s names : List ℕ) (f : File) (visible : List ℕ) 
   pub entered : names′ ≡ declareAll names (constantEntries 0 cs)
   pub slotted : slots′ ≡ slotConstants s names slots 0 (placed constantSize at cs)
 
--- what a file's constants are judged by: the names seen before them, the outputs of the nodes, and room in the table
+-- what a file's constants, which stand at `at`, are judged by: the names seen before them, the outputs of the nodes, and room in the table
 pub record ConstantsReady (s names rows : List ℕ) (nodes : ℕ) (f : File) (visible : List ℕ) (enums at : ℕ) (cs : List Constant) : Type 0 where
   pub knows : Knows names visible
   pub outputs : (c : ℕ) → outputsB rows nodes c ≡ length (calleeIn f c .outputs)

@@ -5,9 +5,8 @@ use mathlib.Core.List.{List, [], _∷_, _++_, map}
 use mathlib.Core.Path.{_≡_}
 use lib.ListN.{length, getD, set}
 use lib.Dec.{eqb, leb}
-use Rattle.ol_spec.specs.Lists.{sum}
 use Rattle.ol_spec.specs.Syntax.{Variable, Constant}
-use Rattle.ol_spec.specs.Places.{variableSize}
+use Rattle.ol_check.specs.Spans.{endFrom, behindVariable, namesOf, variablesFrom}
 
 -- a name is entered, unless it has an entry; its entry is taken back, if it is a variable's
 abbrev pub declared : List ℕ → ℕ → ℕ → List ℕ
@@ -46,14 +45,19 @@ entryIn (d ∷ ds) x = cond (eqb x (d .0)) (d .1) (entryIn ds x)
 abbrev pub Holds : List ℕ → List (ℕ × ℕ) → Type 0
 Holds names ds = (x : ℕ) → getD names x 0 ≡ entryIn ds x
 
--- variables are entered, or taken back
-pub record VariablesEntered (vs : List Variable) (names names′ : List ℕ) (first at r : ℕ) : Type 0 where
-  pub ends : r ≡ at + sum (map variableSize vs)
-  pub entered : names′ ≡ declareAll names (variableEntries first vs)
+-- the entries of names with their places, the first being number `first`
+abbrev pub entriesFrom : ℕ → List (ℕ × ℕ) → List (ℕ × ℕ)
+entriesFrom first [] = []
+entriesFrom first (p ∷ ps) = (p .1, first + 1) ∷ entriesFrom (first + 1) ps
 
-pub record VariablesForgotten (vs : List Variable) (names names′ : List ℕ) (at r : ℕ) : Type 0 where
-  pub ends : r ≡ at + sum (map variableSize vs)
-  pub forgotten : names′ ≡ forgetAll names (map (λ v. v .name) vs)
+-- so many variables from `at` on are entered, or taken back
+pub record VariablesEntered (s names names′ : List ℕ) (first count at r : ℕ) : Type 0 where
+  pub ends : r ≡ endFrom (behindVariable s) count at
+  pub entered : names′ ≡ declareAll names (entriesFrom first (variablesFrom s count at))
+
+pub record VariablesForgotten (s names names′ : List ℕ) (count at r : ℕ) : Type 0 where
+  pub ends : r ≡ endFrom (behindVariable s) count at
+  pub forgotten : names′ ≡ forgetAll names (namesOf (variablesFrom s count at))
 
 -- the table outside a node: no entry is a variable's
 abbrev pub Global : List ℕ → Type 0

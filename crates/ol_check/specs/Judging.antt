@@ -7,10 +7,12 @@ use mathlib.Core.Path.{_≡_}
 use lib.ListN.{length, getD, set}
 use lib.Dec.{ltb, leb, eqb}
 use Rattle.ol_spec.specs.Lists.{orElse, member, concat, sum}
-use Rattle.ol_spec.specs.Syntax.{Expr, Exprs, nil, cons, Equation, File}
+use Rattle.ol_spec.specs.Syntax.{Expr, Exprs, nil, cons, Equation, File, variableNames}
 use Rattle.ol_spec.specs.Places.{collectAll, exprsSize, exprSize, equationSize, placed, placedNames, rhsPlace}
-use Rattle.ol_spec.specs.Admission.{Item, first, calleeIn, used, equationUses, inEquation, callsWhere, equationShape, definedBy}
-use Rattle.ol_tables.specs.Tables.{rowAt}
+use Rattle.ol_spec.specs.Admission.{Item, first, variants, constantNames, badCall, calleeIn, used, equationUses, inEquation, callsWhere, equationShape, definedBy}
+use Rattle.ol_tables.specs.At.{fileAt}
+use Rattle.ol_tables.specs.Tables.{rowAt, nodeOf}
+use Rattle.ol_tables.specs.Stands.{Equations}
 use Rattle.ol_tables.specs.Heads.{nameAt, partsOf, headSize, joined}
 use Rattle.ol_spec.specs.Step.{equationSites}
 use Rattle.ol_check.specs.Founds.{placeOf}
@@ -117,6 +119,19 @@ pub record Context (f : File) (k : ℕ) (names rows : List ℕ) (nodes : ℕ) (v
   pub calls : (c n : ℕ) → badB rows k c n ≡ bad c n
   pub outputs : (c : ℕ) → outputsB rows nodes c ≡ length (calleeIn f c .outputs)
 
+-- the names that are seen outside the nodes, and in node k
+abbrev pub globalNames : File → List ℕ
+globalNames f = constantNames f ++ variants f
+
+abbrev pub seenIn : File → ℕ → List ℕ
+seenIn f k = variableNames (nodeOf f k) ++ globalNames f
+
+-- so many equations of node k stand at `at`, and the table by name is the node's
+pub record EquationsReady (s names rows : List ℕ) (nodes k many at : ℕ) : Type 0 where
+  pub context : Context (fileAt s) k names rows nodes (seenIn (fileAt s) k) (badCall (fileAt s) k (nodeOf (fileAt s) k))
+  pub count : many ≡ length (nodeOf (fileAt s) k .equations)
+  pub stand : Equations s (length (fileAt s .enums)) at (nodeOf (fileAt s) k .equations)
+
 -- the slot that a name's entry gives stands at the name's place
 pub record SlotIs (names slots : List ℕ) (p : ℕ × ℕ) : Type 0 where
   pub is : getD slots (p .0) 0 ≡ slotOfEntry (getD names (p .1) 0)
@@ -207,4 +222,5 @@ pub record EquationsJudged (s names rows : List ℕ) (nodes : ℕ) (f : File) (v
   pub called : placeOf (r .called) ≡ foundIn (placeOf (g .called)) (concat (map (inEquation (callsWhere bad)) (placed equationSize at qs)))
   pub shaped : placeOf (r .shaped) ≡ foundIn (placeOf (g .shaped)) (concat (map (equationShape f) (placed equationSize at qs)))
   pub slotted : slots′ ≡ slotEquations s names slots (placed equationSize at qs)
+  pub marked : defined′ ≡ markAll names defined (concat (map definedBy (placed equationSize at qs)))
   pub sized : Adds (g .size) (map (calleeB rows nodes) (concat (map equationSites qs))) (r .size)

@@ -1,4 +1,5 @@
 pub mod Founds
+pub mod Spans
 pub mod RowsDone
 pub mod Records
 pub mod Judging

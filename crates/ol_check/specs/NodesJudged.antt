@@ -14,8 +14,8 @@ use Rattle.ol_tables.specs.Stands.{FileReads}
 use Rattle.ol_check.specs.Founds.{placeOf}
 use Rattle.ol_check.specs.RowsDone.{NodeRow}
 use Rattle.ol_check.specs.Records.{instanceB}
-use Rattle.ol_check.specs.Entries.{declareAll, variableEntries}
-use Rattle.ol_check.specs.Judging.{foundIn, slotEquations, againB}
+use Rattle.ol_check.specs.Entries.{declareAll, variableEntries, Global}
+use Rattle.ol_check.specs.Judging.{foundIn, slotEquations, againB, Knows, globalNames}
 use Rattle.ol_check.specs.declared.Faults.{Faults}
 
 -- where node k stands
@@ -42,8 +42,8 @@ Covered room n = Each (λ v. v .name < room) (variables n)
 abbrev pub nodeAgain : List ℕ → ℕ × Node → List Item
 nodeAgain names n = againB (nodeTable names (n .1)) (length (n .1 .inputs)) (replicate 256 0) (concat (map definedBy (placedEquations (n .0) (n .1))))
 
-pub record NodeJudged (s names rows : List ℕ) (nodes : ℕ) (f : File) (visible : List ℕ) (k : ℕ) (slots slots′ : List ℕ) (g r : Faults) : Type 0 where
-  pub unseen : placeOf (r .unseen) ≡ foundIn (placeOf (g .unseen)) (nodeUses visible (placeIn f k, nodeOf f k))
+pub record NodeJudged (s names rows : List ℕ) (nodes : ℕ) (f : File) (k : ℕ) (slots slots′ : List ℕ) (g r : Faults) : Type 0 where
+  pub unseen : placeOf (r .unseen) ≡ foundIn (placeOf (g .unseen)) (nodeUses (globalNames f) (placeIn f k, nodeOf f k))
   pub again : placeOf (r .again) ≡ foundIn (placeOf (g .again)) (nodeAgain names (placeIn f k, nodeOf f k))
   pub called : placeOf (r .called) ≡ foundIn (placeOf (g .called)) (nodeCalls f (k, (placeIn f k, nodeOf f k)))
   pub shaped : placeOf (r .shaped) ≡ foundIn (placeOf (g .shaped)) (nodeShape f (placeIn f k, nodeOf f k))
@@ -63,13 +63,19 @@ pub record RowsReady (s rows : List ℕ) (nodes : ℕ) : Type 0 where
 abbrev pub AllCovered : ℕ → File → Type 0
 AllCovered room f = (k : ℕ) → k < length (f .nodes) → Covered room (nodeOf f k)
 
+-- the table by name outside the nodes: constants and variants have entries, and there is room for every variable
+pub record NamesReady (names : List ℕ) (f : File) : Type 0 where
+  pub global : Global names
+  pub knows : Knows names (globalNames f)
+  pub covered : AllCovered (length names) f
+
 -- the slots after the nodes' equations
 unfoldable pub slotNodes : List ℕ → List ℕ → List ℕ → List (ℕ × Node) → List ℕ
 slotNodes s names slots [] = slots
 slotNodes s names slots (n ∷ ns) = slotNodes s names (slotEquations s (nodeTable names (n .1)) slots (placedEquations (n .0) (n .1))) ns
 
-pub record NodesJudged (s names : List ℕ) (f : File) (visible : List ℕ) (slots slots′ : List ℕ) (g r : Faults) : Type 0 where
-  pub unseen : placeOf (r .unseen) ≡ foundIn (placeOf (g .unseen)) (concat (map (nodeUses visible) (placedNodes f)))
+pub record NodesJudged (s names : List ℕ) (f : File) (slots slots′ : List ℕ) (g r : Faults) : Type 0 where
+  pub unseen : placeOf (r .unseen) ≡ foundIn (placeOf (g .unseen)) (concat (map (nodeUses (globalNames f)) (placedNodes f)))
   pub again : placeOf (r .again) ≡ foundIn (placeOf (g .again)) (concat (map (nodeAgain names) (placedNodes f)))
   pub called : placeOf (r .called) ≡ foundIn (placeOf (g .called)) (concat (map (nodeCalls f) (numbered 0 (placedNodes f))))
   pub shaped : placeOf (r .shaped) ≡ foundIn (placeOf (g .shaped)) (concat (map (nodeShape f) (placedNodes f)))

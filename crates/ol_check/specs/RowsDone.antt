@@ -1,5 +1,5 @@
--- What the builders of rows and types leave behind: for items that stand in the file, and what stays as it was.
-use Prim.Native.Nat.{ℕ, _+_, _*_, _≤_, _<_}
+-- What the builders of rows and types store, as the bytes tell it, and what the tables are for a file that reads without fault.
+use Prim.Native.Nat.{ℕ, zero, suc, _+_, _*_, _<_}
 use mathlib.Core.Bool.{false}
 use mathlib.Core.List.{List, [], _∷_, map}
 use mathlib.Core.Path.{_≡_}
@@ -7,12 +7,13 @@ use lib.ListN.{length, getD, set}
 use Rattle.ol_spec.specs.Lists.{sum}
 use Rattle.ol_spec.specs.Syntax.{Ty, bool, boolLit, Variable, Constant, Node, File, variables}
 use Rattle.ol_spec.specs.Places.{enumSize, variableSize, equationsStart, placedNodes, constantsStart, nodesStart}
-use Rattle.ol_spec.specs.Encode.{kindCode, nameBytes, sectionBytes, variableBytes}
+use Rattle.ol_spec.specs.Encode.{kindCode, nameBytes, sectionBytes}
 use Rattle.ol_spec.specs.Limits.{base}
-use Rattle.ol_spec.specs.Within.{enumFits, variableFits}
+use Rattle.ol_spec.specs.Within.{enumFits}
 use Rattle.ol_tables.specs.Tables.{tyCode, tyEnum, rowAt, firstAt, placeOf, nodeOf}
-use Rattle.ol_tables.specs.Heads.{tyEnumAt}
-use Rattle.ol_tables.specs.Stands.{Listed, NodeStands, FileStands}
+use Rattle.ol_tables.specs.Heads.{nameAt, tyEnumAt}
+use Rattle.ol_tables.specs.Stands.{Listed}
+use Rattle.ol_check.specs.Spans.{endFrom, behindVariable, behindEnum}
 use Rattle.ol_check.specs.declared.rows.Sections.{Sections}
 
 -- ---- enums
@@ -24,10 +25,14 @@ pub record EnumsAre (es : List (List ℕ)) (rows : List ℕ) (at r : ℕ) : Type
   pub ends : r ≡ at + sum (map enumSize es)
   pub firsts : (e : ℕ) → e < length es → firstAt rows e ≡ getD (getD es e []) 0 0
 
--- the first variants of so many enums are stored, and the nodes' rows are as before
-pub record EnumsDone (s rows rows′ : List ℕ) (count at r : ℕ) : Type 0 where
-  pub kept : (j : ℕ) → j < 256 → getD rows′ j 0 ≡ getD rows j 0
-  pub done : (es : List (List ℕ)) → length es ≡ count → Enums s at es → EnumsAre es rows′ at r
+-- the rows after the first variants of so many enums from `at` on are stored, the first being number e
+unfoldable pub firstsFrom : List ℕ → ℕ → ℕ → ℕ → List ℕ → List ℕ
+firstsFrom s e zero at rows = rows
+firstsFrom s e (suc n) at rows = firstsFrom s (e + 1) n (behindEnum s at) (set rows (256 + e) (nameAt s (at + 1)))
+
+pub record EnumsStored (s rows rows′ : List ℕ) (count at r : ℕ) : Type 0 where
+  pub ends : r ≡ endFrom (behindEnum s) count at
+  pub stored : rows′ ≡ firstsFrom s 0 count at rows
 
 -- ---- types
 
@@ -50,19 +55,59 @@ pub record VariablesAre (vs : List Variable) (types : List ℕ) (first at r : �
   pub ends : r ≡ at + sum (map variableSize vs)
   pub typed : (i : ℕ) → i < length vs → TypeAt types (first + i) (getD vs i noVariable .ty)
 
--- the types of so many variables are stored from number `first` on, and the others are as before
-pub record VariablesDone (s types types′ : List ℕ) (first count at r : ℕ) : Type 0 where
-  pub near : r ≤ at + 4 * count
-  pub below : (j : ℕ) → j < first * 2 → getD types′ j 0 ≡ getD types j 0
-  pub above : (j : ℕ) → (first + count) * 2 ≤ j → getD types′ j 0 ≡ getD types j 0
-  pub done : (enums : ℕ) (vs : List Variable) → length vs ≡ count → (first + count) * 2 ≤ length types → Listed variableBytes (variableFits base enums) s at vs → VariablesAre vs types′ first at r
+-- the table of types after those of so many variables from `at` on are stored, the first being number i
+unfoldable pub typesFrom : List ℕ → ℕ → ℕ → ℕ → List ℕ → List ℕ
+typesFrom s i zero at types = types
+typesFrom s i (suc n) at types = typesFrom s (i + 1) n (behindVariable s at) (typeSet types i s (at + 2))
+
+pub record TypesStored (s types types′ : List ℕ) (first count at r : ℕ) : Type 0 where
+  pub ends : r ≡ endFrom (behindVariable s) count at
+  pub stored : types′ ≡ typesFrom s first count at types
 
 -- ---- nodes
+
+-- where the counts of the outputs, of the locals and of the equations of the node at `at` stand
+abbrev pub outputsAt : List ℕ → ℕ → ℕ
+outputsAt s at = endFrom (behindVariable s) (getD s (at + 1) 0) (at + 2)
+
+abbrev pub localsAt : List ℕ → ℕ → ℕ
+localsAt s at = endFrom (behindVariable s) (getD s (outputsAt s at) 0) (outputsAt s at + 1)
+
+abbrev pub equationsAt : List ℕ → ℕ → ℕ
+equationsAt s at = endFrom (behindVariable s) (getD s (localsAt s at) 0) (localsAt s at + 1)
 
 -- a row's eight entries from i on
 abbrev pub putAll : List ℕ → ℕ → List ℕ → List ℕ
 putAll rows i [] = rows
 putAll rows i (n ∷ ns) = putAll (set rows i n) (i + 1) ns
+
+-- the row of the node at `at`, with the size 0
+abbrev pub rowFrom : List ℕ → ℕ → List ℕ
+rowFrom s at =
+    getD s at 0 ∷ (equationsAt s at + 1) ∷ getD s (at + 1) 0 ∷ getD s (outputsAt s at) 0 ∷ (getD s (at + 1) 0 + getD s (outputsAt s at) 0 + getD s (localsAt s at) 0) ∷ getD s (equationsAt s at) 0 ∷ 0 ∷ at ∷ []
+
+-- the table of types after those of node k, which stands at `at`
+abbrev pub nodeTypes : List ℕ → ℕ → ℕ → List ℕ → List ℕ
+nodeTypes s k at types =
+    typesFrom s (k * 112 + getD s (at + 1) 0 + getD s (outputsAt s at) 0) (getD s (localsAt s at) 0) (localsAt s at + 1)
+    (typesFrom s (k * 112 + getD s (at + 1) 0) (getD s (outputsAt s at) 0) (outputsAt s at + 1) (typesFrom s (k * 112) (getD s (at + 1) 0) (at + 2) types))
+
+pub record NodeStored (s rows rows′ types types′ : List ℕ) (k at : ℕ) : Type 0 where
+  pub row : rows′ ≡ putAll rows (k * 8) (rowFrom s at)
+  pub typed : types′ ≡ nodeTypes s k at types
+
+-- the rows and the types after those of so many nodes, each at its place, the first being number k
+unfoldable pub rowsFrom : List ℕ → List ℕ → ℕ → ℕ → List ℕ → List ℕ
+rowsFrom s places k zero rows = rows
+rowsFrom s places k (suc n) rows = rowsFrom s places (k + 1) n (putAll rows (k * 8) (rowFrom s (getD places k 0)))
+
+unfoldable pub nodesTypes : List ℕ → List ℕ → ℕ → ℕ → List ℕ → List ℕ
+nodesTypes s places k zero types = types
+nodesTypes s places k (suc n) types = nodesTypes s places (k + 1) n (nodeTypes s k (getD places k 0) types)
+
+pub record NodesStored (s places rows rows′ types types′ : List ℕ) (count : ℕ) : Type 0 where
+  pub stored : rows′ ≡ rowsFrom s places 0 count rows
+  pub typed : types′ ≡ nodesTypes s places 0 count types
 
 -- node k is n and stands at `at`: its row, the size apart
 pub record NodeRow (n : Node) (at k : ℕ) (rows : List ℕ) : Type 0 where
@@ -82,13 +127,6 @@ pub record NodeIs (n : Node) (at k : ℕ) (rows types : List ℕ) : Type 0 where
   pub row : NodeRow n at k rows
   pub typed : NodeTypes n k types
 
--- node k's row and types are stored, the other rows and the types below are as before
-pub record NodeDone (s rows rows′ types types′ : List ℕ) (k at : ℕ) : Type 0 where
-  pub below : (j : ℕ) → j < k * 8 → getD rows′ j 0 ≡ getD rows j 0
-  pub above : (j : ℕ) → k * 8 + 8 ≤ j → getD rows′ j 0 ≡ getD rows j 0
-  pub typed : (j : ℕ) → j < k * 224 → getD types′ j 0 ≡ getD types j 0
-  pub done : (enums : ℕ) (n : Node) → NodeStands s enums at n → NodeIs n at k rows′ types′
-
 -- ---- the whole file
 
 -- entry k is the place of node k
@@ -99,10 +137,6 @@ pub record PlacesAre (f : File) (places : List ℕ) : Type 0 where
 pub record NodesAre (f : File) (rows types : List ℕ) : Type 0 where
   pub row : (k : ℕ) → k < length (f .nodes) → NodeRow (nodeOf f k) (placeOf (placedNodes f) k) k rows
   pub typed : (k : ℕ) → k < length (f .nodes) → NodeTypes (nodeOf f k) k types
-
-pub record NodesDone (s places rows rows′ types′ : List ℕ) (count : ℕ) : Type 0 where
-  pub above : (j : ℕ) → 256 ≤ j → getD rows′ j 0 ≡ getD rows j 0
-  pub done : (f : File) → length (f .nodes) ≡ count → FileStands s f → PlacesAre f places → NodesAre f rows′ types′
 
 -- the rows, but for the sizes, the first variants, and the types
 pub record RowsAre (f : File) (rows types : List ℕ) : Type 0 where
@@ -115,6 +149,7 @@ pub record SectionsAre (f : File) (r : Sections) : Type 0 where
   pub constants : r .constants + 1 ≡ constantsStart f
   pub nodes : r .nodes + 1 ≡ nodesStart f
 
+-- Entries that belong to no node, enum or variable of the file are free.
 pub record TablesDone (f : File) (rows types : List ℕ) (r : Sections) : Type 0 where
   pub sections : SectionsAre f r
   pub are : RowsAre f rows types

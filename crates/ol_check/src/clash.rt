@@ -1,7 +1,6 @@
 // Fault 6, by a table that says of each name which sort declared it last: 0 none, an enum's number and 1, 17 a constant, a node's number and 18.
 // The same walk tells whether every declared name is below 1,024.
 use super::Found;
-use super::earlier;
 use super::rows::Sections;
 use ol_tables::bytes::byte;
 use ol_tables::bytes::name;
@@ -11,32 +10,29 @@ use ol_tables::heads::ty_size;
 use ol_tables::tables::PLACE;
 use ol_tables::tables::row;
 ghost use mathlib.Core.Path.{_≡_};
-ghost use mathlib.Core.Bool.{true, _&&_};
-ghost use mathlib.Core.List.{List, map, [], _∷_};
-ghost use Prim.Native.Nat.{ℕ, _≤_, _<_, _+_, _*_};
+ghost use mathlib.Core.Bool.{cond};
+ghost use mathlib.Core.List.{map, [], _∷_};
+ghost use Prim.Native.Nat.{_≤_, _<_};
 ghost use lib.Dec.{ltb};
-ghost use lib.ListN.{length, getD};
+ghost use lib.ListN.{length};
 ghost use Rattle.ol_spec.specs.Lists.{concat};
-ghost use Rattle.ol_spec.specs.Syntax.{Variable, Constant};
-ghost use Rattle.ol_spec.specs.Places.{placed, placedNames, placedNodes, enumSize, constantSize, variableSize, sectionSize};
-ghost use Rattle.ol_spec.specs.Encode.{constantBytes};
-ghost use Rattle.ol_spec.specs.Limits.{base};
-ghost use Rattle.ol_spec.specs.Within.{constantFits};
-ghost use Rattle.ol_spec.specs.Admission.{Sort, constant, declaredAs, declaredAt, placedVariableName, placedConstantName, enumDeclares, nodeDeclares, numbered};
+ghost use Rattle.ol_spec.specs.Places.{placedConstants, placedNodes};
+ghost use Rattle.ol_spec.specs.Admission.{constant, declaredAs, declaredAt, placedConstantName, nodeDeclares, numbered};
 ghost use Rattle.ol_tables.specs.At.{fileAt};
-ghost use Rattle.ol_tables.specs.Stands.{Names, Variables, VariableStands, ConstantStands, Listed};
 ghost use Rattle.ol_tables.specs.Tables.{nodeOf};
-ghost use Rattle.ol_check.specs.RowsDone.{Enums};
+ghost use Rattle.ol_check.specs.Founds.{placeOf};
+ghost use Rattle.ol_check.specs.Spans.{namedAt, namesFrom};
 ghost use Rattle.ol_check.specs.NodesJudged.{placeIn, NodeReady, RowsReady};
-ghost use Rattle.ol_check.specs.Clashing.{sortCode, meets, Walks, Passes, NameSorted, DeclaredReady, FileSorted};
+ghost use Rattle.ol_check.specs.Clashing.{sortOf, meets, placeAt, firstPlace, Walks, VariablesSorted, enumsFrom, ConstantsAt, DeclaredReady, FileSorted};
 
-// A walk over declarations: the first fault so far, whether every name so far is below 1,024, and
-// where the walk stands.
+// The first clash, and whether every name is below 1,024.
 pub struct Sorting {
     pub found: Found,
     pub low: bool,
-    pub next: usize,
 }
+
+// No place of a file.
+const NO_PLACE: usize = 65536;
 
 // Whether a declaration of sort `sort` clashes with the last one of its name.
 fn clashes(last: usize, sort: usize) -> bool
@@ -53,188 +49,150 @@ fn clashes(last: usize, sort: usize) -> bool
     }
 }
 
-// Whether all names are below 1,024, this one too.
-fn still_low(low: bool, x: usize) -> bool
-    ensures { λ r. ⌜ r ≡ low && ltb x 1024 ⌝ }
+// The place of the first clash: the one in hand, else this name's.
+fn first_place(found: usize, clashed: bool, at: usize) -> usize
+    ensures { λ r. ⌜ r ≡ firstPlace found clashed at ⌝ }
 {
-    if low { x < 1024 } else { false }
+    if found == NO_PLACE {
+        if clashed { at } else { found }
+    } else {
+        found
+    }
 }
 
-// The name where the walk stands, declared as the sort.
-fn sort_name(file: &[u8], sorts: &mut [u8], sort: usize, g: Sorting) -> Sorting
-    requires { ⌜ (sort < 256) × (g .next ≤ 40000) ⌝ }
-    ensures { λ r. ⌜ NameSorted (now (file .entry)) sort (now (sorts .entry)) (now (sorts .exit)) g r ⌝ }
+// 1 while all names are below 1,024, this one too.
+fn still_low(low: usize, x: usize) -> usize
+    ensures { λ r. ⌜ r ≡ cond (ltb x 1024) low 0 ⌝ }
 {
-    let at = g.next;
-    let found = g.found;
-    let low = g.low;
+    if x < 1024 { low } else { 0 }
+}
+
+// A place, or none.
+fn found_at(place: usize) -> Found
+    ensures { λ r. ⌜ placeOf r ≡ placeAt place ⌝ }
+{
+    if place == NO_PLACE {
+        Found::Nothing
+    } else {
+        Found::At(place)
+    }
+}
+
+// The name at `at`, declared as the sort. `marks` has the place of the first clash or NO_PLACE, and 1 while every name is below 1,024.
+fn sort_name(file: &[u8], sorts: &mut [u8], marks: &mut [usize; 2], sort: usize, at: usize)
+    requires { ⌜ (length (now marks) ≡ 2) × (0 < sort) × (sort < 256) × (at < 65536) ⌝ }
+    ensures { λ r. ⌜ Walks (declaredAt (sortOf sort) (namedAt (now (file .entry)) at) ∷ []) (now (sorts .entry)) (now (sorts .exit)) (now (marks .entry)) (now (marks .exit)) ⌝ }
+{
     let x = name(file, at);
     let clashed = clashes(byte(sorts, x), sort);
     put_byte(sorts, x, sort as u8);
-    let first = earlier(found, clashed, at);
-    let all = still_low(low, x);
-    Sorting {
-        found: first,
-        low: all,
-        next: at + 2,
-    }
+    marks[0] = first_place(marks[0], clashed, at);
+    marks[1] = still_low(marks[1], x);
 }
 
-// The variable where the walk stands.
-fn sort_variable(file: &[u8], sorts: &mut [u8], sort: usize, g: Sorting) -> Sorting
-    requires { ⌜ (sort < 256) × (g .next ≤ 40000) ⌝ }
-    ensures { λ r. ⌜ (r .next ≤ g .next + 4) × ((enums : ℕ) (v : Variable) (u : Sort) → sortCode u ≡ sort → VariableStands (now (file .entry)) enums (g .next) v → Passes (declaredAt u (g .next, v .name) ∷ []) (g .next + variableSize v) (now (sorts .entry)) (now (sorts .exit)) g r) ⌝ }
+// So many names from `at` on.
+fn sort_names(
+    file: &[u8],
+    sorts: &mut [u8],
+    marks: &mut [usize; 2],
+    sort: usize,
+    count: usize,
+    at: usize,
+)
+    requires { ⌜ (length (now marks) ≡ 2) × (0 < sort) × (sort < 256) × (count < 256) × (at ≤ 40000) ⌝ }
+    ensures { λ r. ⌜ Walks (declaredAs (sortOf sort) (namesFrom (now (file .entry)) count at)) (now (sorts .entry)) (now (sorts .exit)) (now (marks .entry)) (now (marks .exit)) ⌝ }
 {
-    let h = sort_name(file, sorts, sort, g);
-    let at = h.next;
-    let found = h.found;
-    let low = h.low;
-    let n = ty_size(file, at);
-    Sorting {
-        found,
-        low,
-        next: at + n,
-    }
-}
-
-// The constant where the walk stands.
-fn sort_constant(file: &[u8], sorts: &mut [u8], g: Sorting) -> Sorting
-    requires { ⌜ (g .next < length (now file)) × (length (now file) ≤ 32768) ⌝ }
-    ensures { λ r. ⌜ ((enums : ℕ) (c : Constant) → ConstantStands (now (file .entry)) enums (g .next) c → Passes (declaredAt constant (g .next, c .name) ∷ []) (g .next + constantSize c) (now (sorts .entry)) (now (sorts .exit)) g r) ⌝ }
-{
-    let h = sort_variable(file, sorts, 17, g);
-    let at = h.next;
-    let found = h.found;
-    let low = h.low;
-    let n = skip(file, 1, at);
-    Sorting {
-        found,
-        low,
-        next: n,
-    }
-}
-
-// The section of names where the walk stands.
-fn sort_names(file: &[u8], sorts: &mut [u8], sort: usize, g: Sorting) -> Sorting
-    requires { ⌜ (sort < 256) × (g .next ≤ 32768) ⌝ }
-    ensures { λ r. ⌜ ((u : Sort) (xs : List ℕ) → sortCode u ≡ sort → getD (now (file .entry)) (g .next) 0 ≡ length xs → Names (now (file .entry)) 0 (g .next + 1) xs → Passes (declaredAs u (placedNames (g .next + 1) xs)) (g .next + enumSize xs) (now (sorts .entry)) (now (sorts .exit)) g r) ⌝ }
-{
-    let at = g.next;
-    let found = g.found;
-    let low = g.low;
-    let count = byte(file, at);
-    let mut h = Sorting {
-        found,
-        low,
-        next: at + 1,
-    };
+    let mut next = at;
     let mut i = 0;
     while i < count {
-        h = sort_name(file, sorts, sort, h);
+        sort_name(file, sorts, marks, sort, next);
+        next += 2;
         i += 1;
     }
-    h
 }
 
-// The section of variables where the walk stands.
-fn sort_variables(file: &[u8], sorts: &mut [u8], sort: usize, g: Sorting) -> Sorting
-    requires { ⌜ (sort < 256) × (g .next ≤ 36000) ⌝ }
-    ensures { λ r. ⌜ (r .next ≤ g .next + 1021) × ((enums : ℕ) (u : Sort) (vs : List Variable) → sortCode u ≡ sort → getD (now (file .entry)) (g .next) 0 ≡ length vs → Variables (now (file .entry)) enums (g .next + 1) vs → Passes (declaredAs u (map placedVariableName (placed variableSize (g .next + 1) vs))) (g .next + sectionSize variableSize vs) (now (sorts .entry)) (now (sorts .exit)) g r) ⌝ }
+// So many variables from `at` on; where they end is answered.
+fn sort_variables(
+    file: &[u8],
+    sorts: &mut [u8],
+    marks: &mut [usize; 2],
+    sort: usize,
+    count: usize,
+    at: usize,
+) -> usize
+    requires { ⌜ (length (now marks) ≡ 2) × (0 < sort) × (sort < 256) × (count < 256) × (at ≤ 40000) ⌝ }
+    ensures { λ r. ⌜ VariablesSorted (now (file .entry)) sort count at (now (sorts .entry)) (now (sorts .exit)) (now (marks .entry)) (now (marks .exit)) r ⌝ }
 {
-    let at = g.next;
-    let found = g.found;
-    let low = g.low;
-    let count = byte(file, at);
-    let mut h = Sorting {
-        found,
-        low,
-        next: at + 1,
-    };
+    let mut next = at;
     let mut i = 0;
     while i < count {
-        h = sort_variable(file, sorts, sort, h);
+        sort_name(file, sorts, marks, sort, next);
+        next = next + 2 + ty_size(file, next + 2);
         i += 1;
     }
-    h
+    next
 }
 
-// So many enums from where the walk stands.
-fn sort_enums(file: &[u8], sorts: &mut [u8], count: usize, g: Sorting) -> Sorting
-    requires { ⌜ (count ≤ 16) × (length (now file) ≤ 32768) ⌝ }
-    ensures { λ r. ⌜ ((es : List (List ℕ)) → length es ≡ count → Enums (now (file .entry)) (g .next) es → Walks (concat (map enumDeclares (numbered 0 (placed enumSize (g .next) es)))) (now (sorts .entry)) (now (sorts .exit)) g r) ⌝ }
+// The variants of so many enums from `at` on.
+fn sort_enums(file: &[u8], sorts: &mut [u8], marks: &mut [usize; 2], count: usize, at: usize)
+    requires { ⌜ (length (now marks) ≡ 2) × (count ≤ 16) × (at ≤ 20000) ⌝ }
+    ensures { λ r. ⌜ Walks (enumsFrom (now (file .entry)) 0 count at) (now (sorts .entry)) (now (sorts .exit)) (now (marks .entry)) (now (marks .exit)) ⌝ }
 {
-    let mut h = g;
+    let mut next = at;
     let mut e = 0;
     while e < count {
-        let at = h.next;
-        if file.len() <= at {
-            return h;
-        }
-        h = sort_names(file, sorts, e + 1, h);
+        let many = byte(file, next);
+        sort_names(file, sorts, marks, e + 1, many, next + 1);
+        next = next + 1 + 2 * many;
         e += 1;
     }
-    h
 }
 
-// So many constants from where the walk stands.
-fn sort_constants(file: &[u8], sorts: &mut [u8], count: usize, g: Sorting) -> Sorting
-    requires { ⌜ length (now file) ≤ 32768 ⌝ }
-    ensures { λ r. ⌜ ((enums : ℕ) (cs : List Constant) → length cs ≡ count → Listed constantBytes (constantFits base enums) (now (file .entry)) (g .next) cs → Walks (declaredAs constant (map placedConstantName (placed constantSize (g .next) cs))) (now (sorts .entry)) (now (sorts .exit)) g r) ⌝ }
+// The file's constants, so many from `at` on.
+fn sort_constants(file: &[u8], sorts: &mut [u8], marks: &mut [usize; 2], count: usize, at: usize)
+    requires { ⌜ ConstantsAt (now file) count at × (length (now marks) ≡ 2) ⌝ }
+    ensures { λ r. ⌜ Walks (declaredAs constant (map placedConstantName (placedConstants (fileAt (now (file .entry)))))) (now (sorts .entry)) (now (sorts .exit)) (now (marks .entry)) (now (marks .exit)) ⌝ }
 {
-    let mut h = g;
+    let mut next = at;
     let mut i = 0;
     while i < count {
-        let at = h.next;
-        if file.len() <= at {
-            return h;
-        }
-        h = sort_constant(file, sorts, h);
+        sort_name(file, sorts, marks, 17, next);
+        next = skip(file, 1, next + 2 + ty_size(file, next + 2));
         i += 1;
     }
-    h
 }
 
 // The variables of node `k`.
 fn sort_node(
     file: &[u8],
     sorts: &mut [u8],
+    marks: &mut [usize; 2],
     rows: &[usize],
     nodes: usize,
     k: usize,
-    g: Sorting,
-) -> Sorting
-    requires { ⌜ NodeReady (now file) (now rows) nodes k ⌝ }
-    ensures { λ r. ⌜ Walks (nodeDeclares (k, (placeIn (fileAt (now (file .entry))) k, nodeOf (fileAt (now (file .entry))) k))) (now (sorts .entry)) (now (sorts .exit)) g r ⌝ }
+)
+    requires { ⌜ NodeReady (now file) (now rows) nodes k × (length (now marks) ≡ 2) ⌝ }
+    ensures { λ r. ⌜ Walks (nodeDeclares (k, (placeIn (fileAt (now (file .entry))) k, nodeOf (fileAt (now (file .entry))) k))) (now (sorts .entry)) (now (sorts .exit)) (now (marks .entry)) (now (marks .exit)) ⌝ }
 {
     let at = row(rows, k, PLACE);
-    let found = g.found;
-    let low = g.low;
-    let o = sort_variables(
-        file,
-        sorts,
-        k + 18,
-        Sorting {
-            found,
-            low,
-            next: at + 1,
-        },
-    );
-    let l = sort_variables(file, sorts, k + 18, o);
-    sort_variables(file, sorts, k + 18, l)
+    let inputs = byte(file, at + 1);
+    let o = sort_variables(file, sorts, marks, k + 18, inputs, at + 2);
+    let outputs = byte(file, o);
+    let l = sort_variables(file, sorts, marks, k + 18, outputs, o + 1);
+    let locals = byte(file, l);
+    sort_variables(file, sorts, marks, k + 18, locals, l + 1);
 }
 
 // The variables of all nodes.
-fn sort_nodes(file: &[u8], sorts: &mut [u8], rows: &[usize], nodes: usize, g: Sorting) -> Sorting
-    requires { ⌜ RowsReady (now file) (now rows) nodes ⌝ }
-    ensures { λ r. ⌜ Walks (concat (map nodeDeclares (numbered 0 (placedNodes (fileAt (now (file .entry))))))) (now (sorts .entry)) (now (sorts .exit)) g r ⌝ }
+fn sort_nodes(file: &[u8], sorts: &mut [u8], marks: &mut [usize; 2], rows: &[usize], nodes: usize)
+    requires { ⌜ RowsReady (now file) (now rows) nodes × (length (now marks) ≡ 2) ⌝ }
+    ensures { λ r. ⌜ Walks (concat (map nodeDeclares (numbered 0 (placedNodes (fileAt (now (file .entry))))))) (now (sorts .entry)) (now (sorts .exit)) (now (marks .entry)) (now (marks .exit)) ⌝ }
 {
-    let mut h = g;
     let mut k = 0;
     while k < nodes {
-        h = sort_node(file, sorts, rows, nodes, k, h);
+        sort_node(file, sorts, marks, rows, nodes, k);
         k += 1;
     }
-    h
 }
 
 // Every declared name of a file that reads without fault: the first clash, which is fault 6 where
@@ -245,27 +203,12 @@ pub fn sort_file(file: &[u8], rows: &[usize], sections: Sections, sorts: &mut [u
 {
     let c = sections.constants;
     let n = sections.nodes;
-    let e = sort_enums(
-        file,
-        sorts,
-        byte(file, 1),
-        Sorting {
-            found: Found::Nothing,
-            low: true,
-            next: 2,
-        },
-    );
-    let found = e.found;
-    let low = e.low;
-    let k = sort_constants(
-        file,
-        sorts,
-        byte(file, c),
-        Sorting {
-            found,
-            low,
-            next: c + 1,
-        },
-    );
-    sort_nodes(file, sorts, rows, byte(file, n), k)
+    let mut marks = [NO_PLACE, 1];
+    sort_enums(file, sorts, &mut marks, byte(file, 1), 2);
+    sort_constants(file, sorts, &mut marks, byte(file, c), c + 1);
+    sort_nodes(file, sorts, &mut marks, rows, byte(file, n));
+    Sorting {
+        found: found_at(marks[0]),
+        low: marks[1] == 1,
+    }
 }

@@ -5,10 +5,11 @@ use super::names::declare;
 use ol_tables::bytes::name;
 use ol_tables::heads::ty_size;
 ghost use mathlib.Core.Path.{_≡_};
-ghost use mathlib.Core.List.{List};
 ghost use Prim.Native.Nat.{ℕ, _≤_, _<_};
 ghost use lib.ListN.{length};
-ghost use Rattle.ol_spec.specs.Syntax.{Constant, File};
+ghost use Rattle.ol_spec.specs.Syntax.{Constant};
+ghost use Rattle.ol_spec.specs.Admission.{variants};
+ghost use Rattle.ol_tables.specs.At.{fileAt};
 ghost use Rattle.ol_tables.specs.Stands.{ConstantStands};
 ghost use Rattle.ol_check.specs.ConstantsJudged.{ConstantJudged, ConstantsJudged, ConstantsReady};
 
@@ -62,8 +63,8 @@ pub(crate) fn judge_constants(
     many: usize,
     f: Faults,
 ) -> Faults
-    requires { ⌜ (length (now file) ≤ 32768) × (many ≤ 64) ⌝ }
-    ensures { λ r. ⌜ ((t : File) (visible : List ℕ) (enums : ℕ) (cs : List Constant) → length cs ≡ many → ConstantsReady (now (file .entry)) (now (names .entry)) (now (rows .entry)) nodes t visible enums (f .next) cs → ConstantsJudged (now (file .entry)) (now (names .entry)) t visible (f .next) cs (now (slots .entry)) (now (slots .exit)) (now (names .exit)) f r) ⌝ }
+    requires { ⌜ (length (now file) ≤ 32768) × (many ≡ length (fileAt (now file) .constants)) × (many ≤ 64) × ConstantsReady (now file) (now names) (now rows) nodes (fileAt (now file)) (variants (fileAt (now file))) (length (fileAt (now file) .enums)) (f .next) (fileAt (now file) .constants) ⌝ }
+    ensures { λ r. ⌜ ConstantsJudged (now (file .entry)) (now (names .entry)) (fileAt (now (file .entry))) (variants (fileAt (now (file .entry)))) (f .next) (fileAt (now (file .entry)) .constants) (now (slots .entry)) (now (slots .exit)) (now (names .exit)) f r ⌝ }
 {
     let mut g = f;
     let mut i = 0;

@@ -17,11 +17,14 @@ ghost use lib.ListN.{length};
 ghost use Rattle.ol_spec.specs.Syntax.{Exprs, count};
 ghost use Rattle.ol_tables.specs.Heads.{Standing};
 ghost use Rattle.ol_check.specs.Judging.{unseenB, plainB, slotOfEntry, slotPut, slotHead, mayB, badB, calledB, outputsB, arityB, Walked};
-ghost use Rattle.ol_check.specs.Judging.{takenB, NamesDefined, loneB, otherB, RootJudged, Context, EquationJudged, EquationsJudged};
+ghost use Rattle.ol_check.specs.Judging.{takenB, NamesDefined, loneB, otherB, RootJudged, Context, EquationJudged, seenIn, EquationsReady, EquationsJudged};
 ghost use mathlib.Core.List.{List};
 ghost use mathlib.Core.Bool.{Bool};
 ghost use Rattle.ol_spec.specs.Syntax.{Expr, nil, cons, Equation, File};
-ghost use Rattle.ol_tables.specs.Stands.{Names, EquationStands, Equations};
+ghost use Rattle.ol_spec.specs.Admission.{badCall};
+ghost use Rattle.ol_tables.specs.At.{fileAt};
+ghost use Rattle.ol_tables.specs.Tables.{nodeOf};
+ghost use Rattle.ol_tables.specs.Stands.{Names, EquationStands};
 
 // A name's slot, by its entry.
 fn slot(e: usize) -> u8
@@ -367,8 +370,8 @@ pub(crate) fn equations(
     many: usize,
     f: Faults,
 ) -> Faults
-    requires { ⌜ (node < 256) × (length (now file) ≤ 32768) ⌝ }
-    ensures { λ r. ⌜ ((t : File) (visible : List ℕ) (bad : ℕ → ℕ → Bool) (enums : ℕ) (qs : List Equation) → Context t node (now (names .entry)) (now (rows .entry)) nodes visible bad → length qs ≡ many → Equations (now (file .entry)) enums (f .next) qs → EquationsJudged (now (file .entry)) (now (names .entry)) (now (rows .entry)) nodes t visible bad inputs (f .next) qs (now (slots .entry)) (now (slots .exit)) (now (defined .entry)) (now (defined .exit)) f r) ⌝ }
+    requires { ⌜ (node < 256) × (length (now file) ≤ 32768) × EquationsReady (now file) (now names) (now rows) nodes node many (f .next) ⌝ }
+    ensures { λ r. ⌜ EquationsJudged (now (file .entry)) (now (names .entry)) (now (rows .entry)) nodes (fileAt (now (file .entry))) (seenIn (fileAt (now (file .entry))) node) (badCall (fileAt (now (file .entry))) node (nodeOf (fileAt (now (file .entry))) node)) inputs (f .next) (nodeOf (fileAt (now (file .entry))) node .equations) (now (slots .entry)) (now (slots .exit)) (now (defined .entry)) (now (defined .exit)) f r ⌝ }
 {
     let mut g = f;
     let mut i = 0;

@@ -5,14 +5,10 @@ use ol_tables::bytes::name;
 use ol_tables::bytes::put_byte;
 use ol_tables::heads::ty_size;
 ghost use mathlib.Core.Path.{_≡_};
-ghost use mathlib.Core.List.{List, map};
-ghost use Prim.Native.Nat.{ℕ, _≤_, _<_, _+_, _*_};
-ghost use lib.ListN.{length};
-ghost use Rattle.ol_spec.specs.Syntax.{Variable};
-ghost use Rattle.ol_tables.specs.Stands.{Names, Variables};
+ghost use mathlib.Core.List.{map};
+ghost use Prim.Native.Nat.{_≤_, _<_, _+_};
+ghost use Rattle.ol_check.specs.Spans.{namesOf, namesFrom, variantsFrom};
 ghost use Rattle.ol_check.specs.Entries.{declared, forgot, declareAll, variantEntry, VariablesEntered, VariablesForgotten};
-ghost use Rattle.ol_spec.specs.Lists.{concat};
-ghost use Rattle.ol_check.specs.RowsDone.{Enums};
 
 // Enters a name, unless it has an entry.
 pub(crate) fn declare(names: &mut [u8], x: usize, e: u8)
@@ -41,7 +37,7 @@ pub(crate) fn declare_variables(
     at: usize,
 ) -> usize
     requires { ⌜ (first + count ≤ 112) × (at ≤ 40000) ⌝ }
-    ensures { λ r. ⌜ (r ≤ at + 4 * count) × ((enums : ℕ) (vs : List Variable) → length vs ≡ count → Variables (now (file .entry)) enums at vs → VariablesEntered vs (now (names .entry)) (now (names .exit)) first at r) ⌝ }
+    ensures { λ r. ⌜ VariablesEntered (now (file .entry)) (now (names .entry)) (now (names .exit)) first count at r ⌝ }
 {
     let mut next = at;
     let mut i = 0;
@@ -56,7 +52,7 @@ pub(crate) fn declare_variables(
 // Takes the entries of so many variables from `at` on back; where they end is answered.
 pub(crate) fn forget_variables(file: &[u8], names: &mut [u8], count: usize, at: usize) -> usize
     requires { ⌜ (count ≤ 112) × (at ≤ 40000) ⌝ }
-    ensures { λ r. ⌜ (r ≤ at + 4 * count) × ((enums : ℕ) (vs : List Variable) → length vs ≡ count → Variables (now (file .entry)) enums at vs → VariablesForgotten vs (now (names .entry)) (now (names .exit)) at r) ⌝ }
+    ensures { λ r. ⌜ VariablesForgotten (now (file .entry)) (now (names .entry)) (now (names .exit)) count at r ⌝ }
 {
     let mut next = at;
     let mut i = 0;
@@ -71,7 +67,7 @@ pub(crate) fn forget_variables(file: &[u8], names: &mut [u8], count: usize, at: 
 // Enters so many variants from `at` on.
 fn declare_variants(file: &[u8], names: &mut [u8], count: usize, at: usize)
     requires { ⌜ (count < 256) × (at ≤ 40000) ⌝ }
-    ensures { λ r. ⌜ ((xs : List ℕ) → length xs ≡ count → Names (now (file .entry)) 0 at xs → now (names .exit) ≡ declareAll (now (names .entry)) (map variantEntry xs)) ⌝ }
+    ensures { λ r. ⌜ now (names .exit) ≡ declareAll (now (names .entry)) (map variantEntry (namesOf (namesFrom (now (file .entry)) count at))) ⌝ }
 {
     let mut next = at;
     let mut i = 0;
@@ -84,15 +80,12 @@ fn declare_variants(file: &[u8], names: &mut [u8], count: usize, at: usize)
 
 // Enters the variants of so many enums from `at` on.
 pub(crate) fn declare_enums(file: &[u8], names: &mut [u8], count: usize, at: usize)
-    requires { ⌜ length (now file) ≤ 32768 ⌝ }
-    ensures { λ r. ⌜ ((es : List (List ℕ)) → length es ≡ count → Enums (now (file .entry)) at es → now (names .exit) ≡ declareAll (now (names .entry)) (map variantEntry (concat es))) ⌝ }
+    requires { ⌜ (count ≤ 16) × (at ≤ 20000) ⌝ }
+    ensures { λ r. ⌜ now (names .exit) ≡ declareAll (now (names .entry)) (map variantEntry (variantsFrom (now (file .entry)) count at)) ⌝ }
 {
     let mut next = at;
     let mut i = 0;
     while i < count {
-        if file.len() <= next {
-            return;
-        }
         declare_variants(file, names, byte(file, next), next + 1);
         next = names_end(file, next);
         i += 1;

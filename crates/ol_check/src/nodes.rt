@@ -17,15 +17,14 @@ use ol_tables::tables::SIZE;
 use ol_tables::tables::VARIABLES;
 use ol_tables::tables::row;
 ghost use mathlib.Core.Path.{_≡_};
-ghost use mathlib.Core.List.{List, map};
-ghost use Prim.Native.Nat.{ℕ, _<_, _+_, _*_};
+ghost use mathlib.Core.List.{map};
+ghost use Prim.Native.Nat.{_+_, _*_};
 ghost use lib.ListN.{length, set};
 ghost use Rattle.ol_spec.specs.Syntax.{variables, nameOf};
 ghost use Rattle.ol_tables.specs.At.{fileAt};
 ghost use Rattle.ol_tables.specs.Tables.{nodeOf, rowAt};
-ghost use Rattle.ol_check.specs.Entries.{forgetAll, Global};
-ghost use Rattle.ol_check.specs.Judging.{Knows};
-ghost use Rattle.ol_check.specs.NodesJudged.{NodeReady, nodeTable, Covered, NodeJudged, RowsReady, AllCovered, NodesJudged};
+ghost use Rattle.ol_check.specs.Entries.{forgetAll};
+ghost use Rattle.ol_check.specs.NodesJudged.{NodeReady, nodeTable, NodeJudged, RowsReady, NamesReady, NodesJudged};
 ghost use Rattle.ol_check.specs.Records.{recordBy};
 ghost use Rattle.ol_check.specs.Sizes.{NodesSized};
 
@@ -67,8 +66,8 @@ fn node(
     k: usize,
     f: Faults,
 ) -> Faults
-    requires { ⌜ NodeReady (now file) (now rows) nodes k × Global (now names) ⌝ }
-    ensures { λ r. ⌜ (now (names .exit) ≡ now (names .entry)) × (now (rows .exit) ≡ set (now (rows .entry)) (k * 8 + 6) (recordBy (rowAt (now (rows .entry)) k 0) (r .size))) × ((visible : List ℕ) → Knows (now (names .entry)) visible → Covered (length (now (names .entry))) (nodeOf (fileAt (now (file .entry))) k) → NodeJudged (now (file .entry)) (now (names .entry)) (now (rows .entry)) nodes (fileAt (now (file .entry))) visible k (now (slots .entry)) (now (slots .exit)) f r) ⌝ }
+    requires { ⌜ NodeReady (now file) (now rows) nodes k × NamesReady (now names) (fileAt (now file)) ⌝ }
+    ensures { λ r. ⌜ (now (names .exit) ≡ now (names .entry)) × (now (rows .exit) ≡ set (now (rows .entry)) (k * 8 + 6) (recordBy (rowAt (now (rows .entry)) k 0) (r .size))) × NodeJudged (now (file .entry)) (now (names .entry)) (now (rows .entry)) nodes (fileAt (now (file .entry))) k (now (slots .entry)) (now (slots .exit)) f r ⌝ }
 {
     declare_node(file, names, rows, nodes, k);
     let unseen = f.unseen;
@@ -110,8 +109,8 @@ pub(crate) fn judge_nodes(
     nodes: usize,
     f: Faults,
 ) -> Faults
-    requires { ⌜ RowsReady (now file) (now rows) nodes × Global (now names) × (length (now rows) ≡ 272) ⌝ }
-    ensures { λ r. ⌜ (now (names .exit) ≡ now (names .entry)) × ((visible : List ℕ) → Knows (now (names .entry)) visible → AllCovered (length (now (names .entry))) (fileAt (now (file .entry))) → NodesJudged (now (file .entry)) (now (names .entry)) (fileAt (now (file .entry))) visible (now (slots .entry)) (now (slots .exit)) f r × NodesSized (fileAt (now (file .entry))) (now (rows .entry)) (now (rows .exit)) (r .size)) ⌝ }
+    requires { ⌜ RowsReady (now file) (now rows) nodes × NamesReady (now names) (fileAt (now file)) × (length (now rows) ≡ 272) ⌝ }
+    ensures { λ r. ⌜ (now (names .exit) ≡ now (names .entry)) × NodesJudged (now (file .entry)) (now (names .entry)) (fileAt (now (file .entry))) (now (slots .entry)) (now (slots .exit)) f r × NodesSized (fileAt (now (file .entry))) (now (rows .entry)) (now (rows .exit)) (f .size) (r .size) ⌝ }
 {
     let mut g = f;
     let mut k = 0;

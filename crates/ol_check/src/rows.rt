@@ -10,31 +10,29 @@ use ol_tables::tables::FIRSTS;
 use ol_tables::tables::MOST_VARIABLES;
 ghost use mathlib.Core.Path.{_≡_};
 ghost use mathlib.Core.List.{[], _∷_};
-ghost use Prim.Native.Nat.{_≤_, _<_, _+_, _*_};
+ghost use Prim.Native.Nat.{ℕ, _≤_, _<_};
 ghost use lib.ListN.{getD, length};
-ghost use Rattle.ol_check.specs.RowsDone.{EnumsDone, typeSet, VariablesDone, putAll, NodeDone, PlacesAre, NodesDone, TablesDone};
+ghost use Rattle.ol_check.specs.Spans.{behindEnum};
+ghost use Rattle.ol_check.specs.RowsDone.{EnumsStored, typeSet, TypesStored, putAll, NodeStored, NodesStored, PlacesAre, TablesDone};
 ghost use Rattle.ol_tables.specs.At.{fileAt};
 ghost use Rattle.ol_tables.specs.Stands.{FileReads};
 
 // Where the section of names at `at` ends.
 pub(crate) fn names_end(file: &[u8], at: usize) -> usize
-    requires { ⌜ at < length (now file) ⌝ }
-    ensures { λ r. ⌜ r ≡ at + 1 + 2 * getD (now (file .entry)) at 0 ⌝ }
+    requires { ⌜ at ≤ 40000 ⌝ }
+    ensures { λ r. ⌜ r ≡ behindEnum (now (file .entry)) at ⌝ }
 {
     at + 1 + 2 * byte(file, at)
 }
 
 // So many enums from `at` on: the first variant of each is stored, and where they end is answered.
 fn enum_rows(file: &[u8], rows: &mut [usize], count: usize, at: usize) -> usize
-    requires { ⌜ (count ≤ 16) × (length (now rows) ≡ 272) ⌝ }
-    ensures { λ r. ⌜ EnumsDone (now (file .entry)) (now (rows .entry)) (now (rows .exit)) count at r ⌝ }
+    requires { ⌜ (count ≤ 16) × (at ≤ 20000) ⌝ }
+    ensures { λ r. ⌜ EnumsStored (now (file .entry)) (now (rows .entry)) (now (rows .exit)) count at r ⌝ }
 {
     let mut next = at;
     let mut e = 0;
     while e < count {
-        if file.len() <= next {
-            return next;
-        }
         put(rows, FIRSTS + e, name(file, next + 1));
         next = names_end(file, next);
         e += 1;
@@ -44,7 +42,7 @@ fn enum_rows(file: &[u8], rows: &mut [usize], count: usize, at: usize) -> usize
 
 // Stores the type at `at` as that of variable `i`.
 fn put_type(file: &[u8], types: &mut [u8], i: usize, at: usize)
-    requires { ⌜ (i < 8192) × (at ≤ 40000) ⌝ }
+    requires { ⌜ (i < 8192) × (at ≤ 42000) ⌝ }
     ensures { λ r. ⌜ now (types .exit) ≡ typeSet (now (types .entry)) i (now (file .entry)) at ⌝ }
 {
     let code = byte(file, at);
@@ -59,15 +57,12 @@ fn put_type(file: &[u8], types: &mut [u8], i: usize, at: usize)
 // So many variables from `at` on: their types are stored from number `first` on, and where they
 // end is answered.
 fn variable_types(file: &[u8], types: &mut [u8], first: usize, count: usize, at: usize) -> usize
-    requires { ⌜ (first < 4096) × (count < 256) × (length (now file) ≤ 32768) ⌝ }
-    ensures { λ r. ⌜ VariablesDone (now (file .entry)) (now (types .entry)) (now (types .exit)) first count at r ⌝ }
+    requires { ⌜ (first < 4096) × (count < 256) × (at ≤ 40000) ⌝ }
+    ensures { λ r. ⌜ TypesStored (now (file .entry)) (now (types .entry)) (now (types .exit)) first count at r ⌝ }
 {
     let mut next = at;
     let mut i = 0;
     while i < count {
-        if file.len() <= next {
-            return next;
-        }
         put_type(file, types, first + i, next + 2);
         next = next + 2 + ty_size(file, next + 2);
         i += 1;
@@ -102,12 +97,9 @@ fn put_row(
 
 // The row of node `k`, which stands at `at`, and the types of its variables.
 fn node_row(file: &[u8], rows: &mut [usize], types: &mut [u8], k: usize, at: usize)
-    requires { ⌜ (k < 32) × (length (now file) ≤ 32768) × (length (now rows) ≡ 272) × (length (now types) ≡ 7168) ⌝ }
-    ensures { λ r. ⌜ NodeDone (now (file .entry)) (now (rows .entry)) (now (rows .exit)) (now (types .entry)) (now (types .exit)) k at ⌝ }
+    requires { ⌜ (k < 32) × (at ≤ 32768) ⌝ }
+    ensures { λ r. ⌜ NodeStored (now (file .entry)) (now (rows .entry)) (now (rows .exit)) (now (types .entry)) (now (types .exit)) k at ⌝ }
 {
-    if file.len() <= at {
-        return;
-    }
     let inputs = byte(file, at + 1);
     let o = variable_types(file, types, k * MOST_VARIABLES, inputs, at + 2);
     let outputs = byte(file, o);
@@ -135,8 +127,8 @@ fn node_row(file: &[u8], rows: &mut [usize], types: &mut [u8], k: usize, at: usi
 
 // So many nodes, each at its place.
 fn node_rows(file: &[u8], places: &[usize], rows: &mut [usize], types: &mut [u8], count: usize)
-    requires { ⌜ (count ≤ 32) × (length (now file) ≤ 32768) × (length (now rows) ≡ 272) × (length (now types) ≡ 7168) ⌝ }
-    ensures { λ r. ⌜ NodesDone (now (file .entry)) (now (places .entry)) (now (rows .entry)) (now (rows .exit)) (now (types .exit)) count ⌝ }
+    requires { ⌜ (count ≤ 32) × ((k : ℕ) → k < count → getD (now places) k 0 ≤ 32768) ⌝ }
+    ensures { λ r. ⌜ NodesStored (now (file .entry)) (now (places .entry)) (now (rows .entry)) (now (rows .exit)) (now (types .entry)) (now (types .exit)) count ⌝ }
 {
     let mut k = 0;
     while k < count {

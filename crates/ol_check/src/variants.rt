@@ -4,19 +4,18 @@ use ol_tables::bytes::byte;
 use ol_tables::bytes::name;
 use ol_tables::bytes::put_byte;
 ghost use mathlib.Core.Path.{_≡_};
-ghost use mathlib.Core.List.{List};
-ghost use Prim.Native.Nat.{ℕ, _≤_, _<_};
-ghost use lib.ListN.{length};
+ghost use Prim.Native.Nat.{_≤_, _<_};
 ghost use Rattle.ol_tables.specs.At.{fileAt};
-ghost use Rattle.ol_tables.specs.Stands.{Names, FileReads};
+ghost use Rattle.ol_tables.specs.Stands.{FileReads};
 ghost use Rattle.ol_tables.specs.Tables.{Variants};
+ghost use Rattle.ol_check.specs.Spans.{namesOf, namesFrom};
 ghost use Rattle.ol_check.specs.VariantTable.{enterAll};
 ghost use Rattle.ol_check.specs.Clashing.{Blank};
 
 // Enters so many variants from `at` on.
 fn enter_names(file: &[u8], table: &mut [u8], count: usize, at: usize)
     requires { ⌜ (count < 256) × (at ≤ 40000) ⌝ }
-    ensures { λ r. ⌜ ((xs : List ℕ) → length xs ≡ count → Names (now (file .entry)) 0 at xs → now (table .exit) ≡ enterAll (now (table .entry)) xs) ⌝ }
+    ensures { λ r. ⌜ now (table .exit) ≡ enterAll (now (table .entry)) (namesOf (namesFrom (now (file .entry)) count at)) ⌝ }
 {
     let mut next = at;
     let mut i = 0;
@@ -37,9 +36,6 @@ pub fn enter_variants(file: &[u8], table: &mut [u8])
     let mut next = 2;
     let mut i = 0;
     while i < count {
-        if file.len() <= next {
-            return;
-        }
         enter_names(file, table, byte(file, next), next + 1);
         next = names_end(file, next);
         i += 1;

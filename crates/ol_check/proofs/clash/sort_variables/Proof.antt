@@ -1,67 +1,81 @@
-use borrow.Author.Needs.{needs}
 use Prim.Native.Nat.{ℕ, _+_, _*_, _-_, _≤_}
-use mathlib.Core.List.{List}
-use mathlib.Core.Path.{_≡_, refl, sym, _∙_}
+use mathlib.Core.Path.{_≡_, refl, ap, _∙_}
 use lib.ListN.{length}
 use native.Mathlib.Omega.{arith}
-use Rattle.ol_spec.specs.Syntax.{Variable}
-use Rattle.ol_spec.specs.Admission.{Sort}
-use Rattle.ol_tables.specs.Stands.{Variables}
-use Rattle.ol_check.specs.Clashing.{sortCode}
-use Rattle.ol_check.proofs.ClashLoops.{VariablesGoing, variables-start, variables-turn, variables-done}
+use Rattle.ol_tables.proofs.Walking.{ty-small}
+use Rattle.ol_check.specs.Spans.{behindVariable}
+use Rattle.ol_check.proofs.ClashLoops.{NamesGoing, names-start, names-turn, names-done, names-end}
 use Rattle.ol_check.proofs.clash.sort_variables.Statement.{statement}
 use Rattle.ol_check.proofs.clash.sort_variables.Tie as tie
 use Rattle.ol_check.proofs.clash.sort_variables.Reads as reads
 use Rattle.ol_check.proofs.clash.sort_variables.Lts as lts
-use Rattle.ol_tables.proofs.bytes.byte.Reads as byte-reads
-use Rattle.ol_check.proofs.clash.sort_variable.Reads as sort-variable-reads
+use Rattle.ol_check.proofs.clash.sort_name.Reads as sort-name-reads
+use Rattle.ol_tables.proofs.heads.ty_size.Reads as ty-size-reads
 
 abbrev Inv-loop : tie.InvT-loop
-Inv-loop file sorts₀ sort at low count h₀ i₀ sorts h i =
-    (h .next ≤ h₀ .next + 4 * i) × (length sorts ≡ length sorts₀) × (i ≤ count) × ((enums : ℕ) (u : Sort) (vs : List Variable) → sortCode u ≡ sort → length vs ≡ count → Variables file enums (h₀ .next) vs → VariablesGoing file enums u vs sorts₀ h₀ sorts h i)
+Inv-loop file sorts₀ marks₀ sort count at next₀ i₀ sorts marks next i =
+    (next ≤ at + 4 * i) × (length sorts ≡ length sorts₀) × NamesGoing (behindVariable file) file sort count at sorts₀ marks₀ sorts marks i next
 
 abbrev μ-loop : tie.MeasureT-loop
-μ-loop file sorts₀ sort at low count h₀ i₀ sorts h i = count - i
+μ-loop file sorts₀ marks₀ sort count at next₀ i₀ sorts marks next i = count - i
 
--- src/clash.rt:143:9
-byte-requires : tie.Need-byte-requires Inv-loop μ-loop
-byte-requires c κs = search needs
-
--- src/clash.rt:147:15
-add-t11 : tie.Need-add-t11 Inv-loop μ-loop
-add-t11 c =
-    let start = c .before .before .before in
-    omega (arith, start .pre)
-
--- src/clash.rt:150:5
+-- src/clash.rt:127:5
 loop-holds : tie.Need-loop-holds Inv-loop μ-loop
-loop-holds c = (omega arith, refl, omega arith, λ enums u vs eu en h. variables-start h)
+loop-holds c = (omega arith, refl, names-start)
 
--- src/clash.rt:151:9
-sort-variable-requires : tie.Need-sort-variable-requires Inv-loop μ-loop
-sort-variable-requires c κs =
+-- src/clash.rt:128:9
+sort-name-requires : tie.Need-sort-name-requires Inv-loop μ-loop
+sort-name-requires c κs =
     let start = c .before .before .before .before .before .before in
-    (start .pre .0, omega (arith, c .before .before .loop .inv .0, c .before .before .loop .inv .2, start .pre .1, c .before .before .before .byte .ensures .small, c .before .loop-test .taken))
+    (c .before .before .before .loop .inv .2 .long ∙ start .pre .0, start .pre .1, start .pre .2, omega (arith, c .before .before .before .loop .inv .0, start .pre .3, start .pre .4, c .before .before .loop-test .taken))
 
--- src/clash.rt:152:9
+-- src/clash.rt:129:16
+add-next : tie.Need-add-next Inv-loop μ-loop
+add-next c =
+    let start = c .before .before .before .before .before .before .before .before .before in
+    omega (arith, c .before .before .before .before .before .before .loop .inv .0, start .pre .3, start .pre .4, c .before .before .before .before .before .loop-test .taken)
+
+-- src/clash.rt:129:41
+add-ty-size : tie.Need-add-ty-size Inv-loop μ-loop
+add-ty-size c =
+    let start = c .before .before .before .before .before .before .before .before .before in
+    omega (arith, c .before .before .before .before .before .before .loop .inv .0, start .pre .3, start .pre .4, c .before .before .before .before .before .loop-test .taken)
+
+-- src/clash.rt:129:27
+ty-size-requires : tie.Need-ty-size-requires Inv-loop μ-loop
+ty-size-requires c κs = tt
+
+-- src/clash.rt:129:16
+add-next-2 : tie.Need-add-next-2 Inv-loop μ-loop
+add-next-2 c =
+    let start = c .before .before .before .before .before .before .before .before .before .before in
+    let f = start .args .file .now in
+    let small = ty-small f (c .before .before .before .before .before .before .before .loop .next + 2) in
+    omega (arith, c .before .before .before .before .before .before .before .loop .inv .0, start .pre .3, start .pre .4, c .before .before .before .before .before .before .loop-test .taken, small, c .ty-size .ensures)
+
+-- src/clash.rt:130:9
 add-i : tie.Need-add-i Inv-loop μ-loop
-add-i c = omega (arith, c .before .before .before .before .loop-test .taken)
+add-i c = omega (arith, c .before .before .before .before .before .before .loop-test .taken)
 
--- src/clash.rt:150:5
+-- src/clash.rt:127:5
 loop-less : tie.Need-loop-less Inv-loop μ-loop
 loop-less c = omega arith
 
--- src/clash.rt:150:5
+-- src/clash.rt:127:5
 loop-again : tie.Need-loop-again Inv-loop μ-loop
-loop-again c = (omega (arith, c .before .before .before .before .before .loop .inv .0, c .before .before .sort-variable .ensures .0), c .before .before .sort-variable .kept .1 .0 ∙ c .before .before .before .before .before .loop .inv .1, omega (arith, c .before .before .before .before .loop-test .taken), λ enums u vs eu en h. variables-turn (c .before .before .before .before .before .loop .inv .3 enums u vs eu en h) (omega (arith, c .before .before .before .before .loop-test .taken, en)) eu (c .before .before .sort-variable .ensures .1))
+loop-again c =
+    let start = c .before .before .before .before .before .before .before .before .before .before in
+    let f = start .args .file .now in
+    let small = ty-small f (c .before .before .before .before .before .before .before .loop .next + 2) in
+    (omega (arith, c .before .before .before .before .before .before .before .loop .inv .0, small, c .ty-size .ensures), c .before .before .before .sort-name .kept .1 .0 ∙ c .before .before .before .before .before .before .before .loop .inv .1, names-turn (c .before .before .before .before .before .before .before .loop .inv .2) (c .before .before .before .before .before .before .loop-test .taken) (ap (λ n. c .before .before .before .before .before .before .before .loop .next + 2 + n) (c .ty-size .ensures)) (c .before .before .before .sort-name .ensures))
 
--- src/clash.rt:136:1
+-- src/clash.rt:114:1
 same-length : tie.Need-same-length Inv-loop μ-loop
 same-length c = c .before .loop .inv .1
 
--- src/clash.rt:136:1
+-- src/clash.rt:114:1
 returns : tie.Need-returns Inv-loop μ-loop
-returns c = (omega (arith, c .before .loop .inv .0, c .before .loop .inv .2, c .before .before .byte .ensures .small), λ enums u vs eu en h. let w = variables-done (c .before .loop .inv .3 enums u vs eu (sym en ∙ sym (c .before .before .byte .ensures .is)) h) (omega (arith, c .loop-test .left, en, c .before .before .byte .ensures .is)) in record { walks = w .walks; ends = w .ends ∙ omega arith })
+returns c = record { walks = names-done (c .before .loop .inv .2) (c .loop-test .left); ends = names-end (c .before .loop .inv .2) (c .loop-test .left) }
 
 pub sort-variables-spec : {M : Type 1} → statement M
 sort-variables-spec =
@@ -69,10 +83,12 @@ sort-variables-spec =
     (tie.spec
     Inv-loop
     μ-loop
-    byte-requires
-    add-t11
     loop-holds
-    sort-variable-requires
+    sort-name-requires
+    add-next
+    add-ty-size
+    ty-size-requires
+    add-next-2
     add-i
     loop-less
     loop-again

@@ -1,17 +1,17 @@
 use mathlib.Core.Path.{refl}
-use borrow.Author.Needs.{needs}
+use borrow.Author.Tests.{lt-ltb, le-ltb}
 use Rattle.ol_check.proofs.clash.still_low.Statement.{statement}
 use Rattle.ol_check.proofs.clash.still_low.Tie as tie
 use Rattle.ol_check.proofs.clash.still_low.Reads as reads
 use Rattle.ol_check.proofs.clash.still_low.Lts as lts
 
--- src/clash.rt:57:1
+-- src/clash.rt:63:1
 returns : tie.Need-returns
-returns c = rw (c .if1 .taken) refl
+returns c = rw (lt-ltb _ 1024 (c .if1 .taken)) refl
 
--- src/clash.rt:57:1
+-- src/clash.rt:63:1
 returns-2 : tie.Need-returns-2
-returns-2 c = search needs
+returns-2 c = rw (le-ltb _ 1024 (c .if1 .left)) refl
 
 pub still-low-spec : {M : Type 1} → statement M
 still-low-spec = tie.close (tie.spec returns returns-2)

@@ -1,8 +1,8 @@
+use mathlib.Core.Path.{refl}
 use Rattle.ol_check.proofs.ConstantLaws.{ConstantsGoing, constants-start, constants-turn, constants-done, constants-cut}
-use Rattle.ol_check.specs.ConstantsJudged.{ConstantsReady}
-use Rattle.ol_spec.specs.Syntax.{Constant, File}
+use Rattle.ol_spec.specs.Admission.{variants}
+use Rattle.ol_tables.specs.At.{fileAt}
 use lib.ListN.{length}
-use mathlib.Core.List.{List}
 use mathlib.Core.Path.{_≡_, refl, sym, ap, _∙_}
 use Prim.Native.Nat.{ℕ, _-_}
 use borrow.Author.Needs.{needs}
@@ -12,13 +12,15 @@ use Rattle.ol_check.proofs.constants.judge_constants.Tie as tie
 
 abbrev Inv-loop : tie.InvT-loop
 Inv-loop file names₀ slots₀ rows nodes many g₀ i₀ names slots g i =
-    (length names ≡ length names₀) × (length slots ≡ length slots₀) × ((t : File) (visible : List ℕ) (enums : ℕ) (cs : List Constant) → length cs ≡ many → ConstantsReady file names₀ rows nodes t visible enums (g₀ .next) cs → ConstantsGoing file t visible enums cs names₀ slots₀ g₀ names slots g i)
+    (length names ≡ length names₀) × (length slots ≡ length slots₀) × ConstantsGoing file (fileAt file) (variants (fileAt file)) (length (fileAt file .enums)) (fileAt file .constants) names₀ slots₀ g₀ names slots g i
 
 abbrev μ-loop : tie.MeasureT-loop
 μ-loop file names₀ slots₀ rows nodes many g₀ i₀ names slots g i = many - i
 
 loop-holds : tie.Need-loop-holds Inv-loop μ-loop
-loop-holds c = (refl, refl, λ t visible enums cs q rd. constants-start rd)
+loop-holds c =
+    let start = c .before .before .before .before in
+    (refl, refl, constants-start (start .pre .3))
 
 same-length : tie.Need-same-length Inv-loop μ-loop
 same-length c = c .before .before .loop .inv .0
@@ -27,10 +29,14 @@ same-length-2 : tie.Need-same-length-2 Inv-loop μ-loop
 same-length-2 c = c .before .before .loop .inv .1
 
 returns : tie.Need-returns Inv-loop μ-loop
-returns c = λ t visible enums cs q rd. absurd (constants-cut rd (c .before .before .loop .inv .2 t visible enums cs q rd) (omega (arith, c .before .loop-test .taken)) (c .if1 .taken))
+returns c =
+    let start = c .before .before .before .before .before .before .before in
+    absurd (constants-cut (start .pre .3) (c .before .before .loop .inv .2) (omega (arith, c .before .loop-test .taken, start .pre .1)) (c .if1 .taken))
 
 constant-requires : tie.Need-constant-requires Inv-loop μ-loop
-constant-requires c κs = (omega (arith, c .before .before .if1 .left), c .before .before .before .before .before .before .before .before .before .pre .0, omega (arith, c .before .before .before .loop-test .taken, c .before .before .before .before .before .before .before .before .before .pre .1))
+constant-requires c κs =
+    let start = c .before .before .before .before .before .before .before .before .before in
+    (omega (arith, c .before .before .if1 .left), start .pre .0, omega (arith, c .before .before .before .loop-test .taken, start .pre .2))
 
 add-i : tie.Need-add-i Inv-loop μ-loop
 add-i c = omega arith
@@ -39,11 +45,10 @@ loop-less : tie.Need-loop-less Inv-loop μ-loop
 loop-less c = omega arith
 
 loop-again : tie.Need-loop-again Inv-loop μ-loop
-loop-again c = (
-  c .before .before .before .before .constant .kept .1 .0 ∙ c .before .before .before .before .before .before .before .before .before .loop .inv .0,
-  c .before .before .before .before .constant .kept .1 .1 .0 ∙ c .before .before .before .before .before .before .before .before .before .loop .inv .1,
-  λ t visible enums cs q rd. constants-turn rd (c .before .before .before .before .before .before .before .before .before .loop .inv .2 t visible enums cs q rd) (omega (arith, c .before .before .before .before .before .before .before .before .loop-test .taken)) (c .before .before .before .before .before .before .before .before .before .loop .inv .0) _ _ _ (c .before .before .before .before .constant .ensures enums),
-)
+loop-again c =
+    let start = c .before .before .before .before .before .before .before .before .before .before .before .before .before .before in
+    let f = start .args .file .now in
+    (c .before .before .before .before .constant .kept .1 .0 ∙ c .before .before .before .before .before .before .before .before .before .loop .inv .0, c .before .before .before .before .constant .kept .1 .1 .0 ∙ c .before .before .before .before .before .before .before .before .before .loop .inv .1, constants-turn (start .pre .3) (c .before .before .before .before .before .before .before .before .before .loop .inv .2) (omega (arith, c .before .before .before .before .before .before .before .before .loop-test .taken, start .pre .1)) (c .before .before .before .before .before .before .before .before .before .loop .inv .0) _ _ _ (c .before .before .before .before .constant .ensures (length (fileAt f .enums))))
 
 same-length-3 : tie.Need-same-length-3 Inv-loop μ-loop
 same-length-3 c = c .before .loop .inv .0
@@ -52,7 +57,9 @@ same-length-4 : tie.Need-same-length-4 Inv-loop μ-loop
 same-length-4 c = c .before .loop .inv .1
 
 returns-2 : tie.Need-returns-2 Inv-loop μ-loop
-returns-2 c = λ t visible enums cs q rd. constants-done rd (c .before .loop .inv .2 t visible enums cs q rd) (omega (arith, c .loop-test .left))
+returns-2 c =
+    let start = c .before .before .before .before .before .before in
+    constants-done (start .pre .3) (c .before .loop .inv .2) (omega (arith, c .loop-test .left, start .pre .1))
 
 pub judge-constants-spec : {M : Type 1} → statement M
 judge-constants-spec = tie.close (tie.spec Inv-loop μ-loop loop-holds same-length same-length-2 returns constant-requires add-i loop-less loop-again same-length-3 same-length-4 returns-2)

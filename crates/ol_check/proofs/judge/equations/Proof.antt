@@ -1,10 +1,10 @@
+use mathlib.Core.Path.{refl}
 use Rattle.ol_check.proofs.EquationLaws.{EquationsGoing, equations-start, equations-turn, equations-done, equations-cut}
-use Rattle.ol_check.specs.Judging.{Context}
-use Rattle.ol_tables.specs.Stands.{Equations}
-use Rattle.ol_spec.specs.Syntax.{Equation, File}
+use Rattle.ol_check.specs.Judging.{seenIn}
+use Rattle.ol_spec.specs.Admission.{badCall}
+use Rattle.ol_tables.specs.At.{fileAt}
+use Rattle.ol_tables.specs.Tables.{nodeOf}
 use lib.ListN.{length}
-use mathlib.Core.Bool.{Bool}
-use mathlib.Core.List.{List}
 use mathlib.Core.Path.{_≡_, refl, sym, _∙_}
 use Prim.Native.Nat.{ℕ, _-_}
 use borrow.Author.Needs.{needs}
@@ -14,13 +14,15 @@ use Rattle.ol_check.proofs.judge.equations.Tie as tie
 
 abbrev Inv-loop : tie.InvT-loop
 Inv-loop file names slots₀ defined₀ rows nodes node inputs many g₀ i₀ slots defined g i =
-    (length slots ≡ length slots₀) × (length defined ≡ length defined₀) × ((t : File) (visible : List ℕ) (bad : ℕ → ℕ → Bool) (enums : ℕ) (qs : List Equation) → Context t node names rows nodes visible bad → length qs ≡ many → Equations file enums (g₀ .next) qs → EquationsGoing file names rows nodes t visible bad inputs enums qs slots₀ defined₀ g₀ slots defined g i)
+    (length slots ≡ length slots₀) × (length defined ≡ length defined₀) × EquationsGoing file names rows nodes (fileAt file) (seenIn (fileAt file) node) (badCall (fileAt file) node (nodeOf (fileAt file) node)) inputs (length (fileAt file .enums)) (nodeOf (fileAt file) node .equations) slots₀ defined₀ g₀ slots defined g i
 
 abbrev μ-loop : tie.MeasureT-loop
 μ-loop file names slots₀ defined₀ rows nodes node inputs many g₀ i₀ slots defined g i = many - i
 
 loop-holds : tie.Need-loop-holds Inv-loop μ-loop
-loop-holds c = (refl, refl, λ t visible bad enums qs x q h. equations-start h)
+loop-holds c =
+    let start = c .before .before .before .before .before in
+    (refl, refl, equations-start (start .pre .2 .stand))
 
 same-length : tie.Need-same-length Inv-loop μ-loop
 same-length c = c .before .before .loop .inv .0
@@ -29,7 +31,9 @@ same-length-2 : tie.Need-same-length-2 Inv-loop μ-loop
 same-length-2 c = c .before .before .loop .inv .1
 
 returns : tie.Need-returns Inv-loop μ-loop
-returns c = λ t visible bad enums qs x q h. absurd (equations-cut (c .before .before .loop .inv .2 t visible bad enums qs x q h) (omega (arith, c .before .loop-test .taken)) (c .if1 .taken))
+returns c =
+    let start = c .before .before .before .before .before .before .before .before in
+    absurd (equations-cut (c .before .before .loop .inv .2) (omega (arith, c .before .loop-test .taken, start .pre .2 .count)) (c .if1 .taken))
 
 equation-requires : tie.Need-equation-requires Inv-loop μ-loop
 equation-requires c κs = (c .before .before .before .before .before .before .before .before .before .before .pre .0, omega (arith, c .before .before .if1 .left), c .before .before .before .before .before .before .before .before .before .before .pre .1)
@@ -41,7 +45,10 @@ loop-less : tie.Need-loop-less Inv-loop μ-loop
 loop-less c = omega arith
 
 loop-again : tie.Need-loop-again Inv-loop μ-loop
-loop-again c = (c .before .before .before .before .equation .kept .1 .1 .0 ∙ c .before .before .before .before .before .before .before .before .before .loop .inv .0, c .before .before .before .before .equation .kept .1 .1 .1 .0 ∙ c .before .before .before .before .before .before .before .before .before .loop .inv .1, λ t visible bad enums qs x q h. equations-turn (c .before .before .before .before .before .before .before .before .before .loop .inv .2 t visible bad enums qs x q h) (omega (arith, c .before .before .before .before .before .before .before .before .loop-test .taken)) _ _ _ (λ y st. c .before .before .before .before .equation .ensures t visible bad enums y x st))
+loop-again c =
+    let start = c .before .before .before .before .before .before .before .before .before .before .before .before .before .before .before in
+    let f = start .args .file .now in
+    (c .before .before .before .before .equation .kept .1 .1 .0 ∙ c .before .before .before .before .before .before .before .before .before .loop .inv .0, c .before .before .before .before .equation .kept .1 .1 .1 .0 ∙ c .before .before .before .before .before .before .before .before .before .loop .inv .1, equations-turn (c .before .before .before .before .before .before .before .before .before .loop .inv .2) (omega (arith, c .before .before .before .before .before .before .before .before .loop-test .taken, start .pre .2 .count)) _ _ _ (λ y st. c .before .before .before .before .equation .ensures (fileAt f) (seenIn (fileAt f) (start .args .node)) (badCall (fileAt f) (start .args .node) (nodeOf (fileAt f) (start .args .node))) (length (fileAt f .enums)) y (start .pre .2 .context) st))
 
 same-length-3 : tie.Need-same-length-3 Inv-loop μ-loop
 same-length-3 c = c .before .loop .inv .0
@@ -50,7 +57,9 @@ same-length-4 : tie.Need-same-length-4 Inv-loop μ-loop
 same-length-4 c = c .before .loop .inv .1
 
 returns-2 : tie.Need-returns-2 Inv-loop μ-loop
-returns-2 c = λ t visible bad enums qs x q h. equations-done (c .before .loop .inv .2 t visible bad enums qs x q h) (omega (arith, c .loop-test .left))
+returns-2 c =
+    let start = c .before .before .before .before .before .before .before in
+    equations-done (c .before .loop .inv .2) (omega (arith, c .loop-test .left, start .pre .2 .count))
 
 pub equations-spec : {M : Type 1} → statement M
 equations-spec = tie.close (tie.spec Inv-loop μ-loop loop-holds same-length same-length-2 returns equation-requires add-i loop-less loop-again same-length-3 same-length-4 returns-2)

@@ -1,10 +1,9 @@
+use mathlib.Core.Path.{refl}
 use Rattle.ol_check.proofs.NodeLaws.{judged-same}
 use Rattle.ol_check.proofs.NodeLaws.{NodesGoing, nodes-start, nodes-turn, nodes-judged, ready-at}
 use Rattle.ol_check.proofs.SizeTable.{RowsKept, kept-start, kept-turn, rows-kept, SizesGoing, sizes-start, sizes-turn, sizes-done}
 use Rattle.ol_tables.proofs.HeadsFile.{bytes-of}
-use Rattle.ol_check.specs.NodesJudged.{AllCovered}
-use Rattle.ol_check.specs.Judging.{Knows}
-use Rattle.ol_check.specs.Entries.{Global}
+use Rattle.ol_check.specs.NodesJudged.{NamesReady}
 use Rattle.ol_tables.specs.At.{fileAt}
 use lib.ListN.{length}
 use mathlib.Core.List.{List}
@@ -17,16 +16,20 @@ use Rattle.ol_check.proofs.nodes.judge_nodes.Tie as tie
 
 abbrev Inv-loop : tie.InvT-loop
 Inv-loop file names₀ slots₀ rows₀ nodes g₀ k₀ names slots rows g k =
-    (names ≡ names₀) × (length slots ≡ length slots₀) × RowsKept rows₀ rows × (k ≤ nodes) × ((visible : List ℕ) → Knows names₀ visible → AllCovered (length names₀) (fileAt file) → NodesGoing file names₀ (fileAt file) visible slots₀ g₀ slots g k × SizesGoing file rows (g .size) k)
+    (names ≡ names₀) × (length slots ≡ length slots₀) × RowsKept rows₀ rows × (k ≤ nodes) × NodesGoing file names₀ (fileAt file) slots₀ g₀ slots g k × SizesGoing file rows₀ nodes (g₀ .size) rows (g .size) k
 
 abbrev μ-loop : tie.MeasureT-loop
 μ-loop file names₀ slots₀ rows₀ nodes g₀ k₀ names slots rows g k = nodes - k
 
 loop-holds : tie.Need-loop-holds Inv-loop μ-loop
-loop-holds c = (refl, refl, kept-start (c .before .before .before .before .pre .2), omega arith, λ visible kn cv. (nodes-start, sizes-start))
+loop-holds c =
+    let start = c .before .before .before .before in
+    (refl, refl, kept-start (start .pre .2), omega arith, nodes-start, sizes-start)
 
 node-requires : tie.Need-node-requires Inv-loop μ-loop
-node-requires c κs = (ready-at (rows-kept (c .before .before .before .before .before .before .before .before .before .pre .0) (c .before .before .before .before .loop .inv .2)) (c .before .before .before .before .loop .k) (c .before .before .before .loop-test .taken), subst Global (sym (c .before .before .before .before .loop .inv .0)) (c .before .before .before .before .before .before .before .before .before .pre .1))
+node-requires c κs =
+    let start = c .before .before .before .before .before .before .before .before .before in
+    (ready-at (rows-kept (start .pre .0) (c .before .before .before .before .loop .inv .2)) (c .before .before .before .before .loop .k) (c .before .before .before .loop-test .taken), subst (λ l. NamesReady l (fileAt (start .args .file .now))) (sym (c .before .before .before .before .loop .inv .0)) (start .pre .1))
 
 add-k : tie.Need-add-k Inv-loop μ-loop
 add-k c = omega arith
@@ -35,18 +38,9 @@ loop-less : tie.Need-loop-less Inv-loop μ-loop
 loop-less c = omega arith
 
 loop-again : tie.Need-loop-again Inv-loop μ-loop
-loop-again c = (
-  c .before .before .before .before .before .before .node .ensures .0 ∙ c .before .before .before .before .before .before .before .before .before .before .before .loop .inv .0,
-  c .before .before .before .before .before .before .node .kept .1 .1 .0 ∙ c .before .before .before .before .before .before .before .before .before .before .before .loop .inv .1,
-  kept-turn (c .before .before .before .before .before .before .before .before .before .before .before .loop .inv .2) (c .before .before .before .before .before .before .before .before .before .before .before .loop .k) _ _ (omega (arith, c .before .before .before .before .before .before .before .before .before .before .loop-test .taken, c .before .before .before .before .before .before .before .before .before .before .before .before .before .before .before .before .pre .0 .few)) (c .before .before .before .before .before .before .node .ensures .1),
-  omega (arith, c .before .before .before .before .before .before .before .before .before .before .loop-test .taken),
-  λ visible kn cv.
-      let both = c .before .before .before .before .before .before .before .before .before .before .before .loop .inv .4 visible kn cv in
-      let judged = judged-same (c .before .before .before .before .before .before .before .before .before .before .before .loop .inv .0) (c .before .before .before .before .before .before .node .ensures .2) visible kn (cv (c .before .before .before .before .before .before .before .before .before .before .before .loop .k) (omega (arith, c .before .before .before .before .before .before .before .before .before .before .loop-test .taken, c .before .before .before .before .before .before .before .before .before .before .before .before .before .before .before .before .pre .0 .many))) in (
-        nodes-turn (both .0) (omega (arith, c .before .before .before .before .before .before .before .before .before .before .loop-test .taken, c .before .before .before .before .before .before .before .before .before .before .before .before .before .before .before .before .pre .0 .many)) _ _ judged,
-        sizes-turn (c .before .before .before .before .before .before .before .before .before .before .before .before .before .before .before .before .pre .0) (c .before .before .before .before .before .before .before .before .before .before .before .loop .inv .2) (both .1) (bytes-of (c .before .before .before .before .before .before .before .before .before .before .before .before .before .before .before .before .args .file .now) (λ i. omega (arith, c .before .before .before .before .before .before .before .before .before .before .before .before .before .before .before .shared-slice-known .given i))) (c .before .before .before .before .before .before .before .before .before .before .loop-test .taken) _ _ (judged .sized) (c .before .before .before .before .before .before .node .ensures .1),
-      ),
-)
+loop-again c =
+    let start = c .before .before .before .before .before .before .before .before .before .before .before .before .before .before .before .before in
+    (c .before .before .before .before .before .before .node .ensures .0 ∙ c .before .before .before .before .before .before .before .before .before .before .before .loop .inv .0, c .before .before .before .before .before .before .node .kept .1 .1 .0 ∙ c .before .before .before .before .before .before .before .before .before .before .before .loop .inv .1, kept-turn (c .before .before .before .before .before .before .before .before .before .before .before .loop .inv .2) (c .before .before .before .before .before .before .before .before .before .before .before .loop .k) _ _ (omega (arith, c .before .before .before .before .before .before .before .before .before .before .loop-test .taken, start .pre .0 .few)) (c .before .before .before .before .before .before .node .ensures .1), omega (arith, c .before .before .before .before .before .before .before .before .before .before .loop-test .taken), nodes-turn (c .before .before .before .before .before .before .before .before .before .before .before .loop .inv .4) (omega (arith, c .before .before .before .before .before .before .before .before .before .before .loop-test .taken, start .pre .0 .many)) _ _ (judged-same (c .before .before .before .before .before .before .before .before .before .before .before .loop .inv .0) (c .before .before .before .before .before .before .node .ensures .2)), sizes-turn (start .pre .0) (c .before .before .before .before .before .before .before .before .before .before .before .loop .inv .2) (c .before .before .before .before .before .before .before .before .before .before .before .loop .inv .5) (bytes-of (start .args .file .now) (λ i. omega (arith, c .before .before .before .before .before .before .before .before .before .before .before .before .before .before .before .shared-slice-known .given i))) (c .before .before .before .before .before .before .before .before .before .before .loop-test .taken) _ _ ((judged-same (c .before .before .before .before .before .before .before .before .before .before .before .loop .inv .0) (c .before .before .before .before .before .before .node .ensures .2)) .sized) (c .before .before .before .before .before .before .node .ensures .1))
 
 same-length : tie.Need-same-length Inv-loop μ-loop
 same-length c = ap length (c .before .loop .inv .0)
@@ -58,7 +52,9 @@ same-length-3 : tie.Need-same-length-3 Inv-loop μ-loop
 same-length-3 c = c .before .loop .inv .2 .long ∙ sym (c .before .before .before .before .before .before .pre .2)
 
 returns : tie.Need-returns Inv-loop μ-loop
-returns c = (c .before .loop .inv .0, λ visible kn cv. let both = c .before .loop .inv .4 visible kn cv in (nodes-judged (both .0) (omega (arith, c .loop-test .left, c .before .before .before .before .before .before .pre .0 .many)), sizes-done (c .before .before .before .before .before .before .pre .0) (c .before .loop .inv .2) (both .1) (c .before .loop .inv .3) (c .loop-test .left)))
+returns c =
+    let start = c .before .before .before .before .before .before in
+    (c .before .loop .inv .0, nodes-judged (c .before .loop .inv .4) (omega (arith, c .loop-test .left, start .pre .0 .many)), sizes-done (start .pre .0) (c .before .loop .inv .2) (c .before .loop .inv .5) (c .before .loop .inv .3) (c .loop-test .left))
 
 pub judge-nodes-spec : {M : Type 1} → statement M
 judge-nodes-spec = tie.close (tie.spec Inv-loop μ-loop loop-holds node-requires add-k loop-less loop-again same-length same-length-2 same-length-3 returns)

@@ -1,4 +1,5 @@
-use Rattle.ol_check.proofs.NodeLaws.{ready-row, ready-node, node-back, node-judged, size-stored}
+use mathlib.Core.Path.{refl}
+use Rattle.ol_check.proofs.NodeLaws.{ready-row, ready-node, node-back, node-judged, size-stored, equations-ready}
 use Rattle.ol_check.proofs.RowLoops.{few-variables}
 use Rattle.ol_tables.proofs.HeadsFile.{file-stands, bytes-of}
 use mathlib.Core.Path.{_∙_}
@@ -37,8 +38,8 @@ row-requires-4 c κs = search needs
 
 equations-requires : tie.Need-equations-requires
 equations-requires c κs =
-    let st = file-stands (bytes-of (c .before .before .before .before .before .before .before .before .before .before .before .before .before .before .before .before .before .args .file .now) (λ i. omega (arith, c .before .before .before .before .before .before .before .before .before .before .before .before .before .before .before .before .shared-slice-known .given i))) (c .before .before .before .before .before .before .before .before .before .before .before .before .before .before .before .before .before .pre .0 .reads) in
-    (omega (arith, c .before .before .before .before .before .before .before .before .before .before .before .before .before .before .before .before .before .pre .0 .low, c .before .before .before .before .before .before .before .before .before .before .before .before .before .before .before .before .before .pre .0 .few), st .short)
+    let start = c .before .before .before .before .before .before .before .before .before .before .before .before .before .before .before .before .before in
+    (omega (arith, start .pre .0 .low, start .pre .0 .few), (file-stands (bytes-of (start .args .file .now) (λ i. omega (arith, c .before .before .before .before .before .before .before .before .before .before .before .before .before .before .before .before .shared-slice-known .given i))) (start .pre .0 .reads)) .short, equations-ready (start .pre .0) (file-stands (bytes-of (start .args .file .now) (λ i. omega (arith, c .before .before .before .before .before .before .before .before .before .before .before .before .before .before .before .before .shared-slice-known .given i))) (start .pre .0 .reads)) (start .args .names .now) (start .pre .1) (c .before .before .before .before .before .before .before .before .before .before .declare-node .ensures) (c .before .before .row2 .ensures) (c .row4 .ensures))
 
 forget-node-requires : tie.Need-forget-node-requires
 forget-node-requires c κs = c .before .before .before .before .before .before .before .before .before .before .before .before .before .before .before .before .before .before .before .before .before .before .before .pre .0
@@ -69,11 +70,8 @@ same-length-3 c = search needs
 
 returns : tie.Need-returns
 returns c =
-    let st = file-stands (bytes-of (c .before .before .before .before .before .before .before .before .before .before .before .before .before .before .before .before .before .before .before .before .before .before .before .before .before .before .before .before .before .before .before .before .before .args .file .now) (λ i. omega (arith, c .before .before .before .before .before .before .before .before .before .before .before .before .before .before .before .before .before .before .before .before .before .before .before .before .before .before .before .before .before .before .before .before .shared-slice-known .given i))) (c .before .before .before .before .before .before .before .before .before .before .before .before .before .before .before .before .before .before .before .before .before .before .before .before .before .before .before .before .before .before .before .before .before .pre .0 .reads) in (
-      node-back (c .before .before .before .before .before .before .before .before .before .before .before .before .before .before .before .before .before .before .before .before .before .before .before .before .before .before .before .before .before .before .before .before .before .pre .0) st (c .before .before .before .before .before .before .before .before .before .before .before .before .before .before .before .before .before .before .before .before .before .before .before .before .before .before .before .before .before .before .before .before .before .args .names .now) (c .before .before .before .before .before .before .before .before .before .before .before .before .before .before .before .before .before .before .before .before .before .before .before .before .before .before .before .before .before .before .before .before .before .pre .1) (c .before .before .before .before .before .before .before .before .before .before .before .before .before .before .before .before .before .before .before .before .before .before .before .before .before .before .declare-node .ensures) (c .before .before .before .before .before .before .before .before .before .forget-node .ensures),
-      size-stored (c .before .before .before .before .before .before .before .before .before .before .before .before .before .before .before .before .before .before .before .before .before .before .before .before .before .before .before .before .before .before .before .before .before .args .rows .now) (c .before .before .before .before .before .before .before .before .before .before .before .before .before .before .before .before .before .before .before .before .before .before .before .before .before .before .before .before .before .before .before .before .before .args .k) _ (c .before .before .before .before .before .row5 .ensures) (c .before .before .before .before .record-size .ensures) (c .before .before .put .ensures),
-      node-judged (c .before .before .before .before .before .before .before .before .before .before .before .before .before .before .before .before .before .before .before .before .before .before .before .before .before .before .before .before .before .before .before .before .before .pre .0) st (c .before .before .before .before .before .before .before .before .before .before .before .before .before .before .before .before .before .before .before .before .before .before .before .before .before .before .before .before .before .before .before .before .before .args .names .now) (c .before .before .before .before .before .before .before .before .before .before .before .before .before .before .before .before .before .before .before .before .before .before .before .before .before .before .declare-node .ensures) (c .before .before .before .before .before .before .before .before .before .before .before .before .before .before .before .before .before .before .row2 .ensures) (c .before .before .before .before .before .before .before .before .before .before .before .before .before .before .before .before .row4 .ensures) (c .before .before .before .before .before .before .before .before .before .before .before .before .before .before .before .before .before .before .before .row .ensures) (c .before .before .before .before .before .before .before .before .before .before .before .before .before .before .before .before .before .row3 .ensures) (c .before .before .before .before .before .before .before .before .before .before .before .before .before .before .before .equations .ensures),
-    )
+    let start = c .before .before .before .before .before .before .before .before .before .before .before .before .before .before .before .before .before .before .before .before .before .before .before .before .before .before .before .before .before .before .before .before .before in
+    (node-back (start .pre .0) (file-stands (bytes-of (start .args .file .now) (λ i. omega (arith, c .before .before .before .before .before .before .before .before .before .before .before .before .before .before .before .before .before .before .before .before .before .before .before .before .before .before .before .before .before .before .before .before .shared-slice-known .given i))) (start .pre .0 .reads)) (start .args .names .now) (start .pre .1 .global) (c .before .before .before .before .before .before .before .before .before .before .before .before .before .before .before .before .before .before .before .before .before .before .before .before .before .before .declare-node .ensures) (c .before .before .before .before .before .before .before .before .before .forget-node .ensures), size-stored (start .args .rows .now) (start .args .k) _ (c .before .before .before .before .before .row5 .ensures) (c .before .before .before .before .record-size .ensures) (c .before .before .put .ensures), node-judged (start .pre .0) (file-stands (bytes-of (start .args .file .now) (λ i. omega (arith, c .before .before .before .before .before .before .before .before .before .before .before .before .before .before .before .before .before .before .before .before .before .before .before .before .before .before .before .before .before .before .before .before .shared-slice-known .given i))) (start .pre .0 .reads)) (start .args .names .now) (c .before .before .before .before .before .before .before .before .before .before .before .before .before .before .before .before .before .before .before .before .before .before .before .before .before .before .declare-node .ensures) (c .before .before .before .before .before .before .before .before .before .before .before .before .before .before .before .before .before .before .row2 .ensures) (c .before .before .before .before .before .before .before .before .before .before .before .before .before .before .before .before .row4 .ensures) (c .before .before .before .before .before .before .before .before .before .before .before .before .before .before .before .before .before .before .before .row .ensures) (c .before .before .before .before .before .before .before .before .before .before .before .before .before .before .before .before .before .row3 .ensures) (c .before .before .before .before .before .before .before .before .before .before .before .before .before .before .before .equations .ensures))
 
 pub node-spec : {M : Type 1} → statement M
 node-spec = tie.close (tie.spec declare-node-requires slice-aggregate-equations row-requires row-requires-2 row-requires-3 mul-t37 add-t38 row-requires-4 equations-requires forget-node-requires row-requires-5 record-size-requires mul-put add-put put-requires same-length same-length-2 same-length-3 returns)

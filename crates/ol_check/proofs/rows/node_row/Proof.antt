@@ -1,80 +1,88 @@
-use Rattle.ol_check.proofs.RowLoops.{node-done, node-cut}
+use Prim.Native.Nat.{_+_}
+use mathlib.Core.Path.{_≡_, refl, _∙_}
+use native.Mathlib.Omega.{arith}
+use borrow.Author.Needs.{needs}
+use Rattle.ol_check.proofs.RowLoops.{types-near, node-stored}
 use borrow.Author.Needs.{needs}
 use Rattle.ol_check.proofs.rows.node_row.Statement.{statement}
 use Rattle.ol_check.proofs.rows.node_row.Tie as tie
 use Rattle.ol_check.proofs.rows.node_row.Reads as reads
 use Rattle.ol_check.proofs.rows.node_row.Lts as lts
-use Rattle.ol_tables.proofs.bytes.byte.Reads as byte-reads
 use Rattle.ol_check.proofs.rows.put_row.Reads as put-row-reads
 use Rattle.ol_check.proofs.rows.variable_types.Reads as variable-types-reads
+use Rattle.ol_tables.proofs.bytes.byte.Reads as byte-reads
 
--- src/rows.rt:107:9
-returns : tie.Need-returns
-returns c = node-cut (c .if1 .taken)
-
--- src/rows.rt:109:29
+-- src/rows.rt:103:29
 add-byte : tie.Need-add-byte
 add-byte c = search needs
 
--- src/rows.rt:109:9
+-- src/rows.rt:103:9
 byte-requires : tie.Need-byte-requires
 byte-requires c κs = search needs
 
--- src/rows.rt:110:41
+-- src/rows.rt:104:41
 mul-variable-types : tie.Need-mul-variable-types
 mul-variable-types c = search needs
 
--- src/rows.rt:110:58
+-- src/rows.rt:104:69
 add-variable-types : tie.Need-add-variable-types
 add-variable-types c = search needs
 
--- src/rows.rt:110:9
+-- src/rows.rt:104:9
 variable-types-requires : tie.Need-variable-types-requires
 variable-types-requires c κs = search needs
 
--- src/rows.rt:111:9
+-- src/rows.rt:105:9
 byte-requires-2 : tie.Need-byte-requires-2
 byte-requires-2 c κs = search needs
 
--- src/rows.rt:112:41
+-- src/rows.rt:106:41
 mul-variable-types-2 : tie.Need-mul-variable-types-2
 mul-variable-types-2 c = search needs
 
--- src/rows.rt:112:41
+-- src/rows.rt:106:41
 add-variable-types-2 : tie.Need-add-variable-types-2
 add-variable-types-2 c = search needs
 
--- src/rows.rt:112:68
+-- src/rows.rt:106:79
 add-variable-types-3 : tie.Need-add-variable-types-3
-add-variable-types-3 c = search needs
+add-variable-types-3 c =
+    let start = c .before .before .before .before .before .before .before .before .before .before in
+    (omega (arith, start .pre .0, start .pre .1, types-near (c .before .before .before .before .variable-types .ensures), c .before .before .before .before .before .before .byte .ensures .small))
 
--- src/rows.rt:112:9
+-- src/rows.rt:106:9
 variable-types-requires-2 : tie.Need-variable-types-requires-2
-variable-types-requires-2 c κs = search needs
+variable-types-requires-2 c κs =
+    let start = c .before .before .before .before .before .before .before .before .before .before in
+    ((omega (arith, start .pre .0, start .pre .1, types-near (c .before .before .before .before .variable-types .ensures), c .before .before .before .before .before .before .byte .ensures .small)), c .before .byte2 .ensures .small, (omega (arith, start .pre .0, start .pre .1, types-near (c .before .before .before .before .variable-types .ensures), c .before .before .before .before .before .before .byte .ensures .small)))
 
--- src/rows.rt:113:9
+-- src/rows.rt:107:9
 byte-requires-3 : tie.Need-byte-requires-3
 byte-requires-3 c κs = search needs
 
--- src/rows.rt:114:41
+-- src/rows.rt:111:9
 mul-variable-types-3 : tie.Need-mul-variable-types-3
 mul-variable-types-3 c = search needs
 
--- src/rows.rt:114:41
+-- src/rows.rt:111:9
 add-variable-types-4 : tie.Need-add-variable-types-4
 add-variable-types-4 c = search needs
 
--- src/rows.rt:114:41
+-- src/rows.rt:111:9
 add-variable-types-5 : tie.Need-add-variable-types-5
 add-variable-types-5 c = search needs
 
--- src/rows.rt:114:77
+-- src/rows.rt:113:9
 add-variable-types-6 : tie.Need-add-variable-types-6
-add-variable-types-6 c = search needs
+add-variable-types-6 c =
+    let start = c .before .before .before .before .before .before .before .before .before .before .before .before .before .before .before in
+    (omega (arith, start .pre .0, start .pre .1, types-near (c .before .before .before .before .before .before .before .before .before .variable-types .ensures), c .before .before .before .before .before .before .before .before .before .before .before .byte .ensures .small, types-near (c .before .before .before .before .variable-types2 .ensures), c .before .before .before .before .before .before .byte2 .ensures .small))
 
--- src/rows.rt:114:9
+-- src/rows.rt:108:9
 variable-types-requires-3 : tie.Need-variable-types-requires-3
-variable-types-requires-3 c κs = search needs
+variable-types-requires-3 c κs =
+    let start = c .before .before .before .before .before .before .before .before .before .before .before .before .before .before .before in
+    ((omega (arith, start .pre .0, start .pre .1, types-near (c .before .before .before .before .before .before .before .before .before .variable-types .ensures), c .before .before .before .before .before .before .before .before .before .before .before .byte .ensures .small, c .before .before .before .before .before .before .byte2 .ensures .small)), c .before .byte3 .ensures .small, (omega (arith, start .pre .0, start .pre .1, types-near (c .before .before .before .before .before .before .before .before .before .variable-types .ensures), c .before .before .before .before .before .before .before .before .before .before .before .byte .ensures .small, types-near (c .before .before .before .before .variable-types2 .ensures), c .before .before .before .before .before .before .byte2 .ensures .small)))
 
 -- src/rows.rt:117:9
 mul-put-row : tie.Need-mul-put-row
@@ -86,7 +94,9 @@ byte-requires-4 c κs = search needs
 
 -- src/rows.rt:119:9
 add-put-row : tie.Need-add-put-row
-add-put-row c = search needs
+add-put-row c =
+    let start = c .before .before .before .before .before .before .before .before .before .before .before .before .before .before .before .before .before .before .before .before in
+    (omega (arith, start .pre .0, start .pre .1, types-near (c .before .before .before .before .before .before .before .before .before .before .before .before .before .before .variable-types .ensures), c .before .before .before .before .before .before .before .before .before .before .before .before .before .before .before .before .byte .ensures .small, types-near (c .before .before .before .before .before .before .before .before .before .variable-types2 .ensures), c .before .before .before .before .before .before .before .before .before .before .before .byte2 .ensures .small, types-near (c .before .before .before .before .variable-types3 .ensures), c .before .before .before .before .before .before .byte3 .ensures .small))
 
 -- src/rows.rt:122:9
 add-put-row-2 : tie.Need-add-put-row-2
@@ -104,25 +114,22 @@ byte-requires-5 c κs = search needs
 put-row-requires : tie.Need-put-row-requires
 put-row-requires c κs = search needs
 
--- src/rows.rt:102:1
+-- src/rows.rt:99:1
 same-length : tie.Need-same-length
 same-length c = search needs
 
--- src/rows.rt:102:1
+-- src/rows.rt:99:1
 same-length-2 : tie.Need-same-length-2
 same-length-2 c = search needs
 
--- src/rows.rt:102:1
-returns-2 : tie.Need-returns-2
-returns-2 c =
-    let start = c .before .before .before .before .before .before .before .before .before .before .before .before .before .before .before .before .before .before .before .before .before .before .before .before .before in
-    node-done (start .args .rows .now) (start .pre .0) (start .pre .2) (start .pre .3) (c .before .before .before .before .before .before .before .before .before .before .before .before .before .before .before .before .before .before .before .before .byte .ensures) (c .before .before .before .before .before .before .before .before .before .before .before .before .before .before .before .before .before .before .variable-types .ensures) (c .before .before .before .before .before .before .before .before .before .before .before .before .before .before .before .before .before .before .variable-types .kept .1 .0) (c .before .before .before .before .before .before .before .before .before .before .before .before .before .before .before .byte2 .ensures) (c .before .before .before .before .before .before .before .before .before .before .before .before .before .variable-types2 .ensures) (c .before .before .before .before .before .before .before .before .before .before .before .before .before .variable-types2 .kept .1 .0) (c .before .before .before .before .before .before .before .before .before .before .byte3 .ensures) (c .before .before .before .before .before .before .before .before .variable-types3 .ensures) (c .before .before .before .byte5 .ensures) (c .before .before .before .before .byte4 .ensures) (c .before .before .put-row .ensures)
+-- src/rows.rt:99:1
+returns : tie.Need-returns
+returns c = node-stored (c .before .before .before .before .before .before .before .before .before .before .before .before .before .before .before .before .before .before .before .before .byte .ensures .is) (c .before .before .before .before .before .before .before .before .before .before .before .before .before .before .before .before .before .before .variable-types .ensures) (c .before .before .before .before .before .before .before .before .before .before .before .before .before .before .before .byte2 .ensures .is) (c .before .before .before .before .before .before .before .before .before .before .before .before .before .variable-types2 .ensures) (c .before .before .before .before .before .before .before .before .before .before .byte3 .ensures .is) (c .before .before .before .before .before .before .before .before .variable-types3 .ensures) (c .before .before .before .byte5 .ensures .is) (c .before .before .before .before .byte4 .ensures .is) (c .before .before .put-row .ensures)
 
 pub node-row-spec : {M : Type 1} → statement M
 node-row-spec =
     tie.close
     (tie.spec
-    returns
     add-byte
     byte-requires
     mul-variable-types
@@ -148,4 +155,4 @@ node-row-spec =
     put-row-requires
     same-length
     same-length-2
-    returns-2)
+    returns)

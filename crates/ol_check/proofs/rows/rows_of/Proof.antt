@@ -1,7 +1,7 @@
+use Rattle.ol_check.proofs.RowLoops.{first-place, nodes-count, tables-done, places-in}
 use mathlib.Core.Path.{refl, _∙_}
 use native.Mathlib.Omega.{arith}
 use Rattle.ol_tables.proofs.HeadsFile.{file-stands, bytes-of}
-use Rattle.ol_check.proofs.RowLoops.{first-place, nodes-count, tables-done}
 use borrow.Author.Needs.{needs}
 use Rattle.ol_check.proofs.rows.rows_of.Statement.{statement}
 use Rattle.ol_check.proofs.rows.rows_of.Tie as tie
@@ -20,8 +20,7 @@ byte-requires c κs = search needs
 enum-rows-requires : tie.Need-enum-rows-requires
 enum-rows-requires c κs =
     let start = c .before .before .before .before .before .before in
-    let st = file-stands (bytes-of (start .args .file .now) (λ i. omega (arith, c .before .before .before .before .before .shared-slice-known .given i))) (start .pre .0) in
-    (omega (arith, c .byte .ensures .is, st .enumCount, st .fewEnums), start .pre .2)
+    (omega (arith, c .byte .ensures .is, (file-stands (bytes-of (start .args .file .now) (λ i. omega (arith, c .before .before .before .before .before .shared-slice-known .given i))) (start .pre .0)) .enumCount, (file-stands (bytes-of (start .args .file .now) (λ i. omega (arith, c .before .before .before .before .before .shared-slice-known .given i))) (start .pre .0)) .fewEnums), omega arith)
 
 -- src/rows.rt:159:13
 entry-requires : tie.Need-entry-requires
@@ -42,8 +41,7 @@ byte-requires-2 c κs = search needs
 node-rows-requires : tie.Need-node-rows-requires
 node-rows-requires c κs =
     let start = c .before .before .before .before .before .before .before .before .before .before .before .before .before in
-    let st = file-stands (bytes-of (start .args .file .now) (λ i. omega (arith, c .before .before .before .before .before .before .before .before .before .before .before .before .shared-slice-known .given i))) (start .pre .0) in
-    (omega (arith, nodes-count st (c .before .before .before .before .before .before .before .byte .ensures) (c .before .before .before .before .before .before .enum-rows .ensures) (start .pre .1) (c .before .before .before .entry .ensures) refl (c .byte2 .ensures), st .fewNodes), st .short, c .before .before .before .before .before .before .enum-rows .kept .1 .0 ∙ start .pre .2, start .pre .3)
+    (omega (arith, (nodes-count (file-stands (bytes-of (start .args .file .now) (λ i. omega (arith, c .before .before .before .before .before .before .before .before .before .before .before .before .shared-slice-known .given i))) (start .pre .0)) (c .before .before .before .before .before .before .before .byte .ensures) (start .pre .2) (c .before .before .before .before .before .before .enum-rows .ensures) (start .pre .1) (c .before .before .before .entry .ensures) refl (c .byte2 .ensures)), (file-stands (bytes-of (start .args .file .now) (λ i. omega (arith, c .before .before .before .before .before .before .before .before .before .before .before .before .shared-slice-known .given i))) (start .pre .0)) .fewNodes), λ k lt. places-in (file-stands (bytes-of (start .args .file .now) (λ i. omega (arith, c .before .before .before .before .before .before .before .before .before .before .before .before .shared-slice-known .given i))) (start .pre .0)) (start .pre .1) k (omega (arith, (nodes-count (file-stands (bytes-of (start .args .file .now) (λ i. omega (arith, c .before .before .before .before .before .before .before .before .before .before .before .before .shared-slice-known .given i))) (start .pre .0)) (c .before .before .before .before .before .before .before .byte .ensures) (start .pre .2) (c .before .before .before .before .before .before .enum-rows .ensures) (start .pre .1) (c .before .before .before .entry .ensures) refl (c .byte2 .ensures)))))
 
 -- src/rows.rt:154:1
 same-length : tie.Need-same-length
@@ -57,8 +55,7 @@ same-length-2 c = search needs
 returns : tie.Need-returns
 returns c =
     let start = c .before .before .before .before .before .before .before .before .before .before .before .before .before .before .before .before .before .before in
-    let st = file-stands (bytes-of (start .args .file .now) (λ i. omega (arith, c .before .before .before .before .before .before .before .before .before .before .before .before .before .before .before .before .before .shared-slice-known .given i))) (start .pre .0) in
-    tables-done st (c .before .before .before .before .before .before .before .before .before .before .before .before .byte .ensures) (c .before .before .before .before .before .before .before .before .before .before .before .enum-rows .ensures) (start .pre .1) (c .before .before .before .before .before .before .before .before .entry .ensures) refl (c .before .before .before .before .before .byte2 .ensures) (c .before .before .before .before .node-rows .ensures)
+    tables-done (file-stands (bytes-of (start .args .file .now) (λ i. omega (arith, c .before .before .before .before .before .before .before .before .before .before .before .before .before .before .before .before .before .shared-slice-known .given i))) (start .pre .0)) (c .before .before .before .before .before .before .before .before .before .before .before .before .byte .ensures) (start .pre .2) (c .before .before .before .before .before .before .before .before .before .before .before .enum-rows .ensures) (start .pre .1) (c .before .before .before .before .before .before .before .before .entry .ensures) refl (c .before .before .before .before .before .before .before .before .before .before .before .enum-rows .kept .1 .0 ∙ start .pre .2) (start .pre .3) (c .before .before .before .before .before .byte2 .ensures) (c .before .before .before .before .node-rows .ensures)
 
 pub rows-of-spec : {M : Type 1} → statement M
 rows-of-spec =
