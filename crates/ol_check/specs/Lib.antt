@@ -8,4 +8,3 @@ pub mod ConstantsJudged
 pub mod Sizes
 pub mod FileJudged
 pub mod Clashing
-pub mod VariantTable

@@ -10,7 +10,6 @@ use lib.Seq.{take-at, drop-at, length-take-le}
 use Rattle.ol_spec.specs.Limits.{relayLoader}
 use Rattle.ol_spec.specs.Syntax.{File}
 use Rattle.ol_spec.specs.Admission as Adm
-use Rattle.ol_spec.specs.declared.Verdict.{Verdict}
 use Rattle.ol_tables.specs.At.{fileAt}
 use Rattle.ol_tables.specs.Stands.{FileReads}
 use Rattle.ol_tables.specs.Tables.{Each}
@@ -20,9 +19,7 @@ use Rattle.ol_check.specs.FileJudged.{NamesWithin, FileJudged}
 use Rattle.ol_check.specs.FileJudged.{FileReady as Ready}
 use Rattle.ol_check.specs.declared.Faults.{Faults}
 use Rattle.ol_check.specs.Clashing.{DeclaredReady, Blank}
-use Rattle.ol_sim.specs.Judging.{Judges, JudgesBy, whole, from6, verdictOf, Loads, FileReady, Rowed, Typed, SectionsReady, Empty, NamesReady, FaultsAre, ShapesReady}
-use Rattle.ol_sim.specs.declared.judge.Judged.{Judged}
-use Rattle.ol_sim.specs.declared.judge.Judged.the-variants as Jud
+use Rattle.ol_sim.specs.Judging.{whole, from6, Loads, FileReady, Rowed, Typed, SectionsReady, Empty, NamesReady, FaultsAre, ShapesReady}
 use Rattle.ol_spec.specs.Demand3.{Bytes}
 use Rattle.ol_tables.proofs.HeadsFile.{file-stands}
 use Rattle.ol_check.proofs.SizeTable.{rows-sized}
@@ -125,18 +122,11 @@ shapes-ready {s} {rows = rows} {rows′} {tab} {names} {names′} {found = found
       lows = h .lows;
     }
 
--- ---- the verdict
+-- ---- what was judged
 
 pub judge-is : (s : List ℕ) → FileReads s → Adm.judge relayLoader s ≡ Adm.refuseFirst (from6 (fileAt s)) (whole (fileAt s))
 unfolding Adm.judge
 judge-is s h = ap (Adm.judgeRead relayLoader) (h .is)
-
-pub verdict-is : {s rows tab consts : List ℕ} {j : Judged} → FileReads s → Judges s (from6 (fileAt s)) rows tab consts j → verdictOf j ≡ Adm.admission relayLoader s
-verdict-is {s} {rows} {tab} {consts} {j} r h = go j (h .is)
-  where
-    go : (x : Judged) → JudgesBy s (from6 (fileAt s)) rows tab consts x → verdictOf x ≡ Adm.admission relayLoader s
-    go (Jud.Refused x) e = sym (ap Adm.verdict (judge-is s r ∙ e))
-    go (Jud.Admitted size main count low) e = ap Rattle.ol_spec.specs.declared.Verdict.the-variants.Admitted (e .1 .sized) ∙ sym (ap Adm.verdict (judge-is s r ∙ e .0))
 
 pub false-not-true : mathlib.Core.Bool.false ≡ true → ⊥
 false-not-true e = let z : _≡_ {A = ℕ} 0 1 = ap (λ b. mathlib.Core.Bool.cond b 1 0) e in omega arith
