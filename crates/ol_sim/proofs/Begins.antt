@@ -1,12 +1,12 @@
 -- Judging from its beginning: the rows, the tables by name, and the faults 6 to 10.
 use Prim.Native.Nat.{ℕ, zero, suc, _+_, _-_, _<_, _≤_}
 use mathlib.Core.Bool.{Bool, true}
-use mathlib.Core.List.{List, _++_}
+use mathlib.Core.List.{List, [], _∷_, _++_}
 use mathlib.Core.Option.{none}
 use mathlib.Core.Path.{_≡_, refl, ap, sym, subst, _∙_}
 use native.Mathlib.Omega.{arith}
 use lib.ListN.{length, getD, take, drop, replicate, length-replicate, length-append, length-drop}
-use lib.Seq.{take-at, drop-at, length-take-le}
+use lib.Seq.{take-at, drop-at, drop-drop, getD-drop, length-take-le}
 use Rattle.ol_spec.specs.Limits.{relayLoader}
 use Rattle.ol_spec.specs.Syntax.{File}
 use Rattle.ol_spec.specs.Admission as Adm
@@ -79,6 +79,40 @@ sections-ready {s} {tab = tab} x h d e k =
       constsLong = h .constsLong;
     }
 
+-- the table that fault 6 uses
+pub blank-slots : {s places rows tab consts : List ℕ} {enums : ℕ} (x : List ℕ) → FileReady s enums places rows tab consts → length x ≡ length (take 7168 (drop 2560 tab)) → Each (λ d. d .name < 1024) (Adm.declared (fileAt s)) → Blank (fileAt s) (tailOf 9728 (take 2560 tab ++ (x ++ drop 7168 (drop 2560 tab))))
+blank-slots {s} {tab = tab} x h k low =
+    let tab′ = take 2560 tab ++ (x ++ drop 7168 (drop 2560 tab)) in
+    let long : length x ≡ 7168 = k ∙ types-room h in
+    let same : tailOf 9728 tab′ ≡ drop 9728 tab =
+    tail-all 9728 tab′ ∙ sym (drop-drop 7168 2560 tab′)
+    ∙ ap (drop 7168) (drop-at (take 2560 tab) (x ++ drop 7168 (drop 2560 tab)) 2560 (length-take-le 2560 tab (omega (arith, h .wide))))
+    ∙ drop-at x (drop 7168 (drop 2560 tab)) 7168 long ∙ drop-drop 7168 2560 tab in
+    subst (Blank (fileAt s)) (sym same)
+    (record { zero = h .blank; below = each-wider (Adm.declared (fileAt s)) (omega (arith, length-drop 9728 tab, h .wide)) low })
+  where
+    each-wider : {n : ℕ} (ds : List Adm.Declared) → 1024 ≤ n → Each (λ d. d .name < 1024) ds → Each (λ d. d .name < n) ds
+    each-wider [] w l = tt
+    each-wider (d ∷ ds) w l = (omega (arith, l .0, w), each-wider ds w (l .1))
+
+-- the types stand before the slots
+types-kept : (f : File) (tab x : List ℕ) → 9728 ≤ length tab → Typed f (take 7168 (drop 2560 tab)) → Typed f (take 7168 (drop 2560 (putTail 9728 tab x)))
+types-kept f tab x u h = subst (λ t. Typed f t) (sym (sym (drop-take 2560 9728 (putTail 9728 tab x)) ∙ ap (drop 2560) (take-put 9728 tab x u) ∙ drop-take 2560 9728 tab)) h
+
+module _ {s places rows tab consts : List ℕ} {enums : ℕ} {c : Sections} (y : List ℕ) (h : SectionsReady s enums places rows tab consts c) (e : length y ≡ length (tailOf 9728 tab)) where
+  pub sorted-long : length (putTail 9728 tab y) ≡ length tab
+  sorted-long = length-put 9728 tab y (omega (arith, h .tabLong)) e
+
+  pub sorted-ready : SectionsReady s enums places rows (putTail 9728 tab y) consts c
+  sorted-ready =
+      record {
+        loads = h .loads;
+        rowed = h .rowed;
+        typed = types-kept (fileAt s) tab y (omega (arith, h .tabLong)) (h .typed);
+        tabLong = omega (arith, sorted-long, h .tabLong);
+        constsLong = h .constsLong;
+      }
+
 -- ---- 6 to 10
 
 faults-are : {s names names′ slots slots′ rows rows′ : List ℕ} {found : Faults} → FileJudged s (fileAt s) names names′ slots slots′ rows rows′ found → FaultsAre (fileAt s) found
@@ -101,7 +135,7 @@ shapes-ready {s} {rows = rows} {rows′} {tab} {names} {names′} {found = found
           row = j .sized .row;
           firsts = λ n g. j .sized .above (256 + n) (omega arith) ∙ r .firsts n g;
         };
-        typed = subst (λ t. Typed (fileAt s) t) (sym (sym (drop-take 2560 9728 (putTail 9728 tab x)) ∙ ap (drop 2560) (take-put 9728 tab x u) ∙ drop-take 2560 9728 tab)) (d .typed);
+        typed = types-kept (fileAt s) tab x u (d .typed);
         tabLong = omega (arith, length-put 9728 tab x u e, d .tabLong);
         constsLong = d .constsLong;
       };
@@ -133,12 +167,14 @@ false-not-true e = let z : _≡_ {A = ℕ} 0 1 = ap (λ b. mathlib.Core.Bool.con
 
 -- ---- any file that reads without fault, with blank arrays
 
-pub file-ready : {s places : List ℕ} {enums : ℕ} (n : ℕ) → Loads s enums places → Bytes s → 9728 + length s ≤ n → FileReady s enums places (replicate 272 0) (replicate n 0) (replicate 576 0)
-file-ready n l b h =
+pub file-ready : {s places : List ℕ} {enums : ℕ} (n : ℕ) → 10752 ≤ n → Loads s enums places → Bytes s → 9728 + length s ≤ n → FileReady s enums places (replicate 272 0) (replicate n 0) (replicate 576 0)
+file-ready n w l b h =
     record {
       loads = l;
       stands = file-stands b (l .reads);
       rowsLong = length-replicate {A = ℕ} 272 0;
       tabLong = omega (arith, length-replicate {A = ℕ} n 0, h);
+      wide = omega (arith, length-replicate {A = ℕ} n 0, w);
+      blank = λ x. getD-drop 9728 (replicate n 0) x 0 ∙ zero-at n (9728 + x);
       constsLong = length-replicate {A = ℕ} 576 0;
     }

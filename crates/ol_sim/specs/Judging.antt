@@ -90,12 +90,14 @@ pub record Loads (s : List ℕ) (enums : ℕ) (places : List ℕ) : Type 0 where
   pub counted : length (fileAt s .enums) ≡ enums
   pub placed : places ≡ map Walks.placeOf (placedNodes (fileAt s))
 
--- and buffers for its tables
+-- and buffers for its tables; the slots' part is 0, and has an entry for every name below 1,024
 pub record FileReady (s : List ℕ) (enums : ℕ) (places rows tab consts : List ℕ) : Type 0 where
   pub loads : Loads s enums places
   pub stands : FileStands s (fileAt s)
   pub rowsLong : length rows ≡ 272
   pub tabLong : 9728 + length s ≤ length tab
+  pub wide : 10752 ≤ length tab
+  pub blank : (x : ℕ) → getD (drop 9728 tab) x 0 ≡ 0
   pub constsLong : length consts ≡ 576
 
 -- the rows but for the sizes, and the sections

@@ -227,7 +227,7 @@ fn serve_high(
     }
 }
 
-// With tables to write.
+// With tables to write. Until the slots are written, their part of `tab` is blank: fault 6 uses it.
 fn serve_with(
     call: Call,
     file: &[u8],
@@ -245,8 +245,7 @@ fn serve_with(
     ensures { λ r. ⌜ Serves call (now (file .entry)) (now (old .entry)) (now (inputs .entry)) (now (new .entry)) (now (values .entry)) r (now (new .exit)) (now (values .exit)) ⌝ }
 {
     let sections = rows_of(file, places, rows, &mut tab[TYPES..SLOTS]);
-    let mut sorts = [0u8; 1024];
-    let s = sort_file(file, rows, sections, &mut sorts);
+    let s = sort_file(file, rows, sections, &mut tab[SLOTS..]);
     let clash = s.found;
     if s.low {
         serve_low(

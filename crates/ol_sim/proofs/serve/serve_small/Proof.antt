@@ -27,7 +27,7 @@ slice-aggregate-serve-with-3 c = search needs
 serve-with-requires : tie.Need-serve-with-requires
 serve-with-requires c κs =
     let start = c .before .before .before .before .before .before .before .before .before .before .before in
-    file-ready 10752 (start .pre .0) (bytes-of (start .args .file .now) (λ i. omega (arith, c .before .before .before .before .before .before .before .before .before .before .shared-slice-known .given i))) (omega (arith, start .pre .1))
+    file-ready 10752 (omega arith) (start .pre .0) (bytes-of (start .args .file .now) (λ i. omega (arith, c .before .before .before .before .before .before .before .before .before .before .shared-slice-known .given i))) (omega (arith, start .pre .1))
 
 -- src/serve.rt:288:1
 same-length : tie.Need-same-length

@@ -2,7 +2,7 @@
 use mathlib.Core.Path.{_∙_}
 use Rattle.ol_tables.specs.At.{fileAt}
 use Rattle.ol_sim.proofs.Lows.{lows-of}
-use Rattle.ol_sim.proofs.Begins.{rowed-done, declared-ready, sections-ready, places-are, types-room, middle-long, blank-zeros}
+use Rattle.ol_sim.proofs.Begins.{rowed-done, declared-ready, sections-ready, places-are, types-room, middle-long, blank-slots, sorted-long, sorted-ready}
 use native.Mathlib.Omega.{arith}
 use borrow.Author.Needs.{needs}
 -- </uses>
@@ -38,37 +38,49 @@ rows-of-requires c κs =
     let start = c .before .before .before .before .before .before .before .before .before .before .before in
     (start .pre .loads .reads, places-are (start .pre), start .pre .rowsLong, types-room (start .pre))
 
--- src/serve.rt:249:45
-slice-aggregate-sort-file : tie.Need-slice-aggregate-sort-file
-slice-aggregate-sort-file c = search needs
+-- src/serve.rt:248:45
+sub-sort-file : tie.Need-sub-sort-file
+sub-sort-file c =
+    let start = c .before .before .before .before .before .before .before .before .before .before .before .before .before .before .before .before .before in
+    omega (arith, start .pre .tabLong, (middle-long (start .args .tab .now) (c .before .before .before .before .before .rows-of .last .1 .1 .1 .0) (omega (arith, start .pre .tabLong)) ((c .before .before .before .before .before .rows-of .kept .1 .1 .1 .0) ∙ types-room (start .pre))))
 
--- src/serve.rt:249:9
+-- src/serve.rt:248:45
+part-sort-file-start : tie.Need-part-sort-file-start
+part-sort-file-start c =
+    let start = c .before .before .before .before .before .before .before .before .before .before .before .before .before .before .before .before .before in
+    omega (arith, start .pre .tabLong, (middle-long (start .args .tab .now) (c .before .before .before .before .before .rows-of .last .1 .1 .1 .0) (omega (arith, start .pre .tabLong)) ((c .before .before .before .before .before .rows-of .kept .1 .1 .1 .0) ∙ types-room (start .pre))))
+
+-- src/serve.rt:248:45
+part-sort-file-end : tie.Need-part-sort-file-end
+part-sort-file-end c = search needs
+
+-- src/serve.rt:248:9
 sort-file-requires : tie.Need-sort-file-requires
 sort-file-requires c κs =
     let start = c .before .before .before .before .before .before .before .before .before .before .before .before .before .before .before .before .before .before in
     declared-ready (rowed-done (start .pre) (c .before .before .before .before .before .before .rows-of .ensures) (c .before .before .before .before .before .before .rows-of .kept .1 .1 .0))
 
--- src/serve.rt:252:9
+-- src/serve.rt:251:9
 serve-low-requires : tie.Need-serve-low-requires
 serve-low-requires c κs =
-    let start = c .before .before .before .before .before .before .before .before .before .before .before .before .before .before .before .before .before .before .before .before .before .before .before .before .before .before in
-    (((sections-ready (c .before .before .before .before .before .before .before .before .before .before .before .before .before .before .rows-of .last .1 .1 .1 .0) (start .pre) (c .before .before .before .before .before .before .before .before .before .before .before .before .before .before .rows-of .ensures) (c .before .before .before .before .before .before .before .before .before .before .before .before .before .before .rows-of .kept .1 .1 .0) (c .before .before .before .before .before .before .before .before .before .before .before .before .before .before .rows-of .kept .1 .1 .1 .0)), λ e. (lows-of (fileAt (start .args .file .now)) (c .before .before .before .before .before .before .before .sort-file .ensures .lows) (c .before .before .before .before .before .if1 .taken))), c .before .before .before .before .before .before .before .sort-file .ensures .finds (blank-zeros (fileAt (start .args .file .now)) 1024 (lows-of (fileAt (start .args .file .now)) (c .before .before .before .before .before .before .before .sort-file .ensures .lows) (c .before .before .before .before .before .if1 .taken))))
+    let start = c .before .before .before .before .before .before .before .before .before .before .before .before .before .before .before .before .before .before .before .before .before .before .before .before .before .before .before in
+    ((sorted-ready (c .before .before .before .before .before .before .before .before .sort-file .last .1 .1 .1 .0) (sections-ready (c .before .before .before .before .before .before .before .before .before .before .before .before .before .before .before .rows-of .last .1 .1 .1 .0) (start .pre) (c .before .before .before .before .before .before .before .before .before .before .before .before .before .before .before .rows-of .ensures) (c .before .before .before .before .before .before .before .before .before .before .before .before .before .before .before .rows-of .kept .1 .1 .0) (c .before .before .before .before .before .before .before .before .before .before .before .before .before .before .before .rows-of .kept .1 .1 .1 .0)) (c .before .before .before .before .before .before .before .before .sort-file .kept .1 .1 .1 .0), λ e. (lows-of (fileAt (start .args .file .now)) (c .before .before .before .before .before .before .before .before .sort-file .ensures .lows) (c .before .before .before .before .before .if1 .taken))), c .before .before .before .before .before .before .before .before .sort-file .ensures .finds (blank-slots (c .before .before .before .before .before .before .before .before .before .before .before .before .before .before .before .rows-of .last .1 .1 .1 .0) (start .pre) (c .before .before .before .before .before .before .before .before .before .before .before .before .before .before .before .rows-of .kept .1 .1 .1 .0) (lows-of (fileAt (start .args .file .now)) (c .before .before .before .before .before .before .before .before .sort-file .ensures .lows) (c .before .before .before .before .before .if1 .taken))))
 
--- src/serve.rt:269:9
+-- src/serve.rt:268:9
 serve-high-requires : tie.Need-serve-high-requires
 serve-high-requires c κs =
-    let start = c .before .before .before .before .before .before .before .before .before .before .before .before .before .before .before .before .before .before .before .before .before .before .before .before .before .before in
-    (sections-ready (c .before .before .before .before .before .before .before .before .before .before .before .before .before .before .rows-of .last .1 .1 .1 .0) (start .pre) (c .before .before .before .before .before .before .before .before .before .before .before .before .before .before .rows-of .ensures) (c .before .before .before .before .before .before .before .before .before .before .before .before .before .before .rows-of .kept .1 .1 .0) (c .before .before .before .before .before .before .before .before .before .before .before .before .before .before .rows-of .kept .1 .1 .1 .0))
+    let start = c .before .before .before .before .before .before .before .before .before .before .before .before .before .before .before .before .before .before .before .before .before .before .before .before .before .before .before in
+    sorted-ready (c .before .before .before .before .before .before .before .before .sort-file .last .1 .1 .1 .0) (sections-ready (c .before .before .before .before .before .before .before .before .before .before .before .before .before .before .before .rows-of .last .1 .1 .1 .0) (start .pre) (c .before .before .before .before .before .before .before .before .before .before .before .before .before .before .before .rows-of .ensures) (c .before .before .before .before .before .before .before .before .before .before .before .before .before .before .before .rows-of .kept .1 .1 .0) (c .before .before .before .before .before .before .before .before .before .before .before .before .before .before .before .rows-of .kept .1 .1 .1 .0)) (c .before .before .before .before .before .before .before .before .sort-file .kept .1 .1 .1 .0)
 
 -- src/serve.rt:231:1
 same-length : tie.Need-same-length
-same-length c = c .before .before .before .before .before .before .before .before .before .before .serve-low .kept .1 .1 .1 .1 .0 ∙ c .before .before .before .before .before .before .before .before .before .before .before .before .before .before .before .before .before .before .before .before .before .before .before .before .before .rows-of .kept .1 .1 .0
+same-length c = c .before .before .before .before .before .before .before .before .before .before .serve-low .kept .1 .1 .1 .1 .0 ∙ c .before .before .before .before .before .before .before .before .before .before .before .before .before .before .before .before .before .before .before .before .before .before .before .before .before .before .rows-of .kept .1 .1 .0
 
 -- src/serve.rt:231:1
 same-length-2 : tie.Need-same-length-2
 same-length-2 c =
-    let start = c .before .before .before .before .before .before .before .before .before .before .before .before .before .before .before .before .before .before .before .before .before .before .before .before .before .before .before .before .before .before .before .before .before .before .before .before .before in
-    c .before .before .before .before .before .before .before .before .before .before .serve-low .kept .1 .1 .1 .1 .1 .0 ∙ (middle-long (start .args .tab .now) (c .before .before .before .before .before .before .before .before .before .before .before .before .before .before .before .before .before .before .before .before .before .before .before .before .before .rows-of .last .1 .1 .1 .0) (omega (arith, start .pre .tabLong)) (c .before .before .before .before .before .before .before .before .before .before .before .before .before .before .before .before .before .before .before .before .before .before .before .before .before .rows-of .kept .1 .1 .1 .0 ∙ types-room (start .pre)))
+    let start = c .before .before .before .before .before .before .before .before .before .before .before .before .before .before .before .before .before .before .before .before .before .before .before .before .before .before .before .before .before .before .before .before .before .before .before .before .before .before in
+    c .before .before .before .before .before .before .before .before .before .before .serve-low .kept .1 .1 .1 .1 .1 .0 ∙ (sorted-long (c .before .before .before .before .before .before .before .before .before .before .before .before .before .before .before .before .before .before .before .sort-file .last .1 .1 .1 .0) (sections-ready (c .before .before .before .before .before .before .before .before .before .before .before .before .before .before .before .before .before .before .before .before .before .before .before .before .before .before .rows-of .last .1 .1 .1 .0) (start .pre) (c .before .before .before .before .before .before .before .before .before .before .before .before .before .before .before .before .before .before .before .before .before .before .before .before .before .before .rows-of .ensures) (c .before .before .before .before .before .before .before .before .before .before .before .before .before .before .before .before .before .before .before .before .before .before .before .before .before .before .rows-of .kept .1 .1 .0) (c .before .before .before .before .before .before .before .before .before .before .before .before .before .before .before .before .before .before .before .before .before .before .before .before .before .before .rows-of .kept .1 .1 .1 .0)) (c .before .before .before .before .before .before .before .before .before .before .before .before .before .before .before .before .before .before .before .sort-file .kept .1 .1 .1 .0) ∙ (middle-long (start .args .tab .now) (c .before .before .before .before .before .before .before .before .before .before .before .before .before .before .before .before .before .before .before .before .before .before .before .before .before .before .rows-of .last .1 .1 .1 .0) (omega (arith, start .pre .tabLong)) ((c .before .before .before .before .before .before .before .before .before .before .before .before .before .before .before .before .before .before .before .before .before .before .before .before .before .before .rows-of .kept .1 .1 .1 .0) ∙ types-room (start .pre))))
 
 -- src/serve.rt:231:1
 same-length-3 : tie.Need-same-length-3
@@ -88,13 +100,13 @@ returns c = c .before .before .before .before .before .before .before .before .b
 
 -- src/serve.rt:231:1
 same-length-6 : tie.Need-same-length-6
-same-length-6 c = c .before .before .before .before .before .before .before .before .before .before .serve-high .kept .1 .1 .1 .1 .1 .0 ∙ c .before .before .before .before .before .before .before .before .before .before .before .before .before .before .before .before .before .before .before .before .before .before .before .before .before .rows-of .kept .1 .1 .0
+same-length-6 c = c .before .before .before .before .before .before .before .before .before .before .serve-high .kept .1 .1 .1 .1 .1 .0 ∙ c .before .before .before .before .before .before .before .before .before .before .before .before .before .before .before .before .before .before .before .before .before .before .before .before .before .before .rows-of .kept .1 .1 .0
 
 -- src/serve.rt:231:1
 same-length-7 : tie.Need-same-length-7
 same-length-7 c =
-    let start = c .before .before .before .before .before .before .before .before .before .before .before .before .before .before .before .before .before .before .before .before .before .before .before .before .before .before .before .before .before .before .before .before .before .before .before .before .before in
-    c .before .before .before .before .before .before .before .before .before .before .serve-high .kept .1 .1 .1 .1 .1 .1 .0 ∙ (middle-long (start .args .tab .now) (c .before .before .before .before .before .before .before .before .before .before .before .before .before .before .before .before .before .before .before .before .before .before .before .before .before .rows-of .last .1 .1 .1 .0) (omega (arith, start .pre .tabLong)) (c .before .before .before .before .before .before .before .before .before .before .before .before .before .before .before .before .before .before .before .before .before .before .before .before .before .rows-of .kept .1 .1 .1 .0 ∙ types-room (start .pre)))
+    let start = c .before .before .before .before .before .before .before .before .before .before .before .before .before .before .before .before .before .before .before .before .before .before .before .before .before .before .before .before .before .before .before .before .before .before .before .before .before .before in
+    c .before .before .before .before .before .before .before .before .before .before .serve-high .kept .1 .1 .1 .1 .1 .1 .0 ∙ (sorted-long (c .before .before .before .before .before .before .before .before .before .before .before .before .before .before .before .before .before .before .before .sort-file .last .1 .1 .1 .0) (sections-ready (c .before .before .before .before .before .before .before .before .before .before .before .before .before .before .before .before .before .before .before .before .before .before .before .before .before .before .rows-of .last .1 .1 .1 .0) (start .pre) (c .before .before .before .before .before .before .before .before .before .before .before .before .before .before .before .before .before .before .before .before .before .before .before .before .before .before .rows-of .ensures) (c .before .before .before .before .before .before .before .before .before .before .before .before .before .before .before .before .before .before .before .before .before .before .before .before .before .before .rows-of .kept .1 .1 .0) (c .before .before .before .before .before .before .before .before .before .before .before .before .before .before .before .before .before .before .before .before .before .before .before .before .before .before .rows-of .kept .1 .1 .1 .0)) (c .before .before .before .before .before .before .before .before .before .before .before .before .before .before .before .before .before .before .before .sort-file .kept .1 .1 .1 .0) ∙ (middle-long (start .args .tab .now) (c .before .before .before .before .before .before .before .before .before .before .before .before .before .before .before .before .before .before .before .before .before .before .before .before .before .before .rows-of .last .1 .1 .1 .0) (omega (arith, start .pre .tabLong)) ((c .before .before .before .before .before .before .before .before .before .before .before .before .before .before .before .before .before .before .before .before .before .before .before .before .before .before .rows-of .kept .1 .1 .1 .0) ∙ types-room (start .pre))))
 
 -- src/serve.rt:231:1
 same-length-8 : tie.Need-same-length-8
@@ -120,7 +132,9 @@ serve-with-spec =
     part-rows-of-start
     part-rows-of-end
     rows-of-requires
-    slice-aggregate-sort-file
+    sub-sort-file
+    part-sort-file-start
+    part-sort-file-end
     sort-file-requires
     serve-low-requires
     serve-high-requires
