@@ -27,9 +27,9 @@ use Rattle.ol_check.specs.FileJudged.{NamesWithin, variantTable}
 use Rattle.ol_check.proofs.Truths.{no-truth, never}
 use Rattle.ol_check.proofs.HeadLaws.{flat, slots-below, slots-length, slots-held}
 use Rattle.ol_check.proofs.EntryLaws.{Enterable, declare-high, declare-length}
-use Rattle.ol_check.proofs.EntryPlaces.{declare-free, constant-entry, variant-entry, position-at, position-none}
-use Rattle.ol_check.proofs.FileLaws.{variants-ok, constants-ok}
-use Rattle.ol_check.proofs.SlotEntries.{slot-small}
+use Rattle.ol_check.proofs.EntryPlaces.{declare-free, constant-entry, position-at, position-none}
+use Rattle.ol_check.proofs.FileLaws.{constants-ok}
+use Rattle.ol_check.proofs.SlotEntries.{slot-small, variant-told}
 
 -- constant i of a list, with its place
 abbrev pub placedConstant : List (ℕ × Constant) → ℕ → ℕ × Constant
@@ -110,7 +110,7 @@ module _ (names : List ℕ) (f : File) (empty : (x : ℕ) → getD names x 0 ≡
   constant-slot i x = go (member x (variants f)) refl
     where
       variant : getD (variantTable names f) x 0 ≡ cond (member x (variants f)) 255 0
-      variant = declare-free x names (map variantEntry (variants f)) (variants-ok (length names) (variants f) (within .variants)) (empty x) ∙ variant-entry x (variants f)
+      variant = variant-told names f empty within x
 
       free : (p : Option ℕ) → position x (take i (constantNames f)) ≡ p → slotOfEntry (maybe 0 (λ j. 0 + j + 113) p) ≡ constantSlot p
       free none e = refl

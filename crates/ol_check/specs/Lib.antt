@@ -9,4 +9,3 @@ pub mod ConstantsJudged
 pub mod Sizes
 pub mod FileJudged
 pub mod Clashing
-pub mod VariantTable

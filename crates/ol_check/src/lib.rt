@@ -1,7 +1,6 @@
 // An inner part of the runtime: admission's faults 6 to 10, 13 and 14, and the tables of a file that reads without fault.
 pub mod rows; // rows.rt: the rows of the nodes, the first variants and the types
 pub mod clash; // clash.rt: fault 6, and whether all declared names are below 1,024
-pub mod variants; // variants.rt: the table of variants
 mod judge; // judge.rt: faults 7 to 10, and the slots
 mod names; // names.rt: the table by name
 mod nodes; // nodes.rt: faults 7 to 10 of the nodes

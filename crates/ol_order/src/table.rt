@@ -108,14 +108,27 @@ fn order_low(file: &[u8], limits: Limits, enums: usize, at: usize, out: &mut [u8
     order_with(file, limits, enums, at, &mut definers, out)
 }
 
-// The order of a node's equations that define any names.
-fn order_high(file: &[u8], limits: Limits, enums: usize, at: usize, out: &mut [u8]) -> Ring
+// The order of a node's equations that define any names. A function that calls itself is not put into
+// its caller's frame: a caller that has low names does not touch the large table's stack. `turns` is 0
+// for every file that reads.
+fn order_high(
+    turns: usize,
+    file: &[u8],
+    limits: Limits,
+    enums: usize,
+    at: usize,
+    out: &mut [u8],
+) -> Ring
     requires { ⌜ NodeReads (now file) limits enums at ⌝ }
     requires { ⌜ length (now out) ≡ 80 ⌝ }
     ensures { λ r. ⌜ NodeDone at (nodeAt (now (file .entry)) limits enums at) (now (out .entry)) (now (out .exit)) r ⌝ }
 {
-    let mut definers = no_definers();
-    order_with(file, limits, enums, at, &mut definers, out)
+    if 0 < turns {
+        order_high(turns - 1, file, limits, enums, at, out)
+    } else {
+        let mut definers = no_definers();
+        order_with(file, limits, enums, at, &mut definers, out)
+    }
 }
 
 // The order of a node's equations.
@@ -135,7 +148,7 @@ fn order_row(
     if low {
         order_low(file, limits, enums, at, out)
     } else {
-        order_high(file, limits, enums, at, out)
+        order_high(file.len() / 65536, file, limits, enums, at, out)
     }
 }
 

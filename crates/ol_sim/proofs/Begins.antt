@@ -1,16 +1,15 @@
 -- Judging from its beginning: the rows, the tables by name, and the faults 6 to 10.
 use Prim.Native.Nat.{ℕ, zero, suc, _+_, _-_, _<_, _≤_}
 use mathlib.Core.Bool.{Bool, true}
-use mathlib.Core.List.{List, _++_}
+use mathlib.Core.List.{List, [], _∷_, _++_}
 use mathlib.Core.Option.{none}
 use mathlib.Core.Path.{_≡_, refl, ap, sym, subst, _∙_}
 use native.Mathlib.Omega.{arith}
 use lib.ListN.{length, getD, take, drop, replicate, length-replicate, length-append, length-drop}
-use lib.Seq.{take-at, drop-at, length-take-le}
+use lib.Seq.{take-at, drop-at, drop-drop, getD-drop, length-take-le}
 use Rattle.ol_spec.specs.Limits.{relayLoader}
 use Rattle.ol_spec.specs.Syntax.{File}
 use Rattle.ol_spec.specs.Admission as Adm
-use Rattle.ol_spec.specs.declared.Verdict.{Verdict}
 use Rattle.ol_tables.specs.At.{fileAt}
 use Rattle.ol_tables.specs.Stands.{FileReads}
 use Rattle.ol_tables.specs.Tables.{Each}
@@ -20,9 +19,7 @@ use Rattle.ol_check.specs.FileJudged.{NamesWithin, FileJudged}
 use Rattle.ol_check.specs.FileJudged.{FileReady as Ready}
 use Rattle.ol_check.specs.declared.Faults.{Faults}
 use Rattle.ol_check.specs.Clashing.{DeclaredReady, Blank}
-use Rattle.ol_sim.specs.Judging.{Judges, JudgesBy, whole, from6, verdictOf, Loads, FileReady, Rowed, Typed, SectionsReady, Empty, NamesReady, FaultsAre, ShapesReady}
-use Rattle.ol_sim.specs.declared.judge.Judged.{Judged}
-use Rattle.ol_sim.specs.declared.judge.Judged.the-variants as Jud
+use Rattle.ol_sim.specs.Judging.{whole, from6, Loads, FileReady, Rowed, Typed, SectionsReady, Empty, NamesReady, FaultsAre, ShapesReady}
 use Rattle.ol_spec.specs.Demand3.{Bytes}
 use Rattle.ol_tables.proofs.HeadsFile.{file-stands}
 use Rattle.ol_check.proofs.SizeTable.{rows-sized}
@@ -82,6 +79,40 @@ sections-ready {s} {tab = tab} x h d e k =
       constsLong = h .constsLong;
     }
 
+-- the table that fault 6 uses
+pub blank-slots : {s places rows tab consts : List ℕ} {enums : ℕ} (x : List ℕ) → FileReady s enums places rows tab consts → length x ≡ length (take 7168 (drop 2560 tab)) → Each (λ d. d .name < 1024) (Adm.declared (fileAt s)) → Blank (fileAt s) (tailOf 9728 (take 2560 tab ++ (x ++ drop 7168 (drop 2560 tab))))
+blank-slots {s} {tab = tab} x h k low =
+    let tab′ = take 2560 tab ++ (x ++ drop 7168 (drop 2560 tab)) in
+    let long : length x ≡ 7168 = k ∙ types-room h in
+    let same : tailOf 9728 tab′ ≡ drop 9728 tab =
+    tail-all 9728 tab′ ∙ sym (drop-drop 7168 2560 tab′)
+    ∙ ap (drop 7168) (drop-at (take 2560 tab) (x ++ drop 7168 (drop 2560 tab)) 2560 (length-take-le 2560 tab (omega (arith, h .wide))))
+    ∙ drop-at x (drop 7168 (drop 2560 tab)) 7168 long ∙ drop-drop 7168 2560 tab in
+    subst (Blank (fileAt s)) (sym same)
+    (record { zero = h .blank; below = each-wider (Adm.declared (fileAt s)) (omega (arith, length-drop 9728 tab, h .wide)) low })
+  where
+    each-wider : {n : ℕ} (ds : List Adm.Declared) → 1024 ≤ n → Each (λ d. d .name < 1024) ds → Each (λ d. d .name < n) ds
+    each-wider [] w l = tt
+    each-wider (d ∷ ds) w l = (omega (arith, l .0, w), each-wider ds w (l .1))
+
+-- the types stand before the slots
+types-kept : (f : File) (tab x : List ℕ) → 9728 ≤ length tab → Typed f (take 7168 (drop 2560 tab)) → Typed f (take 7168 (drop 2560 (putTail 9728 tab x)))
+types-kept f tab x u h = subst (λ t. Typed f t) (sym (sym (drop-take 2560 9728 (putTail 9728 tab x)) ∙ ap (drop 2560) (take-put 9728 tab x u) ∙ drop-take 2560 9728 tab)) h
+
+module _ {s places rows tab consts : List ℕ} {enums : ℕ} {c : Sections} (y : List ℕ) (h : SectionsReady s enums places rows tab consts c) (e : length y ≡ length (tailOf 9728 tab)) where
+  pub sorted-long : length (putTail 9728 tab y) ≡ length tab
+  sorted-long = length-put 9728 tab y (omega (arith, h .tabLong)) e
+
+  pub sorted-ready : SectionsReady s enums places rows (putTail 9728 tab y) consts c
+  sorted-ready =
+      record {
+        loads = h .loads;
+        rowed = h .rowed;
+        typed = types-kept (fileAt s) tab y (omega (arith, h .tabLong)) (h .typed);
+        tabLong = omega (arith, sorted-long, h .tabLong);
+        constsLong = h .constsLong;
+      }
+
 -- ---- 6 to 10
 
 faults-are : {s names names′ slots slots′ rows rows′ : List ℕ} {found : Faults} → FileJudged s (fileAt s) names names′ slots slots′ rows rows′ found → FaultsAre (fileAt s) found
@@ -104,7 +135,7 @@ shapes-ready {s} {rows = rows} {rows′} {tab} {names} {names′} {found = found
           row = j .sized .row;
           firsts = λ n g. j .sized .above (256 + n) (omega arith) ∙ r .firsts n g;
         };
-        typed = subst (λ t. Typed (fileAt s) t) (sym (sym (drop-take 2560 9728 (putTail 9728 tab x)) ∙ ap (drop 2560) (take-put 9728 tab x u) ∙ drop-take 2560 9728 tab)) (d .typed);
+        typed = types-kept (fileAt s) tab x u (d .typed);
         tabLong = omega (arith, length-put 9728 tab x u e, d .tabLong);
         constsLong = d .constsLong;
       };
@@ -125,30 +156,25 @@ shapes-ready {s} {rows = rows} {rows′} {tab} {names} {names′} {found = found
       lows = h .lows;
     }
 
--- ---- the verdict
+-- ---- what was judged
 
 pub judge-is : (s : List ℕ) → FileReads s → Adm.judge relayLoader s ≡ Adm.refuseFirst (from6 (fileAt s)) (whole (fileAt s))
 unfolding Adm.judge
 judge-is s h = ap (Adm.judgeRead relayLoader) (h .is)
-
-pub verdict-is : {s rows tab consts : List ℕ} {j : Judged} → FileReads s → Judges s (from6 (fileAt s)) rows tab consts j → verdictOf j ≡ Adm.admission relayLoader s
-verdict-is {s} {rows} {tab} {consts} {j} r h = go j (h .is)
-  where
-    go : (x : Judged) → JudgesBy s (from6 (fileAt s)) rows tab consts x → verdictOf x ≡ Adm.admission relayLoader s
-    go (Jud.Refused x) e = sym (ap Adm.verdict (judge-is s r ∙ e))
-    go (Jud.Admitted size main count low) e = ap Rattle.ol_spec.specs.declared.Verdict.the-variants.Admitted (e .1 .sized) ∙ sym (ap Adm.verdict (judge-is s r ∙ e .0))
 
 pub false-not-true : mathlib.Core.Bool.false ≡ true → ⊥
 false-not-true e = let z : _≡_ {A = ℕ} 0 1 = ap (λ b. mathlib.Core.Bool.cond b 1 0) e in omega arith
 
 -- ---- any file that reads without fault, with blank arrays
 
-pub file-ready : {s places : List ℕ} {enums : ℕ} (n : ℕ) → Loads s enums places → Bytes s → 9728 + length s ≤ n → FileReady s enums places (replicate 272 0) (replicate n 0) (replicate 576 0)
-file-ready n l b h =
+pub file-ready : {s places : List ℕ} {enums : ℕ} (n : ℕ) → 10752 ≤ n → Loads s enums places → Bytes s → 9728 + length s ≤ n → FileReady s enums places (replicate 272 0) (replicate n 0) (replicate 576 0)
+file-ready n w l b h =
     record {
       loads = l;
       stands = file-stands b (l .reads);
       rowsLong = length-replicate {A = ℕ} 272 0;
       tabLong = omega (arith, length-replicate {A = ℕ} n 0, h);
+      wide = omega (arith, length-replicate {A = ℕ} n 0, w);
+      blank = λ x. getD-drop 9728 (replicate n 0) x 0 ∙ zero-at n (9728 + x);
       constsLong = length-replicate {A = ℕ} 576 0;
     }

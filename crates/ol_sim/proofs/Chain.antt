@@ -27,4 +27,4 @@ module _ {s rows tab consts : List ℕ} {n : ℕ} {o : Option ℕ} {xs : List (�
     where
       go : (x : Judged) → JudgesBy s xs rows tab consts x → JudgesBy s ((n, o) ∷ xs) rows tab consts x
       go (Jud.Refused x) j = passes n o xs (whole (fileAt s)) e ∙ j
-      go (Jud.Admitted size main count low) j = (passes n o xs (whole (fileAt s)) e ∙ j .0, j .1)
+      go (Jud.Admitted size main count) j = (passes n o xs (whole (fileAt s)) e ∙ j .0, j .1)

@@ -1,15 +1,13 @@
 -- The cycle: its ways out.
-use Prim.Native.Nat.{ℕ, suc, _+_, _*_, _<_, _≤_}
+use Prim.Native.Nat.{ℕ, _*_}
 use mathlib.Core.Bool.{Bool, true, false, not, _&&_}
 use mathlib.Core.List.{List}
-use mathlib.Core.Path.{_≡_, refl, ap, sym, subst, _∙_}
+use mathlib.Core.Path.{_≡_, refl, ap, sym, _∙_}
 use native.Mathlib.Omega.{arith}
-use lib.Dec.{eqb, leb, T, eqb→eq}
-use lib.ListN.{length, take}
-use lib.Seq.{length-take-le}
+use lib.Dec.{eqb, T, eqb→eq}
+use lib.ListN.{length}
 use Rattle.ol_spec.specs.Limits.{relayLoader}
 use Rattle.ol_spec.specs.Syntax.{File, Node, variables, main}
-use Rattle.ol_spec.specs.Read.{readFile}
 use Rattle.ol_spec.specs.Answers.{faultAt, cycledFault}
 use Rattle.ol_spec.specs.State.{goodState, goodInputs}
 use Rattle.ol_spec.specs.Admission as Adm
@@ -18,19 +16,14 @@ use Rattle.ol_spec.specs.declared.Cycled.{Cycled}
 use Rattle.ol_spec.specs.declared.Cycled.the-variants as Cyc
 use Rattle.ol_spec.specs.declared.Fault.{Fault}
 use Rattle.ol_tables.specs.At.{fileAt}
-use Rattle.ol_tables.specs.Tables.{nodeOf, rowAt}
+use Rattle.ol_tables.specs.Tables.{Variants, rowAt}
 use Rattle.ol_spec.proofs.Cells.{length-cells}
-use Rattle.ol_ir.specs.Walks.{loadedOf}
-use Rattle.ol_ir.specs.declared.Loaded.{Loaded}
-use Rattle.ol_ir.specs.declared.Loaded.the-variants as Ldd
 use Rattle.ol_state.specs.Ready.{Ready}
-use Rattle.ol_frame.specs.Nodes.{Running}
 use Rattle.ol_run.specs.MainCycle.{RunReady, Cycles}
 use Rattle.ol_sim.specs.Calls.{CyclesAs}
-use Rattle.ol_sim.specs.Judging.{valuesIn, whole, Admits}
-use Rattle.ol_sim.specs.Cycling.{CycleReady, VariantsReady}
-use Rattle.ol_sim.proofs.Reading.{judge-refused}
-use Rattle.ol_sim.proofs.Starts.{main-operator, main-is, eqb-same, eqb-other}
+use Rattle.ol_sim.specs.Judging.{valuesIn, whole}
+use Rattle.ol_sim.specs.Answering.{AnswerReady}
+use Rattle.ol_sim.proofs.Starts.{main-is, eqb-same, eqb-other}
 
 as-call : {w : CycleCall} {r : Cycled} {n t : List ℕ} (v : CycleCall) → w ≡ v → CyclesAs v r n t → CyclesAs w r n t
 as-call v e h =
@@ -70,7 +63,7 @@ module _ (f : File) (old ins new vals : List ℕ) {r : Cycled} where
 
 -- ---- lengths
 
-module _ {s rows tab consts : List ℕ} {size m : ℕ} {low : Bool} (h : CycleReady s rows tab consts size m low) where
+module _ {s rows tab consts : List ℕ} {size m : ℕ} (h : AnswerReady s rows tab consts size m) where
   -- the main node's variables, by its row
   pub row-width : {n : ℕ} → n ≡ rowAt rows m 4 → n ≡ length (variables (main (fileAt s)))
   row-width e = e ∙ h .tables .rowed .rowsOf m (omega (arith, h .last)) .variables ∙ ap (λ n. length (variables n)) (sym (main-is (fileAt s) m (h .last)))
@@ -98,9 +91,6 @@ pub cycle-refused : (s old ins new vals : List ℕ) {x : Fault} → Adm.judge re
 unfolding cycle
 cycle-refused s old ins new vals {x} e = as-call (noCycle (x .number) (x .place) new vals) (ap (λ j. cycleJudged j old ins new vals) e) (refused-as (x .number) (x .place) new vals refl)
 
-pub cycle-unread : (s old ins new vals : List ℕ) {r : Loaded} {x : Fault} → r ≡ loadedOf (readFile s relayLoader) → r ≡ Ldd.Refused x → CyclesAs (cycle relayLoader s old ins new vals) (Cyc.Refused x) new vals
-cycle-unread s old ins new vals {r} {x} e d = cycle-refused s old ins new vals (judge-refused s e d)
-
 -- ---- what 15 and 16 say of lengths
 
 and-left : (a b : Bool) → (a && b) ≡ true → a ≡ true
@@ -120,7 +110,7 @@ unfolding goodInputs
 inputs-long f ins e = eqb→eq (length ins) (9 * length (main f .inputs)) (true-T _ (and-left (eqb (length ins) (9 * length (main f .inputs))) _ e))
 
 -- what the main instance's run is told
-pub run-ready : {s rows tab consts : List ℕ} {size m : ℕ} {low : Bool} {n : ℕ} (old ins new vals : List ℕ) → CycleReady s rows tab consts size m low → goodState (fileAt s) (valuesIn (fileAt s)) old ≡ true → goodInputs (fileAt s) ins ≡ true → n ≡ rowAt rows m 4 → length new ≡ size → length vals ≡ 9 * n → RunReady s tab rows consts m old ins new vals
+pub run-ready : {s rows tab consts : List ℕ} {size m : ℕ} {n : ℕ} (old ins new vals : List ℕ) → AnswerReady s rows tab consts size m → goodState (fileAt s) (valuesIn (fileAt s)) old ≡ true → goodInputs (fileAt s) ins ≡ true → n ≡ rowAt rows m 4 → length new ≡ size → length vals ≡ 9 * n → RunReady s tab rows consts m old ins new vals
 run-ready {s} {rows} {tab} {consts} {size} {m} old ins new vals h p q e a b =
     record {
       running = h .running;
@@ -134,31 +124,16 @@ run-ready {s} {rows} {tab} {consts} {size} {m} old ins new vals h p q e a b =
     }
 
 -- as many values as constants
-pub values-many : {s rows tab consts : List ℕ} {size m : ℕ} {low : Bool} → CycleReady s rows tab consts size m low → length (valuesIn (fileAt s)) ≡ length (fileAt s .constants)
+pub values-many : {s rows tab consts : List ℕ} {size m : ℕ} → AnswerReady s rows tab consts size m → length (valuesIn (fileAt s)) ≡ length (fileAt s .constants)
 values-many {s} h = omega (arith, ap length (h .held .is), length-cells (valuesIn (fileAt s)), h .long)
 
 -- what 15 is told
-pub state-ready : {s rows tab variants consts : List ℕ} {size m : ℕ} → VariantsReady s rows tab variants consts size m → Ready (fileAt s) s tab rows variants consts
-state-ready {s} {m = m} v =
-    let h = v .ready in
+pub state-ready : {s rows tab names consts : List ℕ} {size m : ℕ} → AnswerReady s rows tab consts size m → Variants (fileAt s) names → Ready (fileAt s) s tab rows names consts
+state-ready {s} {m = m} h tells =
     record {
       known = h .running .known;
-      names = v .tells;
+      names = tells;
       operator = ap (λ (n : Node). n .kind) (main-is (fileAt s) m (h .last)) ∙ h .operator;
       small = omega (arith, h .sized, h .small);
       head = h .long;
-    }
-
-pub cycle-ready : {s rows tab consts : List ℕ} {size m count : ℕ} {low b : Bool} → Admits s rows tab consts size m count low → Running s tab rows (take (9 * count) consts) → 9 * count ≤ length consts → low ≡ b → CycleReady s rows tab (take (9 * count) consts) size m b
-cycle-ready {s} {rows} {tab} {consts} {size} {m} {count} a running fit e =
-    record {
-      tables = a .tables;
-      running = running;
-      sized = a .sized;
-      small = a .small;
-      held = a .held;
-      long = length-take-le (9 * count) consts fit ∙ ap (λ i. 9 * i) (a .counted);
-      last = a .last;
-      operator = main-operator (fileAt s) m (a .last) (a .operator);
-      lows = λ t. a .lows (e ∙ t);
     }

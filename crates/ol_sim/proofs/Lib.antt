@@ -7,3 +7,4 @@ pub mod Begins
 pub mod Reading
 pub mod Starts
 pub mod Cycles
+pub mod Serving

@@ -1,4 +1,4 @@
--- What loading the file finds, for the public functions.
+-- What loading the file finds.
 use Prim.Native.Nat.{ℕ, _≤_}
 use mathlib.Core.List.{List, map}
 use mathlib.Core.Path.{_≡_, ap, sym, _∙_}
@@ -9,20 +9,14 @@ use Rattle.ol_spec.specs.Limits.{relayLoader}
 use Rattle.ol_spec.specs.Syntax.{File}
 use Rattle.ol_spec.specs.Places.{nodeSize, nodesStart, placedNodes}
 use Rattle.ol_spec.specs.Read.{got, fault, readFile}
-use Rattle.ol_spec.specs.Answers.{verdictFault, verdictLength, startedFault}
 use Rattle.ol_spec.specs.Admission as Adm
-use Rattle.ol_spec.specs.Cycle.{StartCall, start, startJudged, noStart}
 use Rattle.ol_spec.specs.declared.Fault.{Fault}
-use Rattle.ol_spec.specs.declared.Verdict.{Verdict}
-use Rattle.ol_spec.specs.declared.Verdict.the-variants as Ver
-use Rattle.ol_spec.specs.declared.Started.the-variants as Sta
 use Rattle.ol_tables.specs.At.{fileAt, itemOf, noFile}
 use Rattle.ol_tables.specs.Stands.{FileReads, FileStands}
 use Rattle.ol_ir.specs.Walks.{placeOf, loadedOf}
 use Rattle.ol_ir.specs.declared.Loaded.{Loaded}
 use Rattle.ol_ir.specs.declared.Loaded.the-variants as Ldd
 use Rattle.ol_order.proofs.Nodes.{length-placed, table-front, loaded-file, loaded-not}
-use Rattle.ol_sim.specs.Calls.{AdmitsAs, StartsAs}
 use Rattle.ol_sim.specs.Judging.{Loads}
 
 module _ (s : List ℕ) {r : Loaded} {enums n : ℕ} (e : r ≡ loadedOf (readFile s relayLoader)) (d : r ≡ Ldd.Nodes enums n) where
@@ -59,16 +53,3 @@ read-fault s {r} {x} e d = loaded-not (readFile s relayLoader) x (sym d ∙ e)
 pub judge-refused : (s : List ℕ) {r : Loaded} {x : Fault} → r ≡ loadedOf (readFile s relayLoader) → r ≡ Ldd.Refused x → Adm.judge relayLoader s ≡ Adm.refused (x .number) (x .place)
 unfolding Adm.judge
 judge-refused s e d = ap (Adm.judgeRead relayLoader) (read-fault s e d)
-
--- a verdict that is admission's
-pub admits-as : {w r : Verdict} → r ≡ w → AdmitsAs w r
-admits-as e = record { answered = e; told = ap verdictFault e; long = ap verdictLength e }
-
-pub admission-refused : (s : List ℕ) {r : Loaded} {x : Fault} → r ≡ loadedOf (readFile s relayLoader) → r ≡ Ldd.Refused x → AdmitsAs (Adm.admission relayLoader s) (Ver.Refused x)
-admission-refused s {r} {x} e d = admits-as (sym (ap Adm.verdict (judge-refused s e d)))
-
-pub start-refused : (s st : List ℕ) {r : Loaded} {x : Fault} → r ≡ loadedOf (readFile s relayLoader) → r ≡ Ldd.Refused x → StartsAs (start relayLoader s st) (Sta.Refused x) st
-unfolding start
-start-refused s st {r} {x} e d =
-    let w : start relayLoader s st ≡ noStart (x .number) (x .place) st = ap (λ j. startJudged j st) (judge-refused s e d) in
-    record { answered = sym (ap (λ (c : StartCall). c .answer) w); told = sym (ap (λ (c : StartCall). startedFault (c .answer)) w); written = sym (ap (λ (c : StartCall). c .state) w) }

@@ -29,6 +29,7 @@ use Rattle.ol_state.proofs.FreshRecords.{fresh-record}
 use Rattle.ol_sim.specs.Calls.{StartsAs}
 use Rattle.ol_sim.specs.Judging.{Judges, Admits, valuesIn, from6, whole}
 use Rattle.ol_sim.specs.Starting.{StartReady}
+use Rattle.ol_sim.specs.Answering.{AnswerReady}
 use Rattle.ol_sim.specs.declared.judge.Judged.{Judged}
 use Rattle.ol_sim.specs.declared.judge.Judged.the-variants as Jud
 use Rattle.ol_sim.proofs.Begins.{judge-is}
@@ -53,10 +54,10 @@ eqb-other m n h = go (eqb m n) (λ t. h (eqb→eq m n t))
 -- ---- what was judged
 
 module _ {s rows tab consts : List ℕ} {j : Judged} (r : FileReads s) (h : Judges s (from6 (fileAt s)) rows tab consts j) where
-  pub admits-of : {size main count : ℕ} {low : Bool} → j ≡ Jud.Admitted size main count low → Admits s rows tab consts size main count low
-  admits-of {size} {main} {count} {low} e = subst (λ x. Judges s (from6 (fileAt s)) rows tab consts x) e h .is .1
+  pub admits-of : {size main count : ℕ} → j ≡ Jud.Admitted size main count → Admits s rows tab consts size main count
+  admits-of {size} {main} {count} e = subst (λ x. Judges s (from6 (fileAt s)) rows tab consts x) e h .is .1
 
-  pub judged-whole : {size main count : ℕ} {low : Bool} → j ≡ Jud.Admitted size main count low → Adm.judge relayLoader s ≡ whole (fileAt s)
+  pub judged-whole : {size main count : ℕ} → j ≡ Jud.Admitted size main count → Adm.judge relayLoader s ≡ whole (fileAt s)
   judged-whole e = judge-is s r ∙ subst (λ x. Judges s (from6 (fileAt s)) rows tab consts x) e h .is .0
 
   pub judged-refused : {x : Fault} → j ≡ Jud.Refused x → Adm.judge relayLoader s ≡ Adm.refused (x .number) (x .place)
@@ -73,17 +74,17 @@ pub starts-refused : (s : List ℕ) (st : List ℕ) {x : Fault} → Adm.judge re
 unfolding start
 starts-refused s st {x} e = as-call (startJudged (Adm.refused (x .number) (x .place)) st) (ap (λ j. startJudged j st) e) refl refl
 
-pub starts-done : (s : List ℕ) (st : List ℕ) {t : List ℕ} → Adm.judge relayLoader s ≡ whole (fileAt s) → length st ≡ Adm.stateSize (fileAt s) → t ≡ freshState (fileAt s) (valuesIn (fileAt s)) → StartsAs (start relayLoader s st) Sta.Done t
+pub starts-whole : (s : List ℕ) (st : List ℕ) {r : Started} {t : List ℕ} → Adm.judge relayLoader s ≡ whole (fileAt s) → StartsAs (startJudged (whole (fileAt s)) st) r t → StartsAs (start relayLoader s st) r t
 unfolding start
-starts-done s st e l q =
-    as-call (startFits true (fileAt s) (valuesIn (fileAt s)) st)
-    (ap (λ j. startJudged j st) e ∙ ap (λ b. startFits b (fileAt s) (valuesIn (fileAt s)) st) (eqb-same (length st) (Adm.stateSize (fileAt s)) l)) refl q
+starts-whole s st e h = as-call (startJudged (whole (fileAt s)) st) (ap (λ j. startJudged j st) e) (h .answered) (h .written)
 
-pub starts-unfit : (s : List ℕ) (st : List ℕ) → Adm.judge relayLoader s ≡ whole (fileAt s) → (length st ≡ Adm.stateSize (fileAt s) → ⊥) → StartsAs (start relayLoader s st) (Sta.Refused (faultAt 17 0)) st
-unfolding start
-starts-unfit s st e l =
-    as-call (startFits false (fileAt s) (valuesIn (fileAt s)) st)
-    (ap (λ j. startJudged j st) e ∙ ap (λ b. startFits b (fileAt s) (valuesIn (fileAt s)) st) (eqb-other (length st) (Adm.stateSize (fileAt s)) l)) refl refl
+pub starts-done : (f : File) (st : List ℕ) {t : List ℕ} → length st ≡ Adm.stateSize f → t ≡ freshState f (valuesIn f) → StartsAs (startJudged (whole f) st) Sta.Done t
+starts-done f st l q =
+    as-call (startFits true f (valuesIn f) st) (ap (λ b. startFits b f (valuesIn f) st) (eqb-same (length st) (Adm.stateSize f) l)) refl q
+
+pub starts-unfit : (f : File) (st : List ℕ) → (length st ≡ Adm.stateSize f → ⊥) → StartsAs (startJudged (whole f) st) (Sta.Refused (faultAt 17 0)) st
+starts-unfit f st l =
+    as-call (startFits false f (valuesIn f) st) (ap (λ b. startFits b f (valuesIn f) st) (eqb-other (length st) (Adm.stateSize f) l)) refl refl
 
 -- ---- the main node
 
@@ -103,6 +104,19 @@ operator-kind Imported f e = absurd (some-none e)
 
 pub main-operator : (f : File) (m : ℕ) → suc m ≡ length (f .nodes) → Adm.fault14 f ≡ mathlib.Core.Option.none → nodeOf f m .kind ≡ Operator
 main-operator f m e no14 = ap (λ (n : Node). n .kind) (sym (main-is f m e)) ∙ operator-kind (main f .kind) f no14
+
+-- what writing the fresh state is told
+pub start-ready : {s rows tab consts : List ℕ} {size m : ℕ} (state : List ℕ) → AnswerReady s rows tab consts size m → length state ≡ size → StartReady s rows tab consts m state
+start-ready state h e =
+    record {
+      known = h .running .known;
+      held = h .held .is;
+      long = h .long;
+      last = h .last;
+      operator = h .operator;
+      sized = e ∙ h .sized;
+      small = omega (arith, e, h .small);
+    }
 
 -- ---- lengths
 

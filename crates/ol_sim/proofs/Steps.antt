@@ -51,12 +51,12 @@ use Rattle.ol_sim.proofs.Tables.{tab-whole}
 uncapped : (a : ℕ) → min a 65536 ≤ 32768 → min a 65536 ≡ a
 uncapped a h = by-cases (decLe a 65536) (λ l. min-eq-left l) (λ g. absurd (omega (arith, min-eq-right {n = 65536} {m = a} (omega arith))))
 
-module _ {s rows tab consts : List ℕ} {size main count : ℕ} {low : Bool} where
-  pub main-done : MainReady s rows tab consts size main count low → Adm.fault13 relayLoader (fileAt s) ≡ none → size ≤ 32768 → Adm.fault14 (fileAt s) ≡ none → Judges s (from13 (fileAt s)) rows tab consts (Jud.Admitted size main count low)
+module _ {s rows tab consts : List ℕ} {size main count : ℕ} where
+  pub main-done : MainReady s rows tab consts size main count → Adm.fault13 relayLoader (fileAt s) ≡ none → size ≤ 32768 → Adm.fault14 (fileAt s) ≡ none → Judges s (from13 (fileAt s)) rows tab consts (Jud.Admitted size main count)
   main-done h no13 small no14 =
       passed-by no13 (passed-by no14 (record { is = (refl, admits) }))
     where
-      admits : Admits s rows tab consts size main count low
+      admits : Admits s rows tab consts size main count
       admits = record {
         tables = h .tables;
         sized = h .sized ∙ uncapped (Adm.stateSize (fileAt s)) (subst (λ n. n ≤ 32768) (h .sized) small);
@@ -65,7 +65,6 @@ module _ {s rows tab consts : List ℕ} {size main count : ℕ} {low : Bool} whe
         counted = h .counted;
         held = h .held;
         operator = no14;
-        lows = h .lows;
       }
 
 -- the counts of constants and of nodes, read where the sections start
@@ -128,7 +127,7 @@ module _ {s places rows tab consts : List ℕ} {enums main : ℕ} {c : Sections}
     front j g = List·getD-append x (drop 2560 tab) 0 j (omega (arith, same, orders-room))
 
     -- 6 to 11 do not hold, and all tables are there
-    pub constants-ready : {size : ℕ} → r ≡ Rin.Nothing → (MainSized (fileAt s) main → size ≡ min (Adm.stateSize (fileAt s)) 65536) → ConstantsReady s rows (x ++ drop 2560 tab) consts c size low
+    pub constants-ready : {size : ℕ} → r ≡ Rin.Nothing → (MainSized (fileAt s) main → size ≡ min (Adm.stateSize (fileAt s)) 65536) → ConstantsReady s rows (x ++ drop 2560 tab) consts c size
     constants-ready e z =
         let d = h .sections in
         let st = d .rowed .stands in
@@ -146,7 +145,6 @@ module _ {s places rows tab consts : List ℕ} {enums main : ℕ} {c : Sections}
           sections = d .rowed .sections;
           constsLong = d .constsLong;
           sized = z (h .main-is);
-          lows = h .lows;
         }
 
 -- 7 to 10 do not hold

@@ -2,7 +2,7 @@
 use Prim.Native.Nat.{ℕ, suc, _+_, _*_, _≤_, _<_, min}
 use mathlib.Core.Bool.{Bool, true}
 use mathlib.Core.List.{List, [], _∷_, map}
-use mathlib.Core.Option.{Option, none}
+use mathlib.Core.Option.{Option, none, some}
 use mathlib.Core.Path.{_≡_}
 use lib.ListN.{length, getD, take, drop}
 use Rattle.ol_spec.specs.Syntax.{File}
@@ -11,15 +11,13 @@ use Rattle.ol_spec.specs.Limits.{relayLoader}
 use Rattle.ol_spec.specs.Cell.{cells, valuesOf}
 use Rattle.ol_spec.specs.Admission as Adm
 use Rattle.ol_spec.specs.declared.Value.{Value}
-use Rattle.ol_spec.specs.declared.Verdict.{Verdict}
-use Rattle.ol_spec.specs.declared.Verdict.the-variants as Ver
 use Rattle.ol_tables.specs.At.{fileAt}
 use Rattle.ol_tables.specs.Tables.{Each, Rows, nodeOf, placeOf, firstAt, sizeCap}
 use Rattle.ol_tables.specs.Stands.{FileReads, FileStands}
 use Rattle.ol_ir.specs.Walks as Walks
 use Rattle.ol_check.specs.Founds as Founds
 use Rattle.ol_check.specs.RowsDone.{NodeRow, NodeTypes, SectionsAre}
-use Rattle.ol_check.specs.FileJudged.{NamesWithin, FileJudged}
+use Rattle.ol_check.specs.FileJudged.{NamesWithin, FileJudged, globalTable}
 use Rattle.ol_check.specs.Sizes.{MainSized}
 use Rattle.ol_check.specs.declared.rows.Sections.{Sections}
 use Rattle.ol_check.specs.declared.Faults.{Faults}
@@ -57,7 +55,7 @@ pub record Held (f : File) (consts : List ℕ) : Type 0 where
   pub back : valuesOf (length (valuesIn f)) consts ≡ valuesIn f
 
 -- a file that is admitted: the length of its state, its main node's number, how many constants it has, its tables, and its constants' cells
-pub record Admits (s rows tab consts : List ℕ) (size main count : ℕ) (low : Bool) : Type 0 where
+pub record Admits (s rows tab consts : List ℕ) (size main count : ℕ) : Type 0 where
   pub tables : Admitted s rows tab
   pub sized : size ≡ Adm.stateSize (fileAt s)
   pub small : size ≤ 32768
@@ -65,7 +63,6 @@ pub record Admits (s rows tab consts : List ℕ) (size main count : ℕ) (low : 
   pub counted : count ≡ length (fileAt s .constants)
   pub held : Held (fileAt s) (take (9 * count) consts)
   pub operator : Adm.fault14 (fileAt s) ≡ none
-  pub lows : Low (fileAt s) low
 
 -- the file with its constants' values
 abbrev pub whole : File → Adm.Judged
@@ -74,16 +71,16 @@ whole f = Adm.admitted f (valuesIn f)
 -- what judging gives, where the faults xs are still to be asked
 abbrev pub JudgesBy : List ℕ → List (ℕ × Option ℕ) → List ℕ → List ℕ → List ℕ → Judged → Type 0
 JudgesBy s xs rows tab consts (Jud.Refused x) = Adm.refuseFirst xs (whole (fileAt s)) ≡ Adm.refused (x .number) (x .place)
-JudgesBy s xs rows tab consts (Jud.Admitted size main count low) =
-    (Adm.refuseFirst xs (whole (fileAt s)) ≡ whole (fileAt s)) × Admits s rows tab consts size main count low
+JudgesBy s xs rows tab consts (Jud.Admitted size main count) =
+    (Adm.refuseFirst xs (whole (fileAt s)) ≡ whole (fileAt s)) × Admits s rows tab consts size main count
 
 pub record Judges (s : List ℕ) (xs : List (ℕ × Option ℕ)) (rows tab consts : List ℕ) (r : Judged) : Type 0 where
   pub is : JudgesBy s xs rows tab consts r
 
--- the verdict on a judged file
-abbrev pub verdictOf : Judged → Verdict
-verdictOf (Jud.Refused x) = Ver.Refused x
-verdictOf (Jud.Admitted size main count low) = Ver.Admitted size
+-- the table by name after the walk over the file, which a fault 6 keeps from being made
+abbrev pub namesAfter : Option ℕ → File → List ℕ → List ℕ
+namesAfter (some p) f names = names
+namesAfter none f names = globalTable names f
 
 -- ---- what each step of judging is told
 
@@ -93,12 +90,14 @@ pub record Loads (s : List ℕ) (enums : ℕ) (places : List ℕ) : Type 0 where
   pub counted : length (fileAt s .enums) ≡ enums
   pub placed : places ≡ map Walks.placeOf (placedNodes (fileAt s))
 
--- and buffers for its tables
+-- and buffers for its tables; the slots' part is 0, and has an entry for every name below 1,024
 pub record FileReady (s : List ℕ) (enums : ℕ) (places rows tab consts : List ℕ) : Type 0 where
   pub loads : Loads s enums places
   pub stands : FileStands s (fileAt s)
   pub rowsLong : length rows ≡ 272
   pub tabLong : 9728 + length s ≤ length tab
+  pub wide : 10752 ≤ length tab
+  pub blank : (x : ℕ) → getD (drop 9728 tab) x 0 ≡ 0
   pub constsLong : length consts ≡ 576
 
 -- the rows but for the sizes, and the sections
@@ -167,17 +166,15 @@ pub record OrderReady (s : List ℕ) (enums : ℕ) (places rows tab consts : Lis
   pub sound : Sound (fileAt s)
   pub lows : Low (fileAt s) low
 
-pub record ConstantsReady (s rows tab consts : List ℕ) (c : Sections) (size : ℕ) (low : Bool) : Type 0 where
+pub record ConstantsReady (s rows tab consts : List ℕ) (c : Sections) (size : ℕ) : Type 0 where
   pub tables : Admitted s rows tab
   pub sections : SectionsAre (fileAt s) c
   pub constsLong : length consts ≡ 576
   pub sized : size ≡ min (Adm.stateSize (fileAt s)) sizeCap
-  pub lows : Low (fileAt s) low
 
-pub record MainReady (s rows tab consts : List ℕ) (size main count : ℕ) (low : Bool) : Type 0 where
+pub record MainReady (s rows tab consts : List ℕ) (size main count : ℕ) : Type 0 where
   pub tables : Admitted s rows tab
   pub sized : size ≡ min (Adm.stateSize (fileAt s)) sizeCap
   pub last : suc main ≡ length (fileAt s .nodes)
   pub counted : count ≡ length (fileAt s .constants)
   pub held : Held (fileAt s) (take (9 * count) consts)
-  pub lows : Low (fileAt s) low

@@ -1,4 +1,5 @@
 pub mod Calls
 pub mod Judging
 pub mod Starting
-pub mod Cycling
+pub mod Answering
+pub mod Serving

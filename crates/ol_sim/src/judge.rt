@@ -1,10 +1,8 @@
-// The tables of a file that reads without fault, and faults 6 to 14 in their order.
+// Faults 6 to 14 in their order, and the tables of a file that reads without fault.
 use ol_check::Faults;
 use ol_check::Found;
-use ol_check::clash::sort_file;
 use ol_check::file::faults;
 use ol_check::rows::Sections;
-use ol_check::rows::rows_of;
 use ol_check::size::not_operator;
 use ol_check::size::state_size;
 use ol_order::table::Ring;
@@ -12,35 +10,29 @@ use ol_order::table::orders_of;
 use ol_run::constants;
 use ol_run::constants::constant_values;
 use ol_spec::Fault;
-use ol_spec::Verdict;
 use ol_tables::bytes::byte;
-use ol_tables::tables::LARGE_TAB;
 use ol_tables::tables::PLACE;
-use ol_tables::tables::ROWS;
 use ol_tables::tables::SLOTS;
-use ol_tables::tables::SMALL_TAB;
 use ol_tables::tables::TYPES;
 use ol_tables::tables::row;
 ghost use mathlib.Core.Path.{_≡_};
-ghost use mathlib.Core.Bool.{true};
 ghost use mathlib.Core.Option.{none};
 ghost use Prim.Native.Nat.{suc, _≤_, min};
 ghost use lib.ListN.{length};
 ghost use Rattle.ol_spec.specs.Answers.{faultAt};
 ghost use Rattle.ol_spec.specs.Limits.{relayLoader};
-ghost use Rattle.ol_spec.specs.Admission.{admission, fault6, fault13, stateSize};
+ghost use Rattle.ol_spec.specs.Admission.{fault6, fault13, stateSize};
 ghost use Rattle.ol_tables.specs.At.{fileAt};
 ghost use Rattle.ol_tables.specs.Stands.{FileReads};
 ghost use Rattle.ol_tables.specs.Tables.{Rows, sizeCap};
 ghost use Rattle.ol_check.specs.Founds.{placeOf};
-ghost use Rattle.ol_sim.specs.Calls.{AdmitsAs};
-ghost use Rattle.ol_sim.specs.Judging.{Judges, Low, verdictOf, from6, from7, from11, from12, from13, MainReady, ConstantsReady, OrderReady, ShapesReady, NamesReady, SectionsReady, FileReady, Loads};
+ghost use Rattle.ol_sim.specs.Judging.{Judges, namesAfter, from6, from7, from11, from12, from13, MainReady, ConstantsReady, OrderReady, ShapesReady, NamesReady};
 
-// What judging a file gives: its first fault, or the length of its state, its main node's number, how many
-// constants it has, and whether every declared name is known to be below 1,024.
+// What judging a file gives: its first fault, or the length of its state, its main node's number, and how
+// many constants it has.
 pub(crate) enum Judged {
     Refused(Fault),
-    Admitted(usize, usize, usize, bool),
+    Admitted(usize, usize, usize),
 }
 
 // A fault.
@@ -71,16 +63,15 @@ fn judge_main(
     size: usize,
     main: usize,
     count: usize,
-    low: bool,
 ) -> Judged
-    requires { ⌜ MainReady (now file) (now rows) (now tab) (now consts) size main count low ⌝ }
+    requires { ⌜ MainReady (now file) (now rows) (now tab) (now consts) size main count ⌝ }
     ensures { λ r. ⌜ Judges (now (file .entry)) (from13 (fileAt (now (file .entry)))) (now (rows .entry)) (now (tab .entry)) (now (consts .entry)) r ⌝ }
 {
     match too_long(file, rows, main, size) {
         Found::At(p) => refuse(13, p),
         Found::Nothing => match not_operator(file, rows, main + 1) {
             Found::At(p) => refuse(14, p),
-            Found::Nothing => Judged::Admitted(size, main, count, low),
+            Found::Nothing => Judged::Admitted(size, main, count),
         },
     }
 }
@@ -93,9 +84,8 @@ fn judge_constants(
     consts: &mut [u8],
     sections: Sections,
     size: usize,
-    low: bool,
 ) -> Judged
-    requires { ⌜ ConstantsReady (now file) (now rows) (now tab) (now consts) sections size low ⌝ }
+    requires { ⌜ ConstantsReady (now file) (now rows) (now tab) (now consts) sections size ⌝ }
     ensures { λ r. ⌜ Judges (now (file .entry)) (from12 (fileAt (now (file .entry)))) (now (rows .entry)) (now (tab .entry)) (now (consts .exit)) r ⌝ }
 {
     let c = sections.constants;
@@ -105,7 +95,7 @@ fn judge_constants(
     let end = 9 * count;
     match constant_values(file, tab, rows, nodes, c + 1, count, &mut consts[..end]) {
         constants::Found::Stuck(p) => refuse(12, p),
-        constants::Found::All => judge_main(file, rows, tab, consts, size, nodes - 1, count, low),
+        constants::Found::All => judge_main(file, rows, tab, consts, size, nodes - 1, count),
     }
 }
 
@@ -129,7 +119,7 @@ fn judge_order(
         Ring::Nothing => {
             let c = sections.constants;
             let size = state_size(file, c, main);
-            judge_constants(file, rows, tab, consts, sections, size, low)
+            judge_constants(file, rows, tab, consts, sections, size)
         }
     }
 }
@@ -180,7 +170,7 @@ fn judge_shapes(
 }
 
 // 6 to 14, of which 6 was looked for, with an empty table by name.
-fn judge_names(
+pub(crate) fn judge_names(
     file: &[u8],
     enums: usize,
     places: &[usize],
@@ -194,7 +184,8 @@ fn judge_names(
 ) -> Judged
     requires { ⌜ NamesReady (now file) enums (now places) (now rows) (now tab) (now names) (now consts) sections low ⌝ }
     requires { ⌜ placeOf clash ≡ fault6 (fileAt (now file)) ⌝ }
-    ensures { λ r. ⌜ Judges (now (file .entry)) (from6 (fileAt (now (file .entry)))) (now (rows .exit)) (now (tab .exit)) (now (consts .exit)) r ⌝ }
+    ensures judged { λ r. ⌜ Judges (now (file .entry)) (from6 (fileAt (now (file .entry)))) (now (rows .exit)) (now (tab .exit)) (now (consts .exit)) r ⌝ }
+    ensures named { λ _. ⌜ now (names .exit) ≡ namesAfter (fault6 (fileAt (now (file .entry)))) (fileAt (now (file .entry))) (now (names .entry)) ⌝ }
 {
     match clash {
         Found::At(p) => refuse(6, p),
@@ -203,120 +194,4 @@ fn judge_names(
             judge_shapes(file, enums, places, rows, tab, consts, sections, low, found)
         }
     }
-}
-
-// With every declared name below 1,024.
-fn judge_low(
-    file: &[u8],
-    enums: usize,
-    places: &[usize],
-    rows: &mut [usize],
-    tab: &mut [u8],
-    consts: &mut [u8],
-    sections: Sections,
-    clash: Found,
-) -> Judged
-    requires { ⌜ SectionsReady (now file) enums (now places) (now rows) (now tab) (now consts) sections × Low (fileAt (now file)) true ⌝ }
-    requires { ⌜ placeOf clash ≡ fault6 (fileAt (now file)) ⌝ }
-    ensures { λ r. ⌜ Judges (now (file .entry)) (from6 (fileAt (now (file .entry)))) (now (rows .exit)) (now (tab .exit)) (now (consts .exit)) r ⌝ }
-{
-    let mut names = [0u8; 1024];
-    judge_names(
-        file,
-        enums,
-        places,
-        rows,
-        tab,
-        &mut names,
-        consts,
-        sections,
-        true,
-        clash,
-    )
-}
-
-// With any names.
-fn judge_high(
-    file: &[u8],
-    enums: usize,
-    places: &[usize],
-    rows: &mut [usize],
-    tab: &mut [u8],
-    consts: &mut [u8],
-    sections: Sections,
-) -> Judged
-    requires { ⌜ SectionsReady (now file) enums (now places) (now rows) (now tab) (now consts) sections ⌝ }
-    ensures { λ r. ⌜ Judges (now (file .entry)) (from6 (fileAt (now (file .entry)))) (now (rows .exit)) (now (tab .exit)) (now (consts .exit)) r ⌝ }
-{
-    let mut sorts = [0u8; 65536];
-    let s = sort_file(file, rows, sections, &mut sorts);
-    let clash = s.found;
-    let mut names = [0u8; 65536];
-    judge_names(
-        file,
-        enums,
-        places,
-        rows,
-        tab,
-        &mut names,
-        consts,
-        sections,
-        false,
-        clash,
-    )
-}
-
-// Judges a file that reads without fault, and writes its tables and its constants' cells.
-pub(crate) fn judge(
-    file: &[u8],
-    enums: usize,
-    places: &[usize],
-    rows: &mut [usize],
-    tab: &mut [u8],
-    consts: &mut [u8],
-) -> Judged
-    requires { ⌜ FileReady (now file) enums (now places) (now rows) (now tab) (now consts) ⌝ }
-    ensures { λ r. ⌜ Judges (now (file .entry)) (from6 (fileAt (now (file .entry)))) (now (rows .exit)) (now (tab .exit)) (now (consts .exit)) r ⌝ }
-{
-    let sections = rows_of(file, places, rows, &mut tab[TYPES..SLOTS]);
-    let mut sorts = [0u8; 1024];
-    let s = sort_file(file, rows, sections, &mut sorts);
-    let clash = s.found;
-    if s.low {
-        judge_low(file, enums, places, rows, tab, consts, sections, clash)
-    } else {
-        judge_high(file, enums, places, rows, tab, consts, sections)
-    }
-}
-
-// The verdict on a judged file.
-fn verdict_on(j: Judged) -> Verdict
-    ensures { λ r. ⌜ r ≡ verdictOf j ⌝ }
-{
-    match j {
-        Judged::Refused(f) => Verdict::Refused(f),
-        Judged::Admitted(size, _, _, _) => Verdict::Admitted(size),
-    }
-}
-
-// Admission of a file of at most 1,024 bytes.
-pub(crate) fn admit_small(file: &[u8], enums: usize, places: &[usize]) -> Verdict
-    requires { ⌜ Loads (now file) enums (now places) × (length (now file) ≤ 1024) ⌝ }
-    ensures { λ r. ⌜ AdmitsAs (admission relayLoader (now (file .entry))) r ⌝ }
-{
-    let mut rows = [0usize; ROWS];
-    let mut tab = [0u8; SMALL_TAB];
-    let mut consts = [0u8; 576];
-    verdict_on(judge(file, enums, places, &mut rows, &mut tab, &mut consts))
-}
-
-// Admission of any file.
-pub(crate) fn admit_large(file: &[u8], enums: usize, places: &[usize]) -> Verdict
-    requires { ⌜ Loads (now file) enums (now places) ⌝ }
-    ensures { λ r. ⌜ AdmitsAs (admission relayLoader (now (file .entry))) r ⌝ }
-{
-    let mut rows = [0usize; ROWS];
-    let mut tab = [0u8; LARGE_TAB];
-    let mut consts = [0u8; 576];
-    verdict_on(judge(file, enums, places, &mut rows, &mut tab, &mut consts))
 }

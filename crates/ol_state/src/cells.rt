@@ -20,7 +20,7 @@ fn is_variant(variants: &[u8], v: Value) -> bool
         Value::Int(_) => true,
         Value::Float(_) => true,
         Value::Float32(_) => true,
-        Value::Enum(w) => byte(variants, w as usize) == 1,
+        Value::Enum(w) => byte(variants, w as usize) == 255,
     }
 }
 

@@ -155,9 +155,9 @@ pub record Tab (f : File) (size : ℕ) (tab : List ℕ) : Type 0 where
 
 -- ---- variants
 
--- a table of bytes by name: 1 for these names, another byte for every other
+-- a table of bytes by name: 255 for these names, another byte for every other
 abbrev pub Tells : List ℕ → List ℕ → Type 0
-Tells table names = (x : ℕ) → eqb (getD table x 0) 1 ≡ member x names
+Tells table names = (x : ℕ) → eqb (getD table x 0) 255 ≡ member x names
 
 -- of the variants of all enums
 pub record Variants (f : File) (table : List ℕ) : Type 0 where

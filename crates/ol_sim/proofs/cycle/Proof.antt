@@ -1,106 +1,34 @@
 -- <uses>
-use mathlib.Core.Path.{_≡_, refl, sym, ap, _∙_}
-use native.Mathlib.Omega.{arith}
-use lib.Seq.{length-take-le}
-use Rattle.ol_tables.proofs.HeadsFile.{bytes-of, file-stands}
-use Rattle.ol_sim.proofs.Reading.{file-reads, loads, few-places}
-use Rattle.ol_sim.proofs.Cycles.{cycle-unread}
+use Rattle.ol_sim.proofs.Serving.{cycle-answers}
 -- </uses>
 use borrow.Author.Needs.{needs}
 use Rattle.ol_sim.proofs.cycle.Statement.{statement}
 use Rattle.ol_sim.proofs.cycle.Tie as tie
 use Rattle.ol_sim.proofs.cycle.Reads as reads
 use Rattle.ol_sim.proofs.cycle.Lts as lts
-use Rattle.ol_ir.proofs.project.load_file.Reads as load-file-reads
-use Rattle.ol_sim.proofs.cycling.cycle_large.Reads as cycle-large-reads
-use Rattle.ol_sim.proofs.cycling.cycle_small.Reads as cycle-small-reads
+use Rattle.ol_sim.proofs.calls.cycled_of.Reads as cycled-of-reads
+use Rattle.ol_sim.proofs.serve.serve.Reads as serve-reads
 
--- src/lib.rt:73:27
-slice-aggregate-load-file : tie.Need-slice-aggregate-load-file
-slice-aggregate-load-file c = search needs
+-- src/lib.rt:53:15
+serve-requires : tie.Need-serve-requires
+serve-requires c κs = search needs
 
--- src/lib.rt:73:11
-load-file-requires : tie.Need-load-file-requires
-load-file-requires c κs = search needs
+-- src/lib.rt:53:5
+cycled-of-requires : tie.Need-cycled-of-requires
+cycled-of-requires c κs = search needs
 
--- src/lib.rt:74:23
-enum-known-enums : tie.Need-enum-known-enums
-enum-known-enums c = search needs
-
--- src/lib.rt:75:26
-array-share-prefix-starts : tie.Need-array-share-prefix-starts
-array-share-prefix-starts c =
-    let start = c .before .before .before .before .before .before .before .before .before .before .before in
-    (omega (arith, few-places (start .args .file .now) (c .before .before .before .before .load-file .ensures .0) (c .before .enums .given .1) (file-stands (bytes-of (start .args .file .now) (λ i. omega (arith, c .before .before .before .before .before .before .before .before .before .before .shared-slice-known .given i))) (file-reads (start .args .file .now) (c .before .before .before .before .load-file .ensures .0) (c .before .enums .given .1))), c .before .before .before .before .load-file .kept .1 .0))
-
--- src/lib.rt:75:17
-slice-aggregate-places : tie.Need-slice-aggregate-places
-slice-aggregate-places c =
-    let start = c .before .before .before .before .before .before .before .before .before .before .before .before in
-    sym (length-take-le _ _ (omega (arith, few-places (start .args .file .now) (c .before .before .before .before .before .load-file .ensures .0) (c .before .before .enums .given .1) (file-stands (bytes-of (start .args .file .now) (λ i. omega (arith, c .before .before .before .before .before .before .before .before .before .before .before .shared-slice-known .given i))) (file-reads (start .args .file .now) (c .before .before .before .before .before .load-file .ensures .0) (c .before .before .enums .given .1))), c .before .before .before .before .before .load-file .kept .1 .0)))
-
--- src/lib.rt:77:17
-cycle-small-requires : tie.Need-cycle-small-requires
-cycle-small-requires c κs =
-    let start = c .before .before .before .before .before .before .before .before .before .before .before .before .before .before .before in
-    ((loads (start .args .file .now) (c .before .before .before .before .before .before .before .before .load-file .ensures .0) (c .before .before .before .before .before .enums .given .1) (file-stands (bytes-of (start .args .file .now) (λ i. omega (arith, c .before .before .before .before .before .before .before .before .before .before .before .before .before .before .shared-slice-known .given i))) (file-reads (start .args .file .now) (c .before .before .before .before .before .before .before .before .load-file .ensures .0) (c .before .before .before .before .before .enums .given .1))) (c .before .before .before .before .before .before .before .before .load-file .ensures .1 .0)), c .before .before .if1 .taken)
-
--- src/lib.rt:79:17
-cycle-large-requires : tie.Need-cycle-large-requires
-cycle-large-requires c κs =
-    let start = c .before .before .before .before .before .before .before .before .before .before .before .before .before .before .before in
-    (loads (start .args .file .now) (c .before .before .before .before .before .before .before .before .load-file .ensures .0) (c .before .before .before .before .before .enums .given .1) (file-stands (bytes-of (start .args .file .now) (λ i. omega (arith, c .before .before .before .before .before .before .before .before .before .before .before .before .before .before .shared-slice-known .given i))) (file-reads (start .args .file .now) (c .before .before .before .before .before .before .before .before .load-file .ensures .0) (c .before .before .before .before .before .enums .given .1))) (c .before .before .before .before .before .before .before .before .load-file .ensures .1 .0))
-
--- src/lib.rt:82:25
-enum-known-f : tie.Need-enum-known-f
-enum-known-f c = search needs
-
--- src/lib.rt:69:1
+-- src/lib.rt:50:1
 same-length : tie.Need-same-length
 same-length c = search needs
 
--- src/lib.rt:69:1
+-- src/lib.rt:50:1
 same-length-2 : tie.Need-same-length-2
 same-length-2 c = search needs
 
--- src/lib.rt:69:1
+-- src/lib.rt:50:1
 returns : tie.Need-returns
-returns c = search needs
-
--- src/lib.rt:69:1
-same-length-3 : tie.Need-same-length-3
-same-length-3 c = search needs
-
--- src/lib.rt:69:1
-same-length-4 : tie.Need-same-length-4
-same-length-4 c = search needs
-
--- src/lib.rt:69:1
-returns-2 : tie.Need-returns-2
-returns-2 c = search needs
-
--- src/lib.rt:69:1
-returns-3 : tie.Need-returns-3
-returns-3 c =
-    let start = c .before .before .before .before .before .before .before .before .before .before .before in
-    cycle-unread (start .args .file .now) (start .args .old .now) (start .args .inputs .now) (start .args .new .now) (start .args .values .now) (c .before .before .before .before .load-file .ensures .0) (c .before .f .given .1)
+returns c = cycle-answers (c .cycled-of .ensures) (c .before .before .before .before .before .serve .ensures .is)
 
 pub cycle-spec : {M : Type 1} → statement M
 cycle-spec =
-    tie.close
-    (tie.spec
-    slice-aggregate-load-file
-    load-file-requires
-    enum-known-enums
-    array-share-prefix-starts
-    slice-aggregate-places
-    cycle-small-requires
-    cycle-large-requires
-    enum-known-f
-    same-length
-    same-length-2
-    returns
-    same-length-3
-    same-length-4
-    returns-2
-    returns-3)
+    tie.close (tie.spec serve-requires cycled-of-requires same-length same-length-2 returns)

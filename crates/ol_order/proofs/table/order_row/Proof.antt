@@ -30,7 +30,7 @@ returns c = c .before .before .order-low .ensures
 
 -- src/table.rt:118:1
 same-length-2 : tie.Need-same-length-2
-same-length-2 c = c .before .before .order-high .kept .1 .1 .1 .1 .0
+same-length-2 c = c .before .before .order-high .kept .1 .1 .1 .1 .1 .0
 
 -- src/table.rt:118:1
 returns-2 : tie.Need-returns-2

@@ -22,13 +22,13 @@ use Rattle.ol_state.proofs.good_state.Reads as good-state-reads
 good-state-requires : tie.Need-good-state-requires
 good-state-requires c κs =
     let start = c .before .before .before .before .before .before .before .before .before in
-    state-ready (start .pre)
+    state-ready (start .pre .0) (start .pre .1)
 
 -- src/cycling.rt:48:12
 good-inputs-requires : tie.Need-good-inputs-requires
 good-inputs-requires c κs =
     let start = c .before .before .before .before .before .before .before .before .before .before .before in
-    ((start .pre .ready) .running .known, start .pre .tells)
+    ((start .pre .0) .running .known, start .pre .1)
 
 -- src/cycling.rt:50:21
 row-requires : tie.Need-row-requires
@@ -38,13 +38,13 @@ row-requires c κs = tt
 mul-if4 : tie.Need-mul-if4
 mul-if4 c =
     let start = c .before .before .before .before .before .before .before .before .before .before .before .before .before .before .before in
-    omega (arith, c .row .ensures, (start .pre .ready) .tables .rowed .rowsOf (start .args .main) (omega (arith, (start .pre .ready) .last)) .variables, width ((start .pre .ready) .tables .stands) (start .args .main) (omega (arith, (start .pre .ready) .last)))
+    omega (arith, c .row .ensures, (start .pre .0) .tables .rowed .rowsOf (start .args .main) (omega (arith, (start .pre .0) .last)) .variables, width ((start .pre .0) .tables .stands) (start .args .main) (omega (arith, (start .pre .0) .last)))
 
 -- src/cycling.rt:52:21
 run-main-requires : tie.Need-run-main-requires
 run-main-requires c κs =
     let start = c .before .before .before .before .before .before .before .before .before .before .before .before .before .before .before .before .before .before in
-    run-ready (start .args .old .now) (start .args .inputs .now) (start .args .new .now) (start .args .values .now) (start .pre .ready) ((sym (c .before .before .before .before .before .before .before .before .good-state .ensures (valuesIn (fileAt (start .args .file .now))) ((start .pre .ready) .held .is))) ∙ c .before .before .before .before .before .before .before .if1 .taken) ((sym (c .before .before .before .before .before .before .good-inputs .ensures)) ∙ c .before .before .before .before .before .if2 .taken) (c .before .before .before .row .ensures) (c .before .before .before .before .if3 .taken) (c .before .before .if4 .taken)
+    run-ready (start .args .old .now) (start .args .inputs .now) (start .args .new .now) (start .args .values .now) (start .pre .0) ((sym (c .before .before .before .before .before .before .before .before .good-state .ensures (valuesIn (fileAt (start .args .file .now))) ((start .pre .0) .held .is))) ∙ c .before .before .before .before .before .before .before .if1 .taken) ((sym (c .before .before .before .before .before .before .good-inputs .ensures)) ∙ c .before .before .before .before .before .if2 .taken) (c .before .before .before .row .ensures) (c .before .before .before .before .if3 .taken) (c .before .before .if4 .taken)
 
 -- src/cycling.rt:54:21
 refuse-requires : tie.Need-refuse-requires
@@ -74,31 +74,31 @@ same-length-2 c = search needs
 returns : tie.Need-returns
 returns c =
     let start = c .before .before .before .before .before .before .before .before .before .before .before .before .before .before .before .before .before .before .before .before .before .before .before in
-    unless-run (fileAt (start .args .file .now)) (start .args .old .now) (start .args .inputs .now) (start .args .new .now) (start .args .values .now) ((sym (c .before .before .before .before .before .before .before .before .before .before .before .before .before .good-state .ensures (valuesIn (fileAt (start .args .file .now))) ((start .pre .ready) .held .is))) ∙ c .before .before .before .before .before .before .before .before .before .before .before .before .if1 .taken) ((sym (c .before .before .before .before .before .before .before .before .before .before .before .good-inputs .ensures)) ∙ c .before .before .before .before .before .before .before .before .before .before .if2 .taken) (fits-yes (start .pre .ready) (start .args .new .now) (start .args .values .now) (c .before .before .before .before .before .before .before .before .row .ensures) (c .before .before .before .before .before .before .before .before .before .if3 .taken) (c .before .before .before .before .before .before .before .if4 .taken)) (c .before .before .before .before .run-main .ensures (valuesIn (fileAt (start .args .file .now))) (values-many (start .pre .ready)) ((start .pre .ready) .held .back))
+    unless-run (fileAt (start .args .file .now)) (start .args .old .now) (start .args .inputs .now) (start .args .new .now) (start .args .values .now) ((sym (c .before .before .before .before .before .before .before .before .before .before .before .before .before .good-state .ensures (valuesIn (fileAt (start .args .file .now))) ((start .pre .0) .held .is))) ∙ c .before .before .before .before .before .before .before .before .before .before .before .before .if1 .taken) ((sym (c .before .before .before .before .before .before .before .before .before .before .before .good-inputs .ensures)) ∙ c .before .before .before .before .before .before .before .before .before .before .if2 .taken) (fits-yes (start .pre .0) (start .args .new .now) (start .args .values .now) (c .before .before .before .before .before .before .before .before .row .ensures) (c .before .before .before .before .before .before .before .before .before .if3 .taken) (c .before .before .before .before .before .before .before .if4 .taken)) (c .before .before .before .before .run-main .ensures (valuesIn (fileAt (start .args .file .now))) (values-many (start .pre .0)) ((start .pre .0) .held .back))
 
 -- src/cycling.rt:31:1
 returns-2 : tie.Need-returns-2
 returns-2 c =
     let start = c .before .before .before .before .before .before .before .before .before .before .before .before .before .before .before .before .before in
-    unless-17 (fileAt (start .args .file .now)) (start .args .old .now) (start .args .inputs .now) (start .args .new .now) (start .args .values .now) ((sym (c .before .before .before .before .before .before .before .good-state .ensures (valuesIn (fileAt (start .args .file .now))) ((start .pre .ready) .held .is))) ∙ c .before .before .before .before .before .before .if1 .taken) ((sym (c .before .before .before .before .before .good-inputs .ensures)) ∙ c .before .before .before .before .if2 .taken) (fits-values (start .pre .ready) (start .args .new .now) (start .args .values .now) (c .before .before .row .ensures) (c .before .before .before .if3 .taken) (c .before .if4 .left)) (c .refuse .ensures)
+    unless-17 (fileAt (start .args .file .now)) (start .args .old .now) (start .args .inputs .now) (start .args .new .now) (start .args .values .now) ((sym (c .before .before .before .before .before .before .before .good-state .ensures (valuesIn (fileAt (start .args .file .now))) ((start .pre .0) .held .is))) ∙ c .before .before .before .before .before .before .if1 .taken) ((sym (c .before .before .before .before .before .good-inputs .ensures)) ∙ c .before .before .before .before .if2 .taken) (fits-values (start .pre .0) (start .args .new .now) (start .args .values .now) (c .before .before .row .ensures) (c .before .before .before .if3 .taken) (c .before .if4 .left)) (c .refuse .ensures)
 
 -- src/cycling.rt:31:1
 returns-3 : tie.Need-returns-3
 returns-3 c =
     let start = c .before .before .before .before .before .before .before .before .before .before .before .before .before .before .before in
-    unless-17 (fileAt (start .args .file .now)) (start .args .old .now) (start .args .inputs .now) (start .args .new .now) (start .args .values .now) ((sym (c .before .before .before .before .before .good-state .ensures (valuesIn (fileAt (start .args .file .now))) ((start .pre .ready) .held .is))) ∙ c .before .before .before .before .if1 .taken) ((sym (c .before .before .before .good-inputs .ensures)) ∙ c .before .before .if2 .taken) (fits-new (start .pre .ready) (start .args .new .now) (start .args .values .now) (c .before .if3 .left)) (c .refuse2 .ensures)
+    unless-17 (fileAt (start .args .file .now)) (start .args .old .now) (start .args .inputs .now) (start .args .new .now) (start .args .values .now) ((sym (c .before .before .before .before .before .good-state .ensures (valuesIn (fileAt (start .args .file .now))) ((start .pre .0) .held .is))) ∙ c .before .before .before .before .if1 .taken) ((sym (c .before .before .before .good-inputs .ensures)) ∙ c .before .before .if2 .taken) (fits-new (start .pre .0) (start .args .new .now) (start .args .values .now) (c .before .if3 .left)) (c .refuse2 .ensures)
 
 -- src/cycling.rt:31:1
 returns-4 : tie.Need-returns-4
 returns-4 c =
     let start = c .before .before .before .before .before .before .before .before .before .before .before .before .before .before in
-    unless-16 (fileAt (start .args .file .now)) (start .args .old .now) (start .args .inputs .now) (start .args .new .now) (start .args .values .now) ((sym (c .before .before .before .before .good-state .ensures (valuesIn (fileAt (start .args .file .now))) ((start .pre .ready) .held .is))) ∙ c .before .before .before .if1 .taken) ((sym (c .before .before .good-inputs .ensures)) ∙ c .before .if2 .left) (c .refuse3 .ensures)
+    unless-16 (fileAt (start .args .file .now)) (start .args .old .now) (start .args .inputs .now) (start .args .new .now) (start .args .values .now) ((sym (c .before .before .before .before .good-state .ensures (valuesIn (fileAt (start .args .file .now))) ((start .pre .0) .held .is))) ∙ c .before .before .before .if1 .taken) ((sym (c .before .before .good-inputs .ensures)) ∙ c .before .if2 .left) (c .refuse3 .ensures)
 
 -- src/cycling.rt:31:1
 returns-5 : tie.Need-returns-5
 returns-5 c =
     let start = c .before .before .before .before .before .before .before .before .before .before .before .before in
-    unless-15 (fileAt (start .args .file .now)) (start .args .old .now) (start .args .inputs .now) (start .args .new .now) (start .args .values .now) ((sym (c .before .before .good-state .ensures (valuesIn (fileAt (start .args .file .now))) ((start .pre .ready) .held .is))) ∙ c .before .if1 .left) (c .refuse4 .ensures)
+    unless-15 (fileAt (start .args .file .now)) (start .args .old .now) (start .args .inputs .now) (start .args .new .now) (start .args .values .now) ((sym (c .before .before .good-state .ensures (valuesIn (fileAt (start .args .file .now))) ((start .pre .0) .held .is))) ∙ c .before .if1 .left) (c .refuse4 .ensures)
 
 pub cycle-unless-spec : {M : Type 1} → statement M
 cycle-unless-spec =

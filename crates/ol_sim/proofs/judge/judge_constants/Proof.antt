@@ -80,7 +80,7 @@ sub-judge-main c =
 judge-main-requires : tie.Need-judge-main-requires
 judge-main-requires c κs =
     let start = c .before .before .before .before .before .before .before .before .before .before .before .before .before in
-    record { tables = start .pre .tables; sized = start .pre .sized; last = omega (arith, (count-nodes (start .pre .tables .stands) (start .pre .sections) (c .before .before .before .before .before .before .before .byte2 .ensures .is)), start .pre .tables .stands .someNode); counted = (count-constants (start .pre .tables .stands) (start .pre .sections) (c .before .before .before .before .before .before .before .before .byte .ensures .is)); held = front-held (fileAt (start .args .file .now)) (9 * c .before .before .before .before .before .before .before .before .byte .result) (start .args .consts .now) (c .before .before .before .before .before .constant-values .last .1 .1 .1 .1 .1 .1 .0) (omega (arith, (count-constants (start .pre .tables .stands) (start .pre .sections) (c .before .before .before .before .before .before .before .before .byte .ensures .is)), start .pre .constsLong, start .pre .tables .stands .fewConstants)) (c .before .before .before .before .before .constant-values .kept .1 .1 .1 .1 .1 .1 .0) (all-held (fileAt (start .args .file .now)) (c .before .before .before .before .before .constant-values .last .1 .1 .1 .1 .1 .1 .0) (c .before .before .before .before .before .constant-values .ensures) (c .before .enum-told .given .1) .1); lows = start .pre .lows }
+    record { tables = start .pre .tables; sized = start .pre .sized; last = omega (arith, (count-nodes (start .pre .tables .stands) (start .pre .sections) (c .before .before .before .before .before .before .before .byte2 .ensures .is)), start .pre .tables .stands .someNode); counted = (count-constants (start .pre .tables .stands) (start .pre .sections) (c .before .before .before .before .before .before .before .before .byte .ensures .is)); held = front-held (fileAt (start .args .file .now)) (9 * c .before .before .before .before .before .before .before .before .byte .result) (start .args .consts .now) (c .before .before .before .before .before .constant-values .last .1 .1 .1 .1 .1 .1 .0) (omega (arith, (count-constants (start .pre .tables .stands) (start .pre .sections) (c .before .before .before .before .before .before .before .before .byte .ensures .is)), start .pre .constsLong, start .pre .tables .stands .fewConstants)) (c .before .before .before .before .before .constant-values .kept .1 .1 .1 .1 .1 .1 .0) (all-held (fileAt (start .args .file .now)) (c .before .before .before .before .before .constant-values .last .1 .1 .1 .1 .1 .1 .0) (c .before .before .before .before .before .constant-values .ensures) (c .before .enum-told .given .1) .1) }
 
 -- src/judge.rt:82:1
 same-length : tie.Need-same-length

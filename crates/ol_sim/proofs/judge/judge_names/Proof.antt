@@ -3,6 +3,8 @@ use mathlib.Core.Path.{_≡_, refl, sym, ap, _∙_}
 use Prim.Native.Nat.{_+_, _-_, _≤_, _<_}
 use native.Mathlib.Omega.{arith}
 use Rattle.ol_check.specs.Founds.{placeOf}
+use Rattle.ol_tables.specs.At.{fileAt}
+use Rattle.ol_sim.specs.Judging.{namesAfter}
 use Rattle.ol_sim.proofs.Chain.{refused-at, passed-by}
 use Rattle.ol_sim.proofs.Begins.{faults-ready, shapes-ready}
 use Rattle.ol_tables.proofs.Lending.{length-put}
@@ -56,7 +58,7 @@ judge-shapes-requires c κs =
 returns : tie.Need-returns
 returns c =
     let start = c .before .before .before .before .before .before .before .before .before .before in
-    refused-at (c .refuse .ensures) (sym (start .pre .1) ∙ ap placeOf (c .before .before .clash .given .1))
+    (refused-at (c .refuse .ensures) (sym (start .pre .1) ∙ ap placeOf (c .before .before .clash .given .1)), sym (ap (λ o. namesAfter o (fileAt (start .args .file .now)) (start .args .names .now)) (sym (start .pre .1) ∙ ap placeOf (c .before .before .clash .given .1))))
 
 -- src/judge.rt:176:1
 same-length : tie.Need-same-length
@@ -78,7 +80,7 @@ same-length-4 c = search needs
 returns-2 : tie.Need-returns-2
 returns-2 c =
     let start = c .before .before .before .before .before .before .before .before .before .before .before .before .before .before .before .before .before .before .before .before .before .before .before .before .before .before in
-    passed-by (sym (start .pre .1) ∙ ap placeOf (c .before .before .before .before .before .before .before .before .before .before .before .before .before .before .before .before .before .before .enum-told .given .1)) (c .before .before .before .before .judge-shapes .ensures)
+    (passed-by (sym (start .pre .1) ∙ ap placeOf (c .before .before .before .before .before .before .before .before .before .before .before .before .before .before .before .before .before .before .enum-told .given .1)) (c .before .before .before .before .judge-shapes .ensures), c .before .before .before .before .before .before .before .before .before .before .before .before .before .before .faults .ensures .entered ∙ sym (ap (λ o. namesAfter o (fileAt (start .args .file .now)) (start .args .names .now)) (sym (start .pre .1) ∙ ap placeOf (c .before .before .before .before .before .before .before .before .before .before .before .before .before .before .before .before .before .before .enum-told .given .1))))
 
 pub judge-names-spec : {M : Type 1} → statement M
 judge-names-spec =

@@ -56,7 +56,7 @@ returns-4 c = λ names tells. ap (isVariant names) (sym (c .enum-told4 .given .1
 
 -- src/cells.rt:14:1
 returns-5 : tie.Need-returns-5
-returns-5 c = λ names tells. ap (λ x. eqb x 1) (c .byte .ensures .is) ∙ tells _ ∙ ap (isVariant names) (sym (c .before .before .v .given .1))
+returns-5 c = λ names tells. ap (λ x. eqb x 255) (c .byte .ensures .is) ∙ tells _ ∙ ap (isVariant names) (sym (c .before .before .v .given .1))
 
 pub is-variant-spec : {M : Type 1} → statement M
 is-variant-spec =

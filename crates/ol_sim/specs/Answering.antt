@@ -1,0 +1,23 @@
+-- What answering the call of an admitted file is told.
+use Prim.Native.Nat.{ℕ, suc, _*_, _≤_}
+use mathlib.Core.List.{List}
+use mathlib.Core.Path.{_≡_}
+use lib.ListN.{length}
+use Rattle.ol_spec.specs.Syntax.{Operator}
+use Rattle.ol_spec.specs.Admission.{stateSize}
+use Rattle.ol_tables.specs.At.{fileAt}
+use Rattle.ol_tables.specs.Tables.{nodeOf}
+use Rattle.ol_frame.specs.Nodes.{Running}
+use Rattle.ol_run.specs.Admitted.{Admitted}
+use Rattle.ol_sim.specs.Judging.{Held}
+
+-- an admitted file: its tables, the length of its state, its constants' cells, and its main node
+pub record AnswerReady (s rows tab consts : List ℕ) (size main : ℕ) : Type 0 where
+  pub tables : Admitted s rows tab
+  pub running : Running s tab rows consts
+  pub sized : size ≡ stateSize (fileAt s)
+  pub small : size ≤ 32768
+  pub held : Held (fileAt s) consts
+  pub long : length consts ≡ 9 * length (fileAt s .constants)
+  pub last : suc main ≡ length (fileAt s .nodes)
+  pub operator : nodeOf (fileAt s) main .kind ≡ Operator

@@ -1,0 +1,389 @@
+// The one way of every public call: the file is loaded, the lengths of its tables are chosen, it is judged, and the call is answered.
+use crate::calls::Answer;
+use crate::calls::Call;
+use crate::calls::answer_of;
+use crate::cycling::cycle_unless;
+use crate::judge::Judged;
+use crate::judge::judge_names;
+use crate::starting::start_unless;
+use ol_check::Found;
+use ol_check::clash::sort_file;
+use ol_check::rows::Sections;
+use ol_check::rows::rows_of;
+use ol_ir::Loaded;
+use ol_ir::project::load_file;
+use ol_tables::tables::LARGE_TAB;
+use ol_tables::tables::ROWS;
+use ol_tables::tables::SLOTS;
+use ol_tables::tables::SMALL_TAB;
+use ol_tables::tables::TYPES;
+ghost use mathlib.Core.Path.{_≡_};
+ghost use mathlib.Core.Bool.{true};
+ghost use Prim.Native.Nat.{_≤_};
+ghost use lib.ListN.{length};
+ghost use Rattle.ol_spec.specs.Limits.{relayLoader};
+ghost use Rattle.ol_spec.specs.Admission.{fault6, judge};
+ghost use Rattle.ol_tables.specs.At.{fileAt};
+ghost use Rattle.ol_check.specs.Founds.{placeOf};
+ghost use Rattle.ol_sim.specs.Judging.{Low, NamesReady, SectionsReady, FileReady, Loads, whole};
+ghost use Rattle.ol_tables.specs.Tables.{Variants};
+ghost use Rattle.ol_sim.specs.Answering.{AnswerReady};
+ghost use Rattle.ol_sim.specs.Serving.{Serves};
+
+// Answers the call of an admitted file, whose tables are written.
+fn answer(
+    call: Call,
+    file: &[u8],
+    tab: &[u8],
+    rows: &[usize],
+    names: &[u8],
+    consts: &[u8],
+    size: usize,
+    main: usize,
+    old: &[u8],
+    inputs: &[u8],
+    new: &mut [u8],
+    values: &mut [u8],
+) -> Answer
+    requires { ⌜ AnswerReady (now file) (now rows) (now tab) (now consts) size main × Variants (fileAt (now file)) (now names) ⌝ }
+    requires { ⌜ judge relayLoader (now file) ≡ whole (fileAt (now file)) ⌝ }
+    ensures { λ r. ⌜ Serves call (now (file .entry)) (now (old .entry)) (now (inputs .entry)) (now (new .entry)) (now (values .entry)) r (now (new .exit)) (now (values .exit)) ⌝ }
+{
+    match call {
+        Call::Admit => Answer::Done(size),
+        Call::Start => start_unless(file, tab, rows, consts, size, main, new),
+        Call::Cycle => answer_of(
+            size,
+            cycle_unless(
+                file,
+                tab,
+                rows,
+                names,
+                consts,
+                size,
+                main,
+                old,
+                inputs,
+                new,
+                values,
+            ),
+        ),
+    }
+}
+
+// Judges with an empty table by name, and answers.
+fn serve_named(
+    call: Call,
+    file: &[u8],
+    enums: usize,
+    places: &[usize],
+    rows: &mut [usize],
+    tab: &mut [u8],
+    names: &mut [u8],
+    consts: &mut [u8],
+    sections: Sections,
+    low: bool,
+    clash: Found,
+    old: &[u8],
+    inputs: &[u8],
+    new: &mut [u8],
+    values: &mut [u8],
+) -> Answer
+    requires { ⌜ NamesReady (now file) enums (now places) (now rows) (now tab) (now names) (now consts) sections low ⌝ }
+    requires { ⌜ placeOf clash ≡ fault6 (fileAt (now file)) ⌝ }
+    ensures { λ r. ⌜ Serves call (now (file .entry)) (now (old .entry)) (now (inputs .entry)) (now (new .entry)) (now (values .entry)) r (now (new .exit)) (now (values .exit)) ⌝ }
+{
+    match judge_names(
+        file,
+        enums,
+        places,
+        rows,
+        tab,
+        names,
+        consts,
+        sections,
+        low,
+        clash,
+    ) {
+        Judged::Refused(f) => Answer::Refused(f),
+        Judged::Admitted(size, main, count) => {
+            let end = 9 * count;
+            answer(
+                call,
+                file,
+                tab,
+                rows,
+                names,
+                &consts[..end],
+                size,
+                main,
+                old,
+                inputs,
+                new,
+                values,
+            )
+        }
+    }
+}
+
+// With every declared name below 1,024.
+fn serve_low(
+    call: Call,
+    file: &[u8],
+    enums: usize,
+    places: &[usize],
+    rows: &mut [usize],
+    tab: &mut [u8],
+    consts: &mut [u8],
+    sections: Sections,
+    clash: Found,
+    old: &[u8],
+    inputs: &[u8],
+    new: &mut [u8],
+    values: &mut [u8],
+) -> Answer
+    requires { ⌜ SectionsReady (now file) enums (now places) (now rows) (now tab) (now consts) sections × Low (fileAt (now file)) true ⌝ }
+    requires { ⌜ placeOf clash ≡ fault6 (fileAt (now file)) ⌝ }
+    ensures { λ r. ⌜ Serves call (now (file .entry)) (now (old .entry)) (now (inputs .entry)) (now (new .entry)) (now (values .entry)) r (now (new .exit)) (now (values .exit)) ⌝ }
+{
+    let mut names = [0u8; 1024];
+    serve_named(
+        call,
+        file,
+        enums,
+        places,
+        rows,
+        tab,
+        &mut names,
+        consts,
+        sections,
+        true,
+        clash,
+        old,
+        inputs,
+        new,
+        values,
+    )
+}
+
+// With any names. A function that calls itself is not put into its caller's frame: a call with low
+// names does not touch the large tables' stack. `turns` is 0 for every file that reads.
+fn serve_high(
+    turns: usize,
+    call: Call,
+    file: &[u8],
+    enums: usize,
+    places: &[usize],
+    rows: &mut [usize],
+    tab: &mut [u8],
+    consts: &mut [u8],
+    sections: Sections,
+    old: &[u8],
+    inputs: &[u8],
+    new: &mut [u8],
+    values: &mut [u8],
+) -> Answer
+    requires { ⌜ SectionsReady (now file) enums (now places) (now rows) (now tab) (now consts) sections ⌝ }
+    ensures { λ r. ⌜ Serves call (now (file .entry)) (now (old .entry)) (now (inputs .entry)) (now (new .entry)) (now (values .entry)) r (now (new .exit)) (now (values .exit)) ⌝ }
+{
+    if 0 < turns {
+        serve_high(
+            turns - 1,
+            call,
+            file,
+            enums,
+            places,
+            rows,
+            tab,
+            consts,
+            sections,
+            old,
+            inputs,
+            new,
+            values,
+        )
+    } else {
+        let mut sorts = [0u8; 65536];
+        let s = sort_file(file, rows, sections, &mut sorts);
+        let clash = s.found;
+        let mut names = [0u8; 65536];
+        serve_named(
+            call,
+            file,
+            enums,
+            places,
+            rows,
+            tab,
+            &mut names,
+            consts,
+            sections,
+            false,
+            clash,
+            old,
+            inputs,
+            new,
+            values,
+        )
+    }
+}
+
+// With tables to write. Until the slots are written, their part of `tab` is blank: fault 6 uses it.
+fn serve_with(
+    call: Call,
+    file: &[u8],
+    enums: usize,
+    places: &[usize],
+    rows: &mut [usize],
+    tab: &mut [u8],
+    consts: &mut [u8],
+    old: &[u8],
+    inputs: &[u8],
+    new: &mut [u8],
+    values: &mut [u8],
+) -> Answer
+    requires { ⌜ FileReady (now file) enums (now places) (now rows) (now tab) (now consts) ⌝ }
+    ensures { λ r. ⌜ Serves call (now (file .entry)) (now (old .entry)) (now (inputs .entry)) (now (new .entry)) (now (values .entry)) r (now (new .exit)) (now (values .exit)) ⌝ }
+{
+    let sections = rows_of(file, places, rows, &mut tab[TYPES..SLOTS]);
+    let s = sort_file(file, rows, sections, &mut tab[SLOTS..]);
+    let clash = s.found;
+    if s.low {
+        serve_low(
+            call,
+            file,
+            enums,
+            places,
+            rows,
+            tab,
+            consts,
+            sections,
+            clash,
+            old,
+            inputs,
+            new,
+            values,
+        )
+    } else {
+        let turns = file.len() / 65536;
+        serve_high(
+            turns,
+            call,
+            file,
+            enums,
+            places,
+            rows,
+            tab,
+            consts,
+            sections,
+            old,
+            inputs,
+            new,
+            values,
+        )
+    }
+}
+
+// A file of at most 1,024 bytes.
+fn serve_small(
+    call: Call,
+    file: &[u8],
+    enums: usize,
+    places: &[usize],
+    old: &[u8],
+    inputs: &[u8],
+    new: &mut [u8],
+    values: &mut [u8],
+) -> Answer
+    requires { ⌜ Loads (now file) enums (now places) × (length (now file) ≤ 1024) ⌝ }
+    ensures { λ r. ⌜ Serves call (now (file .entry)) (now (old .entry)) (now (inputs .entry)) (now (new .entry)) (now (values .entry)) r (now (new .exit)) (now (values .exit)) ⌝ }
+{
+    let mut rows = [0usize; ROWS];
+    let mut tab = [0u8; SMALL_TAB];
+    let mut consts = [0u8; 576];
+    serve_with(
+        call,
+        file,
+        enums,
+        places,
+        &mut rows,
+        &mut tab,
+        &mut consts,
+        old,
+        inputs,
+        new,
+        values,
+    )
+}
+
+// Any file. It calls itself as `serve_high` does: a small file does not touch the large table's stack.
+fn serve_large(
+    turns: usize,
+    call: Call,
+    file: &[u8],
+    enums: usize,
+    places: &[usize],
+    old: &[u8],
+    inputs: &[u8],
+    new: &mut [u8],
+    values: &mut [u8],
+) -> Answer
+    requires { ⌜ Loads (now file) enums (now places) ⌝ }
+    ensures { λ r. ⌜ Serves call (now (file .entry)) (now (old .entry)) (now (inputs .entry)) (now (new .entry)) (now (values .entry)) r (now (new .exit)) (now (values .exit)) ⌝ }
+{
+    if 0 < turns {
+        serve_large(
+            turns - 1,
+            call,
+            file,
+            enums,
+            places,
+            old,
+            inputs,
+            new,
+            values,
+        )
+    } else {
+        let mut rows = [0usize; ROWS];
+        let mut tab = [0u8; LARGE_TAB];
+        let mut consts = [0u8; 576];
+        serve_with(
+            call,
+            file,
+            enums,
+            places,
+            &mut rows,
+            &mut tab,
+            &mut consts,
+            old,
+            inputs,
+            new,
+            values,
+        )
+    }
+}
+
+// Answers a call. One that has no old state, inputs or values is given empty slices for them; `new` is the start's buffer too.
+pub(crate) fn serve(
+    call: Call,
+    file: &[u8],
+    old: &[u8],
+    inputs: &[u8],
+    new: &mut [u8],
+    values: &mut [u8],
+) -> Answer
+    ensures { λ r. ⌜ Serves call (now (file .entry)) (now (old .entry)) (now (inputs .entry)) (now (new .entry)) (now (values .entry)) r (now (new .exit)) (now (values .exit)) ⌝ }
+{
+    let mut starts = [0usize; 32];
+    match load_file(file, &mut starts) {
+        Loaded::Nodes(enums, n) => {
+            let places = &starts[..n];
+            if file.len() <= 1024 {
+                serve_small(call, file, enums, places, old, inputs, new, values)
+            } else {
+                let turns = file.len() / 65536;
+                serve_large(turns, call, file, enums, places, old, inputs, new, values)
+            }
+        }
+        Loaded::Refused(f) => Answer::Refused(f),
+    }
+}
