@@ -6,17 +6,21 @@ use mathlib.Core.Path.{_≡_, refl, sym, ap, subst, _∙_}
 use native.Mathlib.Omega.{arith}
 use native.Mathlib.Nat.{zero-add}
 use lib.Dec.{eqb}
+use lib.ListN.{getD}
 use borrow.Author.Tests.{eq-eqb, ne-eqb}
 use Rattle.ol_spec.specs.Lists.{isEmpty}
+use Rattle.ol_spec.specs.Places.{exprSize}
 use Rattle.ol_spec.specs.Eval.{callees, calleesAll, sitesSize, sizeIn}
 use Rattle.ol_spec.proofs.Segments.{sites-cons}
-use Rattle.ol_ir.proofs.Skips.{walk-read}
-use Rattle.ol_tables.specs.At.{exprAt, exprsAt, endsAt, ReadsAll}
+use Rattle.ol_ir.proofs.Skips.{walk-read, head-told}
+use Rattle.ol_tables.specs.At.{limitsAt, enumsAt, exprAt, endAt, exprsAt, endsAt, Reads, ReadsAll}
 use Rattle.ol_tables.specs.Tables.{Each, rowAt}
-use Rattle.ol_tables.specs.Walks.{skipAt, sitesAt, CallMet, NoCall}
+use Rattle.ol_tables.specs.Heads.{headSize as headOf}
+use Rattle.ol_tables.specs.Walks.{HeadOf, skipAt, sitesAt, CallMet, NoCall}
+use Rattle.ol_tables.specs.declared.heads.Parts.{Parts}
 use Rattle.ol_tables.specs.declared.heads.NextCall.{NextCall}
-use Rattle.ol_tables.proofs.Forms.{one-tree}
-use Rattle.ol_frame.specs.Walk.{nodesIn, sizesIn, Below, Sized, Passable, Skips}
+use Rattle.ol_tables.proofs.Forms.{parted, one-tree, by-form, reads-end}
+use Rattle.ol_frame.specs.Walk.{nodesIn, sizesIn, Below, Sized, Passable, Skips, SkipsTo}
 
 -- the size of a type, by its code
 pub enum-size : (b : ℕ) → b ≡ 12 → _≡_ {A = ℕ} (cond (eqb b 12) 2 1) 2
@@ -46,6 +50,27 @@ module _ (s : List ℕ) where
 
   abbrev pub filled : List ℕ → Bool
   filled ks = not (isEmpty ks)
+
+  -- a literal and a Var are their heads, and call nothing
+  only-head : (level at : ℕ) → Reads s level at → getD s at 0 < 5 → (exprSize (exprAt s level at) ≡ headOf (exprAt s level at)) × (callees (exprAt s level at) ≡ [])
+  only-head level at h =
+      by-form s (λ c e. c < 5 → (exprSize e ≡ headOf e) × (callees e ≡ [])) (λ b l. (refl, refl)) (λ i l. (refl, refl)) (λ b l. (refl, refl)) (λ c l. (refl, refl)) (λ x l. (refl, refl))
+      (λ op e l. absurd (omega arith)) (λ op a b l. absurd (omega arith)) (λ c t e l. absurd (omega arith)) (λ e l. absurd (omega arith)) (λ a b l. absurd (omega arith)) (λ t e l. absurd (omega arith))
+      (λ k es l. absurd (omega arith)) (λ es l. absurd (omega arith)) level at h
+
+  -- they are passed over with their heads
+  pub head-passed : {rows : List ℕ} {level at : ℕ} {r : Parts} → Passable s rows level 1 at → getD s at 0 < 5 → HeadOf s at r → SkipsTo s level 1 at (record { next = r .start; used = 0; has = false })
+  unfolding sitesSize
+  head-passed {level = level} {at = at} p l t =
+      let h = parted s level 0 at (p .reads) .head in
+      let k = head-told s (limitsAt s) (enumsAt s) level at (exprAt s level at) (endAt s level at) (h .is) in
+      let o = only-head level at h l in
+      let c = callees-one level at (p .reads) ∙ o .1 in
+      record {
+        next-is = t .next ∙ k .1 ∙ ap (λ (n : ℕ). at + n) (sym (o .0)) ∙ sym (reads-end s level at h) ∙ sym (one-tree s level at (p .reads) .1);
+        used-is = ap (sitesSize (sizesIn s)) (sym c);
+        has-is = ap filled (sym c);
+      }
 
   -- The expressions passed over have these callees and end there: `left` are still to be passed over at `next`.
   pub record Rest (ks : List ℕ) (end next used : ℕ) (has : Bool) (left : ℕ) : Type 0 where

@@ -1,5 +1,6 @@
 // Passing over expressions: where they end, how many bytes the records of their call sites have, and whether they contain a call.
 use crate::tables::row;
+use ol_tables::heads::head;
 use ol_tables::heads::next_call;
 use ol_tables::tables::SIZE;
 ghost use Rattle.ol_frame.specs.Walk.{Passable, SkipsTo};
@@ -37,10 +38,19 @@ pub fn pass_all(file: &[u8], rows: &[usize], at: usize, level: usize, count: usi
     }
 }
 
-// Passes over the expression at `at`, of at most `level` levels.
+// Passes over the expression at `at`, of at most `level` levels. A literal and a Var are their heads.
 pub fn pass(file: &[u8], rows: &[usize], at: usize, level: usize) -> Passed
     requires { ⌜ Passable (now file) (now rows) level 1 at ⌝ }
     ensures { λ r. ⌜ SkipsTo (now (file .entry)) level 1 at r ⌝ }
 {
-    pass_all(file, rows, at, level, 1)
+    if file[at] < 5 {
+        let h = head(file, at);
+        Passed {
+            next: h.start,
+            used: 0,
+            has: false,
+        }
+    } else {
+        pass_all(file, rows, at, level, 1)
+    }
 }
