@@ -12,7 +12,8 @@ use Rattle.ol_spec.specs.declared.Value.{Value}
 use Rattle.ol_spec.specs.declared.Value.the-variants as Val
 use Rattle.ol_spec.specs.declared.Outcome.{Outcome}
 use Rattle.ol_spec.specs.declared.Outcome.the-variants as Out
-use Rattle.ol_frame.specs.Outcomes.{doneOf, binaryOut, testOf, untestedOf, runsOf, dropOut, commonOut}
+use Rattle.ol_frame.specs.Outcomes.{doneOf, binaryOut, testBit, testOf, untestedOf, runsOf, dropOut, commonOut}
+use Rattle.ol_frame.specs.declared.outcomes.Test.the-variants as Tst
 use Rattle.ol_frame.specs.Walk.{Skips}
 use Rattle.ol_eval.specs.Post.{Meets}
 use Rattle.ol_eval.specs.declared.cycle.Step.{Step}
@@ -109,26 +110,25 @@ two-stop {w} K {n = n} {k = k} {s = s} h g d =
 
 -- ---- a condition
 
-pub bool-of : (o : Outcome) (b : Bool) → testOf o ≡ Rattle.ol_frame.specs.Outcomes.testBit b → o ≡ Out.Value (Val.Bool b)
+-- a condition that takes neither branch is no Bool
+no-bit : {A : Type 0} (b : Bool) → Tst.Neither ≡ testBit b → A
+no-bit true h = let z : _≡_ {A = ℕ} 0 1 = cc in absurd (omega arith)
+no-bit false h = let z : _≡_ {A = ℕ} 0 1 = cc in absurd (omega arith)
+
+pub bool-of : (o : Outcome) (b : Bool) → testOf o ≡ testBit b → o ≡ Out.Value (Val.Bool b)
 bool-of (Out.Value (Val.Bool true)) true h = refl
-bool-of (Out.Value (Val.Bool true)) false h = absurd (omega arith)
-bool-of (Out.Value (Val.Bool false)) true h = absurd (omega arith)
+bool-of (Out.Value (Val.Bool true)) false h = let z : _≡_ {A = ℕ} 0 1 = cc in absurd (omega arith)
+bool-of (Out.Value (Val.Bool false)) true h = let z : _≡_ {A = ℕ} 0 1 = cc in absurd (omega arith)
 bool-of (Out.Value (Val.Bool false)) false h = refl
-bool-of (Out.Value (Val.Int i)) true h = absurd (omega arith)
-bool-of (Out.Value (Val.Int i)) false h = absurd (omega arith)
-bool-of (Out.Value (Val.Float x)) true h = absurd (omega arith)
-bool-of (Out.Value (Val.Float x)) false h = absurd (omega arith)
-bool-of (Out.Value (Val.Float32 x)) true h = absurd (omega arith)
-bool-of (Out.Value (Val.Float32 x)) false h = absurd (omega arith)
-bool-of (Out.Value (Val.Enum w)) true h = absurd (omega arith)
-bool-of (Out.Value (Val.Enum w)) false h = absurd (omega arith)
-bool-of Out.Failure true h = absurd (omega arith)
-bool-of Out.Failure false h = absurd (omega arith)
-bool-of Out.Overflow true h = absurd (omega arith)
-bool-of Out.Overflow false h = absurd (omega arith)
+bool-of (Out.Value (Val.Int i)) b h = no-bit b h
+bool-of (Out.Value (Val.Float x)) b h = no-bit b h
+bool-of (Out.Value (Val.Float32 x)) b h = no-bit b h
+bool-of (Out.Value (Val.Enum w)) b h = no-bit b h
+bool-of Out.Failure b h = no-bit b h
+bool-of Out.Overflow b h = no-bit b h
 
 -- the condition is the Bool b
-pub if-taken : {w : Eval} (K : Bool → List ℕ → Eval) (b : Bool) {x y n k : ℕ} {s new new′ : List ℕ} {c r : Step} → Meets w x n s c new → Meets (K b (take k (drop n s))) y k (drop n s) r new′ → length new ≡ length s → n ≤ length s → testOf (c .out) ≡ Rattle.ol_frame.specs.Outcomes.testBit b → Meets (next w (condition K) (take k (drop n s))) y (n + k) s (record { out = r .out; next = r .next; used = c .used + r .used }) (putTail (c .used) new new′)
+pub if-taken : {w : Eval} (K : Bool → List ℕ → Eval) (b : Bool) {x y n k : ℕ} {s new new′ : List ℕ} {c r : Step} → Meets w x n s c new → Meets (K b (take k (drop n s))) y k (drop n s) r new′ → length new ≡ length s → n ≤ length s → testOf (c .out) ≡ testBit b → Meets (next w (condition K) (take k (drop n s))) y (n + k) s (record { out = r .out; next = r .next; used = c .used + r .used }) (putTail (c .used) new new′)
 unfolding condition
 if-taken {w} K b {n = n} {k = k} {s = s} h g e le t =
     let v = bool-of (w .out) b (ap testOf (sym (h .out)) ∙ t) in
@@ -139,23 +139,23 @@ if-taken {w} K b {n = n} {k = k} {s = s} h g e le t =
       state = seq-state h g e le;
     })
 
-condition-none : (w : Eval) (K : Bool → List ℕ → Eval) (rest : List ℕ) → ¬ (testOf (w .out) ≡ 1) → ¬ (testOf (w .out) ≡ 0) → next w (condition K) rest ≡ record { out = untestedOf (w .out); seg = w .seg ++ rest }
+condition-none : (w : Eval) (K : Bool → List ℕ → Eval) (rest : List ℕ) → testOf (w .out) ≡ Tst.Neither → next w (condition K) rest ≡ record { out = untestedOf (w .out); seg = w .seg ++ rest }
 unfolding condition next
-condition-none w K rest n m = go (w .out) n m
+condition-none w K rest n = go (w .out) n
   where
-    go : (o : Outcome) → ¬ (testOf o ≡ 1) → ¬ (testOf o ≡ 0) → nextOn o (w .seg) (condition K) rest ≡ record { out = untestedOf o; seg = w .seg ++ rest }
-    go (Out.Value (Val.Bool true)) n m = absurd (n refl)
-    go (Out.Value (Val.Bool false)) n m = absurd (m refl)
-    go (Out.Value (Val.Int i)) n m = refl
-    go (Out.Value (Val.Float x)) n m = refl
-    go (Out.Value (Val.Float32 x)) n m = refl
-    go (Out.Value (Val.Enum v)) n m = refl
-    go Out.Failure n m = refl
-    go Out.Overflow n m = refl
+    go : (o : Outcome) → testOf o ≡ Tst.Neither → nextOn o (w .seg) (condition K) rest ≡ record { out = untestedOf o; seg = w .seg ++ rest }
+    go (Out.Value (Val.Bool true)) n = no-bit true (sym n)
+    go (Out.Value (Val.Bool false)) n = no-bit false (sym n)
+    go (Out.Value (Val.Int i)) n = refl
+    go (Out.Value (Val.Float x)) n = refl
+    go (Out.Value (Val.Float32 x)) n = refl
+    go (Out.Value (Val.Enum v)) n = refl
+    go Out.Failure n = refl
+    go Out.Overflow n = refl
 
-pub if-stop : {w : Eval} (K : Bool → List ℕ → Eval) {x y n k : ℕ} {b : Bool} {s new : List ℕ} {c : Step} {q : Passed} {o : Outcome} → Meets w x n s c new → Skips b y k q → ¬ (testOf (c .out) ≡ 1) → ¬ (testOf (c .out) ≡ 0) → o ≡ untestedOf (c .out) → Meets (next w (condition K) (take k (drop n s))) y (n + k) s (record { out = o; next = q .next; used = c .used + q .used }) new
-if-stop {w} K {n = n} {k = k} {s = s} h g n1 n0 j =
-    meets-as (condition-none w K (take k (drop n s)) (λ e. n1 (ap testOf (h .out) ∙ e)) (λ e. n0 (ap testOf (h .out) ∙ e))) (record {
+pub if-stop : {w : Eval} (K : Bool → List ℕ → Eval) {x y n k : ℕ} {b : Bool} {s new : List ℕ} {c : Step} {q : Passed} {o : Outcome} → Meets w x n s c new → Skips b y k q → testOf (c .out) ≡ Tst.Neither → o ≡ untestedOf (c .out) → Meets (next w (condition K) (take k (drop n s))) y (n + k) s (record { out = o; next = q .next; used = c .used + q .used }) new
+if-stop {w} K {n = n} {k = k} {s = s} h g t j =
+    meets-as (condition-none w K (take k (drop n s)) (ap testOf (sym (h .out)) ∙ t)) (record {
       out = j ∙ ap untestedOf (h .out);
       next-is = g .next-is;
       used-is = rw (h .used-is, g .used-is);

@@ -23,7 +23,8 @@ use Rattle.ol_eval.specs.Post.{Ready, Meets, EvalsTo, ChooseTo, chooseIn
 use Rattle.ol_frame.specs.Nodes.{Enters}
 use Rattle.ol_eval.specs.declared.cycle.Step.{Step}
 use Rattle.ol_tables.proofs.Lending.{tailOf, putTail, tail-all, take-put}
-use Rattle.ol_frame.proofs.Passing.{callees-one, own-call}
+use Rattle.ol_frame.proofs.Passing.{callees-one}
+use Rattle.ol_tables.proofs.Forms.{own-call}
 use Rattle.ol_frame.proofs.RealKinds.{proper-type}
 use Rattle.ol_spec.specs.Operators.{unaryOf, binaryOf}
 use Rattle.ol_spec.specs.Types.{castTo}

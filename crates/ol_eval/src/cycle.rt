@@ -27,6 +27,7 @@ use ol_frame::names::chosen;
 use ol_frame::names::leaf_out;
 use ol_frame::names::present;
 use ol_frame::outcomes::Ending;
+use ol_frame::outcomes::Test;
 use ol_frame::outcomes::binary_out;
 use ol_frame::outcomes::cast_out;
 use ol_frame::outcomes::done;
@@ -398,54 +399,58 @@ fn eval_if(
     let mid = c.next;
     let co = c.out;
     let test = test_of(co);
-    if test == 1 {
-        let r = eval_first(
-            file,
-            tab,
-            rows,
-            consts,
-            mid,
-            level,
-            node,
-            first,
-            cells,
-            before,
-            &old[n..],
-            &mut new[n..],
-        );
-        let ro = r.out;
-        Step {
-            out: same_out(ro),
-            next: r.next,
-            used: n + r.used,
+    match test {
+        Test::First => {
+            let r = eval_first(
+                file,
+                tab,
+                rows,
+                consts,
+                mid,
+                level,
+                node,
+                first,
+                cells,
+                before,
+                &old[n..],
+                &mut new[n..],
+            );
+            let ro = r.out;
+            Step {
+                out: same_out(ro),
+                next: r.next,
+                used: n + r.used,
+            }
         }
-    } else if test == 0 {
-        let r = eval_second(
-            file,
-            tab,
-            rows,
-            consts,
-            mid,
-            level,
-            node,
-            first,
-            cells,
-            before,
-            &old[n..],
-            &mut new[n..],
-        );
-        let ro = r.out;
-        Step {
-            out: same_out(ro),
-            next: r.next,
-            used: n + r.used,
+        Test::Second => {
+            let r = eval_second(
+                file,
+                tab,
+                rows,
+                consts,
+                mid,
+                level,
+                node,
+                first,
+                cells,
+                before,
+                &old[n..],
+                &mut new[n..],
+            );
+            let ro = r.out;
+            Step {
+                out: same_out(ro),
+                next: r.next,
+                used: n + r.used,
+            }
         }
-    } else {
-        let s = pass_all(file, rows, mid, level, 2);
-        Step {
-            out: untested(co),
-            next: s.next,
-            used: n + s.used,
+        Test::Neither => {
+            let s = pass_all(file, rows, mid, level, 2);
+            Step {
+                out: untested(co),
+                next: s.next,
+                used: n + s.used,
+            }
         }
     }
 }

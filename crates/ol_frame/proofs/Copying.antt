@@ -1,14 +1,38 @@
 -- Laws of copying cells.
-use Prim.Native.Nat.{ℕ, zero, suc, _+_, _-_, _*_, _<_, _≤_}
+use Prim.Native.Nat.{ℕ, zero, suc, _+_, _-_, _*_, _<_, _≤_, min}
 use mathlib.Core.List.{List, [], _∷_, _++_, append-assoc, append-nil}
 use mathlib.Core.Path.{_≡_, refl, sym, ap, subst, _∙_}
 use native.Mathlib.Omega.{arith}
-use lib.ListN.{length, take, drop, length-append, length-drop}
-use lib.Seq.{take-at, drop-at, drop-drop}
+use native.Mathlib.Decide.{decLe}
+use mathlib.Core.Logic.{by-cases}
+use lib.ListN.{length, take, drop, set, getD, length-append, length-drop, drop-of-length-le}
+use lib.Seq.{take-at, drop-at, drop-drop, drop-cons, set-at, take-suc, take-all, length-take-le}
 use Rattle.ol_spec.specs.Cell.{cell, cells, valueOf, valuesOf}
 use Rattle.ol_spec.specs.declared.Value.{Value}
 use Rattle.ol_spec.proofs.Cells.{length-cell, length-cells}
 use Rattle.ol_spec.proofs.Runs.{length-values}
+
+-- one byte more is copied
+pub byte-copied : (i : ℕ) (from to₀ to : List ℕ) → to ≡ take i from ++ drop i to₀ → i < length from → i < length to₀ → set to i (getD from i 0) ≡ take (suc i) from ++ drop (suc i) to₀
+byte-copied i from to₀ to e f t =
+    let x = getD from i 0 in
+    ap (λ (l : List ℕ). set l i x) (e ∙ ap (λ (l : List ℕ). take i from ++ l) (drop-cons to₀ i 0 t))
+    ∙ set-at (take i from) (getD to₀ i 0) (drop (suc i) to₀) x i (length-take-le i from (omega arith))
+    ∙ sym (append-assoc (take i from) (x ∷ []) (drop (suc i) to₀)) ∙ ap (λ (l : List ℕ). l ++ drop (suc i) to₀) (sym (take-suc from i 0 f))
+
+-- as many are copied as both have
+pub bytes-copied : (i : ℕ) (from to₀ to : List ℕ) → to ≡ take i from ++ drop i to₀ → i ≡ min (length from) (length to₀) → to ≡ take (length to₀) from ++ drop (length from) to₀
+bytes-copied i from to₀ to e m =
+    by-cases (decLe (length from) (length to₀))
+    (λ l. let k : i ≡ length from = omega arith in
+    e ∙ (λ j. (take-all i from (omega arith) ∙ sym (take-all (length to₀) from l)) j ++ drop (k j) to₀))
+    (λ n. let k : i ≡ length to₀ = omega arith in
+    e ∙ (λ j. take (k j) from ++ (drop-of-length-le to₀ {i = i} (omega arith) ∙ sym (drop-of-length-le to₀ {i = length from} (omega arith))) j))
+
+-- all are, where both have as many
+pub all-copied : (from to x : List ℕ) → length to ≡ length from → x ≡ take (length to) from ++ drop (length from) to → x ≡ from
+all-copied from to x l e =
+    e ∙ (λ j. take-all (length to) from (omega arith) j ++ drop-of-length-le to {i = length from} (omega arith) j) ∙ append-nil from
 
 -- the bytes of one cell more
 pub cells-append : (vs : List Value) (w : Value) → cells (vs ++ w ∷ []) ≡ cells vs ++ cell w

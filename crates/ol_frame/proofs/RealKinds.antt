@@ -1,4 +1,4 @@
--- Real kinds by their codes.
+-- Real kinds of types, operators and outcomes.
 use Prim.Native.Nat.{ℕ, zero, suc, _+_, _<_, _≤_}
 use mathlib.Core.Bool.{Bool, true, false}
 use mathlib.Core.List.{List, [], _∷_, _++_, map}
@@ -6,8 +6,7 @@ use mathlib.Core.Option.{Option, none, some}
 use lib.ListN.{length, getD, getElem?, length-append}
 use mathlib.Core.Path.{_≡_, refl, sym, ap, _∙_}
 use native.Mathlib.Omega.{arith}
-use Rattle.ol_spec.specs.Eval.{RealKind, notReal, isSingle, isDouble, join, kindOfType, kindOfValue, firstType, commonReal, arithmetic, orFailure, isDouble?}
-use lib.Dec.{eqb}
+use Rattle.ol_spec.specs.Eval.{RealKind, notReal, kindOfType, kindOfValue, firstType, commonReal, arithmetic, orFailure, isDouble?}
 use Rattle.ol_spec.specs.declared.Outcome.{Outcome}
 use Rattle.ol_spec.specs.declared.Outcome.the-variants as Out
 use Rattle.ol_spec.specs.Lists.{maybe}
@@ -21,9 +20,9 @@ use Rattle.ol_spec.specs.Syntax.{Ty, bool, int, float32, float64, char, enum, V
 use Rattle.ol_spec.specs.declared.Value.{Value}
 use Rattle.ol_spec.specs.declared.Value.the-variants as Val
 use Rattle.ol_value.specs.Codes.{tyOf}
-use Rattle.ol_frame.specs.Outcomes.{realCode, outcomeKind, commonOut, singleOf}
+use Rattle.ol_frame.specs.Outcomes.{outcomeKind, commonOut, singleOf}
 
-pub other-kind : (c e : ℕ) → ¬ (c ≡ 9) → ¬ (c ≡ 10) → 0 ≡ realCode (kindOfType (tyOf c e))
+pub other-kind : (c e : ℕ) → ¬ (c ≡ 9) → ¬ (c ≡ 10) → notReal ≡ kindOfType (tyOf c e)
 other-kind zero e n m = refl
 other-kind (suc zero) e n m = refl
 other-kind (suc (suc zero)) e n m = refl
@@ -39,24 +38,6 @@ other-kind (suc (suc (suc (suc (suc (suc (suc (suc (suc (suc (suc zero))))))))))
 other-kind (suc (suc (suc (suc (suc (suc (suc (suc (suc (suc (suc (suc zero)))))))))))) e n m = refl
 other-kind (suc (suc (suc (suc (suc (suc (suc (suc (suc (suc (suc (suc (suc zero))))))))))))) e n m = refl
 other-kind (suc (suc (suc (suc (suc (suc (suc (suc (suc (suc (suc (suc (suc (suc c)))))))))))))) e n m = refl
-
-pub join-right : (a b : ℕ) (j k : RealKind) → a < b → a ≡ realCode j → b ≡ realCode k → b ≡ realCode (join j k)
-join-right a b notReal k l e f = f
-join-right a b isSingle notReal l e f = absurd (omega arith)
-join-right a b isSingle isSingle l e f = absurd (omega arith)
-join-right a b isSingle isDouble l e f = f
-join-right a b isDouble notReal l e f = absurd (omega arith)
-join-right a b isDouble isSingle l e f = absurd (omega arith)
-join-right a b isDouble isDouble l e f = absurd (omega arith)
-
-pub join-left : (a b : ℕ) (j k : RealKind) → ¬ (a < b) → a ≡ realCode j → b ≡ realCode k → a ≡ realCode (join j k)
-join-left a b notReal notReal l e f = e
-join-left a b notReal isSingle l e f = absurd (l (omega arith))
-join-left a b notReal isDouble l e f = absurd (l (omega arith))
-join-left a b isSingle notReal l e f = e
-join-left a b isSingle isSingle l e f = e
-join-left a b isSingle isDouble l e f = absurd (l (omega arith))
-join-left a b isDouble k l e f = e
 
 pub common-none : (v : Value) → commonReal false v ≡ v
 common-none (Val.Bool b) = refl
@@ -172,11 +153,11 @@ first-output [] (v ∷ outs) rest h = refl
 first-output (i ∷ ins) outs rest h = first-output ins outs rest h
 
 -- a kind by a code that is a type's
-pub code-kind : (r c : ℕ) (t : Ty) → Proper t → tyCode t ≡ c → ((e : ℕ) → r ≡ realCode (kindOfType (tyOf c e))) → r ≡ realCode (kindOfType t)
-code-kind r c t o e h = h (tyEnum t) ∙ ap (λ (d : ℕ). realCode (kindOfType (tyOf d (tyEnum t)))) (sym e) ∙ ap (λ (u : Ty). realCode (kindOfType u)) (proper-type t o)
+pub code-kind : (r : RealKind) (c : ℕ) (t : Ty) → Proper t → tyCode t ≡ c → ((e : ℕ) → r ≡ kindOfType (tyOf c e)) → r ≡ kindOfType t
+code-kind r c t o e h = h (tyEnum t) ∙ ap (λ (d : ℕ). kindOfType (tyOf d (tyEnum t))) (sym e) ∙ ap kindOfType (proper-type t o)
 
 -- the real kind of what a name yields
-pub present-kind : (o : Option Value) → outcomeKind (orFailure o) ≡ realCode (maybe notReal kindOfValue o)
+pub present-kind : (o : Option Value) → outcomeKind (orFailure o) ≡ maybe notReal kindOfValue o
 present-kind none = refl
 present-kind (some v) = refl
 
@@ -185,26 +166,17 @@ pub output-below : (n : Node) → 1 ≤ length (n .outputs) → length (n .input
 output-below n h = omega (arith, length-append (n .inputs ++ n .outputs) (n .locals), length-append (n .inputs) (n .outputs))
 
 -- the kind of a call, by the tables
-pub call-kind : {file tab rows : List ℕ} (k r c i : ℕ) → Program file tab rows → k < nodesIn file → i ≡ rowAt rows k 2 → c ≡ codeAt tab k i → ((e : ℕ) → r ≡ realCode (kindOfType (tyOf c e))) → r ≡ realCode (firstType (nodeIn file k .outputs))
+pub call-kind : {file tab rows : List ℕ} (k : ℕ) (r : RealKind) (c i : ℕ) → Program file tab rows → k < nodesIn file → i ≡ rowAt rows k 2 → c ≡ codeAt tab k i → ((e : ℕ) → r ≡ kindOfType (tyOf c e)) → r ≡ firstType (nodeIn file k .outputs)
 call-kind {file} {tab} {rows} k r c i p l ei ec h =
     let n = nodeIn file k in
     let o = p .some-out k l in
     let j : i ≡ length (n .inputs) = ei ∙ p .sized .table .rowsOf k l .inputs in
     let t = getD (map typeOf (variables n)) (length (n .inputs)) bool in
     let q : codeAt tab k (length (n .inputs)) ≡ tyCode t = p .table .tabsOf k l .codes (length (n .inputs)) (output-below n o) in
-    code-kind r c t (p .proper k (length (n .inputs))) (sym (ec ∙ ap (codeAt tab k) j ∙ q)) h ∙ ap realCode (first-output (n .inputs) (n .outputs) (n .locals) o)
+    code-kind r c t (p .proper k (length (n .inputs))) (sym (ec ∙ ap (codeAt tab k) j ∙ q)) h ∙ first-output (n .inputs) (n .outputs) (n .locals) o
 
 pub input-below : {file tab rows : List ℕ} (k i : ℕ) → Program file tab rows → k < nodesIn file → i ≡ rowAt rows k 2 → i < 112
 input-below {file} k i p l e = omega (arith, e ∙ p .sized .table .rowsOf k l .inputs, output-below (nodeIn file k) (p .some-out k l), p .width k)
-
--- a chosen single, where the other branch is of the kind k
-pub common-wide : (k : RealKind) (c : ℕ) (o : Outcome) {r : Outcome} → c ≡ realCode k → r ≡ commonOut (eqb c 2) o → r ≡ commonOut (isDouble? k) o
-common-wide k c o e h = h ∙ ap (λ (d : ℕ). commonOut (eqb d 2) o) e ∙ ap (λ (b : Bool). commonOut b o) (double-code k)
-  where
-    double-code : (k : RealKind) → eqb (realCode k) 2 ≡ isDouble? k
-    double-code notReal = refl
-    double-code isSingle = refl
-    double-code isDouble = refl
 
 -- another value stays
 pub common-plain : (k : RealKind) (o : Outcome) → singleOf o ≡ false → o ≡ commonOut (isDouble? k) o

@@ -26,7 +26,7 @@ use Rattle.ol_frame.specs.declared.outcomes.Ending.{Ending}
 use Rattle.ol_frame.specs.declared.outcomes.Ending.the-variants as End
 use Rattle.ol_frame.proofs.Endings.{failed-values, over-values, over-failed}
 use Rattle.ol_frame.specs.Stores.{passedBy, cellsIn, Typed, Storable, Stores, StoresOut, Assignable, Assigns, Leaves}
-use Rattle.ol_frame.proofs.Copying.{values-snoc}
+use Rattle.ol_frame.proofs.Copying.{values-snoc, all-copied}
 use Rattle.ol_frame.proofs.Naming.{position-in, length-names}
 use Rattle.ol_frame.proofs.RealKinds.{proper-type}
 
@@ -98,10 +98,12 @@ values-copied first last from to new h lf lt e =
     ∙ sym (values-front (last - first) B (drop (9 * last - 9 * first) (drop (9 * first) from)) (omega (arith, lb, m))) ∙ ap (valuesOf (last - first)) (lib.ListN.take-append-drop (9 * last - 9 * first) (drop (9 * first) from)) ∙ values-drop first last from h) j)
 
 -- the copy as the loan leaves it
-pub copied-part : (a b : ℕ) (from to x : List ℕ) → a ≤ b → x ≡ take (b - a) (drop a from) → take a to ++ (x ++ drop (b - a) (drop a to)) ≡ take a to ++ (take (b - a) (drop a from) ++ drop b to)
-copied-part a b from to x h e =
+pub copied-part : (a b : ℕ) (from to x : List ℕ) → a ≤ b → b ≤ length from → b ≤ length to → x ≡ take (length (take (b - a) (drop a to))) (take (b - a) (drop a from)) ++ drop (length (take (b - a) (drop a from))) (take (b - a) (drop a to))
+    → take a to ++ (x ++ drop (b - a) (drop a to)) ≡ take a to ++ (take (b - a) (drop a from) ++ drop b to)
+copied-part a b from to x h lf lt e =
     let k : a + (b - a) ≡ b = omega arith in
-    λ j. take a to ++ (e j ++ (drop-drop (b - a) a to ∙ ap (λ (m : ℕ). drop m to) k) j)
+    let n = length-take-le (b - a) (drop a to) (omega (arith, length-drop a to)) ∙ sym (length-take-le (b - a) (drop a from) (omega (arith, length-drop a from))) in
+    λ j. take a to ++ (all-copied (take (b - a) (drop a from)) (take (b - a) (drop a to)) x n e j ++ (drop-drop (b - a) a to ∙ ap (λ (m : ℕ). drop m to) k) j)
 
 -- ---- types by the table
 

@@ -12,6 +12,10 @@ use Rattle.ol_spec.specs.declared.Outcome.{Outcome}
 use Rattle.ol_spec.specs.declared.Outcome.the-variants as Out
 use Rattle.ol_frame.specs.declared.outcomes.Ending.{Ending}
 use Rattle.ol_frame.specs.declared.outcomes.Ending.the-variants as End
+use Rattle.ol_frame.specs.declared.outcomes.Test.{Test}
+use Rattle.ol_frame.specs.declared.outcomes.Test.the-variants as Tst
+use Rattle.ol_frame.specs.declared.outcomes.RealKind.{RealKind as Kind}
+use Rattle.ol_frame.specs.declared.outcomes.RealKind.the-variants as Knd
 
 -- how several values end
 abbrev pub endingOf : Outcomes → Ending
@@ -37,22 +41,23 @@ binaryOut op (Out.Value v) r = thenOut (binaryBy op v) r
 binaryOut op Out.Failure r = Out.Failure
 binaryOut op Out.Overflow r = Out.Overflow
 
-abbrev pub testBit : Bool → ℕ
-testBit true = 1
-testBit false = 0
+-- the branch that a Bool takes
+abbrev pub testBit : Bool → Test
+testBit true = Tst.First
+testBit false = Tst.Second
 
-abbrev pub testValue : Value → ℕ
+abbrev pub testValue : Value → Test
 testValue (Val.Bool b) = testBit b
-testValue (Val.Int i) = 2
-testValue (Val.Float x) = 2
-testValue (Val.Float32 x) = 2
-testValue (Val.Enum w) = 2
+testValue (Val.Int i) = Tst.Neither
+testValue (Val.Float x) = Tst.Neither
+testValue (Val.Float32 x) = Tst.Neither
+testValue (Val.Enum w) = Tst.Neither
 
--- a condition: 1 true, 0 false, 2 neither
-abbrev pub testOf : Outcome → ℕ
+-- the branch that a condition takes
+abbrev pub testOf : Outcome → Test
 testOf (Out.Value v) = testValue v
-testOf Out.Failure = 2
-testOf Out.Overflow = 2
+testOf Out.Failure = Tst.Neither
+testOf Out.Overflow = Tst.Neither
 
 -- a condition that is no Bool
 abbrev pub untestedOf : Outcome → Outcome
@@ -88,13 +93,13 @@ singleOf Out.Overflow = false
 abbrev pub commonOut : Bool → Outcome → Outcome
 commonOut wide o = thenOut (λ v. Out.Value (commonReal wide v)) o
 
--- a real kind as a number
-abbrev pub realCode : RealKind → ℕ
-realCode notReal = 0
-realCode isSingle = 1
-realCode isDouble = 2
+-- the real kind that the code's stands for
+abbrev pub kindOf : Kind → RealKind
+kindOf Knd.NotReal = notReal
+kindOf Knd.Single = isSingle
+kindOf Knd.Double = isDouble
 
-abbrev pub outcomeKind : Outcome → ℕ
-outcomeKind (Out.Value v) = realCode (kindOfValue v)
-outcomeKind Out.Failure = 0
-outcomeKind Out.Overflow = 0
+abbrev pub outcomeKind : Outcome → RealKind
+outcomeKind (Out.Value v) = kindOfValue v
+outcomeKind Out.Failure = notReal
+outcomeKind Out.Overflow = notReal

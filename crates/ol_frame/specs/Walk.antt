@@ -1,16 +1,14 @@
 -- What passing over expressions asks and gives.
-use Prim.Native.Nat.{ℕ, _+_, _-_, _<_, _≤_}
-use mathlib.Core.Bool.{Bool, true, false, not}
+use Prim.Native.Nat.{ℕ, _<_, _≤_}
+use mathlib.Core.Bool.{Bool, not}
 use mathlib.Core.List.{List}
 use mathlib.Core.Path.{_≡_}
 use lib.ListN.{length}
 use Rattle.ol_spec.specs.Lists.{isEmpty}
 use Rattle.ol_spec.specs.Eval.{calleesAll, sitesSize}
 use Rattle.ol_spec.specs.Step.{sizesAt}
-use Rattle.ol_tables.specs.At.{fileAt, exprAt, endAt, exprsAt, endsAt, ReadsAll}
+use Rattle.ol_tables.specs.At.{fileAt, exprsAt, endsAt, ReadsAll}
 use Rattle.ol_tables.specs.Tables.{Each, Rows}
-use Rattle.ol_tables.specs.Heads.{partsOf, headSize as headOf}
-use Rattle.ol_tables.specs.declared.heads.Parts.{Parts}
 use Rattle.ol_frame.specs.declared.skip.Passed.{Passed}
 
 -- how many nodes the file has
@@ -24,14 +22,6 @@ sizesIn file = sizesAt (length (fileAt file .nodes)) (fileAt file .nodes)
 -- the callees are of lower numbers than n
 abbrev pub Below : ℕ → ℕ → Type 0
 Below n c = c < n
-
--- the form at a place: where its parts start, and how many there are
-pub record FormIs (file : List ℕ) (level at : ℕ) (r : Parts) : Type 0 where
-  pub start-is : r .start ≡ at + headOf (exprAt file level at)
-  pub parts : partsOf (exprAt file level at) ≡ exprsAt file (level - 1) (r .count) (r .start)
-  pub read : ReadsAll file (level - 1) (r .count) (r .start)
-  pub ends : endAt file level at ≡ endsAt file (level - 1) (r .count) (r .start)
-  pub deep : 0 < level
 
 -- the file's rows
 pub record Sized (file rows : List ℕ) : Type 0 where
@@ -55,8 +45,3 @@ pub record Skips (has : Bool) (next used : ℕ) (r : Passed) : Type 0 where
 abbrev pub SkipsTo : List ℕ → ℕ → ℕ → ℕ → Passed → Type 0
 SkipsTo file level n at r =
     Skips (not (isEmpty (calleesAll (exprsAt file level n at)))) (endsAt file level n at) (sitesSize (sizesIn file) (calleesAll (exprsAt file level n at))) r
-
--- one of two
-abbrev pub eitherOf : Bool → Bool → Bool
-eitherOf true b = true
-eitherOf false b = b

@@ -19,13 +19,13 @@ use ol_value::cell::read_cell;
 use ol_value::cell::write_cell;
 use ol_value::types::fit_to;
 
-// All bytes.
+// As many bytes as both have.
 pub fn copy(from: &[u8], to: &mut [u8])
-    requires { ⌜ length (now to) ≡ length (now from) ⌝ }
-    ensures { λ _. ⌜ now (to .exit) ≡ now (from .entry) ⌝ }
+    ensures { λ _. ⌜ now (to .exit) ≡ take (length (now (to .entry))) (now (from .entry)) ++ drop (length (now (from .entry))) (now (to .entry)) ⌝ }
 {
+    let n = less(from.len(), to.len());
     let mut i = 0;
-    while i < from.len() {
+    while i < n {
         to[i] = from[i];
         i += 1;
     }

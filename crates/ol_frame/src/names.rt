@@ -8,9 +8,10 @@ ghost use lib.ListN.{length, getD};
 ghost use Rattle.ol_spec.specs.Eval.{orFailure, presentOf, preOf, realKind, isDouble?, join, firstType};
 ghost use Rattle.ol_spec.specs.declared.Value.the-variants as Val;
 ghost use Rattle.ol_tables.specs.At.{exprAt, endAt, nodeIn};
-ghost use Rattle.ol_frame.specs.Outcomes.{realCode, commonOut};
+ghost use Rattle.ol_frame.specs.Outcomes.{kindOf, commonOut};
 ghost use Rattle.ol_frame.specs.Walk.{nodesIn};
 ghost use Rattle.ol_frame.specs.Plans.{Program, globalsIn, scopeIn, Nameable, Looked, Plan, Cells, nameAt, Leaf, evalIn, segsAt};
+use crate::outcomes::RealKind;
 use crate::outcomes::common_out;
 use crate::outcomes::is_single;
 use crate::outcomes::join_kinds;
@@ -135,16 +136,16 @@ pub fn leaf_out(
 }
 
 // The real kind of a call of node k: by its first output's type.
-fn call_kind(file: &[u8], tab: &[u8], rows: &[usize], k: usize) -> u8
+fn call_kind(file: &[u8], tab: &[u8], rows: &[usize], k: usize) -> RealKind
     requires { ⌜ Program (now file) (now tab) (now rows) × (k < nodesIn (now file)) ⌝ }
-    ensures { λ r. ⌜ r ≡ realCode (firstType (nodeIn (now (file .entry)) k .outputs)) ⌝ }
+    ensures { λ r. ⌜ kindOf r ≡ firstType (nodeIn (now (file .entry)) k .outputs) ⌝ }
 {
     let i = row(rows, k, INPUTS);
     let t = code_of(tab, k, i);
     kind_of_type(t)
 }
 
-// Whether the expression at `at` computes in single (1) or in double precision (2), or neither.
+// How the expression at `at` counts as real.
 fn real_kind(
     file: &[u8],
     tab: &[u8],
@@ -154,24 +155,24 @@ fn real_kind(
     cells: &[u8],
     at: usize,
     level: usize,
-) -> u8
+) -> RealKind
     requires { ⌜ Plan (now file) (now tab) (now rows) (now consts) node level 1 at × Cells (now file) node (now cells) × (segsAt (now file) level 1 at ≤ 32768) ⌝ }
-    ensures { λ r. ⌜ r ≡ realCode (realKind (globalsIn (now (file .entry)) (now (consts .entry))) (scopeIn (now (file .entry)) node false (now (cells .entry)) (now (cells .entry))) (exprAt (now (file .entry)) level at)) ⌝ }
+    ensures { λ r. ⌜ kindOf r ≡ realKind (globalsIn (now (file .entry)) (now (consts .entry))) (scopeIn (now (file .entry)) node false (now (cells .entry)) (now (cells .entry))) (exprAt (now (file .entry)) level at) ⌝ }
 {
     let code = file[at];
     let p = at + 1;
     match code {
-        2 => 2,
+        2 => RealKind::Double,
         4 => kind_of_outcome(present(file, tab, consts, node, cells, p)),
         5 => real_kind(file, tab, rows, consts, node, cells, at + 2, level - 1),
         6 => {
             let op = file[p];
             if op < 10 {
-                0
+                RealKind::NotReal
             } else if op < 14 {
                 real_kinds(file, tab, rows, consts, node, cells, at + 2, level - 1)
             } else {
-                0
+                RealKind::NotReal
             }
         }
         7 => {
@@ -186,7 +187,7 @@ fn real_kind(
             let k = number(file[p]);
             call_kind(file, tab, rows, k)
         }
-        _ => 0,
+        _ => RealKind::NotReal,
     }
 }
 
@@ -200,9 +201,9 @@ fn real_kinds(
     cells: &[u8],
     at: usize,
     level: usize,
-) -> u8
+) -> RealKind
     requires { ⌜ Plan (now file) (now tab) (now rows) (now consts) node level 2 at × Cells (now file) node (now cells) × (segsAt (now file) level 2 at ≤ 32768) ⌝ }
-    ensures { λ r. ⌜ r ≡ realCode (join (realKind (globalsIn (now (file .entry)) (now (consts .entry))) (scopeIn (now (file .entry)) node false (now (cells .entry)) (now (cells .entry))) (exprAt (now (file .entry)) level at)) (realKind (globalsIn (now (file .entry)) (now (consts .entry))) (scopeIn (now (file .entry)) node false (now (cells .entry)) (now (cells .entry))) (exprAt (now (file .entry)) level (endAt (now (file .entry)) level at)))) ⌝ }
+    ensures { λ r. ⌜ kindOf r ≡ join (realKind (globalsIn (now (file .entry)) (now (consts .entry))) (scopeIn (now (file .entry)) node false (now (cells .entry)) (now (cells .entry))) (exprAt (now (file .entry)) level at)) (realKind (globalsIn (now (file .entry)) (now (consts .entry))) (scopeIn (now (file .entry)) node false (now (cells .entry)) (now (cells .entry))) (exprAt (now (file .entry)) level (endAt (now (file .entry)) level at))) ⌝ }
 {
     let a = real_kind(file, tab, rows, consts, node, cells, at, level);
     let p = pass(file, rows, at, level);

@@ -2,12 +2,11 @@
 ghost use mathlib.Core.Path.{_≡_};
 ghost use mathlib.Core.Bool.{true};
 ghost use Prim.Native.Nat.{ℕ};
-ghost use lib.Dec.{eqb};
 ghost use Rattle.ol_spec.specs.Cell.{cell, valueOf};
 ghost use Rattle.ol_spec.specs.Types.{castTo};
-ghost use Rattle.ol_spec.specs.Eval.{RealKind, thenOut, commonReal, kindOfType, join};
+ghost use Rattle.ol_spec.specs.Eval.{thenOut, commonReal, kindOfType, isDouble?, join};
 ghost use Rattle.ol_value.specs.Codes.{tyOf, unaryBy};
-ghost use Rattle.ol_frame.specs.Outcomes.{doneOf, binaryOut, testOf, untestedOf, runsOf, dropOut, singleOf, commonOut, realCode, outcomeKind};
+ghost use Rattle.ol_frame.specs.Outcomes.{doneOf, binaryOut, testOf, untestedOf, runsOf, dropOut, singleOf, commonOut, kindOf, outcomeKind};
 use ol_real::f32_to_f64;
 use ol_spec::Outcome;
 use ol_spec::Value;
@@ -20,6 +19,20 @@ pub enum Ending {
     Values,
     Failed,
     Overflowed,
+}
+
+// Which branch a condition takes: of a Bool one of the two, else neither.
+pub enum Test {
+    First,
+    Second,
+    Neither,
+}
+
+// How an expression counts as real: not, in single or in double precision.
+pub(crate) enum RealKind {
+    NotReal,
+    Single,
+    Double,
 }
 
 // A value, made again from its parts (it is then moved part by part, which is fast); it is had back from its cell.
@@ -94,20 +107,20 @@ pub fn binary_out(op: u8, l: Outcome, r: Outcome) -> Outcome
     }
 }
 
-// A condition: 1 true, 0 false, 2 neither.
-pub fn test_of(o: Outcome) -> u8
+// The branch that a condition takes.
+pub fn test_of(o: Outcome) -> Test
     ensures { λ r. ⌜ r ≡ testOf o ⌝ }
 {
     match o {
         Outcome::Value(v) => match v {
-            Value::Bool(b) => { if b { 1 } else { 0 } }
-            Value::Int(_) => 2,
-            Value::Float(_) => 2,
-            Value::Float32(_) => 2,
-            Value::Enum(_) => 2,
+            Value::Bool(b) => { if b { Test::First } else { Test::Second } }
+            Value::Int(_) => Test::Neither,
+            Value::Float(_) => Test::Neither,
+            Value::Float32(_) => Test::Neither,
+            Value::Enum(_) => Test::Neither,
         },
-        Outcome::Failure => 2,
-        Outcome::Overflow => 2,
+        Outcome::Failure => Test::Neither,
+        Outcome::Overflow => Test::Neither,
     }
 }
 
@@ -174,54 +187,60 @@ fn widened(v: Value) -> Value
     }
 }
 
-// A chosen single widens where the other branch counts as double.
-pub(crate) fn common_out(kind: u8, o: Outcome) -> Outcome
-    ensures { λ r. ⌜ r ≡ commonOut (eqb kind 2) o ⌝ }
+// A chosen single widens where the other branch, of this kind, counts as double.
+pub(crate) fn common_out(kind: RealKind, o: Outcome) -> Outcome
+    ensures { λ r. ⌜ r ≡ commonOut (isDouble? (kindOf kind)) o ⌝ }
 {
     match o {
-        Outcome::Value(v) => {
-            if kind == 2 {
-                Outcome::Value(widened(v))
-            } else {
-                Outcome::Value(v)
-            }
-        }
+        Outcome::Value(v) => match kind {
+            RealKind::NotReal => Outcome::Value(v),
+            RealKind::Single => Outcome::Value(v),
+            RealKind::Double => Outcome::Value(widened(v)),
+        },
         Outcome::Failure => Outcome::Failure,
         Outcome::Overflow => Outcome::Overflow,
     }
 }
 
 // The real kind of a type.
-pub(crate) fn kind_of_type(code: u8) -> u8
-    ensures { λ r. ⌜ ((e : ℕ) → r ≡ realCode (kindOfType (tyOf code e))) ⌝ }
+pub(crate) fn kind_of_type(code: u8) -> RealKind
+    ensures { λ r. ⌜ ((e : ℕ) → kindOf r ≡ kindOfType (tyOf code e)) ⌝ }
 {
     match code {
-        9 => 1,
-        10 => 2,
-        _ => 0,
+        9 => RealKind::Single,
+        10 => RealKind::Double,
+        _ => RealKind::NotReal,
     }
 }
 
 // The real kind of a value.
-pub(crate) fn kind_of_outcome(o: Outcome) -> u8
-    ensures { λ r. ⌜ r ≡ outcomeKind o ⌝ }
+pub(crate) fn kind_of_outcome(o: Outcome) -> RealKind
+    ensures { λ r. ⌜ kindOf r ≡ outcomeKind o ⌝ }
 {
     match o {
         Outcome::Value(v) => match v {
-            Value::Bool(_) => 0,
-            Value::Int(_) => 0,
-            Value::Float(_) => 2,
-            Value::Float32(_) => 1,
-            Value::Enum(_) => 0,
+            Value::Bool(_) => RealKind::NotReal,
+            Value::Int(_) => RealKind::NotReal,
+            Value::Float(_) => RealKind::Double,
+            Value::Float32(_) => RealKind::Single,
+            Value::Enum(_) => RealKind::NotReal,
         },
-        Outcome::Failure => 0,
-        Outcome::Overflow => 0,
+        Outcome::Failure => RealKind::NotReal,
+        Outcome::Overflow => RealKind::NotReal,
     }
 }
 
-// The greater of two real kinds.
-pub(crate) fn join_kinds(a: u8, b: u8) -> u8
-    ensures { λ r. ⌜ ((j k : RealKind) → a ≡ realCode j → b ≡ realCode k → r ≡ realCode (join j k)) ⌝ }
+// The real kind of two: one double makes both double.
+pub(crate) fn join_kinds(a: RealKind, b: RealKind) -> RealKind
+    ensures { λ r. ⌜ kindOf r ≡ join (kindOf a) (kindOf b) ⌝ }
 {
-    if a < b { b } else { a }
+    match a {
+        RealKind::NotReal => b,
+        RealKind::Single => match b {
+            RealKind::NotReal => RealKind::Single,
+            RealKind::Single => RealKind::Single,
+            RealKind::Double => RealKind::Double,
+        },
+        RealKind::Double => RealKind::Double,
+    }
 }

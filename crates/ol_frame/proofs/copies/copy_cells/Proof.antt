@@ -1,9 +1,6 @@
 -- <uses>
-use mathlib.Core.Path.{sym, ap, _∙_}
 use Prim.Native.Nat.{_*_}
 use native.Mathlib.Omega.{arith}
-use lib.ListN.{length, length-drop}
-use lib.Seq.{length-take-le}
 use Rattle.ol_frame.proofs.Storing.{copied-part}
 -- </uses>
 use borrow.Author.Needs.{needs}
@@ -73,7 +70,7 @@ same-length c = search needs
 returns : tie.Need-returns
 returns c =
     let start = c .before .before .before .before .before .before .before in
-    copied-part (9 * start .args .first) (9 * start .args .last) (start .args .from .now) (start .args .to .now) _ (omega (arith, start .pre .0)) (c .before .before .copy .ensures)
+    copied-part (9 * start .args .first) (9 * start .args .last) (start .args .from .now) (start .args .to .now) _ (omega (arith, start .pre)) (omega (arith, start .pre)) (omega (arith, start .pre)) (c .before .before .copy .ensures)
 
 pub copy-cells-spec : {M : Type 1} → statement M
 copy-cells-spec =

@@ -1,6 +1,7 @@
 -- <uses>
 use mathlib.Core.Path.{_≡_, refl, sym, ap, subst, _∙_}
 use native.Mathlib.Omega.{arith}
+use Rattle.ol_frame.specs.Outcomes.{kindOf}
 use Rattle.ol_frame.proofs.RealKinds.{call-kind, input-below}
 -- </uses>
 use borrow.Author.Needs.{needs}
@@ -35,7 +36,7 @@ returns : tie.Need-returns
 returns c =
     let start = c .before .before .before .before .before .before in
     let p = start .pre .0 in
-    call-kind (start .args .k) (c .kind-of-type .result) (c .before .code-of .result) (c .before .before .row .result) p (start .pre .1) (c .before .before .row .ensures) (c .before .code-of .ensures) (c .kind-of-type .ensures)
+    call-kind (start .args .k) (kindOf (c .kind-of-type .result)) (c .before .code-of .result) (c .before .before .row .result) p (start .pre .1) (c .before .before .row .ensures) (c .before .code-of .ensures) (c .kind-of-type .ensures)
 
 pub call-kind-spec : {M : Type 1} → statement M
 call-kind-spec = tie.close (tie.spec row-requires code-of-requires kind-of-type-requires returns)

@@ -1,10 +1,11 @@
 -- <uses>
 use mathlib.Core.Path.{_≡_, refl, sym, ap, subst, _∙_}
-use Rattle.ol_spec.specs.Eval.{realKind}
+use Rattle.ol_spec.specs.Eval.{RealKind, realKind, isDouble?}
 use Rattle.ol_tables.specs.At.{exprAt}
 use mathlib.Core.Bool.{Bool, true, false}
+use Rattle.ol_frame.specs.Outcomes.{commonOut}
 use Rattle.ol_frame.specs.Plans.{globalsIn, scopeIn}
-use Rattle.ol_frame.proofs.RealKinds.{common-wide, common-plain}
+use Rattle.ol_frame.proofs.RealKinds.{common-plain}
 -- </uses>
 use borrow.Author.Needs.{needs}
 use Rattle.ol_frame.proofs.names.chosen.Statement.{statement}
@@ -38,9 +39,7 @@ same-out-requires c κs = search needs
 returns : tie.Need-returns
 returns c =
     let start = c .before .before .before .before .before .before .before .before .before in
-    let f = start .args .file .now in
-    let K = realKind (globalsIn f (start .args .consts .now)) (scopeIn f (start .args .node) false (start .args .cells .now) (start .args .cells .now)) (exprAt f (start .args .level) (start .args .at)) in
-    common-wide K (c .before .real-kind .result) (start .args .taken) (c .before .real-kind .ensures) (c .common-out .ensures)
+    c .common-out .ensures ∙ ap (λ (k : RealKind). commonOut (isDouble? k) (start .args .taken)) (c .before .real-kind .ensures)
 
 -- src/names.rt:214:1
 returns-2 : tie.Need-returns-2

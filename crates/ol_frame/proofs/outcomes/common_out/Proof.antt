@@ -1,9 +1,8 @@
 -- <uses>
 use mathlib.Core.Path.{_≡_, refl, sym, ap, subst, _∙_}
-use lib.Dec.{eqb}
-use borrow.Author.Tests.{eq-eqb, ne-eqb}
+use Rattle.ol_spec.specs.Eval.{isDouble?}
 use Rattle.ol_spec.specs.declared.Outcome.the-variants as Out
-use Rattle.ol_frame.specs.Outcomes.{commonOut}
+use Rattle.ol_frame.specs.Outcomes.{commonOut, kindOf}
 use Rattle.ol_frame.proofs.RealKinds.{common-none}
 -- </uses>
 use borrow.Author.Needs.{needs}
@@ -13,55 +12,73 @@ use Rattle.ol_frame.proofs.outcomes.common_out.Reads as reads
 use Rattle.ol_frame.proofs.outcomes.common_out.Lts as lts
 use Rattle.ol_frame.proofs.outcomes.widened.Reads as widened-reads
 
--- src/outcomes.rt:168:24
+-- src/outcomes.rt:195:24
 enum-known-o : tie.Need-enum-known-o
 enum-known-o c = search needs
 
--- src/outcomes.rt:170:32
-widened-requires : tie.Need-widened-requires
-widened-requires c κs = search needs
-
--- src/outcomes.rt:175:29
+-- src/outcomes.rt:196:34
 enum-told : tie.Need-enum-told
 enum-told c = search needs
 
--- src/outcomes.rt:176:30
+-- src/outcomes.rt:197:33
 enum-told-2 : tie.Need-enum-told-2
 enum-told-2 c = search needs
 
--- src/outcomes.rt:164:1
+-- src/outcomes.rt:198:48
+enum-told-3 : tie.Need-enum-told-3
+enum-told-3 c = search needs
+
+-- src/outcomes.rt:198:48
+widened-requires : tie.Need-widened-requires
+widened-requires c κs = search needs
+
+-- src/outcomes.rt:200:29
+enum-told-4 : tie.Need-enum-told-4
+enum-told-4 c = search needs
+
+-- src/outcomes.rt:201:30
+enum-told-5 : tie.Need-enum-told-5
+enum-told-5 c = search needs
+
+-- src/outcomes.rt:191:1
 returns : tie.Need-returns
 returns c =
-    let start = c .before .before .before .before .before in
-    let e = eq-eqb (start .args .kind) 2 (c .before .if1 .taken) in
     let o = c .before .before .before .o .given .1 in
-    ap Out.Value (c .widened .ensures) ∙ (λ i. commonOut (sym e i) (sym o i))
+    ap Out.Value (sym (common-none (c .before .before .before .o .given .0 .0))) ∙ (λ i. commonOut (isDouble? (kindOf (sym (c .enum-told .given .1) i))) (sym o i))
 
--- src/outcomes.rt:164:1
+-- src/outcomes.rt:191:1
 returns-2 : tie.Need-returns-2
 returns-2 c =
-    let start = c .before .before .before .before in
-    let n = ne-eqb (start .args .kind) 2 (c .if1 .left) in
-    let o = c .before .before .o .given .1 in
-    ap Out.Value (sym (common-none (c .before .before .o .given .0 .0))) ∙ (λ i. commonOut (sym n i) (sym o i))
+    let o = c .before .before .before .o .given .1 in
+    ap Out.Value (sym (common-none (c .before .before .before .o .given .0 .0))) ∙ (λ i. commonOut (isDouble? (kindOf (sym (c .enum-told2 .given .1) i))) (sym o i))
 
--- src/outcomes.rt:164:1
+-- src/outcomes.rt:191:1
 returns-3 : tie.Need-returns-3
-returns-3 c = search needs
+returns-3 c =
+    let o = c .before .before .before .before .o .given .1 in
+    ap Out.Value (c .widened .ensures) ∙ (λ i. commonOut (isDouble? (kindOf (sym (c .before .enum-told3 .given .1) i))) (sym o i))
 
--- src/outcomes.rt:164:1
+-- src/outcomes.rt:191:1
 returns-4 : tie.Need-returns-4
 returns-4 c = search needs
+
+-- src/outcomes.rt:191:1
+returns-5 : tie.Need-returns-5
+returns-5 c = search needs
 
 pub common-out-spec : {M : Type 1} → statement M
 common-out-spec =
     tie.close
     (tie.spec
     enum-known-o
-    widened-requires
     enum-told
     enum-told-2
+    enum-told-3
+    widened-requires
+    enum-told-4
+    enum-told-5
     returns
     returns-2
     returns-3
-    returns-4)
+    returns-4
+    returns-5)

@@ -2,7 +2,6 @@
 use mathlib.Core.Path.{_≡_, refl, sym, ap, subst, _∙_}
 use Rattle.ol_spec.specs.Eval.{kindOfType}
 use Rattle.ol_value.specs.Codes.{tyOf}
-use Rattle.ol_frame.specs.Outcomes.{realCode}
 use Prim.Native.Nat.{ℕ}
 use Rattle.ol_frame.proofs.RealKinds.{other-kind}
 -- </uses>
@@ -13,11 +12,11 @@ use Rattle.ol_frame.proofs.outcomes.kind_of_type.Lts as lts
 
 -- src/outcomes.rt:181:1
 returns : tie.Need-returns
-returns c = λ e. ap (λ (c : ℕ). realCode (kindOfType (tyOf c e))) (sym (c .match .keys1))
+returns c = λ e. ap (λ (c : ℕ). kindOfType (tyOf c e)) (sym (c .match .keys1))
 
 -- src/outcomes.rt:181:1
 returns-2 : tie.Need-returns-2
-returns-2 c = λ e. ap (λ (c : ℕ). realCode (kindOfType (tyOf c e))) (sym (c .match .keys2))
+returns-2 c = λ e. ap (λ (c : ℕ). kindOfType (tyOf c e)) (sym (c .match .keys2))
 
 -- src/outcomes.rt:181:1
 returns-3 : tie.Need-returns-3

@@ -1,99 +1,80 @@
 -- <uses>
-use mathlib.Core.Path.{_≡_, refl, sym, ap, subst, _∙_}
-use Prim.Native.Nat.{ℕ, _+_, _-_, _≤_, _<_}
+use mathlib.Core.Path.{subst, sym}
 use native.Mathlib.Omega.{arith}
+use Prim.Native.Nat.{_-_}
 use lib.ListN.{length}
-use Rattle.ol_tables.proofs.Forms.{reads-in}
-use Rattle.ol_frame.proofs.Passing.{Left, left-start, left-as, left-first, head-reads, turn-few, turn-on, turn, left-done, left-room, form-of}
+use Rattle.ol_spec.specs.Eval.{calleesAll}
+use Rattle.ol_tables.specs.At.{exprsAt, endsAt}
+use Rattle.ol_tables.specs.Walks.{Calls}
+use Rattle.ol_frame.proofs.Passing.{Rest, rest-start, met-below, met-room, met-on, rest-done}
 -- </uses>
 use Rattle.ol_frame.proofs.skip.pass_all.Statement.{statement}
 use Rattle.ol_frame.proofs.skip.pass_all.Tie as tie
 use Rattle.ol_frame.proofs.skip.pass_all.Reads as reads
 use Rattle.ol_frame.proofs.skip.pass_all.Lts as lts
-use Rattle.ol_frame.proofs.skip.either.Reads as either-reads
-use Rattle.ol_frame.proofs.skip.is_call.Reads as is-call-reads
-use Rattle.ol_frame.proofs.skip.own_size.Reads as own-size-reads
+use Rattle.ol_frame.proofs.tables.row.Reads as row-reads
+use Rattle.ol_tables.proofs.heads.next_call.Reads as next-call-reads
 
 abbrev Inv-loop : tie.InvT-loop
-Inv-loop file rows at level count next₀ left₀ used₀ has₀ next left used has = Left file rows level count at next used has left
+Inv-loop file rows at level count next₀ left₀ used₀ has₀ next left used has = Rest file (calleesAll (exprsAt file level count at)) (endsAt file level count at) next used has left
 
 abbrev μ-loop : tie.MeasureT-loop
 μ-loop file rows at level count next₀ left₀ used₀ has₀ next left used has = length file - next
 
--- src/skip.rt:142:5
+-- src/skip.rt:23:5
 loop-holds : tie.Need-loop-holds Inv-loop μ-loop
 loop-holds c =
     let start = c .before .before in
     let f = start .args .file .now in
-    left-start f (start .pre)
+    let p = start .pre in
+    rest-start f p
 
--- src/skip.rt:143:13
-head-requires : tie.Need-head-requires Inv-loop μ-loop
-head-requires c κs = tt
+-- src/skip.rt:24:13
+next-call-requires : tie.Need-next-call-requires Inv-loop μ-loop
+next-call-requires c κs = tt
 
--- src/skip.rt:144:13
-own-size-requires : tie.Need-own-size-requires Inv-loop μ-loop
-own-size-requires c κs =
+-- src/skip.rt:26:21
+row-requires : tie.Need-row-requires Inv-loop μ-loop
+row-requires c κs =
     let start = c .before .before .before .before .before in
     let f = start .args .file .now in
-    (left-first f (c .before .before .loop .inv) (omega (arith, c .before .loop-test .taken)))
+    let p = start .pre in
+    let m = subst (λ b. Calls b f (c .before .before .loop .left) (c .before .before .loop .next) (c .before .next-call .result)) (c .if1 .taken) (c .before .next-call .ensures) in
+    (p .sized .table .long, omega (arith, met-below f (c .before .before .loop .inv) m, p .sized .few), omega arith)
 
--- src/skip.rt:145:13
-is-call-requires : tie.Need-is-call-requires Inv-loop μ-loop
-is-call-requires c κs =
-    let start = c .before .before .before .before .before .before in
-    let f = start .args .file .now in
-    let L = start .args .level in
-    reads-in f L (c .before .before .before .loop .next) (head-reads f (c .before .before .before .loop .next) (left-first f (c .before .before .before .loop .inv) (omega (arith, c .before .before .loop-test .taken))))
-
--- src/skip.rt:146:9
+-- src/skip.rt:26:13
 add-used : tie.Need-add-used Inv-loop μ-loop
 add-used c =
-    let start = c .before .before .before .before .before .before .before in
+    let start = c .before .before .before .before .before .before in
     let f = start .args .file .now in
-    let L = start .args .level in
-    let n = turn f (c .before .before .before .before .loop .inv) (omega (arith, c .before .before .before .loop-test .taken)) (form-of f L (c .before .before .before .before .loop .next) (head-reads f (c .before .before .before .before .loop .next) (left-first f (c .before .before .before .before .loop .inv) (omega (arith, c .before .before .before .loop-test .taken)))) (c .before .before .head .ensures)) (c .before .own-size .ensures) (c .is-call .ensures) refl in
-    omega (arith, left-room f (start .pre) n)
+    let p = start .pre in
+    let m = subst (λ b. Calls b f (c .before .before .before .loop .left) (c .before .before .before .loop .next) (c .before .before .next-call .result)) (c .before .if1 .taken) (c .before .before .next-call .ensures) in
+    omega (arith, met-room f (c .before .before .before .loop .inv) m (p .sized) (p .room), c .row .ensures)
 
--- src/skip.rt:147:9
-either-requires : tie.Need-either-requires Inv-loop μ-loop
-either-requires c κs = tt
-
--- src/skip.rt:148:16
-sub-left : tie.Need-sub-left Inv-loop μ-loop
-sub-left c = omega (arith, c .before .before .before .before .loop-test .taken)
-
--- src/skip.rt:148:16
-add-left : tie.Need-add-left Inv-loop μ-loop
-add-left c =
-    let start = c .before .before .before .before .before .before .before .before .before in
-    let f = start .args .file .now in
-    let L = start .args .level in
-    omega (arith, turn-few f (c .before .before .before .before .before .before .loop .inv) (omega (arith, c .before .before .before .before .before .loop-test .taken)) (form-of f L (c .before .before .before .before .before .before .loop .next) (head-reads f (c .before .before .before .before .before .before .loop .next) (left-first f (c .before .before .before .before .before .before .loop .inv) (omega (arith, c .before .before .before .before .before .loop-test .taken)))) (c .before .before .before .before .head .ensures)), start .pre .sized .small)
-
--- src/skip.rt:142:5
+-- src/skip.rt:23:5
 loop-less : tie.Need-loop-less Inv-loop μ-loop
 loop-less c =
-    let start = c .before .before .before .before .before .before .before .before .before in
+    let start = c .before .before .before .before .before .before in
     let f = start .args .file .now in
-    let L = start .args .level in
-    let n = turn-on f (c .before .before .before .before .before .before .loop .inv) (omega (arith, c .before .before .before .before .before .loop-test .taken)) (form-of f L (c .before .before .before .before .before .before .loop .next) (head-reads f (c .before .before .before .before .before .before .loop .next) (left-first f (c .before .before .before .before .before .before .loop .inv) (omega (arith, c .before .before .before .before .before .loop-test .taken)))) (c .before .before .before .before .head .ensures)) in
-    omega (arith, n .0, n .1)
+    let m = subst (λ b. Calls b f (c .before .before .before .loop .left) (c .before .before .before .loop .next) (c .before .before .next-call .result)) (c .before .if1 .taken) (c .before .before .next-call .ensures) in
+    omega (arith, m .onward, m .inside)
 
--- src/skip.rt:142:5
+-- src/skip.rt:23:5
 loop-again : tie.Need-loop-again Inv-loop μ-loop
 loop-again c =
-    let start = c .before .before .before .before .before .before .before .before .before in
+    let start = c .before .before .before .before .before .before in
     let f = start .args .file .now in
-    let L = start .args .level in
-    turn f (c .before .before .before .before .before .before .loop .inv) (omega (arith, c .before .before .before .before .before .loop-test .taken)) (form-of f L (c .before .before .before .before .before .before .loop .next) (head-reads f (c .before .before .before .before .before .before .loop .next) (left-first f (c .before .before .before .before .before .before .loop .inv) (omega (arith, c .before .before .before .before .before .loop-test .taken)))) (c .before .before .before .before .head .ensures)) (c .before .before .before .own-size .ensures) (c .before .before .is-call .ensures) (c .before .either .ensures)
+    let p = start .pre in
+    let m = subst (λ b. Calls b f (c .before .before .before .loop .left) (c .before .before .before .loop .next) (c .before .before .next-call .result)) (c .before .if1 .taken) (c .before .before .next-call .ensures) in
+    met-on f (c .before .before .before .loop .inv) m (p .sized) (p .room) (c .row .ensures)
 
--- src/skip.rt:134:1
+-- src/skip.rt:31:13
 returns : tie.Need-returns Inv-loop μ-loop
 returns c =
-    let start = c .before .before .before .before in
+    let start = c .before .before .before .before .before in
     let f = start .args .file .now in
-    left-done f (left-as f {b = 0} (omega (arith, c .loop-test .left)) (c .before .loop .inv))
+    let n = subst (λ b. Calls b f (c .before .before .loop .left) (c .before .before .loop .next) (c .before .next-call .result)) (c .if1 .left) (c .before .next-call .ensures) in
+    rest-done f (c .before .before .loop .inv) n
 
 pub pass-all-spec : {M : Type 1} → statement M
 pass-all-spec =
@@ -102,13 +83,9 @@ pass-all-spec =
     Inv-loop
     μ-loop
     loop-holds
-    head-requires
-    own-size-requires
-    is-call-requires
+    next-call-requires
+    row-requires
     add-used
-    either-requires
-    sub-left
-    add-left
     loop-less
     loop-again
     returns)

@@ -2,6 +2,9 @@
 use borrow.Author.Needs.{needs}
 use mathlib.Core.Path.{refl, sym, _∙_}
 use native.Mathlib.Omega.{arith}
+use lib.ListN.{length}
+use Rattle.ol_tables.proofs.Lending.{putTail}
+use Rattle.ol_frame.proofs.Copying.{all-copied}
 use Rattle.ol_run.proofs.MainCycle.{row-room, head-room, copied-room, main-ready, moved-length, moved-room, finish-ready, values-ready, ended-length, cycle-finished, cycle-failed, cycle-overflowed}
 -- </uses>
 use Rattle.ol_run.proofs.main_cycle.run_main.Statement.{statement}
@@ -23,10 +26,7 @@ row-requires c κs =
 
 -- src/main_cycle.rt:93:5
 copy-requires : tie.Need-copy-requires
-copy-requires c κs =
-    let start = c .before .before .before .before .before .before .before .before .before .before in
-    let h = start .pre in
-    h .renewed
+copy-requires c κs = tt
 
 -- src/main_cycle.rt:101:9
 sub-run-record : tie.Need-sub-run-record
@@ -55,7 +55,7 @@ sub-run-record-2 c =
     let start = c .before .before .before .before .before .before .before .before .before .before .before .before .before .before in
     let h = start .pre in
     let copied = c .before .before .before .copy .last .1 .0 in
-    let e = c .before .before .before .copy .ensures in
+    let e = all-copied (start .args .old .now) (start .args .new .now) (c .before .before .before .copy .last .1 .0) (start .pre .renewed) (c .before .before .before .copy .ensures) in
     omega (arith, copied-room h copied e)
 
 -- src/main_cycle.rt:102:9
@@ -64,7 +64,7 @@ part-run-record-start-2 c =
     let start = c .before .before .before .before .before .before .before .before .before .before .before .before .before .before in
     let h = start .pre in
     let copied = c .before .before .before .copy .last .1 .0 in
-    let e = c .before .before .before .copy .ensures in
+    let e = all-copied (start .args .old .now) (start .args .new .now) (c .before .before .before .copy .last .1 .0) (start .pre .renewed) (c .before .before .before .copy .ensures) in
     omega (arith, copied-room h copied e)
 
 -- src/main_cycle.rt:102:9
@@ -73,7 +73,7 @@ part-run-record-end-2 c =
     let start = c .before .before .before .before .before .before .before .before .before .before .before .before .before .before in
     let h = start .pre in
     let copied = c .before .before .before .copy .last .1 .0 in
-    let e = c .before .before .before .copy .ensures in
+    let e = all-copied (start .args .old .now) (start .args .new .now) (c .before .before .before .copy .last .1 .0) (start .pre .renewed) (c .before .before .before .copy .ensures) in
     omega (arith, copied-room h copied e)
 
 -- src/main_cycle.rt:103:9
@@ -86,7 +86,7 @@ run-record-requires c κs =
     let start = c .before .before .before .before .before .before .before .before .before .before .before .before .before .before .before .before in
     let h = start .pre in
     let copied = c .before .before .before .before .before .copy .last .1 .0 in
-    let e = c .before .before .before .before .before .copy .ensures in
+    let e = all-copied (start .args .old .now) (start .args .new .now) (c .before .before .before .before .before .copy .last .1 .0) (start .pre .renewed) (c .before .before .before .before .before .copy .ensures) in
     main-ready h copied _ e refl
 
 -- src/main_cycle.rt:109:23
@@ -105,7 +105,7 @@ sub-finish c =
     let start = c .before .before .before .before .before .before .before .before .before .before .before .before .before .before .before .before .before .before .before .before .before .before .before in
     let h = start .pre in
     let copied = c .before .before .before .before .before .before .before .before .before .before .before .before .copy .last .1 .0 in
-    let e = c .before .before .before .before .before .before .before .before .before .before .before .before .copy .ensures in
+    let e = all-copied (start .args .old .now) (start .args .new .now) (c .before .before .before .before .before .before .before .before .before .before .before .before .copy .last .1 .0) (start .pre .renewed) (c .before .before .before .before .before .before .before .before .before .before .before .before .copy .ensures) in
     let x = c .before .before .before .before .before .before .run-record .last .1 .1 .1 .1 .1 .1 .1 .0 in
     let kx = c .before .before .before .before .before .before .run-record .kept .1 .1 .1 .1 .1 .1 .1 .0 in
     omega (arith, moved-room h copied x e kx)
@@ -116,7 +116,7 @@ part-finish-start c =
     let start = c .before .before .before .before .before .before .before .before .before .before .before .before .before .before .before .before .before .before .before .before .before .before .before in
     let h = start .pre in
     let copied = c .before .before .before .before .before .before .before .before .before .before .before .before .copy .last .1 .0 in
-    let e = c .before .before .before .before .before .before .before .before .before .before .before .before .copy .ensures in
+    let e = all-copied (start .args .old .now) (start .args .new .now) (c .before .before .before .before .before .before .before .before .before .before .before .before .copy .last .1 .0) (start .pre .renewed) (c .before .before .before .before .before .before .before .before .before .before .before .before .copy .ensures) in
     let x = c .before .before .before .before .before .before .run-record .last .1 .1 .1 .1 .1 .1 .1 .0 in
     let kx = c .before .before .before .before .before .before .run-record .kept .1 .1 .1 .1 .1 .1 .1 .0 in
     omega (arith, moved-room h copied x e kx)
@@ -127,7 +127,7 @@ part-finish-end c =
     let start = c .before .before .before .before .before .before .before .before .before .before .before .before .before .before .before .before .before .before .before .before .before .before .before in
     let h = start .pre in
     let copied = c .before .before .before .before .before .before .before .before .before .before .before .before .copy .last .1 .0 in
-    let e = c .before .before .before .before .before .before .before .before .before .before .before .before .copy .ensures in
+    let e = all-copied (start .args .old .now) (start .args .new .now) (c .before .before .before .before .before .before .before .before .before .before .before .before .copy .last .1 .0) (start .pre .renewed) (c .before .before .before .before .before .before .before .before .before .before .before .before .copy .ensures) in
     let x = c .before .before .before .before .before .before .run-record .last .1 .1 .1 .1 .1 .1 .1 .0 in
     let kx = c .before .before .before .before .before .before .run-record .kept .1 .1 .1 .1 .1 .1 .1 .0 in
     omega (arith, moved-room h copied x e kx)
@@ -140,7 +140,7 @@ finish-requires c κs =
     let n = c .before .before .before .before .before .before .before .before .before .before .before .before .before .before .before .row .result in
     let w = c .before .before .before .before .before .before .before .before .before .before .before .before .before .before .before .row .ensures in
     let copied = c .before .before .before .before .before .before .before .before .before .before .before .before .before .copy .last .1 .0 in
-    let e = c .before .before .before .before .before .before .before .before .before .before .before .before .before .copy .ensures in
+    let e = all-copied (start .args .old .now) (start .args .new .now) (c .before .before .before .before .before .before .before .before .before .before .before .before .before .copy .last .1 .0) (start .pre .renewed) (c .before .before .before .before .before .before .before .before .before .before .before .before .before .copy .ensures) in
     let x = c .before .before .before .before .before .before .before .run-record .last .1 .1 .1 .1 .1 .1 .1 .0 in
     let kx = c .before .before .before .before .before .before .before .run-record .kept .1 .1 .1 .1 .1 .1 .1 .0 in
     let cells = c .before .before .before .before .before .before .before .run-record .last .1 .1 .1 .1 .1 .1 .1 .1 .0 in
@@ -174,15 +174,7 @@ enum-told-3 c = search needs
 
 -- src/main_cycle.rt:115:13
 copy-requires-2 : tie.Need-copy-requires-2
-copy-requires-2 c κs =
-    let start = c .before .before .before .before .before .before .before .before .before .before .before .before .before .before .before .before .before .before .before .before .before .before .before in
-    let h = start .pre in
-    let copied = c .before .before .before .before .before .before .before .before .before .before .before .before .copy .last .1 .0 in
-    let e = c .before .before .before .before .before .before .before .before .before .before .before .before .copy .ensures in
-    let kn = c .before .before .before .before .before .before .before .before .before .before .before .before .copy .kept .1 .0 in
-    let x = c .before .before .before .before .before .before .run-record .last .1 .1 .1 .1 .1 .1 .1 .0 in
-    let kx = c .before .before .before .before .before .before .run-record .kept .1 .1 .1 .1 .1 .1 .1 .0 in
-    moved-length h copied x e kx ∙ kn ∙ h .renewed
+copy-requires-2 c κs = tt
 
 -- src/main_cycle.rt:76:1
 same-length : tie.Need-same-length
@@ -190,7 +182,7 @@ same-length c =
     let start = c .before .before .before .before .before .before .before .before .before .before .before .before .before .before .before .before .before .before .before .before .before .before .before .before .before .before .before .before .before .before .before .before in
     let h = start .pre in
     let copied = c .before .before .before .before .before .before .before .before .before .before .before .before .before .before .before .before .before .before .before .before .before .copy .last .1 .0 in
-    let e = c .before .before .before .before .before .before .before .before .before .before .before .before .before .before .before .before .before .before .before .before .before .copy .ensures in
+    let e = all-copied (start .args .old .now) (start .args .new .now) (c .before .before .before .before .before .before .before .before .before .before .before .before .before .before .before .before .before .before .before .before .before .copy .last .1 .0) (start .pre .renewed) (c .before .before .before .before .before .before .before .before .before .before .before .before .before .before .before .before .before .before .before .before .before .copy .ensures) in
     let kn = c .before .before .before .before .before .before .before .before .before .before .before .before .before .before .before .before .before .before .before .before .before .copy .kept .1 .0 in
     let x = c .before .before .before .before .before .before .before .before .before .before .before .before .before .before .before .run-record .last .1 .1 .1 .1 .1 .1 .1 .0 in
     let kx = c .before .before .before .before .before .before .before .before .before .before .before .before .before .before .before .run-record .kept .1 .1 .1 .1 .1 .1 .1 .0 in
@@ -208,7 +200,7 @@ returns c =
     let n = c .before .before .before .before .before .before .before .before .before .before .before .before .before .before .before .before .before .before .before .before .before .before .before .row .result in
     let w = c .before .before .before .before .before .before .before .before .before .before .before .before .before .before .before .before .before .before .before .before .before .before .before .row .ensures in
     let copied = c .before .before .before .before .before .before .before .before .before .before .before .before .before .before .before .before .before .before .before .before .before .copy .last .1 .0 in
-    let e = c .before .before .before .before .before .before .before .before .before .before .before .before .before .before .before .before .before .before .before .before .before .copy .ensures in
+    let e = all-copied (start .args .old .now) (start .args .new .now) (c .before .before .before .before .before .before .before .before .before .before .before .before .before .before .before .before .before .before .before .before .before .copy .last .1 .0) (start .pre .renewed) (c .before .before .before .before .before .before .before .before .before .before .before .before .before .before .before .before .before .before .before .before .before .copy .ensures) in
     let x = c .before .before .before .before .before .before .before .before .before .before .before .before .before .before .before .run-record .last .1 .1 .1 .1 .1 .1 .1 .0 in
     let cells = c .before .before .before .before .before .before .before .before .before .before .before .before .before .before .before .run-record .last .1 .1 .1 .1 .1 .1 .1 .1 .0 in
     cycle-finished h copied x cells (c .before .before .before .before .before .before .before .before .before .before .before .before .before .before .before .run-record .result) e (c .before .before .before .before .before .before .before .before .before .before .before .before .before .before .before .run-record .ensures) n (c .before .before .before .before .before .before .before .finish .last .1 .1 .0) (c .before .before .write-cells .last .1 .1 .0) w (c .before .before .before .before .before .before .before .before .before .before .enum-told .given .1) (c .before .before .before .before .before .before .before .finish .ensures) (c .before .before .write-cells .ensures)
@@ -219,7 +211,7 @@ same-length-3 c =
     let start = c .before .before .before .before .before .before .before .before .before .before .before .before .before .before .before .before .before .before .before .before .before .before in
     let h = start .pre in
     let copied = c .before .before .before .before .before .before .before .before .before .before .before .copy .last .1 .0 in
-    let e = c .before .before .before .before .before .before .before .before .before .before .before .copy .ensures in
+    let e = all-copied (start .args .old .now) (start .args .new .now) (c .before .before .before .before .before .before .before .before .before .before .before .copy .last .1 .0) (start .pre .renewed) (c .before .before .before .before .before .before .before .before .before .before .before .copy .ensures) in
     let kn = c .before .before .before .before .before .before .before .before .before .before .before .copy .kept .1 .0 in
     let x = c .before .before .before .before .before .run-record .last .1 .1 .1 .1 .1 .1 .1 .0 in
     let kx = c .before .before .before .before .before .run-record .kept .1 .1 .1 .1 .1 .1 .1 .0 in
@@ -231,7 +223,7 @@ returns-2 c =
     let start = c .before .before .before .before .before .before .before .before .before .before .before .before .before .before .before .before .before .before .before .before .before .before in
     let h = start .pre in
     let copied = c .before .before .before .before .before .before .before .before .before .before .before .copy .last .1 .0 in
-    let e = c .before .before .before .before .before .before .before .before .before .before .before .copy .ensures in
+    let e = all-copied (start .args .old .now) (start .args .new .now) (c .before .before .before .before .before .before .before .before .before .before .before .copy .last .1 .0) (start .pre .renewed) (c .before .before .before .before .before .before .before .before .before .before .before .copy .ensures) in
     let x = c .before .before .before .before .before .run-record .last .1 .1 .1 .1 .1 .1 .1 .0 in
     let cells = c .before .before .before .before .before .run-record .last .1 .1 .1 .1 .1 .1 .1 .1 .0 in
     cycle-failed h copied x cells (c .before .before .before .before .before .run-record .result) e (c .before .before .before .before .before .run-record .ensures) (c .enum-told2 .given .1)
@@ -242,7 +234,7 @@ same-length-4 c =
     let start = c .before .before .before .before .before .before .before .before .before .before .before .before .before .before .before .before .before .before .before .before .before .before .before .before .before .before in
     let h = start .pre in
     let copied = c .before .before .before .before .before .before .before .before .before .before .before .before .before .before .before .copy .last .1 .0 in
-    let e = c .before .before .before .before .before .before .before .before .before .before .before .before .before .before .before .copy .ensures in
+    let e = all-copied (start .args .old .now) (start .args .new .now) (c .before .before .before .before .before .before .before .before .before .before .before .before .before .before .before .copy .last .1 .0) (start .pre .renewed) (c .before .before .before .before .before .before .before .before .before .before .before .before .before .before .before .copy .ensures) in
     let kn = c .before .before .before .before .before .before .before .before .before .before .before .before .before .before .before .copy .kept .1 .0 in
     let x = c .before .before .before .before .before .before .before .before .before .run-record .last .1 .1 .1 .1 .1 .1 .1 .0 in
     let kx = c .before .before .before .before .before .before .before .before .before .run-record .kept .1 .1 .1 .1 .1 .1 .1 .0 in
@@ -254,10 +246,12 @@ returns-3 c =
     let start = c .before .before .before .before .before .before .before .before .before .before .before .before .before .before .before .before .before .before .before .before .before .before .before .before .before .before in
     let h = start .pre in
     let copied = c .before .before .before .before .before .before .before .before .before .before .before .before .before .before .before .copy .last .1 .0 in
-    let e = c .before .before .before .before .before .before .before .before .before .before .before .before .before .before .before .copy .ensures in
+    let e = all-copied (start .args .old .now) (start .args .new .now) (c .before .before .before .before .before .before .before .before .before .before .before .before .before .before .before .copy .last .1 .0) (start .pre .renewed) (c .before .before .before .before .before .before .before .before .before .before .before .before .before .before .before .copy .ensures) in
+    let kn = c .before .before .before .before .before .before .before .before .before .before .before .before .before .before .before .copy .kept .1 .0 in
     let x = c .before .before .before .before .before .before .before .before .before .run-record .last .1 .1 .1 .1 .1 .1 .1 .0 in
+    let kx = c .before .before .before .before .before .before .before .before .before .run-record .kept .1 .1 .1 .1 .1 .1 .1 .0 in
     let cells = c .before .before .before .before .before .before .before .before .before .run-record .last .1 .1 .1 .1 .1 .1 .1 .1 .0 in
-    cycle-overflowed h copied x cells (c .before .before .before .before .before .before .before .before .before .run-record .result) e (c .before .before .before .before .before .before .before .before .before .run-record .ensures) (c .before .before .copy2 .last .1 .0) (c .before .before .before .before .enum-told3 .given .1) (c .before .before .copy2 .ensures)
+    cycle-overflowed h copied x cells (c .before .before .before .before .before .before .before .before .before .run-record .result) e (c .before .before .before .before .before .before .before .before .before .run-record .ensures) (c .before .before .copy2 .last .1 .0) (c .before .before .before .before .enum-told3 .given .1) (all-copied (start .args .old .now) (putTail (length (start .args .consts .now)) copied x) (c .before .before .copy2 .last .1 .0) (moved-length h copied x e kx ∙ kn ∙ h .renewed) (c .before .before .copy2 .ensures))
 
 pub run-main-spec : {M : Type 1} → statement M
 run-main-spec =

@@ -4,6 +4,7 @@ use Prim.Native.Nat.{_+_, _-_, _≤_, _<_}
 use native.Mathlib.Omega.{arith}
 use lib.ListN.{length, take}
 use Rattle.ol_tables.proofs.Lending.{length-put}
+use Rattle.ol_frame.proofs.Copying.{all-copied}
 use Rattle.ol_sim.proofs.Starts.{consts-fit, front-long, begun-long, rest-sited, fresh-whole}
 -- </uses>
 use borrow.Author.Needs.{needs}
@@ -28,21 +29,19 @@ slice-aggregate-copy c =
 
 -- src/starting.rt:32:5
 copy-requires : tie.Need-copy-requires
-copy-requires c κs =
-    let start = c .before .before .before .before .before .before in
-    front-long (start .pre)
+copy-requires c κs = tt
 
 -- src/starting.rt:33:40
 sub-write-fresh : tie.Need-sub-write-fresh
 sub-write-fresh c =
     let start = c .before .before .before .before .before .before .before .before .before in
-    omega (arith, consts-fit (start .pre), begun-long (start .pre) (c .before .before .copy .ensures))
+    omega (arith, consts-fit (start .pre), begun-long (start .pre) ((all-copied (start .args .consts .now) (take (length (start .args .consts .now)) (start .args .state .now)) (c .before .before .copy .last .1 .0) (front-long (start .pre)) (c .before .before .copy .ensures))))
 
 -- src/starting.rt:33:40
 part-write-fresh-start : tie.Need-part-write-fresh-start
 part-write-fresh-start c =
     let start = c .before .before .before .before .before .before .before .before .before in
-    omega (arith, consts-fit (start .pre), begun-long (start .pre) (c .before .before .copy .ensures))
+    omega (arith, consts-fit (start .pre), begun-long (start .pre) ((all-copied (start .args .consts .now) (take (length (start .args .consts .now)) (start .args .state .now)) (c .before .before .copy .last .1 .0) (front-long (start .pre)) (c .before .before .copy .ensures))))
 
 -- src/starting.rt:33:40
 part-write-fresh-end : tie.Need-part-write-fresh-end
@@ -52,7 +51,7 @@ part-write-fresh-end c = search needs
 write-fresh-requires : tie.Need-write-fresh-requires
 write-fresh-requires c κs =
     let start = c .before .before .before .before .before .before .before .before .before .before in
-    rest-sited (start .pre) (c .before .before .before .copy .ensures)
+    rest-sited (start .pre) ((all-copied (start .args .consts .now) (take (length (start .args .consts .now)) (start .args .state .now)) (c .before .before .before .copy .last .1 .0) (front-long (start .pre)) (c .before .before .before .copy .ensures)))
 
 -- src/starting.rt:20:1
 same-length : tie.Need-same-length
@@ -62,7 +61,7 @@ same-length c = search needs
 returns : tie.Need-returns
 returns c =
     let start = c .before .before .before .before .before .before .before .before .before .before .before .before .before in
-    fresh-whole (start .pre) _ (c .before .before .before .before .before .before .copy .ensures) (c .before .before .write-fresh .ensures)
+    fresh-whole (start .pre) _ ((all-copied (start .args .consts .now) (take (length (start .args .consts .now)) (start .args .state .now)) (c .before .before .before .before .before .before .copy .last .1 .0) (front-long (start .pre)) (c .before .before .before .before .before .before .copy .ensures))) (c .before .before .write-fresh .ensures)
 
 pub write-start-spec : {M : Type 1} → statement M
 write-start-spec =

@@ -26,7 +26,8 @@ use Rattle.ol_spec.specs.Places.{tySize}
 use Rattle.ol_tables.proofs.Forms.{reads-in, reads-deep, unary-form, binary-form, if-form, arrow-form, cast-form, type-some}
 use Rattle.ol_eval.specs.Post.{twoIn, ifIn}
 use Rattle.ol_frame.proofs.Planning.{plan-head}
-use Rattle.ol_frame.proofs.Passing.{callees-one, own-call}
+use Rattle.ol_frame.proofs.Passing.{callees-one}
+use Rattle.ol_tables.proofs.Forms.{own-call}
 use Rattle.ol_eval.proofs.Evals.{mapped}
 use Rattle.ol_eval.proofs.Readying.{ready-parts, form-evals, one-evals, leaf-evals, unary-out-is, cast-out-is, binary-is, first-is}
 -- </uses>

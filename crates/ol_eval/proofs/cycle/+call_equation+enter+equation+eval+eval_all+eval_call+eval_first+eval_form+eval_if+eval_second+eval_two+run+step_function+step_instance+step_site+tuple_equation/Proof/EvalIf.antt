@@ -46,71 +46,74 @@ eval-requires t c κs =
 pub test-of-requires : (t : ℕ) → eval-if-lts.Need-test-of-requires (Q t) (eval-if-at t) eval-if.Post
 test-of-requires t c κs = tt
 
+pub enum-told : (t : ℕ) → eval-if-lts.Need-enum-told (Q t) (eval-if-at t) eval-if.Post
+enum-told t c = search needs
+
 pub sub-eval-first : (t : ℕ) → eval-if-lts.Need-sub-eval-first (Q t) (eval-if-at t) eval-if.Post
 sub-eval-first t c =
-    let start = c .before .before .before .before .before .before .before .before .before .before .before .before .before .before in
+    let start = c .before .before .before .before .before .before .before .before .before .before .before .before .before .before .before in
     let p = start .pre .1 in
     let le = ready-seg p in
-    let h = c .before .before .before .before .eval .ensures in
+    let h = c .before .before .before .before .before .eval .ensures in
     omega (arith, h .used-is, le)
 
 pub part-eval-first-start : (t : ℕ) → eval-if-lts.Need-part-eval-first-start (Q t) (eval-if-at t) eval-if.Post
 part-eval-first-start t c =
-    let start = c .before .before .before .before .before .before .before .before .before .before .before .before .before .before in
+    let start = c .before .before .before .before .before .before .before .before .before .before .before .before .before .before .before in
     let p = start .pre .1 in
     let le = ready-seg p in
-    let h = c .before .before .before .before .eval .ensures in
+    let h = c .before .before .before .before .before .eval .ensures in
     omega (arith, h .used-is, le)
 
 pub part-eval-first-end : (t : ℕ) → eval-if-lts.Need-part-eval-first-end (Q t) (eval-if-at t) eval-if.Post
 part-eval-first-end t c =
-    let start = c .before .before .before .before .before .before .before .before .before .before .before .before .before .before in
+    let start = c .before .before .before .before .before .before .before .before .before .before .before .before .before .before .before in
     let p = start .pre .1 in
     let le = ready-seg p in
-    let h = c .before .before .before .before .eval .ensures in
+    let h = c .before .before .before .before .before .eval .ensures in
     omega (arith, h .used-is, le)
 
 pub sub-eval-first-2 : (t : ℕ) → eval-if-lts.Need-sub-eval-first-2 (Q t) (eval-if-at t) eval-if.Post
 sub-eval-first-2 t c =
-    let start = c .before .before .before .before .before .before .before .before .before .before .before .before .before .before .before in
+    let start = c .before .before .before .before .before .before .before .before .before .before .before .before .before .before .before .before in
     let p = start .pre .1 in
     let le = ready-seg p in
-    let h = c .before .before .before .before .before .eval .ensures in
-    let K = c .before .before .before .before .before .eval .kept .1 .1 .1 .1 .1 .1 .1 .1 .1 .1 .1 .0 in
+    let h = c .before .before .before .before .before .before .eval .ensures in
+    let K = c .before .before .before .before .before .before .eval .kept .1 .1 .1 .1 .1 .1 .1 .1 .1 .1 .1 .0 in
     omega (arith, h .used-is, le, K, ap length (p .same))
 
 pub part-eval-first-start-2 : (t : ℕ) → eval-if-lts.Need-part-eval-first-start-2 (Q t) (eval-if-at t) eval-if.Post
 part-eval-first-start-2 t c =
-    let start = c .before .before .before .before .before .before .before .before .before .before .before .before .before .before .before in
+    let start = c .before .before .before .before .before .before .before .before .before .before .before .before .before .before .before .before in
     let p = start .pre .1 in
     let le = ready-seg p in
-    let h = c .before .before .before .before .before .eval .ensures in
-    let K = c .before .before .before .before .before .eval .kept .1 .1 .1 .1 .1 .1 .1 .1 .1 .1 .1 .0 in
+    let h = c .before .before .before .before .before .before .eval .ensures in
+    let K = c .before .before .before .before .before .before .eval .kept .1 .1 .1 .1 .1 .1 .1 .1 .1 .1 .1 .0 in
     omega (arith, h .used-is, le, K, ap length (p .same))
 
 pub part-eval-first-end-2 : (t : ℕ) → eval-if-lts.Need-part-eval-first-end-2 (Q t) (eval-if-at t) eval-if.Post
 part-eval-first-end-2 t c =
-    let start = c .before .before .before .before .before .before .before .before .before .before .before .before .before .before .before in
+    let start = c .before .before .before .before .before .before .before .before .before .before .before .before .before .before .before .before in
     let p = start .pre .1 in
     let le = ready-seg p in
-    let h = c .before .before .before .before .before .eval .ensures in
-    let K = c .before .before .before .before .before .eval .kept .1 .1 .1 .1 .1 .1 .1 .1 .1 .1 .1 .0 in
+    let h = c .before .before .before .before .before .before .eval .ensures in
+    let K = c .before .before .before .before .before .before .eval .kept .1 .1 .1 .1 .1 .1 .1 .1 .1 .1 .1 .0 in
     omega (arith, h .used-is, le, K, ap length (p .same))
 
 pub eval-first-requires : (t : ℕ) → eval-if-lts.Need-eval-first-requires (Q t) (eval-if-at t) eval-if.Post
 eval-first-requires t c κs =
-    let start = c .before .before .before .before .before .before .before .before .before .before .before .before .before .before .before .before in
+    let start = c .before .before .before .before .before .before .before .before .before .before .before .before .before .before .before .before .before in
     let p = start .pre .1 in
-    let h = c .before .before .before .before .before .before .eval .ensures in
-    let K = c .before .before .before .before .before .before .eval .kept .1 .1 .1 .1 .1 .1 .1 .1 .1 .1 .1 .0 in
+    let h = c .before .before .before .before .before .before .before .eval .ensures in
+    let K = c .before .before .before .before .before .before .before .eval .kept .1 .1 .1 .1 .1 .1 .1 .1 .1 .1 .1 .0 in
     (omega (arith, start .pre .0), rw (h .next-is) (ready-rest p h K))
 
 pub same-out-requires : (t : ℕ) → eval-if-lts.Need-same-out-requires (Q t) (eval-if-at t) eval-if.Post
 same-out-requires t c κs = tt
 
-pub add-t28 : (t : ℕ) → eval-if-lts.Need-add-t28 (Q t) (eval-if-at t) eval-if.Post
-add-t28 t c =
-    let start = c .before .before .before .before .before .before .before .before .before .before .before .before .before .before .before .before .before .before .before .before .before in
+pub add-t27 : (t : ℕ) → eval-if-lts.Need-add-t27 (Q t) (eval-if-at t) eval-if.Post
+add-t27 t c =
+    let start = c .before .before .before .before .before .before .before .before .before .before .before .before .before .before .before .before .before .before .before .before .before .before in
     let p = start .pre .1 in
     let f = start .args .file .now in
     let kk = start .args .consts .now in
@@ -120,10 +123,13 @@ add-t28 t c =
     let F = start .args .first in
     let cl = start .args .cells .now in
     let bb = start .args .before .now in
-    let h = c .before .before .before .before .before .before .before .before .before .before .before .eval .ensures in
+    let h = c .before .before .before .before .before .before .before .before .before .before .before .before .eval .ensures in
     let segs = segs-cons f L 2 a (p .plan .reads) in
-    let g1 = moved-choice f kk true L n F cl bb (c .before .before .before .before .before .before .before .before .before .before .before .eval .ensures .next-is) (rest-old (c .before .before .before .before .before .before .before .before .before .before .before .eval .ensures)) (c .before .before .before .before .eval-first .ensures) in
+    let g1 = moved-choice f kk true L n F cl bb (c .before .before .before .before .before .before .before .before .before .before .before .before .eval .ensures .next-is) (rest-old (c .before .before .before .before .before .before .before .before .before .before .before .before .eval .ensures)) (c .before .before .before .before .eval-first .ensures) in
     omega (arith, h .used-is, g1 .used-is, segs, p .room, p .small)
+
+pub enum-told-2 : (t : ℕ) → eval-if-lts.Need-enum-told-2 (Q t) (eval-if-at t) eval-if.Post
+enum-told-2 t c = search needs
 
 pub sub-eval-second : (t : ℕ) → eval-if-lts.Need-sub-eval-second (Q t) (eval-if-at t) eval-if.Post
 sub-eval-second t c =
@@ -187,8 +193,8 @@ eval-second-requires t c κs =
 pub same-out-requires-2 : (t : ℕ) → eval-if-lts.Need-same-out-requires-2 (Q t) (eval-if-at t) eval-if.Post
 same-out-requires-2 t c κs = tt
 
-pub add-t39 : (t : ℕ) → eval-if-lts.Need-add-t39 (Q t) (eval-if-at t) eval-if.Post
-add-t39 t c =
+pub add-t36 : (t : ℕ) → eval-if-lts.Need-add-t36 (Q t) (eval-if-at t) eval-if.Post
+add-t36 t c =
     let start = c .before .before .before .before .before .before .before .before .before .before .before .before .before .before .before .before .before .before .before .before .before .before in
     let p = start .pre .1 in
     let f = start .args .file .now in
@@ -204,6 +210,9 @@ add-t39 t c =
     let g2 = moved-choice f kk false L n F cl bb (c .before .before .before .before .before .before .before .before .before .before .before .before .eval .ensures .next-is) (rest-old (c .before .before .before .before .before .before .before .before .before .before .before .before .eval .ensures)) (c .before .before .before .before .eval-second .ensures) in
     omega (arith, h .used-is, g2 .used-is, segs, p .room, p .small)
 
+pub enum-told-3 : (t : ℕ) → eval-if-lts.Need-enum-told-3 (Q t) (eval-if-at t) eval-if.Post
+enum-told-3 t c = search needs
+
 pub pass-all-requires : (t : ℕ) → eval-if-lts.Need-pass-all-requires (Q t) (eval-if-at t) eval-if.Post
 pass-all-requires t c κs =
     let start = c .before .before .before .before .before .before .before .before .before .before .before .before .before .before .before in
@@ -215,8 +224,8 @@ pass-all-requires t c κs =
 pub untested-requires : (t : ℕ) → eval-if-lts.Need-untested-requires (Q t) (eval-if-at t) eval-if.Post
 untested-requires t c κs = tt
 
-pub add-t48 : (t : ℕ) → eval-if-lts.Need-add-t48 (Q t) (eval-if-at t) eval-if.Post
-add-t48 t c =
+pub add-t45 : (t : ℕ) → eval-if-lts.Need-add-t45 (Q t) (eval-if-at t) eval-if.Post
+add-t45 t c =
     let start = c .before .before .before .before .before .before .before .before .before .before .before .before .before .before .before .before .before .before in
     let p = start .pre .1 in
     let f = start .args .file .now in
@@ -229,17 +238,17 @@ add-t48 t c =
 
 pub same-length : (t : ℕ) → eval-if-lts.Need-same-length (Q t) (eval-if-at t) eval-if.Post
 same-length t c =
-    let start = c .before .before .before .before .before .before .before .before .before .before .before .before .before .before .before .before .before .before .before .before .before in
+    let start = c .before .before .before .before .before .before .before .before .before .before .before .before .before .before .before .before .before .before .before .before .before .before in
     let p = start .pre .1 in
     let le = ready-seg p in
-    let h = c .before .before .before .before .before .before .before .before .before .before .before .eval .ensures in
-    let K = c .before .before .before .before .before .before .before .before .before .before .before .eval .kept .1 .1 .1 .1 .1 .1 .1 .1 .1 .1 .1 .0 in
-    let N = c .before .before .before .before .before .before .before .before .before .before .before .eval .last .1 .1 .1 .1 .1 .1 .1 .1 .1 .1 .1 .0 in
-    length-put (c .before .before .before .before .before .before .before .before .before .before .before .eval .result .used) N (c .before .before .before .before .eval-first .last .1 .1 .1 .1 .1 .1 .1 .1 .1 .1 .1 .0) (omega (arith, h .used-is, le, K, ap length (p .same))) (c .before .before .before .before .eval-first .kept .1 .1 .1 .1 .1 .1 .1 .1 .1 .1 .1 .0) ∙ K
+    let h = c .before .before .before .before .before .before .before .before .before .before .before .before .eval .ensures in
+    let K = c .before .before .before .before .before .before .before .before .before .before .before .before .eval .kept .1 .1 .1 .1 .1 .1 .1 .1 .1 .1 .1 .0 in
+    let N = c .before .before .before .before .before .before .before .before .before .before .before .before .eval .last .1 .1 .1 .1 .1 .1 .1 .1 .1 .1 .1 .0 in
+    length-put (c .before .before .before .before .before .before .before .before .before .before .before .before .eval .result .used) N (c .before .before .before .before .eval-first .last .1 .1 .1 .1 .1 .1 .1 .1 .1 .1 .1 .0) (omega (arith, h .used-is, le, K, ap length (p .same))) (c .before .before .before .before .eval-first .kept .1 .1 .1 .1 .1 .1 .1 .1 .1 .1 .1 .0) ∙ K
 
 pub returns : (t : ℕ) → eval-if-lts.Need-returns (Q t) (eval-if-at t) eval-if.Post
 returns t c =
-    let start = c .before .before .before .before .before .before .before .before .before .before .before .before .before .before .before .before .before .before .before .before .before in
+    let start = c .before .before .before .before .before .before .before .before .before .before .before .before .before .before .before .before .before .before .before .before .before .before in
     let p = start .pre .1 in
     let f = start .args .file .now in
     let kk = start .args .consts .now in
@@ -252,13 +261,13 @@ returns t c =
     let le = ready-seg p in
     let mid = endAt f L a in
     let n1 = segAt f L a in
-    let h = c .before .before .before .before .before .before .before .before .before .before .before .eval .ensures in
-    let K = c .before .before .before .before .before .before .before .before .before .before .before .eval .kept .1 .1 .1 .1 .1 .1 .1 .1 .1 .1 .1 .0 in
+    let h = c .before .before .before .before .before .before .before .before .before .before .before .before .eval .ensures in
+    let K = c .before .before .before .before .before .before .before .before .before .before .before .before .eval .kept .1 .1 .1 .1 .1 .1 .1 .1 .1 .1 .1 .0 in
     let m2 = segsAt f L 2 (endAt f L a) in
     let segs = segs-cons f L 2 a (p .plan .reads) in
     let ends = parted f L 2 a (p .plan .reads) .ends in
-    let g1 = moved-choice f kk true L n F cl bb (c .before .before .before .before .before .before .before .before .before .before .before .eval .ensures .next-is) (rest-old (c .before .before .before .before .before .before .before .before .before .before .before .eval .ensures)) (c .before .before .before .before .eval-first .ensures) in
-    remade (c .before .same-out .ensures) (seq-as ((λ (x y : List ℕ). next (evalIn f kk n F cl bb (exprAt f L a) x) (condition (λ (b : Bool) (rest : List ℕ). chooseIn f kk b L mid n F cl bb rest)) y)) n1 m2 segs ends (if-taken ((λ (b : Bool) (rest : List ℕ). chooseIn f kk b L mid n F cl bb rest)) true h g1 (K ∙ ap length (p .same)) le (sym (c .before .before .before .before .before .before .before .before .test-of .ensures) ∙ c .before .before .before .before .before .before .before .if1 .taken)))
+    let g1 = moved-choice f kk true L n F cl bb (c .before .before .before .before .before .before .before .before .before .before .before .before .eval .ensures .next-is) (rest-old (c .before .before .before .before .before .before .before .before .before .before .before .before .eval .ensures)) (c .before .before .before .before .eval-first .ensures) in
+    remade (c .before .same-out .ensures) (seq-as ((λ (x y : List ℕ). next (evalIn f kk n F cl bb (exprAt f L a) x) (condition (λ (b : Bool) (rest : List ℕ). chooseIn f kk b L mid n F cl bb rest)) y)) n1 m2 segs ends (if-taken ((λ (b : Bool) (rest : List ℕ). chooseIn f kk b L mid n F cl bb rest)) true h g1 (K ∙ ap length (p .same)) le (sym (c .before .before .before .before .before .before .before .before .before .test-of .ensures) ∙ c .before .before .before .before .before .before .before .enum-told .given .1)))
 
 pub same-length-2 : (t : ℕ) → eval-if-lts.Need-same-length-2 (Q t) (eval-if-at t) eval-if.Post
 same-length-2 t c =
@@ -291,7 +300,7 @@ returns-2 t c =
     let segs = segs-cons f L 2 a (p .plan .reads) in
     let ends = parted f L 2 a (p .plan .reads) .ends in
     let g2 = moved-choice f kk false L n F cl bb (c .before .before .before .before .before .before .before .before .before .before .before .before .eval .ensures .next-is) (rest-old (c .before .before .before .before .before .before .before .before .before .before .before .before .eval .ensures)) (c .before .before .before .before .eval-second .ensures) in
-    remade (c .before .same-out2 .ensures) (seq-as ((λ (x y : List ℕ). next (evalIn f kk n F cl bb (exprAt f L a) x) (condition (λ (b : Bool) (rest : List ℕ). chooseIn f kk b L mid n F cl bb rest)) y)) n1 m2 segs ends (if-taken ((λ (b : Bool) (rest : List ℕ). chooseIn f kk b L mid n F cl bb rest)) false h g2 (K ∙ ap length (p .same)) le (sym (c .before .before .before .before .before .before .before .before .before .test-of .ensures) ∙ c .before .before .before .before .before .before .before .if2 .taken)))
+    remade (c .before .same-out2 .ensures) (seq-as ((λ (x y : List ℕ). next (evalIn f kk n F cl bb (exprAt f L a) x) (condition (λ (b : Bool) (rest : List ℕ). chooseIn f kk b L mid n F cl bb rest)) y)) n1 m2 segs ends (if-taken ((λ (b : Bool) (rest : List ℕ). chooseIn f kk b L mid n F cl bb rest)) false h g2 (K ∙ ap length (p .same)) le (sym (c .before .before .before .before .before .before .before .before .before .test-of .ensures) ∙ c .before .before .before .before .before .before .before .enum-told2 .given .1)))
 
 pub same-length-3 : (t : ℕ) → eval-if-lts.Need-same-length-3 (Q t) (eval-if-at t) eval-if.Post
 same-length-3 t c =
@@ -316,4 +325,4 @@ returns-3 t c =
     let m2 = segsAt f L 2 (endAt f L a) in
     let segs = segs-cons f L 2 a (p .plan .reads) in
     let ends = parted f L 2 a (p .plan .reads) .ends in
-    seq-as ((λ (x y : List ℕ). next (evalIn f kk n F cl bb (exprAt f L a) x) (condition (λ (b : Bool) (rest : List ℕ). chooseIn f kk b L mid n F cl bb rest)) y)) n1 m2 segs ends (if-stop ((λ (b : Bool) (rest : List ℕ). chooseIn f kk b L mid n F cl bb rest)) h ((moved-skip f L 2 (c .before .before .before .before .before .before .before .before .eval .ensures .next-is) (c .before .before .pass-all .ensures))) (λ e. c .before .before .before .before .if1 .left (c .before .before .before .before .before .test-of .ensures ∙ e)) (λ e. c .before .before .before .if2 .left (c .before .before .before .before .before .test-of .ensures ∙ e)) (c .before .untested .ensures))
+    seq-as ((λ (x y : List ℕ). next (evalIn f kk n F cl bb (exprAt f L a) x) (condition (λ (b : Bool) (rest : List ℕ). chooseIn f kk b L mid n F cl bb rest)) y)) n1 m2 segs ends (if-stop ((λ (b : Bool) (rest : List ℕ). chooseIn f kk b L mid n F cl bb rest)) h ((moved-skip f L 2 (c .before .before .before .before .before .before .before .before .eval .ensures .next-is) (c .before .before .pass-all .ensures))) (sym (c .before .before .before .before .before .test-of .ensures) ∙ c .before .before .before .enum-told3 .given .1) (c .before .untested .ensures))

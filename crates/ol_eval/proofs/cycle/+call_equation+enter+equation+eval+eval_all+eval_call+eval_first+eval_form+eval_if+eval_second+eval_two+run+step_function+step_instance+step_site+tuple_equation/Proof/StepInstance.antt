@@ -3,6 +3,9 @@
 use mathlib.Core.Path.{refl, ap, _∙_}
 use native.Mathlib.Omega.{arith}
 use lib.ListN.{length}
+use Prim.Native.Nat.{_+_, _*_}
+use Rattle.ol_tables.proofs.Lending.{putTail}
+use Rattle.ol_frame.proofs.Copying.{all-copied}
 use Rattle.ol_eval.proofs.Stepping.{few, long, narrow, inputs-first, own-room, own-new, cells-room, put-length, set-length, cells-new, record-length, fresh-sited, instance-runnable, entered, instance-finished, instance-failed, instance-overflowed}
 -- </uses>
 use Prim.Native.Nat.{ℕ}
@@ -273,15 +276,7 @@ pub enum-told-3 : (t : ℕ) → step-instance-lts.Need-enum-told-3 (Q t) (step-i
 enum-told-3 t c = search needs
 
 pub copy-requires : (t : ℕ) → step-instance-lts.Need-copy-requires (Q t) (step-instance-at t) step-instance.Post
-copy-requires t c κs =
-    let start = c .before .before .before .before .before .before .before .before .before .before .before .before .before .before .before .before .before .before .before .before .before .before .before .before .before .before .before in
-    let h = start .pre .1 .0 in
-    let o = start .pre .1 .1 in
-    let n = c .before .before .before .before .before .before .before .before .before .before .before .before .before .before .before .before .before .before .before .row .result in
-    let w = c .before .before .before .before .before .before .before .before .before .before .before .before .before .before .before .before .before .before .before .row .ensures in
-    let x = c .before .before .before .before .before .before .before .run .last .1 .1 .1 .1 .1 .1 .1 .1 .1 .0 in
-    let kx = c .before .before .before .before .before .before .before .run .kept .1 .1 .1 .1 .1 .1 .1 .1 .1 .0 in
-    put-length h n x o w kx ∙ ap length (h .same)
+copy-requires t c κs = tt
 
 pub same-length : (t : ℕ) → step-instance-lts.Need-same-length (Q t) (step-instance-at t) step-instance.Post
 same-length t c =
@@ -360,9 +355,11 @@ returns-3 t c =
     let start = c .before .before .before .before .before .before .before .before .before .before .before .before .before .before .before .before .before .before .before .before .before .before .before .before .before .before .before .before .before .before in
     let h = start .pre .1 .0 in
     let o = start .pre .1 .1 in
+    let n = c .before .before .before .before .before .before .before .before .before .before .before .before .before .before .before .before .before .before .before .before .before .before .row .result in
     let w = c .before .before .before .before .before .before .before .before .before .before .before .before .before .before .before .before .before .before .before .before .before .before .row .ensures in
     let iw = c .before .before .before .before .before .before .before .before .before .before .before .before .before .before .before .before .before .before .before .before .before .row2 .ensures in
     let cells = c .before .before .before .before .before .before .before .before .before .before .run .last .1 .1 .1 .1 .1 .1 .0 in
     let x = c .before .before .before .before .before .before .before .before .before .before .run .last .1 .1 .1 .1 .1 .1 .1 .1 .1 .0 in
+    let kx = c .before .before .before .before .before .before .before .before .before .before .run .kept .1 .1 .1 .1 .1 .1 .1 .1 .1 .0 in
     let e = entered h o w iw refl (c .before .before .before .before .before .before .before .before .before .before .before .before .before .before .before .before .before .copy-cells .ensures) in
-    instance-overflowed e (c .before .before .before .before .before .before .before .before .before .before .run .result) cells x (c .before .before .copy .last .1 .0) (c .before .before .before .before .before .before .before .before .before .before .run .ensures) (c .before .before .before .before .enum-told3 .given .1) (c .before .before .copy .ensures)
+    instance-overflowed e (c .before .before .before .before .before .before .before .before .before .before .run .result) cells x (c .before .before .copy .last .1 .0) (c .before .before .before .before .before .before .before .before .before .before .run .ensures) (c .before .before .before .before .enum-told3 .given .1) (all-copied (start .args .old .now) (putTail (1 + 9 * n) (start .args .new .now) x) (c .before .before .copy .last .1 .0) (put-length h n x o w kx ∙ ap length (h .same)) (c .before .before .copy .ensures))

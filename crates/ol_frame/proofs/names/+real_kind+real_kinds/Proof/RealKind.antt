@@ -6,11 +6,11 @@ use Prim.Native.Nat.{ℕ, _+_, _-_, _*_, _≤_, _<_}
 use native.Mathlib.Omega.{arith}
 use lib.ListN.{getD, length}
 use Rattle.ol_spec.specs.Syntax.{Expr}
-use Rattle.ol_spec.specs.Eval.{realKind, RealKind, join, arithmetic, presentOf}
+use Rattle.ol_spec.specs.Eval.{realKind, RealKind, notReal, join, arithmetic, presentOf}
 use Rattle.ol_spec.specs.declared.Outcome.{Outcome}
 use Rattle.ol_tables.specs.At.{exprAt, nodeIn}
 use Rattle.ol_tables.proofs.Forms.{reads-in, reads-deep, float-form, var-form, unary-form, binary-form, if-form, pre-form, arrow-form, cast-form, call-form, by-form, one-tree, type-some}
-use Rattle.ol_frame.specs.Outcomes.{realCode, outcomeKind}
+use Rattle.ol_frame.specs.Outcomes.{kindOf, outcomeKind}
 use Rattle.ol_frame.specs.Plans.{globalsIn, scopeIn, nameAt}
 use Rattle.ol_frame.proofs.RealKinds.{arithmetic-code, plain-code, bits-code, code-kind, present-kind}
 use Rattle.ol_frame.proofs.Planning.{plan-head, plan-name, plan-parts, plan-rest, plan-first, plan-call, plan-passable, segs-form, segs-cons, segs-first}
@@ -282,7 +282,7 @@ returns t c =
     let h = plan-head f p in
     let g = globalsIn f kk in
     let sc = scopeIn f n false cl cl in
-    ap (λ (e : Expr). realCode (realKind g sc e)) (sym (float-form f L a h (c .match .keys1) .tree))
+    ap (λ (e : Expr). realKind g sc e) (sym (float-form f L a h (c .match .keys1) .tree))
 
 pub returns-2 : (t : ℕ) → real-kind-lts.Need-returns-2 (Q t) (real-kind-at t) real-kind.Post
 returns-2 t c =
@@ -297,7 +297,7 @@ returns-2 t c =
     let h = plan-head f p in
     let g = globalsIn f kk in
     let sc = scopeIn f n false cl cl in
-    c .kind-of-outcome .ensures ∙ ap outcomeKind (c .before .present .ensures) ∙ present-kind (presentOf g sc (nameAt f (a + 1))) ∙ ap (λ (e : Expr). realCode (realKind g sc e)) (sym (var-form f L a h (c .before .before .match .keys2) .tree))
+    c .kind-of-outcome .ensures ∙ ap outcomeKind (c .before .present .ensures) ∙ present-kind (presentOf g sc (nameAt f (a + 1))) ∙ ap (λ (e : Expr). realKind g sc e) (sym (var-form f L a h (c .before .before .match .keys2) .tree))
 
 pub returns-3 : (t : ℕ) → real-kind-lts.Need-returns-3 (Q t) (real-kind-at t) real-kind.Post
 returns-3 t c =
@@ -312,7 +312,7 @@ returns-3 t c =
     let h = plan-head f p in
     let g = globalsIn f kk in
     let sc = scopeIn f n false cl cl in
-    c .real-kind .ensures ∙ ap (λ (e : Expr). realCode (realKind g sc e)) (sym ((unary-form f L a h (c .before .match .keys3) .1) .tree))
+    c .real-kind .ensures ∙ ap (λ (e : Expr). realKind g sc e) (sym ((unary-form f L a h (c .before .match .keys3) .1) .tree))
 
 pub returns-4 : (t : ℕ) → real-kind-lts.Need-returns-4 (Q t) (real-kind-at t) real-kind.Post
 returns-4 t c =
@@ -327,7 +327,7 @@ returns-4 t c =
     let h = plan-head f p in
     let g = globalsIn f kk in
     let sc = scopeIn f n false cl cl in
-    sym (ap realCode (plain-code (getD f (a + 1) 0) ((binary-form f L a h (c .before .before .match .keys4)) .0) _ ((binary-form f L a h (c .before .before .match .keys4)) .2) (c .if1 .taken))) ∙ ap (λ (e : Expr). realCode (realKind g sc e)) (sym ((binary-form f L a h (c .before .before .match .keys4)) .1 .tree))
+    sym (plain-code (getD f (a + 1) 0) ((binary-form f L a h (c .before .before .match .keys4)) .0) _ ((binary-form f L a h (c .before .before .match .keys4)) .2) (c .if1 .taken)) ∙ ap (λ (e : Expr). realKind g sc e) (sym ((binary-form f L a h (c .before .before .match .keys4)) .1 .tree))
 
 pub returns-5 : (t : ℕ) → real-kind-lts.Need-returns-5 (Q t) (real-kind-at t) real-kind.Post
 returns-5 t c =
@@ -342,7 +342,7 @@ returns-5 t c =
     let h = plan-head f p in
     let g = globalsIn f kk in
     let sc = scopeIn f n false cl cl in
-    c .real-kinds .ensures ∙ sym (ap realCode (arithmetic-code (getD f (a + 1) 0) ((binary-form f L a h (c .before .before .before .before .match .keys4)) .0) _ ((binary-form f L a h (c .before .before .before .before .match .keys4)) .2) (λ l. omega (arith, c .before .before .if1 .left)) (c .before .if2 .taken))) ∙ ap (λ (e : Expr). realCode (realKind g sc e)) (sym ((binary-form f L a h (c .before .before .before .before .match .keys4)) .1 .tree))
+    c .real-kinds .ensures ∙ sym (arithmetic-code (getD f (a + 1) 0) ((binary-form f L a h (c .before .before .before .before .match .keys4)) .0) _ ((binary-form f L a h (c .before .before .before .before .match .keys4)) .2) (λ l. omega (arith, c .before .before .if1 .left)) (c .before .if2 .taken)) ∙ ap (λ (e : Expr). realKind g sc e) (sym ((binary-form f L a h (c .before .before .before .before .match .keys4)) .1 .tree))
 
 pub returns-6 : (t : ℕ) → real-kind-lts.Need-returns-6 (Q t) (real-kind-at t) real-kind.Post
 returns-6 t c =
@@ -357,7 +357,7 @@ returns-6 t c =
     let h = plan-head f p in
     let g = globalsIn f kk in
     let sc = scopeIn f n false cl cl in
-    sym (ap realCode (bits-code (getD f (a + 1) 0) ((binary-form f L a h (c .before .before .before .match .keys4)) .0) _ ((binary-form f L a h (c .before .before .before .match .keys4)) .2) (λ l. omega (arith, c .if2 .left)))) ∙ ap (λ (e : Expr). realCode (realKind g sc e)) (sym ((binary-form f L a h (c .before .before .before .match .keys4)) .1 .tree))
+    sym (bits-code (getD f (a + 1) 0) ((binary-form f L a h (c .before .before .before .match .keys4)) .0) _ ((binary-form f L a h (c .before .before .before .match .keys4)) .2) (λ l. omega (arith, c .if2 .left))) ∙ ap (λ (e : Expr). realKind g sc e) (sym ((binary-form f L a h (c .before .before .before .match .keys4)) .1 .tree))
 
 pub returns-7 : (t : ℕ) → real-kind-lts.Need-returns-7 (Q t) (real-kind-at t) real-kind.Post
 returns-7 t c =
@@ -373,7 +373,7 @@ returns-7 t c =
     let g = globalsIn f kk in
     let sc = scopeIn f n false cl cl in
     let e = c .before .pass .ensures .next-is ∙ one-tree f (L - 1) (a + 1) (plan-first f ((plan-parts f p ((if-form f L a h (c .before .before .match .keys5))))) .reads) .1 in
-    (rw e at (c .real-kinds2 .ensures)) ∙ ap (λ (e : Expr). realCode (realKind g sc e)) (sym ((if-form f L a h (c .before .before .match .keys5)) .tree))
+    (rw e at (c .real-kinds2 .ensures)) ∙ ap (λ (e : Expr). realKind g sc e) (sym ((if-form f L a h (c .before .before .match .keys5)) .tree))
 
 pub returns-8 : (t : ℕ) → real-kind-lts.Need-returns-8 (Q t) (real-kind-at t) real-kind.Post
 returns-8 t c =
@@ -388,7 +388,7 @@ returns-8 t c =
     let h = plan-head f p in
     let g = globalsIn f kk in
     let sc = scopeIn f n false cl cl in
-    c .real-kind2 .ensures ∙ ap (λ (e : Expr). realCode (realKind g sc e)) (sym ((pre-form f L a h (c .before .match .keys6)) .tree))
+    c .real-kind2 .ensures ∙ ap (λ (e : Expr). realKind g sc e) (sym ((pre-form f L a h (c .before .match .keys6)) .tree))
 
 pub returns-9 : (t : ℕ) → real-kind-lts.Need-returns-9 (Q t) (real-kind-at t) real-kind.Post
 returns-9 t c =
@@ -403,7 +403,7 @@ returns-9 t c =
     let h = plan-head f p in
     let g = globalsIn f kk in
     let sc = scopeIn f n false cl cl in
-    c .real-kinds3 .ensures ∙ ap (λ (e : Expr). realCode (realKind g sc e)) (sym ((arrow-form f L a h (c .before .match .keys7)) .tree))
+    c .real-kinds3 .ensures ∙ ap (λ (e : Expr). realKind g sc e) (sym ((arrow-form f L a h (c .before .match .keys7)) .tree))
 
 pub returns-10 : (t : ℕ) → real-kind-lts.Need-returns-10 (Q t) (real-kind-at t) real-kind.Post
 returns-10 t c =
@@ -418,7 +418,7 @@ returns-10 t c =
     let h = plan-head f p in
     let g = globalsIn f kk in
     let sc = scopeIn f n false cl cl in
-    code-kind (c .kind-of-type .result) (getD f (a + 1) 0) ((cast-form f L a h (c .before .before .match .keys8)) .0) ((cast-form f L a h (c .before .before .match .keys8)) .4) ((cast-form f L a h (c .before .before .match .keys8)) .2) (c .kind-of-type .ensures) ∙ ap (λ (e : Expr). realCode (realKind g sc e)) (sym ((cast-form f L a h (c .before .before .match .keys8)) .1 .tree))
+    code-kind (kindOf (c .kind-of-type .result)) (getD f (a + 1) 0) ((cast-form f L a h (c .before .before .match .keys8)) .0) ((cast-form f L a h (c .before .before .match .keys8)) .4) ((cast-form f L a h (c .before .before .match .keys8)) .2) (c .kind-of-type .ensures) ∙ ap (λ (e : Expr). realKind g sc e) (sym ((cast-form f L a h (c .before .before .match .keys8)) .1 .tree))
 
 pub returns-11 : (t : ℕ) → real-kind-lts.Need-returns-11 (Q t) (real-kind-at t) real-kind.Post
 returns-11 t c =
@@ -433,7 +433,7 @@ returns-11 t c =
     let h = plan-head f p in
     let g = globalsIn f kk in
     let sc = scopeIn f n false cl cl in
-    (rw (c .before .number .ensures .0) at (c .call-kind .ensures)) ∙ ap (λ (e : Expr). realCode (realKind g sc e)) (sym ((call-form f L a h (c .before .before .before .match .keys9)) .0 .tree))
+    (rw (c .before .number .ensures .0) at (c .call-kind .ensures)) ∙ ap (λ (e : Expr). realKind g sc e) (sym ((call-form f L a h (c .before .before .before .match .keys9)) .0 .tree))
 
 pub returns-12 : (t : ℕ) → real-kind-lts.Need-returns-12 (Q t) (real-kind-at t) real-kind.Post
 returns-12 t c =
@@ -448,7 +448,7 @@ returns-12 t c =
     let h = plan-head f p in
     let g = globalsIn f kk in
     let sc = scopeIn f n false cl cl in
-    by-form f (λ c e. ¬ (c ≡ 2) → ¬ (c ≡ 4) → ¬ (c ≡ 5) → ¬ (c ≡ 6) → ¬ (c ≡ 7) → ¬ (c ≡ 8) → ¬ (c ≡ 9) → ¬ (c ≡ 10) → ¬ (c ≡ 11) → 0 ≡ realCode (realKind g sc e))
+    by-form f (λ c e. ¬ (c ≡ 2) → ¬ (c ≡ 4) → ¬ (c ≡ 5) → ¬ (c ≡ 6) → ¬ (c ≡ 7) → ¬ (c ≡ 8) → ¬ (c ≡ 9) → ¬ (c ≡ 10) → ¬ (c ≡ 11) → notReal ≡ realKind g sc e)
     (λ b n2 n4 n5 n6 n7 n8 n9 n10 n11. refl) (λ i n2 n4 n5 n6 n7 n8 n9 n10 n11. refl) (λ b n2 n4 n5 n6 n7 n8 n9 n10 n11. absurd (n2 refl)) (λ c n2 n4 n5 n6 n7 n8 n9 n10 n11. refl) (λ x n2 n4 n5 n6 n7 n8 n9 n10 n11. absurd (n4 refl))
     (λ op e n2 n4 n5 n6 n7 n8 n9 n10 n11. absurd (n5 refl)) (λ op l r n2 n4 n5 n6 n7 n8 n9 n10 n11. absurd (n6 refl)) (λ c t e n2 n4 n5 n6 n7 n8 n9 n10 n11. absurd (n7 refl)) (λ e n2 n4 n5 n6 n7 n8 n9 n10 n11. absurd (n8 refl))
     (λ a b n2 n4 n5 n6 n7 n8 n9 n10 n11. absurd (n9 refl)) (λ t e n2 n4 n5 n6 n7 n8 n9 n10 n11. absurd (n10 refl)) (λ k es n2 n4 n5 n6 n7 n8 n9 n10 n11. absurd (n11 refl)) (λ es n2 n4 n5 n6 n7 n8 n9 n10 n11. refl) L a h

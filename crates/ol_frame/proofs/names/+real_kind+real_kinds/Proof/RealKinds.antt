@@ -4,10 +4,9 @@ use mathlib.Core.Path.{_≡_, refl, sym, ap, subst, _∙_}
 use mathlib.Core.Bool.{Bool, true, false}
 use Prim.Native.Nat.{ℕ, _+_, _-_, _*_, _≤_, _<_}
 use native.Mathlib.Omega.{arith}
-use Rattle.ol_spec.specs.Eval.{realKind}
+use Rattle.ol_spec.specs.Eval.{realKind, join}
 use Rattle.ol_tables.specs.At.{exprAt, endAt}
 use Rattle.ol_tables.proofs.Forms.{one-tree}
-use Rattle.ol_frame.specs.Outcomes.{realCode}
 use Rattle.ol_frame.specs.Plans.{globalsIn, scopeIn}
 use Rattle.ol_frame.proofs.Planning.{plan-rest, plan-first, plan-passable, segs-cons, segs-first, segs-one}
 -- </uses>
@@ -63,7 +62,5 @@ returns t c =
     let L = start .args .level in
     let a = start .args .at in
     let p = start .pre .1 .0 in
-    let g = globalsIn f (start .args .consts .now) in
-    let sc = scopeIn f (start .args .node) false (start .args .cells .now) (start .args .cells .now) in
     let e = (c .before .before .pass .ensures .next-is ∙ one-tree f L a ((plan-first f p) .reads) .1) in
-    c .join-kinds .ensures (realKind g sc (exprAt f L a)) (realKind g sc (exprAt f L (endAt f L a))) (c .before .before .before .real-kind .ensures) (rw e at (c .before .real-kind2 .ensures))
+    c .join-kinds .ensures ∙ (λ i. join (c .before .before .before .real-kind .ensures i) ((rw e at (c .before .real-kind2 .ensures)) i))
