@@ -1,15 +1,11 @@
 use Rattle.ol_spec.specs.Lists.{same}
 use Rattle.ol_spec.specs.Cell.{cell}
 use mathlib.Core.List.{append-nil}
-use mathlib.Core.Path.{_≡_, refl, sym, ap, _∙_}
+use mathlib.Core.Path.{ap, _∙_}
 use native.Mathlib.Omega.{arith}
 use borrow.Author.Needs.{needs}
 use Rattle.value_grid.proofs.is_cell.Statement.{statement}
 use Rattle.value_grid.proofs.is_cell.Tie as tie
-use Rattle.value_grid.proofs.is_cell.Reads as reads
-use Rattle.value_grid.proofs.is_cell.Lts as lts
-use Rattle.ol_value.proofs.cell.write_cell.Reads as write-cell-reads
-use Rattle.value_grid.proofs.same_bytes.Reads as same-bytes-reads
 
 slice-aggregate-write-cell : tie.Need-slice-aggregate-write-cell
 slice-aggregate-write-cell c = search needs
