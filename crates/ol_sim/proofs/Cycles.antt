@@ -24,8 +24,8 @@ use Rattle.ol_ir.specs.Walks.{loadedOf}
 use Rattle.ol_ir.specs.declared.Loaded.{Loaded}
 use Rattle.ol_ir.specs.declared.Loaded.the-variants as Ldd
 use Rattle.ol_state.specs.Ready.{Ready}
-use Rattle.ol_eval.specs.Nodes.{Running}
-use Rattle.ol_eval.specs.MainCycle.{RunReady, Cycles}
+use Rattle.ol_frame.specs.Nodes.{Running}
+use Rattle.ol_run.specs.MainCycle.{RunReady, Cycles}
 use Rattle.ol_sim.specs.Calls.{CyclesAs}
 use Rattle.ol_sim.specs.Judging.{valuesIn, whole, Admits}
 use Rattle.ol_sim.specs.Cycling.{CycleReady, VariantsReady}

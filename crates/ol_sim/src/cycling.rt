@@ -2,7 +2,7 @@
 use crate::judge::Judged;
 use crate::judge::judge;
 use ol_check::variants::enter_variants;
-use ol_eval::main_cycle::run_main;
+use ol_run::main_cycle::run_main;
 use ol_spec::Cycled;
 use ol_spec::Fault;
 use ol_state::good_inputs;

@@ -1,7 +1,7 @@
 // The start: the fresh state.
 use crate::judge::Judged;
 use crate::judge::judge;
-use ol_eval::copies::copy;
+use ol_frame::copies::copy;
 use ol_spec::Fault;
 use ol_spec::Started;
 use ol_state::fresh::write_fresh;

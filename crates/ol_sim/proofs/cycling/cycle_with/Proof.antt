@@ -5,7 +5,7 @@ use native.Mathlib.Omega.{arith}
 use Rattle.ol_tables.specs.At.{fileAt}
 use lib.Seq.{length-take-le}
 use Rattle.ol_sim.proofs.Starts.{admits-of, judged-whole, judged-refused}
-use Rattle.ol_eval.proofs.Admitted.{running}
+use Rattle.ol_run.proofs.Admitted.{running}
 use Rattle.ol_tables.proofs.HeadsFile.{bytes-of}
 use Rattle.ol_sim.proofs.Cycles.{cycle-whole, cycle-refused, cycle-ready}
 -- </uses>

@@ -5,7 +5,7 @@ use native.Mathlib.Omega.{arith}
 use lib.Seq.{length-take-le}
 use Rattle.ol_tables.specs.At.{fileAt}
 use Rattle.ol_sim.proofs.Starts.{admits-of, judged-whole, judged-refused, starts-refused, starts-done, starts-unfit, main-operator}
-use Rattle.ol_eval.proofs.Admitted.{known}
+use Rattle.ol_run.proofs.Admitted.{known}
 use Rattle.ol_tables.proofs.HeadsFile.{bytes-of}
 -- </uses>
 use borrow.Author.Needs.{needs}
