@@ -1,14 +1,15 @@
 -- Laws of copying cells.
-use Prim.Native.Nat.{ℕ, zero, suc, _+_, _-_, _*_, _<_, _≤_}
+use Prim.Native.Nat.{ℕ, zero, suc, _+_, _-_, _*_, _≤_}
 use mathlib.Core.List.{List, [], _∷_, _++_, append-assoc, append-nil}
-use mathlib.Core.Path.{_≡_, refl, sym, ap, subst, _∙_}
+use mathlib.Core.Path.{_≡_, refl, sym, ap, _∙_}
 use native.Mathlib.Omega.{arith}
-use lib.ListN.{length, take, drop, length-append, length-drop}
-use lib.Seq.{take-at, drop-at, drop-drop}
+use lib.ListN.{length, take, drop, set, length-append, length-drop}
+use lib.Seq.{take-at, drop-at, drop-drop, set-split}
 use Rattle.ol_spec.specs.Cell.{cell, cells, valueOf, valuesOf}
 use Rattle.ol_spec.specs.declared.Value.{Value}
-use Rattle.ol_spec.proofs.Cells.{length-cell, length-cells}
+use Rattle.ol_spec.proofs.Cells.{length-cells}
 use Rattle.ol_spec.proofs.Runs.{length-values}
+use Rattle.ol_tables.proofs.Lending.{tailOf, putTail, tail-all, drop-put}
 
 -- the bytes of one cell more
 pub cells-append : (vs : List Value) (w : Value) → cells (vs ++ w ∷ []) ≡ cells vs ++ cell w
@@ -39,3 +40,9 @@ copied-turn i from to₀ to new v e w h =
 
 pub copied-length : (i : ℕ) (from to₀ to : List ℕ) → 9 * i ≤ length to₀ → to ≡ cells (valuesOf i from) ++ drop (9 * i) to₀ → length to ≡ length to₀
 copied-length i from to₀ to l e = ap length e ∙ length-append (cells (valuesOf i from)) (drop (9 * i) to₀) ∙ omega (arith, cells-length i from, length-drop (9 * i) to₀)
+
+-- the cells are written behind the started byte, and then that byte
+pub record-finished : (n : ℕ) (to y : List ℕ) (vs : List Value) → 1 + 9 * n ≤ length to → length (putTail 1 to y) ≡ length to → y ≡ cells vs ++ drop (9 * n) (tailOf 1 to) → set (putTail 1 to y) 0 1 ≡ 1 ∷ cells vs ++ drop (1 + 9 * n) to
+record-finished n to y vs h l w =
+    set-split (putTail 1 to y) 0 1 (omega arith)
+    ∙ ap (λ (r : List ℕ). 1 ∷ r) (drop-put 1 to y (omega arith) ∙ w ∙ ap (λ (r : List ℕ). cells vs ++ r) (ap (drop (9 * n)) (tail-all 1 to) ∙ drop-drop (9 * n) 1 to))
