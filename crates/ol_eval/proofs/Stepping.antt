@@ -4,8 +4,8 @@ use mathlib.Core.Bool.{Bool, true, false}
 use mathlib.Core.List.{List, [], _∷_, _++_, map, List·Memᴰ·head as here, List·Memᴰ·tail as there}
 use mathlib.Core.Path.{_≡_, refl, sym, ap, subst, _∙_}
 use native.Mathlib.Omega.{arith}
-use lib.ListN.{length, take, drop, getD, set, length-append, length-drop, length-set}
-use lib.Seq.{take-all, drop-drop, drop-set-lt, set-split, length-take-le}
+use lib.ListN.{length, take, drop, getD, length-append, length-drop}
+use lib.Seq.{take-all}
 use lib.Dec.{T}
 use Rattle.ol_theory.specs.Member.{_∈_}
 use Rattle.ol_spec.specs.Lists.{concat}
@@ -35,7 +35,7 @@ use Rattle.ol_eval.specs.Calls.{asIs, Did, outputsAt, Steppable, SiteTo,
 use Rattle.ol_eval.specs.declared.cycle.Ended.{Ended}
 use Rattle.ol_frame.specs.declared.outcomes.Ending.{Ending}
 use Rattle.ol_frame.specs.declared.outcomes.Ending.the-variants as End
-use Rattle.ol_tables.proofs.Lending.{tailOf, putTail, tail-all, put-tail, drop-put, length-put}
+use Rattle.ol_tables.proofs.Lending.{tailOf, putTail, tail-all, drop-put, length-put}
 use Rattle.ol_frame.proofs.Endings.{failed-values, over-values, over-failed}
 use Rattle.ol_frame.proofs.Planning.{sound-call, sounds-each}
 use Rattle.ol_frame.proofs.Passing.{callees-one}
@@ -182,17 +182,6 @@ module _ (g : Globals) (n : Node) where
 
 -- ---- the bytes of a record
 
--- a started byte and the cells are written before the segments
-pub record-written : (own n : ℕ) (new x y : List ℕ) (vs : List Value) → own ≡ 1 + 9 * n → own ≤ length new → y ≡ cellBytes vs ++ drop (9 * n) (tailOf 1 (set (putTail own new x) 0 1)) → putTail 1 (set (putTail own new x) 0 1) y ≡ 1 ∷ cellBytes vs ++ x
-record-written own n new x y vs e h w =
-    let A = putTail own new x in
-    let B = set A 0 1 in
-    let some : 0 < length A = omega (arith, ap length (put-tail own new x), length-append (take own new) x, length-take-le own new h) in
-    let b : B ≡ 1 ∷ drop 1 A = set-split A 0 1 some in
-    let f : take 1 B ≡ 1 ∷ [] = ap (take 1) b in
-    let t : drop (9 * n) (tailOf 1 B) ≡ x = ap (drop (9 * n)) (tail-all 1 B) ∙ drop-drop (9 * n) 1 B ∙ ap (λ (m : ℕ). drop m B) (sym e) ∙ drop-set-lt own A 0 1 (omega arith) ∙ drop-put own new x h in
-    put-tail 1 B y ∙ (λ j. f j ++ (w ∙ ap (λ (l : List ℕ). cellBytes vs ++ l) t) j)
-
 -- the outputs among the cells
 inputs-few : (n : Node) → length (n .inputs) ≤ length (variables n)
 inputs-few n = omega (arith, length-append (n .inputs ++ n .outputs) (n .locals), length-append (n .inputs) (n .outputs))
@@ -249,20 +238,6 @@ module _ {file tab rows consts callee old new : List ℕ} {k : ℕ} (h : Steppab
 
   pub put-length : (n : ℕ) (x : List ℕ) → nodeIn file k .kind ≡ Operator → n ≡ rowAt rows k 4 → length x ≡ length (tailOf (1 + 9 * n) new) → length (putTail (1 + 9 * n) new x) ≡ length new
   put-length n x o e l = length-put (1 + 9 * n) new x (own-new n o e) l
-
-  -- and with its started byte
-  pub set-length : (n : ℕ) (x : List ℕ) → nodeIn file k .kind ≡ Operator → n ≡ rowAt rows k 4 → length x ≡ length (tailOf (1 + 9 * n) new) → length (set (putTail (1 + 9 * n) new x) 0 1) ≡ length new
-  set-length n x o e l = length-set (putTail (1 + 9 * n) new x) 0 1 ∙ put-length n x o e l
-
-  pub cells-new : (n : ℕ) (x : List ℕ) → nodeIn file k .kind ≡ Operator → n ≡ rowAt rows k 4 → length x ≡ length (tailOf (1 + 9 * n) new) → 9 * n ≤ length (tailOf 1 (set (putTail (1 + 9 * n) new x) 0 1))
-  cells-new n x o e l =
-      let S = set (putTail (1 + 9 * n) new x) 0 1 in
-      omega (arith, ap length (tail-all 1 S), length-drop 1 S, set-length n x o e l, own-new n o e)
-
-  pub record-length : (n : ℕ) (x y : List ℕ) → nodeIn file k .kind ≡ Operator → n ≡ rowAt rows k 4 → length x ≡ length (tailOf (1 + 9 * n) new) → length y ≡ length (tailOf 1 (set (putTail (1 + 9 * n) new x) 0 1)) → length (putTail 1 (set (putTail (1 + 9 * n) new x) 0 1) y) ≡ length new
-  record-length n x y o e l m =
-      let S = set (putTail (1 + 9 * n) new x) 0 1 in
-      length-put 1 S y (omega (arith, set-length n x o e l, own-new n o e)) m ∙ set-length n x o e l
 
   -- a fresh record can be written, or the old one
   pub fresh-sited : (n : ℕ) (x : List ℕ) → nodeIn file k .kind ≡ Operator → n ≡ rowAt rows k 4 → length x ≡ length (tailOf (1 + 9 * n) new) → Sited (fileAt file) file tab rows k (putTail (1 + 9 * n) new x)
@@ -339,11 +314,14 @@ module _ {file tab rows consts callee old new : List ℕ} {k : ℕ} {first : Boo
 
   -- it finished
   pub instance-finished : (r : Ended) (cells′ x y : List ℕ) → RunTo file consts k first cells (tailOf 1 old) (tailOf (1 + 9 * n) old) r cells′ x → r .end ≡ End.Values
-      → y ≡ cellBytes (valuesOf n cells′) ++ drop (9 * n) (tailOf 1 (set (putTail (1 + 9 * n) new x) 0 1)) → SiteTo file consts k callee old End.Values cells′ (putTail 1 (set (putTail (1 + 9 * n) new x) 0 1) y)
+      → y ≡ 1 ∷ cellBytes (valuesOf n cells′) ++ drop (1 + 9 * n) (putTail (1 + 9 * n) new x) → SiteTo file consts k callee old End.Values cells′ y
   instance-finished r cells′ x y m z w =
       let s = h .site in
-      let p = record-written (1 + 9 * n) n new x y (valuesOf n cells′) refl (own-new s n (h .operator) (h .width)) w ∙ ap (λ (q : ℕ). 1 ∷ cellBytes (valuesOf q cells′) ++ x) (width-is s n (h .width)) in
-      ended End.Values cells′ (putTail 1 (set (putTail (1 + 9 * n) new x) 0 1) y) (left-finished glob node old ran r (valuesOf (widthIn file k) cells′) (outputsAt file k cells′) x _ m z (outputs-among node cells′) p)
+      let p =
+      w
+      ∙ ap (λ (l : List ℕ). 1 ∷ cellBytes (valuesOf n cells′) ++ l) (drop-put (1 + 9 * n) new x (own-new s n (h .operator) (h .width)))
+      ∙ ap (λ (q : ℕ). 1 ∷ cellBytes (valuesOf q cells′) ++ x) (width-is s n (h .width)) in
+      ended End.Values cells′ y (left-finished glob node old ran r (valuesOf (widthIn file k) cells′) (outputsAt file k cells′) x _ m z (outputs-among node cells′) p)
 
   -- it failed
   pub instance-failed : (r : Ended) (cells′ x new′ : List ℕ) → RunTo file consts k first cells (tailOf 1 old) (tailOf (1 + 9 * n) old) r cells′ x → r .end ≡ End.Failed

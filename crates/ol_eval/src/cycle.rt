@@ -17,11 +17,11 @@ ghost use lib.ListN.{length, getD};
 use ol_frame::copies::assign;
 use ol_frame::copies::copy;
 use ol_frame::copies::copy_cells;
+use ol_frame::copies::finish;
 use ol_frame::copies::less;
 use ol_frame::copies::passed;
 use ol_frame::copies::single_out;
 use ol_frame::copies::store_out;
-use ol_frame::copies::write_cells;
 use ol_frame::equations::equations;
 use ol_frame::names::chosen;
 use ol_frame::names::leaf_out;
@@ -834,8 +834,7 @@ fn step_instance(
     let end = r.end;
     match end {
         Ending::Values => {
-            new[0] = 1;
-            write_cells(n, callee, &mut new[1..]);
+            finish(n, callee, new);
             Ending::Values
         }
         Ending::Failed => {

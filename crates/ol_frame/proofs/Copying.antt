@@ -1,16 +1,17 @@
 -- Laws of copying cells.
 use Prim.Native.Nat.{ℕ, zero, suc, _+_, _-_, _*_, _<_, _≤_, min}
 use mathlib.Core.List.{List, [], _∷_, _++_, append-assoc, append-nil}
-use mathlib.Core.Path.{_≡_, refl, sym, ap, subst, _∙_}
+use mathlib.Core.Path.{_≡_, refl, sym, ap, _∙_}
 use native.Mathlib.Omega.{arith}
 use native.Mathlib.Decide.{decLe}
 use mathlib.Core.Logic.{by-cases}
 use lib.ListN.{length, take, drop, set, getD, length-append, length-drop, drop-of-length-le}
-use lib.Seq.{take-at, drop-at, drop-drop, drop-cons, set-at, take-suc, take-all, length-take-le}
+use lib.Seq.{take-at, drop-at, drop-drop, drop-cons, set-at, set-split, take-suc, take-all, length-take-le}
 use Rattle.ol_spec.specs.Cell.{cell, cells, valueOf, valuesOf}
 use Rattle.ol_spec.specs.declared.Value.{Value}
-use Rattle.ol_spec.proofs.Cells.{length-cell, length-cells}
+use Rattle.ol_spec.proofs.Cells.{length-cells}
 use Rattle.ol_spec.proofs.Runs.{length-values}
+use Rattle.ol_tables.proofs.Lending.{tailOf, putTail, tail-all, drop-put}
 
 -- one byte more is copied
 pub byte-copied : (i : ℕ) (from to₀ to : List ℕ) → to ≡ take i from ++ drop i to₀ → i < length from → i < length to₀ → set to i (getD from i 0) ≡ take (suc i) from ++ drop (suc i) to₀
@@ -63,3 +64,9 @@ copied-turn i from to₀ to new v e w h =
 
 pub copied-length : (i : ℕ) (from to₀ to : List ℕ) → 9 * i ≤ length to₀ → to ≡ cells (valuesOf i from) ++ drop (9 * i) to₀ → length to ≡ length to₀
 copied-length i from to₀ to l e = ap length e ∙ length-append (cells (valuesOf i from)) (drop (9 * i) to₀) ∙ omega (arith, cells-length i from, length-drop (9 * i) to₀)
+
+-- the cells are written behind the started byte, and then that byte
+pub record-finished : (n : ℕ) (to y : List ℕ) (vs : List Value) → 1 + 9 * n ≤ length to → length (putTail 1 to y) ≡ length to → y ≡ cells vs ++ drop (9 * n) (tailOf 1 to) → set (putTail 1 to y) 0 1 ≡ 1 ∷ cells vs ++ drop (1 + 9 * n) to
+record-finished n to y vs h l w =
+    set-split (putTail 1 to y) 0 1 (omega arith)
+    ∙ ap (λ (r : List ℕ). 1 ∷ r) (drop-put 1 to y (omega arith) ∙ w ∙ ap (λ (r : List ℕ). cells vs ++ r) (ap (drop (9 * n)) (tail-all 1 to) ∙ drop-drop (9 * n) 1 to))

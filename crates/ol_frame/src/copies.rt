@@ -1,6 +1,6 @@
 // Cells: copied, passed on and stored.
 ghost use mathlib.Core.Path.{_≡_};
-ghost use mathlib.Core.List.{_++_};
+ghost use mathlib.Core.List.{_∷_, _++_};
 ghost use Prim.Native.Nat.{ℕ, _+_, _-_, _*_, _≤_, _<_, min};
 ghost use lib.ListN.{length, take, drop};
 ghost use Rattle.ol_spec.specs.Cell.{cell, cells, valueOf, valuesOf};
@@ -53,6 +53,15 @@ pub fn write_cells(n: usize, from: &[u8], to: &mut [u8])
         write_cell(v, to, p);
         i += 1;
     }
+}
+
+// A finished step's record: started, with the present cells.
+pub fn finish(n: usize, present: &[u8], to: &mut [u8])
+    requires { ⌜ (n ≤ 112) × (9 * n ≤ length (now present)) × (1 + 9 * n ≤ length (now to)) ⌝ }
+    ensures { λ _. ⌜ now (to .exit) ≡ 1 ∷ cells (valuesOf n (now (present .entry))) ++ drop (1 + 9 * n) (now (to .entry)) ⌝ }
+{
+    write_cells(n, present, &mut to[1..]);
+    to[0] = 1;
 }
 
 // A value as it is passed on: fitted to variable i of node k, or as it is.

@@ -4,8 +4,8 @@ use mathlib.Core.Bool.{Bool}
 use mathlib.Core.List.{List, [], _∷_, _++_, append-assoc, append-nil}
 use mathlib.Core.Path.{_≡_, refl, sym, ap, subst, _∙_}
 use native.Mathlib.Omega.{arith}
-use lib.ListN.{length, take, drop, set, length-drop, length-map, length-append, length-set, drop-of-length-le, take-append-drop}
-use lib.Seq.{take-all, take-add, drop-drop, drop-set-lt, set-split}
+use lib.ListN.{length, take, drop, length-drop, length-map, length-append, drop-of-length-le, take-append-drop}
+use lib.Seq.{take-all, take-add}
 use Rattle.ol_spec.specs.Syntax.{Node, File, main, constantName}
 use Rattle.ol_spec.specs.Cell.{cells, valuesOf}
 use Rattle.ol_spec.specs.Order.{order}
@@ -109,23 +109,6 @@ pub begun : (k n : ℕ) (inputs held present p q : List ℕ) → k ≤ n → 9 *
     → valuesOf n q ≡ valuesOf k inputs ++ drop k (valuesOf n held)
 begun k n inputs held present p q h li lh lp l ep eq =
     values-copied k n held p q h lh (omega arith) eq ∙ ap (λ (vs : List Value). vs ++ drop k (valuesOf n held)) (values-copied 0 k inputs present p (omega arith) li (omega arith) ep)
-
--- the started byte and the cells are written
-pub finish-room : (n : ℕ) (to : List ℕ) → 1 + 9 * n ≤ length to → 9 * n ≤ length (tailOf 1 (set to 0 1))
-finish-room n to h =
-    let B = set to 0 1 in
-    omega (arith, ap length (tail-all 1 B), length-drop 1 B, length-set to 0 1)
-
-pub finished-length : (n : ℕ) (to y : List ℕ) → 1 + 9 * n ≤ length to → length y ≡ length (tailOf 1 (set to 0 1)) → length (putTail 1 (set to 0 1) y) ≡ length to
-finished-length n to y h l = length-put 1 (set to 0 1) y (omega (arith, length-set to 0 1)) l ∙ length-set to 0 1
-
-pub record-finished : (n : ℕ) (to y : List ℕ) (vs : List Value) → 1 + 9 * n ≤ length to → y ≡ cells vs ++ drop (9 * n) (tailOf 1 (set to 0 1)) → putTail 1 (set to 0 1) y ≡ 1 ∷ cells vs ++ drop (1 + 9 * n) to
-record-finished n to y vs h w =
-    let B = set to 0 1 in
-    let b : B ≡ 1 ∷ drop 1 to = set-split to 0 1 (omega arith) in
-    let f : take 1 B ≡ 1 ∷ [] = ap (take 1) b in
-    let t : drop (9 * n) (tailOf 1 B) ≡ drop (1 + 9 * n) to = ap (drop (9 * n)) (tail-all 1 B) ∙ drop-drop (9 * n) 1 B ∙ drop-set-lt (1 + 9 * n) to 0 1 (omega arith) in
-    put-tail 1 B y ∙ (λ j. f j ++ (w ∙ ap (λ (l : List ℕ). cells vs ++ l) t) j)
 
 -- ---- the last node, by its rows
 

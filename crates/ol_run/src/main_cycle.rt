@@ -3,6 +3,7 @@ use ol_eval::cycle::Ended;
 use ol_eval::cycle::run;
 use ol_frame::copies::copy;
 use ol_frame::copies::copy_cells;
+use ol_frame::copies::finish;
 use ol_frame::copies::write_cells;
 use ol_frame::outcomes::Ending;
 use ol_frame::tables::row;
@@ -12,10 +13,10 @@ use ol_tables::tables::INPUTS;
 use ol_tables::tables::MOST_CELLS;
 use ol_tables::tables::VARIABLES;
 ghost use mathlib.Core.Path.{_≡_};
-ghost use mathlib.Core.List.{List, _∷_, _++_};
-ghost use Prim.Native.Nat.{_+_, _*_, _≤_};
+ghost use mathlib.Core.List.{List, _++_};
+ghost use Prim.Native.Nat.{_*_, _≤_};
 ghost use lib.ListN.{length, drop};
-ghost use Rattle.ol_spec.specs.Cell.{cells, valuesOf};
+ghost use Rattle.ol_spec.specs.Cell.{valuesOf};
 ghost use Rattle.ol_spec.specs.declared.Value.{Value};
 ghost use Rattle.ol_run.specs.MainCycle.{RecordReady, RecordRan, RunReady, CyclesTo};
 
@@ -60,15 +61,6 @@ fn run_record(
         &old[own..],
         &mut new[own..],
     )
-}
-
-// A finished cycle's record: started, with the present cells.
-fn finish(n: usize, present: &[u8], to: &mut [u8])
-    requires { ⌜ (n ≤ 112) × (9 * n ≤ length (now present)) × (1 + 9 * n ≤ length (now to)) ⌝ }
-    ensures { λ _. ⌜ now (to .exit) ≡ 1 ∷ cells (valuesOf n (now (present .entry))) ++ drop (1 + 9 * n) (now (to .entry)) ⌝ }
-{
-    to[0] = 1;
-    write_cells(n, present, &mut to[1..]);
 }
 
 // The cycle: the new state and the values. 18 keeps the main cells and the started byte, with the

@@ -1,22 +1,23 @@
 -- Products, quotients, remainders and negation of integers of 64 bits: the tests of `product_fits`, `quotient_fits` and `neg_int`.
 use mathlib.Core.Path.{_≡_, refl, sym, ap, ap₂, subst, _∙_}
 use mathlib.Core.Bool.{Bool, true, false, not, cond, Bool·beq}
-use Prim.Native.Nat.{ℕ, zero, suc, _+_, _-_, _*_, _/_, _≤_, _<_, _^_}
+use Prim.Native.Nat.{ℕ, zero, suc, _+_, _-_, _*_, _/_, _%_, _≤_, _<_, _^_}
 use native.Mathlib.Nat.{div-one, div-le-self, div-lt-self, le-div-iff-mul-le, mul-comm}
 use native.Mathlib.Omega.{arith}
 use native.Mathlib.Decide.{decLt}
-use borrow.Author.Tests.{lt-ltb, le-ltb, eq-eqb, ne-eqb}
+use borrow.Author.Tests.{lt-ltb, le-ltb, le-leb, eq-eqb, ne-eqb}
 use lib.Dec.{ltb, leb, eqb}
 use lib.IntN.{ℤ, pos, negsuc, negℤ, natAbs, _+ℤ_, _-ℤ_, _*ℤ_, +ℤ-idl, zero-*ℤ}
-use lib.Signed.{mag, ltZ, quotZ, remZ, mag-rem}
+use lib.Signed.{mag, ltZ, leZ, quotZ, remZ}
 use mir.Syntax.{w64}
-use mir.Val.{SFits, ofZ}
-use mir.Facts.{toZ-ofZ}
+use mir.Val.{SFits, toZ, ofZ}
+use mir.Facts.{toZ-ofZ, toZ-pos}
 use Rattle.ol_spec.specs.Operators.{exact, divInt, modInt, eqZ}
 use Rattle.ol_spec.specs.declared.Value.the-variants as Val
 use Rattle.ol_spec.specs.declared.Outcome.{Outcome}
 use Rattle.ol_spec.specs.declared.Outcome.the-variants as Out
 use Rattle.ol_value.proofs.Backs.{no-true, tests-eq, back, backs, op-done, op-over, eq-bits}
+use Rattle.ol_value.proofs.Magnitudes.{sign-is}
 
 -- ---- products
 
@@ -79,6 +80,37 @@ other-fits (negsuc m) (negsuc (suc n)) fa fb h = omega (arith, fa .sfits, div-lt
 pub other-quotient : (a b : ℤ) → SFits w64 a → SFits w64 b → (ofZ w64 b ≡ 2 ^ 64 - 1 → ⊥) → true ≡ ltb (mag (quotZ a b)) (2 ^ 63)
 other-quotient a b fa fb h = sym (lt-ltb (mag (quotZ a b)) (2 ^ 63) (other-fits a b fa fb h))
 
+-- a number with the sign of another, as `with_sign` has it
+abbrev withSign : ℕ → ℤ → ℤ
+withSign n a = cond (leZ (pos 0) a) (pos n) (negℤ (pos n))
+
+module _ (n : ℕ) (h : n < 2 ^ 63) where
+  minus-of : pos 0 -ℤ toZ w64 n ≡ negℤ (pos n)
+  minus-of = +ℤ-idl (negℤ (toZ w64 n)) ∙ ap negℤ (toZ-pos w64 {n = n} h)
+
+  pub sign-asks : SFits w64 (pos 0 -ℤ toZ w64 n)
+  sign-asks = subst (SFits w64) (sym minus-of) (record { sfits = mag-minus n (omega arith) })
+
+  pub sign-plus : {a : ℤ} → SFits w64 a → leZ (pos 0) (back a) ≡ true → toZ w64 n ≡ withSign n a
+  sign-plus fa t = toZ-pos w64 {n = n} h ∙ rw (sign-is fa t)
+
+  pub sign-minus : {a : ℤ} → SFits w64 a → leZ (pos 0) (back a) ≡ false → back (pos 0 -ℤ toZ w64 n) ≡ withSign n a
+  sign-minus fa t = toZ-ofZ sign-asks ∙ minus-of ∙ rw (sign-is fa t)
+
+-- the remainder of the numbers without their signs, with the dividend's
+remainder-is : (a b : ℤ) → withSign (natAbs a % natAbs b) a ≡ remZ a b
+remainder-is (pos m) b = rw (le-leb 0 m (omega arith))
+remainder-is (negsuc m) b = refl
+
+-- it is below 2 ^ 63
+pub divisor-above : (b : ℤ) → (ofZ w64 b ≡ 0 → ⊥) → 0 < natAbs b
+divisor-above (pos n) e = omega (arith, e)
+divisor-above (negsuc n) e = omega arith
+
+pub size-most : (b : ℤ) → SFits w64 b → natAbs b ≤ 2 ^ 63
+size-most (pos n) f = omega (arith, f .sfits)
+size-most (negsuc n) f = omega (arith, f .sfits)
+
 module _ {a b : ℤ} (fa : SFits w64 a) (fb : SFits w64 b) where
   zero-is : {t : Bool} → eqb (ofZ w64 b) 0 ≡ t → eqZ b (pos 0) ≡ t
   zero-is e = sym (eq-bits b (pos 0) fb (record { sfits = omega arith })) ∙ e
@@ -104,11 +136,10 @@ module _ {a b : ℤ} (fa : SFits w64 a) (fb : SFits w64 b) where
     told : {t : Bool} → fits? ≡ t → ltb (mag (quotZ a b)) (2 ^ 63) ≡ t
     told t = ap (λ z. ltb (mag z) (2 ^ 63)) (sym (backs quotZ fa fb)) ∙ t
 
-    rem-back : back (remZ (back a) (back b)) ≡ remZ a b
-    rem-back = ap back (backs remZ fa fb) ∙ toZ-ofZ {z = remZ a b} (record { sfits = omega (arith, mag-rem a b, fa .sfits) })
-
-    pub mod-done : fits? ≡ true → Out.Value (Val.Int (back (remZ (back a) (back b)))) ≡ modInt a b
-    mod-done t = ap (λ z. Out.Value (Val.Int z)) rem-back ∙ sym (by-other _ e ∙ rw (told t))
+    pub mod-done : fits? ≡ true → {r : ℤ} {p q : ℕ} → SFits w64 r → p ≡ natAbs (back a) → q ≡ natAbs (back b) → r ≡ withSign (p % q) (back a) → Out.Value (Val.Int (back r)) ≡ modInt a b
+    mod-done t fr ep eq er =
+        ap (λ z. Out.Value (Val.Int z)) (toZ-ofZ fr ∙ er ∙ ap₂ (λ p q. withSign (p % q) (back a)) ep eq ∙ remainder-is (back a) (back b) ∙ backs remZ fa fb)
+        ∙ sym (by-other _ e ∙ rw (told t))
 
     pub mod-over : fits? ≡ false → Out.Overflow ≡ modInt a b
     mod-over t = sym (by-other _ e ∙ rw (told t))

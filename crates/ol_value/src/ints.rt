@@ -1,8 +1,8 @@
 // Integers of 64 bits: each operation of `eval_binary` on two of them, with the overflow ends
 // refused.
 ghost use mathlib.Core.Path.{_≡_};
-ghost use mathlib.Core.Bool.{_&&_};
-ghost use Prim.Native.Nat.{_*_, _%_, _^_};
+ghost use mathlib.Core.Bool.{_&&_, cond};
+ghost use Prim.Native.Nat.{_*_, _%_, _^_, _<_};
 ghost use lib.Dec.{ltb};
 ghost use lib.IntN.{pos, negℤ, _+ℤ_, _-ℤ_, _*ℤ_, natAbs};
 ghost use lib.Signed.{mag, ltZ, leZ, quotZ, shrZ};
@@ -135,6 +135,15 @@ pub(crate) fn div_ints(a: i64, b: i64) -> Outcome
     }
 }
 
+// A number with the sign of another.
+fn with_sign(n: u64, a: i64) -> i64
+    requires { ⌜ n < 2 ^ 63 ⌝ }
+    ensures { λ r. ⌜ r ≡ cond (leZ (pos 0) a) (pos n) (negℤ (pos n)) ⌝ }
+{
+    let m = n as i64;
+    if 0 <= a { m } else { -m }
+}
+
 // With the dividend's sign: -7 mod 2 is -1.
 pub(crate) fn mod_ints(a: i64, b: i64) -> Outcome
     ensures { λ r. ⌜ r ≡ modInt a b ⌝ }
@@ -143,7 +152,8 @@ pub(crate) fn mod_ints(a: i64, b: i64) -> Outcome
         return Outcome::Failure;
     }
     if quotient_fits(a, b) {
-        Outcome::Value(Value::Int(a % b))
+        let n = size(a) % size(b);
+        Outcome::Value(Value::Int(with_sign(n, a)))
     } else {
         Outcome::Overflow
     }

@@ -7,11 +7,11 @@ use mathlib.Core.Path.{_≡_, refl, sym, ap, subst, _∙_}
 use mathlib.Core.Bool.{Bool, true, false, cond}
 use mathlib.Core.List.{List, [], _∷_, _++_, append-assoc, append-nil}
 use mathlib.Core.Option.{Option, none, some}
-use lib.ListN.{length, take, drop, getD, set, length-append, drop-of-length-le}
-use lib.Seq.{drop-cons, drop-drop, take-suc, take-suc-set}
-use lib.Dec.{eqb, ltb, leb}
+use lib.ListN.{length, take, drop, getD, set, take-append-drop, drop-of-length-le}
+use lib.Seq.{drop-cons, drop-drop, drop-set-lt, length-take-le, take-suc, take-suc-set}
+use lib.Dec.{ltb}
 use borrow.Author.Tests.{ltb-true, ltb-false, lt-ltb, le-ltb, eq-eqb, ne-eqb}
-use Rattle.relay_text.specs.Text.{sort, run, wordFrom, wordTo, wordAt, behind, wordsUpTo, hexValue, before, withByte, unhexed, glyphOf, hexed, withDigit, numberFrom, places}
+use Rattle.relay_text.specs.Text.{sort, run, wordFrom, wordTo, wordAt, behind, wordsUpTo, hexValue, before, withByte, unhexed, frontByte, unhexedFront, onto, glyphOf, hexed, withDigit, numberFrom, places}
 use Rattle.io.specs.Digits.{Fewest}
 use Rattle.relay_text.specs.Text.{decimalWord}
 use Rattle.relay_text.specs.Lines.{blank, withIndexes}
@@ -86,13 +86,19 @@ Left text out i = unhexed text ≡ before (take i out) (unhexed (drop (i + i) te
 pub left-start : (text out : List ℕ) → Left text out 0
 left-start text out = before-nil (unhexed text)
 
+-- the digits that are left, where they are one, and where they are two and more
+module _ (text : List ℕ) (i : ℕ) where
+  one-left : i + i + 1 ≡ length text → drop (i + i) text ≡ getD text (i + i) 0 ∷ []
+  one-left e = next text (i + i) (omega arith) ∙ ap (λ (l : List ℕ). getD text (i + i) 0 ∷ l) (drop-of-length-le text {i = i + i + 1} (omega arith))
+
+  two-left : i + i + 1 < length text → drop (i + i) text ≡ getD text (i + i) 0 ∷ (getD text (i + i + 1) 0 ∷ drop (i + i + 1 + 1) text)
+  two-left h = next text (i + i) (omega arith) ∙ ap (λ (l : List ℕ). getD text (i + i) 0 ∷ l) (next text (i + i + 1) h)
+
 module _ (text out : List ℕ) (i : ℕ) (left : Left text out i) where
   -- one digit is left
   pub left-odd : i + i + 1 ≡ length text → unhexed text ≡ none
   unfolding unhexed
-  left-odd e =
-      let d : drop (i + i) text ≡ getD text (i + i) 0 ∷ [] = next text (i + i) (omega arith) ∙ ap (λ (l : List ℕ). getD text (i + i) 0 ∷ l) (drop-of-length-le text {i = i + i + 1} (omega arith)) in
-      left ∙ ap (λ (l : List ℕ). before (take i out) (unhexed l)) d
+  left-odd e = left ∙ ap (λ (l : List ℕ). before (take i out) (unhexed l)) (one-left text i e)
 
   -- none is left
   pub left-end : length text ≤ i + i → unhexed text ≡ some (take i out)
@@ -100,12 +106,9 @@ module _ (text out : List ℕ) (i : ℕ) (left : Left text out i) where
   left-end h = left ∙ ap (λ (l : List ℕ). before (take i out) (unhexed l)) (drop-of-length-le text {i = i + i} h) ∙ ap some (append-nil (take i out))
 
   module _ (h : i + i + 1 < length text) where
-    pub two : drop (i + i) text ≡ getD text (i + i) 0 ∷ (getD text (i + i + 1) 0 ∷ drop (i + i + 1 + 1) text)
-    two = next text (i + i) (omega arith) ∙ ap (λ (l : List ℕ). getD text (i + i) 0 ∷ l) (next text (i + i + 1) h)
-
     pub left-two : unhexed text ≡ before (take i out) (withByte (hexValue (getD text (i + i) 0)) (hexValue (getD text (i + i + 1) 0)) (unhexed (drop (i + i + 1 + 1) text)))
     unfolding unhexed
-    left-two = left ∙ ap (λ (l : List ℕ). before (take i out) (unhexed l)) two
+    left-two = left ∙ ap (λ (l : List ℕ). before (take i out) (unhexed l)) (two-left text i h)
 
     module _ (a b : ℕ) (ea : a ≡ hexValue (getD text (i + i) 0)) (eb : b ≡ hexValue (getD text (i + i + 1) 0)) where
       pub left-digits : unhexed text ≡ before (take i out) (withByte a b (unhexed (drop (i + i + 1 + 1) text)))
@@ -151,6 +154,58 @@ behind-on last out out₀ n r m e h f g =
     let z : n + (r - n) ≡ r = omega arith in
     let further : drop r out ≡ drop r out₀ = subst (λ (k : ℕ). drop k out ≡ drop k out₀) z (sym (drop-drop (r - n) n out) ∙ ap (drop (r - n)) g ∙ drop-drop (r - n) n out₀) in
     subst (λ (k : ℕ). drop k last ≡ drop k out₀) e (f ∙ further)
+
+-- what is written: the bytes so far stand before those of what is left
+abbrev pub Front : List ℕ → List ℕ → ℕ → Type 0
+Front text out i = unhexedFront text ≡ take i out ++ unhexedFront (drop (i + i) text)
+
+module _ (text out : List ℕ) (i : ℕ) (front : Front text out i) where
+  front-none : unhexedFront (drop (i + i) text) ≡ [] → unhexedFront text ≡ take i out
+  front-none e = front ∙ ap (λ (l : List ℕ). take i out ++ l) e ∙ append-nil (take i out)
+
+  pub front-odd : i + i + 1 ≡ length text → unhexedFront text ≡ take i out
+  unfolding unhexedFront
+  front-odd e = front-none (ap unhexedFront (one-left text i e))
+
+  pub front-end : length text ≤ i + i → unhexedFront text ≡ take i out
+  unfolding unhexedFront
+  front-end h = front-none (ap unhexedFront (drop-of-length-le text {i = i + i} h))
+
+  module _ (h : i + i + 1 < length text) (a b : ℕ) (ea : a ≡ hexValue (getD text (i + i) 0)) (eb : b ≡ hexValue (getD text (i + i + 1) 0)) where
+    front-left : unhexedFront (drop (i + i) text) ≡ frontByte a b (unhexedFront (drop (i + i + 1 + 1) text))
+    unfolding unhexedFront
+    front-left = rw (ea, eb) (ap unhexedFront (two-left text i h))
+
+    pub front-high : 15 < a → unhexedFront text ≡ take i out
+    front-high g = front-none (front-left ∙ rw (lt-ltb 15 a g))
+
+    pub front-low : a ≤ 15 → 15 < b → unhexedFront text ≡ take i out
+    front-low f g = front-none (front-left ∙ rw (le-ltb 15 a f, lt-ltb 15 b g))
+
+    pub front-byte : a ≤ 15 → b ≤ 15 → i < length out → Front text (set out i (a * 16 + b)) (i + 1)
+    front-byte f g room =
+        let t : take (i + 1) (set out i (a * 16 + b)) ≡ take i out ++ ((a * 16 + b) ∷ []) = rw add-one (take-suc-set out i (a * 16 + b) room) in
+        let d : (i + 1) + (i + 1) ≡ i + i + 1 + 1 = omega arith in
+        rw (t, d)
+        (front
+        ∙ ap (λ (l : List ℕ). take i out ++ l) (front-left ∙ rw (le-ltb 15 a f, le-ltb 15 b g))
+        ∙ sym (append-assoc (take i out) ((a * 16 + b) ∷ []) (unhexedFront (drop (i + i + 1 + 1) text))))
+
+-- a byte is written, and none behind it
+pub byte-kept : (out out₀ : List ℕ) (i x : ℕ) → drop i out ≡ drop i out₀ → drop (i + 1) (set out i x) ≡ drop (i + 1) out₀
+byte-kept out out₀ i x k = behind-on (set out i x) out out₀ i (i + 1) (i + 1) refl (omega arith) (drop-set-lt (i + 1) out i x (omega arith)) k
+
+-- so the buffer is as it was, with the bytes at its start
+pub front-written : (text out out₀ : List ℕ) (i : ℕ) → unhexedFront text ≡ take i out → i ≤ length out → drop i out ≡ drop i out₀ → out ≡ onto (unhexedFront text) out₀
+front-written text out out₀ i e l k =
+    sym (take-append-drop i out)
+    ∙ ap (λ (r : List ℕ). take i out ++ r) (k ∙ ap (λ (n : ℕ). drop n out₀) (sym (length-take-le i out l)))
+    ∙ ap (λ (xs : List ℕ). onto xs out₀) (sym e)
+
+-- of one character alone nothing is written
+pub one-written : (text out : List ℕ) → length text ≡ 1 → out ≡ onto (unhexedFront text) out
+unfolding unhexedFront
+one-written text out e = front-written text out out 0 (front-odd text out 0 refl (sym e)) (omega arith) refl
 
 -- one byte's digits are put behind those that stand there
 pub digits-more : (out₀ out last bytes : List ℕ) (at i r a b : ℕ) → i < length bytes → r ≡ at + i + i + 2

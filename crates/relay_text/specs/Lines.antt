@@ -93,6 +93,10 @@ pub record Said (text : List ℕ) (n : ℕ) (out : List ℕ) : Type 0 where
   pub inside : n ≤ length out
   pub is : take n out ≡ text
 
+-- the text at the start of a buffer, and every byte behind it as it was
+abbrev pub Puts : List ℕ → List ℕ → ℕ → List ℕ → Type 0
+Puts text old n out = Said text n out × (drop n out ≡ drop n old)
+
 -- ---- words
 
 -- the text of the line's word number k

@@ -1,5 +1,5 @@
 -- What a line's words stand for, and what is written for bytes and numbers: oracle/README.md's protocol.
-use Prim.Native.Nat.{ℕ, zero, suc, _+_, _*_, _-_, _/_, _%_, _^_, _<_, _≤_}
+use Prim.Native.Nat.{ℕ, zero, suc, _+_, _*_, _-_, _/_, _%_, _≤_}
 use mathlib.Core.Path.{_≡_}
 use mathlib.Core.Bool.{Bool, true, false, cond, not}
 use mathlib.Core.List.{List, [], _∷_, _++_}
@@ -76,6 +76,20 @@ unhexed (a ∷ b ∷ l) = withByte (hexValue a) (hexValue b) (unhexed l)
 -- the bytes that a word stands for: a hyphen alone is nothing at all
 abbrev pub bytesOf : List ℕ → Option (List ℕ)
 bytesOf t = cond (eqb (length t) 1) (cond (eqb (getD t 0 0) 45) (some []) (unhexed t)) (unhexed t)
+
+-- two digits and what is written behind them; nothing where one is none
+abbrev pub frontByte : ℕ → ℕ → List ℕ → List ℕ
+frontByte high low rest = cond (ltb 15 high) [] (cond (ltb 15 low) [] ((high * 16 + low) ∷ rest))
+
+-- the bytes of the digits that stand before the first that is none, or that is left over
+unfoldable pub unhexedFront : List ℕ → List ℕ
+unhexedFront [] = []
+unhexedFront (a ∷ []) = []
+unhexedFront (a ∷ b ∷ l) = frontByte (hexValue a) (hexValue b) (unhexedFront l)
+
+-- a buffer with these bytes at its start
+abbrev pub onto : List ℕ → List ℕ → List ℕ
+onto bytes old = bytes ++ drop (length bytes) old
 
 -- what is found of them, at the start of a buffer
 abbrev pub Decoded : Option (List ℕ) → Hex → List ℕ → Type 0

@@ -11,13 +11,13 @@ ghost use mathlib.Core.Path.{_≡_};
 ghost use mathlib.Core.List.{_++_};
 ghost use Prim.Native.Nat.{_+_, _*_, _≤_};
 ghost use lib.ListN.{length, take, drop};
-ghost use Rattle.relay_text.specs.Text.{decimalWord, bytesOf, numberOf, Decoded};
-ghost use Rattle.relay_text.specs.Lines.{blank, lineEnd, withFault, errorLine, refusedLine, admitLine, stateLine, answeredLine, stoppedLine, orderLine, noOrderLine, Said, wordText};
+ghost use Rattle.relay_text.specs.Text.{decimalWord, bytesOf, unhexedFront, onto, numberOf, Decoded};
+ghost use Rattle.relay_text.specs.Lines.{blank, lineEnd, withFault, errorLine, refusedLine, admitLine, stateLine, answeredLine, stoppedLine, orderLine, noOrderLine, Puts, wordText};
 
 // A line's end behind what stands before `at`; the line's length.
 fn end_line(out: &mut [u8], at: usize) -> usize
     requires { ⌜ at + 1 ≤ length (now out) ⌝ }
-    ensures { λ r. ⌜ Said (take at (now (out .entry)) ++ lineEnd) r (now (out .exit)) ⌝ }
+    ensures { λ r. ⌜ (r ≡ at + 1) × Puts (take at (now (out .entry)) ++ lineEnd) (now (out .entry)) r (now (out .exit)) ⌝ }
 {
     put(out, at, b"\n")
 }
@@ -25,7 +25,7 @@ fn end_line(out: &mut [u8], at: usize) -> usize
 // A number and a place behind what stands before `at`.
 fn put_fault(out: &mut [u8], at: usize, number: u8, place: usize) -> usize
     requires { ⌜ at + 41 ≤ length (now out) ⌝ }
-    ensures { λ r. ⌜ (r ≤ at + 41) × (take r (now (out .exit)) ≡ withFault (take at (now (out .entry))) number place) × (drop r (now (out .exit)) ≡ drop r (now (out .entry))) ⌝ }
+    ensures { λ r. ⌜ (r ≤ at + 41) × (take r (now (out .exit)) ≡ withFault (take at (now (out .entry))) number place) × (drop r (now (out .exit)) ≡ drop r (now (out .entry))) × (at ≤ r) ⌝ }
 {
     let a = put_number(out, at, number as usize);
     let b = put(out, a, b" ");
@@ -35,7 +35,7 @@ fn put_fault(out: &mut [u8], at: usize, number: u8, place: usize) -> usize
 // error LINE REASON
 pub fn say_error(out: &mut [u8], line: usize, reason: &[u8]) -> usize
     requires { ⌜ (128 ≤ length (now out)) × (length (now reason) ≤ 32) ⌝ }
-    ensures { λ r. ⌜ Said (errorLine line (now (reason .entry))) r (now (out .exit)) ⌝ }
+    ensures { λ r. ⌜ Puts (errorLine line (now (reason .entry))) (now (out .entry)) r (now (out .exit)) ⌝ }
 {
     let a = put(out, 0, b"error ");
     let b = put_number(out, a, line);
@@ -47,7 +47,7 @@ pub fn say_error(out: &mut [u8], line: usize, reason: &[u8]) -> usize
 // refused NUMBER PLACE
 pub fn say_refused(out: &mut [u8], number: u8, place: usize) -> usize
     requires { ⌜ 128 ≤ length (now out) ⌝ }
-    ensures { λ r. ⌜ Said (refusedLine number place) r (now (out .exit)) ⌝ }
+    ensures { λ r. ⌜ Puts (refusedLine number place) (now (out .entry)) r (now (out .exit)) ⌝ }
 {
     let a = put(out, 0, b"refused ");
     let b = put_fault(out, a, number, place);
@@ -57,7 +57,7 @@ pub fn say_refused(out: &mut [u8], number: u8, place: usize) -> usize
 // admit NUMBER PLACE LENGTH
 pub fn say_admit(out: &mut [u8], number: u8, place: usize, state: usize) -> usize
     requires { ⌜ 128 ≤ length (now out) ⌝ }
-    ensures { λ r. ⌜ Said (admitLine number place state) r (now (out .exit)) ⌝ }
+    ensures { λ r. ⌜ Puts (admitLine number place state) (now (out .entry)) r (now (out .exit)) ⌝ }
 {
     let a = put(out, 0, b"admit ");
     let b = put_fault(out, a, number, place);
@@ -69,7 +69,7 @@ pub fn say_admit(out: &mut [u8], number: u8, place: usize, state: usize) -> usiz
 // state STATE
 pub fn say_state(out: &mut [u8], state: &[u8]) -> usize
     requires { ⌜ 16 + 2 * length (now state) ≤ length (now out) ⌝ }
-    ensures { λ r. ⌜ Said (stateLine (now (state .entry))) r (now (out .exit)) ⌝ }
+    ensures { λ r. ⌜ Puts (stateLine (now (state .entry))) (now (out .entry)) r (now (out .exit)) ⌝ }
 {
     let a = put(out, 0, b"state ");
     let b = put_hex(out, a, state);
@@ -79,7 +79,7 @@ pub fn say_state(out: &mut [u8], state: &[u8]) -> usize
 // answered VALUES STATE
 pub fn say_answered(out: &mut [u8], values: &[u8], state: &[u8]) -> usize
     requires { ⌜ 16 + (2 * length (now values) + 2 * length (now state)) ≤ length (now out) ⌝ }
-    ensures { λ r. ⌜ Said (answeredLine (now (values .entry)) (now (state .entry))) r (now (out .exit)) ⌝ }
+    ensures { λ r. ⌜ Puts (answeredLine (now (values .entry)) (now (state .entry))) (now (out .entry)) r (now (out .exit)) ⌝ }
 {
     let a = put(out, 0, b"answered ");
     let b = put_hex(out, a, values);
@@ -91,7 +91,7 @@ pub fn say_answered(out: &mut [u8], values: &[u8], state: &[u8]) -> usize
 // stopped NUMBER EQUATION STATE
 pub fn say_stopped(out: &mut [u8], number: u8, place: usize, state: &[u8]) -> usize
     requires { ⌜ 64 + 2 * length (now state) ≤ length (now out) ⌝ }
-    ensures { λ r. ⌜ Said (stoppedLine number place (now (state .entry))) r (now (out .exit)) ⌝ }
+    ensures { λ r. ⌜ Puts (stoppedLine number place (now (state .entry))) (now (out .entry)) r (now (out .exit)) ⌝ }
 {
     let a = put(out, 0, b"stopped ");
     let b = put_fault(out, a, number, place);
@@ -103,7 +103,7 @@ pub fn say_stopped(out: &mut [u8], number: u8, place: usize, state: &[u8]) -> us
 // order refused NUMBER PLACE
 pub fn say_no_order(out: &mut [u8], number: u8, place: usize) -> usize
     requires { ⌜ 128 ≤ length (now out) ⌝ }
-    ensures { λ r. ⌜ Said (noOrderLine number place) r (now (out .exit)) ⌝ }
+    ensures { λ r. ⌜ Puts (noOrderLine number place) (now (out .entry)) r (now (out .exit)) ⌝ }
 {
     let a = put(out, 0, b"order refused ");
     let b = put_fault(out, a, number, place);
@@ -113,7 +113,7 @@ pub fn say_no_order(out: &mut [u8], number: u8, place: usize) -> usize
 // order ok INDEX ..
 pub fn say_order(out: &mut [u8], entries: &[usize]) -> usize
     requires { ⌜ 16 + 21 * length (now entries) ≤ length (now out) ⌝ }
-    ensures { λ r. ⌜ Said (orderLine (now (entries .entry))) r (now (out .exit)) ⌝ }
+    ensures { λ r. ⌜ Puts (orderLine (now (entries .entry))) (now (out .entry)) r (now (out .exit)) ⌝ }
 {
     let mut at = put(out, 0, b"order ok");
     let mut i = 0;
@@ -127,16 +127,16 @@ pub fn say_order(out: &mut [u8], entries: &[usize]) -> usize
 // A blank and an index behind what stands before `at`.
 fn put_index(out: &mut [u8], at: usize, index: usize) -> usize
     requires { ⌜ at + 21 ≤ length (now out) ⌝ }
-    ensures { λ r. ⌜ (r ≤ at + 21) × (take r (now (out .exit)) ≡ take at (now (out .entry)) ++ blank ++ decimalWord index) × (drop r (now (out .exit)) ≡ drop r (now (out .entry))) ⌝ }
+    ensures { λ r. ⌜ (r ≤ at + 21) × (take r (now (out .exit)) ≡ take at (now (out .entry)) ++ blank ++ decimalWord index) × (drop r (now (out .exit)) ≡ drop r (now (out .entry))) × (at ≤ r) ⌝ }
 {
     let a = put(out, at, b" ");
     put_number(out, a, index)
 }
 
-// The bytes that a word of the line stands for, at the start of `bytes`.
+// The bytes that a word of the line stands for, at the start of `bytes`; those before its first fault, where it is malformed.
 pub fn bytes_of(line: &[u8], k: usize, bytes: &mut [u8]) -> Hex
     requires { ⌜ length (now line) ≤ length (now bytes) + length (now bytes) ⌝ }
-    ensures { λ r. ⌜ Decoded (bytesOf (wordText (now (line .entry)) k)) r (now (bytes .exit)) ⌝ }
+    ensures { λ r. ⌜ Decoded (bytesOf (wordText (now (line .entry)) k)) r (now (bytes .exit)) × (now (bytes .exit) ≡ onto (unhexedFront (wordText (now (line .entry)) k)) (now (bytes .entry))) ⌝ }
 {
     let w = nth(line, k);
     let from = w.from;

@@ -6,7 +6,7 @@ ghost use mathlib.Core.List.{_++_};
 ghost use Prim.Native.Nat.{_+_, _≤_, _<_};
 ghost use lib.ListN.{length, take, drop};
 ghost use Rattle.io.specs.Counts.{Counts};
-ghost use Rattle.relay_text.specs.Text.{isBlank, sort, run, wordAt, wordNumber, wordsUpTo, hexValue, bytesOf, unhexed, Decoded, glyphOf, hexed, hexWord, withDigit, numberOf, decimalWord};
+ghost use Rattle.relay_text.specs.Text.{isBlank, sort, run, wordAt, wordNumber, wordsUpTo, hexValue, bytesOf, unhexed, unhexedFront, onto, Decoded, glyphOf, hexed, hexWord, withDigit, numberOf, decimalWord};
 
 // A word of a line: it stands from `from` up to `to`.
 pub struct Word {
@@ -132,7 +132,7 @@ fn digit(c: u8) -> u8
 // The bytes that a word in hexadecimal stands for, at the start of `out`; `-` stands for none.
 pub(crate) fn unhex(text: &[u8], out: &mut [u8]) -> Hex
     requires { ⌜ length (now text) ≤ length (now out) + length (now out) ⌝ }
-    ensures { λ r. ⌜ Decoded (bytesOf (now (text .entry))) r (now (out .exit)) ⌝ }
+    ensures { λ r. ⌜ Decoded (bytesOf (now (text .entry))) r (now (out .exit)) × (now (out .exit) ≡ onto (unhexedFront (now (text .entry))) (now (out .entry))) ⌝ }
 {
     if text.len() == 1 {
         if text[0] == b'-' {
@@ -146,7 +146,7 @@ pub(crate) fn unhex(text: &[u8], out: &mut [u8]) -> Hex
 // The bytes that digits stand for, two for each.
 fn unhex_digits(text: &[u8], out: &mut [u8]) -> Hex
     requires { ⌜ length (now text) ≤ length (now out) + length (now out) ⌝ }
-    ensures { λ r. ⌜ Decoded (unhexed (now (text .entry))) r (now (out .exit)) ⌝ }
+    ensures { λ r. ⌜ Decoded (unhexed (now (text .entry))) r (now (out .exit)) × (now (out .exit) ≡ onto (unhexedFront (now (text .entry))) (now (out .entry))) ⌝ }
 {
     let mut i = 0;
     while i + i < text.len() {
@@ -225,7 +225,7 @@ fn glyph(d: u8) -> u8
 // Puts bytes into `out` from `at` on, in hexadecimal; the place behind them.
 pub(crate) fn put_hex(out: &mut [u8], at: usize, bytes: &[u8]) -> usize
     requires { ⌜ at + (1 + (length (now bytes) + length (now bytes))) ≤ length (now out) ⌝ }
-    ensures { λ r. ⌜ (r ≤ at + (1 + (length (now (bytes .entry)) + length (now (bytes .entry))))) × (take r (now (out .exit)) ≡ take at (now (out .entry)) ++ hexWord (now (bytes .entry))) × (drop r (now (out .exit)) ≡ drop r (now (out .entry))) ⌝ }
+    ensures { λ r. ⌜ (r ≤ at + (1 + (length (now (bytes .entry)) + length (now (bytes .entry))))) × (take r (now (out .exit)) ≡ take at (now (out .entry)) ++ hexWord (now (bytes .entry))) × (drop r (now (out .exit)) ≡ drop r (now (out .entry))) × (at ≤ r) ⌝ }
 {
     if bytes.len() == 0 {
         return put(out, at, b"-");

@@ -1,8 +1,8 @@
 -- Laws of the questions: a turn of the comparison of bytes, and one answer more.
-use Prim.Native.Nat.{ℕ, suc, _+_, _*_, _/_, _%_, _≤_, _<_}
+use Prim.Native.Nat.{ℕ, suc, _+_, _/_, _%_, _≤_, _<_}
 use native.Mathlib.Numerals.{add-one}
 use native.Mathlib.Omega.{arith}
-use mathlib.Core.Bool.{Bool, true, false, cond, _&&_}
+use mathlib.Core.Bool.{Bool, true, false, _&&_}
 use mathlib.Core.List.{List, [], _∷_}
 use mathlib.Core.Path.{_≡_, refl, sym, ap, _∙_}
 use mir.Val.{boolByte}
@@ -78,16 +78,6 @@ unfolding cellIs
 cell-asked nine a b v head r e f g q = record { answer = record { head = head; nine = nine }; answered = q ∙ ap (λ x. saysOf (x && b) head) e ∙ ap (λ x. saysOf (same (cell (valueOf (take 9 nine))) (take 9 nine) && x) head) (g ∙ ap knownOf f) }
 
 -- ---- questions
-
--- a cell that the grid has, and one that it has not
-module _ (grid : List ℕ) (k c : ℕ) (e : c ≡ k % 256) where
-  pub grid-in : (r : Value) → c * 9 + 9 ≤ length grid → r ≡ valueOf (take 9 (drop (c * 9) grid)) → r ≡ gridValue grid k
-  unfolding gridValue
-  grid-in r h q = rw (← e, le-ltb (length grid) (c * 9 + 9) h) q
-
-  pub grid-out : length grid < c * 9 + 9 → Val.Bool false ≡ gridValue grid k
-  unfolding gridValue
-  grid-out h = rw (← e, lt-ltb (length grid) (c * 9 + 9) h)
 
 -- the outcome of a question, by its section
 module _ (section t : ℕ) (grid : List ℕ) (v : Value) (c : ℕ) (ev : v ≡ gridValue grid (t % 42)) (ec : c ≡ t / 42 % 256) where

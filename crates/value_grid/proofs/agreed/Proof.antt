@@ -1,14 +1,10 @@
 use Rattle.value_grid.proofs.Laws.{agreed-most, agreed-none, agreed-at, agreed-more}
 use Rattle.value_grid.specs.Questions.{Agreed}
 use borrow.Author.Needs.{needs}
-use Prim.Native.Nat.{_≤_, _-_, _+_}
+use Prim.Native.Nat.{_≤_, _-_}
 use native.Mathlib.Omega.{arith}
 use Rattle.value_grid.proofs.agreed.Statement.{statement}
 use Rattle.value_grid.proofs.agreed.Tie as tie
-use Rattle.value_grid.proofs.agreed.Reads as reads
-use Rattle.value_grid.proofs.agreed.Lts as lts
-use Rattle.value_grid.proofs.ask.Reads as ask-reads
-use Rattle.value_grid.proofs.more.Reads as more-reads
 
 abbrev Inv-loop : tie.InvT-loop
 Inv-loop section count grid sum₀ t₀ sum t = (t ≤ count) × Agreed section grid sum t

@@ -2,11 +2,6 @@ use Rattle.value_grid.proofs.Laws.{outcome-asked}
 use borrow.Author.Needs.{needs}
 use Rattle.value_grid.proofs.agrees.Statement.{statement}
 use Rattle.value_grid.proofs.agrees.Tie as tie
-use Rattle.value_grid.proofs.agrees.Reads as reads
-use Rattle.value_grid.proofs.agrees.Lts as lts
-use Rattle.value_grid.proofs.next_byte.Reads as next-byte-reads
-use Rattle.value_grid.proofs.next_cell.Reads as next-cell-reads
-use Rattle.value_grid.proofs.outcome_agrees.Reads as outcome-agrees-reads
 
 next-byte-requires : tie.Need-next-byte-requires
 next-byte-requires c κs = search needs

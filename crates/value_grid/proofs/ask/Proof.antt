@@ -2,15 +2,6 @@ use Rattle.value_grid.proofs.Laws.{ask-outcome, ask-input, ask-default,
 use borrow.Author.Needs.{needs}
 use Rattle.value_grid.proofs.ask.Statement.{statement}
 use Rattle.value_grid.proofs.ask.Tie as tie
-use Rattle.value_grid.proofs.ask.Reads as reads
-use Rattle.value_grid.proofs.ask.Lts as lts
-use Rattle.value_grid.proofs.agrees.Reads as agrees-reads
-use Rattle.value_grid.proofs.at.Reads as at-reads
-use Rattle.value_grid.proofs.cell_agrees.Reads as cell-agrees-reads
-use Rattle.value_grid.proofs.code.Reads as code-reads
-use Rattle.value_grid.proofs.default_agrees.Reads as default-agrees-reads
-use Rattle.value_grid.proofs.found.Reads as found-reads
-use Rattle.value_grid.proofs.input_agrees.Reads as input-agrees-reads
 
 found-requires : tie.Need-found-requires
 found-requires c κs = search needs

@@ -2,14 +2,6 @@ use Rattle.value_grid.proofs.Laws.{cell-asked}
 use borrow.Author.Needs.{needs}
 use Rattle.value_grid.proofs.cell_agrees.Statement.{statement}
 use Rattle.value_grid.proofs.cell_agrees.Tie as tie
-use Rattle.value_grid.proofs.cell_agrees.Reads as reads
-use Rattle.value_grid.proofs.cell_agrees.Lts as lts
-use Rattle.ol_value.proofs.cell.good_cell.Reads as good-cell-reads
-use Rattle.ol_value.proofs.cell.read_cell.Reads as read-cell-reads
-use Rattle.value_grid.proofs.known.Reads as known-reads
-use Rattle.value_grid.proofs.next_byte.Reads as next-byte-reads
-use Rattle.value_grid.proofs.next_cell.Reads as next-cell-reads
-use Rattle.value_grid.proofs.says.Reads as says-reads
 
 next-cell-requires : tie.Need-next-cell-requires
 next-cell-requires c κs = search needs

@@ -1,14 +1,9 @@
 use Rattle.value_grid.proofs.Laws.{default-asked}
 use mathlib.Core.List.{[], _∷_}
-use mathlib.Core.Path.{_≡_, refl, sym, ap, _∙_}
+use mathlib.Core.Path.{refl}
 use borrow.Author.Needs.{needs}
 use Rattle.value_grid.proofs.default_agrees.Statement.{statement}
 use Rattle.value_grid.proofs.default_agrees.Tie as tie
-use Rattle.value_grid.proofs.default_agrees.Reads as reads
-use Rattle.value_grid.proofs.default_agrees.Lts as lts
-use Rattle.ol_value.proofs.types.default_value.Reads as default-value-reads
-use Rattle.value_grid.proofs.is_cell.Reads as is-cell-reads
-use Rattle.value_grid.proofs.next_cell.Reads as next-cell-reads
 
 next-cell-requires : tie.Need-next-cell-requires
 next-cell-requires c κs = search needs

@@ -2,14 +2,6 @@ use Rattle.value_grid.proofs.Laws.{found-binary, found-unary, found-cas
 use borrow.Author.Needs.{needs}
 use Rattle.value_grid.proofs.found.Statement.{statement}
 use Rattle.value_grid.proofs.found.Tie as tie
-use Rattle.value_grid.proofs.found.Reads as reads
-use Rattle.value_grid.proofs.found.Lts as lts
-use Rattle.ol_value.proofs.operators.eval_binary.Reads as eval-binary-reads
-use Rattle.ol_value.proofs.operators.eval_unary.Reads as eval-unary-reads
-use Rattle.ol_value.proofs.types.cast_value.Reads as cast-value-reads
-use Rattle.ol_value.proofs.types.fit_to.Reads as fit-to-reads
-use Rattle.value_grid.proofs.at.Reads as at-reads
-use Rattle.value_grid.proofs.code.Reads as code-reads
 
 at-requires : tie.Need-at-requires
 at-requires c κs = search needs

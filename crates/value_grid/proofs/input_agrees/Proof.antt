@@ -2,12 +2,6 @@ use Rattle.value_grid.proofs.Laws.{input-asked}
 use borrow.Author.Needs.{needs}
 use Rattle.value_grid.proofs.input_agrees.Statement.{statement}
 use Rattle.value_grid.proofs.input_agrees.Tie as tie
-use Rattle.value_grid.proofs.input_agrees.Reads as reads
-use Rattle.value_grid.proofs.input_agrees.Lts as lts
-use Rattle.ol_value.proofs.types.in_type.Reads as in-type-reads
-use Rattle.value_grid.proofs.known.Reads as known-reads
-use Rattle.value_grid.proofs.next_byte.Reads as next-byte-reads
-use Rattle.value_grid.proofs.says.Reads as says-reads
 
 in-type-requires : tie.Need-in-type-requires
 in-type-requires c κs = search needs

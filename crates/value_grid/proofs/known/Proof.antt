@@ -1,10 +1,6 @@
 use borrow.Author.Needs.{needs}
 use Rattle.value_grid.proofs.known.Statement.{statement}
 use Rattle.value_grid.proofs.known.Tie as tie
-use Rattle.value_grid.proofs.known.Reads as reads
-use Rattle.value_grid.proofs.known.Lts as lts
-use Rattle.ol_value.proofs.cell.is_enum.Reads as is-enum-reads
-use Rattle.ol_value.proofs.cell.name_of.Reads as name-of-reads
 
 name-of-requires : tie.Need-name-of-requires
 name-of-requires c κs = search needs

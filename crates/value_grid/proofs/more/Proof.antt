@@ -2,8 +2,6 @@ use native.Mathlib.Omega.{arith}
 use borrow.Author.Needs.{needs}
 use Rattle.value_grid.proofs.more.Statement.{statement}
 use Rattle.value_grid.proofs.more.Tie as tie
-use Rattle.value_grid.proofs.more.Reads as reads
-use Rattle.value_grid.proofs.more.Lts as lts
 
 add-result : tie.Need-add-result
 add-result c = search needs

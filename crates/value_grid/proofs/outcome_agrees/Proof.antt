@@ -1,9 +1,6 @@
 use borrow.Author.Needs.{needs}
 use Rattle.value_grid.proofs.outcome_agrees.Statement.{statement}
 use Rattle.value_grid.proofs.outcome_agrees.Tie as tie
-use Rattle.value_grid.proofs.outcome_agrees.Reads as reads
-use Rattle.value_grid.proofs.outcome_agrees.Lts as lts
-use Rattle.value_grid.proofs.value_agrees.Reads as value-agrees-reads
 
 enum-known-o : tie.Need-enum-known-o
 enum-known-o c = search needs

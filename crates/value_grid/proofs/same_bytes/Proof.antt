@@ -2,13 +2,11 @@ use Rattle.value_grid.proofs.Laws.{same-length, same-more, same-not, sa
 use borrow.Author.Needs.{needs}
 use Rattle.ol_spec.specs.Lists.{same}
 use lib.ListN.{length, drop}
-use Prim.Native.Nat.{_≤_, _-_, _+_}
-use mathlib.Core.Path.{_≡_, refl, sym, ap, _∙_}
+use Prim.Native.Nat.{_≤_, _-_}
+use mathlib.Core.Path.{_≡_, refl, sym, _∙_}
 use native.Mathlib.Omega.{arith}
 use Rattle.value_grid.proofs.same_bytes.Statement.{statement}
 use Rattle.value_grid.proofs.same_bytes.Tie as tie
-use Rattle.value_grid.proofs.same_bytes.Reads as reads
-use Rattle.value_grid.proofs.same_bytes.Lts as lts
 
 abbrev Inv-loop : tie.InvT-loop
 Inv-loop mine theirs i₀ i = (i ≤ length mine) × (length mine ≡ length theirs) × (same (drop i mine) (drop i theirs) ≡ same mine theirs)

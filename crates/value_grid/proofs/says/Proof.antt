@@ -1,7 +1,5 @@
 use Rattle.value_grid.proofs.says.Statement.{statement}
 use Rattle.value_grid.proofs.says.Tie as tie
-use Rattle.value_grid.proofs.says.Reads as reads
-use Rattle.value_grid.proofs.says.Lts as lts
 
 returns : tie.Need-returns
 returns c = rw (c .if1 .taken)

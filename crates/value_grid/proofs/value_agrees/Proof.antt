@@ -1,11 +1,8 @@
 use Rattle.value_grid.proofs.Laws.{agrees-bool, agrees-cell}
-use mathlib.Core.Path.{_≡_, refl, sym, ap, _∙_}
+use mathlib.Core.Path.{refl}
 use borrow.Author.Needs.{needs}
 use Rattle.value_grid.proofs.value_agrees.Statement.{statement}
 use Rattle.value_grid.proofs.value_agrees.Tie as tie
-use Rattle.value_grid.proofs.value_agrees.Reads as reads
-use Rattle.value_grid.proofs.value_agrees.Lts as lts
-use Rattle.value_grid.proofs.is_cell.Reads as is-cell-reads
 
 enum-known-v : tie.Need-enum-known-v
 enum-known-v c = search needs

@@ -105,6 +105,6 @@ pub +call-equation+enter+equation+eval+eval-all+eval-call+eval-first+eval-form+e
     Run.Inv-loop
     Run.μ-loop (Run.slice-aggregate-equations t) (Run.slice-aggregate-equations-2 t) (Run.equations-requires t) (Run.row-requires t) (Run.loop-holds t) (Run.order-at-requires t) (Run.mul-at t) (Run.array-read-at t) (Run.mul-a t) (Run.array-read-a t) (Run.add-i1 t) (Run.mul-b t) (Run.array-read-b t) (Run.sub-equation t) (Run.part-equation-start t) (Run.part-equation-end t) (Run.sub-equation-2 t) (Run.part-equation-start-2 t) (Run.part-equation-end-2 t) (Run.equation-requires t) (Run.enum-told t) (Run.same-length t) (Run.same-length-2 t) (Run.returns t) (Run.add-j t) (Run.loop-less t) (Run.loop-again t) (Run.same-length-3 t) (Run.same-length-4 t) (Run.returns-2 t))
     (λ t. step-function-lts.spec (StepFunction.Q t) (step-function-at t) step-function.Post (StepFunction.row-requires t) (StepFunction.row-requires-2 t) (StepFunction.slice-aggregate-write-defaults t) (StepFunction.write-defaults-requires t) (StepFunction.slice-aggregate-copy-cells t) (StepFunction.copy-cells-requires t) (StepFunction.slice-aggregate-run t) (StepFunction.run-requires t) (StepFunction.same-length t) (StepFunction.same-length-2 t) (StepFunction.returns t))
-    (λ t. step-instance-lts.spec (StepInstance.Q t) (step-instance-at t) step-instance.Post (StepInstance.row-requires t) (StepInstance.mul-own t) (StepInstance.add-own t) (StepInstance.row-requires-2 t) (StepInstance.shared-slice-read-started t) (StepInstance.sub-copy-cells t) (StepInstance.part-copy-cells-start t) (StepInstance.part-copy-cells-end t) (StepInstance.copy-cells-requires t) (StepInstance.sub-run t) (StepInstance.part-run-start t) (StepInstance.part-run-end t) (StepInstance.sub-run-2 t) (StepInstance.part-run-start-2 t) (StepInstance.part-run-end-2 t) (StepInstance.sub-run-3 t) (StepInstance.part-run-start-3 t) (StepInstance.part-run-end-3 t) (StepInstance.run-requires t) (StepInstance.enum-told t) (StepInstance.slice-write-new t) (StepInstance.sub-write-cells t) (StepInstance.part-write-cells-start t) (StepInstance.part-write-cells-end t) (StepInstance.write-cells-requires t) (StepInstance.enum-told-2 t) (StepInstance.write-fresh-requires t) (StepInstance.enum-told-3 t) (StepInstance.copy-requires t) (StepInstance.same-length t) (StepInstance.same-length-2 t) (StepInstance.returns t) (StepInstance.same-length-3 t) (StepInstance.same-length-4 t) (StepInstance.returns-2 t) (StepInstance.same-length-5 t) (StepInstance.same-length-6 t) (StepInstance.returns-3 t))
+    (λ t. step-instance-lts.spec (StepInstance.Q t) (step-instance-at t) step-instance.Post (StepInstance.row-requires t) (StepInstance.mul-own t) (StepInstance.add-own t) (StepInstance.row-requires-2 t) (StepInstance.shared-slice-read-started t) (StepInstance.sub-copy-cells t) (StepInstance.part-copy-cells-start t) (StepInstance.part-copy-cells-end t) (StepInstance.copy-cells-requires t) (StepInstance.sub-run t) (StepInstance.part-run-start t) (StepInstance.part-run-end t) (StepInstance.sub-run-2 t) (StepInstance.part-run-start-2 t) (StepInstance.part-run-end-2 t) (StepInstance.sub-run-3 t) (StepInstance.part-run-start-3 t) (StepInstance.part-run-end-3 t) (StepInstance.run-requires t) (StepInstance.enum-told t) (StepInstance.finish-requires t) (StepInstance.enum-told-2 t) (StepInstance.write-fresh-requires t) (StepInstance.enum-told-3 t) (StepInstance.copy-requires t) (StepInstance.same-length t) (StepInstance.same-length-2 t) (StepInstance.returns t) (StepInstance.same-length-3 t) (StepInstance.same-length-4 t) (StepInstance.returns-2 t) (StepInstance.same-length-5 t) (StepInstance.same-length-6 t) (StepInstance.returns-3 t))
     (λ t. step-site-lts.spec (StepSite.Q t) (step-site-at t) step-site.Post (StepSite.row-requires t) (StepSite.step-instance-requires t) (StepSite.step-function-requires t) (StepSite.same-length t) (StepSite.same-length-2 t) (StepSite.returns t) (StepSite.same-length-3 t) (StepSite.same-length-4 t) (StepSite.returns-2 t))
     λ t. tuple-equation-lts.spec (TupleEquation.Q t) (tuple-equation-at t) tuple-equation.Post (TupleEquation.add-p t) (TupleEquation.shared-slice-read-number t) (TupleEquation.number-requires t) (TupleEquation.add-eval-all t) (TupleEquation.slice-aggregate-eval-all t) (TupleEquation.eval-all-requires t) (TupleEquation.enum-told t) (TupleEquation.less-requires t) (TupleEquation.add-assign t) (TupleEquation.slice-aggregate-assign t) (TupleEquation.assign-requires t) (TupleEquation.same-length t) (TupleEquation.same-length-2 t) (TupleEquation.returns t) (TupleEquation.same-length-3 t) (TupleEquation.same-length-4 t) (TupleEquation.returns-2 t)

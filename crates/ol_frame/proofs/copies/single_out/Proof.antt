@@ -25,9 +25,7 @@ mul-read-cell c =
 
 -- src/copies.rt:121:32
 read-cell-requires : tie.Need-read-cell-requires
-read-cell-requires c κs =
-    let start = c .before .before .before .before in
-    start .pre .1
+read-cell-requires c κs = tt
 
 -- src/copies.rt:126:27
 enum-told-2 : tie.Need-enum-told-2

@@ -13,7 +13,7 @@ use Rattle.ol_run.proofs.main_cycle.run_main.Reads as reads
 use Rattle.ol_run.proofs.main_cycle.run_main.Lts as lts
 use Rattle.ol_frame.proofs.copies.copy.Reads as copy-reads
 use Rattle.ol_frame.proofs.copies.write_cells.Reads as write-cells-reads
-use Rattle.ol_run.proofs.main_cycle.finish.Reads as finish-reads
+use Rattle.ol_frame.proofs.copies.finish.Reads as finish-reads
 use Rattle.ol_run.proofs.main_cycle.run_record.Reads as run-record-reads
 use Rattle.ol_frame.proofs.tables.row.Reads as row-reads
 

@@ -41,7 +41,7 @@ same-length-2 c = search needs
 returns : tie.Need-returns
 returns c =
     let start = c .before .before .before .before .before .before .before .before .before .before .before .before .before .before in
-    with-bytes (bytesOf (wordText (start .args .line .now) 2)) (c .before .before .before .before .before .before .before .before .before .bytes-of .result) (c .before .before .before .before .before .before .before .before .before .bytes-of .last .1 .1 .0) (c .before .before .before .before .before .j .given .0 .0) (λ i. withBytes (bytesOf (wordText (start .args .line .now) 1)) (λ b. about (cycleAt b i (start .args .l)))) (c .before .before .before .before .before .before .before .before .before .bytes-of .ensures) (c .before .before .before .before .before .j .given .1) ∙ c .before .before .ask-state .ensures (c .before .before .before .before .before .before .before .before .before .bytes-of .last .1 .1 .0)
+    with-bytes (bytesOf (wordText (start .args .line .now) 2)) (c .before .before .before .before .before .before .before .before .before .bytes-of .result) (c .before .before .before .before .before .before .before .before .before .bytes-of .last .1 .1 .0) (c .before .before .before .before .before .j .given .0 .0) (λ i. withBytes (bytesOf (wordText (start .args .line .now) 1)) (λ b. about (cycleAt b i (start .args .l)))) (c .before .before .before .before .before .before .before .before .before .bytes-of .ensures .0) (c .before .before .before .before .before .j .given .1) ∙ c .before .before .ask-state .ensures (c .before .before .before .before .before .before .before .before .before .bytes-of .last .1 .1 .0)
 
 -- src/request.rt:177:1
 same-length-3 : tie.Need-same-length-3
@@ -51,7 +51,7 @@ same-length-3 c = search needs
 returns-2 : tie.Need-returns-2
 returns-2 c =
     let start = c .before .before .before .before .before .before .before .before .before in
-    with-none (bytesOf (wordText (start .args .line .now) 2)) (c .before .before .before .before .bytes-of .result) (c .before .before .before .before .bytes-of .last .1 .1 .0) (λ i. withBytes (bytesOf (wordText (start .args .line .now) 1)) (λ b. about (cycleAt b i (start .args .l)))) (c .before .before .before .before .bytes-of .ensures) (c .enum-told .given .1)
+    with-none (bytesOf (wordText (start .args .line .now) 2)) (c .before .before .before .before .bytes-of .result) (c .before .before .before .before .bytes-of .last .1 .1 .0) (λ i. withBytes (bytesOf (wordText (start .args .line .now) 1)) (λ b. about (cycleAt b i (start .args .l)))) (c .before .before .before .before .bytes-of .ensures .0) (c .enum-told .given .1)
 
 pub ask-both-spec : {M : Type 1} → statement M
 ask-both-spec =

@@ -33,7 +33,7 @@ same-length c = search needs
 returns : tie.Need-returns
 returns c =
     let start = c .before .before .before .before .before .before .before .before in
-    admit-said (start .args .v) (Ver.Admitted (c .before .before .before .before .before .v .given .0 .0)) (c .before .before .say-admit .result) (c .before .before .say-admit .last .0) (c .before .before .before .before .before .v .given .1) (c .before .before .say-admit .ensures)
+    admit-said (start .args .v) (Ver.Admitted (c .before .before .before .before .before .v .given .0 .0)) (c .before .before .say-admit .result) (c .before .before .say-admit .last .0) (c .before .before .before .before .before .v .given .1) (c .before .before .say-admit .ensures .0)
 
 -- src/session.rt:275:1
 same-length-2 : tie.Need-same-length-2
@@ -43,7 +43,7 @@ same-length-2 c = search needs
 returns-2 : tie.Need-returns-2
 returns-2 c =
     let start = c .before .before .before .before .before .before .before .before in
-    admit-said (start .args .v) (Ver.Refused (c .before .before .before .before .before .v2 .given .0 .0)) (c .before .before .say-admit2 .result) (c .before .before .say-admit2 .last .0) (c .before .before .before .before .before .v2 .given .1) (c .before .before .say-admit2 .ensures)
+    admit-said (start .args .v) (Ver.Refused (c .before .before .before .before .before .v2 .given .0 .0)) (c .before .before .say-admit2 .result) (c .before .before .say-admit2 .last .0) (c .before .before .before .before .before .v2 .given .1) (c .before .before .say-admit2 .ensures .0)
 
 pub admit-command-spec : {M : Type 1} → statement M
 admit-command-spec =

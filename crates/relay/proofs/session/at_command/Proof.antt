@@ -59,7 +59,7 @@ same-length-5 c = search needs
 returns-2 : tie.Need-returns-2
 returns-2 c =
     let start = c .before .before .before .before .before .before .before .before .before .before .before .before .before .before in
-    at-refused (start .args .file .now) (start .args .given .now) (start .args .inputs .now) (take (start .args .m) (start .args .state .now)) (start .args .state .now) (c .before .before .say-refused .last .0) (start .args .l) (c .before .before .before .before .before .before .load-fault .result) (c .before .before .say-refused .result) (start .args .m) (c .before .before .before .before .before .before .load-fault .ensures) (c .before .before .before .before .if1 .left) refl (c .before .before .say-refused .ensures)
+    at-refused (start .args .file .now) (start .args .given .now) (start .args .inputs .now) (take (start .args .m) (start .args .state .now)) (start .args .state .now) (c .before .before .say-refused .last .0) (start .args .l) (c .before .before .before .before .before .before .load-fault .result) (c .before .before .say-refused .result) (start .args .m) (c .before .before .before .before .before .before .load-fault .ensures) (c .before .before .before .before .if1 .left) refl (c .before .before .say-refused .ensures .0)
 
 pub at-command-spec : {M : Type 1} → statement M
 at-command-spec =

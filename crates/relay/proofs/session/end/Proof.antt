@@ -58,7 +58,7 @@ same-length-2 c = search needs
 returns : tie.Need-returns
 returns c =
     let start = c .before .before .before .before .before .before .before .before .before .before .before .before .before .before in
-    end-as (start .args .c) Cyc.Answered (take (start .args .n) (start .args .state .now)) (start .args .new .now) (start .args .values .now) (c .before .before .before .before .before .before .replace .last .0) (c .before .before .say-answered .last .0) (c .before .before .say-answered .result) (length (start .args .new .now)) (c .before .before .before .before .before .before .before .before .enum-told .given .1) (c .before .before .say-answered .ensures) (c .before .before .before .before .before .before .replace .ensures)
+    end-as (start .args .c) Cyc.Answered (take (start .args .n) (start .args .state .now)) (start .args .new .now) (start .args .values .now) (c .before .before .before .before .before .before .replace .last .0) (c .before .before .say-answered .last .0) (c .before .before .say-answered .result) (length (start .args .new .now)) (c .before .before .before .before .before .before .before .before .enum-told .given .1) (c .before .before .say-answered .ensures .0) (c .before .before .before .before .before .before .replace .ensures)
 
 -- src/session.rt:371:1
 same-length-3 : tie.Need-same-length-3
@@ -72,7 +72,7 @@ same-length-4 c = search needs
 returns-2 : tie.Need-returns-2
 returns-2 c =
     let start = c .before .before .before .before .before .before .before .before .before .before .before .before .before .before .before in
-    end-as (start .args .c) (Cyc.Stopped (c .before .before .before .before .before .before .before .before .before .c .given .0 .0)) (take (start .args .n) (start .args .state .now)) (start .args .new .now) (start .args .values .now) (c .before .before .before .before .before .before .replace2 .last .0) (c .before .before .say-stopped .last .0) (c .before .before .say-stopped .result) (length (start .args .new .now)) (c .before .before .before .before .before .before .before .before .before .c .given .1) (c .before .before .say-stopped .ensures) (c .before .before .before .before .before .before .replace2 .ensures)
+    end-as (start .args .c) (Cyc.Stopped (c .before .before .before .before .before .before .before .before .before .c .given .0 .0)) (take (start .args .n) (start .args .state .now)) (start .args .new .now) (start .args .values .now) (c .before .before .before .before .before .before .replace2 .last .0) (c .before .before .say-stopped .last .0) (c .before .before .say-stopped .result) (length (start .args .new .now)) (c .before .before .before .before .before .before .before .before .before .c .given .1) (c .before .before .say-stopped .ensures .0) (c .before .before .before .before .before .before .replace2 .ensures)
 
 -- src/session.rt:371:1
 same-length-5 : tie.Need-same-length-5
@@ -82,7 +82,7 @@ same-length-5 c = search needs
 returns-3 : tie.Need-returns-3
 returns-3 c =
     let start = c .before .before .before .before .before .before .before .before .before .before .before in
-    end-as (start .args .c) (Cyc.Refused (c .before .before .before .before .before .c2 .given .0 .0)) (take (start .args .n) (start .args .state .now)) (start .args .new .now) (start .args .values .now) (start .args .state .now) (c .before .before .say-refused .last .0) (c .before .before .say-refused .result) (start .args .n) (c .before .before .before .before .before .c2 .given .1) (c .before .before .say-refused .ensures) refl
+    end-as (start .args .c) (Cyc.Refused (c .before .before .before .before .before .c2 .given .0 .0)) (take (start .args .n) (start .args .state .now)) (start .args .new .now) (start .args .values .now) (start .args .state .now) (c .before .before .say-refused .last .0) (c .before .before .say-refused .result) (start .args .n) (c .before .before .before .before .before .c2 .given .1) (c .before .before .say-refused .ensures .0) refl
 
 pub end-spec : {M : Type 1} → statement M
 end-spec =

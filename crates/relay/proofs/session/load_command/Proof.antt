@@ -56,7 +56,7 @@ same-length-3 c = search needs
 returns-2 : tie.Need-returns-2
 returns-2 c =
     let start = c .before .before .before .before .before .before .before .before .before .before .before in
-    load-refused (start .args .file .now) (start .args .given .now) (take (start .args .n) (start .args .state .now)) (start .args .state .now) (c .before .before .say-refused .last .0) (c .before .before .before .before .before .before .load-fault .result) (c .before .before .say-refused .result) (start .args .n) (c .before .before .before .before .before .before .load-fault .ensures) (c .before .before .before .before .if1 .left) refl (c .before .before .say-refused .ensures)
+    load-refused (start .args .file .now) (start .args .given .now) (take (start .args .n) (start .args .state .now)) (start .args .state .now) (c .before .before .say-refused .last .0) (c .before .before .before .before .before .before .load-fault .result) (c .before .before .say-refused .result) (start .args .n) (c .before .before .before .before .before .before .load-fault .ensures) (c .before .before .before .before .if1 .left) refl (c .before .before .say-refused .ensures .0)
 
 pub load-command-spec : {M : Type 1} → statement M
 load-command-spec =

@@ -64,7 +64,7 @@ same-length c = search needs
 returns : tie.Need-returns
 returns c =
     let start = c .before .before .before .before .before .before .before .before .before .before .before .before in
-    order-said (c .before .before .before .before .before .before .before .before .list .result .sorted) (Sort.Refused (c .before .before .before .before .before .sorted .given .0 .0)) (take (c .before .before .before .before .before .before .before .before .list .result .count) (c .before .before .before .before .before .before .before .before .list .last .1 .1 .0)) (orderText (orderCall (start .args .file .now) (start .args .node))) (c .before .before .say-no-order .result) (c .before .before .say-no-order .last .0) (c .before .before .before .before .before .sorted .given .1) (c .before .before .before .before .before .before .before .before .list .ensures) (c .before .before .say-no-order .ensures)
+    order-said (c .before .before .before .before .before .before .before .before .list .result .sorted) (Sort.Refused (c .before .before .before .before .before .sorted .given .0 .0)) (take (c .before .before .before .before .before .before .before .before .list .result .count) (c .before .before .before .before .before .before .before .before .list .last .1 .1 .0)) (orderText (orderCall (start .args .file .now) (start .args .node))) (c .before .before .say-no-order .result) (c .before .before .say-no-order .last .0) (c .before .before .before .before .before .sorted .given .1) (c .before .before .before .before .before .before .before .before .list .ensures) (c .before .before .say-no-order .ensures .0)
 
 -- src/session.rt:259:1
 same-length-2 : tie.Need-same-length-2
@@ -74,7 +74,7 @@ same-length-2 c = search needs
 returns-2 : tie.Need-returns-2
 returns-2 c =
     let start = c .before .before .before .before .before .before .before .before .before .before .before .before .before .before in
-    order-said (c .before .before .before .before .before .before .before .before .before .before .list .result .sorted) Sort.Done (take (c .before .before .before .before .before .before .before .before .before .before .list .result .count) (c .before .before .before .before .before .before .before .before .before .before .list .last .1 .1 .0)) (orderText (orderCall (start .args .file .now) (start .args .node))) (c .before .before .say-order .result) (c .before .before .say-order .last .0) (c .before .before .before .before .before .before .before .enum-told .given .1) (c .before .before .before .before .before .before .before .before .before .before .list .ensures) (said-as (orderLine (take (c .before .before .before .before .before .among .result) (c .before .before .before .before .before .before .before .before .before .before .list .last .1 .1 .0))) (orderLine (take (c .before .before .before .before .before .before .before .before .before .before .list .result .count) (c .before .before .before .before .before .before .before .before .before .before .list .last .1 .1 .0))) (c .before .before .say-order .result) (c .before .before .say-order .last .0) (ap orderLine (c .before .before .before .before .before .among .ensures .1)) (c .before .before .say-order .ensures))
+    order-said (c .before .before .before .before .before .before .before .before .before .before .list .result .sorted) Sort.Done (take (c .before .before .before .before .before .before .before .before .before .before .list .result .count) (c .before .before .before .before .before .before .before .before .before .before .list .last .1 .1 .0)) (orderText (orderCall (start .args .file .now) (start .args .node))) (c .before .before .say-order .result) (c .before .before .say-order .last .0) (c .before .before .before .before .before .before .before .enum-told .given .1) (c .before .before .before .before .before .before .before .before .before .before .list .ensures) (said-as (orderLine (take (c .before .before .before .before .before .among .result) (c .before .before .before .before .before .before .before .before .before .before .list .last .1 .1 .0))) (orderLine (take (c .before .before .before .before .before .before .before .before .before .before .list .result .count) (c .before .before .before .before .before .before .before .before .before .before .list .last .1 .1 .0))) (c .before .before .say-order .result) (c .before .before .say-order .last .0) (ap orderLine (c .before .before .before .before .before .among .ensures .1)) (c .before .before .say-order .ensures .0))
 
 pub order-command-spec : {M : Type 1} → statement M
 order-command-spec =

@@ -89,7 +89,7 @@ same-length c = search needs
 returns : tie.Need-returns
 returns c =
     let start = c .before .before .before .before .before .before .before .before in
-    reason-said (start .args .why) Why.LineTooLong (start .args .no) (c .before .before .say-error .result) (c .before .before .say-error .last .0) (c .before .before .before .before .before .enum-told .given .1) (c .before .before .say-error .ensures)
+    reason-said (start .args .why) Why.LineTooLong (start .args .no) (c .before .before .say-error .result) (c .before .before .say-error .last .0) (c .before .before .before .before .before .enum-told .given .1) (c .before .before .say-error .ensures .0)
 
 -- src/session.rt:93:1
 same-length-2 : tie.Need-same-length-2
@@ -99,7 +99,7 @@ same-length-2 c = search needs
 returns-2 : tie.Need-returns-2
 returns-2 c =
     let start = c .before .before .before .before .before .before .before .before in
-    reason-said (start .args .why) Why.UnknownCommand (start .args .no) (c .before .before .say-error2 .result) (c .before .before .say-error2 .last .0) (c .before .before .before .before .before .enum-told2 .given .1) (c .before .before .say-error2 .ensures)
+    reason-said (start .args .why) Why.UnknownCommand (start .args .no) (c .before .before .say-error2 .result) (c .before .before .say-error2 .last .0) (c .before .before .before .before .before .enum-told2 .given .1) (c .before .before .say-error2 .ensures .0)
 
 -- src/session.rt:93:1
 same-length-3 : tie.Need-same-length-3
@@ -109,7 +109,7 @@ same-length-3 c = search needs
 returns-3 : tie.Need-returns-3
 returns-3 c =
     let start = c .before .before .before .before .before .before .before .before in
-    reason-said (start .args .why) Why.WrongWords (start .args .no) (c .before .before .say-error3 .result) (c .before .before .say-error3 .last .0) (c .before .before .before .before .before .enum-told3 .given .1) (c .before .before .say-error3 .ensures)
+    reason-said (start .args .why) Why.WrongWords (start .args .no) (c .before .before .say-error3 .result) (c .before .before .say-error3 .last .0) (c .before .before .before .before .before .enum-told3 .given .1) (c .before .before .say-error3 .ensures .0)
 
 -- src/session.rt:93:1
 same-length-4 : tie.Need-same-length-4
@@ -119,7 +119,7 @@ same-length-4 c = search needs
 returns-4 : tie.Need-returns-4
 returns-4 c =
     let start = c .before .before .before .before .before .before .before .before in
-    reason-said (start .args .why) Why.MalformedNumber (start .args .no) (c .before .before .say-error4 .result) (c .before .before .say-error4 .last .0) (c .before .before .before .before .before .enum-told4 .given .1) (c .before .before .say-error4 .ensures)
+    reason-said (start .args .why) Why.MalformedNumber (start .args .no) (c .before .before .say-error4 .result) (c .before .before .say-error4 .last .0) (c .before .before .before .before .before .enum-told4 .given .1) (c .before .before .say-error4 .ensures .0)
 
 -- src/session.rt:93:1
 same-length-5 : tie.Need-same-length-5
@@ -129,7 +129,7 @@ same-length-5 c = search needs
 returns-5 : tie.Need-returns-5
 returns-5 c =
     let start = c .before .before .before .before .before .before .before .before in
-    reason-said (start .args .why) Why.MalformedHexadecimal (start .args .no) (c .before .before .say-error5 .result) (c .before .before .say-error5 .last .0) (c .before .before .before .before .before .enum-told5 .given .1) (c .before .before .say-error5 .ensures)
+    reason-said (start .args .why) Why.MalformedHexadecimal (start .args .no) (c .before .before .say-error5 .result) (c .before .before .say-error5 .last .0) (c .before .before .before .before .before .enum-told5 .given .1) (c .before .before .say-error5 .ensures .0)
 
 -- src/session.rt:93:1
 same-length-6 : tie.Need-same-length-6
@@ -139,7 +139,7 @@ same-length-6 c = search needs
 returns-6 : tie.Need-returns-6
 returns-6 c =
     let start = c .before .before .before .before .before .before .before .before in
-    reason-said (start .args .why) Why.NoFile (start .args .no) (c .before .before .say-error6 .result) (c .before .before .say-error6 .last .0) (c .before .before .before .before .before .enum-told6 .given .1) (c .before .before .say-error6 .ensures)
+    reason-said (start .args .why) Why.NoFile (start .args .no) (c .before .before .say-error6 .result) (c .before .before .say-error6 .last .0) (c .before .before .before .before .before .enum-told6 .given .1) (c .before .before .say-error6 .ensures .0)
 
 pub say-reason-spec : {M : Type 1} → statement M
 say-reason-spec =

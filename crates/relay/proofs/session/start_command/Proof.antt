@@ -34,7 +34,7 @@ same-length c = search needs
 returns : tie.Need-returns
 returns c =
     let start = c .before .before .before .before .before .before .before .before in
-    start-said (start .args .v) _ (start .args .state .now) (c .before .before .say-state .result) (c .before .before .say-state .last .0) (c .before .before .before .before .enum-told .given .1) (c .before .before .say-state .ensures)
+    start-said (start .args .v) _ (start .args .state .now) (c .before .before .say-state .result) (c .before .before .say-state .last .0) (c .before .before .before .before .enum-told .given .1) (c .before .before .say-state .ensures .0)
 
 -- src/session.rt:286:1
 same-length-2 : tie.Need-same-length-2
@@ -44,7 +44,7 @@ same-length-2 c = search needs
 returns-2 : tie.Need-returns-2
 returns-2 c =
     let start = c .before .before .before .before .before .before .before .before .before in
-    start-said (start .args .v) (Ver.Refused (c .before .before .before .before .before .v .given .0 .0)) (start .args .state .now) (c .before .before .say-refused .result) (c .before .before .say-refused .last .0) (c .before .before .before .before .before .v .given .1) (c .before .before .say-refused .ensures)
+    start-said (start .args .v) (Ver.Refused (c .before .before .before .before .before .v .given .0 .0)) (start .args .state .now) (c .before .before .say-refused .result) (c .before .before .say-refused .last .0) (c .before .before .before .before .before .v .given .1) (c .before .before .say-refused .ensures .0)
 
 pub start-command-spec : {M : Type 1} → statement M
 start-command-spec =

@@ -1,7 +1,7 @@
-use mathlib.Core.Path.{subst}
+use mathlib.Core.Path.{_≡_, subst}
 use Prim.Native.Nat.{_-_}
 use lib.ListN.{take, drop}
-use Rattle.relay_text.specs.Text.{bytesOf, Decoded}
+use Rattle.relay_text.specs.Text.{bytesOf, unhexedFront, onto, Decoded}
 use Rattle.relay_text.specs.declared.Word.{Word}
 use borrow.Author.Needs.{needs}
 use Rattle.relay_text.proofs.answers.bytes_of.Statement.{statement}
@@ -28,7 +28,9 @@ same-length c = search needs
 returns : tie.Need-returns
 returns c =
     let start = c .before .before .before .before .before .before .before .before in
-    subst (λ (w : Word). Decoded (bytesOf (take (w .to - w .from) (drop (w .from) (start .args .line .now)))) (c .before .before .unhex .result) (c .before .before .unhex .last .1 .0)) (c .before .before .before .before .before .nth .ensures .2) (c .before .before .unhex .ensures)
+    let unhex = c .before .before .unhex in
+    subst (λ (w : Word). Decoded (bytesOf (take (w .to - w .from) (drop (w .from) (start .args .line .now)))) (unhex .result) (unhex .last .1 .0) × (unhex .last .1 .0 ≡ onto (unhexedFront (take (w .to - w .from) (drop (w .from) (start .args .line .now)))) (start .args .bytes .now)))
+    (c .before .before .before .before .before .nth .ensures .2) (unhex .ensures)
 
 pub bytes-of-spec : {M : Type 1} → statement M
 bytes-of-spec =

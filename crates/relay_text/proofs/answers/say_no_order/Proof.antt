@@ -1,9 +1,9 @@
 use native.Mathlib.Omega.{arith}
-use mathlib.Core.Path.{_≡_, ap, _∙_}
+use mathlib.Core.Path.{refl, ap, _∙_}
 use mathlib.Core.List.{List, _++_}
 use Prim.Native.Nat.{ℕ}
-use Rattle.relay_text.specs.Text.{decimalWord, hexWord}
-use Rattle.relay_text.specs.Lines.{blank, lineEnd, withFault}
+use Rattle.relay_text.specs.Lines.{lineEnd, withFault}
+use Rattle.relay_text.proofs.Laws.{behind-on}
 use borrow.Author.Needs.{needs}
 use Rattle.relay_text.proofs.answers.say_no_order.Statement.{statement}
 use Rattle.relay_text.proofs.answers.say_no_order.Tie as tie
@@ -26,7 +26,12 @@ same-length c = search needs
 returns : tie.Need-returns
 returns c =
     let start = c .before .before .before .before .before .before .before .before .before .before .before .before .before .before in
-    record { inside = c .before .before .end-line .ensures .inside; is = c .before .before .end-line .ensures .is ∙ ap (λ (l : List ℕ). l ++ lineEnd) (c .before .before .before .before .before .before .put-fault .ensures .1 ∙ ap (λ (l : List ℕ). withFault l (start .args .number) (start .args .place)) (c .before .before .before .before .before .before .before .before .before .before .put .ensures .1)) }
+    let a = c .before .before .before .before .before .before .before .before .before .before .put in
+    let b = c .before .before .before .before .before .before .put-fault in
+    let end = c .before .before .end-line in (
+      record { inside = end .ensures .1 .0 .inside; is = end .ensures .1 .0 .is ∙ ap (λ (l : List ℕ). l ++ lineEnd) (b .ensures .1 ∙ ap (λ (l : List ℕ). withFault l (start .args .number) (start .args .place)) (a .ensures .1)) },
+      behind-on (end .last .0) (b .last .0) (start .args .out .now) (b .result) (end .result) (end .result) refl (omega (arith, end .ensures .0)) (end .ensures .1 .1) (behind-on (b .last .0) (a .last .0) (start .args .out .now) (a .result) (b .result) (b .result) refl (omega (arith, b .ensures .3)) (b .ensures .2) (a .ensures .2)),
+    )
 
 pub say-no-order-spec : {M : Type 1} → statement M
 say-no-order-spec =

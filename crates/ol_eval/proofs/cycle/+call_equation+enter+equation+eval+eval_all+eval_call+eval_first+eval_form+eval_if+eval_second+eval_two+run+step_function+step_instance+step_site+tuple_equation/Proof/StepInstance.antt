@@ -3,10 +3,7 @@
 use mathlib.Core.Path.{refl, ap, _∙_}
 use native.Mathlib.Omega.{arith}
 use lib.ListN.{length}
-use Prim.Native.Nat.{_+_, _*_}
-use Rattle.ol_tables.proofs.Lending.{putTail}
-use Rattle.ol_frame.proofs.Copying.{all-copied}
-use Rattle.ol_eval.proofs.Stepping.{few, long, narrow, inputs-first, own-room, own-new, cells-room, put-length, set-length, cells-new, record-length, fresh-sited, instance-runnable, entered, instance-finished, instance-failed, instance-overflowed}
+use Rattle.ol_eval.proofs.Stepping.{few, long, narrow, inputs-first, own-room, own-new, cells-room, put-length, fresh-sited, instance-runnable, entered, instance-finished, instance-failed, instance-overflowed}
 -- </uses>
 use Prim.Native.Nat.{ℕ}
 use borrow.Author.Needs.{needs}
@@ -15,14 +12,14 @@ use Rattle.ol_frame.proofs.copies.copy.Reads as copy-reads
 use Rattle.ol_frame.proofs.tables.row.Reads as row-reads
 use Rattle.ol_eval.proofs.cycle.run.Reads as run
 use Rattle.ol_eval.proofs.cycle.step_instance.Reads as step-instance
-use Rattle.ol_frame.proofs.copies.write_cells.Reads as write-cells-reads
+use Rattle.ol_frame.proofs.copies.finish.Reads as finish-reads
 use Rattle.ol_state.proofs.fresh.write_fresh.Reads as write-fresh-reads
 use Rattle.ol_eval.proofs.cycle.+call_equation+enter+equation+eval+eval_all+eval_call+eval_first+eval_form+eval_if+eval_second+eval_two+run+step_function+step_instance+step_site+tuple_equation.Lts-step_instance as step-instance-lts
 use Rattle.ol_eval.proofs.cycle.+call_equation+enter+equation+eval+eval_all+eval_call+eval_first+eval_form+eval_if+eval_second+eval_two+run+step_function+step_instance+step_site+tuple_equation.Proof.Common.{step-instance-at, run-below}
 
 -- what it knows of its callees
 abbrev pub Q : ℕ → step-instance-lts.Claims
-Q t = (row-reads.Asked, row-reads.Learnt, copy-cells-reads.Asked, copy-cells-reads.Learnt, run-below t, run.Post, write-cells-reads.Asked, write-cells-reads.Learnt, write-fresh-reads.Asked, write-fresh-reads.Learnt, copy-reads.Asked, copy-reads.Learnt)
+Q t = (row-reads.Asked, row-reads.Learnt, copy-cells-reads.Asked, copy-cells-reads.Learnt, run-below t, run.Post, finish-reads.Asked, finish-reads.Learnt, write-fresh-reads.Asked, write-fresh-reads.Learnt, copy-reads.Asked, copy-reads.Learnt)
 
 pub row-requires : (t : ℕ) → step-instance-lts.Need-row-requires (Q t) (step-instance-at t) step-instance.Post
 row-requires t c κs =
@@ -202,52 +199,8 @@ run-requires t c κs =
 pub enum-told : (t : ℕ) → step-instance-lts.Need-enum-told (Q t) (step-instance-at t) step-instance.Post
 enum-told t c = search needs
 
-pub slice-write-new : (t : ℕ) → step-instance-lts.Need-slice-write-new (Q t) (step-instance-at t) step-instance.Post
-slice-write-new t c =
-    let start = c .before .before .before .before .before .before .before .before .before .before .before .before .before .before .before .before .before .before .before .before .before .before .before .before .before .before in
-    let h = start .pre .1 .0 in
-    let o = start .pre .1 .1 in
-    let n = c .before .before .before .before .before .before .before .before .before .before .before .before .before .before .before .before .before .before .row .result in
-    let w = c .before .before .before .before .before .before .before .before .before .before .before .before .before .before .before .before .before .before .row .ensures in
-    let x = c .before .before .before .before .before .before .run .last .1 .1 .1 .1 .1 .1 .1 .1 .1 .0 in
-    let kx = c .before .before .before .before .before .before .run .kept .1 .1 .1 .1 .1 .1 .1 .1 .1 .0 in
-    omega (arith, put-length h n x o w kx, own-new h n o w)
-
-pub sub-write-cells : (t : ℕ) → step-instance-lts.Need-sub-write-cells (Q t) (step-instance-at t) step-instance.Post
-sub-write-cells t c =
-    let start = c .before .before .before .before .before .before .before .before .before .before .before .before .before .before .before .before .before .before .before .before .before .before .before .before .before .before .before in
-    let h = start .pre .1 .0 in
-    let o = start .pre .1 .1 in
-    let n = c .before .before .before .before .before .before .before .before .before .before .before .before .before .before .before .before .before .before .before .row .result in
-    let w = c .before .before .before .before .before .before .before .before .before .before .before .before .before .before .before .before .before .before .before .row .ensures in
-    let x = c .before .before .before .before .before .before .before .run .last .1 .1 .1 .1 .1 .1 .1 .1 .1 .0 in
-    let kx = c .before .before .before .before .before .before .before .run .kept .1 .1 .1 .1 .1 .1 .1 .1 .1 .0 in
-    omega (arith, set-length h n x o w kx, own-new h n o w)
-
-pub part-write-cells-start : (t : ℕ) → step-instance-lts.Need-part-write-cells-start (Q t) (step-instance-at t) step-instance.Post
-part-write-cells-start t c =
-    let start = c .before .before .before .before .before .before .before .before .before .before .before .before .before .before .before .before .before .before .before .before .before .before .before .before .before .before .before in
-    let h = start .pre .1 .0 in
-    let o = start .pre .1 .1 in
-    let n = c .before .before .before .before .before .before .before .before .before .before .before .before .before .before .before .before .before .before .before .row .result in
-    let w = c .before .before .before .before .before .before .before .before .before .before .before .before .before .before .before .before .before .before .before .row .ensures in
-    let x = c .before .before .before .before .before .before .before .run .last .1 .1 .1 .1 .1 .1 .1 .1 .1 .0 in
-    let kx = c .before .before .before .before .before .before .before .run .kept .1 .1 .1 .1 .1 .1 .1 .1 .1 .0 in
-    omega (arith, set-length h n x o w kx, own-new h n o w)
-
-pub part-write-cells-end : (t : ℕ) → step-instance-lts.Need-part-write-cells-end (Q t) (step-instance-at t) step-instance.Post
-part-write-cells-end t c =
-    let start = c .before .before .before .before .before .before .before .before .before .before .before .before .before .before .before .before .before .before .before .before .before .before .before .before .before .before .before in
-    let h = start .pre .1 .0 in
-    let o = start .pre .1 .1 in
-    let n = c .before .before .before .before .before .before .before .before .before .before .before .before .before .before .before .before .before .before .before .row .result in
-    let w = c .before .before .before .before .before .before .before .before .before .before .before .before .before .before .before .before .before .before .before .row .ensures in
-    let x = c .before .before .before .before .before .before .before .run .last .1 .1 .1 .1 .1 .1 .1 .1 .1 .0 in
-    let kx = c .before .before .before .before .before .before .before .run .kept .1 .1 .1 .1 .1 .1 .1 .1 .1 .0 in
-    omega (arith, set-length h n x o w kx, own-new h n o w)
-
-pub write-cells-requires : (t : ℕ) → step-instance-lts.Need-write-cells-requires (Q t) (step-instance-at t) step-instance.Post
-write-cells-requires t c κs =
+pub finish-requires : (t : ℕ) → step-instance-lts.Need-finish-requires (Q t) (step-instance-at t) step-instance.Post
+finish-requires t c κs =
     let start = c .before .before .before .before .before .before .before .before .before .before .before .before .before .before .before .before .before .before .before .before .before .before .before .before .before .before .before .before in
     let h = start .pre .1 .0 in
     let o = start .pre .1 .1 in
@@ -256,7 +209,7 @@ write-cells-requires t c κs =
     let x = c .before .before .before .before .before .before .before .before .run .last .1 .1 .1 .1 .1 .1 .1 .1 .1 .0 in
     let kx = c .before .before .before .before .before .before .before .before .run .kept .1 .1 .1 .1 .1 .1 .1 .1 .1 .0 in
     let kc = c .before .before .before .before .before .before .before .before .run .kept .1 .1 .1 .1 .1 .1 .0 ∙ c .before .before .before .before .before .before .before .before .before .before .before .before .before .before .before .copy-cells .kept .1 .1 .1 .0 in
-    (narrow h n w, omega (arith, kc, h .room, narrow h n w), cells-new h n x o w kx)
+    (narrow h n w, omega (arith, kc, h .room, narrow h n w), omega (arith, put-length h n x o w kx, own-new h n o w))
 
 pub enum-told-2 : (t : ℕ) → step-instance-lts.Need-enum-told-2 (Q t) (step-instance-at t) step-instance.Post
 enum-told-2 t c = search needs
@@ -276,7 +229,15 @@ pub enum-told-3 : (t : ℕ) → step-instance-lts.Need-enum-told-3 (Q t) (step-i
 enum-told-3 t c = search needs
 
 pub copy-requires : (t : ℕ) → step-instance-lts.Need-copy-requires (Q t) (step-instance-at t) step-instance.Post
-copy-requires t c κs = tt
+copy-requires t c κs =
+    let start = c .before .before .before .before .before .before .before .before .before .before .before .before .before .before .before .before .before .before .before .before .before .before .before .before .before .before .before in
+    let h = start .pre .1 .0 in
+    let o = start .pre .1 .1 in
+    let n = c .before .before .before .before .before .before .before .before .before .before .before .before .before .before .before .before .before .before .before .row .result in
+    let w = c .before .before .before .before .before .before .before .before .before .before .before .before .before .before .before .before .before .before .before .row .ensures in
+    let x = c .before .before .before .before .before .before .before .run .last .1 .1 .1 .1 .1 .1 .1 .1 .1 .0 in
+    let kx = c .before .before .before .before .before .before .before .run .kept .1 .1 .1 .1 .1 .1 .1 .1 .1 .0 in
+    put-length h n x o w kx ∙ ap length (h .same)
 
 pub same-length : (t : ℕ) → step-instance-lts.Need-same-length (Q t) (step-instance-at t) step-instance.Post
 same-length t c =
@@ -292,7 +253,7 @@ same-length-2 t c =
     let w = c .before .before .before .before .before .before .before .before .before .before .before .before .before .before .before .before .before .before .before .before .before .before .before .row .ensures in
     let x = c .before .before .before .before .before .before .before .before .before .before .before .run .last .1 .1 .1 .1 .1 .1 .1 .1 .1 .0 in
     let kx = c .before .before .before .before .before .before .before .before .before .before .before .run .kept .1 .1 .1 .1 .1 .1 .1 .1 .1 .0 in
-    record-length h n x (c .before .before .write-cells .last .1 .1 .0) o w kx (c .before .before .write-cells .kept .1 .1 .0)
+    c .before .before .finish .kept .1 .1 .0 ∙ put-length h n x o w kx
 
 pub returns : (t : ℕ) → step-instance-lts.Need-returns (Q t) (step-instance-at t) step-instance.Post
 returns t c =
@@ -304,7 +265,7 @@ returns t c =
     let cells = c .before .before .before .before .before .before .before .before .before .before .before .run .last .1 .1 .1 .1 .1 .1 .0 in
     let x = c .before .before .before .before .before .before .before .before .before .before .before .run .last .1 .1 .1 .1 .1 .1 .1 .1 .1 .0 in
     let e = entered h o w iw refl (c .before .before .before .before .before .before .before .before .before .before .before .before .before .before .before .before .before .before .copy-cells .ensures) in
-    instance-finished e (c .before .before .before .before .before .before .before .before .before .before .before .run .result) cells x (c .before .before .write-cells .last .1 .1 .0) (c .before .before .before .before .before .before .before .before .before .before .before .run .ensures) (c .before .before .before .before .before .enum-told .given .1) (c .before .before .write-cells .ensures)
+    instance-finished e (c .before .before .before .before .before .before .before .before .before .before .before .run .result) cells x (c .before .before .finish .last .1 .1 .0) (c .before .before .before .before .before .before .before .before .before .before .before .run .ensures) (c .before .before .before .before .before .enum-told .given .1) (c .before .before .finish .ensures)
 
 pub same-length-3 : (t : ℕ) → step-instance-lts.Need-same-length-3 (Q t) (step-instance-at t) step-instance.Post
 same-length-3 t c =
@@ -355,11 +316,9 @@ returns-3 t c =
     let start = c .before .before .before .before .before .before .before .before .before .before .before .before .before .before .before .before .before .before .before .before .before .before .before .before .before .before .before .before .before .before in
     let h = start .pre .1 .0 in
     let o = start .pre .1 .1 in
-    let n = c .before .before .before .before .before .before .before .before .before .before .before .before .before .before .before .before .before .before .before .before .before .before .row .result in
     let w = c .before .before .before .before .before .before .before .before .before .before .before .before .before .before .before .before .before .before .before .before .before .before .row .ensures in
     let iw = c .before .before .before .before .before .before .before .before .before .before .before .before .before .before .before .before .before .before .before .before .before .row2 .ensures in
     let cells = c .before .before .before .before .before .before .before .before .before .before .run .last .1 .1 .1 .1 .1 .1 .0 in
     let x = c .before .before .before .before .before .before .before .before .before .before .run .last .1 .1 .1 .1 .1 .1 .1 .1 .1 .0 in
-    let kx = c .before .before .before .before .before .before .before .before .before .before .run .kept .1 .1 .1 .1 .1 .1 .1 .1 .1 .0 in
     let e = entered h o w iw refl (c .before .before .before .before .before .before .before .before .before .before .before .before .before .before .before .before .before .copy-cells .ensures) in
-    instance-overflowed e (c .before .before .before .before .before .before .before .before .before .before .run .result) cells x (c .before .before .copy .last .1 .0) (c .before .before .before .before .before .before .before .before .before .before .run .ensures) (c .before .before .before .before .enum-told3 .given .1) (all-copied (start .args .old .now) (putTail (1 + 9 * n) (start .args .new .now) x) (c .before .before .copy .last .1 .0) (put-length h n x o w kx ∙ ap length (h .same)) (c .before .before .copy .ensures))
+    instance-overflowed e (c .before .before .before .before .before .before .before .before .before .before .run .result) cells x (c .before .before .copy .last .1 .0) (c .before .before .before .before .before .before .before .before .before .before .run .ensures) (c .before .before .before .before .enum-told3 .given .1) (c .before .before .copy .ensures)
