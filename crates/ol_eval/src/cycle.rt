@@ -889,7 +889,7 @@ pub fn run(
 {
     let mut places = [0usize; 80];
     let mut offsets = [0usize; 81];
-    equations(file, rows, k, &mut places, &mut offsets);
+    equations(file, rows, k, old.len(), &mut places, &mut offsets);
     let n = row(rows, k, COUNT);
     let mut j: usize = 0;
     while j < n {

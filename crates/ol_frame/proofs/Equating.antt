@@ -1,5 +1,6 @@
 -- Laws of a node's equations: their places, and where the records of each start.
 use Prim.Native.Nat.{ℕ, zero, suc, _+_, _*_, _<_, _≤_}
+use mathlib.Core.Bool.{Bool, true}
 use mathlib.Core.List.{List, [], _∷_}
 use mathlib.Core.Path.{_≡_, refl, sym, ap, subst, _∙_}
 use native.Mathlib.Omega.{arith}
@@ -10,12 +11,12 @@ use Rattle.ol_spec.specs.Syntax.{Expr}
 use Rattle.ol_spec.specs.Places.{placed, placedNodes, exprSize, equationSize, equationsStart}
 use Rattle.ol_spec.specs.Eval.{callees, sitesSize}
 use Rattle.ol_spec.specs.Step.{sites, noEquation}
-use Rattle.ol_tables.specs.At.{fileAt, nodeIn}
+use Rattle.ol_tables.specs.At.{fileAt, nodeIn, endsAt}
 use Rattle.ol_tables.specs.Tables.{Each, rowAt, placeOf}
 use Rattle.ol_tables.proofs.Forms.{one-tree, parted, reads-end, reads-in}
-use Rattle.ol_frame.specs.Walk.{nodesIn, sizesIn, Below, Passable, SkipsTo}
-use Rattle.ol_frame.specs.Equations.{countIn, placeIn, equationIn, rhsIn, offsetIn, EquationsStand, EquationsAre}
-use Rattle.ol_frame.specs.declared.skip.Passed.{Passed}
+use Rattle.ol_frame.specs.Walk.{nodesIn, sizesIn, Below, Passable}
+use Rattle.ol_frame.specs.Equations.{countIn, placeIn, equationIn, rhsIn, offsetIn, recordsIn, rightSize, Bare, RightEnds, EquationsStand, EquationsAre}
+use Rattle.ol_frame.specs.declared.equations.Right.{Right}
 use Rattle.ol_frame.specs.Plans.{globalsIn}
 use Rattle.ol_frame.proofs.Passing.{callees-one}
 use Rattle.ol_frame.proofs.Running.{offset-next, offset-total}
@@ -43,7 +44,7 @@ module _ (file : List ℕ) (k : ℕ) where
   pub offset-suc : (i : ℕ) → i < countIn file k → offsetIn file k (suc i) ≡ offsetIn file k i + sitesSize (sizesIn file) (callees (equationIn file k i .rhs))
   offset-suc i h = offset-next (globalsIn file []) (nodeIn file k .equations) i h
 
-  pub offset-upto : (i : ℕ) → offsetIn file k i ≤ sitesSize (sizesIn file) (sites (nodeIn file k))
+  pub offset-upto : (i : ℕ) → offsetIn file k i ≤ recordsIn file k
   offset-upto i = offset-total (globalsIn file []) (nodeIn file k .equations) i
 
 -- ---- one equation
@@ -74,14 +75,23 @@ module _ {file rows : List ℕ} {k : ℕ} (p : EquationsStand file rows k) where
       let c : names ≡ length (equationIn file k i .names) = n ∙ ap (λ (a : ℕ). getD file a 0) e ∙ p .each i h .count in
       λ j. e j + 1 + 2 * c j
 
+  -- the bytes of its records
+  pub right-size : (i at : ℕ) → i < countIn file k → at ≡ rhsIn file k i → rightSize file at ≡ sitesSize (sizesIn file) (callees (equationIn file k i .rhs))
+  right-size i at h e =
+      let q = p .each i h in
+      ap (rightSize file) e ∙ ap (sitesSize (sizesIn file)) (callees-one file 24 (rhsIn file k i) (q .reads) ∙ ap callees (q .tree))
+
+  -- which are none if all equations together have none
+  pub right-bare : (i at total : ℕ) (bare : Bool) → i < countIn file k → at ≡ rhsIn file k i → total ≡ recordsIn file k → (bare ≡ true → total ≡ 0) → Bare file at bare
+  right-bare i at total bare h e t z b = omega (arith, right-size i at h e, offset-suc file k i h, offset-upto file k (suc i), t, z b)
+
   -- what passing over its right side gives
-  pub right-skips : (i at : ℕ) {r : Passed} → i < countIn file k → at ≡ rhsIn file k i → SkipsTo file 24 1 at r → (r .next ≡ placeIn file k i + equationSize (equationIn file k i)) × (r .used ≡ sitesSize (sizesIn file) (callees (equationIn file k i .rhs)))
+  pub right-skips : (i at : ℕ) {r : Right} → i < countIn file k → at ≡ rhsIn file k i → RightEnds file at r → (r .next ≡ placeIn file k i + equationSize (equationIn file k i)) × (r .used ≡ sitesSize (sizesIn file) (callees (equationIn file k i .rhs)))
   right-skips i at {r} h e s =
       let q = p .each i h in
       let a = rhsIn file k i in
-      let t = subst (λ (x : ℕ). SkipsTo file 24 1 x r) e s in
-      let ends : r .next ≡ a + exprSize (equationIn file k i .rhs) = t .next-is ∙ one-tree file 24 a (q .reads) .1 ∙ reads-end file 24 a (parted file 24 0 a (q .reads) .head) ∙ ap (λ (x : Expr). a + exprSize x) (q .tree) in
-      (ends ∙ omega arith, t .used-is ∙ ap (sitesSize (sizesIn file)) (callees-one file 24 a (q .reads) ∙ ap callees (q .tree)))
+      let ends : r .next ≡ a + exprSize (equationIn file k i .rhs) = s .next-is ∙ ap (endsAt file 24 1) e ∙ one-tree file 24 a (q .reads) .1 ∙ reads-end file 24 a (parted file 24 0 a (q .reads) .head) ∙ ap (λ (x : Expr). a + exprSize x) (q .tree) in
+      (ends ∙ omega arith, s .used-is ∙ right-size i at h e)
 
 -- ---- the loop: the first i equations have their places and offsets
 
@@ -108,7 +118,7 @@ module _ {file rows : List ℕ} {k : ℕ} (p : EquationsStand file rows k) where
         offset = λ j h. let z : j ≡ 0 = omega arith in subst (λ (n : ℕ). getD (set offsets 0 0) n 0 ≡ offsetIn file k n) (sym z) (getD-set-same offsets 0 0 0 (omega arith) ∙ sym (offset-zero file k));
       }
 
-  pub filled-turn : (places offsets : List ℕ) (at used i names : ℕ) {r : Passed} → Filled file k places offsets at used i → i < countIn file k → names ≡ getD file at 0 → SkipsTo file 24 1 (at + 1 + 2 * names) r → Filled file k (set places i at) (set offsets (i + 1) (used + r .used)) (r .next) (used + r .used) (i + 1)
+  pub filled-turn : (places offsets : List ℕ) (at used i names : ℕ) {r : Right} → Filled file k places offsets at used i → i < countIn file k → names ≡ getD file at 0 → RightEnds file (at + 1 + 2 * names) r → Filled file k (set places i at) (set offsets (i + 1) (used + r .used)) (r .next) (used + r .used) (i + 1)
   filled-turn places offsets at used i names {r} f h n s =
       let e = f .here h in
       let w = right-skips p i (at + 1 + 2 * names) h (right-is p i at names h e n) s in

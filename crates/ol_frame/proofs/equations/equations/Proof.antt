@@ -1,24 +1,25 @@
 -- <uses>
 use borrow.Author.Needs.{needs}
+use lib.Dec.{T, eqb→eq}
 use mathlib.Core.Path.{_≡_, refl, sym, ap, subst, _∙_}
 use Prim.Native.Nat.{ℕ, suc, _+_, _-_, _*_, _≤_, _<_}
 use native.Mathlib.Omega.{arith}
 use lib.ListN.{length, length-set}
-use Rattle.ol_frame.proofs.Equating.{Filled, filled-start, filled-turn, filled-done, place-inside, right-is, right-passable, offset-upto, offset-suc, right-skips}
+use Rattle.ol_frame.proofs.Equating.{Filled, filled-start, filled-turn, filled-done, place-inside, right-is, right-passable, right-bare, offset-upto, offset-suc, right-skips}
 -- </uses>
 use Rattle.ol_frame.proofs.equations.equations.Statement.{statement}
 use Rattle.ol_frame.proofs.equations.equations.Tie as tie
 use Rattle.ol_frame.proofs.equations.equations.Reads as reads
 use Rattle.ol_frame.proofs.equations.equations.Lts as lts
-use Rattle.ol_frame.proofs.skip.pass.Reads as pass-reads
+use Rattle.ol_frame.proofs.equations.right_side.Reads as right-side-reads
 use Rattle.ol_frame.proofs.tables.number.Reads as number-reads
 use Rattle.ol_frame.proofs.tables.row.Reads as row-reads
 
 abbrev Inv-loop : tie.InvT-loop
-Inv-loop file rows k places₀ offsets₀ n at₀ used₀ i₀ places offsets at used i = Filled file k places offsets at used i × (length places ≡ length places₀) × (length offsets ≡ length offsets₀)
+Inv-loop file rows k total places₀ offsets₀ n bare at₀ used₀ i₀ places offsets at used i = Filled file k places offsets at used i × (length places ≡ length places₀) × (length offsets ≡ length offsets₀)
 
 abbrev μ-loop : tie.MeasureT-loop
-μ-loop file rows k places₀ offsets₀ n at₀ used₀ i₀ places offsets at used i = n - i
+μ-loop file rows k total places₀ offsets₀ n bare at₀ used₀ i₀ places offsets at used i = n - i
 
 -- src/equations.rt:14:9
 row-requires : tie.Need-row-requires Inv-loop μ-loop
@@ -38,14 +39,14 @@ row-requires-2 c κs =
 slice-write-offsets : tie.Need-slice-write-offsets Inv-loop μ-loop
 slice-write-offsets c =
     let start = c .before .before .before .before .before .before in
-    omega (arith, start .pre .2)
+    omega (arith, start .pre .3)
 
 -- src/equations.rt:19:5
 loop-holds : tie.Need-loop-holds Inv-loop μ-loop
 loop-holds c =
     let start = c .before .before .before .before .before .before in
     let p = start .pre .0 in
-    (filled-start p (start .args .places .now) (start .args .offsets .now) (c .row2 .result) (start .pre .1) (start .pre .2) (c .row2 .ensures), refl, refl)
+    (filled-start p (start .args .places .now) (start .args .offsets .now) (c .row2 .result) (start .pre .2) (start .pre .3) (c .row2 .ensures), refl, refl)
 
 -- src/equations.rt:20:9
 mul-places : tie.Need-mul-places Inv-loop μ-loop
@@ -82,8 +83,8 @@ number-requires : tie.Need-number-requires Inv-loop μ-loop
 number-requires c κs = tt
 
 -- src/equations.rt:22:34
-add-pass : tie.Need-add-pass Inv-loop μ-loop
-add-pass c =
+add-right-side : tie.Need-add-right-side Inv-loop μ-loop
+add-right-side c =
     let start = c .before .before .before .before .before .before .before .before .before .before in
     let p = start .pre .0 in
     let n = c .before .before .before .before .before .row .ensures ∙ p .sized .table .rowsOf (start .args .k) (p .inside) .count in
@@ -93,8 +94,8 @@ add-pass c =
     omega (arith, place-inside p (c .before .before .before .loop .i) (c .before .before .before .loop .at) (omega (arith, lt, n)) here, p .sized .small, c .number .ensures .1)
 
 -- src/equations.rt:22:43
-mul-pass : tie.Need-mul-pass Inv-loop μ-loop
-mul-pass c =
+mul-right-side : tie.Need-mul-right-side Inv-loop μ-loop
+mul-right-side c =
     let start = c .before .before .before .before .before .before .before .before .before .before in
     let p = start .pre .0 in
     let n = c .before .before .before .before .before .row .ensures ∙ p .sized .table .rowsOf (start .args .k) (p .inside) .count in
@@ -104,8 +105,8 @@ mul-pass c =
     omega (arith, place-inside p (c .before .before .before .loop .i) (c .before .before .before .loop .at) (omega (arith, lt, n)) here, p .sized .small, c .number .ensures .1)
 
 -- src/equations.rt:22:34
-add-pass-2 : tie.Need-add-pass-2 Inv-loop μ-loop
-add-pass-2 c =
+add-right-side-2 : tie.Need-add-right-side-2 Inv-loop μ-loop
+add-right-side-2 c =
     let start = c .before .before .before .before .before .before .before .before .before .before in
     let p = start .pre .0 in
     let n = c .before .before .before .before .before .row .ensures ∙ p .sized .table .rowsOf (start .args .k) (p .inside) .count in
@@ -115,8 +116,8 @@ add-pass-2 c =
     omega (arith, place-inside p (c .before .before .before .loop .i) (c .before .before .before .loop .at) (omega (arith, lt, n)) here, p .sized .small, c .number .ensures .1)
 
 -- src/equations.rt:22:13
-pass-requires : tie.Need-pass-requires Inv-loop μ-loop
-pass-requires c κs =
+right-side-requires : tie.Need-right-side-requires Inv-loop μ-loop
+right-side-requires c κs =
     let start = c .before .before .before .before .before .before .before .before .before .before in
     let p = start .pre .0 in
     let n = c .before .before .before .before .before .row .ensures ∙ p .sized .table .rowsOf (start .args .k) (p .inside) .count in
@@ -124,7 +125,7 @@ pass-requires c κs =
     let lt = c .before .before .loop-test .taken in
     let here = f .here (omega (arith, lt, n)) in
     let at = right-is p (c .before .before .before .loop .i) (c .before .before .before .loop .at) (c .number .result) (omega (arith, lt, n)) here (c .number .ensures .0) in
-    right-passable p (c .before .before .before .loop .i) _ (omega (arith, lt, n)) at
+    (right-passable p (c .before .before .before .loop .i) _ (omega (arith, lt, n)) at, right-bare p (c .before .before .before .loop .i) _ (start .args .total) _ (omega (arith, lt, n)) at (start .pre .1) (λ b. eqb→eq (start .args .total) 0 (subst T (sym b) tt)))
 
 -- src/equations.rt:24:9
 add-used : tie.Need-add-used Inv-loop μ-loop
@@ -136,7 +137,7 @@ add-used c =
     let lt = c .before .before .before .before .loop-test .taken in
     let here = f .here (omega (arith, lt, n)) in
     let at = right-is p (c .before .before .before .before .before .loop .i) (c .before .before .before .before .before .loop .at) (c .before .before .number .result) (omega (arith, lt, n)) here (c .before .before .number .ensures .0) in
-    let skip = right-skips p (c .before .before .before .before .before .loop .i) _ (omega (arith, lt, n)) at (c .before .pass .ensures) in
+    let skip = right-skips p (c .before .before .before .before .before .loop .i) _ (omega (arith, lt, n)) at (c .before .right-side .ensures) in
     omega (arith, skip .1, f .used-is, offset-suc (start .args .file .now) (start .args .k) (c .before .before .before .before .before .loop .i) (omega (arith, lt, n)), offset-upto (start .args .file .now) (start .args .k) (suc (c .before .before .before .before .before .loop .i)), p .room)
 
 -- src/equations.rt:25:9
@@ -181,7 +182,7 @@ loop-again c =
     let n = c .before .before .before .before .before .before .before .row .ensures ∙ p .sized .table .rowsOf (start .args .k) (p .inside) .count in
     let f = c .before .before .before .before .before .loop .inv .0 in
     let lt = c .before .before .before .before .loop-test .taken in
-    (filled-turn p (c .before .before .before .before .before .loop .places) (c .before .before .before .before .before .loop .offsets) (c .before .before .before .before .before .loop .at) (c .before .before .before .before .before .loop .used) (c .before .before .before .before .before .loop .i) (c .before .before .number .result) f (omega (arith, lt, n)) (c .before .before .number .ensures .0) (c .before .pass .ensures), length-set (c .before .before .before .before .before .loop .places) (c .before .before .before .before .before .loop .i) (c .before .before .before .before .before .loop .at) ∙ c .before .before .before .before .before .loop .inv .1, length-set (c .before .before .before .before .before .loop .offsets) (c .before .before .before .before .before .loop .i + 1) (c .before .before .before .before .before .loop .used + c .before .pass .result .used) ∙ c .before .before .before .before .before .loop .inv .2)
+    (filled-turn p (c .before .before .before .before .before .loop .places) (c .before .before .before .before .before .loop .offsets) (c .before .before .before .before .before .loop .at) (c .before .before .before .before .before .loop .used) (c .before .before .before .before .before .loop .i) (c .before .before .number .result) f (omega (arith, lt, n)) (c .before .before .number .ensures .0) (c .before .right-side .ensures), length-set (c .before .before .before .before .before .loop .places) (c .before .before .before .before .before .loop .i) (c .before .before .before .before .before .loop .at) ∙ c .before .before .before .before .before .loop .inv .1, length-set (c .before .before .before .before .before .loop .offsets) (c .before .before .before .before .before .loop .i + 1) (c .before .before .before .before .before .loop .used + c .before .right-side .result .used) ∙ c .before .before .before .before .before .loop .inv .2)
 
 -- src/equations.rt:10:1
 same-length : tie.Need-same-length Inv-loop μ-loop
@@ -216,10 +217,10 @@ equations-spec =
     slice-write-places
     shared-slice-read-number
     number-requires
-    add-pass
-    mul-pass
-    add-pass-2
-    pass-requires
+    add-right-side
+    mul-right-side
+    add-right-side-2
+    right-side-requires
     add-used
     add-i
     mul-offsets

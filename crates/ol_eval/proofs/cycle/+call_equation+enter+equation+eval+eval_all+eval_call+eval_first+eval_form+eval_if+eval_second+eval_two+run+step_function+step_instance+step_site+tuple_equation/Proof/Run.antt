@@ -44,7 +44,7 @@ equations-requires t c κs =
     let k = start .args .k in
     let r = p .running in
     let node = r .nodes k (p .below) in
-    (stands k r (p .below) (omega (arith, p .sized, p .small)), node .few, omega (arith, node .few))
+    (stands k r (p .below) (omega (arith, p .sized, p .small)), p .sized, node .few, omega (arith, node .few))
 
 pub row-requires : (t : ℕ) → run-lts.Need-row-requires (Q t) (run-at t) run.Post Inv-loop μ-loop
 row-requires t c κs =
@@ -316,7 +316,7 @@ same-length-2 t c =
     let l = run-next (start .args .file .now) (start .args .consts .now) k (start .args .first) (start .args .cells .now) (start .args .before .now) (start .args .old .now) (c .before .before .before .before .before .before .before .before .before .before .before .loop .cells) (c .before .before .before .before .before .before .before .before .before .before .before .loop .new) i (c .before .before .before .before .before .before .before .before .before .before .before .loop .j) (inv .3) (omega (arith, lt, n, node .all)) is in
     let q = c .before .before .before .before .before .before .before .before .before .before .before .before .before .before .before .equations .ensures in
     let t = turn-part (start .args .first) p (c .before .before .before .before .before .before .before .before .before .before .before .loop .cells) l q in
-    (length-put-mid (getD (c .before .before .before .before .before .before .before .before .before .before .before .before .before .before .before .equations .last .1 .1 .1 .1 .0) i 0) (getD (c .before .before .before .before .before .before .before .before .before .before .before .before .before .before .before .equations .last .1 .1 .1 .1 .0) (i + 1) 0) (c .before .before .before .before .before .before .before .before .before .before .before .loop .new) (c .before .before .before .before .before .equation .last .1 .1 .1 .1 .1 .1 .1 .1 .1 .1 .1 .0) (t .0) (omega (arith, t .1, t .2)) ((c .before .before .before .before .before .equation .kept .1 .1 .1 .1 .1 .1 .1 .1 .1 .1 .1 .0) ∙ length-mid (getD (c .before .before .before .before .before .before .before .before .before .before .before .before .before .before .before .equations .last .1 .1 .1 .1 .0) i 0) (getD (c .before .before .before .before .before .before .before .before .before .before .before .before .before .before .before .equations .last .1 .1 .1 .1 .0) (i + 1) 0) (c .before .before .before .before .before .before .before .before .before .before .before .loop .new) (t .0) (omega (arith, t .1, t .2)))) ∙ inv .2
+    (length-put-mid (getD (c .before .before .before .before .before .before .before .before .before .before .before .before .before .before .before .equations .last .1 .1 .1 .1 .1 .0) i 0) (getD (c .before .before .before .before .before .before .before .before .before .before .before .before .before .before .before .equations .last .1 .1 .1 .1 .1 .0) (i + 1) 0) (c .before .before .before .before .before .before .before .before .before .before .before .loop .new) (c .before .before .before .before .before .equation .last .1 .1 .1 .1 .1 .1 .1 .1 .1 .1 .1 .0) (t .0) (omega (arith, t .1, t .2)) ((c .before .before .before .before .before .equation .kept .1 .1 .1 .1 .1 .1 .1 .1 .1 .1 .1 .0) ∙ length-mid (getD (c .before .before .before .before .before .before .before .before .before .before .before .before .before .before .before .equations .last .1 .1 .1 .1 .1 .0) i 0) (getD (c .before .before .before .before .before .before .before .before .before .before .before .before .before .before .before .equations .last .1 .1 .1 .1 .1 .0) (i + 1) 0) (c .before .before .before .before .before .before .before .before .before .before .before .loop .new) (t .0) (omega (arith, t .1, t .2)))) ∙ inv .2
 
 pub returns : (t : ℕ) → run-lts.Need-returns (Q t) (run-at t) run.Post Inv-loop μ-loop
 returns t c =
@@ -365,7 +365,7 @@ loop-again t c =
     let l = run-next (start .args .file .now) (start .args .consts .now) k (start .args .first) (start .args .cells .now) (start .args .before .now) (start .args .old .now) (c .before .before .before .before .before .before .before .before .before .before .before .before .loop .cells) (c .before .before .before .before .before .before .before .before .before .before .before .before .loop .new) i (c .before .before .before .before .before .before .before .before .before .before .before .before .loop .j) (inv .3) (omega (arith, lt, n, node .all)) is in
     let q = c .before .before .before .before .before .before .before .before .before .before .before .before .before .before .before .before .equations .ensures in
     let t = turn-part (start .args .first) p (c .before .before .before .before .before .before .before .before .before .before .before .before .loop .cells) l q in
-    (omega (arith, lt), (c .before .before .before .before .before .before .equation .kept .1 .1 .1 .1 .1 .1 .1 .1 .0) ∙ inv .1, (length-put-mid (getD (c .before .before .before .before .before .before .before .before .before .before .before .before .before .before .before .before .equations .last .1 .1 .1 .1 .0) i 0) (getD (c .before .before .before .before .before .before .before .before .before .before .before .before .before .before .before .before .equations .last .1 .1 .1 .1 .0) (i + 1) 0) (c .before .before .before .before .before .before .before .before .before .before .before .before .loop .new) (c .before .before .before .before .before .before .equation .last .1 .1 .1 .1 .1 .1 .1 .1 .1 .1 .1 .0) (t .0) (omega (arith, t .1, t .2)) ((c .before .before .before .before .before .before .equation .kept .1 .1 .1 .1 .1 .1 .1 .1 .1 .1 .1 .0) ∙ length-mid (getD (c .before .before .before .before .before .before .before .before .before .before .before .before .before .before .before .before .equations .last .1 .1 .1 .1 .0) i 0) (getD (c .before .before .before .before .before .before .before .before .before .before .before .before .before .before .before .before .equations .last .1 .1 .1 .1 .0) (i + 1) 0) (c .before .before .before .before .before .before .before .before .before .before .before .before .loop .new) (t .0) (omega (arith, t .1, t .2)))) ∙ inv .2, turn-goes (start .args .first) p (c .before .before .before .before .before .before .before .before .before .before .before .before .loop .cells) l q (c .before .before .before .before .before .before .equation .result) (c .before .before .before .before .before .before .equation .last .1 .1 .1 .1 .1 .1 .1 .1 .0) (c .before .before .before .before .before .before .equation .last .1 .1 .1 .1 .1 .1 .1 .1 .1 .1 .1 .0) (c .enum-told .given .1) (c .before .before .before .before .before .before .equation .kept .1 .1 .1 .1 .1 .1 .1 .1 .1 .1 .1 .0) (c .before .before .before .before .before .before .equation .ensures))
+    (omega (arith, lt), (c .before .before .before .before .before .before .equation .kept .1 .1 .1 .1 .1 .1 .1 .1 .0) ∙ inv .1, (length-put-mid (getD (c .before .before .before .before .before .before .before .before .before .before .before .before .before .before .before .before .equations .last .1 .1 .1 .1 .1 .0) i 0) (getD (c .before .before .before .before .before .before .before .before .before .before .before .before .before .before .before .before .equations .last .1 .1 .1 .1 .1 .0) (i + 1) 0) (c .before .before .before .before .before .before .before .before .before .before .before .before .loop .new) (c .before .before .before .before .before .before .equation .last .1 .1 .1 .1 .1 .1 .1 .1 .1 .1 .1 .0) (t .0) (omega (arith, t .1, t .2)) ((c .before .before .before .before .before .before .equation .kept .1 .1 .1 .1 .1 .1 .1 .1 .1 .1 .1 .0) ∙ length-mid (getD (c .before .before .before .before .before .before .before .before .before .before .before .before .before .before .before .before .equations .last .1 .1 .1 .1 .1 .0) i 0) (getD (c .before .before .before .before .before .before .before .before .before .before .before .before .before .before .before .before .equations .last .1 .1 .1 .1 .1 .0) (i + 1) 0) (c .before .before .before .before .before .before .before .before .before .before .before .before .loop .new) (t .0) (omega (arith, t .1, t .2)))) ∙ inv .2, turn-goes (start .args .first) p (c .before .before .before .before .before .before .before .before .before .before .before .before .loop .cells) l q (c .before .before .before .before .before .before .equation .result) (c .before .before .before .before .before .before .equation .last .1 .1 .1 .1 .1 .1 .1 .1 .0) (c .before .before .before .before .before .before .equation .last .1 .1 .1 .1 .1 .1 .1 .1 .1 .1 .1 .0) (c .enum-told .given .1) (c .before .before .before .before .before .before .equation .kept .1 .1 .1 .1 .1 .1 .1 .1 .1 .1 .1 .0) (c .before .before .before .before .before .before .equation .ensures))
 
 pub same-length-3 : (t : ℕ) → run-lts.Need-same-length-3 (Q t) (run-at t) run.Post Inv-loop μ-loop
 same-length-3 t c =
