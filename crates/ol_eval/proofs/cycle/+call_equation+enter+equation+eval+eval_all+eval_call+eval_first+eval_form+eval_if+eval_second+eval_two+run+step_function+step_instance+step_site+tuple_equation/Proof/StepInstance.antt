@@ -6,13 +6,14 @@ use lib.ListN.{length}
 use Prim.Native.Nat.{_+_, _*_}
 use Rattle.ol_tables.proofs.Lending.{putTail}
 use Rattle.ol_frame.proofs.Copying.{all-copied}
-use Rattle.ol_eval.proofs.Stepping.{few, long, narrow, inputs-first, own-room, own-new, cells-room, put-length, set-length, cells-new, record-length, fresh-sited, instance-runnable, entered, instance-finished, instance-failed, instance-overflowed}
+use Rattle.ol_frame.proofs.NodeRows.{narrow, inputs-first}
+use Rattle.ol_eval.proofs.Stepping.{own-room, own-new, cells-room, put-length, set-length, cells-new, record-length, fresh-sited, instance-runnable, entered, instance-finished, instance-failed, instance-overflowed}
 -- </uses>
 use Prim.Native.Nat.{ℕ}
 use borrow.Author.Needs.{needs}
 use Rattle.ol_frame.proofs.copies.copy_cells.Reads as copy-cells-reads
 use Rattle.ol_frame.proofs.copies.copy.Reads as copy-reads
-use Rattle.ol_frame.proofs.tables.row.Reads as row-reads
+use Rattle.ol_tables.proofs.tables.row.Reads as row-reads
 use Rattle.ol_eval.proofs.cycle.run.Reads as run
 use Rattle.ol_eval.proofs.cycle.step_instance.Reads as step-instance
 use Rattle.ol_frame.proofs.copies.write_cells.Reads as write-cells-reads
@@ -25,10 +26,7 @@ abbrev pub Q : ℕ → step-instance-lts.Claims
 Q t = (row-reads.Asked, row-reads.Learnt, copy-cells-reads.Asked, copy-cells-reads.Learnt, run-below t, run.Post, write-cells-reads.Asked, write-cells-reads.Learnt, write-fresh-reads.Asked, write-fresh-reads.Learnt, copy-reads.Asked, copy-reads.Learnt)
 
 pub row-requires : (t : ℕ) → step-instance-lts.Need-row-requires (Q t) (step-instance-at t) step-instance.Post
-row-requires t c κs =
-    let start = c .before .before .before .before .before .before .before in
-    let h = start .pre .1 .0 in
-    (long h, few h, omega arith)
+row-requires t c κs = tt
 
 pub mul-own : (t : ℕ) → step-instance-lts.Need-mul-own (Q t) (step-instance-at t) step-instance.Post
 mul-own t c =
@@ -36,7 +34,7 @@ mul-own t c =
     let h = start .pre .1 .0 in
     let n = c .row .result in
     let w = c .row .ensures in
-    omega (arith, narrow h n w)
+    omega (arith, narrow (h .running) (h .below) n w)
 
 pub add-own : (t : ℕ) → step-instance-lts.Need-add-own (Q t) (step-instance-at t) step-instance.Post
 add-own t c =
@@ -44,13 +42,10 @@ add-own t c =
     let h = start .pre .1 .0 in
     let n = c .row .result in
     let w = c .row .ensures in
-    omega (arith, narrow h n w)
+    omega (arith, narrow (h .running) (h .below) n w)
 
 pub row-requires-2 : (t : ℕ) → step-instance-lts.Need-row-requires-2 (Q t) (step-instance-at t) step-instance.Post
-row-requires-2 t c κs =
-    let start = c .before .before .before .before .before .before .before .before in
-    let h = start .pre .1 .0 in
-    (long h, few h, omega arith)
+row-requires-2 t c κs = tt
 
 pub shared-slice-read-started : (t : ℕ) → step-instance-lts.Need-shared-slice-read-started (Q t) (step-instance-at t) step-instance.Post
 shared-slice-read-started t c =
@@ -101,7 +96,7 @@ copy-cells-requires t c κs =
     let w = c .before .before .before .before .row .ensures in
     let i = c .before .before .before .row2 .result in
     let iw = c .before .before .before .row2 .ensures in
-    (inputs-first h n i w iw, narrow h n w, cells-room h n o w, omega (arith, h .room, narrow h n w))
+    (inputs-first (h .running) (h .below) n i w iw, narrow (h .running) (h .below) n w, cells-room h n o w, omega (arith, h .room, narrow (h .running) (h .below) n w))
 
 pub sub-run : (t : ℕ) → step-instance-lts.Need-sub-run (Q t) (step-instance-at t) step-instance.Post
 sub-run t c =
@@ -256,7 +251,7 @@ write-cells-requires t c κs =
     let x = c .before .before .before .before .before .before .before .before .run .last .1 .1 .1 .1 .1 .1 .1 .1 .1 .0 in
     let kx = c .before .before .before .before .before .before .before .before .run .kept .1 .1 .1 .1 .1 .1 .1 .1 .1 .0 in
     let kc = c .before .before .before .before .before .before .before .before .run .kept .1 .1 .1 .1 .1 .1 .0 ∙ c .before .before .before .before .before .before .before .before .before .before .before .before .before .before .before .copy-cells .kept .1 .1 .1 .0 in
-    (narrow h n w, omega (arith, kc, h .room, narrow h n w), cells-new h n x o w kx)
+    (narrow (h .running) (h .below) n w, omega (arith, kc, h .room, narrow (h .running) (h .below) n w), cells-new h n x o w kx)
 
 pub enum-told-2 : (t : ℕ) → step-instance-lts.Need-enum-told-2 (Q t) (step-instance-at t) step-instance.Post
 enum-told-2 t c = search needs
