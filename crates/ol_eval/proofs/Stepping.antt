@@ -1,13 +1,12 @@
 -- Laws of calling a node on its record: an Operator's instance steps, a Function runs as on a fresh record.
 use Prim.Native.Nat.{ℕ, zero, suc, _+_, _-_, _*_, _<_, _≤_}
 use mathlib.Core.Bool.{Bool, true, false}
-use mathlib.Core.List.{List, [], _∷_, _++_, map, List·Memᴰ·head as here, List·Memᴰ·tail as there}
+use mathlib.Core.List.{List, [], _∷_, _++_, map}
 use mathlib.Core.Path.{_≡_, refl, sym, ap, subst, _∙_}
 use native.Mathlib.Omega.{arith}
-use lib.ListN.{length, take, drop, getD, length-append, length-drop}
+use lib.ListN.{length, take, drop, getD, length-append, length-drop, length-map}
 use lib.Seq.{take-all}
 use lib.Dec.{T}
-use Rattle.ol_theory.specs.Member.{_∈_}
 use Rattle.ol_spec.specs.Lists.{concat}
 use Rattle.ol_spec.specs.Syntax.{NodeKind, Function, Operator, Imported, Equation, Node, variables, constantName}
 use Rattle.ol_spec.specs.Cell.{cells as cellBytes, valuesOf}
@@ -26,7 +25,7 @@ use Rattle.ol_tables.specs.Tables.{Each, rowAt, nodeOf}
 use Rattle.ol_tables.proofs.Forms.{each-append}
 use Rattle.ol_state.specs.Known.{Sited}
 use Rattle.ol_state.specs.Defaults.{cellsAt}
-use Rattle.ol_state.proofs.Instances.{is-operator as fresh-operator, no-operator, operator-size, no-size, few-nodes, variables-told, default-cells, row-of}
+use Rattle.ol_state.proofs.Instances.{is-operator as fresh-operator, no-operator, operator-size, no-size, default-cells}
 use Rattle.ol_frame.specs.Walk.{nodesIn, sizesIn, Below}
 use Rattle.ol_frame.specs.Plans.{knownIn, globalsIn, widthIn}
 use Rattle.ol_frame.specs.Equations.{countIn, equationIn, rhsIn}
@@ -39,14 +38,13 @@ use Rattle.ol_tables.proofs.Lending.{tailOf, putTail, tail-all, drop-put, lengt
 use Rattle.ol_frame.proofs.Endings.{failed-values, over-values, over-failed}
 use Rattle.ol_frame.proofs.Planning.{sound-call, sounds-each}
 use Rattle.ol_frame.proofs.Passing.{callees-one}
-use Rattle.ol_frame.proofs.Depth.{calls-of, fresh-of}
+use Rattle.ol_frame.proofs.Depth.{calls-of}
+use Rattle.ol_state.proofs.FreshRecords.{fresh-record}
+use Rattle.ol_frame.proofs.Running.{each-in}
+use Rattle.ol_frame.proofs.NodeRows.{inputs-few, width-is, inputs-are, narrow, inputs-first}
 use Rattle.ol_frame.proofs.Storing.{values-take, values-drop, values-front, values-copied}
 
 -- ---- lists
-
-each-all : (P : ℕ → Type 0) (xs : List ℕ) → ((x : ℕ) → x ∈ xs → P x) → Each P xs
-each-all P [] f = tt
-each-all P (x ∷ xs) f = (f x (here refl), each-all P xs (λ y m. f y (there m)))
 
 -- the callees of equation i are among a node's
 each-equation : (P : ℕ → Type 0) (qs : List Equation) (i : ℕ) → Each P (concat (map equationSites qs)) → Each P (callees (getD qs i noEquation .rhs))
@@ -58,10 +56,6 @@ each-equation P (q ∷ qs) (suc i) h = each-equation P qs i (each-append P (call
 each-index : (P : Equation → Type 0) (qs : List Equation) → ((i : ℕ) → i < length qs → P (getD qs i noEquation)) → Each P qs
 each-index P [] f = tt
 each-index P (q ∷ qs) f = (f 0 (omega arith), each-index P qs (λ i l. f (suc i) (omega arith)))
-
-length-map : {A B : Type 0} (f : A → B) (xs : List A) → length (map f xs) ≡ length xs
-length-map f [] = refl
-length-map f (x ∷ xs) = ap suc (length-map f xs)
 
 both-empty : (s t : List ℕ) → length s ≡ 0 → length t ≡ 0 → s ≡ t
 both-empty [] [] a b = refl
@@ -94,7 +88,7 @@ module _ {file tab rows consts : List ℕ} (ready : Running file tab rows consts
   g = globalsIn file consts
 
   lower : (k i : ℕ) → Each (Below k) (callees (equationAt (nodeIn file k) i .rhs))
-  lower k i = each-equation (Below k) (nodeIn file k .equations) i (each-all (Below k) (sites (nodeIn file k)) (λ c m. ready .known .lower k c m))
+  lower k i = each-equation (Below k) (nodeIn file k .equations) i (each-in (Below k) (sites (nodeIn file k)) (λ c m. ready .known .lower k c m))
 
   -- of an Operator
   pub operator-call : (k : ℕ) (vs : List Value) (r : List ℕ) → k < nodesIn file → nodeIn file k .kind ≡ Operator → calls g k vs r ≡ instance g (calls g) (nodeIn file k) vs r
@@ -130,12 +124,12 @@ module _ {file tab rows consts : List ℕ} (ready : Running file tab rows consts
   -- all constants are known
   pub all-known : globalsIn file consts ≡ globalsOf (fileAt file) (valuesOf (knownIn consts) consts)
   all-known =
-      let e = take-all (knownIn consts) (constantNames (fileAt file)) (omega (arith, length-map constantName (fileAt file .constants), ready .constants)) in
+      let e = take-all (knownIn consts) (constantNames (fileAt file)) (omega (arith, length-map (fileAt file .constants) constantName, ready .constants)) in
       ap (λ (xs : List ℕ). globals (fileAt file) xs (valuesOf (knownIn consts) consts)) e
 
   -- an Operator's fresh record
   pub fresh-here : (k : ℕ) → k < nodesIn file → nodeIn file k .kind ≡ Operator → freshAt g (nodesIn file) k ≡ freshRecord g (nodeIn file k)
-  fresh-here k h e = fresh-of g (λ c. each-all (Below c) (sites (nodeIn file c)) (λ d m. ready .known .lower c d m)) k h ∙ ap (λ (t : NodeKind). freshBy g t (freshAt g (nodesIn file)) (nodeIn file k)) e
+  fresh-here k h e = subst (λ (x : Globals). freshAt x (nodesIn file) k ≡ freshRecord x (nodeIn file k)) (sym all-known) (fresh-record (fileAt file) (valuesOf (knownIn consts) consts) (ready .known .lower) k h e)
 
 -- ---- how a call ends
 
@@ -183,9 +177,6 @@ module _ (g : Globals) (n : Node) where
 -- ---- the bytes of a record
 
 -- the outputs among the cells
-inputs-few : (n : Node) → length (n .inputs) ≤ length (variables n)
-inputs-few n = omega (arith, length-append (n .inputs ++ n .outputs) (n .locals), length-append (n .inputs) (n .outputs))
-
 pub outputs-among : (n : Node) (cs : List ℕ) → valuesOf (length (n .outputs)) (drop (9 * length (n .inputs)) cs) ≡ outputsIn n (valuesOf (length (variables n)) cs)
 outputs-among n cs =
     let i = length (n .inputs) in
@@ -208,27 +199,9 @@ module _ {file tab rows consts callee old new : List ℕ} {k : ℕ} (h : Steppab
       go Operator a b = absurd (a refl)
       go Imported a b = absurd (b refl)
 
-  pub few : k < 32
-  few = few-nodes (h .running .known) (h .below)
-
-  pub long : length rows ≡ 272
-  long = h .running .known .rowed .long
-
-  width-is : (n : ℕ) → n ≡ rowAt rows k 4 → n ≡ widthIn file k
-  width-is n e = e ∙ variables-told (h .running .known) (h .below)
-
-  inputs-are : (i : ℕ) → i ≡ rowAt rows k 2 → i ≡ length (nodeIn file k .inputs)
-  inputs-are i e = e ∙ row-of (h .running .known) (h .below) .inputs
-
-  pub narrow : (n : ℕ) → n ≡ rowAt rows k 4 → n ≤ 112
-  narrow n e = omega (arith, width-is n e, h .running .program .width k)
-
-  pub inputs-first : (n i : ℕ) → n ≡ rowAt rows k 4 → i ≡ rowAt rows k 2 → i ≤ n
-  inputs-first n i e f = omega (arith, width-is n e, inputs-are i f, inputs-few (nodeIn file k))
-
   -- an Operator's record has its own bytes
   pub own-room : (n : ℕ) → nodeIn file k .kind ≡ Operator → n ≡ rowAt rows k 4 → 1 + 9 * n ≤ length old
-  own-room n o e = omega (arith, h .sized, operator-size (h .running .known) (h .below) o, width-is n e)
+  own-room n o e = omega (arith, h .sized, operator-size (h .running .known) (h .below) o, width-is (h .running) (h .below) n e)
 
   pub own-new : (n : ℕ) → nodeIn file k .kind ≡ Operator → n ≡ rowAt rows k 4 → 1 + 9 * n ≤ length new
   own-new n o e = omega (arith, own-room n o e, ap length (h .same))
@@ -248,7 +221,7 @@ module _ {file tab rows consts callee old new : List ℕ} {k : ℕ} (h : Steppab
   -- it runs on its cells and segments
   pub instance-runnable : (n : ℕ) (cells : List ℕ) → nodeIn file k .kind ≡ Operator → n ≡ rowAt rows k 4 → length cells ≡ length callee → Runnable file tab rows consts k cells (tailOf 1 old) (tailOf (1 + 9 * n) old) (tailOf (1 + 9 * n) new)
   instance-runnable n cells o e l =
-      let w = width-is n e in
+      let w = width-is (h .running) (h .below) n e in
       let m = operator-size (h .running .known) (h .below) o in
       let z = ap length (tail-all (1 + 9 * n) old) ∙ length-drop (1 + 9 * n) old in
       record {
@@ -266,9 +239,9 @@ module _ {file tab rows consts callee old new : List ℕ} {k : ℕ} (h : Steppab
       → first ≡ take (9 * i) callee ++ (take (9 * n - 9 * i) (drop (9 * i) from) ++ drop (9 * n) callee) → valuesOf (length (nodeIn file k .inputs)) callee ≡ fitAll (nodeIn file k .inputs) vs
       → valuesOf (widthIn file k) first ≡ fitAll (nodeIn file k .inputs) vs ++ drop (length (nodeIn file k .inputs)) (valuesOf (widthIn file k) from)
   begin n i from first vs e f l c w =
-      let wn = width-is n e in
-      let wi = inputs-are i f in
-      ap (λ (m : ℕ). valuesOf m first) (sym wn) ∙ values-copied i n from callee first (inputs-first n i e f) l (omega (arith, h .room, narrow n e)) c
+      let wn = width-is (h .running) (h .below) n e in
+      let wi = inputs-are (h .running) (h .below) i f in
+      ap (λ (m : ℕ). valuesOf m first) (sym wn) ∙ values-copied i n from callee first (inputs-first (h .running) (h .below) n i e f) l (omega (arith, h .room, narrow (h .running) (h .below) n e)) c
       ∙ (λ j. (ap (λ (m : ℕ). valuesOf m callee) wi ∙ w) j ++ drop (wi j) (valuesOf (wn j) from))
 
 -- ---- a cycle of an instance
@@ -301,7 +274,7 @@ module _ {file tab rows consts callee old new : List ℕ} {k : ℕ} {first : Boo
   runs-as vs e =
       let s = h .site in
       let b : valuesOf (widthIn file k) (tailOf 1 old) ≡ oldCells node old = ap (valuesOf (widthIn file k)) (tail-all 1 old) in
-      let own : 1 + 9 * n ≡ ownSize node = ap (λ (m : ℕ). 1 + 9 * m) (width-is s n (h .width)) in
+      let own : 1 + 9 * n ≡ ownSize node = ap (λ (m : ℕ). 1 + 9 * m) (width-is (s .running) (s .below) n (h .width)) in
       let c = begin s n i (tailOf 1 old) cells vs (h .width) (h .inputs) (cells-room s n (h .operator) (h .width)) (h .copied) e ∙ ap (λ (l : List Value). fitAll (node .inputs) vs ++ drop (length (node .inputs)) l) b in
       λ j. runAll glob (calls glob) node (h .fresh j) (b j) (order (node .equations)) (c j) (split glob (node .equations) ((tail-all (1 + 9 * n) old ∙ ap (λ (m : ℕ). drop m old) own) j))
 
@@ -320,7 +293,7 @@ module _ {file tab rows consts callee old new : List ℕ} {k : ℕ} {first : Boo
       let p =
       w
       ∙ ap (λ (l : List ℕ). 1 ∷ cellBytes (valuesOf n cells′) ++ l) (drop-put (1 + 9 * n) new x (own-new s n (h .operator) (h .width)))
-      ∙ ap (λ (q : ℕ). 1 ∷ cellBytes (valuesOf q cells′) ++ x) (width-is s n (h .width)) in
+      ∙ ap (λ (q : ℕ). 1 ∷ cellBytes (valuesOf q cells′) ++ x) (width-is (s .running) (s .below) n (h .width)) in
       ended End.Values cells′ y (left-finished glob node old ran r (valuesOf (widthIn file k) cells′) (outputsAt file k cells′) x _ m z (outputs-among node cells′) p)
 
   -- it failed
@@ -368,7 +341,7 @@ module _ {file tab rows consts callee old new : List ℕ} {k : ℕ} (h : Steppab
   dcells = cellBytes (defaults (fileAt file .enums) (variables fnode))
 
   dlength : length dcells ≡ 9 * widthIn file k
-  dlength = length-cells (defaults (fileAt file .enums) (variables fnode)) ∙ ap (λ (m : ℕ). 9 * m) (length-map (defaultOf (fileAt file .enums)) (variables fnode))
+  dlength = length-cells (defaults (fileAt file .enums) (variables fnode)) ∙ ap (λ (m : ℕ). 9 * m) (length-map (variables fnode) (defaultOf (fileAt file .enums)))
 
   fresh-cells : (rest : List ℕ) → valuesOf (widthIn file k) (dcells ++ rest) ≡ valuesOf (widthIn file k) dcells
   fresh-cells rest = values-front (widthIn file k) dcells rest (omega (arith, dlength))
@@ -382,7 +355,7 @@ module _ {file tab rows consts callee old new : List ℕ} {k : ℕ} (h : Steppab
         let R = concat (map (freshAt fglob (nodesIn file)) (sites fnode)) in
         let w : fresh ≡ dcells ++ rest = written ∙ ap (λ (l : List ℕ). l ++ rest) (default-cells (h .running .known) (h .below)) in
         let b : valuesOf (widthIn file k) fresh ≡ oldCells fnode F = ap (valuesOf (widthIn file k)) w ∙ fresh-cells rest ∙ sym (fresh-cells R) in
-        let c = begin h n i fresh cells vs width inputs (omega (arith, long, narrow h n width)) copied e ∙ ap (λ (l : List Value). fitAll (fnode .inputs) vs ++ drop (length (fnode .inputs)) l) b in
+        let c = begin h n i fresh cells vs width inputs (omega (arith, long, narrow (h .running) (h .below) n width)) copied e ∙ ap (λ (l : List Value). fitAll (fnode .inputs) vs ++ drop (length (fnode .inputs)) l) b in
         λ j. runAll fglob (calls fglob) fnode true (b j) (order (fnode .equations)) (c j) (function-split (h .running) k old (drop (ownSize fnode) F) (h .below) func j)
 
     pub function-done : (r : Ended) (cells′ new′ : List ℕ) → RunTo file consts k true cells fresh old r cells′ new′ → length new′ ≡ length new → SiteTo file consts k callee old (r .end) cells′ new′

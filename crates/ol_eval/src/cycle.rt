@@ -7,8 +7,6 @@
 ghost use mathlib.Core.Path.{_≡_};
 ghost use mathlib.Core.Bool.{true, false};
 ghost use Prim.Native.Nat.{_+_, _<_};
-ghost use lib.Dec.{eqb};
-ghost use mathlib.Core.Bool.{cond};
 ghost use Rattle.ol_eval.specs.Post.{Ready, EvalsTo, TwoTo, ChooseTo, IfTo};
 ghost use Rattle.ol_eval.specs.Calls.{Passes, AllTo, EntersTo, Steppable, SiteTo, Runnable, RunTo, EquationReady, RhsReady, EquationTo};
 ghost use Rattle.ol_spec.specs.Syntax.{Function, Operator};
@@ -41,10 +39,10 @@ use ol_frame::skip::pass;
 use ol_frame::skip::pass_all;
 use ol_frame::tables::number;
 use ol_frame::tables::order_at;
-use ol_frame::tables::row;
 use ol_spec::Outcome;
 use ol_state::defaults::write_defaults;
 use ol_state::fresh::write_fresh;
+use ol_tables::heads::ty_size;
 use ol_tables::tables::COUNT;
 use ol_tables::tables::INPUTS;
 use ol_tables::tables::KIND;
@@ -52,6 +50,7 @@ use ol_tables::tables::MOST_CELLS;
 use ol_tables::tables::OUTPUTS;
 use ol_tables::tables::SIZE;
 use ol_tables::tables::VARIABLES;
+use ol_tables::tables::row;
 use ol_value::cell::write_cell;
 
 // What evaluating an expression gives: its outcome, where it ends, and the bytes of its records.
@@ -230,7 +229,7 @@ fn eval_form(
         }
         10 => {
             let t = file[p];
-            let q = after_type(t, p);
+            let q = p + ty_size(file, p);
             let r = eval_form(
                 file,
                 tab,
@@ -286,14 +285,6 @@ fn eval_form(
             }
         }
     }
-}
-
-// Where the type with this code, which stands at `at`, ends.
-pub fn after_type(code: u8, at: usize) -> usize
-    requires { ⌜ at < 65536 ⌝ }
-    ensures { λ r. ⌜ r ≡ at + cond (eqb code 12) 2 1 ⌝ }
-{
-    if code == 12 { at + 2 } else { at + 1 }
 }
 
 // Two operands, the first at `at`, and what the operator makes of them. Both are evaluated, also of And.

@@ -113,27 +113,3 @@ module _ (g : Globals) (lower : (k i : ℕ) → Each (Below k) (callees (equatio
   pub calls-of : (k : ℕ) (vs : List Value) (r : List ℕ) → k < length (g .nodes) → calls g k vs r ≡ callBy g (nodeAt g k .kind) (calls g) (nodeAt g k) vs r
   unfolding callsAt
   calls-of k vs r h = calls-stable (length (g .nodes)) (suc (length (g .nodes))) k h (omega arith) vs r
-
--- fresh records likewise
-map-same : (p q : ℕ → List ℕ) (ks : List ℕ) → Each (λ k. p k ≡ q k) ks → map p ks ≡ map q ks
-map-same p q [] h = refl
-map-same p q (k ∷ ks) h = λ i. h .0 i ∷ map-same p q ks (h .1) i
-
-freshBy-same : (g : Globals) (t : NodeKind) (p q : ℕ → List ℕ) (n : Node) → Each (λ k. p k ≡ q k) (sites n) → freshBy g t p n ≡ freshBy g t q n
-freshBy-same g Function p q n h = refl
-freshBy-same g Operator p q n h = ap (λ (rs : List (List ℕ)). 0 ∷ cells (defaults (g .enums) (variables n)) ++ concat rs) (map-same p q (sites n) h)
-freshBy-same g Imported p q n h = refl
-
-module _ (g : Globals) (lower : (k : ℕ) → Each (Below k) (sites (nodeAt g k))) where
-  pub fresh-stable : (d e k : ℕ) → k < d → k < e → freshAt g d k ≡ freshAt g e k
-  unfolding freshAt
-  fresh-stable zero e k h l = absurd (omega arith)
-  fresh-stable (suc d) zero k h l = absurd (omega arith)
-  fresh-stable (suc d) (suc e) k h l =
-      freshBy-same g (nodeAt g k .kind) (freshAt g d) (freshAt g e) (nodeAt g k)
-      (each-map (Below k) (λ c. freshAt g d c ≡ freshAt g e c) (λ c b. fresh-stable d e c (omega arith) (omega arith)) (sites (nodeAt g k)) (lower k))
-
-  -- a call site's fresh record is that of its node, by the same fresh records
-  pub fresh-of : (k : ℕ) → k < length (g .nodes) → freshAt g (length (g .nodes)) k ≡ freshBy g (nodeAt g k .kind) (freshAt g (length (g .nodes))) (nodeAt g k)
-  unfolding freshAt
-  fresh-of k h = fresh-stable (length (g .nodes)) (suc (length (g .nodes))) k h (omega arith)

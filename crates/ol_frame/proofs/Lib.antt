@@ -4,6 +4,7 @@ pub mod Depth
 pub mod Endings
 pub mod Equating
 pub mod Naming
+pub mod NodeRows
 pub mod Passing
 pub mod Planning
 pub mod RealKinds

@@ -1,13 +1,11 @@
 -- Laws of passing over expressions, from call to call.
 use Prim.Native.Nat.{ℕ, _+_, _<_, _≤_, min}
-use mathlib.Core.Bool.{Bool, true, false, not, _||_, cond}
+use mathlib.Core.Bool.{Bool, true, false, not, _||_}
 use mathlib.Core.List.{List, [], _∷_, append-nil}
 use mathlib.Core.Path.{_≡_, refl, sym, ap, subst, _∙_}
 use native.Mathlib.Omega.{arith}
 use native.Mathlib.Nat.{zero-add}
-use lib.Dec.{eqb}
 use lib.ListN.{getD}
-use borrow.Author.Tests.{eq-eqb, ne-eqb}
 use Rattle.ol_spec.specs.Lists.{isEmpty}
 use Rattle.ol_spec.specs.Places.{exprSize}
 use Rattle.ol_spec.specs.Eval.{callees, calleesAll, sitesSize, sizeIn}
@@ -21,13 +19,6 @@ use Rattle.ol_tables.specs.declared.heads.Parts.{Parts}
 use Rattle.ol_tables.specs.declared.heads.NextCall.{NextCall}
 use Rattle.ol_tables.proofs.Forms.{parted, one-tree, by-form, reads-end}
 use Rattle.ol_frame.specs.Walk.{nodesIn, sizesIn, Below, Sized, Passable, Skips, SkipsTo}
-
--- the size of a type, by its code
-pub enum-size : (b : ℕ) → b ≡ 12 → _≡_ {A = ℕ} (cond (eqb b 12) 2 1) 2
-enum-size b e = rw (eq-eqb b 12 e)
-
-pub plain-size : (b : ℕ) → ¬ (b ≡ 12) → _≡_ {A = ℕ} (cond (eqb b 12) 2 1) 1
-plain-size b n = rw (ne-eqb b 12 n)
 
 or-true : (b : Bool) → b || true ≡ true
 or-true true = refl

@@ -10,7 +10,7 @@ use Rattle.ol_spec.specs.Syntax.{File, Node, Expr, boolLit, intLit, floatLit, c
 use Rattle.ol_spec.specs.Places.{collect, collectAll, exprSize}
 use Rattle.ol_spec.specs.Eval.{callees, calleesAll, sitesSize}
 use Rattle.ol_spec.specs.Admission.{Item, usedAt, callsWhere, badCall, mayCall, calleeIn}
-use Rattle.ol_spec.proofs.Tests.{T-and, false-T}
+use Rattle.ol_spec.proofs.Tests.{T-and, not-false}
 use Rattle.ol_spec.proofs.Segments.{sites-append}
 use Rattle.ol_tables.specs.At.{fileAt, nodeIn, exprAt, endAt, exprsAt, Reads, ReadsAll}
 use Rattle.ol_tables.specs.Tables.{Each, Sound}
@@ -20,10 +20,6 @@ use Rattle.ol_tables.proofs.Forms.{each-append, each-join, each-map, Formed, pa
 use Rattle.ol_frame.specs.Walk.{nodesIn, sizesIn, Below, Passable}
 use Rattle.ol_frame.specs.Plans.{Named, Plan, segsAt, segAt, nameAt, Nameable, Looked}
 use Rattle.ol_frame.proofs.Passing.{callees-one}
-
-not-false : (b : Bool) → not b ≡ false → T b
-not-false true h = tt
-not-false false h = let z : _≡_ {A = ℕ} 0 1 = absurd (false-T true (sym (sym h)) tt) in absurd (omega arith)
 
 -- what a call without fault is
 pub record Callee (f : File) (k : ℕ) (n : Node) (c m : ℕ) : Type 0 where

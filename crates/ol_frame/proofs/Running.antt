@@ -16,6 +16,11 @@ use Rattle.ol_spec.proofs.Segments.{sites-append}
 use Rattle.ol_tables.specs.Tables.{Each}
 use Rattle.ol_frame.specs.Walk.{Below}
 
+-- what holds of the entries
+pub each-in : (P : ℕ → Type 0) (xs : List ℕ) → ((x : ℕ) → x ∈ xs → P x) → Each P xs
+each-in P [] f = tt
+each-in P (x ∷ xs) f = (f x (here refl), each-in P xs (λ y m. f y (there m)))
+
 -- ---- a part of a list
 
 -- what `&s[a..b]` lends, and `s` after `&mut s[a..b]` is back at `x`

@@ -21,11 +21,11 @@ use crate::outcomes::same_out;
 use crate::skip::pass;
 use crate::tables::code_of;
 use crate::tables::number;
-use crate::tables::row;
 use crate::tables::slot_at;
 use ol_spec::Outcome;
 use ol_spec::Value;
 use ol_tables::tables::INPUTS;
+use ol_tables::tables::row;
 use ol_value::cell::read_cell;
 
 // A byte as a wider number.

@@ -1,8 +1,8 @@
 -- A file without the faults 6 to 11, with right tables, is what running its nodes asks.
 use Prim.Native.Nat.{ℕ, _+_, _*_, _≤_, _<_}
 use mathlib.Core.Bool.{true, _&&_}
-use mathlib.Core.List.{List, [], _∷_, _++_, map, List·Memᴰ·head as here, List·Memᴰ·tail as there, List·Memᴰ·not-nil as in-nil, List·Memᴰ·cases-cons as in-cons}
-use mathlib.Core.Logic.{⊎-elim, by-cases}
+use mathlib.Core.List.{List, [], _∷_, _++_, map, List·Memᴰ·not-nil as in-nil}
+use mathlib.Core.Logic.{by-cases}
 use mathlib.Core.Option.{none}
 use mathlib.Core.Path.{_≡_, refl, sym, ap, subst}
 use native.Mathlib.Omega.{arith}
@@ -10,9 +10,9 @@ use native.Mathlib.Decide.{decLt}
 use lib.ListN.{length, getD, length-append, length-map, List·getD-eq-default}
 use lib.Seq.{take-all}
 use lib.Dec.{T, ltb, ltb→lt}
-use Rattle.ol_theory.specs.Member.{_∈_, Distinct}
-use Rattle.ol_theory.specs.Order.{InOrder}
+use Rattle.ol_theory.specs.Member.{_∈_}
 use Rattle.ol_theory.proofs.OrderProof.{valid-length}
+use Rattle.ol_theory.proofs.SystemProof.{in-order-distinct}
 use Rattle.ol_spec.specs.Lists.{concat, member}
 use Rattle.ol_spec.specs.Syntax.{bool, Equation, Node, File, noNode, variables, variableNames, nameOf, typeOf, constantName}
 use Rattle.ol_spec.specs.Places.{equationSize, nodeSize, placedConstants, placedNodes, placedEquations, placedNames, equationsStart, nodesStart, rhsPlace, collect}
@@ -27,7 +27,7 @@ use Rattle.ol_spec.proofs.Tests.{T-and}
 use Rattle.ol_spec.proofs.Lists.{All, all-at}
 use Rattle.ol_spec.proofs.ReadFacts.{NodeRead, file-read}
 use Rattle.ol_spec.proofs.Admits.{Clean, first-clean, clean-parts, clean-each, okFor, site-allowed, node-plain}
-use Rattle.ol_spec.proofs.MainFacts.{seenBy}
+use Rattle.ol_spec.proofs.MainFacts.{unseen-all, seenBy}
 use Rattle.ol_spec.proofs.Ordering.{depsOf}
 use Rattle.ol_spec.proofs.Admitted.{node-placed}
 use Rattle.ol_spec.proofs.RoundTrip.{encode-read}
@@ -45,21 +45,11 @@ use Rattle.ol_frame.specs.Walk.{nodesIn, Below}
 use Rattle.ol_frame.specs.Plans.{knownIn, constantsIn, widthIn, namesIn, Program, Named}
 use Rattle.ol_frame.specs.Equations.{countIn, placeIn, equationIn, rhsIn}
 use Rattle.ol_frame.specs.Nodes.{EquationPlan, NodePlan, Running}
+use Rattle.ol_frame.proofs.Running.{each-in}
 use Rattle.ol_run.specs.Admitted.{Admitted}
-use Rattle.ol_run.proofs.Placing.{each-all, all-each, each-two, each-in, all-right, fits-all, clean-sound, item-at, place-at, number-at}
+use Rattle.ol_run.proofs.Placing.{each-all, all-each, each-two, all-right, fits-all, clean-sound, item-at, place-at, number-at}
 use Rattle.ol_run.proofs.Standing.{root-read, read-collected, variable-proper}
-use Rattle.ol_run.proofs.Seen.{slot-free, seen-parts, unseen-all}
-
--- ---- the order
-
--- no entry of what is in order was seen before
-order-new : (deps : ℕ → List ℕ) (seen l : List ℕ) → InOrder deps seen l → (x : ℕ) → x ∈ l → ¬ (x ∈ seen)
-order-new deps seen [] o x m = absurd (in-nil m)
-order-new deps seen (i ∷ l) o x m = λ s. ⊎-elim (λ e. o .0 (subst (λ z. z ∈ seen) e s)) (λ k. order-new deps (i ∷ seen) l (o .2) x k (there s)) (in-cons m)
-
-order-distinct : (deps : ℕ → List ℕ) (seen l : List ℕ) → InOrder deps seen l → Distinct l
-order-distinct deps seen [] o = tt
-order-distinct deps seen (i ∷ l) o = (λ m. order-new deps (i ∷ seen) l (o .2) i m (here refl), order-distinct deps (i ∷ seen) l (o .2))
+use Rattle.ol_run.proofs.Seen.{slot-free, seen-parts}
 
 -- ---- nodes, by what fault 7 and fault 9 say
 
@@ -261,7 +251,7 @@ module _ {s rows tab : List ℕ} (a : Admitted s rows tab) where
         equations = λ i lt. equation-plan k i b lt consts all;
         all = valid-length (length qs) (depsOf qs) (order qs) (p .valid);
         inside = each-in (Below (countIn s k)) (order qs) (p .valid .inside);
-        once = order-distinct (depsOf qs) [] (order qs) (p .valid .inOrder);
+        once = in-order-distinct (depsOf qs) [] (order qs) (p .valid .inOrder);
       }
 
   -- the nodes can be run, once all constants have their cells

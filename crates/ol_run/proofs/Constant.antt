@@ -1,13 +1,15 @@
 -- Laws of the constants' values.
 use Prim.Native.Nat.{ℕ, zero, suc, _+_, _-_, _*_, _<_, _≤_}
-use mathlib.Core.Bool.{true, false, cond}
+use mathlib.Core.Bool.{Bool, true, false, cond}
 use mathlib.Core.List.{List, [], _∷_, _++_, map, append-nil, append-assoc}
 use mathlib.Core.Path.{_≡_, refl, sym, ap, subst, _∙_}
 use native.Mathlib.Omega.{arith}
-use lib.ListN.{length, take, drop, getD, List·getD-eq-default, length-append, length-drop, drop-of-length-le}
+use lib.ListN.{length, take, drop, getD, List·getD-eq-default, length-append, length-drop, length-map, drop-of-length-le}
 use lib.Dec.{eqb}
+use borrow.Author.Tests.{ne-eqb}
 use lib.Seq.{take-all, take-at, drop-at, length-take-le, drop-cons, take-suc}
 use Rattle.ol_spec.proofs.Cells.{length-cell, length-cells}
+use Rattle.ol_spec.proofs.Admitted.{length-placed}
 use Rattle.ol_frame.specs.Outcomes.{doneOf}
 use Rattle.ol_run.specs.declared.constants.Found.the-variants as Fnd
 use Rattle.ol_spec.specs.Syntax.{Constant, constantName, Ty, bool, int, float32, float64, char, enum, Node, noNode, variables, Expr}
@@ -35,6 +37,7 @@ use Rattle.ol_frame.proofs.Passing.{callees-one}
 use Rattle.ol_frame.proofs.Copying.{cells-append}
 use Rattle.ol_frame.proofs.Depth.{Agrees, eval-calls}
 use Rattle.ol_frame.proofs.RealKinds.{proper-type}
+use Rattle.ol_run.proofs.Placing.{item-is}
 
 -- the size of a type, by its code
 pub size-code : (t : Ty) → Proper t → tySize t ≡ cond (eqb (tyCode t) 12) 2 1
@@ -42,11 +45,19 @@ size-code bool p = refl
 size-code (int c) p = go c (p .1)
   where
     go : (c : ℕ) → c ≤ 8 → _≡_ {A = ℕ} 1 (cond (eqb c 12) 2 1)
-    go c h = sym (Rattle.ol_frame.proofs.Passing.plain-size c (λ e. omega arith))
+    go c h = rw (ne-eqb c 12 (λ e. omega arith))
 size-code float32 p = refl
 size-code float64 p = refl
 size-code char p = refl
 size-code (enum e) p = refl
+
+-- a type has at most two bytes
+pub size-few : (code : ℕ) → cond (eqb code 12) 2 1 ≤ 2
+size-few code = go (eqb code 12)
+  where
+    go : (b : Bool) → cond b 2 1 ≤ 2
+    go true = omega arith
+    go false = omega arith
 
 -- an expression without calls does not depend on what calls mean
 pub uncalled : (g : Globals) (s : Scope) (c d : Calls) (e : Expr) → Each Never (callees e) → (seg : List ℕ) → eval g s c e seg ≡ eval g s d e seg
@@ -125,24 +136,11 @@ values-kept (v ∷ vs) t h =
     ∙ (λ i. h .0 i ∷ values-kept vs t (h .1) i)
 
 -- the items of a section and their places
-placed-item : {A : Type 0} (size : A → ℕ) (at i : ℕ) (xs : List A) (d : ℕ × A) → i < length xs → getD (placed size at xs) i d .1 ≡ getD xs i (d .1)
-placed-item size at i [] d h = absurd (omega arith)
-placed-item size at zero (x ∷ xs) d h = refl
-placed-item size at (suc i) (x ∷ xs) d h = placed-item size (at + size x) i xs d (omega arith)
-
 placed-next : {A : Type 0} (size : A → ℕ) (at i : ℕ) (xs : List A) (d : ℕ × A) → suc i < length xs → getD (placed size at xs) (suc i) d .0 ≡ getD (placed size at xs) i d .0 + size (getD (placed size at xs) i d .1)
 placed-next size at i [] d h = absurd (omega arith)
 placed-next size at zero (x ∷ []) d h = absurd (omega arith)
 placed-next size at zero (x ∷ y ∷ xs) d h = refl
 placed-next size at (suc i) (x ∷ xs) d h = placed-next size (at + size x) i xs d (omega arith)
-
-length-placed : {A : Type 0} (size : A → ℕ) (at : ℕ) (xs : List A) → length (placed size at xs) ≡ length xs
-length-placed size at [] = refl
-length-placed size at (x ∷ xs) = ap suc (length-placed size (at + size x) xs)
-
-length-names : (cs : List Constant) → length (map constantName cs) ≡ length cs
-length-names [] = refl
-length-names (c ∷ cs) = ap suc (length-names cs)
 
 get-name : (cs : List Constant) (i : ℕ) (d : Constant) → i < length cs → getD (map constantName cs) i 0 ≡ getD cs i d .name
 get-name [] i d h = absurd (omega arith)
@@ -222,8 +220,8 @@ module _ {file tab rows consts : List ℕ} {nodes at count : ℕ} (p : Constants
   names-next : take (suc i) (constantNames (fileAt file)) ≡ take i (constantNames (fileAt file)) ++ constantAt file i .1 .name ∷ []
   names-next =
       let b : i < length (fileAt file .constants) = omega (arith, p .counted) in
-      take-suc (constantNames (fileAt file)) i 0 (omega (arith, length-names (fileAt file .constants)))
-      ∙ ap (λ (n : ℕ). take i (constantNames (fileAt file)) ++ n ∷ []) (get-name (fileAt file .constants) i (noConstant .1) b ∙ ap (λ (c : Constant). c .name) (sym (placed-item constantSize (constantsStart (fileAt file)) i (fileAt file .constants) noConstant b)))
+      take-suc (constantNames (fileAt file)) i 0 (omega (arith, length-map (fileAt file .constants) constantName))
+      ∙ ap (λ (n : ℕ). take i (constantNames (fileAt file)) ++ n ∷ []) (get-name (fileAt file .constants) i (noConstant .1) b ∙ ap (λ (c : Constant). c .name) (sym (item-is constantSize noConstant (constantsStart (fileAt file)) (fileAt file .constants) i b)))
 
   next-place : i + 1 < count → endAt file 24 (valueAt file i) ≡ constantAt file (i + 1) .0
   next-place h =

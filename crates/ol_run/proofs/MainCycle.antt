@@ -24,7 +24,6 @@ use Rattle.ol_tables.specs.At.{fileAt, nodeIn}
 use Rattle.ol_frame.specs.Walk.{nodesIn, sizesIn}
 use Rattle.ol_frame.specs.Plans.{knownIn, globalsIn, widthIn}
 use Rattle.ol_tables.specs.Tables.{rowAt}
-use Rattle.ol_state.proofs.Instances.{few-nodes, variables-told, row-of}
 use Rattle.ol_frame.specs.Nodes.{Running}
 use Rattle.ol_eval.specs.Calls.{Runnable, RunMeets, RunTo, runIn, EndsAs}
 use Rattle.ol_run.specs.MainCycle.{recordRun, RecordReady, RecordRan, RunReady, Cycles, CyclesTo}
@@ -34,6 +33,7 @@ use Rattle.ol_frame.specs.declared.outcomes.Ending.the-variants as End
 use Rattle.ol_tables.proofs.Lending.{tailOf, putTail, tail-all, put-tail, take-put, drop-put, length-put}
 use Rattle.ol_frame.proofs.Endings.{failed-values, over-values, over-failed}
 use Rattle.ol_frame.proofs.Storing.{values-copied}
+use Rattle.ol_frame.proofs.NodeRows.{width-is, inputs-are, narrow, inputs-first}
 
 -- the main node is the last
 pub main-is : (file : List ℕ) (k : ℕ) → suc k ≡ nodesIn file → main (fileAt file) ≡ nodeIn file k
@@ -110,36 +110,16 @@ pub begun : (k n : ℕ) (inputs held present p q : List ℕ) → k ≤ n → 9 *
 begun k n inputs held present p q h li lh lp l ep eq =
     values-copied k n held p q h lh (omega arith) eq ∙ ap (λ (vs : List Value). vs ++ drop k (valuesOf n held)) (values-copied 0 k inputs present p (omega arith) li (omega arith) ep)
 
--- ---- the last node, by its rows
-
-module _ {file tab rows consts : List ℕ} {k : ℕ} (ready : Running file tab rows consts) (last : suc k ≡ nodesIn file) where
-  below : k < nodesIn file
-  below = omega (arith, last)
-
-  -- row j of it can be read
-  pub row-room : (j : ℕ) → j < 8 → (length rows ≡ 272) × (k < 32) × (j < 8)
-  row-room j l = (ready .known .rowed .long, few-nodes (ready .known) below, l)
-
-  pub width-is : (n : ℕ) → n ≡ rowAt rows k 4 → n ≡ widthIn file k
-  width-is n e = e ∙ variables-told (ready .known) below
-
-  pub inputs-are : (i : ℕ) → i ≡ rowAt rows k 2 → i ≡ length (nodeIn file k .inputs)
-  inputs-are i e = e ∙ row-of (ready .known) below .inputs
-
-  pub narrow : (n : ℕ) → n ≡ rowAt rows k 4 → n ≤ 112
-  narrow n e = omega (arith, width-is n e, ready .program .width k)
-
-  inputs-first : (n i : ℕ) → n ≡ rowAt rows k 4 → i ≡ rowAt rows k 2 → i ≤ n
-  inputs-first n i e f =
-      let m = nodeIn file k in
-      omega (arith, width-is n e, inputs-are i f, length-append (m .inputs ++ m .outputs) (m .locals), length-append (m .inputs) (m .outputs))
 
 -- ---- the run on its record
 
 module _ {file tab rows consts inputs old new present : List ℕ} {k : ℕ} (h : RecordReady file tab rows consts k inputs old new present) where
+  pub inside : k < nodesIn file
+  inside = omega (arith, h .last)
+
   -- its own bytes are there
   pub own-room : (n : ℕ) → n ≡ rowAt rows k 4 → 1 + 9 * n ≤ length old
-  own-room n e = omega (arith, h .sized, width-is (h .running) (h .last) n e)
+  own-room n e = omega (arith, h .sized, width-is (h .running) inside n e)
 
   pub own-new : (n : ℕ) → n ≡ rowAt rows k 4 → 1 + 9 * n ≤ length new
   own-new n e = omega (arith, own-room n e, ap length (h .same))
@@ -149,16 +129,16 @@ module _ {file tab rows consts inputs old new present : List ℕ} {k : ℕ} (h :
 
   pub begin-ready : (n i : ℕ) → n ≡ rowAt rows k 4 → i ≡ rowAt rows k 2 → (i ≤ n) × (n ≤ 112) × (9 * i ≤ length inputs) × (9 * n ≤ length (tailOf 1 old)) × (9 * n ≤ length present)
   begin-ready n i e f =
-      let m = narrow (h .running) (h .last) n e in
-      (inputs-first (h .running) (h .last) n i e f, m, omega (arith, h .given, inputs-are (h .running) (h .last) i f), held-room n e, omega (arith, h .room, m))
+      let m = narrow (h .running) inside n e in
+      (inputs-first (h .running) inside n i e f, m, omega (arith, h .given, inputs-are (h .running) inside i f), held-room n e, omega (arith, h .room, m))
 
   pub record-runnable : (n : ℕ) (begun : List ℕ) → n ≡ rowAt rows k 4 → length begun ≡ length present → Runnable file tab rows consts k begun (tailOf 1 old) (tailOf (1 + 9 * n) old) (tailOf (1 + 9 * n) new)
   record-runnable n begun e l =
-      let w = width-is (h .running) (h .last) n e in
+      let w = width-is (h .running) inside n e in
       let z = ap length (tail-all (1 + 9 * n) old) ∙ length-drop (1 + 9 * n) old in
       record {
         running = h .running;
-        below = below (h .running) (h .last);
+        below = inside;
         present = record { long = omega (arith, l, h .room, h .running .program .width k) };
         previous = record { long = omega (arith, held-room n e, w) };
         sized = omega (arith, z, h .sized, w);
@@ -169,8 +149,8 @@ module _ {file tab rows consts inputs old new present : List ℕ} {k : ℕ} (h :
   pub record-ran : (n i : ℕ) (begun cells′ x : List ℕ) (r : Ended) → n ≡ rowAt rows k 4 → i ≡ rowAt rows k 2 → valuesOf n begun ≡ valuesOf i inputs ++ drop i (valuesOf n (tailOf 1 old))
       → RunTo file consts k (isFresh old) begun (tailOf 1 old) (tailOf (1 + 9 * n) old) r cells′ x → RecordRan file consts k inputs old r (putTail (1 + 9 * n) new x) cells′
   record-ran n i begun cells′ x r e f b m =
-      let w = width-is (h .running) (h .last) n e in
-      let v = inputs-are (h .running) (h .last) i f in
+      let w = width-is (h .running) inside n e in
+      let v = inputs-are (h .running) inside i f in
       let own : 1 + 9 * n ≡ ownSize (nodeIn file k) = ap (λ (q : ℕ). 1 + 9 * q) w in
       let N = putTail (1 + 9 * n) new x in
       let s : drop (ownSize (nodeIn file k)) N ≡ x = ap (λ (q : ℕ). drop q N) (sym own) ∙ drop-put (1 + 9 * n) new x (own-new n e) in
@@ -188,6 +168,9 @@ module _ {file tab rows consts inputs old new present : List ℕ} {k : ℕ} (h :
 -- ---- the cycle
 
 module _ {file tab rows consts old inputs new vals : List ℕ} {k : ℕ} (h : RunReady file tab rows consts k old inputs new vals) where
+  main-inside : k < nodesIn file
+  main-inside = omega (arith, h .last)
+
   abbrev H : ℕ
   H = length consts
 
@@ -216,14 +199,14 @@ module _ {file tab rows consts old inputs new vals : List ℕ} {k : ℕ} (h : Ru
   pub finish-ready : (n : ℕ) (copied x present : List ℕ) → n ≡ rowAt rows k 4 → copied ≡ old → length x ≡ length (tailOf H copied) → length present ≡ 1008
       → (n ≤ 112) × (9 * n ≤ length present) × (1 + 9 * n ≤ length (tailOf H (putTail H copied x)))
   finish-ready n copied x present w e l p =
-      let m = narrow (h .running) (h .last) n w in
+      let m = narrow (h .running) main-inside n w in
       let A = putTail H copied x in
-      (m, omega (arith, p, m), omega (arith, ap length (tail-all H A), length-drop H A, moved-length copied x e l, ap length e, state-is, width-is (h .running) (h .last) n w))
+      (m, omega (arith, p, m), omega (arith, ap length (tail-all H A), length-drop H A, moved-length copied x e l, ap length e, state-is, width-is (h .running) main-inside n w))
 
   pub values-ready : (n : ℕ) (present : List ℕ) → n ≡ rowAt rows k 4 → length present ≡ 1008 → (n ≤ 112) × (9 * n ≤ length present) × (9 * n ≤ length vals)
   values-ready n present w p =
-      let m = narrow (h .running) (h .last) n w in
-      (m, omega (arith, p, m), omega (arith, h .told, width-is (h .running) (h .last) n w))
+      let m = narrow (h .running) main-inside n w in
+      (m, omega (arith, p, m), omega (arith, h .told, width-is (h .running) main-inside n w))
 
   pub ended-length : (copied x y : List ℕ) → copied ≡ old → length x ≡ length (tailOf H copied) → length y ≡ length (tailOf H (putTail H copied x)) → length (putTail H (putTail H copied x) y) ≡ length copied
   ended-length copied x y e l m = length-put H (putTail H copied x) y (moved-room copied x e l) m ∙ moved-length copied x e l
@@ -254,7 +237,7 @@ module _ {file tab rows consts old inputs new vals : List ℕ} {k : ℕ} (h : Ru
     written-anew : (n : ℕ) (y : List ℕ) → n ≡ rowAt rows k 4 → y ≡ 1 ∷ cells (valuesOf n cells′) ++ drop (1 + 9 * n) (tailOf H (putTail H copied x)) → putTail H (putTail H copied x) y ≡ take (headSize f) old ++ (1 ∷ cells got ++ drop own x)
     written-anew n y e w =
         let A = putTail H copied x in
-        let p = width-is (h .running) (h .last) n e in
+        let p = width-is (h .running) main-inside n e in
         let a : take H A ≡ take (headSize f) old = take-put H copied x (copied-room copied same) ∙ (λ j. take (h .head j) (same j)) in
         let t : tailOf H A ≡ x = tail-all H A ∙ drop-put H copied x (copied-room copied same) in
         let b : y ≡ 1 ∷ cells got ++ drop own x = w ∙ (λ j. 1 ∷ cells (valuesOf (p j) cells′) ++ drop (1 + 9 * p j) (t j)) in
@@ -262,7 +245,7 @@ module _ {file tab rows consts old inputs new vals : List ℕ} {k : ℕ} (h : Ru
 
     values-told : (n : ℕ) (vals′ : List ℕ) → n ≡ rowAt rows k 4 → vals′ ≡ cells (valuesOf n cells′) ++ drop (9 * n) vals → vals′ ≡ cells got
     values-told n vals′ e w =
-        let p = width-is (h .running) (h .last) n e in
+        let p = width-is (h .running) main-inside n e in
         let d : drop (9 * n) vals ≡ [] = drop-of-length-le vals {i = 9 * n} (omega (arith, h .told, p)) in
         w ∙ (λ j. cells (valuesOf (p j) cells′) ++ d j) ∙ append-nil (cells got)
 

@@ -1,12 +1,11 @@
 -- What holds of all items of a section, with their places, holds of each of them.
 use Prim.Native.Nat.{ℕ, zero, suc, _+_, _<_}
 use mathlib.Core.Bool.{Bool}
-use mathlib.Core.List.{List, [], _∷_, _++_, map, List·Memᴰ·head as here, List·Memᴰ·tail as there}
+use mathlib.Core.List.{List, [], _∷_, _++_, map}
 use mathlib.Core.Path.{_≡_, refl, sym, subst}
 use native.Mathlib.Omega.{arith}
 use lib.ListN.{length, getD}
 use lib.Dec.{T}
-use Rattle.ol_theory.specs.Member.{_∈_}
 use Rattle.ol_spec.specs.Lists.{allOf}
 use Rattle.ol_spec.specs.Places.{placed}
 use Rattle.ol_spec.specs.Admission.{Item, numbered}
@@ -36,11 +35,6 @@ module _ {A : Type 0} where
   pub fits-all : (p : A → Bool) (xs : List A) → T (allOf p xs) → All (λ x. T (p x)) xs
   fits-all p [] t = tt
   fits-all p (x ∷ xs) t = let w = T-and (p x) (allOf p xs) t in (w .0, fits-all p xs (w .1))
-
--- what holds of the entries
-pub each-in : (P : ℕ → Type 0) (xs : List ℕ) → ((x : ℕ) → x ∈ xs → P x) → Each P xs
-each-in P [] f = tt
-each-in P (x ∷ xs) f = (f x (here refl), each-in P xs (λ y m. f y (there m)))
 
 -- items without fault
 pub clean-sound : (is : List Item) → Clean is → Each Sound is

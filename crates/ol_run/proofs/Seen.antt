@@ -14,9 +14,10 @@ use Rattle.ol_spec.specs.Syntax.{Constant, constantName, Expr, boolLit, intLit,
 use Rattle.ol_spec.specs.Places.{placed, constantSize, exprSize, collect, collectAll}
 use Rattle.ol_spec.specs.Eval.{callees, calleesAll}
 use Rattle.ol_spec.specs.Admission.{Item, unseenItem, used, valuePlace, constantUses, callsWhere}
-use Rattle.ol_spec.proofs.Tests.{T-or, not-false, member-in, in-member}
+use Rattle.ol_spec.proofs.Tests.{T-or, member-in, in-member}
 use Rattle.ol_spec.proofs.Lists.{All, all-map}
 use Rattle.ol_spec.proofs.Admits.{Clean, clean-parts}
+use Rattle.ol_spec.proofs.MainFacts.{unseen-all}
 use Rattle.ol_tables.specs.Tables.{Each, Sound, slotOf}
 use Rattle.ol_run.specs.Constants.{Never, noConstant}
 use Rattle.ol_frame.proofs.Naming.{slot-variant}
@@ -42,10 +43,6 @@ slot-free vs cs us x a b seen e =
 
 pub seen-parts : (vs cs us : List ℕ) (x : ℕ) → T (member x (vs ++ (cs ++ us))) → (x ∈ vs) ⊎ ((x ∈ cs) ⊎ T (member x us))
 seen-parts vs cs us x t = ⊎-elim inl (λ m. inr (⊎-elim inl (λ k. inr (in-member x us k)) (in-append cs m))) (in-append vs (member-in x (vs ++ (cs ++ us)) t))
-
-pub unseen-all : (visible : List ℕ) (ps : List (ℕ × ℕ)) → Clean (map (unseenItem visible) ps) → All (λ p. T (member (p .1) visible)) ps
-unseen-all visible [] c = tt
-unseen-all visible (p ∷ ps) c = (not-false (member (p .1) visible) (c .0), unseen-all visible ps (c .1))
 
 -- what a constant uses is the name of one before it, or was visible before them all
 abbrev pub Before : List ℕ → List ℕ → ℕ × ℕ → Type 0

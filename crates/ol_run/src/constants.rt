@@ -10,11 +10,11 @@ ghost use Rattle.ol_frame.specs.Plans.{knownIn};
 ghost use Rattle.ol_run.specs.Constants.{ConstantReady, ConstantsReady, ConstantsAre, constantAt, valueAt, constantOut};
 ghost use Rattle.ol_spec.specs.Admission.{constants};
 ghost use Rattle.ol_tables.specs.At.{fileAt, endAt};
-use ol_eval::cycle::after_type;
 use ol_eval::cycle::eval;
 use ol_frame::outcomes::kept;
 use ol_frame::skip::pass;
 use ol_spec::Outcome;
+use ol_tables::heads::ty_size;
 use ol_value::cell::write_cell;
 use ol_value::types::fit_to;
 
@@ -49,7 +49,7 @@ fn constant_value(
 {
     let p = at + 2;
     let code = file[p];
-    let e = after_type(code, p);
+    let e = p + ty_size(file, p);
     let none = [0u8; 1];
     let mut new = [0u8; 1];
     let r = eval(
@@ -76,8 +76,7 @@ fn constant_end(file: &[u8], tab: &[u8], rows: &[usize], i: usize, at: usize) ->
     ensures { λ r. ⌜ r ≡ endAt (now (file .entry)) 24 (valueAt (now (file .entry)) i) ⌝ }
 {
     let p = at + 2;
-    let code = file[p];
-    let e = after_type(code, p);
+    let e = p + ty_size(file, p);
     let s = pass(file, rows, e, 24);
     s.next
 }

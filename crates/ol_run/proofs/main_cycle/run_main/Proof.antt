@@ -5,7 +5,7 @@ use native.Mathlib.Omega.{arith}
 use lib.ListN.{length}
 use Rattle.ol_tables.proofs.Lending.{putTail}
 use Rattle.ol_frame.proofs.Copying.{all-copied}
-use Rattle.ol_run.proofs.MainCycle.{row-room, head-room, copied-room, main-ready, moved-length, moved-room, finish-ready, values-ready, ended-length, cycle-finished, cycle-failed, cycle-overflowed}
+use Rattle.ol_run.proofs.MainCycle.{head-room, copied-room, main-ready, moved-length, moved-room, finish-ready, values-ready, ended-length, cycle-finished, cycle-failed, cycle-overflowed}
 -- </uses>
 use Rattle.ol_run.proofs.main_cycle.run_main.Statement.{statement}
 use Rattle.ol_run.proofs.main_cycle.run_main.Tie as tie
@@ -15,14 +15,11 @@ use Rattle.ol_frame.proofs.copies.copy.Reads as copy-reads
 use Rattle.ol_frame.proofs.copies.write_cells.Reads as write-cells-reads
 use Rattle.ol_frame.proofs.copies.finish.Reads as finish-reads
 use Rattle.ol_run.proofs.main_cycle.run_record.Reads as run-record-reads
-use Rattle.ol_frame.proofs.tables.row.Reads as row-reads
+use Rattle.ol_tables.proofs.tables.row.Reads as row-reads
 
 -- src/main_cycle.rt:90:9
 row-requires : tie.Need-row-requires
-row-requires c κs =
-    let start = c .before .before .before .before .before .before .before .before in
-    let h = start .pre in
-    row-room (h .running) (h .last) _ (omega arith)
+row-requires c κs = tt
 
 -- src/main_cycle.rt:93:5
 copy-requires : tie.Need-copy-requires

@@ -3,7 +3,8 @@ use mathlib.Core.Path.{_∙_}
 use native.Mathlib.Omega.{arith}
 use Prim.Native.Nat.{_+_, _*_}
 use Rattle.ol_tables.proofs.Lending.{length-put}
-use Rattle.ol_run.proofs.MainCycle.{row-room, narrow, own-room, own-new, begin-ready, record-runnable, record-ran}
+use Rattle.ol_frame.proofs.NodeRows.{narrow}
+use Rattle.ol_run.proofs.MainCycle.{inside, own-room, own-new, begin-ready, record-runnable, record-ran}
 -- </uses>
 use borrow.Author.Needs.{needs}
 use Rattle.ol_run.proofs.main_cycle.run_record.Statement.{statement}
@@ -12,21 +13,15 @@ use Rattle.ol_run.proofs.main_cycle.run_record.Reads as reads
 use Rattle.ol_run.proofs.main_cycle.run_record.Lts as lts
 use Rattle.ol_eval.proofs.cycle.run.Reads as run-reads
 use Rattle.ol_run.proofs.main_cycle.begin.Reads as begin-reads
-use Rattle.ol_frame.proofs.tables.row.Reads as row-reads
+use Rattle.ol_tables.proofs.tables.row.Reads as row-reads
 
 -- src/main_cycle.rt:42:9
 row-requires : tie.Need-row-requires
-row-requires c κs =
-    let start = c .before .before .before .before .before .before .before .before in
-    let h = start .pre in
-    row-room (h .running) (h .last) _ (omega arith)
+row-requires c κs = tt
 
 -- src/main_cycle.rt:43:9
 row-requires-2 : tie.Need-row-requires-2
-row-requires-2 c κs =
-    let start = c .before .before .before .before .before .before .before .before .before in
-    let h = start .pre in
-    row-room (h .running) (h .last) _ (omega arith)
+row-requires-2 c κs = tt
 
 -- src/main_cycle.rt:44:19
 mul-own : tie.Need-mul-own
@@ -35,7 +30,7 @@ mul-own c =
     let h = start .pre in
     let n = c .before .row .result in
     let w = c .before .row .ensures in
-    omega (arith, narrow (h .running) (h .last) n w)
+    omega (arith, narrow (h .running) (inside h) n w)
 
 -- src/main_cycle.rt:44:15
 add-own : tie.Need-add-own
@@ -44,7 +39,7 @@ add-own c =
     let h = start .pre in
     let n = c .before .row .result in
     let w = c .before .row .ensures in
-    omega (arith, narrow (h .running) (h .last) n w)
+    omega (arith, narrow (h .running) (inside h) n w)
 
 -- src/main_cycle.rt:45:25
 sub-begin : tie.Need-sub-begin

@@ -33,7 +33,7 @@ use Rattle.ol_eval.proofs.Readying.{ready-parts, form-evals, one-evals,
 -- </uses>
 use Prim.Native.Nat.{ℕ}
 use borrow.Author.Needs.{needs}
-use Rattle.ol_eval.proofs.cycle.after_type.Reads as after-type-reads
+use Rattle.ol_tables.proofs.heads.ty_size.Reads as ty-size-reads
 use Rattle.ol_frame.proofs.outcomes.cast_out.Reads as cast-out-reads
 use Rattle.ol_eval.proofs.cycle.eval_form.Reads as eval-form
 use Rattle.ol_eval.proofs.cycle.eval_call.Reads as eval-call
@@ -49,7 +49,7 @@ use Rattle.ol_eval.proofs.cycle.+call_equation+enter+equation+eval+eval
 
 -- what it knows of its callees
 abbrev pub Q : ℕ → eval-form-lts.Claims
-Q t = (eval-form-below t, eval-form.Post, unary-out-reads.Asked, unary-out-reads.Learnt, eval-two-below t, eval-two.Post, eval-if-below t, eval-if.Post, eval-first-below t, eval-first.Post, eval-second-below t, eval-second.Post, after-type-reads.Asked, after-type-reads.Learnt, cast-out-reads.Asked, cast-out-reads.Learnt, eval-call-below t, eval-call.Post, pass-reads.Asked, pass-reads.Learnt, leaf-out-reads.Asked, leaf-out-reads.Learnt)
+Q t = (eval-form-below t, eval-form.Post, unary-out-reads.Asked, unary-out-reads.Learnt, eval-two-below t, eval-two.Post, eval-if-below t, eval-if.Post, eval-first-below t, eval-first.Post, eval-second-below t, eval-second.Post, ty-size-reads.Asked, ty-size-reads.Learnt, cast-out-reads.Asked, cast-out-reads.Learnt, eval-call-below t, eval-call.Post, pass-reads.Asked, pass-reads.Learnt, leaf-out-reads.Asked, leaf-out-reads.Learnt)
 
 pub shared-slice-read-code : (t : ℕ) → eval-form-lts.Need-shared-slice-read-code (Q t) (eval-form-at t) eval-form.Post
 shared-slice-read-code t c =
@@ -234,15 +234,18 @@ shared-slice-read-t t c =
     let h = plan-head f (p .plan) in
     omega (arith, (cast-form f L a h (c .before .match .keys5)) .1 .inside, type-some ((cast-form f L a h (c .before .match .keys5)) .0))
 
-pub after-type-requires : (t : ℕ) → eval-form-lts.Need-after-type-requires (Q t) (eval-form-at t) eval-form.Post
-after-type-requires t c κs =
-    let start = c .before .before .before .before .before .before .before .before .before .before .before in
+pub ty-size-requires : (t : ℕ) → eval-form-lts.Need-ty-size-requires (Q t) (eval-form-at t) eval-form.Post
+ty-size-requires t c κs = tt
+
+pub add-q : (t : ℕ) → eval-form-lts.Need-add-q (Q t) (eval-form-at t) eval-form.Post
+add-q t c =
+    let start = c .before .before .before .before .before .before .before .before .before .before .before .before in
     let p = start .pre .1 in
     let f = start .args .file .now in
     let L = start .args .level in
     let a = start .args .at in
     let h = plan-head f (p .plan) in
-    omega (arith, reads-in f L a h, p .plan .program .sized .small)
+    omega (arith, c .ty-size .ensures, (cast-form f L a h (c .before .before .match .keys5)) .3, (cast-form f L a h (c .before .before .match .keys5)) .1 .inside, start .good)
 
 pub sub-eval-form-2 : (t : ℕ) → eval-form-lts.Need-sub-eval-form-2 (Q t) (eval-form-at t) eval-form.Post
 sub-eval-form-2 t c =
@@ -264,7 +267,7 @@ eval-form-requires-2 t c κs =
     let a = start .args .at in
     let h = plan-head f (p .plan) in
     let deep = reads-deep f L a h in
-    let e : c .before .after-type .result ≡ a + (1 + tySize ((cast-form f L a h (c .before .before .before .match .keys5)) .0)) = c .before .after-type .ensures ∙ omega (arith, (cast-form f L a h (c .before .before .before .match .keys5)) .3) in
+    let e : a + 1 + c .before .ty-size .result ≡ a + (1 + tySize ((cast-form f L a h (c .before .before .before .match .keys5)) .0)) = omega (arith, c .before .ty-size .ensures, (cast-form f L a h (c .before .before .before .match .keys5)) .3) in
     (omega (arith, start .pre .0, deep), rw e (ready-parts p ((cast-form f L a h (c .before .before .before .match .keys5)) .1) refl))
 
 pub cast-out-requires : (t : ℕ) → eval-form-lts.Need-cast-out-requires (Q t) (eval-form-at t) eval-form.Post
@@ -413,7 +416,7 @@ returns-6 t c =
     let h = plan-head f (p .plan) in
     let R = p .plan .reads in
     let q = a + (1 + tySize ((cast-form f L a h (c .before .before .before .before .before .before .before .match .keys5)) .0)) in
-    let e : c .before .before .before .before .before .after-type .result ≡ q = c .before .before .before .before .before .after-type .ensures ∙ omega (arith, (cast-form f L a h (c .before .before .before .before .before .before .before .match .keys5)) .3) in
+    let e : a + 1 + c .before .before .before .before .before .ty-size .result ≡ q = omega (arith, c .before .before .before .before .before .ty-size .ensures, (cast-form f L a h (c .before .before .before .before .before .before .before .match .keys5)) .3) in
     one-evals f kk L a n F cl bb (λ (s : List ℕ). mapEval (castTo ((cast-form f L a h (c .before .before .before .before .before .before .before .match .keys5)) .0)) (evalIn f kk n F cl bb (exprAt f (L - 1) q) s)) R ((cast-form f L a h (c .before .before .before .before .before .before .before .match .keys5)) .1) refl (λ s. refl) (mapped (castTo ((cast-form f L a h (c .before .before .before .before .before .before .before .match .keys5)) .0)) (moved f kk (L - 1) n F cl bb e (refl {a = o}) (c .before .before .before .eval-form2 .ensures)) (cast-out-is (getD f (a + 1) 0) ((cast-form f L a h (c .before .before .before .before .before .before .before .match .keys5)) .0) (c .before .before .before .eval-form2 .result .out) ((cast-form f L a h (c .before .before .before .before .before .before .before .match .keys5)) .4) ((cast-form f L a h (c .before .before .before .before .before .before .before .match .keys5)) .2) (c .cast-out .ensures)))
 
 pub same-length-7 : (t : ℕ) → eval-form-lts.Need-same-length-7 (Q t) (eval-form-at t) eval-form.Post

@@ -3,12 +3,13 @@
 use mathlib.Core.Path.{refl, sym, ap, _∙_}
 use native.Mathlib.Omega.{arith}
 use lib.ListN.{length}
-use Rattle.ol_eval.proofs.Stepping.{few, long, narrow, inputs-first, function-runnable, function-done}
+use Rattle.ol_frame.proofs.NodeRows.{few, narrow, inputs-first}
+use Rattle.ol_eval.proofs.Stepping.{function-runnable, function-done}
 -- </uses>
 use Prim.Native.Nat.{ℕ}
 use borrow.Author.Needs.{needs}
 use Rattle.ol_frame.proofs.copies.copy_cells.Reads as copy-cells-reads
-use Rattle.ol_frame.proofs.tables.row.Reads as row-reads
+use Rattle.ol_tables.proofs.tables.row.Reads as row-reads
 use Rattle.ol_eval.proofs.cycle.run.Reads as run
 use Rattle.ol_eval.proofs.cycle.step_function.Reads as step-function
 use Rattle.ol_state.proofs.defaults.write_defaults.Reads as write-defaults-reads
@@ -20,16 +21,10 @@ abbrev pub Q : ℕ → step-function-lts.Claims
 Q t = (row-reads.Asked, row-reads.Learnt, write-defaults-reads.Asked, write-defaults-reads.Learnt, copy-cells-reads.Asked, copy-cells-reads.Learnt, run-below t, run.Post)
 
 pub row-requires : (t : ℕ) → step-function-lts.Need-row-requires (Q t) (step-function-at t) step-function.Post
-row-requires t c κs =
-    let start = c .before .before .before .before .before .before .before in
-    let h = start .pre .1 .0 in
-    (long h, few h, omega arith)
+row-requires t c κs = tt
 
 pub row-requires-2 : (t : ℕ) → step-function-lts.Need-row-requires-2 (Q t) (step-function-at t) step-function.Post
-row-requires-2 t c κs =
-    let start = c .before .before .before .before .before .before .before .before in
-    let h = start .pre .1 .0 in
-    (long h, few h, omega arith)
+row-requires-2 t c κs = tt
 
 pub slice-aggregate-write-defaults : (t : ℕ) → step-function-lts.Need-slice-aggregate-write-defaults (Q t) (step-function-at t) step-function.Post
 slice-aggregate-write-defaults t c = refl
@@ -40,7 +35,7 @@ write-defaults-requires t c κs =
     let h = start .pre .1 .0 in
     let n = c .before .before .row .result in
     let w = c .before .before .row .ensures in
-    (omega (arith, few h), omega (arith, narrow h n w, w))
+    (omega (arith, few (h .running) (h .below)), omega (arith, narrow (h .running) (h .below) n w, w))
 
 pub slice-aggregate-copy-cells : (t : ℕ) → step-function-lts.Need-slice-aggregate-copy-cells (Q t) (step-function-at t) step-function.Post
 slice-aggregate-copy-cells t c =
@@ -56,7 +51,7 @@ copy-cells-requires t c κs =
     let i = c .before .before .before .before .before .row2 .result in
     let iw = c .before .before .before .before .before .row2 .ensures in
     let kf = c .before .before .before .write-defaults .kept .1 .1 .1 .0 in
-    (inputs-first h n i w iw, narrow h n w, omega (arith, kf, narrow h n w), omega (arith, h .room, narrow h n w))
+    (inputs-first (h .running) (h .below) n i w iw, narrow (h .running) (h .below) n w, omega (arith, kf, narrow (h .running) (h .below) n w), omega (arith, h .room, narrow (h .running) (h .below) n w))
 
 pub slice-aggregate-run : (t : ℕ) → step-function-lts.Need-slice-aggregate-run (Q t) (step-function-at t) step-function.Post
 slice-aggregate-run t c =
