@@ -7,9 +7,8 @@ ghost use mathlib.Core.Path.{_≡_};
 ghost use Prim.Native.Nat.{_≤_, _<_};
 ghost use Rattle.ol_tables.specs.At.{fileAt};
 ghost use Rattle.ol_tables.specs.Stands.{FileReads};
-ghost use Rattle.ol_tables.specs.Tables.{Variants};
 ghost use Rattle.ol_check.specs.Spans.{namesOf, namesFrom};
-ghost use Rattle.ol_check.specs.VariantTable.{enterAll};
+ghost use Rattle.ol_check.specs.VariantTable.{enterAll, VariantsEntered};
 ghost use Rattle.ol_check.specs.Clashing.{Blank};
 
 // Enters so many variants from `at` on.
@@ -30,7 +29,7 @@ fn enter_names(file: &[u8], table: &mut [u8], count: usize, at: usize)
 // than every declared name.
 pub fn enter_variants(file: &[u8], table: &mut [u8])
     requires { ⌜ FileReads (now file) × Blank (fileAt (now file)) (now table) ⌝ }
-    ensures { λ r. ⌜ Variants (fileAt (now (file .entry))) (now (table .exit)) ⌝ }
+    ensures { λ r. ⌜ VariantsEntered (fileAt (now (file .entry))) (now (table .entry)) (now (table .exit)) ⌝ }
 {
     let count = byte(file, 1);
     let mut next = 2;

@@ -69,7 +69,7 @@ same-length c = c .before .loop .inv .1
 returns : tie.Need-returns Inv-loop μ-loop
 returns c =
     let start = c .before .before .before .before .before in
-    enums-done (c .before .loop .inv .2) (file-stands (bytes-of (start .args .file .now) (λ i. omega (arith, c .before .before .before .before .shared-slice-known .given i))) (start .pre .0)) (c .before .before .byte .ensures) (start .pre .1) (c .loop-test .left) .tells
+    enums-done (c .before .loop .inv .2) (file-stands (bytes-of (start .args .file .now) (λ i. omega (arith, c .before .before .before .before .shared-slice-known .given i))) (start .pre .0)) (c .before .before .byte .ensures) (start .pre .1) (c .loop-test .left)
 
 pub enter-variants-spec : {M : Type 1} → statement M
 enter-variants-spec =
