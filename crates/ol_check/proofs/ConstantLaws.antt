@@ -18,7 +18,7 @@ use Rattle.ol_spec.specs.Within.{constantFits}
 use Rattle.ol_spec.specs.Admission.{first, unseenItem, unseen, usedAt, used, valuePlace, constantUses, inConstant, callsWhere, shapeItem}
 use Rattle.ol_spec.proofs.RoundTrip.Parts.{here-inside}
 use Rattle.ol_spec.proofs.RoundTrip.Items.{constant-size}
-use Rattle.ol_tables.specs.Heads.{nameAt, tySizeAt, Standing}
+use Rattle.ol_tables.specs.Heads.{nameAt, tySizeAt}
 use Rattle.ol_tables.specs.Tables.{Each}
 use Rattle.ol_tables.specs.Stands.{ConstantStands}
 use Rattle.ol_tables.proofs.HeadLaws.{walk-one}

@@ -1,6 +1,6 @@
 -- An equation: its names, its right side, and what is inside that.
 use Prim.Native.Nat.{ℕ, _+_, _-_, _*_, _≤_, _<_, min}
-use mathlib.Core.Bool.{Bool, true, false, not, cond}
+use mathlib.Core.Bool.{Bool, false, not, cond}
 use mathlib.Core.List.{List, [], _∷_, _++_, map, append-nil, map-append}
 use mathlib.Core.Option.{Option}
 use mathlib.Core.Path.{_≡_, refl, sym, ap, subst, _∙_}
@@ -15,25 +15,24 @@ use mathlib.Core.Logic.{by-cases}
 use Rattle.ol_spec.specs.Lists.{orElse, concat, sum}
 use Rattle.ol_spec.specs.Syntax.{Expr, Exprs, nil, cons, count, Equation, File, rhsOf}
 use Rattle.ol_spec.specs.Places.{exprSize, equationSize, collect, collectAll, placed, placedNames, rhsPlace}
-use Rattle.ol_spec.specs.Encode.{nameBytes, equationBytes}
+use Rattle.ol_spec.specs.Encode.{equationBytes}
 use Rattle.ol_spec.specs.Limits.{base}
-use Rattle.ol_spec.specs.Within.{nameFits, equationFits}
+use Rattle.ol_spec.specs.Within.{equationFits}
 use Rattle.ol_spec.specs.Admission.{Item, first, firstIf, unseenItem, unseen, usedAt, used, callsWhere, shapeItem, arity, equationUses, inEquation, equationShape, definedBy}
 use Rattle.ol_spec.specs.Eval.{callees}
 use Rattle.ol_spec.specs.Step.{noEquation, equationSites}
-use Rattle.ol_spec.proofs.Cells.{length-bytes}
 use Rattle.ol_spec.proofs.RoundTrip.Parts.{here-inside}
 use Rattle.ol_spec.proofs.RoundTrip.Items.{equation-size}
 use Rattle.ol_tables.specs.Tables.{Each}
 use Rattle.ol_tables.specs.Heads.{nameAt, partsOf, headSize, partsAt, nextAt, joined, Standing}
 use Rattle.ol_tables.specs.Stands.{Listed, Names, EquationStands}
-use Rattle.ol_tables.proofs.HeadLaws.{here-name, headed, walk-head, walk-one, root-head, head-ends, parts-told, next-told, joined-count}
+use Rattle.ol_tables.proofs.HeadLaws.{headed, walk-one, root-head, parts-told, next-told, joined-count}
 use Rattle.ol_tables.proofs.HeadsFile.{Passing, Item as PassedItem, passing-start, passing-item, equation-stands}
 use Rattle.ol_check.specs.Founds.{placeOf, earliest}
 use Rattle.ol_tables.specs.Heads.{Byte}
 use Rattle.ol_tables.specs.Walks.{HeadOf, skipAt}
 use Rattle.ol_tables.proofs.Skipping.{walk-turn as step, skip-stands}
-use Rattle.ol_check.specs.Judging.{headAt, heads, unseenB, unseenHead, slotOfEntry, slotHead, slotHeads, calledB, calledHead, arityB, severalHead, foundIn, Adds, headsFrom, Walked, atPlace, rootShapes}
+use Rattle.ol_check.specs.Judging.{heads, unseenB, unseenHead, slotOfEntry, slotHead, slotHeads, calledB, calledHead, arityB, severalHead, foundIn, Adds, headsFrom, Walked, atPlace, rootShapes}
 use Rattle.ol_check.specs.Judging.{Knows, Context, SlotIs, entryItem, slotNames, takenB, markAll, againB, NamesDefined, loneB, otherB, RootJudged, EquationWalked, namesIn, slotEquation, slotEquations, EquationsJudged}
 use Rattle.ol_check.specs.declared.Found.{Found}
 use Rattle.ol_tables.specs.declared.heads.Parts.{Parts}
@@ -46,12 +45,6 @@ use Rattle.ol_check.proofs.CalleeLaws.{sum-append, sites-callees}
 use Rattle.ol_check.proofs.HeadLaws.{flat, unseen-law, called-law, several-law, arity-is, slots-below, slots-length, slots-held}
 
 -- ---- names
-
-two : (x : ℕ) → length (nameBytes x) ≡ 2
-two x = length-bytes 2 x
-
-abbrev pub NamePassing : List ℕ → ℕ → List ℕ → ℕ → ℕ → Type 0
-NamePassing s at xs i next = Passing nameBytes nameFits (λ x. 2) s at xs i next
 
 -- the items of a list from number i on, with their places
 pub placed-on : {A : Type 0} (size : A → ℕ) (d : A) (xs : List A) (i next : ℕ) → i < length xs → placed size next (drop i xs) ≡ (next, getD xs i d) ∷ placed size (next + size (getD xs i d)) (drop (i + 1) xs)

@@ -1,6 +1,6 @@
 -- The table of variants: what is left to be entered, and what the table tells in the end.
-use Prim.Native.Nat.{ℕ, zero, _+_, _-_, _*_, _≤_, _<_}
-use mathlib.Core.Bool.{Bool, _||_, or-true, or-false}
+use Prim.Native.Nat.{ℕ, zero, _+_, _-_, _≤_, _<_}
+use mathlib.Core.Bool.{_||_, or-true, or-false}
 use mathlib.Core.List.{List, [], _∷_, _++_, map}
 use mathlib.Core.Path.{_≡_, refl, sym, ap, subst, _∙_}
 use native.Mathlib.Omega.{arith}
@@ -8,12 +8,12 @@ use lib.ListN.{length, getD, set, length-set}
 use lib.Seq.{getD-set-same, getD-set-other}
 use lib.Dec.{eqb}
 use borrow.Author.Tests.{eq-eqb, ne-eqb}
-use Rattle.ol_spec.specs.Lists.{concat, member}
+use Rattle.ol_spec.specs.Lists.{member}
 use Rattle.ol_spec.specs.Syntax.{File}
 use Rattle.ol_spec.specs.Admission.{variants}
 use Rattle.ol_tables.specs.Heads.{Byte, nameAt}
 use Rattle.ol_tables.specs.Stands.{FileStands}
-use Rattle.ol_tables.specs.Tables.{Each, Tells, Variants}
+use Rattle.ol_tables.specs.Tables.{Each, Tells}
 use Rattle.ol_check.specs.Spans.{behindName, behindEnum, namedAt, namesOf, namesFrom, variantsFrom}
 use Rattle.ol_check.specs.VariantTable.{enterAll, VariantsEntered}
 use Rattle.ol_check.specs.Clashing.{Blank}

@@ -3,9 +3,8 @@ use Rattle.ol_check.proofs.ConstantLaws.{ConstantsGoing, constants-star
 use Rattle.ol_spec.specs.Admission.{variants}
 use Rattle.ol_tables.specs.At.{fileAt}
 use lib.ListN.{length}
-use mathlib.Core.Path.{_≡_, refl, sym, ap, _∙_}
-use Prim.Native.Nat.{ℕ, _-_}
-use borrow.Author.Needs.{needs}
+use mathlib.Core.Path.{_≡_, _∙_}
+use Prim.Native.Nat.{_-_}
 use native.Mathlib.Omega.{arith}
 use Rattle.ol_check.proofs.constants.judge_constants.Statement.{statement}
 use Rattle.ol_check.proofs.constants.judge_constants.Tie as tie

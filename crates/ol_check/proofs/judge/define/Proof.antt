@@ -1,9 +1,7 @@
 use Rattle.ol_check.proofs.EquationLaws.{NamesGoing, names-start, names-turn, names-done}
-use Rattle.ol_tables.specs.Stands.{Names}
 use lib.ListN.{length}
-use mathlib.Core.List.{List}
-use mathlib.Core.Path.{_≡_, refl, sym, _∙_}
-use Prim.Native.Nat.{ℕ, _+_, _*_, _-_, _≤_}
+use mathlib.Core.Path.{_≡_, refl, _∙_}
+use Prim.Native.Nat.{_+_, _*_, _-_, _≤_}
 use borrow.Author.Needs.{needs}
 use native.Mathlib.Omega.{arith}
 use Rattle.ol_check.proofs.judge.define.Statement.{statement}

@@ -1,5 +1,4 @@
 use Rattle.ol_check.proofs.EquationLaws.{equation-walked}
-use native.Mathlib.Omega.{arith}
 use borrow.Author.Needs.{needs}
 use Rattle.ol_check.proofs.judge.equation.Statement.{statement}
 use Rattle.ol_check.proofs.judge.equation.Tie as tie

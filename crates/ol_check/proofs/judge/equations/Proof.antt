@@ -5,9 +5,8 @@ use Rattle.ol_spec.specs.Admission.{badCall}
 use Rattle.ol_tables.specs.At.{fileAt}
 use Rattle.ol_tables.specs.Tables.{nodeOf}
 use lib.ListN.{length}
-use mathlib.Core.Path.{_≡_, refl, sym, _∙_}
-use Prim.Native.Nat.{ℕ, _-_}
-use borrow.Author.Needs.{needs}
+use mathlib.Core.Path.{_≡_, _∙_}
+use Prim.Native.Nat.{_-_}
 use native.Mathlib.Omega.{arith}
 use Rattle.ol_check.proofs.judge.equations.Statement.{statement}
 use Rattle.ol_check.proofs.judge.equations.Tie as tie

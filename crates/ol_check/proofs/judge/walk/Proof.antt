@@ -1,9 +1,8 @@
 use Rattle.ol_check.proofs.WalkLoop.{WalkGoing, walk-start, walk-turn, walk-plain, walk-done, none-left, file-ends, too-many}
 use lib.ListN.{length}
 use mathlib.Core.Path.{_≡_, refl, sym, _∙_}
-use Prim.Native.Nat.{ℕ, _+_, _*_, _-_, _≤_}
+use Prim.Native.Nat.{_-_}
 use native.Mathlib.Omega.{arith}
-use borrow.Author.Needs.{needs}
 use Rattle.ol_check.proofs.judge.walk.Statement.{statement}
 use Rattle.ol_check.proofs.judge.walk.Tie as tie
 use Rattle.ol_check.proofs.judge.walk.Reads as reads
