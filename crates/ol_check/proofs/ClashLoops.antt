@@ -16,7 +16,7 @@ use Rattle.ol_spec.specs.Places.{placed, enumSize, constantSize}
 use Rattle.ol_spec.specs.Encode.{nameBytes, sectionBytes, constantBytes}
 use Rattle.ol_spec.specs.Limits.{base}
 use Rattle.ol_spec.specs.Within.{constantFits, enumFits}
-use Rattle.ol_spec.specs.Admission.{Sort, variant, constant, variable, Declared, firstIf, numbered, declaredAt, declaredAs, placedConstantName, enumDeclares}
+use Rattle.ol_spec.specs.Admission.{variant, constant, variable, Declared, firstIf, numbered, declaredAt, declaredAs, placedConstantName, enumDeclares}
 use Rattle.ol_spec.proofs.RoundTrip.Parts.{here-inside}
 use Rattle.ol_spec.proofs.RoundTrip.Items.{names-size, constant-size}
 use Rattle.ol_tables.specs.Heads.{Byte, nameAt, tySizeAt}

@@ -18,7 +18,7 @@ use Rattle.ol_spec.specs.Within.{constantFits}
 use Rattle.ol_spec.specs.Admission.{first, unseenItem, unseen, usedAt, used, valuePlace, constantUses, inConstant, callsWhere, shapeItem}
 use Rattle.ol_spec.proofs.RoundTrip.Parts.{here-inside}
 use Rattle.ol_spec.proofs.RoundTrip.Items.{constant-size}
-use Rattle.ol_tables.specs.Heads.{nameAt, tySizeAt, Standing}
+use Rattle.ol_tables.specs.Heads.{nameAt, tySizeAt}
 use Rattle.ol_tables.specs.Tables.{Each}
 use Rattle.ol_tables.specs.Stands.{ConstantStands}
 use Rattle.ol_tables.proofs.HeadLaws.{walk-one}
@@ -26,23 +26,36 @@ use Rattle.ol_tables.proofs.HeadsFile.{Passing, Item as PassedItem, passing-sta
 use Rattle.ol_check.specs.Founds.{placeOf}
 use Rattle.ol_check.specs.RowsDone.{noConstant}
 use Rattle.ol_check.specs.Entries.{declared, declareAll, constantEntries}
-use Rattle.ol_check.specs.Judging.{badB, foundIn, Knows, Walked}
-use Rattle.ol_check.specs.ConstantsJudged.{walkAt, ConstantJudged, slotConstants, ConstantsJudged, ConstantsReady}
+use Rattle.ol_check.specs.Spans.{behindVariable}
+use Rattle.ol_check.specs.Judging.{badB, foundIn, Knows, Walked, atPlace}
+use Rattle.ol_check.specs.ConstantsJudged.{ConstantWalked, slotConstants, ConstantsJudged, ConstantsReady}
 use Rattle.ol_check.specs.declared.Faults.{Faults}
-use Rattle.ol_check.proofs.WalkLoop.{found-none, found-append}
+use Rattle.ol_check.proofs.WalkLoop.{found-none, found-append, WalkedAs, walk-told}
 use Rattle.ol_check.proofs.HeadLaws.{flat, unseen-law, called-law, several-law}
 use Rattle.ol_check.proofs.EquationLaws.{placed-on}
 use Rattle.ol_check.proofs.EntryLaws.{knows-step}
 
--- one constant: its value is walked where it stands, then its name entered
-pub constant-judged : {s : List ℕ} (names : List ℕ) {rows : List ℕ} {nodes i n x : ℕ} {slots slots′ names′ : List ℕ} {f r : Faults} → n ≡ tySizeAt s (f .next + 2) → x ≡ nameAt s (f .next)
-    → ((enums : ℕ) (es : Rattle.ol_spec.specs.Syntax.Exprs) → Rattle.ol_spec.specs.Syntax.count es ≡ 1 → Standing s enums (f .next + 2 + n) es → Walked s names rows nodes 0 es slots slots′ (walkAt f (f .next + 2 + n)) r)
-    → names′ ≡ declared names x (i + 113) → (enums : ℕ) (c : Constant) → ConstantStands s enums (f .next) c → ConstantJudged s names rows nodes i c slots slots′ names′ f r
-constant-judged {s} names {rows} {nodes} {i} {n} {x} {slots} {slots′} {names′} {f} {r} en ex w ee enums c st =
-    let same : f .next + 2 + n ≡ valuePlace (f .next) c = omega (arith, en, st .ty .size) in
+-- constant number i, which is c and stands where the walk stood
+pub record ConstantJudged (s names rows : List ℕ) (nodes i : ℕ) (c : Constant) (slots slots′ names′ : List ℕ) (f r : Faults) : Type 0 where
+  pub walked : WalkedAs s names rows nodes 0 (cons (c .value) nil) slots slots′ (atPlace f (valuePlace (f .next) c)) r
+  pub entered : names′ ≡ declared names (c .name) (i + 113)
+
+constant-told : {s names rows : List ℕ} {nodes i : ℕ} {slots slots′ names′ : List ℕ} {f r : Faults} → ConstantWalked s names rows nodes i slots slots′ names′ f r → (enums : ℕ) (c : Constant) → ConstantStands s enums (f .next) c
+    → ConstantJudged s names rows nodes i c slots slots′ names′ f r
+constant-told {s} {names} {rows} {nodes} {i} {slots} {slots′} {names′} {f} {r} w enums c st =
+    let same : behindVariable s (f .next) ≡ valuePlace (f .next) c = omega (arith, st .ty .size) in
     record {
-      walked = subst (λ p. Walked s names rows nodes 0 (cons (c .value) nil) slots slots′ (walkAt f p) r) same (w enums (cons (c .value) nil) refl (subst (λ p. Standing s enums p (cons (c .value) nil)) (sym same) (st .value)));
-      entered = ee ∙ ap (λ y. declared names y (i + 113)) (ex ∙ st .name);
+      walked = walk-told (subst (λ p. Walked s names rows nodes 0 1 slots slots′ (atPlace f p) r) same (w .walked)) enums (cons (c .value) nil) refl (st .value);
+      entered = w .entered ∙ ap (λ y. declared names y (i + 113)) (st .name);
+    }
+
+-- its value is walked where it stands, then its name entered
+pub constant-walked : {s : List ℕ} (names : List ℕ) {rows : List ℕ} {nodes i n x : ℕ} {slots slots′ names′ : List ℕ} {f r : Faults} → n ≡ tySizeAt s (f .next + 2) → x ≡ nameAt s (f .next) → Walked s names rows nodes 0 1 slots slots′ (atPlace f (f .next + 2 + n)) r
+    → names′ ≡ declared names x (i + 113) → ConstantWalked s names rows nodes i slots slots′ names′ f r
+constant-walked {s} names {rows} {nodes} {i} {n} {x} {slots} {slots′} {names′} {f} {r} en ex w ee =
+    record {
+      walked = subst (λ m. Walked s names rows nodes 0 1 slots slots′ (atPlace f (f .next + 2 + m)) r) en w;
+      entered = ee ∙ ap (λ y. declared names y (i + 113)) ex;
     }
 
 -- in a constant every call is faulted
@@ -80,14 +93,14 @@ module _ {s names₀ rows : List ℕ} {nodes : ℕ} {t : File} {visible : List �
     pub constants-cut : i < length cs → length s ≤ g .next → ⊥
     constants-cut lt out = omega (arith, here-inside (constant-at lt .here) (omega (arith, constant-size (getD cs i noConstant))), constant-size (getD cs i noConstant))
 
-    pub constants-turn : i < length cs → length names ≡ length names₀ → (names′ slots′ : List ℕ) (r : Faults) → ((c : Constant) → ConstantStands s enums (g .next) c → ConstantJudged s names rows nodes i c slots slots′ names′ g r)
+    pub constants-turn : i < length cs → length names ≡ length names₀ → (names′ slots′ : List ℕ) (r : Faults) → ConstantWalked s names rows nodes i slots slots′ names′ g r
         → ConstantsGoing s t visible enums cs names₀ slots₀ f names′ slots′ r (i + 1)
     unfolding declareAll slotConstants
     constants-turn lt same names′ slots′ r judged =
         let it = constant-at lt in
         let c = getD cs i noConstant in
         let st = constant-stands c (it .fit) (it .here) in
-        let j = judged c st in
+        let j = constant-told judged enums c st in
         let v = j .walked in
         let at = g .next in
         let p = valuePlace at c in

@@ -1,22 +1,22 @@
 -- The slots of the names in constants' expressions: each constant sees the variants and the constants before it.
-use Prim.Native.Nat.{ℕ, zero, suc, _+_, _-_, _*_, _≤_, _<_}
+use Prim.Native.Nat.{ℕ, zero, suc, _+_, _-_, _≤_, _<_}
 use mathlib.Core.Bool.{Bool, true, false, _||_, cond}
-use mathlib.Core.List.{List, [], _∷_, _++_, map}
+use mathlib.Core.List.{List, [], _∷_, map}
 use mathlib.Core.Option.{Option, none, some}
 use mathlib.Core.Path.{_≡_, refl, sym, ap, subst, _∙_}
 use native.Mathlib.Omega.{arith}
-use lib.ListN.{length, getD, set, take, length-map}
+use lib.ListN.{length, getD, take}
 use lib.Dec.{eqb}
 use Rattle.ol_spec.specs.Lists.{sum, maybe, member, position}
 use Rattle.ol_spec.specs.Syntax.{nil, cons, Constant, File, constantName}
-use Rattle.ol_spec.specs.Places.{constantSize, placed, placedConstants, constantsStart}
+use Rattle.ol_spec.specs.Places.{constantSize, placed}
 use Rattle.ol_spec.specs.Encode.{constantBytes}
 use Rattle.ol_spec.specs.Limits.{base}
 use Rattle.ol_spec.specs.Within.{constantFits}
 use Rattle.ol_spec.specs.Admission.{variants, constantNames, valuePlace, usedAt, used}
 use Rattle.ol_spec.proofs.RoundTrip.Items.{constant-size}
-use Rattle.ol_tables.specs.Tables.{Each, slotOf, slotBy, constantSlot}
-use Rattle.ol_tables.specs.Stands.{Listed, ConstantStands, FileStands}
+use Rattle.ol_tables.specs.Tables.{Each, slotOf, constantSlot}
+use Rattle.ol_tables.specs.Stands.{Listed, ConstantStands}
 use Rattle.ol_tables.proofs.HeadLaws.{walk-one}
 use Rattle.ol_tables.proofs.HeadsFile.{passing-start, passing-item, constant-stands}
 use Rattle.ol_check.specs.Judging.{SlotIs, slotOfEntry, heads, slotHeads}

@@ -1,7 +1,7 @@
 -- The loops over the table by name: what is left to be entered or taken back.
-use Prim.Native.Nat.{ℕ, suc, _+_, _-_, _*_, _≤_, _<_}
-use mathlib.Core.List.{List, [], _∷_, _++_, map, map-append}
-use mathlib.Core.Path.{_≡_, refl, sym, ap, subst, _∙_}
+use Prim.Native.Nat.{ℕ, _+_, _-_, _*_, _≤_, _<_}
+use mathlib.Core.List.{List, [], _∷_, map, map-append}
+use mathlib.Core.Path.{_≡_, refl, sym, ap, _∙_}
 use native.Mathlib.Omega.{arith}
 use lib.ListN.{length, getD, set}
 use borrow.Author.Tests.{le-leb, lt-leb, ne-eqb}
@@ -11,7 +11,7 @@ use Rattle.ol_spec.specs.Places.{placed, variableSize}
 use Rattle.ol_spec.specs.Admission.{placedVariableName}
 use Rattle.ol_tables.specs.Heads.{Byte, nameAt, tySizeAt}
 use Rattle.ol_tables.specs.Stands.{Variables}
-use Rattle.ol_check.specs.Spans.{startsFrom, endFrom, behindName, behindVariable, behindEnum, namedAt, namesOf, namesFrom, variablesFrom, variantsFrom}
+use Rattle.ol_check.specs.Spans.{endFrom, behindName, behindVariable, behindEnum, namedAt, namesOf, namesFrom, variablesFrom, variantsFrom}
 use Rattle.ol_check.specs.RowsDone.{Enums}
 use Rattle.ol_check.specs.Entries.{declared, forgot, declareAll, forgetAll, variableEntries, variantEntry, entriesFrom, VariablesEntered, VariablesForgotten}
 use Rattle.ol_check.proofs.SpanLaws.{starts-on, starts-none, end-on, end-none, less-none, variables-near, variables-listed, variables-end, variants-on, variants-none, variants-listed}

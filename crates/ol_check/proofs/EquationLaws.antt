@@ -1,6 +1,6 @@
 -- An equation: its names, its right side, and what is inside that.
 use Prim.Native.Nat.{ℕ, _+_, _-_, _*_, _≤_, _<_, min}
-use mathlib.Core.Bool.{Bool, false, not}
+use mathlib.Core.Bool.{Bool, false, not, cond}
 use mathlib.Core.List.{List, [], _∷_, _++_, map, append-nil, map-append}
 use mathlib.Core.Option.{Option}
 use mathlib.Core.Path.{_≡_, refl, sym, ap, subst, _∙_}
@@ -14,72 +14,64 @@ use native.Mathlib.Decide.{decLe}
 use mathlib.Core.Logic.{by-cases}
 use Rattle.ol_spec.specs.Lists.{orElse, concat, sum}
 use Rattle.ol_spec.specs.Syntax.{Expr, Exprs, nil, cons, count, Equation, File, rhsOf}
-use Rattle.ol_spec.specs.Places.{equationSize, collect, collectAll, placed, placedNames, rhsPlace}
-use Rattle.ol_spec.specs.Encode.{nameBytes, equationBytes}
+use Rattle.ol_spec.specs.Places.{exprSize, equationSize, collect, collectAll, placed, placedNames, rhsPlace}
+use Rattle.ol_spec.specs.Encode.{equationBytes}
 use Rattle.ol_spec.specs.Limits.{base}
-use Rattle.ol_spec.specs.Within.{nameFits, equationFits}
+use Rattle.ol_spec.specs.Within.{equationFits}
 use Rattle.ol_spec.specs.Admission.{Item, first, firstIf, unseenItem, unseen, usedAt, used, callsWhere, shapeItem, arity, equationUses, inEquation, equationShape, definedBy}
 use Rattle.ol_spec.specs.Eval.{callees}
 use Rattle.ol_spec.specs.Step.{noEquation, equationSites}
-use Rattle.ol_spec.proofs.Cells.{length-bytes}
 use Rattle.ol_spec.proofs.RoundTrip.Parts.{here-inside}
 use Rattle.ol_spec.proofs.RoundTrip.Items.{equation-size}
 use Rattle.ol_tables.specs.Tables.{Each}
-use Rattle.ol_tables.specs.Heads.{nameAt, partsOf, headSize, joined, Standing}
+use Rattle.ol_tables.specs.Heads.{nameAt, partsOf, headSize, partsAt, nextAt, joined, Standing}
 use Rattle.ol_tables.specs.Stands.{Listed, Names, EquationStands}
-use Rattle.ol_tables.proofs.HeadLaws.{here-name, headed, walk-head, walk-one, root-head, head-ends, parts-told, next-told, joined-count}
+use Rattle.ol_tables.proofs.HeadLaws.{headed, walk-one, root-head, parts-told, next-told, joined-count}
 use Rattle.ol_tables.proofs.HeadsFile.{Passing, Item as PassedItem, passing-start, passing-item, equation-stands}
 use Rattle.ol_check.specs.Founds.{placeOf, earliest}
 use Rattle.ol_tables.specs.Heads.{Byte}
-use Rattle.ol_tables.specs.Walks.{HeadOf}
-use Rattle.ol_check.specs.Judging.{headAt, heads, unseenB, unseenHead, slotOfEntry, slotHead, slotHeads, calledB, calledHead, arityB, severalHead, foundIn, Walked}
-use Rattle.ol_check.specs.Judging.{Knows, Context, SlotIs, entryItem, slotNames, takenB, markAll, againB, NamesDefined, loneB, otherB, RootJudged, EquationJudged, namesIn, slotEquation, slotEquations, EquationsJudged}
+use Rattle.ol_tables.specs.Walks.{HeadOf, skipAt}
+use Rattle.ol_tables.proofs.Skipping.{walk-turn as step, skip-stands}
+use Rattle.ol_check.specs.Judging.{heads, unseenB, unseenHead, slotOfEntry, slotHead, slotHeads, calledB, calledHead, arityB, severalHead, foundIn, Adds, headsFrom, Walked, atPlace, rootShapes}
+use Rattle.ol_check.specs.Judging.{Knows, Context, SlotIs, entryItem, slotNames, takenB, markAll, againB, NamesDefined, loneB, otherB, RootJudged, EquationWalked, namesIn, slotEquation, slotEquations, EquationsJudged}
 use Rattle.ol_check.specs.declared.Found.{Found}
 use Rattle.ol_tables.specs.declared.heads.Parts.{Parts}
 use Rattle.ol_check.specs.declared.Faults.{Faults}
 use Rattle.ol_check.specs.Records.{siteB, calleeB}
-use Rattle.ol_check.proofs.WalkLoop.{found-step, found-none, found-append, min-add, min-cap, Adding}
+use Rattle.ol_check.specs.Spans.{behindName, namedAt, namesFrom}
+use Rattle.ol_check.proofs.SpanLaws.{less-none, starts-on, starts-none, names-listed}
+use Rattle.ol_check.proofs.WalkLoop.{found-step, found-none, found-append, min-add, min-cap, Adding, heads-stand, file-ends}
 use Rattle.ol_check.proofs.CalleeLaws.{sum-append, sites-callees}
 use Rattle.ol_check.proofs.HeadLaws.{flat, unseen-law, called-law, several-law, arity-is, slots-below, slots-length, slots-held}
 
 -- ---- names
 
-two : (x : ℕ) → length (nameBytes x) ≡ 2
-two x = length-bytes 2 x
-
-abbrev pub NamePassing : List ℕ → ℕ → List ℕ → ℕ → ℕ → Type 0
-NamePassing s at xs i next = Passing nameBytes nameFits (λ x. 2) s at xs i next
-
 -- the items of a list from number i on, with their places
 pub placed-on : {A : Type 0} (size : A → ℕ) (d : A) (xs : List A) (i next : ℕ) → i < length xs → placed size next (drop i xs) ≡ (next, getD xs i d) ∷ placed size (next + size (getD xs i d)) (drop (i + 1) xs)
 placed-on size d xs i next lt = rw (add-one i) (ap (placed size next) (drop-cons xs i d lt))
 
-pub record NamesGoing (s names : List ℕ) (inputs : ℕ) (xs : List ℕ) (at : ℕ) (slots₀ defined₀ : List ℕ) (u₀ a₀ : Found) (slots defined : List ℕ) (u a : Found) (i next : ℕ) : Type 0 where
-  pub passing : NamePassing s at xs i next
-  pub unseen : foundIn (placeOf u) (map (entryItem names) (placedNames next (drop i xs))) ≡ foundIn (placeOf u₀) (map (entryItem names) (placedNames at xs))
-  pub again : foundIn (placeOf a) (againB names inputs defined (placedNames next (drop i xs))) ≡ foundIn (placeOf a₀) (againB names inputs defined₀ (placedNames at xs))
-  pub slotted : slotNames names slots (placedNames next (drop i xs)) ≡ slotNames names slots₀ (placedNames at xs)
-  pub marked : markAll names defined (placedNames next (drop i xs)) ≡ markAll names defined₀ (placedNames at xs)
+pub record NamesGoing (s names : List ℕ) (inputs many at : ℕ) (slots₀ defined₀ : List ℕ) (u₀ a₀ : Found) (slots defined : List ℕ) (u a : Found) (i next : ℕ) : Type 0 where
+  pub unseen : foundIn (placeOf u) (map (entryItem names) (namesFrom s (many - i) next)) ≡ foundIn (placeOf u₀) (map (entryItem names) (namesFrom s many at))
+  pub again : foundIn (placeOf a) (againB names inputs defined (namesFrom s (many - i) next)) ≡ foundIn (placeOf a₀) (againB names inputs defined₀ (namesFrom s many at))
+  pub slotted : slotNames names slots (namesFrom s (many - i) next) ≡ slotNames names slots₀ (namesFrom s many at)
+  pub marked : markAll names defined (namesFrom s (many - i) next) ≡ markAll names defined₀ (namesFrom s many at)
 
-module _ {s names : List ℕ} {inputs : ℕ} {xs : List ℕ} {at : ℕ} {slots₀ defined₀ : List ℕ} {u₀ a₀ : Found} where
-  pub names-start : Names s 0 at xs → NamesGoing s names inputs xs at slots₀ defined₀ u₀ a₀ slots₀ defined₀ u₀ a₀ 0 at
-  names-start h = record { passing = passing-start nameBytes nameFits (λ x. 2) h; unseen = refl; again = refl; slotted = refl; marked = refl }
+module _ {s names : List ℕ} {inputs many at : ℕ} {slots₀ defined₀ : List ℕ} {u₀ a₀ : Found} where
+  pub names-start : NamesGoing s names inputs many at slots₀ defined₀ u₀ a₀ slots₀ defined₀ u₀ a₀ 0 at
+  names-start = record { unseen = rw (less-none many) refl; again = rw (less-none many) refl; slotted = rw (less-none many) refl; marked = rw (less-none many) refl }
 
-  module _ {slots defined : List ℕ} {u a : Found} {i next : ℕ} (g : NamesGoing s names inputs xs at slots₀ defined₀ u₀ a₀ slots defined u a i next) where
-    pub names-turn : i < length xs → (x e b : ℕ) (t : Bool) (u′ a′ : Found) (slots′ defined′ : List ℕ) → x ≡ nameAt s next → Byte names x e → placeOf u′ ≡ earliest (placeOf u) (eqb e 0) next
+  module _ {slots defined : List ℕ} {u a : Found} {i next : ℕ} (g : NamesGoing s names inputs many at slots₀ defined₀ u₀ a₀ slots defined u a i next) where
+    pub names-turn : i < many → {x e b : ℕ} {t : Bool} {u′ a′ : Found} {slots′ defined′ : List ℕ} → x ≡ nameAt s next → Byte names x e → placeOf u′ ≡ earliest (placeOf u) (eqb e 0) next
         → t ≡ takenB defined inputs e → placeOf a′ ≡ earliest (placeOf a) t next → b ≡ slotOfEntry e → slots′ ≡ set slots next b → defined′ ≡ set defined e 1
-        → NamesGoing s names inputs xs at slots₀ defined₀ u₀ a₀ slots′ defined′ u′ a′ (i + 1) (next + 2)
+        → NamesGoing s names inputs many at slots₀ defined₀ u₀ a₀ slots′ defined′ u′ a′ (i + 1) (next + 2)
     unfolding slotNames markAll againB
-    names-turn lt x e b t u′ a′ slots′ defined′ ex be eu et ea eb es ed =
-        let y = getD xs i 0 in
-        let it = passing-item two 0 (g .passing) lt in
-        let same : x ≡ y = ex ∙ here-name y (it .fit) (it .here) in
-        let ee : e ≡ getD names y 0 = be .is ∙ ap (λ n. getD names n 0) same in
-        let on = placed-on (λ n. 2) 0 xs i next lt in
-        let rest = placedNames (next + 2) (drop (i + 1) xs) in
+    names-turn lt {x} {e} {b} {t} {u′} {a′} {slots′} {defined′} ex be eu et ea eb es ed =
+        let y = nameAt s next in
+        let ee : e ≡ getD names y 0 = be .is ∙ ap (λ n. getD names n 0) ex in
+        let on : namesFrom s (many - i) next ≡ (next, y) ∷ namesFrom s (many - (i + 1)) (next + 2) = ap (map (namedAt s)) (starts-on behindName many i next lt) in
+        let rest = namesFrom s (many - (i + 1)) (next + 2) in
         let put : defined′ ≡ set defined (getD names y 0) 1 = ed ∙ ap (λ n. set defined n 1) ee in
         record {
-          passing = it .on;
           unseen = ap (λ o. foundIn o (map (entryItem names) rest)) (eu ∙ ap (λ n. earliest (placeOf u) (eqb n 0) next) ee)
               ∙ found-step (placeOf u) (eqb (getD names y 0) 0) next (map (entryItem names) rest)
               ∙ ap (λ l. foundIn (placeOf u) (map (entryItem names) l)) (sym on) ∙ g .unseen;
@@ -91,20 +83,20 @@ module _ {s names : List ℕ} {inputs : ℕ} {xs : List ℕ} {at : ℕ} {slots�
           marked = ap (λ l. markAll names l rest) put ∙ ap (markAll names defined) (sym on) ∙ g .marked;
         }
 
-    pub names-done : (f r : Faults) → i ≤ length xs → length xs ≤ i → next ≡ at + 2 * i → f .next ≡ at → f .unseen ≡ u₀ → f .again ≡ a₀ → r .called ≡ f .called → r .shaped ≡ f .shaped → r .size ≡ f .size
-        → r .next ≡ next → r .unseen ≡ u → r .again ≡ a → NamesDefined names inputs xs slots₀ slots defined₀ defined f r
+    pub names-done : (f r : Faults) → i ≤ many → many ≤ i → next ≡ at + 2 * i → f .next ≡ at → f .unseen ≡ u₀ → f .again ≡ a₀ → r .called ≡ f .called → r .shaped ≡ f .shaped → r .size ≡ f .size
+        → r .next ≡ next → r .unseen ≡ u → r .again ≡ a → NamesDefined s names inputs many slots₀ slots defined₀ defined f r
     unfolding slotNames markAll againB
     names-done f r under over en ea eu₀ ea₀ ec eh ez er eu er₂ =
-        let empty : drop i xs ≡ [] = drop-of-length-le xs over in
+        let empty : namesFrom s (many - i) next ≡ [] = ap (map (namedAt s)) (starts-none behindName many i next over) in
         record {
           next = omega arith;
-          unseen = rw (eu, eu₀, ea) (sym (found-none (placeOf u)) ∙ ap (λ l. foundIn (placeOf u) (map (entryItem names) (placedNames next l))) (sym empty) ∙ g .unseen);
-          again = rw (er₂, ea₀, ea) (sym (found-none (placeOf a)) ∙ ap (λ l. foundIn (placeOf a) (againB names inputs defined (placedNames next l))) (sym empty) ∙ g .again);
+          unseen = rw (eu, eu₀, ea) (sym (found-none (placeOf u)) ∙ ap (λ l. foundIn (placeOf u) (map (entryItem names) l)) (sym empty) ∙ g .unseen);
+          again = rw (er₂, ea₀, ea) (sym (found-none (placeOf a)) ∙ ap (λ l. foundIn (placeOf a) (againB names inputs defined l)) (sym empty) ∙ g .again);
           called = ec;
           shaped = eh;
           sized = ez;
-          slotted = rw ea (ap (λ l. slotNames names slots (placedNames next l)) (sym empty) ∙ g .slotted);
-          marked = rw ea (ap (λ l. markAll names defined (placedNames next l)) (sym empty) ∙ g .marked);
+          slotted = rw ea (ap (slotNames names slots) (sym empty) ∙ g .slotted);
+          marked = rw ea (ap (markAll names defined) (sym empty) ∙ g .marked);
         }
 
 -- what stands outside the names is left, and each name has the slot of its entry
@@ -151,38 +143,139 @@ module _ {s names rows : List ℕ} {nodes k at many : ℕ} (slots : List ℕ) {s
     (el : placeOf few ≡ earliest (placeOf (f .shaped)) bl at) (fl : bl ≡ loneB many v)
     (eo : placeOf h ≡ earliest (placeOf few) bo (f .next)) (fo : bo ≡ otherB many v)
     (ez : z ≡ min (f .size + x) 65536) (fz : x ≡ siteB s rows nodes (f .next))
-    (walked : (enums : ℕ) (xs : Exprs) → count xs ≡ p .count → Standing s enums (p .start) xs → Walked s names rows nodes k xs slots₁ slots₂ (record { unseen = u; again = f .again; called = c; shaped = h; size = z; next = p .start }) r) where
-  pub root-judged : (enums : ℕ) (e : Expr) → Standing s enums (f .next) (cons e nil) → RootJudged s names rows nodes k at many e slots slots₂ f r
+    (inside : f .next < length s) (w : Walked s names rows nodes k (p .count) slots₁ slots₂ (record { unseen = u; again = f .again; called = c; shaped = h; size = z; next = p .start }) r) where
+  pub root-judged : RootJudged s names rows nodes k at many slots slots₂ f r
   unfolding slotHeads
-  root-judged enums e st =
+  root-judged =
       let n = f .next in
-      let hd = headed e nil st in
-      let rest = joined (partsOf e) nil in
-      let start : p .start ≡ n + headSize e = hp .next ∙ next-told s n e (hd .inside) (hd .head) in
-      let w = walked enums rest (omega (arith, joined-count (partsOf e) nil, hp .parts, parts-told s n e (hd .head))) (subst (λ a. Standing s enums a rest) (sym start) (hd .rest)) in
-      let all : heads n (cons e nil) ≡ n ∷ heads (p .start) rest = walk-head headAt n e nil ∙ ap (λ a. n ∷ heads a rest) (sym start) in
+      let one : 1 - 1 + p .count ≡ p .count = omega arith in
+      let rest = headsFrom s (p .count) (p .start) in
+      let all : headsFrom s 1 n ≡ n ∷ rest = step (λ q l. q ∷ l) (λ q. []) s 1 n (omega arith) inside (omega arith) (hp .parts) (hp .next) ∙ ap (λ m. n ∷ headsFrom s m (p .start)) one in
+      let end : skipAt s 1 n ≡ skipAt s (p .count) (p .start) = step (λ q l. l) (λ q. q) s 1 n (omega arith) inside (omega arith) (hp .parts) (hp .next) ∙ ap (λ m. skipAt s m (p .start)) one in
+      let shapes : rootShapes s rows nodes at many n ≡ (at, loneB many (arityB s rows nodes n)) ∷ (n, otherB many (arityB s rows nodes n)) ∷ map (severalHead s rows nodes) rest =
+      ap (λ b. cond b ((at, loneB many (arityB s rows nodes n)) ∷ (n, otherB many (arityB s rows nodes n)) ∷ map (severalHead s rows nodes) (headsFrom s (partsAt s n) (nextAt s n))) []) (lt-ltb n (length s) inside)
+      ∙ ap (λ m. (at, loneB many (arityB s rows nodes n)) ∷ (n, otherB many (arityB s rows nodes n)) ∷ map (severalHead s rows nodes) (headsFrom s m (nextAt s n))) (sym (hp .parts))
+      ∙ ap (λ m. (at, loneB many (arityB s rows nodes n)) ∷ (n, otherB many (arityB s rows nodes n)) ∷ map (severalHead s rows nodes) (headsFrom s (p .count) m)) (sym (hp .next)) in
       record {
-        next = omega (arith, w .next, start, head-ends e nil n);
+        next = w .next ∙ sym end;
         again = w .again;
         sized = λ le.
-            let rs = sum (map (siteB s rows nodes) (heads (p .start) rest)) in
+            let rs = sum (map (siteB s rows nodes) (rest)) in
             w .sized (omega (arith, ez)) ∙ ap (λ m. min (m + rs) 65536) (ez ∙ ap (λ y. min (f .size + y) 65536) fz) ∙ min-add (f .size) (siteB s rows nodes n) rs 65536
             ∙ ap (λ l. min (f .size + sum (map (siteB s rows nodes) l)) 65536) (sym all);
-        slotted = w .slotted ∙ ap (λ l. slotHeads s names l (heads (p .start) rest)) es ∙ ap (slotHeads s names slots) (sym all);
-        unseen = w .unseen ∙ ap (λ o. foundIn o (map (unseenHead s names) (heads (p .start) rest))) (eu ∙ ap (λ b. earliest (placeOf (f .unseen)) b (n + 1)) fu)
-            ∙ found-step (placeOf (f .unseen)) (unseenB s names n) (n + 1) (map (unseenHead s names) (heads (p .start) rest)) ∙ ap (λ l. foundIn (placeOf (f .unseen)) (map (unseenHead s names) l)) (sym all);
-        called = w .called ∙ ap (λ o. foundIn o (map (calledHead s rows k) (heads (p .start) rest))) (ec ∙ ap (λ b. earliest (placeOf (f .called)) b n) fc)
-            ∙ found-step (placeOf (f .called)) (calledB s rows k n) n (map (calledHead s rows k) (heads (p .start) rest)) ∙ ap (λ l. foundIn (placeOf (f .called)) (map (calledHead s rows k) l)) (sym all);
+        slotted = w .slotted ∙ ap (λ l. slotHeads s names l (rest)) es ∙ ap (slotHeads s names slots) (sym all);
+        unseen = w .unseen ∙ ap (λ o. foundIn o (map (unseenHead s names) (rest))) (eu ∙ ap (λ b. earliest (placeOf (f .unseen)) b (n + 1)) fu)
+            ∙ found-step (placeOf (f .unseen)) (unseenB s names n) (n + 1) (map (unseenHead s names) (rest)) ∙ ap (λ l. foundIn (placeOf (f .unseen)) (map (unseenHead s names) l)) (sym all);
+        called = w .called ∙ ap (λ o. foundIn o (map (calledHead s rows k) (rest))) (ec ∙ ap (λ b. earliest (placeOf (f .called)) b n) fc)
+            ∙ found-step (placeOf (f .called)) (calledB s rows k n) n (map (calledHead s rows k) (rest)) ∙ ap (λ l. foundIn (placeOf (f .called)) (map (calledHead s rows k) l)) (sym all);
         shaped =
-            let items = map (severalHead s rows nodes) (heads (p .start) rest) in
+            let items = map (severalHead s rows nodes) (rest) in
             let a = arityB s rows nodes n in
             w .shaped ∙ ap (λ o. foundIn o items) (eo ∙ ap (λ b. earliest (placeOf few) b n) (fo ∙ ap (otherB many) ev))
             ∙ found-step (placeOf few) (otherB many a) n items ∙ ap (λ o. foundIn o ((n, otherB many a) ∷ items)) (el ∙ ap (λ b. earliest (placeOf (f .shaped)) b at) (fl ∙ ap (loneB many) ev))
             ∙ found-step (placeOf (f .shaped)) (loneB many a) at ((n, otherB many a) ∷ items)
-            ∙ ap (λ m. foundIn (placeOf (f .shaped)) ((at, loneB many a) ∷ (n, otherB many a) ∷ map (severalHead s rows nodes) (heads m rest))) start;
+            ∙ ap (foundIn (placeOf (f .shaped))) (sym shapes);
       }
 
+-- the file ends before the right side
+pub root-out : {s names rows : List ℕ} {nodes k at many : ℕ} {slots : List ℕ} {f : Faults} → length s ≤ f .next → RootJudged s names rows nodes k at many slots slots f f
+unfolding slotHeads
+root-out {s} {names} {rows} {nodes} {k} {at} {many} {slots} {f} out =
+    let w = file-ends s 1 (f .next) out in
+    let n = f .next in
+    let none-there : rootShapes s rows nodes at many n ≡ [] =
+    ap (λ b. cond b ((at, loneB many (arityB s rows nodes n)) ∷ (n, otherB many (arityB s rows nodes n)) ∷ map (severalHead s rows nodes) (headsFrom s (partsAt s n) (nextAt s n))) []) (le-ltb n (length s) out) in
+    record {
+      next = sym (w .1);
+      slotted = ap (slotHeads s names slots) (sym (w .0));
+      again = refl;
+      unseen = sym (found-none (placeOf (f .unseen))) ∙ ap (λ l. foundIn (placeOf (f .unseen)) (map (unseenHead s names) l)) (sym (w .0));
+      called = sym (found-none (placeOf (f .called))) ∙ ap (λ l. foundIn (placeOf (f .called)) (map (calledHead s rows k) l)) (sym (w .0));
+      shaped = sym (found-none (placeOf (f .shaped))) ∙ ap (foundIn (placeOf (f .shaped))) (sym none-there);
+      sized = λ le. sym (min-cap (f .size) 65536 le) ∙ ap (λ l. min (f .size + sum (map (siteB s rows nodes) l)) 65536) (sym (w .0));
+    }
+
 -- ---- an equation
+
+pub equation-walked : {s names rows : List ℕ} {nodes k inputs many : ℕ} {slots slots₁ slots₂ defined defined₁ : List ℕ} {g d r : Faults} → Byte s (g .next) many → NamesDefined s names inputs many slots slots₁ defined defined₁ (atPlace g (g .next + 1)) d
+    → RootJudged s names rows nodes k (g .next) many slots₁ slots₂ d r → EquationWalked s names rows nodes k inputs slots slots₂ defined defined₁ g r
+equation-walked {s} {names} {rows} {nodes} {k} {inputs} {many} {slots} {slots₁} {slots₂} {defined} {defined₁} {g} {d} {r} b named rooted =
+    record {
+      middle = d;
+      between = slots₁;
+      named = subst (λ m. NamesDefined s names inputs m slots slots₁ defined defined₁ (atPlace g (g .next + 1)) d) (b .is) named;
+      rooted = subst (λ m. RootJudged s names rows nodes k (g .next) m slots₁ slots₂ d r) (b .is) rooted;
+    }
+
+-- the names xs, which stand where the walk stood, are defined
+record DefinedAs (names : List ℕ) (inputs : ℕ) (xs slots slots′ defined defined′ : List ℕ) (f r : Faults) : Type 0 where
+  next : r .next ≡ f .next + 2 * length xs
+  unseen : placeOf (r .unseen) ≡ foundIn (placeOf (f .unseen)) (map (entryItem names) (placedNames (f .next) xs))
+  again : placeOf (r .again) ≡ foundIn (placeOf (f .again)) (againB names inputs defined (placedNames (f .next) xs))
+  called : r .called ≡ f .called
+  shaped : r .shaped ≡ f .shaped
+  sized : r .size ≡ f .size
+  slotted : slots′ ≡ slotNames names slots (placedNames (f .next) xs)
+  marked : defined′ ≡ markAll names defined (placedNames (f .next) xs)
+
+define-told : {s names : List ℕ} {inputs many : ℕ} {slots slots′ defined defined′ : List ℕ} {f r : Faults} → NamesDefined s names inputs many slots slots′ defined defined′ f r → (xs : List ℕ) → length xs ≡ many → Names s 0 (f .next) xs
+    → DefinedAs names inputs xs slots slots′ defined defined′ f r
+define-told {s} {names} {inputs} {many} {slots} {slots′} {defined} {defined′} {f} {r} d xs e st =
+    let same : namesFrom s many (f .next) ≡ placedNames (f .next) xs = ap (λ n. namesFrom s n (f .next)) (sym e) ∙ names-listed xs st in
+    record {
+      next = omega (arith, d .next);
+      unseen = d .unseen ∙ ap (λ l. foundIn (placeOf (f .unseen)) (map (entryItem names) l)) same;
+      again = d .again ∙ ap (λ l. foundIn (placeOf (f .again)) (againB names inputs defined l)) same;
+      called = d .called;
+      shaped = d .shaped;
+      sized = d .sized;
+      slotted = d .slotted ∙ ap (slotNames names slots) same;
+      marked = d .marked ∙ ap (markAll names defined) same;
+    }
+
+-- the right side e of the equation at `at`, which has so many names
+record RootAs (s names rows : List ℕ) (nodes k at many : ℕ) (e : Expr) (slots slots′ : List ℕ) (f r : Faults) : Type 0 where
+  next : r .next ≡ f .next + exprSize e
+  slotted : slots′ ≡ slotHeads s names slots (heads (f .next) (cons e nil))
+  again : r .again ≡ f .again
+  unseen : placeOf (r .unseen) ≡ foundIn (placeOf (f .unseen)) (map (unseenHead s names) (heads (f .next) (cons e nil)))
+  called : placeOf (r .called) ≡ foundIn (placeOf (f .called)) (map (calledHead s rows k) (heads (f .next) (cons e nil)))
+  shaped : placeOf (r .shaped)
+      ≡ foundIn (placeOf (f .shaped)) ((at, loneB many (arityB s rows nodes (f .next))) ∷ (f .next, otherB many (arityB s rows nodes (f .next)))
+      ∷ map (severalHead s rows nodes) (heads (f .next + headSize e) (joined (partsOf e) nil)))
+  sized : Adds (f .size) (map (siteB s rows nodes) (heads (f .next) (cons e nil))) (r .size)
+
+root-told : {s names rows : List ℕ} {nodes k at many : ℕ} {slots slots′ : List ℕ} {f r : Faults} → RootJudged s names rows nodes k at many slots slots′ f r → (enums : ℕ) (e : Expr) → Standing s enums (f .next) (cons e nil)
+    → RootAs s names rows nodes k at many e slots slots′ f r
+root-told {s} {names} {rows} {nodes} {k} {at} {many} {slots} {slots′} {f} {r} w enums e st =
+    let n = f .next in
+    let hd = headed e nil st in
+    let same : headsFrom s 1 n ≡ heads n (cons e nil) = heads-stand {es = cons e nil} refl st in
+    let rest : headsFrom s (partsAt s n) (nextAt s n) ≡ heads (n + headSize e) (joined (partsOf e) nil) =
+    ap (headsFrom s (partsAt s n)) (next-told s n e (hd .inside) (hd .head))
+    ∙ heads-stand {es = joined (partsOf e) nil} (omega (arith, joined-count (partsOf e) nil, parts-told s n e (hd .head))) (hd .rest) in
+    let a = arityB s rows nodes n in
+    record {
+      next = w .next ∙ skip-stands {es = cons e nil} refl st ∙ omega arith;
+      slotted = w .slotted ∙ ap (slotHeads s names slots) same;
+      again = w .again;
+      unseen = w .unseen ∙ ap (λ l. foundIn (placeOf (f .unseen)) (map (unseenHead s names) l)) same;
+      called = w .called ∙ ap (λ l. foundIn (placeOf (f .called)) (map (calledHead s rows k) l)) same;
+      shaped = w .shaped ∙ ap (λ b. foundIn (placeOf (f .shaped)) (cond b ((at, loneB many a) ∷ (n, otherB many a) ∷ map (severalHead s rows nodes) (headsFrom s (partsAt s n) (nextAt s n))) [])) (lt-ltb n (length s) (hd .inside))
+          ∙ ap (λ l. foundIn (placeOf (f .shaped)) ((at, loneB many a) ∷ (n, otherB many a) ∷ map (severalHead s rows nodes) l)) rest;
+      sized = λ le. w .sized le ∙ ap (λ l. min (f .size + sum (map (siteB s rows nodes) l)) 65536) same;
+    }
+
+-- the equation q at `at`, in the file f and a node of so many inputs
+pub record EquationJudged (s names rows : List ℕ) (nodes : ℕ) (f : File) (visible : List ℕ) (bad : ℕ → ℕ → Bool) (inputs at : ℕ) (q : Equation) (slots slots′ defined defined′ : List ℕ) (g r : Faults) : Type 0 where
+  pub next : r .next ≡ at + equationSize q
+  pub unseen : placeOf (r .unseen) ≡ foundIn (placeOf (g .unseen)) (equationUses visible (at, q))
+  pub again : placeOf (r .again) ≡ foundIn (placeOf (g .again)) (againB names inputs defined (definedBy (at, q)))
+  pub called : placeOf (r .called) ≡ foundIn (placeOf (g .called)) (inEquation (callsWhere bad) (at, q))
+  pub shaped : placeOf (r .shaped) ≡ foundIn (placeOf (g .shaped)) (equationShape f (at, q))
+  pub slotted : slots′ ≡ slotEquation s names slots (at, q)
+  pub marked : defined′ ≡ markAll names defined (definedBy (at, q))
+  pub sized : Adds (g .size) (map (calleeB rows nodes) (equationSites q)) (r .size)
 
 joined-nil : (es : Exprs) → joined es nil ≡ es
 unfolding joined
@@ -194,23 +287,23 @@ entries-seen names visible knows [] = refl
 entries-seen names visible knows (p ∷ ps) =
     ap (λ b. (p .0, b) ∷ map (entryItem names) ps) (knows (p .1)) ∙ ap (λ l. unseenItem visible p ∷ l) (entries-seen names visible knows ps)
 
-module _ {s names rows : List ℕ} {nodes k many inputs : ℕ} (slots slots₁ slots₂ defined defined₁ : List ℕ) {g r : Faults} (d : Faults) (mb : Byte s (g .next) many)
-    (named : (xs : List ℕ) → length xs ≡ many → Names s 0 (g .next + 1) xs
-    → NamesDefined names inputs xs slots slots₁ defined defined₁ (record { unseen = g .unseen; again = g .again; called = g .called; shaped = g .shaped; size = g .size; next = g .next + 1 }) d)
-    (rooted : (enums : ℕ) (e : Expr) → Standing s enums (d .next) (cons e nil) → RootJudged s names rows nodes k (g .next) many e slots₁ slots₂ d r) where
+module _ {s names rows : List ℕ} {nodes k inputs : ℕ} {slots slots₂ defined defined₁ : List ℕ} {g r : Faults} (walked : EquationWalked s names rows nodes k inputs slots slots₂ defined defined₁ g r) where
   pub equation-judged : (t : File) (visible : List ℕ) (bad : ℕ → ℕ → Bool) (enums : ℕ) (q : Equation) → Context t k names rows nodes visible bad → EquationStands s enums (g .next) q
       → EquationJudged s names rows nodes t visible bad inputs (g .next) q slots slots₂ defined defined₁ g r
   unfolding slotEquation
   equation-judged t visible bad enums q ctx st =
       let at = g .next in
       let e = q .rhs in
-      let len : length (q .names) ≡ many = sym (mb .is ∙ st .count) in
-      let n = named (q .names) len (st .names) in
+      let d = walked .middle in
+      let slots₁ = walked .between in
+      let many = getD s (g .next) 0 in
+      let len : length (q .names) ≡ many = sym (st .count) in
+      let n = define-told (walked .named) (q .names) len (st .names) in
       let p = d .next in
       let place : rhsPlace at q ≡ p = omega (arith, n .next) in
       let right = subst (λ a. Standing s enums a (cons e nil)) place (st .rhs) in
       let f = flat right in
-      let w = rooted enums e right in
+      let w = root-told (walked .rooted) enums e right in
       let ps = placedNames (at + 1) (q .names) in
       let hd = headed e nil right .head in
       let ar : arityB s rows nodes p ≡ arity t (rhsOf e) = arity-is s rows nodes t (ctx .outputs) p e hd in
@@ -312,13 +405,13 @@ module _ {s names rows : List ℕ} {nodes : ℕ} {t : File} {visible : List ℕ}
     equation-at : i < length qs → PassedItem equationBytes (equationFits base enums) equationSize s (f .next) qs i (g .next) (getD qs i noEquation)
     equation-at lt = passing-item equation-size noEquation (w .passing) lt
 
-    pub equations-turn : i < length qs → (slots′ defined′ : List ℕ) (r : Faults) → ((q : Equation) → EquationStands s enums (g .next) q → EquationJudged s names rows nodes t visible bad inputs (g .next) q slots slots′ defined defined′ g r)
+    pub equations-turn : i < length qs → (slots′ defined′ : List ℕ) (r : Faults) → {k : ℕ} → Context t k names rows nodes visible bad → EquationWalked s names rows nodes k inputs slots slots′ defined defined′ g r
         → EquationsGoing s names rows nodes t visible bad inputs enums qs slots₀ defined₀ f slots′ defined′ r (i + 1)
     unfolding slotEquations
-    equations-turn lt slots′ defined′ r judged =
+    equations-turn lt slots′ defined′ r ctx walked =
         let it = equation-at lt in
         let q = getD qs i noEquation in
-        let j = judged q (equation-stands q (it .fit) (it .here)) in
+        let j = equation-judged walked t visible bad enums q ctx (equation-stands q (it .fit) (it .here)) in
         let on = placed-on equationSize noEquation qs i (g .next) lt in
         record {
           passing = subst (EquationPassing s enums (f .next) qs (i + 1)) (sym (j .next)) (it .on);

@@ -1,12 +1,11 @@
 -- The tests at a head, arm by arm.
 use Prim.Native.Nat.{ℕ, _+_, _-_, _*_, _≤_, _<_}
-use mathlib.Core.Bool.{Bool, true, false, not, _&&_, _||_, cond}
+use mathlib.Core.Bool.{Bool, true, false, not}
 use mathlib.Core.List.{List}
-use mathlib.Core.Path.{_≡_, refl, sym, ap, _∙_}
-use native.Mathlib.Omega.{arith}
+use mathlib.Core.Path.{_≡_, refl, sym, _∙_}
 use lib.ListN.{getD, set}
 use lib.Dec.{ltb, eqb}
-use borrow.Author.Tests.{lt-ltb, le-ltb, eq-eqb, ne-eqb}
+use borrow.Author.Tests.{lt-ltb, le-ltb, ne-eqb}
 use Rattle.ol_tables.specs.Tables.{rowAt}
 use Rattle.ol_tables.specs.Heads.{nameAt}
 use Rattle.ol_tables.specs.Heads.{Byte}

@@ -1,6 +1,6 @@
 -- A node: its variables entered and taken back, and its equations judged.
 use Prim.Native.Nat.{ℕ, zero, suc, _+_, _-_, _*_, _≤_, _<_, min}
-use mathlib.Core.Bool.{Bool, false, not, _&&_}
+use mathlib.Core.Bool.{false, not, _&&_}
 use mathlib.Core.List.{List, [], _∷_, _++_, map, map-append}
 use mathlib.Core.Logic.{by-cases}
 use mathlib.Core.Path.{_≡_, refl, sym, ap, subst, _∙_}
@@ -13,7 +13,7 @@ use mathlib.Core.Option.{Option}
 use lib.Dec.{ltb, eqb}
 use borrow.Author.Tests.{lt-ltb, le-ltb}
 use Rattle.ol_spec.specs.Lists.{sum, concat}
-use Rattle.ol_spec.specs.Syntax.{NodeKind, Function, Operator, Imported, Variable, Equation, Node, File, variables, variableNames, nameOf, noNode}
+use Rattle.ol_spec.specs.Syntax.{NodeKind, Function, Operator, Imported, Variable, Node, File, variables, variableNames, nameOf, noNode}
 use Rattle.ol_spec.specs.Places.{variableSize, outputsStart, localsStart, equationsStart, placedNodes, placed, equationSize, nodeSize, nodesStart}
 use Rattle.ol_spec.specs.Encode.{kindCode, variableBytes, equationBytes}
 use Rattle.ol_spec.specs.Limits.{base}
@@ -25,7 +25,7 @@ use Rattle.ol_check.proofs.WalkLoop.{found-none, found-append}
 use Rattle.ol_check.proofs.EntryLoops.{Entered, Forgotten}
 use Rattle.ol_tables.specs.At.{fileAt}
 use Rattle.ol_tables.specs.Tables.{rowAt, nodeOf, Each}
-use Rattle.ol_tables.specs.Stands.{Listed, Variables, Equations, NodeStands, FileStands}
+use Rattle.ol_tables.specs.Stands.{Listed, Variables, NodeStands, FileStands}
 use Rattle.ol_tables.proofs.HeadsFile.{node-at}
 use Rattle.ol_check.specs.Founds.{placeOf}
 use Rattle.ol_tables.specs.Heads.{Byte}

@@ -17,7 +17,7 @@ use Rattle.ol_spec.specs.Encode.{nameBytes, sectionBytes, variableBytes}
 use Rattle.ol_spec.specs.Limits.{base}
 use Rattle.ol_spec.specs.Within.{countFits, nameFits, enumFits, variableFits}
 use Rattle.ol_spec.proofs.Tests.{T-and}
-use Rattle.ol_spec.proofs.RoundTrip.Parts.{Here, here-front, here-back, here-inside}
+use Rattle.ol_spec.proofs.RoundTrip.Parts.{Here, here-front, here-back}
 use Rattle.ol_spec.proofs.RoundTrip.Items.{names-size, variable-size}
 use Rattle.ol_tables.specs.Tables.{rowAt, firstAt, placeOf, nodeOf}
 use Rattle.ol_tables.specs.Heads.{nameAt, tySizeAt, tyEnumAt, TyIs}

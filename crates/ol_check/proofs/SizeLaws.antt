@@ -1,17 +1,16 @@
 -- Fault 14, and the length of a call site's record.
-use Prim.Native.Nat.{ℕ, zero, suc, _+_, _-_, _*_, _≤_, _<_, min}
-use mathlib.Core.Bool.{Bool, true, false, not, _&&_, cond}
+use Prim.Native.Nat.{ℕ, zero, suc, _+_, _-_, _≤_, _<_}
+use mathlib.Core.Bool.{true, false, not, cond}
 use mathlib.Core.List.{List, [], _∷_, map}
-use mathlib.Core.Option.{Option, none, some}
-use mathlib.Core.Path.{_≡_, refl, sym, ap, subst, _∙_}
+use mathlib.Core.Option.{none, some}
+use mathlib.Core.Path.{_≡_, refl, sym, ap, _∙_}
 use native.Mathlib.Omega.{arith}
 use native.Mathlib.Nat.{add-zero}
 use lib.ListN.{length, getD}
-use lib.Dec.{ltb, eqb}
 use borrow.Author.Tests.{lt-ltb, le-ltb, ne-eqb}
 use Rattle.ol_spec.specs.Lists.{sum}
-use Rattle.ol_spec.specs.Syntax.{NodeKind, Function, Operator, Imported, Node, File, noNode, lastOf, main}
-use Rattle.ol_spec.specs.Places.{placedNodes, placed, nodeSize, nodesStart, mainPlace}
+use Rattle.ol_spec.specs.Syntax.{NodeKind, Function, Operator, Imported, Node, noNode, lastOf, main}
+use Rattle.ol_spec.specs.Places.{placedNodes, nodeSize, nodesStart, mainPlace}
 use Rattle.ol_spec.specs.Encode.{kindCode}
 use Rattle.ol_spec.specs.Admission.{isOperator, atMain, fault14}
 use Rattle.ol_spec.proofs.Admitted.{length-placed}

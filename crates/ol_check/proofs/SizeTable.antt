@@ -35,7 +35,7 @@ use Rattle.ol_tables.specs.Heads.{Byte}
 use Rattle.ol_check.specs.RowsDone.{NodeRow}
 use Rattle.ol_check.specs.NodesJudged.{RowsReady}
 use Rattle.ol_check.specs.Records.{calleeB, instanceB, recordBy}
-use Rattle.ol_check.specs.Sizes.{SizesDone, MainSized, NodesSized, sizeNode, sizeNodes, lastSize}
+use Rattle.ol_check.specs.Sizes.{SizesDone, StateSized, NodesSized, sizeNode, sizeNodes, lastSize}
 use Rattle.ol_check.proofs.TabLaws.{row-of}
 use Rattle.ol_check.proofs.SizeLaws.{the-main}
 
@@ -186,11 +186,14 @@ cap-right : (a i c : ℕ) → min (a + min i c) c ≡ min (a + i) c
 cap-right a i c = omega arith
 
 module _ {s : List ℕ} {constants : ℕ} (bytes : Bytes s) (reads : FileReads s) (counted : constants + 1 ≡ constantsStart (fileAt s)) where
-  pub state-sized : (c m r : ℕ) → Byte s constants c → r ≡ min (9 * c + m) 65536 → MainSized (fileAt s) m → r ≡ min (stateSize (fileAt s)) 65536
+  pub state-sized : (c m r : ℕ) → Byte s constants c → r ≡ min (9 * c + m) 65536 → StateSized (fileAt s) m r
   unfolding stateSize
-  state-sized c m r bc er em =
+  state-sized c m r bc er =
       let f = fileAt s in
       let size = instanceSize (sizesAt (length (f .nodes)) (f .nodes)) (main f) in
       let st = file-stands bytes reads in
       let many : c ≡ length (f .constants) = bc .is ∙ ap (λ p. getD s p 0) (omega (arith, counted)) ∙ st .constantCount in
-      er ∙ ap (λ n. min (9 * c + n) 65536) em ∙ cap-right (9 * c) size 65536 ∙ ap (λ n. min (9 * n + size) 65536) many
+      record {
+        is = er ∙ ap (λ n. min (9 * n + m) 65536) many;
+        sized = λ em. er ∙ ap (λ n. min (9 * c + n) 65536) em ∙ cap-right (9 * c) size 65536 ∙ ap (λ n. min (9 * n + size) 65536) many;
+      }

@@ -1,12 +1,11 @@
 -- The slots that a file's walk leaves: every name of every equation has the slot of its entry in its node's table.
-use Prim.Native.Nat.{ℕ, zero, suc, _+_, _-_, _*_, _≤_, _<_}
-use mathlib.Core.List.{List, [], _∷_, _++_, map}
-use mathlib.Core.Path.{_≡_, refl, sym, ap, subst, _∙_}
+use Prim.Native.Nat.{ℕ, _+_, _-_, _≤_, _<_}
+use mathlib.Core.List.{List, [], _∷_, map}
+use mathlib.Core.Path.{_≡_, refl, _∙_}
 use native.Mathlib.Omega.{arith}
 use lib.ListN.{length, getD}
 use Rattle.ol_spec.specs.Lists.{sum}
 use Rattle.ol_spec.specs.Syntax.{Equation, Node, File, noNode}
-use mathlib.Core.Bool.{false}
 use Rattle.ol_spec.specs.Step.{noEquation}
 use Rattle.ol_spec.specs.Places.{equationSize, nodeSize, placed, placedEquations, placedNodes, equationsStart, nodesStart}
 use Rattle.ol_spec.specs.Encode.{equationBytes, nodeBytes}

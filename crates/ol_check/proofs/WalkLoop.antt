@@ -1,13 +1,11 @@
 -- The walk over expressions, head by head: what is left to be judged.
-use Prim.Native.Nat.{ℕ, _+_, _-_, _≤_, _<_, min}
+use Prim.Native.Nat.{ℕ, zero, suc, _+_, _-_, _≤_, _<_, min}
 use mathlib.Core.Bool.{Bool, true, false, not, _&&_, cond}
 use mathlib.Core.List.{List, [], _∷_, _++_, map}
 use mathlib.Core.Option.{Option, none, some}
 use mathlib.Core.Path.{_≡_, refl, sym, ap, _∙_}
 use native.Mathlib.Omega.{arith}
-use native.Mathlib.Decide.{decLe}
-use mathlib.Core.Logic.{by-cases}
-use lib.ListN.{getD}
+use lib.ListN.{length, getD}
 use lib.Dec.{ltb, eqb}
 use borrow.Author.Tests.{ne-eqb, eqb-false, ltb-true}
 use Rattle.ol_spec.proofs.Walks.{first-append}
@@ -15,16 +13,16 @@ use Rattle.ol_spec.specs.Lists.{sum}
 use Rattle.ol_spec.specs.Syntax.{Exprs, nil, cons, count}
 use Rattle.ol_spec.specs.Places.{exprsSize, collectAll}
 use Rattle.ol_spec.specs.Admission.{Item}
-use Rattle.ol_tables.specs.Heads.{nameAt, partsOf, joined, Standing}
-use Rattle.ol_tables.proofs.HeadLaws.{walk-head, next-told}
+use Rattle.ol_tables.specs.Heads.{nameAt, partsOf, headSize, partsAt, nextAt, joined, Standing}
+use Rattle.ol_tables.proofs.HeadLaws.{walk-head, next-told, parts-told, headed, head-some, joined-count}
+use Rattle.ol_tables.proofs.Skipping.{walk-none, walk-end, walk-many, walk-next, walk-turn as step, standing-few, skip-stands}
 use Rattle.ol_check.specs.Founds.{placeOf, earliest}
-use Rattle.ol_tables.specs.Walks.{HeadOf}
+use Rattle.ol_tables.specs.Walks.{HeadOf, walkBy, skipAt}
 use Rattle.ol_check.specs.Records.{siteB, calleeB}
-use Rattle.ol_check.specs.Judging.{headAt, heads, plainB, unseenB, unseenHead, slotPut, slotHead, slotHeads, badB, outputsB, calledB, calledHead, arityB, severalHead, foundIn, Walked}
+use Rattle.ol_check.specs.Judging.{headAt, heads, plainB, unseenB, unseenHead, slotPut, slotHead, slotHeads, badB, outputsB, calledB, calledHead, arityB, severalHead, foundIn, Adds, headsFrom, Walked}
 use Rattle.ol_check.specs.declared.Found.{Found}
 use Rattle.ol_tables.specs.declared.heads.Parts.{Parts}
 use Rattle.ol_check.specs.declared.Faults.{Faults}
-use Rattle.ol_tables.proofs.Walking.{Going, going-start, Turn, going-turn, going-on, going-done}
 
 -- an item is judged
 pub found-step : (o : Option ℕ) (b : Bool) (q : ℕ) (is : List Item) → foundIn (earliest o b q) is ≡ foundIn o ((q, b) ∷ is)
@@ -53,25 +51,28 @@ plain-code s p t = go (eqb (getD s p 0) 4) (ltb (getD s p 0) 11) refl refl t
     go false false ea eb t = let z : _≡_ {A = ℕ} 0 1 = cc in absurd (omega arith)
     go false true ea eb t = (eqb-false (getD s p 0) 4 ea, ltb-true (getD s p 0) 11 eb)
 
-module _ {s : List ℕ} {enums at : ℕ} {es : Exprs} {left next : ℕ} (g : Going s enums at es left next) (t : Turn g) (p : Parts) (h : HeadOf s next p) where
-  -- the heads that are left, after the first
-  pub heads-on : heads next (g .rest) ≡ next ∷ heads (p .start) (going-on g t p h .rest)
-  unfolding going-on
-  heads-on =
-      let e = t .expr in
-      let o = t .others in
-      ap (heads next) (t .are) ∙ walk-head headAt next e o
-      ∙ ap (λ n. next ∷ heads n (joined (partsOf e) o)) (sym (h .next ∙ next-told s next e (t .headed .inside) (t .headed .head)))
-
 pub heads-none : (at : ℕ) (es : Exprs) → count es ≡ 0 → heads at es ≡ []
 unfolding collectAll
 heads-none at nil e = refl
 heads-none at (cons x es) e = absurd (omega arith)
 
-pub zero-left : {n : ℕ} (left : ℕ) → (0 < left → ⊥) → n ≡ left → n ≡ 0
-zero-left left over e = by-cases (decLe left 0) (λ h. omega arith) (λ h. absurd (over (omega arith)))
+-- expressions that stand there
+heads-standing : (n : ℕ) (s : List ℕ) (enums at : ℕ) (es : Exprs) → length s - at ≤ n → Standing s enums at es → walkBy (λ p r. p ∷ r) (λ p. []) s n (count es) at ≡ heads at es
+heads-standing zero s enums at nil h st = walk-none _ _ s 0 0 at (omega arith) ∙ sym (heads-none at nil refl)
+heads-standing zero s enums at (cons e es) h st = let i = headed e es st .inside in absurd (omega arith)
+heads-standing (suc n) s enums at nil h st = walk-none _ _ s (suc n) 0 at (omega arith) ∙ sym (heads-none at nil refl)
+heads-standing (suc n) s enums at (cons e es) h st =
+    let d = headed e es st in
+    let k : count es + partsAt s at ≡ count (joined (partsOf e) es) = omega (arith, parts-told s at e (d .head), joined-count (partsOf e) es) in
+    walk-next _ _ s n (count es) at (d .inside) (omega (arith, standing-few (cons e es) st (omega arith)))
+    ∙ ap (λ l. at ∷ l)
+    (ap (λ m. walkBy (λ p r. p ∷ r) (λ p. []) s n m (nextAt s at)) k ∙ ap (walkBy (λ p r. p ∷ r) (λ p. []) s n (count (joined (partsOf e) es))) (next-told s at e (d .inside) (d .head))
+    ∙ heads-standing n s enums (at + headSize e) (joined (partsOf e) es) (omega (arith, head-some e)) (d .rest))
+    ∙ sym (walk-head headAt at e es)
 
--- sums up to a cap
+pub heads-stand : {s : List ℕ} {enums at : ℕ} {es : Exprs} {n : ℕ} → count es ≡ n → Standing s enums at es → headsFrom s n at ≡ heads at es
+heads-stand {s} {enums} {at} {es} e st = ap (λ n. headsFrom s n at) (sym e) ∙ heads-standing (length s) s enums at es (omega arith) st
+
 pub min-add : (a b r c : ℕ) → min (min (a + b) c + r) c ≡ min (a + (b + r)) c
 min-add a b r c = omega arith
 
@@ -82,55 +83,57 @@ min-cap a c le = omega arith
 abbrev pub Adding : ℕ → List ℕ → ℕ → List ℕ → Type 0
 Adding start xs size rest = start ≤ 65536 → (size ≤ 65536) × (min (size + sum rest) 65536 ≡ min (start + sum xs) 65536)
 
--- of the expressions es at `at`, those at `next` are left to be judged
-pub record WalkGoing (s names rows : List ℕ) (nodes k enums : ℕ) (es : Exprs) (at : ℕ) (slots₀ : List ℕ) (u₀ c₀ h₀ : Found) (z₀ : ℕ) (slots : List ℕ) (u c h : Found) (z left next : ℕ) : Type 0 where
-  pub going : Going s enums at es left next
-  pub slotted : slotHeads s names slots (heads next (going .rest)) ≡ slotHeads s names slots₀ (heads at es)
-  pub unseen : foundIn (placeOf u) (map (unseenHead s names) (heads next (going .rest))) ≡ foundIn (placeOf u₀) (map (unseenHead s names) (heads at es))
-  pub called : foundIn (placeOf c) (map (calledHead s rows k) (heads next (going .rest))) ≡ foundIn (placeOf c₀) (map (calledHead s rows k) (heads at es))
-  pub shaped : foundIn (placeOf h) (map (severalHead s rows nodes) (heads next (going .rest))) ≡ foundIn (placeOf h₀) (map (severalHead s rows nodes) (heads at es))
-  pub sized : Adding z₀ (map (siteB s rows nodes) (heads at es)) z (map (siteB s rows nodes) (heads next (going .rest)))
+-- of so many expressions at `at`, those at `next` are left to be judged
+pub record WalkGoing (s names rows : List ℕ) (nodes k parts at : ℕ) (slots₀ : List ℕ) (u₀ c₀ h₀ : Found) (z₀ : ℕ) (slots : List ℕ) (u c h : Found) (z left next : ℕ) : Type 0 where
+  pub ends : skipAt s left next ≡ skipAt s parts at
+  pub slotted : slotHeads s names slots (headsFrom s left next) ≡ slotHeads s names slots₀ (headsFrom s parts at)
+  pub unseen : foundIn (placeOf u) (map (unseenHead s names) (headsFrom s left next)) ≡ foundIn (placeOf u₀) (map (unseenHead s names) (headsFrom s parts at))
+  pub called : foundIn (placeOf c) (map (calledHead s rows k) (headsFrom s left next)) ≡ foundIn (placeOf c₀) (map (calledHead s rows k) (headsFrom s parts at))
+  pub shaped : foundIn (placeOf h) (map (severalHead s rows nodes) (headsFrom s left next)) ≡ foundIn (placeOf h₀) (map (severalHead s rows nodes) (headsFrom s parts at))
+  pub sized : Adding z₀ (map (siteB s rows nodes) (headsFrom s parts at)) z (map (siteB s rows nodes) (headsFrom s left next))
 
-module _ {s names rows : List ℕ} {nodes k enums : ℕ} {es : Exprs} {at : ℕ} {slots₀ : List ℕ} {u₀ c₀ h₀ : Found} {z₀ : ℕ} where
-  pub walk-start : {n : ℕ} → count es ≡ n → Standing s enums at es → WalkGoing s names rows nodes k enums es at slots₀ u₀ c₀ h₀ z₀ slots₀ u₀ c₀ h₀ z₀ n at
-  unfolding going-start
-  walk-start e st = record { going = going-start e st; slotted = refl; unseen = refl; called = refl; shaped = refl; sized = λ le. (le, refl) }
+module _ {s names rows : List ℕ} {nodes k parts at : ℕ} {slots₀ : List ℕ} {u₀ c₀ h₀ : Found} {z₀ : ℕ} where
+  pub walk-start : WalkGoing s names rows nodes k parts at slots₀ u₀ c₀ h₀ z₀ slots₀ u₀ c₀ h₀ z₀ parts at
+  walk-start = record { ends = refl; slotted = refl; unseen = refl; called = refl; shaped = refl; sized = λ le. (le, refl) }
 
-  module _ {slots : List ℕ} {u c h : Found} {z left next : ℕ} (g : WalkGoing s names rows nodes k enums es at slots₀ u₀ c₀ h₀ z₀ slots u c h z left next) where
-    module _ (lt : 0 < left) (p : Parts) (hp : HeadOf s next p) where
+  module _ {slots : List ℕ} {u c h : Found} {z left next : ℕ} (g : WalkGoing s names rows nodes k parts at slots₀ u₀ c₀ h₀ z₀ slots u c h z left next) where
+    module _ (lt : 0 < left) (inside : next < length s) (room : left ≤ length s) (p : Parts) (hp : HeadOf s next p) where
+      on : headsFrom s left next ≡ next ∷ headsFrom s (left - 1 + p .count) (p .start)
+      on = step (λ q r. q ∷ r) (λ q. []) s left next lt inside room (hp .parts) (hp .next)
+
       -- one kind of item, after the first head
-      step-found : (item : ℕ → Item) (o o′ z : Option ℕ) (b : Bool) (q : ℕ) → item next ≡ (q, b) → o′ ≡ earliest o b q → foundIn o (map item (heads next (g .going .rest))) ≡ z
-          → foundIn o′ (map item (heads (p .start) (going-on (g .going) (going-turn (g .going) lt) p hp .rest))) ≡ z
+      step-found : (item : ℕ → Item) (o o′ z : Option ℕ) (b : Bool) (q : ℕ) → item next ≡ (q, b) → o′ ≡ earliest o b q → foundIn o (map item (headsFrom s left next)) ≡ z
+          → foundIn o′ (map item (headsFrom s (left - 1 + p .count) (p .start))) ≡ z
       step-found item o o′ z b q ei eo ez =
-          let r = map item (heads (p .start) (going-on (g .going) (going-turn (g .going) lt) p hp .rest)) in
+          let r = map item (headsFrom s (left - 1 + p .count) (p .start)) in
           ap (λ x. foundIn x r) eo ∙ found-step o b q r
           ∙ ap (λ i. foundIn o (i ∷ r)) (sym ei)
-          ∙ ap (λ l. foundIn o (map item l)) (sym (heads-on (g .going) (going-turn (g .going) lt) p hp)) ∙ ez
+          ∙ ap (λ l. foundIn o (map item l)) (sym on) ∙ ez
 
       pub walk-turn : (slots′ : List ℕ) (u′ c′ h′ : Found) (bu bc : Bool) (n x z′ : ℕ) → slots′ ≡ slotHead s names slots next
           → placeOf u′ ≡ earliest (placeOf u) bu (next + 1) → bu ≡ unseenB s names next → placeOf c′ ≡ earliest (placeOf c) bc next → bc ≡ calledB s rows k next
           → placeOf h′ ≡ earliest (placeOf h) (ltb 1 n) next → n ≡ arityB s rows nodes next → (z ≤ 65536 → z′ ≡ min (z + x) 65536) → x ≡ siteB s rows nodes next
-          → WalkGoing s names rows nodes k enums es at slots₀ u₀ c₀ h₀ z₀ slots′ u′ c′ h′ z′ (left - 1 + p .count) (p .start)
+          → WalkGoing s names rows nodes k parts at slots₀ u₀ c₀ h₀ z₀ slots′ u′ c′ h′ z′ (left - 1 + p .count) (p .start)
       unfolding slotHeads
       walk-turn slots′ u′ c′ h′ bu bc n x z′ es′ eu fu ec fc eh fh ez fz =
           record {
-            going = going-on (g .going) (going-turn (g .going) lt) p hp;
-            slotted = ap (λ l. slotHeads s names l (heads (p .start) (going-on (g .going) (going-turn (g .going) lt) p hp .rest))) es′
-                ∙ ap (slotHeads s names slots) (sym (heads-on (g .going) (going-turn (g .going) lt) p hp)) ∙ g .slotted;
+            ends = sym (step (λ q r. r) (λ q. q) s left next lt inside room (hp .parts) (hp .next)) ∙ g .ends;
+            slotted = ap (λ l. slotHeads s names l (headsFrom s (left - 1 + p .count) (p .start))) es′
+                ∙ ap (slotHeads s names slots) (sym on) ∙ g .slotted;
             unseen = step-found (unseenHead s names) (placeOf u) _ _ _ _ refl (eu ∙ ap (λ b. earliest (placeOf u) b (next + 1)) fu) (g .unseen);
             called = step-found (calledHead s rows k) (placeOf c) _ _ _ _ refl (ec ∙ ap (λ b. earliest (placeOf c) b next) fc) (g .called);
             shaped = step-found (severalHead s rows nodes) (placeOf h) _ _ _ _ refl (eh ∙ ap (λ n. earliest (placeOf h) (ltb 1 n) next) fh) (g .shaped);
             sized = λ le.
                 let w = g .sized le in
-                let r = sum (map (siteB s rows nodes) (heads (p .start) (going-on (g .going) (going-turn (g .going) lt) p hp .rest))) in (
+                let r = sum (map (siteB s rows nodes) (headsFrom s (left - 1 + p .count) (p .start))) in (
                   omega (arith, ez (w .0)),
                   ap (λ n. min (n + r) 65536) (ez (w .0) ∙ ap (λ y. min (z + y) 65536) fz) ∙ min-add z (siteB s rows nodes next) r 65536
-                      ∙ ap (λ l. min (z + sum (map (siteB s rows nodes) l)) 65536) (sym (heads-on (g .going) (going-turn (g .going) lt) p hp)) ∙ w .1,
+                      ∙ ap (λ l. min (z + sum (map (siteB s rows nodes) l)) 65536) (sym on) ∙ w .1,
                 );
           }
 
       -- at a plain head nothing changes
-      pub walk-plain : plainB s next ≡ true → WalkGoing s names rows nodes k enums es at slots₀ u₀ c₀ h₀ z₀ slots u c h z (left - 1 + p .count) (p .start)
+      pub walk-plain : plainB s next ≡ true → WalkGoing s names rows nodes k parts at slots₀ u₀ c₀ h₀ z₀ slots u c h z (left - 1 + p .count) (p .start)
       walk-plain t =
           let w = plain-code s next t in
           let no4 : eqb (getD s next 0) 4 ≡ false = ne-eqb (getD s next 0) 4 (w .0) in
@@ -143,14 +146,13 @@ module _ {s names rows : List ℕ} {nodes k enums : ℕ} {es : Exprs} {at : ℕ}
           (earliest-not (placeOf h) next) (sym (ap (λ b. cond b (getD s (next + 1) 0) (cond (eqb (getD s next 0) 11) (outputsB rows nodes (getD s (next + 1) 0)) 1)) no12 ∙ ap (λ b. cond b (outputsB rows nodes (getD s (next + 1) 0)) 1) no11))
           (λ le. sym (min-cap z 65536 le)) (sym (ap (λ b. sum (map (calleeB rows nodes) (cond b (getD s (next + 1) 0 ∷ []) []))) no11))
 
-    pub walk-done : (f r : Faults) → (0 < left → ⊥) → f .next ≡ at → f .unseen ≡ u₀ → f .called ≡ c₀ → f .shaped ≡ h₀ → f .size ≡ z₀ → r .again ≡ f .again → r .next ≡ next → r .unseen ≡ u → r .called ≡ c → r .shaped ≡ h → r .size ≡ z
-        → Walked s names rows nodes k es slots₀ slots f r
+    pub walk-done : (f r : Faults) → headsFrom s left next ≡ [] → skipAt s left next ≡ next → f .next ≡ at → f .unseen ≡ u₀ → f .called ≡ c₀ → f .shaped ≡ h₀ → f .size ≡ z₀ → r .again ≡ f .again → r .next ≡ next → r .unseen ≡ u → r .called ≡ c → r .shaped ≡ h → r .size ≡ z
+        → Walked s names rows nodes k parts slots₀ slots f r
     unfolding slotHeads
-    walk-done f r over ea eu₀ ec₀ eh₀ ez₀ eg en eu ec eh ez =
-        let empty : heads next (g .going .rest) ≡ [] = heads-none next (g .going .rest) (zero-left left over (g .going .many)) in
+    walk-done f r empty end ea eu₀ ec₀ eh₀ ez₀ eg en eu ec eh ez =
         record {
-          next = en ∙ going-done (g .going) over ∙ ap (λ a. a + exprsSize es) (sym ea);
-          slotted = ap (slotHeads s names slots) (sym empty) ∙ g .slotted ∙ ap (λ a. slotHeads s names slots₀ (heads a es)) (sym ea);
+          next = en ∙ sym end ∙ g .ends ∙ ap (skipAt s parts) (sym ea);
+          slotted = ap (slotHeads s names slots) (sym empty) ∙ g .slotted ∙ ap (λ a. slotHeads s names slots₀ (headsFrom s parts a)) (sym ea);
           again = eg;
           unseen = rw (eu, eu₀, ea) (sym (found-none (placeOf u)) ∙ ap (λ l. foundIn (placeOf u) (map (unseenHead s names) l)) (sym empty) ∙ g .unseen);
           called = rw (ec, ec₀, ea) (sym (found-none (placeOf c)) ∙ ap (λ l. foundIn (placeOf c) (map (calledHead s rows k) l)) (sym empty) ∙ g .called);
@@ -158,5 +160,40 @@ module _ {s names rows : List ℕ} {nodes k enums : ℕ} {es : Exprs} {at : ℕ}
           sized = λ le.
               let w = g .sized (omega (arith, ez₀, le)) in
               ez ∙ sym (min-cap z 65536 (w .0)) ∙ ap (λ l. min (z + sum (map (siteB s rows nodes) l)) 65536) (sym empty) ∙ w .1
-              ∙ ap (λ m. min (m + sum (map (siteB s rows nodes) (heads at es))) 65536) (sym ez₀) ∙ ap (λ a. min (f .size + sum (map (siteB s rows nodes) (heads a es))) 65536) (sym ea);
+              ∙ ap (λ m. min (m + sum (map (siteB s rows nodes) (headsFrom s parts at))) 65536) (sym ez₀) ∙ ap (λ a. min (f .size + sum (map (siteB s rows nodes) (headsFrom s parts a))) 65536) (sym ea);
         }
+
+-- the three ways to the end: none is left, the file ends, or more are left than the file has bytes
+module _ (s : List ℕ) (left next : ℕ) where
+  pub none-left : left ≤ 0 → (headsFrom s left next ≡ []) × (skipAt s left next ≡ next)
+  none-left le = (walk-none _ _ s (length s) left next le, walk-none _ _ s (length s) left next le)
+
+  pub file-ends : length s ≤ next → (headsFrom s left next ≡ []) × (skipAt s left next ≡ next)
+  file-ends out = (walk-end _ _ s (length s) left next out, walk-end _ _ s (length s) left next out)
+
+  pub too-many : length s < left → (headsFrom s left next ≡ []) × (skipAt s left next ≡ next)
+  too-many over = (walk-many _ _ s (length s) left next over, walk-many _ _ s (length s) left next over)
+
+-- the expressions es, which stand where the walk stood, are judged
+pub record WalkedAs (s names rows : List ℕ) (nodes k : ℕ) (es : Exprs) (slots slots′ : List ℕ) (f r : Faults) : Type 0 where
+  pub next : r .next ≡ f .next + exprsSize es
+  pub slotted : slots′ ≡ slotHeads s names slots (heads (f .next) es)
+  pub again : r .again ≡ f .again
+  pub unseen : placeOf (r .unseen) ≡ foundIn (placeOf (f .unseen)) (map (unseenHead s names) (heads (f .next) es))
+  pub called : placeOf (r .called) ≡ foundIn (placeOf (f .called)) (map (calledHead s rows k) (heads (f .next) es))
+  pub shaped : placeOf (r .shaped) ≡ foundIn (placeOf (f .shaped)) (map (severalHead s rows nodes) (heads (f .next) es))
+  pub sized : Adds (f .size) (map (siteB s rows nodes) (heads (f .next) es)) (r .size)
+
+pub walk-told : {s names rows : List ℕ} {nodes k parts : ℕ} {slots slots′ : List ℕ} {f r : Faults} → Walked s names rows nodes k parts slots slots′ f r → (enums : ℕ) (es : Exprs) → count es ≡ parts → Standing s enums (f .next) es
+    → WalkedAs s names rows nodes k es slots slots′ f r
+walk-told {s} {names} {rows} {nodes} {k} {parts} {slots} {slots′} {f} {r} w enums es e st =
+    let same = heads-stand e st in
+    record {
+      next = w .next ∙ skip-stands e st;
+      slotted = w .slotted ∙ ap (slotHeads s names slots) same;
+      again = w .again;
+      unseen = w .unseen ∙ ap (λ l. foundIn (placeOf (f .unseen)) (map (unseenHead s names) l)) same;
+      called = w .called ∙ ap (λ l. foundIn (placeOf (f .called)) (map (calledHead s rows k) l)) same;
+      shaped = w .shaped ∙ ap (λ l. foundIn (placeOf (f .shaped)) (map (severalHead s rows nodes) l)) same;
+      sized = λ le. w .sized le ∙ ap (λ l. min (f .size + sum (map (siteB s rows nodes) l)) 65536) same;
+    }

@@ -11,21 +11,19 @@ use Rattle.ol_spec.specs.Encode.{constantBytes}
 use Rattle.ol_spec.specs.Limits.{base}
 use Rattle.ol_spec.specs.Within.{constantFits}
 use Rattle.ol_spec.specs.Admission.{valuePlace, constantUses, inConstant, callsWhere, shapeItem, calleeIn}
+use Rattle.ol_tables.specs.Heads.{nameAt}
 use Rattle.ol_tables.specs.Tables.{Each}
 use Rattle.ol_tables.specs.Stands.{Listed}
 use Rattle.ol_check.specs.Founds.{placeOf}
 use Rattle.ol_check.specs.Entries.{declared, declareAll, constantEntries}
-use Rattle.ol_check.specs.Judging.{heads, slotHeads, outputsB, foundIn, Knows, Walked}
+use Rattle.ol_check.specs.Spans.{behindVariable}
+use Rattle.ol_check.specs.Judging.{heads, slotHeads, outputsB, foundIn, Knows, Walked, atPlace}
 use Rattle.ol_check.specs.declared.Faults.{Faults}
 
--- the walk at a place
-abbrev pub walkAt : Faults → ℕ → Faults
-walkAt f p = record { unseen = f .unseen; again = f .again; called = f .called; shaped = f .shaped; size = f .size; next = p }
-
--- constant number i, where the walk stands
-pub record ConstantJudged (s names rows : List ℕ) (nodes i : ℕ) (c : Constant) (slots slots′ names′ : List ℕ) (f r : Faults) : Type 0 where
-  pub walked : Walked s names rows nodes 0 (cons (c .value) nil) slots slots′ (walkAt f (valuePlace (f .next) c)) r
-  pub entered : names′ ≡ declared names (c .name) (i + 113)
+-- constant number i, where the walk stood
+pub record ConstantWalked (s names rows : List ℕ) (nodes i : ℕ) (slots slots′ names′ : List ℕ) (f r : Faults) : Type 0 where
+  pub walked : Walked s names rows nodes 0 1 slots slots′ (atPlace f (behindVariable s (f .next))) r
+  pub entered : names′ ≡ declared names (nameAt s (f .next)) (i + 113)
 
 -- the slots after the constants' values, the first constant being number i
 unfoldable pub slotConstants : List ℕ → List ℕ → List ℕ → ℕ → List (ℕ × Constant) → List ℕ

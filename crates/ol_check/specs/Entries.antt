@@ -1,9 +1,9 @@
 -- The table by name: entry 0 for none, a variable's index and 1, a constant's index and 113, 255 for a variant. The first entry of a name stays.
-use Prim.Native.Nat.{ℕ, _+_, _*_, _≤_, _<_}
-use mathlib.Core.Bool.{Bool, cond}
-use mathlib.Core.List.{List, [], _∷_, _++_, map}
+use Prim.Native.Nat.{ℕ, _+_, _≤_}
+use mathlib.Core.Bool.{cond}
+use mathlib.Core.List.{List, [], _∷_}
 use mathlib.Core.Path.{_≡_}
-use lib.ListN.{length, getD, set}
+use lib.ListN.{getD, set}
 use lib.Dec.{eqb, leb}
 use Rattle.ol_spec.specs.Syntax.{Variable, Constant}
 use Rattle.ol_check.specs.Spans.{endFrom, behindVariable, namesOf, variablesFrom}
@@ -40,10 +40,6 @@ variantEntry x = (x, 255)
 abbrev pub entryIn : List (ℕ × ℕ) → ℕ → ℕ
 entryIn [] x = 0
 entryIn (d ∷ ds) x = cond (eqb x (d .0)) (d .1) (entryIn ds x)
-
--- the table holds these declarations
-abbrev pub Holds : List ℕ → List (ℕ × ℕ) → Type 0
-Holds names ds = (x : ℕ) → getD names x 0 ≡ entryIn ds x
 
 -- the entries of names with their places, the first being number `first`
 abbrev pub entriesFrom : ℕ → List (ℕ × ℕ) → List (ℕ × ℕ)

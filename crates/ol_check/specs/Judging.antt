@@ -8,14 +8,16 @@ use lib.ListN.{length, getD, set}
 use lib.Dec.{ltb, leb, eqb}
 use Rattle.ol_spec.specs.Lists.{orElse, member, concat, sum}
 use Rattle.ol_spec.specs.Syntax.{Expr, Exprs, nil, cons, Equation, File, variableNames}
-use Rattle.ol_spec.specs.Places.{collectAll, exprsSize, exprSize, equationSize, placed, placedNames, rhsPlace}
+use Rattle.ol_spec.specs.Places.{collectAll, equationSize, placed, placedNames, rhsPlace}
 use Rattle.ol_spec.specs.Admission.{Item, first, variants, constantNames, badCall, calleeIn, used, equationUses, inEquation, callsWhere, equationShape, definedBy}
 use Rattle.ol_tables.specs.At.{fileAt}
 use Rattle.ol_tables.specs.Tables.{rowAt, nodeOf}
 use Rattle.ol_tables.specs.Stands.{Equations}
-use Rattle.ol_tables.specs.Heads.{nameAt, partsOf, headSize, joined}
+use Rattle.ol_tables.specs.Heads.{nameAt, partsAt, nextAt}
+use Rattle.ol_tables.specs.Walks.{walkAt, skipAt}
 use Rattle.ol_spec.specs.Step.{equationSites}
 use Rattle.ol_check.specs.Founds.{placeOf}
+use Rattle.ol_check.specs.Spans.{namesFrom}
 use Rattle.ol_check.specs.Records.{siteB, calleeB}
 use Rattle.ol_check.specs.declared.Faults.{Faults}
 
@@ -97,15 +99,23 @@ foundIn found is = orElse found (first is)
 abbrev pub Adds : ℕ → List ℕ → ℕ → Type 0
 Adds start xs r = start ≤ 65536 → r ≡ min (start + sum xs) 65536
 
--- the expressions es, which stand where the walk stood, are judged
-pub record Walked (s names rows : List ℕ) (nodes k : ℕ) (es : Exprs) (slots slots′ : List ℕ) (f r : Faults) : Type 0 where
-  pub next : r .next ≡ f .next + exprsSize es
-  pub slotted : slots′ ≡ slotHeads s names slots (heads (f .next) es)
+-- where the heads of so many expressions from `at` on stand, as the bytes tell
+abbrev pub headsFrom : List ℕ → ℕ → ℕ → List ℕ
+headsFrom s left at = walkAt (λ p r. p ∷ r) (λ p. []) s left at
+
+-- so many expressions, from where the walk stood, are judged
+pub record Walked (s names rows : List ℕ) (nodes k parts : ℕ) (slots slots′ : List ℕ) (f r : Faults) : Type 0 where
+  pub next : r .next ≡ skipAt s parts (f .next)
+  pub slotted : slots′ ≡ slotHeads s names slots (headsFrom s parts (f .next))
   pub again : r .again ≡ f .again
-  pub unseen : placeOf (r .unseen) ≡ foundIn (placeOf (f .unseen)) (map (unseenHead s names) (heads (f .next) es))
-  pub called : placeOf (r .called) ≡ foundIn (placeOf (f .called)) (map (calledHead s rows k) (heads (f .next) es))
-  pub shaped : placeOf (r .shaped) ≡ foundIn (placeOf (f .shaped)) (map (severalHead s rows nodes) (heads (f .next) es))
-  pub sized : Adds (f .size) (map (siteB s rows nodes) (heads (f .next) es)) (r .size)
+  pub unseen : placeOf (r .unseen) ≡ foundIn (placeOf (f .unseen)) (map (unseenHead s names) (headsFrom s parts (f .next)))
+  pub called : placeOf (r .called) ≡ foundIn (placeOf (f .called)) (map (calledHead s rows k) (headsFrom s parts (f .next)))
+  pub shaped : placeOf (r .shaped) ≡ foundIn (placeOf (f .shaped)) (map (severalHead s rows nodes) (headsFrom s parts (f .next)))
+  pub sized : Adds (f .size) (map (siteB s rows nodes) (headsFrom s parts (f .next))) (r .size)
+
+-- the walk at a place
+abbrev pub atPlace : Faults → ℕ → Faults
+atPlace f p = record { unseen = f .unseen; again = f .again; called = f .called; shaped = f .shaped; size = f .size; next = p }
 
 -- ---- what the tables say of the tree
 
@@ -159,16 +169,16 @@ unfoldable pub againB : List ℕ → ℕ → List ℕ → List (ℕ × ℕ) → 
 againB names inputs defined [] = []
 againB names inputs defined (p ∷ ps) = (p .0, takenB defined inputs (getD names (p .1) 0)) ∷ againB names inputs (set defined (getD names (p .1) 0) 1) ps
 
--- the names xs, which stand where the walk stood, are defined
-pub record NamesDefined (names : List ℕ) (inputs : ℕ) (xs slots slots′ defined defined′ : List ℕ) (f r : Faults) : Type 0 where
-  pub next : r .next ≡ f .next + 2 * length xs
-  pub unseen : placeOf (r .unseen) ≡ foundIn (placeOf (f .unseen)) (map (entryItem names) (placedNames (f .next) xs))
-  pub again : placeOf (r .again) ≡ foundIn (placeOf (f .again)) (againB names inputs defined (placedNames (f .next) xs))
+-- so many names, from where the walk stood, are defined
+pub record NamesDefined (s names : List ℕ) (inputs many : ℕ) (slots slots′ defined defined′ : List ℕ) (f r : Faults) : Type 0 where
+  pub next : r .next ≡ f .next + 2 * many
+  pub unseen : placeOf (r .unseen) ≡ foundIn (placeOf (f .unseen)) (map (entryItem names) (namesFrom s many (f .next)))
+  pub again : placeOf (r .again) ≡ foundIn (placeOf (f .again)) (againB names inputs defined (namesFrom s many (f .next)))
   pub called : r .called ≡ f .called
   pub shaped : r .shaped ≡ f .shaped
   pub sized : r .size ≡ f .size
-  pub slotted : slots′ ≡ slotNames names slots (placedNames (f .next) xs)
-  pub marked : defined′ ≡ markAll names defined (placedNames (f .next) xs)
+  pub slotted : slots′ ≡ slotNames names slots (namesFrom s many (f .next))
+  pub marked : defined′ ≡ markAll names defined (namesFrom s many (f .next))
 
 -- ---- a right side, and an equation
 
@@ -179,17 +189,27 @@ loneB names values = ltb 1 names && not (ltb 1 values)
 abbrev pub otherB : ℕ → ℕ → Bool
 otherB names values = ltb 1 values && not (eqb values names)
 
--- the right side e of the equation at `at`, which has so many names
-pub record RootJudged (s names rows : List ℕ) (nodes k at many : ℕ) (e : Expr) (slots slots′ : List ℕ) (f r : Faults) : Type 0 where
-  pub next : r .next ≡ f .next + exprSize e
-  pub slotted : slots′ ≡ slotHeads s names slots (heads (f .next) (cons e nil))
+-- fault 10 of the right side at p of the equation at `at`, which has so many names
+abbrev pub rootShapes : List ℕ → List ℕ → ℕ → ℕ → ℕ → ℕ → List Item
+rootShapes s rows nodes at many p =
+    cond (ltb p (length s)) ((at, loneB many (arityB s rows nodes p)) ∷ (p, otherB many (arityB s rows nodes p)) ∷ map (severalHead s rows nodes) (headsFrom s (partsAt s p) (nextAt s p))) []
+
+-- the right side where the walk stood, of the equation at `at`, which has so many names
+pub record RootJudged (s names rows : List ℕ) (nodes k at many : ℕ) (slots slots′ : List ℕ) (f r : Faults) : Type 0 where
+  pub next : r .next ≡ skipAt s 1 (f .next)
+  pub slotted : slots′ ≡ slotHeads s names slots (headsFrom s 1 (f .next))
   pub again : r .again ≡ f .again
-  pub unseen : placeOf (r .unseen) ≡ foundIn (placeOf (f .unseen)) (map (unseenHead s names) (heads (f .next) (cons e nil)))
-  pub called : placeOf (r .called) ≡ foundIn (placeOf (f .called)) (map (calledHead s rows k) (heads (f .next) (cons e nil)))
-  pub shaped : placeOf (r .shaped)
-      ≡ foundIn (placeOf (f .shaped)) ((at, loneB many (arityB s rows nodes (f .next))) ∷ (f .next, otherB many (arityB s rows nodes (f .next)))
-      ∷ map (severalHead s rows nodes) (heads (f .next + headSize e) (joined (partsOf e) nil)))
-  pub sized : Adds (f .size) (map (siteB s rows nodes) (heads (f .next) (cons e nil))) (r .size)
+  pub unseen : placeOf (r .unseen) ≡ foundIn (placeOf (f .unseen)) (map (unseenHead s names) (headsFrom s 1 (f .next)))
+  pub called : placeOf (r .called) ≡ foundIn (placeOf (f .called)) (map (calledHead s rows k) (headsFrom s 1 (f .next)))
+  pub shaped : placeOf (r .shaped) ≡ foundIn (placeOf (f .shaped)) (rootShapes s rows nodes at many (f .next))
+  pub sized : Adds (f .size) (map (siteB s rows nodes) (headsFrom s 1 (f .next))) (r .size)
+
+-- the equation where the walk stood: its names are defined, then its right side is judged
+pub record EquationWalked (s names rows : List ℕ) (nodes k inputs : ℕ) (slots slots′ defined defined′ : List ℕ) (g r : Faults) : Type 0 where
+  pub middle : Faults
+  pub between : List ℕ
+  pub named : NamesDefined s names inputs (getD s (g .next) 0) slots between defined defined′ (atPlace g (g .next + 1)) middle
+  pub rooted : RootJudged s names rows nodes k (g .next) (getD s (g .next) 0) between slots′ middle r
 
 -- the names of an equation, defined and used, with their places
 abbrev pub namesIn : ℕ × Equation → List (ℕ × ℕ)
@@ -203,17 +223,6 @@ slotEquation s names slots p =
 unfoldable pub slotEquations : List ℕ → List ℕ → List ℕ → List (ℕ × Equation) → List ℕ
 slotEquations s names slots [] = slots
 slotEquations s names slots (p ∷ ps) = slotEquations s names (slotEquation s names slots p) ps
-
--- the equation q at `at`, in the file f and a node of so many inputs
-pub record EquationJudged (s names rows : List ℕ) (nodes : ℕ) (f : File) (visible : List ℕ) (bad : ℕ → ℕ → Bool) (inputs at : ℕ) (q : Equation) (slots slots′ defined defined′ : List ℕ) (g r : Faults) : Type 0 where
-  pub next : r .next ≡ at + equationSize q
-  pub unseen : placeOf (r .unseen) ≡ foundIn (placeOf (g .unseen)) (equationUses visible (at, q))
-  pub again : placeOf (r .again) ≡ foundIn (placeOf (g .again)) (againB names inputs defined (definedBy (at, q)))
-  pub called : placeOf (r .called) ≡ foundIn (placeOf (g .called)) (inEquation (callsWhere bad) (at, q))
-  pub shaped : placeOf (r .shaped) ≡ foundIn (placeOf (g .shaped)) (equationShape f (at, q))
-  pub slotted : slots′ ≡ slotEquation s names slots (at, q)
-  pub marked : defined′ ≡ markAll names defined (definedBy (at, q))
-  pub sized : Adds (g .size) (map (calleeB rows nodes) (equationSites q)) (r .size)
 
 -- so many equations
 pub record EquationsJudged (s names rows : List ℕ) (nodes : ℕ) (f : File) (visible : List ℕ) (bad : ℕ → ℕ → Bool) (inputs at : ℕ) (qs : List Equation) (slots slots′ defined defined′ : List ℕ) (g r : Faults) : Type 0 where

@@ -6,7 +6,7 @@ use mathlib.Core.Path.{_≡_}
 use lib.ListN.{length, getD, set}
 use Rattle.ol_spec.specs.Syntax.{Node, File, main}
 use Rattle.ol_spec.specs.Step.{instanceSize, sizesAt}
-use Rattle.ol_spec.specs.Admission.{fault9}
+use Rattle.ol_spec.specs.Admission.{stateSize, fault9}
 use Rattle.ol_tables.specs.Tables.{rowAt, sizeCap, siteBytes, nodeOf}
 use Rattle.ol_check.specs.Records.{instanceB, recordBy}
 use Rattle.ol_check.specs.RowsDone.{NodeRow}
@@ -26,6 +26,11 @@ pub record SizesDone (f : File) (rows rows′ : List ℕ) : Type 0 where
 -- an instance of the last node has so many bytes, up to the cap
 abbrev pub MainSized : File → ℕ → Type 0
 MainSized f n = n ≡ min (instanceSize (sizesAt (length (f .nodes)) (f .nodes)) (main f)) sizeCap
+
+-- the state's length by that of an instance of the last node, which is the file's where that is the last node's
+pub record StateSized (f : File) (n r : ℕ) : Type 0 where
+  pub is : r ≡ min (9 * length (f .constants) + n) sizeCap
+  pub sized : MainSized f n → r ≡ min (stateSize f) sizeCap
 
 -- the rows after the records of these nodes are stored, the first being number k, each as the rows before it tell; and the bytes of an instance of the last, up to the cap
 abbrev pub instanceBy : List ℕ → ℕ → Node → ℕ

@@ -5,13 +5,11 @@ use super::names::declare;
 use ol_tables::bytes::name;
 use ol_tables::heads::ty_size;
 ghost use mathlib.Core.Path.{_≡_};
-ghost use Prim.Native.Nat.{ℕ, _≤_, _<_};
+ghost use Prim.Native.Nat.{_≤_, _<_};
 ghost use lib.ListN.{length};
-ghost use Rattle.ol_spec.specs.Syntax.{Constant};
 ghost use Rattle.ol_spec.specs.Admission.{variants};
 ghost use Rattle.ol_tables.specs.At.{fileAt};
-ghost use Rattle.ol_tables.specs.Stands.{ConstantStands};
-ghost use Rattle.ol_check.specs.ConstantsJudged.{ConstantJudged, ConstantsJudged, ConstantsReady};
+ghost use Rattle.ol_check.specs.ConstantsJudged.{ConstantWalked, ConstantsJudged, ConstantsReady};
 
 // Constant number `i`, where the walk stands: its value is judged, then its name entered.
 fn constant(
@@ -23,8 +21,8 @@ fn constant(
     i: usize,
     f: Faults,
 ) -> Faults
-    requires { ⌜ (f .next < length (now file)) × (length (now file) ≤ 32768) × (i < 64) ⌝ }
-    ensures { λ r. ⌜ ((enums : ℕ) (c : Constant) → ConstantStands (now (file .entry)) enums (f .next) c → ConstantJudged (now (file .entry)) (now (names .entry)) (now (rows .entry)) nodes i c (now (slots .entry)) (now (slots .exit)) (now (names .exit)) f r) ⌝ }
+    requires { ⌜ (f .next < 32768) × (length (now file) ≤ 32768) × (i < 64) ⌝ }
+    ensures { λ r. ⌜ ConstantWalked (now (file .entry)) (now (names .entry)) (now (rows .entry)) nodes i (now (slots .entry)) (now (slots .exit)) (now (names .exit)) f r ⌝ }
 {
     let at = f.next;
     let unseen = f.unseen;

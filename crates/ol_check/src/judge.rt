@@ -12,19 +12,13 @@ use ol_tables::tables::KIND;
 use ol_tables::tables::OUTPUTS;
 use ol_tables::tables::row;
 ghost use mathlib.Core.Path.{_≡_};
-ghost use Prim.Native.Nat.{ℕ, _≤_, _<_, _+_, _*_};
+ghost use Prim.Native.Nat.{_≤_, _<_};
 ghost use lib.ListN.{length};
-ghost use Rattle.ol_spec.specs.Syntax.{Exprs, count};
-ghost use Rattle.ol_tables.specs.Heads.{Standing};
-ghost use Rattle.ol_check.specs.Judging.{unseenB, plainB, slotOfEntry, slotPut, slotHead, mayB, badB, calledB, outputsB, arityB, Walked};
-ghost use Rattle.ol_check.specs.Judging.{takenB, NamesDefined, loneB, otherB, RootJudged, Context, EquationJudged, seenIn, EquationsReady, EquationsJudged};
-ghost use mathlib.Core.List.{List};
-ghost use mathlib.Core.Bool.{Bool};
-ghost use Rattle.ol_spec.specs.Syntax.{Expr, nil, cons, Equation, File};
 ghost use Rattle.ol_spec.specs.Admission.{badCall};
 ghost use Rattle.ol_tables.specs.At.{fileAt};
 ghost use Rattle.ol_tables.specs.Tables.{nodeOf};
-ghost use Rattle.ol_tables.specs.Stands.{Names, EquationStands};
+ghost use Rattle.ol_check.specs.Judging.{unseenB, plainB, slotOfEntry, slotPut, slotHead, mayB, badB, calledB, outputsB, arityB, Walked};
+ghost use Rattle.ol_check.specs.Judging.{takenB, NamesDefined, loneB, otherB, RootJudged, EquationWalked, seenIn, EquationsReady, EquationsJudged};
 
 // A name's slot, by its entry.
 fn slot(e: usize) -> u8
@@ -153,8 +147,8 @@ pub(crate) fn walk(
     parts: usize,
     f: Faults,
 ) -> Faults
-    requires { ⌜ (node < 256) × (parts < 256) × (length (now file) ≤ 32768) ⌝ }
-    ensures { λ r. ⌜ ((enums : ℕ) (es : Exprs) → count es ≡ parts → Standing (now (file .entry)) enums (f .next) es → Walked (now (file .entry)) (now (names .entry)) (now (rows .entry)) nodes node es (now (slots .entry)) (now (slots .exit)) f r) ⌝ }
+    requires { ⌜ (node < 256) × (length (now file) ≤ 32768) ⌝ }
+    ensures { λ r. ⌜ Walked (now (file .entry)) (now (names .entry)) (now (rows .entry)) nodes node parts (now (slots .entry)) (now (slots .exit)) f r ⌝ }
 {
     let mut next = f.next;
     let mut left = parts;
@@ -165,6 +159,16 @@ pub(crate) fn walk(
     let again = f.again;
     while 0 < left {
         if file.len() <= next {
+            return Faults {
+                unseen,
+                again,
+                called,
+                shaped,
+                size,
+                next,
+            };
+        }
+        if file.len() < left {
             return Faults {
                 unseen,
                 again,
@@ -224,7 +228,7 @@ fn define(
     f: Faults,
 ) -> Faults
     requires { ⌜ (many < 256) × (f .next ≤ 40000) ⌝ }
-    ensures { λ r. ⌜ ((xs : List ℕ) → length xs ≡ many → Names (now (file .entry)) 0 (f .next) xs → NamesDefined (now (names .entry)) inputs xs (now (slots .entry)) (now (slots .exit)) (now (defined .entry)) (now (defined .exit)) f r) ⌝ }
+    ensures { λ r. ⌜ NamesDefined (now (file .entry)) (now (names .entry)) inputs many (now (slots .entry)) (now (slots .exit)) (now (defined .entry)) (now (defined .exit)) f r ⌝ }
 {
     let mut next = f.next;
     let mut i = 0;
@@ -279,7 +283,7 @@ fn root(
     f: Faults,
 ) -> Faults
     requires { ⌜ (node < 256) × (length (now file) ≤ 32768) ⌝ }
-    ensures { λ r. ⌜ ((enums : ℕ) (e : Expr) → Standing (now (file .entry)) enums (f .next) (cons e nil) → RootJudged (now (file .entry)) (now (names .entry)) (now (rows .entry)) nodes node at many e (now (slots .entry)) (now (slots .exit)) f r) ⌝ }
+    ensures { λ r. ⌜ RootJudged (now (file .entry)) (now (names .entry)) (now (rows .entry)) nodes node at many (now (slots .entry)) (now (slots .exit)) f r ⌝ }
 {
     let next = f.next;
     if file.len() <= next {
@@ -328,8 +332,8 @@ fn equation(
     inputs: usize,
     f: Faults,
 ) -> Faults
-    requires { ⌜ (node < 256) × (f .next < length (now file)) × (length (now file) ≤ 32768) ⌝ }
-    ensures { λ r. ⌜ ((t : File) (visible : List ℕ) (bad : ℕ → ℕ → Bool) (enums : ℕ) (q : Equation) → Context t node (now (names .entry)) (now (rows .entry)) nodes visible bad → EquationStands (now (file .entry)) enums (f .next) q → EquationJudged (now (file .entry)) (now (names .entry)) (now (rows .entry)) nodes t visible bad inputs (f .next) q (now (slots .entry)) (now (slots .exit)) (now (defined .entry)) (now (defined .exit)) f r) ⌝ }
+    requires { ⌜ (node < 256) × (f .next < 32768) × (length (now file) ≤ 32768) ⌝ }
+    ensures { λ r. ⌜ EquationWalked (now (file .entry)) (now (names .entry)) (now (rows .entry)) nodes node inputs (now (slots .entry)) (now (slots .exit)) (now (defined .entry)) (now (defined .exit)) f r ⌝ }
 {
     let at = f.next;
     let many = byte(file, at);

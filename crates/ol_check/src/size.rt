@@ -9,13 +9,13 @@ ghost use mathlib.Core.Path.{_≡_};
 ghost use Prim.Native.Nat.{_≤_, _<_, _+_, min};
 ghost use lib.ListN.{length};
 ghost use Rattle.ol_spec.specs.Places.{constantsStart};
-ghost use Rattle.ol_spec.specs.Admission.{stateSize, fault14};
+ghost use Rattle.ol_spec.specs.Admission.{fault14};
 ghost use Rattle.ol_tables.specs.At.{fileAt};
 ghost use Rattle.ol_tables.specs.Stands.{FileReads};
 ghost use Rattle.ol_check.specs.Founds.{placeOf};
 ghost use Rattle.ol_check.specs.Records.{siteB, recordBy};
 ghost use Rattle.ol_check.specs.NodesJudged.{RowsReady};
-ghost use Rattle.ol_check.specs.Sizes.{MainSized};
+ghost use Rattle.ol_check.specs.Sizes.{StateSized};
 
 // Fault 14: the last node is no Operator.
 pub fn not_operator(file: &[u8], rows: &[usize], nodes: usize) -> Found
@@ -65,7 +65,7 @@ pub(crate) fn record_size(kind: usize, size: usize) -> usize
 // has `main` bytes. The count of the constants stands at `constants`.
 pub fn state_size(file: &[u8], constants: usize, main: usize) -> usize
     requires { ⌜ FileReads (now file) × (constants + 1 ≡ constantsStart (fileAt (now file))) ⌝ }
-    ensures { λ r. ⌜ (MainSized (fileAt (now (file .entry))) main → r ≡ min (stateSize (fileAt (now (file .entry)))) 65536) ⌝ }
+    ensures { λ r. ⌜ StateSized (fileAt (now (file .entry))) main r ⌝ }
 {
     let many = byte(file, constants);
     capped(9 * many, main)

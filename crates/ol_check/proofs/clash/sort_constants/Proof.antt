@@ -1,13 +1,9 @@
-use Prim.Native.Nat.{ℕ, _+_, _*_, _-_, _≤_}
+use Prim.Native.Nat.{_+_, _-_}
 use mathlib.Core.Path.{_≡_, refl, sym, subst, _∙_}
 use lib.ListN.{length}
 use native.Mathlib.Omega.{arith}
-use Rattle.ol_spec.specs.Encode.{constantBytes}
 use Rattle.ol_spec.specs.Places.{constantsStart}
-use Rattle.ol_spec.specs.Limits.{base}
-use Rattle.ol_spec.specs.Within.{constantFits}
 use Rattle.ol_tables.specs.At.{fileAt}
-use Rattle.ol_tables.specs.Stands.{Listed}
 use Rattle.ol_tables.proofs.HeadsFile.{file-stands, bytes-of}
 use Rattle.ol_tables.proofs.Walking.{ty-small}
 use Rattle.ol_check.proofs.ClashLoops.{ConstantsGoing, constants-start, constants-in, constants-turn, constants-done}

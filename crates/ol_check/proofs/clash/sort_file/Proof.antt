@@ -1,4 +1,4 @@
-use mathlib.Core.Path.{_≡_, refl, _∙_}
+use mathlib.Core.Path.{refl, _∙_}
 use native.Mathlib.Omega.{arith}
 use Rattle.ol_tables.proofs.HeadsFile.{file-stands, bytes-of}
 use Rattle.ol_check.proofs.ClashFile.{nodes-ready, enums-few, constants-at, file-sorted}

@@ -1,10 +1,9 @@
 use Prim.Native.Nat.{_+_}
-use mathlib.Core.Path.{_≡_, refl, ap, _∙_}
+use mathlib.Core.Path.{_∙_}
 use native.Mathlib.Omega.{arith}
 use Rattle.ol_tables.proofs.HeadsFile.{file-stands, bytes-of}
 use Rattle.ol_check.proofs.SpanLaws.{variables-near}
 use Rattle.ol_check.proofs.ClashFile.{place-in, node-walks}
-use borrow.Author.Needs.{needs}
 use borrow.Author.Needs.{needs}
 use Rattle.ol_check.proofs.clash.sort_node.Statement.{statement}
 use Rattle.ol_check.proofs.clash.sort_node.Tie as tie

@@ -1,4 +1,4 @@
-use Rattle.ol_check.proofs.ConstantLaws.{constant-judged}
+use Rattle.ol_check.proofs.ConstantLaws.{constant-walked}
 use Rattle.ol_tables.proofs.Walking.{ty-small}
 use Prim.Native.Nat.{_+_}
 use native.Mathlib.Omega.{arith}
@@ -40,7 +40,7 @@ same-length-2 : tie.Need-same-length-2
 same-length-2 c = search needs
 
 returns : tie.Need-returns
-returns c = constant-judged (c .before .before .before .before .before .before .before .before .before .before .before .before .before .before .before .args .names .now) (c .before .before .before .before .before .before .before .before .ty-size .ensures) (c .before .before .before .name .ensures) (c .before .before .before .before .before .before .before .walk .ensures) (c .before .before .declare .ensures)
+returns c = constant-walked (c .before .before .before .before .before .before .before .before .before .before .before .before .before .before .before .args .names .now) (c .before .before .before .before .before .before .before .before .ty-size .ensures) (c .before .before .before .name .ensures) (c .before .before .before .before .before .before .before .walk .ensures) (c .before .before .declare .ensures)
 
 pub constant-spec : {M : Type 1} → statement M
 constant-spec = tie.close (tie.spec add-t19 add-ty-size ty-size-requires add-t22 walk-requires name-requires add-declare cast-declare declare-requires same-length same-length-2 returns)

@@ -3,9 +3,8 @@ use Rattle.ol_check.proofs.ConstantLaws.{ConstantsGoing, constants-star
 use Rattle.ol_spec.specs.Admission.{variants}
 use Rattle.ol_tables.specs.At.{fileAt}
 use lib.ListN.{length}
-use mathlib.Core.Path.{_≡_, refl, sym, ap, _∙_}
-use Prim.Native.Nat.{ℕ, _-_}
-use borrow.Author.Needs.{needs}
+use mathlib.Core.Path.{_≡_, _∙_}
+use Prim.Native.Nat.{_-_}
 use native.Mathlib.Omega.{arith}
 use Rattle.ol_check.proofs.constants.judge_constants.Statement.{statement}
 use Rattle.ol_check.proofs.constants.judge_constants.Tie as tie
@@ -36,7 +35,7 @@ returns c =
 constant-requires : tie.Need-constant-requires Inv-loop μ-loop
 constant-requires c κs =
     let start = c .before .before .before .before .before .before .before .before .before in
-    (omega (arith, c .before .before .if1 .left), start .pre .0, omega (arith, c .before .before .before .loop-test .taken, start .pre .2))
+    (omega (arith, c .before .before .if1 .left, start .pre .0), start .pre .0, omega (arith, c .before .before .before .loop-test .taken, start .pre .2))
 
 add-i : tie.Need-add-i Inv-loop μ-loop
 add-i c = omega arith
@@ -48,7 +47,7 @@ loop-again : tie.Need-loop-again Inv-loop μ-loop
 loop-again c =
     let start = c .before .before .before .before .before .before .before .before .before .before .before .before .before .before in
     let f = start .args .file .now in
-    (c .before .before .before .before .constant .kept .1 .0 ∙ c .before .before .before .before .before .before .before .before .before .loop .inv .0, c .before .before .before .before .constant .kept .1 .1 .0 ∙ c .before .before .before .before .before .before .before .before .before .loop .inv .1, constants-turn (start .pre .3) (c .before .before .before .before .before .before .before .before .before .loop .inv .2) (omega (arith, c .before .before .before .before .before .before .before .before .loop-test .taken, start .pre .1)) (c .before .before .before .before .before .before .before .before .before .loop .inv .0) _ _ _ (c .before .before .before .before .constant .ensures (length (fileAt f .enums))))
+    (c .before .before .before .before .constant .kept .1 .0 ∙ c .before .before .before .before .before .before .before .before .before .loop .inv .0, c .before .before .before .before .constant .kept .1 .1 .0 ∙ c .before .before .before .before .before .before .before .before .before .loop .inv .1, constants-turn (start .pre .3) (c .before .before .before .before .before .before .before .before .before .loop .inv .2) (omega (arith, c .before .before .before .before .before .before .before .before .loop-test .taken, start .pre .1)) (c .before .before .before .before .before .before .before .before .before .loop .inv .0) _ _ _ (c .before .before .before .before .constant .ensures))
 
 same-length-3 : tie.Need-same-length-3 Inv-loop μ-loop
 same-length-3 c = c .before .loop .inv .0

@@ -1,5 +1,4 @@
 use Rattle.ol_check.proofs.HeadTests.{bad-arity, bad-kind, bad-high}
-use native.Mathlib.Omega.{arith}
 use borrow.Author.Needs.{needs}
 use Rattle.ol_check.proofs.judge.bad_call.Statement.{statement}
 use Rattle.ol_check.proofs.judge.bad_call.Tie as tie

@@ -1,9 +1,7 @@
 use Rattle.ol_check.proofs.EquationLaws.{NamesGoing, names-start, names-turn, names-done}
-use Rattle.ol_tables.specs.Stands.{Names}
 use lib.ListN.{length}
-use mathlib.Core.List.{List}
-use mathlib.Core.Path.{_≡_, refl, sym, _∙_}
-use Prim.Native.Nat.{ℕ, _+_, _*_, _-_, _≤_}
+use mathlib.Core.Path.{_≡_, refl, _∙_}
+use Prim.Native.Nat.{_+_, _*_, _-_, _≤_}
 use borrow.Author.Needs.{needs}
 use native.Mathlib.Omega.{arith}
 use Rattle.ol_check.proofs.judge.define.Statement.{statement}
@@ -11,13 +9,13 @@ use Rattle.ol_check.proofs.judge.define.Tie as tie
 
 abbrev Inv-loop : tie.InvT-loop
 Inv-loop file names slots₀ defined₀ inputs many next₀ i₀ unseen₀ again₀ called shaped size slots defined next i unseen again =
-    (next ≡ next₀ + 2 * i) × (i ≤ many) × (length slots ≡ length slots₀) × (length defined ≡ length defined₀) × ((xs : List ℕ) → length xs ≡ many → Names file 0 next₀ xs → NamesGoing file names inputs xs next₀ slots₀ defined₀ unseen₀ again₀ slots defined unseen again i next)
+    (next ≡ next₀ + 2 * i) × (i ≤ many) × (length slots ≡ length slots₀) × (length defined ≡ length defined₀) × NamesGoing file names inputs many next₀ slots₀ defined₀ unseen₀ again₀ slots defined unseen again i next
 
 abbrev μ-loop : tie.MeasureT-loop
 μ-loop file names slots₀ defined₀ inputs many next₀ i₀ unseen₀ again₀ called shaped size slots defined next i unseen again = many - i
 
 loop-holds : tie.Need-loop-holds Inv-loop μ-loop
-loop-holds c = (omega arith, omega arith, refl, refl, λ xs e h. names-start h)
+loop-holds c = (omega arith, omega arith, refl, refl, names-start)
 
 name-requires : tie.Need-name-requires Inv-loop μ-loop
 name-requires c κs = search needs
@@ -58,7 +56,7 @@ loop-again c = (
   omega (arith, c .before .before .before .before .before .before .before .before .before .before .before .before .before .before .before .loop-test .taken),
   c .before .before .before .before .before .before .put-byte .kept .0 ∙ c .before .before .before .before .before .before .before .before .before .before .before .before .before .before .before .before .loop .inv .2,
   c .before .before .put-byte2 .kept .0 ∙ c .before .before .before .before .before .before .before .before .before .before .before .before .before .before .before .before .loop .inv .3,
-  λ xs e h. names-turn (c .before .before .before .before .before .before .before .before .before .before .before .before .before .before .before .before .loop .inv .4 xs e h) (omega (arith, e, c .before .before .before .before .before .before .before .before .before .before .before .before .before .before .before .loop-test .taken)) _ _ _ _ _ _ _ _ (c .before .before .before .before .before .before .before .before .before .before .before .before .before .before .name .ensures) (c .before .before .before .before .before .before .before .before .before .before .before .before .before .byte .ensures) (c .before .before .before .before .before .before .before .before .before .before .before .before .earlier .ensures) (c .before .before .before .before .before .before .before .before .before .before .taken .ensures) (c .before .before .before .before .before .before .before .before .before .earlier2 .ensures) (c .before .before .before .before .before .before .before .slot .ensures) (c .before .before .before .before .before .before .put-byte .ensures) (c .before .before .put-byte2 .ensures),
+  names-turn (c .before .before .before .before .before .before .before .before .before .before .before .before .before .before .before .before .loop .inv .4) (c .before .before .before .before .before .before .before .before .before .before .before .before .before .before .before .loop-test .taken) (c .before .before .before .before .before .before .before .before .before .before .before .before .before .before .name .ensures) (c .before .before .before .before .before .before .before .before .before .before .before .before .before .byte .ensures) (c .before .before .before .before .before .before .before .before .before .before .before .before .earlier .ensures) (c .before .before .before .before .before .before .before .before .before .before .taken .ensures) (c .before .before .before .before .before .before .before .before .before .earlier2 .ensures) (c .before .before .before .before .before .before .before .slot .ensures) (c .before .before .before .before .before .before .put-byte .ensures) (c .before .before .put-byte2 .ensures),
 )
 
 same-length : tie.Need-same-length Inv-loop μ-loop
@@ -68,7 +66,7 @@ same-length-2 : tie.Need-same-length-2 Inv-loop μ-loop
 same-length-2 c = c .before .loop .inv .3
 
 returns : tie.Need-returns Inv-loop μ-loop
-returns c = λ xs e h. names-done (c .before .loop .inv .4 xs e h) _ _ (omega (arith, e, c .before .loop .inv .1)) (omega (arith, e, c .loop-test .left)) (c .before .loop .inv .0) refl refl refl refl refl refl refl refl refl
+returns c = names-done (c .before .loop .inv .4) _ _ (c .before .loop .inv .1) (c .loop-test .left) (c .before .loop .inv .0) refl refl refl refl refl refl refl refl refl
 
 pub define-spec : {M : Type 1} → statement M
 define-spec = tie.close (tie.spec Inv-loop μ-loop loop-holds name-requires byte-requires earlier-requires taken-requires earlier-requires-2 slot-requires put-byte-requires put-byte-requires-2 add-next add-i loop-less loop-again same-length same-length-2 returns)

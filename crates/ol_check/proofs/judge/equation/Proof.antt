@@ -1,5 +1,4 @@
-use Rattle.ol_check.proofs.EquationLaws.{equation-judged}
-use native.Mathlib.Omega.{arith}
+use Rattle.ol_check.proofs.EquationLaws.{equation-walked}
 use borrow.Author.Needs.{needs}
 use Rattle.ol_check.proofs.judge.equation.Statement.{statement}
 use Rattle.ol_check.proofs.judge.equation.Tie as tie
@@ -23,7 +22,7 @@ same-length-2 : tie.Need-same-length-2
 same-length-2 c = search needs
 
 returns : tie.Need-returns
-returns c = equation-judged (c .before .before .before .before .before .before .before .before .before .before .before .before .before .before .before .before .before .args .slots .now) _ _ (c .before .before .before .before .before .before .before .before .before .before .before .before .before .before .before .before .before .args .defined .now) _ (c .before .before .before .before .before .before .before .before .define .result) (c .before .before .before .before .before .before .before .before .before .before .before .byte .ensures) (c .before .before .before .before .before .before .before .before .define .ensures) (c .before .before .root .ensures)
+returns c = equation-walked (c .before .before .before .before .before .before .before .before .before .before .before .byte .ensures) (c .before .before .before .before .before .before .before .before .define .ensures) (c .before .before .root .ensures)
 
 pub equation-spec : {M : Type 1} → statement M
 equation-spec = tie.close (tie.spec byte-requires add-t22 define-requires root-requires same-length same-length-2 returns)

@@ -5,9 +5,8 @@ use Rattle.ol_spec.specs.Admission.{badCall}
 use Rattle.ol_tables.specs.At.{fileAt}
 use Rattle.ol_tables.specs.Tables.{nodeOf}
 use lib.ListN.{length}
-use mathlib.Core.Path.{_≡_, refl, sym, _∙_}
-use Prim.Native.Nat.{ℕ, _-_}
-use borrow.Author.Needs.{needs}
+use mathlib.Core.Path.{_≡_, _∙_}
+use Prim.Native.Nat.{_-_}
 use native.Mathlib.Omega.{arith}
 use Rattle.ol_check.proofs.judge.equations.Statement.{statement}
 use Rattle.ol_check.proofs.judge.equations.Tie as tie
@@ -36,7 +35,7 @@ returns c =
     absurd (equations-cut (c .before .before .loop .inv .2) (omega (arith, c .before .loop-test .taken, start .pre .2 .count)) (c .if1 .taken))
 
 equation-requires : tie.Need-equation-requires Inv-loop μ-loop
-equation-requires c κs = (c .before .before .before .before .before .before .before .before .before .before .pre .0, omega (arith, c .before .before .if1 .left), c .before .before .before .before .before .before .before .before .before .before .pre .1)
+equation-requires c κs = (c .before .before .before .before .before .before .before .before .before .before .pre .0, omega (arith, c .before .before .if1 .left, c .before .before .before .before .before .before .before .before .before .before .pre .1), c .before .before .before .before .before .before .before .before .before .before .pre .1)
 
 add-i : tie.Need-add-i Inv-loop μ-loop
 add-i c = omega arith
@@ -48,7 +47,7 @@ loop-again : tie.Need-loop-again Inv-loop μ-loop
 loop-again c =
     let start = c .before .before .before .before .before .before .before .before .before .before .before .before .before .before .before in
     let f = start .args .file .now in
-    (c .before .before .before .before .equation .kept .1 .1 .0 ∙ c .before .before .before .before .before .before .before .before .before .loop .inv .0, c .before .before .before .before .equation .kept .1 .1 .1 .0 ∙ c .before .before .before .before .before .before .before .before .before .loop .inv .1, equations-turn (c .before .before .before .before .before .before .before .before .before .loop .inv .2) (omega (arith, c .before .before .before .before .before .before .before .before .loop-test .taken, start .pre .2 .count)) _ _ _ (λ y st. c .before .before .before .before .equation .ensures (fileAt f) (seenIn (fileAt f) (start .args .node)) (badCall (fileAt f) (start .args .node) (nodeOf (fileAt f) (start .args .node))) (length (fileAt f .enums)) y (start .pre .2 .context) st))
+    (c .before .before .before .before .equation .kept .1 .1 .0 ∙ c .before .before .before .before .before .before .before .before .before .loop .inv .0, c .before .before .before .before .equation .kept .1 .1 .1 .0 ∙ c .before .before .before .before .before .before .before .before .before .loop .inv .1, equations-turn (c .before .before .before .before .before .before .before .before .before .loop .inv .2) (omega (arith, c .before .before .before .before .before .before .before .before .loop-test .taken, start .pre .2 .count)) _ _ _ (start .pre .2 .context) (c .before .before .before .before .equation .ensures))
 
 same-length-3 : tie.Need-same-length-3 Inv-loop μ-loop
 same-length-3 c = c .before .loop .inv .0

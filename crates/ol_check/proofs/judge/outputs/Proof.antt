@@ -1,5 +1,4 @@
 use Rattle.ol_check.proofs.HeadTests.{outputs-there, outputs-none}
-use native.Mathlib.Omega.{arith}
 use borrow.Author.Needs.{needs}
 use Rattle.ol_check.proofs.judge.outputs.Statement.{statement}
 use Rattle.ol_check.proofs.judge.outputs.Tie as tie

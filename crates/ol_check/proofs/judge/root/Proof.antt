@@ -1,6 +1,4 @@
-use Rattle.ol_check.proofs.EquationLaws.{root-judged}
-use Rattle.ol_spec.specs.Syntax.{nil}
-use Rattle.ol_tables.proofs.HeadLaws.{headed}
+use Rattle.ol_check.proofs.EquationLaws.{root-judged, root-out}
 use mathlib.Core.Path.{_∙_}
 use native.Mathlib.Omega.{arith}
 use borrow.Author.Needs.{needs}
@@ -8,7 +6,7 @@ use Rattle.ol_check.proofs.judge.root.Statement.{statement}
 use Rattle.ol_check.proofs.judge.root.Tie as tie
 
 returns : tie.Need-returns
-returns c = λ enums e st. absurd (omega (arith, headed e nil st .inside, c .if1 .taken))
+returns c = root-out (c .if1 .taken)
 
 head-requires : tie.Need-head-requires
 head-requires c κs = search needs
@@ -53,13 +51,13 @@ capped-requires : tie.Need-capped-requires
 capped-requires c κs = search needs
 
 walk-requires : tie.Need-walk-requires
-walk-requires c κs = (c .before .before .before .before .before .before .before .before .before .before .before .before .before .before .before .before .before .before .before .before .before .before .pre .0, c .before .before .before .before .before .before .before .before .before .before .before .before .before .before .before .before .head .ensures .few, c .before .before .before .before .before .before .before .before .before .before .before .before .before .before .before .before .before .before .before .before .before .before .pre .1)
+walk-requires c κs = c .before .before .before .before .before .before .before .before .before .before .before .before .before .before .before .before .before .before .before .before .before .before .pre
 
 same-length : tie.Need-same-length
 same-length c = c .before .before .walk .kept .1 .1 .0 ∙ c .before .before .before .before .before .before .before .before .before .before .before .before .before .before .before .before .slot-head .kept .1 .1 .0
 
 returns-2 : tie.Need-returns-2
-returns-2 c = root-judged (c .before .before .before .before .before .before .before .before .before .before .before .before .before .before .before .before .before .before .before .before .before .before .before .before .before .args .slots .now) (c .before .before .before .before .before .before .before .before .earlier3 .result) (c .before .before .before .before .before .before .before .before .before .before .before .before .before .before .before .before .before .before .before .head .ensures) (c .before .before .before .before .before .before .before .before .before .before .before .before .before .before .before .before .before .before .arity-at .ensures) (c .before .before .before .before .before .before .before .before .before .before .before .before .before .before .before .before .slot-head .ensures) (c .before .before .before .before .before .before .before .before .before .before .before .before .earlier .ensures) (c .before .before .before .before .before .before .before .before .before .before .before .before .before .unseen-at .ensures) (c .before .before .before .before .before .before .before .before .before .before .earlier2 .ensures) (c .before .before .before .before .before .before .before .before .before .before .before .called-at .ensures) (c .before .before .before .before .before .before .before .before .earlier3 .ensures) (c .before .before .before .before .before .before .before .before .before .lone .ensures) (c .before .before .before .before .before .before .earlier4 .ensures) (c .before .before .before .before .before .before .before .other .ensures) (c .before .before .before .before .capped .ensures) (c .before .before .before .before .before .site .ensures) (c .before .before .walk .ensures)
+returns-2 c = root-judged (c .before .before .before .before .before .before .before .before .before .before .before .before .before .before .before .before .before .before .before .before .before .before .before .before .before .args .slots .now) (c .before .before .before .before .before .before .before .before .earlier3 .result) (c .before .before .before .before .before .before .before .before .before .before .before .before .before .before .before .before .before .before .before .head .ensures) (c .before .before .before .before .before .before .before .before .before .before .before .before .before .before .before .before .before .before .arity-at .ensures) (c .before .before .before .before .before .before .before .before .before .before .before .before .before .before .before .before .slot-head .ensures) (c .before .before .before .before .before .before .before .before .before .before .before .before .earlier .ensures) (c .before .before .before .before .before .before .before .before .before .before .before .before .before .unseen-at .ensures) (c .before .before .before .before .before .before .before .before .before .before .earlier2 .ensures) (c .before .before .before .before .before .before .before .before .before .before .before .called-at .ensures) (c .before .before .before .before .before .before .before .before .earlier3 .ensures) (c .before .before .before .before .before .before .before .before .before .lone .ensures) (c .before .before .before .before .before .before .earlier4 .ensures) (c .before .before .before .before .before .before .before .other .ensures) (c .before .before .before .before .capped .ensures) (c .before .before .before .before .before .site .ensures) (omega (arith, c .before .before .before .before .before .before .before .before .before .before .before .before .before .before .before .before .before .before .before .before .if1 .left)) (c .before .before .walk .ensures)
 
 pub root-spec : {M : Type 1} → statement M
 root-spec = tie.close (tie.spec returns head-requires arity-at-requires slot-head-requires unseen-at-requires add-earlier earlier-requires called-at-requires earlier-requires-2 lone-requires earlier-requires-3 other-requires earlier-requires-4 site-requires capped-requires walk-requires same-length returns-2)

@@ -1,5 +1,5 @@
-use Prim.Native.Nat.{ℕ, _+_, _*_, _-_, _≤_}
-use mathlib.Core.Path.{_≡_, refl, ap, _∙_}
+use Prim.Native.Nat.{_+_, _*_, _-_, _≤_}
+use mathlib.Core.Path.{_≡_, refl, _∙_}
 use lib.ListN.{length}
 use native.Mathlib.Omega.{arith}
 use Rattle.ol_check.proofs.EntryLoops.{EnumsGoing, enums-start, enums-turn, enums-done}

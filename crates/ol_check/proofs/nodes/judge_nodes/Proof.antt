@@ -6,10 +6,8 @@ use Rattle.ol_tables.proofs.HeadsFile.{bytes-of}
 use Rattle.ol_check.specs.NodesJudged.{NamesReady}
 use Rattle.ol_tables.specs.At.{fileAt}
 use lib.ListN.{length}
-use mathlib.Core.List.{List}
-use mathlib.Core.Path.{_≡_, refl, sym, ap, subst, _∙_}
-use Prim.Native.Nat.{ℕ, _-_, _≤_}
-use borrow.Author.Needs.{needs}
+use mathlib.Core.Path.{_≡_, sym, ap, subst, _∙_}
+use Prim.Native.Nat.{_-_, _≤_}
 use native.Mathlib.Omega.{arith}
 use Rattle.ol_check.proofs.nodes.judge_nodes.Statement.{statement}
 use Rattle.ol_check.proofs.nodes.judge_nodes.Tie as tie

@@ -1,4 +1,3 @@
-use mathlib.Core.Path.{refl}
 use Rattle.ol_check.proofs.NodeLaws.{ready-row, ready-node, node-back, node-judged, size-stored, equations-ready}
 use Rattle.ol_check.proofs.RowLoops.{few-variables}
 use Rattle.ol_tables.proofs.HeadsFile.{file-stands, bytes-of}

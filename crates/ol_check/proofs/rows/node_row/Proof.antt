@@ -1,9 +1,6 @@
-use Prim.Native.Nat.{_+_}
-use mathlib.Core.Path.{_≡_, refl, _∙_}
 use native.Mathlib.Omega.{arith}
 use borrow.Author.Needs.{needs}
 use Rattle.ol_check.proofs.RowLoops.{types-near, node-stored}
-use borrow.Author.Needs.{needs}
 use Rattle.ol_check.proofs.rows.node_row.Statement.{statement}
 use Rattle.ol_check.proofs.rows.node_row.Tie as tie
 use Rattle.ol_check.proofs.rows.node_row.Reads as reads

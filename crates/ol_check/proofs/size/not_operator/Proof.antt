@@ -1,5 +1,4 @@
 use Rattle.ol_check.proofs.SizeLaws.{main-operator, main-other}
-use native.Mathlib.Omega.{arith}
 use borrow.Author.Needs.{needs}
 use Rattle.ol_check.proofs.size.not_operator.Statement.{statement}
 use Rattle.ol_check.proofs.size.not_operator.Tie as tie

@@ -1,5 +1,4 @@
 use Rattle.ol_check.proofs.SizeLaws.{site-call, site-absent, site-none}
-use native.Mathlib.Omega.{arith}
 use borrow.Author.Needs.{needs}
 use Rattle.ol_check.proofs.size.site.Statement.{statement}
 use Rattle.ol_check.proofs.size.site.Tie as tie

@@ -57,7 +57,7 @@ state-size-requires c κs =
 judge-constants-requires : tie.Need-judge-constants-requires
 judge-constants-requires c κs =
     let start = c .before .before .before .before .before .before .before .before .before .before .before .before .before .before in
-    constants-ready (start .pre) (c .before .before .before .before .before .before .before .orders-of .kept .1 .1 .1 .1 .0) (c .before .before .before .before .before .before .before .orders-of .ensures _ _ (start .pre .sections .loads .reads .is)) (c .before .before .before .enum-told .given .1) (c .before .before .state-size .ensures)
+    constants-ready (start .pre) (c .before .before .before .before .before .before .before .orders-of .kept .1 .1 .1 .1 .0) (c .before .before .before .before .before .before .before .orders-of .ensures _ _ (start .pre .sections .loads .reads .is)) (c .before .before .before .enum-told .given .1) (c .before .before .state-size .ensures .sized)
 
 -- src/judge.rt:106:1
 same-length : tie.Need-same-length
