@@ -18,22 +18,22 @@ use Rattle.ol_value.specs.Codes.{tyOf}
 use Rattle.ol_tables.specs.At.{fileAt, nodeIn, exprAt, endAt, exprsAt, endsAt, ReadsAll}
 use Rattle.ol_tables.specs.Tables.{codeAt}
 use Rattle.ol_tables.proofs.Forms.{parted, none-read}
-use Rattle.ol_eval.specs.Walk.{nodesIn, sizesIn, Passable, SkipsTo}
-use Rattle.ol_eval.specs.Plans.{Program, globalsIn, scopeIn, evalIn, segsAt, segAt}
+use Rattle.ol_frame.specs.Walk.{nodesIn, sizesIn, Passable, SkipsTo}
+use Rattle.ol_frame.specs.Plans.{Program, globalsIn, scopeIn, evalIn, segsAt, segAt}
 use Rattle.ol_eval.specs.Post.{Ready, Meets, EvalsTo}
-use Rattle.ol_eval.specs.Stores.{passedBy}
-use Rattle.ol_eval.specs.Outcomes.{endingOf}
-use Rattle.ol_eval.specs.declared.outcomes.Ending.{Ending}
-use Rattle.ol_eval.specs.declared.outcomes.Ending.the-variants as End
+use Rattle.ol_frame.specs.Stores.{passedBy}
+use Rattle.ol_frame.specs.Outcomes.{endingOf}
+use Rattle.ol_frame.specs.declared.outcomes.Ending.{Ending}
+use Rattle.ol_frame.specs.declared.outcomes.Ending.the-variants as End
 use Rattle.ol_eval.specs.Calls.{Holds, RanTo, Passes, passedAll, allIn}
 use Rattle.ol_eval.specs.declared.cycle.Step.{Step}
 use Rattle.ol_eval.specs.declared.cycle.Ran.{Ran}
-use Rattle.ol_eval.specs.declared.skip.Passed.{Passed}
+use Rattle.ol_frame.specs.declared.skip.Passed.{Passed}
 use Rattle.ol_tables.proofs.Lending.{tailOf, putTail, tail-all, put-tail, drop-take}
-use Rattle.ol_eval.proofs.Planning.{segs-cons}
+use Rattle.ol_frame.proofs.Planning.{segs-cons}
 use Rattle.ol_eval.proofs.Evals.{seg-length}
 use Rattle.ol_eval.proofs.Readying.{ready-first, ready-tail, ready-pass, ready-seg, moved-skip}
-use Rattle.ol_eval.proofs.Storing.{values-next, typed, passed-as, fit-snoc}
+use Rattle.ol_frame.proofs.Storing.{values-next, typed, passed-as, fit-snoc}
 
 -- ---- outcomes of several
 

@@ -17,22 +17,22 @@ use Rattle.ol_spec.specs.declared.Outcome.{Outcome}
 use Rattle.ol_tables.specs.At.{fileAt, nodeIn, exprAt, endAt, exprsAt, endsAt, ReadsAll}
 use Rattle.ol_tables.specs.Tables.{Each, rowAt, siteBytes}
 use Rattle.ol_tables.proofs.Forms.{Formed, parted, none-read, callees-form, call-form}
-use Rattle.ol_eval.specs.Walk.{nodesIn, sizesIn}
-use Rattle.ol_eval.specs.Plans.{globalsIn, scopeIn, evalIn, segsAt, segAt}
-use Rattle.ol_eval.specs.Nodes.{Running, Enters}
+use Rattle.ol_frame.specs.Walk.{nodesIn, sizesIn}
+use Rattle.ol_frame.specs.Plans.{globalsIn, scopeIn, evalIn, segsAt, segAt}
+use Rattle.ol_frame.specs.Nodes.{Running, Enters}
 use Rattle.ol_eval.specs.Post.{Ready, Meets, EvalsTo}
-use Rattle.ol_eval.specs.Outcomes.{endingOf}
-use Rattle.ol_eval.specs.declared.outcomes.Ending.{Ending}
-use Rattle.ol_eval.specs.declared.outcomes.Ending.the-variants as End
+use Rattle.ol_frame.specs.Outcomes.{endingOf}
+use Rattle.ol_frame.specs.declared.outcomes.Ending.{Ending}
+use Rattle.ol_frame.specs.declared.outcomes.Ending.the-variants as End
 use Rattle.ol_eval.specs.Calls.{Holds, asIs, RanTo, Did, Passes, passedAll, allIn, AllTo, outputsAt, rhsEval, EntersTo, Steppable, SiteTo}
-use Rattle.ol_eval.specs.Stores.{Leaves}
+use Rattle.ol_frame.specs.Stores.{Leaves}
 use Rattle.ol_eval.specs.declared.cycle.Step.{Step}
 use Rattle.ol_eval.specs.declared.cycle.Ran.{Ran}
 use Rattle.ol_tables.proofs.Lending.{tailOf, putTail, tail-all, put-tail, take-put, drop-put, drop-take}
-use Rattle.ol_eval.proofs.Endings.{failed-values, over-values}
-use Rattle.ol_eval.proofs.Passing.{callees-one, row-size}
-use Rattle.ol_eval.proofs.RealKinds.{input-below}
-use Rattle.ol_eval.proofs.Planning.{Callee, plan-head, plan-parts, plan-call, segs-one}
+use Rattle.ol_frame.proofs.Endings.{failed-values, over-values}
+use Rattle.ol_frame.proofs.Passing.{callees-one, row-size}
+use Rattle.ol_frame.proofs.RealKinds.{input-below}
+use Rattle.ol_frame.proofs.Planning.{Callee, plan-head, plan-parts, plan-call, segs-one}
 
 -- ---- how several values end
 

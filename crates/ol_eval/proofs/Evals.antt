@@ -12,11 +12,11 @@ use Rattle.ol_spec.specs.declared.Value.{Value}
 use Rattle.ol_spec.specs.declared.Value.the-variants as Val
 use Rattle.ol_spec.specs.declared.Outcome.{Outcome}
 use Rattle.ol_spec.specs.declared.Outcome.the-variants as Out
-use Rattle.ol_eval.specs.Outcomes.{doneOf, binaryOut, testOf, untestedOf, runsOf, dropOut, commonOut}
-use Rattle.ol_eval.specs.Walk.{Skips}
+use Rattle.ol_frame.specs.Outcomes.{doneOf, binaryOut, testOf, untestedOf, runsOf, dropOut, commonOut}
+use Rattle.ol_frame.specs.Walk.{Skips}
 use Rattle.ol_eval.specs.Post.{Meets}
 use Rattle.ol_eval.specs.declared.cycle.Step.{Step}
-use Rattle.ol_eval.specs.declared.skip.Passed.{Passed}
+use Rattle.ol_frame.specs.declared.skip.Passed.{Passed}
 use Rattle.ol_tables.proofs.Lending.{tailOf, putTail, tail-all, put-tail, take-put, drop-put, drop-take}
 
 -- the new segment is as long as the old
@@ -109,7 +109,7 @@ two-stop {w} K {n = n} {k = k} {s = s} h g d =
 
 -- ---- a condition
 
-pub bool-of : (o : Outcome) (b : Bool) → testOf o ≡ Rattle.ol_eval.specs.Outcomes.testBit b → o ≡ Out.Value (Val.Bool b)
+pub bool-of : (o : Outcome) (b : Bool) → testOf o ≡ Rattle.ol_frame.specs.Outcomes.testBit b → o ≡ Out.Value (Val.Bool b)
 bool-of (Out.Value (Val.Bool true)) true h = refl
 bool-of (Out.Value (Val.Bool true)) false h = absurd (omega arith)
 bool-of (Out.Value (Val.Bool false)) true h = absurd (omega arith)
@@ -128,7 +128,7 @@ bool-of Out.Overflow true h = absurd (omega arith)
 bool-of Out.Overflow false h = absurd (omega arith)
 
 -- the condition is the Bool b
-pub if-taken : {w : Eval} (K : Bool → List ℕ → Eval) (b : Bool) {x y n k : ℕ} {s new new′ : List ℕ} {c r : Step} → Meets w x n s c new → Meets (K b (take k (drop n s))) y k (drop n s) r new′ → length new ≡ length s → n ≤ length s → testOf (c .out) ≡ Rattle.ol_eval.specs.Outcomes.testBit b → Meets (next w (condition K) (take k (drop n s))) y (n + k) s (record { out = r .out; next = r .next; used = c .used + r .used }) (putTail (c .used) new new′)
+pub if-taken : {w : Eval} (K : Bool → List ℕ → Eval) (b : Bool) {x y n k : ℕ} {s new new′ : List ℕ} {c r : Step} → Meets w x n s c new → Meets (K b (take k (drop n s))) y k (drop n s) r new′ → length new ≡ length s → n ≤ length s → testOf (c .out) ≡ Rattle.ol_frame.specs.Outcomes.testBit b → Meets (next w (condition K) (take k (drop n s))) y (n + k) s (record { out = r .out; next = r .next; used = c .used + r .used }) (putTail (c .used) new new′)
 unfolding condition
 if-taken {w} K b {n = n} {k = k} {s = s} h g e le t =
     let v = bool-of (w .out) b (ap testOf (sym (h .out)) ∙ t) in

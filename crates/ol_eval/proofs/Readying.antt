@@ -10,21 +10,21 @@ use Rattle.ol_spec.specs.Lists.{isEmpty, maybe}
 use Rattle.ol_spec.specs.Syntax.{Expr, Exprs, boolLit, intLit, floatLit, charLit, var, unary, binary, ifThenElse, pre, arrow, cast, call, tuple}
 use Rattle.ol_spec.specs.Eval.{orFailure, presentOf, sitesSize, Globals, Eval, callees, calleesAll, hasCall, RealKind, realKind, isDouble?, arithmetic, join, eval, thenOut, next, mapEval}
 use Rattle.ol_spec.specs.declared.Outcome.{Outcome}
-use Rattle.ol_eval.specs.Outcomes.{commonOut}
+use Rattle.ol_frame.specs.Outcomes.{commonOut}
 use Rattle.ol_tables.specs.At.{exprAt, endAt, exprsAt, endsAt, Reads, ReadsAll}
 use Rattle.ol_tables.specs.Tables.{Each, tyCode, tyEnum}
 use Rattle.ol_tables.specs.Heads.{headSize as headOf, partsOf}
 use Rattle.ol_tables.specs.Parts.{ownSites, Proper}
 use Rattle.ol_tables.proofs.Forms.{each-append, Formed, callees-all, callees-form, one-read, one-tree, parted, none-read, by-form, callees-parts, var-form}
-use Rattle.ol_eval.specs.Walk.{sizesIn, Passable, Skips, SkipsTo}
-use Rattle.ol_eval.specs.declared.skip.Passed.{Passed}
-use Rattle.ol_eval.specs.Plans.{Plan, Cells, segsAt, segAt, evalIn, Leaf, globalsIn, scopeIn, nameAt}
+use Rattle.ol_frame.specs.Walk.{sizesIn, Passable, Skips, SkipsTo}
+use Rattle.ol_frame.specs.declared.skip.Passed.{Passed}
+use Rattle.ol_frame.specs.Plans.{Plan, Cells, segsAt, segAt, evalIn, Leaf, globalsIn, scopeIn, nameAt}
 use Rattle.ol_eval.specs.Post.{Ready, Meets, EvalsTo, ChooseTo, chooseIn}
-use Rattle.ol_eval.specs.Nodes.{Enters}
+use Rattle.ol_frame.specs.Nodes.{Enters}
 use Rattle.ol_eval.specs.declared.cycle.Step.{Step}
 use Rattle.ol_tables.proofs.Lending.{tailOf, putTail, tail-all, take-put}
-use Rattle.ol_eval.proofs.Passing.{callees-one, own-call}
-use Rattle.ol_eval.proofs.RealKinds.{proper-type}
+use Rattle.ol_frame.proofs.Passing.{callees-one, own-call}
+use Rattle.ol_frame.proofs.RealKinds.{proper-type}
 use Rattle.ol_spec.specs.Operators.{unaryOf, binaryOf}
 use Rattle.ol_spec.specs.Types.{castTo}
 use Rattle.ol_spec.specs.Read.{unaryOps, binOps}
@@ -33,7 +33,7 @@ use Rattle.ol_spec.specs.Syntax.{Ty, UnaryOp, BinOp}
 use Rattle.ol_spec.specs.declared.Outcome.the-variants as Out
 use mathlib.Core.Option.{Option, some}
 use lib.ListN.{getElem?}
-use Rattle.ol_eval.proofs.Planning.{plan-head, plan-first, plan-rest, plan-parts, plan-passable, segs-one, segs-cons, segs-form, segs-first}
+use Rattle.ol_frame.proofs.Planning.{plan-head, plan-first, plan-rest, plan-parts, plan-passable, segs-one, segs-cons, segs-form, segs-first}
 use Rattle.ol_eval.proofs.Evals.{rest-old, rest-new}
 
 module _ {f tab rows consts : List ℕ} {node : ℕ} {cells before : List ℕ} where

@@ -23,22 +23,22 @@ use Rattle.ol_tables.specs.At.{fileAt, nodeIn, exprAt, exprsAt, Reads, ReadsAll
 use Rattle.ol_tables.specs.Tables.{Each, HasSlot, rowAt}
 use Rattle.ol_tables.proofs.Forms.{Formed, parted, reads-in, by-form, call-form, tuple-form, each-map}
 use Rattle.ol_state.proofs.Fits.{all-nth, fits, node-fits}
-use Rattle.ol_eval.specs.Walk.{nodesIn, sizesIn, Below}
-use Rattle.ol_eval.specs.Plans.{evalIn, globalsIn, scopeIn, widthIn, namesIn, constantsIn, segsAt, segAt}
+use Rattle.ol_frame.specs.Walk.{nodesIn, sizesIn, Below}
+use Rattle.ol_frame.specs.Plans.{evalIn, globalsIn, scopeIn, widthIn, namesIn, constantsIn, segsAt, segAt}
 use Rattle.ol_eval.specs.Post.{Ready, EvalsTo}
-use Rattle.ol_eval.specs.Nodes.{EquationPlan, Running, Enters}
+use Rattle.ol_frame.specs.Nodes.{EquationPlan, Running, Enters}
 use Rattle.ol_eval.specs.Calls.{passedAll, Holds, asIs, Did, Passes, AllTo, allIn, rhsEval, EntersTo, EquationReady, RhsReady, EquationTo}
-use Rattle.ol_eval.specs.Equations.{countIn, placeIn, rhsIn, equationIn}
-use Rattle.ol_eval.specs.Stores.{cellsIn, Storable, StoresOut, Assignable, Assigns}
-use Rattle.ol_eval.specs.Outcomes.{endingOf}
-use Rattle.ol_eval.specs.declared.outcomes.Ending.{Ending}
-use Rattle.ol_eval.specs.declared.outcomes.Ending.the-variants as End
+use Rattle.ol_frame.specs.Equations.{countIn, placeIn, rhsIn, equationIn}
+use Rattle.ol_frame.specs.Stores.{cellsIn, Storable, StoresOut, Assignable, Assigns}
+use Rattle.ol_frame.specs.Outcomes.{endingOf}
+use Rattle.ol_frame.specs.declared.outcomes.Ending.{Ending}
+use Rattle.ol_frame.specs.declared.outcomes.Ending.the-variants as End
 use Rattle.ol_eval.specs.declared.cycle.Step.{Step}
 use Rattle.ol_eval.specs.declared.cycle.Ran.{Ran}
-use Rattle.ol_eval.proofs.Passing.{callees-one}
-use Rattle.ol_eval.proofs.Planning.{sounds-below, segs-one, segs-form, plan-call}
+use Rattle.ol_frame.proofs.Passing.{callees-one}
+use Rattle.ol_frame.proofs.Planning.{sounds-below, segs-one, segs-form, plan-call}
 use Rattle.ol_eval.proofs.Readying.{ready-parts}
-use Rattle.ol_eval.proofs.Storing.{typed, storable, assign-least, values-take}
+use Rattle.ol_frame.proofs.Storing.{typed, storable, assign-least, values-take}
 
 -- what an array of n bytes lends from u on
 pub tail-whole : (n u : ℕ) (s : List ℕ) → length s ≡ n → take (n - u) (drop u s) ≡ drop u s

@@ -27,20 +27,20 @@ use Rattle.ol_tables.proofs.Forms.{each-append}
 use Rattle.ol_state.specs.Known.{Sited}
 use Rattle.ol_state.specs.Defaults.{cellsAt}
 use Rattle.ol_state.proofs.Instances.{is-operator as fresh-operator, no-operator, operator-size, no-size, few-nodes, variables-told, default-cells, row-of}
-use Rattle.ol_eval.specs.Walk.{nodesIn, sizesIn, Below}
-use Rattle.ol_eval.specs.Plans.{knownIn, globalsIn, widthIn}
-use Rattle.ol_eval.specs.Equations.{countIn, equationIn, rhsIn}
-use Rattle.ol_eval.specs.Nodes.{Running}
+use Rattle.ol_frame.specs.Walk.{nodesIn, sizesIn, Below}
+use Rattle.ol_frame.specs.Plans.{knownIn, globalsIn, widthIn}
+use Rattle.ol_frame.specs.Equations.{countIn, equationIn, rhsIn}
+use Rattle.ol_frame.specs.Nodes.{Running}
 use Rattle.ol_eval.specs.Calls.{asIs, Did, outputsAt, Steppable, SiteTo, Runnable, runIn, EndsAs, RunMeets, RunTo}
 use Rattle.ol_eval.specs.declared.cycle.Ended.{Ended}
-use Rattle.ol_eval.specs.declared.outcomes.Ending.{Ending}
-use Rattle.ol_eval.specs.declared.outcomes.Ending.the-variants as End
+use Rattle.ol_frame.specs.declared.outcomes.Ending.{Ending}
+use Rattle.ol_frame.specs.declared.outcomes.Ending.the-variants as End
 use Rattle.ol_tables.proofs.Lending.{tailOf, putTail, tail-all, put-tail, drop-put, length-put}
-use Rattle.ol_eval.proofs.Endings.{failed-values, over-values, over-failed}
-use Rattle.ol_eval.proofs.Planning.{sound-call, sounds-each}
-use Rattle.ol_eval.proofs.Passing.{callees-one}
-use Rattle.ol_eval.proofs.Depth.{calls-of, fresh-of}
-use Rattle.ol_eval.proofs.Storing.{values-take, values-drop, values-front, values-copied}
+use Rattle.ol_frame.proofs.Endings.{failed-values, over-values, over-failed}
+use Rattle.ol_frame.proofs.Planning.{sound-call, sounds-each}
+use Rattle.ol_frame.proofs.Passing.{callees-one}
+use Rattle.ol_frame.proofs.Depth.{calls-of, fresh-of}
+use Rattle.ol_frame.proofs.Storing.{values-take, values-drop, values-front, values-copied}
 
 -- ---- lists
 

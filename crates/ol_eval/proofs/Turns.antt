@@ -15,19 +15,19 @@ use Rattle.ol_spec.specs.declared.Value.{Value}
 use Rattle.ol_tables.specs.At.{fileAt, nodeIn, exprsAt}
 use Rattle.ol_tables.specs.Tables.{Each}
 use Rattle.ol_tables.proofs.Forms.{each-map}
-use Rattle.ol_eval.specs.Walk.{nodesIn, sizesIn, Below}
-use Rattle.ol_eval.specs.Plans.{globalsIn, widthIn}
-use Rattle.ol_eval.specs.Nodes.{Running}
-use Rattle.ol_eval.specs.Outcomes.{endingOf}
-use Rattle.ol_eval.specs.declared.outcomes.Ending.{Ending}
-use Rattle.ol_eval.specs.declared.outcomes.Ending.the-variants as End
+use Rattle.ol_frame.specs.Walk.{nodesIn, sizesIn, Below}
+use Rattle.ol_frame.specs.Plans.{globalsIn, widthIn}
+use Rattle.ol_frame.specs.Nodes.{Running}
+use Rattle.ol_frame.specs.Outcomes.{endingOf}
+use Rattle.ol_frame.specs.declared.outcomes.Ending.{Ending}
+use Rattle.ol_frame.specs.declared.outcomes.Ending.the-variants as End
 use Rattle.ol_eval.specs.Calls.{Holds, Did, Runnable, runIn, EndsAs, RunTo, EquationReady, EquationTo}
-use Rattle.ol_eval.specs.Equations.{countIn, rhsIn, equationIn, EquationsStand, EquationsAre, offsetIn}
-use Rattle.ol_eval.proofs.Endings.{failed-values, over-values}
-use Rattle.ol_eval.proofs.Passing.{callees-one}
-use Rattle.ol_eval.proofs.Planning.{sounds-below}
-use Rattle.ol_eval.proofs.Equating.{offset-suc, offset-upto}
-use Rattle.ol_eval.proofs.Running.{midOf, putMid, length-mid, segOf, putSeg, sizeOf, Left, rightOf, left-start, left-turn, left-failed, left-over, left-done}
+use Rattle.ol_frame.specs.Equations.{countIn, rhsIn, equationIn, EquationsStand, EquationsAre, offsetIn}
+use Rattle.ol_frame.proofs.Endings.{failed-values, over-values}
+use Rattle.ol_frame.proofs.Passing.{callees-one}
+use Rattle.ol_frame.proofs.Planning.{sounds-below}
+use Rattle.ol_frame.proofs.Equating.{offset-suc, offset-upto}
+use Rattle.ol_frame.proofs.Running.{midOf, putMid, length-mid, segOf, putSeg, sizeOf, Left, rightOf, left-start, left-turn, left-failed, left-over, left-done}
 
 -- the equations of a node that can be run stand in the file
 pub stands : {file tab rows consts : List ℕ} (k : ℕ) → Running file tab rows consts → k < nodesIn file → sitesSize (sizesIn file) (sites (nodeIn file k)) ≤ 32768 → EquationsStand file rows k

@@ -14,13 +14,13 @@ use Rattle.ol_spec.specs.Step.{Ended as RunEnd}
 use Rattle.ol_spec.specs.declared.Value.{Value}
 use Rattle.ol_tables.specs.At.{fileAt, nodeIn, exprAt, endAt, exprsAt, endsAt}
 use Rattle.ol_tables.specs.Tables.{siteBytes}
-use Rattle.ol_eval.specs.Walk.{nodesIn, sizesIn}
-use Rattle.ol_eval.specs.Plans.{Cells, globalsIn, widthIn, scopeIn, segsAt, segAt}
-use Rattle.ol_eval.specs.Equations.{countIn, placeIn, equationIn, rhsIn}
-use Rattle.ol_eval.specs.Nodes.{Running}
-use Rattle.ol_eval.specs.Outcomes.{endingOf}
-use Rattle.ol_eval.specs.declared.outcomes.Ending.{Ending}
-use Rattle.ol_eval.specs.declared.outcomes.Ending.the-variants as End
+use Rattle.ol_frame.specs.Walk.{nodesIn, sizesIn}
+use Rattle.ol_frame.specs.Plans.{Cells, globalsIn, widthIn, scopeIn, segsAt, segAt}
+use Rattle.ol_frame.specs.Equations.{countIn, placeIn, equationIn, rhsIn}
+use Rattle.ol_frame.specs.Nodes.{Running}
+use Rattle.ol_frame.specs.Outcomes.{endingOf}
+use Rattle.ol_frame.specs.declared.outcomes.Ending.{Ending}
+use Rattle.ol_frame.specs.declared.outcomes.Ending.the-variants as End
 use Rattle.ol_eval.specs.declared.cycle.Ran.{Ran}
 use Rattle.ol_eval.specs.declared.cycle.Ended.{Ended}
 

@@ -1,11 +1,2 @@
-pub mod Admitted
 pub mod Calls
-pub mod Constants
-pub mod Equations
-pub mod MainCycle
-pub mod Nodes
-pub mod Outcomes
-pub mod Plans
 pub mod Post
-pub mod Stores
-pub mod Walk

@@ -9,8 +9,8 @@ use Rattle.ol_spec.specs.Eval.{Eval, Branch, calleesAll, next, mapEval, choose,
 use Rattle.ol_value.specs.Codes.{binaryBy}
 use Rattle.ol_tables.specs.At.{exprAt, endAt, exprsAt, endsAt}
 use Rattle.ol_tables.specs.Tables.{Each}
-use Rattle.ol_eval.specs.Plans.{Plan, Cells, segsAt, segAt, evalIn, globalsIn, scopeIn}
-use Rattle.ol_eval.specs.Nodes.{Enters}
+use Rattle.ol_frame.specs.Plans.{Plan, Cells, segsAt, segAt, evalIn, globalsIn, scopeIn}
+use Rattle.ol_frame.specs.Nodes.{Enters}
 use Rattle.ol_eval.specs.declared.cycle.Step.{Step}
 
 -- n expressions from `at` on can be evaluated on the parts `old` and `new` of the two states

@@ -14,33 +14,33 @@ ghost use Rattle.ol_eval.specs.Calls.{Passes, AllTo, EntersTo, Steppable
 ghost use Rattle.ol_spec.specs.Syntax.{Function, Operator};
 ghost use Rattle.ol_tables.specs.At.{nodeIn};
 ghost use lib.ListN.{length, getD};
-use crate::copies::assign;
-use crate::copies::copy;
-use crate::copies::copy_cells;
-use crate::copies::less;
-use crate::copies::passed;
-use crate::copies::single_out;
-use crate::copies::store_out;
-use crate::copies::write_cells;
-use crate::equations::equations;
-use crate::names::chosen;
-use crate::names::leaf_out;
-use crate::names::present;
-use crate::outcomes::Ending;
-use crate::outcomes::binary_out;
-use crate::outcomes::cast_out;
-use crate::outcomes::done;
-use crate::outcomes::drop_failure;
-use crate::outcomes::runs;
-use crate::outcomes::same_out;
-use crate::outcomes::test_of;
-use crate::outcomes::unary_out;
-use crate::outcomes::untested;
-use crate::skip::pass;
-use crate::skip::pass_all;
-use crate::tables::number;
-use crate::tables::order_at;
-use crate::tables::row;
+use ol_frame::copies::assign;
+use ol_frame::copies::copy;
+use ol_frame::copies::copy_cells;
+use ol_frame::copies::less;
+use ol_frame::copies::passed;
+use ol_frame::copies::single_out;
+use ol_frame::copies::store_out;
+use ol_frame::copies::write_cells;
+use ol_frame::equations::equations;
+use ol_frame::names::chosen;
+use ol_frame::names::leaf_out;
+use ol_frame::names::present;
+use ol_frame::outcomes::Ending;
+use ol_frame::outcomes::binary_out;
+use ol_frame::outcomes::cast_out;
+use ol_frame::outcomes::done;
+use ol_frame::outcomes::drop_failure;
+use ol_frame::outcomes::runs;
+use ol_frame::outcomes::same_out;
+use ol_frame::outcomes::test_of;
+use ol_frame::outcomes::unary_out;
+use ol_frame::outcomes::untested;
+use ol_frame::skip::pass;
+use ol_frame::skip::pass_all;
+use ol_frame::tables::number;
+use ol_frame::tables::order_at;
+use ol_frame::tables::row;
 use ol_spec::Outcome;
 use ol_state::defaults::write_defaults;
 use ol_state::fresh::write_fresh;
@@ -54,27 +54,27 @@ use ol_tables::tables::VARIABLES;
 use ol_value::cell::write_cell;
 
 // What evaluating an expression gives: its outcome, where it ends, and the bytes of its records.
-pub(crate) struct Step {
-    pub(crate) out: Outcome,
-    pub(crate) next: usize,
-    pub(crate) used: usize,
+pub struct Step {
+    pub out: Outcome,
+    pub next: usize,
+    pub used: usize,
 }
 
 // What evaluating several expressions, or a call, gives: how it ended, where they end, and the bytes of their records.
-pub(crate) struct Ran {
-    pub(crate) end: Ending,
-    pub(crate) next: usize,
-    pub(crate) used: usize,
+pub struct Ran {
+    pub end: Ending,
+    pub next: usize,
+    pub used: usize,
 }
 
 // How a run of a node's equations ended, and the equation that ended it.
-pub(crate) struct Ended {
-    pub(crate) end: Ending,
-    pub(crate) index: usize,
+pub struct Ended {
+    pub end: Ending,
+    pub index: usize,
 }
 
 // The expression at `at`. A Var is read at once.
-pub(crate) fn eval(
+pub fn eval(
     file: &[u8],
     tab: &[u8],
     rows: &[usize],
@@ -288,7 +288,7 @@ fn eval_form(
 }
 
 // Where the type with this code, which stands at `at`, ends.
-pub(crate) fn after_type(code: u8, at: usize) -> usize
+pub fn after_type(code: u8, at: usize) -> usize
     requires { ⌜ at < 65536 ⌝ }
     ensures { λ r. ⌜ r ≡ at + cond (eqb code 12) 2 1 ⌝ }
 {
@@ -868,7 +868,7 @@ fn step_function(
 }
 
 // All equations of node k in evaluation order, on the cells that it starts from.
-pub(crate) fn run(
+pub fn run(
     file: &[u8],
     tab: &[u8],
     rows: &[usize],

@@ -1,10 +1,2 @@
 // An inner part of the runtime: expressions, equations and node instances of an admitted file, evaluated where their bytes stand. Document 01, "The state".
-pub mod constants;
-pub mod copies;
-mod cycle;
-mod equations;
-pub mod main_cycle;
-mod names;
-mod outcomes;
-mod skip;
-mod tables;
+pub mod cycle;

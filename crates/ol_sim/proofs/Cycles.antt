@@ -19,7 +19,7 @@ use Rattle.ol_tables.specs.At.{fileAt}
 use Rattle.ol_tables.specs.Tables.{Variants, rowAt}
 use Rattle.ol_spec.proofs.Cells.{length-cells}
 use Rattle.ol_state.specs.Ready.{Ready}
-use Rattle.ol_eval.specs.MainCycle.{RunReady, Cycles}
+use Rattle.ol_run.specs.MainCycle.{RunReady, Cycles}
 use Rattle.ol_sim.specs.Calls.{CyclesAs}
 use Rattle.ol_sim.specs.Judging.{valuesIn, whole}
 use Rattle.ol_sim.specs.Answering.{AnswerReady}

@@ -21,7 +21,7 @@ use Rattle.ol_tables.specs.At.{fileAt}
 use Rattle.ol_tables.specs.Tables.{Variants}
 use Rattle.ol_tables.specs.Stands.{FileStands}
 use Rattle.ol_check.proofs.VariantLaws.{variants-tell}
-use Rattle.ol_eval.specs.Nodes.{Running}
+use Rattle.ol_frame.specs.Nodes.{Running}
 use Rattle.ol_sim.specs.Calls.{AdmitsAs, StartsAs, CyclesAs}
 use Rattle.ol_sim.specs.Judging.{Admits, Empty, namesAfter, whole}
 use Rattle.ol_sim.specs.Answering.{AnswerReady}

@@ -37,10 +37,10 @@ use Rattle.ol_check.proofs.NamesBelow.{low-within}
 use Rattle.ol_order.specs.Orders.{ringPlace, NodesStand, OrdersDone}
 use Rattle.ol_order.specs.declared.table.Ring.{Ring}
 use Rattle.ol_order.specs.declared.table.Ring.the-variants as Rin
-use Rattle.ol_eval.specs.Admitted.{Admitted}
-use Rattle.ol_eval.specs.Constants.{ConstantsAre}
-use Rattle.ol_eval.specs.declared.constants.Found.{Found}
-use Rattle.ol_eval.specs.declared.constants.Found.the-variants as Fnd
+use Rattle.ol_run.specs.Admitted.{Admitted}
+use Rattle.ol_run.specs.Constants.{ConstantsAre}
+use Rattle.ol_run.specs.declared.constants.Found.{Found}
+use Rattle.ol_run.specs.declared.constants.Found.the-variants as Fnd
 use Rattle.ol_sim.specs.Judging.{Judges, Admits, Held, valuesIn, from13, MainReady, ConstantsReady, Typed, Slots, OrderReady, ShapesReady}
 use Rattle.ol_sim.proofs.Lows.{low-names}
 use Rattle.ol_sim.specs.declared.judge.Judged.the-variants as Jud

@@ -7,8 +7,8 @@ use Rattle.ol_spec.specs.Syntax.{Operator}
 use Rattle.ol_spec.specs.Admission.{stateSize}
 use Rattle.ol_tables.specs.At.{fileAt}
 use Rattle.ol_tables.specs.Tables.{nodeOf}
-use Rattle.ol_eval.specs.Nodes.{Running}
-use Rattle.ol_eval.specs.Admitted.{Admitted}
+use Rattle.ol_frame.specs.Nodes.{Running}
+use Rattle.ol_run.specs.Admitted.{Admitted}
 use Rattle.ol_sim.specs.Judging.{Held}
 
 -- an admitted file: its tables, the length of its state, its constants' cells, and its main node

@@ -21,7 +21,7 @@ use Rattle.ol_check.specs.FileJudged.{NamesWithin, FileJudged, globalTable}
 use Rattle.ol_check.specs.Sizes.{MainSized}
 use Rattle.ol_check.specs.declared.rows.Sections.{Sections}
 use Rattle.ol_check.specs.declared.Faults.{Faults}
-use Rattle.ol_eval.specs.Admitted.{Sound, Admitted}
+use Rattle.ol_run.specs.Admitted.{Sound, Admitted}
 use Rattle.ol_sim.specs.declared.judge.Judged.{Judged}
 use Rattle.ol_sim.specs.declared.judge.Judged.the-variants as Jud
 

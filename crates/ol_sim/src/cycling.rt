@@ -1,5 +1,5 @@
 // The cycle: 15 to 17, then the main instance's run and its end.
-use ol_eval::main_cycle::run_main;
+use ol_run::main_cycle::run_main;
 use ol_spec::Cycled;
 use ol_spec::Fault;
 use ol_state::good_inputs;

@@ -1,6 +1,6 @@
 // The start: the fresh state.
 use crate::calls::Answer;
-use ol_eval::copies::copy;
+use ol_frame::copies::copy;
 use ol_spec::Fault;
 use ol_state::fresh::write_fresh;
 ghost use mathlib.Core.Path.{_≡_};

@@ -1,7 +1,7 @@
 -- <uses>
 use mathlib.Core.Path.{_≡_, refl, sym, ap, subst, _∙_}
 use Prim.Native.Nat.{ℕ, _+_}
-use Rattle.ol_eval.proofs.Passing.{enum-size, plain-size}
+use Rattle.ol_frame.proofs.Passing.{enum-size, plain-size}
 -- </uses>
 use borrow.Author.Needs.{needs}
 use Rattle.ol_eval.proofs.cycle.after_type.Statement.{statement}

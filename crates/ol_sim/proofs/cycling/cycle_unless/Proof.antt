@@ -12,7 +12,7 @@ use Rattle.ol_sim.proofs.cycling.cycle_unless.Statement.{statement}
 use Rattle.ol_sim.proofs.cycling.cycle_unless.Tie as tie
 use Rattle.ol_sim.proofs.cycling.cycle_unless.Reads as reads
 use Rattle.ol_sim.proofs.cycling.cycle_unless.Lts as lts
-use Rattle.ol_eval.proofs.main_cycle.run_main.Reads as run-main-reads
+use Rattle.ol_run.proofs.main_cycle.run_main.Reads as run-main-reads
 use Rattle.ol_tables.proofs.tables.row.Reads as row-reads
 use Rattle.ol_sim.proofs.cycling.refuse.Reads as refuse-reads
 use Rattle.ol_state.proofs.good_inputs.Reads as good-inputs-reads

@@ -5,7 +5,7 @@ use native.Mathlib.Omega.{arith}
 use lib.ListN.{length, take}
 use lib.Seq.{length-take-le}
 use Rattle.ol_tables.specs.At.{fileAt}
-use Rattle.ol_eval.proofs.AdmittedConstants.{constants-ready}
+use Rattle.ol_run.proofs.AdmittedConstants.{constants-ready}
 use Rattle.ol_tables.proofs.Lending.{length-put-front}
 use Rattle.ol_sim.proofs.Chain.{refused-at, passed-by}
 use Rattle.ol_sim.proofs.Steps.{count-constants, count-nodes, stuck-12, all-held, front-held}
@@ -16,7 +16,7 @@ use Rattle.ol_sim.proofs.judge.judge_constants.Tie as tie
 use Rattle.ol_sim.proofs.judge.judge_constants.Reads as reads
 use Rattle.ol_sim.proofs.judge.judge_constants.Lts as lts
 use Rattle.ol_tables.proofs.bytes.byte.Reads as byte-reads
-use Rattle.ol_eval.proofs.constants.constant_values.Reads as constant-values-reads
+use Rattle.ol_run.proofs.constants.constant_values.Reads as constant-values-reads
 use Rattle.ol_sim.proofs.judge.judge_main.Reads as judge-main-reads
 use Rattle.ol_sim.proofs.judge.refuse.Reads as refuse-reads
 

@@ -3,7 +3,7 @@ use mathlib.Core.Path.{sym, ap, _∙_}
 use Prim.Native.Nat.{_-_, _*_}
 use native.Mathlib.Omega.{arith}
 use lib.Seq.{length-take-le}
-use Rattle.ol_eval.proofs.Admitted.{running}
+use Rattle.ol_run.proofs.Admitted.{running}
 use Rattle.ol_tables.proofs.HeadsFile.{bytes-of}
 use Rattle.ol_sim.proofs.Starts.{admits-of, judged-whole, judged-refused}
 use Rattle.ol_sim.proofs.Serving.{refused-serves, answer-ready, names-tell}

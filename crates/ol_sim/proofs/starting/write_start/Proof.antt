@@ -11,7 +11,7 @@ use Rattle.ol_sim.proofs.starting.write_start.Statement.{statement}
 use Rattle.ol_sim.proofs.starting.write_start.Tie as tie
 use Rattle.ol_sim.proofs.starting.write_start.Reads as reads
 use Rattle.ol_sim.proofs.starting.write_start.Lts as lts
-use Rattle.ol_eval.proofs.copies.copy.Reads as copy-reads
+use Rattle.ol_frame.proofs.copies.copy.Reads as copy-reads
 use Rattle.ol_state.proofs.fresh.write_fresh.Reads as write-fresh-reads
 
 -- src/starting.rt:32:18

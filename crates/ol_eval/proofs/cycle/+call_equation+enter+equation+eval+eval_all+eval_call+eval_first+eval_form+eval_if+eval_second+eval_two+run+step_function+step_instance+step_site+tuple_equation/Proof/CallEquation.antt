@@ -4,17 +4,17 @@ use mathlib.Core.Path.{_≡_, refl, sym, ap, subst, _∙_}
 use Prim.Native.Nat.{_+_, _-_, _*_, _≤_, _<_, min}
 use native.Mathlib.Omega.{arith}
 use lib.ListN.{length, getD, take, drop, length-drop}
-use Rattle.ol_eval.proofs.Endings.{unvalued}
+use Rattle.ol_frame.proofs.Endings.{unvalued}
 use Rattle.ol_eval.proofs.Rights.{equation-ready, call-inside, callee-row, tail-whole, names-least, values-assignable, call-done, call-stops}
 -- </uses>
 use Prim.Native.Nat.{ℕ}
 use borrow.Author.Needs.{needs}
-use Rattle.ol_eval.proofs.copies.assign.Reads as assign-reads
+use Rattle.ol_frame.proofs.copies.assign.Reads as assign-reads
 use Rattle.ol_eval.proofs.cycle.call_equation.Reads as call-equation
 use Rattle.ol_eval.proofs.cycle.enter.Reads as enter
-use Rattle.ol_eval.proofs.copies.less.Reads as less-reads
-use Rattle.ol_eval.proofs.tables.number.Reads as number-reads
-use Rattle.ol_eval.proofs.tables.row.Reads as row-reads
+use Rattle.ol_frame.proofs.copies.less.Reads as less-reads
+use Rattle.ol_frame.proofs.tables.number.Reads as number-reads
+use Rattle.ol_frame.proofs.tables.row.Reads as row-reads
 use Rattle.ol_eval.proofs.cycle.+call_equation+enter+equation+eval+eval_all+eval_call+eval_first+eval_form+eval_if+eval_second+eval_two+run+step_function+step_instance+step_site+tuple_equation.Lts-call_equation as call-equation-lts
 use Rattle.ol_eval.proofs.cycle.+call_equation+enter+equation+eval+eval_all+eval_call+eval_first+eval_form+eval_if+eval_second+eval_two+run+step_function+step_instance+step_site+tuple_equation.Proof.Common.{call-equation-at, enter-below}
 

@@ -11,8 +11,8 @@ use borrow.Author.Needs.{needs}
 use Rattle.ol_eval.proofs.cycle.call_equation.Reads as call-equation
 use Rattle.ol_eval.proofs.cycle.equation.Reads as equation
 use Rattle.ol_eval.proofs.cycle.eval.Reads as eval
-use Rattle.ol_eval.proofs.tables.number.Reads as number-reads
-use Rattle.ol_eval.proofs.copies.store_out.Reads as store-out-reads
+use Rattle.ol_frame.proofs.tables.number.Reads as number-reads
+use Rattle.ol_frame.proofs.copies.store_out.Reads as store-out-reads
 use Rattle.ol_eval.proofs.cycle.tuple_equation.Reads as tuple-equation
 use Rattle.ol_eval.proofs.cycle.+call_equation+enter+equation+eval+eval_all+eval_call+eval_first+eval_form+eval_if+eval_second+eval_two+run+step_function+step_instance+step_site+tuple_equation.Lts-equation as equation-lts
 use Rattle.ol_eval.proofs.cycle.+call_equation+enter+equation+eval+eval_all+eval_call+eval_first+eval_form+eval_if+eval_second+eval_two+run+step_function+step_instance+step_site+tuple_equation.Proof.Common.{equation-at, call-equation-below, eval-below, tuple-equation-below}

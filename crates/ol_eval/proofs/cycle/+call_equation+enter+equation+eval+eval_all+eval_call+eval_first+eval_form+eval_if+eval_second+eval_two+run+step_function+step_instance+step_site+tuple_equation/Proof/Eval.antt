@@ -4,14 +4,14 @@ use mathlib.Core.Path.{_≡_, refl, sym, ap, subst, _∙_}
 use Prim.Native.Nat.{_+_}
 use native.Mathlib.Omega.{arith}
 use Rattle.ol_tables.proofs.Forms.{reads-in, var-form}
-use Rattle.ol_eval.proofs.Planning.{plan-head, plan-name}
+use Rattle.ol_frame.proofs.Planning.{plan-head, plan-name}
 use Rattle.ol_eval.proofs.Readying.{var-evals}
 -- </uses>
 use Prim.Native.Nat.{ℕ}
 use borrow.Author.Needs.{needs}
 use Rattle.ol_eval.proofs.cycle.eval.Reads as eval
 use Rattle.ol_eval.proofs.cycle.eval_form.Reads as eval-form
-use Rattle.ol_eval.proofs.names.present.Reads as present-reads
+use Rattle.ol_frame.proofs.names.present.Reads as present-reads
 use Rattle.ol_eval.proofs.cycle.+call_equation+enter+equation+eval+eval_all+eval_call+eval_first+eval_form+eval_if+eval_second+eval_two+run+step_function+step_instance+step_site+tuple_equation.Lts-eval as eval-lts
 use Rattle.ol_eval.proofs.cycle.+call_equation+enter+equation+eval+eval_all+eval_call+eval_first+eval_form+eval_if+eval_second+eval_two+run+step_function+step_instance+step_site+tuple_equation.Proof.Common.{eval-at, eval-form-below}
 

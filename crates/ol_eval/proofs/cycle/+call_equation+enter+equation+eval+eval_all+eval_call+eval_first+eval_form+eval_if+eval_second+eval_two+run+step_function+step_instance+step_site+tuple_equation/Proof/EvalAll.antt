@@ -7,8 +7,8 @@ use Prim.Native.Nat.{ℕ, suc, _+_, _-_, _*_, _≤_, _<_}
 use native.Mathlib.Omega.{arith}
 use lib.ListN.{length, take, drop}
 use Rattle.ol_tables.specs.At.{nodeIn}
-use Rattle.ol_eval.specs.Walk.{Passable, SkipsTo}
-use Rattle.ol_eval.specs.Plans.{segsAt}
+use Rattle.ol_frame.specs.Walk.{Passable, SkipsTo}
+use Rattle.ol_frame.specs.Plans.{segsAt}
 use Rattle.ol_eval.specs.Calls.{allIn, passedAll}
 use Rattle.ol_spec.specs.Cell.{valuesOf}
 use Rattle.ol_tables.proofs.Lending.{tailOf, tail-all, length-put}
@@ -19,8 +19,8 @@ use Prim.Native.Nat.{ℕ}
 use borrow.Author.Needs.{needs}
 use Rattle.ol_eval.proofs.cycle.eval.Reads as eval
 use Rattle.ol_eval.proofs.cycle.eval_all.Reads as eval-all
-use Rattle.ol_eval.proofs.skip.pass_all.Reads as pass-all-reads
-use Rattle.ol_eval.proofs.copies.passed.Reads as passed-reads
+use Rattle.ol_frame.proofs.skip.pass_all.Reads as pass-all-reads
+use Rattle.ol_frame.proofs.copies.passed.Reads as passed-reads
 use Rattle.ol_value.proofs.cell.write_cell.Reads as write-cell-reads
 use Rattle.ol_eval.proofs.cycle.+call_equation+enter+equation+eval+eval_all+eval_call+eval_first+eval_form+eval_if+eval_second+eval_two+run+step_function+step_instance+step_site+tuple_equation.Lts-eval_all as eval-all-lts
 use Rattle.ol_eval.proofs.cycle.+call_equation+enter+equation+eval+eval_all+eval_call+eval_first+eval_form+eval_if+eval_second+eval_two+run+step_function+step_instance+step_site+tuple_equation.Proof.Common.{eval-all-at, eval-below}

@@ -12,11 +12,11 @@ use Rattle.ol_spec.specs.Eval.{Eval, next, mapEval, choose, condition, eval}
 use Rattle.ol_value.specs.Codes.{binaryBy}
 use Rattle.ol_tables.specs.At.{exprAt, endAt}
 use Rattle.ol_tables.proofs.Forms.{parted}
-use Rattle.ol_eval.specs.Walk.{SkipsTo}
-use Rattle.ol_eval.specs.Plans.{evalIn, segAt, segsAt}
+use Rattle.ol_frame.specs.Walk.{SkipsTo}
+use Rattle.ol_frame.specs.Plans.{evalIn, segAt, segsAt}
 use Rattle.ol_eval.specs.Post.{branchIn, chooseIn}
 use Rattle.ol_tables.proofs.Lending.{length-put, length-put-front, putTail, tail-all}
-use Rattle.ol_eval.proofs.Planning.{segs-cons}
+use Rattle.ol_frame.proofs.Planning.{segs-cons}
 use Rattle.ol_eval.proofs.Evals.{rest-old, two-done, two-stop, if-taken, if-stop, first-ran, first-not, second-ran, second-not, seq-as}
 use Rattle.ol_eval.proofs.Readying.{ready-first, ready-rest, ready-tail, ready-front, ready-pass, ready-seg, moved, moved-choice, moved-skip, skip-one, two-segs, two-ends, chosen-is}
 use Rattle.ol_spec.specs.Syntax.{Expr, unary, cast}
@@ -25,24 +25,24 @@ use Rattle.ol_spec.specs.Types.{castTo}
 use Rattle.ol_spec.specs.Places.{tySize}
 use Rattle.ol_tables.proofs.Forms.{reads-in, reads-deep, unary-form, binary-form, if-form, arrow-form, cast-form, type-some}
 use Rattle.ol_eval.specs.Post.{twoIn, ifIn}
-use Rattle.ol_eval.proofs.Planning.{plan-head}
-use Rattle.ol_eval.proofs.Passing.{callees-one, own-call}
+use Rattle.ol_frame.proofs.Planning.{plan-head}
+use Rattle.ol_frame.proofs.Passing.{callees-one, own-call}
 use Rattle.ol_eval.proofs.Evals.{mapped}
 use Rattle.ol_eval.proofs.Readying.{ready-parts, form-evals, one-evals, leaf-evals, unary-out-is, cast-out-is, binary-is, first-is}
 -- </uses>
 use Prim.Native.Nat.{ℕ}
 use borrow.Author.Needs.{needs}
 use Rattle.ol_eval.proofs.cycle.after_type.Reads as after-type-reads
-use Rattle.ol_eval.proofs.outcomes.cast_out.Reads as cast-out-reads
+use Rattle.ol_frame.proofs.outcomes.cast_out.Reads as cast-out-reads
 use Rattle.ol_eval.proofs.cycle.eval_form.Reads as eval-form
 use Rattle.ol_eval.proofs.cycle.eval_call.Reads as eval-call
 use Rattle.ol_eval.proofs.cycle.eval_first.Reads as eval-first
 use Rattle.ol_eval.proofs.cycle.eval_if.Reads as eval-if
 use Rattle.ol_eval.proofs.cycle.eval_second.Reads as eval-second
 use Rattle.ol_eval.proofs.cycle.eval_two.Reads as eval-two
-use Rattle.ol_eval.proofs.names.leaf_out.Reads as leaf-out-reads
-use Rattle.ol_eval.proofs.skip.pass.Reads as pass-reads
-use Rattle.ol_eval.proofs.outcomes.unary_out.Reads as unary-out-reads
+use Rattle.ol_frame.proofs.names.leaf_out.Reads as leaf-out-reads
+use Rattle.ol_frame.proofs.skip.pass.Reads as pass-reads
+use Rattle.ol_frame.proofs.outcomes.unary_out.Reads as unary-out-reads
 use Rattle.ol_eval.proofs.cycle.+call_equation+enter+equation+eval+eval_all+eval_call+eval_first+eval_form+eval_if+eval_second+eval_two+run+step_function+step_instance+step_site+tuple_equation.Lts-eval_form as eval-form-lts
 use Rattle.ol_eval.proofs.cycle.+call_equation+enter+equation+eval+eval_all+eval_call+eval_first+eval_form+eval_if+eval_second+eval_two+run+step_function+step_instance+step_site+tuple_equation.Proof.Common.{eval-form-at, eval-form-below, eval-call-below, eval-first-below, eval-if-below, eval-second-below, eval-two-below}
 

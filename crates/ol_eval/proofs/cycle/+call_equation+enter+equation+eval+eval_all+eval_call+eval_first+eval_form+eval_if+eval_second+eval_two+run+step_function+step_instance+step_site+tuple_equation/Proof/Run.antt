@@ -7,16 +7,16 @@ use native.Mathlib.Omega.{arith}
 use lib.ListN.{length, getD, drop}
 use Rattle.ol_spec.specs.Order.{order}
 use Rattle.ol_tables.specs.At.{nodeIn}
-use Rattle.ol_eval.proofs.Endings.{unvalued}
-use Rattle.ol_eval.proofs.Running.{length-put-mid, length-mid}
+use Rattle.ol_frame.proofs.Endings.{unvalued}
+use Rattle.ol_frame.proofs.Running.{length-put-mid, length-mid}
 use Rattle.ol_eval.proofs.Turns.{stands, LeftIn, run-start, run-next, turn-part, turn-ready, turn-goes, turn-stops, run-done}
 -- </uses>
 use Prim.Native.Nat.{ℕ}
 use borrow.Author.Needs.{needs}
 use Rattle.ol_eval.proofs.cycle.equation.Reads as equation
-use Rattle.ol_eval.proofs.equations.equations.Reads as equations-reads
-use Rattle.ol_eval.proofs.tables.order_at.Reads as order-at-reads
-use Rattle.ol_eval.proofs.tables.row.Reads as row-reads
+use Rattle.ol_frame.proofs.equations.equations.Reads as equations-reads
+use Rattle.ol_frame.proofs.tables.order_at.Reads as order-at-reads
+use Rattle.ol_frame.proofs.tables.row.Reads as row-reads
 use Rattle.ol_eval.proofs.cycle.run.Reads as run
 use Rattle.ol_eval.proofs.cycle.+call_equation+enter+equation+eval+eval_all+eval_call+eval_first+eval_form+eval_if+eval_second+eval_two+run+step_function+step_instance+step_site+tuple_equation.Lts-run as run-lts
 use Rattle.ol_eval.proofs.cycle.+call_equation+enter+equation+eval+eval_all+eval_call+eval_first+eval_form+eval_if+eval_second+eval_two+run+step_function+step_instance+step_site+tuple_equation.Proof.Common.{run-at, equation-below}

@@ -7,8 +7,8 @@ use Rattle.ol_eval.proofs.Stepping.{few, long, narrow, inputs-first, fu
 -- </uses>
 use Prim.Native.Nat.{ℕ}
 use borrow.Author.Needs.{needs}
-use Rattle.ol_eval.proofs.copies.copy_cells.Reads as copy-cells-reads
-use Rattle.ol_eval.proofs.tables.row.Reads as row-reads
+use Rattle.ol_frame.proofs.copies.copy_cells.Reads as copy-cells-reads
+use Rattle.ol_frame.proofs.tables.row.Reads as row-reads
 use Rattle.ol_eval.proofs.cycle.run.Reads as run
 use Rattle.ol_eval.proofs.cycle.step_function.Reads as step-function
 use Rattle.ol_state.proofs.defaults.write_defaults.Reads as write-defaults-reads

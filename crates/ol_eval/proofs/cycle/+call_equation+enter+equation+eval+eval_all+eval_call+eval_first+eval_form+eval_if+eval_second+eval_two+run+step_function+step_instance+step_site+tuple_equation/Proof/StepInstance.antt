@@ -7,12 +7,12 @@ use Rattle.ol_eval.proofs.Stepping.{few, long, narrow, inputs-first, ow
 -- </uses>
 use Prim.Native.Nat.{ℕ}
 use borrow.Author.Needs.{needs}
-use Rattle.ol_eval.proofs.copies.copy_cells.Reads as copy-cells-reads
-use Rattle.ol_eval.proofs.copies.copy.Reads as copy-reads
-use Rattle.ol_eval.proofs.tables.row.Reads as row-reads
+use Rattle.ol_frame.proofs.copies.copy_cells.Reads as copy-cells-reads
+use Rattle.ol_frame.proofs.copies.copy.Reads as copy-reads
+use Rattle.ol_frame.proofs.tables.row.Reads as row-reads
 use Rattle.ol_eval.proofs.cycle.run.Reads as run
 use Rattle.ol_eval.proofs.cycle.step_instance.Reads as step-instance
-use Rattle.ol_eval.proofs.copies.write_cells.Reads as write-cells-reads
+use Rattle.ol_frame.proofs.copies.write_cells.Reads as write-cells-reads
 use Rattle.ol_state.proofs.fresh.write_fresh.Reads as write-fresh-reads
 use Rattle.ol_eval.proofs.cycle.+call_equation+enter+equation+eval+eval_all+eval_call+eval_first+eval_form+eval_if+eval_second+eval_two+run+step_function+step_instance+step_site+tuple_equation.Lts-step_instance as step-instance-lts
 use Rattle.ol_eval.proofs.cycle.+call_equation+enter+equation+eval+eval_all+eval_call+eval_first+eval_form+eval_if+eval_second+eval_two+run+step_function+step_instance+step_site+tuple_equation.Proof.Common.{step-instance-at, run-below}

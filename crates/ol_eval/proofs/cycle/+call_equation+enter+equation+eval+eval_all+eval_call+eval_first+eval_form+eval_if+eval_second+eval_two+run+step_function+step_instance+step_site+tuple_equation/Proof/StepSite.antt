@@ -5,7 +5,7 @@ use Rattle.ol_eval.proofs.Stepping.{is-operator, is-function, few, long
 -- </uses>
 use Prim.Native.Nat.{ℕ}
 use borrow.Author.Needs.{needs}
-use Rattle.ol_eval.proofs.tables.row.Reads as row-reads
+use Rattle.ol_frame.proofs.tables.row.Reads as row-reads
 use Rattle.ol_eval.proofs.cycle.step_function.Reads as step-function
 use Rattle.ol_eval.proofs.cycle.step_instance.Reads as step-instance
 use Rattle.ol_eval.proofs.cycle.step_site.Reads as step-site

@@ -4,15 +4,15 @@ use mathlib.Core.Path.{_≡_, refl, sym, ap, subst, _∙_}
 use Prim.Native.Nat.{_+_, _-_, _*_, _≤_, _<_, min}
 use native.Mathlib.Omega.{arith}
 use lib.ListN.{length, getD}
-use Rattle.ol_eval.proofs.Endings.{unvalued}
+use Rattle.ol_frame.proofs.Endings.{unvalued}
 use Rattle.ol_eval.proofs.Rights.{tuple-inside, tuple-ready, tuple-passes, names-least, values-assignable, tuple-done, tuple-stops}
 -- </uses>
 use Prim.Native.Nat.{ℕ}
 use borrow.Author.Needs.{needs}
-use Rattle.ol_eval.proofs.copies.assign.Reads as assign-reads
+use Rattle.ol_frame.proofs.copies.assign.Reads as assign-reads
 use Rattle.ol_eval.proofs.cycle.eval_all.Reads as eval-all
-use Rattle.ol_eval.proofs.copies.less.Reads as less-reads
-use Rattle.ol_eval.proofs.tables.number.Reads as number-reads
+use Rattle.ol_frame.proofs.copies.less.Reads as less-reads
+use Rattle.ol_frame.proofs.tables.number.Reads as number-reads
 use Rattle.ol_eval.proofs.cycle.tuple_equation.Reads as tuple-equation
 use Rattle.ol_eval.proofs.cycle.+call_equation+enter+equation+eval+eval_all+eval_call+eval_first+eval_form+eval_if+eval_second+eval_two+run+step_function+step_instance+step_site+tuple_equation.Lts-tuple_equation as tuple-equation-lts
 use Rattle.ol_eval.proofs.cycle.+call_equation+enter+equation+eval+eval_all+eval_call+eval_first+eval_form+eval_if+eval_second+eval_two+run+step_function+step_instance+step_site+tuple_equation.Proof.Common.{tuple-equation-at, eval-all-below}

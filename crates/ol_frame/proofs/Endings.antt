@@ -1,0 +1,41 @@
+-- Endings, told apart.
+use Prim.Native.Nat.{ℕ}
+use mathlib.Core.List.{[], _∷_}
+use mathlib.Core.Logic.{inl, inr}
+use mathlib.Core.Path.{_≡_, refl}
+use native.Mathlib.Omega.{arith}
+use types.Run.{OneOf}
+use denote.Enum.Declared.{tagOf}
+use Rattle.ol_spec.specs.Answers.{outcomeNumber}
+use Rattle.ol_spec.specs.Eval.{several}
+use Rattle.ol_spec.specs.declared.Outcome.{Outcome}
+use Rattle.ol_spec.specs.declared.Outcome.the-variants as Out
+use Rattle.ol_frame.specs.Outcomes.{endingOf, endingNumber}
+use Rattle.ol_frame.specs.declared.outcomes.Ending.{Ending}
+use Rattle.ol_frame.specs.declared.outcomes.Ending.the-variants as End
+use Rattle.ol_frame.proofs.outcomes.Ending.{the-type}
+
+pub failed-values : {A : Type 0} {e : Ending} → e ≡ End.Failed → e ≡ End.Values → A
+failed-values f v = let z : _≡_ {A = ℕ} 0 1 = cc in absurd (omega arith)
+
+pub over-values : {A : Type 0} {e : Ending} → e ≡ End.Overflowed → e ≡ End.Values → A
+over-values o v = let z : _≡_ {A = ℕ} 0 1 = cc in absurd (omega arith)
+
+pub over-failed : {A : Type 0} {e : Ending} → e ≡ End.Overflowed → e ≡ End.Failed → A
+over-failed o f = let z : _≡_ {A = ℕ} 0 1 = cc in absurd (omega arith)
+
+-- what a test for `Values` tells where it does not pass
+pub unvalued : (e : Ending) → OneOf (1 ∷ 2 ∷ []) (tagOf the-type e) → ¬ (e ≡ End.Values)
+unvalued End.Values k = λ _. no k
+  where
+    no : OneOf (1 ∷ 2 ∷ []) 0 → ⊥
+    no (inl p) = omega (arith, p)
+    no (inr p) = omega (arith, p)
+unvalued End.Failed k = λ v. failed-values refl v
+unvalued End.Overflowed k = λ v. over-values refl v
+
+-- an outcome has the number of how it ends
+pub ending-number : (o : Outcome) → endingNumber (endingOf (several o)) ≡ outcomeNumber o
+ending-number (Out.Value v) = refl
+ending-number Out.Failure = refl
+ending-number Out.Overflow = refl

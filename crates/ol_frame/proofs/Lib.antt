@@ -1,0 +1,11 @@
+pub mod Backs
+pub mod Copying
+pub mod Depth
+pub mod Endings
+pub mod Equating
+pub mod Naming
+pub mod Passing
+pub mod Planning
+pub mod RealKinds
+pub mod Running
+pub mod Storing

@@ -1,0 +1,100 @@
+-- The cases of outcomes, as the functions outside the cycle of evaluation decide them.
+use Prim.Native.Nat.{ℕ}
+use mathlib.Core.Bool.{Bool, true, false, cond}
+use mathlib.Core.Path.{_≡_}
+use lib.Dec.{eqb}
+use Rattle.ol_spec.specs.Eval.{RealKind, notReal, isSingle, isDouble, kindOfValue, commonReal, thenOut, Outcomes, values, failure, overflow}
+use Rattle.ol_spec.specs.Answers.{outcomeNumber}
+use Rattle.ol_value.specs.Codes.{binaryBy}
+use Rattle.ol_spec.specs.declared.Value.{Value}
+use Rattle.ol_spec.specs.declared.Value.the-variants as Val
+use Rattle.ol_spec.specs.declared.Outcome.{Outcome}
+use Rattle.ol_spec.specs.declared.Outcome.the-variants as Out
+use Rattle.ol_frame.specs.declared.outcomes.Ending.{Ending}
+use Rattle.ol_frame.specs.declared.outcomes.Ending.the-variants as End
+
+-- how several values end
+abbrev pub endingOf : Outcomes → Ending
+endingOf (values vs) = End.Values
+endingOf failure = End.Failed
+endingOf overflow = End.Overflowed
+
+-- an ending's number is its outcome's
+abbrev pub endingNumber : Ending → ℕ
+endingNumber End.Values = 0
+endingNumber End.Failed = outcomeNumber Out.Failure
+endingNumber End.Overflowed = outcomeNumber Out.Overflow
+
+-- it is a value
+abbrev pub doneOf : Outcome → Bool
+doneOf (Out.Value v) = true
+doneOf Out.Failure = false
+doneOf Out.Overflow = false
+
+-- two operands, of which the second counts where the first has a value
+abbrev pub binaryOut : ℕ → Outcome → Outcome → Outcome
+binaryOut op (Out.Value v) r = thenOut (binaryBy op v) r
+binaryOut op Out.Failure r = Out.Failure
+binaryOut op Out.Overflow r = Out.Overflow
+
+abbrev pub testBit : Bool → ℕ
+testBit true = 1
+testBit false = 0
+
+abbrev pub testValue : Value → ℕ
+testValue (Val.Bool b) = testBit b
+testValue (Val.Int i) = 2
+testValue (Val.Float x) = 2
+testValue (Val.Float32 x) = 2
+testValue (Val.Enum w) = 2
+
+-- a condition: 1 true, 0 false, 2 neither
+abbrev pub testOf : Outcome → ℕ
+testOf (Out.Value v) = testValue v
+testOf Out.Failure = 2
+testOf Out.Overflow = 2
+
+-- a condition that is no Bool
+abbrev pub untestedOf : Outcome → Outcome
+untestedOf (Out.Value v) = Out.Failure
+untestedOf Out.Failure = Out.Failure
+untestedOf Out.Overflow = Out.Overflow
+
+-- the branch not taken is evaluated
+abbrev pub runsOf : Outcome → Bool → Bool
+runsOf (Out.Value v) has = has
+runsOf Out.Failure has = false
+runsOf Out.Overflow has = false
+
+-- its failure is dropped
+abbrev pub dropOut : Outcome → Outcome → Outcome
+dropOut taken (Out.Value w) = taken
+dropOut taken Out.Failure = taken
+dropOut taken Out.Overflow = Out.Overflow
+
+abbrev pub singleValue : Value → Bool
+singleValue (Val.Bool b) = false
+singleValue (Val.Int i) = false
+singleValue (Val.Float x) = false
+singleValue (Val.Float32 x) = true
+singleValue (Val.Enum w) = false
+
+abbrev pub singleOf : Outcome → Bool
+singleOf (Out.Value v) = singleValue v
+singleOf Out.Failure = false
+singleOf Out.Overflow = false
+
+-- a chosen single widens where the other branch counts as double
+abbrev pub commonOut : Bool → Outcome → Outcome
+commonOut wide o = thenOut (λ v. Out.Value (commonReal wide v)) o
+
+-- a real kind as a number
+abbrev pub realCode : RealKind → ℕ
+realCode notReal = 0
+realCode isSingle = 1
+realCode isDouble = 2
+
+abbrev pub outcomeKind : Outcome → ℕ
+outcomeKind (Out.Value v) = realCode (kindOfValue v)
+outcomeKind Out.Failure = 0
+outcomeKind Out.Overflow = 0

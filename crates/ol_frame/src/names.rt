@@ -1,0 +1,235 @@
+// What a name, a literal and a Pre yield, and whether an expression counts as real.
+ghost use mathlib.Core.Path.{_≡_};
+ghost use mathlib.Core.Bool.{false};
+ghost use mathlib.Core.List.{List};
+ghost use Prim.Native.Nat.{ℕ, _+_, _≤_, _<_};
+ghost use lib.IntN.{pos};
+ghost use lib.ListN.{length, getD};
+ghost use Rattle.ol_spec.specs.Eval.{orFailure, presentOf, preOf, realKind, isDouble?, join, firstType};
+ghost use Rattle.ol_spec.specs.declared.Value.the-variants as Val;
+ghost use Rattle.ol_tables.specs.At.{exprAt, endAt, nodeIn};
+ghost use Rattle.ol_frame.specs.Outcomes.{realCode, commonOut};
+ghost use Rattle.ol_frame.specs.Walk.{nodesIn};
+ghost use Rattle.ol_frame.specs.Plans.{Program, globalsIn, scopeIn, Nameable, Looked, Plan, Cells, nameAt, Leaf, evalIn, segsAt};
+use crate::outcomes::common_out;
+use crate::outcomes::is_single;
+use crate::outcomes::join_kinds;
+use crate::outcomes::kind_of_outcome;
+use crate::outcomes::kind_of_type;
+use crate::outcomes::same_out;
+use crate::skip::pass;
+use crate::tables::code_of;
+use crate::tables::number;
+use crate::tables::row;
+use crate::tables::slot_at;
+use ol_spec::Outcome;
+use ol_spec::Value;
+use ol_tables::tables::INPUTS;
+use ol_value::cell::read_cell;
+
+// A byte as a wider number.
+fn wide(b: u8) -> u16
+    ensures { λ r. ⌜ (r ≡ b) × (r < 256) ⌝ }
+{
+    b as u16
+}
+
+// A Char literal's value.
+fn char_of(b: u8) -> Value
+    ensures { λ r. ⌜ r ≡ Val.Int (pos b) ⌝ }
+{
+    Value::Int(b as i64)
+}
+
+// The name at `at`, as a variant.
+fn variant(file: &[u8], at: usize) -> Value
+    requires { ⌜ at + 2 ≤ length (now file) ⌝ }
+    ensures { λ r. ⌜ r ≡ Val.Enum (nameAt (now (file .entry)) at) ⌝ }
+{
+    let q = at + 1;
+    let a = wide(file[at]);
+    let b = wide(file[q]);
+    Value::Enum(a * 256 + b)
+}
+
+// The name at `at`: a variable's present cell, a constant's value or a variant.
+pub fn present(
+    file: &[u8],
+    tab: &[u8],
+    consts: &[u8],
+    node: usize,
+    cells: &[u8],
+    at: usize,
+) -> Outcome
+    requires { ⌜ Nameable (now file) (now tab) (now consts) node at × Cells (now file) node (now cells) ⌝ }
+    ensures { λ r. ⌜ r ≡ orFailure (presentOf (globalsIn (now (file .entry)) (now (consts .entry))) (scopeIn (now (file .entry)) node false (now (cells .entry)) (now (cells .entry))) (nameAt (now (file .entry)) at)) ⌝ }
+{
+    let s = slot_at(tab, at);
+    if s < 112 {
+        Outcome::Value(read_cell(cells, s * 9))
+    } else if s < 255 {
+        Outcome::Value(read_cell(consts, (s - 112) * 9))
+    } else {
+        Outcome::Value(variant(file, at))
+    }
+}
+
+// Pre of the expression at `at`: fails at a first cycle, and on anything but a variable or constant.
+fn previous(
+    file: &[u8],
+    tab: &[u8],
+    consts: &[u8],
+    node: usize,
+    first: bool,
+    before: &[u8],
+    at: usize,
+    level: usize,
+) -> Outcome
+    requires { ⌜ Looked (now file) (now tab) (now consts) node level at × Cells (now file) node (now before) ⌝ }
+    ensures { λ r. ⌜ r ≡ preOf (globalsIn (now (file .entry)) (now (consts .entry))) (scopeIn (now (file .entry)) node first (now (before .entry)) (now (before .entry))) first (exprAt (now (file .entry)) level at) ⌝ }
+{
+    if first {
+        return Outcome::Failure;
+    }
+    if file[at] == 4 {
+        let s = slot_at(tab, at + 1);
+        if s < 112 {
+            Outcome::Value(read_cell(before, s * 9))
+        } else if s < 255 {
+            Outcome::Value(read_cell(consts, (s - 112) * 9))
+        } else {
+            Outcome::Failure
+        }
+    } else {
+        Outcome::Failure
+    }
+}
+
+// What the form at `at` yields, where no part of it is evaluated: a literal, a Var, a Pre; a Tuple fails.
+pub fn leaf_out(
+    file: &[u8],
+    tab: &[u8],
+    rows: &[usize],
+    consts: &[u8],
+    at: usize,
+    level: usize,
+    node: usize,
+    first: bool,
+    cells: &[u8],
+    before: &[u8],
+) -> Outcome
+    requires { ⌜ Plan (now file) (now tab) (now rows) (now consts) node level 1 at × Cells (now file) node (now cells) × Cells (now file) node (now before) × Leaf (getD (now file) at 0) ⌝ }
+    ensures { λ r. ⌜ ((seg : List ℕ) → r ≡ evalIn (now (file .entry)) (now (consts .entry)) node first (now (cells .entry)) (now (before .entry)) (exprAt (now (file .entry)) level at) seg .out) ⌝ }
+{
+    let code = file[at];
+    let p = at + 1;
+    match code {
+        0 => Outcome::Value(Value::Bool(file[p] == 1)),
+        1 => Outcome::Value(read_cell(file, at)),
+        2 => Outcome::Value(read_cell(file, at)),
+        3 => Outcome::Value(char_of(file[p])),
+        4 => present(file, tab, consts, node, cells, p),
+        8 => previous(file, tab, consts, node, first, before, p, level - 1),
+        _ => Outcome::Failure,
+    }
+}
+
+// The real kind of a call of node k: by its first output's type.
+fn call_kind(file: &[u8], tab: &[u8], rows: &[usize], k: usize) -> u8
+    requires { ⌜ Program (now file) (now tab) (now rows) × (k < nodesIn (now file)) ⌝ }
+    ensures { λ r. ⌜ r ≡ realCode (firstType (nodeIn (now (file .entry)) k .outputs)) ⌝ }
+{
+    let i = row(rows, k, INPUTS);
+    let t = code_of(tab, k, i);
+    kind_of_type(t)
+}
+
+// Whether the expression at `at` computes in single (1) or in double precision (2), or neither.
+fn real_kind(
+    file: &[u8],
+    tab: &[u8],
+    rows: &[usize],
+    consts: &[u8],
+    node: usize,
+    cells: &[u8],
+    at: usize,
+    level: usize,
+) -> u8
+    requires { ⌜ Plan (now file) (now tab) (now rows) (now consts) node level 1 at × Cells (now file) node (now cells) × (segsAt (now file) level 1 at ≤ 32768) ⌝ }
+    ensures { λ r. ⌜ r ≡ realCode (realKind (globalsIn (now (file .entry)) (now (consts .entry))) (scopeIn (now (file .entry)) node false (now (cells .entry)) (now (cells .entry))) (exprAt (now (file .entry)) level at)) ⌝ }
+{
+    let code = file[at];
+    let p = at + 1;
+    match code {
+        2 => 2,
+        4 => kind_of_outcome(present(file, tab, consts, node, cells, p)),
+        5 => real_kind(file, tab, rows, consts, node, cells, at + 2, level - 1),
+        6 => {
+            let op = file[p];
+            if op < 10 {
+                0
+            } else if op < 14 {
+                real_kinds(file, tab, rows, consts, node, cells, at + 2, level - 1)
+            } else {
+                0
+            }
+        }
+        7 => {
+            let c = pass(file, rows, p, level - 1);
+            let q = c.next;
+            real_kinds(file, tab, rows, consts, node, cells, q, level - 1)
+        }
+        8 => real_kind(file, tab, rows, consts, node, cells, p, level - 1),
+        9 => real_kinds(file, tab, rows, consts, node, cells, p, level - 1),
+        10 => kind_of_type(file[p]),
+        11 => {
+            let k = number(file[p]);
+            call_kind(file, tab, rows, k)
+        }
+        _ => 0,
+    }
+}
+
+// Of two expressions, the first of which is at `at`: one double makes both double.
+fn real_kinds(
+    file: &[u8],
+    tab: &[u8],
+    rows: &[usize],
+    consts: &[u8],
+    node: usize,
+    cells: &[u8],
+    at: usize,
+    level: usize,
+) -> u8
+    requires { ⌜ Plan (now file) (now tab) (now rows) (now consts) node level 2 at × Cells (now file) node (now cells) × (segsAt (now file) level 2 at ≤ 32768) ⌝ }
+    ensures { λ r. ⌜ r ≡ realCode (join (realKind (globalsIn (now (file .entry)) (now (consts .entry))) (scopeIn (now (file .entry)) node false (now (cells .entry)) (now (cells .entry))) (exprAt (now (file .entry)) level at)) (realKind (globalsIn (now (file .entry)) (now (consts .entry))) (scopeIn (now (file .entry)) node false (now (cells .entry)) (now (cells .entry))) (exprAt (now (file .entry)) level (endAt (now (file .entry)) level at)))) ⌝ }
+{
+    let a = real_kind(file, tab, rows, consts, node, cells, at, level);
+    let p = pass(file, rows, at, level);
+    let q = p.next;
+    let b = real_kind(file, tab, rows, consts, node, cells, q, level);
+    join_kinds(a, b)
+}
+
+// The outcome of a taken branch, where the other is at `at`: a single widens if that one counts as double.
+pub fn chosen(
+    file: &[u8],
+    tab: &[u8],
+    rows: &[usize],
+    consts: &[u8],
+    node: usize,
+    cells: &[u8],
+    at: usize,
+    level: usize,
+    taken: Outcome,
+) -> Outcome
+    requires { ⌜ Plan (now file) (now tab) (now rows) (now consts) node level 1 at × Cells (now file) node (now cells) × (segsAt (now file) level 1 at ≤ 32768) ⌝ }
+    ensures { λ r. ⌜ r ≡ commonOut (isDouble? (realKind (globalsIn (now (file .entry)) (now (consts .entry))) (scopeIn (now (file .entry)) node false (now (cells .entry)) (now (cells .entry))) (exprAt (now (file .entry)) level at))) taken ⌝ }
+{
+    if is_single(taken) {
+        let k = real_kind(file, tab, rows, consts, node, cells, at, level);
+        common_out(k, taken)
+    } else {
+        same_out(taken)
+    }
+}

@@ -1,0 +1,227 @@
+// Outcomes, taken apart outside the cycle of evaluation.
+ghost use mathlib.Core.Path.{_≡_};
+ghost use mathlib.Core.Bool.{true};
+ghost use Prim.Native.Nat.{ℕ};
+ghost use lib.Dec.{eqb};
+ghost use Rattle.ol_spec.specs.Cell.{cell, valueOf};
+ghost use Rattle.ol_spec.specs.Types.{castTo};
+ghost use Rattle.ol_spec.specs.Eval.{RealKind, thenOut, commonReal, kindOfType, join};
+ghost use Rattle.ol_value.specs.Codes.{tyOf, unaryBy};
+ghost use Rattle.ol_frame.specs.Outcomes.{doneOf, binaryOut, testOf, untestedOf, runsOf, dropOut, singleOf, commonOut, realCode, outcomeKind};
+use ol_real::f32_to_f64;
+use ol_spec::Outcome;
+use ol_spec::Value;
+use ol_value::operators::eval_binary;
+use ol_value::operators::eval_unary;
+use ol_value::types::cast_value;
+
+// How several expressions, a call, an equation or a run of equations end: with values, at a failure, at an overflow.
+pub enum Ending {
+    Values,
+    Failed,
+    Overflowed,
+}
+
+// A value, made again from its parts (it is then moved part by part, which is fast); it is had back from its cell.
+pub fn kept(v: Value) -> Value
+    ensures { λ r. ⌜ (r ≡ v) × (valueOf (cell v) ≡ v) ⌝ }
+{
+    match v {
+        Value::Bool(b) => Value::Bool(b),
+        Value::Int(i) => Value::Int(i),
+        Value::Float(x) => Value::Float(x),
+        Value::Float32(x) => Value::Float32(x),
+        Value::Enum(w) => Value::Enum(w),
+    }
+}
+
+// An outcome, made again from its parts.
+pub fn same_out(o: Outcome) -> Outcome
+    ensures { λ r. ⌜ r ≡ o ⌝ }
+{
+    match o {
+        Outcome::Value(v) => Outcome::Value(kept(v)),
+        Outcome::Failure => Outcome::Failure,
+        Outcome::Overflow => Outcome::Overflow,
+    }
+}
+
+// Whether it is a value.
+pub fn done(o: Outcome) -> bool
+    ensures { λ r. ⌜ r ≡ doneOf o ⌝ }
+{
+    match o {
+        Outcome::Value(_) => true,
+        Outcome::Failure => false,
+        Outcome::Overflow => false,
+    }
+}
+
+// The outcome of a unary operator on its operand's.
+pub fn unary_out(op: u8, o: Outcome) -> Outcome
+    ensures { λ r. ⌜ r ≡ thenOut (unaryBy op) o ⌝ }
+{
+    match o {
+        Outcome::Value(v) => eval_unary(op, v),
+        Outcome::Failure => Outcome::Failure,
+        Outcome::Overflow => Outcome::Overflow,
+    }
+}
+
+// The outcome of a cast of an operand's.
+pub fn cast_out(code: u8, o: Outcome) -> Outcome
+    ensures { λ r. ⌜ ((e : ℕ) → r ≡ thenOut (castTo (tyOf code e)) o) ⌝ }
+{
+    match o {
+        Outcome::Value(v) => cast_value(code, v),
+        Outcome::Failure => Outcome::Failure,
+        Outcome::Overflow => Outcome::Overflow,
+    }
+}
+
+// The outcome of a binary operator on its operands'.
+pub fn binary_out(op: u8, l: Outcome, r: Outcome) -> Outcome
+    ensures { λ out. ⌜ out ≡ binaryOut op l r ⌝ }
+{
+    match l {
+        Outcome::Value(v) => match r {
+            Outcome::Value(w) => eval_binary(op, v, w),
+            Outcome::Failure => Outcome::Failure,
+            Outcome::Overflow => Outcome::Overflow,
+        },
+        Outcome::Failure => Outcome::Failure,
+        Outcome::Overflow => Outcome::Overflow,
+    }
+}
+
+// A condition: 1 true, 0 false, 2 neither.
+pub fn test_of(o: Outcome) -> u8
+    ensures { λ r. ⌜ r ≡ testOf o ⌝ }
+{
+    match o {
+        Outcome::Value(v) => match v {
+            Value::Bool(b) => { if b { 1 } else { 0 } }
+            Value::Int(_) => 2,
+            Value::Float(_) => 2,
+            Value::Float32(_) => 2,
+            Value::Enum(_) => 2,
+        },
+        Outcome::Failure => 2,
+        Outcome::Overflow => 2,
+    }
+}
+
+// What a choice comes to whose condition is no Bool: a value there fails.
+pub fn untested(o: Outcome) -> Outcome
+    ensures { λ r. ⌜ r ≡ untestedOf o ⌝ }
+{
+    match o {
+        Outcome::Value(_) => Outcome::Failure,
+        Outcome::Failure => Outcome::Failure,
+        Outcome::Overflow => Outcome::Overflow,
+    }
+}
+
+// Whether the branch not taken is evaluated: the taken one succeeded, and it contains a call.
+pub fn runs(taken: Outcome, has: bool) -> bool
+    ensures { λ r. ⌜ r ≡ runsOf taken has ⌝ }
+{
+    match taken {
+        Outcome::Value(_) => has,
+        Outcome::Failure => false,
+        Outcome::Overflow => false,
+    }
+}
+
+// The untaken branch's failure is dropped, its overflow is not.
+pub fn drop_failure(taken: Outcome, other: Outcome) -> Outcome
+    ensures { λ r. ⌜ r ≡ dropOut taken other ⌝ }
+{
+    match other {
+        Outcome::Value(_) => same_out(taken),
+        Outcome::Failure => same_out(taken),
+        Outcome::Overflow => same_out(other),
+    }
+}
+
+// Whether it is a single.
+pub(crate) fn is_single(o: Outcome) -> bool
+    ensures { λ r. ⌜ r ≡ singleOf o ⌝ }
+{
+    match o {
+        Outcome::Value(v) => match v {
+            Value::Bool(_) => false,
+            Value::Int(_) => false,
+            Value::Float(_) => false,
+            Value::Float32(_) => true,
+            Value::Enum(_) => false,
+        },
+        Outcome::Failure => false,
+        Outcome::Overflow => false,
+    }
+}
+
+// A value, widened where it is a single.
+fn widened(v: Value) -> Value
+    ensures { λ r. ⌜ r ≡ commonReal true v ⌝ }
+{
+    match v {
+        Value::Bool(_) => v,
+        Value::Int(_) => v,
+        Value::Float(_) => v,
+        Value::Float32(x) => Value::Float(f32_to_f64(x)),
+        Value::Enum(_) => v,
+    }
+}
+
+// A chosen single widens where the other branch counts as double.
+pub(crate) fn common_out(kind: u8, o: Outcome) -> Outcome
+    ensures { λ r. ⌜ r ≡ commonOut (eqb kind 2) o ⌝ }
+{
+    match o {
+        Outcome::Value(v) => {
+            if kind == 2 {
+                Outcome::Value(widened(v))
+            } else {
+                Outcome::Value(v)
+            }
+        }
+        Outcome::Failure => Outcome::Failure,
+        Outcome::Overflow => Outcome::Overflow,
+    }
+}
+
+// The real kind of a type.
+pub(crate) fn kind_of_type(code: u8) -> u8
+    ensures { λ r. ⌜ ((e : ℕ) → r ≡ realCode (kindOfType (tyOf code e))) ⌝ }
+{
+    match code {
+        9 => 1,
+        10 => 2,
+        _ => 0,
+    }
+}
+
+// The real kind of a value.
+pub(crate) fn kind_of_outcome(o: Outcome) -> u8
+    ensures { λ r. ⌜ r ≡ outcomeKind o ⌝ }
+{
+    match o {
+        Outcome::Value(v) => match v {
+            Value::Bool(_) => 0,
+            Value::Int(_) => 0,
+            Value::Float(_) => 2,
+            Value::Float32(_) => 1,
+            Value::Enum(_) => 0,
+        },
+        Outcome::Failure => 0,
+        Outcome::Overflow => 0,
+    }
+}
+
+// The greater of two real kinds.
+pub(crate) fn join_kinds(a: u8, b: u8) -> u8
+    ensures { λ r. ⌜ ((j k : RealKind) → a ≡ realCode j → b ≡ realCode k → r ≡ realCode (join j k)) ⌝ }
+{
+    if a < b { b } else { a }
+}

@@ -1,0 +1,54 @@
+// Entries of the tables of a file.
+use ol_tables::tables::COLUMNS;
+use ol_tables::tables::MOST_EQUATIONS;
+use ol_tables::tables::MOST_VARIABLES;
+use ol_tables::tables::SLOTS;
+use ol_tables::tables::TYPES;
+ghost use mathlib.Core.Path.{_≡_};
+ghost use Prim.Native.Nat.{_<_, _≤_};
+ghost use lib.ListN.{length};
+ghost use Prim.Native.Nat.{_+_};
+ghost use Rattle.ol_tables.specs.Tables.{rowsLength, rowAt, codeAt, slotAt, slotsFrom, orderAt};
+
+// A byte as a number.
+pub fn number(b: u8) -> usize
+    ensures { λ r. ⌜ (r ≡ b) × (r < 256) ⌝ }
+{
+    b as usize
+}
+
+// Entry j of node k's row.
+pub fn row(rows: &[usize], k: usize, j: usize) -> usize
+    requires { ⌜ (length (now rows) ≡ rowsLength) × (k < 32) × (j < 8) ⌝ }
+    ensures { λ r. ⌜ r ≡ rowAt (now (rows .entry)) k j ⌝ }
+{
+    let i = k * COLUMNS + j;
+    rows[i]
+}
+
+// The type code of variable i of node k.
+pub(crate) fn code_of(tab: &[u8], k: usize, i: usize) -> u8
+    requires { ⌜ (slotsFrom ≤ length (now tab)) × (k < 32) × (i < 112) ⌝ }
+    ensures { λ r. ⌜ r ≡ codeAt (now (tab .entry)) k i ⌝ }
+{
+    let p = TYPES + (k * MOST_VARIABLES + i) * 2;
+    tab[p]
+}
+
+// The slot of the name that stands at a place.
+pub(crate) fn slot_at(tab: &[u8], at: usize) -> usize
+    requires { ⌜ slotsFrom + at < length (now tab) ⌝ }
+    ensures { λ r. ⌜ r ≡ slotAt (now (tab .entry)) at ⌝ }
+{
+    let p = SLOTS + at;
+    number(tab[p])
+}
+
+// Which equation of node k runs j-th.
+pub fn order_at(tab: &[u8], k: usize, j: usize) -> usize
+    requires { ⌜ (slotsFrom ≤ length (now tab)) × (k < 32) × (j < 80) ⌝ }
+    ensures { λ r. ⌜ (r ≡ orderAt (now (tab .entry)) k j) × (r < 256) ⌝ }
+{
+    let p = k * MOST_EQUATIONS + j;
+    number(tab[p])
+}

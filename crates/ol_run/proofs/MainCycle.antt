@@ -1,0 +1,306 @@
+-- The main instance's cycle: its run on the record in the state, and what is left, against the definition of the cycle.
+use Prim.Native.Nat.{ℕ, suc, _+_, _-_, _*_, _≤_, _<_}
+use mathlib.Core.Bool.{Bool}
+use mathlib.Core.List.{List, [], _∷_, _++_, append-assoc, append-nil}
+use mathlib.Core.Path.{_≡_, refl, sym, ap, subst, _∙_}
+use native.Mathlib.Omega.{arith}
+use lib.ListN.{length, take, drop, set, length-drop, length-map, length-append, length-set, drop-of-length-le, take-append-drop}
+use lib.Seq.{take-all, take-add, drop-drop, drop-set-lt, set-split}
+use Rattle.ol_spec.specs.Syntax.{Node, File, main, constantName}
+use Rattle.ol_spec.specs.Cell.{cells, valuesOf}
+use Rattle.ol_spec.specs.Order.{order}
+use Rattle.ol_spec.specs.Eval.{Globals}
+use Rattle.ol_spec.specs.Step.{Run, finished, failedAt, overflowedAt, globals, ownSize, instanceSize, isFresh, calls, run, runAll, split}
+use Rattle.ol_spec.specs.Step.{Ended as RunEnd}
+use Rattle.ol_spec.specs.Admission.{constantNames, headSize, stateSize}
+use Rattle.ol_spec.specs.State.{globalsOf}
+use Rattle.ol_spec.specs.Cycle.{endOn, endRun, mainRun}
+use Rattle.ol_spec.specs.Answers.{faultAt}
+use Rattle.ol_spec.specs.declared.Value.{Value}
+use Rattle.ol_spec.specs.declared.Cycled.{Cycled}
+use Rattle.ol_spec.specs.declared.Cycled.the-variants as Cyc
+use Rattle.ol_spec.proofs.MainFacts.{main-at}
+use Rattle.ol_tables.specs.At.{fileAt, nodeIn}
+use Rattle.ol_frame.specs.Walk.{nodesIn, sizesIn}
+use Rattle.ol_frame.specs.Plans.{knownIn, globalsIn, widthIn}
+use Rattle.ol_tables.specs.Tables.{rowAt}
+use Rattle.ol_state.proofs.Instances.{few-nodes, variables-told, row-of}
+use Rattle.ol_frame.specs.Nodes.{Running}
+use Rattle.ol_eval.specs.Calls.{Runnable, RunMeets, RunTo, runIn, EndsAs}
+use Rattle.ol_run.specs.MainCycle.{recordRun, RecordReady, RecordRan, RunReady, Cycles, CyclesTo}
+use Rattle.ol_frame.specs.Outcomes.{endingNumber}
+use Rattle.ol_eval.specs.declared.cycle.Ended.{Ended}
+use Rattle.ol_frame.specs.declared.outcomes.Ending.the-variants as End
+use Rattle.ol_tables.proofs.Lending.{tailOf, putTail, tail-all, put-tail, take-put, drop-put, length-put}
+use Rattle.ol_frame.proofs.Endings.{failed-values, over-values, over-failed}
+use Rattle.ol_frame.proofs.Storing.{values-copied}
+
+-- the main node is the last
+pub main-is : (file : List ℕ) (k : ℕ) → suc k ≡ nodesIn file → main (fileAt file) ≡ nodeIn file k
+main-is file k e = let d : nodesIn file - 1 ≡ k = omega arith in main-at (fileAt file .nodes) (omega arith) ∙ ap (λ (j : ℕ). nodeIn file j) d
+
+-- where the constants' cells are there, evaluation knows their values
+pub globals-same : (file consts : List ℕ) (vs : List Value) → knownIn consts ≡ length (fileAt file .constants) → length vs ≡ length (fileAt file .constants) → valuesOf (length vs) consts ≡ vs → globalsIn file consts ≡ globalsOf (fileAt file) vs
+globals-same file consts vs e l h =
+    let names : take (knownIn consts) (constantNames (fileAt file)) ≡ constantNames (fileAt file) =
+    take-all (knownIn consts) (constantNames (fileAt file)) (omega (arith, e, length-map (fileAt file .constants) constantName)) in
+    let vals : valuesOf (knownIn consts) consts ≡ vs = ap (λ (n : ℕ). valuesOf n consts) (e ∙ sym l) ∙ h in
+    λ i. globals (fileAt file) (names i) (vals i)
+
+-- ---- the run
+
+-- the run of a node on its record, by the parts of the record
+pub record-run : (file consts : List ℕ) (k : ℕ) (inputs old present before segs : List ℕ) (first : Bool) → first ≡ isFresh old → before ≡ drop 1 old → segs ≡ drop (ownSize (nodeIn file k)) old
+    → valuesOf (widthIn file k) present ≡ valuesOf (length (nodeIn file k .inputs)) inputs ++ drop (length (nodeIn file k .inputs)) (valuesOf (widthIn file k) before)
+    → runIn file consts k first present before segs ≡ recordRun file consts k inputs old
+unfolding run
+record-run file consts k inputs old present before segs first ef eb es ep =
+    let g = globalsIn file consts in
+    let n = nodeIn file k in
+    let w = widthIn file k in
+    let cs = ep ∙ ap (λ (b : List ℕ). valuesOf (length (n .inputs)) inputs ++ drop (length (n .inputs)) (valuesOf w b)) eb in
+    λ i. runAll g (calls g) n (ef i) (valuesOf w (eb i)) (order (n .equations)) (cs i) (split g (n .equations) (es i))
+
+-- the main instance's run, on the record behind the constants' cells
+pub main-run : (file consts : List ℕ) (k : ℕ) (vs : List Value) (inputs old : List ℕ) → suc k ≡ nodesIn file → globalsIn file consts ≡ globalsOf (fileAt file) vs
+    → recordRun file consts k inputs (drop (headSize (fileAt file)) old) ≡ mainRun (fileAt file) vs old inputs
+unfolding mainRun
+main-run file consts k vs inputs old e g =
+    ap (λ (n : Node). run (globalsIn file consts) (calls (globalsIn file consts)) n (valuesOf (length (n .inputs)) inputs) (drop (headSize (fileAt file)) old)) (sym (main-is file k e))
+    ∙ ap (λ (h : Globals). run h (calls h) (main (fileAt file)) (valuesOf (length (main (fileAt file) .inputs)) inputs) (drop (headSize (fileAt file)) old)) g
+
+-- ---- what is left, by how the run ended
+
+module _ (f : File) (old vals : List ℕ) (U : Run) (r : Ended) (got : List Value) (segs : List ℕ) (m : RunMeets U r got segs) where
+  -- a finished run is answered
+  pub ended-finished : (new vals′ : List ℕ) → r .end ≡ End.Values → new ≡ take (headSize f) old ++ (1 ∷ cells got ++ segs) → vals′ ≡ cells got → Cycles (endRun f old vals U) Cyc.Answered new vals′
+  ended-finished new vals′ z w v = go (U .end) (m .ends) (m .cells-are)
+    where
+      go : (e : RunEnd) → EndsAs e r → (e ≡ finished → got ≡ U .cells) → Cycles (endOn f old vals e (U .cells) (U .segs)) Cyc.Answered new vals′
+      go finished s c =
+          record { answered = refl; renewed = w ∙ (λ j. take (headSize f) old ++ (1 ∷ cells (c refl j) ++ m .state j)); valued = v ∙ ap cells (c refl) }
+      go (failedAt i) s c = failed-values (s .0) z
+      go (overflowedAt i) s c = over-values (s .0) z
+
+  -- a failed one stops with 18: the main cells stay, the instances are moved
+  pub ended-failed : (new : List ℕ) → r .end ≡ End.Failed → new ≡ take (headSize f + ownSize (main f)) old ++ segs → Cycles (endRun f old vals U) (Cyc.Stopped (faultAt (endingNumber End.Failed) (r .index))) new vals
+  ended-failed new z w = go (U .end) (m .ends)
+    where
+      go : (e : RunEnd) → EndsAs e r → Cycles (endOn f old vals e (U .cells) (U .segs)) (Cyc.Stopped (faultAt (endingNumber End.Failed) (r .index))) new vals
+      go finished s = failed-values z s
+      go (failedAt i) s =
+          record { answered = ap (λ (j : ℕ). Cyc.Stopped (faultAt (endingNumber End.Failed) j)) (s .1); renewed = w ∙ ap (λ (x : List ℕ). take (headSize f + ownSize (main f)) old ++ x) (m .state); valued = refl }
+      go (overflowedAt i) s = over-failed (s .0) z
+
+  -- one that overflowed stops with 19: the state is the old one
+  pub ended-overflowed : (new : List ℕ) → r .end ≡ End.Overflowed → new ≡ old → Cycles (endRun f old vals U) (Cyc.Stopped (faultAt (endingNumber End.Overflowed) (r .index))) new vals
+  ended-overflowed new z w = go (U .end) (m .ends)
+    where
+      go : (e : RunEnd) → EndsAs e r → Cycles (endOn f old vals e (U .cells) (U .segs)) (Cyc.Stopped (faultAt (endingNumber End.Overflowed) (r .index))) new vals
+      go finished s = over-values z s
+      go (failedAt i) s = over-failed z (s .0)
+      go (overflowedAt i) s = record { answered = ap (λ (j : ℕ). Cyc.Stopped (faultAt (endingNumber End.Overflowed) j)) (s .1); renewed = w; valued = refl }
+
+-- ---- the bytes of a record
+
+-- the inputs are copied, and then the held cells behind them
+pub begun : (k n : ℕ) (inputs held present p q : List ℕ) → k ≤ n → 9 * k ≤ length inputs → 9 * n ≤ length held → 9 * n ≤ length present → length p ≡ length present
+    → p ≡ take (9 * 0) present ++ (take (9 * k - 9 * 0) (drop (9 * 0) inputs) ++ drop (9 * k) present) → q ≡ take (9 * k) p ++ (take (9 * n - 9 * k) (drop (9 * k) held) ++ drop (9 * n) p)
+    → valuesOf n q ≡ valuesOf k inputs ++ drop k (valuesOf n held)
+begun k n inputs held present p q h li lh lp l ep eq =
+    values-copied k n held p q h lh (omega arith) eq ∙ ap (λ (vs : List Value). vs ++ drop k (valuesOf n held)) (values-copied 0 k inputs present p (omega arith) li (omega arith) ep)
+
+-- the started byte and the cells are written
+pub finish-room : (n : ℕ) (to : List ℕ) → 1 + 9 * n ≤ length to → 9 * n ≤ length (tailOf 1 (set to 0 1))
+finish-room n to h =
+    let B = set to 0 1 in
+    omega (arith, ap length (tail-all 1 B), length-drop 1 B, length-set to 0 1)
+
+pub finished-length : (n : ℕ) (to y : List ℕ) → 1 + 9 * n ≤ length to → length y ≡ length (tailOf 1 (set to 0 1)) → length (putTail 1 (set to 0 1) y) ≡ length to
+finished-length n to y h l = length-put 1 (set to 0 1) y (omega (arith, length-set to 0 1)) l ∙ length-set to 0 1
+
+pub record-finished : (n : ℕ) (to y : List ℕ) (vs : List Value) → 1 + 9 * n ≤ length to → y ≡ cells vs ++ drop (9 * n) (tailOf 1 (set to 0 1)) → putTail 1 (set to 0 1) y ≡ 1 ∷ cells vs ++ drop (1 + 9 * n) to
+record-finished n to y vs h w =
+    let B = set to 0 1 in
+    let b : B ≡ 1 ∷ drop 1 to = set-split to 0 1 (omega arith) in
+    let f : take 1 B ≡ 1 ∷ [] = ap (take 1) b in
+    let t : drop (9 * n) (tailOf 1 B) ≡ drop (1 + 9 * n) to = ap (drop (9 * n)) (tail-all 1 B) ∙ drop-drop (9 * n) 1 B ∙ drop-set-lt (1 + 9 * n) to 0 1 (omega arith) in
+    put-tail 1 B y ∙ (λ j. f j ++ (w ∙ ap (λ (l : List ℕ). cells vs ++ l) t) j)
+
+-- ---- the last node, by its rows
+
+module _ {file tab rows consts : List ℕ} {k : ℕ} (ready : Running file tab rows consts) (last : suc k ≡ nodesIn file) where
+  below : k < nodesIn file
+  below = omega (arith, last)
+
+  -- row j of it can be read
+  pub row-room : (j : ℕ) → j < 8 → (length rows ≡ 272) × (k < 32) × (j < 8)
+  row-room j l = (ready .known .rowed .long, few-nodes (ready .known) below, l)
+
+  pub width-is : (n : ℕ) → n ≡ rowAt rows k 4 → n ≡ widthIn file k
+  width-is n e = e ∙ variables-told (ready .known) below
+
+  pub inputs-are : (i : ℕ) → i ≡ rowAt rows k 2 → i ≡ length (nodeIn file k .inputs)
+  inputs-are i e = e ∙ row-of (ready .known) below .inputs
+
+  pub narrow : (n : ℕ) → n ≡ rowAt rows k 4 → n ≤ 112
+  narrow n e = omega (arith, width-is n e, ready .program .width k)
+
+  inputs-first : (n i : ℕ) → n ≡ rowAt rows k 4 → i ≡ rowAt rows k 2 → i ≤ n
+  inputs-first n i e f =
+      let m = nodeIn file k in
+      omega (arith, width-is n e, inputs-are i f, length-append (m .inputs ++ m .outputs) (m .locals), length-append (m .inputs) (m .outputs))
+
+-- ---- the run on its record
+
+module _ {file tab rows consts inputs old new present : List ℕ} {k : ℕ} (h : RecordReady file tab rows consts k inputs old new present) where
+  -- its own bytes are there
+  pub own-room : (n : ℕ) → n ≡ rowAt rows k 4 → 1 + 9 * n ≤ length old
+  own-room n e = omega (arith, h .sized, width-is (h .running) (h .last) n e)
+
+  pub own-new : (n : ℕ) → n ≡ rowAt rows k 4 → 1 + 9 * n ≤ length new
+  own-new n e = omega (arith, own-room n e, ap length (h .same))
+
+  held-room : (n : ℕ) → n ≡ rowAt rows k 4 → 9 * n ≤ length (tailOf 1 old)
+  held-room n e = omega (arith, own-room n e, ap length (tail-all 1 old), length-drop 1 old)
+
+  pub begin-ready : (n i : ℕ) → n ≡ rowAt rows k 4 → i ≡ rowAt rows k 2 → (i ≤ n) × (n ≤ 112) × (9 * i ≤ length inputs) × (9 * n ≤ length (tailOf 1 old)) × (9 * n ≤ length present)
+  begin-ready n i e f =
+      let m = narrow (h .running) (h .last) n e in
+      (inputs-first (h .running) (h .last) n i e f, m, omega (arith, h .given, inputs-are (h .running) (h .last) i f), held-room n e, omega (arith, h .room, m))
+
+  pub record-runnable : (n : ℕ) (begun : List ℕ) → n ≡ rowAt rows k 4 → length begun ≡ length present → Runnable file tab rows consts k begun (tailOf 1 old) (tailOf (1 + 9 * n) old) (tailOf (1 + 9 * n) new)
+  record-runnable n begun e l =
+      let w = width-is (h .running) (h .last) n e in
+      let z = ap length (tail-all (1 + 9 * n) old) ∙ length-drop (1 + 9 * n) old in
+      record {
+        running = h .running;
+        below = below (h .running) (h .last);
+        present = record { long = omega (arith, l, h .room, h .running .program .width k) };
+        previous = record { long = omega (arith, held-room n e, w) };
+        sized = omega (arith, z, h .sized, w);
+        small = omega (arith, z, h .small);
+        same = ap (tailOf (1 + 9 * n)) (h .same);
+      }
+
+  pub record-ran : (n i : ℕ) (begun cells′ x : List ℕ) (r : Ended) → n ≡ rowAt rows k 4 → i ≡ rowAt rows k 2 → valuesOf n begun ≡ valuesOf i inputs ++ drop i (valuesOf n (tailOf 1 old))
+      → RunTo file consts k (isFresh old) begun (tailOf 1 old) (tailOf (1 + 9 * n) old) r cells′ x → RecordRan file consts k inputs old r (putTail (1 + 9 * n) new x) cells′
+  record-ran n i begun cells′ x r e f b m =
+      let w = width-is (h .running) (h .last) n e in
+      let v = inputs-are (h .running) (h .last) i f in
+      let own : 1 + 9 * n ≡ ownSize (nodeIn file k) = ap (λ (q : ℕ). 1 + 9 * q) w in
+      let N = putTail (1 + 9 * n) new x in
+      let s : drop (ownSize (nodeIn file k)) N ≡ x = ap (λ (q : ℕ). drop q N) (sym own) ∙ drop-put (1 + 9 * n) new x (own-new n e) in
+      let t : take (ownSize (nodeIn file k)) N ≡ take (ownSize (nodeIn file k)) new =
+      ap (λ (q : ℕ). take q N) (sym own) ∙ take-put (1 + 9 * n) new x (own-new n e) ∙ ap (λ (q : ℕ). take q new) own in
+      let c : valuesOf (widthIn file k) begun ≡ valuesOf (length (nodeIn file k .inputs)) inputs ++ drop (length (nodeIn file k .inputs)) (valuesOf (widthIn file k) (tailOf 1 old)) =
+      ap (λ (q : ℕ). valuesOf q begun) (sym w) ∙ b ∙ (λ j. valuesOf (v j) inputs ++ drop (v j) (valuesOf (w j) (tailOf 1 old))) in
+      let u : runIn file consts k (isFresh old) begun (tailOf 1 old) (tailOf (1 + 9 * n) old) ≡ recordRun file consts k inputs old =
+      record-run file consts k inputs old begun (tailOf 1 old) (tailOf (1 + 9 * n) old) (isFresh old) refl (tail-all 1 old) (tail-all (1 + 9 * n) old ∙ ap (λ (q : ℕ). drop q old) own) c in
+      record {
+        ran = subst (λ (l : List ℕ). RunMeets (recordRun file consts k inputs old) r (valuesOf (widthIn file k) cells′) l) (sym s) (subst (λ (y : Run). RunMeets y r (valuesOf (widthIn file k) cells′) x) u m);
+        kept = t ∙ ap (take (ownSize (nodeIn file k))) (h .same);
+      }
+
+-- ---- the cycle
+
+module _ {file tab rows consts old inputs new vals : List ℕ} {k : ℕ} (h : RunReady file tab rows consts k old inputs new vals) where
+  abbrev H : ℕ
+  H = length consts
+
+  state-is : length old ≡ H + instanceSize (sizesIn file) (nodeIn file k)
+  unfolding stateSize
+  state-is = h .sized ∙ (λ j. sym (h .head) j + instanceSize (sizesIn file) (main-is file k (h .last) j))
+
+  pub head-room : H ≤ length old
+  head-room = omega (arith, state-is)
+
+  -- the main record can be run
+  pub main-ready : (copied present : List ℕ) → copied ≡ old → length present ≡ 1008 → RecordReady file tab rows consts k inputs (tailOf H old) (tailOf H copied) present
+  main-ready copied present e l =
+      let z = ap length (tail-all H old) ∙ length-drop H old in
+      record { running = h .running; last = h .last; sized = omega (arith, z, state-is); small = omega (arith, z, h .small); same = ap (tailOf H) e; given = h .given; room = l }
+
+  pub copied-room : (copied : List ℕ) → copied ≡ old → H ≤ length copied
+  copied-room copied e = omega (arith, head-room, ap length e)
+
+  pub moved-length : (copied x : List ℕ) → copied ≡ old → length x ≡ length (tailOf H copied) → length (putTail H copied x) ≡ length copied
+  moved-length copied x e l = length-put H copied x (copied-room copied e) l
+
+  pub moved-room : (copied x : List ℕ) → copied ≡ old → length x ≡ length (tailOf H copied) → H ≤ length (putTail H copied x)
+  moved-room copied x e l = omega (arith, moved-length copied x e l, copied-room copied e)
+
+  pub finish-ready : (n : ℕ) (copied x present : List ℕ) → n ≡ rowAt rows k 4 → copied ≡ old → length x ≡ length (tailOf H copied) → length present ≡ 1008
+      → (n ≤ 112) × (9 * n ≤ length present) × (1 + 9 * n ≤ length (tailOf H (putTail H copied x)))
+  finish-ready n copied x present w e l p =
+      let m = narrow (h .running) (h .last) n w in
+      let A = putTail H copied x in
+      (m, omega (arith, p, m), omega (arith, ap length (tail-all H A), length-drop H A, moved-length copied x e l, ap length e, state-is, width-is (h .running) (h .last) n w))
+
+  pub values-ready : (n : ℕ) (present : List ℕ) → n ≡ rowAt rows k 4 → length present ≡ 1008 → (n ≤ 112) × (9 * n ≤ length present) × (9 * n ≤ length vals)
+  values-ready n present w p =
+      let m = narrow (h .running) (h .last) n w in
+      (m, omega (arith, p, m), omega (arith, h .told, width-is (h .running) (h .last) n w))
+
+  pub ended-length : (copied x y : List ℕ) → copied ≡ old → length x ≡ length (tailOf H copied) → length y ≡ length (tailOf H (putTail H copied x)) → length (putTail H (putTail H copied x) y) ≡ length copied
+  ended-length copied x y e l m = length-put H (putTail H copied x) y (moved-room copied x e l) m ∙ moved-length copied x e l
+
+  -- the run is that of the definition
+  meant : (vs : List Value) → length vs ≡ length (fileAt file .constants) → valuesOf (length vs) consts ≡ vs → recordRun file consts k inputs (tailOf H old) ≡ mainRun (fileAt file) vs old inputs
+  meant vs l v =
+      ap (λ (s : List ℕ). recordRun file consts k inputs s) (tail-all H old ∙ ap (λ (q : ℕ). drop q old) (h .head))
+      ∙ main-run file consts k vs inputs old (h .last) (globals-same file consts vs (h .running .constants) l v)
+
+  module _ (copied x cells′ : List ℕ) (r : Ended) (same : copied ≡ old) (m : RecordRan file consts k inputs (tailOf H old) r x cells′) where
+    abbrev f : File
+    f = fileAt file
+
+    abbrev U : Run
+    U = recordRun file consts k inputs (tailOf H old)
+
+    abbrev own : ℕ
+    own = ownSize (nodeIn file k)
+
+    abbrev got : List Value
+    got = valuesOf (widthIn file k) cells′
+
+    ended : (a : Cycled) (new′ vals′ : List ℕ) → Cycles (endRun f old vals U) a new′ vals′ → (vs : List Value) → CyclesTo file consts vs old inputs vals a new′ vals′
+    ended a new′ vals′ c vs l v = subst (λ (u : Run). Cycles (endRun f old vals u) a new′ vals′) (meant vs l v) c
+
+    -- finished: the main record is written anew, behind the constants' cells
+    written-anew : (n : ℕ) (y : List ℕ) → n ≡ rowAt rows k 4 → y ≡ 1 ∷ cells (valuesOf n cells′) ++ drop (1 + 9 * n) (tailOf H (putTail H copied x)) → putTail H (putTail H copied x) y ≡ take (headSize f) old ++ (1 ∷ cells got ++ drop own x)
+    written-anew n y e w =
+        let A = putTail H copied x in
+        let p = width-is (h .running) (h .last) n e in
+        let a : take H A ≡ take (headSize f) old = take-put H copied x (copied-room copied same) ∙ (λ j. take (h .head j) (same j)) in
+        let t : tailOf H A ≡ x = tail-all H A ∙ drop-put H copied x (copied-room copied same) in
+        let b : y ≡ 1 ∷ cells got ++ drop own x = w ∙ (λ j. 1 ∷ cells (valuesOf (p j) cells′) ++ drop (1 + 9 * p j) (t j)) in
+        put-tail H A y ∙ (λ j. a j ++ b j)
+
+    values-told : (n : ℕ) (vals′ : List ℕ) → n ≡ rowAt rows k 4 → vals′ ≡ cells (valuesOf n cells′) ++ drop (9 * n) vals → vals′ ≡ cells got
+    values-told n vals′ e w =
+        let p = width-is (h .running) (h .last) n e in
+        let d : drop (9 * n) vals ≡ [] = drop-of-length-le vals {i = 9 * n} (omega (arith, h .told, p)) in
+        w ∙ (λ j. cells (valuesOf (p j) cells′) ++ d j) ∙ append-nil (cells got)
+
+    pub cycle-finished : (n : ℕ) (y vals′ : List ℕ) → n ≡ rowAt rows k 4 → r .end ≡ End.Values → y ≡ 1 ∷ cells (valuesOf n cells′) ++ drop (1 + 9 * n) (tailOf H (putTail H copied x)) → vals′ ≡ cells (valuesOf n cells′) ++ drop (9 * n) vals
+        → (vs : List Value) → CyclesTo file consts vs old inputs vals Cyc.Answered (putTail H (putTail H copied x) y) vals′
+    cycle-finished n y vals′ e z w v =
+        ended Cyc.Answered (putTail H (putTail H copied x) y) vals′ (ended-finished f old vals U r got (drop own x) (m .ran) (putTail H (putTail H copied x) y) vals′ z (written-anew n y e w) (values-told n vals′ e v))
+
+    -- failed: the main cells stay
+    cells-stay : putTail H copied x ≡ take (headSize f + ownSize (main f)) old ++ drop own x
+    cells-stay =
+        let C = take (headSize f) old in
+        let D = drop own x in
+        let s : take own x ≡ take own (drop (headSize f) old) = m .kept ∙ ap (take own) (tail-all H old ∙ ap (λ (q : ℕ). drop q old) (h .head)) in
+        put-tail H copied x ∙ (λ j. take (h .head j) (same j) ++ x) ∙ ap (λ (l : List ℕ). C ++ l) (sym (take-append-drop own x)) ∙ ap (λ (l : List ℕ). C ++ (l ++ D)) s
+        ∙ sym (append-assoc C (take own (drop (headSize f) old)) D)
+        ∙ ap (λ (l : List ℕ). l ++ D) (sym (take-add (headSize f) own old))
+        ∙ ap (λ (q : Node). take (headSize f + ownSize q) old ++ D) (sym (main-is file k (h .last)))
+
+    pub cycle-failed : r .end ≡ End.Failed → (vs : List Value) → CyclesTo file consts vs old inputs vals (Cyc.Stopped (faultAt (endingNumber End.Failed) (r .index))) (putTail H copied x) vals
+    cycle-failed z = ended (Cyc.Stopped (faultAt (endingNumber End.Failed) (r .index))) (putTail H copied x) vals (ended-failed f old vals U r got (drop own x) (m .ran) (putTail H copied x) z cells-stay)
+
+    pub cycle-overflowed : (new′ : List ℕ) → r .end ≡ End.Overflowed → new′ ≡ old → (vs : List Value) → CyclesTo file consts vs old inputs vals (Cyc.Stopped (faultAt (endingNumber End.Overflowed) (r .index))) new′ vals
+    cycle-overflowed new′ z w = ended (Cyc.Stopped (faultAt (endingNumber End.Overflowed) (r .index))) new′ vals (ended-overflowed f old vals U r got (drop own x) (m .ran) new′ z w)
