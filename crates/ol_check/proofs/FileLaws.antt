@@ -38,6 +38,9 @@ use Rattle.ol_check.proofs.NodeLaws.{outputs-told, ready-at}
 use Rattle.ol_check.proofs.SizeTable.{last-any}
 use Rattle.ol_check.proofs.Definitions.{nodes-defined}
 
+pub few-enums : {s : List ℕ} {f : File} → FileStands s f → {n : ℕ} → Byte s 1 n → n ≤ 16
+few-enums st b = omega (arith, b .is ∙ st .enumCount, st .fewEnums)
+
 -- ---- the table outside the nodes
 
 -- entries above a variable's leave the table so

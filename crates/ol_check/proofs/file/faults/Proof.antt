@@ -1,7 +1,6 @@
 use mathlib.Core.Path.{refl}
-use Rattle.ol_check.proofs.FileLaws.{rows-ready, constant-count, constants-ready, names-ready, file-judged}
+use Rattle.ol_check.proofs.FileLaws.{few-enums, rows-ready, constant-count, constants-ready, names-ready, file-judged}
 use Rattle.ol_tables.proofs.HeadsFile.{file-stands, bytes-of}
-use Rattle.ol_check.proofs.VariantLaws.{few-enums}
 use native.Mathlib.Omega.{arith}
 use borrow.Author.Needs.{needs}
 use Rattle.ol_check.proofs.file.faults.Statement.{statement}
