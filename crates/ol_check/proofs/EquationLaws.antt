@@ -159,9 +159,9 @@ module _ {s names rows : List ℕ} {nodes k at many : ℕ} (slots : List ℕ) {s
       record {
         next = w .next ∙ sym end;
         again = w .again;
-        sized = λ le.
+        sized =
             let rs = sum (map (siteB s rows nodes) (rest)) in
-            w .sized (omega (arith, ez)) ∙ ap (λ m. min (m + rs) 65536) (ez ∙ ap (λ y. min (f .size + y) 65536) fz) ∙ min-add (f .size) (siteB s rows nodes n) rs 65536
+            w .sized ∙ ap (λ m. min (m + rs) 65536) (ez ∙ ap (λ y. min (f .size + y) 65536) fz) ∙ min-add (f .size) (siteB s rows nodes n) rs 65536
             ∙ ap (λ l. min (f .size + sum (map (siteB s rows nodes) l)) 65536) (sym all);
         slotted = w .slotted ∙ ap (λ l. slotHeads s names l (rest)) es ∙ ap (slotHeads s names slots) (sym all);
         unseen = w .unseen ∙ ap (λ o. foundIn o (map (unseenHead s names) (rest))) (eu ∙ ap (λ b. earliest (placeOf (f .unseen)) b (n + 1)) fu)
@@ -178,9 +178,9 @@ module _ {s names rows : List ℕ} {nodes k at many : ℕ} (slots : List ℕ) {s
       }
 
 -- the file ends before the right side
-pub root-out : {s names rows : List ℕ} {nodes k at many : ℕ} {slots : List ℕ} {f : Faults} → length s ≤ f .next → RootJudged s names rows nodes k at many slots slots f f
+pub root-out : {s names rows : List ℕ} {nodes k at many : ℕ} {slots : List ℕ} {f : Faults} → length s ≤ f .next → f .size ≤ 65536 → RootJudged s names rows nodes k at many slots slots f f
 unfolding slotHeads
-root-out {s} {names} {rows} {nodes} {k} {at} {many} {slots} {f} out =
+root-out {s} {names} {rows} {nodes} {k} {at} {many} {slots} {f} out small =
     let w = file-ends s 1 (f .next) out in
     let n = f .next in
     let none-there : rootShapes s rows nodes at many n ≡ [] =
@@ -192,7 +192,7 @@ root-out {s} {names} {rows} {nodes} {k} {at} {many} {slots} {f} out =
       unseen = sym (found-none (placeOf (f .unseen))) ∙ ap (λ l. foundIn (placeOf (f .unseen)) (map (unseenHead s names) l)) (sym (w .0));
       called = sym (found-none (placeOf (f .called))) ∙ ap (λ l. foundIn (placeOf (f .called)) (map (calledHead s rows k) l)) (sym (w .0));
       shaped = sym (found-none (placeOf (f .shaped))) ∙ ap (foundIn (placeOf (f .shaped))) (sym none-there);
-      sized = λ le. sym (min-cap (f .size) 65536 le) ∙ ap (λ l. min (f .size + sum (map (siteB s rows nodes) l)) 65536) (sym (w .0));
+      sized = sym (min-cap (f .size) 65536 small) ∙ ap (λ l. min (f .size + sum (map (siteB s rows nodes) l)) 65536) (sym (w .0));
     }
 
 -- ---- an equation
@@ -263,7 +263,7 @@ root-told {s} {names} {rows} {nodes} {k} {at} {many} {slots} {slots′} {f} {r} 
       called = w .called ∙ ap (λ l. foundIn (placeOf (f .called)) (map (calledHead s rows k) l)) same;
       shaped = w .shaped ∙ ap (λ b. foundIn (placeOf (f .shaped)) (cond b ((at, loneB many a) ∷ (n, otherB many a) ∷ map (severalHead s rows nodes) (headsFrom s (partsAt s n) (nextAt s n))) [])) (lt-ltb n (length s) (hd .inside))
           ∙ ap (λ l. foundIn (placeOf (f .shaped)) ((at, loneB many a) ∷ (n, otherB many a) ∷ map (severalHead s rows nodes) l)) rest;
-      sized = λ le. w .sized le ∙ ap (λ l. min (f .size + sum (map (siteB s rows nodes) l)) 65536) same;
+      sized = w .sized ∙ ap (λ l. min (f .size + sum (map (siteB s rows nodes) l)) 65536) same;
     }
 
 -- the equation q at `at`, in the file f and a node of so many inputs
@@ -325,10 +325,10 @@ module _ {s names rows : List ℕ} {nodes k inputs : ℕ} {slots slots₂ define
         shaped = w .shaped ∙ ap (λ x. orElse (placeOf (d .shaped)) (firstIf (loneB many (arityB s rows nodes p)) at (firstIf (otherB many (arityB s rows nodes p)) p x))) inner
             ∙ rw (ar, ← len, n .shaped, ← place) refl;
         marked = n .marked;
-        sized = λ le.
+        sized =
             let sites : sum (map (siteB s rows nodes) (heads p (cons e nil))) ≡ sum (map (calleeB rows nodes) (callees e)) =
             sites-callees s rows nodes f ∙ ap (λ l. sum (map (calleeB rows nodes) l)) (append-nil (callees e)) in
-            w .sized (omega (arith, n .sized)) ∙ ap (λ m. min (m + sum (map (siteB s rows nodes) (heads p (cons e nil)))) 65536) (n .sized) ∙ ap (λ m. min (g .size + m) 65536) sites;
+            w .sized ∙ ap (λ m. min (m + sum (map (siteB s rows nodes) (heads p (cons e nil)))) 65536) (n .sized) ∙ ap (λ m. min (g .size + m) 65536) sites;
         slotted = w .slotted ∙ ap (λ l. slotHeads s names l (heads p (cons e nil))) (n .slotted) ∙ ap (λ a. slotHeads s names (slotNames names slots ps) (heads a (cons e nil))) (sym place);
       }
 
@@ -398,8 +398,8 @@ pub record EquationsGoing (s names rows : List ℕ) (nodes : ℕ) (t : File) (vi
   pub sized : Adding (f .size) (map (calleeB rows nodes) (concat (map equationSites qs))) (g .size) (map (calleeB rows nodes) (concat (map equationSites (drop i qs))))
 
 module _ {s names rows : List ℕ} {nodes : ℕ} {t : File} {visible : List ℕ} {bad : ℕ → ℕ → Bool} {inputs enums : ℕ} {qs : List Equation} {slots₀ defined₀ : List ℕ} {f : Faults} where
-  pub equations-start : Listed equationBytes (equationFits base enums) s (f .next) qs → EquationsGoing s names rows nodes t visible bad inputs enums qs slots₀ defined₀ f slots₀ defined₀ f 0
-  equations-start h = record { passing = passing-start equationBytes (equationFits base enums) equationSize h; unseen = refl; again = refl; called = refl; shaped = refl; slotted = refl; marked = refl; sized = λ le. (le, refl) }
+  pub equations-start : f .size ≤ 65536 → Listed equationBytes (equationFits base enums) s (f .next) qs → EquationsGoing s names rows nodes t visible bad inputs enums qs slots₀ defined₀ f slots₀ defined₀ f 0
+  equations-start le h = record { passing = passing-start equationBytes (equationFits base enums) equationSize h; unseen = refl; again = refl; called = refl; shaped = refl; slotted = refl; marked = refl; sized = (le, refl) }
 
   module _ {slots defined : List ℕ} {g : Faults} {i : ℕ} (w : EquationsGoing s names rows nodes t visible bad inputs enums qs slots₀ defined₀ f slots defined g i) where
     equation-at : i < length qs → PassedItem equationBytes (equationFits base enums) equationSize s (f .next) qs i (g .next) (getD qs i noEquation)
@@ -434,9 +434,9 @@ module _ {s names rows : List ℕ} {nodes : ℕ} {t : File} {visible : List ℕ}
               let rest = concat (map definedBy (placed equationSize (g .next + equationSize q) (drop (i + 1) qs))) in
               ap (λ n. markAll names defined′ (concat (map definedBy (placed equationSize n (drop (i + 1) qs))))) (j .next) ∙ ap (λ l. markAll names l rest) (j .marked)
               ∙ sym (mark-append names defined here rest) ∙ ap (λ l. markAll names defined (concat (map definedBy l))) (sym on) ∙ w .marked;
-          sized = λ le.
-              let v = w .sized le in
-              let a = j .sized (v .0) in
+          sized =
+              let v = w .sized in
+              let a = j .sized in
               let c = calleeB rows nodes in
               let rest = concat (map equationSites (drop (i + 1) qs)) in
               let left : drop i qs ≡ q ∷ drop (i + 1) qs = drop-cons qs i noEquation lt ∙ ap (λ m. q ∷ drop m qs) (sym (add-one i)) in (
@@ -460,7 +460,7 @@ module _ {s names rows : List ℕ} {nodes : ℕ} {t : File} {visible : List ℕ}
           shaped = left-none (equationShape t) equationSize qs i (g .next) (placeOf (g .shaped)) _ over (w .shaped);
           slotted = ap (λ l. slotEquations s names slots (placed equationSize (g .next) l)) (sym (drop-of-length-le qs over)) ∙ w .slotted;
           marked = ap (λ l. markAll names defined (concat (map definedBy (placed equationSize (g .next) l)))) (sym (drop-of-length-le qs over)) ∙ w .marked;
-          sized = λ le.
-              let v = w .sized le in
+          sized =
+              let v = w .sized in
               sym (min-cap (g .size) 65536 (v .0)) ∙ ap (λ l. min (g .size + sum (map (calleeB rows nodes) (concat (map equationSites l)))) 65536) (sym (drop-of-length-le qs over)) ∙ v .1;
         }

@@ -35,7 +35,6 @@ use Rattle.ol_check.specs.Entries.{declareAll, forgetAll, variableEntrie
 use Rattle.ol_check.specs.Judging.{mayB, badB, outputsB, Knows, Context, EquationsJudged, foundIn, slotEquations, againB, globalNames, seenIn, EquationsReady}
 use Rattle.ol_check.specs.NodesJudged.{placeIn, NodeReady, nodeTable, Covered, nodeAgain, NodeJudged, RowsReady, slotNodes, NodesJudged, NamesReady}
 use Rattle.ol_check.specs.declared.Faults.{Faults}
-use Rattle.ol_check.proofs.RowLoops.{few-variables}
 use Rattle.ol_check.proofs.EntryLaws.{declare-append, forget-append, entries-append, Enterable, knows-all, restored}
 
 -- ---- the sections of variables
@@ -192,7 +191,7 @@ module _ {s rows : List ℕ} {nodes k : ℕ} (rd : NodeReady s rows nodes k) (st
         called = w .called ∙ ap (λ x. foundIn (placeOf (g .called)) (concat (map (inEquation (callsWhere (badCall f k n))) (placed equationSize x (n .equations))))) here;
         shaped = w .shaped ∙ ap (λ x. foundIn (placeOf (g .shaped)) (concat (map (equationShape f) (placed equationSize x (n .equations))))) here;
         slotted = w .slotted ∙ ap (λ x. slotEquations s n₁ slots (placed equationSize x (n .equations))) here ∙ ap (λ l. slotEquations s l slots (placed equationSize (equationsStart p n + 1) (n .equations))) en;
-        sized = w .sized (omega (arith, ev, row .variables, few-variables ns)) ∙ ap (λ x. min (1 + 9 * x + sum (map (calleeB rows nodes) (sites n))) 65536) (ev ∙ row .variables);
+        sized = w .sized ∙ ap (λ x. min (1 + 9 * x + sum (map (calleeB rows nodes) (sites n))) 65536) (ev ∙ row .variables);
       }
 
 -- the length of the node's records is stored

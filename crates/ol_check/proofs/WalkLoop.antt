@@ -81,7 +81,7 @@ min-cap a c le = omega arith
 
 -- the sum so far, and what is left to be added to it, give what all gives
 abbrev pub Adding : ℕ → List ℕ → ℕ → List ℕ → Type 0
-Adding start xs size rest = start ≤ 65536 → (size ≤ 65536) × (min (size + sum rest) 65536 ≡ min (start + sum xs) 65536)
+Adding start xs size rest = (size ≤ 65536) × (min (size + sum rest) 65536 ≡ min (start + sum xs) 65536)
 
 -- of so many expressions at `at`, those at `next` are left to be judged
 pub record WalkGoing (s names rows : List ℕ) (nodes k parts at : ℕ) (slots₀ : List ℕ) (u₀ c₀ h₀ : Found) (z₀ : ℕ) (slots : List ℕ) (u c h : Found) (z left next : ℕ) : Type 0 where
@@ -93,8 +93,8 @@ pub record WalkGoing (s names rows : List ℕ) (nodes k parts at : ℕ) (slots�
   pub sized : Adding z₀ (map (siteB s rows nodes) (headsFrom s parts at)) z (map (siteB s rows nodes) (headsFrom s left next))
 
 module _ {s names rows : List ℕ} {nodes k parts at : ℕ} {slots₀ : List ℕ} {u₀ c₀ h₀ : Found} {z₀ : ℕ} where
-  pub walk-start : WalkGoing s names rows nodes k parts at slots₀ u₀ c₀ h₀ z₀ slots₀ u₀ c₀ h₀ z₀ parts at
-  walk-start = record { ends = refl; slotted = refl; unseen = refl; called = refl; shaped = refl; sized = λ le. (le, refl) }
+  pub walk-start : z₀ ≤ 65536 → WalkGoing s names rows nodes k parts at slots₀ u₀ c₀ h₀ z₀ slots₀ u₀ c₀ h₀ z₀ parts at
+  walk-start le = record { ends = refl; slotted = refl; unseen = refl; called = refl; shaped = refl; sized = (le, refl) }
 
   module _ {slots : List ℕ} {u c h : Found} {z left next : ℕ} (g : WalkGoing s names rows nodes k parts at slots₀ u₀ c₀ h₀ z₀ slots u c h z left next) where
     module _ (lt : 0 < left) (inside : next < length s) (room : left ≤ length s) (p : Parts) (hp : HeadOf s next p) where
@@ -123,8 +123,8 @@ module _ {s names rows : List ℕ} {nodes k parts at : ℕ} {slots₀ : List ℕ
             unseen = step-found (unseenHead s names) (placeOf u) _ _ _ _ refl (eu ∙ ap (λ b. earliest (placeOf u) b (next + 1)) fu) (g .unseen);
             called = step-found (calledHead s rows k) (placeOf c) _ _ _ _ refl (ec ∙ ap (λ b. earliest (placeOf c) b next) fc) (g .called);
             shaped = step-found (severalHead s rows nodes) (placeOf h) _ _ _ _ refl (eh ∙ ap (λ n. earliest (placeOf h) (ltb 1 n) next) fh) (g .shaped);
-            sized = λ le.
-                let w = g .sized le in
+            sized =
+                let w = g .sized in
                 let r = sum (map (siteB s rows nodes) (headsFrom s (left - 1 + p .count) (p .start))) in (
                   omega (arith, ez (w .0)),
                   ap (λ n. min (n + r) 65536) (ez (w .0) ∙ ap (λ y. min (z + y) 65536) fz) ∙ min-add z (siteB s rows nodes next) r 65536
@@ -157,8 +157,8 @@ module _ {s names rows : List ℕ} {nodes k parts at : ℕ} {slots₀ : List ℕ
           unseen = rw (eu, eu₀, ea) (sym (found-none (placeOf u)) ∙ ap (λ l. foundIn (placeOf u) (map (unseenHead s names) l)) (sym empty) ∙ g .unseen);
           called = rw (ec, ec₀, ea) (sym (found-none (placeOf c)) ∙ ap (λ l. foundIn (placeOf c) (map (calledHead s rows k) l)) (sym empty) ∙ g .called);
           shaped = rw (eh, eh₀, ea) (sym (found-none (placeOf h)) ∙ ap (λ l. foundIn (placeOf h) (map (severalHead s rows nodes) l)) (sym empty) ∙ g .shaped);
-          sized = λ le.
-              let w = g .sized (omega (arith, ez₀, le)) in
+          sized =
+              let w = g .sized in
               ez ∙ sym (min-cap z 65536 (w .0)) ∙ ap (λ l. min (z + sum (map (siteB s rows nodes) l)) 65536) (sym empty) ∙ w .1
               ∙ ap (λ m. min (m + sum (map (siteB s rows nodes) (headsFrom s parts at))) 65536) (sym ez₀) ∙ ap (λ a. min (f .size + sum (map (siteB s rows nodes) (headsFrom s parts a))) 65536) (sym ea);
         }
@@ -195,5 +195,5 @@ walk-told {s} {names} {rows} {nodes} {k} {parts} {slots} {slots′} {f} {r} w en
       unseen = w .unseen ∙ ap (λ l. foundIn (placeOf (f .unseen)) (map (unseenHead s names) l)) same;
       called = w .called ∙ ap (λ l. foundIn (placeOf (f .called)) (map (calledHead s rows k) l)) same;
       shaped = w .shaped ∙ ap (λ l. foundIn (placeOf (f .shaped)) (map (severalHead s rows nodes) l)) same;
-      sized = λ le. w .sized le ∙ ap (λ l. min (f .size + sum (map (siteB s rows nodes) l)) 65536) same;
+      sized = w .sized ∙ ap (λ l. min (f .size + sum (map (siteB s rows nodes) l)) 65536) same;
     }

@@ -1,5 +1,5 @@
 -- Faults 7 to 10 at the names and the heads of expressions, as the bytes and the tables tell them.
-use Prim.Native.Nat.{ℕ, _+_, _-_, _*_, _≤_, min}
+use Prim.Native.Nat.{ℕ, _+_, _-_, _*_, min}
 use mathlib.Core.Bool.{Bool, not, _&&_, _||_, cond}
 use mathlib.Core.List.{List, [], _∷_, _++_, map}
 use mathlib.Core.Option.{Option}
@@ -97,7 +97,7 @@ foundIn found is = orElse found (first is)
 
 -- a sum so far, after these are added to it: exact up to the cap
 abbrev pub Adds : ℕ → List ℕ → ℕ → Type 0
-Adds start xs r = start ≤ 65536 → r ≡ min (start + sum xs) 65536
+Adds start xs r = r ≡ min (start + sum xs) 65536
 
 -- where the heads of so many expressions from `at` on stand, as the bytes tell
 abbrev pub headsFrom : List ℕ → ℕ → ℕ → List ℕ

@@ -21,7 +21,7 @@ fn constant(
     i: usize,
     f: Faults,
 ) -> Faults
-    requires { ⌜ (f .next < 32768) × (length (now file) ≤ 32768) × (i < 64) ⌝ }
+    requires { ⌜ (f .next < 32768) × (length (now file) ≤ 32768) × (i < 64) × (f .size ≤ 65536) ⌝ }
     ensures { λ r. ⌜ ConstantWalked (now (file .entry)) (now (names .entry)) (now (rows .entry)) nodes i (now (slots .entry)) (now (slots .exit)) (now (names .exit)) f r ⌝ }
 {
     let at = f.next;
@@ -61,7 +61,7 @@ pub(crate) fn judge_constants(
     many: usize,
     f: Faults,
 ) -> Faults
-    requires { ⌜ (length (now file) ≤ 32768) × (many ≡ length (fileAt (now file) .constants)) × (many ≤ 64) × ConstantsReady (now file) (now names) (now rows) nodes (fileAt (now file)) (variants (fileAt (now file))) (length (fileAt (now file) .enums)) (f .next) (fileAt (now file) .constants) ⌝ }
+    requires { ⌜ (length (now file) ≤ 32768) × (many ≡ length (fileAt (now file) .constants)) × (many ≤ 64) × ConstantsReady (now file) (now names) (now rows) nodes (fileAt (now file)) (variants (fileAt (now file))) (length (fileAt (now file) .enums)) (f .next) (fileAt (now file) .constants) × (f .size ≤ 65536) ⌝ }
     ensures { λ r. ⌜ ConstantsJudged (now (file .entry)) (now (names .entry)) (fileAt (now (file .entry))) (variants (fileAt (now (file .entry)))) (f .next) (fileAt (now (file .entry)) .constants) (now (slots .entry)) (now (slots .exit)) (now (names .exit)) f r ⌝ }
 {
     let mut g = f;

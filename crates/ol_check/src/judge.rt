@@ -147,7 +147,7 @@ pub(crate) fn walk(
     parts: usize,
     f: Faults,
 ) -> Faults
-    requires { ⌜ (node < 256) × (length (now file) ≤ 32768) ⌝ }
+    requires { ⌜ (node < 256) × (length (now file) ≤ 32768) × (f .size ≤ 65536) ⌝ }
     ensures { λ r. ⌜ Walked (now (file .entry)) (now (names .entry)) (now (rows .entry)) nodes node parts (now (slots .entry)) (now (slots .exit)) f r ⌝ }
 {
     let mut next = f.next;
@@ -282,7 +282,7 @@ fn root(
     many: usize,
     f: Faults,
 ) -> Faults
-    requires { ⌜ (node < 256) × (length (now file) ≤ 32768) ⌝ }
+    requires { ⌜ (node < 256) × (length (now file) ≤ 32768) × (f .size ≤ 65536) ⌝ }
     ensures { λ r. ⌜ RootJudged (now (file .entry)) (now (names .entry)) (now (rows .entry)) nodes node at many (now (slots .entry)) (now (slots .exit)) f r ⌝ }
 {
     let next = f.next;
@@ -332,7 +332,7 @@ fn equation(
     inputs: usize,
     f: Faults,
 ) -> Faults
-    requires { ⌜ (node < 256) × (f .next < 32768) × (length (now file) ≤ 32768) ⌝ }
+    requires { ⌜ (node < 256) × (f .next < 32768) × (length (now file) ≤ 32768) × (f .size ≤ 65536) ⌝ }
     ensures { λ r. ⌜ EquationWalked (now (file .entry)) (now (names .entry)) (now (rows .entry)) nodes node inputs (now (slots .entry)) (now (slots .exit)) (now (defined .entry)) (now (defined .exit)) f r ⌝ }
 {
     let at = f.next;
@@ -374,7 +374,7 @@ pub(crate) fn equations(
     many: usize,
     f: Faults,
 ) -> Faults
-    requires { ⌜ (node < 256) × (length (now file) ≤ 32768) × EquationsReady (now file) (now names) (now rows) nodes node many (f .next) ⌝ }
+    requires { ⌜ (node < 256) × (length (now file) ≤ 32768) × EquationsReady (now file) (now names) (now rows) nodes node many (f .next) × (f .size ≤ 65536) ⌝ }
     ensures { λ r. ⌜ EquationsJudged (now (file .entry)) (now (names .entry)) (now (rows .entry)) nodes (fileAt (now (file .entry))) (seenIn (fileAt (now (file .entry))) node) (badCall (fileAt (now (file .entry))) node (nodeOf (fileAt (now (file .entry))) node)) inputs (f .next) (nodeOf (fileAt (now (file .entry))) node .equations) (now (slots .entry)) (now (slots .exit)) (now (defined .entry)) (now (defined .exit)) f r ⌝ }
 {
     let mut g = f;

@@ -4,14 +4,14 @@ use Rattle.ol_spec.specs.Admission.{variants}
 use Rattle.ol_tables.specs.At.{fileAt}
 use lib.ListN.{length}
 use mathlib.Core.Path.{_≡_, _∙_}
-use Prim.Native.Nat.{_-_}
+use Prim.Native.Nat.{_-_, _≤_}
 use native.Mathlib.Omega.{arith}
 use Rattle.ol_check.proofs.constants.judge_constants.Statement.{statement}
 use Rattle.ol_check.proofs.constants.judge_constants.Tie as tie
 
 abbrev Inv-loop : tie.InvT-loop
 Inv-loop file names₀ slots₀ rows nodes many g₀ i₀ names slots g i =
-    (length names ≡ length names₀) × (length slots ≡ length slots₀) × ConstantsGoing file (fileAt file) (variants (fileAt file)) (length (fileAt file .enums)) (fileAt file .constants) names₀ slots₀ g₀ names slots g i
+    (length names ≡ length names₀) × (length slots ≡ length slots₀) × ConstantsGoing file (fileAt file) (variants (fileAt file)) (length (fileAt file .enums)) (fileAt file .constants) names₀ slots₀ g₀ names slots g i × (g .size ≤ 65536)
 
 abbrev μ-loop : tie.MeasureT-loop
 μ-loop file names₀ slots₀ rows nodes many g₀ i₀ names slots g i = many - i
@@ -19,7 +19,7 @@ abbrev μ-loop : tie.MeasureT-loop
 loop-holds : tie.Need-loop-holds Inv-loop μ-loop
 loop-holds c =
     let start = c .before .before .before .before in
-    (refl, refl, constants-start (start .pre .3))
+    (refl, refl, constants-start (start .pre .3), start .pre .4)
 
 same-length : tie.Need-same-length Inv-loop μ-loop
 same-length c = c .before .before .loop .inv .0
@@ -35,7 +35,7 @@ returns c =
 constant-requires : tie.Need-constant-requires Inv-loop μ-loop
 constant-requires c κs =
     let start = c .before .before .before .before .before .before .before .before .before in
-    (omega (arith, c .before .before .if1 .left, start .pre .0), start .pre .0, omega (arith, c .before .before .before .loop-test .taken, start .pre .2))
+    (omega (arith, c .before .before .if1 .left, start .pre .0), start .pre .0, omega (arith, c .before .before .before .loop-test .taken, start .pre .2), c .before .before .before .before .loop .inv .3)
 
 add-i : tie.Need-add-i Inv-loop μ-loop
 add-i c = omega arith
@@ -47,7 +47,7 @@ loop-again : tie.Need-loop-again Inv-loop μ-loop
 loop-again c =
     let start = c .before .before .before .before .before .before .before .before .before .before .before .before .before .before in
     let f = start .args .file .now in
-    (c .before .before .before .before .constant .kept .1 .0 ∙ c .before .before .before .before .before .before .before .before .before .loop .inv .0, c .before .before .before .before .constant .kept .1 .1 .0 ∙ c .before .before .before .before .before .before .before .before .before .loop .inv .1, constants-turn (start .pre .3) (c .before .before .before .before .before .before .before .before .before .loop .inv .2) (omega (arith, c .before .before .before .before .before .before .before .before .loop-test .taken, start .pre .1)) (c .before .before .before .before .before .before .before .before .before .loop .inv .0) _ _ _ (c .before .before .before .before .constant .ensures))
+    (c .before .before .before .before .constant .kept .1 .0 ∙ c .before .before .before .before .before .before .before .before .before .loop .inv .0, c .before .before .before .before .constant .kept .1 .1 .0 ∙ c .before .before .before .before .before .before .before .before .before .loop .inv .1, constants-turn (start .pre .3) (c .before .before .before .before .before .before .before .before .before .loop .inv .2) (omega (arith, c .before .before .before .before .before .before .before .before .loop-test .taken, start .pre .1)) (c .before .before .before .before .before .before .before .before .before .loop .inv .0) _ _ _ (c .before .before .before .before .constant .ensures), omega (arith, c .before .before .before .before .constant .ensures .walked .sized))
 
 same-length-3 : tie.Need-same-length-3 Inv-loop μ-loop
 same-length-3 c = c .before .loop .inv .0

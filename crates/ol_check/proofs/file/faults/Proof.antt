@@ -26,7 +26,7 @@ add-t24 c = search needs
 judge-constants-requires : tie.Need-judge-constants-requires
 judge-constants-requires c κs =
     let start = c .before .before .before .before .before .before .before .before .before .before .before .before .before .before in
-    ((file-stands (bytes-of (start .args .file .now) (λ i. omega (arith, c .before .before .before .before .before .before .before .before .before .before .before .before .before .shared-slice-known .given i))) (start .pre .0 .reads)) .short, (constant-count (start .pre .0) (start .pre .1) (file-stands (bytes-of (start .args .file .now) (λ i. omega (arith, c .before .before .before .before .before .before .before .before .before .before .before .before .before .shared-slice-known .given i))) (start .pre .0 .reads)) (c .byte3 .ensures)), omega (arith, (constant-count (start .pre .0) (start .pre .1) (file-stands (bytes-of (start .args .file .now) (λ i. omega (arith, c .before .before .before .before .before .before .before .before .before .before .before .before .before .shared-slice-known .given i))) (start .pre .0 .reads)) (c .byte3 .ensures)), (file-stands (bytes-of (start .args .file .now) (λ i. omega (arith, c .before .before .before .before .before .before .before .before .before .before .before .before .before .shared-slice-known .given i))) (start .pre .0 .reads)) .fewConstants), constants-ready (start .pre .0) (start .pre .1) (file-stands (bytes-of (start .args .file .now) (λ i. omega (arith, c .before .before .before .before .before .before .before .before .before .before .before .before .before .shared-slice-known .given i))) (start .pre .0 .reads)) (c .before .before .before .before .before .before .before .before .before .byte .ensures) (c .before .before .before .before .before .before .before .byte2 .ensures) (c .byte3 .ensures) (c .before .before .before .before .before .before .declare-enums .ensures))
+    ((file-stands (bytes-of (start .args .file .now) (λ i. omega (arith, c .before .before .before .before .before .before .before .before .before .before .before .before .before .shared-slice-known .given i))) (start .pre .0 .reads)) .short, (constant-count (start .pre .0) (start .pre .1) (file-stands (bytes-of (start .args .file .now) (λ i. omega (arith, c .before .before .before .before .before .before .before .before .before .before .before .before .before .shared-slice-known .given i))) (start .pre .0 .reads)) (c .byte3 .ensures)), omega (arith, (constant-count (start .pre .0) (start .pre .1) (file-stands (bytes-of (start .args .file .now) (λ i. omega (arith, c .before .before .before .before .before .before .before .before .before .before .before .before .before .shared-slice-known .given i))) (start .pre .0 .reads)) (c .byte3 .ensures)), (file-stands (bytes-of (start .args .file .now) (λ i. omega (arith, c .before .before .before .before .before .before .before .before .before .before .before .before .before .shared-slice-known .given i))) (start .pre .0 .reads)) .fewConstants), constants-ready (start .pre .0) (start .pre .1) (file-stands (bytes-of (start .args .file .now) (λ i. omega (arith, c .before .before .before .before .before .before .before .before .before .before .before .before .before .shared-slice-known .given i))) (start .pre .0 .reads)) (c .before .before .before .before .before .before .before .before .before .byte .ensures) (c .before .before .before .before .before .before .before .byte2 .ensures) (c .byte3 .ensures) (c .before .before .before .before .before .before .declare-enums .ensures), omega arith)
 
 judge-nodes-requires : tie.Need-judge-nodes-requires
 judge-nodes-requires c κs =

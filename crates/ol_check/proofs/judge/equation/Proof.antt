@@ -1,3 +1,4 @@
+use native.Mathlib.Omega.{arith}
 use Rattle.ol_check.proofs.EquationLaws.{equation-walked}
 use borrow.Author.Needs.{needs}
 use Rattle.ol_check.proofs.judge.equation.Statement.{statement}
@@ -13,7 +14,7 @@ define-requires : tie.Need-define-requires
 define-requires c κs = search needs
 
 root-requires : tie.Need-root-requires
-root-requires c κs = search needs
+root-requires c κs = (c .before .before .before .before .before .before .before .before .before .before .before .before .before .before .pre .0, c .before .before .before .before .before .before .before .before .before .before .before .before .before .before .pre .2, omega (arith, c .before .before .before .before .before .define .ensures .sized, c .before .before .before .before .before .before .before .before .before .before .before .before .before .before .pre .3))
 
 same-length : tie.Need-same-length
 same-length c = search needs

@@ -21,7 +21,7 @@ abbrev μ-loop : tie.MeasureT-loop
 loop-holds : tie.Need-loop-holds Inv-loop μ-loop
 loop-holds c =
     let start = c .before .before .before .before .before in
-    (refl, refl, equations-start (start .pre .2 .stand))
+    (refl, refl, equations-start (start .pre .3) (start .pre .2 .stand))
 
 same-length : tie.Need-same-length Inv-loop μ-loop
 same-length c = c .before .before .loop .inv .0
@@ -35,7 +35,7 @@ returns c =
     absurd (equations-cut (c .before .before .loop .inv .2) (omega (arith, c .before .loop-test .taken, start .pre .2 .count)) (c .if1 .taken))
 
 equation-requires : tie.Need-equation-requires Inv-loop μ-loop
-equation-requires c κs = (c .before .before .before .before .before .before .before .before .before .before .pre .0, omega (arith, c .before .before .if1 .left, c .before .before .before .before .before .before .before .before .before .before .pre .1), c .before .before .before .before .before .before .before .before .before .before .pre .1)
+equation-requires c κs = (c .before .before .before .before .before .before .before .before .before .before .pre .0, omega (arith, c .before .before .if1 .left, c .before .before .before .before .before .before .before .before .before .before .pre .1), c .before .before .before .before .before .before .before .before .before .before .pre .1, c .before .before .before .before .loop .inv .2 .sized .0)
 
 add-i : tie.Need-add-i Inv-loop μ-loop
 add-i c = omega arith

@@ -6,7 +6,7 @@ use Rattle.ol_check.proofs.judge.root.Statement.{statement}
 use Rattle.ol_check.proofs.judge.root.Tie as tie
 
 returns : tie.Need-returns
-returns c = root-out (c .if1 .taken)
+returns c = root-out (c .if1 .taken) (c .before .before .before .before .before .pre .2)
 
 head-requires : tie.Need-head-requires
 head-requires c κs = search needs
@@ -51,7 +51,7 @@ capped-requires : tie.Need-capped-requires
 capped-requires c κs = search needs
 
 walk-requires : tie.Need-walk-requires
-walk-requires c κs = c .before .before .before .before .before .before .before .before .before .before .before .before .before .before .before .before .before .before .before .before .before .before .pre
+walk-requires c κs = (c .before .before .before .before .before .before .before .before .before .before .before .before .before .before .before .before .before .before .before .before .before .before .pre .0, c .before .before .before .before .before .before .before .before .before .before .before .before .before .before .before .before .before .before .before .before .before .before .pre .1, omega (arith, c .before .capped .ensures))
 
 same-length : tie.Need-same-length
 same-length c = c .before .before .walk .kept .1 .1 .0 ∙ c .before .before .before .before .before .before .before .before .before .before .before .before .before .before .before .before .slot-head .kept .1 .1 .0

@@ -27,7 +27,7 @@ abbrev μ-loop : tie.MeasureT-loop
 
 -- src/judge.rt:160:5
 loop-holds : tie.Need-loop-holds Inv-loop μ-loop
-loop-holds c = (refl, walk-start)
+loop-holds c = (refl, walk-start (c .before .before .before .before .pre .2))
 
 -- src/judge.rt:162:13
 same-length : tie.Need-same-length Inv-loop μ-loop

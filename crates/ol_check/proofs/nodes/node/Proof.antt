@@ -38,7 +38,7 @@ row-requires-4 c κs = search needs
 equations-requires : tie.Need-equations-requires
 equations-requires c κs =
     let start = c .before .before .before .before .before .before .before .before .before .before .before .before .before .before .before .before .before in
-    (omega (arith, start .pre .0 .low, start .pre .0 .few), (file-stands (bytes-of (start .args .file .now) (λ i. omega (arith, c .before .before .before .before .before .before .before .before .before .before .before .before .before .before .before .before .shared-slice-known .given i))) (start .pre .0 .reads)) .short, equations-ready (start .pre .0) (file-stands (bytes-of (start .args .file .now) (λ i. omega (arith, c .before .before .before .before .before .before .before .before .before .before .before .before .before .before .before .before .shared-slice-known .given i))) (start .pre .0 .reads)) (start .args .names .now) (start .pre .1) (c .before .before .before .before .before .before .before .before .before .before .declare-node .ensures) (c .before .before .row2 .ensures) (c .row4 .ensures))
+    (omega (arith, start .pre .0 .low, start .pre .0 .few), (file-stands (bytes-of (start .args .file .now) (λ i. omega (arith, c .before .before .before .before .before .before .before .before .before .before .before .before .before .before .before .before .shared-slice-known .given i))) (start .pre .0 .reads)) .short, equations-ready (start .pre .0) (file-stands (bytes-of (start .args .file .now) (λ i. omega (arith, c .before .before .before .before .before .before .before .before .before .before .before .before .before .before .before .before .shared-slice-known .given i))) (start .pre .0 .reads)) (start .args .names .now) (start .pre .1) (c .before .before .before .before .before .before .before .before .before .before .declare-node .ensures) (c .before .before .row2 .ensures) (c .row4 .ensures), omega (arith, c .before .row3 .ensures, ready-row (start .pre .0) (file-stands (bytes-of (start .args .file .now) (λ i. omega (arith, c .before .before .before .before .before .before .before .before .before .before .before .before .before .before .before .before .shared-slice-known .given i))) (start .pre .0 .reads)) .variables, few-variables (ready-node (start .pre .0) (file-stands (bytes-of (start .args .file .now) (λ i. omega (arith, c .before .before .before .before .before .before .before .before .before .before .before .before .before .before .before .before .shared-slice-known .given i))) (start .pre .0 .reads)))))
 
 forget-node-requires : tie.Need-forget-node-requires
 forget-node-requires c κs = c .before .before .before .before .before .before .before .before .before .before .before .before .before .before .before .before .before .before .before .before .before .before .before .pre .0
