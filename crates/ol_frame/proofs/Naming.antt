@@ -1,26 +1,28 @@
 -- Names by their slots: a variable's cell, a constant's value, a variant.
-use Prim.Native.Nat.{ℕ, zero, suc, _+_, _-_, _*_, _<_, _≤_}
-use mathlib.Core.Bool.{Bool, true, false}
-use mathlib.Core.List.{List, [], _∷_}
+use Prim.Native.Nat.{ℕ, zero, suc, _+_, _-_, _*_, _/_, _<_, _≤_}
+use mathlib.Core.Bool.{Bool, true, false, cond}
+use mathlib.Core.List.{List, [], _∷_, _++_}
 use mathlib.Core.Option.{Option, none, some}
-use mathlib.Core.Path.{_≡_, refl, sym, ap, _∙_}
+use mathlib.Core.Path.{_≡_, refl, sym, ap, subst, _∙_}
 use native.Mathlib.Omega.{arith}
+use native.Mathlib.Nat.{div-mul-le-self}
 use lib.ListN.{length, getD, getElem?, take, drop, length-take}
 use lib.Seq.{drop-cons, drop-drop}
-use lib.Dec.{eqb}
-use Rattle.ol_spec.specs.Lists.{maybe, concat, member, positionIf, position, lookup}
-use Rattle.ol_spec.specs.Syntax.{Expr, variables, nameOf, Variable, nameIn}
+use lib.Dec.{T, eqb}
+use Rattle.ol_spec.specs.Lists.{maybe, orElse, concat, member, positionIf, position, lookup}
+use Rattle.ol_spec.specs.Syntax.{Expr, variables, variableNames, nameOf, Variable, boolLit, intLit, floatLit, charLit, var, unary, binary, ifThenElse, pre, arrow, cast, call, tuple, nameIn}
 use Rattle.ol_spec.specs.Numbers.{numberOf}
-use Rattle.ol_spec.specs.Cell.{valueOf, valuesOf}
+use Rattle.ol_spec.specs.Cell.{valueOf, valueBy, valuesOf}
 use Rattle.ol_spec.specs.Eval.{Globals, Scope, orFailure, presentOf, beforeOf, preOf}
 use Rattle.ol_spec.specs.declared.Value.{Value}
 use Rattle.ol_spec.specs.declared.Value.the-variants as Val
+use Rattle.ol_spec.specs.declared.Outcome.{Outcome}
 use Rattle.ol_spec.specs.declared.Outcome.the-variants as Out
 use Rattle.ol_spec.proofs.Tests.{T-true}
 use Rattle.ol_tables.specs.At.{fileAt, nodeIn, exprAt, Reads}
-use Rattle.ol_tables.specs.Tables.{slotAt, slotOf, slotBy}
+use Rattle.ol_tables.specs.Tables.{slotAt, slotOf, slotBy, constantSlot}
 use Rattle.ol_tables.proofs.Forms.{by-form, var-form}
-use Rattle.ol_frame.specs.Plans.{knownIn, constantsIn, globalsIn, widthIn, namesIn, scopeIn, nameAt, Nameable}
+use Rattle.ol_frame.specs.Plans.{knownIn, constantsIn, globalsIn, widthIn, namesIn, scopeIn, nameAt, Named, Nameable, Looked, Cells}
 
 no-some : {A : Type 0} {x : A} → none ≡ some x → ⊥
 no-some e = let z : _≡_ {A = ℕ} 0 1 = cc in omega arith
@@ -79,6 +81,9 @@ pub length-names : (vs : List Variable) → length (mathlib.Core.List.map nameOf
 length-names [] = refl
 length-names (v ∷ vs) = ap suc (length-names vs)
 
+known-fits : (consts : List ℕ) (i : ℕ) → i < knownIn consts → i * 9 + 9 ≤ length consts
+known-fits consts i h = omega (arith, div-mul-le-self (length consts) 9)
+
 module _ (file tab consts : List ℕ) (node at : ℕ) (p : Nameable file tab consts node at) (s : ℕ) (is : s ≡ slotAt tab at) where
   abbrev vars : List ℕ
   vars = namesIn file node
@@ -101,10 +106,10 @@ module _ (file tab consts : List ℕ) (node at : ℕ) (p : Nameable file tab con
   slot-is : slotOf vars cons x ≡ s
   slot-is = sym (p .named .slot) ∙ sym is
 
-  slot-inside : s < 112 → s < widthIn file node
+  pub slot-inside : s < 112 → s < widthIn file node
   slot-inside l = omega (arith, position-in x vars s (slot-variable vars cons x s slot-is l), length-names (variables (nodeIn file node)))
 
-  slot-known : ¬ (s < 112) → s < 255 → s - 112 < knownIn consts
+  pub slot-known : ¬ (s < 112) → s < 255 → s - 112 < knownIn consts
   slot-known n l = omega (arith, position-in x cons (s - 112) (slot-constant vars cons x s width slot-is (omega arith) l .1), shorter)
 
   -- a variable
@@ -141,6 +146,18 @@ module _ (file tab consts : List ℕ) (node at : ℕ) (p : Nameable file tab con
   was-variant first cells before n =
       let c = none-of n in
       rw (look-none x vars (valuesOf (widthIn file node) before) (c .0), look-none x cons (valuesOf (knownIn consts) consts) (c .1))
+
+  pub slot-cell : (cells : List ℕ) → Cells file node cells → s < 112 → s * 9 + 9 ≤ length cells
+  slot-cell cells c l = omega (arith, slot-inside l, c .long)
+
+  pub known-cell : ¬ (s < 112) → s < 255 → (s - 112) * 9 + 9 ≤ length consts
+  known-cell n l = known-fits consts (s - 112) (slot-known n l)
+
+-- the nine bytes at a place are a tag and a payload
+pub value-at : (s : List ℕ) (at : ℕ) → at < length s → valueOf (take 9 (drop at s)) ≡ valueBy (getD s at 0) (numberOf 0 (take 8 (drop (at + 1) s)))
+value-at s at h =
+    let e : suc at ≡ at + 1 = omega arith in
+    ap (λ (l : List ℕ). valueOf (take 9 l)) (drop-cons s at 0 h) ∙ ap (λ (k : ℕ). valueBy (getD s at 0) (numberOf 0 (take 8 (drop k s)))) e
 
 -- two bytes as a name
 pub name-bytes : (s : List ℕ) (at : ℕ) → at + 2 ≤ length s → getD s at 0 * 256 + getD s (at + 1) 0 ≡ nameAt s at

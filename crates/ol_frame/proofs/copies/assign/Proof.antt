@@ -51,7 +51,10 @@ mul-read-cell c =
 
 -- src/copies.rt:105:13
 read-cell-requires : tie.Need-read-cell-requires Inv-loop μ-loop
-read-cell-requires c κs = tt
+read-cell-requires c κs =
+    let start = c .before .before .before .before .before in
+    let lt = c .loop-test .taken in
+    omega (arith, lt, start .pre .given)
 
 -- src/copies.rt:106:9
 store-requires : tie.Need-store-requires Inv-loop μ-loop

@@ -25,7 +25,9 @@ mul-read-cell c =
 
 -- src/copies.rt:121:32
 read-cell-requires : tie.Need-read-cell-requires
-read-cell-requires c κs = tt
+read-cell-requires c κs =
+    let start = c .before .before .before .before in
+    start .pre .1
 
 -- src/copies.rt:126:27
 enum-told-2 : tie.Need-enum-told-2

@@ -36,7 +36,12 @@ mul-write-cell c = search needs
 
 -- src/copies.rt:78:9
 write-cell-requires : tie.Need-write-cell-requires
-write-cell-requires c κs = tt
+write-cell-requires c κs =
+    let start = c .before .before .before .before .before .before .before .before in
+    let s = c .before .before .before .before .before .slot-at .result in
+    let is = c .before .before .before .before .before .slot-at .ensures in
+    let room = slot-room (start .args .tab .now) (start .args .k) (start .args .at) (start .args .cells .now) s (start .pre) is (c .before .before .before .before .if1 .taken) in
+    room
 
 -- src/copies.rt:70:1
 same-length : tie.Need-same-length
@@ -49,7 +54,7 @@ returns c =
     let s = c .before .before .before .before .before .before .before .before .slot-at .result in
     let is = c .before .before .before .before .before .before .before .before .slot-at .ensures in
     let room = slot-room (start .args .tab .now) (start .args .k) (start .args .at) (start .args .cells .now) s (start .pre) is (c .before .before .before .before .before .before .before .if1 .taken) in
-    stored (start .args .tab .now) (start .args .k) (start .args .at) s (c .before .before .before .before .before .before .code-of .result) (start .args .v) (c .before .before .before .before .kept .result) (start .args .cells .now) _ is (c .before .before .before .before .before .before .code-of .ensures) (c .before .before .before .before .before .before .before .if1 .taken) room (λ e. c .before .before .before .before .kept .ensures .0 ∙ c .before .before .before .before .before .fit-to .ensures e) (kept-back (c .before .before .before .before .kept .result) (c .before .before .before .before .before .fit-to .result) (c .before .before .before .before .kept .ensures .0) (c .before .before .before .before .kept .ensures .1)) (c .before .before .write-cell .ensures .0 room)
+    stored (start .args .tab .now) (start .args .k) (start .args .at) s (c .before .before .before .before .before .before .code-of .result) (start .args .v) (c .before .before .before .before .kept .result) (start .args .cells .now) _ is (c .before .before .before .before .before .before .code-of .ensures) (c .before .before .before .before .before .before .before .if1 .taken) room (λ e. c .before .before .before .before .kept .ensures .0 ∙ c .before .before .before .before .before .fit-to .ensures e) (kept-back (c .before .before .before .before .kept .result) (c .before .before .before .before .before .fit-to .result) (c .before .before .before .before .kept .ensures .0) (c .before .before .before .before .kept .ensures .1)) (c .before .before .write-cell .ensures)
 
 -- src/copies.rt:70:1
 returns-2 : tie.Need-returns-2

@@ -34,7 +34,10 @@ mul-p c =
 
 -- src/copies.rt:30:22
 read-cell-requires : tie.Need-read-cell-requires Inv-loop μ-loop
-read-cell-requires c κs = tt
+read-cell-requires c κs =
+    let start = c .before .before .before .before in
+    let lt = c .loop-test .taken in
+    omega (arith, lt, start .pre .1)
 
 -- src/copies.rt:30:13
 kept-requires : tie.Need-kept-requires Inv-loop μ-loop
@@ -42,7 +45,11 @@ kept-requires c κs = tt
 
 -- src/copies.rt:31:9
 write-cell-requires : tie.Need-write-cell-requires Inv-loop μ-loop
-write-cell-requires c κs = tt
+write-cell-requires c κs =
+    let start = c .before .before .before .before .before .before .before in
+    let lt = c .before .before .before .loop-test .taken in
+    let len = copied-length (c .before .before .before .before .loop .i) (start .args .from .now) (start .args .to .now) (c .before .before .before .before .loop .to) (omega (arith, start .pre .2, c .before .before .before .before .loop .inv .0)) (c .before .before .before .before .loop .inv .1) in
+    omega (arith, lt, start .pre .2, len)
 
 -- src/copies.rt:32:9
 add-i : tie.Need-add-i Inv-loop μ-loop
@@ -65,8 +72,7 @@ loop-again c =
     let lt = c .before .before .before .before .before .before .loop-test .taken in
     let from = start .args .from .now in
     let to = start .args .to .now in
-    let len = copied-length (c .before .before .before .before .before .before .before .loop .i) (start .args .from .now) (start .args .to .now) (c .before .before .before .before .before .before .before .loop .to) (omega (arith, start .pre .2, c .before .before .before .before .before .before .before .loop .inv .0)) (c .before .before .before .before .before .before .before .loop .inv .1) in
-    (omega (arith, lt), copied-turn (c .before .before .before .before .before .before .before .loop .i) from to (c .before .before .before .before .before .before .before .loop .to) _ (c .before .before .before .before .kept .result) (c .before .before .before .before .before .before .before .loop .inv .1) (c .before .before .before .before .kept .ensures .0 ∙ c .before .before .before .before .before .read-cell .ensures) (c .before .before .write-cell .ensures .0 (omega (arith, lt, start .pre .2, len))))
+    (omega (arith, lt), copied-turn (c .before .before .before .before .before .before .before .loop .i) from to (c .before .before .before .before .before .before .before .loop .to) _ (c .before .before .before .before .kept .result) (c .before .before .before .before .before .before .before .loop .inv .1) (c .before .before .before .before .kept .ensures .0 ∙ c .before .before .before .before .before .read-cell .ensures) (c .before .before .write-cell .ensures))
 
 -- src/copies.rt:23:1
 same-length : tie.Need-same-length Inv-loop μ-loop

@@ -12,7 +12,7 @@ use Rattle.ol_spec.specs.declared.Value.the-variants as Val
 use Rattle.ol_spec.specs.declared.Outcome.the-variants as Out
 use Rattle.ol_tables.proofs.Forms.{reads-in, reads-deep, bool-form, int-form, float-form, char-form, var-form, pre-form, tuple-form, some-code, last-code}
 use Rattle.ol_frame.specs.Plans.{evalIn}
-use Rattle.ol_value.proofs.Digits.{cell-value}
+use Rattle.ol_frame.proofs.Naming.{value-at}
 use Rattle.ol_frame.proofs.Planning.{plan-head, plan-name, plan-looked}
 -- </uses>
 use borrow.Author.Needs.{needs}
@@ -60,11 +60,25 @@ shared-slice-read-t17 c =
 
 -- src/names.rt:110:29
 read-cell-requires : tie.Need-read-cell-requires
-read-cell-requires c κs = tt
+read-cell-requires c κs =
+    let start = c .before .before .before .before .before .before .before .before in
+    let f = start .args .file .now in
+    let L = start .args .level in
+    let a = start .args .at in
+    let p = start .pre .0 in
+    let h = plan-head f p in
+    int-form f L a h (c .match .keys2) .inside
 
 -- src/names.rt:111:29
 read-cell-requires-2 : tie.Need-read-cell-requires-2
-read-cell-requires-2 c κs = tt
+read-cell-requires-2 c κs =
+    let start = c .before .before .before .before .before .before .before .before in
+    let f = start .args .file .now in
+    let L = start .args .level in
+    let a = start .args .at in
+    let p = start .pre .0 in
+    let h = plan-head f p in
+    float-form f L a h (c .match .keys3) .inside
 
 -- src/names.rt:112:48
 shared-slice-read-char-of : tie.Need-shared-slice-read-char-of
@@ -140,7 +154,7 @@ returns-2 c =
     let a = start .args .at in
     let p = start .pre .0 in
     let h = plan-head f p in
-    λ seg. ap Out.Value (c .read-cell .ensures ∙ sym (cell-value f a (reads-in f L a h)) ∙ ap (λ (t : ℕ). valueBy t (numberOf 0 (take 8 (drop (a + 1) f)))) (c .before .match .keys2)) ∙ ap (λ (e : Expr). evalIn f k n F cl b e seg .out) (sym (int-form f L a h (c .before .match .keys2) .tree))
+    λ seg. ap Out.Value (c .read-cell .ensures ∙ value-at f a (reads-in f L a h) ∙ ap (λ (t : ℕ). valueBy t (numberOf 0 (take 8 (drop (a + 1) f)))) (c .before .match .keys2)) ∙ ap (λ (e : Expr). evalIn f k n F cl b e seg .out) (sym (int-form f L a h (c .before .match .keys2) .tree))
 
 -- src/names.rt:91:1
 returns-3 : tie.Need-returns-3
@@ -157,7 +171,7 @@ returns-3 c =
     let a = start .args .at in
     let p = start .pre .0 in
     let h = plan-head f p in
-    λ seg. ap Out.Value (c .read-cell2 .ensures ∙ sym (cell-value f a (reads-in f L a h)) ∙ ap (λ (t : ℕ). valueBy t (numberOf 0 (take 8 (drop (a + 1) f)))) (c .before .match .keys3)) ∙ ap (λ (e : Expr). evalIn f k n F cl b e seg .out) (sym (float-form f L a h (c .before .match .keys3) .tree))
+    λ seg. ap Out.Value (c .read-cell2 .ensures ∙ value-at f a (reads-in f L a h) ∙ ap (λ (t : ℕ). valueBy t (numberOf 0 (take 8 (drop (a + 1) f)))) (c .before .match .keys3)) ∙ ap (λ (e : Expr). evalIn f k n F cl b e seg .out) (sym (float-form f L a h (c .before .match .keys3) .tree))
 
 -- src/names.rt:91:1
 returns-4 : tie.Need-returns-4

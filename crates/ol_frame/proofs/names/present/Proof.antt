@@ -5,7 +5,7 @@ use Prim.Native.Nat.{ℕ, _+_, _*_}
 use native.Mathlib.Omega.{arith}
 use Rattle.ol_spec.specs.Eval.{orFailure}
 use Rattle.ol_spec.specs.declared.Outcome.the-variants as Out
-use Rattle.ol_frame.proofs.Naming.{is-variable, is-constant, is-variant}
+use Rattle.ol_frame.proofs.Naming.{slot-cell, known-cell, is-variable, is-constant, is-variant}
 -- </uses>
 use borrow.Author.Needs.{needs}
 use Rattle.ol_frame.proofs.names.present.Statement.{statement}
@@ -26,7 +26,18 @@ mul-read-cell c = search needs
 
 -- src/names.rt:40:24
 read-cell-requires : tie.Need-read-cell-requires
-read-cell-requires c κs = tt
+read-cell-requires c κs =
+    let start = c .before .before .before .before .before .before in
+    let f = start .args .file .now in
+    let t = start .args .tab .now in
+    let k = start .args .consts .now in
+    let cl = start .args .cells .now in
+    let n = start .args .node in
+    let a = start .args .at in
+    let p = start .pre .0 in
+    let s = c .before .slot-at .result in
+    let e = c .before .slot-at .ensures in
+    slot-cell f t k n a p s e cl (start .pre .1) (c .if1 .taken)
 
 -- src/names.rt:42:42
 mul-read-cell-2 : tie.Need-mul-read-cell-2
@@ -34,7 +45,17 @@ mul-read-cell-2 c = search needs
 
 -- src/names.rt:42:24
 read-cell-requires-2 : tie.Need-read-cell-requires-2
-read-cell-requires-2 c κs = tt
+read-cell-requires-2 c κs =
+    let start = c .before .before .before .before .before .before .before in
+    let f = start .args .file .now in
+    let t = start .args .tab .now in
+    let k = start .args .consts .now in
+    let n = start .args .node in
+    let a = start .args .at in
+    let p = start .pre .0 in
+    let s = c .before .before .slot-at .result in
+    let e = c .before .before .slot-at .ensures in
+    known-cell f t k n a p s e (λ l. omega (arith, c .before .if1 .left)) (c .if2 .taken)
 
 -- src/names.rt:44:24
 variant-requires : tie.Need-variant-requires

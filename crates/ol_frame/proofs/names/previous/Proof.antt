@@ -11,7 +11,7 @@ use Rattle.ol_spec.specs.declared.Outcome.the-variants as Out
 use Rattle.ol_tables.specs.At.{exprAt}
 use Rattle.ol_tables.proofs.Forms.{reads-in, var-form}
 use Rattle.ol_frame.specs.Plans.{globalsIn, scopeIn}
-use Rattle.ol_frame.proofs.Naming.{was-variable, was-constant, was-variant, is-name, no-name, pre-is, pre-none}
+use Rattle.ol_frame.proofs.Naming.{slot-cell, known-cell, was-variable, was-constant, was-variant, is-name, no-name, pre-is, pre-none}
 -- </uses>
 use borrow.Author.Needs.{needs}
 use Rattle.ol_frame.proofs.names.previous.Statement.{statement}
@@ -56,7 +56,18 @@ mul-read-cell c = search needs
 
 -- src/names.rt:68:28
 read-cell-requires : tie.Need-read-cell-requires
-read-cell-requires c κs = tt
+read-cell-requires c κs =
+    let start = c .before .before .before .before .before .before .before .before .before in
+    let f = start .args .file .now in
+    let t = start .args .tab .now in
+    let k = start .args .consts .now in
+    let b = start .args .before .now in
+    let n = start .args .node in
+    let a = start .args .at in
+    let p = start .pre .0 in
+    let s = c .before .slot-at .result in
+    let e = c .before .slot-at .ensures in
+    slot-cell f t k n (a + 1) ((p .named (c .before .before .if2 .taken))) s e b (start .pre .1) (c .if3 .taken)
 
 -- src/names.rt:70:46
 mul-read-cell-2 : tie.Need-mul-read-cell-2
@@ -64,7 +75,17 @@ mul-read-cell-2 c = search needs
 
 -- src/names.rt:70:28
 read-cell-requires-2 : tie.Need-read-cell-requires-2
-read-cell-requires-2 c κs = tt
+read-cell-requires-2 c κs =
+    let start = c .before .before .before .before .before .before .before .before .before .before in
+    let f = start .args .file .now in
+    let t = start .args .tab .now in
+    let k = start .args .consts .now in
+    let n = start .args .node in
+    let a = start .args .at in
+    let p = start .pre .0 in
+    let s = c .before .before .slot-at .result in
+    let e = c .before .before .slot-at .ensures in
+    known-cell f t k n (a + 1) ((p .named (c .before .before .before .if2 .taken))) s e (λ l. omega (arith, c .before .if3 .left)) (c .if4 .taken)
 
 -- src/names.rt:49:1
 returns-2 : tie.Need-returns-2

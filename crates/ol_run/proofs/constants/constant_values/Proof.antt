@@ -70,7 +70,10 @@ kept-requires c κs = tt
 
 -- src/constants.rt:105:17
 write-cell-requires : tie.Need-write-cell-requires Inv-loop μ-loop
-write-cell-requires c κs = tt
+write-cell-requires c κs =
+    let g = c .before .before .before .before .before .before .before .before .loop .inv .1 in
+    let lt = c .before .before .before .before .before .before .before .loop-test .taken in
+    omega (arith, lt, g .long)
 
 -- src/constants.rt:108:17
 enum-told : tie.Need-enum-told Inv-loop μ-loop
@@ -146,7 +149,7 @@ loop-again c =
     let p = start .pre in
     let g = c .before .before .before .before .before .before .before .before .before .before .before .before .loop .inv .1 in
     let lt = c .before .before .before .before .before .before .before .before .before .before .before .loop-test .taken in
-    (omega (arith, lt), going-turn p g lt (c .before .before .before .before .before .before .before .before .before .constant-value .ensures) (c .before .before .before .before .before .before .before .o .given .1) (c .before .before .before .before .before .kept .ensures .0) (c .before .before .before .before .before .kept .ensures .1) (c .before .before .before .write-cell .ensures .0 (omega (arith, lt, g .long))) (c .constant-end .ensures))
+    (omega (arith, lt), going-turn p g lt (c .before .before .before .before .before .before .before .before .before .constant-value .ensures) (c .before .before .before .before .before .before .before .o .given .1) (c .before .before .before .before .before .kept .ensures .0) (c .before .before .before .before .before .kept .ensures .1) (c .before .before .before .write-cell .ensures) (c .constant-end .ensures))
 
 -- src/constants.rt:85:1
 same-length-3 : tie.Need-same-length-3 Inv-loop μ-loop

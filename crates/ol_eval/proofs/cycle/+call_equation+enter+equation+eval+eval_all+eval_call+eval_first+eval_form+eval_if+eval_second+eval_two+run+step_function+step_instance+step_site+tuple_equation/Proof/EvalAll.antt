@@ -131,7 +131,12 @@ mul-write-cell t c =
     omega (arith, lt, q .few)
 
 pub write-cell-requires : (t : ℕ) → eval-all-lts.Need-write-cell-requires (Q t) (eval-all-at t) eval-all.Post Inv-loop μ-loop
-write-cell-requires t c κs = tt
+write-cell-requires t c κs =
+    let start = c .before .before .before .before .before .before .before .before .before .before .before .before .before .before .before .before .before .before .before .before .before .before in
+    let q = start .pre .1 .1 in
+    let inv = c .before .before .before .before .before .before .before .before .before .before .before .before .loop .inv in
+    let lt = c .before .before .before .before .before .before .before .before .before .before .before .loop-test .taken in
+    omega (arith, lt, inv .1, q .room)
 
 pub enum-told : (t : ℕ) → eval-all-lts.Need-enum-told (Q t) (eval-all-at t) eval-all.Post Inv-loop μ-loop
 enum-told t c = search needs
@@ -340,7 +345,7 @@ loop-again t c =
     let x = c .before .before .before .before .before .before .before .before .before .before .before .eval .last .1 .1 .1 .1 .1 .1 .1 .1 .1 .1 .1 .0 in
     let len = going-length g x K same in
     let h = moved f (start .args .consts .now) (start .args .level) (start .args .node) (start .args .first) (start .args .cells .now) (start .args .before .now) (refl {a = c .before .before .before .before .before .before .before .before .before .before .before .before .before .before .before .loop .pos}) (tail-all u o) (c .before .before .before .before .before .before .before .before .before .before .before .eval .ensures) in
-    (omega (arith, lt), c .before .before .write-cell .kept .1 .0 ∙ inv .1, length-put u w x (omega (arith, inv .3 .within, same)) K ∙ inv .2, going-turn g h len (q .callee) (c .before .before .before .before .before .before .o .given .1) (c .before .before .before .before .passed .ensures .0) (c .before .before .before .before .passed .ensures .1) (c .before .before .write-cell .ensures .0 (omega (arith, lt, inv .1, q .room))) (c .before .before .write-cell .kept .1 .0))
+    (omega (arith, lt), c .before .before .write-cell .kept .1 .0 ∙ inv .1, length-put u w x (omega (arith, inv .3 .within, same)) K ∙ inv .2, going-turn g h len (q .callee) (c .before .before .before .before .before .before .o .given .1) (c .before .before .before .before .passed .ensures .0) (c .before .before .before .before .passed .ensures .1) (c .before .before .write-cell .ensures) (c .before .before .write-cell .kept .1 .0))
 
 pub same-length-5 : (t : ℕ) → eval-all-lts.Need-same-length-5 (Q t) (eval-all-at t) eval-all.Post Inv-loop μ-loop
 same-length-5 t c = c .before .loop .inv .1
