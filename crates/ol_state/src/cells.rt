@@ -1,7 +1,7 @@
 // Cells judged, and bytes compared.
 ghost use mathlib.Core.Path.{_≡_};
 ghost use mathlib.Core.List.{List};
-ghost use Prim.Native.Nat.{ℕ, _*_, _≤_};
+ghost use Prim.Native.Nat.{ℕ, _+_, _*_, _≤_};
 ghost use lib.ListN.{length, take, drop};
 ghost use Rattle.ol_spec.specs.Lists.{same};
 ghost use Rattle.ol_spec.specs.Cell.{isVariant, goodCell, goodCells};
@@ -26,6 +26,7 @@ fn is_variant(variants: &[u8], v: Value) -> bool
 
 // Whether the cell at an offset is good.
 pub(crate) fn judge_cell(variants: &[u8], cells: &[u8], at: usize) -> bool
+    requires { ⌜ at + 9 ≤ length (now cells) ⌝ }
     ensures { λ r. ⌜ ((names : List ℕ) → Tells (now (variants .entry)) names → r ≡ goodCell names (take 9 (drop at (now (cells .entry))))) ⌝ }
 {
     if good_cell(cells, at) {

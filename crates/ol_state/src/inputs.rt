@@ -1,9 +1,9 @@
 // Inputs judged: each cell is good, and of its type's kind, range and enum.
 ghost use mathlib.Core.Path.{_≡_};
 ghost use mathlib.Core.List.{List};
-ghost use Prim.Native.Nat.{ℕ, _≤_};
+ghost use Prim.Native.Nat.{ℕ, _+_, _≤_};
 ghost use lib.Dec.{T};
-ghost use lib.ListN.{take, drop};
+ghost use lib.ListN.{length, take, drop};
 ghost use Rattle.ol_spec.specs.Lists.{member, allOf};
 ghost use Rattle.ol_spec.specs.Within.{nameFits};
 ghost use Rattle.ol_spec.specs.Encode.{encode, nameBytes, sectionBytes};
@@ -57,7 +57,7 @@ pub(crate) fn judge_input(
     cells: &[u8],
     at: usize,
 ) -> bool
-    requires { ⌜ Typed (fileAt (now file)) (now file) (now variants) code e ⌝ }
+    requires { ⌜ Typed (fileAt (now file)) (now file) (now variants) code e × (at + 9 ≤ length (now cells)) ⌝ }
     ensures { λ r. ⌜ r ≡ goodInput (fileAt (now (file .entry))) code e (take 9 (drop at (now (cells .entry)))) ⌝ }
 {
     if judge_cell(variants, cells, at) {

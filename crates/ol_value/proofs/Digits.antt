@@ -1,6 +1,6 @@
 -- Numbers and their big-endian bytes: the halves of `read_number`, the turns of `write_number`, and a cell's parts.
 use mathlib.Core.Path.{_≡_, refl, sym, ap, ap₂, subst, _∙_}
-use mathlib.Core.Bool.{Bool, false, _&&_}
+use mathlib.Core.Bool.{Bool, true, false, _&&_}
 use mathlib.Core.List.{List, [], _∷_, _++_}
 use Prim.Native.Nat.{ℕ, zero, suc, _+_, _-_, _*_, _/_, _%_, _^_, _≤_, _<_}
 use native.Mathlib.Nat.{pow-suc, div-div-eq-div-mul, div-one}
@@ -8,15 +8,15 @@ use native.Mathlib.Numerals.{add-one}
 use native.Mathlib.Omega.{arith}
 use native.Mathlib.Decide.{decLt}
 use lib.Dec.{T, eqb, eqb-refl, eqb→eq}
-use lib.ListN.{length, take, drop, getD, set, length-take, length-drop, take-append-drop, drop-of-length-le, List·getD-eq-default}
-use lib.Seq.{take-all, take-suc, drop-cons, append-snoc, getD-take, getD-drop, length-take-le, set-at, take-suc-set, drop-set-lt}
+use lib.ListN.{length, take, drop, getD, set, length-take, length-drop, take-append-drop, List·getD-eq-default}
+use lib.Seq.{take-suc, drop-cons, append-snoc, getD-take, getD-drop, length-take-le, set-at, take-suc-set, drop-set-lt}
 use Rattle.ol_spec.specs.Lists.{same}
 use Rattle.ol_spec.specs.Numbers.{bytesOf, numberOf}
 use Rattle.ol_spec.specs.Cell.{tag, payload, cell, valueBy, valueOf}
 use Rattle.ol_spec.proofs.Cells.{bytes-back, same-refl, same-eq}
 use Rattle.ol_spec.specs.declared.Value.{Value}
 use Rattle.ol_spec.specs.declared.Value.the-variants as Val
-use Rattle.ol_spec.proofs.Tests.{bool-same, T-false}
+use Rattle.ol_spec.proofs.Tests.{bool-same}
 
 -- ---- reading
 
@@ -58,27 +58,6 @@ halves-are s at {a} {b} room e₁ e₂ =
     let h = half (getD s at 0) (getD s (at + 1) 0) (getD s (at + 2) 0) (getD s (at + 3) 0) in
     omega (arith, e₁, e₂, half-read s at r 0 0, half-read s (at + 4) q 0 0, half-read s at r 0 4 ∙ half-read s (at + 4) q (0 * 4294967296 + h) 0)
 
--- fewer than eight bytes, one by one
-climb : (k d : ℕ) → 256 ^ k ≤ 256 ^ (k + d)
-climb k zero = let e : k + 0 ≡ k = omega arith in rw e (omega arith)
-climb k (suc d) = let e : k + suc d ≡ suc (k + d) = omega arith in rw (e, pow-suc 256 (k + d)) (omega (arith, climb k d))
-
-pub rest-fits : (n k : ℕ) → k ≤ 7 → n < 256 ^ k → n < 256 ^ 7
-rest-fits n k h l = let e : k + (7 - k) ≡ 7 = omega arith in omega (arith, subst (λ m. 256 ^ k ≤ 256 ^ m) e (climb k (7 - k)))
-
-pub rest-start : (at : ℕ) → 0 < 256 ^ (at - at)
-rest-start at = let e : at - at ≡ 0 = omega arith in rw e (omega arith)
-
-module _ (s : List ℕ) (at i n b : ℕ) (is : b ≡ getD s i 0) where
-  pub rest-small : at ≤ i → b < 256 → n < 256 ^ (i - at) → n * 256 + b < 256 ^ (i + 1 - at)
-  rest-small h l m = let e : i + 1 - at ≡ suc (i - at) = omega arith in rw (e, pow-suc 256 (i - at)) (omega arith)
-
-  pub rest-turn : i < length s → numberOf n (drop i s) ≡ numberOf 0 (drop at s) → numberOf (n * 256 + b) (drop (i + 1) s) ≡ numberOf 0 (drop at s)
-  rest-turn l h = rw (is, add-one i) (sym (ap (numberOf n) (drop-cons s i 0 l)) ∙ h)
-
-pub rest-end : (s : List ℕ) (i n : ℕ) → length s ≤ i → n ≡ numberOf n (drop i s)
-rest-end s i n h = sym (ap (numberOf n) (drop-of-length-le s h))
-
 -- ---- writing
 
 pub write-start : (at : ℕ) (s : List ℕ) → s ≡ take (at + 8 - 0) s ++ ([] ++ drop (at + 8) s)
@@ -115,21 +94,11 @@ enum-tag (suc (suc zero)) p a b c d = absurd (c refl)
 enum-tag (suc (suc (suc zero))) p a b c d = absurd (d refl)
 enum-tag (suc (suc (suc (suc t)))) p a b c d = refl
 
-pub cell-parts : (s : List ℕ) (at : ℕ) → at < length s → take 9 (drop at s) ≡ getD s at 0 ∷ take 8 (drop (at + 1) s)
-cell-parts s at h = rw (add-one at, drop-cons s at 0 h)
+pub cell-parts : (s : List ℕ) (at : ℕ) → at + 9 ≤ length s → take 9 (drop at s) ≡ getD s at 0 ∷ take 8 (drop (at + 1) s)
+cell-parts s at h = rw (add-one at, drop-cons s at 0 (omega arith))
 
-pub cell-value : (s : List ℕ) (at : ℕ) → at < length s → valueBy (getD s at 0) (numberOf 0 (take 8 (drop (at + 1) s))) ≡ valueOf (take 9 (drop at s))
+pub cell-value : (s : List ℕ) (at : ℕ) → at + 9 ≤ length s → valueBy (getD s at 0) (numberOf 0 (take 8 (drop (at + 1) s))) ≡ valueOf (take 9 (drop at s))
 cell-value s at h = ap valueOf (sym (cell-parts s at h))
-
--- a cell that is cut off
-pub short-value : (s : List ℕ) (at : ℕ) → at < length s → length s < at + 9 → valueBy (getD s at 0) (numberOf 0 (drop (at + 1) s)) ≡ valueOf (take 9 (drop at s))
-short-value s at h l =
-    ap (λ bs. valueBy (getD s at 0) (numberOf 0 bs)) (sym (take-all 8 (drop (at + 1) s) (rw (length-drop (at + 1) s) (omega arith))))
-    ∙ cell-value s at h
-
--- and one past the end
-pub no-value : (s : List ℕ) (at : ℕ) → length s ≤ at → Val.Bool false ≡ valueOf (take 9 (drop at s))
-no-value s at h = rw (drop-of-length-le s h)
 
 -- ---- bytes are had back from their number
 
@@ -171,11 +140,7 @@ module _ (s : List ℕ) (at : ℕ) (room : at + 9 ≤ length s) (h : Bytes s) wh
   good-is v small =
       let long : length (take 8 (drop (at + 1) s)) ≡ 8 = length-take-le 8 (drop (at + 1) s) (rw (length-drop (at + 1) s) (omega arith)) in
       ap (λ b. eqb (tag v) (getD s at 0) && b) (same-number (payload v) (take 8 (drop (at + 1) s)) small long (part-bytes 8 (at + 1) s h))
-      ∙ ap (same (cell v)) (sym (cell-parts s at (omega arith)))
-
--- fewer bytes are no value's
-pub short-not : (s : List ℕ) (at : ℕ) → length s < at + 9 → (v : Value) → same (cell v) (take 9 (drop at s)) ≡ false
-short-not s at l v = T-false (same (cell v) (take 9 (drop at s))) (λ t. omega (arith, ap length (same-eq (cell v) (take 9 (drop at s)) t), length-take 9 (drop at s), length-drop at s))
+      ∙ ap (same (cell v)) (sym (cell-parts s at room))
 
 -- the tag, then the payload
 pub cell-written : (t : ℕ) (bs : List ℕ) (s : List ℕ) (at : ℕ) → at + 9 ≤ length s → take (at + 1) (set s at t) ++ (bs ++ drop (at + 1 + 8) (set s at t)) ≡ take at s ++ ((t ∷ bs) ++ drop (at + 9) s)

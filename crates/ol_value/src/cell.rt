@@ -1,6 +1,5 @@
 // Cells: a value as nine bytes, its tag and then a 64-bit payload, big-endian.
 ghost use mathlib.Core.Path.{_≡_};
-ghost use mathlib.Core.Bool.{true, false};
 ghost use mathlib.Core.List.{_++_};
 ghost use Prim.Native.Nat.{_+_, _%_, _≤_, _<_};
 ghost use lib.Dec.{eqb};
@@ -125,87 +124,35 @@ fn value_by(t: u8, p: u64) -> Value
     }
 }
 
-// Whether nine bytes stand at an offset of so many.
-fn has_cell(n: usize, at: usize) -> bool
-    ensures { λ r. ⌜ (r ≡ true → at + 9 ≤ n) × (r ≡ false → n < at + 9) ⌝ }
-{
-    if n < 9 { false } else { at <= n - 9 }
-}
-
-// The number of the bytes from an offset on, at most seven.
-fn read_rest(bytes: &[u8], at: usize) -> u64
-    requires { ⌜ length (now bytes) ≤ at + 7 ⌝ }
-    ensures { λ r. ⌜ r ≡ numberOf 0 (drop at (now (bytes .entry))) ⌝ }
-{
-    let mut n: u64 = 0;
-    let mut i = at;
-    while i < bytes.len() {
-        n = n * 256 + wide(bytes[i]);
-        i += 1;
-    }
-    n
-}
-
-// A cell's tag and payload.
-struct Parts {
-    tag: u8,
-    payload: u64,
-}
-
-// The tag and the payload of the nine bytes at an offset, or of those that stand there; 0 where none does.
-fn parts_at(bytes: &[u8], at: usize) -> Parts
-    ensures { λ r. ⌜ valueBy (r .tag) (r .payload) ≡ valueOf (take 9 (drop at (now (bytes .entry)))) ⌝ }
-{
-    if has_cell(bytes.len(), at) {
-        let payload = read_number(bytes, at + 1);
-        return Parts {
-            tag: bytes[at],
-            payload,
-        };
-    }
-    if at < bytes.len() {
-        let payload = read_rest(bytes, at + 1);
-        return Parts {
-            tag: bytes[at],
-            payload,
-        };
-    }
-    Parts { tag: 0, payload: 0 }
-}
-
-// The value of the nine bytes at an offset, or of those that stand there; false where none does.
+// The value of the nine bytes at an offset.
 pub fn read_cell(bytes: &[u8], at: usize) -> Value
+    requires { ⌜ at + 9 ≤ length (now bytes) ⌝ }
     ensures { λ r. ⌜ r ≡ valueOf (take 9 (drop at (now (bytes .entry)))) ⌝ }
 {
-    let p = parts_at(bytes, at);
-    value_by(p.tag, p.payload)
+    let p = read_number(bytes, at + 1);
+    value_by(bytes[at], p)
 }
 
-// Whether nine bytes stand at an offset and are their value's. An Enum's name is the caller's to look up.
+// Whether the nine bytes at an offset are their value's. An Enum's name is the caller's to look up.
 pub fn good_cell(bytes: &[u8], at: usize) -> bool
+    requires { ⌜ at + 9 ≤ length (now bytes) ⌝ }
     ensures { λ r. ⌜ r ≡ same (cell (valueOf (take 9 (drop at (now (bytes .entry)))))) (take 9 (drop at (now (bytes .entry)))) ⌝ }
 {
-    if has_cell(bytes.len(), at) {
-        let t = bytes[at];
-        let p = read_number(bytes, at + 1);
-        let v = value_by(t, p);
-        let like = tag_of(v) == t;
-        let equal = payload_of(v) == p;
-        like & equal
-    } else {
-        false
-    }
+    let t = bytes[at];
+    let p = read_number(bytes, at + 1);
+    let v = value_by(t, p);
+    let like = tag_of(v) == t;
+    let equal = payload_of(v) == p;
+    like & equal
 }
 
-// Writes a value's cell at an offset, and no other byte; where nine bytes do not stand there, none.
+// Writes a value's cell at an offset, and no other byte.
 pub fn write_cell(v: Value, out: &mut [u8], at: usize)
-    ensures written { λ _. ⌜ (at + 9 ≤ length (now (out .entry)) → now (out .exit) ≡ take at (now (out .entry)) ++ (cell v ++ drop (at + 9) (now (out .entry)))) ⌝ }
-    ensures short { λ _. ⌜ (length (now (out .entry)) < at + 9 → now (out .exit) ≡ now (out .entry)) ⌝ }
+    requires { ⌜ at + 9 ≤ length (now out) ⌝ }
+    ensures { λ _. ⌜ now (out .exit) ≡ take at (now (out .entry)) ++ (cell v ++ drop (at + 9) (now (out .entry))) ⌝ }
 {
-    if has_cell(out.len(), at) {
-        out[at] = tag_of(v);
-        write_number(payload_of(v), out, at + 1);
-    }
+    out[at] = tag_of(v);
+    write_number(payload_of(v), out, at + 1);
 }
 
 // Whether a value is an Enum.

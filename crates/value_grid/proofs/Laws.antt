@@ -79,6 +79,16 @@ cell-asked nine a b v head r e f g q = record { answer = record { head = head; n
 
 -- ---- questions
 
+-- a cell that the grid has, and one that it has not
+module _ (grid : List ℕ) (k c : ℕ) (e : c ≡ k % 256) where
+  pub grid-in : (r : Value) → c * 9 + 9 ≤ length grid → r ≡ valueOf (take 9 (drop (c * 9) grid)) → r ≡ gridValue grid k
+  unfolding gridValue
+  grid-in r h q = rw (← e, le-ltb (length grid) (c * 9 + 9) h) q
+
+  pub grid-out : length grid < c * 9 + 9 → Val.Bool false ≡ gridValue grid k
+  unfolding gridValue
+  grid-out h = rw (← e, lt-ltb (length grid) (c * 9 + 9) h)
+
 -- the outcome of a question, by its section
 module _ (section t : ℕ) (grid : List ℕ) (v : Value) (c : ℕ) (ev : v ≡ gridValue grid (t % 42)) (ec : c ≡ t / 42 % 256) where
   pub found-binary : section ≡ 0 → (op : ℕ) (l : Value) (r : Outcome) → op ≡ t / 42 / 42 % 256 → l ≡ gridValue grid (t / 42 % 42) → r ≡ binaryBy op l v → r ≡ foundAt section t grid

@@ -1,6 +1,6 @@
 -- The questions of the list, and whether each is answered as it says. The grid has 42 cells; an enum has the names 100 and 200.
 use Prim.Native.Nat.{ℕ, _+_, _*_, _/_, _%_}
-use mathlib.Core.Bool.{Bool, cond, not, _&&_, _||_}
+use mathlib.Core.Bool.{Bool, true, false, cond, not, _&&_, _||_}
 use mathlib.Core.List.{List, [], _∷_}
 use mathlib.Core.Path.{_≡_}
 use lib.Dec.{ltb, eqb}
@@ -61,9 +61,12 @@ cellIs a = saysOf (same (cell (valueOf (take 9 (a .nine)))) (take 9 (a .nine)) &
 
 -- ---- a question
 
--- the value of the k-th cell of the grid; false past the end
+-- the k-th cell of the grid; false where there is none
+abbrev pub gridCell : List ℕ → ℕ → Value
+gridCell grid a = cond (ltb (length grid) (a + 9)) (Val.Bool false) (valueOf (take 9 (drop a grid)))
+
 unfoldable pub gridValue : List ℕ → ℕ → Value
-gridValue grid k = valueOf (take 9 (drop (k % 256 * 9) grid))
+gridValue grid k = gridCell grid (k % 256 * 9)
 
 -- the outcome of the t-th question: the sections are binary operators, unary operators, casts and stores
 unfoldable pub foundAt : ℕ → ℕ → List ℕ → Outcome

@@ -185,7 +185,12 @@ fn code(x: u64) -> u8
 fn at(grid: &[u8], k: u64) -> Value
     ensures { λ r. ⌜ r ≡ gridValue (now (grid .entry)) k ⌝ }
 {
-    cell::read_cell(grid, code(k) as usize * 9)
+    let a = code(k) as usize * 9;
+    if a + 9 <= grid.len() {
+        cell::read_cell(grid, a)
+    } else {
+        Value::Bool(false)
+    }
 }
 
 // The outcome of the t-th question of a section of operators, casts or stores.

@@ -119,7 +119,7 @@ judge-input-requires c κs =
     let h = start .pre .0 in
     let k = c .before .before .before .before .before .before .main-node .result in
     let last = c .before .before .before .before .before .before .main-node .ensures in
-    input-typed h k last (c .before .before .before .loop .i) (omega (arith, c .before .before .loop-test .taken, c .before .before .before .before .before .row .ensures)) (c .before .byte .ensures .is) (c .byte2 .ensures .is) (c .before .byte .ensures .small) (c .byte2 .ensures .small) (start .pre .1)
+    (input-typed h k last (c .before .before .before .loop .i) (omega (arith, c .before .before .loop-test .taken, c .before .before .before .before .before .row .ensures)) (c .before .byte .ensures .is) (c .byte2 .ensures .is) (c .before .byte .ensures .small) (c .byte2 .ensures .small) (start .pre .1), omega (arith, c .before .before .loop-test .taken, c .before .before .before .before .if1 .taken))
 
 -- src/lib.rt:116:17
 add-i : tie.Need-add-i Inv-loop μ-loop

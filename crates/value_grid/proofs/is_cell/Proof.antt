@@ -2,7 +2,6 @@ use Rattle.ol_spec.specs.Lists.{same}
 use Rattle.ol_spec.specs.Cell.{cell}
 use mathlib.Core.List.{append-nil}
 use mathlib.Core.Path.{ap, _∙_}
-use native.Mathlib.Omega.{arith}
 use borrow.Author.Needs.{needs}
 use Rattle.value_grid.proofs.is_cell.Statement.{statement}
 use Rattle.value_grid.proofs.is_cell.Tie as tie
@@ -23,7 +22,7 @@ same-bytes-requires : tie.Need-same-bytes-requires
 same-bytes-requires c κs = search needs
 
 returns : tie.Need-returns
-returns c = c .same-bytes .ensures ∙ ap (λ m. same m (c .before .before .before .before .before .before .args .t1)) (c .before .before .before .before .write-cell .ensures .0 (omega arith) ∙ append-nil (cell (c .before .before .before .before .before .before .args .v)))
+returns c = c .same-bytes .ensures ∙ ap (λ m. same m (c .before .before .before .before .before .before .args .t1)) (c .before .before .before .before .write-cell .ensures ∙ append-nil (cell (c .before .before .before .before .before .before .args .v)))
 
 pub is-cell-spec : {M : Type 1} → statement M
 is-cell-spec =

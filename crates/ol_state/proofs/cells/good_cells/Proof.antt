@@ -35,7 +35,9 @@ mul-judge-cell c =
 
 -- src/cells.rt:45:12
 judge-cell-requires : tie.Need-judge-cell-requires Inv-loop μ-loop
-judge-cell-requires c κs = tt
+judge-cell-requires c κs =
+    let start = c .before .before .before .before in
+    omega (arith, c .loop-test .taken, start .pre, start .good)
 
 -- src/cells.rt:46:13
 add-i : tie.Need-add-i Inv-loop μ-loop

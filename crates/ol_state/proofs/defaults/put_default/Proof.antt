@@ -39,7 +39,7 @@ returns : tie.Need-returns
 unfolding defaultCell
 returns c =
     let start = c .before .before .before .before .before .before in
-    c .before .before .write-cell .ensures .0 (start .pre .1) ∙ ap (λ v. cell v ++ drop 9 (start .args .out .now)) (c .before .before .before .before .default-value .ensures ((start .args .first % 65536 ∷ []) ∷ []) 0 refl)
+    c .before .before .write-cell .ensures ∙ ap (λ v. cell v ++ drop 9 (start .args .out .now)) (c .before .before .before .before .default-value .ensures ((start .args .first % 65536 ∷ []) ∷ []) 0 refl)
 
 pub put-default-spec : {M : Type 1} → statement M
 put-default-spec =

@@ -61,7 +61,7 @@ has-variant-requires c κs = search needs
 returns : tie.Need-returns
 returns c =
     let start = c .before .before .before .before .before .before .before .before .before .before .before .before .before in
-    let h = start .pre in
+    let h = start .pre .0 in
     let f = fileAt (start .args .file .now) in
     let bytes = take 9 (drop (start .args .at) (start .args .cells .now)) in
     let good = sym (c .before .before .before .before .before .before .before .before .before .judge-cell .ensures _ (h .names .tells)) ∙ c .before .before .before .before .before .before .before .before .if1 .taken in
@@ -74,7 +74,7 @@ returns c =
 returns-2 : tie.Need-returns-2
 returns-2 c =
     let start = c .before .before .before .before .before .before .before .before .before .before in
-    let h = start .pre in
+    let h = start .pre .0 in
     let f = fileAt (start .args .file .now) in
     let bytes = take 9 (drop (start .args .at) (start .args .cells .now)) in
     let good = sym (c .before .before .before .before .before .before .judge-cell .ensures _ (h .names .tells)) ∙ c .before .before .before .before .before .if1 .taken in
@@ -85,7 +85,7 @@ returns-2 c =
 returns-3 : tie.Need-returns-3
 returns-3 c =
     let start = c .before .before .before .before .before .before .before .before in
-    let h = start .pre in
+    let h = start .pre .0 in
     let f = fileAt (start .args .file .now) in
     let bytes = take 9 (drop (start .args .at) (start .args .cells .now)) in
     let good = sym (c .before .before .before .before .judge-cell .ensures _ (h .names .tells)) ∙ c .before .before .before .if1 .taken in
@@ -95,7 +95,7 @@ returns-3 c =
 returns-4 : tie.Need-returns-4
 returns-4 c =
     let start = c .before .before .before .before .before in
-    let h = start .pre in
+    let h = start .pre .0 in
     let f = fileAt (start .args .file .now) in
     let bytes = take 9 (drop (start .args .at) (start .args .cells .now)) in
     input-cell f (start .args .code) (start .args .e) bytes (sym (c .before .judge-cell .ensures _ (h .names .tells)) ∙ c .if1 .left)
