@@ -39,6 +39,7 @@ use ol_frame::skip::pass;
 use ol_frame::skip::pass_all;
 use ol_frame::tables::number;
 use ol_frame::tables::order_at;
+use ol_frame::tables::row;
 use ol_spec::Outcome;
 use ol_state::defaults::write_defaults;
 use ol_state::fresh::write_fresh;
@@ -50,7 +51,6 @@ use ol_tables::tables::MOST_CELLS;
 use ol_tables::tables::OUTPUTS;
 use ol_tables::tables::SIZE;
 use ol_tables::tables::VARIABLES;
-use ol_tables::tables::row;
 use ol_value::cell::write_cell;
 
 // What evaluating an expression gives: its outcome, where it ends, and the bytes of its records.

@@ -20,6 +20,10 @@ module _ {file tab rows consts : List ℕ} {k : ℕ} (ready : Running file tab r
   pub few : k < 32
   few = few-nodes (ready .known) below
 
+  -- entry j of its row can be read
+  pub row-room : (j : ℕ) → j < 8 → (length rows ≡ 272) × (k < 32) × (j < 8)
+  row-room j l = (ready .known .rowed .long, few, l)
+
   pub width-is : (n : ℕ) → n ≡ rowAt rows k 4 → n ≡ widthIn file k
   width-is n e = e ∙ variables-told (ready .known) below
 

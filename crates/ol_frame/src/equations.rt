@@ -1,10 +1,10 @@
 // The equations of a node: where each stands, and where its records start.
 use crate::skip::pass;
 use crate::tables::number;
+use crate::tables::row;
 use ol_tables::heads::skip;
 use ol_tables::tables::COUNT;
 use ol_tables::tables::EQUATIONS;
-use ol_tables::tables::row;
 ghost use Prim.Native.Nat.{_≤_, _<_};
 ghost use lib.ListN.{length};
 ghost use mathlib.Core.Path.{_≡_};

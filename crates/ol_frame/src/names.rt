@@ -22,10 +22,10 @@ use crate::skip::pass;
 use crate::tables::code_of;
 use crate::tables::number;
 use crate::tables::slot_at;
+use crate::tables::row;
 use ol_spec::Outcome;
 use ol_spec::Value;
 use ol_tables::tables::INPUTS;
-use ol_tables::tables::row;
 use ol_value::cell::read_cell;
 
 // A byte as a wider number.

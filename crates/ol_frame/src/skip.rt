@@ -1,8 +1,8 @@
 // Passing over expressions: where they end, how many bytes the records of their call sites have, and whether they contain a call.
+use crate::tables::row;
 use ol_tables::heads::head;
 use ol_tables::heads::next_call;
 use ol_tables::tables::SIZE;
-use ol_tables::tables::row;
 ghost use Rattle.ol_frame.specs.Walk.{Passable, SkipsTo};
 
 // Where what was passed over ends, the bytes of its records, and whether it contains a call.

@@ -1,4 +1,5 @@
 // Entries of the tables of a file.
+use ol_tables::tables::COLUMNS;
 use ol_tables::tables::MOST_EQUATIONS;
 use ol_tables::tables::MOST_VARIABLES;
 use ol_tables::tables::SLOTS;
@@ -7,13 +8,22 @@ ghost use mathlib.Core.Path.{_≡_};
 ghost use Prim.Native.Nat.{_<_, _≤_};
 ghost use lib.ListN.{length};
 ghost use Prim.Native.Nat.{_+_};
-ghost use Rattle.ol_tables.specs.Tables.{codeAt, slotAt, slotsFrom, orderAt};
+ghost use Rattle.ol_tables.specs.Tables.{rowsLength, rowAt, codeAt, slotAt, slotsFrom, orderAt};
 
 // A byte as a number.
 pub fn number(b: u8) -> usize
     ensures { λ r. ⌜ (r ≡ b) × (r < 256) ⌝ }
 {
     b as usize
+}
+
+// Entry j of node k's row, which stands in the table: ol_tables' `row` without its tests.
+pub fn row(rows: &[usize], k: usize, j: usize) -> usize
+    requires { ⌜ (length (now rows) ≡ rowsLength) × (k < 32) × (j < 8) ⌝ }
+    ensures { λ r. ⌜ r ≡ rowAt (now (rows .entry)) k j ⌝ }
+{
+    let i = k * COLUMNS + j;
+    rows[i]
 }
 
 // The type code of variable i of node k.
