@@ -13,7 +13,7 @@ use Rattle.ol_frame.proofs.equations.equations.Reads as reads
 use Rattle.ol_frame.proofs.equations.equations.Lts as lts
 use Rattle.ol_frame.proofs.equations.right_side.Reads as right-side-reads
 use Rattle.ol_frame.proofs.tables.number.Reads as number-reads
-use Rattle.ol_tables.proofs.tables.row.Reads as row-reads
+use Rattle.ol_frame.proofs.tables.row.Reads as row-reads
 
 abbrev Inv-loop : tie.InvT-loop
 Inv-loop file rows k total places₀ offsets₀ n bare at₀ used₀ i₀ places offsets at used i = Filled file k places offsets at used i × (length places ≡ length places₀) × (length offsets ≡ length offsets₀)
@@ -23,11 +23,17 @@ abbrev μ-loop : tie.MeasureT-loop
 
 -- src/equations.rt:14:9
 row-requires : tie.Need-row-requires Inv-loop μ-loop
-row-requires c κs = tt
+row-requires c κs =
+    let start = c .before .before .before .before in
+    let p = start .pre .0 in
+    (p .sized .table .long, omega (arith, p .inside, p .sized .few), omega arith)
 
 -- src/equations.rt:15:9
 row-requires-2 : tie.Need-row-requires-2 Inv-loop μ-loop
-row-requires-2 c κs = tt
+row-requires-2 c κs =
+    let start = c .before .before .before .before .before in
+    let p = start .pre .0 in
+    (p .sized .table .long, omega (arith, p .inside, p .sized .few), omega arith)
 
 -- src/equations.rt:18:5
 slice-write-offsets : tie.Need-slice-write-offsets Inv-loop μ-loop

@@ -11,11 +11,14 @@ use Rattle.ol_frame.proofs.names.call_kind.Reads as reads
 use Rattle.ol_frame.proofs.names.call_kind.Lts as lts
 use Rattle.ol_frame.proofs.outcomes.kind_of_type.Reads as kind-of-type-reads
 use Rattle.ol_frame.proofs.tables.code_of.Reads as code-of-reads
-use Rattle.ol_tables.proofs.tables.row.Reads as row-reads
+use Rattle.ol_frame.proofs.tables.row.Reads as row-reads
 
 -- src/names.rt:125:9
 row-requires : tie.Need-row-requires
-row-requires c κs = tt
+row-requires c κs =
+    let start = c .before .before .before in
+    let p = start .pre .0 in
+    (p .sized .table .long, omega (arith, start .pre .1, p .sized .few), omega arith)
 
 -- src/names.rt:126:9
 code-of-requires : tie.Need-code-of-requires

@@ -12,7 +12,7 @@ use Rattle.ol_frame.proofs.skip.pass_all.Statement.{statement}
 use Rattle.ol_frame.proofs.skip.pass_all.Tie as tie
 use Rattle.ol_frame.proofs.skip.pass_all.Reads as reads
 use Rattle.ol_frame.proofs.skip.pass_all.Lts as lts
-use Rattle.ol_tables.proofs.tables.row.Reads as row-reads
+use Rattle.ol_frame.proofs.tables.row.Reads as row-reads
 use Rattle.ol_tables.proofs.heads.next_call.Reads as next-call-reads
 
 abbrev Inv-loop : tie.InvT-loop
@@ -35,7 +35,12 @@ next-call-requires c κs = tt
 
 -- src/skip.rt:26:21
 row-requires : tie.Need-row-requires Inv-loop μ-loop
-row-requires c κs = tt
+row-requires c κs =
+    let start = c .before .before .before .before .before in
+    let f = start .args .file .now in
+    let p = start .pre in
+    let m = subst (λ b. Calls b f (c .before .before .loop .left) (c .before .before .loop .next) (c .before .next-call .result)) (c .if1 .taken) (c .before .next-call .ensures) in
+    (p .sized .table .long, omega (arith, met-below f (c .before .before .loop .inv) m, p .sized .few), omega arith)
 
 -- src/skip.rt:26:13
 add-used : tie.Need-add-used Inv-loop μ-loop

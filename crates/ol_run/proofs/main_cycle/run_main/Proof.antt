@@ -15,7 +15,7 @@ use Rattle.ol_frame.proofs.copies.copy.Reads as copy-reads
 use Rattle.ol_frame.proofs.copies.write_cells.Reads as write-cells-reads
 use Rattle.ol_frame.proofs.copies.finish.Reads as finish-reads
 use Rattle.ol_run.proofs.main_cycle.run_record.Reads as run-record-reads
-use Rattle.ol_tables.proofs.tables.row.Reads as row-reads
+use Rattle.ol_frame.proofs.tables.row.Reads as row-reads
 
 -- src/main_cycle.rt:90:9
 row-requires : tie.Need-row-requires

@@ -13,7 +13,7 @@ use Rattle.ol_run.proofs.main_cycle.run_record.Reads as reads
 use Rattle.ol_run.proofs.main_cycle.run_record.Lts as lts
 use Rattle.ol_eval.proofs.cycle.run.Reads as run-reads
 use Rattle.ol_run.proofs.main_cycle.begin.Reads as begin-reads
-use Rattle.ol_tables.proofs.tables.row.Reads as row-reads
+use Rattle.ol_frame.proofs.tables.row.Reads as row-reads
 
 -- src/main_cycle.rt:42:9
 row-requires : tie.Need-row-requires

@@ -14,7 +14,7 @@ use Rattle.ol_eval.proofs.cycle.call_equation.Reads as call-equation
 use Rattle.ol_eval.proofs.cycle.enter.Reads as enter
 use Rattle.ol_frame.proofs.copies.less.Reads as less-reads
 use Rattle.ol_frame.proofs.tables.number.Reads as number-reads
-use Rattle.ol_tables.proofs.tables.row.Reads as row-reads
+use Rattle.ol_frame.proofs.tables.row.Reads as row-reads
 use Rattle.ol_eval.proofs.cycle.+call_equation+enter+equation+eval+eval_all+eval_call+eval_first+eval_form+eval_if+eval_second+eval_two+run+step_function+step_instance+step_site+tuple_equation.Lts-call_equation as call-equation-lts
 use Rattle.ol_eval.proofs.cycle.+call_equation+enter+equation+eval+eval_all+eval_call+eval_first+eval_form+eval_if+eval_second+eval_two+run+step_function+step_instance+step_site+tuple_equation.Proof.Common.{call-equation-at, enter-below}
 
@@ -55,10 +55,24 @@ pub number-requires : (t : ℕ) → call-equation-lts.Need-number-requires (Q t)
 number-requires t c κs = tt
 
 pub row-requires : (t : ℕ) → call-equation-lts.Need-row-requires (Q t) (call-equation-at t) call-equation.Post
-row-requires t c κs = tt
+row-requires t c κs =
+    let start = c .before .before .before .before .before .before .before .before .before .before .before .before .before .before .before .before .before .before .before in
+    let p = start .pre .1 .0 in
+    let q = start .pre .1 .1 in
+    let k = c .number .result in
+    let ke = c .number .ensures .0 in
+    let row = callee-row p q k ke in
+    (p .running .program .sized .table .long, omega (arith, row .small), omega arith)
 
 pub row-requires-2 : (t : ℕ) → call-equation-lts.Need-row-requires-2 (Q t) (call-equation-at t) call-equation.Post
-row-requires-2 t c κs = tt
+row-requires-2 t c κs =
+    let start = c .before .before .before .before .before .before .before .before .before .before .before .before .before .before .before .before .before .before .before .before in
+    let p = start .pre .1 .0 in
+    let q = start .pre .1 .1 in
+    let k = c .before .number .result in
+    let ke = c .before .number .ensures .0 in
+    let row = callee-row p q k ke in
+    (p .running .program .sized .table .long, omega (arith, row .small), omega arith)
 
 pub mul-from : (t : ℕ) → call-equation-lts.Need-mul-from (Q t) (call-equation-at t) call-equation.Post
 mul-from t c =

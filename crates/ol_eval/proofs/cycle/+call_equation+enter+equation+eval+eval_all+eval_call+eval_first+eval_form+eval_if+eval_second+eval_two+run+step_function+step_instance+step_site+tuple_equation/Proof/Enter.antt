@@ -18,7 +18,7 @@ use borrow.Author.Needs.{needs}
 use Rattle.ol_eval.proofs.cycle.enter.Reads as enter
 use Rattle.ol_eval.proofs.cycle.eval_all.Reads as eval-all
 use Rattle.ol_frame.proofs.tables.number.Reads as number-reads
-use Rattle.ol_tables.proofs.tables.row.Reads as row-reads
+use Rattle.ol_frame.proofs.tables.row.Reads as row-reads
 use Rattle.ol_eval.proofs.cycle.step_site.Reads as step-site
 use Rattle.ol_eval.proofs.cycle.+call_equation+enter+equation+eval+eval_all+eval_call+eval_first+eval_form+eval_if+eval_second+eval_two+run+step_function+step_instance+step_site+tuple_equation.Lts-enter as enter-lts
 use Rattle.ol_eval.proofs.cycle.+call_equation+enter+equation+eval+eval_all+eval_call+eval_first+eval_form+eval_if+eval_second+eval_two+run+step_function+step_instance+step_site+tuple_equation.Proof.Common.{enter-at, eval-all-below, step-site-below}
@@ -69,7 +69,15 @@ pub number-requires-2 : (t : ℕ) → enter-lts.Need-number-requires-2 (Q t) (en
 number-requires-2 t c κs = tt
 
 pub row-requires : (t : ℕ) → enter-lts.Need-row-requires (Q t) (enter-at t) enter.Post
-row-requires t c κs = tt
+row-requires t c κs =
+    let start = c .before .before .before .before .before .before .before .before .before .before .before .before .before in
+    let p = start .pre .1 .0 in
+    let b = start .pre .1 .1 in
+    let k = c .before .before .number .result in
+    let kE = c .before .before .number .ensures .0 in
+    let n = c .number2 .result in
+    let nE = c .number2 .ensures .0 in
+    (p .plan .program .sized .table .long, call-small p b k n kE nE, omega arith)
 
 pub add-eval-all : (t : ℕ) → enter-lts.Need-add-eval-all (Q t) (enter-at t) enter.Post
 add-eval-all t c =

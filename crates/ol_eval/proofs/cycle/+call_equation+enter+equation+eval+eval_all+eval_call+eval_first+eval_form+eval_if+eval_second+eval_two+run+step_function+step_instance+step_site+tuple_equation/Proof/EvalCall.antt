@@ -17,7 +17,7 @@ use borrow.Author.Needs.{needs}
 use Rattle.ol_eval.proofs.cycle.enter.Reads as enter
 use Rattle.ol_eval.proofs.cycle.eval_call.Reads as eval-call
 use Rattle.ol_frame.proofs.tables.number.Reads as number-reads
-use Rattle.ol_tables.proofs.tables.row.Reads as row-reads
+use Rattle.ol_frame.proofs.tables.row.Reads as row-reads
 use Rattle.ol_frame.proofs.copies.single_out.Reads as single-out-reads
 use Rattle.ol_eval.proofs.cycle.+call_equation+enter+equation+eval+eval_all+eval_call+eval_first+eval_form+eval_if+eval_second+eval_two+run+step_function+step_instance+step_site+tuple_equation.Lts-eval_call as eval-call-lts
 use Rattle.ol_eval.proofs.cycle.+call_equation+enter+equation+eval+eval_all+eval_call+eval_first+eval_form+eval_if+eval_second+eval_two+run+step_function+step_instance+step_site+tuple_equation.Proof.Common.{eval-call-at, enter-below}
@@ -58,10 +58,28 @@ pub number-requires : (t : ℕ) → eval-call-lts.Need-number-requires (Q t) (ev
 number-requires t c κs = tt
 
 pub row-requires : (t : ℕ) → eval-call-lts.Need-row-requires (Q t) (eval-call-at t) eval-call.Post
-row-requires t c κs = tt
+row-requires t c κs =
+    let start = c .before .before .before .before .before .before .before .before .before .before .before .before .before .before .before .before in
+    let p = start .pre .1 .0 in
+    let b = start .pre .1 .1 in
+    let f = start .args .file .now in
+    let a = start .args .at in
+    let n = getD f (a + 2) 0 in
+    let k = c .number .result in
+    let kE = c .number .ensures .0 in
+    (p .plan .program .sized .table .long, call-small p b k n kE refl, omega arith)
 
 pub row-requires-2 : (t : ℕ) → eval-call-lts.Need-row-requires-2 (Q t) (eval-call-at t) eval-call.Post
-row-requires-2 t c κs = tt
+row-requires-2 t c κs =
+    let start = c .before .before .before .before .before .before .before .before .before .before .before .before .before .before .before .before .before in
+    let p = start .pre .1 .0 in
+    let b = start .pre .1 .1 in
+    let f = start .args .file .now in
+    let a = start .args .at in
+    let n = getD f (a + 2) 0 in
+    let k = c .before .number .result in
+    let kE = c .before .number .ensures .0 in
+    (p .plan .program .sized .table .long, call-small p b k n kE refl, omega arith)
 
 pub slice-aggregate-single-out : (t : ℕ) → eval-call-lts.Need-slice-aggregate-single-out (Q t) (eval-call-at t) eval-call.Post
 slice-aggregate-single-out t c =

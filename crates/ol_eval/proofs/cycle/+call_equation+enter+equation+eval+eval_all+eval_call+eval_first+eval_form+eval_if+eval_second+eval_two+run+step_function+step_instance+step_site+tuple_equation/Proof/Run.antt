@@ -16,7 +16,7 @@ use borrow.Author.Needs.{needs}
 use Rattle.ol_eval.proofs.cycle.equation.Reads as equation
 use Rattle.ol_frame.proofs.equations.equations.Reads as equations-reads
 use Rattle.ol_frame.proofs.tables.order_at.Reads as order-at-reads
-use Rattle.ol_tables.proofs.tables.row.Reads as row-reads
+use Rattle.ol_frame.proofs.tables.row.Reads as row-reads
 use Rattle.ol_eval.proofs.cycle.run.Reads as run
 use Rattle.ol_eval.proofs.cycle.+call_equation+enter+equation+eval+eval_all+eval_call+eval_first+eval_form+eval_if+eval_second+eval_two+run+step_function+step_instance+step_site+tuple_equation.Lts-run as run-lts
 use Rattle.ol_eval.proofs.cycle.+call_equation+enter+equation+eval+eval_all+eval_call+eval_first+eval_form+eval_if+eval_second+eval_two+run+step_function+step_instance+step_site+tuple_equation.Proof.Common.{run-at, equation-below}
@@ -47,7 +47,11 @@ equations-requires t c κs =
     (stands k r (p .below) (omega (arith, p .sized, p .small)), p .sized, node .few, omega (arith, node .few))
 
 pub row-requires : (t : ℕ) → run-lts.Need-row-requires (Q t) (run-at t) run.Post Inv-loop μ-loop
-row-requires t c κs = tt
+row-requires t c κs =
+    let start = c .before .before .before .before .before .before .before .before .before .before .before .before .before in
+    let p = start .pre .1 in
+    let r = p .running in
+    (r .program .sized .table .long, omega (arith, p .below, r .program .sized .few), omega arith)
 
 pub loop-holds : (t : ℕ) → run-lts.Need-loop-holds (Q t) (run-at t) run.Post Inv-loop μ-loop
 loop-holds t c =

@@ -3,13 +3,13 @@
 use mathlib.Core.Path.{refl, sym, ap, _∙_}
 use native.Mathlib.Omega.{arith}
 use lib.ListN.{length}
-use Rattle.ol_frame.proofs.NodeRows.{few, narrow, inputs-first}
+use Rattle.ol_frame.proofs.NodeRows.{few, row-room, narrow, inputs-first}
 use Rattle.ol_eval.proofs.Stepping.{function-runnable, function-done}
 -- </uses>
 use Prim.Native.Nat.{ℕ}
 use borrow.Author.Needs.{needs}
 use Rattle.ol_frame.proofs.copies.copy_cells.Reads as copy-cells-reads
-use Rattle.ol_tables.proofs.tables.row.Reads as row-reads
+use Rattle.ol_frame.proofs.tables.row.Reads as row-reads
 use Rattle.ol_eval.proofs.cycle.run.Reads as run
 use Rattle.ol_eval.proofs.cycle.step_function.Reads as step-function
 use Rattle.ol_state.proofs.defaults.write_defaults.Reads as write-defaults-reads
@@ -21,10 +21,16 @@ abbrev pub Q : ℕ → step-function-lts.Claims
 Q t = (row-reads.Asked, row-reads.Learnt, write-defaults-reads.Asked, write-defaults-reads.Learnt, copy-cells-reads.Asked, copy-cells-reads.Learnt, run-below t, run.Post)
 
 pub row-requires : (t : ℕ) → step-function-lts.Need-row-requires (Q t) (step-function-at t) step-function.Post
-row-requires t c κs = tt
+row-requires t c κs =
+    let start = c .before .before .before .before .before .before .before in
+    let h = start .pre .1 .0 in
+    row-room (h .running) (h .below) _ (omega arith)
 
 pub row-requires-2 : (t : ℕ) → step-function-lts.Need-row-requires-2 (Q t) (step-function-at t) step-function.Post
-row-requires-2 t c κs = tt
+row-requires-2 t c κs =
+    let start = c .before .before .before .before .before .before .before .before in
+    let h = start .pre .1 .0 in
+    row-room (h .running) (h .below) _ (omega arith)
 
 pub slice-aggregate-write-defaults : (t : ℕ) → step-function-lts.Need-slice-aggregate-write-defaults (Q t) (step-function-at t) step-function.Post
 slice-aggregate-write-defaults t c = refl

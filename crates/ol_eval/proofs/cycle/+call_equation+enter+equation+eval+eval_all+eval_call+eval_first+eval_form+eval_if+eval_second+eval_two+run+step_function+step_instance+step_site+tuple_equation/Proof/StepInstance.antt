@@ -3,7 +3,11 @@
 use mathlib.Core.Path.{refl, ap, _∙_}
 use native.Mathlib.Omega.{arith}
 use lib.ListN.{length}
-use Rattle.ol_eval.proofs.Stepping.{few, long, narrow, inputs-first, own-room, own-new, cells-room, put-length, fresh-sited, instance-runnable, entered, instance-finished, instance-failed, instance-overflowed}
+use Prim.Native.Nat.{_+_, _*_}
+use Rattle.ol_tables.proofs.Lending.{putTail}
+use Rattle.ol_frame.proofs.Copying.{all-copied}
+use Rattle.ol_frame.proofs.NodeRows.{row-room, narrow, inputs-first}
+use Rattle.ol_eval.proofs.Stepping.{own-room, own-new, cells-room, put-length, fresh-sited, instance-runnable, entered, instance-finished, instance-failed, instance-overflowed}
 -- </uses>
 use Prim.Native.Nat.{ℕ}
 use borrow.Author.Needs.{needs}
@@ -25,7 +29,7 @@ pub row-requires : (t : ℕ) → step-instance-lts.Need-row-requires (Q t) (step
 row-requires t c κs =
     let start = c .before .before .before .before .before .before .before in
     let h = start .pre .1 .0 in
-    (long h, few h, omega arith)
+    row-room (h .running) (h .below) _ (omega arith)
 
 pub mul-own : (t : ℕ) → step-instance-lts.Need-mul-own (Q t) (step-instance-at t) step-instance.Post
 mul-own t c =
@@ -33,7 +37,7 @@ mul-own t c =
     let h = start .pre .1 .0 in
     let n = c .row .result in
     let w = c .row .ensures in
-    omega (arith, narrow h n w)
+    omega (arith, narrow (h .running) (h .below) n w)
 
 pub add-own : (t : ℕ) → step-instance-lts.Need-add-own (Q t) (step-instance-at t) step-instance.Post
 add-own t c =
@@ -41,13 +45,13 @@ add-own t c =
     let h = start .pre .1 .0 in
     let n = c .row .result in
     let w = c .row .ensures in
-    omega (arith, narrow h n w)
+    omega (arith, narrow (h .running) (h .below) n w)
 
 pub row-requires-2 : (t : ℕ) → step-instance-lts.Need-row-requires-2 (Q t) (step-instance-at t) step-instance.Post
 row-requires-2 t c κs =
     let start = c .before .before .before .before .before .before .before .before in
     let h = start .pre .1 .0 in
-    (long h, few h, omega arith)
+    row-room (h .running) (h .below) _ (omega arith)
 
 pub shared-slice-read-started : (t : ℕ) → step-instance-lts.Need-shared-slice-read-started (Q t) (step-instance-at t) step-instance.Post
 shared-slice-read-started t c =
@@ -98,7 +102,7 @@ copy-cells-requires t c κs =
     let w = c .before .before .before .before .row .ensures in
     let i = c .before .before .before .row2 .result in
     let iw = c .before .before .before .row2 .ensures in
-    (inputs-first h n i w iw, narrow h n w, cells-room h n o w, omega (arith, h .room, narrow h n w))
+    (inputs-first (h .running) (h .below) n i w iw, narrow (h .running) (h .below) n w, cells-room h n o w, omega (arith, h .room, narrow (h .running) (h .below) n w))
 
 pub sub-run : (t : ℕ) → step-instance-lts.Need-sub-run (Q t) (step-instance-at t) step-instance.Post
 sub-run t c =
@@ -209,7 +213,7 @@ finish-requires t c κs =
     let x = c .before .before .before .before .before .before .before .before .run .last .1 .1 .1 .1 .1 .1 .1 .1 .1 .0 in
     let kx = c .before .before .before .before .before .before .before .before .run .kept .1 .1 .1 .1 .1 .1 .1 .1 .1 .0 in
     let kc = c .before .before .before .before .before .before .before .before .run .kept .1 .1 .1 .1 .1 .1 .0 ∙ c .before .before .before .before .before .before .before .before .before .before .before .before .before .before .before .copy-cells .kept .1 .1 .1 .0 in
-    (narrow h n w, omega (arith, kc, h .room, narrow h n w), omega (arith, put-length h n x o w kx, own-new h n o w))
+    (narrow (h .running) (h .below) n w, omega (arith, kc, h .room, narrow (h .running) (h .below) n w), omega (arith, put-length h n x o w kx, own-new h n o w))
 
 pub enum-told-2 : (t : ℕ) → step-instance-lts.Need-enum-told-2 (Q t) (step-instance-at t) step-instance.Post
 enum-told-2 t c = search needs
@@ -229,15 +233,7 @@ pub enum-told-3 : (t : ℕ) → step-instance-lts.Need-enum-told-3 (Q t) (step-i
 enum-told-3 t c = search needs
 
 pub copy-requires : (t : ℕ) → step-instance-lts.Need-copy-requires (Q t) (step-instance-at t) step-instance.Post
-copy-requires t c κs =
-    let start = c .before .before .before .before .before .before .before .before .before .before .before .before .before .before .before .before .before .before .before .before .before .before .before .before .before .before .before in
-    let h = start .pre .1 .0 in
-    let o = start .pre .1 .1 in
-    let n = c .before .before .before .before .before .before .before .before .before .before .before .before .before .before .before .before .before .before .before .row .result in
-    let w = c .before .before .before .before .before .before .before .before .before .before .before .before .before .before .before .before .before .before .before .row .ensures in
-    let x = c .before .before .before .before .before .before .before .run .last .1 .1 .1 .1 .1 .1 .1 .1 .1 .0 in
-    let kx = c .before .before .before .before .before .before .before .run .kept .1 .1 .1 .1 .1 .1 .1 .1 .1 .0 in
-    put-length h n x o w kx ∙ ap length (h .same)
+copy-requires t c κs = tt
 
 pub same-length : (t : ℕ) → step-instance-lts.Need-same-length (Q t) (step-instance-at t) step-instance.Post
 same-length t c =
@@ -316,9 +312,11 @@ returns-3 t c =
     let start = c .before .before .before .before .before .before .before .before .before .before .before .before .before .before .before .before .before .before .before .before .before .before .before .before .before .before .before .before .before .before in
     let h = start .pre .1 .0 in
     let o = start .pre .1 .1 in
+    let n = c .before .before .before .before .before .before .before .before .before .before .before .before .before .before .before .before .before .before .before .before .before .before .row .result in
     let w = c .before .before .before .before .before .before .before .before .before .before .before .before .before .before .before .before .before .before .before .before .before .before .row .ensures in
     let iw = c .before .before .before .before .before .before .before .before .before .before .before .before .before .before .before .before .before .before .before .before .before .row2 .ensures in
     let cells = c .before .before .before .before .before .before .before .before .before .before .run .last .1 .1 .1 .1 .1 .1 .0 in
     let x = c .before .before .before .before .before .before .before .before .before .before .run .last .1 .1 .1 .1 .1 .1 .1 .1 .1 .0 in
+    let kx = c .before .before .before .before .before .before .before .before .before .before .run .kept .1 .1 .1 .1 .1 .1 .1 .1 .1 .0 in
     let e = entered h o w iw refl (c .before .before .before .before .before .before .before .before .before .before .before .before .before .before .before .before .before .copy-cells .ensures) in
-    instance-overflowed e (c .before .before .before .before .before .before .before .before .before .before .run .result) cells x (c .before .before .copy .last .1 .0) (c .before .before .before .before .before .before .before .before .before .before .run .ensures) (c .before .before .before .before .enum-told3 .given .1) (c .before .before .copy .ensures)
+    instance-overflowed e (c .before .before .before .before .before .before .before .before .before .before .run .result) cells x (c .before .before .copy .last .1 .0) (c .before .before .before .before .before .before .before .before .before .before .run .ensures) (c .before .before .before .before .enum-told3 .given .1) (all-copied (start .args .old .now) (putTail (1 + 9 * n) (start .args .new .now) x) (c .before .before .copy .last .1 .0) (put-length h n x o w kx ∙ ap length (h .same)) (c .before .before .copy .ensures))

@@ -1,11 +1,12 @@
 -- The needs of `step_site`. Assumes nothing.
 -- <uses>
+use Rattle.ol_frame.proofs.NodeRows.{row-room}
 use native.Mathlib.Omega.{arith}
 use Rattle.ol_eval.proofs.Stepping.{is-operator, is-function}
 -- </uses>
 use Prim.Native.Nat.{ℕ}
 use borrow.Author.Needs.{needs}
-use Rattle.ol_tables.proofs.tables.row.Reads as row-reads
+use Rattle.ol_frame.proofs.tables.row.Reads as row-reads
 use Rattle.ol_eval.proofs.cycle.step_function.Reads as step-function
 use Rattle.ol_eval.proofs.cycle.step_instance.Reads as step-instance
 use Rattle.ol_eval.proofs.cycle.step_site.Reads as step-site
@@ -17,7 +18,10 @@ abbrev pub Q : ℕ → step-site-lts.Claims
 Q t = (row-reads.Asked, row-reads.Learnt, step-instance-below t, step-instance.Post, step-function-below t, step-function.Post)
 
 pub row-requires : (t : ℕ) → step-site-lts.Need-row-requires (Q t) (step-site-at t) step-site.Post
-row-requires t c κs = tt
+row-requires t c κs =
+    let start = c .before .before .before .before .before .before .before in
+    let h = start .pre .1 in
+    row-room (h .running) (h .below) _ (omega arith)
 
 pub step-instance-requires : (t : ℕ) → step-site-lts.Need-step-instance-requires (Q t) (step-site-at t) step-site.Post
 step-instance-requires t c κs =
