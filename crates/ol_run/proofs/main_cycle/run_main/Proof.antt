@@ -1,4 +1,5 @@
 -- <uses>
+use Rattle.ol_frame.proofs.NodeRows.{row-room}
 use borrow.Author.Needs.{needs}
 use mathlib.Core.Path.{refl, sym, _∙_}
 use native.Mathlib.Omega.{arith}
@@ -19,7 +20,10 @@ use Rattle.ol_frame.proofs.tables.row.Reads as row-reads
 
 -- src/main_cycle.rt:90:9
 row-requires : tie.Need-row-requires
-row-requires c κs = tt
+row-requires c κs =
+    let start = c .before .before .before .before .before .before .before .before in
+    let h = start .pre in
+    row-room (h .running) (omega (arith, h .last)) _ (omega arith)
 
 -- src/main_cycle.rt:93:5
 copy-requires : tie.Need-copy-requires

@@ -3,7 +3,7 @@ use mathlib.Core.Path.{_∙_}
 use native.Mathlib.Omega.{arith}
 use Prim.Native.Nat.{_+_, _*_}
 use Rattle.ol_tables.proofs.Lending.{length-put}
-use Rattle.ol_frame.proofs.NodeRows.{narrow}
+use Rattle.ol_frame.proofs.NodeRows.{row-room, narrow}
 use Rattle.ol_run.proofs.MainCycle.{inside, own-room, own-new, begin-ready, record-runnable, record-ran}
 -- </uses>
 use borrow.Author.Needs.{needs}
@@ -17,11 +17,17 @@ use Rattle.ol_frame.proofs.tables.row.Reads as row-reads
 
 -- src/main_cycle.rt:42:9
 row-requires : tie.Need-row-requires
-row-requires c κs = tt
+row-requires c κs =
+    let start = c .before .before .before .before .before .before .before .before in
+    let h = start .pre in
+    row-room (h .running) (inside h) _ (omega arith)
 
 -- src/main_cycle.rt:43:9
 row-requires-2 : tie.Need-row-requires-2
-row-requires-2 c κs = tt
+row-requires-2 c κs =
+    let start = c .before .before .before .before .before .before .before .before .before in
+    let h = start .pre in
+    row-room (h .running) (inside h) _ (omega arith)
 
 -- src/main_cycle.rt:44:19
 mul-own : tie.Need-mul-own
