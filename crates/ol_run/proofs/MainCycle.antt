@@ -110,7 +110,6 @@ pub begun : (k n : ℕ) (inputs held present p q : List ℕ) → k ≤ n → 9 *
 begun k n inputs held present p q h li lh lp l ep eq =
     values-copied k n held p q h lh (omega arith) eq ∙ ap (λ (vs : List Value). vs ++ drop k (valuesOf n held)) (values-copied 0 k inputs present p (omega arith) li (omega arith) ep)
 
-
 -- ---- the run on its record
 
 module _ {file tab rows consts inputs old new present : List ℕ} {k : ℕ} (h : RecordReady file tab rows consts k inputs old new present) where
