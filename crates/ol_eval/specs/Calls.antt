@@ -24,7 +24,7 @@ use Rattle.ol_frame.specs.declared.outcomes.Ending.the-variants as End
 use Rattle.ol_eval.specs.declared.cycle.Ran.{Ran}
 use Rattle.ol_eval.specs.declared.cycle.Ended.{Ended}
 
--- if there are values, `got` is what is made of them
+-- if there are values, `got` is what is made of them; else it is free: of a failure or an overflow nobody reads the values
 abbrev pub Holds : (List Value → List Value) → Outcomes → List Value → Type 0
 Holds make (values vs) got = got ≡ make vs
 Holds make failure got = Unit {0}
@@ -121,6 +121,7 @@ EndsAs finished r = r .end ≡ End.Values
 EndsAs (failedAt i) r = (r .end ≡ End.Failed) × (r .index ≡ i)
 EndsAs (overflowedAt i) r = (r .end ≡ End.Overflowed) × (r .index ≡ i)
 
+-- what a run gives: how it ended, its cells where it finished, and the new segments. The cells of a run that failed or overflowed are free: a failed instance goes back to fresh, and the others keep the cells before
 pub record RunMeets (want : Run) (r : Ended) (got : List Value) (new : List ℕ) : Type 0 where
   pub ends : EndsAs (want .end) r
   pub cells-are : want .end ≡ finished → got ≡ want .cells
