@@ -40,22 +40,6 @@ by-code P b i f d c e (suc (suc (suc (suc (suc (suc (suc (suc (suc (suc (suc zer
 by-code P b i f d c e (suc (suc (suc (suc (suc (suc (suc (suc (suc (suc (suc (suc zero)))))))))))) = e 12 (omega arith)
 by-code P b i f d c e (suc (suc (suc (suc (suc (suc (suc (suc (suc (suc (suc (suc (suc n))))))))))))) = e (suc (suc (suc (suc (suc (suc (suc (suc (suc (suc (suc (suc (suc n))))))))))))) (omega arith)
 
--- what the last arm of a match by code knows: the code is none of those before
-abbrev NoneBelow : ℕ → ℕ → Type 0
-NoneBelow zero code = Unit {0}
-NoneBelow (suc n) code = NoneBelow n code × (code ≡ n → ⊥)
-
-none-below : (n code : ℕ) → NoneBelow n code → n ≤ code
-none-below zero code h = omega arith
-none-below (suc n) code h = omega (arith, none-below n code (h .0), h .1)
-
--- a code above 11 is an enum's
-pub enum-last : (code e : ℕ) → NoneBelow 12 code → tyOf code e ≡ enum e
-enum-last code e h =
-    by-code (λ c t. 12 ≤ c → tyFrom e t ≡ enum e)
-    (λ l. absurd (omega arith)) (λ c p q l. absurd (omega arith)) (λ l. absurd (omega arith)) (λ l. absurd (omega arith)) (λ l. absurd (omega arith)) (λ c p l. refl)
-    code (none-below 12 code h)
-
 -- an integer type's code
 pub int-code : (code e : ℕ) → 1 ≤ code → code < 9 → tyOf code e ≡ int code
 int-code code e =

@@ -1,14 +1,14 @@
--- What the types make of integers: the widths that narrow, what a row tells of a type, and the steps of `narrow_int` and `in_range`.
+-- What the types make of integers: the table's rule, what a row tells of a type, and the steps of `narrow_int` and `in_range`.
 use mathlib.Core.Path.{_≡_, refl, sym, ap, subst, _∙_}
 use mathlib.Core.Bool.{Bool, true, false, cond}
-use mathlib.Core.List.{List, [], _∷_}
+use mathlib.Core.List.{List, [], _∷_, map}
 use mathlib.Core.Option.{Option, none, some}
 use Prim.Native.Nat.{ℕ, zero, suc, _-_, _*_, _%_, _^_, _≤_, _<_}
 use native.Mathlib.Nat.{mod-eq-of-lt, mod-lt, one-mul, zero-add}
 use native.Mathlib.Omega.{arith}
 use borrow.Author.Tests.{lt-ltb, le-ltb, eq-eqb, ne-eqb}
 use lib.Dec.{eqb}
-use lib.ListN.{getD}
+use lib.ListN.{length, getD, List·getD-eq-default}
 use lib.Pow.{pow-pos, pow-mono, pow-lt}
 use lib.IntN.{ℤ, pos, negsuc, _-ℤ_}
 use lib.Signed.{mag, leZ}
@@ -17,13 +17,52 @@ use mir.Val.{SFits, toZ}
 use mir.Facts.{toZ-ofZ, toZ-pos}
 use Rattle.ol_spec.specs.Numbers.{residue, signed}
 use Rattle.ol_spec.specs.Syntax.{Ty, bool, int, float32, float64, char, enum}
+use Rattle.ol_spec.specs.Read.{enumT, tyCodes}
 use Rattle.ol_spec.specs.Types.{IntTy, signedTo, unsignedTo, whole, intTys, intTy, narrow, inRange, default, fit, castInt, castTo}
 use Rattle.ol_spec.specs.declared.Value.{Value}
 use Rattle.ol_spec.specs.declared.Value.the-variants as Val
 use Rattle.ol_value.specs.declared.narrowing.TypeRow.{TypeRow}
-use Rattle.ol_value.specs.Codes.{intTyOf, Narrow, rowSays, rowFor, inKind}
+use Rattle.ol_value.specs.Codes.{intTyOf, Narrow, rowSays, rowFor, tyFrom, tyOf, inKind}
 use Rattle.ol_value.proofs.Backs.{back, no-true}
 use Rattle.ol_value.proofs.Magnitudes.{natural, negative}
+
+-- ---- the table
+
+entry-is : {A B : Type 0} (f : A → B) (xs : List A) (k : ℕ) → k < length xs → (d : A) (e : B) → f (getD xs k d) ≡ getD (map f xs) k e
+entry-is f [] k l d e = absurd (omega (arith, l))
+entry-is f (x ∷ xs) zero l d e = refl
+entry-is f (x ∷ xs) (suc k) l d e = entry-is f xs k (omega (arith, l)) d e
+
+-- the constant `TYPE_ROWS`
+abbrev table : List TypeRow
+table =
+    record { bits = 0; narrows = false; signed = false }
+    ∷ record { bits = 8; narrows = true; signed = true }
+    ∷ record { bits = 16; narrows = true; signed = true }
+    ∷ record { bits = 32; narrows = true; signed = true }
+    ∷ record { bits = 64; narrows = true; signed = true }
+    ∷ record { bits = 8; narrows = true; signed = false }
+    ∷ record { bits = 16; narrows = true; signed = false }
+    ∷ record { bits = 32; narrows = true; signed = false }
+    ∷ record { bits = 64; narrows = true; signed = false }
+    ∷ record { bits = 0; narrows = false; signed = false }
+    ∷ record { bits = 0; narrows = false; signed = false }
+    ∷ record { bits = 8; narrows = false; signed = false }
+    ∷ record { bits = 0; narrows = false; signed = false }
+    ∷ []
+
+-- its rule, over the whole table: each row says what the definitions say of the type with its code
+table-rule : (e : ℕ) → map rowSays table ≡ map (λ t. rowFor (tyFrom e t)) tyCodes
+table-rule e = refl
+
+pub table-entry : (code : ℕ) → code < 13 → (d : TypeRow) (e : ℕ) → rowSays (getD table code d) ≡ rowFor (tyOf code e)
+table-entry code l d e =
+    entry-is rowSays table code l d (none, false)
+    ∙ ap (λ rs. getD rs code (none, false)) (table-rule e)
+    ∙ sym (entry-is (λ t. rowFor (tyFrom e t)) tyCodes code l enumT (none, false))
+
+pub table-end : (code : ℕ) → 13 ≤ code → (e : ℕ) → (none, false) ≡ rowFor (tyOf code e)
+table-end code l e = sym (ap (λ t. rowFor (tyFrom e t)) (List·getD-eq-default tyCodes enumT l))
 
 abbrev AllNarrow : List IntTy → Type 0
 AllNarrow [] = Unit {0}

@@ -15,77 +15,88 @@ pub(crate) struct TypeRow {
     pub(crate) signed: bool,
 }
 
-// The one table, by type code: the row of the type with this code. 64 bits leave the number; a Char has a range, and
-// storing does not narrow it. A code above 12 is read as an enum's.
+// The one table, by type code. 64 bits leave the number; a Char has a range, and storing does not narrow it.
+const TYPE_ROWS: [TypeRow; 13] = [
+    TypeRow {
+        bits: 0,
+        narrows: false,
+        signed: false, // Bool
+    },
+    TypeRow {
+        bits: 8,
+        narrows: true,
+        signed: true, // Int8
+    },
+    TypeRow {
+        bits: 16,
+        narrows: true,
+        signed: true, // Int16
+    },
+    TypeRow {
+        bits: 32,
+        narrows: true,
+        signed: true, // Int32
+    },
+    TypeRow {
+        bits: 64,
+        narrows: true,
+        signed: true, // Int64
+    },
+    TypeRow {
+        bits: 8,
+        narrows: true,
+        signed: false, // Uint8
+    },
+    TypeRow {
+        bits: 16,
+        narrows: true,
+        signed: false, // Uint16
+    },
+    TypeRow {
+        bits: 32,
+        narrows: true,
+        signed: false, // Uint32
+    },
+    TypeRow {
+        bits: 64,
+        narrows: true,
+        signed: false, // Uint64
+    },
+    TypeRow {
+        bits: 0,
+        narrows: false,
+        signed: false, // Float32
+    },
+    TypeRow {
+        bits: 0,
+        narrows: false,
+        signed: false, // Float64
+    },
+    TypeRow {
+        bits: 8,
+        narrows: false,
+        signed: false, // Char
+    },
+    TypeRow {
+        bits: 0,
+        narrows: false,
+        signed: false, // Enum
+    },
+];
+
+// The row of the type with this code; a code above 12 is read as an enum's.
 pub(crate) fn type_row(code: u8) -> TypeRow
     ensures { λ r. ⌜ ((e : ℕ) → rowSays r ≡ rowFor (tyOf code e)) ⌝ }
 {
-    match code {
-        0 => TypeRow {
+    let c = code as usize;
+    if c < 13 {
+        TYPE_ROWS[c]
+    } else {
+        TypeRow {
             bits: 0,
             narrows: false,
-            signed: false, // Bool
-        },
-        1 => TypeRow {
-            bits: 8,
-            narrows: true,
-            signed: true, // Int8
-        },
-        2 => TypeRow {
-            bits: 16,
-            narrows: true,
-            signed: true, // Int16
-        },
-        3 => TypeRow {
-            bits: 32,
-            narrows: true,
-            signed: true, // Int32
-        },
-        4 => TypeRow {
-            bits: 64,
-            narrows: true,
-            signed: true, // Int64
-        },
-        5 => TypeRow {
-            bits: 8,
-            narrows: true,
-            signed: false, // Uint8
-        },
-        6 => TypeRow {
-            bits: 16,
-            narrows: true,
-            signed: false, // Uint16
-        },
-        7 => TypeRow {
-            bits: 32,
-            narrows: true,
-            signed: false, // Uint32
-        },
-        8 => TypeRow {
-            bits: 64,
-            narrows: true,
-            signed: false, // Uint64
-        },
-        9 => TypeRow {
-            bits: 0,
-            narrows: false,
-            signed: false, // Float32
-        },
-        10 => TypeRow {
-            bits: 0,
-            narrows: false,
-            signed: false, // Float64
-        },
-        11 => TypeRow {
-            bits: 8,
-            narrows: false,
-            signed: false, // Char
-        },
-        12..=255 => TypeRow {
-            bits: 0,
-            narrows: false,
-            signed: false, // Enum
-        },
+            signed: false,
+        }
     }
 }
 
