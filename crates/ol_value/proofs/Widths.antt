@@ -22,7 +22,7 @@ use Rattle.ol_spec.specs.Types.{IntTy, signedTo, unsignedTo, whole, intTys, int
 use Rattle.ol_spec.specs.declared.Value.{Value}
 use Rattle.ol_spec.specs.declared.Value.the-variants as Val
 use Rattle.ol_value.specs.declared.narrowing.TypeRow.{TypeRow}
-use Rattle.ol_value.specs.Codes.{intTyOf, Narrow, rowSays, rowFor, tyFrom, tyOf, inKind}
+use Rattle.ol_value.specs.Codes.{intTyOf, Narrow, rowOf, rowSays, rowFor, tyFrom, tyOf, inKind}
 use Rattle.ol_value.proofs.Backs.{back, no-true}
 use Rattle.ol_value.proofs.Magnitudes.{natural, negative}
 
@@ -34,34 +34,20 @@ entry-is f (x ∷ xs) zero l d e = refl
 entry-is f (x ∷ xs) (suc k) l d e = entry-is f xs k (omega (arith, l)) d e
 
 -- the constant `TYPE_ROWS`
-abbrev table : List TypeRow
-table =
-    record { bits = 0; narrows = false; signed = false }
-    ∷ record { bits = 8; narrows = true; signed = true }
-    ∷ record { bits = 16; narrows = true; signed = true }
-    ∷ record { bits = 32; narrows = true; signed = true }
-    ∷ record { bits = 64; narrows = true; signed = true }
-    ∷ record { bits = 8; narrows = true; signed = false }
-    ∷ record { bits = 16; narrows = true; signed = false }
-    ∷ record { bits = 32; narrows = true; signed = false }
-    ∷ record { bits = 64; narrows = true; signed = false }
-    ∷ record { bits = 0; narrows = false; signed = false }
-    ∷ record { bits = 0; narrows = false; signed = false }
-    ∷ record { bits = 8; narrows = false; signed = false }
-    ∷ record { bits = 0; narrows = false; signed = false }
-    ∷ []
+abbrev table : List ℕ
+table = 0 ∷ 11 ∷ 19 ∷ 35 ∷ 67 ∷ 9 ∷ 17 ∷ 33 ∷ 65 ∷ 0 ∷ 0 ∷ 8 ∷ 0 ∷ []
 
 -- its rule, over the whole table: each row says what the definitions say of the type with its code
-table-rule : (e : ℕ) → map rowSays table ≡ map (λ t. rowFor (tyFrom e t)) tyCodes
+table-rule : (e : ℕ) → map (λ b. rowSays (rowOf b)) table ≡ map (λ t. rowFor (tyFrom e t)) tyCodes
 table-rule e = refl
 
-pub table-entry : (code : ℕ) → code < 13 → (d : TypeRow) (e : ℕ) → rowSays (getD table code d) ≡ rowFor (tyOf code e)
+pub table-entry : (code : ℕ) → code < 13 → (d : ℕ) (e : ℕ) → rowSays (rowOf (getD table code d)) ≡ rowFor (tyOf code e)
 table-entry code l d e =
-    entry-is rowSays table code l d (none, false)
+    entry-is (λ b. rowSays (rowOf b)) table code l d (none, false)
     ∙ ap (λ rs. getD rs code (none, false)) (table-rule e)
     ∙ sym (entry-is (λ t. rowFor (tyFrom e t)) tyCodes code l enumT (none, false))
 
-pub table-end : (code : ℕ) → 13 ≤ code → (e : ℕ) → (none, false) ≡ rowFor (tyOf code e)
+pub table-end : (code : ℕ) → 13 ≤ code → (e : ℕ) → rowSays (rowOf 0) ≡ rowFor (tyOf code e)
 table-end code l e = sym (ap (λ t. rowFor (tyFrom e t)) (List·getD-eq-default tyCodes enumT l))
 
 abbrev AllNarrow : List IntTy → Type 0

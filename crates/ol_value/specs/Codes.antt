@@ -1,5 +1,5 @@
 -- Types and operators by their codes.
-use Prim.Native.Nat.{ℕ, _<_, _≤_}
+use Prim.Native.Nat.{ℕ, _-_, _%_, _/_, _<_, _≤_}
 use mathlib.Core.Bool.{Bool, true, false, cond}
 use mathlib.Core.List.{[]}
 use mathlib.Core.Option.{Option, none, some}
@@ -25,6 +25,10 @@ use Rattle.ol_value.specs.declared.pairs.Operands.the-variants as Opd
 -- a row's width and sign; 64 bits leave the number
 abbrev pub intTyOf : TypeRow → IntTy
 intTyOf t = cond (eqb (t .bits) 64) whole (cond (t .signed) (signedTo (t .bits)) (unsignedTo (t .bits)))
+
+-- a row of the table by type code, from its byte: the width, and 1 if storing narrows, and 2 if there is a sign
+abbrev pub rowOf : ℕ → TypeRow
+rowOf b = record { bits = b - b % 8; narrows = eqb (b % 2) 1; signed = eqb (b % 4 / 2) 1 }
 
 -- what a row says: the range of the integers that the type holds, if it holds any, and whether storing and casting narrow to it
 abbrev pub rowSays : TypeRow → Option IntTy × Bool

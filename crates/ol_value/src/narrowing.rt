@@ -4,7 +4,7 @@ ghost use mathlib.Core.Path.{_≡_};
 ghost use Prim.Native.Nat.{ℕ, _<_, _≤_, _^_};
 ghost use Rattle.ol_spec.specs.Numbers.{residue, signed};
 ghost use Rattle.ol_spec.specs.Types.{narrow, inRange};
-ghost use Rattle.ol_value.specs.Codes.{intTyOf, Narrow, tyOf, rowSays, rowFor};
+ghost use Rattle.ol_value.specs.Codes.{intTyOf, Narrow, tyOf, rowOf, rowSays, rowFor};
 use crate::ints::magnitude;
 
 // A type's width in bits, 0 if it holds no integers; whether an integer that is stored in it or cast to it is
@@ -15,74 +15,35 @@ pub(crate) struct TypeRow {
     pub(crate) signed: bool,
 }
 
-// The one table, by type code. 64 bits leave the number; a Char has a range, and storing does not narrow it.
-const TYPE_ROWS: [TypeRow; 13] = [
-    TypeRow {
-        bits: 0,
-        narrows: false,
-        signed: false, // Bool
-    },
-    TypeRow {
-        bits: 8,
-        narrows: true,
-        signed: true, // Int8
-    },
-    TypeRow {
-        bits: 16,
-        narrows: true,
-        signed: true, // Int16
-    },
-    TypeRow {
-        bits: 32,
-        narrows: true,
-        signed: true, // Int32
-    },
-    TypeRow {
-        bits: 64,
-        narrows: true,
-        signed: true, // Int64
-    },
-    TypeRow {
-        bits: 8,
-        narrows: true,
-        signed: false, // Uint8
-    },
-    TypeRow {
-        bits: 16,
-        narrows: true,
-        signed: false, // Uint16
-    },
-    TypeRow {
-        bits: 32,
-        narrows: true,
-        signed: false, // Uint32
-    },
-    TypeRow {
-        bits: 64,
-        narrows: true,
-        signed: false, // Uint64
-    },
-    TypeRow {
-        bits: 0,
-        narrows: false,
-        signed: false, // Float32
-    },
-    TypeRow {
-        bits: 0,
-        narrows: false,
-        signed: false, // Float64
-    },
-    TypeRow {
-        bits: 8,
-        narrows: false,
-        signed: false, // Char
-    },
-    TypeRow {
-        bits: 0,
-        narrows: false,
-        signed: false, // Enum
-    },
+// The one table, by type code, a row in a byte: the width, which is a multiple of 8, and 1 if storing narrows, and 2 if
+// there is a sign. 64 bits leave the number; a Char has a range, and storing does not narrow it. Rows of three fields
+// would be copied to the stack at each use.
+const TYPE_ROWS: [u8; 13] = [
+    0, // Bool
+    11, // Int8
+    19, // Int16
+    35, // Int32
+    67, // Int64
+    9, // Uint8
+    17, // Uint16
+    33, // Uint32
+    65, // Uint64
+    0, // Float32
+    0, // Float64
+    8, // Char
+    0, // Enum
 ];
+
+// A row of the table.
+fn unpacked(b: u8) -> TypeRow
+    ensures { λ r. ⌜ r ≡ rowOf b ⌝ }
+{
+    TypeRow {
+        bits: b - b % 8,
+        narrows: b % 2 == 1,
+        signed: b % 4 / 2 == 1,
+    }
+}
 
 // The row of the type with this code; a code above 12 is read as an enum's.
 pub(crate) fn type_row(code: u8) -> TypeRow
@@ -90,13 +51,9 @@ pub(crate) fn type_row(code: u8) -> TypeRow
 {
     let c = code as usize;
     if c < 13 {
-        TYPE_ROWS[c]
+        unpacked(TYPE_ROWS[c])
     } else {
-        TypeRow {
-            bits: 0,
-            narrows: false,
-            signed: false,
-        }
+        unpacked(0)
     }
 }
 
