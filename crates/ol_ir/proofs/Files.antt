@@ -20,6 +20,7 @@ use Rattle.ol_ir.specs.declared.Next.{Next}
 use Rattle.ol_ir.specs.declared.Next.the-variants as Nxt
 use Rattle.ol_ir.specs.declared.Counted.{Counted}
 use Rattle.ol_ir.specs.declared.Counted.the-variants as Cnt
+use Rattle.ol_ir.proofs.Sizes.{never}
 use Rattle.ol_ir.proofs.Bytes.{byte-in, byte-out}
 
 -- ---- so many items are a list of that length
@@ -113,9 +114,6 @@ file-after s f end e =
     tested short (λ z. some (omega arith)) (eqb (getD s 0 0) 1) refl))
     (λ long. absurd (never (sym (file-long s (omega arith)) ∙ e)))
   where
-    never : {a b : ℕ} → fault a b ≡ got f end → ⊥
-    never h = let z : _≡_ {A = ℕ} 0 1 = cc in omega arith
-
     tested : length s ≤ 32768 → (length s ≡ 0 → ⊥) → (b : Bool) → eqb (getD s 0 0) 1 ≡ b → afterFormat s base ≡ got f end
     tested short some true h = sym (file-known s short some (eqb-true (getD s 0 0) 1 h)) ∙ e
     tested short some false h = absurd (never (sym (file-unknown s short some (eqb-false (getD s 0 0) 1 h)) ∙ e))

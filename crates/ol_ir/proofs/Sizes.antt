@@ -49,7 +49,7 @@ module _ {A : Type 0} (s : List ℕ) where
   given : (a : A) (P : A → ℕ → Type 0) → P a 0 → Takes s (give a) P
   given a P p = record { is = λ at b n e. let z : n ≡ at = cc in record { size = 0; ends = omega arith; holds = subst (λ c. P c 0) (same-item e) p; inside = λ i. omega arith } }
 
-never : {A : Type 0} {a b n : ℕ} {x : A} → fault a b ≡ got x n → ⊥
+pub never : {A : Type 0} {a b n : ℕ} {x : A} → fault a b ≡ got x n → ⊥
 never e = let z : _≡_ {A = ℕ} 0 1 = cc in omega arith
 
 one-taken : (s : List ℕ) (at : ℕ) → at < length s → Taken s at (at + 1) (λ m. m ≡ 1)

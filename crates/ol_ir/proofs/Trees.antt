@@ -19,10 +19,7 @@ use Rattle.ol_spec.proofs.Offsets.{steps, same-end, same-item}
 use Rattle.ol_ir.specs.Heads.{headBody, headR}
 use Rattle.ol_tables.specs.Heads.{codeOf, headSize, partsOf}
 use Rattle.ol_ir.proofs.Bytes.{coded-is, coded-none, coded-end}
-use Rattle.ol_ir.proofs.Sizes.{Takes, takes-byte, takes-number, takes-coded, takes-count, takes-exprs, takes-ty, takes-expr}
-
-never : {A : Type 0} {a b n : ℕ} {x : A} → fault a b ≡ got x n → ⊥
-never e = let z : _≡_ {A = ℕ} 0 1 = cc in omega arith
+use Rattle.ol_ir.proofs.Sizes.{never, Takes, takes-byte, takes-number, takes-coded, takes-count, takes-exprs, takes-ty, takes-expr}
 
 -- ---- more levels read what fewer read
 
