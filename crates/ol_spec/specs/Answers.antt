@@ -5,6 +5,8 @@ use Rattle.ol_spec.specs.declared.Outcome.{Outcome}
 use Rattle.ol_spec.specs.declared.Outcome.the-variants as Out
 use Rattle.ol_spec.specs.declared.Verdict.{Verdict}
 use Rattle.ol_spec.specs.declared.Verdict.the-variants as Adm
+use Rattle.ol_spec.specs.declared.Measured.{Measured}
+use Rattle.ol_spec.specs.declared.Measured.the-variants as Mea
 use Rattle.ol_spec.specs.declared.Sorted.{Sorted}
 use Rattle.ol_spec.specs.declared.Sorted.the-variants as Sort
 use Rattle.ol_spec.specs.declared.Started.{Started}
@@ -26,6 +28,10 @@ verdictFault (Adm.Refused x) = x
 abbrev pub verdictLength : Verdict → ℕ
 verdictLength (Adm.Admitted n) = n
 verdictLength (Adm.Refused x) = 0
+
+abbrev pub measuredFault : Measured → Fault
+measuredFault (Mea.Done l) = noFault
+measuredFault (Mea.Refused x) = x
 
 abbrev pub sortedFault : Sorted → Fault
 sortedFault Sort.Done = noFault

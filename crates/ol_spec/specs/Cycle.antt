@@ -1,4 +1,4 @@
--- The public calls as functions on bytes: the ordering, the start and the cycle. Each gives its answer, and what every buffer holds that it was lent to write.
+-- The public calls as functions on bytes: the lengths, the ordering, the start and the cycle. Each gives its answer, and what every buffer holds that it was lent to write.
 use Prim.Native.Nat.{ℕ, _+_, _*_}
 use mathlib.Core.Bool.{Bool, true, false, not, _&&_}
 use mathlib.Core.List.{List, _++_}
@@ -19,12 +19,28 @@ use Rattle.ol_spec.specs.State.{globalsOf, freshState, goodState, goodIn
 use Rattle.ol_spec.specs.declared.Value.{Value}
 use Rattle.ol_spec.specs.Answers.{faultAt, outcomeNumber}
 use Rattle.ol_spec.specs.declared.Outcome.the-variants as Out
+use Rattle.ol_spec.specs.declared.Measured.{Measured}
+use Rattle.ol_spec.specs.declared.Measured.the-variants as Mea
 use Rattle.ol_spec.specs.declared.Sorted.{Sorted}
 use Rattle.ol_spec.specs.declared.Sorted.the-variants as Sort
 use Rattle.ol_spec.specs.declared.Started.{Started}
 use Rattle.ol_spec.specs.declared.Started.the-variants as Start
 use Rattle.ol_spec.specs.declared.Cycled.{Cycled}
 use Rattle.ol_spec.specs.declared.Cycled.the-variants as Cyc
+
+-- ---- the lengths: 1 to 14, then 3 at place 0 for an absent node
+
+abbrev pub measureNode : File → Option Node → Measured
+measureNode f none = Mea.Refused (faultAt 3 0)
+measureNode f (some n) = Mea.Done (record { state = stateSize f; inputs = 9 * length (main f .inputs); values = 9 * length (variables (main f)); equations = length (n .equations) })
+
+abbrev pub measure : Judged → ℕ → Measured
+measure (refused n p) k = Mea.Refused (faultAt n p)
+measure (admitted f vs) k = measureNode f (getElem? (f .nodes) k)
+
+-- the file's bytes, and the number of the node whose equations are counted
+unfoldable pub lengths : Loader → List ℕ → ℕ → Measured
+lengths ld s k = measure (judge ld s) k
 
 -- ---- the ordering: 1 to 5, 3 at place 0 for an absent node, then 11, then 17. Entry k gets the index of the equation that runs k-th
 

@@ -1,4 +1,4 @@
--- the public calls: the ordering, the start, the cycle; each answer's number and place; demand 3
+-- the public calls: the lengths, the ordering, the start, the cycle; each answer's number and place; demand 3
 pub mod Cycle
 pub mod Answers
 pub mod Faults

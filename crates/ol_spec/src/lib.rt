@@ -46,6 +46,20 @@ pub enum Verdict {
     Refused(Fault),
 }
 
+// The lengths that a caller needs: in bytes of the state, of a cycle's inputs and of its values; and how many equations a node has.
+pub struct Lengths {
+    pub state: usize,
+    pub inputs: usize,
+    pub values: usize,
+    pub equations: usize,
+}
+
+// What is answered where the lengths are asked for.
+pub enum Measured {
+    Done(Lengths),
+    Refused(Fault),
+}
+
 // What the ordering answers.
 pub enum Sorted {
     Done,
