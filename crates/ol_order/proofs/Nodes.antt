@@ -21,6 +21,9 @@ use Rattle.ol_spec.specs.declared.Limits.{Limits}
 use Rattle.ol_spec.specs.declared.Sorted.{Sorted}
 use Rattle.ol_order.specs.Tables.{equationIn, nodeIn, equationAt, nodeAt, equationsAt, orderIf, orderUnless, orderOf}
 use Rattle.ol_order.specs.Post.{Readable, NodeReads}
+use Rattle.ol_order.specs.Counts.{equationsIn, equationsOf}
+use Rattle.ol_ir.specs.Nexts.{countedOf}
+use Rattle.ol_ir.specs.Nodes.{equationsR}
 use Rattle.ol_ir.specs.Walks.{placeOf, loadedOf}
 use Rattle.ol_ir.specs.declared.Counted.{Counted}
 use Rattle.ol_ir.specs.declared.Counted.the-variants as Cnt
@@ -30,6 +33,7 @@ use Rattle.ol_ir.proofs.Bytes.{get-out}
 use Rattle.ol_ir.proofs.Files.{file-after}
 use Rattle.ol_ir.proofs.Items.{equation-read, few-equations}
 use Rattle.ol_ir.proofs.Load.{node-read, few-nodes}
+use Rattle.ol_ir.proofs.Skips.{starts-told}
 
 -- ---- placed items
 
@@ -168,6 +172,9 @@ module _ (s : List ℕ) {x : Loaded} (e : x ≡ loadedOf (readFile s relayLoader
   unfolding ordering
   order-refused {f} g = sym (ap (λ r. orderRead r node buf) (loaded-not (readFile s relayLoader) f (sym g ∙ e)))
 
+  pub count-refused : {f : Fault} → x ≡ Ldd.Refused f → 0 ≡ equationsOf (readFile s relayLoader) node
+  count-refused {f} g = sym (ap (λ r. equationsOf r node) (loaded-not (readFile s relayLoader) f (sym g ∙ e)))
+
   module _ {enums k : ℕ} (g : x ≡ Ldd.Nodes enums k) where
     abbrev loaded : (f : File) × (end : ℕ) × (readFile s relayLoader ≡ got f end) × (length (f .enums) ≡ enums) × (length (f .nodes) ≡ k)
     loaded = loaded-file (readFile s relayLoader) enums k (sym g ∙ e)
@@ -179,6 +186,9 @@ module _ (s : List ℕ) {x : Loaded} (e : x ≡ loadedOf (readFile s relayLoader
     pub order-absent : k ≤ node → noOrder 3 0 buf ≡ ordering relayLoader s node buf
     unfolding ordering
     order-absent h = sym (ap (λ r. orderRead r node buf) (loaded .2) ∙ ap (λ o. orderNode o buf) (get-out (placedNodes (loaded .0)) node (omega (arith, long-nodes))))
+
+    pub count-absent : k ≤ node → 0 ≡ equationsOf (readFile s relayLoader) node
+    count-absent h = sym (ap (λ r. equationsOf r node) (loaded .2) ∙ ap equationsIn (get-out (placedNodes (loaded .0)) node (omega (arith, long-nodes))))
 
     pub nodes-few : k ≤ 32
     nodes-few = omega (arith, few-nodes s base (loaded .0) (loaded .1) (file-after s (loaded .0) (loaded .1) (loaded .2)), loaded .4)
@@ -212,6 +222,13 @@ module _ (s : List ℕ) {x : Loaded} (e : x ≡ loadedOf (readFile s relayLoader
       order-present l b =
           ap (λ n. orderNode (some (getD t node 0, n)) buf) (node-is l b)
           ∙ (ap (λ p. orderNode (some (p, entry .1)) buf) place-is ∙ sym (ap (λ r. orderRead r node buf) (loaded .2) ∙ ap (λ o. orderNode o buf) (entry .2)))
+
+      pub count-present : (l : Limits) → l ≡ base → {y : Counted} {n q : ℕ} → y ≡ countedOf (equationsR s l enums (getD t node 0)) → y ≡ Cnt.Items n q → n ≡ equationsOf (readFile s relayLoader) node
+      count-present l b {n = n} {q} u v =
+          let a = node-got l b in
+          let is : Cnt.Items n q ≡ Cnt.Items (length (entry .1 .equations)) (equationsStart (getD t node 0) (entry .1) + 1) = sym v ∙ starts-told s l enums (getD t node 0) (entry .1) (a .0) (a .1) u in
+          let same : n ≡ length (entry .1 .equations) = cc in
+          same ∙ sym (ap (λ r. equationsOf r node) (loaded .2) ∙ ap equationsIn (entry .2))
 
 -- what the ordering's call gives: the answer, the buffer, and the answer's number and place
 pub as-told : {r : Sorted} {b : List ℕ} {v w : OrderingCall} → r ≡ v .answer → b ≡ v .buffer → v ≡ w

@@ -1,3 +1,4 @@
 pub mod Tables
 pub mod Post
 pub mod Orders
+pub mod Counts
