@@ -7,4 +7,5 @@ pub mod Begins
 pub mod Reading
 pub mod Starts
 pub mod Cycles
+pub mod Measures
 pub mod Serving

@@ -8,12 +8,11 @@ use lib.ListN.{length, take, length-map}
 use lib.Seq.{length-take-le}
 use Rattle.ol_spec.specs.Limits.{relayLoader}
 use Rattle.ol_spec.specs.Syntax.{constantName}
-use Rattle.ol_spec.specs.Answers.{verdictFault, verdictLength}
+use Rattle.ol_spec.specs.Answers.{measuredFault}
 use Rattle.ol_spec.specs.Admission as Adm
-use Rattle.ol_spec.specs.Cycle.{StartCall, CycleCall, startJudged, cycleJudged}
+use Rattle.ol_spec.specs.Cycle.{StartCall, CycleCall, measure, lengths, startJudged, cycleJudged}
 use Rattle.ol_spec.specs.declared.Fault.{Fault}
-use Rattle.ol_spec.specs.declared.Verdict.{Verdict}
-use Rattle.ol_spec.specs.declared.Verdict.the-variants as Ver
+use Rattle.ol_spec.specs.declared.Measured.{Measured}
 use Rattle.ol_spec.specs.declared.Started.{Started}
 use Rattle.ol_spec.specs.declared.Cycled.{Cycled}
 use Rattle.ol_spec.specs.declared.Cycled.the-variants as Cyc
@@ -22,10 +21,10 @@ use Rattle.ol_tables.specs.Tables.{Variants}
 use Rattle.ol_tables.specs.Stands.{FileStands}
 use Rattle.ol_check.proofs.VariantLaws.{variants-tell}
 use Rattle.ol_frame.specs.Nodes.{Running}
-use Rattle.ol_sim.specs.Calls.{AdmitsAs, StartsAs, CyclesAs}
+use Rattle.ol_sim.specs.Calls.{MeasuresAs, StartsAs, CyclesAs}
 use Rattle.ol_sim.specs.Judging.{Admits, Empty, namesAfter, whole}
 use Rattle.ol_sim.specs.Answering.{AnswerReady}
-use Rattle.ol_sim.specs.Serving.{startedOf, cycledOf, answerOf, Serves}
+use Rattle.ol_sim.specs.Serving.{measuredOf, startedOf, cycledOf, answerOf, Serves}
 use Rattle.ol_sim.specs.declared.calls.Call.{Call}
 use Rattle.ol_sim.specs.declared.calls.Call.the-variants as Asked
 use Rattle.ol_sim.specs.declared.calls.Answer.{Answer}
@@ -33,38 +32,40 @@ use Rattle.ol_sim.specs.declared.calls.Answer.the-variants as Ans
 use Rattle.ol_sim.proofs.Starts.{starts-refused, starts-whole, main-operator}
 use Rattle.ol_sim.proofs.Cycles.{cycle-refused, cycle-whole}
 
--- a verdict that is admission's
-admits-as : {w r : Verdict} → r ≡ w → AdmitsAs w r
-admits-as e = record { answered = e; told = ap verdictFault e; long = ap verdictLength e }
+-- an answer that is the lengths'
+measures-as : {w r : Measured} → r ≡ w → MeasuresAs w r
+measures-as e = record { answered = e; told = ap measuredFault e }
 
 module _ (s old ins new vals : List ℕ) where
   -- a refusal by judging writes nothing
   pub refused-serves : {x : Fault} → Adm.judge relayLoader s ≡ Adm.refused (x .number) (x .place) → (c : Call) → Serves c s old ins new vals (Ans.Refused x) new vals
-  refused-serves {x} e Asked.Admit = record { is = (admits-as (sym (ap Adm.verdict e)), refl, refl) }
+  unfolding lengths
+  refused-serves e (Asked.Lengths k) = record { is = (measures-as (sym (ap (λ j. measure j k) e)), refl, refl) }
   refused-serves e Asked.Start = record { is = (starts-refused s new e, refl) }
   refused-serves e Asked.Cycle = record { is = cycle-refused s old ins new vals e }
 
   module _ (whole-is : Adm.judge relayLoader s ≡ whole (fileAt s)) where
-    pub admit-serves : {c : Call} {size : ℕ} → c ≡ Asked.Admit → size ≡ Adm.stateSize (fileAt s) → Serves c s old ins new vals (Ans.Done size) new vals
-    admit-serves {size = size} e z = subst (λ c. Serves c s old ins new vals (Ans.Done size) new vals) (sym e) (record { is = (admits-as (ap Ver.Admitted z ∙ sym (ap Adm.verdict whole-is)), refl, refl) })
+    pub measure-serves : {c : Call} {r : Answer} {k : ℕ} → c ≡ Asked.Lengths k → measuredOf r ≡ measure (whole (fileAt s)) k → Serves c s old ins new vals r new vals
+    unfolding lengths
+    measure-serves {r = r} {k} e q = subst (λ c. Serves c s old ins new vals r new vals) (sym e) (record { is = (measures-as (q ∙ sym (ap (λ j. measure j k) whole-is)), refl, refl) })
 
     pub start-serves : {c : Call} {r : Answer} {n : List ℕ} → c ≡ Asked.Start → StartsAs (startJudged (whole (fileAt s)) new) (startedOf r) n → Serves c s old ins new vals r n vals
     start-serves {r = r} {n} e h = subst (λ c. Serves c s old ins new vals r n vals) (sym e) (record { is = (starts-whole s new whole-is h, refl) })
 
-    pub cycle-serves : {c : Call} {k : Cycled} {r : Answer} {n v : List ℕ} (size : ℕ) → c ≡ Asked.Cycle → r ≡ answerOf size k → CyclesAs (cycleJudged (whole (fileAt s)) old ins new vals) k n v → Serves c s old ins new vals r n v
-    cycle-serves {k = k} {r} {n} {v} size e q h =
+    pub cycle-serves : {c : Call} {k : Cycled} {r : Answer} {n v : List ℕ} → c ≡ Asked.Cycle → r ≡ answerOf k → CyclesAs (cycleJudged (whole (fileAt s)) old ins new vals) k n v → Serves c s old ins new vals r n v
+    cycle-serves {k = k} {r} {n} {v} e q h =
         subst (λ c. Serves c s old ins new vals r n v) (sym e)
-        (record { is = cycle-whole s old ins new vals whole-is (subst (λ x. CyclesAs (cycleJudged (whole (fileAt s)) old ins new vals) x n v) (sym (ap cycledOf q ∙ back size k)) h) })
+        (record { is = cycle-whole s old ins new vals whole-is (subst (λ x. CyclesAs (cycleJudged (whole (fileAt s)) old ins new vals) x n v) (sym (ap cycledOf q ∙ back k)) h) })
       where
-        back : (size : ℕ) (k : Cycled) → cycledOf (answerOf size k) ≡ k
-        back size Cyc.Answered = refl
-        back size (Cyc.Stopped x) = refl
-        back size (Cyc.Refused x) = refl
+        back : (k : Cycled) → cycledOf (answerOf k) ≡ k
+        back Cyc.Answered = refl
+        back (Cyc.Stopped x) = refl
+        back (Cyc.Refused x) = refl
 
 -- ---- the answer, as each public function gives it
 
-pub admission-answers : {w r v : Verdict} → r ≡ v → AdmitsAs w v → AdmitsAs w r
-admission-answers {w} e h = subst (AdmitsAs w) (sym e) h
+pub measure-answers : {w r v : Measured} → r ≡ v → MeasuresAs w v → MeasuresAs w r
+measure-answers {w} e h = subst (MeasuresAs w) (sym e) h
 
 pub start-answers : {w : StartCall} {r v : Started} {t : List ℕ} → r ≡ v → StartsAs w v t → StartsAs w r t
 start-answers {w} {t = t} e h = subst (λ x. StartsAs w x t) (sym e) h

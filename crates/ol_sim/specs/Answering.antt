@@ -6,10 +6,18 @@ use lib.ListN.{length}
 use Rattle.ol_spec.specs.Syntax.{Operator}
 use Rattle.ol_spec.specs.Admission.{stateSize}
 use Rattle.ol_tables.specs.At.{fileAt}
-use Rattle.ol_tables.specs.Tables.{nodeOf}
+use Rattle.ol_tables.specs.Stands.{FileStands}
+use Rattle.ol_tables.specs.Tables.{Rows, nodeOf}
 use Rattle.ol_frame.specs.Nodes.{Running}
 use Rattle.ol_run.specs.Admitted.{Admitted}
 use Rattle.ol_sim.specs.Judging.{Held}
+
+-- an admitted file: its rows, the length of its state, and its main node
+pub record MeasureReady (s rows : List ℕ) (size main : ℕ) : Type 0 where
+  pub stands : FileStands s (fileAt s)
+  pub rowed : Rows (fileAt s) rows
+  pub sized : size ≡ stateSize (fileAt s)
+  pub last : suc main ≡ length (fileAt s .nodes)
 
 -- an admitted file: its tables, the length of its state, its constants' cells, and its main node
 pub record AnswerReady (s rows tab consts : List ℕ) (size main : ℕ) : Type 0 where

@@ -2,12 +2,18 @@
 use Prim.Native.Nat.{ℕ}
 use mathlib.Core.List.{List}
 use mathlib.Core.Path.{_≡_}
-use Rattle.ol_spec.specs.Answers.{verdictFault, verdictLength, sortedFault, startedFault, cycledFault}
+use Rattle.ol_spec.specs.Answers.{measuredFault, verdictFault, verdictLength, sortedFault, startedFault, cycledFault}
 use Rattle.ol_spec.specs.Cycle.{OrderingCall, StartCall, CycleCall}
+use Rattle.ol_spec.specs.declared.Measured.{Measured}
 use Rattle.ol_spec.specs.declared.Verdict.{Verdict}
 use Rattle.ol_spec.specs.declared.Sorted.{Sorted}
 use Rattle.ol_spec.specs.declared.Started.{Started}
 use Rattle.ol_spec.specs.declared.Cycled.{Cycled}
+
+-- the lengths
+pub record MeasuresAs (w r : Measured) : Type 0 where
+  pub answered : r ≡ w
+  pub told : measuredFault r ≡ measuredFault w
 
 -- the admission: the verdict, with the state's length
 pub record AdmitsAs (w r : Verdict) : Type 0 where

@@ -1,32 +1,49 @@
-// The relay's public entry: admission, the start and the cycle. Each call judges the file itself.
+// The relay's public entry: the lengths, admission, the ordering, the start and the cycle. Each call judges the file itself.
 mod calls; // calls.rt: what is asked, and what is answered
 mod serve; // serve.rt: the one way of every call: load, choose the tables' lengths, judge, answer
 mod judge; // judge.rt: faults 6 to 14 in their order
+mod measuring; // measuring.rt: the lengths
 mod starting; // starting.rt: the fresh state
 mod cycling; // cycling.rt: a cycle of the main instance
 
 use calls::Call;
 use calls::cycled_of;
+use calls::measured_of;
 use calls::started_of;
 use calls::verdict_of;
 use ol_spec::Cycled;
+use ol_spec::Measured;
 use ol_spec::Sorted;
 use ol_spec::Started;
 use ol_spec::Verdict;
 use serve::serve;
 ghost use Rattle.ol_spec.specs.Limits.{relayLoader};
 ghost use Rattle.ol_spec.specs.Admission.{admission};
-ghost use Rattle.ol_spec.specs.Cycle.{ordering, start, cycle};
-ghost use Rattle.ol_sim.specs.Calls.{AdmitsAs, OrdersAs, StartsAs, CyclesAs};
+ghost use Rattle.ol_spec.specs.Cycle.{lengths, ordering, start, cycle};
+ghost use Rattle.ol_sim.specs.Calls.{MeasuresAs, AdmitsAs, OrdersAs, StartsAs, CyclesAs};
 
-// Whether a file is admitted: the length of its state, or its first fault.
-pub fn admission(file: &[u8]) -> Verdict
-    ensures { λ r. ⌜ AdmitsAs (admission relayLoader (now (file .entry))) r ⌝ }
+// The lengths that a caller needs: of the state, of a cycle's inputs and of its values, in bytes; and how many equations a node has.
+pub fn lengths(file: &[u8], node: usize) -> Measured
+    ensures { λ r. ⌜ MeasuresAs (lengths relayLoader (now (file .entry)) node) r ⌝ }
 {
     let none = [0u8; 0];
     let mut new = [0u8; 0];
     let mut values = [0u8; 0];
-    verdict_of(serve(Call::Admit, file, &none, &none, &mut new, &mut values))
+    measured_of(serve(
+        Call::Lengths(node),
+        file,
+        &none,
+        &none,
+        &mut new,
+        &mut values,
+    ))
+}
+
+// Whether a file is admitted: the length of its state, or its first fault. A file that is admitted has a node 0.
+pub fn admission(file: &[u8]) -> Verdict
+    ensures { λ r. ⌜ AdmitsAs (admission relayLoader (now (file .entry))) r ⌝ }
+{
+    verdict_of(lengths(file, 0))
 }
 
 // The order in which a node's equations run: entry k of the buffer gets the file index of the

@@ -5,6 +5,7 @@ use crate::calls::answer_of;
 use crate::cycling::cycle_unless;
 use crate::judge::Judged;
 use crate::judge::judge_names;
+use crate::measuring::measure;
 use crate::starting::start_unless;
 use ol_check::Found;
 use ol_check::clash::sort_file;
@@ -50,24 +51,21 @@ fn answer(
     ensures { λ r. ⌜ Serves call (now (file .entry)) (now (old .entry)) (now (inputs .entry)) (now (new .entry)) (now (values .entry)) r (now (new .exit)) (now (values .exit)) ⌝ }
 {
     match call {
-        Call::Admit => Answer::Done(size),
+        Call::Lengths(node) => measure(file, rows, size, main, node),
         Call::Start => start_unless(file, tab, rows, consts, size, main, new),
-        Call::Cycle => answer_of(
+        Call::Cycle => answer_of(cycle_unless(
+            file,
+            tab,
+            rows,
+            names,
+            consts,
             size,
-            cycle_unless(
-                file,
-                tab,
-                rows,
-                names,
-                consts,
-                size,
-                main,
-                old,
-                inputs,
-                new,
-                values,
-            ),
-        ),
+            main,
+            old,
+            inputs,
+            new,
+            values,
+        )),
     }
 }
 

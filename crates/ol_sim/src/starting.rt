@@ -1,5 +1,6 @@
 // The start: the fresh state.
 use crate::calls::Answer;
+use crate::calls::no_lengths;
 use ol_frame::copies::copy;
 use ol_spec::Fault;
 use ol_state::fresh::write_fresh;
@@ -45,7 +46,7 @@ pub(crate) fn start_unless(
 {
     if state.len() == size {
         write_start(file, tab, rows, consts, main, state);
-        Answer::Done(size)
+        Answer::Done(no_lengths())
     } else {
         Answer::Refused(Fault {
             number: 17,

@@ -8,30 +8,21 @@ use Rattle.ol_sim.proofs.calls.verdict_of.Tie as tie
 use Rattle.ol_sim.proofs.calls.verdict_of.Reads as reads
 use Rattle.ol_sim.proofs.calls.verdict_of.Lts as lts
 
--- src/calls.rt:28:22
-enum-known-a : tie.Need-enum-known-a
-enum-known-a c = search needs
+-- src/calls.rt:53:24
+enum-known-m : tie.Need-enum-known-m
+enum-known-m c = search needs
 
--- src/calls.rt:29:25
-enum-known-a-2 : tie.Need-enum-known-a-2
-enum-known-a-2 c = search needs
+-- src/calls.rt:54:27
+enum-known-m-2 : tie.Need-enum-known-m-2
+enum-known-m-2 c = search needs
 
--- src/calls.rt:30:25
-enum-known-a-3 : tie.Need-enum-known-a-3
-enum-known-a-3 c = search needs
-
--- src/calls.rt:24:1
+-- src/calls.rt:49:1
 returns : tie.Need-returns
-returns c = sym (ap verdictOf (c .before .a .given .1))
+returns c = sym (ap verdictOf (c .before .m .given .1))
 
--- src/calls.rt:24:1
+-- src/calls.rt:49:1
 returns-2 : tie.Need-returns-2
-returns-2 c = sym (ap verdictOf (c .before .a2 .given .1))
-
--- src/calls.rt:24:1
-returns-3 : tie.Need-returns-3
-returns-3 c = sym (ap verdictOf (c .before .a3 .given .1))
+returns-2 c = sym (ap verdictOf (c .before .m2 .given .1))
 
 pub verdict-of-spec : {M : Type 1} → statement M
-verdict-of-spec =
-    tie.close (tie.spec enum-known-a enum-known-a-2 enum-known-a-3 returns returns-2 returns-3)
+verdict-of-spec = tie.close (tie.spec enum-known-m enum-known-m-2 returns returns-2)
