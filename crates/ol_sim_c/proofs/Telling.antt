@@ -1,20 +1,30 @@
 -- From the public entry's contracts to what C is told.
 use Prim.Native.Nat.{ℕ}
 use mathlib.Core.List.{List}
-use mathlib.Core.Path.{_≡_, ap, _∙_}
-use Rattle.ol_spec.specs.Answers.{verdictFault, sortedFault, startedFault, cycledFault}
+use mathlib.Core.Path.{_≡_, sym, ap, _∙_}
+use Rattle.ol_spec.specs.Answers.{measuredFault, verdictFault, sortedFault, startedFault, cycledFault}
 use Rattle.ol_spec.specs.Cycle.{OrderingCall, StartCall, CycleCall}
 use Rattle.ol_spec.specs.declared.Fault.{Fault}
+use Rattle.ol_spec.specs.declared.Lengths.{Lengths}
+use Rattle.ol_spec.specs.declared.Measured.{Measured}
 use Rattle.ol_spec.specs.declared.Verdict.{Verdict}
 use Rattle.ol_spec.specs.declared.Sorted.{Sorted}
 use Rattle.ol_spec.specs.declared.Started.{Started}
 use Rattle.ol_spec.specs.declared.Cycled.{Cycled}
-use Rattle.ol_sim.specs.Calls.{OrdersAs, StartsAs, CyclesAs}
-use Rattle.ol_sim_c.specs.Told.{Tells, sizeAfter, Admits, Orders, Starts, Cycles}
+use Rattle.ol_sim.specs.Calls.{MeasuresAs, OrdersAs, StartsAs, CyclesAs}
+use Rattle.ol_sim_c.specs.Told.{Tells, sizeAfter, lengthsAfter, Measures, Admits, Orders, Starts, Cycles}
 
 -- a fault told is an equal fault told
 pub tells-same : {x : Fault} {number place : ℕ} → Tells x number place → (y : Fault) → x ≡ y → Tells y number place
 tells-same t y e = record { number-is = t .number-is ∙ ap (λ (z : Fault). z .number) e; place-is = t .place-is ∙ ap (λ (z : Fault). z .place) e }
+
+-- an answer of this case, with what is written there
+pub measures :
+    {w m d : Measured} {x : Fault} {number place : ℕ} (before after : Lengths) → MeasuresAs w m → m ≡ d → x ≡ measuredFault d → after ≡ lengthsAfter d before → Tells x number place
+    → Measures w before number place after
+measures {w} {m} {d} before after h e f a t =
+    let is : d ≡ w = sym e ∙ h .answered in
+    record { told = tells-same t (measuredFault w) (f ∙ ap measuredFault is); lengths-are = a ∙ ap (λ x. lengthsAfter x before) is }
 
 pub admits :
     {x : Fault} {number place : ℕ} → (v w : Verdict) (before size : ℕ) → v ≡ w → size ≡ sizeAfter v before → x ≡ verdictFault v → Tells x number place

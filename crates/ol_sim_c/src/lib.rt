@@ -1,6 +1,7 @@
 // The public entry for C: include/ol_sim.h. The number is the result, 0 where there is no fault; the place goes through a pointer.
 use ol_spec::Cycled;
 use ol_spec::Fault;
+use ol_spec::Measured;
 use ol_spec::Sorted;
 use ol_spec::Started;
 use ol_spec::Verdict;
@@ -8,8 +9,8 @@ ghost use mathlib.Core.Path.{_≡_};
 ghost use Rattle.ol_spec.specs.Limits.{relayLoader};
 ghost use Rattle.ol_spec.specs.Admission.{admission};
 ghost use Rattle.ol_spec.specs.Answers.{verdictFault, sortedFault, startedFault, cycledFault};
-ghost use Rattle.ol_spec.specs.Cycle.{ordering, start, cycle};
-ghost use Rattle.ol_sim_c.specs.Told.{Tells, sizeAfter, Admits, Orders, Starts, Cycles};
+ghost use Rattle.ol_spec.specs.Cycle.{lengths, ordering, start, cycle};
+ghost use Rattle.ol_sim_c.specs.Told.{Tells, sizeAfter, Measures, Admits, Orders, Starts, Cycles};
 
 fn no_fault() -> Fault
     ensures { λ r. ⌜ r ≡ record { number = 0; place = 0 } ⌝ }
@@ -73,6 +74,31 @@ fn tell(f: Fault, place: &mut usize) -> u8
 {
     *place = f.place;
     f.number
+}
+
+// The lengths that a caller needs, with the number of a node whose equations are counted. Of a refusal only the place is written.
+#[no_mangle]
+pub extern "C" fn ol_sim_lengths(
+    file: &[u8],
+    node: usize,
+    place: &mut usize,
+    state: &mut usize,
+    inputs: &mut usize,
+    values: &mut usize,
+    equations: &mut usize,
+) -> u8
+    ensures { λ r. ⌜ Measures (lengths relayLoader (now (file .entry)) node) (record { state = now (state .entry); inputs = now (inputs .entry); values = now (values .entry); equations = now (equations .entry) }) r (now (place .exit)) (record { state = now (state .exit); inputs = now (inputs .exit); values = now (values .exit); equations = now (equations .exit) }) ⌝ }
+{
+    match ol_sim::lengths(file, node) {
+        Measured::Done(l) => {
+            *state = l.state;
+            *inputs = l.inputs;
+            *values = l.values;
+            *equations = l.equations;
+            tell(no_fault(), place)
+        }
+        Measured::Refused(f) => tell(f, place),
+    }
 }
 
 // Whether a file is admitted, with the length of its state; that of a file that is refused stays as it was.
