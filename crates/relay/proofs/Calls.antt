@@ -1,4 +1,4 @@
--- What a call is told by does not depend on what its buffers held, and buffers of the right length are found by trying.
+-- What a call is told by does not depend on what its buffers held; how long the values and the order of a file are.
 use Prim.Native.Nat.{ℕ, zero, suc, _+_, _*_, _≤_, _<_, _-_, min}
 use mathlib.Core.Bool.{Bool, true, false, not, _&&_}
 use mathlib.Core.List.{List, [], _∷_}
@@ -21,24 +21,25 @@ use Rattle.ol_spec.specs.Admission.{Judged, refused, admitted, judge, verdict, 
 use Rattle.ol_spec.specs.State.{globalsOf, goodState, goodRecord, goodInputs}
 use Rattle.ol_spec.specs.Cell.{cells}
 use Rattle.ol_spec.specs.Answers.{verdictLength}
-use Rattle.ol_spec.specs.Cycle.{OrderingCall, ordering, orderRead, orderNode, orderUnlessRing, orderFits, start, startJudged, startFits, CycleCall, cycle, cycleJudged, cycleUnless, endRun, endOn, fits17, mainRun}
+use Rattle.ol_spec.specs.Cycle.{measure, lengths, ordering, orderRead, orderNode, orderUnlessRing, orderFits, start, startJudged, startFits, CycleCall, cycle, cycleJudged, cycleUnless, endRun, endOn, fits17, mainRun}
 use Rattle.ol_spec.specs.Demand3.{Bytes, nextState}
 use Rattle.ol_spec.specs.declared.Value.{Value}
-use Rattle.ol_spec.specs.declared.Cycled.{Cycled}
-use Rattle.ol_spec.specs.declared.Cycled.the-variants as Cyc
+use Rattle.ol_spec.specs.declared.Measured.{Measured}
+use Rattle.ol_spec.specs.declared.Measured.the-variants as Mea
 use Rattle.ol_spec.specs.declared.Verdict.the-variants as Ver
-use Rattle.ol_spec.specs.declared.Sorted.{Sorted}
-use Rattle.ol_spec.specs.declared.Sorted.the-variants as Sort
 use Rattle.ol_spec.proofs.Admits.{Admits, admits}
 use Rattle.ol_spec.proofs.MainFacts.{main-at}
-use Rattle.ol_spec.proofs.Tests.{T-and, and-T, T-true, true-T, T-false, false-T, T-dec, eq-eqb}
+use Rattle.ol_spec.proofs.Tests.{T-true, T-false, eq-eqb}
 use Rattle.ol_tables.specs.At.{fileAt, itemOf, noFile}
 use Rattle.ol_tables.specs.Stands.{NodeStands, FileStands, FileReads}
 use Rattle.ol_tables.specs.Tables.{nodeOf}
 use Rattle.ol_tables.proofs.HeadsFile.{file-stands, node-at}
 use Rattle.ol_check.proofs.RowLoops.{few-variables}
-use Rattle.relay.specs.Reply.{zeros, freshOf, equationsIn, equationsOf, orderEnds, orderText, orderCall, valuesLength, endText, cycleCall}
-use Rattle.relay.specs.Kept.{Ends, refusedBy, orderBy17}
+use Rattle.ol_order.specs.Counts.{equationsIn, equationsOf}
+use Rattle.ol_sim.specs.Calls.{MeasuresAs}
+use Rattle.ol_sim.proofs.Measures.{first-lengths}
+use Rattle.relay.specs.Reply.{zeros, freshOf, orderText, valuesLength}
+use Rattle.relay.specs.Kept.{Ends}
 
 -- ---- tests
 
@@ -107,12 +108,6 @@ module _ (file old ins new new′ vals vals′ : List ℕ) where
     unless-ends false false true = record { text-is = refl; next-is = refl }
     unless-ends false false false = run-ends (mainRun f vs old ins .end) (mainRun f vs old ins)
 
-    -- where 17 does not hold of the first, 15 or 16 does, or both are lent what is right
-    unfit-ends : (a b c : Bool) → let w = cycleUnless a b true f vs old ins new vals in refusedBy (w .answer) 17 ≡ false → Ends (cycleUnless a b c f vs old ins new′ vals′) old (w .answer) (w .new) (w .values)
-    unfit-ends true b c h = record { text-is = refl; next-is = refl }
-    unfit-ends false true c h = record { text-is = refl; next-is = refl }
-    unfit-ends false false c h = let z : _≡_ {A = ℕ} 0 1 = cc in absurd (omega arith)
-
   abbrev EndsBy : Judged → Type 0
   EndsBy j = let w = cycleJudged j old ins new vals in Ends (cycleJudged j old ins new′ vals′) old (w .answer) (w .new) (w .values)
 
@@ -137,78 +132,27 @@ module _ (file old ins new new′ vals vals′ : List ℕ) where
       (λ f vs j. ap (λ n. eqb n (stateSize f) && eqb (length vals) (9 * length (variables (main f)))) hn
       ∙ ap (λ n. eqb (length new′) (stateSize f) && eqb n (9 * length (variables (main f)))) hv)
 
-  found-by : (j : Judged) → length new ≡ length new′ → length vals′ ≡ valuesLength j → refusedBy (cycleJudged j old ins new vals .answer) 17 ≡ false → EndsBy j
-  found-by (refused n p) hn hv h = record { text-is = refl; next-is = refl }
-  found-by (admitted f vs) hn hv h =
-      by-cases (T-dec (fits17 f new vals))
-      (λ t.
-      let both = T-and (eqb (length new) (stateSize f)) (eqb (length vals) (9 * length (variables (main f)))) t in
-      let t′ = and-T (eqb (length new′) (stateSize f)) (eqb (length vals′) (9 * length (variables (main f)))) (subst (λ n. T (eqb n (stateSize f))) hn (both .0)) (eq-eqb (length vals′) (9 * length (variables (main f))) hv) in
-      let equal : fits17 f new vals ≡ fits17 f new′ vals′ = T-true (fits17 f new vals) t ∙ sym (T-true (fits17 f new′ vals′) t′) in
-      alike-by (admitted f vs) (λ g ws e. let is : f ≡ g = cc in subst (λ (x : File). fits17 x new vals ≡ fits17 x new′ vals′) is equal))
-      (λ unfit.
-      subst
-      (λ c.
-      let w = cycleUnless (not (goodState f vs old)) (not (goodInputs f ins)) (not c) f vs old ins new vals in
-      refusedBy (w .answer) 17 ≡ false → Ends (cycleJudged (admitted f vs) old ins new′ vals′) old (w .answer) (w .new) (w .values))
-      (sym (T-false (fits17 f new vals) unfit)) (unfit-ends f vs (not (goodState f vs old)) (not (goodInputs f ins)) (not (fits17 f new′ vals′))) h)
+-- ---- the length of the values
 
-  -- the second is lent values of the right length, and the first is not refused with 17
-  pub found : length new ≡ length new′ → length vals′ ≡ valuesLength (judge relayLoader file) → refusedBy (first .answer) 17 ≡ false → Ends second old (first .answer) (first .new) (first .values)
-  unfolding cycle
-  found hn hv h = found-by (judge relayLoader file) hn hv h
+abbrev pub valuesIn : Measured → ℕ
+valuesIn (Mea.Done l) = l .values
+valuesIn (Mea.Refused x) = 0
 
--- ---- trying lengths
+module _ (file : List ℕ) (b : Bytes file) where
+  pub values-told : {m d : Measured} → MeasuresAs (lengths relayLoader file 0) m → m ≡ d → valuesIn d ≡ valuesLength (judge relayLoader file)
+  unfolding lengths
+  values-told h e = ap valuesIn (sym e ∙ h .answered) ∙ go (judge relayLoader file) refl
+    where
+      go : (j : Judged) → judge relayLoader file ≡ j → valuesIn (lengths relayLoader file 0) ≡ valuesLength j
+      go (refused n p) e = ap (λ x. valuesIn (measure x 0)) e
+      go (admitted f vs) e = ap valuesIn (first-lengths file b f vs e)
 
--- so many variables at least, where the state and the inputs are good
-abbrev pub AtLeast : List ℕ → List ℕ → List ℕ → ℕ → Type 0
-AtLeast file old ins k =
-    (f : File) (vs : List Value) → judge relayLoader file ≡ admitted f vs → T (goodState f vs old) → T (goodInputs f ins) → k ≤ length (variables (main f))
-
-good-length : (f : File) (vs : List Value) (old : List ℕ) → T (goodState f vs old) → length old ≡ stateSize f
-unfolding goodState
-good-length f vs old t =
-    let a = eqb (length old) (stateSize f) in
-    let b = same (take (headSize f) old) (cells vs) in
-    let c = goodRecord (globalsOf f vs) (main f) (drop (headSize f) old) in
-    eqb→eq (length old) (stateSize f) (T-and a b (T-and (a && b) c t .0) .0)
-
-run-not : (f : File) (vs : List Value) (old vals : List ℕ) (e : Ended) (u : Run) → refusedBy (endOn f old vals e (u .cells) (u .segs) .answer) 17 ≡ false
-run-not f vs old vals finished u = refl
-run-not f vs old vals (failedAt i) u = refl
-run-not f vs old vals (overflowedAt i) u = refl
-
-fits-run : (f : File) (vs : List Value) (old ins new vals : List ℕ) (a b c : Bool) → a ≡ true → b ≡ true → c ≡ true → refusedBy (cycleUnless (not a) (not b) (not c) f vs old ins new vals .answer) 17 ≡ false
-fits-run f vs old ins new vals a b c ea eb ec = rw (ea, eb, ec) (run-not f vs old vals (mainRun f vs old ins .end) (mainRun f vs old ins))
-
-pub one-more : (file old ins new vals : List ℕ) (k : ℕ) → length new ≡ length old → length vals ≡ 9 * k → refusedBy (cycle relayLoader file old ins new vals .answer) 17 ≡ true → AtLeast file old ins k → AtLeast file old ins (k + 1)
-unfolding cycle
-one-more file old ins new vals k hn hv h least f vs j gs gi =
-    let some = least f vs j gs gi in
-    by-cases (ℕ-discrete k (length (variables (main f))))
-    (λ e.
-    let fit = and-T (eqb (length new) (stateSize f)) (eqb (length vals) (9 * length (variables (main f)))) (eq-eqb (length new) (stateSize f) (hn ∙ good-length f vs old gs)) (eq-eqb (length vals) (9 * length (variables (main f))) (hv ∙ ap (λ n. 9 * n) e)) in
-    let not17 = fits-run f vs old ins new vals (goodState f vs old) (goodInputs f ins) (fits17 f new vals) (T-true (goodState f vs old) gs) (T-true (goodInputs f ins) gi) (T-true (fits17 f new vals) fit) in
-    let was : refusedBy (cycleJudged (admitted f vs) old ins new vals .answer) 17 ≡ true = subst (λ j. refusedBy (cycleJudged j old ins new vals .answer) 17 ≡ true) j h in
-    let z : _≡_ {A = ℕ} 0 1 = cc in
-    absurd (omega arith))
-    (λ ne. omega arith)
-
--- no length is right: the file, the state or the inputs are refused, with whatever values
-pub none-right : (file old ins new new′ vals vals′ : List ℕ) → Bytes file → AtLeast file old ins 113 → let w = cycle relayLoader file old ins new vals in Ends (cycle relayLoader file old ins new′ vals′) old (w .answer) (w .new) (w .values)
-unfolding cycle
-none-right file old ins new new′ vals vals′ b least = go (judge relayLoader file) refl
-  where
-    bad : (f : File) (vs : List Value) (x y c d : Bool) → (T x → T y → ⊥) → let w = cycleUnless (not x) (not y) c f vs old ins new vals in Ends (cycleUnless (not x) (not y) d f vs old ins new′ vals′) old (w .answer) (w .new) (w .values)
-    bad f vs false y c d h = record { text-is = refl; next-is = refl }
-    bad f vs true false c d h = record { text-is = refl; next-is = refl }
-    bad f vs true true c d h = absurd (h tt tt)
-
-    go : (j : Judged) → judge relayLoader file ≡ j → let w = cycleJudged j old ins new vals in Ends (cycleJudged j old ins new′ vals′) old (w .answer) (w .new) (w .values)
-    go (refused n p) e = record { text-is = refl; next-is = refl }
-    go (admitted f vs) e =
-        bad f vs (goodState f vs old) (goodInputs f ins) (not (fits17 f new vals)) (not (fits17 f new′ vals′))
-        (λ gs gi. let a = least f vs e gs gi in let c = few-main file f vs b e in omega (arith, a, c))
+  pub few-values : valuesLength (judge relayLoader file) ≤ 1008
+  few-values = go (judge relayLoader file) refl
+    where
+      go : (j : Judged) → judge relayLoader file ≡ j → valuesLength j ≤ 1008
+      go (refused n p) e = omega arith
+      go (admitted f vs) e = omega (arith, few-main file f vs b e)
 
 -- buffers that are cut to the program's
 pub cut : (file old ins new vals : List ℕ) (n v : ℕ) → Bytes file → length new ≡ 131072 → length vals ≡ 4096 → let w = cycle relayLoader file old ins (take n new) (take v vals) in Ends (cycle relayLoader file old ins (zeros n) (zeros v)) old (w .answer) (w .new) (w .values)
@@ -242,54 +186,27 @@ small-admitted file n e = small-verdict (judge relayLoader file) n (small-state 
 
 -- ---- the ordering
 
-module _ (buf buf′ : List ℕ) where
+module _ (buf buf′ : List ℕ) (same : length buf ≡ length buf′) where
   fits-by : (b : Bool) (n : Node) → orderText (orderFits b n buf) ≡ orderText (orderFits b n buf′)
   fits-by true n = refl
   fits-by false n = refl
 
-  ring-by : (o : Option ℕ) (n : ℕ × Node) → eqb (length buf) (length (n .1 .equations)) ≡ eqb (length buf′) (length (n .1 .equations)) → orderText (orderUnlessRing o n buf) ≡ orderText (orderUnlessRing o n buf′)
-  ring-by (some i) n e = refl
-  ring-by none n e = ap (λ b. orderText (orderFits b (n .1) buf)) e ∙ fits-by (eqb (length buf′) (length (n .1 .equations))) (n .1)
+  ring-by : (o : Option ℕ) (n : ℕ × Node) → orderText (orderUnlessRing o n buf) ≡ orderText (orderUnlessRing o n buf′)
+  ring-by (some i) n = refl
+  ring-by none n = ap (λ k. orderText (orderFits (eqb k (length (n .1 .equations))) (n .1) buf)) same ∙ fits-by (eqb (length buf′) (length (n .1 .equations))) (n .1)
 
-  -- the second has an entry for each equation, and the first is not refused with 17
-  found-ring : (o : Option ℕ) (n : ℕ × Node) → length buf′ ≡ length (n .1 .equations) → orderBy17 (orderUnlessRing o n buf .answer) ≡ false → orderText (orderUnlessRing o n buf) ≡ orderText (orderUnlessRing o n buf′)
-  found-ring (some i) n e h = refl
-  found-ring none n e h =
-      by-cases (T-dec (eqb (length buf) (length (n .1 .equations))))
-      (λ t. ring-by none n (T-true (eqb (length buf) (length (n .1 .equations))) t ∙ sym (eqb-same (length buf′) (length (n .1 .equations)) e)))
-      (λ unfit.
-      let was : orderBy17 (orderFits false (n .1) buf .answer) ≡ false = subst (λ b. orderBy17 (orderFits b (n .1) buf .answer) ≡ false) (T-false (eqb (length buf) (length (n .1 .equations))) unfit) h in
-      let z : _≡_ {A = ℕ} 0 1 = cc in
-      absurd (omega arith))
+  node-by : (o : Option (ℕ × Node)) → orderText (orderNode o buf) ≡ orderText (orderNode o buf′)
+  node-by none = refl
+  node-by (some n) = ring-by (unplaced (n .1 .equations)) n
 
-  found-node : (o : Option (ℕ × Node)) → length buf′ ≡ equationsIn o → orderBy17 (orderNode o buf .answer) ≡ false → orderText (orderNode o buf) ≡ orderText (orderNode o buf′)
-  found-node none e h = refl
-  found-node (some n) e h = found-ring (unplaced (n .1 .equations)) n e h
+  read-by : (r : Read File) (k : ℕ) → orderText (orderRead r k buf) ≡ orderText (orderRead r k buf′)
+  read-by (got f at) k = node-by (getElem? (placedNodes f) k)
+  read-by (fault n p) k = refl
 
-  found-read : (r : Read File) (k : ℕ) → length buf′ ≡ equationsOf r k → orderBy17 (orderRead r k buf .answer) ≡ false → orderText (orderRead r k buf) ≡ orderText (orderRead r k buf′)
-  found-read (got f at) k e h = found-node (getElem? (placedNodes f) k) e h
-  found-read (fault n p) k e h = refl
-
-pub found-order : (file : List ℕ) (k : ℕ) (buf : List ℕ) → orderBy17 (ordering relayLoader file k buf .answer) ≡ false → orderText (ordering relayLoader file k buf) ≡ orderText (orderCall file k)
+-- buffers of one length
+pub same-order : (file : List ℕ) (k : ℕ) (buf buf′ : List ℕ) → length buf ≡ length buf′ → orderText (ordering relayLoader file k buf) ≡ orderText (ordering relayLoader file k buf′)
 unfolding ordering
-found-order file k buf h = found-read buf (zeros (equationsOf (readFile file relayLoader) k)) (readFile file relayLoader) k (length-replicate (equationsOf (readFile file relayLoader) k) 0) h
-
--- so many equations at least, where the node is there and has no ring
-abbrev pub EquationsAtLeast : List ℕ → ℕ → ℕ → Type 0
-EquationsAtLeast file k m =
-    (f : File) (at : ℕ) (n : ℕ × Node) → readFile file relayLoader ≡ got f at → getElem? (placedNodes f) k ≡ some n → unplaced (n .1 .equations) ≡ none → m ≤ length (n .1 .equations)
-
-order-fits : (b : Bool) (n : Node) (buf : List ℕ) → orderBy17 (orderFits b n buf .answer) ≡ true → b ≡ false
-order-fits true n buf h = let z : _≡_ {A = ℕ} 0 1 = cc in absurd (omega arith)
-order-fits false n buf h = refl
-
-pub one-more-entry : (file : List ℕ) (k : ℕ) (buf : List ℕ) (m : ℕ) → length buf ≡ m → orderBy17 (ordering relayLoader file k buf .answer) ≡ true → EquationsAtLeast file k m → EquationsAtLeast file k (m + 1)
-unfolding ordering
-one-more-entry file k buf m e h least f at n r g u =
-    let some = least f at n r g u in
-    let here : orderBy17 (orderFits (eqb (length buf) (length (n .1 .equations))) (n .1) buf .answer) ≡ true = subst (λ o. orderBy17 (orderUnlessRing o n buf .answer) ≡ true) u (subst (λ o. orderBy17 (orderNode o buf .answer) ≡ true) g (subst (λ x. orderBy17 (orderRead x k buf .answer) ≡ true) r h)) in
-    let ne : ¬ (length buf ≡ length (n .1 .equations)) = λ q. false-T (eqb (length buf) (length (n .1 .equations))) (order-fits (eqb (length buf) (length (n .1 .equations))) (n .1) buf here) (eq-eqb (length buf) (length (n .1 .equations)) q) in
-    by-cases (ℕ-discrete m (length (n .1 .equations))) (λ q. absurd (ne (e ∙ q))) (λ q. omega arith)
+same-order file k buf buf′ e = read-by buf buf′ e (readFile file relayLoader) k
 
 the-node : (ns : List Node) (at k : ℕ) (n : ℕ × Node) → getElem? (placed nodeSize at ns) k ≡ some n → (k < length ns) × (getD ns k noNode ≡ n .1)
 the-node [] at zero n e = let z : _≡_ {A = ℕ} 0 1 = cc in absurd (omega arith)
@@ -297,27 +214,15 @@ the-node [] at (suc k) n e = let z : _≡_ {A = ℕ} 0 1 = cc in absurd (omega a
 the-node (x ∷ ns) at zero n e = let z : (at, x) ≡ n = cc in (omega arith, ap (λ (p : ℕ × Node). p .1) z)
 the-node (x ∷ ns) at (suc k) n e = let w = the-node ns (at + nodeSize x) k n e in (omega (arith, w .0), w .1)
 
-few-equations : (s : List ℕ) (f : File) (end k : ℕ) (n : ℕ × Node) → Bytes s → readFile s relayLoader ≡ got f end → getElem? (placedNodes f) k ≡ some n → length (n .1 .equations) ≤ 80
-few-equations s f end k n b e g =
-    let w = the-node (f .nodes) (nodesStart f) k n g in
-    subst (λ (x : Node). length (x .equations) ≤ 80) (w .1) (node-at (stands s f end b e) k (w .0) .fewEquations)
-
--- no number of entries is right: the file or the node is refused, with whatever buffer
-pub none-right-order : (file : List ℕ) (k : ℕ) (buf : List ℕ) → Bytes file → EquationsAtLeast file k 81 → orderText (ordering relayLoader file k buf) ≡ orderText (orderCall file k)
-unfolding ordering
-none-right-order file k buf b least = read (readFile file relayLoader) refl
+pub few-equations : (file : List ℕ) (k : ℕ) → Bytes file → equationsOf (readFile file relayLoader) k ≤ 80
+few-equations file k b = read (readFile file relayLoader) refl
   where
-    buf′ : List ℕ
-    buf′ = zeros (equationsOf (readFile file relayLoader) k)
+    node : (f : File) (at : ℕ) (o : Option (ℕ × Node)) → readFile file relayLoader ≡ got f at → getElem? (placedNodes f) k ≡ o → equationsIn o ≤ 80
+    node f at none e g = omega arith
+    node f at (some n) e g =
+        let w = the-node (f .nodes) (nodesStart f) k n g in
+        subst (λ (x : Node). length (x .equations) ≤ 80) (w .1) (node-at (stands file f at b e) k (w .0) .fewEquations)
 
-    ring : (f : File) (at : ℕ) (n : ℕ × Node) (o : Option ℕ) → readFile file relayLoader ≡ got f at → getElem? (placedNodes f) k ≡ some n → unplaced (n .1 .equations) ≡ o → orderText (orderUnlessRing o n buf) ≡ orderText (orderUnlessRing o n buf′)
-    ring f at n (some i) e g u = refl
-    ring f at n none e g u = let a = least f at n e g u in let c = few-equations file f at k n b e g in absurd (omega (arith, a, c))
-
-    node : (f : File) (at : ℕ) (o : Option (ℕ × Node)) → readFile file relayLoader ≡ got f at → getElem? (placedNodes f) k ≡ o → orderText (orderNode o buf) ≡ orderText (orderNode o buf′)
-    node f at none e g = refl
-    node f at (some n) e g = ring f at n (unplaced (n .1 .equations)) e g refl
-
-    read : (r : Read File) → readFile file relayLoader ≡ r → orderText (orderRead r k buf) ≡ orderText (orderRead r k buf′)
+    read : (r : Read File) → readFile file relayLoader ≡ r → equationsOf r k ≤ 80
     read (got f at) e = node f at (getElem? (placedNodes f) k) e refl
-    read (fault n p) e = refl
+    read (fault n p) e = omega arith

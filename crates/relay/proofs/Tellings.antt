@@ -23,11 +23,13 @@ use Rattle.ol_spec.specs.declared.Sorted.{Sorted}
 use Rattle.ol_spec.specs.declared.Cycled.{Cycled}
 use Rattle.ol_spec.specs.declared.Cycled.the-variants as Cyc
 use Rattle.ol_spec.proofs.Tests.{T-true, T-false, eq-eqb}
+use Rattle.ol_spec.specs.Read.{readFile}
+use Rattle.ol_order.specs.Counts.{equationsOf}
 use Rattle.ol_sim.specs.Calls.{OrdersAs, StartsAs, CyclesAs}
 use Rattle.relay_text.specs.Lines.{Said, errorLine, refusedLine, admitLine, stateLine, answeredLine, stoppedLine}
 use Rattle.relay.specs.Requests.{Asked, startAgain, Line, fileOf, silent, wrong, about, asks}
 use Rattle.relay.specs.Reply.{Standing, closed, opened, Told, tellAbout, obey, reply, reasonText, zeros, refusal, freshOf, admitText, startText, orderEnds, orderText, orderCall, stateFault, loadFault, loadedLine, loadBy, loadTold, valuesLength, endText, endTold, cycleCall, cycleTold, atBy, atTold, told}
-use Rattle.relay.specs.Kept.{askedIn, asked, standing, Replies, Tells, Ends, Begins, refusedBy, orderBy17, Room}
+use Rattle.relay.specs.Kept.{askedIn, asked, standing, Replies, Tells, Ends, Begins, Room}
 use Rattle.relay.specs.declared.session.Session.{Session}
 use Rattle.relay.specs.declared.request.Query.{Query}
 use Rattle.relay.specs.declared.request.Request.{Request}
@@ -35,7 +37,17 @@ use Rattle.relay.specs.declared.request.Reason.{Reason}
 use Rattle.relay.specs.declared.request.Reason.the-variants as Why
 use Rattle.relay.specs.declared.request.Lengths.{Lengths}
 use Rattle.relay.specs.declared.request.Lengths.the-variants as Len
-use Rattle.relay.proofs.Calls.{alike, same-lengths, found, AtLeast, one-more, none-right, cut, fresh-of, small-admitted, found-order, EquationsAtLeast, one-more-entry, none-right-order}
+use Rattle.relay.proofs.Calls.{same-lengths, few-values, cut, fresh-of, small-admitted, same-order, few-equations}
+
+-- ---- tests
+
+pub not-true : (b : Bool) → not b ≡ true → b ≡ false
+not-true true e = let z : _≡_ {A = ℕ} 0 1 = cc in absurd (omega arith)
+not-true false e = refl
+
+pub not-false : (b : Bool) → not b ≡ false → b ≡ true
+not-false true e = refl
+not-false false e = let z : _≡_ {A = ℕ} 0 1 = cc in absurd (omega arith)
 
 -- ---- parts of buffers
 
@@ -111,22 +123,12 @@ orders-cut file node n m entries x r c e h o =
 orders-text : (w : OrderingCall) (r : Sorted) (buffer : List ℕ) → OrdersAs w r buffer → orderEnds r buffer ≡ orderText w
 orders-text w r buffer o = ap (λ x. orderEnds x buffer) (o .answered) ∙ ap (orderEnds (w .answer)) (o .written)
 
-pub not-true : (b : Bool) → not b ≡ true → b ≡ false
-not-true true e = let z : _≡_ {A = ℕ} 0 1 = cc in absurd (omega arith)
-not-true false e = refl
-
-pub not-false : (b : Bool) → not b ≡ false → b ≡ true
-not-false true e = refl
-not-false false e = let z : _≡_ {A = ℕ} 0 1 = cc in absurd (omega arith)
-
-pub list-found : (file : List ℕ) (node : ℕ) (buf buf′ : List ℕ) (r : Sorted) (b : Bool) → OrdersAs (ordering relayLoader file node buf) r buf′ → b ≡ orderBy17 r → b ≡ false → orderEnds r buf′ ≡ orderText (orderCall file node)
-list-found file node buf buf′ r b o e h = orders-text (ordering relayLoader file node buf) r buf′ o ∙ found-order file node buf (ap orderBy17 (sym (o .answered)) ∙ sym e ∙ h)
-
-pub list-more : (file : List ℕ) (node n : ℕ) (entries buf′ : List ℕ) (r : Sorted) (b : Bool) → length entries ≡ 80 → n < 81 → OrdersAs (ordering relayLoader file node (take n entries)) r buf′ → b ≡ orderBy17 r → b ≡ true → EquationsAtLeast file node n → EquationsAtLeast file node (n + 1)
-list-more file node n entries buf′ r b long lt o e h least = one-more-entry file node (take n entries) n (length-take-le n entries (omega (arith, long, lt))) (ap orderBy17 (sym (o .answered)) ∙ sym e ∙ h) least
-
-pub list-none : (file : List ℕ) (node n : ℕ) (buf buf′ : List ℕ) (r : Sorted) → Bytes file → n ≡ 81 → EquationsAtLeast file node n → OrdersAs (ordering relayLoader file node buf) r buf′ → orderEnds r buf′ ≡ orderText (orderCall file node)
-list-none file node n buf buf′ r b e least o = orders-text (ordering relayLoader file node buf) r buf′ o ∙ none-right-order file node buf b (subst (EquationsAtLeast file node) e least)
+-- the order, with an entry for each equation
+pub list-right : (file : List ℕ) (node n : ℕ) (entries buf′ : List ℕ) (r : Sorted) → Bytes file → length entries ≡ 80 → n ≡ equationsOf (readFile file relayLoader) node → OrdersAs (ordering relayLoader file node (take n entries)) r buf′ → orderEnds r buf′ ≡ orderText (orderCall file node)
+list-right file node n entries buf′ r b h e o =
+    let k = equationsOf (readFile file relayLoader) node in
+    orders-text (ordering relayLoader file node (take n entries)) r buf′ o
+    ∙ same-order file node (take n entries) (zeros k) (length-take-le n entries (omega (arith, e, few-equations file node b, h)) ∙ e ∙ sym (length-replicate k 0))
 
 -- ---- the cycle
 
@@ -150,25 +152,13 @@ ends-as w u old r new values o e =
       next-is = ap (λ x. nextState x old new) (o .answered) ∙ ap (nextState (u .answer) old) (o .renewed) ∙ e .next-is;
     }
 
-module _ (file old ins new new′ : List ℕ) (vals vals′ : List ℕ) (r : Cycled) (hn : length new ≡ length old) (o : CyclesAs (cycle relayLoader file old ins new vals) r new′ vals′) where
-  abbrev right : CycleCall
-  right = cycleCall file old ins Len.Right
-
-  as-long : length new ≡ length (zeros (length old))
-  as-long = hn ∙ sym (length-replicate (length old) 0)
-
-  pub step-found : (b : Bool) → b ≡ refusedBy r 17 → b ≡ false → Ends right old r new′ vals′
-  step-found b e h =
-      ends-as right (cycle relayLoader file old ins new vals) old r new′ vals′ o
-      (found file old ins new (zeros (length old)) vals (zeros (valuesLength (judge relayLoader file))) as-long (length-replicate (valuesLength (judge relayLoader file)) 0) (ap (λ x. refusedBy x 17) (sym (o .answered)) ∙ sym e ∙ h))
-
-  pub step-more : (b : Bool) (k : ℕ) → b ≡ refusedBy r 17 → b ≡ true → length vals ≡ 9 * k → AtLeast file old ins k → AtLeast file old ins (k + 1)
-  step-more b k e h hv least = one-more file old ins new vals k hn hv (ap (λ x. refusedBy x 17) (sym (o .answered)) ∙ sym e ∙ h) least
-
-  pub step-none : (k : ℕ) → Bytes file → k ≡ 113 → AtLeast file old ins k → Ends right old r new′ vals′
-  step-none k b e least =
-      ends-as right (cycle relayLoader file old ins new vals) old r new′ vals′ o
-      (none-right file old ins new (zeros (length old)) vals (zeros (valuesLength (judge relayLoader file))) b (subst (AtLeast file old ins) e least))
+-- a cycle with values of the right length
+pub step-right : (file old ins new new′ values vals′ : List ℕ) (v : ℕ) (r : Cycled) → Bytes file → length new ≡ length old → length values ≡ 4096 → v ≡ valuesLength (judge relayLoader file) → CyclesAs (cycle relayLoader file old ins new (take v values)) r new′ vals′ → Ends (cycleCall file old ins Len.Right) old r new′ vals′
+step-right file old ins new new′ values vals′ v r b hn hv e o =
+    let n = valuesLength (judge relayLoader file) in
+    ends-as (cycleCall file old ins Len.Right) (cycle relayLoader file old ins new (take v values)) old r new′ vals′ o
+    (same-lengths file old ins new (zeros (length old)) (take v values) (zeros n) (hn ∙ sym (length-replicate (length old) 0))
+    (length-take-le v values (omega (arith, e, few-values file b, hv)) ∙ e ∙ sym (length-replicate n 0)))
 
 -- ---- load
 
@@ -237,8 +227,8 @@ at-refused file given ins state state′ out l f n k e z g h =
 
 -- ---- the reply
 
-pub open-replies : (number : ℕ) (st : Standing) (bytes file state out : List ℕ) (n k j len x : ℕ) (v : Verdict) → k ≡ length (take k bytes) → take k bytes ≡ take n bytes → take (length (take k bytes)) file ≡ take k bytes → Begins (take k file) v j state → Said (admitText v) len out → Replies (obey number (fileOf (take n bytes)) st) len (record { is_open = true; file = k; state = j; values = x }) file state out
-open-replies number st bytes file state out n k j len x v c e r b h =
+pub open-replies : (number : ℕ) (st : Standing) (bytes file state out : List ℕ) (n k j len : ℕ) (v : Verdict) → k ≡ length (take k bytes) → take k bytes ≡ take n bytes → take (length (take k bytes)) file ≡ take k bytes → Begins (take k file) v j state → Said (admitText v) len out → Replies (obey number (fileOf (take n bytes)) st) len (record { is_open = true; file = k; state = j }) file state out
+open-replies number st bytes file state out n k j len v c e r b h =
     let is : take k file ≡ take n bytes = ap (λ m. take m file) c ∙ r ∙ e in
     record {
       said = said-as _ _ len out (ap admitText (b .judged ∙ ap (admission relayLoader) is)) h;
@@ -253,8 +243,8 @@ closed-replies number q s file state state′ out len e z h =
       kept = ap (λ l. standing s file l) z ∙ subst (λ b. cond b (o 0 state) closed ≡ tellAbout number q (cond b (o 0 state) closed) .stands) (sym e) refl;
     }
 
-pub about-replies : (number : ℕ) (q : Asked) (s : Session) (file state state′ out : List ℕ) (m n k x : ℕ) → s .is_open ≡ true → take m file ≡ take (s .file) file → Tells (told q (take m file) (take (s .state) state)) n k state′ out → Replies (tellAbout number q (standing s file state)) n (record { is_open = true; file = m; state = k; values = x }) file state′ out
-about-replies number q s file state state′ out m n k x e w h =
+pub about-replies : (number : ℕ) (q : Asked) (s : Session) (file state state′ out : List ℕ) (m n k : ℕ) → s .is_open ≡ true → take m file ≡ take (s .file) file → Tells (told q (take m file) (take (s .state) state)) n k state′ out → Replies (tellAbout number q (standing s file state)) n (record { is_open = true; file = m; state = k }) file state′ out
+about-replies number q s file state state′ out m n k e w h =
     let o = opened (take (s .file) file) (take (s .state) state) in
     let t = subst (λ f. Tells (told q f (take (s .state) state)) n k state′ out) w h in
     record {

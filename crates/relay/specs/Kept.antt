@@ -1,7 +1,6 @@
 -- What the program keeps of what stands, and what its functions are told and write.
 use Prim.Native.Nat.{ℕ, _≤_}
-use mathlib.Core.Bool.{Bool, false, cond}
-use lib.Dec.{eqb}
+use mathlib.Core.Bool.{cond}
 use mathlib.Core.Path.{_≡_}
 use mathlib.Core.List.{List}
 use lib.ListN.{length, take}
@@ -12,9 +11,6 @@ use Rattle.ol_spec.specs.declared.Cycled.{Cycled}
 use Rattle.relay_text.specs.Lines.{Said}
 use Rattle.relay.specs.Requests.{Asked, orderOf, startAgain, loadOf, cycleOf, cycleAt, Line, silent, wrong, fileOf, about}
 use Rattle.ol_spec.specs.Admission.{admission}
-use Rattle.ol_spec.specs.declared.Sorted.{Sorted}
-use Rattle.ol_spec.specs.declared.Sorted.the-variants as Sort
-use Rattle.ol_spec.specs.declared.Cycled.the-variants as Cyc
 use Rattle.ol_spec.specs.declared.Verdict.{Verdict}
 use Rattle.relay.specs.Reply.{Standing, closed, opened, Reply, Told, endText, freshOf}
 use Rattle.relay.specs.declared.request.Query.{Query}
@@ -61,17 +57,6 @@ pub record Begins (file : List ℕ) (v : Verdict) (n : ℕ) (state : List ℕ) :
   pub judged : v ≡ admission relayLoader file
   pub fresh : take n state ≡ freshOf file
   pub within : n ≤ length state
-
--- whether a cycle is refused with this number
-abbrev pub refusedBy : Cycled → ℕ → Bool
-refusedBy Cyc.Answered n = false
-refusedBy (Cyc.Stopped x) n = false
-refusedBy (Cyc.Refused x) n = eqb (x .number) n
-
--- whether an ordering is refused for its buffer's length
-abbrev pub orderBy17 : Sorted → Bool
-orderBy17 Sort.Done = false
-orderBy17 (Sort.Refused x) = eqb (x .number) 17
 
 -- the buffers of a cycle: a state, a new one, the values, and the answer
 pub record Room (state new values out : List ℕ) : Type 0 where

@@ -2,13 +2,11 @@
 use Prim.Native.Nat.{ℕ, _*_}
 use mathlib.Core.Bool.{cond}
 use mathlib.Core.List.{List, [], _∷_, _++_}
-use mathlib.Core.Option.{Option, none, some}
-use lib.ListN.{length, replicate, getElem?}
+use lib.ListN.{length, replicate}
 use lib.Dec.{eqb, leb}
 use Rattle.ol_spec.specs.Limits.{relayLoader}
-use Rattle.ol_spec.specs.Syntax.{Node, File, variables, main}
-use Rattle.ol_spec.specs.Places.{placedNodes}
-use Rattle.ol_spec.specs.Read.{Read, got, fault, readFile}
+use Rattle.ol_spec.specs.Syntax.{variables, main}
+use Rattle.ol_spec.specs.Read.{readFile}
 use Rattle.ol_spec.specs.Admission.{Judged, refused, admitted, judge, admission}
 use Rattle.ol_spec.specs.Answers.{noFault, verdictFault, verdictLength}
 use Rattle.ol_spec.specs.Cycle.{OrderingCall, CycleCall, ordering, start, cycle}
@@ -20,6 +18,7 @@ use Rattle.ol_spec.specs.declared.Sorted.{Sorted}
 use Rattle.ol_spec.specs.declared.Sorted.the-variants as Sort
 use Rattle.ol_spec.specs.declared.Cycled.{Cycled}
 use Rattle.ol_spec.specs.declared.Cycled.the-variants as Cyc
+use Rattle.ol_order.specs.Counts.{equationsOf}
 use Rattle.relay_text.specs.Lines.{errorLine, refusedLine, admitLine, stateLine, answeredLine, stoppedLine, orderLine, noOrderLine}
 use Rattle.relay.specs.Requests.{Asked, orderOf, startAgain, loadOf, cycleOf, cycleAt, Line, silent, wrong, fileOf, about, asks}
 use Rattle.relay.specs.declared.request.Lengths.{Lengths}
@@ -80,15 +79,6 @@ startText (Ver.Admitted n) state = stateLine state
 startText (Ver.Refused x) state = refusal x
 
 -- ---- order NODE
-
--- how many equations a node has
-abbrev pub equationsIn : Option (ℕ × Node) → ℕ
-equationsIn none = 0
-equationsIn (some n) = length (n .1 .equations)
-
-abbrev pub equationsOf : Read File → ℕ → ℕ
-equationsOf (got f at) k = equationsIn (getElem? (placedNodes f) k)
-equationsOf (fault n p) k = 0
 
 abbrev pub orderEnds : Sorted → List ℕ → List ℕ
 orderEnds Sort.Done entries = orderLine entries

@@ -5,8 +5,10 @@ use crate::request::Query;
 use crate::request::Reason;
 use crate::request::Request;
 use crate::request::ask;
+use ol_order::counts::equation_count;
 use ol_spec::Cycled;
 use ol_spec::Fault;
+use ol_spec::Measured;
 use ol_spec::Sorted;
 use ol_spec::Started;
 use ol_spec::Verdict;
@@ -27,23 +29,22 @@ ghost use Prim.Native.Nat.{ℕ, _+_, _*_, _≤_, min};
 ghost use lib.ListN.{length, take};
 ghost use Rattle.io.specs.Counts.{Counts};
 ghost use Rattle.ol_spec.specs.Limits.{relayLoader};
-ghost use Rattle.ol_spec.specs.Admission.{admission};
+ghost use Rattle.ol_spec.specs.Admission.{judge, admission};
 ghost use Rattle.ol_spec.specs.Answers.{verdictFault, verdictLength};
 ghost use Rattle.ol_spec.specs.Cycle.{ordering, cycle};
 ghost use Rattle.ol_spec.specs.Demand3.{nextState};
 ghost use Rattle.ol_sim.specs.Calls.{OrdersAs, CyclesAs};
 ghost use Rattle.relay_text.specs.Lines.{Said, errorLine};
 ghost use Rattle.relay.specs.Requests.{startAgain, fileOf};
-ghost use Rattle.relay.specs.Reply.{Standing, reasonText, tellAbout, obey, reply, freshOf, admitText, startText, orderCall, orderText, orderEnds, told, stateFault, loadFault, loadTold, endText, cycleCall, cycleTold, atTold};
+ghost use Rattle.relay.specs.Reply.{Standing, reasonText, tellAbout, obey, reply, freshOf, admitText, startText, orderCall, orderText, orderEnds, told, valuesLength, stateFault, loadFault, loadTold, endText, cycleCall, cycleTold, atTold};
 ghost use Rattle.relay.specs.declared.request.Lengths.the-variants as Len;
-ghost use Rattle.relay.specs.Kept.{asked, askedIn, standing, Replies, Tells, Ends, Begins, refusedBy, orderBy17, Room};
+ghost use Rattle.relay.specs.Kept.{asked, askedIn, standing, Replies, Tells, Ends, Begins, Room};
 
-// Whether a file is open, its length, its state's length, and how long the values of its last cycle were.
+// Whether a file is open, its length, and its state's length.
 pub struct Session {
     pub is_open: bool,
     pub file: usize,
     pub state: usize,
-    pub values: usize,
 }
 
 // What is kept from now on, and the length of the answer.
@@ -52,11 +53,10 @@ pub struct Replied {
     pub length: usize,
 }
 
-// The length of the answer, of the state, and of the values.
+// The length of the answer, and of the state.
 pub struct Stood {
     pub length: usize,
     pub state: usize,
-    pub values: usize,
 }
 
 // What a file is admitted or refused with, and the length of its fresh state.
@@ -85,7 +85,6 @@ pub(crate) fn closed() -> Session
         is_open: false,
         file: 0,
         state: 0,
-        values: 0,
     }
 }
 
@@ -127,13 +126,13 @@ fn begin(file: &[u8], state: &mut [u8]) -> Begun
     }
 }
 
-fn is_refused_by(c: Cycled, number: u8) -> bool
-    ensures { λ r. ⌜ r ≡ refusedBy c number ⌝ }
+// The length of a file's values: 0 where it is refused.
+fn values_length(file: &[u8]) -> usize
+    ensures { λ r. ⌜ r ≡ valuesLength (judge relayLoader (now (file .entry))) ⌝ }
 {
-    match c {
-        Cycled::Refused(f) => f.number == number,
-        Cycled::Stopped(_) => false,
-        Cycled::Answered => false,
+    match ol_sim::lengths(file, 0) {
+        Measured::Done(l) => l.values,
+        Measured::Refused(_) => 0,
     }
 }
 
@@ -152,58 +151,16 @@ fn cycle_with(
     ol_sim::cycle(file, old, inputs, new, &mut values[..b])
 }
 
-// A cycle with values of the right length, whatever that is: so many cells, one more each time, up to
-// the first number that is not answered with 17. No file has more than 112 variables.
-fn try_lengths(file: &[u8], old: &[u8], inputs: &[u8], new: &mut [u8], values: &mut [u8]) -> Stepped
+// A cycle with values of the right length.
+fn step(file: &[u8], old: &[u8], inputs: &[u8], new: &mut [u8], values: &mut [u8]) -> Stepped
     requires { ⌜ (length (now new) ≡ length (now old)) × (length (now values) ≡ 4096) ⌝ }
     ensures { λ r. ⌜ Ends (cycleCall (now (file .entry)) (now (old .entry)) (now (inputs .entry)) Len.Right) (now (old .entry)) (r .cycled) (now (new .exit)) (take (r .values) (now (values .exit))) ⌝ }
 {
-    let mut k = 0;
-    while k < 113 {
-        let c = cycle_with(file, old, inputs, new, values, 9 * k);
-        if !is_refused_by(c, 17) {
-            return Stepped {
-                cycled: c,
-                values: 9 * k,
-            };
-        }
-        k += 1;
-    }
-    let c = cycle_with(file, old, inputs, new, values, 0);
+    let v = values_length(file);
+    let c = cycle_with(file, old, inputs, new, values, v);
     Stepped {
         cycled: c,
-        values: 0,
-    }
-}
-
-// The same, with a length that may be the right one tried first.
-fn step(
-    file: &[u8],
-    old: &[u8],
-    inputs: &[u8],
-    new: &mut [u8],
-    values: &mut [u8],
-    likely: usize,
-) -> Stepped
-    requires { ⌜ (length (now new) ≡ length (now old)) × (length (now values) ≡ 4096) ⌝ }
-    ensures { λ r. ⌜ Ends (cycleCall (now (file .entry)) (now (old .entry)) (now (inputs .entry)) Len.Right) (now (old .entry)) (r .cycled) (now (new .exit)) (take (r .values) (now (values .exit))) ⌝ }
-{
-    let c = cycle_with(file, old, inputs, new, values, likely);
-    if !is_refused_by(c, 17) {
-        return Stepped {
-            cycled: c,
-            values: likely,
-        };
-    }
-    try_lengths(file, old, inputs, new, values)
-}
-
-fn is_out_of_length(r: Sorted) -> bool
-    ensures { λ x. ⌜ x ≡ orderBy17 r ⌝ }
-{
-    match r {
-        Sorted::Refused(f) => f.number == 17,
-        Sorted::Done => false,
+        values: v,
     }
 }
 
@@ -223,28 +180,14 @@ fn order_with(file: &[u8], node: usize, entries: &mut [usize], n: usize) -> Sort
     ol_sim::evaluation_order(file, node, &mut entries[..m])
 }
 
-// The order of a node's equations, however many there are: one entry more each time, up to the first
-// number that is not answered with 17. No node has more than 80 equations.
+// The order of a node's equations, with an entry for each.
 fn list(file: &[u8], node: usize, entries: &mut [usize]) -> Listed
     requires { ⌜ length (now entries) ≡ 80 ⌝ }
     ensures { λ r. ⌜ orderEnds (r .sorted) (take (r .count) (now (entries .exit))) ≡ orderText (orderCall (now (file .entry)) node) ⌝ }
 {
-    let mut n = 0;
-    while n < 81 {
-        let r = order_with(file, node, entries, n);
-        if !is_out_of_length(r) {
-            return Listed {
-                sorted: r,
-                count: n,
-            };
-        }
-        n += 1;
-    }
-    let r = order_with(file, node, entries, 0);
-    Listed {
-        sorted: r,
-        count: 0,
-    }
+    let n = equation_count(file, node);
+    let sorted = order_with(file, node, entries, n);
+    Listed { sorted, count: n }
 }
 
 // ---- the commands
@@ -333,14 +276,7 @@ fn replace(state: &mut [u8], new: &[u8])
 }
 
 // load STATE
-fn load_command(
-    file: &[u8],
-    given: &[u8],
-    n: usize,
-    likely: usize,
-    state: &mut [u8],
-    out: &mut [u8],
-) -> Stood
+fn load_command(file: &[u8], given: &[u8], n: usize, state: &mut [u8], out: &mut [u8]) -> Stood
     requires { ⌜ (length (now given) ≤ length (now state)) × (128 ≤ length (now out)) ⌝ }
     ensures { λ r. ⌜ Tells (loadTold (now (file .entry)) (now (given .entry)) (take n (now (state .entry)))) (r .length) (r .state) (now (state .exit)) (now (out .exit)) ⌝ }
 {
@@ -351,27 +287,17 @@ fn load_command(
         return Stood {
             length: k,
             state: given.len(),
-            values: likely,
         };
     }
     let k = say_refused(out, f.number, f.place);
     Stood {
         length: k,
         state: n,
-        values: likely,
     }
 }
 
 // Tells how a cycle ended, and takes the new state over where there is one.
-fn end(
-    c: Cycled,
-    n: usize,
-    v: usize,
-    state: &mut [u8],
-    new: &[u8],
-    values: &[u8],
-    out: &mut [u8],
-) -> Stood
+fn end(c: Cycled, n: usize, state: &mut [u8], new: &[u8], values: &[u8], out: &mut [u8]) -> Stood
     requires { ⌜ (length (now new) ≤ length (now state)) × (128 + (2 * length (now values) + 2 * length (now new)) ≤ length (now out)) ⌝ }
     ensures { λ r. ⌜ Said (endText c (now (new .entry)) (now (values .entry))) (r .length) (now (out .exit)) × (take (r .state) (now (state .exit)) ≡ nextState c (take n (now (state .entry))) (now (new .entry))) ⌝ }
 {
@@ -382,7 +308,6 @@ fn end(
             Stood {
                 length: k,
                 state: new.len(),
-                values: v,
             }
         }
         Cycled::Stopped(f) => {
@@ -391,7 +316,6 @@ fn end(
             Stood {
                 length: k,
                 state: new.len(),
-                values: v,
             }
         }
         Cycled::Refused(f) => {
@@ -399,7 +323,6 @@ fn end(
             Stood {
                 length: k,
                 state: n,
-                values: v,
             }
         }
     }
@@ -422,19 +345,12 @@ fn cycle_of(
 }
 
 // A cycle that is lent a new state and values of the right lengths.
-fn step_of(
-    file: &[u8],
-    old: &[u8],
-    inputs: &[u8],
-    new: &mut [u8],
-    values: &mut [u8],
-    likely: usize,
-) -> Stepped
+fn step_of(file: &[u8], old: &[u8], inputs: &[u8], new: &mut [u8], values: &mut [u8]) -> Stepped
     requires { ⌜ (length (now old) ≤ length (now new)) × (length (now values) ≡ 4096) ⌝ }
     ensures { λ r. ⌜ Ends (cycleCall (now (file .entry)) (now (old .entry)) (now (inputs .entry)) Len.Right) (now (old .entry)) (r .cycled) (take (length (now (old .entry))) (now (new .exit))) (take (r .values) (now (values .exit))) ⌝ }
 {
     let n = old.len();
-    step(file, old, inputs, &mut new[..n], values, likely)
+    step(file, old, inputs, &mut new[..n], values)
 }
 
 // cycle INPUTS NEW VALUES
@@ -443,7 +359,6 @@ fn cycle_these(
     v: usize,
     file: &[u8],
     m: usize,
-    likely: usize,
     inputs: &[u8],
     state: &mut [u8],
     new: &mut [u8],
@@ -457,14 +372,13 @@ fn cycle_these(
     let c = cycle_of(file, &state[..j], inputs, new, n, values, v);
     let a = within(n, new);
     let b = within(v, values);
-    end(c, j, likely, state, &new[..a], &values[..b], out)
+    end(c, j, state, &new[..a], &values[..b], out)
 }
 
 // cycle INPUTS
 fn cycle_right(
     file: &[u8],
     m: usize,
-    likely: usize,
     inputs: &[u8],
     state: &mut [u8],
     new: &mut [u8],
@@ -475,10 +389,10 @@ fn cycle_right(
     ensures { λ r. ⌜ Tells (cycleTold (now (file .entry)) (now (inputs .entry)) Len.Right (take m (now (state .entry)))) (r .length) (r .state) (now (state .exit)) (now (out .exit)) ⌝ }
 {
     let j = within(m, state);
-    let r = step_of(file, &state[..j], inputs, new, values, likely);
+    let r = step_of(file, &state[..j], inputs, new, values);
     let c = r.cycled;
     let b = within(r.values, values);
-    end(c, j, r.values, state, &new[..j], &values[..b], out)
+    end(c, j, state, &new[..j], &values[..b], out)
 }
 
 // cycle INPUTS [LENGTHS]
@@ -486,7 +400,6 @@ fn cycle_command(
     l: Lengths,
     file: &[u8],
     m: usize,
-    likely: usize,
     inputs: &[u8],
     state: &mut [u8],
     new: &mut [u8],
@@ -497,11 +410,9 @@ fn cycle_command(
     ensures { λ r. ⌜ Tells (cycleTold (now (file .entry)) (now (inputs .entry)) l (take m (now (state .entry)))) (r .length) (r .state) (now (state .exit)) (now (out .exit)) ⌝ }
 {
     match l {
-        Lengths::These(n, v) => {
-            cycle_these(n, v, file, m, likely, inputs, state, new, values, out)
-        }
-        Lengths::Right => cycle_right(file, m, likely, inputs, state, new, values, out),
-        Lengths::Malformed => cycle_right(file, m, likely, inputs, state, new, values, out),
+        Lengths::These(n, v) => cycle_these(n, v, file, m, inputs, state, new, values, out),
+        Lengths::Right => cycle_right(file, m, inputs, state, new, values, out),
+        Lengths::Malformed => cycle_right(file, m, inputs, state, new, values, out),
     }
 }
 
@@ -510,7 +421,6 @@ fn at_command(
     l: Lengths,
     file: &[u8],
     m: usize,
-    likely: usize,
     given: &[u8],
     inputs: &[u8],
     state: &mut [u8],
@@ -524,28 +434,17 @@ fn at_command(
     let f = load_fault(file, given);
     if f.number == 0 {
         replace(state, given);
-        return cycle_command(
-            l,
-            file,
-            given.len(),
-            likely,
-            inputs,
-            state,
-            new,
-            values,
-            out,
-        );
+        return cycle_command(l, file, given.len(), inputs, state, new, values, out);
     }
     let k = say_refused(out, f.number, f.place);
     Stood {
         length: k,
         state: m,
-        values: likely,
     }
 }
 
 // start
-fn start_on(file: &[u8], likely: usize, state: &mut [u8], out: &mut [u8]) -> Stood
+fn start_on(file: &[u8], state: &mut [u8], out: &mut [u8]) -> Stood
     requires { ⌜ (length (now state) ≡ 131072) × (length (now out) ≡ 393216) ⌝ }
     ensures { λ r. ⌜ Tells (told startAgain (now (file .entry)) []) (r .length) (r .state) (now (state .exit)) (now (out .exit)) ⌝ }
 {
@@ -556,7 +455,6 @@ fn start_on(file: &[u8], likely: usize, state: &mut [u8], out: &mut [u8]) -> Sto
     Stood {
         length: k,
         state: m,
-        values: likely,
     }
 }
 
@@ -565,7 +463,6 @@ fn tell_about(
     q: Query,
     file: &[u8],
     m: usize,
-    likely: usize,
     bytes: &[u8],
     inputs: &[u8],
     state: &mut [u8],
@@ -582,17 +479,16 @@ fn tell_about(
             Stood {
                 length: k,
                 state: m,
-                values: likely,
             }
         }
-        Query::Start => start_on(file, likely, state, out),
+        Query::Start => start_on(file, state, out),
         Query::Load(n) => {
             let k = within(n, bytes);
-            load_command(file, &bytes[..k], m, likely, state, out)
+            load_command(file, &bytes[..k], m, state, out)
         }
         Query::Cycle(n, l) => {
             let j = within(n, inputs);
-            cycle_command(l, file, m, likely, &inputs[..j], state, new, values, out)
+            cycle_command(l, file, m, &inputs[..j], state, new, values, out)
         }
         Query::At(n, i, l) => {
             let k = within(n, bytes);
@@ -601,7 +497,6 @@ fn tell_about(
                 l,
                 file,
                 m,
-                likely,
                 &bytes[..k],
                 &inputs[..j],
                 state,
@@ -628,7 +523,6 @@ fn open_file(n: usize, bytes: &[u8], file: &mut [u8], state: &mut [u8], out: &mu
             is_open: true,
             file: k,
             state: b.state,
-            values: 0,
         },
         length,
     }
@@ -662,7 +556,6 @@ fn about_file(
         q,
         &file[..m],
         s.state,
-        s.values,
         bytes,
         inputs,
         state,
@@ -675,7 +568,6 @@ fn about_file(
             is_open: true,
             file: m,
             state: r.state,
-            values: r.values,
         },
         length: r.length,
     }

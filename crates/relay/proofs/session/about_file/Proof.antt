@@ -58,7 +58,7 @@ same-length-5 c = search needs
 returns-2 : tie.Need-returns-2
 returns-2 c =
     let start = c .before .before .before .before .before .before .before .before .before .before .before .before .before .before .before .before .before .before .before .before .before .before .before .before in
-    about-replies (start .args .no) (askedIn (start .args .q) (start .args .bytes .now) (start .args .inputs .now)) (start .args .s) (start .args .file .now) (start .args .state .now) _ _ (c .before .before .before .before .before .before .before .before .before .before .before .before .before .before .within .result) (c .before .before .before .before .before .before .before .before .tell-about .result .length) (c .before .before .before .before .before .before .before .before .tell-about .result .state) (c .before .before .before .before .before .before .before .before .tell-about .result .values) (not-false (start .args .s .is_open) (c .before .before .before .before .before .before .before .before .before .before .before .before .before .before .before .if1 .left)) (c .before .before .before .before .before .before .before .before .before .before .before .before .before .before .within .ensures .1) (c .before .before .before .before .before .before .before .before .tell-about .ensures)
+    about-replies (start .args .no) (askedIn (start .args .q) (start .args .bytes .now) (start .args .inputs .now)) (start .args .s) (start .args .file .now) (start .args .state .now) _ _ (c .before .before .before .before .before .before .before .before .before .before .before .before .before .before .within .result) (c .before .before .before .before .before .before .before .before .tell-about .result .length) (c .before .before .before .before .before .before .before .before .tell-about .result .state) (not-false (start .args .s .is_open) (c .before .before .before .before .before .before .before .before .before .before .before .before .before .before .before .if1 .left)) (c .before .before .before .before .before .before .before .before .before .before .before .before .before .before .within .ensures .1) (c .before .before .before .before .before .before .before .before .tell-about .ensures)
 
 pub about-file-spec : {M : Type 1} → statement M
 about-file-spec =

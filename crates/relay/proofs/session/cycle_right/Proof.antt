@@ -81,7 +81,7 @@ returns : tie.Need-returns
 returns c =
     let start = c .before .before .before .before .before .before .before .before .before .before .before .before .before .before .before .before .before .before .before .before .before .before .before .before .before .before .before in
     of-state (start .args .file .now) (start .args .inputs .now) (take (c .before .before .before .before .before .before .before .before .before .before .before .before .before .before .before .before .before .before .before .within .result) (start .args .state .now)) (take (start .args .m) (start .args .state .now)) Len.Right (c .before .before .before .before .before .before .before .before .before .before .before .before .before .before .before .before .before .before .before .within .ensures .1)
-    (cycle-told (start .args .file .now) (start .args .inputs .now) (take (c .before .before .before .before .before .before .before .before .before .before .before .before .before .before .before .before .before .before .before .within .result) (start .args .state .now)) (take (c .before .before .before .before .before .before .before .before .before .before .before .before .before .before .before .before .before .before .before .within .result) (c .before .before .before .before .before .before .before .before .before .before .before .before .before .before .before .step-of .last .1 .1 .1 .0)) (take (c .before .before .before .before .before .before .before .before .before .within2 .result) (c .before .before .before .before .before .before .before .before .before .before .before .before .before .before .before .step-of .last .1 .1 .1 .1 .0)) (c .before .before .before .before .end .last .1 .1 .1 .0) (c .before .before .before .before .end .last .1 .1 .1 .1 .1 .1 .0) Len.Right (c .before .before .before .before .before .before .before .before .before .before .before .before .before .before .before .step-of .result .cycled) (c .before .before .before .before .end .result .length) (c .before .before .before .before .end .result .state)
+    (cycle-told (start .args .file .now) (start .args .inputs .now) (take (c .before .before .before .before .before .before .before .before .before .before .before .before .before .before .before .before .before .before .before .within .result) (start .args .state .now)) (take (c .before .before .before .before .before .before .before .before .before .before .before .before .before .before .before .before .before .before .before .within .result) (c .before .before .before .before .before .before .before .before .before .before .before .before .before .before .before .step-of .last .1 .1 .1 .0)) (take (c .before .before .before .before .before .before .before .before .before .within2 .result) (c .before .before .before .before .before .before .before .before .before .before .before .before .before .before .before .step-of .last .1 .1 .1 .1 .0)) (c .before .before .before .before .end .last .1 .1 .0) (c .before .before .before .before .end .last .1 .1 .1 .1 .1 .0) Len.Right (c .before .before .before .before .before .before .before .before .before .before .before .before .before .before .before .step-of .result .cycled) (c .before .before .before .before .end .result .length) (c .before .before .before .before .end .result .state)
     (ends-same (cycleCall (start .args .file .now) (take (c .before .before .before .before .before .before .before .before .before .before .before .before .before .before .before .before .before .before .before .within .result) (start .args .state .now)) (start .args .inputs .now) Len.Right) (take (c .before .before .before .before .before .before .before .before .before .before .before .before .before .before .before .before .before .before .before .within .result) (start .args .state .now)) (c .before .before .before .before .before .before .before .before .before .before .before .before .before .before .before .step-of .result .cycled) (take (length (take (c .before .before .before .before .before .before .before .before .before .before .before .before .before .before .before .before .before .before .before .within .result) (start .args .state .now))) (c .before .before .before .before .before .before .before .before .before .before .before .before .before .before .before .step-of .last .1 .1 .1 .0)) (take (c .before .before .before .before .before .before .before .before .before .before .before .before .before .before .before .before .before .before .before .within .result) (c .before .before .before .before .before .before .before .before .before .before .before .before .before .before .before .step-of .last .1 .1 .1 .0)) (take (c .before .before .before .before .before .before .before .before .before .before .before .before .before .before .before .step-of .result .values) (c .before .before .before .before .before .before .before .before .before .before .before .before .before .before .before .step-of .last .1 .1 .1 .1 .0)) (take (c .before .before .before .before .before .before .before .before .before .within2 .result) (c .before .before .before .before .before .before .before .before .before .before .before .before .before .before .before .step-of .last .1 .1 .1 .1 .0)) (ap (λ n. take n (c .before .before .before .before .before .before .before .before .before .before .before .before .before .before .before .step-of .last .1 .1 .1 .0)) (sym (c .before .before .before .before .before .before .before .before .before .before .before .before .before .before .before .before .before .before .before .within .ensures .0 .1))) (sym (c .before .before .before .before .before .before .before .before .before .within2 .ensures .1)) (c .before .before .before .before .before .before .before .before .before .before .before .before .before .before .before .step-of .ensures)) (c .before .before .before .before .end .ensures .0) (c .before .before .before .before .end .ensures .1))
 
 pub cycle-right-spec : {M : Type 1} → statement M

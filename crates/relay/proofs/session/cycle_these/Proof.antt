@@ -78,8 +78,8 @@ same-length-4 c = search needs
 returns : tie.Need-returns
 returns c =
     let start = c .before .before .before .before .before .before .before .before .before .before .before .before .before .before .before .before .before .before .before .before .before .before .before .before .before .before .before .before .before in
-    from-state (start .args .file .now) (start .args .inputs .now) (c .before .before .before .before .end .last .1 .1 .1 .1 .1 .1 .0) (c .before .before .before .before .end .last .1 .1 .1 .0) (take (c .before .before .before .before .before .before .before .before .before .before .before .before .before .before .before .before .before .before .before .before .before .within .result) (start .args .state .now)) (take (start .args .m) (start .args .state .now)) (Len.These (start .args .n) (start .args .v)) (c .before .before .before .before .end .result .length) (c .before .before .before .before .end .result .state) (c .before .before .before .before .before .before .before .before .before .before .before .before .before .before .before .before .before .before .before .before .before .within .ensures .1)
-    (these-told (start .args .file .now) (start .args .inputs .now) (take (c .before .before .before .before .before .before .before .before .before .before .before .before .before .before .before .before .before .before .before .before .before .within .result) (start .args .state .now)) (start .args .new .now) (c .before .before .before .before .before .before .before .before .before .before .before .before .before .before .before .before .before .cycle-of .last .1 .1 .1 .0) (start .args .values .now) (c .before .before .before .before .before .before .before .before .before .before .before .before .before .before .before .before .before .cycle-of .last .1 .1 .1 .1 .1 .0) (c .before .before .before .before .end .last .1 .1 .1 .0) (c .before .before .before .before .end .last .1 .1 .1 .1 .1 .1 .0) (start .args .n) (start .args .v) (c .before .before .before .before .before .before .before .before .before .before .before .within2 .result) (c .before .before .before .before .before .before .before .before .before .within3 .result) (c .before .before .before .before .before .before .before .before .before .before .before .before .before .before .before .before .before .cycle-of .result) (c .before .before .before .before .end .result .length) (c .before .before .before .before .end .result .state) (bytes-of (start .args .file .now) (λ i. omega (arith, c .before .before .before .before .before .before .before .before .before .before .before .before .before .before .before .before .before .before .before .before .before .before .before .before .before .before .before .before .shared-slice-known .given i))) (start .pre .new-is) (start .pre .values-is) (c .before .before .before .before .before .before .before .before .before .before .before .before .before .before .before .before .before .cycle-of .ensures) (c .before .before .before .before .before .before .before .before .before .before .before .within2 .ensures .1) (c .before .before .before .before .before .before .before .before .before .within3 .ensures .1) (c .before .before .before .before .end .ensures .0) (c .before .before .before .before .end .ensures .1))
+    from-state (start .args .file .now) (start .args .inputs .now) (c .before .before .before .before .end .last .1 .1 .1 .1 .1 .0) (c .before .before .before .before .end .last .1 .1 .0) (take (c .before .before .before .before .before .before .before .before .before .before .before .before .before .before .before .before .before .before .before .before .before .within .result) (start .args .state .now)) (take (start .args .m) (start .args .state .now)) (Len.These (start .args .n) (start .args .v)) (c .before .before .before .before .end .result .length) (c .before .before .before .before .end .result .state) (c .before .before .before .before .before .before .before .before .before .before .before .before .before .before .before .before .before .before .before .before .before .within .ensures .1)
+    (these-told (start .args .file .now) (start .args .inputs .now) (take (c .before .before .before .before .before .before .before .before .before .before .before .before .before .before .before .before .before .before .before .before .before .within .result) (start .args .state .now)) (start .args .new .now) (c .before .before .before .before .before .before .before .before .before .before .before .before .before .before .before .before .before .cycle-of .last .1 .1 .1 .0) (start .args .values .now) (c .before .before .before .before .before .before .before .before .before .before .before .before .before .before .before .before .before .cycle-of .last .1 .1 .1 .1 .1 .0) (c .before .before .before .before .end .last .1 .1 .0) (c .before .before .before .before .end .last .1 .1 .1 .1 .1 .0) (start .args .n) (start .args .v) (c .before .before .before .before .before .before .before .before .before .before .before .within2 .result) (c .before .before .before .before .before .before .before .before .before .within3 .result) (c .before .before .before .before .before .before .before .before .before .before .before .before .before .before .before .before .before .cycle-of .result) (c .before .before .before .before .end .result .length) (c .before .before .before .before .end .result .state) (bytes-of (start .args .file .now) (λ i. omega (arith, c .before .before .before .before .before .before .before .before .before .before .before .before .before .before .before .before .before .before .before .before .before .before .before .before .before .before .before .before .shared-slice-known .given i))) (start .pre .new-is) (start .pre .values-is) (c .before .before .before .before .before .before .before .before .before .before .before .before .before .before .before .before .before .cycle-of .ensures) (c .before .before .before .before .before .before .before .before .before .before .before .within2 .ensures .1) (c .before .before .before .before .before .before .before .before .before .within3 .ensures .1) (c .before .before .before .before .end .ensures .0) (c .before .before .before .before .end .ensures .1))
 
 pub cycle-these-spec : {M : Type 1} → statement M
 cycle-these-spec =

@@ -60,7 +60,7 @@ same-length-3 c = search needs
 returns : tie.Need-returns
 returns c =
     let start = c .before .before .before .before .before .before .before .before .before .before .before .before .before .before .before .before .before .before .before in
-    λ number st. open-replies number st (start .args .bytes .now) (c .before .before .before .before .before .before .before .before .before .before .before .replace .last .0) (c .before .before .before .before .before .before .begin .last .1 .0) (c .before .before .admit-command .last .1 .0) (start .args .n) (c .before .before .before .before .before .before .before .before .before .before .before .before .before .before .within .result) (c .before .before .before .before .before .before .begin .result .state) (c .before .before .admit-command .result) 0 (c .before .before .before .before .before .before .begin .result .verdict) (c .before .before .before .before .before .before .before .before .before .before .before .before .before .before .within .ensures .0 .1) (c .before .before .before .before .before .before .before .before .before .before .before .before .before .before .within .ensures .1) (c .before .before .before .before .before .before .before .before .before .before .before .replace .ensures) (c .before .before .before .before .before .before .begin .ensures) (c .before .before .admit-command .ensures)
+    λ number st. open-replies number st (start .args .bytes .now) (c .before .before .before .before .before .before .before .before .before .before .before .replace .last .0) (c .before .before .before .before .before .before .begin .last .1 .0) (c .before .before .admit-command .last .1 .0) (start .args .n) (c .before .before .before .before .before .before .before .before .before .before .before .before .before .before .within .result) (c .before .before .before .before .before .before .begin .result .state) (c .before .before .admit-command .result) (c .before .before .before .before .before .before .begin .result .verdict) (c .before .before .before .before .before .before .before .before .before .before .before .before .before .before .within .ensures .0 .1) (c .before .before .before .before .before .before .before .before .before .before .before .before .before .before .within .ensures .1) (c .before .before .before .before .before .before .before .before .before .before .before .replace .ensures) (c .before .before .before .before .before .before .begin .ensures) (c .before .before .admit-command .ensures)
 
 pub open-file-spec : {M : Type 1} → statement M
 open-file-spec =
