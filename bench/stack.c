@@ -11,19 +11,21 @@
 
 #include "ol_sim.h"
 
-enum { ROOM = 64 << 20, PAINT = 0xA5, FUNCTIONS = 4 };
+enum { ROOM = 64 << 20, PAINT = 0xA5, FUNCTIONS = 5 };
 
-static const char *const names[FUNCTIONS] = {"ol_sim_admit", "ol_sim_order", "ol_sim_start", "ol_sim_cycle"};
+static const char *const names[FUNCTIONS] = {"ol_sim_lengths", "ol_sim_admit", "ol_sim_order", "ol_sim_start", "ol_sim_cycle"};
 
 static uint8_t *room;
 static ucontext_t back, there;
 
 /* what a call is lent, and its number */
 static uint8_t file[OL_SIM_FILE_MAX + 1], states[2][OL_SIM_STATE_MAX], inputs[OL_SIM_INPUTS_MAX], values[OL_SIM_VALUES_MAX];
-static size_t file_len, state_len, inputs_len, values_len, order[OL_SIM_EQUATIONS_MAX], place;
+static size_t file_len, state_len, inputs_len, values_len, order[OL_SIM_EQUATIONS_MAX], equations, inputs_asked, place;
 static uint8_t number;
 
 static void nothing(void) {}
+
+static void lengths(void) { number = ol_sim_lengths(file, file_len, 0, &place, &state_len, &inputs_asked, &values_len, &equations); }
 
 static void admit(void) { number = ol_sim_admit(file, file_len, &place, &state_len); }
 
@@ -60,29 +62,20 @@ static size_t unhex(const char *text, uint8_t *out, size_t most) {
     return n;
 }
 
-/* the values' length is the one that 17 does not turn back */
-static void find_values(void) {
-    for (values_len = 9; values_len <= OL_SIM_VALUES_MAX; values_len += 9) {
-        cycle();
-        if (number != OL_SIM_BUFFER)
-            return;
-    }
-}
-
 static size_t max(size_t a, size_t b) { return a < b ? b : a; }
 
 /* the bytes that each function uses on the present file; 0 where it was not called */
 static void measure(size_t own, size_t bytes[FUNCTIONS]) {
-    bytes[0] = used(admit) - own;
+    bytes[0] = used(lengths) - own;
+    bytes[1] = used(admit) - own;
     uint8_t verdict = number;
-    bytes[1] = used(sort) - own;
-    bytes[2] = bytes[3] = 0;
+    bytes[2] = used(sort) - own;
+    bytes[3] = bytes[4] = 0;
     if (verdict != OL_SIM_DONE)
         return;
-    bytes[2] = used(start) - own;
-    find_values();
+    bytes[3] = used(start) - own;
     for (int k = 0; k < 2; k++) {
-        bytes[3] = max(bytes[3], used(cycle) - own);
+        bytes[4] = max(bytes[4], used(cycle) - own);
         memcpy(states[0], states[1], state_len);
     }
     if (number != OL_SIM_DONE)
@@ -97,7 +90,7 @@ int main(void) {
     if (room == MAP_FAILED)
         return 1;
     size_t own = used(nothing);
-    printf("%-24s %14s %14s %14s %14s\n", "bytes of stack", "admit", "order", "start", "cycle");
+    printf("%-24s %14s %14s %14s %14s %14s\n", "bytes of stack", "lengths", "admit", "order", "start", "cycle");
     while (fgets(line, sizeof line, stdin)) {
         if (sscanf(line, "%63s %98303s %1023s", name, hex, given) != 3)
             continue;
@@ -105,7 +98,7 @@ int main(void) {
         inputs_len = unhex(given, inputs, sizeof inputs);
         size_t bytes[FUNCTIONS];
         measure(own, bytes);
-        printf("%-24s %14zu %14zu %14zu %14zu\n", name, bytes[0], bytes[1], bytes[2], bytes[3]);
+        printf("%-24s %14zu %14zu %14zu %14zu %14zu\n", name, bytes[0], bytes[1], bytes[2], bytes[3], bytes[4]);
         for (int k = 0; k < FUNCTIONS; k++)
             if (bytes[k] > most[k]) {
                 most[k] = bytes[k];

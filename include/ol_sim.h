@@ -11,10 +11,10 @@
  * What is said here of numbers, places and bytes written is proved of the Rattle source (crates/ol_sim_c). The archive is for x86-64 Linux, with the System V
  * calling convention. All this holds for callers that keep these rules:
  *   - a pointer stands for as many bytes (entries) as the length behind it says; it is not NULL, also where the length is 0; entries of size_t are aligned;
- *   - place and state_len point to one size_t each, aligned, and are not NULL;
+ *   - place, and the pointers to lengths of ol_sim_lengths and ol_sim_admit, point to one size_t each, aligned, and are not NULL;
  *   - no buffer has more than PTRDIFF_MAX bytes;
  *   - what a call reads is initialised: file, old_state, inputs, and *state_len, which ol_sim_admit leaves as it was when it refuses;
- *   - what a call writes (order, state, new_state, values, place, state_len) does not overlap anything else that the same call is lent. So the old and the new
+ *   - what a call writes (order, state, new_state, values, place, lengths) does not overlap anything else that the same call is lent. So the old and the new
  *     state are two buffers, which a caller exchanges after each cycle;
  *   - nobody else writes what is lent while the call runs;
  *   - the floating-point environment is the one that a C program starts with: rounding to nearest, exceptions masked, neither flush-to-zero nor
@@ -46,6 +46,7 @@ enum ol_sim_length {
 /* Bytes of stack that a call may take: the most that bench/stack measures (docs/PERFORMANCE.md has the figures), with a margin, since frames are the compiler's.
  * Nothing proves them; tests/header compares them with what is measured. A thread with less may crash. */
 enum ol_sim_stack {
+    OL_SIM_LENGTHS_STACK = 384 * 1024,
     OL_SIM_ADMIT_STACK = 384 * 1024,
     OL_SIM_ORDER_STACK = 128 * 1024,
     OL_SIM_START_STACK = 384 * 1024,
@@ -54,11 +55,11 @@ enum ol_sim_stack {
 
 /* The numbers. Of several faults the first by this order is told: 1; then 2 to 5 as they are met reading forward; then 6 to 17 by number. */
 enum ol_sim_number {
-    OL_SIM_DONE = 0,            /* admitted, ordered, started, answered */
+    OL_SIM_DONE = 0,            /* measured, admitted, ordered, started, answered */
     /* about the file; the place is the offset of the first faulted item's first byte */
     OL_SIM_FILE_TOO_LONG = 1,   /* the file has over 32,768 bytes; place 32768 */
     OL_SIM_FILE_LENGTH = 2,     /* the file ends early (place: its length), or bytes remain (place: the first of them) */
-    OL_SIM_UNKNOWN_CODE = 3,    /* unknown code, Bool byte or enum number; of ol_sim_order also: no such node, place 0 */
+    OL_SIM_UNKNOWN_CODE = 3,    /* unknown code, Bool byte or enum number; of ol_sim_order and ol_sim_lengths also: no such node, place 0 */
     OL_SIM_COUNT = 4,           /* a count is outside its limits */
     OL_SIM_NESTING = 5,         /* an expression is nested deeper than 24 levels */
     OL_SIM_NAME_TWICE = 6,      /* a name stands twice in one enum, among the constants or in one node, or is of two sorts (variant, constant, variable) */
@@ -79,22 +80,29 @@ enum ol_sim_number {
     OL_SIM_OVERFLOW = 19        /* a 64-bit overflow */
 };
 
+/* The lengths that the buffers of a file need, and how many equations a node has; nodes count from 0, and node 0 is in every file. Answers 0, 1 to 14, then 3 at
+ * place 0 for an absent node.
+ * Writes *place; on 0 also *state_len, the length of the state, *inputs_len and *values_len, those of a cycle's inputs and of its values, in bytes, and *equations,
+ * the node's number of equations. A refusal writes none of the four. */
+uint8_t ol_sim_lengths(const uint8_t *file, size_t file_len, size_t node, size_t *place, size_t *state_len, size_t *inputs_len, size_t *values_len,
+                       size_t *equations);
+
 /* Judges a file. Answers 0 and 1 to 14.
  * Writes *place; on 0 also *state_len, the length of the file's state. A refusal leaves *state_len as it was. */
 uint8_t ol_sim_admit(const uint8_t *file, size_t file_len, size_t *place, size_t *state_len);
 
 /* The order in which the equations of a node run; nodes count from 0. Answers 0, 1 to 5, 3 at place 0 for an absent node, 11, then 17 unless order_len is the
- * node's number of equations. It asks nothing else of the file, so it also serves files that ol_sim_admit refuses with 6 to 14.
+ * node's number of equations (ol_sim_lengths has it for an admitted file). It asks nothing else of the file, so it also serves files that ol_sim_admit refuses with 6 to 14.
  * Writes *place. On 0 order[k] is the index in the file of the equation that runs k-th, both from 0; otherwise order is not written. */
 uint8_t ol_sim_order(const uint8_t *file, size_t file_len, size_t node, size_t *order, size_t order_len, size_t *place);
 
-/* The fresh state of a file. Answers 0, 1 to 14, then 17 unless state_len is the length that ol_sim_admit reports.
+/* The fresh state of a file. Answers 0, 1 to 14, then 17 unless state_len is the length that ol_sim_lengths and ol_sim_admit report.
  * Writes *place. On 0 all of state is written; otherwise none of it. */
 uint8_t ol_sim_start(const uint8_t *file, size_t file_len, uint8_t *state, size_t state_len, size_t *place);
 
 /* One cycle: from the old state and the inputs (a cell for each input of the main node) to the new state and the values (a cell for each input, output and local
  * of the main node, in the file's sequence). The file is judged at each call.
- * Answers 0 (answered), 1 to 14, 15, 16, then 17 unless new_len is the state's length and values_len nine times the number of variables: refused; 18 and 19: stopped.
+ * Answers 0 (answered), 1 to 14, 15, 16, then 17 unless new_len is the state's length and values_len that of the values (ol_sim_lengths has both): refused; 18 and 19: stopped.
  * Writes *place, and
  *   0         all of new_state and all of values;
  *   1 to 17   nothing else: the cycle did not happen, and the old state is still the state;

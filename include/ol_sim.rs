@@ -3,12 +3,23 @@
 #![allow(dead_code)]
 
 /// Bytes of stack that a call may take: the header's `enum ol_sim_stack`. A thread with less may crash.
+pub const OL_SIM_LENGTHS_STACK: usize = 384 * 1024;
 pub const OL_SIM_ADMIT_STACK: usize = 384 * 1024;
 pub const OL_SIM_ORDER_STACK: usize = 128 * 1024;
 pub const OL_SIM_START_STACK: usize = 384 * 1024;
 pub const OL_SIM_CYCLE_STACK: usize = 4096 * 1024;
 
 extern "C" {
+    pub fn ol_sim_lengths(
+        file: *const u8,
+        file_len: usize,
+        node: usize,
+        place: *mut usize,
+        state_len: *mut usize,
+        inputs_len: *mut usize,
+        values_len: *mut usize,
+        equations: *mut usize,
+    ) -> u8;
     pub fn ol_sim_admit(file: *const u8, file_len: usize, place: *mut usize, state_len: *mut usize) -> u8;
     pub fn ol_sim_order(file: *const u8, file_len: usize, node: usize, order: *mut usize, order_len: usize, place: *mut usize) -> u8;
     pub fn ol_sim_start(file: *const u8, file_len: usize, state: *mut u8, state_len: usize, place: *mut usize) -> u8;

@@ -1,4 +1,4 @@
-/* The counter of document 01, v1 = 0 -> pre v1 + 1, stepped from C: admitted, ordered, started, five cycles, then what a caller meets when something is wrong.
+/* The counter of document 01, v1 = 0 -> pre v1 + 1, stepped from C: its lengths, its order, the start, five cycles, then what a caller meets when something is wrong.
  * examples/c/run builds and runs it. */
 #include <inttypes.h>
 #include <stdio.h>
@@ -28,27 +28,28 @@ static const uint8_t overflowing[] = {
 static uint8_t states[2][OL_SIM_STATE_MAX];
 
 static int stepped(void) {
-    uint8_t values[OL_SIM_CELL];
+    uint8_t values[OL_SIM_VALUES_MAX];
     uint8_t none[1] = {0};
-    size_t place, state_len = 0, order[1];
+    size_t place, state_len, inputs_len, values_len, equations, order[OL_SIM_EQUATIONS_MAX];
     int now = 0;
-    if (ol_sim_admit(counter, sizeof counter, &place, &state_len) != OL_SIM_DONE)
+    /* node 0 is the counter's only one, and its main one */
+    if (ol_sim_lengths(counter, sizeof counter, 0, &place, &state_len, &inputs_len, &values_len, &equations) != OL_SIM_DONE)
         return 1;
-    printf("admitted; the state has %zu bytes\n", state_len);
-    if (ol_sim_order(counter, sizeof counter, 0, order, 1, &place) != OL_SIM_DONE)
+    printf("admitted; bytes of the state %zu, of the inputs %zu, of the values %zu; equations %zu\n", state_len, inputs_len, values_len, equations);
+    if (ol_sim_order(counter, sizeof counter, 0, order, equations, &place) != OL_SIM_DONE)
         return 1;
     printf("order: %zu\n", order[0]);
     if (ol_sim_start(counter, sizeof counter, states[now], state_len, &place) != OL_SIM_DONE)
         return 1;
     for (int cycle = 0; cycle < 5; cycle++) {
-        /* there are no inputs: a length of 0, and a pointer that is not NULL */
-        if (ol_sim_cycle(counter, sizeof counter, states[now], state_len, none, 0, states[1 - now], state_len, values, sizeof values, &place) != OL_SIM_DONE)
+        /* there are no inputs: inputs_len is 0, and the pointer is not NULL */
+        if (ol_sim_cycle(counter, sizeof counter, states[now], state_len, none, inputs_len, states[1 - now], state_len, values, values_len, &place) != OL_SIM_DONE)
             return 1;
         now = 1 - now;
         printf("cycle %d: v1 = %" PRId64 "\n", cycle, ol_cell_int(values));
     }
     /* nine bytes are no state of the counter: refused, and nothing is written */
-    uint8_t number = ol_sim_cycle(counter, sizeof counter, states[now], 9, none, 0, states[1 - now], state_len, values, sizeof values, &place);
+    uint8_t number = ol_sim_cycle(counter, sizeof counter, states[now], 9, none, inputs_len, states[1 - now], state_len, values, values_len, &place);
     printf("a state of 9 bytes: %u at %zu; v1 is still %" PRId64 "\n", number, place, ol_cell_int(values));
     return number != OL_SIM_STATE;
 }

@@ -20,11 +20,18 @@ fn told(number: u8, place: usize) -> Result<(), Fault> {
 
 // Rust's references keep the header's rules: a slice is never null, and what is lent to be written overlaps nothing else.
 
-/// The length of an admitted file's state.
-fn admit(file: &[u8]) -> Result<usize, Fault> {
-    let (mut place, mut length) = (0, 0);
-    let number = unsafe { ffi::ol_sim_admit(file.as_ptr(), file.len(), &mut place, &mut length) };
-    told(number, place).map(|()| length)
+/// The lengths that an admitted file's buffers need, in bytes, and how many equations a node has.
+struct Lengths {
+    state: usize,
+    inputs: usize,
+    values: usize,
+    equations: usize,
+}
+
+fn lengths(file: &[u8], node: usize) -> Result<Lengths, Fault> {
+    let (mut place, mut l) = (0, Lengths { state: 0, inputs: 0, values: 0, equations: 0 });
+    let number = unsafe { ffi::ol_sim_lengths(file.as_ptr(), file.len(), node, &mut place, &mut l.state, &mut l.inputs, &mut l.values, &mut l.equations) };
+    told(number, place).map(|()| l)
 }
 
 fn order(file: &[u8], node: usize, order: &mut [usize]) -> Result<(), Fault> {
@@ -64,19 +71,20 @@ struct Relay<'a> {
     file: &'a [u8],
     old: Vec<u8>,
     new: Vec<u8>,
+    values: Vec<u8>,
 }
 
 impl<'a> Relay<'a> {
     fn new(file: &'a [u8]) -> Result<Self, Fault> {
-        let length = admit(file)?;
-        let mut old = vec![0; length];
+        let l = lengths(file, 0)?;
+        let mut old = vec![0; l.state];
         start(file, &mut old)?;
-        Ok(Relay { file, old, new: vec![0; length] })
+        Ok(Relay { file, old, new: vec![0; l.state], values: vec![0; l.values] })
     }
 
     /// Steps once. After an answer and after a stop (18, 19) the new state is the state; after a refusal the old one still is.
-    fn step(&mut self, inputs: &[u8], values: &mut [u8]) -> Result<(), Fault> {
-        let r = cycle(self.file, &self.old, inputs, &mut self.new, values);
+    fn step(&mut self, inputs: &[u8]) -> Result<(), Fault> {
+        let r = cycle(self.file, &self.old, inputs, &mut self.new, &mut self.values);
         if !matches!(r, Err(Fault { number: 1..=17, .. })) {
             std::mem::swap(&mut self.old, &mut self.new);
         }
@@ -100,23 +108,23 @@ fn int(cell: &[u8]) -> i64 {
 }
 
 fn main() -> Result<(), Fault> {
-    let mut relay = Relay::new(&COUNTER)?;
-    println!("admitted; the state has {} bytes", relay.old.len());
-    let mut places = [0];
+    let l = lengths(&COUNTER, 0)?;
+    println!("admitted; bytes of the state {}, of the inputs {}, of the values {}; equations {}", l.state, l.inputs, l.values, l.equations);
+    let mut places = vec![0; l.equations];
     order(&COUNTER, 0, &mut places)?;
     println!("order: {}", places[0]);
-    let mut values = [0; 9];
+    let mut relay = Relay::new(&COUNTER)?;
     for k in 0..5 {
-        relay.step(&[], &mut values)?;
-        println!("cycle {k}: v1 = {}", int(&values));
+        relay.step(&[])?;
+        println!("cycle {k}: v1 = {}", int(&relay.values));
     }
     // nine bytes are no state of the counter: refused, and nothing is written
     let old = relay.old.clone();
-    let f = cycle(&COUNTER, &old[..9], &[], &mut relay.new, &mut values).unwrap_err();
-    println!("a state of 9 bytes: {} at {}; v1 is still {}", f.number, f.place, int(&values));
-    let f = admit(&COUNTER[..39]).unwrap_err();
+    let f = cycle(&COUNTER, &old[..9], &[], &mut relay.new, &mut relay.values).unwrap_err();
+    println!("a state of 9 bytes: {} at {}; v1 is still {}", f.number, f.place, int(&relay.values));
+    let f = lengths(&COUNTER[..39], 0).err().unwrap();
     println!("the file without its last byte: {} at {}", f.number, f.place);
-    let f = Relay::new(&OVERFLOWING)?.step(&[], &mut values).unwrap_err();
+    let f = Relay::new(&OVERFLOWING)?.step(&[]).unwrap_err();
     println!("an overflow: {} in equation {}", f.number, f.place);
     Ok(())
 }
