@@ -7,32 +7,30 @@ use mathlib.Core.Option.{Option, none, some}
 use mathlib.Core.Path.{_≡_, refl, sym, ap, subst, _∙_}
 use native.Mathlib.Omega.{arith}
 use native.Mathlib.Decide.{ℕ-discrete}
-use lib.ListN.{length, take, drop, replicate, getElem?, getD, length-take, length-replicate}
-use lib.Seq.{length-take-le, take-all}
-use lib.Dec.{T, eqb, leb, ltb, eqb→eq, eqb-refl, nltb→le}
+use lib.ListN.{length, take, getElem?, getD, length-take, length-replicate}
+use lib.Dec.{T, eqb, ltb, eqb→eq, nltb→le}
 use Rattle.ol_spec.specs.Limits.{relayLoader}
 use Rattle.ol_spec.specs.Lists.{maybe, same}
 use Rattle.ol_spec.specs.Syntax.{Node, File, variables, main, noNode}
-use Rattle.ol_spec.specs.Places.{placed, nodeSize, nodesStart, placedNodes, placedEquations}
+use Rattle.ol_spec.specs.Places.{placed, nodeSize, nodesStart, placedNodes}
 use Rattle.ol_spec.specs.Read.{Read, got, fault, readFile}
 use Rattle.ol_spec.specs.Order.{unplaced}
 use Rattle.ol_spec.specs.Step.{Ended, finished, failedAt, overflowedAt, Run}
-use Rattle.ol_spec.specs.Admission.{Judged, refused, admitted, judge, verdict, admission, headSize, stateSize, atMain, fault13}
-use Rattle.ol_spec.specs.State.{globalsOf, goodState, goodRecord, goodInputs}
+use Rattle.ol_spec.specs.Admission.{Judged, refused, admitted, judge, verdict, admission, stateSize, atMain}
+use Rattle.ol_spec.specs.State.{goodState, goodInputs}
 use Rattle.ol_spec.specs.Cell.{cells}
 use Rattle.ol_spec.specs.Answers.{verdictLength}
-use Rattle.ol_spec.specs.Cycle.{measure, lengths, ordering, orderRead, orderNode, orderUnlessRing, orderFits, start, startJudged, startFits, CycleCall, cycle, cycleJudged, cycleUnless, endRun, endOn, fits17, mainRun}
-use Rattle.ol_spec.specs.Demand3.{Bytes, nextState}
+use Rattle.ol_spec.specs.Cycle.{measure, lengths, ordering, orderRead, orderNode, orderUnlessRing, orderFits, start, startJudged, CycleCall, cycle, cycleJudged, cycleUnless, endOn, fits17, mainRun}
+use Rattle.ol_spec.specs.Demand3.{Bytes}
 use Rattle.ol_spec.specs.declared.Value.{Value}
 use Rattle.ol_spec.specs.declared.Measured.{Measured}
 use Rattle.ol_spec.specs.declared.Measured.the-variants as Mea
 use Rattle.ol_spec.specs.declared.Verdict.the-variants as Ver
-use Rattle.ol_spec.proofs.Admits.{Admits, admits}
+use Rattle.ol_spec.proofs.Admits.{admits}
 use Rattle.ol_spec.proofs.MainFacts.{main-at}
 use Rattle.ol_spec.proofs.Tests.{T-true, T-false, eq-eqb}
 use Rattle.ol_tables.specs.At.{fileAt, itemOf, noFile}
-use Rattle.ol_tables.specs.Stands.{NodeStands, FileStands, FileReads}
-use Rattle.ol_tables.specs.Tables.{nodeOf}
+use Rattle.ol_tables.specs.Stands.{FileStands}
 use Rattle.ol_tables.proofs.HeadsFile.{file-stands, node-at}
 use Rattle.ol_check.proofs.RowLoops.{few-variables}
 use Rattle.ol_order.specs.Counts.{equationsIn, equationsOf}

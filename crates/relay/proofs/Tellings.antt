@@ -1,19 +1,19 @@
 -- From what a function's callees answered and wrote to what it tells, case by case.
-use Prim.Native.Nat.{ℕ, _+_, _*_, _≤_, _<_, min}
+use Prim.Native.Nat.{ℕ, _+_, _≤_}
 use mathlib.Core.Bool.{Bool, true, false, not, cond}
-use mathlib.Core.List.{List, [], _∷_, _++_, append-nil}
+use mathlib.Core.List.{List, [], _++_, append-nil}
 use mathlib.Core.Logic.{by-cases}
 use mathlib.Core.Path.{_≡_, refl, sym, ap, subst, _∙_}
 use native.Mathlib.Omega.{arith}
 use native.Mathlib.Decide.{decLe}
 use lib.ListN.{length, take, drop, length-take, length-append, length-drop, drop-of-length-le, length-replicate}
 use lib.Seq.{length-take-le, take-all, take-at}
-use lib.Dec.{T, eqb, leb, eqb→eq, le→leb, leb→le}
+use lib.Dec.{eqb, leb, eqb→eq, le→leb, leb→le}
 use Rattle.io.specs.Counts.{Counts}
 use Rattle.ol_spec.specs.Limits.{relayLoader}
 use Rattle.ol_spec.specs.Admission.{Judged, refused, admitted, judge, verdict, admission}
-use Rattle.ol_spec.specs.Answers.{faultAt, noFault, verdictFault, verdictLength}
-use Rattle.ol_spec.specs.Cycle.{OrderingCall, ordering, StartCall, start, startJudged, CycleCall, cycle}
+use Rattle.ol_spec.specs.Answers.{noFault, verdictLength}
+use Rattle.ol_spec.specs.Cycle.{OrderingCall, ordering, start, startJudged, CycleCall, cycle}
 use Rattle.ol_spec.specs.Demand3.{Bytes, nextState}
 use Rattle.ol_spec.specs.declared.Fault.{Fault}
 use Rattle.ol_spec.specs.declared.Verdict.{Verdict}
@@ -26,10 +26,10 @@ use Rattle.ol_spec.proofs.Tests.{T-true, T-false, eq-eqb}
 use Rattle.ol_spec.specs.Read.{readFile}
 use Rattle.ol_order.specs.Counts.{equationsOf}
 use Rattle.ol_sim.specs.Calls.{OrdersAs, StartsAs, CyclesAs}
-use Rattle.relay_text.specs.Lines.{Said, errorLine, refusedLine, admitLine, stateLine, answeredLine, stoppedLine}
-use Rattle.relay.specs.Requests.{Asked, startAgain, Line, fileOf, silent, wrong, about, asks}
-use Rattle.relay.specs.Reply.{Standing, closed, opened, Told, tellAbout, obey, reply, reasonText, zeros, refusal, freshOf, admitText, startText, orderEnds, orderText, orderCall, stateFault, loadFault, loadedLine, loadBy, loadTold, valuesLength, endText, endTold, cycleCall, cycleTold, atBy, atTold, told}
-use Rattle.relay.specs.Kept.{askedIn, asked, standing, Replies, Tells, Ends, Begins, Room}
+use Rattle.relay_text.specs.Lines.{Said, errorLine, refusedLine}
+use Rattle.relay.specs.Requests.{Asked, startAgain, Line, fileOf, asks}
+use Rattle.relay.specs.Reply.{Standing, closed, opened, Told, tellAbout, obey, reply, reasonText, zeros, refusal, freshOf, admitText, startText, orderEnds, orderText, orderCall, stateFault, loadFault, loadedLine, loadBy, loadTold, valuesLength, endText, cycleCall, cycleTold, atBy, atTold, told}
+use Rattle.relay.specs.Kept.{askedIn, asked, standing, Replies, Tells, Ends, Begins}
 use Rattle.relay.specs.declared.session.Session.{Session}
 use Rattle.relay.specs.declared.request.Query.{Query}
 use Rattle.relay.specs.declared.request.Request.{Request}
