@@ -26,8 +26,10 @@ use Rattle.ol_tables.proofs.Skipping.{skip-stands}
 use Rattle.ol_tables.proofs.HeadsFile.{Passing, passing-start, passing-item, constant-stands}
 use Rattle.ol_check.specs.Spans.{startsFrom, endFrom, behindEnum, namedAt, namesFrom}
 use Rattle.ol_check.specs.RowsDone.{Enums, noConstant}
-use Rattle.ol_check.specs.Clashing.{sortCode, sortOf, meets, sortAll, clashIn, isLow, Sorts, Walks, placeAt, markedPlace, markedLow, firstPlace, enumsFrom}
+use Rattle.ol_check.specs.Clashing.{sortCode, sortOf, meets, sortAll, clashIn, isLow, Sorts, Walks, markedPlace, markedLow, enumsFrom}
+use Rattle.ol_check.specs.Founds.{placeAt, firstPlace}
 use Rattle.ol_check.proofs.SpanLaws.{starts-on, starts-none, end-on, end-none, names-listed, enum-stands}
+use Rattle.ol_check.proofs.FoundLaws.{place-first}
 use Rattle.ol_check.proofs.WalkLoop.{found-none}
 
 -- ---- lists of declarations, one behind the other
@@ -108,14 +110,6 @@ pub of-variable : (k : ℕ) → sortOf (k + 18) ≡ variable k
 of-variable k = let less : k + 18 - 18 ≡ k = omega arith in rw (le-ltb (k + 18) 17 (omega arith), ne-eqb (k + 18) 17 (λ e. omega arith)) (ap variable less)
 
 -- ---- one name
-
-place-first : (found : ℕ) (q : Bool) (at : ℕ) → at < 65536 → placeAt (firstPlace found q at) ≡ orElse (placeAt found) (firstIf q at none)
-place-first found q at lt = go (eqb found 65536) q refl
-  where
-    go : (t b : Bool) → eqb found 65536 ≡ t → placeAt (cond t (cond b at found) found) ≡ orElse (cond t none (some found)) (firstIf b at none)
-    go true true e = rw (ne-eqb at 65536 (λ w. omega arith)) refl
-    go true false e = rw e refl
-    go false b e = rw e refl
 
 low-still : (low x : ℕ) → eqb (cond (ltb x 1024) low 0) 1 ≡ eqb low 1 && (ltb x 1024 && true)
 low-still low x = go (ltb x 1024)

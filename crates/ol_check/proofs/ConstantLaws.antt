@@ -23,24 +23,22 @@ use Rattle.ol_tables.specs.Tables.{Each}
 use Rattle.ol_tables.specs.Stands.{ConstantStands}
 use Rattle.ol_tables.proofs.HeadLaws.{walk-one}
 use Rattle.ol_tables.proofs.HeadsFile.{Passing, Item as PassedItem, passing-start, passing-item, constant-stands, passing-end}
-use Rattle.ol_check.specs.Founds.{placeOf}
 use Rattle.ol_check.specs.RowsDone.{noConstant}
 use Rattle.ol_check.specs.Entries.{declared, declareAll, constantEntries}
 use Rattle.ol_check.specs.Spans.{behindVariable}
-use Rattle.ol_check.specs.Judging.{badB, foundIn, Knows, Walked, atPlace}
+use Rattle.ol_check.specs.Judging.{Findings, badB, foundIn, Knows, Walked, atPlace}
 use Rattle.ol_check.specs.ConstantsJudged.{ConstantWalked, slotConstants, ConstantsJudged, ConstantsReady}
-use Rattle.ol_check.specs.declared.Faults.{Faults}
 use Rattle.ol_check.proofs.WalkLoop.{found-none, found-append, WalkedAs, walk-told}
 use Rattle.ol_check.proofs.HeadLaws.{flat, unseen-law, called-law, several-law}
 use Rattle.ol_check.proofs.EquationLaws.{placed-on}
 use Rattle.ol_check.proofs.EntryLaws.{knows-step}
 
 -- constant number i, which is c and stands where the walk stood
-pub record ConstantJudged (s names rows : List ℕ) (nodes i : ℕ) (c : Constant) (slots slots′ names′ : List ℕ) (f r : Faults) : Type 0 where
+pub record ConstantJudged (s names rows : List ℕ) (nodes i : ℕ) (c : Constant) (slots slots′ names′ : List ℕ) (f r : Findings) : Type 0 where
   pub walked : WalkedAs s names rows nodes 0 (cons (c .value) nil) slots slots′ (atPlace f (valuePlace (f .next) c)) r
   pub entered : names′ ≡ declared names (c .name) (i + 113)
 
-constant-told : {s names rows : List ℕ} {nodes i : ℕ} {slots slots′ names′ : List ℕ} {f r : Faults} → ConstantWalked s names rows nodes i slots slots′ names′ f r → (enums : ℕ) (c : Constant) → ConstantStands s enums (f .next) c
+constant-told : {s names rows : List ℕ} {nodes i : ℕ} {slots slots′ names′ : List ℕ} {f r : Findings} → ConstantWalked s names rows nodes i slots slots′ names′ f r → (enums : ℕ) (c : Constant) → ConstantStands s enums (f .next) c
     → ConstantJudged s names rows nodes i c slots slots′ names′ f r
 constant-told {s} {names} {rows} {nodes} {i} {slots} {slots′} {names′} {f} {r} w enums c st =
     let same : behindVariable s (f .next) ≡ valuePlace (f .next) c = omega (arith, st .ty .size) in
@@ -50,7 +48,7 @@ constant-told {s} {names} {rows} {nodes} {i} {slots} {slots′} {names′} {f} {
     }
 
 -- its value is walked where it stands, then its name entered
-pub constant-walked : {s : List ℕ} (names : List ℕ) {rows : List ℕ} {nodes i n x : ℕ} {slots slots′ names′ : List ℕ} {f r : Faults} → n ≡ tySizeAt s (f .next + 2) → x ≡ nameAt s (f .next) → Walked s names rows nodes 0 1 slots slots′ (atPlace f (f .next + 2 + n)) r
+pub constant-walked : {s : List ℕ} (names : List ℕ) {rows : List ℕ} {nodes i n x : ℕ} {slots slots′ names′ : List ℕ} {f r : Findings} → n ≡ tySizeAt s (f .next + 2) → x ≡ nameAt s (f .next) → Walked s names rows nodes 0 1 slots slots′ (atPlace f (f .next + 2 + n)) r
     → names′ ≡ declared names x (i + 113) → ConstantWalked s names rows nodes i slots slots′ names′ f r
 constant-walked {s} names {rows} {nodes} {i} {n} {x} {slots} {slots′} {names′} {f} {r} en ex w ee =
     record {
@@ -71,29 +69,29 @@ each-at room (c ∷ cs) zero lt h = h .0
 each-at room (c ∷ cs) (suc i) lt h = each-at room cs i (omega arith) (h .1)
 
 -- those from number i on are left; `seen` are the names before them
-pub record ConstantsGoing (s : List ℕ) (t : File) (visible : List ℕ) (enums : ℕ) (cs : List Constant) (names₀ slots₀ : List ℕ) (f : Faults) (names slots : List ℕ) (g : Faults) (i : ℕ) : Type 0 where
+pub record ConstantsGoing (s : List ℕ) (t : File) (visible : List ℕ) (enums : ℕ) (cs : List Constant) (names₀ slots₀ : List ℕ) (f : Findings) (names slots : List ℕ) (g : Findings) (i : ℕ) : Type 0 where
   pub passing : Passing constantBytes (constantFits base enums) constantSize s (f .next) cs i (g .next)
   pub seen : List ℕ
   pub knows : Knows names seen
-  pub unseen : foundIn (placeOf (g .unseen)) (constantUses seen (placed constantSize (g .next) (drop i cs))) ≡ foundIn (placeOf (f .unseen)) (constantUses visible (placed constantSize (f .next) cs))
+  pub unseen : foundIn (g .unseen) (constantUses seen (placed constantSize (g .next) (drop i cs))) ≡ foundIn (f .unseen) (constantUses visible (placed constantSize (f .next) cs))
   pub again : g .again ≡ f .again
-  pub called : foundIn (placeOf (g .called)) (concat (map (inConstant (callsWhere (λ c args. true))) (placed constantSize (g .next) (drop i cs)))) ≡ foundIn (placeOf (f .called)) (concat (map (inConstant (callsWhere (λ c args. true))) (placed constantSize (f .next) cs)))
-  pub shaped : foundIn (placeOf (g .shaped)) (concat (map (inConstant (shapeItem t)) (placed constantSize (g .next) (drop i cs)))) ≡ foundIn (placeOf (f .shaped)) (concat (map (inConstant (shapeItem t)) (placed constantSize (f .next) cs)))
+  pub called : foundIn (g .called) (concat (map (inConstant (callsWhere (λ c args. true))) (placed constantSize (g .next) (drop i cs)))) ≡ foundIn (f .called) (concat (map (inConstant (callsWhere (λ c args. true))) (placed constantSize (f .next) cs)))
+  pub shaped : foundIn (g .shaped) (concat (map (inConstant (shapeItem t)) (placed constantSize (g .next) (drop i cs)))) ≡ foundIn (f .shaped) (concat (map (inConstant (shapeItem t)) (placed constantSize (f .next) cs)))
   pub entered : declareAll names (constantEntries i (drop i cs)) ≡ declareAll names₀ (constantEntries 0 cs)
   pub slotted : slotConstants s names slots i (placed constantSize (g .next) (drop i cs)) ≡ slotConstants s names₀ slots₀ 0 (placed constantSize (f .next) cs)
 
-module _ {s names₀ rows : List ℕ} {nodes : ℕ} {t : File} {visible : List ℕ} {enums : ℕ} {cs : List Constant} {slots₀ : List ℕ} {f : Faults} (rd : ConstantsReady s names₀ rows nodes t visible enums (f .next) cs) where
+module _ {s names₀ rows : List ℕ} {nodes : ℕ} {t : File} {visible : List ℕ} {enums : ℕ} {cs : List Constant} {slots₀ : List ℕ} {f : Findings} (rd : ConstantsReady s names₀ rows nodes t visible enums (f .next) cs) where
   pub constants-start : ConstantsGoing s t visible enums cs names₀ slots₀ f names₀ slots₀ f 0
   constants-start = record { passing = passing-start constantBytes (constantFits base enums) constantSize (rd .stand); seen = visible; knows = rd .knows; unseen = refl; again = refl; called = refl; shaped = refl; entered = refl; slotted = refl }
 
-  module _ {names slots : List ℕ} {g : Faults} {i : ℕ} (w : ConstantsGoing s t visible enums cs names₀ slots₀ f names slots g i) where
+  module _ {names slots : List ℕ} {g : Findings} {i : ℕ} (w : ConstantsGoing s t visible enums cs names₀ slots₀ f names slots g i) where
     constant-at : i < length cs → PassedItem constantBytes (constantFits base enums) constantSize s (f .next) cs i (g .next) (getD cs i noConstant)
     constant-at lt = passing-item constant-size noConstant (w .passing) lt
 
     pub constants-cut : i < length cs → length s ≤ g .next → ⊥
     constants-cut lt out = omega (arith, here-inside (constant-at lt .here) (omega (arith, constant-size (getD cs i noConstant))), constant-size (getD cs i noConstant))
 
-    pub constants-turn : i < length cs → length names ≡ length names₀ → (names′ slots′ : List ℕ) (r : Faults) → ConstantWalked s names rows nodes i slots slots′ names′ g r
+    pub constants-turn : i < length cs → length names ≡ length names₀ → (names′ slots′ : List ℕ) (r : Findings) → ConstantWalked s names rows nodes i slots slots′ names′ g r
         → ConstantsGoing s t visible enums cs names₀ slots₀ f names′ slots′ r (i + 1)
     unfolding declareAll slotConstants
     constants-turn lt same names′ slots′ r judged =
@@ -113,14 +111,14 @@ module _ {s names₀ rows : List ℕ} {nodes : ℕ} {t : File} {visible : List �
           passing = subst (Passing constantBytes (constantFits base enums) constantSize s (f .next) cs (i + 1)) (sym next) (it .on);
           seen = c .name ∷ w .seen;
           knows = subst (λ l. Knows l (c .name ∷ w .seen)) (sym (j .entered)) (knows-step names (w .seen) (c .name) (i + 113) (w .knows) (omega (arith, each-at (length names₀) cs i lt (rd .covered))) (omega arith));
-          unseen = ap (λ o. foundIn o (constantUses (c .name ∷ w .seen) rest)) (v .unseen ∙ ap (orElse (placeOf (g .unseen))) (unseen-law s names (w .seen) (w .knows) fl ∙ ap (λ l. first (map (unseenItem (w .seen)) l)) (walk-one usedAt p (c .value))))
-              ∙ found-append (placeOf (g .unseen)) (unseen (w .seen) (used p (c .value))) (constantUses (c .name ∷ w .seen) rest)
-              ∙ ap (λ l. foundIn (placeOf (g .unseen)) (constantUses (w .seen) l)) (sym on) ∙ w .unseen;
+          unseen = ap (λ o. foundIn o (constantUses (c .name ∷ w .seen) rest)) (v .unseen ∙ ap (orElse (g .unseen)) (unseen-law s names (w .seen) (w .knows) fl ∙ ap (λ l. first (map (unseenItem (w .seen)) l)) (walk-one usedAt p (c .value))))
+              ∙ found-append (g .unseen) (unseen (w .seen) (used p (c .value))) (constantUses (c .name ∷ w .seen) rest)
+              ∙ ap (λ l. foundIn (g .unseen) (constantUses (w .seen) l)) (sym on) ∙ w .unseen;
           again = v .again ∙ w .again;
-          called = ap (λ o. foundIn o (concat (map (inConstant (callsWhere (λ x n. true))) rest))) (v .called ∙ ap (orElse (placeOf (g .called))) (called-law s rows 0 (λ x n. true) (no-call rows) fl ∙ ap first (walk-one (callsWhere (λ x n. true)) p (c .value))))
-              ∙ found-append (placeOf (g .called)) (inConstant (callsWhere (λ x n. true)) (at, c)) _ ∙ ap (λ l. foundIn (placeOf (g .called)) (concat (map (inConstant (callsWhere (λ x n. true))) l))) (sym on) ∙ w .called;
-          shaped = ap (λ o. foundIn o (concat (map (inConstant (shapeItem t)) rest))) (v .shaped ∙ ap (orElse (placeOf (g .shaped))) (several-law s rows nodes t (rd .outputs) fl ∙ ap first (walk-one (shapeItem t) p (c .value))))
-              ∙ found-append (placeOf (g .shaped)) (inConstant (shapeItem t) (at, c)) _ ∙ ap (λ l. foundIn (placeOf (g .shaped)) (concat (map (inConstant (shapeItem t)) l))) (sym on) ∙ w .shaped;
+          called = ap (λ o. foundIn o (concat (map (inConstant (callsWhere (λ x n. true))) rest))) (v .called ∙ ap (orElse (g .called)) (called-law s rows 0 (λ x n. true) (no-call rows) fl ∙ ap first (walk-one (callsWhere (λ x n. true)) p (c .value))))
+              ∙ found-append (g .called) (inConstant (callsWhere (λ x n. true)) (at, c)) _ ∙ ap (λ l. foundIn (g .called) (concat (map (inConstant (callsWhere (λ x n. true))) l))) (sym on) ∙ w .called;
+          shaped = ap (λ o. foundIn o (concat (map (inConstant (shapeItem t)) rest))) (v .shaped ∙ ap (orElse (g .shaped)) (several-law s rows nodes t (rd .outputs) fl ∙ ap first (walk-one (shapeItem t) p (c .value))))
+              ∙ found-append (g .shaped) (inConstant (shapeItem t) (at, c)) _ ∙ ap (λ l. foundIn (g .shaped) (concat (map (inConstant (shapeItem t)) l))) (sym on) ∙ w .shaped;
           entered = ap (λ l. declareAll l (constantEntries (i + 1) (drop (i + 1) cs))) (j .entered) ∙ ap (declareAll names) (sym (entries-on cs i lt)) ∙ w .entered;
           slotted = ap (λ l. slotConstants s l slots′ (i + 1) rest) (j .entered) ∙ ap (λ l. slotConstants s (declared names (c .name) (i + 113)) l (i + 1) rest) (v .slotted)
               ∙ ap (slotConstants s names slots i) (sym on) ∙ w .slotted;
@@ -132,10 +130,10 @@ module _ {s names₀ rows : List ℕ} {nodes : ℕ} {t : File} {visible : List �
         let empty : drop i cs ≡ [] = drop-of-length-le cs over in
         record {
           next = passing-end (w .passing) over;
-          unseen = sym (found-none (placeOf (g .unseen))) ∙ ap (λ l. foundIn (placeOf (g .unseen)) (constantUses (w .seen) (placed constantSize (g .next) l))) (sym empty) ∙ w .unseen;
+          unseen = sym (found-none (g .unseen)) ∙ ap (λ l. foundIn (g .unseen) (constantUses (w .seen) (placed constantSize (g .next) l))) (sym empty) ∙ w .unseen;
           again = w .again;
-          called = sym (found-none (placeOf (g .called))) ∙ ap (λ l. foundIn (placeOf (g .called)) (concat (map (inConstant (callsWhere (λ x n. true))) (placed constantSize (g .next) l)))) (sym empty) ∙ w .called;
-          shaped = sym (found-none (placeOf (g .shaped))) ∙ ap (λ l. foundIn (placeOf (g .shaped)) (concat (map (inConstant (shapeItem t)) (placed constantSize (g .next) l)))) (sym empty) ∙ w .shaped;
+          called = sym (found-none (g .called)) ∙ ap (λ l. foundIn (g .called) (concat (map (inConstant (callsWhere (λ x n. true))) (placed constantSize (g .next) l)))) (sym empty) ∙ w .called;
+          shaped = sym (found-none (g .shaped)) ∙ ap (λ l. foundIn (g .shaped) (concat (map (inConstant (shapeItem t)) (placed constantSize (g .next) l)))) (sym empty) ∙ w .shaped;
           entered = ap (λ l. declareAll names (constantEntries i l)) (sym empty) ∙ w .entered;
           slotted = ap (λ l. slotConstants s names slots i (placed constantSize (g .next) l)) (sym empty) ∙ w .slotted;
         }

@@ -28,15 +28,15 @@ use Rattle.ol_tables.specs.Heads.{nameAt, partsOf, headSize, partsAt, nextAt, j
 use Rattle.ol_tables.specs.Stands.{Listed, Names, EquationStands}
 use Rattle.ol_tables.proofs.HeadLaws.{headed, walk-one, root-head, parts-told, next-told, joined-count}
 use Rattle.ol_tables.proofs.HeadsFile.{Passing, Item as PassedItem, passing-start, passing-item, equation-stands}
-use Rattle.ol_check.specs.Founds.{placeOf, earliest}
+use Rattle.ol_check.specs.Founds.{earliest, firstOf, markPlace}
+use Rattle.ol_check.proofs.FoundLaws.{mark-same, mark-other}
 use Rattle.ol_tables.specs.Heads.{Byte}
 use Rattle.ol_tables.specs.Walks.{HeadOf, skipAt}
 use Rattle.ol_tables.proofs.Skipping.{walk-turn as step, skip-stands}
-use Rattle.ol_check.specs.Judging.{heads, unseenB, unseenHead, slotOfEntry, slotHead, slotHeads, calledB, calledHead, arityB, severalHead, foundIn, Adds, headsFrom, Walked, atPlace, rootShapes}
+use Rattle.ol_check.specs.Judging.{Findings, findings, heads, unseenB, unseenHead, slotOfEntry, slotHead, slotHeads, calledB, calledHead, arityB, severalHead, foundIn, Adds, headsFrom, Walked, atPlace, rootShapes}
 use Rattle.ol_check.specs.Judging.{Knows, Context, SlotIs, entryItem, slotNames, takenB, markAll, againB, NamesDefined, loneB, otherB, RootJudged, EquationWalked, namesIn, slotEquation, slotEquations, EquationsJudged}
-use Rattle.ol_check.specs.declared.Found.{Found}
 use Rattle.ol_tables.specs.declared.heads.Parts.{Parts}
-use Rattle.ol_check.specs.declared.Faults.{Faults}
+use Rattle.ol_check.specs.declared.Reached.{Reached}
 use Rattle.ol_check.specs.Records.{siteB, calleeB}
 use Rattle.ol_check.specs.Spans.{behindName, namedAt, namesFrom}
 use Rattle.ol_check.proofs.SpanLaws.{less-none, starts-on, starts-none, names-listed}
@@ -50,50 +50,59 @@ use Rattle.ol_check.proofs.HeadLaws.{flat, unseen-law, called-law, seve
 pub placed-on : {A : Type 0} (size : A → ℕ) (d : A) (xs : List A) (i next : ℕ) → i < length xs → placed size next (drop i xs) ≡ (next, getD xs i d) ∷ placed size (next + size (getD xs i d)) (drop (i + 1) xs)
 placed-on size d xs i next lt = rw (add-one i) (ap (placed size next) (drop-cons xs i d lt))
 
-pub record NamesGoing (s names : List ℕ) (inputs many at : ℕ) (slots₀ defined₀ : List ℕ) (u₀ a₀ : Found) (slots defined : List ℕ) (u a : Found) (i next : ℕ) : Type 0 where
-  pub unseen : foundIn (placeOf u) (map (entryItem names) (namesFrom s (many - i) next)) ≡ foundIn (placeOf u₀) (map (entryItem names) (namesFrom s many at))
-  pub again : foundIn (placeOf a) (againB names inputs defined (namesFrom s (many - i) next)) ≡ foundIn (placeOf a₀) (againB names inputs defined₀ (namesFrom s many at))
+pub record NamesGoing (s names : List ℕ) (inputs many at : ℕ) (slots₀ defined₀ : List ℕ) (found₀ slots defined found : List ℕ) (i next : ℕ) : Type 0 where
+  pub unseen : foundIn (firstOf found 0) (map (entryItem names) (namesFrom s (many - i) next)) ≡ foundIn (firstOf found₀ 0) (map (entryItem names) (namesFrom s many at))
+  pub again : foundIn (firstOf found 1) (againB names inputs defined (namesFrom s (many - i) next)) ≡ foundIn (firstOf found₀ 1) (againB names inputs defined₀ (namesFrom s many at))
   pub slotted : slotNames names slots (namesFrom s (many - i) next) ≡ slotNames names slots₀ (namesFrom s many at)
   pub marked : markAll names defined (namesFrom s (many - i) next) ≡ markAll names defined₀ (namesFrom s many at)
+  pub called : firstOf found 2 ≡ firstOf found₀ 2
+  pub shaped : firstOf found 3 ≡ firstOf found₀ 3
+  pub long : length found ≡ length found₀
 
-module _ {s names : List ℕ} {inputs many at : ℕ} {slots₀ defined₀ : List ℕ} {u₀ a₀ : Found} where
-  pub names-start : NamesGoing s names inputs many at slots₀ defined₀ u₀ a₀ slots₀ defined₀ u₀ a₀ 0 at
-  names-start = record { unseen = rw (less-none many) refl; again = rw (less-none many) refl; slotted = rw (less-none many) refl; marked = rw (less-none many) refl }
+module _ {s names : List ℕ} {inputs many at : ℕ} {slots₀ defined₀ found₀ : List ℕ} where
+  pub names-start : NamesGoing s names inputs many at slots₀ defined₀ found₀ slots₀ defined₀ found₀ 0 at
+  names-start = record { unseen = rw (less-none many) refl; again = rw (less-none many) refl; slotted = rw (less-none many) refl; marked = rw (less-none many) refl; called = refl; shaped = refl; long = refl }
 
-  module _ {slots defined : List ℕ} {u a : Found} {i next : ℕ} (g : NamesGoing s names inputs many at slots₀ defined₀ u₀ a₀ slots defined u a i next) where
-    pub names-turn : i < many → {x e b : ℕ} {t : Bool} {u′ a′ : Found} {slots′ defined′ : List ℕ} → x ≡ nameAt s next → Byte names x e → placeOf u′ ≡ earliest (placeOf u) (eqb e 0) next
-        → t ≡ takenB defined inputs e → placeOf a′ ≡ earliest (placeOf a) t next → b ≡ slotOfEntry e → slots′ ≡ set slots next b → defined′ ≡ set defined e 1
-        → NamesGoing s names inputs many at slots₀ defined₀ u₀ a₀ slots′ defined′ u′ a′ (i + 1) (next + 2)
+  module _ {slots defined found : List ℕ} {i next : ℕ} (g : NamesGoing s names inputs many at slots₀ defined₀ found₀ slots defined found i next) where
+    pub names-turn : i < many → {x e b : ℕ} {t : Bool} {slots′ defined′ found₁ found′ : List ℕ} → length found₀ ≡ 4 → next < 65536 → x ≡ nameAt s next → Byte names x e → found₁ ≡ markPlace found 0 (eqb e 0) next
+        → t ≡ takenB defined inputs e → found′ ≡ markPlace found₁ 1 t next → b ≡ slotOfEntry e → slots′ ≡ set slots next b → defined′ ≡ set defined e 1
+        → NamesGoing s names inputs many at slots₀ defined₀ found₀ slots′ defined′ found′ (i + 1) (next + 2)
     unfolding slotNames markAll againB
-    names-turn lt {x} {e} {b} {t} {u′} {a′} {slots′} {defined′} ex be eu et ea eb es ed =
+    names-turn lt {x} {e} {b} {t} {slots′} {defined′} {found₁} {found′} four low ex be ef et ea eb es ed =
         let y = nameAt s next in
         let ee : e ≡ getD names y 0 = be .is ∙ ap (λ n. getD names n 0) ex in
         let on : namesFrom s (many - i) next ≡ (next, y) ∷ namesFrom s (many - (i + 1)) (next + 2) = ap (map (namedAt s)) (starts-on behindName many i next lt) in
         let rest = namesFrom s (many - (i + 1)) (next + 2) in
         let put : defined′ ≡ set defined (getD names y 0) 1 = ed ∙ ap (λ n. set defined n 1) ee in
+        let q = eqb e 0 in
+        let l₁ : length found₁ ≡ length found = ap length ef ∙ length-set found 0 _ in
+        let eu : firstOf found′ 0 ≡ earliest (firstOf found 0) q next = ap (λ l. firstOf l 0) ea ∙ mark-other found₁ 1 0 t next (λ w. omega arith) ∙ ap (λ l. firstOf l 0) ef ∙ mark-same found 0 q next (omega (arith, g .long)) low in
+        let eg : firstOf found′ 1 ≡ earliest (firstOf found 1) t next = ap (λ l. firstOf l 1) ea ∙ mark-same found₁ 1 t next (omega (arith, g .long, l₁)) low ∙ ap (λ o. earliest o t next) (ap (λ l. firstOf l 1) ef ∙ mark-other found 0 1 q next (λ w. omega arith)) in
         record {
-          unseen = ap (λ o. foundIn o (map (entryItem names) rest)) (eu ∙ ap (λ n. earliest (placeOf u) (eqb n 0) next) ee)
-              ∙ found-step (placeOf u) (eqb (getD names y 0) 0) next (map (entryItem names) rest)
-              ∙ ap (λ l. foundIn (placeOf u) (map (entryItem names) l)) (sym on) ∙ g .unseen;
-          again = ap (λ o. foundIn o (againB names inputs defined′ rest)) (ea ∙ ap (λ c. earliest (placeOf a) c next) (et ∙ ap (takenB defined inputs) ee))
-              ∙ found-step (placeOf a) (takenB defined inputs (getD names y 0)) next (againB names inputs defined′ rest)
-              ∙ ap (λ l. foundIn (placeOf a) ((next, takenB defined inputs (getD names y 0)) ∷ againB names inputs l rest)) put
-              ∙ ap (λ l. foundIn (placeOf a) (againB names inputs defined l)) (sym on) ∙ g .again;
+          unseen = ap (λ o. foundIn o (map (entryItem names) rest)) (eu ∙ ap (λ n. earliest (firstOf found 0) (eqb n 0) next) ee)
+              ∙ found-step (firstOf found 0) (eqb (getD names y 0) 0) next (map (entryItem names) rest)
+              ∙ ap (λ l. foundIn (firstOf found 0) (map (entryItem names) l)) (sym on) ∙ g .unseen;
+          again = ap (λ o. foundIn o (againB names inputs defined′ rest)) (eg ∙ ap (λ c. earliest (firstOf found 1) c next) (et ∙ ap (takenB defined inputs) ee))
+              ∙ found-step (firstOf found 1) (takenB defined inputs (getD names y 0)) next (againB names inputs defined′ rest)
+              ∙ ap (λ l. foundIn (firstOf found 1) ((next, takenB defined inputs (getD names y 0)) ∷ againB names inputs l rest)) put
+              ∙ ap (λ l. foundIn (firstOf found 1) (againB names inputs defined l)) (sym on) ∙ g .again;
           slotted = ap (λ l. slotNames names l rest) (es ∙ ap (set slots next) (eb ∙ ap slotOfEntry ee)) ∙ ap (slotNames names slots) (sym on) ∙ g .slotted;
           marked = ap (λ l. markAll names l rest) put ∙ ap (markAll names defined) (sym on) ∙ g .marked;
+          called = ap (λ l. firstOf l 2) ea ∙ mark-other found₁ 1 2 t next (λ w. omega arith) ∙ ap (λ l. firstOf l 2) ef ∙ mark-other found 0 2 q next (λ w. omega arith) ∙ g .called;
+          shaped = ap (λ l. firstOf l 3) ea ∙ mark-other found₁ 1 3 t next (λ w. omega arith) ∙ ap (λ l. firstOf l 3) ef ∙ mark-other found 0 3 q next (λ w. omega arith) ∙ g .shaped;
+          long = ap length ea ∙ length-set found₁ 1 _ ∙ l₁ ∙ g .long;
         }
 
-    pub names-done : (f r : Faults) → i ≤ many → many ≤ i → next ≡ at + 2 * i → f .next ≡ at → f .unseen ≡ u₀ → f .again ≡ a₀ → r .called ≡ f .called → r .shaped ≡ f .shaped → r .size ≡ f .size
-        → r .next ≡ next → r .unseen ≡ u → r .again ≡ a → NamesDefined s names inputs many slots₀ slots defined₀ defined f r
+    pub names-done : (f r : Reached) → i ≤ many → many ≤ i → next ≡ at + 2 * i → f .next ≡ at → r .size ≡ f .size → r .next ≡ next → NamesDefined s names inputs many slots₀ slots defined₀ defined (findings found₀ f) (findings found r)
     unfolding slotNames markAll againB
-    names-done f r under over en ea eu₀ ea₀ ec eh ez er eu er₂ =
+    names-done f r under over en ea ez er =
         let empty : namesFrom s (many - i) next ≡ [] = ap (map (namedAt s)) (starts-none behindName many i next over) in
         record {
           next = omega arith;
-          unseen = rw (eu, eu₀, ea) (sym (found-none (placeOf u)) ∙ ap (λ l. foundIn (placeOf u) (map (entryItem names) l)) (sym empty) ∙ g .unseen);
-          again = rw (er₂, ea₀, ea) (sym (found-none (placeOf a)) ∙ ap (λ l. foundIn (placeOf a) (againB names inputs defined l)) (sym empty) ∙ g .again);
-          called = ec;
-          shaped = eh;
+          unseen = rw ea (sym (found-none (firstOf found 0)) ∙ ap (λ l. foundIn (firstOf found 0) (map (entryItem names) l)) (sym empty) ∙ g .unseen);
+          again = rw ea (sym (found-none (firstOf found 1)) ∙ ap (λ l. foundIn (firstOf found 1) (againB names inputs defined l)) (sym empty) ∙ g .again);
+          called = g .called;
+          shaped = g .shaped;
           sized = ez;
           slotted = rw ea (ap (slotNames names slots) (sym empty) ∙ g .slotted);
           marked = rw ea (ap (markAll names defined) (sym empty) ∙ g .marked);
@@ -136,18 +145,51 @@ other-several n v lt = rw (lt-ltb 1 v lt) refl
 pub other-one : (n v : ℕ) → v ≤ 1 → false ≡ otherB n v
 other-one n v le = rw (le-ltb 1 v le) refl
 
-module _ {s names rows : List ℕ} {nodes k at many : ℕ} (slots : List ℕ) {slots₁ slots₂ : List ℕ} {f r : Faults} {p : Parts} {u c h : Found} (few : Found) {bu bc bl bo : Bool} {v x z : ℕ}
-    (hp : HeadOf s (f .next) p) (ev : v ≡ arityB s rows nodes (f .next)) (es : slots₁ ≡ slotHead s names slots (f .next))
-    (eu : placeOf u ≡ earliest (placeOf (f .unseen)) bu (f .next + 1)) (fu : bu ≡ unseenB s names (f .next))
-    (ec : placeOf c ≡ earliest (placeOf (f .called)) bc (f .next)) (fc : bc ≡ calledB s rows k (f .next))
-    (el : placeOf few ≡ earliest (placeOf (f .shaped)) bl at) (fl : bl ≡ loneB many v)
-    (eo : placeOf h ≡ earliest (placeOf few) bo (f .next)) (fo : bo ≡ otherB many v)
-    (ez : z ≡ min (f .size + x) 65536) (fz : x ≡ siteB s rows nodes (f .next))
-    (inside : f .next < length s) (w : Walked s names rows nodes k (p .count) slots₁ slots₂ (record { unseen = u; again = f .again; called = c; shaped = h; size = z; next = p .start }) r) where
-  pub root-judged : RootJudged s names rows nodes k at many slots slots₂ f r
+-- what the four marks of a right side at n, of the equation at `at`, make of the first places
+record RootMarked (found f₃ f₄ : List ℕ) (n at : ℕ) (bu bc bl bo : Bool) : Type 0 where
+  unseen : firstOf f₄ 0 ≡ earliest (firstOf found 0) bu (n + 1)
+  again : firstOf f₄ 1 ≡ firstOf found 1
+  called : firstOf f₄ 2 ≡ earliest (firstOf found 2) bc n
+  few : firstOf f₃ 3 ≡ earliest (firstOf found 3) bl at
+  shaped : firstOf f₄ 3 ≡ earliest (firstOf f₃ 3) bo n
+
+root-marked : {found f₁ f₂ f₃ f₄ : List ℕ} {n at : ℕ} {bu bc bl bo : Bool} → length found ≡ 4 → n + 1 < 65536 → at < 65536 → f₁ ≡ markPlace found 0 bu (n + 1) → f₂ ≡ markPlace f₁ 2 bc n → f₃ ≡ markPlace f₂ 3 bl at → f₄ ≡ markPlace f₃ 3 bo n
+    → RootMarked found f₃ f₄ n at bu bc bl bo
+root-marked {found} {f₁} {f₂} {f₃} {f₄} {n} {at} {bu} {bc} {bl} {bo} long small low mu mc ml mo =
+    let l₁ : length f₁ ≡ 4 = ap length mu ∙ length-set found 0 _ ∙ long in
+    let l₂ : length f₂ ≡ 4 = ap length mc ∙ length-set f₁ 2 _ ∙ l₁ in
+    let l₃ : length f₃ ≡ 4 = ap length ml ∙ length-set f₂ 3 _ ∙ l₂ in
+    record {
+      unseen = ap (λ l. firstOf l 0) mo ∙ mark-other f₃ 3 0 bo n (λ w. omega arith) ∙ ap (λ l. firstOf l 0) ml ∙ mark-other f₂ 3 0 bl at (λ w. omega arith)
+          ∙ ap (λ l. firstOf l 0) mc ∙ mark-other f₁ 2 0 bc n (λ w. omega arith) ∙ ap (λ l. firstOf l 0) mu ∙ mark-same found 0 bu (n + 1) (omega arith) small;
+      again = ap (λ l. firstOf l 1) mo ∙ mark-other f₃ 3 1 bo n (λ w. omega arith) ∙ ap (λ l. firstOf l 1) ml ∙ mark-other f₂ 3 1 bl at (λ w. omega arith)
+          ∙ ap (λ l. firstOf l 1) mc ∙ mark-other f₁ 2 1 bc n (λ w. omega arith) ∙ ap (λ l. firstOf l 1) mu ∙ mark-other found 0 1 bu (n + 1) (λ w. omega arith);
+      called = ap (λ l. firstOf l 2) mo ∙ mark-other f₃ 3 2 bo n (λ w. omega arith) ∙ ap (λ l. firstOf l 2) ml ∙ mark-other f₂ 3 2 bl at (λ w. omega arith)
+          ∙ ap (λ l. firstOf l 2) mc ∙ mark-same f₁ 2 bc n (omega (arith, l₁)) (omega arith)
+          ∙ ap (λ o. earliest o bc n) (ap (λ l. firstOf l 2) mu ∙ mark-other found 0 2 bu (n + 1) (λ w. omega arith));
+      few = ap (λ l. firstOf l 3) ml ∙ mark-same f₂ 3 bl at (omega (arith, l₂)) low
+          ∙ ap (λ o. earliest o bl at) (ap (λ l. firstOf l 3) mc ∙ mark-other f₁ 2 3 bc n (λ w. omega arith) ∙ ap (λ l. firstOf l 3) mu ∙ mark-other found 0 3 bu (n + 1) (λ w. omega arith));
+      shaped = ap (λ l. firstOf l 3) mo ∙ mark-same f₃ 3 bo n (omega (arith, l₃)) (omega arith);
+    }
+
+module _ {s names rows : List ℕ} {nodes k at many : ℕ} (slots : List ℕ) {slots₁ slots₂ : List ℕ} (found : List ℕ) {f₁ f₂ f₃ f₄ : List ℕ} (reached : Reached) {r : Findings} {p : Parts} {bu bc bl bo : Bool} {v x z : ℕ}
+    (long : length found ≡ 4) (small : length s ≤ 32768) (low : at < 65536)
+    (hp : HeadOf s (reached .next) p) (ev : v ≡ arityB s rows nodes (reached .next)) (es : slots₁ ≡ slotHead s names slots (reached .next))
+    (mu : f₁ ≡ markPlace found 0 bu (reached .next + 1)) (fu : bu ≡ unseenB s names (reached .next))
+    (mc : f₂ ≡ markPlace f₁ 2 bc (reached .next)) (fc : bc ≡ calledB s rows k (reached .next))
+    (ml : f₃ ≡ markPlace f₂ 3 bl at) (fl : bl ≡ loneB many v)
+    (mo : f₄ ≡ markPlace f₃ 3 bo (reached .next)) (fo : bo ≡ otherB many v)
+    (ez : z ≡ min (reached .size + x) 65536) (fz : x ≡ siteB s rows nodes (reached .next))
+    (inside : reached .next < length s) (w : Walked s names rows nodes k (p .count) slots₁ slots₂ (record { unseen = firstOf f₄ 0; again = firstOf f₄ 1; called = firstOf f₄ 2; shaped = firstOf f₄ 3; size = z; next = p .start }) r) where
+  pub root-judged : RootJudged s names rows nodes k at many slots slots₂ (findings found reached) r
   unfolding slotHeads
   root-judged =
-      let n = f .next in
+      let n = reached .next in
+      let marks = root-marked {found = found} {n = reached .next} {at = at} {bu = bu} {bc = bc} {bl = bl} {bo = bo} long (omega (arith, inside, small)) low mu mc ml mo in
+      let eu = marks .unseen in
+      let ec = marks .called in
+      let el = marks .few in
+      let eo = marks .shaped in
       let one : 1 - 1 + p .count ≡ p .count = omega arith in
       let rest = headsFrom s (p .count) (p .start) in
       let all : headsFrom s 1 n ≡ n ∷ rest = step (λ q l. q ∷ l) (λ q. []) s 1 n (omega arith) inside (omega arith) (hp .parts) (hp .next) ∙ ap (λ m. n ∷ headsFrom s m (p .start)) one in
@@ -158,27 +200,27 @@ module _ {s names rows : List ℕ} {nodes k at many : ℕ} (slots : List ℕ) {s
       ∙ ap (λ m. (at, loneB many (arityB s rows nodes n)) ∷ (n, otherB many (arityB s rows nodes n)) ∷ map (severalHead s rows nodes) (headsFrom s (p .count) m)) (sym (hp .next)) in
       record {
         next = w .next ∙ sym end;
-        again = w .again;
+        again = w .again ∙ marks .again;
         sized =
             let rs = sum (map (siteB s rows nodes) (rest)) in
-            w .sized ∙ ap (λ m. min (m + rs) 65536) (ez ∙ ap (λ y. min (f .size + y) 65536) fz) ∙ min-add (f .size) (siteB s rows nodes n) rs 65536
-            ∙ ap (λ l. min (f .size + sum (map (siteB s rows nodes) l)) 65536) (sym all);
+            w .sized ∙ ap (λ m. min (m + rs) 65536) (ez ∙ ap (λ y. min (reached .size + y) 65536) fz) ∙ min-add (reached .size) (siteB s rows nodes n) rs 65536
+            ∙ ap (λ l. min (reached .size + sum (map (siteB s rows nodes) l)) 65536) (sym all);
         slotted = w .slotted ∙ ap (λ l. slotHeads s names l (rest)) es ∙ ap (slotHeads s names slots) (sym all);
-        unseen = w .unseen ∙ ap (λ o. foundIn o (map (unseenHead s names) (rest))) (eu ∙ ap (λ b. earliest (placeOf (f .unseen)) b (n + 1)) fu)
-            ∙ found-step (placeOf (f .unseen)) (unseenB s names n) (n + 1) (map (unseenHead s names) (rest)) ∙ ap (λ l. foundIn (placeOf (f .unseen)) (map (unseenHead s names) l)) (sym all);
-        called = w .called ∙ ap (λ o. foundIn o (map (calledHead s rows k) (rest))) (ec ∙ ap (λ b. earliest (placeOf (f .called)) b n) fc)
-            ∙ found-step (placeOf (f .called)) (calledB s rows k n) n (map (calledHead s rows k) (rest)) ∙ ap (λ l. foundIn (placeOf (f .called)) (map (calledHead s rows k) l)) (sym all);
+        unseen = w .unseen ∙ ap (λ o. foundIn o (map (unseenHead s names) (rest))) (eu ∙ ap (λ b. earliest (firstOf found 0) b (n + 1)) fu)
+            ∙ found-step (firstOf found 0) (unseenB s names n) (n + 1) (map (unseenHead s names) (rest)) ∙ ap (λ l. foundIn (firstOf found 0) (map (unseenHead s names) l)) (sym all);
+        called = w .called ∙ ap (λ o. foundIn o (map (calledHead s rows k) (rest))) (ec ∙ ap (λ b. earliest (firstOf found 2) b n) fc)
+            ∙ found-step (firstOf found 2) (calledB s rows k n) n (map (calledHead s rows k) (rest)) ∙ ap (λ l. foundIn (firstOf found 2) (map (calledHead s rows k) l)) (sym all);
         shaped =
             let items = map (severalHead s rows nodes) (rest) in
             let a = arityB s rows nodes n in
-            w .shaped ∙ ap (λ o. foundIn o items) (eo ∙ ap (λ b. earliest (placeOf few) b n) (fo ∙ ap (otherB many) ev))
-            ∙ found-step (placeOf few) (otherB many a) n items ∙ ap (λ o. foundIn o ((n, otherB many a) ∷ items)) (el ∙ ap (λ b. earliest (placeOf (f .shaped)) b at) (fl ∙ ap (loneB many) ev))
-            ∙ found-step (placeOf (f .shaped)) (loneB many a) at ((n, otherB many a) ∷ items)
-            ∙ ap (foundIn (placeOf (f .shaped))) (sym shapes);
+            w .shaped ∙ ap (λ o. foundIn o items) (eo ∙ ap (λ b. earliest (firstOf f₃ 3) b n) (fo ∙ ap (otherB many) ev))
+            ∙ found-step (firstOf f₃ 3) (otherB many a) n items ∙ ap (λ o. foundIn o ((n, otherB many a) ∷ items)) (el ∙ ap (λ b. earliest (firstOf found 3) b at) (fl ∙ ap (loneB many) ev))
+            ∙ found-step (firstOf found 3) (loneB many a) at ((n, otherB many a) ∷ items)
+            ∙ ap (foundIn (firstOf found 3)) (sym shapes);
       }
 
 -- the file ends before the right side
-pub root-out : {s names rows : List ℕ} {nodes k at many : ℕ} {slots : List ℕ} {f : Faults} → length s ≤ f .next → f .size ≤ 65536 → RootJudged s names rows nodes k at many slots slots f f
+pub root-out : {s names rows : List ℕ} {nodes k at many : ℕ} {slots : List ℕ} {f : Findings} → length s ≤ f .next → f .size ≤ 65536 → RootJudged s names rows nodes k at many slots slots f f
 unfolding slotHeads
 root-out {s} {names} {rows} {nodes} {k} {at} {many} {slots} {f} out small =
     let w = file-ends s 1 (f .next) out in
@@ -189,15 +231,15 @@ root-out {s} {names} {rows} {nodes} {k} {at} {many} {slots} {f} out small =
       next = sym (w .1);
       slotted = ap (slotHeads s names slots) (sym (w .0));
       again = refl;
-      unseen = sym (found-none (placeOf (f .unseen))) ∙ ap (λ l. foundIn (placeOf (f .unseen)) (map (unseenHead s names) l)) (sym (w .0));
-      called = sym (found-none (placeOf (f .called))) ∙ ap (λ l. foundIn (placeOf (f .called)) (map (calledHead s rows k) l)) (sym (w .0));
-      shaped = sym (found-none (placeOf (f .shaped))) ∙ ap (foundIn (placeOf (f .shaped))) (sym none-there);
+      unseen = sym (found-none (f .unseen)) ∙ ap (λ l. foundIn (f .unseen) (map (unseenHead s names) l)) (sym (w .0));
+      called = sym (found-none (f .called)) ∙ ap (λ l. foundIn (f .called) (map (calledHead s rows k) l)) (sym (w .0));
+      shaped = sym (found-none (f .shaped)) ∙ ap (foundIn (f .shaped)) (sym none-there);
       sized = sym (min-cap (f .size) 65536 small) ∙ ap (λ l. min (f .size + sum (map (siteB s rows nodes) l)) 65536) (sym (w .0));
     }
 
 -- ---- an equation
 
-pub equation-walked : {s names rows : List ℕ} {nodes k inputs many : ℕ} {slots slots₁ slots₂ defined defined₁ : List ℕ} {g d r : Faults} → Byte s (g .next) many → NamesDefined s names inputs many slots slots₁ defined defined₁ (atPlace g (g .next + 1)) d
+pub equation-walked : {s names rows : List ℕ} {nodes k inputs many : ℕ} {slots slots₁ slots₂ defined defined₁ : List ℕ} {g d r : Findings} → Byte s (g .next) many → NamesDefined s names inputs many slots slots₁ defined defined₁ (atPlace g (g .next + 1)) d
     → RootJudged s names rows nodes k (g .next) many slots₁ slots₂ d r → EquationWalked s names rows nodes k inputs slots slots₂ defined defined₁ g r
 equation-walked {s} {names} {rows} {nodes} {k} {inputs} {many} {slots} {slots₁} {slots₂} {defined} {defined₁} {g} {d} {r} b named rooted =
     record {
@@ -208,24 +250,24 @@ equation-walked {s} {names} {rows} {nodes} {k} {inputs} {many} {slots} {slots₁
     }
 
 -- the names xs, which stand where the walk stood, are defined
-record DefinedAs (names : List ℕ) (inputs : ℕ) (xs slots slots′ defined defined′ : List ℕ) (f r : Faults) : Type 0 where
+record DefinedAs (names : List ℕ) (inputs : ℕ) (xs slots slots′ defined defined′ : List ℕ) (f r : Findings) : Type 0 where
   next : r .next ≡ f .next + 2 * length xs
-  unseen : placeOf (r .unseen) ≡ foundIn (placeOf (f .unseen)) (map (entryItem names) (placedNames (f .next) xs))
-  again : placeOf (r .again) ≡ foundIn (placeOf (f .again)) (againB names inputs defined (placedNames (f .next) xs))
+  unseen : r .unseen ≡ foundIn (f .unseen) (map (entryItem names) (placedNames (f .next) xs))
+  again : r .again ≡ foundIn (f .again) (againB names inputs defined (placedNames (f .next) xs))
   called : r .called ≡ f .called
   shaped : r .shaped ≡ f .shaped
   sized : r .size ≡ f .size
   slotted : slots′ ≡ slotNames names slots (placedNames (f .next) xs)
   marked : defined′ ≡ markAll names defined (placedNames (f .next) xs)
 
-define-told : {s names : List ℕ} {inputs many : ℕ} {slots slots′ defined defined′ : List ℕ} {f r : Faults} → NamesDefined s names inputs many slots slots′ defined defined′ f r → (xs : List ℕ) → length xs ≡ many → Names s 0 (f .next) xs
+define-told : {s names : List ℕ} {inputs many : ℕ} {slots slots′ defined defined′ : List ℕ} {f r : Findings} → NamesDefined s names inputs many slots slots′ defined defined′ f r → (xs : List ℕ) → length xs ≡ many → Names s 0 (f .next) xs
     → DefinedAs names inputs xs slots slots′ defined defined′ f r
 define-told {s} {names} {inputs} {many} {slots} {slots′} {defined} {defined′} {f} {r} d xs e st =
     let same : namesFrom s many (f .next) ≡ placedNames (f .next) xs = ap (λ n. namesFrom s n (f .next)) (sym e) ∙ names-listed xs st in
     record {
       next = omega (arith, d .next);
-      unseen = d .unseen ∙ ap (λ l. foundIn (placeOf (f .unseen)) (map (entryItem names) l)) same;
-      again = d .again ∙ ap (λ l. foundIn (placeOf (f .again)) (againB names inputs defined l)) same;
+      unseen = d .unseen ∙ ap (λ l. foundIn (f .unseen) (map (entryItem names) l)) same;
+      again = d .again ∙ ap (λ l. foundIn (f .again) (againB names inputs defined l)) same;
       called = d .called;
       shaped = d .shaped;
       sized = d .sized;
@@ -234,18 +276,18 @@ define-told {s} {names} {inputs} {many} {slots} {slots′} {defined} {defined′
     }
 
 -- the right side e of the equation at `at`, which has so many names
-record RootAs (s names rows : List ℕ) (nodes k at many : ℕ) (e : Expr) (slots slots′ : List ℕ) (f r : Faults) : Type 0 where
+record RootAs (s names rows : List ℕ) (nodes k at many : ℕ) (e : Expr) (slots slots′ : List ℕ) (f r : Findings) : Type 0 where
   next : r .next ≡ f .next + exprSize e
   slotted : slots′ ≡ slotHeads s names slots (heads (f .next) (cons e nil))
   again : r .again ≡ f .again
-  unseen : placeOf (r .unseen) ≡ foundIn (placeOf (f .unseen)) (map (unseenHead s names) (heads (f .next) (cons e nil)))
-  called : placeOf (r .called) ≡ foundIn (placeOf (f .called)) (map (calledHead s rows k) (heads (f .next) (cons e nil)))
-  shaped : placeOf (r .shaped)
-      ≡ foundIn (placeOf (f .shaped)) ((at, loneB many (arityB s rows nodes (f .next))) ∷ (f .next, otherB many (arityB s rows nodes (f .next)))
+  unseen : r .unseen ≡ foundIn (f .unseen) (map (unseenHead s names) (heads (f .next) (cons e nil)))
+  called : r .called ≡ foundIn (f .called) (map (calledHead s rows k) (heads (f .next) (cons e nil)))
+  shaped : r .shaped
+      ≡ foundIn (f .shaped) ((at, loneB many (arityB s rows nodes (f .next))) ∷ (f .next, otherB many (arityB s rows nodes (f .next)))
       ∷ map (severalHead s rows nodes) (heads (f .next + headSize e) (joined (partsOf e) nil)))
   sized : Adds (f .size) (map (siteB s rows nodes) (heads (f .next) (cons e nil))) (r .size)
 
-root-told : {s names rows : List ℕ} {nodes k at many : ℕ} {slots slots′ : List ℕ} {f r : Faults} → RootJudged s names rows nodes k at many slots slots′ f r → (enums : ℕ) (e : Expr) → Standing s enums (f .next) (cons e nil)
+root-told : {s names rows : List ℕ} {nodes k at many : ℕ} {slots slots′ : List ℕ} {f r : Findings} → RootJudged s names rows nodes k at many slots slots′ f r → (enums : ℕ) (e : Expr) → Standing s enums (f .next) (cons e nil)
     → RootAs s names rows nodes k at many e slots slots′ f r
 root-told {s} {names} {rows} {nodes} {k} {at} {many} {slots} {slots′} {f} {r} w enums e st =
     let n = f .next in
@@ -259,20 +301,20 @@ root-told {s} {names} {rows} {nodes} {k} {at} {many} {slots} {slots′} {f} {r} 
       next = w .next ∙ skip-stands {es = cons e nil} refl st ∙ omega arith;
       slotted = w .slotted ∙ ap (slotHeads s names slots) same;
       again = w .again;
-      unseen = w .unseen ∙ ap (λ l. foundIn (placeOf (f .unseen)) (map (unseenHead s names) l)) same;
-      called = w .called ∙ ap (λ l. foundIn (placeOf (f .called)) (map (calledHead s rows k) l)) same;
-      shaped = w .shaped ∙ ap (λ b. foundIn (placeOf (f .shaped)) (cond b ((at, loneB many a) ∷ (n, otherB many a) ∷ map (severalHead s rows nodes) (headsFrom s (partsAt s n) (nextAt s n))) [])) (lt-ltb n (length s) (hd .inside))
-          ∙ ap (λ l. foundIn (placeOf (f .shaped)) ((at, loneB many a) ∷ (n, otherB many a) ∷ map (severalHead s rows nodes) l)) rest;
+      unseen = w .unseen ∙ ap (λ l. foundIn (f .unseen) (map (unseenHead s names) l)) same;
+      called = w .called ∙ ap (λ l. foundIn (f .called) (map (calledHead s rows k) l)) same;
+      shaped = w .shaped ∙ ap (λ b. foundIn (f .shaped) (cond b ((at, loneB many a) ∷ (n, otherB many a) ∷ map (severalHead s rows nodes) (headsFrom s (partsAt s n) (nextAt s n))) [])) (lt-ltb n (length s) (hd .inside))
+          ∙ ap (λ l. foundIn (f .shaped) ((at, loneB many a) ∷ (n, otherB many a) ∷ map (severalHead s rows nodes) l)) rest;
       sized = w .sized ∙ ap (λ l. min (f .size + sum (map (siteB s rows nodes) l)) 65536) same;
     }
 
 -- the equation q at `at`, in the file f and a node of so many inputs
-pub record EquationJudged (s names rows : List ℕ) (nodes : ℕ) (f : File) (visible : List ℕ) (bad : ℕ → ℕ → Bool) (inputs at : ℕ) (q : Equation) (slots slots′ defined defined′ : List ℕ) (g r : Faults) : Type 0 where
+pub record EquationJudged (s names rows : List ℕ) (nodes : ℕ) (f : File) (visible : List ℕ) (bad : ℕ → ℕ → Bool) (inputs at : ℕ) (q : Equation) (slots slots′ defined defined′ : List ℕ) (g r : Findings) : Type 0 where
   pub next : r .next ≡ at + equationSize q
-  pub unseen : placeOf (r .unseen) ≡ foundIn (placeOf (g .unseen)) (equationUses visible (at, q))
-  pub again : placeOf (r .again) ≡ foundIn (placeOf (g .again)) (againB names inputs defined (definedBy (at, q)))
-  pub called : placeOf (r .called) ≡ foundIn (placeOf (g .called)) (inEquation (callsWhere bad) (at, q))
-  pub shaped : placeOf (r .shaped) ≡ foundIn (placeOf (g .shaped)) (equationShape f (at, q))
+  pub unseen : r .unseen ≡ foundIn (g .unseen) (equationUses visible (at, q))
+  pub again : r .again ≡ foundIn (g .again) (againB names inputs defined (definedBy (at, q)))
+  pub called : r .called ≡ foundIn (g .called) (inEquation (callsWhere bad) (at, q))
+  pub shaped : r .shaped ≡ foundIn (g .shaped) (equationShape f (at, q))
   pub slotted : slots′ ≡ slotEquation s names slots (at, q)
   pub marked : defined′ ≡ markAll names defined (definedBy (at, q))
   pub sized : Adds (g .size) (map (calleeB rows nodes) (equationSites q)) (r .size)
@@ -287,7 +329,7 @@ entries-seen names visible knows [] = refl
 entries-seen names visible knows (p ∷ ps) =
     ap (λ b. (p .0, b) ∷ map (entryItem names) ps) (knows (p .1)) ∙ ap (λ l. unseenItem visible p ∷ l) (entries-seen names visible knows ps)
 
-module _ {s names rows : List ℕ} {nodes k inputs : ℕ} {slots slots₂ defined defined₁ : List ℕ} {g r : Faults} (walked : EquationWalked s names rows nodes k inputs slots slots₂ defined defined₁ g r) where
+module _ {s names rows : List ℕ} {nodes k inputs : ℕ} {slots slots₂ defined defined₁ : List ℕ} {g r : Findings} (walked : EquationWalked s names rows nodes k inputs slots slots₂ defined defined₁ g r) where
   pub equation-judged : (t : File) (visible : List ℕ) (bad : ℕ → ℕ → Bool) (enums : ℕ) (q : Equation) → Context t k names rows nodes visible bad → EquationStands s enums (g .next) q
       → EquationJudged s names rows nodes t visible bad inputs (g .next) q slots slots₂ defined defined₁ g r
   unfolding slotEquation
@@ -314,15 +356,15 @@ module _ {s names rows : List ℕ} {nodes k inputs : ℕ} {slots slots₂ define
       record {
         next = omega (arith, w .next, n .next, len);
         unseen = w .unseen ∙ ap (λ o. foundIn o (map (unseenHead s names) (heads p (cons e nil)))) (n .unseen)
-            ∙ ap (orElse (foundIn (placeOf (g .unseen)) (map (entryItem names) ps))) (unseen-law s names visible (ctx .knows) f)
-            ∙ found-append (placeOf (g .unseen)) (map (entryItem names) ps) (map (unseenItem visible) (collectAll usedAt p (cons e nil)))
-            ∙ ap (λ l. foundIn (placeOf (g .unseen)) (l ++ map (unseenItem visible) (collectAll usedAt p (cons e nil)))) (entries-seen names visible (ctx .knows) ps)
-            ∙ ap (λ l. foundIn (placeOf (g .unseen)) (map (unseenItem visible) ps ++ map (unseenItem visible) l)) (walk-one usedAt p e)
-            ∙ ap (foundIn (placeOf (g .unseen))) (sym (map-append (unseenItem visible) ps (used p e)))
-            ∙ ap (λ a. foundIn (placeOf (g .unseen)) (unseen visible (ps ++ used a e))) (sym place);
-        again = ap placeOf (w .again) ∙ n .again;
-        called = w .called ∙ ap (λ x. foundIn (placeOf x) (map (calledHead s rows k) (heads p (cons e nil)))) (n .called) ∙ ap (orElse (placeOf (g .called))) (called-law s rows k bad (ctx .calls) f ∙ ap first (walk-one (callsWhere bad) p e) ∙ ap (λ a. first (collect (callsWhere bad) a e)) (sym place));
-        shaped = w .shaped ∙ ap (λ x. orElse (placeOf (d .shaped)) (firstIf (loneB many (arityB s rows nodes p)) at (firstIf (otherB many (arityB s rows nodes p)) p x))) inner
+            ∙ ap (orElse (foundIn (g .unseen) (map (entryItem names) ps))) (unseen-law s names visible (ctx .knows) f)
+            ∙ found-append (g .unseen) (map (entryItem names) ps) (map (unseenItem visible) (collectAll usedAt p (cons e nil)))
+            ∙ ap (λ l. foundIn (g .unseen) (l ++ map (unseenItem visible) (collectAll usedAt p (cons e nil)))) (entries-seen names visible (ctx .knows) ps)
+            ∙ ap (λ l. foundIn (g .unseen) (map (unseenItem visible) ps ++ map (unseenItem visible) l)) (walk-one usedAt p e)
+            ∙ ap (foundIn (g .unseen)) (sym (map-append (unseenItem visible) ps (used p e)))
+            ∙ ap (λ a. foundIn (g .unseen) (unseen visible (ps ++ used a e))) (sym place);
+        again = w .again ∙ n .again;
+        called = w .called ∙ ap (λ x. foundIn x (map (calledHead s rows k) (heads p (cons e nil)))) (n .called) ∙ ap (orElse (g .called)) (called-law s rows k bad (ctx .calls) f ∙ ap first (walk-one (callsWhere bad) p e) ∙ ap (λ a. first (collect (callsWhere bad) a e)) (sym place));
+        shaped = w .shaped ∙ ap (λ x. orElse (d .shaped) (firstIf (loneB many (arityB s rows nodes p)) at (firstIf (otherB many (arityB s rows nodes p)) p x))) inner
             ∙ rw (ar, ← len, n .shaped, ← place) refl;
         marked = n .marked;
         sized =
@@ -387,25 +429,25 @@ mark-append names defined (p ∷ ps) qs = mark-append names (set defined (getD n
 abbrev pub EquationPassing : List ℕ → ℕ → ℕ → List Equation → ℕ → ℕ → Type 0
 EquationPassing s enums at qs i next = Passing equationBytes (equationFits base enums) equationSize s at qs i next
 
-pub record EquationsGoing (s names rows : List ℕ) (nodes : ℕ) (t : File) (visible : List ℕ) (bad : ℕ → ℕ → Bool) (inputs enums : ℕ) (qs : List Equation) (slots₀ defined₀ : List ℕ) (f : Faults) (slots defined : List ℕ) (g : Faults) (i : ℕ) : Type 0 where
+pub record EquationsGoing (s names rows : List ℕ) (nodes : ℕ) (t : File) (visible : List ℕ) (bad : ℕ → ℕ → Bool) (inputs enums : ℕ) (qs : List Equation) (slots₀ defined₀ : List ℕ) (f : Findings) (slots defined : List ℕ) (g : Findings) (i : ℕ) : Type 0 where
   pub passing : EquationPassing s enums (f .next) qs i (g .next)
-  pub unseen : foundIn (placeOf (g .unseen)) (concat (map (equationUses visible) (placed equationSize (g .next) (drop i qs)))) ≡ foundIn (placeOf (f .unseen)) (concat (map (equationUses visible) (placed equationSize (f .next) qs)))
-  pub again : foundIn (placeOf (g .again)) (againB names inputs defined (concat (map definedBy (placed equationSize (g .next) (drop i qs))))) ≡ foundIn (placeOf (f .again)) (againB names inputs defined₀ (concat (map definedBy (placed equationSize (f .next) qs))))
-  pub called : foundIn (placeOf (g .called)) (concat (map (inEquation (callsWhere bad)) (placed equationSize (g .next) (drop i qs)))) ≡ foundIn (placeOf (f .called)) (concat (map (inEquation (callsWhere bad)) (placed equationSize (f .next) qs)))
-  pub shaped : foundIn (placeOf (g .shaped)) (concat (map (equationShape t) (placed equationSize (g .next) (drop i qs)))) ≡ foundIn (placeOf (f .shaped)) (concat (map (equationShape t) (placed equationSize (f .next) qs)))
+  pub unseen : foundIn (g .unseen) (concat (map (equationUses visible) (placed equationSize (g .next) (drop i qs)))) ≡ foundIn (f .unseen) (concat (map (equationUses visible) (placed equationSize (f .next) qs)))
+  pub again : foundIn (g .again) (againB names inputs defined (concat (map definedBy (placed equationSize (g .next) (drop i qs))))) ≡ foundIn (f .again) (againB names inputs defined₀ (concat (map definedBy (placed equationSize (f .next) qs))))
+  pub called : foundIn (g .called) (concat (map (inEquation (callsWhere bad)) (placed equationSize (g .next) (drop i qs)))) ≡ foundIn (f .called) (concat (map (inEquation (callsWhere bad)) (placed equationSize (f .next) qs)))
+  pub shaped : foundIn (g .shaped) (concat (map (equationShape t) (placed equationSize (g .next) (drop i qs)))) ≡ foundIn (f .shaped) (concat (map (equationShape t) (placed equationSize (f .next) qs)))
   pub slotted : slotEquations s names slots (placed equationSize (g .next) (drop i qs)) ≡ slotEquations s names slots₀ (placed equationSize (f .next) qs)
   pub marked : markAll names defined (concat (map definedBy (placed equationSize (g .next) (drop i qs)))) ≡ markAll names defined₀ (concat (map definedBy (placed equationSize (f .next) qs)))
   pub sized : Adding (f .size) (map (calleeB rows nodes) (concat (map equationSites qs))) (g .size) (map (calleeB rows nodes) (concat (map equationSites (drop i qs))))
 
-module _ {s names rows : List ℕ} {nodes : ℕ} {t : File} {visible : List ℕ} {bad : ℕ → ℕ → Bool} {inputs enums : ℕ} {qs : List Equation} {slots₀ defined₀ : List ℕ} {f : Faults} where
+module _ {s names rows : List ℕ} {nodes : ℕ} {t : File} {visible : List ℕ} {bad : ℕ → ℕ → Bool} {inputs enums : ℕ} {qs : List Equation} {slots₀ defined₀ : List ℕ} {f : Findings} where
   pub equations-start : f .size ≤ 65536 → Listed equationBytes (equationFits base enums) s (f .next) qs → EquationsGoing s names rows nodes t visible bad inputs enums qs slots₀ defined₀ f slots₀ defined₀ f 0
   equations-start le h = record { passing = passing-start equationBytes (equationFits base enums) equationSize h; unseen = refl; again = refl; called = refl; shaped = refl; slotted = refl; marked = refl; sized = (le, refl) }
 
-  module _ {slots defined : List ℕ} {g : Faults} {i : ℕ} (w : EquationsGoing s names rows nodes t visible bad inputs enums qs slots₀ defined₀ f slots defined g i) where
+  module _ {slots defined : List ℕ} {g : Findings} {i : ℕ} (w : EquationsGoing s names rows nodes t visible bad inputs enums qs slots₀ defined₀ f slots defined g i) where
     equation-at : i < length qs → PassedItem equationBytes (equationFits base enums) equationSize s (f .next) qs i (g .next) (getD qs i noEquation)
     equation-at lt = passing-item equation-size noEquation (w .passing) lt
 
-    pub equations-turn : i < length qs → (slots′ defined′ : List ℕ) (r : Faults) → {k : ℕ} → Context t k names rows nodes visible bad → EquationWalked s names rows nodes k inputs slots slots′ defined defined′ g r
+    pub equations-turn : i < length qs → (slots′ defined′ : List ℕ) (r : Findings) → {k : ℕ} → Context t k names rows nodes visible bad → EquationWalked s names rows nodes k inputs slots slots′ defined defined′ g r
         → EquationsGoing s names rows nodes t visible bad inputs enums qs slots₀ defined₀ f slots′ defined′ r (i + 1)
     unfolding slotEquations
     equations-turn lt slots′ defined′ r ctx walked =
@@ -415,17 +457,17 @@ module _ {s names rows : List ℕ} {nodes : ℕ} {t : File} {visible : List ℕ}
         let on = placed-on equationSize noEquation qs i (g .next) lt in
         record {
           passing = subst (EquationPassing s enums (f .next) qs (i + 1)) (sym (j .next)) (it .on);
-          unseen = left-step (equationUses visible) equationSize noEquation qs i (g .next) (r .next) (placeOf (g .unseen)) _ _ lt (j .next) (j .unseen) (w .unseen);
+          unseen = left-step (equationUses visible) equationSize noEquation qs i (g .next) (r .next) (g .unseen) _ _ lt (j .next) (j .unseen) (w .unseen);
           again =
               let here = definedBy (g .next, q) in
               let rest = concat (map definedBy (placed equationSize (g .next + equationSize q) (drop (i + 1) qs))) in
-              ap (λ n. foundIn (placeOf (r .again)) (againB names inputs defined′ (concat (map definedBy (placed equationSize n (drop (i + 1) qs)))))) (j .next)
-              ∙ ap (λ o. foundIn o (againB names inputs defined′ rest)) (j .again) ∙ ap (λ l. foundIn (foundIn (placeOf (g .again)) (againB names inputs defined here)) (againB names inputs l rest)) (j .marked)
-              ∙ found-append (placeOf (g .again)) (againB names inputs defined here) (againB names inputs (markAll names defined here) rest)
-              ∙ ap (foundIn (placeOf (g .again))) (sym (again-append names inputs defined here rest))
-              ∙ ap (λ l. foundIn (placeOf (g .again)) (againB names inputs defined (concat (map definedBy l)))) (sym on) ∙ w .again;
-          called = left-step (inEquation (callsWhere bad)) equationSize noEquation qs i (g .next) (r .next) (placeOf (g .called)) _ _ lt (j .next) (j .called) (w .called);
-          shaped = left-step (equationShape t) equationSize noEquation qs i (g .next) (r .next) (placeOf (g .shaped)) _ _ lt (j .next) (j .shaped) (w .shaped);
+              ap (λ n. foundIn (r .again) (againB names inputs defined′ (concat (map definedBy (placed equationSize n (drop (i + 1) qs)))))) (j .next)
+              ∙ ap (λ o. foundIn o (againB names inputs defined′ rest)) (j .again) ∙ ap (λ l. foundIn (foundIn (g .again) (againB names inputs defined here)) (againB names inputs l rest)) (j .marked)
+              ∙ found-append (g .again) (againB names inputs defined here) (againB names inputs (markAll names defined here) rest)
+              ∙ ap (foundIn (g .again)) (sym (again-append names inputs defined here rest))
+              ∙ ap (λ l. foundIn (g .again) (againB names inputs defined (concat (map definedBy l)))) (sym on) ∙ w .again;
+          called = left-step (inEquation (callsWhere bad)) equationSize noEquation qs i (g .next) (r .next) (g .called) _ _ lt (j .next) (j .called) (w .called);
+          shaped = left-step (equationShape t) equationSize noEquation qs i (g .next) (r .next) (g .shaped) _ _ lt (j .next) (j .shaped) (w .shaped);
           slotted = ap (λ n. slotEquations s names slots′ (placed equationSize n (drop (i + 1) qs))) (j .next)
               ∙ ap (λ l. slotEquations s names l (placed equationSize (g .next + equationSize q) (drop (i + 1) qs))) (j .slotted)
               ∙ ap (slotEquations s names slots) (sym on) ∙ w .slotted;
@@ -454,10 +496,10 @@ module _ {s names rows : List ℕ} {nodes : ℕ} {t : File} {visible : List ℕ}
     unfolding slotEquations againB markAll
     equations-done over =
         record {
-          unseen = left-none (equationUses visible) equationSize qs i (g .next) (placeOf (g .unseen)) _ over (w .unseen);
-          again = sym (found-none (placeOf (g .again))) ∙ ap (λ l. foundIn (placeOf (g .again)) (againB names inputs defined (concat (map definedBy (placed equationSize (g .next) l))))) (sym (drop-of-length-le qs over)) ∙ w .again;
-          called = left-none (inEquation (callsWhere bad)) equationSize qs i (g .next) (placeOf (g .called)) _ over (w .called);
-          shaped = left-none (equationShape t) equationSize qs i (g .next) (placeOf (g .shaped)) _ over (w .shaped);
+          unseen = left-none (equationUses visible) equationSize qs i (g .next) (g .unseen) _ over (w .unseen);
+          again = sym (found-none (g .again)) ∙ ap (λ l. foundIn (g .again) (againB names inputs defined (concat (map definedBy (placed equationSize (g .next) l))))) (sym (drop-of-length-le qs over)) ∙ w .again;
+          called = left-none (inEquation (callsWhere bad)) equationSize qs i (g .next) (g .called) _ over (w .called);
+          shaped = left-none (equationShape t) equationSize qs i (g .next) (g .shaped) _ over (w .shaped);
           slotted = ap (λ l. slotEquations s names slots (placed equationSize (g .next) l)) (sym (drop-of-length-le qs over)) ∙ w .slotted;
           marked = ap (λ l. markAll names defined (concat (map definedBy (placed equationSize (g .next) l)))) (sym (drop-of-length-le qs over)) ∙ w .marked;
           sized =

@@ -25,7 +25,7 @@ use Rattle.ol_check.specs.Founds.{placeOf}
 use Rattle.ol_tables.specs.Heads.{Byte}
 use Rattle.ol_check.specs.Spans.{variantsFrom}
 use Rattle.ol_check.specs.Entries.{declared, declareAll, variantEntry, constantEntries, Global}
-use Rattle.ol_check.specs.Judging.{foundIn, Knows, globalNames}
+use Rattle.ol_check.specs.Judging.{Findings, foundIn, Knows, globalNames}
 use Rattle.ol_check.specs.NodesJudged.{RowsReady, AllCovered, NamesReady, nodeAgain, NodesJudged, slotNodes}
 use Rattle.ol_check.specs.ConstantsJudged.{ConstantsJudged, ConstantsReady, slotConstants}
 use Rattle.ol_check.specs.Sizes.{NodesSized}
@@ -132,7 +132,7 @@ module _ {s rows names : List ℕ} {at : Sections} (rd : FileReady s rows names 
           stand = subst (λ p. Listed constantBytes (constantFits base (length (f .enums))) s p (f .constants)) (sym (rd .sections .constants)) (st .constants);
         }
 
-    module _ {names₂ slots slots₁ : List ℕ} {g₀ g : Faults} (en : g₀ .next ≡ at .constants + 1) (eu : placeOf (g₀ .unseen) ≡ none) (eg : placeOf (g₀ .again) ≡ none) (ec₀ : placeOf (g₀ .called) ≡ none) (eh : placeOf (g₀ .shaped) ≡ none)
+    module _ {names₂ slots slots₁ : List ℕ} {g₀ g : Findings} (en : g₀ .next ≡ at .constants + 1) (eu : g₀ .unseen ≡ none) (eg : g₀ .again ≡ none) (ec₀ : g₀ .called ≡ none) (eh : g₀ .shaped ≡ none)
         (cj : ConstantsJudged s names₁ (fileAt s) (variants (fileAt s)) (g₀ .next) (fileAt s .constants) slots slots₁ names₂ g₀ g) where
       pub global-is : names₂ ≡ globalTable names (fileAt s)
       global-is = cj .entered ∙ ap (λ l. declareAll l (constantEntries 0 (fileAt s .constants))) table-is
@@ -147,22 +147,22 @@ module _ {s rows names : List ℕ} {at : Sections} (rd : FileReady s rows names 
             covered = subst (λ n. AllCovered n f) same (within .nodes);
           }
 
-      module _ {names₃ slots₂ rows′ : List ℕ} {r : Faults} (same : names₃ ≡ names₂) (nj : NodesJudged s names₂ (fileAt s) slots₁ slots₂ g r) (ns : NodesSized (fileAt s) rows rows′ (g .size) (r .size)) where
+      module _ {names₃ slots₂ rows′ : List ℕ} {r : Faults} {e : Findings} (same : names₃ ≡ names₂) (nj : NodesJudged s names₂ (fileAt s) slots₁ slots₂ g e) (ns : NodesSized (fileAt s) rows rows′ (g .size) (r .size)) (xu : placeOf (r .unseen) ≡ e .unseen) (xg : placeOf (r .again) ≡ e .again) (xc : placeOf (r .called) ≡ e .called) (xh : placeOf (r .shaped) ≡ e .shaped) where
         pub file-judged : FileJudged s (fileAt s) names names₃ slots slots₂ rows rows′ r
         unfolding fault7 fault8 fault9 fault10
         file-judged =
             let f = fileAt s in
-            let table-again : placeOf (r .again) ≡ first (concat (map (nodeAgain names₂) (placedNodes f))) = nj .again ∙ ap (λ o. foundIn o (concat (map (nodeAgain names₂) (placedNodes f)))) (ap placeOf (cj .again) ∙ eg) in
+            let table-again : placeOf (r .again) ≡ first (concat (map (nodeAgain names₂) (placedNodes f))) = xg ∙ nj .again ∙ ap (λ o. foundIn o (concat (map (nodeAgain names₂) (placedNodes f)))) (cj .again ∙ eg) in
             let start : g₀ .next ≡ constantsStart f = en ∙ rd .sections .constants in
             let cs = f .constants in
             record {
-              unseen = nj .unseen ∙ ap (λ o. foundIn o (concat (map (nodeUses (constantNames f ++ variants f)) (placedNodes f)))) (cj .unseen ∙ ap (λ o. foundIn o (constantUses (variants f) (placed constantSize (g₀ .next) cs))) eu ∙ ap (λ p. first (constantUses (variants f) (placed constantSize p cs))) start)
+              unseen = xu ∙ nj .unseen ∙ ap (λ o. foundIn o (concat (map (nodeUses (constantNames f ++ variants f)) (placedNodes f)))) (cj .unseen ∙ ap (λ o. foundIn o (constantUses (variants f) (placed constantSize (g₀ .next) cs))) eu ∙ ap (λ p. first (constantUses (variants f) (placed constantSize p cs))) start)
                   ∙ sym (first-append (constantUses (variants f) (placedConstants f)) (concat (map (nodeUses (constantNames f ++ variants f)) (placedNodes f))));
               taken = table-again ∙ ap (λ l. first (concat (map (nodeAgain l) (placedNodes f)))) global-is;
               again = λ no7. table-again ∙ ap first (nodes-defined st names₂ (names-ready .global) (names-ready .knows) (names-ready .covered) no7);
-              called = nj .called ∙ ap (λ o. foundIn o (concat (map (nodeCalls f) (numbered 0 (placedNodes f))))) (cj .called ∙ ap (λ o. foundIn o (concat (map (inConstant (callsWhere (λ x n. true))) (placed constantSize (g₀ .next) cs)))) ec₀ ∙ ap (λ p. first (concat (map (inConstant (callsWhere (λ x n. true))) (placed constantSize p cs)))) start)
+              called = xc ∙ nj .called ∙ ap (λ o. foundIn o (concat (map (nodeCalls f) (numbered 0 (placedNodes f))))) (cj .called ∙ ap (λ o. foundIn o (concat (map (inConstant (callsWhere (λ x n. true))) (placed constantSize (g₀ .next) cs)))) ec₀ ∙ ap (λ p. first (concat (map (inConstant (callsWhere (λ x n. true))) (placed constantSize p cs)))) start)
                   ∙ sym (first-append (concat (map (inConstant (callsWhere (λ x n. true))) (placedConstants f))) (concat (map (nodeCalls f) (numbered 0 (placedNodes f)))));
-              shaped = nj .shaped ∙ ap (λ o. foundIn o (concat (map (nodeShape f) (placedNodes f)))) (cj .shaped ∙ ap (λ o. foundIn o (concat (map (inConstant (shapeItem f)) (placed constantSize (g₀ .next) cs)))) eh ∙ ap (λ p. first (concat (map (inConstant (shapeItem f)) (placed constantSize p cs)))) start)
+              shaped = xh ∙ nj .shaped ∙ ap (λ o. foundIn o (concat (map (nodeShape f) (placedNodes f)))) (cj .shaped ∙ ap (λ o. foundIn o (concat (map (inConstant (shapeItem f)) (placed constantSize (g₀ .next) cs)))) eh ∙ ap (λ p. first (concat (map (inConstant (shapeItem f)) (placed constantSize p cs)))) start)
                   ∙ sym (first-append (concat (map (inConstant (shapeItem f)) (placedConstants f))) (concat (map (nodeShape f) (placedNodes f))));
               entered = same ∙ global-is;
               slotted = nj .slotted ∙ ap (λ l. slotNodes s l slots₁ (placedNodes f)) global-is

@@ -2,14 +2,15 @@
 use Prim.Native.Nat.{ℕ, _+_, _-_, _*_, _≤_, _<_}
 use mathlib.Core.Bool.{Bool, true, false, not}
 use mathlib.Core.List.{List}
-use mathlib.Core.Path.{_≡_, refl, sym, _∙_}
+use mathlib.Core.Path.{_≡_, refl, sym, ap, _∙_}
 use lib.ListN.{getD, set}
 use lib.Dec.{ltb, eqb}
 use borrow.Author.Tests.{lt-ltb, le-ltb, ne-eqb}
 use Rattle.ol_tables.specs.Tables.{rowAt}
 use Rattle.ol_tables.specs.Heads.{nameAt}
 use Rattle.ol_tables.specs.Heads.{Byte}
-use Rattle.ol_check.specs.Judging.{plainB, unseenB, slotOfEntry, slotPut, slotHead, mayB, badB, calledB, outputsB, arityB}
+use Rattle.ol_check.specs.Founds.{markPlace}
+use Rattle.ol_check.specs.Judging.{varFound, callFound, unseenB, slotOfEntry, slotPut, slotHead, mayB, badB, calledB, outputsB, arityB}
 
 pub may-imported : (a b : ℕ) → b ≡ 2 → false ≡ mayB a b
 may-imported a b e = rw e refl
@@ -50,12 +51,6 @@ module _ (s : List ℕ) (p c : ℕ) (b : Byte s p c) where
   pub arity-one : (rows : List ℕ) (nodes : ℕ) → (c ≡ 12 → ⊥) → (c ≡ 11 → ⊥) → 1 ≡ arityB s rows nodes p
   arity-one rows nodes h g = rw (← b .is, ne-eqb c 12 h, ne-eqb c 11 g) refl
 
-  pub plain-var : c ≡ 4 → false ≡ plainB s p
-  plain-var q = rw (← b .is, q) refl
-
-  pub plain-other : (c ≡ 4 → ⊥) → ltb c 11 ≡ plainB s p
-  plain-other q = rw (← b .is, ne-eqb c 4 q) refl
-
   pub unseen-var : (names : List ℕ) (x e : ℕ) → c ≡ 4 → x ≡ nameAt s (p + 1) → Byte names x e → eqb e 0 ≡ unseenB s names p
   unseen-var names x e q ex be = rw (← b .is, q, be .is, ex) refl
 
@@ -85,3 +80,15 @@ slot-place e h g = rw (ne-eqb e 0 h, ne-eqb e 255 g) refl
 
 pub slot-stored : (s names slots slots′ : List ℕ) (p x e b : ℕ) → x ≡ nameAt s p → Byte names x e → b ≡ slotOfEntry e → slots′ ≡ set slots p b → slots′ ≡ slotPut s names slots p
 slot-stored s names slots slots′ p x e b ex be eb es = es ∙ rw (eb, be .is, ex) refl
+
+-- ---- what a Var, a call and a Tuple make of the first places
+
+pub var-judged : (s names slots found : List ℕ) (p : ℕ) {slots′ found′ : List ℕ} {x e b : ℕ} → x ≡ nameAt s (p + 1) → Byte names x e → b ≡ slotOfEntry e → slots′ ≡ set slots (p + 1) b → found′ ≡ markPlace found 0 (eqb e 0) (p + 1)
+    → (slots′ ≡ slotPut s names slots (p + 1)) × (found′ ≡ varFound s names found p)
+var-judged s names slots found p ex be eb es ef =
+    let ee = be .is ∙ ap (λ n. getD names n 0) ex in
+    (es ∙ ap (set slots (p + 1)) (eb ∙ ap slotOfEntry ee), ef ∙ ap (λ n. markPlace found 0 (eqb n 0) (p + 1)) ee)
+
+pub call-judged : (s rows found : List ℕ) (nodes k p : ℕ) {found₁ found′ : List ℕ} {n : ℕ} {q : Bool} → q ≡ calledB s rows k p → found₁ ≡ markPlace found 2 q p → n ≡ arityB s rows nodes p → found′ ≡ markPlace found₁ 3 (ltb 1 n) p → found′ ≡ callFound s rows nodes k found p
+call-judged s rows found nodes k p {found₁} {found′} eq e₁ en e₂ =
+    e₂ ∙ ap (λ m. markPlace found₁ 3 (ltb 1 m) p) en ∙ ap (λ l. markPlace l 3 (ltb 1 (arityB s rows nodes p)) p) (e₁ ∙ ap (λ b. markPlace found 2 b p) eq)

@@ -19,6 +19,7 @@ pub mod SlotEntries
 pub mod TabLaws
 pub mod ConstantSlots
 pub mod Sorts
+pub mod FoundLaws
 pub mod FileSlots
 pub mod SizeTable
 pub mod ClashLaws

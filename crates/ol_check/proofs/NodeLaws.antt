@@ -27,14 +27,12 @@ use Rattle.ol_tables.specs.At.{fileAt}
 use Rattle.ol_tables.specs.Tables.{rowAt, nodeOf, Each}
 use Rattle.ol_tables.specs.Stands.{Listed, Variables, NodeStands, FileStands}
 use Rattle.ol_tables.proofs.HeadsFile.{node-at}
-use Rattle.ol_check.specs.Founds.{placeOf}
 use Rattle.ol_tables.specs.Heads.{Byte}
 use Rattle.ol_check.specs.RowsDone.{NodeRow}
 use Rattle.ol_check.specs.Records.{calleeB, recordBy}
 use Rattle.ol_check.specs.Entries.{declareAll, forgetAll, variableEntries, Global}
-use Rattle.ol_check.specs.Judging.{mayB, badB, outputsB, Knows, Context, EquationsJudged, foundIn, slotEquations, againB, globalNames, seenIn, EquationsReady}
+use Rattle.ol_check.specs.Judging.{Findings, mayB, badB, outputsB, Knows, Context, EquationsJudged, foundIn, slotEquations, againB, globalNames, seenIn, EquationsReady}
 use Rattle.ol_check.specs.NodesJudged.{placeIn, NodeReady, nodeTable, Covered, nodeAgain, NodeJudged, RowsReady, slotNodes, NodesJudged, NamesReady}
-use Rattle.ol_check.specs.declared.Faults.{Faults}
 use Rattle.ol_check.proofs.EntryLaws.{declare-append, forget-append, entries-append, Enterable, knows-all, restored}
 
 -- ---- the sections of variables
@@ -170,7 +168,7 @@ equations-ready {s} {rows} {nodes} {k} rd st names {n₁} {m} {a} nr en em ea =
       stand = subst (λ x. Listed equationBytes (equationFits base (length (f .enums))) s x (n .equations)) (sym (ea ∙ row .equations)) (node-at st k (omega (arith, rd .low, rd .many)) .equations);
     }
 
-module _ {s rows : List ℕ} {nodes k : ℕ} (rd : NodeReady s rows nodes k) (st : FileStands s (fileAt s)) (names : List ℕ) {n₁ slots slots′ defined′ : List ℕ} {m a i v : ℕ} {g r : Faults}
+module _ {s rows : List ℕ} {nodes k : ℕ} (rd : NodeReady s rows nodes k) (st : FileStands s (fileAt s)) (names : List ℕ) {n₁ slots slots′ defined′ : List ℕ} {m a i v : ℕ} {g r : Findings}
     (en : n₁ ≡ nodeTable names (nodeOf (fileAt s) k)) (em : m ≡ getD rows (k * 8 + 5) 0) (ea : a ≡ getD rows (k * 8 + 1) 0) (ei : i ≡ getD rows (k * 8 + 2) 0) (ev : v ≡ getD rows (k * 8 + 4) 0)
     (w : EquationsJudged s n₁ rows nodes (fileAt s) (seenIn (fileAt s) k) (badCall (fileAt s) k (nodeOf (fileAt s) k)) i a (nodeOf (fileAt s) k .equations) slots slots′ (replicate 256 0) defined′
     (record { unseen = g .unseen; again = g .again; called = g .called; shaped = g .shaped; size = 1 + 9 * v; next = a }) r) where
@@ -184,12 +182,12 @@ module _ {s rows : List ℕ} {nodes k : ℕ} (rd : NodeReady s rows nodes k) (st
       let visible = globalNames f in
       let here : a ≡ equationsStart p n + 1 = ea ∙ row .equations in
       record {
-        unseen = w .unseen ∙ ap (λ x. foundIn (placeOf (g .unseen)) (concat (map (equationUses (variableNames n ++ visible)) (placed equationSize x (n .equations))))) here;
-        again = w .again ∙ ap (λ x. foundIn (placeOf (g .again)) (againB n₁ i (replicate 256 0) (concat (map definedBy (placed equationSize x (n .equations)))))) here
-            ∙ ap (λ l. foundIn (placeOf (g .again)) (againB l i (replicate 256 0) (concat (map definedBy (placed equationSize (equationsStart p n + 1) (n .equations)))))) en
-            ∙ ap (λ x. foundIn (placeOf (g .again)) (againB (nodeTable names n) x (replicate 256 0) (concat (map definedBy (placed equationSize (equationsStart p n + 1) (n .equations)))))) (ei ∙ row .inputs);
-        called = w .called ∙ ap (λ x. foundIn (placeOf (g .called)) (concat (map (inEquation (callsWhere (badCall f k n))) (placed equationSize x (n .equations))))) here;
-        shaped = w .shaped ∙ ap (λ x. foundIn (placeOf (g .shaped)) (concat (map (equationShape f) (placed equationSize x (n .equations))))) here;
+        unseen = w .unseen ∙ ap (λ x. foundIn (g .unseen) (concat (map (equationUses (variableNames n ++ visible)) (placed equationSize x (n .equations))))) here;
+        again = w .again ∙ ap (λ x. foundIn (g .again) (againB n₁ i (replicate 256 0) (concat (map definedBy (placed equationSize x (n .equations)))))) here
+            ∙ ap (λ l. foundIn (g .again) (againB l i (replicate 256 0) (concat (map definedBy (placed equationSize (equationsStart p n + 1) (n .equations)))))) en
+            ∙ ap (λ x. foundIn (g .again) (againB (nodeTable names n) x (replicate 256 0) (concat (map definedBy (placed equationSize (equationsStart p n + 1) (n .equations)))))) (ei ∙ row .inputs);
+        called = w .called ∙ ap (λ x. foundIn (g .called) (concat (map (inEquation (callsWhere (badCall f k n))) (placed equationSize x (n .equations))))) here;
+        shaped = w .shaped ∙ ap (λ x. foundIn (g .shaped) (concat (map (equationShape f) (placed equationSize x (n .equations))))) here;
         slotted = w .slotted ∙ ap (λ x. slotEquations s n₁ slots (placed equationSize x (n .equations))) here ∙ ap (λ l. slotEquations s l slots (placed equationSize (equationsStart p n + 1) (n .equations))) en;
         sized = w .sized ∙ ap (λ x. min (1 + 9 * x + sum (map (calleeB rows nodes) (sites n))) 65536) (ev ∙ row .variables);
       }
@@ -222,19 +220,19 @@ nodes-on f k lt =
 left-on : {A : Type 0} (g : A → List Item) (l rest : List A) (x : A) (o o′ z : Option ℕ) → l ≡ x ∷ rest → o′ ≡ foundIn o (g x) → foundIn o (concat (map g l)) ≡ z → foundIn o′ (concat (map g rest)) ≡ z
 left-on g l rest x o o′ z el eo ez = ap (λ y. foundIn y (concat (map g rest))) eo ∙ found-append o (g x) (concat (map g rest)) ∙ ap (λ m. foundIn o (concat (map g m))) (sym el) ∙ ez
 
-pub record NodesGoing (s names : List ℕ) (f : File) (slots₀ : List ℕ) (g₀ : Faults) (slots : List ℕ) (g : Faults) (k : ℕ) : Type 0 where
-  pub unseen : foundIn (placeOf (g .unseen)) (concat (map (nodeUses (globalNames f)) (drop k (placedNodes f)))) ≡ foundIn (placeOf (g₀ .unseen)) (concat (map (nodeUses (globalNames f)) (placedNodes f)))
-  pub again : foundIn (placeOf (g .again)) (concat (map (nodeAgain names) (drop k (placedNodes f)))) ≡ foundIn (placeOf (g₀ .again)) (concat (map (nodeAgain names) (placedNodes f)))
-  pub called : foundIn (placeOf (g .called)) (concat (map (nodeCalls f) (numbered k (drop k (placedNodes f))))) ≡ foundIn (placeOf (g₀ .called)) (concat (map (nodeCalls f) (numbered 0 (placedNodes f))))
-  pub shaped : foundIn (placeOf (g .shaped)) (concat (map (nodeShape f) (drop k (placedNodes f)))) ≡ foundIn (placeOf (g₀ .shaped)) (concat (map (nodeShape f) (placedNodes f)))
+pub record NodesGoing (s names : List ℕ) (f : File) (slots₀ : List ℕ) (g₀ : Findings) (slots : List ℕ) (g : Findings) (k : ℕ) : Type 0 where
+  pub unseen : foundIn (g .unseen) (concat (map (nodeUses (globalNames f)) (drop k (placedNodes f)))) ≡ foundIn (g₀ .unseen) (concat (map (nodeUses (globalNames f)) (placedNodes f)))
+  pub again : foundIn (g .again) (concat (map (nodeAgain names) (drop k (placedNodes f)))) ≡ foundIn (g₀ .again) (concat (map (nodeAgain names) (placedNodes f)))
+  pub called : foundIn (g .called) (concat (map (nodeCalls f) (numbered k (drop k (placedNodes f))))) ≡ foundIn (g₀ .called) (concat (map (nodeCalls f) (numbered 0 (placedNodes f))))
+  pub shaped : foundIn (g .shaped) (concat (map (nodeShape f) (drop k (placedNodes f)))) ≡ foundIn (g₀ .shaped) (concat (map (nodeShape f) (placedNodes f)))
   pub slotted : slotNodes s names slots (drop k (placedNodes f)) ≡ slotNodes s names slots₀ (placedNodes f)
 
-module _ {s names : List ℕ} {f : File} {slots₀ : List ℕ} {g₀ : Faults} where
+module _ {s names : List ℕ} {f : File} {slots₀ : List ℕ} {g₀ : Findings} where
   pub nodes-start : NodesGoing s names f slots₀ g₀ slots₀ g₀ 0
   nodes-start = record { unseen = refl; again = refl; called = refl; shaped = refl; slotted = refl }
 
-  module _ {slots : List ℕ} {g : Faults} {k : ℕ} (w : NodesGoing s names f slots₀ g₀ slots g k) where
-    pub nodes-turn : k < length (f .nodes) → (slots′ : List ℕ) (r : Faults) {rows : List ℕ} {nodes : ℕ} → NodeJudged s names rows nodes f k slots slots′ g r → NodesGoing s names f slots₀ g₀ slots′ r (k + 1)
+  module _ {slots : List ℕ} {g : Findings} {k : ℕ} (w : NodesGoing s names f slots₀ g₀ slots g k) where
+    pub nodes-turn : k < length (f .nodes) → (slots′ : List ℕ) (r : Findings) {rows : List ℕ} {nodes : ℕ} → NodeJudged s names rows nodes f k slots slots′ g r → NodesGoing s names f slots₀ g₀ slots′ r (k + 1)
     unfolding slotNodes
     nodes-turn lt slots′ r j =
         let x : ℕ × Node = (placeIn f k, nodeOf f k) in
@@ -242,10 +240,10 @@ module _ {s names : List ℕ} {f : File} {slots₀ : List ℕ} {g₀ : Faults} w
         let rest = drop (k + 1) (placedNodes f) in
         let counted : numbered k (drop k (placedNodes f)) ≡ (k, x) ∷ numbered (k + 1) rest = ap (numbered k) on ∙ ap (λ n. (k, x) ∷ numbered n rest) (sym (add-one k)) in
         record {
-          unseen = left-on (nodeUses (globalNames f)) (drop k (placedNodes f)) rest x (placeOf (g .unseen)) _ _ on (j .unseen) (w .unseen);
-          again = left-on (nodeAgain names) (drop k (placedNodes f)) rest x (placeOf (g .again)) _ _ on (j .again) (w .again);
-          called = left-on (nodeCalls f) (numbered k (drop k (placedNodes f))) (numbered (k + 1) rest) (k, x) (placeOf (g .called)) _ _ counted (j .called) (w .called);
-          shaped = left-on (nodeShape f) (drop k (placedNodes f)) rest x (placeOf (g .shaped)) _ _ on (j .shaped) (w .shaped);
+          unseen = left-on (nodeUses (globalNames f)) (drop k (placedNodes f)) rest x (g .unseen) _ _ on (j .unseen) (w .unseen);
+          again = left-on (nodeAgain names) (drop k (placedNodes f)) rest x (g .again) _ _ on (j .again) (w .again);
+          called = left-on (nodeCalls f) (numbered k (drop k (placedNodes f))) (numbered (k + 1) rest) (k, x) (g .called) _ _ counted (j .called) (w .called);
+          shaped = left-on (nodeShape f) (drop k (placedNodes f)) rest x (g .shaped) _ _ on (j .shaped) (w .shaped);
           slotted = ap (λ l. slotNodes s names l rest) (j .slotted) ∙ ap (slotNodes s names slots) (sym on) ∙ w .slotted;
         }
 
@@ -254,10 +252,10 @@ module _ {s names : List ℕ} {f : File} {slots₀ : List ℕ} {g₀ : Faults} w
     nodes-judged over =
         let empty : drop k (placedNodes f) ≡ [] = drop-of-length-le (placedNodes f) {i = k} (omega (arith, length-placed nodeSize (nodesStart f) (f .nodes))) in
         record {
-          unseen = sym (found-none (placeOf (g .unseen))) ∙ ap (λ l. foundIn (placeOf (g .unseen)) (concat (map (nodeUses (globalNames f)) l))) (sym empty) ∙ w .unseen;
-          again = sym (found-none (placeOf (g .again))) ∙ ap (λ l. foundIn (placeOf (g .again)) (concat (map (nodeAgain names) l))) (sym empty) ∙ w .again;
-          called = sym (found-none (placeOf (g .called))) ∙ ap (λ l. foundIn (placeOf (g .called)) (concat (map (nodeCalls f) (numbered k l)))) (sym empty) ∙ w .called;
-          shaped = sym (found-none (placeOf (g .shaped))) ∙ ap (λ l. foundIn (placeOf (g .shaped)) (concat (map (nodeShape f) l))) (sym empty) ∙ w .shaped;
+          unseen = sym (found-none (g .unseen)) ∙ ap (λ l. foundIn (g .unseen) (concat (map (nodeUses (globalNames f)) l))) (sym empty) ∙ w .unseen;
+          again = sym (found-none (g .again)) ∙ ap (λ l. foundIn (g .again) (concat (map (nodeAgain names) l))) (sym empty) ∙ w .again;
+          called = sym (found-none (g .called)) ∙ ap (λ l. foundIn (g .called) (concat (map (nodeCalls f) (numbered k l)))) (sym empty) ∙ w .called;
+          shaped = sym (found-none (g .shaped)) ∙ ap (λ l. foundIn (g .shaped) (concat (map (nodeShape f) l))) (sym empty) ∙ w .shaped;
           slotted = ap (slotNodes s names slots) (sym empty) ∙ w .slotted;
         }
 
@@ -265,5 +263,5 @@ pub ready-at : {s rows : List ℕ} {nodes : ℕ} → RowsReady s rows nodes → 
 ready-at rd k lt = record { reads = rd .reads; row = rd .row; many = rd .many; low = lt; few = rd .few }
 
 -- the table is the one at the start
-pub judged-same : {s names names₀ rows : List ℕ} {nodes : ℕ} {f : File} {k : ℕ} {slots slots′ : List ℕ} {g r : Faults} → names ≡ names₀ → NodeJudged s names rows nodes f k slots slots′ g r → NodeJudged s names₀ rows nodes f k slots slots′ g r
+pub judged-same : {s names names₀ rows : List ℕ} {nodes : ℕ} {f : File} {k : ℕ} {slots slots′ : List ℕ} {g r : Findings} → names ≡ names₀ → NodeJudged s names rows nodes f k slots slots′ g r → NodeJudged s names₀ rows nodes f k slots slots′ g r
 judged-same {s} {names} {names₀} {rows} {nodes} {f} {k} {slots} {slots′} {g} {r} e h = subst (λ l. NodeJudged s l rows nodes f k slots slots′ g r) e h

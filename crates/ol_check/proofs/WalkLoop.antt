@@ -5,24 +5,24 @@ use mathlib.Core.List.{List, [], _∷_, _++_, map}
 use mathlib.Core.Option.{Option, none, some}
 use mathlib.Core.Path.{_≡_, refl, sym, ap, _∙_}
 use native.Mathlib.Omega.{arith}
-use lib.ListN.{length, getD}
+use lib.ListN.{length, getD, length-set}
 use lib.Dec.{ltb, eqb}
-use borrow.Author.Tests.{ne-eqb, eqb-false, ltb-true}
+use borrow.Author.Tests.{eq-eqb, ne-eqb}
 use Rattle.ol_spec.proofs.Walks.{first-append}
 use Rattle.ol_spec.specs.Lists.{sum}
 use Rattle.ol_spec.specs.Syntax.{Exprs, nil, cons, count}
 use Rattle.ol_spec.specs.Places.{exprsSize, collectAll}
 use Rattle.ol_spec.specs.Admission.{Item}
-use Rattle.ol_tables.specs.Heads.{nameAt, partsOf, headSize, partsAt, nextAt, joined, Standing}
+use Rattle.ol_tables.specs.Heads.{Byte, nameAt, partsOf, headSize, partsAt, nextAt, joined, Standing}
 use Rattle.ol_tables.proofs.HeadLaws.{walk-head, next-told, parts-told, headed, head-some, joined-count}
 use Rattle.ol_tables.proofs.Skipping.{walk-none, walk-end, walk-many, walk-next, walk-turn as step, standing-few, skip-stands}
-use Rattle.ol_check.specs.Founds.{placeOf, earliest}
+use Rattle.ol_check.specs.Founds.{earliest, firstOf, markPlace}
+use Rattle.ol_check.proofs.FoundLaws.{mark-same, mark-other}
 use Rattle.ol_tables.specs.Walks.{HeadOf, walkBy, skipAt}
 use Rattle.ol_check.specs.Records.{siteB, calleeB}
-use Rattle.ol_check.specs.Judging.{headAt, heads, plainB, unseenB, unseenHead, slotPut, slotHead, slotHeads, badB, outputsB, calledB, calledHead, arityB, severalHead, foundIn, Adds, headsFrom, Walked}
-use Rattle.ol_check.specs.declared.Found.{Found}
+use Rattle.ol_check.specs.Judging.{Findings, findings, varFound, callFound, headAt, heads, unseenB, unseenHead, slotPut, slotHead, slotHeads, badB, outputsB, calledB, calledHead, arityB, severalHead, foundIn, Adds, headsFrom, Walked}
 use Rattle.ol_tables.specs.declared.heads.Parts.{Parts}
-use Rattle.ol_check.specs.declared.Faults.{Faults}
+use Rattle.ol_check.specs.declared.Reached.{Reached}
 
 -- an item is judged
 pub found-step : (o : Option ℕ) (b : Bool) (q : ℕ) (is : List Item) → foundIn (earliest o b q) is ≡ foundIn o ((q, b) ∷ is)
@@ -41,15 +41,6 @@ found-append (some p) is js = refl
 earliest-not : (o : Option ℕ) (q : ℕ) → o ≡ earliest o false q
 earliest-not none q = refl
 earliest-not (some p) q = refl
-
--- a plain head's code
-plain-code : (s : List ℕ) (p : ℕ) → plainB s p ≡ true → (getD s p 0 ≡ 4 → ⊥) × (getD s p 0 < 11)
-plain-code s p t = go (eqb (getD s p 0) 4) (ltb (getD s p 0) 11) refl refl t
-  where
-    go : (a b : Bool) → eqb (getD s p 0) 4 ≡ a → ltb (getD s p 0) 11 ≡ b → not a && b ≡ true → (getD s p 0 ≡ 4 → ⊥) × (getD s p 0 < 11)
-    go true b ea eb t = let z : _≡_ {A = ℕ} 0 1 = cc in absurd (omega arith)
-    go false false ea eb t = let z : _≡_ {A = ℕ} 0 1 = cc in absurd (omega arith)
-    go false true ea eb t = (eqb-false (getD s p 0) 4 ea, ltb-true (getD s p 0) 11 eb)
 
 pub heads-none : (at : ℕ) (es : Exprs) → count es ≡ 0 → heads at es ≡ []
 unfolding collectAll
@@ -84,19 +75,21 @@ abbrev pub Adding : ℕ → List ℕ → ℕ → List ℕ → Type 0
 Adding start xs size rest = (size ≤ 65536) × (min (size + sum rest) 65536 ≡ min (start + sum xs) 65536)
 
 -- of so many expressions at `at`, those at `next` are left to be judged
-pub record WalkGoing (s names rows : List ℕ) (nodes k parts at : ℕ) (slots₀ : List ℕ) (u₀ c₀ h₀ : Found) (z₀ : ℕ) (slots : List ℕ) (u c h : Found) (z left next : ℕ) : Type 0 where
+pub record WalkGoing (s names rows : List ℕ) (nodes k parts at : ℕ) (slots₀ : List ℕ) (found₀ : List ℕ) (z₀ : ℕ) (slots found : List ℕ) (z left next : ℕ) : Type 0 where
   pub ends : skipAt s left next ≡ skipAt s parts at
   pub slotted : slotHeads s names slots (headsFrom s left next) ≡ slotHeads s names slots₀ (headsFrom s parts at)
-  pub unseen : foundIn (placeOf u) (map (unseenHead s names) (headsFrom s left next)) ≡ foundIn (placeOf u₀) (map (unseenHead s names) (headsFrom s parts at))
-  pub called : foundIn (placeOf c) (map (calledHead s rows k) (headsFrom s left next)) ≡ foundIn (placeOf c₀) (map (calledHead s rows k) (headsFrom s parts at))
-  pub shaped : foundIn (placeOf h) (map (severalHead s rows nodes) (headsFrom s left next)) ≡ foundIn (placeOf h₀) (map (severalHead s rows nodes) (headsFrom s parts at))
+  pub unseen : foundIn (firstOf found 0) (map (unseenHead s names) (headsFrom s left next)) ≡ foundIn (firstOf found₀ 0) (map (unseenHead s names) (headsFrom s parts at))
+  pub called : foundIn (firstOf found 2) (map (calledHead s rows k) (headsFrom s left next)) ≡ foundIn (firstOf found₀ 2) (map (calledHead s rows k) (headsFrom s parts at))
+  pub shaped : foundIn (firstOf found 3) (map (severalHead s rows nodes) (headsFrom s left next)) ≡ foundIn (firstOf found₀ 3) (map (severalHead s rows nodes) (headsFrom s parts at))
+  pub again : firstOf found 1 ≡ firstOf found₀ 1
+  pub long : length found ≡ length found₀
   pub sized : Adding z₀ (map (siteB s rows nodes) (headsFrom s parts at)) z (map (siteB s rows nodes) (headsFrom s left next))
 
-module _ {s names rows : List ℕ} {nodes k parts at : ℕ} {slots₀ : List ℕ} {u₀ c₀ h₀ : Found} {z₀ : ℕ} where
-  pub walk-start : z₀ ≤ 65536 → WalkGoing s names rows nodes k parts at slots₀ u₀ c₀ h₀ z₀ slots₀ u₀ c₀ h₀ z₀ parts at
-  walk-start le = record { ends = refl; slotted = refl; unseen = refl; called = refl; shaped = refl; sized = (le, refl) }
+module _ {s names rows : List ℕ} {nodes k parts at : ℕ} {slots₀ : List ℕ} {found₀ : List ℕ} {z₀ : ℕ} where
+  pub walk-start : z₀ ≤ 65536 → WalkGoing s names rows nodes k parts at slots₀ found₀ z₀ slots₀ found₀ z₀ parts at
+  walk-start le = record { ends = refl; slotted = refl; unseen = refl; called = refl; shaped = refl; again = refl; long = refl; sized = (le, refl) }
 
-  module _ {slots : List ℕ} {u c h : Found} {z left next : ℕ} (g : WalkGoing s names rows nodes k parts at slots₀ u₀ c₀ h₀ z₀ slots u c h z left next) where
+  module _ {slots found : List ℕ} {z left next : ℕ} (g : WalkGoing s names rows nodes k parts at slots₀ found₀ z₀ slots found z left next) where
     module _ (lt : 0 < left) (inside : next < length s) (room : left ≤ length s) (p : Parts) (hp : HeadOf s next p) where
       on : headsFrom s left next ≡ next ∷ headsFrom s (left - 1 + p .count) (p .start)
       on = step (λ q r. q ∷ r) (λ q. []) s left next lt inside room (hp .parts) (hp .next)
@@ -110,19 +103,21 @@ module _ {s names rows : List ℕ} {nodes k parts at : ℕ} {slots₀ : List ℕ
           ∙ ap (λ i. foundIn o (i ∷ r)) (sym ei)
           ∙ ap (λ l. foundIn o (map item l)) (sym on) ∙ ez
 
-      pub walk-turn : (slots′ : List ℕ) (u′ c′ h′ : Found) (bu bc : Bool) (n x z′ : ℕ) → slots′ ≡ slotHead s names slots next
-          → placeOf u′ ≡ earliest (placeOf u) bu (next + 1) → bu ≡ unseenB s names next → placeOf c′ ≡ earliest (placeOf c) bc next → bc ≡ calledB s rows k next
-          → placeOf h′ ≡ earliest (placeOf h) (ltb 1 n) next → n ≡ arityB s rows nodes next → (z ≤ 65536 → z′ ≡ min (z + x) 65536) → x ≡ siteB s rows nodes next
-          → WalkGoing s names rows nodes k parts at slots₀ u₀ c₀ h₀ z₀ slots′ u′ c′ h′ z′ (left - 1 + p .count) (p .start)
+      walk-turn : (slots′ found′ : List ℕ) (bu bc : Bool) (n x z′ : ℕ) → slots′ ≡ slotHead s names slots next
+          → firstOf found′ 0 ≡ earliest (firstOf found 0) bu (next + 1) → bu ≡ unseenB s names next → firstOf found′ 2 ≡ earliest (firstOf found 2) bc next → bc ≡ calledB s rows k next
+          → firstOf found′ 3 ≡ earliest (firstOf found 3) (ltb 1 n) next → n ≡ arityB s rows nodes next → (z ≤ 65536 → z′ ≡ min (z + x) 65536) → x ≡ siteB s rows nodes next → firstOf found′ 1 ≡ firstOf found 1 → length found′ ≡ length found
+          → WalkGoing s names rows nodes k parts at slots₀ found₀ z₀ slots′ found′ z′ (left - 1 + p .count) (p .start)
       unfolding slotHeads
-      walk-turn slots′ u′ c′ h′ bu bc n x z′ es′ eu fu ec fc eh fh ez fz =
+      walk-turn slots′ found′ bu bc n x z′ es′ eu fu ec fc eh fh ez fz ea el =
           record {
             ends = sym (step (λ q r. r) (λ q. q) s left next lt inside room (hp .parts) (hp .next)) ∙ g .ends;
             slotted = ap (λ l. slotHeads s names l (headsFrom s (left - 1 + p .count) (p .start))) es′
                 ∙ ap (slotHeads s names slots) (sym on) ∙ g .slotted;
-            unseen = step-found (unseenHead s names) (placeOf u) _ _ _ _ refl (eu ∙ ap (λ b. earliest (placeOf u) b (next + 1)) fu) (g .unseen);
-            called = step-found (calledHead s rows k) (placeOf c) _ _ _ _ refl (ec ∙ ap (λ b. earliest (placeOf c) b next) fc) (g .called);
-            shaped = step-found (severalHead s rows nodes) (placeOf h) _ _ _ _ refl (eh ∙ ap (λ n. earliest (placeOf h) (ltb 1 n) next) fh) (g .shaped);
+            unseen = step-found (unseenHead s names) (firstOf found 0) _ _ _ _ refl (eu ∙ ap (λ b. earliest (firstOf found 0) b (next + 1)) fu) (g .unseen);
+            called = step-found (calledHead s rows k) (firstOf found 2) _ _ _ _ refl (ec ∙ ap (λ b. earliest (firstOf found 2) b next) fc) (g .called);
+            shaped = step-found (severalHead s rows nodes) (firstOf found 3) _ _ _ _ refl (eh ∙ ap (λ n. earliest (firstOf found 3) (ltb 1 n) next) fh) (g .shaped);
+            again = ea ∙ g .again;
+            long = el ∙ g .long;
             sized =
                 let w = g .sized in
                 let r = sum (map (siteB s rows nodes) (headsFrom s (left - 1 + p .count) (p .start))) in (
@@ -132,31 +127,72 @@ module _ {s names rows : List ℕ} {nodes k parts at : ℕ} {slots₀ : List ℕ
                 );
           }
 
-      -- at a plain head nothing changes
-      pub walk-plain : plainB s next ≡ true → WalkGoing s names rows nodes k parts at slots₀ u₀ c₀ h₀ z₀ slots u c h z (left - 1 + p .count) (p .start)
-      walk-plain t =
-          let w = plain-code s next t in
-          let no4 : eqb (getD s next 0) 4 ≡ false = ne-eqb (getD s next 0) 4 (w .0) in
-          let no11 : eqb (getD s next 0) 11 ≡ false = ne-eqb (getD s next 0) 11 (λ q. omega (arith, w .1)) in
-          let no12 : eqb (getD s next 0) 12 ≡ false = ne-eqb (getD s next 0) 12 (λ q. omega (arith, w .1)) in
-          walk-turn slots u c h false false 1 0 z
-          (sym (ap (λ b. cond b (slotPut s names slots (next + 1)) slots) no4))
-          (earliest-not (placeOf u) (next + 1)) (sym (ap (λ b. b && eqb (getD names (nameAt s (next + 1)) 0) 0) no4))
-          (earliest-not (placeOf c) next) (sym (ap (λ b. b && badB rows k (getD s (next + 1) 0) (getD s (next + 2) 0)) no11))
-          (earliest-not (placeOf h) next) (sym (ap (λ b. cond b (getD s (next + 1) 0) (cond (eqb (getD s next 0) 11) (outputsB rows nodes (getD s (next + 1) 0)) 1)) no12 ∙ ap (λ b. cond b (outputsB rows nodes (getD s (next + 1) 0)) 1) no11))
-          (λ le. sym (min-cap z 65536 le)) (sym (ap (λ b. sum (map (calleeB rows nodes) (cond b (getD s (next + 1) 0 ∷ []) []))) no11))
+      no-call : getD s next 0 < 11 → (eqb (getD s next 0) 11 ≡ false) × (eqb (getD s next 0) 12 ≡ false)
+      no-call lt = (ne-eqb (getD s next 0) 11 (λ q. omega (arith, lt)), ne-eqb (getD s next 0) 12 (λ q. omega (arith, lt)))
 
-    pub walk-done : (f r : Faults) → headsFrom s left next ≡ [] → skipAt s left next ≡ next → f .next ≡ at → f .unseen ≡ u₀ → f .called ≡ c₀ → f .shaped ≡ h₀ → f .size ≡ z₀ → r .again ≡ f .again → r .next ≡ next → r .unseen ≡ u → r .called ≡ c → r .shaped ≡ h → r .size ≡ z
-        → Walked s names rows nodes k parts slots₀ slots f r
+      one-value : getD s next 0 < 11 → 1 ≡ arityB s rows nodes next
+      one-value lt = sym (ap (λ b. cond b (getD s (next + 1) 0) (cond (eqb (getD s next 0) 11) (outputsB rows nodes (getD s (next + 1) 0)) 1)) (no-call lt .1) ∙ ap (λ b. cond b (outputsB rows nodes (getD s (next + 1) 0)) 1) (no-call lt .0))
+
+      none-called : getD s next 0 < 11 → false ≡ calledB s rows k next
+      none-called lt = sym (ap (λ b. b && badB rows k (getD s (next + 1) 0) (getD s (next + 2) 0)) (no-call lt .0))
+
+      no-site : getD s next 0 < 11 → 0 ≡ siteB s rows nodes next
+      no-site lt = sym (ap (λ b. sum (map (calleeB rows nodes) (cond b (getD s (next + 1) 0 ∷ []) []))) (no-call lt .0))
+
+      -- at a plain head nothing changes
+      pub walk-plain : {b d : ℕ} → Byte s next b → Byte s next d → (b ≡ 4 → ⊥) → d < 11 → WalkGoing s names rows nodes k parts at slots₀ found₀ z₀ slots found z (left - 1 + p .count) (p .start)
+      walk-plain eb ed nb low =
+          let lt : getD s next 0 < 11 = omega (arith, ed .is) in
+          let no4 : eqb (getD s next 0) 4 ≡ false = ne-eqb (getD s next 0) 4 (λ q. nb (eb .is ∙ q)) in
+          walk-turn slots found false false 1 0 z
+          (sym (ap (λ b. cond b (slotPut s names slots (next + 1)) slots) no4))
+          (earliest-not (firstOf found 0) (next + 1)) (sym (ap (λ b. b && eqb (getD names (nameAt s (next + 1)) 0) 0) no4))
+          (earliest-not (firstOf found 2) next) (none-called lt)
+          (earliest-not (firstOf found 3) next) (one-value lt)
+          (λ le. sym (min-cap z 65536 le)) (no-site lt) refl refl
+
+      -- a Var
+      pub walk-var : {b : ℕ} {slots′ found′ : List ℕ} → Byte s next b → b ≡ 4 → length found₀ ≡ 4 → next < 65535 → slots′ ≡ slotPut s names slots (next + 1) → found′ ≡ varFound s names found next
+          → WalkGoing s names rows nodes k parts at slots₀ found₀ z₀ slots′ found′ z (left - 1 + p .count) (p .start)
+      walk-var {b} {slots′} {found′} eb four long small es ef =
+          let is4 : getD s next 0 ≡ 4 = sym (eb .is) ∙ four in
+          let yes : eqb (getD s next 0) 4 ≡ true = eq-eqb (getD s next 0) 4 is4 in
+          let lt : getD s next 0 < 11 = omega (arith, is4) in
+          let q = eqb (getD names (nameAt s (next + 1)) 0) 0 in
+          walk-turn slots′ found′ q false 1 0 z
+          (es ∙ sym (ap (λ b. cond b (slotPut s names slots (next + 1)) slots) yes))
+          (ap (λ l. firstOf l 0) ef ∙ mark-same found 0 q (next + 1) (omega (arith, g .long)) (omega arith)) (sym (ap (λ b. b && q) yes))
+          (ap (λ l. firstOf l 2) ef ∙ mark-other found 0 2 q (next + 1) (λ w. omega arith) ∙ earliest-not (firstOf found 2) next) (none-called lt)
+          (ap (λ l. firstOf l 3) ef ∙ mark-other found 0 3 q (next + 1) (λ w. omega arith) ∙ earliest-not (firstOf found 3) next) (one-value lt)
+          (λ le. sym (min-cap z 65536 le)) (no-site lt) (ap (λ l. firstOf l 1) ef ∙ mark-other found 0 1 q (next + 1) (λ w. omega arith)) (ap length ef ∙ length-set found 0 _)
+
+      -- a call or a Tuple
+      pub walk-call : {b x z′ : ℕ} {found′ : List ℕ} → Byte s next b → (b ≡ 4 → ⊥) → length found₀ ≡ 4 → next < 65536 → found′ ≡ callFound s rows nodes k found next → z′ ≡ min (z + x) 65536 → x ≡ siteB s rows nodes next
+          → WalkGoing s names rows nodes k parts at slots₀ found₀ z₀ slots found′ z′ (left - 1 + p .count) (p .start)
+      walk-call {b} {x} {z′} {found′} eb nb long small ef ez ex =
+          let no4 : eqb (getD s next 0) 4 ≡ false = ne-eqb (getD s next 0) 4 (λ q. nb (eb .is ∙ q)) in
+          let bc = calledB s rows k next in
+          let bs = ltb 1 (arityB s rows nodes next) in
+          let m = markPlace found 2 bc next in
+          let lm : length m ≡ length found = length-set found 2 _ in
+          walk-turn slots found′ false bc (arityB s rows nodes next) x z′
+          (sym (ap (λ b. cond b (slotPut s names slots (next + 1)) slots) no4))
+          (ap (λ l. firstOf l 0) ef ∙ mark-other m 3 0 bs next (λ w. omega arith) ∙ mark-other found 2 0 bc next (λ w. omega arith) ∙ earliest-not (firstOf found 0) (next + 1)) (sym (ap (λ b. b && eqb (getD names (nameAt s (next + 1)) 0) 0) no4))
+          (ap (λ l. firstOf l 2) ef ∙ mark-other m 3 2 bs next (λ w. omega arith) ∙ mark-same found 2 bc next (omega (arith, g .long)) small) refl
+          (ap (λ l. firstOf l 3) ef ∙ mark-same m 3 bs next (omega (arith, g .long, lm)) small ∙ ap (λ o. earliest o bs next) (mark-other found 2 3 bc next (λ w. omega arith))) refl
+          (λ le. ez) ex (ap (λ l. firstOf l 1) ef ∙ mark-other m 3 1 bs next (λ w. omega arith) ∙ mark-other found 2 1 bc next (λ w. omega arith)) (ap length ef ∙ length-set m 3 _ ∙ lm)
+
+    pub walk-done : (f r : Reached) → headsFrom s left next ≡ [] → skipAt s left next ≡ next → f .next ≡ at → f .size ≡ z₀ → r .next ≡ next → r .size ≡ z
+        → Walked s names rows nodes k parts slots₀ slots (findings found₀ f) (findings found r)
     unfolding slotHeads
-    walk-done f r empty end ea eu₀ ec₀ eh₀ ez₀ eg en eu ec eh ez =
+    walk-done f r empty end ea ez₀ en ez =
         record {
           next = en ∙ sym end ∙ g .ends ∙ ap (skipAt s parts) (sym ea);
           slotted = ap (slotHeads s names slots) (sym empty) ∙ g .slotted ∙ ap (λ a. slotHeads s names slots₀ (headsFrom s parts a)) (sym ea);
-          again = eg;
-          unseen = rw (eu, eu₀, ea) (sym (found-none (placeOf u)) ∙ ap (λ l. foundIn (placeOf u) (map (unseenHead s names) l)) (sym empty) ∙ g .unseen);
-          called = rw (ec, ec₀, ea) (sym (found-none (placeOf c)) ∙ ap (λ l. foundIn (placeOf c) (map (calledHead s rows k) l)) (sym empty) ∙ g .called);
-          shaped = rw (eh, eh₀, ea) (sym (found-none (placeOf h)) ∙ ap (λ l. foundIn (placeOf h) (map (severalHead s rows nodes) l)) (sym empty) ∙ g .shaped);
+          again = g .again;
+          unseen = rw ea (sym (found-none (firstOf found 0)) ∙ ap (λ l. foundIn (firstOf found 0) (map (unseenHead s names) l)) (sym empty) ∙ g .unseen);
+          called = rw ea (sym (found-none (firstOf found 2)) ∙ ap (λ l. foundIn (firstOf found 2) (map (calledHead s rows k) l)) (sym empty) ∙ g .called);
+          shaped = rw ea (sym (found-none (firstOf found 3)) ∙ ap (λ l. foundIn (firstOf found 3) (map (severalHead s rows nodes) l)) (sym empty) ∙ g .shaped);
           sized =
               let w = g .sized in
               ez ∙ sym (min-cap z 65536 (w .0)) ∙ ap (λ l. min (z + sum (map (siteB s rows nodes) l)) 65536) (sym empty) ∙ w .1
@@ -175,16 +211,16 @@ module _ (s : List ℕ) (left next : ℕ) where
   too-many over = (walk-many _ _ s (length s) left next over, walk-many _ _ s (length s) left next over)
 
 -- the expressions es, which stand where the walk stood, are judged
-pub record WalkedAs (s names rows : List ℕ) (nodes k : ℕ) (es : Exprs) (slots slots′ : List ℕ) (f r : Faults) : Type 0 where
+pub record WalkedAs (s names rows : List ℕ) (nodes k : ℕ) (es : Exprs) (slots slots′ : List ℕ) (f r : Findings) : Type 0 where
   pub next : r .next ≡ f .next + exprsSize es
   pub slotted : slots′ ≡ slotHeads s names slots (heads (f .next) es)
   pub again : r .again ≡ f .again
-  pub unseen : placeOf (r .unseen) ≡ foundIn (placeOf (f .unseen)) (map (unseenHead s names) (heads (f .next) es))
-  pub called : placeOf (r .called) ≡ foundIn (placeOf (f .called)) (map (calledHead s rows k) (heads (f .next) es))
-  pub shaped : placeOf (r .shaped) ≡ foundIn (placeOf (f .shaped)) (map (severalHead s rows nodes) (heads (f .next) es))
+  pub unseen : r .unseen ≡ foundIn (f .unseen) (map (unseenHead s names) (heads (f .next) es))
+  pub called : r .called ≡ foundIn (f .called) (map (calledHead s rows k) (heads (f .next) es))
+  pub shaped : r .shaped ≡ foundIn (f .shaped) (map (severalHead s rows nodes) (heads (f .next) es))
   pub sized : Adds (f .size) (map (siteB s rows nodes) (heads (f .next) es)) (r .size)
 
-pub walk-told : {s names rows : List ℕ} {nodes k parts : ℕ} {slots slots′ : List ℕ} {f r : Faults} → Walked s names rows nodes k parts slots slots′ f r → (enums : ℕ) (es : Exprs) → count es ≡ parts → Standing s enums (f .next) es
+pub walk-told : {s names rows : List ℕ} {nodes k parts : ℕ} {slots slots′ : List ℕ} {f r : Findings} → Walked s names rows nodes k parts slots slots′ f r → (enums : ℕ) (es : Exprs) → count es ≡ parts → Standing s enums (f .next) es
     → WalkedAs s names rows nodes k es slots slots′ f r
 walk-told {s} {names} {rows} {nodes} {k} {parts} {slots} {slots′} {f} {r} w enums es e st =
     let same = heads-stand e st in
@@ -192,8 +228,8 @@ walk-told {s} {names} {rows} {nodes} {k} {parts} {slots} {slots′} {f} {r} w en
       next = w .next ∙ skip-stands e st;
       slotted = w .slotted ∙ ap (slotHeads s names slots) same;
       again = w .again;
-      unseen = w .unseen ∙ ap (λ l. foundIn (placeOf (f .unseen)) (map (unseenHead s names) l)) same;
-      called = w .called ∙ ap (λ l. foundIn (placeOf (f .called)) (map (calledHead s rows k) l)) same;
-      shaped = w .shaped ∙ ap (λ l. foundIn (placeOf (f .shaped)) (map (severalHead s rows nodes) l)) same;
+      unseen = w .unseen ∙ ap (λ l. foundIn (f .unseen) (map (unseenHead s names) l)) same;
+      called = w .called ∙ ap (λ l. foundIn (f .called) (map (calledHead s rows k) l)) same;
+      shaped = w .shaped ∙ ap (λ l. foundIn (f .shaped) (map (severalHead s rows nodes) l)) same;
       sized = w .sized ∙ ap (λ l. min (f .size + sum (map (siteB s rows nodes) l)) 65536) same;
     }

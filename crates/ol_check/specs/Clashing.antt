@@ -13,7 +13,7 @@ use Rattle.ol_spec.specs.Admission.{Sort, variant, constant, variable, Declared
 use Rattle.ol_tables.specs.At.{fileAt}
 use Rattle.ol_tables.specs.Stands.{FileReads}
 use Rattle.ol_tables.specs.Tables.{Each, nodeOf}
-use Rattle.ol_check.specs.Founds.{placeOf}
+use Rattle.ol_check.specs.Founds.{placeOf, placeAt}
 use Rattle.ol_check.specs.Spans.{endFrom, behindVariable, behindEnum, namesFrom, variablesFrom}
 use Rattle.ol_check.specs.RowsDone.{NodeRow, SectionsAre}
 use Rattle.ol_check.specs.NodesJudged.{placeIn}
@@ -53,10 +53,6 @@ pub record Sorts (ds : List Declared) (sorts sorts′ : List ℕ) (found : Optio
   pub lows : low′ ≡ low && allOf isLow ds
   pub enters : sorts′ ≡ sortAll sorts ds
 
--- a place as a number: 65,536 is none
-abbrev pub placeAt : ℕ → Option ℕ
-placeAt p = cond (eqb p 65536) none (some p)
-
 -- what a walk has marked: the first clash so far, and 1 while every name is below 1,024
 abbrev pub markedPlace : List ℕ → Option ℕ
 markedPlace marks = placeAt (getD marks 0 0)
@@ -68,10 +64,6 @@ markedLow marks = eqb (getD marks 1 0) 1
 pub record Walks (ds : List Declared) (sorts sorts′ marks marks′ : List ℕ) : Type 0 where
   pub is : Sorts ds sorts sorts′ (markedPlace marks) (markedLow marks) (markedPlace marks′) (markedLow marks′)
   pub long : length marks′ ≡ length marks
-
--- the first clash, after an item that may be one
-abbrev pub firstPlace : ℕ → Bool → ℕ → ℕ
-firstPlace found clashed at = cond (eqb found 65536) (cond clashed at found) found
 
 -- so many variables from `at` on, and where they end
 pub record VariablesSorted (s : List ℕ) (sort count at : ℕ) (sorts sorts′ marks marks′ : List ℕ) (r : ℕ) : Type 0 where

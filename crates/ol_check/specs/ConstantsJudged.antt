@@ -14,14 +14,12 @@ use Rattle.ol_spec.specs.Admission.{valuePlace, constantUses, inConstant, calls
 use Rattle.ol_tables.specs.Heads.{nameAt}
 use Rattle.ol_tables.specs.Tables.{Each}
 use Rattle.ol_tables.specs.Stands.{Listed}
-use Rattle.ol_check.specs.Founds.{placeOf}
 use Rattle.ol_check.specs.Entries.{declared, declareAll, constantEntries}
 use Rattle.ol_check.specs.Spans.{behindVariable}
-use Rattle.ol_check.specs.Judging.{heads, slotHeads, outputsB, foundIn, Knows, Walked, atPlace}
-use Rattle.ol_check.specs.declared.Faults.{Faults}
+use Rattle.ol_check.specs.Judging.{Findings, heads, slotHeads, outputsB, foundIn, Knows, Walked, atPlace}
 
 -- constant number i, where the walk stood
-pub record ConstantWalked (s names rows : List ℕ) (nodes i : ℕ) (slots slots′ names′ : List ℕ) (f r : Faults) : Type 0 where
+pub record ConstantWalked (s names rows : List ℕ) (nodes i : ℕ) (slots slots′ names′ : List ℕ) (f r : Findings) : Type 0 where
   pub walked : Walked s names rows nodes 0 1 slots slots′ (atPlace f (behindVariable s (f .next))) r
   pub entered : names′ ≡ declared names (nameAt s (f .next)) (i + 113)
 
@@ -32,12 +30,12 @@ slotConstants s names slots i (c ∷ cs) =
     slotConstants s (declared names (c .1 .name) (i + 113)) (slotHeads s names slots (heads (valuePlace (c .0) (c .1)) (cons (c .1 .value) nil))) (i + 1) cs
 
 -- The bytes of records so far are free: each node counts its own anew.
-pub record ConstantsJudged (s names : List ℕ) (f : File) (visible : List ℕ) (at : ℕ) (cs : List Constant) (slots slots′ names′ : List ℕ) (g r : Faults) : Type 0 where
+pub record ConstantsJudged (s names : List ℕ) (f : File) (visible : List ℕ) (at : ℕ) (cs : List Constant) (slots slots′ names′ : List ℕ) (g r : Findings) : Type 0 where
   pub next : r .next ≡ at + sum (map constantSize cs)
-  pub unseen : placeOf (r .unseen) ≡ foundIn (placeOf (g .unseen)) (constantUses visible (placed constantSize at cs))
+  pub unseen : r .unseen ≡ foundIn (g .unseen) (constantUses visible (placed constantSize at cs))
   pub again : r .again ≡ g .again
-  pub called : placeOf (r .called) ≡ foundIn (placeOf (g .called)) (concat (map (inConstant (callsWhere (λ c args. true))) (placed constantSize at cs)))
-  pub shaped : placeOf (r .shaped) ≡ foundIn (placeOf (g .shaped)) (concat (map (inConstant (shapeItem f)) (placed constantSize at cs)))
+  pub called : r .called ≡ foundIn (g .called) (concat (map (inConstant (callsWhere (λ c args. true))) (placed constantSize at cs)))
+  pub shaped : r .shaped ≡ foundIn (g .shaped) (concat (map (inConstant (shapeItem f)) (placed constantSize at cs)))
   pub entered : names′ ≡ declareAll names (constantEntries 0 cs)
   pub slotted : slots′ ≡ slotConstants s names slots 0 (placed constantSize at cs)
 

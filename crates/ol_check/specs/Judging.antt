@@ -16,10 +16,10 @@ use Rattle.ol_tables.specs.Stands.{Equations}
 use Rattle.ol_tables.specs.Heads.{nameAt, partsAt, nextAt}
 use Rattle.ol_tables.specs.Walks.{walkAt, skipAt}
 use Rattle.ol_spec.specs.Step.{equationSites}
-use Rattle.ol_check.specs.Founds.{placeOf}
+use Rattle.ol_check.specs.Founds.{firstOf, markPlace}
 use Rattle.ol_check.specs.Spans.{namesFrom}
 use Rattle.ol_check.specs.Records.{siteB, calleeB}
-use Rattle.ol_check.specs.declared.Faults.{Faults}
+use Rattle.ol_check.specs.declared.Reached.{Reached}
 
 -- ---- heads
 
@@ -29,10 +29,6 @@ headAt at e = at ∷ []
 -- where the heads of these expressions stand, in file order
 abbrev pub heads : ℕ → Exprs → List ℕ
 heads at es = collectAll headAt at es
-
--- the expression at p is neither a Var nor a call nor a Tuple: nothing is to be judged at its head
-abbrev pub plainB : List ℕ → ℕ → Bool
-plainB s p = not (eqb (getD s p 0) 4) && ltb (getD s p 0) 11
 
 -- ---- 7, and the slots
 
@@ -91,6 +87,27 @@ severalHead s rows nodes p = (p, ltb 1 (arityB s rows nodes p))
 
 -- ---- a walk
 
+-- where a walk stands: the first fault of each number so far, the bytes of the records of a node's call sites so far, and the place
+pub record Findings : Type 0 where
+  pub unseen : Option ℕ
+  pub again : Option ℕ
+  pub called : Option ℕ
+  pub shaped : Option ℕ
+  pub size : ℕ
+  pub next : ℕ
+
+-- the same as the code holds it: the first places of 7 to 10, and what was reached
+abbrev pub findings : List ℕ → Reached → Findings
+findings found w =
+    record { unseen = firstOf found 0; again = firstOf found 1; called = firstOf found 2; shaped = firstOf found 3; size = w .size; next = w .next }
+
+-- the first places after the Var at p, and after the call or Tuple at p in node k
+abbrev pub varFound : List ℕ → List ℕ → List ℕ → ℕ → List ℕ
+varFound s names found p = markPlace found 0 (eqb (getD names (nameAt s (p + 1)) 0) 0) (p + 1)
+
+abbrev pub callFound : List ℕ → List ℕ → ℕ → ℕ → List ℕ → ℕ → List ℕ
+callFound s rows nodes k found p = markPlace (markPlace found 2 (calledB s rows k p) p) 3 (ltb 1 (arityB s rows nodes p)) p
+
 -- a fault found so far, or the first among the items
 abbrev pub foundIn : Option ℕ → List Item → Option ℕ
 foundIn found is = orElse found (first is)
@@ -104,17 +121,17 @@ abbrev pub headsFrom : List ℕ → ℕ → ℕ → List ℕ
 headsFrom s left at = walkAt (λ p r. p ∷ r) (λ p. []) s left at
 
 -- so many expressions, from where the walk stood, are judged
-pub record Walked (s names rows : List ℕ) (nodes k parts : ℕ) (slots slots′ : List ℕ) (f r : Faults) : Type 0 where
+pub record Walked (s names rows : List ℕ) (nodes k parts : ℕ) (slots slots′ : List ℕ) (f r : Findings) : Type 0 where
   pub next : r .next ≡ skipAt s parts (f .next)
   pub slotted : slots′ ≡ slotHeads s names slots (headsFrom s parts (f .next))
   pub again : r .again ≡ f .again
-  pub unseen : placeOf (r .unseen) ≡ foundIn (placeOf (f .unseen)) (map (unseenHead s names) (headsFrom s parts (f .next)))
-  pub called : placeOf (r .called) ≡ foundIn (placeOf (f .called)) (map (calledHead s rows k) (headsFrom s parts (f .next)))
-  pub shaped : placeOf (r .shaped) ≡ foundIn (placeOf (f .shaped)) (map (severalHead s rows nodes) (headsFrom s parts (f .next)))
+  pub unseen : r .unseen ≡ foundIn (f .unseen) (map (unseenHead s names) (headsFrom s parts (f .next)))
+  pub called : r .called ≡ foundIn (f .called) (map (calledHead s rows k) (headsFrom s parts (f .next)))
+  pub shaped : r .shaped ≡ foundIn (f .shaped) (map (severalHead s rows nodes) (headsFrom s parts (f .next)))
   pub sized : Adds (f .size) (map (siteB s rows nodes) (headsFrom s parts (f .next))) (r .size)
 
 -- the walk at a place
-abbrev pub atPlace : Faults → ℕ → Faults
+abbrev pub atPlace : Findings → ℕ → Findings
 atPlace f p = record { unseen = f .unseen; again = f .again; called = f .called; shaped = f .shaped; size = f .size; next = p }
 
 -- ---- what the tables say of the tree
@@ -170,10 +187,10 @@ againB names inputs defined [] = []
 againB names inputs defined (p ∷ ps) = (p .0, takenB defined inputs (getD names (p .1) 0)) ∷ againB names inputs (set defined (getD names (p .1) 0) 1) ps
 
 -- so many names, from where the walk stood, are defined
-pub record NamesDefined (s names : List ℕ) (inputs many : ℕ) (slots slots′ defined defined′ : List ℕ) (f r : Faults) : Type 0 where
+pub record NamesDefined (s names : List ℕ) (inputs many : ℕ) (slots slots′ defined defined′ : List ℕ) (f r : Findings) : Type 0 where
   pub next : r .next ≡ f .next + 2 * many
-  pub unseen : placeOf (r .unseen) ≡ foundIn (placeOf (f .unseen)) (map (entryItem names) (namesFrom s many (f .next)))
-  pub again : placeOf (r .again) ≡ foundIn (placeOf (f .again)) (againB names inputs defined (namesFrom s many (f .next)))
+  pub unseen : r .unseen ≡ foundIn (f .unseen) (map (entryItem names) (namesFrom s many (f .next)))
+  pub again : r .again ≡ foundIn (f .again) (againB names inputs defined (namesFrom s many (f .next)))
   pub called : r .called ≡ f .called
   pub shaped : r .shaped ≡ f .shaped
   pub sized : r .size ≡ f .size
@@ -195,18 +212,18 @@ rootShapes s rows nodes at many p =
     cond (ltb p (length s)) ((at, loneB many (arityB s rows nodes p)) ∷ (p, otherB many (arityB s rows nodes p)) ∷ map (severalHead s rows nodes) (headsFrom s (partsAt s p) (nextAt s p))) []
 
 -- the right side where the walk stood, of the equation at `at`, which has so many names
-pub record RootJudged (s names rows : List ℕ) (nodes k at many : ℕ) (slots slots′ : List ℕ) (f r : Faults) : Type 0 where
+pub record RootJudged (s names rows : List ℕ) (nodes k at many : ℕ) (slots slots′ : List ℕ) (f r : Findings) : Type 0 where
   pub next : r .next ≡ skipAt s 1 (f .next)
   pub slotted : slots′ ≡ slotHeads s names slots (headsFrom s 1 (f .next))
   pub again : r .again ≡ f .again
-  pub unseen : placeOf (r .unseen) ≡ foundIn (placeOf (f .unseen)) (map (unseenHead s names) (headsFrom s 1 (f .next)))
-  pub called : placeOf (r .called) ≡ foundIn (placeOf (f .called)) (map (calledHead s rows k) (headsFrom s 1 (f .next)))
-  pub shaped : placeOf (r .shaped) ≡ foundIn (placeOf (f .shaped)) (rootShapes s rows nodes at many (f .next))
+  pub unseen : r .unseen ≡ foundIn (f .unseen) (map (unseenHead s names) (headsFrom s 1 (f .next)))
+  pub called : r .called ≡ foundIn (f .called) (map (calledHead s rows k) (headsFrom s 1 (f .next)))
+  pub shaped : r .shaped ≡ foundIn (f .shaped) (rootShapes s rows nodes at many (f .next))
   pub sized : Adds (f .size) (map (siteB s rows nodes) (headsFrom s 1 (f .next))) (r .size)
 
 -- the equation where the walk stood: its names are defined, then its right side is judged
-pub record EquationWalked (s names rows : List ℕ) (nodes k inputs : ℕ) (slots slots′ defined defined′ : List ℕ) (g r : Faults) : Type 0 where
-  pub middle : Faults
+pub record EquationWalked (s names rows : List ℕ) (nodes k inputs : ℕ) (slots slots′ defined defined′ : List ℕ) (g r : Findings) : Type 0 where
+  pub middle : Findings
   pub between : List ℕ
   pub named : NamesDefined s names inputs (getD s (g .next) 0) slots between defined defined′ (atPlace g (g .next + 1)) middle
   pub rooted : RootJudged s names rows nodes k (g .next) (getD s (g .next) 0) between slots′ middle r
@@ -225,11 +242,11 @@ slotEquations s names slots [] = slots
 slotEquations s names slots (p ∷ ps) = slotEquations s names (slotEquation s names slots p) ps
 
 -- so many equations
-pub record EquationsJudged (s names rows : List ℕ) (nodes : ℕ) (f : File) (visible : List ℕ) (bad : ℕ → ℕ → Bool) (inputs at : ℕ) (qs : List Equation) (slots slots′ defined defined′ : List ℕ) (g r : Faults) : Type 0 where
-  pub unseen : placeOf (r .unseen) ≡ foundIn (placeOf (g .unseen)) (concat (map (equationUses visible) (placed equationSize at qs)))
-  pub again : placeOf (r .again) ≡ foundIn (placeOf (g .again)) (againB names inputs defined (concat (map definedBy (placed equationSize at qs))))
-  pub called : placeOf (r .called) ≡ foundIn (placeOf (g .called)) (concat (map (inEquation (callsWhere bad)) (placed equationSize at qs)))
-  pub shaped : placeOf (r .shaped) ≡ foundIn (placeOf (g .shaped)) (concat (map (equationShape f) (placed equationSize at qs)))
+pub record EquationsJudged (s names rows : List ℕ) (nodes : ℕ) (f : File) (visible : List ℕ) (bad : ℕ → ℕ → Bool) (inputs at : ℕ) (qs : List Equation) (slots slots′ defined defined′ : List ℕ) (g r : Findings) : Type 0 where
+  pub unseen : r .unseen ≡ foundIn (g .unseen) (concat (map (equationUses visible) (placed equationSize at qs)))
+  pub again : r .again ≡ foundIn (g .again) (againB names inputs defined (concat (map definedBy (placed equationSize at qs))))
+  pub called : r .called ≡ foundIn (g .called) (concat (map (inEquation (callsWhere bad)) (placed equationSize at qs)))
+  pub shaped : r .shaped ≡ foundIn (g .shaped) (concat (map (equationShape f) (placed equationSize at qs)))
   pub slotted : slots′ ≡ slotEquations s names slots (placed equationSize at qs)
   pub marked : defined′ ≡ markAll names defined (concat (map definedBy (placed equationSize at qs)))
   pub sized : Adds (g .size) (map (calleeB rows nodes) (concat (map equationSites qs))) (r .size)

@@ -11,12 +11,10 @@ use Rattle.ol_tables.specs.At.{fileAt}
 use Rattle.ol_tables.specs.Tables.{nodeOf, Each}
 use Rattle.ol_tables.specs.Tables as Tables
 use Rattle.ol_tables.specs.Stands.{FileReads}
-use Rattle.ol_check.specs.Founds.{placeOf}
 use Rattle.ol_check.specs.RowsDone.{NodeRow}
 use Rattle.ol_check.specs.Records.{instanceB}
 use Rattle.ol_check.specs.Entries.{declareAll, variableEntries, Global}
-use Rattle.ol_check.specs.Judging.{foundIn, slotEquations, againB, Knows, globalNames}
-use Rattle.ol_check.specs.declared.Faults.{Faults}
+use Rattle.ol_check.specs.Judging.{Findings, foundIn, slotEquations, againB, Knows, globalNames}
 
 -- where node k stands
 abbrev pub placeIn : File → ℕ → ℕ
@@ -42,11 +40,11 @@ Covered room n = Each (λ v. v .name < room) (variables n)
 abbrev pub nodeAgain : List ℕ → ℕ × Node → List Item
 nodeAgain names n = againB (nodeTable names (n .1)) (length (n .1 .inputs)) (replicate 256 0) (concat (map definedBy (placedEquations (n .0) (n .1))))
 
-pub record NodeJudged (s names rows : List ℕ) (nodes : ℕ) (f : File) (k : ℕ) (slots slots′ : List ℕ) (g r : Faults) : Type 0 where
-  pub unseen : placeOf (r .unseen) ≡ foundIn (placeOf (g .unseen)) (nodeUses (globalNames f) (placeIn f k, nodeOf f k))
-  pub again : placeOf (r .again) ≡ foundIn (placeOf (g .again)) (nodeAgain names (placeIn f k, nodeOf f k))
-  pub called : placeOf (r .called) ≡ foundIn (placeOf (g .called)) (nodeCalls f (k, (placeIn f k, nodeOf f k)))
-  pub shaped : placeOf (r .shaped) ≡ foundIn (placeOf (g .shaped)) (nodeShape f (placeIn f k, nodeOf f k))
+pub record NodeJudged (s names rows : List ℕ) (nodes : ℕ) (f : File) (k : ℕ) (slots slots′ : List ℕ) (g r : Findings) : Type 0 where
+  pub unseen : r .unseen ≡ foundIn (g .unseen) (nodeUses (globalNames f) (placeIn f k, nodeOf f k))
+  pub again : r .again ≡ foundIn (g .again) (nodeAgain names (placeIn f k, nodeOf f k))
+  pub called : r .called ≡ foundIn (g .called) (nodeCalls f (k, (placeIn f k, nodeOf f k)))
+  pub shaped : r .shaped ≡ foundIn (g .shaped) (nodeShape f (placeIn f k, nodeOf f k))
   pub slotted : slots′ ≡ slotEquations s (nodeTable names (nodeOf f k)) slots (placedEquations (placeIn f k) (nodeOf f k))
   pub sized : r .size ≡ min (instanceB rows nodes (nodeOf f k)) 65536
 
@@ -74,9 +72,9 @@ unfoldable pub slotNodes : List ℕ → List ℕ → List ℕ → List (ℕ × N
 slotNodes s names slots [] = slots
 slotNodes s names slots (n ∷ ns) = slotNodes s names (slotEquations s (nodeTable names (n .1)) slots (placedEquations (n .0) (n .1))) ns
 
-pub record NodesJudged (s names : List ℕ) (f : File) (slots slots′ : List ℕ) (g r : Faults) : Type 0 where
-  pub unseen : placeOf (r .unseen) ≡ foundIn (placeOf (g .unseen)) (concat (map (nodeUses (globalNames f)) (placedNodes f)))
-  pub again : placeOf (r .again) ≡ foundIn (placeOf (g .again)) (concat (map (nodeAgain names) (placedNodes f)))
-  pub called : placeOf (r .called) ≡ foundIn (placeOf (g .called)) (concat (map (nodeCalls f) (numbered 0 (placedNodes f))))
-  pub shaped : placeOf (r .shaped) ≡ foundIn (placeOf (g .shaped)) (concat (map (nodeShape f) (placedNodes f)))
+pub record NodesJudged (s names : List ℕ) (f : File) (slots slots′ : List ℕ) (g r : Findings) : Type 0 where
+  pub unseen : r .unseen ≡ foundIn (g .unseen) (concat (map (nodeUses (globalNames f)) (placedNodes f)))
+  pub again : r .again ≡ foundIn (g .again) (concat (map (nodeAgain names) (placedNodes f)))
+  pub called : r .called ≡ foundIn (g .called) (concat (map (nodeCalls f) (numbered 0 (placedNodes f))))
+  pub shaped : r .shaped ≡ foundIn (g .shaped) (concat (map (nodeShape f) (placedNodes f)))
   pub slotted : slots′ ≡ slotNodes s names slots (placedNodes f)

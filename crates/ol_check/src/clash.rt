@@ -1,6 +1,8 @@
 // Fault 6, by a table that says of each name which sort declared it last: 0 none, an enum's number and 1, 17 a constant, a node's number and 18.
 // The same walk tells whether every declared name is below 1,024.
 use super::Found;
+use super::NO_PLACE;
+use super::found_at;
 use super::rows::Sections;
 use ol_tables::bytes::byte;
 use ol_tables::bytes::name;
@@ -20,19 +22,16 @@ ghost use Rattle.ol_spec.specs.Places.{placedConstants, placedNodes};
 ghost use Rattle.ol_spec.specs.Admission.{constant, declaredAs, declaredAt, placedConstantName, nodeDeclares, numbered};
 ghost use Rattle.ol_tables.specs.At.{fileAt};
 ghost use Rattle.ol_tables.specs.Tables.{nodeOf};
-ghost use Rattle.ol_check.specs.Founds.{placeOf};
+ghost use Rattle.ol_check.specs.Founds.{firstPlace};
 ghost use Rattle.ol_check.specs.Spans.{namedAt, namesFrom};
 ghost use Rattle.ol_check.specs.NodesJudged.{placeIn, NodeReady, RowsReady};
-ghost use Rattle.ol_check.specs.Clashing.{sortOf, meets, placeAt, firstPlace, Walks, VariablesSorted, enumsFrom, ConstantsAt, DeclaredReady, FileSorted};
+ghost use Rattle.ol_check.specs.Clashing.{sortOf, meets, Walks, VariablesSorted, enumsFrom, ConstantsAt, DeclaredReady, FileSorted};
 
 // The first clash, and whether every name is below 1,024.
 pub struct Sorting {
     pub found: Found,
     pub low: bool,
 }
-
-// No place of a file.
-const NO_PLACE: usize = 65536;
 
 // Whether a declaration of sort `sort` clashes with the last one of its name.
 fn clashes(last: usize, sort: usize) -> bool
@@ -65,17 +64,6 @@ fn still_low(low: usize, x: usize) -> usize
     ensures { λ r. ⌜ r ≡ cond (ltb x 1024) low 0 ⌝ }
 {
     if x < 1024 { low } else { 0 }
-}
-
-// A place, or none.
-fn found_at(place: usize) -> Found
-    ensures { λ r. ⌜ placeOf r ≡ placeAt place ⌝ }
-{
-    if place == NO_PLACE {
-        Found::Nothing
-    } else {
-        Found::At(place)
-    }
 }
 
 // The name at `at`, declared as the sort. `marks` has the place of the first clash or NO_PLACE, and 1 while every name is below 1,024.

@@ -1,7 +1,9 @@
 // Faults 7 to 10 of a whole file, the slots of its names, and the lengths of its records.
 use super::Faults;
-use super::Found;
+use super::NO_PLACE;
+use super::Reached;
 use super::constants::judge_constants;
+use super::found_at;
 use super::names::declare_enums;
 use super::nodes::judge_nodes;
 use super::rows::Sections;
@@ -27,6 +29,7 @@ pub fn faults(
     let n = sections.nodes;
     let nodes = byte(file, n);
     declare_enums(file, names, byte(file, 1), 2);
+    let mut found = [NO_PLACE, NO_PLACE, NO_PLACE, NO_PLACE];
     let g = judge_constants(
         file,
         names,
@@ -34,14 +37,19 @@ pub fn faults(
         rows,
         nodes,
         byte(file, c),
-        Faults {
-            unseen: Found::Nothing,
-            again: Found::Nothing,
-            called: Found::Nothing,
-            shaped: Found::Nothing,
+        &mut found,
+        Reached {
             size: 0,
             next: c + 1,
         },
     );
-    judge_nodes(file, names, slots, rows, nodes, g)
+    let r = judge_nodes(file, names, slots, rows, nodes, &mut found, g);
+    Faults {
+        unseen: found_at(found[0]),
+        again: found_at(found[1]),
+        called: found_at(found[2]),
+        shaped: found_at(found[3]),
+        size: r.size,
+        next: r.next,
+    }
 }

@@ -1,6 +1,6 @@
 // Faults 7 to 10 of every expression and equation, the slots of the names, and the records of the call sites.
-use super::Faults;
-use super::earlier;
+use super::NO_PLACE;
+use super::Reached;
 use super::size::capped;
 use super::size::site;
 use ol_tables::bytes::byte;
@@ -12,12 +12,13 @@ use ol_tables::tables::KIND;
 use ol_tables::tables::OUTPUTS;
 use ol_tables::tables::row;
 ghost use mathlib.Core.Path.{_≡_};
-ghost use Prim.Native.Nat.{_≤_, _<_};
+ghost use Prim.Native.Nat.{_≤_, _<_, _+_};
 ghost use lib.ListN.{length};
 ghost use Rattle.ol_spec.specs.Admission.{badCall};
 ghost use Rattle.ol_tables.specs.At.{fileAt};
 ghost use Rattle.ol_tables.specs.Tables.{nodeOf};
-ghost use Rattle.ol_check.specs.Judging.{unseenB, plainB, slotOfEntry, slotPut, slotHead, mayB, badB, calledB, outputsB, arityB, Walked};
+ghost use Rattle.ol_check.specs.Founds.{markPlace};
+ghost use Rattle.ol_check.specs.Judging.{unseenB, slotOfEntry, slotPut, slotHead, mayB, badB, calledB, outputsB, arityB, findings, varFound, callFound, Walked};
 ghost use Rattle.ol_check.specs.Judging.{takenB, NamesDefined, loneB, otherB, RootJudged, EquationWalked, seenIn, EquationsReady, EquationsJudged};
 
 // A name's slot, by its entry.
@@ -61,15 +62,6 @@ fn unseen_at(file: &[u8], names: &[u8], at: usize) -> bool
     } else {
         false
     }
-}
-
-// Whether the expression at `at` is neither a Var nor a call nor a Tuple.
-fn plain(file: &[u8], at: usize) -> bool
-    requires { ⌜ at < length (now file) ⌝ }
-    ensures { λ r. ⌜ r ≡ plainB (now (file .entry)) at ⌝ }
-{
-    let c = byte(file, at);
-    if c == 4 { false } else { c < 11 }
 }
 
 // Whether a node of kind `caller` may call one of kind `callee`.
@@ -136,6 +128,44 @@ fn outputs(rows: &[usize], nodes: usize, c: usize) -> usize
     if c < nodes { row(rows, c, OUTPUTS) } else { 0 }
 }
 
+// Notes the place `at` for fault j, if it is faulted and none was noted before. `found` has the first places of 7 to 10, or NO_PLACE.
+fn mark(found: &mut [usize; 4], j: usize, faulted: bool, at: usize)
+    requires { ⌜ (length (now found) ≡ 4) × (j < 4) ⌝ }
+    ensures { λ r. ⌜ (now (found .exit) ≡ markPlace (now (found .entry)) j faulted at) × (length (now (found .exit)) ≡ 4) ⌝ }
+{
+    if faulted {
+        if found[j] == NO_PLACE {
+            found[j] = at;
+        }
+    }
+}
+
+// The Var at `at`: its slot, and 7.
+fn judge_var(file: &[u8], names: &[u8], slots: &mut [u8], found: &mut [usize; 4], at: usize)
+    requires { ⌜ (length (now found) ≡ 4) × (at < 40000) ⌝ }
+    ensures { λ r. ⌜ (now (slots .exit) ≡ slotPut (now (file .entry)) (now (names .entry)) (now (slots .entry)) (at + 1)) × (now (found .exit) ≡ varFound (now (file .entry)) (now (names .entry)) (now (found .entry)) at) ⌝ }
+{
+    let e = byte(names, name(file, at + 1));
+    put_byte(slots, at + 1, slot(e));
+    mark(found, 0, e == 0, at + 1);
+}
+
+// The call or Tuple at `at`, in node `node`: 9 and 10.
+fn judge_call(
+    file: &[u8],
+    rows: &[usize],
+    nodes: usize,
+    node: usize,
+    found: &mut [usize; 4],
+    at: usize,
+)
+    requires { ⌜ (length (now found) ≡ 4) × (node < 256) × (at < length (now file)) ⌝ }
+    ensures { λ r. ⌜ now (found .exit) ≡ callFound (now (file .entry)) (now (rows .entry)) nodes node (now (found .entry)) at ⌝ }
+{
+    mark(found, 2, called_at(file, rows, node, at), at);
+    mark(found, 3, 1 < arity_at(file, rows, nodes, at), at);
+}
+
 // So many expressions of node `node`, one after the other from where the walk stands.
 pub(crate) fn walk(
     file: &[u8],
@@ -145,61 +175,40 @@ pub(crate) fn walk(
     nodes: usize,
     node: usize,
     parts: usize,
-    f: Faults,
-) -> Faults
-    requires { ⌜ (node < 256) × (length (now file) ≤ 32768) × (f .size ≤ 65536) ⌝ }
-    ensures { λ r. ⌜ Walked (now (file .entry)) (now (names .entry)) (now (rows .entry)) nodes node parts (now (slots .entry)) (now (slots .exit)) f r ⌝ }
+    found: &mut [usize; 4],
+    f: Reached,
+) -> Reached
+    requires { ⌜ (node < 256) × (length (now file) ≤ 32768) × (f .size ≤ 65536) × (length (now found) ≡ 4) ⌝ }
+    ensures { λ r. ⌜ Walked (now (file .entry)) (now (names .entry)) (now (rows .entry)) nodes node parts (now (slots .entry)) (now (slots .exit)) (findings (now (found .entry)) f) (findings (now (found .exit)) r) × (length (now (found .exit)) ≡ 4) ⌝ }
 {
     let mut next = f.next;
     let mut left = parts;
-    let mut unseen = f.unseen;
-    let mut called = f.called;
-    let mut shaped = f.shaped;
     let mut size = f.size;
-    let again = f.again;
     while 0 < left {
         if file.len() <= next {
-            return Faults {
-                unseen,
-                again,
-                called,
-                shaped,
-                size,
-                next,
-            };
+            return Reached { size, next };
         }
         if file.len() < left {
-            return Faults {
-                unseen,
-                again,
-                called,
-                shaped,
-                size,
-                next,
-            };
+            return Reached { size, next };
         }
         let h = head(file, next);
-        if plain(file, next) {
+        if byte(file, next) == 4 {
+            judge_var(file, names, slots, found, next);
             left = left - 1 + h.count;
             next = h.start;
             continue;
         }
-        slot_head(file, names, slots, next);
-        unseen = earlier(unseen, unseen_at(file, names, next), next + 1);
-        called = earlier(called, called_at(file, rows, node, next), next);
-        shaped = earlier(shaped, 1 < arity_at(file, rows, nodes, next), next);
+        if byte(file, next) < 11 {
+            left = left - 1 + h.count;
+            next = h.start;
+            continue;
+        }
+        judge_call(file, rows, nodes, node, found, next);
         size = capped(size, site(file, rows, nodes, next));
         left = left - 1 + h.count;
         next = h.start;
     }
-    Faults {
-        unseen,
-        again,
-        called,
-        shaped,
-        size,
-        next,
-    }
+    Reached { size, next }
 }
 
 // Whether a name with this entry may not be defined: it is an input, a constant, a variant, or
@@ -225,35 +234,25 @@ fn define(
     defined: &mut [u8],
     inputs: usize,
     many: usize,
-    f: Faults,
-) -> Faults
-    requires { ⌜ (many < 256) × (f .next ≤ 40000) ⌝ }
-    ensures { λ r. ⌜ NamesDefined (now (file .entry)) (now (names .entry)) inputs many (now (slots .entry)) (now (slots .exit)) (now (defined .entry)) (now (defined .exit)) f r ⌝ }
+    found: &mut [usize; 4],
+    f: Reached,
+) -> Reached
+    requires { ⌜ (many < 256) × (f .next ≤ 40000) × (length (now found) ≡ 4) ⌝ }
+    ensures { λ r. ⌜ NamesDefined (now (file .entry)) (now (names .entry)) inputs many (now (slots .entry)) (now (slots .exit)) (now (defined .entry)) (now (defined .exit)) (findings (now (found .entry)) f) (findings (now (found .exit)) r) × (length (now (found .exit)) ≡ 4) ⌝ }
 {
     let mut next = f.next;
     let mut i = 0;
-    let mut unseen = f.unseen;
-    let mut again = f.again;
-    let called = f.called;
-    let shaped = f.shaped;
     let size = f.size;
     while i < many {
         let e = byte(names, name(file, next));
-        unseen = earlier(unseen, e == 0, next);
-        again = earlier(again, taken(defined, inputs, e), next);
+        mark(found, 0, e == 0, next);
+        mark(found, 1, taken(defined, inputs, e), next);
         put_byte(slots, next, slot(e));
         put_byte(defined, e, 1);
         next += 2;
         i += 1;
     }
-    Faults {
-        unseen,
-        again,
-        called,
-        shaped,
-        size,
-        next,
-    }
+    Reached { size, next }
 }
 
 // Several names, and not several values.
@@ -280,26 +279,23 @@ fn root(
     node: usize,
     at: usize,
     many: usize,
-    f: Faults,
-) -> Faults
-    requires { ⌜ (node < 256) × (length (now file) ≤ 32768) × (f .size ≤ 65536) ⌝ }
-    ensures { λ r. ⌜ RootJudged (now (file .entry)) (now (names .entry)) (now (rows .entry)) nodes node at many (now (slots .entry)) (now (slots .exit)) f r ⌝ }
+    found: &mut [usize; 4],
+    f: Reached,
+) -> Reached
+    requires { ⌜ (node < 256) × (length (now file) ≤ 32768) × (f .size ≤ 65536) × (length (now found) ≡ 4) × (at < 65536) ⌝ }
+    ensures { λ r. ⌜ RootJudged (now (file .entry)) (now (names .entry)) (now (rows .entry)) nodes node at many (now (slots .entry)) (now (slots .exit)) (findings (now (found .entry)) f) (findings (now (found .exit)) r) × (length (now (found .exit)) ≡ 4) ⌝ }
 {
     let next = f.next;
     if file.len() <= next {
         return f;
     }
-    let u = f.unseen;
-    let again = f.again;
-    let c = f.called;
-    let s = f.shaped;
     let h = head(file, next);
     let values = arity_at(file, rows, nodes, next);
     slot_head(file, names, slots, next);
-    let unseen = earlier(u, unseen_at(file, names, next), next + 1);
-    let called = earlier(c, called_at(file, rows, node, next), next);
-    let few = earlier(s, lone(many, values), at);
-    let shaped = earlier(few, other(many, values), next);
+    mark(found, 0, unseen_at(file, names, next), next + 1);
+    mark(found, 2, called_at(file, rows, node, next), next);
+    mark(found, 3, lone(many, values), at);
+    mark(found, 3, other(many, values), next);
     let size = capped(f.size, site(file, rows, nodes, next));
     walk(
         file,
@@ -309,11 +305,8 @@ fn root(
         nodes,
         node,
         h.count,
-        Faults {
-            unseen,
-            again,
-            called,
-            shaped,
+        found,
+        Reached {
             size,
             next: h.start,
         },
@@ -330,17 +323,14 @@ fn equation(
     nodes: usize,
     node: usize,
     inputs: usize,
-    f: Faults,
-) -> Faults
-    requires { ⌜ (node < 256) × (f .next < 32768) × (length (now file) ≤ 32768) × (f .size ≤ 65536) ⌝ }
-    ensures { λ r. ⌜ EquationWalked (now (file .entry)) (now (names .entry)) (now (rows .entry)) nodes node inputs (now (slots .entry)) (now (slots .exit)) (now (defined .entry)) (now (defined .exit)) f r ⌝ }
+    found: &mut [usize; 4],
+    f: Reached,
+) -> Reached
+    requires { ⌜ (node < 256) × (f .next < 32768) × (length (now file) ≤ 32768) × (f .size ≤ 65536) × (length (now found) ≡ 4) ⌝ }
+    ensures { λ r. ⌜ EquationWalked (now (file .entry)) (now (names .entry)) (now (rows .entry)) nodes node inputs (now (slots .entry)) (now (slots .exit)) (now (defined .entry)) (now (defined .exit)) (findings (now (found .entry)) f) (findings (now (found .exit)) r) × (length (now (found .exit)) ≡ 4) ⌝ }
 {
     let at = f.next;
     let many = byte(file, at);
-    let unseen = f.unseen;
-    let again = f.again;
-    let called = f.called;
-    let shaped = f.shaped;
     let size = f.size;
     let d = define(
         file,
@@ -349,16 +339,10 @@ fn equation(
         defined,
         inputs,
         many,
-        Faults {
-            unseen,
-            again,
-            called,
-            shaped,
-            size,
-            next: at + 1,
-        },
+        found,
+        Reached { size, next: at + 1 },
     );
-    root(file, names, slots, rows, nodes, node, at, many, d)
+    root(file, names, slots, rows, nodes, node, at, many, found, d)
 }
 
 // So many equations of a node of so many inputs, from where the walk stands.
@@ -372,10 +356,11 @@ pub(crate) fn equations(
     node: usize,
     inputs: usize,
     many: usize,
-    f: Faults,
-) -> Faults
-    requires { ⌜ (node < 256) × (length (now file) ≤ 32768) × EquationsReady (now file) (now names) (now rows) nodes node many (f .next) × (f .size ≤ 65536) ⌝ }
-    ensures { λ r. ⌜ EquationsJudged (now (file .entry)) (now (names .entry)) (now (rows .entry)) nodes (fileAt (now (file .entry))) (seenIn (fileAt (now (file .entry))) node) (badCall (fileAt (now (file .entry))) node (nodeOf (fileAt (now (file .entry))) node)) inputs (f .next) (nodeOf (fileAt (now (file .entry))) node .equations) (now (slots .entry)) (now (slots .exit)) (now (defined .entry)) (now (defined .exit)) f r ⌝ }
+    found: &mut [usize; 4],
+    f: Reached,
+) -> Reached
+    requires { ⌜ (node < 256) × (length (now file) ≤ 32768) × EquationsReady (now file) (now names) (now rows) nodes node many (f .next) × (f .size ≤ 65536) × (length (now found) ≡ 4) ⌝ }
+    ensures { λ r. ⌜ EquationsJudged (now (file .entry)) (now (names .entry)) (now (rows .entry)) nodes (fileAt (now (file .entry))) (seenIn (fileAt (now (file .entry))) node) (badCall (fileAt (now (file .entry))) node (nodeOf (fileAt (now (file .entry))) node)) inputs (f .next) (nodeOf (fileAt (now (file .entry))) node .equations) (now (slots .entry)) (now (slots .exit)) (now (defined .entry)) (now (defined .exit)) (findings (now (found .entry)) f) (findings (now (found .exit)) r) × (length (now (found .exit)) ≡ 4) ⌝ }
 {
     let mut g = f;
     let mut i = 0;
@@ -384,7 +369,18 @@ pub(crate) fn equations(
         if file.len() <= at {
             return g;
         }
-        g = equation(file, names, slots, defined, rows, nodes, node, inputs, g);
+        g = equation(
+            file,
+            names,
+            slots,
+            defined,
+            rows,
+            nodes,
+            node,
+            inputs,
+            found,
+            g,
+        );
         i += 1;
     }
     g

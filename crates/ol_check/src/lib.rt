@@ -9,7 +9,7 @@ pub mod file; // file.rt: faults 7 to 10 of a whole file
 pub mod size; // size.rt: faults 13 and 14, and the lengths of records
 
 ghost use mathlib.Core.Path.{_≡_};
-ghost use Rattle.ol_check.specs.Founds.{placeOf, earliest};
+ghost use Rattle.ol_check.specs.Founds.{placeOf, placeAt};
 
 // A fault's place, or none.
 pub enum Found {
@@ -17,8 +17,7 @@ pub enum Found {
     Nothing,
 }
 
-// The first fault of each number so far, the bytes of the records of a node's call sites so far, and
-// where the walk stands.
+// The first fault of each number, the bytes of an instance of the last node, and where the walk ended.
 pub struct Faults {
     pub unseen: Found,
     pub again: Found,
@@ -28,18 +27,22 @@ pub struct Faults {
     pub next: usize,
 }
 
-// The first fault: the one in hand, else this item's.
-pub(crate) fn earlier(found: Found, faulted: bool, at: usize) -> Found
-    ensures { λ r. ⌜ placeOf r ≡ earliest (placeOf found) faulted at ⌝ }
+// The bytes of the records of a node's call sites so far, and where the walk stands.
+pub struct Reached {
+    pub size: usize,
+    pub next: usize,
+}
+
+// No place of a file.
+pub(crate) const NO_PLACE: usize = 65536;
+
+// A place, or none.
+pub(crate) fn found_at(place: usize) -> Found
+    ensures { λ r. ⌜ placeOf r ≡ placeAt place ⌝ }
 {
-    match found {
-        Found::At(p) => Found::At(p),
-        Found::Nothing => {
-            if faulted {
-                Found::At(at)
-            } else {
-                Found::Nothing
-            }
-        }
+    if place == NO_PLACE {
+        Found::Nothing
+    } else {
+        Found::At(place)
     }
 }

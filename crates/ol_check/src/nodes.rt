@@ -1,5 +1,5 @@
 // Faults 7 to 10 of the nodes, and the lengths of their records: a node's variables are entered, its equations judged, and its variables taken back.
-use super::Faults;
+use super::Reached;
 use super::judge::equations;
 use super::names::declare_variables;
 use super::names::forget_variables;
@@ -24,6 +24,7 @@ ghost use Rattle.ol_spec.specs.Syntax.{variables, nameOf};
 ghost use Rattle.ol_tables.specs.At.{fileAt};
 ghost use Rattle.ol_tables.specs.Tables.{nodeOf, rowAt};
 ghost use Rattle.ol_check.specs.Entries.{forgetAll};
+ghost use Rattle.ol_check.specs.Judging.{findings};
 ghost use Rattle.ol_check.specs.NodesJudged.{NodeReady, nodeTable, NodeJudged, RowsReady, NamesReady, NodesJudged};
 ghost use Rattle.ol_check.specs.Records.{recordBy};
 ghost use Rattle.ol_check.specs.Sizes.{NodesSized};
@@ -64,16 +65,13 @@ fn node(
     rows: &mut [usize],
     nodes: usize,
     k: usize,
-    f: Faults,
-) -> Faults
-    requires { ⌜ NodeReady (now file) (now rows) nodes k × NamesReady (now names) (fileAt (now file)) ⌝ }
-    ensures { λ r. ⌜ (now (names .exit) ≡ now (names .entry)) × (now (rows .exit) ≡ set (now (rows .entry)) (k * 8 + 6) (recordBy (rowAt (now (rows .entry)) k 0) (r .size))) × NodeJudged (now (file .entry)) (now (names .entry)) (now (rows .entry)) nodes (fileAt (now (file .entry))) k (now (slots .entry)) (now (slots .exit)) f r ⌝ }
+    found: &mut [usize; 4],
+    f: Reached,
+) -> Reached
+    requires { ⌜ NodeReady (now file) (now rows) nodes k × NamesReady (now names) (fileAt (now file)) × (length (now found) ≡ 4) ⌝ }
+    ensures { λ r. ⌜ (now (names .exit) ≡ now (names .entry)) × (now (rows .exit) ≡ set (now (rows .entry)) (k * 8 + 6) (recordBy (rowAt (now (rows .entry)) k 0) (r .size))) × NodeJudged (now (file .entry)) (now (names .entry)) (now (rows .entry)) nodes (fileAt (now (file .entry))) k (now (slots .entry)) (now (slots .exit)) (findings (now (found .entry)) f) (findings (now (found .exit)) r) × (length (now (found .exit)) ≡ 4) ⌝ }
 {
     declare_node(file, names, rows, nodes, k);
-    let unseen = f.unseen;
-    let again = f.again;
-    let called = f.called;
-    let shaped = f.shaped;
     let mut defined = [0u8; 256];
     let r = equations(
         file,
@@ -85,11 +83,8 @@ fn node(
         k,
         row(rows, k, INPUTS),
         row(rows, k, COUNT),
-        Faults {
-            unseen,
-            again,
-            called,
-            shaped,
+        found,
+        Reached {
             size: 1 + 9 * row(rows, k, VARIABLES),
             next: row(rows, k, EQUATIONS),
         },
@@ -107,15 +102,16 @@ pub(crate) fn judge_nodes(
     slots: &mut [u8],
     rows: &mut [usize],
     nodes: usize,
-    f: Faults,
-) -> Faults
-    requires { ⌜ RowsReady (now file) (now rows) nodes × NamesReady (now names) (fileAt (now file)) × (length (now rows) ≡ 272) ⌝ }
-    ensures { λ r. ⌜ (now (names .exit) ≡ now (names .entry)) × NodesJudged (now (file .entry)) (now (names .entry)) (fileAt (now (file .entry))) (now (slots .entry)) (now (slots .exit)) f r × NodesSized (fileAt (now (file .entry))) (now (rows .entry)) (now (rows .exit)) (f .size) (r .size) ⌝ }
+    found: &mut [usize; 4],
+    f: Reached,
+) -> Reached
+    requires { ⌜ RowsReady (now file) (now rows) nodes × NamesReady (now names) (fileAt (now file)) × (length (now rows) ≡ 272) × (length (now found) ≡ 4) ⌝ }
+    ensures { λ r. ⌜ (now (names .exit) ≡ now (names .entry)) × NodesJudged (now (file .entry)) (now (names .entry)) (fileAt (now (file .entry))) (now (slots .entry)) (now (slots .exit)) (findings (now (found .entry)) f) (findings (now (found .exit)) r) × NodesSized (fileAt (now (file .entry))) (now (rows .entry)) (now (rows .exit)) (f .size) (r .size) × (length (now (found .exit)) ≡ 4) ⌝ }
 {
     let mut g = f;
     let mut k = 0;
     while k < nodes {
-        g = node(file, names, slots, rows, nodes, k, g);
+        g = node(file, names, slots, rows, nodes, k, found, g);
         k += 1;
     }
     g

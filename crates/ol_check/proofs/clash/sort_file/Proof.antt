@@ -7,7 +7,7 @@ use Rattle.ol_check.proofs.clash.sort_file.Statement.{statement}
 use Rattle.ol_check.proofs.clash.sort_file.Tie as tie
 use Rattle.ol_check.proofs.clash.sort_file.Reads as reads
 use Rattle.ol_check.proofs.clash.sort_file.Lts as lts
-use Rattle.ol_check.proofs.clash.found_at.Reads as found-at-reads
+use Rattle.ol_check.proofs.found_at.Reads as found-at-reads
 use Rattle.ol_check.proofs.clash.sort_constants.Reads as sort-constants-reads
 use Rattle.ol_check.proofs.clash.sort_enums.Reads as sort-enums-reads
 use Rattle.ol_check.proofs.clash.sort_nodes.Reads as sort-nodes-reads
