@@ -21,6 +21,7 @@ use Rattle.ol_spec.specs.declared.Limits.{Limits}
 use Rattle.ol_spec.specs.declared.Sorted.{Sorted}
 use Rattle.ol_order.specs.Tables.{equationIn, nodeIn, equationAt, nodeAt, equationsAt, orderIf, orderUnless, orderOf}
 use Rattle.ol_order.specs.Post.{Readable, NodeReads}
+use Rattle.ol_order.proofs.Room.{short-file}
 use Rattle.ol_ir.specs.Walks.{placeOf, loadedOf}
 use Rattle.ol_ir.specs.declared.Counted.{Counted}
 use Rattle.ol_ir.specs.declared.Counted.the-variants as Cnt
@@ -179,6 +180,9 @@ module _ (s : List ℕ) {x : Loaded} (e : x ≡ loadedOf (readFile s relayLoader
     pub order-absent : k ≤ node → noOrder 3 0 buf ≡ ordering relayLoader s node buf
     unfolding ordering
     order-absent h = sym (ap (λ r. orderRead r node buf) (loaded .2) ∙ ap (λ o. orderNode o buf) (get-out (placedNodes (loaded .0)) node (omega (arith, long-nodes))))
+
+    pub nodes-short : length s ≤ 32768
+    nodes-short = short-file s (loaded .0) (loaded .1) (loaded .2)
 
     pub nodes-few : k ≤ 32
     nodes-few = omega (arith, few-nodes s base (loaded .0) (loaded .1) (file-after s (loaded .0) (loaded .1) (loaded .2)), loaded .4)
