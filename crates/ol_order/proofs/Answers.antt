@@ -1,37 +1,35 @@
 -- The answer: the tables at the start, and what the ordering answers once the passes are over.
 use Prim.Native.Nat.{ℕ, zero, suc, _+_, _≤_, _<_}
+use mathlib.Core.Bool.{Bool, true}
 use mathlib.Core.List.{List, [], _∷_, _++_}
 use mathlib.Core.Path.{_≡_, refl, sym, ap, _∙_}
 use native.Mathlib.Omega.{arith}
 use mathlib.Core.Option.{some}
-use mathlib.Core.Logic.{by-cases}
-use native.Mathlib.Decide.{decLe}
-use lib.ListN.{length, getD, take, drop, replicate, length-replicate, take-append-drop, List·getD-eq-default}
+use lib.ListN.{length, getD, take, drop, replicate, length-replicate, take-append-drop}
 use lib.Seq.{sets, sets-eq}
 use borrow.Author.Tests.{eq-eqb, ne-eqb}
 use Rattle.ol_spec.specs.Syntax.{Equation}
-use Rattle.ol_spec.specs.Order.{definer, order}
+use Rattle.ol_spec.specs.Order.{order}
 use Rattle.ol_spec.specs.Cycle.{OrderingCall, noOrder}
-use Rattle.ol_order.specs.Tables.{putAll, definerCode, zeros, firstZero, orderOf}
+use Rattle.ol_order.specs.Tables.{putAll, zeros, firstZero, orderOf}
 use Rattle.ol_order.specs.Post.{Blank, Definers, State, Sorts}
+use Rattle.ol_order.specs.Orders.{LowNames}
 use Rattle.ol_order.proofs.Definers.{definers-is, length-putAll}
 use Rattle.ol_order.proofs.Passing.{length-list, unplaced-some, unplaced-none, all-placed}
 use Rattle.ol_spec.specs.declared.Sorted.the-variants as Sort
 
 -- ---- the tables at the start
 
--- a table with an entry for each name
-pub blank-all : (qs : List Equation) {t : List ℕ} → 65536 ≡ length t → ((x : ℕ) → getD t x 255 ≡ 255) → Blank qs t
-blank-all qs h f = record { is = f; all = λ x i j. absurd (omega arith) }
+-- a table in which no name has a definer
+pub blank-made : (qs : List Equation) (low : Bool) {t : List ℕ} → 1024 ≡ length t → ((x : ℕ) → getD t x 255 ≡ 255) → (low ≡ true → LowNames qs) → Blank qs low t
+blank-made qs low h f l = record { is = f; all = λ e x i j. l e x (omega arith) }
 
-pub definers-made : (qs : List Equation) (t w : List ℕ) → Blank qs t → w ≡ putAll 0 qs t → Definers qs w
-definers-made qs t w blank e = record { is = λ x h. by-cases (decLe (length t) x) (outside x h) (inside x h) }
-  where
-    inside : (x : ℕ) → x < 65536 → (length t ≤ x → ⊥) → getD w x 255 ≡ definerCode (definer qs x)
-    inside x h i = ap (λ l. getD l x 255) e ∙ definers-is qs t x (omega arith) (blank .is x)
-
-    outside : (x : ℕ) → x < 65536 → length t ≤ x → getD w x 255 ≡ definerCode (definer qs x)
-    outside x h i = List·getD-eq-default w 255 (omega (arith, ap length e, length-putAll 0 qs t)) ∙ sym (ap definerCode (blank .all x i h))
+pub definers-made : (qs : List Equation) (low : Bool) (t w : List ℕ) → Blank qs low t → w ≡ putAll 0 qs t → Definers qs low w
+definers-made qs low t w blank e =
+    record {
+      is = λ x h. ap (λ l. getD l x 255) e ∙ definers-is qs t x (omega (arith, ap length e, length-putAll 0 qs t)) (blank .is x);
+      all = λ g x h i. blank .all g x (omega (arith, ap length e, length-putAll 0 qs t)) i;
+    }
 
 abbrev noughts : ℕ → List ℕ
 noughts n = replicate n 0

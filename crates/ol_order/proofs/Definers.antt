@@ -1,15 +1,15 @@
 -- The table of definers: each name's entry is its last definer.
 use Prim.Native.Nat.{ℕ, zero, suc, _+_, _-_, _≤_, _<_}
 use mathlib.Core.Bool.{Bool, true, false, cond, _||_}
-use mathlib.Core.List.{List, [], _∷_}
+use mathlib.Core.List.{List, [], _∷_, _++_}
 use mathlib.Core.Option.{Option, none, some}
 use mathlib.Core.Path.{_≡_, refl, sym, ap, subst, _∙_}
 use native.Mathlib.Numerals.{add-one}
 use native.Mathlib.Omega.{arith}
-use lib.ListN.{length, getD, set, drop, replicate, length-set, drop-of-length-le}
-use lib.Seq.{drop-cons, getD-set-same, getD-set-other}
+use lib.ListN.{length, getD, set, take, drop, replicate, length-set, drop-of-length-le}
+use lib.Seq.{drop-cons, take-suc, length-take-le, getD-set-same, getD-set-other}
 use lib.Dec.{eqb}
-use borrow.Author.Tests.{eqb-true, eqb-false}
+use borrow.Author.Tests.{eqb-true, eqb-false, eq-eqb, ne-eqb}
 use Rattle.ol_spec.specs.Lists.{member}
 use Rattle.ol_spec.specs.Syntax.{Equation}
 use Rattle.ol_spec.specs.Order.{later, definerFrom, definer}
@@ -17,8 +17,9 @@ use Rattle.ol_spec.specs.Read.{got, many, countR, nameR, equationR}
 use Rattle.ol_spec.specs.declared.Fault.{Fault}
 use Rattle.ol_spec.specs.declared.Limits.{Limits}
 use Rattle.ol_spec.proofs.Offsets.{steps, same-item}
-use Rattle.ol_order.specs.Tables.{put, putAll, namesAt, onCount, putStarts, definerCode, equationAt, equationsAt}
+use Rattle.ol_order.specs.Tables.{put, putAll, namesAt, onCount, putStarts, onDefined, definedAt, definerCode, noEquation, equationAt, equationsAt}
 use Rattle.ol_order.specs.Post.{Readable}
+use Rattle.ol_order.proofs.Turns.{equation-here}
 use Rattle.ol_tables.specs.Heads.{nameAt}
 use Rattle.ol_ir.specs.Nexts.{nextOf, countedOf}
 use Rattle.ol_ir.specs.Walks.{onPlaces}
@@ -177,3 +178,104 @@ module _ (s : List ℕ) (l : Limits) (enums : ℕ) where
 
   pub starts-defined : (starts table : List ℕ) → Readable s l enums starts → putStarts s (l .names) 0 starts table ≡ putAll 0 (equationsAt s l enums starts) table
   starts-defined starts table rd = starts-put 0 starts table (rd .each)
+
+-- ---- a name among those of an equation
+
+module _ (s : List ℕ) (x left at : ℕ) (w : Bool) (e : member x (namesAt left s at) ≡ w) where
+  pub among-end : left ≤ 0 → false ≡ w
+  unfolding namesAt
+  among-end h = go left h e
+    where
+      go : (k : ℕ) → k ≤ 0 → member x (namesAt k s at) ≡ w → false ≡ w
+      go zero g f = f
+      go (suc k) g f = absurd (omega arith)
+
+  module _ (u : 0 < left) {y : ℕ} (c : y ≡ nameAt s at) where
+    first-name : (eqb x y || member x (onPlaces (nameR s at) (namesAt (left - 1) s))) ≡ w
+    unfolding namesAt
+    first-name = go left u e
+      where
+        go : (m : ℕ) → 0 < m → member x (namesAt m s at) ≡ w → (eqb x y || member x (onPlaces (nameR s at) (namesAt (m - 1) s))) ≡ w
+        go zero h f = absurd (omega arith)
+        go (suc m) h f = let one : suc m - 1 ≡ m = omega arith in rw one (ap (λ v. eqb x v || member x (onPlaces (nameR s at) (namesAt m s))) c ∙ f)
+
+    pub among-here : x ≡ y → true ≡ w
+    among-here h = sym (ap (λ b. b || member x (onPlaces (nameR s at) (namesAt (left - 1) s))) (eq-eqb x y h)) ∙ first-name
+
+    module _ (n : x ≡ y → ⊥) {z : Next} (g : z ≡ nextOf (nameR s at)) where
+      next-names : member x (onPlaces (nameR s at) (namesAt (left - 1) s)) ≡ w
+      next-names = sym (ap (λ b. b || member x (onPlaces (nameR s at) (namesAt (left - 1) s))) (ne-eqb x y n)) ∙ first-name
+
+      pub among-turn : {q : ℕ} → z ≡ Nxt.At q → member x (namesAt (left - 1) s q) ≡ w
+      unfolding onPlaces
+      among-turn {q} h = let a = from-next (nameR s at) q (sym g ∙ h) in sym (ap (λ r. member x (onPlaces r (namesAt (left - 1) s))) (a .1)) ∙ next-names
+
+      pub among-not : {f : Fault} → z ≡ Nxt.Refused f → false ≡ w
+      unfolding onPlaces
+      among-not {f} h = sym (ap (λ r. member x (onPlaces r (namesAt (left - 1) s))) (from-halt (nameR s at) f (sym g ∙ h))) ∙ next-names
+
+module _ (s : List ℕ) (most at x : ℕ) {c : Counted} (g : c ≡ countedOf (countR s 1 most at)) where
+  pub defines-names : {n p : ℕ} {b : Bool} → c ≡ Cnt.Items n p → b ≡ member x (namesAt n s p) → b ≡ definedAt s most at x
+  unfolding definedAt
+  defines-names {n} {p} h e = e ∙ sym (ap (λ r. onDefined r (λ n p. member x (namesAt n s p))) (from-items (countR s 1 most at) n p (sym g ∙ h)))
+
+  pub defines-none : {f : Fault} → c ≡ Cnt.Refused f → false ≡ definedAt s most at x
+  unfolding definedAt
+  defines-none {f} h = sym (ap (λ r. onDefined r (λ n p. member x (namesAt n s p))) (from-no-items (countR s 1 most at) f (sym g ∙ h)))
+
+-- of an equation that was read: whether it is one of its names
+pub defined-is : (s : List ℕ) (l : Limits) (enums at : ℕ) (q : Equation) (end x : ℕ) → equationR s l enums at ≡ got q end → definedAt s (l .names) at x ≡ member x (q .names)
+unfolding definedAt
+defined-is s l enums at q end x f =
+    let c = section-at s 1 (l .names) (nameR s) at (q .names) _ (equation-at s l enums at q end f .names) in
+    ap (λ r. onDefined r (λ n p. member x (namesAt n s p))) (c .counted) ∙ ap (member x) (names-told s (length (q .names)) (at + 1) (q .names) _ (c .items))
+
+-- the same of those that start at the places of a table
+pub defined-here : (s : List ℕ) (l : Limits) (enums : ℕ) (starts : List ℕ) → Readable s l enums starts → (k x : ℕ) → k < length starts → definedAt s (l .names) (getD starts k 0) x ≡ member x (getD (equationsAt s l enums starts) k noEquation .names)
+defined-here s l enums starts rd k x h =
+    let f = rd .each k h in
+    defined-is s l enums (getD starts k 0) (equationAt s l enums (getD starts k 0)) (f .0) x (f .1) ∙ ap (λ (q : Equation). member x (q .names)) (sym (equation-here s l enums starts k h))
+
+-- ---- the search from the last equation to the first
+
+definer-last : (i : ℕ) (qs : List Equation) (q : Equation) (x : ℕ) → definerFrom i (qs ++ q ∷ []) x ≡ cond (member x (q .names)) (some (i + length qs)) (definerFrom i qs x)
+unfolding definerFrom
+definer-last i [] q x = go (member x (q .names))
+  where
+    go : (b : Bool) → later none b i ≡ cond b (some (i + 0)) none
+    go true = let z : i ≡ i + 0 = omega arith in ap some z
+    go false = refl
+definer-last i (r ∷ qs) q x = ap (λ o. later o (member x (r .names)) i) (definer-last (suc i) qs q x) ∙ go (member x (q .names))
+  where
+    go : (b : Bool) → later (cond b (some (suc i + length qs)) (definerFrom (suc i) qs x)) (member x (r .names)) i ≡ cond b (some (i + suc (length qs))) (later (definerFrom (suc i) qs x) (member x (r .names)) i)
+    go true = let z : suc i + length qs ≡ i + suc (length qs) = omega arith in ap some z
+    go false = refl
+
+-- the first `left` equations have the name's last definer, if there is one
+module _ (qs : List Equation) (x left : ℕ) (i : left ≤ length qs) (e : definer qs x ≡ definer (take left qs) x) where
+  pub search-end : left ≤ 0 → 255 ≡ definerCode (definer qs x)
+  unfolding definerFrom
+  search-end h = let z : left ≡ 0 = omega arith in sym (ap definerCode (e ∙ ap (λ k. definer (take k qs) x) z))
+
+  module _ (u : 0 < left) where
+    last-here : definer qs x ≡ cond (member x (getD qs (left - 1) noEquation .names)) (some (left - 1)) (definer (take (left - 1) qs) x)
+    last-here =
+        let z : left ≡ suc (left - 1) = omega arith in
+        let h : left - 1 < length qs = omega arith in
+        let y : 0 + length (take (left - 1) qs) ≡ left - 1 = omega (arith, length-take-le (left - 1) qs (omega arith)) in
+        e ∙ (ap (λ k. definer (take k qs) x) z
+        ∙ (ap (λ v. definer v x) (take-suc qs (left - 1) noEquation h)
+        ∙ (definer-last 0 (take (left - 1) qs) (getD qs (left - 1) noEquation) x ∙ ap (λ k. cond (member x (getD qs (left - 1) noEquation .names)) (some k) (definer (take (left - 1) qs) x)) y)))
+
+    pub search-here : member x (getD qs (left - 1) noEquation .names) ≡ true → left - 1 ≡ definerCode (definer qs x)
+    search-here h = sym (ap definerCode (last-here ∙ ap (λ b. cond b (some (left - 1)) (definer (take (left - 1) qs) x)) h))
+
+    pub search-on : member x (getD qs (left - 1) noEquation .names) ≡ false → definer qs x ≡ definer (take (left - 1) qs) x
+    search-on h = last-here ∙ ap (λ b. cond b (some (left - 1)) (definer (take (left - 1) qs) x)) h
+
+pub search-start : (qs : List Equation) (x left : ℕ) → length qs ≡ left → definer qs x ≡ definer (take left qs) x
+search-start qs x left e = ap (λ v. definer v x) (sym (ap (λ k. take k qs) (sym e) ∙ whole qs))
+  where
+    whole : (rs : List Equation) → take (length rs) rs ≡ rs
+    whole [] = refl
+    whole (r ∷ rs) = ap (λ v. r ∷ v) (whole rs)

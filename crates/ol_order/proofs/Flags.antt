@@ -1,21 +1,18 @@
 -- The flags of the placed equations, and the list of those placed.
 use Prim.Native.Nat.{ℕ, zero, suc, _+_, _≤_, _<_}
-use mathlib.Core.Bool.{Bool, true, false, not, cond, _||_}
+use mathlib.Core.Bool.{Bool, true, false, _||_}
 use mathlib.Core.List.{List, [], _∷_, _++_}
-use mathlib.Core.Option.{Option, none, some}
 use mathlib.Core.Path.{_≡_, refl, sym, ap, subst, _∙_}
 use native.Mathlib.Numerals.{add-one}
 use native.Mathlib.Omega.{arith}
 use lib.ListN.{length, getD, take, drop, set, length-set, drop-of-length-le}
 use lib.Seq.{getD-set-same, getD-set-other, take-suc, take-suc-set, drop-cons}
-use lib.Dec.{ltb, eqb}
-use borrow.Author.Tests.{lt-ltb, le-ltb, eqb-true, eqb-false}
-use Rattle.ol_spec.specs.Lists.{maybe, member}
+use lib.Dec.{eqb}
+use borrow.Author.Tests.{eqb-true, eqb-false}
+use Rattle.ol_spec.specs.Lists.{member}
 use Rattle.ol_spec.specs.Syntax.{Equation}
-use Rattle.ol_spec.specs.Order.{definer}
-use Rattle.ol_spec.proofs.Ordering.{definer-inside}
-use Rattle.ol_order.specs.Tables.{definerCode, waitsFor, flagOf, zeros, firstZero}
-use Rattle.ol_order.specs.Post.{Definers, State}
+use Rattle.ol_order.specs.Tables.{flagOf, zeros, firstZero}
+use Rattle.ol_order.specs.Post.{State}
 
 take-all : (l : List ℕ) (i : ℕ) → length l ≤ i → take i l ≡ l
 take-all [] zero h = refl
@@ -48,10 +45,6 @@ flag-true false h = absurd (h refl)
 flag-false : (b : Bool) → flagOf b ≡ 0 → b ≡ false
 flag-false true h = absurd (omega arith)
 flag-false false h = refl
-
-flag-test : (b : Bool) → eqb (flagOf b) 0 ≡ not b
-flag-test true = refl
-flag-test false = refl
 
 -- ---- how many are not placed
 
@@ -90,34 +83,6 @@ module _ {qs : List Equation} {list placed order : List ℕ} {n : ℕ} (st : Sta
       go : (j : ℕ) → j < length placed → (b : Bool) → eqb j k ≡ b → getD (set placed k 1) j 0 ≡ flagOf (member j list || eqb j k)
       go j i true f = let p : j ≡ k = eqb-true j k f in rw f (subst (λ m. getD (set placed k 1) m 0 ≡ 1) (sym p) (getD-set-same placed k 1 0 h) ∙ sym (ap flagOf (or-true (member j list))))
       go j i false f = rw f (getD-set-other placed k j 1 0 (eqb-false j k f) ∙ (st .flags j i ∙ sym (ap flagOf (or-false (member j list)))))
-
--- ---- waiting
-
-module _ (definers placed : List ℕ) (x : ℕ) {d : ℕ} (e : d ≡ getD definers x 255) where
-  -- the definer has a flag
-  pub waits-placed : d < length placed → eqb (getD placed d 0) 0 ≡ waitsFor definers placed x
-  unfolding waitsFor
-  waits-placed h = sym (rw (sym e, lt-ltb d (length placed) h) refl)
-
-  pub waits-none : length placed ≤ d → false ≡ waitsFor definers placed x
-  unfolding waitsFor
-  waits-none h = sym (rw (sym e, le-ltb d (length placed) h) refl)
-
--- the name's definer is placed, or it has none
-abbrev pub settled : List Equation → List ℕ → ℕ → Bool
-settled qs list x = maybe true (λ j. member j list) (definer qs x)
-
-module _ {qs : List Equation} {list placed order table : List ℕ} {n : ℕ} (st : State qs list placed order n) (df : Definers qs table) (few : length qs ≤ 80) where
-  pub waits-is : (x : ℕ) → x < 65536 → waitsFor table placed x ≡ not (settled qs list x)
-  unfolding waitsFor
-  waits-is x h = ap (λ d. cond (ltb d (length placed)) (eqb (getD placed d 0) 0) false) (df .is x h) ∙ go (definer qs x) refl
-    where
-      go : (o : Option ℕ) → definer qs x ≡ o → cond (ltb (definerCode o) (length placed)) (eqb (getD placed (definerCode o) 0) 0) false ≡ not (maybe true (λ j. member j list) o)
-      go none e = rw (le-ltb 255 (length placed) (omega (arith, st .flagged))) refl
-      go (some j) e =
-          let i = definer-inside 0 qs x j e in
-          let b : j < length placed = omega (arith, i .1, st .flagged) in
-          rw (lt-ltb j (length placed) b) (ap (λ m. eqb m 0) (st .flags j b) ∙ flag-test (member j list))
 
 -- ---- the first 0
 

@@ -1,8 +1,10 @@
 pub mod Definers
 pub mod Flags
 pub mod Scanning
-pub mod Passing
 pub mod Turns
+pub mod Passing
+pub mod Waiting
+pub mod Room
 pub mod Answers
 pub mod Nodes
 pub mod Rows

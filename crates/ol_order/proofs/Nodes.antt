@@ -24,6 +24,7 @@ use Rattle.ol_order.specs.Post.{Readable, NodeReads}
 use Rattle.ol_order.specs.Counts.{equationsIn, equationsOf}
 use Rattle.ol_ir.specs.Nexts.{countedOf}
 use Rattle.ol_ir.specs.Nodes.{equationsR}
+use Rattle.ol_order.proofs.Room.{short-file}
 use Rattle.ol_ir.specs.Walks.{placeOf, loadedOf}
 use Rattle.ol_ir.specs.declared.Counted.{Counted}
 use Rattle.ol_ir.specs.declared.Counted.the-variants as Cnt
@@ -189,6 +190,9 @@ module _ (s : List ℕ) {x : Loaded} (e : x ≡ loadedOf (readFile s relayLoader
 
     pub count-absent : k ≤ node → 0 ≡ equationsOf (readFile s relayLoader) node
     count-absent h = sym (ap (λ r. equationsOf r node) (loaded .2) ∙ ap equationsIn (get-out (placedNodes (loaded .0)) node (omega (arith, long-nodes))))
+
+    pub nodes-short : length s ≤ 32768
+    nodes-short = short-file s (loaded .0) (loaded .1) (loaded .2)
 
     pub nodes-few : k ≤ 32
     nodes-few = omega (arith, few-nodes s base (loaded .0) (loaded .1) (file-after s (loaded .0) (loaded .1) (loaded .2)), loaded .4)

@@ -8,13 +8,12 @@ use native.Mathlib.Numerals.{add-one}
 use native.Mathlib.Omega.{arith}
 use lib.ListN.{length, getD, take, drop, set, length-append, drop-of-length-le}
 use lib.Seq.{drop-cons, drop-drop, drop-set-lt, length-take-le}
-use Rattle.ol_spec.specs.Lists.{allOf, member}
+use Rattle.ol_spec.specs.Lists.{member}
 use Rattle.ol_spec.specs.Syntax.{Equation}
-use Rattle.ol_spec.specs.Order.{reads, ready, place, pass, passes, order, outsideIf, firstOutside, unplaced}
-use Rattle.ol_spec.specs.declared.Limits.{Limits}
-use Rattle.ol_order.specs.Tables.{noEquation, equationAt, equationsAt, flagOf, zeros, firstZero}
+use Rattle.ol_spec.specs.Order.{ready, place, pass, passes, order, outsideIf, firstOutside, unplaced}
+use Rattle.ol_order.specs.Tables.{noEquation, flagOf, zeros, firstZero}
 use Rattle.ol_order.specs.Post.{State}
-use Rattle.ol_order.proofs.Flags.{is-placed, not-placed, place-state, settled}
+use Rattle.ol_order.proofs.Flags.{is-placed, not-placed, place-state}
 
 take-length : {A : Type 0} (l : List A) → take (length l) l ≡ l
 take-length [] = refl
@@ -26,19 +25,7 @@ drop-further a b n m h e =
     let z : n + (m - n) ≡ m = omega arith in
     subst (λ k. drop k a ≡ drop k b) z (sym (drop-drop (m - n) n a) ∙ (ap (drop (m - n)) e ∙ drop-drop (m - n) n b))
 
--- the equation at a place
-pub equation-here : (s : List ℕ) (l : Limits) (enums : ℕ) (starts : List ℕ) (k : ℕ) → k < length starts → getD (equationsAt s l enums starts) k noEquation ≡ equationAt s l enums (getD starts k 0)
-equation-here s l enums [] zero h = absurd (omega arith)
-equation-here s l enums [] (suc k) h = absurd (omega arith)
-equation-here s l enums (x ∷ starts) zero h = refl
-equation-here s l enums (x ∷ starts) (suc k) h = equation-here s l enums starts k (omega arith)
-
 module _ (qs : List Equation) where
-  -- ready: all names that it reads are settled
-  pub ready-is : (list : List ℕ) (q : Equation) → ready qs list q ≡ allOf (settled qs list) (reads (q .rhs))
-  unfolding ready
-  ready-is list q = refl
-
   pass-turn : (k : ℕ) (list : List ℕ) → k < length qs → pass qs k (drop k qs) list ≡ pass qs (suc k) (drop (suc k) qs) (place qs (not (member k list) && ready qs list (getD qs k noEquation)) k list)
   unfolding pass
   pass-turn k list h = ap (λ rs. pass qs k rs list) (drop-cons qs k noEquation h)
@@ -120,11 +107,6 @@ module _ (qs : List Equation) where
   passes-step zero list h = absurd (omega arith)
   passes-step (suc k) list h = let one : suc k - 1 ≡ k = omega arith in rw one refl
 
-  none-left : (k : ℕ) (list : List ℕ) → k ≤ 0 → passes qs k list ≡ list
-  unfolding passes
-  none-left zero list h = refl
-  none-left (suc k) list h = absurd (omega arith)
-
   pub length-list : {list placed order : List ℕ} {n : ℕ} → State qs list placed order n → length list ≡ n
   length-list {list} {placed} {order} {n} st =
       let h : n ≤ length order = omega (arith, st .left, st .room) in
@@ -134,8 +116,38 @@ module _ (qs : List Equation) where
   nothing [] e = refl
   nothing (x ∷ more) e = absurd (omega arith)
 
-  -- w is what `left` more passes give; behind those placed, the entries are as they were before the first
-  pub record Passes (w : List ℕ) (left : ℕ) (before placed order : List ℕ) (n : ℕ) : Type 0 where
+  -- ---- all are placed
+
+  -- a pass over placed equations places none
+  pass-idle : (i : ℕ) (rs : List Equation) (list : List ℕ) → ((j : ℕ) → j < length rs → member (i + j) list ≡ true) → pass qs i rs list ≡ list
+  unfolding pass
+  pass-idle i [] list h = refl
+  pass-idle i (r ∷ rs) list h =
+      let z : i + 0 ≡ i = omega arith in
+      let m : member i list ≡ true = subst (λ k. member k list ≡ true) z (h 0 (omega arith)) in
+      ap (λ b. pass qs (suc i) rs (place qs (not b && ready qs list r) i list)) m ∙ pass-idle (suc i) rs list (λ j g. let y : i + suc j ≡ suc i + j = omega arith in subst (λ k. member k list ≡ true) y (h (suc j) (omega arith)))
+
+  -- no flag is 0 if their number is
+  no-nought : (ps : List ℕ) (j : ℕ) → zeros ps ≡ 0 → j < length ps → getD ps j 0 ≡ 0 → ⊥
+  unfolding zeros
+  no-nought [] zero e h g = omega arith
+  no-nought [] (suc j) e h g = omega arith
+  no-nought (zero ∷ ps) zero e h g = omega arith
+  no-nought (zero ∷ ps) (suc j) e h g = omega arith
+  no-nought (suc x ∷ ps) zero e h g = omega arith
+  no-nought (suc x ∷ ps) (suc j) e h g = no-nought ps j e (omega arith) g
+
+  full-idle : {list placed order : List ℕ} {n : ℕ} → State qs list placed order n → length qs ≤ n → pass qs 0 qs list ≡ list
+  full-idle {list} {placed} {order} {n} st h =
+      pass-idle 0 qs list (λ j g.
+      let b : j < length placed = omega (arith, st .flagged) in
+      let z : 0 + j ≡ j = omega arith in
+      subst (λ k. member k list ≡ true) (sym z) (is-placed st j b (no-nought placed j (omega (arith, st .left)) b)))
+
+  -- w is what some more passes give, as many as there are equations left or more; behind those placed, the entries are as they were before the first
+  pub record Passes (w before placed order : List ℕ) (n : ℕ) : Type 0 where
+    pub left : ℕ
+    pub enough : length qs ≤ n + left
     pub is : w ≡ passes qs left (take n order)
     pub state : State qs (take n order) placed order n
     pub behind : drop n order ≡ drop n before
@@ -143,17 +155,30 @@ module _ (qs : List Equation) where
   renew : {list placed order : List ℕ} {n : ℕ} → State qs list placed order n → State qs (take n order) placed order n
   renew {placed = placed} {order} {n} st = subst (λ v. State qs v placed order n) (sym (st .front)) st
 
-  module _ {w before placed order p o : List ℕ} {left n m : ℕ} (ps : Passes w left before placed order n) (u : 0 < left) (st : State qs (pass qs 0 qs (take n order)) p o m × (drop m o ≡ drop m order)) where
+  module _ {w before placed order p o : List ℕ} {n m : ℕ} (ps : Passes w before placed order n) (u : n < length qs) (st : State qs (pass qs 0 qs (take n order)) p o m × (drop m o ≡ drop m order)) where
+    some-left : 0 < ps .left
+    some-left = omega (arith, ps .enough)
+
     no-fewer : n ≤ m
     no-fewer =
         let a = pass-adds 0 qs (take n order) in
         omega (arith, ap length (a .1), length-append (take n order) (a .0), length-list (st .0), length-list (ps .state))
 
+    pub more-placed : (m ≡ n → ⊥) → n < m
+    more-placed e = omega (arith, no-fewer)
+
     still-behind : drop m o ≡ drop m before
     still-behind = st .1 ∙ drop-further order before n m no-fewer (ps .behind)
 
-    pub passes-turn : Passes w (left - 1) before p o m
-    passes-turn = record { is = ps .is ∙ (passes-step left (take n order) u ∙ ap (passes qs (left - 1)) (sym (st .0 .front))); state = renew (st .0); behind = still-behind }
+    pub passes-turn : (m ≡ n → ⊥) → Passes w before p o m
+    passes-turn e =
+        record {
+          left = ps .left - 1;
+          enough = omega (arith, ps .enough, more-placed e);
+          is = ps .is ∙ (passes-step (ps .left) (take n order) some-left ∙ ap (passes qs (ps .left - 1)) (sym (st .0 .front)));
+          state = renew (st .0);
+          behind = still-behind;
+        }
 
     -- the pass added none
     pub passes-stop : m ≡ n → State qs w p o n × (drop n o ≡ drop n before)
@@ -162,15 +187,16 @@ module _ (qs : List Equation) where
         let b : length (take n order ++ a .0) ≡ n = ap length (sym (a .1)) ∙ (length-list (st .0) ∙ e) in
         let c : a .0 ≡ [] = nothing (a .0) (omega (arith, b, length-append (take n order) (a .0), length-list (ps .state))) in
         let d : pass qs 0 qs (take n order) ≡ take n order = a .1 ∙ (ap (λ l. take n order ++ l) c ∙ append-nil (take n order)) in
-        let f : pass qs 0 qs (take n order) ≡ w = d ∙ sym (ps .is ∙ passes-idle left (take n order) d) in
+        let f : pass qs 0 qs (take n order) ≡ w = d ∙ sym (ps .is ∙ passes-idle (ps .left) (take n order) d) in
         (subst (λ v. State qs w p o v) e (subst (λ v. State qs v p o m) f (st .0)), subst (λ v. drop v o ≡ drop v before) e still-behind)
 
-  pub passes-end : {w before placed order : List ℕ} {left n : ℕ} → Passes w left before placed order n → left ≤ 0 → State qs w placed order n × (drop n order ≡ drop n before)
-  passes-end {w} {before} {placed} {order} {left} {n} ps h = (subst (λ v. State qs v placed order n) (sym (ps .is ∙ none-left left (take n order) h)) (ps .state), ps .behind)
+  -- all are placed
+  pub passes-end : {w before placed order : List ℕ} {n : ℕ} → Passes w before placed order n → length qs ≤ n → State qs w placed order n × (drop n order ≡ drop n before)
+  passes-end {w} {before} {placed} {order} {n} ps h = (subst (λ v. State qs v placed order n) (sym (ps .is ∙ passes-idle (ps .left) (take n order) (full-idle (ps .state) h))) (ps .state), ps .behind)
 
-  pub passes-start : {placed ord : List ℕ} (left : ℕ) → length qs ≡ left → State qs [] placed ord 0 → Passes (order qs) left ord placed ord 0
+  pub passes-start : {placed ord : List ℕ} → State qs [] placed ord 0 → Passes (order qs) ord placed ord 0
   unfolding order
-  passes-start left e st = record { is = ap (λ k. passes qs k []) e; state = st; behind = refl }
+  passes-start st = record { left = length qs; enough = omega arith; is = refl; state = st; behind = refl }
 
 -- ---- the first that is not placed
 

@@ -16,16 +16,17 @@ use Rattle.ol_spec.specs.Syntax.{Equation, Node, File, noNode}
 use Rattle.ol_spec.specs.Places.{nodeSize, nodesStart, placedNodes, placedEquations}
 use Rattle.ol_spec.specs.Limits.{base, relayLoader}
 use Rattle.ol_spec.specs.Read.{Read, got, readFile, nodeR}
-use Rattle.ol_spec.specs.Order.{definer, order, unplaced}
+use Rattle.ol_spec.specs.Order.{order, unplaced}
 use Rattle.ol_spec.specs.Admission.{placeAt, ringIn, firstSome, fault11}
 use Rattle.ol_spec.specs.declared.Limits.{Limits}
 use Rattle.ol_spec.proofs.Offsets.{same-item}
 use Rattle.ol_spec.proofs.Ordering.{Placed, Stuck, placed-or-stuck}
-use Rattle.ol_order.specs.Tables.{nodeIn, nodeAt, equationsAt}
-use Rattle.ol_order.specs.Post.{Readable, NodeReads, Blank, Sorts}
+use Rattle.ol_order.specs.Tables.{nodeIn, nodeAt, equationsAt, waitedAll}
+use Rattle.ol_order.specs.Post.{Readable, NodeReads, Sorts}
 use Rattle.ol_order.specs.Orders.{ringPlace, Small, LowNames, StartsWith, rowWritten, EquationsDone, NodeDone, NodesStand, OrderOf, ordersWritten, OrdersDone}
 use Rattle.ol_order.specs.declared.table.Ring.{Ring}
 use Rattle.ol_order.specs.declared.table.Ring.the-variants as Rin
+use Rattle.ol_order.proofs.Room.{node-room}
 use Rattle.ol_order.proofs.Nodes.{place-get, length-placed, items-placed, itemOf, place-same, node-equations, front-is}
 use Rattle.ol_ir.specs.Walks.{placeOf}
 use Rattle.ol_ir.specs.declared.Counted.{Counted}
@@ -89,9 +90,6 @@ module _ {qs : List Equation} {space o : List ℕ} {first : ℕ} (starts before 
         written = f ∙ (ap (sets before 0) (so .order h) ∙ sym (ap (maybe (sets before 0 (order qs)) (λ i. before)) (so .placed h)));
       }
 
-pub blank-low : (qs : List Equation) {t : List ℕ} → 1024 ≡ length t → ((x : ℕ) → getD t x 255 ≡ 255) → LowNames qs → Blank qs t
-blank-low qs h f l = record { is = f; all = λ x i j. l x (omega arith) }
-
 -- ---- what a node's equations leave
 
 some-none : (g : ℕ → ℕ) (o : Option ℕ) → maybe none (λ i. some (g i)) o ≡ none → o ≡ none
@@ -109,8 +107,15 @@ module _ (s : List ℕ) (l : Limits) (enums at : ℕ) (nr : NodeReads s l enums 
     pub front-equations : equationsAt s l enums (take k t) ≡ node .equations
     front-equations = ap (equationsAt s l enums) front ∙ node-equations s l enums at node (nr .end) (nr .is)
 
-    pub front-blank : {table : List ℕ} → Blank (node .equations) table → Blank (equationsAt s l enums (take k t)) table
-    front-blank {table} b = subst (λ qs. Blank qs table) (sym front-equations) b
+    -- the lists of its equations have room in a third of the file's bytes
+    pub front-room : 3 * length (waitedAll (equationsAt s l enums (take k t)) (equationsAt s l enums (take k t))) ≤ length s
+    front-room = subst (λ qs. 3 * length (waitedAll qs qs) ≤ length s) (sym front-equations) (node-room s l enums at nr)
+
+    pub front-lists : {lists : List ℕ} (before : List ℕ) → lists ≡ sets before 0 (waitedAll (equationsAt s l enums (take k t)) (equationsAt s l enums (take k t))) → lists ≡ sets before 0 (waitedAll (node .equations) (node .equations))
+    front-lists before e = e ∙ ap (λ qs. sets before 0 (waitedAll qs qs)) front-equations
+
+    pub front-lows : {low : Bool} → (low ≡ true → LowNames (node .equations)) → low ≡ true → LowNames (equationsAt s l enums (take k t))
+    front-lows f e = subst LowNames (sym front-equations) (f e)
 
     ring-is : maybe none (λ i. some (getD (take k t) i 0)) (unplaced (equationsAt s l enums (take k t))) ≡ ringIn (at, node)
     ring-is =

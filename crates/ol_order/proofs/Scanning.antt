@@ -1,23 +1,30 @@
 -- The scan for an expression's reads: what is left to scan are expressions, one behind the other.
-use Prim.Native.Nat.{ℕ, _+_, _-_, _≤_, _<_}
-use mathlib.Core.Bool.{Bool, true, false, _&&_}
+use Prim.Native.Nat.{ℕ, _+_, _-_, _*_, _≤_, _<_}
 use mathlib.Core.List.{List, [], _∷_, _++_, append-nil, append-assoc}
 use mathlib.Core.Logic.{_⊎_, inl, inr, ⊎-elim}
+use mathlib.Core.Option.{Option, none, some}
 use mathlib.Core.Path.{_≡_, refl, sym, ap, subst, _∙_}
 use native.Mathlib.Omega.{arith}
-use lib.ListN.{length}
-use Rattle.ol_spec.specs.Lists.{allOf}
+use lib.ListN.{length, getD, set}
+use lib.Seq.{sets}
+use native.Mathlib.Numerals.{add-one}
 use Rattle.ol_spec.specs.Syntax.{Expr, boolLit, intLit, floatLit, charLit, var, unary, binary, ifThenElse, pre, arrow, cast, call, tuple, Exprs, nil}
-use Rattle.ol_spec.specs.Syntax.{cons, count}
-use Rattle.ol_spec.specs.Places.{exprSize}
-use Rattle.ol_spec.specs.Read.{got, Reader, manyExprs, exprR}
-use Rattle.ol_spec.specs.Order.{reads, readsAll}
+use Rattle.ol_spec.specs.Syntax.{cons, count, Equation}
+use Rattle.ol_spec.specs.Places.{exprSize, rhsPlace}
+use Rattle.ol_spec.specs.Read.{got, Reader, manyExprs, nameR, exprR}
+use Rattle.ol_spec.specs.Order.{reads, readsAll, definer}
+use Rattle.ol_spec.proofs.Ordering.{definer-inside}
+use Rattle.ol_order.specs.Tables.{equationAt, definerCode, withDefiner, definersOf, waited}
+use Rattle.ol_order.specs.Post.{Readable}
 use Rattle.ol_spec.specs.declared.Limits.{Limits}
-use Rattle.ol_tables.specs.Heads.{headSize, partsOf, joined}
+use Rattle.ol_tables.specs.Heads.{headSize, partsOf, joined, Byte}
 use Rattle.ol_tables.proofs.Skipping.{some-size, count-size}
 use Rattle.ol_ir.specs.Scans.{scanOf}
 use Rattle.ol_ir.specs.declared.Scan.{Scan}
 use Rattle.ol_ir.specs.declared.Scan.the-variants as Scn
+use Rattle.ol_ir.specs.Nexts.{countedOf}
+use Rattle.ol_ir.proofs.Bytes.{CountIs, counted-is}
+use Rattle.ol_ir.proofs.Items.{section-at, equation-at}
 use Rattle.ol_ir.proofs.Sizes.{takes-expr, takes-exprs}
 use Rattle.ol_ir.proofs.Skips.{many-first, many-join, many-none}
 use Rattle.ol_ir.proofs.Trees.{many-cons, deeper-parts, expr-at}
@@ -69,51 +76,55 @@ module _ (s : List ℕ) (l : Limits) (enums d : ℕ) where
 
 -- ---- what is left to scan
 
--- `want` says whether all reads are P, of which those of `left` expressions from `at` on are left
-pub record Pending (s : List ℕ) (l : Limits) (enums : ℕ) (want : Bool) (P : ℕ → Bool) (left at : ℕ) : Type 0 where
+-- a definer is below 255, and what is not is none
+pub code-some : (o : Option ℕ) {d : ℕ} → d ≡ definerCode o → d < 255 → o ≡ some d
+code-some none e h = absurd (omega arith)
+code-some (some j) e h = ap some (sym e)
+
+pub code-none : (qs : List Equation) (x : ℕ) {d : ℕ} → length qs ≤ 80 → d ≡ definerCode (definer qs x) → 255 ≤ d → definer qs x ≡ none
+code-none qs x {d} few e h = go (definer qs x) refl e
+  where
+    go : (o : Option ℕ) → definer qs x ≡ o → d ≡ definerCode o → definer qs x ≡ none
+    go none f g = f
+    go (some j) f g = absurd (omega (arith, g, definer-inside 0 qs x j f .1))
+
+-- `want` are the lists with all definers, m where they end; those of `left` expressions from `at` on are still to be written, from `end` on
+pub record Pending (s : List ℕ) (l : Limits) (enums : ℕ) (qs : List Equation) (want : List ℕ) (m : ℕ) (lists : List ℕ) (end left at : ℕ) : Type 0 where
   pub exprs : Exprs
-  pub end : ℕ
-  pub read : manyExprs left (exprR s l enums (l .nesting)) at ≡ got exprs end
-  pub is : want ≡ allOf P (readsAll exprs)
+  pub stop : ℕ
+  pub read : manyExprs left (exprR s l enums (l .nesting)) at ≡ got exprs stop
+  pub is : sets lists end (definersOf qs (readsAll exprs)) ≡ want
+  pub counts : end + length (definersOf qs (readsAll exprs)) ≡ m
   pub inside : at ≤ length s
 
-all-append : (P : ℕ → Bool) (xs ys : List ℕ) → allOf P (xs ++ ys) ≡ (allOf P xs && allOf P ys)
-all-append P [] ys = refl
-all-append P (x ∷ xs) ys = ap (λ b. P x && b) (all-append P xs ys) ∙ and-assoc (P x) (allOf P xs) (allOf P ys)
-  where
-    and-assoc : (a b c : Bool) → (a && (b && c)) ≡ ((a && b) && c)
-    and-assoc true b c = refl
-    and-assoc false b c = refl
-
-and-true : (b : Bool) → (b && true) ≡ b
-and-true true = refl
-and-true false = refl
-
-module _ (s : List ℕ) (l : Limits) (enums : ℕ) (P : ℕ → Bool) where
-  pub pending-start : (e : Expr) (at n : ℕ) → exprR s l enums (l .nesting) at ≡ got e n → Pending s l enums (allOf P (reads e)) P 1 at
+module _ (s : List ℕ) (l : Limits) (enums : ℕ) (qs : List Equation) where
+  pub pending-start : (e : Expr) (at n end : ℕ) (lists : List ℕ) → exprR s l enums (l .nesting) at ≡ got e n → Pending s l enums qs (sets lists end (definersOf qs (reads e))) (end + length (definersOf qs (reads e))) lists end 1 at
   unfolding manyExprs
-  pending-start e at n f =
+  pending-start e at n end lists f =
       record {
         exprs = cons e nil;
-        end = n;
+        stop = n;
         read = many-cons (exprR s l enums (l .nesting)) 0 at f refl;
-        is = ap (allOf P) (sym (append-nil (reads e)));
+        is = ap (λ v. sets lists end (definersOf qs v)) (append-nil (reads e));
+        counts = ap (λ v. end + length (definersOf qs v)) (append-nil (reads e));
         inside = omega (arith, expr-at s l enums (l .nesting) at e n f .inside);
       }
 
-  module _ {want : Bool} {left at : ℕ} (pd : Pending s l enums want P left at) where
-    pub pending-done : left ≤ 0 → want ≡ true
-    pending-done h = pd .is ∙ ap (λ v. allOf P (readsAll v)) (many-none (exprR s l enums (l .nesting)) left at (pd .exprs) (pd .end) h (pd .read) .0)
+  module _ {want lists : List ℕ} {m end left at : ℕ} (pd : Pending s l enums qs want m lists end left at) where
+    pub pending-done : left ≤ 0 → (lists ≡ want) × (end ≡ m)
+    pending-done h =
+        let e = many-none (exprR s l enums (l .nesting)) left at (pd .exprs) (pd .stop) h (pd .read) .0 in
+        (sym (ap (λ v. sets lists end (definersOf qs (readsAll v))) e) ∙ pd .is, omega (arith, ap (λ v. length (definersOf qs (readsAll v))) e, pd .counts))
 
     module _ {x : Scan} (u : 0 < left) (c : (e : Expr) (n : ℕ) → exprR s l enums (l .nesting) at ≡ got e n → x ≡ scanOf at e) where
-      abbrev first : (e : Expr) × (rest : Exprs) × (p : ℕ) × (exprR s l enums (l .nesting) at ≡ got e p) × (manyExprs (left - 1) (exprR s l enums (l .nesting)) p ≡ got rest (pd .end)) × (cons e rest ≡ pd .exprs)
-      first = many-first (exprR s l enums (l .nesting)) left at (pd .exprs) (pd .end) u (pd .read)
+      abbrev first : (e : Expr) × (rest : Exprs) × (p : ℕ) × (exprR s l enums (l .nesting) at ≡ got e p) × (manyExprs (left - 1) (exprR s l enums (l .nesting)) p ≡ got rest (pd .stop)) × (cons e rest ≡ pd .exprs)
+      first = many-first (exprR s l enums (l .nesting)) left at (pd .exprs) (pd .stop) u (pd .read)
 
       pub in-file : at < length s
       in-file = let w = first in expr-at s l enums (l .nesting) at (w .0) (w .2) (w .3) .inside
 
-      want-first : want ≡ (allOf P (reads (first .0)) && allOf P (readsAll (first .1)))
-      want-first = pd .is ∙ (ap (λ v. allOf P (readsAll v)) (sym (first .5)) ∙ all-append P (reads (first .0)) (readsAll (first .1)))
+      reads-first : readsAll (pd .exprs) ≡ reads (first .0) ++ readsAll (first .1)
+      reads-first = ap readsAll (sym (first .5))
 
       scanned : x ≡ scanOf at (first .0)
       scanned = c (first .0) (first .2) (first .3)
@@ -135,25 +146,47 @@ module _ (s : List ℕ) (l : Limits) (enums : ℕ) (P : ℕ → Bool) where
                 let z : _≡_ {A = ℕ} 0 1 = cc in
                 absurd (omega arith)
 
-        name-want : want ≡ (P y && allOf P (readsAll (first .1)))
-        name-want = want-first ∙ (ap (λ v. allOf P v && allOf P (readsAll (first .1))) (found .1) ∙ ap (λ b. b && allOf P (readsAll (first .1))) (and-true (P y)))
+        definers-here : {o : Option ℕ} → definer qs y ≡ o → definersOf qs (readsAll (pd .exprs)) ≡ withDefiner o (definersOf qs (readsAll (first .1)))
+        definers-here {o} e =
+            ap (definersOf qs) (reads-first ∙ ap (λ v. v ++ readsAll (first .1)) (found .1))
+            ∙ ap (λ v. withDefiner v (definersOf qs (readsAll (first .1)))) e
 
         pub name-after : at < q
         name-after = let t = takes-expr s l enums (l .nesting) .is at (first .0) (first .2) (first .3) in omega (arith, found .0, t .ends, t .holds, some-size (first .0))
 
-        pub name-settled : P y ≡ true → Pending s l enums want P (left - 1) q
-        name-settled h =
-            let t = takes-expr s l enums (l .nesting) .is at (first .0) (first .2) (first .3) in
+        rest-read : manyExprs (left - 1) (exprR s l enums (l .nesting)) q ≡ got (first .1) (pd .stop)
+        rest-read = subst (λ v. manyExprs (left - 1) (exprR s l enums (l .nesting)) v ≡ got (first .1) (pd .stop)) (sym (found .0)) (first .4)
+
+        rest-inside : q ≤ length s
+        rest-inside = let t = takes-expr s l enums (l .nesting) .is at (first .0) (first .2) (first .3) in omega (arith, found .0, t .inside (pd .inside))
+
+        -- it has no definer
+        pub name-none : definer qs y ≡ none → Pending s l enums qs want m lists end (left - 1) q
+        name-none e =
             record {
               exprs = first .1;
-              end = pd .end;
-              read = subst (λ v. manyExprs (left - 1) (exprR s l enums (l .nesting)) v ≡ got (first .1) (pd .end)) (sym (found .0)) (first .4);
-              is = name-want ∙ ap (λ b. b && allOf P (readsAll (first .1))) h;
-              inside = omega (arith, found .0, t .inside (pd .inside));
+              stop = pd .stop;
+              read = rest-read;
+              is = sym (ap (sets lists end) (definers-here e)) ∙ pd .is;
+              counts = sym (ap (λ v. end + length v) (definers-here e)) ∙ pd .counts;
+              inside = rest-inside;
             }
 
-        pub name-waits : P y ≡ false → want ≡ false
-        name-waits h = name-want ∙ ap (λ b. b && allOf P (readsAll (first .1))) h
+        module _ {d : ℕ} (e : definer qs y ≡ some d) where
+          -- there is room for its definer
+          pub name-room : end < m
+          name-room = omega (arith, ap length (definers-here e), pd .counts)
+
+          pub name-some : Pending s l enums qs want m (set lists end d) (end + 1) (left - 1) q
+          name-some =
+              record {
+                exprs = first .1;
+                stop = pd .stop;
+                read = rest-read;
+                is = rw (add-one end) (sym (ap (sets lists end) (definers-here e)) ∙ pd .is);
+                counts = omega (arith, ap length (definers-here e), pd .counts);
+                inside = rest-inside;
+              }
 
       -- parts: they are scanned before the rest
       module _ {k q : ℕ} (g : x ≡ Scn.Parts k q) where
@@ -173,32 +206,59 @@ module _ (s : List ℕ) (l : Limits) (enums : ℕ) (P : ℕ → Bool) where
                 let b : w .1 ≡ q = cc in
                 (w .2, subst (λ v. manyExprs v (exprR s l enums (l .nesting)) q ≡ got (w .2) (first .2)) a (subst (λ v. manyExprs (w .0) (exprR s l enums (l .nesting)) v ≡ got (w .2) (first .2)) b (w .4)), w .5, omega (arith, w .6))
 
-        all-joined : manyExprs (left - 1 + k) (exprR s l enums (l .nesting)) q ≡ got (joined (split .0) (first .1)) (pd .end)
+        all-joined : manyExprs (left - 1 + k) (exprR s l enums (l .nesting)) q ≡ got (joined (split .0) (first .1)) (pd .stop)
         all-joined =
             let z : k + (left - 1) ≡ left - 1 + k = omega arith in
-            subst (λ v. manyExprs v (exprR s l enums (l .nesting)) q ≡ got (joined (split .0) (first .1)) (pd .end)) z
-            (many-join (exprR s l enums (l .nesting)) k q (split .0) (first .1) (first .2) (left - 1) (pd .end) (split .1) (first .4))
+            subst (λ v. manyExprs v (exprR s l enums (l .nesting)) q ≡ got (joined (split .0) (first .1)) (pd .stop)) z
+            (many-join (exprR s l enums (l .nesting)) k q (split .0) (first .1) (first .2) (left - 1) (pd .stop) (split .1) (first .4))
 
         pub parts-after : at < q
         parts-after = split .3
 
-        ended : pd .end ≤ length s
-        ended = takes-exprs s (exprR s l enums (l .nesting)) (takes-expr s l enums (l .nesting)) left .is at (pd .exprs) (pd .end) (pd .read) .inside (pd .inside)
+        ended : pd .stop ≤ length s
+        ended = takes-exprs s (exprR s l enums (l .nesting)) (takes-expr s l enums (l .nesting)) left .is at (pd .exprs) (pd .stop) (pd .read) .inside (pd .inside)
 
         -- no more than the file has bytes
         pub parts-few : left - 1 + k + q ≤ length s
         parts-few =
-            let t = takes-exprs s (exprR s l enums (l .nesting)) (takes-expr s l enums (l .nesting)) (left - 1 + k) .is q (joined (split .0) (first .1)) (pd .end) all-joined in
+            let t = takes-exprs s (exprR s l enums (l .nesting)) (takes-expr s l enums (l .nesting)) (left - 1 + k) .is q (joined (split .0) (first .1)) (pd .stop) all-joined in
             omega (arith, t .ends, t .holds .0, t .holds .1, count-size (joined (split .0) (first .1)), ended)
 
-        pub parts-pending : Pending s l enums want P (left - 1 + k) q
+        reads-joined : readsAll (pd .exprs) ≡ readsAll (joined (split .0) (first .1))
+        reads-joined = reads-first ∙ (ap (λ v. v ++ readsAll (first .1)) (split .2) ∙ sym (reads-join (split .0) (first .1)))
+
+        pub parts-pending : Pending s l enums qs want m lists end (left - 1 + k) q
         parts-pending =
             record {
               exprs = joined (split .0) (first .1);
-              end = pd .end;
+              stop = pd .stop;
               read = all-joined;
-              is =
-                  want-first ∙ (ap (λ v. allOf P v && allOf P (readsAll (first .1))) (split .2) ∙ (sym (all-append P (readsAll (split .0)) (readsAll (first .1)))
-                  ∙ ap (allOf P) (sym (reads-join (split .0) (first .1)))));
+              is = sym (ap (λ v. sets lists end (definersOf qs v)) reads-joined) ∙ pd .is;
+              counts = sym (ap (λ v. end + length (definersOf qs v)) reads-joined) ∙ pd .counts;
               inside = omega (arith, parts-few);
             }
+
+-- ---- an equation's right side
+
+module _ (s : List ℕ) (l : Limits) (enums : ℕ) (starts : List ℕ) (rd : Readable s l enums starts) (k : ℕ) (h : k < length starts) where
+  abbrev q : Equation
+  q = equationAt s l enums (getD starts k 0)
+
+  names-counted : CountIs s 1 (l .names) (getD starts k 0) (length (q .names)) (getD starts k 0 + 1)
+  unfolding countedOf
+  names-counted =
+      let f = rd .each k h in
+      let c = section-at s 1 (l .names) (nameR s) (getD starts k 0) (q .names) _ (equation-at s l enums (getD starts k 0) q (f .0) (f .1) .names) in
+      counted-is s 1 (l .names) (getD starts k 0) (length (q .names)) (getD starts k 0 + 1) (sym (ap countedOf (c .counted)))
+
+  pub start-inside : getD starts k 0 < length s
+  start-inside = names-counted .inside
+
+  -- it is to be scanned
+  pub right-start : {r : ℕ} → Byte s (getD starts k 0) r → (qs : List Equation) (lists : List ℕ) (n : ℕ) → Pending s l enums qs (sets lists n (waited qs q)) (n + length (waited qs q)) lists n 1 (getD starts k 0 + 1 + 2 * r)
+  unfolding waited
+  right-start {r} b qs lists n =
+      let right-place : rhsPlace (getD starts k 0) q ≡ getD starts k 0 + 1 + 2 * r = omega (arith, names-counted .value, b .is) in
+      let f = rd .each k h in
+      subst (λ v. Pending s l enums qs (sets lists n (definersOf qs (reads (q .rhs)))) (n + length (definersOf qs (reads (q .rhs)))) lists n 1 v) right-place
+      (pending-start s l enums qs (q .rhs) (rhsPlace (getD starts k 0) q) (f .0) n lists (equation-at s l enums (getD starts k 0) q (f .0) (f .1) .right))

@@ -1,16 +1,17 @@
 -- What the functions of the ordering ask and give.
-use Prim.Native.Nat.{ℕ, _+_, _≤_, _<_}
+use Prim.Native.Nat.{ℕ, suc, _+_, _-_, _≤_, _<_}
+use mathlib.Core.Bool.{Bool, true}
 use mathlib.Core.List.{List}
 use mathlib.Core.Option.{none, some}
 use mathlib.Core.Path.{_≡_}
-use lib.ListN.{length, getD, take}
+use lib.ListN.{length, getD, take, drop}
 use lib.Seq.{sets}
 use Rattle.ol_spec.specs.Lists.{member}
 use Rattle.ol_spec.specs.Syntax.{Equation}
 use Rattle.ol_spec.specs.Read.{got, equationR, nodeR}
 use Rattle.ol_spec.specs.Order.{definer, order, unplaced}
 use Rattle.ol_spec.specs.declared.Limits.{Limits}
-use Rattle.ol_order.specs.Tables.{equationAt, nodeAt, definerCode, flagOf, zeros}
+use Rattle.ol_order.specs.Tables.{noEquation, equationAt, nodeAt, definerCode, waited, flagOf, zeros}
 
 -- an equation is read at each of these places
 pub record Readable (s : List ℕ) (l : Limits) (enums : ℕ) (starts : List ℕ) : Type 0 where
@@ -23,14 +24,21 @@ pub record NodeReads (s : List ℕ) (l : Limits) (enums at : ℕ) : Type 0 where
   pub is : nodeR s l enums at ≡ got (nodeAt s l enums at) end
   pub few : l .equations ≤ 80
 
--- no name has a definer in the table yet, and every name that an equation defines has an entry
-pub record Blank (qs : List Equation) (table : List ℕ) : Type 0 where
+-- no name has a definer in the table yet, and with `low` every name that an equation defines has an entry
+pub record Blank (qs : List Equation) (low : Bool) (table : List ℕ) : Type 0 where
   pub is : (x : ℕ) → getD table x 255 ≡ 255
-  pub all : (x : ℕ) → length table ≤ x → x < 65536 → definer qs x ≡ none
+  pub all : low ≡ true → (x : ℕ) → length table ≤ x → x < 65536 → definer qs x ≡ none
 
--- the table has each name's last definer
-pub record Definers (qs : List Equation) (table : List ℕ) : Type 0 where
-  pub is : (x : ℕ) → x < 65536 → getD table x 255 ≡ definerCode (definer qs x)
+-- the table has the last definer of each name that has an entry, and with `low` no other name has a definer
+pub record Definers (qs : List Equation) (low : Bool) (table : List ℕ) : Type 0 where
+  pub is : (x : ℕ) → x < length table → getD table x 255 ≡ definerCode (definer qs x)
+  pub all : low ≡ true → (x : ℕ) → length table ≤ x → x < 65536 → definer qs x ≡ none
+
+-- the list of equation k, from its beginning up to the next one's, has the definers that it waits for
+pub record Waits (qs : List Equation) (lists begins : List ℕ) : Type 0 where
+  pub long : length begins ≡ suc (length qs)
+  pub inside : (k : ℕ) → k < length qs → getD begins (suc k) 0 ≤ length lists
+  pub is : (k : ℕ) → k < length qs → take (getD begins (suc k) 0 - getD begins k 0) (drop (getD begins k 0) lists) ≡ waited qs (getD qs k noEquation)
 
 -- The first n entries of `order` are the list of those placed, and each equation has its flag.
 pub record State (qs : List Equation) (list placed order : List ℕ) (n : ℕ) : Type 0 where
@@ -39,6 +47,12 @@ pub record State (qs : List Equation) (list placed order : List ℕ) (n : ℕ) :
   pub flagged : length placed ≡ length qs
   pub room : length order ≡ length qs
   pub left : n + zeros placed ≡ length qs
+
+-- the lists of some equations, of which the first `done` entries of `order` are placed
+pub record Waiting (lists begins placed order : List ℕ) (done : ℕ) : Type 0 where
+  pub equations : List Equation
+  pub waits : Waits equations lists begins
+  pub state : State equations (take done order) placed order done
 
 -- r is the first equation that is never placed, or their number; then `ord` is their order. In both cases those placed stand in front, in their order, and the rest is as it was before
 pub record Sorts (qs : List Equation) (before ord : List ℕ) (r : ℕ) : Type 0 where

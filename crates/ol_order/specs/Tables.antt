@@ -1,13 +1,14 @@
 -- The tables of the ordering: the equations at their places, which equation defines a name, which equations are placed.
-use Prim.Native.Nat.{ℕ, zero, suc}
-use mathlib.Core.Bool.{Bool, true, false, cond}
-use mathlib.Core.List.{List, [], _∷_, map}
+use Prim.Native.Nat.{ℕ, zero, suc, _+_}
+use mathlib.Core.Bool.{Bool, true, false}
+use mathlib.Core.List.{List, [], _∷_, _++_, map}
 use mathlib.Core.Option.{Option, none, some}
 use lib.ListN.{length, getD, set}
-use lib.Dec.{ltb, eqb}
+use lib.Dec.{eqb}
+use Rattle.ol_spec.specs.Lists.{member}
 use Rattle.ol_spec.specs.Syntax.{boolLit, Equation, Node, noNode}
 use Rattle.ol_spec.specs.Read.{Read, got, fault, countR, nameR, equationR, nodeR}
-use Rattle.ol_spec.specs.Order.{order, unplaced}
+use Rattle.ol_spec.specs.Order.{reads, definer, order, unplaced}
 use Rattle.ol_spec.specs.Cycle.{OrderingCall, noOrder}
 use Rattle.ol_tables.specs.Heads.{nameAt}
 use Rattle.ol_ir.specs.Walks.{onPlaces}
@@ -66,9 +67,38 @@ abbrev pub definerCode : Option ℕ → ℕ
 definerCode none = 255
 definerCode (some j) = j
 
--- whether the name's definer has a flag, and it is 0
-unfoldable pub waitsFor : List ℕ → List ℕ → ℕ → Bool
-waitsFor definers placed x = cond (ltb (getD definers x 255) (length placed)) (eqb (getD placed (getD definers x 255) 0) 0) false
+abbrev pub onDefined : Read ℕ → (ℕ → ℕ → Bool) → Bool
+onDefined (got n p) k = k n p
+onDefined (fault n p) k = false
+
+-- whether the equation at the place defines the name; none does where no count of names stands
+unfoldable pub definedAt : List ℕ → ℕ → ℕ → ℕ → Bool
+definedAt s most at x = onDefined (countR s 1 most at) (λ n p. member x (namesAt n s p))
+
+-- ---- the definers that equations wait for
+
+abbrev pub withDefiner : Option ℕ → List ℕ → List ℕ
+withDefiner none l = l
+withDefiner (some j) l = j ∷ l
+
+-- the definers of these names, in turn; a name without one is left out
+abbrev pub definersOf : List Equation → List ℕ → List ℕ
+definersOf qs [] = []
+definersOf qs (x ∷ xs) = withDefiner (definer qs x) (definersOf qs xs)
+
+-- those that the equation waits for
+unfoldable pub waited : List Equation → Equation → List ℕ
+waited qs q = definersOf qs (reads (q .rhs))
+
+-- those of these equations, one list behind the other
+unfoldable pub waitedAll : List Equation → List Equation → List ℕ
+waitedAll qs [] = []
+waitedAll qs (r ∷ rs) = waited qs r ++ waitedAll qs rs
+
+-- where each of these lists begins, the first at n, and where the last ends
+unfoldable pub bounds : List Equation → ℕ → List Equation → List ℕ
+bounds qs n [] = n ∷ []
+bounds qs n (r ∷ rs) = n ∷ bounds qs (n + length (waited qs r)) rs
 
 -- ---- the flags of the placed equations
 

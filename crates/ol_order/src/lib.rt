@@ -8,7 +8,6 @@ use ol_ir::Next;
 use ol_ir::Scan;
 use ol_ir::expr::scan;
 use ol_ir::node::equation_starts;
-use ol_ir::node::names;
 use ol_ir::project::base;
 use ol_ir::project::load_file;
 use ol_ir::read::bytes;
@@ -17,24 +16,29 @@ use ol_ir::read::name;
 use ol_spec::Fault;
 use ol_spec::Limits;
 use ol_spec::Sorted;
-ghost use mathlib.Core.List.{[]};
+use ol_tables::bytes::byte;
+ghost use mathlib.Core.Bool.{true};
+ghost use mathlib.Core.List.{List, []};
 ghost use mathlib.Core.Option.{some};
 ghost use mathlib.Core.Path.{_≡_};
-ghost use Prim.Native.Nat.{ℕ, _≤_, _<_};
+ghost use Prim.Native.Nat.{ℕ, suc, _+_, _≤_, _<_};
 ghost use lib.ListN.{length, getD, set, take, drop};
+ghost use lib.Seq.{sets};
+ghost use Rattle.ol_spec.specs.Lists.{member};
+ghost use Rattle.ol_spec.specs.Syntax.{Equation};
 ghost use Rattle.ol_spec.specs.Limits.{relayLoader};
-ghost use Rattle.ol_spec.specs.Order.{pass, order as inOrder};
+ghost use Rattle.ol_spec.specs.Order.{definer, pass, order as inOrder};
 ghost use Rattle.ol_spec.specs.Answers.{sortedFault};
 ghost use Rattle.ol_spec.specs.Cycle.{orderNode, ordering};
-ghost use Rattle.ol_order.specs.Tables.{equationsAt, nodeAt, put, putAll, namesAt, putStarts, waitsFor, firstZero, orderOf};
-ghost use Rattle.ol_order.specs.Post.{Readable, NodeReads, Blank, Definers, State, Sorts};
+ghost use Rattle.ol_order.specs.Tables.{equationAt, equationsAt, nodeAt, put, putAll, namesAt, putStarts, definedAt, definerCode, waited, waitedAll, bounds, firstZero, orderOf};
+ghost use Rattle.ol_order.specs.Post.{Readable, NodeReads, Blank, Definers, Waits, Waiting, State, Sorts};
 
-// No name has a definer: 255 stands for none.
-fn no_definers() -> [u8; 65536]
-    ensures long { λ r. ⌜ 65536 ≡ length r ⌝ }
+// No name below 1,024 has a definer: 255 stands for none.
+pub(crate) fn no_definers() -> [u8; 1024]
+    ensures long { λ r. ⌜ 1024 ≡ length r ⌝ }
     ensures none { λ r. ⌜ ((x : ℕ) → getD r x 255 ≡ 255) ⌝ }
 {
-    [255; 65536]
+    [255; 1024]
 }
 
 // A name gets the equation's index, where the table has an entry for it.
@@ -87,102 +91,196 @@ fn define_all(file: &[u8], most: usize, starts: &[usize], definers: &mut [u8])
     }
 }
 
-// A name's definer: 255 for none, also where the table has no entry for the name.
-fn definer(definers: &[u8], x: usize) -> usize
-    ensures { λ r. ⌜ r ≡ getD (now (definers .entry)) x 255 ⌝ }
+// Whether the name is one of so many, up to one that the file's end cuts off.
+fn among(file: &[u8], count: usize, at: usize, x: usize) -> bool
+    ensures { λ r. ⌜ r ≡ member x (namesAt count (now (file .entry)) at) ⌝ }
 {
-    if x < definers.len() {
-        definers[x] as usize
-    } else {
-        255
+    let mut next = at;
+    let mut left = count;
+    while 0 < left {
+        left -= 1;
+        if x == name(file, next) {
+            return true;
+        }
+        match bytes(file, 2, next) {
+            Next::At(p) => {
+                next = p;
+            }
+            Next::Refused(_) => {
+                return false;
+            }
+        }
+    }
+    false
+}
+
+// Whether the equation that starts at `at` defines the name.
+fn defines(file: &[u8], most: usize, at: usize, x: usize) -> bool
+    ensures { λ r. ⌜ r ≡ definedAt (now (file .entry)) most at x ⌝ }
+{
+    match count(file, 1, most, at) {
+        Counted::Items(n, p) => among(file, n, p, x),
+        Counted::Refused(_) => false,
     }
 }
 
-// Whether a name's definer is an equation that is not placed yet.
-fn waits(definers: &[u8], placed: &[u8], x: usize) -> bool
-    ensures { λ r. ⌜ r ≡ waitsFor (now (definers .entry)) (now (placed .entry)) x ⌝ }
+// The last equation that defines the name: 255 for none.
+fn search(file: &[u8], limits: Limits, enums: usize, starts: &[usize], x: usize) -> usize
+    requires { ⌜ Readable (now file) limits enums (now starts) ⌝ }
+    ensures { λ r. ⌜ r ≡ definerCode (definer (equationsAt (now (file .entry)) limits enums (now (starts .entry))) x) ⌝ }
 {
-    let d = definer(definers, x);
-    if d < placed.len() {
-        placed[d] == 0
-    } else {
-        false
+    let mut left = starts.len();
+    while 0 < left {
+        left -= 1;
+        if defines(file, limits.names, starts[left], x) {
+            return left;
+        }
     }
+    255
+}
+
+// A name's definer: 255 for none. With `low` no equation defines a name that has no entry in the table.
+fn find(
+    file: &[u8],
+    limits: Limits,
+    enums: usize,
+    starts: &[usize],
+    low: bool,
+    definers: &[u8],
+    x: usize,
+) -> usize
+    requires { ⌜ Readable (now file) limits enums (now starts) ⌝ }
+    requires { ⌜ Definers (equationsAt (now file) limits enums (now starts)) low (now definers) ⌝ }
+    requires { ⌜ x < 65536 ⌝ }
+    ensures { λ r. ⌜ r ≡ definerCode (definer (equationsAt (now (file .entry)) limits enums (now (starts .entry))) x) ⌝ }
+{
+    if x < definers.len() {
+        definers[x] as usize
+    } else if low {
+        255
+    } else {
+        search(file, limits, enums, starts, x)
+    }
+}
+
+// Writes the definers that equation k waits for into the lists, from n on: where they end.
+fn record_one(
+    file: &[u8],
+    limits: Limits,
+    enums: usize,
+    starts: &[usize],
+    low: bool,
+    definers: &[u8],
+    k: usize,
+    lists: &mut [u8],
+    n: usize,
+) -> usize
+    requires { ⌜ Readable (now file) limits enums (now starts) ⌝ }
+    requires { ⌜ Definers (equationsAt (now file) limits enums (now starts)) low (now definers) ⌝ }
+    requires { ⌜ k < length (now starts) ⌝ }
+    requires { ⌜ n + length (waited (equationsAt (now file) limits enums (now starts)) (equationAt (now file) limits enums (getD (now starts) k 0))) ≤ length (now lists) ⌝ }
+    ensures end { λ r. ⌜ r ≡ n + length (waited (equationsAt (now (file .entry)) limits enums (now (starts .entry))) (equationAt (now (file .entry)) limits enums (getD (now (starts .entry)) k 0))) ⌝ }
+    ensures written { λ _. ⌜ now (lists .exit) ≡ sets (now (lists .entry)) n (waited (equationsAt (now (file .entry)) limits enums (now (starts .entry))) (equationAt (now (file .entry)) limits enums (getD (now (starts .entry)) k 0))) ⌝ }
+{
+    let start = starts[k];
+    let mut at = start + 1 + 2 * byte(file, start);
+    let mut left: usize = 1;
+    let mut end = n;
+    while 0 < left {
+        left -= 1;
+        match scan(file, at) {
+            Scan::Name(x, q) => {
+                let d = find(file, limits, enums, starts, low, definers, x);
+                if d < 255 {
+                    lists[end] = d as u8;
+                    end += 1;
+                }
+                at = q;
+            }
+            Scan::Parts(m, q) => {
+                left += m;
+                at = q;
+            }
+        }
+    }
+    end
+}
+
+// Records for each equation the definers that it waits for: those of equation k stand in the lists
+// from begins[k] up to begins[k + 1].
+fn record_all(
+    file: &[u8],
+    limits: Limits,
+    enums: usize,
+    starts: &[usize],
+    low: bool,
+    definers: &[u8],
+    lists: &mut [u8],
+    begins: &mut [usize],
+)
+    requires { ⌜ Readable (now file) limits enums (now starts) ⌝ }
+    requires { ⌜ Definers (equationsAt (now file) limits enums (now starts)) low (now definers) ⌝ }
+    requires { ⌜ length (waitedAll (equationsAt (now file) limits enums (now starts)) (equationsAt (now file) limits enums (now starts))) ≤ length (now lists) ⌝ }
+    requires { ⌜ length (now begins) ≡ suc (length (now starts)) ⌝ }
+    ensures lists { λ _. ⌜ now (lists .exit) ≡ sets (now (lists .entry)) 0 (waitedAll (equationsAt (now (file .entry)) limits enums (now (starts .entry))) (equationsAt (now (file .entry)) limits enums (now (starts .entry)))) ⌝ }
+    ensures begins { λ _. ⌜ now (begins .exit) ≡ sets (now (begins .entry)) 0 (bounds (equationsAt (now (file .entry)) limits enums (now (starts .entry))) 0 (equationsAt (now (file .entry)) limits enums (now (starts .entry)))) ⌝ }
+{
+    let mut n: usize = 0;
+    let mut k = 0;
+    while k < starts.len() {
+        begins[k] = n;
+        n = record_one(file, limits, enums, starts, low, definers, k, lists, n);
+        k += 1;
+    }
+    begins[k] = n;
 }
 
 // One pass over the equations in file order: each that waits for none is placed. Behind those placed,
 // the entries of `order` stay.
 fn pass(
-    file: &[u8],
-    limits: Limits,
-    enums: usize,
-    starts: &[usize],
-    definers: &[u8],
+    lists: &[u8],
+    begins: &[usize],
     placed: &mut [u8],
     order: &mut [usize],
     done: usize,
 ) -> usize
-    requires { ⌜ Readable (now file) limits enums (now starts) ⌝ }
-    requires { ⌜ Definers (equationsAt (now file) limits enums (now starts)) (now definers) ⌝ }
-    requires { ⌜ State (equationsAt (now file) limits enums (now starts)) (take done (now order)) (now placed) (now order) done ⌝ }
-    ensures placed { λ r. ⌜ State (equationsAt (now (file .entry)) limits enums (now (starts .entry))) (pass (equationsAt (now (file .entry)) limits enums (now (starts .entry))) 0 (equationsAt (now (file .entry)) limits enums (now (starts .entry))) (take done (now (order .entry)))) (now (placed .exit)) (now (order .exit)) r ⌝ }
+    requires { ⌜ Waiting (now lists) (now begins) (now placed) (now order) done ⌝ }
+    ensures placed { λ r. ⌜ ((qs : List Equation) → Waits qs (now (lists .entry)) (now (begins .entry)) → State qs (take done (now (order .entry))) (now (placed .entry)) (now (order .entry)) done → State qs (pass qs 0 qs (take done (now (order .entry)))) (now (placed .exit)) (now (order .exit)) r) ⌝ }
     ensures behind { λ r. ⌜ drop r (now (order .exit)) ≡ drop r (now (order .entry)) ⌝ }
 {
     let mut n = done;
     let mut i = 0;
-    'equations: while i < starts.len() {
+    'equations: while i < placed.len() {
         let k = i;
         i += 1;
         if placed[k] == 0 {
-            if let Next::At(p) = names(file, limits.names, starts[k]) {
-                let mut at = p;
-                let mut left: usize = 1;
-                while 0 < left {
-                    left -= 1;
-                    match scan(file, at) {
-                        Scan::Name(x, q) => {
-                            if waits(definers, placed, x) {
-                                continue 'equations;
-                            }
-                            at = q;
-                        }
-                        Scan::Parts(m, q) => {
-                            left += m;
-                            at = q;
-                        }
-                    }
+            let mut j = begins[k];
+            let end = begins[i];
+            while j < end {
+                let d = lists[j] as usize;
+                if placed[d] == 0 {
+                    continue 'equations;
                 }
-                placed[k] = 1;
-                order[n] = k;
-                n += 1;
+                j += 1;
             }
+            placed[k] = 1;
+            order[n] = k;
+            n += 1;
         }
     }
     n
 }
 
-// Passes, as many as there are equations, or until one places none: how many are placed. Behind
-// those, the entries of `order` stay.
-fn passes(
-    file: &[u8],
-    limits: Limits,
-    enums: usize,
-    starts: &[usize],
-    definers: &[u8],
-    placed: &mut [u8],
-    order: &mut [usize],
-) -> usize
-    requires { ⌜ Readable (now file) limits enums (now starts) ⌝ }
-    requires { ⌜ Definers (equationsAt (now file) limits enums (now starts)) (now definers) ⌝ }
-    requires { ⌜ State (equationsAt (now file) limits enums (now starts)) [] (now placed) (now order) 0 ⌝ }
-    ensures placed { λ r. ⌜ State (equationsAt (now (file .entry)) limits enums (now (starts .entry))) (inOrder (equationsAt (now (file .entry)) limits enums (now (starts .entry)))) (now (placed .exit)) (now (order .exit)) r ⌝ }
+// Passes until all are placed or one places none: how many are placed. Behind those, the entries of
+// `order` stay.
+fn passes(lists: &[u8], begins: &[usize], placed: &mut [u8], order: &mut [usize]) -> usize
+    requires { ⌜ Waiting (now lists) (now begins) (now placed) (now order) 0 ⌝ }
+    ensures placed { λ r. ⌜ ((qs : List Equation) → Waits qs (now (lists .entry)) (now (begins .entry)) → State qs [] (now (placed .entry)) (now (order .entry)) 0 → State qs (inOrder qs) (now (placed .exit)) (now (order .exit)) r) ⌝ }
     ensures behind { λ r. ⌜ drop r (now (order .exit)) ≡ drop r (now (order .entry)) ⌝ }
 {
     let mut done = 0;
-    let mut left = starts.len();
-    while 0 < left {
-        left -= 1;
-        let n = pass(file, limits, enums, starts, definers, placed, order, done);
+    while done < placed.len() {
+        let n = pass(lists, begins, placed, order, done);
         if n == done {
             return done;
         }
@@ -218,26 +316,33 @@ fn copy(order: &[usize], buffer: &mut [usize])
 }
 
 // Places the equations that start at these places, with a table in which no name has a definer
-// yet: the first that is not placed, or their number. The buffer gets the order of those placed, the
-// table the definers.
+// yet, and room for all definers that they wait for: the first that is not placed, or their number. The
+// buffer gets the order of those placed, the table and the lists the definers.
 pub(crate) fn sort(
     file: &[u8],
     limits: Limits,
     enums: usize,
     starts: &[usize],
+    low: bool,
     definers: &mut [u8],
+    lists: &mut [u8],
     order: &mut [usize],
 ) -> usize
     requires { ⌜ Readable (now file) limits enums (now starts) ⌝ }
-    requires { ⌜ Blank (equationsAt (now file) limits enums (now starts)) (now definers) ⌝ }
+    requires { ⌜ Blank (equationsAt (now file) limits enums (now starts)) low (now definers) ⌝ }
+    requires { ⌜ length (waitedAll (equationsAt (now file) limits enums (now starts)) (equationsAt (now file) limits enums (now starts))) ≤ length (now lists) ⌝ }
     requires { ⌜ length (now order) ≡ length (now starts) ⌝ }
     ensures order { λ r. ⌜ Sorts (equationsAt (now (file .entry)) limits enums (now (starts .entry))) (now (order .entry)) (now (order .exit)) r ⌝ }
     ensures table { λ _. ⌜ now (definers .exit) ≡ putAll 0 (equationsAt (now (file .entry)) limits enums (now (starts .entry))) (now (definers .entry)) ⌝ }
+    ensures lists { λ _. ⌜ now (lists .exit) ≡ sets (now (lists .entry)) 0 (waitedAll (equationsAt (now (file .entry)) limits enums (now (starts .entry))) (equationsAt (now (file .entry)) limits enums (now (starts .entry)))) ⌝ }
 {
     define_all(file, limits.names, starts, definers);
+    let mut spans = [0usize; 81];
+    let begins = &mut spans[..starts.len() + 1];
+    record_all(file, limits, enums, starts, low, definers, lists, begins);
     let mut flags = [0u8; 80];
     let placed = &mut flags[..starts.len()];
-    passes(file, limits, enums, starts, definers, placed, order);
+    passes(lists, begins, placed, order);
     first_unplaced(placed)
 }
 
@@ -250,14 +355,25 @@ fn order_equations(
     buffer: &mut [usize],
 ) -> Sorted
     requires { ⌜ Readable (now file) limits enums (now starts) ⌝ }
+    requires { ⌜ length (waitedAll (equationsAt (now file) limits enums (now starts)) (equationsAt (now file) limits enums (now starts))) ≤ 10923 ⌝ }
     ensures answer { λ r. ⌜ r ≡ orderOf (equationsAt (now (file .entry)) limits enums (now (starts .entry))) (now (starts .entry)) (now (buffer .entry)) .answer ⌝ }
     ensures written { λ _. ⌜ now (buffer .exit) ≡ orderOf (equationsAt (now (file .entry)) limits enums (now (starts .entry))) (now (starts .entry)) (now (buffer .entry)) .buffer ⌝ }
 {
     let mut definers = no_definers();
+    let mut lists = [0u8; 10923];
     let mut space = [0usize; 80];
     let n = starts.len();
     let order = &mut space[..n];
-    let first = sort(file, limits, enums, starts, &mut definers, order);
+    let first = sort(
+        file,
+        limits,
+        enums,
+        starts,
+        false,
+        &mut definers,
+        &mut lists,
+        order,
+    );
     if first < n {
         Sorted::Refused(Fault {
             number: 11,
@@ -277,6 +393,7 @@ fn order_equations(
 // The order of the equations of the node that starts at `at`.
 fn order_node(file: &[u8], limits: Limits, enums: usize, at: usize, buffer: &mut [usize]) -> Sorted
     requires { ⌜ NodeReads (now file) limits enums at ⌝ }
+    requires { ⌜ length (now file) ≤ 32768 ⌝ }
     ensures answer { λ r. ⌜ r ≡ orderNode (some (at, nodeAt (now (file .entry)) limits enums at)) (now (buffer .entry)) .answer ⌝ }
     ensures written { λ _. ⌜ now (buffer .exit) ≡ orderNode (some (at, nodeAt (now (file .entry)) limits enums at)) (now (buffer .entry)) .buffer ⌝ }
 {

@@ -9,28 +9,20 @@ use ol_spec::Limits;
 use ol_tables::tables::MOST_EQUATIONS;
 ghost use mathlib.Core.Bool.{true};
 ghost use mathlib.Core.Path.{_≡_};
-ghost use Prim.Native.Nat.{ℕ, _≤_, _<_};
-ghost use lib.ListN.{length, getD};
+ghost use Prim.Native.Nat.{ℕ, _*_, _≤_, _<_};
+ghost use lib.ListN.{length};
 ghost use lib.Seq.{sets};
 ghost use Rattle.ol_spec.specs.Syntax.{File};
 ghost use Rattle.ol_spec.specs.Limits.{relayLoader};
 ghost use Rattle.ol_spec.specs.Read.{got, readFile};
-ghost use Rattle.ol_order.specs.Tables.{equationsAt, nodeAt, putAll};
-ghost use Rattle.ol_order.specs.Post.{Readable, NodeReads, Blank};
+ghost use Rattle.ol_order.specs.Tables.{equationsAt, nodeAt, waitedAll};
+ghost use Rattle.ol_order.specs.Post.{Readable, NodeReads};
 ghost use Rattle.ol_order.specs.Orders.{Small, LowNames, EquationsDone, NodeDone, NodesStand, OrdersDone};
 
 // The place of the first equation that is never placed, if there is one.
 pub enum Ring {
     At(usize),
     Nothing,
-}
-
-// No name below 1,024 has a definer.
-fn low_definers() -> [u8; 1024]
-    ensures long { λ r. ⌜ 1024 ≡ length r ⌝ }
-    ensures none { λ r. ⌜ ((x : ℕ) → getD r x 255 ≡ 255) ⌝ }
-{
-    [255; 1024]
 }
 
 // Copies an order into bytes, from their front on.
@@ -46,26 +38,38 @@ fn copy_bytes(order: &[usize], out: &mut [u8])
     }
 }
 
-// The order of the equations that start at these places, with a table in which no name has a
-// definer yet.
+// The order of the equations that start at these places, with room for all definers that they wait
+// for.
 fn order_starts(
     file: &[u8],
     limits: Limits,
     enums: usize,
     starts: &[usize],
-    definers: &mut [u8],
+    low: bool,
+    lists: &mut [u8],
     out: &mut [u8],
 ) -> Ring
     requires { ⌜ Readable (now file) limits enums (now starts) ⌝ }
-    requires { ⌜ Blank (equationsAt (now file) limits enums (now starts)) (now definers) ⌝ }
+    requires { ⌜ (low ≡ true → LowNames (equationsAt (now file) limits enums (now starts))) ⌝ }
+    requires { ⌜ length (waitedAll (equationsAt (now file) limits enums (now starts)) (equationsAt (now file) limits enums (now starts))) ≤ length (now lists) ⌝ }
     requires { ⌜ length (now out) ≡ 80 ⌝ }
     ensures order { λ r. ⌜ EquationsDone (equationsAt (now (file .entry)) limits enums (now (starts .entry))) (now (starts .entry)) (now (out .entry)) (now (out .exit)) r ⌝ }
-    ensures table { λ _. ⌜ now (definers .exit) ≡ putAll 0 (equationsAt (now (file .entry)) limits enums (now (starts .entry))) (now (definers .entry)) ⌝ }
+    ensures lists { λ _. ⌜ now (lists .exit) ≡ sets (now (lists .entry)) 0 (waitedAll (equationsAt (now (file .entry)) limits enums (now (starts .entry))) (equationsAt (now (file .entry)) limits enums (now (starts .entry)))) ⌝ }
 {
+    let mut definers = no_definers();
     let mut space = [0usize; 80];
     let n = starts.len();
     let order = &mut space[..n];
-    let first = sort(file, limits, enums, starts, definers, order);
+    let first = sort(
+        file,
+        limits,
+        enums,
+        starts,
+        low,
+        &mut definers,
+        lists,
+        order,
+    );
     if first < n {
         Ring::At(starts[first])
     } else {
@@ -74,81 +78,90 @@ fn order_starts(
     }
 }
 
-// The order of the equations of the node that starts at `at`, with a table in which no name has a
-// definer yet.
-fn order_with(
-    file: &[u8],
-    limits: Limits,
-    enums: usize,
-    at: usize,
-    definers: &mut [u8],
-    out: &mut [u8],
-) -> Ring
-    requires { ⌜ NodeReads (now file) limits enums at ⌝ }
-    requires { ⌜ Blank (nodeAt (now file) limits enums at .equations) (now definers) ⌝ }
-    requires { ⌜ length (now out) ≡ 80 ⌝ }
-    ensures order { λ r. ⌜ NodeDone at (nodeAt (now (file .entry)) limits enums at) (now (out .entry)) (now (out .exit)) r ⌝ }
-    ensures table { λ _. ⌜ now (definers .exit) ≡ putAll 0 (nodeAt (now (file .entry)) limits enums at .equations) (now (definers .entry)) ⌝ }
-{
-    let mut space = [0usize; 80];
-    match equation_starts(file, limits, enums, at, &mut space) {
-        Counted::Items(n, _) => order_starts(file, limits, enums, &space[..n], definers, out),
-        Counted::Refused(_) => Ring::Nothing,
-    }
-}
-
-// The order of a node's equations that define names below 1,024 only.
-fn order_low(file: &[u8], limits: Limits, enums: usize, at: usize, out: &mut [u8]) -> Ring
-    requires { ⌜ NodeReads (now file) limits enums at ⌝ }
-    requires { ⌜ LowNames (nodeAt (now file) limits enums at .equations) ⌝ }
-    requires { ⌜ length (now out) ≡ 80 ⌝ }
-    ensures { λ r. ⌜ NodeDone at (nodeAt (now (file .entry)) limits enums at) (now (out .entry)) (now (out .exit)) r ⌝ }
-{
-    let mut definers = low_definers();
-    order_with(file, limits, enums, at, &mut definers, out)
-}
-
-// The order of a node's equations that define any names. A function that calls itself is not put into
-// its caller's frame: a caller that has low names does not touch the large table's stack. `turns` is 0
-// for every file that reads.
-fn order_high(
-    turns: usize,
-    file: &[u8],
-    limits: Limits,
-    enums: usize,
-    at: usize,
-    out: &mut [u8],
-) -> Ring
-    requires { ⌜ NodeReads (now file) limits enums at ⌝ }
-    requires { ⌜ length (now out) ≡ 80 ⌝ }
-    ensures { λ r. ⌜ NodeDone at (nodeAt (now (file .entry)) limits enums at) (now (out .entry)) (now (out .exit)) r ⌝ }
-{
-    if 0 < turns {
-        order_high(turns - 1, file, limits, enums, at, out)
-    } else {
-        let mut definers = no_definers();
-        order_with(file, limits, enums, at, &mut definers, out)
-    }
-}
-
-// The order of a node's equations.
+// The order of the equations of the node that starts at `at`, with room for all definers that they
+// wait for.
 fn order_row(
     file: &[u8],
     limits: Limits,
     enums: usize,
     at: usize,
     low: bool,
+    lists: &mut [u8],
     out: &mut [u8],
 ) -> Ring
     requires { ⌜ NodeReads (now file) limits enums at ⌝ }
     requires { ⌜ (low ≡ true → LowNames (nodeAt (now file) limits enums at .equations)) ⌝ }
+    requires { ⌜ length (now file) ≤ 3 * length (now lists) ⌝ }
     requires { ⌜ length (now out) ≡ 80 ⌝ }
-    ensures { λ r. ⌜ NodeDone at (nodeAt (now (file .entry)) limits enums at) (now (out .entry)) (now (out .exit)) r ⌝ }
+    ensures order { λ r. ⌜ NodeDone at (nodeAt (now (file .entry)) limits enums at) (now (out .entry)) (now (out .exit)) r ⌝ }
+    ensures lists { λ _. ⌜ now (lists .exit) ≡ sets (now (lists .entry)) 0 (waitedAll (nodeAt (now (file .entry)) limits enums at .equations) (nodeAt (now (file .entry)) limits enums at .equations)) ⌝ }
 {
-    if low {
-        order_low(file, limits, enums, at, out)
+    let mut space = [0usize; 80];
+    match equation_starts(file, limits, enums, at, &mut space) {
+        Counted::Items(n, _) => order_starts(file, limits, enums, &space[..n], low, lists, out),
+        Counted::Refused(_) => Ring::Nothing,
+    }
+}
+
+// The orders of all nodes of a file, with room for all definers that the equations of one wait for.
+fn orders_with(
+    file: &[u8],
+    enums: usize,
+    places: &[usize],
+    low: bool,
+    lists: &mut [u8],
+    orders: &mut [u8],
+) -> Ring
+    requires { ⌜ NodesStand (now file) enums (now places) low ⌝ }
+    requires { ⌜ length (now file) ≤ 3 * length (now lists) ⌝ }
+    requires { ⌜ length (now orders) ≡ 2560 ⌝ }
+    ensures { λ r. ⌜ ((f : File) (end : ℕ) → readFile (now (file .entry)) relayLoader ≡ got f end → OrdersDone f (now (orders .entry)) (now (orders .exit)) r) ⌝ }
+{
+    let limits = base();
+    let mut k = 0;
+    while k < places.len() {
+        let from = k * MOST_EQUATIONS;
+        let end = from + 80;
+        match order_row(
+            file,
+            limits,
+            enums,
+            places[k],
+            low,
+            lists,
+            &mut orders[from..end],
+        ) {
+            Ring::At(p) => {
+                return Ring::At(p);
+            }
+            Ring::Nothing => {
+                k += 1;
+            }
+        }
+    }
+    Ring::Nothing
+}
+
+// The orders of all nodes of any file. A function that calls itself is not put into its caller's
+// frame: a caller that has a short file does not touch the long lists' stack. `turns` is 0 for every
+// file that reads.
+fn orders_long(
+    turns: usize,
+    file: &[u8],
+    enums: usize,
+    places: &[usize],
+    low: bool,
+    orders: &mut [u8],
+) -> Ring
+    requires { ⌜ NodesStand (now file) enums (now places) low ⌝ }
+    requires { ⌜ length (now orders) ≡ 2560 ⌝ }
+    ensures { λ r. ⌜ ((f : File) (end : ℕ) → readFile (now (file .entry)) relayLoader ≡ got f end → OrdersDone f (now (orders .entry)) (now (orders .exit)) r) ⌝ }
+{
+    if 0 < turns {
+        orders_long(turns - 1, file, enums, places, low, orders)
     } else {
-        order_high(file.len() / 65536, file, limits, enums, at, out)
+        let mut lists = [0u8; 10923];
+        orders_with(file, enums, places, low, &mut lists, orders)
     }
 }
 
@@ -160,19 +173,10 @@ pub fn orders_of(file: &[u8], enums: usize, places: &[usize], low: bool, orders:
     requires { ⌜ length (now orders) ≡ 2560 ⌝ }
     ensures { λ r. ⌜ ((f : File) (end : ℕ) → readFile (now (file .entry)) relayLoader ≡ got f end → OrdersDone f (now (orders .entry)) (now (orders .exit)) r) ⌝ }
 {
-    let limits = base();
-    let mut k = 0;
-    while k < places.len() {
-        let from = k * MOST_EQUATIONS;
-        let end = from + 80;
-        match order_row(file, limits, enums, places[k], low, &mut orders[from..end]) {
-            Ring::At(p) => {
-                return Ring::At(p);
-            }
-            Ring::Nothing => {
-                k += 1;
-            }
-        }
+    if file.len() <= 1536 {
+        let mut lists = [0u8; 512];
+        orders_with(file, enums, places, low, &mut lists, orders)
+    } else {
+        orders_long(file.len() / 65536, file, enums, places, low, orders)
     }
-    Ring::Nothing
 }

@@ -2,7 +2,7 @@
 use mathlib.Core.Path.{refl}
 use native.Mathlib.Omega.{arith}
 use borrow.Author.Needs.{needs}
-use Rattle.ol_order.proofs.Nodes.{order-refused, order-absent, nodes-few, node-reads, order-present, as-told}
+use Rattle.ol_order.proofs.Nodes.{order-refused, order-absent, nodes-short, nodes-few, node-reads, order-present, as-told}
 use Rattle.ol_order.proofs.evaluation_order.Statement.{statement}
 use Rattle.ol_order.proofs.evaluation_order.Tie as tie
 
@@ -31,7 +31,7 @@ array-read-order-node c =
 order-node-requires : tie.Need-order-node-requires
 order-node-requires c κs =
     let start = c .before .before .before .before .before .before .before .before .before .before .before in
-    node-reads (start .args .file .now) (c .before .before .before .before .before .before .before .load-file .ensures .0) (start .args .node) (start .args .buffer .now) (c .before .before .before .before .enums .given .1) (c .before .before .before .before .before .before .before .load-file .ensures .1 .0) (c .before .before .if1 .taken) (c .before .base .result) (c .before .base .ensures)
+    (node-reads (start .args .file .now) (c .before .before .before .before .before .before .before .load-file .ensures .0) (start .args .node) (start .args .buffer .now) (c .before .before .before .before .enums .given .1) (c .before .before .before .before .before .before .before .load-file .ensures .1 .0) (c .before .before .if1 .taken) (c .before .base .result) (c .before .base .ensures), nodes-short (start .args .file .now) (c .before .before .before .before .before .before .before .load-file .ensures .0) (start .args .node) (start .args .buffer .now) (c .before .before .before .before .enums .given .1))
 
 enum-known-f : tie.Need-enum-known-f
 enum-known-f c = search needs

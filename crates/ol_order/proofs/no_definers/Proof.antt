@@ -7,7 +7,7 @@ use Rattle.ol_order.proofs.no_definers.Statement.{statement}
 use Rattle.ol_order.proofs.no_definers.Tie as tie
 
 returns : tie.Need-returns
-returns c = (sym (length-replicate {A = ℕ} 65536 255), no-entry 65536)
+returns c = (sym (length-replicate {A = ℕ} 1024 255), no-entry 1024)
 
 pub no-definers-spec : {M : Type 1} → statement M
 no-definers-spec = tie.close (tie.spec returns)
