@@ -16,7 +16,6 @@ use ol_spec::Fault;
 use ol_spec::Limits;
 use ol_spec::Sorted;
 use ol_tables::bytes::byte;
-ghost use mathlib.Core.Bool.{true};
 ghost use mathlib.Core.List.{List, [], map};
 ghost use mathlib.Core.Option.{some};
 ghost use mathlib.Core.Path.{_≡_};
