@@ -11,10 +11,9 @@ use borrow.Author.Tests.{eq-eqb, ne-eqb}
 use Rattle.ol_spec.specs.Syntax.{Equation}
 use Rattle.ol_spec.specs.Order.{order}
 use Rattle.ol_spec.specs.Cycle.{OrderingCall, noOrder}
-use Rattle.ol_order.specs.Tables.{putAll, zeros, firstZero, orderOf}
-use Rattle.ol_order.specs.Post.{Blank, Definers, State, Sorts}
+use Rattle.ol_order.specs.Tables.{zeros, firstZero, orderOf}
+use Rattle.ol_order.specs.Post.{Blank, State, Sorts}
 use Rattle.ol_order.specs.Orders.{LowNames}
-use Rattle.ol_order.proofs.Definers.{definers-is, length-putAll}
 use Rattle.ol_order.proofs.Passing.{length-list, unplaced-some, unplaced-none, all-placed}
 use Rattle.ol_spec.specs.declared.Sorted.the-variants as Sort
 
@@ -22,14 +21,7 @@ use Rattle.ol_spec.specs.declared.Sorted.the-variants as Sort
 
 -- a table in which no name has a definer
 pub blank-made : (qs : List Equation) (low : Bool) {t : List ℕ} → 1024 ≡ length t → ((x : ℕ) → getD t x 255 ≡ 255) → (low ≡ true → LowNames qs) → Blank qs low t
-blank-made qs low h f l = record { is = f; all = λ e x i j. l e x (omega arith) }
-
-pub definers-made : (qs : List Equation) (low : Bool) (t w : List ℕ) → Blank qs low t → w ≡ putAll 0 qs t → Definers qs low w
-definers-made qs low t w blank e =
-    record {
-      is = λ x h. ap (λ l. getD l x 255) e ∙ definers-is qs t x (omega (arith, ap length e, length-putAll 0 qs t)) (blank .is x);
-      all = λ g x h i. blank .all g x (omega (arith, ap length e, length-putAll 0 qs t)) i;
-    }
+blank-made qs low h f l = record { is = f; long = h; lows = l }
 
 abbrev noughts : ℕ → List ℕ
 noughts n = replicate n 0
@@ -68,6 +60,16 @@ unfolding firstZero
 first-inside [] = omega arith
 first-inside (zero ∷ p) = omega arith
 first-inside (suc x ∷ p) = omega (arith, first-inside p)
+
+no-zero : (l : List ℕ) → zeros l ≡ 0 → firstZero l ≡ length l
+unfolding zeros firstZero
+no-zero [] e = refl
+no-zero (zero ∷ l) e = absurd (omega arith)
+no-zero (suc x ∷ l) e = ap suc (no-zero l e)
+
+-- all are placed
+pub first-none : {qs : List Equation} {p o list : List ℕ} {n : ℕ} → State qs list p o n → length qs ≤ n → n ≡ firstZero p
+first-none {p = p} st h = omega (arith, no-zero p (omega (arith, st .left)), st .left, st .flagged)
 
 -- those placed in front, the rest as it was
 front-written : {qs : List Equation} {p o : List ℕ} {n : ℕ} (before : List ℕ) → length before ≡ length qs → State qs (order qs) p o n → drop n o ≡ drop n before → o ≡ sets before 0 (order qs)

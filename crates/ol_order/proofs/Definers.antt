@@ -1,24 +1,27 @@
 -- The table of definers: each name's entry is its last definer.
 use Prim.Native.Nat.{ℕ, zero, suc, _+_, _-_, _≤_, _<_}
 use mathlib.Core.Bool.{Bool, true, false, cond, _||_}
-use mathlib.Core.List.{List, [], _∷_, _++_}
+use mathlib.Core.List.{List, [], _∷_, _++_, map}
+use mathlib.Core.Logic.{⊎-elim, by-cases}
+use native.Mathlib.Decide.{decLe}
 use mathlib.Core.Option.{Option, none, some}
 use mathlib.Core.Path.{_≡_, refl, sym, ap, subst, _∙_}
 use native.Mathlib.Numerals.{add-one}
 use native.Mathlib.Omega.{arith}
-use lib.ListN.{length, getD, set, take, drop, replicate, length-set, drop-of-length-le}
-use lib.Seq.{drop-cons, take-suc, length-take-le, getD-set-same, getD-set-other}
+use lib.ListN.{length, getD, set, take, drop, replicate, length-set, length-map, drop-of-length-le, List·getD-eq-default}
+use lib.Seq.{drop-cons, take-suc, getD-take, length-take-le, getD-set-same, getD-set-other}
 use lib.Dec.{eqb}
 use borrow.Author.Tests.{eqb-true, eqb-false, eq-eqb, ne-eqb}
 use Rattle.ol_spec.specs.Lists.{member}
 use Rattle.ol_spec.specs.Syntax.{Equation}
 use Rattle.ol_spec.specs.Order.{later, definerFrom, definer}
-use Rattle.ol_spec.specs.Read.{got, many, countR, nameR, equationR}
+use Rattle.ol_spec.specs.Read.{Read, got, fault, many, countR, nameR, equationR}
 use Rattle.ol_spec.specs.declared.Fault.{Fault}
 use Rattle.ol_spec.specs.declared.Limits.{Limits}
+use Rattle.ol_spec.proofs.Ordering.{later-cases, definer-inside}
 use Rattle.ol_spec.proofs.Offsets.{steps, same-item}
-use Rattle.ol_order.specs.Tables.{put, putAll, namesAt, onCount, putStarts, onDefined, definedAt, definerCode, noEquation, equationAt, equationsAt}
-use Rattle.ol_order.specs.Post.{Readable}
+use Rattle.ol_order.specs.Tables.{keyOf, keyed, put, putAll, namesAt, onCount, putStarts, onDefined, definedAt, definerCode, noEquation, equationAt, equationsAt}
+use Rattle.ol_order.specs.Post.{Readable, Blank, Definers}
 use Rattle.ol_order.proofs.Turns.{equation-here}
 use Rattle.ol_tables.specs.Heads.{nameAt}
 use Rattle.ol_ir.specs.Nexts.{nextOf, countedOf}
@@ -112,34 +115,44 @@ names-told s (suc k) at xs n e =
     ap (λ r. nameAt s at ∷ onPlaces r (namesAt k s)) (t .first)
     ∙ (ap (λ x. x ∷ namesAt k s (t .at)) (name-told s at (t .value) (t .at) (t .first)) ∙ (ap (λ l. t .value ∷ l) (names-told s k (t .at) (u .value) (u .at) (u .first)) ∙ same-item (u .rest)))
 
--- w is the table in which the names left, `left` of them from `at` on, get i
-module _ (s table w : List ℕ) (i left at : ℕ) (e : put (namesAt left s at) i table ≡ w) where
+-- w is the table in which the entries of the names left, `left` of them from `at` on, get i
+module _ (s table w : List ℕ) (i left at : ℕ) (e : put (map keyOf (namesAt left s at)) i table ≡ w) where
   pub puts-end : left ≤ 0 → table ≡ w
   unfolding put namesAt
   puts-end h = none left h e
     where
-      none : (k : ℕ) → k ≤ 0 → put (namesAt k s at) i table ≡ w → table ≡ w
+      none : (k : ℕ) → k ≤ 0 → put (map keyOf (namesAt k s at)) i table ≡ w → table ≡ w
       none zero g f = f
       none (suc k) g f = absurd (omega arith)
 
-  module _ (u : 0 < left) {x : ℕ} {t : List ℕ} {y : Next} (c : x ≡ nameAt s at) (k : t ≡ set table x i) (g : y ≡ nextOf (nameR s at)) where
-    name-put : put (onPlaces (nameR s at) (namesAt (left - 1) s)) i t ≡ w
+  module _ (u : 0 < left) {x : ℕ} {t : List ℕ} (c : x ≡ nameAt s at) (k : t ≡ set table (keyOf x) i) where
+    name-put : put (map keyOf (onPlaces (nameR s at) (namesAt (left - 1) s))) i t ≡ w
     unfolding put namesAt
     name-put = next left u e
       where
-        next : (m : ℕ) → 0 < m → put (namesAt m s at) i table ≡ w → put (onPlaces (nameR s at) (namesAt (m - 1) s)) i t ≡ w
+        next : (m : ℕ) → 0 < m → put (map keyOf (namesAt m s at)) i table ≡ w → put (map keyOf (onPlaces (nameR s at) (namesAt (m - 1) s))) i t ≡ w
         next zero h f = absurd (omega arith)
         next (suc m) h f =
             let one : suc m - 1 ≡ m = omega arith in
-            rw one (ap (put (onPlaces (nameR s at) (namesAt m s)) i) (k ∙ ap (λ v. set table v i) c) ∙ f)
+            rw one (ap (put (map keyOf (onPlaces (nameR s at) (namesAt m s))) i) (k ∙ ap (λ v. set table (keyOf v) i) c) ∙ f)
 
-    pub puts-turn : {q : ℕ} → y ≡ Nxt.At q → put (namesAt (left - 1) s q) i t ≡ w
-    unfolding onPlaces
-    puts-turn {q} h = let a = from-next (nameR s at) q (sym g ∙ h) in sym (ap (λ r. put (onPlaces r (namesAt (left - 1) s)) i t) (a .1)) ∙ name-put
+    -- it is the last
+    pub puts-last : left - 1 ≡ 0 → t ≡ w
+    unfolding put namesAt onPlaces
+    puts-last h = sym (ap (λ m. put (map keyOf (onPlaces (nameR s at) (namesAt m s))) i t) h ∙ go (nameR s at)) ∙ name-put
+      where
+        go : (r : Read ℕ) → put (map keyOf (onPlaces r (namesAt 0 s))) i t ≡ t
+        go (got n q) = refl
+        go (fault n q) = refl
 
-    pub puts-not : {f : Fault} → y ≡ Nxt.Refused f → t ≡ w
-    unfolding onPlaces put
-    puts-not {f} h = sym (ap (λ r. put (onPlaces r (namesAt (left - 1) s)) i t) (from-halt (nameR s at) f (sym g ∙ h))) ∙ name-put
+    module _ {y : Next} (g : y ≡ nextOf (nameR s at)) where
+      pub puts-turn : {q : ℕ} → y ≡ Nxt.At q → put (map keyOf (namesAt (left - 1) s q)) i t ≡ w
+      unfolding onPlaces
+      puts-turn {q} h = let a = from-next (nameR s at) q (sym g ∙ h) in sym (ap (λ r. put (map keyOf (onPlaces r (namesAt (left - 1) s))) i t) (a .1)) ∙ name-put
+
+      pub puts-not : {f : Fault} → y ≡ Nxt.Refused f → t ≡ w
+      unfolding onPlaces put
+      puts-not {f} h = sym (ap (λ r. put (map keyOf (onPlaces r (namesAt (left - 1) s))) i t) (from-halt (nameR s at) f (sym g ∙ h))) ∙ name-put
 
 -- ---- the equations, one after the other
 
@@ -150,33 +163,33 @@ module _ (s starts table w : List ℕ) (most i : ℕ) (e : putStarts s most i (d
   all-end h = sym (ap (λ k. putStarts s most i k table) (drop-of-length-le starts {i = i} h)) ∙ e
 
   module _ (u : i < length starts) {x : Counted} (g : x ≡ countedOf (countR s 1 most (getD starts i 0))) where
-    next-start : onCount (countR s 1 most (getD starts i 0)) (λ n p. putStarts s most (suc i) (drop (suc i) starts) (put (namesAt n s p) i table)) table ≡ w
+    next-start : onCount (countR s 1 most (getD starts i 0)) (λ n p. putStarts s most (suc i) (drop (suc i) starts) (put (map keyOf (namesAt n s p)) i table)) table ≡ w
     unfolding putStarts
     next-start = sym (ap (λ k. putStarts s most i k table) (drop-cons starts i 0 u)) ∙ e
 
-    pub all-turn : {n p : ℕ} {t : List ℕ} → x ≡ Cnt.Items n p → t ≡ put (namesAt n s p) i table → putStarts s most (i + 1) (drop (i + 1) starts) t ≡ w
+    pub all-turn : {n p : ℕ} {t : List ℕ} → x ≡ Cnt.Items n p → t ≡ put (map keyOf (namesAt n s p)) i table → putStarts s most (i + 1) (drop (i + 1) starts) t ≡ w
     all-turn {n} {p} {t} h k =
         rw add-one
         (ap (putStarts s most (suc i) (drop (suc i) starts)) k
-        ∙ (sym (ap (λ r. onCount r (λ n p. putStarts s most (suc i) (drop (suc i) starts) (put (namesAt n s p) i table)) table) (from-items (countR s 1 most (getD starts i 0)) n p (sym g ∙ h))) ∙ next-start))
+        ∙ (sym (ap (λ r. onCount r (λ n p. putStarts s most (suc i) (drop (suc i) starts) (put (map keyOf (namesAt n s p)) i table)) table) (from-items (countR s 1 most (getD starts i 0)) n p (sym g ∙ h))) ∙ next-start))
 
     pub all-not : {f : Fault} → x ≡ Cnt.Refused f → table ≡ w
-    all-not {f} h = sym (ap (λ r. onCount r (λ n p. putStarts s most (suc i) (drop (suc i) starts) (put (namesAt n s p) i table)) table) (from-no-items (countR s 1 most (getD starts i 0)) f (sym g ∙ h))) ∙ next-start
+    all-not {f} h = sym (ap (λ r. onCount r (λ n p. putStarts s most (suc i) (drop (suc i) starts) (put (map keyOf (namesAt n s p)) i table)) table) (from-no-items (countR s 1 most (getD starts i 0)) f (sym g ∙ h))) ∙ next-start
 
 -- of equations that were read the names are theirs
 module _ (s : List ℕ) (l : Limits) (enums : ℕ) where
-  starts-put : (i : ℕ) (starts table : List ℕ) → ((k : ℕ) → k < length starts → (n : ℕ) × (equationR s l enums (getD starts k 0) ≡ got (equationAt s l enums (getD starts k 0)) n)) → putStarts s (l .names) i starts table ≡ putAll i (equationsAt s l enums starts) table
+  starts-put : (i : ℕ) (starts table : List ℕ) → ((k : ℕ) → k < length starts → (n : ℕ) × (equationR s l enums (getD starts k 0) ≡ got (equationAt s l enums (getD starts k 0)) n)) → putStarts s (l .names) i starts table ≡ putAll i (map keyed (equationsAt s l enums starts)) table
   unfolding putStarts putAll
   starts-put i [] table h = refl
   starts-put i (a ∷ starts) table h =
       let f = h 0 (omega arith) in
       let q = equationAt s l enums a in
       let c = section-at s 1 (l .names) (nameR s) a (q .names) _ (equation-at s l enums a q (f .0) (f .1) .names) in
-      ap (λ r. onCount r (λ n p. putStarts s (l .names) (suc i) starts (put (namesAt n s p) i table)) table) (c .counted)
-      ∙ (ap (λ xs. putStarts s (l .names) (suc i) starts (put xs i table)) (names-told s (length (q .names)) (a + 1) (q .names) _ (c .items))
-      ∙ starts-put (suc i) starts (put (q .names) i table) (λ k g. h (suc k) (omega arith)))
+      ap (λ r. onCount r (λ n p. putStarts s (l .names) (suc i) starts (put (map keyOf (namesAt n s p)) i table)) table) (c .counted)
+      ∙ (ap (λ xs. putStarts s (l .names) (suc i) starts (put (map keyOf xs) i table)) (names-told s (length (q .names)) (a + 1) (q .names) _ (c .items))
+      ∙ starts-put (suc i) starts (put (map keyOf (q .names)) i table) (λ k g. h (suc k) (omega arith)))
 
-  pub starts-defined : (starts table : List ℕ) → Readable s l enums starts → putStarts s (l .names) 0 starts table ≡ putAll 0 (equationsAt s l enums starts) table
+  pub starts-defined : (starts table : List ℕ) → Readable s l enums starts → putStarts s (l .names) 0 starts table ≡ putAll 0 (map keyed (equationsAt s l enums starts)) table
   starts-defined starts table rd = starts-put 0 starts table (rd .each)
 
 -- ---- a name among those of an equation
@@ -279,3 +292,107 @@ search-start qs x left e = ap (λ v. definer v x) (sym (ap (λ k. take k qs) (sy
     whole : (rs : List Equation) → take (length rs) rs ≡ rs
     whole [] = refl
     whole (r ∷ rs) = ap (λ v. r ∷ v) (whole rs)
+
+-- the first equations are those at the first places
+pub equations-take : (s : List ℕ) (l : Limits) (enums : ℕ) (n : ℕ) (starts : List ℕ) → equationsAt s l enums (take n starts) ≡ take n (equationsAt s l enums starts)
+equations-take s l enums zero starts = refl
+equations-take s l enums (suc n) [] = refl
+equations-take s l enums (suc n) (a ∷ starts) = ap (λ v. equationAt s l enums a ∷ v) (equations-take s l enums n starts)
+
+pub readable-take : {s : List ℕ} {l : Limits} {enums : ℕ} {starts : List ℕ} (n : ℕ) → Readable s l enums starts → n ≤ length starts → Readable s l enums (take n starts)
+readable-take {s} {l} {enums} {starts} n rd h =
+    let len : length (take n starts) ≡ n = length-take-le n starts h in
+    record {
+      each = λ k i. subst (λ p. (m : ℕ) × (equationR s l enums p ≡ got (equationAt s l enums p) m)) (sym (getD-take n starts k 0 (omega (arith, len)))) (rd .each k (omega (arith, len)));
+      few = omega (arith, len, rd .few);
+    }
+
+-- ---- names with the same entry
+
+later-none : (o : Option ℕ) (b : Bool) (i : ℕ) → later o b i ≡ none → (o ≡ none) × (b ≡ false)
+later-none (some j) b i e = let z : _≡_ {A = ℕ} 0 1 = cc in absurd (omega arith)
+later-none none true i e = let z : _≡_ {A = ℕ} 0 1 = cc in absurd (omega arith)
+later-none none false i e = (refl, refl)
+
+or-none : (a b : Bool) → (a || b) ≡ false → (a ≡ false) × (b ≡ false)
+or-none true b e = let z : _≡_ {A = ℕ} 0 1 = cc in absurd (omega arith)
+or-none false b e = (refl, e)
+
+-- a name is not there if its entry is not
+key-out : (x : ℕ) (xs : List ℕ) → member (keyOf x) (map keyOf xs) ≡ false → member x xs ≡ false
+key-out x [] e = refl
+key-out x (y ∷ xs) e =
+    let w = or-none (eqb (keyOf x) (keyOf y)) (member (keyOf x) (map keyOf xs)) e in
+    ap (λ b. b || member x xs) (ne-eqb x y (λ h. eqb-false (keyOf x) (keyOf y) (w .0) (ap keyOf h))) ∙ key-out x xs (w .1)
+
+keyed-none : (i : ℕ) (qs : List Equation) (x : ℕ) → definerFrom i (map keyed qs) (keyOf x) ≡ none → definerFrom i qs x ≡ none
+unfolding definerFrom
+keyed-none i [] x e = refl
+keyed-none i (q ∷ qs) x e =
+    let w = later-none (definerFrom (suc i) (map keyed qs) (keyOf x)) (member (keyOf x) (map keyOf (q .names))) i e in
+    ap (λ o. later o (member x (q .names)) i) (keyed-none (suc i) qs x (w .0)) ∙ ap (λ b. later none b i) (key-out x (q .names) (w .1))
+
+-- no equation behind the last one with the name's entry defines the name
+keyed-some : (i : ℕ) (qs : List Equation) (x d : ℕ) → definerFrom i (map keyed qs) (keyOf x) ≡ some d → definerFrom i qs x ≡ definerFrom i (take (suc d - i) qs) x
+unfolding definerFrom
+keyed-some i [] x d e = let z : _≡_ {A = ℕ} 0 1 = cc in absurd (omega arith)
+keyed-some i (q ∷ qs) x d e = go (definerFrom (suc i) (map keyed qs) (keyOf x)) refl (keyed-some (suc i) qs x d)
+  where
+    go : (o : Option ℕ) → definerFrom (suc i) (map keyed qs) (keyOf x) ≡ o → (definerFrom (suc i) (map keyed qs) (keyOf x) ≡ some d → definerFrom (suc i) qs x ≡ definerFrom (suc i) (take (suc d - suc i) qs) x) → later (definerFrom (suc i) qs x) (member x (q .names)) i ≡ definerFrom i (take (suc d - i) (q ∷ qs)) x
+    go (some j) f h =
+        let y : some j ≡ some d = sym (ap (λ o. later o (member (keyOf x) (map keyOf (q .names))) i) f) ∙ e in
+        let jd : j ≡ d = cc in
+        let g : definerFrom (suc i) (map keyed qs) (keyOf x) ≡ some d = f ∙ y in
+        let z : suc d - i ≡ suc (suc d - suc i) = omega (arith, definer-inside (suc i) (map keyed qs) (keyOf x) d g .0) in
+        ap (λ o. later o (member x (q .names)) i) (h g) ∙ sym (ap (λ k. definerFrom i (take k (q ∷ qs)) x) z)
+    go none f h =
+        let y : later none (member (keyOf x) (map keyOf (q .names))) i ≡ some d = sym (ap (λ o. later o (member (keyOf x) (map keyOf (q .names))) i) f) ∙ e in
+        let id : i ≡ d = ⊎-elim (λ v. let z : _≡_ {A = ℕ} 0 1 = cc in absurd (omega arith)) (λ v. v .1) (later-cases none (member (keyOf x) (map keyOf (q .names))) i d y) in
+        let z : suc d - i ≡ 1 = omega arith in
+        ap (λ o. later o (member x (q .names)) i) (keyed-none (suc i) qs x f) ∙ sym (ap (λ k. definerFrom i (take k (q ∷ qs)) x) z)
+
+-- names below 1,024 are their own entries
+low-member : (x : ℕ) (xs : List ℕ) → ((y : ℕ) → 1024 ≤ y → member y xs ≡ false) → member x (map keyOf xs) ≡ member x xs
+low-member x [] h = refl
+low-member x (y ∷ xs) h =
+    let below : y < 1024 = by-cases (decLe 1024 y) (λ g. absurd (never y (or-none (eqb y y) (member y xs) (h y g) .0))) (λ g. omega arith) in
+    let z : keyOf y ≡ y = omega arith in
+    ap (λ k. eqb x k || member x (map keyOf xs)) z ∙ ap (λ b. eqb x y || b) (low-member x xs (λ v g. or-none (eqb v y) (member v xs) (h v g) .1))
+  where
+    never : (y : ℕ) → eqb y y ≡ false → ⊥
+    never y e = eqb-false y y e refl
+
+low-keyed : (i : ℕ) (qs : List Equation) (x : ℕ) → ((y : ℕ) → 1024 ≤ y → definerFrom i qs y ≡ none) → definerFrom i (map keyed qs) x ≡ definerFrom i qs x
+unfolding definerFrom
+low-keyed i [] x h = refl
+low-keyed i (q ∷ qs) x h =
+    ap (λ o. later o (member x (map keyOf (q .names))) i) (low-keyed (suc i) qs x (λ y g. later-none (definerFrom (suc i) qs y) (member y (q .names)) i (h y g) .0))
+    ∙ ap (λ b. later (definerFrom (suc i) qs x) b i) (low-member x (q .names) (λ y g. later-none (definerFrom (suc i) qs y) (member y (q .names)) i (h y g) .1))
+
+-- what the table says of a name
+module _ {qs : List Equation} {low : Bool} {table : List ℕ} (df : Definers qs low table) (few : length qs ≤ 80) (x : ℕ) {d : ℕ} (e : d ≡ getD table (keyOf x) 255) where
+  pub entry-some : d < length qs → definer (take (d + 1) qs) x ≡ definer qs x
+  entry-some h = go (definer (map keyed qs) (keyOf x)) refl
+    where
+      go : (o : Option ℕ) → definer (map keyed qs) (keyOf x) ≡ o → definer (take (d + 1) qs) x ≡ definer qs x
+      go none f = absurd (omega (arith, e, df .is x ∙ ap definerCode f))
+      go (some j) f =
+          let z : suc j - 0 ≡ d + 1 = omega (arith, e, df .is x ∙ ap definerCode f) in
+          sym (keyed-some 0 qs x j f ∙ ap (λ k. definer (take k qs) x) z)
+
+  pub entry-none : length qs ≤ d → 255 ≡ definerCode (definer qs x)
+  entry-none h = go (definer (map keyed qs) (keyOf x)) refl
+    where
+      go : (o : Option ℕ) → definer (map keyed qs) (keyOf x) ≡ o → 255 ≡ definerCode (definer qs x)
+      go none f = sym (ap definerCode (keyed-none 0 qs x f))
+      go (some j) f = absurd (omega (arith, e, df .is x ∙ ap definerCode f, definer-inside 0 (map keyed qs) (keyOf x) j f .1, length-map qs keyed))
+
+pub definers-made : (qs : List Equation) (low : Bool) (t w : List ℕ) → Blank qs low t → w ≡ putAll 0 (map keyed qs) t → Definers qs low w
+definers-made qs low t w blank e =
+    record {
+      is = λ x. let b : keyOf x < 1024 = omega arith in entry (keyOf x) (omega (arith, blank .long));
+      lows = λ g x. by-cases (decLe 1024 x) (λ h. List·getD-eq-default w 255 (omega (arith, ap length e, length-putAll 0 (map keyed qs) t, blank .long)) ∙ sym (ap definerCode (blank .lows g x h))) (λ h. entry x (omega (arith, blank .long)) ∙ ap definerCode (low-keyed 0 qs x (blank .lows g)));
+    }
+  where
+    entry : (x : ℕ) → x < length t → getD w x 255 ≡ definerCode (definer (map keyed qs) x)
+    entry x h = ap (λ l. getD l x 255) e ∙ definers-is (map keyed qs) t x h (blank .is x)

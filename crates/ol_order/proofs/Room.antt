@@ -2,7 +2,7 @@
 use Prim.Native.Nat.{ℕ, suc, _+_, _*_, _≤_}
 use mathlib.Core.List.{List, [], _∷_, _++_, map}
 use mathlib.Core.Option.{Option, none, some}
-use mathlib.Core.Path.{_≡_, refl, sym, ap, subst, _∙_}
+use mathlib.Core.Path.{_≡_, sym, ap, _∙_}
 use mathlib.Core.Logic.{by-cases}
 use native.Mathlib.Decide.{decLe}
 use native.Mathlib.Omega.{arith}
@@ -12,10 +12,10 @@ use Rattle.ol_spec.specs.Syntax.{Expr, boolLit, intLit, floatLit, charLit, var,
 use Rattle.ol_spec.specs.Syntax.{cons, Equation, Node, File}
 use Rattle.ol_spec.specs.Places.{exprSize, exprsSize, equationSize, equationsStart}
 use Rattle.ol_spec.specs.Limits.{relayLoader}
-use Rattle.ol_spec.specs.Read.{got, readFile, nodeR, equationR}
+use Rattle.ol_spec.specs.Read.{got, readFile, equationR}
 use Rattle.ol_spec.specs.Order.{reads, readsAll, definer}
 use Rattle.ol_spec.specs.declared.Limits.{Limits}
-use Rattle.ol_order.specs.Tables.{withDefiner, definersOf, waited, waitedAll, equationsAt, nodeAt}
+use Rattle.ol_order.specs.Tables.{withDefiner, definersOf, waited, waitedAll, nodeAt}
 use Rattle.ol_order.specs.Post.{NodeReads}
 use Rattle.ol_ir.specs.Nexts.{countedOf}
 use Rattle.ol_ir.proofs.Bytes.{counted-is}

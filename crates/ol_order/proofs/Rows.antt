@@ -22,7 +22,7 @@ use Rattle.ol_spec.specs.declared.Limits.{Limits}
 use Rattle.ol_spec.proofs.Offsets.{same-item}
 use Rattle.ol_spec.proofs.Ordering.{Placed, Stuck, placed-or-stuck}
 use Rattle.ol_order.specs.Tables.{nodeIn, nodeAt, equationsAt, waitedAll}
-use Rattle.ol_order.specs.Post.{Readable, NodeReads, Sorts}
+use Rattle.ol_order.specs.Post.{NodeReads, Sorts}
 use Rattle.ol_order.specs.Orders.{ringPlace, Small, LowNames, StartsWith, rowWritten, EquationsDone, NodeDone, NodesStand, OrderOf, ordersWritten, OrdersDone}
 use Rattle.ol_order.specs.declared.table.Ring.{Ring}
 use Rattle.ol_order.specs.declared.table.Ring.the-variants as Rin

@@ -1,7 +1,7 @@
 -- What the functions of the ordering ask and give.
 use Prim.Native.Nat.{ℕ, suc, _+_, _-_, _≤_, _<_}
 use mathlib.Core.Bool.{Bool, true}
-use mathlib.Core.List.{List}
+use mathlib.Core.List.{List, map}
 use mathlib.Core.Option.{none, some}
 use mathlib.Core.Path.{_≡_}
 use lib.ListN.{length, getD, take, drop}
@@ -11,7 +11,7 @@ use Rattle.ol_spec.specs.Syntax.{Equation}
 use Rattle.ol_spec.specs.Read.{got, equationR, nodeR}
 use Rattle.ol_spec.specs.Order.{definer, order, unplaced}
 use Rattle.ol_spec.specs.declared.Limits.{Limits}
-use Rattle.ol_order.specs.Tables.{noEquation, equationAt, nodeAt, definerCode, waited, flagOf, zeros}
+use Rattle.ol_order.specs.Tables.{keyOf, keyed, noEquation, equationAt, nodeAt, definerCode, waited, flagOf, zeros}
 
 -- an equation is read at each of these places
 pub record Readable (s : List ℕ) (l : Limits) (enums : ℕ) (starts : List ℕ) : Type 0 where
@@ -24,15 +24,16 @@ pub record NodeReads (s : List ℕ) (l : Limits) (enums at : ℕ) : Type 0 where
   pub is : nodeR s l enums at ≡ got (nodeAt s l enums at) end
   pub few : l .equations ≤ 80
 
--- no name has a definer in the table yet, and with `low` every name that an equation defines has an entry
+-- no name has a definer in the table yet, and with `low` no equation defines a name from 1,024 on
 pub record Blank (qs : List Equation) (low : Bool) (table : List ℕ) : Type 0 where
   pub is : (x : ℕ) → getD table x 255 ≡ 255
-  pub all : low ≡ true → (x : ℕ) → length table ≤ x → x < 65536 → definer qs x ≡ none
+  pub long : 1024 ≡ length table
+  pub lows : low ≡ true → (x : ℕ) → 1024 ≤ x → definer qs x ≡ none
 
--- the table has the last definer of each name that has an entry, and with `low` no other name has a definer
+-- a name's entry has the last equation that defines a name with the same entry; with `low` each name's own place has its last definer
 pub record Definers (qs : List Equation) (low : Bool) (table : List ℕ) : Type 0 where
-  pub is : (x : ℕ) → x < length table → getD table x 255 ≡ definerCode (definer qs x)
-  pub all : low ≡ true → (x : ℕ) → length table ≤ x → x < 65536 → definer qs x ≡ none
+  pub is : (x : ℕ) → getD table (keyOf x) 255 ≡ definerCode (definer (map keyed qs) (keyOf x))
+  pub lows : low ≡ true → (x : ℕ) → getD table x 255 ≡ definerCode (definer qs x)
 
 -- the list of equation k, from its beginning up to the next one's, has the definers that it waits for
 pub record Waits (qs : List Equation) (lists begins : List ℕ) : Type 0 where

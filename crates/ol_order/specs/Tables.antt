@@ -1,5 +1,5 @@
 -- The tables of the ordering: the equations at their places, which equation defines a name, which equations are placed.
-use Prim.Native.Nat.{ℕ, zero, suc, _+_}
+use Prim.Native.Nat.{ℕ, zero, suc, _+_, _%_}
 use mathlib.Core.Bool.{Bool, true, false}
 use mathlib.Core.List.{List, [], _∷_, _++_, map}
 use mathlib.Core.Option.{Option, none, some}
@@ -37,14 +37,22 @@ nodeAt s l enums at = nodeIn (nodeR s l enums at)
 abbrev pub equationsAt : List ℕ → Limits → ℕ → List ℕ → List Equation
 equationsAt s l enums starts = map (equationAt s l enums) starts
 
--- ---- the table of definers: entry x is the index of x's last definer, or 255
+-- ---- the table of definers: entry r is the index of the last equation that defines a name of the remainder r, or 255
 
--- each of the names gets i
+-- a name's entry
+abbrev pub keyOf : ℕ → ℕ
+keyOf x = x % 1024
+
+-- the equation with its names' entries in place of its names
+abbrev pub keyed : Equation → Equation
+keyed q = record { names = map keyOf (q .names); rhs = q .rhs }
+
+-- each of these entries gets i
 unfoldable pub put : List ℕ → ℕ → List ℕ → List ℕ
 put [] i table = table
 put (x ∷ xs) i table = put xs i (set table x i)
 
--- each equation's names get its index, the first having the index i
+-- the entries of each equation's names get its index, the first having the index i
 unfoldable pub putAll : ℕ → List Equation → List ℕ → List ℕ
 putAll i [] table = table
 putAll i (q ∷ qs) table = putAll (suc i) qs (put (q .names) i table)
@@ -58,10 +66,10 @@ abbrev pub onCount : Read ℕ → (ℕ → ℕ → List ℕ) → List ℕ → Li
 onCount (got n p) k table = k n p
 onCount (fault n p) k table = table
 
--- the names at each of these places get its index, the first having the index i, up to the first place at which no count of names stands
+-- the entries of the names at each of these places get its index, the first having the index i, up to the first place at which no count of names stands
 unfoldable pub putStarts : List ℕ → ℕ → ℕ → List ℕ → List ℕ → List ℕ
 putStarts s most i [] table = table
-putStarts s most i (a ∷ starts) table = onCount (countR s 1 most a) (λ n p. putStarts s most (suc i) starts (put (namesAt n s p) i table)) table
+putStarts s most i (a ∷ starts) table = onCount (countR s 1 most a) (λ n p. putStarts s most (suc i) starts (put (map keyOf (namesAt n s p)) i table)) table
 
 abbrev pub definerCode : Option ℕ → ℕ
 definerCode none = 255

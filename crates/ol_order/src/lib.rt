@@ -17,8 +17,7 @@ use ol_spec::Fault;
 use ol_spec::Limits;
 use ol_spec::Sorted;
 use ol_tables::bytes::byte;
-ghost use mathlib.Core.Bool.{true};
-ghost use mathlib.Core.List.{List, []};
+ghost use mathlib.Core.List.{List, [], map};
 ghost use mathlib.Core.Option.{some};
 ghost use mathlib.Core.Path.{_≡_};
 ghost use Prim.Native.Nat.{ℕ, suc, _+_, _≤_, _<_};
@@ -27,13 +26,13 @@ ghost use lib.Seq.{sets};
 ghost use Rattle.ol_spec.specs.Lists.{member};
 ghost use Rattle.ol_spec.specs.Syntax.{Equation};
 ghost use Rattle.ol_spec.specs.Limits.{relayLoader};
-ghost use Rattle.ol_spec.specs.Order.{definer, pass, order as inOrder};
+ghost use Rattle.ol_spec.specs.Order.{definer as lastDefiner, pass, order as inOrder};
 ghost use Rattle.ol_spec.specs.Answers.{sortedFault};
 ghost use Rattle.ol_spec.specs.Cycle.{orderNode, ordering};
-ghost use Rattle.ol_order.specs.Tables.{equationAt, equationsAt, nodeAt, put, putAll, namesAt, putStarts, definedAt, definerCode, waited, waitedAll, bounds, firstZero, orderOf};
+ghost use Rattle.ol_order.specs.Tables.{equationAt, equationsAt, nodeAt, keyOf, keyed, put, putAll, namesAt, putStarts, definedAt, definerCode, waited, waitedAll, bounds, firstZero, orderOf};
 ghost use Rattle.ol_order.specs.Post.{Readable, NodeReads, Blank, Definers, Waits, Waiting, State, Sorts};
 
-// No name below 1,024 has a definer: 255 stands for none.
+// No name has a definer: 255 stands for none.
 pub(crate) fn no_definers() -> [u8; 1024]
     ensures long { λ r. ⌜ 1024 ≡ length r ⌝ }
     ensures none { λ r. ⌜ ((x : ℕ) → getD r x 255 ≡ 255) ⌝ }
@@ -41,7 +40,7 @@ pub(crate) fn no_definers() -> [u8; 1024]
     [255; 1024]
 }
 
-// A name gets the equation's index, where the table has an entry for it.
+// An entry of the table gets the equation's index, where there is one.
 fn enter(definers: &mut [u8], x: usize, index: u8)
     ensures { λ _. ⌜ now (definers .exit) ≡ set (now (definers .entry)) x index ⌝ }
 {
@@ -50,15 +49,19 @@ fn enter(definers: &mut [u8], x: usize, index: u8)
     }
 }
 
-// Each of so many names gets the equation's index, up to one that the file's end cuts off.
+// Each of so many names gets the equation's index, at its remainder by 1,024, up to one that the
+// file's end cuts off.
 fn define(file: &[u8], count: usize, at: usize, index: u8, definers: &mut [u8])
-    ensures { λ _. ⌜ now (definers .exit) ≡ put (namesAt count (now (file .entry)) at) index (now (definers .entry)) ⌝ }
+    ensures { λ _. ⌜ now (definers .exit) ≡ put (map keyOf (namesAt count (now (file .entry)) at)) index (now (definers .entry)) ⌝ }
 {
     let mut next = at;
     let mut left = count;
     while 0 < left {
         left -= 1;
-        enter(definers, name(file, next), index);
+        enter(definers, name(file, next) % 1024, index);
+        if left == 0 {
+            return;
+        }
         match bytes(file, 2, next) {
             Next::At(p) => {
                 next = p;
@@ -70,7 +73,8 @@ fn define(file: &[u8], count: usize, at: usize, index: u8, definers: &mut [u8])
     }
 }
 
-// Which equation defines each name: of several the last. Ends where no count of names stands.
+// Which equation is the last that defines a name of each remainder by 1,024. Ends where no count of
+// names stands.
 fn define_all(file: &[u8], most: usize, starts: &[usize], definers: &mut [u8])
     requires { ⌜ length (now starts) ≤ 80 ⌝ }
     ensures { λ _. ⌜ now (definers .exit) ≡ putStarts (now (file .entry)) most 0 (now (starts .entry)) (now (definers .entry)) ⌝ }
@@ -127,7 +131,7 @@ fn defines(file: &[u8], most: usize, at: usize, x: usize) -> bool
 // The last equation that defines the name: 255 for none.
 fn search(file: &[u8], limits: Limits, enums: usize, starts: &[usize], x: usize) -> usize
     requires { ⌜ Readable (now file) limits enums (now starts) ⌝ }
-    ensures { λ r. ⌜ r ≡ definerCode (definer (equationsAt (now (file .entry)) limits enums (now (starts .entry))) x) ⌝ }
+    ensures { λ r. ⌜ r ≡ definerCode (lastDefiner (equationsAt (now (file .entry)) limits enums (now (starts .entry))) x) ⌝ }
 {
     let mut left = starts.len();
     while 0 < left {
@@ -139,7 +143,19 @@ fn search(file: &[u8], limits: Limits, enums: usize, starts: &[usize], x: usize)
     255
 }
 
-// A name's definer: 255 for none. With `low` no equation defines a name that has no entry in the table.
+// An entry of the table: 255 where there is none.
+fn definer(definers: &[u8], x: usize) -> usize
+    ensures { λ r. ⌜ r ≡ getD (now (definers .entry)) x 255 ⌝ }
+{
+    if x < definers.len() {
+        definers[x] as usize
+    } else {
+        255
+    }
+}
+
+// A name's definer: 255 for none. With `low` the table has it. Else no equation behind the one that
+// the table has for the name's remainder defines the name.
 fn find(
     file: &[u8],
     limits: Limits,
@@ -152,14 +168,17 @@ fn find(
     requires { ⌜ Readable (now file) limits enums (now starts) ⌝ }
     requires { ⌜ Definers (equationsAt (now file) limits enums (now starts)) low (now definers) ⌝ }
     requires { ⌜ x < 65536 ⌝ }
-    ensures { λ r. ⌜ r ≡ definerCode (definer (equationsAt (now (file .entry)) limits enums (now (starts .entry))) x) ⌝ }
+    ensures { λ r. ⌜ r ≡ definerCode (lastDefiner (equationsAt (now (file .entry)) limits enums (now (starts .entry))) x) ⌝ }
 {
-    if x < definers.len() {
-        definers[x] as usize
-    } else if low {
-        255
+    if low {
+        definer(definers, x)
     } else {
-        search(file, limits, enums, starts, x)
+        let d = definer(definers, x % 1024);
+        if d < starts.len() {
+            search(file, limits, enums, &starts[..d + 1], x)
+        } else {
+            255
+        }
     }
 }
 
@@ -333,7 +352,7 @@ pub(crate) fn sort(
     requires { ⌜ length (waitedAll (equationsAt (now file) limits enums (now starts)) (equationsAt (now file) limits enums (now starts))) ≤ length (now lists) ⌝ }
     requires { ⌜ length (now order) ≡ length (now starts) ⌝ }
     ensures order { λ r. ⌜ Sorts (equationsAt (now (file .entry)) limits enums (now (starts .entry))) (now (order .entry)) (now (order .exit)) r ⌝ }
-    ensures table { λ _. ⌜ now (definers .exit) ≡ putAll 0 (equationsAt (now (file .entry)) limits enums (now (starts .entry))) (now (definers .entry)) ⌝ }
+    ensures table { λ _. ⌜ now (definers .exit) ≡ putAll 0 (map keyed (equationsAt (now (file .entry)) limits enums (now (starts .entry)))) (now (definers .entry)) ⌝ }
     ensures lists { λ _. ⌜ now (lists .exit) ≡ sets (now (lists .entry)) 0 (waitedAll (equationsAt (now (file .entry)) limits enums (now (starts .entry))) (equationsAt (now (file .entry)) limits enums (now (starts .entry)))) ⌝ }
 {
     define_all(file, limits.names, starts, definers);
@@ -342,8 +361,12 @@ pub(crate) fn sort(
     record_all(file, limits, enums, starts, low, definers, lists, begins);
     let mut flags = [0u8; 80];
     let placed = &mut flags[..starts.len()];
-    passes(lists, begins, placed, order);
-    first_unplaced(placed)
+    let n = passes(lists, begins, placed, order);
+    if n < starts.len() {
+        first_unplaced(placed)
+    } else {
+        n
+    }
 }
 
 // The order of the equations that start at these places.
