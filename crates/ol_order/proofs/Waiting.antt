@@ -104,6 +104,10 @@ module _ (qs : List Equation) (list : List ℕ) where
       pub checked-waits : member (getD lists j 0) list ≡ false → want ≡ false
       checked-waits m = ch .is ∙ (ap (allOf (isPlaced qs list)) next-is ∙ ap (λ b. b && allOf (isPlaced qs list) (part lists (j + 1) end)) m)
 
+-- equations with these lists are as many as others with them
+pub same-many : {qs rs : List Equation} {lists begins : List ℕ} → Waits qs lists begins → Waits rs lists begins → length qs ≡ length rs
+same-many v w = omega (arith, v .long, w .long)
+
 -- ---- all lists
 
 -- a run of stores, and then another

@@ -41,6 +41,13 @@ pub record Waits (qs : List Equation) (lists begins : List ℕ) : Type 0 where
   pub inside : (k : ℕ) → k < length qs → getD begins (suc k) 0 ≤ length lists
   pub is : (k : ℕ) → k < length qs → take (getD begins (suc k) 0 - getD begins k 0) (drop (getD begins k 0) lists) ≡ waited qs (getD qs k noEquation)
 
+-- the lists of some equations, at most 80, and a buffer with one entry for each
+pub record Listed (lists begins order : List ℕ) : Type 0 where
+  pub equations : List Equation
+  pub waits : Waits equations lists begins
+  pub room : length order ≡ length equations
+  pub few : length equations ≤ 80
+
 -- The first n entries of `order` are the list of those placed, and each equation has its flag.
 pub record State (qs : List Equation) (list placed order : List ℕ) (n : ℕ) : Type 0 where
   pub front : take n order ≡ list

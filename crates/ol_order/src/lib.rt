@@ -30,7 +30,7 @@ ghost use Rattle.ol_spec.specs.Order.{definer as lastDefiner, pass, order as in
 ghost use Rattle.ol_spec.specs.Answers.{sortedFault};
 ghost use Rattle.ol_spec.specs.Cycle.{orderNode, ordering};
 ghost use Rattle.ol_order.specs.Tables.{equationAt, equationsAt, nodeAt, keyOf, keyed, put, putAll, namesAt, putStarts, definedAt, definerCode, waited, waitedAll, bounds, firstZero, orderOf};
-ghost use Rattle.ol_order.specs.Post.{Readable, NodeReads, Blank, Definers, Waits, Waiting, State, Sorts};
+ghost use Rattle.ol_order.specs.Post.{Readable, NodeReads, Blank, Definers, Waits, Listed, Waiting, State, Sorts};
 
 // No name has a definer: 255 stands for none.
 pub(crate) fn no_definers() -> [u8; 1024]
@@ -322,6 +322,22 @@ fn first_unplaced(placed: &[u8]) -> usize
     i
 }
 
+// Places the equations whose lists these are: the first that is not placed, or their number. The
+// buffer gets the order of those placed.
+fn place(lists: &[u8], begins: &[usize], order: &mut [usize]) -> usize
+    requires { ⌜ Listed (now lists) (now begins) (now order) ⌝ }
+    ensures { λ r. ⌜ ((qs : List Equation) → Waits qs (now (lists .entry)) (now (begins .entry)) → Sorts qs (now (order .entry)) (now (order .exit)) r) ⌝ }
+{
+    let mut flags = [0u8; 80];
+    let placed = &mut flags[..order.len()];
+    let n = passes(lists, begins, placed, order);
+    if n < order.len() {
+        first_unplaced(placed)
+    } else {
+        n
+    }
+}
+
 // Copies the order into the buffer.
 fn copy(order: &[usize], buffer: &mut [usize])
     requires { ⌜ length (now buffer) ≡ length (now order) ⌝ }
@@ -359,14 +375,7 @@ pub(crate) fn sort(
     let mut spans = [0usize; 81];
     let begins = &mut spans[..starts.len() + 1];
     record_all(file, limits, enums, starts, low, definers, lists, begins);
-    let mut flags = [0u8; 80];
-    let placed = &mut flags[..starts.len()];
-    let n = passes(lists, begins, placed, order);
-    if n < starts.len() {
-        first_unplaced(placed)
-    } else {
-        n
-    }
+    place(lists, begins, order)
 }
 
 // The order of the equations that start at these places.
