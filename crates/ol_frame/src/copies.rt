@@ -106,7 +106,7 @@ pub fn store_out(tab: &[u8], k: usize, at: usize, o: Outcome, cells: &mut [u8]) 
 }
 
 // Stores n values, each in the cell of its name; the names stand from `at` on.
-pub fn assign(tab: &[u8], k: usize, at: usize, n: usize, from: &[u8], cells: &mut [u8])
+pub fn bind(tab: &[u8], k: usize, at: usize, n: usize, from: &[u8], cells: &mut [u8])
     requires { ⌜ Assignable (now tab) k at n (now from) (now cells) ⌝ }
     ensures { λ _. ⌜ Assigns (now (tab .entry)) k at n n (now (from .entry)) (now (cells .entry)) (now (cells .exit)) ⌝ }
 {
@@ -120,14 +120,14 @@ pub fn assign(tab: &[u8], k: usize, at: usize, n: usize, from: &[u8], cells: &mu
 }
 
 // The value of a call that ended so and has so many outputs, the first of which is the cell of index i.
-pub fn single_out(end: Ending, outputs: usize, i: usize, cells: &[u8]) -> Outcome
+pub fn single_out(end: Ending, outputs: usize, cells: &[u8]) -> Outcome
     requires { ⌜ (i ≤ 112) × (9 * i + 9 ≤ length (now cells)) ⌝ }
     ensures { λ r. ⌜ ((os : Outcomes) → Leaves os end outputs (drop (9 * i) (now (cells .entry))) → r ≡ single os) ⌝ }
 {
     match end {
         Ending::Values => {
             if outputs == 1 {
-                Outcome::Value(read_cell(cells, 9 * i))
+                Outcome::Value(read_cell(cells, 0))
             } else {
                 Outcome::Failure
             }

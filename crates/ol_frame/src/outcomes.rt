@@ -146,14 +146,25 @@ pub fn runs(taken: Outcome, has: bool) -> bool
     }
 }
 
-// The untaken branch's failure is dropped, its overflow is not.
-pub fn drop_failure(taken: Outcome, other: Outcome) -> Outcome
-    ensures { λ r. ⌜ r ≡ dropOut taken other ⌝ }
+// Whether it is an overflow.
+pub fn overflowed(o: Outcome) -> bool
+    ensures { λ r. ⌜ r ≡ overflowOf o ⌝ }
 {
-    match other {
-        Outcome::Value(_) => same_out(taken),
-        Outcome::Failure => same_out(taken),
-        Outcome::Overflow => same_out(other),
+    match o {
+        Outcome::Value(_) => false,
+        Outcome::Failure => false,
+        Outcome::Overflow => true,
+    }
+}
+
+// What a choice comes to where the branch that is not taken was evaluated: its failure is dropped, its overflow is not.
+pub fn drop_failure(taken: Outcome, overflow: bool) -> Outcome
+    ensures { λ r. ⌜ ((other : Outcome) → overflow ≡ overflowOf other → r ≡ dropOut taken other) ⌝ }
+{
+    if overflow {
+        Outcome::Overflow
+    } else {
+        same_out(taken)
     }
 }
 

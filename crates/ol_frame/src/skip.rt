@@ -13,7 +13,7 @@ pub struct Passed {
 }
 
 // Passes over `count` expressions, the first of which is at `at`, from call to call.
-pub fn pass_all(file: &[u8], rows: &[usize], at: usize, level: usize, count: usize) -> Passed
+pub fn pass_all(file: &[u8], tab: &[u8], at: usize, level: usize, count: usize) -> Passed
     requires { ⌜ Passable (now file) (now rows) level count at ⌝ }
     ensures { λ r. ⌜ SkipsTo (now (file .entry)) level count at r ⌝ }
 {
@@ -24,7 +24,7 @@ pub fn pass_all(file: &[u8], rows: &[usize], at: usize, level: usize, count: usi
     loop {
         let c = next_call(file, left, next);
         if c.found {
-            used += row(rows, c.callee, SIZE);
+            used += row(tab, c.callee, SIZE);
             has = true;
             next = c.at;
             left = c.left;
@@ -39,7 +39,7 @@ pub fn pass_all(file: &[u8], rows: &[usize], at: usize, level: usize, count: usi
 }
 
 // Passes over the expression at `at`, of at most `level` levels. A literal and a Var are their heads.
-pub fn pass(file: &[u8], rows: &[usize], at: usize, level: usize) -> Passed
+pub fn pass(file: &[u8], tab: &[u8], at: usize, level: usize) -> Passed
     requires { ⌜ Passable (now file) (now rows) level 1 at ⌝ }
     ensures { λ r. ⌜ SkipsTo (now (file .entry)) level 1 at r ⌝ }
 {
@@ -51,6 +51,6 @@ pub fn pass(file: &[u8], rows: &[usize], at: usize, level: usize) -> Passed
             has: false,
         }
     } else {
-        pass_all(file, rows, at, level, 1)
+        pass_all(file, tab, at, level, 1)
     }
 }

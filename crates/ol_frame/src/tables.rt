@@ -2,8 +2,9 @@
 use ol_tables::tables::COLUMNS;
 use ol_tables::tables::MOST_EQUATIONS;
 use ol_tables::tables::MOST_VARIABLES;
-use ol_tables::tables::SLOTS;
-use ol_tables::tables::TYPES;
+use ol_tables::table::ORDERS;
+use ol_tables::table::SLOTS;
+use ol_tables::table::TYPES;
 ghost use mathlib.Core.Path.{_≡_};
 ghost use Prim.Native.Nat.{_<_, _≤_};
 ghost use lib.ListN.{length};
@@ -18,12 +19,14 @@ pub fn number(b: u8) -> usize
 }
 
 // Entry j of node k's row, which stands in the table: ol_tables' `row` without its tests.
-pub fn row(rows: &[usize], k: usize, j: usize) -> usize
+pub fn row(tab: &[u8], k: usize, j: usize) -> usize
     requires { ⌜ (length (now rows) ≡ rowsLength) × (k < 32) × (j < 8) ⌝ }
     ensures { λ r. ⌜ r ≡ rowAt (now (rows .entry)) k j ⌝ }
 {
-    let i = k * COLUMNS + j;
-    rows[i]
+    let p = (k * COLUMNS + j) * 3;
+    let q = p + 1;
+    let r = p + 2;
+    number(tab[p]) * 65536 + number(tab[q]) * 256 + number(tab[r])
 }
 
 // The type code of variable i of node k.
@@ -49,6 +52,6 @@ pub fn order_at(tab: &[u8], k: usize, j: usize) -> usize
     requires { ⌜ (slotsFrom ≤ length (now tab)) × (k < 32) × (j < 80) ⌝ }
     ensures { λ r. ⌜ (r ≡ orderAt (now (tab .entry)) k j) × (r < 256) ⌝ }
 {
-    let p = k * MOST_EQUATIONS + j;
+    let p = ORDERS + k * MOST_EQUATIONS + j;
     number(tab[p])
 }

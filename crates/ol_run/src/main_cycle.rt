@@ -1,6 +1,6 @@
 // A cycle of the main instance: its run on the old state and the inputs, and what it leaves.
-use ol_eval::cycle::Ended;
-use ol_eval::cycle::run;
+use ol_eval::eval::Ended;
+use ol_eval::eval::run;
 use ol_frame::copies::copy;
 use ol_frame::copies::copy_cells;
 use ol_frame::copies::finish;
@@ -10,7 +10,12 @@ use ol_frame::tables::row;
 use ol_spec::Cycled;
 use ol_spec::Fault;
 use ol_tables::tables::INPUTS;
-use ol_tables::tables::MOST_CELLS;
+use ol_tables::bytes::byte;
+use ol_frame::frame::BEFORE;
+use ol_frame::frame::CELLS;
+use ol_frame::frame::FRAME;
+use ol_frame::frame::set_frame;
+use ol_tables::table::KNOWN;
 use ol_tables::tables::VARIABLES;
 ghost use mathlib.Core.Path.{_≡_};
 ghost use mathlib.Core.List.{List, _++_};
@@ -33,31 +38,25 @@ fn begin(k: usize, n: usize, inputs: &[u8], held: &[u8], present: &mut [u8])
 fn run_record(
     file: &[u8],
     tab: &[u8],
-    rows: &[usize],
-    consts: &[u8],
     main: usize,
     inputs: &[u8],
     old: &[u8],
     new: &mut [u8],
-    present: &mut [u8],
+    frame: &mut [u8; FRAME],
 ) -> Ended
     requires { ⌜ RecordReady (now file) (now tab) (now rows) (now consts) main (now inputs) (now old) (now new) (now present) ⌝ }
     ensures { λ r. ⌜ RecordRan (now (file .entry)) (now (consts .entry)) main (now (inputs .entry)) (now (old .entry)) r (now (new .exit)) (now (present .exit)) ⌝ }
 {
-    let n = row(rows, main, VARIABLES);
-    let k = row(rows, main, INPUTS);
+    let n = row(tab, main, VARIABLES);
+    let k = row(tab, main, INPUTS);
     let own = 1 + 9 * n;
-    begin(k, n, inputs, &old[1..], present);
-    let started = old[0];
+    set_frame(frame, main, old[0] == 0);
+    copy_cells(0, n, &old[1..], &mut frame[BEFORE..]);
+    begin(k, n, inputs, &old[1..], &mut frame[CELLS..]);
     run(
         file,
         tab,
-        rows,
-        consts,
-        main,
-        started == 0,
-        present,
-        &old[1..],
+        frame,
         &old[own..],
         &mut new[own..],
     )
@@ -68,8 +67,6 @@ fn run_record(
 pub fn run_main(
     file: &[u8],
     tab: &[u8],
-    rows: &[usize],
-    consts: &[u8],
     main: usize,
     old: &[u8],
     inputs: &[u8],
@@ -79,27 +76,25 @@ pub fn run_main(
     requires { ⌜ RunReady (now file) (now tab) (now rows) (now consts) main (now old) (now inputs) (now new) (now values) ⌝ }
     ensures { λ r. ⌜ ((vs : List Value) → CyclesTo (now (file .entry)) (now (consts .entry)) vs (now (old .entry)) (now (inputs .entry)) (now (values .entry)) r (now (new .exit)) (now (values .exit))) ⌝ }
 {
-    let n = row(rows, main, VARIABLES);
-    let head = consts.len();
-    let mut present = [0u8; MOST_CELLS];
+    let n = row(tab, main, VARIABLES);
+    let head = 9 * byte(tab, KNOWN);
+    let mut frame = [0u8; FRAME];
     copy(old, new);
     let r = run_record(
         file,
         tab,
-        rows,
-        consts,
         main,
         inputs,
         &old[head..],
         &mut new[head..],
-        &mut present,
+        &mut frame,
     );
     let end = r.end;
     let place = r.index;
     match end {
         Ending::Values => {
-            finish(n, &present, &mut new[head..]);
-            write_cells(n, &present, values);
+            finish(n, &frame[CELLS..], &mut new[head..]);
+            write_cells(n, &frame[CELLS..], values);
             Cycled::Answered
         }
         Ending::Failed => Cycled::Stopped(Fault { number: 18, place }),

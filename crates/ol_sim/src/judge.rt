@@ -11,9 +11,13 @@ use ol_run::constants;
 use ol_run::constants::constant_values;
 use ol_spec::Fault;
 use ol_tables::bytes::byte;
+use ol_tables::table::ORDERS;
+use ol_tables::tables::COLUMNS;
+use ol_tables::tables::FIRSTS;
 use ol_tables::tables::PLACE;
-use ol_tables::tables::SLOTS;
-use ol_tables::tables::TYPES;
+use ol_tables::table::pack;
+use ol_tables::table::SLOTS;
+use ol_tables::table::TYPES;
 use ol_tables::tables::row;
 ghost use mathlib.Core.Path.{_≡_};
 ghost use mathlib.Core.Option.{none};
@@ -58,8 +62,6 @@ fn too_long(file: &[u8], rows: &[usize], main: usize, size: usize) -> Found
 fn judge_main(
     file: &[u8],
     rows: &[usize],
-    tab: &[u8],
-    consts: &[u8],
     size: usize,
     main: usize,
     count: usize,
@@ -80,8 +82,7 @@ fn judge_main(
 fn judge_constants(
     file: &[u8],
     rows: &[usize],
-    tab: &[u8],
-    consts: &mut [u8],
+    tab: &mut [u8],
     sections: Sections,
     size: usize,
 ) -> Judged
@@ -92,10 +93,12 @@ fn judge_constants(
     let n = sections.nodes;
     let count = byte(file, c);
     let nodes = byte(file, n);
-    let end = 9 * count;
-    match constant_values(file, tab, rows, nodes, c + 1, count, &mut consts[..end]) {
+    let enums = byte(file, 1);
+    pack(rows, 0, nodes * COLUMNS, tab);
+    pack(rows, FIRSTS, FIRSTS + enums, tab);
+    match constant_values(file, tab, nodes, c + 1, count) {
         constants::Found::Stuck(p) => refuse(12, p),
-        constants::Found::All => judge_main(file, rows, tab, consts, size, nodes - 1, count),
+        constants::Found::All => judge_main(file, rows, size, nodes - 1, count),
     }
 }
 
@@ -106,7 +109,6 @@ fn judge_order(
     places: &[usize],
     rows: &[usize],
     tab: &mut [u8],
-    consts: &mut [u8],
     sections: Sections,
     main: usize,
     low: bool,
@@ -114,12 +116,12 @@ fn judge_order(
     requires { ⌜ OrderReady (now file) enums (now places) (now rows) (now tab) (now consts) sections main low ⌝ }
     ensures { λ r. ⌜ Judges (now (file .entry)) (from11 (fileAt (now (file .entry)))) (now (rows .entry)) (now (tab .exit)) (now (consts .exit)) r ⌝ }
 {
-    match orders_of(file, enums, places, low, &mut tab[..TYPES]) {
+    match orders_of(file, enums, places, low, &mut tab[ORDERS..TYPES]) {
         Ring::At(p) => refuse(11, p),
         Ring::Nothing => {
             let c = sections.constants;
             let size = state_size(file, c, main);
-            judge_constants(file, rows, tab, consts, sections, size)
+            judge_constants(file, rows, tab, sections, size)
         }
     }
 }
@@ -131,7 +133,6 @@ fn judge_shapes(
     places: &[usize],
     rows: &[usize],
     tab: &mut [u8],
-    consts: &mut [u8],
     sections: Sections,
     low: bool,
     found: Faults,
@@ -158,7 +159,6 @@ fn judge_shapes(
                         places,
                         rows,
                         tab,
-                        consts,
                         sections,
                         main,
                         low,
@@ -177,7 +177,6 @@ pub(crate) fn judge_names(
     rows: &mut [usize],
     tab: &mut [u8],
     names: &mut [u8],
-    consts: &mut [u8],
     sections: Sections,
     low: bool,
     clash: Found,
@@ -191,7 +190,7 @@ pub(crate) fn judge_names(
         Found::At(p) => refuse(6, p),
         Found::Nothing => {
             let found = faults(file, rows, sections, names, &mut tab[SLOTS..]);
-            judge_shapes(file, enums, places, rows, tab, consts, sections, low, found)
+            judge_shapes(file, enums, places, rows, tab, sections, low, found)
         }
     }
 }

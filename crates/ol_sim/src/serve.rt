@@ -12,11 +12,11 @@ use ol_check::rows::Sections;
 use ol_check::rows::rows_of;
 use ol_ir::Loaded;
 use ol_ir::project::load_file;
-use ol_tables::tables::LARGE_TAB;
+use ol_tables::table::LARGE_TAB;
 use ol_tables::tables::ROWS;
-use ol_tables::tables::SLOTS;
-use ol_tables::tables::SMALL_TAB;
-use ol_tables::tables::TYPES;
+use ol_tables::table::SLOTS;
+use ol_tables::table::SMALL_TAB;
+use ol_tables::table::TYPES;
 ghost use mathlib.Core.Path.{_≡_};
 ghost use mathlib.Core.Bool.{true};
 ghost use Prim.Native.Nat.{_≤_};
@@ -35,9 +35,7 @@ fn answer(
     call: Call,
     file: &[u8],
     tab: &[u8],
-    rows: &[usize],
     names: &[u8],
-    consts: &[u8],
     size: usize,
     main: usize,
     old: &[u8],
@@ -51,15 +49,13 @@ fn answer(
 {
     match call {
         Call::Admit => Answer::Done(size),
-        Call::Start => start_unless(file, tab, rows, consts, size, main, new),
+        Call::Start => start_unless(file, tab, size, main, new),
         Call::Cycle => answer_of(
             size,
             cycle_unless(
                 file,
                 tab,
-                rows,
                 names,
-                consts,
                 size,
                 main,
                 old,
@@ -80,7 +76,6 @@ fn serve_named(
     rows: &mut [usize],
     tab: &mut [u8],
     names: &mut [u8],
-    consts: &mut [u8],
     sections: Sections,
     low: bool,
     clash: Found,
@@ -100,21 +95,17 @@ fn serve_named(
         rows,
         tab,
         names,
-        consts,
         sections,
         low,
         clash,
     ) {
         Judged::Refused(f) => Answer::Refused(f),
         Judged::Admitted(size, main, count) => {
-            let end = 9 * count;
             answer(
                 call,
                 file,
                 tab,
-                rows,
                 names,
-                &consts[..end],
                 size,
                 main,
                 old,
@@ -134,7 +125,6 @@ fn serve_low(
     places: &[usize],
     rows: &mut [usize],
     tab: &mut [u8],
-    consts: &mut [u8],
     sections: Sections,
     clash: Found,
     old: &[u8],
@@ -155,7 +145,6 @@ fn serve_low(
         rows,
         tab,
         &mut names,
-        consts,
         sections,
         true,
         clash,
@@ -176,7 +165,6 @@ fn serve_high(
     places: &[usize],
     rows: &mut [usize],
     tab: &mut [u8],
-    consts: &mut [u8],
     sections: Sections,
     old: &[u8],
     inputs: &[u8],
@@ -195,7 +183,6 @@ fn serve_high(
             places,
             rows,
             tab,
-            consts,
             sections,
             old,
             inputs,
@@ -215,7 +202,6 @@ fn serve_high(
             rows,
             tab,
             &mut names,
-            consts,
             sections,
             false,
             clash,
@@ -235,7 +221,6 @@ fn serve_with(
     places: &[usize],
     rows: &mut [usize],
     tab: &mut [u8],
-    consts: &mut [u8],
     old: &[u8],
     inputs: &[u8],
     new: &mut [u8],
@@ -255,7 +240,6 @@ fn serve_with(
             places,
             rows,
             tab,
-            consts,
             sections,
             clash,
             old,
@@ -273,7 +257,6 @@ fn serve_with(
             places,
             rows,
             tab,
-            consts,
             sections,
             old,
             inputs,
@@ -299,7 +282,6 @@ fn serve_small(
 {
     let mut rows = [0usize; ROWS];
     let mut tab = [0u8; SMALL_TAB];
-    let mut consts = [0u8; 576];
     serve_with(
         call,
         file,
@@ -307,7 +289,6 @@ fn serve_small(
         places,
         &mut rows,
         &mut tab,
-        &mut consts,
         old,
         inputs,
         new,
@@ -345,7 +326,6 @@ fn serve_large(
     } else {
         let mut rows = [0usize; ROWS];
         let mut tab = [0u8; LARGE_TAB];
-        let mut consts = [0u8; 576];
         serve_with(
             call,
             file,
@@ -353,7 +333,6 @@ fn serve_large(
             places,
             &mut rows,
             &mut tab,
-            &mut consts,
             old,
             inputs,
             new,

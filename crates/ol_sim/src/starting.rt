@@ -3,6 +3,9 @@ use crate::calls::Answer;
 use ol_frame::copies::copy;
 use ol_spec::Fault;
 use ol_state::fresh::write_fresh;
+use ol_tables::bytes::byte;
+use ol_tables::table::CONSTANTS;
+use ol_tables::table::KNOWN;
 ghost use mathlib.Core.Path.{_≡_};
 ghost use Rattle.ol_spec.specs.Cycle.{startJudged};
 ghost use Rattle.ol_spec.specs.State.{freshState};
@@ -17,25 +20,22 @@ ghost use Rattle.ol_sim.specs.Serving.{startedOf};
 fn write_start(
     file: &[u8],
     tab: &[u8],
-    rows: &[usize],
-    consts: &[u8],
     main: usize,
     state: &mut [u8],
 )
     requires { ⌜ StartReady (now file) (now rows) (now tab) (now consts) main (now state) ⌝ }
     ensures { λ _. ⌜ now (state .exit) ≡ freshState (fileAt (now (file .entry))) (valuesIn (fileAt (now (file .entry)))) ⌝ }
 {
-    let n = consts.len();
-    copy(consts, &mut state[..n]);
-    write_fresh(file, tab, rows, main, &mut state[n..]);
+    let n = 9 * byte(tab, KNOWN);
+    let end = CONSTANTS + n;
+    copy(&tab[CONSTANTS..end], &mut state[..n]);
+    write_fresh(file, tab, main, &mut state[n..]);
 }
 
 // 17, then the fresh state.
 pub(crate) fn start_unless(
     file: &[u8],
     tab: &[u8],
-    rows: &[usize],
-    consts: &[u8],
     size: usize,
     main: usize,
     state: &mut [u8],
@@ -44,7 +44,7 @@ pub(crate) fn start_unless(
     ensures { λ r. ⌜ StartsAs (startJudged (whole (fileAt (now (file .entry)))) (now (state .entry))) (startedOf r) (now (state .exit)) ⌝ }
 {
     if state.len() == size {
-        write_start(file, tab, rows, consts, main, state);
+        write_start(file, tab, main, state);
         Answer::Done(size)
     } else {
         Answer::Refused(Fault {
