@@ -11,6 +11,10 @@ ghost use Rattle.ol_tables.specs.At.{exprAt, endAt, nodeIn};
 ghost use Rattle.ol_frame.specs.Outcomes.{kindOf, commonOut};
 ghost use Rattle.ol_frame.specs.Walk.{nodesIn};
 ghost use Rattle.ol_frame.specs.Plans.{Program, globalsIn, scopeIn, Nameable, Looked, Plan, Cells, nameAt, Leaf, evalIn, segsAt};
+use crate::frame::BEFORE;
+use crate::frame::CELLS;
+use crate::frame::FRAME;
+use crate::frame::is_first;
 use crate::outcomes::RealKind;
 use crate::outcomes::common_out;
 use crate::outcomes::is_single;
@@ -26,10 +30,6 @@ use crate::tables::slot_at;
 use ol_spec::Outcome;
 use ol_spec::Value;
 use ol_tables::table::CONSTANTS;
-use crate::frame::BEFORE;
-use crate::frame::CELLS;
-use crate::frame::FRAME;
-use crate::frame::is_first;
 use ol_tables::tables::INPUTS;
 use ol_value::cell::read_cell;
 
@@ -59,12 +59,7 @@ fn variant(file: &[u8], at: usize) -> Value
 }
 
 // The name at `at`: a variable's present cell, a constant's value or a variant.
-pub fn present(
-    file: &[u8],
-    tab: &[u8],
-    frame: &[u8; FRAME],
-    at: usize,
-) -> Outcome
+pub fn present(file: &[u8], tab: &[u8], frame: &[u8; FRAME], at: usize) -> Outcome
     requires { ⌜ Nameable (now file) (now tab) (now consts) node at × Cells (now file) node (now cells) ⌝ }
     ensures { λ r. ⌜ r ≡ orFailure (presentOf (globalsIn (now (file .entry)) (now (consts .entry))) (scopeIn (now (file .entry)) node false (now (cells .entry)) (now (cells .entry))) (nameAt (now (file .entry)) at)) ⌝ }
 {
@@ -79,13 +74,7 @@ pub fn present(
 }
 
 // Pre of the expression at `at`: fails at a first cycle, and on anything but a variable or constant.
-fn previous(
-    file: &[u8],
-    tab: &[u8],
-    frame: &[u8; FRAME],
-    at: usize,
-    level: usize,
-) -> Outcome
+fn previous(file: &[u8], tab: &[u8], frame: &[u8; FRAME], at: usize, level: usize) -> Outcome
     requires { ⌜ Looked (now file) (now tab) (now consts) node level at × Cells (now file) node (now before) ⌝ }
     ensures { λ r. ⌜ r ≡ preOf (globalsIn (now (file .entry)) (now (consts .entry))) (scopeIn (now (file .entry)) node first (now (before .entry)) (now (before .entry))) first (exprAt (now (file .entry)) level at) ⌝ }
 {
@@ -107,13 +96,7 @@ fn previous(
 }
 
 // What the form at `at` yields, where no part of it is evaluated: a literal, a Var, a Pre; a Tuple fails.
-pub fn leaf_out(
-    file: &[u8],
-    tab: &[u8],
-    at: usize,
-    level: usize,
-    frame: &[u8; FRAME],
-) -> Outcome
+pub fn leaf_out(file: &[u8], tab: &[u8], at: usize, level: usize, frame: &[u8; FRAME]) -> Outcome
     requires { ⌜ Plan (now file) (now tab) (now rows) (now consts) node level 1 at × Cells (now file) node (now cells) × Cells (now file) node (now before) × Leaf (getD (now file) at 0) ⌝ }
     ensures { λ r. ⌜ ((seg : List ℕ) → r ≡ evalIn (now (file .entry)) (now (consts .entry)) node first (now (cells .entry)) (now (before .entry)) (exprAt (now (file .entry)) level at) seg .out) ⌝ }
 {
@@ -141,13 +124,7 @@ fn call_kind(file: &[u8], tab: &[u8], k: usize) -> RealKind
 }
 
 // How the expression at `at` counts as real.
-fn real_kind(
-    file: &[u8],
-    tab: &[u8],
-    frame: &[u8; FRAME],
-    at: usize,
-    level: usize,
-) -> RealKind
+fn real_kind(file: &[u8], tab: &[u8], frame: &[u8; FRAME], at: usize, level: usize) -> RealKind
     requires { ⌜ Plan (now file) (now tab) (now rows) (now consts) node level 1 at × Cells (now file) node (now cells) × (segsAt (now file) level 1 at ≤ 32768) ⌝ }
     ensures { λ r. ⌜ kindOf r ≡ realKind (globalsIn (now (file .entry)) (now (consts .entry))) (scopeIn (now (file .entry)) node false (now (cells .entry)) (now (cells .entry))) (exprAt (now (file .entry)) level at) ⌝ }
 {
@@ -184,13 +161,7 @@ fn real_kind(
 }
 
 // Of two expressions, the first of which is at `at`: one double makes both double.
-fn real_kinds(
-    file: &[u8],
-    tab: &[u8],
-    frame: &[u8; FRAME],
-    at: usize,
-    level: usize,
-) -> RealKind
+fn real_kinds(file: &[u8], tab: &[u8], frame: &[u8; FRAME], at: usize, level: usize) -> RealKind
     requires { ⌜ Plan (now file) (now tab) (now rows) (now consts) node level 2 at × Cells (now file) node (now cells) × (segsAt (now file) level 2 at ≤ 32768) ⌝ }
     ensures { λ r. ⌜ kindOf r ≡ join (realKind (globalsIn (now (file .entry)) (now (consts .entry))) (scopeIn (now (file .entry)) node false (now (cells .entry)) (now (cells .entry))) (exprAt (now (file .entry)) level at)) (realKind (globalsIn (now (file .entry)) (now (consts .entry))) (scopeIn (now (file .entry)) node false (now (cells .entry)) (now (cells .entry))) (exprAt (now (file .entry)) level (endAt (now (file .entry)) level at))) ⌝ }
 {

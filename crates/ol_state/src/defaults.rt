@@ -7,11 +7,11 @@ ghost use Rattle.ol_tables.specs.Tables.{rowAt};
 ghost use Rattle.ol_tables.specs.Table.{tabOf, rowsOf};
 ghost use Rattle.ol_state.specs.Defaults.{defaultCell, cellsAt};
 use ol_tables::bytes::byte;
+use ol_tables::table::TYPES;
+use ol_tables::table::column;
 use ol_tables::table::first_variant;
 use ol_tables::tables::MOST_VARIABLES;
-use ol_tables::table::TYPES;
 use ol_tables::tables::VARIABLES;
-use ol_tables::table::column;
 use ol_value::cell::write_cell;
 use ol_value::types::default_value;
 

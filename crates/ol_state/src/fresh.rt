@@ -12,13 +12,13 @@ ghost use Rattle.ol_state.specs.Known.{Counted, Sited};
 use crate::defaults::write_own;
 use crate::sites::next_site;
 use ol_tables::bytes::byte;
+use ol_tables::table::column;
 use ol_tables::tables::COUNT;
 use ol_tables::tables::EQUATIONS;
 use ol_tables::tables::KIND;
 use ol_tables::tables::PLACE;
 use ol_tables::tables::SIZE;
 use ol_tables::tables::VARIABLES;
-use ol_tables::table::column;
 
 // The number of the main node, the last one: the nodes' count stands before the first node.
 pub(crate) fn main_node(file: &[u8], tab: &[u8]) -> usize

@@ -21,19 +21,19 @@ mod own; // own.rt: a record's started byte and cells
 use crate::fresh::main_node;
 use crate::sites::next_site;
 use cells::same_bytes;
-use ol_tables::table::CONSTANTS;
-use ol_tables::table::KNOWN;
 use inputs::judge_input;
 use ol_tables::bytes::byte;
+use ol_tables::table::CONSTANTS;
+use ol_tables::table::KNOWN;
+use ol_tables::table::TYPES;
+use ol_tables::table::column;
 use ol_tables::tables::COUNT;
 use ol_tables::tables::EQUATIONS;
 use ol_tables::tables::INPUTS;
 use ol_tables::tables::KIND;
 use ol_tables::tables::MOST_VARIABLES;
 use ol_tables::tables::SIZE;
-use ol_tables::table::TYPES;
 use ol_tables::tables::VARIABLES;
-use ol_tables::table::column;
 use own::good_own;
 
 // Whether the record of a call site of node k, which is all of `r`, is good: its own bytes, then the
@@ -75,12 +75,7 @@ fn good_record(file: &[u8], tab: &[u8], variants: &[u8], k: usize, r: &[u8]) -> 
 }
 
 // 15: whether an old state is well formed: its length, the constants' cells, then the main record.
-pub fn good_state(
-    file: &[u8],
-    tab: &[u8],
-    variants: &[u8],
-    state: &[u8],
-) -> bool
+pub fn good_state(file: &[u8], tab: &[u8], variants: &[u8], state: &[u8]) -> bool
     requires { ⌜ Ready (fileAt (now file)) (now file) (tabOf (now tab)) (rowsOf (now tab)) (now variants) (constsOf (now tab)) ⌝ }
     ensures { λ b. ⌜ ((vs : List Value) → constsOf (now (tab .entry)) ≡ cells vs → b ≡ goodState (fileAt (now (file .entry))) vs (now (state .entry))) ⌝ }
 {

@@ -11,9 +11,9 @@ ghost use Rattle.ol_state.specs.Own.{goodBytes};
 use crate::cells::good_cells;
 use crate::cells::same_bytes;
 use crate::defaults::write_defaults;
+use ol_tables::table::column;
 use ol_tables::tables::MOST_CELLS;
 use ol_tables::tables::VARIABLES;
-use ol_tables::table::column;
 
 // Whether the cells are the defaults of node k's variables.
 fn are_defaults(tab: &[u8], k: usize, cells: &[u8]) -> bool
