@@ -22,11 +22,11 @@ module _ (t : List ℕ) (k i : ℕ) where
       h ∙ ap (λ n. getD t n 0) e ∙ sym (getD-drop 1393 t (2560 + (k * 112 + i) * 2 + 1) 0)
 
 -- the constants' cells are in the table
-pub known-room : {f : File} {n : ℕ} {t : List ℕ} → Tab f n (tabOf t) → 11121 ≤ length t
-known-room {f} {n} {t} h = omega (arith, h .long, length-drop 1393 t)
+pub known-room : {f : File} {n : ℕ} (t : List ℕ) → Tab f n (tabOf t) → 11121 ≤ length t
+known-room t h = omega (arith, h .long, length-drop 1393 t)
 
-pub consts-long : (t : List ℕ) → 817 + 9 * knownOf t ≤ length t → length (constsOf t) ≡ 9 * knownOf t
-consts-long t h = length-take-le (9 * knownOf t) (drop 817 t) (omega (arith, h, length-drop 817 t))
+pub known-head : (t : List ℕ) {b : ℕ} → b ≡ knownOf t → b < 256 → 11121 ≤ length t → 9 * b ≡ length (constsOf t)
+known-head t e small room = omega (arith, e, length-take-le (9 * knownOf t) (drop 817 t) (omega (arith, e, small, room, length-drop 817 t)))
 
 -- they, as they are lent
 pub consts-lent : (t : List ℕ) {b : ℕ} → b ≡ knownOf t → take (817 + 9 * b - 817) (drop 817 t) ≡ constsOf t
