@@ -23,6 +23,8 @@ ghost use Prim.Native.Nat.{_*_, _≤_};
 ghost use lib.ListN.{length, drop};
 ghost use Rattle.ol_spec.specs.Cell.{valuesOf};
 ghost use Rattle.ol_spec.specs.declared.Value.{Value};
+ghost use Rattle.ol_tables.specs.Table.{tabOf, rowsOf, constsOf};
+ghost use Rattle.ol_frame.specs.Frame.{cellsOf};
 ghost use Rattle.ol_run.specs.MainCycle.{RecordReady, RecordRan, RunReady, CyclesTo};
 
 // The cells that a run starts from: k inputs, then the held cells up to n.
@@ -34,7 +36,7 @@ fn begin(k: usize, n: usize, inputs: &[u8], held: &[u8], present: &mut [u8])
     copy_cells(k, n, held, present);
 }
 
-// The run on the main record: the segments of its equations are moved, the rest of it stays.
+// The run on the main record, in a frame of its own: the segments of its equations are moved, the rest of it stays.
 fn run_record(
     file: &[u8],
     tab: &[u8],
@@ -44,15 +46,15 @@ fn run_record(
     new: &mut [u8],
     frame: &mut [u8; FRAME],
 ) -> Ended
-    requires { ⌜ RecordReady (now file) (now tab) (now rows) (now consts) main (now inputs) (now old) (now new) (now present) ⌝ }
-    ensures { λ r. ⌜ RecordRan (now (file .entry)) (now (consts .entry)) main (now (inputs .entry)) (now (old .entry)) r (now (new .exit)) (now (present .exit)) ⌝ }
+    requires { ⌜ RecordReady (now file) (tabOf (now tab)) (rowsOf (now tab)) (constsOf (now tab)) main (now inputs) (now old) (now new) (now frame) ⌝ }
+    ensures { λ r. ⌜ RecordRan (now (file .entry)) (constsOf (now (tab .entry))) main (now (inputs .entry)) (now (old .entry)) r (now (new .exit)) (cellsOf (now (frame .exit))) ⌝ }
 {
     let n = row(tab, main, VARIABLES);
     let k = row(tab, main, INPUTS);
     let own = 1 + 9 * n;
     set_frame(frame, main, old[0] == 0);
     copy_cells(0, n, &old[1..], &mut frame[BEFORE..]);
-    begin(k, n, inputs, &old[1..], &mut frame[CELLS..]);
+    begin(k, n, inputs, &old[1..], &mut frame[CELLS..BEFORE]);
     run(file, tab, frame, &old[own..], &mut new[own..])
 }
 
@@ -67,8 +69,8 @@ pub fn run_main(
     new: &mut [u8],
     values: &mut [u8],
 ) -> Cycled
-    requires { ⌜ RunReady (now file) (now tab) (now rows) (now consts) main (now old) (now inputs) (now new) (now values) ⌝ }
-    ensures { λ r. ⌜ ((vs : List Value) → CyclesTo (now (file .entry)) (now (consts .entry)) vs (now (old .entry)) (now (inputs .entry)) (now (values .entry)) r (now (new .exit)) (now (values .exit))) ⌝ }
+    requires { ⌜ RunReady (now file) (tabOf (now tab)) (rowsOf (now tab)) (constsOf (now tab)) main (now old) (now inputs) (now new) (now values) ⌝ }
+    ensures { λ r. ⌜ ((vs : List Value) → CyclesTo (now (file .entry)) (constsOf (now (tab .entry))) vs (now (old .entry)) (now (inputs .entry)) (now (values .entry)) r (now (new .exit)) (now (values .exit))) ⌝ }
 {
     let n = row(tab, main, VARIABLES);
     let head = 9 * byte(tab, KNOWN);
@@ -87,8 +89,8 @@ pub fn run_main(
     let place = r.index;
     match end {
         Ending::Values => {
-            finish(n, &frame[CELLS..], &mut new[head..]);
-            write_cells(n, &frame[CELLS..], values);
+            finish(n, &frame[CELLS..BEFORE], &mut new[head..]);
+            write_cells(n, &frame[CELLS..BEFORE], values);
             Cycled::Answered
         }
         Ending::Failed => Cycled::Stopped(Fault { number: 18, place }),
