@@ -383,7 +383,16 @@ fn enter(
     let p = at + 1;
     let k = number(file[p]);
     let size = row(tab, k, SIZE);
-    let a = eval_all(file, tab, at, level - 1, frame, args, &old[size..], &mut new[size..]);
+    let a = eval_all(
+        file,
+        tab,
+        at,
+        level - 1,
+        frame,
+        args,
+        &old[size..],
+        &mut new[size..],
+    );
     let used = size + a.used;
     let end = a.end;
     if let Ending::Values = end {
@@ -563,13 +572,7 @@ pub struct Ended {
 }
 
 // All equations of the frame's node in evaluation order.
-pub fn run(
-    file: &[u8],
-    tab: &[u8],
-    frame: &mut [u8; FRAME],
-    old: &[u8],
-    new: &mut [u8],
-) -> Ended
+pub fn run(file: &[u8], tab: &[u8], frame: &mut [u8; FRAME], old: &[u8], new: &mut [u8]) -> Ended
     requires { ⌜ Framed (now frame) × Runnable (now file) (tabOf (now tab)) (rowsOf (now tab)) (constsOf (now tab)) (nodeOf (now frame)) (cellsOf (now frame)) (beforeOf (now frame)) (now old) (now new) ⌝ }
     ensures { λ r. ⌜ RunTo (now (file .entry)) (constsOf (now (tab .entry))) (nodeOf (now (frame .entry))) (firstOf (now (frame .entry))) (cellsOf (now (frame .entry))) (beforeOf (now (frame .entry))) (now (old .entry)) r (cellsOf (now (frame .exit))) (now (new .exit)) ⌝ }
 {

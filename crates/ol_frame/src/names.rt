@@ -13,6 +13,10 @@ ghost use Rattle.ol_frame.specs.Frame.{Framed, nodeOf, firstOf, cellsOf,
 ghost use Rattle.ol_frame.specs.Outcomes.{kindOf, commonOut};
 ghost use Rattle.ol_frame.specs.Walk.{nodesIn};
 ghost use Rattle.ol_frame.specs.Plans.{Program, globalsIn, scopeIn, Nameable, Looked, Plan, Cells, nameAt, Leaf, evalIn, segsAt};
+use crate::frame::BEFORE;
+use crate::frame::CELLS;
+use crate::frame::FRAME;
+use crate::frame::is_first;
 use crate::outcomes::RealKind;
 use crate::outcomes::common_out;
 use crate::outcomes::is_single;
@@ -28,10 +32,6 @@ use crate::tables::slot_at;
 use ol_spec::Outcome;
 use ol_spec::Value;
 use ol_tables::table::CONSTANTS;
-use crate::frame::BEFORE;
-use crate::frame::CELLS;
-use crate::frame::FRAME;
-use crate::frame::is_first;
 use ol_tables::tables::INPUTS;
 use ol_value::cell::read_cell;
 
@@ -61,12 +61,7 @@ fn variant(file: &[u8], at: usize) -> Value
 }
 
 // The name at `at`: a variable's present cell, a constant's value or a variant.
-pub fn present(
-    file: &[u8],
-    tab: &[u8],
-    frame: &[u8; FRAME],
-    at: usize,
-) -> Outcome
+pub fn present(file: &[u8], tab: &[u8], frame: &[u8; FRAME], at: usize) -> Outcome
     requires { ⌜ Framed (now frame) × Nameable (now file) (tabOf (now tab)) (constsOf (now tab)) (nodeOf (now frame)) at × Cells (now file) (nodeOf (now frame)) (cellsOf (now frame)) ⌝ }
     ensures { λ r. ⌜ r ≡ orFailure (presentOf (globalsIn (now (file .entry)) (constsOf (now (tab .entry)))) (scopeIn (now (file .entry)) (nodeOf (now (frame .entry))) false (cellsOf (now (frame .entry))) (cellsOf (now (frame .entry)))) (nameAt (now (file .entry)) at)) ⌝ }
 {
@@ -81,13 +76,7 @@ pub fn present(
 }
 
 // Pre of the expression at `at`: fails at a first cycle, and on anything but a variable or constant.
-fn previous(
-    file: &[u8],
-    tab: &[u8],
-    frame: &[u8; FRAME],
-    at: usize,
-    level: usize,
-) -> Outcome
+fn previous(file: &[u8], tab: &[u8], frame: &[u8; FRAME], at: usize, level: usize) -> Outcome
     requires { ⌜ Framed (now frame) × Looked (now file) (tabOf (now tab)) (constsOf (now tab)) (nodeOf (now frame)) level at × Cells (now file) (nodeOf (now frame)) (beforeOf (now frame)) ⌝ }
     ensures { λ r. ⌜ r ≡ preOf (globalsIn (now (file .entry)) (constsOf (now (tab .entry)))) (scopeIn (now (file .entry)) (nodeOf (now (frame .entry))) (firstOf (now (frame .entry))) (beforeOf (now (frame .entry))) (beforeOf (now (frame .entry)))) (firstOf (now (frame .entry))) (exprAt (now (file .entry)) level at) ⌝ }
 {
@@ -109,13 +98,7 @@ fn previous(
 }
 
 // What the form at `at` yields, where no part of it is evaluated: a literal, a Var, a Pre; a Tuple fails.
-pub fn leaf_out(
-    file: &[u8],
-    tab: &[u8],
-    at: usize,
-    level: usize,
-    frame: &[u8; FRAME],
-) -> Outcome
+pub fn leaf_out(file: &[u8], tab: &[u8], at: usize, level: usize, frame: &[u8; FRAME]) -> Outcome
     requires { ⌜ Framed (now frame) × Plan (now file) (tabOf (now tab)) (rowsOf (now tab)) (constsOf (now tab)) (nodeOf (now frame)) level 1 at × Cells (now file) (nodeOf (now frame)) (cellsOf (now frame)) × Cells (now file) (nodeOf (now frame)) (beforeOf (now frame)) × Leaf (getD (now file) at 0) ⌝ }
     ensures { λ r. ⌜ ((seg : List ℕ) → r ≡ evalIn (now (file .entry)) (constsOf (now (tab .entry))) (nodeOf (now (frame .entry))) (firstOf (now (frame .entry))) (cellsOf (now (frame .entry))) (beforeOf (now (frame .entry))) (exprAt (now (file .entry)) level at) seg .out) ⌝ }
 {
@@ -143,13 +126,7 @@ fn call_kind(file: &[u8], tab: &[u8], k: usize) -> RealKind
 }
 
 // How the expression at `at` counts as real.
-fn real_kind(
-    file: &[u8],
-    tab: &[u8],
-    frame: &[u8; FRAME],
-    at: usize,
-    level: usize,
-) -> RealKind
+fn real_kind(file: &[u8], tab: &[u8], frame: &[u8; FRAME], at: usize, level: usize) -> RealKind
     requires { ⌜ Framed (now frame) × Plan (now file) (tabOf (now tab)) (rowsOf (now tab)) (constsOf (now tab)) (nodeOf (now frame)) level 1 at × Cells (now file) (nodeOf (now frame)) (cellsOf (now frame)) × (segsAt (now file) level 1 at ≤ 32768) ⌝ }
     ensures { λ r. ⌜ kindOf r ≡ realKind (globalsIn (now (file .entry)) (constsOf (now (tab .entry)))) (scopeIn (now (file .entry)) (nodeOf (now (frame .entry))) false (cellsOf (now (frame .entry))) (cellsOf (now (frame .entry)))) (exprAt (now (file .entry)) level at) ⌝ }
 {
@@ -186,13 +163,7 @@ fn real_kind(
 }
 
 // Of two expressions, the first of which is at `at`: one double makes both double.
-fn real_kinds(
-    file: &[u8],
-    tab: &[u8],
-    frame: &[u8; FRAME],
-    at: usize,
-    level: usize,
-) -> RealKind
+fn real_kinds(file: &[u8], tab: &[u8], frame: &[u8; FRAME], at: usize, level: usize) -> RealKind
     requires { ⌜ Framed (now frame) × Plan (now file) (tabOf (now tab)) (rowsOf (now tab)) (constsOf (now tab)) (nodeOf (now frame)) level 2 at × Cells (now file) (nodeOf (now frame)) (cellsOf (now frame)) × (segsAt (now file) level 2 at ≤ 32768) ⌝ }
     ensures { λ r. ⌜ kindOf r ≡ join (realKind (globalsIn (now (file .entry)) (constsOf (now (tab .entry)))) (scopeIn (now (file .entry)) (nodeOf (now (frame .entry))) false (cellsOf (now (frame .entry))) (cellsOf (now (frame .entry)))) (exprAt (now (file .entry)) level at)) (realKind (globalsIn (now (file .entry)) (constsOf (now (tab .entry)))) (scopeIn (now (file .entry)) (nodeOf (now (frame .entry))) false (cellsOf (now (frame .entry))) (cellsOf (now (frame .entry)))) (exprAt (now (file .entry)) level (endAt (now (file .entry)) level at))) ⌝ }
 {

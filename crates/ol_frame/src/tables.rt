@@ -1,10 +1,10 @@
 // Entries of the tables of a file.
-use ol_tables::tables::COLUMNS;
-use ol_tables::tables::MOST_EQUATIONS;
-use ol_tables::tables::MOST_VARIABLES;
 use ol_tables::table::ORDERS;
 use ol_tables::table::SLOTS;
 use ol_tables::table::TYPES;
+use ol_tables::tables::COLUMNS;
+use ol_tables::tables::MOST_EQUATIONS;
+use ol_tables::tables::MOST_VARIABLES;
 ghost use mathlib.Core.Path.{_≡_};
 ghost use Prim.Native.Nat.{_<_, _≤_};
 ghost use lib.ListN.{length};

@@ -11,13 +11,13 @@ ghost use Rattle.ol_run.specs.Constants.{ConstantReady, ConstantsReady, 
 ghost use Rattle.ol_spec.specs.Admission.{constants};
 ghost use Rattle.ol_tables.specs.At.{fileAt, endAt};
 use ol_eval::eval::eval;
+use ol_frame::frame::FRAME;
+use ol_frame::frame::set_frame;
 use ol_frame::outcomes::kept;
 use ol_frame::skip::pass;
 use ol_spec::Outcome;
 use ol_tables::heads::ty_size;
 use ol_tables::table::CONSTANTS;
-use ol_frame::frame::FRAME;
-use ol_frame::frame::set_frame;
 use ol_tables::table::KNOWN;
 use ol_value::cell::write_cell;
 use ol_value::types::fit_to;
@@ -40,8 +40,7 @@ fn fitted(code: u8, o: Outcome) -> Outcome
 }
 
 // The value of the constant at `at`, where those before it have their cells in the table; the file has so many nodes.
-fn constant_value(file: &[u8], tab: &[u8], at: usize, frame: &[u8; FRAME]) -> Outcome
-{
+fn constant_value(file: &[u8], tab: &[u8], at: usize, frame: &[u8; FRAME]) -> Outcome {
     let p = at + 2;
     let code = file[p];
     let e = p + ty_size(file, p);
@@ -53,8 +52,7 @@ fn constant_value(file: &[u8], tab: &[u8], at: usize, frame: &[u8; FRAME]) -> Ou
 }
 
 // Where constant i, which stands at `at`, ends.
-fn constant_end(file: &[u8], tab: &[u8], at: usize) -> usize
-{
+fn constant_end(file: &[u8], tab: &[u8], at: usize) -> usize {
     let p = at + 2;
     let e = p + ty_size(file, p);
     let s = pass(file, tab, e, 24);
@@ -68,8 +66,7 @@ pub fn constant_values(
     nodes: usize,
     at: usize,
     count: usize,
-) -> Found
-{
+) -> Found {
     let mut frame = [0u8; FRAME];
     set_frame(&mut frame, nodes, true);
     let mut pos = at;

@@ -5,17 +5,17 @@ use ol_frame::copies::copy;
 use ol_frame::copies::copy_cells;
 use ol_frame::copies::finish;
 use ol_frame::copies::write_cells;
-use ol_frame::outcomes::Ending;
-use ol_frame::tables::row;
-use ol_spec::Cycled;
-use ol_spec::Fault;
-use ol_tables::tables::INPUTS;
-use ol_tables::bytes::byte;
 use ol_frame::frame::BEFORE;
 use ol_frame::frame::CELLS;
 use ol_frame::frame::FRAME;
 use ol_frame::frame::set_frame;
+use ol_frame::outcomes::Ending;
+use ol_frame::tables::row;
+use ol_spec::Cycled;
+use ol_spec::Fault;
+use ol_tables::bytes::byte;
 use ol_tables::table::KNOWN;
+use ol_tables::tables::INPUTS;
 use ol_tables::tables::VARIABLES;
 ghost use mathlib.Core.Path.{_≡_};
 ghost use mathlib.Core.List.{List, _++_};
@@ -53,13 +53,7 @@ fn run_record(
     set_frame(frame, main, old[0] == 0);
     copy_cells(0, n, &old[1..], &mut frame[BEFORE..]);
     begin(k, n, inputs, &old[1..], &mut frame[CELLS..]);
-    run(
-        file,
-        tab,
-        frame,
-        &old[own..],
-        &mut new[own..],
-    )
+    run(file, tab, frame, &old[own..], &mut new[own..])
 }
 
 // The cycle: the new state and the values. 18 keeps the main cells and the started byte, with the

@@ -12,12 +12,12 @@ use ol_run::constants::constant_values;
 use ol_spec::Fault;
 use ol_tables::bytes::byte;
 use ol_tables::table::ORDERS;
+use ol_tables::table::SLOTS;
+use ol_tables::table::TYPES;
+use ol_tables::table::pack;
 use ol_tables::tables::COLUMNS;
 use ol_tables::tables::FIRSTS;
 use ol_tables::tables::PLACE;
-use ol_tables::table::pack;
-use ol_tables::table::SLOTS;
-use ol_tables::table::TYPES;
 use ol_tables::tables::row;
 ghost use mathlib.Core.Path.{_≡_};
 ghost use mathlib.Core.Option.{none};
@@ -59,13 +59,7 @@ fn too_long(file: &[u8], rows: &[usize], main: usize, size: usize) -> Found
 }
 
 // 13 and 14.
-fn judge_main(
-    file: &[u8],
-    rows: &[usize],
-    size: usize,
-    main: usize,
-    count: usize,
-) -> Judged
+fn judge_main(file: &[u8], rows: &[usize], size: usize, main: usize, count: usize) -> Judged
     requires { ⌜ MainReady (now file) (now rows) (now tab) (now consts) size main count ⌝ }
     ensures { λ r. ⌜ Judges (now (file .entry)) (from13 (fileAt (now (file .entry)))) (now (rows .entry)) (now (tab .entry)) (now (consts .entry)) r ⌝ }
 {

@@ -13,10 +13,10 @@ use ol_check::rows::rows_of;
 use ol_ir::Loaded;
 use ol_ir::project::load_file;
 use ol_tables::table::LARGE_TAB;
-use ol_tables::tables::ROWS;
 use ol_tables::table::SLOTS;
 use ol_tables::table::SMALL_TAB;
 use ol_tables::table::TYPES;
+use ol_tables::tables::ROWS;
 ghost use mathlib.Core.Path.{_≡_};
 ghost use mathlib.Core.Bool.{true};
 ghost use Prim.Native.Nat.{_≤_};
@@ -52,17 +52,7 @@ fn answer(
         Call::Start => start_unless(file, tab, size, main, new),
         Call::Cycle => answer_of(
             size,
-            cycle_unless(
-                file,
-                tab,
-                names,
-                size,
-                main,
-                old,
-                inputs,
-                new,
-                values,
-            ),
+            cycle_unless(file, tab, names, size, main, old, inputs, new, values),
         ),
     }
 }
@@ -88,31 +78,10 @@ fn serve_named(
     requires { ⌜ placeOf clash ≡ fault6 (fileAt (now file)) ⌝ }
     ensures { λ r. ⌜ Serves call (now (file .entry)) (now (old .entry)) (now (inputs .entry)) (now (new .entry)) (now (values .entry)) r (now (new .exit)) (now (values .exit)) ⌝ }
 {
-    match judge_names(
-        file,
-        enums,
-        places,
-        rows,
-        tab,
-        names,
-        sections,
-        low,
-        clash,
-    ) {
+    match judge_names(file, enums, places, rows, tab, names, sections, low, clash) {
         Judged::Refused(f) => Answer::Refused(f),
         Judged::Admitted(size, main, count) => {
-            answer(
-                call,
-                file,
-                tab,
-                names,
-                size,
-                main,
-                old,
-                inputs,
-                new,
-                values,
-            )
+            answer(call, file, tab, names, size, main, old, inputs, new, values)
         }
     }
 }

@@ -17,12 +17,7 @@ ghost use Rattle.ol_sim.specs.Answering.{AnswerReady};
 ghost use Rattle.ol_sim.specs.Serving.{startedOf};
 
 // The constants' cells, then the main instance, fresh.
-fn write_start(
-    file: &[u8],
-    tab: &[u8],
-    main: usize,
-    state: &mut [u8],
-)
+fn write_start(file: &[u8], tab: &[u8], main: usize, state: &mut [u8])
     requires { ⌜ StartReady (now file) (now rows) (now tab) (now consts) main (now state) ⌝ }
     ensures { λ _. ⌜ now (state .exit) ≡ freshState (fileAt (now (file .entry))) (valuesIn (fileAt (now (file .entry)))) ⌝ }
 {

@@ -7,21 +7,22 @@ ghost use Rattle.ol_spec.specs.declared.Value.{Value};
 ghost use Rattle.ol_spec.specs.Step.{freshAt};
 ghost use Rattle.ol_spec.specs.State.{globalsOf};
 ghost use Rattle.ol_tables.specs.At.{fileAt};
+ghost use Rattle.ol_tables.specs.Table.{tabOf, rowsOf};
 ghost use Rattle.ol_state.specs.Known.{Counted, Sited};
 use crate::defaults::write_own;
 use crate::sites::next_site;
 use ol_tables::bytes::byte;
+use ol_tables::table::column;
 use ol_tables::tables::COUNT;
 use ol_tables::tables::EQUATIONS;
 use ol_tables::tables::KIND;
 use ol_tables::tables::PLACE;
 use ol_tables::tables::SIZE;
 use ol_tables::tables::VARIABLES;
-use ol_tables::table::column;
 
 // The number of the main node, the last one: the nodes' count stands before the first node.
 pub(crate) fn main_node(file: &[u8], tab: &[u8]) -> usize
-    requires { ⌜ Counted (fileAt (now file)) (now file) (now rows) ⌝ }
+    requires { ⌜ Counted (fileAt (now file)) (now file) (rowsOf (now tab)) ⌝ }
     ensures { λ r. ⌜ r + 1 ≡ length (fileAt (now (file .entry)) .nodes) ⌝ }
 {
     byte(file, column(tab, 0, PLACE) - 1) - 1
@@ -30,7 +31,7 @@ pub(crate) fn main_node(file: &[u8], tab: &[u8]) -> usize
 // Writes the fresh record of a call site of node k, which is all of `out`: byte 0 and default cells,
 // then the fresh records of its own call sites. Only an Operator's call site has one.
 pub fn write_fresh(file: &[u8], tab: &[u8], k: usize, out: &mut [u8])
-    requires { ⌜ Sited (fileAt (now file)) (now file) (now tab) (now rows) k (now out) ⌝ }
+    requires { ⌜ Sited (fileAt (now file)) (now file) (tabOf (now tab)) (rowsOf (now tab)) k (now out) ⌝ }
     ensures { λ _. ⌜ ((vs : List Value) → now (out .exit) ≡ freshAt (globalsOf (fileAt (now (file .entry))) vs) (length (fileAt (now (file .entry)) .nodes)) k) ⌝ }
 {
     if column(tab, k, KIND) == 1 {

@@ -7,6 +7,7 @@ ghost use Rattle.ol_spec.specs.Cell.{cells};
 ghost use Rattle.ol_spec.specs.State.{globalsOf, goodAt, goodState, goodInputs};
 ghost use Rattle.ol_tables.specs.At.{fileAt};
 ghost use Rattle.ol_tables.specs.Tables.{Variants};
+ghost use Rattle.ol_tables.specs.Table.{tabOf, rowsOf, constsOf};
 ghost use Rattle.ol_state.specs.Known.{Known, Sited};
 ghost use Rattle.ol_state.specs.Ready.{Ready};
 
@@ -20,25 +21,25 @@ mod own; // own.rt: a record's started byte and cells
 use crate::fresh::main_node;
 use crate::sites::next_site;
 use cells::same_bytes;
-use ol_tables::table::CONSTANTS;
-use ol_tables::table::KNOWN;
 use inputs::judge_input;
 use ol_tables::bytes::byte;
+use ol_tables::table::CONSTANTS;
+use ol_tables::table::KNOWN;
+use ol_tables::table::TYPES;
+use ol_tables::table::column;
 use ol_tables::tables::COUNT;
 use ol_tables::tables::EQUATIONS;
 use ol_tables::tables::INPUTS;
 use ol_tables::tables::KIND;
 use ol_tables::tables::MOST_VARIABLES;
 use ol_tables::tables::SIZE;
-use ol_tables::table::TYPES;
 use ol_tables::tables::VARIABLES;
-use ol_tables::table::column;
 use own::good_own;
 
 // Whether the record of a call site of node k, which is all of `r`, is good: its own bytes, then the
 // records of its own call sites, to the last byte. Only an Operator's call site has one.
 fn good_record(file: &[u8], tab: &[u8], variants: &[u8], k: usize, r: &[u8]) -> bool
-    requires { ⌜ Sited (fileAt (now file)) (now file) (now tab) (now rows) k (now r) × Variants (fileAt (now file)) (now variants) ⌝ }
+    requires { ⌜ Sited (fileAt (now file)) (now file) (tabOf (now tab)) (rowsOf (now tab)) k (now r) × Variants (fileAt (now file)) (now variants) ⌝ }
     ensures { λ b. ⌜ ((vs : List Value) → b ≡ goodAt (globalsOf (fileAt (now (file .entry))) vs) (length (fileAt (now (file .entry)) .nodes)) k (now (r .entry))) ⌝ }
 {
     if column(tab, k, KIND) == 1 {
@@ -74,15 +75,9 @@ fn good_record(file: &[u8], tab: &[u8], variants: &[u8], k: usize, r: &[u8]) -> 
 }
 
 // 15: whether an old state is well formed: its length, the constants' cells, then the main record.
-// `consts` has the constants' cells.
-pub fn good_state(
-    file: &[u8],
-    tab: &[u8],
-    variants: &[u8],
-    state: &[u8],
-) -> bool
-    requires { ⌜ Ready (fileAt (now file)) (now file) (now tab) (now rows) (now variants) (now consts) ⌝ }
-    ensures { λ b. ⌜ ((vs : List Value) → now (consts .entry) ≡ cells vs → b ≡ goodState (fileAt (now (file .entry))) vs (now (state .entry))) ⌝ }
+pub fn good_state(file: &[u8], tab: &[u8], variants: &[u8], state: &[u8]) -> bool
+    requires { ⌜ Ready (fileAt (now file)) (now file) (tabOf (now tab)) (rowsOf (now tab)) (now variants) (constsOf (now tab)) ⌝ }
+    ensures { λ b. ⌜ ((vs : List Value) → constsOf (now (tab .entry)) ≡ cells vs → b ≡ goodState (fileAt (now (file .entry))) vs (now (state .entry))) ⌝ }
 {
     let k = main_node(file, tab);
     let head = 9 * byte(tab, KNOWN);
@@ -101,7 +96,7 @@ pub fn good_state(
 // 16: whether inputs are a cell for each input of the main node, good, and of its type's kind, range
 // and enum.
 pub fn good_inputs(file: &[u8], tab: &[u8], variants: &[u8], inputs: &[u8]) -> bool
-    requires { ⌜ Known (fileAt (now file)) (now file) (now tab) (now rows) × Variants (fileAt (now file)) (now variants) ⌝ }
+    requires { ⌜ Known (fileAt (now file)) (now file) (tabOf (now tab)) (rowsOf (now tab)) × Variants (fileAt (now file)) (now variants) ⌝ }
     ensures { λ b. ⌜ b ≡ goodInputs (fileAt (now (file .entry))) (now (inputs .entry)) ⌝ }
 {
     let k = main_node(file, tab);

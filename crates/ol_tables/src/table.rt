@@ -56,7 +56,11 @@ pub fn column(tab: &[u8], k: usize, j: usize) -> usize
 pub fn first_variant(tab: &[u8], e: usize) -> usize
     ensures { λ r. ⌜ r ≡ firstAt (rowsOf (now (tab .entry))) e ⌝ }
 {
-    if e < ROWS { number_at(tab, FIRSTS + e) } else { 0 }
+    if e < ROWS {
+        number_at(tab, FIRSTS + e)
+    } else {
+        0
+    }
 }
 
 // Stores number i.
@@ -74,7 +78,7 @@ fn put_number(tab: &mut [u8], i: usize, n: usize)
 
 // Stores the numbers of the rows from index `first` up to `last`.
 pub fn pack(rows: &[usize], first: usize, last: usize, tab: &mut [u8])
-    requires { ⌜ (last ≤ 272) × (last ≤ length (now rows)) × (816 ≤ length (now tab)) × ((i : ℕ) → i < last → getD (now rows) i 0 < 16777216) ⌝ }
+    requires { ⌜ (first ≤ last) × (last ≤ 272) × (last ≤ length (now rows)) × (816 ≤ length (now tab)) × ((i : ℕ) → i < last → getD (now rows) i 0 < 16777216) ⌝ }
     ensures { λ _. ⌜ Packs (now (rows .entry)) first last (now (tab .entry)) (now (tab .exit)) ⌝ }
 {
     let mut i = first;
