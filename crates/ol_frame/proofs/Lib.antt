@@ -10,3 +10,4 @@ pub mod Planning
 pub mod RealKinds
 pub mod Running
 pub mod Storing
+pub mod Tabling

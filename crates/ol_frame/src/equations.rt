@@ -8,6 +8,7 @@ use ol_tables::tables::EQUATIONS;
 ghost use Prim.Native.Nat.{_≤_, _<_};
 ghost use lib.ListN.{length};
 ghost use mathlib.Core.Path.{_≡_};
+ghost use Rattle.ol_tables.specs.Table.{rowsOf};
 ghost use Rattle.ol_frame.specs.Walk.{Passable};
 ghost use Rattle.ol_frame.specs.Equations.{EquationsStand, EquationsAre, countIn, recordsIn, Bare, RightEnds};
 
@@ -19,7 +20,7 @@ struct Right {
 
 // The right side at `at` is passed over; where it has no records (`bare`), only its end is looked for.
 fn right_side(file: &[u8], tab: &[u8], at: usize, bare: bool) -> Right
-    requires { ⌜ Passable (now file) (now rows) 24 1 at × Bare (now file) at bare ⌝ }
+    requires { ⌜ Passable (now file) (rowsOf (now tab)) 24 1 at × Bare (now file) at bare × (816 ≤ length (now tab)) ⌝ }
     ensures { λ r. ⌜ RightEnds (now (file .entry)) at r ⌝ }
 {
     if bare {
@@ -45,7 +46,7 @@ pub fn equations(
     places: &mut [usize],
     offsets: &mut [usize],
 )
-    requires { ⌜ EquationsStand (now file) (now rows) k × (total ≡ recordsIn (now file) k) × (countIn (now file) k ≤ length (now places)) × (countIn (now file) k < length (now offsets)) ⌝ }
+    requires { ⌜ EquationsStand (now file) (rowsOf (now tab)) k × (total ≡ recordsIn (now file) k) × (countIn (now file) k ≤ length (now places)) × (countIn (now file) k < length (now offsets)) × (816 ≤ length (now tab)) ⌝ }
     ensures { λ _. ⌜ EquationsAre (now (file .entry)) k (now (places .exit)) (now (offsets .exit)) ⌝ }
 {
     let n = row(tab, k, COUNT);

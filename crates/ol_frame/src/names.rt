@@ -8,6 +8,8 @@ ghost use lib.ListN.{length, getD};
 ghost use Rattle.ol_spec.specs.Eval.{orFailure, presentOf, preOf, realKind, isDouble?, join, firstType};
 ghost use Rattle.ol_spec.specs.declared.Value.the-variants as Val;
 ghost use Rattle.ol_tables.specs.At.{exprAt, endAt, nodeIn};
+ghost use Rattle.ol_tables.specs.Table.{tabOf, rowsOf, constsOf};
+ghost use Rattle.ol_frame.specs.Frame.{Framed, nodeOf, firstOf, cellsOf, beforeOf};
 ghost use Rattle.ol_frame.specs.Outcomes.{kindOf, commonOut};
 ghost use Rattle.ol_frame.specs.Walk.{nodesIn};
 ghost use Rattle.ol_frame.specs.Plans.{Program, globalsIn, scopeIn, Nameable, Looked, Plan, Cells, nameAt, Leaf, evalIn, segsAt};
@@ -60,8 +62,8 @@ fn variant(file: &[u8], at: usize) -> Value
 
 // The name at `at`: a variable's present cell, a constant's value or a variant.
 pub fn present(file: &[u8], tab: &[u8], frame: &[u8; FRAME], at: usize) -> Outcome
-    requires { ⌜ Nameable (now file) (now tab) (now consts) node at × Cells (now file) node (now cells) ⌝ }
-    ensures { λ r. ⌜ r ≡ orFailure (presentOf (globalsIn (now (file .entry)) (now (consts .entry))) (scopeIn (now (file .entry)) node false (now (cells .entry)) (now (cells .entry))) (nameAt (now (file .entry)) at)) ⌝ }
+    requires { ⌜ Framed (now frame) × Nameable (now file) (tabOf (now tab)) (constsOf (now tab)) (nodeOf (now frame)) at × Cells (now file) (nodeOf (now frame)) (cellsOf (now frame)) ⌝ }
+    ensures { λ r. ⌜ r ≡ orFailure (presentOf (globalsIn (now (file .entry)) (constsOf (now (tab .entry)))) (scopeIn (now (file .entry)) (nodeOf (now (frame .entry))) false (cellsOf (now (frame .entry))) (cellsOf (now (frame .entry)))) (nameAt (now (file .entry)) at)) ⌝ }
 {
     let s = slot_at(tab, at);
     if s < 112 {
@@ -75,8 +77,8 @@ pub fn present(file: &[u8], tab: &[u8], frame: &[u8; FRAME], at: usize) -> Outco
 
 // Pre of the expression at `at`: fails at a first cycle, and on anything but a variable or constant.
 fn previous(file: &[u8], tab: &[u8], frame: &[u8; FRAME], at: usize, level: usize) -> Outcome
-    requires { ⌜ Looked (now file) (now tab) (now consts) node level at × Cells (now file) node (now before) ⌝ }
-    ensures { λ r. ⌜ r ≡ preOf (globalsIn (now (file .entry)) (now (consts .entry))) (scopeIn (now (file .entry)) node first (now (before .entry)) (now (before .entry))) first (exprAt (now (file .entry)) level at) ⌝ }
+    requires { ⌜ Framed (now frame) × Looked (now file) (tabOf (now tab)) (constsOf (now tab)) (nodeOf (now frame)) level at × Cells (now file) (nodeOf (now frame)) (beforeOf (now frame)) ⌝ }
+    ensures { λ r. ⌜ r ≡ preOf (globalsIn (now (file .entry)) (constsOf (now (tab .entry)))) (scopeIn (now (file .entry)) (nodeOf (now (frame .entry))) (firstOf (now (frame .entry))) (beforeOf (now (frame .entry))) (beforeOf (now (frame .entry)))) (firstOf (now (frame .entry))) (exprAt (now (file .entry)) level at) ⌝ }
 {
     if is_first(frame) {
         return Outcome::Failure;
@@ -97,8 +99,8 @@ fn previous(file: &[u8], tab: &[u8], frame: &[u8; FRAME], at: usize, level: usiz
 
 // What the form at `at` yields, where no part of it is evaluated: a literal, a Var, a Pre; a Tuple fails.
 pub fn leaf_out(file: &[u8], tab: &[u8], at: usize, level: usize, frame: &[u8; FRAME]) -> Outcome
-    requires { ⌜ Plan (now file) (now tab) (now rows) (now consts) node level 1 at × Cells (now file) node (now cells) × Cells (now file) node (now before) × Leaf (getD (now file) at 0) ⌝ }
-    ensures { λ r. ⌜ ((seg : List ℕ) → r ≡ evalIn (now (file .entry)) (now (consts .entry)) node first (now (cells .entry)) (now (before .entry)) (exprAt (now (file .entry)) level at) seg .out) ⌝ }
+    requires { ⌜ Framed (now frame) × Plan (now file) (tabOf (now tab)) (rowsOf (now tab)) (constsOf (now tab)) (nodeOf (now frame)) level 1 at × Cells (now file) (nodeOf (now frame)) (cellsOf (now frame)) × Cells (now file) (nodeOf (now frame)) (beforeOf (now frame)) × Leaf (getD (now file) at 0) ⌝ }
+    ensures { λ r. ⌜ ((seg : List ℕ) → r ≡ evalIn (now (file .entry)) (constsOf (now (tab .entry))) (nodeOf (now (frame .entry))) (firstOf (now (frame .entry))) (cellsOf (now (frame .entry))) (beforeOf (now (frame .entry))) (exprAt (now (file .entry)) level at) seg .out) ⌝ }
 {
     let code = file[at];
     let p = at + 1;
@@ -115,7 +117,7 @@ pub fn leaf_out(file: &[u8], tab: &[u8], at: usize, level: usize, frame: &[u8; F
 
 // The real kind of a call of node k: by its first output's type.
 fn call_kind(file: &[u8], tab: &[u8], k: usize) -> RealKind
-    requires { ⌜ Program (now file) (now tab) (now rows) × (k < nodesIn (now file)) ⌝ }
+    requires { ⌜ Program (now file) (tabOf (now tab)) (rowsOf (now tab)) × (k < nodesIn (now file)) ⌝ }
     ensures { λ r. ⌜ kindOf r ≡ firstType (nodeIn (now (file .entry)) k .outputs) ⌝ }
 {
     let i = row(tab, k, INPUTS);
@@ -125,8 +127,8 @@ fn call_kind(file: &[u8], tab: &[u8], k: usize) -> RealKind
 
 // How the expression at `at` counts as real.
 fn real_kind(file: &[u8], tab: &[u8], frame: &[u8; FRAME], at: usize, level: usize) -> RealKind
-    requires { ⌜ Plan (now file) (now tab) (now rows) (now consts) node level 1 at × Cells (now file) node (now cells) × (segsAt (now file) level 1 at ≤ 32768) ⌝ }
-    ensures { λ r. ⌜ kindOf r ≡ realKind (globalsIn (now (file .entry)) (now (consts .entry))) (scopeIn (now (file .entry)) node false (now (cells .entry)) (now (cells .entry))) (exprAt (now (file .entry)) level at) ⌝ }
+    requires { ⌜ Framed (now frame) × Plan (now file) (tabOf (now tab)) (rowsOf (now tab)) (constsOf (now tab)) (nodeOf (now frame)) level 1 at × Cells (now file) (nodeOf (now frame)) (cellsOf (now frame)) × (segsAt (now file) level 1 at ≤ 32768) ⌝ }
+    ensures { λ r. ⌜ kindOf r ≡ realKind (globalsIn (now (file .entry)) (constsOf (now (tab .entry)))) (scopeIn (now (file .entry)) (nodeOf (now (frame .entry))) false (cellsOf (now (frame .entry))) (cellsOf (now (frame .entry)))) (exprAt (now (file .entry)) level at) ⌝ }
 {
     let code = file[at];
     let p = at + 1;
@@ -162,8 +164,8 @@ fn real_kind(file: &[u8], tab: &[u8], frame: &[u8; FRAME], at: usize, level: usi
 
 // Of two expressions, the first of which is at `at`: one double makes both double.
 fn real_kinds(file: &[u8], tab: &[u8], frame: &[u8; FRAME], at: usize, level: usize) -> RealKind
-    requires { ⌜ Plan (now file) (now tab) (now rows) (now consts) node level 2 at × Cells (now file) node (now cells) × (segsAt (now file) level 2 at ≤ 32768) ⌝ }
-    ensures { λ r. ⌜ kindOf r ≡ join (realKind (globalsIn (now (file .entry)) (now (consts .entry))) (scopeIn (now (file .entry)) node false (now (cells .entry)) (now (cells .entry))) (exprAt (now (file .entry)) level at)) (realKind (globalsIn (now (file .entry)) (now (consts .entry))) (scopeIn (now (file .entry)) node false (now (cells .entry)) (now (cells .entry))) (exprAt (now (file .entry)) level (endAt (now (file .entry)) level at))) ⌝ }
+    requires { ⌜ Framed (now frame) × Plan (now file) (tabOf (now tab)) (rowsOf (now tab)) (constsOf (now tab)) (nodeOf (now frame)) level 2 at × Cells (now file) (nodeOf (now frame)) (cellsOf (now frame)) × (segsAt (now file) level 2 at ≤ 32768) ⌝ }
+    ensures { λ r. ⌜ kindOf r ≡ join (realKind (globalsIn (now (file .entry)) (constsOf (now (tab .entry)))) (scopeIn (now (file .entry)) (nodeOf (now (frame .entry))) false (cellsOf (now (frame .entry))) (cellsOf (now (frame .entry)))) (exprAt (now (file .entry)) level at)) (realKind (globalsIn (now (file .entry)) (constsOf (now (tab .entry)))) (scopeIn (now (file .entry)) (nodeOf (now (frame .entry))) false (cellsOf (now (frame .entry))) (cellsOf (now (frame .entry)))) (exprAt (now (file .entry)) level (endAt (now (file .entry)) level at))) ⌝ }
 {
     let a = real_kind(file, tab, frame, at, level);
     let p = pass(file, tab, at, level);
@@ -181,8 +183,8 @@ pub fn chosen(
     level: usize,
     taken: Outcome,
 ) -> Outcome
-    requires { ⌜ Plan (now file) (now tab) (now rows) (now consts) node level 1 at × Cells (now file) node (now cells) × (segsAt (now file) level 1 at ≤ 32768) ⌝ }
-    ensures { λ r. ⌜ r ≡ commonOut (isDouble? (realKind (globalsIn (now (file .entry)) (now (consts .entry))) (scopeIn (now (file .entry)) node false (now (cells .entry)) (now (cells .entry))) (exprAt (now (file .entry)) level at))) taken ⌝ }
+    requires { ⌜ Framed (now frame) × Plan (now file) (tabOf (now tab)) (rowsOf (now tab)) (constsOf (now tab)) (nodeOf (now frame)) level 1 at × Cells (now file) (nodeOf (now frame)) (cellsOf (now frame)) × (segsAt (now file) level 1 at ≤ 32768) ⌝ }
+    ensures { λ r. ⌜ r ≡ commonOut (isDouble? (realKind (globalsIn (now (file .entry)) (constsOf (now (tab .entry)))) (scopeIn (now (file .entry)) (nodeOf (now (frame .entry))) false (cellsOf (now (frame .entry))) (cellsOf (now (frame .entry)))) (exprAt (now (file .entry)) level at))) taken ⌝ }
 {
     if is_single(taken) {
         let k = real_kind(file, tab, frame, at, level);

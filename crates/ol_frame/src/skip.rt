@@ -3,6 +3,9 @@ use crate::tables::row;
 use ol_tables::heads::head;
 use ol_tables::heads::next_call;
 use ol_tables::tables::SIZE;
+ghost use Prim.Native.Nat.{_≤_};
+ghost use lib.ListN.{length};
+ghost use Rattle.ol_tables.specs.Table.{rowsOf};
 ghost use Rattle.ol_frame.specs.Walk.{Passable, SkipsTo};
 
 // Where what was passed over ends, the bytes of its records, and whether it contains a call.
@@ -14,7 +17,7 @@ pub struct Passed {
 
 // Passes over `count` expressions, the first of which is at `at`, from call to call.
 pub fn pass_all(file: &[u8], tab: &[u8], at: usize, level: usize, count: usize) -> Passed
-    requires { ⌜ Passable (now file) (now rows) level count at ⌝ }
+    requires { ⌜ Passable (now file) (rowsOf (now tab)) level count at × (816 ≤ length (now tab)) ⌝ }
     ensures { λ r. ⌜ SkipsTo (now (file .entry)) level count at r ⌝ }
 {
     let mut next = at;
@@ -40,7 +43,7 @@ pub fn pass_all(file: &[u8], tab: &[u8], at: usize, level: usize, count: usize) 
 
 // Passes over the expression at `at`, of at most `level` levels. A literal and a Var are their heads.
 pub fn pass(file: &[u8], tab: &[u8], at: usize, level: usize) -> Passed
-    requires { ⌜ Passable (now file) (now rows) level 1 at ⌝ }
+    requires { ⌜ Passable (now file) (rowsOf (now tab)) level 1 at × (816 ≤ length (now tab)) ⌝ }
     ensures { λ r. ⌜ SkipsTo (now (file .entry)) level 1 at r ⌝ }
 {
     if file[at] < 5 {

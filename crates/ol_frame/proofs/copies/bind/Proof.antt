@@ -5,16 +5,17 @@ use native.Mathlib.Omega.{arith}
 use lib.ListN.{length}
 use Rattle.ol_frame.specs.Stores.{Assigns}
 use Rattle.ol_frame.proofs.Storing.{assigns-none, assigns-turn, assign-storable}
+use Rattle.ol_tables.specs.Table.{tabOf}
 -- </uses>
-use Rattle.ol_frame.proofs.copies.assign.Statement.{statement}
-use Rattle.ol_frame.proofs.copies.assign.Tie as tie
-use Rattle.ol_frame.proofs.copies.assign.Reads as reads
-use Rattle.ol_frame.proofs.copies.assign.Lts as lts
+use Rattle.ol_frame.proofs.copies.bind.Statement.{statement}
+use Rattle.ol_frame.proofs.copies.bind.Tie as tie
+use Rattle.ol_frame.proofs.copies.bind.Reads as reads
+use Rattle.ol_frame.proofs.copies.bind.Lts as lts
 use Rattle.ol_frame.proofs.copies.store.Reads as store-reads
 use Rattle.ol_value.proofs.cell.read_cell.Reads as read-cell-reads
 
 abbrev Inv-loop : tie.InvT-loop
-Inv-loop tab k at n from cells₀ i₀ cells i = (i ≤ n) × (length cells ≡ length cells₀) × Assigns tab k at n i from cells₀ cells
+Inv-loop tab k at n from cells₀ i₀ cells i = (i ≤ n) × (length cells ≡ length cells₀) × Assigns (tabOf tab) k at n i from cells₀ cells
 
 abbrev μ-loop : tie.MeasureT-loop
 μ-loop tab k at n from cells₀ i₀ cells i = n - i
@@ -23,7 +24,7 @@ abbrev μ-loop : tie.MeasureT-loop
 loop-holds : tie.Need-loop-holds Inv-loop μ-loop
 loop-holds c =
     let start = c .before .before .before in
-    let tab = start .args .tab .now in
+    let tab = tabOf (start .args .tab .now) in
     let from = start .args .from .now in
     let old = start .args .cells .now in
     (omega arith, refl, assigns-none tab (start .args .k) (start .args .at) (start .args .n) from old)
@@ -82,7 +83,7 @@ loop-again : tie.Need-loop-again Inv-loop μ-loop
 loop-again c =
     let start = c .before .before .before .before .before .before .before .before .before .before in
     let lt = c .before .before .before .before .before .loop-test .taken in
-    let tab = start .args .tab .now in
+    let tab = tabOf (start .args .tab .now) in
     let from = start .args .from .now in
     let old = start .args .cells .now in
     (omega (arith, lt), c .before .before .store .kept .1 .1 .1 .1 .0 ∙ c .before .before .before .before .before .before .loop .inv .1, assigns-turn tab (start .args .k) (start .args .at) (start .args .n) from old (c .before .before .before .before .before .before .loop .i) (c .before .before .before .before .read-cell .result) (c .before .before .before .before .before .before .loop .cells) _ lt (c .before .before .before .before .before .before .loop .inv .2) (c .before .before .before .before .read-cell .ensures) (c .before .before .store .ensures))
@@ -95,14 +96,14 @@ same-length c = c .before .loop .inv .1
 returns : tie.Need-returns Inv-loop μ-loop
 returns c =
     let start = c .before .before .before .before .before in
-    let tab = start .args .tab .now in
+    let tab = tabOf (start .args .tab .now) in
     let from = start .args .from .now in
     let old = start .args .cells .now in
     let e : c .before .loop .i ≡ start .args .n = omega (arith, c .before .loop .inv .0, c .loop-test .left) in
     subst (λ (j : ℕ). Assigns tab (start .args .k) (start .args .at) (start .args .n) j from old (c .before .loop .cells)) e (c .before .loop .inv .2)
 
-pub assign-spec : {M : Type 1} → statement M
-assign-spec =
+pub bind-spec : {M : Type 1} → statement M
+bind-spec =
     tie.close
     (tie.spec
     Inv-loop
