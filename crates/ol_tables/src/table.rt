@@ -78,7 +78,7 @@ fn put_number(tab: &mut [u8], i: usize, n: usize)
 
 // Stores the numbers of the rows from index `first` up to `last`.
 pub fn pack(rows: &[usize], first: usize, last: usize, tab: &mut [u8])
-    requires { ⌜ (first ≤ last) × (last ≤ 272) × (last ≤ length (now rows)) × (816 ≤ length (now tab)) × ((i : ℕ) → i < last → getD (now rows) i 0 < 16777216) ⌝ }
+    requires { ⌜ (first ≤ last) × (last ≤ 272) × (last ≤ length (now rows)) × (816 ≤ length (now tab)) × ((i : ℕ) → first ≤ i → i < last → getD (now rows) i 0 < 16777216) ⌝ }
     ensures { λ _. ⌜ Packs (now (rows .entry)) first last (now (tab .entry)) (now (tab .exit)) ⌝ }
 {
     let mut i = first;

@@ -36,7 +36,7 @@ put-number-requires c κs =
     let start = c .before .before .before .before .before .before in
     let l = c .before .before .before .loop in
     let b = c .before .before .loop-test .taken in
-    (omega (arith, b, start .pre .1), omega (arith, l .inv .2, start .pre .3), start .pre .4 (l .i) b)
+    (omega (arith, b, start .pre .1), omega (arith, l .inv .2, start .pre .3), start .pre .4 (l .i) (l .inv .0) b)
 
 -- src/table.rt:83:9
 add-i : tie.Need-add-i Inv-loop μ-loop
@@ -52,7 +52,7 @@ loop-again c =
     let start = c .before .before .before .before .before .before .before .before .before in
     let l = c .before .before .before .before .before .before .loop in
     let b = c .before .before .before .before .before .loop-test .taken in
-    (omega (arith, l .inv .0), omega (arith, b), c .before .before .put-number .kept .0 ∙ l .inv .2, packs-turn (l .inv .3) (omega (arith, b, start .pre .1)) (omega (arith, l .inv .2, start .pre .3)) (start .pre .4 (l .i) b) (l .inv .0) (c .before .before .put-number .ensures))
+    (omega (arith, l .inv .0), omega (arith, b), c .before .before .put-number .kept .0 ∙ l .inv .2, packs-turn (l .inv .3) (omega (arith, b, start .pre .1)) (omega (arith, l .inv .2, start .pre .3)) (start .pre .4 (l .i) (l .inv .0) b) (l .inv .0) (c .before .before .put-number .ensures))
 
 -- src/table.rt:76:1
 same-length : tie.Need-same-length Inv-loop μ-loop
