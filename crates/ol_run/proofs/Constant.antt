@@ -244,10 +244,10 @@ module _ {file t₀ : List ℕ} {nodes at count : ℕ} (p : ConstantsReady file 
   opened : constants (fileAt file) ≡ afterConstant (constantAt file i .0) (λ v. constantsFrom (fileAt file) (take i (constantNames (fileAt file)) ++ constantAt file i .1 .name ∷ []) (g .values ++ fit (constantAt file i .1 .ty) v ∷ []) (drop (suc i) (placedConstants (fileAt file)))) here
   opened = g .rest ∙ ap (λ (cs : List (ℕ × Constant)). constantsFrom (fileAt file) (take i (constantNames (fileAt file))) (g .values) cs) (drop-cons (placedConstants (fileAt file)) i noConstant inside)
 
-  pub going-stuck : {o : Outcome} → o ≡ constantOut file (constsOf t) (knownIn (constsOf t)) → doneOf o ≡ false → (cs : List ℕ) → ConstantsAre (constants (fileAt file)) (Fnd.Stuck pos) cs
+  pub going-stuck : {o : Outcome} → o ≡ constantOut file (constsOf t) (knownIn (constsOf t)) → doneOf o ≡ false → (cs : List ℕ) → ConstantsAre count (constants (fileAt file)) (Fnd.Stuck pos) cs
   going-stuck {o} h d cs =
       let e = opened ∙ after-none (constantAt file i .0) (λ w. constantsFrom (fileAt file) (take i (constantNames (fileAt file)) ++ constantAt file i .1 .name ∷ []) (g .values ++ w ∷ []) (drop (suc i) (placedConstants (fileAt file)))) (fit (constantAt file i .1 .ty)) here o (turn-out h) d in
-      subst (λ (c : Constants). ConstantsAre c (Fnd.Stuck pos) cs) (sym e) (ap Fnd.Stuck (g .place l))
+      subst (λ (c : Constants). ConstantsAre count c (Fnd.Stuck pos) cs) (sym e) (ap Fnd.Stuck (g .place l))
 
   names-next : take (suc i) (constantNames (fileAt file)) ≡ take i (constantNames (fileAt file)) ++ constantAt file i .1 .name ∷ []
   names-next =
@@ -285,8 +285,8 @@ module _ {file t₀ : List ℕ} {nodes at count : ℕ} (p : ConstantsReady file 
         place = λ b. e ∙ next-place b;
       }
 
-pub going-done : {file t₀ : List ℕ} {nodes at count : ℕ} → ConstantsReady file t₀ nodes at count → {t : List ℕ} {pos i : ℕ} → Going file t₀ t count pos i → i ≡ count → ConstantsAre (constants (fileAt file)) Fnd.All (constsOf t)
+pub going-done : {file t₀ : List ℕ} {nodes at count : ℕ} → ConstantsReady file t₀ nodes at count → {t : List ℕ} {pos i : ℕ} → Going file t₀ t count pos i → i ≡ count → ConstantsAre count (constants (fileAt file)) Fnd.All (constsOf t)
 going-done {file} {count = count} p {t} {pos} {i} g e =
     let none : drop i (placedConstants (fileAt file)) ≡ [] = drop-of-length-le (placedConstants (fileAt file)) {i = i} (omega (arith, length-placed constantSize (constantsStart (fileAt file)) (fileAt file .constants), p .counted)) in
     let q = g .rest ∙ ap (λ (cs : List (ℕ × Constant)). constantsFrom (fileAt file) (take i (constantNames (fileAt file))) (g .values) cs) none in
-    subst (λ (c : Constants). ConstantsAre c Fnd.All (constsOf t)) (sym q) (refl, g .bytes, ap (valuesOf (length (g .values))) (g .bytes ∙ sym (append-nil (cells (g .values)))) ∙ values-kept (g .values) [] (g .had))
+    subst (λ (c : Constants). ConstantsAre count c Fnd.All (constsOf t)) (sym q) (refl, g .bytes, ap (valuesOf (length (g .values))) (g .bytes ∙ sym (append-nil (cells (g .values)))) ∙ values-kept (g .values) [] (g .had), g .counted ∙ e)

@@ -63,10 +63,10 @@ pub record ConstantsReady (file t : List ℕ) (nodes at count : ℕ) : Type 0 wh
   pub long : 1393 ≤ length t
   pub few : count ≤ 64
 
--- what evaluating them gives: their cells, or the place of the first that has no value
-abbrev pub ConstantsAre : Constants → Found → List ℕ → Type 0
-ConstantsAre (all vs) r cs = (r ≡ Fnd.All) × (cs ≡ cells vs) × (valuesOf (length vs) cs ≡ vs)
-ConstantsAre (stuckAt p) r cs = r ≡ Fnd.Stuck p
+-- what evaluating n constants gives: their cells, or the place of the first that has no value
+abbrev pub ConstantsAre : ℕ → Constants → Found → List ℕ → Type 0
+ConstantsAre n (all vs) r cs = (r ≡ Fnd.All) × (cs ≡ cells vs) × (valuesOf (length vs) cs ≡ vs) × (length vs ≡ n)
+ConstantsAre n (stuckAt p) r cs = r ≡ Fnd.Stuck p
 
 -- the table's rows, orders, types and slots stay
 pub record SameTables (t t′ : List ℕ) : Type 0 where

@@ -72,7 +72,7 @@ fn constant_end(file: &[u8], tab: &[u8], at: usize) -> usize
 // The cells of `count` constants, the first of which is at `at`, are written into the table; the file has so many nodes.
 pub fn constant_values(file: &[u8], tab: &mut [u8], nodes: usize, at: usize, count: usize) -> Found
     requires { ⌜ ConstantsReady (now file) (now tab) nodes at count ⌝ }
-    ensures { λ r. ⌜ ConstantsAre (constants (fileAt (now (file .entry)))) r (constsOf (now (tab .exit))) × SameTables (now (tab .entry)) (now (tab .exit)) ⌝ }
+    ensures { λ r. ⌜ ConstantsAre count (constants (fileAt (now (file .entry)))) r (constsOf (now (tab .exit))) × SameTables (now (tab .entry)) (now (tab .exit)) ⌝ }
 {
     tab[KNOWN] = 0;
     let mut frame = [0u8; FRAME];

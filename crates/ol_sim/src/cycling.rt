@@ -34,7 +34,7 @@ pub(crate) fn cycle_unless(
     new: &mut [u8],
     values: &mut [u8],
 ) -> Cycled
-    requires { ⌜ AnswerReady (now file) (now rows) (now tab) (now consts) size main × Variants (fileAt (now file)) (now names) ⌝ }
+    requires { ⌜ AnswerReady (now file) (now tab) size main × Variants (fileAt (now file)) (now names) ⌝ }
     ensures { λ r. ⌜ CyclesAs (cycleJudged (whole (fileAt (now (file .entry)))) (now (old .entry)) (now (inputs .entry)) (now (new .entry)) (now (values .entry))) r (now (new .exit)) (now (values .exit)) ⌝ }
 {
     if good_state(file, tab, names, old) {

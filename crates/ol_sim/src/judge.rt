@@ -30,13 +30,12 @@ ghost use Rattle.ol_tables.specs.At.{fileAt};
 ghost use Rattle.ol_tables.specs.Stands.{FileReads};
 ghost use Rattle.ol_tables.specs.Tables.{Rows, sizeCap};
 ghost use Rattle.ol_check.specs.Founds.{placeOf};
-ghost use Rattle.ol_sim.specs.Judging.{Judges, namesAfter, from6, from7, from11, from12, from13, MainReady, ConstantsReady, OrderReady, ShapesReady, NamesReady};
+ghost use Rattle.ol_sim.specs.Judging.{Judges, Measured, Admits, namesAfter, from6, from7, from11, from12, from13, MainReady, ConstantsReady, OrderReady, ShapesReady, NamesReady};
 
-// What judging a file gives: its first fault, or the length of its state, its main node's number, and how
-// many constants it has.
+// What judging a file gives: its first fault, or the length of its state and its main node's number.
 pub(crate) enum Judged {
     Refused(Fault),
-    Admitted(usize, usize, usize),
+    Admitted(usize, usize),
 }
 
 // A fault.
@@ -59,20 +58,20 @@ fn too_long(file: &[u8], rows: &[usize], main: usize, size: usize) -> Found
 }
 
 // 13 and 14.
-fn judge_main(file: &[u8], rows: &[usize], size: usize, main: usize, count: usize) -> Judged
-    requires { ⌜ MainReady (now file) (now rows) (now tab) (now consts) size main count ⌝ }
-    ensures { λ r. ⌜ Judges (now (file .entry)) (from13 (fileAt (now (file .entry)))) (now (rows .entry)) (now (tab .entry)) (now (consts .entry)) r ⌝ }
+fn judge_main(file: &[u8], rows: &[usize], size: usize, main: usize) -> Judged
+    requires { ⌜ MainReady (now file) (now rows) size main ⌝ }
+    ensures { λ r. ⌜ Judges (now (file .entry)) (from13 (fileAt (now (file .entry)))) (Measured (now (file .entry))) r ⌝ }
 {
     match too_long(file, rows, main, size) {
         Found::At(p) => refuse(13, p),
         Found::Nothing => match not_operator(file, rows, main + 1) {
             Found::At(p) => refuse(14, p),
-            Found::Nothing => Judged::Admitted(size, main, count),
+            Found::Nothing => Judged::Admitted(size, main),
         },
     }
 }
 
-// 12 to 14: the constants' cells are written.
+// 12 to 14: the rows and the constants' cells are written into the table.
 fn judge_constants(
     file: &[u8],
     rows: &[usize],
@@ -80,8 +79,8 @@ fn judge_constants(
     sections: Sections,
     size: usize,
 ) -> Judged
-    requires { ⌜ ConstantsReady (now file) (now rows) (now tab) (now consts) sections size ⌝ }
-    ensures { λ r. ⌜ Judges (now (file .entry)) (from12 (fileAt (now (file .entry)))) (now (rows .entry)) (now (tab .entry)) (now (consts .exit)) r ⌝ }
+    requires { ⌜ ConstantsReady (now file) (now rows) (now tab) sections size ⌝ }
+    ensures { λ r. ⌜ Judges (now (file .entry)) (from12 (fileAt (now (file .entry)))) (Admits (now (file .entry)) (now (tab .exit))) r ⌝ }
 {
     let c = sections.constants;
     let n = sections.nodes;
@@ -92,7 +91,7 @@ fn judge_constants(
     pack(rows, FIRSTS, FIRSTS + enums, tab);
     match constant_values(file, tab, nodes, c + 1, count) {
         constants::Found::Stuck(p) => refuse(12, p),
-        constants::Found::All => judge_main(file, rows, size, nodes - 1, count),
+        constants::Found::All => judge_main(file, rows, size, nodes - 1),
     }
 }
 
@@ -107,8 +106,8 @@ fn judge_order(
     main: usize,
     low: bool,
 ) -> Judged
-    requires { ⌜ OrderReady (now file) enums (now places) (now rows) (now tab) (now consts) sections main low ⌝ }
-    ensures { λ r. ⌜ Judges (now (file .entry)) (from11 (fileAt (now (file .entry)))) (now (rows .entry)) (now (tab .exit)) (now (consts .exit)) r ⌝ }
+    requires { ⌜ OrderReady (now file) enums (now places) (now rows) (now tab) sections main low ⌝ }
+    ensures { λ r. ⌜ Judges (now (file .entry)) (from11 (fileAt (now (file .entry)))) (Admits (now (file .entry)) (now (tab .exit))) r ⌝ }
 {
     match orders_of(file, enums, places, low, &mut tab[ORDERS..TYPES]) {
         Ring::At(p) => refuse(11, p),
@@ -131,8 +130,8 @@ fn judge_shapes(
     low: bool,
     found: Faults,
 ) -> Judged
-    requires { ⌜ ShapesReady (now file) enums (now places) (now rows) (now tab) (now consts) sections low found ⌝ }
-    ensures { λ r. ⌜ Judges (now (file .entry)) (from7 (fileAt (now (file .entry)))) (now (rows .entry)) (now (tab .exit)) (now (consts .exit)) r ⌝ }
+    requires { ⌜ ShapesReady (now file) enums (now places) (now rows) (now tab) sections low found ⌝ }
+    ensures { λ r. ⌜ Judges (now (file .entry)) (from7 (fileAt (now (file .entry)))) (Admits (now (file .entry)) (now (tab .exit))) r ⌝ }
 {
     let unseen = found.unseen;
     let again = found.again;
@@ -175,9 +174,9 @@ pub(crate) fn judge_names(
     low: bool,
     clash: Found,
 ) -> Judged
-    requires { ⌜ NamesReady (now file) enums (now places) (now rows) (now tab) (now names) (now consts) sections low ⌝ }
+    requires { ⌜ NamesReady (now file) enums (now places) (now rows) (now tab) (now names) sections low ⌝ }
     requires { ⌜ placeOf clash ≡ fault6 (fileAt (now file)) ⌝ }
-    ensures judged { λ r. ⌜ Judges (now (file .entry)) (from6 (fileAt (now (file .entry)))) (now (rows .exit)) (now (tab .exit)) (now (consts .exit)) r ⌝ }
+    ensures judged { λ r. ⌜ Judges (now (file .entry)) (from6 (fileAt (now (file .entry)))) (Admits (now (file .entry)) (now (tab .exit))) r ⌝ }
     ensures named { λ _. ⌜ now (names .exit) ≡ namesAfter (fault6 (fileAt (now (file .entry)))) (fileAt (now (file .entry))) (now (names .entry)) ⌝ }
 {
     match clash {

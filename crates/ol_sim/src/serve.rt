@@ -43,7 +43,7 @@ fn answer(
     new: &mut [u8],
     values: &mut [u8],
 ) -> Answer
-    requires { ⌜ AnswerReady (now file) (now rows) (now tab) (now consts) size main × Variants (fileAt (now file)) (now names) ⌝ }
+    requires { ⌜ AnswerReady (now file) (now tab) size main × Variants (fileAt (now file)) (now names) ⌝ }
     requires { ⌜ judge relayLoader (now file) ≡ whole (fileAt (now file)) ⌝ }
     ensures { λ r. ⌜ Serves call (now (file .entry)) (now (old .entry)) (now (inputs .entry)) (now (new .entry)) (now (values .entry)) r (now (new .exit)) (now (values .exit)) ⌝ }
 {
@@ -74,13 +74,13 @@ fn serve_named(
     new: &mut [u8],
     values: &mut [u8],
 ) -> Answer
-    requires { ⌜ NamesReady (now file) enums (now places) (now rows) (now tab) (now names) (now consts) sections low ⌝ }
+    requires { ⌜ NamesReady (now file) enums (now places) (now rows) (now tab) (now names) sections low ⌝ }
     requires { ⌜ placeOf clash ≡ fault6 (fileAt (now file)) ⌝ }
     ensures { λ r. ⌜ Serves call (now (file .entry)) (now (old .entry)) (now (inputs .entry)) (now (new .entry)) (now (values .entry)) r (now (new .exit)) (now (values .exit)) ⌝ }
 {
     match judge_names(file, enums, places, rows, tab, names, sections, low, clash) {
         Judged::Refused(f) => Answer::Refused(f),
-        Judged::Admitted(size, main, count) => {
+        Judged::Admitted(size, main) => {
             answer(call, file, tab, names, size, main, old, inputs, new, values)
         }
     }
@@ -101,7 +101,7 @@ fn serve_low(
     new: &mut [u8],
     values: &mut [u8],
 ) -> Answer
-    requires { ⌜ SectionsReady (now file) enums (now places) (now rows) (now tab) (now consts) sections × Low (fileAt (now file)) true ⌝ }
+    requires { ⌜ SectionsReady (now file) enums (now places) (now rows) (now tab) sections × Low (fileAt (now file)) true ⌝ }
     requires { ⌜ placeOf clash ≡ fault6 (fileAt (now file)) ⌝ }
     ensures { λ r. ⌜ Serves call (now (file .entry)) (now (old .entry)) (now (inputs .entry)) (now (new .entry)) (now (values .entry)) r (now (new .exit)) (now (values .exit)) ⌝ }
 {
@@ -140,7 +140,7 @@ fn serve_high(
     new: &mut [u8],
     values: &mut [u8],
 ) -> Answer
-    requires { ⌜ SectionsReady (now file) enums (now places) (now rows) (now tab) (now consts) sections ⌝ }
+    requires { ⌜ SectionsReady (now file) enums (now places) (now rows) (now tab) sections ⌝ }
     ensures { λ r. ⌜ Serves call (now (file .entry)) (now (old .entry)) (now (inputs .entry)) (now (new .entry)) (now (values .entry)) r (now (new .exit)) (now (values .exit)) ⌝ }
 {
     if 0 < turns {
@@ -195,7 +195,7 @@ fn serve_with(
     new: &mut [u8],
     values: &mut [u8],
 ) -> Answer
-    requires { ⌜ FileReady (now file) enums (now places) (now rows) (now tab) (now consts) ⌝ }
+    requires { ⌜ FileReady (now file) enums (now places) (now rows) (now tab) ⌝ }
     ensures { λ r. ⌜ Serves call (now (file .entry)) (now (old .entry)) (now (inputs .entry)) (now (new .entry)) (now (values .entry)) r (now (new .exit)) (now (values .exit)) ⌝ }
 {
     let sections = rows_of(file, places, rows, &mut tab[TYPES..SLOTS]);

@@ -18,7 +18,7 @@ ghost use Rattle.ol_sim.specs.Serving.{startedOf};
 
 // The constants' cells, then the main instance, fresh.
 fn write_start(file: &[u8], tab: &[u8], main: usize, state: &mut [u8])
-    requires { ⌜ StartReady (now file) (now rows) (now tab) (now consts) main (now state) ⌝ }
+    requires { ⌜ StartReady (now file) (now tab) main (now state) ⌝ }
     ensures { λ _. ⌜ now (state .exit) ≡ freshState (fileAt (now (file .entry))) (valuesIn (fileAt (now (file .entry)))) ⌝ }
 {
     let n = 9 * byte(tab, KNOWN);
@@ -35,7 +35,7 @@ pub(crate) fn start_unless(
     main: usize,
     state: &mut [u8],
 ) -> Answer
-    requires { ⌜ AnswerReady (now file) (now rows) (now tab) (now consts) size main ⌝ }
+    requires { ⌜ AnswerReady (now file) (now tab) size main ⌝ }
     ensures { λ r. ⌜ StartsAs (startJudged (whole (fileAt (now (file .entry)))) (now (state .entry))) (startedOf r) (now (state .exit)) ⌝ }
 {
     if state.len() == size {
