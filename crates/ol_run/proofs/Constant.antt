@@ -161,38 +161,65 @@ pub record Going (file t₀ t : List ℕ) (count pos i : ℕ) : Type 0 where
   pub rest : constants (fileAt file) ≡ constantsFrom (fileAt file) (take i (constantNames (fileAt file))) values (drop i (placedConstants (fileAt file)))
   pub place : i < count → pos ≡ constantAt file i .0
 
+-- a constant can be evaluated by a table with the same rows, orders, types and slots
+ready-same : {file t t′ : List ℕ} {i : ℕ} → SameTables t t′ → ConstantReady file (tabOf t) (rowsOf t) i → ConstantReady file (tabOf t′) (rowsOf t′) i
+ready-same {file} {t} {t′} {i} s h = subst (λ (x : List ℕ). ConstantReady file x (rowsOf t′) i) (sym (s .tab)) (subst (λ (x : List ℕ). ConstantReady file (tabOf t) x i) (sym (s .rows)) h)
+
+pub same-onward : {t t′ t″ : List ℕ} → SameTables t t′ → SameTables t′ t″ → SameTables t t″
+same-onward a b = record { rows = b .rows ∙ a .rows; tab = b .tab ∙ a .tab }
+
 -- how many have their cells
 pub known-is : {file t₀ t : List ℕ} {count pos i : ℕ} → Going file t₀ t count pos i → knownIn (constsOf t) ≡ i
 known-is g = let e = ap length (g .bytes) ∙ length-cells (g .values) in omega (arith, e, g .counted)
 
-module _ {file t₀ : List ℕ} {nodes at count : ℕ} (p : ConstantsReady file t₀ nodes at count) where
-  pub going-start : Going file t₀ (set t₀ 816 0) count at 0
+-- no constant has its cell yet
+module _ {file t : List ℕ} {nodes at count : ℕ} (p : ConstantsReady file t nodes at count) where
+  pub cleared-same : SameTables t (set t 816 0)
+  cleared-same = record { rows = rows-set t 0 (p .long); tab = tab-set t 0 (p .long) }
+
+  pub cleared-ready : ConstantsReady file (set t 816 0) nodes at count
+  cleared-ready =
+      record {
+        each = λ i l. ready-same cleared-same (p .each i l);
+        counted = p .counted;
+        begins = p .begins;
+        nodes-is = p .nodes-is;
+        nodes-few = p .nodes-few;
+        long = omega (arith, p .long, length-set t 816 0);
+        few = p .few;
+      }
+
+  pub going-start : Going file (set t 816 0) (set t 816 0) count at 0
   unfolding constants
   going-start =
       record {
         values = [];
         had = tt;
         counted = refl;
-        long = length-set t₀ 816 0;
-        known = known-set t₀ 0 (p .long);
-        bytes = consts-set t₀ 0 (p .long);
-        same = record { rows = rows-set t₀ 0 (p .long); tab = tab-set t₀ 0 (p .long) };
+        long = refl;
+        known = known-set t 0 (p .long);
+        bytes = consts-set t 0 (p .long);
+        same = record { rows = refl; tab = refl };
         rest = refl;
         place = p .begins;
       }
 
+module _ {file t₀ : List ℕ} {nodes at count : ℕ} (p : ConstantsReady file t₀ nodes at count) where
   -- the constant whose turn it is
   pub going-ready : {pos i : ℕ} (t : List ℕ) → Going file t₀ t count pos i → i < count → ConstantReady file (tabOf t) (rowsOf t) (knownIn (constsOf t)) × (pos ≡ constantAt file (knownIn (constsOf t)) .0)
   going-ready {pos} {i} t g l =
-      rw (known-is g) (subst (λ (x : List ℕ). ConstantReady file x (rowsOf t) i) (sym (g .same .tab)) (subst (λ (x : List ℕ). ConstantReady file (tabOf t₀) x i) (sym (g .same .rows)) (p .each i (omega (arith, p .counted)))), g .place l)
+      rw (known-is g) (ready-same (g .same) (p .each i (omega (arith, p .counted))), g .place l)
 
   -- its cell is written, and not counted yet
-  pub going-written : {pos i : ℕ} (t c : List ℕ) → length c ≡ 9 → Going file t₀ t count pos i → i < count → Going file t₀ (cellPut t c i) count pos i
-  going-written {pos} {i} t c n g l =
+  pub going-written : {t new : List ℕ} {pos i : ℕ} (w : Value) → new ≡ cellPut t (cell w) i → Going file t₀ t count pos i → i < count → Going file t₀ new count pos i
+  going-written {t} {new} {pos} {i} w e g l =
+      let c = cell w in
+      let n = length-cell w in
       let few : i < 64 = omega (arith, l, p .few) in
       let room : 1393 ≤ length t = omega (arith, g .long, p .long) in
       let k = put-known t c i n few room ∙ g .known in
-      record {
+      subst (λ (x : List ℕ). Going file t₀ x count pos i) (sym e)
+      (record {
         values = g .values;
         had = g .had;
         counted = g .counted;
@@ -202,7 +229,7 @@ module _ {file t₀ : List ℕ} {nodes at count : ℕ} (p : ConstantsReady file 
         same = record { rows = rows-put t c i n few room ∙ g .same .rows; tab = tab-put t c i n few room ∙ g .same .tab };
         rest = g .rest;
         place = g .place;
-      }
+      })
 
 after-value : (p : ℕ) (k : Value → Constants) (F : Value → Value) (E o : Outcome) (w : Value) → o ≡ thenOut (λ v. Out.Value (F v)) E → o ≡ Out.Value w → afterConstant p (λ v. k (F v)) E ≡ k w
 after-value p k F (Out.Value v) o w e f = ap k (same-value (sym e ∙ f))
@@ -263,8 +290,8 @@ module _ {file t₀ : List ℕ} {nodes at count : ℕ} (p : ConstantsReady file 
       let n = placed-next constantSize (constantsStart (fileAt file)) i (fileAt file .constants) noConstant (omega (arith, p .counted)) in
       r ∙ ap (λ (e : Expr). valueAt file i + exprSize e) (c .tree) ∙ omega (arith, n) ∙ ap (λ (k : ℕ). constantAt file k .0) s
 
-  pub going-turn : {o : Outcome} {v w : Value} {next : ℕ} → o ≡ constantOut file (constsOf t) (knownIn (constsOf t)) → o ≡ Out.Value v → w ≡ v → Kept v → next ≡ endAt file 24 (valueAt file i) → Going file t₀ (set (cellPut t (cell w) i) 816 (i + 1)) count next (i + 1)
-  going-turn {o} {v} {w} {next} h d same k e =
+  pub going-turn : {o : Outcome} {v w : Value} {next : ℕ} {new : List ℕ} → o ≡ constantOut file (constsOf t) (knownIn (constsOf t)) → o ≡ Out.Value v → w ≡ v → Kept v → new ≡ cellPut t (cell w) i → next ≡ endAt file 24 (valueAt file i) → Going file t₀ (set new 816 (i + 1)) count next (i + 1)
+  going-turn {o} {v} {w} {next} {new} h d same k write e =
       let q = opened ∙ after-value (constantAt file i .0) (λ w. constantsFrom (fileAt file) (take i (constantNames (fileAt file)) ++ constantAt file i .1 .name ∷ []) (g .values ++ w ∷ []) (drop (suc i) (placedConstants (fileAt file)))) (fit (constantAt file i .1 .ty)) here o v (turn-out h) d in
       let s : suc i ≡ i + 1 = omega arith in
       let n = length-cell w in
@@ -273,7 +300,8 @@ module _ {file t₀ : List ℕ} {nodes at count : ℕ} (p : ConstantsReady file 
       let t′ = cellPut t (cell w) i in
       let long = put-long t (cell w) i n few room in
       let room′ : 1393 ≤ length t′ = omega (arith, room, long) in
-      record {
+      subst (λ (x : List ℕ). Going file t₀ (set x 816 (i + 1)) count next (i + 1)) (sym write)
+      (record {
         values = g .values ++ v ∷ [];
         had = each-join Kept (g .values) (v ∷ []) (g .had) (k, tt);
         counted = length-append (g .values) (v ∷ []) ∙ ap (λ (n : ℕ). n + 1) (g .counted);
@@ -283,7 +311,7 @@ module _ {file t₀ : List ℕ} {nodes at count : ℕ} (p : ConstantsReady file 
         same = record { rows = rows-set t′ (i + 1) room′ ∙ rows-put t (cell w) i n few room ∙ g .same .rows; tab = tab-set t′ (i + 1) room′ ∙ tab-put t (cell w) i n few room ∙ g .same .tab };
         rest = q ∙ (λ j. constantsFrom (fileAt file) (sym names-next j) (g .values ++ v ∷ []) (drop (suc i) (placedConstants (fileAt file)))) ∙ (λ j. constantsFrom (fileAt file) (take (s j) (constantNames (fileAt file))) (g .values ++ v ∷ []) (drop (s j) (placedConstants (fileAt file))));
         place = λ b. e ∙ next-place b;
-      }
+      })
 
 pub going-done : {file t₀ : List ℕ} {nodes at count : ℕ} → ConstantsReady file t₀ nodes at count → {t : List ℕ} {pos i : ℕ} → Going file t₀ t count pos i → i ≡ count → ConstantsAre count (constants (fileAt file)) Fnd.All (constsOf t)
 going-done {file} {count = count} p {t} {pos} {i} g e =

@@ -26,6 +26,10 @@ module _ (fr : List ℕ) (framed : Framed fr) (k : ℕ) (first : Bool) where
   pub headed-node : nodeOf (headed fr k first) ≡ k
   headed-node = getD-set-same (set fr 0 (cond first 1 0)) 1 k 0 (omega (arith, framed, length-set fr 0 (cond first 1 0)))
 
+-- a frame that starts so
+pub frame-made : {made : List ℕ} (fr : List ℕ) → Framed fr → (k : ℕ) (first : Bool) → made ≡ headed fr k first → Framed made × (nodeOf made ≡ k) × (firstOf made ≡ first)
+frame-made fr framed k first e = (ap length e ∙ headed-framed fr framed k first, ap (λ (l : List ℕ). getD l 1 0) e ∙ headed-node fr framed k first, ap (λ (l : List ℕ). eqb (getD l 0 0) 1) e ∙ headed-first fr framed k first)
+
 -- the cells before are written
 module _ (fr x : List ℕ) (framed : Framed fr) (long : length x ≡ length (tailOf 1010 fr)) where
   pub before-framed : Framed (putTail 1010 fr x)
