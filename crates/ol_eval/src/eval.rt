@@ -515,16 +515,16 @@ fn step_instance(
     let inputs = row(tab, k, INPUTS);
     set_frame(frame, k, old[0] == 0);
     copy_cells(0, n, &old[1..], &mut frame[BEFORE..]);
-    copy_cells(inputs, n, &old[1..], &mut frame[CELLS..]);
-    copy_cells(0, inputs, args, &mut frame[CELLS..]);
+    copy_cells(inputs, n, &old[1..], &mut frame[CELLS..BEFORE]);
+    copy_cells(0, inputs, args, &mut frame[CELLS..BEFORE]);
     let r = run(file, tab, frame, &old[own..], &mut new[own..]);
     let end = r.end;
     match end {
         Ending::Values => {
-            finish(n, &frame[CELLS..], new);
+            finish(n, &frame[CELLS..BEFORE], new);
             let from = CELLS + 9 * inputs;
             let outputs = row(tab, k, OUTPUTS);
-            copy_cells(0, outputs, &frame[from..], args);
+            copy_cells(0, outputs, &frame[from..BEFORE], args);
             Ending::Values
         }
         Ending::Failed => {
@@ -554,12 +554,12 @@ fn call_function(
     let inputs = row(tab, k, INPUTS);
     set_frame(frame, k, true);
     write_defaults(tab, k, &mut frame[BEFORE..]);
-    write_defaults(tab, k, &mut frame[CELLS..]);
-    copy_cells(0, inputs, args, &mut frame[CELLS..]);
+    write_defaults(tab, k, &mut frame[CELLS..BEFORE]);
+    copy_cells(0, inputs, args, &mut frame[CELLS..BEFORE]);
     let r = run(file, tab, frame, old, new);
     let from = CELLS + 9 * inputs;
     let outputs = row(tab, k, OUTPUTS);
-    copy_cells(0, outputs, &frame[from..], args);
+    copy_cells(0, outputs, &frame[from..BEFORE], args);
     r.end
 }
 

@@ -3,6 +3,7 @@ pub mod Copying
 pub mod Depth
 pub mod Endings
 pub mod Equating
+pub mod Framing
 pub mod Naming
 pub mod NodeRows
 pub mod Passing
