@@ -5,7 +5,7 @@ use mathlib.Core.List.{List, [], _∷_, _++_, map}
 use mathlib.Core.Path.{_≡_, refl, sym, ap, subst, _∙_}
 use native.Mathlib.Omega.{arith}
 use lib.ListN.{length, take, drop, getD, length-append, length-drop, length-map}
-use lib.Seq.{take-all, drop-at}
+use lib.Seq.{take-all}
 use lib.Dec.{T}
 use Rattle.ol_spec.specs.Lists.{concat}
 use Rattle.ol_spec.specs.Syntax.{NodeKind, Function, Operator, Imported, Equation, Node, variables, constantName}
@@ -20,7 +20,6 @@ use Rattle.ol_spec.specs.Admission.{mayCall, badCall, constantNames}
 use Rattle.ol_spec.specs.declared.Value.{Value}
 use Rattle.ol_spec.proofs.Cells.{length-cells}
 use Rattle.ol_spec.proofs.Segments.{sites-append}
-use Rattle.ol_spec.proofs.Runs.{length-values}
 use Rattle.ol_tables.specs.At.{fileAt, nodeIn, exprsAt}
 use Rattle.ol_tables.specs.Tables.{Each, rowAt}
 use Rattle.ol_tables.specs.Tables.{nodeOf as fileNode}
@@ -42,11 +41,10 @@ use Rattle.ol_frame.proofs.Planning.{sound-call, sounds-each}
 use Rattle.ol_frame.proofs.Passing.{callees-one}
 use Rattle.ol_frame.proofs.Depth.{calls-of}
 use Rattle.ol_state.proofs.FreshRecords.{fresh-record}
-use Rattle.ol_frame.proofs.Running.{each-in, midOf, length-mid}
-use Rattle.ol_frame.specs.Frame.{Framed, nodeOf, firstOf, cellsOf, beforeOf}
-use Rattle.ol_frame.proofs.Framing.{Holding, cells-from}
-use Rattle.ol_frame.proofs.NodeRows.{inputs-few, width-is, inputs-are, outputs-are, narrow, inputs-most, inputs-first}
-use Rattle.ol_frame.proofs.Storing.{values-take, values-drop, values-front, values-copied, values-over}
+use Rattle.ol_frame.proofs.Running.{each-in}
+use Rattle.ol_frame.specs.Frame.{nodeOf, firstOf, cellsOf, beforeOf, Opened, Freshened}
+use Rattle.ol_frame.proofs.NodeRows.{inputs-few, width-is, inputs-are, outputs-are}
+use Rattle.ol_frame.proofs.Storing.{values-take, values-drop, values-front}
 
 -- ---- lists
 
@@ -257,27 +255,16 @@ pub record Entered (file tab rows consts : List ℕ) (k : ℕ) (args old new : L
   pub begun : valuesOf n cells ≡ valuesOf i args ++ drop i (valuesOf n (tailOf 1 old))
   pub earlier : valuesOf n before ≡ valuesOf n (tailOf 1 old)
 
--- the cells before are copied, then the cells that are no inputs, then the arguments
-pub entered : {file tab rows consts args old new : List ℕ} {k : ℕ} {first : Bool} {n i : ℕ} (b₀ c₀ c₁ : List ℕ) {cells before : List ℕ} → Steppable file tab rows consts k args old new → nodeIn file k .kind ≡ Operator → n ≡ rowAt rows k 4 → i ≡ rowAt rows k 2 → first ≡ isFresh old
-    → length b₀ ≡ 1008 → length c₀ ≡ 1008 → length c₁ ≡ 1008
-    → before ≡ take (9 * 0) b₀ ++ (take (9 * n - 9 * 0) (drop (9 * 0) (tailOf 1 old)) ++ drop (9 * n) b₀)
-    → c₁ ≡ take (9 * i) c₀ ++ (take (9 * n - 9 * i) (drop (9 * i) (tailOf 1 old)) ++ drop (9 * n) c₀)
-    → cells ≡ take (9 * 0) c₁ ++ (take (9 * i - 9 * 0) (drop (9 * 0) args) ++ drop (9 * i) c₁) → Entered file tab rows consts k args old new first n i cells before
-entered {args = args} {old = old} {n = n} {i = i} b₀ c₀ c₁ {cells} {before} h o w iw f lb lc l1 eb e1 ec =
-    let r = h .running in
-    let room = cells-room h n o w in
-    let few = narrow r (h .below) n w in
-    let le = inputs-first r (h .below) n i w iw in
+pub entered : {file tab rows consts args old new fr : List ℕ} {k n i : ℕ} → Steppable file tab rows consts k args old new → nodeIn file k .kind ≡ Operator → n ≡ rowAt rows k 4 → i ≡ rowAt rows k 2 → Opened k n i args old fr → Entered file tab rows consts k args old new (firstOf fr) n i (cellsOf fr) (beforeOf fr)
+entered {args = args} {old = old} {n = n} {i = i} h o w iw p =
     record {
       site = h;
       operator = o;
       width = w;
       inputs = iw;
-      fresh = f;
-      begun = values-over i n args c₁ cells le (omega (arith, h .room, inputs-most r (h .below) i iw)) (omega (arith, l1, few)) ec
-          ∙ ap (λ (vs : List Value). valuesOf i args ++ drop i vs) (values-copied i n (tailOf 1 old) c₀ c₁ le room (omega (arith, lc, few)) e1)
-          ∙ ap (λ (vs : List Value). valuesOf i args ++ vs) (drop-at (valuesOf i c₀) (drop i (valuesOf n (tailOf 1 old))) i (length-values i c₀));
-      earlier = values-copied 0 n (tailOf 1 old) b₀ before (omega arith) room (omega (arith, lb, few)) eb;
+      fresh = p .first;
+      begun = p .cells ∙ ap (λ (c : List ℕ). valuesOf i args ++ drop i (valuesOf n c)) (sym (tail-all 1 old));
+      earlier = p .before ∙ ap (valuesOf n) (sym (tail-all 1 old));
     }
 
 module _ {file tab rows consts args old new : List ℕ} {k : ℕ} {first : Bool} {n i : ℕ} {cells before : List ℕ} (h : Entered file tab rows consts k args old new first n i cells before) where
@@ -370,32 +357,27 @@ module _ {file tab rows consts args old new : List ℕ} {k : ℕ} (h : Steppable
   fresh-cells : (rest : List ℕ) → valuesOf (widthIn file k) (dcells ++ rest) ≡ valuesOf (widthIn file k) dcells
   fresh-cells rest = values-front (widthIn file k) dcells rest (omega (arith, dlength))
 
-  module _ (i : ℕ) (before restB fresh restF cells : List ℕ) (inputs : i ≡ rowAt rows k 2) (long : length fresh ≡ 1008) (writtenB : before ≡ cellsAt tab rows k 0 (rowAt rows k 4) ++ restB)
-      (writtenF : fresh ≡ cellsAt tab rows k 0 (rowAt rows k 4) ++ restF) (copied : cells ≡ take (9 * 0) fresh ++ (take (9 * i - 9 * 0) (drop (9 * 0) args) ++ drop (9 * i) fresh)) where
-    -- cells that were written as defaults
-    written-as : (cs rest : List ℕ) → cs ≡ cellsAt tab rows k 0 (rowAt rows k 4) ++ rest → valuesOf (widthIn file k) cs ≡ oldCells fnode (freshRecord fglob fnode)
-    written-as cs rest e =
+  module _ (i : ℕ) (fr : List ℕ) (inputs : i ≡ rowAt rows k 2) (p : Freshened tab rows k i args fr) where
+    -- the default cells are those of a fresh record
+    defaults-as : valuesOf (rowAt rows k 4) (cellsAt tab rows k 0 (rowAt rows k 4)) ≡ oldCells fnode (freshRecord fglob fnode)
+    defaults-as =
         let R = concat (map (freshAt fglob (nodesIn file)) (sites fnode)) in
-        let w : cs ≡ dcells ++ rest = e ∙ ap (λ (l : List ℕ). l ++ rest) (default-cells (h .running .known) (h .below)) in
-        ap (valuesOf (widthIn file k)) w ∙ fresh-cells rest ∙ sym (fresh-cells R)
+        (λ j. valuesOf (width-is (h .running) (h .below) (rowAt rows k 4) refl j) (default-cells (h .running .known) (h .below) j)) ∙ sym (fresh-cells R)
 
-    runs-fresh : (vs : List Value) → valuesOf (length (fnode .inputs)) args ≡ fitAll (fnode .inputs) vs → runIn file consts k true cells before old ≡ run fglob (calls fglob) fnode (fitAll (fnode .inputs) vs) (freshRecord fglob fnode)
+    runs-fresh : (vs : List Value) → valuesOf (length (fnode .inputs)) args ≡ fitAll (fnode .inputs) vs → runIn file consts k (firstOf fr) (cellsOf fr) (beforeOf fr) old ≡ run fglob (calls fglob) fnode (fitAll (fnode .inputs) vs) (freshRecord fglob fnode)
     unfolding run
     runs-fresh vs e =
         let F = freshRecord fglob fnode in
-        let b = written-as before restB writtenB in
         let wi = inputs-are (h .running) (h .below) i inputs in
         let wn = width-is (h .running) (h .below) (rowAt rows k 4) refl in
-        let le = inputs-first (h .running) (h .below) (rowAt rows k 4) i refl inputs in
-        let c =
-        values-over i (widthIn file k) args fresh cells (omega (arith, le, wn)) (omega (arith, h .room, inputs-most (h .running) (h .below) i inputs)) (omega (arith, long, h .running .program .width k)) copied
-        ∙ (λ j. (ap (λ (m : ℕ). valuesOf m args) wi ∙ e) j ++ drop (wi j) (written-as fresh restF writtenF j)) in
-        λ j. runAll fglob (calls fglob) fnode true (b j) (order (fnode .equations)) (c j) (function-split (h .running) k old (drop (ownSize fnode) F) (h .below) func j)
+        let b = ap (λ (m : ℕ). valuesOf m (beforeOf fr)) (sym wn) ∙ p .before ∙ defaults-as in
+        let c = ap (λ (m : ℕ). valuesOf m (cellsOf fr)) (sym wn) ∙ p .cells ∙ (λ j. (ap (λ (m : ℕ). valuesOf m args) wi ∙ e) j ++ drop (wi j) (defaults-as j)) in
+        λ j. runAll fglob (calls fglob) fnode (p .first j) (b j) (order (fnode .equations)) (c j) (function-split (h .running) k old (drop (ownSize fnode) F) (h .below) func j)
 
-    pub function-done : (r : Ended) (cells′ new′ : List ℕ) (o : ℕ) (args′ : List ℕ) → RunTo file consts k true cells before old r cells′ new′ → length new′ ≡ length new → o ≡ rowAt rows k 3 → valuesOf o args′ ≡ valuesOf o (drop (9 * i) cells′) → SiteTo file consts k args old (r .end) args′ new′
+    pub function-done : (r : Ended) (cells′ new′ : List ℕ) (o : ℕ) (args′ : List ℕ) → RunTo file consts k (firstOf fr) (cellsOf fr) (beforeOf fr) old r cells′ new′ → length new′ ≡ length new → o ≡ rowAt rows k 3 → valuesOf o args′ ≡ valuesOf o (drop (9 * i) cells′) → SiteTo file consts k args old (r .end) args′ new′
     unfolding instance
     function-done r cells′ new′ o args′ m l oE left vs e =
-        let U = runIn file consts k true cells before old in
+        let U = runIn file consts k (firstOf fr) (cellsOf fr) (beforeOf fr) old in
         let F = freshRecord fglob fnode in
         let q : record { out = leave fglob fnode F U .out; seg = old } ≡ calls fglob k vs old = ap (λ (u : Run). record { out = leave fglob fnode F u .out; seg = old }) (runs-fresh vs e) ∙ sym (function-call (h .running) k vs old (h .below) func) in
         subst (λ (w : Evals). Did asIs w (r .end) (outputsAt file k args′) new′) q
@@ -403,22 +385,11 @@ module _ {file tab rows consts args old new : List ℕ} {k : ℕ} (h : Steppable
 
 -- ---- on a frame
 
--- a run on a frame is one on what it holds
-pub held-runnable : {file tab rows consts fr : List ℕ} {k : ℕ} {first : Bool} {cells before old new : List ℕ} → Holding fr k first cells before → Runnable file tab rows consts k cells before old new → Runnable file tab rows consts (nodeOf fr) (cellsOf fr) (beforeOf fr) old new
-held-runnable {file} {tab} {rows} {consts} {fr} {k} {first} {cells} {before} {old} {new} h p =
-    subst (λ (n : ℕ). Runnable file tab rows consts n (cellsOf fr) (beforeOf fr) old new) (sym (h .node))
-    (subst (λ (c : List ℕ). Runnable file tab rows consts k c (beforeOf fr) old new) (sym (h .cells-are))
-    (subst (λ (b : List ℕ). Runnable file tab rows consts k cells b old new) (sym (h .before-are)) p))
+-- a run on a frame of node k
+pub framed-runnable : {file tab rows consts fr : List ℕ} {k : ℕ} {old new : List ℕ} → nodeOf fr ≡ k → Runnable file tab rows consts k (cellsOf fr) (beforeOf fr) old new → Runnable file tab rows consts (nodeOf fr) (cellsOf fr) (beforeOf fr) old new
+framed-runnable {file} {tab} {rows} {consts} {fr} {k} {old} {new} e p =
+    subst (λ (n : ℕ). Runnable file tab rows consts n (cellsOf fr) (beforeOf fr) old new) (sym e) p
 
-pub held-run : (file consts old cells′ : List ℕ) {fr : List ℕ} {k : ℕ} {first : Bool} {cells before new : List ℕ} {r : Ended} → Holding fr k first cells before → RunTo file consts (nodeOf fr) (firstOf fr) (cellsOf fr) (beforeOf fr) old r cells′ new → RunTo file consts k first cells before old r cells′ new
-held-run file consts old cells′ {fr} {k} {first} {cells} {before} {new} {r} h p =
-    subst (λ (n : ℕ). RunTo file consts n first cells before old r cells′ new) (h .node)
-    (subst (λ (f : Bool). RunTo file consts (nodeOf fr) f cells before old r cells′ new) (h .first-is)
-    (subst (λ (c : List ℕ). RunTo file consts (nodeOf fr) (firstOf fr) c before old r cells′ new) (h .cells-are)
-    (subst (λ (b : List ℕ). RunTo file consts (nodeOf fr) (firstOf fr) (cellsOf fr) b old r cells′ new) (h .before-are) p)))
-
--- the outputs, as they are copied from the frame
-pub outputs-copied : (fr : List ℕ) (i o : ℕ) (args args′ : List ℕ) → Framed fr → i ≤ 32 → o ≤ 16 → length args ≡ 288 → args′ ≡ take (9 * 0) args ++ (take (9 * o - 9 * 0) (drop (9 * 0) (midOf (2 + 9 * i) 1010 fr)) ++ drop (9 * o) args) → valuesOf o args′ ≡ valuesOf o (drop (9 * i) (cellsOf fr))
-outputs-copied fr i o args args′ f li lo la e =
-    let c = cells-from fr i (omega arith) in
-    values-copied 0 o (midOf (2 + 9 * i) 1010 fr) args args′ (omega arith) (omega (arith, length-mid (2 + 9 * i) 1010 fr (omega arith) (omega arith))) (omega arith) e ∙ ap (valuesOf o) c
+pub framed-run : (file consts fr old cells′ : List ℕ) {k : ℕ} {new : List ℕ} {r : Ended} → nodeOf fr ≡ k → RunTo file consts (nodeOf fr) (firstOf fr) (cellsOf fr) (beforeOf fr) old r cells′ new → RunTo file consts k (firstOf fr) (cellsOf fr) (beforeOf fr) old r cells′ new
+framed-run file consts fr old cells′ {k} {new} {r} e p =
+    subst (λ (n : ℕ). RunTo file consts n (firstOf fr) (cellsOf fr) (beforeOf fr) old r cells′ new) e p

@@ -2,8 +2,8 @@
 // The functions of this file call each other, and a number falls at each of these calls: node * 256 + level * 8 + rank.
 // node is the node whose frame it is (`k` where it is called), and a callee comes before its caller; level is the number of levels that
 // an expression may have, at most 24, and counts as 31 where no expression is evaluated yet.
-// The ranks, at an expression's level: enter 1, eval_call 2, eval_form 3, eval 4, eval_first, eval_second, eval_two and step_untaken 5, eval_if 6,
-// eval_all 7; at level 31: call_equation and tuple_equation 0, equation 1, run 2, step_instance and call_function 3, step_site 4.
+// The ranks, at an expression's level: enter 1, eval_call 2, eval_form 3, eval 4, eval_two, step_untaken and eval_all 5, eval_first and eval_second 6,
+// eval_if 7; at level 31: call_equation and tuple_equation 0, equation 1, run 2, step_instance and call_function 3, step_site 4.
 ghost use mathlib.Core.Path.{_≡_};
 ghost use mathlib.Core.Bool.{true, false};
 ghost use Prim.Native.Nat.{_+_, _-_, _<_};
@@ -15,22 +15,21 @@ ghost use Rattle.ol_eval.specs.Calls.{Several, AllTo, EntersTo, Steppabl
 ghost use Rattle.ol_spec.specs.Syntax.{Function, Operator};
 ghost use Rattle.ol_tables.specs.At.{nodeIn};
 ghost use lib.ListN.{length, getD};
-use ol_frame::copies::bind;
 use ol_frame::copies::copy;
-use ol_frame::copies::copy_cells;
-use ol_frame::copies::finish;
 use ol_frame::copies::less;
 use ol_frame::copies::passed;
 use ol_frame::copies::single_out;
-use ol_frame::copies::store_out;
 use ol_frame::equations::equations;
 use ol_frame::frame::ARGUMENTS;
-use ol_frame::frame::BEFORE;
-use ol_frame::frame::CELLS;
 use ol_frame::frame::FRAME;
+use ol_frame::frame::bind_in;
+use ol_frame::frame::copy_outputs;
+use ol_frame::frame::finish_frame;
+use ol_frame::frame::fresh_frame;
 use ol_frame::frame::is_first;
 use ol_frame::frame::node_of;
-use ol_frame::frame::set_frame;
+use ol_frame::frame::open_frame;
+use ol_frame::frame::store_in;
 use ol_frame::names::chosen;
 use ol_frame::names::leaf_out;
 use ol_frame::names::present;
@@ -52,7 +51,6 @@ use ol_frame::tables::number;
 use ol_frame::tables::order_at;
 use ol_frame::tables::row;
 use ol_spec::Outcome;
-use ol_state::defaults::write_defaults;
 use ol_state::fresh::write_fresh;
 use ol_tables::heads::head;
 use ol_tables::heads::ty_size;
@@ -513,18 +511,13 @@ fn step_instance(
     let n = row(tab, k, VARIABLES);
     let own = 1 + 9 * n;
     let inputs = row(tab, k, INPUTS);
-    set_frame(frame, k, old[0] == 0);
-    copy_cells(0, n, &old[1..], &mut frame[BEFORE..]);
-    copy_cells(inputs, n, &old[1..], &mut frame[CELLS..BEFORE]);
-    copy_cells(0, inputs, args, &mut frame[CELLS..BEFORE]);
+    open_frame(k, n, inputs, args, old, frame);
     let r = run(file, tab, frame, &old[own..], &mut new[own..]);
     let end = r.end;
     match end {
         Ending::Values => {
-            finish(n, &frame[CELLS..BEFORE], new);
-            let from = CELLS + 9 * inputs;
-            let outputs = row(tab, k, OUTPUTS);
-            copy_cells(0, outputs, &frame[from..BEFORE], args);
+            finish_frame(n, frame, new);
+            copy_outputs(frame, inputs, row(tab, k, OUTPUTS), args);
             Ending::Values
         }
         Ending::Failed => {
@@ -552,14 +545,9 @@ fn call_function(
     ensures { λ r. ⌜ SiteTo (now (file .entry)) (constsOf (now (tab .entry))) k (now (args .entry)) (now (old .entry)) r (now (args .exit)) (now (new .exit)) ⌝ }
 {
     let inputs = row(tab, k, INPUTS);
-    set_frame(frame, k, true);
-    write_defaults(tab, k, &mut frame[BEFORE..]);
-    write_defaults(tab, k, &mut frame[CELLS..BEFORE]);
-    copy_cells(0, inputs, args, &mut frame[CELLS..BEFORE]);
+    fresh_frame(tab, k, inputs, args, frame);
     let r = run(file, tab, frame, old, new);
-    let from = CELLS + 9 * inputs;
-    let outputs = row(tab, k, OUTPUTS);
-    copy_cells(0, outputs, &frame[from..BEFORE], args);
+    copy_outputs(frame, inputs, row(tab, k, OUTPUTS), args);
     r.end
 }
 
@@ -623,8 +611,7 @@ fn equation(
     } else {
         let r = eval(file, tab, rhs, 24, frame, old, new);
         let o = r.out;
-        let k = node_of(frame);
-        store_out(tab, k, at + 1, o, &mut frame[CELLS..BEFORE])
+        store_in(tab, at + 1, o, frame)
     }
 }
 
@@ -650,8 +637,7 @@ fn call_equation(
         let p = rhs + 1;
         let c = number(file[p]);
         let m = less(n, row(tab, c, OUTPUTS));
-        let k = node_of(frame);
-        bind(tab, k, at + 1, m, &args, &mut frame[CELLS..BEFORE]);
+        bind_in(tab, at + 1, m, &args, frame);
         Ending::Values
     } else {
         end
@@ -679,8 +665,7 @@ fn tuple_equation(
     if let Ending::Values = end {
         let p = rhs + 1;
         let m = less(n, number(file[p]));
-        let k = node_of(frame);
-        bind(tab, k, at + 1, m, &items, &mut frame[CELLS..BEFORE]);
+        bind_in(tab, at + 1, m, &items, frame);
         Ending::Values
     } else {
         end
