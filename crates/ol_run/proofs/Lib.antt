@@ -6,4 +6,3 @@ pub mod Placing
 pub mod Seen
 pub mod Standing
 pub mod Tabled
-pub mod Framing

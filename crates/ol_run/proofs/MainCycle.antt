@@ -4,8 +4,7 @@ use mathlib.Core.Bool.{Bool}
 use mathlib.Core.List.{List, [], _∷_, _++_, append-assoc, append-nil}
 use mathlib.Core.Path.{_≡_, refl, sym, ap, subst, _∙_}
 use native.Mathlib.Omega.{arith}
-use lib.Dec.{eqb}
-use lib.ListN.{length, take, drop, getD, length-drop, length-map, length-append, drop-of-length-le, take-append-drop}
+use lib.ListN.{length, take, drop, length-drop, length-map, length-append, drop-of-length-le, take-append-drop}
 use lib.Seq.{take-all, take-add}
 use Rattle.ol_spec.specs.Syntax.{Node, File, main, constantName}
 use Rattle.ol_spec.specs.Cell.{cells, valuesOf}
@@ -33,11 +32,10 @@ use Rattle.ol_eval.specs.declared.eval.Ended.{Ended}
 use Rattle.ol_frame.specs.declared.outcomes.Ending.the-variants as End
 use Rattle.ol_tables.proofs.Lending.{tailOf, putTail, tail-all, put-tail, take-put, drop-put, length-put}
 use Rattle.ol_frame.proofs.Endings.{failed-values, over-values, over-failed}
-use Rattle.ol_frame.proofs.Storing.{values-copied}
 use Rattle.ol_frame.proofs.NodeRows.{width-is, inputs-are, narrow, inputs-first}
 use Rattle.ol_state.proofs.Instances.{few-nodes}
-use Rattle.ol_frame.specs.Frame.{Framed, firstOf, nodeOf, cellsOf, beforeOf, headed}
-use Rattle.ol_run.proofs.Framing.{headed-framed, headed-first, headed-node, before-framed, before-head, before-put, cellsPut, cells-long, cells-framed, cells-head, cells-put, cells-before}
+use Rattle.ol_frame.specs.Frame.{Framed, firstOf, nodeOf, cellsOf, beforeOf, Opened}
+use Rattle.ol_frame.proofs.Framing.{cells-length, before-length}
 
 -- the main node is the last
 pub main-is : (file : List ℕ) (k : ℕ) → suc k ≡ nodesIn file → main (fileAt file) ≡ nodeIn file k
@@ -103,15 +101,6 @@ module _ (f : File) (old vals : List ℕ) (U : Run) (r : Ended) (got : List Valu
       go (failedAt i) s = over-failed z (s .0)
       go (overflowedAt i) s = record { answered = ap (λ (j : ℕ). Cyc.Stopped (faultAt (endingNumber End.Overflowed) j)) (s .1); renewed = w; valued = refl }
 
--- ---- the bytes of a record
-
--- the inputs are copied, and then the held cells behind them
-pub begun : (k n : ℕ) (inputs held present p q : List ℕ) → k ≤ n → 9 * k ≤ length inputs → 9 * n ≤ length held → 9 * n ≤ length present → length p ≡ length present
-    → p ≡ take (9 * 0) present ++ (take (9 * k - 9 * 0) (drop (9 * 0) inputs) ++ drop (9 * k) present) → q ≡ take (9 * k) p ++ (take (9 * n - 9 * k) (drop (9 * k) held) ++ drop (9 * n) p)
-    → valuesOf n q ≡ valuesOf k inputs ++ drop k (valuesOf n held)
-begun k n inputs held present p q h li lh lp l ep eq =
-    values-copied k n held p q h lh (omega arith) eq ∙ ap (λ (vs : List Value). vs ++ drop k (valuesOf n held)) (values-copied 0 k inputs present p (omega arith) li (omega arith) ep)
-
 -- ---- the run on its record
 
 module _ {file tab rows consts inputs old new frame : List ℕ} {k : ℕ} (h : RecordReady file tab rows consts k inputs old new frame) where
@@ -125,102 +114,54 @@ module _ {file tab rows consts inputs old new frame : List ℕ} {k : ℕ} (h : R
   pub own-new : (n : ℕ) → n ≡ rowAt rows k 4 → 1 + 9 * n ≤ length new
   own-new n e = omega (arith, own-room n e, ap length (h .same))
 
-  held-room : (n : ℕ) → n ≡ rowAt rows k 4 → 9 * n ≤ length (tailOf 1 old)
-  held-room n e = omega (arith, own-room n e, ap length (tail-all 1 old), length-drop 1 old)
-
   pub few : k < 32
   few = few-nodes (h .running .known) inside
 
-  -- the frame with its first bytes written, then with the cells before, then with the cells
-  abbrev first : List ℕ
-  first = headed frame k (isFresh old)
+  pub open-ready : (n i : ℕ) → n ≡ rowAt rows k 4 → i ≡ rowAt rows k 2 → Framed frame × (k < 256) × (i ≤ n) × (n ≤ 112) × (9 * i ≤ length inputs) × (1 + 9 * n ≤ length old)
+  open-ready n i e f =
+      (h .framed, omega (arith, few), inputs-first (h .running) inside n i e f, narrow (h .running) inside n e, omega (arith, h .given, inputs-are (h .running) inside i f), own-room n e)
 
-  first-framed : Framed first
-  first-framed = headed-framed frame (h .framed) k (isFresh old)
+  -- the frame that was opened on the record
+  module _ (n i : ℕ) (e : n ≡ rowAt rows k 4) (f : i ≡ rowAt rows k 2) {opened : List ℕ} (o : Opened k n i inputs old opened) where
+    pub record-runnable : Framed opened × Runnable file tab rows consts (nodeOf opened) (cellsOf opened) (beforeOf opened) (tailOf (1 + 9 * n) old) (tailOf (1 + 9 * n) new)
+    record-runnable =
+        let w = width-is (h .running) inside n e in
+        let z = ap length (tail-all (1 + 9 * n) old) ∙ length-drop (1 + 9 * n) old in
+        let m = h .running .program .width k in
+        let l = o .framed in (
+          l,
+          subst (λ (q : ℕ). Runnable file tab rows consts q (cellsOf opened) (beforeOf opened) (tailOf (1 + 9 * n) old) (tailOf (1 + 9 * n) new)) (sym (o .node)) (record {
+            running = h .running;
+            below = inside;
+            present = record { long = omega (arith, m, cells-length opened l) };
+            previous = record { long = omega (arith, m, before-length opened l) };
+            sized = omega (arith, z, h .sized, w);
+            small = omega (arith, z, h .small);
+            same = ap (tailOf (1 + 9 * n)) (h .same);
+          }),
+        )
 
-  pub before-ready : (n : ℕ) → n ≡ rowAt rows k 4 → (0 ≤ n) × (n ≤ 112) × (9 * n ≤ length (tailOf 1 old)) × (9 * n ≤ length (tailOf 1010 first))
-  before-ready n e =
-      let m = narrow (h .running) inside n e in
-      (omega arith, m, held-room n e, omega (arith, m, ap length (tail-all 1010 first), length-drop 1010 first, first-framed))
-
-  pub first-room : 1010 ≤ length first
-  first-room = omega (arith, first-framed)
-
-  module _ (b : List ℕ) (kb : length b ≡ length (tailOf 1010 first)) where
-    abbrev second : List ℕ
-    second = putTail 1010 first b
-
-    pub second-framed : Framed second
-    second-framed = before-framed first b first-framed kb
-
-    pub second-room : 1010 ≤ length second
-    second-room = omega (arith, second-framed)
-
-    pub begin-ready : (n i : ℕ) → n ≡ rowAt rows k 4 → i ≡ rowAt rows k 2 → (i ≤ n) × (n ≤ 112) × (9 * i ≤ length inputs) × (9 * n ≤ length (tailOf 1 old)) × (9 * n ≤ length (cellsOf second))
-    begin-ready n i e f =
-        let m = narrow (h .running) inside n e in
-        (inputs-first (h .running) inside n i e f, m, omega (arith, h .given, inputs-are (h .running) inside i f), held-room n e, omega (arith, m, cells-long second second-framed))
-
-    module _ (c : List ℕ) (kc : length c ≡ length (cellsOf second)) where
-      abbrev third : List ℕ
-      third = cellsPut second c
-
-      pub third-framed : Framed third
-      third-framed = cells-framed second c second-framed kc
-
-      third-head : (j : ℕ) → j < 2 → getD third j 0 ≡ getD first j 0
-      third-head j l = cells-head second c second-framed kc j l ∙ before-head first b first-framed kb j (omega arith)
-
-      third-node : nodeOf third ≡ k
-      third-node = third-head 1 (omega arith) ∙ headed-node frame (h .framed) k (isFresh old)
-
-      third-first : firstOf third ≡ isFresh old
-      third-first = ap (λ (x : ℕ). eqb x 1) (third-head 0 (omega arith)) ∙ headed-first frame (h .framed) k (isFresh old)
-
-      third-before : beforeOf third ≡ b
-      third-before = cells-before second c second-framed kc ∙ before-put first b first-framed kb
-
-      pub record-runnable : (n : ℕ) → n ≡ rowAt rows k 4 → Framed third × Runnable file tab rows consts (nodeOf third) (cellsOf third) (beforeOf third) (tailOf (1 + 9 * n) old) (tailOf (1 + 9 * n) new)
-      record-runnable n e =
-          let w = width-is (h .running) inside n e in
-          let z = ap length (tail-all (1 + 9 * n) old) ∙ length-drop (1 + 9 * n) old in
-          let m = h .running .program .width k in (
-            third-framed,
-            subst (λ (q : ℕ). Runnable file tab rows consts q (cellsOf third) (beforeOf third) (tailOf (1 + 9 * n) old) (tailOf (1 + 9 * n) new)) (sym third-node) (record {
-              running = h .running;
-              below = inside;
-              present = record { long = omega (arith, m, cells-long third third-framed) };
-              previous = record { long = omega (arith, m, length-drop 1010 third, third-framed) };
-              sized = omega (arith, z, h .sized, w);
-              small = omega (arith, z, h .small);
-              same = ap (tailOf (1 + 9 * n)) (h .same);
-            }),
-          )
-
-      pub record-ran : (n i : ℕ) (cells′ x : List ℕ) (r : Ended) → n ≡ rowAt rows k 4 → i ≡ rowAt rows k 2
-          → b ≡ take (9 * 0) (tailOf 1010 first) ++ (take (9 * n - 9 * 0) (drop (9 * 0) (tailOf 1 old)) ++ drop (9 * n) (tailOf 1010 first))
-          → valuesOf n c ≡ valuesOf i inputs ++ drop i (valuesOf n (tailOf 1 old))
-          → RunTo file consts (nodeOf third) (firstOf third) (cellsOf third) (beforeOf third) (tailOf (1 + 9 * n) old) r cells′ x → RecordRan file consts k inputs old r (putTail (1 + 9 * n) new x) cells′
-      record-ran n i cells′ x r e f eb ec m =
-          let w = width-is (h .running) inside n e in
-          let v = inputs-are (h .running) inside i f in
-          let own : 1 + 9 * n ≡ ownSize (nodeIn file k) = ap (λ (q : ℕ). 1 + 9 * q) w in
-          let N = putTail (1 + 9 * n) new x in
-          let s : drop (ownSize (nodeIn file k)) N ≡ x = ap (λ (q : ℕ). drop q N) (sym own) ∙ drop-put (1 + 9 * n) new x (own-new n e) in
-          let t : take (ownSize (nodeIn file k)) N ≡ take (ownSize (nodeIn file k)) new =
-          ap (λ (q : ℕ). take q N) (sym own) ∙ take-put (1 + 9 * n) new x (own-new n e) ∙ ap (λ (q : ℕ). take q new) own in
-          let bs : valuesOf (widthIn file k) (beforeOf third) ≡ valuesOf (widthIn file k) (drop 1 old) =
-          (λ j. valuesOf (sym w j) (third-before j)) ∙ values-copied 0 n (tailOf 1 old) (tailOf 1010 first) b (omega arith) (held-room n e) (before-ready n e .3) eb ∙ (λ j. valuesOf (w j) (tail-all 1 old j)) in
-          let cs : valuesOf (widthIn file k) (cellsOf third) ≡ valuesOf (length (nodeIn file k .inputs)) inputs ++ drop (length (nodeIn file k .inputs)) (valuesOf (widthIn file k) (drop 1 old)) =
-          (λ j. valuesOf (sym w j) (cells-put second c second-framed kc j)) ∙ ec ∙ (λ j. valuesOf (v j) inputs ++ drop (v j) (valuesOf (w j) (tail-all 1 old j))) in
-          let u : runIn file consts (nodeOf third) (firstOf third) (cellsOf third) (beforeOf third) (tailOf (1 + 9 * n) old) ≡ recordRun file consts k inputs old =
-          ap (λ (q : ℕ). runIn file consts q (firstOf third) (cellsOf third) (beforeOf third) (tailOf (1 + 9 * n) old)) third-node
-          ∙ record-run file consts k inputs old (cellsOf third) (beforeOf third) (tailOf (1 + 9 * n) old) (firstOf third) third-first bs (tail-all (1 + 9 * n) old ∙ ap (λ (q : ℕ). drop q old) own) cs in
-          let m′ = subst (λ (q : ℕ). RunMeets (runIn file consts (nodeOf third) (firstOf third) (cellsOf third) (beforeOf third) (tailOf (1 + 9 * n) old)) r (valuesOf (widthIn file q) cells′) x) third-node m in
-          record {
-            ran = subst (λ (l : List ℕ). RunMeets (recordRun file consts k inputs old) r (valuesOf (widthIn file k) cells′) l) (sym s) (subst (λ (y : Run). RunMeets y r (valuesOf (widthIn file k) cells′) x) u m′);
-            kept = t ∙ ap (take (ownSize (nodeIn file k))) (h .same);
-          }
+    pub record-ran : (cells′ x : List ℕ) (r : Ended) → RunTo file consts (nodeOf opened) (firstOf opened) (cellsOf opened) (beforeOf opened) (tailOf (1 + 9 * n) old) r cells′ x → RecordRan file consts k inputs old r (putTail (1 + 9 * n) new x) cells′
+    record-ran cells′ x r m =
+        let w = width-is (h .running) inside n e in
+        let v = inputs-are (h .running) inside i f in
+        let own : 1 + 9 * n ≡ ownSize (nodeIn file k) = ap (λ (q : ℕ). 1 + 9 * q) w in
+        let N = putTail (1 + 9 * n) new x in
+        let s : drop (ownSize (nodeIn file k)) N ≡ x = ap (λ (q : ℕ). drop q N) (sym own) ∙ drop-put (1 + 9 * n) new x (own-new n e) in
+        let t : take (ownSize (nodeIn file k)) N ≡ take (ownSize (nodeIn file k)) new =
+        ap (λ (q : ℕ). take q N) (sym own) ∙ take-put (1 + 9 * n) new x (own-new n e) ∙ ap (λ (q : ℕ). take q new) own in
+        let bs : valuesOf (widthIn file k) (beforeOf opened) ≡ valuesOf (widthIn file k) (drop 1 old) =
+        ap (λ (q : ℕ). valuesOf q (beforeOf opened)) (sym w) ∙ o .before ∙ ap (λ (q : ℕ). valuesOf q (drop 1 old)) w in
+        let cs : valuesOf (widthIn file k) (cellsOf opened) ≡ valuesOf (length (nodeIn file k .inputs)) inputs ++ drop (length (nodeIn file k .inputs)) (valuesOf (widthIn file k) (drop 1 old)) =
+        ap (λ (q : ℕ). valuesOf q (cellsOf opened)) (sym w) ∙ o .cells ∙ (λ j. valuesOf (v j) inputs ++ drop (v j) (valuesOf (w j) (drop 1 old))) in
+        let u : runIn file consts (nodeOf opened) (firstOf opened) (cellsOf opened) (beforeOf opened) (tailOf (1 + 9 * n) old) ≡ recordRun file consts k inputs old =
+        ap (λ (q : ℕ). runIn file consts q (firstOf opened) (cellsOf opened) (beforeOf opened) (tailOf (1 + 9 * n) old)) (o .node)
+        ∙ record-run file consts k inputs old (cellsOf opened) (beforeOf opened) (tailOf (1 + 9 * n) old) (firstOf opened) (o .first) bs (tail-all (1 + 9 * n) old ∙ ap (λ (q : ℕ). drop q old) own) cs in
+        let m′ = subst (λ (q : ℕ). RunMeets (runIn file consts (nodeOf opened) (firstOf opened) (cellsOf opened) (beforeOf opened) (tailOf (1 + 9 * n) old)) r (valuesOf (widthIn file q) cells′) x) (o .node) m in
+        record {
+          ran = subst (λ (l : List ℕ). RunMeets (recordRun file consts k inputs old) r (valuesOf (widthIn file k) cells′) l) (sym s) (subst (λ (y : Run). RunMeets y r (valuesOf (widthIn file k) cells′) x) u m′);
+          kept = t ∙ ap (take (ownSize (nodeIn file k))) (h .same);
+        }
 
 -- ---- the cycle
 
@@ -256,16 +197,16 @@ module _ {file tab rows consts old inputs new vals : List ℕ} {k : ℕ} (h : Ru
     moved-room copied x e l = omega (arith, moved-length copied x e l, copied-room copied e)
 
     pub finish-ready : (n : ℕ) (copied x frame : List ℕ) → n ≡ rowAt rows k 4 → copied ≡ old → length x ≡ length (tailOf H copied) → Framed frame
-        → (n ≤ 112) × (9 * n ≤ length (cellsOf frame)) × (1 + 9 * n ≤ length (tailOf H (putTail H copied x)))
+        → Framed frame × (n ≤ 112) × (1 + 9 * n ≤ length (tailOf H (putTail H copied x)))
     finish-ready n copied x frame w e l p =
         let m = narrow (h .running) main-inside n w in
         let A = putTail H copied x in
-        (m, omega (arith, cells-long frame p, m), omega (arith, ap length (tail-all H A), length-drop H A, moved-length copied x e l, ap length e, state-is, width-is (h .running) main-inside n w))
+        (p, m, omega (arith, ap length (tail-all H A), length-drop H A, moved-length copied x e l, ap length e, state-is, width-is (h .running) main-inside n w))
 
     pub values-ready : (n : ℕ) (frame : List ℕ) → n ≡ rowAt rows k 4 → Framed frame → (n ≤ 112) × (9 * n ≤ length (cellsOf frame)) × (9 * n ≤ length vals)
     values-ready n frame w p =
         let m = narrow (h .running) main-inside n w in
-        (m, omega (arith, cells-long frame p, m), omega (arith, h .told, width-is (h .running) main-inside n w))
+        (m, omega (arith, cells-length frame p, m), omega (arith, h .told, width-is (h .running) main-inside n w))
 
     pub ended-length : (copied x y : List ℕ) → copied ≡ old → length x ≡ length (tailOf H copied) → length y ≡ length (tailOf H (putTail H copied x)) → length (putTail H (putTail H copied x) y) ≡ length copied
     ended-length copied x y e l m = length-put H (putTail H copied x) y (moved-room copied x e l) m ∙ moved-length copied x e l

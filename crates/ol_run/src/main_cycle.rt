@@ -2,13 +2,12 @@
 use ol_eval::eval::Ended;
 use ol_eval::eval::run;
 use ol_frame::copies::copy;
-use ol_frame::copies::copy_cells;
-use ol_frame::copies::finish;
 use ol_frame::copies::write_cells;
 use ol_frame::frame::BEFORE;
 use ol_frame::frame::CELLS;
 use ol_frame::frame::FRAME;
-use ol_frame::frame::set_frame;
+use ol_frame::frame::finish_frame;
+use ol_frame::frame::open_frame;
 use ol_frame::outcomes::Ending;
 use ol_frame::tables::row;
 use ol_spec::Cycled;
@@ -18,23 +17,11 @@ use ol_tables::table::KNOWN;
 use ol_tables::tables::INPUTS;
 use ol_tables::tables::VARIABLES;
 ghost use mathlib.Core.Path.{_≡_};
-ghost use mathlib.Core.List.{List, _++_};
-ghost use Prim.Native.Nat.{_*_, _≤_};
-ghost use lib.ListN.{length, drop};
-ghost use Rattle.ol_spec.specs.Cell.{valuesOf};
+ghost use mathlib.Core.List.{List};
 ghost use Rattle.ol_spec.specs.declared.Value.{Value};
 ghost use Rattle.ol_tables.specs.Table.{tabOf, rowsOf, constsOf};
 ghost use Rattle.ol_frame.specs.Frame.{cellsOf};
 ghost use Rattle.ol_run.specs.MainCycle.{RecordReady, RecordRan, RunReady, CyclesTo};
-
-// The cells that a run starts from: k inputs, then the held cells up to n.
-fn begin(k: usize, n: usize, inputs: &[u8], held: &[u8], present: &mut [u8])
-    requires { ⌜ (k ≤ n) × (n ≤ 112) × (9 * k ≤ length (now inputs)) × (9 * n ≤ length (now held)) × (9 * n ≤ length (now present)) ⌝ }
-    ensures { λ _. ⌜ valuesOf n (now (present .exit)) ≡ valuesOf k (now (inputs .entry)) ++ drop k (valuesOf n (now (held .entry))) ⌝ }
-{
-    copy_cells(0, k, inputs, present);
-    copy_cells(k, n, held, present);
-}
 
 // The run on the main record, in a frame of its own: the segments of its equations are moved, the rest of it stays.
 fn run_record(
@@ -52,9 +39,7 @@ fn run_record(
     let n = row(tab, main, VARIABLES);
     let k = row(tab, main, INPUTS);
     let own = 1 + 9 * n;
-    set_frame(frame, main, old[0] == 0);
-    copy_cells(0, n, &old[1..], &mut frame[BEFORE..]);
-    begin(k, n, inputs, &old[1..], &mut frame[CELLS..BEFORE]);
+    open_frame(main, n, k, inputs, old, frame);
     run(file, tab, frame, &old[own..], &mut new[own..])
 }
 
@@ -89,7 +74,7 @@ pub fn run_main(
     let place = r.index;
     match end {
         Ending::Values => {
-            finish(n, &frame[CELLS..BEFORE], &mut new[head..]);
+            finish_frame(n, &frame, &mut new[head..]);
             write_cells(n, &frame[CELLS..BEFORE], values);
             Cycled::Answered
         }
