@@ -20,7 +20,7 @@ ghost use mathlib.Core.Path.{_≡_};
 ghost use mathlib.Core.List.{List};
 ghost use Rattle.ol_spec.specs.declared.Value.{Value};
 ghost use Rattle.ol_tables.specs.Table.{tabOf, rowsOf, constsOf};
-ghost use Rattle.ol_frame.specs.Frame.{cellsOf};
+ghost use Rattle.ol_frame.specs.Frame.{Framed, cellsOf};
 ghost use Rattle.ol_run.specs.MainCycle.{RecordReady, RecordRan, RunReady, CyclesTo};
 
 // The run on the main record, in a frame of its own: the segments of its equations are moved, the rest of it stays.
@@ -34,7 +34,7 @@ fn run_record(
     frame: &mut [u8; FRAME],
 ) -> Ended
     requires { ⌜ RecordReady (now file) (tabOf (now tab)) (rowsOf (now tab)) (constsOf (now tab)) main (now inputs) (now old) (now new) (now frame) ⌝ }
-    ensures { λ r. ⌜ RecordRan (now (file .entry)) (constsOf (now (tab .entry))) main (now (inputs .entry)) (now (old .entry)) r (now (new .exit)) (cellsOf (now (frame .exit))) ⌝ }
+    ensures { λ r. ⌜ RecordRan (now (file .entry)) (constsOf (now (tab .entry))) main (now (inputs .entry)) (now (old .entry)) r (now (new .exit)) (cellsOf (now (frame .exit))) × Framed (now (frame .exit)) ⌝ }
 {
     let n = row(tab, main, VARIABLES);
     let k = row(tab, main, INPUTS);
