@@ -15,6 +15,7 @@ use Rattle.ol_tables.specs.Tables.{Rows, Tab, nodeOf, rowAt, firstAt}
 use Rattle.ol_tables.proofs.HeadsFile.{node-at}
 use Rattle.ol_state.proofs.Told.{first-short}
 use Rattle.ol_run.specs.Admitted.{Admitted}
+use Rattle.ol_run.specs.Constants.{SameTables}
 use Rattle.ol_tables.specs.Table.{rowsOf, tabOf, Packs}
 use Rattle.ol_tables.proofs.TableLaws.{rows-long, rows-get}
 use Rattle.ol_sim.proofs.Tables.{width}
@@ -109,4 +110,15 @@ admitted-packed {s} {rows} {t} {t₁} {t₂} a p q =
       ordered = a .ordered;
       rowed = rows-packed (a .stands) (a .rowed) p q;
       tabled = subst (λ l. Tab (fileAt s) (length s) l) (sym (tab-packed (a .stands) (a .rowed) p q)) (a .tabled);
+    }
+
+-- storing the constants' cells keeps them
+pub admitted-same : {s t t′ : List ℕ} → Admitted s (rowsOf t) (tabOf t) → SameTables t t′ → Admitted s (rowsOf t′) (tabOf t′)
+admitted-same {s} {t} {t′} a h =
+    record {
+      reads = a .reads;
+      stands = a .stands;
+      ordered = a .ordered;
+      rowed = subst (λ l. Rows (fileAt s) l) (sym (h .rows)) (a .rowed);
+      tabled = subst (λ l. Tab (fileAt s) (length s) l) (sym (h .tab)) (a .tabled);
     }
