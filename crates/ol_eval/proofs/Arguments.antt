@@ -26,8 +26,8 @@ use Rattle.ol_frame.specs.Outcomes.{endingOf}
 use Rattle.ol_frame.specs.declared.outcomes.Ending.{Ending}
 use Rattle.ol_frame.specs.declared.outcomes.Ending.the-variants as End
 use Rattle.ol_eval.specs.Calls.{Holds, RanTo, Passes, passedAll, allIn}
-use Rattle.ol_eval.specs.declared.cycle.Step.{Step}
-use Rattle.ol_eval.specs.declared.cycle.Ran.{Ran}
+use Rattle.ol_eval.specs.declared.eval.Step.{Step}
+use Rattle.ol_eval.specs.declared.eval.Ran.{Ran}
 use Rattle.ol_frame.specs.declared.skip.Passed.{Passed}
 use Rattle.ol_tables.proofs.Lending.{tailOf, putTail, tail-all, put-tail, drop-take}
 use Rattle.ol_frame.proofs.Planning.{segs-cons}

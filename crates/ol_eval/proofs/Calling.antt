@@ -1,10 +1,11 @@
 -- Laws of a call: its arguments, then its callee on the call site's record.
 use Prim.Native.Nat.{ℕ, zero, suc, _+_, _-_, _*_, _≤_, _<_}
-use mathlib.Core.Bool.{Bool, true, false}
+use mathlib.Core.Bool.{Bool, true, false, cond}
 use mathlib.Core.List.{List, [], _∷_, _++_, append-assoc}
 use mathlib.Core.Path.{_≡_, refl, sym, ap, subst, _∙_}
 use native.Mathlib.Omega.{arith}
-use lib.Dec.{T}
+use lib.Dec.{T, ltb, eqb}
+use borrow.Author.Tests.{lt-ltb}
 use lib.ListN.{length, take, drop, getD, length-drop}
 use lib.Seq.{take-take, drop-drop, length-take-le}
 use Rattle.ol_spec.specs.Syntax.{NodeKind, Function, Operator, Imported, Node, Expr, call, Exprs, count, rhsOf}
@@ -16,6 +17,7 @@ use Rattle.ol_spec.specs.declared.Value.{Value}
 use Rattle.ol_spec.specs.declared.Outcome.{Outcome}
 use Rattle.ol_tables.specs.At.{fileAt, nodeIn, exprAt, endAt, exprsAt, endsAt, ReadsAll}
 use Rattle.ol_tables.specs.Tables.{Each, rowAt, siteBytes}
+use Rattle.ol_tables.specs.Heads.{partsAt, nextAt, partsTable, sizesTable, tySizeAt}
 use Rattle.ol_tables.proofs.Forms.{Formed, parted, none-read, callees-form, call-form}
 use Rattle.ol_frame.specs.Walk.{nodesIn, sizesIn}
 use Rattle.ol_frame.specs.Plans.{globalsIn, scopeIn, evalIn, segsAt, segAt}
@@ -24,14 +26,13 @@ use Rattle.ol_eval.specs.Post.{Ready, Meets, EvalsTo}
 use Rattle.ol_frame.specs.Outcomes.{endingOf}
 use Rattle.ol_frame.specs.declared.outcomes.Ending.{Ending}
 use Rattle.ol_frame.specs.declared.outcomes.Ending.the-variants as End
-use Rattle.ol_eval.specs.Calls.{Holds, asIs, RanTo, Did, Passes, passedAll, allIn, AllTo, outputsAt, rhsEval, EntersTo, Steppable, SiteTo}
+use Rattle.ol_eval.specs.Calls.{Holds, asIs, RanTo, Did, Passes, passedAll, allIn, PassedTo, Several, AllTo, isCall, outputsAt, rhsEval, EntersTo, Steppable, SiteTo}
 use Rattle.ol_frame.specs.Stores.{Leaves}
-use Rattle.ol_eval.specs.declared.cycle.Step.{Step}
-use Rattle.ol_eval.specs.declared.cycle.Ran.{Ran}
+use Rattle.ol_eval.specs.declared.eval.Step.{Step}
+use Rattle.ol_eval.specs.declared.eval.Ran.{Ran}
 use Rattle.ol_tables.proofs.Lending.{tailOf, putTail, tail-all, put-tail, take-put, drop-put, drop-take}
 use Rattle.ol_frame.proofs.Endings.{failed-values, over-values}
 use Rattle.ol_frame.proofs.Passing.{callees-one, row-size}
-use Rattle.ol_frame.proofs.RealKinds.{input-below}
 use Rattle.ol_frame.proofs.Planning.{Callee, plan-head, plan-parts, plan-call, segs-one}
 
 -- ---- how several values end
@@ -104,6 +105,33 @@ not-imported Imported Function h e = let z : _≡_ {A = ℕ} 0 1 = cc in omega a
 not-imported Imported Operator h e = let z : _≡_ {A = ℕ} 0 1 = cc in omega arith
 not-imported Imported Imported h e = absurd h
 
+-- the parts of a call, and of a Tuple
+pub is-call : (file : List ℕ) (at : ℕ) → getD file at 0 ≡ 11 → isCall file at ≡ true
+is-call file at b = ap (λ (c : ℕ). eqb c 11) b
+
+pub is-tuple : (file : List ℕ) (at : ℕ) → getD file at 0 ≡ 12 → isCall file at ≡ false
+is-tuple file at b = ap (λ (c : ℕ). eqb c 11) b
+
+module _ (file : List ℕ) (at : ℕ) where
+  -- how many parts a code tells, and where they start
+  abbrev partsBy : ℕ → ℕ
+  partsBy c = cond (ltb c 10) (getD partsTable c 0) (cond (eqb c 10) 1 (cond (eqb c 11) (getD file (at + 2) 0) (getD file (at + 1) 0)))
+
+  abbrev nextBy : Bool → ℕ → ℕ
+  nextBy inside c = cond inside (cond (ltb c 10) (at + getD sizesTable c 0) (cond (eqb c 10) (at + 1 + tySizeAt file (at + 1)) (cond (eqb c 11) (at + 3) (at + 2)))) at
+
+  pub parts-call : getD file at 0 ≡ 11 → partsAt file at ≡ getD file (at + 2) 0
+  parts-call b = ap partsBy b
+
+  pub parts-tuple : getD file at 0 ≡ 12 → partsAt file at ≡ getD file (at + 1) 0
+  parts-tuple b = ap partsBy b
+
+  pub next-call : getD file at 0 ≡ 11 → at < length file → nextAt file at ≡ at + 3
+  next-call b l = λ j. nextBy (lt-ltb at (length file) l j) (b j)
+
+  pub next-tuple : getD file at 0 ≡ 12 → at < length file → nextAt file at ≡ at + 2
+  next-tuple b l = λ j. nextBy (lt-ltb at (length file) l j) (b j)
+
 -- ---- the call at a place: its callee k, and n arguments
 
 module _ {file tab rows consts : List ℕ} {level at node : ℕ} {cells before old new : List ℕ} (p : Ready file tab rows consts level 1 at node cells before old new) (b : getD file at 0 ≡ 11) (k n : ℕ) (kE : k ≡ getD file (at + 1) 0) (nE : n ≡ getD file (at + 2) 0) where
@@ -163,15 +191,34 @@ module _ {file tab rows consts : List ℕ} {level at node : ℕ} {cells before o
   pub call-arity : n ≡ length (nodeIn file k .inputs)
   call-arity = call-callee .arity
 
-  pub call-passes : {to : List ℕ} → length to ≡ 1008 → Passes file true k n to
+  pub call-passes : {to : List ℕ} → length to ≡ 288 → Passes file true k n to
   call-passes l = record { room = omega (arith, call-few); few = omega (arith, call-few); small = call-small; callee = λ e. (call-below, call-arity) }
 
-  -- its first output has a cell
-  pub call-cells : (i : ℕ) → i ≡ rowAt rows k 2 → i < 112
-  call-cells i e = input-below k i (p .plan .program) call-below e
+  -- the parts of the call are its arguments
+  parts-are : partsAt file at ≡ n
+  parts-are = parts-call file at b ∙ sym nE
+
+  start-is : nextAt file at ≡ at + 3
+  start-is = next-call file at b (omega (arith, call-at .inside))
+
+  pub call-several : {to : List ℕ} → length to ≡ 288 → Several file at to
+  call-several {to} l =
+      record {
+        inside = omega (arith, call-at .inside);
+        passes = subst (λ (m : ℕ). Passes file (isCall file at) (getD file (at + 1) 0) m to) (sym parts-are)
+            (subst (λ (c : ℕ). Passes file (isCall file at) c n to) kE
+            (subst (λ (f : Bool). Passes file f k n to) (sym (is-call file at b)) (call-passes l)));
+      }
+
+  pub call-all : (first : Bool) {old′ : List ℕ} {r : Ran} (to : List ℕ) {new′ : List ℕ} → AllTo file consts (level - 1) at node first cells before old′ r to new′ → PassedTo file consts true k n (level - 1) (at + 3) node first cells before old′ r to new′
+  call-all first {old′} {r} to {new′} h =
+      subst (λ (f : Bool). PassedTo file consts f k n (level - 1) (at + 3) node first cells before old′ r to new′) (is-call file at b)
+      (subst (λ (c : ℕ). PassedTo file consts (isCall file at) c n (level - 1) (at + 3) node first cells before old′ r to new′) (sym kE)
+      (subst (λ (m : ℕ). PassedTo file consts (isCall file at) (getD file (at + 1) 0) m (level - 1) (at + 3) node first cells before old′ r to new′) parts-are
+      (subst (λ (p : ℕ). PassedTo file consts (isCall file at) (getD file (at + 1) 0) (partsAt file at) (level - 1) p node first cells before old′ r to new′) start-is h)))
 
   -- the arguments, on what follows the call site's record
-  pub call-args : (u : ℕ) → u ≡ rowAt rows k 6 → Ready file tab rows consts (level - 1) n (at + 3) node cells before (tailOf u old) (tailOf u new)
+  call-args : (u : ℕ) → u ≡ rowAt rows k 6 → Ready file tab rows consts (level - 1) n (at + 3) node cells before (tailOf u old) (tailOf u new)
   call-args u e =
       let l = ap length (tail-all u old) ∙ length-drop u old in
       record {
@@ -184,8 +231,13 @@ module _ {file tab rows consts : List ℕ} {level at node : ℕ} {cells before o
         calls = call-calls .1;
       }
 
+  pub call-parts : (u : ℕ) → u ≡ rowAt rows k 6 → Ready file tab rows consts (level - 1) (partsAt file at) (nextAt file at) node cells before (tailOf u old) (tailOf u new)
+  call-parts u e =
+      subst (λ (m : ℕ). Ready file tab rows consts (level - 1) m (nextAt file at) node cells before (tailOf u old) (tailOf u new)) (sym parts-are)
+      (subst (λ (p : ℕ). Ready file tab rows consts (level - 1) n p node cells before (tailOf u old) (tailOf u new)) (sym start-is) (call-args u e))
+
   -- the callee, on its record
-  pub call-steps : (u : ℕ) → u ≡ rowAt rows k 6 → {callee : List ℕ} (new₁ : List ℕ) → length callee ≡ 1008 → Steppable file tab rows consts k callee (take u old) (take u (putTail u new new₁))
+  pub call-steps : (u : ℕ) → u ≡ rowAt rows k 6 → {callee : List ℕ} (new₁ : List ℕ) → length callee ≡ 288 → Steppable file tab rows consts k callee (take u old) (take u (putTail u new new₁))
   call-steps u e {callee} new₁ l =
       let z = e ∙ call-size in
       let le : u ≤ length old = omega (arith, call-room, z) in
@@ -219,21 +271,21 @@ module _ {file tab rows consts : List ℕ} {level at node : ℕ} {cells before o
         (subst (λ (w : Evals). RanTo asIs w (endsAt file (level - 1) n (at + 3)) (own + more) old r (outputsAt file k callee) new′) (sym call-is) h)))
 
     -- the arguments, on the caller's own part
-    args-moved : (u : ℕ) → u ≡ rowAt rows k 6 → {a : Ran} (callee : List ℕ) {new₁ : List ℕ} → AllTo file consts true k n (level - 1) (at + 3) node first cells before (tailOf u old) a callee new₁ → RanTo (fitAll (nodeIn file k .inputs)) (allIn file consts (level - 1) n (at + 3) node first cells before (take (segsAt file (level - 1) n (at + 3)) (drop (siteBytes (fileAt file) k) old))) (endsAt file (level - 1) n (at + 3)) (segsAt file (level - 1) n (at + 3)) (drop (siteBytes (fileAt file) k) old) a (valuesOf (length (nodeIn file k .inputs)) callee) new₁
+    args-moved : (u : ℕ) → u ≡ rowAt rows k 6 → {a : Ran} (callee : List ℕ) {new₁ : List ℕ} → PassedTo file consts true k n (level - 1) (at + 3) node first cells before (tailOf u old) a callee new₁ → RanTo (fitAll (nodeIn file k .inputs)) (allIn file consts (level - 1) n (at + 3) node first cells before (take (segsAt file (level - 1) n (at + 3)) (drop (siteBytes (fileAt file) k) old))) (endsAt file (level - 1) n (at + 3)) (segsAt file (level - 1) n (at + 3)) (drop (siteBytes (fileAt file) k) old) a (valuesOf (length (nodeIn file k .inputs)) callee) new₁
     args-moved u e {a} callee {new₁} h =
         subst (λ (m : ℕ). RanTo (fitAll (nodeIn file k .inputs)) (allIn file consts (level - 1) n (at + 3) node first cells before (take more (drop own old))) (endsAt file (level - 1) n (at + 3)) more (drop own old) a (valuesOf m callee) new₁) call-arity
         (subst (λ (s : List ℕ). RanTo (fitAll (nodeIn file k .inputs)) (allIn file consts (level - 1) n (at + 3) node first cells before (take more s)) (endsAt file (level - 1) n (at + 3)) more s a (valuesOf n callee) new₁) (tail-all u old ∙ ap (λ (m : ℕ). drop m old) (e ∙ call-size)) h)
 
-    pub call-done : (u : ℕ) → u ≡ rowAt rows k 6 → {a : Ran} (callee₁ callee₂ : List ℕ) {new₁ newS : List ℕ} {e : Ending} → AllTo file consts true k n (level - 1) (at + 3) node first cells before (tailOf u old) a callee₁ new₁ → a .end ≡ End.Values → SiteTo file consts k callee₁ (take u old) e callee₂ newS → EntersTo file consts level at node first cells before old (record { end = e; next = a .next; used = u + a .used }) callee₂ (newS ++ drop u (putTail u new new₁))
+    pub call-done : (u : ℕ) → u ≡ rowAt rows k 6 → {a : Ran} (callee₁ callee₂ : List ℕ) {new₁ newS : List ℕ} {e : Ending} → PassedTo file consts true k n (level - 1) (at + 3) node first cells before (tailOf u old) a callee₁ new₁ → a .end ≡ End.Values → SiteTo file consts k callee₁ (take u old) e callee₂ newS → EntersTo file consts level at node first cells before old (record { end = e; next = a .next; used = u + a .used }) callee₂ (newS ++ drop u (putTail u new new₁))
     call-done u e {a} callee₁ callee₂ {new₁} {newS} {e = end} h z s =
         let y = e ∙ call-size in
         enters-as callee₂ (enter-done (calls (globalsIn file consts) k) u (args-moved u e callee₁ h) z (subst (λ (m : ℕ). SiteTo file consts k callee₁ (take m old) end callee₂ newS) y s) (p .same) y (omega (arith, call-room)))
 
-    pub call-stop : (u : ℕ) → u ≡ rowAt rows k 6 → {a : Ran} (callee₁ : List ℕ) {new₁ : List ℕ} → AllTo file consts true k n (level - 1) (at + 3) node first cells before (tailOf u old) a callee₁ new₁ → ¬ (a .end ≡ End.Values) → EntersTo file consts level at node first cells before old (record { end = a .end; next = a .next; used = u + a .used }) callee₁ (putTail u new new₁)
+    pub call-stop : (u : ℕ) → u ≡ rowAt rows k 6 → {a : Ran} (callee₁ : List ℕ) {new₁ : List ℕ} → PassedTo file consts true k n (level - 1) (at + 3) node first cells before (tailOf u old) a callee₁ new₁ → ¬ (a .end ≡ End.Values) → EntersTo file consts level at node first cells before old (record { end = a .end; next = a .next; used = u + a .used }) callee₁ (putTail u new new₁)
     call-stop u e {a} callee₁ {new₁} h z =
         enters-as callee₁ (enter-stop (outputsAt file k callee₁) (calls (globalsIn file consts) k) u (args-moved u e callee₁ h) z (p .same) (e ∙ call-size))
 
-    pub call-used : (u : ℕ) → u ≡ rowAt rows k 6 → {a : Ran} (callee : List ℕ) {new₁ : List ℕ} → AllTo file consts true k n (level - 1) (at + 3) node first cells before (tailOf u old) a callee new₁ → u + a .used ≤ 32768
+    pub call-used : (u : ℕ) → u ≡ rowAt rows k 6 → {a : Ran} (callee : List ℕ) {new₁ : List ℕ} → PassedTo file consts true k n (level - 1) (at + 3) node first cells before (tailOf u old) a callee new₁ → u + a .used ≤ 32768
     call-used u e callee h = omega (arith, h .used-is, e ∙ call-size, call-room, p .small)
 
     -- ---- the call as one value
@@ -243,15 +295,14 @@ module _ {file tab rows consts : List ℕ} {level at node : ℕ} {cells before o
     single-is seg =
         subst (λ (x : Expr). evalIn file consts node first cells before x seg ≡ singleEval (evalRhs (globalsIn file consts) (scopeIn file node first cells before) (calls (globalsIn file consts)) (rhsOf x) seg)) (sym (call-at .tree)) refl
 
-    pub call-single : {r : Ran} (callee : List ℕ) {new′ : List ℕ} {o : Outcome} (outputs i : ℕ) → EntersTo file consts level at node first cells before old r callee new′ → outputs ≡ rowAt rows k 3 → i ≡ rowAt rows k 2 → ((os : Outcomes) → Leaves os (r .end) outputs (drop (9 * i) callee) → o ≡ single os) → EvalsTo file consts level at node first cells before old (record { out = o; next = r .next; used = r .used }) new′
-    call-single {r} callee {new′} {o} outputs i h oE iE s =
+    pub call-single : {r : Ran} (callee : List ℕ) {new′ : List ℕ} {o : Outcome} (outputs : ℕ) → EntersTo file consts level at node first cells before old r callee new′ → outputs ≡ rowAt rows k 3 → ((os : Outcomes) → Leaves os (r .end) outputs callee → o ≡ single os) → EvalsTo file consts level at node first cells before old (record { out = o; next = r .next; used = r .used }) new′
+    call-single {r} callee {new′} {o} outputs h oE s =
         let w = rhsEval file consts level at node first cells before (take (segAt file level at) old) in
         let row = p .plan .program .sized .table .rowsOf k call-below in
-        let left : Leaves (w .out) (r .end) outputs (drop (9 * i) callee) =
-        leaves (w .out) (r .end) outputs (drop (9 * i) callee) (h .end-is)
-        (subst (λ (m : ℕ). Holds asIs (w .out) (valuesOf m (drop (9 * i) callee))) (sym (oE ∙ row .outputs))
-        (subst (λ (m : ℕ). Holds asIs (w .out) (valuesOf (length (nodeIn file k .outputs)) (drop (9 * m) callee))) (sym (iE ∙ row .inputs))
-        (subst (λ (c : ℕ). Holds asIs (w .out) (outputsAt file c callee)) (sym kE) (h .values-are)))) in
+        let left : Leaves (w .out) (r .end) outputs callee =
+        leaves (w .out) (r .end) outputs callee (h .end-is)
+        (subst (λ (m : ℕ). Holds asIs (w .out) (valuesOf m callee)) (sym (oE ∙ row .outputs))
+        (subst (λ (c : ℕ). Holds asIs (w .out) (outputsAt file c callee)) (sym kE) (h .values-are))) in
         subst (λ (x : Eval). Meets x (endAt file level at) (segAt file level at) old (record { out = o; next = r .next; used = r .used }) new′) (sym (single-is (take (segAt file level at) old)))
         (record { out = s (w .out) left; next-is = h .next-is; used-is = h .used-is; state = h .state })
       where

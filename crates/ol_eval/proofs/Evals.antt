@@ -15,8 +15,8 @@ use Rattle.ol_spec.specs.declared.Outcome.the-variants as Out
 use Rattle.ol_frame.specs.Outcomes.{doneOf, binaryOut, testBit, testOf, untestedOf, runsOf, dropOut, commonOut}
 use Rattle.ol_frame.specs.declared.outcomes.Test.the-variants as Tst
 use Rattle.ol_frame.specs.Walk.{Skips}
-use Rattle.ol_eval.specs.Post.{Meets}
-use Rattle.ol_eval.specs.declared.cycle.Step.{Step}
+use Rattle.ol_eval.specs.Post.{Meets, Untaken}
+use Rattle.ol_eval.specs.declared.eval.Step.{Step}
 use Rattle.ol_frame.specs.declared.skip.Passed.{Passed}
 use Rattle.ol_tables.proofs.Lending.{tailOf, putTail, tail-all, put-tail, take-put, drop-put, drop-take}
 
@@ -188,6 +188,10 @@ ran-one w b has c h = go (w .out) has c h
     go (Out.Value v) false c h = ap (λ (x : Bool). untaken x (commonReal (b .wide) v) (w .seg) b) c
     go Out.Failure has c h = refl
     go Out.Overflow has c h = refl
+
+-- a branch that is not taken, as an evaluation
+pub untaken-meets : {w : Eval} {n : ℕ} {s new : List ℕ} {over : Bool} → Untaken w n s over new → Meets w 0 n s (record { out = w .out; next = 0; used = n }) new
+untaken-meets h = record { out = refl; next-is = refl; used-is = refl; state = h .state }
 
 -- the first is taken: a on its segment, b on what follows
 pub first-ran : (a b : Branch) {x y z n k : ℕ} {s new new′ : List ℕ} {t e : Step} {q : Passed} {to o : Outcome} → Meets (a .run (a .seg)) x n s t new → Skips (b .calls) y k q → Meets (b .run (b .seg)) z k (drop n s) e new′ → length new ≡ length s → n ≤ length s → to ≡ commonOut (b .wide) (t .out) → true ≡ runsOf to (q .has) → o ≡ dropOut to (e .out) → Meets (choose true a b) y (n + k) s (record { out = o; next = q .next; used = t .used + q .used }) (putTail (t .used) new new′)

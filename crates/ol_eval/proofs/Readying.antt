@@ -19,9 +19,9 @@ use Rattle.ol_tables.proofs.Forms.{each-append, Formed, callees-all, callees-fo
 use Rattle.ol_frame.specs.Walk.{sizesIn, Passable, Skips, SkipsTo}
 use Rattle.ol_frame.specs.declared.skip.Passed.{Passed}
 use Rattle.ol_frame.specs.Plans.{Plan, Cells, segsAt, segAt, evalIn, Leaf, globalsIn, scopeIn, nameAt}
-use Rattle.ol_eval.specs.Post.{Ready, Meets, EvalsTo, ChooseTo, chooseIn}
+use Rattle.ol_eval.specs.Post.{Ready, Meets, EvalsTo, Untaken, UntakenTo, ChooseTo, chooseIn}
 use Rattle.ol_frame.specs.Nodes.{Enters}
-use Rattle.ol_eval.specs.declared.cycle.Step.{Step}
+use Rattle.ol_eval.specs.declared.eval.Step.{Step}
 use Rattle.ol_tables.proofs.Lending.{tailOf, putTail, tail-all, take-put}
 use Rattle.ol_frame.proofs.Passing.{callees-one}
 use Rattle.ol_tables.proofs.Forms.{own-call}
@@ -121,6 +121,11 @@ moved f consts level node first cells before {q = q} {s = s} {r = r} {new = new}
     subst (λ (y : List ℕ). EvalsTo f consts level q node first cells before y r new) g
     (subst (λ (x : ℕ). EvalsTo f consts level x node first cells before s r new) e h)
 
+pub moved-untaken : (f consts : List ℕ) (level node : ℕ) (first : Bool) (cells before : List ℕ) {p q : ℕ} {s s′ : List ℕ} {over : Bool} {new : List ℕ} → p ≡ q → s ≡ s′ → UntakenTo f consts level p node first cells before s over new → UntakenTo f consts level q node first cells before s′ over new
+moved-untaken f consts level node first cells before {q = q} {s = s} {over = over} {new = new} e g h =
+    subst (λ (y : List ℕ). UntakenTo f consts level q node first cells before y over new) g
+    (subst (λ (x : ℕ). UntakenTo f consts level x node first cells before s over new) e h)
+
 pub moved-choice : (f consts : List ℕ) (test : Bool) (level node : ℕ) (first : Bool) (cells before : List ℕ) {p q : ℕ} {s s′ : List ℕ} {r : Step} {new : List ℕ} → p ≡ q → s ≡ s′ → ChooseTo f consts test level p node first cells before s r new → ChooseTo f consts test level q node first cells before s′ r new
 moved-choice f consts test level node first cells before {q = q} {s = s} {r = r} {new = new} e g h =
     subst (λ (y : List ℕ). ChooseTo f consts test level q node first cells before y r new) g
@@ -213,10 +218,10 @@ module _ (f consts : List ℕ) (level at node : ℕ) (first : Bool) (cells befor
       form-evals {old = old} (λ (seg : List ℕ). record { out = orFailure (presentOf (globalsIn f consts) (scopeIn f node false cells cells) (nameAt f (at + 1))); seg = seg }) h (var-form f level at r c) refl (λ seg. refl) (record { out = w; next-is = sym (z .1); used-is = sym (ap (λ (es : Exprs). sitesSize (sizesIn f) (calleesAll es)) (z .0)); state = e ∙ sym (take-append-drop (segsAt f (level - 1) 0 (at + 3)) old) })
 
 -- what was evaluated on just its segment
-pub fronted : (f consts : List ℕ) (level at node : ℕ) (first : Bool) (cells before s : List ℕ) {r : Step} {new : List ℕ} → EvalsTo f consts level at node first cells before (take (segAt f level at) s) r new → Meets (evalIn f consts node first cells before (exprAt f level at) (take (segAt f level at) s)) (endAt f level at) (segAt f level at) (take (segAt f level at) s) r new
-fronted f consts level at node first cells before s {r} {new} h =
+pub fronted : (f consts : List ℕ) (level at node : ℕ) (first : Bool) (cells before s : List ℕ) {over : Bool} {new : List ℕ} → UntakenTo f consts level at node first cells before (take (segAt f level at) s) over new → Untaken (evalIn f consts node first cells before (exprAt f level at) (take (segAt f level at) s)) (segAt f level at) (take (segAt f level at) s) over new
+fronted f consts level at node first cells before s {over} {new} h =
     let n = segAt f level at in
-    subst (λ (x : List ℕ). Meets (evalIn f consts node first cells before (exprAt f level at) x) (endAt f level at) n (take n s) r new) (take-take n n s (omega arith)) h
+    subst (λ (x : List ℕ). Untaken (evalIn f consts node first cells before (exprAt f level at) x) n (take n s) over new) (take-take n n s (omega arith)) h
 
 -- ---- operators by their codes
 

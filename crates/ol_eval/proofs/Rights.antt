@@ -18,7 +18,7 @@ use Rattle.ol_spec.specs.declared.Value.{Value}
 use Rattle.ol_spec.specs.declared.Outcome.{Outcome}
 use Rattle.ol_spec.specs.declared.Outcome.the-variants as Out
 use Rattle.ol_spec.proofs.Tests.{T-and}
-use Rattle.ol_spec.proofs.Runs.{length-values, variables-length}
+use Rattle.ol_spec.proofs.Runs.{length-values}
 use Rattle.ol_tables.specs.At.{fileAt, nodeIn, exprAt, exprsAt, Reads, ReadsAll}
 use Rattle.ol_tables.specs.Tables.{Each, HasSlot, rowAt}
 use Rattle.ol_tables.proofs.Forms.{Formed, parted, reads-in, by-form, call-form, tuple-form, each-map}
@@ -27,22 +27,21 @@ use Rattle.ol_frame.specs.Walk.{nodesIn, sizesIn, Below}
 use Rattle.ol_frame.specs.Plans.{evalIn, globalsIn, scopeIn, widthIn, namesIn, constantsIn, segsAt, segAt}
 use Rattle.ol_eval.specs.Post.{Ready, EvalsTo}
 use Rattle.ol_frame.specs.Nodes.{EquationPlan, Running, Enters}
-use Rattle.ol_eval.specs.Calls.{passedAll, Holds, asIs, Did, Passes, AllTo, allIn, rhsEval, EntersTo, EquationReady, RhsReady, EquationTo}
+use Rattle.ol_eval.specs.Calls.{passedAll, Holds, asIs, Did, Passes, PassedTo, isCall, Several, AllTo, allIn, rhsEval, EntersTo, EquationReady, EquationTo}
 use Rattle.ol_frame.specs.Equations.{countIn, placeIn, rhsIn, equationIn}
 use Rattle.ol_frame.specs.Stores.{cellsIn, Storable, StoresOut, Assignable, Assigns}
 use Rattle.ol_frame.specs.Outcomes.{endingOf}
 use Rattle.ol_frame.specs.declared.outcomes.Ending.{Ending}
 use Rattle.ol_frame.specs.declared.outcomes.Ending.the-variants as End
-use Rattle.ol_eval.specs.declared.cycle.Step.{Step}
-use Rattle.ol_eval.specs.declared.cycle.Ran.{Ran}
+use Rattle.ol_eval.specs.declared.eval.Step.{Step}
+use Rattle.ol_eval.specs.declared.eval.Ran.{Ran}
 use Rattle.ol_frame.proofs.Passing.{callees-one}
 use Rattle.ol_frame.proofs.Planning.{sounds-below, segs-one, segs-form, plan-call}
+use Rattle.ol_tables.specs.Heads.{partsAt, nextAt}
 use Rattle.ol_eval.proofs.Readying.{ready-parts}
+use Rattle.ol_eval.proofs.Calling.{is-tuple, parts-tuple, next-tuple}
+use Rattle.ol_frame.proofs.NodeRows.{outputs-most}
 use Rattle.ol_frame.proofs.Storing.{typed, storable, assign-least, values-take}
-
--- what an array of n bytes lends from u on
-pub tail-whole : (n u : ℕ) (s : List ℕ) → length s ≡ n → take (n - u) (drop u s) ≡ drop u s
-tail-whole n u s e = take-all (n - u) (drop u s) (omega (arith, length-drop u s))
 
 -- ---- an equation's names
 
@@ -66,6 +65,12 @@ names-some {file} k i r b h =
     let c = T-and (countFits 1 (base .names) (length (q .names))) _ s .0 in
     leb→le 1 (length (q .names)) (T-and (leb 1 (length (q .names))) _ (T-and (byteFits (length (q .names))) _ c .1) .0)
 
+-- its right side stands at `rhs` and has the code, and it defines n names
+pub record RhsReady (file : List ℕ) (k i rhs n code : ℕ) : Type 0 where
+  pub place : rhs ≡ rhsIn file k i
+  pub count : n ≡ length (equationIn file k i .names)
+  pub code-is : getD file rhs 0 ≡ code
+
 -- the values that are stored are no more than the names; the names stand before the right side
 pub record Least (file : List ℕ) (k i at rhs m : ℕ) : Type 0 where
   pub least : m ≤ length (equationIn file k i .names)
@@ -74,8 +79,7 @@ pub record Least (file : List ℕ) (k i at rhs m : ℕ) : Type 0 where
 -- what the table tells of the callee of the call at rhs
 pub record CalleeRow (file rows : List ℕ) (rhs c : ℕ) : Type 0 where
   pub small : c < 32
-  pub width : length (nodeIn file (getD file (rhs + 1) 0) .inputs) + length (nodeIn file (getD file (rhs + 1) 0) .outputs) ≤ 112
-  pub inputs : rowAt rows c 2 ≡ length (nodeIn file (getD file (rhs + 1) 0) .inputs)
+  pub few : length (nodeIn file (getD file (rhs + 1) 0) .outputs) ≤ 16
   pub outputs : rowAt rows c 3 ≡ length (nodeIn file (getD file (rhs + 1) 0) .outputs)
 
 module _ {file tab rows consts : List ℕ} {k i at : ℕ} {cells before old new : List ℕ} (q : EquationReady file tab rows consts k i at cells before old new) where
@@ -266,19 +270,17 @@ module _ {file tab rows consts : List ℕ} {k i at : ℕ} {cells before old new 
         let t = z .table .rowsOf g l in
         record {
           small = omega (arith, z .few);
-          width = omega (arith, q .running .program .width g, variables-length (nodeIn file g));
-          inputs = ap (λ (x : ℕ). rowAt rows x 2) e ∙ t .inputs;
+          few = omega (arith, outputs-most (q .running) l (rowAt rows g 3) refl, t .outputs);
           outputs = ap (λ (x : ℕ). rowAt rows x 3) e ∙ t .outputs;
         }
 
     pub call-done : (first : Bool) (m : ℕ) (callee cells′ : List ℕ) {new′ : List ℕ} {r : Ran} → RhsReady file k i rhs n 11 → EntersTo file consts 24 rhs k first cells before old r callee new′ → r .end ≡ End.Values
-        → m ≡ min n (length (nodeIn file (getD file (rhs + 1) 0) .outputs)) → (from : List ℕ) → from ≡ drop (9 * length (nodeIn file (getD file (rhs + 1) 0) .inputs)) callee
-        → Assigns tab k (at + 1) m m from cells cells′ → EquationTo file consts k i first cells before old End.Values cells′ new′
-    call-done first m callee cells′ {new′} {r} p h z c from f a =
+        → m ≡ min n (length (nodeIn file (getD file (rhs + 1) 0) .outputs)) → Assigns tab k (at + 1) m m callee cells cells′ → EquationTo file consts k i first cells before old End.Values cells′ new′
+    call-done first m callee cells′ {new′} {r} p h z c a =
         let G = rhsEval file consts 24 rhs k first cells before (take (segAt file 24 rhs) old) in
         let t = length (nodeIn file (getD file (rhs + 1) 0) .outputs) in
-        several-done first G (r .end) m t from cells′ new′ (right-eval first rhs (p .place)) z (h .end-is)
-        (subst (λ (l : List ℕ). Holds asIs (G .out) (valuesOf t l)) (sym f) (h .values-are)) (no-rest first (ap (segAt file 24) (p .place) ∙ seg-is) (h .state)) (c ∙ ap (λ (x : ℕ). min x t) (p .count)) a
+        several-done first G (r .end) m t callee cells′ new′ (right-eval first rhs (p .place)) z (h .end-is)
+        (h .values-are) (no-rest first (ap (segAt file 24) (p .place) ∙ seg-is) (h .state)) (c ∙ ap (λ (x : ℕ). min x t) (p .count)) a
 
     pub call-stops : (first : Bool) (callee cells′ : List ℕ) {new′ : List ℕ} {r : Ran} → RhsReady file k i rhs n 11 → EntersTo file consts 24 rhs k first cells before old r callee new′ → ¬ (r .end ≡ End.Values) → EquationTo file consts k i first cells before old (r .end) cells′ new′
     call-stops first callee cells′ {new′} {r} p h z =
@@ -292,14 +294,40 @@ module _ {file tab rows consts : List ℕ} {k i at : ℕ} {cells before old new 
     pub tuple-inside : RhsReady file k i rhs n 12 → (rhs + 2 ≤ length file) × (getD file (rhs + 1) 0 ≤ 16)
     tuple-inside p = let t = tuple-is p in (t .0 .inside, t .1)
 
-    pub tuple-ready : RhsReady file k i rhs n 12 → (count : ℕ) → count ≡ getD file (rhs + 1) 0 → Ready file tab rows consts 23 count (rhs + 2) k cells before old new
+    tuple-ready : RhsReady file k i rhs n 12 → (count : ℕ) → count ≡ getD file (rhs + 1) 0 → Ready file tab rows consts 23 count (rhs + 2) k cells before old new
     tuple-ready p count e =
         subst (λ (c : ℕ). Ready file tab rows consts 23 c (rhs + 2) k cells before old new) (sym e) (ready-parts (equation-ready rhs (p .place)) (tuple-is p .0) refl)
 
-    pub tuple-passes : RhsReady file k i rhs n 12 → (count : ℕ) → count ≡ getD file (rhs + 1) 0 → {to : List ℕ} → length to ≡ 1008 → Passes file false 0 count to
+    tuple-passes : RhsReady file k i rhs n 12 → (count : ℕ) → count ≡ getD file (rhs + 1) 0 → {to : List ℕ} → length to ≡ 288 → Passes file false (getD file (rhs + 1) 0) count to
     tuple-passes p count e l =
         let t = tuple-inside p .1 in
         record { room = omega arith; few = omega arith; small = omega arith; callee = λ h. absurd (let z : _≡_ {A = ℕ} 0 1 = cc in omega arith) }
+
+    -- the parts of the Tuple are its items
+    parts-are : RhsReady file k i rhs n 12 → (count : ℕ) → count ≡ getD file (rhs + 1) 0 → partsAt file rhs ≡ count
+    parts-are p count e = parts-tuple file rhs (p .code-is) ∙ sym e
+
+    start-is : RhsReady file k i rhs n 12 → nextAt file rhs ≡ rhs + 2
+    start-is p = next-tuple file rhs (p .code-is) (omega (arith, tuple-inside p))
+
+    pub tuple-several : RhsReady file k i rhs n 12 → (count : ℕ) → count ≡ getD file (rhs + 1) 0 → {to : List ℕ} → length to ≡ 288 → Several file rhs to
+    tuple-several p count e {to} l =
+        record {
+          inside = omega (arith, tuple-inside p);
+          passes = subst (λ (m : ℕ). Passes file (isCall file rhs) (getD file (rhs + 1) 0) m to) (sym (parts-are p count e))
+              (subst (λ (f : Bool). Passes file f (getD file (rhs + 1) 0) count to) (sym (is-tuple file rhs (p .code-is))) (tuple-passes p count e l));
+        }
+
+    pub tuple-parts : RhsReady file k i rhs n 12 → Ready file tab rows consts 23 (partsAt file rhs) (nextAt file rhs) k cells before old new
+    tuple-parts p =
+        subst (λ (m : ℕ). Ready file tab rows consts 23 m (nextAt file rhs) k cells before old new) (sym (parts-are p (getD file (rhs + 1) 0) refl))
+        (subst (λ (a : ℕ). Ready file tab rows consts 23 (getD file (rhs + 1) 0) a k cells before old new) (sym (start-is p)) (tuple-ready p (getD file (rhs + 1) 0) refl))
+
+    pub tuple-all : RhsReady file k i rhs n 12 → (count : ℕ) → count ≡ getD file (rhs + 1) 0 → (first : Bool) {r : Ran} (to : List ℕ) {new′ : List ℕ} → AllTo file consts 23 rhs k first cells before old r to new′ → PassedTo file consts false (getD file (rhs + 1) 0) count 23 (rhs + 2) k first cells before old r to new′
+    tuple-all p count e first {r} to {new′} h =
+        subst (λ (f : Bool). PassedTo file consts f (getD file (rhs + 1) 0) count 23 (rhs + 2) k first cells before old r to new′) (is-tuple file rhs (p .code-is))
+        (subst (λ (m : ℕ). PassedTo file consts (isCall file rhs) (getD file (rhs + 1) 0) m 23 (rhs + 2) k first cells before old r to new′) (parts-are p count e)
+        (subst (λ (a : ℕ). PassedTo file consts (isCall file rhs) (getD file (rhs + 1) 0) (partsAt file rhs) 23 a k first cells before old r to new′) (start-is p) h))
 
     tuple-eval : (first : Bool) (p : RhsReady file k i rhs n 12) (count : ℕ) → count ≡ getD file (rhs + 1) 0 → allIn file consts 23 count (rhs + 2) k first cells before (take (segsAt file 23 count (rhs + 2)) old) ≡ W first
     tuple-eval first p count e =
@@ -318,19 +346,19 @@ module _ {file tab rows consts : List ℕ} {k i at : ℕ} {cells before old new 
         let r = subst (λ (x : ℕ). ReadsAll file 24 1 x) (sym (p .place)) (plan .plan .reads) in
         ap (λ (c : ℕ). segsAt file 23 c (rhs + 2)) e ∙ sym (segs-form file r t refl) ∙ segs-one file 24 rhs r ∙ ap (segAt file 24) (p .place) ∙ seg-is
 
-    pub tuple-done : (first : Bool) (count m : ℕ) (to cells′ : List ℕ) {new′ : List ℕ} {r : Ran} → RhsReady file k i rhs n 12 → count ≡ getD file (rhs + 1) 0 → AllTo file consts false 0 count 23 (rhs + 2) k first cells before old r to new′ → r .end ≡ End.Values
+    pub tuple-done : (first : Bool) (count m : ℕ) (to cells′ : List ℕ) {new′ : List ℕ} {r : Ran} → RhsReady file k i rhs n 12 → count ≡ getD file (rhs + 1) 0 → PassedTo file consts false (getD file (rhs + 1) 0) count 23 (rhs + 2) k first cells before old r to new′ → r .end ≡ End.Values
         → m ≡ min n count → Assigns tab k (at + 1) m m to cells cells′ → EquationTo file consts k i first cells before old End.Values cells′ new′
     tuple-done first count m to cells′ {new′} {r} p e h z c a =
         let G = allIn file consts 23 count (rhs + 2) k first cells before (take (segsAt file 23 count (rhs + 2)) old) in
         several-done first G (r .end) m count to cells′ new′ (tuple-eval first p count e) z (h .end-is)
         (plain (G .out) (h .values-are)) (no-rest first (tuple-used p count e) (h .state)) (c ∙ ap (λ (x : ℕ). min x count) (p .count)) a
       where
-        plain : (o : Outcomes) → Holds (passedAll false (nodeIn file 0 .inputs)) o (valuesOf count to) → Holds asIs o (valuesOf count to)
+        plain : (o : Outcomes) → Holds (passedAll false (nodeIn file (getD file (rhs + 1) 0) .inputs)) o (valuesOf count to) → Holds asIs o (valuesOf count to)
         plain (values vs) h = h
         plain failure h = tt
         plain overflow h = tt
 
-    pub tuple-stops : (first : Bool) (count : ℕ) (to cells′ : List ℕ) {new′ : List ℕ} {r : Ran} → RhsReady file k i rhs n 12 → count ≡ getD file (rhs + 1) 0 → AllTo file consts false 0 count 23 (rhs + 2) k first cells before old r to new′ → ¬ (r .end ≡ End.Values)
+    pub tuple-stops : (first : Bool) (count : ℕ) (to cells′ : List ℕ) {new′ : List ℕ} {r : Ran} → RhsReady file k i rhs n 12 → count ≡ getD file (rhs + 1) 0 → PassedTo file consts false (getD file (rhs + 1) 0) count 23 (rhs + 2) k first cells before old r to new′ → ¬ (r .end ≡ End.Values)
         → EquationTo file consts k i first cells before old (r .end) cells′ new′
     tuple-stops first count to cells′ {new′} {r} p e h z =
         several-stops first (allIn file consts 23 count (rhs + 2) k first cells before (take (segsAt file 23 count (rhs + 2)) old)) (r .end) cells′ new′ (tuple-eval first p count e) z (h .end-is)

@@ -21,7 +21,8 @@ use Rattle.ol_spec.specs.declared.Value.{Value}
 use Rattle.ol_spec.proofs.Cells.{length-cells}
 use Rattle.ol_spec.proofs.Segments.{sites-append}
 use Rattle.ol_tables.specs.At.{fileAt, nodeIn, exprsAt}
-use Rattle.ol_tables.specs.Tables.{Each, rowAt, nodeOf}
+use Rattle.ol_tables.specs.Tables.{Each, rowAt}
+use Rattle.ol_tables.specs.Tables.{nodeOf as fileNode}
 use Rattle.ol_tables.proofs.Forms.{each-append}
 use Rattle.ol_state.specs.Known.{Sited}
 use Rattle.ol_state.specs.Defaults.{cellsAt}
@@ -31,7 +32,7 @@ use Rattle.ol_frame.specs.Plans.{knownIn, globalsIn, widthIn}
 use Rattle.ol_frame.specs.Equations.{countIn, equationIn, rhsIn}
 use Rattle.ol_frame.specs.Nodes.{Running}
 use Rattle.ol_eval.specs.Calls.{asIs, Did, outputsAt, Steppable, SiteTo, Runnable, runIn, EndsAs, RunMeets, RunTo}
-use Rattle.ol_eval.specs.declared.cycle.Ended.{Ended}
+use Rattle.ol_eval.specs.declared.eval.Ended.{Ended}
 use Rattle.ol_frame.specs.declared.outcomes.Ending.{Ending}
 use Rattle.ol_frame.specs.declared.outcomes.Ending.the-variants as End
 use Rattle.ol_tables.proofs.Lending.{tailOf, putTail, tail-all, drop-put, length-put}
@@ -41,8 +42,9 @@ use Rattle.ol_frame.proofs.Passing.{callees-one}
 use Rattle.ol_frame.proofs.Depth.{calls-of}
 use Rattle.ol_state.proofs.FreshRecords.{fresh-record}
 use Rattle.ol_frame.proofs.Running.{each-in}
-use Rattle.ol_frame.proofs.NodeRows.{inputs-few, width-is, inputs-are, narrow, inputs-first}
-use Rattle.ol_frame.proofs.Storing.{values-take, values-drop, values-front, values-copied}
+use Rattle.ol_frame.specs.Frame.{nodeOf, firstOf, cellsOf, beforeOf, Opened, Freshened}
+use Rattle.ol_frame.proofs.NodeRows.{inputs-few, width-is, inputs-are, outputs-are}
+use Rattle.ol_frame.proofs.Storing.{values-take, values-drop, values-front}
 
 -- ---- lists
 
@@ -100,7 +102,7 @@ module _ {file tab rows consts : List ℕ} (ready : Running file tab rows consts
   function-call k vs r h e = calls-of g lower k vs r h ∙ ap (λ (t : NodeKind). callBy g t (calls g) (nodeIn file k) vs r) e
 
   -- a Function calls no Operator
-  function-calls : (k c m : ℕ) → nodeIn file k .kind ≡ Function → badCall (fileAt file) k (nodeIn file k) c m ≡ false → (c < k) × ¬ (nodeOf (fileAt file) c .kind ≡ Operator)
+  function-calls : (k c m : ℕ) → nodeIn file k .kind ≡ Function → badCall (fileAt file) k (nodeIn file k) c m ≡ false → (c < k) × ¬ (fileNode (fileAt file) c .kind ≡ Operator)
   function-calls k c m e h =
       let s = sound-call (fileAt file) k (nodeIn file k) c m h in
       (s .lower, λ o. subst T (λ j. mayCall (e j) (o j)) (s .kinds))
@@ -186,7 +188,7 @@ outputs-among n cs =
 
 -- ---- a node, by its rows
 
-module _ {file tab rows consts callee old new : List ℕ} {k : ℕ} (h : Steppable file tab rows consts k callee old new) where
+module _ {file tab rows consts args old new : List ℕ} {k : ℕ} (h : Steppable file tab rows consts k args old new) where
   -- its kind
   pub is-operator : (c : ℕ) → c ≡ rowAt rows k 0 → c ≡ 1 → nodeIn file k .kind ≡ Operator
   is-operator c e o = fresh-operator (h .running .known) (h .below) (sym e ∙ o)
@@ -219,47 +221,53 @@ module _ {file tab rows consts callee old new : List ℕ} {k : ℕ} (h : Steppab
       record { known = h .running .known; below = h .below; sized = w ∙ h .sized; small = omega (arith, w, h .small) }
 
   -- it runs on its cells and segments
-  pub instance-runnable : (n : ℕ) (cells : List ℕ) → nodeIn file k .kind ≡ Operator → n ≡ rowAt rows k 4 → length cells ≡ length callee → Runnable file tab rows consts k cells (tailOf 1 old) (tailOf (1 + 9 * n) old) (tailOf (1 + 9 * n) new)
-  instance-runnable n cells o e l =
+  pub instance-runnable : (n : ℕ) (cells before : List ℕ) → nodeIn file k .kind ≡ Operator → n ≡ rowAt rows k 4 → length cells ≡ 1008 → length before ≡ 1008 → Runnable file tab rows consts k cells before (tailOf (1 + 9 * n) old) (tailOf (1 + 9 * n) new)
+  instance-runnable n cells before o e l b =
       let w = width-is (h .running) (h .below) n e in
       let m = operator-size (h .running .known) (h .below) o in
       let z = ap length (tail-all (1 + 9 * n) old) ∙ length-drop (1 + 9 * n) old in
       record {
         running = h .running;
         below = h .below;
-        present = record { long = omega (arith, l, h .room, h .running .program .width k) };
-        previous = record { long = omega (arith, cells-room n o e, w) };
+        present = record { long = omega (arith, l, h .running .program .width k) };
+        previous = record { long = omega (arith, b, h .running .program .width k) };
         sized = omega (arith, z, h .sized, m, w);
         small = omega (arith, z, h .small);
         same = ap (tailOf (1 + 9 * n)) (h .same);
       }
 
-  -- the cells that it starts from
-  begin : (n i : ℕ) (from first : List ℕ) (vs : List Value) → n ≡ rowAt rows k 4 → i ≡ rowAt rows k 2 → 9 * n ≤ length from
-      → first ≡ take (9 * i) callee ++ (take (9 * n - 9 * i) (drop (9 * i) from) ++ drop (9 * n) callee) → valuesOf (length (nodeIn file k .inputs)) callee ≡ fitAll (nodeIn file k .inputs) vs
-      → valuesOf (widthIn file k) first ≡ fitAll (nodeIn file k .inputs) vs ++ drop (length (nodeIn file k .inputs)) (valuesOf (widthIn file k) from)
-  begin n i from first vs e f l c w =
-      let wn = width-is (h .running) (h .below) n e in
-      let wi = inputs-are (h .running) (h .below) i f in
-      ap (λ (m : ℕ). valuesOf m first) (sym wn) ∙ values-copied i n from callee first (inputs-first (h .running) (h .below) n i e f) l (omega (arith, h .room, narrow (h .running) (h .below) n e)) c
-      ∙ (λ j. (ap (λ (m : ℕ). valuesOf m callee) wi ∙ w) j ++ drop (wi j) (valuesOf (wn j) from))
+  -- the outputs are left from the front on
+  outputs-left : (i o : ℕ) (cells′ args′ : List ℕ) → i ≡ rowAt rows k 2 → o ≡ rowAt rows k 3 → valuesOf o args′ ≡ valuesOf o (drop (9 * i) cells′) → outputsAt file k args′ ≡ outputsIn (nodeIn file k) (valuesOf (widthIn file k) cells′)
+  outputs-left i o cells′ args′ iE oE e =
+      let wi = inputs-are (h .running) (h .below) i iE in
+      let wo = outputs-are (h .running) (h .below) o oE in
+      ap (λ (m : ℕ). valuesOf m args′) (sym wo) ∙ e ∙ (λ j. valuesOf (wo j) (drop (9 * wi j) cells′)) ∙ outputs-among (nodeIn file k) cells′
 
--- ---- a cycle of an instance
+-- ---- a step of an instance
 
--- what was done before the run: its cells are there
-pub record Entered (file tab rows consts : List ℕ) (k : ℕ) (callee old new : List ℕ) (first : Bool) (n i : ℕ) (cells : List ℕ) : Type 0 where
-  pub site : Steppable file tab rows consts k callee old new
+-- what was done before the run: its cells are there, and those before
+pub record Entered (file tab rows consts : List ℕ) (k : ℕ) (args old new : List ℕ) (first : Bool) (n i : ℕ) (cells before : List ℕ) : Type 0 where
+  pub site : Steppable file tab rows consts k args old new
   pub operator : nodeIn file k .kind ≡ Operator
   pub width : n ≡ rowAt rows k 4
   pub inputs : i ≡ rowAt rows k 2
   pub fresh : first ≡ isFresh old
-  pub copied : cells ≡ take (9 * i) callee ++ (take (9 * n - 9 * i) (drop (9 * i) (tailOf 1 old)) ++ drop (9 * n) callee)
+  pub begun : valuesOf n cells ≡ valuesOf i args ++ drop i (valuesOf n (tailOf 1 old))
+  pub earlier : valuesOf n before ≡ valuesOf n (tailOf 1 old)
 
-pub entered : {file tab rows consts callee old new : List ℕ} {k : ℕ} {first : Bool} {n i : ℕ} {cells : List ℕ} → Steppable file tab rows consts k callee old new → nodeIn file k .kind ≡ Operator → n ≡ rowAt rows k 4 → i ≡ rowAt rows k 2 → first ≡ isFresh old
-    → cells ≡ take (9 * i) callee ++ (take (9 * n - 9 * i) (drop (9 * i) (tailOf 1 old)) ++ drop (9 * n) callee) → Entered file tab rows consts k callee old new first n i cells
-entered h o w i f c = record { site = h; operator = o; width = w; inputs = i; fresh = f; copied = c }
+pub entered : {file tab rows consts args old new fr : List ℕ} {k n i : ℕ} → Steppable file tab rows consts k args old new → nodeIn file k .kind ≡ Operator → n ≡ rowAt rows k 4 → i ≡ rowAt rows k 2 → Opened k n i args old fr → Entered file tab rows consts k args old new (firstOf fr) n i (cellsOf fr) (beforeOf fr)
+entered {args = args} {old = old} {n = n} {i = i} h o w iw p =
+    record {
+      site = h;
+      operator = o;
+      width = w;
+      inputs = iw;
+      fresh = p .first;
+      begun = p .cells ∙ ap (λ (c : List ℕ). valuesOf i args ++ drop i (valuesOf n c)) (sym (tail-all 1 old));
+      earlier = p .before ∙ ap (valuesOf n) (sym (tail-all 1 old));
+    }
 
-module _ {file tab rows consts callee old new : List ℕ} {k : ℕ} {first : Bool} {n i : ℕ} {cells : List ℕ} (h : Entered file tab rows consts k callee old new first n i cells) where
+module _ {file tab rows consts args old new : List ℕ} {k : ℕ} {first : Bool} {n i : ℕ} {cells before : List ℕ} (h : Entered file tab rows consts k args old new first n i cells before) where
   abbrev node : Node
   node = nodeIn file k
 
@@ -267,51 +275,54 @@ module _ {file tab rows consts callee old new : List ℕ} {k : ℕ} {first : Boo
   glob = globalsIn file consts
 
   abbrev ran : Run
-  ran = runIn file consts k first cells (tailOf 1 old) (tailOf (1 + 9 * n) old)
+  ran = runIn file consts k first cells before (tailOf (1 + 9 * n) old)
 
-  runs-as : (vs : List Value) → valuesOf (length (node .inputs)) callee ≡ fitAll (node .inputs) vs → ran ≡ run glob (calls glob) node (fitAll (node .inputs) vs) old
+  runs-as : (vs : List Value) → valuesOf (length (node .inputs)) args ≡ fitAll (node .inputs) vs → ran ≡ run glob (calls glob) node (fitAll (node .inputs) vs) old
   unfolding run
   runs-as vs e =
       let s = h .site in
-      let b : valuesOf (widthIn file k) (tailOf 1 old) ≡ oldCells node old = ap (valuesOf (widthIn file k)) (tail-all 1 old) in
-      let own : 1 + 9 * n ≡ ownSize node = ap (λ (m : ℕ). 1 + 9 * m) (width-is (s .running) (s .below) n (h .width)) in
-      let c = begin s n i (tailOf 1 old) cells vs (h .width) (h .inputs) (cells-room s n (h .operator) (h .width)) (h .copied) e ∙ ap (λ (l : List Value). fitAll (node .inputs) vs ++ drop (length (node .inputs)) l) b in
+      let wn = width-is (s .running) (s .below) n (h .width) in
+      let wi = inputs-are (s .running) (s .below) i (h .inputs) in
+      let was : valuesOf n (tailOf 1 old) ≡ oldCells node old = (λ j. valuesOf (wn j) (tail-all 1 old j)) in
+      let b : valuesOf (widthIn file k) before ≡ oldCells node old = ap (λ (m : ℕ). valuesOf m before) (sym wn) ∙ h .earlier ∙ was in
+      let own : 1 + 9 * n ≡ ownSize node = ap (λ (m : ℕ). 1 + 9 * m) wn in
+      let c = ap (λ (m : ℕ). valuesOf m cells) (sym wn) ∙ h .begun ∙ (λ j. (ap (λ (m : ℕ). valuesOf m args) wi ∙ e) j ++ drop (wi j) (was j)) in
       λ j. runAll glob (calls glob) node (h .fresh j) (b j) (order (node .equations)) (c j) (split glob (node .equations) ((tail-all (1 + 9 * n) old ∙ ap (λ (m : ℕ). drop m old) own) j))
 
-  meant : (vs : List Value) → valuesOf (length (node .inputs)) callee ≡ fitAll (node .inputs) vs → leave glob node old ran ≡ calls glob k vs old
+  meant : (vs : List Value) → valuesOf (length (node .inputs)) args ≡ fitAll (node .inputs) vs → leave glob node old ran ≡ calls glob k vs old
   unfolding instance
   meant vs e = ap (leave glob node old) (runs-as vs e) ∙ sym (operator-call (h .site .running) k vs old (h .site .below) (h .operator))
 
-  ended : (end : Ending) (cells′ new′ : List ℕ) → Did asIs (leave glob node old ran) end (outputsAt file k cells′) new′ → SiteTo file consts k callee old end cells′ new′
-  ended end cells′ new′ d vs e = subst (λ (w : Evals). Did asIs w end (outputsAt file k cells′) new′) (meant vs e) d
+  ended : (end : Ending) (args′ new′ : List ℕ) → Did asIs (leave glob node old ran) end (outputsAt file k args′) new′ → SiteTo file consts k args old end args′ new′
+  ended end args′ new′ d vs e = subst (λ (w : Evals). Did asIs w end (outputsAt file k args′) new′) (meant vs e) d
 
   -- it finished
-  pub instance-finished : (r : Ended) (cells′ x y : List ℕ) → RunTo file consts k first cells (tailOf 1 old) (tailOf (1 + 9 * n) old) r cells′ x → r .end ≡ End.Values
-      → y ≡ 1 ∷ cellBytes (valuesOf n cells′) ++ drop (1 + 9 * n) (putTail (1 + 9 * n) new x) → SiteTo file consts k callee old End.Values cells′ y
-  instance-finished r cells′ x y m z w =
+  pub instance-finished : (r : Ended) (cells′ x y : List ℕ) (o : ℕ) (args′ : List ℕ) → RunTo file consts k first cells before (tailOf (1 + 9 * n) old) r cells′ x → r .end ≡ End.Values
+      → y ≡ 1 ∷ cellBytes (valuesOf n cells′) ++ drop (1 + 9 * n) (putTail (1 + 9 * n) new x) → o ≡ rowAt rows k 3 → valuesOf o args′ ≡ valuesOf o (drop (9 * i) cells′) → SiteTo file consts k args old End.Values args′ y
+  instance-finished r cells′ x y o args′ m z w oE left =
       let s = h .site in
       let p =
       w
       ∙ ap (λ (l : List ℕ). 1 ∷ cellBytes (valuesOf n cells′) ++ l) (drop-put (1 + 9 * n) new x (own-new s n (h .operator) (h .width)))
       ∙ ap (λ (q : ℕ). 1 ∷ cellBytes (valuesOf q cells′) ++ x) (width-is (s .running) (s .below) n (h .width)) in
-      ended End.Values cells′ y (left-finished glob node old ran r (valuesOf (widthIn file k) cells′) (outputsAt file k cells′) x _ m z (outputs-among node cells′) p)
+      ended End.Values args′ y (left-finished glob node old ran r (valuesOf (widthIn file k) cells′) (outputsAt file k args′) x _ m z (outputs-left s i o cells′ args′ (h .inputs) oE left) p)
 
   -- it failed
-  pub instance-failed : (r : Ended) (cells′ x new′ : List ℕ) → RunTo file consts k first cells (tailOf 1 old) (tailOf (1 + 9 * n) old) r cells′ x → r .end ≡ End.Failed
-      → ((vs : List Value) → new′ ≡ freshAt (globalsOf (fileAt file) vs) (nodesIn file) k) → SiteTo file consts k callee old End.Failed cells′ new′
-  instance-failed r cells′ x new′ m z w =
+  pub instance-failed : (r : Ended) (cells′ x new′ args′ : List ℕ) → RunTo file consts k first cells before (tailOf (1 + 9 * n) old) r cells′ x → r .end ≡ End.Failed
+      → ((vs : List Value) → new′ ≡ freshAt (globalsOf (fileAt file) vs) (nodesIn file) k) → SiteTo file consts k args old End.Failed args′ new′
+  instance-failed r cells′ x new′ args′ m z w =
       let s = h .site in
       let f = w (valuesOf (knownIn consts) consts) ∙ ap (λ (u : Globals). freshAt u (nodesIn file) k) (sym (all-known (s .running))) ∙ fresh-here (s .running) k (s .below) (h .operator) in
-      ended End.Failed cells′ new′ (left-failed glob node old ran r (valuesOf (widthIn file k) cells′) (outputsAt file k cells′) x new′ m z f)
+      ended End.Failed args′ new′ (left-failed glob node old ran r (valuesOf (widthIn file k) cells′) (outputsAt file k args′) x new′ m z f)
 
   -- it overflowed
-  pub instance-overflowed : (r : Ended) (cells′ x new′ : List ℕ) → RunTo file consts k first cells (tailOf 1 old) (tailOf (1 + 9 * n) old) r cells′ x → r .end ≡ End.Overflowed → new′ ≡ old → SiteTo file consts k callee old End.Overflowed cells′ new′
-  instance-overflowed r cells′ x new′ m z w =
-      ended End.Overflowed cells′ new′ (left-overflowed glob node old ran r (valuesOf (widthIn file k) cells′) (outputsAt file k cells′) x new′ m z w)
+  pub instance-overflowed : (r : Ended) (cells′ x new′ args′ : List ℕ) → RunTo file consts k first cells before (tailOf (1 + 9 * n) old) r cells′ x → r .end ≡ End.Overflowed → new′ ≡ old → SiteTo file consts k args old End.Overflowed args′ new′
+  instance-overflowed r cells′ x new′ args′ m z w =
+      ended End.Overflowed args′ new′ (left-overflowed glob node old ran r (valuesOf (widthIn file k) cells′) (outputsAt file k args′) x new′ m z w)
 
 -- ---- a call of a Function
 
-module _ {file tab rows consts callee old new : List ℕ} {k : ℕ} (h : Steppable file tab rows consts k callee old new) (func : nodeIn file k .kind ≡ Function) where
+module _ {file tab rows consts args old new : List ℕ} {k : ℕ} (h : Steppable file tab rows consts k args old new) (func : nodeIn file k .kind ≡ Function) where
   abbrev fnode : Node
   fnode = nodeIn file k
 
@@ -324,12 +335,12 @@ module _ {file tab rows consts callee old new : List ℕ} {k : ℕ} (h : Steppab
       not-both : Function ≡ Operator → ⊥
       not-both e = let z : _≡_ {A = ℕ} 0 1 = cc in omega arith
 
-  pub function-runnable : (cells before : List ℕ) → length cells ≡ length callee → length before ≡ 1008 → Runnable file tab rows consts k cells before old new
+  pub function-runnable : (cells before : List ℕ) → length cells ≡ 1008 → length before ≡ 1008 → Runnable file tab rows consts k cells before old new
   function-runnable cells before l m =
       record {
         running = h .running;
         below = h .below;
-        present = record { long = omega (arith, l, h .room, h .running .program .width k) };
+        present = record { long = omega (arith, l, h .running .program .width k) };
         previous = record { long = omega (arith, m, h .running .program .width k) };
         sized = no-old ∙ sym (function-size (h .running) k (h .below) func);
         small = h .small;
@@ -346,23 +357,39 @@ module _ {file tab rows consts callee old new : List ℕ} {k : ℕ} (h : Steppab
   fresh-cells : (rest : List ℕ) → valuesOf (widthIn file k) (dcells ++ rest) ≡ valuesOf (widthIn file k) dcells
   fresh-cells rest = values-front (widthIn file k) dcells rest (omega (arith, dlength))
 
-  module _ (n i : ℕ) (fresh rest cells : List ℕ) (width : n ≡ rowAt rows k 4) (inputs : i ≡ rowAt rows k 2) (long : length fresh ≡ 1008) (written : fresh ≡ cellsAt tab rows k 0 (rowAt rows k 4) ++ rest)
-      (copied : cells ≡ take (9 * i) callee ++ (take (9 * n - 9 * i) (drop (9 * i) fresh) ++ drop (9 * n) callee)) where
-    runs-fresh : (vs : List Value) → valuesOf (length (fnode .inputs)) callee ≡ fitAll (fnode .inputs) vs → runIn file consts k true cells fresh old ≡ run fglob (calls fglob) fnode (fitAll (fnode .inputs) vs) (freshRecord fglob fnode)
+  module _ (i : ℕ) (fr : List ℕ) (inputs : i ≡ rowAt rows k 2) (p : Freshened tab rows k i args fr) where
+    -- the default cells are those of a fresh record
+    defaults-as : valuesOf (rowAt rows k 4) (cellsAt tab rows k 0 (rowAt rows k 4)) ≡ oldCells fnode (freshRecord fglob fnode)
+    defaults-as =
+        let R = concat (map (freshAt fglob (nodesIn file)) (sites fnode)) in
+        (λ j. valuesOf (width-is (h .running) (h .below) (rowAt rows k 4) refl j) (default-cells (h .running .known) (h .below) j)) ∙ sym (fresh-cells R)
+
+    runs-fresh : (vs : List Value) → valuesOf (length (fnode .inputs)) args ≡ fitAll (fnode .inputs) vs → runIn file consts k (firstOf fr) (cellsOf fr) (beforeOf fr) old ≡ run fglob (calls fglob) fnode (fitAll (fnode .inputs) vs) (freshRecord fglob fnode)
     unfolding run
     runs-fresh vs e =
         let F = freshRecord fglob fnode in
-        let R = concat (map (freshAt fglob (nodesIn file)) (sites fnode)) in
-        let w : fresh ≡ dcells ++ rest = written ∙ ap (λ (l : List ℕ). l ++ rest) (default-cells (h .running .known) (h .below)) in
-        let b : valuesOf (widthIn file k) fresh ≡ oldCells fnode F = ap (valuesOf (widthIn file k)) w ∙ fresh-cells rest ∙ sym (fresh-cells R) in
-        let c = begin h n i fresh cells vs width inputs (omega (arith, long, narrow (h .running) (h .below) n width)) copied e ∙ ap (λ (l : List Value). fitAll (fnode .inputs) vs ++ drop (length (fnode .inputs)) l) b in
-        λ j. runAll fglob (calls fglob) fnode true (b j) (order (fnode .equations)) (c j) (function-split (h .running) k old (drop (ownSize fnode) F) (h .below) func j)
+        let wi = inputs-are (h .running) (h .below) i inputs in
+        let wn = width-is (h .running) (h .below) (rowAt rows k 4) refl in
+        let b = ap (λ (m : ℕ). valuesOf m (beforeOf fr)) (sym wn) ∙ p .before ∙ defaults-as in
+        let c = ap (λ (m : ℕ). valuesOf m (cellsOf fr)) (sym wn) ∙ p .cells ∙ (λ j. (ap (λ (m : ℕ). valuesOf m args) wi ∙ e) j ++ drop (wi j) (defaults-as j)) in
+        λ j. runAll fglob (calls fglob) fnode (p .first j) (b j) (order (fnode .equations)) (c j) (function-split (h .running) k old (drop (ownSize fnode) F) (h .below) func j)
 
-    pub function-done : (r : Ended) (cells′ new′ : List ℕ) → RunTo file consts k true cells fresh old r cells′ new′ → length new′ ≡ length new → SiteTo file consts k callee old (r .end) cells′ new′
+    pub function-done : (r : Ended) (cells′ new′ : List ℕ) (o : ℕ) (args′ : List ℕ) → RunTo file consts k (firstOf fr) (cellsOf fr) (beforeOf fr) old r cells′ new′ → length new′ ≡ length new → o ≡ rowAt rows k 3 → valuesOf o args′ ≡ valuesOf o (drop (9 * i) cells′) → SiteTo file consts k args old (r .end) args′ new′
     unfolding instance
-    function-done r cells′ new′ m l vs e =
-        let U = runIn file consts k true cells fresh old in
+    function-done r cells′ new′ o args′ m l oE left vs e =
+        let U = runIn file consts k (firstOf fr) (cellsOf fr) (beforeOf fr) old in
         let F = freshRecord fglob fnode in
         let q : record { out = leave fglob fnode F U .out; seg = old } ≡ calls fglob k vs old = ap (λ (u : Run). record { out = leave fglob fnode F u .out; seg = old }) (runs-fresh vs e) ∙ sym (function-call (h .running) k vs old (h .below) func) in
-        subst (λ (w : Evals). Did asIs w (r .end) (outputsAt file k cells′) new′) q
-        (left-function fglob fnode F old U r (valuesOf (widthIn file k) cells′) (outputsAt file k cells′) new′ new′ m (outputs-among fnode cells′) (both-empty new′ old (l ∙ ap length (h .same) ∙ no-old) no-old))
+        subst (λ (w : Evals). Did asIs w (r .end) (outputsAt file k args′) new′) q
+        (left-function fglob fnode F old U r (valuesOf (widthIn file k) cells′) (outputsAt file k args′) new′ new′ m (outputs-left h i o cells′ args′ inputs oE left) (both-empty new′ old (l ∙ ap length (h .same) ∙ no-old) no-old))
+
+-- ---- on a frame
+
+-- a run on a frame of node k
+pub framed-runnable : {file tab rows consts fr : List ℕ} {k : ℕ} {old new : List ℕ} → nodeOf fr ≡ k → Runnable file tab rows consts k (cellsOf fr) (beforeOf fr) old new → Runnable file tab rows consts (nodeOf fr) (cellsOf fr) (beforeOf fr) old new
+framed-runnable {file} {tab} {rows} {consts} {fr} {k} {old} {new} e p =
+    subst (λ (n : ℕ). Runnable file tab rows consts n (cellsOf fr) (beforeOf fr) old new) (sym e) p
+
+pub framed-run : (file consts fr old cells′ : List ℕ) {k : ℕ} {new : List ℕ} {r : Ended} → nodeOf fr ≡ k → RunTo file consts (nodeOf fr) (firstOf fr) (cellsOf fr) (beforeOf fr) old r cells′ new → RunTo file consts k (firstOf fr) (cellsOf fr) (beforeOf fr) old r cells′ new
+framed-run file consts fr old cells′ {k} {new} {r} e p =
+    subst (λ (n : ℕ). RunTo file consts n (firstOf fr) (cellsOf fr) (beforeOf fr) old r cells′ new) e p

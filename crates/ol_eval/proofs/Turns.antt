@@ -18,6 +18,7 @@ use Rattle.ol_tables.proofs.Forms.{each-map}
 use Rattle.ol_frame.specs.Walk.{nodesIn, sizesIn, Below}
 use Rattle.ol_frame.specs.Plans.{globalsIn, widthIn}
 use Rattle.ol_frame.specs.Nodes.{Running}
+use Rattle.ol_frame.specs.Frame.{nodeOf, firstOf, beforeOf, Keeps}
 use Rattle.ol_frame.specs.Outcomes.{endingOf}
 use Rattle.ol_frame.specs.declared.outcomes.Ending.{Ending}
 use Rattle.ol_frame.specs.declared.outcomes.Ending.the-variants as End
@@ -191,3 +192,16 @@ run-done file consts k first cells₀ before old cells new j l h =
       cells-are = λ _. r .1;
       state = r .2;
     }
+
+-- ---- on a frame whose cells were written
+
+pub keeps-ready : {file tab rows consts fr fr′ : List ℕ} {i at : ℕ} {cells old new : List ℕ} → Keeps fr fr′ → EquationReady file tab rows consts (nodeOf fr) i at cells (beforeOf fr) old new → EquationReady file tab rows consts (nodeOf fr′) i at cells (beforeOf fr′) old new
+keeps-ready {file} {tab} {rows} {consts} {fr} {fr′} {i} {at} {cells} {old} {new} h p =
+    subst (λ (n : ℕ). EquationReady file tab rows consts n i at cells (beforeOf fr′) old new) (sym (h .node))
+    (subst (λ (b : List ℕ). EquationReady file tab rows consts (nodeOf fr) i at cells b old new) (sym (h .before)) p)
+
+pub keeps-done : (file consts : List ℕ) (i : ℕ) (cells old cells′ : List ℕ) {fr fr′ new : List ℕ} {e : Ending} → Keeps fr fr′ → EquationTo file consts (nodeOf fr′) i (firstOf fr′) cells (beforeOf fr′) old e cells′ new → EquationTo file consts (nodeOf fr) i (firstOf fr) cells (beforeOf fr) old e cells′ new
+keeps-done file consts i cells old cells′ {fr} {fr′} {new} {e} h p =
+    subst (λ (n : ℕ). EquationTo file consts n i (firstOf fr) cells (beforeOf fr) old e cells′ new) (h .node)
+    (subst (λ (f : Bool). EquationTo file consts (nodeOf fr′) i f cells (beforeOf fr) old e cells′ new) (h .first)
+    (subst (λ (b : List ℕ). EquationTo file consts (nodeOf fr′) i (firstOf fr′) cells b old e cells′ new) (h .before) p))

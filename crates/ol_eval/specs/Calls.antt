@@ -3,6 +3,7 @@ use Prim.Native.Nat.{ℕ, _+_, _*_, _<_, _≤_}
 use mathlib.Core.Bool.{Bool, true, false}
 use mathlib.Core.List.{List, _++_}
 use mathlib.Core.Path.{_≡_}
+use lib.Dec.{eqb}
 use lib.ListN.{length, take, drop, getD}
 use Rattle.ol_spec.specs.Lists.{concat}
 use Rattle.ol_spec.specs.Syntax.{Imported, Variable, Node, rhsOf}
@@ -14,15 +15,16 @@ use Rattle.ol_spec.specs.Step.{Ended as RunEnd}
 use Rattle.ol_spec.specs.declared.Value.{Value}
 use Rattle.ol_tables.specs.At.{fileAt, nodeIn, exprAt, endAt, exprsAt, endsAt}
 use Rattle.ol_tables.specs.Tables.{siteBytes}
+use Rattle.ol_tables.specs.Heads.{partsAt, nextAt}
 use Rattle.ol_frame.specs.Walk.{nodesIn, sizesIn}
 use Rattle.ol_frame.specs.Plans.{Cells, globalsIn, widthIn, scopeIn, segsAt, segAt}
-use Rattle.ol_frame.specs.Equations.{countIn, placeIn, equationIn, rhsIn}
+use Rattle.ol_frame.specs.Equations.{countIn, placeIn, equationIn}
 use Rattle.ol_frame.specs.Nodes.{Running}
 use Rattle.ol_frame.specs.Outcomes.{endingOf}
 use Rattle.ol_frame.specs.declared.outcomes.Ending.{Ending}
 use Rattle.ol_frame.specs.declared.outcomes.Ending.the-variants as End
-use Rattle.ol_eval.specs.declared.cycle.Ran.{Ran}
-use Rattle.ol_eval.specs.declared.cycle.Ended.{Ended}
+use Rattle.ol_eval.specs.declared.eval.Ran.{Ran}
+use Rattle.ol_eval.specs.declared.eval.Ended.{Ended}
 
 -- if there are values, `got` is what is made of them; else it is free: of a failure or an overflow nobody reads the values
 abbrev pub Holds : (List Value → List Value) → Outcomes → List Value → Type 0
@@ -64,15 +66,28 @@ abbrev pub allIn : List ℕ → List ℕ → ℕ → ℕ → ℕ → ℕ → Boo
 allIn file consts level n at node first cells before seg =
     evalAll (globalsIn file consts) (scopeIn file node first cells before) (calls (globalsIn file consts)) (exprsAt file level n at) seg
 
-abbrev pub AllTo : List ℕ → List ℕ → Bool → ℕ → ℕ → ℕ → ℕ → ℕ → Bool → List ℕ → List ℕ → List ℕ → Ran → List ℕ → List ℕ → Type 0
-AllTo file consts fits k n level at node first cells before old r to new =
+abbrev pub PassedTo : List ℕ → List ℕ → Bool → ℕ → ℕ → ℕ → ℕ → ℕ → Bool → List ℕ → List ℕ → List ℕ → Ran → List ℕ → List ℕ → Type 0
+PassedTo file consts fits k n level at node first cells before old r to new =
     RanTo (passedAll fits (nodeIn file k .inputs)) (allIn file consts level n at node first cells before (take (segsAt file level n at) old)) (endsAt file level n at) (segsAt file level n at) old r (valuesOf n to) new
+
+-- it is a call that stands there
+abbrev pub isCall : List ℕ → ℕ → Bool
+isCall file at = eqb (getD file at 0) 11
+
+-- the parts of the call or Tuple at `at` have room in `to` for their values, a call's fitted to its callee's inputs
+pub record Several (file : List ℕ) (at : ℕ) (to : List ℕ) : Type 0 where
+  pub inside : at + 1 < length file
+  pub passes : Passes file (isCall file at) (getD file (at + 1) 0) (partsAt file at) to
+
+abbrev pub AllTo : List ℕ → List ℕ → ℕ → ℕ → ℕ → Bool → List ℕ → List ℕ → List ℕ → Ran → List ℕ → List ℕ → Type 0
+AllTo file consts level at node first cells before old r to new =
+    PassedTo file consts (isCall file at) (getD file (at + 1) 0) (partsAt file at) level (nextAt file at) node first cells before old r to new
 
 -- ---- a call
 
--- the values of the outputs of node k among the cells of its variables
+-- the values of the outputs of node k, which were left in `args`
 abbrev pub outputsAt : List ℕ → ℕ → List ℕ → List Value
-outputsAt file k cells = valuesOf (length (nodeIn file k .outputs)) (drop (9 * length (nodeIn file k .inputs)) cells)
+outputsAt file k args = valuesOf (length (nodeIn file k .outputs)) args
 
 -- the expression at `at` as a right side
 abbrev pub rhsEval : List ℕ → List ℕ → ℕ → ℕ → ℕ → Bool → List ℕ → List ℕ → List ℕ → Evals
@@ -80,24 +95,24 @@ rhsEval file consts level at node first cells before seg =
     evalRhs (globalsIn file consts) (scopeIn file node first cells before) (calls (globalsIn file consts)) (rhsOf (exprAt file level at)) seg
 
 abbrev pub EntersTo : List ℕ → List ℕ → ℕ → ℕ → ℕ → Bool → List ℕ → List ℕ → List ℕ → Ran → List ℕ → List ℕ → Type 0
-EntersTo file consts level at node first cells before old r callee new =
-    RanTo asIs (rhsEval file consts level at node first cells before (take (segAt file level at) old)) (endAt file level at) (segAt file level at) old r (outputsAt file (getD file (at + 1) 0) callee) new
+EntersTo file consts level at node first cells before old r args new =
+    RanTo asIs (rhsEval file consts level at node first cells before (take (segAt file level at) old)) (endAt file level at) (segAt file level at) old r (outputsAt file (getD file (at + 1) 0) args) new
 
 -- ---- a call of a node on its record
 
--- a call site of node k, whose record is `old`, with the arguments in `callee`
-pub record Steppable (file tab rows consts : List ℕ) (k : ℕ) (callee old new : List ℕ) : Type 0 where
+-- a call site of node k, whose record is `old`, with the arguments in `args`
+pub record Steppable (file tab rows consts : List ℕ) (k : ℕ) (args old new : List ℕ) : Type 0 where
   pub running : Running file tab rows consts
   pub below : k < nodesIn file
   pub kind : ¬ (nodeIn file k .kind ≡ Imported)
-  pub room : length callee ≡ 1008
+  pub room : length args ≡ 288
   pub sized : length old ≡ siteBytes (fileAt file) k
   pub small : length old ≤ 32768
   pub same : new ≡ old
 
 abbrev pub SiteTo : List ℕ → List ℕ → ℕ → List ℕ → List ℕ → Ending → List ℕ → List ℕ → Type 0
-SiteTo file consts k callee old end callee′ new =
-    (vs : List Value) → valuesOf (length (nodeIn file k .inputs)) callee ≡ fitAll (nodeIn file k .inputs) vs → Did asIs (calls (globalsIn file consts) k vs old) end (outputsAt file k callee′) new
+SiteTo file consts k args old end args′ new =
+    (vs : List Value) → valuesOf (length (nodeIn file k .inputs)) args ≡ fitAll (nodeIn file k .inputs) vs → Did asIs (calls (globalsIn file consts) k vs old) end (outputsAt file k args′) new
 
 -- ---- a node's equations
 
@@ -143,11 +158,9 @@ pub record EquationReady (file tab rows consts : List ℕ) (k i at : ℕ) (cells
   pub small : length old ≤ 32768
   pub same : new ≡ old
 
--- besides, its right side stands at `rhs` and has the code, and it defines n names
-pub record RhsReady (file : List ℕ) (k i rhs n code : ℕ) : Type 0 where
-  pub place : rhs ≡ rhsIn file k i
-  pub count : n ≡ length (equationIn file k i .names)
-  pub code-is : getD file rhs 0 ≡ code
+-- the right side of the equation that stands at `at` has this code
+abbrev pub RhsCode : List ℕ → ℕ → ℕ → Type 0
+RhsCode file at code = getD file (at + 1 + 2 * getD file at 0) 0 ≡ code
 
 abbrev pub EquationTo : List ℕ → List ℕ → ℕ → ℕ → Bool → List ℕ → List ℕ → List ℕ → Ending → List ℕ → List ℕ → Type 0
 EquationTo file consts k i first cells before old end cells′ new =

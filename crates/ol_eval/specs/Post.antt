@@ -11,7 +11,8 @@ use Rattle.ol_tables.specs.At.{exprAt, endAt, exprsAt, endsAt}
 use Rattle.ol_tables.specs.Tables.{Each}
 use Rattle.ol_frame.specs.Plans.{Plan, Cells, segsAt, segAt, evalIn, globalsIn, scopeIn}
 use Rattle.ol_frame.specs.Nodes.{Enters}
-use Rattle.ol_eval.specs.declared.cycle.Step.{Step}
+use Rattle.ol_frame.specs.Outcomes.{overflowOf}
+use Rattle.ol_eval.specs.declared.eval.Step.{Step}
 
 -- n expressions from `at` on can be evaluated on the parts `old` and `new` of the two states
 pub record Ready (file tab rows consts : List ℕ) (level n at node : ℕ) (cells before old new : List ℕ) : Type 0 where
@@ -34,6 +35,15 @@ pub record Meets (want : Eval) (next used : ℕ) (old : List ℕ) (r : Step) (ne
 abbrev pub EvalsTo : List ℕ → List ℕ → ℕ → ℕ → ℕ → Bool → List ℕ → List ℕ → List ℕ → Step → List ℕ → Type 0
 EvalsTo file consts level at node first cells before old r new =
     Meets (evalIn file consts node first cells before (exprAt file level at) (take (segAt file level at) old)) (endAt file level at) (segAt file level at) old r new
+
+-- the branch that is not taken, evaluated for its records: whether it overflowed, and the new state
+pub record Untaken (want : Eval) (used : ℕ) (old : List ℕ) (over : Bool) (new : List ℕ) : Type 0 where
+  pub over-is : over ≡ overflowOf (want .out)
+  pub state : new ≡ want .seg ++ drop used old
+
+abbrev pub UntakenTo : List ℕ → List ℕ → ℕ → ℕ → ℕ → Bool → List ℕ → List ℕ → List ℕ → Bool → List ℕ → Type 0
+UntakenTo file consts level at node first cells before old over new =
+    Untaken (evalIn file consts node first cells before (exprAt file level at) (take (segAt file level at) old)) (segAt file level at) old over new
 
 -- two operands, the first of which is at `at`, on their segment
 abbrev pub twoIn : List ℕ → List ℕ → ℕ → ℕ → ℕ → ℕ → Bool → List ℕ → List ℕ → List ℕ → Eval

@@ -1,5 +1,6 @@
 -- Endings, told apart.
 use Prim.Native.Nat.{ℕ}
+use mathlib.Core.Bool.{true, false}
 use mathlib.Core.List.{[], _∷_}
 use mathlib.Core.Logic.{inl, inr}
 use mathlib.Core.Path.{_≡_, refl}
@@ -10,7 +11,7 @@ use Rattle.ol_spec.specs.Answers.{outcomeNumber}
 use Rattle.ol_spec.specs.Eval.{several}
 use Rattle.ol_spec.specs.declared.Outcome.{Outcome}
 use Rattle.ol_spec.specs.declared.Outcome.the-variants as Out
-use Rattle.ol_frame.specs.Outcomes.{endingOf, endingNumber}
+use Rattle.ol_frame.specs.Outcomes.{endingOf, endingNumber, overflowOf, dropOut}
 use Rattle.ol_frame.specs.declared.outcomes.Ending.{Ending}
 use Rattle.ol_frame.specs.declared.outcomes.Ending.the-variants as End
 use Rattle.ol_frame.proofs.outcomes.Ending.{the-type}
@@ -39,3 +40,14 @@ pub ending-number : (o : Outcome) → endingNumber (endingOf (several o)) ≡ ou
 ending-number (Out.Value v) = refl
 ending-number Out.Failure = refl
 ending-number Out.Overflow = refl
+
+-- the branch that is not taken overflowed, or it did not
+pub dropped : (taken other : Outcome) → overflowOf other ≡ true → Out.Overflow ≡ dropOut taken other
+dropped taken (Out.Value w) e = let z : _≡_ {A = ℕ} 0 1 = cc in absurd (omega arith)
+dropped taken Out.Failure e = let z : _≡_ {A = ℕ} 0 1 = cc in absurd (omega arith)
+dropped taken Out.Overflow e = refl
+
+pub undropped : (taken other : Outcome) → overflowOf other ≡ false → taken ≡ dropOut taken other
+undropped taken (Out.Value w) e = refl
+undropped taken Out.Failure e = refl
+undropped taken Out.Overflow e = let z : _≡_ {A = ℕ} 0 1 = cc in absurd (omega arith)

@@ -3,6 +3,7 @@ pub mod Copying
 pub mod Depth
 pub mod Endings
 pub mod Equating
+pub mod Framing
 pub mod Naming
 pub mod NodeRows
 pub mod Passing
@@ -10,3 +11,4 @@ pub mod Planning
 pub mod RealKinds
 pub mod Running
 pub mod Storing
+pub mod Tabling

@@ -97,6 +97,18 @@ values-copied first last from to new h lf lt e =
     ++ (ap (valuesOf (last - first)) (drop-at A (B ++ C) (9 * first) la) ∙ values-front (last - first) B C (omega (arith, lb, m))
     ∙ sym (values-front (last - first) B (drop (9 * last - 9 * first) (drop (9 * first) from)) (omega (arith, lb, m))) ∙ ap (valuesOf (last - first)) (lib.ListN.take-append-drop (9 * last - 9 * first) (drop (9 * first) from)) ∙ values-drop first last from h) j)
 
+-- the first values are written over
+pub values-over : (i n : ℕ) (from to new : List ℕ) → i ≤ n → 9 * i ≤ length from → 9 * n ≤ length to
+    → new ≡ take (9 * 0) to ++ (take (9 * i - 9 * 0) (drop (9 * 0) from) ++ drop (9 * i) to) → valuesOf n new ≡ valuesOf i from ++ drop i (valuesOf n to)
+values-over i n from to new h lf lt e =
+    let z : 9 * i - 9 * 0 ≡ 9 * i = omega arith in
+    let front = take (9 * i - 9 * 0) (drop (9 * 0) from) in
+    let la : length front ≡ 9 * i = length-take-le (9 * i - 9 * 0) from (omega arith) ∙ z in
+    let m : n ≡ i + (n - i) = omega arith in
+    let b : drop (9 * i) new ≡ drop (9 * i) to = ap (drop (9 * i)) e ∙ drop-at front (drop (9 * i) to) (9 * i) la in
+    ap (λ (k : ℕ). valuesOf k new) m ∙ values-append i (n - i) new
+    ∙ (λ j. values-copied 0 i from to new (omega arith) lf (omega arith) e j ++ (ap (valuesOf (n - i)) b ∙ values-drop i n to h) j)
+
 -- the copy as the loan leaves it
 pub copied-part : (a b : ℕ) (from to x : List ℕ) → a ≤ b → b ≤ length from → b ≤ length to → x ≡ take (length (take (b - a) (drop a to))) (take (b - a) (drop a from)) ++ drop (length (take (b - a) (drop a from))) (take (b - a) (drop a to))
     → take a to ++ (x ++ drop (b - a) (drop a to)) ≡ take a to ++ (take (b - a) (drop a from) ++ drop b to)

@@ -1,4 +1,5 @@
 pub mod Equations
+pub mod Frame
 pub mod Nodes
 pub mod Outcomes
 pub mod Plans

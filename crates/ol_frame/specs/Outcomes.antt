@@ -71,6 +71,12 @@ runsOf (Out.Value v) has = has
 runsOf Out.Failure has = false
 runsOf Out.Overflow has = false
 
+-- it is an overflow
+abbrev pub overflowOf : Outcome → Bool
+overflowOf (Out.Value v) = false
+overflowOf Out.Failure = false
+overflowOf Out.Overflow = true
+
 -- its failure is dropped
 abbrev pub dropOut : Outcome → Outcome → Outcome
 dropOut taken (Out.Value w) = taken

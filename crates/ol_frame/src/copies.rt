@@ -7,6 +7,7 @@ ghost use Rattle.ol_spec.specs.Cell.{cell, cells, valueOf, valuesOf};
 ghost use Rattle.ol_spec.specs.Eval.{Outcomes, single, several};
 ghost use Rattle.ol_value.specs.Codes.{tyOf};
 ghost use Rattle.ol_tables.specs.Tables.{slotsFrom, codeAt};
+ghost use Rattle.ol_tables.specs.Table.{tabOf};
 ghost use Rattle.ol_frame.specs.Outcomes.{endingOf};
 ghost use Rattle.ol_frame.specs.Stores.{passedBy, Storable, Stores, StoresOut, Assignable, Assigns, Leaves};
 use crate::outcomes::Ending;
@@ -66,8 +67,8 @@ pub fn finish(n: usize, present: &[u8], to: &mut [u8])
 
 // A value as it is passed on: fitted to variable i of node k, or as it is.
 pub fn passed(tab: &[u8], fits: bool, k: usize, i: usize, v: Value) -> Value
-    requires { ⌜ (slotsFrom ≤ length (now tab)) × (k < 32) × (i < 112) ⌝ }
-    ensures { λ r. ⌜ ((e : ℕ) → r ≡ passedBy fits (tyOf (codeAt (now (tab .entry)) k i) e) v) × (valueOf (cell r) ≡ r) ⌝ }
+    requires { ⌜ (slotsFrom ≤ length (tabOf (now tab))) × (k < 32) × (i < 112) ⌝ }
+    ensures { λ r. ⌜ ((e : ℕ) → r ≡ passedBy fits (tyOf (codeAt (tabOf (now (tab .entry))) k i) e) v) × (valueOf (cell r) ≡ r) ⌝ }
 {
     if fits {
         let c = code_of(tab, k, i);
@@ -79,8 +80,8 @@ pub fn passed(tab: &[u8], fits: bool, k: usize, i: usize, v: Value) -> Value
 
 // Stores a value, fitted, in the cell of the name that stands at `at`, a variable of node k.
 fn store(tab: &[u8], k: usize, at: usize, v: Value, cells: &mut [u8])
-    requires { ⌜ Storable (now tab) k at (now cells) ⌝ }
-    ensures { λ _. ⌜ Stores (now (tab .entry)) k at v (now (cells .entry)) (now (cells .exit)) ⌝ }
+    requires { ⌜ Storable (tabOf (now tab)) k at (now cells) ⌝ }
+    ensures { λ _. ⌜ Stores (tabOf (now (tab .entry))) k at v (now (cells .entry)) (now (cells .exit)) ⌝ }
 {
     let s = slot_at(tab, at);
     if s < 112 {
@@ -92,8 +93,8 @@ fn store(tab: &[u8], k: usize, at: usize, v: Value, cells: &mut [u8])
 
 // Stores an outcome's value, if it has one; answers how the equation ended.
 pub fn store_out(tab: &[u8], k: usize, at: usize, o: Outcome, cells: &mut [u8]) -> Ending
-    requires { ⌜ Storable (now tab) k at (now cells) ⌝ }
-    ensures { λ r. ⌜ (r ≡ endingOf (several o)) × StoresOut (now (tab .entry)) k at o (now (cells .entry)) (now (cells .exit)) ⌝ }
+    requires { ⌜ Storable (tabOf (now tab)) k at (now cells) ⌝ }
+    ensures { λ r. ⌜ (r ≡ endingOf (several o)) × StoresOut (tabOf (now (tab .entry))) k at o (now (cells .entry)) (now (cells .exit)) ⌝ }
 {
     match o {
         Outcome::Value(v) => {
@@ -106,9 +107,9 @@ pub fn store_out(tab: &[u8], k: usize, at: usize, o: Outcome, cells: &mut [u8]) 
 }
 
 // Stores n values, each in the cell of its name; the names stand from `at` on.
-pub fn assign(tab: &[u8], k: usize, at: usize, n: usize, from: &[u8], cells: &mut [u8])
-    requires { ⌜ Assignable (now tab) k at n (now from) (now cells) ⌝ }
-    ensures { λ _. ⌜ Assigns (now (tab .entry)) k at n n (now (from .entry)) (now (cells .entry)) (now (cells .exit)) ⌝ }
+pub fn bind(tab: &[u8], k: usize, at: usize, n: usize, from: &[u8], cells: &mut [u8])
+    requires { ⌜ Assignable (tabOf (now tab)) k at n (now from) (now cells) ⌝ }
+    ensures { λ _. ⌜ Assigns (tabOf (now (tab .entry))) k at n n (now (from .entry)) (now (cells .entry)) (now (cells .exit)) ⌝ }
 {
     let mut i: usize = 0;
     while i < n {
@@ -119,15 +120,15 @@ pub fn assign(tab: &[u8], k: usize, at: usize, n: usize, from: &[u8], cells: &mu
     }
 }
 
-// The value of a call that ended so and has so many outputs, the first of which is the cell of index i.
-pub fn single_out(end: Ending, outputs: usize, i: usize, cells: &[u8]) -> Outcome
-    requires { ⌜ (i ≤ 112) × (9 * i + 9 ≤ length (now cells)) ⌝ }
-    ensures { λ r. ⌜ ((os : Outcomes) → Leaves os end outputs (drop (9 * i) (now (cells .entry))) → r ≡ single os) ⌝ }
+// The value of a call that ended so and has so many outputs, which are in `cells`.
+pub fn single_out(end: Ending, outputs: usize, cells: &[u8]) -> Outcome
+    requires { ⌜ 9 ≤ length (now cells) ⌝ }
+    ensures { λ r. ⌜ ((os : Outcomes) → Leaves os end outputs (now (cells .entry)) → r ≡ single os) ⌝ }
 {
     match end {
         Ending::Values => {
             if outputs == 1 {
-                Outcome::Value(read_cell(cells, 9 * i))
+                Outcome::Value(read_cell(cells, 0))
             } else {
                 Outcome::Failure
             }

@@ -8,6 +8,7 @@ use ol_tables::tables::EQUATIONS;
 ghost use Prim.Native.Nat.{_≤_, _<_};
 ghost use lib.ListN.{length};
 ghost use mathlib.Core.Path.{_≡_};
+ghost use Rattle.ol_tables.specs.Table.{rowsOf};
 ghost use Rattle.ol_frame.specs.Walk.{Passable};
 ghost use Rattle.ol_frame.specs.Equations.{EquationsStand, EquationsAre, countIn, recordsIn, Bare, RightEnds};
 
@@ -18,8 +19,8 @@ struct Right {
 }
 
 // The right side at `at` is passed over; where it has no records (`bare`), only its end is looked for.
-fn right_side(file: &[u8], rows: &[usize], at: usize, bare: bool) -> Right
-    requires { ⌜ Passable (now file) (now rows) 24 1 at × Bare (now file) at bare ⌝ }
+fn right_side(file: &[u8], tab: &[u8], at: usize, bare: bool) -> Right
+    requires { ⌜ Passable (now file) (rowsOf (now tab)) 24 1 at × Bare (now file) at bare × (816 ≤ length (now tab)) ⌝ }
     ensures { λ r. ⌜ RightEnds (now (file .entry)) at r ⌝ }
 {
     if bare {
@@ -28,7 +29,7 @@ fn right_side(file: &[u8], rows: &[usize], at: usize, bare: bool) -> Right
             used: 0,
         }
     } else {
-        let p = pass(file, rows, at, 24);
+        let p = pass(file, tab, at, 24);
         Right {
             next: p.next,
             used: p.used,
@@ -39,25 +40,25 @@ fn right_side(file: &[u8], rows: &[usize], at: usize, bare: bool) -> Right
 // The place of each equation of node k, and where its records start among those of all, which have `total` bytes.
 pub fn equations(
     file: &[u8],
-    rows: &[usize],
+    tab: &[u8],
     k: usize,
     total: usize,
     places: &mut [usize],
     offsets: &mut [usize],
 )
-    requires { ⌜ EquationsStand (now file) (now rows) k × (total ≡ recordsIn (now file) k) × (countIn (now file) k ≤ length (now places)) × (countIn (now file) k < length (now offsets)) ⌝ }
+    requires { ⌜ EquationsStand (now file) (rowsOf (now tab)) k × (total ≡ recordsIn (now file) k) × (countIn (now file) k ≤ length (now places)) × (countIn (now file) k < length (now offsets)) × (816 ≤ length (now tab)) ⌝ }
     ensures { λ _. ⌜ EquationsAre (now (file .entry)) k (now (places .exit)) (now (offsets .exit)) ⌝ }
 {
-    let n = row(rows, k, COUNT);
+    let n = row(tab, k, COUNT);
     let bare = total == 0;
-    let mut at = row(rows, k, EQUATIONS);
+    let mut at = row(tab, k, EQUATIONS);
     let mut used: usize = 0;
     let mut i: usize = 0;
     offsets[0] = 0;
     while i < n {
         places[i] = at;
         let names = number(file[at]);
-        let r = right_side(file, rows, at + 1 + 2 * names, bare);
+        let r = right_side(file, tab, at + 1 + 2 * names, bare);
         at = r.next;
         used += r.used;
         i += 1;

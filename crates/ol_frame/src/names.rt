@@ -8,9 +8,15 @@ ghost use lib.ListN.{length, getD};
 ghost use Rattle.ol_spec.specs.Eval.{orFailure, presentOf, preOf, realKind, isDouble?, join, firstType};
 ghost use Rattle.ol_spec.specs.declared.Value.the-variants as Val;
 ghost use Rattle.ol_tables.specs.At.{exprAt, endAt, nodeIn};
+ghost use Rattle.ol_tables.specs.Table.{tabOf, rowsOf, constsOf};
+ghost use Rattle.ol_frame.specs.Frame.{Framed, nodeOf, firstOf, cellsOf, beforeOf};
 ghost use Rattle.ol_frame.specs.Outcomes.{kindOf, commonOut};
 ghost use Rattle.ol_frame.specs.Walk.{nodesIn};
 ghost use Rattle.ol_frame.specs.Plans.{Program, globalsIn, scopeIn, Nameable, Looked, Plan, Cells, nameAt, Leaf, evalIn, segsAt};
+use crate::frame::BEFORE;
+use crate::frame::CELLS;
+use crate::frame::FRAME;
+use crate::frame::is_first;
 use crate::outcomes::RealKind;
 use crate::outcomes::common_out;
 use crate::outcomes::is_single;
@@ -25,6 +31,7 @@ use crate::tables::row;
 use crate::tables::slot_at;
 use ol_spec::Outcome;
 use ol_spec::Value;
+use ol_tables::table::CONSTANTS;
 use ol_tables::tables::INPUTS;
 use ol_value::cell::read_cell;
 
@@ -54,50 +61,34 @@ fn variant(file: &[u8], at: usize) -> Value
 }
 
 // The name at `at`: a variable's present cell, a constant's value or a variant.
-pub fn present(
-    file: &[u8],
-    tab: &[u8],
-    consts: &[u8],
-    node: usize,
-    cells: &[u8],
-    at: usize,
-) -> Outcome
-    requires { ⌜ Nameable (now file) (now tab) (now consts) node at × Cells (now file) node (now cells) ⌝ }
-    ensures { λ r. ⌜ r ≡ orFailure (presentOf (globalsIn (now (file .entry)) (now (consts .entry))) (scopeIn (now (file .entry)) node false (now (cells .entry)) (now (cells .entry))) (nameAt (now (file .entry)) at)) ⌝ }
+pub fn present(file: &[u8], tab: &[u8], frame: &[u8; FRAME], at: usize) -> Outcome
+    requires { ⌜ Framed (now frame) × Nameable (now file) (tabOf (now tab)) (constsOf (now tab)) (nodeOf (now frame)) at × Cells (now file) (nodeOf (now frame)) (cellsOf (now frame)) ⌝ }
+    ensures { λ r. ⌜ r ≡ orFailure (presentOf (globalsIn (now (file .entry)) (constsOf (now (tab .entry)))) (scopeIn (now (file .entry)) (nodeOf (now (frame .entry))) false (cellsOf (now (frame .entry))) (cellsOf (now (frame .entry)))) (nameAt (now (file .entry)) at)) ⌝ }
 {
     let s = slot_at(tab, at);
     if s < 112 {
-        Outcome::Value(read_cell(cells, s * 9))
+        Outcome::Value(read_cell(frame, CELLS + s * 9))
     } else if s < 255 {
-        Outcome::Value(read_cell(consts, (s - 112) * 9))
+        Outcome::Value(read_cell(tab, CONSTANTS + (s - 112) * 9))
     } else {
         Outcome::Value(variant(file, at))
     }
 }
 
 // Pre of the expression at `at`: fails at a first cycle, and on anything but a variable or constant.
-fn previous(
-    file: &[u8],
-    tab: &[u8],
-    consts: &[u8],
-    node: usize,
-    first: bool,
-    before: &[u8],
-    at: usize,
-    level: usize,
-) -> Outcome
-    requires { ⌜ Looked (now file) (now tab) (now consts) node level at × Cells (now file) node (now before) ⌝ }
-    ensures { λ r. ⌜ r ≡ preOf (globalsIn (now (file .entry)) (now (consts .entry))) (scopeIn (now (file .entry)) node first (now (before .entry)) (now (before .entry))) first (exprAt (now (file .entry)) level at) ⌝ }
+fn previous(file: &[u8], tab: &[u8], frame: &[u8; FRAME], at: usize, level: usize) -> Outcome
+    requires { ⌜ Framed (now frame) × Looked (now file) (tabOf (now tab)) (constsOf (now tab)) (nodeOf (now frame)) level at × Cells (now file) (nodeOf (now frame)) (beforeOf (now frame)) ⌝ }
+    ensures { λ r. ⌜ r ≡ preOf (globalsIn (now (file .entry)) (constsOf (now (tab .entry)))) (scopeIn (now (file .entry)) (nodeOf (now (frame .entry))) (firstOf (now (frame .entry))) (beforeOf (now (frame .entry))) (beforeOf (now (frame .entry)))) (firstOf (now (frame .entry))) (exprAt (now (file .entry)) level at) ⌝ }
 {
-    if first {
+    if is_first(frame) {
         return Outcome::Failure;
     }
     if file[at] == 4 {
         let s = slot_at(tab, at + 1);
         if s < 112 {
-            Outcome::Value(read_cell(before, s * 9))
+            Outcome::Value(read_cell(frame, BEFORE + s * 9))
         } else if s < 255 {
-            Outcome::Value(read_cell(consts, (s - 112) * 9))
+            Outcome::Value(read_cell(tab, CONSTANTS + (s - 112) * 9))
         } else {
             Outcome::Failure
         }
@@ -107,20 +98,9 @@ fn previous(
 }
 
 // What the form at `at` yields, where no part of it is evaluated: a literal, a Var, a Pre; a Tuple fails.
-pub fn leaf_out(
-    file: &[u8],
-    tab: &[u8],
-    rows: &[usize],
-    consts: &[u8],
-    at: usize,
-    level: usize,
-    node: usize,
-    first: bool,
-    cells: &[u8],
-    before: &[u8],
-) -> Outcome
-    requires { ⌜ Plan (now file) (now tab) (now rows) (now consts) node level 1 at × Cells (now file) node (now cells) × Cells (now file) node (now before) × Leaf (getD (now file) at 0) ⌝ }
-    ensures { λ r. ⌜ ((seg : List ℕ) → r ≡ evalIn (now (file .entry)) (now (consts .entry)) node first (now (cells .entry)) (now (before .entry)) (exprAt (now (file .entry)) level at) seg .out) ⌝ }
+pub fn leaf_out(file: &[u8], tab: &[u8], at: usize, level: usize, frame: &[u8; FRAME]) -> Outcome
+    requires { ⌜ Framed (now frame) × Plan (now file) (tabOf (now tab)) (rowsOf (now tab)) (constsOf (now tab)) (nodeOf (now frame)) level 1 at × Cells (now file) (nodeOf (now frame)) (cellsOf (now frame)) × Cells (now file) (nodeOf (now frame)) (beforeOf (now frame)) × Leaf (getD (now file) at 0) ⌝ }
+    ensures { λ r. ⌜ ((seg : List ℕ) → r ≡ evalIn (now (file .entry)) (constsOf (now (tab .entry))) (nodeOf (now (frame .entry))) (firstOf (now (frame .entry))) (cellsOf (now (frame .entry))) (beforeOf (now (frame .entry))) (exprAt (now (file .entry)) level at) seg .out) ⌝ }
 {
     let code = file[at];
     let p = at + 1;
@@ -129,86 +109,68 @@ pub fn leaf_out(
         1 => Outcome::Value(read_cell(file, at)),
         2 => Outcome::Value(read_cell(file, at)),
         3 => Outcome::Value(char_of(file[p])),
-        4 => present(file, tab, consts, node, cells, p),
-        8 => previous(file, tab, consts, node, first, before, p, level - 1),
+        4 => present(file, tab, frame, p),
+        8 => previous(file, tab, frame, p, level - 1),
         _ => Outcome::Failure,
     }
 }
 
 // The real kind of a call of node k: by its first output's type.
-fn call_kind(file: &[u8], tab: &[u8], rows: &[usize], k: usize) -> RealKind
-    requires { ⌜ Program (now file) (now tab) (now rows) × (k < nodesIn (now file)) ⌝ }
+fn call_kind(file: &[u8], tab: &[u8], k: usize) -> RealKind
+    requires { ⌜ Program (now file) (tabOf (now tab)) (rowsOf (now tab)) × (k < nodesIn (now file)) ⌝ }
     ensures { λ r. ⌜ kindOf r ≡ firstType (nodeIn (now (file .entry)) k .outputs) ⌝ }
 {
-    let i = row(rows, k, INPUTS);
+    let i = row(tab, k, INPUTS);
     let t = code_of(tab, k, i);
     kind_of_type(t)
 }
 
 // How the expression at `at` counts as real.
-fn real_kind(
-    file: &[u8],
-    tab: &[u8],
-    rows: &[usize],
-    consts: &[u8],
-    node: usize,
-    cells: &[u8],
-    at: usize,
-    level: usize,
-) -> RealKind
-    requires { ⌜ Plan (now file) (now tab) (now rows) (now consts) node level 1 at × Cells (now file) node (now cells) × (segsAt (now file) level 1 at ≤ 32768) ⌝ }
-    ensures { λ r. ⌜ kindOf r ≡ realKind (globalsIn (now (file .entry)) (now (consts .entry))) (scopeIn (now (file .entry)) node false (now (cells .entry)) (now (cells .entry))) (exprAt (now (file .entry)) level at) ⌝ }
+fn real_kind(file: &[u8], tab: &[u8], frame: &[u8; FRAME], at: usize, level: usize) -> RealKind
+    requires { ⌜ Framed (now frame) × Plan (now file) (tabOf (now tab)) (rowsOf (now tab)) (constsOf (now tab)) (nodeOf (now frame)) level 1 at × Cells (now file) (nodeOf (now frame)) (cellsOf (now frame)) × (segsAt (now file) level 1 at ≤ 32768) ⌝ }
+    ensures { λ r. ⌜ kindOf r ≡ realKind (globalsIn (now (file .entry)) (constsOf (now (tab .entry)))) (scopeIn (now (file .entry)) (nodeOf (now (frame .entry))) false (cellsOf (now (frame .entry))) (cellsOf (now (frame .entry)))) (exprAt (now (file .entry)) level at) ⌝ }
 {
     let code = file[at];
     let p = at + 1;
     match code {
         2 => RealKind::Double,
-        4 => kind_of_outcome(present(file, tab, consts, node, cells, p)),
-        5 => real_kind(file, tab, rows, consts, node, cells, at + 2, level - 1),
+        4 => kind_of_outcome(present(file, tab, frame, p)),
+        5 => real_kind(file, tab, frame, at + 2, level - 1),
         6 => {
             let op = file[p];
             if op < 10 {
                 RealKind::NotReal
             } else if op < 14 {
-                real_kinds(file, tab, rows, consts, node, cells, at + 2, level - 1)
+                real_kinds(file, tab, frame, at + 2, level - 1)
             } else {
                 RealKind::NotReal
             }
         }
         7 => {
-            let c = pass(file, rows, p, level - 1);
+            let c = pass(file, tab, p, level - 1);
             let q = c.next;
-            real_kinds(file, tab, rows, consts, node, cells, q, level - 1)
+            real_kinds(file, tab, frame, q, level - 1)
         }
-        8 => real_kind(file, tab, rows, consts, node, cells, p, level - 1),
-        9 => real_kinds(file, tab, rows, consts, node, cells, p, level - 1),
+        8 => real_kind(file, tab, frame, p, level - 1),
+        9 => real_kinds(file, tab, frame, p, level - 1),
         10 => kind_of_type(file[p]),
         11 => {
             let k = number(file[p]);
-            call_kind(file, tab, rows, k)
+            call_kind(file, tab, k)
         }
         _ => RealKind::NotReal,
     }
 }
 
 // Of two expressions, the first of which is at `at`: one double makes both double.
-fn real_kinds(
-    file: &[u8],
-    tab: &[u8],
-    rows: &[usize],
-    consts: &[u8],
-    node: usize,
-    cells: &[u8],
-    at: usize,
-    level: usize,
-) -> RealKind
-    requires { ⌜ Plan (now file) (now tab) (now rows) (now consts) node level 2 at × Cells (now file) node (now cells) × (segsAt (now file) level 2 at ≤ 32768) ⌝ }
-    ensures { λ r. ⌜ kindOf r ≡ join (realKind (globalsIn (now (file .entry)) (now (consts .entry))) (scopeIn (now (file .entry)) node false (now (cells .entry)) (now (cells .entry))) (exprAt (now (file .entry)) level at)) (realKind (globalsIn (now (file .entry)) (now (consts .entry))) (scopeIn (now (file .entry)) node false (now (cells .entry)) (now (cells .entry))) (exprAt (now (file .entry)) level (endAt (now (file .entry)) level at))) ⌝ }
+fn real_kinds(file: &[u8], tab: &[u8], frame: &[u8; FRAME], at: usize, level: usize) -> RealKind
+    requires { ⌜ Framed (now frame) × Plan (now file) (tabOf (now tab)) (rowsOf (now tab)) (constsOf (now tab)) (nodeOf (now frame)) level 2 at × Cells (now file) (nodeOf (now frame)) (cellsOf (now frame)) × (segsAt (now file) level 2 at ≤ 32768) ⌝ }
+    ensures { λ r. ⌜ kindOf r ≡ join (realKind (globalsIn (now (file .entry)) (constsOf (now (tab .entry)))) (scopeIn (now (file .entry)) (nodeOf (now (frame .entry))) false (cellsOf (now (frame .entry))) (cellsOf (now (frame .entry)))) (exprAt (now (file .entry)) level at)) (realKind (globalsIn (now (file .entry)) (constsOf (now (tab .entry)))) (scopeIn (now (file .entry)) (nodeOf (now (frame .entry))) false (cellsOf (now (frame .entry))) (cellsOf (now (frame .entry)))) (exprAt (now (file .entry)) level (endAt (now (file .entry)) level at))) ⌝ }
 {
-    let a = real_kind(file, tab, rows, consts, node, cells, at, level);
-    let p = pass(file, rows, at, level);
+    let a = real_kind(file, tab, frame, at, level);
+    let p = pass(file, tab, at, level);
     let q = p.next;
-    let b = real_kind(file, tab, rows, consts, node, cells, q, level);
+    let b = real_kind(file, tab, frame, q, level);
     join_kinds(a, b)
 }
 
@@ -216,19 +178,16 @@ fn real_kinds(
 pub fn chosen(
     file: &[u8],
     tab: &[u8],
-    rows: &[usize],
-    consts: &[u8],
-    node: usize,
-    cells: &[u8],
+    frame: &[u8; FRAME],
     at: usize,
     level: usize,
     taken: Outcome,
 ) -> Outcome
-    requires { ⌜ Plan (now file) (now tab) (now rows) (now consts) node level 1 at × Cells (now file) node (now cells) × (segsAt (now file) level 1 at ≤ 32768) ⌝ }
-    ensures { λ r. ⌜ r ≡ commonOut (isDouble? (realKind (globalsIn (now (file .entry)) (now (consts .entry))) (scopeIn (now (file .entry)) node false (now (cells .entry)) (now (cells .entry))) (exprAt (now (file .entry)) level at))) taken ⌝ }
+    requires { ⌜ Framed (now frame) × Plan (now file) (tabOf (now tab)) (rowsOf (now tab)) (constsOf (now tab)) (nodeOf (now frame)) level 1 at × Cells (now file) (nodeOf (now frame)) (cellsOf (now frame)) × (segsAt (now file) level 1 at ≤ 32768) ⌝ }
+    ensures { λ r. ⌜ r ≡ commonOut (isDouble? (realKind (globalsIn (now (file .entry)) (constsOf (now (tab .entry)))) (scopeIn (now (file .entry)) (nodeOf (now (frame .entry))) false (cellsOf (now (frame .entry))) (cellsOf (now (frame .entry)))) (exprAt (now (file .entry)) level at))) taken ⌝ }
 {
     if is_single(taken) {
-        let k = real_kind(file, tab, rows, consts, node, cells, at, level);
+        let k = real_kind(file, tab, frame, at, level);
         common_out(k, taken)
     } else {
         same_out(taken)

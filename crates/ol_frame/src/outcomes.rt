@@ -4,9 +4,10 @@ ghost use mathlib.Core.Bool.{true};
 ghost use Prim.Native.Nat.{ℕ};
 ghost use Rattle.ol_spec.specs.Cell.{cell, valueOf};
 ghost use Rattle.ol_spec.specs.Types.{castTo};
+ghost use Rattle.ol_spec.specs.declared.Outcome.{Outcome};
 ghost use Rattle.ol_spec.specs.Eval.{thenOut, commonReal, kindOfType, isDouble?, join};
 ghost use Rattle.ol_value.specs.Codes.{tyOf, unaryBy};
-ghost use Rattle.ol_frame.specs.Outcomes.{doneOf, binaryOut, testOf, untestedOf, runsOf, dropOut, singleOf, commonOut, kindOf, outcomeKind};
+ghost use Rattle.ol_frame.specs.Outcomes.{doneOf, binaryOut, testOf, untestedOf, runsOf, overflowOf, dropOut, singleOf, commonOut, kindOf, outcomeKind};
 use ol_real::f32_to_f64;
 use ol_spec::Outcome;
 use ol_spec::Value;
@@ -146,14 +147,25 @@ pub fn runs(taken: Outcome, has: bool) -> bool
     }
 }
 
-// The untaken branch's failure is dropped, its overflow is not.
-pub fn drop_failure(taken: Outcome, other: Outcome) -> Outcome
-    ensures { λ r. ⌜ r ≡ dropOut taken other ⌝ }
+// Whether it is an overflow.
+pub fn overflowed(o: Outcome) -> bool
+    ensures { λ r. ⌜ r ≡ overflowOf o ⌝ }
 {
-    match other {
-        Outcome::Value(_) => same_out(taken),
-        Outcome::Failure => same_out(taken),
-        Outcome::Overflow => same_out(other),
+    match o {
+        Outcome::Value(_) => false,
+        Outcome::Failure => false,
+        Outcome::Overflow => true,
+    }
+}
+
+// What a choice comes to where the branch that is not taken was evaluated: its failure is dropped, its overflow is not.
+pub fn drop_failure(taken: Outcome, overflow: bool) -> Outcome
+    ensures { λ r. ⌜ ((other : Outcome) → overflow ≡ overflowOf other → r ≡ dropOut taken other) ⌝ }
+{
+    if overflow {
+        Outcome::Overflow
+    } else {
+        same_out(taken)
     }
 }
 

@@ -3,6 +3,9 @@ use crate::tables::row;
 use ol_tables::heads::head;
 use ol_tables::heads::next_call;
 use ol_tables::tables::SIZE;
+ghost use Prim.Native.Nat.{_≤_};
+ghost use lib.ListN.{length};
+ghost use Rattle.ol_tables.specs.Table.{rowsOf};
 ghost use Rattle.ol_frame.specs.Walk.{Passable, SkipsTo};
 
 // Where what was passed over ends, the bytes of its records, and whether it contains a call.
@@ -13,8 +16,8 @@ pub struct Passed {
 }
 
 // Passes over `count` expressions, the first of which is at `at`, from call to call.
-pub fn pass_all(file: &[u8], rows: &[usize], at: usize, level: usize, count: usize) -> Passed
-    requires { ⌜ Passable (now file) (now rows) level count at ⌝ }
+pub fn pass_all(file: &[u8], tab: &[u8], at: usize, level: usize, count: usize) -> Passed
+    requires { ⌜ Passable (now file) (rowsOf (now tab)) level count at × (816 ≤ length (now tab)) ⌝ }
     ensures { λ r. ⌜ SkipsTo (now (file .entry)) level count at r ⌝ }
 {
     let mut next = at;
@@ -24,7 +27,7 @@ pub fn pass_all(file: &[u8], rows: &[usize], at: usize, level: usize, count: usi
     loop {
         let c = next_call(file, left, next);
         if c.found {
-            used += row(rows, c.callee, SIZE);
+            used += row(tab, c.callee, SIZE);
             has = true;
             next = c.at;
             left = c.left;
@@ -39,8 +42,8 @@ pub fn pass_all(file: &[u8], rows: &[usize], at: usize, level: usize, count: usi
 }
 
 // Passes over the expression at `at`, of at most `level` levels. A literal and a Var are their heads.
-pub fn pass(file: &[u8], rows: &[usize], at: usize, level: usize) -> Passed
-    requires { ⌜ Passable (now file) (now rows) level 1 at ⌝ }
+pub fn pass(file: &[u8], tab: &[u8], at: usize, level: usize) -> Passed
+    requires { ⌜ Passable (now file) (rowsOf (now tab)) level 1 at × (816 ≤ length (now tab)) ⌝ }
     ensures { λ r. ⌜ SkipsTo (now (file .entry)) level 1 at r ⌝ }
 {
     if file[at] < 5 {
@@ -51,6 +54,6 @@ pub fn pass(file: &[u8], rows: &[usize], at: usize, level: usize) -> Passed
             has: false,
         }
     } else {
-        pass_all(file, rows, at, level, 1)
+        pass_all(file, tab, at, level, 1)
     }
 }

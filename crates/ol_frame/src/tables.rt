@@ -1,14 +1,16 @@
 // Entries of the tables of a file.
+use ol_tables::table::ORDERS;
+use ol_tables::table::SLOTS;
+use ol_tables::table::TYPES;
 use ol_tables::tables::COLUMNS;
 use ol_tables::tables::MOST_EQUATIONS;
 use ol_tables::tables::MOST_VARIABLES;
-use ol_tables::tables::SLOTS;
-use ol_tables::tables::TYPES;
 ghost use mathlib.Core.Path.{_≡_};
 ghost use Prim.Native.Nat.{_<_, _≤_};
 ghost use lib.ListN.{length};
 ghost use Prim.Native.Nat.{_+_};
-ghost use Rattle.ol_tables.specs.Tables.{rowsLength, rowAt, codeAt, slotAt, slotsFrom, orderAt};
+ghost use Rattle.ol_tables.specs.Table.{rowsOf, tabOf};
+ghost use Rattle.ol_tables.specs.Tables.{rowAt, codeAt, slotAt, slotsFrom, orderAt};
 
 // A byte as a number.
 pub fn number(b: u8) -> usize
@@ -18,18 +20,20 @@ pub fn number(b: u8) -> usize
 }
 
 // Entry j of node k's row, which stands in the table: ol_tables' `row` without its tests.
-pub fn row(rows: &[usize], k: usize, j: usize) -> usize
-    requires { ⌜ (length (now rows) ≡ rowsLength) × (k < 32) × (j < 8) ⌝ }
-    ensures { λ r. ⌜ r ≡ rowAt (now (rows .entry)) k j ⌝ }
+pub fn row(tab: &[u8], k: usize, j: usize) -> usize
+    requires { ⌜ (816 ≤ length (now tab)) × (k < 32) × (j < 8) ⌝ }
+    ensures { λ r. ⌜ r ≡ rowAt (rowsOf (now (tab .entry))) k j ⌝ }
 {
-    let i = k * COLUMNS + j;
-    rows[i]
+    let p = 3 * (k * COLUMNS + j);
+    let q = p + 1;
+    let r = p + 2;
+    number(tab[p]) * 65536 + number(tab[q]) * 256 + number(tab[r])
 }
 
 // The type code of variable i of node k.
 pub(crate) fn code_of(tab: &[u8], k: usize, i: usize) -> u8
-    requires { ⌜ (slotsFrom ≤ length (now tab)) × (k < 32) × (i < 112) ⌝ }
-    ensures { λ r. ⌜ r ≡ codeAt (now (tab .entry)) k i ⌝ }
+    requires { ⌜ (slotsFrom ≤ length (tabOf (now tab))) × (k < 32) × (i < 112) ⌝ }
+    ensures { λ r. ⌜ r ≡ codeAt (tabOf (now (tab .entry))) k i ⌝ }
 {
     let p = TYPES + (k * MOST_VARIABLES + i) * 2;
     tab[p]
@@ -37,8 +41,8 @@ pub(crate) fn code_of(tab: &[u8], k: usize, i: usize) -> u8
 
 // The slot of the name that stands at a place.
 pub(crate) fn slot_at(tab: &[u8], at: usize) -> usize
-    requires { ⌜ slotsFrom + at < length (now tab) ⌝ }
-    ensures { λ r. ⌜ r ≡ slotAt (now (tab .entry)) at ⌝ }
+    requires { ⌜ slotsFrom + at < length (tabOf (now tab)) ⌝ }
+    ensures { λ r. ⌜ r ≡ slotAt (tabOf (now (tab .entry))) at ⌝ }
 {
     let p = SLOTS + at;
     number(tab[p])
@@ -46,9 +50,9 @@ pub(crate) fn slot_at(tab: &[u8], at: usize) -> usize
 
 // Which equation of node k runs j-th.
 pub fn order_at(tab: &[u8], k: usize, j: usize) -> usize
-    requires { ⌜ (slotsFrom ≤ length (now tab)) × (k < 32) × (j < 80) ⌝ }
-    ensures { λ r. ⌜ (r ≡ orderAt (now (tab .entry)) k j) × (r < 256) ⌝ }
+    requires { ⌜ (slotsFrom ≤ length (tabOf (now tab))) × (k < 32) × (j < 80) ⌝ }
+    ensures { λ r. ⌜ (r ≡ orderAt (tabOf (now (tab .entry))) k j) × (r < 256) ⌝ }
 {
-    let p = k * MOST_EQUATIONS + j;
+    let p = ORDERS + k * MOST_EQUATIONS + j;
     number(tab[p])
 }

@@ -6,7 +6,7 @@ use mathlib.Core.Logic.{inr}
 use mathlib.Core.Option.{none}
 use mathlib.Core.Path.{_≡_, refl, sym, ap, subst, _∙_}
 use native.Mathlib.Omega.{arith}
-use lib.ListN.{length, take, getD, length-map, length-take}
+use lib.ListN.{length, take, getD, length-map, length-take, length-drop}
 use lib.Dec.{T}
 use Rattle.ol_spec.specs.Lists.{concat}
 use Rattle.ol_spec.specs.Syntax.{Constant, File, constantName, variableNames}
@@ -30,6 +30,7 @@ use Rattle.ol_frame.specs.Walk.{nodesIn}
 use Rattle.ol_frame.specs.Plans.{knownIn, constantsIn, namesIn, Named}
 use Rattle.ol_run.specs.Constants.{Never, noConstant, constantAt, valueAt, ConstantReady, ConstantsReady}
 use Rattle.ol_run.specs.Admitted.{Admitted}
+use Rattle.ol_tables.specs.Table.{tabOf, rowsOf}
 use Rattle.ol_frame.proofs.Passing.{callees-one}
 use Rattle.ol_run.proofs.Constant.{beyond}
 use Rattle.ol_run.proofs.Placing.{all-each, each-two, fits-all, pair-at}
@@ -128,15 +129,16 @@ module _ {s rows tab : List ℕ} (a : Admitted s rows tab) where
           closed = subst (Each Never) (sym (callees-one s 24 (valueAt s i) (is-read .0) ∙ ap callees (is-read .1))) (no-callees (valueAt s i) (c .value) is-called);
         }
 
-  -- all constants can be evaluated into their cells
-  pub constants-ready : (consts : List ℕ) (nodes at count : ℕ) → nodes ≡ length (fileAt s .nodes) → at ≡ constantsStart (fileAt s) → count ≡ length (fileAt s .constants) → length consts ≡ 9 * count
-      → ConstantsReady s tab rows consts nodes at count
-  constants-ready consts nodes at count nodes-is begins counted long =
-      record {
-        each = constant-ready;
-        counted = counted;
-        begins = λ h. begins ∙ first-place (constantsStart f) (f .constants) (omega arith);
-        nodes-is = nodes-is;
-        long = long;
-        few = omega (arith, a .stands .fewConstants);
-      }
+-- all constants can be evaluated into their cells
+pub constants-ready : {s : List ℕ} (t : List ℕ) → Admitted s (rowsOf t) (tabOf t) → (nodes at count : ℕ) → nodes ≡ length (fileAt s .nodes) → at ≡ constantsStart (fileAt s) → count ≡ length (fileAt s .constants)
+    → ConstantsReady s t nodes at count
+constants-ready {s} t a nodes at count nodes-is begins counted =
+    record {
+      each = constant-ready a;
+      counted = counted;
+      begins = λ h. begins ∙ first-place (constantsStart (fileAt s)) (fileAt s .constants) (omega arith);
+      nodes-is = nodes-is;
+      nodes-few = omega (arith, a .stands .fewNodes);
+      long = omega (arith, a .tabled .long, length-drop 1393 t);
+      few = omega (arith, a .stands .fewConstants);
+    }

@@ -4,7 +4,7 @@ use mathlib.Core.Bool.{Bool, true, false, cond}
 use mathlib.Core.List.{List, [], _∷_, _++_, map, append-nil, append-assoc}
 use mathlib.Core.Path.{_≡_, refl, sym, ap, subst, _∙_}
 use native.Mathlib.Omega.{arith}
-use lib.ListN.{length, take, drop, getD, List·getD-eq-default, length-append, length-drop, length-map, drop-of-length-le}
+use lib.ListN.{length, take, drop, getD, set, length-set, List·getD-eq-default, length-append, length-map, drop-of-length-le}
 use lib.Dec.{eqb}
 use borrow.Author.Tests.{ne-eqb}
 use lib.Seq.{take-all, take-at, drop-at, length-take-le, drop-cons, take-suc}
@@ -30,9 +30,11 @@ use Rattle.ol_tables.proofs.Forms.{parted, reads-end, each-join, each-map}
 use Rattle.ol_frame.specs.Walk.{nodesIn, sizesIn, Below, Passable}
 use Rattle.ol_frame.specs.Plans.{knownIn, globalsIn, scopeIn, widthIn, segAt, evalIn}
 use Rattle.ol_eval.specs.Post.{Ready, EvalsTo}
-use Rattle.ol_run.specs.Constants.{Never, ConstantReady, ConstantsReady, ConstantsAre, noConstant, constantAt, valueAt, constantOut}
+use Rattle.ol_run.specs.Constants.{Never, ConstantReady, ConstantsReady, ConstantsAre, SameTables, noConstant, constantAt, valueAt, constantOut}
+use Rattle.ol_tables.specs.Table.{tabOf, rowsOf, knownOf, constsOf}
+use Rattle.ol_run.proofs.Tabled.{known-set, consts-set, rows-set, tab-set, cellPut, rows-put, tab-put, put-long, put-known, kept-cells, more-cells}
 use Rattle.ol_frame.specs.Nodes.{Enters}
-use Rattle.ol_eval.specs.declared.cycle.Step.{Step}
+use Rattle.ol_eval.specs.declared.eval.Step.{Step}
 use Rattle.ol_frame.proofs.Passing.{callees-one}
 use Rattle.ol_frame.proofs.Copying.{cells-append}
 use Rattle.ol_frame.proofs.Depth.{Agrees, eval-calls}
@@ -147,30 +149,87 @@ get-name [] i d h = absurd (omega arith)
 get-name (c ∷ cs) zero d h = refl
 get-name (c ∷ cs) (suc i) d h = get-name cs i d (omega arith)
 
--- how many have their cells
-pub known-is : (consts : List ℕ) (count i : ℕ) → length consts ≡ 9 * count → i ≤ count → knownIn (take (9 * i) consts) ≡ i
-known-is consts count i l h = let e = length-take-le (9 * i) consts (omega arith) in omega (arith, e)
-
--- the constants from i on are still to be evaluated
-pub record Going (file consts : List ℕ) (count pos i : ℕ) : Type 0 where
+-- the constants from i on are still to be evaluated; the table was t₀ at first
+pub record Going (file t₀ t : List ℕ) (count pos i : ℕ) : Type 0 where
   pub values : List Value
   pub had : Each Kept values
   pub counted : length values ≡ i
-  pub long : length consts ≡ 9 * count
-  pub bytes : take (9 * i) consts ≡ cells values
+  pub long : length t ≡ length t₀
+  pub known : knownOf t ≡ i
+  pub bytes : constsOf t ≡ cells values
+  pub same : SameTables t₀ t
   pub rest : constants (fileAt file) ≡ constantsFrom (fileAt file) (take i (constantNames (fileAt file))) values (drop i (placedConstants (fileAt file)))
   pub place : i < count → pos ≡ constantAt file i .0
 
-module _ {file tab rows : List ℕ} where
-  pub going-start : {consts : List ℕ} {nodes at count : ℕ} → ConstantsReady file tab rows consts nodes at count → Going file consts count at 0
-  unfolding constants
-  going-start p = record { values = []; had = tt; counted = refl; long = p .long; bytes = refl; rest = refl; place = p .begins }
+-- a constant can be evaluated by a table with the same rows, orders, types and slots
+ready-same : {file t t′ : List ℕ} {i : ℕ} → SameTables t t′ → ConstantReady file (tabOf t) (rowsOf t) i → ConstantReady file (tabOf t′) (rowsOf t′) i
+ready-same {file} {t} {t′} {i} s h = subst (λ (x : List ℕ). ConstantReady file x (rowsOf t′) i) (sym (s .tab)) (subst (λ (x : List ℕ). ConstantReady file (tabOf t) x i) (sym (s .rows)) h)
 
+pub same-onward : {t t′ t″ : List ℕ} → SameTables t t′ → SameTables t′ t″ → SameTables t t″
+same-onward a b = record { rows = b .rows ∙ a .rows; tab = b .tab ∙ a .tab }
+
+-- how many have their cells
+pub known-is : {file t₀ t : List ℕ} {count pos i : ℕ} → Going file t₀ t count pos i → knownIn (constsOf t) ≡ i
+known-is g = let e = ap length (g .bytes) ∙ length-cells (g .values) in omega (arith, e, g .counted)
+
+-- no constant has its cell yet
+module _ {file t : List ℕ} {nodes at count : ℕ} (p : ConstantsReady file t nodes at count) where
+  pub cleared-same : SameTables t (set t 816 0)
+  cleared-same = record { rows = rows-set t 0 (p .long); tab = tab-set t 0 (p .long) }
+
+  pub cleared-ready : ConstantsReady file (set t 816 0) nodes at count
+  cleared-ready =
+      record {
+        each = λ i l. ready-same cleared-same (p .each i l);
+        counted = p .counted;
+        begins = p .begins;
+        nodes-is = p .nodes-is;
+        nodes-few = p .nodes-few;
+        long = omega (arith, p .long, length-set t 816 0);
+        few = p .few;
+      }
+
+  pub going-start : Going file (set t 816 0) (set t 816 0) count at 0
+  unfolding constants
+  going-start =
+      record {
+        values = [];
+        had = tt;
+        counted = refl;
+        long = refl;
+        known = known-set t 0 (p .long);
+        bytes = consts-set t 0 (p .long);
+        same = record { rows = refl; tab = refl };
+        rest = refl;
+        place = p .begins;
+      }
+
+module _ {file t₀ : List ℕ} {nodes at count : ℕ} (p : ConstantsReady file t₀ nodes at count) where
   -- the constant whose turn it is
-  pub going-ready : {consts : List ℕ} {nodes at count pos i : ℕ} (now : List ℕ) → ConstantsReady file tab rows consts nodes at count → Going file now count pos i → i < count → ConstantReady file tab rows (knownIn (take (9 * i) now)) × (nodes ≡ nodesIn file) × (pos ≡ constantAt file (knownIn (take (9 * i) now)) .0)
-  going-ready {count = count} {i = i} now p g l =
-      let k = known-is now count i (g .long) (omega arith) in
-      rw k (p .each i (omega (arith, p .counted)), p .nodes-is, g .place l)
+  pub going-ready : {pos i : ℕ} (t : List ℕ) → Going file t₀ t count pos i → i < count → ConstantReady file (tabOf t) (rowsOf t) (knownIn (constsOf t)) × (pos ≡ constantAt file (knownIn (constsOf t)) .0)
+  going-ready {pos} {i} t g l =
+      rw (known-is g) (ready-same (g .same) (p .each i (omega (arith, p .counted))), g .place l)
+
+  -- its cell is written, and not counted yet
+  pub going-written : {t new : List ℕ} {pos i : ℕ} (w : Value) → new ≡ cellPut t (cell w) i → Going file t₀ t count pos i → i < count → Going file t₀ new count pos i
+  going-written {t} {new} {pos} {i} w e g l =
+      let c = cell w in
+      let n = length-cell w in
+      let few : i < 64 = omega (arith, l, p .few) in
+      let room : 1393 ≤ length t = omega (arith, g .long, p .long) in
+      let k = put-known t c i n few room ∙ g .known in
+      subst (λ (x : List ℕ). Going file t₀ x count pos i) (sym e)
+      (record {
+        values = g .values;
+        had = g .had;
+        counted = g .counted;
+        long = put-long t c i n few room ∙ g .long;
+        known = k;
+        bytes = ap (λ (m : ℕ). take (9 * m) (drop 817 (cellPut t c i))) k ∙ kept-cells t c i n few room ∙ ap (λ (m : ℕ). take (9 * m) (drop 817 t)) (sym (g .known)) ∙ g .bytes;
+        same = record { rows = rows-put t c i n few room ∙ g .same .rows; tab = tab-put t c i n few room ∙ g .same .tab };
+        rest = g .rest;
+        place = g .place;
+      })
 
 after-value : (p : ℕ) (k : Value → Constants) (F : Value → Value) (E o : Outcome) (w : Value) → o ≡ thenOut (λ v. Out.Value (F v)) E → o ≡ Out.Value w → afterConstant p (λ v. k (F v)) E ≡ k w
 after-value p k F (Out.Value v) o w e f = ap k (same-value (sym e ∙ f))
@@ -194,16 +253,16 @@ after-none p k F (Out.Value v) o e f = absurd (no-done (ap doneOf (sym e) ∙ f)
 after-none p k F Out.Failure o e f = refl
 after-none p k F Out.Overflow o e f = refl
 
-module _ {file tab rows consts : List ℕ} {nodes at count : ℕ} (p : ConstantsReady file tab rows consts nodes at count) {now : List ℕ} {pos i : ℕ} (g : Going file now count pos i) (l : i < count) where
+module _ {file t₀ : List ℕ} {nodes at count : ℕ} (p : ConstantsReady file t₀ nodes at count) {t : List ℕ} {pos i : ℕ} (g : Going file t₀ t count pos i) (l : i < count) where
   -- its outcome, with the values so far
   abbrev here : Outcome
   here = eval (globals (fileAt file) (take i (constantNames (fileAt file))) (g .values)) noVariables noCalls (constantAt file i .1 .value) [] .out
 
-  turn-out : {o : Outcome} → o ≡ constantOut file (take (9 * i) now) (knownIn (take (9 * i) now)) → o ≡ thenOut (λ v. Out.Value (fit (constantAt file i .1 .ty) v)) here
+  turn-out : {o : Outcome} → o ≡ constantOut file (constsOf t) (knownIn (constsOf t)) → o ≡ thenOut (λ v. Out.Value (fit (constantAt file i .1 .ty) v)) here
   turn-out {o} h =
-      let k = known-is now count i (g .long) (omega arith) in
-      let vs : valuesOf i (take (9 * i) now) ≡ g .values = ap (valuesOf i) (g .bytes ∙ sym (append-nil (cells (g .values)))) ∙ ap (λ (n : ℕ). valuesOf n (cells (g .values) ++ [])) (sym (g .counted)) ∙ values-kept (g .values) [] (g .had) in
-      h ∙ (λ j. thenOut (λ v. Out.Value (fit (constantAt file (k j) .1 .ty) v)) (eval (globals (fileAt file) (take (k j) (constantNames (fileAt file))) (valuesOf (k j) (take (9 * i) now))) noVariables noCalls (constantAt file (k j) .1 .value) [] .out))
+      let k = known-is g in
+      let vs : valuesOf i (constsOf t) ≡ g .values = ap (valuesOf i) (g .bytes ∙ sym (append-nil (cells (g .values)))) ∙ ap (λ (n : ℕ). valuesOf n (cells (g .values) ++ [])) (sym (g .counted)) ∙ values-kept (g .values) [] (g .had) in
+      h ∙ (λ j. thenOut (λ v. Out.Value (fit (constantAt file (k j) .1 .ty) v)) (eval (globals (fileAt file) (take (k j) (constantNames (fileAt file))) (valuesOf (k j) (constsOf t))) noVariables noCalls (constantAt file (k j) .1 .value) [] .out))
       ∙ (λ j. thenOut (λ v. Out.Value (fit (constantAt file i .1 .ty) v)) (eval (globals (fileAt file) (take i (constantNames (fileAt file))) (vs j)) noVariables noCalls (constantAt file i .1 .value) [] .out))
 
   inside : i < length (placedConstants (fileAt file))
@@ -212,10 +271,10 @@ module _ {file tab rows consts : List ℕ} {nodes at count : ℕ} (p : Constants
   opened : constants (fileAt file) ≡ afterConstant (constantAt file i .0) (λ v. constantsFrom (fileAt file) (take i (constantNames (fileAt file)) ++ constantAt file i .1 .name ∷ []) (g .values ++ fit (constantAt file i .1 .ty) v ∷ []) (drop (suc i) (placedConstants (fileAt file)))) here
   opened = g .rest ∙ ap (λ (cs : List (ℕ × Constant)). constantsFrom (fileAt file) (take i (constantNames (fileAt file))) (g .values) cs) (drop-cons (placedConstants (fileAt file)) i noConstant inside)
 
-  pub going-stuck : {o : Outcome} → o ≡ constantOut file (take (9 * i) now) (knownIn (take (9 * i) now)) → doneOf o ≡ false → (cs : List ℕ) → ConstantsAre (constants (fileAt file)) (Fnd.Stuck pos) cs
+  pub going-stuck : {o : Outcome} → o ≡ constantOut file (constsOf t) (knownIn (constsOf t)) → doneOf o ≡ false → (cs : List ℕ) → ConstantsAre count (constants (fileAt file)) (Fnd.Stuck pos) cs
   going-stuck {o} h d cs =
       let e = opened ∙ after-none (constantAt file i .0) (λ w. constantsFrom (fileAt file) (take i (constantNames (fileAt file)) ++ constantAt file i .1 .name ∷ []) (g .values ++ w ∷ []) (drop (suc i) (placedConstants (fileAt file)))) (fit (constantAt file i .1 .ty)) here o (turn-out h) d in
-      subst (λ (c : Constants). ConstantsAre c (Fnd.Stuck pos) cs) (sym e) (ap Fnd.Stuck (g .place l))
+      subst (λ (c : Constants). ConstantsAre count c (Fnd.Stuck pos) cs) (sym e) (ap Fnd.Stuck (g .place l))
 
   names-next : take (suc i) (constantNames (fileAt file)) ≡ take i (constantNames (fileAt file)) ++ constantAt file i .1 .name ∷ []
   names-next =
@@ -231,25 +290,31 @@ module _ {file tab rows consts : List ℕ} {nodes at count : ℕ} (p : Constants
       let n = placed-next constantSize (constantsStart (fileAt file)) i (fileAt file .constants) noConstant (omega (arith, p .counted)) in
       r ∙ ap (λ (e : Expr). valueAt file i + exprSize e) (c .tree) ∙ omega (arith, n) ∙ ap (λ (k : ℕ). constantAt file k .0) s
 
-  pub going-turn : {o : Outcome} {v w : Value} {next : ℕ} {new : List ℕ} → o ≡ constantOut file (take (9 * i) now) (knownIn (take (9 * i) now)) → o ≡ Out.Value v → w ≡ v → Kept v → new ≡ take (9 * i) now ++ (cell w ++ drop (9 * i + 9) now) → next ≡ endAt file 24 (valueAt file i) → Going file new count next (i + 1)
+  pub going-turn : {o : Outcome} {v w : Value} {next : ℕ} {new : List ℕ} → o ≡ constantOut file (constsOf t) (knownIn (constsOf t)) → o ≡ Out.Value v → w ≡ v → Kept v → new ≡ cellPut t (cell w) i → next ≡ endAt file 24 (valueAt file i) → Going file t₀ (set new 816 (i + 1)) count next (i + 1)
   going-turn {o} {v} {w} {next} {new} h d same k write e =
       let q = opened ∙ after-value (constantAt file i .0) (λ w. constantsFrom (fileAt file) (take i (constantNames (fileAt file)) ++ constantAt file i .1 .name ∷ []) (g .values ++ w ∷ []) (drop (suc i) (placedConstants (fileAt file)))) (fit (constantAt file i .1 .ty)) here o v (turn-out h) d in
       let s : suc i ≡ i + 1 = omega arith in
-      let write′ : new ≡ cells (g .values ++ v ∷ []) ++ drop (9 * i + 9) now = write ∙ (λ j. g .bytes j ++ (cell (same j) ++ drop (9 * i + 9) now)) ∙ sym (append-assoc (cells (g .values)) (cell v) (drop (9 * i + 9) now)) ∙ ap (λ (x : List ℕ). x ++ drop (9 * i + 9) now) (sym (cells-append (g .values) v)) in
-      let lc : length (cells (g .values ++ v ∷ [])) ≡ 9 * (i + 1) = length-cells (g .values ++ v ∷ []) ∙ ap (λ (n : ℕ). 9 * n) (length-append (g .values) (v ∷ []) ∙ ap (λ (n : ℕ). n + 1) (g .counted)) in
-      record {
+      let n = length-cell w in
+      let few : i < 64 = omega (arith, l, p .few) in
+      let room : 1393 ≤ length t = omega (arith, g .long, p .long) in
+      let t′ = cellPut t (cell w) i in
+      let long = put-long t (cell w) i n few room in
+      let room′ : 1393 ≤ length t′ = omega (arith, room, long) in
+      subst (λ (x : List ℕ). Going file t₀ (set x 816 (i + 1)) count next (i + 1)) (sym write)
+      (record {
         values = g .values ++ v ∷ [];
         had = each-join Kept (g .values) (v ∷ []) (g .had) (k, tt);
         counted = length-append (g .values) (v ∷ []) ∙ ap (λ (n : ℕ). n + 1) (g .counted);
-        long = ap length write′ ∙ length-append (cells (g .values ++ v ∷ [])) (drop (9 * i + 9) now) ∙ omega (arith, lc, length-drop (9 * i + 9) now, g .long);
-        bytes = ap (take (9 * (i + 1))) write′ ∙ take-at (cells (g .values ++ v ∷ [])) (drop (9 * i + 9) now) (9 * (i + 1)) lc;
+        long = length-set t′ 816 (i + 1) ∙ long ∙ g .long;
+        known = known-set t′ (i + 1) room′;
+        bytes = consts-set t′ (i + 1) room′ ∙ more-cells t (cell w) i n few room ∙ ap (λ (m : ℕ). take (9 * m) (drop 817 t) ++ cell w) (sym (g .known)) ∙ (λ j. g .bytes j ++ cell (same j)) ∙ sym (cells-append (g .values) v);
+        same = record { rows = rows-set t′ (i + 1) room′ ∙ rows-put t (cell w) i n few room ∙ g .same .rows; tab = tab-set t′ (i + 1) room′ ∙ tab-put t (cell w) i n few room ∙ g .same .tab };
         rest = q ∙ (λ j. constantsFrom (fileAt file) (sym names-next j) (g .values ++ v ∷ []) (drop (suc i) (placedConstants (fileAt file)))) ∙ (λ j. constantsFrom (fileAt file) (take (s j) (constantNames (fileAt file))) (g .values ++ v ∷ []) (drop (s j) (placedConstants (fileAt file))));
         place = λ b. e ∙ next-place b;
-      }
+      })
 
-pub going-done : {file tab rows consts : List ℕ} {nodes at count : ℕ} → ConstantsReady file tab rows consts nodes at count → {now : List ℕ} {pos i : ℕ} → Going file now count pos i → i ≡ count → ConstantsAre (constants (fileAt file)) Fnd.All now
-going-done {file} {count = count} p {now} {pos} {i} g e =
+pub going-done : {file t₀ : List ℕ} {nodes at count : ℕ} → ConstantsReady file t₀ nodes at count → {t : List ℕ} {pos i : ℕ} → Going file t₀ t count pos i → i ≡ count → ConstantsAre count (constants (fileAt file)) Fnd.All (constsOf t)
+going-done {file} {count = count} p {t} {pos} {i} g e =
     let none : drop i (placedConstants (fileAt file)) ≡ [] = drop-of-length-le (placedConstants (fileAt file)) {i = i} (omega (arith, length-placed constantSize (constantsStart (fileAt file)) (fileAt file .constants), p .counted)) in
     let q = g .rest ∙ ap (λ (cs : List (ℕ × Constant)). constantsFrom (fileAt file) (take i (constantNames (fileAt file))) (g .values) cs) none in
-    let b : now ≡ cells (g .values) = sym (take-all (9 * i) now (omega (arith, g .long))) ∙ g .bytes in
-    subst (λ (c : Constants). ConstantsAre c Fnd.All now) (sym q) (refl, b, ap (valuesOf (length (g .values))) (b ∙ sym (append-nil (cells (g .values)))) ∙ values-kept (g .values) [] (g .had))
+    subst (λ (c : Constants). ConstantsAre count c Fnd.All (constsOf t)) (sym q) (refl, g .bytes, ap (valuesOf (length (g .values))) (g .bytes ∙ sym (append-nil (cells (g .values)))) ∙ values-kept (g .values) [] (g .had), g .counted ∙ e)

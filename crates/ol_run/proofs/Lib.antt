@@ -5,3 +5,4 @@ pub mod MainCycle
 pub mod Placing
 pub mod Seen
 pub mod Standing
+pub mod Tabled

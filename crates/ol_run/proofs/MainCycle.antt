@@ -28,12 +28,14 @@ use Rattle.ol_frame.specs.Nodes.{Running}
 use Rattle.ol_eval.specs.Calls.{Runnable, RunMeets, RunTo, runIn, EndsAs}
 use Rattle.ol_run.specs.MainCycle.{recordRun, RecordReady, RecordRan, RunReady, Cycles, CyclesTo}
 use Rattle.ol_frame.specs.Outcomes.{endingNumber}
-use Rattle.ol_eval.specs.declared.cycle.Ended.{Ended}
+use Rattle.ol_eval.specs.declared.eval.Ended.{Ended}
 use Rattle.ol_frame.specs.declared.outcomes.Ending.the-variants as End
 use Rattle.ol_tables.proofs.Lending.{tailOf, putTail, tail-all, put-tail, take-put, drop-put, length-put}
 use Rattle.ol_frame.proofs.Endings.{failed-values, over-values, over-failed}
-use Rattle.ol_frame.proofs.Storing.{values-copied}
 use Rattle.ol_frame.proofs.NodeRows.{width-is, inputs-are, narrow, inputs-first}
+use Rattle.ol_state.proofs.Instances.{few-nodes}
+use Rattle.ol_frame.specs.Frame.{Framed, firstOf, nodeOf, cellsOf, beforeOf, Opened}
+use Rattle.ol_frame.proofs.Framing.{cells-length, before-length}
 
 -- the main node is the last
 pub main-is : (file : List ℕ) (k : ℕ) → suc k ≡ nodesIn file → main (fileAt file) ≡ nodeIn file k
@@ -50,16 +52,14 @@ globals-same file consts vs e l h =
 -- ---- the run
 
 -- the run of a node on its record, by the parts of the record
-pub record-run : (file consts : List ℕ) (k : ℕ) (inputs old present before segs : List ℕ) (first : Bool) → first ≡ isFresh old → before ≡ drop 1 old → segs ≡ drop (ownSize (nodeIn file k)) old
-    → valuesOf (widthIn file k) present ≡ valuesOf (length (nodeIn file k .inputs)) inputs ++ drop (length (nodeIn file k .inputs)) (valuesOf (widthIn file k) before)
+pub record-run : (file consts : List ℕ) (k : ℕ) (inputs old present before segs : List ℕ) (first : Bool) → first ≡ isFresh old → valuesOf (widthIn file k) before ≡ valuesOf (widthIn file k) (drop 1 old) → segs ≡ drop (ownSize (nodeIn file k)) old
+    → valuesOf (widthIn file k) present ≡ valuesOf (length (nodeIn file k .inputs)) inputs ++ drop (length (nodeIn file k .inputs)) (valuesOf (widthIn file k) (drop 1 old))
     → runIn file consts k first present before segs ≡ recordRun file consts k inputs old
 unfolding run
 record-run file consts k inputs old present before segs first ef eb es ep =
     let g = globalsIn file consts in
     let n = nodeIn file k in
-    let w = widthIn file k in
-    let cs = ep ∙ ap (λ (b : List ℕ). valuesOf (length (n .inputs)) inputs ++ drop (length (n .inputs)) (valuesOf w b)) eb in
-    λ i. runAll g (calls g) n (ef i) (valuesOf w (eb i)) (order (n .equations)) (cs i) (split g (n .equations) (es i))
+    λ i. runAll g (calls g) n (ef i) (eb i) (order (n .equations)) (ep i) (split g (n .equations) (es i))
 
 -- the main instance's run, on the record behind the constants' cells
 pub main-run : (file consts : List ℕ) (k : ℕ) (vs : List Value) (inputs old : List ℕ) → suc k ≡ nodesIn file → globalsIn file consts ≡ globalsOf (fileAt file) vs
@@ -101,18 +101,9 @@ module _ (f : File) (old vals : List ℕ) (U : Run) (r : Ended) (got : List Valu
       go (failedAt i) s = over-failed z (s .0)
       go (overflowedAt i) s = record { answered = ap (λ (j : ℕ). Cyc.Stopped (faultAt (endingNumber End.Overflowed) j)) (s .1); renewed = w; valued = refl }
 
--- ---- the bytes of a record
-
--- the inputs are copied, and then the held cells behind them
-pub begun : (k n : ℕ) (inputs held present p q : List ℕ) → k ≤ n → 9 * k ≤ length inputs → 9 * n ≤ length held → 9 * n ≤ length present → length p ≡ length present
-    → p ≡ take (9 * 0) present ++ (take (9 * k - 9 * 0) (drop (9 * 0) inputs) ++ drop (9 * k) present) → q ≡ take (9 * k) p ++ (take (9 * n - 9 * k) (drop (9 * k) held) ++ drop (9 * n) p)
-    → valuesOf n q ≡ valuesOf k inputs ++ drop k (valuesOf n held)
-begun k n inputs held present p q h li lh lp l ep eq =
-    values-copied k n held p q h lh (omega arith) eq ∙ ap (λ (vs : List Value). vs ++ drop k (valuesOf n held)) (values-copied 0 k inputs present p (omega arith) li (omega arith) ep)
-
 -- ---- the run on its record
 
-module _ {file tab rows consts inputs old new present : List ℕ} {k : ℕ} (h : RecordReady file tab rows consts k inputs old new present) where
+module _ {file tab rows consts inputs old new frame : List ℕ} {k : ℕ} (h : RecordReady file tab rows consts k inputs old new frame) where
   pub inside : k < nodesIn file
   inside = omega (arith, h .last)
 
@@ -123,46 +114,54 @@ module _ {file tab rows consts inputs old new present : List ℕ} {k : ℕ} (h :
   pub own-new : (n : ℕ) → n ≡ rowAt rows k 4 → 1 + 9 * n ≤ length new
   own-new n e = omega (arith, own-room n e, ap length (h .same))
 
-  held-room : (n : ℕ) → n ≡ rowAt rows k 4 → 9 * n ≤ length (tailOf 1 old)
-  held-room n e = omega (arith, own-room n e, ap length (tail-all 1 old), length-drop 1 old)
+  pub few : k < 32
+  few = few-nodes (h .running .known) inside
 
-  pub begin-ready : (n i : ℕ) → n ≡ rowAt rows k 4 → i ≡ rowAt rows k 2 → (i ≤ n) × (n ≤ 112) × (9 * i ≤ length inputs) × (9 * n ≤ length (tailOf 1 old)) × (9 * n ≤ length present)
-  begin-ready n i e f =
-      let m = narrow (h .running) inside n e in
-      (inputs-first (h .running) inside n i e f, m, omega (arith, h .given, inputs-are (h .running) inside i f), held-room n e, omega (arith, h .room, m))
+  pub open-ready : (n i : ℕ) → n ≡ rowAt rows k 4 → i ≡ rowAt rows k 2 → Framed frame × (k < 256) × (i ≤ n) × (n ≤ 112) × (9 * i ≤ length inputs) × (1 + 9 * n ≤ length old)
+  open-ready n i e f =
+      (h .framed, omega (arith, few), inputs-first (h .running) inside n i e f, narrow (h .running) inside n e, omega (arith, h .given, inputs-are (h .running) inside i f), own-room n e)
 
-  pub record-runnable : (n : ℕ) (begun : List ℕ) → n ≡ rowAt rows k 4 → length begun ≡ length present → Runnable file tab rows consts k begun (tailOf 1 old) (tailOf (1 + 9 * n) old) (tailOf (1 + 9 * n) new)
-  record-runnable n begun e l =
-      let w = width-is (h .running) inside n e in
-      let z = ap length (tail-all (1 + 9 * n) old) ∙ length-drop (1 + 9 * n) old in
-      record {
-        running = h .running;
-        below = inside;
-        present = record { long = omega (arith, l, h .room, h .running .program .width k) };
-        previous = record { long = omega (arith, held-room n e, w) };
-        sized = omega (arith, z, h .sized, w);
-        small = omega (arith, z, h .small);
-        same = ap (tailOf (1 + 9 * n)) (h .same);
-      }
+  -- the frame that was opened on the record
+  module _ (n i : ℕ) (e : n ≡ rowAt rows k 4) (f : i ≡ rowAt rows k 2) {opened : List ℕ} (o : Opened k n i inputs old opened) where
+    pub record-runnable : Framed opened × Runnable file tab rows consts (nodeOf opened) (cellsOf opened) (beforeOf opened) (tailOf (1 + 9 * n) old) (tailOf (1 + 9 * n) new)
+    record-runnable =
+        let w = width-is (h .running) inside n e in
+        let z = ap length (tail-all (1 + 9 * n) old) ∙ length-drop (1 + 9 * n) old in
+        let m = h .running .program .width k in
+        let l = o .framed in (
+          l,
+          subst (λ (q : ℕ). Runnable file tab rows consts q (cellsOf opened) (beforeOf opened) (tailOf (1 + 9 * n) old) (tailOf (1 + 9 * n) new)) (sym (o .node)) (record {
+            running = h .running;
+            below = inside;
+            present = record { long = omega (arith, m, cells-length opened l) };
+            previous = record { long = omega (arith, m, before-length opened l) };
+            sized = omega (arith, z, h .sized, w);
+            small = omega (arith, z, h .small);
+            same = ap (tailOf (1 + 9 * n)) (h .same);
+          }),
+        )
 
-  pub record-ran : (n i : ℕ) (begun cells′ x : List ℕ) (r : Ended) → n ≡ rowAt rows k 4 → i ≡ rowAt rows k 2 → valuesOf n begun ≡ valuesOf i inputs ++ drop i (valuesOf n (tailOf 1 old))
-      → RunTo file consts k (isFresh old) begun (tailOf 1 old) (tailOf (1 + 9 * n) old) r cells′ x → RecordRan file consts k inputs old r (putTail (1 + 9 * n) new x) cells′
-  record-ran n i begun cells′ x r e f b m =
-      let w = width-is (h .running) inside n e in
-      let v = inputs-are (h .running) inside i f in
-      let own : 1 + 9 * n ≡ ownSize (nodeIn file k) = ap (λ (q : ℕ). 1 + 9 * q) w in
-      let N = putTail (1 + 9 * n) new x in
-      let s : drop (ownSize (nodeIn file k)) N ≡ x = ap (λ (q : ℕ). drop q N) (sym own) ∙ drop-put (1 + 9 * n) new x (own-new n e) in
-      let t : take (ownSize (nodeIn file k)) N ≡ take (ownSize (nodeIn file k)) new =
-      ap (λ (q : ℕ). take q N) (sym own) ∙ take-put (1 + 9 * n) new x (own-new n e) ∙ ap (λ (q : ℕ). take q new) own in
-      let c : valuesOf (widthIn file k) begun ≡ valuesOf (length (nodeIn file k .inputs)) inputs ++ drop (length (nodeIn file k .inputs)) (valuesOf (widthIn file k) (tailOf 1 old)) =
-      ap (λ (q : ℕ). valuesOf q begun) (sym w) ∙ b ∙ (λ j. valuesOf (v j) inputs ++ drop (v j) (valuesOf (w j) (tailOf 1 old))) in
-      let u : runIn file consts k (isFresh old) begun (tailOf 1 old) (tailOf (1 + 9 * n) old) ≡ recordRun file consts k inputs old =
-      record-run file consts k inputs old begun (tailOf 1 old) (tailOf (1 + 9 * n) old) (isFresh old) refl (tail-all 1 old) (tail-all (1 + 9 * n) old ∙ ap (λ (q : ℕ). drop q old) own) c in
-      record {
-        ran = subst (λ (l : List ℕ). RunMeets (recordRun file consts k inputs old) r (valuesOf (widthIn file k) cells′) l) (sym s) (subst (λ (y : Run). RunMeets y r (valuesOf (widthIn file k) cells′) x) u m);
-        kept = t ∙ ap (take (ownSize (nodeIn file k))) (h .same);
-      }
+    pub record-ran : (cells′ x : List ℕ) (r : Ended) → RunTo file consts (nodeOf opened) (firstOf opened) (cellsOf opened) (beforeOf opened) (tailOf (1 + 9 * n) old) r cells′ x → RecordRan file consts k inputs old r (putTail (1 + 9 * n) new x) cells′
+    record-ran cells′ x r m =
+        let w = width-is (h .running) inside n e in
+        let v = inputs-are (h .running) inside i f in
+        let own : 1 + 9 * n ≡ ownSize (nodeIn file k) = ap (λ (q : ℕ). 1 + 9 * q) w in
+        let N = putTail (1 + 9 * n) new x in
+        let s : drop (ownSize (nodeIn file k)) N ≡ x = ap (λ (q : ℕ). drop q N) (sym own) ∙ drop-put (1 + 9 * n) new x (own-new n e) in
+        let t : take (ownSize (nodeIn file k)) N ≡ take (ownSize (nodeIn file k)) new =
+        ap (λ (q : ℕ). take q N) (sym own) ∙ take-put (1 + 9 * n) new x (own-new n e) ∙ ap (λ (q : ℕ). take q new) own in
+        let bs : valuesOf (widthIn file k) (beforeOf opened) ≡ valuesOf (widthIn file k) (drop 1 old) =
+        ap (λ (q : ℕ). valuesOf q (beforeOf opened)) (sym w) ∙ o .before ∙ ap (λ (q : ℕ). valuesOf q (drop 1 old)) w in
+        let cs : valuesOf (widthIn file k) (cellsOf opened) ≡ valuesOf (length (nodeIn file k .inputs)) inputs ++ drop (length (nodeIn file k .inputs)) (valuesOf (widthIn file k) (drop 1 old)) =
+        ap (λ (q : ℕ). valuesOf q (cellsOf opened)) (sym w) ∙ o .cells ∙ (λ j. valuesOf (v j) inputs ++ drop (v j) (valuesOf (w j) (drop 1 old))) in
+        let u : runIn file consts (nodeOf opened) (firstOf opened) (cellsOf opened) (beforeOf opened) (tailOf (1 + 9 * n) old) ≡ recordRun file consts k inputs old =
+        ap (λ (q : ℕ). runIn file consts q (firstOf opened) (cellsOf opened) (beforeOf opened) (tailOf (1 + 9 * n) old)) (o .node)
+        ∙ record-run file consts k inputs old (cellsOf opened) (beforeOf opened) (tailOf (1 + 9 * n) old) (firstOf opened) (o .first) bs (tail-all (1 + 9 * n) old ∙ ap (λ (q : ℕ). drop q old) own) cs in
+        let m′ = subst (λ (q : ℕ). RunMeets (runIn file consts (nodeOf opened) (firstOf opened) (cellsOf opened) (beforeOf opened) (tailOf (1 + 9 * n) old)) r (valuesOf (widthIn file q) cells′) x) (o .node) m in
+        record {
+          ran = subst (λ (l : List ℕ). RunMeets (recordRun file consts k inputs old) r (valuesOf (widthIn file k) cells′) l) (sym s) (subst (λ (y : Run). RunMeets y r (valuesOf (widthIn file k) cells′) x) u m′);
+          kept = t ∙ ap (take (ownSize (nodeIn file k))) (h .same);
+        }
 
 -- ---- the cycle
 
@@ -170,102 +169,104 @@ module _ {file tab rows consts old inputs new vals : List ℕ} {k : ℕ} (h : Ru
   main-inside : k < nodesIn file
   main-inside = omega (arith, h .last)
 
-  abbrev H : ℕ
-  H = length consts
+  -- H bytes are before the main record
+  module _ (H : ℕ) (front : H ≡ length consts) where
+    head : H ≡ headSize (fileAt file)
+    head = front ∙ h .head
 
-  state-is : length old ≡ H + instanceSize (sizesIn file) (nodeIn file k)
-  unfolding stateSize
-  state-is = h .sized ∙ (λ j. sym (h .head) j + instanceSize (sizesIn file) (main-is file k (h .last) j))
+    state-is : length old ≡ H + instanceSize (sizesIn file) (nodeIn file k)
+    unfolding stateSize
+    state-is = h .sized ∙ (λ j. sym head j + instanceSize (sizesIn file) (main-is file k (h .last) j))
 
-  pub head-room : H ≤ length old
-  head-room = omega (arith, state-is)
+    pub head-room : H ≤ length old
+    head-room = omega (arith, state-is)
 
-  -- the main record can be run
-  pub main-ready : (copied present : List ℕ) → copied ≡ old → length present ≡ 1008 → RecordReady file tab rows consts k inputs (tailOf H old) (tailOf H copied) present
-  main-ready copied present e l =
-      let z = ap length (tail-all H old) ∙ length-drop H old in
-      record { running = h .running; last = h .last; sized = omega (arith, z, state-is); small = omega (arith, z, h .small); same = ap (tailOf H) e; given = h .given; room = l }
+    -- the main record can be run
+    pub main-ready : (copied frame : List ℕ) → copied ≡ old → Framed frame → RecordReady file tab rows consts k inputs (tailOf H old) (tailOf H copied) frame
+    main-ready copied frame e l =
+        let z = ap length (tail-all H old) ∙ length-drop H old in
+        record { running = h .running; last = h .last; sized = omega (arith, z, state-is); small = omega (arith, z, h .small); same = ap (tailOf H) e; given = h .given; framed = l }
 
-  pub copied-room : (copied : List ℕ) → copied ≡ old → H ≤ length copied
-  copied-room copied e = omega (arith, head-room, ap length e)
+    pub copied-room : (copied : List ℕ) → copied ≡ old → H ≤ length copied
+    copied-room copied e = omega (arith, head-room, ap length e)
 
-  pub moved-length : (copied x : List ℕ) → copied ≡ old → length x ≡ length (tailOf H copied) → length (putTail H copied x) ≡ length copied
-  moved-length copied x e l = length-put H copied x (copied-room copied e) l
+    pub moved-length : (copied x : List ℕ) → copied ≡ old → length x ≡ length (tailOf H copied) → length (putTail H copied x) ≡ length copied
+    moved-length copied x e l = length-put H copied x (copied-room copied e) l
 
-  pub moved-room : (copied x : List ℕ) → copied ≡ old → length x ≡ length (tailOf H copied) → H ≤ length (putTail H copied x)
-  moved-room copied x e l = omega (arith, moved-length copied x e l, copied-room copied e)
+    pub moved-room : (copied x : List ℕ) → copied ≡ old → length x ≡ length (tailOf H copied) → H ≤ length (putTail H copied x)
+    moved-room copied x e l = omega (arith, moved-length copied x e l, copied-room copied e)
 
-  pub finish-ready : (n : ℕ) (copied x present : List ℕ) → n ≡ rowAt rows k 4 → copied ≡ old → length x ≡ length (tailOf H copied) → length present ≡ 1008
-      → (n ≤ 112) × (9 * n ≤ length present) × (1 + 9 * n ≤ length (tailOf H (putTail H copied x)))
-  finish-ready n copied x present w e l p =
-      let m = narrow (h .running) main-inside n w in
-      let A = putTail H copied x in
-      (m, omega (arith, p, m), omega (arith, ap length (tail-all H A), length-drop H A, moved-length copied x e l, ap length e, state-is, width-is (h .running) main-inside n w))
-
-  pub values-ready : (n : ℕ) (present : List ℕ) → n ≡ rowAt rows k 4 → length present ≡ 1008 → (n ≤ 112) × (9 * n ≤ length present) × (9 * n ≤ length vals)
-  values-ready n present w p =
-      let m = narrow (h .running) main-inside n w in
-      (m, omega (arith, p, m), omega (arith, h .told, width-is (h .running) main-inside n w))
-
-  pub ended-length : (copied x y : List ℕ) → copied ≡ old → length x ≡ length (tailOf H copied) → length y ≡ length (tailOf H (putTail H copied x)) → length (putTail H (putTail H copied x) y) ≡ length copied
-  ended-length copied x y e l m = length-put H (putTail H copied x) y (moved-room copied x e l) m ∙ moved-length copied x e l
-
-  -- the run is that of the definition
-  meant : (vs : List Value) → length vs ≡ length (fileAt file .constants) → valuesOf (length vs) consts ≡ vs → recordRun file consts k inputs (tailOf H old) ≡ mainRun (fileAt file) vs old inputs
-  meant vs l v =
-      ap (λ (s : List ℕ). recordRun file consts k inputs s) (tail-all H old ∙ ap (λ (q : ℕ). drop q old) (h .head))
-      ∙ main-run file consts k vs inputs old (h .last) (globals-same file consts vs (h .running .constants) l v)
-
-  module _ (copied x cells′ : List ℕ) (r : Ended) (same : copied ≡ old) (m : RecordRan file consts k inputs (tailOf H old) r x cells′) where
-    abbrev f : File
-    f = fileAt file
-
-    abbrev U : Run
-    U = recordRun file consts k inputs (tailOf H old)
-
-    abbrev own : ℕ
-    own = ownSize (nodeIn file k)
-
-    abbrev got : List Value
-    got = valuesOf (widthIn file k) cells′
-
-    ended : (a : Cycled) (new′ vals′ : List ℕ) → Cycles (endRun f old vals U) a new′ vals′ → (vs : List Value) → CyclesTo file consts vs old inputs vals a new′ vals′
-    ended a new′ vals′ c vs l v = subst (λ (u : Run). Cycles (endRun f old vals u) a new′ vals′) (meant vs l v) c
-
-    -- finished: the main record is written anew, behind the constants' cells
-    written-anew : (n : ℕ) (y : List ℕ) → n ≡ rowAt rows k 4 → y ≡ 1 ∷ cells (valuesOf n cells′) ++ drop (1 + 9 * n) (tailOf H (putTail H copied x)) → putTail H (putTail H copied x) y ≡ take (headSize f) old ++ (1 ∷ cells got ++ drop own x)
-    written-anew n y e w =
+    pub finish-ready : (n : ℕ) (copied x frame : List ℕ) → n ≡ rowAt rows k 4 → copied ≡ old → length x ≡ length (tailOf H copied) → Framed frame
+        → Framed frame × (n ≤ 112) × (1 + 9 * n ≤ length (tailOf H (putTail H copied x)))
+    finish-ready n copied x frame w e l p =
+        let m = narrow (h .running) main-inside n w in
         let A = putTail H copied x in
-        let p = width-is (h .running) main-inside n e in
-        let a : take H A ≡ take (headSize f) old = take-put H copied x (copied-room copied same) ∙ (λ j. take (h .head j) (same j)) in
-        let t : tailOf H A ≡ x = tail-all H A ∙ drop-put H copied x (copied-room copied same) in
-        let b : y ≡ 1 ∷ cells got ++ drop own x = w ∙ (λ j. 1 ∷ cells (valuesOf (p j) cells′) ++ drop (1 + 9 * p j) (t j)) in
-        put-tail H A y ∙ (λ j. a j ++ b j)
+        (p, m, omega (arith, ap length (tail-all H A), length-drop H A, moved-length copied x e l, ap length e, state-is, width-is (h .running) main-inside n w))
 
-    values-told : (n : ℕ) (vals′ : List ℕ) → n ≡ rowAt rows k 4 → vals′ ≡ cells (valuesOf n cells′) ++ drop (9 * n) vals → vals′ ≡ cells got
-    values-told n vals′ e w =
-        let p = width-is (h .running) main-inside n e in
-        let d : drop (9 * n) vals ≡ [] = drop-of-length-le vals {i = 9 * n} (omega (arith, h .told, p)) in
-        w ∙ (λ j. cells (valuesOf (p j) cells′) ++ d j) ∙ append-nil (cells got)
+    pub values-ready : (n : ℕ) (frame : List ℕ) → n ≡ rowAt rows k 4 → Framed frame → (n ≤ 112) × (9 * n ≤ length (cellsOf frame)) × (9 * n ≤ length vals)
+    values-ready n frame w p =
+        let m = narrow (h .running) main-inside n w in
+        (m, omega (arith, cells-length frame p, m), omega (arith, h .told, width-is (h .running) main-inside n w))
 
-    pub cycle-finished : (n : ℕ) (y vals′ : List ℕ) → n ≡ rowAt rows k 4 → r .end ≡ End.Values → y ≡ 1 ∷ cells (valuesOf n cells′) ++ drop (1 + 9 * n) (tailOf H (putTail H copied x)) → vals′ ≡ cells (valuesOf n cells′) ++ drop (9 * n) vals
-        → (vs : List Value) → CyclesTo file consts vs old inputs vals Cyc.Answered (putTail H (putTail H copied x) y) vals′
-    cycle-finished n y vals′ e z w v =
-        ended Cyc.Answered (putTail H (putTail H copied x) y) vals′ (ended-finished f old vals U r got (drop own x) (m .ran) (putTail H (putTail H copied x) y) vals′ z (written-anew n y e w) (values-told n vals′ e v))
+    pub ended-length : (copied x y : List ℕ) → copied ≡ old → length x ≡ length (tailOf H copied) → length y ≡ length (tailOf H (putTail H copied x)) → length (putTail H (putTail H copied x) y) ≡ length copied
+    ended-length copied x y e l m = length-put H (putTail H copied x) y (moved-room copied x e l) m ∙ moved-length copied x e l
 
-    -- failed: the main cells stay
-    cells-stay : putTail H copied x ≡ take (headSize f + ownSize (main f)) old ++ drop own x
-    cells-stay =
-        let C = take (headSize f) old in
-        let D = drop own x in
-        let s : take own x ≡ take own (drop (headSize f) old) = m .kept ∙ ap (take own) (tail-all H old ∙ ap (λ (q : ℕ). drop q old) (h .head)) in
-        put-tail H copied x ∙ (λ j. take (h .head j) (same j) ++ x) ∙ ap (λ (l : List ℕ). C ++ l) (sym (take-append-drop own x)) ∙ ap (λ (l : List ℕ). C ++ (l ++ D)) s
-        ∙ sym (append-assoc C (take own (drop (headSize f) old)) D)
-        ∙ ap (λ (l : List ℕ). l ++ D) (sym (take-add (headSize f) own old))
-        ∙ ap (λ (q : Node). take (headSize f + ownSize q) old ++ D) (sym (main-is file k (h .last)))
+    -- the run is that of the definition
+    meant : (vs : List Value) → length vs ≡ length (fileAt file .constants) → valuesOf (length vs) consts ≡ vs → recordRun file consts k inputs (tailOf H old) ≡ mainRun (fileAt file) vs old inputs
+    meant vs l v =
+        ap (λ (s : List ℕ). recordRun file consts k inputs s) (tail-all H old ∙ ap (λ (q : ℕ). drop q old) head)
+        ∙ main-run file consts k vs inputs old (h .last) (globals-same file consts vs (h .running .constants) l v)
 
-    pub cycle-failed : r .end ≡ End.Failed → (vs : List Value) → CyclesTo file consts vs old inputs vals (Cyc.Stopped (faultAt (endingNumber End.Failed) (r .index))) (putTail H copied x) vals
-    cycle-failed z = ended (Cyc.Stopped (faultAt (endingNumber End.Failed) (r .index))) (putTail H copied x) vals (ended-failed f old vals U r got (drop own x) (m .ran) (putTail H copied x) z cells-stay)
+    module _ (copied x cells′ : List ℕ) (r : Ended) (same : copied ≡ old) (m : RecordRan file consts k inputs (tailOf H old) r x cells′) where
+      abbrev f : File
+      f = fileAt file
 
-    pub cycle-overflowed : (new′ : List ℕ) → r .end ≡ End.Overflowed → new′ ≡ old → (vs : List Value) → CyclesTo file consts vs old inputs vals (Cyc.Stopped (faultAt (endingNumber End.Overflowed) (r .index))) new′ vals
-    cycle-overflowed new′ z w = ended (Cyc.Stopped (faultAt (endingNumber End.Overflowed) (r .index))) new′ vals (ended-overflowed f old vals U r got (drop own x) (m .ran) new′ z w)
+      abbrev U : Run
+      U = recordRun file consts k inputs (tailOf H old)
+
+      abbrev own : ℕ
+      own = ownSize (nodeIn file k)
+
+      abbrev got : List Value
+      got = valuesOf (widthIn file k) cells′
+
+      ended : (a : Cycled) (new′ vals′ : List ℕ) → Cycles (endRun f old vals U) a new′ vals′ → (vs : List Value) → CyclesTo file consts vs old inputs vals a new′ vals′
+      ended a new′ vals′ c vs l v = subst (λ (u : Run). Cycles (endRun f old vals u) a new′ vals′) (meant vs l v) c
+
+      -- finished: the main record is written anew, behind the constants' cells
+      written-anew : (n : ℕ) (y : List ℕ) → n ≡ rowAt rows k 4 → y ≡ 1 ∷ cells (valuesOf n cells′) ++ drop (1 + 9 * n) (tailOf H (putTail H copied x)) → putTail H (putTail H copied x) y ≡ take (headSize f) old ++ (1 ∷ cells got ++ drop own x)
+      written-anew n y e w =
+          let A = putTail H copied x in
+          let p = width-is (h .running) main-inside n e in
+          let a : take H A ≡ take (headSize f) old = take-put H copied x (copied-room copied same) ∙ (λ j. take (head j) (same j)) in
+          let t : tailOf H A ≡ x = tail-all H A ∙ drop-put H copied x (copied-room copied same) in
+          let b : y ≡ 1 ∷ cells got ++ drop own x = w ∙ (λ j. 1 ∷ cells (valuesOf (p j) cells′) ++ drop (1 + 9 * p j) (t j)) in
+          put-tail H A y ∙ (λ j. a j ++ b j)
+
+      values-told : (n : ℕ) (vals′ : List ℕ) → n ≡ rowAt rows k 4 → vals′ ≡ cells (valuesOf n cells′) ++ drop (9 * n) vals → vals′ ≡ cells got
+      values-told n vals′ e w =
+          let p = width-is (h .running) main-inside n e in
+          let d : drop (9 * n) vals ≡ [] = drop-of-length-le vals {i = 9 * n} (omega (arith, h .told, p)) in
+          w ∙ (λ j. cells (valuesOf (p j) cells′) ++ d j) ∙ append-nil (cells got)
+
+      pub cycle-finished : (n : ℕ) (y vals′ : List ℕ) → n ≡ rowAt rows k 4 → r .end ≡ End.Values → y ≡ 1 ∷ cells (valuesOf n cells′) ++ drop (1 + 9 * n) (tailOf H (putTail H copied x)) → vals′ ≡ cells (valuesOf n cells′) ++ drop (9 * n) vals
+          → (vs : List Value) → CyclesTo file consts vs old inputs vals Cyc.Answered (putTail H (putTail H copied x) y) vals′
+      cycle-finished n y vals′ e z w v =
+          ended Cyc.Answered (putTail H (putTail H copied x) y) vals′ (ended-finished f old vals U r got (drop own x) (m .ran) (putTail H (putTail H copied x) y) vals′ z (written-anew n y e w) (values-told n vals′ e v))
+
+      -- failed: the main cells stay
+      cells-stay : putTail H copied x ≡ take (headSize f + ownSize (main f)) old ++ drop own x
+      cells-stay =
+          let C = take (headSize f) old in
+          let D = drop own x in
+          let s : take own x ≡ take own (drop (headSize f) old) = m .kept ∙ ap (take own) (tail-all H old ∙ ap (λ (q : ℕ). drop q old) head) in
+          put-tail H copied x ∙ (λ j. take (head j) (same j) ++ x) ∙ ap (λ (l : List ℕ). C ++ l) (sym (take-append-drop own x)) ∙ ap (λ (l : List ℕ). C ++ (l ++ D)) s
+          ∙ sym (append-assoc C (take own (drop (headSize f) old)) D)
+          ∙ ap (λ (l : List ℕ). l ++ D) (sym (take-add (headSize f) own old))
+          ∙ ap (λ (q : Node). take (headSize f + ownSize q) old ++ D) (sym (main-is file k (h .last)))
+
+      pub cycle-failed : r .end ≡ End.Failed → (vs : List Value) → CyclesTo file consts vs old inputs vals (Cyc.Stopped (faultAt (endingNumber End.Failed) (r .index))) (putTail H copied x) vals
+      cycle-failed z = ended (Cyc.Stopped (faultAt (endingNumber End.Failed) (r .index))) (putTail H copied x) vals (ended-failed f old vals U r got (drop own x) (m .ran) (putTail H copied x) z cells-stay)
+
+      pub cycle-overflowed : (new′ : List ℕ) → r .end ≡ End.Overflowed → new′ ≡ old → (vs : List Value) → CyclesTo file consts vs old inputs vals (Cyc.Stopped (faultAt (endingNumber End.Overflowed) (r .index))) new′ vals
+      cycle-overflowed new′ z w = ended (Cyc.Stopped (faultAt (endingNumber End.Overflowed) (r .index))) new′ vals (ended-overflowed f old vals U r got (drop own x) (m .ran) new′ z w)

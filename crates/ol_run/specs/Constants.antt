@@ -1,5 +1,5 @@
 -- The constants' values: what evaluating them asks and gives.
-use Prim.Native.Nat.{ℕ, suc, _+_, _*_, _<_, _≤_}
+use Prim.Native.Nat.{ℕ, suc, _+_, _<_, _≤_}
 use mathlib.Core.Bool.{false}
 use mathlib.Core.List.{List, []}
 use mathlib.Core.Path.{_≡_}
@@ -15,6 +15,7 @@ use Rattle.ol_spec.specs.declared.Outcome.the-variants as Out
 use Rattle.ol_tables.specs.At.{fileAt, nodeIn, exprAt, endAt, exprsAt, ReadsAll}
 use Rattle.ol_tables.specs.Tables.{Each, Sound, tyCode}
 use Rattle.ol_tables.specs.Parts.{Proper}
+use Rattle.ol_tables.specs.Table.{tabOf, rowsOf}
 use Rattle.ol_frame.specs.Walk.{nodesIn}
 use Rattle.ol_frame.specs.Plans.{Program, Named, knownIn, globalsIn}
 use Rattle.ol_run.specs.declared.constants.Found.{Found}
@@ -52,16 +53,22 @@ abbrev pub constantOut : List ℕ → List ℕ → ℕ → Outcome
 constantOut file consts i =
     thenOut (λ v. Out.Value (fit (constantAt file i .1 .ty) v)) (eval (globalsIn file consts) noVariables noCalls (constantAt file i .1 .value) [] .out)
 
--- all constants can be evaluated, the first of which is at `at`
-pub record ConstantsReady (file tab rows consts : List ℕ) (nodes at count : ℕ) : Type 0 where
-  pub each : (i : ℕ) → i < length (fileAt file .constants) → ConstantReady file tab rows i
+-- all constants can be evaluated, the first of which is at `at`; t is the table of the file
+pub record ConstantsReady (file t : List ℕ) (nodes at count : ℕ) : Type 0 where
+  pub each : (i : ℕ) → i < length (fileAt file .constants) → ConstantReady file (tabOf t) (rowsOf t) i
   pub counted : count ≡ length (fileAt file .constants)
   pub begins : 0 < count → at ≡ constantAt file 0 .0
   pub nodes-is : nodes ≡ nodesIn file
-  pub long : length consts ≡ 9 * count
+  pub nodes-few : nodes < 256
+  pub long : 1393 ≤ length t
   pub few : count ≤ 64
 
--- what evaluating them gives: their cells, or the place of the first that has no value
-abbrev pub ConstantsAre : Constants → Found → List ℕ → Type 0
-ConstantsAre (all vs) r cs = (r ≡ Fnd.All) × (cs ≡ cells vs) × (valuesOf (length vs) cs ≡ vs)
-ConstantsAre (stuckAt p) r cs = r ≡ Fnd.Stuck p
+-- what evaluating n constants gives: their cells, or the place of the first that has no value
+abbrev pub ConstantsAre : ℕ → Constants → Found → List ℕ → Type 0
+ConstantsAre n (all vs) r cs = (r ≡ Fnd.All) × (cs ≡ cells vs) × (valuesOf (length vs) cs ≡ vs) × (length vs ≡ n)
+ConstantsAre n (stuckAt p) r cs = r ≡ Fnd.Stuck p
+
+-- the table's rows, orders, types and slots stay
+pub record SameTables (t t′ : List ℕ) : Type 0 where
+  pub rows : rowsOf t′ ≡ rowsOf t
+  pub tab : tabOf t′ ≡ tabOf t

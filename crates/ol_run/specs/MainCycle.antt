@@ -13,18 +13,19 @@ use Rattle.ol_tables.specs.At.{fileAt, nodeIn}
 use Rattle.ol_frame.specs.Walk.{nodesIn, sizesIn}
 use Rattle.ol_frame.specs.Plans.{globalsIn, widthIn}
 use Rattle.ol_frame.specs.Nodes.{Running}
+use Rattle.ol_frame.specs.Frame.{Framed}
 use Rattle.ol_eval.specs.Calls.{RunMeets}
-use Rattle.ol_eval.specs.declared.cycle.Ended.{Ended}
+use Rattle.ol_eval.specs.declared.eval.Ended.{Ended}
 
 -- an instance's record, and what it is run with; `new` is a copy of the record
-pub record RecordReady (file tab rows consts : List ℕ) (k : ℕ) (inputs old new present : List ℕ) : Type 0 where
+pub record RecordReady (file tab rows consts : List ℕ) (k : ℕ) (inputs old new frame : List ℕ) : Type 0 where
   pub running : Running file tab rows consts
   pub last : suc k ≡ nodesIn file
   pub sized : length old ≡ instanceSize (sizesIn file) (nodeIn file k)
   pub small : length old ≤ 32768
   pub same : new ≡ old
   pub given : length inputs ≡ 9 * length (nodeIn file k .inputs)
-  pub room : length present ≡ 1008
+  pub framed : Framed frame
 
 -- the run of node k on its record
 abbrev pub recordRun : List ℕ → List ℕ → ℕ → List ℕ → List ℕ → Run

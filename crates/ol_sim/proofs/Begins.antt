@@ -41,76 +41,74 @@ empty-zeros f n h = record { zero = zero-at n; within = subst (λ m. NamesWithin
 
 -- ---- the rows
 
-pub rowed-done : {s places rows rows′ tab consts types : List ℕ} {enums : ℕ} {c : Sections} → FileReady s enums places rows tab consts → TablesDone (fileAt s) rows′ types c → length rows′ ≡ length rows → Rowed s rows′ c
+pub rowed-done : {s places rows rows′ tab types : List ℕ} {enums : ℕ} {c : Sections} → FileReady s enums places rows tab → TablesDone (fileAt s) rows′ types c → length rows′ ≡ length rows → Rowed s rows′ c
 rowed-done h d e =
     record { reads = h .loads .reads; stands = h .stands; long = e ∙ h .rowsLong; sections = d .sections; row = d .are .row; firsts = d .are .firsts }
 
 pub declared-ready : {s rows : List ℕ} {c : Sections} → Rowed s rows c → DeclaredReady s rows c
 declared-ready r = record { reads = r .reads; row = r .row; sections = r .sections }
 
-pub faults-ready : {s places rows tab names consts : List ℕ} {enums : ℕ} {c : Sections} {low : Bool} → NamesReady s enums places rows tab names consts c low → Ready s rows names c
+pub faults-ready : {s places rows tab names : List ℕ} {enums : ℕ} {c : Sections} {low : Bool} → NamesReady s enums places rows tab names c low → Ready s rows names c
 faults-ready h = let r = h .sections .rowed in record { reads = r .reads; row = r .row; sections = r .sections; empty = h .empty .zero }
 
 -- room for the types
-pub types-room : {s places rows tab consts : List ℕ} {enums : ℕ} → FileReady s enums places rows tab consts → length (take 7168 (drop 2560 tab)) ≡ 7168
-types-room {tab = tab} h = length-take-le 7168 (drop 2560 tab) (omega (arith, length-drop 2560 tab, h .tabLong))
+pub types-room : {s places rows tab : List ℕ} {enums : ℕ} → FileReady s enums places rows tab → length (take 7168 (drop 3953 tab)) ≡ 7168
+types-room {tab = tab} h = length-take-le 7168 (drop 3953 tab) (omega (arith, length-drop 3953 tab, h .tabLong))
 
 -- the nodes' places
-pub places-are : {s places rows tab consts : List ℕ} {enums : ℕ} → FileReady s enums places rows tab consts → PlacesAre (fileAt s) places
+pub places-are : {s places rows tab : List ℕ} {enums : ℕ} → FileReady s enums places rows tab → PlacesAre (fileAt s) places
 places-are h = record { at = λ k lt. ap (λ l. getD l k 0) (h .loads .placed) }
 
 -- the types stand in the middle of the table
-middle : (tab x : List ℕ) → 9728 ≤ length tab → length x ≡ 7168 → take 7168 (drop 2560 (take 2560 tab ++ (x ++ drop 7168 (drop 2560 tab)))) ≡ x
-middle tab x l e = ap (take 7168) (drop-at (take 2560 tab) (x ++ drop 7168 (drop 2560 tab)) 2560 (length-take-le 2560 tab (omega arith))) ∙ take-at x (drop 7168 (drop 2560 tab)) 7168 e
+middle : (tab x : List ℕ) → 11121 ≤ length tab → length x ≡ 7168 → take 7168 (drop 3953 (take 3953 tab ++ (x ++ drop 7168 (drop 3953 tab)))) ≡ x
+middle tab x l e = ap (take 7168) (drop-at (take 3953 tab) (x ++ drop 7168 (drop 3953 tab)) 3953 (length-take-le 3953 tab (omega arith))) ∙ take-at x (drop 7168 (drop 3953 tab)) 7168 e
 
-pub middle-long : (tab x : List ℕ) → 9728 ≤ length tab → length x ≡ 7168 → length (take 2560 tab ++ (x ++ drop 7168 (drop 2560 tab))) ≡ length tab
+pub middle-long : (tab x : List ℕ) → 11121 ≤ length tab → length x ≡ 7168 → length (take 3953 tab ++ (x ++ drop 7168 (drop 3953 tab))) ≡ length tab
 middle-long tab x l e =
-    length-append (take 2560 tab) (x ++ drop 7168 (drop 2560 tab))
-    ∙ omega (arith, length-take-le 2560 tab (omega arith), length-append x (drop 7168 (drop 2560 tab)), length-drop 7168 (drop 2560 tab), length-drop 2560 tab, e)
+    length-append (take 3953 tab) (x ++ drop 7168 (drop 3953 tab))
+    ∙ omega (arith, length-take-le 3953 tab (omega arith), length-append x (drop 7168 (drop 3953 tab)), length-drop 7168 (drop 3953 tab), length-drop 3953 tab, e)
 
-pub sections-ready : {s places rows rows′ tab consts : List ℕ} {enums : ℕ} {c : Sections} (x : List ℕ) → FileReady s enums places rows tab consts → TablesDone (fileAt s) rows′ x c → length rows′ ≡ length rows → length x ≡ length (take 7168 (drop 2560 tab)) → SectionsReady s enums places rows′ (take 2560 tab ++ (x ++ drop 7168 (drop 2560 tab))) consts c
+pub sections-ready : {s places rows rows′ tab : List ℕ} {enums : ℕ} {c : Sections} (x : List ℕ) → FileReady s enums places rows tab → TablesDone (fileAt s) rows′ x c → length rows′ ≡ length rows → length x ≡ length (take 7168 (drop 3953 tab)) → SectionsReady s enums places rows′ (take 3953 tab ++ (x ++ drop 7168 (drop 3953 tab))) c
 sections-ready {s} {tab = tab} x h d e k =
-    let long : length x ≡ 7168 = k ∙ length-take-le 7168 (drop 2560 tab) (omega (arith, length-drop 2560 tab, h .tabLong)) in
+    let long : length x ≡ 7168 = k ∙ length-take-le 7168 (drop 3953 tab) (omega (arith, length-drop 3953 tab, h .tabLong)) in
     record {
       loads = h .loads;
       rowed = rowed-done h d e;
       typed = subst (λ t. Typed (fileAt s) t) (sym (middle tab x (omega (arith, h .tabLong)) long)) (record { typed = d .are .typed });
       tabLong = omega (arith, middle-long tab x (omega (arith, h .tabLong)) long, h .tabLong);
-      constsLong = h .constsLong;
     }
 
 -- the table that fault 6 uses
-pub blank-slots : {s places rows tab consts : List ℕ} {enums : ℕ} (x : List ℕ) → FileReady s enums places rows tab consts → length x ≡ length (take 7168 (drop 2560 tab)) → Each (λ d. d .name < 1024) (Adm.declared (fileAt s)) → Blank (fileAt s) (tailOf 9728 (take 2560 tab ++ (x ++ drop 7168 (drop 2560 tab))))
+pub blank-slots : {s places rows tab : List ℕ} {enums : ℕ} (x : List ℕ) → FileReady s enums places rows tab → length x ≡ length (take 7168 (drop 3953 tab)) → Each (λ d. d .name < 1024) (Adm.declared (fileAt s)) → Blank (fileAt s) (tailOf 11121 (take 3953 tab ++ (x ++ drop 7168 (drop 3953 tab))))
 blank-slots {s} {tab = tab} x h k low =
-    let tab′ = take 2560 tab ++ (x ++ drop 7168 (drop 2560 tab)) in
+    let tab′ = take 3953 tab ++ (x ++ drop 7168 (drop 3953 tab)) in
     let long : length x ≡ 7168 = k ∙ types-room h in
-    let same : tailOf 9728 tab′ ≡ drop 9728 tab =
-    tail-all 9728 tab′ ∙ sym (drop-drop 7168 2560 tab′)
-    ∙ ap (drop 7168) (drop-at (take 2560 tab) (x ++ drop 7168 (drop 2560 tab)) 2560 (length-take-le 2560 tab (omega (arith, h .wide))))
-    ∙ drop-at x (drop 7168 (drop 2560 tab)) 7168 long ∙ drop-drop 7168 2560 tab in
+    let same : tailOf 11121 tab′ ≡ drop 11121 tab =
+    tail-all 11121 tab′ ∙ sym (drop-drop 7168 3953 tab′)
+    ∙ ap (drop 7168) (drop-at (take 3953 tab) (x ++ drop 7168 (drop 3953 tab)) 3953 (length-take-le 3953 tab (omega (arith, h .wide))))
+    ∙ drop-at x (drop 7168 (drop 3953 tab)) 7168 long ∙ drop-drop 7168 3953 tab in
     subst (Blank (fileAt s)) (sym same)
-    (record { zero = h .blank; below = each-wider (Adm.declared (fileAt s)) (omega (arith, length-drop 9728 tab, h .wide)) low })
+    (record { zero = h .blank; below = each-wider (Adm.declared (fileAt s)) (omega (arith, length-drop 11121 tab, h .wide)) low })
   where
     each-wider : {n : ℕ} (ds : List Adm.Declared) → 1024 ≤ n → Each (λ d. d .name < 1024) ds → Each (λ d. d .name < n) ds
     each-wider [] w l = tt
     each-wider (d ∷ ds) w l = (omega (arith, l .0, w), each-wider ds w (l .1))
 
 -- the types stand before the slots
-types-kept : (f : File) (tab x : List ℕ) → 9728 ≤ length tab → Typed f (take 7168 (drop 2560 tab)) → Typed f (take 7168 (drop 2560 (putTail 9728 tab x)))
-types-kept f tab x u h = subst (λ t. Typed f t) (sym (sym (drop-take 2560 9728 (putTail 9728 tab x)) ∙ ap (drop 2560) (take-put 9728 tab x u) ∙ drop-take 2560 9728 tab)) h
+types-kept : (f : File) (tab x : List ℕ) → 11121 ≤ length tab → Typed f (take 7168 (drop 3953 tab)) → Typed f (take 7168 (drop 3953 (putTail 11121 tab x)))
+types-kept f tab x u h = subst (λ t. Typed f t) (sym (sym (drop-take 3953 11121 (putTail 11121 tab x)) ∙ ap (drop 3953) (take-put 11121 tab x u) ∙ drop-take 3953 11121 tab)) h
 
-module _ {s places rows tab consts : List ℕ} {enums : ℕ} {c : Sections} (y : List ℕ) (h : SectionsReady s enums places rows tab consts c) (e : length y ≡ length (tailOf 9728 tab)) where
-  pub sorted-long : length (putTail 9728 tab y) ≡ length tab
-  sorted-long = length-put 9728 tab y (omega (arith, h .tabLong)) e
+module _ {s places rows tab : List ℕ} {enums : ℕ} {c : Sections} (y : List ℕ) (h : SectionsReady s enums places rows tab c) (e : length y ≡ length (tailOf 11121 tab)) where
+  pub sorted-long : length (putTail 11121 tab y) ≡ length tab
+  sorted-long = length-put 11121 tab y (omega (arith, h .tabLong)) e
 
-  pub sorted-ready : SectionsReady s enums places rows (putTail 9728 tab y) consts c
+  pub sorted-ready : SectionsReady s enums places rows (putTail 11121 tab y) c
   sorted-ready =
       record {
         loads = h .loads;
         rowed = h .rowed;
         typed = types-kept (fileAt s) tab y (omega (arith, h .tabLong)) (h .typed);
         tabLong = omega (arith, sorted-long, h .tabLong);
-        constsLong = h .constsLong;
       }
 
 -- ---- 6 to 10
@@ -118,12 +116,12 @@ module _ {s places rows tab consts : List ℕ} {enums : ℕ} {c : Sections} (y :
 faults-are : {s names names′ slots slots′ rows rows′ : List ℕ} {found : Faults} → FileJudged s (fileAt s) names names′ slots slots′ rows rows′ found → FaultsAre (fileAt s) found
 faults-are j = record { unseen = j .unseen; again = j .again; called = j .called; shaped = j .shaped }
 
-pub shapes-ready : {s places rows rows′ tab names names′ consts : List ℕ} {enums : ℕ} {c : Sections} {low : Bool} {found : Faults} (x : List ℕ) → NamesReady s enums places rows tab names consts c low → length rows′ ≡ length rows → length x ≡ length (tailOf 9728 tab) → Adm.fault6 (fileAt s) ≡ none → FileJudged s (fileAt s) names names′ (tailOf 9728 tab) x rows rows′ found → ShapesReady s enums places rows′ (putTail 9728 tab x) consts c low found
+pub shapes-ready : {s places rows rows′ tab names names′ : List ℕ} {enums : ℕ} {c : Sections} {low : Bool} {found : Faults} (x : List ℕ) → NamesReady s enums places rows tab names c low → length rows′ ≡ length rows → length x ≡ length (tailOf 11121 tab) → Adm.fault6 (fileAt s) ≡ none → FileJudged s (fileAt s) names names′ (tailOf 11121 tab) x rows rows′ found → ShapesReady s enums places rows′ (putTail 11121 tab x) c low found
 shapes-ready {s} {rows = rows} {rows′} {tab} {names} {names′} {found = found} x h same e no6 j =
     let d = h .sections in
     let r = d .rowed in
     let long : length rows′ ≡ 272 = same ∙ r .long in
-    let u : 9728 ≤ length tab = omega (arith, d .tabLong) in
+    let u : 11121 ≤ length tab = omega (arith, d .tabLong) in
     record {
       sections = record {
         loads = d .loads;
@@ -136,21 +134,20 @@ shapes-ready {s} {rows = rows} {rows′} {tab} {names} {names′} {found = found
           firsts = λ n g. j .sized .above (256 + n) (omega arith) ∙ r .firsts n g;
         };
         typed = types-kept (fileAt s) tab x u (d .typed);
-        tabLong = omega (arith, length-put 9728 tab x u e, d .tabLong);
-        constsLong = d .constsLong;
+        tabLong = omega (arith, length-put 11121 tab x u e, d .tabLong);
       };
       no6 = no6;
       are = faults-are j;
       slots = record {
         names = names;
         names′ = names′;
-        before = tailOf 9728 tab;
+        before = tailOf 11121 tab;
         rows = rows;
         rows′ = rows′;
         found = found;
         empty = h .empty;
-        long = omega (arith, ap length (tail-all 9728 tab), length-drop 9728 tab, d .tabLong);
-        judged = subst (λ t. FileJudged s (fileAt s) names names′ (tailOf 9728 tab) t rows rows′ found) (sym (drop-put 9728 tab x u)) j;
+        long = omega (arith, ap length (tail-all 11121 tab), length-drop 11121 tab, d .tabLong);
+        judged = subst (λ t. FileJudged s (fileAt s) names names′ (tailOf 11121 tab) t rows rows′ found) (sym (drop-put 11121 tab x u)) j;
       };
       sized = λ no9. (rows-sized long (r .firsts) (j .sized) no9, j .main no9);
       lows = h .lows;
@@ -167,7 +164,7 @@ false-not-true e = let z : _≡_ {A = ℕ} 0 1 = ap (λ b. mathlib.Core.Bool.con
 
 -- ---- any file that reads without fault, with blank arrays
 
-pub file-ready : {s places : List ℕ} {enums : ℕ} (n : ℕ) → 10752 ≤ n → Loads s enums places → Bytes s → 9728 + length s ≤ n → FileReady s enums places (replicate 272 0) (replicate n 0) (replicate 576 0)
+pub file-ready : {s places : List ℕ} {enums : ℕ} (n : ℕ) → 12145 ≤ n → Loads s enums places → Bytes s → 11121 + length s ≤ n → FileReady s enums places (replicate 272 0) (replicate n 0)
 file-ready n w l b h =
     record {
       loads = l;
@@ -175,6 +172,5 @@ file-ready n w l b h =
       rowsLong = length-replicate {A = ℕ} 272 0;
       tabLong = omega (arith, length-replicate {A = ℕ} n 0, h);
       wide = omega (arith, length-replicate {A = ℕ} n 0, w);
-      blank = λ x. getD-drop 9728 (replicate n 0) x 0 ∙ zero-at n (9728 + x);
-      constsLong = length-replicate {A = ℕ} 576 0;
+      blank = λ x. getD-drop 11121 (replicate n 0) x 0 ∙ zero-at n (11121 + x);
     }

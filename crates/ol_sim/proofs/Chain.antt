@@ -18,13 +18,21 @@ holds n p o xs j e = ap (λ i. Adm.refuseAt n i (Adm.refuseFirst xs j)) e
 pub passes : (n : ℕ) (o : Option ℕ) (xs : List (ℕ × Option ℕ)) (j : Adm.Judged) → o ≡ none → Adm.refuseFirst ((n, o) ∷ xs) j ≡ Adm.refuseFirst xs j
 passes n o xs j e = ap (λ i. Adm.refuseAt n i (Adm.refuseFirst xs j)) e
 
-module _ {s rows tab consts : List ℕ} {n : ℕ} {o : Option ℕ} {xs : List (ℕ × Option ℕ)} {r : Judged} where
-  pub refused-at : {p : ℕ} → r ≡ Jud.Refused (faultAt n p) → o ≡ some p → Judges s ((n, o) ∷ xs) rows tab consts r
-  refused-at {p} e h = subst (λ x. Judges s ((n, o) ∷ xs) rows tab consts x) (sym e) (record { is = holds n p o xs (whole (fileAt s)) h })
+module _ {s : List ℕ} {P : ℕ → ℕ → Type 0} {n : ℕ} {o : Option ℕ} {xs : List (ℕ × Option ℕ)} {r : Judged} where
+  pub refused-at : {p : ℕ} → r ≡ Jud.Refused (faultAt n p) → o ≡ some p → Judges s ((n, o) ∷ xs) P r
+  refused-at {p} e h = subst (λ x. Judges s ((n, o) ∷ xs) P x) (sym e) (record { is = holds n p o xs (whole (fileAt s)) h })
 
-  pub passed-by : o ≡ none → Judges s xs rows tab consts r → Judges s ((n, o) ∷ xs) rows tab consts r
+  pub passed-by : o ≡ none → Judges s xs P r → Judges s ((n, o) ∷ xs) P r
   passed-by e h = record { is = go r (h .is) }
     where
-      go : (x : Judged) → JudgesBy s xs rows tab consts x → JudgesBy s ((n, o) ∷ xs) rows tab consts x
+      go : (x : Judged) → JudgesBy s xs P x → JudgesBy s ((n, o) ∷ xs) P x
       go (Jud.Refused x) j = passes n o xs (whole (fileAt s)) e ∙ j
-      go (Jud.Admitted size main count) j = (passes n o xs (whole (fileAt s)) e ∙ j .0, j .1)
+      go (Jud.Admitted size main) j = (passes n o xs (whole (fileAt s)) e ∙ j .0, j .1)
+
+-- what holds of an admitted file besides
+pub judges-more : {s : List ℕ} {xs : List (ℕ × Option ℕ)} {P Q : ℕ → ℕ → Type 0} {r : Judged} → ((size main : ℕ) → P size main → Q size main) → Judges s xs P r → Judges s xs Q r
+judges-more {s} {xs} {P} {Q} {r} f h = record { is = go r (h .is) }
+  where
+    go : (x : Judged) → JudgesBy s xs P x → JudgesBy s xs Q x
+    go (Jud.Refused x) j = j
+    go (Jud.Admitted size main) j = (j .0, f size main (j .1))

@@ -17,6 +17,7 @@ use Rattle.ol_spec.specs.declared.Cycled.the-variants as Cyc
 use Rattle.ol_spec.specs.declared.Fault.{Fault}
 use Rattle.ol_tables.specs.At.{fileAt}
 use Rattle.ol_tables.specs.Tables.{Variants, rowAt}
+use Rattle.ol_tables.specs.Table.{tabOf, rowsOf, constsOf}
 use Rattle.ol_spec.proofs.Cells.{length-cells}
 use Rattle.ol_state.specs.Ready.{Ready}
 use Rattle.ol_run.specs.MainCycle.{RunReady, Cycles}
@@ -63,12 +64,12 @@ module _ (f : File) (old ins new vals : List ℕ) {r : Cycled} where
 
 -- ---- lengths
 
-module _ {s rows tab consts : List ℕ} {size m : ℕ} (h : AnswerReady s rows tab consts size m) where
+module _ {s t : List ℕ} {size m : ℕ} (h : AnswerReady s t size m) where
   -- the main node's variables, by its row
-  pub row-width : {n : ℕ} → n ≡ rowAt rows m 4 → n ≡ length (variables (main (fileAt s)))
+  pub row-width : {n : ℕ} → n ≡ rowAt (rowsOf t) m 4 → n ≡ length (variables (main (fileAt s)))
   row-width e = e ∙ h .tables .rowed .rowsOf m (omega (arith, h .last)) .variables ∙ ap (λ n. length (variables n)) (sym (main-is (fileAt s) m (h .last)))
 
-  pub fits-yes : {n : ℕ} (new vals : List ℕ) → n ≡ rowAt rows m 4 → length new ≡ size → length vals ≡ 9 * n → fits17 (fileAt s) new vals ≡ true
+  pub fits-yes : {n : ℕ} (new vals : List ℕ) → n ≡ rowAt (rowsOf t) m 4 → length new ≡ size → length vals ≡ 9 * n → fits17 (fileAt s) new vals ≡ true
   fits-yes new vals e a b =
       ap (λ x. x && eqb (length vals) (9 * length (variables (main (fileAt s))))) (eqb-same (length new) (Adm.stateSize (fileAt s)) (a ∙ h .sized))
       ∙ eqb-same (length vals) (9 * length (variables (main (fileAt s)))) (b ∙ ap (λ n. 9 * n) (row-width e))
@@ -76,7 +77,7 @@ module _ {s rows tab consts : List ℕ} {size m : ℕ} (h : AnswerReady s rows t
   pub fits-new : (new vals : List ℕ) → (length new ≡ size → ⊥) → fits17 (fileAt s) new vals ≡ false
   fits-new new vals a = ap (λ x. x && eqb (length vals) (9 * length (variables (main (fileAt s))))) (eqb-other (length new) (Adm.stateSize (fileAt s)) (λ e. a (e ∙ sym (h .sized))))
 
-  pub fits-values : {n : ℕ} (new vals : List ℕ) → n ≡ rowAt rows m 4 → length new ≡ size → (length vals ≡ 9 * n → ⊥) → fits17 (fileAt s) new vals ≡ false
+  pub fits-values : {n : ℕ} (new vals : List ℕ) → n ≡ rowAt (rowsOf t) m 4 → length new ≡ size → (length vals ≡ 9 * n → ⊥) → fits17 (fileAt s) new vals ≡ false
   fits-values new vals e a b =
       ap (λ x. x && eqb (length vals) (9 * length (variables (main (fileAt s))))) (eqb-same (length new) (Adm.stateSize (fileAt s)) (a ∙ h .sized))
       ∙ eqb-other (length vals) (9 * length (variables (main (fileAt s)))) (λ q. b (q ∙ ap (λ n. 9 * n) (sym (row-width e))))
@@ -110,8 +111,8 @@ unfolding goodInputs
 inputs-long f ins e = eqb→eq (length ins) (9 * length (main f .inputs)) (true-T _ (and-left (eqb (length ins) (9 * length (main f .inputs))) _ e))
 
 -- what the main instance's run is told
-pub run-ready : {s rows tab consts : List ℕ} {size m : ℕ} {n : ℕ} (old ins new vals : List ℕ) → AnswerReady s rows tab consts size m → goodState (fileAt s) (valuesIn (fileAt s)) old ≡ true → goodInputs (fileAt s) ins ≡ true → n ≡ rowAt rows m 4 → length new ≡ size → length vals ≡ 9 * n → RunReady s tab rows consts m old ins new vals
-run-ready {s} {rows} {tab} {consts} {size} {m} old ins new vals h p q e a b =
+pub run-ready : {s t : List ℕ} {size m : ℕ} {n : ℕ} (old ins new vals : List ℕ) → AnswerReady s t size m → goodState (fileAt s) (valuesIn (fileAt s)) old ≡ true → goodInputs (fileAt s) ins ≡ true → n ≡ rowAt (rowsOf t) m 4 → length new ≡ size → length vals ≡ 9 * n → RunReady s (tabOf t) (rowsOf t) (constsOf t) m old ins new vals
+run-ready {s} {t} {size} {m} old ins new vals h p q e a b =
     record {
       running = h .running;
       last = h .last;
@@ -124,11 +125,11 @@ run-ready {s} {rows} {tab} {consts} {size} {m} old ins new vals h p q e a b =
     }
 
 -- as many values as constants
-pub values-many : {s rows tab consts : List ℕ} {size m : ℕ} → AnswerReady s rows tab consts size m → length (valuesIn (fileAt s)) ≡ length (fileAt s .constants)
+pub values-many : {s t : List ℕ} {size m : ℕ} → AnswerReady s t size m → length (valuesIn (fileAt s)) ≡ length (fileAt s .constants)
 values-many {s} h = omega (arith, ap length (h .held .is), length-cells (valuesIn (fileAt s)), h .long)
 
 -- what 15 is told
-pub state-ready : {s rows tab names consts : List ℕ} {size m : ℕ} → AnswerReady s rows tab consts size m → Variants (fileAt s) names → Ready (fileAt s) s tab rows names consts
+pub state-ready : {s t names : List ℕ} {size m : ℕ} → AnswerReady s t size m → Variants (fileAt s) names → Ready (fileAt s) s (tabOf t) (rowsOf t) names (constsOf t)
 state-ready {s} {m = m} h tells =
     record {
       known = h .running .known;

@@ -2,6 +2,7 @@ pub mod Chain
 pub mod Lows
 pub mod Slotting
 pub mod Tables
+pub mod Packing
 pub mod Steps
 pub mod Begins
 pub mod Reading

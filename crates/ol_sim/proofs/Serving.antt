@@ -1,11 +1,10 @@
 -- Every call: its ways out, and what it is told on the way.
-use Prim.Native.Nat.{ℕ, _*_, _≤_}
+use Prim.Native.Nat.{ℕ, _*_}
 use mathlib.Core.List.{List}
 use mathlib.Core.Option.{none}
 use mathlib.Core.Path.{_≡_, refl, ap, sym, subst, _∙_}
 use native.Mathlib.Omega.{arith}
-use lib.ListN.{length, take, length-map}
-use lib.Seq.{length-take-le}
+use lib.ListN.{length, length-map}
 use Rattle.ol_spec.specs.Limits.{relayLoader}
 use Rattle.ol_spec.specs.Syntax.{constantName}
 use Rattle.ol_spec.specs.Answers.{measuredFault}
@@ -18,11 +17,13 @@ use Rattle.ol_spec.specs.declared.Cycled.{Cycled}
 use Rattle.ol_spec.specs.declared.Cycled.the-variants as Cyc
 use Rattle.ol_tables.specs.At.{fileAt}
 use Rattle.ol_tables.specs.Tables.{Variants}
+use Rattle.ol_tables.specs.Table.{tabOf, rowsOf, constsOf}
+use Rattle.ol_spec.proofs.Cells.{length-cells}
 use Rattle.ol_tables.specs.Stands.{FileStands}
 use Rattle.ol_check.proofs.VariantLaws.{variants-tell}
 use Rattle.ol_frame.specs.Nodes.{Running}
 use Rattle.ol_sim.specs.Calls.{MeasuresAs, StartsAs, CyclesAs}
-use Rattle.ol_sim.specs.Judging.{Admits, Empty, namesAfter, whole}
+use Rattle.ol_sim.specs.Judging.{Admits, Empty, namesAfter, valuesIn, whole}
 use Rattle.ol_sim.specs.Answering.{AnswerReady}
 use Rattle.ol_sim.specs.Serving.{measuredOf, startedOf, cycledOf, answerOf, Serves}
 use Rattle.ol_sim.specs.declared.calls.Call.{Call}
@@ -75,17 +76,20 @@ cycle-answers {w} {n = n} {t} e h = subst (λ x. CyclesAs w x n t) (sym e) h
 
 -- ---- what answering is told
 
-pub answer-ready : {s rows tab consts : List ℕ} {size m count : ℕ} → Admits s rows tab consts size m count → Running s tab rows (take (9 * count) consts) → 9 * count ≤ length consts → AnswerReady s rows tab (take (9 * count) consts) size m
-answer-ready {s} {rows} {tab} {consts} {size} {m} {count} a running fit =
+pub consts-many : {s t : List ℕ} {size m : ℕ} → Admits s t size m → length (constsOf t) ≡ 9 * length (fileAt s .constants)
+consts-many {s} a = ap length (a .held .is) ∙ length-cells (valuesIn (fileAt s)) ∙ ap (λ i. 9 * i) (a .held .many)
+
+pub answer-ready : {s t : List ℕ} {size m : ℕ} → Admits s t size m → Running s (tabOf t) (rowsOf t) (constsOf t) → AnswerReady s t size m
+answer-ready {s} {t} {size} {m} a running =
     record {
       tables = a .tables;
       running = running;
-      sized = a .sized;
-      small = a .small;
+      sized = a .measured .sized;
+      small = a .measured .small;
       held = a .held;
-      long = length-take-le (9 * count) consts fit ∙ ap (λ i. 9 * i) (a .counted);
-      last = a .last;
-      operator = main-operator (fileAt s) m (a .last) (a .operator);
+      long = consts-many a;
+      last = a .measured .last;
+      operator = main-operator (fileAt s) m (a .measured .last) (a .measured .operator);
     }
 
 -- the table by name tells the variants of a file without fault 6

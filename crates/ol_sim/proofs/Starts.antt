@@ -24,6 +24,7 @@ use Rattle.ol_spec.proofs.Calls.{site-size}
 use Rattle.ol_tables.specs.At.{fileAt}
 use Rattle.ol_tables.specs.Stands.{FileReads}
 use Rattle.ol_tables.specs.Tables.{nodeOf, siteBytes}
+use Rattle.ol_tables.specs.Table.{tabOf, rowsOf, constsOf}
 use Rattle.ol_state.specs.Known.{Sited}
 use Rattle.ol_state.proofs.FreshRecords.{fresh-record}
 use Rattle.ol_sim.specs.Calls.{StartsAs}
@@ -53,15 +54,15 @@ eqb-other m n h = go (eqb m n) (λ t. h (eqb→eq m n t))
 
 -- ---- what was judged
 
-module _ {s rows tab consts : List ℕ} {j : Judged} (r : FileReads s) (h : Judges s (from6 (fileAt s)) rows tab consts j) where
-  pub admits-of : {size main count : ℕ} → j ≡ Jud.Admitted size main count → Admits s rows tab consts size main count
-  admits-of {size} {main} {count} e = subst (λ x. Judges s (from6 (fileAt s)) rows tab consts x) e h .is .1
+module _ {s t : List ℕ} {j : Judged} (r : FileReads s) (h : Judges s (from6 (fileAt s)) (Admits s t) j) where
+  pub admits-of : {size main : ℕ} → j ≡ Jud.Admitted size main → Admits s t size main
+  admits-of e = subst (λ x. Judges s (from6 (fileAt s)) (Admits s t) x) e h .is .1
 
-  pub judged-whole : {size main count : ℕ} → j ≡ Jud.Admitted size main count → Adm.judge relayLoader s ≡ whole (fileAt s)
-  judged-whole e = judge-is s r ∙ subst (λ x. Judges s (from6 (fileAt s)) rows tab consts x) e h .is .0
+  pub judged-whole : {size main : ℕ} → j ≡ Jud.Admitted size main → Adm.judge relayLoader s ≡ whole (fileAt s)
+  judged-whole e = judge-is s r ∙ subst (λ x. Judges s (from6 (fileAt s)) (Admits s t) x) e h .is .0
 
   pub judged-refused : {x : Fault} → j ≡ Jud.Refused x → Adm.judge relayLoader s ≡ Adm.refused (x .number) (x .place)
-  judged-refused e = judge-is s r ∙ subst (λ x. Judges s (from6 (fileAt s)) rows tab consts x) e h .is
+  judged-refused e = judge-is s r ∙ subst (λ x. Judges s (from6 (fileAt s)) (Admits s t) x) e h .is
 
 -- ---- the ways out
 
@@ -106,7 +107,7 @@ pub main-operator : (f : File) (m : ℕ) → suc m ≡ length (f .nodes) → Adm
 main-operator f m e no14 = ap (λ (n : Node). n .kind) (sym (main-is f m e)) ∙ operator-kind (main f .kind) f no14
 
 -- what writing the fresh state is told
-pub start-ready : {s rows tab consts : List ℕ} {size m : ℕ} (state : List ℕ) → AnswerReady s rows tab consts size m → length state ≡ size → StartReady s rows tab consts m state
+pub start-ready : {s t : List ℕ} {size m : ℕ} (state : List ℕ) → AnswerReady s t size m → length state ≡ size → StartReady s t m state
 start-ready state h e =
     record {
       known = h .running .known;
@@ -126,7 +127,8 @@ state-is f = refl
 
 -- ---- the fresh state
 
-module _ {s rows tab consts : List ℕ} {m : ℕ} {state : List ℕ} (h : StartReady s rows tab consts m state) where
+-- n bytes are before the main record
+module _ {s t : List ℕ} {m : ℕ} {state : List ℕ} (h : StartReady s t m state) (n : ℕ) (front : n ≡ length (constsOf t)) where
   main-below : m < length (fileAt s .nodes)
   main-below = omega (arith, h .last)
 
@@ -136,28 +138,28 @@ module _ {s rows tab consts : List ℕ} {m : ℕ} {state : List ℕ} (h : StartR
       site-size (fileAt s .nodes) (h .known .lower) m main-below ∙ ap (λ t. siteSizeBy t (sizesAt (length (fileAt s .nodes)) (fileAt s .nodes)) (nodeOf (fileAt s) m)) (h .operator)
       ∙ ap (instanceSize (sizesAt (length (fileAt s .nodes)) (fileAt s .nodes))) (sym (main-is (fileAt s) m (h .last)))
 
-  pub consts-fit : length consts ≤ length state
-  consts-fit = omega (arith, h .long, h .sized, state-is (fileAt s))
+  pub consts-fit : n ≤ length state
+  consts-fit = omega (arith, front, h .long, h .sized, state-is (fileAt s))
 
-  pub front-long : length (take (length consts) state) ≡ length consts
-  front-long = length-take-le (length consts) state consts-fit
+  pub front-long : length (take n state) ≡ n
+  front-long = length-take-le n state consts-fit
 
   -- the state with the constants' cells in it
-  pub begun-long : {x : List ℕ} → x ≡ consts → length (x ++ drop (length consts) state) ≡ length state
-  begun-long {x} e = length-append x (drop (length consts) state) ∙ omega (arith, ap length e, length-drop (length consts) state, consts-fit)
+  pub begun-long : {x : List ℕ} → x ≡ constsOf t → length (x ++ drop n state) ≡ length state
+  begun-long {x} e = length-append x (drop n state) ∙ omega (arith, ap length e, front, length-drop n state, consts-fit)
 
-  pub rest-sited : {x : List ℕ} → x ≡ consts → Sited (fileAt s) s tab rows m (tailOf (length consts) (x ++ drop (length consts) state))
+  pub rest-sited : {x : List ℕ} → x ≡ constsOf t → Sited (fileAt s) s (tabOf t) (rowsOf t) m (tailOf n (x ++ drop n state))
   rest-sited {x} e =
-      let st = x ++ drop (length consts) state in
-      let long : length (tailOf (length consts) st) ≡ siteBytes (fileAt s) m =
-      ap length (tail-all (length consts) st) ∙ length-drop (length consts) st ∙ omega (arith, begun-long e, h .long, h .sized, state-is (fileAt s), site-is) in
+      let st = x ++ drop n state in
+      let long : length (tailOf n st) ≡ siteBytes (fileAt s) m =
+      ap length (tail-all n st) ∙ length-drop n st ∙ omega (arith, begun-long e, front, h .long, h .sized, state-is (fileAt s), site-is) in
       record { known = h .known; below = main-below; sized = long; small = omega (arith, long, site-is, h .sized, h .small, state-is (fileAt s)) }
 
-  pub fresh-whole : {x : List ℕ} (y : List ℕ) → x ≡ consts → ((vs : List Value) → y ≡ freshAt (globalsOf (fileAt s) vs) (length (fileAt s .nodes)) m) → putTail (length consts) (x ++ drop (length consts) state) y ≡ freshState (fileAt s) (valuesIn (fileAt s))
+  pub fresh-whole : {x : List ℕ} (y : List ℕ) → x ≡ constsOf t → ((vs : List Value) → y ≡ freshAt (globalsOf (fileAt s) vs) (length (fileAt s .nodes)) m) → putTail n (x ++ drop n state) y ≡ freshState (fileAt s) (valuesIn (fileAt s))
   unfolding freshState
   fresh-whole {x} y e q =
       let vs = valuesIn (fileAt s) in
       let g = globalsOf (fileAt s) vs in
-      put-tail (length consts) (x ++ drop (length consts) state) y
-      ∙ ap (λ t. t ++ y) (take-at x (drop (length consts) state) (length consts) (ap length e) ∙ e ∙ h .held)
-      ∙ ap (λ t. cells vs ++ t) (q vs ∙ fresh-record (fileAt s) vs (h .known .lower) m main-below (h .operator) ∙ ap (freshRecord g) (sym (main-is (fileAt s) m (h .last))))
+      put-tail n (x ++ drop n state) y
+      ∙ ap (λ l. l ++ y) (take-at x (drop n state) n (ap length e ∙ sym front) ∙ e ∙ h .held)
+      ∙ ap (λ l. cells vs ++ l) (q vs ∙ fresh-record (fileAt s) vs (h .known .lower) m main-below (h .operator) ∙ ap (freshRecord g) (sym (main-is (fileAt s) m (h .last))))

@@ -39,9 +39,10 @@ use Rattle.ol_order.specs.declared.table.Ring.{Ring}
 use Rattle.ol_order.specs.declared.table.Ring.the-variants as Rin
 use Rattle.ol_run.specs.Admitted.{Admitted}
 use Rattle.ol_run.specs.Constants.{ConstantsAre}
+use Rattle.ol_tables.specs.Table.{tabOf}
 use Rattle.ol_run.specs.declared.constants.Found.{Found}
 use Rattle.ol_run.specs.declared.constants.Found.the-variants as Fnd
-use Rattle.ol_sim.specs.Judging.{Judges, Admits, Held, valuesIn, from13, MainReady, ConstantsReady, Typed, Slots, OrderReady, ShapesReady}
+use Rattle.ol_sim.specs.Judging.{Judges, Measured, Held, valuesIn, from13, MainReady, ConstantsReady, Typed, Slots, OrderReady, ShapesReady}
 use Rattle.ol_sim.proofs.Lows.{low-names}
 use Rattle.ol_sim.specs.declared.judge.Judged.the-variants as Jud
 use Rattle.ol_sim.proofs.Chain.{passed-by}
@@ -51,21 +52,17 @@ use Rattle.ol_sim.proofs.Tables.{tab-whole}
 uncapped : (a : ℕ) → min a 65536 ≤ 32768 → min a 65536 ≡ a
 uncapped a h = by-cases (decLe a 65536) (λ l. min-eq-left l) (λ g. absurd (omega (arith, min-eq-right {n = 65536} {m = a} (omega arith))))
 
-module _ {s rows tab consts : List ℕ} {size main count : ℕ} where
-  pub main-done : MainReady s rows tab consts size main count → Adm.fault13 relayLoader (fileAt s) ≡ none → size ≤ 32768 → Adm.fault14 (fileAt s) ≡ none → Judges s (from13 (fileAt s)) rows tab consts (Jud.Admitted size main count)
-  main-done h no13 small no14 =
-      passed-by no13 (passed-by no14 (record { is = (refl, admits) }))
-    where
-      admits : Admits s rows tab consts size main count
-      admits = record {
-        tables = h .tables;
-        sized = h .sized ∙ uncapped (Adm.stateSize (fileAt s)) (subst (λ n. n ≤ 32768) (h .sized) small);
-        small = small;
-        last = h .last;
-        counted = h .counted;
-        held = h .held;
-        operator = no14;
-      }
+pub main-done : {s rows : List ℕ} {size main : ℕ} → MainReady s rows size main → Adm.fault13 relayLoader (fileAt s) ≡ none → size ≤ 32768 → Adm.fault14 (fileAt s) ≡ none → Judges s (from13 (fileAt s)) (Measured s) (Jud.Admitted size main)
+main-done {s} {rows} {size} {main} h no13 small no14 =
+    passed-by no13 (passed-by no14 (record { is = (refl, measured) }))
+  where
+    measured : Measured s size main
+    measured = record {
+      sized = h .sized ∙ uncapped (Adm.stateSize (fileAt s)) (subst (λ n. n ≤ 32768) (h .sized) small);
+      small = small;
+      last = h .last;
+      operator = no14;
+    }
 
 -- the counts of constants and of nodes, read where the sections start
 pub count-constants : {s : List ℕ} {c : Sections} {b : ℕ} → FileStands s (fileAt s) → SectionsAre (fileAt s) c → b ≡ getD s (c .constants) 0 → b ≡ length (fileAt s .constants)
@@ -75,32 +72,29 @@ pub count-nodes : {s : List ℕ} {c : Sections} {b : ℕ} → FileStands s (file
 count-nodes {s} st a e = e ∙ ap (λ i. getD s i 0) (omega (arith, a .nodes)) ∙ st .nodeCount
 
 -- what evaluating the constants gave
-pub stuck-12 : (f : File) (cs : List ℕ) {p : ℕ} {r : Found} → ConstantsAre (Adm.constants f) r cs → r ≡ Fnd.Stuck p → Adm.fault12 f ≡ some p
-stuck-12 f cs {p} {r} h e = go (Adm.constants f) h
-  where
-    go : (c : Adm.Constants) → ConstantsAre c r cs → Adm.stuckPlace c ≡ some p
-    go (Adm.all vs) h = let z : _≡_ {A = ℕ} 0 1 = cc in absurd (omega arith)
-    go (Adm.stuckAt q) h = let z : Fnd.Stuck q ≡ Fnd.Stuck p = sym h ∙ e in let y : q ≡ p = cc in ap some y
+module _ (f : File) (n : ℕ) (cs : List ℕ) {r : Found} (h : ConstantsAre n (Adm.constants f) r cs) where
+  pub stuck-12 : {p : ℕ} → r ≡ Fnd.Stuck p → Adm.fault12 f ≡ some p
+  stuck-12 {p} e = go (Adm.constants f) h
+    where
+      go : (c : Adm.Constants) → ConstantsAre n c r cs → Adm.stuckPlace c ≡ some p
+      go (Adm.all vs) h = let z : _≡_ {A = ℕ} 0 1 = cc in absurd (omega arith)
+      go (Adm.stuckAt q) h = let z : Fnd.Stuck q ≡ Fnd.Stuck p = sym h ∙ e in let y : q ≡ p = cc in ap some y
 
-pub all-held : (f : File) (cs : List ℕ) {r : Found} → ConstantsAre (Adm.constants f) r cs → r ≡ Fnd.All → (Adm.fault12 f ≡ none) × Held f cs
-all-held f cs {r} h e = go (Adm.constants f) refl h
-  where
-    go : (c : Adm.Constants) → Adm.constants f ≡ c → ConstantsAre c r cs → (Adm.fault12 f ≡ none) × Held f cs
-    go (Adm.all vs) q h =
-        let w : valuesIn f ≡ vs = ap Adm.constantValues q in
-        (ap Adm.stuckPlace q, record { is = h .1 ∙ ap cells (sym w); back = subst (λ us. valuesOf (length us) cs ≡ us) (sym w) (h .2) })
-    go (Adm.stuckAt p) q h = let z : _≡_ {A = ℕ} 0 1 = cc in absurd (omega arith)
-
--- the cells stand at the front of a buffer
-pub front-held : (f : File) (n : ℕ) (consts x : List ℕ) → n ≤ length consts → length x ≡ length (take n consts) → Held f x → Held f (take n (x ++ drop n consts))
-front-held f n consts x h e d = subst (Held f) (sym (take-at x (drop n consts) n (e ∙ length-take-le n consts h))) d
+  pub all-held : r ≡ Fnd.All → n ≡ length (f .constants) → (Adm.fault12 f ≡ none) × Held f cs
+  all-held e many = go (Adm.constants f) refl h
+    where
+      go : (c : Adm.Constants) → Adm.constants f ≡ c → ConstantsAre n c r cs → (Adm.fault12 f ≡ none) × Held f cs
+      go (Adm.all vs) q h =
+          let w : valuesIn f ≡ vs = ap Adm.constantValues q in
+          (ap Adm.stuckPlace q, record { is = h .1 ∙ ap cells (sym w); back = subst (λ us. valuesOf (length us) cs ≡ us) (sym w) (h .2); many = ap length w ∙ h .3 ∙ many })
+      go (Adm.stuckAt p) q h = let z : _≡_ {A = ℕ} 0 1 = cc in absurd (omega arith)
 
 pub some-none : {n : ℕ} → some n ≡ none → ⊥
 some-none e = let z : _≡_ {A = ℕ} 1 0 = ap (λ o. maybe 0 (λ x. 1) o) e in omega arith
 
 -- ---- the orders
 
-module _ {s places rows tab consts : List ℕ} {enums main : ℕ} {c : Sections} {low : Bool} (h : OrderReady s enums places rows tab consts c main low) where
+module _ {s places rows t : List ℕ} {enums main : ℕ} {c : Sections} {low : Bool} (h : OrderReady s enums places rows t c main low) where
   pub nodes-stand : NodesStand s enums places low
   nodes-stand =
       let l = h .sections .loads in
@@ -113,42 +107,55 @@ module _ {s places rows tab consts : List ℕ} {enums main : ℕ} {c : Sections}
         lows = λ t. low-names (fileAt s) (h .sound .no7) (low-within 1024 (fileAt s) (h .lows t));
       }
 
-  pub orders-room : length (take 2560 tab) ≡ 2560
-  orders-room = length-take-le 2560 tab (omega (arith, h .sections .tabLong))
+  pub orders-room : length (take 2560 (tabOf t)) ≡ 2560
+  orders-room = length-take-le 2560 (tabOf t) (omega (arith, h .sections .tabLong, length-drop 1393 t))
 
-  module _ {before x : List ℕ} {r : Ring} (same : length x ≡ length (take 2560 tab)) (o : OrdersDone (fileAt s) before x r) where
-    pub orders-long : length (x ++ drop 2560 tab) ≡ length tab
-    orders-long = length-append x (drop 2560 tab) ∙ omega (arith, same, orders-room, length-drop 2560 tab, h .sections .tabLong)
+  module _ {before x : List ℕ} {r : Ring} (same : length x ≡ length (take 2560 (tabOf t))) (o : OrdersDone (fileAt s) before x r) where
+    -- the table with the orders
+    abbrev ordered : List ℕ
+    ordered = take 1393 t ++ (x ++ drop 2560 (tabOf t))
 
-    behind : drop 2560 (x ++ drop 2560 tab) ≡ drop 2560 tab
-    behind = drop-at x (drop 2560 tab) 2560 (same ∙ orders-room)
+    front-long : length (take 1393 t) ≡ 1393
+    front-long = length-take-le 1393 t (omega (arith, h .sections .tabLong))
 
-    front : (j : ℕ) → j < 2560 → getD (x ++ drop 2560 tab) j 0 ≡ getD x j 0
-    front j g = List·getD-append x (drop 2560 tab) 0 j (omega (arith, same, orders-room))
+    pub orders-long : length ordered ≡ length t
+    orders-long =
+        length-append (take 1393 t) (x ++ drop 2560 (tabOf t))
+        ∙ omega (arith, front-long, length-append x (drop 2560 (tabOf t)), same, orders-room, length-drop 2560 (tabOf t), length-drop 1393 t, h .sections .tabLong)
+
+    tab-is : tabOf ordered ≡ x ++ drop 2560 (tabOf t)
+    tab-is = drop-at (take 1393 t) (x ++ drop 2560 (tabOf t)) 1393 front-long
+
+    behind : drop 2560 (tabOf ordered) ≡ drop 3953 t
+    behind = ap (drop 2560) tab-is ∙ drop-at x (drop 2560 (tabOf t)) 2560 (same ∙ orders-room) ∙ drop-drop 2560 1393 t
+
+    slots-are : drop 9728 (tabOf ordered) ≡ drop 11121 t
+    slots-are = sym (drop-drop 7168 2560 (tabOf ordered)) ∙ ap (drop 7168) behind ∙ drop-drop 7168 3953 t
+
+    front : (j : ℕ) → j < 2560 → getD (tabOf ordered) j 0 ≡ getD x j 0
+    front j g = ap (λ l. getD l j 0) tab-is ∙ List·getD-append x (drop 2560 (tabOf t)) 0 j (omega (arith, same, orders-room))
 
     -- 6 to 11 do not hold, and all tables are there
-    pub constants-ready : {size : ℕ} → r ≡ Rin.Nothing → (MainSized (fileAt s) main → size ≡ min (Adm.stateSize (fileAt s)) 65536) → ConstantsReady s rows (x ++ drop 2560 tab) consts c size
+    pub constants-ready : {size : ℕ} → r ≡ Rin.Nothing → (MainSized (fileAt s) main → size ≡ min (Adm.stateSize (fileAt s)) 65536) → ConstantsReady s rows ordered c size
     constants-ready e z =
         let d = h .sections in
         let st = d .rowed .stands in
         let no11 : Adm.fault11 (fileAt s) ≡ none = sym (o .found) ∙ ap ringPlace e in
-        let slots : drop 9728 (x ++ drop 2560 tab) ≡ drop 9728 tab = sym (drop-drop 7168 2560 (x ++ drop 2560 tab)) ∙ ap (drop 7168) behind ∙ drop-drop 7168 2560 tab in
         record {
           tables = record {
             reads = d .rowed .reads;
             stands = st;
             ordered = record { sound = h .sound; no11 = no11 };
             rowed = h .rows-are;
-            tabled = tab-whole s (x ++ drop 2560 tab) st (h .sound .no6) (subst (λ t. Typed (fileAt s) (take 7168 t)) (sym behind) (d .typed)) (subst (λ t. Slots s (fileAt s) t) (sym slots) (h .slots))
-                (λ k lt j g. front (k * 80 + j) (omega (arith, node-at st k lt .fewEquations, st .fewNodes)) ∙ o .order no11 k lt j g) (omega (arith, orders-long, d .tabLong));
+            tabled = tab-whole s (tabOf ordered) st (h .sound .no6) (subst (λ l. Typed (fileAt s) (take 7168 l)) (sym behind) (d .typed)) (subst (λ l. Slots s (fileAt s) l) (sym slots-are) (h .slots))
+                (λ k lt j g. front (k * 80 + j) (omega (arith, node-at st k lt .fewEquations, st .fewNodes)) ∙ o .order no11 k lt j g) (omega (arith, orders-long, length-drop 1393 ordered, d .tabLong));
           };
           sections = d .rowed .sections;
-          constsLong = d .constsLong;
           sized = z (h .main-is);
         }
 
 -- 7 to 10 do not hold
-pub order-ready : {s places rows tab consts : List ℕ} {enums : ℕ} {c : Sections} {low : Bool} {found : Faults} → ShapesReady s enums places rows tab consts c low found → Adm.fault7 (fileAt s) ≡ none → Adm.fault8 (fileAt s) ≡ none → Adm.fault9 (fileAt s) ≡ none → Adm.fault10 (fileAt s) ≡ none → OrderReady s enums places rows tab consts c (found .size) low
+pub order-ready : {s places rows t : List ℕ} {enums : ℕ} {c : Sections} {low : Bool} {found : Faults} → ShapesReady s enums places rows t c low found → Adm.fault7 (fileAt s) ≡ none → Adm.fault8 (fileAt s) ≡ none → Adm.fault9 (fileAt s) ≡ none → Adm.fault10 (fileAt s) ≡ none → OrderReady s enums places rows t c (found .size) low
 order-ready h n7 n8 n9 n10 =
     record {
       sections = h .sections;

@@ -8,6 +8,7 @@ use Rattle.ol_spec.specs.Admission.{stateSize}
 use Rattle.ol_tables.specs.At.{fileAt}
 use Rattle.ol_tables.specs.Stands.{FileStands}
 use Rattle.ol_tables.specs.Tables.{Rows, nodeOf}
+use Rattle.ol_tables.specs.Table.{tabOf, rowsOf, constsOf}
 use Rattle.ol_frame.specs.Nodes.{Running}
 use Rattle.ol_run.specs.Admitted.{Admitted}
 use Rattle.ol_sim.specs.Judging.{Held}
@@ -19,13 +20,13 @@ pub record MeasureReady (s rows : List ℕ) (size main : ℕ) : Type 0 where
   pub sized : size ≡ stateSize (fileAt s)
   pub last : suc main ≡ length (fileAt s .nodes)
 
--- an admitted file: its tables, the length of its state, its constants' cells, and its main node
-pub record AnswerReady (s rows tab consts : List ℕ) (size main : ℕ) : Type 0 where
-  pub tables : Admitted s rows tab
-  pub running : Running s tab rows consts
+-- an admitted file: its table t, the length of its state, its constants' cells, and its main node
+pub record AnswerReady (s t : List ℕ) (size main : ℕ) : Type 0 where
+  pub tables : Admitted s (rowsOf t) (tabOf t)
+  pub running : Running s (tabOf t) (rowsOf t) (constsOf t)
   pub sized : size ≡ stateSize (fileAt s)
   pub small : size ≤ 32768
-  pub held : Held (fileAt s) consts
-  pub long : length consts ≡ 9 * length (fileAt s .constants)
+  pub held : Held (fileAt s) (constsOf t)
+  pub long : length (constsOf t) ≡ 9 * length (fileAt s .constants)
   pub last : suc main ≡ length (fileAt s .nodes)
   pub operator : nodeOf (fileAt s) main .kind ≡ Operator

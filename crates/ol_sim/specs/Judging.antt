@@ -1,5 +1,5 @@
 -- What judging a file that reads without fault gives: the first of the faults that are still to be asked, or the file's tables.
-use Prim.Native.Nat.{ℕ, suc, _+_, _*_, _≤_, _<_, min}
+use Prim.Native.Nat.{ℕ, suc, _+_, _≤_, _<_, min}
 use mathlib.Core.Bool.{Bool, true}
 use mathlib.Core.List.{List, [], _∷_, map}
 use mathlib.Core.Option.{Option, none, some}
@@ -14,6 +14,7 @@ use Rattle.ol_spec.specs.declared.Value.{Value}
 use Rattle.ol_tables.specs.At.{fileAt}
 use Rattle.ol_tables.specs.Tables.{Each, Rows, nodeOf, placeOf, firstAt, sizeCap}
 use Rattle.ol_tables.specs.Stands.{FileReads, FileStands}
+use Rattle.ol_tables.specs.Table.{tabOf, rowsOf, constsOf}
 use Rattle.ol_ir.specs.Walks as Walks
 use Rattle.ol_check.specs.Founds as Founds
 use Rattle.ol_check.specs.RowsDone.{NodeRow, NodeTypes, SectionsAre}
@@ -49,33 +50,36 @@ Low f low = low ≡ true → Each (λ d. d .name < 1024) (Adm.declared f)
 abbrev pub valuesIn : File → List Value
 valuesIn f = Adm.constantValues (Adm.constants f)
 
--- the constants' cells, of which the values are read back
+-- the constants' cells, of which the values are read back: one for each constant
 pub record Held (f : File) (consts : List ℕ) : Type 0 where
   pub is : consts ≡ cells (valuesIn f)
   pub back : valuesOf (length (valuesIn f)) consts ≡ valuesIn f
+  pub many : length (valuesIn f) ≡ length (f .constants)
 
--- a file that is admitted: the length of its state, its main node's number, how many constants it has, its tables, and its constants' cells
-pub record Admits (s rows tab consts : List ℕ) (size main count : ℕ) : Type 0 where
-  pub tables : Admitted s rows tab
+-- a file without the faults 13 and 14: the length of its state, and its main node's number
+pub record Measured (s : List ℕ) (size main : ℕ) : Type 0 where
   pub sized : size ≡ Adm.stateSize (fileAt s)
   pub small : size ≤ 32768
   pub last : suc main ≡ length (fileAt s .nodes)
-  pub counted : count ≡ length (fileAt s .constants)
-  pub held : Held (fileAt s) (take (9 * count) consts)
   pub operator : Adm.fault14 (fileAt s) ≡ none
+
+-- a file that is admitted: besides, its table t
+pub record Admits (s t : List ℕ) (size main : ℕ) : Type 0 where
+  pub measured : Measured s size main
+  pub tables : Admitted s (rowsOf t) (tabOf t)
+  pub held : Held (fileAt s) (constsOf t)
 
 -- the file with its constants' values
 abbrev pub whole : File → Adm.Judged
 whole f = Adm.admitted f (valuesIn f)
 
--- what judging gives, where the faults xs are still to be asked
-abbrev pub JudgesBy : List ℕ → List (ℕ × Option ℕ) → List ℕ → List ℕ → List ℕ → Judged → Type 0
-JudgesBy s xs rows tab consts (Jud.Refused x) = Adm.refuseFirst xs (whole (fileAt s)) ≡ Adm.refused (x .number) (x .place)
-JudgesBy s xs rows tab consts (Jud.Admitted size main count) =
-    (Adm.refuseFirst xs (whole (fileAt s)) ≡ whole (fileAt s)) × Admits s rows tab consts size main count
+-- what judging gives, where the faults xs are still to be asked and P holds of an admitted file
+abbrev pub JudgesBy : List ℕ → List (ℕ × Option ℕ) → (ℕ → ℕ → Type 0) → Judged → Type 0
+JudgesBy s xs P (Jud.Refused x) = Adm.refuseFirst xs (whole (fileAt s)) ≡ Adm.refused (x .number) (x .place)
+JudgesBy s xs P (Jud.Admitted size main) = (Adm.refuseFirst xs (whole (fileAt s)) ≡ whole (fileAt s)) × P size main
 
-pub record Judges (s : List ℕ) (xs : List (ℕ × Option ℕ)) (rows tab consts : List ℕ) (r : Judged) : Type 0 where
-  pub is : JudgesBy s xs rows tab consts r
+pub record Judges (s : List ℕ) (xs : List (ℕ × Option ℕ)) (P : ℕ → ℕ → Type 0) (r : Judged) : Type 0 where
+  pub is : JudgesBy s xs P r
 
 -- the table by name after the walk over the file, which a fault 6 keeps from being made
 abbrev pub namesAfter : Option ℕ → File → List ℕ → List ℕ
@@ -90,15 +94,14 @@ pub record Loads (s : List ℕ) (enums : ℕ) (places : List ℕ) : Type 0 where
   pub counted : length (fileAt s .enums) ≡ enums
   pub placed : places ≡ map Walks.placeOf (placedNodes (fileAt s))
 
--- and buffers for its tables; the slots' part is 0, and has an entry for every name below 1,024
-pub record FileReady (s : List ℕ) (enums : ℕ) (places rows tab consts : List ℕ) : Type 0 where
+-- and buffers for its tables; the slots' part of the table t is 0, and has an entry for every name below 1,024
+pub record FileReady (s : List ℕ) (enums : ℕ) (places rows t : List ℕ) : Type 0 where
   pub loads : Loads s enums places
   pub stands : FileStands s (fileAt s)
   pub rowsLong : length rows ≡ 272
-  pub tabLong : 9728 + length s ≤ length tab
-  pub wide : 10752 ≤ length tab
-  pub blank : (x : ℕ) → getD (drop 9728 tab) x 0 ≡ 0
-  pub constsLong : length consts ≡ 576
+  pub tabLong : 11121 + length s ≤ length t
+  pub wide : 12145 ≤ length t
+  pub blank : (x : ℕ) → getD (drop 11121 t) x 0 ≡ 0
 
 -- the rows but for the sizes, and the sections
 pub record Rowed (s rows : List ℕ) (c : Sections) : Type 0 where
@@ -113,20 +116,19 @@ pub record Rowed (s rows : List ℕ) (c : Sections) : Type 0 where
 pub record Typed (f : File) (types : List ℕ) : Type 0 where
   pub typed : (k : ℕ) → k < length (f .nodes) → NodeTypes (nodeOf f k) k types
 
-pub record SectionsReady (s : List ℕ) (enums : ℕ) (places rows tab consts : List ℕ) (c : Sections) : Type 0 where
+pub record SectionsReady (s : List ℕ) (enums : ℕ) (places rows t : List ℕ) (c : Sections) : Type 0 where
   pub loads : Loads s enums places
   pub rowed : Rowed s rows c
-  pub typed : Typed (fileAt s) (take 7168 (drop 2560 tab))
-  pub tabLong : 9728 + length s ≤ length tab
-  pub constsLong : length consts ≡ 576
+  pub typed : Typed (fileAt s) (take 7168 (drop 3953 t))
+  pub tabLong : 11121 + length s ≤ length t
 
 -- the table by name is 0 everywhere, and longer than every declared name
 pub record Empty (f : File) (names : List ℕ) : Type 0 where
   pub zero : (x : ℕ) → getD names x 0 ≡ 0
   pub within : NamesWithin (length names) f
 
-pub record NamesReady (s : List ℕ) (enums : ℕ) (places rows tab names consts : List ℕ) (c : Sections) (low : Bool) : Type 0 where
-  pub sections : SectionsReady s enums places rows tab consts c
+pub record NamesReady (s : List ℕ) (enums : ℕ) (places rows t names : List ℕ) (c : Sections) (low : Bool) : Type 0 where
+  pub sections : SectionsReady s enums places rows t c
   pub empty : Empty (fileAt s) names
   pub lows : Low (fileAt s) low
 
@@ -149,32 +151,32 @@ pub record FaultsAre (f : File) (r : Faults) : Type 0 where
   pub called : Founds.placeOf (r .called) ≡ Adm.fault9 f
   pub shaped : Founds.placeOf (r .shaped) ≡ Adm.fault10 f
 
-pub record ShapesReady (s : List ℕ) (enums : ℕ) (places rows tab consts : List ℕ) (c : Sections) (low : Bool) (found : Faults) : Type 0 where
-  pub sections : SectionsReady s enums places rows tab consts c
+pub record ShapesReady (s : List ℕ) (enums : ℕ) (places rows t : List ℕ) (c : Sections) (low : Bool) (found : Faults) : Type 0 where
+  pub sections : SectionsReady s enums places rows t c
   pub no6 : Adm.fault6 (fileAt s) ≡ none
   pub are : FaultsAre (fileAt s) found
-  pub slots : Slots s (fileAt s) (drop 9728 tab)
+  pub slots : Slots s (fileAt s) (drop 11121 t)
   pub sized : Adm.fault9 (fileAt s) ≡ none → Rows (fileAt s) rows × MainSized (fileAt s) (found .size)
   pub lows : Low (fileAt s) low
 
 -- 6 to 10 do not hold, and the main instance has so many bytes
-pub record OrderReady (s : List ℕ) (enums : ℕ) (places rows tab consts : List ℕ) (c : Sections) (main : ℕ) (low : Bool) : Type 0 where
-  pub sections : SectionsReady s enums places rows tab consts c
+pub record OrderReady (s : List ℕ) (enums : ℕ) (places rows t : List ℕ) (c : Sections) (main : ℕ) (low : Bool) : Type 0 where
+  pub sections : SectionsReady s enums places rows t c
   pub rows-are : Rows (fileAt s) rows
   pub main-is : MainSized (fileAt s) main
-  pub slots : Slots s (fileAt s) (drop 9728 tab)
+  pub slots : Slots s (fileAt s) (drop 11121 t)
   pub sound : Sound (fileAt s)
   pub lows : Low (fileAt s) low
 
-pub record ConstantsReady (s rows tab consts : List ℕ) (c : Sections) (size : ℕ) : Type 0 where
-  pub tables : Admitted s rows tab
+-- neither does 11; the rows are to be stored in the table t
+pub record ConstantsReady (s rows t : List ℕ) (c : Sections) (size : ℕ) : Type 0 where
+  pub tables : Admitted s rows (tabOf t)
   pub sections : SectionsAre (fileAt s) c
-  pub constsLong : length consts ≡ 576
   pub sized : size ≡ min (Adm.stateSize (fileAt s)) sizeCap
 
-pub record MainReady (s rows tab consts : List ℕ) (size main count : ℕ) : Type 0 where
-  pub tables : Admitted s rows tab
+pub record MainReady (s rows : List ℕ) (size main : ℕ) : Type 0 where
+  pub reads : FileReads s
+  pub stands : FileStands s (fileAt s)
+  pub rowed : Rows (fileAt s) rows
   pub sized : size ≡ min (Adm.stateSize (fileAt s)) sizeCap
   pub last : suc main ≡ length (fileAt s .nodes)
-  pub counted : count ≡ length (fileAt s .constants)
-  pub held : Held (fileAt s) (take (9 * count) consts)

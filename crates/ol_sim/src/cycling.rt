@@ -4,8 +4,8 @@ use ol_spec::Cycled;
 use ol_spec::Fault;
 use ol_state::good_inputs;
 use ol_state::good_state;
+use ol_tables::table::column;
 use ol_tables::tables::VARIABLES;
-use ol_tables::tables::row;
 ghost use mathlib.Core.Path.{_≡_};
 ghost use Rattle.ol_spec.specs.Answers.{faultAt};
 ghost use Rattle.ol_spec.specs.Cycle.{cycleJudged};
@@ -26,9 +26,7 @@ fn refuse(number: u8) -> Cycled
 pub(crate) fn cycle_unless(
     file: &[u8],
     tab: &[u8],
-    rows: &[usize],
     names: &[u8],
-    consts: &[u8],
     size: usize,
     main: usize,
     old: &[u8],
@@ -36,15 +34,15 @@ pub(crate) fn cycle_unless(
     new: &mut [u8],
     values: &mut [u8],
 ) -> Cycled
-    requires { ⌜ AnswerReady (now file) (now rows) (now tab) (now consts) size main × Variants (fileAt (now file)) (now names) ⌝ }
+    requires { ⌜ AnswerReady (now file) (now tab) size main × Variants (fileAt (now file)) (now names) ⌝ }
     ensures { λ r. ⌜ CyclesAs (cycleJudged (whole (fileAt (now (file .entry)))) (now (old .entry)) (now (inputs .entry)) (now (new .entry)) (now (values .entry))) r (now (new .exit)) (now (values .exit)) ⌝ }
 {
-    if good_state(file, tab, rows, names, consts, old) {
-        if good_inputs(file, tab, rows, names, inputs) {
+    if good_state(file, tab, names, old) {
+        if good_inputs(file, tab, names, inputs) {
             if new.len() == size {
-                let n = row(rows, main, VARIABLES);
+                let n = column(tab, main, VARIABLES);
                 if values.len() == 9 * n {
-                    run_main(file, tab, rows, consts, main, old, inputs, new, values)
+                    run_main(file, tab, main, old, inputs, new, values)
                 } else {
                     refuse(17)
                 }

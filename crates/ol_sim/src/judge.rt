@@ -11,9 +11,13 @@ use ol_run::constants;
 use ol_run::constants::constant_values;
 use ol_spec::Fault;
 use ol_tables::bytes::byte;
+use ol_tables::table::ORDERS;
+use ol_tables::table::SLOTS;
+use ol_tables::table::TYPES;
+use ol_tables::table::pack;
+use ol_tables::tables::COLUMNS;
+use ol_tables::tables::FIRSTS;
 use ol_tables::tables::PLACE;
-use ol_tables::tables::SLOTS;
-use ol_tables::tables::TYPES;
 use ol_tables::tables::row;
 ghost use mathlib.Core.Path.{_≡_};
 ghost use mathlib.Core.Option.{none};
@@ -26,13 +30,12 @@ ghost use Rattle.ol_tables.specs.At.{fileAt};
 ghost use Rattle.ol_tables.specs.Stands.{FileReads};
 ghost use Rattle.ol_tables.specs.Tables.{Rows, sizeCap};
 ghost use Rattle.ol_check.specs.Founds.{placeOf};
-ghost use Rattle.ol_sim.specs.Judging.{Judges, namesAfter, from6, from7, from11, from12, from13, MainReady, ConstantsReady, OrderReady, ShapesReady, NamesReady};
+ghost use Rattle.ol_sim.specs.Judging.{Judges, Measured, Admits, namesAfter, from6, from7, from11, from12, from13, MainReady, ConstantsReady, OrderReady, ShapesReady, NamesReady};
 
-// What judging a file gives: its first fault, or the length of its state, its main node's number, and how
-// many constants it has.
+// What judging a file gives: its first fault, or the length of its state and its main node's number.
 pub(crate) enum Judged {
     Refused(Fault),
-    Admitted(usize, usize, usize),
+    Admitted(usize, usize),
 }
 
 // A fault.
@@ -55,47 +58,40 @@ fn too_long(file: &[u8], rows: &[usize], main: usize, size: usize) -> Found
 }
 
 // 13 and 14.
-fn judge_main(
-    file: &[u8],
-    rows: &[usize],
-    tab: &[u8],
-    consts: &[u8],
-    size: usize,
-    main: usize,
-    count: usize,
-) -> Judged
-    requires { ⌜ MainReady (now file) (now rows) (now tab) (now consts) size main count ⌝ }
-    ensures { λ r. ⌜ Judges (now (file .entry)) (from13 (fileAt (now (file .entry)))) (now (rows .entry)) (now (tab .entry)) (now (consts .entry)) r ⌝ }
+fn judge_main(file: &[u8], rows: &[usize], size: usize, main: usize) -> Judged
+    requires { ⌜ MainReady (now file) (now rows) size main ⌝ }
+    ensures { λ r. ⌜ Judges (now (file .entry)) (from13 (fileAt (now (file .entry)))) (Measured (now (file .entry))) r ⌝ }
 {
     match too_long(file, rows, main, size) {
         Found::At(p) => refuse(13, p),
         Found::Nothing => match not_operator(file, rows, main + 1) {
             Found::At(p) => refuse(14, p),
-            Found::Nothing => Judged::Admitted(size, main, count),
+            Found::Nothing => Judged::Admitted(size, main),
         },
     }
 }
 
-// 12 to 14: the constants' cells are written.
+// 12 to 14: the rows and the constants' cells are written into the table.
 fn judge_constants(
     file: &[u8],
     rows: &[usize],
-    tab: &[u8],
-    consts: &mut [u8],
+    tab: &mut [u8],
     sections: Sections,
     size: usize,
 ) -> Judged
-    requires { ⌜ ConstantsReady (now file) (now rows) (now tab) (now consts) sections size ⌝ }
-    ensures { λ r. ⌜ Judges (now (file .entry)) (from12 (fileAt (now (file .entry)))) (now (rows .entry)) (now (tab .entry)) (now (consts .exit)) r ⌝ }
+    requires { ⌜ ConstantsReady (now file) (now rows) (now tab) sections size ⌝ }
+    ensures { λ r. ⌜ Judges (now (file .entry)) (from12 (fileAt (now (file .entry)))) (Admits (now (file .entry)) (now (tab .exit))) r ⌝ }
 {
     let c = sections.constants;
     let n = sections.nodes;
     let count = byte(file, c);
     let nodes = byte(file, n);
-    let end = 9 * count;
-    match constant_values(file, tab, rows, nodes, c + 1, count, &mut consts[..end]) {
+    let enums = byte(file, 1);
+    pack(rows, 0, nodes * COLUMNS, tab);
+    pack(rows, FIRSTS, FIRSTS + enums, tab);
+    match constant_values(file, tab, nodes, c + 1, count) {
         constants::Found::Stuck(p) => refuse(12, p),
-        constants::Found::All => judge_main(file, rows, tab, consts, size, nodes - 1, count),
+        constants::Found::All => judge_main(file, rows, size, nodes - 1),
     }
 }
 
@@ -106,20 +102,19 @@ fn judge_order(
     places: &[usize],
     rows: &[usize],
     tab: &mut [u8],
-    consts: &mut [u8],
     sections: Sections,
     main: usize,
     low: bool,
 ) -> Judged
-    requires { ⌜ OrderReady (now file) enums (now places) (now rows) (now tab) (now consts) sections main low ⌝ }
-    ensures { λ r. ⌜ Judges (now (file .entry)) (from11 (fileAt (now (file .entry)))) (now (rows .entry)) (now (tab .exit)) (now (consts .exit)) r ⌝ }
+    requires { ⌜ OrderReady (now file) enums (now places) (now rows) (now tab) sections main low ⌝ }
+    ensures { λ r. ⌜ Judges (now (file .entry)) (from11 (fileAt (now (file .entry)))) (Admits (now (file .entry)) (now (tab .exit))) r ⌝ }
 {
-    match orders_of(file, enums, places, low, &mut tab[..TYPES]) {
+    match orders_of(file, enums, places, low, &mut tab[ORDERS..TYPES]) {
         Ring::At(p) => refuse(11, p),
         Ring::Nothing => {
             let c = sections.constants;
             let size = state_size(file, c, main);
-            judge_constants(file, rows, tab, consts, sections, size)
+            judge_constants(file, rows, tab, sections, size)
         }
     }
 }
@@ -131,13 +126,12 @@ fn judge_shapes(
     places: &[usize],
     rows: &[usize],
     tab: &mut [u8],
-    consts: &mut [u8],
     sections: Sections,
     low: bool,
     found: Faults,
 ) -> Judged
-    requires { ⌜ ShapesReady (now file) enums (now places) (now rows) (now tab) (now consts) sections low found ⌝ }
-    ensures { λ r. ⌜ Judges (now (file .entry)) (from7 (fileAt (now (file .entry)))) (now (rows .entry)) (now (tab .exit)) (now (consts .exit)) r ⌝ }
+    requires { ⌜ ShapesReady (now file) enums (now places) (now rows) (now tab) sections low found ⌝ }
+    ensures { λ r. ⌜ Judges (now (file .entry)) (from7 (fileAt (now (file .entry)))) (Admits (now (file .entry)) (now (tab .exit))) r ⌝ }
 {
     let unseen = found.unseen;
     let again = found.again;
@@ -158,7 +152,6 @@ fn judge_shapes(
                         places,
                         rows,
                         tab,
-                        consts,
                         sections,
                         main,
                         low,
@@ -177,21 +170,20 @@ pub(crate) fn judge_names(
     rows: &mut [usize],
     tab: &mut [u8],
     names: &mut [u8],
-    consts: &mut [u8],
     sections: Sections,
     low: bool,
     clash: Found,
 ) -> Judged
-    requires { ⌜ NamesReady (now file) enums (now places) (now rows) (now tab) (now names) (now consts) sections low ⌝ }
+    requires { ⌜ NamesReady (now file) enums (now places) (now rows) (now tab) (now names) sections low ⌝ }
     requires { ⌜ placeOf clash ≡ fault6 (fileAt (now file)) ⌝ }
-    ensures judged { λ r. ⌜ Judges (now (file .entry)) (from6 (fileAt (now (file .entry)))) (now (rows .exit)) (now (tab .exit)) (now (consts .exit)) r ⌝ }
+    ensures judged { λ r. ⌜ Judges (now (file .entry)) (from6 (fileAt (now (file .entry)))) (Admits (now (file .entry)) (now (tab .exit))) r ⌝ }
     ensures named { λ _. ⌜ now (names .exit) ≡ namesAfter (fault6 (fileAt (now (file .entry)))) (fileAt (now (file .entry))) (now (names .entry)) ⌝ }
 {
     match clash {
         Found::At(p) => refuse(6, p),
         Found::Nothing => {
             let found = faults(file, rows, sections, names, &mut tab[SLOTS..]);
-            judge_shapes(file, enums, places, rows, tab, consts, sections, low, found)
+            judge_shapes(file, enums, places, rows, tab, sections, low, found)
         }
     }
 }

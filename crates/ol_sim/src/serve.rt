@@ -13,11 +13,11 @@ use ol_check::rows::Sections;
 use ol_check::rows::rows_of;
 use ol_ir::Loaded;
 use ol_ir::project::load_file;
-use ol_tables::tables::LARGE_TAB;
+use ol_tables::table::LARGE_TAB;
+use ol_tables::table::SLOTS;
+use ol_tables::table::SMALL_TAB;
+use ol_tables::table::TYPES;
 use ol_tables::tables::ROWS;
-use ol_tables::tables::SLOTS;
-use ol_tables::tables::SMALL_TAB;
-use ol_tables::tables::TYPES;
 ghost use mathlib.Core.Path.{_≡_};
 ghost use mathlib.Core.Bool.{true};
 ghost use Prim.Native.Nat.{_≤_};
@@ -36,9 +36,7 @@ fn answer(
     call: Call,
     file: &[u8],
     tab: &[u8],
-    rows: &[usize],
     names: &[u8],
-    consts: &[u8],
     size: usize,
     main: usize,
     old: &[u8],
@@ -46,25 +44,15 @@ fn answer(
     new: &mut [u8],
     values: &mut [u8],
 ) -> Answer
-    requires { ⌜ AnswerReady (now file) (now rows) (now tab) (now consts) size main × Variants (fileAt (now file)) (now names) ⌝ }
+    requires { ⌜ AnswerReady (now file) (now tab) size main × Variants (fileAt (now file)) (now names) ⌝ }
     requires { ⌜ judge relayLoader (now file) ≡ whole (fileAt (now file)) ⌝ }
     ensures { λ r. ⌜ Serves call (now (file .entry)) (now (old .entry)) (now (inputs .entry)) (now (new .entry)) (now (values .entry)) r (now (new .exit)) (now (values .exit)) ⌝ }
 {
     match call {
-        Call::Lengths(node) => measure(file, rows, size, main, node),
-        Call::Start => start_unless(file, tab, rows, consts, size, main, new),
+        Call::Lengths(node) => measure(file, tab, size, main, node),
+        Call::Start => start_unless(file, tab, size, main, new),
         Call::Cycle => answer_of(cycle_unless(
-            file,
-            tab,
-            rows,
-            names,
-            consts,
-            size,
-            main,
-            old,
-            inputs,
-            new,
-            values,
+            file, tab, names, size, main, old, inputs, new, values,
         )),
     }
 }
@@ -78,7 +66,6 @@ fn serve_named(
     rows: &mut [usize],
     tab: &mut [u8],
     names: &mut [u8],
-    consts: &mut [u8],
     sections: Sections,
     low: bool,
     clash: Found,
@@ -87,39 +74,14 @@ fn serve_named(
     new: &mut [u8],
     values: &mut [u8],
 ) -> Answer
-    requires { ⌜ NamesReady (now file) enums (now places) (now rows) (now tab) (now names) (now consts) sections low ⌝ }
+    requires { ⌜ NamesReady (now file) enums (now places) (now rows) (now tab) (now names) sections low ⌝ }
     requires { ⌜ placeOf clash ≡ fault6 (fileAt (now file)) ⌝ }
     ensures { λ r. ⌜ Serves call (now (file .entry)) (now (old .entry)) (now (inputs .entry)) (now (new .entry)) (now (values .entry)) r (now (new .exit)) (now (values .exit)) ⌝ }
 {
-    match judge_names(
-        file,
-        enums,
-        places,
-        rows,
-        tab,
-        names,
-        consts,
-        sections,
-        low,
-        clash,
-    ) {
+    match judge_names(file, enums, places, rows, tab, names, sections, low, clash) {
         Judged::Refused(f) => Answer::Refused(f),
-        Judged::Admitted(size, main, count) => {
-            let end = 9 * count;
-            answer(
-                call,
-                file,
-                tab,
-                rows,
-                names,
-                &consts[..end],
-                size,
-                main,
-                old,
-                inputs,
-                new,
-                values,
-            )
+        Judged::Admitted(size, main) => {
+            answer(call, file, tab, names, size, main, old, inputs, new, values)
         }
     }
 }
@@ -132,7 +94,6 @@ fn serve_low(
     places: &[usize],
     rows: &mut [usize],
     tab: &mut [u8],
-    consts: &mut [u8],
     sections: Sections,
     clash: Found,
     old: &[u8],
@@ -140,7 +101,7 @@ fn serve_low(
     new: &mut [u8],
     values: &mut [u8],
 ) -> Answer
-    requires { ⌜ SectionsReady (now file) enums (now places) (now rows) (now tab) (now consts) sections × Low (fileAt (now file)) true ⌝ }
+    requires { ⌜ SectionsReady (now file) enums (now places) (now rows) (now tab) sections × Low (fileAt (now file)) true ⌝ }
     requires { ⌜ placeOf clash ≡ fault6 (fileAt (now file)) ⌝ }
     ensures { λ r. ⌜ Serves call (now (file .entry)) (now (old .entry)) (now (inputs .entry)) (now (new .entry)) (now (values .entry)) r (now (new .exit)) (now (values .exit)) ⌝ }
 {
@@ -153,7 +114,6 @@ fn serve_low(
         rows,
         tab,
         &mut names,
-        consts,
         sections,
         true,
         clash,
@@ -174,14 +134,13 @@ fn serve_high(
     places: &[usize],
     rows: &mut [usize],
     tab: &mut [u8],
-    consts: &mut [u8],
     sections: Sections,
     old: &[u8],
     inputs: &[u8],
     new: &mut [u8],
     values: &mut [u8],
 ) -> Answer
-    requires { ⌜ SectionsReady (now file) enums (now places) (now rows) (now tab) (now consts) sections ⌝ }
+    requires { ⌜ SectionsReady (now file) enums (now places) (now rows) (now tab) sections ⌝ }
     ensures { λ r. ⌜ Serves call (now (file .entry)) (now (old .entry)) (now (inputs .entry)) (now (new .entry)) (now (values .entry)) r (now (new .exit)) (now (values .exit)) ⌝ }
 {
     if 0 < turns {
@@ -193,7 +152,6 @@ fn serve_high(
             places,
             rows,
             tab,
-            consts,
             sections,
             old,
             inputs,
@@ -213,7 +171,6 @@ fn serve_high(
             rows,
             tab,
             &mut names,
-            consts,
             sections,
             false,
             clash,
@@ -233,13 +190,12 @@ fn serve_with(
     places: &[usize],
     rows: &mut [usize],
     tab: &mut [u8],
-    consts: &mut [u8],
     old: &[u8],
     inputs: &[u8],
     new: &mut [u8],
     values: &mut [u8],
 ) -> Answer
-    requires { ⌜ FileReady (now file) enums (now places) (now rows) (now tab) (now consts) ⌝ }
+    requires { ⌜ FileReady (now file) enums (now places) (now rows) (now tab) ⌝ }
     ensures { λ r. ⌜ Serves call (now (file .entry)) (now (old .entry)) (now (inputs .entry)) (now (new .entry)) (now (values .entry)) r (now (new .exit)) (now (values .exit)) ⌝ }
 {
     let sections = rows_of(file, places, rows, &mut tab[TYPES..SLOTS]);
@@ -253,7 +209,6 @@ fn serve_with(
             places,
             rows,
             tab,
-            consts,
             sections,
             clash,
             old,
@@ -271,7 +226,6 @@ fn serve_with(
             places,
             rows,
             tab,
-            consts,
             sections,
             old,
             inputs,
@@ -297,7 +251,6 @@ fn serve_small(
 {
     let mut rows = [0usize; ROWS];
     let mut tab = [0u8; SMALL_TAB];
-    let mut consts = [0u8; 576];
     serve_with(
         call,
         file,
@@ -305,7 +258,6 @@ fn serve_small(
         places,
         &mut rows,
         &mut tab,
-        &mut consts,
         old,
         inputs,
         new,
@@ -343,7 +295,6 @@ fn serve_large(
     } else {
         let mut rows = [0usize; ROWS];
         let mut tab = [0u8; LARGE_TAB];
-        let mut consts = [0u8; 576];
         serve_with(
             call,
             file,
@@ -351,7 +302,6 @@ fn serve_large(
             places,
             &mut rows,
             &mut tab,
-            &mut consts,
             old,
             inputs,
             new,

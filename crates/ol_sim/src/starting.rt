@@ -4,6 +4,9 @@ use crate::calls::no_lengths;
 use ol_frame::copies::copy;
 use ol_spec::Fault;
 use ol_state::fresh::write_fresh;
+use ol_tables::bytes::byte;
+use ol_tables::table::CONSTANTS;
+use ol_tables::table::KNOWN;
 ghost use mathlib.Core.Path.{_≡_};
 ghost use Rattle.ol_spec.specs.Cycle.{startJudged};
 ghost use Rattle.ol_spec.specs.State.{freshState};
@@ -15,37 +18,29 @@ ghost use Rattle.ol_sim.specs.Answering.{AnswerReady};
 ghost use Rattle.ol_sim.specs.Serving.{startedOf};
 
 // The constants' cells, then the main instance, fresh.
-fn write_start(
-    file: &[u8],
-    tab: &[u8],
-    rows: &[usize],
-    consts: &[u8],
-    main: usize,
-    state: &mut [u8],
-)
-    requires { ⌜ StartReady (now file) (now rows) (now tab) (now consts) main (now state) ⌝ }
+fn write_start(file: &[u8], tab: &[u8], main: usize, state: &mut [u8])
+    requires { ⌜ StartReady (now file) (now tab) main (now state) ⌝ }
     ensures { λ _. ⌜ now (state .exit) ≡ freshState (fileAt (now (file .entry))) (valuesIn (fileAt (now (file .entry)))) ⌝ }
 {
-    let n = consts.len();
-    copy(consts, &mut state[..n]);
-    write_fresh(file, tab, rows, main, &mut state[n..]);
+    let n = 9 * byte(tab, KNOWN);
+    let end = CONSTANTS + n;
+    copy(&tab[CONSTANTS..end], &mut state[..n]);
+    write_fresh(file, tab, main, &mut state[n..]);
 }
 
 // 17, then the fresh state.
 pub(crate) fn start_unless(
     file: &[u8],
     tab: &[u8],
-    rows: &[usize],
-    consts: &[u8],
     size: usize,
     main: usize,
     state: &mut [u8],
 ) -> Answer
-    requires { ⌜ AnswerReady (now file) (now rows) (now tab) (now consts) size main ⌝ }
+    requires { ⌜ AnswerReady (now file) (now tab) size main ⌝ }
     ensures { λ r. ⌜ StartsAs (startJudged (whole (fileAt (now (file .entry)))) (now (state .entry))) (startedOf r) (now (state .exit)) ⌝ }
 {
     if state.len() == size {
-        write_start(file, tab, rows, consts, main, state);
+        write_start(file, tab, main, state);
         Answer::Done(no_lengths())
     } else {
         Answer::Refused(Fault {

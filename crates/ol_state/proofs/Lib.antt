@@ -1,4 +1,5 @@
 pub mod Walk
+pub mod Parts
 pub mod Filling
 pub mod DefaultCells
 pub mod Fits

@@ -46,31 +46,31 @@ module _ {f : File} {s tab rows table consts : List ℕ} (h : Ready f s tab rows
     main-bytes : rowAt rows k 6 ≡ siteBytes f k
     main-bytes = size-told (h .known) below (omega (arith, state-size, h .small))
 
-    module _ (state : List ℕ) {z : ℕ} (size : z ≡ rowAt rows k 6) where
-      pub main-sited : length state ≡ length consts + z → Sited f s tab rows k (tailOf (length consts) state)
+    module _ (state : List ℕ) {z m : ℕ} (size : z ≡ rowAt rows k 6) (front : m ≡ length consts) where
+      pub main-sited : length state ≡ m + z → Sited f s tab rows k (tailOf m state)
       main-sited e =
-          let n = ap length (tail-all (length consts) state) ∙ length-drop (length consts) state in
-          record { known = h .known; below = below; sized = n ∙ omega (arith, size, main-bytes); small = omega (arith, n, size, main-size, h .small) }
+          let n = ap length (tail-all m state) ∙ length-drop m state in
+          record { known = h .known; below = below; sized = n ∙ omega (arith, size, main-bytes); small = omega (arith, n, size, front, main-size, h .small) }
 
       -- a state of another length is bad
-      pub other-length : (length state ≡ length consts + z → ⊥) → (vs : List Value) → consts ≡ cells vs → false ≡ goodState f vs state
+      pub other-length : (length state ≡ m + z → ⊥) → (vs : List Value) → consts ≡ cells vs → false ≡ goodState f vs state
       unfolding goodState
-      other-length no-such vs e = sym (and-stop _ (and-stop _ (ne-eqb _ _ (λ q. no-such (q ∙ omega (arith, size, main-size))))))
+      other-length no-such vs e = sym (and-stop _ (and-stop _ (ne-eqb _ _ (λ q. no-such (q ∙ omega (arith, size, front, main-size))))))
 
       -- and so is one with other constants
-      pub other-constants : length state ≡ length consts + z → false ≡ same (take (length consts) state) consts → (vs : List Value) → consts ≡ cells vs → false ≡ goodState f vs state
+      pub other-constants : {cs : List ℕ} → cs ≡ consts → length state ≡ m + z → false ≡ same (take m state) cs → (vs : List Value) → consts ≡ cells vs → false ≡ goodState f vs state
       unfolding goodState
-      other-constants l b vs e =
-          let q : length state ≡ stateSize f = omega (arith, l, size, main-size) in
-          let c : same (take (headSize f) state) (cells vs) ≡ same (take (length consts) state) consts = ap₂ same (ap (λ m. take m state) (sym (h .head))) (sym e) in
+      other-constants {cs} lent l b vs e =
+          let q : length state ≡ stateSize f = omega (arith, l, size, front, main-size) in
+          let c : same (take (headSize f) state) (cells vs) ≡ same (take m state) cs = ap₂ same (ap (λ n. take n state) (sym (front ∙ h .head))) (sym (lent ∙ e)) in
           sym (and-stop _ (and-pass (eq-eqb _ _ q) ∙ c ∙ sym b))
 
       -- else the main record decides
-      pub main-decides : {b : Bool} → length state ≡ length consts + z → true ≡ same (take (length consts) state) consts → ((vs : List Value) → b ≡ goodOf f vs k (tailOf (length consts) state)) → (vs : List Value) → consts ≡ cells vs → b ≡ goodState f vs state
+      pub main-decides : {b : Bool} {cs : List ℕ} → cs ≡ consts → length state ≡ m + z → true ≡ same (take m state) cs → ((vs : List Value) → b ≡ goodOf f vs k (tailOf m state)) → (vs : List Value) → consts ≡ cells vs → b ≡ goodState f vs state
       unfolding goodState
-      main-decides l t good vs e =
-          let q : length state ≡ stateSize f = omega (arith, l, size, main-size) in
-          let c : same (take (headSize f) state) (cells vs) ≡ true = ap₂ same (ap (λ m. take m state) (sym (h .head))) (sym e) ∙ sym t in
-          let m = good-site f vs (h .known .lower) k (drop (headSize f) state) below ∙ ap (λ t. goodBy (globalsOf f vs) t (goodOf f vs) (nodeOf f k) (drop (headSize f) state)) operator in
-          good vs ∙ ap (goodOf f vs k) (tail-all (length consts) state ∙ ap (λ n. drop n state) (h .head)) ∙ m ∙ ap (λ n. goodRecord (globalsOf f vs) n (drop (headSize f) state)) (sym is-main)
+      main-decides lent l t good vs e =
+          let q : length state ≡ stateSize f = omega (arith, l, size, front, main-size) in
+          let c : same (take (headSize f) state) (cells vs) ≡ true = ap₂ same (ap (λ n. take n state) (sym (front ∙ h .head))) (sym (lent ∙ e)) ∙ sym t in
+          let r = good-site f vs (h .known .lower) k (drop (headSize f) state) below ∙ ap (λ t. goodBy (globalsOf f vs) t (goodOf f vs) (nodeOf f k) (drop (headSize f) state)) operator in
+          good vs ∙ ap (goodOf f vs k) (tail-all m state ∙ ap (λ n. drop n state) (front ∙ h .head)) ∙ r ∙ ap (λ n. goodRecord (globalsOf f vs) n (drop (headSize f) state)) (sym is-main)
           ∙ sym (and-pass (and-pass (eq-eqb _ _ q) ∙ c))

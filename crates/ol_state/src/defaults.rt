@@ -4,14 +4,14 @@ ghost use mathlib.Core.List.{_∷_, _++_};
 ghost use Prim.Native.Nat.{_+_, _*_, _≤_, _<_};
 ghost use lib.ListN.{length, drop};
 ghost use Rattle.ol_tables.specs.Tables.{rowAt};
+ghost use Rattle.ol_tables.specs.Table.{tabOf, rowsOf};
 ghost use Rattle.ol_state.specs.Defaults.{defaultCell, cellsAt};
 use ol_tables::bytes::byte;
-use ol_tables::bytes::entry;
-use ol_tables::tables::FIRSTS;
+use ol_tables::table::TYPES;
+use ol_tables::table::column;
+use ol_tables::table::first_variant;
 use ol_tables::tables::MOST_VARIABLES;
-use ol_tables::tables::TYPES;
 use ol_tables::tables::VARIABLES;
-use ol_tables::tables::row;
 use ol_value::cell::write_cell;
 use ol_value::types::default_value;
 
@@ -25,16 +25,16 @@ fn put_default(code: usize, first: usize, out: &mut [u8])
 }
 
 // The default cells of node k's variables.
-pub fn write_defaults(tab: &[u8], rows: &[usize], k: usize, out: &mut [u8])
-    requires { ⌜ (k ≤ 65535) × (9 * rowAt (now rows) k 4 ≤ length (now out)) ⌝ }
-    ensures { λ _. ⌜ now (out .exit) ≡ cellsAt (now (tab .entry)) (now (rows .entry)) k 0 (rowAt (now (rows .entry)) k 4) ++ drop (9 * rowAt (now (rows .entry)) k 4) (now (out .entry)) ⌝ }
+pub fn write_defaults(tab: &[u8], k: usize, out: &mut [u8])
+    requires { ⌜ (k ≤ 65535) × (9 * rowAt (rowsOf (now tab)) k 4 ≤ length (now out)) ⌝ }
+    ensures { λ _. ⌜ now (out .exit) ≡ cellsAt (tabOf (now (tab .entry))) (rowsOf (now (tab .entry))) k 0 (rowAt (rowsOf (now (tab .entry))) k 4) ++ drop (9 * rowAt (rowsOf (now (tab .entry))) k 4) (now (out .entry)) ⌝ }
 {
-    let n = row(rows, k, VARIABLES);
+    let n = column(tab, k, VARIABLES);
     let mut i: usize = 0;
     while i < n {
         let p = TYPES + (k * MOST_VARIABLES + i) * 2;
         let code = byte(tab, p);
-        let first = entry(rows, FIRSTS + byte(tab, p + 1));
+        let first = first_variant(tab, byte(tab, p + 1));
         let q = 9 * i;
         put_default(code, first, &mut out[q..]);
         i += 1;
@@ -42,10 +42,10 @@ pub fn write_defaults(tab: &[u8], rows: &[usize], k: usize, out: &mut [u8])
 }
 
 // The started byte 0 and the default cells of node k's variables.
-pub(crate) fn write_own(tab: &[u8], rows: &[usize], k: usize, out: &mut [u8])
-    requires { ⌜ (k ≤ 65535) × (1 + 9 * rowAt (now rows) k 4 ≤ length (now out)) ⌝ }
-    ensures { λ _. ⌜ now (out .exit) ≡ 0 ∷ cellsAt (now (tab .entry)) (now (rows .entry)) k 0 (rowAt (now (rows .entry)) k 4) ++ drop (1 + 9 * rowAt (now (rows .entry)) k 4) (now (out .entry)) ⌝ }
+pub(crate) fn write_own(tab: &[u8], k: usize, out: &mut [u8])
+    requires { ⌜ (k ≤ 65535) × (1 + 9 * rowAt (rowsOf (now tab)) k 4 ≤ length (now out)) ⌝ }
+    ensures { λ _. ⌜ now (out .exit) ≡ 0 ∷ cellsAt (tabOf (now (tab .entry))) (rowsOf (now (tab .entry))) k 0 (rowAt (rowsOf (now (tab .entry))) k 4) ++ drop (1 + 9 * rowAt (rowsOf (now (tab .entry))) k 4) (now (out .entry)) ⌝ }
 {
     out[0] = 0;
-    write_defaults(tab, rows, k, &mut out[1..]);
+    write_defaults(tab, k, &mut out[1..]);
 }

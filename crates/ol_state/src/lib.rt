@@ -7,6 +7,7 @@ ghost use Rattle.ol_spec.specs.Cell.{cells};
 ghost use Rattle.ol_spec.specs.State.{globalsOf, goodAt, goodState, goodInputs};
 ghost use Rattle.ol_tables.specs.At.{fileAt};
 ghost use Rattle.ol_tables.specs.Tables.{Variants};
+ghost use Rattle.ol_tables.specs.Table.{tabOf, rowsOf, constsOf};
 ghost use Rattle.ol_state.specs.Known.{Known, Sited};
 ghost use Rattle.ol_state.specs.Ready.{Ready};
 
@@ -22,35 +23,37 @@ use crate::sites::next_site;
 use cells::same_bytes;
 use inputs::judge_input;
 use ol_tables::bytes::byte;
+use ol_tables::table::CONSTANTS;
+use ol_tables::table::KNOWN;
+use ol_tables::table::TYPES;
+use ol_tables::table::column;
 use ol_tables::tables::COUNT;
 use ol_tables::tables::EQUATIONS;
 use ol_tables::tables::INPUTS;
 use ol_tables::tables::KIND;
 use ol_tables::tables::MOST_VARIABLES;
 use ol_tables::tables::SIZE;
-use ol_tables::tables::TYPES;
 use ol_tables::tables::VARIABLES;
-use ol_tables::tables::row;
 use own::good_own;
 
 // Whether the record of a call site of node k, which is all of `r`, is good: its own bytes, then the
 // records of its own call sites, to the last byte. Only an Operator's call site has one.
-fn good_record(file: &[u8], tab: &[u8], rows: &[usize], variants: &[u8], k: usize, r: &[u8]) -> bool
-    requires { ⌜ Sited (fileAt (now file)) (now file) (now tab) (now rows) k (now r) × Variants (fileAt (now file)) (now variants) ⌝ }
+fn good_record(file: &[u8], tab: &[u8], variants: &[u8], k: usize, r: &[u8]) -> bool
+    requires { ⌜ Sited (fileAt (now file)) (now file) (tabOf (now tab)) (rowsOf (now tab)) k (now r) × Variants (fileAt (now file)) (now variants) ⌝ }
     ensures { λ b. ⌜ ((vs : List Value) → b ≡ goodAt (globalsOf (fileAt (now (file .entry))) vs) (length (fileAt (now (file .entry)) .nodes)) k (now (r .entry))) ⌝ }
 {
-    if row(rows, k, KIND) == 1 {
-        if good_own(tab, rows, variants, k, r) {
-            let mut used = 1 + 9 * row(rows, k, VARIABLES);
-            let mut at = row(rows, k, EQUATIONS);
-            let mut eqs = row(rows, k, COUNT);
+    if column(tab, k, KIND) == 1 {
+        if good_own(tab, variants, k, r) {
+            let mut used = 1 + 9 * column(tab, k, VARIABLES);
+            let mut at = column(tab, k, EQUATIONS);
+            let mut eqs = column(tab, k, COUNT);
             let mut pending: usize = 0;
             while used < r.len() {
                 let s = next_site(file, at, eqs, pending);
                 if s.found {
                     let c = s.callee;
-                    let end = used + row(rows, c, SIZE);
-                    if good_record(file, tab, rows, variants, c, &r[used..end]) {
+                    let end = used + column(tab, c, SIZE);
+                    if good_record(file, tab, variants, c, &r[used..end]) {
                         used = end;
                         at = s.at;
                         eqs = s.eqs;
@@ -72,23 +75,16 @@ fn good_record(file: &[u8], tab: &[u8], rows: &[usize], variants: &[u8], k: usiz
 }
 
 // 15: whether an old state is well formed: its length, the constants' cells, then the main record.
-// `consts` has the constants' cells.
-pub fn good_state(
-    file: &[u8],
-    tab: &[u8],
-    rows: &[usize],
-    variants: &[u8],
-    consts: &[u8],
-    state: &[u8],
-) -> bool
-    requires { ⌜ Ready (fileAt (now file)) (now file) (now tab) (now rows) (now variants) (now consts) ⌝ }
-    ensures { λ b. ⌜ ((vs : List Value) → now (consts .entry) ≡ cells vs → b ≡ goodState (fileAt (now (file .entry))) vs (now (state .entry))) ⌝ }
+pub fn good_state(file: &[u8], tab: &[u8], variants: &[u8], state: &[u8]) -> bool
+    requires { ⌜ Ready (fileAt (now file)) (now file) (tabOf (now tab)) (rowsOf (now tab)) (now variants) (constsOf (now tab)) ⌝ }
+    ensures { λ b. ⌜ ((vs : List Value) → constsOf (now (tab .entry)) ≡ cells vs → b ≡ goodState (fileAt (now (file .entry))) vs (now (state .entry))) ⌝ }
 {
-    let k = main_node(file, rows);
-    let head = consts.len();
-    if state.len() == head + row(rows, k, SIZE) {
-        if same_bytes(&state[..head], consts) {
-            good_record(file, tab, rows, variants, k, &state[head..])
+    let k = main_node(file, tab);
+    let head = 9 * byte(tab, KNOWN);
+    let end = CONSTANTS + head;
+    if state.len() == head + column(tab, k, SIZE) {
+        if same_bytes(&state[..head], &tab[CONSTANTS..end]) {
+            good_record(file, tab, variants, k, &state[head..])
         } else {
             false
         }
@@ -99,12 +95,12 @@ pub fn good_state(
 
 // 16: whether inputs are a cell for each input of the main node, good, and of its type's kind, range
 // and enum.
-pub fn good_inputs(file: &[u8], tab: &[u8], rows: &[usize], variants: &[u8], inputs: &[u8]) -> bool
-    requires { ⌜ Known (fileAt (now file)) (now file) (now tab) (now rows) × Variants (fileAt (now file)) (now variants) ⌝ }
+pub fn good_inputs(file: &[u8], tab: &[u8], variants: &[u8], inputs: &[u8]) -> bool
+    requires { ⌜ Known (fileAt (now file)) (now file) (tabOf (now tab)) (rowsOf (now tab)) × Variants (fileAt (now file)) (now variants) ⌝ }
     ensures { λ b. ⌜ b ≡ goodInputs (fileAt (now (file .entry))) (now (inputs .entry)) ⌝ }
 {
-    let k = main_node(file, rows);
-    let n = row(rows, k, INPUTS);
+    let k = main_node(file, tab);
+    let n = column(tab, k, INPUTS);
     if inputs.len() == 9 * n {
         let mut i: usize = 0;
         while i < n {

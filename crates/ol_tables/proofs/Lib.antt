@@ -4,3 +4,4 @@ pub mod Skipping
 pub mod HeadsFile
 pub mod Forms
 pub mod Lending
+pub mod TableLaws

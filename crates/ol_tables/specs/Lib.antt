@@ -1,5 +1,6 @@
 pub mod At
 pub mod Tables
+pub mod Table
 pub mod Heads
 pub mod Walks
 pub mod Stands

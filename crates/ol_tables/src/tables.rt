@@ -1,5 +1,4 @@
-// The tables of a file. `rows` has a row of eight numbers for each of 32 nodes, then the first variant of each of 16 enums. `tab` has bytes: the evaluation
-// orders, 80 entries for each node; the types, two bytes for each of 112 variables of each node; and for each place of the file the slot of the name there.
+// The rows of a file: a row of eight numbers for each of 32 nodes, then the first variant of each of 16 enums.
 use super::bytes::entry;
 ghost use mathlib.Core.Path.{_≡_};
 ghost use Rattle.ol_tables.specs.Tables.{rowAt};
@@ -34,15 +33,6 @@ pub const MOST_VARIABLES: usize = 112;
 pub const MOST_EQUATIONS: usize = 80;
 
 pub const MOST_CELLS: usize = 1008;
-
-// Where the types and the slots start in `tab`, and its length for a small file and for any.
-pub const TYPES: usize = 2560;
-
-pub const SLOTS: usize = 9728;
-
-pub const SMALL_TAB: usize = 10752;
-
-pub const LARGE_TAB: usize = 42496;
 
 // Entry j of node k's row; 0 past the end.
 pub fn row(rows: &[usize], k: usize, j: usize) -> usize

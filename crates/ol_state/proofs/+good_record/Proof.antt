@@ -11,4 +11,4 @@ use Rattle.ol_state.proofs.+good_record.Proof.GoodRecord
 pub +good-record-spec : {M : Type 1} → statement M
 +good-record-spec = close μ-good-record λ t. good-record-lts.spec (GoodRecord.Q t) (good-record-at t) good-record.Post
     GoodRecord.Inv-loop
-    GoodRecord.μ-loop (GoodRecord.row-requires t) (GoodRecord.good-own-requires t) (GoodRecord.row-requires-2 t) (GoodRecord.mul-used t) (GoodRecord.add-used t) (GoodRecord.row-requires-3 t) (GoodRecord.row-requires-4 t) (GoodRecord.loop-holds t) (GoodRecord.next-site-requires t) (GoodRecord.row-requires-5 t) (GoodRecord.add-end t) (GoodRecord.sub-good-record t) (GoodRecord.part-good-record-start t) (GoodRecord.part-good-record-end t) (GoodRecord.good-record-requires t) (GoodRecord.loop-less t) (GoodRecord.loop-again t) (GoodRecord.returns t) (GoodRecord.returns-2 t) (GoodRecord.returns-3 t) (GoodRecord.returns-4 t) (GoodRecord.returns-5 t)
+    GoodRecord.μ-loop (GoodRecord.column-requires t) (GoodRecord.good-own-requires t) (GoodRecord.column-requires-2 t) (GoodRecord.mul-used t) (GoodRecord.add-used t) (GoodRecord.column-requires-3 t) (GoodRecord.column-requires-4 t) (GoodRecord.loop-holds t) (GoodRecord.next-site-requires t) (GoodRecord.column-requires-5 t) (GoodRecord.add-end t) (GoodRecord.sub-good-record t) (GoodRecord.part-good-record-start t) (GoodRecord.part-good-record-end t) (GoodRecord.good-record-requires t) (GoodRecord.loop-less t) (GoodRecord.loop-again t) (GoodRecord.returns t) (GoodRecord.returns-2 t) (GoodRecord.returns-3 t) (GoodRecord.returns-4 t) (GoodRecord.returns-5 t)

@@ -10,6 +10,7 @@ use Rattle.ol_tables.specs.Tables.{codeAt}
 use Rattle.ol_value.specs.Codes.{tyOf}
 use Rattle.ol_frame.specs.Stores.{passedBy}
 use Rattle.ol_frame.proofs.Storing.{kept-back}
+use Rattle.ol_tables.specs.Table.{tabOf}
 -- </uses>
 use borrow.Author.Needs.{needs}
 use Rattle.ol_frame.proofs.copies.passed.Statement.{statement}
@@ -44,13 +45,13 @@ kept-requires-3 c κs = search needs
 returns : tie.Need-returns
 returns c =
     let start = c .before .before .before .before .before .before in
-    (λ e. c .kept2 .ensures .0 ∙ c .before .fit-to .ensures e ∙ ap (λ (code : ℕ). fit (tyOf code e) (c .before .before .kept .result)) (c .before .before .before .code-of .ensures) ∙ ap (fit (tyOf (codeAt (start .args .tab .now) (start .args .k) (start .args .i)) e)) (c .before .before .kept .ensures .0) ∙ ap (λ (b : Bool). passedBy b (tyOf (codeAt (start .args .tab .now) (start .args .k) (start .args .i)) e) (start .args .v)) (sym (c .before .before .before .before .if1 .taken)), kept-back (c .kept2 .result) (c .before .fit-to .result) (c .kept2 .ensures .0) (c .kept2 .ensures .1))
+    (λ e. c .kept2 .ensures .0 ∙ c .before .fit-to .ensures e ∙ ap (λ (code : ℕ). fit (tyOf code e) (c .before .before .kept .result)) (c .before .before .before .code-of .ensures) ∙ ap (fit (tyOf (codeAt (tabOf (start .args .tab .now)) (start .args .k) (start .args .i)) e)) (c .before .before .kept .ensures .0) ∙ ap (λ (b : Bool). passedBy b (tyOf (codeAt (tabOf (start .args .tab .now)) (start .args .k) (start .args .i)) e) (start .args .v)) (sym (c .before .before .before .before .if1 .taken)), kept-back (c .kept2 .result) (c .before .fit-to .result) (c .kept2 .ensures .0) (c .kept2 .ensures .1))
 
 -- src/copies.rt:57:1
 returns-2 : tie.Need-returns-2
 returns-2 c =
     let start = c .before .before .before in
-    (λ e. c .kept3 .ensures .0 ∙ ap (λ (b : Bool). passedBy b (tyOf (codeAt (start .args .tab .now) (start .args .k) (start .args .i)) e) (start .args .v)) (sym (c .before .if1 .left)), kept-back (c .kept3 .result) (start .args .v) (c .kept3 .ensures .0) (c .kept3 .ensures .1))
+    (λ e. c .kept3 .ensures .0 ∙ ap (λ (b : Bool). passedBy b (tyOf (codeAt (tabOf (start .args .tab .now)) (start .args .k) (start .args .i)) e) (start .args .v)) (sym (c .before .if1 .left)), kept-back (c .kept3 .result) (start .args .v) (c .kept3 .ensures .0) (c .kept3 .ensures .1))
 
 pub passed-spec : {M : Type 1} → statement M
 passed-spec =

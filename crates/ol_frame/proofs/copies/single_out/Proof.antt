@@ -2,7 +2,6 @@
 use mathlib.Core.Path.{_≡_, refl, sym, ap, subst, _∙_}
 use Prim.Native.Nat.{ℕ, _+_, _-_, _*_, _≤_, _<_}
 use native.Mathlib.Omega.{arith}
-use lib.ListN.{drop}
 use Rattle.ol_frame.specs.Stores.{Leaves}
 use Rattle.ol_frame.proofs.Storing.{one-output, other-outputs, failed-call, overflowed-call}
 -- </uses>
@@ -17,17 +16,11 @@ use Rattle.ol_value.proofs.cell.read_cell.Reads as read-cell-reads
 enum-told : tie.Need-enum-told
 enum-told c = search needs
 
--- src/copies.rt:121:49
-mul-read-cell : tie.Need-mul-read-cell
-mul-read-cell c =
-    let start = c .before .before .before .before in
-    omega (arith, start .pre .0)
-
 -- src/copies.rt:121:32
 read-cell-requires : tie.Need-read-cell-requires
 read-cell-requires c κs =
     let start = c .before .before .before .before in
-    start .pre .1
+    start .pre
 
 -- src/copies.rt:126:27
 enum-told-2 : tie.Need-enum-told-2
@@ -41,28 +34,28 @@ enum-told-3 c = search needs
 returns : tie.Need-returns
 returns c =
     let start = c .before .before .before .before .before in
-    let cells = drop (9 * start .args .i) (start .args .cells .now) in
+    let cells = start .args .cells .now in
     λ os h. one-output os (start .args .end) (c .read-cell .result) cells (c .before .before .enum-told .given .1) (c .read-cell .ensures) (subst (λ (n : ℕ). Leaves os (start .args .end) n cells) (c .before .if1 .taken) h)
 
 -- src/copies.rt:114:1
 returns-2 : tie.Need-returns-2
 returns-2 c =
     let start = c .before .before .before .before in
-    let cells = drop (9 * start .args .i) (start .args .cells .now) in
+    let cells = start .args .cells .now in
     λ os h. other-outputs os (start .args .end) (start .args .outputs) cells (c .before .enum-told .given .1) (c .if1 .left) h
 
 -- src/copies.rt:114:1
 returns-3 : tie.Need-returns-3
 returns-3 c =
     let start = c .before .before .before in
-    let cells = drop (9 * start .args .i) (start .args .cells .now) in
+    let cells = start .args .cells .now in
     λ os h. failed-call os (start .args .end) (start .args .outputs) cells (c .enum-told2 .given .1) h
 
 -- src/copies.rt:114:1
 returns-4 : tie.Need-returns-4
 returns-4 c =
     let start = c .before .before .before in
-    let cells = drop (9 * start .args .i) (start .args .cells .now) in
+    let cells = start .args .cells .now in
     λ os h. overflowed-call os (start .args .end) (start .args .outputs) cells (c .enum-told3 .given .1) h
 
 pub single-out-spec : {M : Type 1} → statement M
@@ -70,7 +63,6 @@ single-out-spec =
     tie.close
     (tie.spec
     enum-told
-    mul-read-cell
     read-cell-requires
     enum-told-2
     enum-told-3

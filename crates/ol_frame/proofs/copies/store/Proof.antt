@@ -2,6 +2,7 @@
 use mathlib.Core.Path.{sym, ap, _∙_}
 use native.Mathlib.Omega.{arith}
 use Rattle.ol_frame.proofs.Storing.{stored, unstored, kept-back, slot-room}
+use Rattle.ol_tables.specs.Table.{tabOf}
 -- </uses>
 use borrow.Author.Needs.{needs}
 use Rattle.ol_frame.proofs.copies.store.Statement.{statement}
@@ -40,7 +41,7 @@ write-cell-requires c κs =
     let start = c .before .before .before .before .before .before .before .before in
     let s = c .before .before .before .before .before .slot-at .result in
     let is = c .before .before .before .before .before .slot-at .ensures in
-    let room = slot-room (start .args .tab .now) (start .args .k) (start .args .at) (start .args .cells .now) s (start .pre) is (c .before .before .before .before .if1 .taken) in
+    let room = slot-room (tabOf (start .args .tab .now)) (start .args .k) (start .args .at) (start .args .cells .now) s (start .pre) is (c .before .before .before .before .if1 .taken) in
     room
 
 -- src/copies.rt:70:1
@@ -53,8 +54,8 @@ returns c =
     let start = c .before .before .before .before .before .before .before .before .before .before .before in
     let s = c .before .before .before .before .before .before .before .before .slot-at .result in
     let is = c .before .before .before .before .before .before .before .before .slot-at .ensures in
-    let room = slot-room (start .args .tab .now) (start .args .k) (start .args .at) (start .args .cells .now) s (start .pre) is (c .before .before .before .before .before .before .before .if1 .taken) in
-    stored (start .args .tab .now) (start .args .k) (start .args .at) s (c .before .before .before .before .before .before .code-of .result) (start .args .v) (c .before .before .before .before .kept .result) (start .args .cells .now) _ is (c .before .before .before .before .before .before .code-of .ensures) (c .before .before .before .before .before .before .before .if1 .taken) room (λ e. c .before .before .before .before .kept .ensures .0 ∙ c .before .before .before .before .before .fit-to .ensures e) (kept-back (c .before .before .before .before .kept .result) (c .before .before .before .before .before .fit-to .result) (c .before .before .before .before .kept .ensures .0) (c .before .before .before .before .kept .ensures .1)) (c .before .before .write-cell .ensures)
+    let room = slot-room (tabOf (start .args .tab .now)) (start .args .k) (start .args .at) (start .args .cells .now) s (start .pre) is (c .before .before .before .before .before .before .before .if1 .taken) in
+    stored (tabOf (start .args .tab .now)) (start .args .k) (start .args .at) s (c .before .before .before .before .before .before .code-of .result) (start .args .v) (c .before .before .before .before .kept .result) (start .args .cells .now) _ is (c .before .before .before .before .before .before .code-of .ensures) (c .before .before .before .before .before .before .before .if1 .taken) room (λ e. c .before .before .before .before .kept .ensures .0 ∙ c .before .before .before .before .before .fit-to .ensures e) (kept-back (c .before .before .before .before .kept .result) (c .before .before .before .before .before .fit-to .result) (c .before .before .before .before .kept .ensures .0) (c .before .before .before .before .kept .ensures .1)) (c .before .before .write-cell .ensures)
 
 -- src/copies.rt:70:1
 returns-2 : tie.Need-returns-2
@@ -62,7 +63,7 @@ returns-2 c =
     let start = c .before .before .before .before in
     let s = c .before .slot-at .result in
     let is = c .before .slot-at .ensures in
-    unstored (start .args .tab .now) (start .args .k) (start .args .at) s (start .args .v) (start .args .cells .now) is (λ l. omega (arith, c .if1 .left))
+    unstored (tabOf (start .args .tab .now)) (start .args .k) (start .args .at) s (start .args .v) (start .args .cells .now) is (λ l. omega (arith, c .if1 .left))
 
 pub store-spec : {M : Type 1} → statement M
 store-spec =

@@ -5,6 +5,7 @@ use Rattle.ol_spec.specs.declared.Outcome.the-variants as Out
 use Rattle.ol_spec.specs.declared.Outcome.{Outcome}
 use Rattle.ol_frame.specs.Outcomes.{endingOf}
 use Rattle.ol_frame.proofs.Storing.{out-stored, out-none, no-failure, no-overflow}
+use Rattle.ol_tables.specs.Table.{tabOf}
 -- </uses>
 use borrow.Author.Needs.{needs}
 use Rattle.ol_frame.proofs.copies.store_out.Statement.{statement}
@@ -42,19 +43,19 @@ same-length c = search needs
 returns : tie.Need-returns
 returns c =
     let start = c .before .before .before .before .before .before .before .before .before .before in
-    (ap (λ (o : Outcome). endingOf (several o)) (sym (c .before .before .before .before .before .before .o .given .1)), out-stored (start .args .tab .now) (start .args .k) (start .args .at) (start .args .o) (c .before .before .before .before .kept .result) (start .args .cells .now) _ (c .before .before .before .before .before .before .o .given .1 ∙ ap Out.Value (sym (c .before .before .before .before .kept .ensures .0))) (c .before .before .store .ensures))
+    (ap (λ (o : Outcome). endingOf (several o)) (sym (c .before .before .before .before .before .before .o .given .1)), out-stored (tabOf (start .args .tab .now)) (start .args .k) (start .args .at) (start .args .o) (c .before .before .before .before .kept .result) (start .args .cells .now) _ (c .before .before .before .before .before .before .o .given .1 ∙ ap Out.Value (sym (c .before .before .before .before .kept .ensures .0))) (c .before .before .store .ensures))
 
 -- src/copies.rt:83:1
 returns-2 : tie.Need-returns-2
 returns-2 c =
     let start = c .before .before .before .before in
-    (ap (λ (o : Outcome). endingOf (several o)) (sym (c .enum-told .given .1)), out-none (start .args .tab .now) (start .args .k) (start .args .at) (start .args .o) (start .args .cells .now) _ (λ vs w. no-failure vs (sym (ap several (c .enum-told .given .1)) ∙ w)))
+    (ap (λ (o : Outcome). endingOf (several o)) (sym (c .enum-told .given .1)), out-none (tabOf (start .args .tab .now)) (start .args .k) (start .args .at) (start .args .o) (start .args .cells .now) _ (λ vs w. no-failure vs (sym (ap several (c .enum-told .given .1)) ∙ w)))
 
 -- src/copies.rt:83:1
 returns-3 : tie.Need-returns-3
 returns-3 c =
     let start = c .before .before .before .before in
-    (ap (λ (o : Outcome). endingOf (several o)) (sym (c .enum-told2 .given .1)), out-none (start .args .tab .now) (start .args .k) (start .args .at) (start .args .o) (start .args .cells .now) _ (λ vs w. no-overflow vs (sym (ap several (c .enum-told2 .given .1)) ∙ w)))
+    (ap (λ (o : Outcome). endingOf (several o)) (sym (c .enum-told2 .given .1)), out-none (tabOf (start .args .tab .now)) (start .args .k) (start .args .at) (start .args .o) (start .args .cells .now) _ (λ vs w. no-overflow vs (sym (ap several (c .enum-told2 .given .1)) ∙ w)))
 
 pub store-out-spec : {M : Type 1} → statement M
 store-out-spec =

@@ -26,14 +26,14 @@ row-requires : tie.Need-row-requires Inv-loop μ-loop
 row-requires c κs =
     let start = c .before .before .before .before in
     let p = start .pre .0 in
-    (p .sized .table .long, omega (arith, p .inside, p .sized .few), omega arith)
+    (start .pre .4, omega (arith, p .inside, p .sized .few), omega arith)
 
 -- src/equations.rt:15:9
 row-requires-2 : tie.Need-row-requires-2 Inv-loop μ-loop
 row-requires-2 c κs =
     let start = c .before .before .before .before .before in
     let p = start .pre .0 in
-    (p .sized .table .long, omega (arith, p .inside, p .sized .few), omega arith)
+    (start .pre .4, omega (arith, p .inside, p .sized .few), omega arith)
 
 -- src/equations.rt:18:5
 slice-write-offsets : tie.Need-slice-write-offsets Inv-loop μ-loop
@@ -125,7 +125,7 @@ right-side-requires c κs =
     let lt = c .before .before .loop-test .taken in
     let here = f .here (omega (arith, lt, n)) in
     let at = right-is p (c .before .before .before .loop .i) (c .before .before .before .loop .at) (c .number .result) (omega (arith, lt, n)) here (c .number .ensures .0) in
-    (right-passable p (c .before .before .before .loop .i) _ (omega (arith, lt, n)) at, right-bare p (c .before .before .before .loop .i) _ (start .args .total) _ (omega (arith, lt, n)) at (start .pre .1) (λ b. eqb→eq (start .args .total) 0 (subst T (sym b) tt)))
+    (right-passable p (c .before .before .before .loop .i) _ (omega (arith, lt, n)) at, right-bare p (c .before .before .before .loop .i) _ (start .args .total) _ (omega (arith, lt, n)) at (start .pre .1) (λ b. eqb→eq (start .args .total) 0 (subst T (sym b) tt)), start .pre .4)
 
 -- src/equations.rt:24:9
 add-used : tie.Need-add-used Inv-loop μ-loop

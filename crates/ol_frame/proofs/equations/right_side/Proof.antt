@@ -19,7 +19,7 @@ pass-requires : tie.Need-pass-requires
 pass-requires c κs =
     let start = c .before .before .before in
     let p = start .pre .0 in
-    p
+    (p, start .pre .2)
 
 -- src/equations.rt:21:1
 returns : tie.Need-returns

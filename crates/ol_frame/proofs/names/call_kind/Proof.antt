@@ -1,6 +1,7 @@
 -- <uses>
 use mathlib.Core.Path.{_≡_, refl, sym, ap, subst, _∙_}
 use native.Mathlib.Omega.{arith}
+use Rattle.ol_frame.proofs.Tabling.{rows-room}
 use Rattle.ol_frame.specs.Outcomes.{kindOf}
 use Rattle.ol_frame.proofs.RealKinds.{call-kind, input-below}
 -- </uses>
@@ -16,14 +17,14 @@ use Rattle.ol_frame.proofs.tables.row.Reads as row-reads
 -- src/names.rt:125:9
 row-requires : tie.Need-row-requires
 row-requires c κs =
-    let start = c .before .before .before in
+    let start = c .before .before in
     let p = start .pre .0 in
-    (p .sized .table .long, omega (arith, start .pre .1, p .sized .few), omega arith)
+    (rows-room (start .args .tab .now) _ (p .table .long), omega (arith, start .pre .1, p .sized .few), omega arith)
 
 -- src/names.rt:126:9
 code-of-requires : tie.Need-code-of-requires
 code-of-requires c κs =
-    let start = c .before .before .before .before in
+    let start = c .before .before .before in
     let p = start .pre .0 in
     (omega (arith, p .table .long), omega (arith, start .pre .1, p .sized .few), input-below (start .args .k) (c .row .result) p (start .pre .1) (c .row .ensures))
 
@@ -34,7 +35,7 @@ kind-of-type-requires c κs = search needs
 -- src/names.rt:121:1
 returns : tie.Need-returns
 returns c =
-    let start = c .before .before .before .before .before .before in
+    let start = c .before .before .before .before .before in
     let p = start .pre .0 in
     call-kind (start .args .k) (kindOf (c .kind-of-type .result)) (c .before .code-of .result) (c .before .before .row .result) p (start .pre .1) (c .before .before .row .ensures) (c .before .code-of .ensures) (c .kind-of-type .ensures)
 

@@ -17,7 +17,7 @@ shared-slice-read-if1 c =
     let start = c .before .before .before in
     let f = start .args .file .now in
     let a = start .args .at in
-    let p = start .pre in
+    let p = start .pre .0 in
     reads-in f (start .args .level) a (parted f (start .args .level) 0 a (p .reads) .head)
 
 -- src/skip.rt:47:13
@@ -33,7 +33,7 @@ returns : tie.Need-returns
 returns c =
     let start = c .before .before .before .before .before in
     let f = start .args .file .now in
-    let p = start .pre in
+    let p = start .pre .0 in
     head-passed f p (omega (arith, c .before .if1 .taken)) (c .head .ensures)
 
 -- src/skip.rt:42:1

@@ -26,7 +26,7 @@ loop-holds : tie.Need-loop-holds Inv-loop μ-loop
 loop-holds c =
     let start = c .before .before in
     let f = start .args .file .now in
-    let p = start .pre in
+    let p = start .pre .0 in
     rest-start f p
 
 -- src/skip.rt:24:13
@@ -38,16 +38,16 @@ row-requires : tie.Need-row-requires Inv-loop μ-loop
 row-requires c κs =
     let start = c .before .before .before .before .before in
     let f = start .args .file .now in
-    let p = start .pre in
+    let p = start .pre .0 in
     let m = subst (λ b. Calls b f (c .before .before .loop .left) (c .before .before .loop .next) (c .before .next-call .result)) (c .if1 .taken) (c .before .next-call .ensures) in
-    (p .sized .table .long, omega (arith, met-below f (c .before .before .loop .inv) m, p .sized .few), omega arith)
+    (start .pre .1, omega (arith, met-below f (c .before .before .loop .inv) m, p .sized .few), omega arith)
 
 -- src/skip.rt:26:13
 add-used : tie.Need-add-used Inv-loop μ-loop
 add-used c =
     let start = c .before .before .before .before .before .before in
     let f = start .args .file .now in
-    let p = start .pre in
+    let p = start .pre .0 in
     let m = subst (λ b. Calls b f (c .before .before .before .loop .left) (c .before .before .before .loop .next) (c .before .before .next-call .result)) (c .before .if1 .taken) (c .before .before .next-call .ensures) in
     omega (arith, met-room f (c .before .before .before .loop .inv) m (p .sized) (p .room), c .row .ensures)
 
@@ -64,7 +64,7 @@ loop-again : tie.Need-loop-again Inv-loop μ-loop
 loop-again c =
     let start = c .before .before .before .before .before .before in
     let f = start .args .file .now in
-    let p = start .pre in
+    let p = start .pre .0 in
     let m = subst (λ b. Calls b f (c .before .before .before .loop .left) (c .before .before .before .loop .next) (c .before .before .next-call .result)) (c .before .if1 .taken) (c .before .before .next-call .ensures) in
     met-on f (c .before .before .before .loop .inv) m (p .sized) (p .room) (c .row .ensures)
 

@@ -1,169 +1,221 @@
 -- <uses>
 use borrow.Author.Needs.{needs}
 use mathlib.Core.Path.{_≡_, refl, sym, ap, subst, _∙_}
+use mathlib.Core.Bool.{true}
 use Prim.Native.Nat.{ℕ, _+_, _-_, _*_, _≤_, _<_}
 use native.Mathlib.Omega.{arith}
-use lib.Seq.{length-take-le}
+use lib.ListN.{length, set, length-set, replicate}
+use Rattle.ol_tables.specs.At.{endAt}
 use Rattle.ol_frame.specs.Outcomes.{doneOf}
-use Rattle.ol_run.proofs.Constant.{Going, going-start, going-ready, going-stuck, going-turn, going-done}
+use Rattle.ol_run.specs.Constants.{valueAt}
+use Rattle.ol_frame.specs.Frame.{headed, nodeOf, firstOf}
+use Rattle.ol_frame.proofs.Framing.{Holding, holds-head}
+use Rattle.ol_run.proofs.Constant.{Going, known-is, same-onward, cleared-same, cleared-ready, going-start, going-ready, going-written, going-stuck, going-turn, going-done}
 -- </uses>
 use Rattle.ol_run.proofs.constants.constant_values.Statement.{statement}
 use Rattle.ol_run.proofs.constants.constant_values.Tie as tie
 use Rattle.ol_run.proofs.constants.constant_values.Reads as reads
 use Rattle.ol_run.proofs.constants.constant_values.Lts as lts
+use Rattle.ol_frame.proofs.frame.set_frame.Reads as set-frame-reads
+use Rattle.ol_frame.proofs.outcomes.kept.Reads as kept-reads
 use Rattle.ol_run.proofs.constants.constant_end.Reads as constant-end-reads
 use Rattle.ol_run.proofs.constants.constant_value.Reads as constant-value-reads
-use Rattle.ol_frame.proofs.outcomes.kept.Reads as kept-reads
 use Rattle.ol_value.proofs.cell.write_cell.Reads as write-cell-reads
 
 abbrev Inv-loop : tie.InvT-loop
-Inv-loop file tab rows nodes at count consts₀ pos₀ i₀ consts pos i = (i ≤ count) × Going file consts count pos i
+Inv-loop file tab₀ nodes at count frame pos₀ i₀ tab pos i = (i ≤ count) × Going file tab₀ tab count pos i
 
 abbrev μ-loop : tie.MeasureT-loop
-μ-loop file tab rows nodes at count consts₀ pos₀ i₀ consts pos i = count - i
+μ-loop file tab₀ nodes at count frame pos₀ i₀ tab pos i = count - i
 
--- src/constants.rt:99:5
+-- src/constants.rt:77:5
+slice-write-tab : tie.Need-slice-write-tab Inv-loop μ-loop
+slice-write-tab c =
+    let start = c .before .before in
+    let p = start .pre in
+    omega (arith, p .long)
+
+-- src/constants.rt:79:15
+slice-aggregate-set-frame : tie.Need-slice-aggregate-set-frame Inv-loop μ-loop
+slice-aggregate-set-frame c = search needs
+
+-- src/constants.rt:79:5
+set-frame-requires : tie.Need-set-frame-requires Inv-loop μ-loop
+set-frame-requires c κs =
+    let start = c .before .before .before in
+    let p = start .pre in
+    (refl, p .nodes-few)
+
+-- src/constants.rt:82:5
 loop-holds : tie.Need-loop-holds Inv-loop μ-loop
 loop-holds c =
-    let start = c .before .before .before .before in
+    let start = c .before .before .before .before .before in
     let p = start .pre in
     (omega arith, going-start p)
 
--- src/constants.rt:100:17
+-- src/constants.rt:83:17
 mul-n : tie.Need-mul-n Inv-loop μ-loop
 mul-n c =
-    let start = c .before .before .before .before .before .before in
+    let start = c .before .before .before .before .before .before .before in
     let p = start .pre in
     let lt = c .loop-test .taken in
     omega (arith, lt, p .few)
 
--- src/constants.rt:101:49
-slice-reshare-prefix-constant-value : tie.Need-slice-reshare-prefix-constant-value Inv-loop μ-loop
-slice-reshare-prefix-constant-value c =
-    let g = c .before .loop .inv .1 in
-    let lt = c .loop-test .taken in
-    omega (arith, lt, g .long)
-
--- src/constants.rt:101:49
-slice-aggregate-constant-value : tie.Need-slice-aggregate-constant-value Inv-loop μ-loop
-slice-aggregate-constant-value c =
-    let g = c .before .before .loop .inv .1 in
-    let lt = c .before .loop-test .taken in
-    sym (length-take-le (9 * c .before .before .loop .i) (c .before .before .loop .consts) (omega (arith, lt, g .long)))
-
--- src/constants.rt:101:13
+-- src/constants.rt:84:13
 constant-value-requires : tie.Need-constant-value-requires Inv-loop μ-loop
 constant-value-requires c κs =
-    let start = c .before .before .before .before .before .before .before in
+    let start = c .before .before .before .before .before .before .before .before .before in
     let p = start .pre in
-    let g = c .before .before .loop .inv .1 in
-    let lt = c .before .loop-test .taken in
-    going-ready (c .before .before .loop .consts) p g lt
+    let q = cleared-ready p in
+    let g = c .before .before .before .loop .inv .1 in
+    let lt = c .before .before .loop-test .taken in
+    let head = holds-head (replicate 2018 0) (start .args .nodes) true refl in
+    let fe = c .before .before .before .before .before .set-frame .ensures in
+    ((ap length fe ∙ head .framed, ap (λ l. nodeOf l) fe ∙ head .node ∙ p .nodes-is, ap (λ l. firstOf l) fe ∙ head .first-is), going-ready q (c .before .before .before .loop .tab) g lt)
 
--- src/constants.rt:103:28
+-- src/constants.rt:86:28
 enum-known-o : tie.Need-enum-known-o Inv-loop μ-loop
 enum-known-o c = search needs
 
--- src/constants.rt:104:21
+-- src/constants.rt:87:21
 kept-requires : tie.Need-kept-requires Inv-loop μ-loop
 kept-requires c κs = tt
 
--- src/constants.rt:105:17
+-- src/constants.rt:88:36
+add-write-cell : tie.Need-add-write-cell Inv-loop μ-loop
+add-write-cell c =
+    let start = c .before .before .before .before .before .before .before .before .before .before .before .before .before .before .before in
+    let p = start .pre in
+    let lt = c .before .before .before .before .before .before .before .before .loop-test .taken in
+    omega (arith, lt, p .few)
+
+-- src/constants.rt:88:17
 write-cell-requires : tie.Need-write-cell-requires Inv-loop μ-loop
 write-cell-requires c κs =
-    let g = c .before .before .before .before .before .before .before .before .loop .inv .1 in
-    let lt = c .before .before .before .before .before .before .before .loop-test .taken in
-    omega (arith, lt, g .long)
+    let start = c .before .before .before .before .before .before .before .before .before .before .before .before .before .before .before in
+    let p = start .pre in
+    let g = c .before .before .before .before .before .before .before .before .before .loop .inv .1 in
+    let lt = c .before .before .before .before .before .before .before .before .loop-test .taken in
+    let long = g .long ∙ length-set (start .args .tab .now) 816 0 in
+    omega (arith, lt, p .few, p .long, long)
 
--- src/constants.rt:108:17
+-- src/constants.rt:91:17
 enum-told : tie.Need-enum-told Inv-loop μ-loop
 enum-told c = search needs
 
--- src/constants.rt:108:17
+-- src/constants.rt:91:17
 same-length : tie.Need-same-length Inv-loop μ-loop
 same-length c =
-    let start = c .before .before .before .before .before .before .before .before .before .before in
-    let p = start .pre in
-    let g = c .before .before .before .before .before .loop .inv .1 in
-    g .long ∙ sym (p .long)
+    let start = c .before .before .before .before .before .before .before .before .before .before .before .before in
+    let g = c .before .before .before .before .before .before .loop .inv .1 in
+    let long = g .long ∙ length-set (start .args .tab .now) 816 0 in
+    long
 
--- src/constants.rt:108:17
+-- src/constants.rt:91:17
 returns : tie.Need-returns Inv-loop μ-loop
 returns c =
-    let start = c .before .before .before .before .before .before .before .before .before .before in
+    let start = c .before .before .before .before .before .before .before .before .before .before .before .before in
     let p = start .pre in
-    let g = c .before .before .before .before .before .loop .inv .1 in
-    let lt = c .before .before .before .before .loop-test .taken in
-    going-stuck p g lt (c .before .before .constant-value .ensures) (ap doneOf (c .enum-told .given .1)) (c .before .before .before .before .before .loop .consts)
+    let q = cleared-ready p in
+    let g = c .before .before .before .before .before .before .loop .inv .1 in
+    let lt = c .before .before .before .before .before .loop-test .taken in
+    (going-stuck q g lt (c .before .before .constant-value .ensures) (ap doneOf (c .enum-told .given .1)) _, same-onward (cleared-same p) (g .same))
 
--- src/constants.rt:111:17
+-- src/constants.rt:94:17
 enum-told-2 : tie.Need-enum-told-2 Inv-loop μ-loop
 enum-told-2 c = search needs
 
--- src/constants.rt:111:17
+-- src/constants.rt:94:17
 same-length-2 : tie.Need-same-length-2 Inv-loop μ-loop
 same-length-2 c =
-    let start = c .before .before .before .before .before .before .before .before .before .before in
-    let p = start .pre in
-    let g = c .before .before .before .before .before .loop .inv .1 in
-    g .long ∙ sym (p .long)
+    let start = c .before .before .before .before .before .before .before .before .before .before .before .before in
+    let g = c .before .before .before .before .before .before .loop .inv .1 in
+    let long = g .long ∙ length-set (start .args .tab .now) 816 0 in
+    long
 
--- src/constants.rt:111:17
+-- src/constants.rt:94:17
 returns-2 : tie.Need-returns-2 Inv-loop μ-loop
 returns-2 c =
-    let start = c .before .before .before .before .before .before .before .before .before .before in
+    let start = c .before .before .before .before .before .before .before .before .before .before .before .before in
     let p = start .pre in
-    let g = c .before .before .before .before .before .loop .inv .1 in
-    let lt = c .before .before .before .before .loop-test .taken in
-    going-stuck p g lt (c .before .before .constant-value .ensures) (ap doneOf (c .enum-told2 .given .1)) (c .before .before .before .before .before .loop .consts)
+    let q = cleared-ready p in
+    let g = c .before .before .before .before .before .before .loop .inv .1 in
+    let lt = c .before .before .before .before .before .loop-test .taken in
+    (going-stuck q g lt (c .before .before .constant-value .ensures) (ap doneOf (c .enum-told2 .given .1)) _, same-onward (cleared-same p) (g .same))
 
--- src/constants.rt:114:9
+-- src/constants.rt:97:9
 constant-end-requires : tie.Need-constant-end-requires Inv-loop μ-loop
 constant-end-requires c κs =
-    let start = c .before .before .before .before .before .before .before .before .before .before .before .before .before .before .before .before in
+    let start = c .before .before .before .before .before .before .before .before .before .before .before .before .before .before .before .before .before .before .before in
     let p = start .pre in
-    let g = c .before .before .before .before .before .before .before .before .before .before .before .loop .inv .1 in
-    let lt = c .before .before .before .before .before .before .before .before .before .before .loop-test .taken in
-    (p .each (c .before .before .before .before .before .before .before .before .before .before .before .loop .i) (omega (arith, lt, p .counted)), g .place lt)
+    let q = cleared-ready p in
+    let g = c .before .before .before .before .before .before .before .before .before .before .before .before .before .loop .inv .1 in
+    let lt = c .before .before .before .before .before .before .before .before .before .before .before .before .loop-test .taken in
+    let w = going-written q (c .before .before .before .before .before .kept .result) (c .before .before .before .write-cell .ensures) g lt in
+    going-ready q (c .before .before .before .write-cell .last .1 .0) w lt
 
--- src/constants.rt:115:9
+-- src/constants.rt:98:9
 add-i : tie.Need-add-i Inv-loop μ-loop
 add-i c =
-    let start = c .before .before .before .before .before .before .before .before .before .before .before .before .before .before .before .before .before in
+    let start = c .before .before .before .before .before .before .before .before .before .before .before .before .before .before .before .before .before .before .before .before in
     let p = start .pre in
-    let lt = c .before .before .before .before .before .before .before .before .before .before .before .loop-test .taken in
+    let lt = c .before .before .before .before .before .before .before .before .before .before .before .before .before .loop-test .taken in
     omega (arith, lt, p .few)
 
--- src/constants.rt:99:5
+-- src/constants.rt:99:22
+cast-tab : tie.Need-cast-tab Inv-loop μ-loop
+cast-tab c =
+    let start = c .before .before .before .before .before .before .before .before .before .before .before .before .before .before .before .before .before .before .before .before in
+    let p = start .pre in
+    let lt = c .before .before .before .before .before .before .before .before .before .before .before .before .before .loop-test .taken in
+    omega (arith, lt, p .few)
+
+-- src/constants.rt:99:9
+slice-write-tab-2 : tie.Need-slice-write-tab-2 Inv-loop μ-loop
+slice-write-tab-2 c =
+    let start = c .before .before .before .before .before .before .before .before .before .before .before .before .before .before .before .before .before .before .before .before in
+    let p = start .pre in
+    let q = cleared-ready p in
+    let g = c .before .before .before .before .before .before .before .before .before .before .before .before .before .before .loop .inv .1 in
+    let lt = c .before .before .before .before .before .before .before .before .before .before .before .before .before .loop-test .taken in
+    let w = going-written q (c .before .before .before .before .before .before .kept .result) (c .before .before .before .before .write-cell .ensures) g lt in
+    omega (arith, p .long, w .long, length-set (start .args .tab .now) 816 0)
+
+-- src/constants.rt:82:5
 loop-less : tie.Need-loop-less Inv-loop μ-loop
 loop-less c =
-    let start = c .before .before .before .before .before .before .before .before .before .before .before .before .before .before .before .before .before in
+    let start = c .before .before .before .before .before .before .before .before .before .before .before .before .before .before .before .before .before .before .before .before in
     let p = start .pre in
-    let lt = c .before .before .before .before .before .before .before .before .before .before .before .loop-test .taken in
+    let lt = c .before .before .before .before .before .before .before .before .before .before .before .before .before .loop-test .taken in
     omega (arith, lt, p .few)
 
--- src/constants.rt:99:5
+-- src/constants.rt:82:5
 loop-again : tie.Need-loop-again Inv-loop μ-loop
 loop-again c =
-    let start = c .before .before .before .before .before .before .before .before .before .before .before .before .before .before .before .before .before in
+    let start = c .before .before .before .before .before .before .before .before .before .before .before .before .before .before .before .before .before .before .before .before in
     let p = start .pre in
-    let g = c .before .before .before .before .before .before .before .before .before .before .before .before .loop .inv .1 in
-    let lt = c .before .before .before .before .before .before .before .before .before .before .before .loop-test .taken in
-    (omega (arith, lt), going-turn p g lt (c .before .before .before .before .before .before .before .before .before .constant-value .ensures) (c .before .before .before .before .before .before .before .o .given .1) (c .before .before .before .before .before .kept .ensures .0) (c .before .before .before .before .before .kept .ensures .1) (c .before .before .before .write-cell .ensures) (c .constant-end .ensures))
+    let q = cleared-ready p in
+    let g = c .before .before .before .before .before .before .before .before .before .before .before .before .before .before .loop .inv .1 in
+    let lt = c .before .before .before .before .before .before .before .before .before .before .before .before .before .loop-test .taken in
+    let w = going-written q (c .before .before .before .before .before .before .kept .result) (c .before .before .before .before .write-cell .ensures) g lt in
+    (omega (arith, lt), going-turn q g lt (c .before .before .before .before .before .before .before .before .before .before .constant-value .ensures) (c .before .before .before .before .before .before .before .before .o .given .1) (c .before .before .before .before .before .before .kept .ensures .0) (c .before .before .before .before .before .before .kept .ensures .1) (c .before .before .before .before .write-cell .ensures) (c .constant-end .ensures ∙ ap (λ (k : ℕ). endAt (start .args .file .now) 24 (valueAt (start .args .file .now) k)) (known-is w)))
 
--- src/constants.rt:85:1
+-- src/constants.rt:73:1
 same-length-3 : tie.Need-same-length-3 Inv-loop μ-loop
 same-length-3 c =
-    let start = c .before .before .before .before .before .before in
-    let p = start .pre in
-    c .before .loop .inv .1 .long ∙ sym (p .long)
+    let start = c .before .before .before .before .before .before .before in
+    let g = c .before .loop .inv .1 in
+    let long = g .long ∙ length-set (start .args .tab .now) 816 0 in
+    long
 
--- src/constants.rt:85:1
+-- src/constants.rt:73:1
 returns-3 : tie.Need-returns-3 Inv-loop μ-loop
 returns-3 c =
-    let start = c .before .before .before .before .before .before in
+    let start = c .before .before .before .before .before .before .before in
     let p = start .pre in
-    going-done p (c .before .loop .inv .1) (omega (arith, c .before .loop .inv .0, c .loop-test .left))
+    let q = cleared-ready p in
+    let g = c .before .loop .inv .1 in
+    (going-done q g (omega (arith, c .before .loop .inv .0, c .loop-test .left)), same-onward (cleared-same p) (g .same))
 
 pub constant-values-spec : {M : Type 1} → statement M
 constant-values-spec =
@@ -171,13 +223,15 @@ constant-values-spec =
     (tie.spec
     Inv-loop
     μ-loop
+    slice-write-tab
+    slice-aggregate-set-frame
+    set-frame-requires
     loop-holds
     mul-n
-    slice-reshare-prefix-constant-value
-    slice-aggregate-constant-value
     constant-value-requires
     enum-known-o
     kept-requires
+    add-write-cell
     write-cell-requires
     enum-told
     same-length
@@ -187,6 +241,8 @@ constant-values-spec =
     returns-2
     constant-end-requires
     add-i
+    cast-tab
+    slice-write-tab-2
     loop-less
     loop-again
     same-length-3

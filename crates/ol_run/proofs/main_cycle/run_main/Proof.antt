@@ -1,264 +1,381 @@
 -- <uses>
-use Rattle.ol_frame.proofs.NodeRows.{row-room}
 use borrow.Author.Needs.{needs}
 use mathlib.Core.Path.{refl, sym, _∙_}
 use native.Mathlib.Omega.{arith}
+use Prim.Native.Nat.{_*_}
 use lib.ListN.{length}
+use Rattle.ol_frame.specs.Frame.{cellsOf}
 use Rattle.ol_tables.proofs.Lending.{putTail}
+use Rattle.ol_state.proofs.Parts.{known-room, known-head}
+use Rattle.ol_state.proofs.Instances.{few-nodes}
 use Rattle.ol_frame.proofs.Copying.{all-copied}
+use Rattle.ol_frame.proofs.Tabling.{rows-room}
 use Rattle.ol_run.proofs.MainCycle.{head-room, copied-room, main-ready, moved-length, moved-room, finish-ready, values-ready, ended-length, cycle-finished, cycle-failed, cycle-overflowed}
 -- </uses>
+use borrow.Author.Needs.{needs}
 use Rattle.ol_run.proofs.main_cycle.run_main.Statement.{statement}
 use Rattle.ol_run.proofs.main_cycle.run_main.Tie as tie
 use Rattle.ol_run.proofs.main_cycle.run_main.Reads as reads
 use Rattle.ol_run.proofs.main_cycle.run_main.Lts as lts
 use Rattle.ol_frame.proofs.copies.copy.Reads as copy-reads
 use Rattle.ol_frame.proofs.copies.write_cells.Reads as write-cells-reads
-use Rattle.ol_frame.proofs.copies.finish.Reads as finish-reads
-use Rattle.ol_run.proofs.main_cycle.run_record.Reads as run-record-reads
+use Rattle.ol_frame.proofs.frame.finish_frame.Reads as finish-frame-reads
 use Rattle.ol_frame.proofs.tables.row.Reads as row-reads
+use Rattle.ol_run.proofs.main_cycle.run_record.Reads as run-record-reads
+use Rattle.ol_tables.proofs.bytes.byte.Reads as byte-reads
 
--- src/main_cycle.rt:90:9
+-- src/main_cycle.rt:60:9
 row-requires : tie.Need-row-requires
 row-requires c κs =
-    let start = c .before .before .before .before .before .before .before .before in
+    let start = c .before .before .before .before .before .before in
     let h = start .pre in
-    row-room (h .running) (omega (arith, h .last)) _ (omega arith)
+    let t = start .args .tab .now in
+    (rows-room t _ (h .running .program .table .long), few-nodes (h .running .known) (omega (arith, h .last)), omega arith)
 
--- src/main_cycle.rt:93:5
+-- src/main_cycle.rt:61:20
+byte-requires : tie.Need-byte-requires
+byte-requires c κs = tt
+
+-- src/main_cycle.rt:61:16
+mul-head : tie.Need-mul-head
+mul-head c =
+    let b = c .byte .ensures in
+    omega (arith, b .small)
+
+-- src/main_cycle.rt:63:5
 copy-requires : tie.Need-copy-requires
 copy-requires c κs = tt
 
--- src/main_cycle.rt:101:9
+-- src/main_cycle.rt:69:9
 sub-run-record : tie.Need-sub-run-record
 sub-run-record c =
-    let start = c .before .before .before .before .before .before .before .before .before .before .before .before .before in
+    let start = c .before .before .before .before .before .before .before .before .before .before .before .before in
     let h = start .pre in
-    omega (arith, head-room h)
+    let t = start .args .tab .now in
+    let b = c .before .before .before .before .byte .ensures in
+    let room = known-room t (h .running .known .tabled) in
+    let H = 9 * c .before .before .before .before .byte .result in
+    let front = known-head t (b .is) (b .small) room in
+    omega (arith, head-room h H front)
 
--- src/main_cycle.rt:101:9
+-- src/main_cycle.rt:69:9
 part-run-record-start : tie.Need-part-run-record-start
 part-run-record-start c =
-    let start = c .before .before .before .before .before .before .before .before .before .before .before .before .before in
+    let start = c .before .before .before .before .before .before .before .before .before .before .before .before in
     let h = start .pre in
-    omega (arith, head-room h)
+    let t = start .args .tab .now in
+    let b = c .before .before .before .before .byte .ensures in
+    let room = known-room t (h .running .known .tabled) in
+    let H = 9 * c .before .before .before .before .byte .result in
+    let front = known-head t (b .is) (b .small) room in
+    omega (arith, head-room h H front)
 
--- src/main_cycle.rt:101:9
+-- src/main_cycle.rt:69:9
 part-run-record-end : tie.Need-part-run-record-end
 part-run-record-end c =
-    let start = c .before .before .before .before .before .before .before .before .before .before .before .before .before in
+    let start = c .before .before .before .before .before .before .before .before .before .before .before .before in
     let h = start .pre in
-    omega (arith, head-room h)
+    let t = start .args .tab .now in
+    let b = c .before .before .before .before .byte .ensures in
+    let room = known-room t (h .running .known .tabled) in
+    let H = 9 * c .before .before .before .before .byte .result in
+    let front = known-head t (b .is) (b .small) room in
+    omega (arith, head-room h H front)
 
--- src/main_cycle.rt:102:9
+-- src/main_cycle.rt:70:9
 sub-run-record-2 : tie.Need-sub-run-record-2
 sub-run-record-2 c =
-    let start = c .before .before .before .before .before .before .before .before .before .before .before .before .before .before in
+    let start = c .before .before .before .before .before .before .before .before .before .before .before .before .before in
     let h = start .pre in
+    let t = start .args .tab .now in
+    let b = c .before .before .before .before .before .byte .ensures in
+    let room = known-room t (h .running .known .tabled) in
+    let H = 9 * c .before .before .before .before .before .byte .result in
+    let front = known-head t (b .is) (b .small) room in
     let copied = c .before .before .before .copy .last .1 .0 in
     let e = all-copied (start .args .old .now) (start .args .new .now) (c .before .before .before .copy .last .1 .0) (start .pre .renewed) (c .before .before .before .copy .ensures) in
-    omega (arith, copied-room h copied e)
+    omega (arith, copied-room h H front copied e)
 
--- src/main_cycle.rt:102:9
+-- src/main_cycle.rt:70:9
 part-run-record-start-2 : tie.Need-part-run-record-start-2
 part-run-record-start-2 c =
-    let start = c .before .before .before .before .before .before .before .before .before .before .before .before .before .before in
+    let start = c .before .before .before .before .before .before .before .before .before .before .before .before .before in
     let h = start .pre in
+    let t = start .args .tab .now in
+    let b = c .before .before .before .before .before .byte .ensures in
+    let room = known-room t (h .running .known .tabled) in
+    let H = 9 * c .before .before .before .before .before .byte .result in
+    let front = known-head t (b .is) (b .small) room in
     let copied = c .before .before .before .copy .last .1 .0 in
     let e = all-copied (start .args .old .now) (start .args .new .now) (c .before .before .before .copy .last .1 .0) (start .pre .renewed) (c .before .before .before .copy .ensures) in
-    omega (arith, copied-room h copied e)
+    omega (arith, copied-room h H front copied e)
 
--- src/main_cycle.rt:102:9
+-- src/main_cycle.rt:70:9
 part-run-record-end-2 : tie.Need-part-run-record-end-2
 part-run-record-end-2 c =
-    let start = c .before .before .before .before .before .before .before .before .before .before .before .before .before .before in
+    let start = c .before .before .before .before .before .before .before .before .before .before .before .before .before in
     let h = start .pre in
+    let t = start .args .tab .now in
+    let b = c .before .before .before .before .before .byte .ensures in
+    let room = known-room t (h .running .known .tabled) in
+    let H = 9 * c .before .before .before .before .before .byte .result in
+    let front = known-head t (b .is) (b .small) room in
     let copied = c .before .before .before .copy .last .1 .0 in
     let e = all-copied (start .args .old .now) (start .args .new .now) (c .before .before .before .copy .last .1 .0) (start .pre .renewed) (c .before .before .before .copy .ensures) in
-    omega (arith, copied-room h copied e)
+    omega (arith, copied-room h H front copied e)
 
--- src/main_cycle.rt:103:9
-slice-aggregate-run-record : tie.Need-slice-aggregate-run-record
-slice-aggregate-run-record c = refl
-
--- src/main_cycle.rt:94:9
+-- src/main_cycle.rt:64:9
 run-record-requires : tie.Need-run-record-requires
 run-record-requires c κs =
-    let start = c .before .before .before .before .before .before .before .before .before .before .before .before .before .before .before .before in
+    let start = c .before .before .before .before .before .before .before .before .before .before .before .before .before .before .before in
     let h = start .pre in
+    let t = start .args .tab .now in
+    let b = c .before .before .before .before .before .before .before .byte .ensures in
+    let room = known-room t (h .running .known .tabled) in
+    let H = 9 * c .before .before .before .before .before .before .before .byte .result in
+    let front = known-head t (b .is) (b .small) room in
     let copied = c .before .before .before .before .before .copy .last .1 .0 in
     let e = all-copied (start .args .old .now) (start .args .new .now) (c .before .before .before .before .before .copy .last .1 .0) (start .pre .renewed) (c .before .before .before .before .before .copy .ensures) in
-    main-ready h copied _ e refl
+    main-ready h H front copied _ e refl
 
--- src/main_cycle.rt:109:23
+-- src/main_cycle.rt:77:29
 enum-told : tie.Need-enum-told
 enum-told c = search needs
 
--- src/main_cycle.rt:109:23
-slice-aggregate-finish : tie.Need-slice-aggregate-finish
-slice-aggregate-finish c =
-    let kc = c .before .before .before .before .before .before .run-record .kept .1 .1 .1 .1 .1 .1 .1 .1 .0 in
-    sym kc
+-- src/main_cycle.rt:77:29
+slice-aggregate-finish-frame : tie.Need-slice-aggregate-finish-frame
+slice-aggregate-finish-frame c =
+    let kf = c .before .before .before .before .before .run-record .ensures .1 in
+    sym kf
 
--- src/main_cycle.rt:109:33
-sub-finish : tie.Need-sub-finish
-sub-finish c =
-    let start = c .before .before .before .before .before .before .before .before .before .before .before .before .before .before .before .before .before .before .before .before .before .before .before in
+-- src/main_cycle.rt:77:37
+sub-finish-frame : tie.Need-sub-finish-frame
+sub-finish-frame c =
+    let start = c .before .before .before .before .before .before .before .before .before .before .before .before .before .before .before .before .before .before .before .before .before in
     let h = start .pre in
-    let copied = c .before .before .before .before .before .before .before .before .before .before .before .before .copy .last .1 .0 in
-    let e = all-copied (start .args .old .now) (start .args .new .now) (c .before .before .before .before .before .before .before .before .before .before .before .before .copy .last .1 .0) (start .pre .renewed) (c .before .before .before .before .before .before .before .before .before .before .before .before .copy .ensures) in
-    let x = c .before .before .before .before .before .before .run-record .last .1 .1 .1 .1 .1 .1 .1 .0 in
-    let kx = c .before .before .before .before .before .before .run-record .kept .1 .1 .1 .1 .1 .1 .1 .0 in
-    omega (arith, moved-room h copied x e kx)
+    let t = start .args .tab .now in
+    let b = c .before .before .before .before .before .before .before .before .before .before .before .before .before .byte .ensures in
+    let room = known-room t (h .running .known .tabled) in
+    let H = 9 * c .before .before .before .before .before .before .before .before .before .before .before .before .before .byte .result in
+    let front = known-head t (b .is) (b .small) room in
+    let copied = c .before .before .before .before .before .before .before .before .before .before .before .copy .last .1 .0 in
+    let e = all-copied (start .args .old .now) (start .args .new .now) (c .before .before .before .before .before .before .before .before .before .before .before .copy .last .1 .0) (start .pre .renewed) (c .before .before .before .before .before .before .before .before .before .before .before .copy .ensures) in
+    let x = c .before .before .before .before .before .run-record .last .1 .1 .1 .1 .1 .0 in
+    let kx = c .before .before .before .before .before .run-record .kept .1 .1 .1 .1 .1 .0 in
+    omega (arith, moved-room h H front copied x e kx)
 
--- src/main_cycle.rt:109:33
-part-finish-start : tie.Need-part-finish-start
-part-finish-start c =
-    let start = c .before .before .before .before .before .before .before .before .before .before .before .before .before .before .before .before .before .before .before .before .before .before .before in
+-- src/main_cycle.rt:77:37
+part-finish-frame-start : tie.Need-part-finish-frame-start
+part-finish-frame-start c =
+    let start = c .before .before .before .before .before .before .before .before .before .before .before .before .before .before .before .before .before .before .before .before .before in
     let h = start .pre in
-    let copied = c .before .before .before .before .before .before .before .before .before .before .before .before .copy .last .1 .0 in
-    let e = all-copied (start .args .old .now) (start .args .new .now) (c .before .before .before .before .before .before .before .before .before .before .before .before .copy .last .1 .0) (start .pre .renewed) (c .before .before .before .before .before .before .before .before .before .before .before .before .copy .ensures) in
-    let x = c .before .before .before .before .before .before .run-record .last .1 .1 .1 .1 .1 .1 .1 .0 in
-    let kx = c .before .before .before .before .before .before .run-record .kept .1 .1 .1 .1 .1 .1 .1 .0 in
-    omega (arith, moved-room h copied x e kx)
+    let t = start .args .tab .now in
+    let b = c .before .before .before .before .before .before .before .before .before .before .before .before .before .byte .ensures in
+    let room = known-room t (h .running .known .tabled) in
+    let H = 9 * c .before .before .before .before .before .before .before .before .before .before .before .before .before .byte .result in
+    let front = known-head t (b .is) (b .small) room in
+    let copied = c .before .before .before .before .before .before .before .before .before .before .before .copy .last .1 .0 in
+    let e = all-copied (start .args .old .now) (start .args .new .now) (c .before .before .before .before .before .before .before .before .before .before .before .copy .last .1 .0) (start .pre .renewed) (c .before .before .before .before .before .before .before .before .before .before .before .copy .ensures) in
+    let x = c .before .before .before .before .before .run-record .last .1 .1 .1 .1 .1 .0 in
+    let kx = c .before .before .before .before .before .run-record .kept .1 .1 .1 .1 .1 .0 in
+    omega (arith, moved-room h H front copied x e kx)
 
--- src/main_cycle.rt:109:33
-part-finish-end : tie.Need-part-finish-end
-part-finish-end c =
-    let start = c .before .before .before .before .before .before .before .before .before .before .before .before .before .before .before .before .before .before .before .before .before .before .before in
+-- src/main_cycle.rt:77:37
+part-finish-frame-end : tie.Need-part-finish-frame-end
+part-finish-frame-end c =
+    let start = c .before .before .before .before .before .before .before .before .before .before .before .before .before .before .before .before .before .before .before .before .before in
     let h = start .pre in
-    let copied = c .before .before .before .before .before .before .before .before .before .before .before .before .copy .last .1 .0 in
-    let e = all-copied (start .args .old .now) (start .args .new .now) (c .before .before .before .before .before .before .before .before .before .before .before .before .copy .last .1 .0) (start .pre .renewed) (c .before .before .before .before .before .before .before .before .before .before .before .before .copy .ensures) in
-    let x = c .before .before .before .before .before .before .run-record .last .1 .1 .1 .1 .1 .1 .1 .0 in
-    let kx = c .before .before .before .before .before .before .run-record .kept .1 .1 .1 .1 .1 .1 .1 .0 in
-    omega (arith, moved-room h copied x e kx)
+    let t = start .args .tab .now in
+    let b = c .before .before .before .before .before .before .before .before .before .before .before .before .before .byte .ensures in
+    let room = known-room t (h .running .known .tabled) in
+    let H = 9 * c .before .before .before .before .before .before .before .before .before .before .before .before .before .byte .result in
+    let front = known-head t (b .is) (b .small) room in
+    let copied = c .before .before .before .before .before .before .before .before .before .before .before .copy .last .1 .0 in
+    let e = all-copied (start .args .old .now) (start .args .new .now) (c .before .before .before .before .before .before .before .before .before .before .before .copy .last .1 .0) (start .pre .renewed) (c .before .before .before .before .before .before .before .before .before .before .before .copy .ensures) in
+    let x = c .before .before .before .before .before .run-record .last .1 .1 .1 .1 .1 .0 in
+    let kx = c .before .before .before .before .before .run-record .kept .1 .1 .1 .1 .1 .0 in
+    omega (arith, moved-room h H front copied x e kx)
 
--- src/main_cycle.rt:109:13
-finish-requires : tie.Need-finish-requires
-finish-requires c κs =
-    let start = c .before .before .before .before .before .before .before .before .before .before .before .before .before .before .before .before .before .before .before .before .before .before .before .before in
+-- src/main_cycle.rt:77:13
+finish-frame-requires : tie.Need-finish-frame-requires
+finish-frame-requires c κs =
+    let start = c .before .before .before .before .before .before .before .before .before .before .before .before .before .before .before .before .before .before .before .before .before .before in
     let h = start .pre in
+    let t = start .args .tab .now in
     let n = c .before .before .before .before .before .before .before .before .before .before .before .before .before .before .before .row .result in
     let w = c .before .before .before .before .before .before .before .before .before .before .before .before .before .before .before .row .ensures in
-    let copied = c .before .before .before .before .before .before .before .before .before .before .before .before .before .copy .last .1 .0 in
-    let e = all-copied (start .args .old .now) (start .args .new .now) (c .before .before .before .before .before .before .before .before .before .before .before .before .before .copy .last .1 .0) (start .pre .renewed) (c .before .before .before .before .before .before .before .before .before .before .before .before .before .copy .ensures) in
-    let x = c .before .before .before .before .before .before .before .run-record .last .1 .1 .1 .1 .1 .1 .1 .0 in
-    let kx = c .before .before .before .before .before .before .before .run-record .kept .1 .1 .1 .1 .1 .1 .1 .0 in
-    let cells = c .before .before .before .before .before .before .before .run-record .last .1 .1 .1 .1 .1 .1 .1 .1 .0 in
-    let kc = c .before .before .before .before .before .before .before .run-record .kept .1 .1 .1 .1 .1 .1 .1 .1 .0 in
-    finish-ready h n copied x cells w e kx kc
+    let b = c .before .before .before .before .before .before .before .before .before .before .before .before .before .before .byte .ensures in
+    let room = known-room t (h .running .known .tabled) in
+    let H = 9 * c .before .before .before .before .before .before .before .before .before .before .before .before .before .before .byte .result in
+    let front = known-head t (b .is) (b .small) room in
+    let copied = c .before .before .before .before .before .before .before .before .before .before .before .before .copy .last .1 .0 in
+    let e = all-copied (start .args .old .now) (start .args .new .now) (c .before .before .before .before .before .before .before .before .before .before .before .before .copy .last .1 .0) (start .pre .renewed) (c .before .before .before .before .before .before .before .before .before .before .before .before .copy .ensures) in
+    let x = c .before .before .before .before .before .before .run-record .last .1 .1 .1 .1 .1 .0 in
+    let kx = c .before .before .before .before .before .before .run-record .kept .1 .1 .1 .1 .1 .0 in
+    let frame = c .before .before .before .before .before .before .run-record .last .1 .1 .1 .1 .1 .1 .0 in
+    let kf = c .before .before .before .before .before .before .run-record .ensures .1 in
+    finish-ready h H front n copied x frame w e kx kf
 
--- src/main_cycle.rt:110:28
-slice-aggregate-write-cells : tie.Need-slice-aggregate-write-cells
-slice-aggregate-write-cells c =
-    let kc = c .before .before .before .before .before .before .before .before .before .before .before .run-record .kept .1 .1 .1 .1 .1 .1 .1 .1 .0 in
-    sym kc
+-- src/main_cycle.rt:78:28
+sub-write-cells : tie.Need-sub-write-cells
+sub-write-cells c =
+    let kf = c .before .before .before .before .before .before .before .before .before .run-record .ensures .1 in
+    omega (arith, kf)
 
--- src/main_cycle.rt:110:13
+-- src/main_cycle.rt:78:28
+part-write-cells-start : tie.Need-part-write-cells-start
+part-write-cells-start c =
+    let kf = c .before .before .before .before .before .before .before .before .before .before .run-record .ensures .1 in
+    omega (arith, kf)
+
+-- src/main_cycle.rt:78:28
+part-write-cells-end : tie.Need-part-write-cells-end
+part-write-cells-end c =
+    let kf = c .before .before .before .before .before .before .before .before .before .before .run-record .ensures .1 in
+    omega (arith, kf)
+
+-- src/main_cycle.rt:78:13
 write-cells-requires : tie.Need-write-cells-requires
 write-cells-requires c κs =
-    let start = c .before .before .before .before .before .before .before .before .before .before .before .before .before .before .before .before .before .before .before .before .before .before .before .before .before .before .before .before .before in
+    let start = c .before .before .before .before .before .before .before .before .before .before .before .before .before .before .before .before .before .before .before .before .before .before .before .before .before .before .before .before in
     let h = start .pre in
-    let n = c .before .before .before .before .before .before .before .before .before .before .before .before .before .before .before .before .before .before .before .before .row .result in
-    let w = c .before .before .before .before .before .before .before .before .before .before .before .before .before .before .before .before .before .before .before .before .row .ensures in
-    let cells = c .before .before .before .before .before .before .before .before .before .before .before .before .run-record .last .1 .1 .1 .1 .1 .1 .1 .1 .0 in
-    let kc = c .before .before .before .before .before .before .before .before .before .before .before .before .run-record .kept .1 .1 .1 .1 .1 .1 .1 .1 .0 in
-    values-ready h n cells w kc
+    let t = start .args .tab .now in
+    let n = c .before .before .before .before .before .before .before .before .before .before .before .before .before .before .before .before .before .before .before .before .before .row .result in
+    let w = c .before .before .before .before .before .before .before .before .before .before .before .before .before .before .before .before .before .before .before .before .before .row .ensures in
+    let b = c .before .before .before .before .before .before .before .before .before .before .before .before .before .before .before .before .before .before .before .before .byte .ensures in
+    let room = known-room t (h .running .known .tabled) in
+    let H = 9 * c .before .before .before .before .before .before .before .before .before .before .before .before .before .before .before .before .before .before .before .before .byte .result in
+    let front = known-head t (b .is) (b .small) room in
+    let frame = c .before .before .before .before .before .before .before .before .before .before .before .before .run-record .last .1 .1 .1 .1 .1 .1 .0 in
+    let kf = c .before .before .before .before .before .before .before .before .before .before .before .before .run-record .ensures .1 in
+    values-ready h H front n frame w kf
 
--- src/main_cycle.rt:113:43
+-- src/main_cycle.rt:81:43
 enum-told-2 : tie.Need-enum-told-2
 enum-told-2 c = search needs
 
--- src/main_cycle.rt:115:23
+-- src/main_cycle.rt:83:23
 enum-told-3 : tie.Need-enum-told-3
 enum-told-3 c = search needs
 
--- src/main_cycle.rt:115:13
+-- src/main_cycle.rt:83:13
 copy-requires-2 : tie.Need-copy-requires-2
 copy-requires-2 c κs = tt
 
--- src/main_cycle.rt:76:1
+-- src/main_cycle.rt:48:1
 same-length : tie.Need-same-length
 same-length c =
-    let start = c .before .before .before .before .before .before .before .before .before .before .before .before .before .before .before .before .before .before .before .before .before .before .before .before .before .before .before .before .before .before .before .before in
+    let start = c .before .before .before .before .before .before .before .before .before .before .before .before .before .before .before .before .before .before .before .before .before .before .before .before .before .before .before .before .before .before .before in
     let h = start .pre in
+    let t = start .args .tab .now in
+    let b = c .before .before .before .before .before .before .before .before .before .before .before .before .before .before .before .before .before .before .before .before .before .before .before .byte .ensures in
+    let room = known-room t (h .running .known .tabled) in
+    let H = 9 * c .before .before .before .before .before .before .before .before .before .before .before .before .before .before .before .before .before .before .before .before .before .before .before .byte .result in
+    let front = known-head t (b .is) (b .small) room in
     let copied = c .before .before .before .before .before .before .before .before .before .before .before .before .before .before .before .before .before .before .before .before .before .copy .last .1 .0 in
     let e = all-copied (start .args .old .now) (start .args .new .now) (c .before .before .before .before .before .before .before .before .before .before .before .before .before .before .before .before .before .before .before .before .before .copy .last .1 .0) (start .pre .renewed) (c .before .before .before .before .before .before .before .before .before .before .before .before .before .before .before .before .before .before .before .before .before .copy .ensures) in
     let kn = c .before .before .before .before .before .before .before .before .before .before .before .before .before .before .before .before .before .before .before .before .before .copy .kept .1 .0 in
-    let x = c .before .before .before .before .before .before .before .before .before .before .before .before .before .before .before .run-record .last .1 .1 .1 .1 .1 .1 .1 .0 in
-    let kx = c .before .before .before .before .before .before .before .before .before .before .before .before .before .before .before .run-record .kept .1 .1 .1 .1 .1 .1 .1 .0 in
-    ended-length h copied x (c .before .before .before .before .before .before .before .finish .last .1 .1 .0) e kx (c .before .before .before .before .before .before .before .finish .kept .1 .1 .0) ∙ kn
+    let x = c .before .before .before .before .before .before .before .before .before .before .before .before .before .before .before .run-record .last .1 .1 .1 .1 .1 .0 in
+    let kx = c .before .before .before .before .before .before .before .before .before .before .before .before .before .before .before .run-record .kept .1 .1 .1 .1 .1 .0 in
+    ended-length h H front copied x (c .before .before .before .before .before .before .before .before .finish-frame .last .1 .1 .0) e kx (c .before .before .before .before .before .before .before .before .finish-frame .kept .1 .1 .0) ∙ kn
 
--- src/main_cycle.rt:76:1
+-- src/main_cycle.rt:48:1
 same-length-2 : tie.Need-same-length-2
 same-length-2 c = c .before .before .write-cells .kept .1 .1 .0
 
--- src/main_cycle.rt:76:1
+-- src/main_cycle.rt:48:1
 returns : tie.Need-returns
 returns c =
-    let start = c .before .before .before .before .before .before .before .before .before .before .before .before .before .before .before .before .before .before .before .before .before .before .before .before .before .before .before .before .before .before .before .before in
+    let start = c .before .before .before .before .before .before .before .before .before .before .before .before .before .before .before .before .before .before .before .before .before .before .before .before .before .before .before .before .before .before .before in
     let h = start .pre in
-    let n = c .before .before .before .before .before .before .before .before .before .before .before .before .before .before .before .before .before .before .before .before .before .before .before .row .result in
-    let w = c .before .before .before .before .before .before .before .before .before .before .before .before .before .before .before .before .before .before .before .before .before .before .before .row .ensures in
+    let t = start .args .tab .now in
+    let n = c .before .before .before .before .before .before .before .before .before .before .before .before .before .before .before .before .before .before .before .before .before .before .before .before .row .result in
+    let w = c .before .before .before .before .before .before .before .before .before .before .before .before .before .before .before .before .before .before .before .before .before .before .before .before .row .ensures in
+    let b = c .before .before .before .before .before .before .before .before .before .before .before .before .before .before .before .before .before .before .before .before .before .before .before .byte .ensures in
+    let room = known-room t (h .running .known .tabled) in
+    let H = 9 * c .before .before .before .before .before .before .before .before .before .before .before .before .before .before .before .before .before .before .before .before .before .before .before .byte .result in
+    let front = known-head t (b .is) (b .small) room in
     let copied = c .before .before .before .before .before .before .before .before .before .before .before .before .before .before .before .before .before .before .before .before .before .copy .last .1 .0 in
     let e = all-copied (start .args .old .now) (start .args .new .now) (c .before .before .before .before .before .before .before .before .before .before .before .before .before .before .before .before .before .before .before .before .before .copy .last .1 .0) (start .pre .renewed) (c .before .before .before .before .before .before .before .before .before .before .before .before .before .before .before .before .before .before .before .before .before .copy .ensures) in
-    let x = c .before .before .before .before .before .before .before .before .before .before .before .before .before .before .before .run-record .last .1 .1 .1 .1 .1 .1 .1 .0 in
-    let cells = c .before .before .before .before .before .before .before .before .before .before .before .before .before .before .before .run-record .last .1 .1 .1 .1 .1 .1 .1 .1 .0 in
-    cycle-finished h copied x cells (c .before .before .before .before .before .before .before .before .before .before .before .before .before .before .before .run-record .result) e (c .before .before .before .before .before .before .before .before .before .before .before .before .before .before .before .run-record .ensures) n (c .before .before .before .before .before .before .before .finish .last .1 .1 .0) (c .before .before .write-cells .last .1 .1 .0) w (c .before .before .before .before .before .before .before .before .before .before .enum-told .given .1) (c .before .before .before .before .before .before .before .finish .ensures) (c .before .before .write-cells .ensures)
+    let x = c .before .before .before .before .before .before .before .before .before .before .before .before .before .before .before .run-record .last .1 .1 .1 .1 .1 .0 in
+    let frame = c .before .before .before .before .before .before .before .before .before .before .before .before .before .before .before .run-record .last .1 .1 .1 .1 .1 .1 .0 in
+    cycle-finished h H front copied x (cellsOf frame) (c .before .before .before .before .before .before .before .before .before .before .before .before .before .before .before .run-record .result) e (c .before .before .before .before .before .before .before .before .before .before .before .before .before .before .before .run-record .ensures .0) n (c .before .before .before .before .before .before .before .before .finish-frame .last .1 .1 .0) (c .before .before .write-cells .last .1 .1 .0) w (c .before .before .before .before .before .before .before .before .before .before .before .enum-told .given .1) (c .before .before .before .before .before .before .before .before .finish-frame .ensures) (c .before .before .write-cells .ensures)
 
--- src/main_cycle.rt:76:1
+-- src/main_cycle.rt:48:1
 same-length-3 : tie.Need-same-length-3
 same-length-3 c =
-    let start = c .before .before .before .before .before .before .before .before .before .before .before .before .before .before .before .before .before .before .before .before .before .before in
+    let start = c .before .before .before .before .before .before .before .before .before .before .before .before .before .before .before .before .before .before .before .before in
     let h = start .pre in
-    let copied = c .before .before .before .before .before .before .before .before .before .before .before .copy .last .1 .0 in
-    let e = all-copied (start .args .old .now) (start .args .new .now) (c .before .before .before .before .before .before .before .before .before .before .before .copy .last .1 .0) (start .pre .renewed) (c .before .before .before .before .before .before .before .before .before .before .before .copy .ensures) in
-    let kn = c .before .before .before .before .before .before .before .before .before .before .before .copy .kept .1 .0 in
-    let x = c .before .before .before .before .before .run-record .last .1 .1 .1 .1 .1 .1 .1 .0 in
-    let kx = c .before .before .before .before .before .run-record .kept .1 .1 .1 .1 .1 .1 .1 .0 in
-    moved-length h copied x e kx ∙ kn
+    let t = start .args .tab .now in
+    let b = c .before .before .before .before .before .before .before .before .before .before .before .before .byte .ensures in
+    let room = known-room t (h .running .known .tabled) in
+    let H = 9 * c .before .before .before .before .before .before .before .before .before .before .before .before .byte .result in
+    let front = known-head t (b .is) (b .small) room in
+    let copied = c .before .before .before .before .before .before .before .before .before .before .copy .last .1 .0 in
+    let e = all-copied (start .args .old .now) (start .args .new .now) (c .before .before .before .before .before .before .before .before .before .before .copy .last .1 .0) (start .pre .renewed) (c .before .before .before .before .before .before .before .before .before .before .copy .ensures) in
+    let kn = c .before .before .before .before .before .before .before .before .before .before .copy .kept .1 .0 in
+    let x = c .before .before .before .before .run-record .last .1 .1 .1 .1 .1 .0 in
+    let kx = c .before .before .before .before .run-record .kept .1 .1 .1 .1 .1 .0 in
+    moved-length h H front copied x e kx ∙ kn
 
--- src/main_cycle.rt:76:1
+-- src/main_cycle.rt:48:1
 returns-2 : tie.Need-returns-2
 returns-2 c =
-    let start = c .before .before .before .before .before .before .before .before .before .before .before .before .before .before .before .before .before .before .before .before .before .before in
+    let start = c .before .before .before .before .before .before .before .before .before .before .before .before .before .before .before .before .before .before .before .before in
     let h = start .pre in
-    let copied = c .before .before .before .before .before .before .before .before .before .before .before .copy .last .1 .0 in
-    let e = all-copied (start .args .old .now) (start .args .new .now) (c .before .before .before .before .before .before .before .before .before .before .before .copy .last .1 .0) (start .pre .renewed) (c .before .before .before .before .before .before .before .before .before .before .before .copy .ensures) in
-    let x = c .before .before .before .before .before .run-record .last .1 .1 .1 .1 .1 .1 .1 .0 in
-    let cells = c .before .before .before .before .before .run-record .last .1 .1 .1 .1 .1 .1 .1 .1 .0 in
-    cycle-failed h copied x cells (c .before .before .before .before .before .run-record .result) e (c .before .before .before .before .before .run-record .ensures) (c .enum-told2 .given .1)
+    let t = start .args .tab .now in
+    let b = c .before .before .before .before .before .before .before .before .before .before .before .before .byte .ensures in
+    let room = known-room t (h .running .known .tabled) in
+    let H = 9 * c .before .before .before .before .before .before .before .before .before .before .before .before .byte .result in
+    let front = known-head t (b .is) (b .small) room in
+    let copied = c .before .before .before .before .before .before .before .before .before .before .copy .last .1 .0 in
+    let e = all-copied (start .args .old .now) (start .args .new .now) (c .before .before .before .before .before .before .before .before .before .before .copy .last .1 .0) (start .pre .renewed) (c .before .before .before .before .before .before .before .before .before .before .copy .ensures) in
+    let x = c .before .before .before .before .run-record .last .1 .1 .1 .1 .1 .0 in
+    let frame = c .before .before .before .before .run-record .last .1 .1 .1 .1 .1 .1 .0 in
+    cycle-failed h H front copied x (cellsOf frame) (c .before .before .before .before .run-record .result) e (c .before .before .before .before .run-record .ensures .0) (c .enum-told2 .given .1)
 
--- src/main_cycle.rt:76:1
+-- src/main_cycle.rt:48:1
 same-length-4 : tie.Need-same-length-4
 same-length-4 c =
-    let start = c .before .before .before .before .before .before .before .before .before .before .before .before .before .before .before .before .before .before .before .before .before .before .before .before .before .before in
+    let start = c .before .before .before .before .before .before .before .before .before .before .before .before .before .before .before .before .before .before .before .before .before .before .before .before in
     let h = start .pre in
-    let copied = c .before .before .before .before .before .before .before .before .before .before .before .before .before .before .before .copy .last .1 .0 in
-    let e = all-copied (start .args .old .now) (start .args .new .now) (c .before .before .before .before .before .before .before .before .before .before .before .before .before .before .before .copy .last .1 .0) (start .pre .renewed) (c .before .before .before .before .before .before .before .before .before .before .before .before .before .before .before .copy .ensures) in
-    let kn = c .before .before .before .before .before .before .before .before .before .before .before .before .before .before .before .copy .kept .1 .0 in
-    let x = c .before .before .before .before .before .before .before .before .before .run-record .last .1 .1 .1 .1 .1 .1 .1 .0 in
-    let kx = c .before .before .before .before .before .before .before .before .before .run-record .kept .1 .1 .1 .1 .1 .1 .1 .0 in
-    c .before .before .copy2 .kept .1 .0 ∙ moved-length h copied x e kx ∙ kn
+    let t = start .args .tab .now in
+    let b = c .before .before .before .before .before .before .before .before .before .before .before .before .before .before .before .before .byte .ensures in
+    let room = known-room t (h .running .known .tabled) in
+    let H = 9 * c .before .before .before .before .before .before .before .before .before .before .before .before .before .before .before .before .byte .result in
+    let front = known-head t (b .is) (b .small) room in
+    let copied = c .before .before .before .before .before .before .before .before .before .before .before .before .before .before .copy .last .1 .0 in
+    let e = all-copied (start .args .old .now) (start .args .new .now) (c .before .before .before .before .before .before .before .before .before .before .before .before .before .before .copy .last .1 .0) (start .pre .renewed) (c .before .before .before .before .before .before .before .before .before .before .before .before .before .before .copy .ensures) in
+    let kn = c .before .before .before .before .before .before .before .before .before .before .before .before .before .before .copy .kept .1 .0 in
+    let x = c .before .before .before .before .before .before .before .before .run-record .last .1 .1 .1 .1 .1 .0 in
+    let kx = c .before .before .before .before .before .before .before .before .run-record .kept .1 .1 .1 .1 .1 .0 in
+    c .before .before .copy2 .kept .1 .0 ∙ moved-length h H front copied x e kx ∙ kn
 
--- src/main_cycle.rt:76:1
+-- src/main_cycle.rt:48:1
 returns-3 : tie.Need-returns-3
 returns-3 c =
-    let start = c .before .before .before .before .before .before .before .before .before .before .before .before .before .before .before .before .before .before .before .before .before .before .before .before .before .before in
+    let start = c .before .before .before .before .before .before .before .before .before .before .before .before .before .before .before .before .before .before .before .before .before .before .before .before in
     let h = start .pre in
-    let copied = c .before .before .before .before .before .before .before .before .before .before .before .before .before .before .before .copy .last .1 .0 in
-    let e = all-copied (start .args .old .now) (start .args .new .now) (c .before .before .before .before .before .before .before .before .before .before .before .before .before .before .before .copy .last .1 .0) (start .pre .renewed) (c .before .before .before .before .before .before .before .before .before .before .before .before .before .before .before .copy .ensures) in
-    let kn = c .before .before .before .before .before .before .before .before .before .before .before .before .before .before .before .copy .kept .1 .0 in
-    let x = c .before .before .before .before .before .before .before .before .before .run-record .last .1 .1 .1 .1 .1 .1 .1 .0 in
-    let kx = c .before .before .before .before .before .before .before .before .before .run-record .kept .1 .1 .1 .1 .1 .1 .1 .0 in
-    let cells = c .before .before .before .before .before .before .before .before .before .run-record .last .1 .1 .1 .1 .1 .1 .1 .1 .0 in
-    cycle-overflowed h copied x cells (c .before .before .before .before .before .before .before .before .before .run-record .result) e (c .before .before .before .before .before .before .before .before .before .run-record .ensures) (c .before .before .copy2 .last .1 .0) (c .before .before .before .before .enum-told3 .given .1) (all-copied (start .args .old .now) (putTail (length (start .args .consts .now)) copied x) (c .before .before .copy2 .last .1 .0) (moved-length h copied x e kx ∙ kn ∙ h .renewed) (c .before .before .copy2 .ensures))
+    let t = start .args .tab .now in
+    let b = c .before .before .before .before .before .before .before .before .before .before .before .before .before .before .before .before .byte .ensures in
+    let room = known-room t (h .running .known .tabled) in
+    let H = 9 * c .before .before .before .before .before .before .before .before .before .before .before .before .before .before .before .before .byte .result in
+    let front = known-head t (b .is) (b .small) room in
+    let copied = c .before .before .before .before .before .before .before .before .before .before .before .before .before .before .copy .last .1 .0 in
+    let e = all-copied (start .args .old .now) (start .args .new .now) (c .before .before .before .before .before .before .before .before .before .before .before .before .before .before .copy .last .1 .0) (start .pre .renewed) (c .before .before .before .before .before .before .before .before .before .before .before .before .before .before .copy .ensures) in
+    let kn = c .before .before .before .before .before .before .before .before .before .before .before .before .before .before .copy .kept .1 .0 in
+    let x = c .before .before .before .before .before .before .before .before .run-record .last .1 .1 .1 .1 .1 .0 in
+    let kx = c .before .before .before .before .before .before .before .before .run-record .kept .1 .1 .1 .1 .1 .0 in
+    let frame = c .before .before .before .before .before .before .before .before .run-record .last .1 .1 .1 .1 .1 .1 .0 in
+    cycle-overflowed h H front copied x (cellsOf frame) (c .before .before .before .before .before .before .before .before .run-record .result) e (c .before .before .before .before .before .before .before .before .run-record .ensures .0) (c .before .before .copy2 .last .1 .0) (c .before .before .before .before .enum-told3 .given .1) (all-copied (start .args .old .now) (putTail H copied x) (c .before .before .copy2 .last .1 .0) (moved-length h H front copied x e kx ∙ kn ∙ h .renewed) (c .before .before .copy2 .ensures))
 
 pub run-main-spec : {M : Type 1} → statement M
 run-main-spec =
     tie.close
     (tie.spec
     row-requires
+    byte-requires
+    mul-head
     copy-requires
     sub-run-record
     part-run-record-start
@@ -266,15 +383,16 @@ run-main-spec =
     sub-run-record-2
     part-run-record-start-2
     part-run-record-end-2
-    slice-aggregate-run-record
     run-record-requires
     enum-told
-    slice-aggregate-finish
-    sub-finish
-    part-finish-start
-    part-finish-end
-    finish-requires
-    slice-aggregate-write-cells
+    slice-aggregate-finish-frame
+    sub-finish-frame
+    part-finish-frame-start
+    part-finish-frame-end
+    finish-frame-requires
+    sub-write-cells
+    part-write-cells-start
+    part-write-cells-end
     write-cells-requires
     enum-told-2
     enum-told-3

@@ -11,38 +11,38 @@ use Rattle.ol_state.proofs.fresh.main_node.Tie as tie
 use Rattle.ol_state.proofs.fresh.main_node.Reads as reads
 use Rattle.ol_state.proofs.fresh.main_node.Lts as lts
 use Rattle.ol_tables.proofs.bytes.byte.Reads as byte-reads
-use Rattle.ol_tables.proofs.tables.row.Reads as row-reads
+use Rattle.ol_tables.proofs.table.column.Reads as column-reads
 
--- src/lib.rt:25:16
-row-requires : tie.Need-row-requires
-row-requires c κs = tt
+-- src/fresh.rt:28:16
+column-requires : tie.Need-column-requires
+column-requires c κs = tt
 
--- src/lib.rt:25:16
+-- src/fresh.rt:28:16
 sub-byte : tie.Need-sub-byte
 sub-byte c =
     let start = c .before .before .before in
     let n = nodes-count (start .pre) in
-    omega (arith, c .row .ensures, n .after)
+    omega (arith, c .column .ensures, n .after)
 
--- src/lib.rt:25:5
+-- src/fresh.rt:28:5
 byte-requires : tie.Need-byte-requires
 byte-requires c κs = tt
 
--- src/lib.rt:25:5
+-- src/fresh.rt:28:5
 sub-result : tie.Need-sub-result
 sub-result c =
     let start = c .before .before .before .before in
     let n = nodes-count (start .pre) in
-    let e = ap (λ m. getD (start .args .file .now) (m - 1) 0) (c .before .row .ensures) in
+    let e = ap (λ m. getD (start .args .file .now) (m - 1) 0) (c .before .column .ensures) in
     omega (arith, c .byte .ensures .is, e, n .is, n .some)
 
--- src/lib.rt:21:1
+-- src/fresh.rt:24:1
 returns : tie.Need-returns
 returns c =
     let start = c .before .before .before .before in
     let n = nodes-count (start .pre) in
-    let e = ap (λ m. getD (start .args .file .now) (m - 1) 0) (c .before .row .ensures) in
+    let e = ap (λ m. getD (start .args .file .now) (m - 1) 0) (c .before .column .ensures) in
     omega (arith, c .byte .ensures .is, e, n .is, n .some)
 
 pub main-node-spec : {M : Type 1} → statement M
-main-node-spec = tie.close (tie.spec row-requires sub-byte byte-requires sub-result returns)
+main-node-spec = tie.close (tie.spec column-requires sub-byte byte-requires sub-result returns)

@@ -7,6 +7,7 @@ use lib.ListN.{length, take, drop}
 use lib.Seq.{length-take-le, take-at}
 use Rattle.ol_spec.specs.Lists.{same}
 use Rattle.ol_tables.specs.Tables.{rowAt}
+use Rattle.ol_tables.specs.Table.{tabOf, rowsOf}
 use Rattle.ol_state.specs.Defaults.{cellsAt}
 use Rattle.ol_state.proofs.DefaultCells.{length-cellsAt}
 -- </uses>
@@ -15,57 +16,57 @@ use Rattle.ol_state.proofs.own.are_defaults.Statement.{statement}
 use Rattle.ol_state.proofs.own.are_defaults.Tie as tie
 use Rattle.ol_state.proofs.own.are_defaults.Reads as reads
 use Rattle.ol_state.proofs.own.are_defaults.Lts as lts
-use Rattle.ol_tables.proofs.tables.row.Reads as row-reads
-use Rattle.ol_state.proofs.defaults.write_defaults.Reads as write-defaults-reads
 use Rattle.ol_state.proofs.cells.same_bytes.Reads as same-bytes-reads
+use Rattle.ol_state.proofs.defaults.write_defaults.Reads as write-defaults-reads
+use Rattle.ol_tables.proofs.table.column.Reads as column-reads
 
--- src/own.rt:19:34
+-- src/own.rt:24:28
 slice-aggregate-write-defaults : tie.Need-slice-aggregate-write-defaults
 slice-aggregate-write-defaults c = search needs
 
--- src/own.rt:19:5
+-- src/own.rt:24:5
 write-defaults-requires : tie.Need-write-defaults-requires
 write-defaults-requires c κs = search needs
 
--- src/own.rt:20:19
-row-requires : tie.Need-row-requires
-row-requires c κs = tt
+-- src/own.rt:25:19
+column-requires : tie.Need-column-requires
+column-requires c κs = search needs
 
--- src/own.rt:20:15
+-- src/own.rt:25:15
 mul-end : tie.Need-mul-end
 mul-end c = search needs
 
--- src/own.rt:21:16
+-- src/own.rt:26:16
 slice-aggregate-same-bytes : tie.Need-slice-aggregate-same-bytes
 slice-aggregate-same-bytes c =
-    let start = c .before .before .before .before .before .before .before .before in
-    let r = c .before .row .ensures in
-    sym (length-take-le (9 * c .before .row .result) (start .args .cells .now) (omega (arith, start .pre .2, r)))
+    let start = c .before .before .before .before .before .before .before in
+    let r = c .before .column .ensures in
+    sym (length-take-le (9 * c .before .column .result) (start .args .cells .now) (omega (arith, start .pre .2, r)))
 
--- src/own.rt:21:31
+-- src/own.rt:26:31
 array-share-prefix-defaults : tie.Need-array-share-prefix-defaults
 array-share-prefix-defaults c = search needs
 
--- src/own.rt:21:31
+-- src/own.rt:26:31
 slice-aggregate-same-bytes-2 : tie.Need-slice-aggregate-same-bytes-2
 slice-aggregate-same-bytes-2 c =
-    let start = c .before .before .before .before .before .before .before .before .before in
-    let r = c .before .before .row .ensures in
-    sym (length-take-le (9 * c .before .before .row .result) (c .before .before .before .before .write-defaults .last .1 .1 .1 .0) (omega (arith, start .pre .1, r, c .before .before .before .before .write-defaults .kept .1 .1 .1 .0)))
+    let start = c .before .before .before .before .before .before .before .before in
+    let r = c .before .before .column .ensures in
+    sym (length-take-le (9 * c .before .before .column .result) (c .before .before .before .before .write-defaults .last .1 .1 .0) (omega (arith, start .pre .1, r, c .before .before .before .before .write-defaults .kept .1 .1 .0)))
 
--- src/own.rt:21:5
+-- src/own.rt:26:5
 same-bytes-requires : tie.Need-same-bytes-requires
 same-bytes-requires c κs = search needs
 
--- src/own.rt:14:1
+-- src/own.rt:19:1
 returns : tie.Need-returns
 returns c =
-    let start = c .before .before .before .before .before .before .before .before .before .before in
-    let n = rowAt (start .args .rows .now) (start .args .k) 4 in
-    let cells = cellsAt (start .args .tab .now) (start .args .rows .now) (start .args .k) 0 n in
-    let r = c .before .before .before .row .ensures in
-    let e : take (9 * c .before .before .before .row .result) (c .before .before .before .before .before .write-defaults .last .1 .1 .1 .0) ≡ cells =
-    ap (λ m. take (9 * m) (c .before .before .before .before .before .write-defaults .last .1 .1 .1 .0)) r ∙ ap (take (9 * n)) (c .before .before .before .before .before .write-defaults .ensures) ∙ take-at cells _ (9 * n) (length-cellsAt (start .args .tab .now) (start .args .rows .now) (start .args .k) 0 n) in
+    let start = c .before .before .before .before .before .before .before .before .before in
+    let n = rowAt (rowsOf (start .args .tab .now)) (start .args .k) 4 in
+    let cells = cellsAt (tabOf (start .args .tab .now)) (rowsOf (start .args .tab .now)) (start .args .k) 0 n in
+    let r = c .before .before .before .column .ensures in
+    let e : take (9 * c .before .before .before .column .result) (c .before .before .before .before .before .write-defaults .last .1 .1 .0) ≡ cells =
+    ap (λ m. take (9 * m) (c .before .before .before .before .before .write-defaults .last .1 .1 .0)) r ∙ ap (take (9 * n)) (c .before .before .before .before .before .write-defaults .ensures) ∙ take-at cells _ (9 * n) (length-cellsAt (tabOf (start .args .tab .now)) (rowsOf (start .args .tab .now)) (start .args .k) 0 n) in
     c .same-bytes .ensures ∙ ap₂ same (ap (λ m. take (9 * m) (start .args .cells .now)) r) e
 
 pub are-defaults-spec : {M : Type 1} → statement M
@@ -74,7 +75,7 @@ are-defaults-spec =
     (tie.spec
     slice-aggregate-write-defaults
     write-defaults-requires
-    row-requires
+    column-requires
     mul-end
     slice-aggregate-same-bytes
     array-share-prefix-defaults

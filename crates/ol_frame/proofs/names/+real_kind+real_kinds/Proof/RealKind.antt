@@ -14,6 +14,9 @@ use Rattle.ol_frame.specs.Outcomes.{kindOf, outcomeKind}
 use Rattle.ol_frame.specs.Plans.{globalsIn, scopeIn, nameAt}
 use Rattle.ol_frame.proofs.RealKinds.{arithmetic-code, plain-code, bits-code, code-kind, present-kind}
 use Rattle.ol_frame.proofs.Planning.{plan-head, plan-name, plan-parts, plan-rest, plan-first, plan-call, plan-passable, segs-form, segs-cons, segs-first}
+use Rattle.ol_tables.specs.Table.{tabOf, rowsOf, constsOf}
+use Rattle.ol_frame.specs.Frame.{nodeOf, firstOf, cellsOf, beforeOf}
+use Rattle.ol_frame.proofs.Tabling.{rows-room}
 -- </uses>
 use Prim.Native.Nat.{ℕ}
 use borrow.Author.Needs.{needs}
@@ -34,215 +37,222 @@ Q t = (present-reads.Asked, present-reads.Learnt, kind-of-outcome-reads.Asked, k
 
 pub shared-slice-read-code : (t : ℕ) → real-kind-lts.Need-shared-slice-read-code (Q t) (real-kind-at t) real-kind.Post
 shared-slice-read-code t c =
-    let start = c .before .before .before .before .before .before in
+    let start = c .before .before .before in
     let f = start .args .file .now in
     let L = start .args .level in
     let a = start .args .at in
-    let p = start .pre .1 .0 in
+    let p = start .pre .1 .1 in
     let h = plan-head f p in
     reads-in f L a h
 
 pub add-p : (t : ℕ) → real-kind-lts.Need-add-p (Q t) (real-kind-at t) real-kind.Post
 add-p t c =
-    let start = c .before .before .before .before .before .before in
+    let start = c .before .before .before in
     let f = start .args .file .now in
     let L = start .args .level in
     let a = start .args .at in
-    let p = start .pre .1 .0 in
+    let p = start .pre .1 .1 in
     let h = plan-head f p in
     omega (arith, reads-in f L a h, start .good)
 
 pub present-requires : (t : ℕ) → real-kind-lts.Need-present-requires (Q t) (real-kind-at t) real-kind.Post
 present-requires t c κs =
-    let start = c .before .before .before .before .before .before .before in
+    let start = c .before .before .before .before in
     let f = start .args .file .now in
-    let p = start .pre .1 .0 in
-    let z = start .pre .1 .1 in
-    (plan-name f p (c .match .keys2), z)
+    let fd = start .pre .1 .0 in
+    let p = start .pre .1 .1 in
+    let z = start .pre .1 .2 in
+    (fd, plan-name f p (c .match .keys2), z)
 
 pub kind-of-outcome-requires : (t : ℕ) → real-kind-lts.Need-kind-of-outcome-requires (Q t) (real-kind-at t) real-kind.Post
 kind-of-outcome-requires t c κs = tt
 
 pub add-real-kind : (t : ℕ) → real-kind-lts.Need-add-real-kind (Q t) (real-kind-at t) real-kind.Post
 add-real-kind t c =
-    let start = c .before .before .before .before .before .before .before in
+    let start = c .before .before .before .before in
     let f = start .args .file .now in
     let L = start .args .level in
     let a = start .args .at in
-    let p = start .pre .1 .0 in
+    let p = start .pre .1 .1 in
     let h = plan-head f p in
     omega (arith, (unary-form f L a h (c .match .keys3) .1) .inside, start .good)
 
 pub sub-real-kind : (t : ℕ) → real-kind-lts.Need-sub-real-kind (Q t) (real-kind-at t) real-kind.Post
 sub-real-kind t c =
-    let start = c .before .before .before .before .before .before .before in
+    let start = c .before .before .before .before in
     let f = start .args .file .now in
     let L = start .args .level in
     let a = start .args .at in
-    let p = start .pre .1 .0 in
+    let p = start .pre .1 .1 in
     let h = plan-head f p in
     let deep = reads-deep f L a h in
     deep
 
 pub real-kind-requires : (t : ℕ) → real-kind-lts.Need-real-kind-requires (Q t) (real-kind-at t) real-kind.Post
 real-kind-requires t c κs =
-    let start = c .before .before .before .before .before .before .before in
+    let start = c .before .before .before .before in
     let f = start .args .file .now in
     let L = start .args .level in
     let a = start .args .at in
-    let p = start .pre .1 .0 in
-    let z = start .pre .1 .1 in
-    let room = start .pre .1 .2 in
+    let fd = start .pre .1 .0 in
+    let p = start .pre .1 .1 in
+    let z = start .pre .1 .2 in
+    let room = start .pre .1 .3 in
     let h = plan-head f p in
     let deep = reads-deep f L a h in
-    (omega (arith, start .pre .0, deep), (plan-parts f p ((unary-form f L a h (c .match .keys3) .1)), z, subst (λ (m : ℕ). m ≤ 32768) (segs-form f (p .reads) ((unary-form f L a h (c .match .keys3) .1)) refl) room))
+    (omega (arith, start .pre .0, deep), (fd, plan-parts f p ((unary-form f L a h (c .match .keys3) .1)), z, subst (λ (m : ℕ). m ≤ 32768) (segs-form f (p .reads) ((unary-form f L a h (c .match .keys3) .1)) refl) room))
 
 pub shared-slice-read-op : (t : ℕ) → real-kind-lts.Need-shared-slice-read-op (Q t) (real-kind-at t) real-kind.Post
 shared-slice-read-op t c =
-    let start = c .before .before .before .before .before .before .before .before in
+    let start = c .before .before .before .before .before in
     let f = start .args .file .now in
     let L = start .args .level in
     let a = start .args .at in
-    let p = start .pre .1 .0 in
+    let p = start .pre .1 .1 in
     let h = plan-head f p in
     omega (arith, (binary-form f L a h (c .before .match .keys4)) .1 .inside)
 
 pub add-real-kinds : (t : ℕ) → real-kind-lts.Need-add-real-kinds (Q t) (real-kind-at t) real-kind.Post
 add-real-kinds t c =
-    let start = c .before .before .before .before .before .before .before .before .before .before in
+    let start = c .before .before .before .before .before .before .before in
     let f = start .args .file .now in
     let L = start .args .level in
     let a = start .args .at in
-    let p = start .pre .1 .0 in
+    let p = start .pre .1 .1 in
     let h = plan-head f p in
     omega (arith, (binary-form f L a h (c .before .before .before .match .keys4)) .1 .inside, start .good)
 
 pub sub-real-kinds : (t : ℕ) → real-kind-lts.Need-sub-real-kinds (Q t) (real-kind-at t) real-kind.Post
 sub-real-kinds t c =
-    let start = c .before .before .before .before .before .before .before .before .before .before in
+    let start = c .before .before .before .before .before .before .before in
     let f = start .args .file .now in
     let L = start .args .level in
     let a = start .args .at in
-    let p = start .pre .1 .0 in
+    let p = start .pre .1 .1 in
     let h = plan-head f p in
     let deep = reads-deep f L a h in
     deep
 
 pub real-kinds-requires : (t : ℕ) → real-kind-lts.Need-real-kinds-requires (Q t) (real-kind-at t) real-kind.Post
 real-kinds-requires t c κs =
-    let start = c .before .before .before .before .before .before .before .before .before .before in
-    let f = start .args .file .now in
-    let L = start .args .level in
-    let a = start .args .at in
-    let p = start .pre .1 .0 in
-    let z = start .pre .1 .1 in
-    let room = start .pre .1 .2 in
-    let h = plan-head f p in
-    let deep = reads-deep f L a h in
-    (omega (arith, start .pre .0, deep), (plan-parts f p ((binary-form f L a h (c .before .before .before .match .keys4)) .1), z, subst (λ (m : ℕ). m ≤ 32768) (segs-form f (p .reads) ((binary-form f L a h (c .before .before .before .match .keys4)) .1) refl) room))
-
-pub sub-pass : (t : ℕ) → real-kind-lts.Need-sub-pass (Q t) (real-kind-at t) real-kind.Post
-sub-pass t c =
     let start = c .before .before .before .before .before .before .before in
     let f = start .args .file .now in
     let L = start .args .level in
     let a = start .args .at in
-    let p = start .pre .1 .0 in
+    let fd = start .pre .1 .0 in
+    let p = start .pre .1 .1 in
+    let z = start .pre .1 .2 in
+    let room = start .pre .1 .3 in
+    let h = plan-head f p in
+    let deep = reads-deep f L a h in
+    (omega (arith, start .pre .0, deep), (fd, plan-parts f p ((binary-form f L a h (c .before .before .before .match .keys4)) .1), z, subst (λ (m : ℕ). m ≤ 32768) (segs-form f (p .reads) ((binary-form f L a h (c .before .before .before .match .keys4)) .1) refl) room))
+
+pub sub-pass : (t : ℕ) → real-kind-lts.Need-sub-pass (Q t) (real-kind-at t) real-kind.Post
+sub-pass t c =
+    let start = c .before .before .before .before in
+    let f = start .args .file .now in
+    let L = start .args .level in
+    let a = start .args .at in
+    let p = start .pre .1 .1 in
     let h = plan-head f p in
     let deep = reads-deep f L a h in
     deep
 
 pub pass-requires : (t : ℕ) → real-kind-lts.Need-pass-requires (Q t) (real-kind-at t) real-kind.Post
 pass-requires t c κs =
-    let start = c .before .before .before .before .before .before .before in
+    let start = c .before .before .before .before in
     let f = start .args .file .now in
+    let T = start .args .tab .now in
     let L = start .args .level in
     let a = start .args .at in
-    let p = start .pre .1 .0 in
-    let room = start .pre .1 .2 in
+    let p = start .pre .1 .1 in
+    let room = start .pre .1 .3 in
     let h = plan-head f p in
-    plan-passable f (plan-first f ((plan-parts f p ((if-form f L a h (c .match .keys5)))))) (omega (arith, segs-first f ((plan-parts f p ((if-form f L a h (c .match .keys5))))), (subst (λ (m : ℕ). m ≤ 32768) (segs-form f (p .reads) ((if-form f L a h (c .match .keys5))) refl) room)))
+    (plan-passable f (plan-first f ((plan-parts f p ((if-form f L a h (c .match .keys5)))))) (omega (arith, segs-first f ((plan-parts f p ((if-form f L a h (c .match .keys5))))), (subst (λ (m : ℕ). m ≤ 32768) (segs-form f (p .reads) ((if-form f L a h (c .match .keys5))) refl) room))), rows-room T _ (p .program .table .long))
 
 pub sub-real-kinds-2 : (t : ℕ) → real-kind-lts.Need-sub-real-kinds-2 (Q t) (real-kind-at t) real-kind.Post
 sub-real-kinds-2 t c =
-    let start = c .before .before .before .before .before .before .before .before in
+    let start = c .before .before .before .before .before in
     let f = start .args .file .now in
     let L = start .args .level in
     let a = start .args .at in
-    let p = start .pre .1 .0 in
+    let p = start .pre .1 .1 in
     let h = plan-head f p in
     let deep = reads-deep f L a h in
     deep
 
 pub real-kinds-requires-2 : (t : ℕ) → real-kind-lts.Need-real-kinds-requires-2 (Q t) (real-kind-at t) real-kind.Post
 real-kinds-requires-2 t c κs =
-    let start = c .before .before .before .before .before .before .before .before in
+    let start = c .before .before .before .before .before in
     let f = start .args .file .now in
     let L = start .args .level in
     let a = start .args .at in
-    let p = start .pre .1 .0 in
-    let z = start .pre .1 .1 in
-    let room = start .pre .1 .2 in
+    let fd = start .pre .1 .0 in
+    let p = start .pre .1 .1 in
+    let z = start .pre .1 .2 in
+    let room = start .pre .1 .3 in
     let h = plan-head f p in
     let deep = reads-deep f L a h in
     let e = c .pass .ensures .next-is ∙ one-tree f (L - 1) (a + 1) (plan-first f ((plan-parts f p ((if-form f L a h (c .before .match .keys5))))) .reads) .1 in
-    (omega (arith, start .pre .0, deep), (rw e (plan-rest f ((plan-parts f p ((if-form f L a h (c .before .match .keys5)))))), z, rw e (omega (arith, segs-cons f (L - 1) 2 (a + 1) ((plan-parts f p ((if-form f L a h (c .before .match .keys5)))) .reads), (subst (λ (m : ℕ). m ≤ 32768) (segs-form f (p .reads) ((if-form f L a h (c .before .match .keys5))) refl) room)))))
+    (omega (arith, start .pre .0, deep), (fd, rw e (plan-rest f ((plan-parts f p ((if-form f L a h (c .before .match .keys5)))))), z, rw e (omega (arith, segs-cons f (L - 1) 2 (a + 1) ((plan-parts f p ((if-form f L a h (c .before .match .keys5)))) .reads), (subst (λ (m : ℕ). m ≤ 32768) (segs-form f (p .reads) ((if-form f L a h (c .before .match .keys5))) refl) room)))))
 
 pub sub-real-kind-2 : (t : ℕ) → real-kind-lts.Need-sub-real-kind-2 (Q t) (real-kind-at t) real-kind.Post
 sub-real-kind-2 t c =
-    let start = c .before .before .before .before .before .before .before in
+    let start = c .before .before .before .before in
     let f = start .args .file .now in
     let L = start .args .level in
     let a = start .args .at in
-    let p = start .pre .1 .0 in
+    let p = start .pre .1 .1 in
     let h = plan-head f p in
     let deep = reads-deep f L a h in
     deep
 
 pub real-kind-requires-2 : (t : ℕ) → real-kind-lts.Need-real-kind-requires-2 (Q t) (real-kind-at t) real-kind.Post
 real-kind-requires-2 t c κs =
-    let start = c .before .before .before .before .before .before .before in
+    let start = c .before .before .before .before in
     let f = start .args .file .now in
     let L = start .args .level in
     let a = start .args .at in
-    let p = start .pre .1 .0 in
-    let z = start .pre .1 .1 in
-    let room = start .pre .1 .2 in
+    let fd = start .pre .1 .0 in
+    let p = start .pre .1 .1 in
+    let z = start .pre .1 .2 in
+    let room = start .pre .1 .3 in
     let h = plan-head f p in
     let deep = reads-deep f L a h in
-    (omega (arith, start .pre .0, deep), (plan-parts f p ((pre-form f L a h (c .match .keys6))), z, subst (λ (m : ℕ). m ≤ 32768) (segs-form f (p .reads) ((pre-form f L a h (c .match .keys6))) refl) room))
+    (omega (arith, start .pre .0, deep), (fd, plan-parts f p ((pre-form f L a h (c .match .keys6))), z, subst (λ (m : ℕ). m ≤ 32768) (segs-form f (p .reads) ((pre-form f L a h (c .match .keys6))) refl) room))
 
 pub sub-real-kinds-3 : (t : ℕ) → real-kind-lts.Need-sub-real-kinds-3 (Q t) (real-kind-at t) real-kind.Post
 sub-real-kinds-3 t c =
-    let start = c .before .before .before .before .before .before .before in
+    let start = c .before .before .before .before in
     let f = start .args .file .now in
     let L = start .args .level in
     let a = start .args .at in
-    let p = start .pre .1 .0 in
+    let p = start .pre .1 .1 in
     let h = plan-head f p in
     let deep = reads-deep f L a h in
     deep
 
 pub real-kinds-requires-3 : (t : ℕ) → real-kind-lts.Need-real-kinds-requires-3 (Q t) (real-kind-at t) real-kind.Post
 real-kinds-requires-3 t c κs =
-    let start = c .before .before .before .before .before .before .before in
+    let start = c .before .before .before .before in
     let f = start .args .file .now in
     let L = start .args .level in
     let a = start .args .at in
-    let p = start .pre .1 .0 in
-    let z = start .pre .1 .1 in
-    let room = start .pre .1 .2 in
+    let fd = start .pre .1 .0 in
+    let p = start .pre .1 .1 in
+    let z = start .pre .1 .2 in
+    let room = start .pre .1 .3 in
     let h = plan-head f p in
     let deep = reads-deep f L a h in
-    (omega (arith, start .pre .0, deep), (plan-parts f p ((arrow-form f L a h (c .match .keys7))), z, subst (λ (m : ℕ). m ≤ 32768) (segs-form f (p .reads) ((arrow-form f L a h (c .match .keys7))) refl) room))
+    (omega (arith, start .pre .0, deep), (fd, plan-parts f p ((arrow-form f L a h (c .match .keys7))), z, subst (λ (m : ℕ). m ≤ 32768) (segs-form f (p .reads) ((arrow-form f L a h (c .match .keys7))) refl) room))
 
 pub shared-slice-read-kind-of-type : (t : ℕ) → real-kind-lts.Need-shared-slice-read-kind-of-type (Q t) (real-kind-at t) real-kind.Post
 shared-slice-read-kind-of-type t c =
-    let start = c .before .before .before .before .before .before .before .before in
+    let start = c .before .before .before .before .before in
     let f = start .args .file .now in
     let L = start .args .level in
     let a = start .args .at in
-    let p = start .pre .1 .0 in
+    let p = start .pre .1 .1 in
     let h = plan-head f p in
     omega (arith, (cast-form f L a h (c .before .match .keys8)) .1 .inside, type-some ((cast-form f L a h (c .before .match .keys8)) .0))
 
@@ -251,11 +261,11 @@ kind-of-type-requires t c κs = tt
 
 pub shared-slice-read-number : (t : ℕ) → real-kind-lts.Need-shared-slice-read-number (Q t) (real-kind-at t) real-kind.Post
 shared-slice-read-number t c =
-    let start = c .before .before .before .before .before .before .before .before in
+    let start = c .before .before .before .before .before in
     let f = start .args .file .now in
     let L = start .args .level in
     let a = start .args .at in
-    let p = start .pre .1 .0 in
+    let p = start .pre .1 .1 in
     let h = plan-head f p in
     omega (arith, (call-form f L a h (c .before .match .keys9)) .0 .inside)
 
@@ -264,21 +274,23 @@ number-requires t c κs = tt
 
 pub call-kind-requires : (t : ℕ) → real-kind-lts.Need-call-kind-requires (Q t) (real-kind-at t) real-kind.Post
 call-kind-requires t c κs =
-    let start = c .before .before .before .before .before .before .before .before .before in
+    let start = c .before .before .before .before .before .before in
     let f = start .args .file .now in
-    let p = start .pre .1 .0 in
+    let p = start .pre .1 .1 in
     (p .program, omega (arith, c .number .ensures .0, (plan-call f p (c .before .before .match .keys9) .lower), p .node≤))
 
 pub returns : (t : ℕ) → real-kind-lts.Need-returns (Q t) (real-kind-at t) real-kind.Post
 returns t c =
-    let start = c .before .before .before .before .before .before .before in
+    let start = c .before .before .before .before in
     let f = start .args .file .now in
-    let kk = start .args .consts .now in
-    let cl = start .args .cells .now in
-    let n = start .args .node in
+    let T = start .args .tab .now in
+    let kk = constsOf T in
+    let fr = start .args .frame .now in
+    let cl = cellsOf fr in
+    let n = nodeOf fr in
     let L = start .args .level in
     let a = start .args .at in
-    let p = start .pre .1 .0 in
+    let p = start .pre .1 .1 in
     let h = plan-head f p in
     let g = globalsIn f kk in
     let sc = scopeIn f n false cl cl in
@@ -286,14 +298,16 @@ returns t c =
 
 pub returns-2 : (t : ℕ) → real-kind-lts.Need-returns-2 (Q t) (real-kind-at t) real-kind.Post
 returns-2 t c =
-    let start = c .before .before .before .before .before .before .before .before .before in
+    let start = c .before .before .before .before .before .before in
     let f = start .args .file .now in
-    let kk = start .args .consts .now in
-    let cl = start .args .cells .now in
-    let n = start .args .node in
+    let T = start .args .tab .now in
+    let kk = constsOf T in
+    let fr = start .args .frame .now in
+    let cl = cellsOf fr in
+    let n = nodeOf fr in
     let L = start .args .level in
     let a = start .args .at in
-    let p = start .pre .1 .0 in
+    let p = start .pre .1 .1 in
     let h = plan-head f p in
     let g = globalsIn f kk in
     let sc = scopeIn f n false cl cl in
@@ -301,14 +315,16 @@ returns-2 t c =
 
 pub returns-3 : (t : ℕ) → real-kind-lts.Need-returns-3 (Q t) (real-kind-at t) real-kind.Post
 returns-3 t c =
-    let start = c .before .before .before .before .before .before .before .before in
+    let start = c .before .before .before .before .before in
     let f = start .args .file .now in
-    let kk = start .args .consts .now in
-    let cl = start .args .cells .now in
-    let n = start .args .node in
+    let T = start .args .tab .now in
+    let kk = constsOf T in
+    let fr = start .args .frame .now in
+    let cl = cellsOf fr in
+    let n = nodeOf fr in
     let L = start .args .level in
     let a = start .args .at in
-    let p = start .pre .1 .0 in
+    let p = start .pre .1 .1 in
     let h = plan-head f p in
     let g = globalsIn f kk in
     let sc = scopeIn f n false cl cl in
@@ -316,14 +332,16 @@ returns-3 t c =
 
 pub returns-4 : (t : ℕ) → real-kind-lts.Need-returns-4 (Q t) (real-kind-at t) real-kind.Post
 returns-4 t c =
-    let start = c .before .before .before .before .before .before .before .before .before in
+    let start = c .before .before .before .before .before .before in
     let f = start .args .file .now in
-    let kk = start .args .consts .now in
-    let cl = start .args .cells .now in
-    let n = start .args .node in
+    let T = start .args .tab .now in
+    let kk = constsOf T in
+    let fr = start .args .frame .now in
+    let cl = cellsOf fr in
+    let n = nodeOf fr in
     let L = start .args .level in
     let a = start .args .at in
-    let p = start .pre .1 .0 in
+    let p = start .pre .1 .1 in
     let h = plan-head f p in
     let g = globalsIn f kk in
     let sc = scopeIn f n false cl cl in
@@ -331,14 +349,16 @@ returns-4 t c =
 
 pub returns-5 : (t : ℕ) → real-kind-lts.Need-returns-5 (Q t) (real-kind-at t) real-kind.Post
 returns-5 t c =
-    let start = c .before .before .before .before .before .before .before .before .before .before .before in
+    let start = c .before .before .before .before .before .before .before .before in
     let f = start .args .file .now in
-    let kk = start .args .consts .now in
-    let cl = start .args .cells .now in
-    let n = start .args .node in
+    let T = start .args .tab .now in
+    let kk = constsOf T in
+    let fr = start .args .frame .now in
+    let cl = cellsOf fr in
+    let n = nodeOf fr in
     let L = start .args .level in
     let a = start .args .at in
-    let p = start .pre .1 .0 in
+    let p = start .pre .1 .1 in
     let h = plan-head f p in
     let g = globalsIn f kk in
     let sc = scopeIn f n false cl cl in
@@ -346,14 +366,16 @@ returns-5 t c =
 
 pub returns-6 : (t : ℕ) → real-kind-lts.Need-returns-6 (Q t) (real-kind-at t) real-kind.Post
 returns-6 t c =
-    let start = c .before .before .before .before .before .before .before .before .before .before in
+    let start = c .before .before .before .before .before .before .before in
     let f = start .args .file .now in
-    let kk = start .args .consts .now in
-    let cl = start .args .cells .now in
-    let n = start .args .node in
+    let T = start .args .tab .now in
+    let kk = constsOf T in
+    let fr = start .args .frame .now in
+    let cl = cellsOf fr in
+    let n = nodeOf fr in
     let L = start .args .level in
     let a = start .args .at in
-    let p = start .pre .1 .0 in
+    let p = start .pre .1 .1 in
     let h = plan-head f p in
     let g = globalsIn f kk in
     let sc = scopeIn f n false cl cl in
@@ -361,14 +383,16 @@ returns-6 t c =
 
 pub returns-7 : (t : ℕ) → real-kind-lts.Need-returns-7 (Q t) (real-kind-at t) real-kind.Post
 returns-7 t c =
-    let start = c .before .before .before .before .before .before .before .before .before in
+    let start = c .before .before .before .before .before .before in
     let f = start .args .file .now in
-    let kk = start .args .consts .now in
-    let cl = start .args .cells .now in
-    let n = start .args .node in
+    let T = start .args .tab .now in
+    let kk = constsOf T in
+    let fr = start .args .frame .now in
+    let cl = cellsOf fr in
+    let n = nodeOf fr in
     let L = start .args .level in
     let a = start .args .at in
-    let p = start .pre .1 .0 in
+    let p = start .pre .1 .1 in
     let h = plan-head f p in
     let g = globalsIn f kk in
     let sc = scopeIn f n false cl cl in
@@ -377,14 +401,16 @@ returns-7 t c =
 
 pub returns-8 : (t : ℕ) → real-kind-lts.Need-returns-8 (Q t) (real-kind-at t) real-kind.Post
 returns-8 t c =
-    let start = c .before .before .before .before .before .before .before .before in
+    let start = c .before .before .before .before .before in
     let f = start .args .file .now in
-    let kk = start .args .consts .now in
-    let cl = start .args .cells .now in
-    let n = start .args .node in
+    let T = start .args .tab .now in
+    let kk = constsOf T in
+    let fr = start .args .frame .now in
+    let cl = cellsOf fr in
+    let n = nodeOf fr in
     let L = start .args .level in
     let a = start .args .at in
-    let p = start .pre .1 .0 in
+    let p = start .pre .1 .1 in
     let h = plan-head f p in
     let g = globalsIn f kk in
     let sc = scopeIn f n false cl cl in
@@ -392,14 +418,16 @@ returns-8 t c =
 
 pub returns-9 : (t : ℕ) → real-kind-lts.Need-returns-9 (Q t) (real-kind-at t) real-kind.Post
 returns-9 t c =
-    let start = c .before .before .before .before .before .before .before .before in
+    let start = c .before .before .before .before .before in
     let f = start .args .file .now in
-    let kk = start .args .consts .now in
-    let cl = start .args .cells .now in
-    let n = start .args .node in
+    let T = start .args .tab .now in
+    let kk = constsOf T in
+    let fr = start .args .frame .now in
+    let cl = cellsOf fr in
+    let n = nodeOf fr in
     let L = start .args .level in
     let a = start .args .at in
-    let p = start .pre .1 .0 in
+    let p = start .pre .1 .1 in
     let h = plan-head f p in
     let g = globalsIn f kk in
     let sc = scopeIn f n false cl cl in
@@ -407,14 +435,16 @@ returns-9 t c =
 
 pub returns-10 : (t : ℕ) → real-kind-lts.Need-returns-10 (Q t) (real-kind-at t) real-kind.Post
 returns-10 t c =
-    let start = c .before .before .before .before .before .before .before .before .before in
+    let start = c .before .before .before .before .before .before in
     let f = start .args .file .now in
-    let kk = start .args .consts .now in
-    let cl = start .args .cells .now in
-    let n = start .args .node in
+    let T = start .args .tab .now in
+    let kk = constsOf T in
+    let fr = start .args .frame .now in
+    let cl = cellsOf fr in
+    let n = nodeOf fr in
     let L = start .args .level in
     let a = start .args .at in
-    let p = start .pre .1 .0 in
+    let p = start .pre .1 .1 in
     let h = plan-head f p in
     let g = globalsIn f kk in
     let sc = scopeIn f n false cl cl in
@@ -422,14 +452,16 @@ returns-10 t c =
 
 pub returns-11 : (t : ℕ) → real-kind-lts.Need-returns-11 (Q t) (real-kind-at t) real-kind.Post
 returns-11 t c =
-    let start = c .before .before .before .before .before .before .before .before .before .before in
+    let start = c .before .before .before .before .before .before .before in
     let f = start .args .file .now in
-    let kk = start .args .consts .now in
-    let cl = start .args .cells .now in
-    let n = start .args .node in
+    let T = start .args .tab .now in
+    let kk = constsOf T in
+    let fr = start .args .frame .now in
+    let cl = cellsOf fr in
+    let n = nodeOf fr in
     let L = start .args .level in
     let a = start .args .at in
-    let p = start .pre .1 .0 in
+    let p = start .pre .1 .1 in
     let h = plan-head f p in
     let g = globalsIn f kk in
     let sc = scopeIn f n false cl cl in
@@ -437,14 +469,16 @@ returns-11 t c =
 
 pub returns-12 : (t : ℕ) → real-kind-lts.Need-returns-12 (Q t) (real-kind-at t) real-kind.Post
 returns-12 t c =
-    let start = c .before .before .before .before .before .before .before in
+    let start = c .before .before .before .before in
     let f = start .args .file .now in
-    let kk = start .args .consts .now in
-    let cl = start .args .cells .now in
-    let n = start .args .node in
+    let T = start .args .tab .now in
+    let kk = constsOf T in
+    let fr = start .args .frame .now in
+    let cl = cellsOf fr in
+    let n = nodeOf fr in
     let L = start .args .level in
     let a = start .args .at in
-    let p = start .pre .1 .0 in
+    let p = start .pre .1 .1 in
     let h = plan-head f p in
     let g = globalsIn f kk in
     let sc = scopeIn f n false cl cl in
