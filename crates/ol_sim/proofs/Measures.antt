@@ -19,6 +19,7 @@ use Rattle.ol_spec.specs.declared.Verdict.{Verdict}
 use Rattle.ol_spec.proofs.Admits.{admits}
 use Rattle.ol_tables.specs.At.{fileAt, itemOf, noFile}
 use Rattle.ol_tables.specs.Tables.{rowAt, nodeOf}
+use Rattle.ol_tables.specs.Table.{rowsOf}
 use Rattle.ol_tables.proofs.HeadsFile.{file-stands, node-at}
 use Rattle.ol_ir.proofs.Bytes.{get-in, get-out}
 use Rattle.ol_check.proofs.RowLoops.{few-variables}
@@ -28,7 +29,7 @@ use Rattle.ol_sim.specs.Answering.{MeasureReady, AnswerReady}
 use Rattle.ol_sim.specs.Serving.{verdictOf}
 use Rattle.ol_sim.proofs.Starts.{main-is}
 
-pub measure-ready : {s rows tab consts : List ℕ} {size m : ℕ} → AnswerReady s rows tab consts size m → MeasureReady s rows size m
+pub measure-ready : {s t : List ℕ} {size m : ℕ} → AnswerReady s t size m → MeasureReady s (rowsOf t) size m
 measure-ready h = record { stands = h .tables .stands; rowed = h .tables .rowed; sized = h .sized; last = h .last }
 
 -- ---- by the rows
