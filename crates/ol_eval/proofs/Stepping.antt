@@ -386,8 +386,8 @@ module _ {file tab rows consts args old new : List ℕ} {k : ℕ} (h : Steppable
 -- ---- on a frame
 
 -- a run on a frame of node k
-pub framed-runnable : {file tab rows consts fr : List ℕ} {k : ℕ} {old new : List ℕ} → nodeOf fr ≡ k → Runnable file tab rows consts k (cellsOf fr) (beforeOf fr) old new → Runnable file tab rows consts (nodeOf fr) (cellsOf fr) (beforeOf fr) old new
-framed-runnable {file} {tab} {rows} {consts} {fr} {k} {old} {new} e p =
+pub framed-runnable : (fr : List ℕ) {file tab rows consts : List ℕ} {k : ℕ} {old new : List ℕ} → nodeOf fr ≡ k → Runnable file tab rows consts k (cellsOf fr) (beforeOf fr) old new → Runnable file tab rows consts (nodeOf fr) (cellsOf fr) (beforeOf fr) old new
+framed-runnable fr {file} {tab} {rows} {consts} {k} {old} {new} e p =
     subst (λ (n : ℕ). Runnable file tab rows consts n (cellsOf fr) (beforeOf fr) old new) (sym e) p
 
 pub framed-run : (file consts fr old cells′ : List ℕ) {k : ℕ} {new : List ℕ} {r : Ended} → nodeOf fr ≡ k → RunTo file consts (nodeOf fr) (firstOf fr) (cellsOf fr) (beforeOf fr) old r cells′ new → RunTo file consts k (firstOf fr) (cellsOf fr) (beforeOf fr) old r cells′ new

@@ -376,7 +376,7 @@ fn enter(
     new: &mut [u8],
 ) -> Ran
     requires { ⌜ Framed (now frame) × Ready (now file) (tabOf (now tab)) (rowsOf (now tab)) (constsOf (now tab)) level 1 at (nodeOf (now frame)) (cellsOf (now frame)) (beforeOf (now frame)) (now old) (now new) × (getD (now file) at 0 ≡ 11) × (length (now args) ≡ 288) ⌝ }
-    ensures { λ r. ⌜ EntersTo (now (file .entry)) (constsOf (now (tab .entry))) level at (nodeOf (now (frame .entry))) (firstOf (now (frame .entry))) (cellsOf (now (frame .entry))) (beforeOf (now (frame .entry))) (now (old .entry)) r (now (args .exit)) (now (new .exit)) ⌝ }
+    ensures { λ r. ⌜ EntersTo (now (file .entry)) (constsOf (now (tab .entry))) level at (nodeOf (now (frame .entry))) (firstOf (now (frame .entry))) (cellsOf (now (frame .entry))) (beforeOf (now (frame .entry))) (now (old .entry)) r (now (args .exit)) (now (new .exit)) × (length (now (args .exit)) ≡ length (now (args .entry))) ⌝ }
 {
     let p = at + 1;
     let k = number(file[p]);
@@ -422,7 +422,7 @@ fn eval_all(
     new: &mut [u8],
 ) -> Ran
     requires { ⌜ Framed (now frame) × Ready (now file) (tabOf (now tab)) (rowsOf (now tab)) (constsOf (now tab)) level (partsAt (now file) at) (nextAt (now file) at) (nodeOf (now frame)) (cellsOf (now frame)) (beforeOf (now frame)) (now old) (now new) × Several (now file) at (now to) ⌝ }
-    ensures { λ r. ⌜ AllTo (now (file .entry)) (constsOf (now (tab .entry))) level at (nodeOf (now (frame .entry))) (firstOf (now (frame .entry))) (cellsOf (now (frame .entry))) (beforeOf (now (frame .entry))) (now (old .entry)) r (now (to .exit)) (now (new .exit)) ⌝ }
+    ensures { λ r. ⌜ AllTo (now (file .entry)) (constsOf (now (tab .entry))) level at (nodeOf (now (frame .entry))) (firstOf (now (frame .entry))) (cellsOf (now (frame .entry))) (beforeOf (now (frame .entry))) (now (old .entry)) r (now (to .exit)) (now (new .exit)) × (length (now (to .exit)) ≡ length (now (to .entry))) ⌝ }
 {
     let fits = file[at] == 11;
     let p = at + 1;
@@ -480,7 +480,7 @@ fn step_site(
     new: &mut [u8],
 ) -> Ending
     requires { ⌜ Steppable (now file) (tabOf (now tab)) (rowsOf (now tab)) (constsOf (now tab)) k (now args) (now old) (now new) × (turns ≡ 0) ⌝ }
-    ensures { λ r. ⌜ SiteTo (now (file .entry)) (constsOf (now (tab .entry))) k (now (args .entry)) (now (old .entry)) r (now (args .exit)) (now (new .exit)) ⌝ }
+    ensures { λ r. ⌜ SiteTo (now (file .entry)) (constsOf (now (tab .entry))) k (now (args .entry)) (now (old .entry)) r (now (args .exit)) (now (new .exit)) × (length (now (args .exit)) ≡ length (now (args .entry))) ⌝ }
 {
     if 0 < turns {
         step_site(turns - 1, file, tab, k, args, old, new)
@@ -506,7 +506,7 @@ fn step_instance(
     new: &mut [u8],
 ) -> Ending
     requires { ⌜ Steppable (now file) (tabOf (now tab)) (rowsOf (now tab)) (constsOf (now tab)) k (now args) (now old) (now new) × (length (now frame) ≡ 2018) × (nodeIn (now file) k .kind ≡ Operator) ⌝ }
-    ensures { λ r. ⌜ SiteTo (now (file .entry)) (constsOf (now (tab .entry))) k (now (args .entry)) (now (old .entry)) r (now (args .exit)) (now (new .exit)) ⌝ }
+    ensures { λ r. ⌜ SiteTo (now (file .entry)) (constsOf (now (tab .entry))) k (now (args .entry)) (now (old .entry)) r (now (args .exit)) (now (new .exit)) × (length (now (args .exit)) ≡ length (now (args .entry))) ⌝ }
 {
     let n = row(tab, k, VARIABLES);
     let own = 1 + 9 * n;
@@ -542,7 +542,7 @@ fn call_function(
     new: &mut [u8],
 ) -> Ending
     requires { ⌜ Steppable (now file) (tabOf (now tab)) (rowsOf (now tab)) (constsOf (now tab)) k (now args) (now old) (now new) × (length (now frame) ≡ 2018) × (nodeIn (now file) k .kind ≡ Function) ⌝ }
-    ensures { λ r. ⌜ SiteTo (now (file .entry)) (constsOf (now (tab .entry))) k (now (args .entry)) (now (old .entry)) r (now (args .exit)) (now (new .exit)) ⌝ }
+    ensures { λ r. ⌜ SiteTo (now (file .entry)) (constsOf (now (tab .entry))) k (now (args .entry)) (now (old .entry)) r (now (args .exit)) (now (new .exit)) × (length (now (args .exit)) ≡ length (now (args .entry))) ⌝ }
 {
     let inputs = row(tab, k, INPUTS);
     fresh_frame(tab, k, inputs, args, frame);
@@ -562,7 +562,7 @@ pub struct Ended {
 // All equations of the frame's node in evaluation order.
 pub fn run(file: &[u8], tab: &[u8], frame: &mut [u8; FRAME], old: &[u8], new: &mut [u8]) -> Ended
     requires { ⌜ Framed (now frame) × Runnable (now file) (tabOf (now tab)) (rowsOf (now tab)) (constsOf (now tab)) (nodeOf (now frame)) (cellsOf (now frame)) (beforeOf (now frame)) (now old) (now new) ⌝ }
-    ensures { λ r. ⌜ RunTo (now (file .entry)) (constsOf (now (tab .entry))) (nodeOf (now (frame .entry))) (firstOf (now (frame .entry))) (cellsOf (now (frame .entry))) (beforeOf (now (frame .entry))) (now (old .entry)) r (cellsOf (now (frame .exit))) (now (new .exit)) ⌝ }
+    ensures { λ r. ⌜ RunTo (now (file .entry)) (constsOf (now (tab .entry))) (nodeOf (now (frame .entry))) (firstOf (now (frame .entry))) (cellsOf (now (frame .entry))) (beforeOf (now (frame .entry))) (now (old .entry)) r (cellsOf (now (frame .exit))) (now (new .exit)) × Framed (now (frame .exit)) ⌝ }
 {
     let k = node_of(frame);
     let mut places = [0usize; 80];
