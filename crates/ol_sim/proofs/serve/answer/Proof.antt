@@ -10,38 +10,38 @@ use Rattle.ol_sim.proofs.calls.answer_of.Reads as answer-of-reads
 use Rattle.ol_sim.proofs.cycling.cycle_unless.Reads as cycle-unless-reads
 use Rattle.ol_sim.proofs.starting.start_unless.Reads as start-unless-reads
 
--- src/serve.rt:53:24
+-- src/serve.rt:51:24
 enum-told : tie.Need-enum-told
 enum-told c = search needs
 
--- src/serve.rt:54:74
+-- src/serve.rt:52:60
 enum-told-2 : tie.Need-enum-told-2
 enum-told-2 c = search needs
 
--- src/serve.rt:54:24
+-- src/serve.rt:52:24
 start-unless-requires : tie.Need-start-unless-requires
 start-unless-requires c κs =
-    let start = c .before .before .before .before .before .before .before .before .before .before .before .before in
+    let start = c .before .before .before .before .before .before .before .before .before .before in
     start .pre .0 .0
 
--- src/serve.rt:67:17
+-- src/serve.rt:55:69
 enum-told-3 : tie.Need-enum-told-3
 enum-told-3 c = search needs
 
--- src/serve.rt:57:13
+-- src/serve.rt:55:13
 cycle-unless-requires : tie.Need-cycle-unless-requires
 cycle-unless-requires c κs =
-    let start = c .before .before .before .before .before .before .before .before .before .before .before .before .before in
+    let start = c .before .before .before .before .before .before .before .before .before .before .before in
     start .pre .0
 
--- src/serve.rt:55:24
+-- src/serve.rt:53:24
 answer-of-requires : tie.Need-answer-of-requires
 answer-of-requires c κs = search needs
 
 -- src/serve.rt:34:1
 returns : tie.Need-returns
 returns c =
-    let start = c .before .before .before .before .before .before .before .before .before .before .before in
+    let start = c .before .before .before .before .before .before .before .before .before in
     admit-serves (start .args .file .now) (start .args .old .now) (start .args .inputs .now) (start .args .new .now) (start .args .values .now) (start .pre .1) (c .enum-told .given .1) (start .pre .0 .0 .sized)
 
 -- src/serve.rt:34:1
@@ -51,7 +51,7 @@ same-length c = search needs
 -- src/serve.rt:34:1
 returns-2 : tie.Need-returns-2
 returns-2 c =
-    let start = c .before .before .before .before .before .before .before .before .before .before .before .before .before .before .before in
+    let start = c .before .before .before .before .before .before .before .before .before .before .before .before .before in
     start-serves (start .args .file .now) (start .args .old .now) (start .args .inputs .now) (start .args .new .now) (start .args .values .now) (start .pre .1) (c .before .before .before .before .enum-told2 .given .1) (c .before .before .start-unless .ensures)
 
 -- src/serve.rt:34:1
@@ -65,7 +65,7 @@ same-length-3 c = search needs
 -- src/serve.rt:34:1
 returns-3 : tie.Need-returns-3
 returns-3 c =
-    let start = c .before .before .before .before .before .before .before .before .before .before .before .before .before .before .before .before .before .before .before in
+    let start = c .before .before .before .before .before .before .before .before .before .before .before .before .before .before .before .before .before in
     cycle-serves (start .args .file .now) (start .args .old .now) (start .args .inputs .now) (start .args .new .now) (start .args .values .now) (start .pre .1) (start .args .size) (c .before .before .before .before .before .before .before .before .enum-told3 .given .1) (c .answer-of .ensures) (c .before .before .before .before .before .cycle-unless .ensures)
 
 pub answer-spec : {M : Type 1} → statement M

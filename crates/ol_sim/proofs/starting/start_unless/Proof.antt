@@ -10,26 +10,26 @@ use Rattle.ol_sim.proofs.starting.start_unless.Reads as reads
 use Rattle.ol_sim.proofs.starting.start_unless.Lts as lts
 use Rattle.ol_sim.proofs.starting.write_start.Reads as write-start-reads
 
--- src/starting.rt:47:9
+-- src/starting.rt:42:9
 write-start-requires : tie.Need-write-start-requires
 write-start-requires c κs =
-    let start = c .before .before .before .before .before .before .before in
+    let start = c .before .before .before .before .before in
     start-ready (start .args .state .now) (start .pre) (c .before .if1 .taken)
 
--- src/starting.rt:34:1
+-- src/starting.rt:31:1
 same-length : tie.Need-same-length
 same-length c = search needs
 
--- src/starting.rt:34:1
+-- src/starting.rt:31:1
 returns : tie.Need-returns
 returns c =
-    let start = c .before .before .before .before .before .before .before .before .before .before in
+    let start = c .before .before .before .before .before .before .before .before in
     starts-done (fileAt (start .args .file .now)) (start .args .state .now) (c .before .before .before .before .if1 .taken ∙ start .pre .sized) (c .before .before .write-start .ensures)
 
--- src/starting.rt:34:1
+-- src/starting.rt:31:1
 returns-2 : tie.Need-returns-2
 returns-2 c =
-    let start = c .before .before .before .before .before .before in
+    let start = c .before .before .before .before in
     starts-unfit (fileAt (start .args .file .now)) (start .args .state .now) (λ e. c .if1 .left (e ∙ sym (start .pre .sized)))
 
 pub start-unless-spec : {M : Type 1} → statement M
