@@ -18,69 +18,65 @@ use Rattle.ol_check.proofs.file.faults.Reads as faults-reads
 use Rattle.ol_sim.proofs.judge.judge_shapes.Reads as judge-shapes-reads
 use Rattle.ol_sim.proofs.judge.refuse.Reads as refuse-reads
 
--- src/judge.rt:193:19
+-- src/judge.rt:183:19
 enum-known-clash : tie.Need-enum-known-clash
 enum-known-clash c = search needs
 
--- src/judge.rt:193:25
+-- src/judge.rt:183:25
 refuse-requires : tie.Need-refuse-requires
 refuse-requires c κs = search needs
 
--- src/judge.rt:195:38
+-- src/judge.rt:185:38
 enum-told : tie.Need-enum-told
 enum-told c = search needs
 
--- src/judge.rt:195:61
+-- src/judge.rt:185:61
 sub-faults : tie.Need-sub-faults
 sub-faults c = search needs
 
--- src/judge.rt:195:61
+-- src/judge.rt:185:61
 part-faults-start : tie.Need-part-faults-start
 part-faults-start c = search needs
 
--- src/judge.rt:195:61
+-- src/judge.rt:185:61
 part-faults-end : tie.Need-part-faults-end
 part-faults-end c = search needs
 
--- src/judge.rt:195:17
+-- src/judge.rt:185:17
 faults-requires : tie.Need-faults-requires
 faults-requires c κs =
-    let start = c .before .before .before .before .before .before .before .before .before .before .before in
+    let start = c .before .before .before .before .before .before .before .before .before .before in
     (faults-ready (start .pre .0), (start .pre .0) .empty .within, (start .pre .0) .sections .rowed .long)
 
--- src/judge.rt:196:13
+-- src/judge.rt:186:13
 judge-shapes-requires : tie.Need-judge-shapes-requires
 judge-shapes-requires c κs =
-    let start = c .before .before .before .before .before .before .before .before .before .before .before .before .before .before .before .before .before .before .before .before .before in
-    shapes-ready (c .before .before .before .before .before .before .before .before .before .faults .last .1 .1 .1 .1 .0) (start .pre .0) (c .before .before .before .before .before .before .before .before .before .faults .kept .1 .0) (c .before .before .before .before .before .before .before .before .before .faults .kept .1 .1 .1 .1 .0) (sym (start .pre .1) ∙ ap placeOf (c .before .before .before .before .before .before .before .before .before .before .before .before .before .enum-told .given .1)) (c .before .before .before .before .before .before .before .before .before .faults .ensures)
+    let start = c .before .before .before .before .before .before .before .before .before .before .before .before .before .before .before .before .before .before .before in
+    shapes-ready (c .before .before .before .before .before .before .before .before .faults .last .1 .1 .1 .1 .0) (start .pre .0) (c .before .before .before .before .before .before .before .before .faults .kept .1 .0) (c .before .before .before .before .before .before .before .before .faults .kept .1 .1 .1 .1 .0) (sym (start .pre .1) ∙ ap placeOf (c .before .before .before .before .before .before .before .before .before .before .before .before .enum-told .given .1)) (c .before .before .before .before .before .before .before .before .faults .ensures)
 
--- src/judge.rt:176:1
+-- src/judge.rt:166:1
 returns : tie.Need-returns
 returns c =
-    let start = c .before .before .before .before .before .before .before .before .before .before in
+    let start = c .before .before .before .before .before .before .before .before .before in
     (refused-at (c .refuse .ensures) (sym (start .pre .1) ∙ ap placeOf (c .before .before .clash .given .1)), sym (ap (λ o. namesAfter o (fileAt (start .args .file .now)) (start .args .names .now)) (sym (start .pre .1) ∙ ap placeOf (c .before .before .clash .given .1))))
 
--- src/judge.rt:176:1
+-- src/judge.rt:166:1
 same-length : tie.Need-same-length
 same-length c = search needs
 
--- src/judge.rt:176:1
+-- src/judge.rt:166:1
 same-length-2 : tie.Need-same-length-2
 same-length-2 c = search needs
 
--- src/judge.rt:176:1
+-- src/judge.rt:166:1
 same-length-3 : tie.Need-same-length-3
 same-length-3 c = search needs
 
--- src/judge.rt:176:1
-same-length-4 : tie.Need-same-length-4
-same-length-4 c = search needs
-
--- src/judge.rt:176:1
+-- src/judge.rt:166:1
 returns-2 : tie.Need-returns-2
 returns-2 c =
-    let start = c .before .before .before .before .before .before .before .before .before .before .before .before .before .before .before .before .before .before .before .before .before .before .before .before .before .before in
-    (passed-by (sym (start .pre .1) ∙ ap placeOf (c .before .before .before .before .before .before .before .before .before .before .before .before .before .before .before .before .before .before .enum-told .given .1)) (c .before .before .before .before .judge-shapes .ensures), c .before .before .before .before .before .before .before .before .before .before .before .before .before .before .faults .ensures .entered ∙ sym (ap (λ o. namesAfter o (fileAt (start .args .file .now)) (start .args .names .now)) (sym (start .pre .1) ∙ ap placeOf (c .before .before .before .before .before .before .before .before .before .before .before .before .before .before .before .before .before .before .enum-told .given .1))))
+    let start = c .before .before .before .before .before .before .before .before .before .before .before .before .before .before .before .before .before .before .before .before .before .before in
+    (passed-by (sym (start .pre .1) ∙ ap placeOf (c .before .before .before .before .before .before .before .before .before .before .before .before .before .before .before .enum-told .given .1)) (c .before .before .judge-shapes .ensures), c .before .before .before .before .before .before .before .before .before .before .before .faults .ensures .entered ∙ sym (ap (λ o. namesAfter o (fileAt (start .args .file .now)) (start .args .names .now)) (sym (start .pre .1) ∙ ap placeOf (c .before .before .before .before .before .before .before .before .before .before .before .before .before .before .before .enum-told .given .1))))
 
 pub judge-names-spec : {M : Type 1} → statement M
 judge-names-spec =
@@ -98,5 +94,4 @@ judge-names-spec =
     same-length
     same-length-2
     same-length-3
-    same-length-4
     returns-2)

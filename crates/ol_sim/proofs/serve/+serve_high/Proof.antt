@@ -9,4 +9,4 @@ use Rattle.ol_sim.proofs.serve.+serve_high.Proof.Common.{μ-serve-high,
 use Rattle.ol_sim.proofs.serve.+serve_high.Proof.ServeHigh
 
 pub +serve-high-spec : {M : Type 1} → statement M
-+serve-high-spec = close μ-serve-high λ t. serve-high-lts.spec (ServeHigh.Q t) (serve-high-at t) serve-high.Post (ServeHigh.sub-serve-high t) (ServeHigh.serve-high-requires t) (ServeHigh.slice-aggregate-sort-file t) (ServeHigh.sort-file-requires t) (ServeHigh.slice-aggregate-serve-named t) (ServeHigh.serve-named-requires t) (ServeHigh.same-length t) (ServeHigh.same-length-2 t) (ServeHigh.same-length-3 t) (ServeHigh.same-length-4 t) (ServeHigh.same-length-5 t) (ServeHigh.returns t) (ServeHigh.same-length-6 t) (ServeHigh.same-length-7 t) (ServeHigh.same-length-8 t) (ServeHigh.same-length-9 t) (ServeHigh.same-length-10 t) (ServeHigh.returns-2 t)
++serve-high-spec = close μ-serve-high λ t. serve-high-lts.spec (ServeHigh.Q t) (serve-high-at t) serve-high.Post (ServeHigh.sub-serve-high t) (ServeHigh.serve-high-requires t) (ServeHigh.slice-aggregate-sort-file t) (ServeHigh.sort-file-requires t) (ServeHigh.slice-aggregate-serve-named t) (ServeHigh.serve-named-requires t) (ServeHigh.same-length t) (ServeHigh.same-length-2 t) (ServeHigh.same-length-3 t) (ServeHigh.same-length-4 t) (ServeHigh.returns t) (ServeHigh.same-length-5 t) (ServeHigh.same-length-6 t) (ServeHigh.same-length-7 t) (ServeHigh.same-length-8 t) (ServeHigh.returns-2 t)

@@ -5,13 +5,13 @@ use borrow.Fn.PlainCycle.{Measures, is, falls, and}
 use Rattle.ol_sim.proofs.serve.serve_high.Reads as serve-high
 use Rattle.ol_sim.proofs.serve.serve_high.Kinds as serve-high-kinds
 
-abbrev pub μ-serve-high : Measures 9 serve-high-kinds.ps ℕ
+abbrev pub μ-serve-high : Measures 8 serve-high-kinds.ps ℕ
 μ-serve-high κs a = a .0
 
-abbrev pub serve-high-at : ℕ → In 9 serve-high-kinds.ps
+abbrev pub serve-high-at : ℕ → In 8 serve-high-kinds.ps
 serve-high-at t =
-    and 9 serve-high-kinds.ps (is 9 serve-high-kinds.ps μ-serve-high t) serve-high.Pre
+    and 8 serve-high-kinds.ps (is 8 serve-high-kinds.ps μ-serve-high t) serve-high.Pre
 
-abbrev pub serve-high-below : ℕ → In 9 serve-high-kinds.ps
+abbrev pub serve-high-below : ℕ → In 8 serve-high-kinds.ps
 serve-high-below t =
-    and 9 serve-high-kinds.ps (falls 9 serve-high-kinds.ps _<_ μ-serve-high t) serve-high.Pre
+    and 8 serve-high-kinds.ps (falls 8 serve-high-kinds.ps _<_ μ-serve-high t) serve-high.Pre

@@ -22,16 +22,16 @@ sub-serve-high t c = omega (arith, c .if1 .taken)
 
 pub serve-high-requires : (t : ℕ) → serve-high-lts.Need-serve-high-requires (Q t) (serve-high-at t) serve-high.Post
 serve-high-requires t c κs =
-    let start = c .before .before .before .before .before .before .before .before .before .before .before .before .before .before .before in
+    let start = c .before .before .before .before .before .before .before .before .before .before .before .before .before in
     let h = start .pre .1 in
-    (omega (arith, c .before .before .before .before .before .if1 .taken, start .pre .0), h)
+    (omega (arith, c .before .before .before .before .if1 .taken, start .pre .0), h)
 
 pub slice-aggregate-sort-file : (t : ℕ) → serve-high-lts.Need-slice-aggregate-sort-file (Q t) (serve-high-at t) serve-high.Post
 slice-aggregate-sort-file t c = search needs
 
 pub sort-file-requires : (t : ℕ) → serve-high-lts.Need-sort-file-requires (Q t) (serve-high-at t) serve-high.Post
 sort-file-requires t c κs =
-    let start = c .before .before .before .before .before .before .before .before .before .before .before .before in
+    let start = c .before .before .before .before .before .before .before .before .before .before .before in
     let h = start .pre .1 in
     declared-ready (h .rowed)
 
@@ -40,43 +40,37 @@ slice-aggregate-serve-named t c = search needs
 
 pub serve-named-requires : (t : ℕ) → serve-high-lts.Need-serve-named-requires (Q t) (serve-high-at t) serve-high.Post
 serve-named-requires t c κs =
-    let start = c .before .before .before .before .before .before .before .before .before .before .before .before .before .before .before .before .before .before .before .before in
+    let start = c .before .before .before .before .before .before .before .before .before .before .before .before .before .before .before .before .before .before in
     let h = start .pre .1 in
     let st = h .rowed .stands in
-    (record { sections = h; empty = empty-zeros (fileAt (start .args .file .now)) 65536 (high-within (fileAt (start .args .file .now)) st); lows = λ e. absurd (false-not-true e) }, c .before .before .before .before .before .before .before .sort-file .ensures .finds (blank-zeros (fileAt (start .args .file .now)) 65536 (high-declared (fileAt (start .args .file .now)) st)))
+    (record { sections = h; empty = empty-zeros (fileAt (start .args .file .now)) 65536 (high-within (fileAt (start .args .file .now)) st); lows = λ e. absurd (false-not-true e) }, c .before .before .before .before .before .before .sort-file .ensures .finds (blank-zeros (fileAt (start .args .file .now)) 65536 (high-declared (fileAt (start .args .file .now)) st)))
 
 pub same-length : (t : ℕ) → serve-high-lts.Need-same-length (Q t) (serve-high-at t) serve-high.Post
-same-length t c = c .before .before .before .before .before .before .before .before .before .before .serve-high .kept .1 .1 .1 .1 .1 .0
+same-length t c = c .before .before .before .before .before .before .before .before .serve-high .kept .1 .1 .1 .1 .1 .0
 
 pub same-length-2 : (t : ℕ) → serve-high-lts.Need-same-length-2 (Q t) (serve-high-at t) serve-high.Post
-same-length-2 t c = c .before .before .before .before .before .before .before .before .before .before .serve-high .kept .1 .1 .1 .1 .1 .1 .0
+same-length-2 t c = c .before .before .before .before .before .before .before .before .serve-high .kept .1 .1 .1 .1 .1 .1 .0
 
 pub same-length-3 : (t : ℕ) → serve-high-lts.Need-same-length-3 (Q t) (serve-high-at t) serve-high.Post
-same-length-3 t c = c .before .before .before .before .before .before .before .before .before .before .serve-high .kept .1 .1 .1 .1 .1 .1 .1 .0
+same-length-3 t c = c .before .before .before .before .before .before .before .before .serve-high .kept .1 .1 .1 .1 .1 .1 .1 .1 .1 .1 .0
 
 pub same-length-4 : (t : ℕ) → serve-high-lts.Need-same-length-4 (Q t) (serve-high-at t) serve-high.Post
-same-length-4 t c = c .before .before .before .before .before .before .before .before .before .before .serve-high .kept .1 .1 .1 .1 .1 .1 .1 .1 .1 .1 .1 .0
+same-length-4 t c = c .before .before .before .before .before .before .before .before .serve-high .kept .1 .1 .1 .1 .1 .1 .1 .1 .1 .1 .1 .0
 
 pub same-length-5 : (t : ℕ) → serve-high-lts.Need-same-length-5 (Q t) (serve-high-at t) serve-high.Post
-same-length-5 t c = c .before .before .before .before .before .before .before .before .before .before .serve-high .kept .1 .1 .1 .1 .1 .1 .1 .1 .1 .1 .1 .1 .0
+same-length-5 t c = c .before .before .before .before .before .before .before .before .before .serve-named .kept .1 .1 .1 .1 .0
 
 pub returns : (t : ℕ) → serve-high-lts.Need-returns (Q t) (serve-high-at t) serve-high.Post
-returns t c = c .before .before .before .before .before .before .before .before .before .before .serve-high .ensures
+returns t c = c .before .before .before .before .before .before .before .before .serve-high .ensures
 
 pub same-length-6 : (t : ℕ) → serve-high-lts.Need-same-length-6 (Q t) (serve-high-at t) serve-high.Post
-same-length-6 t c = c .before .before .before .before .before .before .before .before .before .before .before .serve-named .kept .1 .1 .1 .1 .0
+same-length-6 t c = c .before .before .before .before .before .before .before .before .before .serve-named .kept .1 .1 .1 .1 .1 .0
 
 pub same-length-7 : (t : ℕ) → serve-high-lts.Need-same-length-7 (Q t) (serve-high-at t) serve-high.Post
-same-length-7 t c = c .before .before .before .before .before .before .before .before .before .before .before .serve-named .kept .1 .1 .1 .1 .1 .0
+same-length-7 t c = c .before .before .before .before .before .before .before .before .before .serve-named .kept .1 .1 .1 .1 .1 .1 .1 .1 .1 .1 .1 .1 .0
 
 pub same-length-8 : (t : ℕ) → serve-high-lts.Need-same-length-8 (Q t) (serve-high-at t) serve-high.Post
-same-length-8 t c = c .before .before .before .before .before .before .before .before .before .before .before .serve-named .kept .1 .1 .1 .1 .1 .1 .1 .0
-
-pub same-length-9 : (t : ℕ) → serve-high-lts.Need-same-length-9 (Q t) (serve-high-at t) serve-high.Post
-same-length-9 t c = c .before .before .before .before .before .before .before .before .before .before .before .serve-named .kept .1 .1 .1 .1 .1 .1 .1 .1 .1 .1 .1 .1 .1 .0
-
-pub same-length-10 : (t : ℕ) → serve-high-lts.Need-same-length-10 (Q t) (serve-high-at t) serve-high.Post
-same-length-10 t c = c .before .before .before .before .before .before .before .before .before .before .before .serve-named .kept .1 .1 .1 .1 .1 .1 .1 .1 .1 .1 .1 .1 .1 .1 .0
+same-length-8 t c = c .before .before .before .before .before .before .before .before .before .serve-named .kept .1 .1 .1 .1 .1 .1 .1 .1 .1 .1 .1 .1 .1 .0
 
 pub returns-2 : (t : ℕ) → serve-high-lts.Need-returns-2 (Q t) (serve-high-at t) serve-high.Post
-returns-2 t c = c .before .before .before .before .before .before .before .before .before .before .before .serve-named .ensures
+returns-2 t c = c .before .before .before .before .before .before .before .before .before .serve-named .ensures

@@ -30,14 +30,11 @@ slice-aggregate-serve-with t c = search needs
 pub slice-aggregate-serve-with-2 : (t : ℕ) → serve-large-lts.Need-slice-aggregate-serve-with-2 (Q t) (serve-large-at t) serve-large.Post
 slice-aggregate-serve-with-2 t c = search needs
 
-pub slice-aggregate-serve-with-3 : (t : ℕ) → serve-large-lts.Need-slice-aggregate-serve-with-3 (Q t) (serve-large-at t) serve-large.Post
-slice-aggregate-serve-with-3 t c = search needs
-
 pub serve-with-requires : (t : ℕ) → serve-large-lts.Need-serve-with-requires (Q t) (serve-large-at t) serve-large.Post
 serve-with-requires t c κs =
-    let start = c .before .before .before .before .before .before .before .before .before .before .before .before in
-    let b = bytes-of (start .args .file .now) (λ i. omega (arith, c .before .before .before .before .before .before .before .before .before .before .before .shared-slice-known .given i)) in
-    file-ready 42496 (omega arith) (start .pre .1) b (omega (arith, file-stands b (start .pre .1 .reads) .short))
+    let start = c .before .before .before .before .before .before .before .before .before .before .before in
+    let b = bytes-of (start .args .file .now) (λ i. omega (arith, c .before .before .before .before .before .before .before .before .before .before .shared-slice-known .given i)) in
+    file-ready 43889 (omega arith) (start .pre .1) b (omega (arith, file-stands b (start .pre .1 .reads) .short))
 
 pub same-length : (t : ℕ) → serve-large-lts.Need-same-length (Q t) (serve-large-at t) serve-large.Post
 same-length t c = c .before .before .before .before .serve-large .kept .1 .1 .1 .1 .1 .1 .1 .0
@@ -49,10 +46,10 @@ pub returns : (t : ℕ) → serve-large-lts.Need-returns (Q t) (serve-large-at t
 returns t c = c .before .before .before .before .serve-large .ensures
 
 pub same-length-3 : (t : ℕ) → serve-large-lts.Need-same-length-3 (Q t) (serve-large-at t) serve-large.Post
-same-length-3 t c = c .before .before .before .before .before .before .before .serve-with .kept .1 .1 .1 .1 .1 .1 .1 .1 .1 .0
+same-length-3 t c = c .before .before .before .before .before .before .serve-with .kept .1 .1 .1 .1 .1 .1 .1 .1 .0
 
 pub same-length-4 : (t : ℕ) → serve-large-lts.Need-same-length-4 (Q t) (serve-large-at t) serve-large.Post
-same-length-4 t c = c .before .before .before .before .before .before .before .serve-with .kept .1 .1 .1 .1 .1 .1 .1 .1 .1 .1 .0
+same-length-4 t c = c .before .before .before .before .before .before .serve-with .kept .1 .1 .1 .1 .1 .1 .1 .1 .1 .0
 
 pub returns-2 : (t : ℕ) → serve-large-lts.Need-returns-2 (Q t) (serve-large-at t) serve-large.Post
-returns-2 t c = c .before .before .before .before .before .before .before .serve-with .ensures
+returns-2 t c = c .before .before .before .before .before .before .serve-with .ensures
