@@ -22,14 +22,14 @@ use ol_frame::copies::single_out;
 use ol_frame::equations::equations;
 use ol_frame::frame::ARGUMENTS;
 use ol_frame::frame::FRAME;
-use ol_frame::frame::bind_in;
+use ol_frame::frame::bind;
+use ol_frame::frame::bind_out;
 use ol_frame::frame::copy_outputs;
 use ol_frame::frame::finish_frame;
 use ol_frame::frame::fresh_frame;
 use ol_frame::frame::is_first;
 use ol_frame::frame::node_of;
 use ol_frame::frame::open_frame;
-use ol_frame::frame::store_in;
 use ol_frame::names::chosen;
 use ol_frame::names::leaf_out;
 use ol_frame::names::present;
@@ -611,7 +611,7 @@ fn equation(
     } else {
         let r = eval(file, tab, rhs, 24, frame, old, new);
         let o = r.out;
-        store_in(tab, at + 1, o, frame)
+        bind_out(tab, at + 1, o, frame)
     }
 }
 
@@ -637,7 +637,7 @@ fn call_equation(
         let p = rhs + 1;
         let c = number(file[p]);
         let m = less(n, row(tab, c, OUTPUTS));
-        bind_in(tab, at + 1, m, &args, frame);
+        bind(tab, at + 1, m, &args, frame);
         Ending::Values
     } else {
         end
@@ -665,7 +665,7 @@ fn tuple_equation(
     if let Ending::Values = end {
         let p = rhs + 1;
         let m = less(n, number(file[p]));
-        bind_in(tab, at + 1, m, &items, frame);
+        bind(tab, at + 1, m, &items, frame);
         Ending::Values
     } else {
         end

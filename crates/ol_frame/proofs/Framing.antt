@@ -1,12 +1,12 @@
 -- Laws of a frame: what writing its head, its cells or the cells before leaves.
-use Prim.Native.Nat.{ℕ, zero, suc, _+_, _-_, _*_, _<_, _≤_}
+use Prim.Native.Nat.{ℕ, _+_, _-_, _*_, _≤_}
 use mathlib.Core.Bool.{Bool, true, false, cond}
 use mathlib.Core.List.{List, [], _∷_, _++_, append-nil}
 use mathlib.Core.Path.{_≡_, refl, sym, ap, subst, _∙_}
 use native.Mathlib.Omega.{arith}
 use lib.Dec.{eqb}
 use lib.ListN.{length, take, drop, length-append, length-drop, drop-of-length-le}
-use lib.Seq.{take-at, drop-at, drop-drop, take-all, length-take-le}
+use lib.Seq.{take-at, drop-at, drop-drop, length-take-le}
 use Rattle.ol_spec.specs.Cell.{valuesOf}
 use Rattle.ol_spec.specs.Step.{isFresh}
 use Rattle.ol_spec.specs.declared.Value.{Value}
@@ -19,7 +19,7 @@ use Rattle.ol_state.proofs.DefaultCells.{length-cellsAt}
 use Rattle.ol_frame.specs.Stores.{StoresOut, Assigns}
 use Rattle.ol_frame.specs.Frame.{Framed, firstOf, nodeOf, cellsOf, beforeOf, headed, Keeps, Opened, Freshened}
 use Rattle.ol_frame.proofs.Running.{midOf, putMid, length-mid}
-use Rattle.ol_frame.proofs.Storing.{values-front, values-drop, values-copied, values-over}
+use Rattle.ol_frame.proofs.Storing.{values-front, values-copied, values-over}
 
 -- a frame of node k with these cells, and these before
 pub record Holding (fr : List ℕ) (k : ℕ) (first : Bool) (cells before : List ℕ) : Type 0 where
@@ -35,10 +35,6 @@ cells-length fr h = length-take-le 1008 (drop 2 fr) (omega (arith, length-drop 2
 
 pub before-length : (fr : List ℕ) → Framed fr → length (beforeOf fr) ≡ 1008
 before-length fr h = omega (arith, length-drop 1010 fr)
-
--- what is lent for the cells before
-pub before-lent : (fr : List ℕ) → Framed fr → midOf 1010 2018 fr ≡ beforeOf fr
-before-lent fr h = take-all 1008 (drop 1010 fr) (omega (arith, length-drop 1010 fr))
 
 bit : (b : Bool) → eqb (cond b 1 0) 1 ≡ b
 bit true = refl

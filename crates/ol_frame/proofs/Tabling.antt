@@ -1,5 +1,5 @@
 -- The parts of a file's table and of a frame: their bytes and cells, where they stand in the whole.
-use Prim.Native.Nat.{ℕ, _+_, _-_, _*_, _<_, _≤_}
+use Prim.Native.Nat.{ℕ, _+_, _-_, _*_, _≤_}
 use mathlib.Core.List.{List}
 use mathlib.Core.Path.{_≡_, sym, ap, _∙_}
 use native.Mathlib.Omega.{arith}
@@ -7,7 +7,7 @@ use lib.ListN.{length, take, drop, getD, length-drop, length-take}
 use lib.Seq.{getD-drop, take-take, drop-drop}
 use Rattle.ol_tables.proofs.Lending.{drop-take}
 use Rattle.ol_tables.specs.Table.{tabOf, constsOf}
-use Rattle.ol_frame.specs.Frame.{Framed, cellsOf, beforeOf}
+use Rattle.ol_frame.specs.Frame.{cellsOf, beforeOf}
 
 -- nine bytes of a part
 pub part-cell : (n k i : ℕ) (t : List ℕ) → i + 9 ≤ n → take 9 (drop (k + i) t) ≡ take 9 (drop i (take n (drop k t)))
@@ -17,9 +17,6 @@ part-cell n k i t h =
 -- a byte of the orders, types or slots
 pub tab-byte : (t : List ℕ) (i : ℕ) → getD t (1393 + i) 0 ≡ getD (tabOf t) i 0
 tab-byte t i = sym (getD-drop 1393 t i 0)
-
-pub tab-room : (t : List ℕ) (i : ℕ) → i < length (tabOf t) → 1393 + i < length t
-tab-room t i h = omega (arith, length-drop 1393 t)
 
 -- a table that has types has rows
 pub rows-room : (t : List ℕ) (i : ℕ) → 9728 + i ≤ length (tabOf t) → 816 ≤ length t

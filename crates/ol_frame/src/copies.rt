@@ -92,7 +92,7 @@ fn store(tab: &[u8], k: usize, at: usize, v: Value, cells: &mut [u8])
 }
 
 // Stores an outcome's value, if it has one; answers how the equation ended.
-pub fn store_out(tab: &[u8], k: usize, at: usize, o: Outcome, cells: &mut [u8]) -> Ending
+pub(crate) fn store_out(tab: &[u8], k: usize, at: usize, o: Outcome, cells: &mut [u8]) -> Ending
     requires { ⌜ Storable (tabOf (now tab)) k at (now cells) ⌝ }
     ensures { λ r. ⌜ (r ≡ endingOf (several o)) × StoresOut (tabOf (now (tab .entry))) k at o (now (cells .entry)) (now (cells .exit)) ⌝ }
 {
@@ -107,7 +107,7 @@ pub fn store_out(tab: &[u8], k: usize, at: usize, o: Outcome, cells: &mut [u8]) 
 }
 
 // Stores n values, each in the cell of its name; the names stand from `at` on.
-pub fn bind(tab: &[u8], k: usize, at: usize, n: usize, from: &[u8], cells: &mut [u8])
+pub(crate) fn assign(tab: &[u8], k: usize, at: usize, n: usize, from: &[u8], cells: &mut [u8])
     requires { ⌜ Assignable (tabOf (now tab)) k at n (now from) (now cells) ⌝ }
     ensures { λ _. ⌜ Assigns (tabOf (now (tab .entry))) k at n n (now (from .entry)) (now (cells .entry)) (now (cells .exit)) ⌝ }
 {

@@ -11,7 +11,7 @@ ghost use Rattle.ol_spec.specs.Cell.{cells, valuesOf};
 ghost use Rattle.ol_spec.specs.Eval.{several};
 ghost use Rattle.ol_tables.specs.Table.{tabOf, rowsOf};
 ghost use Rattle.ol_tables.specs.Tables.{rowAt};
-use crate::copies::bind;
+use crate::copies::assign;
 use crate::copies::copy_cells;
 use crate::copies::finish;
 use crate::copies::store_out;
@@ -101,8 +101,8 @@ pub fn finish_frame(n: usize, frame: &[u8], to: &mut [u8])
     finish(n, &frame[CELLS..BEFORE], to);
 }
 
-// Stores an outcome's value, if it has one, in the frame's cell of the name that stands at `at`; answers how the equation ended.
-pub fn store_in(tab: &[u8], at: usize, o: Outcome, frame: &mut [u8]) -> Ending
+// Binds an outcome's value, if it has one, to the frame's cell of the name that stands at `at`; answers how the equation ended.
+pub fn bind_out(tab: &[u8], at: usize, o: Outcome, frame: &mut [u8]) -> Ending
     requires { ⌜ Framed (now frame) × Storable (tabOf (now tab)) (nodeOf (now frame)) at (cellsOf (now frame)) ⌝ }
     ensures { λ r. ⌜ (r ≡ endingOf (several o)) × StoresOut (tabOf (now (tab .entry))) (nodeOf (now (frame .entry))) at o (cellsOf (now (frame .entry))) (cellsOf (now (frame .exit))) × Keeps (now (frame .entry)) (now (frame .exit)) ⌝ }
 {
@@ -111,10 +111,10 @@ pub fn store_in(tab: &[u8], at: usize, o: Outcome, frame: &mut [u8]) -> Ending
 }
 
 // Binds n values, each to the frame's cell of its name; the names stand from `at` on.
-pub fn bind_in(tab: &[u8], at: usize, n: usize, from: &[u8], frame: &mut [u8])
+pub fn bind(tab: &[u8], at: usize, n: usize, from: &[u8], frame: &mut [u8])
     requires { ⌜ Framed (now frame) × Assignable (tabOf (now tab)) (nodeOf (now frame)) at n (now from) (cellsOf (now frame)) ⌝ }
     ensures { λ _. ⌜ Assigns (tabOf (now (tab .entry))) (nodeOf (now (frame .entry))) at n n (now (from .entry)) (cellsOf (now (frame .entry))) (cellsOf (now (frame .exit))) × Keeps (now (frame .entry)) (now (frame .exit)) ⌝ }
 {
     let k = number(frame[1]);
-    bind(tab, k, at, n, from, &mut frame[CELLS..BEFORE]);
+    assign(tab, k, at, n, from, &mut frame[CELLS..BEFORE]);
 }

@@ -19,7 +19,7 @@ pub fn number(b: u8) -> usize
     b as usize
 }
 
-// Entry j of node k's row, which stands in the table: ol_tables' `row` without its tests.
+// Entry j of node k's row, which stands in the table: ol_tables' `column` without its tests.
 pub fn row(tab: &[u8], k: usize, j: usize) -> usize
     requires { ⌜ (816 ≤ length (now tab)) × (k < 32) × (j < 8) ⌝ }
     ensures { λ r. ⌜ r ≡ rowAt (rowsOf (now (tab .entry))) k j ⌝ }

@@ -93,10 +93,10 @@ pub +call-equation+call-function+enter+equation+eval+eval-all+eval-call+eval-fir
     μ-step-site
     μ-step-untaken
     μ-tuple-equation
-    (λ t. call-equation-lts.spec (CallEquation.Q t) (call-equation-at t) call-equation.Post (CallEquation.shared-slice-read-number t) (CallEquation.number-requires t) (CallEquation.add-rhs t) (CallEquation.mul-rhs t) (CallEquation.add-rhs-2 t) (CallEquation.enter-requires t) (CallEquation.enum-told t) (CallEquation.add-p t) (CallEquation.shared-slice-read-number-2 t) (CallEquation.number-requires-2 t) (CallEquation.row-requires t) (CallEquation.less-requires t) (CallEquation.add-bind-in t) (CallEquation.slice-aggregate-bind-in t) (CallEquation.bind-in-requires t) (CallEquation.same-length t) (CallEquation.returns t) (CallEquation.same-length-2 t) (CallEquation.returns-2 t))
+    (λ t. call-equation-lts.spec (CallEquation.Q t) (call-equation-at t) call-equation.Post (CallEquation.shared-slice-read-number t) (CallEquation.number-requires t) (CallEquation.add-rhs t) (CallEquation.mul-rhs t) (CallEquation.add-rhs-2 t) (CallEquation.enter-requires t) (CallEquation.enum-told t) (CallEquation.add-p t) (CallEquation.shared-slice-read-number-2 t) (CallEquation.number-requires-2 t) (CallEquation.row-requires t) (CallEquation.less-requires t) (CallEquation.add-bind t) (CallEquation.slice-aggregate-bind t) (CallEquation.bind-requires t) (CallEquation.same-length t) (CallEquation.returns t) (CallEquation.same-length-2 t) (CallEquation.returns-2 t))
     (λ t. call-function-lts.spec (CallFunction.Q t) (call-function-at t) call-function.Post (CallFunction.row-requires t) (CallFunction.fresh-frame-requires t) (CallFunction.run-requires t) (CallFunction.row-requires-2 t) (CallFunction.copy-outputs-requires t) (CallFunction.same-length t) (CallFunction.returns t))
     (λ t. enter-lts.spec (Enter.Q t) (enter-at t) enter.Post (Enter.add-p t) (Enter.shared-slice-read-number t) (Enter.number-requires t) (Enter.row-requires t) (Enter.sub-eval-all t) (Enter.sub-eval-all-2 t) (Enter.part-eval-all-start t) (Enter.part-eval-all-end t) (Enter.sub-eval-all-3 t) (Enter.part-eval-all-start-2 t) (Enter.part-eval-all-end-2 t) (Enter.eval-all-requires t) (Enter.add-used t) (Enter.enum-told t) (Enter.slice-aggregate-step-site t) (Enter.slice-relend-prefix-step-site t) (Enter.slice-aggregate-step-site-2 t) (Enter.step-site-requires t) (Enter.same-length t) (Enter.returns t) (Enter.same-length-2 t) (Enter.returns-2 t))
-    (λ t. equation-lts.spec (Equation.Q t) (equation-at t) equation.Post (Equation.shared-slice-read-number t) (Equation.number-requires t) (Equation.add-rhs t) (Equation.mul-rhs t) (Equation.add-rhs-2 t) (Equation.shared-slice-read-code t) (Equation.call-equation-requires t) (Equation.tuple-equation-requires t) (Equation.eval-requires t) (Equation.add-store-in t) (Equation.store-in-requires t) (Equation.same-length t) (Equation.returns t) (Equation.same-length-2 t) (Equation.returns-2 t) (Equation.same-length-3 t) (Equation.returns-3 t))
+    (λ t. equation-lts.spec (Equation.Q t) (equation-at t) equation.Post (Equation.shared-slice-read-number t) (Equation.number-requires t) (Equation.add-rhs t) (Equation.mul-rhs t) (Equation.add-rhs-2 t) (Equation.shared-slice-read-code t) (Equation.call-equation-requires t) (Equation.tuple-equation-requires t) (Equation.eval-requires t) (Equation.add-bind-out t) (Equation.bind-out-requires t) (Equation.same-length t) (Equation.returns t) (Equation.same-length-2 t) (Equation.returns-2 t) (Equation.same-length-3 t) (Equation.returns-3 t))
     (λ t. eval-lts.spec (Eval.Q t) (eval-at t) eval.Post (Eval.shared-slice-read-code t) (Eval.add-p t) (Eval.add-next t) (Eval.present-requires t) (Eval.eval-form-requires t) (Eval.returns t) (Eval.same-length t) (Eval.returns-2 t))
     (λ t. eval-all-lts.spec (EvalAll.Q t) (eval-all-at t) eval-all.Post
     EvalAll.Inv-loop
@@ -113,4 +113,4 @@ pub +call-equation+call-function+enter+equation+eval+eval-all+eval-call+eval-fir
     (λ t. step-instance-lts.spec (StepInstance.Q t) (step-instance-at t) step-instance.Post (StepInstance.row-requires t) (StepInstance.mul-own t) (StepInstance.add-own t) (StepInstance.row-requires-2 t) (StepInstance.open-frame-requires t) (StepInstance.sub-run t) (StepInstance.part-run-start t) (StepInstance.part-run-end t) (StepInstance.sub-run-2 t) (StepInstance.part-run-start-2 t) (StepInstance.part-run-end-2 t) (StepInstance.run-requires t) (StepInstance.enum-told t) (StepInstance.finish-frame-requires t) (StepInstance.row-requires-3 t) (StepInstance.copy-outputs-requires t) (StepInstance.enum-told-2 t) (StepInstance.write-fresh-requires t) (StepInstance.enum-told-3 t) (StepInstance.copy-requires t) (StepInstance.same-length t) (StepInstance.returns t) (StepInstance.same-length-2 t) (StepInstance.returns-2 t) (StepInstance.same-length-3 t) (StepInstance.returns-3 t))
     (λ t. step-site-lts.spec (StepSite.Q t) (step-site-at t) step-site.Post (StepSite.sub-step-site t) (StepSite.step-site-requires t) (StepSite.row-requires t) (StepSite.step-instance-requires t) (StepSite.call-function-requires t) (StepSite.same-length t) (StepSite.returns t) (StepSite.same-length-2 t) (StepSite.returns-2 t) (StepSite.same-length-3 t) (StepSite.returns-3 t))
     (λ t. step-untaken-lts.spec (StepUntaken.Q t) (step-untaken-at t) step-untaken.Post (StepUntaken.eval-requires t) (StepUntaken.overflowed-requires t) (StepUntaken.same-length t) (StepUntaken.returns t))
-    λ t. tuple-equation-lts.spec (TupleEquation.Q t) (tuple-equation-at t) tuple-equation.Post (TupleEquation.shared-slice-read-number t) (TupleEquation.number-requires t) (TupleEquation.add-rhs t) (TupleEquation.mul-rhs t) (TupleEquation.add-rhs-2 t) (TupleEquation.eval-all-requires t) (TupleEquation.enum-told t) (TupleEquation.add-p t) (TupleEquation.shared-slice-read-number-2 t) (TupleEquation.number-requires-2 t) (TupleEquation.less-requires t) (TupleEquation.add-bind-in t) (TupleEquation.slice-aggregate-bind-in t) (TupleEquation.bind-in-requires t) (TupleEquation.same-length t) (TupleEquation.returns t) (TupleEquation.same-length-2 t) (TupleEquation.returns-2 t)
+    λ t. tuple-equation-lts.spec (TupleEquation.Q t) (tuple-equation-at t) tuple-equation.Post (TupleEquation.shared-slice-read-number t) (TupleEquation.number-requires t) (TupleEquation.add-rhs t) (TupleEquation.mul-rhs t) (TupleEquation.add-rhs-2 t) (TupleEquation.eval-all-requires t) (TupleEquation.enum-told t) (TupleEquation.add-p t) (TupleEquation.shared-slice-read-number-2 t) (TupleEquation.number-requires-2 t) (TupleEquation.less-requires t) (TupleEquation.add-bind t) (TupleEquation.slice-aggregate-bind t) (TupleEquation.bind-requires t) (TupleEquation.same-length t) (TupleEquation.returns t) (TupleEquation.same-length-2 t) (TupleEquation.returns-2 t)

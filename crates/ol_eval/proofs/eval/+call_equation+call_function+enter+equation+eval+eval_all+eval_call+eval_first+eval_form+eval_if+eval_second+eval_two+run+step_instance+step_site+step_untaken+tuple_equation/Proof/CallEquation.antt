@@ -13,7 +13,7 @@ use Rattle.ol_frame.proofs.Tabling.{rows-room}
 -- </uses>
 use Prim.Native.Nat.{ℕ}
 use borrow.Author.Needs.{needs}
-use Rattle.ol_frame.proofs.frame.bind_in.Reads as bind-in-reads
+use Rattle.ol_frame.proofs.frame.bind.Reads as bind-reads
 use Rattle.ol_eval.proofs.eval.call_equation.Reads as call-equation
 use Rattle.ol_eval.proofs.eval.enter.Reads as enter
 use Rattle.ol_frame.proofs.copies.less.Reads as less-reads
@@ -24,7 +24,7 @@ use Rattle.ol_eval.proofs.eval.+call_equation+call_function+enter+equat
 
 -- what it knows of its callees
 abbrev pub Q : ℕ → call-equation-lts.Claims
-Q t = (number-reads.Asked, number-reads.Learnt, enter-below t, enter.Post, row-reads.Asked, row-reads.Learnt, less-reads.Asked, less-reads.Learnt, bind-in-reads.Asked, bind-in-reads.Learnt)
+Q t = (number-reads.Asked, number-reads.Learnt, enter-below t, enter.Post, row-reads.Asked, row-reads.Learnt, less-reads.Asked, less-reads.Learnt, bind-reads.Asked, bind-reads.Learnt)
 
 pub shared-slice-read-number : (t : ℕ) → call-equation-lts.Need-shared-slice-read-number (Q t) (call-equation-at t) call-equation.Post
 shared-slice-read-number t c =
@@ -120,8 +120,8 @@ row-requires t c κs =
 pub less-requires : (t : ℕ) → call-equation-lts.Need-less-requires (Q t) (call-equation-at t) call-equation.Post
 less-requires t c κs = tt
 
-pub add-bind-in : (t : ℕ) → call-equation-lts.Need-add-bind-in (Q t) (call-equation-at t) call-equation.Post
-add-bind-in t c =
+pub add-bind : (t : ℕ) → call-equation-lts.Need-add-bind (Q t) (call-equation-at t) call-equation.Post
+add-bind t c =
     let start = c .before .before .before .before .before .before .before .before .before .before .before .before .before .before .before .before .before .before in
     let p = start .pre .1 .1 in
     let f = start .args .file .now in
@@ -132,11 +132,11 @@ add-bind-in t c =
     let m = names-least p (c .before .row .result) q (c .less .ensures) in
     omega (arith, inside .0, (p .running .program .sized .small), m .place)
 
-pub slice-aggregate-bind-in : (t : ℕ) → call-equation-lts.Need-slice-aggregate-bind-in (Q t) (call-equation-at t) call-equation.Post
-slice-aggregate-bind-in t c = sym ((c .before .before .before .before .before .before .before .before .before .enter .ensures .1))
+pub slice-aggregate-bind : (t : ℕ) → call-equation-lts.Need-slice-aggregate-bind (Q t) (call-equation-at t) call-equation.Post
+slice-aggregate-bind t c = sym ((c .before .before .before .before .before .before .before .before .before .enter .ensures .1))
 
-pub bind-in-requires : (t : ℕ) → call-equation-lts.Need-bind-in-requires (Q t) (call-equation-at t) call-equation.Post
-bind-in-requires t c κs =
+pub bind-requires : (t : ℕ) → call-equation-lts.Need-bind-requires (Q t) (call-equation-at t) call-equation.Post
+bind-requires t c κs =
     let start = c .before .before .before .before .before .before .before .before .before .before .before .before .before .before .before .before .before .before .before .before in
     let fd = start .pre .1 .0 in
     let p = start .pre .1 .1 in
@@ -168,7 +168,7 @@ returns t c =
     let ke = c .before .before .before .before .before .number2 .ensures .0 in
     let row = callee-row p q k ke in
     let outs = c .before .before .before .before .row .ensures ∙ row .outputs in
-    (call-done p F (c .before .before .before .less .result) ((c .before .before .before .before .before .before .before .before .before .before .before .enter .last .1 .1 .1 .1 .1 .0)) (cellsOf (c .bind-in .last .1 .1 .1 .1 .0)) q (c .before .before .before .before .before .before .before .before .before .before .before .enter .ensures .0) (c .before .before .before .before .before .before .before .enum-told .given .1) (c .before .before .before .less .ensures ∙ ap (min n) outs) (c .bind-in .ensures .0), c .bind-in .ensures .1)
+    (call-done p F (c .before .before .before .less .result) ((c .before .before .before .before .before .before .before .before .before .before .before .enter .last .1 .1 .1 .1 .1 .0)) (cellsOf (c .bind .last .1 .1 .1 .1 .0)) q (c .before .before .before .before .before .before .before .before .before .before .before .enter .ensures .0) (c .before .before .before .before .before .before .before .enum-told .given .1) (c .before .before .before .less .ensures ∙ ap (min n) outs) (c .bind .ensures .0), c .bind .ensures .1)
 
 pub same-length-2 : (t : ℕ) → call-equation-lts.Need-same-length-2 (Q t) (call-equation-at t) call-equation.Post
 same-length-2 t c = c .before .before .before .enter .kept .1 .1 .1 .1 .1 .1 .1 .0

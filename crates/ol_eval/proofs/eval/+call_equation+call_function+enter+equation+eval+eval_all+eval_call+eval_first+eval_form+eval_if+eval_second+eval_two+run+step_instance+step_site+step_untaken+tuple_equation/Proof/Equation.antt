@@ -14,14 +14,14 @@ use Rattle.ol_eval.proofs.eval.call_equation.Reads as call-equation
 use Rattle.ol_eval.proofs.eval.equation.Reads as equation
 use Rattle.ol_eval.proofs.eval.eval.Reads as eval
 use Rattle.ol_frame.proofs.tables.number.Reads as number-reads
-use Rattle.ol_frame.proofs.frame.store_in.Reads as store-in-reads
+use Rattle.ol_frame.proofs.frame.bind_out.Reads as bind-out-reads
 use Rattle.ol_eval.proofs.eval.tuple_equation.Reads as tuple-equation
 use Rattle.ol_eval.proofs.eval.+call_equation+call_function+enter+equation+eval+eval_all+eval_call+eval_first+eval_form+eval_if+eval_second+eval_two+run+step_instance+step_site+step_untaken+tuple_equation.Lts-equation as equation-lts
 use Rattle.ol_eval.proofs.eval.+call_equation+call_function+enter+equation+eval+eval_all+eval_call+eval_first+eval_form+eval_if+eval_second+eval_two+run+step_instance+step_site+step_untaken+tuple_equation.Proof.Common.{equation-at, call-equation-below, eval-below, tuple-equation-below}
 
 -- what it knows of its callees
 abbrev pub Q : ℕ → equation-lts.Claims
-Q t = (number-reads.Asked, number-reads.Learnt, call-equation-below t, call-equation.Post, tuple-equation-below t, tuple-equation.Post, eval-below t, eval.Post, store-in-reads.Asked, store-in-reads.Learnt)
+Q t = (number-reads.Asked, number-reads.Learnt, call-equation-below t, call-equation.Post, tuple-equation-below t, tuple-equation.Post, eval-below t, eval.Post, bind-out-reads.Asked, bind-out-reads.Learnt)
 
 pub shared-slice-read-number : (t : ℕ) → equation-lts.Need-shared-slice-read-number (Q t) (equation-at t) equation.Post
 shared-slice-read-number t c =
@@ -95,8 +95,8 @@ eval-requires t c κs =
     let ne = c .before .before .before .before .before .number .ensures .0 in
     (omega (arith, start .pre .0), (fd, equation-ready p ((start .args .at + 1 + 2 * n)) (right-place p n ne)))
 
-pub add-store-in : (t : ℕ) → equation-lts.Need-add-store-in (Q t) (equation-at t) equation.Post
-add-store-in t c =
+pub add-bind-out : (t : ℕ) → equation-lts.Need-add-bind-out (Q t) (equation-at t) equation.Post
+add-bind-out t c =
     let start = c .before .before .before .before .before .before .before .before .before .before .before .before .before .before in
     let p = start .pre .1 .1 in
     let n = c .before .before .before .before .before .before .before .before .number .result in
@@ -104,8 +104,8 @@ add-store-in t c =
     let s = names-inside p n ne in
     omega (arith, s .0, s .1)
 
-pub store-in-requires : (t : ℕ) → equation-lts.Need-store-in-requires (Q t) (equation-at t) equation.Post
-store-in-requires t c κs =
+pub bind-out-requires : (t : ℕ) → equation-lts.Need-bind-out-requires (Q t) (equation-at t) equation.Post
+bind-out-requires t c κs =
     let start = c .before .before .before .before .before .before .before .before .before .before .before .before .before .before .before in
     let fd = start .pre .1 .0 in
     let p = start .pre .1 .1 in
@@ -133,4 +133,4 @@ returns-3 t c =
     let fr = start .args .frame .now in
     let n = c .before .before .before .before .before .before .before .before .before .before .number .result in
     let ne = c .before .before .before .before .before .before .before .before .before .before .number .ensures .0 in
-    (one-done p (firstOf fr) ((start .args .at + 1 + 2 * n)) (c .store-in .result) (cellsOf (c .store-in .last .1 .1 .1 .0)) (right-place p n ne) (c .before .before .before .before .before .before .before .before .if1 .left) (c .before .before .before .before .before .before .before .if2 .left) (c .before .before .before .before .eval .ensures) (c .store-in .ensures .0) (c .store-in .ensures .1), c .store-in .ensures .2)
+    (one-done p (firstOf fr) ((start .args .at + 1 + 2 * n)) (c .bind-out .result) (cellsOf (c .bind-out .last .1 .1 .1 .0)) (right-place p n ne) (c .before .before .before .before .before .before .before .before .if1 .left) (c .before .before .before .before .before .before .before .if2 .left) (c .before .before .before .before .eval .ensures) (c .bind-out .ensures .0) (c .bind-out .ensures .1), c .bind-out .ensures .2)

@@ -12,7 +12,7 @@ use Rattle.ol_frame.specs.Frame.{Framed, nodeOf, firstOf, cellsOf, beforeOf, Ke
 -- </uses>
 use Prim.Native.Nat.{ℕ}
 use borrow.Author.Needs.{needs}
-use Rattle.ol_frame.proofs.frame.bind_in.Reads as bind-in-reads
+use Rattle.ol_frame.proofs.frame.bind.Reads as bind-reads
 use Rattle.ol_eval.proofs.eval.eval_all.Reads as eval-all
 use Rattle.ol_frame.proofs.copies.less.Reads as less-reads
 use Rattle.ol_frame.proofs.tables.number.Reads as number-reads
@@ -22,7 +22,7 @@ use Rattle.ol_eval.proofs.eval.+call_equation+call_function+enter+equat
 
 -- what it knows of its callees
 abbrev pub Q : ℕ → tuple-equation-lts.Claims
-Q t = (number-reads.Asked, number-reads.Learnt, eval-all-below t, eval-all.Post, less-reads.Asked, less-reads.Learnt, bind-in-reads.Asked, bind-in-reads.Learnt)
+Q t = (number-reads.Asked, number-reads.Learnt, eval-all-below t, eval-all.Post, less-reads.Asked, less-reads.Learnt, bind-reads.Asked, bind-reads.Learnt)
 
 pub shared-slice-read-number : (t : ℕ) → tuple-equation-lts.Need-shared-slice-read-number (Q t) (tuple-equation-at t) tuple-equation.Post
 shared-slice-read-number t c =
@@ -105,8 +105,8 @@ number-requires-2 t c κs = tt
 pub less-requires : (t : ℕ) → tuple-equation-lts.Need-less-requires (Q t) (tuple-equation-at t) tuple-equation.Post
 less-requires t c κs = tt
 
-pub add-bind-in : (t : ℕ) → tuple-equation-lts.Need-add-bind-in (Q t) (tuple-equation-at t) tuple-equation.Post
-add-bind-in t c =
+pub add-bind : (t : ℕ) → tuple-equation-lts.Need-add-bind (Q t) (tuple-equation-at t) tuple-equation.Post
+add-bind t c =
     let start = c .before .before .before .before .before .before .before .before .before .before .before .before .before .before .before .before .before in
     let p = start .pre .1 .1 in
     let f = start .args .file .now in
@@ -118,11 +118,11 @@ add-bind-in t c =
     let m = names-least p count q (c .less .ensures) in
     omega (arith, inside .0, (p .running .program .sized .small), m .place)
 
-pub slice-aggregate-bind-in : (t : ℕ) → tuple-equation-lts.Need-slice-aggregate-bind-in (Q t) (tuple-equation-at t) tuple-equation.Post
-slice-aggregate-bind-in t c = sym ((c .before .before .before .before .before .before .before .before .eval-all .ensures .1))
+pub slice-aggregate-bind : (t : ℕ) → tuple-equation-lts.Need-slice-aggregate-bind (Q t) (tuple-equation-at t) tuple-equation.Post
+slice-aggregate-bind t c = sym ((c .before .before .before .before .before .before .before .before .eval-all .ensures .1))
 
-pub bind-in-requires : (t : ℕ) → tuple-equation-lts.Need-bind-in-requires (Q t) (tuple-equation-at t) tuple-equation.Post
-bind-in-requires t c κs =
+pub bind-requires : (t : ℕ) → tuple-equation-lts.Need-bind-requires (Q t) (tuple-equation-at t) tuple-equation.Post
+bind-requires t c κs =
     let start = c .before .before .before .before .before .before .before .before .before .before .before .before .before .before .before .before .before .before .before in
     let fd = start .pre .1 .0 in
     let p = start .pre .1 .1 in
@@ -151,7 +151,7 @@ returns t c =
     let q = right-ready p n 12 ne (subst (λ (m : ℕ). getD f (start .args .at + 1 + 2 * m) 0 ≡ 12) (sym ne) (start .pre .1 .2)) in
     let count = c .before .before .before .before .number2 .result in
     let ce = c .before .before .before .before .number2 .ensures .0 in
-    (tuple-done p F count (c .before .before .before .less .result) ((c .before .before .before .before .before .before .before .before .before .before .eval-all .last .1 .1 .1 .1 .1 .0)) (cellsOf (c .bind-in .last .1 .1 .1 .1 .0)) q ce ((tuple-all p q count ce F ((c .before .before .before .before .before .before .before .before .before .before .eval-all .last .1 .1 .1 .1 .1 .0)) (c .before .before .before .before .before .before .before .before .before .before .eval-all .ensures .0))) (c .before .before .before .before .before .before .enum-told .given .1) (c .before .before .before .less .ensures) (c .bind-in .ensures .0), c .bind-in .ensures .1)
+    (tuple-done p F count (c .before .before .before .less .result) ((c .before .before .before .before .before .before .before .before .before .before .eval-all .last .1 .1 .1 .1 .1 .0)) (cellsOf (c .bind .last .1 .1 .1 .1 .0)) q ce ((tuple-all p q count ce F ((c .before .before .before .before .before .before .before .before .before .before .eval-all .last .1 .1 .1 .1 .1 .0)) (c .before .before .before .before .before .before .before .before .before .before .eval-all .ensures .0))) (c .before .before .before .before .before .before .enum-told .given .1) (c .before .before .before .less .ensures) (c .bind .ensures .0), c .bind .ensures .1)
 
 pub same-length-2 : (t : ℕ) → tuple-equation-lts.Need-same-length-2 (Q t) (tuple-equation-at t) tuple-equation.Post
 same-length-2 t c = c .before .before .before .eval-all .kept .1 .1 .1 .1 .1 .1 .1 .0

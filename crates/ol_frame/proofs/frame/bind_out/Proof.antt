@@ -3,10 +3,10 @@ use Rattle.ol_tables.specs.Table.{tabOf}
 use Rattle.ol_frame.proofs.Framing.{stored-in, keeps-put}
 -- </uses>
 use borrow.Author.Needs.{needs}
-use Rattle.ol_frame.proofs.frame.store_in.Statement.{statement}
-use Rattle.ol_frame.proofs.frame.store_in.Tie as tie
-use Rattle.ol_frame.proofs.frame.store_in.Reads as reads
-use Rattle.ol_frame.proofs.frame.store_in.Lts as lts
+use Rattle.ol_frame.proofs.frame.bind_out.Statement.{statement}
+use Rattle.ol_frame.proofs.frame.bind_out.Tie as tie
+use Rattle.ol_frame.proofs.frame.bind_out.Reads as reads
+use Rattle.ol_frame.proofs.frame.bind_out.Lts as lts
 use Rattle.ol_frame.proofs.copies.store_out.Reads as store-out-reads
 use Rattle.ol_frame.proofs.tables.number.Reads as number-reads
 
@@ -46,8 +46,8 @@ returns c =
     let x = c .before .before .store-out .last .1 .1 .1 .1 .0 in
     (c .before .before .store-out .ensures .0, stored-in t (start .args .frame .now) x (c .before .before .before .before .number .result) (start .args .at) (start .pre .0) (c .before .before .before .before .number .ensures .0) (c .before .before .store-out .kept .1 .1 .1 .1 .0) (start .args .o) (c .before .before .store-out .ensures .1), keeps-put t (start .args .frame .now) x (c .before .before .before .before .number .result) (start .args .at) (start .pre .0) (c .before .before .before .before .number .ensures .0) (c .before .before .store-out .kept .1 .1 .1 .1 .0))
 
-pub store-in-spec : {M : Type 1} → statement M
-store-in-spec =
+pub bind-out-spec : {M : Type 1} → statement M
+bind-out-spec =
     tie.close
     (tie.spec
     slice-read-number

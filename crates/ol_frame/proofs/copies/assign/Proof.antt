@@ -7,10 +7,10 @@ use Rattle.ol_frame.specs.Stores.{Assigns}
 use Rattle.ol_frame.proofs.Storing.{assigns-none, assigns-turn, assign-storable}
 use Rattle.ol_tables.specs.Table.{tabOf}
 -- </uses>
-use Rattle.ol_frame.proofs.copies.bind.Statement.{statement}
-use Rattle.ol_frame.proofs.copies.bind.Tie as tie
-use Rattle.ol_frame.proofs.copies.bind.Reads as reads
-use Rattle.ol_frame.proofs.copies.bind.Lts as lts
+use Rattle.ol_frame.proofs.copies.assign.Statement.{statement}
+use Rattle.ol_frame.proofs.copies.assign.Tie as tie
+use Rattle.ol_frame.proofs.copies.assign.Reads as reads
+use Rattle.ol_frame.proofs.copies.assign.Lts as lts
 use Rattle.ol_frame.proofs.copies.store.Reads as store-reads
 use Rattle.ol_value.proofs.cell.read_cell.Reads as read-cell-reads
 
@@ -102,8 +102,8 @@ returns c =
     let e : c .before .loop .i ≡ start .args .n = omega (arith, c .before .loop .inv .0, c .loop-test .left) in
     subst (λ (j : ℕ). Assigns tab (start .args .k) (start .args .at) (start .args .n) j from old (c .before .loop .cells)) e (c .before .loop .inv .2)
 
-pub bind-spec : {M : Type 1} → statement M
-bind-spec =
+pub assign-spec : {M : Type 1} → statement M
+assign-spec =
     tie.close
     (tie.spec
     Inv-loop
