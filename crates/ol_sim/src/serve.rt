@@ -52,7 +52,15 @@ fn answer(
         Call::Lengths(node) => measure(file, tab, size, main, node),
         Call::Start => start_unless(file, tab, size, main, new),
         Call::Cycle => answer_of(cycle_unless(
-            file, tab, names, size, main, old, inputs, new, values,
+            file,
+            tab,
+            names,
+            size,
+            main,
+            old,
+            inputs,
+            new,
+            values,
         )),
     }
 }
