@@ -48,9 +48,9 @@ enum ol_sim_length {
 enum ol_sim_stack {
     OL_SIM_LENGTHS_STACK = 384 * 1024,
     OL_SIM_ADMIT_STACK = 384 * 1024,
-    OL_SIM_ORDER_STACK = 128 * 1024,
+    OL_SIM_ORDER_STACK = 32 * 1024,
     OL_SIM_START_STACK = 384 * 1024,
-    OL_SIM_CYCLE_STACK = 4096 * 1024
+    OL_SIM_CYCLE_STACK = 2048 * 1024
 };
 
 /* The numbers. Of several faults the first by this order is told: 1; then 2 to 5 as they are met reading forward; then 6 to 17 by number. */

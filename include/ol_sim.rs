@@ -5,9 +5,9 @@
 /// Bytes of stack that a call may take: the header's `enum ol_sim_stack`. A thread with less may crash.
 pub const OL_SIM_LENGTHS_STACK: usize = 384 * 1024;
 pub const OL_SIM_ADMIT_STACK: usize = 384 * 1024;
-pub const OL_SIM_ORDER_STACK: usize = 128 * 1024;
+pub const OL_SIM_ORDER_STACK: usize = 32 * 1024;
 pub const OL_SIM_START_STACK: usize = 384 * 1024;
-pub const OL_SIM_CYCLE_STACK: usize = 4096 * 1024;
+pub const OL_SIM_CYCLE_STACK: usize = 2048 * 1024;
 
 extern "C" {
     pub fn ol_sim_lengths(
