@@ -21,6 +21,7 @@ pub fn faults(
     sections: Sections,
     names: &mut [u8],
     slots: &mut [u8],
+    half: usize,
 ) -> Faults
     requires { ⌜ FileReady (now file) (now rows) (now names) sections × NamesWithin (length (now names)) (fileAt (now file)) × (length (now rows) ≡ 272) ⌝ }
     ensures { λ r. ⌜ FileJudged (now (file .entry)) (fileAt (now (file .entry))) (now (names .entry)) (now (names .exit)) (now (slots .entry)) (now (slots .exit)) (now (rows .entry)) (now (rows .exit)) r ⌝ }
@@ -33,7 +34,7 @@ pub fn faults(
     let g = judge_constants(
         file,
         names,
-        slots,
+        &mut slots[..half],
         rows,
         nodes,
         byte(file, c),
@@ -43,7 +44,7 @@ pub fn faults(
             next: c + 1,
         },
     );
-    let r = judge_nodes(file, names, slots, rows, nodes, &mut found, g);
+    let r = judge_nodes(file, names, slots, rows, nodes, &mut found, half, g);
     Faults {
         unseen: found_at(found[0]),
         again: found_at(found[1]),

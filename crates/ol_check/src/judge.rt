@@ -345,7 +345,17 @@ fn equation(
     root(file, names, slots, rows, nodes, node, at, many, found, d)
 }
 
-// So many equations of a node of so many inputs, from where the walk stands.
+// Stores a number in two bytes from p on.
+fn put_two(bytes: &mut [u8], p: usize, n: usize)
+    requires { ⌜ p < 1048576 ⌝ }
+    ensures { λ r. ⌜ now (bytes .exit) ≡ twoPut (now (bytes .entry)) p n ⌝ }
+{
+    put_byte(bytes, p, (n / 256 % 256) as u8);
+    put_byte(bytes, p + 1, (n % 256) as u8);
+}
+
+// So many equations of a node of so many inputs, from where the walk stands. The first `half` bytes of `slots` are the slots; from `plan` on the node's plan is
+// written: where each equation stands, and then how many bytes the records of the equations before it have.
 pub(crate) fn equations(
     file: &[u8],
     names: &[u8],
@@ -357,6 +367,8 @@ pub(crate) fn equations(
     inputs: usize,
     many: usize,
     found: &mut [usize; 4],
+    half: usize,
+    plan: usize,
     f: Reached,
 ) -> Reached
     requires { ⌜ (node < 256) × (length (now file) ≤ 32768) × EquationsReady (now file) (now names) (now rows) nodes node many (f .next) × (f .size ≤ 65536) × (length (now found) ≡ 4) ⌝ }
@@ -369,10 +381,12 @@ pub(crate) fn equations(
         if file.len() <= at {
             return g;
         }
+        put_two(slots, plan + 2 * i, at);
+        put_two(slots, plan + 2 * many + 2 * i, g.size - f.size);
         g = equation(
             file,
             names,
-            slots,
+            &mut slots[..half],
             defined,
             rows,
             nodes,

@@ -66,6 +66,7 @@ fn node(
     nodes: usize,
     k: usize,
     found: &mut [usize; 4],
+    half: usize,
     f: Reached,
 ) -> Reached
     requires { ⌜ NodeReady (now file) (now rows) nodes k × NamesReady (now names) (fileAt (now file)) × (length (now found) ≡ 4) ⌝ }
@@ -84,6 +85,8 @@ fn node(
         row(rows, k, INPUTS),
         row(rows, k, COUNT),
         found,
+        half,
+        half + row(rows, k, PLACE) + 2 * row(rows, k, VARIABLES),
         Reached {
             size: 1 + 9 * row(rows, k, VARIABLES),
             next: row(rows, k, EQUATIONS),
@@ -103,6 +106,7 @@ pub(crate) fn judge_nodes(
     rows: &mut [usize],
     nodes: usize,
     found: &mut [usize; 4],
+    half: usize,
     f: Reached,
 ) -> Reached
     requires { ⌜ RowsReady (now file) (now rows) nodes × NamesReady (now names) (fileAt (now file)) × (length (now rows) ≡ 272) × (length (now found) ≡ 4) ⌝ }
@@ -111,7 +115,7 @@ pub(crate) fn judge_nodes(
     let mut g = f;
     let mut k = 0;
     while k < nodes {
-        g = node(file, names, slots, rows, nodes, k, found, g);
+        g = node(file, names, slots, rows, nodes, k, found, half, g);
         k += 1;
     }
     g

@@ -19,7 +19,6 @@ use ol_frame::copies::copy;
 use ol_frame::copies::less;
 use ol_frame::copies::passed;
 use ol_frame::copies::single_out;
-use ol_frame::equations::equations;
 use ol_frame::frame::ARGUMENTS;
 use ol_frame::frame::FRAME;
 use ol_frame::frame::bind;
@@ -49,7 +48,10 @@ use ol_frame::skip::pass;
 use ol_frame::skip::pass_all;
 use ol_frame::tables::number;
 use ol_frame::tables::order_at;
+use ol_frame::tables::plan_of;
+use ol_frame::tables::records_at;
 use ol_frame::tables::row;
+use ol_frame::tables::two_at;
 use ol_spec::Outcome;
 use ol_state::fresh::write_fresh;
 use ol_tables::heads::head;
@@ -565,17 +567,15 @@ pub fn run(file: &[u8], tab: &[u8], frame: &mut [u8; FRAME], old: &[u8], new: &m
     ensures { λ r. ⌜ RunTo (now (file .entry)) (constsOf (now (tab .entry))) (nodeOf (now (frame .entry))) (firstOf (now (frame .entry))) (cellsOf (now (frame .entry))) (beforeOf (now (frame .entry))) (now (old .entry)) r (cellsOf (now (frame .exit))) (now (new .exit)) × Framed (now (frame .exit)) ⌝ }
 {
     let k = node_of(frame);
-    let mut places = [0usize; 80];
-    let mut offsets = [0usize; 81];
-    equations(file, tab, k, old.len(), &mut places, &mut offsets);
     let n = row(tab, k, COUNT);
+    let plan = plan_of(tab, k);
+    let total = old.len();
     let mut j: usize = 0;
     while j < n {
         let i = order_at(tab, k, j);
-        let at = places[i];
-        let a = offsets[i];
-        let i1 = i + 1;
-        let b = offsets[i1];
+        let at = two_at(tab, plan + 2 * i);
+        let a = records_at(tab, plan, n, i, total);
+        let b = records_at(tab, plan, n, i + 1, total);
         let e = equation(file, tab, at, i, frame, &old[a..b], &mut new[a..b]);
         let Ending::Values = e else {
             return Ended { end: e, index: i };

@@ -2,11 +2,13 @@
 // that runs j-th.
 use crate::no_definers;
 use crate::sort;
-use ol_ir::Counted;
-use ol_ir::node::equation_starts;
 use ol_ir::project::base;
 use ol_spec::Limits;
+use ol_tables::bytes::byte;
+use ol_tables::tables::COUNT;
 use ol_tables::tables::MOST_EQUATIONS;
+use ol_tables::tables::VARIABLES;
+use ol_tables::tables::row;
 ghost use mathlib.Core.Bool.{true};
 ghost use mathlib.Core.Path.{_≡_};
 ghost use Prim.Native.Nat.{ℕ, _*_, _≤_, _<_};
@@ -24,6 +26,9 @@ pub enum Ring {
     At(usize),
     Nothing,
 }
+
+// Where the slots start behind the orders and the types; as many bytes behind them have the plans.
+const PLANNED: usize = 9728;
 
 // Copies an order into bytes, from their front on.
 fn copy_bytes(order: &[usize], out: &mut [u8])
@@ -78,29 +83,46 @@ fn order_starts(
     }
 }
 
-// The order of the equations of the node that starts at `at`, with room for all definers that they
-// wait for.
+// Where n equations start, as their plan, which is written from `plan` on, tells.
+fn starts_of(tab: &[u8], plan: usize, n: usize, starts: &mut [usize])
+    requires { ⌜ (plan < 1048576) × (n ≤ length (now starts)) × (n ≤ 80) ⌝ }
+    ensures { λ _. ⌜ now (starts .exit) ≡ sets (now (starts .entry)) 0 (startsIn (now (tab .entry)) plan n) ⌝ }
+{
+    let mut i = 0;
+    while i < n {
+        let p = plan + 2 * i;
+        starts[i] = byte(tab, p) * 256 + byte(tab, p + 1);
+        i += 1;
+    }
+}
+
+// The order of the n equations of the node that starts at `at`, with room for all definers that they
+// wait for. The plan says where they start; their order is written from `from` on.
 fn order_row(
     file: &[u8],
     limits: Limits,
     enums: usize,
     at: usize,
+    n: usize,
+    plan: usize,
     low: bool,
     lists: &mut [u8],
-    out: &mut [u8],
+    from: usize,
+    tab: &mut [u8],
 ) -> Ring
-    requires { ⌜ NodeReads (now file) limits enums at ⌝ }
-    requires { ⌜ (low ≡ true → LowNames (nodeAt (now file) limits enums at .equations)) ⌝ }
-    requires { ⌜ length (now file) ≤ 3 * length (now lists) ⌝ }
-    requires { ⌜ length (now out) ≡ 80 ⌝ }
-    ensures order { λ r. ⌜ NodeDone at (nodeAt (now (file .entry)) limits enums at) (now (out .entry)) (now (out .exit)) r ⌝ }
-    ensures lists { λ _. ⌜ now (lists .exit) ≡ sets (now (lists .entry)) 0 (waitedAll (nodeAt (now (file .entry)) limits enums at .equations) (nodeAt (now (file .entry)) limits enums at .equations)) ⌝ }
 {
     let mut space = [0usize; 80];
-    match equation_starts(file, limits, enums, at, &mut space) {
-        Counted::Items(n, _) => order_starts(file, limits, enums, &space[..n], low, lists, out),
-        Counted::Refused(_) => Ring::Nothing,
-    }
+    starts_of(tab, plan, n, &mut space);
+    let end = from + MOST_EQUATIONS;
+    order_starts(
+        file,
+        limits,
+        enums,
+        &space[..n],
+        low,
+        lists,
+        &mut tab[from..end],
+    )
 }
 
 // The orders of all nodes of a file, with room for all definers that the equations of one wait for.
@@ -108,28 +130,31 @@ fn orders_with(
     file: &[u8],
     enums: usize,
     places: &[usize],
+    rows: &[usize],
     low: bool,
     lists: &mut [u8],
-    orders: &mut [u8],
+    tab: &mut [u8],
 ) -> Ring
     requires { ⌜ NodesStand (now file) enums (now places) low ⌝ }
     requires { ⌜ length (now file) ≤ 3 * length (now lists) ⌝ }
-    requires { ⌜ length (now orders) ≡ 2560 ⌝ }
-    ensures { λ r. ⌜ ((f : File) (end : ℕ) → readFile (now (file .entry)) relayLoader ≡ got f end → OrdersDone f (now (orders .entry)) (now (orders .exit)) r) ⌝ }
 {
     let limits = base();
+    let plans = PLANNED + (tab.len() - PLANNED) / 2;
     let mut k = 0;
     while k < places.len() {
-        let from = k * MOST_EQUATIONS;
-        let end = from + 80;
+        let at = places[k];
+        let plan = plans + at + 2 * row(rows, k, VARIABLES);
         match order_row(
             file,
             limits,
             enums,
-            places[k],
+            at,
+            row(rows, k, COUNT),
+            plan,
             low,
             lists,
-            &mut orders[from..end],
+            k * MOST_EQUATIONS,
+            tab,
         ) {
             Ring::At(p) => {
                 return Ring::At(p);
@@ -150,33 +175,41 @@ fn orders_long(
     file: &[u8],
     enums: usize,
     places: &[usize],
+    rows: &[usize],
     low: bool,
-    orders: &mut [u8],
+    tab: &mut [u8],
 ) -> Ring
     requires { ⌜ NodesStand (now file) enums (now places) low ⌝ }
     requires { ⌜ length (now orders) ≡ 2560 ⌝ }
     ensures { λ r. ⌜ ((f : File) (end : ℕ) → readFile (now (file .entry)) relayLoader ≡ got f end → OrdersDone f (now (orders .entry)) (now (orders .exit)) r) ⌝ }
 {
     if 0 < turns {
-        orders_long(turns - 1, file, enums, places, low, orders)
+        orders_long(turns - 1, file, enums, places, rows, low, tab)
     } else {
         let mut lists = [0u8; 10923];
-        orders_with(file, enums, places, low, &mut lists, orders)
+        orders_with(file, enums, places, rows, low, &mut lists, tab)
     }
 }
 
 // The orders of all nodes of a file that reads without fault, and that start at these places: the
 // place of the first equation that is never placed, of the first node that has one. With `low` every
 // name that an equation defines is below 1,024.
-pub fn orders_of(file: &[u8], enums: usize, places: &[usize], low: bool, orders: &mut [u8]) -> Ring
+pub fn orders_of(
+    file: &[u8],
+    enums: usize,
+    places: &[usize],
+    rows: &[usize],
+    low: bool,
+    tab: &mut [u8],
+) -> Ring
     requires { ⌜ NodesStand (now file) enums (now places) low ⌝ }
     requires { ⌜ length (now orders) ≡ 2560 ⌝ }
     ensures { λ r. ⌜ ((f : File) (end : ℕ) → readFile (now (file .entry)) relayLoader ≡ got f end → OrdersDone f (now (orders .entry)) (now (orders .exit)) r) ⌝ }
 {
     if file.len() <= 1536 {
         let mut lists = [0u8; 512];
-        orders_with(file, enums, places, low, &mut lists, orders)
+        orders_with(file, enums, places, rows, low, &mut lists, tab)
     } else {
-        orders_long(file.len() / 65536, file, enums, places, low, orders)
+        orders_long(file.len() / 65536, file, enums, places, rows, low, tab)
     }
 }

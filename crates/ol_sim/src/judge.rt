@@ -13,7 +13,6 @@ use ol_spec::Fault;
 use ol_tables::bytes::byte;
 use ol_tables::table::ORDERS;
 use ol_tables::table::SLOTS;
-use ol_tables::table::TYPES;
 use ol_tables::table::pack;
 use ol_tables::tables::COLUMNS;
 use ol_tables::tables::FIRSTS;
@@ -109,7 +108,7 @@ fn judge_order(
     requires { ⌜ OrderReady (now file) enums (now places) (now rows) (now tab) sections main low ⌝ }
     ensures { λ r. ⌜ Judges (now (file .entry)) (from11 (fileAt (now (file .entry)))) (Admits (now (file .entry)) (now (tab .exit))) r ⌝ }
 {
-    match orders_of(file, enums, places, low, &mut tab[ORDERS..TYPES]) {
+    match orders_of(file, enums, places, rows, low, &mut tab[ORDERS..]) {
         Ring::At(p) => refuse(11, p),
         Ring::Nothing => {
             let c = sections.constants;
@@ -182,7 +181,8 @@ pub(crate) fn judge_names(
     match clash {
         Found::At(p) => refuse(6, p),
         Found::Nothing => {
-            let found = faults(file, rows, sections, names, &mut tab[SLOTS..]);
+            let half = (tab.len() - SLOTS) / 2;
+            let found = faults(file, rows, sections, names, &mut tab[SLOTS..], half);
             judge_shapes(file, enums, places, rows, tab, sections, low, found)
         }
     }

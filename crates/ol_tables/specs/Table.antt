@@ -20,7 +20,7 @@ knownOf t = getD t 816 0
 abbrev pub constsOf : List ℕ → List ℕ
 constsOf t = take (9 * knownOf t) (drop 817 t)
 
--- the orders, the types and the slots
+-- the orders, the types, the slots and the plans
 abbrev pub tabOf : List ℕ → List ℕ
 tabOf t = drop 1393 t
 

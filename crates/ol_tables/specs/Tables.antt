@@ -1,20 +1,20 @@
 -- The tables that every public call builds of a file that reads without fault: what each entry is, in terms of the file's tree.
 -- `rows` has eight numbers for each of 32 nodes, then one for each of 16 enums. `tab` has bytes: the nodes' evaluation orders (80 entries for each of 32 nodes), the types of
--- their variables (two bytes for each of 112 variables of 32 nodes), and for each place of the file the slot of the name that stands there: a Var's, or one that an equation defines.
-use Prim.Native.Nat.{ℕ, _+_, _*_, _<_, _≤_, min}
+-- their variables (two bytes for each of 112 variables of 32 nodes), for each place of the file the slot of the name that stands there: a Var's, or one that an equation defines; and, in as many bytes as the slots, the plans of the nodes.
+use Prim.Native.Nat.{ℕ, _+_, _-_, _*_, _/_, _<_, _≤_, min}
 use mathlib.Core.Bool.{Bool, false}
 use mathlib.Core.List.{List, [], _∷_, map}
 use mathlib.Core.Option.{Option, none, some}
 use mathlib.Core.Path.{_≡_}
 use lib.Dec.{eqb}
-use lib.ListN.{length, take, getD}
-use Rattle.ol_spec.specs.Lists.{maybe, position, member}
+use lib.ListN.{length, take, drop, getD}
+use Rattle.ol_spec.specs.Lists.{concat, maybe, position, member}
 use Rattle.ol_spec.specs.Syntax.{Ty, bool, int, float32, float64, char, enum, Expr, boolLit, Constant, Node, File, noNode, variables, variableNames, typeOf}
 use Rattle.ol_spec.specs.Places.{placedConstants, placedNodes, placedEquations, placedNames, equationsStart, rhsPlace, collect}
 use Rattle.ol_spec.specs.Encode.{kindCode}
 use Rattle.ol_spec.specs.Order.{order}
-use Rattle.ol_spec.specs.Eval.{sizeIn}
-use Rattle.ol_spec.specs.Step.{sizesAt}
+use Rattle.ol_spec.specs.Eval.{sizeIn, sitesSize}
+use Rattle.ol_spec.specs.Step.{sizesAt, sites, equationSites}
 use Rattle.ol_spec.specs.Admission.{Item, constantNames, used, valuePlace, callsWhere, badCall, variants}
 
 -- ---- types as bytes: the type code, and an enum's number (0 for another type)
@@ -143,6 +143,39 @@ pub record TabOf (f : File) (tab : List ℕ) (k : ℕ) : Type 0 where
   -- the names that the equations define
   pub defined : Each (λ q. Each (HasSlot tab (variableNames (nodeOf f k)) (constantNames f)) (placedNames (q .0 + 1) (q .1 .names))) (placedEquations (placeOf (placedNodes f) k) (nodeOf f k))
 
+-- ---- plans
+
+-- two bytes as a number
+abbrev pub twoAt : List ℕ → ℕ → ℕ
+twoAt t p = getD t p 0 * 256 + getD t (p + 1) 0
+
+-- where the plans start: the slots have half of the bytes behind slotsFrom
+abbrev pub plansFrom : List ℕ → ℕ
+plansFrom tab = slotsFrom + (length tab - slotsFrom) / 2
+
+abbrev pub plansOf : List ℕ → List ℕ
+plansOf tab = drop (plansFrom tab) tab
+
+-- where node k's plan starts among the plans: behind twice as many bytes as it has variables, from its own place on. A variable has at least three bytes in the file and an equation five, so that the plans of two nodes do not meet
+abbrev pub planIn : File → ℕ → ℕ
+planIn f k = placeOf (placedNodes f) k + 2 * length (variables (nodeOf f k))
+
+-- where equation i of node k stands
+abbrev pub equationPlace : File → ℕ → ℕ → ℕ
+equationPlace f k i = getD (map (λ q. q .0) (placedEquations (placeOf (placedNodes f) k) (nodeOf f k))) i 0
+
+-- the bytes of the records of the equations of node k, and of those before equation i
+abbrev pub recordBytes : File → ℕ → ℕ
+recordBytes f k = sitesSize (sizesAt (length (f .nodes)) (f .nodes)) (sites (nodeOf f k))
+
+abbrev pub bytesBefore : File → ℕ → ℕ → ℕ
+bytesBefore f k i = sitesSize (sizesAt (length (f .nodes)) (f .nodes)) (concat (map equationSites (take i (nodeOf f k .equations))))
+
+-- node k's plan: where each of its equations stands, and where the records of each start among those of all
+pub record PlanOf (f : File) (plans : List ℕ) (k : ℕ) : Type 0 where
+  pub places : (i : ℕ) → i < length (nodeOf f k .equations) → twoAt plans (planIn f k + 2 * i) ≡ equationPlace f k i
+  pub offsets : recordBytes f k ≤ 32768 → (i : ℕ) → i < length (nodeOf f k .equations) → twoAt plans (planIn f k + 2 * length (nodeOf f k .equations) + 2 * i) ≡ bytesBefore f k i
+
 -- constant i with its place
 abbrev pub constantOf : File → ℕ → ℕ × Constant
 constantOf f i = getD (placedConstants f) i (0, record { name = 0; ty = bool; value = boolLit false })
@@ -150,6 +183,7 @@ constantOf f i = getD (placedConstants f) i (0, record { name = 0; ty = bool; va
 pub record Tab (f : File) (size : ℕ) (tab : List ℕ) : Type 0 where
   pub long : slotsFrom + size ≤ length tab
   pub tabsOf : (k : ℕ) → k < length (f .nodes) → TabOf f tab k
+  pub plans : (k : ℕ) → k < length (f .nodes) → PlanOf f (plansOf tab) k
   -- a constant's expression sees the constants before it
   pub constants : (i : ℕ) → i < length (f .constants) → Slotted tab [] (take i (constantNames f)) (valuePlace (constantOf f i .0) (constantOf f i .1)) (constantOf f i .1 .value)
 

@@ -1,6 +1,6 @@
 // The table of a file, as bytes: all that the state and evaluation are told of it besides its own bytes. The numbers of its rows, three bytes each; how many
 // constants have their cells, and these cells; the evaluation orders, 80 entries for each of 32 nodes; the types, two bytes for each of 112 variables of each
-// node; and for each place of the file the slot of the name there.
+// node; for each place of the file the slot of the name there; and, in as many bytes, the plans of the nodes.
 use super::bytes::byte;
 use super::tables::FIRSTS;
 use super::tables::ROWS;
@@ -21,9 +21,9 @@ pub const TYPES: usize = 3953;
 
 pub const SLOTS: usize = 11121;
 
-pub const SMALL_TAB: usize = 12145;
+pub const SMALL_TAB: usize = 13169;
 
-pub const LARGE_TAB: usize = 43889;
+pub const LARGE_TAB: usize = 76657;
 
 // Number i of the rows; 0 past their end.
 fn number_at(tab: &[u8], i: usize) -> usize
