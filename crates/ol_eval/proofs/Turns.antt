@@ -23,33 +23,12 @@ use Rattle.ol_frame.specs.Outcomes.{endingOf}
 use Rattle.ol_frame.specs.declared.outcomes.Ending.{Ending}
 use Rattle.ol_frame.specs.declared.outcomes.Ending.the-variants as End
 use Rattle.ol_eval.specs.Calls.{Holds, Did, Runnable, runIn, EndsAs, RunTo, EquationReady, EquationTo}
-use Rattle.ol_frame.specs.Equations.{countIn, rhsIn, equationIn, EquationsStand, EquationsAre, offsetIn}
+use Rattle.ol_frame.specs.Equations.{countIn, equationIn, EquationIs, offsetIn}
 use Rattle.ol_frame.proofs.Endings.{failed-values, over-values}
 use Rattle.ol_frame.proofs.Passing.{callees-one}
 use Rattle.ol_frame.proofs.Planning.{sounds-below}
 use Rattle.ol_frame.proofs.Equating.{offset-suc, offset-upto}
 use Rattle.ol_frame.proofs.Running.{midOf, putMid, length-mid, segOf, putSeg, sizeOf, Left, rightOf, left-start, left-turn, left-failed, left-over, left-done}
-
--- the equations of a node that can be run stand in the file
-pub stands : {file tab rows consts : List ℕ} (k : ℕ) → Running file tab rows consts → k < nodesIn file → sitesSize (sizesIn file) (sites (nodeIn file k)) ≤ 32768 → EquationsStand file rows k
-stands {file} k r b room =
-    let n = r .nodes k b in
-    record {
-      sized = r .program .sized;
-      inside = b;
-      few = n .few;
-      room = room;
-      each = λ i h.
-          let q = n .equations i h in
-          let a = rhsIn file k i in
-          let c = callees-one file 24 a (q .plan .reads) ∙ ap callees (q .tree) in
-          record {
-            count = q .count;
-            reads = q .plan .reads;
-            tree = q .tree;
-            below = subst (Each (Below (nodesIn file))) c (each-map (Below k) (Below (nodesIn file)) (λ x l. omega arith) (calleesAll (exprsAt file 24 1 a)) (sounds-below (fileAt file) k (nodeIn file k) a (exprsAt file 24 1 a) (q .plan .sound)));
-          };
-    }
 
 -- equation i's part of the state, by where it starts and ends
 mid-seg : (file consts : List ℕ) (k i a b : ℕ) (s : List ℕ) → i < countIn file k → a ≡ offsetIn file k i → b ≡ offsetIn file k (suc i) → midOf a b s ≡ segOf (globalsIn file consts) (nodeIn file k .equations) i s
@@ -81,61 +60,53 @@ run-next file consts k first cells₀ before old cells new i j l h e =
     subst (λ (is : List ℕ). LeftIn file consts k first cells₀ before old is cells new) (drop-cons o j 0 h ∙ (λ t. sym e t ∷ drop (s t) o)) l
 
 module _ {file tab rows consts : List ℕ} {k : ℕ} (first : Bool) {cells₀ before old new₀ : List ℕ} (p : Runnable file tab rows consts k cells₀ before old new₀) where
-  module _ {i : ℕ} {is : List ℕ} (cells : List ℕ) {new : List ℕ} (l : LeftIn file consts k first cells₀ before old (i ∷ is) cells new) {places offsets : List ℕ} (q : EquationsAre file k places offsets) where
+  module _ {i : ℕ} {is : List ℕ} (cells : List ℕ) {new : List ℕ} (l : LeftIn file consts k first cells₀ before old (i ∷ is) cells new) {at a b : ℕ} (q : EquationIs file k i at a b) where
     index : i < countIn file k
     index = l .inside .0
 
-    starts : getD offsets i 0 ≡ offsetIn file k i
-    starts = q .offset i (omega (arith, index))
-
-    ends : getD offsets (i + 1) 0 ≡ offsetIn file k (suc i)
-    ends = let s : i + 1 ≡ suc i = omega arith in q .offset (i + 1) (omega (arith, index)) ∙ ap (offsetIn file k) s
-
     -- its part lies in the state
-    pub turn-part : (getD offsets i 0 ≤ getD offsets (i + 1) 0) × (getD offsets (i + 1) 0 ≤ length old) × (length new ≡ length old)
-    turn-part = (omega (arith, starts, ends, offset-suc file k i index), omega (arith, ends, offset-upto file k (suc i), p .sized), l .sized ∙ sym (p .sized))
+    pub turn-part : (a ≤ b) × (b ≤ length old) × (length new ≡ length old)
+    turn-part = (omega (arith, q .starts, q .ends, offset-suc file k i index), omega (arith, q .ends, offset-upto file k (suc i), p .sized), l .sized ∙ sym (p .sized))
 
-    part-size : getD offsets (i + 1) 0 - getD offsets i 0 ≡ sitesSize (sizesIn file) (callees (equationIn file k i .rhs))
-    part-size = omega (arith, starts, ends, offset-suc file k i index)
+    part-size : b - a ≡ sitesSize (sizesIn file) (callees (equationIn file k i .rhs))
+    part-size = omega (arith, q .starts, q .ends, offset-suc file k i index)
 
     -- it can be evaluated on its part
-    pub turn-ready : length cells ≡ length cells₀ → EquationReady file tab rows consts k i (getD places i 0) cells before (midOf (getD offsets i 0) (getD offsets (i + 1) 0) old) (midOf (getD offsets i 0) (getD offsets (i + 1) 0) new)
+    pub turn-ready : length cells ≡ length cells₀ → EquationReady file tab rows consts k i (at) cells before (midOf a b old) (midOf a b new)
     turn-ready c =
-        let a = getD offsets i 0 in
-        let b = getD offsets (i + 1) 0 in
         let t = turn-part in
         let m = length-mid a b old (t .0) (t .1) in
         record {
           running = p .running;
           below = p .below;
           index = index;
-          place = q .place i index;
+          place = q .place;
           present = record { long = omega (arith, c, p .present .long) };
           previous = p .previous;
           sized = m ∙ part-size;
           small = omega (arith, m, t .1, p .small);
-          same = mid-seg file consts k i a b new index starts ends ∙ l .untouched .0 ∙ sym (mid-seg file consts k i a b old index starts ends);
+          same = mid-seg file consts k i a b new index (q .starts) (q .ends) ∙ l .untouched .0 ∙ sym (mid-seg file consts k i a b old index (q .starts) (q .ends));
         }
 
     abbrev E : Evals
     E = rightOf (globalsIn file consts) (calls (globalsIn file consts)) (nodeIn file k) first (valuesOf (widthIn file k) before) (valuesOf (widthIn file k) cells) i old
 
     moved-did : {e : Ending} {got : List Value} {x : List ℕ} → (make : List Value → List Value)
-        → Did make (evalEquation (globalsIn file consts) (calls (globalsIn file consts)) (nodeIn file k) first (valuesOf (widthIn file k) before) (valuesOf (widthIn file k) cells) i (midOf (getD offsets i 0) (getD offsets (i + 1) 0) old)) e got x → Did make E e got x
+        → Did make (evalEquation (globalsIn file consts) (calls (globalsIn file consts)) (nodeIn file k) first (valuesOf (widthIn file k) before) (valuesOf (widthIn file k) cells) i (midOf a b old)) e got x → Did make E e got x
     moved-did {e} {got} {x} make d =
         subst (λ (s : List ℕ). Did make (evalEquation (globalsIn file consts) (calls (globalsIn file consts)) (nodeIn file k) first (valuesOf (widthIn file k) before) (valuesOf (widthIn file k) cells) i s) e got x)
-        (mid-seg file consts k i (getD offsets i 0) (getD offsets (i + 1) 0) old index starts ends) d
+        (mid-seg file consts k i a b old index (q .starts) (q .ends)) d
 
-    sized-as : (x : List ℕ) → length x ≡ length (midOf (getD offsets i 0) (getD offsets (i + 1) 0) new) → length x ≡ sizeOf (globalsIn file consts) (nodeIn file k .equations) i
+    sized-as : (x : List ℕ) → length x ≡ length (midOf a b new) → length x ≡ sizeOf (globalsIn file consts) (nodeIn file k .equations) i
     sized-as x c =
         let t = turn-part in
-        c ∙ length-mid (getD offsets i 0) (getD offsets (i + 1) 0) new (t .0) (omega (arith, t .1, t .2)) ∙ part-size
+        c ∙ length-mid a b new (t .0) (omega (arith, t .1, t .2)) ∙ part-size
 
     -- its values are stored: the run goes on
-    pub turn-goes : (e : Ending) (cells′ x : List ℕ) → e ≡ End.Values → length x ≡ length (midOf (getD offsets i 0) (getD offsets (i + 1) 0) new)
-        → EquationTo file consts k i first cells before (midOf (getD offsets i 0) (getD offsets (i + 1) 0) old) e cells′ x → LeftIn file consts k first cells₀ before old is cells′ (putMid (getD offsets i 0) (getD offsets (i + 1) 0) new x)
+    pub turn-goes : (e : Ending) (cells′ x : List ℕ) → e ≡ End.Values → length x ≡ length (midOf a b new)
+        → EquationTo file consts k i first cells before (midOf a b old) e cells′ x → LeftIn file consts k first cells₀ before old is cells′ (putMid a b new x)
     turn-goes e cells′ x z c d =
-        subst (λ (s : List ℕ). LeftIn file consts k first cells₀ before old is cells′ s) (sym (put-seg file consts k i (getD offsets i 0) (getD offsets (i + 1) 0) new x index starts ends))
+        subst (λ (s : List ℕ). LeftIn file consts k first cells₀ before old is cells′ s) (sym (put-seg file consts k i a b new x index (q .starts) (q .ends)))
         (go (E .out) refl (w .end-is) (w .values-are))
       where
         w : Did (λ vs. assign (nodeIn file k) (equationIn file k i .names) vs (valuesOf (widthIn file k) cells)) E e (valuesOf (widthIn file k) cells′) x
@@ -150,17 +121,17 @@ module _ {file tab rows consts : List ℕ} {k : ℕ} (first : Bool) {cells₀ be
         go overflow f n h = over-values n z
 
     -- it fails or overflows: the run ends
-    pub turn-stops : (e : Ending) (cells′ x : List ℕ) → ¬ (e ≡ End.Values) → length x ≡ length (midOf (getD offsets i 0) (getD offsets (i + 1) 0) new)
-        → EquationTo file consts k i first cells before (midOf (getD offsets i 0) (getD offsets (i + 1) 0) old) e cells′ x → RunTo file consts k first cells₀ before old (record { end = e; index = i }) cells′ (putMid (getD offsets i 0) (getD offsets (i + 1) 0) new x)
+    pub turn-stops : (e : Ending) (cells′ x : List ℕ) → ¬ (e ≡ End.Values) → length x ≡ length (midOf a b new)
+        → EquationTo file consts k i first cells before (midOf a b old) e cells′ x → RunTo file consts k first cells₀ before old (record { end = e; index = i }) cells′ (putMid a b new x)
     turn-stops e cells′ x z c d = go (E .out) refl (w .end-is)
       where
         w : Did (λ vs. assign (nodeIn file k) (equationIn file k i .names) vs (valuesOf (widthIn file k) cells)) E e (valuesOf (widthIn file k) cells′) x
         w = moved-did (λ vs. assign (nodeIn file k) (equationIn file k i .names) vs (valuesOf (widthIn file k) cells)) d
 
-        put : putMid (getD offsets i 0) (getD offsets (i + 1) 0) new x ≡ putSeg (globalsIn file consts) (nodeIn file k .equations) i new x
-        put = put-seg file consts k i (getD offsets i 0) (getD offsets (i + 1) 0) new x index starts ends
+        put : putMid a b new x ≡ putSeg (globalsIn file consts) (nodeIn file k .equations) i new x
+        put = put-seg file consts k i a b new x index (q .starts) (q .ends)
 
-        go : (o : Outcomes) → E .out ≡ o → e ≡ endingOf o → RunTo file consts k first cells₀ before old (record { end = e; index = i }) cells′ (putMid (getD offsets i 0) (getD offsets (i + 1) 0) new x)
+        go : (o : Outcomes) → E .out ≡ o → e ≡ endingOf o → RunTo file consts k first cells₀ before old (record { end = e; index = i }) cells′ (putMid a b new x)
         go (values vs) f n = absurd (z n)
         go failure f n =
             let r = left-failed l x f (w .state) (sized-as x c) in

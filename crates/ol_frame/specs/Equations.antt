@@ -1,18 +1,17 @@
 -- The equations of a node: where each stands, and where its records start among those of all.
-use Prim.Native.Nat.{ℕ, _<_, _≤_}
-use mathlib.Core.Bool.{Bool, true}
+use Prim.Native.Nat.{ℕ, suc, _+_, _*_}
 use mathlib.Core.List.{List, map}
 use mathlib.Core.Path.{_≡_}
 use lib.ListN.{length, take, getD}
 use Rattle.ol_spec.specs.Lists.{concat}
 use Rattle.ol_spec.specs.Syntax.{Equation}
 use Rattle.ol_spec.specs.Places.{placedNodes, placedEquations, rhsPlace}
-use Rattle.ol_spec.specs.Eval.{callees, calleesAll, sitesSize}
+use Rattle.ol_spec.specs.Eval.{sitesSize}
 use Rattle.ol_spec.specs.Step.{equationSites, sites, noEquation, equationAt}
-use Rattle.ol_tables.specs.At.{fileAt, nodeIn, exprAt, exprsAt, endsAt, ReadsAll}
-use Rattle.ol_tables.specs.Tables.{Each, placeOf}
-use Rattle.ol_frame.specs.Walk.{nodesIn, sizesIn, Below, Sized}
-use Rattle.ol_frame.specs.declared.equations.Right.{Right}
+use Rattle.ol_tables.specs.At.{fileAt, nodeIn}
+use Rattle.ol_tables.specs.Table.{tabOf, rowsOf}
+use Rattle.ol_tables.specs.Tables.{placeOf, rowAt, plansFrom}
+use Rattle.ol_frame.specs.Walk.{sizesIn}
 
 -- how many equations node k has
 abbrev pub countIn : List ℕ → ℕ → ℕ
@@ -37,35 +36,12 @@ offsetIn file k i = sitesSize (sizesIn file) (concat (map equationSites (take i 
 abbrev pub recordsIn : List ℕ → ℕ → ℕ
 recordsIn file k = sitesSize (sizesIn file) (sites (nodeIn file k))
 
--- the bytes of the records of the right side at `at`
-abbrev pub rightSize : List ℕ → ℕ → ℕ
-rightSize file at = sitesSize (sizesIn file) (calleesAll (exprsAt file 24 1 at))
+-- where node k's plan starts in the table of a file
+abbrev pub planAt : List ℕ → ℕ → ℕ
+planAt t k = 1393 + plansFrom (tabOf t) + rowAt (rowsOf t) k 7 + 2 * rowAt (rowsOf t) k 4
 
--- a right side that is said to be bare has no records
-abbrev pub Bare : List ℕ → ℕ → Bool → Type 0
-Bare file at bare = bare ≡ true → rightSize file at ≡ 0
-
--- where it ends, and the bytes of its records
-pub record RightEnds (file : List ℕ) (at : ℕ) (r : Right) : Type 0 where
-  pub next-is : r .next ≡ endsAt file 24 1 at
-  pub used-is : r .used ≡ rightSize file at
-
--- equation i of node k stands where it is said to
-pub record EquationStands (file : List ℕ) (k i : ℕ) : Type 0 where
-  pub count : getD file (placeIn file k i) 0 ≡ length (equationIn file k i .names)
-  pub reads : ReadsAll file 24 1 (rhsIn file k i)
-  pub tree : exprAt file 24 (rhsIn file k i) ≡ equationIn file k i .rhs
-  pub below : Each (Below (nodesIn file)) (callees (equationIn file k i .rhs))
-
--- all of them do
-pub record EquationsStand (file rows : List ℕ) (k : ℕ) : Type 0 where
-  pub sized : Sized file rows
-  pub inside : k < nodesIn file
-  pub few : countIn file k ≤ 80
-  pub room : recordsIn file k ≤ 32768
-  pub each : (i : ℕ) → i < countIn file k → EquationStands file k i
-
--- the place of each equation, and where its records start; behind the last, where all end
-pub record EquationsAre (file : List ℕ) (k : ℕ) (places offsets : List ℕ) : Type 0 where
-  pub place : (i : ℕ) → i < countIn file k → getD places i 0 ≡ placeIn file k i
-  pub offset : (i : ℕ) → i ≤ countIn file k → getD offsets i 0 ≡ offsetIn file k i
+-- equation i of node k stands at `at`, and its records among those of the node's equations from a up to b
+pub record EquationIs (file : List ℕ) (k i at a b : ℕ) : Type 0 where
+  pub place : at ≡ placeIn file k i
+  pub starts : a ≡ offsetIn file k i
+  pub ends : b ≡ offsetIn file k (suc i)

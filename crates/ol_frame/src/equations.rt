@@ -1,67 +1,42 @@
-// The equations of a node: where each stands, and where its records start.
-use crate::skip::pass;
-use crate::tables::number;
+// The equations of a node, as its plan in the table tells them: where each stands, and where its records start.
 use crate::tables::row;
-use ol_tables::heads::skip;
-use ol_tables::tables::COUNT;
-use ol_tables::tables::EQUATIONS;
-ghost use Prim.Native.Nat.{_≤_, _<_};
-ghost use lib.ListN.{length};
+use ol_tables::bytes::name;
+use ol_tables::table::SLOTS;
+use ol_tables::tables::PLACE;
+use ol_tables::tables::VARIABLES;
+ghost use mathlib.Core.Bool.{cond};
 ghost use mathlib.Core.Path.{_≡_};
+ghost use Prim.Native.Nat.{_+_, _*_, _≤_, _<_};
+ghost use lib.Dec.{ltb};
+ghost use lib.ListN.{length};
 ghost use Rattle.ol_tables.specs.Table.{rowsOf};
-ghost use Rattle.ol_frame.specs.Walk.{Passable};
-ghost use Rattle.ol_frame.specs.Equations.{EquationsStand, EquationsAre, countIn, recordsIn, Bare, RightEnds};
+ghost use Rattle.ol_tables.specs.Tables.{twoAt};
+ghost use Rattle.ol_frame.specs.Equations.{planAt};
 
-// Where an equation's right side ends, and the bytes of its records.
-struct Right {
-    next: usize,
-    used: usize,
+// Where node k's plan starts in the table.
+pub fn plan_of(tab: &[u8], k: usize) -> usize
+    requires { ⌜ (11121 ≤ length (now tab)) × (k < 32) ⌝ }
+    ensures { λ r. ⌜ (r ≡ planAt (now (tab .entry)) k) × (r < 9300000000000000000) ⌝ }
+{
+    SLOTS + (tab.len() - SLOTS) / 2 + row(tab, k, PLACE) + 2 * row(tab, k, VARIABLES)
 }
 
-// The right side at `at` is passed over; where it has no records (`bare`), only its end is looked for.
-fn right_side(file: &[u8], tab: &[u8], at: usize, bare: bool) -> Right
-    requires { ⌜ Passable (now file) (rowsOf (now tab)) 24 1 at × Bare (now file) at bare × (816 ≤ length (now tab)) ⌝ }
-    ensures { λ r. ⌜ RightEnds (now (file .entry)) at r ⌝ }
+// Where equation i stands, by its node's plan: two bytes.
+pub fn place_at(tab: &[u8], plan: usize, i: usize) -> usize
+    requires { ⌜ (plan < 9300000000000000000) × (i < 256) ⌝ }
+    ensures { λ r. ⌜ r ≡ twoAt (now (tab .entry)) (plan + 2 * i) ⌝ }
 {
-    if bare {
-        Right {
-            next: skip(file, 1, at),
-            used: 0,
-        }
+    name(tab, plan + 2 * i)
+}
+
+// Where the records of equation i start among those of its node's n equations, which have `total` bytes; behind the last, where they end.
+pub fn records_at(tab: &[u8], plan: usize, n: usize, i: usize, total: usize) -> usize
+    requires { ⌜ (plan < 9300000000000000000) × (n < 256) ⌝ }
+    ensures { λ r. ⌜ r ≡ cond (ltb i n) (twoAt (now (tab .entry)) (plan + 2 * n + 2 * i)) total ⌝ }
+{
+    if i < n {
+        name(tab, plan + 2 * n + 2 * i)
     } else {
-        let p = pass(file, tab, at, 24);
-        Right {
-            next: p.next,
-            used: p.used,
-        }
-    }
-}
-
-// The place of each equation of node k, and where its records start among those of all, which have `total` bytes.
-pub fn equations(
-    file: &[u8],
-    tab: &[u8],
-    k: usize,
-    total: usize,
-    places: &mut [usize],
-    offsets: &mut [usize],
-)
-    requires { ⌜ EquationsStand (now file) (rowsOf (now tab)) k × (total ≡ recordsIn (now file) k) × (countIn (now file) k ≤ length (now places)) × (countIn (now file) k < length (now offsets)) × (816 ≤ length (now tab)) ⌝ }
-    ensures { λ _. ⌜ EquationsAre (now (file .entry)) k (now (places .exit)) (now (offsets .exit)) ⌝ }
-{
-    let n = row(tab, k, COUNT);
-    let bare = total == 0;
-    let mut at = row(tab, k, EQUATIONS);
-    let mut used: usize = 0;
-    let mut i: usize = 0;
-    offsets[0] = 0;
-    while i < n {
-        places[i] = at;
-        let names = number(file[at]);
-        let r = right_side(file, tab, at + 1 + 2 * names, bare);
-        at = r.next;
-        used += r.used;
-        i += 1;
-        offsets[i] = used;
+        total
     }
 }

@@ -1,13 +1,10 @@
 // Entries of the tables of a file.
-use ol_tables::bytes::byte;
 use ol_tables::table::ORDERS;
 use ol_tables::table::SLOTS;
 use ol_tables::table::TYPES;
 use ol_tables::tables::COLUMNS;
 use ol_tables::tables::MOST_EQUATIONS;
 use ol_tables::tables::MOST_VARIABLES;
-use ol_tables::tables::PLACE;
-use ol_tables::tables::VARIABLES;
 ghost use mathlib.Core.Path.{_≡_};
 ghost use Prim.Native.Nat.{_<_, _≤_};
 ghost use lib.ListN.{length};
@@ -58,32 +55,4 @@ pub fn order_at(tab: &[u8], k: usize, j: usize) -> usize
 {
     let p = ORDERS + k * MOST_EQUATIONS + j;
     number(tab[p])
-}
-
-// Where node k's plan starts in the table.
-pub fn plan_of(tab: &[u8], k: usize) -> usize
-    requires { ⌜ (11121 ≤ length (now tab)) × (k < 32) ⌝ }
-    ensures { λ r. ⌜ r ≡ 1393 + plansFrom (tabOf (now (tab .entry))) + rowAt (rowsOf (now (tab .entry))) k 7 + 2 * rowAt (rowsOf (now (tab .entry))) k 4 ⌝ }
-{
-    SLOTS + (tab.len() - SLOTS) / 2 + row(tab, k, PLACE) + 2 * row(tab, k, VARIABLES)
-}
-
-// The two bytes from p on as a number.
-pub fn two_at(tab: &[u8], p: usize) -> usize
-    requires { ⌜ p < 33554432 ⌝ }
-    ensures { λ r. ⌜ r ≡ twoAt (now (tab .entry)) p ⌝ }
-{
-    byte(tab, p) * 256 + byte(tab, p + 1)
-}
-
-// Where the records of equation i start among those of its node's n equations, which have `total` bytes; behind the last, where they end.
-pub fn records_at(tab: &[u8], plan: usize, n: usize, i: usize, total: usize) -> usize
-    requires { ⌜ (plan < 16777216) × (n ≤ 80) × (i ≤ n) ⌝ }
-    ensures { λ r. ⌜ r ≡ cond (ltb i n) (twoAt (now (tab .entry)) (plan + 2 * n + 2 * i)) total ⌝ }
-{
-    if i < n {
-        two_at(tab, plan + 2 * n + 2 * i)
-    } else {
-        total
-    }
 }

@@ -1,5 +1,5 @@
 -- Judging from its beginning: the rows, the tables by name, and the faults 6 to 10.
-use Prim.Native.Nat.{ℕ, zero, suc, _+_, _-_, _<_, _≤_}
+use Prim.Native.Nat.{ℕ, zero, suc, _+_, _-_, _*_, _/_, _<_, _≤_}
 use mathlib.Core.Bool.{Bool, true}
 use mathlib.Core.List.{List, [], _∷_, _++_}
 use mathlib.Core.Option.{none}
@@ -12,14 +12,14 @@ use Rattle.ol_spec.specs.Syntax.{File}
 use Rattle.ol_spec.specs.Admission as Adm
 use Rattle.ol_tables.specs.At.{fileAt}
 use Rattle.ol_tables.specs.Stands.{FileReads}
-use Rattle.ol_tables.specs.Tables.{Each}
+use Rattle.ol_tables.specs.Tables.{Each, PlanOf}
 use Rattle.ol_check.specs.RowsDone.{TablesDone, PlacesAre}
 use Rattle.ol_check.specs.declared.rows.Sections.{Sections}
 use Rattle.ol_check.specs.FileJudged.{NamesWithin, FileJudged}
 use Rattle.ol_check.specs.FileJudged.{FileReady as Ready}
 use Rattle.ol_check.specs.declared.Faults.{Faults}
 use Rattle.ol_check.specs.Clashing.{DeclaredReady, Blank}
-use Rattle.ol_sim.specs.Judging.{whole, from6, Loads, FileReady, Rowed, Typed, SectionsReady, Empty, NamesReady, FaultsAre, ShapesReady}
+use Rattle.ol_sim.specs.Judging.{whole, from6, Loads, FileReady, Rowed, Typed, SectionsReady, Empty, NamesReady, FaultsAre, ShapesReady, halfOf, slotsOf, plansOf}
 use Rattle.ol_spec.specs.Demand3.{Bytes}
 use Rattle.ol_tables.proofs.HeadsFile.{file-stands}
 use Rattle.ol_check.proofs.SizeTable.{rows-sized}
@@ -50,6 +50,12 @@ declared-ready r = record { reads = r .reads; row = r .row; sections = r .sectio
 
 pub faults-ready : {s places rows tab names : List ℕ} {enums : ℕ} {c : Sections} {low : Bool} → NamesReady s enums places rows tab names c low → Ready s rows names c
 faults-ready h = let r = h .sections .rowed in record { reads = r .reads; row = r .row; sections = r .sections; empty = h .empty .zero }
+
+-- room for the slots and the plans
+pub walk-room : {s places rows tab : List ℕ} {enums : ℕ} {c : Sections} → SectionsReady s enums places rows tab c → (halfOf tab ≤ length (tailOf 11121 tab)) × (length s ≤ halfOf tab) × (halfOf tab + length s ≤ length (tailOf 11121 tab))
+walk-room {tab = tab} h =
+    let tail : length (tailOf 11121 tab) ≡ length tab - 11121 = ap length (tail-all 11121 tab) ∙ length-drop 11121 tab in
+    (omega (arith, tail), omega (arith, h .tabLong), omega (arith, tail, h .tabLong))
 
 -- room for the types
 pub types-room : {s places rows tab : List ℕ} {enums : ℕ} → FileReady s enums places rows tab → length (take 7168 (drop 3953 tab)) ≡ 7168
@@ -116,12 +122,17 @@ module _ {s places rows tab : List ℕ} {enums : ℕ} {c : Sections} (y : List �
 faults-are : {s names names′ slots slots′ rows rows′ : List ℕ} {found : Faults} → FileJudged s (fileAt s) names names′ slots slots′ rows rows′ found → FaultsAre (fileAt s) found
 faults-are j = record { unseen = j .unseen; again = j .again; called = j .called; shaped = j .shaped }
 
-pub shapes-ready : {s places rows rows′ tab names names′ : List ℕ} {enums : ℕ} {c : Sections} {low : Bool} {found : Faults} (x : List ℕ) → NamesReady s enums places rows tab names c low → length rows′ ≡ length rows → length x ≡ length (tailOf 11121 tab) → Adm.fault6 (fileAt s) ≡ none → FileJudged s (fileAt s) names names′ (tailOf 11121 tab) x rows rows′ found → ShapesReady s enums places rows′ (putTail 11121 tab x) c low found
-shapes-ready {s} {rows = rows} {rows′} {tab} {names} {names′} {found = found} x h same e no6 j =
+pub shapes-ready : {s places rows rows′ tab names names′ : List ℕ} {enums : ℕ} {c : Sections} {low : Bool} {found : Faults} (x : List ℕ) → NamesReady s enums places rows tab names c low → length rows′ ≡ length rows → length x ≡ length (tailOf 11121 tab) → Adm.fault6 (fileAt s) ≡ none → FileJudged s (fileAt s) names names′ (take (halfOf tab) (tailOf 11121 tab)) (take (halfOf tab) x) rows rows′ found → (Adm.fault9 (fileAt s) ≡ none → (k : ℕ) → k < length (fileAt s .nodes) → PlanOf (fileAt s) (drop (halfOf tab) x) k) → ShapesReady s enums places rows′ (putTail 11121 tab x) c low found
+shapes-ready {s} {rows = rows} {rows′} {tab} {names} {names′} {found = found} x h same e no6 j p =
     let d = h .sections in
     let r = d .rowed in
     let long : length rows′ ≡ 272 = same ∙ r .long in
     let u : 11121 ≤ length tab = omega (arith, d .tabLong) in
+    let tab′ = putTail 11121 tab x in
+    let half : halfOf tab′ ≡ halfOf tab = ap (λ n. (n - 11121) / 2) (length-put 11121 tab x u e) in
+    let slots : slotsOf tab′ ≡ take (halfOf tab) x = λ i. take (half i) (drop-put 11121 tab x u i) in
+    let plans : plansOf tab′ ≡ drop (halfOf tab) x = λ i. drop (half i) (drop-put 11121 tab x u i) in
+    let tail : length (tailOf 11121 tab) ≡ length tab - 11121 = ap length (tail-all 11121 tab) ∙ length-drop 11121 tab in
     record {
       sections = record {
         loads = d .loads;
@@ -141,14 +152,15 @@ shapes-ready {s} {rows = rows} {rows′} {tab} {names} {names′} {found = found
       slots = record {
         names = names;
         names′ = names′;
-        before = tailOf 11121 tab;
+        before = take (halfOf tab) (tailOf 11121 tab);
         rows = rows;
         rows′ = rows′;
         found = found;
         empty = h .empty;
-        long = omega (arith, ap length (tail-all 11121 tab), length-drop 11121 tab, d .tabLong);
-        judged = subst (λ t. FileJudged s (fileAt s) names names′ (tailOf 11121 tab) t rows rows′ found) (sym (drop-put 11121 tab x u)) j;
+        long = omega (arith, length-take-le (halfOf tab) (tailOf 11121 tab) (omega (arith, tail)), d .tabLong);
+        judged = subst (λ t. FileJudged s (fileAt s) names names′ (take (halfOf tab) (tailOf 11121 tab)) t rows rows′ found) (sym slots) j;
       };
+      plans = record { planned = subst (λ t. Adm.fault9 (fileAt s) ≡ none → (k : ℕ) → k < length (fileAt s .nodes) → PlanOf (fileAt s) t k) (sym plans) p };
       sized = λ no9. (rows-sized long (r .firsts) (j .sized) no9, j .main no9);
       lows = h .lows;
     }
@@ -164,7 +176,7 @@ false-not-true e = let z : _≡_ {A = ℕ} 0 1 = ap (λ b. mathlib.Core.Bool.con
 
 -- ---- any file that reads without fault, with blank arrays
 
-pub file-ready : {s places : List ℕ} {enums : ℕ} (n : ℕ) → 12145 ≤ n → Loads s enums places → Bytes s → 11121 + length s ≤ n → FileReady s enums places (replicate 272 0) (replicate n 0)
+pub file-ready : {s places : List ℕ} {enums : ℕ} (n : ℕ) → 12145 ≤ n → Loads s enums places → Bytes s → 11121 + 2 * length s ≤ n → FileReady s enums places (replicate 272 0) (replicate n 0)
 file-ready n w l b h =
     record {
       loads = l;

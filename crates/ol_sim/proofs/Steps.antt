@@ -1,5 +1,5 @@
 -- The steps of judging a file.
-use Prim.Native.Nat.{ℕ, zero, suc, _+_, _*_, _<_, _≤_, min}
+use Prim.Native.Nat.{ℕ, zero, suc, _+_, _-_, _*_, _/_, _<_, _≤_, min}
 use mathlib.Core.Bool.{Bool, true, false, _&&_, cond}
 use mathlib.Core.List.{List, [], _∷_, _++_}
 use mathlib.Core.Logic.{by-cases}
@@ -10,8 +10,8 @@ use native.Mathlib.Decide.{decLe}
 use native.Mathlib.Nat.{min-eq-left, min-eq-right}
 use lib.Dec.{T, ltb, leb, eqb}
 use borrow.Author.Tests.{lt-ltb, le-ltb}
-use lib.ListN.{length, getD, take, drop, length-append, length-drop, List·getD-append}
-use lib.Seq.{drop-drop, drop-at, take-at, length-take-le}
+use lib.ListN.{length, getD, take, drop, length-drop}
+use lib.Seq.{drop-drop, getD-take}
 use Rattle.ol_spec.specs.Limits.{base, relayLoader}
 use Rattle.ol_spec.specs.Syntax.{Node, File}
 use Rattle.ol_spec.specs.Cell.{cells, valuesOf}
@@ -24,9 +24,11 @@ use Rattle.ol_order.proofs.Nodes.{length-placed}
 use Rattle.ol_spec.specs.Demand3.{Bytes}
 use Rattle.ol_spec.proofs.RoundTrip.{encode-read}
 use Rattle.ol_spec.specs.Admission as Adm
-use Rattle.ol_tables.specs.At.{fileAt}
+use Rattle.ol_tables.specs.At.{fileAt, itemOf, noFile}
 use Rattle.ol_tables.specs.Stands.{FileReads, FileStands}
-use Rattle.ol_tables.specs.Tables.{Rows, rowAt, placeOf, sizeCap}
+use Rattle.ol_tables.specs.Tables.{Rows, rowAt, placeOf, sizeCap, nodeOf, twoAt, planIn, equationPlace, PlanOf}
+use Rattle.ol_tables.specs.Tables as Tables
+use Rattle.ol_tables.proofs.Lending.{tailOf, putTail, tail-all, drop-put, length-put}
 use Rattle.ol_tables.proofs.HeadsFile.{node-at}
 use Rattle.ol_check.specs.RowsDone.{SectionsAre}
 use Rattle.ol_check.specs.declared.rows.Sections.{Sections}
@@ -34,7 +36,7 @@ use Rattle.ol_check.specs.NodesJudged.{RowsReady}
 use Rattle.ol_check.specs.Sizes.{MainSized}
 use Rattle.ol_check.specs.declared.Faults.{Faults}
 use Rattle.ol_check.proofs.NamesBelow.{low-within}
-use Rattle.ol_order.specs.Orders.{ringPlace, NodesStand, OrdersDone}
+use Rattle.ol_order.specs.Orders.{ringPlace, NodesStand, Planned, NodePlanned, OrdersDone}
 use Rattle.ol_order.specs.declared.table.Ring.{Ring}
 use Rattle.ol_order.specs.declared.table.Ring.the-variants as Rin
 use Rattle.ol_run.specs.Admitted.{Admitted}
@@ -42,7 +44,7 @@ use Rattle.ol_run.specs.Constants.{ConstantsAre}
 use Rattle.ol_tables.specs.Table.{tabOf}
 use Rattle.ol_run.specs.declared.constants.Found.{Found}
 use Rattle.ol_run.specs.declared.constants.Found.the-variants as Fnd
-use Rattle.ol_sim.specs.Judging.{Judges, Measured, Held, valuesIn, from13, MainReady, ConstantsReady, Typed, Slots, OrderReady, ShapesReady}
+use Rattle.ol_sim.specs.Judging.{Judges, Measured, Held, valuesIn, from13, MainReady, ConstantsReady, Typed, Slots, OrderReady, ShapesReady, halfOf, plansOf}
 use Rattle.ol_sim.proofs.Lows.{low-names}
 use Rattle.ol_sim.specs.declared.judge.Judged.the-variants as Jud
 use Rattle.ol_sim.proofs.Chain.{passed-by}
@@ -107,33 +109,51 @@ module _ {s places rows t : List ℕ} {enums main : ℕ} {c : Sections} {low : B
         lows = λ t. low-names (fileAt s) (h .sound .no7) (low-within 1024 (fileAt s) (h .lows t));
       }
 
-  pub orders-room : length (take 2560 (tabOf t)) ≡ 2560
-  orders-room = length-take-le 2560 (tabOf t) (omega (arith, h .sections .tabLong, length-drop 1393 t))
+  front-in : 1393 ≤ length t
+  front-in = omega (arith, h .sections .tabLong)
 
-  module _ {before x : List ℕ} {r : Ring} (same : length x ≡ length (take 2560 (tabOf t))) (o : OrdersDone (fileAt s) before x r) where
+  -- the plans, as the table from the orders on has them
+  half-is : {u : List ℕ} → length u ≡ length t → (length (tabOf u) - 9728) / 2 ≡ halfOf t
+  half-is {u} e = omega (arith, e, length-drop 1393 u)
+
+  plans-in : (u : List ℕ) → length u ≡ length t → drop 11121 u ≡ drop 11121 t → Tables.plansOf (tabOf u) ≡ plansOf t
+  plans-in u e d =
+      ap (λ m. drop (9728 + m) (tabOf u)) (half-is e) ∙ drop-drop (9728 + halfOf t) 1393 u ∙ ap (λ n. drop n u) (omega arith) ∙ sym (drop-drop (halfOf t) 11121 u) ∙ ap (drop (halfOf t)) d
+
+  plan-of : (k : ℕ) → k < length (fileAt s .nodes) → PlanOf (fileAt s) (plansOf t) k
+  plan-of k lt = h .plans .planned (h .sound .no9) k lt
+
+  pub planned : Planned s rows (tailOf 1393 t)
+  planned =
+      record {
+        long = omega (arith, ap length (tail-all 1393 t), length-drop 1393 t, h .sections .tabLong);
+        file = λ f end e k. subst (λ g. k < length (g .nodes) → NodePlanned g rows (tailOf 1393 t) k) (ap (itemOf noFile) e)
+            (λ lt. record {
+              variables = h .rows-are .rowsOf k lt .variables;
+              count = h .rows-are .rowsOf k lt .count;
+              places = subst (λ l. (i : ℕ) → i < length (nodeOf (fileAt s) k .equations) → twoAt l (planIn (fileAt s) k + 2 * i) ≡ equationPlace (fileAt s) k i) (sym (ap Tables.plansOf (tail-all 1393 t) ∙ plans-in t refl refl)) (plan-of k lt .places);
+            });
+      }
+
+  module _ {before x : List ℕ} {r : Ring} (same : length x ≡ length (tailOf 1393 t)) (o : OrdersDone (fileAt s) before (take 2560 x) r) (kept : drop 2560 x ≡ drop 2560 (tailOf 1393 t)) where
     -- the table with the orders
     abbrev ordered : List ℕ
-    ordered = take 1393 t ++ (x ++ drop 2560 (tabOf t))
-
-    front-long : length (take 1393 t) ≡ 1393
-    front-long = length-take-le 1393 t (omega (arith, h .sections .tabLong))
+    ordered = putTail 1393 t x
 
     pub orders-long : length ordered ≡ length t
-    orders-long =
-        length-append (take 1393 t) (x ++ drop 2560 (tabOf t))
-        ∙ omega (arith, front-long, length-append x (drop 2560 (tabOf t)), same, orders-room, length-drop 2560 (tabOf t), length-drop 1393 t, h .sections .tabLong)
+    orders-long = length-put 1393 t x front-in same
 
-    tab-is : tabOf ordered ≡ x ++ drop 2560 (tabOf t)
-    tab-is = drop-at (take 1393 t) (x ++ drop 2560 (tabOf t)) 1393 front-long
+    tab-is : tabOf ordered ≡ x
+    tab-is = drop-put 1393 t x front-in
 
     behind : drop 2560 (tabOf ordered) ≡ drop 3953 t
-    behind = ap (drop 2560) tab-is ∙ drop-at x (drop 2560 (tabOf t)) 2560 (same ∙ orders-room) ∙ drop-drop 2560 1393 t
+    behind = ap (drop 2560) tab-is ∙ kept ∙ ap (drop 2560) (tail-all 1393 t) ∙ drop-drop 2560 1393 t
 
     slots-are : drop 9728 (tabOf ordered) ≡ drop 11121 t
     slots-are = sym (drop-drop 7168 2560 (tabOf ordered)) ∙ ap (drop 7168) behind ∙ drop-drop 7168 3953 t
 
-    front : (j : ℕ) → j < 2560 → getD (tabOf ordered) j 0 ≡ getD x j 0
-    front j g = ap (λ l. getD l j 0) tab-is ∙ List·getD-append x (drop 2560 (tabOf t)) 0 j (omega (arith, same, orders-room))
+    front : (j : ℕ) → j < 2560 → getD (tabOf ordered) j 0 ≡ getD (take 2560 x) j 0
+    front j g = ap (λ l. getD l j 0) tab-is ∙ sym (getD-take 2560 x j 0 g)
 
     -- 6 to 11 do not hold, and all tables are there
     pub constants-ready : {size : ℕ} → r ≡ Rin.Nothing → (MainSized (fileAt s) main → size ≡ min (Adm.stateSize (fileAt s)) 65536) → ConstantsReady s rows ordered c size
@@ -147,7 +167,8 @@ module _ {s places rows t : List ℕ} {enums main : ℕ} {c : Sections} {low : B
             stands = st;
             ordered = record { sound = h .sound; no11 = no11 };
             rowed = h .rows-are;
-            tabled = tab-whole s (tabOf ordered) st (h .sound .no6) (subst (λ l. Typed (fileAt s) (take 7168 l)) (sym behind) (d .typed)) (subst (λ l. Slots s (fileAt s) l) (sym slots-are) (h .slots))
+            tabled = tab-whole s (tabOf ordered) st (h .sound .no6) (subst (λ l. Typed (fileAt s) (take 7168 l)) (sym behind) (d .typed)) (halfOf t) (subst (λ l. Slots s (fileAt s) (take (halfOf t) l)) (sym slots-are) (h .slots))
+                (λ k lt. subst (λ l. PlanOf (fileAt s) l k) (sym (plans-in ordered orders-long (sym (drop-drop 9728 1393 ordered) ∙ slots-are))) (plan-of k lt))
                 (λ k lt j g. front (k * 80 + j) (omega (arith, node-at st k lt .fewEquations, st .fewNodes)) ∙ o .order no11 k lt j g) (omega (arith, orders-long, length-drop 1393 ordered, d .tabLong));
           };
           sections = d .rowed .sections;
@@ -162,6 +183,7 @@ order-ready h n7 n8 n9 n10 =
       rows-are = h .sized n9 .0;
       main-is = h .sized n9 .1;
       slots = h .slots;
+      plans = h .plans;
       sound = record { no6 = h .no6; no7 = n7; no8 = n8; no9 = n9; no10 = n10 };
       lows = h .lows;
     }

@@ -1,4 +1,4 @@
--- The table of bytes, put together from its parts: orders, types and slots.
+-- The table of bytes, put together from its parts: orders, types, slots and plans.
 use Prim.Native.Nat.{ℕ, _+_, _*_, _<_, _≤_}
 use mathlib.Core.List.{List, _++_}
 use mathlib.Core.Option.{none}
@@ -14,7 +14,7 @@ use Rattle.ol_spec.specs.Admission.{fault6}
 use Rattle.ol_spec.proofs.Tests.{T-and}
 use Rattle.ol_tables.specs.At.{fileAt}
 use Rattle.ol_tables.specs.Stands.{FileStands}
-use Rattle.ol_tables.specs.Tables.{Tab, nodeOf, tyCode, tyEnum}
+use Rattle.ol_tables.specs.Tables.{Tab, PlanOf, plansOf, nodeOf, tyCode, tyEnum}
 use Rattle.ol_tables.proofs.HeadsFile.{section-few}
 use Rattle.ol_state.proofs.Fits.{all-nth}
 use Rattle.ol_check.specs.RowsDone.{noVariable}
@@ -38,8 +38,8 @@ type-byte : (tab : List ℕ) (j : ℕ) → j < 7168 → getD tab (2560 + j) 0 �
 type-byte tab j h = sym (getD-take 7168 (drop 2560 tab) j 0 h ∙ getD-drop 2560 tab j 0)
 
 -- all of `tab`
-pub tab-whole : (s tab : List ℕ) → FileStands s (fileAt s) → fault6 (fileAt s) ≡ none → Typed (fileAt s) (take 7168 (drop 2560 tab)) → Slots s (fileAt s) (drop 9728 tab) → ((k : ℕ) → k < length (fileAt s .nodes) → OrderOf (fileAt s) tab k) → 9728 + length s ≤ length tab → Tab (fileAt s) (length s) tab
-tab-whole s tab st no6 ty sl orders long =
+pub tab-whole : (s tab : List ℕ) → FileStands s (fileAt s) → fault6 (fileAt s) ≡ none → Typed (fileAt s) (take 7168 (drop 2560 tab)) → (m : ℕ) → Slots s (fileAt s) (take m (drop 9728 tab)) → ((k : ℕ) → k < length (fileAt s .nodes) → PlanOf (fileAt s) (plansOf tab) k) → ((k : ℕ) → k < length (fileAt s .nodes) → OrderOf (fileAt s) tab k) → 9728 + length s ≤ length tab → Tab (fileAt s) (length s) tab
+tab-whole s tab st no6 ty m sl plans orders long =
     record {
       long = long;
       tabsOf = λ k lt.
@@ -52,8 +52,9 @@ tab-whole s tab st no6 ty sl orders long =
                 let e : 2560 + (k * 112 + i) * 2 + 1 ≡ 2560 + ((k * 112 + i) * 2 + 1) = omega arith in
                 ap (λ j. getD tab j 0) e ∙ type-byte tab ((k * 112 + i) * 2 + 1) (omega (arith, width st k lt, st .fewNodes)) ∙ ty .typed k lt .are i l .number
                 ∙ ap tyEnum (sym (List·getD-map typeOf (variables (nodeOf (fileAt s) k)) i noVariable));
-            slots = slots-in s tab st no6 sl k lt;
-            defined = defined-in s tab st no6 sl k lt;
+            slots = slots-in s tab st no6 m sl k lt;
+            defined = defined-in s tab st no6 m sl k lt;
           };
-      constants = constants-in s tab st no6 sl;
+      plans = plans;
+      constants = constants-in s tab st no6 m sl;
     }

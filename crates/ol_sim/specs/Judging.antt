@@ -1,5 +1,5 @@
 -- What judging a file that reads without fault gives: the first of the faults that are still to be asked, or the file's tables.
-use Prim.Native.Nat.{ℕ, suc, _+_, _≤_, _<_, min}
+use Prim.Native.Nat.{ℕ, suc, _+_, _-_, _*_, _/_, _≤_, _<_, min}
 use mathlib.Core.Bool.{Bool, true}
 use mathlib.Core.List.{List, [], _∷_, map}
 use mathlib.Core.Option.{Option, none, some}
@@ -12,7 +12,7 @@ use Rattle.ol_spec.specs.Cell.{cells, valuesOf}
 use Rattle.ol_spec.specs.Admission as Adm
 use Rattle.ol_spec.specs.declared.Value.{Value}
 use Rattle.ol_tables.specs.At.{fileAt}
-use Rattle.ol_tables.specs.Tables.{Each, Rows, nodeOf, placeOf, firstAt, sizeCap}
+use Rattle.ol_tables.specs.Tables.{Each, Rows, nodeOf, placeOf, firstAt, sizeCap, PlanOf}
 use Rattle.ol_tables.specs.Stands.{FileReads, FileStands}
 use Rattle.ol_tables.specs.Table.{tabOf, rowsOf, constsOf}
 use Rattle.ol_ir.specs.Walks as Walks
@@ -94,12 +94,22 @@ pub record Loads (s : List ℕ) (enums : ℕ) (places : List ℕ) : Type 0 where
   pub counted : length (fileAt s .enums) ≡ enums
   pub placed : places ≡ map Walks.placeOf (placedNodes (fileAt s))
 
+-- the bytes of the slots in the table t, behind which as many have the plans
+abbrev pub halfOf : List ℕ → ℕ
+halfOf t = (length t - 11121) / 2
+
+abbrev pub slotsOf : List ℕ → List ℕ
+slotsOf t = take (halfOf t) (drop 11121 t)
+
+abbrev pub plansOf : List ℕ → List ℕ
+plansOf t = drop (halfOf t) (drop 11121 t)
+
 -- and buffers for its tables; the slots' part of the table t is 0, and has an entry for every name below 1,024
 pub record FileReady (s : List ℕ) (enums : ℕ) (places rows t : List ℕ) : Type 0 where
   pub loads : Loads s enums places
   pub stands : FileStands s (fileAt s)
   pub rowsLong : length rows ≡ 272
-  pub tabLong : 11121 + length s ≤ length t
+  pub tabLong : 11121 + 2 * length s ≤ length t
   pub wide : 12145 ≤ length t
   pub blank : (x : ℕ) → getD (drop 11121 t) x 0 ≡ 0
 
@@ -120,7 +130,7 @@ pub record SectionsReady (s : List ℕ) (enums : ℕ) (places rows t : List ℕ)
   pub loads : Loads s enums places
   pub rowed : Rowed s rows c
   pub typed : Typed (fileAt s) (take 7168 (drop 3953 t))
-  pub tabLong : 11121 + length s ≤ length t
+  pub tabLong : 11121 + 2 * length s ≤ length t
 
 -- the table by name is 0 everywhere, and longer than every declared name
 pub record Empty (f : File) (names : List ℕ) : Type 0 where
@@ -144,6 +154,10 @@ pub record Slots (s : List ℕ) (f : File) (slots : List ℕ) : Type 0 where
   pub long : length s ≤ length before
   pub judged : FileJudged s f names names′ before slots rows rows′ found
 
+-- the plans of all nodes, where 9 does not hold
+pub record Plans (f : File) (plans : List ℕ) : Type 0 where
+  pub planned : Adm.fault9 f ≡ none → (k : ℕ) → k < length (f .nodes) → PlanOf f plans k
+
 -- 7 to 10
 pub record FaultsAre (f : File) (r : Faults) : Type 0 where
   pub unseen : Founds.placeOf (r .unseen) ≡ Adm.fault7 f
@@ -155,7 +169,8 @@ pub record ShapesReady (s : List ℕ) (enums : ℕ) (places rows t : List ℕ) (
   pub sections : SectionsReady s enums places rows t c
   pub no6 : Adm.fault6 (fileAt s) ≡ none
   pub are : FaultsAre (fileAt s) found
-  pub slots : Slots s (fileAt s) (drop 11121 t)
+  pub slots : Slots s (fileAt s) (slotsOf t)
+  pub plans : Plans (fileAt s) (plansOf t)
   pub sized : Adm.fault9 (fileAt s) ≡ none → Rows (fileAt s) rows × MainSized (fileAt s) (found .size)
   pub lows : Low (fileAt s) low
 
@@ -164,7 +179,8 @@ pub record OrderReady (s : List ℕ) (enums : ℕ) (places rows t : List ℕ) (c
   pub sections : SectionsReady s enums places rows t c
   pub rows-are : Rows (fileAt s) rows
   pub main-is : MainSized (fileAt s) main
-  pub slots : Slots s (fileAt s) (drop 11121 t)
+  pub slots : Slots s (fileAt s) (slotsOf t)
+  pub plans : Plans (fileAt s) (plansOf t)
   pub sound : Sound (fileAt s)
   pub lows : Low (fileAt s) low
 

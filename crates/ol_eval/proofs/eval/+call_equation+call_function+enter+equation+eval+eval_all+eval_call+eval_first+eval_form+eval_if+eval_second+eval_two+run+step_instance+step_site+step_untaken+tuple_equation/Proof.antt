@@ -109,7 +109,7 @@ pub +call-equation+call-function+enter+equation+eval+eval-all+eval-call+eval-fir
     (λ t. eval-two-lts.spec (EvalTwo.Q t) (eval-two-at t) eval-two.Post (EvalTwo.add-p t) (EvalTwo.shared-slice-read-op t) (EvalTwo.add-eval t) (EvalTwo.eval-requires t) (EvalTwo.done-requires t) (EvalTwo.sub-eval t) (EvalTwo.part-eval-start t) (EvalTwo.part-eval-end t) (EvalTwo.sub-eval-2 t) (EvalTwo.part-eval-start-2 t) (EvalTwo.part-eval-end-2 t) (EvalTwo.eval-requires-2 t) (EvalTwo.binary-out-requires t) (EvalTwo.add-t25 t) (EvalTwo.pass-requires t) (EvalTwo.same-out-requires t) (EvalTwo.add-t34 t) (EvalTwo.same-length t) (EvalTwo.returns t) (EvalTwo.same-length-2 t) (EvalTwo.returns-2 t))
     (λ t. run-lts.spec (Run.Q t) (run-at t) run.Post
     Run.Inv-loop
-    Run.μ-loop (Run.node-of-requires t) (Run.slice-aggregate-equations t) (Run.slice-aggregate-equations-2 t) (Run.equations-requires t) (Run.row-requires t) (Run.loop-holds t) (Run.order-at-requires t) (Run.mul-at t) (Run.array-read-at t) (Run.mul-a t) (Run.array-read-a t) (Run.add-i1 t) (Run.mul-b t) (Run.array-read-b t) (Run.sub-equation t) (Run.part-equation-start t) (Run.part-equation-end t) (Run.sub-equation-2 t) (Run.part-equation-start-2 t) (Run.part-equation-end-2 t) (Run.equation-requires t) (Run.enum-told t) (Run.same-length t) (Run.returns t) (Run.add-j t) (Run.loop-less t) (Run.loop-again t) (Run.same-length-2 t) (Run.returns-2 t))
+    Run.μ-loop (Run.node-of-requires t) (Run.row-requires t) (Run.plan-of-requires t) (Run.loop-holds t) (Run.order-at-requires t) (Run.place-at-requires t) (Run.records-at-requires t) (Run.add-records-at t) (Run.records-at-requires-2 t) (Run.sub-equation t) (Run.part-equation-start t) (Run.part-equation-end t) (Run.sub-equation-2 t) (Run.part-equation-start-2 t) (Run.part-equation-end-2 t) (Run.equation-requires t) (Run.enum-told t) (Run.same-length t) (Run.returns t) (Run.add-j t) (Run.loop-less t) (Run.loop-again t) (Run.same-length-2 t) (Run.returns-2 t))
     (λ t. step-instance-lts.spec (StepInstance.Q t) (step-instance-at t) step-instance.Post (StepInstance.row-requires t) (StepInstance.mul-own t) (StepInstance.add-own t) (StepInstance.row-requires-2 t) (StepInstance.open-frame-requires t) (StepInstance.sub-run t) (StepInstance.part-run-start t) (StepInstance.part-run-end t) (StepInstance.sub-run-2 t) (StepInstance.part-run-start-2 t) (StepInstance.part-run-end-2 t) (StepInstance.run-requires t) (StepInstance.enum-told t) (StepInstance.finish-frame-requires t) (StepInstance.row-requires-3 t) (StepInstance.copy-outputs-requires t) (StepInstance.enum-told-2 t) (StepInstance.write-fresh-requires t) (StepInstance.enum-told-3 t) (StepInstance.copy-requires t) (StepInstance.same-length t) (StepInstance.returns t) (StepInstance.same-length-2 t) (StepInstance.returns-2 t) (StepInstance.same-length-3 t) (StepInstance.returns-3 t))
     (λ t. step-site-lts.spec (StepSite.Q t) (step-site-at t) step-site.Post (StepSite.sub-step-site t) (StepSite.step-site-requires t) (StepSite.row-requires t) (StepSite.step-instance-requires t) (StepSite.call-function-requires t) (StepSite.same-length t) (StepSite.returns t) (StepSite.same-length-2 t) (StepSite.returns-2 t) (StepSite.same-length-3 t) (StepSite.returns-3 t))
     (λ t. step-untaken-lts.spec (StepUntaken.Q t) (step-untaken-at t) step-untaken.Post (StepUntaken.eval-requires t) (StepUntaken.overflowed-requires t) (StepUntaken.same-length t) (StepUntaken.returns t))
