@@ -61,21 +61,21 @@ module _ (s : List ℕ) (enums : ℕ) where
       ∙ slots-length s names (heads (valuePlace (c .0) (c .1)) (cons (c .1 .value) nil)) slots
 
   -- every name in the expression of constant m has the slot of its entry in the table before it
-  pub constants-held : (cs : List Constant) (at i : ℕ) → Listed constantBytes (constantFits base enums) s at cs → (names slots final : List ℕ) → length s ≤ length slots
+  pub constants-held : (cs : List Constant) (at i : ℕ) → Listed constantBytes (constantFits base enums) s at cs → (names slots final : List ℕ) → length s ≤ length slots → length s ≤ length final
       → ((j : ℕ) → j < at + sum (map constantSize cs) → getD final j 0 ≡ getD (slotConstants s names slots i (placed constantSize at cs)) j 0) → (m : ℕ) → m < length cs
       → Each (SlotIs (declareAll names (constantEntries i (take m cs))) final) (used (valuePlace (placedConstant (placed constantSize at cs) m .0) (placedConstant (placed constantSize at cs) m .1)) (placedConstant (placed constantSize at cs) m .1 .value))
   unfolding slotConstants declareAll
-  constants-held [] at i h names slots final room same m lt = absurd (omega arith)
-  constants-held (c ∷ cs) at i h names slots final room same zero lt =
+  constants-held [] at i h names slots final room far same m lt = absurd (omega arith)
+  constants-held (c ∷ cs) at i h names slots final room far same zero lt =
       let w = constants-cons at c cs h in
       let p = valuePlace at c in
       let next = slotHeads s names slots (heads p (cons (c .value) nil)) in
       subst (Each (SlotIs names final)) (walk-one usedAt p (c .value))
-      (slots-held s names (flat (w .0 .value)) slots final room (λ j less. same j (omega arith) ∙ constants-below cs (at + constantSize c) (i + 1) (w .1) (declared names (c .name) (i + 113)) next j (omega arith)))
-  constants-held (c ∷ cs) at i h names slots final room same (suc m) lt =
+      (slots-held s names (flat (w .0 .value)) slots final room far (λ j less. same j (omega arith) ∙ constants-below cs (at + constantSize c) (i + 1) (w .1) (declared names (c .name) (i + 113)) next j (omega arith)))
+  constants-held (c ∷ cs) at i h names slots final room far same (suc m) lt =
       let w = constants-cons at c cs h in
       let next = slotHeads s names slots (heads (valuePlace at c) (cons (c .value) nil)) in
-      constants-held cs (at + constantSize c) (i + 1) (w .1) (declared names (c .name) (i + 113)) next final (omega (arith, slots-length s names (heads (valuePlace at c) (cons (c .value) nil)) slots)) (λ j less. same j (omega arith)) m (omega arith)
+      constants-held cs (at + constantSize c) (i + 1) (w .1) (declared names (c .name) (i + 113)) next final (omega (arith, slots-length s names (heads (valuePlace at c) (cons (c .value) nil)) slots)) far (λ j less. same j (omega arith)) m (omega arith)
 
 -- ---- the entries in the table before a constant
 

@@ -120,13 +120,13 @@ module _ (names : List ℕ) where
   names-length [] slots at = refl
   names-length (x ∷ xs) slots at = names-length xs (set slots at _) (at + 2) ∙ length-set slots at _
 
-  pub names-held : (xs slots final : List ℕ) (at : ℕ) → at + 2 * length xs ≤ length slots → ((j : ℕ) → j < at + 2 * length xs → getD final j 0 ≡ getD (slotNames names slots (placedNames at xs)) j 0)
+  pub names-held : (xs slots final : List ℕ) (at : ℕ) → at + 2 * length xs ≤ length slots → at + 2 * length xs ≤ length final → ((j : ℕ) → j < at + 2 * length xs → getD final j 0 ≡ getD (slotNames names slots (placedNames at xs)) j 0)
       → (rest : List (ℕ × ℕ)) → Each (SlotIs names final) rest → Each (SlotIs names final) (placedNames at xs ++ rest)
   unfolding slotNames
-  names-held [] slots final at room same rest tail = tail
-  names-held (x ∷ xs) slots final at room same rest tail = (
-    record { is = same at (omega arith) ∙ names-below xs (set slots at _) (at + 2) at (omega arith) ∙ getD-set-same slots at _ 0 (omega arith) },
-    names-held xs (set slots at _) final (at + 2) (omega (arith, length-set slots at (slotOfEntry (getD names x 0)))) (λ j lt. same j (omega arith)) rest tail,
+  names-held [] slots final at room far same rest tail = tail
+  names-held (x ∷ xs) slots final at room far same rest tail = (
+    record { is = same at (omega arith) ∙ names-below xs (set slots at _) (at + 2) at (omega arith) ∙ getD-set-same slots at _ 0 (omega arith); inside = omega arith },
+    names-held xs (set slots at _) final (at + 2) (omega (arith, length-set slots at (slotOfEntry (getD names x 0)))) (omega arith) (λ j lt. same j (omega arith)) rest tail,
   )
 
 -- ---- the right side
@@ -248,6 +248,12 @@ equation-walked {s} {names} {rows} {nodes} {k} {inputs} {many} {slots} {slots₁
       named = subst (λ m. NamesDefined s names inputs m slots slots₁ defined defined₁ (atPlace g (g .next + 1)) d) (b .is) named;
       rooted = subst (λ m. RootJudged s names rows nodes k (g .next) m slots₁ slots₂ d r) (b .is) rooted;
     }
+
+-- the slots, by what they are equal to
+pub walked-parts : {s names rows : List ℕ} {nodes k inputs : ℕ} {a a′ b b′ defined defined′ : List ℕ} {g r : Findings} → a ≡ a′ → b ≡ b′ → EquationWalked s names rows nodes k inputs a b defined defined′ g r
+    → EquationWalked s names rows nodes k inputs a′ b′ defined defined′ g r
+walked-parts {s} {names} {rows} {nodes} {k} {inputs} {a} {a′} {b} {b′} {defined} {defined′} {g} {r} ea eb w =
+    subst (λ l. EquationWalked s names rows nodes k inputs l b′ defined defined′ g r) ea (subst (λ l. EquationWalked s names rows nodes k inputs a l defined defined′ g r) eb w)
 
 -- the names xs, which stand where the walk stood, are defined
 record DefinedAs (names : List ℕ) (inputs : ℕ) (xs slots slots′ defined defined′ : List ℕ) (f r : Findings) : Type 0 where
@@ -385,9 +391,9 @@ module _ (s names : List ℕ) {enums at : ℕ} {q : Equation} (st : EquationStan
   unfolding slotEquation
   equation-length slots = slots-length s names (heads (rhsPlace at q) (cons (q .rhs) nil)) _ ∙ names-length names (q .names) slots (at + 1)
 
-  pub equation-held : (slots final : List ℕ) → length s ≤ length slots → ((j : ℕ) → j < at + equationSize q → getD final j 0 ≡ getD (slotEquation s names slots (at, q)) j 0) → Each (SlotIs names final) (namesIn (at, q))
+  pub equation-held : (slots final : List ℕ) → length s ≤ length slots → length s ≤ length final → ((j : ℕ) → j < at + equationSize q → getD final j 0 ≡ getD (slotEquation s names slots (at, q)) j 0) → Each (SlotIs names final) (namesIn (at, q))
   unfolding slotEquation
-  equation-held slots final room same =
+  equation-held slots final room large same =
       let p = rhsPlace at q in
       let e = q .rhs in
       let f = flat (st .rhs) in
@@ -395,8 +401,8 @@ module _ (s names : List ℕ) {enums at : ℕ} {q : Equation} (st : EquationStan
       let far = headed e nil (st .rhs) .inside in
       let tail : Each (SlotIs names final) (used p e) =
       subst (Each (SlotIs names final)) (walk-one usedAt p e)
-      (slots-held s names f mid final (omega (arith, names-length names (q .names) slots (at + 1))) (λ j lt. same j (omega arith))) in
-      names-held names (q .names) slots final (at + 1) (omega arith) (λ j lt. same j (omega arith) ∙ slots-below s names f mid j (omega arith)) (used p e) tail
+      (slots-held s names f mid final (omega (arith, names-length names (q .names) slots (at + 1))) large (λ j lt. same j (omega arith))) in
+      names-held names (q .names) slots final (at + 1) (omega arith) (omega arith) (λ j lt. same j (omega arith) ∙ slots-below s names f mid j (omega arith)) (used p e) tail
 
 -- ---- so many equations
 
@@ -488,6 +494,14 @@ module _ {s names rows : List ℕ} {nodes : ℕ} {t : File} {visible : List ℕ}
                     ∙ ap (λ l. min (g .size + sum (map c (concat (map equationSites l)))) 65536) (sym left) ∙ v .1,
               );
         }
+
+    -- what the equation adds to the bytes of the records
+    pub equations-sized : i < length qs → {slots′ defined′ : List ℕ} {r : Findings} {k : ℕ} → Context t k names rows nodes visible bad → EquationWalked s names rows nodes k inputs slots slots′ defined defined′ g r
+        → r .size ≡ min (g .size + sum (map (calleeB rows nodes) (equationSites (getD qs i noEquation)))) 65536
+    equations-sized lt ctx walked =
+        let it = equation-at lt in
+        let q = getD qs i noEquation in
+        equation-judged walked t visible bad enums q ctx (equation-stands q (it .fit) (it .here)) .sized
 
     pub equations-cut : i < length qs → length s ≤ g .next → ⊥
     equations-cut lt out = omega (arith, here-inside (equation-at lt .here) (omega (arith, equation-size (getD qs i noEquation))), equation-size (getD qs i noEquation))

@@ -19,7 +19,7 @@ use Rattle.ol_check.specs.ConstantsJudged.{slotConstants}
 use Rattle.ol_check.specs.FileJudged.{NamesWithin, variantTable, globalTable, FileJudged}
 use Rattle.ol_check.specs.declared.Faults.{Faults}
 use Rattle.ol_check.proofs.RowLoops.{few-variables}
-use Rattle.ol_check.proofs.SlotLaws.{NodeSlotted, nodes-below, file-slotted}
+use Rattle.ol_check.proofs.SlotLaws.{NodeSlotted, nodes-below, nodes-length, file-slotted}
 use Rattle.ol_check.proofs.SlotEntries.{entry-slot}
 use Rattle.ol_check.proofs.Sorts.{constants-apart, variables-apart}
 use Rattle.ol_check.proofs.TabLaws.{slots-told, defined-told}
@@ -32,7 +32,7 @@ each-placed P size d (x ∷ xs) at (suc k) lt h = each-placed P size d xs (at + 
 
 -- `slots` is what the walk found before the nodes, `tab` has what it left behind from slotsFrom on
 module _ {s : List ℕ} {f : File} (names slots tab : List ℕ) (st : FileStands s f) (no6 : fault6 f ≡ none) (empty : (x : ℕ) → getD names x 0 ≡ 0) (within : NamesWithin (length names) f) (room : length s ≤ length slots)
-    (there : (j : ℕ) → getD tab (slotsFrom + j) 0 ≡ getD (slotNodes s (globalTable names f) slots (placedNodes f)) j 0) (k : ℕ) (lt : k < length (f .nodes)) where
+    (there : (j : ℕ) → j < length (slotNodes s (globalTable names f) slots (placedNodes f)) → getD tab (slotsFrom + j) 0 ≡ getD (slotNodes s (globalTable names f) slots (placedNodes f)) j 0) (k : ℕ) (lt : k < length (f .nodes)) where
   slot-is : (x : ℕ) → slotOfEntry (getD (nodeTable (globalTable names f) (nodeOf f k)) x 0) ≡ slotOf (variableNames (nodeOf f k)) (constantNames f) x
   slot-is =
       let n = nodeOf f k in
@@ -51,12 +51,12 @@ module _ {s : List ℕ} {f : File} (names slots tab : List ℕ) (st : FileStands
 
 -- a file that was judged: `tab` has the slots that were left behind from slotsFrom on
 module _ {s : List ℕ} {f : File} {names names′ slots slots′ rows rows′ : List ℕ} {r : Faults} (judged : FileJudged s f names names′ slots slots′ rows rows′ r) (tab : List ℕ) (st : FileStands s f) (no6 : fault6 f ≡ none)
-    (empty : (x : ℕ) → getD names x 0 ≡ 0) (within : NamesWithin (length names) f) (room : length s ≤ length slots) (there : (j : ℕ) → getD tab (slotsFrom + j) 0 ≡ getD slots′ j 0) where
+    (empty : (x : ℕ) → getD names x 0 ≡ 0) (within : NamesWithin (length names) f) (room : length s ≤ length slots) (there : (j : ℕ) → j < length slots′ → getD tab (slotsFrom + j) 0 ≡ getD slots′ j 0) where
   abbrev mid : List ℕ
   mid = slotConstants s (variantTable names f) slots 0 (placedConstants f)
 
-  there-nodes : (j : ℕ) → getD tab (slotsFrom + j) 0 ≡ getD (slotNodes s (globalTable names f) mid (placedNodes f)) j 0
-  there-nodes j = there j ∙ ap (λ l. getD l j 0) (judged .slotted)
+  there-nodes : (j : ℕ) → j < length (slotNodes s (globalTable names f) mid (placedNodes f)) → getD tab (slotsFrom + j) 0 ≡ getD (slotNodes s (globalTable names f) mid (placedNodes f)) j 0
+  there-nodes j lt = there j (omega (arith, lt, ap length (judged .slotted))) ∙ ap (λ l. getD l j 0) (judged .slotted)
 
   room-nodes : length s ≤ length mid
   room-nodes = omega (arith, constants-length s (length (f .enums)) (placedConstants f) 0 (variantTable names f) slots)
@@ -76,7 +76,7 @@ module _ {s : List ℕ} {f : File} {names names′ slots slots′ rows rows′ :
       let c = placedConstant (placedConstants f) i in
       let final = slotNodes s (globalTable names f) mid (placedNodes f) in
       let table = declareAll (variantTable names f) (constantEntries 0 (take i (f .constants))) in
-      let held = constants-held s (length (f .enums)) (f .constants) (constantsStart f) 0 (st .constants) (variantTable names f) slots final room
+      let held = constants-held s (length (f .enums)) (f .constants) (constantsStart f) 0 (st .constants) (variantTable names f) slots final room (omega (arith, room-nodes, nodes-length s (globalTable names f) (length (f .enums)) (f .nodes) (nodesStart f) (st .nodes) mid))
       (λ j less. nodes-below s (globalTable names f) (length (f .enums)) (f .nodes) (nodesStart f) (st .nodes) mid j (omega arith)) i lt in
-      each-map (SlotIs table final) (HasSlot tab [] (take i (constantNames f))) (λ x e. there-nodes (x .0) ∙ e .is ∙ constant-slot names f empty within (omega (arith, length-map (f .constants) constantName, st .fewConstants)) (constants-apart f no6) i (x .1))
+      each-map (SlotIs table final) (HasSlot tab [] (take i (constantNames f))) (λ x e. there-nodes (x .0) (e .inside) ∙ e .is ∙ constant-slot names f empty within (omega (arith, length-map (f .constants) constantName, st .fewConstants)) (constants-apart f no6) i (x .1))
       (used (valuePlace (c .0) (c .1)) (c .1 .value)) held

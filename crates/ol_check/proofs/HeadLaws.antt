@@ -164,35 +164,35 @@ module _ (s names : List ℕ) where
       ap (λ l. getD (slotHeads s names slots l) j 0) (walk-head headAt at e es)
       ∙ slots-below r (slotHead s names slots at) j (omega (arith, head-some e)) ∙ slot-kept slots at j (λ q. omega arith)
 
-  each-slot : (slots : List ℕ) (at : ℕ) (e : Expr) (rest : List (ℕ × ℕ)) → HeadIs s at e → (slots′ : List ℕ) → (headSize e ≡ 3 → at + 1 < length slots)
+  each-slot : (slots : List ℕ) (at : ℕ) (e : Expr) (rest : List (ℕ × ℕ)) → HeadIs s at e → (slots′ : List ℕ) → (headSize e ≡ 3 → at + 1 < length slots) → (headSize e ≡ 3 → at + 1 < length slots′)
       → (headSize e ≡ 3 → getD slots′ (at + 1) 0 ≡ getD (slotHead s names slots at) (at + 1) 0) → Each (SlotIs names slots′) rest → Each (SlotIs names slots′) (usedAt at e ++ rest)
-  each-slot slots at (boolLit b) rest h slots′ room kept tail = tail
-  each-slot slots at (intLit i) rest h slots′ room kept tail = tail
-  each-slot slots at (floatLit b) rest h slots′ room kept tail = tail
-  each-slot slots at (charLit c) rest h slots′ room kept tail = tail
-  each-slot slots at (var x) rest h slots′ room kept tail =
+  each-slot slots at (boolLit b) rest h slots′ room final kept tail = tail
+  each-slot slots at (intLit i) rest h slots′ room final kept tail = tail
+  each-slot slots at (floatLit b) rest h slots′ room final kept tail = tail
+  each-slot slots at (charLit c) rest h slots′ room final kept tail = tail
+  each-slot slots at (var x) rest h slots′ room final kept tail =
       let stored : getD (slotHead s names slots at) (at + 1) 0 ≡ slotOfEntry (getD names x 0) = rw (h .0, h .1) (getD-set-same slots (at + 1) (slotOfEntry (getD names x 0)) 0 (room refl)) in
-      (record { is = kept refl ∙ stored }, tail)
-  each-slot slots at (unary op e) rest h slots′ room kept tail = tail
-  each-slot slots at (binary op a b) rest h slots′ room kept tail = tail
-  each-slot slots at (ifThenElse c a b) rest h slots′ room kept tail = tail
-  each-slot slots at (pre e) rest h slots′ room kept tail = tail
-  each-slot slots at (arrow a b) rest h slots′ room kept tail = tail
-  each-slot slots at (cast t e) rest h slots′ room kept tail = tail
-  each-slot slots at (call k es) rest h slots′ room kept tail = tail
-  each-slot slots at (tuple es) rest h slots′ room kept tail = tail
+      (record { is = kept refl ∙ stored; inside = final refl }, tail)
+  each-slot slots at (unary op e) rest h slots′ room final kept tail = tail
+  each-slot slots at (binary op a b) rest h slots′ room final kept tail = tail
+  each-slot slots at (ifThenElse c a b) rest h slots′ room final kept tail = tail
+  each-slot slots at (pre e) rest h slots′ room final kept tail = tail
+  each-slot slots at (arrow a b) rest h slots′ room final kept tail = tail
+  each-slot slots at (cast t e) rest h slots′ room final kept tail = tail
+  each-slot slots at (call k es) rest h slots′ room final kept tail = tail
+  each-slot slots at (tuple es) rest h slots′ room final kept tail = tail
 
   -- every name used has the slot of its entry, wherever what the walk leaves is kept
-  pub slots-held : {at : ℕ} {es : Exprs} → Flat s at es → (slots final : List ℕ) → length s ≤ length slots
+  pub slots-held : {at : ℕ} {es : Exprs} → Flat s at es → (slots final : List ℕ) → length s ≤ length slots → length s ≤ length final
       → ((j : ℕ) → j < at + exprsSize es → getD final j 0 ≡ getD (slotHeads s names slots (heads at es)) j 0) → Each (SlotIs names final) (collectAll usedAt at es)
   unfolding slotHeads collectAll
-  slots-held ended slots final room same = tt
-  slots-held (headAnd {at} {e} {es} w h r) slots final room same =
+  slots-held ended slots final room far same = tt
+  slots-held (headAnd {at} {e} {es} w h r) slots final room far same =
       let next = slotHead s names slots at in
       let rest = joined (partsOf e) es in
       let all : slotHeads s names slots (heads at (cons e es)) ≡ slotHeads s names next (heads (at + headSize e) rest) = ap (slotHeads s names slots) (walk-head headAt at e es) in
       let ends = head-ends e es at in
-      let tail = slots-held r next final (omega (arith, slot-length slots at)) (λ j lt. same j (omega arith) ∙ ap (λ l. getD l j 0) all) in
+      let tail = slots-held r next final (omega (arith, slot-length slots at)) far (λ j lt. same j (omega arith) ∙ ap (λ l. getD l j 0) all) in
       subst (Each (SlotIs names final)) (sym (walk-head usedAt at e es))
-      (each-slot slots at e (collectAll usedAt (at + headSize e) rest) h final (λ three. omega arith)
+      (each-slot slots at e (collectAll usedAt (at + headSize e) rest) h final (λ three. omega arith) (λ three. omega arith)
       (λ three. same (at + 1) (omega arith) ∙ ap (λ l. getD l (at + 1) 0) all ∙ slots-below r next (at + 1) (omega arith)) tail)

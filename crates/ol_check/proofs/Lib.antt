@@ -6,6 +6,7 @@ pub mod WalkLoop
 pub mod HeadLaws
 pub mod CalleeLaws
 pub mod EquationLaws
+pub mod PlanLaws
 pub mod EntryLoops
 pub mod EntryLaws
 pub mod EntryPlaces

@@ -1,25 +1,25 @@
 -- The table of record lengths, in ascending order of the nodes; the state's length and fault 13.
-use Prim.Native.Nat.{ℕ, _+_, _-_, _*_, _≤_, _<_, min}
+use Prim.Native.Nat.{ℕ, zero, suc, _+_, _-_, _*_, _≤_, _<_, min}
 use mathlib.Core.Bool.{_&&_}
-use mathlib.Core.List.{List, [], _∷_, map, List·Memᴰ·head as here, List·Memᴰ·tail as there, List·Memᴰ·not-nil as in-nil}
-use mathlib.Core.Logic.{by-cases}
+use mathlib.Core.List.{List, [], _∷_, map, List·Memᴰ·head as here, List·Memᴰ·tail as there, List·Memᴰ·not-nil as in-nil, List·Memᴰ·append-cases as in-append, Memᴰ·append-left as in-left, Memᴰ·append-right as in-right}
+use mathlib.Core.Logic.{by-cases, ⊎-elim}
 use mathlib.Core.Option.{none}
 use mathlib.Core.Path.{_≡_, refl, sym, ap, subst, _∙_}
 use native.Mathlib.Omega.{arith}
 use native.Mathlib.Decide.{decLt}
 use native.Mathlib.Numerals.{add-one}
-use lib.ListN.{length, getD, set, drop, drop-of-length-le, length-set, List·getD-eq-default}
+use lib.ListN.{length, getD, set, drop, take, drop-of-length-le, length-set, List·getD-eq-default}
 use lib.Seq.{drop-cons, getD-set-same, getD-set-other}
 use lib.Dec.{ltb, ltb→lt}
 use borrow.Author.Tests.{lt-ltb}
 use Rattle.ol_theory.specs.Member.{_∈_}
-use Rattle.ol_spec.specs.Lists.{sum}
-use Rattle.ol_spec.specs.Syntax.{NodeKind, Function, Operator, Imported, Node, File, noNode, main}
+use Rattle.ol_spec.specs.Lists.{sum, concat}
+use Rattle.ol_spec.specs.Syntax.{NodeKind, Function, Operator, Imported, Equation, Node, File, noNode, main, variables}
 use Rattle.ol_spec.specs.Places.{constantsStart}
 use Rattle.ol_spec.specs.Encode.{kindCode}
 use Rattle.ol_spec.specs.Limits.{relayLoader}
 use Rattle.ol_spec.specs.Eval.{sitesSize}
-use Rattle.ol_spec.specs.Step.{sites, ownSize, instanceSize, siteSizeBy, sizesAt}
+use Rattle.ol_spec.specs.Step.{sites, equationSites, ownSize, instanceSize, siteSizeBy, sizesAt}
 use Rattle.ol_spec.specs.Admission.{calleeIn, mayCall, fault9, stateSize}
 use Rattle.ol_spec.specs.Demand3.{Bytes}
 use Rattle.ol_spec.proofs.Tests.{T-and}
@@ -28,14 +28,18 @@ use Rattle.ol_spec.proofs.ReadFacts.{NodeRead, file-read}
 use Rattle.ol_spec.proofs.Admits.{okFor, site-allowed, node-plain}
 use Rattle.ol_spec.proofs.Calls.{site-size}
 use Rattle.ol_tables.specs.At.{fileAt}
-use Rattle.ol_tables.specs.Tables.{rowAt, nodeOf, siteBytes, firstAt, Rows}
+use Rattle.ol_tables.specs.Tables.{rowAt, nodeOf, siteBytes, firstAt, Rows, recordBytes, bytesBefore, PlanOf}
 use Rattle.ol_tables.specs.Stands.{FileReads}
-use Rattle.ol_tables.proofs.HeadsFile.{file-stands}
+use Rattle.ol_tables.proofs.HeadsFile.{file-stands, node-at}
 use Rattle.ol_tables.specs.Heads.{Byte}
 use Rattle.ol_check.specs.RowsDone.{NodeRow}
-use Rattle.ol_check.specs.NodesJudged.{RowsReady}
+use Rattle.ol_check.specs.Judging.{sizeTo}
+use Rattle.ol_check.specs.NodesJudged.{RowsReady, NodePlanned, PlansBelow}
 use Rattle.ol_check.specs.Records.{calleeB, instanceB, recordBy}
 use Rattle.ol_check.specs.Sizes.{SizesDone, StateSized, NodesSized, sizeNode, sizeNodes, lastSize}
+use Rattle.ol_check.proofs.CalleeLaws.{sum-append}
+use Rattle.ol_check.proofs.RowLoops.{few-variables}
+use Rattle.ol_check.proofs.PlanLaws.{plan-kept, plan-made}
 use Rattle.ol_check.proofs.TabLaws.{row-of}
 use Rattle.ol_check.proofs.SizeLaws.{the-main}
 
@@ -44,6 +48,9 @@ use Rattle.ol_check.proofs.SizeLaws.{the-main}
 cap-part : (a h r c : ℕ) → min (a + min h c + r) c ≡ min (a + (h + r)) c
 cap-part a h r c = omega arith
 
+under-cap : (a x : ℕ) → a ≤ 1009 → x ≤ 32768 → min (a + x) 65536 - a ≡ x
+under-cap a x h l = omega arith
+
 -- a capped sum of capped numbers
 sum-capped : (g h : ℕ → ℕ) (cap : ℕ) (ks : List ℕ) → ((c : ℕ) → c ∈ ks → g c ≡ min (h c) cap) → (a : ℕ) → min (a + sum (map g ks)) cap ≡ min (a + sum (map h ks)) cap
 sum-capped g h cap [] e a = refl
@@ -51,6 +58,17 @@ sum-capped g h cap (k ∷ ks) e a =
     let q : a + (g k + sum (map g ks)) ≡ a + g k + sum (map g ks) = omega arith in
     ap (λ n. min n cap) q ∙ sum-capped g h cap ks (λ c m. e c (there m)) (a + g k)
     ∙ ap (λ n. min (a + n + sum (map h ks)) cap) (e k (here refl)) ∙ cap-part a (h k) (sum (map h ks)) cap
+
+-- the call sites of the first equations are among those of all
+sites-in : (i : ℕ) (qs : List Equation) (c : ℕ) → c ∈ concat (map equationSites (take i qs)) → c ∈ concat (map equationSites qs)
+sites-in zero qs c m = absurd (in-nil m)
+sites-in (suc i) [] c m = absurd (in-nil m)
+sites-in (suc i) (q ∷ qs) c m = ⊎-elim (λ h. in-left (concat (map equationSites qs)) h) (λ h. in-right (equationSites q) (sites-in i qs c h)) (in-append (equationSites q) m)
+
+sites-least : (h : ℕ → ℕ) (i : ℕ) (qs : List Equation) → sum (map h (concat (map equationSites (take i qs)))) ≤ sum (map h (concat (map equationSites qs)))
+sites-least h zero qs = omega arith
+sites-least h (suc i) [] = omega arith
+sites-least h (suc i) (q ∷ qs) = omega (arith, sites-least h i qs, sum-append h (equationSites q) (concat (map equationSites (take i qs))), sum-append h (equationSites q) (concat (map equationSites qs)))
 
 -- ---- where 9 does not hold, callees are of lower number
 
@@ -69,6 +87,16 @@ module _ {s : List ℕ} (bytes : Bytes s) (reads : FileReads s) (no9 : fault9 (f
   module _ (rows : List ℕ) (nodes k : ℕ) (en : nodes ≡ length (fileAt s .nodes)) (lt : k < nodes) (before : (j : ℕ) → j < k → rowAt rows j 6 ≡ min (siteBytes (fileAt s) j) 65536) where
     callee-size : (c : ℕ) → c ∈ sites (nodeOf (fileAt s) k) → calleeB rows nodes c ≡ min (siteBytes (fileAt s) c) 65536
     callee-size c m = let low = lower k c m in rw (lt-ltb c nodes (omega (arith, low))) (before c low)
+
+    -- the bytes of the records before an equation, where those of all are far below the cap
+    before-sized : (i : ℕ) → length (variables (nodeOf (fileAt s) k)) ≤ 112 → recordBytes (fileAt s) k ≤ 32768
+        → sizeTo rows nodes (ownSize (nodeOf (fileAt s) k)) (nodeOf (fileAt s) k .equations) i - ownSize (nodeOf (fileAt s) k) ≡ bytesBefore (fileAt s) k i
+    unfolding sitesSize
+    before-sized i few low =
+        let n = nodeOf (fileAt s) k in
+        let part = concat (map equationSites (take i (n .equations))) in
+        let told = sum-capped (calleeB rows nodes) (siteBytes (fileAt s)) 65536 part (λ c m. callee-size c (sites-in i (n .equations) c m)) (ownSize n) in
+        ap (λ m. m - ownSize n) told ∙ under-cap (ownSize n) (sum (map (siteBytes (fileAt s)) part)) (omega arith) (omega (arith, low, sites-least (siteBytes (fileAt s)) i (n .equations)))
 
     by-kind : (t : NodeKind) → recordBy (kindCode t) (min (instanceB rows nodes (nodeOf (fileAt s) k)) 65536)
         ≡ min (siteSizeBy t (sizesAt (length (fileAt s .nodes)) (fileAt s .nodes)) (nodeOf (fileAt s) k)) 65536
@@ -173,6 +201,18 @@ module _ {s rows₀ rows : List ℕ} {nodes k : ℕ} (rd : RowsReady s rows₀ n
         main = λ one no. g .last no (omega (arith, rd .many)) ∙ ap (λ m. min (instanceSize (sizesAt (length (f .nodes)) (f .nodes)) (nodeOf f (m - 1))) 65536) here
             ∙ ap (λ n. min (instanceSize (sizesAt (length (f .nodes)) (f .nodes)) n) 65536) (sym (the-main rd (omega (arith, rd .many))));
       }
+
+-- the plans of the nodes below k + 1
+pub plans-turn : {s rows₀ rows : List ℕ} {nodes k size₁ size₀ half : ℕ} {slots : List ℕ} (slots′ : List ℕ) → RowsReady s rows₀ nodes → SizesGoing s rows₀ nodes size₁ rows size₀ k → Bytes s → k < nodes
+    → NodePlanned rows nodes (fileAt s) half k slots slots′ → PlansBelow (fileAt s) half slots k → PlansBelow (fileAt s) half slots′ (k + 1)
+plans-turn {s} {rows₀} {rows} {nodes} {k} {half = half} slots′ rd g bytes lt w below =
+    λ no j h.
+    let f = fileAt s in
+    let st = file-stands bytes (rd .reads) in
+    let low : k < length (f .nodes) = omega (arith, rd .many) in
+    by-cases (decLt j k) (λ old. plan-kept st w low j old (below no j old))
+    (λ new. let e : k ≡ j = omega arith in
+    subst (PlanOf f (drop half slots′)) e (plan-made st w low (λ i m few. before-sized bytes (rd .reads) no rows nodes k (rd .many) lt (g .sizes no) i (few-variables (node-at st k low)) few)))
 
 -- the rows are the file's
 pub rows-sized : {f : File} {rows rows′ : List ℕ} → length rows′ ≡ 272 → ((e : ℕ) → e < length (f .enums) → firstAt rows e ≡ getD (getD (f .enums) e []) 0 0) → SizesDone f rows rows′

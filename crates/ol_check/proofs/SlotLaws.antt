@@ -48,15 +48,15 @@ module _ (s names : List ℕ) (enums : ℕ) where
       let w = equations-cons s enums at q qs h in
       equations-length qs (at + equationSize q) (w .1) (slotEquation s names slots (at, q)) ∙ equation-length s names (w .0) slots
 
-  pub equations-held : (qs : List Equation) (at : ℕ) → Listed equationBytes (equationFits base enums) s at qs → (slots final : List ℕ) → length s ≤ length slots
+  pub equations-held : (qs : List Equation) (at : ℕ) → Listed equationBytes (equationFits base enums) s at qs → (slots final : List ℕ) → length s ≤ length slots → length s ≤ length final
       → ((j : ℕ) → j < at + sum (map equationSize qs) → getD final j 0 ≡ getD (slotEquations s names slots (placed equationSize at qs)) j 0) → Each (λ p. Each (SlotIs names final) (namesIn p)) (placed equationSize at qs)
   unfolding slotEquations
-  equations-held [] at h slots final room same = tt
-  equations-held (q ∷ qs) at h slots final room same =
+  equations-held [] at h slots final room far same = tt
+  equations-held (q ∷ qs) at h slots final room far same =
       let w = equations-cons s enums at q qs h in
       let next = slotEquation s names slots (at, q) in (
-        equation-held s names (w .0) slots final room (λ j lt. same j (omega arith) ∙ equations-below qs (at + equationSize q) (w .1) next j (omega arith)),
-        equations-held qs (at + equationSize q) (w .1) next final (omega (arith, equation-length s names (w .0) slots)) (λ j lt. same j (omega arith)),
+        equation-held s names (w .0) slots final room far (λ j lt. same j (omega arith) ∙ equations-below qs (at + equationSize q) (w .1) next j (omega arith)),
+        equations-held qs (at + equationSize q) (w .1) next final (omega (arith, equation-length s names (w .0) slots)) far (λ j lt. same j (omega arith)),
       )
 
 -- ---- nodes
@@ -73,17 +73,25 @@ module _ (s names : List ℕ) (enums : ℕ) where
       let w = nodes-cons s enums at n ns h in
       nodes-below ns (at + nodeSize n) (w .1) _ j (omega arith) ∙ equations-below s (nodeTable names n) enums (n .equations) (equationsStart at n + 1) (w .0 .equations) slots j (omega arith)
 
-  nodes-held : (ns : List Node) (at : ℕ) → Listed nodeBytes (nodeFits base enums) s at ns → (slots final : List ℕ) → length s ≤ length slots
+  pub nodes-length : (ns : List Node) (at : ℕ) → Listed nodeBytes (nodeFits base enums) s at ns → (slots : List ℕ) → length (slotNodes s names slots (placed nodeSize at ns)) ≡ length slots
+  unfolding slotNodes
+  nodes-length [] at h slots = refl
+  nodes-length (n ∷ ns) at h slots =
+      let w = nodes-cons s enums at n ns h in
+      nodes-length ns (at + nodeSize n) (w .1) _ ∙ equations-length s (nodeTable names n) enums (n .equations) (equationsStart at n + 1) (w .0 .equations) slots
+
+  nodes-held : (ns : List Node) (at : ℕ) → Listed nodeBytes (nodeFits base enums) s at ns → (slots final : List ℕ) → length s ≤ length slots → length s ≤ length final
       → ((j : ℕ) → j < at + sum (map nodeSize ns) → getD final j 0 ≡ getD (slotNodes s names slots (placed nodeSize at ns)) j 0) → Each (NodeSlotted names final) (placed nodeSize at ns)
   unfolding slotNodes
-  nodes-held [] at h slots final room same = tt
-  nodes-held (n ∷ ns) at h slots final room same =
+  nodes-held [] at h slots final room far same = tt
+  nodes-held (n ∷ ns) at h slots final room far same =
       let w = nodes-cons s enums at n ns h in
       let next = slotEquations s (nodeTable names n) slots (placedEquations at n) in (
-        equations-held s (nodeTable names n) enums (n .equations) (equationsStart at n + 1) (w .0 .equations) slots final room (λ j lt. same j (omega arith) ∙ nodes-below ns (at + nodeSize n) (w .1) next j (omega arith)),
-        nodes-held ns (at + nodeSize n) (w .1) next final (omega (arith, equations-length s (nodeTable names n) enums (n .equations) (equationsStart at n + 1) (w .0 .equations) slots)) (λ j lt. same j (omega arith)),
+        equations-held s (nodeTable names n) enums (n .equations) (equationsStart at n + 1) (w .0 .equations) slots final room far (λ j lt. same j (omega arith) ∙ nodes-below ns (at + nodeSize n) (w .1) next j (omega arith)),
+        nodes-held ns (at + nodeSize n) (w .1) next final (omega (arith, equations-length s (nodeTable names n) enums (n .equations) (equationsStart at n + 1) (w .0 .equations) slots)) far (λ j lt. same j (omega arith)),
       )
 
 -- what the walk over a file's nodes leaves
 pub file-slotted : {s : List ℕ} {f : File} → FileStands s f → (names slots : List ℕ) → length s ≤ length slots → Each (NodeSlotted names (slotNodes s names slots (placedNodes f))) (placedNodes f)
-file-slotted {s} {f} st names slots room = nodes-held s names (length (f .enums)) (f .nodes) (nodesStart f) (st .nodes) slots (slotNodes s names slots (placedNodes f)) room (λ j lt. refl)
+file-slotted {s} {f} st names slots room = nodes-held s names (length (f .enums)) (f .nodes) (nodesStart f) (st .nodes) slots (slotNodes s names slots (placedNodes f)) room
+    (omega (arith, nodes-length s names (length (f .enums)) (f .nodes) (nodesStart f) (st .nodes) slots)) (λ j lt. refl)

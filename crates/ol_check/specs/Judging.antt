@@ -1,17 +1,17 @@
 -- Faults 7 to 10 at the names and the heads of expressions, as the bytes and the tables tell them.
-use Prim.Native.Nat.{ℕ, _+_, _-_, _*_, min}
+use Prim.Native.Nat.{ℕ, _+_, _-_, _*_, _/_, _%_, _<_, _≤_, min}
 use mathlib.Core.Bool.{Bool, not, _&&_, _||_, cond}
 use mathlib.Core.List.{List, [], _∷_, _++_, map}
 use mathlib.Core.Option.{Option}
 use mathlib.Core.Path.{_≡_}
-use lib.ListN.{length, getD, set}
+use lib.ListN.{length, getD, set, take}
 use lib.Dec.{ltb, leb, eqb}
 use Rattle.ol_spec.specs.Lists.{orElse, member, concat, sum}
 use Rattle.ol_spec.specs.Syntax.{Expr, Exprs, nil, cons, Equation, File, variableNames}
 use Rattle.ol_spec.specs.Places.{collectAll, equationSize, placed, placedNames, rhsPlace}
 use Rattle.ol_spec.specs.Admission.{Item, first, variants, constantNames, badCall, calleeIn, used, equationUses, inEquation, callsWhere, equationShape, definedBy}
 use Rattle.ol_tables.specs.At.{fileAt}
-use Rattle.ol_tables.specs.Tables.{rowAt, nodeOf}
+use Rattle.ol_tables.specs.Tables.{rowAt, nodeOf, twoAt}
 use Rattle.ol_tables.specs.Stands.{Equations}
 use Rattle.ol_tables.specs.Heads.{nameAt, partsAt, nextAt}
 use Rattle.ol_tables.specs.Walks.{walkAt, skipAt}
@@ -159,9 +159,10 @@ pub record EquationsReady (s names rows : List ℕ) (nodes k many at : ℕ) : Ty
   pub count : many ≡ length (nodeOf (fileAt s) k .equations)
   pub stand : Equations s (length (fileAt s .enums)) at (nodeOf (fileAt s) k .equations)
 
--- the slot that a name's entry gives stands at the name's place
+-- the slot that a name's entry gives stands at the name's place, which is inside the table of slots
 pub record SlotIs (names slots : List ℕ) (p : ℕ × ℕ) : Type 0 where
   pub is : getD slots (p .0) 0 ≡ slotOfEntry (getD names (p .1) 0)
+  pub inside : p .0 < length slots
 
 -- ---- names that an equation defines
 
@@ -250,3 +251,20 @@ pub record EquationsJudged (s names rows : List ℕ) (nodes : ℕ) (f : File) (v
   pub slotted : slots′ ≡ slotEquations s names slots (placed equationSize at qs)
   pub marked : defined′ ≡ markAll names defined (concat (map definedBy (placed equationSize at qs)))
   pub sized : Adds (g .size) (map (calleeB rows nodes) (concat (map equationSites qs))) (r .size)
+
+-- ---- plans
+
+-- a number is stored in two bytes from p on
+unfoldable pub twoPut : List ℕ → ℕ → ℕ → List ℕ
+twoPut t p n = set (set t p (n / 256 % 256)) (p + 1) (n % 256)
+
+-- the bytes of the records of the equations before number i, as the rows tell them: a sum that starts with `size`, exact up to the cap
+abbrev pub sizeTo : List ℕ → ℕ → ℕ → List Equation → ℕ → ℕ
+sizeTo rows nodes size qs i = min (size + sum (map (calleeB rows nodes) (concat (map equationSites (take i qs))))) 65536
+
+-- the plan of equations, the first of which stands at `at`, is stored from p on for the first i of them: where each stands, then the bytes of the records before it. What stands behind `half` and outside the plan is as before
+pub record Planned (rows : List ℕ) (nodes size at : ℕ) (qs : List Equation) (half p i : ℕ) (slots slots′ : List ℕ) : Type 0 where
+  pub places : (j : ℕ) → j < i → twoAt slots′ (p + 2 * j) ≡ getD (map (λ q. q .0) (placed equationSize at qs)) j 0
+  pub offsets : (j : ℕ) → j < i → twoAt slots′ (p + 2 * length qs + 2 * j) ≡ sizeTo rows nodes size qs j - size
+  pub before : (x : ℕ) → half ≤ x → x < p → getD slots′ x 0 ≡ getD slots x 0
+  pub behind : (x : ℕ) → p + 4 * length qs ≤ x → getD slots′ x 0 ≡ getD slots x 0

@@ -1,20 +1,22 @@
 -- Faults 7 to 10 of a node's equations, and their slots.
-use Prim.Native.Nat.{ℕ, _<_, _≤_, min}
+use Prim.Native.Nat.{ℕ, _+_, _<_, _≤_, min}
 use mathlib.Core.List.{List, [], _∷_, map}
+use mathlib.Core.Option.{none}
 use mathlib.Core.Path.{_≡_}
-use lib.ListN.{length, replicate}
+use lib.ListN.{length, replicate, drop}
 use Rattle.ol_spec.specs.Syntax.{Node, File, variables}
-use Rattle.ol_spec.specs.Places.{placedNodes, placedEquations}
+use Rattle.ol_spec.specs.Places.{placedNodes, placedEquations, equationsStart}
 use Rattle.ol_spec.specs.Lists.{concat}
-use Rattle.ol_spec.specs.Admission.{Item, definedBy, nodeUses, nodeCalls, nodeShape, numbered}
+use Rattle.ol_spec.specs.Step.{ownSize}
+use Rattle.ol_spec.specs.Admission.{Item, definedBy, nodeUses, nodeCalls, nodeShape, numbered, fault9}
 use Rattle.ol_tables.specs.At.{fileAt}
-use Rattle.ol_tables.specs.Tables.{nodeOf, Each}
+use Rattle.ol_tables.specs.Tables.{nodeOf, Each, planIn, PlanOf}
 use Rattle.ol_tables.specs.Tables as Tables
 use Rattle.ol_tables.specs.Stands.{FileReads}
 use Rattle.ol_check.specs.RowsDone.{NodeRow}
 use Rattle.ol_check.specs.Records.{instanceB}
 use Rattle.ol_check.specs.Entries.{declareAll, variableEntries, Global}
-use Rattle.ol_check.specs.Judging.{Findings, foundIn, slotEquations, againB, Knows, globalNames}
+use Rattle.ol_check.specs.Judging.{Findings, foundIn, slotEquations, againB, Knows, globalNames, Planned}
 
 -- where node k stands
 abbrev pub placeIn : File → ℕ → ℕ
@@ -48,6 +50,11 @@ pub record NodeJudged (s names rows : List ℕ) (nodes : ℕ) (f : File) (k : �
   pub slotted : slots′ ≡ slotEquations s (nodeTable names (nodeOf f k)) slots (placedEquations (placeIn f k) (nodeOf f k))
   pub sized : r .size ≡ min (instanceB rows nodes (nodeOf f k)) 65536
 
+-- node k's plan is stored, as the rows tell it; the plans stand behind `half` bytes
+abbrev pub NodePlanned : List ℕ → ℕ → File → ℕ → ℕ → List ℕ → List ℕ → Type 0
+NodePlanned rows nodes f half k slots slots′ =
+    Planned rows nodes (ownSize (nodeOf f k)) (equationsStart (placeIn f k) (nodeOf f k) + 1) (nodeOf f k .equations) half (half + planIn f k) (length (nodeOf f k .equations)) slots slots′
+
 -- ---- all nodes
 
 -- the file reads without fault, and the rows are its nodes'
@@ -78,3 +85,7 @@ pub record NodesJudged (s names : List ℕ) (f : File) (slots slots′ : List �
   pub called : r .called ≡ foundIn (g .called) (concat (map (nodeCalls f) (numbered 0 (placedNodes f))))
   pub shaped : r .shaped ≡ foundIn (g .shaped) (concat (map (nodeShape f) (placedNodes f)))
   pub slotted : slots′ ≡ slotNodes s names slots (placedNodes f)
+
+-- the plans of the nodes below k are those of the file, where 9 does not hold
+abbrev pub PlansBelow : File → ℕ → List ℕ → ℕ → Type 0
+PlansBelow f half slots k = fault9 f ≡ none → (j : ℕ) → j < k → PlanOf f (drop half slots) j

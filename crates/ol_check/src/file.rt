@@ -8,13 +8,18 @@ use super::names::declare_enums;
 use super::nodes::judge_nodes;
 use super::rows::Sections;
 use ol_tables::bytes::byte;
+ghost use mathlib.Core.Option.{none};
 ghost use mathlib.Core.Path.{_≡_};
-ghost use lib.ListN.{length};
+ghost use Prim.Native.Nat.{ℕ, _<_, _≤_, _+_};
+ghost use lib.ListN.{length, take, drop};
+ghost use Rattle.ol_spec.specs.Admission.{fault9};
 ghost use Rattle.ol_tables.specs.At.{fileAt};
+ghost use Rattle.ol_tables.specs.Tables.{PlanOf};
 ghost use Rattle.ol_check.specs.FileJudged.{FileReady, NamesWithin, FileJudged};
 
 // Faults 7 to 10 of a file that reads without fault, and the bytes of an instance of its last node.
-// The table by name is empty, and longer than every declared name.
+// The table by name is empty, and longer than every declared name. The first `half` bytes of `slots` are the slots; behind them stand the
+// nodes' plans, and what the other bytes there are is not told.
 pub fn faults(
     file: &[u8],
     rows: &mut [usize],
@@ -23,8 +28,9 @@ pub fn faults(
     slots: &mut [u8],
     half: usize,
 ) -> Faults
-    requires { ⌜ FileReady (now file) (now rows) (now names) sections × NamesWithin (length (now names)) (fileAt (now file)) × (length (now rows) ≡ 272) ⌝ }
-    ensures { λ r. ⌜ FileJudged (now (file .entry)) (fileAt (now (file .entry))) (now (names .entry)) (now (names .exit)) (now (slots .entry)) (now (slots .exit)) (now (rows .entry)) (now (rows .exit)) r ⌝ }
+    requires { ⌜ FileReady (now file) (now rows) (now names) sections × NamesWithin (length (now names)) (fileAt (now file)) × (length (now rows) ≡ 272) × (half ≤ length (now slots)) × (length (now file) ≤ half) × (half + length (now file) ≤ length (now slots)) ⌝ }
+    ensures judged { λ r. ⌜ FileJudged (now (file .entry)) (fileAt (now (file .entry))) (now (names .entry)) (now (names .exit)) (take half (now (slots .entry))) (take half (now (slots .exit))) (now (rows .entry)) (now (rows .exit)) r ⌝ }
+    ensures planned { λ r. ⌜ (fault9 (fileAt (now (file .entry))) ≡ none → (k : ℕ) → k < length (fileAt (now (file .entry)) .nodes) → PlanOf (fileAt (now (file .entry))) (drop half (now (slots .exit))) k) ⌝ }
 {
     let c = sections.constants;
     let n = sections.nodes;

@@ -12,14 +12,14 @@ use ol_tables::tables::KIND;
 use ol_tables::tables::OUTPUTS;
 use ol_tables::tables::row;
 ghost use mathlib.Core.Path.{_≡_};
-ghost use Prim.Native.Nat.{_≤_, _<_, _+_};
-ghost use lib.ListN.{length};
+ghost use Prim.Native.Nat.{_≤_, _<_, _+_, _*_};
+ghost use lib.ListN.{length, take};
 ghost use Rattle.ol_spec.specs.Admission.{badCall};
 ghost use Rattle.ol_tables.specs.At.{fileAt};
 ghost use Rattle.ol_tables.specs.Tables.{nodeOf};
 ghost use Rattle.ol_check.specs.Founds.{markPlace};
 ghost use Rattle.ol_check.specs.Judging.{unseenB, slotOfEntry, slotPut, slotHead, mayB, badB, calledB, outputsB, arityB, findings, varFound, callFound, Walked};
-ghost use Rattle.ol_check.specs.Judging.{takenB, NamesDefined, loneB, otherB, RootJudged, EquationWalked, seenIn, EquationsReady, EquationsJudged};
+ghost use Rattle.ol_check.specs.Judging.{takenB, NamesDefined, loneB, otherB, RootJudged, EquationWalked, seenIn, EquationsReady, EquationsJudged, twoPut, Planned};
 
 // A name's slot, by its entry.
 fn slot(e: usize) -> u8
@@ -347,7 +347,7 @@ fn equation(
 
 // Stores a number in two bytes from p on.
 fn put_two(bytes: &mut [u8], p: usize, n: usize)
-    requires { ⌜ p < 1048576 ⌝ }
+    requires { ⌜ p + 1 < length (now bytes) ⌝ }
     ensures { λ r. ⌜ now (bytes .exit) ≡ twoPut (now (bytes .entry)) p n ⌝ }
 {
     put_byte(bytes, p, (n / 256 % 256) as u8);
@@ -371,8 +371,8 @@ pub(crate) fn equations(
     plan: usize,
     f: Reached,
 ) -> Reached
-    requires { ⌜ (node < 256) × (length (now file) ≤ 32768) × EquationsReady (now file) (now names) (now rows) nodes node many (f .next) × (f .size ≤ 65536) × (length (now found) ≡ 4) ⌝ }
-    ensures { λ r. ⌜ EquationsJudged (now (file .entry)) (now (names .entry)) (now (rows .entry)) nodes (fileAt (now (file .entry))) (seenIn (fileAt (now (file .entry))) node) (badCall (fileAt (now (file .entry))) node (nodeOf (fileAt (now (file .entry))) node)) inputs (f .next) (nodeOf (fileAt (now (file .entry))) node .equations) (now (slots .entry)) (now (slots .exit)) (now (defined .entry)) (now (defined .exit)) (findings (now (found .entry)) f) (findings (now (found .exit)) r) × (length (now (found .exit)) ≡ 4) ⌝ }
+    requires { ⌜ (node < 256) × (length (now file) ≤ 32768) × EquationsReady (now file) (now names) (now rows) nodes node many (f .next) × (f .size ≤ 65536) × (length (now found) ≡ 4) × (1 ≤ f .size) × (half ≤ plan) × (plan + 4 * many ≤ length (now slots)) ⌝ }
+    ensures { λ r. ⌜ EquationsJudged (now (file .entry)) (now (names .entry)) (now (rows .entry)) nodes (fileAt (now (file .entry))) (seenIn (fileAt (now (file .entry))) node) (badCall (fileAt (now (file .entry))) node (nodeOf (fileAt (now (file .entry))) node)) inputs (f .next) (nodeOf (fileAt (now (file .entry))) node .equations) (take half (now (slots .entry))) (take half (now (slots .exit))) (now (defined .entry)) (now (defined .exit)) (findings (now (found .entry)) f) (findings (now (found .exit)) r) × (length (now (found .exit)) ≡ 4) × Planned (now (rows .entry)) nodes (f .size) (f .next) (nodeOf (fileAt (now (file .entry))) node .equations) half plan many (now (slots .entry)) (now (slots .exit)) ⌝ }
 {
     let mut g = f;
     let mut i = 0;

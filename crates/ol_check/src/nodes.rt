@@ -18,14 +18,14 @@ use ol_tables::tables::VARIABLES;
 use ol_tables::tables::row;
 ghost use mathlib.Core.Path.{_≡_};
 ghost use mathlib.Core.List.{map};
-ghost use Prim.Native.Nat.{_+_, _*_};
-ghost use lib.ListN.{length, set};
+ghost use Prim.Native.Nat.{_≤_, _+_, _*_};
+ghost use lib.ListN.{length, set, take};
 ghost use Rattle.ol_spec.specs.Syntax.{variables, nameOf};
 ghost use Rattle.ol_tables.specs.At.{fileAt};
 ghost use Rattle.ol_tables.specs.Tables.{nodeOf, rowAt};
 ghost use Rattle.ol_check.specs.Entries.{forgetAll};
 ghost use Rattle.ol_check.specs.Judging.{findings};
-ghost use Rattle.ol_check.specs.NodesJudged.{NodeReady, nodeTable, NodeJudged, RowsReady, NamesReady, NodesJudged};
+ghost use Rattle.ol_check.specs.NodesJudged.{NodeReady, nodeTable, NodeJudged, RowsReady, NamesReady, NodesJudged, NodePlanned, PlansBelow};
 ghost use Rattle.ol_check.specs.Records.{recordBy};
 ghost use Rattle.ol_check.specs.Sizes.{NodesSized};
 
@@ -69,8 +69,8 @@ fn node(
     half: usize,
     f: Reached,
 ) -> Reached
-    requires { ⌜ NodeReady (now file) (now rows) nodes k × NamesReady (now names) (fileAt (now file)) × (length (now found) ≡ 4) ⌝ }
-    ensures { λ r. ⌜ (now (names .exit) ≡ now (names .entry)) × (now (rows .exit) ≡ set (now (rows .entry)) (k * 8 + 6) (recordBy (rowAt (now (rows .entry)) k 0) (r .size))) × NodeJudged (now (file .entry)) (now (names .entry)) (now (rows .entry)) nodes (fileAt (now (file .entry))) k (now (slots .entry)) (now (slots .exit)) (findings (now (found .entry)) f) (findings (now (found .exit)) r) × (length (now (found .exit)) ≡ 4) ⌝ }
+    requires { ⌜ NodeReady (now file) (now rows) nodes k × NamesReady (now names) (fileAt (now file)) × (length (now found) ≡ 4) × (half + length (now file) ≤ length (now slots)) ⌝ }
+    ensures { λ r. ⌜ (now (names .exit) ≡ now (names .entry)) × (now (rows .exit) ≡ set (now (rows .entry)) (k * 8 + 6) (recordBy (rowAt (now (rows .entry)) k 0) (r .size))) × NodeJudged (now (file .entry)) (now (names .entry)) (now (rows .entry)) nodes (fileAt (now (file .entry))) k (take half (now (slots .entry))) (take half (now (slots .exit))) (findings (now (found .entry)) f) (findings (now (found .exit)) r) × (length (now (found .exit)) ≡ 4) × NodePlanned (now (rows .entry)) nodes (fileAt (now (file .entry))) half k (now (slots .entry)) (now (slots .exit)) ⌝ }
 {
     declare_node(file, names, rows, nodes, k);
     let mut defined = [0u8; 256];
@@ -109,8 +109,8 @@ pub(crate) fn judge_nodes(
     half: usize,
     f: Reached,
 ) -> Reached
-    requires { ⌜ RowsReady (now file) (now rows) nodes × NamesReady (now names) (fileAt (now file)) × (length (now rows) ≡ 272) × (length (now found) ≡ 4) ⌝ }
-    ensures { λ r. ⌜ (now (names .exit) ≡ now (names .entry)) × NodesJudged (now (file .entry)) (now (names .entry)) (fileAt (now (file .entry))) (now (slots .entry)) (now (slots .exit)) (findings (now (found .entry)) f) (findings (now (found .exit)) r) × NodesSized (fileAt (now (file .entry))) (now (rows .entry)) (now (rows .exit)) (f .size) (r .size) × (length (now (found .exit)) ≡ 4) ⌝ }
+    requires { ⌜ RowsReady (now file) (now rows) nodes × NamesReady (now names) (fileAt (now file)) × (length (now rows) ≡ 272) × (length (now found) ≡ 4) × (half + length (now file) ≤ length (now slots)) ⌝ }
+    ensures { λ r. ⌜ (now (names .exit) ≡ now (names .entry)) × NodesJudged (now (file .entry)) (now (names .entry)) (fileAt (now (file .entry))) (take half (now (slots .entry))) (take half (now (slots .exit))) (findings (now (found .entry)) f) (findings (now (found .exit)) r) × NodesSized (fileAt (now (file .entry))) (now (rows .entry)) (now (rows .exit)) (f .size) (r .size) × (length (now (found .exit)) ≡ 4) × PlansBelow (fileAt (now (file .entry))) half (now (slots .exit)) nodes ⌝ }
 {
     let mut g = f;
     let mut k = 0;

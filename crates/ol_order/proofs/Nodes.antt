@@ -131,18 +131,18 @@ module _ (s : List ℕ) (l : Limits) (enums at : ℕ) (nr : NodeReads s l enums 
   abbrev node : Node
   node = nodeAt s l enums at
 
-  module _ {x : Counted} {k q : ℕ} {t : List ℕ} (e : x ≡ Cnt.Items (length (node .equations)) (equationsStart at node + 1)) (g : x ≡ Cnt.Items k q) (h : t ≡ sets (replicate 80 0) 0 (map placeOf (placedEquations at node))) where
-    pub as-counted : k ≡ length (node .equations)
-    as-counted = let b : Cnt.Items k q ≡ Cnt.Items (length (node .equations)) (equationsStart at node + 1) = sym g ∙ e in cc
+  pub as-counted : {x : Counted} {k q : ℕ} → x ≡ Cnt.Items (length (node .equations)) (equationsStart at node + 1) → x ≡ Cnt.Items k q → k ≡ length (node .equations)
+  as-counted {k = k} {q} e g = let b : Cnt.Items k q ≡ Cnt.Items (length (node .equations)) (equationsStart at node + 1) = sym g ∙ e in cc
 
+  pub counted-few : {k : ℕ} → k ≡ length (node .equations) → k ≤ 80
+  counted-few c = omega (arith, c, few-equations s l enums at node (nr .end) (nr .is), nr .few)
+
+  module _ {k : ℕ} {t : List ℕ} (c : k ≡ length (node .equations)) (h : t ≡ sets (replicate 80 0) 0 (map placeOf (placedEquations at node))) where
     few : length (map placeOf (placedEquations at node)) ≤ 80
     few = omega (arith, long-starts s l enums at node (nr .end) (nr .is), few-equations s l enums at node (nr .end) (nr .is), nr .few)
 
-    pub counted-few : k ≤ 80
-    counted-few = omega (arith, as-counted, few-equations s l enums at node (nr .end) (nr .is), nr .few)
-
     pub front-is : take k t ≡ map placeOf (placedEquations at node)
-    front-is = ap (take k) h ∙ table-front 80 (map placeOf (placedEquations at node)) few k (long-starts s l enums at node (nr .end) (nr .is) ∙ sym as-counted)
+    front-is = ap (take k) h ∙ table-front 80 (map placeOf (placedEquations at node)) few k (long-starts s l enums at node (nr .end) (nr .is) ∙ sym c)
 
     pub front-readable : Readable s l enums (take k t)
     front-readable = subst (Readable s l enums) (sym front-is) (node-readable s l enums at node (nr .end) (nr .is) (nr .few))

@@ -1,5 +1,5 @@
 -- The lists of a node's equations have room in a third of the file's bytes: a read has three.
-use Prim.Native.Nat.{ℕ, suc, _+_, _*_, _≤_}
+use Prim.Native.Nat.{ℕ, suc, _+_, _*_, _≤_, _<_}
 use mathlib.Core.List.{List, [], _∷_, _++_, map}
 use mathlib.Core.Option.{Option, none, some}
 use mathlib.Core.Path.{_≡_, sym, ap, _∙_}
@@ -9,10 +9,10 @@ use native.Mathlib.Omega.{arith}
 use lib.ListN.{length, length-append}
 use Rattle.ol_spec.specs.Lists.{sum}
 use Rattle.ol_spec.specs.Syntax.{Expr, boolLit, intLit, floatLit, charLit, var, unary, binary, ifThenElse, pre, arrow, cast, call, tuple, Exprs, nil}
-use Rattle.ol_spec.specs.Syntax.{cons, Equation, Node, File}
-use Rattle.ol_spec.specs.Places.{exprSize, exprsSize, equationSize, equationsStart}
+use Rattle.ol_spec.specs.Syntax.{cons, Variable, Equation, Node, File, variables}
+use Rattle.ol_spec.specs.Places.{exprSize, exprsSize, variableSize, equationSize, equationsStart}
 use Rattle.ol_spec.specs.Limits.{relayLoader}
-use Rattle.ol_spec.specs.Read.{got, readFile, equationR}
+use Rattle.ol_spec.specs.Read.{got, readFile, sectionR, equationR}
 use Rattle.ol_spec.specs.Order.{reads, readsAll, definer}
 use Rattle.ol_spec.specs.declared.Limits.{Limits}
 use Rattle.ol_order.specs.Tables.{withDefiner, definersOf, waited, waitedAll, nodeAt}
@@ -65,14 +65,29 @@ module _ (qs : List Equation) where
   lists-size [] = omega arith
   lists-size (r ∷ rs) = omega (arith, waited-size r, lists-size rs, length-append (waited qs r) (waitedAll qs rs))
 
+variables-size : (vs : List Variable) → length vs ≤ sum (map variableSize vs)
+variables-size [] = omega arith
+variables-size (v ∷ vs) = omega (arith, variables-size vs)
+
 module _ (s : List ℕ) (l : Limits) (enums at : ℕ) (nr : NodeReads s l enums at) where
   abbrev node : Node
   node = nodeAt s l enums at
 
-  pub node-room : 3 * length (waitedAll (node .equations) (node .equations)) ≤ length s
+  abbrev section : sectionR s 0 (l .equations) (equationR s l enums) (equationsStart at node) ≡ got (node .equations) (nr .end)
+  section = node-at s l enums at node (nr .end) (nr .is) .equations
+
+  -- its equations start inside the file
+  node-inside : equationsStart at node < length s
   unfolding countedOf
+  node-inside =
+      counted-is s 0 (l .equations) (equationsStart at node) (length (node .equations)) (equationsStart at node + 1) (sym (ap countedOf (section-at s 0 (l .equations) (equationR s l enums) (equationsStart at node) (node .equations) (nr .end) section .counted))) .inside
+
+  pub node-room : 3 * length (waitedAll (node .equations) (node .equations)) ≤ length s
   node-room =
-      let r = node-at s l enums at node (nr .end) (nr .is) .equations in
-      let c = counted-is s 0 (l .equations) (equationsStart at node) (length (node .equations)) (equationsStart at node + 1) (sym (ap countedOf (section-at s 0 (l .equations) (equationR s l enums) (equationsStart at node) (node .equations) (nr .end) r .counted))) in
-      let t = takes-section s equationSize (equationR s l enums) (takes-equation s l enums) 0 (l .equations) .is (equationsStart at node) (node .equations) (nr .end) r in
-      omega (arith, lists-size (node .equations) (node .equations), c .inside, t .ends, t .holds, t .inside (omega (arith, c .inside)))
+      let t = takes-section s equationSize (equationR s l enums) (takes-equation s l enums) 0 (l .equations) .is (equationsStart at node) (node .equations) (nr .end) section in
+      omega (arith, lists-size (node .equations) (node .equations), node-inside, t .ends, t .holds, t .inside (omega (arith, node-inside)))
+
+  -- its variables stand between its place and its equations, and each has a byte
+  pub variables-room : at + length (variables node) ≤ length s
+  variables-room =
+      omega (arith, node-inside, variables-size (node .inputs), variables-size (node .outputs), variables-size (node .locals), length-append (node .inputs) (node .outputs), length-append (node .inputs ++ node .outputs) (node .locals))

@@ -1,5 +1,5 @@
 -- The orders of all nodes as bytes: what each node's equations leave, and the nodes one after the other.
-use Prim.Native.Nat.{ℕ, zero, suc, _+_, _-_, _*_, _≤_, _<_}
+use Prim.Native.Nat.{ℕ, zero, suc, _+_, _-_, _*_, _/_, _≤_, _<_}
 use mathlib.Core.Bool.{Bool, true, false}
 use mathlib.Core.List.{List, [], _∷_, _++_, append-assoc, map}
 use mathlib.Core.Logic.{⊎-elim, by-cases}
@@ -8,12 +8,12 @@ use mathlib.Core.Path.{_≡_, refl, sym, ap, subst, _∙_}
 use native.Mathlib.Decide.{decLe}
 use native.Mathlib.Numerals.{add-one}
 use native.Mathlib.Omega.{arith}
-use lib.ListN.{length, getD, set, take, drop, getElem?, length-map, length-append, length-drop, take-append-drop, drop-of-length-le, List·getD-append}
-use lib.Seq.{sets, sets-eq, getD-take, getD-append-add, length-take-le, drop-append-le, drop-drop, drop-cons}
+use lib.ListN.{length, getD, set, take, drop, replicate, getElem?, length-map, length-append, length-drop, take-append-drop, drop-of-length-le, List·getD-append}
+use lib.Seq.{sets, sets-eq, getD-take, getD-drop, getD-append-add, getD-set-other, length-take-le, length-front, take-set-lt, drop-set-lt, drop-append-le, drop-drop, drop-cons, ext-getD}
 use mathlib.Core.List.{List·Memᴰ, List·Memᴰ·head as here, List·Memᴰ·tail as there}
 use Rattle.ol_spec.specs.Lists.{maybe, orElse}
-use Rattle.ol_spec.specs.Syntax.{Equation, Node, File, noNode}
-use Rattle.ol_spec.specs.Places.{nodeSize, nodesStart, placedNodes, placedEquations}
+use Rattle.ol_spec.specs.Syntax.{Equation, Node, File, noNode, variables}
+use Rattle.ol_spec.specs.Places.{nodeSize, nodesStart, placedNodes, equationSize, equationsStart, placedEquations}
 use Rattle.ol_spec.specs.Limits.{base, relayLoader}
 use Rattle.ol_spec.specs.Read.{Read, got, readFile, nodeR}
 use Rattle.ol_spec.specs.Order.{order, unplaced}
@@ -23,14 +23,14 @@ use Rattle.ol_spec.proofs.Offsets.{same-item}
 use Rattle.ol_spec.proofs.Ordering.{Placed, Stuck, placed-or-stuck}
 use Rattle.ol_order.specs.Tables.{nodeIn, nodeAt, equationsAt, waitedAll}
 use Rattle.ol_order.specs.Post.{NodeReads, Sorts}
-use Rattle.ol_order.specs.Orders.{ringPlace, Small, LowNames, StartsWith, rowWritten, EquationsDone, NodeDone, NodesStand, OrderOf, ordersWritten, OrdersDone}
+use Rattle.ol_order.specs.Orders.{ringPlace, Small, LowNames, StartsWith, rowWritten, EquationsDone, startsIn, PlanAt, NodeDone, NodesStand, NodePlanned, Planned, OrderOf, ordersWritten, OrdersDone}
 use Rattle.ol_order.specs.declared.table.Ring.{Ring}
 use Rattle.ol_order.specs.declared.table.Ring.the-variants as Rin
-use Rattle.ol_order.proofs.Room.{node-room}
-use Rattle.ol_order.proofs.Nodes.{place-get, length-placed, items-placed, itemOf, place-same, node-equations, front-is}
+use Rattle.ol_order.proofs.Room.{short-file, node-room, variables-room}
+use Rattle.ol_order.proofs.Nodes.{place-get, length-placed, items-placed, itemOf, place-same, node-equations, counted-few, front-is}
+use Rattle.ol_tables.specs.Heads.{Byte}
+use Rattle.ol_tables.specs.Tables.{rowAt, nodeOf, placeOf as tablePlace, slotsFrom, twoAt, plansFrom, planIn}
 use Rattle.ol_ir.specs.Walks.{placeOf}
-use Rattle.ol_ir.specs.declared.Counted.{Counted}
-use Rattle.ol_ir.specs.declared.Counted.the-variants as Cnt
 use Rattle.ol_ir.proofs.Files.{file-after}
 use Rattle.ol_ir.proofs.Items.{few-equations}
 use Rattle.ol_ir.proofs.Load.{node-read, few-nodes}
@@ -90,6 +90,50 @@ module _ {qs : List Equation} {space o : List ℕ} {first : ℕ} (starts before 
         written = f ∙ (ap (sets before 0) (so .order h) ∙ sym (ap (maybe (sets before 0 (order qs)) (λ i. before)) (so .placed h)));
       }
 
+-- ---- a part of the bytes is written
+
+abbrev pub partly : List ℕ → List ℕ → ℕ → ℕ → List ℕ
+partly o x u m = take u o ++ (x ++ drop m (drop u o))
+
+module _ (o x : List ℕ) (u m : ℕ) (h : u ≤ length o) where
+  part-inside : (j : ℕ) → j < length x → getD (partly o x u m) (u + j) 0 ≡ getD x j 0
+  part-inside j g =
+      subst (λ n. getD (partly o x u m) (n + j) 0 ≡ getD x j 0) (length-take-le u o h)
+      (getD-append-add (take u o) (x ++ drop m (drop u o)) j 0 ∙ List·getD-append x (drop m (drop u o)) 0 j g)
+
+  pub part-long : length x ≡ length (take m (drop u o)) → length (partly o x u m) ≡ length o
+  part-long e =
+      length-append (take u o) (x ++ drop m (drop u o)) ∙ omega (arith, length-take-le u o h, length-front (drop u o) x m e, length-drop u o)
+
+part-same : (o : List ℕ) (u m : ℕ) → partly o (take m (drop u o)) u m ≡ o
+part-same o u m = ap (λ (l : List ℕ). take u o ++ l) (take-append-drop m (drop u o)) ∙ take-append-drop u o
+
+-- a row written into a part is written into the whole
+part-sets : (o vs : List ℕ) (u m : ℕ) → length vs ≤ m → u + m ≤ length o → partly o (sets (take m (drop u o)) 0 vs) u m ≡ sets o u vs
+part-sets o vs u m h g =
+    let d = drop u o in
+    let len : length (take m d) ≡ m = length-take-le m d (omega (arith, length-drop u o)) in
+    let z : 0 + length vs ≡ length vs = omega arith in
+    let a : sets (take m d) 0 vs ≡ vs ++ drop (length vs) (take m d) = sets-eq vs (take m d) 0 (omega (arith, len)) ∙ ap (λ k. vs ++ drop k (take m d)) z in
+    let b : drop (length vs) (take m d) ++ drop m d ≡ drop (u + length vs) o =
+    sym (drop-append-le (length vs) (take m d) (drop m d) (omega (arith, len))) ∙ (ap (drop (length vs)) (take-append-drop m d) ∙ drop-drop (length vs) u o) in
+    ap (λ (l : List ℕ). take u o ++ (l ++ drop m d)) a
+    ∙ (ap (λ (l : List ℕ). take u o ++ l) (append-assoc vs (drop (length vs) (take m d)) (drop m d) ∙ ap (λ (l : List ℕ). vs ++ l) b)
+    ∙ (sym (append-assoc (take u o) vs (drop (u + length vs) o)) ∙ sym (sets-eq vs o u (omega arith))))
+
+part-written : (qs : List Equation) (o : List ℕ) (u m : ℕ) → length (order qs) ≤ m → u + m ≤ length o → partly o (rowWritten qs 0 (take m (drop u o))) u m ≡ rowWritten qs u o
+part-written qs o u m h g = by (unplaced qs)
+  where
+    by : (x : Option ℕ) → partly o (maybe (sets (take m (drop u o)) 0 (order qs)) (λ i. take m (drop u o)) x) u m ≡ maybe (sets o u (order qs)) (λ i. o) x
+    by none = part-sets o (order qs) u m h g
+    by (some i) = part-same o u m
+
+-- 80 bytes from u on
+pub part-80 : (o : List ℕ) (u : ℕ) → u + 80 ≤ length o → length (take (u + 80 - u) (drop u o)) ≡ 80
+part-80 o u g =
+    let z : u + 80 - u ≡ 80 = omega arith in
+    rw z (length-take-le 80 (drop u o) (omega (arith, length-drop u o)))
+
 -- ---- what a node's equations leave
 
 some-none : (g : ℕ → ℕ) (o : Option ℕ) → maybe none (λ i. some (g i)) o ≡ none → o ≡ none
@@ -100,9 +144,9 @@ module _ (s : List ℕ) (l : Limits) (enums at : ℕ) (nr : NodeReads s l enums 
   abbrev node : Node
   node = nodeAt s l enums at
 
-  module _ {x : Counted} {k q : ℕ} {t : List ℕ} (e : x ≡ Cnt.Items (length (node .equations)) (Rattle.ol_spec.specs.Places.equationsStart at node + 1)) (g : x ≡ Cnt.Items k q) (h : t ≡ lib.Seq.sets (lib.ListN.replicate 80 0) 0 (map placeOf (placedEquations at node))) where
+  module _ {k : ℕ} {t : List ℕ} (c : k ≡ length (node .equations)) (h : t ≡ sets (replicate 80 0) 0 (map placeOf (placedEquations at node))) where
     front : take k t ≡ map placeOf (placedEquations at node)
-    front = front-is s l enums at nr e g h
+    front = front-is s l enums at nr c h
 
     pub front-equations : equationsAt s l enums (take k t) ≡ node .equations
     front-equations = ap (equationsAt s l enums) front ∙ node-equations s l enums at node (nr .end) (nr .is)
@@ -126,60 +170,109 @@ module _ (s : List ℕ) (l : Limits) (enums at : ℕ) (nr : NodeReads s l enums 
         go none = refl
         go (some i) = ap some (sym (place-same (placedEquations at node) i))
 
-    pub node-done : {before out : List ℕ} {r : Ring} → EquationsDone (equationsAt s l enums (take k t)) (take k t) before out r → NodeDone at node before out r
-    node-done {before} {out} {r} d =
+    pub node-done : (tab x : List ℕ) {r : Ring} (u m : ℕ) → m ≡ 80 → u + 80 ≤ length tab → length x ≡ 80 → EquationsDone (equationsAt s l enums (take k t)) (take k t) (take m (drop u tab)) x r → NodeDone at node u tab (partly tab x u m) r
+    node-done tab x {r} u m z long lx d =
+        let few : length (order (node .equations)) ≤ length (node .equations) = subst (λ qs. length (order qs) ≤ length qs) front-equations (d .few) in
+        let all : length (node .equations) ≤ 80 = counted-few s l enums at nr refl in
         record {
           found = d .found ∙ ring-is;
-          order = λ f.
-              subst (λ qs. StartsWith qs out) front-equations
-              (d .order (some-none (λ i. getD (take k t) i 0) (unplaced (equationsAt s l enums (take k t))) (ring-is ∙ f)));
-          few = subst (λ qs. length (order qs) ≤ length qs) front-equations (d .few);
-          written = d .written ∙ ap (λ qs. rowWritten qs before) front-equations;
+          few = few;
+          order = λ f j i.
+              part-inside tab x u m (omega arith) j (omega arith)
+              ∙ subst (λ qs. StartsWith qs x) front-equations (d .order (some-none (λ i. getD (take k t) i 0) (unplaced (equationsAt s l enums (take k t))) (ring-is ∙ f))) j i;
+          written = ap (λ v. partly tab v u m) (d .written ∙ ap (λ qs. rowWritten qs 0 (take m (drop u tab))) front-equations) ∙ part-written (node .equations) tab u m (omega arith) (omega arith);
         }
 
--- ---- a part of the bytes is written
+-- ---- what a written row leaves of the bytes
 
-abbrev pub partly : List ℕ → List ℕ → ℕ → ℕ → List ℕ
-partly o x u m = take u o ++ (x ++ drop m (drop u o))
+module _ (w : ℕ) where
+  take-sets : (vs l : List ℕ) (u : ℕ) → u + length vs ≤ w → take w (sets l u vs) ≡ sets (take w l) u vs
+  take-sets [] l u h = refl
+  take-sets (v ∷ vs) l u h = take-sets vs (set l u v) (suc u) (omega arith) ∙ ap (λ (t : List ℕ). sets t (suc u) vs) (take-set-lt w l u v (omega arith))
 
-module _ (o x : List ℕ) (u m : ℕ) (h : u ≤ length o) where
-  part-before : (i : ℕ) → i < u → getD (partly o x u m) i 0 ≡ getD o i 0
-  part-before i g = List·getD-append (take u o) (x ++ drop m (drop u o)) 0 i (omega (arith, length-take-le u o h)) ∙ getD-take u o i 0 g
+  drop-sets : (vs l : List ℕ) (u : ℕ) → u + length vs ≤ w → drop w (sets l u vs) ≡ drop w l
+  drop-sets [] l u h = refl
+  drop-sets (v ∷ vs) l u h = drop-sets vs (set l u v) (suc u) (omega arith) ∙ drop-set-lt w l u v (omega arith)
 
-  part-inside : (j : ℕ) → j < length x → getD (partly o x u m) (u + j) 0 ≡ getD x j 0
-  part-inside j g =
-      subst (λ n. getD (partly o x u m) (n + j) 0 ≡ getD x j 0) (length-take-le u o h)
-      (getD-append-add (take u o) (x ++ drop m (drop u o)) j 0 ∙ List·getD-append x (drop m (drop u o)) 0 j g)
+sets-before : (vs l : List ℕ) (u i : ℕ) → i < u → getD (sets l u vs) i 0 ≡ getD l i 0
+sets-before [] l u i h = refl
+sets-before (v ∷ vs) l u i h = sets-before vs (set l u v) (suc u) i (omega arith) ∙ getD-set-other l u i v 0 (λ e. omega arith)
 
-part-same : (o : List ℕ) (u m : ℕ) → partly o (take m (drop u o)) u m ≡ o
-part-same o u m = ap (λ (l : List ℕ). take u o ++ l) (take-append-drop m (drop u o)) ∙ take-append-drop u o
+module _ {at : ℕ} {n : Node} {u : ℕ} {before out : List ℕ} {r : Ring} (d : NodeDone at n u before out r) (w : ℕ) (h : u + length (n .equations) ≤ w) where
+  few-order : u + length (order (n .equations)) ≤ w
+  few-order = omega (arith, d .few)
 
--- a row written into a part is written into the whole
-part-sets : (o vs : List ℕ) (u m : ℕ) → length vs ≤ m → u + m ≤ length o → partly o (sets (take m (drop u o)) 0 vs) u m ≡ sets o u vs
-part-sets o vs u m h g =
-    let d = drop u o in
-    let len : length (take m d) ≡ m = length-take-le m d (omega (arith, length-drop u o)) in
-    let z : 0 + length vs ≡ length vs = omega arith in
-    let a : sets (take m d) 0 vs ≡ vs ++ drop (length vs) (take m d) = sets-eq vs (take m d) 0 (omega (arith, len)) ∙ ap (λ k. vs ++ drop k (take m d)) z in
-    let b : drop (length vs) (take m d) ++ drop m d ≡ drop (u + length vs) o =
-    sym (drop-append-le (length vs) (take m d) (drop m d) (omega (arith, len))) ∙ (ap (drop (length vs)) (take-append-drop m d) ∙ drop-drop (length vs) u o) in
-    ap (λ (l : List ℕ). take u o ++ (l ++ drop m d)) a
-    ∙ (ap (λ (l : List ℕ). take u o ++ l) (append-assoc vs (drop (length vs) (take m d)) (drop m d) ∙ ap (λ (l : List ℕ). vs ++ l) b)
-    ∙ (sym (append-assoc (take u o) vs (drop (u + length vs) o)) ∙ sym (sets-eq vs o u (omega arith))))
+  -- a row inside the first w bytes is a row of these
+  pub done-front : NodeDone at n u (take w before) (take w out) r
+  done-front =
+      record {
+        found = d .found;
+        few = d .few;
+        order = λ e j i. getD-take w out (u + j) 0 (omega arith) ∙ d .order e j i;
+        written = ap (take w) (d .written) ∙ by (unplaced (n .equations));
+      }
+    where
+      by : (x : Option ℕ) → take w (maybe (sets before u (order (n .equations))) (λ i. before) x) ≡ maybe (sets (take w before) u (order (n .equations))) (λ i. take w before) x
+      by none = take-sets w (order (n .equations)) before u few-order
+      by (some i) = refl
 
--- 80 bytes of 2,560
-module _ (o : List ℕ) (u : ℕ) (h : length o ≡ 2560) (g : u + 80 ≤ 2560) where
-  pub part-80 : length (take (u + 80 - u) (drop u o)) ≡ 80
-  part-80 =
-      let z : u + 80 - u ≡ 80 = omega arith in
-      rw z (length-take-le 80 (drop u o) (omega (arith, length-drop u o)))
+  -- and those behind stay
+  pub done-behind : drop w out ≡ drop w before
+  done-behind = ap (drop w) (d .written) ∙ by (unplaced (n .equations))
+    where
+      by : (x : Option ℕ) → drop w (maybe (sets before u (order (n .equations))) (λ i. before) x) ≡ drop w before
+      by none = drop-sets w (order (n .equations)) before u few-order
+      by (some i) = refl
 
-pub part-long : (o x : List ℕ) (u : ℕ) → length o ≡ 2560 → u + 80 ≤ 2560 → length x ≡ length (take (u + 80 - u) (drop u o)) → length (partly o x u (u + 80 - u)) ≡ 2560
-part-long o x u h g e =
-    let z : u + 80 - u ≡ 80 = omega arith in
-    let a : length x ≡ 80 = e ∙ part-80 o u h g in
-    length-append (take u o) (x ++ drop (u + 80 - u) (drop u o))
-    ∙ omega (arith, a, length-take-le u o (omega arith), length-append x (drop (u + 80 - u) (drop u o)), length-drop (u + 80 - u) (drop u o), length-drop u o)
+-- ---- what a plan says
+
+-- two bytes read
+pub two-is : {t : List ℕ} {p a b : ℕ} → Byte t p a → Byte t (p + 1) b → a * 256 + b ≡ twoAt t p
+two-is {t} {p} {a} {b} x y = ap (λ v. v * 256 + b) (x .is) ∙ ap (λ v. getD t p 0 * 256 + v) (y .is)
+
+pub starts-begin : (t b : List ℕ) (plan n : ℕ) → sets b 0 (startsIn t (plan + 2 * 0) (n - 0)) ≡ sets b 0 (startsIn t plan n)
+starts-begin t b plan n =
+    let a : plan + 2 * 0 ≡ plan = omega arith in
+    let c : n - 0 ≡ n = omega arith in
+    ap (λ x. sets b 0 (startsIn t x (n - 0))) a ∙ ap (λ x. sets b 0 (startsIn t plan x)) c
+
+-- b with the starts that are left is w
+pub starts-turn : (t b w : List ℕ) (plan n i v : ℕ) → i < n → v ≡ twoAt t (plan + 2 * i) → sets b i (startsIn t (plan + 2 * i) (n - i)) ≡ w → sets (set b i v) (i + 1) (startsIn t (plan + 2 * (i + 1)) (n - (i + 1))) ≡ w
+unfolding startsIn
+starts-turn t b w plan n i v h z e =
+    let a : n - i ≡ suc (n - (i + 1)) = omega arith in
+    let c : plan + 2 * (i + 1) ≡ plan + 2 * i + 2 = omega arith in
+    let f : i + 1 ≡ suc i = omega arith in
+    ap (λ x. sets (set b i x) (i + 1) (startsIn t (plan + 2 * (i + 1)) (n - (i + 1)))) z
+    ∙ (ap (λ x. sets (set b i (twoAt t (plan + 2 * i))) (i + 1) (startsIn t x (n - (i + 1)))) c
+    ∙ (ap (λ x. sets (set b i (twoAt t (plan + 2 * i))) x (startsIn t (plan + 2 * i + 2) (n - (i + 1)))) f ∙ (ap (λ x. sets b i (startsIn t (plan + 2 * i) x)) (sym a) ∙ e)))
+
+pub starts-end : (t b w : List ℕ) (plan n i : ℕ) → n ≤ i → sets b i (startsIn t plan (n - i)) ≡ w → b ≡ w
+unfolding startsIn
+starts-end t b w plan n i h e = let z : n - i ≡ 0 = omega arith in ap (λ x. sets b i (startsIn t plan x)) (sym z) ∙ e
+
+starts-long : (t : List ℕ) (plan n : ℕ) → length (startsIn t plan n) ≡ n
+unfolding startsIn
+starts-long t plan zero = refl
+starts-long t plan (suc n) = ap suc (starts-long t (plan + 2) n)
+
+starts-get : (t : List ℕ) (plan n i : ℕ) → i < n → getD (startsIn t plan n) i 0 ≡ twoAt t (plan + 2 * i)
+unfolding startsIn
+starts-get t plan zero i h = absurd (omega arith)
+starts-get t plan (suc n) zero h = let z : plan ≡ plan + 2 * 0 = omega arith in ap (twoAt t) z
+starts-get t plan (suc n) (suc i) h = let z : plan + 2 + 2 * i ≡ plan + 2 * suc i = omega arith in starts-get t (plan + 2) n i (omega arith) ∙ ap (twoAt t) z
+
+module _ (t before : List ℕ) (from : ℕ) (e : drop 2560 t ≡ drop 2560 before) (h : 2560 ≤ from) where
+  get-kept : (p q : ℕ) → p ≡ from + q → getD t p 0 ≡ getD (drop from before) q 0
+  get-kept p q z =
+      let a : 2560 + (p - 2560) ≡ p = omega arith in
+      subst (λ x. getD t x 0 ≡ getD before x 0) a (sym (getD-drop 2560 t (p - 2560) 0) ∙ (ap (λ (l : List ℕ). getD l (p - 2560) 0) e ∙ getD-drop 2560 before (p - 2560) 0))
+      ∙ (ap (λ x. getD before x 0) z ∙ sym (getD-drop from before q 0))
+
+  -- where the bytes from 2,560 on stay, what stands from `from` on does
+  two-kept : (p q : ℕ) → p ≡ from + q → twoAt t p ≡ twoAt (drop from before) q
+  two-kept p q z =
+      ap (λ x. x * 256 + getD t (p + 1) 0) (get-kept p q z) ∙ ap (λ x. getD (drop from before) q 0 * 256 + x) (get-kept (p + 1) (q + 1) (omega arith))
 
 -- ---- the nodes, one after the other
 
@@ -250,79 +343,121 @@ module _ {s places : List ℕ} {enums : ℕ} {low : Bool} (ns : NodesStand s enu
     few-here : length (getD (file .nodes) k noNode .equations) ≤ 80
     few-here = subst (λ (n : Node). length (n .equations) ≤ 80) node-is (omega (arith, few-equations s base enums place (nodeAt s base enums place) (node-stands .end) (node-stands .is)))
 
+    pub few-read : (l : Limits) → l ≡ base → length (nodeAt s l enums place .equations) ≤ 80
+    few-read l e = subst (λ v. length (nodeAt s v enums place .equations) ≤ 80) (sym e) (subst (λ (n : Node). length (n .equations) ≤ 80) (sym node-is) few-here)
+
+    module _ {rows before : List ℕ} (pl : Planned s rows before) where
+      abbrev planned : NodePlanned file rows before k
+      planned = pl .file file (ns .end) (ns .is) k (omega (arith, as-many))
+
+      -- it starts inside the file, and so do its variables
+      pub place-short : place + rowAt rows k 4 ≤ 32768
+      place-short =
+          subst (λ n. place + n ≤ 32768) (sym (planned .variables))
+          (subst (λ (n : Node). place + length (variables n) ≤ 32768) node-is (omega (arith, variables-room s base enums place node-stands, short-file s file (ns .end) (ns .is))))
+
+      place-told : tablePlace (placedNodes file) k ≡ place
+      place-told = sym (ap (λ l. getD l k 0) (ns .placed))
+
+      abbrev starts : List ℕ
+      starts = map placeOf (placedEquations place (nodeOf file k))
+
+      starts-all : length starts ≡ rowAt rows k 5
+      starts-all = length-map (placedEquations place (nodeOf file k)) placeOf ∙ (length-placed equationSize (equationsStart place (nodeOf file k) + 1) (nodeOf file k .equations) ∙ sym (planned .count))
+
+      module _ (tab : List ℕ) (same : drop 2560 tab ≡ drop 2560 before) (short : length before < 9223372036854775808) where
+        -- where its plan starts, with so many variables
+        abbrev planWith : ℕ → ℕ
+        planWith v = slotsFrom + (length before - slotsFrom) / 2 + place + 2 * v
+
+        abbrev plan : ℕ
+        plan = planWith (rowAt rows k 4)
+
+        starts-told : startsIn tab plan (rowAt rows k 5) ≡ starts
+        starts-told =
+            let long = starts-long tab plan (rowAt rows k 5) in
+            ext-getD 0 (startsIn tab plan (rowAt rows k 5)) starts (long ∙ sym starts-all)
+            (λ i h.
+            starts-get tab plan (rowAt rows k 5) i (omega (arith, long))
+            ∙ (two-kept tab before (plansFrom before) same (omega arith) (plan + 2 * i) (planIn file k + 2 * i) (omega (arith, place-told, planned .variables))
+            ∙ (planned .places i (omega (arith, long, planned .count)) ∙ ap (λ p. getD (map placeOf (placedEquations p (nodeOf file k))) i 0) place-told)))
+
+        plan-base : PlanAt tab plan (rowAt rows k 5) place (nodeAt s base enums place)
+        plan-base =
+            subst (λ (n : Node). PlanAt tab plan (rowAt rows k 5) place n) (sym node-is) (record { short = omega (arith, place-short); count = planned .count; starts = starts-told })
+
+        pub node-plan : (l : Limits) → l ≡ base → {v n : ℕ} → v ≡ rowAt rows k 4 → n ≡ rowAt rows k 5 → PlanAt tab (planWith v) n place (nodeAt s l enums place)
+        node-plan l e {v} {n} a b =
+            subst (λ v. PlanAt tab (planWith v) n place (nodeAt s l enums place)) (sym a)
+            (subst (λ n. PlanAt tab plan n place (nodeAt s l enums place)) (sym b) (subst (λ v. PlanAt tab plan (rowAt rows k 5) place (nodeAt s v enums place)) (sym e) plan-base))
+
   -- the nodes before k have no ring, and their orders are written
   pub record Going (before : List ℕ) (k : ℕ) (orders : List ℕ) : Type 0 where
     pub inside : k ≤ length places
-    pub long : length orders ≡ 2560
     pub left : fault11 file ≡ firstSome (map ringIn (drop k (placedNodes file)))
     pub done : (i : ℕ) → i < k → OrderOf file orders i
     pub rest : ordersWritten 0 (file .nodes) before ≡ ordersWritten k (drop k (file .nodes)) orders
 
-  pub going-start : {orders : List ℕ} → length orders ≡ 2560 → Going orders 0 orders
+  pub going-start : {orders : List ℕ} → Going orders 0 orders
   unfolding fault11
-  going-start h = record { inside = omega arith; long = h; left = refl; done = λ i g. absurd (omega arith); rest = refl }
+  going-start = record { inside = omega arith; left = refl; done = λ i g. absurd (omega arith); rest = refl }
 
   module _ {before : List ℕ} {k : ℕ} {orders : List ℕ} (go : Going before k orders) where
-    module _ (h : k < length places) {l : Limits} (e : l ≡ base) {row x : List ℕ} {r : Ring} (d : NodeDone (getD places k 0) (nodeAt s l enums (getD places k 0)) row x r) where
-      done-here : NodeDone (getD places k 0) (getD (file .nodes) k noNode) row x r
-      done-here = subst (λ (n : Node). NodeDone (getD places k 0) n row x r) (node-is k h) (subst (λ v. NodeDone (getD places k 0) (nodeAt s v enums (getD places k 0)) row x r) e d)
+    module _ (h : k < length places) {l : Limits} (e : l ≡ base) {out : List ℕ} {r : Ring} (d : NodeDone (getD places k 0) (nodeAt s l enums (getD places k 0)) (k * 80) orders out r) where
+      abbrev here-node : Node
+      here-node = getD (file .nodes) k noNode
 
       abbrev here-equations : List Equation
-      here-equations = getD (file .nodes) k noNode .equations
+      here-equations = here-node .equations
+
+      done-here : NodeDone (getD places k 0) here-node (k * 80) orders out r
+      done-here = subst (λ (n : Node). NodeDone (getD places k 0) n (k * 80) orders out r) (node-is k h) (subst (λ v. NodeDone (getD places k 0) (nodeAt s v enums (getD places k 0)) (k * 80) orders out r) e d)
 
       -- what is still to be written, by whether this node has a ring
       rest-here : ordersWritten 0 (file .nodes) before ≡ maybe (ordersWritten (suc k) (drop (suc k) (file .nodes)) (sets orders (k * 80) (order here-equations))) (λ i. orders) (unplaced here-equations)
       unfolding ordersWritten
       rest-here = go .rest ∙ ap (λ ps. ordersWritten k ps orders) (drop-cons (file .nodes) k noNode (omega (arith, as-many)))
 
-      row-at : (o : Option ℕ) → unplaced here-equations ≡ o → x ≡ maybe (sets row 0 (order here-equations)) (λ i. row) o
-      row-at o u = done-here .written ∙ ap (maybe (sets row 0 (order here-equations)) (λ i. row)) u
+      out-at : (o : Option ℕ) → unplaced here-equations ≡ o → out ≡ maybe (sets orders (k * 80) (order here-equations)) (λ i. orders) o
+      out-at o u = done-here .written ∙ ap (maybe (sets orders (k * 80) (order here-equations)) (λ i. orders)) u
 
       rest-at : (o : Option ℕ) → unplaced here-equations ≡ o → ordersWritten 0 (file .nodes) before ≡ maybe (ordersWritten (suc k) (drop (suc k) (file .nodes)) (sets orders (k * 80) (order here-equations))) (λ i. orders) o
       rest-at o u = rest-here ∙ ap (maybe (ordersWritten (suc k) (drop (suc k) (file .nodes)) (sets orders (k * 80) (order here-equations))) (λ i. orders)) u
 
       -- the row of a node with a ring stays
-      ring-stays : (m p : ℕ) → row ≡ take m (drop (k * 80) orders) → ringIn (getD places k 0, getD (file .nodes) k noNode) ≡ some p → partly orders x (k * 80) m ≡ ordersWritten 0 (file .nodes) before
-      ring-stays m p w f = by (unplaced here-equations) refl
+      ring-stays : (p : ℕ) → ringIn (getD places k 0, here-node) ≡ some p → out ≡ ordersWritten 0 (file .nodes) before
+      ring-stays p f = by (unplaced here-equations) refl
         where
-          by : (o : Option ℕ) → unplaced here-equations ≡ o → partly orders x (k * 80) m ≡ ordersWritten 0 (file .nodes) before
-          by none u = let a : none ≡ some p = sym (ap (maybe none (λ i. some (placeAt (placedEquations (getD places k 0) (getD (file .nodes) k noNode)) i))) u) ∙ f in let z : _≡_ {A = ℕ} 0 1 = cc in absurd (omega arith)
-          by (some i) u = ap (λ v. partly orders v (k * 80) m) (row-at (some i) u ∙ w) ∙ (part-same orders (k * 80) m ∙ sym (rest-at (some i) u))
+          by : (o : Option ℕ) → unplaced here-equations ≡ o → out ≡ ordersWritten 0 (file .nodes) before
+          by none u = let a : none ≡ some p = sym (ap (maybe none (λ i. some (placeAt (placedEquations (getD places k 0) here-node) i))) u) ∙ f in let z : _≡_ {A = ℕ} 0 1 = cc in absurd (omega arith)
+          by (some i) u = out-at (some i) u ∙ sym (rest-at (some i) u)
 
-      -- that of another has its order
-      row-goes : (m : ℕ) → m ≡ 80 → row ≡ take m (drop (k * 80) orders) → ringIn (getD places k 0, getD (file .nodes) k noNode) ≡ none → ordersWritten 0 (file .nodes) before ≡ ordersWritten (suc k) (drop (suc k) (file .nodes)) (partly orders x (k * 80) m)
-      row-goes m z w f =
-          let u : unplaced here-equations ≡ none = some-none (λ i. placeAt (placedEquations (getD places k 0) (getD (file .nodes) k noNode)) i) (unplaced here-equations) f in
-          rest-at none u
-          ∙ ap (ordersWritten (suc k) (drop (suc k) (file .nodes)))
-          (sym (ap (λ v. partly orders v (k * 80) m) (row-at none u ∙ ap (λ v. sets v 0 (order here-equations)) w) ∙ part-sets orders (order here-equations) (k * 80) m (omega (arith, z, few-here k h, done-here .few)) (omega (arith, z, go .long, few-places))))
-
-      ring-left : fault11 file ≡ orElse (ringIn (getD places k 0, getD (file .nodes) k noNode)) (firstSome (map ringIn (drop (suc k) (placedNodes file))))
+      ring-left : fault11 file ≡ orElse (ringIn (getD places k 0, here-node)) (firstSome (map ringIn (drop (suc k) (placedNodes file))))
       ring-left = go .left ∙ ap (λ ps. firstSome (map ringIn ps)) (here-is k h)
 
-      pub going-ring : {p : ℕ} (f : File) (end m : ℕ) → row ≡ take m (drop (k * 80) orders) → readFile s relayLoader ≡ got f end → r ≡ Rin.At p → OrdersDone f before (partly orders x (k * 80) m) (Rin.At p)
-      going-ring {p} f end m w rd g =
-          let a : some p ≡ ringIn (getD places k 0, getD (file .nodes) k noNode) = ap ringPlace (sym g) ∙ done-here .found in
+      pub going-ring : {p : ℕ} (f : File) (end : ℕ) → readFile s relayLoader ≡ got f end → r ≡ Rin.At p → OrdersDone f before out (Rin.At p)
+      going-ring {p} f end rd g =
+          let a : some p ≡ ringIn (getD places k 0, here-node) = ap ringPlace (sym g) ∙ done-here .found in
           let b : fault11 file ≡ some p = ring-left ∙ ap (λ o. orElse o (firstSome (map ringIn (drop (suc k) (placedNodes file))))) (sym a) in
-          subst (λ v. OrdersDone v before (partly orders x (k * 80) m) (Rin.At p)) (same-item (sym (ns .is) ∙ rd)) (record { found = sym b; written = ring-stays m p w (sym a); order = λ n. absurd (never p (sym n ∙ b)) })
+          subst (λ v. OrdersDone v before out (Rin.At p)) (same-item (sym (ns .is) ∙ rd)) (record { found = sym b; written = ring-stays p (sym a); order = λ n. absurd (never p (sym n ∙ b)) })
         where
           never : (i : ℕ) → none ≡ some i → ⊥
           never i f = let z : _≡_ {A = ℕ} 0 1 = cc in omega arith
 
-      pub going-on : (m : ℕ) → m ≡ 80 → row ≡ take m (drop (k * 80) orders) → length x ≡ 80 → length (partly orders x (k * 80) m) ≡ 2560 → r ≡ Rin.Nothing → Going before (k + 1) (partly orders x (k * 80) m)
-      going-on m z80 w lx len g =
-          let a : none ≡ ringIn (getD places k 0, getD (file .nodes) k noNode) = ap ringPlace (sym g) ∙ done-here .found in
+      pub going-on : r ≡ Rin.Nothing → Going before (k + 1) out
+      going-on g =
+          let a : none ≡ ringIn (getD places k 0, here-node) = ap ringPlace (sym g) ∙ done-here .found in
+          let u : unplaced here-equations ≡ none = some-none (λ i. placeAt (placedEquations (getD places k 0) here-node) i) (unplaced here-equations) (sym a) in
+          let w : out ≡ sets orders (k * 80) (order here-equations) = out-at none u in
           record {
             inside = omega arith;
-            long = len;
-            rest = rw (add-one k) (row-goes m z80 w (sym a));
+            rest = rw (add-one k) (rest-at none u ∙ ap (ordersWritten (suc k) (drop (suc k) (file .nodes))) (sym w));
             left = rw add-one (ring-left ∙ ap (λ o. orElse o (firstSome (map ringIn (drop (suc k) (placedNodes file))))) (sym a));
             done = λ i u j v.
-                by-cases (decLe k i) (λ w.
+                by-cases (decLe k i) (λ x.
                 let ki : i ≡ k = omega arith in
-                subst (λ n. (j : ℕ) → j < length (getD (file .nodes) n noNode .equations) → getD (partly orders x (k * 80) m) (n * 80 + j) 0 ≡ getD (order (getD (file .nodes) n noNode .equations)) j 0) (sym ki)
-                (λ j v. part-inside orders x (k * 80) m (omega (arith, go .long, few-places)) j (omega (arith, lx, few-here k h)) ∙ done-here .order (sym a) j v) j v)
-                (λ w. part-before orders x (k * 80) m (omega (arith, go .long, few-places)) (i * 80 + j) (omega (arith, few-here i (omega arith))) ∙ go .done i (omega arith) j v);
+                subst (λ n. (j : ℕ) → j < length (getD (file .nodes) n noNode .equations) → getD out (n * 80 + j) 0 ≡ getD (order (getD (file .nodes) n noNode .equations)) j 0) (sym ki) (done-here .order (sym a)) j v)
+                (λ x. ap (λ (l : List ℕ). getD l (i * 80 + j) 0) w ∙ (sets-before (order here-equations) orders (k * 80) (i * 80 + j) (omega (arith, few-here i (omega arith))) ∙ go .done i (omega arith) j v));
           }
 
     none-left : length places ≤ k → ordersWritten k (drop k (file .nodes)) orders ≡ orders

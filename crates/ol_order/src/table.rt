@@ -11,15 +11,15 @@ use ol_tables::tables::VARIABLES;
 use ol_tables::tables::row;
 ghost use mathlib.Core.Bool.{true};
 ghost use mathlib.Core.Path.{_≡_};
-ghost use Prim.Native.Nat.{ℕ, _*_, _≤_, _<_};
-ghost use lib.ListN.{length};
+ghost use Prim.Native.Nat.{ℕ, _+_, _*_, _≤_, _<_};
+ghost use lib.ListN.{length, take, drop};
 ghost use lib.Seq.{sets};
 ghost use Rattle.ol_spec.specs.Syntax.{File};
 ghost use Rattle.ol_spec.specs.Limits.{relayLoader};
 ghost use Rattle.ol_spec.specs.Read.{got, readFile};
 ghost use Rattle.ol_order.specs.Tables.{equationsAt, nodeAt, waitedAll};
 ghost use Rattle.ol_order.specs.Post.{Readable, NodeReads};
-ghost use Rattle.ol_order.specs.Orders.{Small, LowNames, EquationsDone, NodeDone, NodesStand, OrdersDone};
+ghost use Rattle.ol_order.specs.Orders.{Small, LowNames, EquationsDone, startsIn, PlanAt, NodeDone, NodesStand, Planned, OrdersDone};
 
 // The place of the first equation that is never placed, if there is one.
 pub enum Ring {
@@ -27,8 +27,9 @@ pub enum Ring {
     Nothing,
 }
 
-// Where the slots start behind the orders and the types; as many bytes behind them have the plans.
-const PLANNED: usize = 9728;
+// Where the slots start, behind the orders and the types; the plans have the second half of the bytes
+// from there on.
+const SLOTS_FROM: usize = 9728;
 
 // Copies an order into bytes, from their front on.
 fn copy_bytes(order: &[usize], out: &mut [u8])
@@ -85,7 +86,8 @@ fn order_starts(
 
 // Where n equations start, as their plan, which is written from `plan` on, tells.
 fn starts_of(tab: &[u8], plan: usize, n: usize, starts: &mut [usize])
-    requires { ⌜ (plan < 1048576) × (n ≤ length (now starts)) × (n ≤ 80) ⌝ }
+    requires { ⌜ plan < 9223372036854775808 ⌝ }
+    requires { ⌜ n ≤ length (now starts) ⌝ }
     ensures { λ _. ⌜ now (starts .exit) ≡ sets (now (starts .entry)) 0 (startsIn (now (tab .entry)) plan n) ⌝ }
 {
     let mut i = 0;
@@ -110,6 +112,13 @@ fn order_row(
     from: usize,
     tab: &mut [u8],
 ) -> Ring
+    requires { ⌜ NodeReads (now file) limits enums at ⌝ }
+    requires { ⌜ (low ≡ true → LowNames (nodeAt (now file) limits enums at .equations)) ⌝ }
+    requires { ⌜ length (now file) ≤ 3 * length (now lists) ⌝ }
+    requires { ⌜ PlanAt (now tab) plan n at (nodeAt (now file) limits enums at) ⌝ }
+    requires { ⌜ from + 80 ≤ length (now tab) ⌝ }
+    ensures order { λ r. ⌜ NodeDone at (nodeAt (now (file .entry)) limits enums at) from (now (tab .entry)) (now (tab .exit)) r ⌝ }
+    ensures lists { λ _. ⌜ now (lists .exit) ≡ sets (now (lists .entry)) 0 (waitedAll (nodeAt (now (file .entry)) limits enums at .equations) (nodeAt (now (file .entry)) limits enums at .equations)) ⌝ }
 {
     let mut space = [0usize; 80];
     starts_of(tab, plan, n, &mut space);
@@ -136,14 +145,18 @@ fn orders_with(
     tab: &mut [u8],
 ) -> Ring
     requires { ⌜ NodesStand (now file) enums (now places) low ⌝ }
+    requires { ⌜ Planned (now file) (now rows) (now tab) ⌝ }
     requires { ⌜ length (now file) ≤ 3 * length (now lists) ⌝ }
+    ensures { λ r. ⌜ ((f : File) (end : ℕ) → readFile (now (file .entry)) relayLoader ≡ got f end → OrdersDone f (take 2560 (now (tab .entry))) (take 2560 (now (tab .exit))) r) ⌝ }
+    ensures kept { λ r. ⌜ drop 2560 (now (tab .exit)) ≡ drop 2560 (now (tab .entry)) ⌝ }
 {
     let limits = base();
-    let plans = PLANNED + (tab.len() - PLANNED) / 2;
+    let plans = SLOTS_FROM + (tab.len() - SLOTS_FROM) / 2;
     let mut k = 0;
     while k < places.len() {
         let at = places[k];
         let plan = plans + at + 2 * row(rows, k, VARIABLES);
+        let from = k * MOST_EQUATIONS;
         match order_row(
             file,
             limits,
@@ -153,7 +166,7 @@ fn orders_with(
             plan,
             low,
             lists,
-            k * MOST_EQUATIONS,
+            from,
             tab,
         ) {
             Ring::At(p) => {
@@ -180,8 +193,9 @@ fn orders_long(
     tab: &mut [u8],
 ) -> Ring
     requires { ⌜ NodesStand (now file) enums (now places) low ⌝ }
-    requires { ⌜ length (now orders) ≡ 2560 ⌝ }
-    ensures { λ r. ⌜ ((f : File) (end : ℕ) → readFile (now (file .entry)) relayLoader ≡ got f end → OrdersDone f (now (orders .entry)) (now (orders .exit)) r) ⌝ }
+    requires { ⌜ Planned (now file) (now rows) (now tab) ⌝ }
+    ensures { λ r. ⌜ ((f : File) (end : ℕ) → readFile (now (file .entry)) relayLoader ≡ got f end → OrdersDone f (take 2560 (now (tab .entry))) (take 2560 (now (tab .exit))) r) ⌝ }
+    ensures kept { λ r. ⌜ drop 2560 (now (tab .exit)) ≡ drop 2560 (now (tab .entry)) ⌝ }
 {
     if 0 < turns {
         orders_long(turns - 1, file, enums, places, rows, low, tab)
@@ -203,8 +217,9 @@ pub fn orders_of(
     tab: &mut [u8],
 ) -> Ring
     requires { ⌜ NodesStand (now file) enums (now places) low ⌝ }
-    requires { ⌜ length (now orders) ≡ 2560 ⌝ }
-    ensures { λ r. ⌜ ((f : File) (end : ℕ) → readFile (now (file .entry)) relayLoader ≡ got f end → OrdersDone f (now (orders .entry)) (now (orders .exit)) r) ⌝ }
+    requires { ⌜ Planned (now file) (now rows) (now tab) ⌝ }
+    ensures { λ r. ⌜ ((f : File) (end : ℕ) → readFile (now (file .entry)) relayLoader ≡ got f end → OrdersDone f (take 2560 (now (tab .entry))) (take 2560 (now (tab .exit))) r) ⌝ }
+    ensures kept { λ r. ⌜ drop 2560 (now (tab .exit)) ≡ drop 2560 (now (tab .entry)) ⌝ }
 {
     if file.len() <= 1536 {
         let mut lists = [0u8; 512];

@@ -6,7 +6,7 @@ use lib.Seq.{length-take-le, sets}
 use borrow.Author.Needs.{needs}
 use Rattle.ol_spec.specs.Cycle.{OrderingCall}
 use Rattle.ol_ir.proofs.Skips.{starts-told, starts-are}
-use Rattle.ol_order.proofs.Nodes.{counted-few, front-readable, front-order, not-counted}
+use Rattle.ol_order.proofs.Nodes.{as-counted, counted-few, front-readable, front-order, not-counted}
 use Rattle.ol_order.proofs.Rows.{front-room}
 -- </uses>
 use borrow.Author.Needs.{needs}
@@ -33,19 +33,19 @@ enum-known-n c = search needs
 array-share-prefix-space : tie.Need-array-share-prefix-space
 array-share-prefix-space c =
     let start = c .before .before .before .before .before .before .before .before in
-    omega (arith, (counted-few (start .args .file .now) (start .args .limits) (start .args .enums) (start .args .at) (start .pre .0) (starts-told (start .args .file .now) (start .args .limits) (start .args .enums) (start .args .at) _ _ (start .pre .0 .is) (c .before .before .before .before .equation-starts .ensures .0)) (c .before .n .given .1) (c .before .before .before .before .equation-starts .ensures .1 ∙ ap (sets (replicate 80 0) 0) (starts-are (start .args .file .now) (start .args .limits) (start .args .enums) (start .args .at) _ _ (start .pre .0 .is)))), c .before .before .before .before .equation-starts .kept .1 .1 .1 .1 .0)
+    omega (arith, (counted-few (start .args .file .now) (start .args .limits) (start .args .enums) (start .args .at) (start .pre .0) (as-counted (start .args .file .now) (start .args .limits) (start .args .enums) (start .args .at) (start .pre .0) (starts-told (start .args .file .now) (start .args .limits) (start .args .enums) (start .args .at) _ _ (start .pre .0 .is) (c .before .before .before .before .equation-starts .ensures .0)) (c .before .n .given .1))), c .before .before .before .before .equation-starts .kept .1 .1 .1 .1 .0)
 
 -- src/lib.rt:401:70
 slice-aggregate-order-equations : tie.Need-slice-aggregate-order-equations
 slice-aggregate-order-equations c =
     let start = c .before .before .before .before .before .before .before .before .before in
-    sym (length-take-le _ _ (omega (arith, (counted-few (start .args .file .now) (start .args .limits) (start .args .enums) (start .args .at) (start .pre .0) (starts-told (start .args .file .now) (start .args .limits) (start .args .enums) (start .args .at) _ _ (start .pre .0 .is) (c .before .before .before .before .before .equation-starts .ensures .0)) (c .before .before .n .given .1) (c .before .before .before .before .before .equation-starts .ensures .1 ∙ ap (sets (replicate 80 0) 0) (starts-are (start .args .file .now) (start .args .limits) (start .args .enums) (start .args .at) _ _ (start .pre .0 .is)))), c .before .before .before .before .before .equation-starts .kept .1 .1 .1 .1 .0)))
+    sym (length-take-le _ _ (omega (arith, (counted-few (start .args .file .now) (start .args .limits) (start .args .enums) (start .args .at) (start .pre .0) (as-counted (start .args .file .now) (start .args .limits) (start .args .enums) (start .args .at) (start .pre .0) (starts-told (start .args .file .now) (start .args .limits) (start .args .enums) (start .args .at) _ _ (start .pre .0 .is) (c .before .before .before .before .before .equation-starts .ensures .0)) (c .before .before .n .given .1))), c .before .before .before .before .before .equation-starts .kept .1 .1 .1 .1 .0)))
 
 -- src/lib.rt:401:33
 order-equations-requires : tie.Need-order-equations-requires
 order-equations-requires c κs =
     let start = c .before .before .before .before .before .before .before .before .before .before in
-    (front-readable (start .args .file .now) (start .args .limits) (start .args .enums) (start .args .at) (start .pre .0) (starts-told (start .args .file .now) (start .args .limits) (start .args .enums) (start .args .at) _ _ (start .pre .0 .is) (c .before .before .before .before .before .before .equation-starts .ensures .0)) (c .before .before .before .n .given .1) (c .before .before .before .before .before .before .equation-starts .ensures .1 ∙ ap (sets (replicate 80 0) 0) (starts-are (start .args .file .now) (start .args .limits) (start .args .enums) (start .args .at) _ _ (start .pre .0 .is))), omega (arith, start .pre .1, front-room (start .args .file .now) (start .args .limits) (start .args .enums) (start .args .at) (start .pre .0) (starts-told (start .args .file .now) (start .args .limits) (start .args .enums) (start .args .at) _ _ (start .pre .0 .is) (c .before .before .before .before .before .before .equation-starts .ensures .0)) (c .before .before .before .n .given .1) (c .before .before .before .before .before .before .equation-starts .ensures .1 ∙ ap (sets (replicate 80 0) 0) (starts-are (start .args .file .now) (start .args .limits) (start .args .enums) (start .args .at) _ _ (start .pre .0 .is)))))
+    (front-readable (start .args .file .now) (start .args .limits) (start .args .enums) (start .args .at) (start .pre .0) (as-counted (start .args .file .now) (start .args .limits) (start .args .enums) (start .args .at) (start .pre .0) (starts-told (start .args .file .now) (start .args .limits) (start .args .enums) (start .args .at) _ _ (start .pre .0 .is) (c .before .before .before .before .before .before .equation-starts .ensures .0)) (c .before .before .before .n .given .1)) (c .before .before .before .before .before .before .equation-starts .ensures .1 ∙ ap (sets (replicate 80 0) 0) (starts-are (start .args .file .now) (start .args .limits) (start .args .enums) (start .args .at) _ _ (start .pre .0 .is))), omega (arith, start .pre .1, front-room (start .args .file .now) (start .args .limits) (start .args .enums) (start .args .at) (start .pre .0) (as-counted (start .args .file .now) (start .args .limits) (start .args .enums) (start .args .at) (start .pre .0) (starts-told (start .args .file .now) (start .args .limits) (start .args .enums) (start .args .at) _ _ (start .pre .0 .is) (c .before .before .before .before .before .before .equation-starts .ensures .0)) (c .before .before .before .n .given .1)) (c .before .before .before .before .before .before .equation-starts .ensures .1 ∙ ap (sets (replicate 80 0) 0) (starts-are (start .args .file .now) (start .args .limits) (start .args .enums) (start .args .at) _ _ (start .pre .0 .is)))))
 
 -- src/lib.rt:402:26
 enum-known-f : tie.Need-enum-known-f
@@ -59,7 +59,7 @@ same-length c = search needs
 returns : tie.Need-returns
 returns c =
     let start = c .before .before .before .before .before .before .before .before .before .before .before .before .before in
-    (c .before .before .order-equations .ensures .0 ∙ ap (λ (c : OrderingCall). c .answer) (front-order (start .args .file .now) (start .args .limits) (start .args .enums) (start .args .at) (start .pre .0) (starts-told (start .args .file .now) (start .args .limits) (start .args .enums) (start .args .at) _ _ (start .pre .0 .is) (c .before .before .before .before .before .before .before .before .before .equation-starts .ensures .0)) (c .before .before .before .before .before .before .n .given .1) (c .before .before .before .before .before .before .before .before .before .equation-starts .ensures .1 ∙ ap (sets (replicate 80 0) 0) (starts-are (start .args .file .now) (start .args .limits) (start .args .enums) (start .args .at) _ _ (start .pre .0 .is))) (start .args .buffer .now)), c .before .before .order-equations .ensures .1 ∙ ap (λ (c : OrderingCall). c .buffer) (front-order (start .args .file .now) (start .args .limits) (start .args .enums) (start .args .at) (start .pre .0) (starts-told (start .args .file .now) (start .args .limits) (start .args .enums) (start .args .at) _ _ (start .pre .0 .is) (c .before .before .before .before .before .before .before .before .before .equation-starts .ensures .0)) (c .before .before .before .before .before .before .n .given .1) (c .before .before .before .before .before .before .before .before .before .equation-starts .ensures .1 ∙ ap (sets (replicate 80 0) 0) (starts-are (start .args .file .now) (start .args .limits) (start .args .enums) (start .args .at) _ _ (start .pre .0 .is))) (start .args .buffer .now)))
+    (c .before .before .order-equations .ensures .0 ∙ ap (λ (c : OrderingCall). c .answer) (front-order (start .args .file .now) (start .args .limits) (start .args .enums) (start .args .at) (start .pre .0) (as-counted (start .args .file .now) (start .args .limits) (start .args .enums) (start .args .at) (start .pre .0) (starts-told (start .args .file .now) (start .args .limits) (start .args .enums) (start .args .at) _ _ (start .pre .0 .is) (c .before .before .before .before .before .before .before .before .before .equation-starts .ensures .0)) (c .before .before .before .before .before .before .n .given .1)) (c .before .before .before .before .before .before .before .before .before .equation-starts .ensures .1 ∙ ap (sets (replicate 80 0) 0) (starts-are (start .args .file .now) (start .args .limits) (start .args .enums) (start .args .at) _ _ (start .pre .0 .is))) (start .args .buffer .now)), c .before .before .order-equations .ensures .1 ∙ ap (λ (c : OrderingCall). c .buffer) (front-order (start .args .file .now) (start .args .limits) (start .args .enums) (start .args .at) (start .pre .0) (as-counted (start .args .file .now) (start .args .limits) (start .args .enums) (start .args .at) (start .pre .0) (starts-told (start .args .file .now) (start .args .limits) (start .args .enums) (start .args .at) _ _ (start .pre .0 .is) (c .before .before .before .before .before .before .before .before .before .equation-starts .ensures .0)) (c .before .before .before .before .before .before .n .given .1)) (c .before .before .before .before .before .before .before .before .before .equation-starts .ensures .1 ∙ ap (sets (replicate 80 0) 0) (starts-are (start .args .file .now) (start .args .limits) (start .args .enums) (start .args .at) _ _ (start .pre .0 .is))) (start .args .buffer .now)))
 
 -- src/lib.rt:393:1
 returns-2 : tie.Need-returns-2

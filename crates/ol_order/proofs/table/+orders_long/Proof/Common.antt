@@ -5,13 +5,13 @@ use borrow.Fn.PlainCycle.{Measures, is, falls, and}
 use Rattle.ol_order.proofs.table.orders_long.Reads as orders-long
 use Rattle.ol_order.proofs.table.orders_long.Kinds as orders-long-kinds
 
-abbrev pub μ-orders-long : Measures 3 orders-long-kinds.ps ℕ
+abbrev pub μ-orders-long : Measures 4 orders-long-kinds.ps ℕ
 μ-orders-long κs a = a .0
 
-abbrev pub orders-long-at : ℕ → In 3 orders-long-kinds.ps
+abbrev pub orders-long-at : ℕ → In 4 orders-long-kinds.ps
 orders-long-at t =
-    and 3 orders-long-kinds.ps (is 3 orders-long-kinds.ps μ-orders-long t) orders-long.Pre
+    and 4 orders-long-kinds.ps (is 4 orders-long-kinds.ps μ-orders-long t) orders-long.Pre
 
-abbrev pub orders-long-below : ℕ → In 3 orders-long-kinds.ps
+abbrev pub orders-long-below : ℕ → In 4 orders-long-kinds.ps
 orders-long-below t =
-    and 3 orders-long-kinds.ps (falls 3 orders-long-kinds.ps _<_ μ-orders-long t) orders-long.Pre
+    and 4 orders-long-kinds.ps (falls 4 orders-long-kinds.ps _<_ μ-orders-long t) orders-long.Pre

@@ -21,7 +21,7 @@ sub-orders-long t c = omega (arith, c .if1 .taken)
 
 pub orders-long-requires : (t : ℕ) → orders-long-lts.Need-orders-long-requires (Q t) (orders-long-at t) orders-long.Post
 orders-long-requires t c κs =
-    let start = c .before .before .before .before .before in
+    let start = c .before .before .before .before .before .before in
     (omega (arith, c .before .if1 .taken, start .pre .0), start .pre .1)
 
 pub slice-aggregate-orders-with : (t : ℕ) → orders-long-lts.Need-slice-aggregate-orders-with (Q t) (orders-long-at t) orders-long.Post
@@ -29,17 +29,17 @@ slice-aggregate-orders-with t c = sym (length-replicate {A = ℕ} 10923 0)
 
 pub orders-with-requires : (t : ℕ) → orders-long-lts.Need-orders-with-requires (Q t) (orders-long-at t) orders-long.Post
 orders-with-requires t c κs =
-    let start = c .before .before .before .before .before .before in
-    ((start .pre .1 .0), (omega (arith, short-file (start .args .file .now) ((start .pre .1 .0) .file) ((start .pre .1 .0) .end) ((start .pre .1 .0) .is), length-replicate {A = ℕ} 10923 0), start .pre .1 .1))
+    let start = c .before .before .before .before .before .before .before in
+    ((start .pre .1 .0), (start .pre .1 .1, omega (arith, short-file (start .args .file .now) ((start .pre .1 .0) .file) ((start .pre .1 .0) .end) ((start .pre .1 .0) .is), length-replicate {A = ℕ} 10923 0)))
 
 pub same-length : (t : ℕ) → orders-long-lts.Need-same-length (Q t) (orders-long-at t) orders-long.Post
-same-length t c = c .before .before .orders-long .kept .1 .1 .1 .1 .1 .0
+same-length t c = c .before .before .orders-long .kept .1 .1 .1 .1 .1 .1 .0
 
 pub returns : (t : ℕ) → orders-long-lts.Need-returns (Q t) (orders-long-at t) orders-long.Post
 returns t c = c .before .before .orders-long .ensures
 
 pub same-length-2 : (t : ℕ) → orders-long-lts.Need-same-length-2 (Q t) (orders-long-at t) orders-long.Post
-same-length-2 t c = c .before .before .before .orders-with .kept .1 .1 .1 .1 .1 .0
+same-length-2 t c = c .before .before .before .orders-with .kept .1 .1 .1 .1 .1 .1 .0
 
 pub returns-2 : (t : ℕ) → orders-long-lts.Need-returns-2 (Q t) (orders-long-at t) orders-long.Post
 returns-2 t c = c .before .before .before .orders-with .ensures
