@@ -113,12 +113,13 @@ module _ {s places rows t : List ℕ} {enums main : ℕ} {c : Sections} {low : B
   front-in = omega (arith, h .sections .tabLong)
 
   -- the plans, as the table from the orders on has them
-  half-is : {u : List ℕ} → length u ≡ length t → (length (tabOf u) - 9728) / 2 ≡ halfOf t
-  half-is {u} e = omega (arith, e, length-drop 1393 u)
+  half-is : (u : List ℕ) → length u ≡ length t → (length (tabOf u) - 9728) / 2 ≡ halfOf t
+  half-is u e = omega (arith, e, length-drop 1393 u)
 
   plans-in : (u : List ℕ) → length u ≡ length t → drop 11121 u ≡ drop 11121 t → Tables.plansOf (tabOf u) ≡ plansOf t
   plans-in u e d =
-      ap (λ m. drop (9728 + m) (tabOf u)) (half-is e) ∙ drop-drop (9728 + halfOf t) 1393 u ∙ ap (λ n. drop n u) (omega arith) ∙ sym (drop-drop (halfOf t) 11121 u) ∙ ap (drop (halfOf t)) d
+      let n : 1393 + (9728 + halfOf t) ≡ 11121 + halfOf t = omega arith in
+      ap (λ m. drop (9728 + m) (tabOf u)) (half-is u e) ∙ drop-drop (9728 + halfOf t) 1393 u ∙ ap (λ m. drop m u) n ∙ sym (drop-drop (halfOf t) 11121 u) ∙ ap (drop (halfOf t)) d
 
   plan-of : (k : ℕ) → k < length (fileAt s .nodes) → PlanOf (fileAt s) (plansOf t) k
   plan-of k lt = h .plans .planned (h .sound .no9) k lt
@@ -135,7 +136,7 @@ module _ {s places rows t : List ℕ} {enums main : ℕ} {c : Sections} {low : B
             });
       }
 
-  module _ {before x : List ℕ} {r : Ring} (same : length x ≡ length (tailOf 1393 t)) (o : OrdersDone (fileAt s) before (take 2560 x) r) (kept : drop 2560 x ≡ drop 2560 (tailOf 1393 t)) where
+  module _ (x : List ℕ) {before : List ℕ} {r : Ring} (same : length x ≡ length (tailOf 1393 t)) (o : OrdersDone (fileAt s) before (take 2560 x) r) (kept : drop 2560 x ≡ drop 2560 (tailOf 1393 t)) where
     -- the table with the orders
     abbrev ordered : List ℕ
     ordered = putTail 1393 t x
