@@ -91,7 +91,7 @@ pub fn eval(
         let p = at + 1;
         let next = at + 3;
         Step {
-            out: present(file, tab, frame, p),
+            out: same_out(present(file, tab, frame, p)),
             next: next,
             used: 0,
         }
@@ -150,7 +150,7 @@ fn eval_form(
         _ => {
             let s = pass(file, tab, at, level);
             Step {
-                out: leaf_out(file, tab, at, level, frame),
+                out: same_out(leaf_out(file, tab, at, level, frame)),
                 next: s.next,
                 used: s.used,
             }

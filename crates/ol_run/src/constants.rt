@@ -75,6 +75,9 @@ pub fn constant_values(file: &[u8], tab: &mut [u8], nodes: usize, at: usize, cou
     ensures { λ r. ⌜ ConstantsAre count (constants (fileAt (now (file .entry)))) r (constsOf (now (tab .exit))) × SameTables (now (tab .entry)) (now (tab .exit)) ⌝ }
 {
     tab[KNOWN] = 0;
+    if count == 0 {
+        return Found::All;
+    }
     let mut frame = [0u8; FRAME];
     set_frame(&mut frame, nodes, true);
     let mut pos = at;

@@ -97,13 +97,13 @@ pub +call-equation+call-function+enter+equation+eval+eval-all+eval-call+eval-fir
     (λ t. call-function-lts.spec (CallFunction.Q t) (call-function-at t) call-function.Post (CallFunction.row-requires t) (CallFunction.fresh-frame-requires t) (CallFunction.run-requires t) (CallFunction.row-requires-2 t) (CallFunction.copy-outputs-requires t) (CallFunction.same-length t) (CallFunction.returns t))
     (λ t. enter-lts.spec (Enter.Q t) (enter-at t) enter.Post (Enter.add-p t) (Enter.shared-slice-read-number t) (Enter.number-requires t) (Enter.row-requires t) (Enter.sub-eval-all t) (Enter.sub-eval-all-2 t) (Enter.part-eval-all-start t) (Enter.part-eval-all-end t) (Enter.sub-eval-all-3 t) (Enter.part-eval-all-start-2 t) (Enter.part-eval-all-end-2 t) (Enter.eval-all-requires t) (Enter.add-used t) (Enter.enum-told t) (Enter.slice-aggregate-step-site t) (Enter.slice-relend-prefix-step-site t) (Enter.slice-aggregate-step-site-2 t) (Enter.step-site-requires t) (Enter.same-length t) (Enter.returns t) (Enter.same-length-2 t) (Enter.returns-2 t))
     (λ t. equation-lts.spec (Equation.Q t) (equation-at t) equation.Post (Equation.shared-slice-read-number t) (Equation.number-requires t) (Equation.add-rhs t) (Equation.mul-rhs t) (Equation.add-rhs-2 t) (Equation.shared-slice-read-code t) (Equation.call-equation-requires t) (Equation.tuple-equation-requires t) (Equation.eval-requires t) (Equation.add-bind-out t) (Equation.bind-out-requires t) (Equation.same-length t) (Equation.returns t) (Equation.same-length-2 t) (Equation.returns-2 t) (Equation.same-length-3 t) (Equation.returns-3 t))
-    (λ t. eval-lts.spec (Eval.Q t) (eval-at t) eval.Post (Eval.shared-slice-read-code t) (Eval.add-p t) (Eval.add-next t) (Eval.present-requires t) (Eval.eval-form-requires t) (Eval.returns t) (Eval.same-length t) (Eval.returns-2 t))
+    (λ t. eval-lts.spec (Eval.Q t) (eval-at t) eval.Post (Eval.shared-slice-read-code t) (Eval.add-p t) (Eval.add-next t) (Eval.present-requires t) (Eval.same-out-requires t) (Eval.eval-form-requires t) (Eval.returns t) (Eval.same-length t) (Eval.returns-2 t))
     (λ t. eval-all-lts.spec (EvalAll.Q t) (eval-all-at t) eval-all.Post
     EvalAll.Inv-loop
     EvalAll.μ-loop (EvalAll.shared-slice-read-fits t) (EvalAll.add-p t) (EvalAll.shared-slice-read-number t) (EvalAll.number-requires t) (EvalAll.head-requires t) (EvalAll.loop-holds t) (EvalAll.sub-eval t) (EvalAll.part-eval-start t) (EvalAll.part-eval-end t) (EvalAll.sub-eval-2 t) (EvalAll.part-eval-start-2 t) (EvalAll.part-eval-end-2 t) (EvalAll.eval-requires t) (EvalAll.add-used t) (EvalAll.enum-known-o t) (EvalAll.passed-requires t) (EvalAll.mul-write-cell t) (EvalAll.write-cell-requires t) (EvalAll.enum-told t) (EvalAll.sub-pass-all t) (EvalAll.sub-pass-all-2 t) (EvalAll.pass-all-requires t) (EvalAll.add-t39 t) (EvalAll.same-length t) (EvalAll.returns t) (EvalAll.enum-told-2 t) (EvalAll.sub-pass-all-3 t) (EvalAll.sub-pass-all-4 t) (EvalAll.pass-all-requires-2 t) (EvalAll.add-t42 t) (EvalAll.same-length-2 t) (EvalAll.returns-2 t) (EvalAll.add-i t) (EvalAll.loop-less t) (EvalAll.loop-again t) (EvalAll.same-length-3 t) (EvalAll.returns-3 t))
     (λ t. eval-call-lts.spec (EvalCall.Q t) (eval-call-at t) eval-call.Post (EvalCall.enter-requires t) (EvalCall.add-p t) (EvalCall.shared-slice-read-number t) (EvalCall.number-requires t) (EvalCall.row-requires t) (EvalCall.slice-aggregate-single-out t) (EvalCall.single-out-requires t) (EvalCall.same-length t) (EvalCall.returns t))
     (λ t. eval-first-lts.spec (EvalFirst.Q t) (eval-first-at t) eval-first.Post (EvalFirst.eval-requires t) (EvalFirst.chosen-requires t) (EvalFirst.pass-requires t) (EvalFirst.runs-requires t) (EvalFirst.sub-step-untaken t) (EvalFirst.part-step-untaken-start t) (EvalFirst.part-step-untaken-end t) (EvalFirst.sub-step-untaken-2 t) (EvalFirst.part-step-untaken-start-2 t) (EvalFirst.part-step-untaken-end-2 t) (EvalFirst.step-untaken-requires t) (EvalFirst.drop-failure-requires t) (EvalFirst.add-t20 t) (EvalFirst.add-t28 t) (EvalFirst.same-length t) (EvalFirst.returns t) (EvalFirst.same-length-2 t) (EvalFirst.returns-2 t))
-    (λ t. eval-form-lts.spec (EvalForm.Q t) (eval-form-at t) eval-form.Post (EvalForm.shared-slice-read-code t) (EvalForm.add-p t) (EvalForm.shared-slice-read-op t) (EvalForm.add-eval-form t) (EvalForm.sub-eval-form t) (EvalForm.eval-form-requires t) (EvalForm.unary-out-requires t) (EvalForm.sub-eval-two t) (EvalForm.eval-two-requires t) (EvalForm.sub-eval-if t) (EvalForm.eval-if-requires t) (EvalForm.is-first-requires t) (EvalForm.sub-eval-first t) (EvalForm.eval-first-requires t) (EvalForm.sub-eval-second t) (EvalForm.eval-second-requires t) (EvalForm.shared-slice-read-t t) (EvalForm.ty-size-requires t) (EvalForm.add-q t) (EvalForm.sub-eval-form-2 t) (EvalForm.eval-form-requires-2 t) (EvalForm.cast-out-requires t) (EvalForm.eval-call-requires t) (EvalForm.pass-requires t) (EvalForm.leaf-out-requires t) (EvalForm.same-length t) (EvalForm.returns t) (EvalForm.same-length-2 t) (EvalForm.returns-2 t) (EvalForm.same-length-3 t) (EvalForm.returns-3 t) (EvalForm.same-length-4 t) (EvalForm.returns-4 t) (EvalForm.same-length-5 t) (EvalForm.returns-5 t) (EvalForm.same-length-6 t) (EvalForm.returns-6 t) (EvalForm.same-length-7 t) (EvalForm.returns-7 t) (EvalForm.returns-8 t))
+    (λ t. eval-form-lts.spec (EvalForm.Q t) (eval-form-at t) eval-form.Post (EvalForm.shared-slice-read-code t) (EvalForm.add-p t) (EvalForm.shared-slice-read-op t) (EvalForm.add-eval-form t) (EvalForm.sub-eval-form t) (EvalForm.eval-form-requires t) (EvalForm.unary-out-requires t) (EvalForm.sub-eval-two t) (EvalForm.eval-two-requires t) (EvalForm.sub-eval-if t) (EvalForm.eval-if-requires t) (EvalForm.is-first-requires t) (EvalForm.sub-eval-first t) (EvalForm.eval-first-requires t) (EvalForm.sub-eval-second t) (EvalForm.eval-second-requires t) (EvalForm.shared-slice-read-t t) (EvalForm.ty-size-requires t) (EvalForm.add-q t) (EvalForm.sub-eval-form-2 t) (EvalForm.eval-form-requires-2 t) (EvalForm.cast-out-requires t) (EvalForm.eval-call-requires t) (EvalForm.pass-requires t) (EvalForm.leaf-out-requires t) (EvalForm.same-out-requires t) (EvalForm.same-length t) (EvalForm.returns t) (EvalForm.same-length-2 t) (EvalForm.returns-2 t) (EvalForm.same-length-3 t) (EvalForm.returns-3 t) (EvalForm.same-length-4 t) (EvalForm.returns-4 t) (EvalForm.same-length-5 t) (EvalForm.returns-5 t) (EvalForm.same-length-6 t) (EvalForm.returns-6 t) (EvalForm.same-length-7 t) (EvalForm.returns-7 t) (EvalForm.returns-8 t))
     (λ t. eval-if-lts.spec (EvalIf.Q t) (eval-if-at t) eval-if.Post (EvalIf.eval-requires t) (EvalIf.test-of-requires t) (EvalIf.enum-told t) (EvalIf.sub-eval-first t) (EvalIf.part-eval-first-start t) (EvalIf.part-eval-first-end t) (EvalIf.sub-eval-first-2 t) (EvalIf.part-eval-first-start-2 t) (EvalIf.part-eval-first-end-2 t) (EvalIf.eval-first-requires t) (EvalIf.same-out-requires t) (EvalIf.add-t22 t) (EvalIf.enum-told-2 t) (EvalIf.sub-eval-second t) (EvalIf.part-eval-second-start t) (EvalIf.part-eval-second-end t) (EvalIf.sub-eval-second-2 t) (EvalIf.part-eval-second-start-2 t) (EvalIf.part-eval-second-end-2 t) (EvalIf.eval-second-requires t) (EvalIf.same-out-requires-2 t) (EvalIf.add-t31 t) (EvalIf.enum-told-3 t) (EvalIf.pass-all-requires t) (EvalIf.untested-requires t) (EvalIf.add-t40 t) (EvalIf.same-length t) (EvalIf.returns t) (EvalIf.same-length-2 t) (EvalIf.returns-2 t) (EvalIf.same-length-3 t) (EvalIf.returns-3 t))
     (λ t. eval-second-lts.spec (EvalSecond.Q t) (eval-second-at t) eval-second.Post (EvalSecond.pass-requires t) (EvalSecond.sub-eval t) (EvalSecond.part-eval-start t) (EvalSecond.part-eval-end t) (EvalSecond.sub-eval-2 t) (EvalSecond.part-eval-start-2 t) (EvalSecond.part-eval-end-2 t) (EvalSecond.eval-requires t) (EvalSecond.chosen-requires t) (EvalSecond.runs-requires t) (EvalSecond.slice-aggregate-step-untaken t) (EvalSecond.slice-relend-prefix-step-untaken t) (EvalSecond.slice-aggregate-step-untaken-2 t) (EvalSecond.step-untaken-requires t) (EvalSecond.drop-failure-requires t) (EvalSecond.add-t30 t) (EvalSecond.add-t31 t) (EvalSecond.same-length t) (EvalSecond.returns t) (EvalSecond.same-length-2 t) (EvalSecond.returns-2 t))
     (λ t. eval-two-lts.spec (EvalTwo.Q t) (eval-two-at t) eval-two.Post (EvalTwo.add-p t) (EvalTwo.shared-slice-read-op t) (EvalTwo.add-eval t) (EvalTwo.eval-requires t) (EvalTwo.done-requires t) (EvalTwo.sub-eval t) (EvalTwo.part-eval-start t) (EvalTwo.part-eval-end t) (EvalTwo.sub-eval-2 t) (EvalTwo.part-eval-start-2 t) (EvalTwo.part-eval-end-2 t) (EvalTwo.eval-requires-2 t) (EvalTwo.binary-out-requires t) (EvalTwo.add-t25 t) (EvalTwo.pass-requires t) (EvalTwo.same-out-requires t) (EvalTwo.add-t34 t) (EvalTwo.same-length t) (EvalTwo.returns t) (EvalTwo.same-length-2 t) (EvalTwo.returns-2 t))

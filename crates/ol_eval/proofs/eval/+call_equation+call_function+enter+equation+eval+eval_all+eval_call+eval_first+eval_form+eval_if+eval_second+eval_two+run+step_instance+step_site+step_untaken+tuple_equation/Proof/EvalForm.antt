@@ -46,6 +46,7 @@ use Rattle.ol_eval.proofs.eval.eval_two.Reads as eval-two
 use Rattle.ol_frame.proofs.frame.is_first.Reads as is-first-reads
 use Rattle.ol_frame.proofs.names.leaf_out.Reads as leaf-out-reads
 use Rattle.ol_frame.proofs.skip.pass.Reads as pass-reads
+use Rattle.ol_frame.proofs.outcomes.same_out.Reads as same-out-reads
 use Rattle.ol_tables.proofs.heads.ty_size.Reads as ty-size-reads
 use Rattle.ol_frame.proofs.outcomes.unary_out.Reads as unary-out-reads
 use Rattle.ol_eval.proofs.eval.+call_equation+call_function+enter+equation+eval+eval_all+eval_call+eval_first+eval_form+eval_if+eval_second+eval_two+run+step_instance+step_site+step_untaken+tuple_equation.Lts-eval_form as eval-form-lts
@@ -53,7 +54,7 @@ use Rattle.ol_eval.proofs.eval.+call_equation+call_function+enter+equat
 
 -- what it knows of its callees
 abbrev pub Q : ℕ → eval-form-lts.Claims
-Q t = (eval-form-below t, eval-form.Post, unary-out-reads.Asked, unary-out-reads.Learnt, eval-two-below t, eval-two.Post, eval-if-below t, eval-if.Post, is-first-reads.Asked, is-first-reads.Learnt, eval-first-below t, eval-first.Post, eval-second-below t, eval-second.Post, ty-size-reads.Asked, ty-size-reads.Learnt, cast-out-reads.Asked, cast-out-reads.Learnt, eval-call-below t, eval-call.Post, pass-reads.Asked, pass-reads.Learnt, leaf-out-reads.Asked, leaf-out-reads.Learnt)
+Q t = (eval-form-below t, eval-form.Post, unary-out-reads.Asked, unary-out-reads.Learnt, eval-two-below t, eval-two.Post, eval-if-below t, eval-if.Post, is-first-reads.Asked, is-first-reads.Learnt, eval-first-below t, eval-first.Post, eval-second-below t, eval-second.Post, ty-size-reads.Asked, ty-size-reads.Learnt, cast-out-reads.Asked, cast-out-reads.Learnt, eval-call-below t, eval-call.Post, pass-reads.Asked, pass-reads.Learnt, leaf-out-reads.Asked, leaf-out-reads.Learnt, same-out-reads.Asked, same-out-reads.Learnt)
 
 pub shared-slice-read-code : (t : ℕ) → eval-form-lts.Need-shared-slice-read-code (Q t) (eval-form-at t) eval-form.Post
 shared-slice-read-code t c =
@@ -295,6 +296,9 @@ leaf-out-requires t c κs =
     let p = start .pre .1 .1 in
     (fd, p .plan, p .present, p .previous, (record { no-unary = c .before .match .rest .0 .0 .0 .0 .0 .1; no-binary = c .before .match .rest .0 .0 .0 .0 .1; no-if = c .before .match .rest .0 .0 .0 .1; no-arrow = c .before .match .rest .0 .0 .1; no-cast = c .before .match .rest .0 .1; no-call = c .before .match .rest .1 }))
 
+pub same-out-requires : (t : ℕ) → eval-form-lts.Need-same-out-requires (Q t) (eval-form-at t) eval-form.Post
+same-out-requires t c κs = tt
+
 pub same-length : (t : ℕ) → eval-form-lts.Need-same-length (Q t) (eval-form-at t) eval-form.Post
 same-length t c = c .before .before .before .eval-form .kept .1 .1 .1 .1 .1 .1 .0
 
@@ -438,7 +442,7 @@ returns-7 t c = c .before .before .eval-call .ensures
 
 pub returns-8 : (t : ℕ) → eval-form-lts.Need-returns-8 (Q t) (eval-form-at t) eval-form.Post
 returns-8 t c =
-    let start = c .before .before .before .before .before .before .before .before in
+    let start = c .before .before .before .before .before .before .before .before .before in
     let p = start .pre .1 .1 in
     let fr = start .args .frame .now in
     let tb = start .args .tab .now in
@@ -452,4 +456,4 @@ returns-8 t c =
     let bb = beforeOf fr in
     let h = plan-head f (p .plan) in
     let R = p .plan .reads in
-    leaf-evals f kk L a n F cl bb R h ((record { no-unary = c .before .before .match .rest .0 .0 .0 .0 .0 .1; no-binary = c .before .before .match .rest .0 .0 .0 .0 .1; no-if = c .before .before .match .rest .0 .0 .0 .1; no-arrow = c .before .before .match .rest .0 .0 .1; no-cast = c .before .before .match .rest .0 .1; no-call = c .before .before .match .rest .1 })) (p .same) (c .before .pass .ensures) (c .leaf-out .ensures)
+    leaf-evals f kk L a n F cl bb R h ((record { no-unary = c .before .before .before .match .rest .0 .0 .0 .0 .0 .1; no-binary = c .before .before .before .match .rest .0 .0 .0 .0 .1; no-if = c .before .before .before .match .rest .0 .0 .0 .1; no-arrow = c .before .before .before .match .rest .0 .0 .1; no-cast = c .before .before .before .match .rest .0 .1; no-call = c .before .before .before .match .rest .1 })) (p .same) (c .before .before .pass .ensures) (λ seg. c .same-out .ensures ∙ c .before .leaf-out .ensures seg)
