@@ -1,5 +1,5 @@
 // Fault 6, by a table that says of each name which sort declared it last: 0 none, an enum's number and 1, 17 a constant, a node's number and 18.
-// The same walk tells whether every declared name is below 1,024.
+// The same walk tells the number above all declared names.
 use super::Found;
 use super::NO_PLACE;
 use super::found_at;
@@ -27,10 +27,10 @@ ghost use Rattle.ol_check.specs.Spans.{namedAt, namesFrom};
 ghost use Rattle.ol_check.specs.NodesJudged.{placeIn, NodeReady, RowsReady};
 ghost use Rattle.ol_check.specs.Clashing.{sortOf, meets, Walks, VariablesSorted, enumsFrom, ConstantsAt, DeclaredReady, FileSorted};
 
-// The first clash, and whether every name is below 1,024.
+// The first clash, and the least number above every name.
 pub struct Sorting {
     pub found: Found,
-    pub low: bool,
+    pub above: usize,
 }
 
 // Whether a declaration of sort `sort` clashes with the last one of its name.
@@ -59,14 +59,15 @@ fn first_place(found: usize, clashed: bool, at: usize) -> usize
     }
 }
 
-// 1 while all names are below 1,024, this one too.
-fn still_low(low: usize, x: usize) -> usize
-    ensures { λ r. ⌜ r ≡ cond (ltb x 1024) low 0 ⌝ }
+// The least number above the names so far, this one too.
+fn above(most: usize, x: usize) -> usize
+    requires { ⌜ x < 65536 ⌝ }
+    ensures { λ r. ⌜ r ≡ cond (ltb x most) most (x + 1) ⌝ }
 {
-    if x < 1024 { low } else { 0 }
+    if x < most { most } else { x + 1 }
 }
 
-// The name at `at`, declared as the sort. `marks` has the place of the first clash or NO_PLACE, and 1 while every name is below 1,024.
+// The name at `at`, declared as the sort. `marks` has the place of the first clash or NO_PLACE, and the least number above every name.
 fn sort_name(file: &[u8], sorts: &mut [u8], marks: &mut [usize; 2], sort: usize, at: usize)
     requires { ⌜ (length (now marks) ≡ 2) × (0 < sort) × (sort < 256) × (at < 65536) ⌝ }
     ensures { λ r. ⌜ Walks (declaredAt (sortOf sort) (namedAt (now (file .entry)) at) ∷ []) (now (sorts .entry)) (now (sorts .exit)) (now (marks .entry)) (now (marks .exit)) ⌝ }
@@ -75,7 +76,7 @@ fn sort_name(file: &[u8], sorts: &mut [u8], marks: &mut [usize; 2], sort: usize,
     let clashed = clashes(byte(sorts, x), sort);
     put_byte(sorts, x, sort as u8);
     marks[0] = first_place(marks[0], clashed, at);
-    marks[1] = still_low(marks[1], x);
+    marks[1] = above(marks[1], x);
 }
 
 // So many names from `at` on.
@@ -184,19 +185,19 @@ fn sort_nodes(file: &[u8], sorts: &mut [u8], marks: &mut [usize; 2], rows: &[usi
 }
 
 // Every declared name of a file that reads without fault: the first clash, which is fault 6 where
-// the table is 0 everywhere and longer than every name, and whether all are below 1,024.
+// the table is 0 everywhere and longer than every name, and the least number above all names.
 pub fn sort_file(file: &[u8], rows: &[usize], sections: Sections, sorts: &mut [u8]) -> Sorting
     requires { ⌜ DeclaredReady (now file) (now rows) sections ⌝ }
     ensures { λ r. ⌜ FileSorted (now (file .entry)) (now (sorts .entry)) (now (sorts .exit)) r ⌝ }
 {
     let c = sections.constants;
     let n = sections.nodes;
-    let mut marks = [NO_PLACE, 1];
+    let mut marks = [NO_PLACE, 0];
     sort_enums(file, sorts, &mut marks, byte(file, 1), 2);
     sort_constants(file, sorts, &mut marks, byte(file, c), c + 1);
     sort_nodes(file, sorts, &mut marks, rows, byte(file, n));
     Sorting {
         found: found_at(marks[0]),
-        low: marks[1] == 1,
+        above: marks[1],
     }
 }
