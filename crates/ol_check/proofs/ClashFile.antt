@@ -1,14 +1,15 @@
--- The declarations of a node, of all nodes and of a whole file, sorted; and which names are low.
+-- The declarations of a node, of all nodes and of a whole file, sorted; and the highest name.
 use Prim.Native.Nat.{ℕ, _+_, _≤_, _<_}
-use mathlib.Core.Bool.{true}
+use mathlib.Core.Bool.{Bool, true, false, cond}
 use mathlib.Core.List.{List, [], _∷_, _++_, map}
 use mathlib.Core.Option.{none}
 use mathlib.Core.Path.{_≡_, refl, sym, ap, subst, _∙_}
 use native.Mathlib.Omega.{arith}
 use native.Mathlib.Numerals.{add-one}
 use lib.ListN.{length, getD, drop, drop-of-length-le}
-use borrow.Author.Tests.{ltb-true}
-use Rattle.ol_spec.specs.Lists.{concat, allOf, sum}
+use borrow.Author.Tests.{ltb-true, ltb-false}
+use lib.Dec.{ltb}
+use Rattle.ol_spec.specs.Lists.{concat, sum}
 use Rattle.ol_spec.specs.Syntax.{Variable, Node, File}
 use Rattle.ol_spec.specs.Places.{placed, placedEnums, placedConstants, placedNodes, constantSize, variableSize, nodeSize, nodesStart, constantsStart, outputsStart, localsStart}
 use Rattle.ol_spec.specs.Admission.{Sort, variable, constant, Declared, numbered, declaredAt, declaredAs, placedVariableName, placedConstantName, enumDeclares, nodeDeclares, declared}
@@ -20,10 +21,10 @@ use Rattle.ol_tables.specs.Heads.{Byte}
 use Rattle.ol_check.specs.Founds.{placeOf}
 use Rattle.ol_check.specs.Spans.{endFrom, behindVariable, variablesFrom}
 use Rattle.ol_check.specs.NodesJudged.{placeIn, NodeReady, RowsReady}
-use Rattle.ol_check.specs.Clashing.{isLow, Sorts, Walks, markedPlace, markedLow, VariablesSorted, enumsFrom, ConstantsAt, DeclaredReady, FileSorted}
+use Rattle.ol_check.specs.Clashing.{over, overAll, Sorts, Walks, markedPlace, markedMost, VariablesSorted, enumsFrom, ConstantsAt, DeclaredReady, FileSorted}
 use Rattle.ol_check.specs.declared.rows.Sections.{Sections}
 use Rattle.ol_check.specs.declared.clash.Sorting.{Sorting}
-use Rattle.ol_check.proofs.Truths.{and-split}
+use Rattle.ol_tables.proofs.Forms.{each-map}
 use Rattle.ol_check.proofs.SpanLaws.{variables-listed, variables-end}
 use Rattle.ol_check.proofs.NodeLaws.{ready-row, ready-node, nodes-on}
 use Rattle.ol_check.proofs.ClashLaws.{clash-is}
@@ -70,7 +71,7 @@ module _ {s rows : List ℕ} {nodes k : ℕ} (rd : NodeReady s rows nodes k) (st
       let c = placed variableSize (localsStart p n + 1) (n .locals) in
       let same : declaredAs u (map placedVariableName a) ++ declaredAs u (map placedVariableName b) ++ declaredAs u (map placedVariableName c) ≡ nodeDeclares (k, (p, n)) =
       ap (λ x. x ++ declaredAs u (map placedVariableName c)) (sym (as-append u a b)) ∙ sym (as-append u (a ++ b) c) in
-      record { is = subst (λ ds. Sorts ds sorts s₃ (markedPlace marks) (markedLow marks) (markedPlace m₃) (markedLow m₃)) same all; long = w₃ .0 .long ∙ w₂ .0 .long ∙ w₁ .0 .long }
+      record { is = subst (λ ds. Sorts ds sorts s₃ (markedPlace marks) (markedMost marks) (markedPlace m₃) (markedMost m₃)) same all; long = w₃ .0 .long ∙ w₂ .0 .long ∙ w₁ .0 .long }
 
 -- ---- all nodes
 
@@ -79,7 +80,7 @@ abbrev pub nodesFrom : File → ℕ → List Declared
 nodesFrom f k = concat (map nodeDeclares (numbered k (drop k (placedNodes f))))
 
 pub record NodesGoing (f : File) (sorts₀ marks₀ sorts marks : List ℕ) (k : ℕ) : Type 0 where
-  pub left : Left (nodesFrom f k) sorts (markedPlace marks) (markedLow marks) (nodesFrom f 0) sorts₀ (markedPlace marks₀) (markedLow marks₀)
+  pub left : Left (nodesFrom f k) sorts (markedPlace marks) (markedMost marks) (nodesFrom f 0) sorts₀ (markedPlace marks₀) (markedMost marks₀)
   pub long : length marks ≡ length marks₀
 
 module _ {f : File} {sorts₀ marks₀ : List ℕ} where
@@ -93,14 +94,14 @@ module _ {f : File} {sorts₀ marks₀ : List ℕ} where
         let rest = drop (k + 1) (placedNodes f) in
         let counted : numbered k (drop k (placedNodes f)) ≡ (k, x) ∷ numbered (k + 1) rest = ap (numbered k) (nodes-on f k lt) ∙ ap (λ n. (k, x) ∷ numbered n rest) (sym (add-one k)) in
         record {
-          left = left-on (nodeDeclares (k, x)) (subst (λ l. Left (concat (map nodeDeclares l)) sorts (markedPlace marks) (markedLow marks) (nodesFrom f 0) sorts₀ (markedPlace marks₀) (markedLow marks₀)) counted (w .left)) (one .is);
+          left = left-on (nodeDeclares (k, x)) (subst (λ l. Left (concat (map nodeDeclares l)) sorts (markedPlace marks) (markedMost marks) (nodesFrom f 0) sorts₀ (markedPlace marks₀) (markedMost marks₀)) counted (w .left)) (one .is);
           long = one .long ∙ w .long;
         }
 
     pub nodes-done : length (f .nodes) ≤ k → Walks (concat (map nodeDeclares (numbered 0 (placedNodes f)))) sorts₀ sorts marks₀ marks
     nodes-done over =
         let empty : drop k (placedNodes f) ≡ [] = drop-of-length-le (placedNodes f) {i = k} (omega (arith, length-placed nodeSize (nodesStart f) (f .nodes))) in
-        record { is = left-none (subst (λ l. Left (concat (map nodeDeclares (numbered k l))) sorts (markedPlace marks) (markedLow marks) (nodesFrom f 0) sorts₀ (markedPlace marks₀) (markedLow marks₀)) empty (w .left)); long = w .long }
+        record { is = left-none (subst (λ l. Left (concat (map nodeDeclares (numbered k l))) sorts (markedPlace marks) (markedMost marks) (nodesFrom f 0) sorts₀ (markedPlace marks₀) (markedMost marks₀)) empty (w .left)); long = w .long }
 
 -- ---- the file
 
@@ -117,26 +118,40 @@ module _ {s rows : List ℕ} {c : Sections} (rd : DeclaredReady s rows c) (st : 
   pub constants-at : {n : ℕ} → Byte s (c .constants) n → ConstantsAt s n (c .constants + 1)
   constants-at b = record { reads = rd .reads; many = b .is ∙ ap (λ p. getD s p 0) (omega (arith, rd .sections .constants)) ∙ st .constantCount; place = rd .sections .constants }
 
-  pub file-sorted : {ec : ℕ} {sorts s₁ s₂ s₃ m₁ m₂ m₃ : List ℕ} {r : Sorting} → Byte s 1 ec → Walks (enumsFrom s 0 ec 2) sorts s₁ (65536 ∷ 1 ∷ []) m₁
+  pub file-sorted : {ec : ℕ} {sorts s₁ s₂ s₃ m₁ m₂ m₃ : List ℕ} {r : Sorting} → Byte s 1 ec → Walks (enumsFrom s 0 ec 2) sorts s₁ (65536 ∷ 0 ∷ []) m₁
       → Walks (declaredAs constant (map placedConstantName (placedConstants (fileAt s)))) s₁ s₂ m₁ m₂ → Walks (concat (map nodeDeclares (numbered 0 (placedNodes (fileAt s))))) s₂ s₃ m₂ m₃
-      → placeOf (r .found) ≡ markedPlace m₃ → r .low ≡ markedLow m₃ → FileSorted s sorts s₃ r
+      → placeOf (r .found) ≡ markedPlace m₃ → r .highest ≡ markedMost m₃ → FileSorted s sorts s₃ r
   file-sorted {ec} {sorts} {s₁} {s₂} {s₃} {m₁} {m₂} {m₃} {r} eb enums constants nodes ef el =
       let f = fileAt s in
-      let we : Walks (concat (map enumDeclares (numbered 0 (placedEnums f)))) sorts s₁ (65536 ∷ 1 ∷ []) m₁ =
-      subst (λ ds. Walks ds sorts s₁ (65536 ∷ 1 ∷ []) m₁) (ap (λ n. enumsFrom s 0 n 2) (eb .is ∙ st .enumCount) ∙ enums-listed 0 2 (f .enums) (omega (arith, st .fewEnums)) (st .enums)) enums in
-      let all : Sorts (declared f) sorts s₃ none true (markedPlace m₃) (markedLow m₃) = sorts-two (sorts-two (we .is) (constants .is)) (nodes .is) in
+      let we : Walks (concat (map enumDeclares (numbered 0 (placedEnums f)))) sorts s₁ (65536 ∷ 0 ∷ []) m₁ =
+      subst (λ ds. Walks ds sorts s₁ (65536 ∷ 0 ∷ []) m₁) (ap (λ n. enumsFrom s 0 n 2) (eb .is ∙ st .enumCount) ∙ enums-listed 0 2 (f .enums) (omega (arith, st .fewEnums)) (st .enums)) enums in
+      let all : Sorts (declared f) sorts s₃ none 0 (markedPlace m₃) (markedMost m₃) = sorts-two (sorts-two (we .is) (constants .is)) (nodes .is) in
       record {
         enters = all .enters;
         clash = ef ∙ all .finds;
         finds = λ blank. ef ∙ all .finds ∙ clash-is sorts st (blank .zero) (blank .below);
-        lows = el ∙ all .lows;
+        highest = el ∙ all .above;
       }
 
--- ---- names below 1,024
+-- ---- the highest name
 
-all-low : (ds : List Declared) → allOf isLow ds ≡ true → Each (λ d. d .name < 1024) ds
-all-low [] e = tt
-all-low (d ∷ ds) e = let w = and-split (isLow d) (allOf isLow ds) e in (ltb-true (d .name) 1024 (w .0), all-low ds (w .1))
+over-step : (most x : ℕ) → (most ≤ over most x) × (x ≤ over most x)
+over-step most x = go (ltb x most) refl
+  where
+    go : (b : Bool) → ltb x most ≡ b → (most ≤ cond b most x) × (x ≤ cond b most x)
+    go true e = (omega arith, omega (arith, ltb-true x most e))
+    go false e = (omega (arith, ltb-false x most e), omega arith)
 
-pub low-names : {s sorts sorts′ : List ℕ} {r : Sorting} → FileSorted s sorts sorts′ r → r .low ≡ true → Each (λ d. d .name < 1024) (declared (fileAt s))
-low-names {s} w e = all-low (declared (fileAt s)) (sym (w .lows) ∙ e)
+over-most : (most : ℕ) (ds : List Declared) → most ≤ overAll most ds
+unfolding overAll
+over-most most [] = omega arith
+over-most most (d ∷ ds) = omega (arith, over-step most (d .name) .0, over-most (over most (d .name)) ds)
+
+all-over : (most : ℕ) (ds : List Declared) → Each (λ d. d .name ≤ overAll most ds) ds
+unfolding overAll
+all-over most [] = tt
+all-over most (d ∷ ds) = (omega (arith, over-step most (d .name) .1, over-most (over most (d .name)) ds), all-over (over most (d .name)) ds)
+
+-- every declared name is below a number that is above the highest
+pub names-below : (n : ℕ) {s sorts sorts′ : List ℕ} {r : Sorting} → FileSorted s sorts sorts′ r → r .highest < n → Each (λ d. d .name < n) (declared (fileAt s))
+names-below n {s} w h = each-map (λ d. d .name ≤ overAll 0 (declared (fileAt s))) (λ d. d .name < n) (λ d l. omega (arith, w .highest)) (declared (fileAt s)) (all-over 0 (declared (fileAt s)))

@@ -1,6 +1,6 @@
 -- The loops over declarations: what is left to be sorted.
 use Prim.Native.Nat.{ℕ, suc, _+_, _-_, _*_, _≤_, _<_}
-use mathlib.Core.Bool.{Bool, true, false, _&&_, cond, and-assoc, and-true, and-false}
+use mathlib.Core.Bool.{Bool, true, false, cond}
 use mathlib.Core.List.{List, [], _∷_, _++_, map}
 use mathlib.Core.Option.{Option, none, some}
 use mathlib.Core.Path.{_≡_, refl, sym, ap, subst, _∙_}
@@ -10,7 +10,7 @@ use lib.ListN.{length, getD, set, drop, drop-of-length-le, length-set}
 use lib.Seq.{drop-cons, getD-set-same, getD-set-other}
 use lib.Dec.{ltb, eqb}
 use borrow.Author.Tests.{ltb-false, eqb-true, eqb-false, lt-ltb, le-ltb, ne-eqb}
-use Rattle.ol_spec.specs.Lists.{orElse, concat, allOf}
+use Rattle.ol_spec.specs.Lists.{orElse, concat}
 use Rattle.ol_spec.specs.Syntax.{Constant, nil, cons}
 use Rattle.ol_spec.specs.Places.{placed, enumSize, constantSize}
 use Rattle.ol_spec.specs.Encode.{nameBytes, sectionBytes, constantBytes}
@@ -26,7 +26,7 @@ use Rattle.ol_tables.proofs.Skipping.{skip-stands}
 use Rattle.ol_tables.proofs.HeadsFile.{Passing, passing-start, passing-item, constant-stands}
 use Rattle.ol_check.specs.Spans.{startsFrom, endFrom, behindEnum, namedAt, namesFrom}
 use Rattle.ol_check.specs.RowsDone.{Enums, noConstant}
-use Rattle.ol_check.specs.Clashing.{sortCode, sortOf, meets, sortAll, clashIn, isLow, Sorts, Walks, markedPlace, markedLow, enumsFrom}
+use Rattle.ol_check.specs.Clashing.{sortCode, sortOf, meets, sortAll, clashIn, over, overAll, Sorts, Walks, markedPlace, markedMost, enumsFrom}
 use Rattle.ol_check.specs.Founds.{placeAt, firstPlace}
 use Rattle.ol_check.proofs.SpanLaws.{starts-on, starts-none, end-on, end-none, names-listed, enum-stands}
 use Rattle.ol_check.proofs.FoundLaws.{place-first}
@@ -55,41 +55,42 @@ clash-append sorts (d ∷ a) b =
     let m = meets (getD sorts (d .name) 0) (sortCode (d .sort)) in
     ap (firstIf m (d .place)) (clash-append on a b) ∙ if-or m (d .place) (clashIn on a) (clashIn (sortAll on a) b)
 
-low-append : (a b : List Declared) → allOf isLow (a ++ b) ≡ allOf isLow a && allOf isLow b
-low-append [] b = refl
-low-append (d ∷ a) b = ap (λ q. isLow d && q) (low-append a b) ∙ sym (and-assoc (isLow d) (allOf isLow a) (allOf isLow b))
+over-append : (most : ℕ) (a b : List Declared) → overAll most (a ++ b) ≡ overAll (overAll most a) b
+unfolding overAll
+over-append most [] b = refl
+over-append most (d ∷ a) b = over-append (over most (d .name)) a b
 
 -- what is left to be sorted leads to what all leads to
-pub record Left (ds : List Declared) (sorts : List ℕ) (found : Option ℕ) (low : Bool) (all : List Declared) (sorts₀ : List ℕ) (found₀ : Option ℕ) (low₀ : Bool) : Type 0 where
+pub record Left (ds : List Declared) (sorts : List ℕ) (found : Option ℕ) (most : ℕ) (all : List Declared) (sorts₀ : List ℕ) (found₀ : Option ℕ) (most₀ : ℕ) : Type 0 where
   pub finds : orElse found (clashIn sorts ds) ≡ orElse found₀ (clashIn sorts₀ all)
-  pub lows : low && allOf isLow ds ≡ low₀ && allOf isLow all
+  pub above : overAll most ds ≡ overAll most₀ all
   pub enters : sortAll sorts ds ≡ sortAll sorts₀ all
 
-module _ {all : List Declared} {sorts₀ : List ℕ} {found₀ : Option ℕ} {low₀ : Bool} where
-  pub left-all : Left all sorts₀ found₀ low₀ all sorts₀ found₀ low₀
-  left-all = record { finds = refl; lows = refl; enters = refl }
+module _ {all : List Declared} {sorts₀ : List ℕ} {found₀ : Option ℕ} {most₀ : ℕ} where
+  pub left-all : Left all sorts₀ found₀ most₀ all sorts₀ found₀ most₀
+  left-all = record { finds = refl; above = refl; enters = refl }
 
   -- some of them are sorted
-  pub left-on : {rest : List Declared} {sorts sorts′ : List ℕ} {found found′ : Option ℕ} {low low′ : Bool} (seg : List Declared) → Left (seg ++ rest) sorts found low all sorts₀ found₀ low₀ → Sorts seg sorts sorts′ found low found′ low′
-      → Left rest sorts′ found′ low′ all sorts₀ found₀ low₀
-  left-on {rest} {sorts} {sorts′} {found} {found′} {low} {low′} seg l w =
+  pub left-on : {rest : List Declared} {sorts sorts′ : List ℕ} {found found′ : Option ℕ} {most most′ : ℕ} (seg : List Declared) → Left (seg ++ rest) sorts found most all sorts₀ found₀ most₀ → Sorts seg sorts sorts′ found most found′ most′
+      → Left rest sorts′ found′ most′ all sorts₀ found₀ most₀
+  left-on {rest} {sorts} {sorts′} {found} {found′} {most} {most′} seg l w =
       record {
         finds = ap (λ o. orElse o (clashIn sorts′ rest)) (w .finds) ∙ or-assoc found (clashIn sorts seg) (clashIn sorts′ rest)
             ∙ ap (λ t. orElse found (orElse (clashIn sorts seg) (clashIn t rest))) (w .enters) ∙ ap (orElse found) (sym (clash-append sorts seg rest)) ∙ l .finds;
-        lows = ap (λ b. b && allOf isLow rest) (w .lows) ∙ and-assoc low (allOf isLow seg) (allOf isLow rest) ∙ ap (λ b. low && b) (sym (low-append seg rest)) ∙ l .lows;
+        above = ap (λ m. overAll m rest) (w .above) ∙ sym (over-append most seg rest) ∙ l .above;
         enters = ap (λ t. sortAll t rest) (w .enters) ∙ sym (sort-append sorts seg rest) ∙ l .enters;
       }
 
-  pub left-none : {sorts : List ℕ} {found : Option ℕ} {low : Bool} → Left [] sorts found low all sorts₀ found₀ low₀ → Sorts all sorts₀ sorts found₀ low₀ found low
-  unfolding clashIn sortAll
-  left-none {sorts} {found} {low} l = record { finds = sym (found-none found) ∙ l .finds; lows = sym (and-true low) ∙ l .lows; enters = l .enters }
+  pub left-none : {sorts : List ℕ} {found : Option ℕ} {most : ℕ} → Left [] sorts found most all sorts₀ found₀ most₀ → Sorts all sorts₀ sorts found₀ most₀ found most
+  unfolding clashIn sortAll overAll
+  left-none {sorts} {found} l = record { finds = sym (found-none found) ∙ l .finds; above = l .above; enters = l .enters }
 
 -- two lists
-pub sorts-two : {a b : List Declared} {s₀ s₁ s₂ : List ℕ} {f₀ f₁ f₂ : Option ℕ} {l₀ l₁ l₂ : Bool} → Sorts a s₀ s₁ f₀ l₀ f₁ l₁ → Sorts b s₁ s₂ f₁ l₁ f₂ l₂ → Sorts (a ++ b) s₀ s₂ f₀ l₀ f₂ l₂
+pub sorts-two : {a b : List Declared} {s₀ s₁ s₂ : List ℕ} {f₀ f₁ f₂ : Option ℕ} {l₀ l₁ l₂ : ℕ} → Sorts a s₀ s₁ f₀ l₀ f₁ l₁ → Sorts b s₁ s₂ f₁ l₁ f₂ l₂ → Sorts (a ++ b) s₀ s₂ f₀ l₀ f₂ l₂
 sorts-two {a} {b} {s₀} {s₁} {s₂} {f₀} {f₁} {f₂} {l₀} {l₁} {l₂} v w =
     record {
       finds = w .finds ∙ ap (λ o. orElse o (clashIn s₁ b)) (v .finds) ∙ or-assoc f₀ (clashIn s₀ a) (clashIn s₁ b) ∙ ap (λ t. orElse f₀ (orElse (clashIn s₀ a) (clashIn t b))) (v .enters) ∙ ap (orElse f₀) (sym (clash-append s₀ a b));
-      lows = w .lows ∙ ap (λ q. q && allOf isLow b) (v .lows) ∙ and-assoc l₀ (allOf isLow a) (allOf isLow b) ∙ ap (λ q. l₀ && q) (sym (low-append a b));
+      above = w .above ∙ ap (λ m. overAll m b) (v .above) ∙ sym (over-append l₀ a b);
       enters = w .enters ∙ ap (λ t. sortAll t b) (v .enters) ∙ sym (sort-append s₀ a b);
     }
 
@@ -111,27 +112,20 @@ of-variable k = let less : k + 18 - 18 ≡ k = omega arith in rw (le-ltb (k + 18
 
 -- ---- one name
 
-low-still : (low x : ℕ) → eqb (cond (ltb x 1024) low 0) 1 ≡ eqb low 1 && (ltb x 1024 && true)
-low-still low x = go (ltb x 1024)
-  where
-    go : (t : Bool) → eqb (cond t low 0) 1 ≡ eqb low 1 && (t && true)
-    go true = sym (and-true (eqb low 1))
-    go false = sym (and-false (eqb low 1))
-
 pub name-walks : (s : List ℕ) (sort at : ℕ) {x b p l : ℕ} {q : Bool} {sorts sorts′ marks marks′ : List ℕ} → 0 < sort → at < 65536 → length marks ≡ 2 → x ≡ nameAt s at → Byte sorts x b → q ≡ meets b sort → sorts′ ≡ set sorts x sort
-    → p ≡ firstPlace (getD marks 0 0) q at → l ≡ cond (ltb x 1024) (getD (set marks 0 p) 1 0) 0 → marks′ ≡ set (set marks 0 p) 1 l → Walks (declaredAt (sortOf sort) (namedAt s at) ∷ []) sorts sorts′ marks marks′
-unfolding clashIn sortAll
+    → p ≡ firstPlace (getD marks 0 0) q at → l ≡ over (getD (set marks 0 p) 1 0) x → marks′ ≡ set (set marks 0 p) 1 l → Walks (declaredAt (sortOf sort) (namedAt s at) ∷ []) sorts sorts′ marks marks′
+unfolding clashIn sortAll overAll
 name-walks s sort at {x} {b} {p} {l} {q} {sorts} {sorts′} {marks} {marks′} pos lt two ex eb eq es ep el em =
     let m₁ = set marks 0 p in
     let code = sym (code-of sort pos) in
     let place : getD marks′ 0 0 ≡ p = ap (λ g. getD g 0 0) em ∙ getD-set-other m₁ 1 0 l 0 (λ e. omega arith) ∙ getD-set-same marks 0 p 0 (omega arith) in
-    let low : getD marks′ 1 0 ≡ l = ap (λ g. getD g 1 0) em ∙ getD-set-same m₁ 1 l 0 (omega (arith, length-set marks 0 p)) in
+    let most : getD marks′ 1 0 ≡ l = ap (λ g. getD g 1 0) em ∙ getD-set-same m₁ 1 l 0 (omega (arith, length-set marks 0 p)) in
     let kept : getD m₁ 1 0 ≡ getD marks 1 0 = getD-set-other marks 0 1 p 0 (λ e. omega arith) in
     let meeting : q ≡ meets (getD sorts (nameAt s at) 0) (sortCode (sortOf sort)) = eq ∙ ap (λ n. meets n sort) (eb .is) ∙ ap (λ y. meets (getD sorts y 0) sort) ex ∙ ap (meets (getD sorts (nameAt s at) 0)) code in
     record {
       is = record {
         finds = ap placeAt (place ∙ ep) ∙ place-first (getD marks 0 0) q at lt ∙ ap (λ t. orElse (markedPlace marks) (firstIf t at none)) meeting;
-        lows = ap (λ n. eqb n 1) (low ∙ el) ∙ low-still (getD m₁ 1 0) x ∙ ap (λ n. eqb n 1 && (ltb x 1024 && true)) kept ∙ ap (λ y. markedLow marks && (ltb y 1024 && true)) ex;
+        above = most ∙ el ∙ ap (λ n. over n x) kept ∙ ap (over (markedMost marks)) ex;
         enters = es ∙ ap (λ y. set sorts y sort) ex ∙ ap (set sorts (nameAt s at)) code;
       };
       long = ap length em ∙ length-set m₁ 1 l ∙ length-set marks 0 p;
@@ -141,8 +135,8 @@ name-walks s sort at {x} {b} {p} {l} {q} {sorts} {sorts′} {marks} {marks′} p
 
 -- those from number i on are left, and end where all end
 pub record NamesGoing (behind : ℕ → ℕ) (s : List ℕ) (sort count at : ℕ) (sorts₀ marks₀ sorts marks : List ℕ) (i next : ℕ) : Type 0 where
-  pub left : Left (declaredAs (sortOf sort) (map (namedAt s) (startsFrom behind (count - i) next))) sorts (markedPlace marks) (markedLow marks)
-      (declaredAs (sortOf sort) (map (namedAt s) (startsFrom behind count at))) sorts₀ (markedPlace marks₀) (markedLow marks₀)
+  pub left : Left (declaredAs (sortOf sort) (map (namedAt s) (startsFrom behind (count - i) next))) sorts (markedPlace marks) (markedMost marks)
+      (declaredAs (sortOf sort) (map (namedAt s) (startsFrom behind count at))) sorts₀ (markedPlace marks₀) (markedMost marks₀)
   pub end : endFrom behind (count - i) next ≡ endFrom behind count at
   pub long : length marks ≡ length marks₀
 
@@ -155,8 +149,8 @@ module _ {behind : ℕ → ℕ} {s : List ℕ} {sort count at : ℕ} {sorts₀ m
         → NamesGoing behind s sort count at sorts₀ marks₀ sorts′ marks′ (i + 1) next′
     names-turn lt {sorts′} {marks′} {next′} en one =
         let all = declaredAs (sortOf sort) (map (namedAt s) (startsFrom behind count at)) in
-        let on : Left (declaredAt (sortOf sort) (namedAt s next) ∷ declaredAs (sortOf sort) (map (namedAt s) (startsFrom behind (count - (i + 1)) (behind next)))) sorts (markedPlace marks) (markedLow marks) all sorts₀ (markedPlace marks₀) (markedLow marks₀) =
-        subst (λ l. Left (declaredAs (sortOf sort) (map (namedAt s) l)) sorts (markedPlace marks) (markedLow marks) all sorts₀ (markedPlace marks₀) (markedLow marks₀)) (starts-on behind count i next lt) (w .left) in
+        let on : Left (declaredAt (sortOf sort) (namedAt s next) ∷ declaredAs (sortOf sort) (map (namedAt s) (startsFrom behind (count - (i + 1)) (behind next)))) sorts (markedPlace marks) (markedMost marks) all sorts₀ (markedPlace marks₀) (markedMost marks₀) =
+        subst (λ l. Left (declaredAs (sortOf sort) (map (namedAt s) l)) sorts (markedPlace marks) (markedMost marks) all sorts₀ (markedPlace marks₀) (markedMost marks₀)) (starts-on behind count i next lt) (w .left) in
         record {
           left = rw en (left-on (declaredAt (sortOf sort) (namedAt s next) ∷ []) on (one .is));
           end = ap (endFrom behind (count - (i + 1))) en ∙ sym (end-on behind count i next lt) ∙ w .end;
@@ -166,7 +160,7 @@ module _ {behind : ℕ → ℕ} {s : List ℕ} {sort count at : ℕ} {sorts₀ m
     pub names-done : count ≤ i → Walks (declaredAs (sortOf sort) (map (namedAt s) (startsFrom behind count at))) sorts₀ sorts marks₀ marks
     names-done over =
         record {
-          is = left-none (subst (λ l. Left (declaredAs (sortOf sort) (map (namedAt s) l)) sorts (markedPlace marks) (markedLow marks) (declaredAs (sortOf sort) (map (namedAt s) (startsFrom behind count at))) sorts₀ (markedPlace marks₀) (markedLow marks₀))
+          is = left-none (subst (λ l. Left (declaredAs (sortOf sort) (map (namedAt s) l)) sorts (markedPlace marks) (markedMost marks) (declaredAs (sortOf sort) (map (namedAt s) (startsFrom behind count at))) sorts₀ (markedPlace marks₀) (markedMost marks₀))
               (starts-none behind count i next over) (w .left));
           long = w .long;
         }
@@ -178,8 +172,8 @@ module _ {behind : ℕ → ℕ} {s : List ℕ} {sort count at : ℕ} {sorts₀ m
 
 pub record ConstantsGoing (s : List ℕ) (enums : ℕ) (cs : List Constant) (at : ℕ) (sorts₀ marks₀ sorts marks : List ℕ) (i next : ℕ) : Type 0 where
   pub passing : Passing constantBytes (constantFits base enums) constantSize s at cs i next
-  pub left : Left (declaredAs constant (map placedConstantName (placed constantSize next (drop i cs)))) sorts (markedPlace marks) (markedLow marks)
-      (declaredAs constant (map placedConstantName (placed constantSize at cs))) sorts₀ (markedPlace marks₀) (markedLow marks₀)
+  pub left : Left (declaredAs constant (map placedConstantName (placed constantSize next (drop i cs)))) sorts (markedPlace marks) (markedMost marks)
+      (declaredAs constant (map placedConstantName (placed constantSize at cs))) sorts₀ (markedPlace marks₀) (markedMost marks₀)
   pub long : length marks ≡ length marks₀
 
 module _ {s : List ℕ} {enums : ℕ} {cs : List Constant} {at : ℕ} {sorts₀ marks₀ : List ℕ} where
@@ -202,8 +196,8 @@ module _ {s : List ℕ} {enums : ℕ} {cs : List Constant} {at : ℕ} {sorts₀ 
         let all = declaredAs constant (map placedConstantName (placed constantSize at cs)) in
         let behind : next′ ≡ next + constantSize c =
         er ∙ ap (λ m. skipAt s 1 (next + 2 + m)) (en ∙ st .ty .size) ∙ skip-stands {es = cons (c .value) nil} refl (st .value) ∙ omega arith in
-        let rest : Left (declaredAt constant (next, c .name) ∷ declaredAs constant (map placedConstantName (placed constantSize (next + constantSize c) (drop (suc i) cs)))) sorts (markedPlace marks) (markedLow marks) all sorts₀ (markedPlace marks₀) (markedLow marks₀) =
-        subst (λ l. Left (declaredAs constant (map placedConstantName (placed constantSize next l))) sorts (markedPlace marks) (markedLow marks) all sorts₀ (markedPlace marks₀) (markedLow marks₀)) (drop-cons cs i noConstant lt) (w .left) in
+        let rest : Left (declaredAt constant (next, c .name) ∷ declaredAs constant (map placedConstantName (placed constantSize (next + constantSize c) (drop (suc i) cs)))) sorts (markedPlace marks) (markedMost marks) all sorts₀ (markedPlace marks₀) (markedMost marks₀) =
+        subst (λ l. Left (declaredAs constant (map placedConstantName (placed constantSize next l))) sorts (markedPlace marks) (markedMost marks) all sorts₀ (markedPlace marks₀) (markedMost marks₀)) (drop-cons cs i noConstant lt) (w .left) in
         record {
           passing = subst (Passing constantBytes (constantFits base enums) constantSize s at cs (i + 1)) (sym behind) (it .on);
           left = rw (behind, add-one i) (left-on (declaredAt constant (next, c .name) ∷ []) rest (subst (λ x. Walks (declaredAt constant (next, x) ∷ []) sorts sorts′ marks marks′) (st .name) one .is));
@@ -213,7 +207,7 @@ module _ {s : List ℕ} {enums : ℕ} {cs : List Constant} {at : ℕ} {sorts₀ 
     pub constants-done : length cs ≤ i → Walks (declaredAs constant (map placedConstantName (placed constantSize at cs))) sorts₀ sorts marks₀ marks
     constants-done over =
         record {
-          is = left-none (subst (λ l. Left (declaredAs constant (map placedConstantName (placed constantSize next l))) sorts (markedPlace marks) (markedLow marks) (declaredAs constant (map placedConstantName (placed constantSize at cs))) sorts₀ (markedPlace marks₀) (markedLow marks₀))
+          is = left-none (subst (λ l. Left (declaredAs constant (map placedConstantName (placed constantSize next l))) sorts (markedPlace marks) (markedMost marks) (declaredAs constant (map placedConstantName (placed constantSize at cs))) sorts₀ (markedPlace marks₀) (markedMost marks₀))
               (drop-of-length-le cs over) (w .left));
           long = w .long;
         }
@@ -221,7 +215,7 @@ module _ {s : List ℕ} {enums : ℕ} {cs : List Constant} {at : ℕ} {sorts₀ 
 -- ---- the enums
 
 pub record EnumsGoing (s : List ℕ) (count at : ℕ) (sorts₀ marks₀ sorts marks : List ℕ) (e next : ℕ) : Type 0 where
-  pub left : Left (enumsFrom s e (count - e) next) sorts (markedPlace marks) (markedLow marks) (enumsFrom s 0 count at) sorts₀ (markedPlace marks₀) (markedLow marks₀)
+  pub left : Left (enumsFrom s e (count - e) next) sorts (markedPlace marks) (markedMost marks) (enumsFrom s 0 count at) sorts₀ (markedPlace marks₀) (markedMost marks₀)
   pub long : length marks ≡ length marks₀
 
 module _ {s : List ℕ} {count at : ℕ} {sorts₀ marks₀ : List ℕ} where
@@ -235,8 +229,8 @@ module _ {s : List ℕ} {count at : ℕ} {sorts₀ marks₀ : List ℕ} where
     enums-turn lt {sorts′} {marks′} {many} {next′} em en one =
         let less : count - e ≡ suc (count - (e + 1)) = omega arith in
         let here = declaredAs (sortOf (e + 1)) (namesFrom s (getD s next 0) (next + 1)) in
-        let on : Left (here ++ enumsFrom s (e + 1) (count - (e + 1)) (behindEnum s next)) sorts (markedPlace marks) (markedLow marks) (enumsFrom s 0 count at) sorts₀ (markedPlace marks₀) (markedLow marks₀) =
-        subst (λ n. Left (enumsFrom s e n next) sorts (markedPlace marks) (markedLow marks) (enumsFrom s 0 count at) sorts₀ (markedPlace marks₀) (markedLow marks₀)) less (w .left) in
+        let on : Left (here ++ enumsFrom s (e + 1) (count - (e + 1)) (behindEnum s next)) sorts (markedPlace marks) (markedMost marks) (enumsFrom s 0 count at) sorts₀ (markedPlace marks₀) (markedMost marks₀) =
+        subst (λ n. Left (enumsFrom s e n next) sorts (markedPlace marks) (markedMost marks) (enumsFrom s 0 count at) sorts₀ (markedPlace marks₀) (markedMost marks₀)) less (w .left) in
         let behind : next′ ≡ behindEnum s next = en ∙ ap (λ n. next + 1 + 2 * n) (em .is) in
         record { left = rw behind (left-on here on (subst (λ n. Walks (declaredAs (sortOf (e + 1)) (namesFrom s n (next + 1))) sorts sorts′ marks marks′) (em .is) one .is)); long = one .long ∙ w .long }
 
@@ -244,7 +238,7 @@ module _ {s : List ℕ} {count at : ℕ} {sorts₀ marks₀ : List ℕ} where
     unfolding enumsFrom
     enums-done over =
         let none-left : count - e ≡ 0 = omega arith in
-        record { is = left-none (subst (λ n. Left (enumsFrom s e n next) sorts (markedPlace marks) (markedLow marks) (enumsFrom s 0 count at) sorts₀ (markedPlace marks₀) (markedLow marks₀)) none-left (w .left)); long = w .long }
+        record { is = left-none (subst (λ n. Left (enumsFrom s e n next) sorts (markedPlace marks) (markedMost marks) (enumsFrom s 0 count at) sorts₀ (markedPlace marks₀) (markedMost marks₀)) none-left (w .left)); long = w .long }
 
 -- enums that stand in the file
 pub enums-listed : {s : List ℕ} (i at : ℕ) (es : List (List ℕ)) → i + length es ≤ 16 → Enums s at es → enumsFrom s i (length es) at ≡ concat (map enumDeclares (numbered i (placed enumSize at es)))

@@ -1,4 +1,4 @@
--- Fault 6, by a table that says of each name which sort declared it last; and whether every declared name is below 1,024.
+-- Fault 6, by a table that says of each name which sort declared it last; and the highest declared name.
 use Prim.Native.Nat.{ℕ, zero, suc, _+_, _-_, _<_}
 use mathlib.Core.Bool.{Bool, _&&_, _||_, cond}
 use mathlib.Core.List.{List, [], _∷_, _++_}
@@ -6,7 +6,7 @@ use mathlib.Core.Option.{Option, none, some}
 use mathlib.Core.Path.{_≡_}
 use lib.ListN.{length, getD, set}
 use lib.Dec.{ltb, leb, eqb}
-use Rattle.ol_spec.specs.Lists.{orElse, allOf}
+use Rattle.ol_spec.specs.Lists.{orElse}
 use Rattle.ol_spec.specs.Syntax.{File}
 use Rattle.ol_spec.specs.Places.{constantsStart}
 use Rattle.ol_spec.specs.Admission.{Sort, variant, constant, variable, Declared, firstIf, declaredAs, declared, fault6}
@@ -43,26 +43,31 @@ unfoldable pub clashIn : List ℕ → List Declared → Option ℕ
 clashIn sorts [] = none
 clashIn sorts (d ∷ ds) = firstIf (meets (getD sorts (d .name) 0) (sortCode (d .sort))) (d .place) (clashIn (set sorts (d .name) (sortCode (d .sort))) ds)
 
--- a name below 1,024
-abbrev pub isLow : Declared → Bool
-isLow d = ltb (d .name) 1024
+-- the higher of two names
+abbrev pub over : ℕ → ℕ → ℕ
+over most x = cond (ltb x most) most x
 
--- what a walk over these declarations makes of the table, the first fault and the names below 1,024
-pub record Sorts (ds : List Declared) (sorts sorts′ : List ℕ) (found : Option ℕ) (low : Bool) (found′ : Option ℕ) (low′ : Bool) : Type 0 where
+-- the highest of `most` and these names
+unfoldable pub overAll : ℕ → List Declared → ℕ
+overAll most [] = most
+overAll most (d ∷ ds) = overAll (over most (d .name)) ds
+
+-- what a walk over these declarations makes of the table, the first fault and the highest name
+pub record Sorts (ds : List Declared) (sorts sorts′ : List ℕ) (found : Option ℕ) (most : ℕ) (found′ : Option ℕ) (most′ : ℕ) : Type 0 where
   pub finds : found′ ≡ orElse found (clashIn sorts ds)
-  pub lows : low′ ≡ low && allOf isLow ds
+  pub above : most′ ≡ overAll most ds
   pub enters : sorts′ ≡ sortAll sorts ds
 
--- what a walk has marked: the first clash so far, and 1 while every name is below 1,024
+-- what a walk has marked: the first clash so far, and the highest name so far
 abbrev pub markedPlace : List ℕ → Option ℕ
 markedPlace marks = placeAt (getD marks 0 0)
 
-abbrev pub markedLow : List ℕ → Bool
-markedLow marks = eqb (getD marks 1 0) 1
+abbrev pub markedMost : List ℕ → ℕ
+markedMost marks = getD marks 1 0
 
 -- what a walk over these declarations makes of the table and of its marks
 pub record Walks (ds : List Declared) (sorts sorts′ marks marks′ : List ℕ) : Type 0 where
-  pub is : Sorts ds sorts sorts′ (markedPlace marks) (markedLow marks) (markedPlace marks′) (markedLow marks′)
+  pub is : Sorts ds sorts sorts′ (markedPlace marks) (markedMost marks) (markedPlace marks′) (markedMost marks′)
   pub long : length marks′ ≡ length marks
 
 -- so many variables from `at` on, and where they end
@@ -98,4 +103,4 @@ pub record FileSorted (s sorts sorts′ : List ℕ) (r : Sorting) : Type 0 where
   pub enters : sorts′ ≡ sortAll sorts (declared (fileAt s))
   pub clash : placeOf (r .found) ≡ clashIn sorts (declared (fileAt s))
   pub finds : Blank (fileAt s) sorts → placeOf (r .found) ≡ fault6 (fileAt s)
-  pub lows : r .low ≡ allOf isLow (declared (fileAt s))
+  pub highest : r .highest ≡ overAll 0 (declared (fileAt s))

@@ -1,5 +1,5 @@
 // Fault 6, by a table that says of each name which sort declared it last: 0 none, an enum's number and 1, 17 a constant, a node's number and 18.
-// The same walk tells the number above all declared names.
+// The same walk tells the highest declared name.
 use super::Found;
 use super::NO_PLACE;
 use super::found_at;
@@ -12,10 +12,8 @@ use ol_tables::heads::ty_size;
 use ol_tables::tables::PLACE;
 use ol_tables::tables::row;
 ghost use mathlib.Core.Path.{_≡_};
-ghost use mathlib.Core.Bool.{cond};
 ghost use mathlib.Core.List.{map, [], _∷_};
 ghost use Prim.Native.Nat.{_≤_, _<_};
-ghost use lib.Dec.{ltb};
 ghost use lib.ListN.{length};
 ghost use Rattle.ol_spec.specs.Lists.{concat};
 ghost use Rattle.ol_spec.specs.Places.{placedConstants, placedNodes};
@@ -25,12 +23,12 @@ ghost use Rattle.ol_tables.specs.Tables.{nodeOf};
 ghost use Rattle.ol_check.specs.Founds.{firstPlace};
 ghost use Rattle.ol_check.specs.Spans.{namedAt, namesFrom};
 ghost use Rattle.ol_check.specs.NodesJudged.{placeIn, NodeReady, RowsReady};
-ghost use Rattle.ol_check.specs.Clashing.{sortOf, meets, Walks, VariablesSorted, enumsFrom, ConstantsAt, DeclaredReady, FileSorted};
+ghost use Rattle.ol_check.specs.Clashing.{sortOf, meets, over, Walks, VariablesSorted, enumsFrom, ConstantsAt, DeclaredReady, FileSorted};
 
-// The first clash, and the least number above every name.
+// The first clash, and the highest name.
 pub struct Sorting {
     pub found: Found,
-    pub above: usize,
+    pub highest: usize,
 }
 
 // Whether a declaration of sort `sort` clashes with the last one of its name.
@@ -59,15 +57,14 @@ fn first_place(found: usize, clashed: bool, at: usize) -> usize
     }
 }
 
-// The least number above the names so far, this one too.
-fn above(most: usize, x: usize) -> usize
-    requires { ⌜ x < 65536 ⌝ }
-    ensures { λ r. ⌜ r ≡ cond (ltb x most) most (x + 1) ⌝ }
+// The higher of two names.
+fn higher(most: usize, x: usize) -> usize
+    ensures { λ r. ⌜ r ≡ over most x ⌝ }
 {
-    if x < most { most } else { x + 1 }
+    if x < most { most } else { x }
 }
 
-// The name at `at`, declared as the sort. `marks` has the place of the first clash or NO_PLACE, and the least number above every name.
+// The name at `at`, declared as the sort. `marks` has the place of the first clash or NO_PLACE, and the highest name so far.
 fn sort_name(file: &[u8], sorts: &mut [u8], marks: &mut [usize; 2], sort: usize, at: usize)
     requires { ⌜ (length (now marks) ≡ 2) × (0 < sort) × (sort < 256) × (at < 65536) ⌝ }
     ensures { λ r. ⌜ Walks (declaredAt (sortOf sort) (namedAt (now (file .entry)) at) ∷ []) (now (sorts .entry)) (now (sorts .exit)) (now (marks .entry)) (now (marks .exit)) ⌝ }
@@ -76,7 +73,7 @@ fn sort_name(file: &[u8], sorts: &mut [u8], marks: &mut [usize; 2], sort: usize,
     let clashed = clashes(byte(sorts, x), sort);
     put_byte(sorts, x, sort as u8);
     marks[0] = first_place(marks[0], clashed, at);
-    marks[1] = above(marks[1], x);
+    marks[1] = higher(marks[1], x);
 }
 
 // So many names from `at` on.
@@ -185,7 +182,7 @@ fn sort_nodes(file: &[u8], sorts: &mut [u8], marks: &mut [usize; 2], rows: &[usi
 }
 
 // Every declared name of a file that reads without fault: the first clash, which is fault 6 where
-// the table is 0 everywhere and longer than every name, and the least number above all names.
+// the table is 0 everywhere and longer than every name, and the highest of them.
 pub fn sort_file(file: &[u8], rows: &[usize], sections: Sections, sorts: &mut [u8]) -> Sorting
     requires { ⌜ DeclaredReady (now file) (now rows) sections ⌝ }
     ensures { λ r. ⌜ FileSorted (now (file .entry)) (now (sorts .entry)) (now (sorts .exit)) r ⌝ }
@@ -198,6 +195,6 @@ pub fn sort_file(file: &[u8], rows: &[usize], sections: Sections, sorts: &mut [u
     sort_nodes(file, sorts, &mut marks, rows, byte(file, n));
     Sorting {
         found: found_at(marks[0]),
-        above: marks[1],
+        highest: marks[1],
     }
 }

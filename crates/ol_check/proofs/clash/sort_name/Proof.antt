@@ -7,7 +7,7 @@ use Rattle.ol_check.proofs.clash.sort_name.Reads as reads
 use Rattle.ol_check.proofs.clash.sort_name.Lts as lts
 use Rattle.ol_check.proofs.clash.clashes.Reads as clashes-reads
 use Rattle.ol_check.proofs.clash.first_place.Reads as first-place-reads
-use Rattle.ol_check.proofs.clash.still_low.Reads as still-low-reads
+use Rattle.ol_check.proofs.clash.higher.Reads as higher-reads
 use Rattle.ol_tables.proofs.bytes.byte.Reads as byte-reads
 use Rattle.ol_tables.proofs.bytes.name.Reads as name-reads
 use Rattle.ol_tables.proofs.bytes.put_byte.Reads as put-byte-reads
@@ -45,12 +45,12 @@ element-write-marks : tie.Need-element-write-marks
 element-write-marks c = search needs
 
 -- src/clash.rt:89:26
-element-copy-out-still-low : tie.Need-element-copy-out-still-low
-element-copy-out-still-low c = search needs
+element-copy-out-higher : tie.Need-element-copy-out-higher
+element-copy-out-higher c = search needs
 
 -- src/clash.rt:89:16
-still-low-requires : tie.Need-still-low-requires
-still-low-requires c κs = search needs
+higher-requires : tie.Need-higher-requires
+higher-requires c κs = search needs
 
 -- src/clash.rt:89:5
 element-write-marks-2 : tie.Need-element-write-marks-2
@@ -64,7 +64,7 @@ same-length c = search needs
 returns : tie.Need-returns
 returns c =
     let start = c .before .before .before .before .before .before .before .before .before .before .before .before .before .before in
-    name-walks (start .args .file .now) (start .args .sort) (start .args .at) (start .pre .1) (start .pre .3) (start .pre .0) (c .before .before .before .before .before .before .before .before .before .before .before .name .ensures) (c .before .before .before .before .before .before .before .before .before .byte .ensures) (c .before .before .before .before .before .before .before .before .clashes .ensures) (c .before .before .before .before .before .before .put-byte .ensures) (c .before .before .first-place .ensures) (c .still-low .ensures) refl
+    name-walks (start .args .file .now) (start .args .sort) (start .args .at) (start .pre .1) (start .pre .3) (start .pre .0) (c .before .before .before .before .before .before .before .before .before .before .before .name .ensures) (c .before .before .before .before .before .before .before .before .before .byte .ensures) (c .before .before .before .before .before .before .before .before .clashes .ensures) (c .before .before .before .before .before .before .put-byte .ensures) (c .before .before .first-place .ensures) (c .higher .ensures) refl
 
 pub sort-name-spec : {M : Type 1} → statement M
 sort-name-spec =
@@ -78,8 +78,8 @@ sort-name-spec =
     element-copy-out-first-place
     first-place-requires
     element-write-marks
-    element-copy-out-still-low
-    still-low-requires
+    element-copy-out-higher
+    higher-requires
     element-write-marks-2
     same-length
     returns)
