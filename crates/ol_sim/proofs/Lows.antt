@@ -18,7 +18,6 @@ use Rattle.ol_tables.specs.Tables.{Each}
 use Rattle.ol_tables.proofs.Forms.{each-join}
 use Rattle.ol_check.specs.FileJudged.{NamesWithin}
 use Rattle.ol_order.specs.Orders.{LowNames}
-use Rattle.ol_check.specs.Clashing.{isLow}
 
 module _ (m : ℕ) where
   abbrev Small : ℕ → Type 0
@@ -66,12 +65,3 @@ pub low-names : (f : File) → fault7 f ≡ none → NamesWithin 1024 f → (k :
 low-names f no7 w k h x g =
     let n = getD (f .nodes) k noNode in
     no-definer 1024 (seenBy f n) 0 (n .equations) x (seen-small 1024 f w k h) (names-seen f no7 k h) g
-
--- a test that holds of all
-pub all-each : {A : Type 0} (P : A → Type 0) (p : A → Bool) → ((x : A) → T (p x) → P x) → (xs : List A) → T (allOf p xs) → Each P xs
-all-each P p g [] t = tt
-all-each P p g (x ∷ xs) t = let w = T-and (p x) (allOf p xs) t in (g x (w .0), all-each P p g xs (w .1))
-
--- every declared name is below 1,024, told by a test
-pub lows-of : (f : File) {low : Bool} → low ≡ allOf isLow (declared f) → low ≡ true → Each (λ d. d .name < 1024) (declared f)
-lows-of f e h = all-each (λ d. d .name < 1024) isLow (λ d t. ltb→lt (d .name) 1024 t) (declared f) (subst T (sym (sym e ∙ h)) tt)

@@ -42,9 +42,13 @@ from7 f = (7, Adm.fault7 f) ∷ (8, Adm.fault8 f) ∷ (9, Adm.fault9 f) ∷ (10,
 abbrev pub from6 : File → List (ℕ × Option ℕ)
 from6 f = (6, Adm.fault6 f) ∷ from7 f
 
+-- every declared name is below a number
+abbrev pub Below : ℕ → File → Type 0
+Below n f = Each (λ d. d .name < n) (Adm.declared f)
+
 -- the declared names are below 1,024 where this says so
 abbrev pub Low : File → Bool → Type 0
-Low f low = low ≡ true → Each (λ d. d .name < 1024) (Adm.declared f)
+Low f low = low ≡ true → Below 1024 f
 
 -- the constants' values, none where one is stuck
 abbrev pub valuesIn : File → List Value

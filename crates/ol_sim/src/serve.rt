@@ -26,7 +26,7 @@ ghost use Rattle.ol_spec.specs.Limits.{relayLoader};
 ghost use Rattle.ol_spec.specs.Admission.{fault6, judge};
 ghost use Rattle.ol_tables.specs.At.{fileAt};
 ghost use Rattle.ol_check.specs.Founds.{placeOf};
-ghost use Rattle.ol_sim.specs.Judging.{Low, NamesReady, SectionsReady, FileReady, Loads, whole};
+ghost use Rattle.ol_sim.specs.Judging.{Below, Low, NamesReady, SectionsReady, FileReady, Loads, whole};
 ghost use Rattle.ol_tables.specs.Tables.{Variants};
 ghost use Rattle.ol_sim.specs.Answering.{AnswerReady};
 ghost use Rattle.ol_sim.specs.Serving.{Serves};
@@ -190,6 +190,63 @@ fn serve_high(
     }
 }
 
+// With every declared name below 8,192. It calls itself as `serve_high` does: a call with low names does not touch these tables' stack.
+fn serve_middle(
+    turns: usize,
+    call: Call,
+    file: &[u8],
+    enums: usize,
+    places: &[usize],
+    rows: &mut [usize],
+    tab: &mut [u8],
+    sections: Sections,
+    old: &[u8],
+    inputs: &[u8],
+    new: &mut [u8],
+    values: &mut [u8],
+) -> Answer
+    requires { ⌜ SectionsReady (now file) enums (now places) (now rows) (now tab) sections × Below 8192 (fileAt (now file)) ⌝ }
+    ensures { λ r. ⌜ Serves call (now (file .entry)) (now (old .entry)) (now (inputs .entry)) (now (new .entry)) (now (values .entry)) r (now (new .exit)) (now (values .exit)) ⌝ }
+{
+    if 0 < turns {
+        serve_middle(
+            turns - 1,
+            call,
+            file,
+            enums,
+            places,
+            rows,
+            tab,
+            sections,
+            old,
+            inputs,
+            new,
+            values,
+        )
+    } else {
+        let mut sorts = [0u8; 8192];
+        let s = sort_file(file, rows, sections, &mut sorts);
+        let clash = s.found;
+        let mut names = [0u8; 8192];
+        serve_named(
+            call,
+            file,
+            enums,
+            places,
+            rows,
+            tab,
+            &mut names,
+            sections,
+            false,
+            clash,
+            old,
+            inputs,
+            new,
+            values,
+        )
+    }
+}
+
 // With tables to write. Until the slots are written, their part of `tab` is blank: fault 6 uses it.
 fn serve_with(
     call: Call,
@@ -209,7 +266,7 @@ fn serve_with(
     let sections = rows_of(file, places, rows, &mut tab[TYPES..SLOTS]);
     let s = sort_file(file, rows, sections, &mut tab[SLOTS..]);
     let clash = s.found;
-    if s.low {
+    if s.highest < 1024 {
         serve_low(
             call,
             file,
@@ -219,6 +276,22 @@ fn serve_with(
             tab,
             sections,
             clash,
+            old,
+            inputs,
+            new,
+            values,
+        )
+    } else if s.highest < 8192 {
+        let turns = file.len() / 65536;
+        serve_middle(
+            turns,
+            call,
+            file,
+            enums,
+            places,
+            rows,
+            tab,
+            sections,
             old,
             inputs,
             new,

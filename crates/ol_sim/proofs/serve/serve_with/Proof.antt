@@ -1,7 +1,7 @@
 -- <uses>
 use mathlib.Core.Path.{_∙_}
 use Rattle.ol_tables.specs.At.{fileAt}
-use Rattle.ol_sim.proofs.Lows.{lows-of}
+use Rattle.ol_check.proofs.ClashFile.{names-below}
 use Rattle.ol_sim.proofs.Begins.{rowed-done, declared-ready, sections-ready, places-are, types-room, middle-long, blank-slots, sorted-long, sorted-ready}
 use native.Mathlib.Omega.{arith}
 use borrow.Author.Needs.{needs}
@@ -15,106 +15,135 @@ use Rattle.ol_check.proofs.clash.sort_file.Reads as sort-file-reads
 use Rattle.ol_check.proofs.rows.rows_of.Reads as rows-of-reads
 use Rattle.ol_sim.proofs.serve.serve_high.Reads as serve-high-reads
 use Rattle.ol_sim.proofs.serve.serve_low.Reads as serve-low-reads
+use Rattle.ol_sim.proofs.serve.serve_middle.Reads as serve-middle-reads
 
--- src/serve.rt:201:48
+-- src/serve.rt:266:48
 sub-rows-of : tie.Need-sub-rows-of
 sub-rows-of c = omega arith
 
--- src/serve.rt:201:48
+-- src/serve.rt:266:48
 part-rows-of-start : tie.Need-part-rows-of-start
 part-rows-of-start c =
     let start = c .before .before .before .before .before .before .before .before .before in
     omega (arith, start .pre .tabLong)
 
--- src/serve.rt:201:48
+-- src/serve.rt:266:48
 part-rows-of-end : tie.Need-part-rows-of-end
 part-rows-of-end c =
     let start = c .before .before .before .before .before .before .before .before .before in
     omega (arith, start .pre .tabLong)
 
--- src/serve.rt:201:9
+-- src/serve.rt:266:9
 rows-of-requires : tie.Need-rows-of-requires
 rows-of-requires c κs =
     let start = c .before .before .before .before .before .before .before .before .before .before in
     (start .pre .loads .reads, places-are (start .pre), start .pre .rowsLong, types-room (start .pre))
 
--- src/serve.rt:202:45
+-- src/serve.rt:267:45
 sub-sort-file : tie.Need-sub-sort-file
 sub-sort-file c =
     let start = c .before .before .before .before .before .before .before .before .before .before .before .before .before .before .before .before in
     omega (arith, start .pre .tabLong, (middle-long (start .args .tab .now) (c .before .before .before .before .before .rows-of .last .1 .1 .1 .0) (omega (arith, start .pre .tabLong)) ((c .before .before .before .before .before .rows-of .kept .1 .1 .1 .0) ∙ types-room (start .pre))))
 
--- src/serve.rt:202:45
+-- src/serve.rt:267:45
 part-sort-file-start : tie.Need-part-sort-file-start
 part-sort-file-start c =
     let start = c .before .before .before .before .before .before .before .before .before .before .before .before .before .before .before .before in
     omega (arith, start .pre .tabLong, (middle-long (start .args .tab .now) (c .before .before .before .before .before .rows-of .last .1 .1 .1 .0) (omega (arith, start .pre .tabLong)) ((c .before .before .before .before .before .rows-of .kept .1 .1 .1 .0) ∙ types-room (start .pre))))
 
--- src/serve.rt:202:45
+-- src/serve.rt:267:45
 part-sort-file-end : tie.Need-part-sort-file-end
 part-sort-file-end c = search needs
 
--- src/serve.rt:202:9
+-- src/serve.rt:267:9
 sort-file-requires : tie.Need-sort-file-requires
 sort-file-requires c κs =
     let start = c .before .before .before .before .before .before .before .before .before .before .before .before .before .before .before .before .before in
     declared-ready (rowed-done (start .pre) (c .before .before .before .before .before .before .rows-of .ensures) (c .before .before .before .before .before .before .rows-of .kept .1 .1 .0))
 
--- src/serve.rt:205:9
+-- src/serve.rt:270:9
 serve-low-requires : tie.Need-serve-low-requires
 serve-low-requires c κs =
-    let start = c .before .before .before .before .before .before .before .before .before .before .before .before .before .before .before .before .before .before .before .before .before .before .before .before .before in
-    ((sorted-ready (c .before .before .before .before .before .before .before .sort-file .last .1 .1 .1 .0) (sections-ready (c .before .before .before .before .before .before .before .before .before .before .before .before .before .before .rows-of .last .1 .1 .1 .0) (start .pre) (c .before .before .before .before .before .before .before .before .before .before .before .before .before .before .rows-of .ensures) (c .before .before .before .before .before .before .before .before .before .before .before .before .before .before .rows-of .kept .1 .1 .0) (c .before .before .before .before .before .before .before .before .before .before .before .before .before .before .rows-of .kept .1 .1 .1 .0)) (c .before .before .before .before .before .before .before .sort-file .kept .1 .1 .1 .0), λ e. (lows-of (fileAt (start .args .file .now)) (c .before .before .before .before .before .before .before .sort-file .ensures .lows) (c .before .before .before .before .if1 .taken))), c .before .before .before .before .before .before .before .sort-file .ensures .finds (blank-slots (c .before .before .before .before .before .before .before .before .before .before .before .before .before .before .rows-of .last .1 .1 .1 .0) (start .pre) (c .before .before .before .before .before .before .before .before .before .before .before .before .before .before .rows-of .kept .1 .1 .1 .0) (lows-of (fileAt (start .args .file .now)) (c .before .before .before .before .before .before .before .sort-file .ensures .lows) (c .before .before .before .before .if1 .taken))))
+    let start = c .before .before .before .before .before .before .before .before .before .before .before .before .before .before .before .before .before .before .before .before .before .before .before .before .before .before in
+    ((sorted-ready (c .before .before .before .before .before .before .before .before .sort-file .last .1 .1 .1 .0) (sections-ready (c .before .before .before .before .before .before .before .before .before .before .before .before .before .before .before .rows-of .last .1 .1 .1 .0) (start .pre) (c .before .before .before .before .before .before .before .before .before .before .before .before .before .before .before .rows-of .ensures) (c .before .before .before .before .before .before .before .before .before .before .before .before .before .before .before .rows-of .kept .1 .1 .0) (c .before .before .before .before .before .before .before .before .before .before .before .before .before .before .before .rows-of .kept .1 .1 .1 .0)) (c .before .before .before .before .before .before .before .before .sort-file .kept .1 .1 .1 .0), λ e. (names-below 1024 (c .before .before .before .before .before .before .before .before .sort-file .ensures) (c .before .before .before .before .if1 .taken))), c .before .before .before .before .before .before .before .before .sort-file .ensures .finds (blank-slots (c .before .before .before .before .before .before .before .before .before .before .before .before .before .before .before .rows-of .last .1 .1 .1 .0) (start .pre) (c .before .before .before .before .before .before .before .before .before .before .before .before .before .before .before .rows-of .kept .1 .1 .1 .0) (names-below 1024 (c .before .before .before .before .before .before .before .before .sort-file .ensures) (c .before .before .before .before .if1 .taken))))
 
--- src/serve.rt:221:9
+-- src/serve.rt:286:9
+serve-middle-requires : tie.Need-serve-middle-requires
+serve-middle-requires c κs =
+    let start = c .before .before .before .before .before .before .before .before .before .before .before .before .before .before .before .before .before .before .before .before .before .before .before .before .before .before .before .before in
+    (sorted-ready (c .before .before .before .before .before .before .before .before .before .before .sort-file .last .1 .1 .1 .0) (sections-ready (c .before .before .before .before .before .before .before .before .before .before .before .before .before .before .before .before .before .rows-of .last .1 .1 .1 .0) (start .pre) (c .before .before .before .before .before .before .before .before .before .before .before .before .before .before .before .before .before .rows-of .ensures) (c .before .before .before .before .before .before .before .before .before .before .before .before .before .before .before .before .before .rows-of .kept .1 .1 .0) (c .before .before .before .before .before .before .before .before .before .before .before .before .before .before .before .before .before .rows-of .kept .1 .1 .1 .0)) (c .before .before .before .before .before .before .before .before .before .before .sort-file .kept .1 .1 .1 .0), names-below 8192 (c .before .before .before .before .before .before .before .before .before .before .sort-file .ensures) (c .before .before .before .before .if2 .taken))
+
+-- src/serve.rt:302:9
 serve-high-requires : tie.Need-serve-high-requires
 serve-high-requires c κs =
-    let start = c .before .before .before .before .before .before .before .before .before .before .before .before .before .before .before .before .before .before .before .before .before .before .before .before .before in
-    sorted-ready (c .before .before .before .before .before .before .before .sort-file .last .1 .1 .1 .0) (sections-ready (c .before .before .before .before .before .before .before .before .before .before .before .before .before .before .rows-of .last .1 .1 .1 .0) (start .pre) (c .before .before .before .before .before .before .before .before .before .before .before .before .before .before .rows-of .ensures) (c .before .before .before .before .before .before .before .before .before .before .before .before .before .before .rows-of .kept .1 .1 .0) (c .before .before .before .before .before .before .before .before .before .before .before .before .before .before .rows-of .kept .1 .1 .1 .0)) (c .before .before .before .before .before .before .before .sort-file .kept .1 .1 .1 .0)
+    let start = c .before .before .before .before .before .before .before .before .before .before .before .before .before .before .before .before .before .before .before .before .before .before .before .before .before .before .before .before in
+    sorted-ready (c .before .before .before .before .before .before .before .before .before .before .sort-file .last .1 .1 .1 .0) (sections-ready (c .before .before .before .before .before .before .before .before .before .before .before .before .before .before .before .before .before .rows-of .last .1 .1 .1 .0) (start .pre) (c .before .before .before .before .before .before .before .before .before .before .before .before .before .before .before .before .before .rows-of .ensures) (c .before .before .before .before .before .before .before .before .before .before .before .before .before .before .before .before .before .rows-of .kept .1 .1 .0) (c .before .before .before .before .before .before .before .before .before .before .before .before .before .before .before .before .before .rows-of .kept .1 .1 .1 .0)) (c .before .before .before .before .before .before .before .before .before .before .sort-file .kept .1 .1 .1 .0)
 
--- src/serve.rt:186:1
+-- src/serve.rt:251:1
 same-length : tie.Need-same-length
-same-length c = c .before .before .before .before .before .before .before .before .serve-low .kept .1 .1 .1 .1 .0 ∙ c .before .before .before .before .before .before .before .before .before .before .before .before .before .before .before .before .before .before .before .before .before .before .before .rows-of .kept .1 .1 .0
+same-length c = c .before .before .before .before .before .before .before .before .serve-low .kept .1 .1 .1 .1 .0 ∙ c .before .before .before .before .before .before .before .before .before .before .before .before .before .before .before .before .before .before .before .before .before .before .before .before .rows-of .kept .1 .1 .0
 
--- src/serve.rt:186:1
+-- src/serve.rt:251:1
 same-length-2 : tie.Need-same-length-2
 same-length-2 c =
-    let start = c .before .before .before .before .before .before .before .before .before .before .before .before .before .before .before .before .before .before .before .before .before .before .before .before .before .before .before .before .before .before .before .before .before .before in
-    c .before .before .before .before .before .before .before .before .serve-low .kept .1 .1 .1 .1 .1 .0 ∙ (sorted-long (c .before .before .before .before .before .before .before .before .before .before .before .before .before .before .before .before .sort-file .last .1 .1 .1 .0) (sections-ready (c .before .before .before .before .before .before .before .before .before .before .before .before .before .before .before .before .before .before .before .before .before .before .before .rows-of .last .1 .1 .1 .0) (start .pre) (c .before .before .before .before .before .before .before .before .before .before .before .before .before .before .before .before .before .before .before .before .before .before .before .rows-of .ensures) (c .before .before .before .before .before .before .before .before .before .before .before .before .before .before .before .before .before .before .before .before .before .before .before .rows-of .kept .1 .1 .0) (c .before .before .before .before .before .before .before .before .before .before .before .before .before .before .before .before .before .before .before .before .before .before .before .rows-of .kept .1 .1 .1 .0)) (c .before .before .before .before .before .before .before .before .before .before .before .before .before .before .before .before .sort-file .kept .1 .1 .1 .0) ∙ (middle-long (start .args .tab .now) (c .before .before .before .before .before .before .before .before .before .before .before .before .before .before .before .before .before .before .before .before .before .before .before .rows-of .last .1 .1 .1 .0) (omega (arith, start .pre .tabLong)) ((c .before .before .before .before .before .before .before .before .before .before .before .before .before .before .before .before .before .before .before .before .before .before .before .rows-of .kept .1 .1 .1 .0) ∙ types-room (start .pre))))
+    let start = c .before .before .before .before .before .before .before .before .before .before .before .before .before .before .before .before .before .before .before .before .before .before .before .before .before .before .before .before .before .before .before .before .before .before .before in
+    c .before .before .before .before .before .before .before .before .serve-low .kept .1 .1 .1 .1 .1 .0 ∙ (sorted-long (c .before .before .before .before .before .before .before .before .before .before .before .before .before .before .before .before .before .sort-file .last .1 .1 .1 .0) (sections-ready (c .before .before .before .before .before .before .before .before .before .before .before .before .before .before .before .before .before .before .before .before .before .before .before .before .rows-of .last .1 .1 .1 .0) (start .pre) (c .before .before .before .before .before .before .before .before .before .before .before .before .before .before .before .before .before .before .before .before .before .before .before .before .rows-of .ensures) (c .before .before .before .before .before .before .before .before .before .before .before .before .before .before .before .before .before .before .before .before .before .before .before .before .rows-of .kept .1 .1 .0) (c .before .before .before .before .before .before .before .before .before .before .before .before .before .before .before .before .before .before .before .before .before .before .before .before .rows-of .kept .1 .1 .1 .0)) (c .before .before .before .before .before .before .before .before .before .before .before .before .before .before .before .before .before .sort-file .kept .1 .1 .1 .0) ∙ (middle-long (start .args .tab .now) (c .before .before .before .before .before .before .before .before .before .before .before .before .before .before .before .before .before .before .before .before .before .before .before .before .rows-of .last .1 .1 .1 .0) (omega (arith, start .pre .tabLong)) ((c .before .before .before .before .before .before .before .before .before .before .before .before .before .before .before .before .before .before .before .before .before .before .before .before .rows-of .kept .1 .1 .1 .0) ∙ types-room (start .pre))))
 
--- src/serve.rt:186:1
+-- src/serve.rt:251:1
 same-length-3 : tie.Need-same-length-3
 same-length-3 c = c .before .before .before .before .before .before .before .before .serve-low .kept .1 .1 .1 .1 .1 .1 .1 .1 .1 .1 .0
 
--- src/serve.rt:186:1
+-- src/serve.rt:251:1
 same-length-4 : tie.Need-same-length-4
 same-length-4 c = c .before .before .before .before .before .before .before .before .serve-low .kept .1 .1 .1 .1 .1 .1 .1 .1 .1 .1 .1 .0
 
--- src/serve.rt:186:1
+-- src/serve.rt:251:1
 returns : tie.Need-returns
 returns c = c .before .before .before .before .before .before .before .before .serve-low .ensures
 
--- src/serve.rt:186:1
+-- src/serve.rt:251:1
 same-length-5 : tie.Need-same-length-5
-same-length-5 c = c .before .before .before .before .before .before .before .before .serve-high .kept .1 .1 .1 .1 .1 .0 ∙ c .before .before .before .before .before .before .before .before .before .before .before .before .before .before .before .before .before .before .before .before .before .before .before .rows-of .kept .1 .1 .0
+same-length-5 c = c .before .before .before .before .before .before .before .before .serve-middle .kept .1 .1 .1 .1 .1 .0 ∙ c .before .before .before .before .before .before .before .before .before .before .before .before .before .before .before .before .before .before .before .before .before .before .before .before .before .before .rows-of .kept .1 .1 .0
 
--- src/serve.rt:186:1
+-- src/serve.rt:251:1
 same-length-6 : tie.Need-same-length-6
 same-length-6 c =
-    let start = c .before .before .before .before .before .before .before .before .before .before .before .before .before .before .before .before .before .before .before .before .before .before .before .before .before .before .before .before .before .before .before .before .before .before in
-    c .before .before .before .before .before .before .before .before .serve-high .kept .1 .1 .1 .1 .1 .1 .0 ∙ (sorted-long (c .before .before .before .before .before .before .before .before .before .before .before .before .before .before .before .before .sort-file .last .1 .1 .1 .0) (sections-ready (c .before .before .before .before .before .before .before .before .before .before .before .before .before .before .before .before .before .before .before .before .before .before .before .rows-of .last .1 .1 .1 .0) (start .pre) (c .before .before .before .before .before .before .before .before .before .before .before .before .before .before .before .before .before .before .before .before .before .before .before .rows-of .ensures) (c .before .before .before .before .before .before .before .before .before .before .before .before .before .before .before .before .before .before .before .before .before .before .before .rows-of .kept .1 .1 .0) (c .before .before .before .before .before .before .before .before .before .before .before .before .before .before .before .before .before .before .before .before .before .before .before .rows-of .kept .1 .1 .1 .0)) (c .before .before .before .before .before .before .before .before .before .before .before .before .before .before .before .before .sort-file .kept .1 .1 .1 .0) ∙ (middle-long (start .args .tab .now) (c .before .before .before .before .before .before .before .before .before .before .before .before .before .before .before .before .before .before .before .before .before .before .before .rows-of .last .1 .1 .1 .0) (omega (arith, start .pre .tabLong)) ((c .before .before .before .before .before .before .before .before .before .before .before .before .before .before .before .before .before .before .before .before .before .before .before .rows-of .kept .1 .1 .1 .0) ∙ types-room (start .pre))))
+    let start = c .before .before .before .before .before .before .before .before .before .before .before .before .before .before .before .before .before .before .before .before .before .before .before .before .before .before .before .before .before .before .before .before .before .before .before .before .before in
+    c .before .before .before .before .before .before .before .before .serve-middle .kept .1 .1 .1 .1 .1 .1 .0 ∙ (sorted-long (c .before .before .before .before .before .before .before .before .before .before .before .before .before .before .before .before .before .before .before .sort-file .last .1 .1 .1 .0) (sections-ready (c .before .before .before .before .before .before .before .before .before .before .before .before .before .before .before .before .before .before .before .before .before .before .before .before .before .before .rows-of .last .1 .1 .1 .0) (start .pre) (c .before .before .before .before .before .before .before .before .before .before .before .before .before .before .before .before .before .before .before .before .before .before .before .before .before .before .rows-of .ensures) (c .before .before .before .before .before .before .before .before .before .before .before .before .before .before .before .before .before .before .before .before .before .before .before .before .before .before .rows-of .kept .1 .1 .0) (c .before .before .before .before .before .before .before .before .before .before .before .before .before .before .before .before .before .before .before .before .before .before .before .before .before .before .rows-of .kept .1 .1 .1 .0)) (c .before .before .before .before .before .before .before .before .before .before .before .before .before .before .before .before .before .before .before .sort-file .kept .1 .1 .1 .0) ∙ (middle-long (start .args .tab .now) (c .before .before .before .before .before .before .before .before .before .before .before .before .before .before .before .before .before .before .before .before .before .before .before .before .before .before .rows-of .last .1 .1 .1 .0) (omega (arith, start .pre .tabLong)) ((c .before .before .before .before .before .before .before .before .before .before .before .before .before .before .before .before .before .before .before .before .before .before .before .before .before .before .rows-of .kept .1 .1 .1 .0) ∙ types-room (start .pre))))
 
--- src/serve.rt:186:1
+-- src/serve.rt:251:1
 same-length-7 : tie.Need-same-length-7
-same-length-7 c = c .before .before .before .before .before .before .before .before .serve-high .kept .1 .1 .1 .1 .1 .1 .1 .1 .1 .1 .0
+same-length-7 c = c .before .before .before .before .before .before .before .before .serve-middle .kept .1 .1 .1 .1 .1 .1 .1 .1 .1 .1 .0
 
--- src/serve.rt:186:1
+-- src/serve.rt:251:1
 same-length-8 : tie.Need-same-length-8
-same-length-8 c = c .before .before .before .before .before .before .before .before .serve-high .kept .1 .1 .1 .1 .1 .1 .1 .1 .1 .1 .1 .0
+same-length-8 c = c .before .before .before .before .before .before .before .before .serve-middle .kept .1 .1 .1 .1 .1 .1 .1 .1 .1 .1 .1 .0
 
--- src/serve.rt:186:1
+-- src/serve.rt:251:1
 returns-2 : tie.Need-returns-2
-returns-2 c = c .before .before .before .before .before .before .before .before .serve-high .ensures
+returns-2 c = c .before .before .before .before .before .before .before .before .serve-middle .ensures
+
+-- src/serve.rt:251:1
+same-length-9 : tie.Need-same-length-9
+same-length-9 c = c .before .before .before .before .before .before .before .before .serve-high .kept .1 .1 .1 .1 .1 .0 ∙ c .before .before .before .before .before .before .before .before .before .before .before .before .before .before .before .before .before .before .before .before .before .before .before .before .before .before .rows-of .kept .1 .1 .0
+
+-- src/serve.rt:251:1
+same-length-10 : tie.Need-same-length-10
+same-length-10 c =
+    let start = c .before .before .before .before .before .before .before .before .before .before .before .before .before .before .before .before .before .before .before .before .before .before .before .before .before .before .before .before .before .before .before .before .before .before .before .before .before in
+    c .before .before .before .before .before .before .before .before .serve-high .kept .1 .1 .1 .1 .1 .1 .0 ∙ (sorted-long (c .before .before .before .before .before .before .before .before .before .before .before .before .before .before .before .before .before .before .before .sort-file .last .1 .1 .1 .0) (sections-ready (c .before .before .before .before .before .before .before .before .before .before .before .before .before .before .before .before .before .before .before .before .before .before .before .before .before .before .rows-of .last .1 .1 .1 .0) (start .pre) (c .before .before .before .before .before .before .before .before .before .before .before .before .before .before .before .before .before .before .before .before .before .before .before .before .before .before .rows-of .ensures) (c .before .before .before .before .before .before .before .before .before .before .before .before .before .before .before .before .before .before .before .before .before .before .before .before .before .before .rows-of .kept .1 .1 .0) (c .before .before .before .before .before .before .before .before .before .before .before .before .before .before .before .before .before .before .before .before .before .before .before .before .before .before .rows-of .kept .1 .1 .1 .0)) (c .before .before .before .before .before .before .before .before .before .before .before .before .before .before .before .before .before .before .before .sort-file .kept .1 .1 .1 .0) ∙ (middle-long (start .args .tab .now) (c .before .before .before .before .before .before .before .before .before .before .before .before .before .before .before .before .before .before .before .before .before .before .before .before .before .before .rows-of .last .1 .1 .1 .0) (omega (arith, start .pre .tabLong)) ((c .before .before .before .before .before .before .before .before .before .before .before .before .before .before .before .before .before .before .before .before .before .before .before .before .before .before .rows-of .kept .1 .1 .1 .0) ∙ types-room (start .pre))))
+
+-- src/serve.rt:251:1
+same-length-11 : tie.Need-same-length-11
+same-length-11 c = c .before .before .before .before .before .before .before .before .serve-high .kept .1 .1 .1 .1 .1 .1 .1 .1 .1 .1 .0
+
+-- src/serve.rt:251:1
+same-length-12 : tie.Need-same-length-12
+same-length-12 c = c .before .before .before .before .before .before .before .before .serve-high .kept .1 .1 .1 .1 .1 .1 .1 .1 .1 .1 .1 .0
+
+-- src/serve.rt:251:1
+returns-3 : tie.Need-returns-3
+returns-3 c = c .before .before .before .before .before .before .before .before .serve-high .ensures
 
 pub serve-with-spec : {M : Type 1} → statement M
 serve-with-spec =
@@ -129,6 +158,7 @@ serve-with-spec =
     part-sort-file-end
     sort-file-requires
     serve-low-requires
+    serve-middle-requires
     serve-high-requires
     same-length
     same-length-2
@@ -139,4 +169,9 @@ serve-with-spec =
     same-length-6
     same-length-7
     same-length-8
-    returns-2)
+    returns-2
+    same-length-9
+    same-length-10
+    same-length-11
+    same-length-12
+    returns-3)
