@@ -11,7 +11,7 @@ use lib.ListN.{length, getD, set, take, drop, length-set, length-append}
 use lib.Seq.{getD-set-same, getD-set-other, getD-append-add, getD-drop, take-set-le, take-at, length-take-le}
 use Rattle.ol_spec.specs.Lists.{sum, concat, allOf}
 use Rattle.ol_spec.specs.Syntax.{Variable, Equation, Node, File, variables, noNode}
-use Rattle.ol_spec.specs.Places.{variableSize, equationSize, nodeSize, placed, nodesStart}
+use Rattle.ol_spec.specs.Places.{variableSize, equationSize, nodeSize, nodesStart}
 use Rattle.ol_spec.specs.Limits.{base}
 use Rattle.ol_spec.specs.Within.{nameFits, sectionFits, equationFits}
 use Rattle.ol_spec.specs.Step.{noEquation, equationSites, ownSize}

@@ -2,22 +2,19 @@
 use Prim.Native.Nat.{ℕ, suc, _+_, _-_, _<_, _≤_}
 use mathlib.Core.Bool.{Bool}
 use mathlib.Core.List.{List, _∷_, _++_}
-use mathlib.Core.Path.{_≡_, refl, sym, ap, subst, _∙_}
+use mathlib.Core.Path.{_≡_, refl, sym, subst, _∙_}
 use native.Mathlib.Omega.{arith}
 use lib.ListN.{length, take, drop, getD, drop-of-length-le}
 use lib.Seq.{drop-cons}
 use Rattle.ol_spec.specs.Cell.{valuesOf}
 use Rattle.ol_spec.specs.Order.{order}
-use Rattle.ol_spec.specs.Eval.{Evals, Outcomes, values, failure, overflow, callees, calleesAll, sitesSize}
-use Rattle.ol_spec.specs.Step.{sites, assign, finished, failedAt, overflowedAt, evalEquation, calls}
+use Rattle.ol_spec.specs.Eval.{Evals, Outcomes, values, failure, overflow, callees, sitesSize}
+use Rattle.ol_spec.specs.Step.{assign, finished, failedAt, overflowedAt, evalEquation, calls}
 use Rattle.ol_spec.specs.Step.{Ended as RunEnd}
 use Rattle.ol_spec.specs.declared.Value.{Value}
-use Rattle.ol_tables.specs.At.{fileAt, nodeIn, exprsAt}
-use Rattle.ol_tables.specs.Tables.{Each}
-use Rattle.ol_tables.proofs.Forms.{each-map}
-use Rattle.ol_frame.specs.Walk.{nodesIn, sizesIn, Below}
+use Rattle.ol_tables.specs.At.{nodeIn}
+use Rattle.ol_frame.specs.Walk.{sizesIn}
 use Rattle.ol_frame.specs.Plans.{globalsIn, widthIn}
-use Rattle.ol_frame.specs.Nodes.{Running}
 use Rattle.ol_frame.specs.Frame.{nodeOf, firstOf, beforeOf, Keeps}
 use Rattle.ol_frame.specs.Outcomes.{endingOf}
 use Rattle.ol_frame.specs.declared.outcomes.Ending.{Ending}
@@ -25,8 +22,6 @@ use Rattle.ol_frame.specs.declared.outcomes.Ending.the-variants as End
 use Rattle.ol_eval.specs.Calls.{Holds, Did, Runnable, runIn, EndsAs, RunTo, EquationReady, EquationTo}
 use Rattle.ol_frame.specs.Equations.{countIn, equationIn, EquationIs, offsetIn}
 use Rattle.ol_frame.proofs.Endings.{failed-values, over-values}
-use Rattle.ol_frame.proofs.Passing.{callees-one}
-use Rattle.ol_frame.proofs.Planning.{sounds-below}
 use Rattle.ol_frame.proofs.Equating.{offset-suc, offset-upto}
 use Rattle.ol_frame.proofs.Running.{midOf, putMid, length-mid, segOf, putSeg, sizeOf, Left, rightOf, left-start, left-turn, left-failed, left-over, left-done}
 

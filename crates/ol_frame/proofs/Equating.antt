@@ -8,7 +8,7 @@ use native.Mathlib.Decide.{decLt}
 use native.Mathlib.Omega.{arith}
 use borrow.Author.Tests.{lt-ltb, le-ltb}
 use lib.Dec.{ltb}
-use lib.ListN.{length, getD, take, drop, List·getD-map}
+use lib.ListN.{getD, List·getD-map}
 use lib.Seq.{getD-drop, take-all}
 use Rattle.ol_spec.specs.Lists.{concat}
 use Rattle.ol_spec.specs.Places.{placedNodes, placedEquations}

@@ -1,4 +1,4 @@
--- The cases of outcomes, as the functions outside the cycle of evaluation decide them.
+-- The cases of outcomes, as functions that evaluation uses decide them.
 use Prim.Native.Nat.{ℕ}
 use mathlib.Core.Bool.{Bool, true, false, cond}
 use mathlib.Core.Path.{_≡_}

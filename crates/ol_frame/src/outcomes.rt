@@ -1,4 +1,4 @@
-// Outcomes, taken apart outside the cycle of evaluation.
+// Outcomes, taken apart outside the functions of evaluation that call each other.
 ghost use mathlib.Core.Path.{_≡_};
 ghost use mathlib.Core.Bool.{true};
 ghost use Prim.Native.Nat.{ℕ};

@@ -5,14 +5,13 @@ use mathlib.Core.List.{List, [], _∷_, _++_, map}
 use mathlib.Core.Option.{none}
 use mathlib.Core.Path.{_≡_, refl, ap, sym, subst, _∙_}
 use native.Mathlib.Omega.{arith}
-use lib.Dec.{T, eqb, eqb→eq, ltb→lt}
+use lib.Dec.{T, eqb, eqb→eq}
 use lib.ListN.{length, getD}
-use Rattle.ol_spec.specs.Lists.{member, allOf}
+use Rattle.ol_spec.specs.Lists.{member}
 use Rattle.ol_spec.specs.Syntax.{Variable, Constant, Equation, File, noNode, nameOf, constantName, variables, variableNames}
 use Rattle.ol_spec.specs.Order.{later, definerFrom}
-use Rattle.ol_spec.specs.Admission.{declared, fault7, constantNames, variants}
+use Rattle.ol_spec.specs.Admission.{fault7, constantNames, variants}
 use Rattle.ol_spec.proofs.Lists.{All}
-use Rattle.ol_spec.proofs.Tests.{T-and}
 use Rattle.ol_spec.proofs.MainFacts.{seenBy, names-seen}
 use Rattle.ol_tables.specs.Tables.{Each}
 use Rattle.ol_tables.proofs.Forms.{each-join}

@@ -169,7 +169,7 @@ module _ (g : Globals) where
   unfoldable pub leave : Node → List ℕ → Run → Evals
   leave n r u = leaveOn n r (u .end) (u .cells) (u .segs)
 
-  -- a cycle of an instance on its record, the arguments fitted to the inputs
+  -- a step of an instance on its record, the arguments fitted to the inputs
   unfoldable pub instance : Calls → Node → List Value → List ℕ → Evals
   instance calls n vs r = leave n r (run g calls n (fitAll (n .inputs) vs) r)
 

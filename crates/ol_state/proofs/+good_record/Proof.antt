@@ -1,4 +1,4 @@
--- The proof of the cycle of calls. Each member's needs are in a module of its own below. Assumes nothing.
+-- The proof of functions that call each other. Each member's needs are in a module of its own below. Assumes nothing.
 use Rattle.ol_state.proofs.good_record.Reads as good-record
 use Rattle.ol_state.proofs.+good_record.Lts-good_record as good-record-lts
 use Rattle.ol_state.proofs.+good_record.{statement}

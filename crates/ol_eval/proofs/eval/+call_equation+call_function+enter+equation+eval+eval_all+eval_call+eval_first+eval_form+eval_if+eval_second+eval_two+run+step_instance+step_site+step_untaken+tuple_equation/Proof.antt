@@ -1,4 +1,4 @@
--- The proof of the cycle of calls. Each member's needs are in a module of its own below. Assumes nothing.
+-- The proof of functions that call each other. Each member's needs are in a module of its own below. Assumes nothing.
 use Rattle.ol_eval.proofs.eval.call_equation.Reads as call-equation
 use Rattle.ol_eval.proofs.eval.+call_equation+call_function+enter+equation+eval+eval_all+eval_call+eval_first+eval_form+eval_if+eval_second+eval_two+run+step_instance+step_site+step_untaken+tuple_equation.Lts-call_equation as call-equation-lts
 use Rattle.ol_eval.proofs.eval.call_function.Reads as call-function

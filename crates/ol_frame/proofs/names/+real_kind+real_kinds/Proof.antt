@@ -1,4 +1,4 @@
--- The proof of the cycle of calls. Each member's needs are in a module of its own below. Assumes nothing.
+-- The proof of functions that call each other. Each member's needs are in a module of its own below. Assumes nothing.
 use Rattle.ol_frame.proofs.names.real_kind.Reads as real-kind
 use Rattle.ol_frame.proofs.names.+real_kind+real_kinds.Lts-real_kind as real-kind-lts
 use Rattle.ol_frame.proofs.names.real_kinds.Reads as real-kinds

@@ -1,4 +1,4 @@
--- The proof of the cycle of calls. Each member's needs are in a module of its own below. Assumes nothing.
+-- The proof of functions that call each other. Each member's needs are in a module of its own below. Assumes nothing.
 use Rattle.ol_order.proofs.table.orders_long.Reads as orders-long
 use Rattle.ol_order.proofs.table.+orders_long.Lts-orders_long as orders-long-lts
 use Rattle.ol_order.proofs.table.+orders_long.{statement}

@@ -1,4 +1,4 @@
--- The proof of the cycle of calls. Each member's needs are in a module of its own below. Assumes nothing.
+-- The proof of functions that call each other. Each member's needs are in a module of its own below. Assumes nothing.
 use Rattle.ol_sim.proofs.serve.serve_large.Reads as serve-large
 use Rattle.ol_sim.proofs.serve.+serve_large.Lts-serve_large as serve-large-lts
 use Rattle.ol_sim.proofs.serve.+serve_large.{statement}

@@ -1,4 +1,4 @@
--- The proof of the cycle of calls. Each member's needs are in a module of its own below. Assumes nothing.
+-- The proof of functions that call each other. Each member's needs are in a module of its own below. Assumes nothing.
 use Rattle.ol_sim.proofs.serve.serve_middle.Reads as serve-middle
 use Rattle.ol_sim.proofs.serve.+serve_middle.Lts-serve_middle as serve-middle-lts
 use Rattle.ol_sim.proofs.serve.+serve_middle.{statement}

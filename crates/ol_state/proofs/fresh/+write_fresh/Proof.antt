@@ -1,4 +1,4 @@
--- The proof of the cycle of calls. Each member's needs are in a module of its own below. Assumes nothing.
+-- The proof of functions that call each other. Each member's needs are in a module of its own below. Assumes nothing.
 use Rattle.ol_state.proofs.fresh.write_fresh.Reads as write-fresh
 use Rattle.ol_state.proofs.fresh.+write_fresh.Lts-write_fresh as write-fresh-lts
 use Rattle.ol_state.proofs.fresh.+write_fresh.{statement}

@@ -1,5 +1,5 @@
 #!/usr/bin/env python3
-# usage: split_cycle.py CRATE CYCLE-FOLDER: splits the printed Proof.antt of a cycle of calls into Proof/Common.antt (measures), a module for
+# usage: split_calls.py CRATE FOLDER: splits the printed Proof.antt of functions that call each other into Proof/Common.antt (measures), a module for
 # each member (its needs, as holes) and the Proof.antt that puts them together. Does not overwrite a member's module.
 import re,os,sys
 crate,folder=sys.argv[1],sys.argv[2]
@@ -51,7 +51,7 @@ for r,m in members:
     for n,need,_,body,inv in by[m]:
         final=re.sub(r'\(%s t\)'%re.escape(n),'(%s.%s t)'%(cap(m),n[len(m)+1:]),final)
 final=re.sub(r'\n    \((\w+)\.',r' (\1.',final); final=re.sub(r'\)\n    (\S+\.Post)',r') \1',final)
-h=['-- The proof of the cycle of calls. Each member\'s needs are in a module of its own below. Assumes nothing.']
+h=['-- The proof of functions that call each other. Each member\'s needs are in a module of its own below. Assumes nothing.']
 for r,m in members: h+=[asuse[m],asuse[m+'-lts']]
 h+=['use %s.{statement}'%me,'use %s.Tie.{close}'%me,'mod Common']+['mod '+cap(m) for r,m in members]
 h+=['use %s.Proof.Common.{%s}'%(me,', '.join(n for n in names if n.startswith('μ-') or n.endswith('-at')))]
