@@ -28,7 +28,6 @@ use Rattle.ol_order.specs.declared.table.Ring.{Ring}
 use Rattle.ol_order.specs.declared.table.Ring.the-variants as Rin
 use Rattle.ol_order.proofs.Room.{short-file, node-room, variables-room}
 use Rattle.ol_order.proofs.Nodes.{place-get, length-placed, items-placed, itemOf, place-same, node-equations, counted-few, front-is}
-use Rattle.ol_tables.specs.Heads.{Byte}
 use Rattle.ol_tables.specs.Tables.{rowAt, nodeOf, placeOf as tablePlace, slotsFrom, twoAt, plansFrom, planIn}
 use Rattle.ol_ir.specs.Walks.{placeOf}
 use Rattle.ol_ir.proofs.Files.{file-after}
@@ -225,10 +224,6 @@ module _ {at : ℕ} {n : Node} {u : ℕ} {before out : List ℕ} {r : Ring} (d :
       by (some i) = refl
 
 -- ---- what a plan says
-
--- two bytes read
-pub two-is : {t : List ℕ} {p a b : ℕ} → Byte t p a → Byte t (p + 1) b → a * 256 + b ≡ twoAt t p
-two-is {t} {p} {a} {b} x y = ap (λ v. v * 256 + b) (x .is) ∙ ap (λ v. getD t p 0 * 256 + v) (y .is)
 
 pub starts-begin : (t b : List ℕ) (plan n : ℕ) → sets b 0 (startsIn t (plan + 2 * 0) (n - 0)) ≡ sets b 0 (startsIn t plan n)
 starts-begin t b plan n =

@@ -4,7 +4,9 @@ use crate::no_definers;
 use crate::sort;
 use ol_ir::project::base;
 use ol_spec::Limits;
-use ol_tables::bytes::byte;
+use ol_tables::bytes::name;
+use ol_tables::table::ORDERS;
+use ol_tables::table::SLOTS;
 use ol_tables::tables::COUNT;
 use ol_tables::tables::MOST_EQUATIONS;
 use ol_tables::tables::VARIABLES;
@@ -29,7 +31,7 @@ pub enum Ring {
 
 // Where the slots start, behind the orders and the types; the plans have the second half of the bytes
 // from there on.
-const SLOTS_FROM: usize = 9728;
+const SLOTS_FROM: usize = SLOTS - ORDERS;
 
 // Copies an order into bytes, from their front on.
 fn copy_bytes(order: &[usize], out: &mut [u8])
@@ -93,7 +95,7 @@ fn starts_of(tab: &[u8], plan: usize, n: usize, starts: &mut [usize])
     let mut i = 0;
     while i < n {
         let p = plan + 2 * i;
-        starts[i] = byte(tab, p) * 256 + byte(tab, p + 1);
+        starts[i] = name(tab, p);
         i += 1;
     }
 }
