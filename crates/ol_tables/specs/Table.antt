@@ -4,6 +4,7 @@ use mathlib.Core.List.{List, map}
 use mathlib.Core.Path.{_≡_}
 use lib.ListN.{length, take, drop, getD, set}
 use Rattle.ol_theory.specs.Member.{upto}
+use Rattle.ol_tables.specs.Tables.{plansFrom, startAt}
 
 -- number i of the rows: three bytes
 abbrev pub numberAt : List ℕ → ℕ → ℕ
@@ -20,9 +21,13 @@ knownOf t = getD t 816 0
 abbrev pub constsOf : List ℕ → List ℕ
 constsOf t = take (9 * knownOf t) (drop 817 t)
 
--- the orders, the types, the slots and the plans
+-- the orders, the nodes' places, the slots and the plans
 abbrev pub tabOf : List ℕ → List ℕ
 tabOf t = drop 1393 t
+
+-- where the types of node k's variables start
+abbrev pub typesAt : List ℕ → ℕ → ℕ
+typesAt t k = 1393 + plansFrom (tabOf t) + startAt (tabOf t) k
 
 -- number i is stored
 abbrev pub numberPut : List ℕ → ℕ → ℕ → List ℕ

@@ -1,13 +1,13 @@
 -- The tables that every public call builds of a file that reads without fault: what each entry is, in terms of the file's tree.
--- `rows` has eight numbers for each of 32 nodes, then one for each of 16 enums. `tab` has bytes: the nodes' evaluation orders (80 entries for each of 32 nodes), the types of
--- their variables (two bytes for each of 112 variables of 32 nodes), for each place of the file the slot of the name that stands there: a Var's, or one that an equation defines; and, in as many bytes as the slots, the plans of the nodes.
-use Prim.Native.Nat.{ℕ, _+_, _-_, _*_, _/_, _<_, _≤_, min}
+-- `rows` has eight numbers for each of 32 nodes, then one for each of 16 enums. `tab` has bytes: the nodes' evaluation orders (80 entries for each of 32 nodes), where each of 32 nodes starts (two bytes),
+-- for each place of the file the slot of the name that stands there: a Var's, or one that an equation defines; and, in as many bytes as the slots, the plans of the nodes, each of which begins with the types of its node's variables (two bytes each).
+use Prim.Native.Nat.{ℕ, _+_, _-_, _*_, _/_, _%_, _<_, _≤_, min}
 use mathlib.Core.Bool.{Bool, false}
 use mathlib.Core.List.{List, [], _∷_, map}
 use mathlib.Core.Option.{Option, none, some}
 use mathlib.Core.Path.{_≡_}
 use lib.Dec.{eqb}
-use lib.ListN.{length, take, drop, getD}
+use lib.ListN.{length, take, drop, getD, set}
 use Rattle.ol_spec.specs.Lists.{concat, maybe, position, member}
 use Rattle.ol_spec.specs.Syntax.{Ty, bool, int, float32, float64, char, enum, Expr, boolLit, Constant, Node, File, noNode, variables, variableNames, typeOf}
 use Rattle.ol_spec.specs.Places.{placedConstants, placedNodes, placedEquations, placedNames, equationsStart, rhsPlace, collect}
@@ -82,22 +82,41 @@ pub record Rows (f : File) (rows : List ℕ) : Type 0 where
 
 -- ---- bytes
 
-abbrev pub typesFrom : ℕ
-typesFrom = 2560
+-- two bytes as a number
+abbrev pub twoAt : List ℕ → ℕ → ℕ
+twoAt t p = getD t p 0 * 256 + getD t (p + 1) 0
+
+-- a number is stored in two bytes from p on
+unfoldable pub twoPut : List ℕ → ℕ → ℕ → List ℕ
+twoPut t p n = set (set t p (n / 256 % 256)) (p + 1) (n % 256)
+
+abbrev pub nodesFrom : ℕ
+nodesFrom = 2560
 
 abbrev pub slotsFrom : ℕ
-slotsFrom = 9728
+slotsFrom = 2624
+
+-- where the plans start: the slots have half of the bytes behind slotsFrom
+abbrev pub plansFrom : List ℕ → ℕ
+plansFrom tab = slotsFrom + (length tab - slotsFrom) / 2
+
+abbrev pub plansOf : List ℕ → List ℕ
+plansOf tab = drop (plansFrom tab) tab
 
 -- which equation of node k runs j-th
 abbrev pub orderAt : List ℕ → ℕ → ℕ → ℕ
 orderAt tab k j = getD tab (k * 80 + j) 0
 
+-- where node k starts, in the file and among the plans
+abbrev pub startAt : List ℕ → ℕ → ℕ
+startAt tab k = twoAt tab (nodesFrom + 2 * k)
+
 -- the type code, and the enum's number, of variable i of node k
 abbrev pub codeAt : List ℕ → ℕ → ℕ → ℕ
-codeAt tab k i = getD tab (typesFrom + (k * 112 + i) * 2) 0
+codeAt tab k i = getD (plansOf tab) (startAt tab k + 2 * i) 0
 
 abbrev pub enumAt : List ℕ → ℕ → ℕ → ℕ
-enumAt tab k i = getD tab (typesFrom + (k * 112 + i) * 2 + 1) 0
+enumAt tab k i = getD (plansOf tab) (startAt tab k + 2 * i + 1) 0
 
 -- the slot of the name that stands at a place
 abbrev pub slotAt : List ℕ → ℕ → ℕ
@@ -145,18 +164,7 @@ pub record TabOf (f : File) (tab : List ℕ) (k : ℕ) : Type 0 where
 
 -- ---- plans
 
--- two bytes as a number
-abbrev pub twoAt : List ℕ → ℕ → ℕ
-twoAt t p = getD t p 0 * 256 + getD t (p + 1) 0
-
--- where the plans start: the slots have half of the bytes behind slotsFrom
-abbrev pub plansFrom : List ℕ → ℕ
-plansFrom tab = slotsFrom + (length tab - slotsFrom) / 2
-
-abbrev pub plansOf : List ℕ → List ℕ
-plansOf tab = drop (plansFrom tab) tab
-
--- where node k's plan starts among the plans: behind twice as many bytes as it has variables, from its own place on. A variable has at least three bytes in the file and an equation five, so that the plans of two nodes do not meet
+-- where node k's plan goes on behind the types of its variables, two bytes each from its own place on. A variable has at least three bytes in the file and an equation five, so that the plans of two nodes do not meet
 abbrev pub planIn : File → ℕ → ℕ
 planIn f k = placeOf (placedNodes f) k + 2 * length (variables (nodeOf f k))
 

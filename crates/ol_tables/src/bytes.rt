@@ -3,6 +3,7 @@ ghost use mathlib.Core.Path.{_≡_};
 ghost use lib.ListN.{getD, set};
 ghost use Rattle.ol_tables.specs.Heads.{nameAt};
 ghost use Rattle.ol_tables.specs.Heads.{Byte};
+ghost use Rattle.ol_tables.specs.Tables.{twoPut};
 
 // A byte as a number.
 fn wide(b: u8) -> usize
@@ -42,6 +43,16 @@ pub fn put_byte(tab: &mut [u8], i: usize, b: u8)
 {
     if i < tab.len() {
         tab[i] = b;
+    }
+}
+
+// Stores a number in two bytes from p on.
+pub fn put_two(tab: &mut [u8], p: usize, n: usize)
+    ensures { λ r. ⌜ now (tab .exit) ≡ twoPut (now (tab .entry)) p n ⌝ }
+{
+    if p < tab.len() {
+        put_byte(tab, p, (n / 256 % 256) as u8);
+        put_byte(tab, p + 1, (n % 256) as u8);
     }
 }
 

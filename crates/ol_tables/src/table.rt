@@ -1,14 +1,16 @@
 // The table of a file, as bytes: all that the state and evaluation are told of it besides its own bytes. The numbers of its rows, three bytes each; how many
-// constants have their cells, and these cells; the evaluation orders, 80 entries for each of 32 nodes; the types, two bytes for each of 112 variables of each
-// node; for each place of the file the slot of the name there; and, in as many bytes, the plans of the nodes.
+// constants have their cells, and these cells; the evaluation orders, 80 entries for each of 32 nodes; where each node starts, two bytes each; for each place of
+// the file the slot of the name there; and, in as many bytes, the plans of the nodes, each from its node's place on: the types of its variables, two bytes each,
+// then what its equations need.
 use super::bytes::byte;
+use super::bytes::name;
 use super::tables::FIRSTS;
 use super::tables::ROWS;
 ghost use mathlib.Core.Path.{_≡_};
-ghost use Prim.Native.Nat.{ℕ, _≤_, _<_};
+ghost use Prim.Native.Nat.{ℕ, _+_, _*_, _≤_, _<_};
 ghost use lib.ListN.{length, getD};
 ghost use Rattle.ol_tables.specs.Tables.{rowAt, firstAt};
-ghost use Rattle.ol_tables.specs.Table.{rowsOf, numberPut, Packs};
+ghost use Rattle.ol_tables.specs.Table.{rowsOf, typesAt, numberPut, Packs};
 
 // Where its parts start, and its length for a small file and for any.
 pub const KNOWN: usize = 816; // how many constants have their cells here
@@ -17,13 +19,13 @@ pub const CONSTANTS: usize = 817;
 
 pub const ORDERS: usize = 1393;
 
-pub const TYPES: usize = 3953;
+pub const NODES: usize = 3953; // where each node starts
 
-pub const SLOTS: usize = 11121;
+pub const SLOTS: usize = 4017;
 
-pub const SMALL_TAB: usize = 13169;
+pub const SMALL_TAB: usize = 6065;
 
-pub const LARGE_TAB: usize = 76657;
+pub const LARGE_TAB: usize = 69553;
 
 // Number i of the rows; 0 past their end.
 fn number_at(tab: &[u8], i: usize) -> usize
@@ -60,6 +62,19 @@ pub fn first_variant(tab: &[u8], e: usize) -> usize
         number_at(tab, FIRSTS + e)
     } else {
         0
+    }
+}
+
+// Where the types of node k's variables start in the table.
+pub fn types_of(tab: &[u8], k: usize) -> usize
+    requires { ⌜ k ≤ 65535 ⌝ }
+    ensures { λ r. ⌜ (r ≡ typesAt (now (tab .entry)) k) × (r < 9300000000000000000) ⌝ }
+{
+    let at = name(tab, NODES + 2 * k);
+    if SLOTS < tab.len() {
+        SLOTS + (tab.len() - SLOTS) / 2 + at
+    } else {
+        SLOTS + at
     }
 }
 

@@ -27,9 +27,7 @@ pub const FIRSTS: usize = 256;
 
 pub const ROWS: usize = 272;
 
-// The most variables and equations of a node, and the bytes of its cells.
-pub const MOST_VARIABLES: usize = 112;
-
+// The most equations of a node, and the bytes of its cells.
 pub const MOST_EQUATIONS: usize = 80;
 
 pub const MOST_CELLS: usize = 1008;
