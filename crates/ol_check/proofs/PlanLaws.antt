@@ -19,47 +19,15 @@ use Rattle.ol_spec.proofs.Tests.{T-and}
 use Rattle.ol_spec.proofs.RoundTrip.Parts.{here-inside}
 use Rattle.ol_spec.proofs.RoundTrip.Items.{node-size}
 use Rattle.ol_tables.specs.At.{fileAt}
-use Rattle.ol_tables.specs.Tables.{nodeOf, twoAt, planIn, PlanOf, recordBytes, bytesBefore}
+use Rattle.ol_tables.specs.Tables.{nodeOf, twoAt, twoPut, planIn, PlanOf, recordBytes, bytesBefore}
 use Rattle.ol_tables.specs.Stands.{NodeStands, FileStands}
 use Rattle.ol_tables.proofs.HeadsFile.{section-few, placed-at, passing-item, passing-nth, node-at}
 use Rattle.ol_tables.proofs.Skipping.{some-size}
-use Rattle.ol_check.specs.Judging.{twoPut, sizeTo, Planned}
-use Rattle.ol_check.specs.NodesJudged.{placeIn, NodeReady, NodePlanned}
+use Rattle.ol_tables.proofs.TableLaws.{two-same, two-other, two-length, two-front, two-drop, two-kept}
+use Rattle.ol_check.specs.Judging.{sizeTo, Planned}
+use Rattle.ol_check.specs.NodesJudged.{placeIn, NodeReady, NodePlanned, TypesLeft}
 use Rattle.ol_check.specs.Records.{calleeB}
 use Rattle.ol_check.proofs.CalleeLaws.{sum-append}
-
--- ---- two bytes
-
-pub two-same : (t : List ℕ) (p n : ℕ) → p + 1 < length t → n < 65536 → twoAt (twoPut t p n) p ≡ n
-unfolding twoPut
-two-same t p n room low =
-    let a = n / 256 % 256 in
-    let b = n % 256 in
-    let high : getD (twoPut t p n) p 0 ≡ a = getD-set-other (set t p a) (p + 1) p b 0 (λ q. omega arith) ∙ getD-set-same t p a 0 (omega arith) in
-    let less : getD (twoPut t p n) (p + 1) 0 ≡ b = getD-set-same (set t p a) (p + 1) b 0 (omega (arith, length-set t p a)) in
-    ap (λ x. x * 256 + getD (twoPut t p n) (p + 1) 0) high ∙ ap (λ x. a * 256 + x) less ∙ omega arith
-
-pub two-other : (t : List ℕ) (p n x : ℕ) → (x ≡ p → ⊥) → (x ≡ p + 1 → ⊥) → getD (twoPut t p n) x 0 ≡ getD t x 0
-unfolding twoPut
-two-other t p n x d e = getD-set-other (set t p (n / 256 % 256)) (p + 1) x (n % 256) 0 e ∙ getD-set-other t p x (n / 256 % 256) 0 d
-
-pub two-length : (t : List ℕ) (p n : ℕ) → length (twoPut t p n) ≡ length t
-unfolding twoPut
-two-length t p n = length-set (set t p (n / 256 % 256)) (p + 1) (n % 256) ∙ length-set t p (n / 256 % 256)
-
--- what stands before them is left
-pub two-front : (half : ℕ) (t : List ℕ) (p n : ℕ) → half ≤ p → take half (twoPut t p n) ≡ take half t
-unfolding twoPut
-two-front half t p n le = take-set-le half (set t p (n / 256 % 256)) (p + 1) (n % 256) (omega arith) ∙ take-set-le half t p (n / 256 % 256) le
-
-two-drop : (half : ℕ) (t : List ℕ) (q r : ℕ) → r ≡ half + q → twoAt (drop half t) q ≡ twoAt t r
-two-drop half t q r e =
-    let a : getD (drop half t) q 0 ≡ getD t r 0 = getD-drop half t q 0 ∙ ap (λ x. getD t x 0) (sym e) in
-    let b : getD (drop half t) (q + 1) 0 ≡ getD t (r + 1) 0 = getD-drop half t (q + 1) 0 ∙ ap (λ x. getD t x 0) (omega arith) in
-    ap (λ x. x * 256 + getD (drop half t) (q + 1) 0) a ∙ ap (λ x. getD t r 0 * 256 + x) b
-
-two-kept : (t t′ : List ℕ) (p : ℕ) → getD t′ p 0 ≡ getD t p 0 → getD t′ (p + 1) 0 ≡ getD t (p + 1) 0 → twoAt t′ p ≡ twoAt t p
-two-kept t t′ p a b = ap (λ x. x * 256 + getD t′ (p + 1) 0) a ∙ ap (λ x. getD t p 0 * 256 + x) b
 
 -- ---- a front part that was lent
 
@@ -213,9 +181,13 @@ module _ {s : List ℕ} {f : File} (st : FileStands s f) where
   pub plan-inside : (k : ℕ) → k < length (f .nodes) → planIn f k + 4 * length (nodeOf f k .equations) ≤ length s
   plan-inside k lt = omega (arith, node-inside k lt, plan-room (nodeOf f k) (node-at st k lt))
 
-  plans-apart : (j k : ℕ) → j < k → k < length (f .nodes) → planIn f j + 4 * length (nodeOf f j .equations) ≤ planIn f k
-  plans-apart j k less lt =
-      omega (arith, placed-at nodeSize (f .nodes) (nodesStart f) k lt, placed-at nodeSize (f .nodes) (nodesStart f) j (omega arith), sums-below nodeSize noNode (f .nodes) j k less lt, plan-room (nodeOf f j) (node-at st j (omega arith)))
+  -- two nodes do not meet
+  pub nodes-apart : (j k : ℕ) → j < k → k < length (f .nodes) → placeIn f j + nodeSize (nodeOf f j) ≤ placeIn f k
+  nodes-apart j k less lt =
+      omega (arith, placed-at nodeSize (f .nodes) (nodesStart f) k lt, placed-at nodeSize (f .nodes) (nodesStart f) j (omega arith), sums-below nodeSize noNode (f .nodes) j k less lt)
+
+  plans-apart : (j k : ℕ) → j < k → k < length (f .nodes) → planIn f j + 4 * length (nodeOf f j .equations) ≤ placeIn f k
+  plans-apart j k less lt = omega (arith, nodes-apart j k less lt, plan-room (nodeOf f j) (node-at st j (omega arith)))
 
   module _ {rows : List ℕ} {nodes half k : ℕ} {slots slots′ : List ℕ} (w : NodePlanned rows nodes f half k slots slots′) (lt : k < length (f .nodes)) where
     -- the plan of a node before it is left
@@ -227,6 +199,15 @@ module _ {s : List ℕ} {f : File} (st : FileStands s f) where
         record {
           places = λ i h. same (planIn f j + 2 * i) (omega (arith, far)) ∙ o .places i h;
           offsets = λ few i h. same (planIn f j + 2 * length (nodeOf f j .equations) + 2 * i) (omega (arith, far)) ∙ o .offsets few i h;
+        }
+
+    -- the types of all nodes are left
+    pub types-left : TypesLeft f half slots slots′
+    types-left =
+        record {
+          left = λ j h x a b. by-cases (decLt k j)
+              (λ over. w .behind (half + x) (omega (arith, plans-apart k j over h)))
+              (λ under. w .before (half + x) (omega arith) (by-cases (decLt j k) (λ less. omega (arith, plans-apart j k less lt, b)) (λ same. let e : j ≡ k = omega arith in omega (arith, subst (λ m. x < planIn f m) e b))));
         }
 
     -- and its own is the file's

@@ -1,4 +1,4 @@
--- The loops that build rows and types: what holds after so many items.
+-- The loops that build rows, places and types: what holds after so many items.
 use Prim.Native.Nat.{ℕ, zero, suc, _+_, _*_, _-_, _≤_, _<_}
 use mathlib.Core.List.{List, [], _∷_, _++_, map}
 use mathlib.Core.Logic.{by-cases}
@@ -7,7 +7,6 @@ use native.Mathlib.Omega.{arith}
 use native.Mathlib.Decide.{decLt}
 use lib.ListN.{length, getD, set, length-set, length-append, List·getD-append}
 use lib.Seq.{getD-set-same, getD-set-other, getD-append-add}
-use native.Mathlib.Nat.{add-assoc}
 use lib.Dec.{T, ltb, leb, leb→le}
 use borrow.Author.Tests.{ne-eqb}
 use Rattle.ol_spec.specs.Lists.{sum, concat, allOf}
@@ -19,17 +18,19 @@ use Rattle.ol_spec.specs.Within.{countFits, nameFits, enumFits, variableFits}
 use Rattle.ol_spec.proofs.Tests.{T-and}
 use Rattle.ol_spec.proofs.RoundTrip.Parts.{Here, here-front, here-back}
 use Rattle.ol_spec.proofs.RoundTrip.Items.{names-size, variable-size}
-use Rattle.ol_tables.specs.Tables.{rowAt, firstAt, placeOf, nodeOf}
+use Rattle.ol_tables.specs.Tables.{rowAt, firstAt, placeOf, nodeOf, twoPut}
 use Rattle.ol_tables.specs.Heads.{nameAt, tySizeAt, tyEnumAt, TyIs}
 use Rattle.ol_tables.specs.Stands.{Listed, NodeStands, FileStands}
 use Rattle.ol_tables.proofs.HeadLaws.{here-first, here-name}
 use Rattle.ol_tables.proofs.HeadsFile.{Passing, Item, passing-start, passing-item, passing-end, variable-stands, node-at}
+use Rattle.ol_tables.proofs.TableLaws.{two-same, two-other, two-length, two-kept}
 use Rattle.ol_tables.proofs.Walking.{ty-small}
 use Rattle.ol_tables.specs.Heads.{Byte}
 use Rattle.ol_check.specs.Spans.{endFrom, behindVariable, behindEnum}
-use Rattle.ol_check.specs.RowsDone.{Enums, EnumsAre, firstsFrom, EnumsStored, typeSet, TypeAt, noVariable, VariablesAre, typesFrom, TypesStored, putAll, outputsAt, localsAt, equationsAt, rowFrom, nodeTypes, NodeStored}
-use Rattle.ol_check.specs.RowsDone.{NodeRow, NodeTypes, NodeIs, PlacesAre, NodesAre, rowsFrom, nodesTypes, NodesStored, TablesDone}
+use Rattle.ol_check.specs.RowsDone.{Enums, EnumsAre, firstsFrom, EnumsStored, typeSet, TypeAt, noVariable, VariablesAre, typesFrom, TypesStored, putAll, outputsAt, localsAt, equationsAt, rowFrom, nodeTypes, nodeStored, NodeStored}
+use Rattle.ol_check.specs.RowsDone.{NodeRow, NodeTypes, NodeIs, PlacesAre, NodesAre, rowsFrom, nodesStored, NodesStored, TablesDone}
 use Rattle.ol_check.proofs.SpanLaws.{less-none, end-on, end-none, variables-near}
+use Rattle.ol_check.proofs.PlanLaws.{plan-room, node-inside, nodes-apart}
 
 -- ---- for items that stand in the file, and what stays as it was
 
@@ -38,23 +39,24 @@ pub record EnumsDone (s rows rows′ : List ℕ) (count at r : ℕ) : Type 0 whe
   pub kept : (j : ℕ) → j < 256 → getD rows′ j 0 ≡ getD rows j 0
   pub done : (es : List (List ℕ)) → length es ≡ count → Enums s at es → EnumsAre es rows′ at r
 
--- the types of so many variables are stored from number `first` on, and the others are as before
+-- the types of so many variables are stored from `first` on, and the other bytes are as before
 pub record VariablesDone (s types types′ : List ℕ) (first count at r : ℕ) : Type 0 where
   pub near : r ≤ at + 4 * count
-  pub below : (j : ℕ) → j < first * 2 → getD types′ j 0 ≡ getD types j 0
-  pub above : (j : ℕ) → (first + count) * 2 ≤ j → getD types′ j 0 ≡ getD types j 0
-  pub done : (enums : ℕ) (vs : List Variable) → length vs ≡ count → (first + count) * 2 ≤ length types → Listed variableBytes (variableFits base enums) s at vs → VariablesAre vs types′ first at r
+  pub below : (j : ℕ) → j < first → getD types′ j 0 ≡ getD types j 0
+  pub above : (j : ℕ) → first + 2 * count ≤ j → getD types′ j 0 ≡ getD types j 0
+  pub done : (enums : ℕ) (vs : List Variable) → length vs ≡ count → first + 2 * count ≤ length types → Listed variableBytes (variableFits base enums) s at vs → VariablesAre vs types′ first at r
 
--- node k's row and types are stored, the other rows and the types below are as before
-pub record NodeDone (s rows rows′ types types′ : List ℕ) (k at : ℕ) : Type 0 where
+-- node k's row, place and types are stored, the other rows and the bytes before its types but for its place are as before
+pub record NodeDone (s rows rows′ tab tab′ : List ℕ) (plans k at : ℕ) : Type 0 where
   pub below : (j : ℕ) → j < k * 8 → getD rows′ j 0 ≡ getD rows j 0
   pub above : (j : ℕ) → k * 8 + 8 ≤ j → getD rows′ j 0 ≡ getD rows j 0
-  pub typed : (j : ℕ) → j < k * 224 → getD types′ j 0 ≡ getD types j 0
-  pub done : (enums : ℕ) (n : Node) → NodeStands s enums at n → NodeIs n at k rows′ types′
+  pub kept : (j : ℕ) → j < plans + at → (j ≡ 2 * k → ⊥) → (j ≡ 2 * k + 1 → ⊥) → getD tab′ j 0 ≡ getD tab j 0
+  pub done : (enums : ℕ) (n : Node) → NodeStands s enums at n → plans + at + 2 * length (variables n) ≤ length tab → NodeIs n at k rows′ plans tab′
 
-pub record NodesDone (s places rows rows′ types′ : List ℕ) (count : ℕ) : Type 0 where
+pub record NodesDone (s places rows rows′ tab tab′ : List ℕ) (plans count : ℕ) : Type 0 where
   pub above : (j : ℕ) → 256 ≤ j → getD rows′ j 0 ≡ getD rows j 0
-  pub done : (f : File) → length (f .nodes) ≡ count → FileStands s f → PlacesAre f places → NodesAre f rows′ types′
+  pub kept : (j : ℕ) → 64 ≤ j → j < plans → getD tab′ j 0 ≡ getD tab j 0
+  pub done : (f : File) → length (f .nodes) ≡ count → FileStands s f → PlacesAre f places → NodesAre f rows′ plans tab′
 
 -- ---- enums
 
@@ -155,22 +157,22 @@ module _ {s rows₀ : List ℕ} {count at : ℕ} where
 
 pub record VariableGoing (s types : List ℕ) (vs : List Variable) (enums first at next i : ℕ) : Type 0 where
   pub passing : Passing variableBytes (variableFits base enums) variableSize s at vs i next
-  pub typed : (j : ℕ) → j < i → TypeAt types (first + j) (getD vs j noVariable .ty)
+  pub typed : (j : ℕ) → j < i → TypeAt types (first + 2 * j) (getD vs j noVariable .ty)
 
 pub record VariablesGoing (s types₀ types : List ℕ) (first count at next i : ℕ) : Type 0 where
   pub few : i ≤ count
   pub near : next ≤ at + 4 * i
   pub long : length types ≡ length types₀
-  pub below : (j : ℕ) → j < first * 2 → getD types j 0 ≡ getD types₀ j 0
-  pub above : (j : ℕ) → (first + i) * 2 ≤ j → getD types j 0 ≡ getD types₀ j 0
-  pub going : (enums : ℕ) (vs : List Variable) → length vs ≡ count → (first + count) * 2 ≤ length types₀ → Listed variableBytes (variableFits base enums) s at vs → VariableGoing s types vs enums first at next i
+  pub below : (j : ℕ) → j < first → getD types j 0 ≡ getD types₀ j 0
+  pub above : (j : ℕ) → first + 2 * i ≤ j → getD types j 0 ≡ getD types₀ j 0
+  pub going : (enums : ℕ) (vs : List Variable) → length vs ≡ count → first + 2 * count ≤ length types₀ → Listed variableBytes (variableFits base enums) s at vs → VariableGoing s types vs enums first at next i
 
-type-length : (types : List ℕ) (i : ℕ) (s : List ℕ) (at : ℕ) → length (typeSet types i s at) ≡ length types
-type-length types i s at = length-set (set types (i * 2) (getD s at 0)) (i * 2 + 1) (tyEnumAt s at) ∙ length-set types (i * 2) (getD s at 0)
+type-length : (types : List ℕ) (p : ℕ) (s : List ℕ) (at : ℕ) → length (typeSet types p s at) ≡ length types
+type-length types p s at = length-set (set types p (getD s at 0)) (p + 1) (tyEnumAt s at) ∙ length-set types p (getD s at 0)
 
 -- a type's two stores
-pub type-stored : (types t u s : List ℕ) (i at c n : ℕ) → Byte s at c → t ≡ set types (i * 2) c → u ≡ set t (i * 2 + 1) n → n ≡ tyEnumAt s at → u ≡ typeSet types i s at
-type-stored types t u s i at c n b et eu en = eu ∙ rw (et, en, b .is) refl
+pub type-stored : (types t u s : List ℕ) (p at c n : ℕ) → Byte s at c → t ≡ set types p c → u ≡ set t (p + 1) n → n ≡ tyEnumAt s at → u ≡ typeSet types p s at
+type-stored types t u s p at c n b et eu en = eu ∙ rw (et, en, b .is) refl
 
 pub enum-told : (s : List ℕ) (at c n : ℕ) → Byte s at c → c ≡ 12 → n ≡ getD s (at + 1) 0 → n ≡ tyEnumAt s at
 enum-told s at c n b e h = rw (← b .is, e) h
@@ -178,23 +180,23 @@ enum-told s at c n b e h = rw (← b .is, e) h
 pub enum-none : (s : List ℕ) (at c : ℕ) → Byte s at c → (c ≡ 12 → ⊥) → 0 ≡ tyEnumAt s at
 enum-none s at c b e = rw (← b .is, ne-eqb c 12 e) refl
 
--- entries of other variables stay
-type-other : (types : List ℕ) (i : ℕ) (s : List ℕ) (at j : ℕ) → (j ≡ i * 2 → ⊥) → (j ≡ i * 2 + 1 → ⊥) → getD (typeSet types i s at) j 0 ≡ getD types j 0
-type-other types i s at j a b = getD-set-other (set types (i * 2) (getD s at 0)) (i * 2 + 1) j _ 0 b ∙ getD-set-other types (i * 2) j _ 0 a
+-- other bytes stay
+type-other : (types : List ℕ) (p : ℕ) (s : List ℕ) (at j : ℕ) → (j ≡ p → ⊥) → (j ≡ p + 1 → ⊥) → getD (typeSet types p s at) j 0 ≡ getD types j 0
+type-other types p s at j a b = getD-set-other (set types p (getD s at 0)) (p + 1) j _ 0 b ∙ getD-set-other types p j _ 0 a
 
-type-kept : (types : List ℕ) (i : ℕ) (s : List ℕ) (at j : ℕ) (t : Ty) → j < i → TypeAt types j t → TypeAt (typeSet types i s at) j t
-type-kept types i s at j t lt h =
+type-kept : (types : List ℕ) (p : ℕ) (s : List ℕ) (at j : ℕ) (t : Ty) → j + 1 < p → TypeAt types j t → TypeAt (typeSet types p s at) j t
+type-kept types p s at j t lt h =
     record {
-      code = type-other types i s at (j * 2) (λ e. omega arith) (λ e. omega arith) ∙ h .code;
-      number = type-other types i s at (j * 2 + 1) (λ e. omega arith) (λ e. omega arith) ∙ h .number;
+      code = type-other types p s at j (λ e. omega arith) (λ e. omega arith) ∙ h .code;
+      number = type-other types p s at (j + 1) (λ e. omega arith) (λ e. omega arith) ∙ h .number;
     }
 
-type-new : (types : List ℕ) (i : ℕ) (s : List ℕ) (at : ℕ) (t : Ty) → i * 2 + 1 < length types → TyIs s at t → TypeAt (typeSet types i s at) i t
-type-new types i s at t room h =
-    let first = set types (i * 2) (getD s at 0) in
+type-new : (types : List ℕ) (p : ℕ) (s : List ℕ) (at : ℕ) (t : Ty) → p + 1 < length types → TyIs s at t → TypeAt (typeSet types p s at) p t
+type-new types p s at t room h =
+    let first = set types p (getD s at 0) in
     record {
-      code = getD-set-other first (i * 2 + 1) (i * 2) _ 0 (λ e. omega arith) ∙ getD-set-same types (i * 2) _ 0 (omega arith) ∙ h .code;
-      number = getD-set-same first (i * 2 + 1) _ 0 (omega (arith, length-set types (i * 2) (getD s at 0))) ∙ h .number;
+      code = getD-set-other first (p + 1) p _ 0 (λ e. omega arith) ∙ getD-set-same types p _ 0 (omega arith) ∙ h .code;
+      number = getD-set-same first (p + 1) _ 0 (omega (arith, length-set types p (getD s at 0))) ∙ h .number;
     }
 
 module _ {s types₀ : List ℕ} {first count at : ℕ} where
@@ -202,14 +204,14 @@ module _ {s types₀ : List ℕ} {first count at : ℕ} where
   variables-start = record { few = omega arith; near = omega arith; long = refl; below = λ j h. refl; above = λ j h. refl; going = λ enums vs q room h. record { passing = passing-start variableBytes (variableFits base enums) variableSize h; typed = λ j lt. absurd (omega arith) } }
 
   module _ {types : List ℕ} {next i : ℕ} (g : VariablesGoing s types₀ types first count at next i) where
-    pub variables-turn : i < count → (n : ℕ) → n ≡ tySizeAt s (next + 2) → VariablesGoing s types₀ (typeSet types (first + i) s (next + 2)) first count at (next + 2 + n) (i + 1)
+    pub variables-turn : i < count → (n : ℕ) → n ≡ tySizeAt s (next + 2) → VariablesGoing s types₀ (typeSet types (first + 2 * i) s (next + 2)) first count at (next + 2 + n) (i + 1)
     variables-turn lt n en =
         record {
           few = omega arith;
           near = omega (arith, g .near, en, ty-small s (next + 2));
-          long = type-length types (first + i) s (next + 2) ∙ g .long;
-          below = λ j h. type-other types (first + i) s (next + 2) j (λ e. omega arith) (λ e. omega arith) ∙ g .below j h;
-          above = λ j h. type-other types (first + i) s (next + 2) j (λ e. omega arith) (λ e. omega arith) ∙ g .above j (omega arith);
+          long = type-length types (first + 2 * i) s (next + 2) ∙ g .long;
+          below = λ j h. type-other types (first + 2 * i) s (next + 2) j (λ e. omega arith) (λ e. omega arith) ∙ g .below j h;
+          above = λ j h. type-other types (first + 2 * i) s (next + 2) j (λ e. omega arith) (λ e. omega arith) ∙ g .above j (omega arith);
           going = λ enums vs q room h.
               let w = g .going enums vs q room h in
               let it = passing-item variable-size noVariable (w .passing) (omega arith) in
@@ -219,8 +221,8 @@ module _ {s types₀ : List ℕ} {first count at : ℕ} where
               record {
                 passing = subst (Passing variableBytes (variableFits base enums) variableSize s at vs (i + 1)) (omega (arith, same)) (it .on);
                 typed = λ j below. by-cases (decLt j i)
-                    (λ old. type-kept types (first + i) s (next + 2) (first + j) _ (omega arith) (w .typed j old))
-                    (λ new. let e : j ≡ i = omega arith in rw e (type-new types (first + i) s (next + 2) _ (omega (arith, g .long)) (st .ty)));
+                    (λ old. type-kept types (first + 2 * i) s (next + 2) (first + 2 * j) _ (omega arith) (w .typed j old))
+                    (λ new. let e : j ≡ i = omega arith in rw e (type-new types (first + 2 * i) s (next + 2) _ (omega (arith, g .long)) (st .ty)));
               };
         }
 
@@ -236,44 +238,44 @@ module _ {s types₀ : List ℕ} {first count at : ℕ} where
         }
 
 -- the types, stored one after the other
-types-replay : {s types₀ : List ℕ} {first count at : ℕ} (n : ℕ) {types : List ℕ} {next : ℕ} (i : ℕ) → i + n ≡ count → VariablesGoing s types₀ types first count at next i → VariablesDone s types₀ (typesFrom s (first + i) n next types) first count at (endFrom (behindVariable s) n next)
+types-replay : {s types₀ : List ℕ} {first count at : ℕ} (n : ℕ) {types : List ℕ} {next : ℕ} (i : ℕ) → i + n ≡ count → VariablesGoing s types₀ types first count at next i → VariablesDone s types₀ (typesFrom s (first + 2 * i) n next types) first count at (endFrom (behindVariable s) n next)
 unfolding typesFrom endFrom
 types-replay zero i eq g = variables-done g (omega arith)
 types-replay {s} {types₀} {first} {count} {at} (suc n) {types} {next} i eq g =
-    let number : first + (i + 1) ≡ first + i + 1 = omega arith in
-    subst (λ m. VariablesDone s types₀ (typesFrom s m n (behindVariable s next) (typeSet types (first + i) s (next + 2))) first count at (endFrom (behindVariable s) n (behindVariable s next))) number
+    let number : first + 2 * (i + 1) ≡ first + 2 * i + 2 = omega arith in
+    subst (λ m. VariablesDone s types₀ (typesFrom s m n (behindVariable s next) (typeSet types (first + 2 * i) s (next + 2))) first count at (endFrom (behindVariable s) n (behindVariable s next))) number
     (types-replay n (i + 1) (omega arith) (variables-turn g (omega arith) _ refl))
 
 pub types-told : {s types types′ : List ℕ} {first count at r : ℕ} → TypesStored s types types′ first count at r → VariablesDone s types types′ first count at r
 types-told {s} {types} {types′} {first} {count} {at} {r} h =
-    let none-yet : first + 0 ≡ first = omega arith in
+    let none-yet : first + 2 * 0 ≡ first = omega arith in
     subst (λ p. VariablesDone s types types′ first count at p) (sym (h .ends))
     (subst (λ l. VariablesDone s types l first count at (endFrom (behindVariable s) count at)) (ap (λ m. typesFrom s m count at types) none-yet ∙ sym (h .stored)) (types-replay count 0 (omega arith) variables-start))
 
-types-length : (s : List ℕ) (n i at : ℕ) (types : List ℕ) → length (typesFrom s i n at types) ≡ length types
+types-length : (s : List ℕ) (n p at : ℕ) (types : List ℕ) → length (typesFrom s p n at types) ≡ length types
 unfolding typesFrom
-types-length s zero i at types = refl
-types-length s (suc n) i at types = types-length s n (i + 1) (behindVariable s at) (typeSet types i s (at + 2)) ∙ type-length types i s (at + 2)
+types-length s zero p at types = refl
+types-length s (suc n) p at types = types-length s n (p + 2) (behindVariable s at) (typeSet types p s (at + 2)) ∙ type-length types p s (at + 2)
 
 -- those from number i on are left
 pub record TypesGoing (s types₀ types : List ℕ) (first count at i next : ℕ) : Type 0 where
-  pub left : typesFrom s (first + i) (count - i) next types ≡ typesFrom s first count at types₀
+  pub left : typesFrom s (first + 2 * i) (count - i) next types ≡ typesFrom s first count at types₀
   pub end : endFrom (behindVariable s) (count - i) next ≡ endFrom (behindVariable s) count at
 
 module _ {s types₀ : List ℕ} {first count at : ℕ} where
   pub types-start : TypesGoing s types₀ types₀ first count at 0 at
-  types-start = let none-yet : first + 0 ≡ first = omega arith in record { left = rw (less-none count, none-yet) refl; end = rw (less-none count) refl }
+  types-start = let none-yet : first + 2 * 0 ≡ first = omega arith in record { left = rw (less-none count, none-yet) refl; end = rw (less-none count) refl }
 
   module _ {types : List ℕ} {i next : ℕ} (g : TypesGoing s types₀ types first count at i next) where
-    pub types-turn : i < count → {n : ℕ} {types′ : List ℕ} → types′ ≡ typeSet types (first + i) s (next + 2) → n ≡ tySizeAt s (next + 2) → TypesGoing s types₀ types′ first count at (i + 1) (next + 2 + n)
+    pub types-turn : i < count → {n : ℕ} {types′ : List ℕ} → types′ ≡ typeSet types (first + 2 * i) s (next + 2) → n ≡ tySizeAt s (next + 2) → TypesGoing s types₀ types′ first count at (i + 1) (next + 2 + n)
     unfolding typesFrom
     types-turn lt {n} {types′} h en =
         let less : count - i ≡ suc (count - (i + 1)) = omega arith in
-        let number : first + (i + 1) ≡ first + i + 1 = omega arith in
+        let number : first + 2 * (i + 1) ≡ first + 2 * i + 2 = omega arith in
         let behind = ap (λ m. next + 2 + m) en in
         record {
-          left = ap (λ p. typesFrom s (first + (i + 1)) (count - (i + 1)) p types′) behind ∙ ap (typesFrom s (first + (i + 1)) (count - (i + 1)) (behindVariable s next)) h
-              ∙ ap (λ m. typesFrom s m (count - (i + 1)) (behindVariable s next) (typeSet types (first + i) s (next + 2))) number ∙ ap (λ m. typesFrom s (first + i) m next types) (sym less) ∙ g .left;
+          left = ap (λ p. typesFrom s (first + 2 * (i + 1)) (count - (i + 1)) p types′) behind ∙ ap (typesFrom s (first + 2 * (i + 1)) (count - (i + 1)) (behindVariable s next)) h
+              ∙ ap (λ m. typesFrom s m (count - (i + 1)) (behindVariable s next) (typeSet types (first + 2 * i) s (next + 2))) number ∙ ap (λ m. typesFrom s (first + 2 * i) m next types) (sym less) ∙ g .left;
           end = ap (endFrom (behindVariable s) (count - (i + 1))) behind ∙ sym (end-on (behindVariable s) count i next lt) ∙ g .end;
         }
 
@@ -281,7 +283,7 @@ module _ {s types₀ : List ℕ} {first count at : ℕ} where
     unfolding typesFrom
     types-done over =
         let none-left : count - i ≡ 0 = omega arith in
-        record { ends = sym (end-none (behindVariable s) count i next over) ∙ g .end; stored = ap (λ m. typesFrom s (first + i) m next types) (sym none-left) ∙ g .left }
+        record { ends = sym (end-none (behindVariable s) count i next over) ∙ g .end; stored = ap (λ m. typesFrom s (first + 2 * i) m next types) (sym none-left) ∙ g .left }
 
 pub types-near : {s types types′ : List ℕ} {first count at r : ℕ} → TypesStored s types types′ first count at r → r ≤ at + 4 * count
 types-near {s} {count = count} {at = at} h = omega (arith, h .ends, variables-near s count at)
@@ -306,117 +308,132 @@ put-inside rows (n ∷ ns) i (suc j) h room =
     let z : i + suc j ≡ i + 1 + j = omega arith in
     rw z (put-inside (set rows i n) ns (i + 1) j (omega arith) (omega (arith, length-set rows i n)))
 
--- a type below what is written stays
-type-below : {types types′ : List ℕ} {t : Ty} (first i : ℕ) → ((j : ℕ) → j < first * 2 → getD types′ j 0 ≡ getD types j 0) → i < first → TypeAt types i t → TypeAt types′ i t
-type-below first i same lt h = record { code = same (i * 2) (omega arith) ∙ h .code; number = same (i * 2 + 1) (omega arith) ∙ h .number }
+-- a type stays where its bytes do
+type-same : {types types′ : List ℕ} {t : Ty} (p : ℕ) → getD types′ p 0 ≡ getD types p 0 → getD types′ (p + 1) 0 ≡ getD types (p + 1) 0 → TypeAt types p t → TypeAt types′ p t
+type-same p a b h = record { code = a ∙ h .code; number = b ∙ h .number }
+
+type-below : {types types′ : List ℕ} {t : Ty} (first p : ℕ) → ((j : ℕ) → j < first → getD types′ j 0 ≡ getD types j 0) → p + 1 < first → TypeAt types p t → TypeAt types′ p t
+type-below first p same lt h = type-same p (same p (omega arith)) (same (p + 1) lt) h
 
 -- the types of two lists of variables, one behind the other
-types-append : (types : List ℕ) (first : ℕ) (vs ws : List Variable) → ((i : ℕ) → i < length vs → TypeAt types (first + i) (getD vs i noVariable .ty))
-    → ((i : ℕ) → i < length ws → TypeAt types (first + length vs + i) (getD ws i noVariable .ty)) → (i : ℕ) → i < length (vs ++ ws) → TypeAt types (first + i) (getD (vs ++ ws) i noVariable .ty)
+types-append : (types : List ℕ) (first : ℕ) (vs ws : List Variable) → ((i : ℕ) → i < length vs → TypeAt types (first + 2 * i) (getD vs i noVariable .ty))
+    → ((i : ℕ) → i < length ws → TypeAt types (first + 2 * length vs + 2 * i) (getD ws i noVariable .ty)) → (i : ℕ) → i < length (vs ++ ws) → TypeAt types (first + 2 * i) (getD (vs ++ ws) i noVariable .ty)
 types-append types first vs ws a b i lt =
     by-cases (decLt i (length vs))
     (λ low. rw (List·getD-append vs ws noVariable i low) (a i low))
     (λ high.
     let j = i - length vs in
     let e : length vs + j ≡ i = omega arith in
-    let q : first + length vs + j ≡ first + i = omega arith in
+    let q : first + 2 * length vs + 2 * j ≡ first + 2 * (length vs + j) = omega arith in
     let w = b j (omega (arith, length-append vs ws)) in
-    subst (λ m. TypeAt types (first + m) (getD (vs ++ ws) m noVariable .ty)) e
-    (rw (getD-append-add vs ws j noVariable) (subst (λ m. TypeAt types m (getD ws j noVariable .ty)) (add-assoc first (length vs) j) w)))
+    subst (λ m. TypeAt types (first + 2 * m) (getD (vs ++ ws) m noVariable .ty)) e
+    (rw (getD-append-add vs ws j noVariable) (subst (λ m. TypeAt types m (getD ws j noVariable .ty)) q w)))
 
-module _ (rows : List ℕ) {s rows′ types t₁ t₂ t₃ : List ℕ} {k at i o oc l lc q qc kind : ℕ} (low : k < 32) (long : length rows ≡ 272) (wide : length types ≡ 7168)
-    (ib : i ≡ getD s (at + 1) 0) (v₁ : VariablesDone s types t₁ (k * 112) i (at + 2) o) (l₁ : length t₁ ≡ length types)
-    (ob : oc ≡ getD s o 0) (v₂ : VariablesDone s t₁ t₂ (k * 112 + i) oc (o + 1) l) (l₂ : length t₂ ≡ length t₁)
-    (lb : lc ≡ getD s l 0) (v₃ : VariablesDone s t₂ t₃ (k * 112 + i + oc) lc (l + 1) q)
+module _ (rows : List ℕ) {s rows′ tab t₁ t₂ t₃ : List ℕ} {plans k at i o oc l lc q qc kind : ℕ} (low : k < 32) (long : length rows ≡ 272) (front : 64 ≤ plans) (near : at < 65536)
+    (ib : i ≡ getD s (at + 1) 0) (v₁ : VariablesDone s tab t₁ (plans + at) i (at + 2) o) (l₁ : length t₁ ≡ length tab)
+    (ob : oc ≡ getD s o 0) (v₂ : VariablesDone s t₁ t₂ (plans + at + 2 * i) oc (o + 1) l) (l₂ : length t₂ ≡ length t₁)
+    (lb : lc ≡ getD s l 0) (v₃ : VariablesDone s t₂ t₃ (plans + at + 2 * i + 2 * oc) lc (l + 1) q) (l₃ : length t₃ ≡ length t₂)
     (qb : qc ≡ getD s q 0) (kb : kind ≡ getD s at 0) (put : rows′ ≡ putAll rows (k * 8) (kind ∷ (q + 1) ∷ i ∷ oc ∷ (i + oc + lc) ∷ qc ∷ 0 ∷ at ∷ [])) where
+  -- with its place
+  abbrev pub t₄ : List ℕ
+  t₄ = twoPut t₃ (2 * k) at
+
+  far : (p : ℕ) → plans ≤ p → getD t₄ p 0 ≡ getD t₃ p 0
+  far p h = two-other t₃ (2 * k) at p (λ e. omega arith) (λ e. omega arith)
+
   -- what stands in the file where the sections start
-  node-is : (enums : ℕ) (n : Node) → NodeStands s enums at n → NodeIs n at k rows′ t₃
-  node-is enums n st =
+  node-is : (enums : ℕ) (n : Node) → NodeStands s enums at n → plans + at + 2 * length (variables n) ≤ length tab → NodeIs n at k rows′ plans t₄
+  node-is enums n st room =
+      let many : length (variables n) ≡ length (n .inputs) + length (n .outputs) + length (n .locals) = omega (arith, length-append (n .inputs ++ n .outputs) (n .locals), length-append (n .inputs) (n .outputs)) in
       let ei : length (n .inputs) ≡ i = sym (ib ∙ st .inputCount) in
-      let w₁ = v₁ .done enums (n .inputs) ei (omega (arith, st .fewInputs)) (st .inputs) in
+      let w₁ = v₁ .done enums (n .inputs) ei (omega (arith, many)) (st .inputs) in
       let eo : o ≡ outputsStart at n = omega (arith, w₁ .ends) in
       let no : length (n .outputs) ≡ oc = sym (ob ∙ ap (λ p. getD s p 0) eo ∙ st .outputCount) in
-      let w₂ = v₂ .done enums (n .outputs) no (omega (arith, st .fewInputs, st .fewOutputs)) (subst (λ p. Listed variableBytes (variableFits base enums) s (p + 1) (n .outputs)) (sym eo) (st .outputs)) in
+      let w₂ = v₂ .done enums (n .outputs) no (omega (arith, many)) (subst (λ p. Listed variableBytes (variableFits base enums) s (p + 1) (n .outputs)) (sym eo) (st .outputs)) in
       let el : l ≡ localsStart at n = omega (arith, w₂ .ends, eo) in
       let nl : length (n .locals) ≡ lc = sym (lb ∙ ap (λ p. getD s p 0) el ∙ st .localCount) in
-      let w₃ = v₃ .done enums (n .locals) nl (omega (arith, st .fewInputs, st .fewOutputs, st .fewLocals)) (subst (λ p. Listed variableBytes (variableFits base enums) s (p + 1) (n .locals)) (sym el) (st .locals)) in
+      let w₃ = v₃ .done enums (n .locals) nl (omega (arith, many)) (subst (λ p. Listed variableBytes (variableFits base enums) s (p + 1) (n .locals)) (sym el) (st .locals)) in
       let eq : q ≡ equationsStart at n = omega (arith, w₃ .ends, el) in
       let nq : length (n .equations) ≡ qc = sym (qb ∙ ap (λ p. getD s p 0) eq ∙ st .equationCount) in
       let ns = kind ∷ (q + 1) ∷ i ∷ oc ∷ (i + oc + lc) ∷ qc ∷ 0 ∷ at ∷ [] in
       let at-entry : (j : ℕ) → j < 8 → rowAt rows′ k j ≡ getD ns j 0 = λ j h. rw put (put-inside rows ns (k * 8) j h (omega (arith, long))) in
+      let all : (j : ℕ) → j < length (variables n) → TypeAt t₃ (plans + at + 2 * j) (getD (variables n) j noVariable .ty) =
+      types-append t₃ (plans + at) (n .inputs ++ n .outputs) (n .locals)
+      (types-append t₃ (plans + at) (n .inputs) (n .outputs)
+      (λ j h. type-below {types = t₂} (plans + at + 2 * i + 2 * oc) _ (v₃ .below) (omega arith) (type-below {types = t₁} (plans + at + 2 * i) _ (v₂ .below) (omega arith) (w₁ .typed j h)))
+      (λ j h. subst (λ m. TypeAt t₃ m (getD (n .outputs) j noVariable .ty)) (omega arith) (type-below (plans + at + 2 * i + 2 * oc) _ (v₃ .below) (omega arith) (w₂ .typed j h))))
+      (λ j h. subst (λ m. TypeAt t₃ m (getD (n .locals) j noVariable .ty)) (omega (arith, length-append (n .inputs) (n .outputs))) (w₃ .typed j h)) in
       record {
         row = record {
           kind = at-entry 0 (omega arith) ∙ kb ∙ st .kind;
           equations = at-entry 1 (omega arith) ∙ ap (λ p. p + 1) eq;
           inputs = at-entry 2 (omega arith) ∙ sym ei;
           outputs = at-entry 3 (omega arith) ∙ sym no;
-          variables = at-entry 4 (omega arith) ∙ omega (arith, length-append (n .inputs ++ n .outputs) (n .locals), length-append (n .inputs) (n .outputs));
+          variables = at-entry 4 (omega arith) ∙ omega (arith, many);
           count = at-entry 5 (omega arith) ∙ sym nq;
           place = at-entry 7 (omega arith);
         };
         typed = record {
-          are = types-append t₃ (k * 112) (n .inputs ++ n .outputs) (n .locals)
-              (types-append t₃ (k * 112) (n .inputs) (n .outputs)
-              (λ j h. type-below {types = t₂} (k * 112 + i + oc) _ (v₃ .below) (omega arith) (type-below {types = t₁} (k * 112 + i) _ (v₂ .below) (omega arith) (w₁ .typed j h)))
-              (λ j h. subst (λ m. TypeAt t₃ m (getD (n .outputs) j noVariable .ty)) (omega arith) (type-below (k * 112 + i + oc) _ (v₃ .below) (omega arith) (w₂ .typed j h))))
-              (λ j h. subst (λ m. TypeAt t₃ m (getD (n .locals) j noVariable .ty)) (omega (arith, length-append (n .inputs) (n .outputs))) (w₃ .typed j h));
+          place = two-same t₃ (2 * k) at (omega (arith, l₁, l₂, l₃)) near;
+          are = λ j h. type-same (plans + at + 2 * j) (far _ (omega arith)) (far _ (omega arith)) (all j h);
         };
       }
 
-  pub node-done : NodeDone s rows rows′ types t₃ k at
+  pub node-done : NodeDone s rows rows′ tab t₄ plans k at
   node-done =
       let ns = kind ∷ (q + 1) ∷ i ∷ oc ∷ (i + oc + lc) ∷ qc ∷ 0 ∷ at ∷ [] in
       record {
         below = λ j h. rw put (put-outside rows ns (k * 8) j (λ a b. omega arith));
         above = λ j h. rw put (put-outside rows ns (k * 8) j (λ a b. omega arith));
-        typed = λ j h. v₃ .below j (omega arith) ∙ v₂ .below j (omega arith) ∙ v₁ .below j (omega arith);
+        kept = λ j h a b. two-other t₃ (2 * k) at j a b ∙ v₃ .below j (omega arith) ∙ v₂ .below j (omega arith) ∙ v₁ .below j h;
         done = node-is;
       }
 
 -- what is stored, by the bytes
-pub node-stored : {s rows rows′ types t₁ t₂ t₃ : List ℕ} {k at i o oc l lc q qc kind : ℕ} → i ≡ getD s (at + 1) 0 → TypesStored s types t₁ (k * 112) i (at + 2) o → oc ≡ getD s o 0 → TypesStored s t₁ t₂ (k * 112 + i) oc (o + 1) l
-    → lc ≡ getD s l 0 → TypesStored s t₂ t₃ (k * 112 + i + oc) lc (l + 1) q → qc ≡ getD s q 0 → kind ≡ getD s at 0 → rows′ ≡ putAll rows (k * 8) (kind ∷ (q + 1) ∷ i ∷ oc ∷ (i + oc + lc) ∷ qc ∷ 0 ∷ at ∷ []) → NodeStored s rows rows′ types t₃ k at
-node-stored {s} {rows} {rows′} {types} {t₁} {t₂} {t₃} {k} {at} {i} {o} {oc} {l} {lc} {q} {qc} {kind} ei v₁ eoc v₂ elc v₃ eqc ek put =
+pub node-stored : {s rows rows′ tab t₁ t₂ t₃ t₄ : List ℕ} {plans k at i o oc l lc q qc kind : ℕ} → i ≡ getD s (at + 1) 0 → TypesStored s tab t₁ (plans + at) i (at + 2) o → oc ≡ getD s o 0 → TypesStored s t₁ t₂ (plans + at + 2 * i) oc (o + 1) l
+    → lc ≡ getD s l 0 → TypesStored s t₂ t₃ (plans + at + 2 * i + 2 * oc) lc (l + 1) q → t₄ ≡ twoPut t₃ (2 * k) at → qc ≡ getD s q 0 → kind ≡ getD s at 0 → rows′ ≡ putAll rows (k * 8) (kind ∷ (q + 1) ∷ i ∷ oc ∷ (i + oc + lc) ∷ qc ∷ 0 ∷ at ∷ []) → NodeStored s rows rows′ tab t₄ plans k at
+node-stored {s} {rows} {rows′} {tab} {t₁} {t₂} {t₃} {t₄} {plans} {k} {at} {i} {o} {oc} {l} {lc} {q} {qc} {kind} ei v₁ eoc v₂ elc v₃ e₄ eqc ek put =
     let eo : o ≡ outputsAt s at = v₁ .ends ∙ ap (λ n. endFrom (behindVariable s) n (at + 2)) ei in
     let no : oc ≡ getD s (outputsAt s at) 0 = eoc ∙ ap (λ p. getD s p 0) eo in
     let el : l ≡ localsAt s at = v₂ .ends ∙ ap (λ n. endFrom (behindVariable s) n (o + 1)) no ∙ ap (λ p. endFrom (behindVariable s) (getD s (outputsAt s at) 0) (p + 1)) eo in
     let nl : lc ≡ getD s (localsAt s at) 0 = elc ∙ ap (λ p. getD s p 0) el in
     let eq : q ≡ equationsAt s at = v₃ .ends ∙ ap (λ n. endFrom (behindVariable s) n (l + 1)) nl ∙ ap (λ p. endFrom (behindVariable s) (getD s (localsAt s at) 0) (p + 1)) el in
     let nq : qc ≡ getD s (equationsAt s at) 0 = eqc ∙ ap (λ p. getD s p 0) eq in
-    record {
-      row = put ∙ rw (ek, eq, nl, no, ei, nq) refl;
-      typed = v₃ .stored ∙ ap (typesFrom s (k * 112 + i + oc) lc (l + 1)) (v₂ .stored ∙ ap (typesFrom s (k * 112 + i) oc (o + 1)) (v₁ .stored)) ∙ rw (nl, no, ei, el, eo) refl;
-    }
+    let p = plans + at in
+    let typed : t₃ ≡ nodeTypes s p at tab = v₃ .stored ∙ ap (typesFrom s (p + 2 * i + 2 * oc) lc (l + 1)) (v₂ .stored ∙ ap (typesFrom s (p + 2 * i) oc (o + 1)) (v₁ .stored)) ∙ rw (nl, no, ei, el, eo) refl in
+    record { row = put ∙ rw (ek, eq, nl, no, ei, nq) refl; typed = e₄ ∙ ap (λ t. twoPut t (2 * k) at) typed }
 
-node-types-length : (s : List ℕ) (k at : ℕ) (types : List ℕ) → length (nodeTypes s k at types) ≡ length types
-node-types-length s k at types =
-    types-length s (getD s (localsAt s at) 0) _ (localsAt s at + 1) _ ∙ types-length s (getD s (outputsAt s at) 0) _ (outputsAt s at + 1) _ ∙ types-length s (getD s (at + 1) 0) (k * 112) (at + 2) types
+node-length : (s : List ℕ) (plans k at : ℕ) (tab : List ℕ) → length (nodeStored s plans k at tab) ≡ length tab
+node-length s plans k at tab =
+    two-length (nodeTypes s (plans + at) at tab) (2 * k) at ∙ types-length s (getD s (localsAt s at) 0) _ (localsAt s at + 1) _ ∙ types-length s (getD s (outputsAt s at) 0) _ (outputsAt s at + 1) _ ∙ types-length s (getD s (at + 1) 0) (plans + at) (at + 2) tab
 
-pub node-told : {s rows rows′ types types′ : List ℕ} {k at : ℕ} → k < 32 → length rows ≡ 272 → length types ≡ 7168 → NodeStored s rows rows′ types types′ k at → NodeDone s rows rows′ types types′ k at
-node-told {s} {rows} {rows′} {types} {types′} {k} {at} low long wide h =
+pub node-told : {s rows rows′ tab tab′ : List ℕ} {plans k at : ℕ} → k < 32 → length rows ≡ 272 → 64 ≤ plans → at < 65536 → NodeStored s rows rows′ tab tab′ plans k at → NodeDone s rows rows′ tab tab′ plans k at
+node-told {s} {rows} {rows′} {tab} {tab′} {plans} {k} {at} low long front near h =
+    let p = plans + at in
     let i = getD s (at + 1) 0 in
     let oc = getD s (outputsAt s at) 0 in
     let lc = getD s (localsAt s at) 0 in
-    let t₁ = typesFrom s (k * 112) i (at + 2) types in
-    let t₂ = typesFrom s (k * 112 + i) oc (outputsAt s at + 1) t₁ in
-    let t₃ = typesFrom s (k * 112 + i + oc) lc (localsAt s at + 1) t₂ in
-    let v₁ : TypesStored s types t₁ (k * 112) i (at + 2) (outputsAt s at) = record { ends = refl; stored = refl } in
-    let v₂ : TypesStored s t₁ t₂ (k * 112 + i) oc (outputsAt s at + 1) (localsAt s at) = record { ends = refl; stored = refl } in
-    let v₃ : TypesStored s t₂ t₃ (k * 112 + i + oc) lc (localsAt s at + 1) (equationsAt s at) = record { ends = refl; stored = refl } in
-    subst (λ l. NodeDone s rows rows′ types l k at) (sym (h .typed))
-    (node-done rows low long wide refl (types-told v₁) (types-length s i (k * 112) (at + 2) types) refl (types-told v₂) (types-length s oc (k * 112 + i) (outputsAt s at + 1) t₁) refl (types-told v₃) refl refl (h .row))
+    let t₁ = typesFrom s p i (at + 2) tab in
+    let t₂ = typesFrom s (p + 2 * i) oc (outputsAt s at + 1) t₁ in
+    let t₃ = typesFrom s (p + 2 * i + 2 * oc) lc (localsAt s at + 1) t₂ in
+    let v₁ : TypesStored s tab t₁ p i (at + 2) (outputsAt s at) = record { ends = refl; stored = refl } in
+    let v₂ : TypesStored s t₁ t₂ (p + 2 * i) oc (outputsAt s at + 1) (localsAt s at) = record { ends = refl; stored = refl } in
+    let v₃ : TypesStored s t₂ t₃ (p + 2 * i + 2 * oc) lc (localsAt s at + 1) (equationsAt s at) = record { ends = refl; stored = refl } in
+    subst (λ l. NodeDone s rows rows′ tab l plans k at) (sym (h .typed))
+    (node-done rows low long front near refl (types-told v₁) (types-length s i p (at + 2) tab) refl (types-told v₂) (types-length s oc (p + 2 * i) (outputsAt s at + 1) t₁) refl (types-told v₃) (types-length s lc (p + 2 * i + 2 * oc) (localsAt s at + 1) t₂) refl refl (h .row))
 
--- the nodes below number k have their rows and types
-pub record NodeGoing (f : File) (rows types : List ℕ) (k : ℕ) : Type 0 where
+-- the nodes below number k have their rows, places and types
+pub record NodeGoing (f : File) (rows : List ℕ) (plans : ℕ) (tab : List ℕ) (k : ℕ) : Type 0 where
   pub row : (j : ℕ) → j < k → NodeRow (nodeOf f j) (placeOf (placedNodes f) j) j rows
-  pub typed : (j : ℕ) → j < k → NodeTypes (nodeOf f j) j types
+  pub typed : (j : ℕ) → j < k → NodeTypes (nodeOf f j) (placeOf (placedNodes f) j) j plans tab
 
-pub record NodesGoing (s places rows₀ rows types : List ℕ) (count k : ℕ) : Type 0 where
+pub record NodesGoing (s places rows₀ rows tab₀ tab : List ℕ) (plans count k : ℕ) : Type 0 where
   pub few : k ≤ count
   pub long : length rows ≡ 272
-  pub wide : length types ≡ 7168
+  pub wide : length tab ≡ length tab₀
   pub above : (j : ℕ) → 256 ≤ j → getD rows j 0 ≡ getD rows₀ j 0
-  pub going : (f : File) → length (f .nodes) ≡ count → FileStands s f → PlacesAre f places → NodeGoing f rows types k
+  pub kept : (j : ℕ) → 64 ≤ j → j < plans → getD tab j 0 ≡ getD tab₀ j 0
+  pub going : (f : File) → length (f .nodes) ≡ count → FileStands s f → PlacesAre f places → NodeGoing f rows plans tab k
 
 -- a row below what is written stays
 row-below : {rows rows′ : List ℕ} {n : Node} {at : ℕ} (k j : ℕ) → ((i : ℕ) → i < k * 8 → getD rows′ i 0 ≡ getD rows i 0) → j < k → NodeRow n at j rows → NodeRow n at j rows′
@@ -431,86 +448,91 @@ row-below k j same lt h =
       place = same (j * 8 + 7) (omega arith) ∙ h .place;
     }
 
--- a node of few variables: its types stay where those below are kept
-types-below : {types types′ : List ℕ} {n : Node} (k j : ℕ) → length (variables n) ≤ 112 → ((i : ℕ) → i < k * 224 → getD types′ i 0 ≡ getD types i 0) → j < k → NodeTypes n j types → NodeTypes n j types′
-types-below {n = n} k j few same lt h =
-    record { are = λ i il. type-below (k * 112) (j * 112 + i) (λ m ml. same m (omega arith)) (omega arith) (h .are i il) }
-
 pub few-variables : {s : List ℕ} {enums at : ℕ} {n : Node} → NodeStands s enums at n → length (variables n) ≤ 112
 few-variables {n = n} st = omega (arith, st .fewInputs, st .fewOutputs, st .fewLocals, length-append (n .inputs ++ n .outputs) (n .locals), length-append (n .inputs) (n .outputs))
 
-module _ {s places rows₀ : List ℕ} {count : ℕ} where
-  pub nodes-start : (types : List ℕ) → length rows₀ ≡ 272 → length types ≡ 7168 → NodesGoing s places rows₀ rows₀ types count 0
-  nodes-start types long wide =
-      record { few = omega arith; long = long; wide = wide; above = λ j h. refl; going = λ f q st at. record { row = λ j lt. absurd (omega arith); typed = λ j lt. absurd (omega arith) } }
+-- the place and the types of a node stay where their bytes do
+pub types-stay : {tab tab′ : List ℕ} {n : Node} {at j plans : ℕ} (m : ℕ) → plans + at + 2 * length (variables n) ≤ m → ((i : ℕ) → plans + at ≤ i → i < m → getD tab′ i 0 ≡ getD tab i 0) → getD tab′ (2 * j) 0 ≡ getD tab (2 * j) 0 → getD tab′ (2 * j + 1) 0 ≡ getD tab (2 * j + 1) 0
+    → NodeTypes n at j plans tab → NodeTypes n at j plans tab′
+types-stay {tab} {tab′} {n} {at} {j} {plans} m room same a b h =
+    record { place = two-kept tab tab′ (2 * j) a b ∙ h .place; are = λ i il. type-same (plans + at + 2 * i) (same _ (omega arith) (omega arith)) (same _ (omega arith) (omega arith)) (h .are i il) }
 
-  module _ {rows types : List ℕ} {k : ℕ} (g : NodesGoing s places rows₀ rows types count k) where
-    pub nodes-turn : (rows′ types′ : List ℕ) (at : ℕ) → count ≤ 32 → k < count → length rows′ ≡ length rows → length types′ ≡ length types → at ≡ getD places k 0 → NodeDone s rows rows′ types types′ k at → NodesGoing s places rows₀ rows′ types′ count (k + 1)
-    nodes-turn rows′ types′ at most lt el et ea d =
+module _ {s places rows₀ tab₀ : List ℕ} {plans count : ℕ} (front : 64 ≤ plans) (room : plans + length s ≤ length tab₀) where
+  pub nodes-start : length rows₀ ≡ 272 → NodesGoing s places rows₀ rows₀ tab₀ tab₀ plans count 0
+  nodes-start long =
+      record { few = omega arith; long = long; wide = refl; above = λ j h. refl; kept = λ j h g. refl; going = λ f q st at. record { row = λ j lt. absurd (omega arith); typed = λ j lt. absurd (omega arith) } }
+
+  module _ {rows tab : List ℕ} {k : ℕ} (g : NodesGoing s places rows₀ rows tab₀ tab plans count k) where
+    pub nodes-turn : (rows′ tab′ : List ℕ) (at : ℕ) → count ≤ 32 → k < count → length rows′ ≡ length rows → length tab′ ≡ length tab → at ≡ getD places k 0 → NodeDone s rows rows′ tab tab′ plans k at → NodesGoing s places rows₀ rows′ tab₀ tab′ plans count (k + 1)
+    nodes-turn rows′ tab′ at most lt el et ea d =
         record {
           few = omega arith;
           long = el ∙ g .long;
           wide = et ∙ g .wide;
           above = λ j h. d .above j (omega arith) ∙ g .above j h;
+          kept = λ j h b. d .kept j (omega arith) (λ e. omega arith) (λ e. omega arith) ∙ g .kept j h b;
           going = λ f q st pl.
               let w = g .going f q st pl in
               let here : at ≡ placeOf (placedNodes f) k = ea ∙ pl .at k (omega arith) in
               let n = nodeOf f k in
-              let is = d .done (length (f .enums)) n (subst (λ a. NodeStands s (length (f .enums)) a n) (sym here) (node-at st k (omega arith))) in
+              let stands = node-at st k (omega arith) in
+              let is = d .done (length (f .enums)) n (subst (λ a. NodeStands s (length (f .enums)) a n) (sym here) stands) (omega (arith, here, g .wide, room, node-inside st k (omega arith), plan-room n stands)) in
               record {
                 row = λ j below. by-cases (decLt j k)
                     (λ old. row-below k j (d .below) old (w .row j old))
                     (λ new. let e : j ≡ k = omega arith in rw e (subst (λ a. NodeRow n a k rows′) here (is .row)));
                 typed = λ j below. by-cases (decLt j k)
-                    (λ old. types-below k j (few-variables (node-at st j (omega arith))) (d .typed) old (w .typed j old))
-                    (λ new. let e : j ≡ k = omega arith in rw e (is .typed));
+                    (λ old. types-stay (plans + at) (omega (arith, here, nodes-apart st j k old (omega arith), plan-room (nodeOf f j) (node-at st j (omega arith)))) (λ i a b. d .kept i b (λ e. omega arith) (λ e. omega arith))
+                    (d .kept (2 * j) (omega arith) (λ e. omega arith) (λ e. omega arith)) (d .kept (2 * j + 1) (omega arith) (λ e. omega arith) (λ e. omega arith)) (w .typed j old))
+                    (λ new. let e : j ≡ k = omega arith in rw e (subst (λ a. NodeTypes n a k plans tab′) here (is .typed)));
               };
         }
 
-    pub nodes-done : count ≤ k → NodesDone s places rows₀ rows types count
+    pub nodes-done : count ≤ k → NodesDone s places rows₀ rows tab₀ tab plans count
     nodes-done over =
         record {
           above = g .above;
+          kept = g .kept;
           done = λ f q st pl. let w = g .going f q st pl in record { row = λ j lt. w .row j (omega (arith, g .few)); typed = λ j lt. w .typed j (omega (arith, g .few)) };
         }
 
--- the rows and types, stored one after the other
-nodes-replay : {s places rows₀ : List ℕ} {count : ℕ} (n : ℕ) {rows types : List ℕ} {k : ℕ} → count ≤ 32 → k + n ≡ count → NodesGoing s places rows₀ rows types count k → NodesDone s places rows₀ (rowsFrom s places k n rows) (nodesTypes s places k n types) count
-unfolding rowsFrom nodesTypes
-nodes-replay zero most eq g = nodes-done g (omega arith)
-nodes-replay {s} {places} (suc n) {rows} {types} {k} most eq g =
-    let at = getD places k 0 in
-    let d : NodeStored s rows (putAll rows (k * 8) (rowFrom s at)) types (nodeTypes s k at types) k at = record { row = refl; typed = refl } in
-    nodes-replay n most (omega arith) (nodes-turn g _ _ at most (omega arith) (put-length rows (rowFrom s at) (k * 8)) (node-types-length s k at types) refl (node-told (omega arith) (g .long) (g .wide) d))
+  -- the rows, places and types, stored one after the other
+  nodes-replay : (n : ℕ) {rows tab : List ℕ} {k : ℕ} → count ≤ 32 → ((j : ℕ) → j < count → getD places j 0 ≤ 32768) → k + n ≡ count → NodesGoing s places rows₀ rows tab₀ tab plans count k → NodesDone s places rows₀ (rowsFrom s places k n rows) tab₀ (nodesStored s places plans k n tab) plans count
+  unfolding rowsFrom nodesStored
+  nodes-replay zero most near eq g = nodes-done g (omega arith)
+  nodes-replay (suc n) {rows} {tab} {k} most near eq g =
+      let at = getD places k 0 in
+      let d : NodeStored s rows (putAll rows (k * 8) (rowFrom s at)) tab (nodeStored s plans k at tab) plans k at = record { row = refl; typed = refl } in
+      nodes-replay n most near (omega arith) (nodes-turn g _ _ at most (omega arith) (put-length rows (rowFrom s at) (k * 8)) (node-length s plans k at tab) refl (node-told (omega arith) (g .long) front (omega (arith, near k (omega arith))) d))
 
-pub nodes-told : {s places rows rows′ types types′ : List ℕ} {count : ℕ} → count ≤ 32 → length rows ≡ 272 → length types ≡ 7168 → NodesStored s places rows rows′ types types′ count → NodesDone s places rows rows′ types′ count
-nodes-told {s} {places} {rows} {rows′} {types} {types′} {count} most long wide h =
-    subst (λ l. NodesDone s places rows l types′ count) (sym (h .stored)) (subst (λ l. NodesDone s places rows (rowsFrom s places 0 count rows) l count) (sym (h .typed)) (nodes-replay count most (omega arith) (nodes-start types long wide)))
+  pub nodes-told : {rows′ tab′ : List ℕ} → count ≤ 32 → ((j : ℕ) → j < count → getD places j 0 ≤ 32768) → length rows₀ ≡ 272 → NodesStored s places rows₀ rows′ tab₀ tab′ plans count → NodesDone s places rows₀ rows′ tab₀ tab′ plans count
+  nodes-told {rows′} {tab′} most near long h =
+      subst (λ l. NodesDone s places rows₀ l tab₀ tab′ plans count) (sym (h .stored)) (subst (λ l. NodesDone s places rows₀ (rowsFrom s places 0 count rows₀) tab₀ l plans count) (sym (h .typed)) (nodes-replay count most near (omega arith) (nodes-start long)))
 
 -- those from number k on are left
-pub record RowsGoing (s places rows₀ types₀ rows types : List ℕ) (count k : ℕ) : Type 0 where
+pub record RowsGoing (s places rows₀ tab₀ rows tab : List ℕ) (plans count k : ℕ) : Type 0 where
   pub stored : rowsFrom s places k (count - k) rows ≡ rowsFrom s places 0 count rows₀
-  pub typed : nodesTypes s places k (count - k) types ≡ nodesTypes s places 0 count types₀
+  pub typed : nodesStored s places plans k (count - k) tab ≡ nodesStored s places plans 0 count tab₀
 
-module _ {s places rows₀ types₀ : List ℕ} {count : ℕ} where
-  pub rows-start : RowsGoing s places rows₀ types₀ rows₀ types₀ count 0
+module _ {s places rows₀ tab₀ : List ℕ} {plans count : ℕ} where
+  pub rows-start : RowsGoing s places rows₀ tab₀ rows₀ tab₀ plans count 0
   rows-start = record { stored = rw (less-none count) refl; typed = rw (less-none count) refl }
 
-  module _ {rows types : List ℕ} {k : ℕ} (g : RowsGoing s places rows₀ types₀ rows types count k) where
-    pub rows-turn : k < count → {at : ℕ} {rows′ types′ : List ℕ} → at ≡ getD places k 0 → NodeStored s rows rows′ types types′ k at → RowsGoing s places rows₀ types₀ rows′ types′ count (k + 1)
-    unfolding rowsFrom nodesTypes
-    rows-turn lt {at} {rows′} {types′} ea h =
+  module _ {rows tab : List ℕ} {k : ℕ} (g : RowsGoing s places rows₀ tab₀ rows tab plans count k) where
+    pub rows-turn : k < count → {at : ℕ} {rows′ tab′ : List ℕ} → at ≡ getD places k 0 → NodeStored s rows rows′ tab tab′ plans k at → RowsGoing s places rows₀ tab₀ rows′ tab′ plans count (k + 1)
+    unfolding rowsFrom nodesStored
+    rows-turn lt {at} {rows′} {tab′} ea h =
         let less : count - k ≡ suc (count - (k + 1)) = omega arith in
         record {
           stored = ap (rowsFrom s places (k + 1) (count - (k + 1))) (h .row ∙ ap (λ p. putAll rows (k * 8) (rowFrom s p)) ea) ∙ ap (λ n. rowsFrom s places k n rows) (sym less) ∙ g .stored;
-          typed = ap (nodesTypes s places (k + 1) (count - (k + 1))) (h .typed ∙ ap (λ p. nodeTypes s k p types) ea) ∙ ap (λ n. nodesTypes s places k n types) (sym less) ∙ g .typed;
+          typed = ap (nodesStored s places plans (k + 1) (count - (k + 1))) (h .typed ∙ ap (λ p. nodeStored s plans k p tab) ea) ∙ ap (λ n. nodesStored s places plans k n tab) (sym less) ∙ g .typed;
         }
 
-    pub rows-done : count ≤ k → NodesStored s places rows₀ rows types₀ types count
-    unfolding rowsFrom nodesTypes
+    pub rows-done : count ≤ k → NodesStored s places rows₀ rows tab₀ tab plans count
+    unfolding rowsFrom nodesStored
     rows-done over =
         let none-left : count - k ≡ 0 = omega arith in
-        record { stored = ap (λ n. rowsFrom s places k n rows) (sym none-left) ∙ g .stored; typed = ap (λ n. nodesTypes s places k n types) (sym none-left) ∙ g .typed }
+        record { stored = ap (λ n. rowsFrom s places k n rows) (sym none-left) ∙ g .stored; typed = ap (λ n. nodesStored s places plans k n tab) (sym none-left) ∙ g .typed }
 
 -- ---- the whole file
 
@@ -556,11 +578,13 @@ module _ {s : List ℕ} {f : File} (st : FileStands s f) {rows₀ rows₁ : List
         let at : n ≡ constantsStart f + sum (map constantSize (f .constants)) = omega (arith, nodes-at) in
         sym (b .is ∙ ap (λ p. getD s p 0) at ∙ st .nodeCount)
 
-    pub tables-done : {rows₂ types₁ types₂ : List ℕ} {nc : ℕ} → length rows₁ ≡ 272 → length types₁ ≡ 7168 → Byte s n nc → NodesStored s places rows₁ rows₂ types₁ types₂ nc → TablesDone f rows₂ types₂ (record { constants = c; nodes = n })
-    tables-done {rows₂} {types₁} {types₂} long₁ wide nb kept =
-        let nodes = nodes-told (omega (arith, nodes-count nb, st .fewNodes)) long₁ wide kept in
-        let w = nodes .done f (nodes-count nb) st pl in
+    pub tables-done : {rows₂ tab₁ tab₂ : List ℕ} {plans nc : ℕ} → length rows₁ ≡ 272 → 64 ≤ plans → plans + length s ≤ length tab₁ → Byte s n nc → NodesStored s places rows₁ rows₂ tab₁ tab₂ plans nc → TablesDone f rows₂ tab₁ tab₂ plans (record { constants = c; nodes = n })
+    tables-done long₁ front room nb kept =
+        let many = nodes-count nb in
+        let nodes = nodes-told front room (omega (arith, many, st .fewNodes)) (λ j h. places-in st pl j (omega (arith, many, h))) long₁ kept in
+        let w = nodes .done f many st pl in
         record {
           sections = record { constants = constants-at; nodes = nodes-at };
           are = record { row = w .row; firsts = λ e lt. nodes .above (256 + e) (omega arith) ∙ enums-are .firsts e lt; typed = w .typed };
+          kept = nodes .kept;
         }

@@ -34,12 +34,12 @@ use Rattle.ol_tables.proofs.HeadsFile.{file-stands, node-at}
 use Rattle.ol_tables.specs.Heads.{Byte}
 use Rattle.ol_check.specs.RowsDone.{NodeRow}
 use Rattle.ol_check.specs.Judging.{sizeTo}
-use Rattle.ol_check.specs.NodesJudged.{RowsReady, NodePlanned, PlansBelow}
+use Rattle.ol_check.specs.NodesJudged.{RowsReady, NodePlanned, PlansBelow, TypesLeft}
 use Rattle.ol_check.specs.Records.{calleeB, instanceB, recordBy}
 use Rattle.ol_check.specs.Sizes.{SizesDone, StateSized, NodesSized, sizeNode, sizeNodes, lastSize}
 use Rattle.ol_check.proofs.CalleeLaws.{sum-append}
 use Rattle.ol_check.proofs.RowLoops.{few-variables}
-use Rattle.ol_check.proofs.PlanLaws.{plan-kept, plan-made}
+use Rattle.ol_check.proofs.PlanLaws.{plan-kept, plan-made, types-left}
 use Rattle.ol_check.proofs.TabLaws.{row-of}
 use Rattle.ol_check.proofs.SizeLaws.{the-main}
 
@@ -213,6 +213,10 @@ plans-turn {s} {rows₀} {rows} {nodes} {k} {half = half} slots′ rd g bytes lt
     by-cases (decLt j k) (λ old. plan-kept st w low j old (below no j old))
     (λ new. let e : k ≡ j = omega arith in
     subst (PlanOf f (drop half slots′)) e (plan-made st w low (λ i m few. before-sized bytes (rd .reads) no rows nodes k (rd .many) lt (g .sizes no) i (few-variables (node-at st k low)) few)))
+
+-- the types of all nodes are left
+pub types-turn : {s rows₀ rows : List ℕ} {nodes k half : ℕ} {slots₀ slots : List ℕ} (slots′ : List ℕ) → RowsReady s rows₀ nodes → Bytes s → k < nodes → NodePlanned rows nodes (fileAt s) half k slots slots′ → TypesLeft (fileAt s) half slots₀ slots → TypesLeft (fileAt s) half slots₀ slots′
+types-turn slots′ rd bytes lt w h = record { left = λ j l x a b. types-left (file-stands bytes (rd .reads)) w (omega (arith, rd .many)) .left j l x a b ∙ h .left j l x a b }
 
 -- the rows are the file's
 pub rows-sized : {f : File} {rows rows′ : List ℕ} → length rows′ ≡ 272 → ((e : ℕ) → e < length (f .enums) → firstAt rows e ≡ getD (getD (f .enums) e []) 0 0) → SizesDone f rows rows′

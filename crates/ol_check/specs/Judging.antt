@@ -254,10 +254,6 @@ pub record EquationsJudged (s names rows : List ℕ) (nodes : ℕ) (f : File) (v
 
 -- ---- plans
 
--- a number is stored in two bytes from p on
-unfoldable pub twoPut : List ℕ → ℕ → ℕ → List ℕ
-twoPut t p n = set (set t p (n / 256 % 256)) (p + 1) (n % 256)
-
 -- the bytes of the records of the equations before number i, as the rows tell them: a sum that starts with `size`, exact up to the cap
 abbrev pub sizeTo : List ℕ → ℕ → ℕ → List Equation → ℕ → ℕ
 sizeTo rows nodes size qs i = min (size + sum (map (calleeB rows nodes) (concat (map equationSites (take i qs))))) 65536

@@ -3,7 +3,7 @@ use Prim.Native.Nat.{ℕ, _+_, _<_, _≤_, min}
 use mathlib.Core.List.{List, [], _∷_, map}
 use mathlib.Core.Option.{none}
 use mathlib.Core.Path.{_≡_}
-use lib.ListN.{length, replicate, drop}
+use lib.ListN.{length, getD, replicate, drop}
 use Rattle.ol_spec.specs.Syntax.{Node, File, variables}
 use Rattle.ol_spec.specs.Places.{placedNodes, placedEquations, equationsStart}
 use Rattle.ol_spec.specs.Lists.{concat}
@@ -85,6 +85,10 @@ pub record NodesJudged (s names : List ℕ) (f : File) (slots slots′ : List �
   pub called : r .called ≡ foundIn (g .called) (concat (map (nodeCalls f) (numbered 0 (placedNodes f))))
   pub shaped : r .shaped ≡ foundIn (g .shaped) (concat (map (nodeShape f) (placedNodes f)))
   pub slotted : slots′ ≡ slotNodes s names slots (placedNodes f)
+
+-- the types of the nodes' variables, which stand before what their equations need, are left
+pub record TypesLeft (f : File) (half : ℕ) (slots slots′ : List ℕ) : Type 0 where
+  pub left : (k : ℕ) → k < length (f .nodes) → (x : ℕ) → placeIn f k ≤ x → x < planIn f k → getD slots′ (half + x) 0 ≡ getD slots (half + x) 0
 
 -- the plans of the nodes below k are those of the file, where 9 does not hold
 abbrev pub PlansBelow : File → ℕ → List ℕ → ℕ → Type 0

@@ -1,5 +1,5 @@
--- What the builders of rows and types store, as the bytes tell it, and what the tables are for a file that reads without fault.
-use Prim.Native.Nat.{ℕ, zero, suc, _+_, _*_, _<_}
+-- What the builders of rows, places and types store, as the bytes tell it, and what the tables are for a file that reads without fault.
+use Prim.Native.Nat.{ℕ, zero, suc, _+_, _*_, _≤_, _<_}
 use mathlib.Core.Bool.{false}
 use mathlib.Core.List.{List, [], _∷_, map}
 use mathlib.Core.Path.{_≡_}
@@ -10,7 +10,7 @@ use Rattle.ol_spec.specs.Places.{enumSize, variableSize, equationsStart, placed
 use Rattle.ol_spec.specs.Encode.{kindCode, nameBytes, sectionBytes}
 use Rattle.ol_spec.specs.Limits.{base}
 use Rattle.ol_spec.specs.Within.{enumFits}
-use Rattle.ol_tables.specs.Tables.{tyCode, tyEnum, rowAt, firstAt, placeOf, nodeOf}
+use Rattle.ol_tables.specs.Tables.{tyCode, tyEnum, rowAt, firstAt, placeOf, nodeOf, twoAt, twoPut}
 use Rattle.ol_tables.specs.Heads.{nameAt, tyEnumAt}
 use Rattle.ol_tables.specs.Stands.{Listed}
 use Rattle.ol_check.specs.Spans.{endFrom, behindVariable, behindEnum}
@@ -36,14 +36,14 @@ pub record EnumsStored (s rows rows′ : List ℕ) (count at r : ℕ) : Type 0 w
 
 -- ---- types
 
--- the table of types after the type at `at` is stored as that of variable i
+-- the bytes after the type at `at` is stored in two of them from p on
 abbrev pub typeSet : List ℕ → ℕ → List ℕ → ℕ → List ℕ
-typeSet types i s at = set (set types (i * 2) (getD s at 0)) (i * 2 + 1) (tyEnumAt s at)
+typeSet types p s at = set (set types p (getD s at 0)) (p + 1) (tyEnumAt s at)
 
--- the type of variable i
-pub record TypeAt (types : List ℕ) (i : ℕ) (t : Ty) : Type 0 where
-  pub code : getD types (i * 2) 0 ≡ tyCode t
-  pub number : getD types (i * 2 + 1) 0 ≡ tyEnum t
+-- the type in two bytes from p on
+pub record TypeAt (types : List ℕ) (p : ℕ) (t : Ty) : Type 0 where
+  pub code : getD types p 0 ≡ tyCode t
+  pub number : getD types (p + 1) 0 ≡ tyEnum t
 
 abbrev pub noVariable : Variable
 noVariable = record { name = 0; ty = bool }
@@ -53,12 +53,12 @@ noConstant = record { name = 0; ty = bool; value = boolLit false }
 
 pub record VariablesAre (vs : List Variable) (types : List ℕ) (first at r : ℕ) : Type 0 where
   pub ends : r ≡ at + sum (map variableSize vs)
-  pub typed : (i : ℕ) → i < length vs → TypeAt types (first + i) (getD vs i noVariable .ty)
+  pub typed : (i : ℕ) → i < length vs → TypeAt types (first + 2 * i) (getD vs i noVariable .ty)
 
--- the table of types after those of so many variables from `at` on are stored, the first being number i
+-- the bytes after the types of so many variables from `at` on are stored, the first at p
 unfoldable pub typesFrom : List ℕ → ℕ → ℕ → ℕ → List ℕ → List ℕ
-typesFrom s i zero at types = types
-typesFrom s i (suc n) at types = typesFrom s (i + 1) n (behindVariable s at) (typeSet types i s (at + 2))
+typesFrom s p zero at types = types
+typesFrom s p (suc n) at types = typesFrom s (p + 2) n (behindVariable s at) (typeSet types p s (at + 2))
 
 pub record TypesStored (s types types′ : List ℕ) (first count at r : ℕ) : Type 0 where
   pub ends : r ≡ endFrom (behindVariable s) count at
@@ -86,28 +86,32 @@ abbrev pub rowFrom : List ℕ → ℕ → List ℕ
 rowFrom s at =
     getD s at 0 ∷ (equationsAt s at + 1) ∷ getD s (at + 1) 0 ∷ getD s (outputsAt s at) 0 ∷ (getD s (at + 1) 0 + getD s (outputsAt s at) 0 + getD s (localsAt s at) 0) ∷ getD s (equationsAt s at) 0 ∷ 0 ∷ at ∷ []
 
--- the table of types after those of node k, which stands at `at`
+-- the bytes after the types of the node at `at` are stored from p on
 abbrev pub nodeTypes : List ℕ → ℕ → ℕ → List ℕ → List ℕ
-nodeTypes s k at types =
-    typesFrom s (k * 112 + getD s (at + 1) 0 + getD s (outputsAt s at) 0) (getD s (localsAt s at) 0) (localsAt s at + 1)
-    (typesFrom s (k * 112 + getD s (at + 1) 0) (getD s (outputsAt s at) 0) (outputsAt s at + 1) (typesFrom s (k * 112) (getD s (at + 1) 0) (at + 2) types))
+nodeTypes s p at types =
+    typesFrom s (p + 2 * getD s (at + 1) 0 + 2 * getD s (outputsAt s at) 0) (getD s (localsAt s at) 0) (localsAt s at + 1)
+    (typesFrom s (p + 2 * getD s (at + 1) 0) (getD s (outputsAt s at) 0) (outputsAt s at + 1) (typesFrom s p (getD s (at + 1) 0) (at + 2) types))
 
-pub record NodeStored (s rows rows′ types types′ : List ℕ) (k at : ℕ) : Type 0 where
+-- and its place, as node k's
+abbrev pub nodeStored : List ℕ → ℕ → ℕ → ℕ → List ℕ → List ℕ
+nodeStored s plans k at tab = twoPut (nodeTypes s (plans + at) at tab) (2 * k) at
+
+pub record NodeStored (s rows rows′ tab tab′ : List ℕ) (plans k at : ℕ) : Type 0 where
   pub row : rows′ ≡ putAll rows (k * 8) (rowFrom s at)
-  pub typed : types′ ≡ nodeTypes s k at types
+  pub typed : tab′ ≡ nodeStored s plans k at tab
 
--- the rows and the types after those of so many nodes, each at its place, the first being number k
+-- the rows and the bytes after those of so many nodes, each at its place, the first being number k
 unfoldable pub rowsFrom : List ℕ → List ℕ → ℕ → ℕ → List ℕ → List ℕ
 rowsFrom s places k zero rows = rows
 rowsFrom s places k (suc n) rows = rowsFrom s places (k + 1) n (putAll rows (k * 8) (rowFrom s (getD places k 0)))
 
-unfoldable pub nodesTypes : List ℕ → List ℕ → ℕ → ℕ → List ℕ → List ℕ
-nodesTypes s places k zero types = types
-nodesTypes s places k (suc n) types = nodesTypes s places (k + 1) n (nodeTypes s k (getD places k 0) types)
+unfoldable pub nodesStored : List ℕ → List ℕ → ℕ → ℕ → ℕ → List ℕ → List ℕ
+nodesStored s places plans k zero tab = tab
+nodesStored s places plans k (suc n) tab = nodesStored s places plans (k + 1) n (nodeStored s plans k (getD places k 0) tab)
 
-pub record NodesStored (s places rows rows′ types types′ : List ℕ) (count : ℕ) : Type 0 where
+pub record NodesStored (s places rows rows′ tab tab′ : List ℕ) (plans count : ℕ) : Type 0 where
   pub stored : rows′ ≡ rowsFrom s places 0 count rows
-  pub typed : types′ ≡ nodesTypes s places 0 count types
+  pub typed : tab′ ≡ nodesStored s places plans 0 count tab
 
 -- node k is n and stands at `at`: its row, the size apart
 pub record NodeRow (n : Node) (at k : ℕ) (rows : List ℕ) : Type 0 where
@@ -119,13 +123,14 @@ pub record NodeRow (n : Node) (at k : ℕ) (rows : List ℕ) : Type 0 where
   pub count : rowAt rows k 5 ≡ length (n .equations)
   pub place : rowAt rows k 7 ≡ at
 
--- the types of node k's variables
-pub record NodeTypes (n : Node) (k : ℕ) (types : List ℕ) : Type 0 where
-  pub are : (i : ℕ) → i < length (variables n) → TypeAt types (k * 112 + i) (getD (variables n) i noVariable .ty)
+-- node k's place, and the types of its variables, at its place among the plans
+pub record NodeTypes (n : Node) (at k : ℕ) (plans : ℕ) (tab : List ℕ) : Type 0 where
+  pub place : twoAt tab (2 * k) ≡ at
+  pub are : (i : ℕ) → i < length (variables n) → TypeAt tab (plans + at + 2 * i) (getD (variables n) i noVariable .ty)
 
-pub record NodeIs (n : Node) (at k : ℕ) (rows types : List ℕ) : Type 0 where
+pub record NodeIs (n : Node) (at k : ℕ) (rows : List ℕ) (plans : ℕ) (tab : List ℕ) : Type 0 where
   pub row : NodeRow n at k rows
-  pub typed : NodeTypes n k types
+  pub typed : NodeTypes n at k plans tab
 
 -- ---- the whole file
 
@@ -133,23 +138,28 @@ pub record NodeIs (n : Node) (at k : ℕ) (rows types : List ℕ) : Type 0 where
 pub record PlacesAre (f : File) (places : List ℕ) : Type 0 where
   pub at : (k : ℕ) → k < length (f .nodes) → getD places k 0 ≡ placeOf (placedNodes f) k
 
--- the row and the types of each node
-pub record NodesAre (f : File) (rows types : List ℕ) : Type 0 where
-  pub row : (k : ℕ) → k < length (f .nodes) → NodeRow (nodeOf f k) (placeOf (placedNodes f) k) k rows
-  pub typed : (k : ℕ) → k < length (f .nodes) → NodeTypes (nodeOf f k) k types
+-- the places and the types of all nodes
+abbrev pub Typed : File → ℕ → List ℕ → Type 0
+Typed f plans tab = (k : ℕ) → k < length (f .nodes) → NodeTypes (nodeOf f k) (placeOf (placedNodes f) k) k plans tab
 
--- the rows, but for the sizes, the first variants, and the types
-pub record RowsAre (f : File) (rows types : List ℕ) : Type 0 where
+-- the row, the place and the types of each node
+pub record NodesAre (f : File) (rows : List ℕ) (plans : ℕ) (tab : List ℕ) : Type 0 where
+  pub row : (k : ℕ) → k < length (f .nodes) → NodeRow (nodeOf f k) (placeOf (placedNodes f) k) k rows
+  pub typed : Typed f plans tab
+
+-- the rows, but for the sizes, the first variants, the places and the types
+pub record RowsAre (f : File) (rows : List ℕ) (plans : ℕ) (tab : List ℕ) : Type 0 where
   pub row : (k : ℕ) → k < length (f .nodes) → NodeRow (nodeOf f k) (placeOf (placedNodes f) k) k rows
   pub firsts : (e : ℕ) → e < length (f .enums) → firstAt rows e ≡ getD (getD (f .enums) e []) 0 0
-  pub typed : (k : ℕ) → k < length (f .nodes) → NodeTypes (nodeOf f k) k types
+  pub typed : Typed f plans tab
 
 -- where the counts of the constants and of the nodes stand
 pub record SectionsAre (f : File) (r : Sections) : Type 0 where
   pub constants : r .constants + 1 ≡ constantsStart f
   pub nodes : r .nodes + 1 ≡ nodesStart f
 
--- Entries that belong to no node, enum or variable of the file are free.
-pub record TablesDone (f : File) (rows types : List ℕ) (r : Sections) : Type 0 where
+-- Between the places and the plans nothing is written. Entries that belong to no node, enum or variable of the file are free.
+pub record TablesDone (f : File) (rows tab tab′ : List ℕ) (plans : ℕ) (r : Sections) : Type 0 where
   pub sections : SectionsAre f r
-  pub are : RowsAre f rows types
+  pub are : RowsAre f rows plans tab′
+  pub kept : (x : ℕ) → 64 ≤ x → x < plans → getD tab′ x 0 ≡ getD tab x 0

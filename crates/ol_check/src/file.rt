@@ -16,10 +16,11 @@ ghost use Rattle.ol_spec.specs.Admission.{fault9};
 ghost use Rattle.ol_tables.specs.At.{fileAt};
 ghost use Rattle.ol_tables.specs.Tables.{PlanOf};
 ghost use Rattle.ol_check.specs.FileJudged.{FileReady, NamesWithin, FileJudged};
+ghost use Rattle.ol_check.specs.NodesJudged.{TypesLeft};
 
 // Faults 7 to 10 of a file that reads without fault, and the bytes of an instance of its last node.
 // The table by name is empty, and longer than every declared name. The first `half` bytes of `slots` are the slots; behind them stand the
-// nodes' plans, and what the other bytes there are is not told.
+// nodes' plans, of which the types are left; what the other bytes there are is not told.
 pub fn faults(
     file: &[u8],
     rows: &mut [usize],
@@ -31,6 +32,7 @@ pub fn faults(
     requires { ⌜ FileReady (now file) (now rows) (now names) sections × NamesWithin (length (now names)) (fileAt (now file)) × (length (now rows) ≡ 272) × (half ≤ length (now slots)) × (length (now file) ≤ half) × (half + length (now file) ≤ length (now slots)) ⌝ }
     ensures judged { λ r. ⌜ FileJudged (now (file .entry)) (fileAt (now (file .entry))) (now (names .entry)) (now (names .exit)) (take half (now (slots .entry))) (take half (now (slots .exit))) (now (rows .entry)) (now (rows .exit)) r ⌝ }
     ensures planned { λ r. ⌜ (fault9 (fileAt (now (file .entry))) ≡ none → (k : ℕ) → k < length (fileAt (now (file .entry)) .nodes) → PlanOf (fileAt (now (file .entry))) (drop half (now (slots .exit))) k) ⌝ }
+    ensures typed { λ r. ⌜ TypesLeft (fileAt (now (file .entry))) half (now (slots .entry)) (now (slots .exit)) ⌝ }
 {
     let c = sections.constants;
     let n = sections.nodes;

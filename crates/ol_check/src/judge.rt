@@ -6,6 +6,7 @@ use super::size::site;
 use ol_tables::bytes::byte;
 use ol_tables::bytes::name;
 use ol_tables::bytes::put_byte;
+use ol_tables::bytes::put_two;
 use ol_tables::heads::head;
 use ol_tables::tables::INPUTS;
 use ol_tables::tables::KIND;
@@ -19,7 +20,7 @@ ghost use Rattle.ol_tables.specs.At.{fileAt};
 ghost use Rattle.ol_tables.specs.Tables.{nodeOf};
 ghost use Rattle.ol_check.specs.Founds.{markPlace};
 ghost use Rattle.ol_check.specs.Judging.{unseenB, slotOfEntry, slotPut, slotHead, mayB, badB, calledB, outputsB, arityB, findings, varFound, callFound, Walked};
-ghost use Rattle.ol_check.specs.Judging.{takenB, NamesDefined, loneB, otherB, RootJudged, EquationWalked, seenIn, EquationsReady, EquationsJudged, twoPut, Planned};
+ghost use Rattle.ol_check.specs.Judging.{takenB, NamesDefined, loneB, otherB, RootJudged, EquationWalked, seenIn, EquationsReady, EquationsJudged, Planned};
 
 // A name's slot, by its entry.
 fn slot(e: usize) -> u8
@@ -343,15 +344,6 @@ fn equation(
         Reached { size, next: at + 1 },
     );
     root(file, names, slots, rows, nodes, node, at, many, found, d)
-}
-
-// Stores a number in two bytes from p on.
-fn put_two(bytes: &mut [u8], p: usize, n: usize)
-    requires { ⌜ p + 1 < length (now bytes) ⌝ }
-    ensures { λ r. ⌜ now (bytes .exit) ≡ twoPut (now (bytes .entry)) p n ⌝ }
-{
-    put_byte(bytes, p, (n / 256 % 256) as u8);
-    put_byte(bytes, p + 1, (n % 256) as u8);
 }
 
 // So many equations of a node of so many inputs, from where the walk stands. The first `half` bytes of `slots` are the slots; from `plan` on the node's plan is

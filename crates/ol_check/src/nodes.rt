@@ -25,7 +25,7 @@ ghost use Rattle.ol_tables.specs.At.{fileAt};
 ghost use Rattle.ol_tables.specs.Tables.{nodeOf, rowAt};
 ghost use Rattle.ol_check.specs.Entries.{forgetAll};
 ghost use Rattle.ol_check.specs.Judging.{findings};
-ghost use Rattle.ol_check.specs.NodesJudged.{NodeReady, nodeTable, NodeJudged, RowsReady, NamesReady, NodesJudged, NodePlanned, PlansBelow};
+ghost use Rattle.ol_check.specs.NodesJudged.{NodeReady, nodeTable, NodeJudged, RowsReady, NamesReady, NodesJudged, NodePlanned, PlansBelow, TypesLeft};
 ghost use Rattle.ol_check.specs.Records.{recordBy};
 ghost use Rattle.ol_check.specs.Sizes.{NodesSized};
 
@@ -110,7 +110,7 @@ pub(crate) fn judge_nodes(
     f: Reached,
 ) -> Reached
     requires { ⌜ RowsReady (now file) (now rows) nodes × NamesReady (now names) (fileAt (now file)) × (length (now rows) ≡ 272) × (length (now found) ≡ 4) × (half + length (now file) ≤ length (now slots)) ⌝ }
-    ensures { λ r. ⌜ (now (names .exit) ≡ now (names .entry)) × NodesJudged (now (file .entry)) (now (names .entry)) (fileAt (now (file .entry))) (take half (now (slots .entry))) (take half (now (slots .exit))) (findings (now (found .entry)) f) (findings (now (found .exit)) r) × NodesSized (fileAt (now (file .entry))) (now (rows .entry)) (now (rows .exit)) (f .size) (r .size) × (length (now (found .exit)) ≡ 4) × PlansBelow (fileAt (now (file .entry))) half (now (slots .exit)) nodes ⌝ }
+    ensures { λ r. ⌜ (now (names .exit) ≡ now (names .entry)) × NodesJudged (now (file .entry)) (now (names .entry)) (fileAt (now (file .entry))) (take half (now (slots .entry))) (take half (now (slots .exit))) (findings (now (found .entry)) f) (findings (now (found .exit)) r) × NodesSized (fileAt (now (file .entry))) (now (rows .entry)) (now (rows .exit)) (f .size) (r .size) × (length (now (found .exit)) ≡ 4) × PlansBelow (fileAt (now (file .entry))) half (now (slots .exit)) nodes × TypesLeft (fileAt (now (file .entry))) half (now (slots .entry)) (now (slots .exit)) ⌝ }
 {
     let mut g = f;
     let mut k = 0;

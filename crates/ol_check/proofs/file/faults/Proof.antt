@@ -1,7 +1,8 @@
 -- <uses>
+use Prim.Native.Nat.{_+_}
 use mathlib.Core.Path.{refl, sym, _∙_}
 use Rattle.ol_check.proofs.NodeLaws.{judged-from}
-use Rattle.ol_check.proofs.PlanLaws.{front-new}
+use Rattle.ol_check.proofs.PlanLaws.{front-new, front-rest}
 use lib.Seq.{length-take-le, length-front}
 use Rattle.ol_check.proofs.FileLaws.{few-enums, rows-ready, constant-count, constants-ready, names-ready, file-judged}
 use Rattle.ol_tables.proofs.HeadsFile.{file-stands, bytes-of}
@@ -113,7 +114,7 @@ same-length-3 c = search needs
 returns : tie.Need-returns
 returns c =
     let start = c .before .before .before .before .before .before .before .before .before .before .before .before .before .before .before .before .before .before .before .before .before .before .before .before .before .before .before .before .before .before .before .before .before .before .before in
-    (file-judged (start .pre .0) (start .pre .1) (file-stands (bytes-of (start .args .file .now) (λ i. omega (arith, c .before .before .before .before .before .before .before .before .before .before .before .before .before .before .before .before .before .before .before .before .before .before .before .before .before .before .before .before .before .before .before .before .before .before .shared-slice-known .given i))) (start .pre .0 .reads)) (c .before .before .before .before .before .before .before .before .before .before .before .before .before .before .before .before .before .before .before .before .before .before .before .before .before .before .before .before .before .before .byte .ensures) (c .before .before .before .before .before .before .before .before .before .before .before .before .before .before .before .before .before .before .before .before .before .before .before .before .before .before .before .before .byte2 .ensures) (c .before .before .before .before .before .before .before .before .before .before .before .before .before .before .before .before .before .before .before .before .before .byte3 .ensures) (c .before .before .before .before .before .before .before .before .before .before .before .before .before .before .before .before .before .before .before .before .before .before .before .before .before .before .before .declare-enums .ensures) refl refl refl refl refl (c .before .before .before .before .before .before .before .before .before .before .before .before .before .before .before .before .before .before .before .judge-constants .ensures .0) (c .before .before .before .before .before .before .before .before .before .before .judge-nodes .ensures .0) (judged-from (front-new (start .args .half) (start .args .slots .now) (c .before .before .before .before .before .before .before .before .before .before .before .before .before .before .before .before .before .before .before .judge-constants .last .1 .1 .0) (start .pre .3) (c .before .before .before .before .before .before .before .before .before .before .before .before .before .before .before .before .before .before .before .judge-constants .kept .1 .1 .0)) (c .before .before .before .before .before .before .before .before .before .before .judge-nodes .ensures .1)) (c .before .before .before .before .before .before .before .before .before .before .judge-nodes .ensures .2) (c .before .before .before .found-at .ensures) (c .before .before .found-at2 .ensures) (c .before .found-at3 .ensures) (c .found-at4 .ensures), λ no k lt. c .before .before .before .before .before .before .before .before .before .before .judge-nodes .ensures .4 no k (omega (arith, rows-ready (start .pre .0) (start .pre .1) (file-stands (bytes-of (start .args .file .now) (λ i. omega (arith, c .before .before .before .before .before .before .before .before .before .before .before .before .before .before .before .before .before .before .before .before .before .before .before .before .before .before .before .before .before .before .before .before .before .before .shared-slice-known .given i))) (start .pre .0 .reads)) (c .before .before .before .before .before .before .before .before .before .before .before .before .before .before .before .before .before .before .before .before .before .before .before .before .before .before .before .before .before .before .byte .ensures) .many)))
+    (file-judged (start .pre .0) (start .pre .1) (file-stands (bytes-of (start .args .file .now) (λ i. omega (arith, c .before .before .before .before .before .before .before .before .before .before .before .before .before .before .before .before .before .before .before .before .before .before .before .before .before .before .before .before .before .before .before .before .before .before .shared-slice-known .given i))) (start .pre .0 .reads)) (c .before .before .before .before .before .before .before .before .before .before .before .before .before .before .before .before .before .before .before .before .before .before .before .before .before .before .before .before .before .before .byte .ensures) (c .before .before .before .before .before .before .before .before .before .before .before .before .before .before .before .before .before .before .before .before .before .before .before .before .before .before .before .before .byte2 .ensures) (c .before .before .before .before .before .before .before .before .before .before .before .before .before .before .before .before .before .before .before .before .before .byte3 .ensures) (c .before .before .before .before .before .before .before .before .before .before .before .before .before .before .before .before .before .before .before .before .before .before .before .before .before .before .before .declare-enums .ensures) refl refl refl refl refl (c .before .before .before .before .before .before .before .before .before .before .before .before .before .before .before .before .before .before .before .judge-constants .ensures .0) (c .before .before .before .before .before .before .before .before .before .before .judge-nodes .ensures .0) (judged-from (front-new (start .args .half) (start .args .slots .now) (c .before .before .before .before .before .before .before .before .before .before .before .before .before .before .before .before .before .before .before .judge-constants .last .1 .1 .0) (start .pre .3) (c .before .before .before .before .before .before .before .before .before .before .before .before .before .before .before .before .before .before .before .judge-constants .kept .1 .1 .0)) (c .before .before .before .before .before .before .before .before .before .before .judge-nodes .ensures .1)) (c .before .before .before .before .before .before .before .before .before .before .judge-nodes .ensures .2) (c .before .before .before .found-at .ensures) (c .before .before .found-at2 .ensures) (c .before .found-at3 .ensures) (c .found-at4 .ensures), (λ no k lt. c .before .before .before .before .before .before .before .before .before .before .judge-nodes .ensures .4 no k (omega (arith, rows-ready (start .pre .0) (start .pre .1) (file-stands (bytes-of (start .args .file .now) (λ i. omega (arith, c .before .before .before .before .before .before .before .before .before .before .before .before .before .before .before .before .before .before .before .before .before .before .before .before .before .before .before .before .before .before .before .before .before .before .shared-slice-known .given i))) (start .pre .0 .reads)) (c .before .before .before .before .before .before .before .before .before .before .before .before .before .before .before .before .before .before .before .before .before .before .before .before .before .before .before .before .before .before .byte .ensures) .many)), record { left = λ k l x a b. c .before .before .before .before .before .before .before .before .before .before .judge-nodes .ensures .5 .left k l x a b ∙ front-rest (start .args .half) (start .args .slots .now) (c .before .before .before .before .before .before .before .before .before .before .before .before .before .before .before .before .before .before .before .judge-constants .last .1 .1 .0) (start .pre .3) (c .before .before .before .before .before .before .before .before .before .before .before .before .before .before .before .before .before .before .before .judge-constants .kept .1 .1 .0) (start .args .half + x) (omega arith) }))
 
 pub faults-spec : {M : Type 1} → statement M
 faults-spec =

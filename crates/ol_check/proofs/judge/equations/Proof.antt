@@ -16,7 +16,7 @@ use Rattle.ol_check.proofs.judge.equations.Tie as tie
 use Rattle.ol_check.proofs.judge.equations.Reads as reads
 use Rattle.ol_check.proofs.judge.equations.Lts as lts
 use Rattle.ol_check.proofs.judge.equation.Reads as equation-reads
-use Rattle.ol_check.proofs.judge.put_two.Reads as put-two-reads
+use Rattle.ol_tables.proofs.bytes.put_two.Reads as put-two-reads
 
 abbrev Inv-loop : tie.InvT-loop
 Inv-loop file names slots₀ defined₀ rows nodes node inputs many found₀ half plan f g₀ i₀ slots defined found g i =

@@ -11,11 +11,11 @@ use Rattle.ol_check.proofs.rows.node_row.Reads as node-row-reads
 use Rattle.ol_tables.proofs.bytes.entry.Reads as entry-reads
 
 abbrev Inv-loop : tie.InvT-loop
-Inv-loop file places rows₀ types₀ count k₀ rows types k =
-    (length rows ≡ length rows₀) × (length types ≡ length types₀) × RowsGoing file places rows₀ types₀ rows types count k
+Inv-loop file places rows₀ tab₀ plans count k₀ rows tab k =
+    (length rows ≡ length rows₀) × (length tab ≡ length tab₀) × RowsGoing file places rows₀ tab₀ rows tab plans count k
 
 abbrev μ-loop : tie.MeasureT-loop
-μ-loop file places rows₀ types₀ count k₀ rows types k = count - k
+μ-loop file places rows₀ tab₀ plans count k₀ rows tab k = count - k
 
 -- src/rows.rt:134:5
 loop-holds : tie.Need-loop-holds Inv-loop μ-loop
@@ -29,7 +29,7 @@ entry-requires c κs = tt
 node-row-requires : tie.Need-node-row-requires Inv-loop μ-loop
 node-row-requires c κs =
     let start = c .before .before .before .before .before .before .before .before .before in
-    (omega (arith, start .pre .0, c .before .before .before .loop-test .taken), omega (arith, c .entry .ensures, start .pre .1 (c .before .before .before .before .loop .k) (c .before .before .before .loop-test .taken)))
+    (omega (arith, start .pre .0, c .before .before .before .loop-test .taken), omega (arith, c .entry .ensures, start .pre .1 (c .before .before .before .before .loop .k) (c .before .before .before .loop-test .taken)), start .pre .2)
 
 -- src/rows.rt:136:9
 add-k : tie.Need-add-k Inv-loop μ-loop

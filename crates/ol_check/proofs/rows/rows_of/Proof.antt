@@ -41,7 +41,7 @@ byte-requires-2 c κs = search needs
 node-rows-requires : tie.Need-node-rows-requires
 node-rows-requires c κs =
     let start = c .before .before .before .before .before .before .before .before .before .before .before .before .before in
-    (omega (arith, (nodes-count (file-stands (bytes-of (start .args .file .now) (λ i. omega (arith, c .before .before .before .before .before .before .before .before .before .before .before .before .shared-slice-known .given i))) (start .pre .0)) (c .before .before .before .before .before .before .before .byte .ensures) (start .pre .2) (c .before .before .before .before .before .before .enum-rows .ensures) (start .pre .1) (c .before .before .before .entry .ensures) refl (c .byte2 .ensures)), (file-stands (bytes-of (start .args .file .now) (λ i. omega (arith, c .before .before .before .before .before .before .before .before .before .before .before .before .shared-slice-known .given i))) (start .pre .0)) .fewNodes), λ k lt. places-in (file-stands (bytes-of (start .args .file .now) (λ i. omega (arith, c .before .before .before .before .before .before .before .before .before .before .before .before .shared-slice-known .given i))) (start .pre .0)) (start .pre .1) k (omega (arith, (nodes-count (file-stands (bytes-of (start .args .file .now) (λ i. omega (arith, c .before .before .before .before .before .before .before .before .before .before .before .before .shared-slice-known .given i))) (start .pre .0)) (c .before .before .before .before .before .before .before .byte .ensures) (start .pre .2) (c .before .before .before .before .before .before .enum-rows .ensures) (start .pre .1) (c .before .before .before .entry .ensures) refl (c .byte2 .ensures)))))
+    (omega (arith, (nodes-count (file-stands (bytes-of (start .args .file .now) (λ i. omega (arith, c .before .before .before .before .before .before .before .before .before .before .before .before .shared-slice-known .given i))) (start .pre .0)) (c .before .before .before .before .before .before .before .byte .ensures) (start .pre .2) (c .before .before .before .before .before .before .enum-rows .ensures) (start .pre .1) (c .before .before .before .entry .ensures) refl (c .byte2 .ensures)), (file-stands (bytes-of (start .args .file .now) (λ i. omega (arith, c .before .before .before .before .before .before .before .before .before .before .before .before .shared-slice-known .given i))) (start .pre .0)) .fewNodes), λ k lt. places-in (file-stands (bytes-of (start .args .file .now) (λ i. omega (arith, c .before .before .before .before .before .before .before .before .before .before .before .before .shared-slice-known .given i))) (start .pre .0)) (start .pre .1) k (omega (arith, (nodes-count (file-stands (bytes-of (start .args .file .now) (λ i. omega (arith, c .before .before .before .before .before .before .before .before .before .before .before .before .shared-slice-known .given i))) (start .pre .0)) (c .before .before .before .before .before .before .before .byte .ensures) (start .pre .2) (c .before .before .before .before .before .before .enum-rows .ensures) (start .pre .1) (c .before .before .before .entry .ensures) refl (c .byte2 .ensures)))), omega (arith, start .pre .4, start .good))
 
 -- src/rows.rt:154:1
 same-length : tie.Need-same-length
@@ -55,7 +55,7 @@ same-length-2 c = search needs
 returns : tie.Need-returns
 returns c =
     let start = c .before .before .before .before .before .before .before .before .before .before .before .before .before .before .before .before .before .before in
-    tables-done (file-stands (bytes-of (start .args .file .now) (λ i. omega (arith, c .before .before .before .before .before .before .before .before .before .before .before .before .before .before .before .before .before .shared-slice-known .given i))) (start .pre .0)) (c .before .before .before .before .before .before .before .before .before .before .before .before .byte .ensures) (start .pre .2) (c .before .before .before .before .before .before .before .before .before .before .before .enum-rows .ensures) (start .pre .1) (c .before .before .before .before .before .before .before .before .entry .ensures) refl (c .before .before .before .before .before .before .before .before .before .before .before .enum-rows .kept .1 .0 ∙ start .pre .2) (start .pre .3) (c .before .before .before .before .before .byte2 .ensures) (c .before .before .before .before .node-rows .ensures)
+    tables-done (file-stands (bytes-of (start .args .file .now) (λ i. omega (arith, c .before .before .before .before .before .before .before .before .before .before .before .before .before .before .before .before .before .shared-slice-known .given i))) (start .pre .0)) (c .before .before .before .before .before .before .before .before .before .before .before .before .byte .ensures) (start .pre .2) (c .before .before .before .before .before .before .before .before .before .before .before .enum-rows .ensures) (start .pre .1) (c .before .before .before .before .before .before .before .before .entry .ensures) refl (c .before .before .before .before .before .before .before .before .before .before .before .enum-rows .kept .1 .0 ∙ start .pre .2) (start .pre .3) (start .pre .4) (c .before .before .before .before .before .byte2 .ensures) (c .before .before .before .before .node-rows .ensures)
 
 pub rows-of-spec : {M : Type 1} → statement M
 rows-of-spec =

@@ -23,6 +23,12 @@ loop-holds : tie.Need-loop-holds Inv-loop μ-loop
 loop-holds c = (omega arith, refl, types-start)
 
 -- src/rows.rt:66:31
+mul-put-type : tie.Need-mul-put-type Inv-loop μ-loop
+mul-put-type c =
+    let start = c .before .before .before .before .before in
+    (omega (arith, c .before .before .loop .inv .0, start .pre .0, start .pre .1, start .pre .2, c .before .loop-test .taken))
+
+-- src/rows.rt:66:31
 add-put-type : tie.Need-add-put-type Inv-loop μ-loop
 add-put-type c =
     let start = c .before .before .before .before .before in
@@ -91,6 +97,7 @@ variable-types-spec =
     Inv-loop
     μ-loop
     loop-holds
+    mul-put-type
     add-put-type
     add-put-type-2
     put-type-requires
