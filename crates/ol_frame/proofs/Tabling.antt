@@ -14,12 +14,12 @@ pub part-cell : (n k i : ℕ) (t : List ℕ) → i + 9 ≤ n → take 9 (drop (k
 part-cell n k i t h =
     sym (ap (take 9) (drop-take i n (drop k t) ∙ ap (take (n - i)) (drop-drop i k t)) ∙ take-take 9 (n - i) (drop (k + i) t) (omega arith))
 
--- a byte of the orders, types or slots
+-- a byte of the orders or slots
 pub tab-byte : (t : List ℕ) (i : ℕ) → getD t (1393 + i) 0 ≡ getD (tabOf t) i 0
 tab-byte t i = sym (getD-drop 1393 t i 0)
 
--- a table that has types has rows
-pub rows-room : (t : List ℕ) (i : ℕ) → 9728 + i ≤ length (tabOf t) → 816 ≤ length t
+-- a table that has the nodes' places has rows
+pub rows-room : (t : List ℕ) (i : ℕ) → 2624 + i ≤ length (tabOf t) → 816 ≤ length t
 rows-room t i h = omega (arith, length-drop 1393 t)
 
 -- a constant's cell

@@ -36,7 +36,7 @@ offsetIn file k i = sitesSize (sizesIn file) (concat (map equationSites (take i 
 abbrev pub recordsIn : List ℕ → ℕ → ℕ
 recordsIn file k = sitesSize (sizesIn file) (sites (nodeIn file k))
 
--- where node k's plan starts in the table of a file
+-- where node k's plan goes on behind the types of its variables, in the table of a file
 abbrev pub planAt : List ℕ → ℕ → ℕ
 planAt t k = 1393 + plansFrom (tabOf t) + rowAt (rowsOf t) k 7 + 2 * rowAt (rowsOf t) k 4
 

@@ -13,9 +13,9 @@ ghost use Rattle.ol_tables.specs.Table.{rowsOf};
 ghost use Rattle.ol_tables.specs.Tables.{twoAt};
 ghost use Rattle.ol_frame.specs.Equations.{planAt};
 
-// Where node k's plan starts in the table.
+// Where node k's plan goes on behind the types of its variables.
 pub fn plan_of(tab: &[u8], k: usize) -> usize
-    requires { ⌜ (11121 ≤ length (now tab)) × (k < 32) ⌝ }
+    requires { ⌜ (4017 ≤ length (now tab)) × (k < 32) ⌝ }
     ensures { λ r. ⌜ (r ≡ planAt (now (tab .entry)) k) × (r < 9300000000000000000) ⌝ }
 {
     SLOTS + (tab.len() - SLOTS) / 2 + row(tab, k, PLACE) + 2 * row(tab, k, VARIABLES)

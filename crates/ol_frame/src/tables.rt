@@ -1,15 +1,14 @@
 // Entries of the tables of a file.
+use ol_tables::table::NODES;
 use ol_tables::table::ORDERS;
 use ol_tables::table::SLOTS;
-use ol_tables::table::TYPES;
 use ol_tables::tables::COLUMNS;
 use ol_tables::tables::MOST_EQUATIONS;
-use ol_tables::tables::MOST_VARIABLES;
 ghost use mathlib.Core.Path.{_≡_};
 ghost use Prim.Native.Nat.{_<_, _≤_};
 ghost use lib.ListN.{length};
 ghost use Prim.Native.Nat.{_+_};
-ghost use Rattle.ol_tables.specs.Table.{rowsOf, tabOf};
+ghost use Rattle.ol_tables.specs.Table.{rowsOf, tabOf, typesAt};
 ghost use Rattle.ol_tables.specs.Tables.{rowAt, codeAt, slotAt, slotsFrom, orderAt};
 
 // A byte as a number.
@@ -30,13 +29,23 @@ pub fn row(tab: &[u8], k: usize, j: usize) -> usize
     number(tab[p]) * 65536 + number(tab[q]) * 256 + number(tab[r])
 }
 
+// Where the types of node k's variables start in the table: ol_tables' `types_of` without its tests.
+fn types_at(tab: &[u8], k: usize) -> usize
+    requires { ⌜ (slotsFrom ≤ length (tabOf (now tab))) × (k < 32) ⌝ }
+    ensures { λ r. ⌜ (r ≡ typesAt (now (tab .entry)) k) × (r < 9300000000000000000) ⌝ }
+{
+    let a = NODES + 2 * k;
+    let b = a + 1;
+    SLOTS + (tab.len() - SLOTS) / 2 + number(tab[a]) * 256 + number(tab[b])
+}
+
 // The type code of variable i of node k.
 pub(crate) fn code_of(tab: &[u8], k: usize, i: usize) -> u8
     requires { ⌜ (slotsFrom ≤ length (tabOf (now tab))) × (k < 32) × (i < 112) ⌝ }
     ensures { λ r. ⌜ r ≡ codeAt (tabOf (now (tab .entry))) k i ⌝ }
 {
-    let p = TYPES + (k * MOST_VARIABLES + i) * 2;
-    tab[p]
+    let p = types_at(tab, k) + 2 * i;
+    if p < tab.len() { tab[p] } else { 0 }
 }
 
 // The slot of the name that stands at a place.

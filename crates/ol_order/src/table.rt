@@ -29,8 +29,8 @@ pub enum Ring {
     Nothing,
 }
 
-// Where the slots start, behind the orders and the types; the plans have the second half of the bytes
-// from there on.
+// Where the slots start, behind the orders and the nodes' places; the plans have the second half of
+// the bytes from there on.
 const SLOTS_FROM: usize = SLOTS - ORDERS;
 
 // Copies an order into bytes, from their front on.

@@ -1,47 +1,48 @@
 -- <uses>
-use mathlib.Core.Path.{_≡_, sym, ap, _∙_}
-use native.Mathlib.Omega.{arith}
-use Prim.Native.Nat.{ℕ, _+_, _*_}
-use lib.ListN.{getD, length-drop}
-use Rattle.ol_frame.proofs.Tabling.{tab-byte}
+use mathlib.Core.Path.{sym, ap, _∙_}
+use Prim.Native.Nat.{_+_, _*_}
+use lib.ListN.{List·getD-eq-default}
+use Rattle.ol_tables.proofs.TableLaws.{code-is}
 -- </uses>
 use borrow.Author.Needs.{needs}
 use Rattle.ol_frame.proofs.tables.code_of.Statement.{statement}
 use Rattle.ol_frame.proofs.tables.code_of.Tie as tie
 use Rattle.ol_frame.proofs.tables.code_of.Reads as reads
 use Rattle.ol_frame.proofs.tables.code_of.Lts as lts
+use Rattle.ol_frame.proofs.tables.types_at.Reads as types-at-reads
 
--- src/tables.rt:38:22
+-- src/tables.rt:47:13
+types-at-requires : tie.Need-types-at-requires
+types-at-requires c κs = search needs
+
+-- src/tables.rt:47:32
 mul-p : tie.Need-mul-p
 mul-p c = search needs
 
--- src/tables.rt:38:22
+-- src/tables.rt:47:13
 add-p : tie.Need-add-p
 add-p c = search needs
 
--- src/tables.rt:38:21
-mul-p-2 : tie.Need-mul-p-2
-mul-p-2 c = search needs
-
--- src/tables.rt:38:13
-add-p-2 : tie.Need-add-p-2
-add-p-2 c = search needs
-
--- src/tables.rt:39:5
+-- src/tables.rt:48:24
 shared-slice-read-result : tie.Need-shared-slice-read-result
-shared-slice-read-result c =
-    let start = c .before in
-    let t = start .args .tab .now in
-    omega (arith, length-drop 1393 t, start .pre .0, start .pre .1, start .pre .2)
+shared-slice-read-result c = search needs
 
--- src/tables.rt:34:1
+-- src/tables.rt:43:1
 returns : tie.Need-returns
 returns c =
-    let start = c .before in
+    let start = c .before .before .before .before in
     let t = start .args .tab .now in
-    let i = (start .args .k * 112 + start .args .i) * 2 in
-    let e : 3953 + i ≡ 1393 + (2560 + i) = omega arith in
-    ap (λ (n : ℕ). getD t n 0) e ∙ tab-byte t (2560 + i)
+    let code = code-is t (start .args .k) (start .args .i) (ap (λ p. p + 2 * start .args .i) (c .before .before .types-at .ensures .0)) in
+    code
+
+-- src/tables.rt:43:1
+returns-2 : tie.Need-returns-2
+returns-2 c =
+    let start = c .before .before .before in
+    let t = start .args .tab .now in
+    let code = code-is t (start .args .k) (start .args .i) (ap (λ p. p + 2 * start .args .i) (c .before .types-at .ensures .0)) in
+    sym (List·getD-eq-default t 0 (c .if1 .left)) ∙ code
 
 pub code-of-spec : {M : Type 1} → statement M
-code-of-spec = tie.close (tie.spec mul-p add-p mul-p-2 add-p-2 shared-slice-read-result returns)
+code-of-spec =
+    tie.close (tie.spec types-at-requires mul-p add-p shared-slice-read-result returns returns-2)

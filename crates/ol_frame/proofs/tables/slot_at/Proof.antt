@@ -36,8 +36,8 @@ returns c =
     let start = c .before .before .before in
     let t = start .args .tab .now in
     let i = start .args .at in
-    let e : 11121 + i ≡ 1393 + (9728 + i) = omega arith in
-    c .number .ensures .0 ∙ ap (λ (n : ℕ). getD t n 0) e ∙ tab-byte t (9728 + i)
+    let e : 4017 + i ≡ 1393 + (2624 + i) = omega arith in
+    c .number .ensures .0 ∙ ap (λ (n : ℕ). getD t n 0) e ∙ tab-byte t (2624 + i)
 
 pub slot-at-spec : {M : Type 1} → statement M
 slot-at-spec = tie.close (tie.spec add-p shared-slice-read-number number-requires returns)
