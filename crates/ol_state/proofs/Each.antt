@@ -16,7 +16,7 @@ use Rattle.ol_spec.specs.Admission.{variants}
 use Rattle.ol_spec.specs.Limits.{base}
 use Rattle.ol_spec.specs.Within.{tyFits, nameFits, variableFits}
 use Rattle.ol_spec.proofs.Tests.{T-and}
-use Rattle.ol_tables.specs.Tables.{Variants, tyCode, tyEnum, codeAt, enumAt, rowAt, nodeOf}
+use Rattle.ol_tables.specs.Tables.{tyCode, tyEnum, codeAt, enumAt, rowAt, nodeOf}
 use Rattle.ol_value.specs.Codes.{tyOf}
 use Rattle.ol_value.proofs.TypeCodes.{int-code}
 use Rattle.ol_state.specs.Known.{Known}
@@ -93,9 +93,9 @@ module _ {f : File} {s tab rows : List ℕ} (known : Known f s tab rows) where
             let t = known .tabled .tabsOf k below in
             ap₂ tyOf (code ∙ t .codes i inside) (number ∙ t .enums i inside) ∙ ty-of (length (f .enums)) ty ty-fits
 
-        pub input-typed : {table : List ℕ} → b < 256 → z < 256 → Variants f table → Typed f s table b z
-        input-typed p q names =
-            record { encoded = known .encoded; within = known .within; names = names; code-small = omega arith; enum-small = omega arith; fits = subst (λ t. T (tyFits (length (f .enums)) t)) (sym told) ty-fits }
+        pub input-typed : b < 256 → z < 256 → Typed f s b z
+        input-typed p q =
+            record { encoded = known .encoded; within = known .within; code-small = omega arith; enum-small = omega arith; fits = subst (λ t. T (tyFits (length (f .enums)) t)) (sym told) ty-fits }
 
         -- the first of the inputs that are left
         pub each-next : (r : List ℕ) → goodEach (f .enums) (drop i ins) (drop (9 * i) r) ≡ goodInput f b z (take 9 (drop (9 * i) r)) && goodEach (f .enums) (drop (i + 1) ins) (drop (9 * (i + 1)) r)

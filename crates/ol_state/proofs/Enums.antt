@@ -1,21 +1,21 @@
 -- Inputs judged: where an enum stands, its names, and each cell by its type.
-use Prim.Native.Nat.{ℕ, suc, _+_, _*_, _<_, _≤_}
-use mathlib.Core.Bool.{Bool, true, false, not, _&&_, _||_}
-use mathlib.Core.List.{List, [], _∷_, map}
+use Prim.Native.Nat.{ℕ, zero, suc, _+_, _*_, _<_, _≤_}
+use mathlib.Core.Bool.{Bool, true, false, not, _&&_, _||_, cond}
+use mathlib.Core.List.{List, [], _∷_, _++_, map}
 use mathlib.Core.Path.{_≡_, refl, sym, ap, subst, _∙_}
 use native.Mathlib.Omega.{arith}
 use lib.Dec.{T, eqb, ltb→lt}
 use lib.ListN.{length, drop, getD, drop-of-length-le}
 use lib.Seq.{drop-cons, drop-drop}
 use borrow.Author.Tests.{eq-eqb, ne-eqb, eqb-true, eqb-false}
-use Rattle.ol_spec.specs.Lists.{concat, allOf, member}
+use Rattle.ol_spec.specs.Lists.{concat, allOf, member, same}
 use Rattle.ol_spec.specs.Syntax.{File}
 use Rattle.ol_spec.specs.Places.{enumSize, placed}
 use Rattle.ol_spec.specs.Encode.{encode, nameBytes, sectionBytes}
 use Rattle.ol_spec.specs.Limits.{base, relayLoader}
 use Rattle.ol_spec.specs.Within.{nameFits, countFits, enumFits, tyFits, within}
 use Rattle.ol_spec.specs.Read.{TyCode, boolT, float32T, float64T, charT, enumT, intT, tyCodes}
-use Rattle.ol_spec.specs.Cell.{tag, valueOf, goodCell}
+use Rattle.ol_spec.specs.Cell.{tag, cell, valueOf, isVariant}
 use Rattle.ol_spec.specs.Types.{IntTy, unsignedTo, intTy, intIn, inType}
 use Rattle.ol_spec.specs.Admission.{variants}
 use Rattle.ol_spec.specs.declared.Value.{Value}
@@ -138,20 +138,69 @@ enum-below n code e v t k q = go (getD tyCodes code enumT) v t k q
     go enumT v t k q = ltb→lt e n t
     go (intT c) v t k q = absurd (int (intTy c) v k q)
 
+false-true : false ≡ true → ⊥
+false-true e = let z : _≡_ {A = ℕ} 0 1 = ap (λ b. cond b 1 0) e in omega arith
+
+-- a variant of an enum of the file is one of the file's
+member-join : (x : ℕ) (xs ys : List ℕ) → member x xs ≡ true → member x (xs ++ ys) ≡ true
+member-join x [] ys h = absurd (false-true h)
+member-join x (y ∷ xs) ys h = go (eqb x y) h (member-join x xs ys)
+  where
+    go : (b : Bool) → (b || member x xs) ≡ true → (member x xs ≡ true → member x (xs ++ ys) ≡ true) → (b || member x (xs ++ ys)) ≡ true
+    go true h on = refl
+    go false h on = on h
+
+member-behind : (x : ℕ) (xs ys : List ℕ) → member x ys ≡ true → member x (xs ++ ys) ≡ true
+member-behind x [] ys h = h
+member-behind x (y ∷ xs) ys h = go (eqb x y) (member-behind x xs ys h)
+  where
+    go : (b : Bool) → member x (xs ++ ys) ≡ true → (b || member x (xs ++ ys)) ≡ true
+    go true k = refl
+    go false k = k
+
+in-all : (es : List (List ℕ)) (e x : ℕ) → member x (getD es e []) ≡ true → member x (concat es) ≡ true
+in-all [] e x h = absurd (false-true h)
+in-all (vs ∷ es) zero x h = member-join x vs (concat es) h
+in-all (vs ∷ es) (suc e) x h = member-behind x vs (concat es) (in-all es e x h)
+
+-- an Enum of an enum's variant, and every other value, has a name of the file or none
+enum-known : (es : List (List ℕ)) (e : ℕ) (v : Value) → member (nameIn v) (getD es e []) ≡ true → isVariant (concat es) v ≡ true
+enum-known es e (Val.Bool b) h = refl
+enum-known es e (Val.Int i) h = refl
+enum-known es e (Val.Float x) h = refl
+enum-known es e (Val.Float32 x) h = refl
+enum-known es e (Val.Enum w) h = in-all es e w h
+
+other-known : (names : List ℕ) (v : Value) → eqb (tag v) 4 ≡ false → isVariant names v ≡ true
+other-known names (Val.Bool b) q = refl
+other-known names (Val.Int i) q = refl
+other-known names (Val.Float x) q = refl
+other-known names (Val.Float32 x) q = refl
+other-known names (Val.Enum w) q = absurd (false-true (sym q))
+
+and-none : (b : Bool) → (b && false) ≡ false
+and-none true = refl
+and-none false = refl
+
 module _ (f : File) (code e : ℕ) (c : List ℕ) {v : Value} (is : v ≡ valueOf c) where
-  split : goodInput f code e c ≡ goodCell (variants f) c && (inKind (tyOf code e) v && (not (eqb (tag v) 4) || member (nameIn v) (getD (f .enums) e [])))
+  split : goodInput f code e c ≡ (same (cell (valueOf c)) c && isVariant (variants f) v) && (inKind (tyOf code e) v && (not (eqb (tag v) 4) || member (nameIn v) (getD (f .enums) e [])))
   split =
-      ap (λ b. goodCell (variants f) c && b)
+      ap (λ w. (same (cell (valueOf c)) c && isVariant (variants f) w) && inType (f .enums) (tyOf code e) (valueOf c)) (sym is)
+      ∙ ap (λ b. (same (cell (valueOf c)) c && isVariant (variants f) v) && b)
       (ap (inType (f .enums) (tyOf code e)) (sym is) ∙ in-type-is (f .enums) code e v ∙ ap (λ b. inKind (tyOf code e) v && b) (variant-is (getD (f .enums) e []) v))
 
-  pub input-enum : {b : Bool} → goodCell (variants f) c ≡ true → inKind (tyOf code e) v ≡ true → eqb (tag v) 4 ≡ true → b ≡ member (nameIn v) (getD (f .enums) e []) → b ≡ goodInput f code e c
-  input-enum g k q m = m ∙ sym (split ∙ rw (g, k, q))
+  pub input-enum : {b : Bool} → same (cell (valueOf c)) c ≡ true → inKind (tyOf code e) v ≡ true → eqb (tag v) 4 ≡ true → b ≡ member (nameIn v) (getD (f .enums) e []) → b ≡ goodInput f code e c
+  input-enum {b} g k q m = go b (sym m)
+    where
+      go : (b : Bool) → member (nameIn v) (getD (f .enums) e []) ≡ b → b ≡ goodInput f code e c
+      go true h = sym (split ∙ rw (g, k, q, h, enum-known (f .enums) e v h) refl)
+      go false h = sym (split ∙ rw (g, k, q, h) (and-none (isVariant (variants f) v)))
 
-  pub input-other : goodCell (variants f) c ≡ true → inKind (tyOf code e) v ≡ true → eqb (tag v) 4 ≡ false → true ≡ goodInput f code e c
-  input-other g k q = sym (split ∙ rw (g, k, q))
+  pub input-other : same (cell (valueOf c)) c ≡ true → inKind (tyOf code e) v ≡ true → eqb (tag v) 4 ≡ false → true ≡ goodInput f code e c
+  input-other g k q = sym (split ∙ rw (g, k, q, other-known (variants f) v q) refl)
 
-  pub input-kind : goodCell (variants f) c ≡ true → inKind (tyOf code e) v ≡ false → false ≡ goodInput f code e c
-  input-kind g k = sym (split ∙ rw (g, k))
+  pub input-kind : same (cell (valueOf c)) c ≡ true → inKind (tyOf code e) v ≡ false → false ≡ goodInput f code e c
+  input-kind g k = sym (split ∙ rw (g, k) (and-none (isVariant (variants f) v)))
 
-pub input-cell : (f : File) (code e : ℕ) (c : List ℕ) → goodCell (variants f) c ≡ false → false ≡ goodInput f code e c
-input-cell f code e c g = sym (ap (λ b. b && inType (f .enums) (tyOf code e) (valueOf c)) g)
+pub input-cell : (f : File) (code e : ℕ) (c : List ℕ) → same (cell (valueOf c)) c ≡ false → false ≡ goodInput f code e c
+input-cell f code e c g = sym (ap (λ b. (b && isVariant (variants f) (valueOf c)) && inType (f .enums) (tyOf code e) (valueOf c)) g)

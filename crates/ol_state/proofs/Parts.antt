@@ -1,31 +1,19 @@
--- The types and the constants' cells in the table of a file.
+-- The constants' cells in the table of a file.
 use Prim.Native.Nat.{ℕ, _+_, _*_, _-_, _<_, _≤_}
 use mathlib.Core.List.{List}
-use mathlib.Core.Path.{_≡_, sym, ap, _∙_}
+use mathlib.Core.Path.{_≡_, ap}
 use native.Mathlib.Omega.{arith}
-use lib.ListN.{length, take, drop, getD, length-drop}
-use lib.Seq.{getD-drop, length-take-le}
+use lib.ListN.{length, take, drop, length-drop}
+use lib.Seq.{length-take-le}
 use Rattle.ol_spec.specs.Syntax.{File}
-use Rattle.ol_tables.specs.Tables.{Tab, codeAt, enumAt}
+use Rattle.ol_tables.specs.Tables.{Tab}
 use Rattle.ol_tables.specs.Table.{knownOf, constsOf, tabOf}
 
-module _ (t : List ℕ) (k i : ℕ) where
-  -- the bytes of a variable's type
-  pub code-is : {b : ℕ} → b ≡ getD t (3953 + (k * 112 + i) * 2) 0 → b ≡ codeAt (tabOf t) k i
-  code-is h =
-      let e : 3953 + (k * 112 + i) * 2 ≡ 1393 + (2560 + (k * 112 + i) * 2) = omega arith in
-      h ∙ ap (λ n. getD t n 0) e ∙ sym (getD-drop 1393 t (2560 + (k * 112 + i) * 2) 0)
-
-  pub enum-is : {b : ℕ} → b ≡ getD t (3953 + (k * 112 + i) * 2 + 1) 0 → b ≡ enumAt (tabOf t) k i
-  enum-is h =
-      let e : 3953 + (k * 112 + i) * 2 + 1 ≡ 1393 + (2560 + (k * 112 + i) * 2 + 1) = omega arith in
-      h ∙ ap (λ n. getD t n 0) e ∙ sym (getD-drop 1393 t (2560 + (k * 112 + i) * 2 + 1) 0)
-
 -- the constants' cells are in the table
-pub known-room : {f : File} {n : ℕ} (t : List ℕ) → Tab f n (tabOf t) → 11121 ≤ length t
+pub known-room : {f : File} {n : ℕ} (t : List ℕ) → Tab f n (tabOf t) → 4017 ≤ length t
 known-room t h = omega (arith, h .long, length-drop 1393 t)
 
-pub known-head : (t : List ℕ) {b : ℕ} → b ≡ knownOf t → b < 256 → 11121 ≤ length t → 9 * b ≡ length (constsOf t)
+pub known-head : (t : List ℕ) {b : ℕ} → b ≡ knownOf t → b < 256 → 4017 ≤ length t → 9 * b ≡ length (constsOf t)
 known-head t e small room = omega (arith, e, length-take-le (9 * knownOf t) (drop 817 t) (omega (arith, e, small, room, length-drop 817 t)))
 
 -- they, as they are lent

@@ -13,7 +13,6 @@ use Rattle.ol_spec.specs.Admission.{variants}
 use Rattle.ol_spec.specs.Limits.{relayLoader}
 use Rattle.ol_spec.specs.Within.{within, tyFits}
 use Rattle.ol_spec.proofs.RoundTrip.Parts.{Here}
-use Rattle.ol_tables.specs.Tables.{Variants}
 use Rattle.ol_value.specs.Codes.{tyOf}
 
 -- enum e stands there, if there is one of that number
@@ -22,10 +21,9 @@ pub record EnumAt (f : File) (s : List ℕ) (e at : ℕ) : Type 0 where
   pub near : at ≤ 131072
 
 -- a type of the file, by its code and its enum's number
-pub record Typed (f : File) (s table : List ℕ) (code e : ℕ) : Type 0 where
+pub record Typed (f : File) (s : List ℕ) (code e : ℕ) : Type 0 where
   pub encoded : encode f ≡ s
   pub within : T (within relayLoader f)
-  pub names : Variants f table
   pub code-small : code ≤ 255
   pub enum-small : e ≤ 255
   pub fits : T (tyFits (length (f .enums)) (tyOf code e))

@@ -25,7 +25,7 @@ fn is_variant(variants: &[u8], v: Value) -> bool
 }
 
 // Whether the cell at an offset is good.
-pub(crate) fn judge_cell(variants: &[u8], cells: &[u8], at: usize) -> bool
+fn judge_cell(variants: &[u8], cells: &[u8], at: usize) -> bool
     requires { ⌜ at + 9 ≤ length (now cells) ⌝ }
     ensures { λ r. ⌜ ((names : List ℕ) → Tells (now (variants .entry)) names → r ≡ goodCell names (take 9 (drop at (now (cells .entry))))) ⌝ }
 {

@@ -7,10 +7,9 @@ ghost use Rattle.ol_tables.specs.Tables.{rowAt};
 ghost use Rattle.ol_tables.specs.Table.{tabOf, rowsOf};
 ghost use Rattle.ol_state.specs.Defaults.{defaultCell, cellsAt};
 use ol_tables::bytes::byte;
-use ol_tables::table::TYPES;
 use ol_tables::table::column;
 use ol_tables::table::first_variant;
-use ol_tables::tables::MOST_VARIABLES;
+use ol_tables::table::types_of;
 use ol_tables::tables::VARIABLES;
 use ol_value::cell::write_cell;
 use ol_value::types::default_value;
@@ -30,9 +29,10 @@ pub fn write_defaults(tab: &[u8], k: usize, out: &mut [u8])
     ensures { λ _. ⌜ now (out .exit) ≡ cellsAt (tabOf (now (tab .entry))) (rowsOf (now (tab .entry))) k 0 (rowAt (rowsOf (now (tab .entry))) k 4) ++ drop (9 * rowAt (rowsOf (now (tab .entry))) k 4) (now (out .entry)) ⌝ }
 {
     let n = column(tab, k, VARIABLES);
+    let types = types_of(tab, k);
     let mut i: usize = 0;
     while i < n {
-        let p = TYPES + (k * MOST_VARIABLES + i) * 2;
+        let p = types + 2 * i;
         let code = byte(tab, p);
         let first = first_variant(tab, byte(tab, p + 1));
         let q = 9 * i;

@@ -10,9 +10,9 @@ ghost use Rattle.ol_spec.specs.Encode.{encode, nameBytes, sectionBytes};
 ghost use Rattle.ol_spec.proofs.RoundTrip.Parts.{Here};
 ghost use Rattle.ol_tables.specs.At.{fileAt};
 ghost use Rattle.ol_state.specs.Inputs.{EnumAt, Typed, goodInput};
-use crate::cells::judge_cell;
 use ol_tables::bytes::byte;
 use ol_tables::bytes::name;
+use ol_value::cell::good_cell;
 use ol_value::cell::is_enum;
 use ol_value::cell::name_of;
 use ol_value::cell::read_cell;
@@ -49,18 +49,11 @@ fn has_variant(file: &[u8], at: usize, v: usize) -> bool
 }
 
 // Whether the cell at an offset is good and of the type with this code and enum's number.
-pub(crate) fn judge_input(
-    file: &[u8],
-    variants: &[u8],
-    code: usize,
-    e: usize,
-    cells: &[u8],
-    at: usize,
-) -> bool
-    requires { ⌜ Typed (fileAt (now file)) (now file) (now variants) code e × (at + 9 ≤ length (now cells)) ⌝ }
+pub(crate) fn judge_input(file: &[u8], code: usize, e: usize, cells: &[u8], at: usize) -> bool
+    requires { ⌜ Typed (fileAt (now file)) (now file) code e × (at + 9 ≤ length (now cells)) ⌝ }
     ensures { λ r. ⌜ r ≡ goodInput (fileAt (now (file .entry))) code e (take 9 (drop at (now (cells .entry)))) ⌝ }
 {
-    if judge_cell(variants, cells, at) {
+    if good_cell(cells, at) {
         let v = read_cell(cells, at);
         if in_type(code as u8, v) {
             if is_enum(v) {

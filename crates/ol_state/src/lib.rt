@@ -25,13 +25,12 @@ use inputs::judge_input;
 use ol_tables::bytes::byte;
 use ol_tables::table::CONSTANTS;
 use ol_tables::table::KNOWN;
-use ol_tables::table::TYPES;
 use ol_tables::table::column;
+use ol_tables::table::types_of;
 use ol_tables::tables::COUNT;
 use ol_tables::tables::EQUATIONS;
 use ol_tables::tables::INPUTS;
 use ol_tables::tables::KIND;
-use ol_tables::tables::MOST_VARIABLES;
 use ol_tables::tables::SIZE;
 use ol_tables::tables::VARIABLES;
 use own::good_own;
@@ -95,19 +94,20 @@ pub fn good_state(file: &[u8], tab: &[u8], variants: &[u8], state: &[u8]) -> boo
 
 // 16: whether inputs are a cell for each input of the main node, good, and of its type's kind, range
 // and enum.
-pub fn good_inputs(file: &[u8], tab: &[u8], variants: &[u8], inputs: &[u8]) -> bool
-    requires { ⌜ Known (fileAt (now file)) (now file) (tabOf (now tab)) (rowsOf (now tab)) × Variants (fileAt (now file)) (now variants) ⌝ }
+pub fn good_inputs(file: &[u8], tab: &[u8], inputs: &[u8]) -> bool
+    requires { ⌜ Known (fileAt (now file)) (now file) (tabOf (now tab)) (rowsOf (now tab)) ⌝ }
     ensures { λ b. ⌜ b ≡ goodInputs (fileAt (now (file .entry))) (now (inputs .entry)) ⌝ }
 {
     let k = main_node(file, tab);
     let n = column(tab, k, INPUTS);
     if inputs.len() == 9 * n {
+        let types = types_of(tab, k);
         let mut i: usize = 0;
         while i < n {
-            let p = TYPES + (k * MOST_VARIABLES + i) * 2;
+            let p = types + 2 * i;
             let code = byte(tab, p);
             let number = byte(tab, p + 1);
-            if judge_input(file, variants, code, number, inputs, 9 * i) {
+            if judge_input(file, code, number, inputs, 9 * i) {
                 i += 1;
             } else {
                 return false;
