@@ -15,9 +15,9 @@ use Rattle.ol_tables.specs.Tables.{Each, HasSlot, Slotted, nodeOf, placeOf, slo
 use Rattle.ol_check.proofs.FileSlots.{judged-slots, judged-defined, judged-constants}
 use Rattle.ol_sim.specs.Judging.{Slots}
 
-module _ (s tab : List ℕ) (st : FileStands s (fileAt s)) (no6 : fault6 (fileAt s) ≡ none) (m : ℕ) (h : Slots s (fileAt s) (take m (drop 9728 tab))) where
-  there : (j : ℕ) → j < length (take m (drop 9728 tab)) → getD tab (slotsFrom + j) 0 ≡ getD (take m (drop 9728 tab)) j 0
-  there j lt = sym (getD-take m (drop 9728 tab) j 0 (omega (arith, length-take m (drop 9728 tab))) ∙ getD-drop slotsFrom tab j 0)
+module _ (s tab : List ℕ) (st : FileStands s (fileAt s)) (no6 : fault6 (fileAt s) ≡ none) (m : ℕ) (h : Slots s (fileAt s) (take m (drop 2624 tab))) where
+  there : (j : ℕ) → j < length (take m (drop 2624 tab)) → getD tab (slotsFrom + j) 0 ≡ getD (take m (drop 2624 tab)) j 0
+  there j lt = sym (getD-take m (drop 2624 tab) j 0 (omega (arith, length-take m (drop 2624 tab))) ∙ getD-drop slotsFrom tab j 0)
 
   pub slots-in : (k : ℕ) → k < length (fileAt s .nodes) → Each (λ q. Slotted tab (variableNames (nodeOf (fileAt s) k)) (constantNames (fileAt s)) (rhsPlace (q .0) (q .1)) (q .1 .rhs)) (placedEquations (placeOf (placedNodes (fileAt s)) k) (nodeOf (fileAt s) k))
   slots-in k lt = judged-slots (h .judged) tab st no6 (h .empty .zero) (h .empty .within) (h .long) there k lt

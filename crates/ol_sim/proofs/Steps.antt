@@ -44,7 +44,8 @@ use Rattle.ol_run.specs.Constants.{ConstantsAre}
 use Rattle.ol_tables.specs.Table.{tabOf}
 use Rattle.ol_run.specs.declared.constants.Found.{Found}
 use Rattle.ol_run.specs.declared.constants.Found.the-variants as Fnd
-use Rattle.ol_sim.specs.Judging.{Judges, Measured, Held, valuesIn, from13, MainReady, ConstantsReady, Typed, Slots, OrderReady, ShapesReady, halfOf, plansOf}
+use Rattle.ol_sim.specs.Judging.{Judges, Measured, Held, valuesIn, from13, MainReady, ConstantsReady, Slots, OrderReady, ShapesReady, halfOf, plansOf}
+use Rattle.ol_check.specs.RowsDone.{Typed}
 use Rattle.ol_sim.proofs.Lows.{low-names}
 use Rattle.ol_sim.specs.declared.judge.Judged.the-variants as Jud
 use Rattle.ol_sim.proofs.Chain.{passed-by}
@@ -113,13 +114,13 @@ module _ {s places rows t : List ℕ} {enums main : ℕ} {c : Sections} {low : B
   front-in = omega (arith, h .sections .tabLong)
 
   -- the plans, as the table from the orders on has them
-  half-is : (u : List ℕ) → length u ≡ length t → (length (tabOf u) - 9728) / 2 ≡ halfOf t
+  half-is : (u : List ℕ) → length u ≡ length t → (length (tabOf u) - 2624) / 2 ≡ halfOf t
   half-is u e = omega (arith, e, length-drop 1393 u)
 
-  plans-in : (u : List ℕ) → length u ≡ length t → drop 11121 u ≡ drop 11121 t → Tables.plansOf (tabOf u) ≡ plansOf t
+  plans-in : (u : List ℕ) → length u ≡ length t → drop 4017 u ≡ drop 4017 t → Tables.plansOf (tabOf u) ≡ plansOf t
   plans-in u e d =
-      let n : 1393 + (9728 + halfOf t) ≡ 11121 + halfOf t = omega arith in
-      ap (λ m. drop (9728 + m) (tabOf u)) (half-is u e) ∙ drop-drop (9728 + halfOf t) 1393 u ∙ ap (λ m. drop m u) n ∙ sym (drop-drop (halfOf t) 11121 u) ∙ ap (drop (halfOf t)) d
+      let n : 1393 + (2624 + halfOf t) ≡ 4017 + halfOf t = omega arith in
+      ap (λ m. drop (2624 + m) (tabOf u)) (half-is u e) ∙ drop-drop (2624 + halfOf t) 1393 u ∙ ap (λ m. drop m u) n ∙ sym (drop-drop (halfOf t) 4017 u) ∙ ap (drop (halfOf t)) d
 
   plan-of : (k : ℕ) → k < length (fileAt s .nodes) → PlanOf (fileAt s) (plansOf t) k
   plan-of k lt = h .plans .planned (h .sound .no9) k lt
@@ -150,8 +151,8 @@ module _ {s places rows t : List ℕ} {enums main : ℕ} {c : Sections} {low : B
     behind : drop 2560 (tabOf ordered) ≡ drop 3953 t
     behind = ap (drop 2560) tab-is ∙ kept ∙ ap (drop 2560) (tail-all 1393 t) ∙ drop-drop 2560 1393 t
 
-    slots-are : drop 9728 (tabOf ordered) ≡ drop 11121 t
-    slots-are = sym (drop-drop 7168 2560 (tabOf ordered)) ∙ ap (drop 7168) behind ∙ drop-drop 7168 3953 t
+    slots-are : drop 2624 (tabOf ordered) ≡ drop 4017 t
+    slots-are = sym (drop-drop 64 2560 (tabOf ordered)) ∙ ap (drop 64) behind ∙ drop-drop 64 3953 t
 
     front : (j : ℕ) → j < 2560 → getD (tabOf ordered) j 0 ≡ getD (take 2560 x) j 0
     front j g = ap (λ l. getD l j 0) tab-is ∙ sym (getD-take 2560 x j 0 g)
@@ -168,8 +169,8 @@ module _ {s places rows t : List ℕ} {enums main : ℕ} {c : Sections} {low : B
             stands = st;
             ordered = record { sound = h .sound; no11 = no11 };
             rowed = h .rows-are;
-            tabled = tab-whole s (tabOf ordered) st (h .sound .no6) (subst (λ l. Typed (fileAt s) (take 7168 l)) (sym behind) (d .typed)) (halfOf t) (subst (λ l. Slots s (fileAt s) (take (halfOf t) l)) (sym slots-are) (h .slots))
-                (λ k lt. subst (λ l. PlanOf (fileAt s) l k) (sym (plans-in ordered orders-long (sym (drop-drop 9728 1393 ordered) ∙ slots-are))) (plan-of k lt))
+            tabled = tab-whole s (tabOf ordered) st (h .sound .no6) (halfOf t) (sym (half-is ordered orders-long)) (subst (λ l. Typed (fileAt s) (64 + halfOf t) l) (sym behind) (d .typed .typed)) (subst (λ l. Slots s (fileAt s) (take (halfOf t) l)) (sym slots-are) (h .slots))
+                (λ k lt. subst (λ l. PlanOf (fileAt s) l k) (sym (plans-in ordered orders-long (sym (drop-drop 2624 1393 ordered) ∙ slots-are))) (plan-of k lt))
                 (λ k lt j g. front (k * 80 + j) (omega (arith, node-at st k lt .fewEquations, st .fewNodes)) ∙ o .order no11 k lt j g) (omega (arith, orders-long, length-drop 1393 ordered, d .tabLong));
           };
           sections = d .rowed .sections;

@@ -17,7 +17,7 @@ use Rattle.ol_tables.specs.Stands.{FileReads, FileStands}
 use Rattle.ol_tables.specs.Table.{tabOf, rowsOf, constsOf}
 use Rattle.ol_ir.specs.Walks as Walks
 use Rattle.ol_check.specs.Founds as Founds
-use Rattle.ol_check.specs.RowsDone.{NodeRow, NodeTypes, SectionsAre}
+use Rattle.ol_check.specs.RowsDone.{NodeRow, Typed, SectionsAre}
 use Rattle.ol_check.specs.FileJudged.{NamesWithin, FileJudged, globalTable}
 use Rattle.ol_check.specs.Sizes.{MainSized}
 use Rattle.ol_check.specs.declared.rows.Sections.{Sections}
@@ -100,22 +100,22 @@ pub record Loads (s : List ℕ) (enums : ℕ) (places : List ℕ) : Type 0 where
 
 -- the bytes of the slots in the table t, behind which as many have the plans
 abbrev pub halfOf : List ℕ → ℕ
-halfOf t = (length t - 11121) / 2
+halfOf t = (length t - 4017) / 2
 
 abbrev pub slotsOf : List ℕ → List ℕ
-slotsOf t = take (halfOf t) (drop 11121 t)
+slotsOf t = take (halfOf t) (drop 4017 t)
 
 abbrev pub plansOf : List ℕ → List ℕ
-plansOf t = drop (halfOf t) (drop 11121 t)
+plansOf t = drop (halfOf t) (drop 4017 t)
 
--- and buffers for its tables; the slots' part of the table t is 0, and has an entry for every name below 1,024
+-- and buffers for its tables; the slots' part of the table t is 0, and has room for an entry of every name below 1,024
 pub record FileReady (s : List ℕ) (enums : ℕ) (places rows t : List ℕ) : Type 0 where
   pub loads : Loads s enums places
   pub stands : FileStands s (fileAt s)
   pub rowsLong : length rows ≡ 272
-  pub tabLong : 11121 + 2 * length s ≤ length t
-  pub wide : 12145 ≤ length t
-  pub blank : (x : ℕ) → getD (drop 11121 t) x 0 ≡ 0
+  pub tabLong : 4017 + 2 * length s ≤ length t
+  pub wide : 6065 ≤ length t
+  pub blank : (x : ℕ) → getD (drop 4017 t) x 0 ≡ 0
 
 -- the rows but for the sizes, and the sections
 pub record Rowed (s rows : List ℕ) (c : Sections) : Type 0 where
@@ -126,15 +126,15 @@ pub record Rowed (s rows : List ℕ) (c : Sections) : Type 0 where
   pub row : (k : ℕ) → k < length (fileAt s .nodes) → NodeRow (nodeOf (fileAt s) k) (placeOf (placedNodes (fileAt s)) k) k rows
   pub firsts : (e : ℕ) → e < length (fileAt s .enums) → firstAt rows e ≡ getD (getD (fileAt s .enums) e []) 0 0
 
--- the types of all variables
-pub record Typed (f : File) (types : List ℕ) : Type 0 where
-  pub typed : (k : ℕ) → k < length (f .nodes) → NodeTypes (nodeOf f k) k types
+-- the nodes' places and, among the plans, the types of their variables
+pub record TypesIn (f : File) (t : List ℕ) : Type 0 where
+  pub typed : Typed f (64 + halfOf t) (drop 3953 t)
 
 pub record SectionsReady (s : List ℕ) (enums : ℕ) (places rows t : List ℕ) (c : Sections) : Type 0 where
   pub loads : Loads s enums places
   pub rowed : Rowed s rows c
-  pub typed : Typed (fileAt s) (take 7168 (drop 3953 t))
-  pub tabLong : 11121 + 2 * length s ≤ length t
+  pub typed : TypesIn (fileAt s) t
+  pub tabLong : 4017 + 2 * length s ≤ length t
 
 -- the table by name is 0 everywhere, and longer than every declared name
 pub record Empty (f : File) (names : List ℕ) : Type 0 where

@@ -38,7 +38,7 @@ pub(crate) fn cycle_unless(
     ensures { λ r. ⌜ CyclesAs (cycleJudged (whole (fileAt (now (file .entry)))) (now (old .entry)) (now (inputs .entry)) (now (new .entry)) (now (values .entry))) r (now (new .exit)) (now (values .exit)) ⌝ }
 {
     if good_state(file, tab, names, old) {
-        if good_inputs(file, tab, names, inputs) {
+        if good_inputs(file, tab, inputs) {
             if new.len() == size {
                 let n = column(tab, main, VARIABLES);
                 if values.len() == 9 * n {

@@ -14,9 +14,9 @@ use ol_check::rows::rows_of;
 use ol_ir::Loaded;
 use ol_ir::project::load_file;
 use ol_tables::table::LARGE_TAB;
+use ol_tables::table::NODES;
 use ol_tables::table::SLOTS;
 use ol_tables::table::SMALL_TAB;
-use ol_tables::table::TYPES;
 use ol_tables::tables::ROWS;
 ghost use mathlib.Core.Path.{_≡_};
 ghost use mathlib.Core.Bool.{true};
@@ -247,7 +247,7 @@ fn serve_middle(
     }
 }
 
-// With tables to write. Until the slots are written, their part of `tab` is blank: fault 6 uses it.
+// With tables to write. Until the slots are written, their part of `tab` is blank: fault 6 uses 1,024 bytes of it.
 fn serve_with(
     call: Call,
     file: &[u8],
@@ -263,8 +263,9 @@ fn serve_with(
     requires { ⌜ FileReady (now file) enums (now places) (now rows) (now tab) ⌝ }
     ensures { λ r. ⌜ Serves call (now (file .entry)) (now (old .entry)) (now (inputs .entry)) (now (new .entry)) (now (values .entry)) r (now (new .exit)) (now (values .exit)) ⌝ }
 {
-    let sections = rows_of(file, places, rows, &mut tab[TYPES..SLOTS]);
-    let s = sort_file(file, rows, sections, &mut tab[SLOTS..]);
+    let plans = SLOTS - NODES + (tab.len() - SLOTS) / 2;
+    let sections = rows_of(file, places, rows, &mut tab[NODES..], plans);
+    let s = sort_file(file, rows, sections, &mut tab[SLOTS..SLOTS + 1024]);
     let clash = s.found;
     if s.highest < 1024 {
         serve_low(

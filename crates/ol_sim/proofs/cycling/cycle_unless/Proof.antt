@@ -28,7 +28,7 @@ good-state-requires c κs =
 good-inputs-requires : tie.Need-good-inputs-requires
 good-inputs-requires c κs =
     let start = c .before .before .before .before .before .before .before .before .before in
-    ((start .pre .0) .running .known, start .pre .1)
+    (start .pre .0) .running .known
 
 -- src/cycling.rt:43:21
 column-requires : tie.Need-column-requires

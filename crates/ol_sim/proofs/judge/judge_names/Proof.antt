@@ -56,7 +56,7 @@ faults-requires c κs =
 judge-shapes-requires : tie.Need-judge-shapes-requires
 judge-shapes-requires c κs =
     let start = c .before .before .before .before .before .before .before .before .before .before .before .before .before .before .before .before .before .before .before in
-    shapes-ready (c .before .before .before .before .before .before .before .before .faults .last .1 .1 .1 .1 .0) (start .pre .0) (c .before .before .before .before .before .before .before .before .faults .kept .1 .0) (c .before .before .before .before .before .before .before .before .faults .kept .1 .1 .1 .1 .0) (sym (start .pre .1) ∙ ap placeOf (c .before .before .before .before .before .before .before .before .before .before .before .before .enum-told .given .1)) (c .before .before .before .before .before .before .before .before .faults .ensures .0) (c .before .before .before .before .before .before .before .before .faults .ensures .1)
+    shapes-ready (c .before .before .before .before .before .before .before .before .faults .last .1 .1 .1 .1 .0) (start .pre .0) (c .before .before .before .before .before .before .before .before .faults .kept .1 .0) (c .before .before .before .before .before .before .before .before .faults .kept .1 .1 .1 .1 .0) (sym (start .pre .1) ∙ ap placeOf (c .before .before .before .before .before .before .before .before .before .before .before .before .enum-told .given .1)) (c .before .before .before .before .before .before .before .before .faults .ensures .0) (c .before .before .before .before .before .before .before .before .faults .ensures .1 .0) (c .before .before .before .before .before .before .before .before .faults .ensures .1 .1)
 
 -- src/judge.rt:165:1
 returns : tie.Need-returns

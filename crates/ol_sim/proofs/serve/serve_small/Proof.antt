@@ -23,7 +23,7 @@ slice-aggregate-serve-with-2 c = search needs
 serve-with-requires : tie.Need-serve-with-requires
 serve-with-requires c κs =
     let start = c .before .before .before .before .before .before .before .before .before .before in
-    file-ready 13169 (omega arith) (start .pre .0) (bytes-of (start .args .file .now) (λ i. omega (arith, c .before .before .before .before .before .before .before .before .before .shared-slice-known .given i))) (omega (arith, start .pre .1))
+    file-ready 6065 (omega arith) (start .pre .0) (bytes-of (start .args .file .now) (λ i. omega (arith, c .before .before .before .before .before .before .before .before .before .shared-slice-known .given i))) (omega (arith, start .pre .1))
 
 -- src/serve.rt:239:1
 same-length : tie.Need-same-length

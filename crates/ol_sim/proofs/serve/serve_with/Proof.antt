@@ -2,11 +2,10 @@
 use mathlib.Core.Path.{_∙_}
 use Rattle.ol_tables.specs.At.{fileAt}
 use Rattle.ol_check.proofs.ClashFile.{names-below}
-use Rattle.ol_sim.proofs.Begins.{rowed-done, declared-ready, sections-ready, places-are, types-room, middle-long, blank-slots, sorted-long, sorted-ready}
+use Rattle.ol_sim.proofs.Begins.{rowed-done, declared-ready, places-are, types-room, typed-long, blank-slots, sorted-long, sorted-ready}
 use native.Mathlib.Omega.{arith}
 use borrow.Author.Needs.{needs}
 -- </uses>
-use borrow.Author.Needs.{needs}
 use Rattle.ol_sim.proofs.serve.serve_with.Statement.{statement}
 use Rattle.ol_sim.proofs.serve.serve_with.Tie as tie
 use Rattle.ol_sim.proofs.serve.serve_with.Reads as reads
@@ -17,67 +16,89 @@ use Rattle.ol_sim.proofs.serve.serve_high.Reads as serve-high-reads
 use Rattle.ol_sim.proofs.serve.serve_low.Reads as serve-low-reads
 use Rattle.ol_sim.proofs.serve.serve_middle.Reads as serve-middle-reads
 
--- src/serve.rt:266:48
-sub-rows-of : tie.Need-sub-rows-of
-sub-rows-of c = omega arith
+-- src/serve.rt:266:17
+sub-plans : tie.Need-sub-plans
+sub-plans c = omega arith
 
--- src/serve.rt:266:48
+-- src/serve.rt:266:34
+sub-plans-2 : tie.Need-sub-plans-2
+sub-plans-2 c =
+    let start = c .before .before .before .before .before .before .before .before in
+    omega (arith, start .pre .tabLong)
+
+-- src/serve.rt:266:17
+add-plans : tie.Need-add-plans
+add-plans c =
+    let start = c .before .before .before .before .before .before .before .before in
+    omega (arith, start .pre .tabLong)
+
+-- src/serve.rt:267:48
+sub-rows-of : tie.Need-sub-rows-of
+sub-rows-of c =
+    let start = c .before .before .before .before .before .before .before .before .before in
+    omega (arith, start .pre .tabLong)
+
+-- src/serve.rt:267:48
 part-rows-of-start : tie.Need-part-rows-of-start
 part-rows-of-start c =
     let start = c .before .before .before .before .before .before .before .before .before in
     omega (arith, start .pre .tabLong)
 
--- src/serve.rt:266:48
+-- src/serve.rt:267:48
 part-rows-of-end : tie.Need-part-rows-of-end
 part-rows-of-end c =
     let start = c .before .before .before .before .before .before .before .before .before in
     omega (arith, start .pre .tabLong)
 
--- src/serve.rt:266:9
+-- src/serve.rt:267:9
 rows-of-requires : tie.Need-rows-of-requires
 rows-of-requires c κs =
     let start = c .before .before .before .before .before .before .before .before .before .before in
-    (start .pre .loads .reads, places-are (start .pre), start .pre .rowsLong, types-room (start .pre))
+    (start .pre .loads .reads, places-are (start .pre), start .pre .rowsLong, omega arith, types-room (start .pre))
 
--- src/serve.rt:267:45
+-- src/serve.rt:268:61
+add-sort-file : tie.Need-add-sort-file
+add-sort-file c = omega arith
+
+-- src/serve.rt:268:45
 sub-sort-file : tie.Need-sub-sort-file
-sub-sort-file c =
-    let start = c .before .before .before .before .before .before .before .before .before .before .before .before .before .before .before .before in
-    omega (arith, start .pre .tabLong, (middle-long (start .args .tab .now) (c .before .before .before .before .before .rows-of .last .1 .1 .1 .0) (omega (arith, start .pre .tabLong)) ((c .before .before .before .before .before .rows-of .kept .1 .1 .1 .0) ∙ types-room (start .pre))))
+sub-sort-file c = omega arith
 
--- src/serve.rt:267:45
+-- src/serve.rt:268:45
 part-sort-file-start : tie.Need-part-sort-file-start
 part-sort-file-start c =
     let start = c .before .before .before .before .before .before .before .before .before .before .before .before .before .before .before .before in
-    omega (arith, start .pre .tabLong, (middle-long (start .args .tab .now) (c .before .before .before .before .before .rows-of .last .1 .1 .1 .0) (omega (arith, start .pre .tabLong)) ((c .before .before .before .before .before .rows-of .kept .1 .1 .1 .0) ∙ types-room (start .pre))))
+    omega (arith, start .pre .wide, typed-long (c .before .before .before .before .before .rows-of .last .1 .1 .1 .0) (start .pre) (c .before .before .before .before .before .rows-of .ensures) (c .before .before .before .before .before .rows-of .kept .1 .1 .1 .0))
 
--- src/serve.rt:267:45
+-- src/serve.rt:268:45
 part-sort-file-end : tie.Need-part-sort-file-end
-part-sort-file-end c = search needs
+part-sort-file-end c =
+    let start = c .before .before .before .before .before .before .before .before .before .before .before .before .before .before .before .before in
+    omega (arith, start .pre .wide, typed-long (c .before .before .before .before .before .rows-of .last .1 .1 .1 .0) (start .pre) (c .before .before .before .before .before .rows-of .ensures) (c .before .before .before .before .before .rows-of .kept .1 .1 .1 .0))
 
--- src/serve.rt:267:9
+-- src/serve.rt:268:9
 sort-file-requires : tie.Need-sort-file-requires
 sort-file-requires c κs =
     let start = c .before .before .before .before .before .before .before .before .before .before .before .before .before .before .before .before .before in
     declared-ready (rowed-done (start .pre) (c .before .before .before .before .before .before .rows-of .ensures) (c .before .before .before .before .before .before .rows-of .kept .1 .1 .0))
 
--- src/serve.rt:270:9
+-- src/serve.rt:271:9
 serve-low-requires : tie.Need-serve-low-requires
 serve-low-requires c κs =
     let start = c .before .before .before .before .before .before .before .before .before .before .before .before .before .before .before .before .before .before .before .before .before .before .before .before .before .before in
-    ((sorted-ready (c .before .before .before .before .before .before .before .before .sort-file .last .1 .1 .1 .0) (sections-ready (c .before .before .before .before .before .before .before .before .before .before .before .before .before .before .before .rows-of .last .1 .1 .1 .0) (start .pre) (c .before .before .before .before .before .before .before .before .before .before .before .before .before .before .before .rows-of .ensures) (c .before .before .before .before .before .before .before .before .before .before .before .before .before .before .before .rows-of .kept .1 .1 .0) (c .before .before .before .before .before .before .before .before .before .before .before .before .before .before .before .rows-of .kept .1 .1 .1 .0)) (c .before .before .before .before .before .before .before .before .sort-file .kept .1 .1 .1 .0), λ e. (names-below 1024 (c .before .before .before .before .before .before .before .before .sort-file .ensures) (c .before .before .before .before .if1 .taken))), c .before .before .before .before .before .before .before .before .sort-file .ensures .finds (blank-slots (c .before .before .before .before .before .before .before .before .before .before .before .before .before .before .before .rows-of .last .1 .1 .1 .0) (start .pre) (c .before .before .before .before .before .before .before .before .before .before .before .before .before .before .before .rows-of .kept .1 .1 .1 .0) (names-below 1024 (c .before .before .before .before .before .before .before .before .sort-file .ensures) (c .before .before .before .before .if1 .taken))))
+    (((sorted-ready (c .before .before .before .before .before .before .before .before .before .before .before .before .before .before .before .rows-of .last .1 .1 .1 .0) (start .pre) (c .before .before .before .before .before .before .before .before .before .before .before .before .before .before .before .rows-of .ensures) (c .before .before .before .before .before .before .before .before .before .before .before .before .before .before .before .rows-of .kept .1 .1 .1 .0) (c .before .before .before .before .before .before .before .before .before .before .before .before .before .before .before .rows-of .kept .1 .1 .0) (c .before .before .before .before .before .before .before .before .sort-file .last .1 .1 .1 .0) (c .before .before .before .before .before .before .before .before .sort-file .kept .1 .1 .1 .0)), λ e. (names-below 1024 (c .before .before .before .before .before .before .before .before .sort-file .ensures) (c .before .before .before .before .if1 .taken))), c .before .before .before .before .before .before .before .before .sort-file .ensures .finds (blank-slots (c .before .before .before .before .before .before .before .before .before .before .before .before .before .before .before .rows-of .last .1 .1 .1 .0) (start .pre) (c .before .before .before .before .before .before .before .before .before .before .before .before .before .before .before .rows-of .ensures) (c .before .before .before .before .before .before .before .before .before .before .before .before .before .before .before .rows-of .kept .1 .1 .1 .0) (names-below 1024 (c .before .before .before .before .before .before .before .before .sort-file .ensures) (c .before .before .before .before .if1 .taken))))
 
--- src/serve.rt:286:9
+-- src/serve.rt:287:9
 serve-middle-requires : tie.Need-serve-middle-requires
 serve-middle-requires c κs =
     let start = c .before .before .before .before .before .before .before .before .before .before .before .before .before .before .before .before .before .before .before .before .before .before .before .before .before .before .before .before in
-    (sorted-ready (c .before .before .before .before .before .before .before .before .before .before .sort-file .last .1 .1 .1 .0) (sections-ready (c .before .before .before .before .before .before .before .before .before .before .before .before .before .before .before .before .before .rows-of .last .1 .1 .1 .0) (start .pre) (c .before .before .before .before .before .before .before .before .before .before .before .before .before .before .before .before .before .rows-of .ensures) (c .before .before .before .before .before .before .before .before .before .before .before .before .before .before .before .before .before .rows-of .kept .1 .1 .0) (c .before .before .before .before .before .before .before .before .before .before .before .before .before .before .before .before .before .rows-of .kept .1 .1 .1 .0)) (c .before .before .before .before .before .before .before .before .before .before .sort-file .kept .1 .1 .1 .0), names-below 8192 (c .before .before .before .before .before .before .before .before .before .before .sort-file .ensures) (c .before .before .before .before .if2 .taken))
+    ((sorted-ready (c .before .before .before .before .before .before .before .before .before .before .before .before .before .before .before .before .before .rows-of .last .1 .1 .1 .0) (start .pre) (c .before .before .before .before .before .before .before .before .before .before .before .before .before .before .before .before .before .rows-of .ensures) (c .before .before .before .before .before .before .before .before .before .before .before .before .before .before .before .before .before .rows-of .kept .1 .1 .1 .0) (c .before .before .before .before .before .before .before .before .before .before .before .before .before .before .before .before .before .rows-of .kept .1 .1 .0) (c .before .before .before .before .before .before .before .before .before .before .sort-file .last .1 .1 .1 .0) (c .before .before .before .before .before .before .before .before .before .before .sort-file .kept .1 .1 .1 .0)), names-below 8192 (c .before .before .before .before .before .before .before .before .before .before .sort-file .ensures) (c .before .before .before .before .if2 .taken))
 
--- src/serve.rt:302:9
+-- src/serve.rt:303:9
 serve-high-requires : tie.Need-serve-high-requires
 serve-high-requires c κs =
     let start = c .before .before .before .before .before .before .before .before .before .before .before .before .before .before .before .before .before .before .before .before .before .before .before .before .before .before .before .before in
-    sorted-ready (c .before .before .before .before .before .before .before .before .before .before .sort-file .last .1 .1 .1 .0) (sections-ready (c .before .before .before .before .before .before .before .before .before .before .before .before .before .before .before .before .before .rows-of .last .1 .1 .1 .0) (start .pre) (c .before .before .before .before .before .before .before .before .before .before .before .before .before .before .before .before .before .rows-of .ensures) (c .before .before .before .before .before .before .before .before .before .before .before .before .before .before .before .before .before .rows-of .kept .1 .1 .0) (c .before .before .before .before .before .before .before .before .before .before .before .before .before .before .before .before .before .rows-of .kept .1 .1 .1 .0)) (c .before .before .before .before .before .before .before .before .before .before .sort-file .kept .1 .1 .1 .0)
+    (sorted-ready (c .before .before .before .before .before .before .before .before .before .before .before .before .before .before .before .before .before .rows-of .last .1 .1 .1 .0) (start .pre) (c .before .before .before .before .before .before .before .before .before .before .before .before .before .before .before .before .before .rows-of .ensures) (c .before .before .before .before .before .before .before .before .before .before .before .before .before .before .before .before .before .rows-of .kept .1 .1 .1 .0) (c .before .before .before .before .before .before .before .before .before .before .before .before .before .before .before .before .before .rows-of .kept .1 .1 .0) (c .before .before .before .before .before .before .before .before .before .before .sort-file .last .1 .1 .1 .0) (c .before .before .before .before .before .before .before .before .before .before .sort-file .kept .1 .1 .1 .0))
 
 -- src/serve.rt:251:1
 same-length : tie.Need-same-length
@@ -87,7 +108,7 @@ same-length c = c .before .before .before .before .before .before .before .befor
 same-length-2 : tie.Need-same-length-2
 same-length-2 c =
     let start = c .before .before .before .before .before .before .before .before .before .before .before .before .before .before .before .before .before .before .before .before .before .before .before .before .before .before .before .before .before .before .before .before .before .before .before in
-    c .before .before .before .before .before .before .before .before .serve-low .kept .1 .1 .1 .1 .1 .0 ∙ (sorted-long (c .before .before .before .before .before .before .before .before .before .before .before .before .before .before .before .before .before .sort-file .last .1 .1 .1 .0) (sections-ready (c .before .before .before .before .before .before .before .before .before .before .before .before .before .before .before .before .before .before .before .before .before .before .before .before .rows-of .last .1 .1 .1 .0) (start .pre) (c .before .before .before .before .before .before .before .before .before .before .before .before .before .before .before .before .before .before .before .before .before .before .before .before .rows-of .ensures) (c .before .before .before .before .before .before .before .before .before .before .before .before .before .before .before .before .before .before .before .before .before .before .before .before .rows-of .kept .1 .1 .0) (c .before .before .before .before .before .before .before .before .before .before .before .before .before .before .before .before .before .before .before .before .before .before .before .before .rows-of .kept .1 .1 .1 .0)) (c .before .before .before .before .before .before .before .before .before .before .before .before .before .before .before .before .before .sort-file .kept .1 .1 .1 .0) ∙ (middle-long (start .args .tab .now) (c .before .before .before .before .before .before .before .before .before .before .before .before .before .before .before .before .before .before .before .before .before .before .before .before .rows-of .last .1 .1 .1 .0) (omega (arith, start .pre .tabLong)) ((c .before .before .before .before .before .before .before .before .before .before .before .before .before .before .before .before .before .before .before .before .before .before .before .before .rows-of .kept .1 .1 .1 .0) ∙ types-room (start .pre))))
+    c .before .before .before .before .before .before .before .before .serve-low .kept .1 .1 .1 .1 .1 .0 ∙ (sorted-long (c .before .before .before .before .before .before .before .before .before .before .before .before .before .before .before .before .before .before .before .before .before .before .before .before .rows-of .last .1 .1 .1 .0) (start .pre) (c .before .before .before .before .before .before .before .before .before .before .before .before .before .before .before .before .before .before .before .before .before .before .before .before .rows-of .ensures) (c .before .before .before .before .before .before .before .before .before .before .before .before .before .before .before .before .before .before .before .before .before .before .before .before .rows-of .kept .1 .1 .1 .0) (c .before .before .before .before .before .before .before .before .before .before .before .before .before .before .before .before .before .before .before .before .before .before .before .before .rows-of .kept .1 .1 .0) (c .before .before .before .before .before .before .before .before .before .before .before .before .before .before .before .before .before .sort-file .last .1 .1 .1 .0) (c .before .before .before .before .before .before .before .before .before .before .before .before .before .before .before .before .before .sort-file .kept .1 .1 .1 .0))
 
 -- src/serve.rt:251:1
 same-length-3 : tie.Need-same-length-3
@@ -109,7 +130,7 @@ same-length-5 c = c .before .before .before .before .before .before .before .bef
 same-length-6 : tie.Need-same-length-6
 same-length-6 c =
     let start = c .before .before .before .before .before .before .before .before .before .before .before .before .before .before .before .before .before .before .before .before .before .before .before .before .before .before .before .before .before .before .before .before .before .before .before .before .before in
-    c .before .before .before .before .before .before .before .before .serve-middle .kept .1 .1 .1 .1 .1 .1 .0 ∙ (sorted-long (c .before .before .before .before .before .before .before .before .before .before .before .before .before .before .before .before .before .before .before .sort-file .last .1 .1 .1 .0) (sections-ready (c .before .before .before .before .before .before .before .before .before .before .before .before .before .before .before .before .before .before .before .before .before .before .before .before .before .before .rows-of .last .1 .1 .1 .0) (start .pre) (c .before .before .before .before .before .before .before .before .before .before .before .before .before .before .before .before .before .before .before .before .before .before .before .before .before .before .rows-of .ensures) (c .before .before .before .before .before .before .before .before .before .before .before .before .before .before .before .before .before .before .before .before .before .before .before .before .before .before .rows-of .kept .1 .1 .0) (c .before .before .before .before .before .before .before .before .before .before .before .before .before .before .before .before .before .before .before .before .before .before .before .before .before .before .rows-of .kept .1 .1 .1 .0)) (c .before .before .before .before .before .before .before .before .before .before .before .before .before .before .before .before .before .before .before .sort-file .kept .1 .1 .1 .0) ∙ (middle-long (start .args .tab .now) (c .before .before .before .before .before .before .before .before .before .before .before .before .before .before .before .before .before .before .before .before .before .before .before .before .before .before .rows-of .last .1 .1 .1 .0) (omega (arith, start .pre .tabLong)) ((c .before .before .before .before .before .before .before .before .before .before .before .before .before .before .before .before .before .before .before .before .before .before .before .before .before .before .rows-of .kept .1 .1 .1 .0) ∙ types-room (start .pre))))
+    c .before .before .before .before .before .before .before .before .serve-middle .kept .1 .1 .1 .1 .1 .1 .0 ∙ (sorted-long (c .before .before .before .before .before .before .before .before .before .before .before .before .before .before .before .before .before .before .before .before .before .before .before .before .before .before .rows-of .last .1 .1 .1 .0) (start .pre) (c .before .before .before .before .before .before .before .before .before .before .before .before .before .before .before .before .before .before .before .before .before .before .before .before .before .before .rows-of .ensures) (c .before .before .before .before .before .before .before .before .before .before .before .before .before .before .before .before .before .before .before .before .before .before .before .before .before .before .rows-of .kept .1 .1 .1 .0) (c .before .before .before .before .before .before .before .before .before .before .before .before .before .before .before .before .before .before .before .before .before .before .before .before .before .before .rows-of .kept .1 .1 .0) (c .before .before .before .before .before .before .before .before .before .before .before .before .before .before .before .before .before .before .before .sort-file .last .1 .1 .1 .0) (c .before .before .before .before .before .before .before .before .before .before .before .before .before .before .before .before .before .before .before .sort-file .kept .1 .1 .1 .0))
 
 -- src/serve.rt:251:1
 same-length-7 : tie.Need-same-length-7
@@ -131,7 +152,7 @@ same-length-9 c = c .before .before .before .before .before .before .before .bef
 same-length-10 : tie.Need-same-length-10
 same-length-10 c =
     let start = c .before .before .before .before .before .before .before .before .before .before .before .before .before .before .before .before .before .before .before .before .before .before .before .before .before .before .before .before .before .before .before .before .before .before .before .before .before in
-    c .before .before .before .before .before .before .before .before .serve-high .kept .1 .1 .1 .1 .1 .1 .0 ∙ (sorted-long (c .before .before .before .before .before .before .before .before .before .before .before .before .before .before .before .before .before .before .before .sort-file .last .1 .1 .1 .0) (sections-ready (c .before .before .before .before .before .before .before .before .before .before .before .before .before .before .before .before .before .before .before .before .before .before .before .before .before .before .rows-of .last .1 .1 .1 .0) (start .pre) (c .before .before .before .before .before .before .before .before .before .before .before .before .before .before .before .before .before .before .before .before .before .before .before .before .before .before .rows-of .ensures) (c .before .before .before .before .before .before .before .before .before .before .before .before .before .before .before .before .before .before .before .before .before .before .before .before .before .before .rows-of .kept .1 .1 .0) (c .before .before .before .before .before .before .before .before .before .before .before .before .before .before .before .before .before .before .before .before .before .before .before .before .before .before .rows-of .kept .1 .1 .1 .0)) (c .before .before .before .before .before .before .before .before .before .before .before .before .before .before .before .before .before .before .before .sort-file .kept .1 .1 .1 .0) ∙ (middle-long (start .args .tab .now) (c .before .before .before .before .before .before .before .before .before .before .before .before .before .before .before .before .before .before .before .before .before .before .before .before .before .before .rows-of .last .1 .1 .1 .0) (omega (arith, start .pre .tabLong)) ((c .before .before .before .before .before .before .before .before .before .before .before .before .before .before .before .before .before .before .before .before .before .before .before .before .before .before .rows-of .kept .1 .1 .1 .0) ∙ types-room (start .pre))))
+    c .before .before .before .before .before .before .before .before .serve-high .kept .1 .1 .1 .1 .1 .1 .0 ∙ (sorted-long (c .before .before .before .before .before .before .before .before .before .before .before .before .before .before .before .before .before .before .before .before .before .before .before .before .before .before .rows-of .last .1 .1 .1 .0) (start .pre) (c .before .before .before .before .before .before .before .before .before .before .before .before .before .before .before .before .before .before .before .before .before .before .before .before .before .before .rows-of .ensures) (c .before .before .before .before .before .before .before .before .before .before .before .before .before .before .before .before .before .before .before .before .before .before .before .before .before .before .rows-of .kept .1 .1 .1 .0) (c .before .before .before .before .before .before .before .before .before .before .before .before .before .before .before .before .before .before .before .before .before .before .before .before .before .before .rows-of .kept .1 .1 .0) (c .before .before .before .before .before .before .before .before .before .before .before .before .before .before .before .before .before .before .before .sort-file .last .1 .1 .1 .0) (c .before .before .before .before .before .before .before .before .before .before .before .before .before .before .before .before .before .before .before .sort-file .kept .1 .1 .1 .0))
 
 -- src/serve.rt:251:1
 same-length-11 : tie.Need-same-length-11
@@ -149,10 +170,14 @@ pub serve-with-spec : {M : Type 1} → statement M
 serve-with-spec =
     tie.close
     (tie.spec
+    sub-plans
+    sub-plans-2
+    add-plans
     sub-rows-of
     part-rows-of-start
     part-rows-of-end
     rows-of-requires
+    add-sort-file
     sub-sort-file
     part-sort-file-start
     part-sort-file-end

@@ -34,7 +34,7 @@ pub serve-with-requires : (t : ℕ) → serve-large-lts.Need-serve-with-requires
 serve-with-requires t c κs =
     let start = c .before .before .before .before .before .before .before .before .before .before .before in
     let b = bytes-of (start .args .file .now) (λ i. omega (arith, c .before .before .before .before .before .before .before .before .before .before .shared-slice-known .given i)) in
-    file-ready 76657 (omega arith) (start .pre .1) b (omega (arith, file-stands b (start .pre .1 .reads) .short))
+    file-ready 69553 (omega arith) (start .pre .1) b (omega (arith, file-stands b (start .pre .1 .reads) .short))
 
 pub same-length : (t : ℕ) → serve-large-lts.Need-same-length (Q t) (serve-large-at t) serve-large.Post
 same-length t c = c .before .before .before .before .serve-large .kept .1 .1 .1 .1 .1 .1 .1 .0
