@@ -86,7 +86,7 @@ fn store(tab: &[u8], k: usize, at: usize, v: Value, cells: &mut [u8])
     let s = slot_at(tab, at);
     if s < 112 {
         let c = code_of(tab, k, s);
-        let w = kept(fit_to(c, v));
+        let w = kept(fit_to(c, kept(v)));
         write_cell(w, cells, 9 * s);
     }
 }
