@@ -29,6 +29,7 @@ use Rattle.ol_spec.specs.declared.Value.{Value}
 use Rattle.ol_spec.specs.declared.Value.the-variants as Val
 use Rattle.ol_spec.specs.declared.Outcome.{Outcome}
 use Rattle.ol_spec.specs.declared.Outcome.the-variants as Out
+use Rattle.ol_spec.specs.declared.Cause.the-variants as Why
 use Rattle.ol_real.specs.Ieee754 as I
 use Rattle.ol_real.specs.Operators.{InFormat, InFormats, OutInFormat, OutsInFormat, FormatsKept}
 use Rattle.ol_real.proofs.Reals.{ieee754-holds}
@@ -210,7 +211,7 @@ numbers-in k m (names v w) f h = tt
 numbers-in k m unlike f h = tt
 
 shift-in : (k : ℕ → ℤ) (j : ℤ) → OutInFormat (shiftBy k j)
-shift-in k (pos n) = cond-in (ltb n 64) (Out.Value (Val.Int (k n))) Out.Failure tt tt
+shift-in k (pos n) = cond-in (ltb n 64) (Out.Value (Val.Int (k n))) (Out.Failure Why.Range) tt tt
 shift-in k (negsuc n) = tt
 
 sum-in : (q : Precision) (x y : Real) → OutInFormat (realOut q (R.addR q x y))
@@ -226,16 +227,16 @@ product-in binary32 x y = ieee754-holds .at-single .product-value x y
 product-in binary64 x y = ieee754-holds .at-double .product-value x y
 
 quotient-in : (q : Precision) (x y : Real) → OutInFormat (divReal q x y)
-quotient-in binary32 x y = cond-in (eqR y zeroR) Out.Failure (realOut binary32 (divR binary32 x y)) tt (ieee754-holds .at-single .quotient-value x y)
-quotient-in binary64 x y = cond-in (eqR y zeroR) Out.Failure (realOut binary64 (divR binary64 x y)) tt (ieee754-holds .at-double .quotient-value x y)
+quotient-in binary32 x y = cond-in (eqR y zeroR) (Out.Failure Why.Range) (realOut binary32 (divR binary32 x y)) tt (ieee754-holds .at-single .quotient-value x y)
+quotient-in binary64 x y = cond-in (eqR y zeroR) (Out.Failure Why.Range) (realOut binary64 (divR binary64 x y)) tt (ieee754-holds .at-double .quotient-value x y)
 
 div-in : (i j : ℤ) → OutInFormat (divInt i j)
-div-in i j = cond-in (eqZ j (pos 0)) Out.Failure (exact (quotZ i j)) tt (exact-in (quotZ i j))
+div-in i j = cond-in (eqZ j (pos 0)) (Out.Failure Why.Range) (exact (quotZ i j)) tt (exact-in (quotZ i j))
 
 mod-in : (i j : ℤ) → OutInFormat (modInt i j)
 mod-in i j =
     let q = ltb (mag (quotZ i j)) (2 ^ 63) in
-    cond-in (eqZ j (pos 0)) Out.Failure (cond q (Out.Value (Val.Int (remZ i j))) Out.Overflow) tt (cond-in q (Out.Value (Val.Int (remZ i j))) Out.Overflow tt tt)
+    cond-in (eqZ j (pos 0)) (Out.Failure Why.Range) (cond q (Out.Value (Val.Int (remZ i j))) Out.Overflow) tt (cond-in q (Out.Value (Val.Int (remZ i j))) Out.Overflow tt tt)
 
 pair-in : (op : BinOp) (p : Pair) → OutInFormat (onPair op p)
 unfolding onPair
@@ -264,7 +265,7 @@ pair-in Shr p = numbers-in _ _ p (λ i j. shift-in _ j) (λ q x y. tt)
 
 then-in : (k : Value → Outcome) (o : Outcome) → OutInFormat o → ((v : Value) → InFormat v → OutInFormat (k v)) → OutInFormat (thenOut k o)
 then-in k (Out.Value v) h f = f v h
-then-in k Out.Failure h f = tt
+then-in k (Out.Failure c) h f = tt
 then-in k Out.Overflow h f = tt
 
 next-in : (r : Eval) (k : Value → List ℕ → Eval) (rest : List ℕ) → OutInFormat (r .out) → ((v : Value) → InFormat v → OutInFormat (k v rest .out)) → OutInFormat (next r k rest .out)
@@ -273,12 +274,12 @@ next-in r k rest h f = go (r .out) h
   where
     go : (o : Outcome) → OutInFormat o → OutInFormat (nextOn o (r .seg) k rest .out)
     go (Out.Value v) h = f v h
-    go Out.Failure h = tt
+    go (Out.Failure c) h = tt
     go Out.Overflow h = tt
 
 drop-failure-in : (v : Value) (o : Outcome) → InFormat v → OutInFormat (dropFailure v o)
 drop-failure-in v (Out.Value w) h = h
-drop-failure-in v Out.Failure h = h
+drop-failure-in v (Out.Failure c) h = h
 drop-failure-in v Out.Overflow h = tt
 
 untaken-in : (c : Bool) (v : Value) (seg : List ℕ) (o : Branch) → InFormat v → OutInFormat (untaken c v seg o .out)
@@ -287,7 +288,7 @@ untaken-in false v seg o h = h
 
 branches-in : (w : Outcome) (seg : List ℕ) (o : Branch) → OutInFormat w → OutInFormat (branchesOn w seg o .out)
 branches-in (Out.Value v) seg o h = untaken-in (o .calls) (commonReal (o .wide) v) seg o (common-in (o .wide) v h)
-branches-in Out.Failure seg o h = tt
+branches-in (Out.Failure c) seg o h = tt
 branches-in Out.Overflow seg o h = tt
 
 choose-in : (t : Bool) (a b : Branch) → OutInFormat (a .run (a .seg) .out) → OutInFormat (b .run (b .seg) .out) → OutInFormat (choose t a b .out)
@@ -307,12 +308,12 @@ single-out : (o : Outcomes) → OutsInFormat o → OutInFormat (single o)
 single-out (values []) h = tt
 single-out (values (v ∷ [])) h = h .0
 single-out (values (v ∷ w ∷ vs)) h = tt
-single-out failure h = tt
+single-out (failure c) h = tt
 single-out overflow h = tt
 
 several-out : (o : Outcome) → OutInFormat o → OutsInFormat (several o)
 several-out (Out.Value v) h = (h, tt)
-several-out Out.Failure h = tt
+several-out (Out.Failure c) h = tt
 several-out Out.Overflow h = tt
 
 enter-in : (k : List Value → List ℕ → Evals) (own : List ℕ) (r : Evals) → OutsInFormat (r .out) → ((ws : List Value) → InFormats ws → OutsInFormat (k ws own .out))
@@ -322,12 +323,12 @@ enter-in k own r h f = go (r .out) h
   where
     go : (o : Outcomes) → OutsInFormat o → OutsInFormat (enterOn k own o (r .seg) .out)
     go (values vs) h = f vs h
-    go failure h = tt
+    go (failure c) h = tt
     go overflow h = tt
 
 cons-in : (v : Value) (o : Outcomes) → InFormat v → OutsInFormat o → OutsInFormat (consOut v o)
 cons-in v (values vs) h k = (h, k)
-cons-in v failure h k = tt
+cons-in v (failure c) h k = tt
 cons-in v overflow h k = tt
 
 nextAll-in : (r : Eval) (k : List ℕ → Evals) (rest : List ℕ) → OutInFormat (r .out) → OutsInFormat (k rest .out) → OutsInFormat (nextAll r k rest .out)
@@ -336,7 +337,7 @@ nextAll-in r k rest h f = go (r .out) h
   where
     go : (o : Outcome) → OutInFormat o → OutsInFormat (nextAllOn o (r .seg) k rest .out)
     go (Out.Value v) h = cons-in v (k rest .out) h f
-    go Out.Failure h = tt
+    go (Out.Failure c) h = tt
     go Out.Overflow h = tt
 
 -- calls that give such values, of such arguments
@@ -415,7 +416,7 @@ module _ (g : Globals) (constant : InFormats (g .constantValues)) (calls : Calls
       go : (o : Outcomes) → OutsInFormat o → ((cs : List Value) (ss : List (List ℕ)) → InFormats cs → InFormats (runAll g calls n first before is cs ss .cells))
           → InFormats (storeOn n i o (evalEquation g calls n first before cs i (getD ss i []) .seg) (runAll g calls n first before is) cs ss .cells)
       go (values vs) k f = f _ _ (assign-in n (equationAt n i .names) vs cs k h)
-      go failure k f = h
+      go (failure c) k f = h
       go overflow k f = h
 
   run-in : (n : Node) (ins : List Value) (r : List ℕ) → InFormats ins → InFormats (run g calls n ins r .cells)
@@ -436,7 +437,7 @@ module _ (g : Globals) (constant : InFormats (g .constantValues)) (calls : Calls
     where
       go : (e : Ended) → OutsInFormat (leaveOn g n r e (run g calls n (fitAll (n .inputs) ws) r .cells) (run g calls n (fitAll (n .inputs) ws) r .segs) .out)
       go finished = take-in (length (n .outputs)) _ (drop-in (length (n .inputs)) _ (run-in n (fitAll (n .inputs) ws) r (fitAll-in (n .inputs) ws h)))
-      go (failedAt i) = tt
+      go (failedAt c i) = tt
       go (overflowedAt i) = tt
 
 calls-in : (g : Globals) → InFormats (g .constantValues) → (d : ℕ) → Keeps (callsAt g d)
@@ -460,7 +461,7 @@ constants-in f (c ∷ cs) xs us vs h e =
     go : (o : Outcome) → OutInFormat o → afterConstant (c .0) (λ v. constantsFrom f (xs ++ c .1 .name ∷ []) (us ++ fit (c .1 .ty) v ∷ []) cs) o ≡ all vs
         → ((v : Value) → InFormat v → constantsFrom f (xs ++ c .1 .name ∷ []) (us ++ fit (c .1 .ty) v ∷ []) cs ≡ all vs → InFormats vs) → InFormats vs
     go (Out.Value v) i e k = k v i e
-    go Out.Failure i e k = let z : _≡_ {A = ℕ} 0 1 = cc in absurd (omega arith)
+    go (Out.Failure c) i e k = let z : _≡_ {A = ℕ} 0 1 = cc in absurd (omega arith)
     go Out.Overflow i e k = let z : _≡_ {A = ℕ} 0 1 = cc in absurd (omega arith)
 
 all-constants : (f : File) (vs : List Value) → constants f ≡ all vs → InFormats vs

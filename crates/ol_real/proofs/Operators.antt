@@ -14,6 +14,7 @@ use Rattle.ol_spec.specs.Operators.{unaryOf, reals, pair, onPair, realOut}
 use Rattle.ol_spec.specs.declared.Value.{Value}
 use Rattle.ol_spec.specs.declared.Value.the-variants as Val
 use Rattle.ol_spec.specs.declared.Outcome.the-variants as Out
+use Rattle.ol_spec.specs.declared.Cause.the-variants as Why
 use Rattle.ol_real.specs.Ieee754.{Format, single, double, IsValue, Converted, Equal, Less, LessEq}
 use Rattle.ol_real.specs.Holds.{AtFormat}
 use Rattle.ol_real.specs.Operators.{Computes, OperatorsHold}
@@ -71,9 +72,9 @@ module _ (v w : Value) (g : Format) (q : Precision) (k : ℕ) (put : Real → Va
         quotient = λ n. record {
           result = divR q x y;
           one = at .quotient x y;
-          is = ap (onPair Div) paired ∙ cond-false (eqR y zeroR) Out.Failure (realOut q (divR q x y)) (λ t. n (ieee754-holds .equal y zeroR .0 t)) ∙ ap Out.Value (made (divR q x y));
+          is = ap (onPair Div) paired ∙ cond-false (eqR y zeroR) (Out.Failure Why.Range) (realOut q (divR q x y)) (λ t. n (ieee754-holds .equal y zeroR .0 t)) ∙ ap Out.Value (made (divR q x y));
         };
-        zero-divisor = λ z. ap (onPair Div) paired ∙ cond-true (eqR y zeroR) Out.Failure (realOut q (divR q x y)) (ieee754-holds .equal y zeroR .1 z);
+        zero-divisor = λ z. ap (onPair Div) paired ∙ cond-true (eqR y zeroR) (Out.Failure Why.Range) (realOut q (divR q x y)) (ieee754-holds .equal y zeroR .1 z);
         equal = record { answer = eqR x y; is = ap (onPair Eq) paired; exactly = ieee754-holds .equal x y };
         unequal = record { answer = not (eqR x y); is = ap (onPair Neq) paired; exactly = not-exactly (eqR x y) (Equal x y) (ieee754-holds .equal x y) };
         less = record { answer = ltR x y; is = ap (onPair Lt) paired; exactly = ieee754-holds .less x y };

@@ -22,6 +22,7 @@ use Rattle.ol_spec.specs.declared.Value.{Value}
 use Rattle.ol_spec.specs.declared.Value.the-variants as Val
 use Rattle.ol_spec.specs.declared.Outcome.{Outcome}
 use Rattle.ol_spec.specs.declared.Outcome.the-variants as Out
+use Rattle.ol_spec.specs.declared.Cause.the-variants as Why
 use Rattle.ol_real.specs.Ieee754.{Format, single, double, IsValue, Sum, Difference, Product, Quotient, Negation, FromInt, Converted, Truncated, Equal, Less, LessEq}
 use Rattle.ol_real.specs.Holds.{Only}
 
@@ -51,7 +52,7 @@ pub record Computes (v w : Value) (g : Format) (put : Real → Value) (x y : Rea
   pub difference : Gives put (Difference g x y) (binaryOf Sub v w)
   pub product : Gives put (Product g x y) (binaryOf Mul v w)
   pub quotient : ¬ Equal y zeroR → Gives put (Quotient g x y) (binaryOf Div v w)
-  pub zero-divisor : Equal y zeroR → binaryOf Div v w ≡ Out.Failure
+  pub zero-divisor : Equal y zeroR → binaryOf Div v w ≡ Out.Failure Why.Range
   pub equal : Says (Equal x y) (binaryOf Eq v w)
   pub unequal : Says (¬ Equal x y) (binaryOf Neq v w)
   pub less : Says (Less x y) (binaryOf Lt v w)
@@ -106,12 +107,12 @@ InFormats (v ∷ vs) = InFormat v × InFormats vs
 
 abbrev pub OutInFormat : Outcome → Type 0
 OutInFormat (Out.Value v) = InFormat v
-OutInFormat Out.Failure = Unit {0}
+OutInFormat (Out.Failure c) = Unit {0}
 OutInFormat Out.Overflow = Unit {0}
 
 abbrev pub OutsInFormat : Outcomes → Type 0
 OutsInFormat (values vs) = InFormats vs
-OutsInFormat failure = Unit {0}
+OutsInFormat (failure c) = Unit {0}
 OutsInFormat overflow = Unit {0}
 
 -- Every cell is read as a datum of its format, and constants are such. So are the outcomes of any expression on such cells, and of calls at every depth, on any bytes; and so are the

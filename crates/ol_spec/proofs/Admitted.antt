@@ -102,7 +102,7 @@ module _ (f : File) (short : (x : ℕ) → T (member x (concat (f .enums))) → 
       go (Out.Value v) q e k =
           let w = k v (all-join (Fine ens) us (fit (c .1 .ty) v ∷ []) h (fit-fine ens (c .1 .ty) v q, tt)) e in
           (w .0, w .1 ∙ omega (arith, length-append us (fit (c .1 .ty) v ∷ [])))
-      go Out.Failure q e k = let z : _≡_ {A = ℕ} 0 1 = cc in absurd (omega arith)
+      go (Out.Failure c) q e k = let z : _≡_ {A = ℕ} 0 1 = cc in absurd (omega arith)
       go Out.Overflow q e k = let z : _≡_ {A = ℕ} 0 1 = cc in absurd (omega arith)
 
 -- names are short

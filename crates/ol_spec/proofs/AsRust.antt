@@ -24,7 +24,7 @@ use Rattle.ol_spec.specs.Answers.{faultAt}
 use Rattle.ol_spec.specs.Demand3.{Bytes, Turn, Made, nextState, history}
 use Rattle.ol_spec.specs.Lustre.{answers}
 use Rattle.ol_spec.specs.RustOrder.{evaluation-order}
-use Rattle.ol_spec.specs.RustSim.{Env, get, State, state, noStates, past, prev, defaultState, Ran, Sim, ok, Stepped, for-order, seed, step, step-env, step-full, stepEnd, report, default-value, newOn, new}
+use Rattle.ol_spec.specs.RustSim.{Env, get, State, state, noStates, past, prev, defaultState, Ran, Sim, ok, Stepped, for-order, seed, step, step-env, step-full, stepEnd, report, default-value, newOn, new, LoopEnd, done}
 use Rattle.ol_spec.specs.AsRust.{fitting, named, answerOf, written, told, refusal, stepOn, callOn, simAfter, AsRust, RunsAsRust}
 use Rattle.ol_spec.specs.RustState.{constantsIn, stateBytes}
 use Rattle.ol_spec.specs.declared.Value.{Value}
@@ -44,7 +44,8 @@ use Rattle.ol_spec.proofs.RustMaps.{get-hit, get-miss}
 use Rattle.ol_spec.proofs.RustEnv.{lookup-here, lookup-skip, Block, seed-block, seeds-fresh, seeds-old, Seeds, values-read}
 use Rattle.ol_spec.proofs.RustPlaces.{home}
 use Rattle.ol_spec.proofs.RustEval.{Each, Globally}
-use Rattle.ol_spec.proofs.RustRun.{GoingEnd, Rels, rels-concat, EnvFor, RunFollows}
+use Rattle.ol_spec.proofs.RustLeaves.{number-is}
+use Rattle.ol_spec.proofs.RustRun.{GoingEnd, Rels, rels-concat, EnvFor, RunFollows, TellsEnd, ends, errs-at, panics-at}
 use Rattle.ol_spec.proofs.RustCalls.{NodeRust, FileRust, LastIs, InstRel, RelAt, p, mayEnter, fresh-site, run-follows, calls-follow, started-inst, no-variants, inserted, split-distinct, names-split, old-rest, rest-length, fresh-rest}
 use Rattle.ol_spec.proofs.RustNames.{constants-distinct}
 use Rattle.ol_spec.proofs.RustState.{constants-read, instance-bytes}
@@ -206,8 +207,7 @@ module _ (f : File) (vs : List Value) (A : Facts f vs) (F : FileRust f vs) where
     pub tells : (t : Turn) → Tells t (endRun f old (t .values) u) (step-full f sim (named (n .inputs) ws))
     unfolding step-full
     tells t =
-        subst (λ e. Tells t (endOn f old (t .values) (u .end) (u .cells) (u .segs)) (stepEnd f sim e (v .env) (v .calls))) (follows .end)
-        (go (u .end) (λ e. follows .env (sym (follows .end) ∙ e)) (λ q. follows .segs (subst GoingEnd (follows .end) q)))
+        go (u .end) (v .end) (follows .end) (follows .env) (follows .segs)
       where
         own : List ℕ
         own = take (ownSize n) (rec old)
@@ -222,9 +222,9 @@ module _ (f : File) (vs : List Value) (A : Facts f vs) (F : FileRust f vs) where
         same-cells : oldCells n (own ++ concat (u .segs)) ≡ oldCells n (rec old)
         same-cells = sym (own-kept f vs A old ins (h .well) good-ins .1)
 
-        go : (e : Ended) → (e ≡ finished → EnvFor f vs n (u .cells) (v .env)) → (GoingEnd e → Rels g (p f vs) (RelAt f vs D) (home N n) (n .equations) 0 (u .segs) (v .calls))
-            → Tells t (endOn f old (t .values) e (u .cells) (u .segs)) (stepEnd f sim e (v .env) (v .calls))
-        go finished a b = (
+        go : (e : Ended) (l : LoopEnd) → TellsEnd e l → (l ≡ done → EnvFor f vs n (u .cells) (v .env)) → (GoingEnd l → Rels g (p f vs) (RelAt f vs D) (home N n) (n .equations) 0 (u .segs) (v .calls))
+            → Tells t (endOn f old (t .values) e (u .cells) (u .segs)) (stepEnd f sim l (v .env) (v .calls))
+        go _ _ ends a b = (
           refl,
           ap cells (sym (values-read f (λ x. default-value f (x .ty)) (variables n) (u .cells) (v .env) (good .counted) distinct (a refl .vars))),
           refl,
@@ -242,8 +242,8 @@ module _ (f : File) (vs : List Value) (A : Facts f vs) (F : FileRust f vs) where
               ∙ ap (λ c. pastOf sim ++ c ∷ []) (values-read f (λ x. default-value f (x .ty)) (variables n) (u .cells) (v .env) (good .counted) distinct (a refl .vars)
               ∙ sym (given-back f vs A old ins (h .well) good-ins)),
         )
-        go (failedAt i) a b = (
-          refl,
+        go _ _ (errs-at e i) a b = (
+          ap (λ n. Cyc.Stopped (faultAt n i)) (number-is e),
           refl,
           refl,
           record {
@@ -264,7 +264,7 @@ module _ (f : File) (vs : List Value) (A : Facts f vs) (F : FileRust f vs) where
           },
           sym (append-nil (pastOf sim)),
         )
-        go (overflowedAt i) a b = (refl, refl, refl, h, sym (append-nil (pastOf sim)))
+        go _ _ (panics-at i) a b = (refl, refl, refl, h, sym (append-nil (pastOf sim)))
 
   -- ---- a list
 

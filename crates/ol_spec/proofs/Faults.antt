@@ -28,6 +28,7 @@ use Rattle.ol_spec.specs.Cycle.{orderFits, orderUnlessRing, orderNode, o
 use Rattle.ol_spec.specs.Faults.{From, Inside, NumbersClaim}
 use Rattle.ol_spec.specs.declared.Value.{Value}
 use Rattle.ol_spec.specs.declared.Fault.{Fault}
+use Rattle.ol_spec.specs.declared.Cause.the-variants as Why
 use Rattle.ol_spec.specs.declared.Verdict.the-variants as Adm
 use Rattle.ol_spec.specs.declared.Sorted.the-variants as Sort
 use Rattle.ol_spec.specs.declared.Started.the-variants as Start
@@ -202,12 +203,12 @@ judge-low ld s = go (readFile s ld) (file-low s ld)
 
 abbrev EndIn : List ℕ → Ended → Type 0
 EndIn is finished = Unit {0}
-EndIn is (failedAt i) = i ∈ is
+EndIn is (failedAt c i) = i ∈ is
 EndIn is (overflowedAt i) = i ∈ is
 
 end-later : (i : ℕ) (is : List ℕ) (e : Ended) → EndIn is e → EndIn (i ∷ is) e
 end-later i is finished h = tt
-end-later i is (failedAt j) h = there h
+end-later i is (failedAt c j) h = there h
 end-later i is (overflowedAt j) h = there h
 
 module _ (g : Globals) (calls : Calls) (n : Node) (first : Bool) (before : List Value) where
@@ -219,7 +220,7 @@ module _ (g : Globals) (calls : Calls) (n : Node) (first : Bool) (before : List 
       go : (o : Outcomes) → ((cs : List Value) (ss : List (List ℕ)) → EndIn (i ∷ is) (runAll g calls n first before is cs ss .end))
           → EndIn (i ∷ is) (storeOn n i o (evalEquation g calls n first before cs i (getD ss i []) .seg) (runAll g calls n first before is) cs ss .end)
       go (values vs) h = h _ _
-      go failure h = here refl
+      go (failure c) h = here refl
       go overflow h = here refl
 
 main-ends : (f : File) (vs : List Value) (old ins : List ℕ) → EndIn (order (main f .equations)) (mainRun f vs old ins .end)
@@ -280,7 +281,7 @@ start-numbers (admitted f vs) h st x e = fits (eqb (length st) (stateSize f)) e
 module _ (f : File) (vs : List Value) (old ins new vals : List ℕ) where
   refused-run : (e : Ended) (cs : List Value) (ss : List (List ℕ)) (x : Fault) → endOn f old vals e cs ss .answer ≡ Cyc.Refused x → ⊥
   refused-run finished cs ss x e = let z : _≡_ {A = ℕ} 0 1 = cc in omega arith
-  refused-run (failedAt i) cs ss x e = let z : _≡_ {A = ℕ} 0 1 = cc in omega arith
+  refused-run (failedAt c i) cs ss x e = let z : _≡_ {A = ℕ} 0 1 = cc in omega arith
   refused-run (overflowedAt i) cs ss x e = let z : _≡_ {A = ℕ} 0 1 = cc in omega arith
 
   unless-refused : (a b c : Bool) (x : Fault) → cycleUnless a b c f vs old ins new vals .answer ≡ Cyc.Refused x → From 1 17 x
@@ -290,12 +291,14 @@ module _ (f : File) (vs : List Value) (old ins new vals : List ℕ) where
   unless-refused false false false x e = absurd (refused-run (mainRun f vs old ins .end) _ _ x e)
 
   abbrev Stops : Fault → Type 0
-  Stops x = ((x .number ≡ 18) ⊎ (x .number ≡ 19)) × (x .place ∈ order (main f .equations))
+  Stops x = From 18 21 x × (x .place ∈ order (main f .equations))
 
   stopped-run : (e : Ended) (cs : List Value) (ss : List (List ℕ)) → EndIn (order (main f .equations)) e → (x : Fault) → endOn f old vals e cs ss .answer ≡ Cyc.Stopped x → Stops x
   stopped-run finished cs ss h x e = let z : _≡_ {A = ℕ} 0 1 = cc in absurd (omega arith)
-  stopped-run (failedAt i) cs ss h x e = subst Stops (same-stopped e) (inl refl, h)
-  stopped-run (overflowedAt i) cs ss h x e = subst Stops (same-stopped e) (inr refl, h)
+  stopped-run (failedAt Why.Cold i) cs ss h x e = subst Stops (same-stopped e) ((omega arith, omega arith), h)
+  stopped-run (failedAt Why.Range i) cs ss h x e = subst Stops (same-stopped e) ((omega arith, omega arith), h)
+  stopped-run (failedAt Why.Other i) cs ss h x e = subst Stops (same-stopped e) ((omega arith, omega arith), h)
+  stopped-run (overflowedAt i) cs ss h x e = subst Stops (same-stopped e) ((omega arith, omega arith), h)
 
   unless-stopped : (a b c : Bool) (x : Fault) → cycleUnless a b c f vs old ins new vals .answer ≡ Cyc.Stopped x → Stops x
   unless-stopped true b c x e = let z : _≡_ {A = ℕ} 0 1 = cc in absurd (omega arith)
@@ -308,7 +311,7 @@ cycle-refused (refused n p) h old ins new vals x e = subst (From 1 17) (same-ref
 cycle-refused (admitted f vs) h old ins new vals x e = unless-refused f vs old ins new vals (not (goodState f vs old)) (not (goodInputs f ins)) (not (fits17 f new vals)) x e
 
 cycle-stopped : (ld : Loader) (s : List ℕ) (j : Judged) → judge ld s ≡ j → (old ins new vals : List ℕ) (x : Fault) → cycleJudged j old ins new vals .answer ≡ Cyc.Stopped x
-    → ((x .number ≡ 18) ⊎ (x .number ≡ 19)) × Inside ld s (x .place)
+    → From 18 21 x × Inside ld s (x .place)
 cycle-stopped ld s (refused n p) h old ins new vals x e = let z : _≡_ {A = ℕ} 0 1 = cc in absurd (omega arith)
 cycle-stopped ld s (admitted f vs) h old ins new vals x e =
     let w = unless-stopped f vs old ins new vals (not (goodState f vs old)) (not (goodInputs f ins)) (not (fits17 f new vals)) x e in

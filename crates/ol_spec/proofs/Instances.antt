@@ -2,13 +2,15 @@
 use Prim.Native.Nat.{ℕ, zero, suc, _+_, _-_, _<_}
 use mathlib.Core.Bool.{Bool, true, false}
 use mathlib.Core.List.{List, [], _∷_, _++_, map, reverse, reverse-cons, reverseAux, List·Memᴰ·head as here, List·Memᴰ·tail as there}
+use mathlib.Core.Logic.{_↔_}
 use mathlib.Core.Option.{Option, none, some}
 use mathlib.Core.Path.{_≡_, refl, sym, ap, ap₂, subst, _∙_}
 use native.Mathlib.Omega.{arith}
 use lib.ListN.{length, take, drop, getElem?, length-map}
+use lib.Dec.{T}
 use Rattle.ol_theory.specs.Member.{_∈_}
-use Rattle.ol_spec.specs.Lists.{maybe, orElse, lookup}
-use Rattle.ol_spec.specs.Syntax.{NodeKind, Function, Operator, Imported, Node, File, Expr, boolLit, var, ifThenElse, main, variables, variableNames, nameOf}
+use Rattle.ol_spec.specs.Lists.{member, maybe, orElse, lookup}
+use Rattle.ol_spec.specs.Syntax.{NodeKind, Function, Operator, Imported, Node, File, Expr, boolLit, var, ifThenElse, main, variables, variableNames, nameOf, nameIn}
 use Rattle.ol_spec.specs.Syntax as S
 use Rattle.ol_spec.specs.Types.{defaultOf}
 use Rattle.ol_spec.specs.Order.{order}
@@ -20,20 +22,21 @@ use Rattle.ol_spec.specs.State.{globalsOf, freshState}
 use Rattle.ol_spec.specs.Cycle.{mainRun, cycle}
 use Rattle.ol_spec.specs.Cell.{valuesOf}
 use Rattle.ol_spec.specs.Demand3.{Turn, history}
-use Rattle.ol_spec.specs.Lustre.{always, firstly, cellsBefore, runAt, answers}
+use Rattle.ol_spec.specs.Lustre.{always, firstly, cellsBefore, runAt, answers, orCold}
 use Rattle.ol_spec.specs.RustOrder.{evaluation-order}
-use Rattle.ol_spec.specs.RustSim.{width, Env, get, State, state, States, getState, removeState, prev, child-calls, ofOutcome, first-tick, pre-value, choose, branch, StepInstance, Sim, for-order, reseed, callee-env, endOperator, stepKind, stepOrdered, step-instance, step, seed, step-env}
+use Rattle.ol_spec.specs.RustSim.{width, Env, get, State, state, States, getState, removeState, prev, child-calls, Err, uninitialized-pre, other-error, ok-or, first-tick, pre-value, choose, branch, StepInstance, Sim, for-order, reseed, callee-env, endOperator, stepKind, stepOrdered, step-instance, step, seed, step-env}
 use Rattle.ol_spec.specs.RustSim as Rust
 use Rattle.ol_spec.specs.RustState.{stateOr, calls-of}
 use Rattle.ol_spec.specs.Instances.{sequenceIn, evalOn, AtPast, CallRuns, FunctionRuns, MainRuns, AtSites, AtKind, AtSite, Everywhere, AllAtPast, InstancesClaim}
 use Rattle.ol_spec.specs.declared.Value.{Value}
 use Rattle.ol_spec.specs.declared.Outcome.the-variants as Out
+use Rattle.ol_spec.specs.declared.Cause.the-variants as Why
 use Rattle.ol_spec.proofs.Tests.{member-in}
 use Rattle.ol_spec.proofs.Runs.{length-values}
 use Rattle.ol_spec.proofs.Admitted.{Facts}
 use Rattle.ol_spec.proofs.States.{is-main, made}
 use Rattle.ol_spec.proofs.Names.{lookup-in, lookup-out}
-use Rattle.ol_spec.proofs.PreArrow.{arrow-is, get-next}
+use Rattle.ol_spec.proofs.PreArrow.{arrow-is, get-next, known, cold-at}
 use Rattle.ol_spec.proofs.RustOrder.{order-is}
 use Rattle.ol_spec.proofs.RustEval.{Each}
 use Rattle.ol_spec.proofs.RustPlaces.{calleeOf, sites-are, Home, home, keyAt, Lie, lie-all}
@@ -64,7 +67,7 @@ module _ (f : File) (vs : List Value) where
   unfolding Rust.eval
   rust-arrow k st a b step env at calls = refl
 
-  pre-first : (n : Node) (r : List ℕ) → isFresh r ≡ true → (x : ℕ) (calls : Calls) (cs : List Value) (seg : List ℕ) → evalOn f vs n r calls cs (S.pre (var x)) seg .out ≡ Out.Failure
+  pre-first : (n : Node) (r : List ℕ) → isFresh r ≡ true → (x : ℕ) (calls : Calls) (cs : List Value) (seg : List ℕ) → evalOn f vs n r calls cs (S.pre (var x)) seg .out ≡ Out.Failure Why.Cold
   unfolding eval
   pre-first n r e x calls cs seg = ap (λ b. preOf g (scope n (isFresh r) (oldCells n r) cs) b (var x)) e
 
@@ -78,6 +81,21 @@ module _ (f : File) (vs : List Value) where
   unfolding Rust.eval
   rust-pre k x st step env at calls = refl
 
+  -- in the Rust a `pre` is uninitialized exactly at a first tick
+  started : (st : State) (o : Option ℕ) → ¬ (pre-value st false o ≡ Err uninitialized-pre)
+  started st none h = let z : _≡_ {A = ℕ} 0 1 = cc in omega arith
+  started st (some x) h = go (get x (prev st)) h
+    where
+      go : (o : Option Value) → ¬ (ok-or other-error o ≡ Err uninitialized-pre)
+      go none h = let z : _≡_ {A = ℕ} 0 1 = cc in omega arith
+      go (some v) h = let z : _≡_ {A = ℕ} 0 1 = cc in omega arith
+
+  rust-cold-is : (k : ℕ) (st : State) (e : Expr) (step : StepInstance) (env : Env) (at : ℕ) (calls : States)
+      → (Rust.eval f step k env st at (S.pre e) calls .out ≡ Err uninitialized-pre) ↔ (Rust.cycle st ≡ 0)
+  unfolding Rust.eval
+  rust-cold-is k (state [] c) e step env at calls = (λ h. refl, λ z. refl)
+  rust-cold-is k (state (p ∷ ps) c) e step env at calls = (λ h. absurd (started (state (p ∷ ps) c) (nameIn e) h), λ z. absurd (omega arith))
+
   -- the old cells are those that pre gives
   cells-past : (R : ℕ → List ℕ → Option State → Type 0) (N : ℕ) (n : Node) (r : List ℕ) (st : State) (calls : States) → NodeRust f vs n → InstRel f vs R N n r st calls
       → oldCells n r ≡ cellsBefore (f .enums) n (sequenceIn st) (Rust.cycle st)
@@ -86,9 +104,9 @@ module _ (f : File) (vs : List Value) where
       sym (values-read f (defaultOf (f .enums)) (variables n) (oldCells n r) e (length-values (length (variables n)) (drop 1 r)) (facts .ok .distinct) (i .last))
       ∙ ap (λ o. map (λ v. maybe (defaultOf (f .enums) v) (λ w. w) (maybe none (get (v .name)) o)) (variables n)) (sym (newest e es))
 
-  at-past : (R : ℕ → List ℕ → Option State → Type 0) (N : ℕ) (n : Node) (r : List ℕ) (st : State) (calls : States) → NodeRust f vs n → InstRel f vs R N n r st calls
+  at-past : (counted : length vs ≡ length (constantNames f)) (R : ℕ → List ℕ → Option State → Type 0) (N : ℕ) (n : Node) (r : List ℕ) (st : State) (calls : States) → NodeRust f vs n → InstRel f vs R N n r st calls
       → AtPast f vs N n r st
-  at-past R N n r (state [] c) calls facts i =
+  at-past counted R N n r (state [] c) calls facts i =
       record {
         first = i .fresh;
         cells = cells-past R N n r (state [] c) calls facts i;
@@ -98,9 +116,12 @@ module _ (f : File) (vs : List Value) where
             arrow-is g (scope n (isFresh r) (oldCells n r) cs) calls a b seg ∙ ap (λ t. evalOn f vs n r calls cs (ifThenElse (boolLit t) a b) seg) (i .fresh);
         rust-before = λ x t step env at calls. rust-pre N x (state [] c) step env at calls;
         rust-constants = λ x t step env at calls. rust-pre N x (state [] c) step env at calls;
+        cold = λ d calls cs seg. cold-at g (scope n (isFresh r) (oldCells n r) cs) calls (Rust.cycle (state [] c)) (i .fresh) d seg;
+        rust-cold = rust-cold-is N (state [] c);
         rust-takes = rust-arrow N (state [] c);
       }
-  at-past R N n r (state (e ∷ es) c) calls facts i =
+  at-past counted R N n r (state (e ∷ es) c) calls facts i =
+      let constant-in : (x : ℕ) → T (member x (constantNames f)) → (v : Value) × (lookup x (constantNames f) vs ≡ some v) = λ x t. lookup-in x (constantNames f) vs (member-in x (constantNames f) t) counted in
       let names = variableNames n in
       let length-ok = length-values (length (variables n)) (drop 1 r) ∙ sym (length-map (variables n) nameOf) in
       let last-is : (x : ℕ) → x ∈ names → lookup x names (oldCells n r) ≡ sequenceIn (state (e ∷ es) c) x (length es) =
@@ -113,17 +134,22 @@ module _ (f : File) (vs : List Value) where
             let v = lookup-in x names (oldCells n r) m length-ok in
             pre-later n r (i .fresh) x calls cs seg
             ∙ ap (λ o. orFailure (orElse o (lookup x (constantNames f) vs))) (v .1)
-            ∙ ap orFailure (sym (v .1) ∙ last-is x m);
+            ∙ ap orCold (sym (v .1) ∙ last-is x m);
         constants = λ x t calls cs seg.
             pre-later n r (i .fresh) x calls cs seg
-            ∙ ap (λ o. orFailure (orElse o (lookup x (constantNames f) vs))) (lookup-out x names (oldCells n r) (λ m. facts .sorted .no-constant x m (member-in x (constantNames f) t)));
+            ∙ ap (λ o. orFailure (orElse o (lookup x (constantNames f) vs))) (lookup-out x names (oldCells n r) (λ m. facts .sorted .no-constant x m (member-in x (constantNames f) t)))
+            ∙ known (lookup x (constantNames f) vs) (constant-in x t);
         takes = λ a b calls cs seg.
             arrow-is g (scope n (isFresh r) (oldCells n r) cs) calls a b seg ∙ ap (λ t. evalOn f vs n r calls cs (ifThenElse (boolLit t) a b) seg) (i .fresh);
         rust-before = λ x t step env at calls.
             let m = member-in x names t in
-            rust-pre N x (state (e ∷ es) c) step env at calls ∙ ap (λ o. ofOutcome (orFailure o)) (i .old refl .vars x m ∙ last-is x m);
+            let v = lookup-in x names (oldCells n r) m length-ok in
+            rust-pre N x (state (e ∷ es) c) step env at calls ∙ ap (ok-or other-error) (i .old refl .vars x m ∙ v .1) ∙ ap (ok-or uninitialized-pre) (sym (v .1) ∙ last-is x m);
         rust-constants = λ x t step env at calls.
-            rust-pre N x (state (e ∷ es) c) step env at calls ∙ ap (λ o. ofOutcome (orFailure o)) (i .old refl .shared .consts x (member-in x (constantNames f) t));
+            let v = constant-in x t in
+            rust-pre N x (state (e ∷ es) c) step env at calls ∙ ap (ok-or other-error) (i .old refl .shared .consts x (member-in x (constantNames f) t) ∙ v .1) ∙ ap (ok-or uninitialized-pre) (sym (v .1));
+        cold = λ d calls cs seg. cold-at g (scope n (isFresh r) (oldCells n r) cs) calls (Rust.cycle (state (e ∷ es) c)) (i .fresh) d seg;
+        rust-cold = rust-cold-is N (state (e ∷ es) c);
         rust-takes = rust-arrow N (state (e ∷ es) c);
       }
 
@@ -141,7 +167,7 @@ module _ (f : File) (vs : List Value) where
     runs-past : (R : ℕ → List ℕ → Option State → Type 0) (N : ℕ) (n : Node) (r : List ℕ) (st : State) (calls : States) → NodeRust f vs n → InstRel f vs R N n r st calls
         → (inner : Calls) (ins : List Value) → run g inner n ins r ≡ runAt g inner n (sequenceIn st) (Rust.cycle st) ins (oldSegs g n r)
     runs-past R N n r st calls facts i inner ins =
-        run-is inner n ins r (firstly (Rust.cycle st)) _ (at-past R N n r st calls facts i .first) (at-past R N n r st calls facts i .cells)
+        run-is inner n ins r (firstly (Rust.cycle st)) _ (at-past (F .counted) R N n r st calls facts i .first) (at-past (F .counted) R N n r st calls facts i .cells)
 
     call-runs : (R : ℕ → List ℕ → Option State → Type 0) (k : ℕ) (r : List ℕ) (o : Option State) → k < length (f .nodes) → nodeAt g k .kind ≡ Operator
         → InstRel f vs R k (nodeAt g k) r (stateOr o) (child-calls (stateOr o)) → CallRuns f vs k (nodeAt g k) r o
@@ -227,7 +253,7 @@ module _ (f : File) (vs : List Value) where
         go Operator e i h = (
           call-runs (RelAt f vs d) k r o b e i,
           (
-            at-past (RelAt f vs d) k (nodeAt g k) r (stateOr o) (child-calls (stateOr o)) (F .nodes k b) i,
+            at-past (F .counted) (RelAt f vs d) k (nodeAt g k) r (stateOr o) (child-calls (stateOr o)) (F .nodes k b) i,
             every-in d k (nodeAt g k) h (drop (ownSize (nodeAt g k)) r) (child-calls (stateOr o)) (λ c m. omega (arith, F .callable .lower k c m)) (i .inner),
           ),
         )
@@ -239,7 +265,7 @@ module _ (f : File) (vs : List Value) where
         let r = drop (headSize f) old in (
           main-runs old sim h,
           (
-            at-past (RelAt f vs D) (D - 1) (main f) r (sim .state) (sim .call-states) (main-facts f vs A F) (h .inst),
+            at-past (F .counted) (RelAt f vs D) (D - 1) (main f) r (sim .state) (sim .call-states) (main-facts f vs A F) (h .inst),
             every-in D (D - 1) (main f) (every-site D) (drop (ownSize (main f)) r) (sim .call-states)
                 (λ c m. let q = F .callable .lower (D - 1) c (subst (λ x. c ∈ sites x) (is-main f vs A) m) in omega (arith, A .some-node)) (h .inst .inner),
           ),

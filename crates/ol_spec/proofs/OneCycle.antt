@@ -58,7 +58,7 @@ store-same (x ∷ l) d cs = ap (Y.store l (map (λ x. getD cs x d) l)) (set-getD
 
 out-values : (n : Node) (xs : List ℕ) (o : Outcomes) (us : List Value) → fitOuts n xs o ≡ Y.values us → (ws : List Value) × (o ≡ values ws) × (fitted n xs ws ≡ us)
 out-values n xs (values ws) us e = (ws, refl, cc)
-out-values n xs failure us e = let z : _≡_ {A = ℕ} 0 1 = cc in absurd (omega arith)
+out-values n xs (failure c) us e = let z : _≡_ {A = ℕ} 0 1 = cc in absurd (omega arith)
 out-values n xs overflow us e = let z : _≡_ {A = ℕ} 0 1 = cc in absurd (omega arith)
 
 pub same-values : {a b : List Value} → values a ≡ values b → a ≡ b
@@ -121,7 +121,7 @@ module _ (f : File) (vs : List Value) (ok : MainOk f vs) (old : List ℕ) where
           (λ q. yes (record { results = ws; succeeds = e; each = c; exactly = q }))
           (λ h. no (λ s. let z : s .results ≡ ws = same-values (sym (s .succeeds) ∙ e) in h (subst (λ u. assign n (equationAt n i .names) u ds ≡ ds) z (s .exactly)))))
           (λ h. no (λ s. let z : s .results ≡ ws = same-values (sym (s .succeeds) ∙ e) in h (ap length (sym z) ∙ s .each)))
-      go failure e = no (λ s. let q : values (s .results) ≡ failure = sym (s .succeeds) ∙ e in let z : _≡_ {A = ℕ} 0 1 = cc in omega arith)
+      go (failure c) e = no (λ s. let q : values (s .results) ≡ failure c = sym (s .succeeds) ∙ e in let z : _≡_ {A = ℕ} 0 1 = cc in omega arith)
       go overflow e = no (λ s. let q : values (s .results) ≡ overflow = sym (s .succeeds) ∙ e in let z : _≡_ {A = ℕ} 0 1 = cc in omega arith)
 
   -- ---- a slot and its name

@@ -14,12 +14,12 @@ use Rattle.ol_spec.specs.Syntax.{NodeKind, Function, Operator, Imported,
 use Rattle.ol_spec.specs.Cell.{cells, valuesOf}
 use Rattle.ol_spec.specs.Types.{defaultOf, defaults}
 use Rattle.ol_spec.specs.Order.{order}
-use Rattle.ol_spec.specs.Eval.{Globals, Evals, nodeAt}
+use Rattle.ol_spec.specs.Eval.{Globals, Evals, nodeAt, values}
 use Rattle.ol_spec.specs.Step.{sites, ownSize, isFresh, oldCells, outputsIn, startedRecord, fitAll, Ended, finished, failedAt, overflowedAt, Run, run, freshInstance, freshBy, freshAt, freshRecord, leaveOn, leave, instance, callBy, callsAt}
 use Rattle.ol_spec.specs.Admission.{constantNames, variants}
 use Rattle.ol_spec.specs.State.{globalsOf}
 use Rattle.ol_spec.specs.RustOrder.{evaluation-order}
-use Rattle.ol_spec.specs.RustSim.{Env, get, Key, State, state, States, noStates, getState, removeState, past, child-calls, prev, defaultState, tupleUnlessOne, Ok, Res, first-tick, Ran, for-order, insertFitted, insertDefaults, reseed, callee-env, extract-output, functionEnd, operatorEnd, endFunction, endOperator, stepKind, stepOrdered, step-instance}
+use Rattle.ol_spec.specs.RustSim.{Env, get, Key, State, state, States, noStates, getState, removeState, past, child-calls, prev, defaultState, tupleUnlessOne, Ok, Res, first-tick, Ran, for-order, insertFitted, insertDefaults, reseed, callee-env, extract-output, functionEnd, operatorEnd, endFunction, endOperator, stepKind, stepOrdered, step-instance, LoopEnd, done, other-error}
 use Rattle.ol_spec.specs.RustState.{stateOr}
 use Rattle.ol_spec.specs.declared.Value.{Value}
 use Rattle.ol_spec.specs.declared.Value.the-variants as Val
@@ -37,8 +37,8 @@ use Rattle.ol_spec.proofs.RustMaps.{get-append, state-hit, state-miss, 
 use Rattle.ol_spec.proofs.RustEnv.{lookup-left, lookup-right, Block, block-append, block-over, fitted-block, defaults-block, reseed-block, reseed-none, values-read}
 use Rattle.ol_spec.proofs.RustLeaves.{Single, fine-single}
 use Rattle.ol_spec.proofs.RustPlaces.{Home, home}
-use Rattle.ol_spec.proofs.RustEval.{Going, packOut, FlatRight, Outside, Each, Sites, sites-none, sites-cons, Seen, Globally, Steps, Callee}
-use Rattle.ol_spec.proofs.RustRun.{Rels, rels-split, rels-concat, Sorted, EnvFor, Sees, GoingEnd, RunFollows, for-follows}
+use Rattle.ol_spec.proofs.RustEval.{Going, TellsOne, packs, errs-one, panics-one, FlatRight, Outside, Each, Sites, sites-none, sites-cons, Seen, Globally, Steps, Callee}
+use Rattle.ol_spec.proofs.RustRun.{Rels, rels-split, rels-concat, Sorted, EnvFor, Sees, GoingEnd, RunFollows, for-follows, TellsEnd, ends, errs-at, panics-at}
 
 -- ---- what is known of a node of an admitted file, for the Rust
 
@@ -379,7 +379,7 @@ module _ (f : File) (vs : List Value) where
 
       -- a call, by the callee's kind
       record StepBy (t : NodeKind) (key : Key) (calls : States) (x : Evals) (y : Res) : Type 0 where
-        out : packOut (x .out) ≡ y .out
+        out : TellsOne (x .out) (y .out)
         rel : Going (y .out) → RelBy t (RelAt d) k (x .seg) (getState key (y .calls))
         others : (other : Key) → (t ≡ Operator → ¬ (other ≡ key)) → getState other (y .calls) ≡ getState other calls
 
@@ -388,8 +388,7 @@ module _ (f : File) (vs : List Value) where
           → StepBy Operator key states (instance g (callsAt g d) n ws r) (stepKind f (step-instance f d) Operator key k n (order (n .equations)) (callee-env f n ws consts) states)
       unfolding instance leave endOperator
       operator-step key ws r states consts fw lw inst i sh =
-          subst (λ e. StepBy Operator key states (leaveOn g n r (u .end) (u .cells) (u .segs)) (operatorEnd f n key sub e (v .env) (v .calls) (removeState key states))) (w .end)
-          (go (u .end) (λ e. w .env (sym (w .end) ∙ e)) (λ t. w .segs (subst GoingEnd (w .end) t)))
+          go (u .end) (v .end) (w .end) (w .env) (w .segs)
         where
           sub : State
           sub = stateOr (getState key states)
@@ -414,24 +413,24 @@ module _ (f : File) (vs : List Value) where
           new : State
           new = state (v .env ∷ past sub) (v .calls)
 
-          go : (e : Ended) → (e ≡ finished → EnvFor f vs n (u .cells) (v .env)) → (GoingEnd e → Rels g p (RelAt d) (home k n) (n .equations) 0 (u .segs) (v .calls))
-              → StepBy Operator key states (leaveOn g n r e (u .cells) (u .segs)) (operatorEnd f n key sub e (v .env) (v .calls) (removeState key states))
-          go finished a b =
+          go : (e : Ended) (l : LoopEnd) → TellsEnd e l → (l ≡ done → EnvFor f vs n (u .cells) (v .env)) → (GoingEnd l → Rels g p (RelAt d) (home k n) (n .equations) 0 (u .segs) (v .calls))
+              → StepBy Operator key states (leaveOn g n r e (u .cells) (u .segs)) (operatorEnd f n key sub l (v .env) (v .calls) (removeState key states))
+          go _ _ ends a b =
               record {
-                out = ap Ok (sym (outputs-read n (facts .ok .distinct) (u .cells) (v .env) (good .counted) (a refl .vars)));
+                out = subst (λ o. TellsOne (values (outputsIn n (u .cells))) (Ok o)) (sym (outputs-read n (facts .ok .distinct) (u .cells) (v .env) (good .counted) (a refl .vars))) (packs _);
                 rel = λ t.
                     subst (λ o. InstRel (RelAt d) k n (startedRecord (u .cells) (u .segs)) (stateOr o) (child-calls (stateOr o))) (sym (state-hit key new (removeState key states)))
                     (started-inst (RelAt d) k n (u .cells) (u .segs) (v .env) sub (v .calls) (v .calls) (F .counted) (good .fine) (good .counted)
                     (no-variants (RelAt d) k n r sub (child-calls sub) i) (a refl) (b tt));
                 others = λ other h. state-miss other key new (removeState key states) (h refl) ∙ removed-miss other key states (h refl);
               }
-          go (failedAt j) a b =
+          go _ _ (errs-at e j) a b =
               record {
-                out = refl;
+                out = errs-one e;
                 rel = λ t. subst (λ o. InstRel (RelAt d) k n (freshRecord g n) (stateOr o) (child-calls (stateOr o))) (sym (removed-hit key states)) (fresh-site d k b′);
                 others = λ other h. removed-miss other key states (h refl);
               }
-          go (overflowedAt j) a b = record { out = refl; rel = λ t. absurd t; others = λ other h. removed-miss other key states (h refl) }
+          go _ _ (panics-at j) a b = record { out = panics-one; rel = λ t. absurd t; others = λ other h. removed-miss other key states (h refl) }
 
       -- no Operator is called in a Function
       all-outside : (ks : List ℕ) (j : ℕ) (key : Key) → ((c : ℕ) → c ∈ ks → ¬ (nodeAt g c .kind ≡ Operator)) → Outside g (home k n) ks j key
@@ -447,8 +446,7 @@ module _ (f : File) (vs : List Value) where
           → StepBy Function key states (callBy g Function (callsAt g d) n ws r) (stepKind f (step-instance f d) Function key k n (order (n .equations)) (callee-env f n ws consts) states)
       unfolding instance leave endFunction
       function-step key ws r states consts is-function fw lw sh =
-          subst (λ e. StepBy Function key states (record { out = leaveOn g n (freshRecord g n) (u .end) (u .cells) (u .segs) .out; seg = r }) (functionEnd f n e (v .env) (v .calls))) (w .end)
-          (go (u .end) (λ e. w .env (sym (w .end) ∙ e)))
+          go (u .end) (v .end) (w .end) (w .env)
         where
           none-inside : (c : ℕ) → c ∈ sites n → ¬ (nodeAt g c .kind ≡ Operator)
           none-inside = facts .functional is-function
@@ -479,16 +477,16 @@ module _ (f : File) (vs : List Value) where
           kept : (other : Key) → getState other (v .calls) ≡ getState other states
           kept other = w .frame .same other (all-outside (sites n) 0 other none-inside)
 
-          go : (e : Ended) → (e ≡ finished → EnvFor f vs n (u .cells) (v .env))
-              → StepBy Function key states (record { out = leaveOn g n (freshRecord g n) e (u .cells) (u .segs) .out; seg = r }) (functionEnd f n e (v .env) (v .calls))
-          go finished a =
+          go : (e : Ended) (l : LoopEnd) → TellsEnd e l → (l ≡ done → EnvFor f vs n (u .cells) (v .env))
+              → StepBy Function key states (record { out = leaveOn g n (freshRecord g n) e (u .cells) (u .segs) .out; seg = r }) (functionEnd f n l (v .env) (v .calls))
+          go _ _ ends a =
               record {
-                out = ap Ok (sym (outputs-read n (facts .ok .distinct) (u .cells) (v .env) (good .counted) (a refl .vars)));
+                out = subst (λ o. TellsOne (values (outputsIn n (u .cells))) (Ok o)) (sym (outputs-read n (facts .ok .distinct) (u .cells) (v .env) (good .counted) (a refl .vars))) (packs _);
                 rel = λ t. tt;
                 others = λ other h. kept other;
               }
-          go (failedAt j) a = record { out = refl; rel = λ t. tt; others = λ other h. kept other }
-          go (overflowedAt j) a = record { out = refl; rel = λ t. tt; others = λ other h. kept other }
+          go _ _ (errs-at e j) a = record { out = errs-one e; rel = λ t. tt; others = λ other h. kept other }
+          go _ _ (panics-at j) a = record { out = panics-one; rel = λ t. tt; others = λ other h. kept other }
 
       ordered : evaluation-order n ≡ some (order (n .equations))
       ordered = order-is n ∙ ap (maybe (some (order (n .equations))) (λ i. none)) (facts .ok .placed .none-left)
@@ -504,13 +502,13 @@ module _ (f : File) (vs : List Value) where
               → StepBy t key states (callBy g t (callsAt g d) n ws r) (stepKind f (step-instance f d) t key k n (order (n .equations)) (callee-env f n ws consts) states)
           go Function e i = function-step key ws r states consts e fw lw sh
           go Operator e i = operator-step key ws r states consts fw lw (to-instance (F .callable) k r b′ e rec) i sh
-          go Imported e i = record { out = refl; rel = λ t. tt; others = λ other h. refl }
+          go Imported e i = record { out = errs-one other-error; rel = λ t. tt; others = λ other h. refl }
 
     -- ---- calls, so deep
 
     pub calls-follow : (d : ℕ) → Steps f (constantNames f) vs p (RelAt d) Q (mayEnter f vs) (callsAt g d) (step-instance f d)
     unfolding callsAt step-instance
-    calls-follow zero = record { steps = λ key k ws r states env t fw rec i sh. record { out = refl; record-is = λ t. tt; others = λ other h. refl } }
+    calls-follow zero = record { steps = λ key k ws r states env t fw rec i sh. record { out = errs-one other-error; record-is = λ t. tt; others = λ other h. refl } }
     calls-follow (suc d) =
         record {
           steps = λ key k ws r states env t fw rec i sh.

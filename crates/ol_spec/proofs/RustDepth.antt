@@ -11,7 +11,7 @@ use Rattle.ol_theory.specs.Member.{_∈_}
 use Rattle.ol_spec.specs.Lists.{maybe}
 use Rattle.ol_spec.specs.Syntax.{NodeKind, Function, Operator, Imported, Node, File, noNode, Expr, boolLit, intLit, floatLit, charLit, var, unary, binary, ifThenElse, pre, arrow, cast, call, tuple, Exprs, nil, cons, count}
 use Rattle.ol_spec.specs.Limits.{Loader}
-use Rattle.ol_spec.specs.Eval.{Outcomes, values, failure, overflow, callees, calleesAll}
+use Rattle.ol_spec.specs.Eval.{callees, calleesAll}
 use Rattle.ol_spec.specs.Step.{equationSites, sites, noEquation, equationAt}
 use Rattle.ol_spec.specs.RustOrder.{evaluation-order}
 use Rattle.ol_spec.specs.RustSim.{Env, Key, State, States, getState, removeState, child-calls, prev, defaultState, RValue, plain, Tuple, Result, Ok, Err, Panic, Res, Ress, thenOn, thenRes, pushOn, push, thenAllOn, thenAll, ifBool, step-untaken, Branch, choose, StepInstance, find-node, call-kind, call-arity, eval-call, eval, evalArgs, boundOn, bindOn, bindNext, bind-lhs, Ran, for-order, reseed, callee-env, endFunction, endOperator, stepKind, stepOrdered, step-instance}
@@ -28,29 +28,29 @@ then-same : (x x′ : Res) (k k′ : RValue → States → Res) → x ≡ x′ �
 unfolding thenRes
 then-same x x′ k k′ e h = go (x .out) (x .calls) ∙ ap (λ y. thenOn (y .out) (y .calls) k′) e
   where
-    go : (o : Result) (c : States) → thenOn o c k ≡ thenOn o c k′
+    go : (o : Result RValue) (c : States) → thenOn o c k ≡ thenOn o c k′
     go (Ok v) c = h v c
-    go Err c = refl
+    go (Err e) c = refl
     go Panic c = refl
 
 push-same : (x x′ : Res) (k k′ : States → Ress) → x ≡ x′ → ((c : States) → k c ≡ k′ c) → push x k ≡ push x′ k′
 unfolding push
 push-same x x′ k k′ e h = go (x .out) (x .calls) ∙ ap (λ y. pushOn (y .out) (y .calls) k′) e
   where
-    go : (o : Result) (c : States) → pushOn o c k ≡ pushOn o c k′
+    go : (o : Result RValue) (c : States) → pushOn o c k ≡ pushOn o c k′
     go (Ok (plain v)) c = ap (λ r. pushOn (Ok (plain v)) c (λ d. r)) (h c)
     go (Ok (Tuple vs)) c = refl
-    go Err c = refl
+    go (Err e) c = refl
     go Panic c = refl
 
 all-same : (x x′ : Ress) (k k′ : List Value → States → Res) → x ≡ x′ → ((vs : List Value) (c : States) → k vs c ≡ k′ vs c) → thenAll x k ≡ thenAll x′ k′
 unfolding thenAll
 all-same x x′ k k′ e h = go (x .out) (x .calls) ∙ ap (λ y. thenAllOn (y .out) (y .calls) k′) e
   where
-    go : (o : Outcomes) (c : States) → thenAllOn o c k ≡ thenAllOn o c k′
-    go (values vs) c = h vs c
-    go failure c = refl
-    go overflow c = refl
+    go : (o : Result (List Value)) (c : States) → thenAllOn o c k ≡ thenAllOn o c k′
+    go (Ok vs) c = h vs c
+    go (Err e) c = refl
+    go Panic c = refl
 
 if-same : (k k′ : Bool → States → Res) (v : RValue) (c : States) → ((b : Bool) → k b c ≡ k′ b c) → ifBool k v c ≡ ifBool k′ v c
 unfolding ifBool
@@ -139,9 +139,9 @@ bind-same f n i r r′ k k′ env e h = go (r .out) ∙ ap (λ (y : Res). bindOn
     stored none = refl
     stored (some e) = h e (r .calls)
 
-    go : (o : Result) → bindOn f n i o (r .calls) k env ≡ bindOn f n i o (r .calls) k′ env
+    go : (o : Result RValue) → bindOn f n i o (r .calls) k env ≡ bindOn f n i o (r .calls) k′ env
     go (Ok v) = stored (bind-lhs f n (equationAt n i .names) v env)
-    go Err = refl
+    go (Err e) = refl
     go Panic = refl
 
 module _ (f : File) (lower : (k c : ℕ) → c ∈ sites (getD (f .nodes) k noNode) → c < k) where

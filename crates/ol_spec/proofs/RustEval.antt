@@ -17,15 +17,15 @@ use Rattle.ol_spec.specs.Types.{castTo}
 use Rattle.ol_spec.specs.Operators.{unaryOf, binaryOf}
 use Rattle.ol_spec.specs.Eval.{Globals, Scope, Calls, Eval, Evals, Outcomes, values, failure, overflow, Branch, Branches, callees, calleesAll, notReal, kindOfValue, firstType, arithmetic, join, isDouble?, nodeAt, recordSize, sitesSize, eval, evalAll, evalRhs, next, nextOn, nextAll, nextAllOn, condition, choose, branchesOn, untaken, dropFailure, commonReal, enter, enterOn, single, singleEval, several, severalEval, consOut, orFailure, thenOut, mapEval, presentOf, beforeOf, preOf, realKind}
 use Rattle.ol_spec.specs.Step.{globals}
-use Rattle.ol_spec.specs.RustSim.{width, Env, get, Key, State, States, getState, prev, RValue, plain, Tuple, Result, Ok, Err, Panic, ofOutcome, tupleUnlessOne, discard, common-real, Res, Ress, thenOn, thenRes, pushOn, push, thenAllOn, thenAll, ifBool, first-tick, step-untaken, take-branch, StepInstance, enum-variant-value, first-kind, real-kind, pre-value, eval-call, call-arity, call-kind}
+use Rattle.ol_spec.specs.RustSim.{width, Env, get, Key, State, States, getState, prev, RValue, plain, Tuple, SimError, uninitialized-pre, other-error, Result, Ok, Err, Panic, ok-or, tupleUnlessOne, pushed, discard, common-real, Res, Ress, thenOn, thenRes, pushOn, push, thenAllOn, thenAll, ifBool, first-tick, step-untaken, take-branch, StepInstance, enum-variant-value, first-kind, real-kind, pre-value, eval-call, call-arity, call-kind}
 use Rattle.ol_spec.specs.RustSim as Rust
 use Rattle.ol_spec.specs.RustState.{calls-in, calls-all}
-use Rattle.ol_spec.specs.RustLeaves.{eval-unary, eval-binary, cast-value, join-kinds, of-value, is-double, widen-beside}
+use Rattle.ol_spec.specs.RustLeaves.{eval-unary, eval-binary, cast-value, join-kinds, of-value, is-double, widen-beside, unary-value, eval-values, cast-plain}
 use Rattle.ol_spec.specs.declared.Value.{Value}
 use Rattle.ol_spec.specs.declared.Value.the-variants as Val
 use Rattle.ol_spec.specs.declared.Outcome.{Outcome}
 use Rattle.ol_spec.specs.declared.Outcome.the-variants as Out
-use Rattle.ol_spec.proofs.RustLeaves.{Single, unary-is, binary-is, cast-is, join-is, type-is, value-is, double-is, arithmetic-is, widen-is, call-is as calling-is}
+use Rattle.ol_spec.proofs.RustLeaves.{Single, causeOf, Tells, gives, errs, panics, tells-in, unary-is, binary-is, cast-is, join-is, type-is, value-is, double-is, arithmetic-is, widen-is, call-is as calling-is}
 use Rattle.ol_spec.proofs.RustPlaces.{Home, keyAt, same-site, Lie, lie-next}
 use Rattle.ol_spec.proofs.Tests.{T-true}
 use Rattle.ol_spec.proofs.Lists.{All}
@@ -33,23 +33,23 @@ use Rattle.ol_spec.proofs.Rights.{by-right}
 use Rattle.ol_spec.proofs.Values.{Gives, cond-T}
 use Rattle.ol_spec.proofs.Segments.{Rec, Good, none-good, head-good, cons-good, Plain, PlainAll, Sound, GivesAll, eval-meets, evalAll-meets, rhs-meets, nil-good}
 
--- what a right side or a call gives
-abbrev pub packOut : Outcomes → Result
-packOut (values ws) = Ok (tupleUnlessOne ws)
-packOut failure = Err
-packOut overflow = Panic
+-- several values over bytes and the Rust's; and what a right side or a call gives
+pub data TellsAll : Outcomes → Result (List Value) → Type 0 where
+  gives-all : (vs : List Value) → TellsAll (values vs) (Ok vs)
+  errs-all : (e : SimError) → TellsAll (failure (causeOf e)) (Err e)
+  panics-all : TellsAll overflow Panic
+
+pub data TellsOne : Outcomes → Result RValue → Type 0 where
+  packs : (vs : List Value) → TellsOne (values vs) (Ok (tupleUnlessOne vs))
+  errs-one : (e : SimError) → TellsOne (failure (causeOf e)) (Err e)
+  panics-one : TellsOne overflow Panic
 
 -- ---- the results after which the Rust goes on, all but a panic
 
-abbrev pub Going : Result → Type 0
+abbrev pub Going : {A : Type 0} → Result A → Type 0
 Going (Ok v) = Unit {0}
-Going Err = Unit {0}
+Going (Err e) = Unit {0}
 Going Panic = ⊥
-
-abbrev pub GoingAll : Outcomes → Type 0
-GoingAll (values vs) = Unit {0}
-GoingAll failure = Unit {0}
-GoingAll overflow = ⊥
 
 -- a key that is none of an Operator's among these call sites of node number N
 module _ (g : Globals) (N : Home) where
@@ -80,28 +80,28 @@ abbrev CountOne : Outcomes → Type 0
 CountOne (values []) = ⊥
 CountOne (values (v ∷ [])) = Unit {0}
 CountOne (values (v ∷ w ∷ vs)) = ⊥
-CountOne failure = Unit {0}
+CountOne (failure c) = Unit {0}
 CountOne overflow = Unit {0}
 
 abbrev CountMany : Outcomes → Type 0
 CountMany (values []) = ⊥
 CountMany (values (v ∷ [])) = ⊥
 CountMany (values (v ∷ w ∷ vs)) = Unit {0}
-CountMany failure = Unit {0}
+CountMany (failure c) = Unit {0}
 CountMany overflow = Unit {0}
 
 count-one : (Q : Value → Type 0) (n : ℕ) (o : Outcomes) → n ≡ 1 → GivesAll Q n o → CountOne o
 count-one Q n (values []) e h = absurd (omega (arith, h .1))
 count-one Q n (values (v ∷ [])) e h = tt
 count-one Q n (values (v ∷ w ∷ vs)) e h = absurd (omega (arith, h .1))
-count-one Q n failure e h = tt
+count-one Q n (failure c) e h = tt
 count-one Q n overflow e h = tt
 
 count-many : (Q : Value → Type 0) (n : ℕ) (o : Outcomes) → 2 ≤ n → GivesAll Q n o → CountMany o
 count-many Q n (values []) e h = absurd (omega (arith, h .1))
 count-many Q n (values (v ∷ [])) e h = absurd (omega (arith, h .1))
 count-many Q n (values (v ∷ w ∷ vs)) e h = tt
-count-many Q n failure e h = tt
+count-many Q n (failure c) e h = tt
 count-many Q n overflow e h = tt
 
 -- ---- the records of call sites and the states by key: `R` is what holds of a record and the state at its key, `N` the number of the node whose call sites these are
@@ -125,24 +125,24 @@ module _ (g : Globals) (p : ℕ → List ℕ → Bool) (R : ℕ → List ℕ →
 
   -- an evaluation over bytes and the Rust's
   pub record Follows (ks : List ℕ) (j : ℕ) (calls : States) (b : Eval) (r : Res) : Type 0 where
-    pub out : ofOutcome (b .out) ≡ r .out
+    pub out : Tells (b .out) (r .out)
     pub sites : Going (r .out) → Sites ks j (b .seg) (r .calls)
     pub frame : Frame g N ks j calls (r .calls)
 
   pub record FollowsAll (ks : List ℕ) (j : ℕ) (calls : States) (b : Evals) (r : Ress) : Type 0 where
-    pub out : b .out ≡ r .out
-    pub sites : GoingAll (r .out) → Sites ks j (b .seg) (r .calls)
+    pub out : TellsAll (b .out) (r .out)
+    pub sites : Going (r .out) → Sites ks j (b .seg) (r .calls)
     pub frame : Frame g N ks j calls (r .calls)
 
   -- a right side, or a call
   pub record FollowsOne (ks : List ℕ) (j : ℕ) (calls : States) (b : Evals) (r : Res) : Type 0 where
-    pub out : packOut (b .out) ≡ r .out
+    pub out : TellsOne (b .out) (r .out)
     pub sites : Going (r .out) → Sites ks j (b .seg) (r .calls)
     pub frame : Frame g N ks j calls (r .calls)
 
   -- the taken branch's call sites and the other's
   record Both (ks : List ℕ) (j : ℕ) (ks′ : List ℕ) (j′ : ℕ) (calls : States) (b : Branches) (r : Res) : Type 0 where
-    out : ofOutcome (b .out) ≡ r .out
+    out : Tells (b .out) (r .out)
     taken : Going (r .out) → Sites ks j (b .taken) (r .calls)
     other : Going (r .out) → Sites ks′ j′ (b .other) (r .calls)
     frame : (key : Key) → Outside g N ks j key → Outside g N ks′ j′ key → getState key (r .calls) ≡ getState key calls
@@ -209,8 +209,7 @@ module _ {g : Globals} {p : ℕ → List ℕ → Bool} {R : ℕ → List ℕ →
       → ((v : Value) → Q v → (c : States) → Sites g p R N b (j + length a) rest c → Follows g p R N b (j + length a) c (k v rest) (k′ (plain v) c))
       → Follows g p R N (a ++ b) j calls (next x k rest) (thenRes y k′)
   unfolding next thenRes
-  next-follows a b j calls x y k k′ rest h Q gives q f =
-      subst (λ o. Follows g p R N (a ++ b) j calls (nextOn (x .out) (x .seg) k rest) (thenOn o (y .calls) k′)) (h .out) (go (x .out) gives (λ t. h .sites (subst Going (h .out) t)))
+  next-follows a b j calls x y k k′ rest h Q given q f = go (x .out) (y .out) (h .out) given (h .sites)
     where
       later : Sites g p R N b (j + length a) rest (y .calls)
       later = keep-behind (omega arith) (h .frame) q
@@ -218,30 +217,28 @@ module _ {g : Globals} {p : ℕ → List ℕ → Bool} {R : ℕ → List ℕ →
       before : Frame g N (a ++ b) j calls (y .calls)
       before = record { same = λ key o. h .frame .same key (outside-parts g N a b j key o .0) }
 
-      go : (o : Outcome) → Gives Q o → (Going (ofOutcome o) → Sites g p R N a j (x .seg) (y .calls)) → Follows g p R N (a ++ b) j calls (nextOn o (x .seg) k rest) (thenOn (ofOutcome o) (y .calls) k′)
-      go (Out.Value v) m s =
+      go : (o : Outcome) (r : Result RValue) → Tells o r → Gives Q o → (Going r → Sites g p R N a j (x .seg) (y .calls)) → Follows g p R N (a ++ b) j calls (nextOn o (x .seg) k rest) (thenOn r (y .calls) k′)
+      go _ _ (gives v) m s =
           let w = f v m (y .calls) later in
           record {
             out = w .out;
             sites = λ t. sites-joined a (keep-before (omega arith) (w .frame) (s tt)) (w .sites t);
             frame = record { same = λ key o. w .frame .same key (outside-parts g N a b j key o .1) ∙ before .same key o };
           }
-      go Out.Failure m s = record { out = refl; sites = λ t. sites-joined a (s tt) later; frame = before }
-      go Out.Overflow m s = record { out = refl; sites = λ t. absurd t; frame = before }
+      go _ _ (errs e) m s = record { out = errs e; sites = λ t. sites-joined a (s tt) later; frame = before }
+      go _ _ panics m s = record { out = panics; sites = λ t. absurd t; frame = before }
 
   -- a leaf on one operand
-  map-follows : (a : List ℕ) (j : ℕ) (calls : States) (x : Eval) (y : Res) (k : Value → Outcome) (k′ : RValue → Result) (Q : Value → Type 0) → ((v : Value) → Q v → k′ (plain v) ≡ ofOutcome (k v))
+  map-follows : (a : List ℕ) (j : ℕ) (calls : States) (x : Eval) (y : Res) (k : Value → Outcome) (k′ : RValue → Result RValue) (Q : Value → Type 0) → ((v : Value) → Q v → Tells (k v) (k′ (plain v)))
       → Gives Q (x .out) → Follows g p R N a j calls x y → Follows g p R N a j calls (mapEval k x) (thenRes y (λ v c. record { out = k′ v; calls = c }))
   unfolding thenRes
-  map-follows a j calls x y k k′ Q e gives h =
-      subst (λ o. Follows g p R N a j calls (mapEval k x) (thenOn o (y .calls) (λ v c. record { out = k′ v; calls = c }))) (h .out)
-      (go (x .out) gives (λ t. h .sites (subst Going (h .out) t)))
+  map-follows a j calls x y k k′ Q e given h = go (x .out) (y .out) (h .out) given (h .sites)
     where
-      go : (o : Outcome) → Gives Q o → (Going (ofOutcome o) → Sites g p R N a j (x .seg) (y .calls))
-          → Follows g p R N a j calls (record { out = thenOut k o; seg = x .seg }) (thenOn (ofOutcome o) (y .calls) (λ v c. record { out = k′ v; calls = c }))
-      go (Out.Value v) m s = record { out = sym (e v m); sites = λ t. s tt; frame = h .frame }
-      go Out.Failure m s = record { out = refl; sites = λ t. s tt; frame = h .frame }
-      go Out.Overflow m s = record { out = refl; sites = λ t. absurd t; frame = h .frame }
+      go : (o : Outcome) (r : Result RValue) → Tells o r → Gives Q o → (Going r → Sites g p R N a j (x .seg) (y .calls))
+          → Follows g p R N a j calls (record { out = thenOut k o; seg = x .seg }) (thenOn r (y .calls) (λ v c. record { out = k′ v; calls = c }))
+      go _ _ (gives v) m s = record { out = e v m; sites = λ t. s tt; frame = h .frame }
+      go _ _ (errs e) m s = record { out = errs e; sites = λ t. s tt; frame = h .frame }
+      go _ _ panics m s = record { out = panics; sites = λ t. absurd t; frame = h .frame }
 
   push-follows : (a b : List ℕ) (j : ℕ) (calls : States) (x : Eval) (y : Res) (k : List ℕ → Evals) (k′ : States → Ress) (rest : List ℕ)
       → Follows g p R N a j calls x y → Sites g p R N b (j + length a) rest calls
@@ -249,7 +246,7 @@ module _ {g : Globals} {p : ℕ → List ℕ → Bool} {R : ℕ → List ℕ →
       → FollowsAll g p R N (a ++ b) j calls (nextAll x k rest) (push y k′)
   unfolding nextAll push
   push-follows a b j calls x y k k′ rest h q f =
-      subst (λ o. FollowsAll g p R N (a ++ b) j calls (nextAllOn (x .out) (x .seg) k rest) (pushOn o (y .calls) k′)) (h .out) (go (x .out) (λ t. h .sites (subst Going (h .out) t)))
+      go (x .out) (y .out) (h .out) (h .sites)
     where
       later : Sites g p R N b (j + length a) rest (y .calls)
       later = keep-behind (omega arith) (h .frame) q
@@ -257,21 +254,27 @@ module _ {g : Globals} {p : ℕ → List ℕ → Bool} {R : ℕ → List ℕ →
       before : Frame g N (a ++ b) j calls (y .calls)
       before = record { same = λ key o. h .frame .same key (outside-parts g N a b j key o .0) }
 
-      going : (v : Value) (o : Outcomes) → GoingAll (consOut v o) → GoingAll o
-      going v (values vs) t = tt
-      going v failure t = tt
-      going v overflow t = t
+      going : (v : Value) (o : Result (List Value)) → Going (pushed v o) → Going o
+      going v (Ok vs) t = tt
+      going v (Err e) t = tt
+      going v Panic t = t
 
-      go : (o : Outcome) → (Going (ofOutcome o) → Sites g p R N a j (x .seg) (y .calls)) → FollowsAll g p R N (a ++ b) j calls (nextAllOn o (x .seg) k rest) (pushOn (ofOutcome o) (y .calls) k′)
-      go (Out.Value v) s =
+      joined : (v : Value) (o : Outcomes) (r : Result (List Value)) → TellsAll o r → TellsAll (consOut v o) (pushed v r)
+      joined v _ _ (gives-all vs) = gives-all (v ∷ vs)
+      joined v _ _ (errs-all e) = errs-all e
+      joined v _ _ panics-all = panics-all
+
+      go : (o : Outcome) (r : Result RValue) → Tells o r → (Going r → Sites g p R N a j (x .seg) (y .calls))
+          → FollowsAll g p R N (a ++ b) j calls (nextAllOn o (x .seg) k rest) (pushOn r (y .calls) k′)
+      go _ _ (gives v) s =
           let w = f (y .calls) later in
           record {
-            out = ap (consOut v) (w .out);
+            out = joined v _ _ (w .out);
             sites = λ t. sites-joined a (keep-before (omega arith) (w .frame) (s tt)) (w .sites (going v (k′ (y .calls) .out) t));
             frame = record { same = λ key o. w .frame .same key (outside-parts g N a b j key o .1) ∙ before .same key o };
           }
-      go Out.Failure s = record { out = refl; sites = λ t. sites-joined a (s tt) later; frame = before }
-      go Out.Overflow s = record { out = refl; sites = λ t. absurd t; frame = before }
+      go _ _ (errs e) s = record { out = errs-all e; sites = λ t. sites-joined a (s tt) later; frame = before }
+      go _ _ panics s = record { out = panics-all; sites = λ t. absurd t; frame = before }
 
   -- ---- branches: their call sites stand apart
 
@@ -281,22 +284,22 @@ module _ {g : Globals} {p : ℕ → List ℕ → Bool} {R : ℕ → List ℕ →
   unfolding step-untaken
   untaken-follows a b i j calls true v seg o run far x y f =
       record {
-        out = dropped (o .run (o .seg) .out) ∙ ap (discard (plain v)) (f .out);
+        out = dropped _ _ (f .out);
         taken = λ t. ⊎-elim (λ h. keep-before h (f .frame) x) (λ h. keep-behind h (f .frame) x) far;
         other = λ t. f .sites (going (run calls .out) t);
         frame = λ key m n. f .frame .same key n;
       }
     where
-      dropped : (w : Outcome) → ofOutcome (dropFailure v w) ≡ discard (plain v) (ofOutcome w)
-      dropped (Out.Value u) = refl
-      dropped Out.Failure = refl
-      dropped Out.Overflow = refl
+      dropped : (w : Outcome) (r : Result RValue) → Tells w r → Tells (dropFailure v w) (discard (plain v) r)
+      dropped _ _ (gives u) = gives v
+      dropped _ _ (errs e) = gives v
+      dropped _ _ panics = panics
 
-      going : (w : Result) → Going (discard (plain v) w) → Going w
+      going : (w : Result RValue) → Going (discard (plain v) w) → Going w
       going (Ok u) t = tt
-      going Err t = tt
+      going (Err e) t = tt
       going Panic t = t
-  untaken-follows a b i j calls false v seg o run far x y f = record { out = refl; taken = λ t. x; other = λ t. y; frame = λ key m n. refl }
+  untaken-follows a b i j calls false v seg o run far x y f = record { out = gives v; taken = λ t. x; other = λ t. y; frame = λ key m n. refl }
 
   -- the branch that is taken, then the other one
   branches-follow : (a b : List ℕ) (i j : ℕ) (calls : States) (x : Eval) (y : Branch) (x′ y′ : Rust.Branch) → (i + length a ≤ j) ⊎ (j + length b ≤ i)
@@ -305,8 +308,7 @@ module _ {g : Globals} {p : ℕ → List ℕ → Bool} {R : ℕ → List ℕ →
       → Both g p R N a i b j calls (branchesOn (x .out) (x .seg) y) (take-branch x′ y′ calls)
   unfolding thenRes
   branches-follow a b i j calls x y x′ y′ far h q ec ew f =
-      subst (λ o. Both g p R N a i b j calls (branchesOn (x .out) (x .seg) y) (thenOn o (x′ .run calls .calls) (λ v c. step-untaken (y′ .has-call) (y′ .run) (common-real (y′ .double) v) c)))
-      (h .out) (go (x .out) (λ t. h .sites (subst Going (h .out) t)))
+      go (x .out) (x′ .run calls .out) (h .out) (h .sites)
     where
       after : States
       after = x′ .run calls .calls
@@ -314,16 +316,16 @@ module _ {g : Globals} {p : ℕ → List ℕ → Bool} {R : ℕ → List ℕ →
       later : Sites g p R N b j (y .seg) after
       later = ⊎-elim (λ l. keep-behind l (h .frame) q) (λ l. keep-before l (h .frame) q) far
 
-      go : (o : Outcome) → (Going (ofOutcome o) → Sites g p R N a i (x .seg) after)
-          → Both g p R N a i b j calls (branchesOn o (x .seg) y) (thenOn (ofOutcome o) after (λ v c. step-untaken (y′ .has-call) (y′ .run) (common-real (y′ .double) v) c))
-      go (Out.Value v) s =
+      go : (o : Outcome) (r : Result RValue) → Tells o r → (Going r → Sites g p R N a i (x .seg) after)
+          → Both g p R N a i b j calls (branchesOn o (x .seg) y) (thenOn r after (λ v c. step-untaken (y′ .has-call) (y′ .run) (common-real (y′ .double) v) c))
+      go _ _ (gives v) s =
           let w = untaken-follows a b i j after (y .calls) (commonReal (y .wide) v) (x .seg) y (y′ .run) far (s tt) later (f after later) in
           let e : step-untaken (y .calls) (y′ .run) (plain (commonReal (y .wide) v)) after ≡ step-untaken (y′ .has-call) (y′ .run) (plain (widen-beside (y′ .double) v)) after =
           ap₂ (λ c d. step-untaken c (y′ .run) (plain (commonReal d v)) after) ec ew ∙ ap (λ v. step-untaken (y′ .has-call) (y′ .run) (plain v) after) (sym (widen-is (y′ .double) v)) in
           let u = subst (Both g p R N a i b j after (untaken (y .calls) (commonReal (y .wide) v) (x .seg) y)) e w in
           record { out = u .out; taken = u .taken; other = u .other; frame = λ key m n. u .frame key m n ∙ h .frame .same key m }
-      go Out.Failure s = record { out = refl; taken = λ t. s tt; other = λ t. later; frame = λ key m n. h .frame .same key m }
-      go Out.Overflow s = record { out = refl; taken = λ t. absurd t; other = λ t. absurd t; frame = λ key m n. h .frame .same key m }
+      go _ _ (errs e) s = record { out = errs e; taken = λ t. s tt; other = λ t. later; frame = λ key m n. h .frame .same key m }
+      go _ _ panics s = record { out = panics; taken = λ t. absurd t; other = λ t. absurd t; frame = λ key m n. h .frame .same key m }
 
   choose-follows : (a b : List ℕ) (j : ℕ) (calls : States) (t : Bool) (x y : Branch) (x′ y′ : Rust.Branch)
       → Sites g p R N a j (x .seg) calls → Sites g p R N b (j + length a) (y .seg) calls → x .calls ≡ x′ .has-call → x .wide ≡ x′ .double → y .calls ≡ y′ .has-call → y .wide ≡ y′ .double
@@ -342,43 +344,44 @@ module _ {g : Globals} {p : ℕ → List ℕ → Bool} {R : ℕ → List ℕ →
       → ((t : Bool) → Follows g p R N b j calls (k t rest) (k′ t calls)) → Follows g p R N b j calls (condition k v rest) (ifBool k′ (plain v) calls)
   unfolding condition ifBool
   condition-follows b j calls k k′ (Val.Bool t) rest q h = h t
-  condition-follows b j calls k k′ (Val.Int i) rest q h = record { out = refl; sites = λ t. q; frame = record { same = λ key o. refl } }
-  condition-follows b j calls k k′ (Val.Float x) rest q h = record { out = refl; sites = λ t. q; frame = record { same = λ key o. refl } }
-  condition-follows b j calls k k′ (Val.Float32 x) rest q h = record { out = refl; sites = λ t. q; frame = record { same = λ key o. refl } }
-  condition-follows b j calls k k′ (Val.Enum v) rest q h = record { out = refl; sites = λ t. q; frame = record { same = λ key o. refl } }
+  condition-follows b j calls k k′ (Val.Int i) rest q h = record { out = errs other-error; sites = λ t. q; frame = record { same = λ key o. refl } }
+  condition-follows b j calls k k′ (Val.Float x) rest q h = record { out = errs other-error; sites = λ t. q; frame = record { same = λ key o. refl } }
+  condition-follows b j calls k k′ (Val.Float32 x) rest q h = record { out = errs other-error; sites = λ t. q; frame = record { same = λ key o. refl } }
+  condition-follows b j calls k k′ (Val.Enum v) rest q h = record { out = errs other-error; sites = λ t. q; frame = record { same = λ key o. refl } }
 
   single-follows : (a : List ℕ) (j : ℕ) (calls : States) (x : Evals) (y : Res) → CountOne (x .out) → FollowsOne g p R N a j calls x y → Follows g p R N a j calls (singleEval x) y
-  single-follows a j calls x y n h = record { out = go (x .out) n ∙ h .out; sites = h .sites; frame = h .frame }
+  single-follows a j calls x y n h = record { out = go _ _ n (h .out); sites = h .sites; frame = h .frame }
     where
-      go : (o : Outcomes) → CountOne o → ofOutcome (single o) ≡ packOut o
-      go (values []) n = absurd n
-      go (values (v ∷ [])) n = refl
-      go (values (v ∷ w ∷ vs)) n = absurd n
-      go failure n = refl
-      go overflow n = refl
+      go : (o : Outcomes) (r : Result RValue) → CountOne o → TellsOne o r → Tells (single o) r
+      go _ _ n (packs []) = absurd n
+      go _ _ n (packs (v ∷ [])) = gives v
+      go _ _ n (packs (v ∷ w ∷ vs)) = absurd n
+      go _ _ n (errs-one e) = errs e
+      go _ _ n panics-one = panics
 
   several-follows : (a : List ℕ) (j : ℕ) (calls : States) (x : Eval) (y : Res) → Follows g p R N a j calls x y → FollowsOne g p R N a j calls (severalEval x) y
-  several-follows a j calls x y h = record { out = go (x .out) ∙ h .out; sites = h .sites; frame = h .frame }
+  several-follows a j calls x y h = record { out = go _ _ (h .out); sites = h .sites; frame = h .frame }
     where
-      go : (o : Outcome) → packOut (several o) ≡ ofOutcome o
-      go (Out.Value v) = refl
-      go Out.Failure = refl
-      go Out.Overflow = refl
+      go : (o : Outcome) (r : Result RValue) → Tells o r → TellsOne (several o) r
+      go _ _ (gives v) = packs (v ∷ [])
+      go _ _ (errs e) = errs-one e
+      go _ _ panics = panics-one
 
   tuple-follows : (a : List ℕ) (j : ℕ) (calls : States) (x : Evals) (y : Ress) → CountMany (x .out) → FollowsAll g p R N a j calls x y
       → FollowsOne g p R N a j calls x (thenAll y (λ ws c. record { out = Ok (Tuple ws); calls = c }))
   unfolding thenAll
-  tuple-follows a j calls x y n h =
-      subst (λ o. FollowsOne g p R N a j calls x (thenAllOn o (y .calls) (λ ws c. record { out = Ok (Tuple ws); calls = c }))) (h .out)
-      (go (x .out) refl n (λ t. h .sites (subst GoingAll (h .out) t)))
+  tuple-follows a j calls x y n h = let w = go (x .out) (y .out) (h .out) n (h .sites) in record { out = w .0; sites = w .1; frame = w .2 }
     where
-      go : (o : Outcomes) → x .out ≡ o → CountMany o → (GoingAll o → Sites g p R N a j (x .seg) (y .calls))
-          → FollowsOne g p R N a j calls x (thenAllOn o (y .calls) (λ ws c. record { out = Ok (Tuple ws); calls = c }))
-      go (values []) e n s = absurd n
-      go (values (v ∷ [])) e n s = absurd n
-      go (values (v ∷ w ∷ vs)) e n s = record { out = ap packOut e; sites = λ t. s tt; frame = h .frame }
-      go failure e n s = record { out = ap packOut e; sites = λ t. s tt; frame = h .frame }
-      go overflow e n s = record { out = ap packOut e; sites = λ t. absurd t; frame = h .frame }
+      made : Result (List Value) → Res
+      made r = thenAllOn r (y .calls) (λ ws c. record { out = Ok (Tuple ws); calls = c })
+
+      go : (o : Outcomes) (r : Result (List Value)) → TellsAll o r → CountMany o → (Going r → Sites g p R N a j (x .seg) (y .calls))
+          → TellsOne o (made r .out) × (Going (made r .out) → Sites g p R N a j (x .seg) (made r .calls)) × Frame g N a j calls (made r .calls)
+      go _ _ (gives-all []) n s = absurd n
+      go _ _ (gives-all (v ∷ [])) n s = absurd n
+      go _ _ (gives-all (v ∷ w ∷ vs)) n s = (packs (v ∷ w ∷ vs), λ t. s tt, h .frame)
+      go _ _ (errs-all e) n s = (errs-one e, λ t. s tt, h .frame)
+      go _ _ panics-all n s = (panics-one, λ t. absurd t, h .frame)
 
 -- ---- names
 
@@ -467,7 +470,7 @@ module _ (f : File) (xs : List ℕ) (vs : List Value) where
   module _ (p : ℕ → List ℕ → Bool) (R : ℕ → List ℕ → Option State → Type 0) (Q : Value → Type 0) where
     -- a call
     pub record Stepped (key : Key) (k : ℕ) (calls : States) (b : Evals) (r : Res) : Type 0 where
-      pub out : packOut (b .out) ≡ r .out
+      pub out : TellsOne (b .out) (r .out)
       pub record-is : Going (r .out) → R k (b .seg) (getState key (r .calls))
       pub others : (other : Key) → (nodeAt G k .kind ≡ Operator → ¬ (other ≡ key)) → getState other (r .calls) ≡ getState other calls
 
@@ -519,15 +522,21 @@ module _ (f : File) (xs : List ℕ) (vs : List Value) where
     doubles : (e : Expr) → Seen S e → isDouble? (realKind G s e) ≡ is-double (real-kind f e env)
     doubles e h = ap isDouble? (kinds e h) ∙ sym (double-is (real-kind f e env))
 
-    pre-same : (e : Expr) → Seen S e → ofOutcome (preOf G s (s .first) e) ≡ pre-value st (first-tick st) (nameIn e)
+    ok-or-tells : (o : Option Value) → Tells (orFailure o) (ok-or other-error o)
+    ok-or-tells none = errs other-error
+    ok-or-tells (some v) = gives v
+
+    pre-same : (e : Expr) → Seen S e → Tells (preOf G s (s .first) e) (pre-value st (first-tick st) (nameIn e))
     pre-same e h = go (first-tick st) (agrees .first) (nameIn e) refl (seen-name S e h)
       where
-        go : (b : Bool) → b ≡ s .first → (o : Option ℕ) → nameIn e ≡ o → IfName S o → ofOutcome (preOf G s (s .first) e) ≡ pre-value st b o
-        go true q o n h = ap (λ b. ofOutcome (preOf G s b e)) (sym q)
-        go false q none n h = ap (λ b. ofOutcome (preOf G s b e)) (sym q) ∙ ap (λ o. ofOutcome (orFailure (maybe none (beforeOf G s) o))) n
+        go : (b : Bool) → b ≡ s .first → (o : Option ℕ) → nameIn e ≡ o → IfName S o → Tells (preOf G s (s .first) e) (pre-value st b o)
+        go true q o n h = subst (λ b. Tells (preOf G s b e) (Err uninitialized-pre)) q (errs uninitialized-pre)
+        go false q none n h =
+            subst (λ b. Tells (preOf G s b e) (Err other-error)) q (subst (λ o. Tells (orFailure (maybe none (beforeOf G s) o)) (Err other-error)) (sym n) (errs other-error))
         go false q (some x) n h =
-            ap (λ b. ofOutcome (preOf G s b e)) (sym q) ∙ ap (λ o. ofOutcome (orFailure (maybe none (beforeOf G s) o))) n
-            ∙ ap (λ o. ofOutcome (orFailure o)) (sym (agrees .before x h (sym q)))
+            subst (λ b. Tells (preOf G s b e) (ok-or other-error (get x (prev st)))) q
+            (subst (λ o. Tells (orFailure (maybe none (beforeOf G s) o)) (ok-or other-error (get x (prev st)))) (sym n)
+            (subst (λ o. Tells (orFailure o) (ok-or other-error (get x (prev st)))) (agrees .before x h (sym q)) (ok-or-tells (get x (prev st)))))
 
     module _ {p : ℕ → List ℕ → Bool} {R : ℕ → List ℕ → Option State → Type 0} {Q : Value → Type 0} {ok : ℕ → ℕ → Bool} {calls : Calls} {step : StepInstance}
         (steps : Steps p R Q ok calls step) (sound : Sound Q G p ok calls) (called : (k m : ℕ) → T (ok k m) → Callee k m)
@@ -550,9 +559,8 @@ module _ (f : File) (xs : List ℕ) (vs : List Value) where
           → FollowsAll G p R N ks (suc j) c x y → GivesAll Q m (x .out)
           → FollowsOne G p R N (k ∷ ks) j c (enter (calls k) own x) (thenAll y (λ ws c. step (keyAt N j) k ws c env))
       unfolding enter thenAll
-      enter-follows j k ks m own x y c t rec r h gives =
-          subst (λ o. FollowsOne G p R N (k ∷ ks) j c (enterOn (calls k) own (x .out) (x .seg)) (thenAllOn o (y .calls) (λ ws c. step (keyAt N j) k ws c env))) (h .out)
-          (go (x .out) gives (λ t. h .sites (subst GoingAll (h .out) t)))
+      enter-follows j k ks m own x y c t rec r h given =
+          go (x .out) (y .out) (h .out) given (h .sites)
         where
           -- the arguments do not touch the call's own record
           mine : R k own (getState (keyAt N j) (y .calls))
@@ -561,9 +569,9 @@ module _ (f : File) (xs : List ℕ) (vs : List Value) where
           only : Frame G N (k ∷ ks) j c (y .calls)
           only = record { same = λ key o. h .frame .same key (o .1) }
 
-          go : (o : Outcomes) → GivesAll Q m o → (GoingAll o → Sites G p R N ks (suc j) (x .seg) (y .calls))
-              → FollowsOne G p R N (k ∷ ks) j c (enterOn (calls k) own o (x .seg)) (thenAllOn o (y .calls) (λ ws c. step (keyAt N j) k ws c env))
-          go (values ws) q s =
+          go : (o : Outcomes) (r : Result (List Value)) → TellsAll o r → GivesAll Q m o → (Going r → Sites G p R N ks (suc j) (x .seg) (y .calls))
+              → FollowsOne G p R N (k ∷ ks) j c (enterOn (calls k) own o (x .seg)) (thenAllOn r (y .calls) (λ ws c. step (keyAt N j) k ws c env))
+          go _ _ (gives-all ws) q s =
               let t′ = subst (λ m. T (ok k m)) (sym (q .1)) t in
               let w = steps .steps (keyAt N j) k ws own (y .calls) env t′ (q .0) rec mine (agrees .shared) in
               record {
@@ -572,8 +580,8 @@ module _ (f : File) (xs : List ℕ) (vs : List Value) where
                     (keep (λ i a b. w .others (keyAt N i) (λ o e. let z : i ≡ j = same-site N i j e in absurd (omega arith))) (s tt));
                 frame = record { same = λ key o. w .others key (o .0) ∙ only .same key o };
               }
-          go failure q s = record { out = refl; sites = λ t. sites-cons rec mine (s tt); frame = only }
-          go overflow q s = record { out = refl; sites = λ t. absurd t; frame = only }
+          go _ _ (errs-all e) q s = record { out = errs-one e; sites = λ t. sites-cons rec mine (s tt); frame = only }
+          go _ _ panics-all q s = record { out = panics-one; sites = λ t. absurd t; frame = only }
 
       -- a call, its arguments following
       call-follows : (k : ℕ) (es : Exprs) (at j : ℕ) (seg : List ℕ) (c : States) → N .addr j ≡ at → T (ok k (count es)) → PlainAll ok es → Sites G p R N (k ∷ calleesAll es) j seg c
@@ -589,22 +597,21 @@ module _ (f : File) (xs : List ℕ) (vs : List Value) where
           (enter-follows j k (calleesAll es) (count es) _ _ _ c t (w .0) (w .1) a (evalAll-meets sound s present before es _ q (w .2 .good) .out)))
 
       mutual
-        unfolding eval Rust.eval
+        unfolding eval Rust.eval cast-value
 
         pub eval-follows : (e : Expr) (at j : ℕ) (seg : List ℕ) (c : States) → Lie (N .addr) j (calls-in at e) → Plain ok e → Seen S e → Flat (f .nodes) e
             → Sites G p R N (callees e) j seg c → Follows G p R N (callees e) j c (eval G s calls e seg) (Rust.eval f step (N .number) env st at e c)
-        eval-follows (boolLit b) at j seg c z q n l h = record { out = refl; sites = λ t. h; frame = record { same = λ key o. refl } }
-        eval-follows (intLit i) at j seg c z q n l h = record { out = refl; sites = λ t. h; frame = record { same = λ key o. refl } }
-        eval-follows (floatLit b) at j seg c z q n l h = record { out = refl; sites = λ t. h; frame = record { same = λ key o. refl } }
-        eval-follows (charLit x) at j seg c z q n l h = record { out = refl; sites = λ t. h; frame = record { same = λ key o. refl } }
-        eval-follows (var x) at j seg c z q n l h =
-            record { out = ap (λ o. ofOutcome (orFailure o)) (sym (agrees .present x n)); sites = λ t. h; frame = record { same = λ key o. refl } }
-        eval-follows (unary op e) at j seg c z q n l h = map-follows (callees e) j c _ _ (unaryOf op) (eval-unary op) Q (λ v m. unary-is op v) (eval-meets sound s present before e seg q (h .good) .out) (eval-follows e (suc at) j seg c z q n l h)
+        eval-follows (boolLit b) at j seg c z q n l h = record { out = gives _; sites = λ t. h; frame = record { same = λ key o. refl } }
+        eval-follows (intLit i) at j seg c z q n l h = record { out = gives _; sites = λ t. h; frame = record { same = λ key o. refl } }
+        eval-follows (floatLit b) at j seg c z q n l h = record { out = gives _; sites = λ t. h; frame = record { same = λ key o. refl } }
+        eval-follows (charLit x) at j seg c z q n l h = record { out = gives _; sites = λ t. h; frame = record { same = λ key o. refl } }
+        eval-follows (var x) at j seg c z q n l h = record { out = subst (λ o. Tells (orFailure o) (ok-or other-error (orElse (get x env) (enum-variant-value f x)))) (agrees .present x n) (ok-or-tells (orElse (get x env) (enum-variant-value f x))); sites = λ t. h; frame = record { same = λ key o. refl } }
+        eval-follows (unary op e) at j seg c z q n l h = map-follows (callees e) j c _ _ (unaryOf op) (eval-unary op) Q (λ v m. tells-in (unaryOf op v) (unary-value op v) (unary-is op v)) (eval-meets sound s present before e seg q (h .good) .out) (eval-follows e (suc at) j seg c z q n l h)
         eval-follows (binary op a r) at j seg c z q n l h =
             let w = sites-parts (callees a) h in
             let y = lie-next (N .addr) a (suc at) _ j z in
             next-follows (callees a) (callees r) j c _ _ _ _ _ (eval-follows a (suc at) j _ c (y .0) (q .0) (n .0) (l .0) (w .0)) Q (eval-meets sound s present before a _ (q .0) (w .0 .good) .out) (w .1)
-            (λ v m d k. map-follows (callees r) (j + length (callees a)) d _ _ (binaryOf op v) (eval-binary op (plain v)) Q (λ u m′. binary-is op v u (backs v m) (backs u m′))
+            (λ v m d k. map-follows (callees r) (j + length (callees a)) d _ _ (binaryOf op v) (eval-binary op (plain v)) Q (λ u m′. tells-in (binaryOf op v u) (eval-values op v u) (binary-is op v u (backs v m) (backs u m′)))
             (eval-meets sound s present before r _ (q .1) (k .good) .out) (eval-follows r (suc at + width a) (j + length (callees a)) _ d (y .1) (q .1) (n .1) (l .1) k))
         eval-follows (ifThenElse x t e) at j seg c z q n l h =
             let w = sites-parts (callees x) h in
@@ -629,7 +636,7 @@ module _ (f : File) (xs : List ℕ) (vs : List Value) where
             (choose-follows (callees a) (callees b) j c (s .first) _ _ _ _ (w .0) (w .1) (sym (calling-is a)) (doubles a (n .0)) (sym (calling-is b)) (doubles b (n .1))
             (λ d h. eval-follows a (suc at) j _ d (y .0) (q .0) (n .0) (l .0) h)
             (λ d h. eval-follows b (suc at + width a) (j + length (callees a)) _ d (y .1) (q .1) (n .1) (l .1) h))
-        eval-follows (cast t e) at j seg c z q n l h = map-follows (callees e) j c _ _ (castTo t) (cast-value t) Q (λ v m. cast-is t v) (eval-meets sound s present before e seg q (h .good) .out) (eval-follows e (suc at) j seg c z q n l h)
+        eval-follows (cast t e) at j seg c z q n l h = map-follows (callees e) j c _ _ (castTo t) (cast-value t) Q (λ v m. tells-in (castTo t v) (cast-plain t v) (cast-is t v)) (eval-meets sound s present before e seg q (h .good) .out) (eval-follows e (suc at) j seg c z q n l h)
         eval-follows (call k es) at j seg c z q n l h =
             single-follows (k ∷ calleesAll es) j c _ _
             (count-one Q (length (nodeAt G k .outputs)) (enter (calls k) (take (recordSize G k) seg) (evalAll G s calls es (drop (recordSize G k) seg)) .out) (l .0)
@@ -639,7 +646,7 @@ module _ (f : File) (xs : List ℕ) (vs : List Value) where
 
         pub args-follow : (es : Exprs) (at j : ℕ) (seg : List ℕ) (c : States) → Lie (N .addr) j (calls-all at es) → PlainAll ok es → SeenAll S es → FlatAll (f .nodes) es
             → Sites G p R N (calleesAll es) j seg c → FollowsAll G p R N (calleesAll es) j c (evalAll G s calls es seg) (Rust.evalArgs f step (N .number) env st at es c)
-        args-follow nil at j seg c z q n l h = record { out = refl; sites = λ t. h; frame = record { same = λ key o. refl } }
+        args-follow nil at j seg c z q n l h = record { out = gives-all []; sites = λ t. h; frame = record { same = λ key o. refl } }
         args-follow (cons e es) at j seg c z q n l h =
             let w = sites-parts (callees e) h in
             let y = lie-next (N .addr) e at _ j z in

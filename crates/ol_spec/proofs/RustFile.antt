@@ -21,14 +21,14 @@ use Rattle.ol_spec.specs.Admission.{constantNames, variants, mayCall, ca
 use Rattle.ol_spec.specs.Answers.{faultAt}
 use Rattle.ol_spec.specs.AsRust.{constantPlace, constantsBy, ConstantsAsRust}
 use Rattle.ol_spec.specs.State.{globalsOf}
-use Rattle.ol_spec.specs.RustSim.{Env, get, insert, noStates, defaultState, Result, ofOutcome, enum-variant-value, Consts, evaluated, stuck, constOn, evalConsts, all-consts, step}
+use Rattle.ol_spec.specs.RustSim.{Env, get, insert, noStates, defaultState, RValue, Result, enum-variant-value, Consts, evaluated, stuck, constOn, evalConsts, all-consts, step}
 use Rattle.ol_spec.specs.RustSim as Rust
 use Rattle.ol_spec.specs.RustLeaves.{fit-to}
 use Rattle.ol_spec.specs.declared.Value.{Value}
 use Rattle.ol_spec.specs.declared.Verdict.the-variants.{Refused}
 use Rattle.ol_spec.specs.declared.Outcome.{Outcome}
 use Rattle.ol_spec.specs.declared.Outcome.the-variants as Out
-use Rattle.ol_spec.proofs.RustLeaves.{fit-is, fine-single}
+use Rattle.ol_spec.proofs.RustLeaves.{Tells, gives, errs, panics, fit-is, fine-single}
 use Rattle.ol_spec.proofs.Tests.{T-and, and-T, T-dec, member-in, in-member}
 use Rattle.ol_spec.proofs.Lists.{All, all-join, distinct-parts}
 use Rattle.ol_spec.proofs.Values.{Fine, FineOut, fit-fine, fine-closed}
@@ -121,7 +121,7 @@ module _ (f : File) where
     -- one constant's expression
     constant-follows : (short : (x : ℕ) → T (member x (concat (f .enums))) → x < 2 ^ 16) (xs : List ℕ) (us : List Value) (env : Env) (visible : List ℕ) (e : Expr) → AllFine (concat (f .enums)) us → Has xs us env → ((x : ℕ) → x ∈ xs → x ∈ constantNames f) → Plain never e
         → Seen (λ x. T (member x visible)) e → Flat (f .nodes) e
-        → ofOutcome (eval (globals f xs us) noVariables noCalls e [] .out) ≡ Rust.eval f (step f) (length (f .nodes)) env defaultState 0 e noStates .out
+        → Tells (eval (globals f xs us) noVariables noCalls e [] .out) (Rust.eval f (step f) (length (f .nodes)) env defaultState 0 e noStates .out)
     constant-follows short xs us env visible e fine h inside p n l =
         eval-follows f xs us {S = λ x. T (member x visible)} {s = noVariables}
         (record {
@@ -176,22 +176,14 @@ module _ (f : File) where
         rest : List (ℕ × Constant)
         rest = placed constantSize (at + constantSize c) cs
 
-        go : (o : Outcome) → FineOut (concat (f .enums)) o → (r : Result) → ofOutcome o ≡ r
+        go : (o : Outcome) → FineOut (concat (f .enums)) o → (r : Result RValue) → Tells o r
             → ((v : Value) → Fine (concat (f .enums)) v → ConstRel (suc i) rest (constantsFrom f (xs ++ c .name ∷ []) (us ++ fit (c .ty) v ∷ []) rest) (evalConsts f (suc i) cs (insert (c .name) (fit-to (c .ty) v) env)))
             → ConstRel i ((at, c) ∷ rest) (afterConstant at (λ v. constantsFrom f (xs ++ c .name ∷ []) (us ++ fit (c .ty) v ∷ []) rest) o)
             (constOn f i (λ v. evalConsts f (suc i) cs (insert (c .name) (fit-to (c .ty) v) env)) r)
-        go o m r q k =
-            subst (λ r. ConstRel i ((at, c) ∷ rest) (afterConstant at (λ v. constantsFrom f (xs ++ c .name ∷ []) (us ++ fit (c .ty) v ∷ []) rest) o)
-            (constOn f i (λ v. evalConsts f (suc i) cs (insert (c .name) (fit-to (c .ty) v) env)) r)) q (by o m k)
-          where
-            by : (o : Outcome) → FineOut (concat (f .enums)) o
-                → ((v : Value) → Fine (concat (f .enums)) v → ConstRel (suc i) rest (constantsFrom f (xs ++ c .name ∷ []) (us ++ fit (c .ty) v ∷ []) rest) (evalConsts f (suc i) cs (insert (c .name) (fit-to (c .ty) v) env)))
-                → ConstRel i ((at, c) ∷ rest) (afterConstant at (λ v. constantsFrom f (xs ++ c .name ∷ []) (us ++ fit (c .ty) v ∷ []) rest) o)
-                (constOn f i (λ v. evalConsts f (suc i) cs (insert (c .name) (fit-to (c .ty) v) env)) (ofOutcome o))
-            by (Out.Value v) m k =
-                rel-later i (at, c) rest (constantsFrom f (xs ++ c .name ∷ []) (us ++ fit (c .ty) v ∷ []) rest) (evalConsts f (suc i) cs (insert (c .name) (fit-to (c .ty) v) env)) (k v m)
-            by Out.Failure m k = (0, omega arith, refl)
-            by Out.Overflow m k = (0, omega arith, refl)
+        go _ m _ (gives v) k =
+            rel-later i (at, c) rest (constantsFrom f (xs ++ c .name ∷ []) (us ++ fit (c .ty) v ∷ []) rest) (evalConsts f (suc i) cs (insert (c .name) (fit-to (c .ty) v) env)) (k v m)
+        go _ m _ (errs e) k = (0, omega arith, refl)
+        go _ m _ panics k = (0, omega arith, refl)
 
 -- in a file without 6, 7, 9 and 10
 pub constants-related : (f : File) → FileRead f → (no6 : fault6 f ≡ none) → fault7 f ≡ none → fault9 f ≡ none → fault10 f ≡ none

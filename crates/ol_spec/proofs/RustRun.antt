@@ -17,11 +17,11 @@ use Rattle.ol_spec.specs.Eval.{Globals, Calls, Evals, Outcomes, values, 
 use Rattle.ol_spec.specs.Step.{equationSites, sites, split, putAt, assign, Ended, finished, failedAt, overflowedAt, Run, noEquation, equationAt, storeOn, store, scope, evalEquation, runAll}
 use Rattle.ol_spec.specs.Admission.{constantNames, variants}
 use Rattle.ol_spec.specs.State.{globalsOf}
-use Rattle.ol_spec.specs.RustSim.{Env, get, insert, Key, State, States, getState, prev, tupleUnlessOne, Res, first-tick, StepInstance, enum-variant-value, declared-type, typeIn, storeAll, bind-lhs, address, Ran, boundOn, bindOn, bindNext, for-order}
+use Rattle.ol_spec.specs.RustSim.{Env, get, insert, Key, State, States, getState, prev, RValue, SimError, Result, LoopEnd, done, errAt, panicAt, tupleUnlessOne, Res, first-tick, StepInstance, enum-variant-value, declared-type, typeIn, storeAll, bind-lhs, address, Ran, boundOn, bindOn, bindNext, for-order}
 use Rattle.ol_spec.specs.RustSim as Rust
 use Rattle.ol_spec.specs.RustLeaves.{fit-to}
 use Rattle.ol_spec.specs.declared.Value.{Value}
-use Rattle.ol_spec.proofs.RustLeaves.{fit-is}
+use Rattle.ol_spec.proofs.RustLeaves.{causeOf, fit-is}
 use Rattle.ol_spec.proofs.Tests.{member-in}
 use Rattle.ol_spec.proofs.Lists.{All, all-at}
 use Rattle.ol_spec.proofs.Segments.{Sound, GivesAll, arityIn}
@@ -34,13 +34,19 @@ use Rattle.ol_spec.proofs.RustMaps.{get-hit, get-miss}
 use Rattle.ol_spec.proofs.RustEnv.{lookup-set, lookup-other, type-at, type-skip}
 use Rattle.ol_spec.proofs.RustLeaves.{Single}
 use Rattle.ol_spec.proofs.RustPlaces.{Home, home, keyAt, lie-at}
-use Rattle.ol_spec.proofs.RustEval.{Going, packOut, Outside, Frame, outside-ge, outside-parts, Sites, FollowsOne, FlatRight, keep, keep-before, sites-none, sites-parts, sites-joined, Seen, Globally, Agrees, Steps, Callee, rhs-follows}
+use Rattle.ol_spec.proofs.RustEval.{Going, TellsOne, packs, errs-one, panics-one, Outside, Frame, outside-ge, outside-parts, Sites, FollowsOne, FlatRight, keep, keep-before, sites-none, sites-parts, sites-joined, Seen, Globally, Agrees, Steps, Callee, rhs-follows}
 
 -- the ends after which the Rust goes on
-abbrev pub GoingEnd : Ended → Type 0
-GoingEnd finished = Unit {0}
-GoingEnd (failedAt i) = Unit {0}
-GoingEnd (overflowedAt i) = ⊥
+abbrev pub GoingEnd : LoopEnd → Type 0
+GoingEnd done = Unit {0}
+GoingEnd (errAt e i) = Unit {0}
+GoingEnd (panicAt i) = ⊥
+
+-- how a run over bytes and the Rust's ended
+pub data TellsEnd : Ended → LoopEnd → Type 0 where
+  ends : TellsEnd finished done
+  errs-at : (e : SimError) (i : ℕ) → TellsEnd (failedAt (causeOf e) i) (errAt e i)
+  panics-at : (i : ℕ) → TellsEnd (overflowedAt i) (panicAt i)
 
 -- ---- the segments of equations
 
@@ -230,8 +236,8 @@ module _ (f : File) (vs : List Value) where
 
       -- a run over bytes, and the Rust's from these call states
       pub record RunFollows (calls : States) (u : Run) (r : Ran) : Type 0 where
-        pub end : u .end ≡ r .end
-        pub env : r .end ≡ finished → EnvFor n (u .cells) (r .env)
+        pub end : TellsEnd (u .end) (r .end)
+        pub env : r .end ≡ done → EnvFor n (u .cells) (r .env)
         pub segs : GoingEnd (r .end) → Rels g p R N (n .equations) 0 (u .segs) (r .calls)
         pub frame : Frame g N (sites n) 0 calls (r .calls)
 
@@ -245,10 +251,9 @@ module _ (f : File) (vs : List Value) where
             → RunFollows states (runAll g calls n first before is cs ss) (for-order f step K n st is env states)
         unfolding runAll for-order store bindNext
         for-follows [] cs ss env states inside lc fine h rels =
-            record { end = refl; env = λ e. h; segs = λ t. rels; frame = record { same = λ key o. refl } }
+            record { end = ends; env = λ e. h; segs = λ t. rels; frame = record { same = λ key o. refl } }
         for-follows (i ∷ is) cs ss env states inside lc fine h rels =
-            subst (λ o. RunFollows states (storeOn n i (x .out) (x .seg) (runAll g calls n first before is) cs ss) (bindOn f n i o (y .calls) (for-order f step K n st is) env)) (w .out)
-            (go (x .out) gives (λ t. w .sites (subst Going (w .out) t)) (λ cs′ ss′ env′ c a b k r. for-follows is cs′ ss′ env′ c (λ i m. inside i (there m)) a b k r))
+            go (x .out) (y .out) (w .out) given (w .sites) (λ cs′ ss′ env′ c a b k r. for-follows is cs′ ss′ env′ c (λ i m. inside i (there m)) a b k r)
           where
             x : Evals
             x = evalEquation g calls n first before cs i (getD ss i [])
@@ -273,8 +278,8 @@ module _ (f : File) (vs : List Value) where
                 rhs-follows f (constantNames f) vs (agrees-of first before cs env st lc lb is-first h old) steps sound called fine fine-before backs N (equationAt n i .rhs) _ _ _ states (lie-at K n i)
                 (plain-at ok (n .equations) i plain) (all-at (λ q. Seen (Sees n) (q .rhs)) (n .equations) i noEquation seen b) (shape .0) own
 
-            gives : GivesAll Q (arityIn g (rhsOf (equationAt n i .rhs))) (x .out)
-            gives = equation-meets sound n plain first before cs i (getD ss i []) fine-before fine (own .good) .out
+            given : GivesAll Q (arityIn g (rhsOf (equationAt n i .rhs))) (x .out)
+            given = equation-meets sound n plain first before cs i (getD ss i []) fine-before fine (own .good) .out
 
             moved : (s : List ℕ) → Sites g p R N (callees (equationAt n i .rhs)) (sitesBefore (n .equations) i) s (y .calls) → Rels g p R N (n .equations) 0 (set ss i s) (y .calls)
             moved s new =
@@ -288,12 +293,12 @@ module _ (f : File) (vs : List Value) where
                       w .frame .same key (subst (λ m. Outside g N (callees (equationAt n i .rhs)) m key) zero-left (outside-equation g N (n .equations) 0 i key o));
                 }
 
-            go : (o : Outcomes) → GivesAll Q (arityIn g (rhsOf (equationAt n i .rhs))) o
-                → (Going (packOut o) → Sites g p R N (callees (equationAt n i .rhs)) (sitesBefore (n .equations) i) (x .seg) (y .calls))
+            go : (o : Outcomes) (r : Result RValue) → TellsOne o r → GivesAll Q (arityIn g (rhsOf (equationAt n i .rhs))) o
+                → (Going r → Sites g p R N (callees (equationAt n i .rhs)) (sitesBefore (n .equations) i) (x .seg) (y .calls))
                 → ((cs′ : List Value) (ss′ : List (List ℕ)) (env′ : Env) (c : States) → length cs′ ≡ length (variables n) → All Q cs′ → EnvFor n cs′ env′
                 → Rels g p R N (n .equations) 0 ss′ c → RunFollows c (runAll g calls n first before is cs′ ss′) (for-order f step K n st is env′ c))
-                → RunFollows states (storeOn n i o (x .seg) (runAll g calls n first before is) cs ss) (bindOn f n i (packOut o) (y .calls) (for-order f step K n st is) env)
-            go (values ws) q s k =
+                → RunFollows states (storeOn n i o (x .seg) (runAll g calls n first before is) cs ss) (bindOn f n i r (y .calls) (for-order f step K n st is) env)
+            go _ _ (packs ws) q s k =
                 let names = equationAt n i .names in
                 let u = k (assign n names ws cs) (set ss i (x .seg)) (storeAll f n names ws env) (y .calls) (store-length n names ws cs ∙ lc)
                 (all-assign (sound .closed) n names ws cs (q .0) fine)
@@ -301,6 +306,6 @@ module _ (f : File) (vs : List Value) where
                 subst (λ o. RunFollows states (runAll g calls n first before is (assign n names ws cs) (set ss i (x .seg))) (boundOn f i o (for-order f step K n st is) env (y .calls)))
                 (sym (bound names ws env (shape .1) (q .1 ∙ node .arity i b)))
                 (record { end = u .end; env = u .env; segs = u .segs; frame = record { same = λ key o. u .frame .same key o ∙ others .same key o } })
-            go failure q s k =
-                record { end = refl; env = λ e. let z : _≡_ {A = ℕ} 0 1 = cc in absurd (omega arith); segs = λ t. moved (x .seg) (s tt); frame = others }
-            go overflow q s k = record { end = refl; env = λ e. let z : _≡_ {A = ℕ} 0 1 = cc in absurd (omega arith); segs = λ t. absurd t; frame = others }
+            go _ _ (errs-one e) q s k =
+                record { end = errs-at e i; env = λ e. let z : _≡_ {A = ℕ} 0 1 = cc in absurd (omega arith); segs = λ t. moved (x .seg) (s tt); frame = others }
+            go _ _ panics-one q s k = record { end = panics-at i; env = λ e. let z : _≡_ {A = ℕ} 0 1 = cc in absurd (omega arith); segs = λ t. absurd t; frame = others }

@@ -113,7 +113,7 @@ any-good {g} ks s e = record { sized = e; good = any-sites g ks s }
 -- the values of an outcome, if it has them, are n that have the property
 abbrev pub GivesAll : (Value → Type 0) → ℕ → Outcomes → Type 0
 GivesAll Q n (values ws) = All Q ws × (length ws ≡ n)
-GivesAll Q n failure = Unit {0}
+GivesAll Q n (failure c) = Unit {0}
 GivesAll Q n overflow = Unit {0}
 
 module _ (Q : Value → Type 0) (g : Globals) (p : ℕ → List ℕ → Bool) where
@@ -144,7 +144,7 @@ module _ {Q : Value → Type 0} {g : Globals} {p : ℕ → List ℕ → Bool} wh
     where
       go : (o : Outcome) → Gives Q o → Meets Q g p (a ++ b) (nextOn o (r .seg) k rest)
       go (Out.Value v) f = let w = h v f in record { seg = joined a (m .seg) (w .seg); out = w .out }
-      go Out.Failure f = record { seg = joined a (m .seg) q; out = tt }
+      go (Out.Failure c) f = record { seg = joined a (m .seg) q; out = tt }
       go Out.Overflow f = record { seg = joined a (m .seg) q; out = tt }
 
   map-meets : (ks : List ℕ) (r : Eval) (k : Value → Outcome) → Meets Q g p ks r → ((v : Value) → Q v → Gives Q (k v)) → Meets Q g p ks (mapEval k r)
@@ -152,7 +152,7 @@ module _ {Q : Value → Type 0} {g : Globals} {p : ℕ → List ℕ → Bool} wh
     where
       go : (o : Outcome) → Gives Q o → Gives Q (thenOut k o)
       go (Out.Value v) f = h v f
-      go Out.Failure f = tt
+      go (Out.Failure c) f = tt
       go Out.Overflow f = tt
 
   nextAll-meets : (a b : List ℕ) (n : ℕ) (r : Eval) (k : List ℕ → Evals) (rest : List ℕ) → Meets Q g p a r → Good g p b rest → MeetsAll Q g p b n (k rest)
@@ -162,12 +162,12 @@ module _ {Q : Value → Type 0} {g : Globals} {p : ℕ → List ℕ → Bool} wh
     where
       more : (v : Value) → Q v → (o : Outcomes) → GivesAll Q n o → GivesAll Q (suc n) (consOut v o)
       more v f (values ws) x = ((f, x .0), ap suc (x .1))
-      more v f failure x = tt
+      more v f (failure c) x = tt
       more v f overflow x = tt
 
       go : (o : Outcome) → Gives Q o → MeetsAll Q g p (a ++ b) (suc n) (nextAllOn o (r .seg) k rest)
       go (Out.Value v) f = record { seg = joined a (m .seg) (h .seg); out = more v f (k rest .out) (h .out) }
-      go Out.Failure f = record { seg = joined a (m .seg) q; out = tt }
+      go (Out.Failure c) f = record { seg = joined a (m .seg) q; out = tt }
       go Out.Overflow f = record { seg = joined a (m .seg) q; out = tt }
 
   enter-meets : (k : ℕ) (ks : List ℕ) (n : ℕ) (f : List Value → List ℕ → Evals) (own : List ℕ) (r : Evals) → Rec g p k own → MeetsAll Q g p ks n r
@@ -177,7 +177,7 @@ module _ {Q : Value → Type 0} {g : Globals} {p : ℕ → List ℕ → Bool} wh
     where
       go : (o : Outcomes) → GivesAll Q n o → MeetsAll Q g p (k ∷ ks) (length (nodeAt g k .outputs)) (enterOn f own o (r .seg))
       go (values ws) x = let w = h ws (x .0) (x .1) in record { seg = cons-good (w .seg) (m .seg); out = w .out }
-      go failure x = record { seg = cons-good q (m .seg); out = tt }
+      go (failure c) x = record { seg = cons-good q (m .seg); out = tt }
       go overflow x = record { seg = cons-good q (m .seg); out = tt }
 
   single-meets : (ks : List ℕ) (n : ℕ) (r : Evals) → MeetsAll Q g p ks n r → Meets Q g p ks (singleEval r)
@@ -187,7 +187,7 @@ module _ {Q : Value → Type 0} {g : Globals} {p : ℕ → List ℕ → Bool} wh
       go (values []) x = tt
       go (values (v ∷ [])) x = x .0 .0
       go (values (v ∷ w ∷ ws)) x = tt
-      go failure x = tt
+      go (failure c) x = tt
       go overflow x = tt
 
   several-meets : (ks : List ℕ) (r : Eval) → Meets Q g p ks r → MeetsAll Q g p ks 1 (severalEval r)
@@ -195,7 +195,7 @@ module _ {Q : Value → Type 0} {g : Globals} {p : ℕ → List ℕ → Bool} wh
     where
       go : (o : Outcome) → Gives Q o → GivesAll Q 1 (several o)
       go (Out.Value v) f = ((f, tt), refl)
-      go Out.Failure f = tt
+      go (Out.Failure c) f = tt
       go Out.Overflow f = tt
 
   -- ---- branches
@@ -206,7 +206,7 @@ module _ {Q : Value → Type 0} {g : Globals} {p : ℕ → List ℕ → Bool} wh
     where
       go : (w : Outcome) → Gives Q (dropFailure v w)
       go (Out.Value w) = f
-      go Out.Failure = f
+      go (Out.Failure c) = f
       go Out.Overflow = tt
   untaken-kept a b false v seg o x f y m = record { taken = x; other = y; out = f }
 
@@ -214,7 +214,7 @@ module _ {Q : Value → Type 0} {g : Globals} {p : ℕ → List ℕ → Bool} wh
     branches-kept : (a b : List ℕ) (w : Outcome) (seg : List ℕ) (o : Branch) → Gives Q w → Good g p a seg → Good g p b (o .seg) → Meets Q g p b (o .run (o .seg))
         → Kept Q g p a b (branchesOn w seg o)
     branches-kept a b (Out.Value v) seg o f x y m = untaken-kept a b (o .calls) (commonReal (o .wide) v) seg o x (closed .commons (o .wide) v f) y m
-    branches-kept a b Out.Failure seg o f x y m = record { taken = x; other = y; out = tt }
+    branches-kept a b (Out.Failure c) seg o f x y m = record { taken = x; other = y; out = tt }
     branches-kept a b Out.Overflow seg o f x y m = record { taken = x; other = y; out = tt }
 
     choose-meets : (a b : List ℕ) (t : Bool) (x y : Branch) → Good g p a (x .seg) → Good g p b (y .seg) → Meets Q g p a (x .run (x .seg))

@@ -18,11 +18,12 @@ use Rattle.ol_spec.specs.Step.{isFresh, oldCells, scope, calls}
 use Rattle.ol_spec.specs.Admission.{constantNames, judge, admitted, headSize}
 use Rattle.ol_spec.specs.State.{globalsOf, freshState}
 use Rattle.ol_spec.specs.Demand3.{Bytes, Turn, Made, history, given, Answered}
-use Rattle.ol_spec.specs.Lustre.{pre, arrow, always, firstly, addAnswer, answers, sequenceOf, evalIn, AtInstant}
+use Rattle.ol_spec.specs.Lustre.{pre, arrow, always, firstly, addAnswer, answers, sequenceOf, evalIn, AtInstant, orCold}
 use Rattle.ol_spec.specs.Sequences.{addInstant, instants, beside, orNil, outcomes, sides, leftOf, rightOf, cellsAt, scopeAt, outcomesAt, sidesAt, EveryInstance, SequencesClaim, NeverReturns}
 use Rattle.ol_spec.specs.declared.Value.{Value}
 use Rattle.ol_spec.specs.declared.Outcome.{Outcome}
 use Rattle.ol_spec.specs.declared.Outcome.the-variants as Out
+use Rattle.ol_spec.specs.declared.Cause.{Cause}
 use Rattle.ol_spec.specs.declared.Cycled.{Cycled}
 use Rattle.ol_spec.specs.declared.Cycled.the-variants as Cyc
 use Rattle.ol_spec.proofs.Tests.{member-in, in-member}
@@ -42,7 +43,7 @@ taken-first a b = go (a .run (a .seg) .out) (b .calls)
     go : (o : Outcome) (c : Bool) → firstTaken (branchesOn o (a .run (a .seg) .seg) (record { calls = c; wide = b .wide; run = b .run; seg = b .seg })) .out ≡ beside c (b .wide) o (b .run (b .seg) .out)
     go (Out.Value v) true = refl
     go (Out.Value v) false = refl
-    go Out.Failure c = refl
+    go (Out.Failure e) c = refl
     go Out.Overflow c = refl
 
 taken-second : (a b : Branch) → choose false a b .out ≡ beside (a .calls) (a .wide) (b .run (b .seg) .out) (a .run (a .seg) .out)
@@ -52,7 +53,7 @@ taken-second a b = go (b .run (b .seg) .out) (a .calls)
     go : (o : Outcome) (c : Bool) → secondTaken (branchesOn o (b .run (b .seg) .seg) (record { calls = c; wide = a .wide; run = a .run; seg = a .seg })) .out ≡ beside c (a .wide) o (a .run (a .seg) .out)
     go (Out.Value v) true = refl
     go (Out.Value v) false = refl
-    go Out.Failure c = refl
+    go (Out.Failure e) c = refl
     go Out.Overflow c = refl
 
 module _ (g : Globals) (s : Scope) (calls : Calls) (a b : Expr) (seg : List ℕ) where
@@ -166,28 +167,28 @@ module _ (ld : Loader) (s : List ℕ) (f : File) (vs : List Value) (ts : List Tu
   given-at m x k = lookup-in x (variableNames n) (given f m) k (length-values (length (variables n)) _ ∙ sym (length-map (variables n) nameOf))
 
   -- the values of a variable are its outcomes
-  variable-seq : (x : ℕ) → x ∈ variableNames n → (segs : ℕ → List ℕ) (j : ℕ) → orFailure (sequenceOf f (answers f ms) x j) ≡ orNil (outcomes f vs ms (var x) segs j)
+  variable-seq : (x : ℕ) → x ∈ variableNames n → (segs : ℕ → List ℕ) (j : ℕ) → orCold (sequenceOf f (answers f ms) x j) ≡ orNil (outcomes f vs ms (var x) segs j)
   variable-seq x k segs j =
-      ap (λ o. orFailure (maybe none (lookup x (variableNames n)) o)) (ap (λ l. getElem? l j) (answers-are f ms) ∙ get-map (given f) (instants ms) j) ∙ go (getElem? (instants ms) j)
+      ap (λ o. orCold (maybe none (lookup x (variableNames n)) o)) (ap (λ l. getElem? l j) (answers-are f ms) ∙ get-map (given f) (instants ms) j) ∙ go (getElem? (instants ms) j)
     where
-      go : (o : Option Made) → orFailure (maybe none (lookup x (variableNames n)) (maybe none (λ m. some (given f m)) o))
+      go : (o : Option Made) → orCold (maybe none (lookup x (variableNames n)) (maybe none (λ m. some (given f m)) o))
           ≡ orNil (maybe none (λ m. some (evalIn f vs m (given f m) (var x) (segs j) .out)) o)
       go none = refl
       go (some m) =
           let v = given-at m x k in
-          ap orFailure (v .1) ∙ sym (var-out m x (segs j) ∙ ap (λ o. orFailure (orElse o (orElse (lookup x (constantNames f) vs) (variantOf g (scopeOf m) x)))) (v .1))
+          ap orCold (v .1) ∙ sym (var-out m x (segs j) ∙ ap (λ o. orFailure (orElse o (orElse (lookup x (constantNames f) vs) (variantOf g (scopeOf m) x)))) (v .1))
 
-  constant-seq : (x : ℕ) → x ∈ constantNames f → (segs : ℕ → List ℕ) (j : ℕ) → j < length (instants ms) → orFailure (lookup x (constantNames f) vs) ≡ orNil (outcomes f vs ms (var x) segs j)
+  constant-seq : (x : ℕ) → x ∈ constantNames f → (segs : ℕ → List ℕ) (j : ℕ) → j < length (instants ms) → orCold (lookup x (constantNames f) vs) ≡ orNil (outcomes f vs ms (var x) segs j)
   constant-seq x c segs j h = go (getElem? (instants ms) j) (inside (instants ms) j h)
     where
       o : Opened f vs
       o = opened ld s f vs bytes e
 
-      go : (p : Option Made) → (m : Made) × (p ≡ some m) → orFailure (lookup x (constantNames f) vs) ≡ orNil (maybe none (λ m. some (evalIn f vs m (given f m) (var x) (segs j) .out)) p)
+      go : (p : Option Made) → (m : Made) × (p ≡ some m) → orCold (lookup x (constantNames f) vs) ≡ orNil (maybe none (λ m. some (evalIn f vs m (given f m) (var x) (segs j) .out)) p)
       go none w = let z = w .1 in let y : _≡_ {A = ℕ} 0 1 = cc in absurd (omega arith)
       go (some m) w =
           let v = lookup-in x (constantNames f) vs c (o .rust .counted) in
-          ap orFailure (v .1)
+          ap orCold (v .1)
           ∙ sym (var-out m x (segs j)
           ∙ ap (λ p. orFailure (orElse p (orElse (lookup x (constantNames f) vs) (variantOf g (scopeOf m) x)))) (lookup-out x (variableNames n) (given f m) (λ k. main-facts f vs (o .facts) (o .rust) .sorted .no-constant x k c))
           ∙ ap (λ p. orFailure (orElse p (variantOf g (scopeOf m) x))) (v .1))
@@ -204,11 +205,11 @@ module _ (ld : Loader) (s : List ℕ) (f : File) (vs : List Value) (ts : List Tu
       w : (m : Made) × (getElem? (instants ms) k ≡ some m)
       w = inside (instants ms) k h
 
-      by-variable : (k : ℕ) → x ∈ variableNames n → orFailure (pre (sequenceOf f (answers f ms) x) k) ≡ orNil (pre (outcomes f vs ms (var x) segs′) k)
+      by-variable : (k : ℕ) → x ∈ variableNames n → orCold (pre (sequenceOf f (answers f ms) x) k) ≡ orNil (pre (outcomes f vs ms (var x) segs′) k)
       by-variable zero v = refl
       by-variable (suc k) v = variable-seq x v segs′ k
 
-      by-constant : (k : ℕ) → k < length (instants ms) → x ∈ constantNames f → orFailure (pre (always (lookup x (constantNames f) vs)) k) ≡ orNil (pre (outcomes f vs ms (var x) segs′) k)
+      by-constant : (k : ℕ) → k < length (instants ms) → x ∈ constantNames f → orCold (pre (always (lookup x (constantNames f) vs)) k) ≡ orNil (pre (outcomes f vs ms (var x) segs′) k)
       by-constant zero h c = refl
       by-constant (suc k) h c = constant-seq x c segs′ k (omega arith)
 

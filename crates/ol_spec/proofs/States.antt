@@ -362,7 +362,7 @@ module _ (f : File) (vs : List Value) (F : Facts f vs) where
     where
       go : (e : Ended) → Well old (endOn f old (t .values) e (mainRun f vs old (t .inputs) .cells) (mainRun f vs old (t .inputs) .segs))
       go finished = (λ q e. refused-not (sym e), answered-well old (t .inputs) h gi)
-      go (failedAt i) = (λ q e. let z : _≡_ {A = ℕ} 0 1 = cc in omega arith, failed-well old (t .inputs) h gi)
+      go (failedAt c i) = (λ q e. let z : _≡_ {A = ℕ} 0 1 = cc in omega arith, failed-well old (t .inputs) h gi)
       go (overflowedAt i) = (λ q e. let z : _≡_ {A = ℕ} 0 1 = cc in omega arith, h)
 
   pub cycle-well : (ld : Loader) (s : List ℕ) → judge ld s ≡ admitted f vs → (t : Turn) (old : List ℕ) → StateWell old
@@ -392,7 +392,7 @@ module _ (f : File) (vs : List Value) (F : Facts f vs) where
           let ks = subst (InKind f) back (k refl) in
           let cs = new-cells old (t .inputs) (h .well) gi (h .kinds) e ks in
           (λ a. subst (λ ds. Solves f vs old (valuesOf (length (n .inputs)) (t .inputs)) ds (cells (u .cells))) (sym back) cs, answered-ok old (t .inputs) (h .well) gi ks .kinds)
-      go (failedAt i) e k = (λ a. let z : _≡_ {A = ℕ} 0 1 = cc in absurd (omega arith), failed-kinds old (t .inputs) (h .well) gi (h .kinds))
+      go (failedAt c i) e k = (λ a. let z : _≡_ {A = ℕ} 0 1 = cc in absurd (omega arith), failed-kinds old (t .inputs) (h .well) gi (h .kinds))
       go (overflowedAt i) e k = (λ a. let z : _≡_ {A = ℕ} 0 1 = cc in absurd (omega arith), h .kinds)
 
   cycle-right : (ld : Loader) (s : List ℕ) → judge ld s ≡ admitted f vs → (t : Turn) (old : List ℕ) → StateOk old

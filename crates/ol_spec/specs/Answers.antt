@@ -1,6 +1,8 @@
 -- What each answer stands for: document 01's number and place, and the state's length where admission reports it. The number 0 stands for no fault.
 use Prim.Native.Nat.{ℕ}
 use Rattle.ol_spec.specs.declared.Fault.{Fault}
+use Rattle.ol_spec.specs.declared.Cause.{Cause}
+use Rattle.ol_spec.specs.declared.Cause.the-variants as Why
 use Rattle.ol_spec.specs.declared.Outcome.{Outcome}
 use Rattle.ol_spec.specs.declared.Outcome.the-variants as Out
 use Rattle.ol_spec.specs.declared.Verdict.{Verdict}
@@ -46,8 +48,14 @@ cycledFault Cyc.Answered = noFault
 cycledFault (Cyc.Stopped x) = x
 cycledFault (Cyc.Refused x) = x
 
+-- the number of a failure: a `pre` in a first cycle; a zero divisor or a shift count outside 0..63; anything else
+abbrev pub causeNumber : Cause → ℕ
+causeNumber Why.Cold = 18
+causeNumber Why.Range = 20
+causeNumber Why.Other = 21
+
 -- the number of a cycle whose main equation has this outcome: how a stopped cycle is numbered (Cycle)
 abbrev pub outcomeNumber : Outcome → ℕ
 outcomeNumber (Out.Value v) = 0
-outcomeNumber Out.Failure = 18
+outcomeNumber (Out.Failure c) = causeNumber c
 outcomeNumber Out.Overflow = 19

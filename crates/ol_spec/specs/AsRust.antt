@@ -1,13 +1,13 @@
 -- What a list of cycles has to do with the Rust of specs/RustSim. Types only: proofs/AsRust proves the claim.
 use Prim.Native.Nat.{ℕ, _<_, _≤_}
-use mathlib.Core.Bool.{Bool, _&&_, cond}
+use mathlib.Core.Bool.{Bool, true, false, _&&_, _||_, cond}
 use mathlib.Core.List.{List, [], _∷_, map}
 use mathlib.Core.Logic.{_↔_}
-use mathlib.Core.Option.{none, some}
+use mathlib.Core.Option.{Option, none, some}
 use Rattle.ol_spec.specs.Lists.{maybe}
 use mathlib.Core.Path.{_≡_}
 use lib.ListN.{length, getD, getElem?}
-use Rattle.ol_spec.specs.Syntax.{Variable, Node, File, main}
+use Rattle.ol_spec.specs.Syntax.{Variable, Node, File, main, BinOp, And, Or, Xor, Implies, Eq, Neq, Lt, Le, Gt, Ge, Add, Sub, Mul, Div, Mod, BitAnd, BitOr, BitXor, Shl, Shr}
 use Rattle.ol_spec.specs.Places.{placedNodes, placedEquations, placedConstants}
 use Rattle.ol_spec.specs.Read.{got, readFile}
 use Rattle.ol_spec.specs.Limits.{Loader}
@@ -18,6 +18,7 @@ use Rattle.ol_spec.specs.Answers.{faultAt}
 use Rattle.ol_spec.specs.Cycle.{CycleCall, ordering, start, fits17}
 use Rattle.ol_spec.specs.Demand3.{Unfaulted, Bytes, Turn, Made, history}
 use Rattle.ol_spec.specs.RustOrder.{ordered, among, evaluation-result}
+use Rattle.ol_spec.specs.RustLeaves.{RValue, plain, Tuple, SimError, uninitialized-pre, binary-not-supported, unary-not-supported, other-error, both, int-in, real-in}
 use Rattle.ol_spec.specs.RustSim.{Env, Key, States, Sim, Consts, evaluated, stuck, all-consts, Report, ok, err, panic, Stepped, step-instance, step-full, new}
 use Rattle.ol_spec.specs.RustState.{constantsIn, stateBytes}
 use Rattle.ol_spec.specs.declared.Value.{Value}
@@ -41,20 +42,61 @@ named (x ∷ xs) (v ∷ vs) = (x .name, v) ∷ named xs vs
 abbrev pub inputMap : File → Turn → Env
 inputMap f t = named (main f .inputs) (valuesOf (length (main f .inputs)) (t .inputs))
 
+-- `matches!(o, Some(_))`
+abbrev pub matches : {A : Type 0} → Option A → Bool
+matches none = false
+matches (some a) = true
+
+-- The operations that take operands of these kinds, and so fail on them only by the second one's value: Div and Mod on two Ints, Div on two reals, Shl and Shr on two Ints
+abbrev pub takes : BinOp → Value → Value → Bool
+takes And l r = false
+takes Or l r = false
+takes Xor l r = false
+takes Implies l r = false
+takes Eq l r = false
+takes Neq l r = false
+takes Lt l r = false
+takes Le l r = false
+takes Gt l r = false
+takes Ge l r = false
+takes Add l r = false
+takes Sub l r = false
+takes Mul l r = false
+takes Div l r = matches (both (int-in l) (int-in r)) || matches (both (real-in l) (real-in r))
+takes Mod l r = matches (both (int-in l) (int-in r))
+takes BitAnd l r = false
+takes BitOr l r = false
+takes BitXor l r = false
+takes Shl l r = matches (both (int-in l) (int-in r))
+takes Shr l r = matches (both (int-in l) (int-in r))
+
+abbrev pub takes-both : BinOp → RValue → RValue → Bool
+takes-both op (plain l) (plain r) = takes op l r
+takes-both op (plain l) (Tuple rs) = false
+takes-both op (Tuple ls) (plain r) = false
+takes-both op (Tuple ls) (Tuple rs) = false
+
+-- the number that an error gives: an uninitialized `pre`; a zero divisor or a shift count outside 0..63; anything else
+abbrev pub errorNumber : SimError → ℕ
+errorNumber uninitialized-pre = 18
+errorNumber (binary-not-supported op l r) = cond (takes-both op l r) 20 21
+errorNumber (unary-not-supported op v) = 21
+errorNumber other-error = 21
+
 -- the answer that tells what a step of the Rust gives
 abbrev pub answerOf : Report → Cycled
 answerOf (ok cs) = Cyc.Answered
-answerOf (err i) = Cyc.Stopped (faultAt 18 i)
+answerOf (err e i) = Cyc.Stopped (faultAt (errorNumber e) i)
 answerOf (panic i) = Cyc.Stopped (faultAt 19 i)
 
 -- the values that it writes: the cells of all inputs, outputs and locals, or none
 abbrev pub written : Report → List ℕ → List ℕ
 written (ok cs) buf = cells cs
-written (err i) buf = buf
+written (err e i) buf = buf
 written (panic i) buf = buf
 
--- what the cycle's call gives, by the Rust's step: it answers exactly if that is `Ok`, stops with 18 exactly if it is an error and with 19 exactly if it panics, and its new
--- state is that of the `Sim` that the step left
+-- what the cycle's call gives, by the Rust's step: it answers exactly if that is `Ok`, stops with the error's number exactly if it is an error and with 19 exactly if it
+-- panics, and its new state is that of the `Sim` that the step left
 abbrev pub told : File → Turn → Stepped → CycleCall
 told f t r = record { answer = answerOf (r .report); new = stateBytes f (r .sim); values = written (r .report) (t .values) }
 

@@ -92,7 +92,7 @@ startJudged (admitted f vs) st = startFits (eqb (length st) (stateSize f)) f vs 
 unfoldable pub start : Loader → List ℕ → List ℕ → StartCall
 start ld s st = startJudged (judge ld s) st
 
--- ---- the cycle: 1 to 17 write nothing; 18 writes the moved state, 19 a copy of the old one, and both leave the values
+-- ---- the cycle: 1 to 17 write nothing; 18, 20 and 21 write the moved state, 19 a copy of the old one, and all four leave the values
 
 pub record CycleCall : Type 0 where
   pub answer : Cycled
@@ -102,8 +102,8 @@ pub record CycleCall : Type 0 where
 -- the new state and the values, of a run on the old state
 abbrev pub endOn : File → List ℕ → List ℕ → Ended → List Value → List (List ℕ) → CycleCall
 endOn f old vals finished cs segs = record { answer = Cyc.Answered; new = take (headSize f) old ++ startedRecord cs segs; values = cells cs }
-endOn f old vals (failedAt i) cs segs =
-    record { answer = Cyc.Stopped (faultAt (outcomeNumber Out.Failure) i); new = take (headSize f + ownSize (main f)) old ++ concat segs; values = vals }
+endOn f old vals (failedAt c i) cs segs =
+    record { answer = Cyc.Stopped (faultAt (outcomeNumber (Out.Failure c)) i); new = take (headSize f + ownSize (main f)) old ++ concat segs; values = vals }
 endOn f old vals (overflowedAt i) cs segs = record { answer = Cyc.Stopped (faultAt (outcomeNumber Out.Overflow) i); new = old; values = vals }
 
 -- the main instance's run

@@ -18,7 +18,7 @@ functions-start = refl
 -- a stopped cycle moves instances, but is no instant of main
 stops-between : trace (file (counts ∷ node Operator (x 5 (int 4) ∷ []) (x 1 (int 4) ∷ x 2 (int 4) ∷ x 4 (int 4) ∷ []) []
     (1 ≔ call 0 nil ∷ 2 ≔ arrow (num 0) (binary Add (pre (var 2)) (num 1)) ∷ 4 ≔ binary Div (num 1) (var 5) ∷ []) ∷ [])) ((i 1 ∷ []) ∷ (i 0 ∷ []) ∷ (i 1 ∷ []) ∷ [])
-    ≡ (0, 0, i 1 ∷ i 0 ∷ i 0 ∷ i 1 ∷ []) ∷ (18, 2, left 4) ∷ (0, 0, i 1 ∷ i 2 ∷ i 1 ∷ i 1 ∷ []) ∷ []
+    ≡ (0, 0, i 1 ∷ i 0 ∷ i 0 ∷ i 1 ∷ []) ∷ (20, 2, left 4) ∷ (0, 0, i 1 ∷ i 2 ∷ i 1 ∷ i 1 ∷ []) ∷ []
 unfolding everything
 stops-between = refl
 
@@ -39,7 +39,7 @@ enters-later = refl
 -- a call behind a failure is not made
 skips-call : trace (file (counts ∷ node Operator (x 2 (int 4) ∷ []) (x 1 (int 4) ∷ []) [] (1 ≔ binary Add (binary Div (num 1) (var 2)) (call 0 nil) ∷ []) ∷ []))
     ((i 1 ∷ []) ∷ (i 0 ∷ []) ∷ (i 1 ∷ []) ∷ [])
-    ≡ (0, 0, i 1 ∷ i 1 ∷ []) ∷ (18, 0, left 2) ∷ (0, 0, i 1 ∷ i 2 ∷ []) ∷ []
+    ≡ (0, 0, i 1 ∷ i 1 ∷ []) ∷ (20, 0, left 2) ∷ (0, 0, i 1 ∷ i 2 ∷ []) ∷ []
 unfolding everything
 skips-call = refl
 
@@ -49,7 +49,7 @@ widens-beside : trace (file (node Operator (x 2 float32 ∷ []) (x 1 (int 4) ∷
 unfolding everything
 widens-beside = refl
 
-untaken-side : trace (v1 (1 ≔ arrow (num 0) (binary Div (num 1) (num 0)) ∷ [])) ([] ∷ [] ∷ []) ≡ (0, 0, i 0 ∷ []) ∷ (18, 0, left 1) ∷ []
+untaken-side : trace (v1 (1 ≔ arrow (num 0) (binary Div (num 1) (num 0)) ∷ [])) ([] ∷ [] ∷ []) ≡ (0, 0, i 0 ∷ []) ∷ (20, 0, left 1) ∷ []
 unfolding everything
 untaken-side = refl
 

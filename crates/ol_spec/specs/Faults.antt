@@ -26,11 +26,11 @@ pub record Inside (ld : Loader) (s : List ℕ) (i : ℕ) : Type 0 where
   pub is : judge ld s ≡ admitted file constants
   pub below : i < length (main file .equations)
 
--- Whatever a call is lent: admission refuses with 1 to 14; the ordering with 1 to 5, 11 or 17; the start with 1 to 14 or 17; the cycle with 1 to 17. A cycle stops with 18 or 19, and
--- only in an admitted file, at one of its main equations.
+-- Whatever a call is lent: admission refuses with 1 to 14; the ordering with 1 to 5, 11 or 17; the start with 1 to 14 or 17; the cycle with 1 to 17. A cycle stops with one of 18 to 21,
+-- and only in an admitted file, at one of its main equations.
 pub record NumbersClaim (ld : Loader) : Type 0 where
   pub admission : (s : List ℕ) (x : Fault) → admission ld s ≡ Adm.Refused x → From 1 14 x
   pub ordering : (s : List ℕ) (k : ℕ) (buf : List ℕ) (x : Fault) → ordering ld s k buf .answer ≡ Sort.Refused x → From 1 5 x ⊎ ((x .number ≡ 11) ⊎ (x .number ≡ 17))
   pub start : (s st : List ℕ) (x : Fault) → start ld s st .answer ≡ Start.Refused x → From 1 14 x ⊎ (x .number ≡ 17)
   pub refused : (s old ins new vals : List ℕ) (x : Fault) → cycle ld s old ins new vals .answer ≡ Cyc.Refused x → From 1 17 x
-  pub stopped : (s old ins new vals : List ℕ) (x : Fault) → cycle ld s old ins new vals .answer ≡ Cyc.Stopped x → ((x .number ≡ 18) ⊎ (x .number ≡ 19)) × Inside ld s (x .place)
+  pub stopped : (s old ins new vals : List ℕ) (x : Fault) → cycle ld s old ins new vals .answer ≡ Cyc.Stopped x → From 18 21 x × Inside ld s (x .place)

@@ -3,6 +3,7 @@
 -- and an error in the instance drops its state.
 use Prim.Native.Nat.{ℕ, zero, suc, _+_, _-_}
 use mathlib.Core.List.{List, [], _∷_, _++_, map, reverse}
+use mathlib.Core.Logic.{_↔_}
 use mathlib.Core.Option.{Option, none, some}
 use mathlib.Core.Path.{_≡_}
 use lib.ListN.{length, take, drop, getElem?}
@@ -13,18 +14,20 @@ use Rattle.ol_spec.specs.Syntax as S
 use Rattle.ol_spec.specs.Limits.{Loader}
 use Rattle.ol_spec.specs.Cell.{valuesOf}
 use Rattle.ol_spec.specs.Order.{order}
-use Rattle.ol_spec.specs.Eval.{Globals, Calls, Eval, orFailure, eval, nodeAt, recordSize}
+use Rattle.ol_spec.specs.Eval.{Globals, Calls, Eval, eval, nodeAt, recordSize}
 use Rattle.ol_spec.specs.Step.{ownSize, isFresh, oldCells, oldSegs, scope, fitAll, freshRecord, leave, callsAt, calls}
 use Rattle.ol_spec.specs.Admission.{constantNames, judge, admitted}
 use Rattle.ol_spec.specs.State.{globalsOf, freshState, goodInputs}
 use Rattle.ol_spec.specs.Cycle.{mainRun}
 use Rattle.ol_spec.specs.Demand3.{Bytes, Turn, Made, history, mainRecord}
-use Rattle.ol_spec.specs.Lustre.{pre, always, firstly, cellsBefore, runAt, answers}
-use Rattle.ol_spec.specs.RustSim.{width, Env, get, Key, State, States, getState, removeState, past, prev, child-calls, cycle, defaultState, ofOutcome, StepInstance, Sim, for-order, reseed, callee-env, endFunction, endOperator, step-instance, step, seed, step-env, report, new}
+use Rattle.ol_spec.specs.Lustre.{pre, always, orCold, firstly, cellsBefore, runAt, answers}
+use Rattle.ol_spec.specs.RustSim.{width, Env, get, Key, State, States, getState, removeState, past, prev, child-calls, cycle, defaultState, Err, uninitialized-pre, ok-or, StepInstance, Sim, for-order, reseed, callee-env, endFunction, endOperator, step-instance, step, seed, step-env, report, new}
 use Rattle.ol_spec.specs.RustSim as Rust
 use Rattle.ol_spec.specs.RustState.{stateOr, calls-of}
 use Rattle.ol_spec.specs.AsRust.{named, simAfter}
 use Rattle.ol_spec.specs.declared.Value.{Value}
+use Rattle.ol_spec.specs.declared.Outcome.the-variants as Out
+use Rattle.ol_spec.specs.declared.Cause.the-variants as Why
 
 -- the sequence of x over an instance's instants
 abbrev pub sequenceIn : State → ℕ → ℕ → Option Value
@@ -39,21 +42,23 @@ module _ (f : File) (vs : List Value) where
   evalOn n r calls cs e seg = eval g (scope n (isFresh r) (oldCells n r) cs) calls e seg
 
   -- On the record of an instance that finished so many steps: it is at a first cycle exactly if these are none; its cells are those that the paper's pre gives; `pre x` has the outcome that the paper's pre gives the
-  -- sequence of x at the next instant, nil being a failure, a constant's sequence being its value always; and `a -> b` evaluates as `if c then a else b`, where c is what the
+  -- sequence of x at the next instant, nil being cold, a constant's sequence being its value always; `pre` of whatever is cold exactly if these are none; and `a -> b` evaluates as `if c then a else b`, where c is what the
   -- paper's true -> false is then. In the Rust as over the bytes.
   pub record AtPast (k : ℕ) (n : Node) (r : List ℕ) (st : State) : Type 0 where
     pub first : isFresh r ≡ firstly (cycle st)
     pub cells : oldCells n r ≡ cellsBefore (f .enums) n (sequenceIn st) (cycle st)
     pub before : (x : ℕ) → T (member x (variableNames n)) → (calls : Calls) (cs : List Value) (seg : List ℕ)
-        → evalOn n r calls cs (S.pre (var x)) seg .out ≡ orFailure (pre (sequenceIn st x) (cycle st))
+        → evalOn n r calls cs (S.pre (var x)) seg .out ≡ orCold (pre (sequenceIn st x) (cycle st))
     pub constants : (x : ℕ) → T (member x (constantNames f)) → (calls : Calls) (cs : List Value) (seg : List ℕ)
-        → evalOn n r calls cs (S.pre (var x)) seg .out ≡ orFailure (pre (always (lookup x (constantNames f) vs)) (cycle st))
+        → evalOn n r calls cs (S.pre (var x)) seg .out ≡ orCold (pre (always (lookup x (constantNames f) vs)) (cycle st))
+    pub cold : (e : Expr) (calls : Calls) (cs : List Value) (seg : List ℕ) → (evalOn n r calls cs (S.pre e) seg .out ≡ Out.Failure Why.Cold) ↔ (cycle st ≡ 0)
     pub takes : (a b : Expr) (calls : Calls) (cs : List Value) (seg : List ℕ)
         → evalOn n r calls cs (S.arrow a b) seg ≡ evalOn n r calls cs (ifThenElse (boolLit (firstly (cycle st))) a b) seg
     pub rust-before : (x : ℕ) → T (member x (variableNames n)) → (step : StepInstance) (env : Env) (at : ℕ) (calls : States)
-        → Rust.eval f step k env st at (S.pre (var x)) calls .out ≡ ofOutcome (orFailure (pre (sequenceIn st x) (cycle st)))
+        → Rust.eval f step k env st at (S.pre (var x)) calls .out ≡ ok-or uninitialized-pre (pre (sequenceIn st x) (cycle st))
     pub rust-constants : (x : ℕ) → T (member x (constantNames f)) → (step : StepInstance) (env : Env) (at : ℕ) (calls : States)
-        → Rust.eval f step k env st at (S.pre (var x)) calls .out ≡ ofOutcome (orFailure (pre (always (lookup x (constantNames f) vs)) (cycle st)))
+        → Rust.eval f step k env st at (S.pre (var x)) calls .out ≡ ok-or uninitialized-pre (pre (always (lookup x (constantNames f) vs)) (cycle st))
+    pub rust-cold : (e : Expr) (step : StepInstance) (env : Env) (at : ℕ) (calls : States) → (Rust.eval f step k env st at (S.pre e) calls .out ≡ Err uninitialized-pre) ↔ (cycle st ≡ 0)
     pub rust-takes : (a b : Expr) (step : StepInstance) (env : Env) (at : ℕ) (calls : States)
         → Rust.eval f step k env st at (S.arrow a b) calls
         ≡ Rust.choose (firstly (cycle st)) (Rust.branch f step k env st a (Rust.eval f step k env st (suc at) a)) (Rust.branch f step k env st b (Rust.eval f step k env st (suc at + width a) b)) calls

@@ -24,8 +24,9 @@ pub mod State
 pub mod Step
 pub mod Eval
 pub mod Order
--- values: operators, types, cells, reals
+-- values: operators, what is out of range, types, cells, reals
 pub mod Operators
+pub mod Causes
 pub mod Types
 pub mod Cell
 pub mod Real

@@ -51,7 +51,7 @@ counter-pre = refl
 
 abbrev valueIn : Outcome → Option Value
 valueIn (Out.Value v) = some v
-valueIn Out.Failure = none
+valueIn (Out.Failure c) = none
 valueIn Out.Overflow = none
 
 -- its equation, read as the paper reads it

@@ -25,16 +25,30 @@ pub data RValue : Type 0 where
   plain : Value → RValue
   Tuple : List Value → RValue
 
--- `Result<Value, SimError>`, and the panic of an overflow
-pub data Result : Type 0 where
-  Ok : RValue → Result
-  Err Panic : Result
+-- `SimError`, as far as its text tells one from another: "uninitialized `pre` evaluated on its first tick", "binary OP not supported on L and R", "unary OP not supported on V",
+-- and every other text
+pub data SimError : Type 0 where
+  uninitialized-pre : SimError
+  binary-not-supported : BinOp → RValue → RValue → SimError
+  unary-not-supported : UnaryOp → RValue → SimError
+  other-error : SimError
 
-abbrev pub okBool : Bool → Result
-okBool b = Ok (plain (Val.Bool b))
+-- `Result<A, SimError>`, and the panic of an overflow
+pub data Result (A : Type 0) : Type 0 where
+  Ok : A → Result A
+  Err : SimError → Result A
+  Panic : Result A
 
-abbrev pub okInt : ℤ → Result
-okInt i = Ok (plain (Val.Int i))
+abbrev pub okBool : Bool → Result Value
+okBool b = Ok (Val.Bool b)
+
+abbrev pub okInt : ℤ → Result Value
+okInt i = Ok (Val.Int i)
+
+abbrev pub plainly : Result Value → Result RValue
+plainly (Ok v) = Ok (plain v)
+plainly (Err e) = Err e
+plainly Panic = Panic
 
 -- ---- i64
 
@@ -49,7 +63,7 @@ as-u n i = pos (residue n i)
 abbrev pub in-i64 : ℤ → Bool
 in-i64 i = leZ (negsuc (2 ^ 63 - 1)) i && ltZ i (pos (2 ^ 63))
 
-abbrev pub checked : ℤ → Result
+abbrev pub checked : ℤ → Result Value
 checked i = cond (in-i64 i) (okInt i) Panic
 
 abbrev pub same-int : ℤ → ℤ → Bool
@@ -114,9 +128,9 @@ pair-of (f64 a, f32 b) = record { left = a; right = widen b; float = false }
 pair-of (f64 a, f64 b) = record { left = a; right = b; float = false }
 
 -- `Float32(..)` if the operation is `float`, else `Float(..)`
-abbrev pub okReal : Bool → Real → Real → Result
-okReal true x y = Ok (plain (Val.Float32 x))
-okReal false x y = Ok (plain (Val.Float y))
+abbrev pub okReal : Bool → Real → Real → Result Value
+okReal true x y = Ok (Val.Float32 x)
+okReal false x y = Ok (Val.Float y)
 
 -- `==` of two reals of one kind; unlike kinds are unequal
 abbrev pub same-real : AReal → AReal → Bool
@@ -140,7 +154,7 @@ same-values (v ∷ vs) [] = false
 same-values (v ∷ vs) (w ∷ ws) = same-value v w && same-values vs ws
 
 -- two Bools
-abbrev pub bool-arm : BinOp → Bool × Bool → Option Result
+abbrev pub bool-arm : BinOp → Bool × Bool → Option (Result Value)
 bool-arm And (a, b) = some (okBool (a && b))
 bool-arm Or (a, b) = some (okBool (a || b))
 bool-arm Xor (a, b) = some (okBool (not (Bool·beq a b)))
@@ -162,31 +176,31 @@ bool-arm BitXor (a, b) = none
 bool-arm Shl (a, b) = none
 bool-arm Shr (a, b) = none
 
--- two reals
-abbrev pub real-arm : BinOp → Real → Real → Bool → Result
-real-arm And a b s = Err
-real-arm Or a b s = Err
-real-arm Xor a b s = Err
-real-arm Implies a b s = Err
-real-arm Eq a b s = okBool (eqR a b)
-real-arm Neq a b s = okBool (not (eqR a b))
-real-arm Lt a b s = okBool (ltR a b)
-real-arm Le a b s = okBool (leR a b)
-real-arm Gt a b s = okBool (ltR b a)
-real-arm Ge a b s = okBool (leR b a)
-real-arm Add a b s = okReal s (addR single (roundSingle a) (roundSingle b)) (addR double a b)
-real-arm Sub a b s = okReal s (subR single (roundSingle a) (roundSingle b)) (subR double a b)
-real-arm Mul a b s = okReal s (mulR single (roundSingle a) (roundSingle b)) (mulR double a b)
-real-arm Div a b s = cond (eqR b zeroR) Err (okReal s (divR single (roundSingle a) (roundSingle b)) (divR double a b))
-real-arm Mod a b s = Err
-real-arm BitAnd a b s = Err
-real-arm BitOr a b s = Err
-real-arm BitXor a b s = Err
-real-arm Shl a b s = Err
-real-arm Shr a b s = Err
+-- two reals: where there is none, the arm returns the error of the last arm
+abbrev pub real-arm : BinOp → Real → Real → Bool → Option (Result Value)
+real-arm And a b s = none
+real-arm Or a b s = none
+real-arm Xor a b s = none
+real-arm Implies a b s = none
+real-arm Eq a b s = some (okBool (eqR a b))
+real-arm Neq a b s = some (okBool (not (eqR a b)))
+real-arm Lt a b s = some (okBool (ltR a b))
+real-arm Le a b s = some (okBool (leR a b))
+real-arm Gt a b s = some (okBool (ltR b a))
+real-arm Ge a b s = some (okBool (leR b a))
+real-arm Add a b s = some (okReal s (addR single (roundSingle a) (roundSingle b)) (addR double a b))
+real-arm Sub a b s = some (okReal s (subR single (roundSingle a) (roundSingle b)) (subR double a b))
+real-arm Mul a b s = some (okReal s (mulR single (roundSingle a) (roundSingle b)) (mulR double a b))
+real-arm Div a b s = cond (eqR b zeroR) none (some (okReal s (divR single (roundSingle a) (roundSingle b)) (divR double a b)))
+real-arm Mod a b s = none
+real-arm BitAnd a b s = none
+real-arm BitOr a b s = none
+real-arm BitXor a b s = none
+real-arm Shl a b s = none
+real-arm Shr a b s = none
 
 -- Eq and Neq of any two
-abbrev pub eq-arm : BinOp → Bool → Option Result
+abbrev pub eq-arm : BinOp → Bool → Option (Result Value)
 eq-arm And b = none
 eq-arm Or b = none
 eq-arm Xor b = none
@@ -208,60 +222,63 @@ eq-arm BitXor b = none
 eq-arm Shl b = none
 eq-arm Shr b = none
 
--- two Ints
-abbrev pub int-arm : BinOp → ℤ → ℤ → Result
-int-arm And a b = Err
-int-arm Or a b = Err
-int-arm Xor a b = Err
-int-arm Implies a b = Err
-int-arm Eq a b = Err
-int-arm Neq a b = Err
-int-arm Lt a b = okBool (ltZ a b)
-int-arm Le a b = okBool (leZ a b)
-int-arm Gt a b = okBool (ltZ b a)
-int-arm Ge a b = okBool (leZ b a)
-int-arm Add a b = checked (a +ℤ b)
-int-arm Sub a b = checked (a -ℤ b)
-int-arm Mul a b = checked (a *ℤ b)
-int-arm Div a b = cond (same-int b (pos 0)) Err (checked (quotZ a b))
-int-arm Mod a b = cond (same-int b (pos 0)) Err (cond (in-i64 (quotZ a b)) (okInt (remZ a b)) Panic)
-int-arm BitAnd a b = okInt (signed 64 (Bits.bitAnd (residue 64 a) (residue 64 b)))
-int-arm BitOr a b = okInt (signed 64 (Bits.bitOr (residue 64 a) (residue 64 b)))
-int-arm BitXor a b = okInt (signed 64 (Bits.bitXor (residue 64 a) (residue 64 b)))
-int-arm Shl a b = maybe Err (λ k. okInt (as-i 64 (pos (residue 64 a * 2 ^ k)))) (shift-count b)
-int-arm Shr a b = maybe Err (λ k. okInt (shrZ a (2 ^ k))) (shift-count b)
+-- two Ints; a guard that does not hold leaves the last arm
+abbrev pub int-arm : BinOp → ℤ → ℤ → Option (Result Value)
+int-arm And a b = none
+int-arm Or a b = none
+int-arm Xor a b = none
+int-arm Implies a b = none
+int-arm Eq a b = none
+int-arm Neq a b = none
+int-arm Lt a b = some (okBool (ltZ a b))
+int-arm Le a b = some (okBool (leZ a b))
+int-arm Gt a b = some (okBool (ltZ b a))
+int-arm Ge a b = some (okBool (leZ b a))
+int-arm Add a b = some (checked (a +ℤ b))
+int-arm Sub a b = some (checked (a -ℤ b))
+int-arm Mul a b = some (checked (a *ℤ b))
+int-arm Div a b = cond (same-int b (pos 0)) none (some (checked (quotZ a b)))
+int-arm Mod a b = cond (same-int b (pos 0)) none (some (cond (in-i64 (quotZ a b)) (okInt (remZ a b)) Panic))
+int-arm BitAnd a b = some (okInt (signed 64 (Bits.bitAnd (residue 64 a) (residue 64 b))))
+int-arm BitOr a b = some (okInt (signed 64 (Bits.bitOr (residue 64 a) (residue 64 b))))
+int-arm BitXor a b = some (okInt (signed 64 (Bits.bitXor (residue 64 a) (residue 64 b))))
+int-arm Shl a b = maybe none (λ k. some (okInt (as-i 64 (pos (residue 64 a * 2 ^ k))))) (shift-count b)
+int-arm Shr a b = maybe none (λ k. some (okInt (shrZ a (2 ^ k)))) (shift-count b)
 
 -- the arms, in turn
-unfoldable pub eval-values : BinOp → Value → Value → Result
+unfoldable pub eval-values : BinOp → Value → Value → Result Value
 eval-values op l r =
-    maybe (maybe (maybe (maybe Err (λ p. int-arm op (p .0) (p .1)) (both (int-in l) (int-in r))) (λ x. x) (eq-arm op (same-value l r)))
-    (λ p. let q = pair-of p in real-arm op (q .left) (q .right) (q .float)) (both (real-in l) (real-in r)))
+    let last = Err (binary-not-supported op (plain l) (plain r)) in
+    maybe (maybe (maybe (maybe last (λ x. x) (maybe none (λ p. int-arm op (p .0) (p .1)) (both (int-in l) (int-in r)))) (λ x. x) (eq-arm op (same-value l r)))
+    (λ p. let q = pair-of p in maybe last (λ x. x) (real-arm op (q .left) (q .right) (q .float))) (both (real-in l) (real-in r)))
     (λ x. x) (maybe none (bool-arm op) (both (bool-in l) (bool-in r)))
 
 -- a tuple has the arms of Eq and Neq only
-abbrev pub eval-binary : BinOp → RValue → RValue → Result
-eval-binary op (plain v) (plain w) = eval-values op v w
-eval-binary op (plain v) (Tuple ws) = maybe Err (λ x. x) (eq-arm op false)
-eval-binary op (Tuple vs) (plain w) = maybe Err (λ x. x) (eq-arm op false)
-eval-binary op (Tuple vs) (Tuple ws) = maybe Err (λ x. x) (eq-arm op (same-values vs ws))
+abbrev pub eval-binary : BinOp → RValue → RValue → Result RValue
+eval-binary op (plain v) (plain w) = plainly (eval-values op v w)
+eval-binary op (plain v) (Tuple ws) = plainly (maybe (Err (binary-not-supported op (plain v) (Tuple ws))) (λ x. x) (eq-arm op false))
+eval-binary op (Tuple vs) (plain w) = plainly (maybe (Err (binary-not-supported op (Tuple vs) (plain w))) (λ x. x) (eq-arm op false))
+eval-binary op (Tuple vs) (Tuple ws) = plainly (maybe (Err (binary-not-supported op (Tuple vs) (Tuple ws))) (λ x. x) (eq-arm op (same-values vs ws)))
 
 -- ---- the arms of Unary
 
-abbrev pub not-arm : Value → Result
-not-arm v = maybe Err (λ b. okBool (not b)) (bool-in v)
+abbrev pub not-arm : Value → Result Value
+not-arm v = maybe (Err (unary-not-supported Not (plain v))) (λ b. okBool (not b)) (bool-in v)
 
-abbrev pub neg-real : AReal → Result
-neg-real (f32 x) = Ok (plain (Val.Float32 (negR x)))
-neg-real (f64 x) = Ok (plain (Val.Float (negR x)))
+abbrev pub neg-real : AReal → Result Value
+neg-real (f32 x) = Ok (Val.Float32 (negR x))
+neg-real (f64 x) = Ok (Val.Float (negR x))
 
-abbrev pub neg-arm : Value → Result
-neg-arm v = maybe (maybe Err neg-real (real-in v)) (λ i. checked (negℤ i)) (int-in v)
+abbrev pub neg-arm : Value → Result Value
+neg-arm v = maybe (maybe (Err (unary-not-supported Neg (plain v))) neg-real (real-in v)) (λ i. checked (negℤ i)) (int-in v)
 
-abbrev pub eval-unary : UnaryOp → RValue → Result
-eval-unary Not (plain v) = not-arm v
-eval-unary Not (Tuple vs) = Err
-eval-unary Neg (plain v) = neg-arm v
-eval-unary Neg (Tuple vs) = Err
+abbrev pub unary-value : UnaryOp → Value → Result Value
+unary-value Not v = not-arm v
+unary-value Neg v = neg-arm v
+
+abbrev pub eval-unary : UnaryOp → RValue → Result RValue
+eval-unary op (plain v) = plainly (unary-value op v)
+eval-unary op (Tuple vs) = Err (unary-not-supported op (Tuple vs))
 
 -- ---- `narrow_int`, `cast_value`, `fit_to`, `default_value`
 
@@ -285,17 +302,20 @@ to-int (f32 x) = truncate x
 to-int (f64 x) = truncate x
 
 -- `Value` of an Int, or of a real, or an error
-abbrev pub of-number : (ℤ → Value) → (AReal → Value) → Value → Result
-of-number h k v = maybe (maybe Err (λ r. Ok (plain (k r))) (real-in v)) (λ i. Ok (plain (h i))) (int-in v)
+abbrev pub of-number : (ℤ → Value) → (AReal → Value) → Value → Result Value
+of-number h k v = maybe (maybe (Err other-error) (λ r. Ok (k r)) (real-in v)) (λ i. Ok (h i)) (int-in v)
 
-unfoldable pub cast-value : Ty → RValue → Result
-cast-value t (Tuple vs) = Err
-cast-value bool (plain v) = Err
-cast-value (int c) (plain v) = of-number (λ i. Val.Int (narrow-int c i)) (λ r. Val.Int (narrow-int c (to-int r))) v
-cast-value float32 (plain v) = of-number (λ i. Val.Float32 (ofInt single i)) to-f32 v
-cast-value float64 (plain v) = of-number (λ i. Val.Float (ofInt double i)) to-f64 v
-cast-value char (plain v) = Err
-cast-value (enum e) (plain v) = Err
+abbrev pub cast-plain : Ty → Value → Result Value
+cast-plain bool v = Err other-error
+cast-plain (int c) v = of-number (λ i. Val.Int (narrow-int c i)) (λ r. Val.Int (narrow-int c (to-int r))) v
+cast-plain float32 v = of-number (λ i. Val.Float32 (ofInt single i)) to-f32 v
+cast-plain float64 v = of-number (λ i. Val.Float (ofInt double i)) to-f64 v
+cast-plain char v = Err other-error
+cast-plain (enum e) v = Err other-error
+
+unfoldable pub cast-value : Ty → RValue → Result RValue
+cast-value t (Tuple vs) = Err other-error
+cast-value t (plain v) = plainly (cast-plain t v)
 
 -- an Int or a real is converted, another value is kept
 abbrev pub number-or : (ℤ → Value) → (AReal → Value) → Value → Value

@@ -13,14 +13,12 @@ use Rattle.ol_spec.specs.Real as R
 use Rattle.ol_spec.specs.Syntax.{Ty, NodeKind, Function, Operator, Imported, Variable, Equation, Node, Constant, File, noNode, main, variables, nameIn}
 use Rattle.ol_spec.specs.Syntax.{count, Expr, boolLit, intLit, floatLit, charLit, var, unary, binary, ifThenElse, pre, arrow, cast, call, tuple, Exprs, nil, cons}
 use Rattle.ol_spec.specs.RustLeaves.{eval-binary, eval-unary, cast-value, fit-to, default-of, join-kinds, of-type, of-value, is-arithmetic, is-double, widen-beside, has-call}
-pub use Rattle.ol_spec.specs.RustLeaves.{RValue, plain, Tuple, Result, Ok, Err, Panic}
+pub use Rattle.ol_spec.specs.RustLeaves.{RValue, plain, Tuple, SimError, uninitialized-pre, other-error, Result, Ok, Err, Panic}
 use Rattle.ol_spec.specs.RustOrder.{evaluation-order}
-use Rattle.ol_spec.specs.Eval.{Outcomes, values, failure, overflow, RealKind, notReal, isDouble, orFailure, consOut}
-use Rattle.ol_spec.specs.Step.{equationAt, Ended, finished, failedAt, overflowedAt}
+use Rattle.ol_spec.specs.Eval.{RealKind, notReal, isDouble}
+use Rattle.ol_spec.specs.Step.{equationAt}
 use Rattle.ol_spec.specs.declared.Value.{Value}
 use Rattle.ol_spec.specs.declared.Value.the-variants as Val
-use Rattle.ol_spec.specs.declared.Outcome.{Outcome}
-use Rattle.ol_spec.specs.declared.Outcome.the-variants as Out
 
 -- ---- maps: what was inserted last stands first, and hides what was inserted under the same name before
 
@@ -111,11 +109,10 @@ insertState key s calls = stateAt key s calls
 
 -- ---- results and `?`
 
--- what the leaves give
-abbrev pub ofOutcome : Outcome → Result
-ofOutcome (Out.Value v) = Ok (plain v)
-ofOutcome Out.Failure = Err
-ofOutcome Out.Overflow = Panic
+-- `ok_or_else(|| EvalError(..))`
+abbrev pub ok-or : SimError → Option Value → Result RValue
+ok-or e none = Err e
+ok-or e (some v) = Ok (plain v)
 
 abbrev pub tupleUnlessOne : List Value → RValue
 tupleUnlessOne [] = Tuple []
@@ -124,36 +121,41 @@ tupleUnlessOne (v ∷ w ∷ vs) = Tuple (v ∷ w ∷ vs)
 
 -- a result, and the call states that are left; and for several values
 pub record Res : Type 0 where
-  pub out : Result
+  pub out : Result RValue
   pub calls : States
 
 pub record Ress : Type 0 where
-  pub out : Outcomes
+  pub out : Result (List Value)
   pub calls : States
 
-abbrev pub thenOn : Result → States → (RValue → States → Res) → Res
+abbrev pub thenOn : Result RValue → States → (RValue → States → Res) → Res
 thenOn (Ok v) calls k = k v calls
-thenOn Err calls k = record { out = Err; calls = calls }
+thenOn (Err e) calls k = record { out = Err e; calls = calls }
 thenOn Panic calls k = record { out = Panic; calls = calls }
 
 -- `let v = r?; k`
 unfoldable pub thenRes : Res → (RValue → States → Res) → Res
 thenRes r k = thenOn (r .out) (r .calls) k
 
-abbrev pub pushOn : Result → States → (States → Ress) → Ress
-pushOn (Ok (plain v)) calls k = let r = k calls in record { out = consOut v (r .out); calls = r .calls }
-pushOn (Ok (Tuple vs)) calls k = record { out = failure; calls = calls }
-pushOn Err calls k = record { out = failure; calls = calls }
-pushOn Panic calls k = record { out = overflow; calls = calls }
+abbrev pub pushed : Value → Result (List Value) → Result (List Value)
+pushed v (Ok vs) = Ok (v ∷ vs)
+pushed v (Err e) = Err e
+pushed v Panic = Panic
+
+abbrev pub pushOn : Result RValue → States → (States → Ress) → Ress
+pushOn (Ok (plain v)) calls k = let r = k calls in record { out = pushed v (r .out); calls = r .calls }
+pushOn (Ok (Tuple vs)) calls k = record { out = Err other-error; calls = calls }
+pushOn (Err e) calls k = record { out = Err e; calls = calls }
+pushOn Panic calls k = record { out = Panic; calls = calls }
 
 -- `vs.push(r?)`, and the others
 unfoldable pub push : Res → (States → Ress) → Ress
 push r k = pushOn (r .out) (r .calls) k
 
-abbrev pub thenAllOn : Outcomes → States → (List Value → States → Res) → Res
-thenAllOn (values vs) calls k = k vs calls
-thenAllOn failure calls k = record { out = Err; calls = calls }
-thenAllOn overflow calls k = record { out = Panic; calls = calls }
+abbrev pub thenAllOn : Result (List Value) → States → (List Value → States → Res) → Res
+thenAllOn (Ok vs) calls k = k vs calls
+thenAllOn (Err e) calls k = record { out = Err e; calls = calls }
+thenAllOn Panic calls k = record { out = Panic; calls = calls }
 
 unfoldable pub thenAll : Ress → (List Value → States → Res) → Res
 thenAll r k = thenAllOn (r .out) (r .calls) k
@@ -161,26 +163,26 @@ thenAll r k = thenAllOn (r .out) (r .calls) k
 -- an if-condition
 unfoldable pub ifBool : (Bool → States → Res) → RValue → States → Res
 ifBool k (plain (Val.Bool b)) calls = k b calls
-ifBool k (plain (Val.Int i)) calls = record { out = Err; calls = calls }
-ifBool k (plain (Val.Float x)) calls = record { out = Err; calls = calls }
-ifBool k (plain (Val.Float32 x)) calls = record { out = Err; calls = calls }
-ifBool k (plain (Val.Enum v)) calls = record { out = Err; calls = calls }
-ifBool k (Tuple vs) calls = record { out = Err; calls = calls }
+ifBool k (plain (Val.Int i)) calls = record { out = Err other-error; calls = calls }
+ifBool k (plain (Val.Float x)) calls = record { out = Err other-error; calls = calls }
+ifBool k (plain (Val.Float32 x)) calls = record { out = Err other-error; calls = calls }
+ifBool k (plain (Val.Enum v)) calls = record { out = Err other-error; calls = calls }
+ifBool k (Tuple vs) calls = record { out = Err other-error; calls = calls }
 
 -- ---- expressions
 
 abbrev pub first-tick : State → Bool
 first-tick s = isEmpty (past s)
 
--- `pre`: an error on a first tick, and on anything but a name that `prev` has
-abbrev pub pre-value : State → Bool → Option ℕ → Result
-pre-value s true x = Err
-pre-value s false none = Err
-pre-value s false (some x) = ofOutcome (orFailure (get x (prev s)))
+-- `pre`: an error of its own on a first tick, whatever the operand; later another one, on anything but a name that `prev` has
+abbrev pub pre-value : State → Bool → Option ℕ → Result RValue
+pre-value s true x = Err uninitialized-pre
+pre-value s false none = Err other-error
+pre-value s false (some x) = ok-or other-error (get x (prev s))
 
-abbrev pub discard : RValue → Result → Result
+abbrev pub discard : RValue → Result RValue → Result RValue
 discard v (Ok w) = Ok v
-discard v Err = Ok v
+discard v (Err e) = Ok v
 discard v Panic = Panic
 
 -- a float32 beside a double is widened
@@ -211,9 +213,15 @@ choose false a b calls = take-branch b a calls
 abbrev pub StepInstance : Type 0
 StepInstance = Key → ℕ → List Value → States → Env → Res
 
--- how a loop over the equations ended, with the equation that ended it, the environment, and the call states
+-- how a loop over the equations ended: an error or a panic with the equation that it came from
+pub data LoopEnd : Type 0 where
+  done : LoopEnd
+  errAt : SimError → ℕ → LoopEnd
+  panicAt : ℕ → LoopEnd
+
+-- that, the environment, and the call states
 pub record Ran : Type 0 where
-  pub end : Ended
+  pub end : LoopEnd
   pub env : Env
   pub calls : States
 
@@ -232,7 +240,8 @@ pub data Consts : Type 0 where
 -- what a step gives: the values of inputs, outputs and locals, an error, or a panic, each with the equation that ended it
 pub data Report : Type 0 where
   ok : List Value → Report
-  err panic : ℕ → Report
+  err : SimError → ℕ → Report
+  panic : ℕ → Report
 
 pub record Stepped : Type 0 where
   pub report : Report
@@ -275,11 +284,11 @@ module _ (f : File) where
     abbrev pub call-kind : NodeKind → Key → ℕ → (States → Ress) → States → Res
     call-kind Function key k args calls = thenAll (args calls) (λ vs calls. step-instance key k vs calls env)
     call-kind Operator key k args calls = thenAll (args calls) (λ vs calls. step-instance key k vs calls env)
-    call-kind Imported key k args calls = record { out = Err; calls = calls }
+    call-kind Imported key k args calls = record { out = Err other-error; calls = calls }
 
     abbrev pub call-arity : Bool → Key → ℕ → (States → Ress) → States → Res
     call-arity true key k args calls = call-kind (find-node k .kind) key k args calls
-    call-arity false key k args calls = record { out = Err; calls = calls }
+    call-arity false key k args calls = record { out = Err other-error; calls = calls }
 
     unfoldable pub eval-call : Key → ℕ → ℕ → (States → Ress) → States → Res
     eval-call key k m args calls = call-arity (eqb m (length (find-node k .inputs))) key k args calls
@@ -291,7 +300,7 @@ module _ (f : File) where
       eval at (intLit i) calls = record { out = Ok (plain (Val.Int i)); calls = calls }
       eval at (floatLit b) calls = record { out = Ok (plain (Val.Float (R.fromBits R.double b))); calls = calls }
       eval at (charLit c) calls = record { out = Ok (plain (Val.Int (pos c))); calls = calls }
-      eval at (var x) calls = record { out = ofOutcome (orFailure (orElse (get x env) (enum-variant-value x))); calls = calls }
+      eval at (var x) calls = record { out = ok-or other-error (orElse (get x env) (enum-variant-value x)); calls = calls }
       eval at (unary op e) calls = thenRes (eval (suc at) e calls) (λ v calls. record { out = eval-unary op v; calls = calls })
       eval at (binary op l r) calls =
           thenRes (eval (suc at) l calls) (λ v calls.
@@ -307,7 +316,7 @@ module _ (f : File) where
 
       -- the arguments of a call, the items of a tuple
       pub evalArgs : ℕ → Exprs → States → Ress
-      evalArgs at nil calls = record { out = values []; calls = calls }
+      evalArgs at nil calls = record { out = Ok []; calls = calls }
       evalArgs at (cons e es) calls = push (eval at e calls) (evalArgs (at + width e) es)
 
   -- ---- the equations of a node
@@ -340,13 +349,13 @@ module _ (f : File) where
   bind-lhs n (x ∷ y ∷ xs) (Tuple vs) env = some (storeAll n (x ∷ y ∷ xs) vs env)
 
   abbrev pub boundOn : ℕ → Option Env → (Env → States → Ran) → Env → States → Ran
-  boundOn i none k env calls = record { end = failedAt i; env = env; calls = calls }
+  boundOn i none k env calls = record { end = errAt other-error i; env = env; calls = calls }
   boundOn i (some env′) k env calls = k env′ calls
 
-  abbrev pub bindOn : Node → ℕ → Result → States → (Env → States → Ran) → Env → Ran
+  abbrev pub bindOn : Node → ℕ → Result RValue → States → (Env → States → Ran) → Env → Ran
   bindOn n i (Ok v) calls k env = boundOn i (bind-lhs n (equationAt n i .names) v env) k env calls
-  bindOn n i Err calls k env = record { end = failedAt i; env = env; calls = calls }
-  bindOn n i Panic calls k env = record { end = overflowedAt i; env = env; calls = calls }
+  bindOn n i (Err e) calls k env = record { end = errAt e i; env = env; calls = calls }
+  bindOn n i Panic calls k env = record { end = panicAt i; env = env; calls = calls }
 
   -- `let v = eval_eq_rhs(..)?; bind_lhs(.., v, ..)?`, and the others. Without coverage `eval_eq_rhs` is `eval`
   unfoldable pub bindNext : Node → ℕ → Res → (Env → States → Ran) → Env → Ran
@@ -355,7 +364,7 @@ module _ (f : File) where
   module _ (step-instance : StepInstance) (k : ℕ) (n : Node) (st : State) where
     -- `for &i in &order { .. }` over the equations of n, which is node number k
     unfoldable pub for-order : List ℕ → Env → States → Ran
-    for-order [] env calls = record { end = finished; env = env; calls = calls }
+    for-order [] env calls = record { end = done; env = env; calls = calls }
     for-order (i ∷ is) env calls =
         bindNext n i (eval step-instance k env st (address (n .equations) i) (equationAt n i .rhs) calls) (for-order is) env
 
@@ -389,17 +398,17 @@ module _ (f : File) where
   extract-output n env = tupleUnlessOne (map (λ v. maybe (Val.Bool false) (λ w. w) (get (v .name) env)) (n .outputs))
 
   -- what a Function gives, after its equations: the call states are its caller's
-  abbrev pub functionEnd : Node → Ended → Env → States → Res
-  functionEnd n finished env calls = record { out = Ok (extract-output n env); calls = calls }
-  functionEnd n (failedAt i) env calls = record { out = Err; calls = calls }
-  functionEnd n (overflowedAt i) env calls = record { out = Panic; calls = calls }
+  abbrev pub functionEnd : Node → LoopEnd → Env → States → Res
+  functionEnd n done env calls = record { out = Ok (extract-output n env); calls = calls }
+  functionEnd n (errAt e i) env calls = record { out = Err e; calls = calls }
+  functionEnd n (panicAt i) env calls = record { out = Panic; calls = calls }
 
   -- What an Operator gives, after its equations, which left it the child calls. Its state was taken out of the call states, and only a finished step puts it back.
-  abbrev pub operatorEnd : Node → Key → State → Ended → Env → States → States → Res
-  operatorEnd n key sub finished env children calls =
+  abbrev pub operatorEnd : Node → Key → State → LoopEnd → Env → States → States → Res
+  operatorEnd n key sub done env children calls =
       record { out = Ok (extract-output n env); calls = insertState key (state (env ∷ past sub) children) calls }
-  operatorEnd n key sub (failedAt i) env children calls = record { out = Err; calls = calls }
-  operatorEnd n key sub (overflowedAt i) env children calls = record { out = Panic; calls = calls }
+  operatorEnd n key sub (errAt e i) env children calls = record { out = Err e; calls = calls }
+  operatorEnd n key sub (panicAt i) env children calls = record { out = Panic; calls = calls }
 
   unfoldable pub endFunction : Node → Ran → Res
   endFunction n r = functionEnd n (r .end) (r .env) (r .calls)
@@ -413,15 +422,15 @@ module _ (f : File) where
   stepKind inner Operator key k n is env calls =
       let sub = maybe defaultState (λ s. s) (getState key calls) in
       endOperator n key sub (for-order inner k n sub is (reseed (prev sub) (n .outputs ++ n .locals) env) (child-calls sub)) (removeState key calls)
-  stepKind inner Imported key k n is env calls = record { out = Err; calls = calls }
+  stepKind inner Imported key k n is env calls = record { out = Err other-error; calls = calls }
 
   abbrev pub stepOrdered : StepInstance → Option (List ℕ) → Key → ℕ → Node → Env → States → Res
-  stepOrdered inner none key k n env calls = record { out = Err; calls = calls }
+  stepOrdered inner none key k n env calls = record { out = Err other-error; calls = calls }
   stepOrdered inner (some is) key k n env calls = stepKind inner (n .kind) key k n is env calls
 
   -- calls at most so deep: by 9 a callee's number is lower than its caller's, so as deep as there are nodes suffices
   unfoldable pub step-instance : ℕ → StepInstance
-  step-instance zero key k vs calls consts = record { out = Err; calls = calls }
+  step-instance zero key k vs calls consts = record { out = Err other-error; calls = calls }
   step-instance (suc d) key k vs calls consts =
       stepOrdered (step-instance d) (evaluation-order (find-node k)) key k (find-node k) (callee-env (find-node k) vs consts) calls
 
@@ -430,10 +439,10 @@ module _ (f : File) where
   abbrev pub step : StepInstance
   step = step-instance (length (f .nodes))
 
-  abbrev pub constOn : ℕ → (Value → Consts) → Result → Consts
+  abbrev pub constOn : ℕ → (Value → Consts) → Result RValue → Consts
   constOn i k (Ok (plain v)) = k v
   constOn i k (Ok (Tuple vs)) = stuck i
-  constOn i k Err = stuck i
+  constOn i k (Err e) = stuck i
   constOn i k Panic = stuck i
 
   -- the constants in declaration order from number i on, each with those before it. Calls in them would stand in no node
@@ -475,11 +484,11 @@ module _ (f : File) where
 
   -- A finished step counts and is remembered. An error leaves `state`, but not `call_states`, as it was. After a panic there is no `Sim` left to step; here it is the old one,
   -- which is what the relay goes on with.
-  abbrev pub stepEnd : Sim → Ended → Env → States → Stepped
-  stepEnd sim finished env calls =
+  abbrev pub stepEnd : Sim → LoopEnd → Env → States → Stepped
+  stepEnd sim done env calls =
       record { report = ok (report (main f) env); sim = record { consts = sim .consts; eq-order = sim .eq-order; state = state (env ∷ past (sim .state)) noStates; call-states = calls } }
-  stepEnd sim (failedAt i) env calls = record { report = err i; sim = record { consts = sim .consts; eq-order = sim .eq-order; state = sim .state; call-states = calls } }
-  stepEnd sim (overflowedAt i) env calls = record { report = panic i; sim = sim }
+  stepEnd sim (errAt e i) env calls = record { report = err e i; sim = record { consts = sim .consts; eq-order = sim .eq-order; state = sim .state; call-states = calls } }
+  stepEnd sim (panicAt i) env calls = record { report = panic i; sim = sim }
 
   unfoldable pub step-full : Sim → Env → Stepped
   step-full sim ins = let r = step-env sim ins in stepEnd sim (r .end) (r .env) (r .calls)

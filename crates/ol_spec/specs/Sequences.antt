@@ -21,6 +21,8 @@ use Rattle.ol_spec.specs.Lustre.{pre, arrow, firstly, cellsBefore, evalI
 use Rattle.ol_spec.specs.declared.Value.{Value}
 use Rattle.ol_spec.specs.declared.Outcome.{Outcome}
 use Rattle.ol_spec.specs.declared.Outcome.the-variants as Out
+use Rattle.ol_spec.specs.declared.Cause.{Cause}
+use Rattle.ol_spec.specs.declared.Cause.the-variants as Why
 use Rattle.ol_spec.specs.declared.Cycled.{Cycled}
 use Rattle.ol_spec.specs.declared.Cycled.the-variants as Cyc
 
@@ -37,12 +39,12 @@ instants (m ∷ ms) = addInstant (m .result .answer) m (instants ms)
 -- The outcome of a side beside the other one: a Float32 beside a Double is widened, and if the other has a call, its overflow counts. All else is the side's own outcome.
 abbrev pub beside : Bool → Bool → Outcome → Outcome → Outcome
 beside call double (Out.Value v) o = cond call (dropFailure (commonReal double v) o) (Out.Value (commonReal double v))
-beside call double Out.Failure o = Out.Failure
+beside call double (Out.Failure c) o = Out.Failure c
 beside call double Out.Overflow o = Out.Overflow
 
--- a nil is a failure
+-- a nil is cold
 abbrev pub orNil : Option Outcome → Outcome
-orNil none = Out.Failure
+orNil none = Out.Failure Why.Cold
 orNil (some o) = o
 
 module _ (f : File) (vs : List Value) (ms : List Made) where

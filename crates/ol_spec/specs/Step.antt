@@ -14,6 +14,8 @@ use Rattle.ol_spec.specs.Types.{defaults, fit}
 use Rattle.ol_spec.specs.Order.{order}
 use Rattle.ol_spec.specs.Eval.{Globals, Scope, Outcomes, values, failure, overflow, Evals, Calls, callees, sitesSize, nodeAt, segSize, evalRhs}
 use Rattle.ol_spec.specs.declared.Value.{Value}
+use Rattle.ol_spec.specs.declared.Cause.{Cause}
+use Rattle.ol_spec.specs.declared.Cause.the-variants as Why
 
 -- ---- sizes
 
@@ -96,10 +98,11 @@ assign n (x ∷ xs) (v ∷ vs) cs = assign n xs vs (putAt n (position x (variabl
 
 -- ---- running equations
 
--- how a run ended: an equation that failed or overflowed is given by its index in the file
+-- how a run ended: an equation that failed or overflowed is given by its index in the file, a failure also by its cause
 pub data Ended : Type 0 where
   finished : Ended
-  failedAt overflowedAt : ℕ → Ended
+  failedAt : Cause → ℕ → Ended
+  overflowedAt : ℕ → Ended
 
 -- how it ended, the cells, and the equations' segments
 pub record Run : Type 0 where
@@ -116,7 +119,7 @@ equationAt n i = getD (n .equations) i noEquation
 -- the values of an equation's right side are stored and the run goes on; a failure or an overflow ends it
 abbrev pub storeOn : Node → ℕ → Outcomes → List ℕ → (List Value → List (List ℕ) → Run) → List Value → List (List ℕ) → Run
 storeOn n i (values vs) seg k cs segs = k (assign n (equationAt n i .names) vs cs) (set segs i seg)
-storeOn n i failure seg k cs segs = record { end = failedAt i; cells = cs; segs = set segs i seg }
+storeOn n i (failure c) seg k cs segs = record { end = failedAt c i; cells = cs; segs = set segs i seg }
 storeOn n i overflow seg k cs segs = record { end = overflowedAt i; cells = cs; segs = set segs i seg }
 
 unfoldable pub store : Node → ℕ → Evals → (List Value → List (List ℕ) → Run) → List Value → List (List ℕ) → Run
@@ -160,10 +163,10 @@ module _ (g : Globals) where
 
   -- ---- calls
 
-  -- A finished instance is started. A failure inside returns its record, children included, to fresh.
+  -- A finished instance is started. A failure inside, whatever its cause, returns its record, children included, to fresh.
   abbrev pub leaveOn : Node → List ℕ → Ended → List Value → List (List ℕ) → Evals
   leaveOn n r finished cs segs = record { out = values (outputsIn n cs); seg = startedRecord cs segs }
-  leaveOn n r (failedAt i) cs segs = record { out = failure; seg = freshRecord n }
+  leaveOn n r (failedAt c i) cs segs = record { out = failure c; seg = freshRecord n }
   leaveOn n r (overflowedAt i) cs segs = record { out = overflow; seg = r }
 
   unfoldable pub leave : Node → List ℕ → Run → Evals
@@ -177,11 +180,11 @@ module _ (g : Globals) where
   abbrev pub callBy : NodeKind → Calls → Node → List Value → List ℕ → Evals
   callBy Function calls n vs r = record { out = instance calls n vs (freshRecord n) .out; seg = r }
   callBy Operator calls n vs r = instance calls n vs r
-  callBy Imported calls n vs r = record { out = failure; seg = r }
+  callBy Imported calls n vs r = record { out = failure Why.Other; seg = r }
 
   -- calls at most so deep; as deep as there are nodes suffices
   unfoldable pub callsAt : ℕ → Calls
-  callsAt zero k vs r = record { out = failure; seg = r }
+  callsAt zero k vs r = record { out = failure Why.Other; seg = r }
   callsAt (suc d) k vs r = callBy (nodeAt g k .kind) (callsAt d) (nodeAt g k) vs r
 
   abbrev pub calls : Calls

@@ -9,10 +9,18 @@ pub enum Value {
     Enum(u16),
 }
 
+// Why an evaluation failed: a `pre` in a first cycle, a zero divisor or a shift count outside
+// 0..63, or anything else.
+pub enum Cause {
+    Cold,
+    Range,
+    Other,
+}
+
 // What an evaluation gives: a value, a failure or an overflow.
 pub enum Outcome {
     Value(Value),
-    Failure,
+    Failure(Cause),
     Overflow,
 }
 
@@ -72,7 +80,7 @@ pub enum Started {
     Refused(Fault),
 }
 
-// What a cycle answers: values, a stop (18, 19) or a refusal (1 to 17).
+// What a cycle answers: values, a stop (18 to 21) or a refusal (1 to 17).
 pub enum Cycled {
     Answered,
     Stopped(Fault),
