@@ -12,28 +12,42 @@ use Rattle.ol_spec.specs.Syntax.{NodeKind, Function, Operator, Imported,
 use Rattle.ol_spec.specs.Limits.{Loader}
 use Rattle.ol_spec.specs.Order.{order}
 use Rattle.ol_spec.specs.Eval.{Globals, nodeAt, recordSize}
-use Rattle.ol_spec.specs.Step.{sites, ownSize, isFresh, oldCells, Ended, finished, failedAt, overflowedAt}
+use Rattle.ol_spec.specs.Step.{sites, ownSize, isFresh, oldCells}
 use Rattle.ol_spec.specs.Admission.{judge, admitted}
 use Rattle.ol_spec.specs.State.{globalsOf, freshState}
+use Rattle.ol_spec.specs.Answers.{causeNumber}
 use Rattle.ol_spec.specs.Cycle.{CycleCall, cycle}
 use Rattle.ol_spec.specs.Demand3.{Turn, Made, nextState, history, mainRecord}
 use Rattle.ol_spec.specs.Lustre.{firstly, cellsBefore}
-use Rattle.ol_spec.specs.RustSim.{width, Env, Key, State, state, States, getState, past, prev, child-calls, choose, branch, Ran, Sim, for-order, seed, step, step-env, step-full, stepEnd}
+use Rattle.ol_spec.specs.RustSim.{width, Env, Key, State, state, States, getState, past, prev, child-calls, choose, branch, LoopEnd, done, errAt, panicAt, Ran, Sim, for-order, seed, step, step-env, step-full, stepEnd}
+use Rattle.ol_spec.specs.RustLeaves.{SimError}
 use Rattle.ol_spec.specs.RustSim as Rust
 use Rattle.ol_spec.specs.RustState.{stateOr, calls-of}
-use Rattle.ol_spec.specs.AsRust.{fitting, inputMap, told, refusal, stepOn, callOn, simAfter}
+use Rattle.ol_spec.specs.AsRust.{errorNumber, fitting, inputMap, told, refusal, stepOn, callOn, simAfter}
 use Rattle.ol_spec.specs.Instances.{sequenceIn, evalOn, AtPast, AtSites, AtKind, AtSite}
 use Rattle.ol_spec.specs.Sequences.{cellsAt}
 use Rattle.ol_spec.specs.Instants.{Stays, still, onward, Moves, stays, again, Instance, ifOperator, siteAt, inside, leadsTo, instanceAt, pastAt, behind, Passes, Undone, AllPass, simBehind, Finishes, NeverAgain, SecondSides, InstancesNeverReturn, InstantsClaim, StartNeverReturns}
 use Rattle.ol_spec.specs.declared.Value.{Value}
+use Rattle.ol_spec.specs.declared.Cause.{Cause}
+use Rattle.ol_spec.specs.declared.Cause.the-variants as Why
 use Rattle.ol_spec.proofs.Admitted.{Facts}
 use Rattle.ol_spec.proofs.States.{is-main, made}
 use Rattle.ol_spec.proofs.RustPlaces.{calleeOf, sites-are}
+use Rattle.ol_spec.proofs.RustLeaves.{causeOf, number-is}
 use Rattle.ol_spec.proofs.RustCalls.{FileRust}
 use Rattle.ol_spec.proofs.RustMoves.{Moved, same, longer, dropped, moved-to, operator-moves, steps-move}
 use Rattle.ol_spec.proofs.AsRust.{MainRel, turn-tells, opened}
 use Rattle.ol_spec.proofs.Instances.{everywhere}
 use Rattle.ol_spec.proofs.Sequences.{never-returns}
+
+-- no error has the overflow's number
+error-no-overflow : (x : SimError) → ¬ (errorNumber x ≡ 19)
+error-no-overflow x e = go (causeOf x) (number-is x ∙ e)
+  where
+    go : (c : Cause) → ¬ (causeNumber c ≡ 19)
+    go Why.Cold h = omega arith
+    go Why.Range h = omega arith
+    go Why.Other h = omega arith
 
 -- ---- what becomes of a state, and of those inside it
 
@@ -197,10 +211,10 @@ module _ (f : File) (vs : List Value) where
             subst (λ is. Below (sim .call-states) (for-order f (step f) (D - 1) (main f) (sim .state) is (seed f (prev (sim .state)) (main f .outputs ++ main f .locals) (ins ++ sim .consts)) (sim .call-states) .calls)) (sym e)
             (main-moves (sim .state) (seed f (prev (sim .state)) (main f .outputs ++ main f .locals) (ins ++ sim .consts)) (sim .call-states))
 
-        by-end : (t : Ended) → Below (sim .call-states) (stepEnd f sim t (v .env) (v .calls) .sim .call-states)
-        by-end finished = moved
-        by-end (failedAt i) = moved
-        by-end (overflowedAt i) = λ key. same _ _ refl
+        by-end : (t : LoopEnd) → Below (sim .call-states) (stepEnd f sim t (v .env) (v .calls) .sim .call-states)
+        by-end done = moved
+        by-end (errAt x i) = moved
+        by-end (panicAt i) = λ key. same _ _ refl
 
     turn-moves : (old : List ℕ) (sim : Sim) → MainRel f vs A F old sim → (t : Turn) → Below (sim .call-states) (simAfter f sim t .call-states)
     turn-moves old sim h t = go (fitting f t)
@@ -217,10 +231,10 @@ module _ (f : File) (vs : List Value) where
         v : Ran
         v = step-env f sim (inputMap f t)
 
-        by-end : (e : Ended) → Undone f vs (told f t (stepEnd f sim e (v .env) (v .calls)) .answer) → stepEnd f sim e (v .env) (v .calls) .sim ≡ sim
-        by-end finished u = absurd u
-        by-end (failedAt i) u = absurd (omega (arith, u))
-        by-end (overflowedAt i) u = refl
+        by-end : (e : LoopEnd) → Undone f vs (told f t (stepEnd f sim e (v .env) (v .calls)) .answer) → stepEnd f sim e (v .env) (v .calls) .sim ≡ sim
+        by-end done u = absurd u
+        by-end (errAt x i) u = absurd (error-no-overflow x u)
+        by-end (panicAt i) u = refl
 
         go : (b : Bool) → Undone f vs (cond b (told f t (stepOn f sim t)) (refusal f t) .answer) → cond b (stepOn f sim t .sim) sim ≡ sim
         go true u = by-end (v .end) u

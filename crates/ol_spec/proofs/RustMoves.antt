@@ -14,12 +14,12 @@ use Rattle.ol_theory.proofs.SystemProof.{in-order-distinct}
 use Rattle.ol_spec.specs.Lists.{maybe}
 use Rattle.ol_spec.specs.Syntax.{NodeKind, Function, Operator, Imported, Equation, Node, File}
 use Rattle.ol_spec.specs.Syntax.{count, Expr, boolLit, intLit, floatLit, charLit, var, unary, binary, ifThenElse, pre, arrow, cast, call, tuple, Exprs, nil, cons}
-use Rattle.ol_spec.specs.Eval.{Outcomes, values, failure, overflow, callees, calleesAll, nodeAt}
-use Rattle.ol_spec.specs.Step.{equationSites, sites, Ended, finished, failedAt, overflowedAt, noEquation, equationAt}
+use Rattle.ol_spec.specs.Eval.{callees, calleesAll, nodeAt}
+use Rattle.ol_spec.specs.Step.{equationSites, sites, noEquation, equationAt}
 use Rattle.ol_spec.specs.Order.{order}
 use Rattle.ol_spec.specs.State.{globalsOf}
 use Rattle.ol_spec.specs.RustOrder.{evaluation-order}
-use Rattle.ol_spec.specs.RustSim.{Env, width, widths, Key, address, State, state, States, noStates, sameKey, getState, removeState, past, prev, child-calls, defaultState, RValue, plain, Tuple, Result, Ok, Err, Panic, Res, Ress, thenOn, thenRes, pushOn, push, thenAllOn, thenAll, ifBool, step-untaken, Branch, take-branch, choose, StepInstance, Ran, find-node, call-kind, call-arity, eval-call, evalArgs, bind-lhs, boundOn, bindOn, bindNext, for-order, reseed, callee-env, functionEnd, operatorEnd, endFunction, endOperator, stepKind, stepOrdered, step-instance}
+use Rattle.ol_spec.specs.RustSim.{Env, width, widths, Key, address, State, state, States, noStates, sameKey, getState, removeState, past, prev, child-calls, defaultState, RValue, plain, Tuple, Result, Ok, Err, Panic, Res, Ress, thenOn, thenRes, pushOn, push, thenAllOn, thenAll, ifBool, step-untaken, Branch, take-branch, choose, StepInstance, LoopEnd, done, errAt, panicAt, Ran, find-node, call-kind, call-arity, eval-call, evalArgs, bind-lhs, boundOn, bindOn, bindNext, for-order, reseed, callee-env, functionEnd, operatorEnd, endFunction, endOperator, stepKind, stepOrdered, step-instance}
 use Rattle.ol_spec.specs.RustSim as Rust
 use Rattle.ol_spec.specs.RustState.{stateOr}
 use Rattle.ol_spec.specs.declared.Value.{Value}
@@ -45,9 +45,9 @@ module _ (Rel : ℕ → ℕ → States → States → Type 0) (w : Walk Rel) whe
   unfolding thenRes
   then-both a m b p q c r k h i = go (r .out)
     where
-      go : (o : Result) → Rel a b c (thenOn o (r .calls) k .calls)
+      go : (o : Result RValue) → Rel a b c (thenOn o (r .calls) k .calls)
       go (Ok v) = w .both a m b c (r .calls) _ p q h (i v (r .calls))
-      go Err = w .wide a a m b c (r .calls) (omega arith) q h
+      go (Err e) = w .wide a a m b c (r .calls) (omega arith) q h
       go Panic = w .wide a a m b c (r .calls) (omega arith) q h
 
   then-back : (a m b : ℕ) → a ≤ m → m ≤ b → (c : States) (r : Res) (k : RValue → States → Res) → Rel m b c (r .calls) → ((v : RValue) (c′ : States) → Rel a m c′ (k v c′ .calls))
@@ -55,19 +55,19 @@ module _ (Rel : ℕ → ℕ → States → States → Type 0) (w : Walk Rel) whe
   unfolding thenRes
   then-back a m b p q c r k h i = go (r .out)
     where
-      go : (o : Result) → Rel a b c (thenOn o (r .calls) k .calls)
+      go : (o : Result RValue) → Rel a b c (thenOn o (r .calls) k .calls)
       go (Ok v) = w .back a m b c (r .calls) _ p q h (i v (r .calls))
-      go Err = w .wide m a b b c (r .calls) p (omega arith) h
+      go (Err e) = w .wide m a b b c (r .calls) p (omega arith) h
       go Panic = w .wide m a b b c (r .calls) p (omega arith) h
 
   push-both : (a m b : ℕ) → a ≤ m → m ≤ b → (c : States) (r : Res) (k : States → Ress) → Rel a m c (r .calls) → ((c′ : States) → Rel m b c′ (k c′ .calls)) → Rel a b c (push r k .calls)
   unfolding push
   push-both a m b p q c r k h i = go (r .out)
     where
-      go : (o : Result) → Rel a b c (pushOn o (r .calls) k .calls)
+      go : (o : Result RValue) → Rel a b c (pushOn o (r .calls) k .calls)
       go (Ok (plain v)) = w .both a m b c (r .calls) _ p q h (i (r .calls))
       go (Ok (Tuple vs)) = w .wide a a m b c (r .calls) (omega arith) q h
-      go Err = w .wide a a m b c (r .calls) (omega arith) q h
+      go (Err e) = w .wide a a m b c (r .calls) (omega arith) q h
       go Panic = w .wide a a m b c (r .calls) (omega arith) q h
 
   all-back : (a m b : ℕ) → a ≤ m → m ≤ b → (c : States) (r : Ress) (k : List Value → States → Res) → Rel m b c (r .calls) → ((vs : List Value) (c′ : States) → Rel a m c′ (k vs c′ .calls))
@@ -75,10 +75,10 @@ module _ (Rel : ℕ → ℕ → States → States → Type 0) (w : Walk Rel) whe
   unfolding thenAll
   all-back a m b p q c r k h i = go (r .out)
     where
-      go : (o : Outcomes) → Rel a b c (thenAllOn o (r .calls) k .calls)
-      go (values vs) = w .back a m b c (r .calls) _ p q h (i vs (r .calls))
-      go failure = w .wide m a b b c (r .calls) p (omega arith) h
-      go overflow = w .wide m a b b c (r .calls) p (omega arith) h
+      go : (o : Result (List Value)) → Rel a b c (thenAllOn o (r .calls) k .calls)
+      go (Ok vs) = w .back a m b c (r .calls) _ p q h (i vs (r .calls))
+      go (Err e) = w .wide m a b b c (r .calls) p (omega arith) h
+      go Panic = w .wide m a b b c (r .calls) p (omega arith) h
 
   if-bool : (a b : ℕ) (k : Bool → States → Res) → ((t : Bool) (c : States) → Rel a b c (k t c .calls)) → (v : RValue) (c : States) → Rel a b c (ifBool k v c .calls)
   unfolding ifBool
@@ -259,9 +259,9 @@ module _ (f : File) (si : StepInstance) (N : ℕ) (n : Node) (st : State) where
         by-bound more none = stopped i is c (r .calls) (each i env c)
         by-bound more (some env′) = goes i is c (r .calls) _ (each i env c) (more env′ (r .calls))
 
-        by-result : ((env′ : Env) (c′ : States) → Z is c′ (for-order f si N n st is env′ c′ .calls)) → (o : Result) → Z (i ∷ is) c (bindOn f n i o (r .calls) (for-order f si N n st is) env .calls)
+        by-result : ((env′ : Env) (c′ : States) → Z is c′ (for-order f si N n st is env′ c′ .calls)) → (o : Result RValue) → Z (i ∷ is) c (bindOn f n i o (r .calls) (for-order f si N n st is) env .calls)
         by-result more (Ok v) = by-bound more (bind-lhs f n (equationAt n i .names) v env)
-        by-result more Err = stopped i is c (r .calls) (each i env c)
+        by-result more (Err e) = stopped i is c (r .calls) (each i env c)
         by-result more Panic = stopped i is c (r .calls) (each i env c)
 
   -- the states that these equations have moved, if each stands once among them
@@ -372,10 +372,10 @@ module _ (f : File) (vs : List Value) (F : FileRust f vs) where
         r : Ran
         r = for-order f (step-instance f d) k n defaultState (order (n .equations)) env c
 
-        by-end : (t : Ended) (other : Key) → getState other (functionEnd f n t (r .env) (r .calls) .calls) ≡ getState other c
-        by-end finished other = function-same e (order (n .equations)) env c defaultState other
-        by-end (failedAt i) other = function-same e (order (n .equations)) env c defaultState other
-        by-end (overflowedAt i) other = function-same e (order (n .equations)) env c defaultState other
+        by-end : (t : LoopEnd) (other : Key) → getState other (functionEnd f n t (r .env) (r .calls) .calls) ≡ getState other c
+        by-end done other = function-same e (order (n .equations)) env c defaultState other
+        by-end (errAt x i) other = function-same e (order (n .equations)) env c defaultState other
+        by-end (panicAt i) other = function-same e (order (n .equations)) env c defaultState other
     step-kind key env c Operator e = by-end (r .end)
       where
         sub : State
@@ -390,15 +390,15 @@ module _ (f : File) (vs : List Value) (F : FileRust f vs) where
         gone : StepMoves key k c (removeState key c)
         gone = record { others = λ other h. removed-miss other key c (h e); own = dropped _ _ (removed-hit key c) }
 
-        by-end : (t : Ended) → StepMoves key k c (operatorEnd f n key sub t (r .env) (r .calls) (removeState key c) .calls)
-        by-end finished =
+        by-end : (t : LoopEnd) → StepMoves key k c (operatorEnd f n key sub t (r .env) (r .calls) (removeState key c) .calls)
+        by-end done =
             let new = state (r .env ∷ past sub) (r .calls) in
             record {
               others = λ other h. state-miss other key new (removeState key c) (h e) ∙ removed-miss other key c (h e);
               own = longer _ _ (r .env) (r .calls) (state-hit key new (removeState key c)) (operator-moves sub env₀ (child-calls sub));
             }
-        by-end (failedAt i) = gone
-        by-end (overflowedAt i) = gone
+        by-end (errAt x i) = gone
+        by-end (panicAt i) = gone
     step-kind key env c Imported e = unmoved key k c _ (λ other. refl)
 
   pub steps-move : (d : ℕ) → Steps d
