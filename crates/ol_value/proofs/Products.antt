@@ -16,6 +16,7 @@ use Rattle.ol_spec.specs.Operators.{exact, divInt, modInt, eqZ}
 use Rattle.ol_spec.specs.declared.Value.the-variants as Val
 use Rattle.ol_spec.specs.declared.Outcome.{Outcome}
 use Rattle.ol_spec.specs.declared.Outcome.the-variants as Out
+use Rattle.ol_spec.specs.declared.Cause.the-variants as Why
 use Rattle.ol_value.proofs.Backs.{no-true, tests-eq, back, backs, op-done, op-over, eq-bits}
 use Rattle.ol_value.proofs.Magnitudes.{sign-is}
 
@@ -119,10 +120,10 @@ module _ {a b : ℤ} (fa : SFits w64 a) (fb : SFits w64 b) where
   fits? = ltb (mag (quotZ (back a) (back b))) (2 ^ 63)
 
   -- the divisor is zero, and it is not
-  pub by-zero : (y : Outcome) → ofZ w64 b ≡ 0 → Out.Failure ≡ cond (eqZ b (pos 0)) Out.Failure y
+  pub by-zero : (y : Outcome) → ofZ w64 b ≡ 0 → Out.Failure Why.Range ≡ cond (eqZ b (pos 0)) (Out.Failure Why.Range) y
   by-zero y e = rw (zero-is (eq-eqb (ofZ w64 b) 0 e))
 
-  by-other : (y : Outcome) → (ofZ w64 b ≡ 0 → ⊥) → cond (eqZ b (pos 0)) Out.Failure y ≡ y
+  by-other : (y : Outcome) → (ofZ w64 b ≡ 0 → ⊥) → cond (eqZ b (pos 0)) (Out.Failure Why.Range) y ≡ y
   by-other y e = rw (zero-is (ne-eqb (ofZ w64 b) 0 e))
 
   module _ (e : ofZ w64 b ≡ 0 → ⊥) where

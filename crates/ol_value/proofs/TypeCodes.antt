@@ -18,6 +18,7 @@ use Rattle.ol_spec.specs.Cell.{tag, isVariant}
 use Rattle.ol_spec.specs.declared.Value.{Value}
 use Rattle.ol_spec.specs.declared.Value.the-variants as Val
 use Rattle.ol_spec.specs.declared.Outcome.the-variants as Out
+use Rattle.ol_spec.specs.declared.Cause.the-variants as Why
 use Rattle.ol_value.specs.declared.narrowing.TypeRow.{TypeRow}
 use Rattle.ol_value.specs.Codes.{rowSays, rowFor, tyFrom, tyOf, isNumber, nameIn, inKind}
 use Rattle.ol_value.proofs.Backs.{no-true}
@@ -107,7 +108,7 @@ module _ (e : ℕ) where
       by-code (λ c t. Val.Enum v ≡ fit (tyFrom e t) (Val.Enum v))
       refl (λ c p q. refl) refl refl refl (λ c p. refl)
 
-pub cast-other : (t : Ty) (v : Value) → Other t → Out.Failure ≡ castTo t v
+pub cast-other : (t : Ty) (v : Value) → Other t → Out.Failure Why.Other ≡ castTo t v
 unfolding castTo
 cast-other bool v o = refl
 cast-other (int c) v o = absurd o
@@ -124,7 +125,7 @@ cast-number f (Val.Float x) t = refl
 cast-number f (Val.Float32 x) t = refl
 cast-number f (Val.Enum v) t = no-true t
 
-pub cast-not : (f : Value → Value) (v : Value) → isNumber v ≡ false → Out.Failure ≡ castReal f v
+pub cast-not : (f : Value → Value) (v : Value) → isNumber v ≡ false → Out.Failure Why.Other ≡ castReal f v
 cast-not f (Val.Bool b) t = refl
 cast-not f (Val.Int i) t = no-true (sym t)
 cast-not f (Val.Float x) t = no-true (sym t)

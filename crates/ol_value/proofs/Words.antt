@@ -14,6 +14,7 @@ use Rattle.ol_spec.specs.Numbers.{residue, signed}
 use Rattle.ol_spec.specs.Operators.{onBits, shiftBy}
 use Rattle.ol_spec.specs.declared.Value.the-variants as Val
 use Rattle.ol_spec.specs.declared.Outcome.the-variants as Out
+use Rattle.ol_spec.specs.declared.Cause.the-variants as Why
 use Rattle.ol_value.proofs.Backs.{no-true, back, signed-is, residue-is}
 
 pub bits-done : (f : ℕ → ℕ → ℕ) {a b : ℤ} → SFits w64 a → SFits w64 b → Out.Value (Val.Int (toZ w64 (f (ofZ w64 a) (ofZ w64 b)))) ≡ onBits f a b
@@ -37,7 +38,7 @@ shift-done : (f : ℕ → ℤ) (b : ℤ) → isCount b ≡ true → Out.Value (V
 shift-done f (pos n) t = rw (natural-count n t)
 shift-done f (negsuc n) t = no-true t
 
-shift-not : (f : ℕ → ℤ) (b : ℤ) → isCount b ≡ false → Out.Failure ≡ shiftBy f b
+shift-not : (f : ℕ → ℤ) (b : ℤ) → isCount b ≡ false → Out.Failure Why.Range ≡ shiftBy f b
 shift-not f (pos n) t = rw (natural-count n t)
 shift-not f (negsuc n) t = refl
 
@@ -48,7 +49,7 @@ count-is fb e = ap isCount (sym (toZ-ofZ fb)) ∙ e
 pub count-asks : {b : ℤ} → SFits w64 b → isCount (back b) ≡ true → ofZ w64 b < 64
 count-asks {b} fb t = count-below b (count-is fb t)
 
-pub no-count : (f : ℕ → ℤ) {b : ℤ} → SFits w64 b → isCount (back b) ≡ false → Out.Failure ≡ shiftBy f b
+pub no-count : (f : ℕ → ℤ) {b : ℤ} → SFits w64 b → isCount (back b) ≡ false → Out.Failure Why.Range ≡ shiftBy f b
 no-count f {b} fb t = shift-not f b (count-is fb t)
 
 module _ {a b : ℤ} (fa : SFits w64 a) (fb : SFits w64 b) (t : isCount (back b) ≡ true) where

@@ -16,6 +16,7 @@ use Rattle.ol_spec.specs.declared.Value.{Value}
 use Rattle.ol_spec.specs.declared.Value.the-variants as Val
 use Rattle.ol_spec.specs.declared.Outcome.{Outcome}
 use Rattle.ol_spec.specs.declared.Outcome.the-variants as Out
+use Rattle.ol_spec.specs.declared.Cause.the-variants as Why
 use Rattle.ol_value.specs.declared.narrowing.TypeRow.{TypeRow}
 use Rattle.ol_value.specs.declared.pairs.Operands.{Operands}
 use Rattle.ol_value.specs.declared.pairs.Operands.the-variants as Opd
@@ -100,10 +101,10 @@ pairOf Opd.Unlike = unlike
 
 -- by the operator's code; an unknown one fails, and a file with one is turned back
 abbrev pub unaryBy : ℕ → Value → Outcome
-unaryBy op v = maybe Out.Failure (λ o. unaryOf o v) (getElem? unaryOps op)
+unaryBy op v = maybe (Out.Failure Why.Other) (λ o. unaryOf o v) (getElem? unaryOps op)
 
 abbrev pub pairBy : ℕ → Pair → Outcome
-pairBy op p = maybe Out.Failure (λ o. onPair o p) (getElem? binOps op)
+pairBy op p = maybe (Out.Failure Why.Other) (λ o. onPair o p) (getElem? binOps op)
 
 abbrev pub binaryBy : ℕ → Value → Value → Outcome
 binaryBy op v w = pairBy op (pair v w)

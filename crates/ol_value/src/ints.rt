@@ -9,6 +9,7 @@ ghost use lib.Signed.{mag, ltZ, leZ, quotZ, shrZ};
 ghost use lib.Bits.{bitAnd, bitOr, bitXor};
 ghost use Rattle.ol_spec.specs.Numbers.{residue, signed};
 ghost use Rattle.ol_spec.specs.Operators.{exact, divInt, modInt, onBits, shiftBy, eqZ};
+use ol_spec::Cause;
 use ol_spec::Outcome;
 use ol_spec::Value;
 
@@ -126,7 +127,7 @@ pub(crate) fn div_ints(a: i64, b: i64) -> Outcome
     ensures { λ r. ⌜ r ≡ divInt a b ⌝ }
 {
     if b == 0 {
-        return Outcome::Failure;
+        return Outcome::Failure(Cause::Range);
     }
     if quotient_fits(a, b) {
         Outcome::Value(Value::Int(a / b))
@@ -149,7 +150,7 @@ pub(crate) fn mod_ints(a: i64, b: i64) -> Outcome
     ensures { λ r. ⌜ r ≡ modInt a b ⌝ }
 {
     if b == 0 {
-        return Outcome::Failure;
+        return Outcome::Failure(Cause::Range);
     }
     if quotient_fits(a, b) {
         let n = size(a) % size(b);
@@ -194,7 +195,7 @@ pub(crate) fn shl_ints(a: i64, b: i64) -> Outcome
     if is_count(b) {
         Outcome::Value(Value::Int(a << b))
     } else {
-        Outcome::Failure
+        Outcome::Failure(Cause::Range)
     }
 }
 
@@ -205,7 +206,7 @@ pub(crate) fn shr_ints(a: i64, b: i64) -> Outcome
     if is_count(b) {
         Outcome::Value(Value::Int(a >> b))
     } else {
-        Outcome::Failure
+        Outcome::Failure(Cause::Range)
     }
 }
 

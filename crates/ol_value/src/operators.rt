@@ -23,6 +23,7 @@ use crate::ints::shr_ints;
 use crate::ints::sub_ints;
 use crate::pairs::Operands;
 use crate::pairs::pair_up;
+use ol_spec::Cause;
 use ol_spec::Outcome;
 use ol_spec::Value;
 
@@ -44,7 +45,7 @@ fn eval_bools(op: u8, a: bool, b: bool) -> Outcome
         3 => bool_out(!a | b),
         4 => bool_out(a == b),
         5 => bool_out(a != b),
-        _ => Outcome::Failure,
+        _ => Outcome::Failure(Cause::Other),
     }
 }
 
@@ -99,7 +100,7 @@ fn eval_ints(op: u8, i: i64, j: i64) -> Outcome
         4..=9 => bool_out(compare_ints(op, i, j)),
         10..=14 => compute_ints(op, i, j),
         15..=19 => combine_ints(op, i, j),
-        _ => Outcome::Failure,
+        _ => Outcome::Failure(Cause::Other),
     }
 }
 
@@ -123,7 +124,7 @@ fn div_singles(x: f32, y: f32) -> Outcome
     ensures { λ r. ⌜ r ≡ divReal single x y ⌝ }
 {
     if y == 0.0f32 {
-        Outcome::Failure
+        Outcome::Failure(Cause::Range)
     } else {
         Outcome::Value(Value::Float32(x / y))
     }
@@ -149,7 +150,7 @@ fn eval_singles(op: u8, x: f32, y: f32) -> Outcome
     match op {
         4..=9 => bool_out(compare_singles(op, x, y)),
         10..=13 => compute_singles(op, x, y),
-        _ => Outcome::Failure,
+        _ => Outcome::Failure(Cause::Other),
     }
 }
 
@@ -173,7 +174,7 @@ fn div_doubles(x: f64, y: f64) -> Outcome
     ensures { λ r. ⌜ r ≡ divReal double x y ⌝ }
 {
     if y == 0.0f64 {
-        Outcome::Failure
+        Outcome::Failure(Cause::Range)
     } else {
         Outcome::Value(Value::Float(x / y))
     }
@@ -199,7 +200,7 @@ fn eval_doubles(op: u8, x: f64, y: f64) -> Outcome
     match op {
         4..=9 => bool_out(compare_doubles(op, x, y)),
         10..=13 => compute_doubles(op, x, y),
-        _ => Outcome::Failure,
+        _ => Outcome::Failure(Cause::Other),
     }
 }
 
@@ -210,7 +211,7 @@ fn eval_names(op: u8, v: u16, w: u16) -> Outcome
     match op {
         4 => bool_out(v == w),
         5 => bool_out(v != w),
-        _ => Outcome::Failure,
+        _ => Outcome::Failure(Cause::Other),
     }
 }
 
@@ -221,7 +222,7 @@ fn eval_unlike(op: u8) -> Outcome
     match op {
         4 => bool_out(false),
         5 => bool_out(true),
-        _ => Outcome::Failure,
+        _ => Outcome::Failure(Cause::Other),
     }
 }
 
@@ -246,10 +247,10 @@ fn unary_not(v: Value) -> Outcome
 {
     match v {
         Value::Bool(b) => Outcome::Value(Value::Bool(!b)),
-        Value::Int(_) => Outcome::Failure,
-        Value::Float(_) => Outcome::Failure,
-        Value::Float32(_) => Outcome::Failure,
-        Value::Enum(_) => Outcome::Failure,
+        Value::Int(_) => Outcome::Failure(Cause::Other),
+        Value::Float(_) => Outcome::Failure(Cause::Other),
+        Value::Float32(_) => Outcome::Failure(Cause::Other),
+        Value::Enum(_) => Outcome::Failure(Cause::Other),
     }
 }
 
@@ -258,11 +259,11 @@ fn unary_neg(v: Value) -> Outcome
     ensures { λ r. ⌜ r ≡ negOf v ⌝ }
 {
     match v {
-        Value::Bool(_) => Outcome::Failure,
+        Value::Bool(_) => Outcome::Failure(Cause::Other),
         Value::Int(i) => neg_int(i),
         Value::Float(x) => Outcome::Value(Value::Float(-x)),
         Value::Float32(x) => Outcome::Value(Value::Float32(-x)),
-        Value::Enum(_) => Outcome::Failure,
+        Value::Enum(_) => Outcome::Failure(Cause::Other),
     }
 }
 
@@ -273,6 +274,6 @@ pub fn eval_unary(op: u8, v: Value) -> Outcome
     match op {
         0 => unary_not(v),
         1 => unary_neg(v),
-        _ => Outcome::Failure,
+        _ => Outcome::Failure(Cause::Other),
     }
 }

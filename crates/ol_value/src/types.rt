@@ -17,6 +17,7 @@ use ol_real::f64_to_f32;
 use ol_real::f64_to_i64;
 use ol_real::i64_to_f32;
 use ol_real::i64_to_f64;
+use ol_spec::Cause;
 use ol_spec::Outcome;
 use ol_spec::Value;
 
@@ -92,11 +93,11 @@ fn cast_int(t: TypeRow, v: Value) -> Outcome
     ensures { λ r. ⌜ r ≡ castInt (intTyOf t) v ⌝ }
 {
     match v {
-        Value::Bool(_) => Outcome::Failure,
+        Value::Bool(_) => Outcome::Failure(Cause::Other),
         Value::Int(i) => Outcome::Value(Value::Int(narrow_int(t, i))),
         Value::Float(x) => Outcome::Value(Value::Int(narrow_int(t, f64_to_i64(x)))),
         Value::Float32(x) => Outcome::Value(Value::Int(narrow_int(t, f32_to_i64(x)))),
-        Value::Enum(_) => Outcome::Failure,
+        Value::Enum(_) => Outcome::Failure(Cause::Other),
     }
 }
 
@@ -120,7 +121,7 @@ fn cast_single(v: Value) -> Outcome
     if is_number(v) {
         Outcome::Value(fit_single(v))
     } else {
-        Outcome::Failure
+        Outcome::Failure(Cause::Other)
     }
 }
 
@@ -131,7 +132,7 @@ fn cast_double(v: Value) -> Outcome
     if is_number(v) {
         Outcome::Value(fit_double(v))
     } else {
-        Outcome::Failure
+        Outcome::Failure(Cause::Other)
     }
 }
 
@@ -146,7 +147,7 @@ pub fn cast_value(code: u8, v: Value) -> Outcome
     match code {
         9 => cast_single(v),
         10 => cast_double(v),
-        _ => Outcome::Failure,
+        _ => Outcome::Failure(Cause::Other),
     }
 }
 

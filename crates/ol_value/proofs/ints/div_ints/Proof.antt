@@ -14,8 +14,8 @@ returns c =
 quotient-fits-requires : tie.Need-quotient-fits-requires
 quotient-fits-requires c κs = search needs
 
-div-t6 : tie.Need-div-t6
-div-t6 c = (omega arith, asks (sym (c .before .quotient-fits .ensures) ∙ c .if2 .taken))
+div-t7 : tie.Need-div-t7
+div-t7 c = (omega arith, asks (sym (c .before .quotient-fits .ensures) ∙ c .if2 .taken))
 
 returns-2 : tie.Need-returns-2
 returns-2 c =
@@ -29,4 +29,4 @@ returns-3 c =
 
 pub div-ints-spec : {M : Type 1} → statement M
 div-ints-spec =
-    tie.close (tie.spec returns quotient-fits-requires div-t6 returns-2 returns-3)
+    tie.close (tie.spec returns quotient-fits-requires div-t7 returns-2 returns-3)

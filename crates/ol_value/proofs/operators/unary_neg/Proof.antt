@@ -28,7 +28,7 @@ enum-told-2 : tie.Need-enum-told-2
 enum-told-2 c = search needs
 
 returns : tie.Need-returns
-returns c = search needs
+returns c = rw (c .enum-told .given .1)
 
 returns-2 : tie.Need-returns-2
 returns-2 c = rw (c .before .before .v .given .1) (c .neg-int .ensures ∙ ap (λ i. exact (negℤ i)) (toZ-ofZ {w = w64} {z = c .before .before .v .given .0 .0} (sfits-of (c .before .known-told .given .0 .1))))
@@ -42,7 +42,7 @@ unfolding negR
 returns-4 c = rw (c .before .v3 .given .1)
 
 returns-5 : tie.Need-returns-5
-returns-5 c = search needs
+returns-5 c = rw (c .enum-told2 .given .1)
 
 pub unary-neg-spec : {M : Type 1} → statement M
 unary-neg-spec =

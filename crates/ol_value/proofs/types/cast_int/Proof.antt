@@ -40,7 +40,7 @@ enum-told-2 : tie.Need-enum-told-2
 enum-told-2 c = search needs
 
 returns : tie.Need-returns
-returns c = search needs
+returns c = rw (c .enum-told .given .1)
 
 returns-2 : tie.Need-returns-2
 returns-2 c = rw (c .before .before .v .given .1) (ap (λ i. Out.Value (Val.Int i)) (toZ-ofZ (sfits-of (c .narrow-int .ok)) ∙ c .narrow-int .ensures ∙ ap (narrow (intTyOf (c .before .before .before .before .args .t))) (toZ-ofZ (sfits-of (c .before .known-told .given .0 .1)))))
@@ -52,7 +52,7 @@ returns-4 : tie.Need-returns-4
 returns-4 c = rw (c .before .before .before .v3 .given .1) (ap (λ i. Out.Value (Val.Int i)) (toZ-ofZ (sfits-of (c .narrow-int3 .ok)) ∙ c .narrow-int3 .ensures ∙ ap (narrow (intTyOf (c .before .before .before .before .before .args .t))) (toZ-ofZ (sfits-of (c .before .f32-to-i64 .ok)) ∙ c .before .f32-to-i64 .ensures)))
 
 returns-5 : tie.Need-returns-5
-returns-5 c = search needs
+returns-5 c = rw (c .enum-told2 .given .1)
 
 pub cast-int-spec : {M : Type 1} → statement M
 cast-int-spec =
