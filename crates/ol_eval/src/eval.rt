@@ -444,10 +444,10 @@ fn eval_all(
                 let w = passed(tab, fits, k, i, v);
                 write_cell(w, to, 9 * i);
             }
-            Outcome::Failure => {
+            Outcome::Failure(c) => {
                 let s = pass_all(file, tab, pos, level, n - i - 1);
                 return Ran {
-                    end: Ending::Failed,
+                    end: Ending::Failed(c),
                     next: s.next,
                     used: used + s.used,
                 };
@@ -522,9 +522,9 @@ fn step_instance(
             copy_outputs(frame, inputs, row(tab, k, OUTPUTS), args);
             Ending::Values
         }
-        Ending::Failed => {
+        Ending::Failed(c) => {
             write_fresh(file, tab, k, new);
-            Ending::Failed
+            Ending::Failed(c)
         }
         Ending::Overflowed => {
             copy(old, new);

@@ -14,6 +14,7 @@ use crate::outcomes::Ending;
 use crate::outcomes::kept;
 use crate::tables::code_of;
 use crate::tables::slot_at;
+use ol_spec::Cause;
 use ol_spec::Outcome;
 use ol_spec::Value;
 use ol_value::cell::read_cell;
@@ -101,7 +102,7 @@ pub(crate) fn store_out(tab: &[u8], k: usize, at: usize, o: Outcome, cells: &mut
             store(tab, k, at, kept(v), cells);
             Ending::Values
         }
-        Outcome::Failure => Ending::Failed,
+        Outcome::Failure(c) => Ending::Failed(c),
         Outcome::Overflow => Ending::Overflowed,
     }
 }
@@ -130,10 +131,10 @@ pub fn single_out(end: Ending, outputs: usize, cells: &[u8]) -> Outcome
             if outputs == 1 {
                 Outcome::Value(read_cell(cells, 0))
             } else {
-                Outcome::Failure
+                Outcome::Failure(Cause::Other)
             }
         }
-        Ending::Failed => Outcome::Failure,
+        Ending::Failed(c) => Outcome::Failure(c),
         Ending::Overflowed => Outcome::Overflow,
     }
 }

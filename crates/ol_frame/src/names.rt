@@ -29,6 +29,7 @@ use crate::tables::code_of;
 use crate::tables::number;
 use crate::tables::row;
 use crate::tables::slot_at;
+use ol_spec::Cause;
 use ol_spec::Outcome;
 use ol_spec::Value;
 use ol_tables::table::CONSTANTS;
@@ -75,13 +76,13 @@ pub fn present(file: &[u8], tab: &[u8], frame: &[u8; FRAME], at: usize) -> Outco
     }
 }
 
-// Pre of the expression at `at`: fails at a first cycle, and on anything but a variable or constant.
+// Pre of the expression at `at`: cold at a first cycle, whatever the expression; later it fails on anything but a variable or constant.
 fn previous(file: &[u8], tab: &[u8], frame: &[u8; FRAME], at: usize, level: usize) -> Outcome
     requires { ⌜ Framed (now frame) × Looked (now file) (tabOf (now tab)) (constsOf (now tab)) (nodeOf (now frame)) level at × Cells (now file) (nodeOf (now frame)) (beforeOf (now frame)) ⌝ }
     ensures { λ r. ⌜ r ≡ preOf (globalsIn (now (file .entry)) (constsOf (now (tab .entry)))) (scopeIn (now (file .entry)) (nodeOf (now (frame .entry))) (firstOf (now (frame .entry))) (beforeOf (now (frame .entry))) (beforeOf (now (frame .entry)))) (firstOf (now (frame .entry))) (exprAt (now (file .entry)) level at) ⌝ }
 {
     if is_first(frame) {
-        return Outcome::Failure;
+        return Outcome::Failure(Cause::Cold);
     }
     if file[at] == 4 {
         let s = slot_at(tab, at + 1);
@@ -90,10 +91,10 @@ fn previous(file: &[u8], tab: &[u8], frame: &[u8; FRAME], at: usize, level: usiz
         } else if s < 255 {
             Outcome::Value(read_cell(tab, CONSTANTS + (s - 112) * 9))
         } else {
-            Outcome::Failure
+            Outcome::Failure(Cause::Other)
         }
     } else {
-        Outcome::Failure
+        Outcome::Failure(Cause::Other)
     }
 }
 
@@ -111,7 +112,7 @@ pub fn leaf_out(file: &[u8], tab: &[u8], at: usize, level: usize, frame: &[u8; F
         3 => Outcome::Value(char_of(file[p])),
         4 => present(file, tab, frame, p),
         8 => previous(file, tab, frame, p, level - 1),
-        _ => Outcome::Failure,
+        _ => Outcome::Failure(Cause::Other),
     }
 }
 

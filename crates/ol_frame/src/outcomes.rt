@@ -9,16 +9,17 @@ ghost use Rattle.ol_spec.specs.Eval.{thenOut, commonReal, kindOfType, isDouble?
 ghost use Rattle.ol_value.specs.Codes.{tyOf, unaryBy};
 ghost use Rattle.ol_frame.specs.Outcomes.{doneOf, binaryOut, testOf, untestedOf, runsOf, overflowOf, dropOut, singleOf, commonOut, kindOf, outcomeKind};
 use ol_real::f32_to_f64;
+use ol_spec::Cause;
 use ol_spec::Outcome;
 use ol_spec::Value;
 use ol_value::operators::eval_binary;
 use ol_value::operators::eval_unary;
 use ol_value::types::cast_value;
 
-// How several expressions, a call, an equation or a run of equations end: with values, at a failure, at an overflow.
+// How several expressions, a call, an equation or a run of equations end: with values, at a failure of some cause, at an overflow.
 pub enum Ending {
     Values,
-    Failed,
+    Failed(Cause),
     Overflowed,
 }
 
@@ -55,7 +56,7 @@ pub fn same_out(o: Outcome) -> Outcome
 {
     match o {
         Outcome::Value(v) => Outcome::Value(kept(v)),
-        Outcome::Failure => Outcome::Failure,
+        Outcome::Failure(c) => Outcome::Failure(c),
         Outcome::Overflow => Outcome::Overflow,
     }
 }
@@ -66,7 +67,7 @@ pub fn done(o: Outcome) -> bool
 {
     match o {
         Outcome::Value(_) => true,
-        Outcome::Failure => false,
+        Outcome::Failure(_) => false,
         Outcome::Overflow => false,
     }
 }
@@ -77,7 +78,7 @@ pub fn unary_out(op: u8, o: Outcome) -> Outcome
 {
     match o {
         Outcome::Value(v) => eval_unary(op, v),
-        Outcome::Failure => Outcome::Failure,
+        Outcome::Failure(c) => Outcome::Failure(c),
         Outcome::Overflow => Outcome::Overflow,
     }
 }
@@ -88,7 +89,7 @@ pub fn cast_out(code: u8, o: Outcome) -> Outcome
 {
     match o {
         Outcome::Value(v) => cast_value(code, v),
-        Outcome::Failure => Outcome::Failure,
+        Outcome::Failure(c) => Outcome::Failure(c),
         Outcome::Overflow => Outcome::Overflow,
     }
 }
@@ -100,10 +101,10 @@ pub fn binary_out(op: u8, l: Outcome, r: Outcome) -> Outcome
     match l {
         Outcome::Value(v) => match r {
             Outcome::Value(w) => eval_binary(op, v, w),
-            Outcome::Failure => Outcome::Failure,
+            Outcome::Failure(c) => Outcome::Failure(c),
             Outcome::Overflow => Outcome::Overflow,
         },
-        Outcome::Failure => Outcome::Failure,
+        Outcome::Failure(c) => Outcome::Failure(c),
         Outcome::Overflow => Outcome::Overflow,
     }
 }
@@ -120,7 +121,7 @@ pub fn test_of(o: Outcome) -> Test
             Value::Float32(_) => Test::Neither,
             Value::Enum(_) => Test::Neither,
         },
-        Outcome::Failure => Test::Neither,
+        Outcome::Failure(_) => Test::Neither,
         Outcome::Overflow => Test::Neither,
     }
 }
@@ -130,8 +131,8 @@ pub fn untested(o: Outcome) -> Outcome
     ensures { λ r. ⌜ r ≡ untestedOf o ⌝ }
 {
     match o {
-        Outcome::Value(_) => Outcome::Failure,
-        Outcome::Failure => Outcome::Failure,
+        Outcome::Value(_) => Outcome::Failure(Cause::Other),
+        Outcome::Failure(c) => Outcome::Failure(c),
         Outcome::Overflow => Outcome::Overflow,
     }
 }
@@ -142,7 +143,7 @@ pub fn runs(taken: Outcome, has: bool) -> bool
 {
     match taken {
         Outcome::Value(_) => has,
-        Outcome::Failure => false,
+        Outcome::Failure(_) => false,
         Outcome::Overflow => false,
     }
 }
@@ -153,7 +154,7 @@ pub fn overflowed(o: Outcome) -> bool
 {
     match o {
         Outcome::Value(_) => false,
-        Outcome::Failure => false,
+        Outcome::Failure(_) => false,
         Outcome::Overflow => true,
     }
 }
@@ -181,7 +182,7 @@ pub(crate) fn is_single(o: Outcome) -> bool
             Value::Float32(_) => true,
             Value::Enum(_) => false,
         },
-        Outcome::Failure => false,
+        Outcome::Failure(_) => false,
         Outcome::Overflow => false,
     }
 }
@@ -209,7 +210,7 @@ pub(crate) fn common_out(kind: RealKind, o: Outcome) -> Outcome
             RealKind::Single => Outcome::Value(v),
             RealKind::Double => Outcome::Value(widened(v)),
         },
-        Outcome::Failure => Outcome::Failure,
+        Outcome::Failure(c) => Outcome::Failure(c),
         Outcome::Overflow => Outcome::Overflow,
     }
 }
@@ -237,7 +238,7 @@ pub(crate) fn kind_of_outcome(o: Outcome) -> RealKind
             Value::Float32(_) => RealKind::Single,
             Value::Enum(_) => RealKind::NotReal,
         },
-        Outcome::Failure => RealKind::NotReal,
+        Outcome::Failure(_) => RealKind::NotReal,
         Outcome::Overflow => RealKind::NotReal,
     }
 }

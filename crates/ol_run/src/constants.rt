@@ -37,7 +37,7 @@ fn fitted(code: u8, o: Outcome) -> Outcome
 {
     match o {
         Outcome::Value(v) => Outcome::Value(fit_to(code, v)),
-        Outcome::Failure => Outcome::Failure,
+        Outcome::Failure(c) => Outcome::Failure(c),
         Outcome::Overflow => Outcome::Overflow,
     }
 }
@@ -90,7 +90,7 @@ pub fn constant_values(file: &[u8], tab: &mut [u8], nodes: usize, at: usize, cou
                 let w = kept(v);
                 write_cell(w, tab, CONSTANTS + n);
             }
-            Outcome::Failure => {
+            Outcome::Failure(_) => {
                 return Found::Stuck(pos);
             }
             Outcome::Overflow => {

@@ -16,6 +16,7 @@ use ol_tables::bytes::byte;
 use ol_tables::table::KNOWN;
 use ol_tables::tables::INPUTS;
 use ol_tables::tables::VARIABLES;
+use ol_value::causes::cause_number;
 ghost use mathlib.Core.Path.{_≡_};
 ghost use mathlib.Core.List.{List};
 ghost use Rattle.ol_spec.specs.declared.Value.{Value};
@@ -43,8 +44,8 @@ fn run_record(
     run(file, tab, frame, &old[own..], &mut new[own..])
 }
 
-// The cycle: the new state and the values. 18 keeps the main cells and the started byte, with the
-// instances moved; 19 keeps the old state.
+// The cycle: the new state and the values. A failure, whatever its cause, keeps the main cells and the
+// started byte, with the instances moved; an overflow keeps the old state.
 pub fn run_main(
     file: &[u8],
     tab: &[u8],
@@ -78,7 +79,10 @@ pub fn run_main(
             write_cells(n, &frame[CELLS..BEFORE], values);
             Cycled::Answered
         }
-        Ending::Failed => Cycled::Stopped(Fault { number: 18, place }),
+        Ending::Failed(c) => Cycled::Stopped(Fault {
+            number: cause_number(c),
+            place,
+        }),
         Ending::Overflowed => {
             copy(old, new);
             Cycled::Stopped(Fault { number: 19, place })

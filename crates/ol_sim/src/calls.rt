@@ -15,7 +15,7 @@ pub(crate) enum Call {
     Cycle,
 }
 
-// What is answered: done, with the lengths where they are asked for; a stop (18, 19) or a refusal (1 to 17).
+// What is answered: done, with the lengths where they are asked for; a stop (18 to 21) or a refusal (1 to 17).
 pub(crate) enum Answer {
     Done(Lengths),
     Stopped(Fault),

@@ -14,8 +14,8 @@ use Rattle.ol_spec.specs.declared.Outcome.the-variants as Out
 abbrev pub firstValue : List ℕ → Value
 firstValue s = cond (ltb (length s) 9) (Val.Bool false) (valueOf (take 9 s))
 
--- a value's payload; 1 for a failure, 2 for an overflow
+-- a value's payload; 1 for a failure of any cause, 2 for an overflow
 abbrev pub digestOf : Outcome → ℕ
 digestOf (Out.Value v) = payload v
-digestOf Out.Failure = 1
+digestOf (Out.Failure c) = 1
 digestOf Out.Overflow = 2

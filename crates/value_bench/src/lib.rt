@@ -27,13 +27,13 @@ fn first_value(cells: &[u8]) -> Value
     }
 }
 
-// A value's payload; 1 for a failure, 2 for an overflow.
+// A value's payload; 1 for a failure of any cause, 2 for an overflow.
 fn digest(o: Outcome) -> u64
     ensures { λ r. ⌜ r ≡ digestOf o ⌝ }
 {
     match o {
         Outcome::Value(v) => payload_of(v),
-        Outcome::Failure => 1,
+        Outcome::Failure(_) => 1,
         Outcome::Overflow => 2,
     }
 }

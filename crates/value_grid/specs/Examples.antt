@@ -13,9 +13,14 @@ abbrev byte : ℕ → Answer
 byte head = record { head = head; nine = [] }
 
 -- section 1, question 0: not true is false. The answers false, true, a failure, an overflow
-pub unary : (answeredAt 1 grid 0 (byte 0) ≡ true) × (answeredAt 1 grid 0 (byte 1) ≡ false) × (answeredAt 1 grid 0 (byte 2) ≡ false) × (answeredAt 1 grid 0 (byte 3) ≡ false)
+pub unary : (answeredAt 1 grid 0 (byte 0) ≡ true) × (answeredAt 1 grid 0 (byte 1) ≡ false) × (answeredAt 1 grid 0 (byte 21) ≡ false) × (answeredAt 1 grid 0 (byte 19) ≡ false)
 unfolding answeredAt outcomeIs foundAt gridValue unaryOf
 unary = (refl, refl, refl, refl)
+
+-- question 42: -true fails with 21, and with no other number
+pub failing : (answeredAt 1 grid 42 (byte 21) ≡ true) × (answeredAt 1 grid 42 (byte 20) ≡ false) × (answeredAt 1 grid 42 (byte 18) ≡ false)
+unfolding answeredAt outcomeIs foundAt gridValue unaryOf
+failing = (refl, refl, refl)
 
 -- section 4, questions 0 and 42: Bool takes true, Int8 does not
 pub input : (answeredAt 4 grid 0 (byte 1) ≡ true) × (answeredAt 4 grid 0 (byte 0) ≡ false) × (answeredAt 4 grid 42 (byte 1) ≡ false) × (answeredAt 4 grid 42 (byte 0) ≡ true)

@@ -5,6 +5,7 @@ use mathlib.Core.List.{List, [], _∷_}
 use mathlib.Core.Path.{_≡_}
 use lib.Dec.{ltb, eqb}
 use lib.ListN.{length, take, drop}
+use Rattle.ol_spec.specs.Answers.{outcomeNumber}
 use Rattle.ol_spec.specs.Cell.{tag, cell, valueOf}
 use Rattle.ol_spec.specs.Lists.{same}
 use Rattle.ol_spec.specs.Types.{fit, castTo, default}
@@ -30,11 +31,11 @@ valueAgrees head nine (Val.Float x) = eqb head 4 && same (cell (Val.Float x)) ni
 valueAgrees head nine (Val.Float32 x) = eqb head 4 && same (cell (Val.Float32 x)) nine
 valueAgrees head nine (Val.Enum n) = eqb head 4 && same (cell (Val.Enum n)) nine
 
--- an answer is this outcome: 2 is a failure, 3 an overflow
+-- an answer is this outcome: a failure and an overflow are their numbers, 18 to 21
 abbrev pub outcomeAgrees : ℕ → List ℕ → Outcome → Bool
 outcomeAgrees head nine (Out.Value v) = valueAgrees head nine v
-outcomeAgrees head nine Out.Failure = eqb head 2
-outcomeAgrees head nine Out.Overflow = eqb head 3
+outcomeAgrees head nine (Out.Failure c) = eqb head (outcomeNumber (Out.Failure c))
+outcomeAgrees head nine Out.Overflow = eqb head (outcomeNumber Out.Overflow)
 
 unfoldable pub outcomeIs : Outcome → Answer → Bool
 outcomeIs o a = outcomeAgrees (a .head) (a .nine) o

@@ -6,6 +6,7 @@ use libc::STDIN_FILENO;
 use libc::STDOUT_FILENO;
 use ol_spec::Outcome;
 use ol_spec::Value;
+use ol_value::causes::cause_number;
 use ol_value::cell;
 use ol_value::operators;
 use ol_value::types;
@@ -116,8 +117,8 @@ fn outcome_agrees(head: u8, nine: [u8; 9], o: Outcome) -> bool
 {
     match o {
         Outcome::Value(v) => value_agrees(head, nine, v),
-        Outcome::Failure => head == 2,
-        Outcome::Overflow => head == 3,
+        Outcome::Failure(c) => head == cause_number(c),
+        Outcome::Overflow => head == 19,
     }
 }
 
