@@ -18,6 +18,7 @@ use Rattle.ol_spec.specs.declared.Value.{Value}
 use Rattle.ol_spec.specs.declared.Value.the-variants as Val
 use Rattle.ol_spec.specs.declared.Outcome.{Outcome}
 use Rattle.ol_spec.specs.declared.Outcome.the-variants as Out
+use Rattle.ol_spec.specs.declared.Cause.the-variants as Why
 use Rattle.ol_spec.proofs.Tests.{T-true}
 use Rattle.ol_tables.specs.At.{fileAt, nodeIn, exprAt, Reads}
 use Rattle.ol_tables.specs.Tables.{slotAt, slotOf, slotBy, constantSlot}
@@ -179,5 +180,5 @@ is-name s level at h e = ap nameIn (var-form s level at h e .tree)
 pub pre-is : (g : Globals) (c : Scope) (first : Bool) (e : Expr) (x : ℕ) (o : Option Value) → first ≡ false → nameIn e ≡ some x → beforeOf g c x ≡ o → preOf g c first e ≡ orFailure o
 pre-is g c first e x o f n b = (λ i. preOf g c (f i) e) ∙ ap (λ (m : Option ℕ). orFailure (maybe none (beforeOf g c) m)) n ∙ ap orFailure b
 
-pub pre-none : (g : Globals) (c : Scope) (first : Bool) (e : Expr) → first ≡ false → nameIn e ≡ none → preOf g c first e ≡ Out.Failure
+pub pre-none : (g : Globals) (c : Scope) (first : Bool) (e : Expr) → first ≡ false → nameIn e ≡ none → preOf g c first e ≡ Out.Failure Why.Other
 pre-none g c first e f n = (λ i. preOf g c (f i) e) ∙ ap (λ (m : Option ℕ). orFailure (maybe none (beforeOf g c) m)) n

@@ -185,5 +185,5 @@ common-plain k (Out.Value (Val.Int i)) h = refl
 common-plain k (Out.Value (Val.Float x)) h = refl
 common-plain k (Out.Value (Val.Float32 x)) h = let z : _≡_ {A = ℕ} 0 1 = cc in absurd (omega arith)
 common-plain k (Out.Value (Val.Enum w)) h = refl
-common-plain k Out.Failure h = refl
+common-plain k (Out.Failure c) h = refl
 common-plain k Out.Overflow h = refl

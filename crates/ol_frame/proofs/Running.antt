@@ -12,6 +12,7 @@ use Rattle.ol_spec.specs.Syntax.{Equation, Node}
 use Rattle.ol_spec.specs.Eval.{Globals, Calls, Evals, values, failure, overflow, Outcomes, callees, sitesSize, segSize}
 use Rattle.ol_spec.specs.Step.{equationSites, split, assign, noEquation, equationAt, Run, finished, failedAt, overflowedAt, store, storeOn, evalEquation, runAll}
 use Rattle.ol_spec.specs.declared.Value.{Value}
+use Rattle.ol_spec.specs.declared.Cause.{Cause}
 use Rattle.ol_spec.proofs.Segments.{sites-append}
 use Rattle.ol_tables.specs.Tables.{Each}
 use Rattle.ol_frame.specs.Walk.{Below}
@@ -193,8 +194,8 @@ module _ {g : Globals} {calls : Calls} {n : Node} {first : Bool} {before : List 
     whole x e c = sym (split-whole g (n .equations) (putSeg g (n .equations) i new x) (put-length x c)) ∙ ap concat (sym (put x e c))
 
     -- it fails
-    pub left-failed : (x : List ℕ) → E .out ≡ failure → x ≡ E .seg → length x ≡ sizeOf g (n .equations) i → (W .end ≡ failedAt i) × (putSeg g (n .equations) i new x ≡ concat (W .segs))
-    left-failed x o e c =
+    pub left-failed : (d : Cause) (x : List ℕ) → E .out ≡ failure d → x ≡ E .seg → length x ≡ sizeOf g (n .equations) i → (W .end ≡ failedAt d i) × (putSeg g (n .equations) i new x ≡ concat (W .segs))
+    left-failed d x o e c =
         let w = left-head ∙ ap (λ (q : Outcomes). storeOn n i q (E .seg) (runAll g calls n first before is) cs (split g (n .equations) new)) o in
         (ap (λ (u : Run). u .end) w, whole x e c ∙ ap (λ (u : Run). concat (u .segs)) (sym w))
 

@@ -16,6 +16,8 @@ use Rattle.ol_spec.specs.Step.{putAt, assign, fitAll}
 use Rattle.ol_spec.specs.declared.Value.{Value}
 use Rattle.ol_spec.specs.declared.Outcome.{Outcome}
 use Rattle.ol_spec.specs.declared.Outcome.the-variants as Out
+use Rattle.ol_spec.specs.declared.Cause.{Cause}
+use Rattle.ol_spec.specs.declared.Cause.the-variants as Why
 use Rattle.ol_spec.proofs.Runs.{length-values}
 use Rattle.ol_value.specs.Codes.{tyOf}
 use Rattle.ol_tables.specs.At.{nodeIn}
@@ -24,7 +26,7 @@ use Rattle.ol_frame.specs.Walk.{nodesIn}
 use Rattle.ol_frame.specs.Plans.{Program}
 use Rattle.ol_frame.specs.declared.outcomes.Ending.{Ending}
 use Rattle.ol_frame.specs.declared.outcomes.Ending.the-variants as End
-use Rattle.ol_frame.proofs.Endings.{failed-values, over-values, over-failed}
+use Rattle.ol_frame.proofs.Endings.{failed-values, over-values, over-failed, one-cause}
 use Rattle.ol_frame.specs.Stores.{passedBy, cellsIn, Typed, Storable, Stores, StoresOut, Assignable, Assigns, Leaves}
 use Rattle.ol_frame.proofs.Copying.{values-snoc, all-copied}
 use Rattle.ol_frame.proofs.Naming.{position-in, length-names}
@@ -224,8 +226,8 @@ out-stored tab k at o v old new e h n x xs cs t s vs w =
 pub out-none : (tab : List ℕ) (k at : ℕ) (o : Outcome) (old new : List ℕ) → ((vs : List Value) → several o ≡ values vs → ⊥) → StoresOut tab k at o old new
 out-none tab k at o old new f n x xs cs t s vs w = absurd (f vs w)
 
-pub no-failure : (vs : List Value) → failure ≡ values vs → ⊥
-no-failure vs e = let z : _≡_ {A = ℕ} 0 1 = cc in omega arith
+pub no-failure : (c : Cause) (vs : List Value) → failure c ≡ values vs → ⊥
+no-failure c vs e = let z : _≡_ {A = ℕ} 0 1 = cc in omega arith
 
 pub no-overflow : (vs : List Value) → overflow ≡ values vs → ⊥
 no-overflow vs e = let z : _≡_ {A = ℕ} 0 1 = cc in omega arith
@@ -251,22 +253,22 @@ assign-storable i now a l e = record { inside = omega (arith, a .inside); node =
 -- it has one output
 pub one-output : (os : Outcomes) (end : Ending) (v : Value) (cells : List ℕ) → end ≡ End.Values → v ≡ valueOf (take 9 cells) → Leaves os end 1 cells → Out.Value v ≡ single os
 one-output (values vs) end v cells e w h = ap Out.Value w ∙ ap (λ (us : List Value). single (values us)) (h .1)
-one-output failure end v cells e w h = failed-values h e
+one-output (failure c) end v cells e w h = failed-values h e
 one-output overflow end v cells e w h = over-values h e
 
-pub other-outputs : (os : Outcomes) (end : Ending) (n : ℕ) (cells : List ℕ) → end ≡ End.Values → ¬ (n ≡ 1) → Leaves os end n cells → Out.Failure ≡ single os
+pub other-outputs : (os : Outcomes) (end : Ending) (n : ℕ) (cells : List ℕ) → end ≡ End.Values → ¬ (n ≡ 1) → Leaves os end n cells → Out.Failure Why.Other ≡ single os
 other-outputs (values []) end n cells e w h = refl
 other-outputs (values (v ∷ [])) end n cells e w h = absurd (w (sym (length-values n cells) ∙ ap length (h .1)))
 other-outputs (values (v ∷ u ∷ vs)) end n cells e w h = refl
-other-outputs failure end n cells e w h = failed-values h e
+other-outputs (failure c) end n cells e w h = failed-values h e
 other-outputs overflow end n cells e w h = over-values h e
 
-pub failed-call : (os : Outcomes) (end : Ending) (n : ℕ) (cells : List ℕ) → end ≡ End.Failed → Leaves os end n cells → Out.Failure ≡ single os
-failed-call (values vs) end n cells e h = failed-values e (h .0)
-failed-call failure end n cells e h = refl
-failed-call overflow end n cells e h = over-failed h e
+pub failed-call : (os : Outcomes) (end : Ending) (c : Cause) (n : ℕ) (cells : List ℕ) → end ≡ End.Failed c → Leaves os end n cells → Out.Failure c ≡ single os
+failed-call (values vs) end c n cells e h = failed-values e (h .0)
+failed-call (failure d) end c n cells e h = ap Out.Failure (one-cause e h)
+failed-call overflow end c n cells e h = over-failed h e
 
 pub overflowed-call : (os : Outcomes) (end : Ending) (n : ℕ) (cells : List ℕ) → end ≡ End.Overflowed → Leaves os end n cells → Out.Overflow ≡ single os
 overflowed-call (values vs) end n cells e h = over-values e (h .0)
-overflowed-call failure end n cells e h = over-failed e h
+overflowed-call (failure c) end n cells e h = over-failed e h
 overflowed-call overflow end n cells e h = refl

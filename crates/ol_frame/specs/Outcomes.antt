@@ -10,6 +10,7 @@ use Rattle.ol_spec.specs.declared.Value.{Value}
 use Rattle.ol_spec.specs.declared.Value.the-variants as Val
 use Rattle.ol_spec.specs.declared.Outcome.{Outcome}
 use Rattle.ol_spec.specs.declared.Outcome.the-variants as Out
+use Rattle.ol_spec.specs.declared.Cause.the-variants as Why
 use Rattle.ol_frame.specs.declared.outcomes.Ending.{Ending}
 use Rattle.ol_frame.specs.declared.outcomes.Ending.the-variants as End
 use Rattle.ol_frame.specs.declared.outcomes.Test.{Test}
@@ -20,25 +21,25 @@ use Rattle.ol_frame.specs.declared.outcomes.RealKind.the-variants as Knd
 -- how several values end
 abbrev pub endingOf : Outcomes → Ending
 endingOf (values vs) = End.Values
-endingOf failure = End.Failed
+endingOf (failure c) = End.Failed c
 endingOf overflow = End.Overflowed
 
 -- an ending's number is its outcome's
 abbrev pub endingNumber : Ending → ℕ
 endingNumber End.Values = 0
-endingNumber End.Failed = outcomeNumber Out.Failure
+endingNumber (End.Failed c) = outcomeNumber (Out.Failure c)
 endingNumber End.Overflowed = outcomeNumber Out.Overflow
 
 -- it is a value
 abbrev pub doneOf : Outcome → Bool
 doneOf (Out.Value v) = true
-doneOf Out.Failure = false
+doneOf (Out.Failure c) = false
 doneOf Out.Overflow = false
 
 -- two operands, of which the second counts where the first has a value
 abbrev pub binaryOut : ℕ → Outcome → Outcome → Outcome
 binaryOut op (Out.Value v) r = thenOut (binaryBy op v) r
-binaryOut op Out.Failure r = Out.Failure
+binaryOut op (Out.Failure c) r = Out.Failure c
 binaryOut op Out.Overflow r = Out.Overflow
 
 -- the branch that a Bool takes
@@ -56,31 +57,31 @@ testValue (Val.Enum w) = Tst.Neither
 -- the branch that a condition takes
 abbrev pub testOf : Outcome → Test
 testOf (Out.Value v) = testValue v
-testOf Out.Failure = Tst.Neither
+testOf (Out.Failure c) = Tst.Neither
 testOf Out.Overflow = Tst.Neither
 
--- a condition that is no Bool
+-- a condition that is no Bool: a value there fails, and a failure has its own cause
 abbrev pub untestedOf : Outcome → Outcome
-untestedOf (Out.Value v) = Out.Failure
-untestedOf Out.Failure = Out.Failure
+untestedOf (Out.Value v) = Out.Failure Why.Other
+untestedOf (Out.Failure c) = Out.Failure c
 untestedOf Out.Overflow = Out.Overflow
 
 -- the branch not taken is evaluated
 abbrev pub runsOf : Outcome → Bool → Bool
 runsOf (Out.Value v) has = has
-runsOf Out.Failure has = false
+runsOf (Out.Failure c) has = false
 runsOf Out.Overflow has = false
 
 -- it is an overflow
 abbrev pub overflowOf : Outcome → Bool
 overflowOf (Out.Value v) = false
-overflowOf Out.Failure = false
+overflowOf (Out.Failure c) = false
 overflowOf Out.Overflow = true
 
 -- its failure is dropped
 abbrev pub dropOut : Outcome → Outcome → Outcome
 dropOut taken (Out.Value w) = taken
-dropOut taken Out.Failure = taken
+dropOut taken (Out.Failure c) = taken
 dropOut taken Out.Overflow = Out.Overflow
 
 abbrev pub singleValue : Value → Bool
@@ -92,7 +93,7 @@ singleValue (Val.Enum w) = false
 
 abbrev pub singleOf : Outcome → Bool
 singleOf (Out.Value v) = singleValue v
-singleOf Out.Failure = false
+singleOf (Out.Failure c) = false
 singleOf Out.Overflow = false
 
 -- a chosen single widens where the other branch counts as double
@@ -107,5 +108,5 @@ kindOf Knd.Double = isDouble
 
 abbrev pub outcomeKind : Outcome → RealKind
 outcomeKind (Out.Value v) = kindOfValue v
-outcomeKind Out.Failure = notReal
+outcomeKind (Out.Failure c) = notReal
 outcomeKind Out.Overflow = notReal

@@ -68,5 +68,5 @@ Assigns tab k at n i from old new =
 -- what a call left: how it ended, and n output values in `cells`
 abbrev pub Leaves : Outcomes → Ending → ℕ → List ℕ → Type 0
 Leaves (values vs) end n cells = (end ≡ End.Values) × (valuesOf n cells ≡ vs)
-Leaves failure end n cells = end ≡ End.Failed
+Leaves (failure c) end n cells = end ≡ End.Failed c
 Leaves overflow end n cells = end ≡ End.Overflowed

@@ -10,6 +10,7 @@ use lib.ListN.{getD}
 use Rattle.ol_spec.specs.Lists.{maybe}
 use Rattle.ol_spec.specs.Eval.{orFailure, preOf}
 use Rattle.ol_spec.specs.declared.Outcome.the-variants as Out
+use Rattle.ol_spec.specs.declared.Cause.the-variants as Why
 use Rattle.ol_tables.specs.At.{exprAt}
 use Rattle.ol_tables.proofs.Forms.{reads-in, var-form}
 use Rattle.ol_frame.specs.Plans.{globalsIn, scopeIn}
@@ -46,7 +47,7 @@ returns c =
     let F = firstOf fr in
     let g = globalsIn f k in
     let cl = scopeIn f n F b b in
-    let e : preOf g cl F (exprAt f (start .args .level) a) ≡ Out.Failure = ap (λ (x : Bool). preOf g cl x (exprAt f (start .args .level) a)) (sym (c .before .is-first .ensures) ∙ c .if1 .taken) in
+    let e : preOf g cl F (exprAt f (start .args .level) a) ≡ Out.Failure Why.Cold = ap (λ (x : Bool). preOf g cl x (exprAt f (start .args .level) a)) (sym (c .before .is-first .ensures) ∙ c .if1 .taken) in
     sym e
 
 -- src/names.rt:97:8

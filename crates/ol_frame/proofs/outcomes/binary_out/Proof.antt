@@ -9,53 +9,57 @@ use Rattle.ol_frame.proofs.outcomes.binary_out.Reads as reads
 use Rattle.ol_frame.proofs.outcomes.binary_out.Lts as lts
 use Rattle.ol_value.proofs.operators.eval_binary.Reads as eval-binary-reads
 
--- src/outcomes.rt:67:24
+-- src/outcomes.rt:102:24
 enum-known-l : tie.Need-enum-known-l
 enum-known-l c = search needs
 
--- src/outcomes.rt:68:28
+-- src/outcomes.rt:103:28
 enum-known-r : tie.Need-enum-known-r
 enum-known-r c = search needs
 
--- src/outcomes.rt:68:34
+-- src/outcomes.rt:103:34
 eval-binary-requires : tie.Need-eval-binary-requires
 eval-binary-requires c κs = search needs
 
--- src/outcomes.rt:69:33
+-- src/outcomes.rt:104:30
+enum-known-r-2 : tie.Need-enum-known-r-2
+enum-known-r-2 c = search needs
+
+-- src/outcomes.rt:105:34
 enum-told : tie.Need-enum-told
 enum-told c = search needs
 
--- src/outcomes.rt:70:34
+-- src/outcomes.rt:107:26
+enum-known-l-2 : tie.Need-enum-known-l-2
+enum-known-l-2 c = search needs
+
+-- src/outcomes.rt:108:30
 enum-told-2 : tie.Need-enum-told-2
 enum-told-2 c = search needs
 
--- src/outcomes.rt:72:29
-enum-told-3 : tie.Need-enum-told-3
-enum-told-3 c = search needs
-
--- src/outcomes.rt:73:30
-enum-told-4 : tie.Need-enum-told-4
-enum-told-4 c = search needs
-
--- src/outcomes.rt:63:1
+-- src/outcomes.rt:98:1
 returns : tie.Need-returns
 returns c =
     let start = c .before .before .before .before .before .before .before in
     c .eval-binary .ensures ∙ (λ i. binaryOut (start .args .op) (sym (c .before .before .before .before .before .l .given .1) i) (sym (c .before .before .r .given .1) i))
 
--- src/outcomes.rt:63:1
+-- src/outcomes.rt:98:1
 returns-2 : tie.Need-returns-2
-returns-2 c = search needs
+returns-2 c =
+    let start = c .before .before .before .before .before .before in
+    λ i. binaryOut (start .args .op) (sym (c .before .before .before .before .l .given .1) i) (sym (c .before .r2 .given .1) i)
 
--- src/outcomes.rt:63:1
+-- src/outcomes.rt:98:1
 returns-3 : tie.Need-returns-3
 returns-3 c = search needs
 
--- src/outcomes.rt:63:1
+-- src/outcomes.rt:98:1
 returns-4 : tie.Need-returns-4
-returns-4 c = search needs
+returns-4 c =
+    let start = c .before .before .before in
+    λ i. binaryOut (start .args .op) (sym (c .before .l2 .given .1) i) (start .args .r)
 
--- src/outcomes.rt:63:1
+-- src/outcomes.rt:98:1
 returns-5 : tie.Need-returns-5
 returns-5 c = search needs
 
@@ -66,10 +70,10 @@ binary-out-spec =
     enum-known-l
     enum-known-r
     eval-binary-requires
+    enum-known-r-2
     enum-told
+    enum-known-l-2
     enum-told-2
-    enum-told-3
-    enum-told-4
     returns
     returns-2
     returns-3

@@ -12,57 +12,59 @@ use Rattle.ol_frame.proofs.outcomes.common_out.Reads as reads
 use Rattle.ol_frame.proofs.outcomes.common_out.Lts as lts
 use Rattle.ol_frame.proofs.outcomes.widened.Reads as widened-reads
 
--- src/outcomes.rt:195:24
+-- src/outcomes.rt:208:24
 enum-known-o : tie.Need-enum-known-o
 enum-known-o c = search needs
 
--- src/outcomes.rt:196:34
+-- src/outcomes.rt:209:34
 enum-told : tie.Need-enum-told
 enum-told c = search needs
 
--- src/outcomes.rt:197:33
+-- src/outcomes.rt:210:33
 enum-told-2 : tie.Need-enum-told-2
 enum-told-2 c = search needs
 
--- src/outcomes.rt:198:48
+-- src/outcomes.rt:211:48
 enum-told-3 : tie.Need-enum-told-3
 enum-told-3 c = search needs
 
--- src/outcomes.rt:198:48
+-- src/outcomes.rt:211:48
 widened-requires : tie.Need-widened-requires
 widened-requires c κs = search needs
 
--- src/outcomes.rt:200:29
+-- src/outcomes.rt:213:26
+enum-known-o-2 : tie.Need-enum-known-o-2
+enum-known-o-2 c = search needs
+
+-- src/outcomes.rt:214:30
 enum-told-4 : tie.Need-enum-told-4
 enum-told-4 c = search needs
 
--- src/outcomes.rt:201:30
-enum-told-5 : tie.Need-enum-told-5
-enum-told-5 c = search needs
-
--- src/outcomes.rt:191:1
+-- src/outcomes.rt:204:1
 returns : tie.Need-returns
 returns c =
     let o = c .before .before .before .o .given .1 in
     ap Out.Value (sym (common-none (c .before .before .before .o .given .0 .0))) ∙ (λ i. commonOut (isDouble? (kindOf (sym (c .enum-told .given .1) i))) (sym o i))
 
--- src/outcomes.rt:191:1
+-- src/outcomes.rt:204:1
 returns-2 : tie.Need-returns-2
 returns-2 c =
     let o = c .before .before .before .o .given .1 in
     ap Out.Value (sym (common-none (c .before .before .before .o .given .0 .0))) ∙ (λ i. commonOut (isDouble? (kindOf (sym (c .enum-told2 .given .1) i))) (sym o i))
 
--- src/outcomes.rt:191:1
+-- src/outcomes.rt:204:1
 returns-3 : tie.Need-returns-3
 returns-3 c =
     let o = c .before .before .before .before .o .given .1 in
     ap Out.Value (c .widened .ensures) ∙ (λ i. commonOut (isDouble? (kindOf (sym (c .before .enum-told3 .given .1) i))) (sym o i))
 
--- src/outcomes.rt:191:1
+-- src/outcomes.rt:204:1
 returns-4 : tie.Need-returns-4
-returns-4 c = search needs
+returns-4 c =
+    let start = c .before .before .before in
+    ap (commonOut (isDouble? (kindOf (start .args .kind)))) (sym (c .before .o2 .given .1))
 
--- src/outcomes.rt:191:1
+-- src/outcomes.rt:204:1
 returns-5 : tie.Need-returns-5
 returns-5 c = search needs
 
@@ -75,8 +77,8 @@ common-out-spec =
     enum-told-2
     enum-told-3
     widened-requires
+    enum-known-o-2
     enum-told-4
-    enum-told-5
     returns
     returns-2
     returns-3
