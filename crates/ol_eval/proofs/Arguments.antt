@@ -12,6 +12,7 @@ use Rattle.ol_spec.specs.Types.{fit}
 use Rattle.ol_spec.specs.Eval.{Outcomes, values, failure, overflow, Eval, Evals, calleesAll, sitesSize, consOut, nextAll, nextAllOn, eval, evalAll}
 use Rattle.ol_spec.specs.Step.{fitAll, calls}
 use Rattle.ol_spec.specs.declared.Value.{Value}
+use Rattle.ol_spec.specs.declared.Cause.{Cause}
 use Rattle.ol_spec.specs.declared.Outcome.{Outcome}
 use Rattle.ol_spec.specs.declared.Outcome.the-variants as Out
 use Rattle.ol_value.specs.Codes.{tyOf}
@@ -46,9 +47,9 @@ cons-values : (vs ws : List Value) → consAll vs (values ws) ≡ values (vs ++ 
 cons-values [] ws = refl
 cons-values (v ∷ vs) ws = ap (consOut v) (cons-values vs ws)
 
-cons-failure : (vs : List Value) → consAll vs failure ≡ failure
-cons-failure [] = refl
-cons-failure (v ∷ vs) = ap (consOut v) (cons-failure vs)
+cons-failure : (c : Cause) (vs : List Value) → consAll vs (failure c) ≡ failure c
+cons-failure c [] = refl
+cons-failure c (v ∷ vs) = ap (consOut v) (cons-failure c vs)
 
 cons-overflow : (vs : List Value) → consAll vs overflow ≡ overflow
 cons-overflow [] = refl
@@ -261,8 +262,8 @@ module _ {want : Evals} {file tab rows consts : List ℕ} {fits : Bool} {k n at 
               ∙ ap (λ (l : List ℕ). l ++ drop (segsAt file level n at) old) (append-assoc (g .head) (here .seg) rest ∙ sym (g .seg-is ∙ ap (λ (y : Evals). g .head ++ y .seg) R));
         }
 
-    pub going-failed : {q : Passed} (make : List Value → List Value) (got : List Value) → r .out ≡ Out.Failure → SkipsTo file level left (r .next) q → RanTo make want (endsAt file level n at) (segsAt file level n at) old (record { end = End.Failed; next = q .next; used = used + r .used + q .used }) got (putTail used new x)
-    going-failed make got o s = going-stop make got End.Failed failure Out.Failure o (λ w K rest. refl) (cons-failure (g .values)) refl tt s
+    pub going-failed : {q : Passed} (c : Cause) (make : List Value → List Value) (got : List Value) → r .out ≡ Out.Failure c → SkipsTo file level left (r .next) q → RanTo make want (endsAt file level n at) (segsAt file level n at) old (record { end = End.Failed c; next = q .next; used = used + r .used + q .used }) got (putTail used new x)
+    going-failed c make got o s = going-stop make got (End.Failed c) (failure c) (Out.Failure c) o (λ w K rest. refl) (cons-failure c (g .values)) refl tt s
 
     pub going-overflowed : {q : Passed} (make : List Value → List Value) (got : List Value) → r .out ≡ Out.Overflow → SkipsTo file level left (r .next) q → RanTo make want (endsAt file level n at) (segsAt file level n at) old (record { end = End.Overflowed; next = q .next; used = used + r .used + q .used }) got (putTail used new x)
     going-overflowed make got o s = going-stop make got End.Overflowed overflow Out.Overflow o (λ w K rest. refl) (cons-overflow (g .values)) refl tt s

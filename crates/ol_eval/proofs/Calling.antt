@@ -39,12 +39,12 @@ use Rattle.ol_frame.proofs.Planning.{Callee, plan-head, plan-parts, plan-call, 
 
 with-values : (o : Outcomes) → endingOf o ≡ End.Values → (vs : List Value) × (o ≡ values vs)
 with-values (values vs) e = (vs, refl)
-with-values failure e = failed-values refl e
+with-values (failure c) e = failed-values refl e
 with-values overflow e = over-values refl e
 
 no-values : (make : List Value → List Value) (got : List Value) (o : Outcomes) → ¬ (endingOf o ≡ End.Values) → Holds make o got
 no-values make got (values vs) h = absurd (h refl)
-no-values make got failure h = tt
+no-values make got (failure c) h = tt
 no-values make got overflow h = tt
 
 enter-ran : (K : List Value → List ℕ → Evals) (own : List ℕ) (A : Evals) (vs : List Value) → A .out ≡ values vs → enter K own A ≡ record { out = K vs own .out; seg = K vs own .seg ++ A .seg }
@@ -57,7 +57,7 @@ enter-not K own A h = go (A .out) h
   where
     go : (o : Outcomes) → ¬ (endingOf o ≡ End.Values) → enterOn K own o (A .seg) ≡ record { out = o; seg = own ++ A .seg }
     go (values vs) h = absurd (h refl)
-    go failure h = refl
+    go (failure c) h = refl
     go overflow h = refl
 
 -- the arguments succeeded, and the callee was called
@@ -308,5 +308,5 @@ module _ {file tab rows consts : List ℕ} {level at node : ℕ} {cells before o
       where
         leaves : (os : Outcomes) (e : Ending) (m : ℕ) (c : List ℕ) → e ≡ endingOf os → Holds asIs os (valuesOf m c) → Leaves os e m c
         leaves (values vs) e m c x y = (x, y)
-        leaves failure e m c x y = x
+        leaves (failure d) e m c x y = x
         leaves overflow e m c x y = x

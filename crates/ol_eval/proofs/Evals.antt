@@ -73,7 +73,7 @@ next-done w o K rest v e f = ap (λ (x : Outcome). nextOn x (w .seg) K rest) (e 
 
 value-of : (o : Outcome) → true ≡ doneOf o → (v : Value) × (o ≡ Out.Value v)
 value-of (Out.Value v) h = (v, refl)
-value-of Out.Failure h = absurd (no-done (sym h))
+value-of (Out.Failure d) h = absurd (no-done (sym h))
 value-of Out.Overflow h = absurd (no-done (sym h))
 
 next-stop : (w : Eval) (K : Value → List ℕ → Eval) (rest : List ℕ) → false ≡ doneOf (w .out) → next w K rest ≡ record { out = w .out; seg = w .seg ++ rest }
@@ -82,7 +82,7 @@ next-stop w K rest h = go (w .out) h
   where
     go : (o : Outcome) → false ≡ doneOf o → nextOn o (w .seg) K rest ≡ record { out = o; seg = w .seg ++ rest }
     go (Out.Value v) h = absurd (no-done h)
-    go Out.Failure h = refl
+    go (Out.Failure d) h = refl
     go Out.Overflow h = refl
 
 -- an evaluation that is another, written otherwise
@@ -124,7 +124,7 @@ bool-of (Out.Value (Val.Int i)) b h = no-bit b h
 bool-of (Out.Value (Val.Float x)) b h = no-bit b h
 bool-of (Out.Value (Val.Float32 x)) b h = no-bit b h
 bool-of (Out.Value (Val.Enum w)) b h = no-bit b h
-bool-of Out.Failure b h = no-bit b h
+bool-of (Out.Failure d) b h = no-bit b h
 bool-of Out.Overflow b h = no-bit b h
 
 -- the condition is the Bool b
@@ -150,7 +150,7 @@ condition-none w K rest n = go (w .out) n
     go (Out.Value (Val.Float x)) n = refl
     go (Out.Value (Val.Float32 x)) n = refl
     go (Out.Value (Val.Enum v)) n = refl
-    go Out.Failure n = refl
+    go (Out.Failure d) n = refl
     go Out.Overflow n = refl
 
 pub if-stop : {w : Eval} (K : Bool → List ℕ → Eval) {x y n k : ℕ} {b : Bool} {s new : List ℕ} {c : Step} {q : Passed} {o : Outcome} → Meets w x n s c new → Skips b y k q → testOf (c .out) ≡ Tst.Neither → o ≡ untestedOf (c .out) → Meets (next w (condition K) (take k (drop n s))) y (n + k) s (record { out = o; next = q .next; used = c .used + q .used }) new
@@ -170,13 +170,13 @@ ran-both w b has c h = go (w .out) has c h
   where
     drops : (v : Value) (o : Outcome) → dropFailure v o ≡ dropOut (Out.Value v) o
     drops v (Out.Value x) = refl
-    drops v Out.Failure = refl
+    drops v (Out.Failure d) = refl
     drops v Out.Overflow = refl
 
     go : (o : Outcome) (has : Bool) → b .calls ≡ has → true ≡ runsOf (commonOut (b .wide) o) has → branchesOn o (w .seg) b ≡ record { out = dropOut (commonOut (b .wide) o) (b .run (b .seg) .out); taken = w .seg; other = b .run (b .seg) .seg }
     go (Out.Value v) true c h = ap (λ (x : Bool). untaken x (commonReal (b .wide) v) (w .seg) b) c ∙ (λ i. record { out = drops (commonReal (b .wide) v) (b .run (b .seg) .out) i; taken = w .seg; other = b .run (b .seg) .seg })
     go (Out.Value v) false c h = absurd (no-done (sym h))
-    go Out.Failure has c h = absurd (no-done (sym h))
+    go (Out.Failure d) has c h = absurd (no-done (sym h))
     go Out.Overflow has c h = absurd (no-done (sym h))
 
 -- or it is not
@@ -186,7 +186,7 @@ ran-one w b has c h = go (w .out) has c h
     go : (o : Outcome) (has : Bool) → b .calls ≡ has → false ≡ runsOf (commonOut (b .wide) o) has → branchesOn o (w .seg) b ≡ record { out = commonOut (b .wide) o; taken = w .seg; other = b .seg }
     go (Out.Value v) true c h = absurd (no-done h)
     go (Out.Value v) false c h = ap (λ (x : Bool). untaken x (commonReal (b .wide) v) (w .seg) b) c
-    go Out.Failure has c h = refl
+    go (Out.Failure d) has c h = refl
     go Out.Overflow has c h = refl
 
 -- a branch that is not taken, as an evaluation

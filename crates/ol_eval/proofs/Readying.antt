@@ -32,6 +32,7 @@ use Rattle.ol_spec.specs.Read.{unaryOps, binOps}
 use Rattle.ol_value.specs.Codes.{tyOf, unaryBy, binaryBy}
 use Rattle.ol_spec.specs.Syntax.{Ty, UnaryOp, BinOp}
 use Rattle.ol_spec.specs.declared.Outcome.the-variants as Out
+use Rattle.ol_spec.specs.declared.Cause.the-variants as Why
 use mathlib.Core.Option.{Option, some}
 use lib.ListN.{getElem?}
 use Rattle.ol_frame.proofs.Planning.{plan-head, plan-first, plan-rest, plan-parts, plan-passable, segs-one, segs-cons, segs-form, segs-first}
@@ -226,13 +227,13 @@ fronted f consts level at node first cells before s {over} {new} h =
 -- ---- operators by their codes
 
 pub unary-out-is : (b : ℕ) (op : UnaryOp) (o : Outcome) {r : Outcome} → getElem? unaryOps b ≡ some op → r ≡ thenOut (unaryBy b) o → r ≡ thenOut (unaryOf op) o
-unary-out-is b op o e h = h ∙ ap (λ (q : Option UnaryOp). thenOut (λ v. maybe Out.Failure (λ p. unaryOf p v) q) o) e
+unary-out-is b op o e h = h ∙ ap (λ (q : Option UnaryOp). thenOut (λ v. maybe (Out.Failure Why.Other) (λ p. unaryOf p v) q) o) e
 
 pub cast-out-is : (c : ℕ) (t : Ty) (o : Outcome) {r : Outcome} → Proper t → tyCode t ≡ c → ((e : ℕ) → r ≡ thenOut (castTo (tyOf c e)) o) → r ≡ thenOut (castTo t) o
 cast-out-is c t o p e h = h (tyEnum t) ∙ ap (λ (d : ℕ). thenOut (castTo (tyOf d (tyEnum t))) o) (sym e) ∙ ap (λ (u : Ty). thenOut (castTo u) o) (proper-type t p)
 
 pub binary-is : (b : ℕ) (op : BinOp) → getElem? binOps b ≡ some op → (w : Eval) (K : List ℕ → Eval) (rest : List ℕ) → next w (λ v s. mapEval (binaryOf op v) (K s)) rest ≡ next w (λ v s. mapEval (binaryBy b v) (K s)) rest
-binary-is b op e w K rest = ap (λ (q : Option BinOp). next w (λ v s. mapEval (λ x. maybe Out.Failure (λ p. binaryOf p v x) q) (K s)) rest) (sym e)
+binary-is b op e w K rest = ap (λ (q : Option BinOp). next w (λ v s. mapEval (λ x. maybe (Out.Failure Why.Other) (λ p. binaryOf p v x) q) (K s)) rest) (sym e)
 
 -- the branch that the test takes
 pub first-is : (f consts : List ℕ) (level at node : ℕ) (first test : Bool) (cells before s : List ℕ) → first ≡ test → chooseIn f consts first level at node first cells before s ≡ chooseIn f consts test level at node first cells before s

@@ -221,7 +221,7 @@ module _ {file tab rows consts : List ℕ} {k i at : ℕ} {cells before old new 
           let some = names-some k i (q .running) (q .below) (q .index) in
           s (nodeIn file k) x ys (constantsIn file consts) (typed k (q .running .program) (q .below)) (subst (λ (a : ℕ). HasSlot tab (namesIn file k) (constantsIn file consts) (a, x)) z (slot-at 0 some)) (v ∷ []) (ap several f)
           ∙ ap (λ (l : List ℕ). assign (nodeIn file k) l (v ∷ []) (valuesOf (widthIn file k) cells)) (sym (drop-cons (equationIn file k i .names) 0 0 some))
-      go Out.Failure f = tt
+      go (Out.Failure c) f = tt
       go Out.Overflow f = tt
 
   -- ---- several values: a call's outputs, a Tuple's items
@@ -235,7 +235,7 @@ module _ {file tab rows consts : List ℕ} {k i at : ℕ} {cells before old new 
     where
       go : (o : Outcomes) → Holds asIs o (valuesOf total from) → End.Values ≡ endingOf o → Holds (λ vs. assign (nodeIn file k) (equationIn file k i .names) vs (valuesOf (widthIn file k) cells)) o (valuesOf (widthIn file k) cells′)
       go (values vs) h n = values-assigned m total from cells′ vs c h a
-      go failure h n = tt
+      go (failure d) h n = tt
       go overflow h n = tt
 
   -- one failed or overflowed
@@ -246,7 +246,7 @@ module _ {file tab rows consts : List ℕ} {k i at : ℕ} {cells before old new 
     where
       go : (o : Outcomes) → end ≡ endingOf o → Holds (λ vs. assign (nodeIn file k) (equationIn file k i .names) vs (valuesOf (widthIn file k) cells)) o (valuesOf (widthIn file k) cells′)
       go (values vs) n = absurd (z n)
-      go failure n = tt
+      go (failure d) n = tt
       go overflow n = tt
 
   pub names-least : {rhs n code m : ℕ} (total : ℕ) → RhsReady file k i rhs n code → m ≡ min n total → Least file k i at rhs m
@@ -355,7 +355,7 @@ module _ {file tab rows consts : List ℕ} {k i at : ℕ} {cells before old new 
       where
         plain : (o : Outcomes) → Holds (passedAll false (nodeIn file (getD file (rhs + 1) 0) .inputs)) o (valuesOf count to) → Holds asIs o (valuesOf count to)
         plain (values vs) h = h
-        plain failure h = tt
+        plain (failure d) h = tt
         plain overflow h = tt
 
     pub tuple-stops : (first : Bool) (count : ℕ) (to cells′ : List ℕ) {new′ : List ℕ} {r : Ran} → RhsReady file k i rhs n 12 → count ≡ getD file (rhs + 1) 0 → PassedTo file consts false (getD file (rhs + 1) 0) count 23 (rhs + 2) k first cells before old r to new′ → ¬ (r .end ≡ End.Values)

@@ -18,6 +18,7 @@ use Rattle.ol_spec.specs.Step.{Ended as RunEnd}
 use Rattle.ol_spec.specs.State.{globalsOf}
 use Rattle.ol_spec.specs.Admission.{mayCall, badCall, constantNames}
 use Rattle.ol_spec.specs.declared.Value.{Value}
+use Rattle.ol_spec.specs.declared.Cause.{Cause}
 use Rattle.ol_spec.proofs.Cells.{length-cells}
 use Rattle.ol_spec.proofs.Segments.{sites-append}
 use Rattle.ol_tables.specs.At.{fileAt, nodeIn, exprsAt}
@@ -36,7 +37,7 @@ use Rattle.ol_eval.specs.declared.eval.Ended.{Ended}
 use Rattle.ol_frame.specs.declared.outcomes.Ending.{Ending}
 use Rattle.ol_frame.specs.declared.outcomes.Ending.the-variants as End
 use Rattle.ol_tables.proofs.Lending.{tailOf, putTail, tail-all, drop-put, length-put}
-use Rattle.ol_frame.proofs.Endings.{failed-values, over-values, over-failed}
+use Rattle.ol_frame.proofs.Endings.{failed-values, over-values, over-failed, one-cause}
 use Rattle.ol_frame.proofs.Planning.{sound-call, sounds-each}
 use Rattle.ol_frame.proofs.Passing.{callees-one}
 use Rattle.ol_frame.proofs.Depth.{calls-of}
@@ -143,17 +144,17 @@ module _ (g : Globals) (n : Node) where
     where
       go : (e : RunEnd) → EndsAs e r → (e ≡ finished → got ≡ U .cells) → Did asIs (leaveOn g n old e (U .cells) (U .segs)) End.Values outs new
       go finished s c = record { end-is = refl; values-are = o ∙ ap (outputsIn n) (c refl); state = w ∙ (λ j. 1 ∷ cellBytes (c refl j) ++ m .state j) }
-      go (failedAt i) s c = failed-values (s .0) z
+      go (failedAt d i) s c = failed-values (s .0) z
       go (overflowedAt i) s c = over-values (s .0) z
 
   -- a failed one
-  pub left-failed : (old : List ℕ) (U : Run) (r : Ended) (got outs : List Value) (segs new : List ℕ) → RunMeets U r got segs → r .end ≡ End.Failed → new ≡ freshRecord g n → Did asIs (leave g n old U) End.Failed outs new
+  pub left-failed : (d : Cause) (old : List ℕ) (U : Run) (r : Ended) (got outs : List Value) (segs new : List ℕ) → RunMeets U r got segs → r .end ≡ End.Failed d → new ≡ freshRecord g n → Did asIs (leave g n old U) (End.Failed d) outs new
   unfolding leave
-  left-failed old U r got outs segs new m z w = go (U .end) (m .ends)
+  left-failed d old U r got outs segs new m z w = go (U .end) (m .ends)
     where
-      go : (e : RunEnd) → EndsAs e r → Did asIs (leaveOn g n old e (U .cells) (U .segs)) End.Failed outs new
+      go : (e : RunEnd) → EndsAs e r → Did asIs (leaveOn g n old e (U .cells) (U .segs)) (End.Failed d) outs new
       go finished s = failed-values z s
-      go (failedAt i) s = record { end-is = refl; values-are = tt; state = w }
+      go (failedAt c i) s = record { end-is = ap End.Failed (one-cause z (s .0)); values-are = tt; state = w }
       go (overflowedAt i) s = over-failed (s .0) z
 
   -- one that overflowed
@@ -163,7 +164,7 @@ module _ (g : Globals) (n : Node) where
     where
       go : (e : RunEnd) → EndsAs e r → Did asIs (leaveOn g n old e (U .cells) (U .segs)) End.Overflowed outs new
       go finished s = over-values z s
-      go (failedAt i) s = over-failed z (s .0)
+      go (failedAt d i) s = over-failed z (s .0)
       go (overflowedAt i) s = record { end-is = refl; values-are = tt; state = w }
 
   -- a Function's, on a record that is not kept
@@ -173,7 +174,7 @@ module _ (g : Globals) (n : Node) where
     where
       go : (e : RunEnd) → EndsAs e r → (e ≡ finished → got ≡ U .cells) → Did asIs (record { out = leaveOn g n fresh e (U .cells) (U .segs) .out; seg = old }) (r .end) outs new
       go finished s c = record { end-is = s; values-are = o ∙ ap (outputsIn n) (c refl); state = w }
-      go (failedAt i) s c = record { end-is = s .0; values-are = tt; state = w }
+      go (failedAt d i) s c = record { end-is = s .0; values-are = tt; state = w }
       go (overflowedAt i) s c = record { end-is = s .0; values-are = tt; state = w }
 
 -- ---- the bytes of a record
@@ -308,12 +309,12 @@ module _ {file tab rows consts args old new : List ℕ} {k : ℕ} {first : Bool}
       ended End.Values args′ y (left-finished glob node old ran r (valuesOf (widthIn file k) cells′) (outputsAt file k args′) x _ m z (outputs-left s i o cells′ args′ (h .inputs) oE left) p)
 
   -- it failed
-  pub instance-failed : (r : Ended) (cells′ x new′ args′ : List ℕ) → RunTo file consts k first cells before (tailOf (1 + 9 * n) old) r cells′ x → r .end ≡ End.Failed
-      → ((vs : List Value) → new′ ≡ freshAt (globalsOf (fileAt file) vs) (nodesIn file) k) → SiteTo file consts k args old End.Failed args′ new′
-  instance-failed r cells′ x new′ args′ m z w =
+  pub instance-failed : (d : Cause) (r : Ended) (cells′ x new′ args′ : List ℕ) → RunTo file consts k first cells before (tailOf (1 + 9 * n) old) r cells′ x → r .end ≡ End.Failed d
+      → ((vs : List Value) → new′ ≡ freshAt (globalsOf (fileAt file) vs) (nodesIn file) k) → SiteTo file consts k args old (End.Failed d) args′ new′
+  instance-failed d r cells′ x new′ args′ m z w =
       let s = h .site in
       let f = w (valuesOf (knownIn consts) consts) ∙ ap (λ (u : Globals). freshAt u (nodesIn file) k) (sym (all-known (s .running))) ∙ fresh-here (s .running) k (s .below) (h .operator) in
-      ended End.Failed args′ new′ (left-failed glob node old ran r (valuesOf (widthIn file k) cells′) (outputsAt file k args′) x new′ m z f)
+      ended (End.Failed d) args′ new′ (left-failed glob node d old ran r (valuesOf (widthIn file k) cells′) (outputsAt file k args′) x new′ m z f)
 
   -- it overflowed
   pub instance-overflowed : (r : Ended) (cells′ x new′ args′ : List ℕ) → RunTo file consts k first cells before (tailOf (1 + 9 * n) old) r cells′ x → r .end ≡ End.Overflowed → new′ ≡ old → SiteTo file consts k args old End.Overflowed args′ new′

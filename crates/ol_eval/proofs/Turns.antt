@@ -112,7 +112,7 @@ module _ {file tab rows consts : List ℕ} {k : ℕ} (first : Bool) {cells₀ be
         go (values vs) f n h =
             subst (λ (cs : List Value). Left (globalsIn file consts) (calls (globalsIn file consts)) (nodeIn file k) first (valuesOf (widthIn file k) before) (runIn file consts k first cells₀ before old) is cs old (putSeg (globalsIn file consts) (nodeIn file k .equations) i new x)) (sym h)
             (left-turn l vs x f (w .state) (sized-as x c))
-        go failure f n h = failed-values n z
+        go (failure d) f n h = failed-values n z
         go overflow f n h = over-values n z
 
     -- it fails or overflows: the run ends
@@ -128,15 +128,15 @@ module _ {file tab rows consts : List ℕ} {k : ℕ} (first : Bool) {cells₀ be
 
         go : (o : Outcomes) → E .out ≡ o → e ≡ endingOf o → RunTo file consts k first cells₀ before old (record { end = e; index = i }) cells′ (putMid a b new x)
         go (values vs) f n = absurd (z n)
-        go failure f n =
-            let r = left-failed l x f (w .state) (sized-as x c) in
+        go (failure d) f n =
+            let r = left-failed l d x f (w .state) (sized-as x c) in
             record {
               ends = subst (λ (y : RunEnd). EndsAs y (record { end = e; index = i })) (sym (r .0)) (n, refl);
               cells-are = λ h. absurd (no-end (sym (r .0) ∙ h));
               state = put ∙ r .1;
             }
           where
-            no-end : failedAt i ≡ finished → ⊥
+            no-end : failedAt d i ≡ finished → ⊥
             no-end h = let y : _≡_ {A = ℕ} 0 1 = cc in omega arith
         go overflow f n =
             let r = left-over l x f (w .state) (sized-as x c) in

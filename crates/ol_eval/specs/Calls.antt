@@ -29,7 +29,7 @@ use Rattle.ol_eval.specs.declared.eval.Ended.{Ended}
 -- if there are values, `got` is what is made of them; else it is free: of a failure or an overflow nobody reads the values
 abbrev pub Holds : (List Value → List Value) → Outcomes → List Value → Type 0
 Holds make (values vs) got = got ≡ make vs
-Holds make failure got = Unit {0}
+Holds make (failure c) got = Unit {0}
 Holds make overflow got = Unit {0}
 
 abbrev pub asIs : List Value → List Value
@@ -133,7 +133,7 @@ runIn file consts k first cells before old =
 -- how a run ended, and the equation that ended it
 abbrev pub EndsAs : RunEnd → Ended → Type 0
 EndsAs finished r = r .end ≡ End.Values
-EndsAs (failedAt i) r = (r .end ≡ End.Failed) × (r .index ≡ i)
+EndsAs (failedAt c i) r = (r .end ≡ End.Failed c) × (r .index ≡ i)
 EndsAs (overflowedAt i) r = (r .end ≡ End.Overflowed) × (r .index ≡ i)
 
 -- what a run gives: how it ended, its cells where it finished, and the new segments. The cells of a run that failed or overflowed are free: a failed instance goes back to fresh, and the others keep the cells before

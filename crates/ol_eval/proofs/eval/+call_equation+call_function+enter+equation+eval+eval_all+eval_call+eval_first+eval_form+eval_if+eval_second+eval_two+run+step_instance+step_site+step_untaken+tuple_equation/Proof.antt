@@ -100,7 +100,7 @@ pub +call-equation+call-function+enter+equation+eval+eval-all+eval-call+eval-fir
     (λ t. eval-lts.spec (Eval.Q t) (eval-at t) eval.Post (Eval.shared-slice-read-code t) (Eval.add-p t) (Eval.add-next t) (Eval.present-requires t) (Eval.same-out-requires t) (Eval.eval-form-requires t) (Eval.returns t) (Eval.same-length t) (Eval.returns-2 t))
     (λ t. eval-all-lts.spec (EvalAll.Q t) (eval-all-at t) eval-all.Post
     EvalAll.Inv-loop
-    EvalAll.μ-loop (EvalAll.shared-slice-read-fits t) (EvalAll.add-p t) (EvalAll.shared-slice-read-number t) (EvalAll.number-requires t) (EvalAll.head-requires t) (EvalAll.loop-holds t) (EvalAll.sub-eval t) (EvalAll.part-eval-start t) (EvalAll.part-eval-end t) (EvalAll.sub-eval-2 t) (EvalAll.part-eval-start-2 t) (EvalAll.part-eval-end-2 t) (EvalAll.eval-requires t) (EvalAll.add-used t) (EvalAll.enum-known-o t) (EvalAll.passed-requires t) (EvalAll.mul-write-cell t) (EvalAll.write-cell-requires t) (EvalAll.enum-told t) (EvalAll.sub-pass-all t) (EvalAll.sub-pass-all-2 t) (EvalAll.pass-all-requires t) (EvalAll.add-t39 t) (EvalAll.same-length t) (EvalAll.returns t) (EvalAll.enum-told-2 t) (EvalAll.sub-pass-all-3 t) (EvalAll.sub-pass-all-4 t) (EvalAll.pass-all-requires-2 t) (EvalAll.add-t42 t) (EvalAll.same-length-2 t) (EvalAll.returns-2 t) (EvalAll.add-i t) (EvalAll.loop-less t) (EvalAll.loop-again t) (EvalAll.same-length-3 t) (EvalAll.returns-3 t))
+    EvalAll.μ-loop (EvalAll.shared-slice-read-fits t) (EvalAll.add-p t) (EvalAll.shared-slice-read-number t) (EvalAll.number-requires t) (EvalAll.head-requires t) (EvalAll.loop-holds t) (EvalAll.sub-eval t) (EvalAll.part-eval-start t) (EvalAll.part-eval-end t) (EvalAll.sub-eval-2 t) (EvalAll.part-eval-start-2 t) (EvalAll.part-eval-end-2 t) (EvalAll.eval-requires t) (EvalAll.add-used t) (EvalAll.enum-known-o t) (EvalAll.passed-requires t) (EvalAll.mul-write-cell t) (EvalAll.write-cell-requires t) (EvalAll.enum-known-o-2 t) (EvalAll.sub-pass-all t) (EvalAll.sub-pass-all-2 t) (EvalAll.pass-all-requires t) (EvalAll.add-t40 t) (EvalAll.same-length t) (EvalAll.returns t) (EvalAll.enum-told t) (EvalAll.sub-pass-all-3 t) (EvalAll.sub-pass-all-4 t) (EvalAll.pass-all-requires-2 t) (EvalAll.add-t43 t) (EvalAll.same-length-2 t) (EvalAll.returns-2 t) (EvalAll.add-i t) (EvalAll.loop-less t) (EvalAll.loop-again t) (EvalAll.same-length-3 t) (EvalAll.returns-3 t))
     (λ t. eval-call-lts.spec (EvalCall.Q t) (eval-call-at t) eval-call.Post (EvalCall.enter-requires t) (EvalCall.add-p t) (EvalCall.shared-slice-read-number t) (EvalCall.number-requires t) (EvalCall.row-requires t) (EvalCall.slice-aggregate-single-out t) (EvalCall.single-out-requires t) (EvalCall.same-length t) (EvalCall.returns t))
     (λ t. eval-first-lts.spec (EvalFirst.Q t) (eval-first-at t) eval-first.Post (EvalFirst.eval-requires t) (EvalFirst.chosen-requires t) (EvalFirst.pass-requires t) (EvalFirst.runs-requires t) (EvalFirst.sub-step-untaken t) (EvalFirst.part-step-untaken-start t) (EvalFirst.part-step-untaken-end t) (EvalFirst.sub-step-untaken-2 t) (EvalFirst.part-step-untaken-start-2 t) (EvalFirst.part-step-untaken-end-2 t) (EvalFirst.step-untaken-requires t) (EvalFirst.drop-failure-requires t) (EvalFirst.add-t20 t) (EvalFirst.add-t28 t) (EvalFirst.same-length t) (EvalFirst.returns t) (EvalFirst.same-length-2 t) (EvalFirst.returns-2 t))
     (λ t. eval-form-lts.spec (EvalForm.Q t) (eval-form-at t) eval-form.Post (EvalForm.shared-slice-read-code t) (EvalForm.add-p t) (EvalForm.shared-slice-read-op t) (EvalForm.add-eval-form t) (EvalForm.sub-eval-form t) (EvalForm.eval-form-requires t) (EvalForm.unary-out-requires t) (EvalForm.sub-eval-two t) (EvalForm.eval-two-requires t) (EvalForm.sub-eval-if t) (EvalForm.eval-if-requires t) (EvalForm.is-first-requires t) (EvalForm.sub-eval-first t) (EvalForm.eval-first-requires t) (EvalForm.sub-eval-second t) (EvalForm.eval-second-requires t) (EvalForm.shared-slice-read-t t) (EvalForm.ty-size-requires t) (EvalForm.add-q t) (EvalForm.sub-eval-form-2 t) (EvalForm.eval-form-requires-2 t) (EvalForm.cast-out-requires t) (EvalForm.eval-call-requires t) (EvalForm.pass-requires t) (EvalForm.leaf-out-requires t) (EvalForm.same-out-requires t) (EvalForm.same-length t) (EvalForm.returns t) (EvalForm.same-length-2 t) (EvalForm.returns-2 t) (EvalForm.same-length-3 t) (EvalForm.returns-3 t) (EvalForm.same-length-4 t) (EvalForm.returns-4 t) (EvalForm.same-length-5 t) (EvalForm.returns-5 t) (EvalForm.same-length-6 t) (EvalForm.returns-6 t) (EvalForm.same-length-7 t) (EvalForm.returns-7 t) (EvalForm.returns-8 t))
@@ -110,7 +110,7 @@ pub +call-equation+call-function+enter+equation+eval+eval-all+eval-call+eval-fir
     (λ t. run-lts.spec (Run.Q t) (run-at t) run.Post
     Run.Inv-loop
     Run.μ-loop (Run.node-of-requires t) (Run.row-requires t) (Run.plan-of-requires t) (Run.loop-holds t) (Run.order-at-requires t) (Run.place-at-requires t) (Run.records-at-requires t) (Run.add-records-at t) (Run.records-at-requires-2 t) (Run.sub-equation t) (Run.part-equation-start t) (Run.part-equation-end t) (Run.sub-equation-2 t) (Run.part-equation-start-2 t) (Run.part-equation-end-2 t) (Run.equation-requires t) (Run.enum-told t) (Run.same-length t) (Run.returns t) (Run.add-j t) (Run.loop-less t) (Run.loop-again t) (Run.same-length-2 t) (Run.returns-2 t))
-    (λ t. step-instance-lts.spec (StepInstance.Q t) (step-instance-at t) step-instance.Post (StepInstance.row-requires t) (StepInstance.mul-own t) (StepInstance.add-own t) (StepInstance.row-requires-2 t) (StepInstance.open-frame-requires t) (StepInstance.sub-run t) (StepInstance.part-run-start t) (StepInstance.part-run-end t) (StepInstance.sub-run-2 t) (StepInstance.part-run-start-2 t) (StepInstance.part-run-end-2 t) (StepInstance.run-requires t) (StepInstance.enum-told t) (StepInstance.finish-frame-requires t) (StepInstance.row-requires-3 t) (StepInstance.copy-outputs-requires t) (StepInstance.enum-told-2 t) (StepInstance.write-fresh-requires t) (StepInstance.enum-told-3 t) (StepInstance.copy-requires t) (StepInstance.same-length t) (StepInstance.returns t) (StepInstance.same-length-2 t) (StepInstance.returns-2 t) (StepInstance.same-length-3 t) (StepInstance.returns-3 t))
+    (λ t. step-instance-lts.spec (StepInstance.Q t) (step-instance-at t) step-instance.Post (StepInstance.row-requires t) (StepInstance.mul-own t) (StepInstance.add-own t) (StepInstance.row-requires-2 t) (StepInstance.open-frame-requires t) (StepInstance.sub-run t) (StepInstance.part-run-start t) (StepInstance.part-run-end t) (StepInstance.sub-run-2 t) (StepInstance.part-run-start-2 t) (StepInstance.part-run-end-2 t) (StepInstance.run-requires t) (StepInstance.enum-told t) (StepInstance.finish-frame-requires t) (StepInstance.row-requires-3 t) (StepInstance.copy-outputs-requires t) (StepInstance.enum-known-end t) (StepInstance.write-fresh-requires t) (StepInstance.enum-told-2 t) (StepInstance.copy-requires t) (StepInstance.same-length t) (StepInstance.returns t) (StepInstance.same-length-2 t) (StepInstance.returns-2 t) (StepInstance.same-length-3 t) (StepInstance.returns-3 t))
     (λ t. step-site-lts.spec (StepSite.Q t) (step-site-at t) step-site.Post (StepSite.sub-step-site t) (StepSite.step-site-requires t) (StepSite.row-requires t) (StepSite.step-instance-requires t) (StepSite.call-function-requires t) (StepSite.same-length t) (StepSite.returns t) (StepSite.same-length-2 t) (StepSite.returns-2 t) (StepSite.same-length-3 t) (StepSite.returns-3 t))
     (λ t. step-untaken-lts.spec (StepUntaken.Q t) (step-untaken-at t) step-untaken.Post (StepUntaken.eval-requires t) (StepUntaken.overflowed-requires t) (StepUntaken.same-length t) (StepUntaken.returns t))
     λ t. tuple-equation-lts.spec (TupleEquation.Q t) (tuple-equation-at t) tuple-equation.Post (TupleEquation.shared-slice-read-number t) (TupleEquation.number-requires t) (TupleEquation.add-rhs t) (TupleEquation.mul-rhs t) (TupleEquation.add-rhs-2 t) (TupleEquation.eval-all-requires t) (TupleEquation.enum-told t) (TupleEquation.add-p t) (TupleEquation.shared-slice-read-number-2 t) (TupleEquation.number-requires-2 t) (TupleEquation.less-requires t) (TupleEquation.add-bind t) (TupleEquation.slice-aggregate-bind t) (TupleEquation.bind-requires t) (TupleEquation.same-length t) (TupleEquation.returns t) (TupleEquation.same-length-2 t) (TupleEquation.returns-2 t)

@@ -193,107 +193,107 @@ write-cell-requires t c κs =
     let lt = subst (λ (m : ℕ). c .before .before .before .before .before .before .before .before .before .before .before .before .loop .i < m) (hd .parts) (c .before .before .before .before .before .before .before .before .before .before .before .loop-test .taken) in
     omega (arith, lt, inv .1, q .room)
 
-pub enum-told : (t : ℕ) → eval-all-lts.Need-enum-told (Q t) (eval-all-at t) eval-all.Post Inv-loop μ-loop
-enum-told t c = search needs
+pub enum-known-o-2 : (t : ℕ) → eval-all-lts.Need-enum-known-o-2 (Q t) (eval-all-at t) eval-all.Post Inv-loop μ-loop
+enum-known-o-2 t c = search needs
 
 pub sub-pass-all : (t : ℕ) → eval-all-lts.Need-sub-pass-all (Q t) (eval-all-at t) eval-all.Post Inv-loop μ-loop
 sub-pass-all t c =
-    let hd = c .before .before .before .before .before .before .before .before .before .before .head .ensures in
-    let lt = subst (λ (m : ℕ). c .before .before .before .before .before .before .before .before .before .loop .i < m) (hd .parts) (c .before .before .before .before .before .before .before .before .loop-test .taken) in
+    let hd = c .before .before .before .before .before .before .before .before .before .before .before .head .ensures in
+    let lt = subst (λ (m : ℕ). c .before .before .before .before .before .before .before .before .before .before .loop .i < m) (hd .parts) (c .before .before .before .before .before .before .before .before .before .loop-test .taken) in
     omega (arith, lt)
 
 pub sub-pass-all-2 : (t : ℕ) → eval-all-lts.Need-sub-pass-all-2 (Q t) (eval-all-at t) eval-all.Post Inv-loop μ-loop
 sub-pass-all-2 t c =
-    let hd = c .before .before .before .before .before .before .before .before .before .before .head .ensures in
-    let lt = subst (λ (m : ℕ). c .before .before .before .before .before .before .before .before .before .loop .i < m) (hd .parts) (c .before .before .before .before .before .before .before .before .loop-test .taken) in
+    let hd = c .before .before .before .before .before .before .before .before .before .before .before .head .ensures in
+    let lt = subst (λ (m : ℕ). c .before .before .before .before .before .before .before .before .before .before .loop .i < m) (hd .parts) (c .before .before .before .before .before .before .before .before .before .loop-test .taken) in
     omega (arith, lt)
 
 pub pass-all-requires : (t : ℕ) → eval-all-lts.Need-pass-all-requires (Q t) (eval-all-at t) eval-all.Post Inv-loop μ-loop
 pass-all-requires t c κs =
-    let start = c .before .before .before .before .before .before .before .before .before .before .before .before .before .before .before .before .before .before in
+    let start = c .before .before .before .before .before .before .before .before .before .before .before .before .before .before .before .before .before .before .before in
     let p = start .pre .1 .1 in
     let tb = start .args .tab .now in
     let fr = start .args .frame .now in
-    let hd = c .before .before .before .before .before .before .before .before .before .before .head .ensures in
-    let inv = c .before .before .before .before .before .before .before .before .before .loop .inv in
+    let hd = c .before .before .before .before .before .before .before .before .before .before .before .head .ensures in
+    let inv = c .before .before .before .before .before .before .before .before .before .before .loop .inv in
     let f = start .args .file .now in
     let a = start .args .at in
     let n = partsAt f a in
-    let lt = subst (λ (m : ℕ). c .before .before .before .before .before .before .before .before .before .loop .i < m) (hd .parts) (c .before .before .before .before .before .before .before .before .loop-test .taken) in
-    let i = c .before .before .before .before .before .before .before .before .before .loop .i in
+    let lt = subst (λ (m : ℕ). c .before .before .before .before .before .before .before .before .before .before .loop .i < m) (hd .parts) (c .before .before .before .before .before .before .before .before .before .loop-test .taken) in
+    let i = c .before .before .before .before .before .before .before .before .before .before .loop .i in
     let o = start .args .old .now in
-    let u = c .before .before .before .before .before .before .before .before .before .loop .used in
+    let u = c .before .before .before .before .before .before .before .before .before .before .loop .used in
     let g = going-left (left-suc n i lt) (inv .3) in
     let same = inv .2 ∙ ap length (p .same) in
-    let K = c .before .before .before .before .before .eval .kept .1 .1 .1 .1 .1 .1 .0 in
-    let x = c .before .before .before .before .before .eval .last .1 .1 .1 .1 .1 .1 .0 in
+    let K = c .before .before .before .before .before .before .eval .kept .1 .1 .1 .1 .1 .1 .0 in
+    let x = c .before .before .before .before .before .before .eval .last .1 .1 .1 .1 .1 .1 .0 in
     let len = going-length g x K same in
-    let h = moved f (constsOf tb) (start .args .level) (nodeOf fr) (firstOf fr) (cellsOf fr) (beforeOf fr) (refl {a = c .before .before .before .before .before .before .before .before .before .loop .pos}) (tail-all u o) (c .before .before .before .before .before .eval .ensures) in
-    (subst (λ (m : ℕ). Passable f (rowsOf tb) (start .args .level) m (c .before .before .before .before .before .eval .result .next)) (sym (ap (λ (m : ℕ). m - i - 1) (hd .parts) ∙ left-pass n i)) (going-passable g h len), rows-room tb _ (p .plan .program .table .long))
+    let h = moved f (constsOf tb) (start .args .level) (nodeOf fr) (firstOf fr) (cellsOf fr) (beforeOf fr) (refl {a = c .before .before .before .before .before .before .before .before .before .before .loop .pos}) (tail-all u o) (c .before .before .before .before .before .before .eval .ensures) in
+    (subst (λ (m : ℕ). Passable f (rowsOf tb) (start .args .level) m (c .before .before .before .before .before .before .eval .result .next)) (sym (ap (λ (m : ℕ). m - i - 1) (hd .parts) ∙ left-pass n i)) (going-passable g h len), rows-room tb _ (p .plan .program .table .long))
 
-pub add-t39 : (t : ℕ) → eval-all-lts.Need-add-t39 (Q t) (eval-all-at t) eval-all.Post Inv-loop μ-loop
-add-t39 t c =
-    let start = c .before .before .before .before .before .before .before .before .before .before .before .before .before .before .before .before .before .before .before .before in
+pub add-t40 : (t : ℕ) → eval-all-lts.Need-add-t40 (Q t) (eval-all-at t) eval-all.Post Inv-loop μ-loop
+add-t40 t c =
+    let start = c .before .before .before .before .before .before .before .before .before .before .before .before .before .before .before .before .before .before .before .before .before in
     let p = start .pre .1 .1 in
     let tb = start .args .tab .now in
     let fr = start .args .frame .now in
-    let hd = c .before .before .before .before .before .before .before .before .before .before .before .before .head .ensures in
-    let inv = c .before .before .before .before .before .before .before .before .before .before .before .loop .inv in
+    let hd = c .before .before .before .before .before .before .before .before .before .before .before .before .before .head .ensures in
+    let inv = c .before .before .before .before .before .before .before .before .before .before .before .before .loop .inv in
     let f = start .args .file .now in
     let a = start .args .at in
     let n = partsAt f a in
-    let lt = subst (λ (m : ℕ). c .before .before .before .before .before .before .before .before .before .before .before .loop .i < m) (hd .parts) (c .before .before .before .before .before .before .before .before .before .before .loop-test .taken) in
-    let i = c .before .before .before .before .before .before .before .before .before .before .before .loop .i in
+    let lt = subst (λ (m : ℕ). c .before .before .before .before .before .before .before .before .before .before .before .before .loop .i < m) (hd .parts) (c .before .before .before .before .before .before .before .before .before .before .before .loop-test .taken) in
+    let i = c .before .before .before .before .before .before .before .before .before .before .before .before .loop .i in
     let kc = getD f (a + 1) 0 in
     let o = start .args .old .now in
-    let u = c .before .before .before .before .before .before .before .before .before .before .before .loop .used in
+    let u = c .before .before .before .before .before .before .before .before .before .before .before .before .loop .used in
     let g = going-left (left-suc n i lt) (inv .3) in
     let same = inv .2 ∙ ap length (p .same) in
-    let K = c .before .before .before .before .before .before .before .eval .kept .1 .1 .1 .1 .1 .1 .0 in
-    let x = c .before .before .before .before .before .before .before .eval .last .1 .1 .1 .1 .1 .1 .0 in
+    let K = c .before .before .before .before .before .before .before .before .eval .kept .1 .1 .1 .1 .1 .1 .0 in
+    let x = c .before .before .before .before .before .before .before .before .eval .last .1 .1 .1 .1 .1 .1 .0 in
     let len = going-length g x K same in
-    let h = moved f (constsOf tb) (start .args .level) (nodeOf fr) (firstOf fr) (cellsOf fr) (beforeOf fr) (refl {a = c .before .before .before .before .before .before .before .before .before .before .before .loop .pos}) (tail-all u o) (c .before .before .before .before .before .before .before .eval .ensures) in
-    let r = going-failed g h len ((passedAll (isCall f a) (nodeIn f kc .inputs))) ((valuesOf n (c .before .before .before .before .before .before .before .before .before .before .before .loop .to))) (c .before .before .enum-told .given .1) ((subst (λ (m : ℕ). SkipsTo f (start .args .level) m (c .before .before .before .before .before .before .before .eval .result .next) (c .before .pass-all .result)) (ap (λ (m : ℕ). m - i - 1) (hd .parts) ∙ left-pass n i) (c .before .pass-all .ensures))) in
+    let h = moved f (constsOf tb) (start .args .level) (nodeOf fr) (firstOf fr) (cellsOf fr) (beforeOf fr) (refl {a = c .before .before .before .before .before .before .before .before .before .before .before .before .loop .pos}) (tail-all u o) (c .before .before .before .before .before .before .before .before .eval .ensures) in
+    let r = going-failed g h len (c .before .before .before .o2 .given .0 .0) ((passedAll (isCall f a) (nodeIn f kc .inputs))) ((valuesOf n (c .before .before .before .before .before .before .before .before .before .before .before .before .loop .to))) (c .before .before .before .o2 .given .1) ((subst (λ (m : ℕ). SkipsTo f (start .args .level) m (c .before .before .before .before .before .before .before .before .eval .result .next) (c .before .pass-all .result)) (ap (λ (m : ℕ). m - i - 1) (hd .parts) ∙ left-pass n i) (c .before .pass-all .ensures))) in
     omega (arith, r .used-is, p .room, p .small)
 
 pub same-length : (t : ℕ) → eval-all-lts.Need-same-length (Q t) (eval-all-at t) eval-all.Post Inv-loop μ-loop
 same-length t c =
-    let start = c .before .before .before .before .before .before .before .before .before .before .before .before .before .before .before .before .before .before .before .before in
+    let start = c .before .before .before .before .before .before .before .before .before .before .before .before .before .before .before .before .before .before .before .before .before in
     let p = start .pre .1 .1 in
-    let inv = c .before .before .before .before .before .before .before .before .before .before .before .loop .inv in
-    let w = c .before .before .before .before .before .before .before .before .before .before .before .loop .new in
-    let u = c .before .before .before .before .before .before .before .before .before .before .before .loop .used in
+    let inv = c .before .before .before .before .before .before .before .before .before .before .before .before .loop .inv in
+    let w = c .before .before .before .before .before .before .before .before .before .before .before .before .loop .new in
+    let u = c .before .before .before .before .before .before .before .before .before .before .before .before .loop .used in
     let same = inv .2 ∙ ap length (p .same) in
-    let K = c .before .before .before .before .before .before .before .eval .kept .1 .1 .1 .1 .1 .1 .0 in
-    let x = c .before .before .before .before .before .before .before .eval .last .1 .1 .1 .1 .1 .1 .0 in
+    let K = c .before .before .before .before .before .before .before .before .eval .kept .1 .1 .1 .1 .1 .1 .0 in
+    let x = c .before .before .before .before .before .before .before .before .eval .last .1 .1 .1 .1 .1 .1 .0 in
     length-put u w x (omega (arith, inv .3 .within, same)) K ∙ inv .2
 
 pub returns : (t : ℕ) → eval-all-lts.Need-returns (Q t) (eval-all-at t) eval-all.Post Inv-loop μ-loop
 returns t c =
-    let start = c .before .before .before .before .before .before .before .before .before .before .before .before .before .before .before .before .before .before .before .before in
+    let start = c .before .before .before .before .before .before .before .before .before .before .before .before .before .before .before .before .before .before .before .before .before in
     let p = start .pre .1 .1 in
     let tb = start .args .tab .now in
     let fr = start .args .frame .now in
-    let hd = c .before .before .before .before .before .before .before .before .before .before .before .before .head .ensures in
-    let inv = c .before .before .before .before .before .before .before .before .before .before .before .loop .inv in
+    let hd = c .before .before .before .before .before .before .before .before .before .before .before .before .before .head .ensures in
+    let inv = c .before .before .before .before .before .before .before .before .before .before .before .before .loop .inv in
     let f = start .args .file .now in
     let a = start .args .at in
     let n = partsAt f a in
-    let lt = subst (λ (m : ℕ). c .before .before .before .before .before .before .before .before .before .before .before .loop .i < m) (hd .parts) (c .before .before .before .before .before .before .before .before .before .before .loop-test .taken) in
-    let i = c .before .before .before .before .before .before .before .before .before .before .before .loop .i in
+    let lt = subst (λ (m : ℕ). c .before .before .before .before .before .before .before .before .before .before .before .before .loop .i < m) (hd .parts) (c .before .before .before .before .before .before .before .before .before .before .before .loop-test .taken) in
+    let i = c .before .before .before .before .before .before .before .before .before .before .before .before .loop .i in
     let kc = getD f (a + 1) 0 in
     let o = start .args .old .now in
-    let u = c .before .before .before .before .before .before .before .before .before .before .before .loop .used in
+    let u = c .before .before .before .before .before .before .before .before .before .before .before .before .loop .used in
     let g = going-left (left-suc n i lt) (inv .3) in
     let same = inv .2 ∙ ap length (p .same) in
-    let K = c .before .before .before .before .before .before .before .eval .kept .1 .1 .1 .1 .1 .1 .0 in
-    let x = c .before .before .before .before .before .before .before .eval .last .1 .1 .1 .1 .1 .1 .0 in
+    let K = c .before .before .before .before .before .before .before .before .eval .kept .1 .1 .1 .1 .1 .1 .0 in
+    let x = c .before .before .before .before .before .before .before .before .eval .last .1 .1 .1 .1 .1 .1 .0 in
     let len = going-length g x K same in
-    let h = moved f (constsOf tb) (start .args .level) (nodeOf fr) (firstOf fr) (cellsOf fr) (beforeOf fr) (refl {a = c .before .before .before .before .before .before .before .before .before .before .before .loop .pos}) (tail-all u o) (c .before .before .before .before .before .before .before .eval .ensures) in
-    (going-failed g h len ((passedAll (isCall f a) (nodeIn f kc .inputs))) ((valuesOf n (c .before .before .before .before .before .before .before .before .before .before .before .loop .to))) (c .before .before .enum-told .given .1) ((subst (λ (m : ℕ). SkipsTo f (start .args .level) m (c .before .before .before .before .before .before .before .eval .result .next) (c .before .pass-all .result)) (ap (λ (m : ℕ). m - i - 1) (hd .parts) ∙ left-pass n i) (c .before .pass-all .ensures))), inv .1)
+    let h = moved f (constsOf tb) (start .args .level) (nodeOf fr) (firstOf fr) (cellsOf fr) (beforeOf fr) (refl {a = c .before .before .before .before .before .before .before .before .before .before .before .before .loop .pos}) (tail-all u o) (c .before .before .before .before .before .before .before .before .eval .ensures) in
+    (going-failed g h len (c .before .before .before .o2 .given .0 .0) ((passedAll (isCall f a) (nodeIn f kc .inputs))) ((valuesOf n (c .before .before .before .before .before .before .before .before .before .before .before .before .loop .to))) (c .before .before .before .o2 .given .1) ((subst (λ (m : ℕ). SkipsTo f (start .args .level) m (c .before .before .before .before .before .before .before .before .eval .result .next) (c .before .pass-all .result)) (ap (λ (m : ℕ). m - i - 1) (hd .parts) ∙ left-pass n i) (c .before .pass-all .ensures))), inv .1)
 
-pub enum-told-2 : (t : ℕ) → eval-all-lts.Need-enum-told-2 (Q t) (eval-all-at t) eval-all.Post Inv-loop μ-loop
-enum-told-2 t c = search needs
+pub enum-told : (t : ℕ) → eval-all-lts.Need-enum-told (Q t) (eval-all-at t) eval-all.Post Inv-loop μ-loop
+enum-told t c = search needs
 
 pub sub-pass-all-3 : (t : ℕ) → eval-all-lts.Need-sub-pass-all-3 (Q t) (eval-all-at t) eval-all.Post Inv-loop μ-loop
 sub-pass-all-3 t c =
@@ -330,8 +330,8 @@ pass-all-requires-2 t c κs =
     let h = moved f (constsOf tb) (start .args .level) (nodeOf fr) (firstOf fr) (cellsOf fr) (beforeOf fr) (refl {a = c .before .before .before .before .before .before .before .before .before .loop .pos}) (tail-all u o) (c .before .before .before .before .before .eval .ensures) in
     (subst (λ (m : ℕ). Passable f (rowsOf tb) (start .args .level) m (c .before .before .before .before .before .eval .result .next)) (sym (ap (λ (m : ℕ). m - i - 1) (hd .parts) ∙ left-pass n i)) (going-passable g h len), rows-room tb _ (p .plan .program .table .long))
 
-pub add-t42 : (t : ℕ) → eval-all-lts.Need-add-t42 (Q t) (eval-all-at t) eval-all.Post Inv-loop μ-loop
-add-t42 t c =
+pub add-t43 : (t : ℕ) → eval-all-lts.Need-add-t43 (Q t) (eval-all-at t) eval-all.Post Inv-loop μ-loop
+add-t43 t c =
     let start = c .before .before .before .before .before .before .before .before .before .before .before .before .before .before .before .before .before .before .before .before in
     let p = start .pre .1 .1 in
     let tb = start .args .tab .now in
@@ -352,7 +352,7 @@ add-t42 t c =
     let x = c .before .before .before .before .before .before .before .eval .last .1 .1 .1 .1 .1 .1 .0 in
     let len = going-length g x K same in
     let h = moved f (constsOf tb) (start .args .level) (nodeOf fr) (firstOf fr) (cellsOf fr) (beforeOf fr) (refl {a = c .before .before .before .before .before .before .before .before .before .before .before .loop .pos}) (tail-all u o) (c .before .before .before .before .before .before .before .eval .ensures) in
-    let r = going-overflowed g h len ((passedAll (isCall f a) (nodeIn f kc .inputs))) ((valuesOf n (c .before .before .before .before .before .before .before .before .before .before .before .loop .to))) (c .before .before .enum-told2 .given .1) ((subst (λ (m : ℕ). SkipsTo f (start .args .level) m (c .before .before .before .before .before .before .before .eval .result .next) (c .before .pass-all2 .result)) (ap (λ (m : ℕ). m - i - 1) (hd .parts) ∙ left-pass n i) (c .before .pass-all2 .ensures))) in
+    let r = going-overflowed g h len ((passedAll (isCall f a) (nodeIn f kc .inputs))) ((valuesOf n (c .before .before .before .before .before .before .before .before .before .before .before .loop .to))) (c .before .before .enum-told .given .1) ((subst (λ (m : ℕ). SkipsTo f (start .args .level) m (c .before .before .before .before .before .before .before .eval .result .next) (c .before .pass-all2 .result)) (ap (λ (m : ℕ). m - i - 1) (hd .parts) ∙ left-pass n i) (c .before .pass-all2 .ensures))) in
     omega (arith, r .used-is, p .room, p .small)
 
 pub same-length-2 : (t : ℕ) → eval-all-lts.Need-same-length-2 (Q t) (eval-all-at t) eval-all.Post Inv-loop μ-loop
@@ -389,7 +389,7 @@ returns-2 t c =
     let x = c .before .before .before .before .before .before .before .eval .last .1 .1 .1 .1 .1 .1 .0 in
     let len = going-length g x K same in
     let h = moved f (constsOf tb) (start .args .level) (nodeOf fr) (firstOf fr) (cellsOf fr) (beforeOf fr) (refl {a = c .before .before .before .before .before .before .before .before .before .before .before .loop .pos}) (tail-all u o) (c .before .before .before .before .before .before .before .eval .ensures) in
-    (going-overflowed g h len ((passedAll (isCall f a) (nodeIn f kc .inputs))) ((valuesOf n (c .before .before .before .before .before .before .before .before .before .before .before .loop .to))) (c .before .before .enum-told2 .given .1) ((subst (λ (m : ℕ). SkipsTo f (start .args .level) m (c .before .before .before .before .before .before .before .eval .result .next) (c .before .pass-all2 .result)) (ap (λ (m : ℕ). m - i - 1) (hd .parts) ∙ left-pass n i) (c .before .pass-all2 .ensures))), inv .1)
+    (going-overflowed g h len ((passedAll (isCall f a) (nodeIn f kc .inputs))) ((valuesOf n (c .before .before .before .before .before .before .before .before .before .before .before .loop .to))) (c .before .before .enum-told .given .1) ((subst (λ (m : ℕ). SkipsTo f (start .args .level) m (c .before .before .before .before .before .before .before .eval .result .next) (c .before .pass-all2 .result)) (ap (λ (m : ℕ). m - i - 1) (hd .parts) ∙ left-pass n i) (c .before .pass-all2 .ensures))), inv .1)
 
 pub add-i : (t : ℕ) → eval-all-lts.Need-add-i (Q t) (eval-all-at t) eval-all.Post Inv-loop μ-loop
 add-i t c =

@@ -184,22 +184,22 @@ copy-outputs-requires t c κs =
     let iw = c .before .before .before .before .before .before .before .before .before .before .before .before .before .before .before .before .before .before .before .before .before .before .row2 .ensures in
     (c .before .before .before .before .before .before .before .before .before .before .before .before .before .before .run .ensures .1, inputs-most R B i iw, outputs-most R B (c .before .row3 .result) (c .before .row3 .ensures), omega (arith, h .room, outputs-most R B (c .before .row3 .result) (c .before .row3 .ensures)))
 
-pub enum-told-2 : (t : ℕ) → step-instance-lts.Need-enum-told-2 (Q t) (step-instance-at t) step-instance.Post
-enum-told-2 t c = search needs
+pub enum-known-end : (t : ℕ) → step-instance-lts.Need-enum-known-end (Q t) (step-instance-at t) step-instance.Post
+enum-known-end t c = search needs
 
 pub write-fresh-requires : (t : ℕ) → step-instance-lts.Need-write-fresh-requires (Q t) (step-instance-at t) step-instance.Post
 write-fresh-requires t c κs =
-    let start = c .before .before .before .before .before .before .before .before .before .before .before .before .before .before .before .before .before .before .before in
+    let start = c .before .before .before .before .before .before .before .before .before .before .before .before .before .before .before .before .before .before .before .before in
     let h = start .pre .1 .0 in
     let o = start .pre .1 .2 in
-    let n = c .before .before .before .before .before .before .before .before .before .before .before .before .before .before .row .result in
-    let w = c .before .before .before .before .before .before .before .before .before .before .before .before .before .before .row .ensures in
-    let x = c .before .before .before .before .before .run .last .1 .1 .1 .1 .0 in
-    let kx = c .before .before .before .before .before .run .kept .1 .1 .1 .1 .0 in
+    let n = c .before .before .before .before .before .before .before .before .before .before .before .before .before .before .before .row .result in
+    let w = c .before .before .before .before .before .before .before .before .before .before .before .before .before .before .before .row .ensures in
+    let x = c .before .before .before .before .before .before .run .last .1 .1 .1 .1 .0 in
+    let kx = c .before .before .before .before .before .before .run .kept .1 .1 .1 .1 .0 in
     fresh-sited h n x o w kx
 
-pub enum-told-3 : (t : ℕ) → step-instance-lts.Need-enum-told-3 (Q t) (step-instance-at t) step-instance.Post
-enum-told-3 t c = search needs
+pub enum-told-2 : (t : ℕ) → step-instance-lts.Need-enum-told-2 (Q t) (step-instance-at t) step-instance.Post
+enum-told-2 t c = search needs
 
 pub copy-requires : (t : ℕ) → step-instance-lts.Need-copy-requires (Q t) (step-instance-at t) step-instance.Post
 copy-requires t c κs = tt
@@ -235,32 +235,32 @@ returns t c =
 
 pub same-length-2 : (t : ℕ) → step-instance-lts.Need-same-length-2 (Q t) (step-instance-at t) step-instance.Post
 same-length-2 t c =
-    let start = c .before .before .before .before .before .before .before .before .before .before .before .before .before .before .before .before .before .before .before .before .before .before in
+    let start = c .before .before .before .before .before .before .before .before .before .before .before .before .before .before .before .before .before .before .before .before .before .before .before in
     let h = start .pre .1 .0 in
     let o = start .pre .1 .2 in
-    let n = c .before .before .before .before .before .before .before .before .before .before .before .before .before .before .before .before .before .row .result in
-    let w = c .before .before .before .before .before .before .before .before .before .before .before .before .before .before .before .before .before .row .ensures in
-    let x = c .before .before .before .before .before .before .before .before .run .last .1 .1 .1 .1 .0 in
-    let kx = c .before .before .before .before .before .before .before .before .run .kept .1 .1 .1 .1 .0 in
+    let n = c .before .before .before .before .before .before .before .before .before .before .before .before .before .before .before .before .before .before .row .result in
+    let w = c .before .before .before .before .before .before .before .before .before .before .before .before .before .before .before .before .before .before .row .ensures in
+    let x = c .before .before .before .before .before .before .before .before .before .run .last .1 .1 .1 .1 .0 in
+    let kx = c .before .before .before .before .before .before .before .before .before .run .kept .1 .1 .1 .1 .0 in
     c .before .before .write-fresh .kept .1 .1 .1 .0 ∙ put-length h n x o w kx
 
 pub returns-2 : (t : ℕ) → step-instance-lts.Need-returns-2 (Q t) (step-instance-at t) step-instance.Post
 returns-2 t c =
-    let start = c .before .before .before .before .before .before .before .before .before .before .before .before .before .before .before .before .before .before .before .before .before .before in
+    let start = c .before .before .before .before .before .before .before .before .before .before .before .before .before .before .before .before .before .before .before .before .before .before .before in
     let h = start .pre .1 .0 in
     let o = start .pre .1 .2 in
     let tb = start .args .tab .now in
-    let n = c .before .before .before .before .before .before .before .before .before .before .before .before .before .before .before .before .before .row .result in
-    let w = c .before .before .before .before .before .before .before .before .before .before .before .before .before .before .before .before .before .row .ensures in
-    let iw = c .before .before .before .before .before .before .before .before .before .before .before .before .before .before .before .before .row2 .ensures in
-    let op = c .before .before .before .before .before .before .before .before .before .before .before .before .open-frame .ensures in
-    let fr = c .before .before .before .before .before .before .before .before .before .before .before .before .open-frame .last .1 .1 .1 .1 .1 .0 in
-    let frR = c .before .before .before .before .before .before .before .before .run .last .1 .1 .0 in
+    let n = c .before .before .before .before .before .before .before .before .before .before .before .before .before .before .before .before .before .before .row .result in
+    let w = c .before .before .before .before .before .before .before .before .before .before .before .before .before .before .before .before .before .before .row .ensures in
+    let iw = c .before .before .before .before .before .before .before .before .before .before .before .before .before .before .before .before .before .row2 .ensures in
+    let op = c .before .before .before .before .before .before .before .before .before .before .before .before .before .open-frame .ensures in
+    let fr = c .before .before .before .before .before .before .before .before .before .before .before .before .before .open-frame .last .1 .1 .1 .1 .1 .0 in
+    let frR = c .before .before .before .before .before .before .before .before .before .run .last .1 .1 .0 in
     let cells = cellsOf frR in
-    let x = c .before .before .before .before .before .before .before .before .run .last .1 .1 .1 .1 .0 in
+    let x = c .before .before .before .before .before .before .before .before .before .run .last .1 .1 .1 .1 .0 in
     let e = entered h o w iw op in
-    let ran = framed-run (start .args .file .now) (constsOf tb) fr (tailOf (1 + 9 * n) (start .args .old .now)) cells (op .node) (c .before .before .before .before .before .before .before .before .run .ensures .0) in
-    (instance-failed e (c .before .before .before .before .before .before .before .before .run .result) cells x (c .before .before .write-fresh .last .1 .1 .1 .0) (start .args .args .now) ran (c .before .before .before .before .enum-told2 .given .1) (c .before .before .write-fresh .ensures), refl)
+    let ran = framed-run (start .args .file .now) (constsOf tb) fr (tailOf (1 + 9 * n) (start .args .old .now)) cells (op .node) (c .before .before .before .before .before .before .before .before .before .run .ensures .0) in
+    (instance-failed e (c .before .before .before .before .before .end .given .0 .0) (c .before .before .before .before .before .before .before .before .before .run .result) cells x (c .before .before .write-fresh .last .1 .1 .1 .0) (start .args .args .now) ran (c .before .before .before .before .before .end .given .1) (c .before .before .write-fresh .ensures), refl)
 
 pub same-length-3 : (t : ℕ) → step-instance-lts.Need-same-length-3 (Q t) (step-instance-at t) step-instance.Post
 same-length-3 t c =
@@ -290,4 +290,4 @@ returns-3 t c =
     let kx = c .before .before .before .before .before .before .before .before .run .kept .1 .1 .1 .1 .0 in
     let e = entered h o w iw op in
     let ran = framed-run (start .args .file .now) (constsOf tb) fr (tailOf (1 + 9 * n) (start .args .old .now)) cells (op .node) (c .before .before .before .before .before .before .before .before .run .ensures .0) in
-    (instance-overflowed e (c .before .before .before .before .before .before .before .before .run .result) cells x (c .before .before .copy .last .1 .0) (start .args .args .now) ran (c .before .before .before .before .enum-told3 .given .1) (all-copied (start .args .old .now) (putTail (1 + 9 * n) (start .args .new .now) x) (c .before .before .copy .last .1 .0) (put-length h n x o w kx ∙ ap length (h .same)) (c .before .before .copy .ensures)), refl)
+    (instance-overflowed e (c .before .before .before .before .before .before .before .before .run .result) cells x (c .before .before .copy .last .1 .0) (start .args .args .now) ran (c .before .before .before .before .enum-told2 .given .1) (all-copied (start .args .old .now) (putTail (1 + 9 * n) (start .args .new .now) x) (c .before .before .copy .last .1 .0) (put-length h n x o w kx ∙ ap length (h .same)) (c .before .before .copy .ensures)), refl)
