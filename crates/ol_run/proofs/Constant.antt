@@ -236,9 +236,9 @@ after-value p k F (Out.Value v) o w e f = ap k (same-value (sym e ∙ f))
   where
     same-value : {a b : Value} → Out.Value a ≡ Out.Value b → a ≡ b
     same-value h = cc
-after-value p k F Out.Failure o w e f = absurd (no-value (sym e ∙ f))
+after-value p k F (Out.Failure c) o w e f = absurd (no-value (sym e ∙ f))
   where
-    no-value : Out.Failure ≡ Out.Value w → ⊥
+    no-value : Out.Failure c ≡ Out.Value w → ⊥
     no-value h = let z : _≡_ {A = ℕ} 0 1 = cc in omega arith
 after-value p k F Out.Overflow o w e f = absurd (no-value (sym e ∙ f))
   where
@@ -250,7 +250,7 @@ after-none p k F (Out.Value v) o e f = absurd (no-done (ap doneOf (sym e) ∙ f)
   where
     no-done : true ≡ false → ⊥
     no-done h = let z : _≡_ {A = ℕ} 0 1 = cc in omega arith
-after-none p k F Out.Failure o e f = refl
+after-none p k F (Out.Failure c) o e f = refl
 after-none p k F Out.Overflow o e f = refl
 
 module _ {file t₀ : List ℕ} {nodes at count : ℕ} (p : ConstantsReady file t₀ nodes at count) {t : List ℕ} {pos i : ℕ} (g : Going file t₀ t count pos i) (l : i < count) where

@@ -15,8 +15,9 @@ use Rattle.ol_spec.specs.Step.{Ended as RunEnd}
 use Rattle.ol_spec.specs.Admission.{constantNames, headSize, stateSize}
 use Rattle.ol_spec.specs.State.{globalsOf}
 use Rattle.ol_spec.specs.Cycle.{endOn, endRun, mainRun}
-use Rattle.ol_spec.specs.Answers.{faultAt}
+use Rattle.ol_spec.specs.Answers.{faultAt, causeNumber}
 use Rattle.ol_spec.specs.declared.Value.{Value}
+use Rattle.ol_spec.specs.declared.Cause.{Cause}
 use Rattle.ol_spec.specs.declared.Cycled.{Cycled}
 use Rattle.ol_spec.specs.declared.Cycled.the-variants as Cyc
 use Rattle.ol_spec.proofs.MainFacts.{main-at}
@@ -31,7 +32,7 @@ use Rattle.ol_frame.specs.Outcomes.{endingNumber}
 use Rattle.ol_eval.specs.declared.eval.Ended.{Ended}
 use Rattle.ol_frame.specs.declared.outcomes.Ending.the-variants as End
 use Rattle.ol_tables.proofs.Lending.{tailOf, putTail, tail-all, put-tail, take-put, drop-put, length-put}
-use Rattle.ol_frame.proofs.Endings.{failed-values, over-values, over-failed}
+use Rattle.ol_frame.proofs.Endings.{failed-values, over-values, over-failed, one-cause}
 use Rattle.ol_frame.proofs.NodeRows.{width-is, inputs-are, narrow, inputs-first}
 use Rattle.ol_state.proofs.Instances.{few-nodes}
 use Rattle.ol_frame.specs.Frame.{Framed, firstOf, nodeOf, cellsOf, beforeOf, Opened}
@@ -79,17 +80,18 @@ module _ (f : File) (old vals : List ℕ) (U : Run) (r : Ended) (got : List Valu
       go : (e : RunEnd) → EndsAs e r → (e ≡ finished → got ≡ U .cells) → Cycles (endOn f old vals e (U .cells) (U .segs)) Cyc.Answered new vals′
       go finished s c =
           record { answered = refl; renewed = w ∙ (λ j. take (headSize f) old ++ (1 ∷ cells (c refl j) ++ m .state j)); valued = v ∙ ap cells (c refl) }
-      go (failedAt i) s c = failed-values (s .0) z
+      go (failedAt d i) s c = failed-values (s .0) z
       go (overflowedAt i) s c = over-values (s .0) z
 
-  -- a failed one stops with 18: the main cells stay, the instances are moved
-  pub ended-failed : (new : List ℕ) → r .end ≡ End.Failed → new ≡ take (headSize f + ownSize (main f)) old ++ segs → Cycles (endRun f old vals U) (Cyc.Stopped (faultAt (endingNumber End.Failed) (r .index))) new vals
-  ended-failed new z w = go (U .end) (m .ends)
+  -- a failed one stops with its cause's number: the main cells stay, the instances are moved
+  pub ended-failed : (d : Cause) (number : ℕ) (new : List ℕ) → r .end ≡ End.Failed d → number ≡ endingNumber (End.Failed d) → new ≡ take (headSize f + ownSize (main f)) old ++ segs
+      → Cycles (endRun f old vals U) (Cyc.Stopped (faultAt number (r .index))) new vals
+  ended-failed d number new z t w = go (U .end) (m .ends)
     where
-      go : (e : RunEnd) → EndsAs e r → Cycles (endOn f old vals e (U .cells) (U .segs)) (Cyc.Stopped (faultAt (endingNumber End.Failed) (r .index))) new vals
+      go : (e : RunEnd) → EndsAs e r → Cycles (endOn f old vals e (U .cells) (U .segs)) (Cyc.Stopped (faultAt number (r .index))) new vals
       go finished s = failed-values z s
-      go (failedAt i) s =
-          record { answered = ap (λ (j : ℕ). Cyc.Stopped (faultAt (endingNumber End.Failed) j)) (s .1); renewed = w ∙ ap (λ (x : List ℕ). take (headSize f + ownSize (main f)) old ++ x) (m .state); valued = refl }
+      go (failedAt c i) s =
+          record { answered = (λ j. Cyc.Stopped (faultAt ((t ∙ ap causeNumber (one-cause z (s .0))) j) (s .1 j))); renewed = w ∙ ap (λ (x : List ℕ). take (headSize f + ownSize (main f)) old ++ x) (m .state); valued = refl }
       go (overflowedAt i) s = over-failed (s .0) z
 
   -- one that overflowed stops with 19: the state is the old one
@@ -98,7 +100,7 @@ module _ (f : File) (old vals : List ℕ) (U : Run) (r : Ended) (got : List Valu
     where
       go : (e : RunEnd) → EndsAs e r → Cycles (endOn f old vals e (U .cells) (U .segs)) (Cyc.Stopped (faultAt (endingNumber End.Overflowed) (r .index))) new vals
       go finished s = over-values z s
-      go (failedAt i) s = over-failed z (s .0)
+      go (failedAt d i) s = over-failed z (s .0)
       go (overflowedAt i) s = record { answered = ap (λ (j : ℕ). Cyc.Stopped (faultAt (endingNumber End.Overflowed) j)) (s .1); renewed = w; valued = refl }
 
 -- ---- the run on its record
@@ -265,8 +267,10 @@ module _ {file tab rows consts old inputs new vals : List ℕ} {k : ℕ} (h : Ru
           ∙ ap (λ (l : List ℕ). l ++ D) (sym (take-add (headSize f) own old))
           ∙ ap (λ (q : Node). take (headSize f + ownSize q) old ++ D) (sym (main-is file k (h .last)))
 
-      pub cycle-failed : r .end ≡ End.Failed → (vs : List Value) → CyclesTo file consts vs old inputs vals (Cyc.Stopped (faultAt (endingNumber End.Failed) (r .index))) (putTail H copied x) vals
-      cycle-failed z = ended (Cyc.Stopped (faultAt (endingNumber End.Failed) (r .index))) (putTail H copied x) vals (ended-failed f old vals U r got (drop own x) (m .ran) (putTail H copied x) z cells-stay)
+      pub cycle-failed : (d : Cause) (number : ℕ) → r .end ≡ End.Failed d → number ≡ endingNumber (End.Failed d) → (vs : List Value)
+          → CyclesTo file consts vs old inputs vals (Cyc.Stopped (faultAt number (r .index))) (putTail H copied x) vals
+      cycle-failed d number z t =
+          ended (Cyc.Stopped (faultAt number (r .index))) (putTail H copied x) vals (ended-failed f old vals U r got (drop own x) (m .ran) d number (putTail H copied x) z t cells-stay)
 
       pub cycle-overflowed : (new′ : List ℕ) → r .end ≡ End.Overflowed → new′ ≡ old → (vs : List Value) → CyclesTo file consts vs old inputs vals (Cyc.Stopped (faultAt (endingNumber End.Overflowed) (r .index))) new′ vals
       cycle-overflowed new′ z w = ended (Cyc.Stopped (faultAt (endingNumber End.Overflowed) (r .index))) new′ vals (ended-overflowed f old vals U r got (drop own x) (m .ran) new′ z w)

@@ -97,7 +97,7 @@ module _ (file old ins new new′ vals vals′ : List ℕ) where
   module _ (f : File) (vs : List Value) where
     run-ends : (e : Ended) (u : Run) → Ends (endOn f old vals′ e (u .cells) (u .segs)) old (endOn f old vals e (u .cells) (u .segs) .answer) (endOn f old vals e (u .cells) (u .segs) .new) (endOn f old vals e (u .cells) (u .segs) .values)
     run-ends finished u = record { text-is = refl; next-is = refl }
-    run-ends (failedAt i) u = record { text-is = refl; next-is = refl }
+    run-ends (failedAt c i) u = record { text-is = refl; next-is = refl }
     run-ends (overflowedAt i) u = record { text-is = refl; next-is = refl }
 
     unless-ends : (a b c : Bool) → let w = cycleUnless a b c f vs old ins new vals in Ends (cycleUnless a b c f vs old ins new′ vals′) old (w .answer) (w .new) (w .values)

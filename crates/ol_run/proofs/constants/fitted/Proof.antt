@@ -12,41 +12,41 @@ use Rattle.ol_run.proofs.constants.fitted.Reads as reads
 use Rattle.ol_run.proofs.constants.fitted.Lts as lts
 use Rattle.ol_value.proofs.types.fit_to.Reads as fit-to-reads
 
--- src/constants.rt:20:24
+-- src/constants.rt:39:24
 enum-known-o : tie.Need-enum-known-o
 enum-known-o c = search needs
 
--- src/constants.rt:20:45
+-- src/constants.rt:39:45
 fit-to-requires : tie.Need-fit-to-requires
 fit-to-requires c κs = search needs
 
--- src/constants.rt:21:29
+-- src/constants.rt:40:26
+enum-known-o-2 : tie.Need-enum-known-o-2
+enum-known-o-2 c = search needs
+
+-- src/constants.rt:41:30
 enum-told : tie.Need-enum-told
 enum-told c = search needs
 
--- src/constants.rt:22:30
-enum-told-2 : tie.Need-enum-told-2
-enum-told-2 c = search needs
-
--- src/constants.rt:16:1
+-- src/constants.rt:35:1
 returns : tie.Need-returns
 returns c =
     let start = c .before .before .before .before in
     λ e. ap Out.Value (c .fit-to .ensures e) ∙ ap (thenOut (λ v. Out.Value (fit (tyOf (start .args .code) e) v))) (sym (c .before .before .o .given .1))
 
--- src/constants.rt:16:1
+-- src/constants.rt:35:1
 returns-2 : tie.Need-returns-2
 returns-2 c =
-    let start = c .before .before in
-    λ e. ap (thenOut (λ v. Out.Value (fit (tyOf (start .args .code) e) v))) (sym (c .enum-told .given .1))
+    let start = c .before .before .before in
+    λ e. ap (thenOut (λ v. Out.Value (fit (tyOf (start .args .code) e) v))) (sym (c .before .o2 .given .1))
 
--- src/constants.rt:16:1
+-- src/constants.rt:35:1
 returns-3 : tie.Need-returns-3
 returns-3 c =
     let start = c .before .before in
-    λ e. ap (thenOut (λ v. Out.Value (fit (tyOf (start .args .code) e) v))) (sym (c .enum-told2 .given .1))
+    λ e. ap (thenOut (λ v. Out.Value (fit (tyOf (start .args .code) e) v))) (sym (c .enum-told .given .1))
 
 pub fitted-spec : {M : Type 1} → statement M
 fitted-spec =
     tie.close
-    (tie.spec enum-known-o fit-to-requires enum-told enum-told-2 returns returns-2 returns-3)
+    (tie.spec enum-known-o fit-to-requires enum-known-o-2 enum-told returns returns-2 returns-3)

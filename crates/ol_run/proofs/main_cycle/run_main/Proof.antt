@@ -23,8 +23,9 @@ use Rattle.ol_frame.proofs.frame.finish_frame.Reads as finish-frame-reads
 use Rattle.ol_frame.proofs.tables.row.Reads as row-reads
 use Rattle.ol_run.proofs.main_cycle.run_record.Reads as run-record-reads
 use Rattle.ol_tables.proofs.bytes.byte.Reads as byte-reads
+use Rattle.ol_value.proofs.causes.cause_number.Reads as cause-number-reads
 
--- src/main_cycle.rt:60:9
+-- src/main_cycle.rt:61:9
 row-requires : tie.Need-row-requires
 row-requires c κs =
     let start = c .before .before .before .before .before .before in
@@ -32,21 +33,21 @@ row-requires c κs =
     let t = start .args .tab .now in
     (rows-room t _ (h .running .program .table .long), few-nodes (h .running .known) (omega (arith, h .last)), omega arith)
 
--- src/main_cycle.rt:61:20
+-- src/main_cycle.rt:62:20
 byte-requires : tie.Need-byte-requires
 byte-requires c κs = tt
 
--- src/main_cycle.rt:61:16
+-- src/main_cycle.rt:62:16
 mul-head : tie.Need-mul-head
 mul-head c =
     let b = c .byte .ensures in
     omega (arith, b .small)
 
--- src/main_cycle.rt:63:5
+-- src/main_cycle.rt:64:5
 copy-requires : tie.Need-copy-requires
 copy-requires c κs = tt
 
--- src/main_cycle.rt:69:9
+-- src/main_cycle.rt:70:9
 sub-run-record : tie.Need-sub-run-record
 sub-run-record c =
     let start = c .before .before .before .before .before .before .before .before .before .before .before .before in
@@ -58,7 +59,7 @@ sub-run-record c =
     let front = known-head t (b .is) (b .small) room in
     omega (arith, head-room h H front)
 
--- src/main_cycle.rt:69:9
+-- src/main_cycle.rt:70:9
 part-run-record-start : tie.Need-part-run-record-start
 part-run-record-start c =
     let start = c .before .before .before .before .before .before .before .before .before .before .before .before in
@@ -70,7 +71,7 @@ part-run-record-start c =
     let front = known-head t (b .is) (b .small) room in
     omega (arith, head-room h H front)
 
--- src/main_cycle.rt:69:9
+-- src/main_cycle.rt:70:9
 part-run-record-end : tie.Need-part-run-record-end
 part-run-record-end c =
     let start = c .before .before .before .before .before .before .before .before .before .before .before .before in
@@ -82,7 +83,7 @@ part-run-record-end c =
     let front = known-head t (b .is) (b .small) room in
     omega (arith, head-room h H front)
 
--- src/main_cycle.rt:70:9
+-- src/main_cycle.rt:71:9
 sub-run-record-2 : tie.Need-sub-run-record-2
 sub-run-record-2 c =
     let start = c .before .before .before .before .before .before .before .before .before .before .before .before .before in
@@ -96,7 +97,7 @@ sub-run-record-2 c =
     let e = all-copied (start .args .old .now) (start .args .new .now) (c .before .before .before .copy .last .1 .0) (start .pre .renewed) (c .before .before .before .copy .ensures) in
     omega (arith, copied-room h H front copied e)
 
--- src/main_cycle.rt:70:9
+-- src/main_cycle.rt:71:9
 part-run-record-start-2 : tie.Need-part-run-record-start-2
 part-run-record-start-2 c =
     let start = c .before .before .before .before .before .before .before .before .before .before .before .before .before in
@@ -110,7 +111,7 @@ part-run-record-start-2 c =
     let e = all-copied (start .args .old .now) (start .args .new .now) (c .before .before .before .copy .last .1 .0) (start .pre .renewed) (c .before .before .before .copy .ensures) in
     omega (arith, copied-room h H front copied e)
 
--- src/main_cycle.rt:70:9
+-- src/main_cycle.rt:71:9
 part-run-record-end-2 : tie.Need-part-run-record-end-2
 part-run-record-end-2 c =
     let start = c .before .before .before .before .before .before .before .before .before .before .before .before .before in
@@ -124,7 +125,7 @@ part-run-record-end-2 c =
     let e = all-copied (start .args .old .now) (start .args .new .now) (c .before .before .before .copy .last .1 .0) (start .pre .renewed) (c .before .before .before .copy .ensures) in
     omega (arith, copied-room h H front copied e)
 
--- src/main_cycle.rt:64:9
+-- src/main_cycle.rt:65:9
 run-record-requires : tie.Need-run-record-requires
 run-record-requires c κs =
     let start = c .before .before .before .before .before .before .before .before .before .before .before .before .before .before .before in
@@ -138,17 +139,17 @@ run-record-requires c κs =
     let e = all-copied (start .args .old .now) (start .args .new .now) (c .before .before .before .before .before .copy .last .1 .0) (start .pre .renewed) (c .before .before .before .before .before .copy .ensures) in
     main-ready h H front copied _ e refl
 
--- src/main_cycle.rt:77:29
+-- src/main_cycle.rt:78:29
 enum-told : tie.Need-enum-told
 enum-told c = search needs
 
--- src/main_cycle.rt:77:29
+-- src/main_cycle.rt:78:29
 slice-aggregate-finish-frame : tie.Need-slice-aggregate-finish-frame
 slice-aggregate-finish-frame c =
     let kf = c .before .before .before .before .before .run-record .ensures .1 in
     sym kf
 
--- src/main_cycle.rt:77:37
+-- src/main_cycle.rt:78:37
 sub-finish-frame : tie.Need-sub-finish-frame
 sub-finish-frame c =
     let start = c .before .before .before .before .before .before .before .before .before .before .before .before .before .before .before .before .before .before .before .before .before in
@@ -164,7 +165,7 @@ sub-finish-frame c =
     let kx = c .before .before .before .before .before .run-record .kept .1 .1 .1 .1 .1 .0 in
     omega (arith, moved-room h H front copied x e kx)
 
--- src/main_cycle.rt:77:37
+-- src/main_cycle.rt:78:37
 part-finish-frame-start : tie.Need-part-finish-frame-start
 part-finish-frame-start c =
     let start = c .before .before .before .before .before .before .before .before .before .before .before .before .before .before .before .before .before .before .before .before .before in
@@ -180,7 +181,7 @@ part-finish-frame-start c =
     let kx = c .before .before .before .before .before .run-record .kept .1 .1 .1 .1 .1 .0 in
     omega (arith, moved-room h H front copied x e kx)
 
--- src/main_cycle.rt:77:37
+-- src/main_cycle.rt:78:37
 part-finish-frame-end : tie.Need-part-finish-frame-end
 part-finish-frame-end c =
     let start = c .before .before .before .before .before .before .before .before .before .before .before .before .before .before .before .before .before .before .before .before .before in
@@ -196,7 +197,7 @@ part-finish-frame-end c =
     let kx = c .before .before .before .before .before .run-record .kept .1 .1 .1 .1 .1 .0 in
     omega (arith, moved-room h H front copied x e kx)
 
--- src/main_cycle.rt:77:13
+-- src/main_cycle.rt:78:13
 finish-frame-requires : tie.Need-finish-frame-requires
 finish-frame-requires c κs =
     let start = c .before .before .before .before .before .before .before .before .before .before .before .before .before .before .before .before .before .before .before .before .before .before in
@@ -216,25 +217,25 @@ finish-frame-requires c κs =
     let kf = c .before .before .before .before .before .before .run-record .ensures .1 in
     finish-ready h H front n copied x frame w e kx kf
 
--- src/main_cycle.rt:78:28
+-- src/main_cycle.rt:79:28
 sub-write-cells : tie.Need-sub-write-cells
 sub-write-cells c =
     let kf = c .before .before .before .before .before .before .before .before .before .run-record .ensures .1 in
     omega (arith, kf)
 
--- src/main_cycle.rt:78:28
+-- src/main_cycle.rt:79:28
 part-write-cells-start : tie.Need-part-write-cells-start
 part-write-cells-start c =
     let kf = c .before .before .before .before .before .before .before .before .before .before .run-record .ensures .1 in
     omega (arith, kf)
 
--- src/main_cycle.rt:78:28
+-- src/main_cycle.rt:79:28
 part-write-cells-end : tie.Need-part-write-cells-end
 part-write-cells-end c =
     let kf = c .before .before .before .before .before .before .before .before .before .before .run-record .ensures .1 in
     omega (arith, kf)
 
--- src/main_cycle.rt:78:13
+-- src/main_cycle.rt:79:13
 write-cells-requires : tie.Need-write-cells-requires
 write-cells-requires c κs =
     let start = c .before .before .before .before .before .before .before .before .before .before .before .before .before .before .before .before .before .before .before .before .before .before .before .before .before .before .before .before in
@@ -250,19 +251,23 @@ write-cells-requires c κs =
     let kf = c .before .before .before .before .before .before .before .before .before .before .before .before .run-record .ensures .1 in
     values-ready h H front n frame w kf
 
--- src/main_cycle.rt:81:43
+-- src/main_cycle.rt:82:24
+enum-known-end : tie.Need-enum-known-end
+enum-known-end c = search needs
+
+-- src/main_cycle.rt:83:21
+cause-number-requires : tie.Need-cause-number-requires
+cause-number-requires c κs = search needs
+
+-- src/main_cycle.rt:87:23
 enum-told-2 : tie.Need-enum-told-2
 enum-told-2 c = search needs
 
--- src/main_cycle.rt:83:23
-enum-told-3 : tie.Need-enum-told-3
-enum-told-3 c = search needs
-
--- src/main_cycle.rt:83:13
+-- src/main_cycle.rt:87:13
 copy-requires-2 : tie.Need-copy-requires-2
 copy-requires-2 c κs = tt
 
--- src/main_cycle.rt:48:1
+-- src/main_cycle.rt:49:1
 same-length : tie.Need-same-length
 same-length c =
     let start = c .before .before .before .before .before .before .before .before .before .before .before .before .before .before .before .before .before .before .before .before .before .before .before .before .before .before .before .before .before .before .before in
@@ -279,11 +284,11 @@ same-length c =
     let kx = c .before .before .before .before .before .before .before .before .before .before .before .before .before .before .before .run-record .kept .1 .1 .1 .1 .1 .0 in
     ended-length h H front copied x (c .before .before .before .before .before .before .before .before .finish-frame .last .1 .1 .0) e kx (c .before .before .before .before .before .before .before .before .finish-frame .kept .1 .1 .0) ∙ kn
 
--- src/main_cycle.rt:48:1
+-- src/main_cycle.rt:49:1
 same-length-2 : tie.Need-same-length-2
 same-length-2 c = c .before .before .write-cells .kept .1 .1 .0
 
--- src/main_cycle.rt:48:1
+-- src/main_cycle.rt:49:1
 returns : tie.Need-returns
 returns c =
     let start = c .before .before .before .before .before .before .before .before .before .before .before .before .before .before .before .before .before .before .before .before .before .before .before .before .before .before .before .before .before .before .before in
@@ -301,40 +306,40 @@ returns c =
     let frame = c .before .before .before .before .before .before .before .before .before .before .before .before .before .before .before .run-record .last .1 .1 .1 .1 .1 .1 .0 in
     cycle-finished h H front copied x (cellsOf frame) (c .before .before .before .before .before .before .before .before .before .before .before .before .before .before .before .run-record .result) e (c .before .before .before .before .before .before .before .before .before .before .before .before .before .before .before .run-record .ensures .0) n (c .before .before .before .before .before .before .before .before .finish-frame .last .1 .1 .0) (c .before .before .write-cells .last .1 .1 .0) w (c .before .before .before .before .before .before .before .before .before .before .before .enum-told .given .1) (c .before .before .before .before .before .before .before .before .finish-frame .ensures) (c .before .before .write-cells .ensures)
 
--- src/main_cycle.rt:48:1
+-- src/main_cycle.rt:49:1
 same-length-3 : tie.Need-same-length-3
 same-length-3 c =
-    let start = c .before .before .before .before .before .before .before .before .before .before .before .before .before .before .before .before .before .before .before .before in
+    let start = c .before .before .before .before .before .before .before .before .before .before .before .before .before .before .before .before .before .before .before .before .before .before in
     let h = start .pre in
     let t = start .args .tab .now in
-    let b = c .before .before .before .before .before .before .before .before .before .before .before .before .byte .ensures in
+    let b = c .before .before .before .before .before .before .before .before .before .before .before .before .before .before .byte .ensures in
     let room = known-room t (h .running .known .tabled) in
-    let H = 9 * c .before .before .before .before .before .before .before .before .before .before .before .before .byte .result in
+    let H = 9 * c .before .before .before .before .before .before .before .before .before .before .before .before .before .before .byte .result in
     let front = known-head t (b .is) (b .small) room in
-    let copied = c .before .before .before .before .before .before .before .before .before .before .copy .last .1 .0 in
-    let e = all-copied (start .args .old .now) (start .args .new .now) (c .before .before .before .before .before .before .before .before .before .before .copy .last .1 .0) (start .pre .renewed) (c .before .before .before .before .before .before .before .before .before .before .copy .ensures) in
-    let kn = c .before .before .before .before .before .before .before .before .before .before .copy .kept .1 .0 in
-    let x = c .before .before .before .before .run-record .last .1 .1 .1 .1 .1 .0 in
-    let kx = c .before .before .before .before .run-record .kept .1 .1 .1 .1 .1 .0 in
+    let copied = c .before .before .before .before .before .before .before .before .before .before .before .before .copy .last .1 .0 in
+    let e = all-copied (start .args .old .now) (start .args .new .now) (c .before .before .before .before .before .before .before .before .before .before .before .before .copy .last .1 .0) (start .pre .renewed) (c .before .before .before .before .before .before .before .before .before .before .before .before .copy .ensures) in
+    let kn = c .before .before .before .before .before .before .before .before .before .before .before .before .copy .kept .1 .0 in
+    let x = c .before .before .before .before .before .before .run-record .last .1 .1 .1 .1 .1 .0 in
+    let kx = c .before .before .before .before .before .before .run-record .kept .1 .1 .1 .1 .1 .0 in
     moved-length h H front copied x e kx ∙ kn
 
--- src/main_cycle.rt:48:1
+-- src/main_cycle.rt:49:1
 returns-2 : tie.Need-returns-2
 returns-2 c =
-    let start = c .before .before .before .before .before .before .before .before .before .before .before .before .before .before .before .before .before .before .before .before in
+    let start = c .before .before .before .before .before .before .before .before .before .before .before .before .before .before .before .before .before .before .before .before .before .before in
     let h = start .pre in
     let t = start .args .tab .now in
-    let b = c .before .before .before .before .before .before .before .before .before .before .before .before .byte .ensures in
+    let b = c .before .before .before .before .before .before .before .before .before .before .before .before .before .before .byte .ensures in
     let room = known-room t (h .running .known .tabled) in
-    let H = 9 * c .before .before .before .before .before .before .before .before .before .before .before .before .byte .result in
+    let H = 9 * c .before .before .before .before .before .before .before .before .before .before .before .before .before .before .byte .result in
     let front = known-head t (b .is) (b .small) room in
-    let copied = c .before .before .before .before .before .before .before .before .before .before .copy .last .1 .0 in
-    let e = all-copied (start .args .old .now) (start .args .new .now) (c .before .before .before .before .before .before .before .before .before .before .copy .last .1 .0) (start .pre .renewed) (c .before .before .before .before .before .before .before .before .before .before .copy .ensures) in
-    let x = c .before .before .before .before .run-record .last .1 .1 .1 .1 .1 .0 in
-    let frame = c .before .before .before .before .run-record .last .1 .1 .1 .1 .1 .1 .0 in
-    cycle-failed h H front copied x (cellsOf frame) (c .before .before .before .before .run-record .result) e (c .before .before .before .before .run-record .ensures .0) (c .enum-told2 .given .1)
+    let copied = c .before .before .before .before .before .before .before .before .before .before .before .before .copy .last .1 .0 in
+    let e = all-copied (start .args .old .now) (start .args .new .now) (c .before .before .before .before .before .before .before .before .before .before .before .before .copy .last .1 .0) (start .pre .renewed) (c .before .before .before .before .before .before .before .before .before .before .before .before .copy .ensures) in
+    let x = c .before .before .before .before .before .before .run-record .last .1 .1 .1 .1 .1 .0 in
+    let frame = c .before .before .before .before .before .before .run-record .last .1 .1 .1 .1 .1 .1 .0 in
+    cycle-failed h H front copied x (cellsOf frame) (c .before .before .before .before .before .before .run-record .result) e (c .before .before .before .before .before .before .run-record .ensures .0) (c .before .before .end .given .0 .0) (c .cause-number .result) (c .before .before .end .given .1) (c .cause-number .ensures)
 
--- src/main_cycle.rt:48:1
+-- src/main_cycle.rt:49:1
 same-length-4 : tie.Need-same-length-4
 same-length-4 c =
     let start = c .before .before .before .before .before .before .before .before .before .before .before .before .before .before .before .before .before .before .before .before .before .before .before .before in
@@ -351,7 +356,7 @@ same-length-4 c =
     let kx = c .before .before .before .before .before .before .before .before .run-record .kept .1 .1 .1 .1 .1 .0 in
     c .before .before .copy2 .kept .1 .0 ∙ moved-length h H front copied x e kx ∙ kn
 
--- src/main_cycle.rt:48:1
+-- src/main_cycle.rt:49:1
 returns-3 : tie.Need-returns-3
 returns-3 c =
     let start = c .before .before .before .before .before .before .before .before .before .before .before .before .before .before .before .before .before .before .before .before .before .before .before .before in
@@ -367,7 +372,7 @@ returns-3 c =
     let x = c .before .before .before .before .before .before .before .before .run-record .last .1 .1 .1 .1 .1 .0 in
     let kx = c .before .before .before .before .before .before .before .before .run-record .kept .1 .1 .1 .1 .1 .0 in
     let frame = c .before .before .before .before .before .before .before .before .run-record .last .1 .1 .1 .1 .1 .1 .0 in
-    cycle-overflowed h H front copied x (cellsOf frame) (c .before .before .before .before .before .before .before .before .run-record .result) e (c .before .before .before .before .before .before .before .before .run-record .ensures .0) (c .before .before .copy2 .last .1 .0) (c .before .before .before .before .enum-told3 .given .1) (all-copied (start .args .old .now) (putTail H copied x) (c .before .before .copy2 .last .1 .0) (moved-length h H front copied x e kx ∙ kn ∙ h .renewed) (c .before .before .copy2 .ensures))
+    cycle-overflowed h H front copied x (cellsOf frame) (c .before .before .before .before .before .before .before .before .run-record .result) e (c .before .before .before .before .before .before .before .before .run-record .ensures .0) (c .before .before .copy2 .last .1 .0) (c .before .before .before .before .enum-told2 .given .1) (all-copied (start .args .old .now) (putTail H copied x) (c .before .before .copy2 .last .1 .0) (moved-length h H front copied x e kx ∙ kn ∙ h .renewed) (c .before .before .copy2 .ensures))
 
 pub run-main-spec : {M : Type 1} → statement M
 run-main-spec =
@@ -394,8 +399,9 @@ run-main-spec =
     part-write-cells-start
     part-write-cells-end
     write-cells-requires
+    enum-known-end
+    cause-number-requires
     enum-told-2
-    enum-told-3
     copy-requires-2
     same-length
     same-length-2
