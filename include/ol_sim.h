@@ -6,7 +6,7 @@
  *
  * Every function gives a number and a place.
  *   The number is the result: 0, or the fault's number (enum ol_sim_number).
- *   The place is written through the pointer place, at each call: 0 where the number is 0; for 1 to 14 an offset in the file; for 15 to 17 it is 0; for 18 and 19
+ *   The place is written through the pointer place, at each call: 0 where the number is 0; for 1 to 14 an offset in the file; for 15 to 17 it is 0; for 18 to 21
  *   the index of the main node's equation at which the cycle stopped, counted from 0 in the file's sequence.
  * What is said here of numbers, places and bytes written is proved of the Rattle source (crates/ol_sim_c). The archive is for x86-64 Linux, with the System V
  * calling convention. All this holds for callers that keep these rules:
@@ -53,7 +53,8 @@ enum ol_sim_stack {
     OL_SIM_CYCLE_STACK = 2048 * 1024
 };
 
-/* The numbers. Of several faults the first by this order is told: 1; then 2 to 5 as they are met reading forward; then 6 to 17 by number. */
+/* The numbers. Of several faults the first by this order is told: 1; then 2 to 5 as they are met reading forward; then 6 to 17 by number; then the first of 18 to 21
+ * that evaluation meets. */
 enum ol_sim_number {
     OL_SIM_DONE = 0,            /* measured, admitted, ordered, started, answered */
     /* about the file; the place is the offset of the first faulted item's first byte */
@@ -76,9 +77,14 @@ enum ol_sim_number {
     OL_SIM_INPUTS = 16,         /* the inputs have another length, or a cell is bad or not of its type's kind, range or enum */
     OL_SIM_BUFFER = 17,         /* a buffer to be written has another length */
     /* a cycle that was begun and stopped; the place is the main equation's index */
-    OL_SIM_FAILURE = 18,        /* evaluation fails: a zero divisor, a shift count outside 0..63, operands of the wrong kind, pre in the first cycle */
-    OL_SIM_OVERFLOW = 19        /* a 64-bit overflow */
+    OL_SIM_COLD_PRE = 18,       /* pre in the first cycle of its instance; a Function is always at its first */
+    OL_SIM_OVERFLOW = 19,       /* a 64-bit overflow */
+    OL_SIM_RANGE = 20,          /* a zero divisor or a shift count outside 0..63, where the operation takes both operands' kinds */
+    OL_SIM_KIND = 21            /* any other failure: a value of a kind that the operation does not take, pre of anything but a variable or constant */
 };
+
+/* Whether a number of ol_sim_cycle is that of a stopped cycle: 18 to 21. It evaluates n once. */
+#define OL_SIM_STOPPED(n) ((unsigned)(n) - OL_SIM_COLD_PRE <= (unsigned)(OL_SIM_KIND - OL_SIM_COLD_PRE))
 
 /* The lengths that the buffers of a file need, and how many equations a node has; nodes count from 0, and node 0 is in every file. Answers 0, 1 to 14, then 3 at
  * place 0 for an absent node.
@@ -102,13 +108,14 @@ uint8_t ol_sim_start(const uint8_t *file, size_t file_len, uint8_t *state, size_
 
 /* One cycle: from the old state and the inputs (a cell for each input of the main node) to the new state and the values (a cell for each input, output and local
  * of the main node, in the file's sequence). The file is judged at each call.
- * Answers 0 (answered), 1 to 14, 15, 16, then 17 unless new_len is the state's length and values_len that of the values (ol_sim_lengths has both): refused; 18 and 19: stopped.
+ * Answers 0 (answered), 1 to 14, 15, 16, then 17 unless new_len is the state's length and values_len that of the values (ol_sim_lengths has both): refused; 18 to
+ * 21: stopped (OL_SIM_STOPPED).
  * Writes *place, and
- *   0         all of new_state and all of values;
- *   1 to 17   nothing else: the cycle did not happen, and the old state is still the state;
- *   18        all of new_state: the main node's cells and its started byte as they were, the records of called Operators as the run left them; values is not written;
- *   19        all of new_state, a copy of the old state; values is not written.
- * After 0, 18 and 19 the next cycle's old state is new_state. */
+ *   0            all of new_state and all of values;
+ *   1 to 17      nothing else: the cycle did not happen, and the old state is still the state;
+ *   18, 20, 21   all of new_state: the main node's cells and its started byte as they were, the records of called Operators as the run left them; values is not written;
+ *   19           all of new_state, a copy of the old state; values is not written.
+ * After 0 and 18 to 21 the next cycle's old state is new_state. */
 uint8_t ol_sim_cycle(const uint8_t *file, size_t file_len, const uint8_t *old_state, size_t old_len, const uint8_t *inputs, size_t inputs_len,
                      uint8_t *new_state, size_t new_len, uint8_t *values, size_t values_len, size_t *place);
 

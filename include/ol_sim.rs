@@ -9,6 +9,17 @@ pub const OL_SIM_ORDER_STACK: usize = 32 * 1024;
 pub const OL_SIM_START_STACK: usize = 384 * 1024;
 pub const OL_SIM_CYCLE_STACK: usize = 2048 * 1024;
 
+/// The numbers of a stopped cycle: those of the header's `enum ol_sim_number`.
+pub const OL_SIM_COLD_PRE: u8 = 18;
+pub const OL_SIM_OVERFLOW: u8 = 19;
+pub const OL_SIM_RANGE: u8 = 20;
+pub const OL_SIM_KIND: u8 = 21;
+
+/// Whether a number of `ol_sim_cycle` is that of a stopped cycle: the header's `OL_SIM_STOPPED`.
+pub const fn ol_sim_stopped(number: u8) -> bool {
+    matches!(number, OL_SIM_COLD_PRE..=OL_SIM_KIND)
+}
+
 extern "C" {
     pub fn ol_sim_lengths(
         file: *const u8,

@@ -3,11 +3,29 @@
 #[path = "../../include/ol_sim.rs"]
 mod ffi;
 
-/// A fault's number, 1 to 19, and its place (include/ol_sim.h).
+/// A fault's number, 1 to 21, and its place (include/ol_sim.h).
 #[derive(Debug, PartialEq)]
 struct Fault {
     number: u8,
     place: usize,
+}
+
+impl Fault {
+    /// Whether a cycle was begun and stopped; else it was refused.
+    fn stopped(&self) -> bool {
+        ffi::ol_sim_stopped(self.number)
+    }
+
+    /// Why a cycle stopped.
+    fn reason(&self) -> &'static str {
+        match self.number {
+            ffi::OL_SIM_COLD_PRE => "pre in a first cycle",
+            ffi::OL_SIM_OVERFLOW => "a 64-bit overflow",
+            ffi::OL_SIM_RANGE => "a zero divisor, or a shift count outside 0 to 63",
+            ffi::OL_SIM_KIND => "a value of a kind that the operation does not take",
+            _ => "not stopped",
+        }
+    }
 }
 
 fn told(number: u8, place: usize) -> Result<(), Fault> {
@@ -82,10 +100,11 @@ impl<'a> Relay<'a> {
         Ok(Relay { file, old, new: vec![0; l.state], values: vec![0; l.values] })
     }
 
-    /// Steps once. After an answer and after a stop (18, 19) the new state is the state; after a refusal the old one still is.
+    /// Steps once. After an answer and after a stop the new state is the state; after a refusal the old one still is.
     fn step(&mut self, inputs: &[u8]) -> Result<(), Fault> {
         let r = cycle(self.file, &self.old, inputs, &mut self.new, &mut self.values);
-        if !matches!(r, Err(Fault { number: 1..=17, .. })) {
+        let refused = matches!(&r, Err(f) if !f.stopped());
+        if !refused {
             std::mem::swap(&mut self.old, &mut self.new);
         }
         r
@@ -97,10 +116,12 @@ const COUNTER: [u8; 40] = [
     0x01, 0, 0, 0, 0, 0, 0, 0, 1,
 ];
 
-/// 9223372036854775807 + 1, so that its first cycle overflows.
-const OVERFLOWING: [u8; 35] = [
-    0x01, 0x00, 0x00, 0x01, 0x01, 0x00, 0x01, 0x00, 0x01, 0x04, 0x00, 0x01, 0x01, 0x00, 0x01, 0x06, 0x0A, 0x01, 0x7F, 0xFF, 0xFF, 0xFF, 0xFF, 0xFF, 0xFF, 0xFF, 0x01, 0, 0,
-    0, 0, 0, 0, 0, 1,
+/// Right sides, each of which stops the first cycle of a program like the counter: one for each number of a stop.
+const STOPS: [(&str, &[u8]); 4] = [
+    ("pre v1", &[0x08, 0x04, 0x00, 0x01]),
+    ("9223372036854775807 + 1", &[0x06, 0x0A, 0x01, 0x7F, 0xFF, 0xFF, 0xFF, 0xFF, 0xFF, 0xFF, 0xFF, 0x01, 0, 0, 0, 0, 0, 0, 0, 1]),
+    ("1 / 0", &[0x06, 0x0D, 0x01, 0, 0, 0, 0, 0, 0, 0, 1, 0x01, 0, 0, 0, 0, 0, 0, 0, 0]),
+    ("not 1", &[0x05, 0x00, 0x01, 0, 0, 0, 0, 0, 0, 0, 1]),
 ];
 
 fn int(cell: &[u8]) -> i64 {
@@ -124,7 +145,11 @@ fn main() -> Result<(), Fault> {
     println!("a state of 9 bytes: {} at {}; v1 is still {}", f.number, f.place, int(&relay.values));
     let f = lengths(&COUNTER[..39], 0).err().unwrap();
     println!("the file without its last byte: {} at {}", f.number, f.place);
-    let f = Relay::new(&OVERFLOWING)?.step(&[]).unwrap_err();
-    println!("an overflow: {} in equation {}", f.number, f.place);
+    for (text, right_side) in STOPS {
+        let file = [&COUNTER[..15], right_side].concat();
+        let f = Relay::new(&file)?.step(&[]).unwrap_err();
+        assert!(f.stopped());
+        println!("v1 = {text}: {} in equation {}, {}", f.number, f.place, f.reason());
+    }
     Ok(())
 }
