@@ -54,7 +54,7 @@ fn write(v: Value, cells: &mut [u8], at: usize) {
     cells[at + 1..at + 9].copy_from_slice(&payload(v).to_be_bytes());
 }
 
-// a value, or 1 for a failure and 2 for an overflow
+// a value, or 1 for a failure of any cause and 2 for an overflow
 fn add(v: Value, w: Value) -> Result<Value, u64> {
     match (v, w) {
         (Value::Int(a), Value::Int(b)) => a.checked_add(b).map(Value::Int).ok_or(2),
