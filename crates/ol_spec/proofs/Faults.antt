@@ -1,15 +1,16 @@
 -- The numbers that each call answers, and where a cycle can stop: specs/Faults' claim.
-use Prim.Native.Nat.{ℕ, zero, suc, _-_, _<_, _≤_}
+use Prim.Native.Nat.{ℕ, zero, suc, _+_, _-_, _<_, _≤_}
 use mathlib.Core.Bool.{Bool, true, false, not, _&&_, cond}
 use mathlib.Core.List.{List, [], _∷_, List·Memᴰ·head as here, List·Memᴰ·tail as there, List·Memᴰ·not-nil as in-nil}
-use mathlib.Core.Logic.{_⊎_, inl, inr}
+use mathlib.Core.Logic.{_⊎_, inl, inr, by-cases}
 use mathlib.Core.Option.{Option, none, some}
 use mathlib.Core.Path.{_≡_, refl, sym, ap, subst}
 use native.Mathlib.Omega.{arith}
+use native.Mathlib.Decide.{ℕ-discrete}
 use lib.ListN.{length, getD, getElem?}
-use lib.Dec.{ltb, leb, eqb}
+use lib.Dec.{T, ltb, leb, eqb}
 use Rattle.ol_theory.specs.Member.{_∈_}
-use Rattle.ol_spec.specs.Lists.{upTo}
+use Rattle.ol_spec.specs.Lists.{upTo, member}
 use Rattle.ol_spec.specs.Syntax.{Expr, Exprs, cons, Node, File, noNode, lastOf, main}
 use Rattle.ol_spec.specs.Read.{Read, got, fault, Reader, thenRead, give, known, many, manyExprs, bools, unaryOps, binOps, nodeKinds, TyCode, boolT}
 use Rattle.ol_spec.specs.Read.{float32T, float64T, charT, enumT, intT, tyCodes, ExprCode, boolCode, intCode, floatCode, charCode, varCode, unaryCode}
@@ -25,14 +26,16 @@ use Rattle.ol_spec.specs.Step.{Ended, finished, failedAt, overflowedAt, 
 use Rattle.ol_spec.specs.Admission.{Judged, refused, admitted, refuseAt, refuseFirst, judgeRead, judge, verdict, admission, faults, stateSize}
 use Rattle.ol_spec.specs.State.{goodState, goodInputs}
 use Rattle.ol_spec.specs.Cycle.{orderFits, orderUnlessRing, orderNode, orderRead, ordering, startFits, startJudged, start, endOn, mainRun, cycleUnless, fits17, cycleJudged, cycle}
-use Rattle.ol_spec.specs.Faults.{From, Inside, NumbersClaim}
+use Rattle.ol_spec.specs.Faults.{From, Numbered, Inside, NumbersClaim}
 use Rattle.ol_spec.specs.declared.Value.{Value}
 use Rattle.ol_spec.specs.declared.Fault.{Fault}
 use Rattle.ol_spec.specs.declared.Cause.the-variants as Why
 use Rattle.ol_spec.specs.declared.Verdict.the-variants as Adm
 use Rattle.ol_spec.specs.declared.Sorted.the-variants as Sort
 use Rattle.ol_spec.specs.declared.Started.the-variants as Start
+use Rattle.ol_spec.specs.declared.Cycled.{Cycled}
 use Rattle.ol_spec.specs.declared.Cycled.the-variants as Cyc
+use Rattle.ol_spec.proofs.Tests.{or-left, or-right, eq-eqb}
 use Rattle.ol_spec.proofs.Lists.{All}
 use Rattle.ol_spec.proofs.Ordering.{Placed}
 use Rattle.ol_spec.proofs.Admits.{admits}
@@ -317,6 +320,26 @@ cycle-stopped ld s (admitted f vs) h old ins new vals x e =
     let w = unless-stopped f vs old ins new vals (not (goodState f vs old)) (not (goodInputs f ins)) (not (fits17 f new vals)) x e in
     (w .0, record { file = f; constants = vs; is = h; below = last-placed (f .nodes) (node-placed f (admits ld s f vs h .no11)) (x .place) (w .1) })
 
+-- the numbers from the first to the second are those of the list
+abbrev counted : ℕ → ℕ → List ℕ
+counted low zero = []
+counted low (suc k) = low ∷ counted (suc low) k
+
+among : (low k n : ℕ) → low ≤ n → n < low + k → T (member n (counted low k))
+among low zero n l h = absurd (omega arith)
+among low (suc k) n l h =
+    by-cases (ℕ-discrete n low) (λ e. or-left (eqb n low) _ (eq-eqb n low e)) (λ e. or-right (eqb n low) _ (among (suc low) k n (omega arith) (omega arith)))
+
+-- A stopped cycle's number is one of 18 to 21, a refused one's one of 1 to 17.
+pub stop-numbers : (ld : Loader) (s old ins new vals : List ℕ) → Numbered (cycle ld s old ins new vals .answer)
+unfolding cycle
+stop-numbers ld s old ins new vals = go (cycle ld s old ins new vals .answer) refl
+  where
+    go : (a : Cycled) → cycle ld s old ins new vals .answer ≡ a → Numbered a
+    go Cyc.Answered e = tt
+    go (Cyc.Stopped x) e = let w = cycle-stopped ld s (judge ld s) refl old ins new vals x e .0 in among 18 4 (x .number) (w .0) (omega (arith, w .1))
+    go (Cyc.Refused x) e = let w = cycle-refused (judge ld s) (judge-low ld s) old ins new vals x e in among 1 17 (x .number) (w .0) (omega (arith, w .1))
+
 -- Each call's numbers, and a stopped cycle's place.
 pub numbers-claim : (ld : Loader) → NumbersClaim ld
 unfolding ordering start cycle
@@ -325,6 +348,6 @@ numbers-claim ld =
       admission = λ s. admission-numbers (judge ld s) (judge-low ld s);
       ordering = λ s k buf. ordering-numbers (readFile s ld) (file-low s ld) k buf;
       start = λ s st. start-numbers (judge ld s) (judge-low ld s) st;
-      refused = λ s. cycle-refused (judge ld s) (judge-low ld s);
-      stopped = λ s. cycle-stopped ld s (judge ld s) refl;
+      stopped = λ s old ins new vals x e. cycle-stopped ld s (judge ld s) refl old ins new vals x e .1;
+      numbered = stop-numbers ld;
     }

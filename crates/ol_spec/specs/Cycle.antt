@@ -17,7 +17,7 @@ use Rattle.ol_spec.specs.Step.{Ended, finished, failedAt, overflowedAt, 
 use Rattle.ol_spec.specs.Admission.{placeAt, Judged, refused, admitted, judge, headSize, stateSize}
 use Rattle.ol_spec.specs.State.{globalsOf, freshState, goodState, goodInputs}
 use Rattle.ol_spec.specs.declared.Value.{Value}
-use Rattle.ol_spec.specs.Answers.{faultAt, outcomeNumber}
+use Rattle.ol_spec.specs.Answers.{faultAt, outcomeNumber, causeNumber}
 use Rattle.ol_spec.specs.declared.Outcome.the-variants as Out
 use Rattle.ol_spec.specs.declared.Measured.{Measured}
 use Rattle.ol_spec.specs.declared.Measured.the-variants as Mea
@@ -103,7 +103,7 @@ pub record CycleCall : Type 0 where
 abbrev pub endOn : File → List ℕ → List ℕ → Ended → List Value → List (List ℕ) → CycleCall
 endOn f old vals finished cs segs = record { answer = Cyc.Answered; new = take (headSize f) old ++ startedRecord cs segs; values = cells cs }
 endOn f old vals (failedAt c i) cs segs =
-    record { answer = Cyc.Stopped (faultAt (outcomeNumber (Out.Failure c)) i); new = take (headSize f + ownSize (main f)) old ++ concat segs; values = vals }
+    record { answer = Cyc.Stopped (faultAt (causeNumber c) i); new = take (headSize f + ownSize (main f)) old ++ concat segs; values = vals }
 endOn f old vals (overflowedAt i) cs segs = record { answer = Cyc.Stopped (faultAt (outcomeNumber Out.Overflow) i); new = old; values = vals }
 
 -- the main instance's run
