@@ -36,6 +36,7 @@ use Rattle.ol_spec.proofs.Instances.{instances-claim}
 use Rattle.ol_spec.proofs.Sequences.{sequences-claim}
 use Rattle.ol_spec.proofs.Instants.{instants-claim, start-never-returns}
 use Rattle.ol_spec.proofs.Faults.{numbers-claim}
+use Rattle.ol_spec.proofs.Warm.{causes-claim}
 use Rattle.ol_real.proofs.Reals.{ieee754-holds}
 use Rattle.ol_real.proofs.Operators.{operators-hold}
 use Rattle.ol_real.proofs.Formats.{formats-kept}
@@ -192,6 +193,7 @@ demand2-holds =
       operators = operators-hold;
       formats = formats-kept;
       numbers = numbers-claim relayLoader;
+      causes = causes-claim relayLoader;
       runs-as-rust = runs-hold;
       constants-as-rust = constants-hold;
       orders-as-rust = orders-hold;

@@ -30,6 +30,7 @@ use Rattle.ol_spec.specs.Instances.{AllAtPast}
 use Rattle.ol_spec.specs.Sequences.{Sequences, EveryInstance, NeverReturns}
 use Rattle.ol_spec.specs.Instants.{AllPass, InstancesNeverReturn}
 use Rattle.ol_spec.specs.Faults.{NumbersClaim}
+use Rattle.ol_spec.specs.Causes.{CausesClaim}
 use Rattle.ol_real.specs.Holds.{Ieee754Holds}
 use Rattle.ol_real.specs.Operators.{OperatorsHold, FormatsKept}
 use Rattle.ol_sim.specs.Calls.{AdmitsAs, OrdersAs, StartsAs, CyclesAs}
@@ -157,12 +158,13 @@ StartNeverReturnsHolds =
     (s : List ℕ) (ms : List Made) → Bytes s → Service s ms → (t : Tree s)
     → NeverReturns (t .file) (t .constants) ms × ((sim : Sim) × (new (t .file) ≡ some sim) × InstancesNeverReturn (t .file) (t .constants) sim ms)
 
--- with what it says of reals and of numbers
+-- with what it says of reals, of numbers and of why a cycle stops
 pub record Demand2Holds : Type 0 where
   pub reals : Ieee754Holds
   pub operators : OperatorsHold
   pub formats : FormatsKept
   pub numbers : NumbersClaim relayLoader
+  pub causes : CausesClaim relayLoader
   pub runs-as-rust : RunsAsRustHolds
   pub constants-as-rust : ConstantsAsRustHolds
   pub orders-as-rust : OrdersAsRustHolds
