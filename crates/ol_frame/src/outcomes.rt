@@ -126,7 +126,7 @@ pub fn test_of(o: Outcome) -> Test
     }
 }
 
-// What a choice comes to whose condition is no Bool: a value there fails.
+// What a choice comes to whose condition is no Bool: a value there fails, a failure has its own cause.
 pub fn untested(o: Outcome) -> Outcome
     ensures { λ r. ⌜ r ≡ untestedOf o ⌝ }
 {

@@ -122,12 +122,12 @@ pub(crate) fn neg_int(a: i64) -> Outcome
     }
 }
 
-// Toward zero: -7 / 2 is -3.
+// Toward zero: -7 / 2 is -3. A zero divisor is out of range, as it is of Mod.
 pub(crate) fn div_ints(a: i64, b: i64) -> Outcome
     ensures { λ r. ⌜ r ≡ divInt a b ⌝ }
 {
     if b == 0 {
-        return Outcome::Failure(Cause::Range);
+        return Outcome::Failure(Cause::Range); // a / 0
     }
     if quotient_fits(a, b) {
         Outcome::Value(Value::Int(a / b))
@@ -150,7 +150,7 @@ pub(crate) fn mod_ints(a: i64, b: i64) -> Outcome
     ensures { λ r. ⌜ r ≡ modInt a b ⌝ }
 {
     if b == 0 {
-        return Outcome::Failure(Cause::Range);
+        return Outcome::Failure(Cause::Range); // a mod 0
     }
     if quotient_fits(a, b) {
         let n = size(a) % size(b);
@@ -188,7 +188,7 @@ fn is_count(b: i64) -> bool
     (0 <= b) & (b < 64)
 }
 
-// Bits past the 64th are dropped; another count fails.
+// Bits past the 64th are dropped; another count is out of range.
 pub(crate) fn shl_ints(a: i64, b: i64) -> Outcome
     ensures { λ r. ⌜ r ≡ shiftBy (λ k. signed 64 (residue 64 a * 2 ^ k % 2 ^ 64)) b ⌝ }
 {
@@ -199,7 +199,7 @@ pub(crate) fn shl_ints(a: i64, b: i64) -> Outcome
     }
 }
 
-// The sign bit is copied: -8 shr 1 is -4; another count fails.
+// The sign bit is copied: -8 shr 1 is -4; another count is out of range.
 pub(crate) fn shr_ints(a: i64, b: i64) -> Outcome
     ensures { λ r. ⌜ r ≡ shiftBy (λ k. shrZ a (2 ^ k)) b ⌝ }
 {

@@ -119,7 +119,7 @@ fn compare_singles(op: u8, x: f32, y: f32) -> bool
     }
 }
 
-// A zero divisor fails, -0.0 too.
+// A zero divisor is out of range, -0.0 too.
 fn div_singles(x: f32, y: f32) -> Outcome
     ensures { λ r. ⌜ r ≡ divReal single x y ⌝ }
 {
@@ -169,7 +169,7 @@ fn compare_doubles(op: u8, x: f64, y: f64) -> bool
     }
 }
 
-// A zero divisor fails, -0.0 too.
+// A zero divisor is out of range, -0.0 too.
 fn div_doubles(x: f64, y: f64) -> Outcome
     ensures { λ r. ⌜ r ≡ divReal double x y ⌝ }
 {
@@ -200,7 +200,7 @@ fn eval_doubles(op: u8, x: f64, y: f64) -> Outcome
     match op {
         4..=9 => bool_out(compare_doubles(op, x, y)),
         10..=13 => compute_doubles(op, x, y),
-        _ => Outcome::Failure(Cause::Other),
+        _ => Outcome::Failure(Cause::Other), // Mod too, whatever the divisor
     }
 }
 
