@@ -3,12 +3,12 @@
 #     python3 make.py ORACLE
 # ORACLE is a driver around the unchanged Rust of docs/src (`Sim::new`, `Sim::step_full`), built with overflow checks. It takes a
 # command a line, `file HEX`, `start`, `cycle HEX`, in document 01's byte form, and answers each with a line, `answered VALUES STATE`,
-# `stopped 18 ..`, `stopped 19 ..`, `refused 16 0`, `state STATE`. Each answer here is that of a file with one equation, whose output is
+# `stopped NUMBER ..`, `refused 16 0`, `state STATE`. Each answer here is that of a file with one equation, whose output is
 # a Bool, which holds any value as it is.
 #
 # The list: 42 cells, the grid. Then an answer for each operator 0 to 19 on each two cells, for Not and Neg on each
 # cell, for a cast to each type 0 to 12 of each cell, and for storing each cell in a variable of each type. An answer is a byte, 0 for
-# false, 1 for true, 2 for a failure, 3 for an overflow, and 4 for another value, whose cell follows. Then for each type and each cell
+# false, 1 for true, 4 for another value, whose cell follows, and for a stop its number, 18 to 21. Then for each type and each cell
 # a byte, whether it is taken as an input; for each type the cell of its default; and 17 further cells, each with a byte,
 # whether an input of its tag's type takes it. An enum type is that of the names 100 and 200.
 import os, struct, subprocess, sys
@@ -41,7 +41,9 @@ def kind(c): return b'\x0c\x01' if c == cell(4, 300) else by_tag[c[0]]
 
 def of_answer(line):
     words = line.split()
-    if words[0] == 'stopped': return bytes([int(words[1]) - 16])
+    if words[0] == 'stopped':
+        assert words[1] in ('18', '19', '20', '21'), line
+        return bytes([int(words[1])])
     value = bytes.fromhex(words[1])[-9:]
     return value[-1:] if value[0] == 0 else b'\x04' + value
 
