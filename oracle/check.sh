@@ -9,7 +9,7 @@ O=target/release/oracle
 G=target/release/gen
 T=target/check
 mkdir -p "$T"
-for v in bench corners; do
+for v in bench corners i; do
     "$O" < "vectors/$v.txt" > "$T/$v.out"
     cmp "$T/$v.out" "vectors/$v.expected"
     echo "vectors/$v: as expected"
@@ -18,6 +18,8 @@ done
 for seed in 1 2 3; do
     "$G" "$seed" --files 1000 --mode good --loads > "$T/in"
     "$O" < "$T/in" > "$T/out"
+    "$G" "$seed" --files 1000 --mode good --loads --stops > "$T/in"
+    "$O" < "$T/in" >> "$T/out"
     "$G" "$seed" --files 1500 --mode bad --cycles 4 > "$T/in"
     "$O" < "$T/in" >> "$T/out"
     echo "seed $seed: the Rust and the paper's model agree"
