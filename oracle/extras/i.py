@@ -31,8 +31,8 @@ CNT=NODE("O",[],[(3,I64)],[],[EQ(3,ARROW(I(0),ADD(PRE(V(3)),I(1))))])
 fn=lambda ex:NODE("F",[],[(3,I64)],[],[EQ(3,ex)])
 
 com("what is written: 20 writes the moved state: v1 = n0(), v2 = 1 / v4, v4 = 0; n0 a counter; so do 21 and 18")
-for no,ex in [(20,D(I(1),V(4))),(21,NOT(V(4))),(18,CALL(1))]:
-    f=FILE(CNT,fn(PRE(V(3))),NODE("O",[],[(1,I64),(2,I64)],[(4,I64)],[EQ(1,CALL(0)),EQ(2,ex)])) if no==18 else FILE(CNT,NODE("O",[],[(1,I64),(2,I64)],[(4,I64)],[EQ(1,CALL(0)),EQ(2,ex)]))
+for no,ex,pre in [(20,D(I(1),V(4)),[]),(21,NOT(V(4)),[]),(18,CALL(1),[fn(PRE(V(3)))])]:
+    f=FILE(CNT,*pre,NODE("O",[],[(1,I64),(2,I64)],[(4,I64)],[EQ(1,CALL(0)),EQ(2,ex)]))
     ff(f,"admit 0 0 38")
     for i in range(3): cyc(b"",stop(no,1,b"\0"+cI(0)*3+b"\1"+cI(i)))
 
