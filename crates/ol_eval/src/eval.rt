@@ -41,6 +41,7 @@ use ol_frame::outcomes::binary_out;
 use ol_frame::outcomes::cast_out;
 use ol_frame::outcomes::done;
 use ol_frame::outcomes::drop_failure;
+use ol_frame::outcomes::named_out;
 use ol_frame::outcomes::overflowed;
 use ol_frame::outcomes::runs;
 use ol_frame::outcomes::same_out;
@@ -91,7 +92,7 @@ pub fn eval(
         let p = at + 1;
         let next = at + 3;
         Step {
-            out: same_out(present(file, tab, frame, p)),
+            out: named_out(present(file, tab, frame, p)),
             next: next,
             used: 0,
         }

@@ -3,15 +3,18 @@ use Prim.Native.Nat.{ℕ}
 use mathlib.Core.Bool.{true, false}
 use mathlib.Core.List.{[], _∷_}
 use mathlib.Core.Logic.{inl, inr}
-use mathlib.Core.Path.{_≡_, refl}
+use mathlib.Core.Option.{Option, none, some}
+use mathlib.Core.Path.{_≡_, refl, sym}
 use native.Mathlib.Omega.{arith}
 use types.Run.{OneOf}
 use denote.Enum.Declared.{tagOf}
 use Rattle.ol_spec.specs.Answers.{outcomeNumber}
-use Rattle.ol_spec.specs.Eval.{several}
+use Rattle.ol_spec.specs.Eval.{orFailure, several}
 use Rattle.ol_spec.specs.declared.Outcome.{Outcome}
 use Rattle.ol_spec.specs.declared.Outcome.the-variants as Out
 use Rattle.ol_spec.specs.declared.Cause.{Cause}
+use Rattle.ol_spec.specs.declared.Cause.the-variants as Why
+use Rattle.ol_spec.specs.declared.Value.{Value}
 use Rattle.ol_frame.specs.Outcomes.{endingOf, endingNumber, overflowOf, dropOut}
 use Rattle.ol_frame.specs.declared.outcomes.Ending.{Ending}
 use Rattle.ol_frame.specs.declared.outcomes.Ending.the-variants as End
@@ -45,6 +48,15 @@ pub ending-number : (o : Outcome) → endingNumber (endingOf (several o)) ≡ ou
 ending-number (Out.Value v) = refl
 ending-number (Out.Failure c) = refl
 ending-number Out.Overflow = refl
+
+-- a name's outcome is a value, or the failure of a name that nobody declared
+pub named-failed : (m : Option Value) (c : Cause) → Out.Failure c ≡ orFailure m → Out.Failure Why.Other ≡ Out.Failure c
+named-failed none c e = sym e
+named-failed (some v) c e = let z : _≡_ {A = ℕ} 0 1 = cc in absurd (omega arith)
+
+pub named-over : {A : Type 0} (m : Option Value) → Out.Overflow ≡ orFailure m → A
+named-over none e = let z : _≡_ {A = ℕ} 0 1 = cc in absurd (omega arith)
+named-over (some v) e = let z : _≡_ {A = ℕ} 0 1 = cc in absurd (omega arith)
 
 -- the branch that is not taken overflowed, or it did not
 pub dropped : (taken other : Outcome) → overflowOf other ≡ true → Out.Overflow ≡ dropOut taken other

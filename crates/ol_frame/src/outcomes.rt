@@ -1,11 +1,13 @@
 // Outcomes, taken apart outside the functions of evaluation that call each other.
 ghost use mathlib.Core.Path.{_≡_};
 ghost use mathlib.Core.Bool.{true};
+ghost use mathlib.Core.Option.{Option};
 ghost use Prim.Native.Nat.{ℕ};
 ghost use Rattle.ol_spec.specs.Cell.{cell, valueOf};
 ghost use Rattle.ol_spec.specs.Types.{castTo};
 ghost use Rattle.ol_spec.specs.declared.Outcome.{Outcome};
-ghost use Rattle.ol_spec.specs.Eval.{thenOut, commonReal, kindOfType, isDouble?, join};
+ghost use Rattle.ol_spec.specs.declared.Value.{Value};
+ghost use Rattle.ol_spec.specs.Eval.{orFailure, thenOut, commonReal, kindOfType, isDouble?, join};
 ghost use Rattle.ol_value.specs.Codes.{tyOf, unaryBy};
 ghost use Rattle.ol_frame.specs.Outcomes.{doneOf, binaryOut, testOf, untestedOf, runsOf, overflowOf, dropOut, singleOf, commonOut, kindOf, outcomeKind};
 use ol_real::f32_to_f64;
@@ -58,6 +60,17 @@ pub fn same_out(o: Outcome) -> Outcome
         Outcome::Value(v) => Outcome::Value(kept(v)),
         Outcome::Failure(c) => Outcome::Failure(c),
         Outcome::Overflow => Outcome::Overflow,
+    }
+}
+
+// A name's outcome, made again from its parts: a value, or the failure of a name that nobody declared.
+pub fn named_out(o: Outcome) -> Outcome
+    ensures { λ r. ⌜ ((m : Option Value) → o ≡ orFailure m → r ≡ o) ⌝ }
+{
+    match o {
+        Outcome::Value(v) => Outcome::Value(kept(v)),
+        Outcome::Failure(_) => Outcome::Failure(Cause::Other),
+        Outcome::Overflow => Outcome::Failure(Cause::Other),
     }
 }
 

@@ -97,7 +97,7 @@ pub +call-equation+call-function+enter+equation+eval+eval-all+eval-call+eval-fir
     (λ t. call-function-lts.spec (CallFunction.Q t) (call-function-at t) call-function.Post (CallFunction.row-requires t) (CallFunction.fresh-frame-requires t) (CallFunction.run-requires t) (CallFunction.row-requires-2 t) (CallFunction.copy-outputs-requires t) (CallFunction.same-length t) (CallFunction.returns t))
     (λ t. enter-lts.spec (Enter.Q t) (enter-at t) enter.Post (Enter.add-p t) (Enter.shared-slice-read-number t) (Enter.number-requires t) (Enter.row-requires t) (Enter.sub-eval-all t) (Enter.sub-eval-all-2 t) (Enter.part-eval-all-start t) (Enter.part-eval-all-end t) (Enter.sub-eval-all-3 t) (Enter.part-eval-all-start-2 t) (Enter.part-eval-all-end-2 t) (Enter.eval-all-requires t) (Enter.add-used t) (Enter.enum-told t) (Enter.slice-aggregate-step-site t) (Enter.slice-relend-prefix-step-site t) (Enter.slice-aggregate-step-site-2 t) (Enter.step-site-requires t) (Enter.same-length t) (Enter.returns t) (Enter.same-length-2 t) (Enter.returns-2 t))
     (λ t. equation-lts.spec (Equation.Q t) (equation-at t) equation.Post (Equation.shared-slice-read-number t) (Equation.number-requires t) (Equation.add-rhs t) (Equation.mul-rhs t) (Equation.add-rhs-2 t) (Equation.shared-slice-read-code t) (Equation.call-equation-requires t) (Equation.tuple-equation-requires t) (Equation.eval-requires t) (Equation.add-bind-out t) (Equation.bind-out-requires t) (Equation.same-length t) (Equation.returns t) (Equation.same-length-2 t) (Equation.returns-2 t) (Equation.same-length-3 t) (Equation.returns-3 t))
-    (λ t. eval-lts.spec (Eval.Q t) (eval-at t) eval.Post (Eval.shared-slice-read-code t) (Eval.add-p t) (Eval.add-next t) (Eval.present-requires t) (Eval.same-out-requires t) (Eval.eval-form-requires t) (Eval.returns t) (Eval.same-length t) (Eval.returns-2 t))
+    (λ t. eval-lts.spec (Eval.Q t) (eval-at t) eval.Post (Eval.shared-slice-read-code t) (Eval.add-p t) (Eval.add-next t) (Eval.present-requires t) (Eval.named-out-requires t) (Eval.eval-form-requires t) (Eval.returns t) (Eval.same-length t) (Eval.returns-2 t))
     (λ t. eval-all-lts.spec (EvalAll.Q t) (eval-all-at t) eval-all.Post
     EvalAll.Inv-loop
     EvalAll.μ-loop (EvalAll.shared-slice-read-fits t) (EvalAll.add-p t) (EvalAll.shared-slice-read-number t) (EvalAll.number-requires t) (EvalAll.head-requires t) (EvalAll.loop-holds t) (EvalAll.sub-eval t) (EvalAll.part-eval-start t) (EvalAll.part-eval-end t) (EvalAll.sub-eval-2 t) (EvalAll.part-eval-start-2 t) (EvalAll.part-eval-end-2 t) (EvalAll.eval-requires t) (EvalAll.add-used t) (EvalAll.enum-known-o t) (EvalAll.passed-requires t) (EvalAll.mul-write-cell t) (EvalAll.write-cell-requires t) (EvalAll.enum-known-o-2 t) (EvalAll.sub-pass-all t) (EvalAll.sub-pass-all-2 t) (EvalAll.pass-all-requires t) (EvalAll.add-t40 t) (EvalAll.same-length t) (EvalAll.returns t) (EvalAll.enum-told t) (EvalAll.sub-pass-all-3 t) (EvalAll.sub-pass-all-4 t) (EvalAll.pass-all-requires-2 t) (EvalAll.add-t43 t) (EvalAll.same-length-2 t) (EvalAll.returns-2 t) (EvalAll.add-i t) (EvalAll.loop-less t) (EvalAll.loop-again t) (EvalAll.same-length-3 t) (EvalAll.returns-3 t))

@@ -14,13 +14,13 @@ use borrow.Author.Needs.{needs}
 use Rattle.ol_eval.proofs.eval.eval.Reads as eval
 use Rattle.ol_eval.proofs.eval.eval_form.Reads as eval-form
 use Rattle.ol_frame.proofs.names.present.Reads as present-reads
-use Rattle.ol_frame.proofs.outcomes.same_out.Reads as same-out-reads
+use Rattle.ol_frame.proofs.outcomes.named_out.Reads as named-out-reads
 use Rattle.ol_eval.proofs.eval.+call_equation+call_function+enter+equation+eval+eval_all+eval_call+eval_first+eval_form+eval_if+eval_second+eval_two+run+step_instance+step_site+step_untaken+tuple_equation.Lts-eval as eval-lts
 use Rattle.ol_eval.proofs.eval.+call_equation+call_function+enter+equation+eval+eval_all+eval_call+eval_first+eval_form+eval_if+eval_second+eval_two+run+step_instance+step_site+step_untaken+tuple_equation.Proof.Common.{eval-at, eval-form-below}
 
 -- what it knows of its callees
 abbrev pub Q : ℕ → eval-lts.Claims
-Q t = (present-reads.Asked, present-reads.Learnt, same-out-reads.Asked, same-out-reads.Learnt, eval-form-below t, eval-form.Post)
+Q t = (present-reads.Asked, present-reads.Learnt, named-out-reads.Asked, named-out-reads.Learnt, eval-form-below t, eval-form.Post)
 
 pub shared-slice-read-code : (t : ℕ) → eval-lts.Need-shared-slice-read-code (Q t) (eval-at t) eval.Post
 shared-slice-read-code t c =
@@ -60,8 +60,8 @@ present-requires t c κs =
     let f = start .args .file .now in
     (fd, plan-name f (p .plan) (c .if1 .taken), p .present)
 
-pub same-out-requires : (t : ℕ) → eval-lts.Need-same-out-requires (Q t) (eval-at t) eval.Post
-same-out-requires t c κs = tt
+pub named-out-requires : (t : ℕ) → eval-lts.Need-named-out-requires (Q t) (eval-at t) eval.Post
+named-out-requires t c κs = tt
 
 pub eval-form-requires : (t : ℕ) → eval-lts.Need-eval-form-requires (Q t) (eval-at t) eval.Post
 eval-form-requires t c κs =
@@ -80,7 +80,7 @@ returns t c =
     let L = start .args .level in
     let a = start .args .at in
     let h = plan-head f (p .plan) in
-    var-evals f (constsOf tb) L a (nodeOf fr) (firstOf fr) (cellsOf fr) (beforeOf fr) (p .plan .reads) h (c .before .before .if1 .taken) (p .same) (c .same-out .ensures ∙ c .before .present .ensures)
+    var-evals f (constsOf tb) L a (nodeOf fr) (firstOf fr) (cellsOf fr) (beforeOf fr) (p .plan .reads) h (c .before .before .if1 .taken) (p .same) (c .named-out .ensures ∙ c .before .present .ensures)
 
 pub same-length : (t : ℕ) → eval-lts.Need-same-length (Q t) (eval-at t) eval.Post
 same-length t c = c .before .before .eval-form .kept .1 .1 .1 .1 .1 .1 .0
