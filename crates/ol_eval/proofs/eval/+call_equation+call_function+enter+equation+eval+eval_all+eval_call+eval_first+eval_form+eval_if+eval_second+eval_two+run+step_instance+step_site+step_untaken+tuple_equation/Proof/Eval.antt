@@ -5,6 +5,9 @@ use Prim.Native.Nat.{_+_}
 use native.Mathlib.Omega.{arith}
 use Rattle.ol_tables.proofs.Forms.{reads-in, var-form}
 use Rattle.ol_frame.proofs.Planning.{plan-head, plan-name}
+use mathlib.Core.Bool.{false}
+use Rattle.ol_spec.specs.Eval.{presentOf}
+use Rattle.ol_frame.specs.Plans.{globalsIn, scopeIn, nameAt}
 use Rattle.ol_eval.proofs.Readying.{var-evals}
 use Rattle.ol_tables.specs.Table.{tabOf, rowsOf, constsOf}
 use Rattle.ol_frame.specs.Frame.{Framed, nodeOf, firstOf, cellsOf, beforeOf, Keeps}
@@ -80,7 +83,7 @@ returns t c =
     let L = start .args .level in
     let a = start .args .at in
     let h = plan-head f (p .plan) in
-    var-evals f (constsOf tb) L a (nodeOf fr) (firstOf fr) (cellsOf fr) (beforeOf fr) (p .plan .reads) h (c .before .before .if1 .taken) (p .same) (c .named-out .ensures ∙ c .before .present .ensures)
+    var-evals f (constsOf tb) L a (nodeOf fr) (firstOf fr) (cellsOf fr) (beforeOf fr) (p .plan .reads) h (c .before .before .if1 .taken) (p .same) (c .named-out .ensures (presentOf (globalsIn f (constsOf tb)) (scopeIn f (nodeOf fr) false (cellsOf fr) (cellsOf fr)) (nameAt f (a + 1))) (c .before .present .ensures) ∙ c .before .present .ensures)
 
 pub same-length : (t : ℕ) → eval-lts.Need-same-length (Q t) (eval-at t) eval.Post
 same-length t c = c .before .before .eval-form .kept .1 .1 .1 .1 .1 .1 .0
