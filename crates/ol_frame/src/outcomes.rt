@@ -63,7 +63,7 @@ pub fn same_out(o: Outcome) -> Outcome
     }
 }
 
-// A name's outcome, made again from its parts: a value, or the failure of a name that nobody declared.
+// A name's outcome, made again from its parts: a value, or the failure of a name that nobody declared. Of another outcome, which no name has, nothing is promised.
 pub fn named_out(o: Outcome) -> Outcome
     ensures { λ r. ⌜ ((m : Option Value) → o ≡ orFailure m → r ≡ o) ⌝ }
 {
