@@ -15,7 +15,7 @@ import re
 import sys
 
 SPLIT = re.compile(r'"(?:[^"\\\n]|\\.)*"|--[^\n]*|//[^\n]*|[^\s(){}.;,@"«»\[\]\\]+|.', re.S)
-HEAD = re.compile(r"^(\s*)((?:(?:abbrev|unfoldable|pub|data|record) )*)([^\s(){}.;,@\"«»\[\]\\]+)((?: \{[^{}]*\}| \((?:[^()]|\((?:[^()]|\([^()]*\))*\))*\))*) :(?= |$)")
+HEAD = re.compile(r"^(\s*)((?:(?:abbrev|unfoldable|pub|data|record) )*)((?!let )[^\s(){}.;,@\"«»\[\]\\]+(?: [\w'-]+)*)((?: \{[^{}]*\}| \((?:[^()]|\((?:[^()]|\([^()]*\))*\))*\))*) :(?= |$)")
 # Names whose capitals make one word.
 WHOLE = {"NaN": "Nan", "NaNs": "Nans", "IEEE": "Ieee", "RelayLoader": "RelayLoader"}
 # Lemmas whose spelling a definition takes: they get _lem.
@@ -59,7 +59,8 @@ def plan(root):
             m = HEAD.match(line)
             # A goal of a function is Rattle's to name.
             if m and "◌" not in m[3] and not re.match(r" tie\.", line[m.end() :]):
-                where.setdefault(m[3], set()).add("/specs/" in path or m[1] != "")
+                for name in m[3].split(" "):
+                    where.setdefault(name, set()).add("/specs/" in path or m[1] != "")
         for name in re.findall(r" as ([^\s(){}.;,]+)[,}]", text):
             where.setdefault(name, set()).add(False)
         # What a path, a step or a field is called, behind a dot, meets no name.
@@ -73,12 +74,13 @@ def plan(root):
                 where.setdefault(name, set()).add(False)
         taken |= set(re.findall(r"\b(?:const |static )?(\w+)\s*:(?!:)", read(path)))
     turns = {}
-    goes = lambda n: not n[0].isupper() and re.search(r"[-A-Z]", n) and not re.fullmatch(r"[^\w]+", n) and not re.search(r"[^\w\-'₀-₉ℤℕμκλ]", n)
+    goes = lambda n: not n[0].isupper() and re.search(r"[-A-Z]", n) and not re.fullmatch(r"[^\w]+", n) and not re.search(r"[^\w\-'?₀-₉ℤℕμκλ]", n)
     for name in sorted(where, key=lambda n: ("-" in n, n)):
         if not goes(name):
             continue
-        new = snake(name)
-        free = "-" not in name and (new in FREED or name == "inOrder")
+        # RustLeaves has a function is_double beside this constructor of Eval.
+        new = "is_double_kind" if name == "isDouble" else snake(name)
+        free = "-" not in name and new in [*FREED, "in_order", "int_code"]
         if not free and (new in taken or new in turns.values()):
             new += "_lem" if "-" in name else "_of"
         while not free and (new in taken or new in turns.values()):

@@ -8,7 +8,7 @@ use lib.ListN.{length, take, drop, get_or, length-drop, take-append-drop}
 use lib.Seq.{length-take-le, take-take}
 use Rattle.ol_spec.specs.Lists.{is_empty, maybe}
 use Rattle.ol_spec.specs.Syntax.{Expr, Exprs, bool_lit, int_lit, float_lit, char_lit, var, unary, binary, if_then_else, pre, arrow, cast, call, tuple}
-use Rattle.ol_spec.specs.Eval.{or_failure, present_of, sites_size, Globals, Eval, callees, callees_all, has_call, RealKind, real_kind, isDouble?, arithmetic, join, eval, then_out, next, map_eval}
+use Rattle.ol_spec.specs.Eval.{or_failure, present_of, sites_size, Globals, Eval, callees, callees_all, has_call, RealKind, real_kind, is_double?, arithmetic, join, eval, then_out, next, map_eval}
 use Rattle.ol_spec.specs.declared.Outcome.{Outcome}
 use Rattle.ol_frame.specs.Outcomes.{common_out}
 use Rattle.ol_tables.specs.At.{expr_at, end_at, exprs_at, ends_at, Reads, ReadsAll}
@@ -168,10 +168,10 @@ kind_scope g f node a b cells x y (call k es) = refl
 kind_scope g f node a b cells x y (tuple es) = refl
 
 -- the outcome of a taken branch, where the other is at `at`
-pub chosen_is : (f consts : List ℕ) (level node : ℕ) (first : Bool) (cells before : List ℕ) {p at : ℕ} (taken : Outcome) {r : Outcome} → p ≡ at → r ≡ common_out (isDouble? (real_kind (globals_in f consts) (scope_in f node false cells cells) (expr_at f level p))) taken → r ≡ common_out (isDouble? (real_kind (globals_in f consts) (scope_in f node first cells before) (expr_at f level at))) taken
+pub chosen_is : (f consts : List ℕ) (level node : ℕ) (first : Bool) (cells before : List ℕ) {p at : ℕ} (taken : Outcome) {r : Outcome} → p ≡ at → r ≡ common_out (is_double? (real_kind (globals_in f consts) (scope_in f node false cells cells) (expr_at f level p))) taken → r ≡ common_out (is_double? (real_kind (globals_in f consts) (scope_in f node first cells before) (expr_at f level at))) taken
 chosen_is f consts level node first cells before {p} {at} taken e h =
-    h ∙ ap (λ (x : ℕ). common_out (isDouble? (real_kind (globals_in f consts) (scope_in f node false cells cells) (expr_at f level x))) taken) e
-    ∙ ap (λ (k : RealKind). common_out (isDouble? k) taken) (kind_scope (globals_in f consts) f node false first cells cells before (expr_at f level at))
+    h ∙ ap (λ (x : ℕ). common_out (is_double? (real_kind (globals_in f consts) (scope_in f node false cells cells) (expr_at f level x))) taken) e
+    ∙ ap (λ (k : RealKind). common_out (is_double? k) taken) (kind_scope (globals_in f consts) f node false first cells cells before (expr_at f level at))
 
 -- ---- the expression at a place, by its form
 

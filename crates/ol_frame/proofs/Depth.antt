@@ -9,7 +9,7 @@ use Rattle.ol_spec.specs.Syntax.{NodeKind, Function, Operator, Imported, Node, E
 use Rattle.ol_spec.specs.Types.{cast_to, defaults}
 use Rattle.ol_spec.specs.Operators.{unary_of, binary_of}
 use Rattle.ol_spec.specs.Order.{order}
-use Rattle.ol_spec.specs.Eval.{Globals, Scope, Calls, Evals, node_at, callees, callees_all, has_call, isDouble?, real_kind, seg_size, record_size, map_eval, next, next_all, condition, choose, enter, single_eval, several_eval, eval, eval_all, eval_rhs}
+use Rattle.ol_spec.specs.Eval.{Globals, Scope, Calls, Evals, node_at, callees, callees_all, has_call, is_double?, real_kind, seg_size, record_size, map_eval, next, next_all, condition, choose, enter, single_eval, several_eval, eval, eval_all, eval_rhs}
 use Rattle.ol_spec.specs.Lists.{concat}
 use Rattle.ol_spec.specs.Cell.{cells}
 use Rattle.ol_spec.specs.Step.{sites, fresh_by, fresh_at}
@@ -43,15 +43,15 @@ module _ (g : Globals) (s : Scope) (c d : Calls) where
         let w = each_append (Agrees c d) (callees t) (callees e) u.1 in
         λ i. next (eval_calls b u.0 (take (seg_size g b) seg) i)
         (condition (λ x rest. choose x
-        (record { calls = has_call t; wide = isDouble? (real_kind g s t); run = λ sg. eval_calls t w.0 sg i; seg = take (seg_size g t) rest })
-        (record { calls = has_call e; wide = isDouble? (real_kind g s e); run = λ sg. eval_calls e w.1 sg i; seg = drop (seg_size g t) rest })))
+        (record { calls = has_call t; wide = is_double? (real_kind g s t); run = λ sg. eval_calls t w.0 sg i; seg = take (seg_size g t) rest })
+        (record { calls = has_call e; wide = is_double? (real_kind g s e); run = λ sg. eval_calls e w.1 sg i; seg = drop (seg_size g t) rest })))
         (drop (seg_size g b) seg)
     eval_calls (pre e) h seg = refl
     eval_calls (arrow a b) h seg =
         let t = each_append (Agrees c d) (callees a) (callees b) h in
         λ i. choose s.first
-        (record { calls = has_call a; wide = isDouble? (real_kind g s a); run = λ sg. eval_calls a t.0 sg i; seg = take (seg_size g a) seg })
-        (record { calls = has_call b; wide = isDouble? (real_kind g s b); run = λ sg. eval_calls b t.1 sg i; seg = drop (seg_size g a) seg })
+        (record { calls = has_call a; wide = is_double? (real_kind g s a); run = λ sg. eval_calls a t.0 sg i; seg = take (seg_size g a) seg })
+        (record { calls = has_call b; wide = is_double? (real_kind g s b); run = λ sg. eval_calls b t.1 sg i; seg = drop (seg_size g a) seg })
     eval_calls (cast t e) h seg = λ i. map_eval (cast_to t) (eval_calls e h seg i)
     eval_calls (call k es) h seg = λ i. single_eval (enter (λ vs r. h.0 vs r i) (take (record_size g k) seg) (all_calls es h.1 (drop (record_size g k) seg) i))
     eval_calls (tuple es) h seg = refl

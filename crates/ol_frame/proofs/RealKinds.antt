@@ -6,7 +6,7 @@ use mathlib.Core.Option.{Option, none, some}
 use lib.ListN.{length, get_or, get_elem?, length-append}
 use mathlib.Core.Path.{◌≡◌, refl, sym, ap, ◌∙◌}
 use native.Mathlib.Omega.{arith}
-use Rattle.ol_spec.specs.Eval.{RealKind, notReal, kind_of_type, kind_of_value, first_type, common_real, arithmetic, or_failure, isDouble?}
+use Rattle.ol_spec.specs.Eval.{RealKind, not_real, kind_of_type, kind_of_value, first_type, common_real, arithmetic, or_failure, is_double?}
 use Rattle.ol_spec.specs.declared.Outcome.{Outcome}
 use Rattle.ol_spec.specs.declared.Outcome.TheVariants as Out
 use Rattle.ol_spec.specs.Lists.{maybe}
@@ -22,7 +22,7 @@ use Rattle.ol_spec.specs.declared.Value.TheVariants as Val
 use Rattle.ol_value.specs.Codes.{ty_of}
 use Rattle.ol_frame.specs.Outcomes.{outcome_kind, common_out, single_of}
 
-pub other_kind : (c e : ℕ) → ¬ (c ≡ 9) → ¬ (c ≡ 10) → notReal ≡ kind_of_type (ty_of c e)
+pub other_kind : (c e : ℕ) → ¬ (c ≡ 9) → ¬ (c ≡ 10) → not_real ≡ kind_of_type (ty_of c e)
 other_kind zero e n m = refl
 other_kind (suc zero) e n m = refl
 other_kind (suc (suc zero)) e n m = refl
@@ -70,13 +70,13 @@ arithmetic_code b op k e l h = go b e l h
     go (suc (suc (suc (suc (suc (suc (suc (suc (suc (suc (suc (suc (suc zero))))))))))))) e l h = ap (λ (o : BinOp). arithmetic o k) (sym (same e))
     go (suc (suc (suc (suc (suc (suc (suc (suc (suc (suc (suc (suc (suc (suc b)))))))))))))) e l h = absurd (omega arith)
 
-pub plain_code : (b : ℕ) (op : BinOp) (k : RealKind) → get_elem? bin_ops b ≡ some op → b < 10 → arithmetic op k ≡ notReal
+pub plain_code : (b : ℕ) (op : BinOp) (k : RealKind) → get_elem? bin_ops b ≡ some op → b < 10 → arithmetic op k ≡ not_real
 plain_code b op k e l = go b e l
   where
     same : {x y : BinOp} → some x ≡ some y → x ≡ y
     same h = cc
 
-    go : (b : ℕ) → get_elem? bin_ops b ≡ some op → b < 10 → arithmetic op k ≡ notReal
+    go : (b : ℕ) → get_elem? bin_ops b ≡ some op → b < 10 → arithmetic op k ≡ not_real
     go zero e l = ap (λ (o : BinOp). arithmetic o k) (sym (same e))
     go (suc zero) e l = ap (λ (o : BinOp). arithmetic o k) (sym (same e))
     go (suc (suc zero)) e l = ap (λ (o : BinOp). arithmetic o k) (sym (same e))
@@ -89,7 +89,7 @@ plain_code b op k e l = go b e l
     go (suc (suc (suc (suc (suc (suc (suc (suc (suc zero))))))))) e l = ap (λ (o : BinOp). arithmetic o k) (sym (same e))
     go (suc (suc (suc (suc (suc (suc (suc (suc (suc (suc b)))))))))) e l = absurd (omega arith)
 
-pub bits_code : (b : ℕ) (op : BinOp) (k : RealKind) → get_elem? bin_ops b ≡ some op → ¬ (b < 14) → arithmetic op k ≡ notReal
+pub bits_code : (b : ℕ) (op : BinOp) (k : RealKind) → get_elem? bin_ops b ≡ some op → ¬ (b < 14) → arithmetic op k ≡ not_real
 bits_code b op k e l = go b e l
   where
     same : {x y : BinOp} → some x ≡ some y → x ≡ y
@@ -98,7 +98,7 @@ bits_code b op k e l = go b e l
     no_op : {x : BinOp} → none ≡ some x → ⊥
     no_op h = let z : ◌≡◌ {A = ℕ} 0 1 = cc in omega arith
 
-    tail : (o : BinOp) (i : ℕ) → get_elem? (Mod ∷ BitAnd ∷ BitOr ∷ BitXor ∷ Shl ∷ Shr ∷ []) i ≡ some o → arithmetic o k ≡ notReal
+    tail : (o : BinOp) (i : ℕ) → get_elem? (Mod ∷ BitAnd ∷ BitOr ∷ BitXor ∷ Shl ∷ Shr ∷ []) i ≡ some o → arithmetic o k ≡ not_real
     tail o zero e = ap (λ (o : BinOp). arithmetic o k) (sym (same e))
     tail o (suc zero) e = ap (λ (o : BinOp). arithmetic o k) (sym (same e))
     tail o (suc (suc zero)) e = ap (λ (o : BinOp). arithmetic o k) (sym (same e))
@@ -108,7 +108,7 @@ bits_code b op k e l = go b e l
     tail o (suc (suc (suc (suc (suc (suc zero)))))) e = absurd (no_op e)
     tail o (suc (suc (suc (suc (suc (suc (suc i))))))) e = absurd (no_op e)
 
-    go : (b : ℕ) → get_elem? bin_ops b ≡ some op → ¬ (b < 14) → arithmetic op k ≡ notReal
+    go : (b : ℕ) → get_elem? bin_ops b ≡ some op → ¬ (b < 14) → arithmetic op k ≡ not_real
     go zero e l = absurd (l (omega arith))
     go (suc zero) e l = absurd (l (omega arith))
     go (suc (suc zero)) e l = absurd (l (omega arith))
@@ -157,7 +157,7 @@ pub code_kind : (r : RealKind) (c : ℕ) (t : Ty) → Proper t → ty_code t ≡
 code_kind r c t o e h = h (ty_enum t) ∙ ap (λ (d : ℕ). kind_of_type (ty_of d (ty_enum t))) (sym e) ∙ ap kind_of_type (proper_type t o)
 
 -- the real kind of what a name yields
-pub present_kind : (o : Option Value) → outcome_kind (or_failure o) ≡ maybe notReal kind_of_value o
+pub present_kind : (o : Option Value) → outcome_kind (or_failure o) ≡ maybe not_real kind_of_value o
 present_kind none = refl
 present_kind (some v) = refl
 
@@ -179,7 +179,7 @@ pub input_below : {file tab rows : List ℕ} (k i : ℕ) → Program file tab ro
 input_below {file} k i p l e = omega (arith, e ∙ (p.sized.table.rows_of k l).inputs, output_below (node_in file k) (p.some_out k l), p.width k)
 
 -- another value stays
-pub common_plain : (k : RealKind) (o : Outcome) → single_of o ≡ false → o ≡ common_out (isDouble? k) o
+pub common_plain : (k : RealKind) (o : Outcome) → single_of o ≡ false → o ≡ common_out (is_double? k) o
 common_plain k (Out.Value (Val.Bool b)) h = refl
 common_plain k (Out.Value (Val.Int i)) h = refl
 common_plain k (Out.Value (Val.Float x)) h = refl

@@ -1,6 +1,6 @@
 -- The cases of outcomes, as functions that evaluation uses decide them.
 use Rattle.std.specs.Prelude.{ℕ, Bool, true, false, cond, ◌≡◌, eqb}
-use Rattle.ol_spec.specs.Eval.{RealKind, notReal, is_single, isDouble, kind_of_value, common_real, then_out, Outcomes, values, failure, overflow}
+use Rattle.ol_spec.specs.Eval.{RealKind, not_real, is_single, is_double_kind, kind_of_value, common_real, then_out, Outcomes, values, failure, overflow}
 use Rattle.ol_spec.specs.Answers.{outcome_number}
 use Rattle.ol_value.specs.Codes.{binary_by}
 use Rattle.ol_spec.specs.declared.Value.{Value}
@@ -99,11 +99,11 @@ common_out wide o = then_out (λ v. Out.Value (common_real wide v)) o
 
 -- the real kind that the code's stands for
 abbrev pub kind_of : Kind → RealKind
-kind_of Knd.NotReal = notReal
+kind_of Knd.NotReal = not_real
 kind_of Knd.Single = is_single
-kind_of Knd.Double = isDouble
+kind_of Knd.Double = is_double_kind
 
 abbrev pub outcome_kind : Outcome → RealKind
 outcome_kind (Out.Value v) = kind_of_value v
-outcome_kind (Out.Failure c) = notReal
-outcome_kind Out.Overflow = notReal
+outcome_kind (Out.Failure c) = not_real
+outcome_kind Out.Overflow = not_real

@@ -1,6 +1,6 @@
 // What a name, a literal and a Pre yield, and whether an expression counts as real.
 ghost use Rattle.std.specs.Prelude.{◌≡◌, false, List, ℕ, ◌+◌, ◌≤◌, ◌<◌, pos, length, get_or};
-ghost use Rattle.ol_spec.specs.Eval.{or_failure, present_of, pre_of, real_kind, isDouble?, join, first_type};
+ghost use Rattle.ol_spec.specs.Eval.{or_failure, present_of, pre_of, real_kind, is_double?, join, first_type};
 ghost use Rattle.ol_spec.specs.declared.Value.TheVariants as Val;
 ghost use Rattle.ol_tables.specs.At.{expr_at, end_at, node_in};
 ghost use Rattle.ol_tables.specs.Table.{tab_of, rows_of, consts_of};
@@ -171,7 +171,7 @@ pub fn chosen(
     taken: Outcome,
 ) -> Outcome
     requires { Framed frame.now × Plan file.now (tab_of tab.now) (rows_of tab.now) (consts_of tab.now) (node_of frame.now) level 1 at × Cells file.now (node_of frame.now) (cells_of frame.now) × (segs_at file.now level 1 at ≤ 32768) }
-    ensures { result ≡ common_out (isDouble? (real_kind (globals_in file.now (consts_of tab.now)) (scope_in file.now (node_of frame.now) false (cells_of frame.now) (cells_of frame.now)) (expr_at file.now level at))) taken }
+    ensures { result ≡ common_out (is_double? (real_kind (globals_in file.now (consts_of tab.now)) (scope_in file.now (node_of frame.now) false (cells_of frame.now) (cells_of frame.now)) (expr_at file.now level at))) taken }
 {
     if is_single(taken) {
         let k = real_kind(file, tab, frame, at, level);

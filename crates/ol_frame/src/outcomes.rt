@@ -5,7 +5,7 @@ ghost use Rattle.ol_spec.specs.Cell.{cell, value_of};
 ghost use Rattle.ol_spec.specs.Types.{cast_to};
 ghost use Rattle.ol_spec.specs.declared.Outcome.{Outcome};
 ghost use Rattle.ol_spec.specs.declared.Value.{Value};
-ghost use Rattle.ol_spec.specs.Eval.{or_failure, then_out, common_real, kind_of_type, isDouble?, join};
+ghost use Rattle.ol_spec.specs.Eval.{or_failure, then_out, common_real, kind_of_type, is_double?, join};
 ghost use Rattle.ol_value.specs.Codes.{ty_of, unary_by};
 ghost use Rattle.ol_frame.specs.Outcomes.{done_of, binary_out, test_of, untested_of, runs_of, overflow_of, drop_out, single_of, common_out, kind_of, outcome_kind};
 
@@ -214,7 +214,7 @@ fn widened(v: Value) -> Value
 
 // A chosen single widens where the other branch, of this kind, counts as double.
 pub(crate) fn common_out(kind: RealKind, o: Outcome) -> Outcome
-    ensures { result ≡ common_out (isDouble? (kind_of kind)) o }
+    ensures { result ≡ common_out (is_double? (kind_of kind)) o }
 {
     match o {
         Outcome::Value(v) => match kind {

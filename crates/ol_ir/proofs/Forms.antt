@@ -9,7 +9,7 @@ use lib.ListN.{length, get_or, get_elem?}
 use Rattle.ol_spec.specs.Lists.{up_to}
 use Rattle.ol_spec.specs.Syntax.{Expr}
 use Rattle.ol_spec.specs.Read.{Read, got, fault, Reader, then_read, known, many, many_exprs, byte, number, name_r, coded, count_r, section_r, ty_codes}
-use Rattle.ol_spec.specs.Read.{enumT, ty_body, ty_r, expr_r, variable_r, constant_r, equation_r, node_r, node_kinds}
+use Rattle.ol_spec.specs.Read.{enum_t, ty_body, ty_r, expr_r, variable_r, constant_r, equation_r, node_r, node_kinds}
 use Rattle.ol_spec.specs.Answers.{fault_at}
 use Rattle.ol_spec.specs.declared.Limits.{Limits}
 use Rattle.ol_ir.specs.Nexts.{next_of, counted_of}
@@ -139,7 +139,7 @@ module _ (s : List ℕ) (l : Limits) (enums at : ℕ) where
 
   pub ty_enum : at < length s → get_or s at 0 ≡ 12 → next_of (coded s (up_to enums) (at + 1)) ≡ next_of (ty_r s l enums at)
   unfolding then_read
-  ty_enum h b = sym (rw (coded_is s at ty_codes h enumT (ap (get_elem? ty_codes) b)) (next_give (coded s (up_to enums) (at + 1)) _))
+  ty_enum h b = sym (rw (coded_is s at ty_codes h enum_t (ap (get_elem? ty_codes) b)) (next_give (coded s (up_to enums) (at + 1)) _))
 
   pub ty_none : at < length s → 12 < get_or s at 0 → Nxt.Refused (fault_at 3 at) ≡ next_of (ty_r s l enums at)
   unfolding then_read next_of

@@ -10,8 +10,8 @@ use lib.Dec.{leb}
 use borrow.Author.Tests.{leb-true}
 use Rattle.ol_spec.specs.Syntax.{Expr}
 use Rattle.ol_spec.specs.Read.{Read, got, fault, Reader, then_read, give, many_exprs, byte, number, name_r, coded, within?, count_r, bools, unary_ops}
-use Rattle.ol_spec.specs.Read.{bin_ops, ty_r, expr_codes, ExprCode, expr_body, expr_r, boolCode, intCode, floatCode, charCode, varCode, unaryCode}
-use Rattle.ol_spec.specs.Read.{binaryCode, ifCode, preCode, arrowCode, castCode, callCode, tupleCode}
+use Rattle.ol_spec.specs.Read.{bin_ops, ty_r, expr_codes, ExprCode, expr_body, expr_r, bool_code, int_code, float_code, char_code, var_code, unary_code}
+use Rattle.ol_spec.specs.Read.{binary_code, if_code, pre_code, arrow_code, cast_code, call_code, tuple_code}
 use Rattle.ol_spec.specs.Answers.{fault_at}
 use Rattle.ol_spec.specs.declared.Fault.{Fault}
 use Rattle.ol_spec.specs.declared.Limits.{Limits}
@@ -131,19 +131,19 @@ module _ (s : List ℕ) (l : Limits) (enums : ℕ) where
 
     body_head : (c : ExprCode) (p : ℕ) → next_of (expr_body s l enums r c p) ≡ on_items (counted_of (head_body s l enums c p)) parts
     unfolding counted_of on_items
-    body_head boolCode p = no_part (coded s bools p) _
-    body_head intCode p = no_part (number s 8 0 p) _
-    body_head floatCode p = no_part (number s 8 0 p) _
-    body_head charCode p = no_part (byte s p) _
-    body_head varCode p = no_part (name_r s p) _
-    body_head unaryCode p = after (coded s unary_ops p) _ 1 (λ op q. one_part _ q)
-    body_head binaryCode p = after (coded s bin_ops p) _ 2 (λ op q. two_parts _ q)
-    body_head ifCode p = three_parts _ p
-    body_head preCode p = one_part _ p
-    body_head arrowCode p = two_parts _ p
-    body_head castCode p = after (ty_r s l enums p) _ 1 (λ t q. one_part _ q)
-    body_head callCode p = join (byte s p) _ _ (λ k q. counted_then (count_r s 0 l.arguments q) _ _ (λ n m. next_give (many_exprs n r m) _ ∙ exprs_next r n m))
-    body_head tupleCode p = counted_then (count_r s 2 l.items p) _ _ (λ n q. next_give (many_exprs n r q) _ ∙ exprs_next r n q)
+    body_head bool_code p = no_part (coded s bools p) _
+    body_head int_code p = no_part (number s 8 0 p) _
+    body_head float_code p = no_part (number s 8 0 p) _
+    body_head char_code p = no_part (byte s p) _
+    body_head var_code p = no_part (name_r s p) _
+    body_head unary_code p = after (coded s unary_ops p) _ 1 (λ op q. one_part _ q)
+    body_head binary_code p = after (coded s bin_ops p) _ 2 (λ op q. two_parts _ q)
+    body_head if_code p = three_parts _ p
+    body_head pre_code p = one_part _ p
+    body_head arrow_code p = two_parts _ p
+    body_head cast_code p = after (ty_r s l enums p) _ 1 (λ t q. one_part _ q)
+    body_head call_code p = join (byte s p) _ _ (λ k q. counted_then (count_r s 0 l.arguments q) _ _ (λ n m. next_give (many_exprs n r m) _ ∙ exprs_next r n m))
+    body_head tuple_code p = counted_then (count_r s 2 l.items p) _ _ (λ n q. next_give (many_exprs n r q) _ ∙ exprs_next r n q)
 
   pub expr_head : (n at : ℕ) → next_of (expr_r s l enums (suc n) at) ≡ on_items (counted_of (head_r s l enums at)) (λ j q. repeat j (λ p. next_of (expr_r s l enums n p)) q)
   unfolding expr_r head_r
@@ -194,19 +194,19 @@ module _ (s : List ℕ) (l : Limits) (enums : ℕ) where
 
   below_body : (c : ExprCode) (p : ℕ) → Below most_parts (head_body s l enums c p)
   unfolding Below
-  below_body boolCode p = below_then most_parts (coded s bools p) _ (λ a q. omega arith)
-  below_body intCode p = below_then most_parts (number s 8 0 p) _ (λ a q. omega arith)
-  below_body floatCode p = below_then most_parts (number s 8 0 p) _ (λ a q. omega arith)
-  below_body charCode p = below_then most_parts (byte s p) _ (λ a q. omega arith)
-  below_body varCode p = below_then most_parts (name_r s p) _ (λ a q. omega arith)
-  below_body unaryCode p = below_then most_parts (coded s unary_ops p) _ (λ a q. omega arith)
-  below_body binaryCode p = below_then most_parts (coded s bin_ops p) _ (λ a q. omega arith)
-  below_body ifCode p = omega arith
-  below_body preCode p = omega arith
-  below_body arrowCode p = omega arith
-  below_body castCode p = below_then most_parts (ty_r s l enums p) _ (λ a q. omega arith)
-  below_body callCode p = below_then most_parts (byte s p) _ (λ a q. below_count most_parts s 0 l.arguments q (omega arith))
-  below_body tupleCode p = below_count most_parts s 2 l.items p (omega arith)
+  below_body bool_code p = below_then most_parts (coded s bools p) _ (λ a q. omega arith)
+  below_body int_code p = below_then most_parts (number s 8 0 p) _ (λ a q. omega arith)
+  below_body float_code p = below_then most_parts (number s 8 0 p) _ (λ a q. omega arith)
+  below_body char_code p = below_then most_parts (byte s p) _ (λ a q. omega arith)
+  below_body var_code p = below_then most_parts (name_r s p) _ (λ a q. omega arith)
+  below_body unary_code p = below_then most_parts (coded s unary_ops p) _ (λ a q. omega arith)
+  below_body binary_code p = below_then most_parts (coded s bin_ops p) _ (λ a q. omega arith)
+  below_body if_code p = omega arith
+  below_body pre_code p = omega arith
+  below_body arrow_code p = omega arith
+  below_body cast_code p = below_then most_parts (ty_r s l enums p) _ (λ a q. omega arith)
+  below_body call_code p = below_then most_parts (byte s p) _ (λ a q. below_count most_parts s 0 l.arguments q (omega arith))
+  below_body tuple_code p = below_count most_parts s 2 l.items p (omega arith)
 
   below_head : (at : ℕ) → Below most_parts (head_r s l enums at)
   unfolding head_r

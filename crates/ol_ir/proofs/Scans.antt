@@ -11,7 +11,7 @@ use borrow.Author.Tests.{lt-ltb, le-ltb, eq_eqb, ne_eqb}
 use lib.ListN.{length, get_or, get_elem?}
 use Rattle.ol_spec.specs.Syntax.{Expr, bool_lit, int_lit, float_lit, char_lit, var, unary, binary, if_then_else, pre, arrow, cast, call, tuple, count}
 use Rattle.ol_spec.specs.Places.{expr_size}
-use Rattle.ol_spec.specs.Read.{got, then_read, byte, number, name_r, coded, expr_codes, ExprCode, expr_body, expr_r, varCode, preCode}
+use Rattle.ol_spec.specs.Read.{got, then_read, byte, number, name_r, coded, expr_codes, ExprCode, expr_body, expr_r, var_code, pre_code}
 use Rattle.ol_spec.specs.Answers.{fault_at}
 use Rattle.ol_spec.specs.declared.Limits.{Limits}
 use Rattle.ol_spec.proofs.Offsets.{steps, same_end, same_item}
@@ -62,13 +62,13 @@ module _ (s : List ℕ) (l : Limits) (enums d at : ℕ) (e : Expr) (n : ℕ) (g 
   -- a Var
   pub var_at : get_or s at 0 ≡ 4 → (y : ℕ) × (m : ℕ) × (name_r s (at + 1) ≡ got y m) × (e ≡ var y)
   var_at b =
-      let t = steps (name_r s (at + 1)) _ e n (body_of s l enums d at e n varCode g (ap (get_elem? expr_codes) b)) in
+      let t = steps (name_r s (at + 1)) _ e n (body_of s l enums d at e n var_code g (ap (get_elem? expr_codes) b)) in
       (t.value, t.at, t.first, sym (same_item t.rest))
 
   -- a Pre, and its operand
   pub pre_at : get_or s at 0 ≡ 8 → (f : Expr) × (expr_r s l enums (d - 1) (at + 1) ≡ got f n) × (e ≡ pre f)
   pre_at b =
-      let t = steps (expr_r s l enums (d - 1) (at + 1)) _ e n (body_of s l enums d at e n preCode g (ap (get_elem? expr_codes) b)) in
+      let t = steps (expr_r s l enums (d - 1) (at + 1)) _ e n (body_of s l enums d at e n pre_code g (ap (get_elem? expr_codes) b)) in
       (t.value, t.first ∙ ap (got t.value) (same_end t.rest), sym (same_item t.rest))
 
   scan_var : get_or s at 0 ≡ 4 → Scn.Name (name_at s (at + 1)) (at + 3) ≡ scan_of at e

@@ -14,9 +14,9 @@ use Rattle.ol_spec.specs.Numbers.{signed}
 use Rattle.ol_spec.specs.Syntax.{Ty, Expr, Exprs, count}
 use Rattle.ol_spec.specs.Places.{ty_size, expr_size, exprs_size, variable_size, equation_size, enum_size, constant_size, section_size, node_size}
 use Rattle.ol_spec.specs.Read.{got, fault, Reader, then_read, give, known, many, many_exprs, byte, number, name_r, coded, within?, count_r, section_r}
-use Rattle.ol_spec.specs.Read.{TyCode, boolT, float32T, float64T, charT, enumT, int_t, ty_codes, ty_body, ty_r, expr_codes, ExprCode, expr_body, expr_r}
-use Rattle.ol_spec.specs.Read.{root_r, boolCode, intCode, floatCode, charCode, varCode, unaryCode, binaryCode, ifCode, preCode, arrowCode, castCode}
-use Rattle.ol_spec.specs.Read.{callCode, tupleCode, bools, unary_ops, bin_ops, node_kinds, variable_r, constant_r, equation_r, node_r, enum_r}
+use Rattle.ol_spec.specs.Read.{TyCode, bool_t, float32_t, float64_t, char_t, enum_t, int_t, ty_codes, ty_body, ty_r, expr_codes, ExprCode, expr_body, expr_r}
+use Rattle.ol_spec.specs.Read.{root_r, bool_code, int_code, float_code, char_code, var_code, unary_code, binary_code, if_code, pre_code, arrow_code, cast_code}
+use Rattle.ol_spec.specs.Read.{call_code, tuple_code, bools, unary_ops, bin_ops, node_kinds, variable_r, constant_r, equation_r, node_r, enum_r}
 use Rattle.ol_spec.specs.declared.Limits.{Limits}
 use Rattle.ol_spec.proofs.Offsets.{steps, same_item, same_end}
 use Rattle.ol_ir.proofs.Bytes.{byte_in, byte_out}
@@ -124,30 +124,30 @@ module _ (s : List ℕ) where
     takes_ty = bind s (coded s ty_codes) _ _ _ (takes_coded ty_codes) (λ c m p. go c m p)
       where
         go : (c : TyCode) (m : ℕ) → m ≡ 1 → Takes s (ty_body s l enums c) (λ t j. m + j ≡ ty_size t)
-        go boolT m p = given s Ty.bool _ (omega arith)
-        go float32T m p = given s Ty.float32 _ (omega arith)
-        go float64T m p = given s Ty.float64 _ (omega arith)
-        go charT m p = given s Ty.char _ (omega arith)
-        go enumT m p = bind s (coded s (up_to enums)) _ _ _ (takes_coded (up_to enums)) (λ e j q. given s (Ty.enum e) _ (omega arith))
+        go bool_t m p = given s Ty.bool _ (omega arith)
+        go float32_t m p = given s Ty.float32 _ (omega arith)
+        go float64_t m p = given s Ty.float64 _ (omega arith)
+        go char_t m p = given s Ty.char _ (omega arith)
+        go enum_t m p = bind s (coded s (up_to enums)) _ _ _ (takes_coded (up_to enums)) (λ e j q. given s (Ty.enum e) _ (omega arith))
         go (int_t c) m p = given s (Ty.int c) _ (omega arith)
 
     module _ (r : Reader Expr) (h : Takes s r (λ e m. m ≡ expr_size e)) where
       takes_body : (c : ExprCode) (n : ℕ) → n ≡ 1 → Takes s (expr_body s l enums r c) (λ e m. n + m ≡ expr_size e)
-      takes_body boolCode n i = bind s (coded s bools) _ _ _ (takes_coded bools) (λ b m p. given s (Expr.bool_lit b) _ (omega arith))
-      takes_body intCode n i = bind s (number s 8 0) _ _ _ (takes_number 8 0) (λ b m p. given s (Expr.int_lit (signed 64 b)) _ (omega arith))
-      takes_body floatCode n i = bind s (number s 8 0) _ _ _ (takes_number 8 0) (λ b m p. given s (Expr.float_lit b) _ (omega arith))
-      takes_body charCode n i = bind s (byte s) _ _ _ takes_byte (λ b m p. given s (Expr.char_lit b) _ (omega arith))
-      takes_body varCode n i = bind s (name_r s) _ _ _ (takes_number 2 0) (λ x m p. given s (Expr.var x) _ (omega arith))
-      takes_body unaryCode n i = bind s (coded s unary_ops) _ _ _ (takes_coded unary_ops) (λ op m p. bind s r _ _ _ h (λ e j q. given s (Expr.unary op e) _ (omega arith)))
-      takes_body binaryCode n i = bind s (coded s bin_ops) _ _ _ (takes_coded bin_ops) (λ op m p. bind s r _ _ _ h (λ a j q. bind s r _ _ _ h (λ b k t. given s (Expr.binary op a b) _ (omega arith))))
-      takes_body ifCode n i = bind s r _ _ _ h (λ c m p. bind s r _ _ _ h (λ a j q. bind s r _ _ _ h (λ b k t. given s (Expr.if_then_else c a b) _ (omega arith))))
-      takes_body preCode n i = bind s r _ _ _ h (λ e m p. given s (Expr.pre e) _ (omega arith))
-      takes_body arrowCode n i = bind s r _ _ _ h (λ a j q. bind s r _ _ _ h (λ b k t. given s (Expr.arrow a b) _ (omega arith)))
-      takes_body castCode n i = bind s (ty_r s l enums) _ _ _ takes_ty (λ t m p. bind s r _ _ _ h (λ e j q. given s (Expr.cast t e) _ (omega arith)))
-      takes_body callCode n i =
+      takes_body bool_code n i = bind s (coded s bools) _ _ _ (takes_coded bools) (λ b m p. given s (Expr.bool_lit b) _ (omega arith))
+      takes_body int_code n i = bind s (number s 8 0) _ _ _ (takes_number 8 0) (λ b m p. given s (Expr.int_lit (signed 64 b)) _ (omega arith))
+      takes_body float_code n i = bind s (number s 8 0) _ _ _ (takes_number 8 0) (λ b m p. given s (Expr.float_lit b) _ (omega arith))
+      takes_body char_code n i = bind s (byte s) _ _ _ takes_byte (λ b m p. given s (Expr.char_lit b) _ (omega arith))
+      takes_body var_code n i = bind s (name_r s) _ _ _ (takes_number 2 0) (λ x m p. given s (Expr.var x) _ (omega arith))
+      takes_body unary_code n i = bind s (coded s unary_ops) _ _ _ (takes_coded unary_ops) (λ op m p. bind s r _ _ _ h (λ e j q. given s (Expr.unary op e) _ (omega arith)))
+      takes_body binary_code n i = bind s (coded s bin_ops) _ _ _ (takes_coded bin_ops) (λ op m p. bind s r _ _ _ h (λ a j q. bind s r _ _ _ h (λ b k t. given s (Expr.binary op a b) _ (omega arith))))
+      takes_body if_code n i = bind s r _ _ _ h (λ c m p. bind s r _ _ _ h (λ a j q. bind s r _ _ _ h (λ b k t. given s (Expr.if_then_else c a b) _ (omega arith))))
+      takes_body pre_code n i = bind s r _ _ _ h (λ e m p. given s (Expr.pre e) _ (omega arith))
+      takes_body arrow_code n i = bind s r _ _ _ h (λ a j q. bind s r _ _ _ h (λ b k t. given s (Expr.arrow a b) _ (omega arith)))
+      takes_body cast_code n i = bind s (ty_r s l enums) _ _ _ takes_ty (λ t m p. bind s r _ _ _ h (λ e j q. given s (Expr.cast t e) _ (omega arith)))
+      takes_body call_code n i =
           bind s (byte s) _ _ _ takes_byte (λ k m p. bind s (count_r s 0 l.arguments) _ _ _ (takes_count 0 l.arguments) (λ c j q.
           bind s (many_exprs c r) _ _ _ (takes_exprs r h c) (λ es o t. given s (Expr.call k es) _ (omega (arith, t.0)))))
-      takes_body tupleCode n i =
+      takes_body tuple_code n i =
           bind s (count_r s 2 l.items) _ _ _ (takes_count 2 l.items) (λ c j q. bind s (many_exprs c r) _ _ _ (takes_exprs r h c) (λ es o t. given s (Expr.tuple es) _ (omega (arith, t.0))))
 
     pub takes_expr : (k : ℕ) → Takes s (expr_r s l enums k) (λ e m. m ≡ expr_size e)

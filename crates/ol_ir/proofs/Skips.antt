@@ -14,7 +14,7 @@ use Rattle.ol_spec.specs.Syntax.{Expr, bool_lit, int_lit, float_lit, char_lit, v
 use Rattle.ol_spec.specs.Syntax.{cons, count, Equation, Node}
 use Rattle.ol_spec.specs.Places.{rhs_place, equation_size, equations_start, placed_equations}
 use Rattle.ol_spec.specs.Eval.{callees_all}
-use Rattle.ol_spec.specs.Read.{Read, got, fault, Reader, many, many_exprs, byte, coded, count_r, name_r, ty_r, expr_r, equation_r, node_r, castCode, callCode, tupleCode}
+use Rattle.ol_spec.specs.Read.{Read, got, fault, Reader, many, many_exprs, byte, coded, count_r, name_r, ty_r, expr_r, equation_r, node_r, cast_code, call_code, tuple_code}
 use Rattle.ol_spec.specs.Answers.{fault_at}
 use Rattle.ol_spec.specs.declared.Fault.{Fault}
 use Rattle.ol_spec.specs.declared.Limits.{Limits}
@@ -143,7 +143,7 @@ module _ (s : List ℕ) (l : Limits) (enums d at : ℕ) (e : Expr) (n : ℕ) (r 
   unfolding next_of
   told_cast c =
       let x = read in
-      let t = steps (ty_r s l enums (at + 1)) _ (count (parts_of e)) (at + head_size e) (sym (head_is s l enums at 10 castCode x.inside c refl) ∙ x.head) in
+      let t = steps (ty_r s l enums (at + 1)) _ (count (parts_of e)) (at + head_size e) (sym (head_is s l enums at 10 cast_code x.inside c refl) ∙ x.head) in
       let q : next_of (ty_r s l enums (at + 1)) ≡ Nxt.At (at + head_size e) = ap next_of t.first ∙ ap Nxt.At (same_end t.rest) in
       let size : at + 1 + ty_size_at s (at + 1) ≡ at + head_size e =
       by_cases (ℕ_discrete (get_or s (at + 1) 0) 12) (λ y. rw (eq_eqb (get_or s (at + 1) 0) 12 y) (omega (arith, type_two s l enums (at + 1) (at + head_size e) q y)))
@@ -155,7 +155,7 @@ module _ (s : List ℕ) (l : Limits) (enums d at : ℕ) (e : Expr) (n : ℕ) (r 
   unfolding counted_of
   told_call c =
       let x = read in
-      let t = steps (byte s (at + 1)) _ (count (parts_of e)) (at + head_size e) (sym (head_is s l enums at 11 callCode x.inside c refl) ∙ x.head) in
+      let t = steps (byte s (at + 1)) _ (count (parts_of e)) (at + head_size e) (sym (head_is s l enums at 11 call_code x.inside c refl) ∙ x.head) in
       let u = (takes_byte s).is (at + 1) t.value t.at t.first in
       let w = counted_is s 0 l.arguments t.at (count (parts_of e)) (at + head_size e) (sym (ap counted_of t.rest)) in
       let p : t.at ≡ at + 2 = omega (arith, u.ends, u.holds) in
@@ -166,7 +166,7 @@ module _ (s : List ℕ) (l : Limits) (enums d at : ℕ) (e : Expr) (n : ℕ) (r 
   unfolding counted_of
   told_tuple c =
       let x = read in
-      let w = counted_is s 2 l.items (at + 1) (count (parts_of e)) (at + head_size e) (sym (ap counted_of (sym (head_is s l enums at 12 tupleCode x.inside c refl) ∙ x.head))) in
+      let w = counted_is s 2 l.items (at + 1) (count (parts_of e)) (at + head_size e) (sym (ap counted_of (sym (head_is s l enums at 12 tuple_code x.inside c refl) ∙ x.head))) in
       (rw c (sym w.value), rw (lt-ltb at (length s) x.inside, c) (omega (arith, w.next)))
 
   pub head_told : (parts_at s at ≡ count (parts_of e)) × (next_at s at ≡ at + head_size e)

@@ -12,8 +12,8 @@ use Rattle.ol_spec.specs.Syntax.{cons, count}
 use Rattle.ol_spec.specs.Numbers.{signed}
 use Rattle.ol_spec.specs.Places.{ty_size, expr_size}
 use Rattle.ol_spec.specs.Read.{Read, got, fault, Reader, then_read, give, many, many_exprs, byte, number, name_r, coded, count_r, ty_r, expr_codes}
-use Rattle.ol_spec.specs.Read.{ExprCode, expr_body, expr_r, boolCode, intCode, floatCode, charCode, varCode, unaryCode, binaryCode, ifCode, preCode}
-use Rattle.ol_spec.specs.Read.{arrowCode, castCode, callCode, tupleCode, bools, unary_ops, bin_ops}
+use Rattle.ol_spec.specs.Read.{ExprCode, expr_body, expr_r, bool_code, int_code, float_code, char_code, var_code, unary_code, binary_code, if_code, pre_code}
+use Rattle.ol_spec.specs.Read.{arrow_code, cast_code, call_code, tuple_code, bools, unary_ops, bin_ops}
 use Rattle.ol_spec.specs.declared.Limits.{Limits}
 use Rattle.ol_spec.proofs.Offsets.{steps, same_end, same_item}
 use Rattle.ol_ir.specs.Heads.{head_body, head_r}
@@ -55,19 +55,19 @@ module _ (r t : Reader Expr) (h : (at : ℕ) → Keeps (r at) (t at)) where
 
   module _ (s : List ℕ) (l : Limits) (enums : ℕ) where
     keeps_body : (c : ExprCode) (at : ℕ) → Keeps (expr_body s l enums r c at) (expr_body s l enums t c at)
-    keeps_body boolCode at = same _
-    keeps_body intCode at = same _
-    keeps_body floatCode at = same _
-    keeps_body charCode at = same _
-    keeps_body varCode at = same _
-    keeps_body unaryCode at = after (coded s unary_ops at) _ _ (λ op n. keeps_one (unary op) n)
-    keeps_body binaryCode at = after (coded s bin_ops at) _ _ (λ op n. keeps_two (binary op) n)
-    keeps_body ifCode at = keeps_then (r at) (t at) _ _ (h at) (λ c n. keeps_two (if_then_else c) n)
-    keeps_body preCode at = keeps_one pre at
-    keeps_body arrowCode at = keeps_two arrow at
-    keeps_body castCode at = after (ty_r s l enums at) _ _ (λ y n. keeps_one (cast y) n)
-    keeps_body callCode at = after (byte s at) _ _ (λ k n. after (count_r s 0 l.arguments n) _ _ (λ j m. keeps_several (call k) j m))
-    keeps_body tupleCode at = after (count_r s 2 l.items at) _ _ (λ j m. keeps_several tuple j m)
+    keeps_body bool_code at = same _
+    keeps_body int_code at = same _
+    keeps_body float_code at = same _
+    keeps_body char_code at = same _
+    keeps_body var_code at = same _
+    keeps_body unary_code at = after (coded s unary_ops at) _ _ (λ op n. keeps_one (unary op) n)
+    keeps_body binary_code at = after (coded s bin_ops at) _ _ (λ op n. keeps_two (binary op) n)
+    keeps_body if_code at = keeps_then (r at) (t at) _ _ (h at) (λ c n. keeps_two (if_then_else c) n)
+    keeps_body pre_code at = keeps_one pre at
+    keeps_body arrow_code at = keeps_two arrow at
+    keeps_body cast_code at = after (ty_r s l enums at) _ _ (λ y n. keeps_one (cast y) n)
+    keeps_body call_code at = after (byte s at) _ _ (λ k n. after (count_r s 0 l.arguments n) _ _ (λ j m. keeps_several (call k) j m))
+    keeps_body tuple_code at = after (count_r s 2 l.items at) _ _ (λ j m. keeps_several tuple j m)
 
 module _ (s : List ℕ) (l : Limits) (enums : ℕ) where
   keeps_deeper : (k m : ℕ) → k ≤ m → (at : ℕ) → Keeps (expr_r s l enums k at) (expr_r s l enums m at)
@@ -82,35 +82,35 @@ module _ (s : List ℕ) (l : Limits) (enums : ℕ) where
 -- ---- a head and its parts
 
 number_of : ExprCode → ℕ
-number_of boolCode = 0
-number_of intCode = 1
-number_of floatCode = 2
-number_of charCode = 3
-number_of varCode = 4
-number_of unaryCode = 5
-number_of binaryCode = 6
-number_of ifCode = 7
-number_of preCode = 8
-number_of arrowCode = 9
-number_of castCode = 10
-number_of callCode = 11
-number_of tupleCode = 12
+number_of bool_code = 0
+number_of int_code = 1
+number_of float_code = 2
+number_of char_code = 3
+number_of var_code = 4
+number_of unary_code = 5
+number_of binary_code = 6
+number_of if_code = 7
+number_of pre_code = 8
+number_of arrow_code = 9
+number_of cast_code = 10
+number_of call_code = 11
+number_of tuple_code = 12
 
 code_number_lem : (b : ℕ) (c : ExprCode) → get_elem? expr_codes b ≡ some c → b ≡ number_of c
 unfolding number_of
-code_number_lem zero c e = let z : boolCode ≡ c = cc in ap number_of z
-code_number_lem (suc zero) c e = let z : intCode ≡ c = cc in ap number_of z
-code_number_lem (suc (suc zero)) c e = let z : floatCode ≡ c = cc in ap number_of z
-code_number_lem (suc (suc (suc zero))) c e = let z : charCode ≡ c = cc in ap number_of z
-code_number_lem (suc (suc (suc (suc zero)))) c e = let z : varCode ≡ c = cc in ap number_of z
-code_number_lem (suc (suc (suc (suc (suc zero))))) c e = let z : unaryCode ≡ c = cc in ap number_of z
-code_number_lem (suc (suc (suc (suc (suc (suc zero)))))) c e = let z : binaryCode ≡ c = cc in ap number_of z
-code_number_lem (suc (suc (suc (suc (suc (suc (suc zero))))))) c e = let z : ifCode ≡ c = cc in ap number_of z
-code_number_lem (suc (suc (suc (suc (suc (suc (suc (suc zero)))))))) c e = let z : preCode ≡ c = cc in ap number_of z
-code_number_lem (suc (suc (suc (suc (suc (suc (suc (suc (suc zero))))))))) c e = let z : arrowCode ≡ c = cc in ap number_of z
-code_number_lem (suc (suc (suc (suc (suc (suc (suc (suc (suc (suc zero)))))))))) c e = let z : castCode ≡ c = cc in ap number_of z
-code_number_lem (suc (suc (suc (suc (suc (suc (suc (suc (suc (suc (suc zero))))))))))) c e = let z : callCode ≡ c = cc in ap number_of z
-code_number_lem (suc (suc (suc (suc (suc (suc (suc (suc (suc (suc (suc (suc zero)))))))))))) c e = let z : tupleCode ≡ c = cc in ap number_of z
+code_number_lem zero c e = let z : bool_code ≡ c = cc in ap number_of z
+code_number_lem (suc zero) c e = let z : int_code ≡ c = cc in ap number_of z
+code_number_lem (suc (suc zero)) c e = let z : float_code ≡ c = cc in ap number_of z
+code_number_lem (suc (suc (suc zero))) c e = let z : char_code ≡ c = cc in ap number_of z
+code_number_lem (suc (suc (suc (suc zero)))) c e = let z : var_code ≡ c = cc in ap number_of z
+code_number_lem (suc (suc (suc (suc (suc zero))))) c e = let z : unary_code ≡ c = cc in ap number_of z
+code_number_lem (suc (suc (suc (suc (suc (suc zero)))))) c e = let z : binary_code ≡ c = cc in ap number_of z
+code_number_lem (suc (suc (suc (suc (suc (suc (suc zero))))))) c e = let z : if_code ≡ c = cc in ap number_of z
+code_number_lem (suc (suc (suc (suc (suc (suc (suc (suc zero)))))))) c e = let z : pre_code ≡ c = cc in ap number_of z
+code_number_lem (suc (suc (suc (suc (suc (suc (suc (suc (suc zero))))))))) c e = let z : arrow_code ≡ c = cc in ap number_of z
+code_number_lem (suc (suc (suc (suc (suc (suc (suc (suc (suc (suc zero)))))))))) c e = let z : cast_code ≡ c = cc in ap number_of z
+code_number_lem (suc (suc (suc (suc (suc (suc (suc (suc (suc (suc (suc zero))))))))))) c e = let z : call_code ≡ c = cc in ap number_of z
+code_number_lem (suc (suc (suc (suc (suc (suc (suc (suc (suc (suc (suc (suc zero)))))))))))) c e = let z : tuple_code ≡ c = cc in ap number_of z
 code_number_lem (suc (suc (suc (suc (suc (suc (suc (suc (suc (suc (suc (suc (suc b))))))))))))) c e = let z : ◌≡◌ {A = ℕ} 0 1 = cc in absurd (omega arith)
 
 -- a byte that is a code
@@ -231,18 +231,18 @@ module _ (s : List ℕ) (l : Limits) (enums : ℕ) (r : Reader Expr) (h : Takes 
 
   body_at : (c : ExprCode) (e : Expr) (n : ℕ) → expr_body s l enums r c (at + 1) ≡ got e n → Body c e n
   unfolding number_of
-  body_at boolCode e n f = headed (coded s bools) (λ a. 1) (takes_coded s bools) _ boolCode 0 (λ p. refl) (λ a q e n g. no_part r 0 2 q e n (bool_lit a) refl refl refl g) e n f
-  body_at intCode e n f = headed (number s 8 0) (λ a. 8) (takes_number s 8 0) _ intCode 0 (λ p. refl) (λ a q e n g. no_part r 1 9 q e n (int_lit (signed 64 a)) refl refl refl g) e n f
-  body_at floatCode e n f = headed (number s 8 0) (λ a. 8) (takes_number s 8 0) _ floatCode 0 (λ p. refl) (λ a q e n g. no_part r 2 9 q e n (float_lit a) refl refl refl g) e n f
-  body_at charCode e n f = headed (byte s) (λ a. 1) (takes_byte s) _ charCode 0 (λ p. refl) (λ a q e n g. no_part r 3 2 q e n (char_lit a) refl refl refl g) e n f
-  body_at varCode e n f = headed (name_r s) (λ a. 2) (takes_number s 2 0) _ varCode 0 (λ p. refl) (λ a q e n g. no_part r 4 3 q e n (var a) refl refl refl g) e n f
-  body_at unaryCode e n f = headed (coded s unary_ops) (λ a. 1) (takes_coded s unary_ops) _ unaryCode 1 (λ p. refl) (λ op q e n g. one_part r 5 2 q e n (unary op) (λ a. refl) (λ a. refl) (λ a. refl) g) e n f
-  body_at binaryCode e n f = headed (coded s bin_ops) (λ a. 1) (takes_coded s bin_ops) _ binaryCode 2 (λ p. refl) (λ op q e n g. two_parts r 6 2 q e n (binary op) (λ a b. refl) (λ a b. refl) (λ a b. refl) g) e n f
-  body_at ifCode e n f = at_once ifCode 3 e n (λ p. refl) (three_parts r 7 1 (at + 1) e n if_then_else (λ x y z. refl) (λ x y z. refl) (λ x y z. refl) f)
-  body_at preCode e n f = at_once preCode 1 e n (λ p. refl) (one_part r 8 1 (at + 1) e n pre (λ a. refl) (λ a. refl) (λ a. refl) f)
-  body_at arrowCode e n f = at_once arrowCode 2 e n (λ p. refl) (two_parts r 9 1 (at + 1) e n arrow (λ a b. refl) (λ a b. refl) (λ a b. refl) f)
-  body_at castCode e n f = headed (ty_r s l enums) ty_size (takes_ty s l enums) _ castCode 1 (λ p. refl) (λ t q e n g. one_part r 10 (1 + ty_size t) q e n (cast t) (λ a. refl) (λ a. refl) (λ a. refl) g) e n f
-  body_at callCode e n f =
+  body_at bool_code e n f = headed (coded s bools) (λ a. 1) (takes_coded s bools) _ bool_code 0 (λ p. refl) (λ a q e n g. no_part r 0 2 q e n (bool_lit a) refl refl refl g) e n f
+  body_at int_code e n f = headed (number s 8 0) (λ a. 8) (takes_number s 8 0) _ int_code 0 (λ p. refl) (λ a q e n g. no_part r 1 9 q e n (int_lit (signed 64 a)) refl refl refl g) e n f
+  body_at float_code e n f = headed (number s 8 0) (λ a. 8) (takes_number s 8 0) _ float_code 0 (λ p. refl) (λ a q e n g. no_part r 2 9 q e n (float_lit a) refl refl refl g) e n f
+  body_at char_code e n f = headed (byte s) (λ a. 1) (takes_byte s) _ char_code 0 (λ p. refl) (λ a q e n g. no_part r 3 2 q e n (char_lit a) refl refl refl g) e n f
+  body_at var_code e n f = headed (name_r s) (λ a. 2) (takes_number s 2 0) _ var_code 0 (λ p. refl) (λ a q e n g. no_part r 4 3 q e n (var a) refl refl refl g) e n f
+  body_at unary_code e n f = headed (coded s unary_ops) (λ a. 1) (takes_coded s unary_ops) _ unary_code 1 (λ p. refl) (λ op q e n g. one_part r 5 2 q e n (unary op) (λ a. refl) (λ a. refl) (λ a. refl) g) e n f
+  body_at binary_code e n f = headed (coded s bin_ops) (λ a. 1) (takes_coded s bin_ops) _ binary_code 2 (λ p. refl) (λ op q e n g. two_parts r 6 2 q e n (binary op) (λ a b. refl) (λ a b. refl) (λ a b. refl) g) e n f
+  body_at if_code e n f = at_once if_code 3 e n (λ p. refl) (three_parts r 7 1 (at + 1) e n if_then_else (λ x y z. refl) (λ x y z. refl) (λ x y z. refl) f)
+  body_at pre_code e n f = at_once pre_code 1 e n (λ p. refl) (one_part r 8 1 (at + 1) e n pre (λ a. refl) (λ a. refl) (λ a. refl) f)
+  body_at arrow_code e n f = at_once arrow_code 2 e n (λ p. refl) (two_parts r 9 1 (at + 1) e n arrow (λ a b. refl) (λ a b. refl) (λ a b. refl) f)
+  body_at cast_code e n f = headed (ty_r s l enums) ty_size (takes_ty s l enums) _ cast_code 1 (λ p. refl) (λ t q e n g. one_part r 10 (1 + ty_size t) q e n (cast t) (λ a. refl) (λ a. refl) (λ a. refl) g) e n f
+  body_at call_code e n f =
       let t = steps (byte s (at + 1)) _ e n f in
       let u = (takes_byte s).is (at + 1) t.value t.at t.first in
       let c = steps (count_r s 0 l.arguments t.at) _ e n t.rest in
@@ -254,7 +254,7 @@ module _ (s : List ℕ) (l : Limits) (enums : ℕ) (r : Reader Expr) (h : Takes 
         head = then_got (byte s (at + 1)) _ t.first ∙ c.first ∙ rw p.many (ap (got c.value) q);
         parts = rw (p.many, ← q) p.parts;
       }
-  body_at tupleCode e n f =
+  body_at tuple_code e n f =
       let c = steps (count_r s 2 l.items (at + 1)) _ e n f in
       let v = (takes_count s 2 l.items).is (at + 1) c.value c.at c.first in
       let p = several r 12 2 c.at e n s c.value h tuple (λ es. refl) (λ es. refl) (λ es. refl) c.rest in

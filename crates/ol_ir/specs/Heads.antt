@@ -1,7 +1,7 @@
 -- An expression's head: its first bytes, up to its parts. The parts follow directly, so an expression is its heads, operator first.
 use Rattle.std.specs.Prelude.{ℕ, List}
-use Rattle.ol_spec.specs.Read.{Reader, then_read, ◌>>=◌, give, byte, number, name_r, coded, count_r, ty_r, bools, unary_ops, bin_ops, expr_codes, ExprCode, boolCode}
-use Rattle.ol_spec.specs.Read.{intCode, floatCode, charCode, varCode, unaryCode, binaryCode, ifCode, preCode, arrowCode, castCode, callCode, tupleCode}
+use Rattle.ol_spec.specs.Read.{Reader, then_read, ◌>>=◌, give, byte, number, name_r, coded, count_r, ty_r, bools, unary_ops, bin_ops, expr_codes, ExprCode, bool_code}
+use Rattle.ol_spec.specs.Read.{int_code, float_code, char_code, var_code, unary_code, binary_code, if_code, pre_code, arrow_code, cast_code, call_code, tuple_code}
 use Rattle.ol_spec.specs.declared.Limits.{Limits}
 
 -- a call's node number, then its count of arguments
@@ -13,35 +13,35 @@ call_head s most = do
 module _ (s : List ℕ) (l : Limits) (enums : ℕ) where
   -- what follows an expression's first byte, up to its parts: how many parts there are
   abbrev pub head_body : ExprCode → Reader ℕ
-  head_body boolCode = do
+  head_body bool_code = do
     b ← coded s bools
     give 0
-  head_body intCode = do
+  head_body int_code = do
     n ← number s 8 0
     give 0
-  head_body floatCode = do
+  head_body float_code = do
     n ← number s 8 0
     give 0
-  head_body charCode = do
+  head_body char_code = do
     c ← byte s
     give 0
-  head_body varCode = do
+  head_body var_code = do
     x ← name_r s
     give 0
-  head_body unaryCode = do
+  head_body unary_code = do
     op ← coded s unary_ops
     give 1
-  head_body binaryCode = do
+  head_body binary_code = do
     op ← coded s bin_ops
     give 2
-  head_body ifCode = give 3
-  head_body preCode = give 1
-  head_body arrowCode = give 2
-  head_body castCode = do
+  head_body if_code = give 3
+  head_body pre_code = give 1
+  head_body arrow_code = give 2
+  head_body cast_code = do
     t ← ty_r s l enums
     give 1
-  head_body callCode = call_head s l.arguments
-  head_body tupleCode = count_r s 2 l.items
+  head_body call_code = call_head s l.arguments
+  head_body tuple_code = count_r s 2 l.items
 
   unfoldable pub head_r : Reader ℕ
   head_r at = then_read (coded s expr_codes at) head_body

@@ -15,9 +15,9 @@ use lib.Dec.{T, ltb, leb, eqb}
 use Rattle.ol_theory.specs.Member.{◌∈◌}
 use Rattle.ol_spec.specs.Lists.{up_to, member}
 use Rattle.ol_spec.specs.Syntax.{Expr, Exprs, cons, Node, File, no_node, last_of, main}
-use Rattle.ol_spec.specs.Read.{Read, got, fault, Reader, then_read, give, known, many, many_exprs, bools, unary_ops, bin_ops, node_kinds, TyCode, boolT}
-use Rattle.ol_spec.specs.Read.{float32T, float64T, charT, enumT, int_t, ty_codes, ExprCode, boolCode, intCode, floatCode, charCode, varCode, unaryCode}
-use Rattle.ol_spec.specs.Read.{binaryCode, ifCode, preCode, arrowCode, castCode, callCode, tupleCode, expr_codes, or_end, byte, number, coded}
+use Rattle.ol_spec.specs.Read.{Read, got, fault, Reader, then_read, give, known, many, many_exprs, bools, unary_ops, bin_ops, node_kinds, TyCode, bool_t}
+use Rattle.ol_spec.specs.Read.{float32_t, float64_t, char_t, enum_t, int_t, ty_codes, ExprCode, bool_code, int_code, float_code, char_code, var_code, unary_code}
+use Rattle.ol_spec.specs.Read.{binary_code, if_code, pre_code, arrow_code, cast_code, call_code, tuple_code, expr_codes, or_end, byte, number, coded}
 use Rattle.ol_spec.specs.Read.{within?, count_r, section_r, ty_body, ty_r, expr_body, expr_r, variable_r, constant_r, equation_r, node_r, sections_r}
 use Rattle.ol_spec.specs.Read.{at_end, unless_long, read_file}
 use Rattle.ol_spec.specs.Limits.{Loader}
@@ -113,11 +113,11 @@ module _ (s : List ℕ) where
 
   module _ (l : Limits) (enums : ℕ) where
     ty_body_low : (c : TyCode) → Lows (ty_body s l enums c)
-    ty_body_low boolT = given _
-    ty_body_low float32T = given _
-    ty_body_low float64T = given _
-    ty_body_low charT = given _
-    ty_body_low enumT = bind (coded_low (up_to enums)) (λ e. given _)
+    ty_body_low bool_t = given _
+    ty_body_low float32_t = given _
+    ty_body_low float64_t = given _
+    ty_body_low char_t = given _
+    ty_body_low enum_t = bind (coded_low (up_to enums)) (λ e. given _)
     ty_body_low (int_t c) = given _
 
     ty_low : Lows (ty_r s l enums)
@@ -125,19 +125,19 @@ module _ (s : List ℕ) where
 
     module _ {r : Reader Expr} (hr : Lows r) where
       body_low : (c : ExprCode) → Lows (expr_body s l enums r c)
-      body_low boolCode = bind (coded_low bools) (λ b. given _)
-      body_low intCode = bind (number_low 8 0) (λ n. given _)
-      body_low floatCode = bind (number_low 8 0) (λ n. given _)
-      body_low charCode = bind byte_low (λ c. given _)
-      body_low varCode = bind (number_low 2 0) (λ x. given _)
-      body_low unaryCode = bind (coded_low unary_ops) (λ op. bind hr (λ e. given _))
-      body_low binaryCode = bind (coded_low bin_ops) (λ op. bind hr (λ a. bind hr (λ b. given _)))
-      body_low ifCode = bind hr (λ c. bind hr (λ a. bind hr (λ b. given _)))
-      body_low preCode = bind hr (λ e. given _)
-      body_low arrowCode = bind hr (λ a. bind hr (λ b. given _))
-      body_low castCode = bind ty_low (λ t. bind hr (λ e. given _))
-      body_low callCode = bind byte_low (λ k. bind (count_low 0 l.arguments) (λ n. bind (many_exprs_low n hr) (λ es. given _)))
-      body_low tupleCode = bind (count_low 2 l.items) (λ n. bind (many_exprs_low n hr) (λ es. given _))
+      body_low bool_code = bind (coded_low bools) (λ b. given _)
+      body_low int_code = bind (number_low 8 0) (λ n. given _)
+      body_low float_code = bind (number_low 8 0) (λ n. given _)
+      body_low char_code = bind byte_low (λ c. given _)
+      body_low var_code = bind (number_low 2 0) (λ x. given _)
+      body_low unary_code = bind (coded_low unary_ops) (λ op. bind hr (λ e. given _))
+      body_low binary_code = bind (coded_low bin_ops) (λ op. bind hr (λ a. bind hr (λ b. given _)))
+      body_low if_code = bind hr (λ c. bind hr (λ a. bind hr (λ b. given _)))
+      body_low pre_code = bind hr (λ e. given _)
+      body_low arrow_code = bind hr (λ a. bind hr (λ b. given _))
+      body_low cast_code = bind ty_low (λ t. bind hr (λ e. given _))
+      body_low call_code = bind byte_low (λ k. bind (count_low 0 l.arguments) (λ n. bind (many_exprs_low n hr) (λ es. given _)))
+      body_low tuple_code = bind (count_low 2 l.items) (λ n. bind (many_exprs_low n hr) (λ es. given _))
 
     expr_low : (k : ℕ) → Lows (expr_r s l enums k)
     unfolding expr_r

@@ -15,7 +15,7 @@ use Rattle.ol_spec.specs.Syntax.{Variable, Node, no_node, File, NodeKind, Functi
 use Rattle.ol_spec.specs.Syntax.{cons, count, name_in, Rhs, items, outputs_of, one, rhs_of}
 use Rattle.ol_spec.specs.Types.{cast_to}
 use Rattle.ol_spec.specs.Operators.{unary_of, binary_of}
-use Rattle.ol_spec.specs.Eval.{Globals, Scope, Calls, Eval, Evals, Outcomes, values, failure, overflow, Branch, Branches, callees, callees_all, notReal, kind_of_value, first_type, arithmetic, join, isDouble?, node_at, record_size, sites_size, eval, eval_all, eval_rhs, next, next_on, next_all, next_all_on, condition, choose, branches_on, untaken, drop_failure, common_real, enter, enter_on, single, single_eval, several, several_eval, cons_out, or_failure, then_out, map_eval, present_of, before_of, pre_of, real_kind}
+use Rattle.ol_spec.specs.Eval.{Globals, Scope, Calls, Eval, Evals, Outcomes, values, failure, overflow, Branch, Branches, callees, callees_all, not_real, kind_of_value, first_type, arithmetic, join, is_double?, node_at, record_size, sites_size, eval, eval_all, eval_rhs, next, next_on, next_all, next_all_on, condition, choose, branches_on, untaken, drop_failure, common_real, enter, enter_on, single, single_eval, several, several_eval, cons_out, or_failure, then_out, map_eval, present_of, before_of, pre_of, real_kind}
 use Rattle.ol_spec.specs.Step.{globals}
 use Rattle.ol_spec.specs.RustSim.{width, Env, get, Key, State, States, get_state, prev, RValue, plain, Tuple, SimError, uninitialized_pre, other_error, Result, Ok, Err, Panic, ok_or, tuple_unless_one, pushed, discard, common_real_lem, Res, Ress, then_on, then_res, push_on, push, then_all_on, then_all, if_bool, first_tick, step_untaken, take_branch, StepInstance, enum_variant_value, first_kind, real_kind_lem, pre_value, eval_call, call_arity, call_kind}
 use Rattle.ol_spec.specs.RustSim as Rust
@@ -483,7 +483,7 @@ module _ (f : File) (xs : List ℕ) (vs : List Value) where
   abbrev pub Callee : ℕ → ℕ → Type 0
   Callee k m = T (eqb m (length (node_at G k).inputs)) × (¬ ((node_at G k).kind ≡ Imported))
 
-  values_are : (o : Option Value) → maybe notReal of_value o ≡ maybe notReal kind_of_value o
+  values_are : (o : Option Value) → maybe not_real of_value o ≡ maybe not_real kind_of_value o
   values_are none = refl
   values_are (some v) = value_is v
 
@@ -491,16 +491,16 @@ module _ (f : File) (xs : List ℕ) (vs : List Value) where
   first_is [] = refl
   first_is (x ∷ xs) = type_is x.ty
 
-  variant_kind : (x : ℕ) → maybe notReal kind_of_value (enum_variant_value f x) ≡ notReal
-  variant_kind x = cond_t (λ o. maybe notReal kind_of_value o ≡ notReal) (member x (concat f.enums)) (some (Val.Enum x)) none (λ t. refl) (λ t. refl)
+  variant_kind : (x : ℕ) → maybe not_real kind_of_value (enum_variant_value f x) ≡ not_real
+  variant_kind x = cond_t (λ o. maybe not_real kind_of_value o ≡ not_real) (member x (concat f.enums)) (some (Val.Enum x)) none (λ t. refl) (λ t. refl)
 
   module _ {S : ℕ → Type 0} {s : Scope} {env : Env} {st : State} (agrees : Agrees S s env st) where
-    kind_of_lem : (x : ℕ) → S x → maybe notReal kind_of_value (present_of G s x) ≡ maybe notReal kind_of_value (get x env)
+    kind_of_lem : (x : ℕ) → S x → maybe not_real kind_of_value (present_of G s x) ≡ maybe not_real kind_of_value (get x env)
     kind_of_lem x h = go (get x env) (agrees.present x h)
       where
-        go : (o : Option Value) → or_else o (enum_variant_value f x) ≡ present_of G s x → maybe notReal kind_of_value (present_of G s x) ≡ maybe notReal kind_of_value o
-        go none e = ap (maybe notReal kind_of_value) (sym e) ∙ variant_kind x
-        go (some v) e = ap (maybe notReal kind_of_value) (sym e)
+        go : (o : Option Value) → or_else o (enum_variant_value f x) ≡ present_of G s x → maybe not_real kind_of_value (present_of G s x) ≡ maybe not_real kind_of_value o
+        go none e = ap (maybe not_real kind_of_value) (sym e) ∙ variant_kind x
+        go (some v) e = ap (maybe not_real kind_of_value) (sym e)
 
     pub kinds : (e : Expr) → Seen S e → real_kind G s e ≡ real_kind_lem f e env
     kinds (bool_lit b) h = refl
@@ -519,8 +519,8 @@ module _ (f : File) (xs : List ℕ) (vs : List Value) where
     kinds (call k es) h = sym (first_is (node_at G k).outputs)
     kinds (tuple es) h = refl
 
-    doubles : (e : Expr) → Seen S e → isDouble? (real_kind G s e) ≡ is_double (real_kind_lem f e env)
-    doubles e h = ap isDouble? (kinds e h) ∙ sym (double_is (real_kind_lem f e env))
+    doubles : (e : Expr) → Seen S e → is_double? (real_kind G s e) ≡ is_double (real_kind_lem f e env)
+    doubles e h = ap is_double? (kinds e h) ∙ sym (double_is (real_kind_lem f e env))
 
     ok_or_tells : (o : Option Value) → Tells (or_failure o) (ok_or other_error o)
     ok_or_tells none = errs other_error

@@ -16,7 +16,7 @@ use Rattle.ol_spec.specs.Syntax.{Expr, bool_lit, int_lit, float_lit, char_lit, v
 use Rattle.ol_spec.specs.Types.{int_tys, int_ty, whole, narrow, fit, cast_to, default}
 use Rattle.ol_spec.specs.Operators.{exact, div_int, mod_int, eq_z, shift_by, unary_of, on_pair, bools, ints, reals, names, unlike, binary_of}
 use Rattle.ol_spec.specs.Order.{reads, reads_all}
-use Rattle.ol_spec.specs.Eval.{callees, callees_all, has_call, RealKind, notReal, is_single, isDouble, join, kind_of_value, kind_of_type, arithmetic, isDouble?, common_real}
+use Rattle.ol_spec.specs.Eval.{callees, callees_all, has_call, RealKind, not_real, is_single, is_double_kind, join, kind_of_value, kind_of_type, arithmetic, is_double?, common_real}
 use Rattle.ol_spec.specs.RustLeaves.{RValue, SimError, uninitialized_pre, binary_not_supported, unary_not_supported, other_error, Result, Ok, Err, Panic, plain, plainly, AReal, both, int_in_lem, real_in, ok_int, in_i64, checked, shift_count, bool_arm, eq_arm, int_arm, real_arm, eval_values, unary_value, narrow_int, cast_plain, fit_to, default_named, default_of_lem, join_kinds, is_double, of_type, of_value, is_arithmetic, widen_beside, has_call_lem, has_calls, same_cycle_reads, all_reads}
 use Rattle.ol_spec.specs.AsRust.{matches, takes, takes_both, error_number}
 use Rattle.ol_spec.specs.Answers.{cause_number}
@@ -442,15 +442,15 @@ default_is_lem enums (enum e) = go (get_or enums e [])
 -- ---- `real_kind`
 
 pub join_is : (a b : RealKind) → join_kinds a b ≡ join a b
-join_is notReal notReal = refl
-join_is notReal is_single = refl
-join_is notReal isDouble = refl
-join_is is_single notReal = refl
+join_is not_real not_real = refl
+join_is not_real is_single = refl
+join_is not_real is_double_kind = refl
+join_is is_single not_real = refl
 join_is is_single is_single = refl
-join_is is_single isDouble = refl
-join_is isDouble notReal = refl
-join_is isDouble is_single = refl
-join_is isDouble isDouble = refl
+join_is is_single is_double_kind = refl
+join_is is_double_kind not_real = refl
+join_is is_double_kind is_single = refl
+join_is is_double_kind is_double_kind = refl
 
 pub type_is : (t : Ty) → of_type t ≡ kind_of_type t
 type_is bool = refl
@@ -467,12 +467,12 @@ value_is (Val.Float x) = refl
 value_is (Val.Float32 x) = refl
 value_is (Val.Enum v) = refl
 
-pub double_is : (k : RealKind) → is_double k ≡ isDouble? k
-double_is notReal = refl
+pub double_is : (k : RealKind) → is_double k ≡ is_double? k
+double_is not_real = refl
 double_is is_single = refl
-double_is isDouble = refl
+double_is is_double_kind = refl
 
-pub arithmetic_is : (op : BinOp) (k : RealKind) → cond (is_arithmetic op) k notReal ≡ arithmetic op k
+pub arithmetic_is : (op : BinOp) (k : RealKind) → cond (is_arithmetic op) k not_real ≡ arithmetic op k
 arithmetic_is And k = refl
 arithmetic_is Or k = refl
 arithmetic_is Xor k = refl

@@ -14,7 +14,7 @@ use Rattle.ol_theory.specs.System as Y
 use Rattle.ol_spec.specs.Lists.{concat, same, member}
 use Rattle.ol_spec.specs.Syntax.{Ty, bool, int, float32, float64, char, enum, Variable, Equation, Node, File, no_node, variables, main}
 use Rattle.ol_spec.specs.Cell.{tag, cells, value_of, values_of, good_cell, good_cells}
-use Rattle.ol_spec.specs.Types.{IntTy, int_in, in_type, default_of, defaults, kind}
+use Rattle.ol_spec.specs.Types.{IntTy, unsigned_to, int_in, in_type, default_of, defaults, kind}
 use Rattle.ol_spec.specs.Limits.{Loader}
 use Rattle.ol_spec.specs.Order.{order}
 use Rattle.ol_spec.specs.Eval.{Globals, callees}
@@ -55,7 +55,7 @@ in_type_tag ens bool v h = eqb→eq (tag v) 0 h
 in_type_tag ens (int c) v h = int_in_tag _ v ens h
 in_type_tag ens float32 v h = eqb→eq (tag v) 3 h
 in_type_tag ens float64 v h = eqb→eq (tag v) 2 h
-in_type_tag ens char v h = int_in_tag _ v ens h
+in_type_tag ens char v h = int_in_tag (unsigned_to 8) v ens h
 in_type_tag ens (enum e) v h = eqb→eq (tag v) 4 (T_and (eqb (tag v) 4) _ h).0
 
 -- ---- answers

@@ -103,8 +103,8 @@ module _ (f : File) (vs : List Value) where
 
   -- these calls of node number k, their records one after the other, by what is asked of a call site
   abbrev pub AtSites : (ℕ → List ℕ → Option State → Type 0) → ℕ → List (ℕ × ℕ) → List ℕ → States → Type 0
-  AtSites A k [] s calls = Unit {0}
-  AtSites A k (c ∷ cs) s calls = A c.1 (take (record_size g c.1) s) (get_state (k, c.0) calls) × AtSites A k cs (drop (record_size g c.1) s) calls
+  AtSites A k [] s kept = Unit {0}
+  AtSites A k (c ∷ cs) s kept = A c.1 (take (record_size g c.1) s) (get_state (k, c.0) kept) × AtSites A k cs (drop (record_size g c.1) s) kept
 
   -- an instance of n, which is node number k, and those of its call sites
   abbrev pub InInstance : (ℕ → List ℕ → Option State → Type 0) → ℕ → Node → List ℕ → State → States → Type 0

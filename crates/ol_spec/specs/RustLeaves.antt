@@ -11,7 +11,7 @@ use Rattle.ol_spec.specs.Numbers.{residue, signed}
 use Rattle.ol_spec.specs.Real.{Real, single, double, zero_r, add_r, sub_r, mul_r, div_r, neg_r, widen, round_single, of_int, truncate, eq_r, lt_r, le_r}
 use Rattle.ol_spec.specs.Syntax.{Ty, bool, int, float32, float64, char, enum, UnaryOp, Not, Neg, BinOp, And, Or, Xor, Implies, Eq, Neq, Lt, Le, Gt, Ge, Add, Sub, Mul, Div, Mod, BitAnd, BitOr, BitXor, Shl, Shr}
 use Rattle.ol_spec.specs.Syntax.{Expr, bool_lit, int_lit, float_lit, char_lit, var, unary, binary, if_then_else, pre, arrow, cast, call, tuple, Exprs, nil, cons}
-use Rattle.ol_spec.specs.Eval.{RealKind, notReal, is_single, isDouble}
+use Rattle.ol_spec.specs.Eval.{RealKind, not_real, is_single, is_double_kind}
 use Rattle.ol_spec.specs.declared.Value.{Value}
 use Rattle.ol_spec.specs.declared.Value.TheVariants as Val
 
@@ -341,33 +341,33 @@ default_of_lem enums (enum e) = default_named (get_or enums e [])
 -- ---- `real_kind` and `common_real`
 
 abbrev pub is_double : RealKind → Bool
-is_double notReal = false
+is_double not_real = false
 is_double is_single = false
-is_double isDouble = true
+is_double is_double_kind = true
 
 abbrev pub is_single_lem : RealKind → Bool
-is_single_lem notReal = false
+is_single_lem not_real = false
 is_single_lem is_single = true
-is_single_lem isDouble = false
+is_single_lem is_double_kind = false
 
 -- a Double on either side, else a Single on either side
 abbrev pub join_kinds : RealKind → RealKind → RealKind
-join_kinds a b = cond (is_double a || is_double b) isDouble (cond (is_single_lem a || is_single_lem b) is_single notReal)
+join_kinds a b = cond (is_double a || is_double b) is_double_kind (cond (is_single_lem a || is_single_lem b) is_single not_real)
 
 abbrev pub of_type : Ty → RealKind
-of_type bool = notReal
-of_type (int c) = notReal
+of_type bool = not_real
+of_type (int c) = not_real
 of_type float32 = is_single
-of_type float64 = isDouble
-of_type char = notReal
-of_type (enum e) = notReal
+of_type float64 = is_double_kind
+of_type char = not_real
+of_type (enum e) = not_real
 
 abbrev pub kind_in_lem : AReal → RealKind
 kind_in_lem (f32 x) = is_single
-kind_in_lem (f64 x) = isDouble
+kind_in_lem (f64 x) = is_double_kind
 
 abbrev pub of_value : Value → RealKind
-of_value v = maybe notReal kind_in_lem (real_in v)
+of_value v = maybe not_real kind_in_lem (real_in v)
 
 abbrev pub is_arithmetic : BinOp → Bool
 is_arithmetic And = false

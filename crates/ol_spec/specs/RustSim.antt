@@ -10,7 +10,7 @@ use Rattle.ol_spec.specs.Syntax.{count, Expr, bool_lit, int_lit, float_lit, char
 use Rattle.ol_spec.specs.RustLeaves.{eval_binary, eval_unary, cast_value, fit_to, default_of_lem, join_kinds, of_type, of_value, is_arithmetic, is_double, widen_beside, has_call_lem}
 pub use Rattle.ol_spec.specs.RustLeaves.{RValue, plain, Tuple, SimError, uninitialized_pre, other_error, Result, Ok, Err, Panic}
 use Rattle.ol_spec.specs.RustOrder.{evaluation_order}
-use Rattle.ol_spec.specs.Eval.{RealKind, notReal, isDouble}
+use Rattle.ol_spec.specs.Eval.{RealKind, not_real, is_double_kind}
 use Rattle.ol_spec.specs.Step.{equation_at}
 use Rattle.ol_spec.specs.declared.Value.{Value}
 use Rattle.ol_spec.specs.declared.Value.TheVariants as Val
@@ -252,23 +252,23 @@ module _ (f : File) where
 
   -- `outputs.first()`
   abbrev pub first_kind : List Variable → RealKind
-  first_kind [] = notReal
+  first_kind [] = not_real
   first_kind (v ∷ vs) = of_type v.ty
 
   abbrev pub real_kind_lem : Expr → Env → RealKind
-  real_kind_lem (bool_lit b) env = notReal
-  real_kind_lem (int_lit i) env = notReal
-  real_kind_lem (float_lit b) env = isDouble
-  real_kind_lem (char_lit c) env = notReal
-  real_kind_lem (var x) env = maybe notReal of_value (get x env)
+  real_kind_lem (bool_lit b) env = not_real
+  real_kind_lem (int_lit i) env = not_real
+  real_kind_lem (float_lit b) env = is_double_kind
+  real_kind_lem (char_lit c) env = not_real
+  real_kind_lem (var x) env = maybe not_real of_value (get x env)
   real_kind_lem (unary op e) env = real_kind_lem e env
-  real_kind_lem (binary op l r) env = cond (is_arithmetic op) (join_kinds (real_kind_lem l env) (real_kind_lem r env)) notReal
+  real_kind_lem (binary op l r) env = cond (is_arithmetic op) (join_kinds (real_kind_lem l env) (real_kind_lem r env)) not_real
   real_kind_lem (if_then_else c t e) env = join_kinds (real_kind_lem t env) (real_kind_lem e env)
   real_kind_lem (pre e) env = real_kind_lem e env
   real_kind_lem (arrow a b) env = join_kinds (real_kind_lem a env) (real_kind_lem b env)
   real_kind_lem (cast t e) env = of_type t
   real_kind_lem (call k es) env = first_kind (find_node k).outputs
-  real_kind_lem (tuple es) env = notReal
+  real_kind_lem (tuple es) env = not_real
 
   -- node number `node` is running, with this environment and state
   module _ (step_instance : StepInstance) (node : ℕ) (env : Env) (st : State) where

@@ -7,7 +7,7 @@ use Rattle.ol_spec.specs.Lists.{maybe, member}
 use Rattle.ol_spec.specs.Syntax.{Node, File, Expr, bool_lit, var, if_then_else, main, variables, variable_names}
 use Rattle.ol_spec.specs.Syntax as S
 use Rattle.ol_spec.specs.Limits.{Loader}
-use Rattle.ol_spec.specs.Eval.{Scope, Calls, has_call, isDouble?, real_kind, common_real, drop_failure, seg_size, eval}
+use Rattle.ol_spec.specs.Eval.{Scope, Calls, has_call, is_double?, real_kind, common_real, drop_failure, seg_size, eval}
 use Rattle.ol_spec.specs.Types.{default_of}
 use Rattle.ol_spec.specs.Step.{is_fresh, old_cells, scope}
 use Rattle.ol_spec.specs.Admission.{constant_names, judge, admitted}
@@ -50,7 +50,7 @@ module _ (f : File) (vs : List Value) (ms : List Made) where
 
   -- whether an expression counts as Double in a cycle
   abbrev pub double_in : Made → Expr → Bool
-  double_in m e = let r = main_record f vs m.old in isDouble? (real_kind (globals_of f vs) (scope (main f) (is_fresh r) (old_cells (main f) r) (given f m)) e)
+  double_in m e = let r = main_record f vs m.old in is_double? (real_kind (globals_of f vs) (scope (main f) (is_fresh r) (old_cells (main f) r) (given f m)) e)
 
   -- the outcomes of e beside o, at the instants
   abbrev pub sides : Expr → (ℕ → List ℕ) → Expr → (ℕ → List ℕ) → ℕ → Option Outcome
@@ -88,7 +88,7 @@ module _ (f : File) (vs : List Value) (calls : Calls) (n : Node) (xs : ℕ → �
   outcomes_at e segs k = (eval (globals_of f vs) (scope_at k) calls e (segs k)).out
 
   abbrev pub sides_at : Expr → (ℕ → List ℕ) → Expr → (ℕ → List ℕ) → ℕ → Outcome
-  sides_at e es o os k = beside (has_call o) (isDouble? (real_kind (globals_of f vs) (scope_at k) o)) (outcomes_at e es k) (outcomes_at o os k)
+  sides_at e es o os k = beside (has_call o) (is_double? (real_kind (globals_of f vs) (scope_at k) o)) (outcomes_at e es k) (outcomes_at o os k)
 
   -- as for the main instance
   pub record InstanceSequences : Type 0 where

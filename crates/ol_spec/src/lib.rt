@@ -1,4 +1,5 @@
 // The types that the relay's public functions and their contracts share.
+#![tactic(auto)]
 
 // A cell's value: the flat choice of Bool, Int, both reals and Enum (a variant's name).
 #[derive(Drop)]

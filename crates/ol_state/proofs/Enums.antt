@@ -14,9 +14,9 @@ use Rattle.ol_spec.specs.Places.{enum_size, placed}
 use Rattle.ol_spec.specs.Encode.{encode, name_bytes, section_bytes}
 use Rattle.ol_spec.specs.Limits.{base, relay_loader}
 use Rattle.ol_spec.specs.Within.{name_fits, count_fits, enum_fits, ty_fits, within}
-use Rattle.ol_spec.specs.Read.{TyCode, boolT, float32T, float64T, charT, enumT, int_t, ty_codes}
+use Rattle.ol_spec.specs.Read.{TyCode, bool_t, float32_t, float64_t, char_t, enum_t, int_t, ty_codes}
 use Rattle.ol_spec.specs.Cell.{tag, cell, value_of, is_variant}
-use Rattle.ol_spec.specs.Types.{IntTy, unsignedTo, int_ty, int_in, in_type}
+use Rattle.ol_spec.specs.Types.{IntTy, unsigned_to, int_ty, int_in, in_type}
 use Rattle.ol_spec.specs.Admission.{variants}
 use Rattle.ol_spec.specs.declared.Value.{Value}
 use Rattle.ol_spec.specs.declared.Value.TheVariants as Val
@@ -118,7 +118,7 @@ enum_names f t e h = (T_and (count_fits 1 32 (length (get_or f.enums e []))) _ (
 
 -- an Enum is of an enum type, which is one of the file's
 pub enum_below : (n code e : ℕ) (v : Value) → T (ty_fits n (ty_of code e)) → in_kind (ty_of code e) v ≡ true → eqb (tag v) 4 ≡ true → e < n
-enum_below n code e v t k q = go (get_or ty_codes code enumT) v t k q
+enum_below n code e v t k q = go (get_or ty_codes code enum_t) v t k q
   where
     differ : {a b : ℕ} (m : ℕ) → eqb m a ≡ true → eqb m b ≡ true → (a ≡ b → ⊥) → ⊥
     differ {a} {b} m p q no_same = no_same (sym (eqb-true m a p) ∙ eqb-true m b q)
@@ -131,11 +131,11 @@ enum_below n code e v t k q = go (get_or ty_codes code enumT) v t k q
     int y (Val.Enum w) k q = let z : ◌≡◌ {A = ℕ} 0 1 = cc in omega arith
 
     go : (c : TyCode) (v : Value) → T (ty_fits n (ty_from e c)) → in_kind (ty_from e c) v ≡ true → eqb (tag v) 4 ≡ true → e < n
-    go boolT v t k q = absurd (differ (tag v) k q (eqb-false 0 4 refl))
-    go float32T v t k q = absurd (differ (tag v) k q (eqb-false 3 4 refl))
-    go float64T v t k q = absurd (differ (tag v) k q (eqb-false 2 4 refl))
-    go charT v t k q = absurd (int (unsignedTo 8) v k q)
-    go enumT v t k q = ltb→lt e n t
+    go bool_t v t k q = absurd (differ (tag v) k q (eqb-false 0 4 refl))
+    go float32_t v t k q = absurd (differ (tag v) k q (eqb-false 3 4 refl))
+    go float64_t v t k q = absurd (differ (tag v) k q (eqb-false 2 4 refl))
+    go char_t v t k q = absurd (int (unsigned_to 8) v k q)
+    go enum_t v t k q = ltb→lt e n t
     go (int_t c) v t k q = absurd (int (int_ty c) v k q)
 
 false_true : false ≡ true → ⊥

@@ -18,8 +18,8 @@ use Rattle.ol_spec.specs.Syntax.{Exprs, nil, cons}
 use Rattle.ol_spec.specs.Numbers.{number_of, signed}
 use Rattle.ol_spec.specs.Places.{expr_size, ty_size, collect, collect_all}
 use Rattle.ol_spec.specs.Read.{got, Reader, then_read, known, byte, or_end, number, coded, count_r, within?, many_exprs, expr_r, expr_body, ty_r}
-use Rattle.ol_spec.specs.Read.{ExprCode, boolCode, intCode, floatCode, charCode, varCode, unaryCode, binaryCode, ifCode, preCode, arrowCode, castCode}
-use Rattle.ol_spec.specs.Read.{callCode, tupleCode, bools, unary_ops, bin_ops, expr_codes, ty_codes, ty_body, TyCode, boolT, float32T, float64T, charT, enumT, int_t}
+use Rattle.ol_spec.specs.Read.{ExprCode, bool_code, int_code, float_code, char_code, var_code, unary_code, binary_code, if_code, pre_code, arrow_code, cast_code}
+use Rattle.ol_spec.specs.Read.{call_code, tuple_code, bools, unary_ops, bin_ops, expr_codes, ty_codes, ty_body, TyCode, bool_t, float32_t, float64_t, char_t, enum_t, int_t}
 use Rattle.ol_spec.specs.Lists.{maybe}
 use Rattle.ol_spec.specs.Limits.{base}
 use Rattle.ol_spec.specs.Eval.{callees, callees_all}
@@ -372,7 +372,7 @@ module _ (s : List ℕ) where
 
   pub bool_form : (level at : ℕ) → Reads s level at → get_or s at 0 ≡ 0 → Formed level at (bool_lit (eqb (get_or s (at + 1) 0) 1)) 0 × (get_or s (at + 1) 0 < 2)
   bool_form level at h c =
-      let b = body_at level at boolCode h (ap (get_elem? expr_codes) c) in
+      let b = body_at level at bool_code h (ap (get_elem? expr_codes) c) in
       let t = steps (coded s bools (at + 1)) _ _ _ b.body in
       let p = code_is bools (at + 1) t.value t.at t.first in
       let v = bool_of (get_or s (at + 1) 0) t.value p.is in
@@ -380,28 +380,28 @@ module _ (s : List ℕ) where
 
   pub int_form : (level at : ℕ) → Reads s level at → get_or s at 0 ≡ 1 → Formed level at (int_lit (signed 64 (number_of 0 (take 8 (drop (at + 1) s))))) 0
   int_form level at h c =
-      let b = body_at level at intCode h (ap (get_elem? expr_codes) c) in
+      let b = body_at level at int_code h (ap (get_elem? expr_codes) c) in
       let t = steps (number s 8 0 (at + 1)) _ _ _ b.body in
       let p = number_is 8 0 (at + 1) t.value t.at (omega (arith, b.within)) t.first in
       leaf level at _ (sym (same_item t.rest) ∙ ap (λ (n : ℕ). int_lit (signed 64 n)) p.is) refl (omega (arith, same_end t.rest, p.ends)) (omega (arith, p.within)) b.deep
 
   pub float_form : (level at : ℕ) → Reads s level at → get_or s at 0 ≡ 2 → Formed level at (float_lit (number_of 0 (take 8 (drop (at + 1) s)))) 0
   float_form level at h c =
-      let b = body_at level at floatCode h (ap (get_elem? expr_codes) c) in
+      let b = body_at level at float_code h (ap (get_elem? expr_codes) c) in
       let t = steps (number s 8 0 (at + 1)) _ _ _ b.body in
       let p = number_is 8 0 (at + 1) t.value t.at (omega (arith, b.within)) t.first in
       leaf level at _ (sym (same_item t.rest) ∙ ap float_lit p.is) refl (omega (arith, same_end t.rest, p.ends)) (omega (arith, p.within)) b.deep
 
   pub char_form : (level at : ℕ) → Reads s level at → get_or s at 0 ≡ 3 → Formed level at (char_lit (get_or s (at + 1) 0)) 0
   char_form level at h c =
-      let b = body_at level at charCode h (ap (get_elem? expr_codes) c) in
+      let b = body_at level at char_code h (ap (get_elem? expr_codes) c) in
       let t = steps (byte s (at + 1)) _ _ _ b.body in
       let p = byte_is (at + 1) t.value t.at t.first in
       leaf level at _ (sym (same_item t.rest) ∙ ap char_lit (sym p.is)) refl (omega (arith, same_end t.rest, p.ends)) (omega (arith, p.within)) b.deep
 
   pub var_form : (level at : ℕ) → Reads s level at → get_or s at 0 ≡ 4 → Formed level at (var (number_of 0 (take 2 (drop (at + 1) s)))) 0
   var_form level at h c =
-      let b = body_at level at varCode h (ap (get_elem? expr_codes) c) in
+      let b = body_at level at var_code h (ap (get_elem? expr_codes) c) in
       let t = steps (number s 2 0 (at + 1)) _ _ _ b.body in
       let p = number_is 2 0 (at + 1) t.value t.at (omega (arith, b.within)) t.first in
       leaf level at _ (sym (same_item t.rest) ∙ ap var p.is) refl (omega (arith, same_end t.rest, p.ends)) (omega (arith, p.within)) b.deep
@@ -435,7 +435,7 @@ module _ (s : List ℕ) where
 
   pub unary_form : (level at : ℕ) → Reads s level at → get_or s at 0 ≡ 5 → (op : UnaryOp) × Formed level at (unary op (first (level - 1) (at + 2))) 1 × (get_elem? unary_ops (get_or s (at + 1) 0) ≡ some op)
   unary_form level at h c =
-      let b = body_at level at unaryCode h (ap (get_elem? expr_codes) c) in
+      let b = body_at level at unary_code h (ap (get_elem? expr_codes) c) in
       let t = steps (coded s unary_ops (at + 1)) _ _ _ b.body in
       let p = code_is unary_ops (at + 1) t.value t.at t.first in
       let w = part_at (level - 1) t.at (at + 2) _ _ _ (omega (arith, p.ends)) t.rest in
@@ -444,7 +444,7 @@ module _ (s : List ℕ) where
 
   pub binary_form : (level at : ℕ) → Reads s level at → get_or s at 0 ≡ 6 → (op : BinOp) × Formed level at (binary op (first (level - 1) (at + 2)) (second (level - 1) (at + 2))) 2 × (get_elem? bin_ops (get_or s (at + 1) 0) ≡ some op)
   binary_form level at h c =
-      let b = body_at level at binaryCode h (ap (get_elem? expr_codes) c) in
+      let b = body_at level at binary_code h (ap (get_elem? expr_codes) c) in
       let t = steps (coded s bin_ops (at + 1)) _ _ _ b.body in
       let p = code_is bin_ops (at + 1) t.value t.at t.first in
       let w = part_at (level - 1) t.at (at + 2) _ _ _ (omega (arith, p.ends)) t.rest in
@@ -455,7 +455,7 @@ module _ (s : List ℕ) where
 
   pub if_form : (level at : ℕ) → Reads s level at → get_or s at 0 ≡ 7 → Formed level at (if_then_else (first (level - 1) (at + 1)) (second (level - 1) (at + 1)) (third (level - 1) (at + 1))) 3
   if_form level at h c =
-      let b = body_at level at ifCode h (ap (get_elem? expr_codes) c) in
+      let b = body_at level at if_code h (ap (get_elem? expr_codes) c) in
       let w = part_at (level - 1) (at + 1) (at + 1) _ _ _ refl b.body in
       let v = part_at (level - 1) _ (end_at s (level - 1) (at + 1)) _ _ _ refl w.rest in
       let u = part_at (level - 1) _ (end_at s (level - 1) (end_at s (level - 1) (at + 1))) _ _ _ refl v.rest in
@@ -465,14 +465,14 @@ module _ (s : List ℕ) where
 
   pub pre_form : (level at : ℕ) → Reads s level at → get_or s at 0 ≡ 8 → Formed level at (pre (first (level - 1) (at + 1))) 1
   pre_form level at h c =
-      let b = body_at level at preCode h (ap (get_elem? expr_codes) c) in
+      let b = body_at level at pre_code h (ap (get_elem? expr_codes) c) in
       let w = part_at (level - 1) (at + 1) (at + 1) _ _ _ refl b.body in
       let o = one_all (level - 1) (at + 1) w.read in
       record { tree = sym (same_item w.rest); parts = sym o.0; read = one_read (level - 1) (at + 1) w.read; ends = sym (same_end w.rest) ∙ sym o.1; inside = omega (arith, b.within); deep = b.deep }
 
   pub arrow_form : (level at : ℕ) → Reads s level at → get_or s at 0 ≡ 9 → Formed level at (arrow (first (level - 1) (at + 1)) (second (level - 1) (at + 1))) 2
   arrow_form level at h c =
-      let b = body_at level at arrowCode h (ap (get_elem? expr_codes) c) in
+      let b = body_at level at arrow_code h (ap (get_elem? expr_codes) c) in
       let w = part_at (level - 1) (at + 1) (at + 1) _ _ _ refl b.body in
       let v = part_at (level - 1) _ (end_at s (level - 1) (at + 1)) _ _ _ refl w.rest in
       let r = cons_all_lem (level - 1) 1 (at + 1) w.read (one_read (level - 1) _ v.read) in
@@ -482,28 +482,28 @@ module _ (s : List ℕ) where
   -- a type that was read
 
   code_number : TyCode → ℕ
-  code_number boolT = 0
+  code_number bool_t = 0
   code_number (int_t c) = c
-  code_number float32T = 9
-  code_number float64T = 10
-  code_number charT = 11
-  code_number enumT = 12
+  code_number float32_t = 9
+  code_number float64_t = 10
+  code_number char_t = 11
+  code_number enum_t = 12
 
   code_size : TyCode → ℕ
-  code_size boolT = 1
+  code_size bool_t = 1
   code_size (int_t c) = 1
-  code_size float32T = 1
-  code_size float64T = 1
-  code_size charT = 1
-  code_size enumT = 2
+  code_size float32_t = 1
+  code_size float64_t = 1
+  code_size char_t = 1
+  code_size enum_t = 2
 
   CodeProper : TyCode → Type 0
-  CodeProper boolT = Unit {0}
+  CodeProper bool_t = Unit {0}
   CodeProper (int_t c) = (1 ≤ c) × (c ≤ 8)
-  CodeProper float32T = Unit {0}
-  CodeProper float64T = Unit {0}
-  CodeProper charT = Unit {0}
-  CodeProper enumT = Unit {0}
+  CodeProper float32_t = Unit {0}
+  CodeProper float64_t = Unit {0}
+  CodeProper char_t = Unit {0}
+  CodeProper enum_t = Unit {0}
 
   type_code : (b : ℕ) (c : TyCode) → get_elem? ty_codes b ≡ some c → (code_number c ≡ b) × (code_size c ≡ cond (eqb b 12) 2 1) × CodeProper c
   unfolding code_number code_size CodeProper
@@ -532,11 +532,11 @@ module _ (s : List ℕ) where
 
   type_body : (c : TyCode) (at m : ℕ) (t : Ty) (n : ℕ) → at < length s → m ≡ at + 1 → code_number c ≡ get_or s at 0 → code_size c ≡ cond (eqb (get_or s at 0) 12) 2 1 → CodeProper c → ty_body s (limits_at s) (enums_at s) c m ≡ got t n → TypeIs at t n
   unfolding code_number code_size CodeProper
-  type_body boolT at m t n w e c z o h = rw (← same_item h) (record { code = c; size = z; proper = o; inside = omega arith; ends = sym (same_end h) ∙ e })
-  type_body float32T at m t n w e c z o h = rw (← same_item h) (record { code = c; size = z; proper = o; inside = omega arith; ends = sym (same_end h) ∙ e })
-  type_body float64T at m t n w e c z o h = rw (← same_item h) (record { code = c; size = z; proper = o; inside = omega arith; ends = sym (same_end h) ∙ e })
-  type_body charT at m t n w e c z o h = rw (← same_item h) (record { code = c; size = z; proper = o; inside = omega arith; ends = sym (same_end h) ∙ e })
-  type_body enumT at m t n w e c z o h =
+  type_body bool_t at m t n w e c z o h = rw (← same_item h) (record { code = c; size = z; proper = o; inside = omega arith; ends = sym (same_end h) ∙ e })
+  type_body float32_t at m t n w e c z o h = rw (← same_item h) (record { code = c; size = z; proper = o; inside = omega arith; ends = sym (same_end h) ∙ e })
+  type_body float64_t at m t n w e c z o h = rw (← same_item h) (record { code = c; size = z; proper = o; inside = omega arith; ends = sym (same_end h) ∙ e })
+  type_body char_t at m t n w e c z o h = rw (← same_item h) (record { code = c; size = z; proper = o; inside = omega arith; ends = sym (same_end h) ∙ e })
+  type_body enum_t at m t n w e c z o h =
       let u = steps (coded s _ m) _ t n h in
       let p = code_is _ m u.value u.at u.first in
       rw (← same_item u.rest) (record { code = c; size = z; proper = o; inside = omega (arith, p.within); ends = sym (same_end u.rest) ∙ omega (arith, p.ends) })
@@ -550,7 +550,7 @@ module _ (s : List ℕ) where
 
   pub cast_form : (level at : ℕ) → Reads s level at → get_or s at 0 ≡ 10 → (t : Ty) × Formed level at (cast t (first (level - 1) (at + (1 + ty_size t)))) 1 × (ty_code t ≡ get_or s (at + 1) 0) × (ty_size t ≡ cond (eqb (get_or s (at + 1) 0) 12) 2 1) × Proper t
   cast_form level at h c =
-      let b = body_at level at castCode h (ap (get_elem? expr_codes) c) in
+      let b = body_at level at cast_code h (ap (get_elem? expr_codes) c) in
       let t = steps (ty_r s (limits_at s) (enums_at s) (at + 1)) _ _ _ b.body in
       let p = type_is (at + 1) t.value t.at t.first in
       let m = at + (1 + ty_size t.value) in
@@ -570,7 +570,7 @@ module _ (s : List ℕ) where
 
   pub call_form : (level at : ℕ) → Reads s level at → get_or s at 0 ≡ 11 → Formed level at (call (get_or s (at + 1) 0) (exprs_at s (level - 1) (get_or s (at + 2) 0) (at + 3))) (get_or s (at + 2) 0) × (get_or s (at + 2) 0 ≤ 32)
   call_form level at h c =
-      let b = body_at level at callCode h (ap (get_elem? expr_codes) c) in
+      let b = body_at level at call_code h (ap (get_elem? expr_codes) c) in
       let t = steps (byte s (at + 1)) _ _ _ b.body in
       let p = byte_is (at + 1) t.value t.at t.first in
       let a : t.at ≡ at + 2 = omega (arith, p.ends) in
@@ -591,7 +591,7 @@ module _ (s : List ℕ) where
 
   pub tuple_form : (level at : ℕ) → Reads s level at → get_or s at 0 ≡ 12 → Formed level at (tuple (exprs_at s (level - 1) (get_or s (at + 1) 0) (at + 2))) (get_or s (at + 1) 0) × (get_or s (at + 1) 0 ≤ 16)
   tuple_form level at h c =
-      let b = body_at level at tupleCode h (ap (get_elem? expr_codes) c) in
+      let b = body_at level at tuple_code h (ap (get_elem? expr_codes) c) in
       let u = steps (count_r s 2 (limits_at s).items (at + 1)) _ _ _ b.body in
       let q = count_is 2 (limits_at s).items (at + 1) u.value u.at u.first in
       let w = many_at (level - 1) u.value u.at (at + 2) _ _ _ (omega (arith, q.ends)) u.rest in (

@@ -1,6 +1,6 @@
 -- The definitions at work, on numbers.
 use Rattle.std.specs.Prelude.{◌≡◌, refl, ℕ, zero, suc, ◌+◌, get_or}
-use Rattle.std.proofs.Math.Logic.{Dec·and, Dec·not}
+use Rattle.std.proofs.Math.Logic.Dec as Dec
 use mathlib.Core.List.{List, [], ◌∷◌, flat_map}
 use Rattle.std.proofs.Math.Decide.{ℕ_discrete}
 use Rattle.ol_theory.specs.Member.{from, upto, mem?, all?}
@@ -14,7 +14,7 @@ backward (suc zero) = 2 ∷ []
 backward (suc (suc i)) = []
 
 backward_order : order 3 backward ≡ 2 ∷ 1 ∷ 0 ∷ []
-unfolding order passes pass ready? mem? all? from ℕ_discrete Dec·and Dec·not backward
+unfolding order passes pass ready? mem? all? from ℕ_discrete Dec.and Dec.not backward
 backward_order = refl
 
 -- 1 reads from 0, 2 from 1: one pass places all
@@ -23,11 +23,11 @@ forward zero = []
 forward (suc i) = i ∷ []
 
 forward_order : order 3 forward ≡ 0 ∷ 1 ∷ 2 ∷ []
-unfolding order passes pass ready? mem? all? from ℕ_discrete Dec·and Dec·not forward
+unfolding order passes pass ready? mem? all? from ℕ_discrete Dec.and Dec.not forward
 forward_order = refl
 
 forward_40 : order 40 forward ≡ upto 40
-unfolding order passes pass ready? mem? all? from ℕ_discrete Dec·and Dec·not forward
+unfolding order passes pass ready? mem? all? from ℕ_discrete Dec.and Dec.not forward
 forward_40 = refl
 
 -- 1 and 2 read from one another: 0 and 3 are placed
@@ -38,7 +38,7 @@ ring (suc (suc zero)) = 1 ∷ []
 ring (suc (suc (suc i))) = 0 ∷ []
 
 ring_order : order 4 ring ≡ 0 ∷ 3 ∷ []
-unfolding order passes pass ready? mem? all? from ℕ_discrete Dec·and Dec·not ring
+unfolding order passes pass ready? mem? all? from ℕ_discrete Dec.and Dec.not ring
 ring_order = refl
 
 -- Two equations over four slots; 2 and 3 are inputs. Equation 0: slot 0 is slot 1 plus its memory, and the memory becomes slot 1.
@@ -51,7 +51,7 @@ abbrev pub sum : System ℕ ℕ
 sum = record { n = 2; m = 4; lhs = λ i. i ∷ []; reads = λ i. suc i ∷ []; eval = eval; kind = λ v. 0; no_cell = 0; no_mem = 0 }
 
 sum_order : order 2 (deps sum) ≡ 1 ∷ 0 ∷ []
-unfolding order passes pass ready? mem? all? from ℕ_discrete Dec·and Dec·not deps flat_map
+unfolding order passes pass ready? mem? all? from ℕ_discrete Dec.and Dec.not deps flat_map
 sum_order = refl
 
 pub sum_run : run_eqs sum (1 ∷ 0 ∷ []) (0 ∷ 0 ∷ 7 ∷ 5 ∷ []) (30 ∷ 2 ∷ []) ≡ finished (37 ∷ 7 ∷ 7 ∷ 5 ∷ []) (7 ∷ 3 ∷ [])

@@ -1,6 +1,7 @@
 -- Ordering n equations by what they read from: the definitions. Equation i < n reads from the equations `deps i`.
 -- proofs/OrderProof has the theorems.
-use Rattle.std.proofs.Math.Logic.{ite, Dec·and, Dec·not}
+use Rattle.std.proofs.Math.Logic.{ite}
+use Rattle.std.proofs.Math.Logic.Dec as Dec
 use Rattle.std.specs.Prelude.{List, [], ◌∷◌, ◌++◌, ℕ, zero, suc, ◌<◌}
 use Rattle.ol_theory.specs.Member.{◌∈◌, upto, mem?, all?}
 
@@ -11,7 +12,7 @@ abbrev pub Ready : (ℕ → List ℕ) → List ℕ → ℕ → Type 0
 Ready deps placed i = (¬ (i ∈ placed)) × ((d : ℕ) → d ∈ deps i → d ∈ placed)
 
 unfoldable pub ready? : (deps : ℕ → List ℕ) (placed : List ℕ) (i : ℕ) → Dec (Ready deps placed i)
-ready? deps placed i = Dec·and (Dec·not (mem? i placed)) (all? (deps i) placed)
+ready? deps placed i = Dec.and (Dec.not (mem? i placed)) (all? (deps i) placed)
 
 -- One pass: each equation of the list in turn is placed, if it may be then.
 unfoldable pub pass : (ℕ → List ℕ) → List ℕ → List ℕ → List ℕ

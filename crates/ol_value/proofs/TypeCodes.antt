@@ -11,7 +11,7 @@ use lib.IntN.{ℤ}
 use lib.Ieee.{Float}
 use lib.ListN.{get_or, get_elem?}
 use Rattle.ol_spec.specs.Syntax.{Ty, bool, int, float32, float64, char, enum}
-use Rattle.ol_spec.specs.Read.{TyCode, boolT, float32T, float64T, charT, enumT, int_t, ty_codes}
+use Rattle.ol_spec.specs.Read.{TyCode, bool_t, float32_t, float64_t, char_t, enum_t, int_t, ty_codes}
 use Rattle.ol_spec.specs.Types.{fit, cast_to, cast_real, in_type}
 use Rattle.ol_spec.specs.Lists.{member}
 use Rattle.ol_spec.specs.Cell.{tag, is_variant}
@@ -25,7 +25,7 @@ use Rattle.ol_value.proofs.Backs.{no_true}
 use Rattle.ol_value.proofs.Widths.{no_some, rangeless}
 
 -- the cases of a code
-by_code : (P : ℕ → TyCode → Type 0) → P 0 boolT → ((c : ℕ) → 1 ≤ c → c ≤ 8 → P c (int_t c)) → P 9 float32T → P 10 float64T → P 11 charT → ((c : ℕ) → 12 ≤ c → P c enumT) → (code : ℕ) → P code (get_or ty_codes code enumT)
+by_code : (P : ℕ → TyCode → Type 0) → P 0 bool_t → ((c : ℕ) → 1 ≤ c → c ≤ 8 → P c (int_t c)) → P 9 float32_t → P 10 float64_t → P 11 char_t → ((c : ℕ) → 12 ≤ c → P c enum_t) → (code : ℕ) → P code (get_or ty_codes code enum_t)
 by_code P b i f d c e zero = b
 by_code P b i f d c e (suc zero) = i 1 (omega arith) (omega arith)
 by_code P b i f d c e (suc (suc zero)) = i 2 (omega arith) (omega arith)
@@ -157,34 +157,34 @@ module _ (e : ℕ) where
 
 -- what is left of `in_type` where `in_type` has answered: an enum's name is one of its variants
 pub in_type_is : (enums : List (List ℕ)) (code e : ℕ) (v : Value) → in_type enums (ty_of code e) v ≡ in_kind (ty_of code e) v && is_variant (get_or enums e []) v
-in_type_is enums code e v = go (get_or ty_codes code enumT) v
+in_type_is enums code e v = go (get_or ty_codes code enum_t) v
   where
     and_true : (b : Bool) → b ≡ b && true
     and_true true = refl
     and_true false = refl
 
     go : (t : TyCode) (v : Value) → in_type enums (ty_from e t) v ≡ in_kind (ty_from e t) v && is_variant (get_or enums e []) v
-    go boolT (Val.Bool b) = refl
-    go boolT (Val.Int i) = refl
-    go boolT (Val.Float x) = refl
-    go boolT (Val.Float32 x) = refl
-    go boolT (Val.Enum w) = refl
-    go float32T (Val.Bool b) = refl
-    go float32T (Val.Int i) = refl
-    go float32T (Val.Float x) = refl
-    go float32T (Val.Float32 x) = refl
-    go float32T (Val.Enum w) = refl
-    go float64T (Val.Bool b) = refl
-    go float64T (Val.Int i) = refl
-    go float64T (Val.Float x) = refl
-    go float64T (Val.Float32 x) = refl
-    go float64T (Val.Enum w) = refl
-    go charT (Val.Bool b) = refl
-    go charT (Val.Int i) = and_true _
-    go charT (Val.Float x) = refl
-    go charT (Val.Float32 x) = refl
-    go charT (Val.Enum w) = refl
-    go enumT v = refl
+    go bool_t (Val.Bool b) = refl
+    go bool_t (Val.Int i) = refl
+    go bool_t (Val.Float x) = refl
+    go bool_t (Val.Float32 x) = refl
+    go bool_t (Val.Enum w) = refl
+    go float32_t (Val.Bool b) = refl
+    go float32_t (Val.Int i) = refl
+    go float32_t (Val.Float x) = refl
+    go float32_t (Val.Float32 x) = refl
+    go float32_t (Val.Enum w) = refl
+    go float64_t (Val.Bool b) = refl
+    go float64_t (Val.Int i) = refl
+    go float64_t (Val.Float x) = refl
+    go float64_t (Val.Float32 x) = refl
+    go float64_t (Val.Enum w) = refl
+    go char_t (Val.Bool b) = refl
+    go char_t (Val.Int i) = and_true _
+    go char_t (Val.Float x) = refl
+    go char_t (Val.Float32 x) = refl
+    go char_t (Val.Enum w) = refl
+    go enum_t v = refl
     go (int_t c) (Val.Bool b) = refl
     go (int_t c) (Val.Int i) = and_true _
     go (int_t c) (Val.Float x) = refl
@@ -210,4 +210,4 @@ entry_known (x ∷ l) zero a d e = cc
 entry_known (x ∷ l) (suc n) a d e = entry_known l n a d e
 
 pub ty_known : (code : ℕ) {t : TyCode} → get_elem? ty_codes code ≡ some t → (e : ℕ) → ty_of code e ≡ ty_from e t
-ty_known code {t} h e = ap (ty_from e) (entry_known ty_codes code t enumT h)
+ty_known code {t} h e = ap (ty_from e) (entry_known ty_codes code t enum_t h)

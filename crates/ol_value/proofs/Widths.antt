@@ -17,8 +17,8 @@ use mir.Val.{SFits, to_z}
 use mir.Facts.{to_z-of_z, to_z_pos}
 use Rattle.ol_spec.specs.Numbers.{residue, signed}
 use Rattle.ol_spec.specs.Syntax.{Ty, bool, int, float32, float64, char, enum}
-use Rattle.ol_spec.specs.Read.{enumT, ty_codes}
-use Rattle.ol_spec.specs.Types.{IntTy, signedTo, unsignedTo, whole, int_tys, int_ty, narrow, in_range, default, fit, cast_int, cast_to}
+use Rattle.ol_spec.specs.Read.{enum_t, ty_codes}
+use Rattle.ol_spec.specs.Types.{IntTy, signed_to, unsigned_to, whole, int_tys, int_ty, narrow, in_range, default, fit, cast_int, cast_to}
 use Rattle.ol_spec.specs.declared.Value.{Value}
 use Rattle.ol_spec.specs.declared.Value.TheVariants as Val
 use Rattle.ol_value.specs.declared.narrowing.TypeRow.{TypeRow}
@@ -45,10 +45,10 @@ pub table_entry : (code : ℕ) → code < 13 → (d : ℕ) (e : ℕ) → row_say
 table_entry code l d e =
     entry_is (λ b. row_says (row_of b)) table code l d (none, false)
     ∙ ap (λ rs. get_or rs code (none, false)) (table_rule e)
-    ∙ sym (entry_is (λ t. row_for (ty_from e t)) ty_codes code l enumT (none, false))
+    ∙ sym (entry_is (λ t. row_for (ty_from e t)) ty_codes code l enum_t (none, false))
 
 pub table_end : (code : ℕ) → 13 ≤ code → (e : ℕ) → row_says (row_of 0) ≡ row_for (ty_of code e)
-table_end code l e = sym (ap (λ t. row_for (ty_from e t)) (get_or-eq_default ty_codes enumT l))
+table_end code l e = sym (ap (λ t. row_for (ty_from e t)) (get_or-eq_default ty_codes enum_t l))
 
 abbrev AllNarrow : List IntTy → Type 0
 AllNarrow [] = Unit {0}
@@ -100,7 +100,7 @@ module _ (t : TypeRow) where
   cast_row ty h s v = narrowed (λ ty. cast_int (int_ty_of t) v ≡ cast_to ty v) ty h s (λ c e. ap (λ n. cast_int n v) e)
 
   -- it has a width: the type is an integer type or Char
-  ranged : (P : Ty → Type 0) (ty : Ty) → row_says t ≡ row_for ty → (t.bits ≡ 0 → ⊥) → ((c : ℕ) → int_ty_of t ≡ int_ty c → P (int c)) → (int_ty_of t ≡ unsignedTo 8 → P char) → P ty
+  ranged : (P : Ty → Type 0) (ty : Ty) → row_says t ≡ row_for ty → (t.bits ≡ 0 → ⊥) → ((c : ℕ) → int_ty_of t ≡ int_ty c → P (int c)) → (int_ty_of t ≡ unsigned_to 8 → P char) → P ty
   ranged P ty h n k l = go ty (rw (ne_eqb t.bits 0 n) at (ap (λ p. p.0) h))
     where
       go : (ty : Ty) → some (int_ty_of t) ≡ (row_for ty).0 → P ty
@@ -196,15 +196,15 @@ module _ (t : TypeRow) where
   pub whole_is : t.bits ≡ 64 → int_ty_of t ≡ whole
   whole_is e = rw (eq_eqb t.bits 64 e)
 
-  pub signed_ty : (t.bits ≡ 64 → ⊥) → t.signed ≡ true → int_ty_of t ≡ signedTo t.bits
+  pub signed_ty : (t.bits ≡ 64 → ⊥) → t.signed ≡ true → int_ty_of t ≡ signed_to t.bits
   signed_ty n s = rw (ne_eqb t.bits 64 n, s)
 
-  pub unsigned_ty : (t.bits ≡ 64 → ⊥) → t.signed ≡ false → int_ty_of t ≡ unsignedTo t.bits
+  pub unsigned_ty : (t.bits ≡ 64 → ⊥) → t.signed ≡ false → int_ty_of t ≡ unsigned_to t.bits
   unsigned_ty n s = rw (ne_eqb t.bits 64 n, s)
 
   pub narrow_bits : (t.bits ≡ 64 → ⊥) → Narrow (int_ty_of t) → (0 < t.bits) × (t.bits ≤ 32)
   narrow_bits n h = go t.signed (rw (ne_eqb t.bits 64 n) at h)
     where
-      go : (s : Bool) → Narrow (cond s (signedTo t.bits) (unsignedTo t.bits)) → (0 < t.bits) × (t.bits ≤ 32)
+      go : (s : Bool) → Narrow (cond s (signed_to t.bits) (unsigned_to t.bits)) → (0 < t.bits) × (t.bits ≤ 32)
       go true p = p
       go false p = p

@@ -4,8 +4,8 @@ use Rattle.std.proofs.Math.Option.{Option, none, some}
 use Rattle.std.proofs.Math.ListN.{get_elem?}
 use Rattle.ol_spec.specs.Lists.{maybe}
 use Rattle.ol_spec.specs.Syntax.{Ty, bool, int, float32, float64, char, enum}
-use Rattle.ol_spec.specs.Read.{TyCode, boolT, float32T, float64T, charT, enumT, int_t, ty_codes, unary_ops, bin_ops}
-use Rattle.ol_spec.specs.Types.{IntTy, signedTo, unsignedTo, whole, int_ty, int_in}
+use Rattle.ol_spec.specs.Read.{TyCode, bool_t, float32_t, float64_t, char_t, enum_t, int_t, ty_codes, unary_ops, bin_ops}
+use Rattle.ol_spec.specs.Types.{IntTy, signed_to, unsigned_to, whole, int_ty, int_in}
 use Rattle.ol_spec.specs.Cell.{tag}
 use Rattle.ol_spec.specs.Real.{single, double}
 use Rattle.ol_spec.specs.Operators.{unary_of, Pair, bools, ints, reals, names, unlike, pair, on_pair}
@@ -22,7 +22,7 @@ use Rattle.ol_value.specs.declared.pairs.Operands.TheVariants as Opd
 
 -- a row's width and sign; 64 bits leave the number
 abbrev pub int_ty_of : TypeRow → IntTy
-int_ty_of t = cond (eqb t.bits 64) whole (cond t.signed (signedTo t.bits) (unsignedTo t.bits))
+int_ty_of t = cond (eqb t.bits 64) whole (cond t.signed (signed_to t.bits) (unsigned_to t.bits))
 
 -- a row of the table by type code, from its byte: the width, and 1 if storing narrows, and 2 if there is a sign
 abbrev pub row_of : ℕ → TypeRow
@@ -38,28 +38,28 @@ row_for bool = (none, false)
 row_for (int c) = (some (int_ty c), true)
 row_for float32 = (none, false)
 row_for float64 = (none, false)
-row_for char = (some (unsignedTo 8), false)
+row_for char = (some (unsigned_to 8), false)
 row_for (enum e) = (none, false)
 
 -- the widths that narrow: 1 to 32 bits
 abbrev pub Narrow : IntTy → Type 0
-Narrow (signedTo b) = (0 < b) × (b ≤ 32)
-Narrow (unsignedTo b) = (0 < b) × (b ≤ 32)
+Narrow (signed_to b) = (0 < b) × (b ≤ 32)
+Narrow (unsigned_to b) = (0 < b) × (b ≤ 32)
 Narrow whole = Unit {0}
 
 -- ---- types
 
 -- the type that a code starts, with the enum's number behind it. A code above 12 is read as 12: a file with one is turned back
 abbrev pub ty_from : ℕ → TyCode → Ty
-ty_from e boolT = bool
-ty_from e float32T = float32
-ty_from e float64T = float64
-ty_from e charT = char
-ty_from e enumT = enum e
+ty_from e bool_t = bool
+ty_from e float32_t = float32
+ty_from e float64_t = float64
+ty_from e char_t = char
+ty_from e enum_t = enum e
 ty_from e (int_t c) = int c
 
 abbrev pub ty_of : ℕ → ℕ → Ty
-ty_of code e = ty_from e (get_or ty_codes code enumT)
+ty_of code e = ty_from e (get_or ty_codes code enum_t)
 
 abbrev pub is_number : Value → Bool
 is_number (Val.Bool b) = false
@@ -82,7 +82,7 @@ in_kind bool v = eqb (tag v) 0
 in_kind (int c) v = int_in [] (int_ty c) v
 in_kind float32 v = eqb (tag v) 3
 in_kind float64 v = eqb (tag v) 2
-in_kind char v = int_in [] (unsignedTo 8) v
+in_kind char v = int_in [] (unsigned_to 8) v
 in_kind (enum e) v = eqb (tag v) 4
 
 -- ---- operators

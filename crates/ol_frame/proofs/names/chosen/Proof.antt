@@ -1,6 +1,6 @@
 -- <uses>
 use mathlib.Core.Path.{◌≡◌, refl, sym, ap, subst, ◌∙◌}
-use Rattle.ol_spec.specs.Eval.{RealKind, real_kind, isDouble?}
+use Rattle.ol_spec.specs.Eval.{RealKind, real_kind, is_double?}
 use Rattle.ol_tables.specs.At.{expr_at}
 use mathlib.Core.Bool.{Bool, true, false}
 use Rattle.ol_frame.specs.Outcomes.{common_out}
@@ -41,7 +41,7 @@ same_out_requires c κs = search rules
 returns : tie.Need-returns
 returns c =
     let start = c.before.before.before.before.before.before in
-    c.common-out.ensures ∙ ap (λ (k : RealKind). common_out (isDouble? k) start.args.taken) c.before.real-kind.ensures
+    c.common-out.ensures ∙ ap (λ (k : RealKind). common_out (is_double? k) start.args.taken) c.before.real-kind.ensures
 
 -- src/names.rt:214:1
 returns_2 : tie.Need-returns-2

@@ -1,6 +1,6 @@
 -- <uses>
 use mathlib.Core.Path.{◌≡◌, refl, sym, ap, subst, ◌∙◌}
-use Rattle.ol_spec.specs.Eval.{isDouble?}
+use Rattle.ol_spec.specs.Eval.{is_double?}
 use Rattle.ol_spec.specs.declared.Outcome.TheVariants as Out
 use Rattle.ol_frame.specs.Outcomes.{common_out, kind_of}
 use Rattle.ol_frame.proofs.RealKinds.{common_none}
@@ -44,25 +44,25 @@ enum-told-4 c = search rules
 returns : tie.Need-returns
 returns c =
     let o = c.before.before.before.o.given.1 in
-    ap Out.Value (sym (common_none c.before.before.before.o.given.0.0)) ∙ (λ i. common_out (isDouble? (kind_of (sym c.enum_told.given.1 i))) (sym o i))
+    ap Out.Value (sym (common_none c.before.before.before.o.given.0.0)) ∙ (λ i. common_out (is_double? (kind_of (sym c.enum_told.given.1 i))) (sym o i))
 
 -- src/outcomes.rt:204:1
 returns_2 : tie.Need-returns-2
 returns_2 c =
     let o = c.before.before.before.o.given.1 in
-    ap Out.Value (sym (common_none c.before.before.before.o.given.0.0)) ∙ (λ i. common_out (isDouble? (kind_of (sym c.enum-told2.given.1 i))) (sym o i))
+    ap Out.Value (sym (common_none c.before.before.before.o.given.0.0)) ∙ (λ i. common_out (is_double? (kind_of (sym c.enum-told2.given.1 i))) (sym o i))
 
 -- src/outcomes.rt:204:1
 returns_3 : tie.Need-returns-3
 returns_3 c =
     let o = c.before.before.before.before.o.given.1 in
-    ap Out.Value c.widened.ensures ∙ (λ i. common_out (isDouble? (kind_of (sym c.before.enum-told3.given.1 i))) (sym o i))
+    ap Out.Value c.widened.ensures ∙ (λ i. common_out (is_double? (kind_of (sym c.before.enum-told3.given.1 i))) (sym o i))
 
 -- src/outcomes.rt:204:1
 returns_4 : tie.Need-returns-4
 returns_4 c =
     let start = c.before.before.before in
-    ap (common_out (isDouble? (kind_of start.args.kind))) (sym c.before.o2.given.1)
+    ap (common_out (is_double? (kind_of start.args.kind))) (sym c.before.o2.given.1)
 
 -- src/outcomes.rt:204:1
 returns_5 : tie.Need-returns-5

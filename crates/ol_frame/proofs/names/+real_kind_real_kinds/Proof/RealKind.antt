@@ -6,7 +6,7 @@ use Prim.Native.Nat.{ℕ, ◌+◌, ◌-◌, ◌*◌, ◌≤◌, ◌<◌}
 use native.Mathlib.Omega.{arith}
 use lib.ListN.{get_or, length}
 use Rattle.ol_spec.specs.Syntax.{Expr}
-use Rattle.ol_spec.specs.Eval.{real_kind, RealKind, notReal, join, arithmetic, present_of}
+use Rattle.ol_spec.specs.Eval.{real_kind, RealKind, not_real, join, arithmetic, present_of}
 use Rattle.ol_spec.specs.declared.Outcome.{Outcome}
 use Rattle.ol_tables.specs.At.{expr_at, node_in}
 use Rattle.ol_tables.proofs.Forms.{reads_in, reads_deep, float_form, var_form, unary_form, binary_form, if_form, pre_form, arrow_form, cast_form, call_form, by_form, one_tree, type_some}
@@ -482,7 +482,7 @@ returns_12 t c =
     let h = plan_head f p in
     let g = globals_in f kk in
     let sc = scope_in f n false cl cl in
-    by_form f (λ c e. ¬ (c ≡ 2) → ¬ (c ≡ 4) → ¬ (c ≡ 5) → ¬ (c ≡ 6) → ¬ (c ≡ 7) → ¬ (c ≡ 8) → ¬ (c ≡ 9) → ¬ (c ≡ 10) → ¬ (c ≡ 11) → notReal ≡ real_kind g sc e)
+    by_form f (λ c e. ¬ (c ≡ 2) → ¬ (c ≡ 4) → ¬ (c ≡ 5) → ¬ (c ≡ 6) → ¬ (c ≡ 7) → ¬ (c ≡ 8) → ¬ (c ≡ 9) → ¬ (c ≡ 10) → ¬ (c ≡ 11) → not_real ≡ real_kind g sc e)
     (λ b n2 n4 n5 n6 n7 n8 n9 n10 n11. refl) (λ i n2 n4 n5 n6 n7 n8 n9 n10 n11. refl) (λ b n2 n4 n5 n6 n7 n8 n9 n10 n11. absurd (n2 refl)) (λ c n2 n4 n5 n6 n7 n8 n9 n10 n11. refl) (λ x n2 n4 n5 n6 n7 n8 n9 n10 n11. absurd (n4 refl))
     (λ op e n2 n4 n5 n6 n7 n8 n9 n10 n11. absurd (n5 refl)) (λ op l r n2 n4 n5 n6 n7 n8 n9 n10 n11. absurd (n6 refl)) (λ c t e n2 n4 n5 n6 n7 n8 n9 n10 n11. absurd (n7 refl)) (λ e n2 n4 n5 n6 n7 n8 n9 n10 n11. absurd (n8 refl))
     (λ a b n2 n4 n5 n6 n7 n8 n9 n10 n11. absurd (n9 refl)) (λ t e n2 n4 n5 n6 n7 n8 n9 n10 n11. absurd (n10 refl)) (λ k es n2 n4 n5 n6 n7 n8 n9 n10 n11. absurd (n11 refl)) (λ es n2 n4 n5 n6 n7 n8 n9 n10 n11. refl) L a h
