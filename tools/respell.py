@@ -92,6 +92,11 @@ def plan(root):
 
 
 def turned(text, turns, comments):
+    # What a file takes from a library keeps its spelling there.
+    kept = set()
+    for path, items in re.findall(r"(?m)^(?:pub |ghost )?use ([\w.]+)\.\{([^}]*)\}", text):
+        if not os.path.isdir("crates/" + (path.split(".") + [""])[1]):
+            kept |= {it.split(" as ")[-1].strip() for it in items.split(",")}
     is_proof = re.search(r"(?m)^use Rattle\.\S+ as tie$", text) is not None
     def one(m):
         part = m[0]
@@ -99,6 +104,8 @@ def turned(text, turns, comments):
             return part
         if part[:2] in ("--", "//"):
             return part[:2] + re.sub(r"[\w'-]+", lambda w: turns.get(w[0], w[0]) if re.search("[a-z][A-Z]", w[0]) else w[0], part[2:]) if comments else part
+        if part in kept:
+            return part
         if "-" in part and is_proof and text[m.start() - 1 : m.start()] == ".":
             return part
         # Behind a dot stands a step or a path, which has the name of a function.

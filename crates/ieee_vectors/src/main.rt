@@ -3,6 +3,7 @@
 // has. Each mismatch is written as the row with the result found here, and at the end the counts.
 // Free are which bytes a read gives and whether a write takes them: `tell_row`, `tell_others`,
 // `tell_cut` and `main` only write, and promise nothing of it.
+#![tactic(auto)]
 mod operations; // operations.rt: the result of an operation
 mod sweeps; // sweeps.rt: rows that stand for 64 operations each
 

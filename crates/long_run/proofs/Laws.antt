@@ -1,5 +1,5 @@
 -- Laws of the run: a cycle counted, a pair, a turn, and the file's start.
-use Rattle.std.proofs.Common.{◌≡◌, ℕ, ◌+◌, ◌/◌, ◌%◌, Bool, true, false, cond, ◌&&◌, eqb, List, [], ◌∷◌, sym, refl, ap, ◌∙◌, add-one, arith, eq_eqb, ne_eqb, eqb-true}
+use Rattle.std.proofs.Common.{◌≡◌, ℕ, ◌+◌, ◌/◌, ◌%◌, Bool, true, false, cond, ◌&&◌, eqb, List, [], ◌∷◌, sym, refl, ap, ◌∙◌, add-one, arith, eq-eqb, ne_eqb, eqb-true}
 use Rattle.ol_spec.specs.Cycle.{start, cycle}
 use Rattle.ol_spec.specs.Limits.{relay_loader}
 use Rattle.ol_spec.specs.declared.Cycled.{Cycled}
@@ -18,7 +18,7 @@ and_true false c e = let z : ◌≡◌ {A = ℕ} 0 1 = cc in absurd (omega arith
 agree_same : (a : List ℕ) → all_agree a a ≡ true
 unfolding all_agree
 agree_same [] = refl
-agree_same (x ∷ a) = rw (eq_eqb x x refl) (agree_same a)
+agree_same (x ∷ a) = rw (eq-eqb x x refl) (agree_same a)
 
 agree_equal : (a b : List ℕ) → all_agree a b ≡ true → a ≡ b
 unfolding all_agree

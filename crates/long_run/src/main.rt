@@ -1,5 +1,6 @@
 // A million cycles of the counter and of the feeder file, each on the state that the one before it left. make.py says what the standard input holds.
 // Free are which bytes a read gives and whether a write takes them: `tell`, `tell_cut`, `tell_left` and `main` promise nothing of it.
+#![tactic(auto)]
 ghost use Rattle.std.specs.Prelude.{◌≡◌, ◌≤◌, length};
 ghost use Rattle.long_run.specs.Runs.{is_answered, is_done, more, none, Stepped, Stands, stand, both, inputs_at, after, run_of, Ran};
 

@@ -1,6 +1,6 @@
 -- Fault 6 by the table of sorts: where declarations stand in the order of their sorts, the last one of a name decides whether the next one clashes.
 use Prim.Native.Nat.{ℕ, suc, ◌+◌, ◌≤◌, ◌<◌}
-use mathlib.Core.Bool.{Bool, true, false, not, ◌&&◌, ◌||◌, or_true}
+use mathlib.Core.Bool.{Bool, true, false, not, ◌&&◌, ◌||◌, or-true}
 use mathlib.Core.List.{List, [], ◌∷◌, ◌++◌, map, append_assoc}
 use mathlib.Core.Logic.{◌⊎◌, inl, inr, ⊎_elim, by_cases}
 use mathlib.Core.Option.{Option}
@@ -10,7 +10,7 @@ use native.Mathlib.Decide.{dec_le}
 use lib.ListN.{length, get_or, set, length-set}
 use lib.Seq.{get_or-set_same, get_or-set_other}
 use lib.Dec.{ltb, leb, eqb}
-use borrow.Author.Tests.{ltb-true, lt-ltb, leb-true, le-leb, lt-leb, eqb-true, eq_eqb, ne_eqb}
+use borrow.Author.Tests.{ltb-true, lt-ltb, leb-true, le-leb, lt-leb, eqb-true, eq-eqb, ne_eqb}
 use Rattle.ol_spec.specs.Lists.{any_of, concat}
 use Rattle.ol_spec.specs.Syntax.{Node, File}
 use Rattle.ol_spec.specs.Places.{placed, placed_enums, placed_constants, placed_nodes, placed_names, placed_variables, enum_size, node_size, nodes_start}
@@ -36,7 +36,7 @@ met last sort e =
 meet : (last sort : ℕ) → Meets last sort → meets last sort ≡ true
 meet last sort h =
     rw (lt-ltb 0 last h.0)
-    (⊎_elim (λ a. rw (eq_eqb last sort a) refl) (λ b. rw (le-leb last 17 b.0, le-leb 17 sort b.1) (or_true (eqb last sort))) h.1)
+    (⊎_elim (λ a. rw (eq-eqb last sort a) refl) (λ b. rw (le-leb last 17 b.0, le-leb 17 sort b.1) (or-true (eqb last sort))) h.1)
 
 pub clashes_none : (last sort : ℕ) → last ≡ 0 → false ≡ meets last sort
 clashes_none last sort e = rw e refl
@@ -67,7 +67,7 @@ positive (variable k) = omega arith
 told : (u w : Sort) → Small u → Small w → sort_code w ≤ sort_code u → not (apart u w) ≡ meets (sort_code w) (sort_code u)
 told (variant i) (variant j) a b le =
     eq_cases i j
-    (λ e. rw (eq_eqb i j e) (sym (meet (j + 1) (i + 1) (omega arith, inl (omega arith)))))
+    (λ e. rw (eq-eqb i j e) (sym (meet (j + 1) (i + 1) (omega arith, inl (omega arith)))))
     (λ e. rw (ne_eqb i j e) (sym (never (meets (j + 1) (i + 1)) (λ t. let m = met (j + 1) (i + 1) t in ⊎_elim (λ q. e (omega arith)) (λ q. omega (arith, q.1)) m.1))))
 told (variant i) constant a b le = absurd (omega arith)
 told (variant i) (variable k) a b le = absurd (omega arith)
@@ -78,7 +78,7 @@ told (variable k) (variant j) a b le = sym (meet (j + 1) (k + 18) (omega arith, 
 told (variable k) constant a b le = sym (meet 17 (k + 18) (omega arith, inr (omega arith, omega arith)))
 told (variable i) (variable j) a b le =
     eq_cases i j
-    (λ e. rw (eq_eqb i j e) (sym (meet (j + 18) (i + 18) (omega arith, inl (omega arith)))))
+    (λ e. rw (eq-eqb i j e) (sym (meet (j + 18) (i + 18) (omega arith, inl (omega arith)))))
     (λ e. rw (ne_eqb i j e) (sym (never (meets (j + 18) (i + 18)) (λ t. let m = met (j + 18) (i + 18) t in ⊎_elim (λ q. e (omega arith)) (λ q. omega (arith, q.0)) m.1))))
 
 -- where the one between did not clash, it decides alone
@@ -116,7 +116,7 @@ tells_step {sorts} {earlier} {most} t d small le lt un =
           (λ e. rw e (omega (arith, get_or-set_same sorts d.name c 0 lt)))
           (λ ne. omega (arith, get_or-set_other sorts d.name x c 0 ne, t.high x));
       tells = λ x u a b. eq_cases x d.name
-          (λ e. rw (e, eq_eqb d.name d.name refl, get_or-set_same sorts d.name c 0 lt, told u d.sort a small b, t.tells d.name u a (omega arith))
+          (λ e. rw (e, eq-eqb d.name d.name refl, get_or-set_same sorts d.name c 0 lt, told u d.sort a small b, t.tells d.name u a (omega arith))
           (between (get_or sorts d.name 0) c (sort_code u) (positive d.sort) (omega (arith, t.high d.name)) b un))
           (λ ne. rw (ne_eqb x d.name ne, get_or-set_other sorts d.name x c 0 ne) (t.tells x u a (omega arith)));
     }

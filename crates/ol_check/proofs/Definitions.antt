@@ -11,7 +11,7 @@ use native.Mathlib.Nat.{zero-add}
 use lib.ListN.{length, get_or, set, replicate, length-set, length-replicate, get_or-replicate, length-map, get_or-eq_default}
 use lib.Seq.{get_or-set_same, get_or-set_other}
 use lib.Dec.{ltb, leb, eqb}
-use borrow.Author.Tests.{not_true, not_false, ne_eqb, eq_eqb, eqb-true, le-leb, lt-leb, lt-ltb, le-ltb}
+use borrow.Author.Tests.{not-true, not-false, ne_eqb, eq-eqb, eqb-true, le-leb, lt-leb, lt-ltb, le-ltb}
 use Rattle.ol_spec.specs.Lists.{maybe, member, position, position_if, concat}
 use Rattle.ol_spec.specs.Syntax.{Equation, Node, File, variables, variable_names, name_of, no_node}
 use Rattle.ol_spec.specs.Places.{placed, placed_nodes, placed_equations, placed_constants, node_size, nodes_start, rhs_place}
@@ -104,11 +104,11 @@ module _ (names : List ℕ) (visible : List ℕ) (global : Global names) (knows 
       eq_cases (get_or names x 0) 0
       (λ z. go (position x (variable_names n)) refl
       (declare_free x names (variable_entries 0 (variables n)) (entries_ok (length names) 0 (variables n) covered) z ∙ variable_entry x 0 (variables n))
-      (not_true (member x visible) (sym (knows x) ∙ eq_eqb (get_or names x 0) 0 z)))
+      (not-true (member x visible) (sym (knows x) ∙ eq-eqb (get_or names x 0) 0 z)))
       (λ nz.
       let same = declare_high x names (variable_entries 0 (variables n)) (omega arith) in
       by_cases (dec_le (get_or names x 0) 112) (λ low. absurd (nz (global x low)))
-      (λ high. outer (omega arith) (not_false (member x visible) (sym (knows x) ∙ ne_eqb (get_or names x 0) 0 nz))))
+      (λ high. outer (omega arith) (not-false (member x visible) (sym (knows x) ∙ ne_eqb (get_or names x 0) 0 nz))))
     where
       go : (p : Option ℕ) → position x (variable_names n) ≡ p → entry_of x ≡ maybe 0 (λ i. 0 + i + 1) p → member x visible ≡ false → Entry x
       go none ep e m = unknown e
@@ -145,7 +145,7 @@ module _ (names : List ℕ) (visible : List ℕ) (global : Global names) (knows 
   agrees_next defined taken y room known agrees x declared =
       let defined' = set defined (entry_of y) 1 in
       eq_cases x y
-      (λ q. subst (λ z. taken_b defined' inputs (entry_of z) ≡ true) (sym q) (marked (entry_is y)) ∙ sym (ap (λ b. b || member x taken) (eq_eqb x y q)))
+      (λ q. subst (λ z. taken_b defined' inputs (entry_of z) ≡ true) (sym q) (marked (entry_is y)) ∙ sym (ap (λ b. b || member x taken) (eq-eqb x y q)))
       (λ ne. other ne (entry_is x) (entry_is y) ∙ agrees x declared ∙ sym (ap (λ b. b || member x taken) (ne_eqb x y ne)))
     where
       marked : Entry y → taken_b (set defined (entry_of y) 1) inputs (entry_of y) ≡ true
@@ -194,7 +194,7 @@ clean_names : (table visible : List ℕ) → Knows table visible → (ps qs : Li
 clean_names table visible knows [] qs e = tt
 clean_names table visible knows (p ∷ ps) qs e =
     let w = clean_step (not (member p.1 visible)) p.0 (first (unseen visible (ps ++ qs))) e in
-    (λ z. let q : true ≡ false = sym (eq_eqb (get_or table p.1 0) 0 z) ∙ knows p.1 ∙ w.0 in let y : ◌≡◌ {A = ℕ} 0 1 = cc in omega arith, clean_names table visible knows ps qs w.1)
+    (λ z. let q : true ≡ false = sym (eq-eqb (get_or table p.1 0) 0 z) ∙ knows p.1 ∙ w.0 in let y : ◌≡◌ {A = ℕ} 0 1 = cc in omega arith, clean_names table visible knows ps qs w.1)
 
 -- of all equations
 clean_equations : (table visible : List ℕ) → Knows table visible → (qs : List (ℕ × Equation)) → first (concat (map (equation_uses visible) qs)) ≡ none → Each (λ p. get_or table p.1 0 ≡ 0 → ⊥) (concat (map defined_by qs))

@@ -9,7 +9,7 @@ use native.Mathlib.Decide.{dec_le}
 use lib.ListN.{length, get_or, set, length-set, get_or-eq_default}
 use lib.Seq.{get_or-set_same, get_or-set_other, ext_get_or, set_out}
 use lib.Dec.{T, ltb, leb, eqb, eqb→eq}
-use borrow.Author.Tests.{le-leb, lt-leb, ne_eqb, eqb-true, eqb-false, leb-true, leb-false, eq_eqb}
+use borrow.Author.Tests.{le-leb, lt-leb, ne_eqb, eqb-true, eqb-false, leb-true, leb-false, eq-eqb}
 use Rattle.ol_spec.specs.Lists.{member, any_of}
 use Rattle.ol_spec.specs.Syntax.{Variable, name_of}
 use Rattle.ol_tables.specs.Tables.{Each}
@@ -86,7 +86,7 @@ member_move y x (z ∷ a) b = ap (λ m. eqb y z || m) (member_move y x a b) ∙ 
 pub knows_step : (names visible : List ℕ) (x e : ℕ) → Knows names visible → x < length names → 1 ≤ e → Knows (declared names x e) (x ∷ visible)
 knows_step names visible x e k lt he y =
     eq_cases y x
-    (λ q. rw (q, eq_eqb x x refl)
+    (λ q. rw (q, eq-eqb x x refl)
     (eq_cases (get_or names x 0) 0
     (λ z. rw (declared_free names x e z, get_or-set_same names x e 0 lt) (ne_eqb e 0 (λ w. omega arith)))
     (λ nz. rw (declared_taken names x e nz) (ne_eqb (get_or names x 0) 0 nz))))

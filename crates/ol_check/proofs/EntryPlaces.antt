@@ -8,7 +8,7 @@ use native.Mathlib.Omega.{arith}
 use lib.ListN.{length, get_or}
 use lib.Seq.{get_or-set_same}
 use lib.Dec.{eqb}
-use borrow.Author.Tests.{ne_eqb, eq_eqb}
+use borrow.Author.Tests.{ne_eqb, eq-eqb}
 use Rattle.ol_spec.specs.Lists.{maybe, member, position, position_if}
 use Rattle.ol_spec.specs.Syntax.{Variable, Constant, name_of, constant_name}
 use Rattle.ol_tables.specs.Tables.{Each}
@@ -28,7 +28,7 @@ declare_free x names (d ∷ ds) ok z =
     (λ q.
     let zd : get_or names d.0 0 ≡ 0 = ap (λ n. get_or names n 0) (sym q) ∙ z in
     let put : get_or names' x 0 ≡ d.1 = ap (λ n. get_or names' n 0) q ∙ ap (λ l. get_or l d.0 0) (declared_free names d.0 d.1 zd) ∙ get_or-set_same names d.0 d.1 0 ok.0.0 in
-    declare_high x names' ds (omega (arith, ok.0.1)) ∙ put ∙ sym (ap (λ b. cond b d.1 (entry_in ds x)) (eq_eqb x d.0 q)))
+    declare_high x names' ds (omega (arith, ok.0.1)) ∙ put ∙ sym (ap (λ b. cond b d.1 (entry_in ds x)) (eq-eqb x d.0 q)))
     (λ ne.
     declare_free x names' ds (subst (λ n. Each (Enterable n) ds) (sym same) ok.1) (declared_other names d.0 d.1 x ne ∙ z)
     ∙ sym (ap (λ b. cond b d.1 (entry_in ds x)) (ne_eqb x d.0 ne)))

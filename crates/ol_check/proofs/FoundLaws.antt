@@ -8,7 +8,7 @@ use native.Mathlib.Omega.{arith}
 use lib.ListN.{length, get_or, set}
 use lib.Seq.{get_or-set_same, get_or-set_other, set-get_or}
 use lib.Dec.{eqb}
-use borrow.Author.Tests.{eq_eqb, ne_eqb}
+use borrow.Author.Tests.{eq-eqb, ne_eqb}
 use Rattle.ol_spec.specs.Lists.{or_else}
 use Rattle.ol_spec.specs.Admission.{first_if}
 use Rattle.ol_check.specs.Founds.{earliest, place_at, first_place, first_of, mark_place}
@@ -31,7 +31,7 @@ mark_other found j k q at ne = ap place_at (get_or-set_other found j k (first_pl
 -- a fault that is the first, one behind the first, and none
 module _ (found : List ℕ) (j : ℕ) (q : Bool) (at : ℕ) where
   pub mark_first : q ≡ true → get_or found j 0 ≡ 65536 → set found j at ≡ mark_place found j q at
-  mark_first t e = rw (t, eq_eqb (get_or found j 0) 65536 e) refl
+  mark_first t e = rw (t, eq-eqb (get_or found j 0) 65536 e) refl
 
   pub mark_later : (get_or found j 0 ≡ 65536 → ⊥) → found ≡ mark_place found j q at
   mark_later ne = rw (ne_eqb (get_or found j 0) 65536 ne) (sym (set-get_or found j 0))

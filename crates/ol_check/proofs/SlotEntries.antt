@@ -9,7 +9,7 @@ use native.Mathlib.Nat.{zero-add}
 use lib.ListN.{length, get_or, set}
 use lib.Seq.{get_or-set_same}
 use lib.Dec.{eqb}
-use borrow.Author.Tests.{ne_eqb, eq_eqb, eqb-true}
+use borrow.Author.Tests.{ne_eqb, eq-eqb, eqb-true}
 use Rattle.ol_spec.specs.Lists.{maybe, member, position, position_if}
 use Rattle.ol_spec.specs.Syntax.{Variable, Constant, Node, File, variables, variable_names, name_of, constant_name}
 use Rattle.ol_spec.specs.Admission.{variants, constant_names}

@@ -8,7 +8,7 @@ use mathlib.Core.Path.{◌≡◌, refl, sym, ap, ◌∙◌}
 use native.Mathlib.Omega.{arith}
 use lib.ListN.{length, get_or}
 use lib.Dec.{eqb}
-use borrow.Author.Tests.{eq_eqb, eqb-true}
+use borrow.Author.Tests.{eq-eqb, eqb-true}
 use Rattle.ol_spec.specs.Lists.{member, any_of, concat}
 use Rattle.ol_spec.specs.Syntax.{Variable, Constant, Node, File, name_of, constant_name, variable_names, no_node}
 use Rattle.ol_spec.specs.Places.{placed, placed_enums, placed_constants, placed_nodes, placed_names, placed_variables, enum_size, constant_size, variable_size, node_size}
@@ -46,7 +46,7 @@ seen_clash : (x n : ℕ) (d : Declared) (e : List Declared) → d.name ≡ x →
 seen_clash x n d [] ex ek s = absurd s
 seen_clash x n d (u ∷ e) ex ek s =
     ⊎_elim
-    (λ h. ap (λ b. b || any_of (clash d) e) (ap (λ b. b && not (apart d.sort u.sort)) (eq_eqb d.name u.name (ex ∙ sym h.0)) ∙ ap not (apart_kinds d.sort u.sort (λ q. omega (arith, h.1)))))
+    (λ h. ap (λ b. b || any_of (clash d) e) (ap (λ b. b && not (apart d.sort u.sort)) (eq-eqb d.name u.name (ex ∙ sym h.0)) ∙ ap not (apart_kinds d.sort u.sort (λ q. omega (arith, h.1)))))
     (λ h. or_behind (clash d u) (any_of (clash d) e) (seen_clash x n d e ex ek h)) s
 
 -- so no later one of that kind declares it

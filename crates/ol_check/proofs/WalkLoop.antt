@@ -7,7 +7,7 @@ use mathlib.Core.Path.{◌≡◌, refl, sym, ap, ◌∙◌}
 use native.Mathlib.Omega.{arith}
 use lib.ListN.{length, get_or, length-set}
 use lib.Dec.{ltb, eqb}
-use borrow.Author.Tests.{eq_eqb, ne_eqb}
+use borrow.Author.Tests.{eq-eqb, ne_eqb}
 use Rattle.ol_spec.proofs.Walks.{first_append}
 use Rattle.ol_spec.specs.Lists.{sum}
 use Rattle.ol_spec.specs.Syntax.{Exprs, nil, cons, count}
@@ -156,7 +156,7 @@ module _ {s names rows : List ℕ} {nodes k parts at : ℕ} {slots₀ : List ℕ
           → WalkGoing s names rows nodes k parts at slots₀ found₀ z₀ slots' found' z (left - 1 + p.count) p.start
       walk_var {b} {slots'} {found'} eb four long small es ef =
           let is4 : get_or s next 0 ≡ 4 = sym eb.is ∙ four in
-          let yes : eqb (get_or s next 0) 4 ≡ true = eq_eqb (get_or s next 0) 4 is4 in
+          let yes : eqb (get_or s next 0) 4 ≡ true = eq-eqb (get_or s next 0) 4 is4 in
           let lt : get_or s next 0 < 11 = omega (arith, is4) in
           let q = eqb (get_or names (name_at s (next + 1)) 0) 0 in
           walk_turn slots' found' q false 1 0 z

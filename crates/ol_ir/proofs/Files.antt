@@ -8,7 +8,7 @@ use native.Mathlib.Decide.{dec_le}
 use native.Mathlib.Omega.{arith}
 use lib.ListN.{length, get_or}
 use lib.Dec.{eqb}
-use borrow.Author.Tests.{lt-ltb, le-ltb, eq_eqb, ne_eqb, eqb-true, eqb-false}
+use borrow.Author.Tests.{lt-ltb, le-ltb, eq-eqb, ne_eqb, eqb-true, eqb-false}
 use Rattle.ol_spec.specs.Syntax.{File}
 use Rattle.ol_spec.specs.Limits.{base, relay_loader}
 use Rattle.ol_spec.specs.Read.{Read, got, fault, Reader, then_read, give, many, count_r, section_r, read_file}
@@ -94,7 +94,7 @@ module _ (s : List ℕ) where
     module _ (some : length s ≡ 0 → ⊥) where
       pub file_known : get_or s 0 0 ≡ 1 → read_file s relay_loader ≡ after_format s base
       unfolding read_file after_format then_read
-      file_known h = rw (le-ltb 32768 (length s) short, byte_in s 0 (omega arith), eq_eqb (get_or s 0 0) 1 h) refl
+      file_known h = rw (le-ltb 32768 (length s) short, byte_in s 0 (omega arith), eq-eqb (get_or s 0 0) 1 h) refl
 
       pub file_unknown : (get_or s 0 0 ≡ 1 → ⊥) → read_file s relay_loader ≡ fault 3 0
       unfolding read_file then_read

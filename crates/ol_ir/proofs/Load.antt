@@ -8,7 +8,7 @@ use native.Mathlib.Omega.{arith}
 use lib.ListN.{length, get_or, get_elem?}
 use lib.Seq.{sets}
 use lib.Dec.{ltb, eqb}
-use borrow.Author.Tests.{lt-ltb, le-ltb, eq_eqb, ne_eqb}
+use borrow.Author.Tests.{lt-ltb, le-ltb, eq-eqb, ne_eqb}
 use Rattle.ol_spec.specs.Syntax.{Node, Constant, File}
 use Rattle.ol_spec.specs.Places.{placed, enum_size, constant_size, node_size, placed_nodes, nodes_start}
 use Rattle.ol_spec.specs.Limits.{base}
@@ -227,12 +227,12 @@ module _ (s : List ℕ) where
   module _ (short : length s ≤ 32768) where
     pub places_empty : length s ≡ 0 → [] ≡ load_places s
     unfolding load_places
-    places_empty h = sym (rw (le-ltb 32768 (length s) short, eq_eqb (length s) 0 h) refl)
+    places_empty h = sym (rw (le-ltb 32768 (length s) short, eq-eqb (length s) 0 h) refl)
 
     module _ (some : length s ≡ 0 → ⊥) where
       pub places_known : get_or s 0 0 ≡ 1 → file_places s base ≡ load_places s
       unfolding load_places
-      places_known h = sym (rw (le-ltb 32768 (length s) short, ne_eqb (length s) 0 some, eq_eqb (get_or s 0 0) 1 h) refl)
+      places_known h = sym (rw (le-ltb 32768 (length s) short, ne_eqb (length s) 0 some, eq-eqb (get_or s 0 0) 1 h) refl)
 
       pub places_unknown : (get_or s 0 0 ≡ 1 → ⊥) → [] ≡ load_places s
       unfolding load_places

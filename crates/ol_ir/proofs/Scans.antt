@@ -7,7 +7,7 @@ use mathlib.Core.Logic.{by_cases}
 use mathlib.Core.Path.{◌≡◌, refl, sym, ap, ◌∙◌}
 use native.Mathlib.Decide.{dec_le, ℕ_discrete}
 use native.Mathlib.Omega.{arith}
-use borrow.Author.Tests.{lt-ltb, le-ltb, eq_eqb, ne_eqb}
+use borrow.Author.Tests.{lt-ltb, le-ltb, eq-eqb, ne_eqb}
 use lib.ListN.{length, get_or, get_elem?}
 use Rattle.ol_spec.specs.Syntax.{Expr, bool_lit, int_lit, float_lit, char_lit, var, unary, binary, if_then_else, pre, arrow, cast, call, tuple, count}
 use Rattle.ol_spec.specs.Places.{expr_size}
@@ -107,16 +107,16 @@ module _ (s : List ℕ) (l : Limits) (enums d at : ℕ) (e : Expr) (n : ℕ) (g 
   unfolding scan_at
   scan_told =
       ap (λ b. cond b (scan_inside s at) (Scn.Parts 0 at)) (lt-ltb at (length s) (expr_at_lem s l enums d at e n g).inside)
-      ∙ (by_cases (ℕ_discrete (get_or s at 0) 4) (λ b. rw (eq_eqb (get_or s at 0) 4 b) (scan_var b))
+      ∙ (by_cases (ℕ_discrete (get_or s at 0) 4) (λ b. rw (eq-eqb (get_or s at 0) 4 b) (scan_var b))
       (λ u. rw (ne_eqb (get_or s at 0) 4 u)
-      (by_cases (ℕ_discrete (get_or s at 0) 8) (λ b. rw (eq_eqb (get_or s at 0) 8 b) (scan_pre b)) (λ v. rw (ne_eqb (get_or s at 0) 8 v) (scan_parts u v)))))
+      (by_cases (ℕ_discrete (get_or s at 0) 8) (λ b. rw (eq-eqb (get_or s at 0) 8 b) (scan_pre b)) (λ v. rw (ne_eqb (get_or s at 0) 8 v) (scan_parts u v)))))
 
 -- what the scan finds, by the bytes
 module _ (s : List ℕ) (at : ℕ) where
   module _ (h : at < length s) where
     pub scans_name : get_or s at 0 ≡ 4 → Scn.Name (name_at s (at + 1)) (at + 3) ≡ scan_at s at
     unfolding scan_at
-    scans_name b = sym (rw (lt-ltb at (length s) h, eq_eqb (get_or s at 0) 4 b) refl)
+    scans_name b = sym (rw (lt-ltb at (length s) h, eq-eqb (get_or s at 0) 4 b) refl)
 
     pub scans_pre : get_or s at 0 ≡ 8 → Scn.Parts 0 (skip_at s 1 (at + 1)) ≡ scan_at s at
     unfolding scan_at

@@ -8,7 +8,7 @@ use native.Mathlib.Numerals.{add-one}
 use native.Mathlib.Omega.{arith}
 use lib.ListN.{length, get_or, set}
 use lib.Seq.{sets}
-use borrow.Author.Tests.{lt-ltb, eq_eqb, ne_eqb}
+use borrow.Author.Tests.{lt-ltb, eq-eqb, ne_eqb}
 use Rattle.ol_spec.specs.Lists.{up_to}
 use Rattle.ol_spec.specs.Syntax.{Expr, bool_lit, int_lit, float_lit, char_lit, var, unary, binary, if_then_else, pre, arrow, cast, call, tuple, Exprs, nil}
 use Rattle.ol_spec.specs.Syntax.{cons, count, Equation, Node}
@@ -146,7 +146,7 @@ module _ (s : List ℕ) (l : Limits) (enums d at : ℕ) (e : Expr) (n : ℕ) (r 
       let t = steps (ty_r s l enums (at + 1)) _ (count (parts_of e)) (at + head_size e) (sym (head_is s l enums at 10 cast_code x.inside c refl) ∙ x.head) in
       let q : next_of (ty_r s l enums (at + 1)) ≡ Nxt.At (at + head_size e) = ap next_of t.first ∙ ap Nxt.At (same_end t.rest) in
       let size : at + 1 + ty_size_at s (at + 1) ≡ at + head_size e =
-      by_cases (ℕ_discrete (get_or s (at + 1) 0) 12) (λ y. rw (eq_eqb (get_or s (at + 1) 0) 12 y) (omega (arith, type_two s l enums (at + 1) (at + head_size e) q y)))
+      by_cases (ℕ_discrete (get_or s (at + 1) 0) 12) (λ y. rw (eq-eqb (get_or s (at + 1) 0) 12 y) (omega (arith, type_two s l enums (at + 1) (at + head_size e) q y)))
       (λ z. rw (ne_eqb (get_or s (at + 1) 0) 12 z) (omega (arith, type_one s l enums (at + 1) (at + head_size e) q z))) in
       (rw c (same_item t.rest), rw (lt-ltb at (length s) x.inside, c) size)
 

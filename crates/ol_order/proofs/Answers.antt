@@ -7,7 +7,7 @@ use native.Mathlib.Omega.{arith}
 use mathlib.Core.Option.{some}
 use lib.ListN.{length, get_or, take, drop, replicate, length-replicate, take-append-drop}
 use lib.Seq.{sets, sets-eq}
-use borrow.Author.Tests.{eq_eqb, ne_eqb}
+use borrow.Author.Tests.{eq-eqb, ne_eqb}
 use Rattle.ol_spec.specs.Syntax.{Equation}
 use Rattle.ol_spec.specs.Order.{order}
 use Rattle.ol_spec.specs.Cycle.{OrderingCall, no_order}
@@ -106,7 +106,7 @@ module _ {qs : List Equation} {before o : List ℕ} {first : ℕ} (starts buf : 
 
     pub answer_done : length buf ≡ length qs → ordered ≡ order_of qs starts buf
     unfolding order_of
-    answer_done f = sym (rw (so.placed h, eq_eqb (length buf) (length qs) f) (ap (λ l. ordered_as l) (sym (so.order h))))
+    answer_done f = sym (rw (so.placed h, eq-eqb (length buf) (length qs) f) (ap (λ l. ordered_as l) (sym (so.order h))))
       where
         ordered_as : List ℕ → OrderingCall
         ordered_as l = record { answer = Sort.Done; buffer = l }

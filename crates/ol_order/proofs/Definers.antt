@@ -11,7 +11,7 @@ use native.Mathlib.Omega.{arith}
 use lib.ListN.{length, get_or, set, take, drop, replicate, length-set, length-map, drop_of_length-le, get_or-eq_default}
 use lib.Seq.{drop-cons, take-suc, get_or-take, length-take-le, get_or-set_same, get_or-set_other}
 use lib.Dec.{eqb}
-use borrow.Author.Tests.{eqb-true, eqb-false, eq_eqb, ne_eqb}
+use borrow.Author.Tests.{eqb-true, eqb-false, eq-eqb, ne_eqb}
 use Rattle.ol_spec.specs.Lists.{member}
 use Rattle.ol_spec.specs.Syntax.{Equation}
 use Rattle.ol_spec.specs.Order.{later, definer_from, definer}
@@ -213,7 +213,7 @@ module _ (s : List ℕ) (x left at : ℕ) (w : Bool) (e : member x (names_at lef
         go (suc m) h f = let one : suc m - 1 ≡ m = omega arith in rw one (ap (λ v. eqb x v || member x (on_places (name_r s at) (names_at m s))) c ∙ f)
 
     pub among_here : x ≡ y → true ≡ w
-    among_here h = sym (ap (λ b. b || member x (on_places (name_r s at) (names_at (left - 1) s))) (eq_eqb x y h)) ∙ first_name
+    among_here h = sym (ap (λ b. b || member x (on_places (name_r s at) (names_at (left - 1) s))) (eq-eqb x y h)) ∙ first_name
 
     module _ (n : x ≡ y → ⊥) {z : Next} (g : z ≡ next_of (name_r s at)) where
       next_names : member x (on_places (name_r s at) (names_at (left - 1) s)) ≡ w

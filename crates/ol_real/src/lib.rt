@@ -1,5 +1,6 @@
 // The conversions between integers, singles, doubles and bits, each worked out exactly as IEEE 754
 // defines it. specs/Ieee754.antt has the definition, and specs/Holds.antt what is proved of it.
+#![tactic(auto)]
 
 ghost use Rattle.std.specs.Prelude.{◌≡◌, ◌*◌, ◌^◌, ◌<◌, ◌≤◌, false, pos};
 ghost use Rattle.std.specs.Float.Ieee.{round};

@@ -1,4 +1,5 @@
 // The public entry for C: include/ol_sim.h. The number is the result, 0 where there is no fault; the place goes through a pointer.
+#![tactic(auto)]
 ghost use Rattle.std.specs.Prelude.{◌≡◌};
 ghost use Rattle.ol_spec.specs.Limits.{relay_loader};
 ghost use Rattle.ol_spec.specs.Admission.{admission};

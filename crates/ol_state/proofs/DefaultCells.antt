@@ -4,7 +4,7 @@ use mathlib.Core.List.{List, [], ◌∷◌, ◌++◌, append_assoc, append-nil}
 use mathlib.Core.Path.{◌≡◌, refl, sym, ap, ◌∙◌}
 use native.Mathlib.Omega.{arith}
 use lib.ListN.{length, take, drop, get_or, set, length-append, length-drop}
-use lib.Seq.{take_length, drop-length}
+use lib.Seq.{take-length, drop-length}
 use Rattle.ol_spec.specs.Types.{default}
 use Rattle.ol_spec.proofs.Cells.{length_cell}
 use Rattle.ol_value.specs.Codes.{ty_of}
@@ -51,7 +51,7 @@ own_written (y ∷ out) cells x n h e =
     let m : suc (length out) - 1 ≡ length out = omega arith in
     let k : 1 + n ≡ suc n = omega arith in
     ap (λ l. 0 ∷ x ++ l) (ap (λ i. drop i out) m ∙ drop-length out)
-    ∙ ap {B = List ℕ} (λ l. 0 ∷ l) (append-nil x ∙ e ∙ ap (λ l. cells ++ drop n l) (ap (λ i. take i out) m ∙ take_length out))
+    ∙ ap {B = List ℕ} (λ l. 0 ∷ l) (append-nil x ∙ e ∙ ap (λ l. cells ++ drop n l) (ap (λ i. take i out) m ∙ take-length out))
     ∙ ap (λ i. 0 ∷ cells ++ drop i (y ∷ out)) (sym k)
 
 pub own_long : (out cells : List ℕ) (n : ℕ) → 1 + n ≤ length out → length cells ≡ n → length (0 ∷ cells ++ drop (1 + n) out) ≡ length out

@@ -7,7 +7,7 @@ use native.Mathlib.Omega.{arith}
 use lib.Dec.{T, leb, leb→le}
 use lib.ListN.{length, take, drop, get_or, drop_of_length-le, length-append, get_or-append, get_or-map}
 use lib.Seq.{drop-cons, drop-drop}
-use borrow.Author.Tests.{eq_eqb, ne_eqb}
+use borrow.Author.Tests.{eq-eqb, ne_eqb}
 use Rattle.ol_spec.specs.Syntax.{Ty, bool, int, float32, float64, char, enum, Variable, Node, File, main, variables, type_of}
 use Rattle.ol_spec.specs.Cell.{value_of, good_cell}
 use Rattle.ol_spec.specs.Types.{in_type}
@@ -118,4 +118,4 @@ module _ {f : File} {s tab rows : List ℕ} (known : Known f s tab rows) where
 
     pub inputs_each : {n : ℕ} (r : List ℕ) → n ≡ row_at rows k 2 → length r ≡ 9 * n → good_inputs f r ≡ good_each f.enums ins r
     unfolding good_inputs
-    inputs_each r e q = and_pass (eq_eqb (length r) (9 * length ins) (omega (arith, q, e, inputs_told)))
+    inputs_each r e q = and_pass (eq-eqb (length r) (9 * length ins) (omega (arith, q, e, inputs_told)))

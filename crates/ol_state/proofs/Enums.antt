@@ -7,7 +7,7 @@ use native.Mathlib.Omega.{arith}
 use lib.Dec.{T, eqb, ltb→lt}
 use lib.ListN.{length, drop, get_or, drop_of_length-le}
 use lib.Seq.{drop-cons, drop-drop}
-use borrow.Author.Tests.{eq_eqb, ne_eqb, eqb-true, eqb-false}
+use borrow.Author.Tests.{eq-eqb, ne_eqb, eqb-true, eqb-false}
 use Rattle.ol_spec.specs.Lists.{concat, all_of, member, same}
 use Rattle.ol_spec.specs.Syntax.{File}
 use Rattle.ol_spec.specs.Places.{enum_size, placed}
@@ -100,7 +100,7 @@ module _ {s : List ℕ} {at : ℕ} (v : ℕ) (vs : List ℕ) where
         }
 
     pub look_found : {y : ℕ} → j < length vs → y ≡ name_at s (at + 1 + 2 * j) → y ≡ v → true ≡ member v vs
-    look_found h e q = let n = next h in sym (n.found ∙ ap (λ b. b || member v (drop (j + 1) vs)) (eq_eqb v n.x (sym q ∙ e ∙ n.is)))
+    look_found h e q = let n = next h in sym (n.found ∙ ap (λ b. b || member v (drop (j + 1) vs)) (eq-eqb v n.x (sym q ∙ e ∙ n.is)))
 
     pub look_on : {y : ℕ} → j < length vs → y ≡ name_at s (at + 1 + 2 * j) → (y ≡ v → ⊥) → Looking s v at vs (j + 1)
     look_on h e q =

@@ -5,7 +5,7 @@ use mathlib.Core.List.{List}
 use mathlib.Core.Path.{◌≡◌, sym, ap, ap₂, ◌∙◌}
 use native.Mathlib.Omega.{arith}
 use lib.ListN.{length, take, drop, length-drop}
-use borrow.Author.Tests.{eq_eqb, ne_eqb}
+use borrow.Author.Tests.{eq-eqb, ne_eqb}
 use Rattle.ol_spec.specs.Lists.{same}
 use Rattle.ol_spec.specs.Syntax.{Operator, File, Node, main}
 use Rattle.ol_spec.specs.Cell.{cells}
@@ -63,7 +63,7 @@ module _ {f : File} {s tab rows table consts : List ℕ} (h : Ready f s tab rows
       other_constants {cs} lent l b vs e =
           let q : length state ≡ state_size f = omega (arith, l, size, front, main_size) in
           let c : same (take (head_size f) state) (cells vs) ≡ same (take m state) cs = ap₂ same (ap (λ n. take n state) (sym (front ∙ h.head))) (sym (lent ∙ e)) in
-          sym (and_stop _ (and_pass (eq_eqb _ _ q) ∙ c ∙ sym b))
+          sym (and_stop _ (and_pass (eq-eqb _ _ q) ∙ c ∙ sym b))
 
       -- else the main record decides
       pub main_decides : {b : Bool} {cs : List ℕ} → cs ≡ consts → length state ≡ m + z → true ≡ same (take m state) cs → ((vs : List Value) → b ≡ good_of f vs k (tail_of m state)) → (vs : List Value) → consts ≡ cells vs → b ≡ good_state f vs state
@@ -73,4 +73,4 @@ module _ {f : File} {s tab rows table consts : List ℕ} (h : Ready f s tab rows
           let c : same (take (head_size f) state) (cells vs) ≡ true = ap₂ same (ap (λ n. take n state) (sym (front ∙ h.head))) (sym (lent ∙ e)) ∙ sym t in
           let r = good_site f vs h.known.lower k (drop (head_size f) state) below ∙ ap (λ t. good_by (globals_of f vs) t (good_of f vs) (node_of f k) (drop (head_size f) state)) operator in
           good vs ∙ ap (good_of f vs k) (tail_all m state ∙ ap (λ n. drop n state) (front ∙ h.head)) ∙ r ∙ ap (λ n. good_record (globals_of f vs) n (drop (head_size f) state)) (sym is_main)
-          ∙ sym (and_pass (and_pass (eq_eqb _ _ q) ∙ c))
+          ∙ sym (and_pass (and_pass (eq-eqb _ _ q) ∙ c))

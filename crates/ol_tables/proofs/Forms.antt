@@ -12,7 +12,7 @@ use lib.ListN.{length, get_elem?, get_or, take, drop}
 use lib.Seq.{drop-cons}
 use lib.IntN.{ℤ}
 use lib.Dec.{T, eqb, leb, leb→le}
-use borrow.Author.Tests.{eq_eqb, ne_eqb}
+use borrow.Author.Tests.{eq-eqb, ne_eqb}
 use Rattle.ol_spec.specs.Syntax.{Ty, bool, int, float32, float64, char, enum, UnaryOp, BinOp, Expr, bool_lit, int_lit, float_lit, char_lit, var, unary, binary, if_then_else, pre, arrow, cast, call, tuple}
 use Rattle.ol_spec.specs.Syntax.{Exprs, nil, cons}
 use Rattle.ol_spec.specs.Numbers.{number_of, signed}
@@ -662,5 +662,5 @@ module _ (s : List ℕ) where
 
   pub own_read : (level at : ℕ) → Reads s level at → own_at s at ≡ own_sites (expr_at s level at)
   own_read level at h =
-      by_cases (ℕ_discrete (get_or s at 0) 11) (λ e. ap (λ b. cond b (get_or s (at + 1) 0 ∷ []) []) (eq_eqb (get_or s at 0) 11 e) ∙ sym (own_call level at h e))
+      by_cases (ℕ_discrete (get_or s at 0) 11) (λ e. ap (λ b. cond b (get_or s (at + 1) 0 ∷ []) []) (eq-eqb (get_or s at 0) 11 e) ∙ sym (own_call level at h e))
       (λ n. ap (λ b. cond b (get_or s (at + 1) 0 ∷ []) []) (ne_eqb (get_or s at 0) 11 n) ∙ sym (own_other level at h n))

@@ -6,7 +6,7 @@ use mathlib.Core.Path.{◌≡◌, refl, sym, ap, subst, ◌∙◌}
 use native.Mathlib.Omega.{arith}
 use lib.ListN.{length, get_or, get_or-eq_default}
 use lib.Dec.{T, ltb, leb, eqb, leb→le}
-use borrow.Author.Tests.{lt-ltb, le-ltb, eq_eqb, ne_eqb, ltb-true}
+use borrow.Author.Tests.{lt-ltb, le-ltb, eq-eqb, ne_eqb, ltb-true}
 use Rattle.ol_spec.specs.Lists.{all_of}
 use Rattle.ol_spec.proofs.Tests.{T_and}
 use Rattle.ol_spec.specs.Syntax.{Expr, Exprs, nil, cons, count}

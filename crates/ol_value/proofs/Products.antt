@@ -5,7 +5,7 @@ use Prim.Native.Nat.{ℕ, zero, suc, ◌+◌, ◌-◌, ◌*◌, ◌/◌, ◌%◌
 use native.Mathlib.Nat.{div-one, div-le_self, div-lt_self, le-div_iff_mul-le, mul_comm}
 use native.Mathlib.Omega.{arith}
 use native.Mathlib.Decide.{dec_lt}
-use borrow.Author.Tests.{lt-ltb, le-ltb, le-leb, eq_eqb, ne_eqb}
+use borrow.Author.Tests.{lt-ltb, le-ltb, le-leb, eq-eqb, ne_eqb}
 use lib.Dec.{ltb, leb, eqb}
 use lib.IntN.{ℤ, pos, negsuc, neg_ℤ, nat_abs, ◌+ℤ◌, ◌-ℤ◌, ◌*ℤ◌, +ℤ_idl, zero-*ℤ}
 use lib.Signed.{mag, lt_z, le_z, quot_z, rem_z}
@@ -63,7 +63,7 @@ by_minus_one (negsuc m) f = rw (div-one (suc m)) (go (dec_lt (suc m) (2 ^ 63)))
   where
     go : Dec (suc m < 2 ^ 63) → not (eqb (2 ^ 64 - suc m) (2 ^ 63)) ≡ ltb (suc m) (2 ^ 63)
     go (yes p) = rw (ne_eqb (2 ^ 64 - suc m) (2 ^ 63) (λ e. omega arith), lt-ltb (suc m) (2 ^ 63) p)
-    go (no n) = rw (eq_eqb (2 ^ 64 - suc m) (2 ^ 63) (omega (arith, n, f.sfits)), le-ltb (suc m) (2 ^ 63) (omega (arith, n)))
+    go (no n) = rw (eq-eqb (2 ^ 64 - suc m) (2 ^ 63) (omega (arith, n, f.sfits)), le-ltb (suc m) (2 ^ 63) (omega (arith, n)))
 
 pub minus_one_quotient : (a b : ℤ) → SFits w64 a → SFits w64 b → of_z w64 b ≡ 2 ^ 64 - 1 → not (eqb (of_z w64 a) (2 ^ 63)) ≡ ltb (mag (quot_z a b)) (2 ^ 63)
 minus_one_quotient a (pos n) fa fb e = absurd (omega (arith, fb.sfits))
@@ -121,7 +121,7 @@ module _ {a b : ℤ} (fa : SFits w64 a) (fb : SFits w64 b) where
 
   -- the divisor is zero, and it is not
   pub by_zero_lem : (y : Outcome) → of_z w64 b ≡ 0 → Out.Failure Why.Range ≡ cond (eq_z b (pos 0)) (Out.Failure Why.Range) y
-  by_zero_lem y e = rw (zero_is (eq_eqb (of_z w64 b) 0 e))
+  by_zero_lem y e = rw (zero_is (eq-eqb (of_z w64 b) 0 e))
 
   by_other : (y : Outcome) → (of_z w64 b ≡ 0 → ⊥) → cond (eq_z b (pos 0)) (Out.Failure Why.Range) y ≡ y
   by_other y e = rw (zero_is (ne_eqb (of_z w64 b) 0 e))

@@ -6,7 +6,7 @@ use mathlib.Core.Option.{Option, none, some}
 use Prim.Native.Nat.{ℕ, zero, suc, ◌-◌, ◌*◌, ◌%◌, ◌^◌, ◌≤◌, ◌<◌}
 use native.Mathlib.Nat.{mod-eq_of_lt, mod-lt, one-mul, zero-add}
 use native.Mathlib.Omega.{arith}
-use borrow.Author.Tests.{lt-ltb, le-ltb, eq_eqb, ne_eqb}
+use borrow.Author.Tests.{lt-ltb, le-ltb, eq-eqb, ne_eqb}
 use lib.Dec.{eqb}
 use lib.ListN.{length, get_or, get_or-eq_default}
 use lib.Pow.{pow_pos, pow_mono, pow-lt}
@@ -122,7 +122,7 @@ module _ (t : TypeRow) where
 
   -- it has none: no integer is of the type
   pub rangeless : (ty : Ty) → row_says t ≡ row_for ty → t.bits ≡ 0 → (row_for ty).0 ≡ none
-  rangeless ty h z = sym (rw (eq_eqb t.bits 0 z) at (ap (λ p. p.0) h))
+  rangeless ty h z = sym (rw (eq-eqb t.bits 0 z) at (ap (λ p. p.0) h))
 
   pub out_row : (ty : Ty) → row_says t ≡ row_for ty → t.bits ≡ 0 → (i : ℤ) → false ≡ in_kind ty (Val.Int i)
   out_row ty h z i = go ty (rangeless ty h z)
@@ -194,7 +194,7 @@ module _ (r : ℕ) (h : r < 2 ^ 63) where
 
 module _ (t : TypeRow) where
   pub whole_is : t.bits ≡ 64 → int_ty_of t ≡ whole
-  whole_is e = rw (eq_eqb t.bits 64 e)
+  whole_is e = rw (eq-eqb t.bits 64 e)
 
   pub signed_ty : (t.bits ≡ 64 → ⊥) → t.signed ≡ true → int_ty_of t ≡ signed_to t.bits
   signed_ty n s = rw (ne_eqb t.bits 64 n, s)

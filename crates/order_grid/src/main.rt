@@ -2,6 +2,7 @@
 // files that read, files with each of the faults 1 to 5, number and place, and orders of nodes.
 // make.py says what the list is. Free are which bytes a read gives and whether a write takes them:
 // `tell_cut` and `main` only write, and what `tell_left`, `next_byte` and `next_row` read is free.
+#![tactic(auto)]
 ghost use Rattle.std.specs.Prelude.{◌∷◌, [], ◌≡◌, ◌+◌, ◌≤◌, ◌<◌, length, replicate};
 ghost use Rattle.io.specs.Counts.{IsPrefixLen};
 ghost use Rattle.ol_spec.specs.Answers.{sorted_fault};

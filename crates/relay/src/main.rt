@@ -1,4 +1,5 @@
 // The line program: commands on standard input, one a line, answers on standard output, one a line. oracle/README.md has the protocol.
+#![tactic(auto)]
 mod request;
 mod session;
 

@@ -10,7 +10,7 @@ use mathlib.Core.Option.{Option, none, some}
 use lib.ListN.{length, take, drop, get_or, set, take-append-drop, drop_of_length-le}
 use lib.Seq.{drop-cons, drop-drop, drop-set-lt, length-take-le, take-suc, take-suc-set}
 use lib.Dec.{ltb}
-use borrow.Author.Tests.{ltb-true, ltb-false, lt-ltb, le-ltb, eq_eqb, ne_eqb}
+use borrow.Author.Tests.{ltb-true, ltb-false, lt-ltb, le-ltb, eq-eqb, ne_eqb}
 use Rattle.relay_text.specs.Text.{sort, run, word_from, word_to, word_at, behind, words_up_to, hex_value, before, with_byte, unhexed, front_byte, unhexed_front, onto, glyph_of, hexed, with_digit, number_from, places}
 use Rattle.io.specs.Digits.{IsDigitCount}
 use Rattle.relay_text.specs.Text.{decimal_word}
@@ -56,7 +56,7 @@ pub words_none : (l : List ℕ) (k n at : ℕ) → n < k → word_from l at ≡ 
 unfolding words_up_to
 words_none l k n at h q =
     let e : k - n ≡ suc (k - (n + 1)) = omega arith in
-    rw (e, eq_eqb (word_from l at) (word_to l at) q) (omega arith)
+    rw (e, eq-eqb (word_from l at) (word_to l at) q) (omega arith)
 
 pub behind_done : (l : List ℕ) (k i at : ℕ) → k ≤ i → behind l (k - i) at ≡ at
 unfolding behind

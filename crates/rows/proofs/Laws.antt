@@ -10,7 +10,7 @@ use mathlib.Core.Path.{◌≡◌, refl, sym, ap, ◌∙◌}
 use lib.Dec.{eqb}
 use lib.ListN.{length, get_or, drop, drop_of_length-le}
 use lib.Seq.{drop-cons}
-use borrow.Author.Tests.{eqb-true, eq_eqb, ne_eqb}
+use borrow.Author.Tests.{eqb-true, eq-eqb, ne_eqb}
 use Rattle.rows.specs.Rows.{one, agreeing, first_other, all_agree}
 
 -- nothing agrees with nothing
@@ -28,7 +28,7 @@ module _ (xs ws : List ℕ) (i : ℕ) (p : i < length xs) (q : i < length ws) wh
   -- a row that agrees or does not, and those behind it
   pub agreeing_more : get_or xs i 0 ≡ get_or ws i 0 → agreeing (drop i xs) (drop i ws) ≡ 1 + agreeing (drop (i + 1) xs) (drop (i + 1) ws)
   unfolding agreeing
-  agreeing_more h = rw (add-one, drop-cons xs i 0, drop-cons ws i 0, eq_eqb _ _ h)
+  agreeing_more h = rw (add-one, drop-cons xs i 0, drop-cons ws i 0, eq-eqb _ _ h)
 
   pub agreeing_not : (get_or xs i 0 ≡ get_or ws i 0 → ⊥) → agreeing (drop i xs) (drop i ws) ≡ agreeing (drop (i + 1) xs) (drop (i + 1) ws)
   unfolding agreeing
@@ -36,7 +36,7 @@ module _ (xs ws : List ℕ) (i : ℕ) (p : i < length xs) (q : i < length ws) wh
 
   pub first_more : get_or xs i 0 ≡ get_or ws i 0 → first_other (drop i xs) (drop i ws) ≡ 1 + first_other (drop (i + 1) xs) (drop (i + 1) ws)
   unfolding first_other
-  first_more h = rw (add-one, drop-cons xs i 0, drop-cons ws i 0, eq_eqb _ _ h) (omega arith)
+  first_more h = rw (add-one, drop-cons xs i 0, drop-cons ws i 0, eq-eqb _ _ h) (omega arith)
 
   pub first_not : (get_or xs i 0 ≡ get_or ws i 0 → ⊥) → first_other (drop i xs) (drop i ws) ≡ 0
   unfolding first_other
@@ -83,7 +83,7 @@ all_agree_lem (x ∷ xs) (w ∷ ws) l e =
 pub same_agrees : (xs : List ℕ) → agreeing xs xs ≡ length xs
 unfolding agreeing
 same_agrees [] = refl
-same_agrees (x ∷ xs) = rw (eq_eqb x x refl) (omega (arith, same_agrees xs))
+same_agrees (x ∷ xs) = rw (eq-eqb x x refl) (omega (arith, same_agrees xs))
 
 -- all rows agree: the lists are as long as each other, and as many rows agree
 pub agree_length : (xs ws : List ℕ) → (length xs ≡ length ws → ⊥) → all_agree xs ws ≡ false
@@ -100,7 +100,7 @@ agree_length (x ∷ xs) (w ∷ ws) h = rw (agree_length xs ws (λ e. h (ap suc e
 count_agrees : (b : Bool) (n m : ℕ) → n ≤ m → b && eqb n m ≡ eqb (one b + n) (suc m)
 count_agrees true n m h =
     by_cases (dec_lt n m) (λ e. ne_eqb n m (λ q. omega arith) ∙ sym (ne_eqb (1 + n) (suc m) (λ q. omega arith)))
-    (λ e. eq_eqb n m (omega arith) ∙ sym (eq_eqb (1 + n) (suc m) (omega arith)))
+    (λ e. eq-eqb n m (omega arith) ∙ sym (eq-eqb (1 + n) (suc m) (omega arith)))
 count_agrees false n m h = sym (ne_eqb (0 + n) (suc m) (λ q. omega arith))
 
 pub agree_count : (xs ws : List ℕ) → length xs ≡ length ws → all_agree xs ws ≡ eqb (agreeing xs ws) (length ws)

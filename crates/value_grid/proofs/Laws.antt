@@ -9,7 +9,7 @@ use mir.Val.{bool_byte}
 use lib.Dec.{eqb}
 use lib.ListN.{length, get_or, take, drop, drop_of_length-le}
 use lib.Seq.{drop-cons}
-use borrow.Author.Tests.{eq_eqb, ne_eqb, lt-ltb, le-ltb}
+use borrow.Author.Tests.{eq-eqb, ne_eqb, lt-ltb, le-ltb}
 use Rattle.ol_spec.specs.Cell.{cell, value_of}
 use Rattle.ol_spec.specs.Lists.{same}
 use Rattle.ol_spec.specs.Types.{fit, cast_to, default}
@@ -37,7 +37,7 @@ same_length (x ∷ xs) (w ∷ ws) h = rw (same_length xs ws (λ e. h (ap suc e))
 module _ (xs ws : List ℕ) (i : ℕ) (p : i < length xs) (q : i < length ws) where
   -- a byte that is the same or is not, and those behind it
   pub same_more : get_or xs i 0 ≡ get_or ws i 0 → same (drop i xs) (drop i ws) ≡ same (drop (i + 1) xs) (drop (i + 1) ws)
-  same_more h = rw (add-one, drop-cons xs i 0, drop-cons ws i 0, eq_eqb _ _ h)
+  same_more h = rw (add-one, drop-cons xs i 0, drop-cons ws i 0, eq-eqb _ _ h)
 
   pub same_not : (get_or xs i 0 ≡ get_or ws i 0 → ⊥) → same (drop i xs) (drop i ws) ≡ false
   same_not h = rw (drop-cons xs i 0, drop-cons ws i 0, ne_eqb _ _ h)

@@ -2,6 +2,7 @@
 // a grid, each cast, each store, each input and each default. make.py says what the list is.
 // Free are which bytes a read gives and whether a write takes them: `tell_cut`, `tell_left` and
 // `main` only write, and what `next_byte` and `next_cell` read is free.
+#![tactic(auto)]
 ghost use Rattle.std.specs.Prelude.{◌≡◌, ◌+◌, ◌%◌, ◌<◌, length};
 ghost use Rattle.ol_spec.specs.Cell.{cell};
 ghost use Rattle.ol_spec.specs.Lists.{same};

@@ -1,5 +1,5 @@
 use mathlib.Core.Path.{refl}
-use borrow.Author.Tests.{eq_eqb, ne_eqb}
+use borrow.Author.Tests.{eq-eqb, ne_eqb}
 use Rattle.ol_check.proofs.found_at.Statement.{statement}
 use Rattle.ol_check.proofs.found_at.Tie as tie
 use Rattle.ol_check.proofs.found_at.Reads as reads
@@ -7,7 +7,7 @@ use Rattle.ol_check.proofs.found_at.Lts as lts
 
 -- src/lib.rt
 returns : tie.Need-returns
-returns c = rw (eq_eqb _ 65536 c.if1.true) refl
+returns c = rw (eq-eqb _ 65536 c.if1.true) refl
 
 -- src/lib.rt
 returns_2 : tie.Need-returns-2

@@ -2,7 +2,7 @@ use native.Mathlib.Omega.{arith}
 use Prim.Native.Nat.{ℕ, ◌+◌, ◌≤◌, ◌-◌}
 use mathlib.Core.Path.{◌≡◌, refl, sym, ap, ◌∙◌}
 use lib.ListN.{length, drop}
-use borrow.Author.Tests.{eq_eqb, ne_eqb}
+use borrow.Author.Tests.{eq-eqb, ne_eqb}
 use Rattle.relay_text.specs.Text.{number_from}
 use Rattle.relay_text.proofs.Laws.{number_low, number_high, number_more, number_end}
 use Rattle.relay_text.proofs.decimal.Statement.{statement}
@@ -15,7 +15,7 @@ abbrev decreases_loop : tie.decreases-loop
 decreases_loop text value₀ i₀ value i = length text - i
 
 returns : tie.Need-returns invariant_loop decreases_loop
-returns c = rw (eq_eqb _ _ c.if1.true)
+returns c = rw (eq-eqb _ _ c.if1.true)
 
 loop_holds : tie.Need-loop-init invariant_loop decreases_loop
 loop_holds c = (omega arith, omega arith, refl)

@@ -1,5 +1,5 @@
 use native.Mathlib.Omega.{arith}
-use borrow.Author.Tests.{eq_eqb, ne_eqb}
+use borrow.Author.Tests.{eq-eqb, ne_eqb}
 use Rattle.relay_text.proofs.Laws.{hexed_length}
 use borrow.Author.Rules.{rules}
 use Rattle.relay_text.proofs.put_hex.Statement.{statement}
@@ -15,7 +15,7 @@ same_length : tie.Need-same-length
 same_length c = search rules
 
 returns : tie.Need-returns
-returns c = (omega (arith, c.before.before.put.ensures.0), rw (eq_eqb _ _ c.before.before.before.before.before.if1.true) c.before.before.put.ensures.1, c.before.before.put.ensures.2, omega (arith, c.before.before.put.ensures.0))
+returns c = (omega (arith, c.before.before.put.ensures.0), rw (eq-eqb _ _ c.before.before.before.before.before.if1.true) c.before.before.put.ensures.1, c.before.before.put.ensures.2, omega (arith, c.before.before.put.ensures.0))
 
 put-digits-requires : tie.Need-put-digits-requires
 put-digits-requires c κs = search rules

@@ -1,5 +1,5 @@
 use native.Mathlib.Omega.{arith}
-use borrow.Author.Tests.{not_true, not_false}
+use borrow.Author.Tests.{not-true, not-false}
 use mathlib.Core.Path.{◌≡◌, refl, sym, ◌∙◌}
 use Prim.Native.Nat.{◌+◌, ◌≤◌, ◌-◌}
 use lib.ListN.{length, drop}
@@ -28,7 +28,7 @@ returns c =
     let start = c.before.before.before.before.before.before in (
       omega arith,
       omega arith,
-      run_stop start.args.over start.args.line.now c.before.before.before.before.loop.i (omega arith) (sym c.before.is-of.ensures ∙ not_true _ c.if1.true) ∙ sym c.before.before.before.before.loop.invariant.2,
+      run_stop start.args.over start.args.line.now c.before.before.before.before.loop.i (omega arith) (sym c.before.is-of.ensures ∙ not-true _ c.if1.true) ∙ sym c.before.before.before.before.loop.invariant.2,
     )
 
 add_i : tie.Need-overflow-add-i invariant_loop decreases_loop
@@ -42,7 +42,7 @@ loop_again c =
     let start = c.before.before.before.before.before.before in (
       omega arith,
       omega arith,
-      c.before.before.before.before.loop.invariant.2 ∙ run_more start.args.over start.args.line.now c.before.before.before.before.loop.i (omega arith) (sym c.before.is-of.ensures ∙ not_false _ c.if1.false),
+      c.before.before.before.before.loop.invariant.2 ∙ run_more start.args.over start.args.line.now c.before.before.before.before.loop.i (omega arith) (sym c.before.is-of.ensures ∙ not-false _ c.if1.false),
     )
 
 returns_2 : tie.Need-returns-2 invariant_loop decreases_loop

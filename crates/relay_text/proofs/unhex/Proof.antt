@@ -1,6 +1,6 @@
 use native.Mathlib.Omega.{arith}
 use mathlib.Core.Path.{sym}
-use borrow.Author.Tests.{eq_eqb, ne_eqb}
+use borrow.Author.Tests.{eq-eqb, ne_eqb}
 use Rattle.relay_text.proofs.Laws.{left_start, left_odd, one_written}
 use borrow.Author.Rules.{rules}
 use Rattle.relay_text.proofs.unhex.Statement.{statement}
@@ -12,12 +12,12 @@ shared-slice-read-if2 c = search rules
 returns : tie.Need-returns
 returns c =
     let start = c.before.before.before.before.before in
-    ((omega arith, rw (eq_eqb _ _ c.before.before.if1.true, eq_eqb _ _ c.if2.true)), one_written start.args.text.now start.args.out.now c.before.before.if1.true)
+    ((omega arith, rw (eq-eqb _ _ c.before.before.if1.true, eq-eqb _ _ c.if2.true)), one_written start.args.text.now start.args.out.now c.before.before.if1.true)
 
 returns_2 : tie.Need-returns-2
 returns_2 c =
     let start = c.before.before.before.before.before in (
-      rw (eq_eqb _ _ c.before.before.if1.true, ne_eqb _ _ c.if2.false) (left_odd start.args.text.now start.args.out.now 0 (left_start start.args.text.now start.args.out.now) (sym c.before.before.if1.true)),
+      rw (eq-eqb _ _ c.before.before.if1.true, ne_eqb _ _ c.if2.false) (left_odd start.args.text.now start.args.out.now 0 (left_start start.args.text.now start.args.out.now) (sym c.before.before.if1.true)),
       one_written start.args.text.now start.args.out.now c.before.before.if1.true,
     )
 

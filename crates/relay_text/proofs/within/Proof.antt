@@ -3,12 +3,12 @@ use Prim.Native.Nat.{ℕ, ◌≤◌}
 use mathlib.Core.List.{List}
 use mathlib.Core.Path.{◌≡◌, refl, sym, ◌∙◌}
 use lib.ListN.{length, take}
-use lib.Seq.{length-take-le, take_all, take_length}
+use lib.Seq.{length-take-le, take_all, take-length}
 use Rattle.relay_text.proofs.within.Statement.{statement}
 use Rattle.relay_text.proofs.within.Tie as tie
 
 whole : (n : ℕ) (l : List ℕ) → length l ≤ n → take (length l) l ≡ take n l
-whole n l h = take_length l ∙ sym (take_all n l h)
+whole n l h = take-length l ∙ sym (take_all n l h)
 
 returns : tie.Need-returns
 returns c = ((omega arith, sym (length-take-le _ _ (omega arith))), refl)

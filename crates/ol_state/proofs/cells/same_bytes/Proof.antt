@@ -2,7 +2,7 @@
 use mathlib.Core.Path.{◌≡◌, refl, sym, ap, ◌∙◌}
 use Prim.Native.Nat.{◌≤◌, ◌-◌}
 use native.Mathlib.Omega.{arith}
-use borrow.Author.Tests.{eq_eqb, ne_eqb}
+use borrow.Author.Tests.{eq-eqb, ne_eqb}
 use lib.ListN.{length, drop}
 use Rattle.ol_spec.specs.Lists.{same}
 use Rattle.ol_state.proofs.Judged.{and_pass, and_stop, same_next, same_end, same_apart}
@@ -50,7 +50,7 @@ loop_less c =
 loop_again : tie.Need-loop-preserved invariant_loop decreases_loop
 loop_again c =
     let start = c.before.before.before.before.before.before in
-    (omega (arith, c.before.before.before.loop-test.true), c.before.before.before.before.loop.invariant.1 ∙ same_next start.args.a.now start.args.b.now c.before.before.before.before.loop.i (omega (arith, c.before.before.before.loop-test.true)) (omega (arith, c.before.before.before.loop-test.true, c.before.before.before.before.before.if1.true)) ∙ and_pass (eq_eqb _ _ c.if2.true))
+    (omega (arith, c.before.before.before.loop-test.true), c.before.before.before.before.loop.invariant.1 ∙ same_next start.args.a.now start.args.b.now c.before.before.before.before.loop.i (omega (arith, c.before.before.before.loop-test.true)) (omega (arith, c.before.before.before.loop-test.true, c.before.before.before.before.before.if1.true)) ∙ and_pass (eq-eqb _ _ c.if2.true))
 
 -- src/cells.rt:65:17
 returns : tie.Need-returns invariant_loop decreases_loop

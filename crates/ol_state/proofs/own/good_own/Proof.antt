@@ -3,7 +3,7 @@ use Prim.Native.Nat.{◌*◌}
 use mathlib.Core.Path.{◌≡◌, sym, ap, ap₂, ◌∙◌}
 use native.Mathlib.Omega.{arith}
 use lib.ListN.{length, take, drop, length-drop}
-use borrow.Author.Tests.{le-leb, lt-leb, eq_eqb, ne_eqb}
+use borrow.Author.Tests.{le-leb, lt-leb, eq-eqb, ne_eqb}
 use Rattle.ol_spec.specs.Lists.{same}
 use Rattle.ol_spec.specs.Cell.{good_cells}
 use Rattle.ol_tables.specs.Tables.{row_at}
@@ -92,7 +92,7 @@ returns c =
     λ names tells.
     let g : good_cells names (row_at (rows_of start.args.tab.now) start.args.k 4) (drop 1 r) ≡ _ = ap₂ (good_cells names) (sym c.before.before.before.before.before.before.column.ensures) (sym tail) ∙ sym (c.before.before.before.before.good-cells.ensures names tells) ∙ c.before.before.before.if2.true in
     c.are-defaults.ensures ∙ ap (λ l. same (take (9 * row_at (rows_of start.args.tab.now) start.args.k 4) l) (cells_at (tab_of start.args.tab.now) (rows_of start.args.tab.now) start.args.k 0 (row_at (rows_of start.args.tab.now) start.args.k 4))) tail
-    ∙ own_defaults names (cells_at (tab_of start.args.tab.now) (rows_of start.args.tab.now) start.args.k 0 (row_at (rows_of start.args.tab.now) start.args.k 4)) (row_at (rows_of start.args.tab.now) start.args.k 4) r (le-leb _ _ c.before.before.before.before.before.before.before.if1.true) g (eq_eqb _ _ c.before.before.if3.true)
+    ∙ own_defaults names (cells_at (tab_of start.args.tab.now) (rows_of start.args.tab.now) start.args.k 0 (row_at (rows_of start.args.tab.now) start.args.k 4)) (row_at (rows_of start.args.tab.now) start.args.k 4) r (le-leb _ _ c.before.before.before.before.before.before.before.if1.true) g (eq-eqb _ _ c.before.before.if3.true)
 
 -- src/own.rt:30:1
 returns_2 : tie.Need-returns-2
