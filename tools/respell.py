@@ -27,6 +27,8 @@ LIB = re.compile(r"\b(?:Rattle\.std|base|native|lib|mathlib|Prim|seplogic)\.[\w.
 def snake(name):
     for old, new in WHOLE.items():
         name = name.replace(old, new)
+    if name in ("-0", "-1"):
+        return "minus_" + name[1:]
     name = name.replace("-", "_")
     name = re.sub(r"([a-z0-9])([A-Z])", r"\1_\2", name)
     name = re.sub(r"([A-Z])([A-Z][a-z])", r"\1_\2", name)
@@ -138,8 +140,10 @@ def main(argv):
         return 0
     changed = 0
     todo = [(p, lambda t: turned(t, turns, True)) for p in files(root, ".antt", "specs", "proofs")]
-    todo += [(p, lambda t: turned(t, turns, True)) for p in files(root, ".rt", "src")]
-    todo += [(p, lambda t: turned(t, turns, False)) for p in files(root, ".edit", "must-fail")]
+    # In src/ these are numbers, and functions.
+    of_code = {a: b for a, b in turns.items() if a not in ("-0", "-1", *FREED)}
+    todo += [(p, lambda t: turned(t, of_code, True)) for p in files(root, ".rt", "src")]
+    todo += [(p, lambda t: turned(t, of_code if "file: src/" in t else turns, False)) for p in files(root, ".edit", "must-fail")]
     for top in PAGES:
         top = os.path.join(root, top)
         found = [top] if os.path.isfile(top) else [os.path.join(d, f) for d, _, fs in os.walk(top) for f in fs]

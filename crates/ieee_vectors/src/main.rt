@@ -94,7 +94,7 @@ fn want(text: &[u8], wanted: &mut [u64])
 }
 
 // How many rows are right, and how many are not; a last row that is cut off is not.
-#[derive(Drop)]
+#[derive(Clone, Copy)]
 struct Counts {
     right: u64,
     wrong: u64,

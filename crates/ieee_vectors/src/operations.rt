@@ -34,7 +34,7 @@ fn signed(a: u64) -> i64
     if a < 0x8000_0000_0000_0000 {
         a as i64
     } else {
-        _1 - (0xffff_ffff_ffff_ffff - a) as i64
+        -1 - (0xffff_ffff_ffff_ffff - a) as i64
     }
 }
 

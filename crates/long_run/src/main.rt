@@ -15,7 +15,7 @@ const PAIRS: usize = 500_000;
 const PHASE: usize = 1_000;
 
 // What was counted: the cycles that were answered, and those that left the fresh state again.
-#[derive(Drop)]
+#[derive(Clone, Copy)]
 struct Tally {
     answered: u64,
     fresh: u64,

@@ -14,11 +14,11 @@ ghost use Rattle.ol_check.specs.Clashing.{sort_of, meets, over, Walks, Variables
 use super::rows::Sections;
 use super::{Found, NO_PLACE, found_at};
 use ol_tables::bytes::{byte, name, put_byte};
-use ol_tables::heads::{skip, ty_size_lem};
+use ol_tables::heads::{skip, ty_size};
 use ol_tables::tables::{PLACE, row};
 
 // The first clash, and the highest name.
-#[derive(Drop)]
+#[derive(Clone, Copy)]
 pub struct Sorting {
     pub found: Found,
     pub highest: usize,
@@ -106,7 +106,7 @@ fn sort_variables(
     let mut i = 0;
     while i < count {
         sort_name(file, sorts, marks, sort, next);
-        next = next + 2 + ty_size_lem(file, next + 2);
+        next = next + 2 + ty_size(file, next + 2);
         i += 1;
     }
     next
@@ -136,7 +136,7 @@ fn sort_constants(file: &[u8], sorts: &mut [u8], marks: &mut [usize; 2], count: 
     let mut i = 0;
     while i < count {
         sort_name(file, sorts, marks, 17, next);
-        next = skip(file, 1, next + 2 + ty_size_lem(file, next + 2));
+        next = skip(file, 1, next + 2 + ty_size(file, next + 2));
         i += 1;
     }
 }

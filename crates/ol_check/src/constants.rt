@@ -38,7 +38,7 @@ fn constant(
         found,
         Reached {
             size,
-            next: at + 2 + ty_size_lem(file, at + 2),
+            next: at + 2 + ty_size(file, at + 2),
         },
     );
     declare(names, name(file, at), (i + 113) as u8);

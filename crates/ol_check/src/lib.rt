@@ -13,14 +13,14 @@ ghost use Rattle.std.specs.Prelude.{◌≡◌};
 ghost use Rattle.ol_check.specs.Founds.{place_of, place_at};
 
 // A fault's place, or none.
-#[derive(Drop)]
+#[derive(Clone, Copy)]
 pub enum Found {
     At(usize),
     Nothing,
 }
 
 // The first fault of each number, the bytes of an instance of the last node, and where the walk ended.
-#[derive(Drop)]
+#[derive(Clone, Copy)]
 pub struct Faults {
     pub unseen: Found,
     pub again: Found,
@@ -31,7 +31,7 @@ pub struct Faults {
 }
 
 // The bytes of the records of a node's call sites so far, and where the walk stands.
-#[derive(Drop)]
+#[derive(Clone, Copy)]
 pub struct Reached {
     pub size: usize,
     pub next: usize,

@@ -40,7 +40,7 @@ pub(crate) fn declare_variables(
     let mut i = 0;
     while i < count {
         declare(names, name(file, next), (first + i + 1) as u8);
-        next = next + 2 + ty_size_lem(file, next + 2);
+        next = next + 2 + ty_size(file, next + 2);
         i += 1;
     }
     next
@@ -55,7 +55,7 @@ pub(crate) fn forget_variables(file: &[u8], names: &mut [u8], count: usize, at: 
     let mut i = 0;
     while i < count {
         forget(names, name(file, next));
-        next = next + 2 + ty_size_lem(file, next + 2);
+        next = next + 2 + ty_size(file, next + 2);
         i += 1;
     }
     next

@@ -56,7 +56,7 @@ fn variable_types(file: &[u8], types: &mut [u8], first: usize, count: usize, at:
     let mut i = 0;
     while i < count {
         put_type(file, types, first + 2 * i, next + 2);
-        next = next + 2 + ty_size_lem(file, next + 2);
+        next = next + 2 + ty_size(file, next + 2);
         i += 1;
     }
     next
@@ -134,7 +134,7 @@ fn node_rows(
 }
 
 // Where the counts of a file's constants and of its nodes stand.
-#[derive(Drop)]
+#[derive(Clone, Copy)]
 pub struct Sections {
     pub constants: usize,
     pub nodes: usize,

@@ -14,7 +14,7 @@ ghost use Rattle.ol_spec.specs.Syntax.{Function, Operator};
 ghost use Rattle.ol_tables.specs.At.{node_in};
 
 use ol_frame::copies::{copy, less, passed, single_out};
-use ol_frame::equations::{place_at_lem, plan_of, records_at};
+use ol_frame::equations::{place_at, plan_of, records_at};
 use ol_frame::frame::{
     ARGUMENTS, FRAME, bind, bind_out, copy_outputs, finish_frame, fresh_frame, is_first, node_of,
     open_frame,
@@ -28,14 +28,14 @@ use ol_frame::skip::{pass, pass_all};
 use ol_frame::tables::{number, order_at, row};
 use ol_spec::Outcome;
 use ol_state::fresh::write_fresh;
-use ol_tables::heads::{head, ty_size_lem};
+use ol_tables::heads::{head, ty_size};
 use ol_tables::tables::{COUNT, INPUTS, KIND, OUTPUTS, SIZE, VARIABLES};
 use ol_value::cell::write_cell;
 
 // ---- expressions
 
 // What evaluating an expression gives: its outcome, where it ends, and the bytes of its records.
-#[derive(Drop)]
+#[derive(Clone, Copy)]
 pub struct Step {
     pub out: Outcome,
     pub next: usize,
@@ -108,7 +108,7 @@ fn eval_form(
         }
         10 => {
             let t = file[p];
-            let q = p + ty_size_lem(file, p);
+            let q = p + ty_size(file, p);
             let r = eval_form(file, tab, q, level - 1, frame, old, new);
             let o = r.out;
             Step {
@@ -310,7 +310,7 @@ fn step_untaken(
 // ---- calls
 
 // What evaluating several expressions, or a call, gives: how it ended, where they end, and the bytes of their records.
-#[derive(Drop)]
+#[derive(Clone, Copy)]
 pub struct Ran {
     pub end: Ending,
     pub next: usize,
@@ -539,7 +539,7 @@ fn call_function(
 // ---- equations
 
 // How a run of a node's equations ended, and the equation that ended it.
-#[derive(Drop)]
+#[derive(Clone, Copy)]
 pub struct Ended {
     pub end: Ending,
     pub index: usize,
@@ -558,7 +558,7 @@ pub fn run(file: &[u8], tab: &[u8], frame: &mut [u8; FRAME], old: &[u8], new: &m
     let mut j: usize = 0;
     while j < n {
         let i = order_at(tab, k, j);
-        let at = place_at_lem(tab, plan, i);
+        let at = place_at(tab, plan, i);
         let a = records_at(tab, plan, n, i, total);
         let b = records_at(tab, plan, n, i + 1, total);
         let e = equation(file, tab, at, i, frame, &old[a..b], &mut new[a..b]);

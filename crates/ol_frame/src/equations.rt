@@ -18,7 +18,7 @@ pub fn plan_of(tab: &[u8], k: usize) -> usize
 }
 
 // Where equation i stands, by its node's plan: two bytes.
-pub fn place_at_lem(tab: &[u8], plan: usize, i: usize) -> usize
+pub fn place_at(tab: &[u8], plan: usize, i: usize) -> usize
     requires { (plan < 9300000000000000000) × (i < 256) }
     ensures { result ≡ two_at tab.now (plan + 2 * i) }
 {

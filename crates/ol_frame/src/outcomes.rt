@@ -15,7 +15,7 @@ use ol_value::operators::{eval_binary, eval_unary};
 use ol_value::types::cast_value;
 
 // How several expressions, a call, an equation or a run of equations end: with values, at a failure of some cause, at an overflow.
-#[derive(Drop)]
+#[derive(Clone, Copy)]
 pub enum Ending {
     Values,
     Failed(Cause),
@@ -23,7 +23,7 @@ pub enum Ending {
 }
 
 // Which branch a condition takes: of a Bool one of the two, else neither.
-#[derive(Drop)]
+#[derive(Clone, Copy)]
 pub enum Test {
     First,
     Second,
@@ -31,7 +31,7 @@ pub enum Test {
 }
 
 // How an expression counts as real: not, in single or in double precision.
-#[derive(Drop)]
+#[derive(Clone, Copy)]
 pub(crate) enum RealKind {
     NotReal,
     Single,

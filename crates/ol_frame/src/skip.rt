@@ -8,7 +8,7 @@ use ol_tables::heads::{head, next_call};
 use ol_tables::tables::SIZE;
 
 // Where what was passed over ends, the bytes of its records, and whether it contains a call.
-#[derive(Drop)]
+#[derive(Clone, Copy)]
 pub struct Passed {
     pub next: usize,
     pub used: usize,

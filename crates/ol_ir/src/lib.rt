@@ -10,28 +10,28 @@ pub mod node; // node.rt: variables, equations and nodes
 pub mod project; // project.rt: enums, constants and the whole file
 
 // What reading an item finds: where the next one starts, or a fault.
-#[derive(Drop)]
+#[derive(Clone, Copy)]
 pub enum Next {
     At(usize),
     Refused(Fault),
 }
 
 // What reading a count, or an expression's first bytes, finds: so many items follow, of which the first starts here.
-#[derive(Drop)]
+#[derive(Clone, Copy)]
 pub enum Counted {
     Items(usize, usize),
     Refused(Fault),
 }
 
 // What reading a whole file finds.
-#[derive(Drop)]
+#[derive(Clone, Copy)]
 pub enum Reading {
     Done,
     Refused(Fault),
 }
 
 // What loading a file finds: how many enums and how many nodes it has.
-#[derive(Drop)]
+#[derive(Clone, Copy)]
 pub enum Loaded {
     Nodes(usize, usize),
     Refused(Fault),
@@ -39,7 +39,7 @@ pub enum Loaded {
 
 // What a scan for reads finds at an expression: a Var's name, or how many parts are left to scan,
 // and where the scan goes on.
-#[derive(Drop)]
+#[derive(Clone, Copy)]
 pub enum Scan {
     Name(usize, usize),
     Parts(usize, usize),

@@ -17,7 +17,7 @@ use ol_tables::table::{ORDERS, SLOTS};
 use ol_tables::tables::{COUNT, MOST_EQUATIONS, VARIABLES, row};
 
 // The place of the first equation that is never placed, if there is one.
-#[derive(Drop)]
+#[derive(Clone, Copy)]
 pub enum Ring {
     At(usize),
     Nothing,

@@ -54,23 +54,23 @@ three_halved = (ieee754_holds.at_double.quotient (fin true 3 (negsuc 1073)) (fin
 abbrev +0 : Float
 +0 = fin false 0 (pos 0)
 
-abbrev _0 : Float
-_0 = fin true 0 (pos 0)
+abbrev minus_0 : Float
+minus_0 = fin true 0 (pos 0)
 
-abbrev _1 : Float
-_1 = fin true 1 (pos 0)
+abbrev minus_1 : Float
+minus_1 = fin true 1 (pos 0)
 
-zeros : Sum double _0 _0 _0 × Sum double _0 +0 +0 × Difference double _1 _1 +0 × Difference double _0 +0 _0 × Product double _1 +0 _0 × Quotient double _1 (inf false) _0
+zeros : Sum double minus_0 minus_0 minus_0 × Sum double minus_0 +0 +0 × Difference double minus_1 minus_1 +0 × Difference double minus_0 +0 minus_0 × Product double minus_1 +0 minus_0 × Quotient double minus_1 (inf false) minus_0
 unfolding add_r sub_r mul_r div_r add sub mul div
 zeros =
     let h = ieee754_holds.at_double in
-    ((h.sum _0 _0).holds, (h.sum _0 +0).holds, (h.difference _1 _1).holds, (h.difference _0 +0).holds, (h.product _1 +0).holds, (h.quotient _1 (inf false)).holds)
+    ((h.sum minus_0 minus_0).holds, (h.sum minus_0 +0).holds, (h.difference minus_1 minus_1).holds, (h.difference minus_0 +0).holds, (h.product minus_1 +0).holds, (h.quotient minus_1 (inf false)).holds)
 
-infinities : Quotient double _1 _0 (inf false) × Quotient double _0 _0 nan × Difference double (inf true) (inf true) nan × Product double (inf true) _0 nan
+infinities : Quotient double minus_1 minus_0 (inf false) × Quotient double minus_0 minus_0 nan × Difference double (inf true) (inf true) nan × Product double (inf true) minus_0 nan
 unfolding sub_r mul_r div_r sub mul div
 infinities =
     let h = ieee754_holds.at_double in
-    ((h.quotient _1 _0).holds, (h.quotient _0 _0).holds, (h.difference (inf true) (inf true)).holds, (h.product (inf true) _0).holds)
+    ((h.quotient minus_1 minus_0).holds, (h.quotient minus_0 minus_0).holds, (h.difference (inf true) (inf true)).holds, (h.product (inf true) minus_0).holds)
 
 -- ---- toward zero: 300.7, -300.7, 1e30, -1e30, NaN
 cuts : Truncated (fin false 5289970343555891 (negsuc 43)) (pos 300) × Truncated (fin true 5289970343555891 (negsuc 43)) (negsuc 299)
@@ -85,19 +85,19 @@ cuts = (
 )
 
 -- ---- comparison
-compared : Equal _0 +0 × (¬ Less _0 +0) × Less _1 tenth × Less (inf true) _1 × (¬ Equal nan nan) × (¬ Less nan +0)
+compared : Equal minus_0 +0 × (¬ Less minus_0 +0) × Less minus_1 tenth × Less (inf true) minus_1 × (¬ Equal nan nan) × (¬ Less nan +0)
 unfolding lt_r eq_r lt eq
 compared = (
-  (ieee754_holds.equal _0 +0).0 tt,
-  λ h. (ieee754_holds.less _0 +0).1 h,
-  (ieee754_holds.less _1 tenth).0 tt,
-  (ieee754_holds.less (inf true) _1).0 tt,
+  (ieee754_holds.equal minus_0 +0).0 tt,
+  λ h. (ieee754_holds.less minus_0 +0).1 h,
+  (ieee754_holds.less minus_1 tenth).0 tt,
+  (ieee754_holds.less (inf true) minus_1).0 tt,
   λ h. (ieee754_holds.equal nan nan).1 h,
   λ h. (ieee754_holds.less nan +0).1 h,
 )
 
 -- ---- bits: 0.1, the smallest subnormal, -0, a NaN
-encoded : Encodes double 0x3fb9_9999_9999_999a tenth × Encodes double 1 (fin false 1 (negsuc 1073)) × Encodes single 0x8000_0000 _0 × Encodes single 0xffc0_1234 nan
+encoded : Encodes double 0x3fb9_9999_9999_999a tenth × Encodes double 1 (fin false 1 (negsuc 1073)) × Encodes single 0x8000_0000 minus_0 × Encodes single 0xffc0_1234 nan
 unfolding from_bits of_bits
 encoded = (
   (ieee754_holds.at_double.decoded 0x3fb9_9999_9999_999a (lit< tt)).holds,

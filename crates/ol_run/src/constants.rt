@@ -23,7 +23,7 @@ use ol_value::cell::write_cell;
 use ol_value::types::fit_to;
 
 // All values were written, or the first constant without one stands at a place.
-#[derive(Drop)]
+#[derive(Clone, Copy)]
 pub enum Found {
     All,
     Stuck(usize),
@@ -48,7 +48,7 @@ fn constant_value(file: &[u8], tab: &[u8], at: usize, frame: &[u8; FRAME]) -> Ou
 {
     let p = at + 2;
     let code = file[p];
-    let e = p + ty_size_lem(file, p);
+    let e = p + ty_size(file, p);
     let none = [0u8; 1];
     let mut new = [0u8; 1];
     let r = eval(file, tab, e, 24, frame, &none, &mut new);
@@ -62,7 +62,7 @@ fn constant_end(file: &[u8], tab: &[u8], at: usize) -> usize
     ensures { result ≡ end_at file.now 24 (value_at file.now (known_in (consts_of tab.now))) }
 {
     let p = at + 2;
-    let e = p + ty_size_lem(file, p);
+    let e = p + ty_size(file, p);
     let s = pass(file, tab, e, 24);
     s.next
 }

@@ -5,7 +5,7 @@ ghost use Rattle.ol_sim.specs.Serving.{no_lengths, verdict_of, measured_of, star
 use ol_spec::{Cycled, Fault, Lengths, Measured, Started, Verdict};
 
 // What is asked: the lengths, with the number of a node whose equations are counted; the fresh state; or a cycle.
-#[derive(Drop)]
+#[derive(Clone, Copy)]
 pub(crate) enum Call {
     Lengths(usize),
     Start,
@@ -13,7 +13,7 @@ pub(crate) enum Call {
 }
 
 // What is answered: done, with the lengths where they are asked for; a stop (18 to 21) or a refusal (1 to 17).
-#[derive(Drop)]
+#[derive(Clone, Copy)]
 pub(crate) enum Answer {
     Done(Lengths),
     Stopped(Fault),

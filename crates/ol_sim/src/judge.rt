@@ -23,7 +23,7 @@ use ol_tables::table::{ORDERS, SLOTS, pack};
 use ol_tables::tables::{COLUMNS, FIRSTS, PLACE, row};
 
 // What judging a file gives: its first fault, or the length of its state and its main node's number.
-#[derive(Drop)]
+#[derive(Clone, Copy)]
 pub(crate) enum Judged {
     Refused(Fault),
     Admitted(usize, usize),

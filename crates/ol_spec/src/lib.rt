@@ -2,7 +2,7 @@
 #![tactic(auto)]
 
 // A cell's value: the flat choice of Bool, Int, both reals and Enum (a variant's name).
-#[derive(Drop)]
+#[derive(Clone, Copy)]
 pub enum Value {
     Bool(bool),
     Int(i64),
@@ -13,7 +13,7 @@ pub enum Value {
 
 // Why an evaluation failed: a `pre` in a first cycle, a zero divisor or a shift count outside
 // 0..63, or anything else.
-#[derive(Drop)]
+#[derive(Clone, Copy)]
 pub enum Cause {
     Cold,
     Range,
@@ -21,7 +21,7 @@ pub enum Cause {
 }
 
 // What an evaluation gives: a value, a failure or an overflow.
-#[derive(Drop)]
+#[derive(Clone, Copy)]
 pub enum Outcome {
     Value(Value),
     Failure(Cause),
@@ -30,7 +30,7 @@ pub enum Outcome {
 
 // The greatest counts of a section's items, of an expression's levels (`nesting`) and of the
 // state's bytes (`state`): a value, so that another entry or another format byte is another value.
-#[derive(Drop)]
+#[derive(Clone, Copy)]
 pub struct Limits {
     pub enums: usize,
     pub variants: usize,
@@ -48,21 +48,21 @@ pub struct Limits {
 }
 
 // A fault's number, and its place.
-#[derive(Drop)]
+#[derive(Clone, Copy)]
 pub struct Fault {
     pub number: u8,
     pub place: usize,
 }
 
 // What admission answers: the length of the file's state, or the first fault.
-#[derive(Drop)]
+#[derive(Clone, Copy)]
 pub enum Verdict {
     Admitted(usize),
     Refused(Fault),
 }
 
 // The lengths that a caller needs: in bytes of the state, of a cycle's inputs and of its values; and how many equations a node has.
-#[derive(Drop)]
+#[derive(Clone, Copy)]
 pub struct Lengths {
     pub state: usize,
     pub inputs: usize,
@@ -71,28 +71,28 @@ pub struct Lengths {
 }
 
 // What is answered where the lengths are asked for.
-#[derive(Drop)]
+#[derive(Clone, Copy)]
 pub enum Measured {
     Done(Lengths),
     Refused(Fault),
 }
 
 // What the ordering answers.
-#[derive(Drop)]
+#[derive(Clone, Copy)]
 pub enum Sorted {
     Done,
     Refused(Fault),
 }
 
 // What the start answers.
-#[derive(Drop)]
+#[derive(Clone, Copy)]
 pub enum Started {
     Done,
     Refused(Fault),
 }
 
 // What a cycle answers: values, a stop (18 to 21) or a refusal (1 to 17).
-#[derive(Drop)]
+#[derive(Clone, Copy)]
 pub enum Cycled {
     Answered,
     Stopped(Fault),

@@ -6,7 +6,7 @@ use ol_tables::heads::next_call;
 
 // The next call site, if one was found: its callee, and what is left behind its head: the place, the
 // equations and the expressions of the present one.
-#[derive(Drop)]
+#[derive(Clone, Copy)]
 pub(crate) struct Site {
     pub(crate) found: bool,
     pub(crate) callee: usize,

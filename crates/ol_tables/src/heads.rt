@@ -6,14 +6,14 @@ ghost use Rattle.ol_tables.specs.Walks.{HeadOf, skip_at, Calls};
 use super::bytes::byte;
 
 // How many parts an expression has, and where they start.
-#[derive(Drop)]
+#[derive(Clone, Copy)]
 pub struct Parts {
     pub count: usize,
     pub start: usize,
 }
 
 // How many bytes the type at `at` has.
-pub fn ty_size_lem(file: &[u8], at: usize) -> usize
+pub fn ty_size(file: &[u8], at: usize) -> usize
     ensures { result ≡ ty_size_at file.now at }
 {
     if byte(file, at) == 12 { 2 } else { 1 }
@@ -79,7 +79,7 @@ fn head_inside(file: &[u8], at: usize) -> Parts
     } else if c == 10 {
         Parts {
             count: 1,
-            start: at + 1 + ty_size_lem(file, at + 1),
+            start: at + 1 + ty_size(file, at + 1),
         }
     } else if c == 11 {
         Parts {
@@ -130,7 +130,7 @@ pub fn skip(file: &[u8], parts: usize, at: usize) -> usize
 
 // The next call, if one was found: its callee, and what is left behind its head: the place and how many
 // expressions. If none was found, the place is the end.
-#[derive(Drop)]
+#[derive(Clone, Copy)]
 pub struct NextCall {
     pub found: bool,
     pub callee: usize,

@@ -39,7 +39,7 @@ fn difference_fits(a: i64, b: i64) -> bool
 pub(crate) fn magnitude(a: i64) -> u64
     ensures { result ≡ mag a }
 {
-    if 0 <= a { a as u64 } else { (_1 - a) as u64 }
+    if 0 <= a { a as u64 } else { (-1 - a) as u64 }
 }
 
 // A number without its sign.
@@ -70,7 +70,7 @@ fn product_fits(a: i64, b: i64) -> bool
 fn quotient_fits(a: i64, b: i64) -> bool
     ensures { result ≡ ltb (mag (quot_z a b)) (2 ^ 63) }
 {
-    if b == _1 { a != LOWEST } else { true }
+    if b == -1 { a != LOWEST } else { true }
 }
 
 // Add: the sum, or an overflow.

@@ -9,7 +9,7 @@ use crate::ints::magnitude;
 
 // A type's width in bits, 0 if it holds no integers; whether an integer that is stored in it or cast to it is
 // narrowed; and whether it has a sign.
-#[derive(Drop)]
+#[derive(Clone, Copy)]
 pub(crate) struct TypeRow {
     pub(crate) bits: u8,
     pub(crate) narrows: bool,
@@ -87,7 +87,7 @@ fn signed_of(b: u64, n: u64) -> i64
         n as i64
     } else {
         let m = power(b);
-        _1 - (m - 1 - n) as i64
+        -1 - (m - 1 - n) as i64
     }
 }
 

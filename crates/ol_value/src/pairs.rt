@@ -7,7 +7,7 @@ use ol_real::f32_to_f64;
 use ol_spec::Value;
 
 // Two operands, by their kinds: two singles are singles, other reals are doubles.
-#[derive(Drop)]
+#[derive(Clone, Copy)]
 pub(crate) enum Operands {
     Bools(bool, bool),
     Ints(i64, i64),

@@ -231,7 +231,7 @@ fn next_agrees(file: &[u8]) -> bool
 // ---- the counts
 
 // How many questions are answered as the list says, and how many there are.
-#[derive(Drop)]
+#[derive(Clone, Copy)]
 struct Tally {
     good: u64,
     all: u64,

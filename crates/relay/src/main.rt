@@ -15,7 +15,7 @@ use session::Session;
 
 // A piece of the input as it is read: its bytes from `at` up to `end` are not taken yet. The line's first
 // `length` bytes are there. It is whole once its end was met; the input is at its end once a read gives nothing.
-#[derive(Drop)]
+#[derive(Clone, Copy)]
 struct Input {
     at: usize,
     end: usize,
@@ -60,7 +60,7 @@ fn take_line(input: &[u8], i: Input, line: &mut [u8]) -> Input
 }
 
 // Where a session stands: what is kept, the input, the number of the line that is read, whether it is over.
-#[derive(Drop)]
+#[derive(Clone, Copy)]
 struct Turn {
     session: Session,
     input: Input,
@@ -125,7 +125,7 @@ fn respond(
 }
 
 // How many bytes a write was handed, and whether it took them.
-#[derive(Drop)]
+#[derive(Clone, Copy)]
 struct Written {
     length: usize,
     is_taken: bool,
@@ -151,7 +151,7 @@ fn write_front(out: &[u8], n: usize) -> Written
 }
 
 // What is kept, the length of the answer as it was written, and whether it was taken.
-#[derive(Drop)]
+#[derive(Clone, Copy)]
 struct Answered {
     session: Session,
     length: usize,

@@ -10,7 +10,7 @@ use relay_text::answers::{bytes_of, number_of};
 use relay_text::{Hex, Number, nth, words};
 
 // The command that a line's first word names.
-#[derive(Drop)]
+#[derive(Clone, Copy)]
 pub enum Command {
     File,
     Order,
@@ -22,7 +22,7 @@ pub enum Command {
 }
 
 // The lengths of the new state and of the values that a cycle is lent: the right ones, or those that the line gives.
-#[derive(Drop)]
+#[derive(Clone, Copy)]
 pub enum Lengths {
     Right,
     These(usize, usize),
@@ -30,7 +30,7 @@ pub enum Lengths {
 }
 
 // Why a line is not obeyed.
-#[derive(Drop)]
+#[derive(Clone, Copy)]
 pub enum Reason {
     LineTooLong,
     UnknownCommand,
@@ -41,7 +41,7 @@ pub enum Reason {
 }
 
 // What is asked about the file that is open: a state and inputs of so many bytes.
-#[derive(Drop)]
+#[derive(Clone, Copy)]
 pub enum Query {
     Order(usize),
     Start,
@@ -51,7 +51,7 @@ pub enum Query {
 }
 
 // What a line asks for: a file of so many bytes, or something about the file that is open.
-#[derive(Drop)]
+#[derive(Clone, Copy)]
 pub enum Request {
     Silent,
     Wrong(Reason),

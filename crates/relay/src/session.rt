@@ -23,7 +23,7 @@ use relay_text::answers::{
 use relay_text::{put, within};
 
 // Whether a file is open, its length, and its state's length.
-#[derive(Drop)]
+#[derive(Clone, Copy)]
 pub struct Session {
     pub is_open: bool,
     pub file: usize,
@@ -31,35 +31,35 @@ pub struct Session {
 }
 
 // What is kept from now on, and the length of the answer.
-#[derive(Drop)]
+#[derive(Clone, Copy)]
 pub struct Replied {
     pub session: Session,
     pub length: usize,
 }
 
 // The length of the answer, and of the state.
-#[derive(Drop)]
+#[derive(Clone, Copy)]
 pub struct Stood {
     pub length: usize,
     pub state: usize,
 }
 
 // What a file is admitted or refused with, and the length of its fresh state.
-#[derive(Drop)]
+#[derive(Clone, Copy)]
 pub struct Begun {
     pub verdict: Verdict,
     pub state: usize,
 }
 
 // How a cycle ended, and the length of its values.
-#[derive(Drop)]
+#[derive(Clone, Copy)]
 pub struct Stepped {
     pub cycled: Cycled,
     pub values: usize,
 }
 
 // How an ordering ended, and its number of entries.
-#[derive(Drop)]
+#[derive(Clone, Copy)]
 pub struct Listed {
     pub sorted: Sorted,
     pub count: usize,

@@ -7,21 +7,21 @@ ghost use Rattle.io.specs.Counts.{IsPrefixLen};
 ghost use Rattle.relay_text.specs.Text.{is_blank, sort, run, word_at, word_number, words_up_to, hex_value, bytes_of, unhexed, unhexed_front, onto, Decoded, glyph_of, hexed, hex_word, with_digit, number_of, decimal_word};
 
 // A word of a line: it stands from `from` up to `to`.
-#[derive(Drop)]
+#[derive(Clone, Copy)]
 pub struct Word {
     pub from: usize,
     pub to: usize,
 }
 
 // What a word in hexadecimal stands for: so many bytes, or nothing.
-#[derive(Drop)]
+#[derive(Clone, Copy)]
 pub enum Hex {
     Bytes(usize),
     Malformed,
 }
 
 // What a word in decimal digits stands for.
-#[derive(Drop)]
+#[derive(Clone, Copy)]
 pub enum Number {
     Of(usize),
     Malformed,

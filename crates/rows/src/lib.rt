@@ -4,7 +4,7 @@ ghost use Rattle.std.specs.Prelude.{◌≡◌};
 ghost use Rattle.rows.specs.Rows.{Lesser, agreeing, first_other, Compares, all_agree};
 
 // How many rows agree, and the index of the first that does not; where all do, how many there are.
-#[derive(Drop)]
+#[derive(Clone, Copy)]
 pub struct Compared {
     pub agreeing: usize,
     pub first: usize,

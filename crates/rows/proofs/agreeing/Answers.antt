@@ -1,0 +1,28 @@
+use Prim.Native.Nat.{◌≤◌, ◌-◌, ◌+◌}
+use native.Mathlib.Omega.{arith}
+use mathlib.Core.Logic.{⊎_elim}
+use mathlib.Core.Path.{◌≡◌, refl, sym, ◌∙◌, ap}
+use borrow.Author.Rules.{rules}
+use lib.ListN.{length, drop}
+use Rattle.rows.specs.Rows.{agreeing}
+use Rattle.rows.proofs.Laws.{agreeing_more, agreeing_not, agreeing_end}
+use Rattle.rows.proofs.agreeing.Goals as goal
+
+pub loop-i-init : goal.loop-i-init
+loop-i-init c = (search rules, search rules, omega arith)
+
+pub loop-i-preserved : goal.loop-i-preserved
+loop-i-preserved c =
+    let f = c.args.found.now in
+    let w = c.args.wanted.now in
+    let i = c.loop-i.i in
+    ⊎_elim
+    (λ t. (omega arith, omega arith, omega (arith, agreeing_more f w i (omega arith) (omega arith) t.0.taken)))
+    (λ t. (omega arith, omega arith, omega (arith, agreeing_not f w i (omega arith) (omega arith) t.0.left))) c.if-found-i.branch
+
+pub returns : goal.returns
+returns c =
+    let f = c.args.found.now in
+    let w = c.args.wanted.now in
+    let i = c.loop-i.i in
+    omega (arith, agreeing_end f w i (λ h. omega (arith, c.lesser-n.ensures.other (omega arith))))

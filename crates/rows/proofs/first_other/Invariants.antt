@@ -1,0 +1,15 @@
+use Prim.Native.Nat.{◌≤◌, ◌-◌, ◌+◌}
+use native.Mathlib.Omega.{arith}
+use mathlib.Core.Logic.{⊎_elim}
+use mathlib.Core.Path.{◌≡◌, refl, sym, ◌∙◌, ap}
+use borrow.Author.Rules.{rules}
+use lib.ListN.{length, drop}
+use Rattle.rows.specs.Rows.{first_other}
+use Rattle.rows.proofs.Laws.{first_more, first_not, first_end}
+use Rattle.rows.proofs.first_other.Given as goal
+
+abbrev pub invariant-loop-first : goal.invariant-loop-first
+invariant-loop-first l = (l.first ≤ l.n) × (l.first + first_other (drop l.first l.found) (drop l.first l.wanted) ≡ first_other l.found l.wanted)
+
+abbrev pub decreases-loop-first : goal.decreases-loop-first
+decreases-loop-first l = l.n - l.first
