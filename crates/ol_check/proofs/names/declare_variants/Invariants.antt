@@ -1,0 +1,13 @@
+use Prim.Native.Nat.{◌+◌, ◌*◌, ◌-◌}
+use mathlib.Core.Path.{◌≡◌, refl, ◌∙◌}
+use lib.ListN.{length}
+use native.Mathlib.Omega.{arith}
+use Rattle.ol_check.proofs.EntryLoops.{VariantsGoing, variants_start, variants_turn, variants_done}
+use Rattle.ol_check.proofs.names.declare_variants.Given as goal
+
+abbrev pub invariant-loop-i : goal.invariant-loop-i
+invariant-loop-i l =
+    (l.next ≡ l.initial.names + 2 * l.i) × (length l.names ≡ length l.count) × VariantsGoing l.file l.count l.names l.at l.initial.names l.i l.next
+
+abbrev pub decreases-loop-i : goal.decreases-loop-i
+decreases-loop-i l = l.at - l.i

@@ -1,0 +1,12 @@
+use Rattle.ol_check.proofs.SizeLaws.{main_operator, main_other}
+use borrow.Author.Rules.{rules}
+use Rattle.ol_check.proofs.size.not_operator.Goals as goal
+
+pub overflow_sub-k : goal.overflow_sub-k
+overflow_sub-k c = c.requires.1
+
+pub returns-then-row-eq1 : goal.returns-then-row-eq1
+returns-then-row-eq1 c = main_operator c.requires.0 c.requires.1 _ c.row.ensures c.if-row-eq1.true
+
+pub returns-else-row-eq1 : goal.returns-else-row-eq1
+returns-else-row-eq1 c = main_other c.requires.0 c.requires.1 _ _ c.row.ensures c.if-row-eq1.false c.row-else-row-eq1.ensures

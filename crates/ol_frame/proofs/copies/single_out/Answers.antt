@@ -1,0 +1,31 @@
+use mathlib.Core.Path.{◌≡◌, refl, sym, ap, subst, ◌∙◌}
+use Prim.Native.Nat.{ℕ, ◌+◌, ◌-◌, ◌*◌, ◌≤◌, ◌<◌}
+use native.Mathlib.Omega.{arith}
+use Rattle.ol_frame.specs.Stores.{Leaves}
+use Rattle.ol_frame.proofs.Storing.{one_output, other_outputs, failed_call, overflowed_call}
+use borrow.Author.Rules.{rules}
+use Rattle.ol_frame.proofs.copies.single_out.Goals as goal
+
+pub read_cell-requires : goal.read_cell-requires
+read_cell-requires c =
+    c.requires
+
+pub returns-then-outputs-eq1 : goal.returns-then-outputs-eq1
+returns-then-outputs-eq1 c =
+    let cells = c.args.cells.now in
+    λ os h. one_output os c.args.end c.read_cell.result cells c.enum_told-1.given.1 c.read_cell.ensures (subst (λ (n : ℕ). Leaves os c.args.end n cells) c.if-outputs-eq1.true h)
+
+pub returns-else-outputs-eq1 : goal.returns-else-outputs-eq1
+returns-else-outputs-eq1 c =
+    let cells = c.args.cells.now in
+    λ os h. other_outputs os c.args.end c.args.outputs cells c.enum_told-1.given.1 c.if-outputs-eq1.false h
+
+pub returns-in-Failed : goal.returns-in-Failed
+returns-in-Failed c =
+    let cells = c.args.cells.now in
+    λ os h. failed_call os c.args.end c.end-1.given.0.0 c.args.outputs cells c.end-1.given.1 h
+
+pub returns-in-Overflowed : goal.returns-in-Overflowed
+returns-in-Overflowed c =
+    let cells = c.args.cells.now in
+    λ os h. overflowed_call os c.args.end c.args.outputs cells c.enum_told-in-Overflowed-1.given.1 h

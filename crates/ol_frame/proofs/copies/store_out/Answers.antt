@@ -1,0 +1,21 @@
+use mathlib.Core.Path.{refl, sym, ap, subst, ◌∙◌}
+use Rattle.ol_spec.specs.Eval.{several}
+use Rattle.ol_spec.specs.declared.Outcome.TheVariants as Out
+use Rattle.ol_spec.specs.declared.Outcome.{Outcome}
+use Rattle.ol_frame.specs.Outcomes.{ending_of}
+use Rattle.ol_frame.proofs.Storing.{out_stored, out_none, no_failure, no_overflow}
+use Rattle.ol_tables.specs.Table.{tab_of}
+use borrow.Author.Rules.{rules}
+use Rattle.ol_frame.proofs.copies.store_out.Goals as goal
+
+pub returns-in-Value : goal.returns-in-Value
+returns-in-Value c =
+    (ap (λ (o : Outcome). ending_of (several o)) (sym c.o-1.given.1), out_stored (tab_of c.args.tab.now) c.args.k c.args.at c.args.o c.kept.result c.args.cells.now _ (c.o-1.given.1 ∙ ap Out.Value (sym c.kept.ensures.0)) c.store.ensures)
+
+pub returns-in-Failure : goal.returns-in-Failure
+returns-in-Failure c =
+    (ap (λ (o : Outcome). ending_of (several o)) (sym c.o-in-Failure-1.given.1), out_none (tab_of c.args.tab.now) c.args.k c.args.at c.args.o c.args.cells.now _ (λ vs w. no_failure c.o-in-Failure-1.given.0.0 vs (sym (ap several c.o-in-Failure-1.given.1) ∙ w)))
+
+pub returns-in-Overflow : goal.returns-in-Overflow
+returns-in-Overflow c =
+    (ap (λ (o : Outcome). ending_of (several o)) (sym c.enum_told-1.given.1), out_none (tab_of c.args.tab.now) c.args.k c.args.at c.args.o c.args.cells.now _ (λ vs w. no_overflow vs (sym (ap several c.enum_told-1.given.1) ∙ w)))

@@ -1,0 +1,215 @@
+use mathlib.Core.Path.{◌≡◌, refl, sym, ap, subst, ◌∙◌}
+use mathlib.Core.Bool.{Bool, true, false}
+use Prim.Native.Nat.{ℕ, ◌+◌, ◌-◌, ◌*◌}
+use native.Mathlib.Omega.{arith}
+use lib.ListN.{get_or, take, drop}
+use Rattle.ol_spec.specs.Syntax.{Expr, var, pre}
+use Rattle.ol_spec.specs.Eval.{eval}
+use Rattle.ol_spec.specs.Cell.{value_by}
+use Rattle.ol_spec.specs.Numbers.{number_of}
+use Rattle.ol_spec.specs.declared.Value.TheVariants as Val
+use Rattle.ol_spec.specs.declared.Outcome.TheVariants as Out
+use Rattle.ol_tables.proofs.Forms.{reads_in, reads_deep, bool_form, int_form, float_form, char_form, var_form, pre_form, tuple_form, some_code, last_code}
+use Rattle.ol_frame.specs.Plans.{eval_in}
+use Rattle.ol_frame.proofs.Naming.{value_at_lem}
+use Rattle.ol_frame.proofs.Planning.{plan_head, plan_name, plan_looked}
+use Rattle.ol_tables.specs.Table.{tab_of, rows_of, consts_of}
+use Rattle.ol_frame.specs.Frame.{node_of, first_of, cells_of, before_of}
+use borrow.Author.Rules.{rules}
+use Rattle.ol_frame.proofs.names.leaf_out.Goals as goal
+
+pub bounds-file-at : goal.bounds-file-at
+bounds-file-at c =
+    let f = c.args.file.now in
+    let L = c.args.level in
+    let a = c.args.at in
+    let p = c.requires.1 in
+    let h = plan_head f p in
+    reads_in f L a h
+
+pub overflow_add-p : goal.overflow_add-p
+overflow_add-p c =
+    let f = c.args.file.now in
+    let L = c.args.level in
+    let a = c.args.at in
+    let p = c.requires.1 in
+    let h = plan_head f p in
+    omega (arith, reads_in f L a h, c.well-formed)
+
+pub bounds-file-p : goal.bounds-file-p
+bounds-file-p c =
+    let f = c.args.file.now in
+    let L = c.args.level in
+    let a = c.args.at in
+    let p = c.requires.1 in
+    let h = plan_head f p in
+    omega (arith, (bool_form f L a h c.in-0.is).0.inside)
+
+pub read_cell-requires : goal.read_cell-requires
+read_cell-requires c =
+    let f = c.args.file.now in
+    let L = c.args.level in
+    let a = c.args.at in
+    let p = c.requires.1 in
+    let h = plan_head f p in
+    (int_form f L a h c.in-1.is).inside
+
+pub read_cell-requires-in-2 : goal.read_cell-requires-in-2
+read_cell-requires-in-2 c =
+    let f = c.args.file.now in
+    let L = c.args.level in
+    let a = c.args.at in
+    let p = c.requires.1 in
+    let h = plan_head f p in
+    (float_form f L a h c.in-2.is).inside
+
+pub bounds-file-p-in-3 : goal.bounds-file-p-in-3
+bounds-file-p-in-3 c =
+    let f = c.args.file.now in
+    let L = c.args.level in
+    let a = c.args.at in
+    let p = c.requires.1 in
+    let h = plan_head f p in
+    omega (arith, (char_form f L a h c.in-3.is).inside)
+
+pub present-requires : goal.present-requires
+present-requires c =
+    let f = c.args.file.now in
+    let p = c.requires.1 in
+    (c.requires.0, plan_name f p c.in-4.is, c.requires.2)
+
+pub overflow_sub-level : goal.overflow_sub-level
+overflow_sub-level c =
+    let f = c.args.file.now in
+    let L = c.args.level in
+    let a = c.args.at in
+    let p = c.requires.1 in
+    let h = plan_head f p in
+    reads_deep f L a h
+
+pub previous-requires : goal.previous-requires
+previous-requires c =
+    let f = c.args.file.now in
+    let p = c.requires.1 in
+    (c.requires.0, plan_looked f p c.in-8.is, c.requires.3)
+
+pub returns-in-0 : goal.returns-in-0
+unfolding eval
+returns-in-0 c =
+    let f = c.args.file.now in
+    let T = c.args.tab.now in
+    let k = consts_of T in
+    let fr = c.args.frame.now in
+    let cl = cells_of fr in
+    let b = before_of fr in
+    let n = node_of fr in
+    let F = first_of fr in
+    let L = c.args.level in
+    let a = c.args.at in
+    let p = c.requires.1 in
+    let h = plan_head f p in
+    λ seg. ap (λ (e : Expr). (eval_in f k n F cl b e seg).out) (sym (bool_form f L a h c.in-0.is).0.tree)
+
+pub returns-in-1 : goal.returns-in-1
+unfolding eval
+returns-in-1 c =
+    let f = c.args.file.now in
+    let T = c.args.tab.now in
+    let k = consts_of T in
+    let fr = c.args.frame.now in
+    let cl = cells_of fr in
+    let b = before_of fr in
+    let n = node_of fr in
+    let F = first_of fr in
+    let L = c.args.level in
+    let a = c.args.at in
+    let p = c.requires.1 in
+    let h = plan_head f p in
+    λ seg. ap Out.Value (c.read_cell.ensures ∙ value_at_lem f a (reads_in f L a h) ∙ ap (λ (t : ℕ). value_by t (number_of 0 (take 8 (drop (a + 1) f)))) c.in-1.is) ∙ ap (λ (e : Expr). (eval_in f k n F cl b e seg).out) (sym (int_form f L a h c.in-1.is).tree)
+
+pub returns-in-2 : goal.returns-in-2
+unfolding eval
+returns-in-2 c =
+    let f = c.args.file.now in
+    let T = c.args.tab.now in
+    let k = consts_of T in
+    let fr = c.args.frame.now in
+    let cl = cells_of fr in
+    let b = before_of fr in
+    let n = node_of fr in
+    let F = first_of fr in
+    let L = c.args.level in
+    let a = c.args.at in
+    let p = c.requires.1 in
+    let h = plan_head f p in
+    λ seg. ap Out.Value (c.read_cell-in-2.ensures ∙ value_at_lem f a (reads_in f L a h) ∙ ap (λ (t : ℕ). value_by t (number_of 0 (take 8 (drop (a + 1) f)))) c.in-2.is) ∙ ap (λ (e : Expr). (eval_in f k n F cl b e seg).out) (sym (float_form f L a h c.in-2.is).tree)
+
+pub returns-in-3 : goal.returns-in-3
+unfolding eval
+returns-in-3 c =
+    let f = c.args.file.now in
+    let T = c.args.tab.now in
+    let k = consts_of T in
+    let fr = c.args.frame.now in
+    let cl = cells_of fr in
+    let b = before_of fr in
+    let n = node_of fr in
+    let F = first_of fr in
+    let L = c.args.level in
+    let a = c.args.at in
+    let p = c.requires.1 in
+    let h = plan_head f p in
+    λ seg. ap Out.Value c.Char-of.ensures ∙ ap (λ (e : Expr). (eval_in f k n F cl b e seg).out) (sym (char_form f L a h c.in-3.is).tree)
+
+pub returns-in-4 : goal.returns-in-4
+unfolding eval
+returns-in-4 c =
+    let f = c.args.file.now in
+    let T = c.args.tab.now in
+    let k = consts_of T in
+    let fr = c.args.frame.now in
+    let cl = cells_of fr in
+    let b = before_of fr in
+    let n = node_of fr in
+    let F = first_of fr in
+    let L = c.args.level in
+    let a = c.args.at in
+    let p = c.requires.1 in
+    let h = plan_head f p in
+    λ seg. c.present.ensures ∙ ap (λ (e : Expr). (eval_in f k n F cl b e seg).out) (sym (var_form f L a h c.in-4.is).tree)
+
+pub returns-in-8 : goal.returns-in-8
+unfolding eval
+returns-in-8 c =
+    let f = c.args.file.now in
+    let T = c.args.tab.now in
+    let k = consts_of T in
+    let fr = c.args.frame.now in
+    let cl = cells_of fr in
+    let b = before_of fr in
+    let n = node_of fr in
+    let F = first_of fr in
+    let L = c.args.level in
+    let a = c.args.at in
+    let p = c.requires.1 in
+    let h = plan_head f p in
+    λ seg. c.previous.ensures ∙ ap (λ (e : Expr). (eval_in f k n F cl b e seg).out) (sym (pre_form f L a h c.in-8.is).tree)
+
+pub returns-in_default : goal.returns-in_default
+unfolding eval
+returns-in_default c =
+    let f = c.args.file.now in
+    let T = c.args.tab.now in
+    let k = consts_of T in
+    let fr = c.args.frame.now in
+    let cl = cells_of fr in
+    let b = before_of fr in
+    let n = node_of fr in
+    let F = first_of fr in
+    let L = c.args.level in
+    let a = c.args.at in
+    let p = c.requires.1 in
+    let h = plan_head f p in
+    let lf = c.requires.4 in
+    let m = c.in_default.rest in
+    λ seg. ap (λ (e : Expr). (eval_in f k n F cl b e seg).out) (sym (tuple_form f L a h ((last_code (get_or f a 0) (some_code f L a h) m.0.0.0.0.0.1 m.0.0.0.0.1 m.0.0.0.1 m.0.0.1 m.0.1 lf.no-unary lf.no-binary lf.no-if m.1 lf.no-arrow lf.no-cast lf.no_call))).0.tree)

@@ -1,0 +1,156 @@
+use mathlib.Core.Path.{◌≡◌, refl, sym, ap, subst, ◌∙◌}
+use mathlib.Core.Bool.{Bool, true, false}
+use mathlib.Core.Option.{Option, none, some}
+use Prim.Native.Nat.{ℕ, ◌+◌, ◌-◌, ◌*◌}
+use Rattle.ol_spec.specs.Cell.{value_of}
+use Rattle.ol_frame.proofs.Tabling.{before_cell, before_room, const_cell, const_room}
+use native.Mathlib.Omega.{arith}
+use lib.ListN.{get_or}
+use Rattle.ol_spec.specs.Lists.{maybe}
+use Rattle.ol_spec.specs.Eval.{or_failure, pre_of}
+use Rattle.ol_spec.specs.declared.Outcome.TheVariants as Out
+use Rattle.ol_spec.specs.declared.Cause.TheVariants as Why
+use Rattle.ol_tables.specs.At.{expr_at}
+use Rattle.ol_tables.proofs.Forms.{reads_in, var_form}
+use Rattle.ol_frame.specs.Plans.{globals_in, scope_in}
+use Rattle.ol_frame.proofs.Naming.{slot_cell, known_cell, was_variable, was_constant, was_variant, is_name, no_name, pre_is, pre_none}
+use Rattle.ol_tables.specs.Table.{tab_of, rows_of, consts_of}
+use Rattle.ol_frame.specs.Frame.{node_of, first_of, cells_of, before_of}
+use borrow.Author.Rules.{rules}
+use Rattle.ol_frame.proofs.names.previous.Goals as goal
+
+pub is_first-requires : goal.is_first-requires
+is_first-requires c =
+    c.requires.0
+
+pub returns-then-is_first : goal.returns-then-is_first
+returns-then-is_first c =
+    let f = c.args.file.now in
+    let T = c.args.tab.now in
+    let k = consts_of T in
+    let fr = c.args.frame.now in
+    let b = before_of fr in
+    let n = node_of fr in
+    let a = c.args.at in
+    let F = first_of fr in
+    let g = globals_in f k in
+    let cl = scope_in f n F b b in
+    let e : pre_of g cl F (expr_at f c.args.level a) ≡ Out.Failure Why.Cold = ap (λ (x : Bool). pre_of g cl x (expr_at f c.args.level a)) (sym c.is_first.ensures ∙ c.if-is_first.true) in
+    sym e
+
+pub bounds-file-at : goal.bounds-file-at
+bounds-file-at c =
+    let f = c.args.file.now in
+    let a = c.args.at in
+    let p = c.requires.1 in
+    reads_in f c.args.level a p.reads
+
+pub overflow_add-at : goal.overflow_add-at
+overflow_add-at c =
+    let f = c.args.file.now in
+    let a = c.args.at in
+    let p = c.requires.1 in
+    omega (arith, (var_form f c.args.level a p.reads c.if-file-at-eq4.true).inside, c.well-formed)
+
+pub slot_at-s-requires : goal.slot_at-s-requires
+slot_at-s-requires c =
+    let p = c.requires.1 in
+    omega (arith, (p.named c.if-file-at-eq4.true).long, (p.named c.if-file-at-eq4.true).inside)
+
+pub read_cell-requires : goal.read_cell-requires
+read_cell-requires c =
+    let f = c.args.file.now in
+    let T = c.args.tab.now in
+    let t = tab_of T in
+    let k = consts_of T in
+    let fr = c.args.frame.now in
+    let b = before_of fr in
+    let n = node_of fr in
+    let a = c.args.at in
+    let p = c.requires.1 in
+    let s = c.slot_at-s.result in
+    let e = c.slot_at-s.ensures in
+    before_room fr (s * 9) (slot_cell f t k n (a + 1) ((p.named c.if-file-at-eq4.true)) s e b c.requires.2 c.if-s-lt112.true)
+
+pub read_cell-requires-then-s-lt255 : goal.read_cell-requires-then-s-lt255
+read_cell-requires-then-s-lt255 c =
+    let f = c.args.file.now in
+    let T = c.args.tab.now in
+    let t = tab_of T in
+    let k = consts_of T in
+    let fr = c.args.frame.now in
+    let n = node_of fr in
+    let a = c.args.at in
+    let p = c.requires.1 in
+    let s = c.slot_at-s.result in
+    let e = c.slot_at-s.ensures in
+    const_room T ((s - 112) * 9) (known_cell f t k n (a + 1) ((p.named c.if-file-at-eq4.true)) s e (λ l. omega (arith, c.if-s-lt112.false)) c.if-s-lt255.true)
+
+pub returns-then-s-lt112 : goal.returns-then-s-lt112
+returns-then-s-lt112 c =
+    let f = c.args.file.now in
+    let T = c.args.tab.now in
+    let t = tab_of T in
+    let k = consts_of T in
+    let fr = c.args.frame.now in
+    let b = before_of fr in
+    let n = node_of fr in
+    let a = c.args.at in
+    let F = first_of fr in
+    let p = c.requires.1 in
+    let s = c.slot_at-s.result in
+    let e = c.slot_at-s.ensures in
+    let g = globals_in f k in
+    let cl = scope_in f n F b b in
+    ap Out.Value (c.read_cell.ensures ∙ ap value_of (before_cell fr (s * 9))) ∙ sym (pre_is g cl F (expr_at f c.args.level a) _ (some _) ((sym c.is_first.ensures ∙ c.if-is_first.false)) ((is_name f c.args.level a p.reads c.if-file-at-eq4.true)) (was_variable f t k n (a + 1) ((p.named c.if-file-at-eq4.true)) s e F b b c.if-s-lt112.true))
+
+pub returns-then-s-lt255 : goal.returns-then-s-lt255
+returns-then-s-lt255 c =
+    let f = c.args.file.now in
+    let T = c.args.tab.now in
+    let t = tab_of T in
+    let k = consts_of T in
+    let fr = c.args.frame.now in
+    let b = before_of fr in
+    let n = node_of fr in
+    let a = c.args.at in
+    let F = first_of fr in
+    let p = c.requires.1 in
+    let s = c.slot_at-s.result in
+    let e = c.slot_at-s.ensures in
+    let g = globals_in f k in
+    let cl = scope_in f n F b b in
+    ap Out.Value (c.read_cell-then-s-lt255.ensures ∙ ap value_of (const_cell T ((s - 112) * 9) (known_cell f t k n (a + 1) ((p.named c.if-file-at-eq4.true)) s e (λ l. omega (arith, c.if-s-lt112.false)) c.if-s-lt255.true))) ∙ sym (pre_is g cl F (expr_at f c.args.level a) _ (some _) ((sym c.is_first.ensures ∙ c.if-is_first.false)) ((is_name f c.args.level a p.reads c.if-file-at-eq4.true)) (was_constant f t k n (a + 1) ((p.named c.if-file-at-eq4.true)) s e F b b (λ l. omega (arith, c.if-s-lt112.false)) c.if-s-lt255.true))
+
+pub returns-else-s-lt255 : goal.returns-else-s-lt255
+returns-else-s-lt255 c =
+    let f = c.args.file.now in
+    let T = c.args.tab.now in
+    let t = tab_of T in
+    let k = consts_of T in
+    let fr = c.args.frame.now in
+    let b = before_of fr in
+    let n = node_of fr in
+    let a = c.args.at in
+    let F = first_of fr in
+    let p = c.requires.1 in
+    let s = c.slot_at-s.result in
+    let e = c.slot_at-s.ensures in
+    let g = globals_in f k in
+    let cl = scope_in f n F b b in
+    sym (pre_is g cl F (expr_at f c.args.level a) _ none ((sym c.is_first.ensures ∙ c.if-is_first.false)) ((is_name f c.args.level a p.reads c.if-file-at-eq4.true)) (was_variant f t k n (a + 1) ((p.named c.if-file-at-eq4.true)) s e F b b (λ l. omega (arith, c.if-s-lt255.false))))
+
+pub returns-else-file-at-eq4 : goal.returns-else-file-at-eq4
+returns-else-file-at-eq4 c =
+    let f = c.args.file.now in
+    let T = c.args.tab.now in
+    let k = consts_of T in
+    let fr = c.args.frame.now in
+    let b = before_of fr in
+    let n = node_of fr in
+    let a = c.args.at in
+    let F = first_of fr in
+    let p = c.requires.1 in
+    let g = globals_in f k in
+    let cl = scope_in f n F b b in
+    sym (pre_none g cl F (expr_at f c.args.level a) ((sym c.is_first.ensures ∙ c.if-is_first.false)) (no_name f c.args.level a p.reads c.if-file-at-eq4.false))

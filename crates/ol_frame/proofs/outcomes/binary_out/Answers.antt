@@ -1,0 +1,16 @@
+use mathlib.Core.Path.{◌≡◌, refl, sym, ap, subst, ◌∙◌}
+use Rattle.ol_frame.specs.Outcomes.{binary_out}
+use borrow.Author.Rules.{rules}
+use Rattle.ol_frame.proofs.outcomes.binary_out.Goals as goal
+
+pub returns-in-Value-r : goal.returns-in-Value-r
+returns-in-Value-r c =
+    c.eval_binary.ensures ∙ (λ i. binary_out c.args.op (sym c.l-1.given.1 i) (sym c.r-1.given.1 i))
+
+pub returns-in-Failure-r : goal.returns-in-Failure-r
+returns-in-Failure-r c =
+    λ i. binary_out c.args.op (sym c.l-1.given.1 i) (sym c.r-in-Value-1.given.1 i)
+
+pub returns-in-Failure : goal.returns-in-Failure
+returns-in-Failure c =
+    λ i. binary_out c.args.op (sym c.l-in-Failure-l-1.given.1 i) c.args.r

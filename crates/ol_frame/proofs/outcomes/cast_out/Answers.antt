@@ -1,0 +1,18 @@
+use mathlib.Core.Path.{◌≡◌, refl, sym, ap, subst, ◌∙◌}
+use Rattle.ol_spec.specs.Eval.{then_out}
+use Rattle.ol_spec.specs.Types.{cast_to}
+use Rattle.ol_value.specs.Codes.{ty_of}
+use borrow.Author.Rules.{rules}
+use Rattle.ol_frame.proofs.outcomes.cast_out.Goals as goal
+
+pub returns-in-Value : goal.returns-in-Value
+returns-in-Value c =
+    λ e. c.cast_value.ensures e ∙ ap (then_out (cast_to (ty_of c.args.code e))) (sym c.o-1.given.1)
+
+pub returns-in-Failure : goal.returns-in-Failure
+returns-in-Failure c =
+    λ e. ap (then_out (cast_to (ty_of c.args.code e))) (sym c.o-in-Failure-1.given.1)
+
+pub returns-in-Overflow : goal.returns-in-Overflow
+returns-in-Overflow c =
+    λ e. ap (then_out (cast_to (ty_of c.args.code e))) (sym c.enum_told-1.given.1)

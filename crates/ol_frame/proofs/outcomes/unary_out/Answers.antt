@@ -1,0 +1,13 @@
+use mathlib.Core.Path.{◌≡◌, refl, sym, ap, subst, ◌∙◌}
+use Rattle.ol_spec.specs.Eval.{then_out}
+use Rattle.ol_value.specs.Codes.{unary_by}
+use borrow.Author.Rules.{rules}
+use Rattle.ol_frame.proofs.outcomes.unary_out.Goals as goal
+
+pub returns-in-Value : goal.returns-in-Value
+returns-in-Value c =
+    c.eval_unary.ensures ∙ ap (then_out (unary_by c.args.op)) (sym c.o-1.given.1)
+
+pub returns-in-Failure : goal.returns-in-Failure
+returns-in-Failure c =
+    ap (then_out (unary_by c.args.op)) (sym c.o-in-Failure-1.given.1)

@@ -1,0 +1,10 @@
+use mathlib.Core.Path.{sym, ap}
+use Rattle.ol_frame.specs.Outcomes.{untested_of}
+use borrow.Author.Rules.{rules}
+use Rattle.ol_frame.proofs.outcomes.untested.Goals as goal
+
+pub returns-in-Value : goal.returns-in-Value
+returns-in-Value c = ap untested_of (sym c.enum_told-1.given.1)
+
+pub returns-in-Failure : goal.returns-in-Failure
+returns-in-Failure c = ap untested_of (sym c.o-1.given.1)

@@ -1,0 +1,26 @@
+use native.Mathlib.Omega.{arith}
+use Prim.Native.Nat.{◌+◌, ◌*◌}
+use lib.ListN.{length-drop}
+use Rattle.ol_tables.proofs.TableLaws.{types_from_lem}
+use borrow.Author.Rules.{rules}
+use Rattle.ol_frame.proofs.tables.types_at.Goals as goal
+
+pub overflow_sub-result : goal.overflow_sub-result
+overflow_sub-result c =
+    let t = c.args.tab.now in
+    omega (arith, (length-drop 1393 t), c.requires.0, c.requires.1)
+
+pub bounds-tab-a : goal.bounds-tab-a
+bounds-tab-a c =
+    let t = c.args.tab.now in
+    omega (arith, (length-drop 1393 t), c.requires.0, c.requires.1)
+
+pub bounds-tab-b : goal.bounds-tab-b
+bounds-tab-b c =
+    let t = c.args.tab.now in
+    omega (arith, (length-drop 1393 t), c.requires.0, c.requires.1)
+
+pub returns : goal.returns
+returns c =
+    let t = c.args.tab.now in
+    (omega (arith, (types_from_lem t c.args.k (c.number.result * 256 + c.number-2.result) (omega (arith, c.number.ensures.0, c.number-2.ensures.0)))), omega (arith, c.number.ensures.1, c.number-2.ensures.1))

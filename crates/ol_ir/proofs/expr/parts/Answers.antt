@@ -1,0 +1,13 @@
+-- `ol_ir::expr::parts` meets its contract.
+use mathlib.Core.Path.{sym, ap}
+use borrow.Author.Rules.{rules}
+use Rattle.ol_ir.specs.Nexts.{parts_of}
+use Rattle.ol_ir.proofs.expr.parts.Goals as goal
+
+pub returns-in-At : goal.returns-in-At
+unfolding parts_of
+returns-in-At c = sym (ap (parts_of _) c.next-1.given.1)
+
+pub returns-in-Refused : goal.returns-in-Refused
+unfolding parts_of
+returns-in-Refused c = sym (ap (parts_of _) c.next-in-Refused-1.given.1)

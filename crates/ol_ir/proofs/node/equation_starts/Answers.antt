@@ -1,0 +1,20 @@
+-- `ol_ir::node::equation_starts` meets its contract.
+use mathlib.Core.Path.{sym, ap, ◌∙◌}
+use lib.Seq.{sets}
+use borrow.Author.Rules.{rules}
+use Rattle.ol_ir.proofs.Skips.{starts_counted, starts_placed, starts_uncounted, front_refused, front_placed}
+use Rattle.ol_ir.proofs.node.equation_starts.Goals as goal
+
+pub shape_of-starts : goal.shape_of-starts
+shape_of-starts c = c.equation_places.auto.starts
+
+pub returns-in-Items : goal.returns-in-Items
+returns-in-Items c =
+    let there = starts_counted c.args.file.now c.args.limits c.args.enums c.args.at c.interface.ensures c.p-1.given.1 c.count.ensures in
+ record { many = sym c.n-1.given.1 ∙ there; places = c.equation_places.ensures ∙ ap (sets c.args.starts.now 0) (starts_placed c.args.file.now c.args.limits c.args.enums c.args.at c.interface.ensures c.p-1.given.1 c.count.ensures c.n-1.given.1) }
+
+pub returns-in-Refused-count : goal.returns-in-Refused-count
+returns-in-Refused-count c = record { many = sym c.f-1.given.1 ∙ starts_counted c.args.file.now c.args.limits c.args.enums c.args.at c.interface.ensures c.p-1.given.1 c.count.ensures; places = ap (sets c.args.starts.now 0) (starts_uncounted c.args.file.now c.args.limits c.args.enums c.args.at c.interface.ensures c.p-1.given.1 c.count.ensures c.f-1.given.1) }
+
+pub returns-in-Refused : goal.returns-in-Refused
+returns-in-Refused c = record { many = front_refused c.args.file.now c.args.limits c.args.enums c.args.at c.interface.ensures c.f-in-Refused-interface-1.given.1; places = ap (sets c.args.starts.now 0) (front_placed c.args.file.now c.args.limits c.args.enums c.args.at c.interface.ensures c.f-in-Refused-interface-1.given.1) }

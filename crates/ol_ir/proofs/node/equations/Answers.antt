@@ -1,0 +1,27 @@
+-- `ol_ir::node::equations` meets its contract. The invariant: what is left to read answers what all of it answers.
+use mathlib.Core.Path.{◌≡◌}
+use native.Mathlib.Omega.{arith}
+use borrow.Author.Rules.{rules}
+use Rattle.ol_spec.specs.Read.{many, equation_r}
+use Rattle.ol_spec.specs.declared.Limits.{Limits}
+use Rattle.ol_ir.specs.Nexts.{next_of}
+use Rattle.ol_ir.proofs.Onward.{Turns, many_next, turn, turn_halt, turns_end}
+use Rattle.ol_ir.proofs.node.equations.Goals as goal
+
+pub loop-left-init : goal.loop-left-init
+loop-left-init c = λ l en ed ea ei. record { is = many_next _ _ _ }
+
+pub overflow_sub-left : goal.overflow_sub-left
+overflow_sub-left c = omega arith
+
+pub loop-left-smaller : goal.loop-left-smaller
+loop-left-smaller c = omega arith
+
+pub loop-left-preserved : goal.loop-left-preserved
+loop-left-preserved c = λ l en ed ea ei. turn (c.loop-left.invariant l en ed ea ei) c.loop-left-test.true (c.equation.ensures l en ed ea ei) c.p-1.given.1
+
+pub returns-in-Refused : goal.returns-in-Refused
+returns-in-Refused c = λ l en ed ea ei. turn_halt (c.loop-left.invariant l en ed ea ei) c.loop-left-test.true (c.equation.ensures l en ed ea ei) c.f-1.given.1
+
+pub returns : goal.returns
+returns c = λ l en ed ea ei. turns_end (c.loop-left.invariant l en ed ea ei) c.loop-left-test.false

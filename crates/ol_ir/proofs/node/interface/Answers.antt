@@ -1,0 +1,24 @@
+-- `ol_ir::node::interface` meets its contract.
+use mathlib.Core.Path.{◌∙◌, refl}
+use borrow.Author.Rules.{rules}
+use Rattle.ol_spec.specs.Lists.{up_to}
+use Rattle.ol_spec.specs.Read.{node_kinds}
+use Rattle.ol_ir.proofs.Forms.{interface_chain, code_next}
+use Rattle.ol_ir.proofs.Onward.{arrive, halt, link}
+use Rattle.ol_ir.proofs.node.interface.Goals as goal
+
+pub returns-in-At-variable_section-2 : goal.returns-in-At-variable_section-2
+returns-in-At-variable_section-2 c =
+    arrive (interface_chain c.args.file.now c.args.limits c.args.enums c.args.at) (c.code.ensures ∙ code_next _ (up_to 3) node_kinds _ refl) c.p-1.given.1 (arrive link (c.variable_section.ensures c.args.limits) c.q-1.given.1 (arrive link (c.variable_section-in-At-variable_section.ensures c.args.limits) c.r-1.given.1 (c.variable_section-in-At-variable_section-2.ensures c.args.limits)))
+
+pub returns-in-Refused-variable_section-2 : goal.returns-in-Refused-variable_section-2
+returns-in-Refused-variable_section-2 c =
+    arrive (interface_chain c.args.file.now c.args.limits c.args.enums c.args.at) (c.code.ensures ∙ code_next _ (up_to 3) node_kinds _ refl) c.p-1.given.1 (arrive link (c.variable_section.ensures c.args.limits) c.q-1.given.1 (halt link (c.variable_section-in-At-variable_section.ensures c.args.limits) c.f-1.given.1))
+
+pub returns-in-Refused-variable_section : goal.returns-in-Refused-variable_section
+returns-in-Refused-variable_section c =
+    arrive (interface_chain c.args.file.now c.args.limits c.args.enums c.args.at) (c.code.ensures ∙ code_next _ (up_to 3) node_kinds _ refl) c.p-1.given.1 (halt link (c.variable_section.ensures c.args.limits) c.f-in-Refused-variable_section-1.given.1)
+
+pub returns-in-Refused : goal.returns-in-Refused
+returns-in-Refused c =
+    halt (interface_chain c.args.file.now c.args.limits c.args.enums c.args.at) (c.code.ensures ∙ code_next _ (up_to 3) node_kinds _ refl) c.f-in-Refused-code-1.given.1

@@ -1,0 +1,16 @@
+-- `ol_ir::project::constants` meets its contract. The invariant: what is left to read answers what all of it answers.
+use mathlib.Core.Path.{◌≡◌}
+use native.Mathlib.Omega.{arith}
+use borrow.Author.Rules.{rules}
+use Rattle.ol_spec.specs.Read.{many, constant_r}
+use Rattle.ol_spec.specs.declared.Limits.{Limits}
+use Rattle.ol_ir.specs.Nexts.{next_of}
+use Rattle.ol_ir.proofs.Onward.{Turns, many_next, turn, turn_halt, turns_end}
+use Rattle.ol_ir.proofs.project.constants.Given as goal
+
+abbrev pub invariant-loop-left : goal.invariant-loop-left
+invariant-loop-left l =
+    (l : Limits) → l.nesting ≡ l.nesting → l.arguments ≡ l.arguments → l.items ≡ l.items → Turns (next_of (many l.count (constant_r l.file l l.enums) l.at)) l.left (λ p. next_of (constant_r l.file l l.enums p)) l.next
+
+abbrev pub decreases-loop-left : goal.decreases-loop-left
+decreases-loop-left l = l.left

@@ -1,0 +1,13 @@
+-- `ol_ir::project::reading` meets its contract.
+use mathlib.Core.Path.{sym, ap}
+use borrow.Author.Rules.{rules}
+use Rattle.ol_ir.specs.Walks.{read_of}
+use Rattle.ol_ir.proofs.project.reading.Goals as goal
+
+pub returns-in-Nodes : goal.returns-in-Nodes
+unfolding read_of
+returns-in-Nodes c = sym (ap read_of c.enum_told-1.given.1)
+
+pub returns-in-Refused : goal.returns-in-Refused
+unfolding read_of
+returns-in-Refused c = sym (ap read_of c.l-1.given.1)

@@ -1,0 +1,14 @@
+use Prim.Native.Nat.{ℕ, ◌-◌, ◌≤◌, ◌<◌}
+use mathlib.Core.Path.{◌≡◌, refl, ◌∙◌}
+use native.Mathlib.Omega.{arith}
+use lib.ListN.{length, get_or, drop, length-set}
+use lib.Seq.{sets}
+use Rattle.ol_order.proofs.Rows.{copies_turn, copies_end}
+use Rattle.ol_order.proofs.table.copy_bytes.Given as goal
+
+abbrev pub invariant-loop-i : goal.invariant-loop-i
+invariant-loop-i l =
+    (l.i ≤ length l.order) × (length l.out ≡ length l.initial.out) × (sets l.out l.i (drop l.i l.order) ≡ sets l.initial.out 0 l.order)
+
+abbrev pub decreases-loop-i : goal.decreases-loop-i
+decreases-loop-i l = length l.order - l.i

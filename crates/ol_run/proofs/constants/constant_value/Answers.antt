@@ -1,0 +1,68 @@
+use mathlib.Core.Path.{◌≡◌, refl, sym, ap, subst, ◌∙◌}
+use mathlib.Core.Bool.{Bool, true, false, cond}
+use mathlib.Core.List.{List, [], ◌∷◌}
+use Prim.Native.Nat.{ℕ, ◌+◌}
+use native.Mathlib.Omega.{arith}
+use lib.Dec.{eqb}
+use lib.ListN.{get_or}
+use Rattle.ol_tables.specs.Table.{consts_of}
+use Rattle.ol_eval.specs.Post.{EvalsTo}
+use Rattle.ol_frame.specs.Frame.{node_of, first_of, cells_of, before_of}
+use Rattle.ol_frame.specs.Plans.{known_in}
+use Rattle.ol_run.specs.Constants.{value_at, constant_at}
+use Rattle.ol_frame.specs.Walk.{nodes_in}
+use Rattle.ol_run.proofs.Constant.{size_few, constant_ready, constant_out_lem, value_place_lem}
+use borrow.Author.Rules.{rules}
+use Rattle.ol_run.proofs.constants.constant_value.Goals as goal
+
+pub overflow_add-p : goal.overflow_add-p
+overflow_add-p c =
+    let p = c.requires.1.0 in
+    let at = c.requires.1.1 in
+    omega (arith, at, p.inside, p.program.sized.small)
+
+pub bounds-file-p : goal.bounds-file-p
+bounds-file-p c =
+    let p = c.requires.1.0 in
+    let at = c.requires.1.1 in
+    omega (arith, at, p.inside)
+
+pub ty_size-requires : goal.ty_size-requires
+ty_size-requires c = tt
+
+pub overflow_add-e : goal.overflow_add-e
+overflow_add-e c =
+    let p = c.requires.1.0 in
+    let at = c.requires.1.1 in
+    let f = c.args.file.now in
+    let code = get_or f (c.args.at + 2) 0 in
+    omega (arith, c.ty_size.ensures, size_few code, at, p.inside, p.program.sized.small)
+
+pub eval-r-requires : goal.eval-r-requires
+eval-r-requires c =
+    let p = c.requires.1.0 in
+    let at = c.requires.1.1 in
+    let f = c.args.file.now in
+    let fr = c.args.frame.now in
+    let kk = consts_of c.args.tab.now in
+    let code = get_or f (c.args.at + 2) 0 in
+    let ce = ap (λ (x : ℕ). get_or f (x + 2) 0) at in
+    let e = value_place_lem kk p (c.args.at + 2 + c.ty_size.result) code ce ((λ i. at i + 2 + c.ty_size.ensures i)) in
+    (c.requires.0.0, rw (e, c.requires.0.1) (constant_ready kk p (cells_of fr) (before_of fr) (0 ∷ []) (0 ∷ []) refl (omega arith)))
+
+pub returns : goal.returns
+returns c =
+    let p = c.requires.1.0 in
+    let at = c.requires.1.1 in
+    let f = c.args.file.now in
+    let fr = c.args.frame.now in
+    let kk = consts_of c.args.tab.now in
+    let code = get_or f (c.args.at + 2) 0 in
+    let ce = ap (λ (x : ℕ). get_or f (x + 2) 0) at in
+    let e = value_place_lem kk p (c.args.at + 2 + c.ty_size.result) code ce ((λ i. at i + 2 + c.ty_size.ensures i)) in
+    let new = c.eval-r.new.new in
+    constant_out_lem kk p (cells_of fr) (before_of fr) (0 ∷ []) code ce
+    (subst (λ (x : ℕ). EvalsTo f kk 24 x (nodes_in f) true (cells_of fr) (before_of fr) (0 ∷ []) c.eval-r.result new) e
+    (subst (λ (n : ℕ). EvalsTo f kk 24 (c.args.at + 2 + c.ty_size.result) n true (cells_of fr) (before_of fr) (0 ∷ []) c.eval-r.result new) c.requires.0.1
+    (subst (λ (b : Bool). EvalsTo f kk 24 (c.args.at + 2 + c.ty_size.result) (node_of fr) b (cells_of fr) (before_of fr) (0 ∷ []) c.eval-r.result new) c.requires.0.2 c.eval-r.ensures)))
+    c.fitted.ensures

@@ -1,0 +1,20 @@
+use native.Mathlib.Omega.{arith}
+use Rattle.ol_sim.proofs.Measures.{few_inputs_lem, few_values, lengths_here, no_node_lem}
+use borrow.Author.Rules.{rules}
+use Rattle.ol_sim.proofs.measuring.measure.Goals as goal
+
+pub overflow_mul-result : goal.overflow_mul-result
+overflow_mul-result c =
+    omega (arith, c.column.ensures, few_inputs_lem c.requires)
+
+pub overflow_mul-result-then-node-main : goal.overflow_mul-result-then-node-main
+overflow_mul-result-then-node-main c =
+    omega (arith, c.column-then-node-main.ensures, few_values c.requires)
+
+pub returns-then-node-main : goal.returns-then-node-main
+returns-then-node-main c =
+    lengths_here c.requires c.args.node c.if-node-main.true c.column.ensures c.column-then-node-main.ensures c.column-then-node-main-2.ensures
+
+pub returns-else-node-main : goal.returns-else-node-main
+returns-else-node-main c =
+    no_node_lem c.requires c.args.node (λ le. omega (arith, le, c.if-node-main.false))

@@ -1,0 +1,6 @@
+use Rattle.ol_sim.proofs.Serving.{start_answers}
+use borrow.Author.Rules.{rules}
+use Rattle.ol_sim.proofs.start.Goals as goal
+
+pub returns : goal.returns
+returns c = start_answers c.Started-of.ensures c.serve.ensures.is.0

@@ -1,0 +1,9 @@
+-- `ol_sim_c::ol_sim_admit` meets its contract.
+use Rattle.ol_spec.specs.Limits.{relay_loader}
+use Rattle.ol_spec.specs.Admission.{admission}
+use Rattle.ol_sim_c.proofs.Telling.{admits}
+use borrow.Author.Rules.{rules}
+use Rattle.ol_sim_c.proofs.ol_sim_admit.Goals as goal
+
+pub returns : goal.returns
+returns c = admits c.admission-v.result (admission relay_loader c.args.file.now) c.args.size.now c.size_after.result c.admission-v.ensures.answered c.size_after.ensures c.verdict_fault.ensures c.tell.ensures

@@ -1,0 +1,12 @@
+use mathlib.Core.Path.{refl}
+use Rattle.ol_sim_c.proofs.Telling.{measures}
+use borrow.Author.Rules.{rules}
+use Rattle.ol_sim_c.proofs.ol_sim_lengths.Goals as goal
+
+pub returns-in-Done : goal.returns-in-Done
+returns-in-Done c =
+    measures (record { state = c.args.state.now; inputs = c.args.inputs.now; values = c.args.values.now; equations = c.args.equations.now }) _ c.lengths.ensures c.l-1.given.1 c.no_fault.ensures refl c.tell.ensures
+
+pub returns-in-Refused : goal.returns-in-Refused
+returns-in-Refused c =
+    measures (record { state = c.args.state.now; inputs = c.args.inputs.now; values = c.args.values.now; equations = c.args.equations.now }) (record { state = c.args.state.now; inputs = c.args.inputs.now; values = c.args.values.now; equations = c.args.equations.now }) c.lengths.ensures c.f-1.given.1 refl refl c.tell-in-Refused.ensures

@@ -1,0 +1,7 @@
+-- `ol_sim_c::ol_sim_start` meets its contract.
+use Rattle.ol_sim_c.proofs.Telling.{starts}
+use borrow.Author.Rules.{rules}
+use Rattle.ol_sim_c.proofs.ol_sim_start.Goals as goal
+
+pub returns : goal.returns
+returns c = starts c.start-s.ensures c.started_fault.ensures c.tell.ensures

@@ -1,0 +1,87 @@
+use Prim.Native.Nat.{◌*◌}
+use mathlib.Core.Path.{◌≡◌, sym, ap, ap₂, ◌∙◌}
+use native.Mathlib.Omega.{arith}
+use lib.ListN.{length, take, drop, length-drop}
+use borrow.Author.Tests.{le-leb, lt-leb, eq-eqb, ne_eqb}
+use Rattle.ol_spec.specs.Lists.{same}
+use Rattle.ol_spec.specs.Cell.{good_cells}
+use Rattle.ol_tables.specs.Tables.{row_at}
+use Rattle.ol_tables.specs.Table.{tab_of, rows_of}
+use Rattle.ol_state.specs.Defaults.{cells_at}
+use Rattle.ol_tables.proofs.Lending.{tail_all}
+use Rattle.ol_state.proofs.Judged.{own_defaults, own_started, own_cells, own_byte}
+use borrow.Author.Rules.{rules}
+use Rattle.ol_state.proofs.own.good_own.Goals as goal
+
+pub bounds-r-0 : goal.bounds-r-0
+bounds-r-0 c =
+    omega (arith, c.requires.2)
+
+pub column-requires : goal.column-requires
+column-requires c = tt
+
+pub slice_bounds-good_cells-count : goal.slice_bounds-good_cells-count
+slice_bounds-good_cells-count c =
+    omega (arith, c.requires.2)
+
+pub slice_bounds-good_cells-start : goal.slice_bounds-good_cells-start
+slice_bounds-good_cells-start c =
+    omega (arith, c.requires.2)
+
+pub slice_bounds-good_cells-end : goal.slice_bounds-good_cells-end
+slice_bounds-good_cells-end c =
+    omega (arith, c.requires.2)
+
+pub good_cells-requires : goal.good_cells-requires
+good_cells-requires c =
+    let r = c.args.r.now in
+    let tail = tail_all 1 c.args.r.now in
+    rw tail (omega (arith, c.requires.2, c.column.ensures, length-drop 1 r))
+
+pub slice_bounds-are_defaults-count : goal.slice_bounds-are_defaults-count
+slice_bounds-are_defaults-count c =
+    omega (arith, c.requires.2)
+
+pub slice_bounds-are_defaults-start : goal.slice_bounds-are_defaults-start
+slice_bounds-are_defaults-start c =
+    omega (arith, c.requires.2)
+
+pub slice_bounds-are_defaults-end : goal.slice_bounds-are_defaults-end
+slice_bounds-are_defaults-end c =
+    omega (arith, c.requires.2)
+
+pub are_defaults-requires : goal.are_defaults-requires
+are_defaults-requires c =
+    let r = c.args.r.now in
+    let tail = tail_all 1 c.args.r.now in
+    (c.requires.0, c.requires.1, rw tail (omega (arith, c.requires.2, length-drop 1 r)))
+
+pub returns-then-started-eq0 : goal.returns-then-started-eq0
+returns-then-started-eq0 c =
+    let r = c.args.r.now in
+    let tail = tail_all 1 c.args.r.now in
+    λ names tells.
+    let g : good_cells names (row_at (rows_of c.args.tab.now) c.args.k 4) (drop 1 r) ≡ _ = ap₂ (good_cells names) (sym c.column.ensures) (sym tail) ∙ sym (c.good_cells.ensures names tells) ∙ c.if-good_cells.true in
+    c.are_defaults.ensures ∙ ap (λ l. same (take (9 * row_at (rows_of c.args.tab.now) c.args.k 4) l) (cells_at (tab_of c.args.tab.now) (rows_of c.args.tab.now) c.args.k 0 (row_at (rows_of c.args.tab.now) c.args.k 4))) tail
+    ∙ own_defaults names (cells_at (tab_of c.args.tab.now) (rows_of c.args.tab.now) c.args.k 0 (row_at (rows_of c.args.tab.now) c.args.k 4)) (row_at (rows_of c.args.tab.now) c.args.k 4) r (le-leb _ _ c.if-started-le1.true) g (eq-eqb _ _ c.if-started-eq0.true)
+
+pub returns-else-started-eq0 : goal.returns-else-started-eq0
+returns-else-started-eq0 c =
+    let r = c.args.r.now in
+    let tail = tail_all 1 c.args.r.now in
+    λ names tells.
+    let g : good_cells names (row_at (rows_of c.args.tab.now) c.args.k 4) (drop 1 r) ≡ _ = ap₂ (good_cells names) (sym c.column.ensures) (sym tail) ∙ sym (c.good_cells.ensures names tells) ∙ c.if-good_cells.true in
+    own_started names (cells_at (tab_of c.args.tab.now) (rows_of c.args.tab.now) c.args.k 0 (row_at (rows_of c.args.tab.now) c.args.k 4)) (row_at (rows_of c.args.tab.now) c.args.k 4) r (le-leb _ _ c.if-started-le1.true) g (ne_eqb _ _ c.if-started-eq0.false)
+
+pub returns-else-good_cells : goal.returns-else-good_cells
+returns-else-good_cells c =
+    let r = c.args.r.now in
+    let tail = tail_all 1 c.args.r.now in
+    λ names tells.
+    let g : good_cells names (row_at (rows_of c.args.tab.now) c.args.k 4) (drop 1 r) ≡ _ = ap₂ (good_cells names) (sym c.column.ensures) (sym tail) ∙ sym (c.good_cells.ensures names tells) ∙ c.if-good_cells.false in
+    own_cells names (cells_at (tab_of c.args.tab.now) (rows_of c.args.tab.now) c.args.k 0 (row_at (rows_of c.args.tab.now) c.args.k 4)) (row_at (rows_of c.args.tab.now) c.args.k 4) r (le-leb _ _ c.if-started-le1.true) g
+
+pub returns-else-started-le1 : goal.returns-else-started-le1
+returns-else-started-le1 c =
+    let r = c.args.r.now in
+    λ names tells. own_byte names (cells_at (tab_of c.args.tab.now) (rows_of c.args.tab.now) c.args.k 0 (row_at (rows_of c.args.tab.now) c.args.k 4)) (row_at (rows_of c.args.tab.now) c.args.k 4) r (lt-leb _ _ c.if-started-le1.false)

@@ -1,0 +1,13 @@
+use Prim.Native.Nat.{◌≤◌, ◌-◌}
+use native.Mathlib.Omega.{arith}
+use mathlib.Core.Path.{sym, subst}
+use lib.ListN.{length}
+use Rattle.ol_tables.specs.Walks.{Calls}
+use Rattle.ol_state.proofs.Walk.{Seeking, seeking_start, site_met, none_left, file_ends, names_passed}
+use Rattle.ol_state.proofs.sites.next_site.Given as goal
+
+abbrev pub invariant-loop-c : goal.invariant-loop-c
+invariant-loop-c l = Seeking l.file l.at l.eqs l.pending l.pos l.left l.more
+
+abbrev pub decreases-loop-c : goal.decreases-loop-c
+decreases-loop-c l = l.left

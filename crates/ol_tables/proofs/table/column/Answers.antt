@@ -1,0 +1,11 @@
+use mathlib.Core.Path.{sym, ◌∙◌, ap}
+use native.Mathlib.Omega.{arith}
+use Rattle.ol_tables.proofs.TableLaws.{rows_long_lem, rows_get, rows_past}
+use borrow.Author.Rules.{rules}
+use Rattle.ol_tables.proofs.table.column.Goals as goal
+
+pub returns-else-j-lt-ROWS : goal.returns-else-j-lt-ROWS
+returns-else-j-lt-ROWS c = sym (rows_past c.args.tab.now _ (omega (arith, c.if-j-lt-ROWS.false)))
+
+pub returns-else-k-lt-ROWS : goal.returns-else-k-lt-ROWS
+returns-else-k-lt-ROWS c = sym (rows_past c.args.tab.now _ (omega (arith, c.if-k-lt-ROWS.false)))

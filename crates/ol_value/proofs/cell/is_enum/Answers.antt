@@ -1,0 +1,7 @@
+use mathlib.Core.Path.{ap}
+use lib.Dec.{eqb}
+use borrow.Author.Rules.{rules}
+use Rattle.ol_value.proofs.cell.is_enum.Goals as goal
+
+pub returns : goal.returns
+returns c = ap (λ t. eqb t 4) c.tag_of.ensures

@@ -1,0 +1,7 @@
+use mathlib.Core.Path.{◌≡◌, refl, sym, ap, ◌∙◌}
+use Rattle.read_bench.specs.Digests.{loaded_digest}
+use borrow.Author.Rules.{rules}
+use Rattle.read_bench.proofs.digest.Goals as goal
+
+pub returns-in-Refused : goal.returns-in-Refused
+returns-in-Refused c = sym (ap loaded_digest c.l-in-Refused-1.given.1)

@@ -1,0 +1,8 @@
+use native.Mathlib.Omega.{arith}
+use borrow.Author.Rules.{rules}
+use Rattle.relay_text.proofs.answers.end_line.Goals as goal
+
+pub returns : goal.returns
+returns c =
+    let put = c.put in
+    (put.ensures.0, (record { inside = omega (arith, put.ensures.0, put.auto.0); is = put.ensures.1 }, put.ensures.2))

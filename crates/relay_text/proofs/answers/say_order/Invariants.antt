@@ -1,0 +1,16 @@
+use native.Mathlib.Omega.{arith}
+use mathlib.Core.Path.{◌≡◌, refl, sym, ap, ◌∙◌}
+use mathlib.Core.List.{List, ◌++◌}
+use Prim.Native.Nat.{ℕ}
+use Rattle.relay_text.specs.Lines.{line_end}
+use lib.ListN.{length, take, drop}
+use Prim.Native.Nat.{◌+◌, ◌*◌, ◌≤◌, ◌-◌}
+use Rattle.relay_text.specs.Lines.{order_word, with_indexes}
+use Rattle.relay_text.proofs.Laws.{behind_on, indexes_more, indexes_end}
+use Rattle.relay_text.proofs.answers.say_order.Given as goal
+
+abbrev pub invariant-loop-i : goal.invariant-loop-i
+invariant-loop-i l = (l.i ≤ length l.initial.out) × (l.at ≤ 8 + 21 * l.i) × (length l.out ≡ length l.entries) × (with_indexes (take l.at l.out) (drop l.i l.initial.out) ≡ with_indexes order_word l.initial.out) × (l.initial.at ≤ l.at) × (drop l.at l.out ≡ drop l.at l.entries)
+
+abbrev pub decreases-loop-i : goal.decreases-loop-i
+decreases-loop-i l = length l.initial.out - l.i

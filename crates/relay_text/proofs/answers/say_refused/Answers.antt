@@ -1,0 +1,17 @@
+use native.Mathlib.Omega.{arith}
+use mathlib.Core.Path.{refl, ap, ◌∙◌}
+use mathlib.Core.List.{List, ◌++◌}
+use Prim.Native.Nat.{ℕ}
+use Rattle.relay_text.specs.Lines.{line_end, with_fault}
+use Rattle.relay_text.proofs.Laws.{behind_on}
+use borrow.Author.Rules.{rules}
+use Rattle.relay_text.proofs.answers.say_refused.Goals as goal
+
+pub returns : goal.returns
+returns c =
+    let a = c.put-a in
+    let b = c.put_fault-b in
+    let end = c.end_line in (
+      record { inside = end.ensures.1.0.inside; is = end.ensures.1.0.is ∙ ap (λ (l : List ℕ). l ++ line_end) (b.ensures.1 ∙ ap (λ (l : List ℕ). with_fault l c.args.number c.args.place) a.ensures.1) },
+      behind_on end.new.0 b.new.0 c.args.out.now b.result end.result end.result refl (omega (arith, end.ensures.0)) end.ensures.1.1 (behind_on b.new.0 a.new.0 c.args.out.now a.result b.result b.result refl (omega (arith, b.ensures.3)) b.ensures.2 a.ensures.2),
+    )
