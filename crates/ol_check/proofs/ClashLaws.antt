@@ -116,8 +116,9 @@ tells_step {sorts} {earlier} {most} t d small le lt un =
           (λ e. rw e (omega (arith, get_or-set_same sorts d.name c 0 lt)))
           (λ ne. omega (arith, get_or-set_other sorts d.name x c 0 ne, t.high x));
       tells = λ x u a b. eq_cases x d.name
-          (λ e. rw (e, eq-eqb d.name d.name refl, get_or-set_same sorts d.name c 0 lt, told u d.sort a small b, t.tells d.name u a (omega arith))
-          (between (get_or sorts d.name 0) c (sort_code u) (positive d.sort) (omega (arith, t.high d.name)) b un))
+          (λ e. subst (λ y. any_of (clash (of y u)) (d ∷ earlier) ≡ meets (get_or (set sorts d.name c) y 0) (sort_code u)) (sym e)
+          (rw (eq-eqb d.name d.name refl, get_or-set_same sorts d.name c 0 lt, told u d.sort a small b, t.tells d.name u a (omega arith))
+          (between (get_or sorts d.name 0) c (sort_code u) (positive d.sort) (omega (arith, t.high d.name)) b un)))
           (λ ne. rw (ne_eqb x d.name ne, get_or-set_other sorts d.name x c 0 ne) (t.tells x u a (omega arith)));
     }
 
@@ -139,7 +140,7 @@ first_clash {sorts} {earlier} {most} (d ∷ ds) t asc room =
     let same : any_of (clash d) earlier ≡ meets (get_or sorts d.name 0) c = t.tells d.name d.sort asc.1 asc.0 in
     rw same
     (choose (meets (get_or sorts d.name 0) c) d.place (clash_in (set sorts d.name c) ds) (first (clashes (d ∷ earlier) ds))
-    (λ un. first_clash ds (tells_step t d asc.1 asc.0 room.0 un) asc.2 (subst (λ n. Each (λ u. u.name < n) ds) (sym (length-set sorts d.name c)) room.1)))
+    (λ un. first_clash {sorts = set sorts d.name c} {earlier = d ∷ earlier} {most = c} ds (tells_step t d asc.1 asc.0 room.0 un) asc.2 (subst (λ n. Each (λ u. u.name < n) ds) (sym (length-set sorts d.name c)) room.1)))
 
 -- ---- a file's declarations are in that order
 

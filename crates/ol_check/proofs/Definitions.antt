@@ -1,5 +1,5 @@
 -- Fault 8: a node's table by name and the table of defined entries tell which names may not be defined, where every defined name is declared.
-use Prim.Native.Nat.{ℕ, suc, ◌+◌, ◌-◌, ◌≤◌, ◌<◌}
+use Prim.Native.Nat.{ℕ, suc, ◌+◌, ◌≤◌, ◌<◌}
 use mathlib.Core.Bool.{Bool, true, false, not, ◌||◌}
 use mathlib.Core.List.{List, [], ◌∷◌, ◌++◌, map, append_assoc, map-append}
 use mathlib.Core.Logic.{by_cases}

@@ -1,17 +1,17 @@
 -- What the table by name says: which names are visible, and that a node's variables leave no trace.
-use Prim.Native.Nat.{ℕ, zero, suc, ◌+◌, ◌-◌, ◌*◌, ◌≤◌, ◌<◌}
-use mathlib.Core.Bool.{Bool, true, false, not, ◌&&◌, ◌||◌, cond}
-use mathlib.Core.List.{List, [], ◌∷◌, ◌++◌, map, append_assoc}
+use Prim.Native.Nat.{ℕ, ◌+◌, ◌≤◌, ◌<◌}
+use mathlib.Core.Bool.{Bool, true, false, not, ◌||◌, cond}
+use mathlib.Core.List.{List, [], ◌∷◌, ◌++◌, map}
 use mathlib.Core.Logic.{by_cases}
 use mathlib.Core.Path.{◌≡◌, refl, sym, ap, subst, ◌∙◌}
 use native.Mathlib.Omega.{arith}
 use native.Mathlib.Decide.{dec_le}
 use lib.ListN.{length, get_or, set, length-set, get_or-eq_default}
 use lib.Seq.{get_or-set_same, get_or-set_other, ext_get_or, set_out}
-use lib.Dec.{T, ltb, leb, eqb, eqb→eq}
-use borrow.Author.Tests.{le-leb, lt-leb, ne_eqb, eqb-true, eqb-false, leb-true, leb-false, eq-eqb}
-use Rattle.ol_spec.specs.Lists.{member, any_of}
-use Rattle.ol_spec.specs.Syntax.{Variable, name_of}
+use lib.Dec.{leb, eqb}
+use borrow.Author.Tests.{le-leb, lt-leb, ne_eqb, eqb-false, eq-eqb}
+use Rattle.ol_spec.specs.Lists.{member}
+use Rattle.ol_spec.specs.Syntax.{Variable}
 use Rattle.ol_tables.specs.Tables.{Each}
 use Rattle.ol_check.specs.Judging.{Knows}
 use Rattle.ol_check.specs.Entries.{declared, forgot, declare_all, forget_all, variable_entries, Global}

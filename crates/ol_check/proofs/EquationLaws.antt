@@ -13,7 +13,7 @@ use borrow.Author.Tests.{lt-ltb, le-ltb, le-leb, lt-leb}
 use native.Mathlib.Decide.{dec_le}
 use mathlib.Core.Logic.{by_cases}
 use Rattle.ol_spec.specs.Lists.{or_else, concat, sum}
-use Rattle.ol_spec.specs.Syntax.{Expr, Exprs, nil, cons, count, Equation, File, rhs_of}
+use Rattle.ol_spec.specs.Syntax.{Expr, Exprs, nil, cons, Equation, File, rhs_of}
 use Rattle.ol_spec.specs.Places.{expr_size, equation_size, collect, collect_all, placed, placed_names, rhs_place}
 use Rattle.ol_spec.specs.Encode.{equation_bytes}
 use Rattle.ol_spec.specs.Limits.{base}

@@ -10,7 +10,7 @@ use Rattle.ol_spec.specs.Syntax.{Variable, Constant, Node, File, no_node}
 use Rattle.ol_spec.specs.Limits.{base}
 use Rattle.ol_spec.specs.Within.{count_fits, section_fits, name_fits, variable_fits, constant_fits, enum_fits, node_fits}
 use Rattle.ol_spec.specs.Places.{placed, placed_enums, placed_constants, placed_nodes, placed_names, placed_variables, enum_size, constant_size, variable_size, node_size, constants_start, nodes_start, outputs_start, locals_start}
-use Rattle.ol_spec.specs.Admission.{Sort, variant, constant, variable, Declared, numbered, declared_as, placed_variable_name, placed_constant_name, enum_declares, node_declares, declared, variants}
+use Rattle.ol_spec.specs.Admission.{Sort, variant, constant, variable, Declared, numbered, declared_as, placed_variable_name, placed_constant_name, enum_declares, node_declares, declared}
 use Rattle.ol_spec.proofs.Tests.{T_and}
 use Rattle.ol_tables.specs.Stands.{FileStands}
 use Rattle.ol_tables.specs.Tables.{Each}

@@ -1,5 +1,5 @@
 -- The plans: two bytes for a number, behind the slots.
-use Prim.Native.Nat.{ℕ, zero, suc, ◌+◌, ◌-◌, ◌*◌, ◌/◌, ◌%◌, ◌≤◌, ◌<◌, min}
+use Prim.Native.Nat.{ℕ, zero, suc, ◌+◌, ◌-◌, ◌*◌, ◌≤◌, ◌<◌, min}
 use mathlib.Core.List.{List, [], ◌∷◌, ◌++◌, map}
 use mathlib.Core.Logic.{by_cases}
 use mathlib.Core.Path.{◌≡◌, refl, sym, ap, subst, ◌∙◌}
@@ -7,8 +7,8 @@ use native.Mathlib.Omega.{arith}
 use native.Mathlib.Decide.{dec_lt}
 use native.Mathlib.Numerals.{add-one}
 use lib.Dec.{T}
-use lib.ListN.{length, get_or, set, take, drop, length-set, length-append}
-use lib.Seq.{get_or-set_same, get_or-set_other, get_or-append-add, get_or-drop, take-set-le, take_at, length-take-le}
+use lib.ListN.{length, get_or, take, drop, length-append}
+use lib.Seq.{get_or-append-add, get_or-drop, take_at, length-take-le}
 use Rattle.ol_spec.specs.Lists.{sum, concat, all_of}
 use Rattle.ol_spec.specs.Syntax.{Variable, Equation, Node, File, variables, no_node}
 use Rattle.ol_spec.specs.Places.{variable_size, equation_size, node_size, nodes_start}

@@ -1,21 +1,19 @@
 -- The slot that an entry of a node's table gives is the name's slot, where no name is of two sorts.
-use Prim.Native.Nat.{ℕ, zero, suc, ◌+◌, ◌-◌, ◌*◌, ◌≤◌, ◌<◌}
-use mathlib.Core.Bool.{Bool, true, false, not, ◌||◌, cond}
-use mathlib.Core.List.{List, [], ◌∷◌, ◌++◌, map}
+use Prim.Native.Nat.{ℕ, ◌+◌, ◌≤◌, ◌<◌}
+use mathlib.Core.Bool.{Bool, true, false, cond}
+use mathlib.Core.List.{List, map}
 use mathlib.Core.Option.{Option, none, some}
 use mathlib.Core.Path.{◌≡◌, refl, sym, ap, subst, ◌∙◌}
 use native.Mathlib.Omega.{arith}
 use native.Mathlib.Nat.{zero-add}
-use lib.ListN.{length, get_or, set}
-use lib.Seq.{get_or-set_same}
-use lib.Dec.{eqb}
-use borrow.Author.Tests.{ne_eqb, eq-eqb, eqb-true}
-use Rattle.ol_spec.specs.Lists.{maybe, member, position, position_if}
-use Rattle.ol_spec.specs.Syntax.{Variable, Constant, Node, File, variables, variable_names, name_of, constant_name}
+use lib.ListN.{length, get_or}
+use borrow.Author.Tests.{ne_eqb}
+use Rattle.ol_spec.specs.Lists.{maybe, member, position}
+use Rattle.ol_spec.specs.Syntax.{Node, File, variables, variable_names}
 use Rattle.ol_spec.specs.Admission.{variants, constant_names}
-use Rattle.ol_tables.specs.Tables.{Each, slot_of, slot_by, constant_slot}
+use Rattle.ol_tables.specs.Tables.{Each, slot_of, slot_by}
 use Rattle.ol_check.specs.Judging.{slot_of_entry}
-use Rattle.ol_check.specs.Entries.{declared, declare_all, variable_entries, constant_entries, variant_entry, entry_in}
+use Rattle.ol_check.specs.Entries.{variable_entries, constant_entries, variant_entry}
 use Rattle.ol_check.specs.NodesJudged.{node_table, Covered}
 use Rattle.ol_check.specs.FileJudged.{NamesWithin, variant_table, global_table}
 use Rattle.ol_check.proofs.EntryLaws.{Enterable, eq_cases, declare_high, declare_length}

@@ -11,7 +11,7 @@ use lib.Dec.{eqb}
 use borrow.Author.Tests.{eq-eqb, eqb-true}
 use Rattle.ol_spec.specs.Lists.{member, any_of, concat}
 use Rattle.ol_spec.specs.Syntax.{Variable, Constant, Node, File, name_of, constant_name, variable_names, no_node}
-use Rattle.ol_spec.specs.Places.{placed, placed_enums, placed_constants, placed_nodes, placed_names, placed_variables, enum_size, constant_size, variable_size, node_size}
+use Rattle.ol_spec.specs.Places.{placed, placed_enums, placed_constants, placed_nodes, placed_names, placed_variables, enum_size, constant_size, variable_size, node_size, nodes_start}
 use Rattle.ol_spec.specs.Admission.{first, first_if, numbered, variants, constant_names, Sort, variant, constant, variable, Declared, apart, clash, declared_as}
 use Rattle.ol_spec.specs.Admission.{placed_variable_name, placed_constant_name, enum_declares, node_declares, clashes, fault6}
 use Rattle.ol_tables.specs.Tables.{Each, node_of}
@@ -171,7 +171,7 @@ module _ (f : File) (no6 : fault6 f ≡ none) where
   -- a node's variable is neither
   pub variables_apart : (k : ℕ) → k < length f.nodes → (x : ℕ) → member x (variable_names (node_of f k)) ≡ true → (member x (constant_names f) ≡ false) × (member x (variants f) ≡ false)
   variables_apart k lt x m =
-      let here = node_member x 0 _ f.nodes k lt m in
+      let here = node_member x 0 (nodes_start f) f.nodes k lt m in
       let low : Each (λ d. kind_of d.sort < 2) (enums_d ++ constants_d) =
       each_join (λ d. kind_of d.sort < 2) enums_d constants_d (enum_kinds (λ s. kind_of s < 2) (λ i. omega arith) 0 2 f.enums) (as_kind constant (λ s. kind_of s < 2) (omega arith) (map placed_constant_name (placed_constants f))) in
       let not_there : member x (map (λ d. d.name) (enums_d ++ constants_d)) ≡ true → ⊥ = λ t. no_truth here (two_sorts x 2 (enums_d ++ constants_d) nodes_d clean low (node_kinds_lem 0 _ f.nodes) t) in (

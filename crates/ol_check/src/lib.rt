@@ -1,5 +1,6 @@
 // An inner part of the runtime: admission's faults 6 to 10, 13 and 14, and the tables of a file that reads without fault.
 #![tactic(auto)]
+
 pub mod rows; // rows.rt: the rows of the nodes, the first variants and the types
 pub mod clash; // clash.rt: fault 6, and whether all declared names are below 1,024
 mod judge; // judge.rt: faults 7 to 10, and the slots

@@ -1,5 +1,5 @@
-use Prim.Native.Nat.{◌+◌, ◌-◌}
-use mathlib.Core.Path.{◌≡◌, refl, sym, subst, ◌∙◌}
+use Prim.Native.Nat.{◌+◌}
+use mathlib.Core.Path.{refl, sym, subst, ◌∙◌}
 use lib.ListN.{length}
 use native.Mathlib.Omega.{arith}
 use Rattle.ol_spec.specs.Places.{constants_start}
@@ -12,25 +12,25 @@ use Rattle.ol_check.proofs.clash.sort_constants.Goals as goal
 pub loop-i-init : goal.loop-i-init
 loop-i-init c =
     let f = c.args.file.now in
-    (refl, subst (ConstantsGoing f (length (file_at f).enums) (file_at f).constants (constants_start (file_at f)) _ _ _ _ 0) (sym c.requires.0.place) (constants_start_lem (file_stands (bytes_of_lem f (λ i. omega (arith, c.shared_slice_known-1.given i))) c.requires.0.reads).constants))
+    (refl, subst (ConstantsGoing f (length (file_at f).enums) (file_at f).constants (constants_start (file_at f)) _ _ _ _ 0) (sym c.requires.0.place) (constants_start_lem (file_stands (bytes_of_lem f (λ i. omega (arith, c.type_inv.file i))) c.requires.0.reads).constants))
 
 pub sort_name-requires : goal.sort_name-requires
 sort_name-requires c =
     let f = c.args.file.now in
     let inside = constants_in_lem c.loop-i.invariant.1 (omega (arith, c.loop-i-test.true, c.requires.0.many)) in
-    (c.loop-i.invariant.1.long ∙ c.requires.1, omega arith, omega arith, omega (arith, inside, (file_stands (bytes_of_lem f (λ i. omega (arith, c.shared_slice_known-1.given i))) c.requires.0.reads).short))
+    (c.loop-i.invariant.1.long ∙ c.requires.1, omega arith, omega arith, omega (arith, inside, (file_stands (bytes_of_lem f (λ i. omega (arith, c.type_inv.file i))) c.requires.0.reads).short))
 
 pub overflow_add-next : goal.overflow_add-next
 overflow_add-next c =
     let f = c.args.file.now in
     let inside = constants_in_lem c.loop-i.invariant.1 (omega (arith, c.loop-i-test.true, c.requires.0.many)) in
-    omega (arith, inside, (file_stands (bytes_of_lem f (λ i. omega (arith, c.shared_slice_known-1.given i))) c.requires.0.reads).short)
+    omega (arith, inside, (file_stands (bytes_of_lem f (λ i. omega (arith, c.type_inv.file i))) c.requires.0.reads).short)
 
 pub overflow_add-next-in-loop-i : goal.overflow_add-next-in-loop-i
 overflow_add-next-in-loop-i c =
     let f = c.args.file.now in
     let inside = constants_in_lem c.loop-i.invariant.1 (omega (arith, c.loop-i-test.true, c.requires.0.many)) in
-    omega (arith, inside, (file_stands (bytes_of_lem f (λ i. omega (arith, c.shared_slice_known-1.given i))) c.requires.0.reads).short)
+    omega (arith, inside, (file_stands (bytes_of_lem f (λ i. omega (arith, c.type_inv.file i))) c.requires.0.reads).short)
 
 pub ty_size-requires : goal.ty_size-requires
 ty_size-requires c = tt
@@ -39,7 +39,7 @@ pub overflow_add-next-in-loop-i-2 : goal.overflow_add-next-in-loop-i-2
 overflow_add-next-in-loop-i-2 c =
     let f = c.args.file.now in
     let inside = constants_in_lem c.loop-i.invariant.1 (omega (arith, c.loop-i-test.true, c.requires.0.many)) in
-    omega (arith, inside, (file_stands (bytes_of_lem f (λ i. omega (arith, c.shared_slice_known-1.given i))) c.requires.0.reads).short, ty_small f (c.loop-i.next + 2), c.ty_size.ensures)
+    omega (arith, inside, (file_stands (bytes_of_lem f (λ i. omega (arith, c.type_inv.file i))) c.requires.0.reads).short, ty_small f (c.loop-i.next + 2), c.ty_size.ensures)
 
 pub skip-next-requires : goal.skip-next-requires
 skip-next-requires c = tt

@@ -1,6 +1,5 @@
 use mathlib.Core.Path.{refl}
 use Rattle.ol_check.proofs.ClashLoops.{name_walks}
-use borrow.Author.Rules.{rules}
 use Rattle.ol_check.proofs.clash.sort_name.Goals as goal
 
 pub returns : goal.returns

@@ -1,9 +1,6 @@
-use Prim.Native.Nat.{◌+◌, ◌*◌, ◌-◌}
-use mathlib.Core.Path.{◌≡◌, refl, ◌∙◌}
-use lib.ListN.{length}
+use mathlib.Core.Path.{refl, ◌∙◌}
 use native.Mathlib.Omega.{arith}
-use Rattle.ol_check.specs.Spans.{behind_name}
-use Rattle.ol_check.proofs.ClashLoops.{NamesGoing, names_start, names_turn, names_done}
+use Rattle.ol_check.proofs.ClashLoops.{names_start, names_turn, names_done}
 use Rattle.ol_check.proofs.clash.sort_names.Goals as goal
 
 pub loop-i-init : goal.loop-i-init

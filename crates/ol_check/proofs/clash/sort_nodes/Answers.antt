@@ -1,10 +1,7 @@
-use Prim.Native.Nat.{◌-◌}
-use mathlib.Core.Path.{◌≡◌, refl, ◌∙◌}
-use lib.ListN.{length}
+use mathlib.Core.Path.{refl, ◌∙◌}
 use native.Mathlib.Omega.{arith}
-use Rattle.ol_tables.specs.At.{file_at}
 use Rattle.ol_check.proofs.NodeLaws.{ready_at}
-use Rattle.ol_check.proofs.ClashFile.{NodesGoing, nodes_start_lem, nodes_turn, nodes_done}
+use Rattle.ol_check.proofs.ClashFile.{nodes_start_lem, nodes_turn, nodes_done}
 use Rattle.ol_check.proofs.clash.sort_nodes.Goals as goal
 
 pub loop-k-init : goal.loop-k-init

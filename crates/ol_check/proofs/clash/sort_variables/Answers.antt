@@ -1,10 +1,8 @@
-use Prim.Native.Nat.{◌+◌, ◌*◌, ◌-◌, ◌≤◌}
-use mathlib.Core.Path.{◌≡◌, refl, ap, ◌∙◌}
-use lib.ListN.{length}
+use Prim.Native.Nat.{◌+◌}
+use mathlib.Core.Path.{refl, ap, ◌∙◌}
 use native.Mathlib.Omega.{arith}
 use Rattle.ol_tables.proofs.Walking.{ty_small}
-use Rattle.ol_check.specs.Spans.{behind_variable}
-use Rattle.ol_check.proofs.ClashLoops.{NamesGoing, names_start, names_turn, names_done, names_end}
+use Rattle.ol_check.proofs.ClashLoops.{names_start, names_turn, names_done, names_end}
 use Rattle.ol_check.proofs.clash.sort_variables.Goals as goal
 
 pub loop-i-init : goal.loop-i-init

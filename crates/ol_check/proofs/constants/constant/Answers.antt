@@ -2,7 +2,6 @@ use Rattle.ol_check.proofs.ConstantLaws.{constant_walked}
 use Rattle.ol_tables.proofs.Walking.{ty_small}
 use Prim.Native.Nat.{◌+◌}
 use native.Mathlib.Omega.{arith}
-use borrow.Author.Rules.{rules}
 use Rattle.ol_check.proofs.constants.constant.Goals as goal
 
 pub overflow_add-at-3 : goal.overflow_add-at-3

@@ -1,10 +1,5 @@
-use mathlib.Core.Path.{◌≡◌, refl, ◌∙◌}
-use Rattle.ol_check.proofs.ConstantLaws.{ConstantsGoing, constants_start_lem, constants_turn, constants_done, constants_cut}
-use Rattle.ol_check.specs.Judging.{findings}
-use Rattle.ol_spec.specs.Admission.{variants}
-use Rattle.ol_tables.specs.At.{file_at}
-use lib.ListN.{length}
-use Prim.Native.Nat.{◌-◌, ◌≤◌}
+use mathlib.Core.Path.{refl, ◌∙◌}
+use Rattle.ol_check.proofs.ConstantLaws.{constants_start_lem, constants_turn, constants_done, constants_cut}
 use native.Mathlib.Omega.{arith}
 use Rattle.ol_check.proofs.constants.judge_constants.Goals as goal
 

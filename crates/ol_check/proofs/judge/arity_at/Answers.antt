@@ -1,6 +1,4 @@
 use Rattle.ol_check.proofs.HeadTests.{arity_tuple, arity_call, arity_one}
-use native.Mathlib.Omega.{arith}
-use borrow.Author.Rules.{rules}
 use Rattle.ol_check.proofs.judge.arity_at.Goals as goal
 
 pub returns-then-code-eq12 : goal.returns-then-code-eq12

@@ -1,5 +1,4 @@
 use Rattle.ol_check.proofs.HeadTests.{bad_arity, bad_kind, bad_high}
-use borrow.Author.Rules.{rules}
 use Rattle.ol_check.proofs.judge.bad_call.Goals as goal
 
 pub returns-then-may_call : goal.returns-then-may_call

@@ -1,6 +1,4 @@
 use Rattle.ol_check.proofs.HeadTests.{called_call, called_other}
-use native.Mathlib.Omega.{arith}
-use borrow.Author.Rules.{rules}
 use Rattle.ol_check.proofs.judge.called_at.Goals as goal
 
 pub returns-then-byte-eq11 : goal.returns-then-byte-eq11

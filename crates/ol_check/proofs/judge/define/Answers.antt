@@ -1,8 +1,5 @@
-use Rattle.ol_check.proofs.EquationLaws.{NamesGoing, names_start, names_turn, names_done}
-use lib.ListN.{length}
-use mathlib.Core.Path.{◌≡◌, refl, ◌∙◌}
-use Prim.Native.Nat.{◌+◌, ◌*◌, ◌-◌, ◌≤◌}
-use borrow.Author.Rules.{rules}
+use Rattle.ol_check.proofs.EquationLaws.{names_start, names_turn, names_done}
+use mathlib.Core.Path.{refl, ◌∙◌}
 use native.Mathlib.Omega.{arith}
 use Rattle.ol_check.proofs.judge.define.Goals as goal
 

@@ -1,6 +1,5 @@
 use native.Mathlib.Omega.{arith}
 use Rattle.ol_check.proofs.EquationLaws.{equation_walked}
-use borrow.Author.Rules.{rules}
 use Rattle.ol_check.proofs.judge.equation.Goals as goal
 
 pub root-requires : goal.root-requires

@@ -1,13 +1,7 @@
-use mathlib.Core.Path.{◌≡◌, refl, sym, ◌∙◌}
-use Rattle.ol_check.proofs.EquationLaws.{EquationsGoing, equations_start_lem, equations_turn, equations_done, equations_cut, equations_sized, walked_parts}
-use Rattle.ol_check.proofs.PlanLaws.{PlanGoing, plan_start, plan_least, plan_turn, plan_done, plan_front, plan_back}
-use Rattle.ol_check.specs.Judging.{findings, seen_in}
-use Rattle.ol_spec.specs.Admission.{bad_call}
-use Rattle.ol_tables.specs.At.{file_at}
-use Rattle.ol_tables.specs.Tables.{node_of}
-use lib.ListN.{length, take}
+use mathlib.Core.Path.{refl, sym, ◌∙◌}
+use Rattle.ol_check.proofs.EquationLaws.{equations_start_lem, equations_turn, equations_done, equations_cut, equations_sized, walked_parts}
+use Rattle.ol_check.proofs.PlanLaws.{plan_start, plan_least, plan_turn, plan_done, plan_front, plan_back}
 use lib.Seq.{length-take-le, length_front}
-use Prim.Native.Nat.{◌-◌, ◌≤◌}
 use native.Mathlib.Omega.{arith}
 use Rattle.ol_check.proofs.judge.equations.Goals as goal
 

@@ -1,4 +1,3 @@
-use borrow.Author.Rules.{rules}
 use native.Mathlib.Omega.{arith}
 use Rattle.ol_check.proofs.HeadTests.{call_judged}
 use Rattle.ol_check.proofs.judge.judge_call.Goals as goal

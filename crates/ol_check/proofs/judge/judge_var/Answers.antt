@@ -1,4 +1,3 @@
-use borrow.Author.Rules.{rules}
 use Rattle.ol_check.proofs.HeadTests.{var_judged}
 use Rattle.ol_check.proofs.judge.judge_var.Goals as goal
 

@@ -1,6 +1,4 @@
 use Rattle.ol_check.proofs.EquationLaws.{lone_several, lone_one}
-use borrow.Author.Rules.{rules}
-use native.Mathlib.Omega.{arith}
 use Rattle.ol_check.proofs.judge.lone.Goals as goal
 
 pub returns-then-many-gt1 : goal.returns-then-many-gt1

@@ -1,6 +1,5 @@
 use lib.ListN.{length-set}
 use mathlib.Core.Path.{◌∙◌}
-use borrow.Author.Rules.{rules}
 use Rattle.ol_check.proofs.FoundLaws.{mark_first, mark_later, mark_none}
 use Rattle.ol_check.proofs.judge.mark.Goals as goal
 

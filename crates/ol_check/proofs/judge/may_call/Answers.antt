@@ -1,6 +1,4 @@
 use Rattle.ol_check.proofs.HeadTests.{may_imported, may_function, may_other}
-use borrow.Author.Rules.{rules}
-use native.Mathlib.Omega.{arith}
 use Rattle.ol_check.proofs.judge.may_call.Goals as goal
 
 pub returns-then-callee-eq2 : goal.returns-then-callee-eq2

@@ -1,6 +1,4 @@
 use Rattle.ol_check.proofs.EquationLaws.{other_several, other_one}
-use borrow.Author.Rules.{rules}
-use native.Mathlib.Omega.{arith}
 use Rattle.ol_check.proofs.judge.other.Goals as goal
 
 pub returns-then-values-gt1 : goal.returns-then-values-gt1

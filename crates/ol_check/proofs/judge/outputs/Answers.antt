@@ -1,5 +1,4 @@
 use Rattle.ol_check.proofs.HeadTests.{outputs_there, outputs_none}
-use borrow.Author.Rules.{rules}
 use Rattle.ol_check.proofs.judge.outputs.Goals as goal
 
 pub returns-then-c-nodes : goal.returns-then-c-nodes

@@ -1,6 +1,4 @@
 use Rattle.ol_check.proofs.HeadTests.{slot_stored}
-use native.Mathlib.Omega.{arith}
-use borrow.Author.Rules.{rules}
 use Rattle.ol_check.proofs.judge.put_slot.Goals as goal
 
 pub returns : goal.returns

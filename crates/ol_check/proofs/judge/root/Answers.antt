@@ -1,7 +1,6 @@
 use Rattle.ol_check.proofs.EquationLaws.{root_judged, root_out}
 use mathlib.Core.Path.{◌∙◌}
 use native.Mathlib.Omega.{arith}
-use borrow.Author.Rules.{rules}
 use Rattle.ol_check.proofs.judge.root.Goals as goal
 
 pub returns-then-file-next : goal.returns-then-file-next

@@ -1,6 +1,4 @@
 use Rattle.ol_check.proofs.HeadTests.{slot_none, slot_variant, slot_place}
-use native.Mathlib.Omega.{arith}
-use borrow.Author.Rules.{rules}
 use Rattle.ol_check.proofs.judge.slot.Goals as goal
 
 pub returns-then-e-eq0 : goal.returns-then-e-eq0

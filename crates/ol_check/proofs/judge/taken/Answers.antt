@@ -1,6 +1,4 @@
 use Rattle.ol_check.proofs.Definitions.{taken_input, taken_outer, taken_before}
-use native.Mathlib.Omega.{arith}
-use borrow.Author.Rules.{rules}
 use Rattle.ol_check.proofs.judge.taken.Goals as goal
 
 pub returns-then-e-inputs : goal.returns-then-e-inputs

@@ -1,6 +1,4 @@
 use Rattle.ol_check.proofs.HeadTests.{unseen_var, unseen_other}
-use native.Mathlib.Omega.{arith}
-use borrow.Author.Rules.{rules}
 use Rattle.ol_check.proofs.judge.unseen_at.Goals as goal
 
 pub returns-then-byte-eq4 : goal.returns-then-byte-eq4

@@ -1,7 +1,5 @@
-use Rattle.ol_check.proofs.WalkLoop.{WalkGoing, walk_start, walk_var, walk_plain, walk_call, walk_done, none_left, file_ends, too_many}
-use lib.ListN.{length}
-use mathlib.Core.Path.{◌≡◌, refl, sym, ◌∙◌}
-use Prim.Native.Nat.{◌-◌}
+use Rattle.ol_check.proofs.WalkLoop.{walk_start, walk_var, walk_plain, walk_call, walk_done, none_left, file_ends, too_many}
+use mathlib.Core.Path.{refl, ◌∙◌}
 use native.Mathlib.Omega.{arith}
 use Rattle.ol_check.proofs.judge.walk.Goals as goal
 

@@ -1,6 +1,4 @@
 use Rattle.ol_check.proofs.EntryLoops.{declared_new, declared_old}
-use native.Mathlib.Omega.{arith}
-use borrow.Author.Rules.{rules}
 use Rattle.ol_check.proofs.names.declare.Goals as goal
 
 pub returns-then-byte-eq0 : goal.returns-then-byte-eq0

@@ -1,8 +1,6 @@
-use Prim.Native.Nat.{◌+◌, ◌*◌, ◌-◌, ◌≤◌}
-use mathlib.Core.Path.{◌≡◌, refl, ◌∙◌}
-use lib.ListN.{length}
+use mathlib.Core.Path.{refl, ◌∙◌}
 use native.Mathlib.Omega.{arith}
-use Rattle.ol_check.proofs.EntryLoops.{EnumsGoing, enums_start, enums_turn, enums_done}
+use Rattle.ol_check.proofs.EntryLoops.{enums_start, enums_turn, enums_done}
 use Rattle.ol_check.proofs.names.declare_enums.Goals as goal
 
 pub loop-i-init : goal.loop-i-init

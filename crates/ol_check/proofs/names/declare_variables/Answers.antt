@@ -1,9 +1,8 @@
-use Prim.Native.Nat.{◌+◌, ◌*◌, ◌-◌, ◌≤◌}
-use mathlib.Core.Path.{◌≡◌, refl, ◌∙◌}
-use lib.ListN.{length}
+use Prim.Native.Nat.{◌+◌}
+use mathlib.Core.Path.{refl, ◌∙◌}
 use native.Mathlib.Omega.{arith}
 use Rattle.ol_tables.proofs.Walking.{ty_small}
-use Rattle.ol_check.proofs.EntryLoops.{EnterGoing, enter_start, enter_turn, enter_done}
+use Rattle.ol_check.proofs.EntryLoops.{enter_start, enter_turn, enter_done}
 use Rattle.ol_check.proofs.names.declare_variables.Goals as goal
 
 pub loop-i-init : goal.loop-i-init

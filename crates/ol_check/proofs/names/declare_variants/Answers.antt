@@ -1,8 +1,6 @@
-use Prim.Native.Nat.{◌+◌, ◌*◌, ◌-◌}
-use mathlib.Core.Path.{◌≡◌, refl, ◌∙◌}
-use lib.ListN.{length}
+use mathlib.Core.Path.{refl, ◌∙◌}
 use native.Mathlib.Omega.{arith}
-use Rattle.ol_check.proofs.EntryLoops.{VariantsGoing, variants_start, variants_turn, variants_done}
+use Rattle.ol_check.proofs.EntryLoops.{variants_start, variants_turn, variants_done}
 use Rattle.ol_check.proofs.names.declare_variants.Goals as goal
 
 pub loop-i-init : goal.loop-i-init

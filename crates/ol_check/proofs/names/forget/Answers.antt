@@ -1,6 +1,4 @@
 use Rattle.ol_check.proofs.EntryLoops.{forgot_low, forgot_high}
-use native.Mathlib.Omega.{arith}
-use borrow.Author.Rules.{rules}
 use Rattle.ol_check.proofs.names.forget.Goals as goal
 
 pub returns-then-byte-le112 : goal.returns-then-byte-le112

@@ -1,9 +1,8 @@
-use Prim.Native.Nat.{◌+◌, ◌*◌, ◌-◌, ◌≤◌}
-use mathlib.Core.Path.{◌≡◌, refl, ◌∙◌}
-use lib.ListN.{length}
+use Prim.Native.Nat.{◌+◌}
+use mathlib.Core.Path.{refl, ◌∙◌}
 use native.Mathlib.Omega.{arith}
 use Rattle.ol_tables.proofs.Walking.{ty_small}
-use Rattle.ol_check.proofs.EntryLoops.{ForgetGoing, forget_start, forget_turn, forget_done}
+use Rattle.ol_check.proofs.EntryLoops.{forget_start, forget_turn, forget_done}
 use Rattle.ol_check.proofs.names.forget_variables.Goals as goal
 
 pub loop-i-init : goal.loop-i-init

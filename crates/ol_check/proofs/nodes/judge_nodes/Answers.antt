@@ -1,12 +1,10 @@
-use mathlib.Core.Path.{◌≡◌, refl, sym, ap, subst, ◌∙◌}
-use Rattle.ol_check.proofs.NodeLaws.{judged_same, NodesGoing, nodes_start_lem, nodes_turn, nodes_judged, ready_at}
-use Rattle.ol_check.proofs.SizeTable.{RowsKept, kept_start, kept_turn, rows_kept, SizesGoing, sizes_start, sizes_turn, sizes_done, plans_turn, types_turn}
+use mathlib.Core.Path.{refl, sym, ap, subst, ◌∙◌}
+use Rattle.ol_check.proofs.NodeLaws.{judged_same, nodes_start_lem, nodes_turn, nodes_judged, ready_at}
+use Rattle.ol_check.proofs.SizeTable.{kept_start, kept_turn, rows_kept, sizes_start, sizes_turn, sizes_done, plans_turn, types_turn}
 use Rattle.ol_tables.proofs.HeadsFile.{bytes_of_lem}
-use Rattle.ol_check.specs.NodesJudged.{NamesReady, PlansBelow, TypesLeft}
-use Rattle.ol_check.specs.Judging.{findings}
+use Rattle.ol_check.specs.NodesJudged.{NamesReady}
 use Rattle.ol_tables.specs.At.{file_at}
-use lib.ListN.{length, take}
-use Prim.Native.Nat.{◌-◌, ◌≤◌}
+use lib.ListN.{length}
 use native.Mathlib.Omega.{arith}
 use Rattle.ol_check.proofs.nodes.judge_nodes.Goals as goal
 
@@ -26,7 +24,7 @@ loop-k-smaller c = omega arith
 
 pub loop-k-preserved : goal.loop-k-preserved
 loop-k-preserved c =
-    (c.node-g.ensures.0 ∙ c.loop-k.invariant.0, c.node-g.auto.slots ∙ c.loop-k.invariant.1, kept_turn c.loop-k.invariant.2 c.loop-k.k _ _ (omega (arith, c.loop-k-test.true, c.requires.0.few)) c.node-g.ensures.1, omega (arith, c.loop-k-test.true), nodes_turn c.loop-k.invariant.4 (omega (arith, c.loop-k-test.true, c.requires.0.many)) _ _ ((judged_same c.loop-k.invariant.0 c.node-g.ensures.2)), sizes_turn c.requires.0 c.loop-k.invariant.2 c.loop-k.invariant.5 (bytes_of_lem c.args.file.now (λ i. omega (arith, c.shared_slice_known-1.given i))) c.loop-k-test.true _ _ ((judged_same c.loop-k.invariant.0 c.node-g.ensures.2)).sized c.node-g.ensures.1, c.node-g.ensures.3, plans_turn _ c.requires.0 c.loop-k.invariant.5 (bytes_of_lem c.args.file.now (λ i. omega (arith, c.shared_slice_known-1.given i))) c.loop-k-test.true c.node-g.ensures.4 c.loop-k.invariant.7, types_turn _ c.requires.0 (bytes_of_lem c.args.file.now (λ i. omega (arith, c.shared_slice_known-1.given i))) c.loop-k-test.true c.node-g.ensures.4 c.loop-k.invariant.8)
+    (c.node-g.ensures.0 ∙ c.loop-k.invariant.0, c.node-g.auto.slots ∙ c.loop-k.invariant.1, kept_turn c.loop-k.invariant.2 c.loop-k.k _ _ (omega (arith, c.loop-k-test.true, c.requires.0.few)) c.node-g.ensures.1, omega (arith, c.loop-k-test.true), nodes_turn c.loop-k.invariant.4 (omega (arith, c.loop-k-test.true, c.requires.0.many)) _ _ ((judged_same c.loop-k.invariant.0 c.node-g.ensures.2)), sizes_turn c.requires.0 c.loop-k.invariant.2 c.loop-k.invariant.5 (bytes_of_lem c.args.file.now (λ i. omega (arith, c.type_inv.file i))) c.loop-k-test.true _ _ ((judged_same c.loop-k.invariant.0 c.node-g.ensures.2)).sized c.node-g.ensures.1, c.node-g.ensures.3, plans_turn _ c.requires.0 c.loop-k.invariant.5 (bytes_of_lem c.args.file.now (λ i. omega (arith, c.type_inv.file i))) c.loop-k-test.true c.node-g.ensures.4 c.loop-k.invariant.7, types_turn _ c.requires.0 (bytes_of_lem c.args.file.now (λ i. omega (arith, c.type_inv.file i))) c.loop-k-test.true c.node-g.ensures.4 c.loop-k.invariant.8)
 
 pub shape_of-names : goal.shape_of-names
 shape_of-names c = ap length c.loop-k.invariant.0

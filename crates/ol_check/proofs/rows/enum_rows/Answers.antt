@@ -1,8 +1,6 @@
-use Prim.Native.Nat.{◌+◌, ◌*◌, ◌-◌, ◌≤◌}
-use mathlib.Core.Path.{◌≡◌, refl, ◌∙◌}
-use lib.ListN.{length}
+use mathlib.Core.Path.{refl, ◌∙◌}
 use native.Mathlib.Omega.{arith}
-use Rattle.ol_check.proofs.RowLoops.{FirstsGoing, firsts_start, firsts_turn, firsts_done}
+use Rattle.ol_check.proofs.RowLoops.{firsts_start, firsts_turn, firsts_done}
 use Rattle.ol_check.proofs.rows.enum_rows.Goals as goal
 
 pub loop-e-init : goal.loop-e-init
@@ -33,7 +31,7 @@ pub loop-e-smaller : goal.loop-e-smaller
 loop-e-smaller c = omega arith
 
 pub loop-e-preserved : goal.loop-e-preserved
-loop-e-preserved c = (omega (arith, c.loop-e.invariant.0, c.names_end-next.ensures, (c.shared_slice_known-1.given c.loop-e.next)), c.put.auto.rows ∙ c.loop-e.invariant.1, firsts_turn c.loop-e.invariant.2 c.loop-e-test.true c.name.ensures c.put.ensures c.names_end-next.ensures)
+loop-e-preserved c = (omega (arith, c.loop-e.invariant.0, c.names_end-next.ensures, c.type_inv.file c.loop-e.next), c.put.auto.rows ∙ c.loop-e.invariant.1, firsts_turn c.loop-e.invariant.2 c.loop-e-test.true c.name.ensures c.put.ensures c.names_end-next.ensures)
 
 pub shape_of-rows : goal.shape_of-rows
 shape_of-rows c = c.loop-e.invariant.1

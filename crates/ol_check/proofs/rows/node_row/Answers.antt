@@ -1,6 +1,5 @@
 use native.Mathlib.Omega.{arith}
 use Rattle.ol_check.proofs.RowLoops.{types_near, node_stored_lem}
-use borrow.Author.Rules.{rules}
 use Rattle.ol_check.proofs.rows.node_row.Goals as goal
 
 pub overflow_add-o : goal.overflow_add-o

@@ -1,8 +1,6 @@
-use Prim.Native.Nat.{◌-◌}
-use mathlib.Core.Path.{◌≡◌, refl, ◌∙◌}
-use lib.ListN.{length}
+use mathlib.Core.Path.{refl, ◌∙◌}
 use native.Mathlib.Omega.{arith}
-use Rattle.ol_check.proofs.RowLoops.{RowsGoing, rows_start, rows_turn, rows_done}
+use Rattle.ol_check.proofs.RowLoops.{rows_start, rows_turn, rows_done}
 use Rattle.ol_check.proofs.rows.node_rows.Goals as goal
 
 pub loop-k-init : goal.loop-k-init
@@ -22,7 +20,7 @@ pub loop-k-smaller : goal.loop-k-smaller
 loop-k-smaller c = omega arith
 
 pub loop-k-preserved : goal.loop-k-preserved
-loop-k-preserved c = (c.Node-row.auto.1.0 ∙ c.loop-k.invariant.0, c.Node-row.auto.1.1.0 ∙ c.loop-k.invariant.1, rows_turn c.loop-k.invariant.2 c.loop-k-test.true c.entry.ensures c.Node-row.ensures)
+loop-k-preserved c = (c.node_row.auto.rows ∙ c.loop-k.invariant.0, c.node_row.auto.tab ∙ c.loop-k.invariant.1, rows_turn c.loop-k.invariant.2 c.loop-k-test.true c.entry.ensures c.node_row.ensures)
 
 pub shape_of-rows : goal.shape_of-rows
 shape_of-rows c = c.loop-k.invariant.0

@@ -1,6 +1,4 @@
 use mathlib.Core.Path.{refl}
-use native.Mathlib.Omega.{arith}
-use borrow.Author.Rules.{rules}
 use Rattle.ol_check.proofs.rows.put_row.Goals as goal
 
 pub returns : goal.returns

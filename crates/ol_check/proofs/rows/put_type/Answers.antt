@@ -1,5 +1,4 @@
 use Rattle.ol_check.proofs.RowLoops.{type_stored, enum_told, enum_none}
-use borrow.Author.Rules.{rules}
 use Rattle.ol_check.proofs.rows.put_type.Goals as goal
 
 pub returns-then-code-eq12 : goal.returns-then-code-eq12

@@ -1,9 +1,8 @@
-use Prim.Native.Nat.{◌+◌, ◌*◌, ◌-◌, ◌≤◌}
-use mathlib.Core.Path.{◌≡◌, refl, ◌∙◌}
-use lib.ListN.{length}
+use Prim.Native.Nat.{◌+◌}
+use mathlib.Core.Path.{refl, ◌∙◌}
 use native.Mathlib.Omega.{arith}
 use Rattle.ol_tables.proofs.Walking.{ty_small}
-use Rattle.ol_check.proofs.RowLoops.{TypesGoing, types_start, types_turn, types_done}
+use Rattle.ol_check.proofs.RowLoops.{types_start, types_turn, types_done}
 use Rattle.ol_check.proofs.rows.variable_types.Goals as goal
 
 pub loop-i-init : goal.loop-i-init

@@ -1,5 +1,4 @@
 use Rattle.ol_check.proofs.SizeLaws.{main_operator, main_other}
-use borrow.Author.Rules.{rules}
 use Rattle.ol_check.proofs.size.not_operator.Goals as goal
 
 pub overflow_sub-k : goal.overflow_sub-k

@@ -1,5 +1,4 @@
 use Rattle.ol_check.proofs.SizeLaws.{record_operator, record_other}
-use borrow.Author.Rules.{rules}
 use Rattle.ol_check.proofs.size.record_size.Goals as goal
 
 pub returns-then-kind-eq1 : goal.returns-then-kind-eq1

@@ -1,5 +1,4 @@
 use Rattle.ol_check.proofs.SizeLaws.{site_call, site_absent, site_none}
-use borrow.Author.Rules.{rules}
 use Rattle.ol_check.proofs.size.site.Goals as goal
 
 pub returns-then-c-nodes : goal.returns-then-c-nodes
