@@ -42,6 +42,8 @@ made_nan Ieee.binary64 = refl
 nan_only : (x : Float) → T (is_nan x) → x ≡ nan
 unfolding is_nan
 nan_only nan h = refl
+nan_only (inf _) h = elim h [ ]
+nan_only (fin _ _ _) h = elim h [ ]
 
 -- a pattern without its sign is above the infinity's, or it is not: k is the number of its digits and its exponent's
 module _ (f : Format) (b k : ℕ) (K : top f ≡ 2 ^ k) where
@@ -62,6 +64,7 @@ neither false q h = (tt, h)
 
 unequal : (a b : ℕ) (t : Bool) → T t → T (not (eqb a b && t)) → a ≢ b
 unequal a b true t h e = T_not (eqb a b && true) h (and_i (eqb a b) true (eq→eqb e) tt)
+unequal a b false t h e = elim t [ ]
 
 below_or : (s t : Bool) (a b : ℕ) → T (not (below t b s a || level t b s a)) → T (below s a t b)
 below_or false false a b h =

@@ -119,6 +119,7 @@ module _ (f : Format) (q k : ℕ) (most : q ≤ 2 ^ prec f) (leading : (hid f �
       go true t =
           fits_datum f false (q * 2 ^ k) (odd (suc (prec f)) false q k (low f))
           (odd-fits f (suc (prec f)) false q k (lt_of_le_of_lt most (pow-lt (omega arith))) most l) (odd_sign (suc (prec f)) false q k (low f))
+      go false t = elim t [ ]
 
   encodes : (E t : ℕ) → E < ones f → t < hid f → pattern ≡ E * hid f + t → (0 < E → (hid f + t) * 2 ^ (E - 1) ≡ q * 2 ^ k) → (E ≡ 0 → t ≡ q * 2 ^ k) → Datum (of f) false (q * 2 ^ k) (units f false q k)
       → Encodes (of f) pattern (units f false q k)

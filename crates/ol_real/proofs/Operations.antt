@@ -24,6 +24,7 @@ zero_rounds f s den (fin t m e) P M D h =
     let q : n * den ≡ 0 * den = omega (arith, zero-mul den) in
     let n-is : n ≡ 0 = eq_of_mul-eq-mul_right den D n 0 q in
     datum_one f s 0 (fin t m e) (fin s 0 (pos 0)) (h.0, h.1.written, subst (λ (x : ℕ). Counts f m e x) n-is h.1.counts) (refl, refl, zero-mul (2 ^ lowest f))
+zero_rounds f s den nan P M D h = elim h [ ]
 
 -- ==== exactly one result
 

@@ -120,6 +120,8 @@ module _ (n : ℕ) (big : 2 ^ 24 ≤ n) (fit : n < 2 ^ 64) where
 rounds_value : (y : Float) (a c : ℕ) → 0 < c → HasValue y false a c → round_single y ≡ round binary32 false a c
 unfolding round_single
 rounds_value (fin s m e) a c C v = ap (λ (t : Bool). round binary32 t (m * up e) (down e)) v.0 ∙ round_same binary32 false (m * up e) (down e) a c (down_pos e) C v.1
+rounds_value nan a c C v = elim v [ ]
+rounds_value (inf _) a c C v = elim v [ ]
 
 -- less than half of 2 ^ -149
 vanishes : (q x d : ℕ) → x + (d + 149) ≡ 0 + 1074 → q * 2 < 2 ^ d → round binary32 false (q * 2 ^ x) (2 ^ 1074) ≡ fin false 0 (pos 0)

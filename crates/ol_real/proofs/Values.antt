@@ -35,6 +35,10 @@ pub datum_one : (f : Format) (s : Bool) (n : ℕ) (x y : Float) → Datum f s n 
 datum_one f s n (fin t m d) (fin u k e) a b =
     let r = form_one m k d e a.1 b.1 (cross (m * up d) (k * up e) (2 ^ lowest f) n (down d) (down e) (pow_pos (lowest f)) a.2 b.2) in
     λ i. fin ((a.0 ∙ sym b.0) i) (r.0 i) (r.1 i)
+datum_one f s n nan y a b = elim a [ ]
+datum_one f s n (inf _) y a b = elim a [ ]
+datum_one f s n (fin t m d) nan a b = elim b [ ]
+datum_one f s n (fin t m d) (inf _) a b = elim b [ ]
 
 -- ==== one rounded datum
 pub rounds_one : (f : Format) (s : Bool) (num den : ℕ) (x y : Float) → 1 ≤ f.p → 0 < den → Rounds f s num den x → Rounds f s num den y → x ≡ y
@@ -44,6 +48,9 @@ rounds_one f s num den (fin t m d) (inf u) P D a b = absurd (a.1.below b.1)
 rounds_one f s num den (fin t m d) (fin u k e) P D a b =
     let same : b.1.n ≡ a.1.n = nearest_one f P (num * 2 ^ lowest f) den D b.1.n a.1.n b.1.nearest a.1.nearest in
     datum_one f s a.1.n (fin t m d) (fin u k e) (a.0, a.1.written, a.1.counts) (b.0, b.1.written, subst (λ (x : ℕ). Counts f k e x) same b.1.counts)
+rounds_one f s num den nan y P D a b = elim a [ ]
+rounds_one f s num den (inf t) nan P D a b = elim b [ ]
+rounds_one f s num den (fin t m d) nan P D a b = elim b [ ]
 
 -- ==== the data of a format: what `fits` admits
 
@@ -84,6 +91,8 @@ number_below f n P M w =
 
 pub fits_datum : (f : Ieee.Format) (s : Bool) (n : ℕ) (x : Float) → T (fits f x) → HasValue x s n (2 ^ low f) → Datum (of f) s n x
 fits_datum f s n (fin t m e) h v = (v.0, fits_form f t m e h, v.1)
+fits_datum f s n nan h v = elim v [ ]
+fits_datum f s n (inf _) h v = elim v [ ]
 
 pub value_fits : (f : Ieee.Format) (x : Float) → IsValue (of f) x → T (fits f x)
 value_fits f nan v = unfold fits in tt
@@ -128,6 +137,8 @@ module _ (f : Format) (P : 2 ≤ f.p) (M : 1 ≤ f.emax) (s : Bool) (num den : �
       nearest = res_nearest f P M (num * 2 ^ lowest f) den D l;
     },
   )
+  rounded nan l d = elim d [ ]
+  rounded (inf _) l d = elim d [ ]
 
   infinite : top f P M (num * 2 ^ lowest f) den D ≤ res f P M (num * 2 ^ lowest f) den D → Rounds f s num den (inf s)
   infinite h = (refl, units_overflow f P M num den (over f P M (num * 2 ^ lowest f) den D h))

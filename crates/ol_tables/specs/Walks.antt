@@ -31,12 +31,12 @@ abbrev pub skip_at : List ℕ → ℕ → ℕ → ℕ
 skip_at s left at = skip_by s (length s) left at
 
 -- the callee of the expression at `at`, if it is a call
-abbrev pub field_own : List ℕ → ℕ → List ℕ
-field_own s at = cond (eqb (get_or s at 0) 11) (get_or s (at + 1) 0 ∷ []) []
+abbrev pub own_at : List ℕ → ℕ → List ℕ
+own_at s at = cond (eqb (get_or s at 0) 11) (get_or s (at + 1) 0 ∷ []) []
 
 -- their callees, one entry for each call site
 abbrev pub sites_by : List ℕ → ℕ → ℕ → ℕ → List ℕ
-sites_by s n left at = walk_by (λ p r. field_own s p ++ r) (λ p. []) s n left at
+sites_by s n left at = walk_by (λ p r. own_at s p ++ r) (λ p. []) s n left at
 
 abbrev pub sites_at : List ℕ → ℕ → ℕ → List ℕ
 sites_at s left at = sites_by s (length s) left at

@@ -1,5 +1,6 @@
 // Lines of text: words, numbers and hexadecimal in them, and answers put together from pieces.
 #![tactic(auto)]
+
 pub mod answers;
 
 ghost use Rattle.std.specs.Prelude.{◌≡◌, ◌++◌, ◌+◌, ◌≤◌, ◌<◌, length, take, drop};

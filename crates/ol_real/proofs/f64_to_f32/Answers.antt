@@ -5,20 +5,17 @@ use Rattle.ol_real.proofs.Singles.{size_most, plus_single, minus_single, nan_sin
 use Rattle.ol_real.proofs.f64_to_f32.Goals as goal
 
 -- what owning a double tells: the format holds it
-held : (c : tie.Start) → T (fits binary64 c.args.x)
-held c = yes c.well-formed.0.1
+pub size_to_f32-r-requires : goal.size_to_f32-r-requires
+size_to_f32-r-requires c = size_most c.args.x (yes c.well_formed.0.1) c.if-x.false
 
 pub float_to_bits-bits : goal.float_to_bits-bits
 float_to_bits-bits c = no_nan c.args.x c.if-x.false
-
-pub size_to_f32-r-requires : goal.size_to_f32-r-requires
-size_to_f32-r-requires c = size_most c.args.x (held c) c.if-x.false
 
 pub returns-then-x : goal.returns-then-x
 returns-then-x c = nan_single c.args.x c.if-x.true
 
 pub returns-then-bits-lt9223372036854775808 : goal.returns-then-bits-lt9223372036854775808
-returns-then-bits-lt9223372036854775808 c = c.size_to_f32-r.ensures ∙ plus_single c.args.x (held c) c.if-bits-lt9223372036854775808.true
+returns-then-bits-lt9223372036854775808 c = c.size_to_f32-r.ensures ∙ plus_single c.args.x (yes c.well_formed.0.1) c.if-bits-lt9223372036854775808.true
 
 pub returns-else-bits-lt9223372036854775808 : goal.returns-else-bits-lt9223372036854775808
-returns-else-bits-lt9223372036854775808 c = ap neg c.size_to_f32-r.ensures ∙ minus_single c.args.x (held c) c.if-bits-lt9223372036854775808.false
+returns-else-bits-lt9223372036854775808 c = ap neg c.size_to_f32-r.ensures ∙ minus_single c.args.x (yes c.well_formed.0.1) c.if-bits-lt9223372036854775808.false

@@ -10,7 +10,7 @@ truncating_f64_to_i64-requires c =
     let x : Float = c.args.x in
     let low : T (le (fin true 1 (pos 63)) x) = subst (λ (k : Float). T (le k x)) lower_limit (yes c.if-x-3.true) in
     let high : T (not (le (fin false 1 (pos 63)) x)) = subst (λ (k : Float). T (not (le k x))) limit (no c.if-x-2.false) in
-    (low, less_of_not x (fin false 1 (pos 63)) (no_nan x c.if-x.false) (unfold is_nan in tt) high)
+    record { lower_bound = low; upper_bound = less_of_not x (fin false 1 (pos 63)) (no_nan x c.if-x.false) (unfold is_nan in tt) high }
 
 pub returns-then-x : goal.returns-then-x
 returns-then-x c = nan_cut c.args.x c.if-x.true

@@ -34,13 +34,12 @@ pub loop-i-smaller : goal.loop-i-smaller
 loop-i-smaller c = omega arith
 
 pub loop-i-preserved : goal.loop-i-preserved
-loop-i-preserved c =
-    (
-      omega arith,
-      c.with_digit-value.ensures.0,
-      c.loop-i.invariant.2 ∙ number_more c.loop-i.value c.args.text.now c.loop-i.i (omega arith) c.if-c-lt48.false c.if-c-gt57.false
-          ∙ ap (λ (v : ℕ). number_from v (drop (c.loop-i.i + 1) c.args.text.now)) (sym c.with_digit-value.ensures.1),
-    )
+loop-i-preserved c = (
+  omega arith,
+  c.with_digit-value.ensures.0,
+  c.loop-i.invariant.2 ∙ number_more c.loop-i.value c.args.text.now c.loop-i.i (omega arith) c.if-c-lt48.false c.if-c-gt57.false
+      ∙ ap (λ (v : ℕ). number_from v (drop (c.loop-i.i + 1) c.args.text.now)) (sym c.with_digit-value.ensures.1),
+)
 
 pub returns : goal.returns
 returns c =

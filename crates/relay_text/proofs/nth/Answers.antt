@@ -21,21 +21,19 @@ pub loop-i-smaller : goal.loop-i-smaller
 loop-i-smaller c = omega arith
 
 pub loop-i-preserved : goal.loop-i-preserved
-loop-i-preserved c =
-    (
-      omega arith,
-      c.next_word-w.ensures.1,
-      ap (λ (j : ℕ). behind c.args.line.now (c.args.k - (c.loop-i.i + 1)) j) (ap (λ (w : Word). w.to) c.next_word-w.ensures.2)
-          ∙ sym (behind_next c.args.line.now c.args.k c.loop-i.i c.loop-i.at (omega arith)) ∙ c.loop-i.invariant.2,
-    )
+loop-i-preserved c = (
+  omega arith,
+  c.next_word-w.ensures.1,
+  ap (λ (j : ℕ). behind c.args.line.now (c.args.k - (c.loop-i.i + 1)) j) (ap (λ (w : Word). w.to) c.next_word-w.ensures.2)
+      ∙ sym (behind_next c.args.line.now c.args.k c.loop-i.i c.loop-i.at (omega arith)) ∙ c.loop-i.invariant.2,
+)
 
 pub next_word-requires : goal.next_word-requires
 next_word-requires c = omega arith
 
 pub returns : goal.returns
-returns c =
-    (
-      c.next_word.ensures.0,
-      c.next_word.ensures.1,
-      c.next_word.ensures.2 ∙ ap (word_at c.args.line.now) (sym (behind_done c.args.line.now c.args.k c.loop-i.i c.loop-i.at (omega arith)) ∙ c.loop-i.invariant.2),
-    )
+returns c = (
+  c.next_word.ensures.0,
+  c.next_word.ensures.1,
+  c.next_word.ensures.2 ∙ ap (word_at c.args.line.now) (sym (behind_done c.args.line.now c.args.k c.loop-i.i c.loop-i.at (omega arith)) ∙ c.loop-i.invariant.2),
+)

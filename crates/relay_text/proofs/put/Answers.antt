@@ -27,12 +27,11 @@ pub loop-i-smaller : goal.loop-i-smaller
 loop-i-smaller c = omega arith
 
 pub loop-i-preserved : goal.loop-i-preserved
-loop-i-preserved c =
-    (
-      omega arith,
-      ap (λ (l : List ℕ). set l (c.args.at + c.loop-i.i) (get_or c.args.piece.now c.loop-i.i 0)) c.loop-i.invariant.1
-          ∙ rw add-one (paste-suc c.args.out.now c.args.at c.args.piece.now c.loop-i.i 0 (omega arith) (omega arith)),
-    )
+loop-i-preserved c = (
+  omega arith,
+  ap (λ (l : List ℕ). set l (c.args.at + c.loop-i.i) (get_or c.args.piece.now c.loop-i.i 0)) c.loop-i.invariant.1
+      ∙ rw add-one (paste-suc c.args.out.now c.args.at c.args.piece.now c.loop-i.i 0 (omega arith) (omega arith)),
+)
 
 pub overflow_add-result : goal.overflow_add-result
 overflow_add-result c = omega arith
@@ -42,11 +41,10 @@ shape_of-out c =
     (ap length c.loop-i.invariant.1 ∙ length-paste c.args.out.now c.args.at c.args.piece.now c.loop-i.i (omega arith) (omega arith))
 
 pub returns : goal.returns
-returns c =
-    (
-      ap (λ (n : ℕ). c.args.at + n) (omega arith),
-      ap (take (c.args.at + c.loop-i.i)) c.loop-i.invariant.1
-          ∙ take-paste c.args.out.now c.args.at c.args.piece.now c.loop-i.i (omega arith) (omega arith)
-          ∙ ap (λ (l : List ℕ). take c.args.at c.args.out.now ++ l) (take_all c.loop-i.i c.args.piece.now (omega arith)),
-      ap (drop (c.args.at + c.loop-i.i)) c.loop-i.invariant.1 ∙ drop-paste c.args.out.now c.args.at c.args.piece.now c.loop-i.i (omega arith) (omega arith),
-    )
+returns c = (
+  ap (λ (n : ℕ). c.args.at + n) (omega arith),
+  ap (take (c.args.at + c.loop-i.i)) c.loop-i.invariant.1
+      ∙ take-paste c.args.out.now c.args.at c.args.piece.now c.loop-i.i (omega arith) (omega arith)
+      ∙ ap (λ (l : List ℕ). take c.args.at c.args.out.now ++ l) (take_all c.loop-i.i c.args.piece.now (omega arith)),
+  ap (drop (c.args.at + c.loop-i.i)) c.loop-i.invariant.1 ∙ drop-paste c.args.out.now c.args.at c.args.piece.now c.loop-i.i (omega arith) (omega arith),
+)

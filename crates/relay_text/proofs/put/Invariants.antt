@@ -8,7 +8,7 @@ use lib.Seq.{paste, paste-zero, paste-suc, length-paste, take-paste, drop-paste,
 use Rattle.relay_text.proofs.put.Given as goal
 
 abbrev pub invariant-loop-i : goal.invariant-loop-i
-invariant-loop-i l = (l.i ≤ length l.initial.out) × (l.out ≡ paste l.at l.piece l.initial.out l.i)
+invariant-loop-i l = (l.i ≤ length l.piece) × (l.out ≡ paste l.initial.out l.at l.piece l.i)
 
 abbrev pub decreases-loop-i : goal.decreases-loop-i
-decreases-loop-i l = length l.initial.out - l.i
+decreases-loop-i l = length l.piece - l.i

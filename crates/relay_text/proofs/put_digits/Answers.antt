@@ -40,15 +40,14 @@ pub loop-i-smaller : goal.loop-i-smaller
 loop-i-smaller c = omega arith
 
 pub loop-i-preserved : goal.loop-i-preserved
-loop-i-preserved c =
-    (
-      omega arith,
-      c.put.auto.out ∙ c.loop-i.invariant.1,
-      digits_more c.args.out.now c.loop-i.out c.put.new.out c.args.bytes.now c.args.at c.loop-i.i c.put.result c.glyph.result c.glyph-in-loop-i.result
-          (omega arith) c.put.ensures.0 c.put.ensures.1 c.glyph.ensures c.glyph-in-loop-i.ensures c.loop-i.invariant.2,
-      behind_on c.put.new.out c.loop-i.out c.args.out.now (c.args.at + c.loop-i.i + c.loop-i.i) c.put.result (c.args.at + (c.loop-i.i + 1) + (c.loop-i.i + 1))
-          (omega (arith, c.put.ensures.0)) (omega (arith, c.put.ensures.0)) c.put.ensures.2 c.loop-i.invariant.3,
-    )
+loop-i-preserved c = (
+  omega arith,
+  c.put.auto.out ∙ c.loop-i.invariant.1,
+  digits_more c.args.out.now c.loop-i.out c.put.new.out c.args.bytes.now c.args.at c.loop-i.i c.put.result c.glyph.result c.glyph-in-loop-i.result
+      (omega arith) c.put.ensures.0 c.put.ensures.1 c.glyph.ensures c.glyph-in-loop-i.ensures c.loop-i.invariant.2,
+  behind_on c.put.new.out c.loop-i.out c.args.out.now (c.args.at + c.loop-i.i + c.loop-i.i) c.put.result (c.args.at + (c.loop-i.i + 1) + (c.loop-i.i + 1))
+      (omega (arith, c.put.ensures.0)) (omega (arith, c.put.ensures.0)) c.put.ensures.2 c.loop-i.invariant.3,
+)
 
 pub overflow_add-result : goal.overflow_add-result
 overflow_add-result c = omega arith
@@ -60,9 +59,8 @@ pub shape_of-out : goal.shape_of-out
 shape_of-out c = c.loop-i.invariant.1
 
 pub returns : goal.returns
-returns c =
-    (
-      omega (arith, hexed_length c.args.bytes.now),
-      c.loop-i.invariant.2 ∙ ap (λ (l : List ℕ). take c.args.at c.args.out.now ++ hexed l) (take_all c.loop-i.i c.args.bytes.now (omega arith)),
-      c.loop-i.invariant.3,
-    )
+returns c = (
+  omega (arith, hexed_length c.args.bytes.now),
+  c.loop-i.invariant.2 ∙ ap (λ (l : List ℕ). take c.args.at c.args.out.now ++ hexed l) (take_all c.loop-i.i c.args.bytes.now (omega arith)),
+  c.loop-i.invariant.3,
+)

@@ -9,7 +9,7 @@ use Rattle.relay_text.proofs.Laws.{hexed_start, digits_more, hexed_length, behin
 use Rattle.relay_text.proofs.put_digits.Given as goal
 
 abbrev pub invariant-loop-i : goal.invariant-loop-i
-invariant-loop-i l = (l.i ≤ length l.initial.out) × (length l.out ≡ length l.at) × (take (l.bytes + l.i + l.i) l.out ≡ take l.bytes l.at ++ hexed (take l.i l.initial.out)) × (drop (l.bytes + l.i + l.i) l.out ≡ drop (l.bytes + l.i + l.i) l.at)
+invariant-loop-i l = (l.i ≤ length l.bytes) × (length l.out ≡ length l.initial.out) × (take (l.at + l.i + l.i) l.out ≡ take l.at l.initial.out ++ hexed (take l.i l.bytes)) × (drop (l.at + l.i + l.i) l.out ≡ drop (l.at + l.i + l.i) l.initial.out)
 
 abbrev pub decreases-loop-i : goal.decreases-loop-i
-decreases-loop-i l = length l.initial.out - l.i
+decreases-loop-i l = length l.bytes - l.i

@@ -22,11 +22,10 @@ pub shape_of-out-then-i-text : goal.shape_of-out-then-i-text
 shape_of-out-then-i-text c = c.loop-i.invariant.1
 
 pub returns-then-i-text : goal.returns-then-i-text
-returns-then-i-text c =
-    (
-      left_odd c.args.text.now c.loop-i.out c.loop-i.i c.loop-i.invariant.2 c.if-i-text.true,
-      front_written c.args.text.now c.loop-i.out c.args.out.now c.loop-i.i (front_odd c.args.text.now c.loop-i.out c.loop-i.i c.loop-i.invariant.3 c.if-i-text.true) (omega arith) c.loop-i.invariant.4,
-    )
+returns-then-i-text c = (
+  left_odd c.args.text.now c.loop-i.out c.loop-i.i c.loop-i.invariant.2 c.if-i-text.true,
+  front_written c.args.text.now c.loop-i.out c.args.out.now c.loop-i.i (front_odd c.args.text.now c.loop-i.out c.loop-i.i c.loop-i.invariant.3 c.if-i-text.true) (omega arith) c.loop-i.invariant.4,
+)
 
 pub overflow_add-i-in-loop-i-3 : goal.overflow_add-i-in-loop-i-3
 overflow_add-i-in-loop-i-3 c = omega arith
@@ -53,21 +52,19 @@ pub shape_of-out-then-high-gt15 : goal.shape_of-out-then-high-gt15
 shape_of-out-then-high-gt15 c = c.loop-i.invariant.1
 
 pub returns-then-high-gt15 : goal.returns-then-high-gt15
-returns-then-high-gt15 c =
-    (
-      left_high c.args.text.now c.loop-i.out c.loop-i.i c.loop-i.invariant.2 (omega arith) c.digit-high.result c.digit-low.result c.digit-high.ensures.1 c.digit-low.ensures.1 c.if-high-gt15.true,
-      front_written c.args.text.now c.loop-i.out c.args.out.now c.loop-i.i (front_high c.args.text.now c.loop-i.out c.loop-i.i c.loop-i.invariant.3 (omega arith) c.digit-high.result c.digit-low.result c.digit-high.ensures.1 c.digit-low.ensures.1 c.if-high-gt15.true) (omega arith) c.loop-i.invariant.4,
-    )
+returns-then-high-gt15 c = (
+  left_high c.args.text.now c.loop-i.out c.loop-i.i c.loop-i.invariant.2 (omega arith) c.digit-high.result c.digit-low.result c.digit-high.ensures.1 c.digit-low.ensures.1 c.if-high-gt15.true,
+  front_written c.args.text.now c.loop-i.out c.args.out.now c.loop-i.i (front_high c.args.text.now c.loop-i.out c.loop-i.i c.loop-i.invariant.3 (omega arith) c.digit-high.result c.digit-low.result c.digit-high.ensures.1 c.digit-low.ensures.1 c.if-high-gt15.true) (omega arith) c.loop-i.invariant.4,
+)
 
 pub shape_of-out-then-low-gt15 : goal.shape_of-out-then-low-gt15
 shape_of-out-then-low-gt15 c = c.loop-i.invariant.1
 
 pub returns-then-low-gt15 : goal.returns-then-low-gt15
-returns-then-low-gt15 c =
-    (
-      left_low c.args.text.now c.loop-i.out c.loop-i.i c.loop-i.invariant.2 (omega arith) c.digit-high.result c.digit-low.result c.digit-high.ensures.1 c.digit-low.ensures.1 c.if-high-gt15.false c.if-low-gt15.true,
-      front_written c.args.text.now c.loop-i.out c.args.out.now c.loop-i.i (front_low c.args.text.now c.loop-i.out c.loop-i.i c.loop-i.invariant.3 (omega arith) c.digit-high.result c.digit-low.result c.digit-high.ensures.1 c.digit-low.ensures.1 c.if-high-gt15.false c.if-low-gt15.true) (omega arith) c.loop-i.invariant.4,
-    )
+returns-then-low-gt15 c = (
+  left_low c.args.text.now c.loop-i.out c.loop-i.i c.loop-i.invariant.2 (omega arith) c.digit-high.result c.digit-low.result c.digit-high.ensures.1 c.digit-low.ensures.1 c.if-high-gt15.false c.if-low-gt15.true,
+  front_written c.args.text.now c.loop-i.out c.args.out.now c.loop-i.i (front_low c.args.text.now c.loop-i.out c.loop-i.i c.loop-i.invariant.3 (omega arith) c.digit-high.result c.digit-low.result c.digit-high.ensures.1 c.digit-low.ensures.1 c.if-high-gt15.false c.if-low-gt15.true) (omega arith) c.loop-i.invariant.4,
+)
 
 pub overflow_mul-out : goal.overflow_mul-out
 overflow_mul-out c = omega arith
@@ -85,23 +82,21 @@ pub loop-i-smaller : goal.loop-i-smaller
 loop-i-smaller c = omega arith
 
 pub loop-i-preserved : goal.loop-i-preserved
-loop-i-preserved c =
-    (
-      omega arith,
-      simp length-set c.loop-i.invariant.1,
-      left_byte c.args.text.now c.loop-i.out c.loop-i.i c.loop-i.invariant.2 (omega arith) c.digit-high.result c.digit-low.result c.digit-high.ensures.1 c.digit-low.ensures.1
-          c.if-high-gt15.false c.if-low-gt15.false (omega arith),
-      front_byte_lem c.args.text.now c.loop-i.out c.loop-i.i c.loop-i.invariant.3 (omega arith) c.digit-high.result c.digit-low.result c.digit-high.ensures.1 c.digit-low.ensures.1
-          c.if-high-gt15.false c.if-low-gt15.false (omega arith),
-      byte_kept c.loop-i.out c.args.out.now c.loop-i.i (c.digit-high.result * 16 + c.digit-low.result) c.loop-i.invariant.4,
-    )
+loop-i-preserved c = (
+  omega arith,
+  simp length-set c.loop-i.invariant.1,
+  left_byte c.args.text.now c.loop-i.out c.loop-i.i c.loop-i.invariant.2 (omega arith) c.digit-high.result c.digit-low.result c.digit-high.ensures.1 c.digit-low.ensures.1
+      c.if-high-gt15.false c.if-low-gt15.false (omega arith),
+  front_byte_lem c.args.text.now c.loop-i.out c.loop-i.i c.loop-i.invariant.3 (omega arith) c.digit-high.result c.digit-low.result c.digit-high.ensures.1 c.digit-low.ensures.1
+      c.if-high-gt15.false c.if-low-gt15.false (omega arith),
+  byte_kept c.loop-i.out c.args.out.now c.loop-i.i (c.digit-high.result * 16 + c.digit-low.result) c.loop-i.invariant.4,
+)
 
 pub shape_of-out : goal.shape_of-out
 shape_of-out c = c.loop-i.invariant.1
 
 pub returns : goal.returns
-returns c =
-    (
-      (omega arith, left_end c.args.text.now c.loop-i.out c.loop-i.i c.loop-i.invariant.2 (omega arith)),
-      front_written c.args.text.now c.loop-i.out c.args.out.now c.loop-i.i (front_end c.args.text.now c.loop-i.out c.loop-i.i c.loop-i.invariant.3 (omega arith)) (omega arith) c.loop-i.invariant.4,
-    )
+returns c = (
+  (omega arith, left_end c.args.text.now c.loop-i.out c.loop-i.i c.loop-i.invariant.2 (omega arith)),
+  front_written c.args.text.now c.loop-i.out c.args.out.now c.loop-i.i (front_end c.args.text.now c.loop-i.out c.loop-i.i c.loop-i.invariant.3 (omega arith)) (omega arith) c.loop-i.invariant.4,
+)

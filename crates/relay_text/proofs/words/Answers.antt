@@ -25,14 +25,13 @@ pub loop-n-smaller : goal.loop-n-smaller
 loop-n-smaller c = omega arith
 
 pub loop-n-preserved : goal.loop-n-preserved
-loop-n-preserved c =
-    (
-      omega arith,
-      c.next_word-w.ensures.1,
-      ap (λ (j : ℕ). c.loop-n.n + 1 + words_up_to (6 - (c.loop-n.n + 1)) c.args.line.now j) (ap (λ (w : Word). w.to) c.next_word-w.ensures.2)
-          ∙ sym (words_next c.args.line.now 6 c.loop-n.n c.loop-n.at (omega arith)
-          (λ q. c.if-w.false (ap (λ (w : Word). w.from) c.next_word-w.ensures.2 ∙ q ∙ sym (ap (λ (w : Word). w.to) c.next_word-w.ensures.2)))) ∙ c.loop-n.invariant.2,
-    )
+loop-n-preserved c = (
+  omega arith,
+  c.next_word-w.ensures.1,
+  ap (λ (j : ℕ). c.loop-n.n + 1 + words_up_to (6 - (c.loop-n.n + 1)) c.args.line.now j) (ap (λ (w : Word). w.to) c.next_word-w.ensures.2)
+      ∙ sym (words_next c.args.line.now 6 c.loop-n.n c.loop-n.at (omega arith)
+      (λ q. c.if-w.false (ap (λ (w : Word). w.from) c.next_word-w.ensures.2 ∙ q ∙ sym (ap (λ (w : Word). w.to) c.next_word-w.ensures.2)))) ∙ c.loop-n.invariant.2,
+)
 
 pub returns : goal.returns
 returns c =

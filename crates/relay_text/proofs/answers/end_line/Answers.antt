@@ -5,4 +5,4 @@ use Rattle.relay_text.proofs.answers.end_line.Goals as goal
 pub returns : goal.returns
 returns c =
     let put = c.put in
-    (put.ensures.0, (record { inside = omega (arith, put.ensures.0, put.auto.0); is = put.ensures.1 }, put.ensures.2))
+    (put.ensures.0, (record { inside = omega (arith, put.ensures.0, put.auto.out); is = put.ensures.1 }, put.ensures.2))

@@ -32,16 +32,15 @@ pub loop-i-smaller : goal.loop-i-smaller
 loop-i-smaller c = omega arith
 
 pub loop-i-preserved : goal.loop-i-preserved
-loop-i-preserved c =
-    (
-      omega arith,
-      omega (arith, c.put_index-at.ensures.0),
-      c.put_index-at.auto.out ∙ c.loop-i.invariant.2,
-      ap (λ (l : List ℕ). with_indexes l (drop (c.loop-i.i + 1) c.args.entries.now)) c.put_index-at.ensures.1
-          ∙ sym (indexes_more (take c.loop-i.at c.loop-i.out) c.args.entries.now c.loop-i.i (omega arith)) ∙ c.loop-i.invariant.3,
-      omega (arith, c.put_index-at.ensures.3),
-      behind_on c.put_index-at.new.out c.loop-i.out c.put-at.new.out c.loop-i.at c.put_index-at.result c.put_index-at.result refl c.put_index-at.ensures.3 c.put_index-at.ensures.2 c.loop-i.invariant.5,
-    )
+loop-i-preserved c = (
+  omega arith,
+  omega (arith, c.put_index-at.ensures.0),
+  c.put_index-at.auto.out ∙ c.loop-i.invariant.2,
+  ap (λ (l : List ℕ). with_indexes l (drop (c.loop-i.i + 1) c.args.entries.now)) c.put_index-at.ensures.1
+      ∙ sym (indexes_more (take c.loop-i.at c.loop-i.out) c.args.entries.now c.loop-i.i (omega arith)) ∙ c.loop-i.invariant.3,
+  omega (arith, c.put_index-at.ensures.3),
+  behind_on c.put_index-at.new.out c.loop-i.out c.put-at.new.out c.loop-i.at c.put_index-at.result c.put_index-at.result refl c.put_index-at.ensures.3 c.put_index-at.ensures.2 c.loop-i.invariant.5,
+)
 
 pub end_line-requires : goal.end_line-requires
 end_line-requires c = omega (arith, c.put-at.auto.out)
@@ -59,6 +58,6 @@ returns c =
         is = end.ensures.1.0.is ∙ ap (λ (l : List ℕ). l ++ line_end)
             (indexes_end (take loop.at loop.out) c.args.entries.now loop.i (omega arith) ∙ loop.invariant.3);
       },
-      behind_on end.new.0 loop.out c.args.out.now loop.at end.result end.result refl (omega (arith, end.ensures.0)) end.ensures.1.1
-          (behind_on loop.out put.new.0 c.args.out.now put.result loop.at loop.at refl loop.invariant.4 loop.invariant.5 put.ensures.2),
+      behind_on end.new.out loop.out c.args.out.now loop.at end.result end.result refl (omega (arith, end.ensures.0)) end.ensures.1.1
+          (behind_on loop.out put.new.out c.args.out.now put.result loop.at loop.at refl loop.invariant.4 loop.invariant.5 put.ensures.2),
     )

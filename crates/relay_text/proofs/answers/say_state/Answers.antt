@@ -17,5 +17,5 @@ returns c =
     let b = c.put_hex-b in
     let end = c.end_line in (
       record { inside = end.ensures.1.0.inside; is = end.ensures.1.0.is ∙ ap (λ (l : List ℕ). l ++ line_end) (b.ensures.1 ∙ ap (λ (l : List ℕ). l ++ hex_word c.args.state.now) a.ensures.1) },
-      behind_on end.new.0 b.new.0 c.args.out.now b.result end.result end.result refl (omega (arith, end.ensures.0)) end.ensures.1.1 (behind_on b.new.0 a.new.0 c.args.out.now a.result b.result b.result refl (omega (arith, b.ensures.3)) b.ensures.2 a.ensures.2),
+      behind_on end.new.out b.new.out c.args.out.now b.result end.result end.result refl (omega (arith, end.ensures.0)) end.ensures.1.1 (behind_on b.new.out a.new.out c.args.out.now a.result b.result b.result refl (omega (arith, b.ensures.3)) b.ensures.2 a.ensures.2),
     )

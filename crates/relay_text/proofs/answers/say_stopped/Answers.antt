@@ -19,5 +19,5 @@ returns c =
     let e = c.put_hex-d in
     let end = c.end_line in (
       record { inside = end.ensures.1.0.inside; is = end.ensures.1.0.is ∙ ap (λ (l : List ℕ). l ++ line_end) (e.ensures.1 ∙ ap (λ (l : List ℕ). l ++ hex_word c.args.state.now) (d.ensures.1 ∙ ap (λ (l : List ℕ). l ++ blank) (b.ensures.1 ∙ ap (λ (l : List ℕ). with_fault l c.args.number c.args.place) a.ensures.1))) },
-      behind_on end.new.0 e.new.0 c.args.out.now e.result end.result end.result refl (omega (arith, end.ensures.0)) end.ensures.1.1 (behind_on e.new.0 d.new.0 c.args.out.now d.result e.result e.result refl (omega (arith, e.ensures.3)) e.ensures.2 (behind_on d.new.0 b.new.0 c.args.out.now b.result d.result d.result refl (omega (arith, d.ensures.0)) d.ensures.2 (behind_on b.new.0 a.new.0 c.args.out.now a.result b.result b.result refl (omega (arith, b.ensures.3)) b.ensures.2 a.ensures.2))),
+      behind_on end.new.out e.new.out c.args.out.now e.result end.result end.result refl (omega (arith, end.ensures.0)) end.ensures.1.1 (behind_on e.new.out d.new.out c.args.out.now d.result e.result e.result refl (omega (arith, e.ensures.3)) e.ensures.2 (behind_on d.new.out b.new.out c.args.out.now b.result d.result d.result refl (omega (arith, d.ensures.0)) d.ensures.2 (behind_on b.new.out a.new.out c.args.out.now a.result b.result b.result refl (omega (arith, b.ensures.3)) b.ensures.2 a.ensures.2))),
     )
