@@ -67,7 +67,7 @@ if_same k k' (plain (Val.Enum v)) c h = refl
 if_same k k' (Tuple vs) c h = refl
 
 abbrev with_run : Branch → (States → Res) → Branch
-with_run b run = record { has_call_lem = b.has_call_lem; double = b.double; run = run }
+with_run b run = record { rust_has_call = b.rust_has_call; double = b.double; run = run }
 
 untaken_same : (t : Bool) (r r' : States → Res) (v : RValue) (c : States) → ((c : States) → r c ≡ r' c) → step_untaken t r v c ≡ step_untaken t r' v c
 unfolding step_untaken
@@ -77,8 +77,8 @@ untaken_same false r r' v c h = refl
 choose_same : (t : Bool) (a b : Branch) (r r' q q' : States → Res) (c : States) → ((c : States) → r c ≡ r' c) → ((c : States) → q c ≡ q' c)
     → choose t (with_run a r) (with_run b q) c ≡ choose t (with_run a r') (with_run b q') c
 unfolding choose
-choose_same true a b r r' q q' c h k = then_same (r c) (r' c) _ _ (h c) (λ v c. untaken_same b.has_call_lem q q' _ c k)
-choose_same false a b r r' q q' c h k = then_same (q c) (q' c) _ _ (k c) (λ v c. untaken_same a.has_call_lem r r' _ c h)
+choose_same true a b r r' q q' c h k = then_same (r c) (r' c) _ _ (h c) (λ v c. untaken_same b.rust_has_call q q' _ c k)
+choose_same false a b r r' q q' c h k = then_same (q c) (q' c) _ _ (k c) (λ v c. untaken_same a.rust_has_call r r' _ c h)
 
 -- ---- two meanings of calls that agree on the nodes below b
 

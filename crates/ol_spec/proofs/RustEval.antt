@@ -17,9 +17,9 @@ use Rattle.ol_spec.specs.Types.{cast_to}
 use Rattle.ol_spec.specs.Operators.{unary_of, binary_of}
 use Rattle.ol_spec.specs.Eval.{Globals, Scope, Calls, Eval, Evals, Outcomes, values, failure, overflow, Branch, Branches, callees, callees_all, not_real, kind_of_value, first_type, arithmetic, join, is_double?, node_at, record_size, sites_size, eval, eval_all, eval_rhs, next, next_on, next_all, next_all_on, condition, choose, branches_on, untaken, drop_failure, common_real, enter, enter_on, single, single_eval, several, several_eval, cons_out, or_failure, then_out, map_eval, present_of, before_of, pre_of, real_kind}
 use Rattle.ol_spec.specs.Step.{globals}
-use Rattle.ol_spec.specs.RustSim.{width, Env, get, Key, State, States, get_state, prev, RValue, plain, Tuple, SimError, uninitialized_pre, other_error, Result, Ok, Err, Panic, ok_or, tuple_unless_one, pushed, discard, common_real_lem, Res, Ress, then_on, then_res, push_on, push, then_all_on, then_all, if_bool, first_tick, step_untaken, take_branch, StepInstance, enum_variant_value, first_kind, real_kind_lem, pre_value, eval_call, call_arity, call_kind}
+use Rattle.ol_spec.specs.RustSim.{width, Env, get, Key, State, States, get_state, prev, RValue, plain, Tuple, SimError, uninitialized_pre, other_error, Result, Ok, Err, Panic, ok_or, tuple_unless_one, pushed, discard, rust_common_real, Res, Ress, then_on, then_res, push_on, push, then_all_on, then_all, if_bool, first_tick, step_untaken, take_branch, StepInstance, enum_variant_value, first_kind, rust_real_kind, pre_value, eval_call, call_arity, call_kind}
 use Rattle.ol_spec.specs.RustSim as Rust
-use Rattle.ol_spec.specs.RustState.{calls_in_lem, calls_all}
+use Rattle.ol_spec.specs.RustState.{rust_calls_in, calls_all}
 use Rattle.ol_spec.specs.RustLeaves.{eval_unary, eval_binary, cast_value, join_kinds, of_value, is_double, widen_beside, unary_value, eval_values, cast_plain}
 use Rattle.ol_spec.specs.declared.Value.{Value}
 use Rattle.ol_spec.specs.declared.Value.TheVariants as Val
@@ -303,7 +303,7 @@ module _ {g : Globals} {p : ℕ → List ℕ → Bool} {R : ℕ → List ℕ →
 
   -- the branch that is taken, then the other one
   branches_follow : (a b : List ℕ) (i j : ℕ) (calls : States) (x : Eval) (y : Branch) (x' y' : Rust.Branch) → (i + length a ≤ j) ⊎ (j + length b ≤ i)
-      → Follows g p R N a i calls x (x'.run calls) → Sites g p R N b j y.seg calls → y.calls ≡ y'.has_call_lem → y.wide ≡ y'.double
+      → Follows g p R N a i calls x (x'.run calls) → Sites g p R N b j y.seg calls → y.calls ≡ y'.rust_has_call → y.wide ≡ y'.double
       → ((c : States) → Sites g p R N b j y.seg c → Follows g p R N b j c (y.run y.seg) (y'.run c))
       → Both g p R N a i b j calls (branches_on x.out x.seg y) (take_branch x' y' calls)
   unfolding then_res
@@ -317,18 +317,18 @@ module _ {g : Globals} {p : ℕ → List ℕ → Bool} {R : ℕ → List ℕ →
       later = ⊎_elim (λ l. keep_behind l h.frame q) (λ l. keep_before l h.frame q) far
 
       go : (o : Outcome) (r : Result RValue) → Tells o r → (Going r → Sites g p R N a i x.seg after)
-          → Both g p R N a i b j calls (branches_on o x.seg y) (then_on r after (λ v c. step_untaken y'.has_call_lem y'.run (common_real_lem y'.double v) c))
+          → Both g p R N a i b j calls (branches_on o x.seg y) (then_on r after (λ v c. step_untaken y'.rust_has_call y'.run (rust_common_real y'.double v) c))
       go _ _ (gives v) s =
           let w = untaken_follows a b i j after y.calls (common_real y.wide v) x.seg y y'.run far (s tt) later (f after later) in
-          let e : step_untaken y.calls y'.run (plain (common_real y.wide v)) after ≡ step_untaken y'.has_call_lem y'.run (plain (widen_beside y'.double v)) after =
-          ap₂ (λ c d. step_untaken c y'.run (plain (common_real d v)) after) ec ew ∙ ap (λ v. step_untaken y'.has_call_lem y'.run (plain v) after) (sym (widen_is y'.double v)) in
+          let e : step_untaken y.calls y'.run (plain (common_real y.wide v)) after ≡ step_untaken y'.rust_has_call y'.run (plain (widen_beside y'.double v)) after =
+          ap₂ (λ c d. step_untaken c y'.run (plain (common_real d v)) after) ec ew ∙ ap (λ v. step_untaken y'.rust_has_call y'.run (plain v) after) (sym (widen_is y'.double v)) in
           let u = subst (Both g p R N a i b j after (untaken y.calls (common_real y.wide v) x.seg y)) e w in
           record { out = u.out; taken = u.taken; other = u.other; frame = λ key m n. u.frame key m n ∙ h.frame.same key m }
       go _ _ (errs e) s = record { out = errs e; taken = λ t. s tt; other = λ t. later; frame = λ key m n. h.frame.same key m }
       go _ _ panics s = record { out = panics; taken = λ t. absurd t; other = λ t. absurd t; frame = λ key m n. h.frame.same key m }
 
   choose_follows : (a b : List ℕ) (j : ℕ) (calls : States) (t : Bool) (x y : Branch) (x' y' : Rust.Branch)
-      → Sites g p R N a j x.seg calls → Sites g p R N b (j + length a) y.seg calls → x.calls ≡ x'.has_call_lem → x.wide ≡ x'.double → y.calls ≡ y'.has_call_lem → y.wide ≡ y'.double
+      → Sites g p R N a j x.seg calls → Sites g p R N b (j + length a) y.seg calls → x.calls ≡ x'.rust_has_call → x.wide ≡ x'.double → y.calls ≡ y'.rust_has_call → y.wide ≡ y'.double
       → ((c : States) → Sites g p R N a j x.seg c → Follows g p R N a j c (x.run x.seg) (x'.run c))
       → ((c : States) → Sites g p R N b (j + length a) y.seg c → Follows g p R N b (j + length a) c (y.run y.seg) (y'.run c))
       → Follows g p R N (a ++ b) j calls (choose t x y) (Rust.choose t x' y' calls)
@@ -502,7 +502,7 @@ module _ (f : File) (xs : List ℕ) (vs : List Value) where
         go none e = ap (maybe not_real kind_of_value) (sym e) ∙ variant_kind x
         go (some v) e = ap (maybe not_real kind_of_value) (sym e)
 
-    pub kinds : (e : Expr) → Seen S e → real_kind G s e ≡ real_kind_lem f e env
+    pub kinds : (e : Expr) → Seen S e → real_kind G s e ≡ rust_real_kind f e env
     kinds (bool_lit b) h = refl
     kinds (int_lit i) h = refl
     kinds (float_lit b) h = refl
@@ -510,17 +510,17 @@ module _ (f : File) (xs : List ℕ) (vs : List Value) where
     kinds (var x) h = kind_of_lem x h ∙ sym (values_are (get x env))
     kinds (unary op e) h = kinds e h
     kinds (binary op l r) h =
-        ap₂ (λ a b. arithmetic op (join a b)) (kinds l h.0) (kinds r h.1) ∙ ap (arithmetic op) (sym (join_is (real_kind_lem f l env) (real_kind_lem f r env)))
-        ∙ sym (arithmetic_is op (join_kinds (real_kind_lem f l env) (real_kind_lem f r env)))
-    kinds (if_then_else c t e) h = ap₂ join (kinds t h.1) (kinds e h.2) ∙ sym (join_is (real_kind_lem f t env) (real_kind_lem f e env))
+        ap₂ (λ a b. arithmetic op (join a b)) (kinds l h.0) (kinds r h.1) ∙ ap (arithmetic op) (sym (join_is (rust_real_kind f l env) (rust_real_kind f r env)))
+        ∙ sym (arithmetic_is op (join_kinds (rust_real_kind f l env) (rust_real_kind f r env)))
+    kinds (if_then_else c t e) h = ap₂ join (kinds t h.1) (kinds e h.2) ∙ sym (join_is (rust_real_kind f t env) (rust_real_kind f e env))
     kinds (pre e) h = kinds e h
-    kinds (arrow a b) h = ap₂ join (kinds a h.0) (kinds b h.1) ∙ sym (join_is (real_kind_lem f a env) (real_kind_lem f b env))
+    kinds (arrow a b) h = ap₂ join (kinds a h.0) (kinds b h.1) ∙ sym (join_is (rust_real_kind f a env) (rust_real_kind f b env))
     kinds (cast t e) h = sym (type_is t)
     kinds (call k es) h = sym (first_is (node_at G k).outputs)
     kinds (tuple es) h = refl
 
-    doubles : (e : Expr) → Seen S e → is_double? (real_kind G s e) ≡ is_double (real_kind_lem f e env)
-    doubles e h = ap is_double? (kinds e h) ∙ sym (double_is (real_kind_lem f e env))
+    doubles : (e : Expr) → Seen S e → is_double? (real_kind G s e) ≡ is_double (rust_real_kind f e env)
+    doubles e h = ap is_double? (kinds e h) ∙ sym (double_is (rust_real_kind f e env))
 
     ok_or_tells : (o : Option Value) → Tells (or_failure o) (ok_or other_error o)
     ok_or_tells none = errs other_error
@@ -599,7 +599,7 @@ module _ (f : File) (xs : List ℕ) (vs : List Value) where
       mutual
         unfolding eval Rust.eval cast_value
 
-        pub eval_follows : (e : Expr) (at j : ℕ) (seg : List ℕ) (c : States) → Lie N.addr j (calls_in_lem at e) → Plain ok e → Seen S e → Flat f.nodes e
+        pub eval_follows : (e : Expr) (at j : ℕ) (seg : List ℕ) (c : States) → Lie N.addr j (rust_calls_in at e) → Plain ok e → Seen S e → Flat f.nodes e
             → Sites G p R N (callees e) j seg c → Follows G p R N (callees e) j c (eval G s calls e seg) (Rust.eval f step N.number env st at e c)
         eval_follows (bool_lit b) at j seg c z q n l h = record { out = gives _; sites = λ t. h; frame = record { same = λ key o. refl } }
         eval_follows (int_lit i) at j seg c z q n l h = record { out = gives _; sites = λ t. h; frame = record { same = λ key o. refl } }
@@ -653,11 +653,11 @@ module _ (f : File) (xs : List ℕ) (vs : List Value) where
             push_follows (callees e) (callees_all es) j c _ _ _ _ _ (eval_follows e at j _ c y.0 q.0 n.0 l.0 w.0) w.1
             (λ d k. args_follow es (at + width e) (j + length (callees e)) _ d y.1 q.1 n.1 l.1 k)
 
-      pub rhs_follows : (e : Expr) (at j : ℕ) (seg : List ℕ) (c : States) → Lie N.addr j (calls_in_lem at e) → Plain ok e → Seen S e → FlatRight f.nodes (rhs_of e)
+      pub rhs_follows : (e : Expr) (at j : ℕ) (seg : List ℕ) (c : States) → Lie N.addr j (rust_calls_in at e) → Plain ok e → Seen S e → FlatRight f.nodes (rhs_of e)
           → Sites G p R N (callees e) j seg c → FollowsOne G p R N (callees e) j c (eval_rhs G s calls (rhs_of e) seg) (Rust.eval f step N.number env st at e c)
       unfolding Rust.eval
       rhs_follows =
-          by_right (λ e r. (at j : ℕ) (seg : List ℕ) (c : States) → Lie N.addr j (calls_in_lem at e) → Plain ok e → Seen S e → FlatRight f.nodes r → Sites G p R N (callees e) j seg c
+          by_right (λ e r. (at j : ℕ) (seg : List ℕ) (c : States) → Lie N.addr j (rust_calls_in at e) → Plain ok e → Seen S e → FlatRight f.nodes r → Sites G p R N (callees e) j seg c
           → FollowsOne G p R N (callees e) j c (eval_rhs G s calls r seg) (Rust.eval f step N.number env st at e c))
           (λ e at j seg c z q n l h. several_follows _ j c _ _ (eval_follows e at j seg c z q n l h))
           (λ k es at j seg c z q n l h. call_follows k es at j seg c z.0 q.0 q.1 h (args_follow es (suc at) (suc j) _ c z.1 q.1 n l (sites_head h).2))

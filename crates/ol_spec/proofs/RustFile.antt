@@ -45,7 +45,7 @@ use Rattle.ol_spec.proofs.RustMaps.{get_hit, get_miss}
 use Rattle.ol_spec.proofs.RustNames.{not_constant, not_variant, constants_distinct, constant_no_variant, node_seen, ConstantsSeen, constants_seen}
 use Rattle.ol_spec.proofs.RustShapes.{node_flat, constants_flat}
 use Rattle.ol_spec.proofs.RustEnv.{lookup_here, lookup_skip, lookup_left, lookup_right}
-use Rattle.ol_spec.specs.RustState.{calls_in_lem}
+use Rattle.ol_spec.specs.RustState.{rust_calls_in}
 use Rattle.ol_spec.proofs.RustPlaces.{callees_are, Home, lie_none}
 use Rattle.ol_spec.proofs.RustEval.{Sites, sites_none, Seen, Flat, eval_follows}
 use Rattle.ol_spec.specs.RustState.{constants_in}
@@ -135,7 +135,7 @@ module _ (f : File) where
         {p = any_record} {R = λ k r o. Unit {0}} {Q = Fine (concat f.enums)} {ok = never} {calls = no_calls} {step = step f}
         (record { steps = λ key k ws r states env t fw rec i sh. absurd t })
         (record { closed = fine_closed (concat f.enums); variants = λ x t. (t, short x t); constants = fine; keeps = λ k ws r t fs q. absurd t })
-        (λ k m t. absurd t) tt tt (fine_single (concat f.enums)) nowhere e 0 0 [] no_states (lie_none (λ j. j) 0 (calls_in_lem 0 e) (callees_are e 0 ∙ none_called)) p n l
+        (λ k m t. absurd t) tt tt (fine_single (concat f.enums)) nowhere e 0 0 [] no_states (lie_none (λ j. j) 0 (rust_calls_in 0 e) (callees_are e 0 ∙ none_called)) p n l
         (subst (λ l. Sites (globals f xs us) any_record (λ k r o. Unit {0}) nowhere l 0 [] no_states) (sym none_called) sites_none)
         ).out
       where

@@ -17,7 +17,7 @@ use Rattle.ol_spec.specs.Types.{int_tys, int_ty, whole, narrow, fit, cast_to, de
 use Rattle.ol_spec.specs.Operators.{exact, div_int, mod_int, eq_z, shift_by, unary_of, on_pair, bools, ints, reals, names, unlike, binary_of}
 use Rattle.ol_spec.specs.Order.{reads, reads_all}
 use Rattle.ol_spec.specs.Eval.{callees, callees_all, has_call, RealKind, not_real, is_single, is_double_kind, join, kind_of_value, kind_of_type, arithmetic, is_double?, common_real}
-use Rattle.ol_spec.specs.RustLeaves.{RValue, SimError, uninitialized_pre, binary_not_supported, unary_not_supported, other_error, Result, Ok, Err, Panic, plain, plainly, AReal, both, int_in_lem, real_in, ok_int, in_i64, checked, shift_count, bool_arm, eq_arm, int_arm, real_arm, eval_values, unary_value, narrow_int, cast_plain, fit_to, default_named, default_of_lem, join_kinds, is_double, of_type, of_value, is_arithmetic, widen_beside, has_call_lem, has_calls, same_cycle_reads, all_reads}
+use Rattle.ol_spec.specs.RustLeaves.{RValue, SimError, uninitialized_pre, binary_not_supported, unary_not_supported, other_error, Result, Ok, Err, Panic, plain, plainly, AReal, both, rust_int_in, real_in, ok_int, in_i64, checked, shift_count, bool_arm, eq_arm, int_arm, real_arm, eval_values, unary_value, narrow_int, cast_plain, fit_to, default_named, rust_default_of, join_kinds, is_double, of_type, of_value, is_arithmetic, widen_beside, rust_has_call, has_calls, same_cycle_reads, all_reads}
 use Rattle.ol_spec.specs.AsRust.{matches, takes, takes_both, error_number}
 use Rattle.ol_spec.specs.Answers.{cause_number}
 use Rattle.ol_spec.proofs.Data.{single_back}
@@ -304,7 +304,7 @@ unlike_is BitXor last e = e
 unlike_is Shl last e = e
 unlike_is Shr last e = e
 
-never : (op : BinOp) (v w : Value) → both (int_in_lem v) (int_in_lem w) ≡ none → both (real_in v) (real_in w) ≡ none → cause_of (binary_not_supported op (plain v) (plain w)) ≡ Why.Other
+never : (op : BinOp) (v w : Value) → both (rust_int_in v) (rust_int_in w) ≡ none → both (real_in v) (real_in w) ≡ none → cause_of (binary_not_supported op (plain v) (plain w)) ≡ Why.Other
 never And v w a b = refl
 never Or v w a b = refl
 never Xor v w a b = refl
@@ -326,7 +326,7 @@ never BitXor v w a b = refl
 never Shl v w a b = ap (λ (o : Option (ℤ × ℤ)). cond (matches o) Why.Range Why.Other) a
 never Shr v w a b = ap (λ (o : Option (ℤ × ℤ)). cond (matches o) Why.Range Why.Other) a
 
-unlikely : (op : BinOp) (v w : Value) → both (int_in_lem v) (int_in_lem w) ≡ none → both (real_in v) (real_in w) ≡ none
+unlikely : (op : BinOp) (v w : Value) → both (rust_int_in v) (rust_int_in w) ≡ none → both (real_in v) (real_in w) ≡ none
     → outcome_in (maybe (Err (binary_not_supported op (plain v) (plain w))) (λ x. x) (eq_arm op false)) ≡ on_pair op unlike
 unlikely op v w a b = unlike_is op _ (ap Out.Failure (never op v w a b))
 
@@ -426,8 +426,8 @@ cast_is float64 (Val.Enum x) = refl
 cast_is char v = refl
 cast_is (enum e) v = refl
 
-pub default_is_lem : (enums : List (List ℕ)) (t : Ty) → default_of_lem enums t ≡ default enums t
-unfolding default_of_lem
+pub default_is_lem : (enums : List (List ℕ)) (t : Ty) → rust_default_of enums t ≡ default enums t
+unfolding rust_default_of
 default_is_lem enums bool = refl
 default_is_lem enums (int c) = refl
 default_is_lem enums float32 = refl
@@ -513,7 +513,7 @@ empty_both [] b = refl
 empty_both (x ∷ a) b = refl
 
 mutual
-  pub call_is : (e : Expr) → has_call_lem e ≡ has_call e
+  pub call_is : (e : Expr) → rust_has_call e ≡ has_call e
   call_is (bool_lit b) = refl
   call_is (int_lit i) = refl
   call_is (float_lit b) = refl

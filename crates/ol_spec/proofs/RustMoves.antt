@@ -102,8 +102,8 @@ module _ (Rel : ℕ → ℕ → States → States → Type 0) (w : Walk Rel) whe
   choice : (a m b : ℕ) → a ≤ m → m ≤ b → (x y : Branch) → ((c : States) → Rel a m c (x.run c).calls) → ((c : States) → Rel m b c (y.run c).calls)
       → (t : Bool) (c : States) → Rel a b c (choose t x y c).calls
   unfolding choose
-  choice a m b p q x y h i true c = then_both a m b p q c (x.run c) _ (h c) (λ v c'. untaken m b y.has_call_lem y.run i _ c')
-  choice a m b p q x y h i false c = then_back a m b p q c (y.run c) _ (i c) (λ v c'. untaken a m x.has_call_lem x.run h _ c')
+  choice a m b p q x y h i true c = then_both a m b p q c (x.run c) _ (h c) (λ v c'. untaken m b y.rust_has_call y.run i _ c')
+  choice a m b p q x y h i false c = then_back a m b p q c (y.run c) _ (i c) (λ v c'. untaken a m x.rust_has_call x.run h _ c')
 
   -- an expression of node number N, whose calls do so
   module _ (f : File) (si : StepInstance) (N : ℕ) (env : Env) (st : State) (C : ℕ → Type 0)

@@ -14,7 +14,7 @@ use Rattle.ol_spec.specs.Answers.{fault_at}
 use Rattle.ol_spec.specs.Cycle.{CycleCall, ordering, start, fits17}
 use Rattle.ol_spec.specs.Demand3.{Unfaulted, Bytes, Turn, Made, history}
 use Rattle.ol_spec.specs.RustOrder.{ordered, among, evaluation_result}
-use Rattle.ol_spec.specs.RustLeaves.{RValue, plain, Tuple, SimError, uninitialized_pre, binary_not_supported, unary_not_supported, other_error, both, int_in_lem, real_in}
+use Rattle.ol_spec.specs.RustLeaves.{RValue, plain, Tuple, SimError, uninitialized_pre, binary_not_supported, unary_not_supported, other_error, both, rust_int_in, real_in}
 use Rattle.ol_spec.specs.RustSim.{Env, Key, States, Sim, Consts, evaluated, stuck, all_consts, Report, ok, err, panic, Stepped, step_instance, step_full, new}
 use Rattle.ol_spec.specs.RustState.{constants_in, state_bytes}
 use Rattle.ol_spec.specs.declared.Value.{Value}
@@ -58,13 +58,13 @@ takes Ge l r = false
 takes Add l r = false
 takes Sub l r = false
 takes Mul l r = false
-takes Div l r = matches (both (int_in_lem l) (int_in_lem r)) || matches (both (real_in l) (real_in r))
-takes Mod l r = matches (both (int_in_lem l) (int_in_lem r))
+takes Div l r = matches (both (rust_int_in l) (rust_int_in r)) || matches (both (real_in l) (real_in r))
+takes Mod l r = matches (both (rust_int_in l) (rust_int_in r))
 takes BitAnd l r = false
 takes BitOr l r = false
 takes BitXor l r = false
-takes Shl l r = matches (both (int_in_lem l) (int_in_lem r))
-takes Shr l r = matches (both (int_in_lem l) (int_in_lem r))
+takes Shl l r = matches (both (rust_int_in l) (rust_int_in r))
+takes Shr l r = matches (both (rust_int_in l) (rust_int_in r))
 
 abbrev pub takes_both : BinOp → RValue → RValue → Bool
 takes_both op (plain l) (plain r) = takes op l r

@@ -79,12 +79,12 @@ bool_in (Val.Float x) = none
 bool_in (Val.Float32 x) = none
 bool_in (Val.Enum v) = none
 
-abbrev pub int_in_lem : Value → Option ℤ
-int_in_lem (Val.Bool b) = none
-int_in_lem (Val.Int i) = some i
-int_in_lem (Val.Float x) = none
-int_in_lem (Val.Float32 x) = none
-int_in_lem (Val.Enum v) = none
+abbrev pub rust_int_in : Value → Option ℤ
+rust_int_in (Val.Bool b) = none
+rust_int_in (Val.Int i) = some i
+rust_int_in (Val.Float x) = none
+rust_int_in (Val.Float32 x) = none
+rust_int_in (Val.Enum v) = none
 
 abbrev pub enum_in : Value → Option ℕ
 enum_in (Val.Bool b) = none
@@ -138,7 +138,7 @@ same_real (f64 a) (f64 b) = eq_r a b
 -- `==` of two values
 abbrev pub same_value : Value → Value → Bool
 same_value (Val.Bool a) w = maybe false (beq a) (bool_in w)
-same_value (Val.Int a) w = maybe false (same_int a) (int_in_lem w)
+same_value (Val.Int a) w = maybe false (same_int a) (rust_int_in w)
 same_value (Val.Float a) w = maybe false (λ r. same_real (f64 a) r) (real_in w)
 same_value (Val.Float32 a) w = maybe false (λ r. same_real (f32 a) r) (real_in w)
 same_value (Val.Enum a) w = maybe false (eqb a) (enum_in w)
@@ -245,7 +245,7 @@ int_arm Shr a b = maybe none (λ k. some (ok_int (shr_z a (2 ^ k)))) (shift_coun
 unfoldable pub eval_values : BinOp → Value → Value → Result Value
 eval_values op l r =
     let last = Err (binary_not_supported op (plain l) (plain r)) in
-    maybe (maybe (maybe (maybe last (λ x. x) (maybe none (λ p. int_arm op p.0 p.1) (both (int_in_lem l) (int_in_lem r)))) (λ x. x) (eq_arm op (same_value l r)))
+    maybe (maybe (maybe (maybe last (λ x. x) (maybe none (λ p. int_arm op p.0 p.1) (both (rust_int_in l) (rust_int_in r)))) (λ x. x) (eq_arm op (same_value l r)))
     (λ p. let q = pair_of p in maybe last (λ x. x) (real_arm op q.left q.right q.float)) (both (real_in l) (real_in r)))
     (λ x. x) (maybe none (bool_arm op) (both (bool_in l) (bool_in r)))
 
@@ -266,7 +266,7 @@ neg_real (f32 x) = Ok (Val.Float32 (neg_r x))
 neg_real (f64 x) = Ok (Val.Float (neg_r x))
 
 abbrev pub neg_arm : Value → Result Value
-neg_arm v = maybe (maybe (Err (unary_not_supported Neg (plain v))) neg_real (real_in v)) (λ i. checked (neg_ℤ i)) (int_in_lem v)
+neg_arm v = maybe (maybe (Err (unary_not_supported Neg (plain v))) neg_real (real_in v)) (λ i. checked (neg_ℤ i)) (rust_int_in v)
 
 abbrev pub unary_value : UnaryOp → Value → Result Value
 unary_value Not v = not_arm v
@@ -299,7 +299,7 @@ to_int (f64 x) = truncate x
 
 -- `Value` of an Int, or of a real, or an error
 abbrev pub of_number : (ℤ → Value) → (AReal → Value) → Value → Result Value
-of_number h k v = maybe (maybe (Err other_error) (λ r. Ok (k r)) (real_in v)) (λ i. Ok (h i)) (int_in_lem v)
+of_number h k v = maybe (maybe (Err other_error) (λ r. Ok (k r)) (real_in v)) (λ i. Ok (h i)) (rust_int_in v)
 
 abbrev pub cast_plain : Ty → Value → Result Value
 cast_plain bool v = Err other_error
@@ -315,11 +315,11 @@ cast_value t (plain v) = plainly (cast_plain t v)
 
 -- an Int or a real is converted, another value is kept
 abbrev pub number_or : (ℤ → Value) → (AReal → Value) → Value → Value
-number_or h k v = maybe (maybe v k (real_in v)) h (int_in_lem v)
+number_or h k v = maybe (maybe v k (real_in v)) h (rust_int_in v)
 
 unfoldable pub fit_to : Ty → Value → Value
 fit_to bool v = v
-fit_to (int c) v = maybe v (λ i. Val.Int (narrow_int c i)) (int_in_lem v)
+fit_to (int c) v = maybe v (λ i. Val.Int (narrow_int c i)) (rust_int_in v)
 fit_to float32 v = number_or (λ i. Val.Float32 (of_int single i)) to_f32 v
 fit_to float64 v = number_or (λ i. Val.Float (of_int double i)) to_f64 v
 fit_to char v = v
@@ -330,13 +330,13 @@ abbrev pub default_named : List ℕ → Value
 default_named [] = Val.Enum 0
 default_named (v ∷ vs) = Val.Enum v
 
-unfoldable pub default_of_lem : List (List ℕ) → Ty → Value
-default_of_lem enums bool = Val.Bool false
-default_of_lem enums (int c) = Val.Int (pos 0)
-default_of_lem enums float32 = Val.Float32 zero_r
-default_of_lem enums float64 = Val.Float zero_r
-default_of_lem enums char = Val.Int (pos 0)
-default_of_lem enums (enum e) = default_named (get_or enums e [])
+unfoldable pub rust_default_of : List (List ℕ) → Ty → Value
+rust_default_of enums bool = Val.Bool false
+rust_default_of enums (int c) = Val.Int (pos 0)
+rust_default_of enums float32 = Val.Float32 zero_r
+rust_default_of enums float64 = Val.Float zero_r
+rust_default_of enums char = Val.Int (pos 0)
+rust_default_of enums (enum e) = default_named (get_or enums e [])
 
 -- ---- `real_kind` and `common_real`
 
@@ -345,14 +345,14 @@ is_double not_real = false
 is_double is_single = false
 is_double is_double_kind = true
 
-abbrev pub is_single_lem : RealKind → Bool
-is_single_lem not_real = false
-is_single_lem is_single = true
-is_single_lem is_double_kind = false
+abbrev pub rust_is_single : RealKind → Bool
+rust_is_single not_real = false
+rust_is_single is_single = true
+rust_is_single is_double_kind = false
 
 -- a Double on either side, else a Single on either side
 abbrev pub join_kinds : RealKind → RealKind → RealKind
-join_kinds a b = cond (is_double a || is_double b) is_double_kind (cond (is_single_lem a || is_single_lem b) is_single not_real)
+join_kinds a b = cond (is_double a || is_double b) is_double_kind (cond (rust_is_single a || rust_is_single b) is_single not_real)
 
 abbrev pub of_type : Ty → RealKind
 of_type bool = not_real
@@ -362,12 +362,12 @@ of_type float64 = is_double_kind
 of_type char = not_real
 of_type (enum e) = not_real
 
-abbrev pub kind_in_lem : AReal → RealKind
-kind_in_lem (f32 x) = is_single
-kind_in_lem (f64 x) = is_double_kind
+abbrev pub rust_kind_in : AReal → RealKind
+rust_kind_in (f32 x) = is_single
+rust_kind_in (f64 x) = is_double_kind
 
 abbrev pub of_value : Value → RealKind
-of_value v = maybe not_real kind_in_lem (real_in v)
+of_value v = maybe not_real rust_kind_in (real_in v)
 
 abbrev pub is_arithmetic : BinOp → Bool
 is_arithmetic And = false
@@ -398,24 +398,24 @@ widen_beside double v = cond double (maybe v to_f64 (real_in v)) v
 -- ---- `visit` with `has_call`, and `same_cycle_reads`
 
 abbrev mutual
-  pub has_call_lem : Expr → Bool
-  has_call_lem (bool_lit b) = false
-  has_call_lem (int_lit i) = false
-  has_call_lem (float_lit b) = false
-  has_call_lem (char_lit c) = false
-  has_call_lem (var x) = false
-  has_call_lem (unary op e) = has_call_lem e
-  has_call_lem (binary op l r) = has_call_lem l || has_call_lem r
-  has_call_lem (if_then_else c t e) = has_call_lem c || (has_call_lem t || has_call_lem e)
-  has_call_lem (pre e) = has_call_lem e
-  has_call_lem (arrow a b) = has_call_lem a || has_call_lem b
-  has_call_lem (cast t e) = has_call_lem e
-  has_call_lem (call k es) = true
-  has_call_lem (tuple es) = has_calls es
+  pub rust_has_call : Expr → Bool
+  rust_has_call (bool_lit b) = false
+  rust_has_call (int_lit i) = false
+  rust_has_call (float_lit b) = false
+  rust_has_call (char_lit c) = false
+  rust_has_call (var x) = false
+  rust_has_call (unary op e) = rust_has_call e
+  rust_has_call (binary op l r) = rust_has_call l || rust_has_call r
+  rust_has_call (if_then_else c t e) = rust_has_call c || (rust_has_call t || rust_has_call e)
+  rust_has_call (pre e) = rust_has_call e
+  rust_has_call (arrow a b) = rust_has_call a || rust_has_call b
+  rust_has_call (cast t e) = rust_has_call e
+  rust_has_call (call k es) = true
+  rust_has_call (tuple es) = has_calls es
 
   pub has_calls : Exprs → Bool
   has_calls nil = false
-  has_calls (cons e es) = has_call_lem e || has_calls es
+  has_calls (cons e es) = rust_has_call e || has_calls es
 
 -- the set `out` is the list of what was inserted
 abbrev mutual

@@ -7,7 +7,7 @@ use Rattle.ol_spec.specs.Lists.{maybe, or_else, concat, is_empty, member}
 use Rattle.ol_spec.specs.Real as R
 use Rattle.ol_spec.specs.Syntax.{Ty, NodeKind, Function, Operator, Imported, Variable, Equation, Node, Constant, File, no_node, main, variables, name_in}
 use Rattle.ol_spec.specs.Syntax.{count, Expr, bool_lit, int_lit, float_lit, char_lit, var, unary, binary, if_then_else, pre, arrow, cast, call, tuple, Exprs, nil, cons}
-use Rattle.ol_spec.specs.RustLeaves.{eval_binary, eval_unary, cast_value, fit_to, default_of_lem, join_kinds, of_type, of_value, is_arithmetic, is_double, widen_beside, has_call_lem}
+use Rattle.ol_spec.specs.RustLeaves.{eval_binary, eval_unary, cast_value, fit_to, rust_default_of, join_kinds, of_type, of_value, is_arithmetic, is_double, widen_beside, rust_has_call}
 pub use Rattle.ol_spec.specs.RustLeaves.{RValue, plain, Tuple, SimError, uninitialized_pre, other_error, Result, Ok, Err, Panic}
 use Rattle.ol_spec.specs.RustOrder.{evaluation_order}
 use Rattle.ol_spec.specs.Eval.{RealKind, not_real, is_double_kind}
@@ -181,9 +181,9 @@ discard v (Err e) = Ok v
 discard v Panic = Panic
 
 -- a float32 beside a double is widened
-abbrev pub common_real_lem : Bool → RValue → RValue
-common_real_lem double (plain v) = plain (widen_beside double v)
-common_real_lem double (Tuple vs) = Tuple vs
+abbrev pub rust_common_real : Bool → RValue → RValue
+rust_common_real double (plain v) = plain (widen_beside double v)
+rust_common_real double (Tuple vs) = Tuple vs
 
 -- `step_untaken` of the other branch, which is evaluated by `run` if it has a call, then `Ok(v)`: an error of it is discarded, a panic is not
 unfoldable pub step_untaken : Bool → (States → Res) → RValue → States → Res
@@ -192,13 +192,13 @@ step_untaken false run v calls = record { out = Ok v; calls = calls }
 
 -- a branch: whether it has a call, whether its `real_kind` is Double, and its evaluation
 pub record Branch : Type 0 where
-  pub has_call_lem : Bool
+  pub rust_has_call : Bool
   pub double : Bool
   pub run : States → Res
 
 -- `let v = eval(taken)?; step_untaken(other); Ok(common_real(v, other))`
 abbrev pub take_branch : Branch → Branch → States → Res
-take_branch taken other calls = then_res (taken.run calls) (λ v calls. step_untaken other.has_call_lem other.run (common_real_lem other.double v) calls)
+take_branch taken other calls = then_res (taken.run calls) (λ v calls. step_untaken other.rust_has_call other.run (rust_common_real other.double v) calls)
 
 unfoldable pub choose : Bool → Branch → Branch → States → Res
 choose true a b calls = take_branch a b calls
@@ -255,25 +255,25 @@ module _ (f : File) where
   first_kind [] = not_real
   first_kind (v ∷ vs) = of_type v.ty
 
-  abbrev pub real_kind_lem : Expr → Env → RealKind
-  real_kind_lem (bool_lit b) env = not_real
-  real_kind_lem (int_lit i) env = not_real
-  real_kind_lem (float_lit b) env = is_double_kind
-  real_kind_lem (char_lit c) env = not_real
-  real_kind_lem (var x) env = maybe not_real of_value (get x env)
-  real_kind_lem (unary op e) env = real_kind_lem e env
-  real_kind_lem (binary op l r) env = cond (is_arithmetic op) (join_kinds (real_kind_lem l env) (real_kind_lem r env)) not_real
-  real_kind_lem (if_then_else c t e) env = join_kinds (real_kind_lem t env) (real_kind_lem e env)
-  real_kind_lem (pre e) env = real_kind_lem e env
-  real_kind_lem (arrow a b) env = join_kinds (real_kind_lem a env) (real_kind_lem b env)
-  real_kind_lem (cast t e) env = of_type t
-  real_kind_lem (call k es) env = first_kind (find_node k).outputs
-  real_kind_lem (tuple es) env = not_real
+  abbrev pub rust_real_kind : Expr → Env → RealKind
+  rust_real_kind (bool_lit b) env = not_real
+  rust_real_kind (int_lit i) env = not_real
+  rust_real_kind (float_lit b) env = is_double_kind
+  rust_real_kind (char_lit c) env = not_real
+  rust_real_kind (var x) env = maybe not_real of_value (get x env)
+  rust_real_kind (unary op e) env = rust_real_kind e env
+  rust_real_kind (binary op l r) env = cond (is_arithmetic op) (join_kinds (rust_real_kind l env) (rust_real_kind r env)) not_real
+  rust_real_kind (if_then_else c t e) env = join_kinds (rust_real_kind t env) (rust_real_kind e env)
+  rust_real_kind (pre e) env = rust_real_kind e env
+  rust_real_kind (arrow a b) env = join_kinds (rust_real_kind a env) (rust_real_kind b env)
+  rust_real_kind (cast t e) env = of_type t
+  rust_real_kind (call k es) env = first_kind (find_node k).outputs
+  rust_real_kind (tuple es) env = not_real
 
   -- node number `node` is running, with this environment and state
   module _ (step_instance : StepInstance) (node : ℕ) (env : Env) (st : State) where
     abbrev pub branch : Expr → (States → Res) → Branch
-    branch e run = record { has_call_lem = has_call_lem e; double = is_double (real_kind_lem e env); run = run }
+    branch e run = record { rust_has_call = rust_has_call e; double = is_double (rust_real_kind e env); run = run }
 
     -- the arity and the callee's kind are looked at first; `args` evaluates the arguments
     abbrev pub call_kind : NodeKind → Key → ℕ → (States → Ress) → States → Res
@@ -372,7 +372,7 @@ module _ (f : File) where
   insert_fitted (x ∷ xs) (v ∷ vs) env = insert_fitted xs vs (insert x.name (fit_to x.ty v) env)
 
   abbrev pub default_value : Ty → Value
-  default_value t = default_of_lem f.enums t
+  default_value t = rust_default_of f.enums t
 
   -- `for p in vars { env.insert(p.name, default_value(p.ty)) }`
   unfoldable pub insert_defaults : List Variable → Env → Env

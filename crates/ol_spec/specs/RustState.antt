@@ -20,29 +20,29 @@ state_or o = maybe default_state (λ s. s) o
 
 -- the calls in an expression at this address, as they are read: each one's address and callee
 abbrev mutual
-  pub calls_in_lem : ℕ → Expr → List (ℕ × ℕ)
-  calls_in_lem at (bool_lit b) = []
-  calls_in_lem at (int_lit i) = []
-  calls_in_lem at (float_lit b) = []
-  calls_in_lem at (char_lit c) = []
-  calls_in_lem at (var x) = []
-  calls_in_lem at (unary op e) = calls_in_lem (suc at) e
-  calls_in_lem at (binary op l r) = calls_in_lem (suc at) l ++ calls_in_lem (suc at + width l) r
-  calls_in_lem at (if_then_else c t e) = calls_in_lem (suc at) c ++ (calls_in_lem (suc at + width c) t ++ calls_in_lem (suc at + width c + width t) e)
-  calls_in_lem at (pre e) = calls_in_lem (suc at) e
-  calls_in_lem at (arrow a b) = calls_in_lem (suc at) a ++ calls_in_lem (suc at + width a) b
-  calls_in_lem at (cast t e) = calls_in_lem (suc at) e
-  calls_in_lem at (call k es) = (at, k) ∷ calls_all (suc at) es
-  calls_in_lem at (tuple es) = calls_all (suc at) es
+  pub rust_calls_in : ℕ → Expr → List (ℕ × ℕ)
+  rust_calls_in at (bool_lit b) = []
+  rust_calls_in at (int_lit i) = []
+  rust_calls_in at (float_lit b) = []
+  rust_calls_in at (char_lit c) = []
+  rust_calls_in at (var x) = []
+  rust_calls_in at (unary op e) = rust_calls_in (suc at) e
+  rust_calls_in at (binary op l r) = rust_calls_in (suc at) l ++ rust_calls_in (suc at + width l) r
+  rust_calls_in at (if_then_else c t e) = rust_calls_in (suc at) c ++ (rust_calls_in (suc at + width c) t ++ rust_calls_in (suc at + width c + width t) e)
+  rust_calls_in at (pre e) = rust_calls_in (suc at) e
+  rust_calls_in at (arrow a b) = rust_calls_in (suc at) a ++ rust_calls_in (suc at + width a) b
+  rust_calls_in at (cast t e) = rust_calls_in (suc at) e
+  rust_calls_in at (call k es) = (at, k) ∷ calls_all (suc at) es
+  rust_calls_in at (tuple es) = calls_all (suc at) es
 
   pub calls_all : ℕ → Exprs → List (ℕ × ℕ)
   calls_all at nil = []
-  calls_all at (cons e es) = calls_in_lem at e ++ calls_all (at + width e) es
+  calls_all at (cons e es) = rust_calls_in at e ++ calls_all (at + width e) es
 
 -- and in equations, the first of them at this address
 abbrev pub calls_of : ℕ → List Equation → List (ℕ × ℕ)
 calls_of at [] = []
-calls_of at (q ∷ qs) = calls_in_lem at q.rhs ++ calls_of (at + width q.rhs) qs
+calls_of at (q ∷ qs) = rust_calls_in at q.rhs ++ calls_of (at + width q.rhs) qs
 
 module _ (f : File) where
   -- what the step that was finished last left in the variables; before the first one, the defaults
