@@ -1,7 +1,7 @@
 -- An integer's magnitude and sign: `mag` is n for n and for -(n + 1).
 use mathlib.Core.Path.{◌≡◌, refl, sym, ap, subst, ◌∙◌}
 use mathlib.Core.Bool.{Bool, true, false}
-use Prim.Native.Nat.{ℕ, suc, ◌-◌, ◌<◌, ◌^◌}
+use Prim.Native.Nat.{ℕ, suc, ◌<◌, ◌^◌}
 use native.Mathlib.Omega.{arith}
 use borrow.Author.Tests.{le-ltb, le-leb}
 use lib.Dec.{T}

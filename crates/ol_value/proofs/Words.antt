@@ -59,7 +59,7 @@ module _ {a b : ℤ} (fa : SFits w64 a) (fb : SFits w64 b) (t : is_count (back b
       ∙ shift_done (λ k. signed 64 (residue 64 a * 2 ^ k % 2 ^ 64)) b (count_is fb t)
 
   shr_back : (m : ℕ) → back (shr_z (back a) m) ≡ shr_z a m
-  shr_back m = ap (λ z. back (shr_z z m)) (to_z-of_z fa) ∙ to_z-of_z {z = shr_z a m} (record { sfits = omega (arith, mag_shr a m, fa.sfits) })
+  shr_back m = ap (λ z. back (shr_z z m)) (to_z-of_z fa) ∙ to_z-of_z {w = w64} {z = shr_z a m} (record { sfits = omega (arith, mag_shr a m, fa.sfits) })
 
   pub shr_done : Out.Value (Val.Int (back (shr_z (back a) (2 ^ of_z w64 b)))) ≡ shift_by (λ k. shr_z a (2 ^ k)) b
   shr_done = ap (λ z. Out.Value (Val.Int z)) (shr_back (2 ^ of_z w64 b)) ∙ shift_done (λ k. shr_z a (2 ^ k)) b (count_is fb t)

@@ -1,5 +1,6 @@
 // The leaves of ol_value, one operation a call, for bench/values to time beside the same operations in Rust.
 #![tactic(auto)]
+
 ghost use Rattle.std.specs.Prelude.{◌≡◌, ◌++◌, ◌<◌, ◌≤◌, length, drop};
 ghost use Rattle.ol_spec.specs.Cell.{cell, payload};
 ghost use Rattle.ol_spec.specs.Types.{fit, cast_to};

@@ -1,10 +1,9 @@
-use mathlib.Core.Path.{◌≡◌, refl, sym, ap, ◌∙◌}
+use mathlib.Core.Path.{sym, ap, ◌∙◌}
 use mathlib.Core.Bool.{Bool, false, cond}
 use borrow.Author.Tests.{lt-ltb, le-ltb}
 use lib.ListN.{length, take}
 use Rattle.ol_spec.specs.Cell.{value_of}
 use Rattle.ol_spec.specs.declared.Value.TheVariants as Val
-use borrow.Author.Rules.{rules}
 use Rattle.value_bench.proofs.first_value.Goals as goal
 
 pub returns-then-cells-lt9 : goal.returns-then-cells-lt9

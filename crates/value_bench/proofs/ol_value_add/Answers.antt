@@ -1,8 +1,7 @@
-use mathlib.Core.Path.{◌≡◌, refl, sym, ap, ◌∙◌}
+use mathlib.Core.Path.{ap, ◌∙◌}
 use Rattle.ol_spec.specs.declared.Value.{Value}
 use Rattle.ol_value.specs.Codes.{binary_by}
 use Rattle.value_bench.specs.Digests.{digest_of}
-use borrow.Author.Rules.{rules}
 use Rattle.value_bench.proofs.ol_value_add.Goals as goal
 
 pub returns : goal.returns

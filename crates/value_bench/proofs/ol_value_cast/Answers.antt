@@ -1,9 +1,7 @@
-use mathlib.Core.Path.{◌≡◌, refl, sym, ap, ◌∙◌}
-use Rattle.ol_spec.specs.declared.Value.{Value}
+use mathlib.Core.Path.{ap, ◌∙◌}
 use Rattle.ol_spec.specs.Types.{cast_to}
 use Rattle.ol_value.specs.Codes.{ty_of}
 use Rattle.value_bench.specs.Digests.{digest_of}
-use borrow.Author.Rules.{rules}
 use Rattle.value_bench.proofs.ol_value_cast.Goals as goal
 
 pub returns : goal.returns

@@ -1,6 +1,5 @@
-use mathlib.Core.Path.{◌≡◌, refl, sym, ap, ◌∙◌}
+use mathlib.Core.Path.{ap, ◌∙◌}
 use Rattle.ol_spec.specs.Cell.{payload}
-use borrow.Author.Rules.{rules}
 use Rattle.value_bench.proofs.ol_value_decode.Goals as goal
 
 pub returns : goal.returns

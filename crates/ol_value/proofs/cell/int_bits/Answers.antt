@@ -6,7 +6,6 @@ use mir.Val.{of_z}
 use mir.Facts.{to_z-of_z}
 use Rattle.ol_value.proofs.Backs.{residue_is}
 use Rattle.ol_value.proofs.Magnitudes.{natural, negative, sign_is}
-use borrow.Author.Rules.{rules}
 use Rattle.ol_value.proofs.cell.int_bits.Goals as goal
 
 pub returns-then-i-ge0 : goal.returns-then-i-ge0

@@ -1,7 +1,6 @@
 use Prim.Native.Nat.{◌-◌}
 use native.Mathlib.Omega.{arith}
 use Rattle.ol_value.proofs.Widths.{negated_fits, signed_low, signed_high}
-use borrow.Author.Rules.{rules}
 use Rattle.ol_value.proofs.cell.int_of_bits.Goals as goal
 
 pub overflow_sub-result-else-p-lt9223372036854775808 : goal.overflow_sub-result-else-p-lt9223372036854775808

@@ -1,6 +1,5 @@
 use mathlib.Core.Path.{ap}
 use lib.Dec.{eqb}
-use borrow.Author.Rules.{rules}
 use Rattle.ol_value.proofs.cell.is_enum.Goals as goal
 
 pub returns : goal.returns

@@ -2,7 +2,6 @@ use mathlib.Core.Path.{ap, ◌∙◌}
 use lib.ListN.{get_or}
 use Rattle.ol_spec.specs.Cell.{value_by}
 use Rattle.ol_value.proofs.Digits.{cell_value}
-use borrow.Author.Rules.{rules}
 use Rattle.ol_value.proofs.cell.read_cell.Goals as goal
 
 pub returns : goal.returns

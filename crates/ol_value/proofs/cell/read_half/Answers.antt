@@ -1,5 +1,4 @@
 use native.Mathlib.Omega.{arith}
-use borrow.Author.Rules.{rules}
 use Rattle.ol_value.proofs.Digits.{half_is}
 use Rattle.ol_value.proofs.cell.read_half.Goals as goal
 

@@ -1,4 +1,3 @@
-use borrow.Author.Rules.{rules}
 use Rattle.ol_value.proofs.Digits.{halves_are}
 use Rattle.ol_value.proofs.cell.read_number.Goals as goal
 

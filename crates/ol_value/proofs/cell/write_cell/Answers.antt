@@ -5,7 +5,6 @@ use native.Mathlib.Omega.{arith}
 use lib.ListN.{take, drop, length-set}
 use Rattle.ol_spec.specs.Numbers.{bytes_of}
 use Rattle.ol_value.proofs.Digits.{cell_written}
-use borrow.Author.Rules.{rules}
 use Rattle.ol_value.proofs.cell.write_cell.Goals as goal
 
 pub write_number-requires : goal.write_number-requires

@@ -1,6 +1,5 @@
 use mathlib.Core.Path.{sym, ◌∙◌}
 use native.Mathlib.Omega.{arith}
-use borrow.Author.Rules.{rules}
 use Rattle.ol_value.proofs.Backs.{asks}
 use Rattle.ol_value.proofs.Products.{by_zero_lem, div_done, div_over}
 use Rattle.ol_value.proofs.ints.div_ints.Goals as goal

@@ -4,7 +4,7 @@ use native.Mathlib.Nat.{mod-lt}
 use native.Mathlib.Omega.{arith}
 use lib.IntN.{nat_abs}
 use mir.Facts.{to_z-of_z}
-use borrow.Author.Rules.{sfits_of, rules}
+use borrow.Author.Rules.{sfits_of}
 use Rattle.ol_value.proofs.Products.{by_zero_lem, divisor_above, size_most, mod_done, mod_over}
 use Rattle.ol_value.proofs.ints.mod_ints.Goals as goal
 

@@ -1,7 +1,6 @@
 use mathlib.Core.Path.{sym, ap, ◌∙◌}
 use lib.IntN.{nat_abs}
 use mir.Facts.{to_z-of_z}
-use borrow.Author.Rules.{rules}
 use Rattle.ol_value.proofs.Products.{zero_product, like_product, unlike_product}
 use Rattle.ol_value.proofs.ints.product_fits.Goals as goal
 

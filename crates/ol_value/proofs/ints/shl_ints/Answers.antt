@@ -1,6 +1,5 @@
 use mathlib.Core.Path.{sym, ◌∙◌}
 use Rattle.ol_value.proofs.Words.{count_asks, no_count, shl_done}
-use borrow.Author.Rules.{rules}
 use Rattle.ol_value.proofs.ints.shl_ints.Goals as goal
 
 pub overflow_shl-result : goal.overflow_shl-result

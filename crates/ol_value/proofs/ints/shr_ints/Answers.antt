@@ -1,6 +1,5 @@
 use mathlib.Core.Path.{sym, ◌∙◌}
 use Rattle.ol_value.proofs.Words.{count_asks, no_count, shr_done}
-use borrow.Author.Rules.{rules}
 use Rattle.ol_value.proofs.ints.shr_ints.Goals as goal
 
 pub overflow_shr-result : goal.overflow_shr-result

@@ -2,7 +2,6 @@ use mathlib.Core.Path.{◌∙◌, ap}
 use lib.Signed.{mag}
 use mir.Facts.{to_z-of_z}
 use native.Mathlib.Omega.{arith}
-use borrow.Author.Rules.{rules}
 use Rattle.ol_value.proofs.Magnitudes.{size_natural, size_negative}
 use Rattle.ol_value.proofs.ints.size.Goals as goal
 

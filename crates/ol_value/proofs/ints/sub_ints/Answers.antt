@@ -1,6 +1,5 @@
 use mathlib.Core.Path.{sym, ◌∙◌}
 use lib.IntN.{◌-ℤ◌}
-use borrow.Author.Rules.{rules}
 use Rattle.ol_value.proofs.Backs.{asks, op_done, op_over}
 use Rattle.ol_value.proofs.ints.sub_ints.Goals as goal
 

@@ -1,5 +1,4 @@
 use Rattle.ol_value.proofs.Products.{sign_asks, sign_plus, sign_minus}
-use borrow.Author.Rules.{rules}
 use Rattle.ol_value.proofs.ints.with_sign.Goals as goal
 
 pub overflow_sub-result : goal.overflow_sub-result

@@ -1,22 +1,20 @@
 use mathlib.Core.Path.{ap, ap₂, ◌∙◌}
-use Prim.Native.Nat.{◌-◌}
 use native.Mathlib.Omega.{arith}
 use lib.Dec.{ltb}
 use lib.Signed.{mag}
 use mir.Facts.{to_z-of_z}
 use Rattle.ol_value.proofs.Magnitudes.{sign_is, nonneg_true, nonneg_false}
 use Rattle.ol_value.proofs.Widths.{whole_is, signed_ty, unsigned_ty, narrow_bits}
-use borrow.Author.Rules.{rules}
 use Rattle.ol_value.proofs.narrowing.in_range.Goals as goal
 
 pub returns-then-b-eq64 : goal.returns-then-b-eq64
 returns-then-b-eq64 c = rw (whole_is c.args.t c.if-b-eq64.true)
 
 pub overflow_sub-b : goal.overflow_sub-b
-overflow_sub-b c = c in (narrow_bits s.args.t c.if-b-eq64.false s.requires).0
+overflow_sub-b c = (narrow_bits c.args.t c.if-b-eq64.false c.requires).0
 
 pub power-requires : goal.power-requires
-power-requires c = c in omega (arith, (narrow_bits s.args.t c.if-b-eq64.false s.requires).1)
+power-requires c = omega (arith, (narrow_bits c.args.t c.if-b-eq64.false c.requires).1)
 
 pub returns-then-t : goal.returns-then-t
 returns-then-t c =
@@ -24,7 +22,7 @@ returns-then-t c =
     (ap₂ ltb (c.magnitude-m.ensures ∙ ap mag (to_z-of_z c.ranges.i)) c.power.ensures)
 
 pub power-requires-then-i-ge0 : goal.power-requires-then-i-ge0
-power-requires-then-i-ge0 c = c in omega (arith, (narrow_bits s.args.t c.if-b-eq64.false s.requires).1)
+power-requires-then-i-ge0 c = omega (arith, (narrow_bits c.args.t c.if-b-eq64.false c.requires).1)
 
 pub returns-then-i-ge0 : goal.returns-then-i-ge0
 returns-then-i-ge0 c =

@@ -1,5 +1,5 @@
 use Rattle.ol_value.proofs.Widths.{few_bits, residue_lt, natural_fits, whole_is, signed_ty, unsigned_ty, narrow_bits}
-use borrow.Author.Rules.{sfits_of, rules}
+use borrow.Author.Rules.{sfits_of}
 use Rattle.ol_spec.specs.Numbers.{residue, signed}
 use mathlib.Core.Path.{◌∙◌, ap}
 use mir.Facts.{to_z-of_z, to_z_pos}
@@ -7,10 +7,10 @@ use mir.Syntax.{w64}
 use Rattle.ol_value.proofs.narrowing.narrow_int.Goals as goal
 
 pub returns-then-b-eq64 : goal.returns-then-b-eq64
-returns-then-b-eq64 c = c in rw (whole_is s.args.t c.if-b-eq64.true) (to_z-of_z s.ranges.i)
+returns-then-b-eq64 c = rw (whole_is c.args.t c.if-b-eq64.true) (to_z-of_z c.ranges.i)
 
 pub residue_of-n-requires : goal.residue_of-n-requires
-residue_of-n-requires c = c in (narrow_bits s.args.t c.if-b-eq64.false s.requires).1
+residue_of-n-requires c = (narrow_bits c.args.t c.if-b-eq64.false c.requires).1
 
 pub signed_of-requires : goal.signed_of-requires
 signed_of-requires c = record { b_nonzero = narrow_bits c.args.t c.if-b-eq64.false c.requires; n_bound = rw (c.residue_of-n.ensures, to_z-of_z c.ranges.i) (residue_lt c.args.t.bits c.args.i) }
@@ -23,8 +23,8 @@ overflow_cast-result c =
 pub returns-then-t : goal.returns-then-t
 returns-then-t c =
     rw (signed_ty c.args.t c.if-b-eq64.false c.if-t.true)
-    (to_z-of_z (sfits_of c.Signed-of.type_inv)
-    ∙ c.Signed-of.ensures
+    (to_z-of_z {w = w64} (sfits_of c.signed_of.type_inv)
+    ∙ c.signed_of.ensures
     ∙ ap (signed c.args.t.bits) (c.residue_of-n.ensures ∙ ap (residue c.args.t.bits) (to_z-of_z c.ranges.i)))
 
 pub returns-else-t : goal.returns-else-t

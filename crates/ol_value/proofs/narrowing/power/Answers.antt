@@ -1,4 +1,3 @@
-use borrow.Author.Rules.{rules}
 use Rattle.ol_value.proofs.Widths.{power_is}
 use Rattle.ol_value.proofs.narrowing.power.Goals as goal
 

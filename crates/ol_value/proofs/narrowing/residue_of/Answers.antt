@@ -4,7 +4,6 @@ use lib.Signed.{mag}
 use native.Mathlib.Nat.{mod-lt}
 use native.Mathlib.Omega.{arith}
 use mir.Facts.{to_z-of_z}
-use borrow.Author.Rules.{rules}
 use Rattle.ol_value.proofs.Magnitudes.{sign_is}
 use Rattle.ol_value.proofs.Widths.{power_pos, residue_natural, residue_negative}
 use Rattle.ol_value.proofs.narrowing.residue_of.Goals as goal

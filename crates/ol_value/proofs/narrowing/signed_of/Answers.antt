@@ -1,6 +1,5 @@
 use native.Mathlib.Omega.{arith}
 use Rattle.ol_value.proofs.Widths.{few_bits, rest_small, natural_fits, signed_low, negated_fits, signed_high}
-use borrow.Author.Rules.{rules}
 use Rattle.ol_value.proofs.narrowing.signed_of.Goals as goal
 
 pub overflow_cast-result : goal.overflow_cast-result

@@ -1,5 +1,4 @@
 use mathlib.Core.Path.{ap, ◌∙◌}
-use borrow.Author.Rules.{rules}
 use Rattle.ol_value.specs.Codes.{row_says}
 use Rattle.ol_value.proofs.Widths.{table_entry, table_end}
 use Rattle.ol_value.proofs.narrowing.type_row.Goals as goal

@@ -1,25 +1,24 @@
 use mathlib.Core.Path.{◌≡◌, ◌∙◌}
 use Prim.Native.Nat.{◌*◌, ◌%◌, ◌^◌}
 use native.Mathlib.Omega.{arith}
-use lib.Bits.{bitAnd, bitOr, bitXor}
+use lib.Bits.{bit_and, bit_or, bit_xor}
 use lib.Signed.{shr_z}
 use Rattle.ol_spec.specs.Numbers.{residue, signed}
 use Rattle.ol_spec.specs.Operators.{on_pair, on_bits, shift_by}
 use Rattle.ol_value.proofs.Backs.{backs}
-use borrow.Author.Rules.{rules}
 use Rattle.ol_value.proofs.operators.combine_ints.Goals as goal
 
 pub returns-in-15 : goal.returns-in-15
 unfolding on_pair
-returns-in-15 c = rw c.in-15.is (c.bit_and.ensures ∙ backs (on_bits bitAnd) c.ranges.i c.ranges.j)
+returns-in-15 c = rw c.in-15.is (c.bit_and.ensures ∙ backs (on_bits bit_and) c.ranges.i c.ranges.j)
 
 pub returns-in-16 : goal.returns-in-16
 unfolding on_pair
-returns-in-16 c = rw c.in-16.is (c.bit_or.ensures ∙ backs (on_bits bitOr) c.ranges.i c.ranges.j)
+returns-in-16 c = rw c.in-16.is (c.bit_or.ensures ∙ backs (on_bits bit_or) c.ranges.i c.ranges.j)
 
 pub returns-in-17 : goal.returns-in-17
 unfolding on_pair
-returns-in-17 c = rw c.in-17.is (c.bit_xor.ensures ∙ backs (on_bits bitXor) c.ranges.i c.ranges.j)
+returns-in-17 c = rw c.in-17.is (c.bit_xor.ensures ∙ backs (on_bits bit_xor) c.ranges.i c.ranges.j)
 
 pub returns-in-18 : goal.returns-in-18
 unfolding on_pair

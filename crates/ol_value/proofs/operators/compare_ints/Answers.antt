@@ -4,7 +4,6 @@ use native.Mathlib.Omega.{arith}
 use lib.Signed.{lt_z, le_z}
 use Rattle.ol_spec.specs.Operators.{on_pair, bool_out, eq_z}
 use Rattle.ol_value.proofs.Backs.{backs}
-use borrow.Author.Rules.{rules}
 use Rattle.ol_value.proofs.operators.compare_ints.Goals as goal
 
 pub returns-in-4 : goal.returns-in-4

@@ -3,7 +3,6 @@ use native.Mathlib.Omega.{arith}
 use lib.IntN.{◌+ℤ◌, ◌-ℤ◌, ◌*ℤ◌}
 use Rattle.ol_spec.specs.Operators.{on_pair, exact, div_int, mod_int}
 use Rattle.ol_value.proofs.Backs.{backs}
-use borrow.Author.Rules.{rules}
 use Rattle.ol_value.proofs.operators.compute_ints.Goals as goal
 
 pub returns-in-10 : goal.returns-in-10

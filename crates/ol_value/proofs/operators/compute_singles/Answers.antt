@@ -1,6 +1,5 @@
 use mathlib.Core.Path.{◌≡◌}
 use native.Mathlib.Omega.{arith}
-use borrow.Author.Rules.{rules}
 use Rattle.ol_spec.specs.Real.{add_r, sub_r, mul_r}
 use Rattle.ol_spec.specs.Operators.{on_pair}
 use Rattle.ol_value.proofs.operators.compute_singles.Goals as goal

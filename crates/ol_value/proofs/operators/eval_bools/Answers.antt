@@ -1,7 +1,6 @@
 use native.Mathlib.Omega.{arith}
 use Rattle.ol_spec.specs.Operators.{on_pair}
 use Rattle.ol_value.proofs.OpCodes.{bools_refuse}
-use borrow.Author.Rules.{rules}
 use Rattle.ol_value.proofs.operators.eval_bools.Goals as goal
 
 pub returns-in-0 : goal.returns-in-0

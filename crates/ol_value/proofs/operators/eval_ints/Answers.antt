@@ -1,9 +1,9 @@
+use native.Mathlib.Omega.{arith}
 use mathlib.Core.Path.{◌∙◌}
 use Rattle.ol_spec.specs.Operators.{ints}
 use Rattle.ol_value.specs.Codes.{pair_by}
 use Rattle.ol_value.proofs.Backs.{backs}
 use Rattle.ol_value.proofs.OpCodes.{ints_refuse_low, ints_refuse_high}
-use borrow.Author.Rules.{rules}
 use Rattle.ol_value.proofs.operators.eval_ints.Goals as goal
 
 pub returns-in-4-to-9 : goal.returns-in-4-to-9
@@ -16,7 +16,7 @@ pub returns-in-15-to-19 : goal.returns-in-15-to-19
 returns-in-15-to-19 c = c.combine_ints.ensures ∙ backs (λ i j. pair_by c.args.op (ints i j)) c.ranges.i c.ranges.j
 
 pub returns-in_default : goal.returns-in_default
-returns-in_default c = ints_refuse_low c.args.i c.args.j c.args.op c.if-op-lt4.true
+returns-in_default c = ints_refuse_low c.args.i c.args.j c.args.op (omega arith)
 
 pub returns-in_default-2 : goal.returns-in_default-2
-returns-in_default-2 c = ints_refuse_high c.args.i c.args.j c.args.op c.if-op-lt20.false
+returns-in_default-2 c = ints_refuse_high c.args.i c.args.j c.args.op (omega arith)

@@ -1,6 +1,6 @@
+use native.Mathlib.Omega.{arith}
 use Rattle.ol_spec.specs.Operators.{on_pair}
 use Rattle.ol_value.proofs.OpCodes.{names_refuse}
-use borrow.Author.Rules.{rules}
 use Rattle.ol_value.proofs.operators.eval_names.Goals as goal
 
 pub returns-in-4 : goal.returns-in-4
@@ -12,4 +12,4 @@ unfolding on_pair
 returns-in-5 c = rw c.in-5.is c.bool_out-in-5.ensures
 
 pub returns-in_default : goal.returns-in_default
-returns-in_default c = names_refuse c.args.v c.args.w c.args.op c.in_default.rest.0.1 c.in_default.rest.1
+returns-in_default c = names_refuse c.args.v c.args.w c.args.op (omega arith) (omega arith)

@@ -1,6 +1,6 @@
+use native.Mathlib.Omega.{arith}
 use Rattle.ol_spec.specs.Operators.{unary_of}
 use Rattle.ol_value.proofs.OpCodes.{unary_refuse}
-use borrow.Author.Rules.{rules}
 use Rattle.ol_value.proofs.operators.eval_unary.Goals as goal
 
 pub returns-in-0 : goal.returns-in-0
@@ -12,4 +12,4 @@ unfolding unary_of
 returns-in-1 c = rw c.in-1.is c.unary_neg.ensures
 
 pub returns-in_default : goal.returns-in_default
-returns-in_default c = unary_refuse c.args.v c.args.op c.in_default.rest.0.1 c.in_default.rest.1
+returns-in_default c = unary_refuse c.args.v c.args.op (omega arith) (omega arith)

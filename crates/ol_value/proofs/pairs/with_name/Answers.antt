@@ -1,5 +1,4 @@
-use borrow.Author.Rules.{rules}
 use Rattle.ol_value.proofs.pairs.with_name.Goals as goal
 
 pub returns-in-Enum : goal.returns-in-Enum
-returns-in-Enum c = rw c.r-1.given.1
+returns-in-Enum c = rw c.in-Enum.is

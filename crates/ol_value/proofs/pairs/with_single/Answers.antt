@@ -1,11 +1,10 @@
 use mathlib.Core.Path.{ap}
 use Rattle.ol_spec.specs.Real.{double}
 use Rattle.ol_spec.specs.Operators.{reals}
-use borrow.Author.Rules.{rules}
 use Rattle.ol_value.proofs.pairs.with_single.Goals as goal
 
 pub returns-in-Float : goal.returns-in-Float
-returns-in-Float c = rw c.r-1.given.1 (ap (λ x. reals double x c.r-1.given.0.0) c.f32_to_f64.ensures)
+returns-in-Float c = rw c.in-Float.is (ap (λ x. reals double x c.in-Float.y) c.f32_to_f64.ensures)
 
 pub returns-in-Float32 : goal.returns-in-Float32
-returns-in-Float32 c = rw c.r-in-Float32-1.given.1
+returns-in-Float32 c = rw c.in-Float32.is

@@ -2,7 +2,6 @@ use mathlib.Core.Path.{◌∙◌, ap, sym}
 use Rattle.ol_spec.specs.Types.{fit_double}
 use Rattle.ol_spec.specs.declared.Outcome.TheVariants as Out
 use Rattle.ol_value.proofs.TypeCodes.{cast_number, cast_not}
-use borrow.Author.Rules.{rules}
 use Rattle.ol_value.proofs.types.cast_double.Goals as goal
 
 pub returns-then-is_number : goal.returns-then-is_number

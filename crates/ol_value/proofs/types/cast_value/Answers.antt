@@ -1,13 +1,13 @@
+use native.Mathlib.Omega.{arith}
 use mathlib.Core.Path.{◌∙◌}
 use Rattle.ol_spec.specs.Types.{cast_to}
 use Rattle.ol_value.specs.Codes.{ty_of}
 use Rattle.ol_value.proofs.Widths.{narrow_row, cast_row}
 use Rattle.ol_value.proofs.TypeCodes.{other_code, cast_other}
-use borrow.Author.Rules.{rules}
 use Rattle.ol_value.proofs.types.cast_value.Goals as goal
 
 pub cast_int-requires : goal.cast_int-requires
-cast_int-requires c = c in narrow_row s.type_row.result (ty_of s.before.args.code 0) (s.type_row.ensures 0) c.if-t.true
+cast_int-requires c = narrow_row c.type_row-t.result (ty_of c.args.code 0) (c.type_row-t.ensures 0) c.if-t.true
 
 pub returns-then-t : goal.returns-then-t
 returns-then-t c =
@@ -25,4 +25,4 @@ returns-in-10 c = λ e. rw c.in-10.is c.cast_double.ensures
 pub returns-in_default : goal.returns-in_default
 returns-in_default c =
     λ e.
-    cast_other _ _ (other_code c.type_row-t.result c.args.code e (c.type_row-t.ensures e) c.if-t.false c.in_default.rest.0.1 c.in_default.rest.1)
+    cast_other _ _ (other_code c.type_row-t.result c.args.code e (c.type_row-t.ensures e) c.if-t.false (omega arith) (omega arith))

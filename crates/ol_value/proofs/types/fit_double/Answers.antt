@@ -1,22 +1,22 @@
+use mir.Syntax.{w64}
+use native.Mathlib.Omega.{arith}
 use mathlib.Core.Path.{◌∙◌, ap}
 use mir.Facts.{to_z-of_z}
-use borrow.Author.Rules.{sfits_of}
 use Rattle.ol_spec.specs.Real.{of_int, double}
 use Rattle.ol_spec.specs.declared.Value.TheVariants as Val
-use borrow.Author.Rules.{rules}
 use Rattle.ol_value.proofs.types.fit_double.Goals as goal
 
 pub returns-in-Bool : goal.returns-in-Bool
-returns-in-Bool c = rw c.v-1.given.1
+returns-in-Bool c = rw c.in-Bool.is
 
 pub returns-in-Int : goal.returns-in-Int
-returns-in-Int c = rw c.v-in-Int-1.given.1 (ap Val.Float (c.i64_to_f64.ensures ∙ ap (of_int double) (to_z-of_z (sfits_of c.known_told-in-Int-1.given.0.1))))
+returns-in-Int c = rw c.in-Int.is (ap Val.Float (c.i64_to_f64.ensures ∙ ap (of_int double) (to_z-of_z {w = w64} (record { sfits = omega arith }))))
 
 pub returns-in-Float : goal.returns-in-Float
-returns-in-Float c = rw c.v-in-Float-1.given.1
+returns-in-Float c = rw c.in-Float.is
 
 pub returns-in-Float32 : goal.returns-in-Float32
-returns-in-Float32 c = rw c.v-in-Float32-1.given.1 (ap Val.Float c.f32_to_f64.ensures)
+returns-in-Float32 c = rw c.in-Float32.is (ap Val.Float c.f32_to_f64.ensures)
 
 pub returns-in-Enum : goal.returns-in-Enum
-returns-in-Enum c = rw c.v-in-Enum-1.given.1
+returns-in-Enum c = rw c.in-Enum.is

@@ -3,11 +3,10 @@ use mir.Facts.{to_z-of_z}
 use Rattle.ol_spec.specs.Types.{in_range}
 use Rattle.ol_value.specs.Codes.{int_ty_of, ty_of}
 use Rattle.ol_value.proofs.Widths.{range_row, in_row, out_row}
-use borrow.Author.Rules.{rules}
 use Rattle.ol_value.proofs.types.int_in_type.Goals as goal
 
 pub in_range-requires : goal.in_range-requires
-in_range-requires c = c in range_row s.type_row.result (ty_of s.before.args.code 0) (s.type_row.ensures 0) c.if-t-eq0.false
+in_range-requires c = range_row c.type_row-t.result (ty_of c.args.code 0) (c.type_row-t.ensures 0) c.if-t-eq0.false
 
 pub returns-then-t-eq0 : goal.returns-then-t-eq0
 returns-then-t-eq0 c = λ e. out_row c.type_row-t.result (ty_of c.args.code e) (c.type_row-t.ensures e) c.if-t-eq0.true c.args.i
