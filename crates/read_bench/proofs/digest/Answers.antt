@@ -4,4 +4,4 @@ use borrow.Author.Rules.{rules}
 use Rattle.read_bench.proofs.digest.Goals as goal
 
 pub returns-in-Refused : goal.returns-in-Refused
-returns-in-Refused c = sym (ap loaded_digest c.l-in-Refused-1.given.1)
+returns-in-Refused c = sym (ap loaded_digest c.in-Refused.is)

@@ -5,8 +5,8 @@ use Rattle.ol_ir.proofs.expr.call.Goals as goal
 
 pub returns-in-At : goal.returns-in-At
 returns-in-At c =
-    call_count c.args.file.now c.args.arguments c.args.at c.bytes.ensures c.p-1.given.1 c.count.ensures
+    call_count c.args.file.now c.args.arguments c.args.at c.bytes.ensures c.in-At.is c.count.ensures
 
 pub returns-in-Refused : goal.returns-in-Refused
 returns-in-Refused c =
-    call_refused c.args.file.now c.args.arguments c.args.at c.bytes.ensures c.f-1.given.1
+    call_refused c.args.file.now c.args.arguments c.args.at c.bytes.ensures c.in-Refused.is

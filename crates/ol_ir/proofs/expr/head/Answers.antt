@@ -1,5 +1,6 @@
 -- `ol_ir::expr::head` meets its contract.
 use Prim.Native.Nat.{◌+◌}
+use native.Mathlib.Omega.{arith}
 use mathlib.Core.Path.{◌∙◌, sym, ap, refl}
 use borrow.Author.Rules.{rules}
 use Rattle.ol_spec.specs.Lists.{up_to}
@@ -66,7 +67,7 @@ returns-in-12 c =
 pub returns-in_default : goal.returns-in_default
 unfolding counted_of
 returns-in_default c =
-    λ l ea ei. c.uncounted.ensures ∙ sym (ap counted_of (head_none c.args.file.now l c.args.enums c.args.at c.if-at-file.true (others 13 _ c.in_default.rest)))
+    λ l ea ei. c.uncounted.ensures ∙ sym (ap counted_of (head_none c.args.file.now l c.args.enums c.args.at c.if-at-file.true (omega arith)))
 
 pub returns-else-at-file : goal.returns-else-at-file
 unfolding counted_of

@@ -6,8 +6,8 @@ use Rattle.ol_ir.proofs.expr.parts.Goals as goal
 
 pub returns-in-At : goal.returns-in-At
 unfolding parts_of
-returns-in-At c = sym (ap (parts_of _) c.next-1.given.1)
+returns-in-At c = sym (ap (parts_of _) c.in-At.is)
 
 pub returns-in-Refused : goal.returns-in-Refused
 unfolding parts_of
-returns-in-Refused c = sym (ap (parts_of _) c.next-in-Refused-1.given.1)
+returns-in-Refused c = sym (ap (parts_of _) c.in-Refused.is)

@@ -9,8 +9,8 @@ use Rattle.ol_ir.proofs.node.equation.Goals as goal
 
 pub returns-in-At : goal.returns-in-At
 returns-in-At c =
-    λ l en ed ea ei. arrive (equation_chain c.args.file.now l c.args.enums c.args.at) (c.names.ensures ∙ ap (λ n. next_of (section_r c.args.file.now 1 n (name_r c.args.file.now) c.args.at)) (sym en)) c.p-1.given.1 (root_next c.args.file.now l c.args.enums _ ed (c.exprs.ensures l ea ei))
+    λ l en ed ea ei. arrive (equation_chain c.args.file.now l c.args.enums c.args.at) (c.names.ensures ∙ ap (λ n. next_of (section_r c.args.file.now 1 n (name_r c.args.file.now) c.args.at)) (sym en)) c.in-At.is (root_next c.args.file.now l c.args.enums _ ed (c.exprs.ensures l ea ei))
 
 pub returns-in-Refused : goal.returns-in-Refused
 returns-in-Refused c =
-    λ l en ed ea ei. halt (equation_chain c.args.file.now l c.args.enums c.args.at) (c.names.ensures ∙ ap (λ n. next_of (section_r c.args.file.now 1 n (name_r c.args.file.now) c.args.at)) (sym en)) c.f-1.given.1
+    λ l en ed ea ei. halt (equation_chain c.args.file.now l c.args.enums c.args.at) (c.names.ensures ∙ ap (λ n. next_of (section_r c.args.file.now 1 n (name_r c.args.file.now) c.args.at)) (sym en)) c.in-Refused.is

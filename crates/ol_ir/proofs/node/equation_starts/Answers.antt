@@ -10,11 +10,11 @@ shape_of-starts c = c.equation_places.auto.starts
 
 pub returns-in-Items : goal.returns-in-Items
 returns-in-Items c =
-    let there = starts_counted c.args.file.now c.args.limits c.args.enums c.args.at c.interface.ensures c.p-1.given.1 c.count.ensures in
- record { many = sym c.n-1.given.1 ∙ there; places = c.equation_places.ensures ∙ ap (sets c.args.starts.now 0) (starts_placed c.args.file.now c.args.limits c.args.enums c.args.at c.interface.ensures c.p-1.given.1 c.count.ensures c.n-1.given.1) }
+    let there = starts_counted c.args.file.now c.args.limits c.args.enums c.args.at c.interface.ensures c.in-At.is c.count.ensures in
+ record { many = sym c.in-Items.is ∙ there; places = c.equation_places.ensures ∙ ap (sets c.args.starts.now 0) (starts_placed c.args.file.now c.args.limits c.args.enums c.args.at c.interface.ensures c.in-At.is c.count.ensures c.in-Items.is) }
 
 pub returns-in-Refused-count : goal.returns-in-Refused-count
-returns-in-Refused-count c = record { many = sym c.f-1.given.1 ∙ starts_counted c.args.file.now c.args.limits c.args.enums c.args.at c.interface.ensures c.p-1.given.1 c.count.ensures; places = ap (sets c.args.starts.now 0) (starts_uncounted c.args.file.now c.args.limits c.args.enums c.args.at c.interface.ensures c.p-1.given.1 c.count.ensures c.f-1.given.1) }
+returns-in-Refused-count c = record { many = sym c.in-Refused-count.is ∙ starts_counted c.args.file.now c.args.limits c.args.enums c.args.at c.interface.ensures c.in-At.is c.count.ensures; places = ap (sets c.args.starts.now 0) (starts_uncounted c.args.file.now c.args.limits c.args.enums c.args.at c.interface.ensures c.in-At.is c.count.ensures c.in-Refused-count.is) }
 
 pub returns-in-Refused : goal.returns-in-Refused
-returns-in-Refused c = record { many = front_refused c.args.file.now c.args.limits c.args.enums c.args.at c.interface.ensures c.f-in-Refused-interface-1.given.1; places = ap (sets c.args.starts.now 0) (front_placed c.args.file.now c.args.limits c.args.enums c.args.at c.interface.ensures c.f-in-Refused-interface-1.given.1) }
+returns-in-Refused c = record { many = front_refused c.args.file.now c.args.limits c.args.enums c.args.at c.interface.ensures c.in-Refused.is; places = ap (sets c.args.starts.now 0) (front_placed c.args.file.now c.args.limits c.args.enums c.args.at c.interface.ensures c.in-Refused.is) }

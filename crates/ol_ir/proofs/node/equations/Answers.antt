@@ -18,10 +18,10 @@ pub loop-left-smaller : goal.loop-left-smaller
 loop-left-smaller c = omega arith
 
 pub loop-left-preserved : goal.loop-left-preserved
-loop-left-preserved c = λ l en ed ea ei. turn (c.loop-left.invariant l en ed ea ei) c.loop-left-test.true (c.equation.ensures l en ed ea ei) c.p-1.given.1
+loop-left-preserved c = λ l en ed ea ei. turn (c.loop-left.invariant l en ed ea ei) c.loop-left-test.true (c.equation.ensures l en ed ea ei) c.in-At.is
 
 pub returns-in-Refused : goal.returns-in-Refused
-returns-in-Refused c = λ l en ed ea ei. turn_halt (c.loop-left.invariant l en ed ea ei) c.loop-left-test.true (c.equation.ensures l en ed ea ei) c.f-1.given.1
+returns-in-Refused c = λ l en ed ea ei. turn_halt (c.loop-left.invariant l en ed ea ei) c.loop-left-test.true (c.equation.ensures l en ed ea ei) c.in-Refused.is
 
 pub returns : goal.returns
 returns c = λ l en ed ea ei. turns_end (c.loop-left.invariant l en ed ea ei) c.loop-left-test.false

@@ -10,7 +10,7 @@ use Rattle.ol_ir.proofs.node.equations.Given as goal
 
 abbrev pub invariant-loop-left : goal.invariant-loop-left
 invariant-loop-left l =
-    (l : Limits) → l.names ≡ l.most → l.nesting ≡ l.nesting → l.arguments ≡ l.arguments → l.items ≡ l.items → Turns (next_of (many l.count (equation_r l.file l l.enums) l.at)) l.left (λ p. next_of (equation_r l.file l l.enums p)) l.next
+    (m : Limits) → m.names ≡ l.most → m.nesting ≡ l.nesting → m.arguments ≡ l.arguments → m.items ≡ l.items → Turns (next_of (many l.count (equation_r l.file m l.enums) l.at)) l.left (λ p. next_of (equation_r l.file m l.enums p)) l.next
 
 abbrev pub decreases-loop-left : goal.decreases-loop-left
 decreases-loop-left l = l.left

@@ -6,8 +6,8 @@ use Rattle.ol_ir.proofs.node.variable.Goals as goal
 
 pub returns-in-At : goal.returns-in-At
 returns-in-At c =
-    λ l. arrive (variable_chain c.args.file.now l c.args.enums c.args.at) c.bytes.ensures c.p-1.given.1 (c.ty.ensures l)
+    λ l. arrive (variable_chain c.args.file.now l c.args.enums c.args.at) c.bytes.ensures c.in-At.is (c.ty.ensures l)
 
 pub returns-in-Refused : goal.returns-in-Refused
 returns-in-Refused c =
-    λ l. halt (variable_chain c.args.file.now l c.args.enums c.args.at) c.bytes.ensures c.f-1.given.1
+    λ l. halt (variable_chain c.args.file.now l c.args.enums c.args.at) c.bytes.ensures c.in-Refused.is

@@ -17,10 +17,10 @@ pub loop-left-smaller : goal.loop-left-smaller
 loop-left-smaller c = omega arith
 
 pub loop-left-preserved : goal.loop-left-preserved
-loop-left-preserved c = λ l. turn (c.loop-left.invariant l) c.loop-left-test.true (c.variable.ensures l) c.p-1.given.1
+loop-left-preserved c = λ l. turn (c.loop-left.invariant l) c.loop-left-test.true (c.variable.ensures l) c.in-At.is
 
 pub returns-in-Refused : goal.returns-in-Refused
-returns-in-Refused c = λ l. turn_halt (c.loop-left.invariant l) c.loop-left-test.true (c.variable.ensures l) c.f-1.given.1
+returns-in-Refused c = λ l. turn_halt (c.loop-left.invariant l) c.loop-left-test.true (c.variable.ensures l) c.in-Refused.is
 
 pub returns : goal.returns
 returns c = λ l. turns_end (c.loop-left.invariant l) c.loop-left-test.false

@@ -9,7 +9,7 @@ use Rattle.ol_ir.proofs.node.variables.Given as goal
 
 abbrev pub invariant-loop-left : goal.invariant-loop-left
 invariant-loop-left l =
-    (l : Limits) → Turns (next_of (many l.count (variable_r l.file l l.enums) l.at)) l.left (λ p. next_of (variable_r l.file l l.enums p)) l.next
+    (m : Limits) → Turns (next_of (many l.count (variable_r l.file m l.enums) l.at)) l.left (λ p. next_of (variable_r l.file m l.enums p)) l.next
 
 abbrev pub decreases-loop-left : goal.decreases-loop-left
 decreases-loop-left l = l.left

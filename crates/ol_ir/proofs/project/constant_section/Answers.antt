@@ -8,8 +8,8 @@ use Rattle.ol_ir.proofs.project.constant_section.Goals as goal
 
 pub returns-in-Items : goal.returns-in-Items
 returns-in-Items c =
-    items (section_chain c.args.file.now 0 c.args.limits.constants (constant_r c.args.file.now c.args.limits c.args.enums) c.args.at) c.count.ensures c.n-1.given.1 (c.constants.ensures c.args.limits refl refl refl)
+    items (section_chain c.args.file.now 0 c.args.limits.constants (constant_r c.args.file.now c.args.limits c.args.enums) c.args.at) c.count.ensures c.in-Items.is (c.constants.ensures c.args.limits refl refl refl)
 
 pub returns-in-Refused : goal.returns-in-Refused
 returns-in-Refused c =
-    no_items (section_chain c.args.file.now 0 c.args.limits.constants (constant_r c.args.file.now c.args.limits c.args.enums) c.args.at) c.count.ensures c.f-1.given.1
+    no_items (section_chain c.args.file.now 0 c.args.limits.constants (constant_r c.args.file.now c.args.limits c.args.enums) c.args.at) c.count.ensures c.in-Refused.is

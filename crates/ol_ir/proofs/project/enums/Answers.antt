@@ -19,11 +19,11 @@ loop-left-smaller c = omega arith
 
 pub loop-left-preserved : goal.loop-left-preserved
 loop-left-preserved c =
-    λ l ev. turn (c.loop-left.invariant l ev) c.loop-left-test.true (c.names.ensures ∙ ap (λ n. next_of (section_r c.args.file.now 1 n (name_r c.args.file.now) c.loop-left.next)) (sym ev)) c.p-1.given.1
+    λ l ev. turn (c.loop-left.invariant l ev) c.loop-left-test.true (c.names.ensures ∙ ap (λ n. next_of (section_r c.args.file.now 1 n (name_r c.args.file.now) c.loop-left.next)) (sym ev)) c.in-At.is
 
 pub returns-in-Refused : goal.returns-in-Refused
 returns-in-Refused c =
-    λ l ev. turn_halt (c.loop-left.invariant l ev) c.loop-left-test.true (c.names.ensures ∙ ap (λ n. next_of (section_r c.args.file.now 1 n (name_r c.args.file.now) c.loop-left.next)) (sym ev)) c.f-1.given.1
+    λ l ev. turn_halt (c.loop-left.invariant l ev) c.loop-left-test.true (c.names.ensures ∙ ap (λ n. next_of (section_r c.args.file.now 1 n (name_r c.args.file.now) c.loop-left.next)) (sym ev)) c.in-Refused.is
 
 pub returns : goal.returns
 returns c = λ l ev. turns_end (c.loop-left.invariant l ev) c.loop-left-test.false

@@ -10,7 +10,7 @@ use Rattle.ol_ir.proofs.project.enums.Given as goal
 
 abbrev pub invariant-loop-left : goal.invariant-loop-left
 invariant-loop-left l =
-    (l : Limits) → l.variants ≡ l.variants → Turns (next_of (many l.count (enum_r l.file l) l.at)) l.left (λ p. next_of (enum_r l.file l p)) l.next
+    (m : Limits) → m.variants ≡ l.variants → Turns (next_of (many l.count (enum_r l.file m) l.at)) l.left (λ p. next_of (enum_r l.file m p)) l.next
 
 abbrev pub decreases-loop-left : goal.decreases-loop-left
 decreases-loop-left l = l.left

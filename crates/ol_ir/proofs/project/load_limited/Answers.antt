@@ -9,10 +9,10 @@ pub shape_of-starts : goal.shape_of-starts
 shape_of-starts c = c.last_nodes.auto.starts
 
 pub returns-in-At : goal.returns-in-At
-returns-in-At c = record { read = load_is c.args.file.now c.args.limits c.enum_section.ensures c.n-1.given.1 c.constant_section.ensures c.q-1.given.1 c.last_nodes.ensures.nodes; places = load_table c.args.file.now c.args.limits c.enum_section.ensures c.n-1.given.1 c.constant_section.ensures c.q-1.given.1 c.last_nodes.ensures.places; all = c.last_nodes.ensures.all ∙ ap (sets c.args.starts.now 0) (load_places_lem c.args.file.now c.args.limits c.enum_section.ensures c.n-1.given.1 c.constant_section.ensures c.q-1.given.1) }
+returns-in-At c = record { read = load_is c.args.file.now c.args.limits c.enum_section.ensures c.in-Items.is c.constant_section.ensures c.in-At.is c.last_nodes.ensures.nodes; places = load_table c.args.file.now c.args.limits c.enum_section.ensures c.in-Items.is c.constant_section.ensures c.in-At.is c.last_nodes.ensures.places; all = c.last_nodes.ensures.all ∙ ap (sets c.args.starts.now 0) (load_places_lem c.args.file.now c.args.limits c.enum_section.ensures c.in-Items.is c.constant_section.ensures c.in-At.is) }
 
 pub returns-in-Refused-constant_section : goal.returns-in-Refused-constant_section
-returns-in-Refused-constant_section c = record { read = (load_fault_lem c.args.file.now c.args.limits c.enum_section.ensures c.n-1.given.1 c.constant_section.ensures c.f-1.given.1); places = (λ f end g. not_loaded c.args.file.now f end ((load_fault_lem c.args.file.now c.args.limits c.enum_section.ensures c.n-1.given.1 c.constant_section.ensures c.f-1.given.1)) g); all = ap (sets c.args.starts.now 0) (fault_places c.args.file.now c.args.limits c.enum_section.ensures c.n-1.given.1 c.constant_section.ensures c.f-1.given.1) }
+returns-in-Refused-constant_section c = record { read = (load_fault_lem c.args.file.now c.args.limits c.enum_section.ensures c.in-Items.is c.constant_section.ensures c.in-Refused-constant_section.is); places = (λ f end g. not_loaded c.args.file.now f end ((load_fault_lem c.args.file.now c.args.limits c.enum_section.ensures c.in-Items.is c.constant_section.ensures c.in-Refused-constant_section.is)) g); all = ap (sets c.args.starts.now 0) (fault_places c.args.file.now c.args.limits c.enum_section.ensures c.in-Items.is c.constant_section.ensures c.in-Refused-constant_section.is) }
 
 pub returns-in-Refused : goal.returns-in-Refused
-returns-in-Refused c = record { read = (load_none c.args.file.now c.args.limits c.enum_section.ensures c.f-in-Refused-enum_section-1.given.1); places = (λ f end g. not_loaded c.args.file.now f end ((load_none c.args.file.now c.args.limits c.enum_section.ensures c.f-in-Refused-enum_section-1.given.1)) g); all = ap (sets c.args.starts.now 0) (none_places c.args.file.now c.args.limits c.enum_section.ensures c.f-in-Refused-enum_section-1.given.1) }
+returns-in-Refused c = record { read = (load_none c.args.file.now c.args.limits c.enum_section.ensures c.in-Refused.is); places = (λ f end g. not_loaded c.args.file.now f end ((load_none c.args.file.now c.args.limits c.enum_section.ensures c.in-Refused.is)) g); all = ap (sets c.args.starts.now 0) (none_places c.args.file.now c.args.limits c.enum_section.ensures c.in-Refused.is) }

@@ -25,13 +25,13 @@ pub loop-left-smaller : goal.loop-left-smaller
 loop-left-smaller c = omega (arith, c.loop-left.invariant.0)
 
 pub loop-left-preserved : goal.loop-left-preserved
-loop-left-preserved c = (omega (arith, c.loop-left.invariant.0), c.keep.auto.table ∙ c.loop-left.invariant.1, put_turn c.loop-left.invariant.2 c.loop-left-test.true c.node.ensures c.keep.ensures c.p-1.given.1, turn c.loop-left.invariant.3 c.loop-left-test.true c.node.ensures c.p-1.given.1)
+loop-left-preserved c = (omega (arith, c.loop-left.invariant.0), c.keep.auto.table ∙ c.loop-left.invariant.1, put_turn c.loop-left.invariant.2 c.loop-left-test.true c.node.ensures c.keep.ensures c.in-At.is, turn c.loop-left.invariant.3 c.loop-left-test.true c.node.ensures c.in-At.is)
 
 pub shape_of-starts-in-Refused : goal.shape_of-starts-in-Refused
 shape_of-starts-in-Refused c = c.keep.auto.table ∙ c.loop-left.invariant.1
 
 pub returns-in-Refused : goal.returns-in-Refused
-returns-in-Refused c = record { next = turn_halt c.loop-left.invariant.3 c.loop-left-test.true c.node.ensures c.f-1.given.1; places = put_halt c.loop-left.invariant.2 c.loop-left-test.true c.node.ensures c.keep.ensures c.f-1.given.1 }
+returns-in-Refused c = record { next = turn_halt c.loop-left.invariant.3 c.loop-left-test.true c.node.ensures c.in-Refused.is; places = put_halt c.loop-left.invariant.2 c.loop-left-test.true c.node.ensures c.keep.ensures c.in-Refused.is }
 
 pub shape_of-starts : goal.shape_of-starts
 shape_of-starts c = c.loop-left.invariant.1

@@ -6,8 +6,8 @@ use Rattle.ol_ir.proofs.project.reading.Goals as goal
 
 pub returns-in-Nodes : goal.returns-in-Nodes
 unfolding read_of
-returns-in-Nodes c = sym (ap read_of c.enum_told-1.given.1)
+returns-in-Nodes c = sym (ap read_of c.in-Nodes.is)
 
 pub returns-in-Refused : goal.returns-in-Refused
 unfolding read_of
-returns-in-Refused c = sym (ap read_of c.l-1.given.1)
+returns-in-Refused c = sym (ap read_of c.in-Refused.is)

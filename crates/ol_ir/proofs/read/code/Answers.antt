@@ -9,7 +9,7 @@ use Rattle.ol_ir.proofs.read.code.Goals as goal
 
 pub overflow_cast-b : goal.overflow_cast-b
 overflow_cast-b c =
-    omega (arith, c.shared_slice_known-then-at-file-1.given c.args.at)
+    omega (arith, c.type_inv.file c.args.at)
 
 pub returns-then-b-bound : goal.returns-then-b-bound
 returns-then-b-bound c =

@@ -8,7 +8,7 @@ use Rattle.ol_ir.proofs.read.count.Goals as goal
 
 pub overflow_cast-n : goal.overflow_cast-n
 overflow_cast-n c =
-    omega (arith, c.shared_slice_known-then-at-file-1.given c.args.at)
+    omega (arith, c.type_inv.file c.args.at)
 
 pub returns-then-n-lo : goal.returns-then-n-lo
 unfolding counted_of

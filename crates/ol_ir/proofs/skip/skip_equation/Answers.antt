@@ -8,13 +8,13 @@ use Rattle.ol_ir.specs.Walks.{skip_equation_at}
 use Rattle.ol_ir.proofs.skip.skip_equation.Goals as goal
 
 pub overflow_cast-n : goal.overflow_cast-n
-overflow_cast-n c = omega (arith, c.shared_slice_known-then-at-file-1.given c.args.at)
+overflow_cast-n c = omega (arith, c.type_inv.file c.args.at)
 
 pub overflow_mul-n : goal.overflow_mul-n
-overflow_mul-n c = omega (arith, c.shared_slice_known-then-at-file-1.given c.args.at)
+overflow_mul-n c = omega (arith, c.type_inv.file c.args.at)
 
 pub overflow_add-at-then-at-file : goal.overflow_add-at-then-at-file
-overflow_add-at-then-at-file c = omega (arith, c.shared_slice_known-then-at-file-1.given c.args.at)
+overflow_add-at-then-at-file c = omega (arith, c.type_inv.file c.args.at)
 
 pub returns-then-at-file : goal.returns-then-at-file
 unfolding skip_equation_at
