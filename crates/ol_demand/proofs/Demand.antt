@@ -1,4 +1,4 @@
--- Demands 3 and 2 of the public functions: `demand3-holds`, `demand2-holds`. Each call's contract says that it is the definition's call, so a list of calls is the definition's history.
+-- Demands 3 and 2 of the public functions: `demand3_holds`, `demand2_holds`. Each call's contract says that it is the definition's call, so a list of calls is the definition's history.
 use Prim.Native.Nat.{ℕ}
 use mathlib.Core.List.{List, [], ◌∷◌, map}
 use mathlib.Core.Logic.{◌↔◌}

@@ -1,5 +1,6 @@
 // The relay's public entry: the lengths, admission, the ordering, the start and the cycle. Each call judges the file itself.
 #![tactic(auto)]
+
 mod calls; // calls.rt: what is asked, and what is answered
 mod serve; // serve.rt: the one way of every call: load, choose the tables' lengths, judge, answer
 mod judge; // judge.rt: faults 6 to 14 in their order

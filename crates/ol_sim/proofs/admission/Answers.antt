@@ -7,4 +7,4 @@ use Rattle.ol_sim.proofs.admission.Goals as goal
 
 pub returns : goal.returns
 returns c =
-    admission_answers c.args.file.now (bytes_of_lem c.args.file.now (λ i. omega (arith, c.shared_slice_known-1.given i))) c.verdict_of.ensures c.lengths.ensures
+    admission_answers c.args.file.now (bytes_of_lem c.args.file.now (λ i. omega (arith, c.type_inv.file i))) c.verdict_of.ensures c.lengths.ensures

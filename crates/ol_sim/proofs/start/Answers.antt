@@ -3,4 +3,4 @@ use borrow.Author.Rules.{rules}
 use Rattle.ol_sim.proofs.start.Goals as goal
 
 pub returns : goal.returns
-returns c = start_answers c.Started-of.ensures c.serve.ensures.is.0
+returns c = start_answers c.started_of.ensures c.serve.ensures.is.0

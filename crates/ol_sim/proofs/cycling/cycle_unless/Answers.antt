@@ -16,9 +16,6 @@ pub good_inputs-requires : goal.good_inputs-requires
 good_inputs-requires c =
     c.requires.0.running.known
 
-pub column-n-requires : goal.column-n-requires
-column-n-requires c = tt
-
 pub overflow_mul-n : goal.overflow_mul-n
 overflow_mul-n c =
     omega (arith, c.column-n.ensures, (c.requires.0.tables.rowed.rows_of c.args.main (omega (arith, c.requires.0.last))).variables, width c.requires.0.tables.stands c.args.main (omega (arith, c.requires.0.last)))

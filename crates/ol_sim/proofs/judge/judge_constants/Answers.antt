@@ -11,15 +11,6 @@ use Rattle.ol_sim.proofs.Steps.{count_constants, count_nodes, stuck_12, all_held
 use borrow.Author.Rules.{rules}
 use Rattle.ol_sim.proofs.judge.judge_constants.Goals as goal
 
-pub byte-count-requires : goal.byte-count-requires
-byte-count-requires c = tt
-
-pub byte-nodes-requires : goal.byte-nodes-requires
-byte-nodes-requires c = tt
-
-pub byte-enums-requires : goal.byte-enums-requires
-byte-enums-requires c = tt
-
 pub overflow_mul-nodes : goal.overflow_mul-nodes
 overflow_mul-nodes c =
     omega (arith, (count_nodes c.requires.tables.stands c.requires.sections c.byte-nodes.ensures.is), c.requires.tables.stands.few_nodes)
@@ -57,11 +48,11 @@ shape_of-tab-in-Stuck c = c.constant_values.auto.tab ∙ c.pack-2.auto.tab ∙ c
 
 pub returns-in-Stuck : goal.returns-in-Stuck
 returns-in-Stuck c =
-    refused_at c.refuse.ensures (stuck_12 (file_at c.args.file.now) c.byte-count.result (consts_of c.constant_values.new.tab) c.constant_values.ensures.0 c.p-1.given.1)
+    refused_at c.refuse.ensures (stuck_12 (file_at c.args.file.now) c.byte-count.result (consts_of c.constant_values.new.tab) c.constant_values.ensures.0 c.in-Stuck.is)
 
 pub shape_of-tab-in-All : goal.shape_of-tab-in-All
 shape_of-tab-in-All c = c.constant_values.auto.tab ∙ c.pack-2.auto.tab ∙ c.pack.auto.tab
 
 pub returns-in-All : goal.returns-in-All
 returns-in-All c =
-    passed_by_lem (all_held (file_at c.args.file.now) c.byte-count.result (consts_of c.constant_values.new.tab) c.constant_values.ensures.0 c.enum_told-1.given.1 (count_constants c.requires.tables.stands c.requires.sections c.byte-count.ensures.is)).0 (judges_more (λ size main m. record { measured = m; tables = admitted_same (admitted_packed c.requires.tables (subst (λ n. Packs c.args.rows.now 0 (n * 8) c.args.tab.now c.pack.new.tab) (count_nodes c.requires.tables.stands c.requires.sections c.byte-nodes.ensures.is) c.pack.ensures) (subst (λ n. Packs c.args.rows.now 256 (256 + n) c.pack.new.tab c.pack-2.new.tab) (c.byte-enums.ensures.is ∙ c.requires.tables.stands.enum_count) c.pack-2.ensures)) c.constant_values.ensures.1; held = (all_held (file_at c.args.file.now) c.byte-count.result (consts_of c.constant_values.new.tab) c.constant_values.ensures.0 c.enum_told-1.given.1 (count_constants c.requires.tables.stands c.requires.sections c.byte-count.ensures.is)).1 }) c.judge_main.ensures)
+    passed_by_lem (all_held (file_at c.args.file.now) c.byte-count.result (consts_of c.constant_values.new.tab) c.constant_values.ensures.0 c.in-All.is (count_constants c.requires.tables.stands c.requires.sections c.byte-count.ensures.is)).0 (judges_more (λ size main m. record { measured = m; tables = admitted_same (admitted_packed c.requires.tables (subst (λ n. Packs c.args.rows.now 0 (n * 8) c.args.tab.now c.pack.new.tab) (count_nodes c.requires.tables.stands c.requires.sections c.byte-nodes.ensures.is) c.pack.ensures) (subst (λ n. Packs c.args.rows.now 256 (256 + n) c.pack.new.tab c.pack-2.new.tab) (c.byte-enums.ensures.is ∙ c.requires.tables.stands.enum_count) c.pack-2.ensures)) c.constant_values.ensures.1; held = (all_held (file_at c.args.file.now) c.byte-count.result (consts_of c.constant_values.new.tab) c.constant_values.ensures.0 c.in-All.is (count_constants c.requires.tables.stands c.requires.sections c.byte-count.ensures.is)).1 }) c.judge_main.ensures)

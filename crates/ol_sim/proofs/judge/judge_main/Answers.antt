@@ -19,13 +19,13 @@ not_operator-requires c =
     (main_ready c.requires.reads c.requires.stands c.requires.rowed c.requires.last, omega arith)
 
 pub returns-in-At : goal.returns-in-At
-returns-in-At c = refused_at c.refuse.ensures (sym c.too_long.ensures.0 ∙ ap place_of c.p-1.given.1)
+returns-in-At c = refused_at c.refuse.ensures (sym c.too_long.ensures.0 ∙ ap place_of c.in-At.is)
 
 pub returns-in-At-not_operator : goal.returns-in-At-not_operator
 returns-in-At-not_operator c =
-    passed_by_lem (sym c.too_long.ensures.0 ∙ ap place_of c.enum_told-1.given.1)
-    (refused_at c.refuse-in-At-not_operator.ensures (sym c.not_operator.ensures ∙ ap place_of c.p-in-At-not_operator-1.given.1))
+    passed_by_lem (sym c.too_long.ensures.0 ∙ ap place_of c.in-Nothing.is)
+    (refused_at c.refuse-in-At-not_operator.ensures (sym c.not_operator.ensures ∙ ap place_of c.in-At-not_operator.is))
 
 pub returns-in-Nothing-not_operator : goal.returns-in-Nothing-not_operator
 returns-in-Nothing-not_operator c =
-    main_done c.requires (sym c.too_long.ensures.0 ∙ ap place_of c.enum_told-1.given.1) (c.too_long.ensures.1 (ap place_of c.enum_told-1.given.1)) (sym c.not_operator.ensures ∙ ap place_of c.enum_told-in-Nothing-not_operator-1.given.1)
+    main_done c.requires (sym c.too_long.ensures.0 ∙ ap place_of c.in-Nothing.is) (c.too_long.ensures.1 (ap place_of c.in-Nothing.is)) (sym c.not_operator.ensures ∙ ap place_of c.in-Nothing-not_operator.is)

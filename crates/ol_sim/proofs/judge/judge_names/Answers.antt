@@ -16,10 +16,10 @@ faults-found-requires c =
 
 pub judge_shapes-requires : goal.judge_shapes-requires
 judge_shapes-requires c =
-    shapes_ready c.faults-found.new.slots c.requires.names_ready c.faults-found.auto.rows c.faults-found.auto.slots (sym c.requires.clash_value ∙ ap place_of c.enum_told-1.given.1) c.faults-found.ensures.judged c.faults-found.ensures.planned c.faults-found.ensures.typed
+    shapes_ready c.faults-found.new.slots c.requires.names_ready c.faults-found.auto.rows c.faults-found.auto.slots (sym c.requires.clash_value ∙ ap place_of c.in-Nothing.is) c.faults-found.ensures.judged c.faults-found.ensures.planned c.faults-found.ensures.typed
 
 pub returns-in-At : goal.returns-in-At
-returns-in-At c = record { judged = refused_at c.refuse.ensures (sym c.requires.clash_value ∙ ap place_of c.clash-1.given.1); named = sym (ap (λ o. names_after o (file_at c.args.file.now) c.args.names.now) (sym c.requires.clash_value ∙ ap place_of c.clash-1.given.1)) }
+returns-in-At c = record { judged = refused_at c.refuse.ensures (sym c.requires.clash_value ∙ ap place_of c.in-At.is); named = sym (ap (λ o. names_after o (file_at c.args.file.now) c.args.names.now) (sym c.requires.clash_value ∙ ap place_of c.in-At.is)) }
 
 pub returns-in-Nothing : goal.returns-in-Nothing
-returns-in-Nothing c = record { judged = passed_by_lem (sym c.requires.clash_value ∙ ap place_of c.enum_told-1.given.1) c.judge_shapes.ensures; named = c.faults-found.ensures.judged.entered ∙ sym (ap (λ o. names_after o (file_at c.args.file.now) c.args.names.now) (sym c.requires.clash_value ∙ ap place_of c.enum_told-1.given.1)) }
+returns-in-Nothing c = record { judged = passed_by_lem (sym c.requires.clash_value ∙ ap place_of c.in-Nothing.is) c.judge_shapes.ensures; named = c.faults-found.ensures.judged.entered ∙ sym (ap (λ o. names_after o (file_at c.args.file.now) c.args.names.now) (sym c.requires.clash_value ∙ ap place_of c.in-Nothing.is)) }

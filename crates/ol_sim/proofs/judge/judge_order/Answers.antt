@@ -29,7 +29,7 @@ state_size-size-requires c =
 
 pub judge_constants-requires : goal.judge_constants-requires
 judge_constants-requires c =
-    constants_ready c.requires c.orders_of.new.tab c.orders_of.auto.tab (c.orders_of.ensures.orders_done _ _ c.requires.sections.loads.reads.is) c.orders_of.ensures.kept c.enum_told-1.given.1 c.state_size-size.ensures.sized
+    constants_ready c.requires c.orders_of.new.tab c.orders_of.auto.tab (c.orders_of.ensures.orders_done _ _ c.requires.sections.loads.reads.is) c.orders_of.ensures.kept c.in-Nothing.is c.state_size-size.ensures.sized
 
 pub shape_of-tab-in-At : goal.shape_of-tab-in-At
 shape_of-tab-in-At c =
@@ -37,7 +37,7 @@ shape_of-tab-in-At c =
 
 pub returns-in-At : goal.returns-in-At
 returns-in-At c =
-    refused_at c.refuse.ensures (sym (c.orders_of.ensures.orders_done _ _ c.requires.sections.loads.reads.is).found ∙ ap ring_place c.p-1.given.1)
+    refused_at c.refuse.ensures (sym (c.orders_of.ensures.orders_done _ _ c.requires.sections.loads.reads.is).found ∙ ap ring_place c.in-At.is)
 
 pub shape_of-tab-in-Nothing : goal.shape_of-tab-in-Nothing
 shape_of-tab-in-Nothing c =
@@ -45,4 +45,4 @@ shape_of-tab-in-Nothing c =
 
 pub returns-in-Nothing : goal.returns-in-Nothing
 returns-in-Nothing c =
-    passed_by_lem (sym (c.orders_of.ensures.orders_done _ _ c.requires.sections.loads.reads.is).found ∙ ap ring_place c.enum_told-1.given.1) c.judge_constants.ensures
+    passed_by_lem (sym (c.orders_of.ensures.orders_done _ _ c.requires.sections.loads.reads.is).found ∙ ap ring_place c.in-Nothing.is) c.judge_constants.ensures

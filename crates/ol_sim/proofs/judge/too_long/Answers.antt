@@ -6,13 +6,10 @@ use Rattle.ol_tables.proofs.HeadsFile.{bytes_of_lem, file_stands}
 use Rattle.ol_sim.proofs.Steps.{state_long, state_short, some_none}
 use Rattle.ol_sim.proofs.judge.too_long.Goals as goal
 
-pub row-requires : goal.row-requires
-row-requires c = tt
-
 pub returns-then-size-gt32768 : goal.returns-then-size-gt32768
 returns-then-size-gt32768 c =
-    (state_long (bytes_of_lem c.args.file.now (λ i. omega (arith, c.shared_slice_known-1.given i))) c.requires.0 c.requires.1 c.requires.2 c.requires.3 c.if-size-gt32768.true c.row.ensures, λ e. absurd (some_none e))
+    (state_long (bytes_of_lem c.args.file.now (λ i. omega (arith, c.type_inv.file i))) c.requires.0 c.requires.1 c.requires.2 c.requires.3 c.if-size-gt32768.true c.row.ensures, λ e. absurd (some_none e))
 
 pub returns-else-size-gt32768 : goal.returns-else-size-gt32768
 returns-else-size-gt32768 c =
-    (state_short (bytes_of_lem c.args.file.now (λ i. omega (arith, c.shared_slice_known-1.given i))) c.requires.0 c.requires.1 c.requires.2 c.requires.3 c.if-size-gt32768.false, λ e. c.if-size-gt32768.false)
+    (state_short (bytes_of_lem c.args.file.now (λ i. omega (arith, c.type_inv.file i))) c.requires.0 c.requires.1 c.requires.2 c.requires.3 c.if-size-gt32768.false, λ e. c.if-size-gt32768.false)

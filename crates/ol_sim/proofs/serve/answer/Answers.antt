@@ -17,12 +17,12 @@ cycle_unless-requires c =
 
 pub returns-in-Lengths : goal.returns-in-Lengths
 returns-in-Lengths c =
-    measure_serves c.args.file.now c.args.old.now c.args.inputs.now c.args.new.now c.args.values.now c.requires.file_value c.call-1.given.1 c.measure.ensures
+    measure_serves c.args.file.now c.args.old.now c.args.inputs.now c.args.new.now c.args.values.now c.requires.file_value c.in-Lengths.is c.measure.ensures
 
 pub returns-in-Start : goal.returns-in-Start
 returns-in-Start c =
-    start_serves c.args.file.now c.args.old.now c.args.inputs.now c.args.new.now c.args.values.now c.requires.file_value c.enum_told-1.given.1 c.start_unless.ensures
+    start_serves c.args.file.now c.args.old.now c.args.inputs.now c.args.new.now c.args.values.now c.requires.file_value c.in-Start.is c.start_unless.ensures
 
 pub returns-in-Cycle : goal.returns-in-Cycle
 returns-in-Cycle c =
-    cycle_serves c.args.file.now c.args.old.now c.args.inputs.now c.args.new.now c.args.values.now c.requires.file_value c.enum_told-in-Cycle-1.given.1 c.answer_of.ensures c.cycle_unless.ensures
+    cycle_serves c.args.file.now c.args.old.now c.args.inputs.now c.args.new.now c.args.values.now c.requires.file_value c.in-Cycle.is c.answer_of.ensures c.cycle_unless.ensures

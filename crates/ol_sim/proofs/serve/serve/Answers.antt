@@ -9,20 +9,20 @@ use Rattle.ol_sim.proofs.serve.serve.Goals as goal
 
 pub slice_bounds-starts-end : goal.slice_bounds-starts-end
 slice_bounds-starts-end c =
-    (omega (arith, few_places c.args.file.now c.load_file.ensures.read c.enums-1.given.1 (file_stands (bytes_of_lem c.args.file.now (λ i. omega (arith, c.shared_slice_known-1.given i))) (file_reads c.args.file.now c.load_file.ensures.read c.enums-1.given.1)), c.load_file.auto.starts))
+    (omega (arith, few_places c.args.file.now c.load_file.ensures.read c.in-Nodes.is (file_stands (bytes_of_lem c.args.file.now (λ i. omega (arith, c.type_inv.file i))) (file_reads c.args.file.now c.load_file.ensures.read c.in-Nodes.is)), c.load_file.auto.starts))
 
 pub slice_bounds-places-end : goal.slice_bounds-places-end
 slice_bounds-places-end c =
-    sym (length-take-le _ _ (omega (arith, few_places c.args.file.now c.load_file.ensures.read c.enums-1.given.1 (file_stands (bytes_of_lem c.args.file.now (λ i. omega (arith, c.shared_slice_known-1.given i))) (file_reads c.args.file.now c.load_file.ensures.read c.enums-1.given.1)), c.load_file.auto.starts)))
+    sym (length-take-le _ _ (omega (arith, few_places c.args.file.now c.load_file.ensures.read c.in-Nodes.is (file_stands (bytes_of_lem c.args.file.now (λ i. omega (arith, c.type_inv.file i))) (file_reads c.args.file.now c.load_file.ensures.read c.in-Nodes.is)), c.load_file.auto.starts)))
 
 pub serve_small-requires : goal.serve_small-requires
 serve_small-requires c =
-    ((loads c.args.file.now c.load_file.ensures.read c.enums-1.given.1 (file_stands (bytes_of_lem c.args.file.now (λ i. omega (arith, c.shared_slice_known-1.given i))) (file_reads c.args.file.now c.load_file.ensures.read c.enums-1.given.1)) c.load_file.ensures.places), c.if-file-le1024.true)
+    ((loads c.args.file.now c.load_file.ensures.read c.in-Nodes.is (file_stands (bytes_of_lem c.args.file.now (λ i. omega (arith, c.type_inv.file i))) (file_reads c.args.file.now c.load_file.ensures.read c.in-Nodes.is)) c.load_file.ensures.places), c.if-file-le1024.true)
 
 pub serve_large-requires : goal.serve_large-requires
 serve_large-requires c =
-    (loads c.args.file.now c.load_file.ensures.read c.enums-1.given.1 (file_stands (bytes_of_lem c.args.file.now (λ i. omega (arith, c.shared_slice_known-1.given i))) (file_reads c.args.file.now c.load_file.ensures.read c.enums-1.given.1)) c.load_file.ensures.places)
+    (loads c.args.file.now c.load_file.ensures.read c.in-Nodes.is (file_stands (bytes_of_lem c.args.file.now (λ i. omega (arith, c.type_inv.file i))) (file_reads c.args.file.now c.load_file.ensures.read c.in-Nodes.is)) c.load_file.ensures.places)
 
 pub returns-in-Refused : goal.returns-in-Refused
 returns-in-Refused c =
-    refused_serves c.args.file.now c.args.old.now c.args.inputs.now c.args.new.now c.args.values.now (judge_refused c.args.file.now c.load_file.ensures.read c.f-1.given.1) c.args.call
+    refused_serves c.args.file.now c.args.old.now c.args.inputs.now c.args.new.now c.args.values.now (judge_refused c.args.file.now c.load_file.ensures.read c.in-Refused.is) c.args.call

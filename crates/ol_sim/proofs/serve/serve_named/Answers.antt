@@ -12,11 +12,11 @@ judge_names-requires c =
     c.requires
 
 pub answer-requires : goal.answer-requires
-answer-requires c = record { answer_ready = (answer_ready (admits_of c.requires.names_ready.sections.loads.reads c.judge_names.ensures.judged c.size-1.given.1) (running (admits_of c.requires.names_ready.sections.loads.reads c.judge_names.ensures.judged c.size-1.given.1).tables _ (bytes_of_lem c.args.file.now (λ i. omega (arith, c.shared_slice_known-1.given i))) (consts_many (admits_of c.requires.names_ready.sections.loads.reads c.judge_names.ensures.judged c.size-1.given.1))), names_tell c.requires.names_ready.sections.rowed.stands c.requires.names_ready.empty (admits_of c.requires.names_ready.sections.loads.reads c.judge_names.ensures.judged c.size-1.given.1).tables.ordered.sound.no6 c.judge_names.ensures.named); file_value = judged_whole c.requires.names_ready.sections.loads.reads c.judge_names.ensures.judged c.size-1.given.1 }
+answer-requires c = record { answer_ready = (answer_ready (admits_of c.requires.names_ready.sections.loads.reads c.judge_names.ensures.judged c.in-Admitted.is) (running (admits_of c.requires.names_ready.sections.loads.reads c.judge_names.ensures.judged c.in-Admitted.is).tables _ (bytes_of_lem c.args.file.now (λ i. omega (arith, c.type_inv.file i))) (consts_many (admits_of c.requires.names_ready.sections.loads.reads c.judge_names.ensures.judged c.in-Admitted.is))), names_tell c.requires.names_ready.sections.rowed.stands c.requires.names_ready.empty (admits_of c.requires.names_ready.sections.loads.reads c.judge_names.ensures.judged c.in-Admitted.is).tables.ordered.sound.no6 c.judge_names.ensures.named); file_value = judged_whole c.requires.names_ready.sections.loads.reads c.judge_names.ensures.judged c.in-Admitted.is }
 
 pub returns-in-Refused : goal.returns-in-Refused
 returns-in-Refused c =
-    refused_serves c.args.file.now c.args.old.now c.args.inputs.now c.args.new.now c.args.values.now (judged_refused c.requires.names_ready.sections.loads.reads c.judge_names.ensures.judged c.f-1.given.1) c.args.call
+    refused_serves c.args.file.now c.args.old.now c.args.inputs.now c.args.new.now c.args.values.now (judged_refused c.requires.names_ready.sections.loads.reads c.judge_names.ensures.judged c.in-Refused.is) c.args.call
 
 pub returns-in-Admitted : goal.returns-in-Admitted
 returns-in-Admitted c = c.answer.ensures

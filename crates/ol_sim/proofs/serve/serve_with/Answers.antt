@@ -41,33 +41,33 @@ slice_bounds-sort_file-count c = omega arith
 
 pub slice_bounds-sort_file-start : goal.slice_bounds-sort_file-start
 slice_bounds-sort_file-start c =
-    omega (arith, c.requires.wide, typed_long c.rows_of_lem.new.1.1.1.0 c.requires c.rows_of_lem.ensures c.rows_of_lem.auto.1.1.1.0)
+    omega (arith, c.requires.wide, typed_long c.rows_of-sections.new.tab c.requires c.rows_of-sections.ensures c.rows_of-sections.auto.tab)
 
 pub slice_bounds-sort_file-end : goal.slice_bounds-sort_file-end
 slice_bounds-sort_file-end c =
-    omega (arith, c.requires.wide, typed_long c.rows_of_lem.new.1.1.1.0 c.requires c.rows_of_lem.ensures c.rows_of_lem.auto.1.1.1.0)
+    omega (arith, c.requires.wide, typed_long c.rows_of-sections.new.tab c.requires c.rows_of-sections.ensures c.rows_of-sections.auto.tab)
 
 pub sort_file-s-requires : goal.sort_file-s-requires
 sort_file-s-requires c =
-    declared_ready (rowed_done c.requires c.rows_of_lem.ensures c.rows_of_lem.auto.1.1.0)
+    declared_ready (rowed_done c.requires c.rows_of-sections.ensures c.rows_of-sections.auto.rows)
 
 pub serve_low-requires : goal.serve_low-requires
-serve_low-requires c = record { sections_ready = ((sorted_ready c.rows_of_lem.new.1.1.1.0 c.requires c.rows_of_lem.ensures c.rows_of_lem.auto.1.1.1.0 c.rows_of_lem.auto.1.1.0 c.sort_file-s.new.sorts c.sort_file-s.auto.sorts), λ e. (names_below 1024 c.sort_file-s.ensures c.if-s-lt1024.true)); clash_value = c.sort_file-s.ensures.finds (blank_slots c.rows_of_lem.new.1.1.1.0 c.requires c.rows_of_lem.ensures c.rows_of_lem.auto.1.1.1.0 (names_below 1024 c.sort_file-s.ensures c.if-s-lt1024.true)) }
+serve_low-requires c = record { sections_ready = ((sorted_ready c.rows_of-sections.new.tab c.requires c.rows_of-sections.ensures c.rows_of-sections.auto.tab c.rows_of-sections.auto.rows c.sort_file-s.new.sorts c.sort_file-s.auto.sorts), λ e. (names_below 1024 c.sort_file-s.ensures c.if-s-lt1024.true)); clash_value = c.sort_file-s.ensures.finds (blank_slots c.rows_of-sections.new.tab c.requires c.rows_of-sections.ensures c.rows_of-sections.auto.tab (names_below 1024 c.sort_file-s.ensures c.if-s-lt1024.true)) }
 
 pub serve_middle-requires : goal.serve_middle-requires
 serve_middle-requires c =
-    ((sorted_ready c.rows_of_lem.new.1.1.1.0 c.requires c.rows_of_lem.ensures c.rows_of_lem.auto.1.1.1.0 c.rows_of_lem.auto.1.1.0 c.sort_file-s.new.sorts c.sort_file-s.auto.sorts), names_below 8192 c.sort_file-s.ensures c.if-s-lt8192.true)
+    ((sorted_ready c.rows_of-sections.new.tab c.requires c.rows_of-sections.ensures c.rows_of-sections.auto.tab c.rows_of-sections.auto.rows c.sort_file-s.new.sorts c.sort_file-s.auto.sorts), names_below 8192 c.sort_file-s.ensures c.if-s-lt8192.true)
 
 pub serve_high-requires : goal.serve_high-requires
 serve_high-requires c =
-    (sorted_ready c.rows_of_lem.new.1.1.1.0 c.requires c.rows_of_lem.ensures c.rows_of_lem.auto.1.1.1.0 c.rows_of_lem.auto.1.1.0 c.sort_file-s.new.sorts c.sort_file-s.auto.sorts)
+    (sorted_ready c.rows_of-sections.new.tab c.requires c.rows_of-sections.ensures c.rows_of-sections.auto.tab c.rows_of-sections.auto.rows c.sort_file-s.new.sorts c.sort_file-s.auto.sorts)
 
 pub shape_of-rows-then-s-lt1024 : goal.shape_of-rows-then-s-lt1024
-shape_of-rows-then-s-lt1024 c = c.serve_low.auto.rows ∙ c.rows_of_lem.auto.1.1.0
+shape_of-rows-then-s-lt1024 c = c.serve_low.auto.rows ∙ c.rows_of-sections.auto.rows
 
 pub shape_of-tab-then-s-lt1024 : goal.shape_of-tab-then-s-lt1024
 shape_of-tab-then-s-lt1024 c =
-    c.serve_low.auto.tab ∙ (sorted_long c.rows_of_lem.new.1.1.1.0 c.requires c.rows_of_lem.ensures c.rows_of_lem.auto.1.1.1.0 c.rows_of_lem.auto.1.1.0 c.sort_file-s.new.sorts c.sort_file-s.auto.sorts)
+    c.serve_low.auto.tab ∙ (sorted_long c.rows_of-sections.new.tab c.requires c.rows_of-sections.ensures c.rows_of-sections.auto.tab c.rows_of-sections.auto.rows c.sort_file-s.new.sorts c.sort_file-s.auto.sorts)
 
 pub shape_of-new-then-s-lt1024 : goal.shape_of-new-then-s-lt1024
 shape_of-new-then-s-lt1024 c = c.serve_low.auto.new
@@ -79,11 +79,11 @@ pub returns-then-s-lt1024 : goal.returns-then-s-lt1024
 returns-then-s-lt1024 c = c.serve_low.ensures
 
 pub shape_of-rows-then-s-lt8192 : goal.shape_of-rows-then-s-lt8192
-shape_of-rows-then-s-lt8192 c = c.serve_middle.auto.rows ∙ c.rows_of_lem.auto.1.1.0
+shape_of-rows-then-s-lt8192 c = c.serve_middle.auto.rows ∙ c.rows_of-sections.auto.rows
 
 pub shape_of-tab-then-s-lt8192 : goal.shape_of-tab-then-s-lt8192
 shape_of-tab-then-s-lt8192 c =
-    c.serve_middle.auto.tab ∙ (sorted_long c.rows_of_lem.new.1.1.1.0 c.requires c.rows_of_lem.ensures c.rows_of_lem.auto.1.1.1.0 c.rows_of_lem.auto.1.1.0 c.sort_file-s.new.sorts c.sort_file-s.auto.sorts)
+    c.serve_middle.auto.tab ∙ (sorted_long c.rows_of-sections.new.tab c.requires c.rows_of-sections.ensures c.rows_of-sections.auto.tab c.rows_of-sections.auto.rows c.sort_file-s.new.sorts c.sort_file-s.auto.sorts)
 
 pub shape_of-new-then-s-lt8192 : goal.shape_of-new-then-s-lt8192
 shape_of-new-then-s-lt8192 c = c.serve_middle.auto.new
@@ -95,11 +95,11 @@ pub returns-then-s-lt8192 : goal.returns-then-s-lt8192
 returns-then-s-lt8192 c = c.serve_middle.ensures
 
 pub shape_of-rows-else-s-lt8192 : goal.shape_of-rows-else-s-lt8192
-shape_of-rows-else-s-lt8192 c = c.serve_high.auto.rows ∙ c.rows_of_lem.auto.1.1.0
+shape_of-rows-else-s-lt8192 c = c.serve_high.auto.rows ∙ c.rows_of-sections.auto.rows
 
 pub shape_of-tab-else-s-lt8192 : goal.shape_of-tab-else-s-lt8192
 shape_of-tab-else-s-lt8192 c =
-    c.serve_high.auto.tab ∙ (sorted_long c.rows_of_lem.new.1.1.1.0 c.requires c.rows_of_lem.ensures c.rows_of_lem.auto.1.1.1.0 c.rows_of_lem.auto.1.1.0 c.sort_file-s.new.sorts c.sort_file-s.auto.sorts)
+    c.serve_high.auto.tab ∙ (sorted_long c.rows_of-sections.new.tab c.requires c.rows_of-sections.ensures c.rows_of-sections.auto.tab c.rows_of-sections.auto.rows c.sort_file-s.new.sorts c.sort_file-s.auto.sorts)
 
 pub shape_of-new-else-s-lt8192 : goal.shape_of-new-else-s-lt8192
 shape_of-new-else-s-lt8192 c = c.serve_high.auto.new

@@ -9,9 +9,6 @@ use Rattle.ol_sim.proofs.Starts.{consts_fit, front_long, begun_long, rest_sited,
 use borrow.Author.Rules.{rules}
 use Rattle.ol_sim.proofs.starting.write_start.Goals as goal
 
-pub byte-n-requires : goal.byte-n-requires
-byte-n-requires c = tt
-
 pub overflow_mul-n : goal.overflow_mul-n
 overflow_mul-n c = omega (arith, c.byte-n.ensures.small)
 
@@ -37,9 +34,6 @@ slice_bounds-copy-end-2 c =
 pub slice_bounds-copy-end-3 : goal.slice_bounds-copy-end-3
 slice_bounds-copy-end-3 c =
     sym (front_long c.requires (9 * c.byte-n.result) (known_head c.args.tab.now c.byte-n.ensures.is c.byte-n.ensures.small (known_room c.args.tab.now c.requires.known.tabled)))
-
-pub copy-requires : goal.copy-requires
-copy-requires c = tt
 
 pub slice_bounds-write_fresh-count : goal.slice_bounds-write_fresh-count
 slice_bounds-write_fresh-count c =
