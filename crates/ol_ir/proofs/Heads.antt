@@ -1,5 +1,5 @@
 -- An expression is its head, then its parts: what is read, by places, and how many parts there can be.
-use Prim.Native.Nat.{ℕ, zero, suc, ◌+◌, ◌*◌, ◌≤◌, ◌<◌}
+use Prim.Native.Nat.{ℕ, suc, ◌+◌, ◌*◌, ◌≤◌, ◌<◌}
 use mathlib.Core.Bool.{Bool, true, false, ◌&&◌}
 use mathlib.Core.List.{List}
 use mathlib.Core.Option.{some}
@@ -28,15 +28,6 @@ never_on : (x : Next) (f : Fault) (k : ℕ → Next) → onward (onward x (λ p.
 unfolding onward
 never_on (Nxt.At p) f k = refl
 never_on (Nxt.Refused g) f k = refl
-
--- none of the numbers below k, as a match's last arm has it
-abbrev Others : ℕ → ℕ → Type 0
-Others zero b = Unit {0}
-Others (suc k) b = Others k b × (b ≡ k → ⊥)
-
-pub others : (k b : ℕ) → Others k b → k ≤ b
-others zero b h = omega arith
-others (suc k) b h = let i = others k b h.0 in let j = h.1 in omega arith
 
 -- ---- the head, by its first byte
 

@@ -19,7 +19,6 @@ use Rattle.ol_ir.specs.Nodes.{interface_r}
 use Rattle.ol_ir.specs.Walks.{place_of, on_places, places_of}
 use Rattle.ol_ir.specs.declared.Next.{Next}
 use Rattle.ol_ir.specs.declared.Next.TheVariants as Nxt
-use Rattle.ol_ir.specs.declared.Counted.{Counted}
 use Rattle.ol_ir.specs.declared.Counted.TheVariants as Cnt
 use Rattle.ol_ir.proofs.Bytes.{counted_is}
 use Rattle.ol_ir.proofs.Sizes.{Takes, takes_count, takes_coded, takes_section, takes_names, takes_variable, takes_equation}

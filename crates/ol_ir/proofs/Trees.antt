@@ -11,7 +11,7 @@ use Rattle.ol_spec.specs.Syntax.{Expr, bool_lit, int_lit, float_lit, char_lit, v
 use Rattle.ol_spec.specs.Syntax.{cons, count}
 use Rattle.ol_spec.specs.Numbers.{signed}
 use Rattle.ol_spec.specs.Places.{ty_size, expr_size}
-use Rattle.ol_spec.specs.Read.{Read, got, fault, Reader, then_read, give, many, many_exprs, byte, number, name_r, coded, count_r, ty_r, expr_codes}
+use Rattle.ol_spec.specs.Read.{Read, got, fault, Reader, then_read, give, many_exprs, byte, number, name_r, coded, count_r, ty_r, expr_codes}
 use Rattle.ol_spec.specs.Read.{ExprCode, expr_body, expr_r, bool_code, int_code, float_code, char_code, var_code, unary_code, binary_code, if_code, pre_code}
 use Rattle.ol_spec.specs.Read.{arrow_code, cast_code, call_code, tuple_code, bools, unary_ops, bin_ops}
 use Rattle.ol_spec.specs.declared.Limits.{Limits}

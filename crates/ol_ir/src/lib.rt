@@ -1,5 +1,6 @@
 // The file form of document 01, read where it stands: every item by the offset at which it starts, and no tree is built.
 #![tactic(auto)]
+
 use ol_spec::Fault;
 
 pub mod read; // read.rt: bytes, codes and counts

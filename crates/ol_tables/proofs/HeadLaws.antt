@@ -1,26 +1,24 @@
 -- The law of heads: a list of expressions that stands in a file is the head of its first, and behind that the list of its parts and the others.
-use Prim.Native.Nat.{ℕ, zero, suc, ◌+◌, ◌*◌, ◌/◌, ◌%◌, ◌^◌, ◌<◌, ◌≤◌}
-use mathlib.Core.Bool.{Bool, true, false, ◌&&◌, cond}
+use Prim.Native.Nat.{ℕ, ◌+◌, ◌/◌, ◌%◌, ◌^◌, ◌<◌, ◌≤◌}
+use mathlib.Core.Bool.{true, false, ◌&&◌}
 use mathlib.Core.List.{List, [], ◌∷◌, ◌++◌, append_assoc, append-nil}
 use mathlib.Core.Path.{◌≡◌, refl, sym, ap, subst, ◌∙◌}
 use native.Mathlib.Omega.{arith}
-use lib.ListN.{length, get_or, drop, get_or-append, length-append}
+use lib.ListN.{length, get_or, get_or-append}
 use lib.Seq.{get_or-drop}
-use lib.Dec.{T, ltb, eqb, leb, leb→le, ltb→lt}
-use borrow.Author.Tests.{ne_eqb, le-ltb, lt-ltb}
+use lib.Dec.{T, eqb, leb, leb→le, ltb→lt}
+use borrow.Author.Tests.{ne_eqb, lt-ltb}
 use Rattle.ol_spec.specs.Syntax.{Ty, bool, int, float32, float64, char, enum, Expr, bool_lit, int_lit, float_lit, char_lit, var, unary, binary, if_then_else}
 use Rattle.ol_spec.specs.Syntax.{pre, arrow, cast, call, tuple, Exprs, nil, cons, count}
-use Rattle.ol_spec.specs.Places.{ty_size, expr_size, exprs_size, collect, collect_all}
+use Rattle.ol_spec.specs.Places.{expr_size, exprs_size, collect, collect_all}
 use Rattle.ol_spec.specs.Numbers.{bytes_of, residue}
 use Rattle.ol_spec.specs.Encode.{bool_byte, unary_op_code, bin_op_code, ty_bytes, name_bytes, expr_bytes, exprs_bytes}
 use Rattle.ol_spec.specs.Limits.{base}
 use Rattle.ol_spec.specs.Within.{ty_fits, expr_fits, exprs_fit, name_fits, byte_fits, count_fits}
 use Rattle.ol_spec.proofs.Tests.{T_and, and_t}
-use Rattle.ol_spec.proofs.Cells.{length_bytes}
 use Rattle.ol_spec.proofs.RoundTrip.Parts.{Here, here_front, here_back, here_inside}
 use Rattle.ol_spec.proofs.RoundTrip.Items.{ty_size_lem}
-use Rattle.ol_tables.specs.Tables.{ty_code, ty_enum}
-use Rattle.ol_tables.specs.Heads.{parts_of, head_size, joined, name_at, ty_size_at, ty_enum_at, parts_table, sizes_table, parts_at, next_at, TyIs, HeadIs, Standing}
+use Rattle.ol_tables.specs.Heads.{parts_of, head_size, joined, name_at, parts_at, next_at, TyIs, HeadIs, Standing}
 
 -- ---- bytes that stand there
 

@@ -6,12 +6,12 @@ use mathlib.Core.Path.{◌≡◌, refl, sym, ap, subst, ◌∙◌}
 use native.Mathlib.Omega.{arith}
 use lib.ListN.{length, get_or, get_or-eq_default}
 use lib.Dec.{T, ltb, leb, eqb, leb→le}
-use borrow.Author.Tests.{lt-ltb, le-ltb, eq-eqb, ne_eqb, ltb-true}
+use borrow.Author.Tests.{lt-ltb, le-ltb, ne_eqb, ltb-true}
 use Rattle.ol_spec.specs.Lists.{all_of}
 use Rattle.ol_spec.proofs.Tests.{T_and}
 use Rattle.ol_spec.specs.Syntax.{Expr, Exprs, nil, cons, count}
 use Rattle.ol_spec.specs.Places.{exprs_size}
-use Rattle.ol_tables.specs.Heads.{parts_table, sizes_table, ty_size_at, parts_at, next_at, parts_of, head_size, joined, HeadIs, Standing}
+use Rattle.ol_tables.specs.Heads.{parts_table, sizes_table, ty_size_at, next_at, parts_of, head_size, joined, Standing}
 use Rattle.ol_tables.proofs.HeadLaws.{Headed, headed, parts_told, next_told, joined_count, head_ends}
 use Rattle.ol_tables.specs.Heads.{Byte}
 use Rattle.ol_tables.specs.Walks.{HeadOf}

@@ -1,5 +1,5 @@
 -- An expression as its head, the bytes up to its parts, and its parts, which stand directly behind it: so a list of expressions is read head by head, with no tree.
-use Rattle.std.specs.Prelude.{ℕ, ◌+◌, ◌*◌, ◌<◌, Bool, cond, List, [], ◌∷◌, ◌≡◌, length, get_or, T, ltb, eqb}
+use Rattle.std.specs.Prelude.{ℕ, ◌+◌, ◌*◌, ◌<◌, cond, List, [], ◌∷◌, ◌≡◌, length, get_or, T, ltb, eqb}
 use Rattle.ol_spec.specs.Syntax.{Ty, Expr, bool_lit, int_lit, float_lit, char_lit, var, unary, binary, if_then_else, pre, arrow, cast, call, tuple, Exprs, nil, cons}
 use Rattle.ol_spec.specs.Syntax.{count}
 use Rattle.ol_spec.specs.Places.{ty_size}

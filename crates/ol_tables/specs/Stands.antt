@@ -1,5 +1,5 @@
 -- Where the items of a file stand, told by its bytes: counts, names, types, and behind them the items, each a list that starts at an offset.
-use Rattle.std.specs.Prelude.{ℕ, ◌+◌, ◌*◌, ◌≤◌, ◌<◌, Bool, List, map, ◌≡◌, length, get_or, T}
+use Rattle.std.specs.Prelude.{ℕ, ◌+◌, ◌≤◌, ◌<◌, Bool, List, map, ◌≡◌, length, get_or, T}
 use Rattle.ol_spec.specs.Lists.{sum, concat, all_of}
 use Rattle.ol_spec.specs.Syntax.{Variable, Equation, Node, Constant, File, nil, cons}
 use Rattle.ol_spec.specs.Places.{section_size, enum_size, constant_size, constants_start, nodes_start, outputs_start, locals_start, equations_start, rhs_place}

@@ -1,5 +1,5 @@
 -- The table of a file, as bytes (src/table.rt): its parts. What they say of the file is in Tables, of `rows`, `tab` and the constants' cells.
-use Rattle.std.specs.Prelude.{ℕ, ◌+◌, ◌*◌, ◌/◌, ◌%◌, ◌<◌, ◌≤◌, List, map, ◌≡◌, length, take, drop, get_or, set}
+use Rattle.std.specs.Prelude.{ℕ, ◌+◌, ◌*◌, ◌/◌, ◌%◌, ◌<◌, ◌≤◌, List, map, ◌≡◌, take, drop, get_or, set}
 use Rattle.ol_theory.specs.Member.{upto}
 use Rattle.ol_tables.specs.Tables.{plans_from, start_at}
 

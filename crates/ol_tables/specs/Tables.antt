@@ -1,9 +1,9 @@
 -- The tables that every public call builds of a file that reads without fault: what each entry is, in terms of the file's tree.
 -- `rows` has eight numbers for each of 32 nodes, then one for each of 16 enums. `tab` has bytes: the nodes' evaluation orders (80 entries for each of 32 nodes), where each of 32 nodes starts (two bytes),
 -- for each place of the file the slot of the name that stands there: a Var's, or one that an equation defines; and, in as many bytes as the slots, the plans of the nodes, each of which begins with the types of its node's variables (two bytes each).
-use Rattle.std.specs.Prelude.{ℕ, ◌+◌, ◌-◌, ◌*◌, ◌/◌, ◌%◌, ◌<◌, ◌≤◌, min, Bool, false, List, [], ◌∷◌, map, ◌≡◌, eqb, length, take, drop, get_or, set}
+use Rattle.std.specs.Prelude.{ℕ, ◌+◌, ◌-◌, ◌*◌, ◌/◌, ◌%◌, ◌<◌, ◌≤◌, min, false, List, [], ◌∷◌, map, ◌≡◌, eqb, length, take, drop, get_or, set}
 use Rattle.std.proofs.Math.Option.{Option, none, some}
-use Rattle.ol_spec.specs.Lists.{concat, maybe, position, member}
+use Rattle.ol_spec.specs.Lists.{concat, position, member}
 use Rattle.ol_spec.specs.Syntax.{Ty, bool, int, float32, float64, char, enum, Expr, bool_lit, Constant, Node, File, no_node, variables, variable_names, type_of}
 use Rattle.ol_spec.specs.Places.{placed_constants, placed_nodes, placed_equations, placed_names, equations_start, rhs_place, collect}
 use Rattle.ol_spec.specs.Encode.{kind_code}

@@ -1,5 +1,6 @@
 // The reader of ol_ir alone, for bench/read and bench/run to time.
 #![tactic(auto)]
+
 ghost use Rattle.std.specs.Prelude.{◌≡◌};
 ghost use Rattle.ol_spec.specs.Limits.{relay_loader};
 ghost use Rattle.ol_spec.specs.Read.{read_file};

@@ -1,6 +1,5 @@
-use mathlib.Core.Path.{◌≡◌, refl, sym, ap, ◌∙◌}
+use mathlib.Core.Path.{sym, ap}
 use Rattle.read_bench.specs.Digests.{loaded_digest}
-use borrow.Author.Rules.{rules}
 use Rattle.read_bench.proofs.digest.Goals as goal
 
 pub returns-in-Refused : goal.returns-in-Refused

@@ -3,7 +3,6 @@ use Rattle.ol_spec.specs.Limits.{relay_loader}
 use Rattle.ol_spec.specs.Read.{read_file}
 use Rattle.read_bench.specs.Digests.{loaded_digest}
 use Rattle.read_bench.proofs.Digests.{digest_read}
-use borrow.Author.Rules.{rules}
 use Rattle.read_bench.proofs.ol_read_bench.Goals as goal
 
 pub returns : goal.returns

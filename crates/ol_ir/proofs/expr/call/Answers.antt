@@ -1,5 +1,4 @@
 -- `ol_ir::expr::call` meets its contract.
-use borrow.Author.Rules.{rules}
 use Rattle.ol_ir.proofs.Heads.{call_count, call_refused}
 use Rattle.ol_ir.proofs.expr.call.Goals as goal
 

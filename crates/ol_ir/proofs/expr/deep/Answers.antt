@@ -1,6 +1,5 @@
 -- `ol_ir::expr::deep` meets its contract.
 use mathlib.Core.Path.{◌∙◌, refl}
-use borrow.Author.Rules.{rules}
 use Rattle.ol_spec.specs.Lists.{up_to}
 use Rattle.ol_spec.specs.Read.{expr_codes}
 use Rattle.ol_ir.proofs.Forms.{code_next}

@@ -2,14 +2,13 @@
 use Prim.Native.Nat.{◌+◌}
 use native.Mathlib.Omega.{arith}
 use mathlib.Core.Path.{◌∙◌, sym, ap, refl}
-use borrow.Author.Rules.{rules}
 use Rattle.ol_spec.specs.Lists.{up_to}
 use Rattle.ol_spec.specs.Read.{byte, number, coded, count_r, ty_r, bools, unary_ops, bin_ops, bool_code, int_code, float_code, char_code, var_code, unary_code}
 use Rattle.ol_spec.specs.Read.{binary_code, if_code, pre_code, arrow_code, cast_code, call_code, tuple_code}
 use Rattle.ol_ir.specs.Nexts.{counted_of}
 use Rattle.ol_ir.specs.Heads.{call_head}
 use Rattle.ol_ir.proofs.Forms.{code_next}
-use Rattle.ol_ir.proofs.Heads.{one_byte, others, head_is, head_parts, head_byte, head_none, head_end}
+use Rattle.ol_ir.proofs.Heads.{one_byte, head_is, head_parts, head_byte, head_none, head_end}
 use Rattle.ol_ir.proofs.expr.head.Goals as goal
 
 pub returns-in-0 : goal.returns-in-0

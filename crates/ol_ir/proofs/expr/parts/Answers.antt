@@ -1,6 +1,5 @@
 -- `ol_ir::expr::parts` meets its contract.
 use mathlib.Core.Path.{sym, ap}
-use borrow.Author.Rules.{rules}
 use Rattle.ol_ir.specs.Nexts.{parts_of}
 use Rattle.ol_ir.proofs.expr.parts.Goals as goal
 

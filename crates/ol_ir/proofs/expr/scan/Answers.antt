@@ -2,7 +2,6 @@
 use Prim.Native.Nat.{ℕ, ◌+◌}
 use mathlib.Core.Path.{◌≡◌, ap, ◌∙◌}
 use native.Mathlib.Omega.{arith}
-use borrow.Author.Rules.{rules}
 use Rattle.ol_tables.specs.Heads.{parts_at}
 use Rattle.ol_ir.specs.declared.Scan.TheVariants as Scn
 use Rattle.ol_ir.proofs.Scans.{scans_name, scans_pre, scans_parts, scans_end}

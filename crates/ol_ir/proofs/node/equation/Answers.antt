@@ -1,6 +1,5 @@
 -- `ol_ir::node::equation` meets its contract.
 use mathlib.Core.Path.{◌∙◌, ap, sym}
-use borrow.Author.Rules.{rules}
 use Rattle.ol_spec.specs.Read.{name_r, section_r}
 use Rattle.ol_ir.specs.Nexts.{next_of}
 use Rattle.ol_ir.proofs.Forms.{equation_chain, root_next}

@@ -1,11 +1,6 @@
 -- `ol_ir::node::equation_places` meets its contract.
-use Prim.Native.Nat.{◌+◌}
-use mathlib.Core.Path.{◌≡◌, refl, ◌∙◌}
+use mathlib.Core.Path.{refl, ◌∙◌}
 use native.Mathlib.Omega.{arith}
-use lib.ListN.{length}
-use lib.Seq.{sets}
-use borrow.Author.Rules.{rules}
-use Rattle.ol_ir.specs.Walks.{equation_places}
 use Rattle.ol_ir.proofs.Skips.{places_turn, places_end}
 use Rattle.ol_ir.proofs.node.equation_places.Goals as goal
 

@@ -1,6 +1,5 @@
 -- `ol_ir::node::equation_section` meets its contract.
 use mathlib.Core.Path.{refl}
-use borrow.Author.Rules.{rules}
 use Rattle.ol_spec.specs.Read.{equation_r}
 use Rattle.ol_ir.proofs.Forms.{section_chain}
 use Rattle.ol_ir.proofs.Onward.{items, no_items}

@@ -1,7 +1,6 @@
 -- `ol_ir::node::equation_starts` meets its contract.
 use mathlib.Core.Path.{sym, ap, ◌∙◌}
 use lib.Seq.{sets}
-use borrow.Author.Rules.{rules}
 use Rattle.ol_ir.proofs.Skips.{starts_counted, starts_placed, starts_uncounted, front_refused, front_placed}
 use Rattle.ol_ir.proofs.node.equation_starts.Goals as goal
 
@@ -11,7 +10,7 @@ shape_of-starts c = c.equation_places.auto.starts
 pub returns-in-Items : goal.returns-in-Items
 returns-in-Items c =
     let there = starts_counted c.args.file.now c.args.limits c.args.enums c.args.at c.interface.ensures c.in-At.is c.count.ensures in
- record { many = sym c.in-Items.is ∙ there; places = c.equation_places.ensures ∙ ap (sets c.args.starts.now 0) (starts_placed c.args.file.now c.args.limits c.args.enums c.args.at c.interface.ensures c.in-At.is c.count.ensures c.in-Items.is) }
+    record { many = sym c.in-Items.is ∙ there; places = c.equation_places.ensures ∙ ap (sets c.args.starts.now 0) (starts_placed c.args.file.now c.args.limits c.args.enums c.args.at c.interface.ensures c.in-At.is c.count.ensures c.in-Items.is) }
 
 pub returns-in-Refused-count : goal.returns-in-Refused-count
 returns-in-Refused-count c = record { many = sym c.in-Refused-count.is ∙ starts_counted c.args.file.now c.args.limits c.args.enums c.args.at c.interface.ensures c.in-At.is c.count.ensures; places = ap (sets c.args.starts.now 0) (starts_uncounted c.args.file.now c.args.limits c.args.enums c.args.at c.interface.ensures c.in-At.is c.count.ensures c.in-Refused-count.is) }

@@ -1,11 +1,9 @@
 -- `ol_ir::node::equations` meets its contract. The invariant: what is left to read answers what all of it answers.
 use mathlib.Core.Path.{◌≡◌}
-use native.Mathlib.Omega.{arith}
-use borrow.Author.Rules.{rules}
 use Rattle.ol_spec.specs.Read.{many, equation_r}
 use Rattle.ol_spec.specs.declared.Limits.{Limits}
 use Rattle.ol_ir.specs.Nexts.{next_of}
-use Rattle.ol_ir.proofs.Onward.{Turns, many_next, turn, turn_halt, turns_end}
+use Rattle.ol_ir.proofs.Onward.{Turns}
 use Rattle.ol_ir.proofs.node.equations.Given as goal
 
 abbrev pub invariant-loop-left : goal.invariant-loop-left

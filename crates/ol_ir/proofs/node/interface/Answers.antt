@@ -1,6 +1,5 @@
 -- `ol_ir::node::interface` meets its contract.
 use mathlib.Core.Path.{◌∙◌, refl}
-use borrow.Author.Rules.{rules}
 use Rattle.ol_spec.specs.Lists.{up_to}
 use Rattle.ol_spec.specs.Read.{node_kinds}
 use Rattle.ol_ir.proofs.Forms.{interface_chain, code_next}

@@ -1,7 +1,6 @@
 -- `ol_ir::node::names` meets its contract.
 use mathlib.Core.Path.{◌∙◌, sym}
 use native.Mathlib.Omega.{arith}
-use borrow.Author.Rules.{rules}
 use Rattle.ol_spec.specs.Read.{name_r}
 use Rattle.ol_ir.proofs.Bytes.{counted_is}
 use Rattle.ol_ir.proofs.Forms.{section_chain, names_next}

@@ -1,5 +1,4 @@
 -- `ol_ir::node::node` meets its contract.
-use borrow.Author.Rules.{rules}
 use Rattle.ol_ir.proofs.Forms.{node_chain}
 use Rattle.ol_ir.proofs.Onward.{arrive, halt}
 use Rattle.ol_ir.proofs.node.node.Goals as goal

@@ -1,5 +1,4 @@
 -- `ol_ir::node::variable` meets its contract.
-use borrow.Author.Rules.{rules}
 use Rattle.ol_ir.proofs.Onward.{arrive, halt}
 use Rattle.ol_ir.proofs.Forms.{variable_chain}
 use Rattle.ol_ir.proofs.node.variable.Goals as goal

@@ -1,5 +1,4 @@
 -- `ol_ir::node::variable_section` meets its contract.
-use borrow.Author.Rules.{rules}
 use Rattle.ol_spec.specs.Read.{variable_r}
 use Rattle.ol_ir.proofs.Forms.{section_chain}
 use Rattle.ol_ir.proofs.Onward.{items, no_items}

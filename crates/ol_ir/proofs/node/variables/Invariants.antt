@@ -1,10 +1,8 @@
 -- `ol_ir::node::variables` meets its contract. The invariant: what is left to read answers what all of it answers.
-use native.Mathlib.Omega.{arith}
-use borrow.Author.Rules.{rules}
 use Rattle.ol_spec.specs.Read.{many, variable_r}
 use Rattle.ol_spec.specs.declared.Limits.{Limits}
 use Rattle.ol_ir.specs.Nexts.{next_of}
-use Rattle.ol_ir.proofs.Onward.{Turns, many_next, turn, turn_halt, turns_end}
+use Rattle.ol_ir.proofs.Onward.{Turns}
 use Rattle.ol_ir.proofs.node.variables.Given as goal
 
 abbrev pub invariant-loop-left : goal.invariant-loop-left

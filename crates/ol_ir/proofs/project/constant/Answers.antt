@@ -1,5 +1,4 @@
 -- `ol_ir::project::constant` meets its contract.
-use borrow.Author.Rules.{rules}
 use Rattle.ol_ir.proofs.Forms.{constant_chain, root_next}
 use Rattle.ol_ir.proofs.Onward.{arrive, halt}
 use Rattle.ol_ir.proofs.project.constant.Goals as goal

@@ -1,6 +1,5 @@
 -- `ol_ir::project::enum_section` meets its contract.
 use mathlib.Core.Path.{refl}
-use borrow.Author.Rules.{rules}
 use Rattle.ol_spec.specs.Read.{enum_r}
 use Rattle.ol_ir.proofs.Files.{list_at, list_halt, list_none}
 use Rattle.ol_ir.proofs.project.enum_section.Goals as goal

@@ -1,7 +1,6 @@
 -- `ol_ir::project::last_nodes` meets its contract.
 use mathlib.Core.Path.{◌∙◌, ap}
 use lib.Seq.{sets}
-use borrow.Author.Rules.{rules}
 use Rattle.ol_ir.proofs.Load.{last_more, last_done, last_fault, nodes_read_lem, nodes_fault, nodes_table, no_nodes, not_nodes, all_placed, none_placed}
 use Rattle.ol_ir.proofs.project.last_nodes.Goals as goal
 

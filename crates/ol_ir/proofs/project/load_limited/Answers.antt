@@ -1,7 +1,6 @@
 -- `ol_ir::project::load_limited` meets its contract.
 use mathlib.Core.Path.{ap, ◌∙◌}
 use lib.Seq.{sets}
-use borrow.Author.Rules.{rules}
 use Rattle.ol_ir.proofs.Load.{load_is, load_table, load_fault_lem, load_none, not_loaded, load_places_lem, fault_places, none_places}
 use Rattle.ol_ir.proofs.project.load_limited.Goals as goal
 

@@ -1,15 +1,13 @@
 -- `ol_ir::project::nodes` meets its contract. The invariant: what is left to read answers what all of it answers.
 use Prim.Native.Nat.{◌+◌}
-use mathlib.Core.Path.{◌≡◌, refl, ◌∙◌}
-use native.Mathlib.Omega.{arith}
+use mathlib.Core.Path.{◌≡◌}
 use lib.ListN.{length}
 use lib.Seq.{sets}
-use borrow.Author.Rules.{rules}
 use Rattle.ol_spec.specs.Read.{many, node_r}
 use Rattle.ol_ir.specs.Nexts.{next_of}
 use Rattle.ol_ir.specs.Walks.{places_of}
-use Rattle.ol_ir.proofs.Items.{Puts, put_turn, put_halt, put_end}
-use Rattle.ol_ir.proofs.Onward.{Turns, many_next, turn, turn_halt, turns_end}
+use Rattle.ol_ir.proofs.Items.{Puts}
+use Rattle.ol_ir.proofs.Onward.{Turns}
 use Rattle.ol_ir.proofs.project.nodes.Given as goal
 
 abbrev pub invariant-loop-left : goal.invariant-loop-left

@@ -1,6 +1,5 @@
 -- `ol_ir::project::read_file` meets its contract.
 use mathlib.Core.Path.{◌∙◌, ap}
-use borrow.Author.Rules.{rules}
 use Rattle.ol_ir.specs.Walks.{read_of}
 use Rattle.ol_ir.proofs.Files.{read_loaded}
 use Rattle.ol_ir.proofs.project.read_file.Goals as goal

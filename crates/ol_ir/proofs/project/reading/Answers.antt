@@ -1,6 +1,5 @@
 -- `ol_ir::project::reading` meets its contract.
 use mathlib.Core.Path.{sym, ap}
-use borrow.Author.Rules.{rules}
 use Rattle.ol_ir.specs.Walks.{read_of}
 use Rattle.ol_ir.proofs.project.reading.Goals as goal
 

@@ -3,7 +3,6 @@ use mathlib.Core.Path.{refl, ◌∙◌}
 use Rattle.ol_spec.specs.Read.{number}
 use Rattle.ol_ir.specs.Nexts.{next_of}
 use native.Mathlib.Omega.{arith}
-use borrow.Author.Rules.{rules}
 use Rattle.ol_ir.proofs.Forms.{number_in, number_out}
 use Rattle.ol_ir.proofs.read.bytes.Goals as goal
 

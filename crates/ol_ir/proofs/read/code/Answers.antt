@@ -1,7 +1,6 @@
 -- `ol_ir::read::code` meets its contract.
 use mathlib.Core.Path.{◌∙◌}
 use native.Mathlib.Omega.{arith}
-use borrow.Author.Rules.{rules}
 use Rattle.ol_spec.specs.Lists.{up_to}
 use Rattle.ol_ir.proofs.Bytes.{length_up_to}
 use Rattle.ol_ir.proofs.Forms.{code_in, code_out, code_end}

@@ -1,7 +1,6 @@
 -- `ol_ir::read::count` meets its contract.
 use mathlib.Core.Path.{◌∙◌, sym, ap}
 use native.Mathlib.Omega.{arith}
-use borrow.Author.Rules.{rules}
 use Rattle.ol_ir.specs.Nexts.{counted_of}
 use Rattle.ol_ir.proofs.Bytes.{count_is, count_low, count_high, count_end}
 use Rattle.ol_ir.proofs.read.count.Goals as goal

@@ -1,7 +1,6 @@
 -- `ol_ir::read::keep` meets its contract.
 use mathlib.Core.Path.{sym}
 use lib.Seq.{set_out}
-use borrow.Author.Rules.{rules}
 use Rattle.ol_ir.proofs.read.keep.Goals as goal
 
 pub returns-else-i-table : goal.returns-else-i-table

@@ -1,7 +1,6 @@
 -- `ol_ir::types::ty` meets its contract.
 use mathlib.Core.Path.{◌∙◌}
 use native.Mathlib.Omega.{arith}
-use borrow.Author.Rules.{rules}
 use Rattle.ol_ir.proofs.Forms.{ty_plain, ty_enum, ty_none, ty_end}
 use Rattle.ol_ir.proofs.types.ty.Goals as goal
 

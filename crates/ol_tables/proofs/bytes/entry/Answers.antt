@@ -1,6 +1,5 @@
 use lib.ListN.{get_or-eq_default}
 use mathlib.Core.Path.{sym}
-use borrow.Author.Rules.{rules}
 use Rattle.ol_tables.proofs.bytes.entry.Goals as goal
 
 pub returns-else-i-rows : goal.returns-else-i-rows

@@ -1,7 +1,6 @@
 use Prim.Native.Nat.{◌+◌}
 use lib.ListN.{get_or-eq_default}
 use native.Mathlib.Omega.{arith}
-use borrow.Author.Rules.{rules}
 use Rattle.ol_tables.proofs.bytes.name.Goals as goal
 
 pub returns-else-at-s : goal.returns-else-at-s

@@ -1,6 +1,5 @@
 use lib.Seq.{set_out}
 use mathlib.Core.Path.{sym}
-use borrow.Author.Rules.{rules}
 use Rattle.ol_tables.proofs.bytes.put_byte.Goals as goal
 
 pub returns-else-i-tab : goal.returns-else-i-tab

@@ -4,7 +4,6 @@ use lib.ListN.{set}
 use lib.Seq.{set_out}
 use native.Mathlib.Omega.{arith}
 use Prim.Native.Nat.{◌+◌, ◌/◌, ◌%◌}
-use borrow.Author.Rules.{rules}
 use Rattle.ol_tables.proofs.bytes.put_two.Goals as goal
 
 pub returns-then-p-tab : goal.returns-then-p-tab

@@ -1,4 +1,3 @@
-use borrow.Author.Rules.{rules}
 use Rattle.ol_tables.proofs.Walking.{head_end}
 use Rattle.ol_tables.proofs.heads.head.Goals as goal
 

@@ -1,7 +1,6 @@
 use Prim.Native.Nat.{◌+◌}
 use Rattle.ol_tables.proofs.Walking.{ty_small, next_up, head_code, head_cast, head_call, head_tuple}
 use native.Mathlib.Omega.{arith}
-use borrow.Author.Rules.{rules}
 use Rattle.ol_tables.proofs.heads.head_inside.Goals as goal
 
 pub overflow_add-result-then-c-eq10-2 : goal.overflow_add-result-then-c-eq10-2

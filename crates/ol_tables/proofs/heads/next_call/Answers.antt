@@ -1,8 +1,5 @@
-use Prim.Native.Nat.{◌-◌}
 use native.Mathlib.Omega.{arith}
-use borrow.Author.Rules.{rules}
-use lib.ListN.{length}
-use Rattle.ol_tables.proofs.Skipping.{Looking, looking_start, looked_end, looked_many, looked_all, looked_call, looking_on}
+use Rattle.ol_tables.proofs.Skipping.{looking_start, looked_end, looked_many, looked_all, looked_call, looking_on}
 use Rattle.ol_tables.proofs.heads.next_call.Goals as goal
 
 pub loop-left-init : goal.loop-left-init

@@ -1,9 +1,5 @@
-use Prim.Native.Nat.{ℕ, ◌-◌, ◌≤◌}
-use mathlib.Core.Path.{◌≡◌, refl, sym, ◌∙◌}
+use mathlib.Core.Path.{refl, sym, ◌∙◌}
 use native.Mathlib.Omega.{arith}
-use borrow.Author.Rules.{rules}
-use lib.ListN.{length}
-use Rattle.ol_tables.specs.Walks.{skip_at}
 use Rattle.ol_tables.proofs.Skipping.{walk_none, walk_end, walk_many, walk_turn}
 use Rattle.ol_tables.proofs.heads.skip.Goals as goal
 

@@ -1,10 +1,7 @@
-use Prim.Native.Nat.{ℕ, ◌-◌, ◌≤◌}
-use mathlib.Core.Path.{◌≡◌, refl, sym, ◌∙◌}
-use native.Mathlib.Omega.{arith}
-use borrow.Author.Rules.{rules}
+use Prim.Native.Nat.{◌-◌}
+use mathlib.Core.Path.{◌≡◌}
 use lib.ListN.{length}
 use Rattle.ol_tables.specs.Walks.{skip_at}
-use Rattle.ol_tables.proofs.Skipping.{walk_none, walk_end, walk_many, walk_turn}
 use Rattle.ol_tables.proofs.heads.skip.Given as goal
 
 -- what is left ends where all end

@@ -1,7 +1,6 @@
-use mathlib.Core.Path.{sym, ◌∙◌, ap}
+use mathlib.Core.Path.{sym}
 use native.Mathlib.Omega.{arith}
-use Rattle.ol_tables.proofs.TableLaws.{rows_long_lem, rows_get, rows_past}
-use borrow.Author.Rules.{rules}
+use Rattle.ol_tables.proofs.TableLaws.{rows_past}
 use Rattle.ol_tables.proofs.table.column.Goals as goal
 
 pub returns-else-j-lt-ROWS : goal.returns-else-j-lt-ROWS

@@ -1,8 +1,5 @@
-use Prim.Native.Nat.{◌+◌, ◌-◌, ◌≤◌}
 use mathlib.Core.Path.{◌≡◌, refl, sym, ◌∙◌}
 use native.Mathlib.Omega.{arith}
-use lib.ListN.{length}
-use Rattle.ol_tables.specs.Table.{Packs}
 use Rattle.ol_tables.proofs.TableLaws.{packs_start, packs_turn}
 use Rattle.ol_tables.proofs.table.pack.Goals as goal
 

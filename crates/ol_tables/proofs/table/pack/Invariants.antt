@@ -1,9 +1,7 @@
-use Prim.Native.Nat.{◌+◌, ◌-◌, ◌≤◌}
-use mathlib.Core.Path.{◌≡◌, refl, sym, ◌∙◌}
-use native.Mathlib.Omega.{arith}
+use Prim.Native.Nat.{◌-◌, ◌≤◌}
+use mathlib.Core.Path.{◌≡◌}
 use lib.ListN.{length}
 use Rattle.ol_tables.specs.Table.{Packs}
-use Rattle.ol_tables.proofs.TableLaws.{packs_start, packs_turn}
 use Rattle.ol_tables.proofs.table.pack.Given as goal
 
 abbrev pub invariant-loop-i : goal.invariant-loop-i
