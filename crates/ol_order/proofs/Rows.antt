@@ -1,6 +1,6 @@
 -- The orders of all nodes as bytes: what each node's equations leave, and the nodes one after the other.
 use Prim.Native.Nat.{ℕ, zero, suc, ◌+◌, ◌-◌, ◌*◌, ◌/◌, ◌≤◌, ◌<◌}
-use mathlib.Core.Bool.{Bool, true, false}
+use mathlib.Core.Bool.{Bool, true}
 use mathlib.Core.List.{List, [], ◌∷◌, ◌++◌, append_assoc, map}
 use mathlib.Core.Logic.{⊎_elim, by_cases}
 use mathlib.Core.Option.{Option, none, some}
@@ -17,12 +17,12 @@ use Rattle.ol_spec.specs.Lists.{maybe, or_else}
 use Rattle.ol_spec.specs.Syntax.{Equation, Node, File, no_node, variables}
 use Rattle.ol_spec.specs.Places.{node_size, nodes_start, placed_nodes, equation_size, equations_start, placed_equations}
 use Rattle.ol_spec.specs.Limits.{base, relay_loader}
-use Rattle.ol_spec.specs.Read.{Read, got, read_file, node_r}
+use Rattle.ol_spec.specs.Read.{got, read_file, node_r}
 use Rattle.ol_spec.specs.Order.{order, unplaced}
 use Rattle.ol_spec.specs.Admission.{place_at, ring_in, first_some, fault11}
 use Rattle.ol_spec.specs.declared.Limits.{Limits}
 use Rattle.ol_spec.proofs.Offsets.{same_item}
-use Rattle.ol_spec.proofs.Ordering.{Placed, Stuck, placed_or_stuck}
+use Rattle.ol_spec.proofs.Ordering.{placed_or_stuck}
 use Rattle.ol_order.specs.Tables.{node_in, node_at, equations_at, waited_all}
 use Rattle.ol_order.specs.Post.{NodeReads, Sorts}
 use Rattle.ol_order.specs.Orders.{ring_place, Small, LowNames, StartsWith, row_written, EquationsDone, starts_in, PlanAt, NodeDone, NodesStand, NodePlanned, Planned, OrderOf, orders_written, OrdersDone}

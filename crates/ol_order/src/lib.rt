@@ -1,5 +1,6 @@
 // The order of a node's equations: document 01, "The order".
 #![tactic(auto)]
+
 pub mod table; // table.rt: the orders of all nodes of a file
 pub mod counts; // counts.rt: how many equations a node has
 

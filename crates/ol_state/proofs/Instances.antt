@@ -10,12 +10,12 @@ use native.Mathlib.Nat.{zero-add}
 use lib.ListN.{length, take, drop, get_or, length-append, length-drop}
 use lib.Seq.{length-take-le}
 use Rattle.ol_theory.specs.Member.{◌∈◌}
-use Rattle.ol_spec.specs.Lists.{concat, sum}
-use Rattle.ol_spec.specs.Syntax.{NodeKind, Function, Operator, Imported, nil, Node, File, variables, no_node, last_of, main}
+use Rattle.ol_spec.specs.Lists.{sum}
+use Rattle.ol_spec.specs.Syntax.{NodeKind, Function, Operator, Imported, Node, File, variables, no_node, last_of, main}
 use Rattle.ol_spec.specs.Cell.{cells}
 use Rattle.ol_spec.specs.Types.{defaults}
 use Rattle.ol_spec.specs.Places.{placed, node_size, constant_size, constants_start, placed_nodes, equations_start}
-use Rattle.ol_spec.specs.Encode.{encode, kind_code, node_bytes, equation_bytes}
+use Rattle.ol_spec.specs.Encode.{encode, kind_code, node_bytes}
 use Rattle.ol_spec.specs.Limits.{base}
 use Rattle.ol_spec.specs.Within.{node_fits}
 use Rattle.ol_spec.specs.Eval.{sites_size}
@@ -23,7 +23,7 @@ use Rattle.ol_spec.specs.Step.{sites, own_size, sizes_at, site_size_by}
 use Rattle.ol_spec.proofs.ReadFacts.{All}
 use Rattle.ol_spec.proofs.Segments.{sites_cons}
 use Rattle.ol_spec.proofs.Calls.{site_size_lem}
-use Rattle.ol_spec.proofs.RoundTrip.Parts.{Here, here_nil, here_back}
+use Rattle.ol_spec.proofs.RoundTrip.Parts.{Here, here_back}
 use Rattle.ol_spec.proofs.RoundTrip.Placed.{NodeHere, node_here, file_here}
 use Rattle.ol_tables.specs.Tables.{RowOf, code_at, enum_at, row_at, node_of, site_bytes, place_of, size_cap}
 use Rattle.ol_tables.proofs.HeadLaws.{here_first}

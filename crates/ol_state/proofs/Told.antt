@@ -6,7 +6,6 @@ use native.Mathlib.Omega.{arith}
 use lib.Dec.{T, leb, leb→le, ltb→lt}
 use lib.ListN.{length, get_or}
 use Rattle.ol_spec.specs.Lists.{all_of}
-use Rattle.ol_spec.specs.Real as R
 use Rattle.ol_spec.specs.Syntax.{Ty, bool, int, float32, float64, char, enum, Variable, type_of}
 use Rattle.ol_spec.specs.Cell.{cell, cells}
 use Rattle.ol_spec.specs.Types.{default, defaults}

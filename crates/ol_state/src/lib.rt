@@ -1,5 +1,6 @@
 // An inner part of the runtime, the state: fresh records, and an old state and inputs, judged: 15 and 16.
 #![tactic(auto)]
+
 ghost use Rattle.std.specs.Prelude.{◌≡◌, List, length};
 ghost use Rattle.ol_spec.specs.declared.Value.{Value};
 ghost use Rattle.ol_spec.specs.Cell.{cells};

@@ -1,8 +1,5 @@
-use mathlib.Core.Path.{◌≡◌, refl}
+use mathlib.Core.Path.{refl}
 use native.Mathlib.Omega.{arith}
-use borrow.Author.Rules.{rules}
-use Rattle.ol_spec.specs.Lists.{member}
-use Rattle.ol_order.specs.Tables.{names_at}
 use Rattle.ol_order.proofs.Definers.{among_end, among_here, among_turn, among_not}
 use Rattle.ol_order.proofs.among.Goals as goal
 
@@ -21,11 +18,11 @@ loop-left-smaller c = omega arith
 
 pub loop-left-preserved : goal.loop-left-preserved
 loop-left-preserved c =
-    among_turn c.args.file.now c.args.x _ _ _ c.loop-left.invariant c.loop-left-test.true c.name.ensures.is c.if-x-name.false c.bytes.ensures c.p-1.given.1
+    among_turn c.args.file.now c.args.x _ _ _ c.loop-left.invariant c.loop-left-test.true c.name.ensures.is c.if-x-name.false c.bytes.ensures c.in-At.is
 
 pub returns-in-Refused : goal.returns-in-Refused
 returns-in-Refused c =
-    among_not c.args.file.now c.args.x _ _ _ c.loop-left.invariant c.loop-left-test.true c.name.ensures.is c.if-x-name.false c.bytes.ensures c.enum_told-1.given.1
+    among_not c.args.file.now c.args.x _ _ _ c.loop-left.invariant c.loop-left-test.true c.name.ensures.is c.if-x-name.false c.bytes.ensures c.in-Refused.is
 
 pub returns : goal.returns
 returns c =

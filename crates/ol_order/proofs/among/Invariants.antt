@@ -1,9 +1,6 @@
-use mathlib.Core.Path.{◌≡◌, refl}
-use native.Mathlib.Omega.{arith}
-use borrow.Author.Rules.{rules}
+use mathlib.Core.Path.{◌≡◌}
 use Rattle.ol_spec.specs.Lists.{member}
 use Rattle.ol_order.specs.Tables.{names_at}
-use Rattle.ol_order.proofs.Definers.{among_end, among_here, among_turn, among_not}
 use Rattle.ol_order.proofs.among.Given as goal
 
 abbrev pub invariant-loop-left : goal.invariant-loop-left

@@ -1,8 +1,8 @@
 -- `ol_order::copy` meets its contract.
-use Prim.Native.Nat.{ℕ, ◌-◌, ◌≤◌}
-use mathlib.Core.Path.{◌≡◌, refl, ◌∙◌}
+use Prim.Native.Nat.{ℕ}
+use mathlib.Core.Path.{refl, ◌∙◌}
 use native.Mathlib.Omega.{arith}
-use lib.ListN.{length, take, get_or, length-set}
+use lib.ListN.{get_or, length-set}
 use Rattle.ol_order.proofs.Flags.{copy_turn, copy_end}
 use Rattle.ol_order.proofs.copy.Goals as goal
 

@@ -1,9 +1,7 @@
 -- `ol_order::copy` meets its contract.
-use Prim.Native.Nat.{ℕ, ◌-◌, ◌≤◌}
-use mathlib.Core.Path.{◌≡◌, refl, ◌∙◌}
-use native.Mathlib.Omega.{arith}
-use lib.ListN.{length, take, get_or, length-set}
-use Rattle.ol_order.proofs.Flags.{copy_turn, copy_end}
+use Prim.Native.Nat.{◌-◌, ◌≤◌}
+use mathlib.Core.Path.{◌≡◌}
+use lib.ListN.{length, take}
 use Rattle.ol_order.proofs.copy.Given as goal
 
 abbrev pub invariant-loop-i : goal.invariant-loop-i

@@ -1,9 +1,5 @@
-use mathlib.Core.Path.{◌≡◌, refl, ◌∙◌}
+use mathlib.Core.Path.{refl, ◌∙◌}
 use native.Mathlib.Omega.{arith}
-use lib.ListN.{length}
-use borrow.Author.Rules.{rules}
-use mathlib.Core.List.{map}
-use Rattle.ol_order.specs.Tables.{key_of, put, names_at}
 use Rattle.ol_order.proofs.Definers.{puts_last, puts_turn, puts_not, puts_end}
 use Rattle.ol_order.proofs.define.Goals as goal
 
@@ -25,14 +21,14 @@ loop-left-smaller c = omega arith
 
 pub loop-left-preserved : goal.loop-left-preserved
 loop-left-preserved c =
-    ((c.enter.auto.definers ∙ c.loop-left.invariant.0), puts_turn c.args.file.now _ _ _ _ _ c.loop-left.invariant.1 c.loop-left-test.true c.name.ensures.is c.enter.ensures c.bytes.ensures c.p-1.given.1)
+    ((c.enter.auto.definers ∙ c.loop-left.invariant.0), puts_turn c.args.file.now _ _ _ _ _ c.loop-left.invariant.1 c.loop-left-test.true c.name.ensures.is c.enter.ensures c.bytes.ensures c.in-At.is)
 
 pub shape_of-definers-in-Refused : goal.shape_of-definers-in-Refused
 shape_of-definers-in-Refused c = (c.enter.auto.definers ∙ c.loop-left.invariant.0)
 
 pub returns-in-Refused : goal.returns-in-Refused
 returns-in-Refused c =
-    puts_not c.args.file.now _ _ _ _ _ c.loop-left.invariant.1 c.loop-left-test.true c.name.ensures.is c.enter.ensures c.bytes.ensures c.enum_told-1.given.1
+    puts_not c.args.file.now _ _ _ _ _ c.loop-left.invariant.1 c.loop-left-test.true c.name.ensures.is c.enter.ensures c.bytes.ensures c.in-Refused.is
 
 pub shape_of-definers : goal.shape_of-definers
 shape_of-definers c = c.loop-left.invariant.0

@@ -1,10 +1,7 @@
-use mathlib.Core.Path.{◌≡◌, refl, ◌∙◌}
-use native.Mathlib.Omega.{arith}
+use mathlib.Core.Path.{◌≡◌}
 use lib.ListN.{length}
-use borrow.Author.Rules.{rules}
 use mathlib.Core.List.{map}
 use Rattle.ol_order.specs.Tables.{key_of, put, names_at}
-use Rattle.ol_order.proofs.Definers.{puts_last, puts_turn, puts_not, puts_end}
 use Rattle.ol_order.proofs.define.Given as goal
 
 abbrev pub invariant-loop-left : goal.invariant-loop-left

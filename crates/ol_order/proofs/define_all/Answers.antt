@@ -1,10 +1,6 @@
 -- `ol_order::define_all` meets its contract.
-use Prim.Native.Nat.{◌-◌}
-use mathlib.Core.Path.{◌≡◌, refl, ◌∙◌}
+use mathlib.Core.Path.{refl, ◌∙◌}
 use native.Mathlib.Omega.{arith}
-use lib.ListN.{length, drop}
-use borrow.Author.Rules.{rules}
-use Rattle.ol_order.specs.Tables.{put_starts}
 use Rattle.ol_order.proofs.Definers.{all_turn, all_not, all_end}
 use Rattle.ol_order.proofs.define_all.Goals as goal
 
@@ -32,14 +28,14 @@ loop-i-smaller c =
 
 pub loop-i-preserved : goal.loop-i-preserved
 loop-i-preserved c =
-    (c.define.auto.definers ∙ c.loop-i.invariant.0, all_turn c.args.file.now c.args.starts.now _ _ _ _ c.loop-i.invariant.1 c.loop-i-test.true c.count.ensures c.n-1.given.1 c.define.ensures)
+    (c.define.auto.definers ∙ c.loop-i.invariant.0, all_turn c.args.file.now c.args.starts.now _ _ _ _ c.loop-i.invariant.1 c.loop-i-test.true c.count.ensures c.in-Items.is c.define.ensures)
 
 pub shape_of-definers-in-Refused : goal.shape_of-definers-in-Refused
 shape_of-definers-in-Refused c = c.loop-i.invariant.0
 
 pub returns-in-Refused : goal.returns-in-Refused
 returns-in-Refused c =
-    all_not c.args.file.now c.args.starts.now _ _ _ _ c.loop-i.invariant.1 c.loop-i-test.true c.count.ensures c.enum_told-1.given.1
+    all_not c.args.file.now c.args.starts.now _ _ _ _ c.loop-i.invariant.1 c.loop-i-test.true c.count.ensures c.in-Refused.is
 
 pub shape_of-definers : goal.shape_of-definers
 shape_of-definers c = c.loop-i.invariant.0

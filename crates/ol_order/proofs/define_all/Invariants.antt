@@ -1,11 +1,8 @@
 -- `ol_order::define_all` meets its contract.
 use Prim.Native.Nat.{◌-◌}
-use mathlib.Core.Path.{◌≡◌, refl, ◌∙◌}
-use native.Mathlib.Omega.{arith}
+use mathlib.Core.Path.{◌≡◌}
 use lib.ListN.{length, drop}
-use borrow.Author.Rules.{rules}
 use Rattle.ol_order.specs.Tables.{put_starts}
-use Rattle.ol_order.proofs.Definers.{all_turn, all_not, all_end}
 use Rattle.ol_order.proofs.define_all.Given as goal
 
 abbrev pub invariant-loop-i : goal.invariant-loop-i

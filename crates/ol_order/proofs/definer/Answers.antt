@@ -2,12 +2,11 @@ use mathlib.Core.Path.{sym}
 use native.Mathlib.Omega.{arith}
 use lib.ListN.{get_or-eq_default}
 use Rattle.ol_order.proofs.Definers.{in_range_lem}
-use borrow.Author.Rules.{rules}
 use Rattle.ol_order.proofs.definer.Goals as goal
 
 pub overflow_cast-result : goal.overflow_cast-result
 overflow_cast-result c =
-    omega (arith, c.shared_slice_known-1.given c.args.x)
+    omega (arith, c.type_inv.definers c.args.x)
 
 pub returns-then-x-definers : goal.returns-then-x-definers
 returns-then-x-definers c =

@@ -1,6 +1,5 @@
 use mathlib.Core.Path.{sym}
 use lib.Seq.{set_out}
-use borrow.Author.Rules.{rules}
 use Rattle.ol_order.proofs.enter.Goals as goal
 
 pub returns-else-x-definers : goal.returns-else-x-definers

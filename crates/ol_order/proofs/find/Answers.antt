@@ -2,10 +2,9 @@ use Prim.Native.Nat.{◌+◌}
 use mathlib.Core.Path.{sym, ap, ◌∙◌}
 use native.Mathlib.Omega.{arith}
 use lib.Seq.{length-take-le}
-use borrow.Author.Rules.{rules}
 use Rattle.ol_spec.specs.Order.{definer}
 use Rattle.ol_order.specs.Tables.{definer_code}
-use Rattle.ol_order.proofs.Turns.{equations, as_many}
+use Rattle.ol_order.proofs.Turns.{as_many}
 use Rattle.ol_order.proofs.Definers.{readable_take, equations_take, entry_some, entry_none}
 use Rattle.ol_order.proofs.find.Goals as goal
 

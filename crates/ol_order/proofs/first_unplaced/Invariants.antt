@@ -1,10 +1,8 @@
 -- `ol_order::first_unplaced` meets its contract.
 use Prim.Native.Nat.{◌+◌, ◌-◌, ◌≤◌}
 use mathlib.Core.Path.{◌≡◌}
-use native.Mathlib.Omega.{arith}
 use lib.ListN.{length, drop}
 use Rattle.ol_order.specs.Tables.{first_zero}
-use Rattle.ol_order.proofs.Flags.{first_start, first_here, first_next, first_end}
 use Rattle.ol_order.proofs.first_unplaced.Given as goal
 
 abbrev pub invariant-loop-i : goal.invariant-loop-i

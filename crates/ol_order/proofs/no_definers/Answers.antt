@@ -6,4 +6,4 @@ use Rattle.ol_order.proofs.Definers.{no_entry}
 use Rattle.ol_order.proofs.no_definers.Goals as goal
 
 pub returns : goal.returns
-returns c = (sym (length-replicate {A = ℕ} 1024 255), no_entry 1024)
+returns c = record { long = sym (length-replicate {A = ℕ} 1024 255); none = no_entry 1024 }

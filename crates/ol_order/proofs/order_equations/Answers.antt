@@ -1,10 +1,9 @@
 use Prim.Native.Nat.{ℕ}
 use mathlib.Core.Bool.{false}
-use mathlib.Core.Path.{◌≡◌, refl, sym, ap, ◌∙◌}
+use mathlib.Core.Path.{◌≡◌, sym, ap, ◌∙◌}
 use native.Mathlib.Omega.{arith}
 use lib.ListN.{length, replicate, length-replicate}
 use lib.Seq.{length-take-le}
-use borrow.Author.Rules.{rules}
 use Rattle.ol_spec.specs.Cycle.{OrderingCall}
 use Rattle.ol_order.proofs.Turns.{equations, as_many}
 use Rattle.ol_order.proofs.Answers.{blank_made, answer_ring, answer_done, answer_short}
@@ -19,7 +18,7 @@ slice_bounds-order-end c =
     sym (length-take-le {A = ℕ} (length c.args.starts.now) (replicate 80 0) c.requires.readable.few)
 
 pub sort-first-requires : goal.sort-first-requires
-sort-first-requires c = record { readable = c.requires.readable; blank = blank_made (equations c.args.file.now c.args.limits c.args.enums c.args.starts.now) false c.no_definers-definers.ensures.0 c.no_definers-definers.ensures.1 (λ e. let z : ◌≡◌ {A = ℕ} 0 1 = cc in absurd (omega arith)); starts_in_bounds = omega (arith, c.requires.starts_len_bound, length-replicate {A = ℕ} 10923 0); order_len = (length-take-le {A = ℕ} (length c.args.starts.now) (replicate 80 0) c.requires.readable.few) }
+sort-first-requires c = record { readable = c.requires.readable; blank = blank_made (equations c.args.file.now c.args.limits c.args.enums c.args.starts.now) false c.no_definers-definers.ensures.long c.no_definers-definers.ensures.none (λ e. let z : ◌≡◌ {A = ℕ} 0 1 = cc in absurd (omega arith)); starts_in_bounds = omega (arith, c.requires.starts_len_bound, length-replicate {A = ℕ} 10923 0); order_len = (length-take-le {A = ℕ} (length c.args.starts.now) (replicate 80 0) c.requires.readable.few) }
 
 pub offset_bounds-starts-first : goal.offset_bounds-starts-first
 offset_bounds-starts-first c =
@@ -33,10 +32,10 @@ copy-requires c =
     c.if-buffer-n.true ∙ (sym (as_many c.args.file.now c.args.limits c.args.enums c.args.starts.now) ∙ sym c.sort-first.ensures.order.long)
 
 pub returns-then-first-n : goal.returns-then-first-n
-returns-then-first-n c = record { answer = ap (λ (c : OrderingCall). c.answer) (answer_ring c.args.starts.now c.args.buffer.now c.sort-first.ensures.order (omega (arith, (as_many c.args.file.now c.args.limits c.args.enums c.args.starts.now), c.if-first-n.true))); written = ap (λ (c : OrderingCall). c.buffer-1) (answer_ring c.args.starts.now c.args.buffer.now c.sort-first.ensures.order (omega (arith, (as_many c.args.file.now c.args.limits c.args.enums c.args.starts.now), c.if-first-n.true))) }
+returns-then-first-n c = record { answer = ap (λ (c : OrderingCall). c.answer) (answer_ring c.args.starts.now c.args.buffer.now c.sort-first.ensures.order (omega (arith, (as_many c.args.file.now c.args.limits c.args.enums c.args.starts.now), c.if-first-n.true))); written = ap (λ (c : OrderingCall). c.buffer) (answer_ring c.args.starts.now c.args.buffer.now c.sort-first.ensures.order (omega (arith, (as_many c.args.file.now c.args.limits c.args.enums c.args.starts.now), c.if-first-n.true))) }
 
 pub returns-then-buffer-n : goal.returns-then-buffer-n
-returns-then-buffer-n c = record { answer = ap (λ (c : OrderingCall). c.answer) (answer_done c.args.starts.now c.args.buffer.now c.sort-first.ensures.order (omega (arith, (as_many c.args.file.now c.args.limits c.args.enums c.args.starts.now), c.if-first-n.false)) (c.if-buffer-n.true ∙ sym (as_many c.args.file.now c.args.limits c.args.enums c.args.starts.now))); written = c.copy.ensures ∙ ap (λ (c : OrderingCall). c.buffer-1) (answer_done c.args.starts.now c.args.buffer.now c.sort-first.ensures.order (omega (arith, (as_many c.args.file.now c.args.limits c.args.enums c.args.starts.now), c.if-first-n.false)) (c.if-buffer-n.true ∙ sym (as_many c.args.file.now c.args.limits c.args.enums c.args.starts.now))) }
+returns-then-buffer-n c = record { answer = ap (λ (c : OrderingCall). c.answer) (answer_done c.args.starts.now c.args.buffer.now c.sort-first.ensures.order (omega (arith, (as_many c.args.file.now c.args.limits c.args.enums c.args.starts.now), c.if-first-n.false)) (c.if-buffer-n.true ∙ sym (as_many c.args.file.now c.args.limits c.args.enums c.args.starts.now))); written = c.copy.ensures ∙ ap (λ (c : OrderingCall). c.buffer) (answer_done c.args.starts.now c.args.buffer.now c.sort-first.ensures.order (omega (arith, (as_many c.args.file.now c.args.limits c.args.enums c.args.starts.now), c.if-first-n.false)) (c.if-buffer-n.true ∙ sym (as_many c.args.file.now c.args.limits c.args.enums c.args.starts.now))) }
 
 pub returns-else-buffer-n : goal.returns-else-buffer-n
-returns-else-buffer-n c = record { answer = ap (λ (c : OrderingCall). c.answer) (answer_short c.args.starts.now c.args.buffer.now c.sort-first.ensures.order (omega (arith, (as_many c.args.file.now c.args.limits c.args.enums c.args.starts.now), c.if-first-n.false)) (λ e. c.if-buffer-n.false (e ∙ (as_many c.args.file.now c.args.limits c.args.enums c.args.starts.now)))); written = ap (λ (c : OrderingCall). c.buffer-1) (answer_short c.args.starts.now c.args.buffer.now c.sort-first.ensures.order (omega (arith, (as_many c.args.file.now c.args.limits c.args.enums c.args.starts.now), c.if-first-n.false)) (λ e. c.if-buffer-n.false (e ∙ (as_many c.args.file.now c.args.limits c.args.enums c.args.starts.now)))) }
+returns-else-buffer-n c = record { answer = ap (λ (c : OrderingCall). c.answer) (answer_short c.args.starts.now c.args.buffer.now c.sort-first.ensures.order (omega (arith, (as_many c.args.file.now c.args.limits c.args.enums c.args.starts.now), c.if-first-n.false)) (λ e. c.if-buffer-n.false (e ∙ (as_many c.args.file.now c.args.limits c.args.enums c.args.starts.now)))); written = ap (λ (c : OrderingCall). c.buffer) (answer_short c.args.starts.now c.args.buffer.now c.sort-first.ensures.order (omega (arith, (as_many c.args.file.now c.args.limits c.args.enums c.args.starts.now), c.if-first-n.false)) (λ e. c.if-buffer-n.false (e ∙ (as_many c.args.file.now c.args.limits c.args.enums c.args.starts.now)))) }

@@ -1,16 +1,8 @@
-use Prim.Native.Nat.{ℕ, ◌-◌}
-use mathlib.Core.List.{List}
 use mathlib.Core.Path.{sym, ◌∙◌}
 use native.Mathlib.Omega.{arith}
-use lib.ListN.{length, get_or, take}
-use borrow.Author.Rules.{rules}
-use Rattle.ol_spec.specs.Syntax.{Equation}
-use Rattle.ol_spec.specs.Order.{ready, pass}
-use Rattle.ol_order.specs.Tables.{no_equation}
-use Rattle.ol_order.specs.Post.{Waits, State}
 use Rattle.ol_order.proofs.Flags.{is_placed_lem, not_placed, room_for}
-use Rattle.ol_order.proofs.Waiting.{Checked, checked_start, checked_end, checked_in, checked_below, checked_next, checked_waits}
-use Rattle.ol_order.proofs.Passing.{Passing, passing_start, passing_end, passing_placed, passing_waits, passing_ready}
+use Rattle.ol_order.proofs.Waiting.{checked_start, checked_end, checked_in, checked_below, checked_next, checked_waits}
+use Rattle.ol_order.proofs.Passing.{passing_start, passing_end, passing_placed, passing_waits, passing_ready}
 use Rattle.ol_order.proofs.pass.Goals as goal
 
 pub equations-init : goal.equations-init
@@ -48,7 +40,7 @@ bounds-lists-j c =
     checked_in c.requires.equations _ (c.loop-j.invariant c.requires.equations c.requires.waits) c.loop-j-test.true
 
 pub overflow_cast-d : goal.overflow_cast-d
-overflow_cast-d c = omega (arith, c.shared_slice_known-in-loop-j-1.given c.loop-j.j)
+overflow_cast-d c = omega (arith, c.type_inv.lists c.loop-j.j)
 
 pub bounds-placed-d : goal.bounds-placed-d
 bounds-placed-d c =

@@ -1,12 +1,6 @@
-use Prim.Native.Nat.{ℕ, ◌-◌}
-use mathlib.Core.List.{List, []}
 use mathlib.Core.Path.{sym, ◌∙◌}
 use native.Mathlib.Omega.{arith}
-use lib.ListN.{length}
-use Rattle.ol_spec.specs.Syntax.{Equation}
-use Rattle.ol_spec.specs.Order.{order as in_order}
-use Rattle.ol_order.specs.Post.{Waits, State}
-use Rattle.ol_order.proofs.Passing.{Passes, passes_start, passes_turn, passes_stop, passes_end, more_placed}
+use Rattle.ol_order.proofs.Passing.{passes_start, passes_turn, passes_stop, passes_end, more_placed}
 use Rattle.ol_order.proofs.passes.Goals as goal
 
 pub loop-done-init : goal.loop-done-init

@@ -1,12 +1,10 @@
-use Prim.Native.Nat.{ℕ, ◌-◌}
+use Prim.Native.Nat.{◌-◌}
 use mathlib.Core.List.{List, []}
-use mathlib.Core.Path.{sym, ◌∙◌}
-use native.Mathlib.Omega.{arith}
 use lib.ListN.{length}
 use Rattle.ol_spec.specs.Syntax.{Equation}
 use Rattle.ol_spec.specs.Order.{order as in_order}
 use Rattle.ol_order.specs.Post.{Waits, State}
-use Rattle.ol_order.proofs.Passing.{Passes, passes_start, passes_turn, passes_stop, passes_end, more_placed}
+use Rattle.ol_order.proofs.Passing.{Passes}
 use Rattle.ol_order.proofs.passes.Given as goal
 
 abbrev pub invariant-loop-done : goal.invariant-loop-done

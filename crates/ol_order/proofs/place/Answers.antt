@@ -1,9 +1,8 @@
 use Prim.Native.Nat.{ℕ}
-use mathlib.Core.Path.{◌≡◌, sym, ◌∙◌}
+use mathlib.Core.Path.{sym, ◌∙◌}
 use native.Mathlib.Omega.{arith}
 use lib.ListN.{length, replicate}
 use lib.Seq.{length-take-le}
-use borrow.Author.Rules.{rules}
 use Rattle.ol_order.proofs.Waiting.{same_many}
 use Rattle.ol_order.proofs.Answers.{state_start, first_none, sorts_made}
 use Rattle.ol_order.proofs.place.Goals as goal

@@ -1,11 +1,11 @@
-use Prim.Native.Nat.{ℕ, ◌+◌, ◌≤◌, ◌-◌}
-use mathlib.Core.Path.{◌≡◌, refl, sym, ap, ◌∙◌}
+use Prim.Native.Nat.{ℕ, ◌+◌}
+use mathlib.Core.Path.{refl, sym, ap, ◌∙◌}
 use native.Mathlib.Omega.{arith}
 use lib.ListN.{length, length-set}
 use lib.Seq.{sets}
-use Rattle.ol_order.specs.Tables.{waited, waited_all, bounds}
+use Rattle.ol_order.specs.Tables.{waited}
 use Rattle.ol_order.proofs.Turns.{equations, as_many, equation_here}
-use Rattle.ol_order.proofs.Waiting.{Recording, recording_start, recording_room, recording_turn, recording_end}
+use Rattle.ol_order.proofs.Waiting.{recording_start, recording_room, recording_turn, recording_end}
 use Rattle.ol_order.proofs.record_all.Goals as goal
 
 pub loop-k-init : goal.loop-k-init
@@ -50,4 +50,5 @@ shape_of-begins c = length-set {A = ℕ} c.loop-k.begins c.loop-k.k c.loop-k.n �
 
 pub returns : goal.returns
 returns c =
-    (recording_end (equations c.args.file.now c.args.limits c.args.enums c.args.starts.now) c.loop-k.invariant.2 (omega (arith, c.loop-k-test.false, (as_many c.args.file.now c.args.limits c.args.enums c.args.starts.now))))
+    let k = recording_end (equations c.args.file.now c.args.limits c.args.enums c.args.starts.now) c.loop-k.invariant.2 (omega (arith, c.loop-k-test.false, (as_many c.args.file.now c.args.limits c.args.enums c.args.starts.now))) in
+    record { lists = k.0; begins = k.1 }

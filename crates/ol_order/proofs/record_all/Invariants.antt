@@ -1,11 +1,10 @@
-use Prim.Native.Nat.{ℕ, ◌+◌, ◌≤◌, ◌-◌}
-use mathlib.Core.Path.{◌≡◌, refl, sym, ap, ◌∙◌}
-use native.Mathlib.Omega.{arith}
-use lib.ListN.{length, length-set}
+use Prim.Native.Nat.{◌≤◌, ◌-◌}
+use mathlib.Core.Path.{◌≡◌}
+use lib.ListN.{length}
 use lib.Seq.{sets}
-use Rattle.ol_order.specs.Tables.{waited, waited_all, bounds}
-use Rattle.ol_order.proofs.Turns.{equations, as_many, equation_here}
-use Rattle.ol_order.proofs.Waiting.{Recording, recording_start, recording_room, recording_turn, recording_end}
+use Rattle.ol_order.specs.Tables.{waited_all, bounds}
+use Rattle.ol_order.proofs.Turns.{equations}
+use Rattle.ol_order.proofs.Waiting.{Recording}
 use Rattle.ol_order.proofs.record_all.Given as goal
 
 abbrev pub invariant-loop-k : goal.invariant-loop-k

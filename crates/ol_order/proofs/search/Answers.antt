@@ -1,9 +1,6 @@
-use Prim.Native.Nat.{◌≤◌, ◌-◌}
-use mathlib.Core.Path.{◌≡◌, sym, ◌∙◌}
+use Prim.Native.Nat.{◌-◌}
+use mathlib.Core.Path.{sym, ◌∙◌}
 use native.Mathlib.Omega.{arith}
-use lib.ListN.{length, take}
-use borrow.Author.Rules.{rules}
-use Rattle.ol_spec.specs.Order.{definer}
 use Rattle.ol_order.proofs.Turns.{equations, as_many}
 use Rattle.ol_order.proofs.Definers.{defined_here, search_start, search_end, search_here, search_on}
 use Rattle.ol_order.proofs.search.Goals as goal

@@ -1,11 +1,8 @@
-use Prim.Native.Nat.{◌≤◌, ◌-◌}
-use mathlib.Core.Path.{◌≡◌, sym, ◌∙◌}
-use native.Mathlib.Omega.{arith}
+use Prim.Native.Nat.{◌≤◌}
+use mathlib.Core.Path.{◌≡◌}
 use lib.ListN.{length, take}
-use borrow.Author.Rules.{rules}
 use Rattle.ol_spec.specs.Order.{definer}
-use Rattle.ol_order.proofs.Turns.{equations, as_many}
-use Rattle.ol_order.proofs.Definers.{defined_here, search_start, search_end, search_here, search_on}
+use Rattle.ol_order.proofs.Turns.{equations}
 use Rattle.ol_order.proofs.search.Given as goal
 
 abbrev pub invariant-loop-left : goal.invariant-loop-left

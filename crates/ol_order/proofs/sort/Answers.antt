@@ -3,7 +3,6 @@ use mathlib.Core.Path.{sym, ◌∙◌}
 use native.Mathlib.Omega.{arith}
 use lib.ListN.{length, take, replicate}
 use lib.Seq.{length-take-le}
-use borrow.Author.Rules.{rules}
 use Rattle.ol_order.proofs.Definers.{starts_defined, definers_made}
 use Rattle.ol_order.proofs.Turns.{equations, as_many}
 use Rattle.ol_order.proofs.Waiting.{waits_made}

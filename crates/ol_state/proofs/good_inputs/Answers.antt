@@ -1,10 +1,6 @@
-use Prim.Native.Nat.{◌≤◌, ◌+◌, ◌-◌, ◌*◌}
+use Prim.Native.Nat.{◌+◌, ◌*◌}
 use native.Mathlib.Omega.{arith}
-use mathlib.Core.Path.{◌≡◌, refl, sym, ap, ◌∙◌}
-use lib.ListN.{length, drop}
-use Rattle.ol_spec.specs.Syntax.{main}
-use Rattle.ol_spec.specs.State.{good_each}
-use Rattle.ol_tables.specs.At.{file_at}
+use mathlib.Core.Path.{refl, sym, ap, ◌∙◌}
 use Rattle.ol_state.proofs.Instances.{counted}
 use Rattle.ol_tables.proofs.TableLaws.{code_is, enum_is}
 use Rattle.ol_state.proofs.Judged.{and_pass, and_stop}

@@ -1,12 +1,10 @@
 use Prim.Native.Nat.{◌*◌}
-use mathlib.Core.Path.{sym, ap, ◌∙◌}
+use mathlib.Core.Path.{sym, ◌∙◌}
 use native.Mathlib.Omega.{arith}
-use lib.ListN.{length, drop, length-drop}
 use lib.Seq.{length-take-le}
 use Rattle.ol_state.proofs.Instances.{counted}
 use Rattle.ol_state.proofs.Parts.{known_room, known_head, consts_lent}
-use Rattle.ol_state.proofs.States.{few, main_size, main_sited, other_length, other_constants, main_decides}
-use borrow.Author.Rules.{rules}
+use Rattle.ol_state.proofs.States.{main_size, main_sited, other_length, other_constants, main_decides}
 use Rattle.ol_state.proofs.good_state.Goals as goal
 
 pub main_node-k-requires : goal.main_node-k-requires

@@ -1,7 +1,7 @@
-use Prim.Native.Nat.{ℕ, ◌-◌, ◌≤◌, ◌<◌}
-use mathlib.Core.Path.{◌≡◌, refl, ◌∙◌}
+use Prim.Native.Nat.{ℕ}
+use mathlib.Core.Path.{refl, ◌∙◌}
 use native.Mathlib.Omega.{arith}
-use lib.ListN.{length, get_or, drop, length-set}
+use lib.ListN.{get_or, length-set}
 use lib.Seq.{sets}
 use Rattle.ol_order.proofs.Rows.{copies_turn, copies_end}
 use Rattle.ol_order.proofs.table.copy_bytes.Goals as goal

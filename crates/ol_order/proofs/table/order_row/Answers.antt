@@ -3,7 +3,6 @@ use mathlib.Core.Path.{sym, ap, ◌∙◌}
 use native.Mathlib.Omega.{arith}
 use lib.ListN.{replicate}
 use lib.Seq.{length-take-le, sets}
-use borrow.Author.Rules.{rules}
 use Rattle.ol_order.proofs.Nodes.{counted_few, front_readable}
 use Rattle.ol_order.proofs.Rows.{front_room, front_lists, front_lows, part_80, part_long, node_done}
 use Rattle.ol_order.proofs.table.order_row.Goals as goal

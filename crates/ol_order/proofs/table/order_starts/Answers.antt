@@ -1,9 +1,8 @@
 use Prim.Native.Nat.{ℕ}
-use mathlib.Core.Path.{refl, sym, ap, ◌∙◌}
+use mathlib.Core.Path.{sym}
 use native.Mathlib.Omega.{arith}
 use lib.ListN.{length, replicate}
 use lib.Seq.{length-take-le}
-use borrow.Author.Rules.{rules}
 use Rattle.ol_order.proofs.Answers.{blank_made}
 use Rattle.ol_order.proofs.Turns.{equations, as_many}
 use Rattle.ol_order.proofs.Rows.{sorted_small, equations_ring, equations_done}
@@ -18,10 +17,10 @@ slice_bounds-order-end c =
     sym (length-take-le {A = ℕ} (length c.args.starts.now) (replicate 80 0) c.requires.readable.few)
 
 pub slice_bounds-sort-end : goal.slice_bounds-sort-end
-slice_bounds-sort-end c = c.no_definers-definers.ensures.0
+slice_bounds-sort-end c = c.no_definers-definers.ensures.long
 
 pub sort-first-requires : goal.sort-first-requires
-sort-first-requires c = record { readable = c.requires.readable; blank = blank_made (equations c.args.file.now c.args.limits c.args.enums c.args.starts.now) c.args.low c.no_definers-definers.ensures.0 c.no_definers-definers.ensures.1 c.requires.low_names; starts_in_bounds = c.requires.starts_in_bounds; order_len = (length-take-le {A = ℕ} (length c.args.starts.now) (replicate 80 0) c.requires.readable.few) }
+sort-first-requires c = record { readable = c.requires.readable; blank = blank_made (equations c.args.file.now c.args.limits c.args.enums c.args.starts.now) c.args.low c.no_definers-definers.ensures.long c.no_definers-definers.ensures.none c.requires.low_names; starts_in_bounds = c.requires.starts_in_bounds; order_len = (length-take-le {A = ℕ} (length c.args.starts.now) (replicate 80 0) c.requires.readable.few) }
 
 pub offset_bounds-starts-first : goal.offset_bounds-starts-first
 offset_bounds-starts-first c =

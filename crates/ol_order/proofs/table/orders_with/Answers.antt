@@ -1,10 +1,6 @@
-use Prim.Native.Nat.{◌-◌}
-use mathlib.Core.Path.{◌≡◌, refl, ◌∙◌}
+use mathlib.Core.Path.{refl, ◌∙◌}
 use native.Mathlib.Omega.{arith}
-use lib.ListN.{length, take, drop}
-use borrow.Author.Rules.{rules}
-use Rattle.ol_order.specs.Orders.{NodesStand}
-use Rattle.ol_order.proofs.Rows.{Going, few_places, node_reads, node_lows, few_read, place_short, node_plan, done_front, done_behind, going_start, going_on, going_ring, going_done}
+use Rattle.ol_order.proofs.Rows.{few_places, node_reads, node_lows, few_read, place_short, node_plan, done_front, done_behind, going_start, going_on, going_ring, going_done}
 use Rattle.ol_order.proofs.table.orders_with.Goals as goal
 
 pub overflow_sub-plans : goal.overflow_sub-plans
@@ -13,7 +9,7 @@ overflow_sub-plans c =
 
 pub overflow_add-plans : goal.overflow_add-plans
 overflow_add-plans c =
-    omega (arith, c.requires.planned.long, c.well-formed.1.1.1.1.1.1.0.1)
+    omega (arith, c.requires.planned.long)
 
 pub loop-k-init : goal.loop-k-init
 loop-k-init c = (refl, (λ ns. going_start ns), refl, refl)
@@ -30,7 +26,7 @@ bounds-places-k c =
 
 pub overflow_add-plan : goal.overflow_add-plan
 overflow_add-plan c =
-    omega (arith, (place_short c.requires.nodes_stand c.loop-k.k c.loop-k-test.true c.requires.planned), c.requires.planned.long, c.well-formed.1.1.1.1.1.1.0.1)
+    omega (arith, (place_short c.requires.nodes_stand c.loop-k.k c.loop-k-test.true c.requires.planned), c.requires.planned.long)
 
 pub overflow_mul-plan : goal.overflow_mul-plan
 overflow_mul-plan c =
@@ -38,7 +34,7 @@ overflow_mul-plan c =
 
 pub overflow_add-plan-in-loop-k : goal.overflow_add-plan-in-loop-k
 overflow_add-plan-in-loop-k c =
-    omega (arith, (place_short c.requires.nodes_stand c.loop-k.k c.loop-k-test.true c.requires.planned), c.row.ensures, c.requires.planned.long, c.well-formed.1.1.1.1.1.1.0.1)
+    omega (arith, (place_short c.requires.nodes_stand c.loop-k.k c.loop-k-test.true c.requires.planned), c.row.ensures, c.requires.planned.long)
 
 pub overflow_mul-from : goal.overflow_mul-from
 overflow_mul-from c =
@@ -48,7 +44,7 @@ overflow_mul-from c =
 pub order_row-requires : goal.order_row-requires
 order_row-requires c =
     let few = few_places c.requires.nodes_stand in
- record { node_reads = node_reads c.requires.nodes_stand c.loop-k.k c.loop-k-test.true c.base-limits.result c.base-limits.ensures; low_names = node_lows c.requires.nodes_stand c.loop-k.k c.loop-k-test.true c.base-limits.result c.base-limits.ensures; file_len_bound = omega (arith, c.requires.file_len_bound, c.loop-k.invariant.2); plan_at = node_plan c.requires.nodes_stand c.loop-k.k c.loop-k-test.true c.requires.planned c.loop-k.tab c.loop-k.invariant.3 (omega (arith, c.well-formed.1.1.1.1.1.1.0.1)) c.base-limits.result c.base-limits.ensures c.row.ensures c.row-in-loop-k.ensures; from_in_bounds = omega (arith, few, c.loop-k.invariant.0, c.requires.planned.long) }
+    record { node_reads = node_reads c.requires.nodes_stand c.loop-k.k c.loop-k-test.true c.base-limits.result c.base-limits.ensures; low_names = node_lows c.requires.nodes_stand c.loop-k.k c.loop-k-test.true c.base-limits.result c.base-limits.ensures; file_len_bound = omega (arith, c.requires.file_len_bound, c.loop-k.invariant.2); plan_at = node_plan c.requires.nodes_stand c.loop-k.k c.loop-k-test.true c.requires.planned c.loop-k.tab c.loop-k.invariant.3 (omega (arith)) c.base-limits.result c.base-limits.ensures c.row.ensures c.row-in-loop-k.ensures; from_in_bounds = omega (arith, few, c.loop-k.invariant.0, c.requires.planned.long) }
 
 pub shape_of-lists-in-At : goal.shape_of-lists-in-At
 shape_of-lists-in-At c = (c.order_row.auto.lists ∙ c.loop-k.invariant.2)
@@ -59,7 +55,7 @@ shape_of-tab-in-At c = (c.order_row.auto.tab ∙ c.loop-k.invariant.0)
 pub returns-in-At : goal.returns-in-At
 returns-in-At c =
     let few = few_places c.requires.nodes_stand in
- record { orders_done = (λ f end rd. going_ring c.requires.nodes_stand (c.loop-k.invariant.1 c.requires.nodes_stand) c.loop-k-test.true c.base-limits.ensures (done_front c.order_row.ensures.order 2560 ((omega (arith, few, few_read c.requires.nodes_stand c.loop-k.k c.loop-k-test.true c.base-limits.result c.base-limits.ensures)))) f end rd c.p-1.given.1); kept = (done_behind c.order_row.ensures.order 2560 ((omega (arith, few, few_read c.requires.nodes_stand c.loop-k.k c.loop-k-test.true c.base-limits.result c.base-limits.ensures))) ∙ c.loop-k.invariant.3) }
+    record { orders_done = (λ f end rd. going_ring c.requires.nodes_stand (c.loop-k.invariant.1 c.requires.nodes_stand) c.loop-k-test.true c.base-limits.ensures (done_front c.order_row.ensures.order 2560 ((omega (arith, few, few_read c.requires.nodes_stand c.loop-k.k c.loop-k-test.true c.base-limits.result c.base-limits.ensures)))) f end rd c.in-At.is); kept = (done_behind c.order_row.ensures.order 2560 ((omega (arith, few, few_read c.requires.nodes_stand c.loop-k.k c.loop-k-test.true c.base-limits.result c.base-limits.ensures))) ∙ c.loop-k.invariant.3) }
 
 pub overflow_add-k : goal.overflow_add-k
 overflow_add-k c =
@@ -74,7 +70,7 @@ loop-k-smaller c =
 pub loop-k-preserved : goal.loop-k-preserved
 loop-k-preserved c =
     let few = few_places c.requires.nodes_stand in
-    ((c.order_row.auto.tab ∙ c.loop-k.invariant.0), (λ ns. going_on ns (c.loop-k.invariant.1 ns) c.loop-k-test.true c.base-limits.ensures (done_front c.order_row.ensures.order 2560 ((omega (arith, few, few_read c.requires.nodes_stand c.loop-k.k c.loop-k-test.true c.base-limits.result c.base-limits.ensures)))) c.enum_told-1.given.1), (c.order_row.auto.lists ∙ c.loop-k.invariant.2), (done_behind c.order_row.ensures.order 2560 ((omega (arith, few, few_read c.requires.nodes_stand c.loop-k.k c.loop-k-test.true c.base-limits.result c.base-limits.ensures))) ∙ c.loop-k.invariant.3))
+    ((c.order_row.auto.tab ∙ c.loop-k.invariant.0), (λ ns. going_on ns (c.loop-k.invariant.1 ns) c.loop-k-test.true c.base-limits.ensures (done_front c.order_row.ensures.order 2560 ((omega (arith, few, few_read c.requires.nodes_stand c.loop-k.k c.loop-k-test.true c.base-limits.result c.base-limits.ensures)))) c.in-Nothing.is), (c.order_row.auto.lists ∙ c.loop-k.invariant.2), (done_behind c.order_row.ensures.order 2560 ((omega (arith, few, few_read c.requires.nodes_stand c.loop-k.k c.loop-k-test.true c.base-limits.result c.base-limits.ensures))) ∙ c.loop-k.invariant.3))
 
 pub shape_of-lists : goal.shape_of-lists
 shape_of-lists c = c.loop-k.invariant.2

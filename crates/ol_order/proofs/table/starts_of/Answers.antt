@@ -1,10 +1,7 @@
-use Prim.Native.Nat.{ℕ, ◌+◌, ◌-◌, ◌*◌, ◌≤◌, ◌<◌}
-use mathlib.Core.Path.{◌≡◌, refl, ◌∙◌}
+use Prim.Native.Nat.{ℕ, ◌+◌, ◌*◌}
+use mathlib.Core.Path.{refl, ◌∙◌}
 use native.Mathlib.Omega.{arith}
-use lib.ListN.{length, length-set}
-use lib.Seq.{sets}
-use borrow.Author.Rules.{rules}
-use Rattle.ol_order.specs.Orders.{starts_in}
+use lib.ListN.{length-set}
 use Rattle.ol_order.proofs.Rows.{starts_begin, starts_turn, starts_end}
 use Rattle.ol_order.proofs.table.starts_of.Goals as goal
 
@@ -14,15 +11,15 @@ loop-i-init c =
 
 pub overflow_mul-p : goal.overflow_mul-p
 overflow_mul-p c =
-    omega (arith, c.loop-i-test.true, c.requires.n_in_bounds, c.well-formed.1.1.1.0.1)
+    omega (arith, c.loop-i-test.true, c.requires.n_in_bounds)
 
 pub overflow_add-p : goal.overflow_add-p
 overflow_add-p c =
-    omega (arith, c.loop-i-test.true, c.requires.plan_bound, c.requires.n_in_bounds, c.well-formed.1.1.1.0.1)
+    omega (arith, c.loop-i-test.true, c.requires.plan_bound, c.requires.n_in_bounds)
 
 pub offset_bounds-starts-i : goal.offset_bounds-starts-i
 offset_bounds-starts-i c =
-    omega (arith, c.loop-i-test.true, c.requires.n_in_bounds, c.well-formed.1.1.1.0.1)
+    omega (arith, c.loop-i-test.true, c.requires.n_in_bounds)
 
 pub bounds-starts-i : goal.bounds-starts-i
 bounds-starts-i c =
@@ -30,7 +27,7 @@ bounds-starts-i c =
 
 pub overflow_add-i : goal.overflow_add-i
 overflow_add-i c =
-    omega (arith, c.loop-i-test.true, c.requires.n_in_bounds, c.well-formed.1.1.1.0.1)
+    omega (arith, c.loop-i-test.true, c.requires.n_in_bounds)
 
 pub loop-i-smaller : goal.loop-i-smaller
 loop-i-smaller c = omega arith

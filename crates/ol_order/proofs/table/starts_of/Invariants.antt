@@ -1,11 +1,8 @@
-use Prim.Native.Nat.{ℕ, ◌+◌, ◌-◌, ◌*◌, ◌≤◌, ◌<◌}
-use mathlib.Core.Path.{◌≡◌, refl, ◌∙◌}
-use native.Mathlib.Omega.{arith}
-use lib.ListN.{length, length-set}
+use Prim.Native.Nat.{◌+◌, ◌-◌, ◌*◌, ◌≤◌}
+use mathlib.Core.Path.{◌≡◌}
+use lib.ListN.{length}
 use lib.Seq.{sets}
-use borrow.Author.Rules.{rules}
 use Rattle.ol_order.specs.Orders.{starts_in}
-use Rattle.ol_order.proofs.Rows.{starts_begin, starts_turn, starts_end}
 use Rattle.ol_order.proofs.table.starts_of.Given as goal
 
 abbrev pub invariant-loop-i : goal.invariant-loop-i

@@ -1,10 +1,7 @@
-use mathlib.Core.List.{List}
-use mathlib.Core.Path.{◌≡◌, refl, sym, ap, ◌∙◌}
-use Prim.Native.Nat.{ℕ, ◌≤◌, ◌-◌, ◌*◌}
+use mathlib.Core.Path.{◌≡◌, sym, ap, ◌∙◌}
+use Prim.Native.Nat.{◌-◌}
 use native.Mathlib.Omega.{arith}
-use lib.ListN.{drop}
 use Rattle.ol_spec.specs.Cell.{good_cells}
-use Rattle.ol_tables.specs.Tables.{Tells}
 use Rattle.ol_state.proofs.Judged.{and_pass, and_stop, cells_next, cells_none}
 use Rattle.ol_state.proofs.cells.good_cells.Goals as goal
 
@@ -15,19 +12,19 @@ loop-i-init c =
 
 pub overflow_mul-i : goal.overflow_mul-i
 overflow_mul-i c =
-    omega (arith, c.loop-i-test.true, c.requires, c.well-formed)
+    omega (arith, c.loop-i-test.true, c.requires)
 
 pub judge_cell-requires : goal.judge_cell-requires
 judge_cell-requires c =
-    omega (arith, c.loop-i-test.true, c.requires, c.well-formed)
+    omega (arith, c.loop-i-test.true, c.requires)
 
 pub overflow_add-i : goal.overflow_add-i
 overflow_add-i c =
-    omega (arith, c.loop-i-test.true, c.requires, c.well-formed)
+    omega (arith, c.loop-i-test.true, c.requires)
 
 pub loop-i-smaller : goal.loop-i-smaller
 loop-i-smaller c =
-    omega (arith, c.loop-i-test.true, c.requires, c.well-formed)
+    omega (arith, c.loop-i-test.true, c.requires)
 
 pub loop-i-preserved : goal.loop-i-preserved
 loop-i-preserved c =

@@ -1,11 +1,9 @@
 use mathlib.Core.List.{List}
-use mathlib.Core.Path.{◌≡◌, refl, sym, ap, ◌∙◌}
+use mathlib.Core.Path.{◌≡◌}
 use Prim.Native.Nat.{ℕ, ◌≤◌, ◌-◌, ◌*◌}
-use native.Mathlib.Omega.{arith}
 use lib.ListN.{drop}
 use Rattle.ol_spec.specs.Cell.{good_cells}
 use Rattle.ol_tables.specs.Tables.{Tells}
-use Rattle.ol_state.proofs.Judged.{and_pass, and_stop, cells_next, cells_none}
 use Rattle.ol_state.proofs.cells.good_cells.Given as goal
 
 abbrev pub invariant-loop-i : goal.invariant-loop-i

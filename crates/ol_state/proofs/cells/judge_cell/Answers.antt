@@ -1,7 +1,6 @@
-use mathlib.Core.Path.{◌≡◌, sym, ap, ◌∙◌}
+use mathlib.Core.Path.{sym, ap, ◌∙◌}
 use Rattle.ol_spec.specs.Cell.{is_variant}
 use Rattle.ol_state.proofs.Judged.{and_pass, and_stop}
-use borrow.Author.Rules.{rules}
 use Rattle.ol_state.proofs.cells.judge_cell.Goals as goal
 
 pub returns-then-good_cell : goal.returns-then-good_cell

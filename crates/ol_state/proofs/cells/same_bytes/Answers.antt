@@ -1,9 +1,6 @@
-use mathlib.Core.Path.{◌≡◌, refl, sym, ap, ◌∙◌}
-use Prim.Native.Nat.{◌≤◌, ◌-◌}
+use mathlib.Core.Path.{refl, sym, ◌∙◌}
 use native.Mathlib.Omega.{arith}
 use borrow.Author.Tests.{eq-eqb, ne_eqb}
-use lib.ListN.{length, drop}
-use Rattle.ol_spec.specs.Lists.{same}
 use Rattle.ol_state.proofs.Judged.{and_pass, and_stop, same_next, same_end, same_apart}
 use Rattle.ol_state.proofs.cells.same_bytes.Goals as goal
 
@@ -12,19 +9,19 @@ loop-i-init c = (omega arith, refl)
 
 pub bounds-a-i : goal.bounds-a-i
 bounds-a-i c =
-    omega (arith, c.loop-i-test.true, c.if-n-b.true, c.well-formed)
+    omega (arith, c.loop-i-test.true, c.if-n-b.true)
 
 pub bounds-b-i : goal.bounds-b-i
 bounds-b-i c =
-    omega (arith, c.loop-i-test.true, c.if-n-b.true, c.well-formed)
+    omega (arith, c.loop-i-test.true, c.if-n-b.true)
 
 pub overflow_add-i : goal.overflow_add-i
 overflow_add-i c =
-    omega (arith, c.loop-i-test.true, c.if-n-b.true, c.well-formed)
+    omega (arith, c.loop-i-test.true, c.if-n-b.true)
 
 pub loop-i-smaller : goal.loop-i-smaller
 loop-i-smaller c =
-    omega (arith, c.loop-i-test.true, c.if-n-b.true, c.well-formed)
+    omega (arith, c.loop-i-test.true, c.if-n-b.true)
 
 pub loop-i-preserved : goal.loop-i-preserved
 loop-i-preserved c =

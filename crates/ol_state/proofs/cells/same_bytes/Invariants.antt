@@ -1,10 +1,7 @@
-use mathlib.Core.Path.{◌≡◌, refl, sym, ap, ◌∙◌}
+use mathlib.Core.Path.{◌≡◌}
 use Prim.Native.Nat.{◌≤◌, ◌-◌}
-use native.Mathlib.Omega.{arith}
-use borrow.Author.Tests.{eq-eqb, ne_eqb}
-use lib.ListN.{length, drop}
+use lib.ListN.{drop}
 use Rattle.ol_spec.specs.Lists.{same}
-use Rattle.ol_state.proofs.Judged.{and_pass, and_stop, same_next, same_end, same_apart}
 use Rattle.ol_state.proofs.cells.same_bytes.Given as goal
 
 abbrev pub invariant-loop-i : goal.invariant-loop-i

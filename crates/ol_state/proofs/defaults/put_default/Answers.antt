@@ -4,7 +4,6 @@ use mathlib.Core.Path.{refl, ap, ◌∙◌}
 use lib.ListN.{drop}
 use Rattle.ol_spec.specs.Cell.{cell}
 use Rattle.ol_state.specs.Defaults.{default_cell}
-use borrow.Author.Rules.{rules}
 use Rattle.ol_state.proofs.defaults.put_default.Goals as goal
 
 pub returns : goal.returns

@@ -1,12 +1,11 @@
-use Prim.Native.Nat.{◌≤◌, ◌+◌, ◌-◌, ◌*◌}
+use Prim.Native.Nat.{◌+◌, ◌-◌, ◌*◌}
 use mathlib.Core.List.{◌++◌}
-use mathlib.Core.Path.{◌≡◌, refl, sym, ap, ◌∙◌}
+use mathlib.Core.Path.{◌≡◌, ap, ◌∙◌}
 use native.Mathlib.Omega.{arith}
-use lib.ListN.{length, drop, length-drop}
-use Rattle.ol_tables.specs.Tables.{row_at}
+use lib.ListN.{drop, length-drop}
 use Rattle.ol_tables.specs.Table.{tab_of, rows_of}
 use Rattle.ol_state.specs.Defaults.{cells_at}
-use Rattle.ol_state.proofs.Filling.{Filling, fill_none, fill_done, fill_left}
+use Rattle.ol_state.proofs.Filling.{fill_none, fill_done, fill_left}
 use Rattle.ol_tables.proofs.Lending.{tail_all}
 use Rattle.ol_tables.proofs.TableLaws.{code_is, enum_is}
 use Rattle.ol_state.proofs.DefaultCells.{cells_turn, cells_none}
@@ -28,14 +27,14 @@ overflow_mul-p c =
     let inv = c.loop-i.invariant in
     let t = c.loop-i-test.true in
     let r = c.column-n.ensures in
-    omega (arith, c.types_of-types.ensures.1, c.requires.1, r, t, inv.2.long, c.well-formed)
+    omega (arith, c.types_of-types.ensures.1, c.requires.1, r, t, inv.2.long)
 
 pub overflow_add-p : goal.overflow_add-p
 overflow_add-p c =
     let inv = c.loop-i.invariant in
     let t = c.loop-i-test.true in
     let r = c.column-n.ensures in
-    omega (arith, c.types_of-types.ensures.1, c.requires.1, r, t, inv.2.long, c.well-formed)
+    omega (arith, c.types_of-types.ensures.1, c.requires.1, r, t, inv.2.long)
 
 pub byte-code-requires : goal.byte-code-requires
 byte-code-requires c = tt
@@ -45,7 +44,7 @@ overflow_add-p-in-loop-i c =
     let inv = c.loop-i.invariant in
     let t = c.loop-i-test.true in
     let r = c.column-n.ensures in
-    omega (arith, c.types_of-types.ensures.1, c.requires.1, r, t, inv.2.long, c.well-formed)
+    omega (arith, c.types_of-types.ensures.1, c.requires.1, r, t, inv.2.long)
 
 pub byte-requires : goal.byte-requires
 byte-requires c = tt
@@ -58,28 +57,28 @@ overflow_mul-q c =
     let inv = c.loop-i.invariant in
     let t = c.loop-i-test.true in
     let r = c.column-n.ensures in
-    omega (arith, c.types_of-types.ensures.1, c.requires.1, r, t, inv.2.long, c.well-formed)
+    omega (arith, c.types_of-types.ensures.1, c.requires.1, r, t, inv.2.long)
 
 pub slice_bounds-put_default-count : goal.slice_bounds-put_default-count
 slice_bounds-put_default-count c =
     let inv = c.loop-i.invariant in
     let t = c.loop-i-test.true in
     let r = c.column-n.ensures in
-    omega (arith, c.types_of-types.ensures.1, c.requires.1, r, t, inv.2.long, c.well-formed)
+    omega (arith, c.types_of-types.ensures.1, c.requires.1, r, t, inv.2.long)
 
 pub slice_bounds-put_default-start : goal.slice_bounds-put_default-start
 slice_bounds-put_default-start c =
     let inv = c.loop-i.invariant in
     let t = c.loop-i-test.true in
     let r = c.column-n.ensures in
-    omega (arith, c.types_of-types.ensures.1, c.requires.1, r, t, inv.2.long, c.well-formed)
+    omega (arith, c.types_of-types.ensures.1, c.requires.1, r, t, inv.2.long)
 
 pub slice_bounds-put_default-end : goal.slice_bounds-put_default-end
 slice_bounds-put_default-end c =
     let inv = c.loop-i.invariant in
     let t = c.loop-i-test.true in
     let r = c.column-n.ensures in
-    omega (arith, c.types_of-types.ensures.1, c.requires.1, r, t, inv.2.long, c.well-formed)
+    omega (arith, c.types_of-types.ensures.1, c.requires.1, r, t, inv.2.long)
 
 pub put_default-requires : goal.put_default-requires
 put_default-requires c =
@@ -92,13 +91,13 @@ pub overflow_add-i : goal.overflow_add-i
 overflow_add-i c =
     let t = c.loop-i-test.true in
     let r = c.column-n.ensures in
-    omega (arith, c.requires.1, r, t, c.well-formed)
+    omega (arith, c.requires.1, r, t)
 
 pub loop-i-smaller : goal.loop-i-smaller
 loop-i-smaller c =
     let t = c.loop-i-test.true in
     let r = c.column-n.ensures in
-    omega (arith, c.requires.1, r, t, c.well-formed)
+    omega (arith, c.requires.1, r, t)
 
 pub loop-i-preserved : goal.loop-i-preserved
 loop-i-preserved c =

@@ -7,7 +7,6 @@ use Rattle.ol_tables.specs.Table.{tab_of, rows_of}
 use Rattle.ol_state.specs.Defaults.{cells_at}
 use Rattle.ol_tables.proofs.Lending.{tail_all}
 use Rattle.ol_state.proofs.DefaultCells.{own_written, own_long, length_cells_at}
-use borrow.Author.Rules.{rules}
 use Rattle.ol_state.proofs.defaults.write_own.Goals as goal
 
 pub slice_bounds-write_defaults-count : goal.slice_bounds-write_defaults-count

@@ -1,9 +1,8 @@
 use native.Mathlib.Omega.{arith}
 use Prim.Native.Nat.{◌-◌}
-use mathlib.Core.Path.{sym, ap, ◌∙◌}
+use mathlib.Core.Path.{ap}
 use lib.ListN.{get_or}
 use Rattle.ol_state.proofs.Instances.{nodes_count}
-use borrow.Author.Rules.{rules}
 use Rattle.ol_state.proofs.fresh.main_node.Goals as goal
 
 pub column-requires : goal.column-requires

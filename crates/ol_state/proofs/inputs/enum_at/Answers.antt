@@ -1,8 +1,5 @@
-use Prim.Native.Nat.{◌≤◌, ◌-◌}
 use native.Mathlib.Omega.{arith}
-use mathlib.Core.Path.{sym, ap, ◌∙◌}
-use Rattle.ol_tables.specs.At.{file_at}
-use Rattle.ol_state.proofs.Enums.{Walking, walk_start, walk_on, walk_end}
+use Rattle.ol_state.proofs.Enums.{walk_start, walk_on, walk_end}
 use Rattle.ol_state.proofs.inputs.enum_at.Goals as goal
 
 pub loop-i-init : goal.loop-i-init

@@ -1,8 +1,6 @@
 use Prim.Native.Nat.{◌≤◌, ◌-◌}
-use native.Mathlib.Omega.{arith}
-use mathlib.Core.Path.{sym, ap, ◌∙◌}
 use Rattle.ol_tables.specs.At.{file_at}
-use Rattle.ol_state.proofs.Enums.{Walking, walk_start, walk_on, walk_end}
+use Rattle.ol_state.proofs.Enums.{Walking}
 use Rattle.ol_state.proofs.inputs.enum_at.Given as goal
 
 abbrev pub invariant-loop-i : goal.invariant-loop-i

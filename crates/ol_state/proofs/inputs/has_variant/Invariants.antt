@@ -1,13 +1,11 @@
 use Prim.Native.Nat.{ℕ, ◌≤◌, ◌-◌}
-use native.Mathlib.Omega.{arith}
 use mathlib.Core.List.{List}
-use mathlib.Core.Path.{sym, ap, ◌∙◌}
 use lib.Dec.{T}
 use Rattle.ol_spec.specs.Lists.{all_of}
 use Rattle.ol_spec.specs.Within.{name_fits}
 use Rattle.ol_spec.specs.Encode.{name_bytes, section_bytes}
 use Rattle.ol_spec.proofs.RoundTrip.Parts.{Here}
-use Rattle.ol_state.proofs.Enums.{Looking, look_start, look_length, look_found, look_on, look_end}
+use Rattle.ol_state.proofs.Enums.{Looking}
 use Rattle.ol_state.proofs.inputs.has_variant.Given as goal
 
 abbrev pub invariant-loop-j : goal.invariant-loop-j

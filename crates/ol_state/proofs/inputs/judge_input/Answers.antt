@@ -1,12 +1,9 @@
-use Prim.Native.Nat.{ℕ}
-use native.Mathlib.Omega.{arith}
-use mathlib.Core.List.{List, []}
+use mathlib.Core.List.{[]}
 use mathlib.Core.Path.{sym, ap, ◌∙◌}
 use lib.ListN.{length, take, drop, get_or}
 use Rattle.ol_spec.specs.Lists.{member}
 use Rattle.ol_tables.specs.At.{file_at}
 use Rattle.ol_state.proofs.Enums.{enum_names, enum_below, input_enum, input_other, input_kind, input_cell}
-use borrow.Author.Rules.{rules}
 use Rattle.ol_state.proofs.inputs.judge_input.Goals as goal
 
 pub returns-then-is_enum : goal.returns-then-is_enum

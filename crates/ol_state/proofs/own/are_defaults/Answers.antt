@@ -1,15 +1,13 @@
 use Prim.Native.Nat.{◌*◌}
-use mathlib.Core.List.{◌++◌}
 use mathlib.Core.Path.{◌≡◌, sym, ap, ap₂, ◌∙◌}
 use native.Mathlib.Omega.{arith}
-use lib.ListN.{length, take, drop}
+use lib.ListN.{take}
 use lib.Seq.{length-take-le, take_at}
 use Rattle.ol_spec.specs.Lists.{same}
 use Rattle.ol_tables.specs.Tables.{row_at}
 use Rattle.ol_tables.specs.Table.{tab_of, rows_of}
 use Rattle.ol_state.specs.Defaults.{cells_at}
 use Rattle.ol_state.proofs.DefaultCells.{length_cells_at}
-use borrow.Author.Rules.{rules}
 use Rattle.ol_state.proofs.own.are_defaults.Goals as goal
 
 pub slice_bounds-same_bytes-end : goal.slice_bounds-same_bytes-end

@@ -1,7 +1,7 @@
 use Prim.Native.Nat.{◌*◌}
 use mathlib.Core.Path.{◌≡◌, sym, ap, ap₂, ◌∙◌}
 use native.Mathlib.Omega.{arith}
-use lib.ListN.{length, take, drop, length-drop}
+use lib.ListN.{take, drop, length-drop}
 use borrow.Author.Tests.{le-leb, lt-leb, eq-eqb, ne_eqb}
 use Rattle.ol_spec.specs.Lists.{same}
 use Rattle.ol_spec.specs.Cell.{good_cells}
@@ -10,7 +10,6 @@ use Rattle.ol_tables.specs.Table.{tab_of, rows_of}
 use Rattle.ol_state.specs.Defaults.{cells_at}
 use Rattle.ol_tables.proofs.Lending.{tail_all}
 use Rattle.ol_state.proofs.Judged.{own_defaults, own_started, own_cells, own_byte}
-use borrow.Author.Rules.{rules}
 use Rattle.ol_state.proofs.own.good_own.Goals as goal
 
 pub bounds-r-0 : goal.bounds-r-0

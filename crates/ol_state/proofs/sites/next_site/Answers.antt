@@ -1,9 +1,7 @@
-use Prim.Native.Nat.{◌≤◌, ◌-◌}
 use native.Mathlib.Omega.{arith}
-use mathlib.Core.Path.{sym, subst}
-use lib.ListN.{length}
+use mathlib.Core.Path.{subst}
 use Rattle.ol_tables.specs.Walks.{Calls}
-use Rattle.ol_state.proofs.Walk.{Seeking, seeking_start, site_met, none_left, file_ends, names_passed}
+use Rattle.ol_state.proofs.Walk.{seeking_start, site_met, none_left, file_ends, names_passed}
 use Rattle.ol_state.proofs.sites.next_site.Goals as goal
 
 pub loop-c-init : goal.loop-c-init
@@ -32,7 +30,7 @@ returns-then-file-end c =
 
 pub overflow_add-pos : goal.overflow_add-pos
 overflow_add-pos c =
-    omega (arith, c.if-file-end.false, c.well-formed)
+    omega (arith, c.if-file-end.false)
 
 pub byte-requires : goal.byte-requires
 byte-requires c = tt
@@ -42,7 +40,7 @@ overflow_mul-pos c = omega (arith, c.byte.ensures.small)
 
 pub overflow_add-pos-in-loop-c : goal.overflow_add-pos-in-loop-c
 overflow_add-pos-in-loop-c c =
-    omega (arith, c.if-file-end.false, c.byte.ensures.small, c.well-formed)
+    omega (arith, c.if-file-end.false, c.byte.ensures.small)
 
 pub overflow_sub-left : goal.overflow_sub-left
 overflow_sub-left c = (omega (arith, c.if-left-eq0.false))

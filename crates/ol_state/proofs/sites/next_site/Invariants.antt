@@ -1,9 +1,4 @@
-use Prim.Native.Nat.{◌≤◌, ◌-◌}
-use native.Mathlib.Omega.{arith}
-use mathlib.Core.Path.{sym, subst}
-use lib.ListN.{length}
-use Rattle.ol_tables.specs.Walks.{Calls}
-use Rattle.ol_state.proofs.Walk.{Seeking, seeking_start, site_met, none_left, file_ends, names_passed}
+use Rattle.ol_state.proofs.Walk.{Seeking}
 use Rattle.ol_state.proofs.sites.next_site.Given as goal
 
 abbrev pub invariant-loop-c : goal.invariant-loop-c

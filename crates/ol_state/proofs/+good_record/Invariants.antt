@@ -1,0 +1,14 @@
+use Prim.Native.Nat.{◌-◌}
+use lib.ListN.{length}
+use Rattle.ol_tables.specs.At.{file_at}
+use Rattle.ol_state.proofs.Records.{Judging}
+use Rattle.ol_state.proofs.+good_record.Given as goal
+
+abbrev pub decreases-good_record : goal.decreases-good_record
+decreases-good_record l = l.k
+
+abbrev pub invariant-loop-used : goal.invariant-loop-used
+invariant-loop-used l = Judging (file_at l.file) l.file l.k l.r l.used l.at l.eqs l.pending
+
+abbrev pub decreases-loop-used : goal.decreases-loop-used
+decreases-loop-used l = length l.file - l.at
