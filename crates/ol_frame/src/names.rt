@@ -111,7 +111,7 @@ fn call_kind(file: &[u8], tab: &[u8], k: usize) -> RealKind
 }
 
 // How the expression at `at` counts as real.
-#[cycle(real_kind_real_kinds)]
+#[cycle(real_kinds)]
 fn real_kind(file: &[u8], tab: &[u8], frame: &[u8; FRAME], at: usize, level: usize) -> RealKind
     requires { Framed frame.now × Plan file.now (tab_of tab.now) (rows_of tab.now) (consts_of tab.now) (node_of frame.now) level 1 at × Cells file.now (node_of frame.now) (cells_of frame.now) × (segs_at file.now level 1 at ≤ 32768) }
     ensures { kind_of result ≡ real_kind (globals_in file.now (consts_of tab.now)) (scope_in file.now (node_of frame.now) false (cells_of frame.now) (cells_of frame.now)) (expr_at file.now level at) }
@@ -149,7 +149,7 @@ fn real_kind(file: &[u8], tab: &[u8], frame: &[u8; FRAME], at: usize, level: usi
 }
 
 // Of two expressions, the first of which is at `at`: one double makes both double.
-#[cycle(real_kind_real_kinds)]
+#[cycle(real_kinds)]
 fn real_kinds(file: &[u8], tab: &[u8], frame: &[u8; FRAME], at: usize, level: usize) -> RealKind
     requires { Framed frame.now × Plan file.now (tab_of tab.now) (rows_of tab.now) (consts_of tab.now) (node_of frame.now) level 2 at × Cells file.now (node_of frame.now) (cells_of frame.now) × (segs_at file.now level 2 at ≤ 32768) }
     ensures { kind_of result ≡ join (real_kind (globals_in file.now (consts_of tab.now)) (scope_in file.now (node_of frame.now) false (cells_of frame.now) (cells_of frame.now)) (expr_at file.now level at)) (real_kind (globals_in file.now (consts_of tab.now)) (scope_in file.now (node_of frame.now) false (cells_of frame.now) (cells_of frame.now)) (expr_at file.now level (end_at file.now level at))) }

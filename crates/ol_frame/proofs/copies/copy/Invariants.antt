@@ -8,7 +8,7 @@ use Rattle.ol_frame.proofs.Copying.{byte_copied, bytes_copied}
 use Rattle.ol_frame.proofs.copies.copy.Given as goal
 
 abbrev pub invariant-loop-i : goal.invariant-loop-i
-invariant-loop-i l = (l.i ≤ l.initial.to) × (length l.to ≡ length l.n) × (l.to ≡ take l.i l.from ++ drop l.i l.n)
+invariant-loop-i l = (l.i ≤ l.n) × (length l.to ≡ length l.initial.to) × (l.to ≡ take l.i l.from ++ drop l.i l.initial.to)
 
 abbrev pub decreases-loop-i : goal.decreases-loop-i
-decreases-loop-i l = l.initial.to - l.i
+decreases-loop-i l = l.n - l.i

@@ -13,19 +13,19 @@ read_cell-requires c =
 pub returns-then-outputs-eq1 : goal.returns-then-outputs-eq1
 returns-then-outputs-eq1 c =
     let cells = c.args.cells.now in
-    λ os h. one_output os c.args.end c.read_cell.result cells c.enum_told-1.given.1 c.read_cell.ensures (subst (λ (n : ℕ). Leaves os c.args.end n cells) c.if-outputs-eq1.true h)
+    λ os h. one_output os c.args.end c.read_cell.result cells c.in-Values.is c.read_cell.ensures (subst (λ (n : ℕ). Leaves os c.args.end n cells) c.if-outputs-eq1.true h)
 
 pub returns-else-outputs-eq1 : goal.returns-else-outputs-eq1
 returns-else-outputs-eq1 c =
     let cells = c.args.cells.now in
-    λ os h. other_outputs os c.args.end c.args.outputs cells c.enum_told-1.given.1 c.if-outputs-eq1.false h
+    λ os h. other_outputs os c.args.end c.args.outputs cells c.in-Values.is c.if-outputs-eq1.false h
 
 pub returns-in-Failed : goal.returns-in-Failed
 returns-in-Failed c =
     let cells = c.args.cells.now in
-    λ os h. failed_call os c.args.end c.end-1.given.0.0 c.args.outputs cells c.end-1.given.1 h
+    λ os h. failed_call os c.args.end _ c.args.outputs cells c.in-Failed.is h
 
 pub returns-in-Overflowed : goal.returns-in-Overflowed
 returns-in-Overflowed c =
     let cells = c.args.cells.now in
-    λ os h. overflowed_call os c.args.end c.args.outputs cells c.enum_told-in-Overflowed-1.given.1 h
+    λ os h. overflowed_call os c.args.end c.args.outputs cells c.in-Overflowed.is h

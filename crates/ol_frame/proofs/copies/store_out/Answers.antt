@@ -10,12 +10,12 @@ use Rattle.ol_frame.proofs.copies.store_out.Goals as goal
 
 pub returns-in-Value : goal.returns-in-Value
 returns-in-Value c =
-    (ap (λ (o : Outcome). ending_of (several o)) (sym c.o-1.given.1), out_stored (tab_of c.args.tab.now) c.args.k c.args.at c.args.o c.kept.result c.args.cells.now _ (c.o-1.given.1 ∙ ap Out.Value (sym c.kept.ensures.0)) c.store.ensures)
+    (ap (λ (o : Outcome). ending_of (several o)) (sym c.in-Value.is), out_stored (tab_of c.args.tab.now) c.args.k c.args.at c.args.o c.kept.result c.args.cells.now _ (c.in-Value.is ∙ ap Out.Value (sym c.kept.ensures.0)) c.store.ensures)
 
 pub returns-in-Failure : goal.returns-in-Failure
 returns-in-Failure c =
-    (ap (λ (o : Outcome). ending_of (several o)) (sym c.o-in-Failure-1.given.1), out_none (tab_of c.args.tab.now) c.args.k c.args.at c.args.o c.args.cells.now _ (λ vs w. no_failure c.o-in-Failure-1.given.0.0 vs (sym (ap several c.o-in-Failure-1.given.1) ∙ w)))
+    (ap (λ (o : Outcome). ending_of (several o)) (sym c.in-Failure.is), out_none (tab_of c.args.tab.now) c.args.k c.args.at c.args.o c.args.cells.now _ (λ vs w. no_failure _ vs (sym (ap several c.in-Failure.is) ∙ w)))
 
 pub returns-in-Overflow : goal.returns-in-Overflow
 returns-in-Overflow c =
-    (ap (λ (o : Outcome). ending_of (several o)) (sym c.enum_told-1.given.1), out_none (tab_of c.args.tab.now) c.args.k c.args.at c.args.o c.args.cells.now _ (λ vs w. no_overflow vs (sym (ap several c.enum_told-1.given.1) ∙ w)))
+    (ap (λ (o : Outcome). ending_of (several o)) (sym c.in-Overflow.is), out_none (tab_of c.args.tab.now) c.args.k c.args.at c.args.o c.args.cells.now _ (λ vs w. no_overflow vs (sym (ap several c.in-Overflow.is) ∙ w)))

@@ -7,4 +7,4 @@ use borrow.Author.Rules.{rules}
 use Rattle.ol_frame.proofs.names.char_of.Goals as goal
 
 pub returns : goal.returns
-returns c = ap Val.Int (to_z_pos w64 (omega (arith, c.well-formed)))
+returns c = ap Val.Int (to_z_pos w64 (omega (arith, c.well_formed)))

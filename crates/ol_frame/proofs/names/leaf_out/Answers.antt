@@ -34,7 +34,7 @@ overflow_add-p c =
     let a = c.args.at in
     let p = c.requires.1 in
     let h = plan_head f p in
-    omega (arith, reads_in f L a h, c.well-formed)
+    omega (arith, reads_in f L a h, c.well_formed)
 
 pub bounds-file-p : goal.bounds-file-p
 bounds-file-p c =
@@ -159,7 +159,7 @@ returns-in-3 c =
     let a = c.args.at in
     let p = c.requires.1 in
     let h = plan_head f p in
-    λ seg. ap Out.Value c.Char-of.ensures ∙ ap (λ (e : Expr). (eval_in f k n F cl b e seg).out) (sym (char_form f L a h c.in-3.is).tree)
+    λ seg. ap Out.Value c.char_of.ensures ∙ ap (λ (e : Expr). (eval_in f k n F cl b e seg).out) (sym (char_form f L a h c.in-3.is).tree)
 
 pub returns-in-4 : goal.returns-in-4
 unfolding eval
@@ -211,5 +211,5 @@ returns-in_default c =
     let p = c.requires.1 in
     let h = plan_head f p in
     let lf = c.requires.4 in
-    let m = c.in_default.rest in
-    λ seg. ap (λ (e : Expr). (eval_in f k n F cl b e seg).out) (sym (tuple_form f L a h ((last_code (get_or f a 0) (some_code f L a h) m.0.0.0.0.0.1 m.0.0.0.0.1 m.0.0.0.1 m.0.0.1 m.0.1 lf.no-unary lf.no-binary lf.no-if m.1 lf.no-arrow lf.no-cast lf.no_call))).0.tree)
+    let m = c.in_default.in_default-own.rest in
+    λ seg. ap (λ (e : Expr). (eval_in f k n F cl b e seg).out) (sym (tuple_form f L a h ((last_code (get_or f a 0) (some_code f L a h) m.0.0.0.0.0.1 m.0.0.0.0.1 m.0.0.0.1 m.0.0.1 m.0.1 lf.no_unary lf.no_binary lf.no_if m.1 lf.no_arrow lf.no_cast lf.no_call))).0.tree)

@@ -50,7 +50,7 @@ overflow_add-at c =
     let f = c.args.file.now in
     let a = c.args.at in
     let p = c.requires.1 in
-    omega (arith, (var_form f c.args.level a p.reads c.if-file-at-eq4.true).inside, c.well-formed)
+    omega (arith, (var_form f c.args.level a p.reads c.if-file-at-eq4.true).inside, c.well_formed)
 
 pub slot_at-s-requires : goal.slot_at-s-requires
 slot_at-s-requires c =

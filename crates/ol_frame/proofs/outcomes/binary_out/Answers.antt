@@ -5,12 +5,12 @@ use Rattle.ol_frame.proofs.outcomes.binary_out.Goals as goal
 
 pub returns-in-Value-r : goal.returns-in-Value-r
 returns-in-Value-r c =
-    c.eval_binary.ensures ∙ (λ i. binary_out c.args.op (sym c.l-1.given.1 i) (sym c.r-1.given.1 i))
+    c.eval_binary.ensures ∙ (λ i. binary_out c.args.op (sym c.in-Value.is i) (sym c.in-Value-r.is i))
 
 pub returns-in-Failure-r : goal.returns-in-Failure-r
 returns-in-Failure-r c =
-    λ i. binary_out c.args.op (sym c.l-1.given.1 i) (sym c.r-in-Value-1.given.1 i)
+    λ i. binary_out c.args.op (sym c.in-Value.is i) (sym c.in-Failure-r.is i)
 
 pub returns-in-Failure : goal.returns-in-Failure
 returns-in-Failure c =
-    λ i. binary_out c.args.op (sym c.l-in-Failure-l-1.given.1 i) c.args.r
+    λ i. binary_out c.args.op (sym c.in-Failure.is i) c.args.r

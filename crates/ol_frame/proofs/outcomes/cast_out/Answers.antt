@@ -7,12 +7,12 @@ use Rattle.ol_frame.proofs.outcomes.cast_out.Goals as goal
 
 pub returns-in-Value : goal.returns-in-Value
 returns-in-Value c =
-    λ e. c.cast_value.ensures e ∙ ap (then_out (cast_to (ty_of c.args.code e))) (sym c.o-1.given.1)
+    λ e. c.cast_value.ensures e ∙ ap (then_out (cast_to (ty_of c.args.code e))) (sym c.in-Value.is)
 
 pub returns-in-Failure : goal.returns-in-Failure
 returns-in-Failure c =
-    λ e. ap (then_out (cast_to (ty_of c.args.code e))) (sym c.o-in-Failure-1.given.1)
+    λ e. ap (then_out (cast_to (ty_of c.args.code e))) (sym c.in-Failure.is)
 
 pub returns-in-Overflow : goal.returns-in-Overflow
 returns-in-Overflow c =
-    λ e. ap (then_out (cast_to (ty_of c.args.code e))) (sym c.enum_told-1.given.1)
+    λ e. ap (then_out (cast_to (ty_of c.args.code e))) (sym c.in-Overflow.is)

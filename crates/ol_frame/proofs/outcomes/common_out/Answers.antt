@@ -8,19 +8,19 @@ use Rattle.ol_frame.proofs.outcomes.common_out.Goals as goal
 
 pub returns-in-NotReal : goal.returns-in-NotReal
 returns-in-NotReal c =
-    let o = c.o-1.given.1 in
-    ap Out.Value (sym (common_none c.o-1.given.0.0)) ∙ (λ i. common_out (is_double? (kind_of (sym c.enum_told-1.given.1 i))) (sym o i))
+    let o = c.in-Value.is in
+    ap Out.Value (sym (common_none _)) ∙ (λ i. common_out (is_double? (kind_of (sym c.in-NotReal.is i))) (sym o i))
 
 pub returns-in-Single : goal.returns-in-Single
 returns-in-Single c =
-    let o = c.o-1.given.1 in
-    ap Out.Value (sym (common_none c.o-1.given.0.0)) ∙ (λ i. common_out (is_double? (kind_of (sym c.enum_told-in-Single-1.given.1 i))) (sym o i))
+    let o = c.in-Value.is in
+    ap Out.Value (sym (common_none _)) ∙ (λ i. common_out (is_double? (kind_of (sym c.in-Single.is i))) (sym o i))
 
 pub returns-in-Double : goal.returns-in-Double
 returns-in-Double c =
-    let o = c.o-1.given.1 in
-    ap Out.Value c.widened.ensures ∙ (λ i. common_out (is_double? (kind_of (sym c.enum_told-in-Double-1.given.1 i))) (sym o i))
+    let o = c.in-Value.is in
+    ap Out.Value c.widened.ensures ∙ (λ i. common_out (is_double? (kind_of (sym c.in-Double.is i))) (sym o i))
 
 pub returns-in-Failure : goal.returns-in-Failure
 returns-in-Failure c =
-    ap (common_out (is_double? (kind_of c.args.kind))) (sym c.o-in-Failure-1.given.1)
+    ap (common_out (is_double? (kind_of c.args.kind))) (sym c.in-Failure.is)

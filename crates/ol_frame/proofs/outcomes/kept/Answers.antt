@@ -1,5 +1,8 @@
 use mathlib.Core.Path.{◌≡◌, refl, sym, ap, subst, ◌∙◌}
 use native.Mathlib.Omega.{arith}
+use Prim.Native.Nat.{◌<◌, ◌^◌}
+use lib.Signed.{mag}
+use mir.Syntax.{w64}
 use mir.Facts.{to_z-of_z}
 use borrow.Author.Rules.{sfits_of}
 use Rattle.ol_spec.specs.declared.Value.TheVariants as Val
@@ -8,16 +11,18 @@ use borrow.Author.Rules.{rules}
 use Rattle.ol_frame.proofs.outcomes.kept.Goals as goal
 
 pub returns-in-Bool : goal.returns-in-Bool
-returns-in-Bool c = (sym c.v-1.given.1, back_from (Val.Bool c.v-1.given.0.0) c.v-1.given.1 (bool_back c.v-1.given.0.0))
+returns-in-Bool c = (sym c.in-Bool.is, back_from (Val.Bool c.in-Bool.b) c.in-Bool.is (bool_back c.in-Bool.b))
 
 pub returns-in-Int : goal.returns-in-Int
-returns-in-Int c = (ap Val.Int (to_z-of_z (sfits_of c.known_told-in-Int-1.given.0.1)) ∙ sym c.v-in-Int-1.given.1, back_from (Val.Int c.v-in-Int-1.given.0.0) c.v-in-Int-1.given.1 (int_back c.v-in-Int-1.given.0.0 c.known_told-in-Int-1.given.0.1))
+returns-in-Int c =
+    let fit : mag c.in-Int.i < 2 ^ 63 = omega arith in
+    (ap Val.Int (to_z-of_z {w = w64} (sfits_of fit)) ∙ sym c.in-Int.is, back_from (Val.Int c.in-Int.i) c.in-Int.is (int_back c.in-Int.i fit))
 
 pub returns-in-Float : goal.returns-in-Float
-returns-in-Float c = (sym c.v-in-Float-1.given.1, back_from (Val.Float c.v-in-Float-1.given.0.0) c.v-in-Float-1.given.1 (float_back c.v-in-Float-1.given.0.0 c.known_told-in-Float-1.given.0.1))
+returns-in-Float c = (sym c.in-Float.is, back_from (Val.Float c.in-Float.x) c.in-Float.is (float_back c.in-Float.x cc))
 
 pub returns-in-Float32 : goal.returns-in-Float32
-returns-in-Float32 c = (sym c.v-in-Float32-1.given.1, back_from (Val.Float32 c.v-in-Float32-1.given.0.0) c.v-in-Float32-1.given.1 (single_back c.v-in-Float32-1.given.0.0 c.known_told-in-Float32-1.given.0.1))
+returns-in-Float32 c = (sym c.in-Float32.is, back_from (Val.Float32 c.in-Float32.x) c.in-Float32.is (single_back c.in-Float32.x cc))
 
 pub returns-in-Enum : goal.returns-in-Enum
-returns-in-Enum c = (sym c.v-in-Enum-1.given.1, back_from (Val.Enum c.v-in-Enum-1.given.0.0) c.v-in-Enum-1.given.1 (enum_back c.v-in-Enum-1.given.0.0 c.known_told-in-Enum-1.given.0.1))
+returns-in-Enum c = (sym c.in-Enum.is, back_from (Val.Enum c.in-Enum.w) c.in-Enum.is (enum_back c.in-Enum.w (omega arith)))

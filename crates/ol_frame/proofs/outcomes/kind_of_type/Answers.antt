@@ -13,4 +13,4 @@ returns-in-10 c = λ e. ap (λ (c : ℕ). kind_of_type (ty_of c e)) (sym c.in-10
 
 pub returns-in_default : goal.returns-in_default
 returns-in_default c =
-    λ e. other_kind c.args.code e c.in_default.rest.0.1 c.in_default.rest.1
+    λ e. other_kind c.args.code e c.in_default.in_default-own.rest.0.1 c.in_default.in_default-own.rest.1

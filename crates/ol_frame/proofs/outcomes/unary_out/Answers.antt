@@ -6,8 +6,8 @@ use Rattle.ol_frame.proofs.outcomes.unary_out.Goals as goal
 
 pub returns-in-Value : goal.returns-in-Value
 returns-in-Value c =
-    c.eval_unary.ensures ∙ ap (then_out (unary_by c.args.op)) (sym c.o-1.given.1)
+    c.eval_unary.ensures ∙ ap (then_out (unary_by c.args.op)) (sym c.in-Value.is)
 
 pub returns-in-Failure : goal.returns-in-Failure
 returns-in-Failure c =
-    ap (then_out (unary_by c.args.op)) (sym c.o-in-Failure-1.given.1)
+    ap (then_out (unary_by c.args.op)) (sym c.in-Failure.is)

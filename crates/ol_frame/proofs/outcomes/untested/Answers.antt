@@ -4,7 +4,7 @@ use borrow.Author.Rules.{rules}
 use Rattle.ol_frame.proofs.outcomes.untested.Goals as goal
 
 pub returns-in-Value : goal.returns-in-Value
-returns-in-Value c = ap untested_of (sym c.enum_told-1.given.1)
+returns-in-Value c = ap untested_of (sym c.in-Value.is)
 
 pub returns-in-Failure : goal.returns-in-Failure
-returns-in-Failure c = ap untested_of (sym c.o-1.given.1)
+returns-in-Failure c = ap untested_of (sym c.in-Failure.is)

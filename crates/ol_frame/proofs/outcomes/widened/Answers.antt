@@ -6,4 +6,4 @@ use borrow.Author.Rules.{rules}
 use Rattle.ol_frame.proofs.outcomes.widened.Goals as goal
 
 pub returns-in-Float32 : goal.returns-in-Float32
-returns-in-Float32 c = ap Val.Float c.f32_to_f64.ensures ∙ sym (ap (common_real true) c.v-1.given.1)
+returns-in-Float32 c = ap Val.Float c.f32_to_f64.ensures ∙ sym (ap (common_real true) c.in-Float32.is)

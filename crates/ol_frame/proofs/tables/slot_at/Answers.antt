@@ -9,7 +9,7 @@ use Rattle.ol_frame.proofs.tables.slot_at.Goals as goal
 pub overflow_add-p : goal.overflow_add-p
 overflow_add-p c =
     let t = c.args.tab.now in
-    omega (arith, length-drop 1393 t, c.requires, c.well-formed)
+    omega (arith, length-drop 1393 t, c.requires, c.well_formed)
 
 pub bounds-tab-p : goal.bounds-tab-p
 bounds-tab-p c =

@@ -46,4 +46,4 @@ returns c =
     let i = known_in (consts_of c.args.tab.now) in
     let code = get_or f (c.args.at + 2) 0 in
     let e = place_of i p (c.args.at + 2 + c.ty_size.result) code (ap (λ (x : ℕ). get_or f (x + 2) 0) c.requires.1) ((λ i. c.requires.1 i + 2 + c.ty_size.ensures i)) in
-    (moved_skip f 24 1 e c.pass-s.ensures).next-is ∙ (one_tree f 24 (value_at f i) p.reads).1
+    (moved_skip f 24 1 e c.pass-s.ensures).next_is ∙ (one_tree f 24 (value_at f i) p.reads).1

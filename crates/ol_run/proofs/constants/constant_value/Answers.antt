@@ -17,14 +17,14 @@ use Rattle.ol_run.proofs.constants.constant_value.Goals as goal
 
 pub overflow_add-p : goal.overflow_add-p
 overflow_add-p c =
-    let p = c.requires.1.0 in
-    let at = c.requires.1.1 in
+    let p = c.requires.constant_ready.0 in
+    let at = c.requires.constant_ready.1 in
     omega (arith, at, p.inside, p.program.sized.small)
 
 pub bounds-file-p : goal.bounds-file-p
 bounds-file-p c =
-    let p = c.requires.1.0 in
-    let at = c.requires.1.1 in
+    let p = c.requires.constant_ready.0 in
+    let at = c.requires.constant_ready.1 in
     omega (arith, at, p.inside)
 
 pub ty_size-requires : goal.ty_size-requires
@@ -32,28 +32,28 @@ ty_size-requires c = tt
 
 pub overflow_add-e : goal.overflow_add-e
 overflow_add-e c =
-    let p = c.requires.1.0 in
-    let at = c.requires.1.1 in
+    let p = c.requires.constant_ready.0 in
+    let at = c.requires.constant_ready.1 in
     let f = c.args.file.now in
     let code = get_or f (c.args.at + 2) 0 in
     omega (arith, c.ty_size.ensures, size_few code, at, p.inside, p.program.sized.small)
 
 pub eval-r-requires : goal.eval-r-requires
 eval-r-requires c =
-    let p = c.requires.1.0 in
-    let at = c.requires.1.1 in
+    let p = c.requires.constant_ready.0 in
+    let at = c.requires.constant_ready.1 in
     let f = c.args.file.now in
     let fr = c.args.frame.now in
     let kk = consts_of c.args.tab.now in
     let code = get_or f (c.args.at + 2) 0 in
     let ce = ap (λ (x : ℕ). get_or f (x + 2) 0) at in
     let e = value_place_lem kk p (c.args.at + 2 + c.ty_size.result) code ce ((λ i. at i + 2 + c.ty_size.ensures i)) in
-    (c.requires.0.0, rw (e, c.requires.0.1) (constant_ready kk p (cells_of fr) (before_of fr) (0 ∷ []) (0 ∷ []) refl (omega arith)))
+    (c.requires.framed.0, rw (e, c.requires.framed.1) (constant_ready kk p (cells_of fr) (before_of fr) (0 ∷ []) (0 ∷ []) refl (omega arith)))
 
 pub returns : goal.returns
 returns c =
-    let p = c.requires.1.0 in
-    let at = c.requires.1.1 in
+    let p = c.requires.constant_ready.0 in
+    let at = c.requires.constant_ready.1 in
     let f = c.args.file.now in
     let fr = c.args.frame.now in
     let kk = consts_of c.args.tab.now in
@@ -63,6 +63,6 @@ returns c =
     let new = c.eval-r.new.new in
     constant_out_lem kk p (cells_of fr) (before_of fr) (0 ∷ []) code ce
     (subst (λ (x : ℕ). EvalsTo f kk 24 x (nodes_in f) true (cells_of fr) (before_of fr) (0 ∷ []) c.eval-r.result new) e
-    (subst (λ (n : ℕ). EvalsTo f kk 24 (c.args.at + 2 + c.ty_size.result) n true (cells_of fr) (before_of fr) (0 ∷ []) c.eval-r.result new) c.requires.0.1
-    (subst (λ (b : Bool). EvalsTo f kk 24 (c.args.at + 2 + c.ty_size.result) (node_of fr) b (cells_of fr) (before_of fr) (0 ∷ []) c.eval-r.result new) c.requires.0.2 c.eval-r.ensures)))
+    (subst (λ (n : ℕ). EvalsTo f kk 24 (c.args.at + 2 + c.ty_size.result) n true (cells_of fr) (before_of fr) (0 ∷ []) c.eval-r.result new) c.requires.framed.1
+    (subst (λ (b : Bool). EvalsTo f kk 24 (c.args.at + 2 + c.ty_size.result) (node_of fr) b (cells_of fr) (before_of fr) (0 ∷ []) c.eval-r.result new) c.requires.framed.2 c.eval-r.ensures)))
     c.fitted.ensures

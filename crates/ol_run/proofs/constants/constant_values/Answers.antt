@@ -30,7 +30,7 @@ returns-then-count-eq0 c =
 pub set_frame-requires : goal.set_frame-requires
 set_frame-requires c =
     let p = c.requires in
-    (refl, p.nodes-few)
+    (refl, p.nodes_few)
 
 pub loop-i-init : goal.loop-i-init
 loop-i-init c =
@@ -51,7 +51,10 @@ constant_value-o-requires c =
     let lt = c.loop-i-test.true in
     let head = holds_head (replicate 2018 0) c.args.nodes true refl in
     let fe = c.set_frame.ensures in
-    ((ap length fe ∙ head.framed, ap (λ l. node_of l) fe ∙ head.node ∙ p.nodes-is, ap (λ l. first_of l) fe ∙ head.first-is), going_ready q c.loop-i.tab g lt)
+    record {
+      framed = (ap length fe ∙ head.framed, ap (λ l. node_of l) fe ∙ head.node ∙ p.nodes_is, ap (λ l. first_of l) fe ∙ head.first_is);
+      constant_ready = going_ready q c.loop-i.tab g lt;
+    }
 
 pub kept-w-requires : goal.kept-w-requires
 kept-w-requires c = tt
@@ -82,7 +85,7 @@ returns-in-Failure c =
     let q = cleared_ready p in
     let g = c.loop-i.invariant.1 in
     let lt = c.loop-i-test.true in
-    (going_stuck q g lt c.constant_value-o.ensures (ap done_of c.enum_told-1.given.1) _, same_onward (cleared_same p) g.same)
+    (going_stuck q g lt c.constant_value-o.ensures (ap done_of c.in-Failure.is) _, same_onward (cleared_same p) g.same)
 
 pub shape_of-tab-in-Overflow : goal.shape_of-tab-in-Overflow
 shape_of-tab-in-Overflow c =
@@ -96,7 +99,7 @@ returns-in-Overflow c =
     let q = cleared_ready p in
     let g = c.loop-i.invariant.1 in
     let lt = c.loop-i-test.true in
-    (going_stuck q g lt c.constant_value-o.ensures (ap done_of c.enum_told-in-Overflow-1.given.1) _, same_onward (cleared_same p) g.same)
+    (going_stuck q g lt c.constant_value-o.ensures (ap done_of c.in-Overflow.is) _, same_onward (cleared_same p) g.same)
 
 pub constant_end-pos-requires : goal.constant_end-pos-requires
 constant_end-pos-requires c =
@@ -141,7 +144,7 @@ loop-i-preserved c =
     let g = c.loop-i.invariant.1 in
     let lt = c.loop-i-test.true in
     let w = going_written q c.kept-w.result c.write_cell.ensures g lt in
-    (omega (arith, lt), going_turn q g lt c.constant_value-o.ensures c.o-1.given.1 c.kept-w.ensures.0 c.kept-w.ensures.1 c.write_cell.ensures (c.constant_end-pos.ensures ∙ ap (λ (k : ℕ). end_at c.args.file.now 24 (value_at c.args.file.now k)) (known_is w)))
+    (omega (arith, lt), going_turn q g lt c.constant_value-o.ensures c.in-Value.is c.kept-w.ensures.0 c.kept-w.ensures.1 c.write_cell.ensures (c.constant_end-pos.ensures ∙ ap (λ (k : ℕ). end_at c.args.file.now 24 (value_at c.args.file.now k)) (known_is w)))
 
 pub shape_of-tab : goal.shape_of-tab
 shape_of-tab c =

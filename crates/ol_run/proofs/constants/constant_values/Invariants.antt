@@ -13,7 +13,7 @@ use Rattle.ol_run.proofs.Constant.{Going, known_is, same_onward, cleared_same, c
 use Rattle.ol_run.proofs.constants.constant_values.Given as goal
 
 abbrev pub invariant-loop-i : goal.invariant-loop-i
-invariant-loop-i l = (l.i ≤ l.frame) × Going l.file l.nodes l.tab l.frame l.pos l.i
+invariant-loop-i l = (l.i ≤ l.count) × Going l.file l.initial.tab l.tab l.count l.pos l.i
 
 abbrev pub decreases-loop-i : goal.decreases-loop-i
-decreases-loop-i l = l.frame - l.i
+decreases-loop-i l = l.count - l.i

@@ -8,12 +8,12 @@ use Rattle.ol_run.proofs.constants.fitted.Goals as goal
 
 pub returns-in-Value : goal.returns-in-Value
 returns-in-Value c =
-    λ e. ap Out.Value (c.fit_to.ensures e) ∙ ap (then_out (λ v. Out.Value (fit (ty_of c.args.code e) v))) (sym c.o-1.given.1)
+    λ e. ap Out.Value (c.fit_to.ensures e) ∙ ap (then_out (λ v. Out.Value (fit (ty_of c.args.code e) v))) (sym c.in-Value.is)
 
 pub returns-in-Failure : goal.returns-in-Failure
 returns-in-Failure c =
-    λ e. ap (then_out (λ v. Out.Value (fit (ty_of c.args.code e) v))) (sym c.o-in-Failure-1.given.1)
+    λ e. ap (then_out (λ v. Out.Value (fit (ty_of c.args.code e) v))) (sym c.in-Failure.is)
 
 pub returns-in-Overflow : goal.returns-in-Overflow
 returns-in-Overflow c =
-    λ e. ap (then_out (λ v. Out.Value (fit (ty_of c.args.code e) v))) (sym c.enum_told-1.given.1)
+    λ e. ap (then_out (λ v. Out.Value (fit (ty_of c.args.code e) v))) (sym c.in-Overflow.is)

@@ -236,7 +236,7 @@ returns-in-Values c =
     let e = all_copied c.args.old.now c.args.new.now c.copy.new.to c.requires.renewed c.copy.ensures in
     let x = c.run_record-r.new.new in
     let frame = c.run_record-r.new.frame in
-    cycle_finished h H front copied x (cells_of frame) c.run_record-r.result e c.run_record-r.ensures.0 n c.finish_frame.new.to c.write_cells.new.to w c.enum_told-1.given.1 c.finish_frame.ensures c.write_cells.ensures
+    cycle_finished h H front copied x (cells_of frame) c.run_record-r.result e c.run_record-r.ensures.0 n c.finish_frame.new.to c.write_cells.new.to w c.in-Values.is c.finish_frame.ensures c.write_cells.ensures
 
 pub shape_of-new-in-Failed : goal.shape_of-new-in-Failed
 shape_of-new-in-Failed c =
@@ -265,7 +265,7 @@ returns-in-Failed c =
     let e = all_copied c.args.old.now c.args.new.now c.copy.new.to c.requires.renewed c.copy.ensures in
     let x = c.run_record-r.new.new in
     let frame = c.run_record-r.new.frame in
-    cycle_failed h H front copied x (cells_of frame) c.run_record-r.result e c.run_record-r.ensures.0 c.end-1.given.0.0 c.cause_number.result c.end-1.given.1 c.cause_number.ensures
+    cycle_failed h H front copied x (cells_of frame) c.run_record-r.result e c.run_record-r.ensures.0 _ c.cause_number.result c.in-Failed.is c.cause_number.ensures
 
 pub shape_of-new-in-Overflowed : goal.shape_of-new-in-Overflowed
 shape_of-new-in-Overflowed c =
@@ -296,4 +296,4 @@ returns-in-Overflowed c =
     let x = c.run_record-r.new.new in
     let kx = c.run_record-r.auto.new in
     let frame = c.run_record-r.new.frame in
-    cycle_overflowed h H front copied x (cells_of frame) c.run_record-r.result e c.run_record-r.ensures.0 c.copy-in-Overflowed.new.to c.enum_told-in-Overflowed-1.given.1 (all_copied c.args.old.now (put_tail H copied x) c.copy-in-Overflowed.new.to (moved_length h H front copied x e kx ∙ kn ∙ h.renewed) c.copy-in-Overflowed.ensures)
+    cycle_overflowed h H front copied x (cells_of frame) c.run_record-r.result e c.run_record-r.ensures.0 c.copy-in-Overflowed.new.to c.in-Overflowed.is (all_copied c.args.old.now (put_tail H copied x) c.copy-in-Overflowed.new.to (moved_length h H front copied x e kx ∙ kn ∙ h.renewed) c.copy-in-Overflowed.ensures)

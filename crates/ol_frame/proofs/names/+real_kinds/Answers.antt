@@ -1,0 +1,449 @@
+use mathlib.Core.Path.{◌≡◌, refl, sym, ap, subst, ◌∙◌}
+use mathlib.Core.Bool.{Bool, true, false}
+use Prim.Native.Nat.{ℕ, ◌+◌, ◌-◌, ◌*◌, ◌≤◌, ◌<◌}
+use native.Mathlib.Omega.{arith}
+use lib.ListN.{get_or, length}
+use Rattle.ol_spec.specs.Syntax.{Expr}
+use Rattle.ol_spec.specs.Eval.{real_kind, RealKind, not_real, join, arithmetic, present_of}
+use Rattle.ol_spec.specs.declared.Outcome.{Outcome}
+use Rattle.ol_tables.specs.At.{expr_at, end_at, node_in}
+use Rattle.ol_tables.proofs.Forms.{reads_in, reads_deep, float_form, var_form, unary_form, binary_form, if_form, pre_form, arrow_form, cast_form, call_form, by_form, one_tree, type_some}
+use Rattle.ol_frame.specs.Outcomes.{kind_of, outcome_kind}
+use Rattle.ol_frame.specs.Plans.{globals_in, scope_in, name_at}
+use Rattle.ol_frame.proofs.RealKinds.{arithmetic_code, plain_code, bits_code, code_kind, present_kind}
+use Rattle.ol_frame.proofs.Planning.{plan_head, plan_name, plan_parts, plan_rest, plan_first, plan_call, plan_passable, segs_form, segs_cons, segs_first, segs_one}
+use Rattle.ol_tables.specs.Table.{tab_of, rows_of, consts_of}
+use Rattle.ol_frame.specs.Frame.{node_of, first_of, cells_of, before_of}
+use Rattle.ol_frame.proofs.Tabling.{rows_room}
+use Rattle.ol_frame.proofs.names.+real_kinds.Goals as goal
+
+pub real_kind-bounds-file-at : goal.real_kind-bounds-file-at
+real_kind-bounds-file-at t c =
+    let f = c.args.file.now in
+    let L = c.args.level in
+    let a = c.args.at in
+    let p = c.requires.1 in
+    let h = plan_head f p in
+    reads_in f L a h
+
+pub real_kind-overflow_add-p : goal.real_kind-overflow_add-p
+real_kind-overflow_add-p t c =
+    let f = c.args.file.now in
+    let L = c.args.level in
+    let a = c.args.at in
+    let p = c.requires.1 in
+    let h = plan_head f p in
+    omega (arith, reads_in f L a h, c.well_formed)
+
+pub real_kind-present-requires : goal.real_kind-present-requires
+real_kind-present-requires t c =
+    let f = c.args.file.now in
+    let fd = c.requires.0 in
+    let p = c.requires.1 in
+    let z = c.requires.2 in
+    (fd, plan_name f p c.in-4.is, z)
+
+pub real_kind-overflow_sub-level : goal.real_kind-overflow_sub-level
+real_kind-overflow_sub-level t c =
+    let f = c.args.file.now in
+    let L = c.args.level in
+    let a = c.args.at in
+    let p = c.requires.1 in
+    let h = plan_head f p in
+    let deep = reads_deep f L a h in
+    deep
+
+pub real_kind-real_kind-requires : goal.real_kind-real_kind-requires
+real_kind-real_kind-requires t c =
+    let f = c.args.file.now in
+    let L = c.args.level in
+    let a = c.args.at in
+    let fd = c.requires.0 in
+    let p = c.requires.1 in
+    let z = c.requires.2 in
+    let room = c.requires.3 in
+    let h = plan_head f p in
+    let deep = reads_deep f L a h in
+    (omega (arith, deep), (fd, plan_parts f p ((unary_form f L a h c.in-5.is).1), z, subst (λ (m : ℕ). m ≤ 32768) (segs_form f p.reads ((unary_form f L a h c.in-5.is).1) refl) room))
+
+pub real_kind-bounds-file-p : goal.real_kind-bounds-file-p
+real_kind-bounds-file-p t c =
+    let f = c.args.file.now in
+    let L = c.args.level in
+    let a = c.args.at in
+    let p = c.requires.1 in
+    let h = plan_head f p in
+    omega (arith, (binary_form f L a h c.in-6.is).1.inside)
+
+pub real_kind-overflow_sub-level-then-op-lt14 : goal.real_kind-overflow_sub-level-then-op-lt14
+real_kind-overflow_sub-level-then-op-lt14 t c =
+    let f = c.args.file.now in
+    let L = c.args.level in
+    let a = c.args.at in
+    let p = c.requires.1 in
+    let h = plan_head f p in
+    let deep = reads_deep f L a h in
+    deep
+
+pub real_kind-real_kinds-requires : goal.real_kind-real_kinds-requires
+real_kind-real_kinds-requires t c =
+    let f = c.args.file.now in
+    let L = c.args.level in
+    let a = c.args.at in
+    let fd = c.requires.0 in
+    let p = c.requires.1 in
+    let z = c.requires.2 in
+    let room = c.requires.3 in
+    let h = plan_head f p in
+    let deep = reads_deep f L a h in
+    (omega (arith, deep), (fd, plan_parts f p (binary_form f L a h c.in-6.is).1, z, subst (λ (m : ℕ). m ≤ 32768) (segs_form f p.reads (binary_form f L a h c.in-6.is).1 refl) room))
+
+pub real_kind-overflow_sub-level-in-7 : goal.real_kind-overflow_sub-level-in-7
+real_kind-overflow_sub-level-in-7 t c =
+    let f = c.args.file.now in
+    let L = c.args.level in
+    let a = c.args.at in
+    let p = c.requires.1 in
+    let h = plan_head f p in
+    let deep = reads_deep f L a h in
+    deep
+
+pub real_kind-pass-c-requires : goal.real_kind-pass-c-requires
+real_kind-pass-c-requires t c =
+    let f = c.args.file.now in
+    let T = c.args.tab.now in
+    let L = c.args.level in
+    let a = c.args.at in
+    let p = c.requires.1 in
+    let room = c.requires.3 in
+    let h = plan_head f p in
+    (plan_passable f (plan_first f ((plan_parts f p ((if_form f L a h c.in-7.is))))) (omega (arith, segs_first f ((plan_parts f p ((if_form f L a h c.in-7.is)))), (subst (λ (m : ℕ). m ≤ 32768) (segs_form f p.reads ((if_form f L a h c.in-7.is)) refl) room))), rows_room T _ p.program.table.long)
+
+pub real_kind-overflow_sub-level-in-7-2 : goal.real_kind-overflow_sub-level-in-7-2
+real_kind-overflow_sub-level-in-7-2 t c =
+    let f = c.args.file.now in
+    let L = c.args.level in
+    let a = c.args.at in
+    let p = c.requires.1 in
+    let h = plan_head f p in
+    let deep = reads_deep f L a h in
+    deep
+
+pub real_kind-real_kinds-requires-in-7 : goal.real_kind-real_kinds-requires-in-7
+real_kind-real_kinds-requires-in-7 t c =
+    let f = c.args.file.now in
+    let L = c.args.level in
+    let a = c.args.at in
+    let fd = c.requires.0 in
+    let p = c.requires.1 in
+    let z = c.requires.2 in
+    let room = c.requires.3 in
+    let h = plan_head f p in
+    let deep = reads_deep f L a h in
+    let e = c.pass-c.ensures.next_is ∙ (one_tree f (L - 1) (a + 1) (plan_first f ((plan_parts f p ((if_form f L a h c.in-7.is))))).reads).1 in
+    (omega (arith, deep), (fd, rw e (plan_rest f ((plan_parts f p ((if_form f L a h c.in-7.is))))), z, rw e (omega (arith, segs_cons f (L - 1) 2 (a + 1) (plan_parts f p ((if_form f L a h c.in-7.is))).reads, (subst (λ (m : ℕ). m ≤ 32768) (segs_form f p.reads ((if_form f L a h c.in-7.is)) refl) room)))))
+
+pub real_kind-overflow_sub-level-in-8 : goal.real_kind-overflow_sub-level-in-8
+real_kind-overflow_sub-level-in-8 t c =
+    let f = c.args.file.now in
+    let L = c.args.level in
+    let a = c.args.at in
+    let p = c.requires.1 in
+    let h = plan_head f p in
+    let deep = reads_deep f L a h in
+    deep
+
+pub real_kind-real_kind-requires-in-8 : goal.real_kind-real_kind-requires-in-8
+real_kind-real_kind-requires-in-8 t c =
+    let f = c.args.file.now in
+    let L = c.args.level in
+    let a = c.args.at in
+    let fd = c.requires.0 in
+    let p = c.requires.1 in
+    let z = c.requires.2 in
+    let room = c.requires.3 in
+    let h = plan_head f p in
+    let deep = reads_deep f L a h in
+    (omega (arith, deep), (fd, plan_parts f p ((pre_form f L a h c.in-8.is)), z, subst (λ (m : ℕ). m ≤ 32768) (segs_form f p.reads ((pre_form f L a h c.in-8.is)) refl) room))
+
+pub real_kind-overflow_sub-level-in-9 : goal.real_kind-overflow_sub-level-in-9
+real_kind-overflow_sub-level-in-9 t c =
+    let f = c.args.file.now in
+    let L = c.args.level in
+    let a = c.args.at in
+    let p = c.requires.1 in
+    let h = plan_head f p in
+    let deep = reads_deep f L a h in
+    deep
+
+pub real_kind-real_kinds-requires-in-9 : goal.real_kind-real_kinds-requires-in-9
+real_kind-real_kinds-requires-in-9 t c =
+    let f = c.args.file.now in
+    let L = c.args.level in
+    let a = c.args.at in
+    let fd = c.requires.0 in
+    let p = c.requires.1 in
+    let z = c.requires.2 in
+    let room = c.requires.3 in
+    let h = plan_head f p in
+    let deep = reads_deep f L a h in
+    (omega (arith, deep), (fd, plan_parts f p ((arrow_form f L a h c.in-9.is)), z, subst (λ (m : ℕ). m ≤ 32768) (segs_form f p.reads ((arrow_form f L a h c.in-9.is)) refl) room))
+
+pub real_kind-bounds-file-p-in-10 : goal.real_kind-bounds-file-p-in-10
+real_kind-bounds-file-p-in-10 t c =
+    let f = c.args.file.now in
+    let L = c.args.level in
+    let a = c.args.at in
+    let p = c.requires.1 in
+    let h = plan_head f p in
+    omega (arith, (cast_form f L a h c.in-10.is).1.inside, type_some (cast_form f L a h c.in-10.is).0)
+
+pub real_kind-bounds-file-p-in-11 : goal.real_kind-bounds-file-p-in-11
+real_kind-bounds-file-p-in-11 t c =
+    let f = c.args.file.now in
+    let L = c.args.level in
+    let a = c.args.at in
+    let p = c.requires.1 in
+    let h = plan_head f p in
+    omega (arith, (call_form f L a h c.in-11.is).0.inside)
+
+pub real_kind-call_kind-requires : goal.real_kind-call_kind-requires
+real_kind-call_kind-requires t c =
+    let f = c.args.file.now in
+    let p = c.requires.1 in
+    (p.program, omega (arith, c.number-k.ensures.0, (plan_call f p c.in-11.is).lower, p.node≤))
+
+pub real_kind-returns-in-2 : goal.real_kind-returns-in-2
+real_kind-returns-in-2 t c =
+    let f = c.args.file.now in
+    let T = c.args.tab.now in
+    let kk = consts_of T in
+    let fr = c.args.frame.now in
+    let cl = cells_of fr in
+    let n = node_of fr in
+    let L = c.args.level in
+    let a = c.args.at in
+    let p = c.requires.1 in
+    let h = plan_head f p in
+    let g = globals_in f kk in
+    let sc = scope_in f n false cl cl in
+    ap (λ (e : Expr). real_kind g sc e) (sym (float_form f L a h c.in-2.is).tree)
+
+pub real_kind-returns-in-4 : goal.real_kind-returns-in-4
+real_kind-returns-in-4 t c =
+    let f = c.args.file.now in
+    let T = c.args.tab.now in
+    let kk = consts_of T in
+    let fr = c.args.frame.now in
+    let cl = cells_of fr in
+    let n = node_of fr in
+    let L = c.args.level in
+    let a = c.args.at in
+    let p = c.requires.1 in
+    let h = plan_head f p in
+    let g = globals_in f kk in
+    let sc = scope_in f n false cl cl in
+    c.kind_of_outcome.ensures ∙ ap outcome_kind c.present.ensures ∙ present_kind (present_of g sc (name_at f (a + 1))) ∙ ap (λ (e : Expr). real_kind g sc e) (sym (var_form f L a h c.in-4.is).tree)
+
+pub real_kind-returns-in-5 : goal.real_kind-returns-in-5
+real_kind-returns-in-5 t c =
+    let f = c.args.file.now in
+    let T = c.args.tab.now in
+    let kk = consts_of T in
+    let fr = c.args.frame.now in
+    let cl = cells_of fr in
+    let n = node_of fr in
+    let L = c.args.level in
+    let a = c.args.at in
+    let p = c.requires.1 in
+    let h = plan_head f p in
+    let g = globals_in f kk in
+    let sc = scope_in f n false cl cl in
+    c.real_kind.ensures ∙ ap (λ (e : Expr). real_kind g sc e) (sym (unary_form f L a h c.in-5.is).1.tree)
+
+pub real_kind-returns-then-op-lt10 : goal.real_kind-returns-then-op-lt10
+real_kind-returns-then-op-lt10 t c =
+    let f = c.args.file.now in
+    let T = c.args.tab.now in
+    let kk = consts_of T in
+    let fr = c.args.frame.now in
+    let cl = cells_of fr in
+    let n = node_of fr in
+    let L = c.args.level in
+    let a = c.args.at in
+    let p = c.requires.1 in
+    let h = plan_head f p in
+    let g = globals_in f kk in
+    let sc = scope_in f n false cl cl in
+    sym (plain_code (get_or f (a + 1) 0) (binary_form f L a h c.in-6.is).0 _ (binary_form f L a h c.in-6.is).2 c.if-op-lt10.true) ∙ ap (λ (e : Expr). real_kind g sc e) (sym (binary_form f L a h c.in-6.is).1.tree)
+
+pub real_kind-returns-then-op-lt14 : goal.real_kind-returns-then-op-lt14
+real_kind-returns-then-op-lt14 t c =
+    let f = c.args.file.now in
+    let T = c.args.tab.now in
+    let kk = consts_of T in
+    let fr = c.args.frame.now in
+    let cl = cells_of fr in
+    let n = node_of fr in
+    let L = c.args.level in
+    let a = c.args.at in
+    let p = c.requires.1 in
+    let h = plan_head f p in
+    let g = globals_in f kk in
+    let sc = scope_in f n false cl cl in
+    c.real_kinds.ensures ∙ sym (arithmetic_code (get_or f (a + 1) 0) (binary_form f L a h c.in-6.is).0 _ (binary_form f L a h c.in-6.is).2 (λ l. omega (arith, c.if-op-lt10.false)) c.if-op-lt14.true) ∙ ap (λ (e : Expr). real_kind g sc e) (sym (binary_form f L a h c.in-6.is).1.tree)
+
+pub real_kind-returns-else-op-lt14 : goal.real_kind-returns-else-op-lt14
+real_kind-returns-else-op-lt14 t c =
+    let f = c.args.file.now in
+    let T = c.args.tab.now in
+    let kk = consts_of T in
+    let fr = c.args.frame.now in
+    let cl = cells_of fr in
+    let n = node_of fr in
+    let L = c.args.level in
+    let a = c.args.at in
+    let p = c.requires.1 in
+    let h = plan_head f p in
+    let g = globals_in f kk in
+    let sc = scope_in f n false cl cl in
+    sym (bits_code (get_or f (a + 1) 0) (binary_form f L a h c.in-6.is).0 _ (binary_form f L a h c.in-6.is).2 (λ l. omega (arith, c.if-op-lt14.false))) ∙ ap (λ (e : Expr). real_kind g sc e) (sym (binary_form f L a h c.in-6.is).1.tree)
+
+pub real_kind-returns-in-7 : goal.real_kind-returns-in-7
+real_kind-returns-in-7 t c =
+    let f = c.args.file.now in
+    let T = c.args.tab.now in
+    let kk = consts_of T in
+    let fr = c.args.frame.now in
+    let cl = cells_of fr in
+    let n = node_of fr in
+    let L = c.args.level in
+    let a = c.args.at in
+    let p = c.requires.1 in
+    let h = plan_head f p in
+    let g = globals_in f kk in
+    let sc = scope_in f n false cl cl in
+    let e = c.pass-c.ensures.next_is ∙ (one_tree f (L - 1) (a + 1) (plan_first f ((plan_parts f p ((if_form f L a h c.in-7.is))))).reads).1 in
+    (rw e at c.real_kinds-in-7.ensures) ∙ ap (λ (e : Expr). real_kind g sc e) (sym (if_form f L a h c.in-7.is).tree)
+
+pub real_kind-returns-in-8 : goal.real_kind-returns-in-8
+real_kind-returns-in-8 t c =
+    let f = c.args.file.now in
+    let T = c.args.tab.now in
+    let kk = consts_of T in
+    let fr = c.args.frame.now in
+    let cl = cells_of fr in
+    let n = node_of fr in
+    let L = c.args.level in
+    let a = c.args.at in
+    let p = c.requires.1 in
+    let h = plan_head f p in
+    let g = globals_in f kk in
+    let sc = scope_in f n false cl cl in
+    c.real_kind-in-8.ensures ∙ ap (λ (e : Expr). real_kind g sc e) (sym (pre_form f L a h c.in-8.is).tree)
+
+pub real_kind-returns-in-9 : goal.real_kind-returns-in-9
+real_kind-returns-in-9 t c =
+    let f = c.args.file.now in
+    let T = c.args.tab.now in
+    let kk = consts_of T in
+    let fr = c.args.frame.now in
+    let cl = cells_of fr in
+    let n = node_of fr in
+    let L = c.args.level in
+    let a = c.args.at in
+    let p = c.requires.1 in
+    let h = plan_head f p in
+    let g = globals_in f kk in
+    let sc = scope_in f n false cl cl in
+    c.real_kinds-in-9.ensures ∙ ap (λ (e : Expr). real_kind g sc e) (sym (arrow_form f L a h c.in-9.is).tree)
+
+pub real_kind-returns-in-10 : goal.real_kind-returns-in-10
+real_kind-returns-in-10 t c =
+    let f = c.args.file.now in
+    let T = c.args.tab.now in
+    let kk = consts_of T in
+    let fr = c.args.frame.now in
+    let cl = cells_of fr in
+    let n = node_of fr in
+    let L = c.args.level in
+    let a = c.args.at in
+    let p = c.requires.1 in
+    let h = plan_head f p in
+    let g = globals_in f kk in
+    let sc = scope_in f n false cl cl in
+    code_kind (kind_of c.kind_of_type.result) (get_or f (a + 1) 0) (cast_form f L a h c.in-10.is).0 (cast_form f L a h c.in-10.is).4 (cast_form f L a h c.in-10.is).2 c.kind_of_type.ensures ∙ ap (λ (e : Expr). real_kind g sc e) (sym (cast_form f L a h c.in-10.is).1.tree)
+
+pub real_kind-returns-in-11 : goal.real_kind-returns-in-11
+real_kind-returns-in-11 t c =
+    let f = c.args.file.now in
+    let T = c.args.tab.now in
+    let kk = consts_of T in
+    let fr = c.args.frame.now in
+    let cl = cells_of fr in
+    let n = node_of fr in
+    let L = c.args.level in
+    let a = c.args.at in
+    let p = c.requires.1 in
+    let h = plan_head f p in
+    let g = globals_in f kk in
+    let sc = scope_in f n false cl cl in
+    (rw c.number-k.ensures.0 at c.call_kind.ensures) ∙ ap (λ (e : Expr). real_kind g sc e) (sym (call_form f L a h c.in-11.is).0.tree)
+
+pub real_kind-returns-in_default : goal.real_kind-returns-in_default
+real_kind-returns-in_default t c =
+    let f = c.args.file.now in
+    let T = c.args.tab.now in
+    let kk = consts_of T in
+    let fr = c.args.frame.now in
+    let cl = cells_of fr in
+    let n = node_of fr in
+    let L = c.args.level in
+    let a = c.args.at in
+    let p = c.requires.1 in
+    let h = plan_head f p in
+    let g = globals_in f kk in
+    let sc = scope_in f n false cl cl in
+    by_form f (λ c e. ¬ (c ≡ 2) → ¬ (c ≡ 4) → ¬ (c ≡ 5) → ¬ (c ≡ 6) → ¬ (c ≡ 7) → ¬ (c ≡ 8) → ¬ (c ≡ 9) → ¬ (c ≡ 10) → ¬ (c ≡ 11) → not_real ≡ real_kind g sc e)
+    (λ b n2 n4 n5 n6 n7 n8 n9 n10 n11. refl) (λ i n2 n4 n5 n6 n7 n8 n9 n10 n11. refl) (λ b n2 n4 n5 n6 n7 n8 n9 n10 n11. absurd (n2 refl)) (λ c n2 n4 n5 n6 n7 n8 n9 n10 n11. refl) (λ x n2 n4 n5 n6 n7 n8 n9 n10 n11. absurd (n4 refl))
+    (λ op e n2 n4 n5 n6 n7 n8 n9 n10 n11. absurd (n5 refl)) (λ op l r n2 n4 n5 n6 n7 n8 n9 n10 n11. absurd (n6 refl)) (λ c t e n2 n4 n5 n6 n7 n8 n9 n10 n11. absurd (n7 refl)) (λ e n2 n4 n5 n6 n7 n8 n9 n10 n11. absurd (n8 refl))
+    (λ a b n2 n4 n5 n6 n7 n8 n9 n10 n11. absurd (n9 refl)) (λ t e n2 n4 n5 n6 n7 n8 n9 n10 n11. absurd (n10 refl)) (λ k es n2 n4 n5 n6 n7 n8 n9 n10 n11. absurd (n11 refl)) (λ es n2 n4 n5 n6 n7 n8 n9 n10 n11. refl) L a h
+    c.in_default.in_default-own.rest.0.0.0.0.0.0.0.0.1 c.in_default.in_default-own.rest.0.0.0.0.0.0.0.1 c.in_default.in_default-own.rest.0.0.0.0.0.0.1 c.in_default.in_default-own.rest.0.0.0.0.0.1 c.in_default.in_default-own.rest.0.0.0.0.1 c.in_default.in_default-own.rest.0.0.0.1 c.in_default.in_default-own.rest.0.0.1 c.in_default.in_default-own.rest.0.1 c.in_default.in_default-own.rest.1
+
+pub real_kinds-real_kind-a-requires : goal.real_kinds-real_kind-a-requires
+real_kinds-real_kind-a-requires t c =
+    let f = c.args.file.now in
+    let fd = c.requires.0 in
+    let p = c.requires.1 in
+    let z = c.requires.2 in
+    let room = c.requires.3 in
+    (omega arith, (fd, (plan_first f p), z, (omega (arith, segs_first f p, room))))
+
+pub real_kinds-pass-p-requires : goal.real_kinds-pass-p-requires
+real_kinds-pass-p-requires t c =
+    let f = c.args.file.now in
+    let p = c.requires.1 in
+    let room = c.requires.3 in
+    let T = c.args.tab.now in
+    (plan_passable f ((plan_first f p)) ((omega (arith, segs_first f p, room))), rows_room T _ p.program.table.long)
+
+pub real_kinds-real_kind-b-requires : goal.real_kinds-real_kind-b-requires
+real_kinds-real_kind-b-requires t c =
+    let f = c.args.file.now in
+    let L = c.args.level in
+    let a = c.args.at in
+    let fd = c.requires.0 in
+    let p = c.requires.1 in
+    let z = c.requires.2 in
+    let room = c.requires.3 in
+    let e = (c.pass-p.ensures.next_is ∙ (one_tree f L a (plan_first f p).reads).1) in
+    (omega arith, (fd, rw e ((plan_rest f p)), z, rw e ((omega (arith, segs_cons f L 1 a p.reads, room)))))
+
+pub real_kinds-returns : goal.real_kinds-returns
+real_kinds-returns t c =
+    let f = c.args.file.now in
+    let L = c.args.level in
+    let a = c.args.at in
+    let p = c.requires.1 in
+    let e = (c.pass-p.ensures.next_is ∙ (one_tree f L a (plan_first f p).reads).1) in
+    c.join_kinds.ensures ∙ (λ i. join (c.real_kind-a.ensures i) ((rw e at c.real_kind-b.ensures) i))
