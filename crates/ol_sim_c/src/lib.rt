@@ -1,5 +1,6 @@
 // The public entry for C: include/ol_sim.h. The number is the result, 0 where there is no fault; the place goes through a pointer.
 #![tactic(auto)]
+
 ghost use Rattle.std.specs.Prelude.{◌≡◌};
 ghost use Rattle.ol_spec.specs.Limits.{relay_loader};
 ghost use Rattle.ol_spec.specs.Admission.{admission};
@@ -84,7 +85,7 @@ pub extern "C" fn ol_sim_lengths(
     values: &mut usize,
     equations: &mut usize,
 ) -> u8
-    ensures { Measures (lengths relay_loader file.now node) (record { state = state.entry.now; inputs = inputs.old; values = values.old; equations = equations.old }) result place.new (record { state = state.exit.now; inputs = inputs.new; values = values.new; equations = equations.new }) }
+    ensures { Measures (lengths relay_loader file.now node) (record { state = state.old; inputs = inputs.old; values = values.old; equations = equations.old }) result place.new (record { state = state.new; inputs = inputs.new; values = values.new; equations = equations.new }) }
 {
     match ol_sim::lengths(file, node) {
         Measured::Done(l) => {
