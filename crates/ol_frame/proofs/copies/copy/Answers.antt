@@ -1,9 +1,9 @@
-use Prim.Native.Nat.{ℕ, suc, ◌+◌, ◌≤◌, ◌-◌}
-use mathlib.Core.List.{List, ◌++◌}
-use mathlib.Core.Path.{◌≡◌, refl, sym, ap, ◌∙◌}
+use Prim.Native.Nat.{ℕ}
+use mathlib.Core.List.{◌++◌}
+use mathlib.Core.Path.{refl, sym, ap, ◌∙◌}
 use native.Mathlib.Omega.{arith}
 use native.Mathlib.Numerals.{add-one}
-use lib.ListN.{length, take, drop, get_or, length-set}
+use lib.ListN.{take, drop, get_or, length-set}
 use Rattle.ol_frame.proofs.Copying.{byte_copied, bytes_copied}
 use Rattle.ol_frame.proofs.copies.copy.Goals as goal
 

@@ -1,10 +1,7 @@
-use Prim.Native.Nat.{ℕ, suc, ◌+◌, ◌≤◌, ◌-◌}
-use mathlib.Core.List.{List, ◌++◌}
-use mathlib.Core.Path.{◌≡◌, refl, sym, ap, ◌∙◌}
-use native.Mathlib.Omega.{arith}
-use native.Mathlib.Numerals.{add-one}
-use lib.ListN.{length, take, drop, get_or, length-set}
-use Rattle.ol_frame.proofs.Copying.{byte_copied, bytes_copied}
+use Prim.Native.Nat.{◌≤◌, ◌-◌}
+use mathlib.Core.List.{◌++◌}
+use mathlib.Core.Path.{◌≡◌}
+use lib.ListN.{length, take, drop}
 use Rattle.ol_frame.proofs.copies.copy.Given as goal
 
 abbrev pub invariant-loop-i : goal.invariant-loop-i

@@ -1,7 +1,6 @@
 use Prim.Native.Nat.{◌*◌}
 use native.Mathlib.Omega.{arith}
 use Rattle.ol_frame.proofs.Storing.{copied_part}
-use borrow.Author.Rules.{rules}
 use Rattle.ol_frame.proofs.copies.copy_cells.Goals as goal
 
 pub overflow_mul-a : goal.overflow_mul-a

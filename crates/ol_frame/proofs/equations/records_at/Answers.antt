@@ -1,10 +1,9 @@
-use mathlib.Core.Path.{◌≡◌, sym, ap, ◌∙◌}
+use mathlib.Core.Path.{sym, ap, ◌∙◌}
 use mathlib.Core.Bool.{cond}
 use native.Mathlib.Omega.{arith}
 use Prim.Native.Nat.{◌+◌, ◌*◌}
 use borrow.Author.Tests.{lt-ltb, le-ltb}
 use Rattle.ol_tables.specs.Tables.{two_at}
-use borrow.Author.Rules.{rules}
 use Rattle.ol_frame.proofs.equations.records_at.Goals as goal
 
 pub returns-then-i-n : goal.returns-then-i-n

@@ -1,5 +1,4 @@
 use Rattle.ol_frame.proofs.Framing.{outputs_copied}
-use borrow.Author.Rules.{rules}
 use Rattle.ol_frame.proofs.frame.copy_outputs.Goals as goal
 
 pub returns : goal.returns

@@ -1,5 +1,4 @@
 use Rattle.ol_frame.proofs.Framing.{frame_opened}
-use borrow.Author.Rules.{rules}
 use Rattle.ol_frame.proofs.frame.open_frame.Goals as goal
 
 pub returns : goal.returns

@@ -408,7 +408,7 @@ real_kind-returns-in_default t c =
     (λ b n2 n4 n5 n6 n7 n8 n9 n10 n11. refl) (λ i n2 n4 n5 n6 n7 n8 n9 n10 n11. refl) (λ b n2 n4 n5 n6 n7 n8 n9 n10 n11. absurd (n2 refl)) (λ c n2 n4 n5 n6 n7 n8 n9 n10 n11. refl) (λ x n2 n4 n5 n6 n7 n8 n9 n10 n11. absurd (n4 refl))
     (λ op e n2 n4 n5 n6 n7 n8 n9 n10 n11. absurd (n5 refl)) (λ op l r n2 n4 n5 n6 n7 n8 n9 n10 n11. absurd (n6 refl)) (λ c t e n2 n4 n5 n6 n7 n8 n9 n10 n11. absurd (n7 refl)) (λ e n2 n4 n5 n6 n7 n8 n9 n10 n11. absurd (n8 refl))
     (λ a b n2 n4 n5 n6 n7 n8 n9 n10 n11. absurd (n9 refl)) (λ t e n2 n4 n5 n6 n7 n8 n9 n10 n11. absurd (n10 refl)) (λ k es n2 n4 n5 n6 n7 n8 n9 n10 n11. absurd (n11 refl)) (λ es n2 n4 n5 n6 n7 n8 n9 n10 n11. refl) L a h
-    c.in_default.in_default-own.rest.0.0.0.0.0.0.0.0.1 c.in_default.in_default-own.rest.0.0.0.0.0.0.0.1 c.in_default.in_default-own.rest.0.0.0.0.0.0.1 c.in_default.in_default-own.rest.0.0.0.0.0.1 c.in_default.in_default-own.rest.0.0.0.0.1 c.in_default.in_default-own.rest.0.0.0.1 c.in_default.in_default-own.rest.0.0.1 c.in_default.in_default-own.rest.0.1 c.in_default.in_default-own.rest.1
+    (omega arith) (omega arith) (omega arith) (omega arith) (omega arith) (omega arith) (omega arith) (omega arith) (omega arith)
 
 pub real_kinds-real_kind-a-requires : goal.real_kinds-real_kind-a-requires
 real_kinds-real_kind-a-requires t c =

@@ -1,9 +1,7 @@
-use mathlib.Core.Path.{◌≡◌, refl, sym, ap, subst, ◌∙◌}
 use native.Mathlib.Omega.{arith}
 use Rattle.ol_frame.proofs.Tabling.{rows_room}
 use Rattle.ol_frame.specs.Outcomes.{kind_of}
 use Rattle.ol_frame.proofs.RealKinds.{call_kind, input_below}
-use borrow.Author.Rules.{rules}
 use Rattle.ol_frame.proofs.names.call_kind.Goals as goal
 
 pub row-i-requires : goal.row-i-requires

@@ -3,7 +3,6 @@ use mathlib.Core.Path.{ap}
 use Rattle.ol_spec.specs.declared.Value.TheVariants as Val
 use mir.Syntax.{w64}
 use mir.Facts.{to_z_pos}
-use borrow.Author.Rules.{rules}
 use Rattle.ol_frame.proofs.names.char_of.Goals as goal
 
 pub returns : goal.returns

@@ -211,5 +211,4 @@ returns-in_default c =
     let p = c.requires.1 in
     let h = plan_head f p in
     let lf = c.requires.4 in
-    let m = c.in_default.in_default-own.rest in
-    λ seg. ap (λ (e : Expr). (eval_in f k n F cl b e seg).out) (sym (tuple_form f L a h ((last_code (get_or f a 0) (some_code f L a h) m.0.0.0.0.0.1 m.0.0.0.0.1 m.0.0.0.1 m.0.0.1 m.0.1 lf.no_unary lf.no_binary lf.no_if m.1 lf.no_arrow lf.no_cast lf.no_call))).0.tree)
+    λ seg. ap (λ (e : Expr). (eval_in f k n F cl b e seg).out) (sym (tuple_form f L a h ((last_code (get_or f a 0) (some_code f L a h) (omega arith) (omega arith) (omega arith) (omega arith) (omega arith) lf.no_unary lf.no_binary lf.no_if (omega arith) lf.no_arrow lf.no_cast lf.no_call))).0.tree)

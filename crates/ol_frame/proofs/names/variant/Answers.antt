@@ -1,8 +1,7 @@
-use mathlib.Core.Path.{◌≡◌, refl, sym, ap, subst, ◌∙◌}
-use Prim.Native.Nat.{ℕ, ◌+◌, ◌*◌}
+use mathlib.Core.Path.{ap, ◌∙◌}
+use Prim.Native.Nat.{◌+◌, ◌*◌}
 use Rattle.ol_spec.specs.declared.Value.TheVariants as Val
 use Rattle.ol_frame.proofs.Naming.{name_bytes_lem}
-use borrow.Author.Rules.{rules}
 use Rattle.ol_frame.proofs.names.variant.Goals as goal
 
 pub returns : goal.returns

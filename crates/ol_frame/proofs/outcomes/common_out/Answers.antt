@@ -1,9 +1,8 @@
-use mathlib.Core.Path.{◌≡◌, refl, sym, ap, subst, ◌∙◌}
+use mathlib.Core.Path.{sym, ap, ◌∙◌}
 use Rattle.ol_spec.specs.Eval.{is_double?}
 use Rattle.ol_spec.specs.declared.Outcome.TheVariants as Out
 use Rattle.ol_frame.specs.Outcomes.{common_out, kind_of}
 use Rattle.ol_frame.proofs.RealKinds.{common_none}
-use borrow.Author.Rules.{rules}
 use Rattle.ol_frame.proofs.outcomes.common_out.Goals as goal
 
 pub returns-in-NotReal : goal.returns-in-NotReal

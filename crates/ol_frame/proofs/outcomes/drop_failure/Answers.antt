@@ -1,6 +1,5 @@
 use mathlib.Core.Path.{sym, ◌∙◌}
 use Rattle.ol_frame.proofs.Endings.{dropped, undropped}
-use borrow.Author.Rules.{rules}
 use Rattle.ol_frame.proofs.outcomes.drop_failure.Goals as goal
 
 pub returns-then-overflow : goal.returns-then-overflow

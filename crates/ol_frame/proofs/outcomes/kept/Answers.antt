@@ -1,4 +1,4 @@
-use mathlib.Core.Path.{◌≡◌, refl, sym, ap, subst, ◌∙◌}
+use mathlib.Core.Path.{sym, ap, ◌∙◌}
 use native.Mathlib.Omega.{arith}
 use Prim.Native.Nat.{◌<◌, ◌^◌}
 use lib.Signed.{mag}
@@ -7,7 +7,6 @@ use mir.Facts.{to_z-of_z}
 use borrow.Author.Rules.{sfits_of}
 use Rattle.ol_spec.specs.declared.Value.TheVariants as Val
 use Rattle.ol_frame.proofs.Backs.{back_from, bool_back, int_back, float_back, single_back, enum_back}
-use borrow.Author.Rules.{rules}
 use Rattle.ol_frame.proofs.outcomes.kept.Goals as goal
 
 pub returns-in-Bool : goal.returns-in-Bool

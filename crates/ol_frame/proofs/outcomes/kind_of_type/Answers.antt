@@ -1,4 +1,5 @@
-use mathlib.Core.Path.{◌≡◌, refl, sym, ap, subst, ◌∙◌}
+use native.Mathlib.Omega.{arith}
+use mathlib.Core.Path.{sym, ap}
 use Rattle.ol_spec.specs.Eval.{kind_of_type}
 use Rattle.ol_value.specs.Codes.{ty_of}
 use Prim.Native.Nat.{ℕ}
@@ -13,4 +14,4 @@ returns-in-10 c = λ e. ap (λ (c : ℕ). kind_of_type (ty_of c e)) (sym c.in-10
 
 pub returns-in_default : goal.returns-in_default
 returns-in_default c =
-    λ e. other_kind c.args.code e c.in_default.in_default-own.rest.0.1 c.in_default.in_default-own.rest.1
+    λ e. other_kind c.args.code e (omega arith) (omega arith)

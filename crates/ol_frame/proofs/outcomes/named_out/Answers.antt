@@ -1,7 +1,6 @@
-use mathlib.Core.Path.{◌≡◌, sym, ap, ◌∙◌}
+use mathlib.Core.Path.{sym, ap, ◌∙◌}
 use Rattle.ol_spec.specs.declared.Outcome.TheVariants as Out
 use Rattle.ol_frame.proofs.Endings.{named_failed, named_over}
-use borrow.Author.Rules.{rules}
 use Rattle.ol_frame.proofs.outcomes.named_out.Goals as goal
 
 pub returns-in-Value : goal.returns-in-Value

@@ -1,6 +1,5 @@
-use mathlib.Core.Path.{◌≡◌, sym, ap, ◌∙◌}
+use mathlib.Core.Path.{sym, ap, ◌∙◌}
 use Rattle.ol_spec.specs.declared.Outcome.TheVariants as Out
-use borrow.Author.Rules.{rules}
 use Rattle.ol_frame.proofs.outcomes.same_out.Goals as goal
 
 pub returns-in-Value : goal.returns-in-Value

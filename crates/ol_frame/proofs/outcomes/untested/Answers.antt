@@ -1,6 +1,5 @@
 use mathlib.Core.Path.{sym, ap}
 use Rattle.ol_frame.specs.Outcomes.{untested_of}
-use borrow.Author.Rules.{rules}
 use Rattle.ol_frame.proofs.outcomes.untested.Goals as goal
 
 pub returns-in-Value : goal.returns-in-Value

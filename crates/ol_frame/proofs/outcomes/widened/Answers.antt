@@ -1,8 +1,7 @@
-use mathlib.Core.Path.{◌≡◌, refl, sym, ap, subst, ◌∙◌}
+use mathlib.Core.Path.{sym, ap, ◌∙◌}
 use mathlib.Core.Bool.{true}
 use Rattle.ol_spec.specs.Eval.{common_real}
 use Rattle.ol_spec.specs.declared.Value.TheVariants as Val
-use borrow.Author.Rules.{rules}
 use Rattle.ol_frame.proofs.outcomes.widened.Goals as goal
 
 pub returns-in-Float32 : goal.returns-in-Float32

@@ -2,7 +2,6 @@ use mathlib.Core.Path.{sym, ap, ◌∙◌}
 use Prim.Native.Nat.{◌+◌, ◌*◌}
 use lib.ListN.{get_or-eq_default}
 use Rattle.ol_tables.proofs.TableLaws.{code_is}
-use borrow.Author.Rules.{rules}
 use Rattle.ol_frame.proofs.tables.code_of.Goals as goal
 
 pub returns-then-p-tab : goal.returns-then-p-tab

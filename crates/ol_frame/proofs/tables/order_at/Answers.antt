@@ -1,9 +1,8 @@
-use mathlib.Core.Path.{◌≡◌, sym, ap, ◌∙◌}
+use mathlib.Core.Path.{◌≡◌, ap, ◌∙◌}
 use native.Mathlib.Omega.{arith}
 use Prim.Native.Nat.{ℕ, ◌+◌, ◌*◌}
 use lib.ListN.{get_or, length-drop}
 use Rattle.ol_frame.proofs.Tabling.{tab_byte}
-use borrow.Author.Rules.{rules}
 use Rattle.ol_frame.proofs.tables.order_at.Goals as goal
 
 pub bounds-tab-p : goal.bounds-tab-p

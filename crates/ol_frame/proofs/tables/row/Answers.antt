@@ -1,7 +1,6 @@
 use native.Mathlib.Omega.{arith}
 use Prim.Native.Nat.{◌+◌, ◌*◌}
 use Rattle.ol_tables.proofs.TableLaws.{rows_get}
-use borrow.Author.Rules.{rules}
 use Rattle.ol_frame.proofs.tables.row.Goals as goal
 
 pub returns : goal.returns

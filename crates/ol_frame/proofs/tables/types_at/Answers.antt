@@ -2,7 +2,6 @@ use native.Mathlib.Omega.{arith}
 use Prim.Native.Nat.{◌+◌, ◌*◌}
 use lib.ListN.{length-drop}
 use Rattle.ol_tables.proofs.TableLaws.{types_from_lem}
-use borrow.Author.Rules.{rules}
 use Rattle.ol_frame.proofs.tables.types_at.Goals as goal
 
 pub overflow_sub-result : goal.overflow_sub-result
