@@ -1,5 +1,5 @@
 -- What the proofs of the conversions cite: a test of a real and what it says of the result that ol_spec's name has.
-use Rattle.std.proofs.Common.{◌≡◌, ℕ, ◌+◌, ◌-◌, ◌*◌, ◌/◌, ◌%◌, ◌^◌, ◌<◌, ◌≤◌, min, Bool, true, false, not, ◌&&◌, ◌||◌, T, eqb, ltb, ◌≢◌, ◌⊎◌, pos, neg_ℤ, sym, refl, ap, ◌∙◌, subst, inl, inr, ⊎_elim, le_of_eq, le_of_lt, le-div_iff_mul-le, arith, eqb→eq, ltb→lt, lt→ltb, nltb→le, T_not, le-ltb}
+use Rattle.std.proofs.Common.{◌≡◌, ℕ, ◌+◌, ◌-◌, ◌*◌, ◌/◌, ◌%◌, ◌^◌, ◌<◌, ◌≤◌, min, Bool, true, false, not, ◌&&◌, ◌||◌, T, eqb, ltb, ◌≢◌, pos, neg_ℤ, sym, refl, ap, ◌∙◌, subst, ⊎_elim, le_of_eq, le_of_lt, le-div_iff_mul-le, arith, eqb→eq, ltb→lt, lt→ltb, nltb→le, T_not, le-ltb}
 use mathlib.Core.Logic.{by_cases}
 use native.Mathlib.Decide.{dec_lt}
 use lib.Bits.{bit_and, and_mask}

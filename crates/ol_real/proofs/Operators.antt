@@ -1,7 +1,7 @@
 -- The operators, casts and stores of evaluation give IEEE 754's results: `operators-hold`.
-use Rattle.std.proofs.Common.{◌≡◌, ℕ, Bool, true, false, cond, not, T, ◌⊎◌, ◌↔◌, sym, refl, ap, ◌∙◌, subst, ⊎_elim, T_not}
+use Rattle.std.proofs.Common.{◌≡◌, ℕ, Bool, not, T, ◌⊎◌, ◌↔◌, sym, refl, ap, ◌∙◌, subst, ⊎_elim, T_not}
 use lib.Dec.{not_T}
-use lib.Ieee.{Float, nan, inf, fin, binary32}
+use lib.Ieee.{nan, inf, fin, binary32}
 use lib.Ieee.Fits.{two}
 use Rattle.ol_spec.specs.Real as R
 use Rattle.ol_spec.specs.Real.{Real, Precision, by_precision, zero_r, add_r, sub_r, mul_r, div_r, neg_r, of_int, round_single, widen, truncate, eq_r, lt_r, le_r}

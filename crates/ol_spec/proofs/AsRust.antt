@@ -1,5 +1,5 @@
 -- A list of cycles is a run of the Rust: specs/AsRust's claim.
-use Prim.Native.Nat.{ℕ, ◌+◌, ◌-◌, ◌<◌}
+use Prim.Native.Nat.{ℕ, ◌+◌, ◌-◌}
 use mathlib.Core.Bool.{Bool, true, false, not, ◌&&◌, cond}
 use mathlib.Core.List.Memᴰ.{append_right as in_right}
 use mathlib.Core.List.Memᴰ.{cases_cons as in_cons}
@@ -21,15 +21,15 @@ use Rattle.ol_spec.specs.Cell.{cells, values_of}
 use Rattle.ol_spec.specs.Limits.{Loader}
 use Rattle.ol_spec.specs.Order.{order}
 use Rattle.ol_spec.specs.Eval.{Globals}
-use Rattle.ol_spec.specs.Step.{sites, own_size, is_fresh, old_cells, Ended, finished, failed_at, overflowed_at, Run, calls, started_record, fresh_record}
-use Rattle.ol_spec.specs.Admission.{constant_names, variants, judge, admitted, head_size, state_size}
+use Rattle.ol_spec.specs.Step.{sites, own_size, is_fresh, old_cells, Ended, Run, started_record, fresh_record}
+use Rattle.ol_spec.specs.Admission.{constant_names, judge, admitted, head_size, state_size}
 use Rattle.ol_spec.specs.State.{globals_of, fresh_state, good_inputs}
 use Rattle.ol_spec.specs.Cycle.{StartCall, start_fits, start_judged, start, CycleCall, end_on, main_run, end_run, cycle_unless, fits17, cycle}
 use Rattle.ol_spec.specs.Answers.{fault_at}
 use Rattle.ol_spec.specs.Demand3.{Bytes, Turn, Made, next_state, history}
 use Rattle.ol_spec.specs.Lustre.{answers}
 use Rattle.ol_spec.specs.RustOrder.{evaluation_order}
-use Rattle.ol_spec.specs.RustSim.{Env, get, State, state, no_states, past, prev, default_state, Ran, Sim, ok, Stepped, for_order, seed, step, step_env, step_full, step_end, report, default_value, new_on, new, LoopEnd, done}
+use Rattle.ol_spec.specs.RustSim.{Env, get, State, state, no_states, past, prev, default_state, Ran, Sim, Stepped, for_order, seed, step, step_env, step_full, step_end, report, default_value, new_on, new, LoopEnd, done}
 use Rattle.ol_spec.specs.AsRust.{fitting, named, answer_of, written, told, refusal, step_on, call_on, sim_after, AsRust, RunsAsRust}
 use Rattle.ol_spec.specs.RustState.{constants_in, state_bytes}
 use Rattle.ol_spec.specs.declared.Value.{Value}

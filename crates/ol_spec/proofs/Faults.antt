@@ -26,7 +26,7 @@ use Rattle.ol_spec.specs.Order.{passes, order, unplaced}
 use Rattle.ol_spec.specs.Places.{placed_nodes}
 use Rattle.ol_spec.specs.Eval.{Globals, Calls, Outcomes, values, failure, overflow}
 use Rattle.ol_spec.specs.Step.{Ended, finished, failed_at, overflowed_at, store, store_on, eval_equation, run_all, run}
-use Rattle.ol_spec.specs.Admission.{Judged, refused, admitted, refuse_at, refuse_first, judge_read, judge, verdict, admission, faults, state_size}
+use Rattle.ol_spec.specs.Admission.{Judged, refused, admitted, refuse_at, refuse_first, judge_read, judge, verdict, faults, state_size}
 use Rattle.ol_spec.specs.State.{good_state, good_inputs}
 use Rattle.ol_spec.specs.Cycle.{order_fits, order_unless_ring, order_node, order_read, ordering, start_fits, start_judged, start, end_on, main_run, cycle_unless, fits17, cycle_judged, cycle}
 use Rattle.ol_spec.specs.Faults.{From, Numbered, Inside, NumbersClaim}

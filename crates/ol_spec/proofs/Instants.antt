@@ -3,23 +3,23 @@ use Prim.Native.Nat.{ℕ, zero, suc, ◌+◌, ◌-◌, ◌<◌}
 use mathlib.Core.Bool.{Bool, true, false, cond}
 use mathlib.Core.List.Memᴰ.{head as here}
 use mathlib.Core.List.Memᴰ.{tail as there}
-use mathlib.Core.List.{List, [], ◌∷◌, ◌++◌, map, append_assoc}
+use mathlib.Core.List.{List, [], ◌∷◌, ◌++◌, map}
 use mathlib.Core.Option.{Option, none, some}
 use mathlib.Core.Path.{◌≡◌, refl, sym, ap, subst, ◌∙◌}
 use native.Mathlib.Omega.{arith}
 use lib.ListN.{length, take, drop}
 use Rattle.ol_theory.specs.Member.{◌∈◌}
 use Rattle.ol_spec.specs.Lists.{maybe}
-use Rattle.ol_spec.specs.Syntax.{NodeKind, Function, Operator, Imported, Node, File, Expr, bool_lit, if_then_else, main}
+use Rattle.ol_spec.specs.Syntax.{NodeKind, Function, Operator, Imported, Node, File, bool_lit, if_then_else, main}
 use Rattle.ol_spec.specs.Limits.{Loader}
 use Rattle.ol_spec.specs.Order.{order}
 use Rattle.ol_spec.specs.Eval.{Globals, node_at, record_size}
-use Rattle.ol_spec.specs.Step.{sites, own_size, is_fresh, old_cells}
+use Rattle.ol_spec.specs.Step.{sites, own_size, old_cells}
 use Rattle.ol_spec.specs.Admission.{judge, admitted}
 use Rattle.ol_spec.specs.State.{globals_of, fresh_state}
 use Rattle.ol_spec.specs.Answers.{cause_number}
-use Rattle.ol_spec.specs.Cycle.{CycleCall, cycle}
-use Rattle.ol_spec.specs.Demand3.{Turn, Made, next_state, history, main_record}
+use Rattle.ol_spec.specs.Cycle.{CycleCall}
+use Rattle.ol_spec.specs.Demand3.{Turn, Made, history, main_record}
 use Rattle.ol_spec.specs.Lustre.{firstly, cells_before}
 use Rattle.ol_spec.specs.RustSim.{width, Env, Key, State, state, States, get_state, past, prev, child_calls, choose, branch, LoopEnd, done, err_at, panic_at, Ran, Sim, for_order, seed, step, step_env, step_full, step_end}
 use Rattle.ol_spec.specs.RustLeaves.{SimError}
@@ -33,7 +33,7 @@ use Rattle.ol_spec.specs.declared.Value.{Value}
 use Rattle.ol_spec.specs.declared.Cause.{Cause}
 use Rattle.ol_spec.specs.declared.Cause.TheVariants as Why
 use Rattle.ol_spec.proofs.Admitted.{Facts}
-use Rattle.ol_spec.proofs.States.{is_main, made}
+use Rattle.ol_spec.proofs.States.{is_main}
 use Rattle.ol_spec.proofs.RustPlaces.{callee_of, sites_are}
 use Rattle.ol_spec.proofs.RustLeaves.{cause_of, number_is}
 use Rattle.ol_spec.proofs.RustCalls.{FileRust}

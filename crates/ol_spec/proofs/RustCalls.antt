@@ -19,7 +19,7 @@ use Rattle.ol_spec.specs.Cell.{cells, values_of}
 use Rattle.ol_spec.specs.Types.{default_of, defaults}
 use Rattle.ol_spec.specs.Order.{order}
 use Rattle.ol_spec.specs.Eval.{Globals, Evals, node_at, values}
-use Rattle.ol_spec.specs.Step.{sites, own_size, is_fresh, old_cells, outputs_in, started_record, fit_all, Ended, finished, failed_at, overflowed_at, Run, run, fresh_instance, fresh_by, fresh_at, fresh_record, leave_on, leave, instance, call_by, calls_at}
+use Rattle.ol_spec.specs.Step.{sites, own_size, is_fresh, old_cells, outputs_in, started_record, fit_all, Ended, Run, run, fresh_instance, fresh_by, fresh_at, fresh_record, leave_on, leave, instance, call_by, calls_at}
 use Rattle.ol_spec.specs.Admission.{constant_names, variants}
 use Rattle.ol_spec.specs.State.{globals_of}
 use Rattle.ol_spec.specs.RustOrder.{evaluation_order}

@@ -24,7 +24,6 @@ use Rattle.ol_spec.specs.RustLeaves.{eval_unary, eval_binary, cast_value, join_k
 use Rattle.ol_spec.specs.declared.Value.{Value}
 use Rattle.ol_spec.specs.declared.Value.TheVariants as Val
 use Rattle.ol_spec.specs.declared.Outcome.{Outcome}
-use Rattle.ol_spec.specs.declared.Outcome.TheVariants as Out
 use Rattle.ol_spec.proofs.RustLeaves.{Single, cause_of, Tells, gives, errs, panics, tells_in, unary_is, binary_is, cast_is, join_is, type_is, value_is, double_is, arithmetic_is, widen_is, call_is as calling_is}
 use Rattle.ol_spec.proofs.RustPlaces.{Home, key_at, same_site, Lie, lie_next}
 use Rattle.ol_spec.proofs.Tests.{T_true}

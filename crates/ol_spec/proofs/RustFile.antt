@@ -29,7 +29,6 @@ use Rattle.ol_spec.specs.RustLeaves.{fit_to}
 use Rattle.ol_spec.specs.declared.Value.{Value}
 use Rattle.ol_spec.specs.declared.Verdict.TheVariants.{Refused}
 use Rattle.ol_spec.specs.declared.Outcome.{Outcome}
-use Rattle.ol_spec.specs.declared.Outcome.TheVariants as Out
 use Rattle.ol_spec.proofs.RustLeaves.{Tells, gives, errs, panics, fit_is, fine_single}
 use Rattle.ol_spec.proofs.Tests.{T_and, and_t, T-dec, member_in, in_member}
 use Rattle.ol_spec.proofs.Lists.{All, all_join, distinct_parts}

@@ -1,12 +1,12 @@
 -- The leaves that are written from the Rust are those of Operators, Types, Eval and Order.
 use Prim.Native.Nat.{ℕ, ◌-◌, ◌^◌}
-use mathlib.Core.Bool.{Bool, true, false, not, ◌&&◌, ◌||◌, beq, cond}
+use mathlib.Core.Bool.{Bool, true, false, not, ◌&&◌, ◌||◌, cond}
 use mathlib.Core.List.{List, [], ◌∷◌, ◌++◌, append_assoc, append-nil}
 use mathlib.Core.Option.{Option, none, some}
 use mathlib.Core.Path.{◌≡◌, refl, sym, ap, ap₂, subst, ◌∙◌}
 use native.Mathlib.Omega.{arith}
 use lib.ListN.{get_or, get_or-map}
-use lib.Dec.{T, ltb, leb, ltb→lt, lt→ltb, leb→le, le→leb, eqb}
+use lib.Dec.{ltb, leb, ltb→lt, lt→ltb, leb→le, le→leb}
 use lib.IntN.{ℤ, pos, negsuc, neg_ℤ, ◌+ℤ◌, ◌-ℤ◌, ◌*ℤ◌}
 use lib.Signed.{mag, quot_z, rem_z}
 use Rattle.ol_spec.specs.Lists.{maybe, is_empty}
@@ -17,8 +17,8 @@ use Rattle.ol_spec.specs.Types.{int_tys, int_ty, whole, narrow, fit, cast_to, de
 use Rattle.ol_spec.specs.Operators.{exact, div_int, mod_int, eq_z, shift_by, unary_of, on_pair, bools, ints, reals, names, unlike, binary_of}
 use Rattle.ol_spec.specs.Order.{reads, reads_all}
 use Rattle.ol_spec.specs.Eval.{callees, callees_all, has_call, RealKind, not_real, is_single, is_double_kind, join, kind_of_value, kind_of_type, arithmetic, is_double?, common_real}
-use Rattle.ol_spec.specs.RustLeaves.{RValue, SimError, uninitialized_pre, binary_not_supported, unary_not_supported, other_error, Result, Ok, Err, Panic, plain, plainly, AReal, both, rust_int_in, real_in, ok_int, in_i64, checked, shift_count, bool_arm, eq_arm, int_arm, real_arm, eval_values, unary_value, narrow_int, cast_plain, fit_to, default_named, rust_default_of, join_kinds, is_double, of_type, of_value, is_arithmetic, widen_beside, rust_has_call, has_calls, same_cycle_reads, all_reads}
-use Rattle.ol_spec.specs.AsRust.{matches, takes, takes_both, error_number}
+use Rattle.ol_spec.specs.RustLeaves.{RValue, SimError, uninitialized_pre, binary_not_supported, unary_not_supported, other_error, Result, Ok, Err, Panic, plain, plainly, AReal, both, rust_int_in, real_in, ok_int, in_i64, checked, shift_count, eq_arm, int_arm, eval_values, unary_value, narrow_int, cast_plain, fit_to, default_named, rust_default_of, join_kinds, is_double, of_type, of_value, is_arithmetic, widen_beside, rust_has_call, has_calls, same_cycle_reads, all_reads}
+use Rattle.ol_spec.specs.AsRust.{matches, takes_both, error_number}
 use Rattle.ol_spec.specs.Answers.{cause_number}
 use Rattle.ol_spec.proofs.Data.{single_back}
 use Rattle.ol_spec.proofs.Values.{Fine}

@@ -6,7 +6,7 @@ use mathlib.Core.List.Memᴰ.{append_right as in_right}
 use mathlib.Core.List.Memᴰ.{head as here}
 use mathlib.Core.List.Memᴰ.{not-nil as in_nil}
 use mathlib.Core.List.Memᴰ.{tail as there}
-use mathlib.Core.List.{List, [], ◌∷◌, ◌++◌, map}
+use mathlib.Core.List.{List, [], ◌∷◌, ◌++◌}
 use mathlib.Core.Logic.{by_cases}
 use mathlib.Core.Option.{Option, none, some}
 use mathlib.Core.Path.{◌≡◌, refl, sym, ap, subst, ◌∙◌}
@@ -23,7 +23,6 @@ use Rattle.ol_spec.specs.Eval.{callees, callees_all, node_at}
 use Rattle.ol_spec.specs.Step.{equation_sites, sites, no_equation, equation_at}
 use Rattle.ol_spec.specs.Order.{order}
 use Rattle.ol_spec.specs.State.{globals_of}
-use Rattle.ol_spec.specs.RustOrder.{evaluation_order}
 use Rattle.ol_spec.specs.RustSim.{Env, width, widths, Key, address, State, state, States, no_states, same_key, get_state, remove_state, past, prev, child_calls, default_state, RValue, plain, Tuple, Result, Ok, Err, Panic, Res, Ress, then_on, then_res, push_on, push, then_all_on, then_all, if_bool, step_untaken, Branch, take_branch, choose, StepInstance, LoopEnd, done, err_at, panic_at, Ran, find_node, call_kind, call_arity, eval_call, eval_args, bind_lhs, bound_on, bind_on, bind_next, for_order, reseed, callee_env, function_end, operator_end, end_function, end_operator, step_kind, step_ordered, step_instance}
 use Rattle.ol_spec.specs.RustSim as Rust
 use Rattle.ol_spec.specs.RustState.{state_or}

@@ -16,7 +16,7 @@ use Rattle.ol_theory.specs.Member.{◌∈◌}
 use Rattle.ol_spec.specs.Lists.{maybe, or_else, concat, member, position, lookup}
 use Rattle.ol_spec.specs.Syntax.{bool, Equation, Node, File, variables, variable_names, name_of, type_of, rhs_of}
 use Rattle.ol_spec.specs.Types.{fit}
-use Rattle.ol_spec.specs.Eval.{Globals, Calls, Evals, Outcomes, values, failure, overflow, callees, present_of, before_of, constant_of, variant_of}
+use Rattle.ol_spec.specs.Eval.{Globals, Calls, Evals, Outcomes, callees, present_of, before_of, constant_of, variant_of}
 use Rattle.ol_spec.specs.Step.{equation_sites, sites, split, put_at, assign, Ended, finished, failed_at, overflowed_at, Run, no_equation, equation_at, store_on, store, scope, eval_equation, run_all}
 use Rattle.ol_spec.specs.Admission.{constant_names, variants}
 use Rattle.ol_spec.specs.State.{globals_of}

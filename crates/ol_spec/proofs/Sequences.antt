@@ -24,7 +24,6 @@ use Rattle.ol_spec.specs.Sequences.{add_instant, instants, beside, or_nil, outco
 use Rattle.ol_spec.specs.declared.Value.{Value}
 use Rattle.ol_spec.specs.declared.Outcome.{Outcome}
 use Rattle.ol_spec.specs.declared.Outcome.TheVariants as Out
-use Rattle.ol_spec.specs.declared.Cause.{Cause}
 use Rattle.ol_spec.specs.declared.Cycled.{Cycled}
 use Rattle.ol_spec.specs.declared.Cycled.TheVariants as Cyc
 use Rattle.ol_spec.proofs.Tests.{member_in, in_member}

@@ -1,5 +1,5 @@
 -- What docs/DIFFERENCES says of the 1991 paper and of the sources' own comments, executed on its smallest inputs (K's row is in Examples).
-use Rattle.std.specs.Prelude.{true, false, List, [], ◌∷◌, ◌++◌, ◌≡◌, refl}
+use Rattle.std.specs.Prelude.{true, false, [], ◌∷◌, ◌++◌, ◌≡◌, refl}
 use Rattle.ol_spec.specs.Real as R
 use Rattle.ol_spec.specs.Syntax.{bool, int, float32, char, Function, Operator, Neg, Add, Div, Shr, float_lit, var, unary, binary, if_then_else, pre, arrow, call, nil}
 use Rattle.ol_spec.specs.Build.{everything, x, ◌≔◌, node, file, num, i, neg, v1, counts, left, trace}

@@ -1,6 +1,6 @@
 -- The 1991 paper's `pre` and `->` on whole sequences of outcomes, over the instants of a list of cycles; and that the main instance's start values never come back. Types only:
 -- proofs/Sequences proves the claims.
-use Rattle.std.specs.Prelude.{ℕ, suc, ◌<◌, Bool, false, cond, List, [], ◌∷◌, ◌++◌, map, ◌≡◌, length, take, drop, T}
+use Rattle.std.specs.Prelude.{ℕ, ◌<◌, Bool, false, cond, List, [], ◌∷◌, ◌++◌, map, ◌≡◌, length, take, drop, T}
 use Rattle.std.proofs.Math.Option.{Option, none, some}
 use Rattle.std.proofs.Math.ListN.{get_elem?}
 use Rattle.ol_spec.specs.Lists.{maybe, member}
@@ -17,7 +17,6 @@ use Rattle.ol_spec.specs.Lustre.{pre, arrow, firstly, cells_before, eval_in}
 use Rattle.ol_spec.specs.declared.Value.{Value}
 use Rattle.ol_spec.specs.declared.Outcome.{Outcome}
 use Rattle.ol_spec.specs.declared.Outcome.TheVariants as Out
-use Rattle.ol_spec.specs.declared.Cause.{Cause}
 use Rattle.ol_spec.specs.declared.Cause.TheVariants as Why
 use Rattle.ol_spec.specs.declared.Cycled.{Cycled}
 use Rattle.ol_spec.specs.declared.Cycled.TheVariants as Cyc

@@ -1,4 +1,4 @@
-use Rattle.std.proofs.Common.{arith, rules}
+use Rattle.std.proofs.Common.{arith}
 use Rattle.ol_real.proofs.Singles.{unit_pos, twice_small, whole_small, low_is, high_is, tie_is}
 use Rattle.ol_real.proofs.closest.Goals as goal
 

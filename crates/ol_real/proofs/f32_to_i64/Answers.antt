@@ -1,4 +1,4 @@
-use Rattle.std.proofs.Common.{ap, ◌∙◌, w64, rules}
+use Rattle.std.proofs.Common.{ap, ◌∙◌, w64}
 use mir.ValLaws.{to_z-of_z}
 use Rattle.ol_spec.specs.Real.{truncate}
 use Rattle.ol_real.proofs.f32_to_i64.Goals as goal

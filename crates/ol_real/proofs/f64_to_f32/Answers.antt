@@ -1,5 +1,5 @@
-use Rattle.std.proofs.Common.{T, ap, ◌∙◌}
-use lib.Ieee.{binary64, fits, neg}
+use Rattle.std.proofs.Common.{ap, ◌∙◌}
+use lib.Ieee.{neg}
 use Rattle.ol_real.proofs.Conversions.{yes, no_nan}
 use Rattle.ol_real.proofs.Singles.{size_most, plus_single, minus_single, nan_single}
 use Rattle.ol_real.proofs.f64_to_f32.Goals as goal

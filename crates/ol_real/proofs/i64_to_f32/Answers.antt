@@ -1,4 +1,4 @@
-use Rattle.std.proofs.Common.{ap, ◌∙◌, lit≤, w64, rules}
+use Rattle.std.proofs.Common.{ap, ◌∙◌, lit≤, w64}
 use lib.Ieee.{binary32, neg}
 use Rattle.std.proofs.num.Nearest.{Plain, Turned, plain, turn}
 use Rattle.ol_spec.specs.Real.{single, of_int}

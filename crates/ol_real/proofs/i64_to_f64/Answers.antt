@@ -1,4 +1,4 @@
-use Rattle.std.proofs.Common.{ap, ◌∙◌, w64, rules}
+use Rattle.std.proofs.Common.{ap, ◌∙◌, w64}
 use Rattle.ol_spec.specs.Real.{double, of_int}
 use mir.ValLaws.{to_z-of_z}
 use Rattle.ol_real.proofs.i64_to_f64.Goals as goal

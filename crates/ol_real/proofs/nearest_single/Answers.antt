@@ -1,5 +1,5 @@
 use lib.Ieee.{binary32}
-use Rattle.std.proofs.Common.{le_of_lt, rules}
+use Rattle.std.proofs.Common.{le_of_lt}
 use Rattle.ol_real.proofs.Singles.{no_nan_below, bits_small, bits_nearest, bits_infinite}
 use Rattle.ol_real.proofs.nearest_single.Goals as goal
 

@@ -1,4 +1,4 @@
-use Rattle.std.proofs.Common.{◌∙◌, arith, rules}
+use Rattle.std.proofs.Common.{◌∙◌, arith}
 use Rattle.ol_real.proofs.Singles.{digits_small, normal_kept, small_kept, infinite_single, double_single, zero_single}
 use Rattle.ol_real.proofs.size_to_f32.Goals as goal
 

@@ -1,4 +1,4 @@
-use Rattle.std.proofs.Common.{refl, ◌∙◌, arith, le→leb, rules}
+use Rattle.std.proofs.Common.{refl, ◌∙◌, arith, le→leb}
 use lib.Count.{leading_le}
 use lib.Ieee.{in_float}
 use Rattle.ol_spec.specs.Real.{of_int}
