@@ -1,12 +1,12 @@
 -- Laws of several expressions, evaluated in turn: the loop of `eval_all`.
-use Prim.Native.Nat.{ℕ, zero, suc, ◌+◌, ◌-◌, ◌*◌, ◌≤◌, ◌<◌}
+use Prim.Native.Nat.{ℕ, suc, ◌+◌, ◌-◌, ◌*◌, ◌≤◌, ◌<◌}
 use mathlib.Core.Bool.{Bool, true, false}
 use mathlib.Core.List.{List, [], ◌∷◌, ◌++◌, map, append_assoc, append-nil}
 use mathlib.Core.Path.{◌≡◌, refl, sym, ap, subst, ◌∙◌}
 use native.Mathlib.Omega.{arith}
 use lib.ListN.{length, take, drop, get_or, length-append, length-drop, take-append-drop}
 use lib.Seq.{take-take, drop-drop, take_at, drop_at}
-use Rattle.ol_spec.specs.Syntax.{Variable, bool, Node, variables, type_of, Exprs}
+use Rattle.ol_spec.specs.Syntax.{Variable, bool, variables, type_of, Exprs}
 use Rattle.ol_spec.specs.Cell.{cell, value_of, values_of}
 use Rattle.ol_spec.specs.Types.{fit}
 use Rattle.ol_spec.specs.Eval.{Outcomes, values, failure, overflow, Eval, Evals, callees_all, sites_size, cons_out, next_all, next_all_on, eval, eval_all}
@@ -16,19 +16,18 @@ use Rattle.ol_spec.specs.declared.Cause.{Cause}
 use Rattle.ol_spec.specs.declared.Outcome.{Outcome}
 use Rattle.ol_spec.specs.declared.Outcome.TheVariants as Out
 use Rattle.ol_value.specs.Codes.{ty_of}
-use Rattle.ol_tables.specs.At.{file_at, node_in, expr_at, end_at, exprs_at, ends_at, ReadsAll}
+use Rattle.ol_tables.specs.At.{node_in, expr_at, end_at, ends_at, ReadsAll}
 use Rattle.ol_tables.specs.Tables.{code_at}
 use Rattle.ol_tables.proofs.Forms.{parted, none_read}
 use Rattle.ol_frame.specs.Walk.{nodes_in, sizes_in, Passable, SkipsTo}
 use Rattle.ol_frame.specs.Plans.{Program, globals_in, scope_in, eval_in, segs_at, seg_at}
-use Rattle.ol_eval.specs.Post.{Ready, Meets, EvalsTo}
+use Rattle.ol_eval.specs.Post.{Ready, EvalsTo}
 use Rattle.ol_frame.specs.Stores.{passed_by}
 use Rattle.ol_frame.specs.Outcomes.{ending_of}
 use Rattle.ol_frame.specs.declared.outcomes.Ending.{Ending}
 use Rattle.ol_frame.specs.declared.outcomes.Ending.TheVariants as End
 use Rattle.ol_eval.specs.Calls.{Holds, RanTo, Passes, passed_all, all_in}
 use Rattle.ol_eval.specs.declared.eval.Step.{Step}
-use Rattle.ol_eval.specs.declared.eval.Ran.{Ran}
 use Rattle.ol_frame.specs.declared.skip.Passed.{Passed}
 use Rattle.ol_tables.proofs.Lending.{tail_of, put_tail, tail_all, put_tail_lem, drop_take}
 use Rattle.ol_frame.proofs.Planning.{segs_cons}

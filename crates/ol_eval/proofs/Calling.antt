@@ -1,18 +1,18 @@
 -- Laws of a call: its arguments, then its callee on the call site's record.
-use Prim.Native.Nat.{ℕ, zero, suc, ◌+◌, ◌-◌, ◌*◌, ◌≤◌, ◌<◌}
+use Prim.Native.Nat.{ℕ, zero, suc, ◌+◌, ◌-◌, ◌≤◌, ◌<◌}
 use mathlib.Core.Bool.{Bool, true, false, cond}
-use mathlib.Core.List.{List, [], ◌∷◌, ◌++◌, append_assoc}
+use mathlib.Core.List.{List, ◌∷◌, ◌++◌, append_assoc}
 use mathlib.Core.Path.{◌≡◌, refl, sym, ap, subst, ◌∙◌}
 use native.Mathlib.Omega.{arith}
 use lib.Dec.{T, ltb, eqb}
 use borrow.Author.Tests.{lt-ltb}
 use lib.ListN.{length, take, drop, get_or, length-drop}
 use lib.Seq.{take-take, drop-drop, length-take-le}
-use Rattle.ol_spec.specs.Syntax.{NodeKind, Function, Operator, Imported, Node, Expr, call, Exprs, count, rhs_of}
+use Rattle.ol_spec.specs.Syntax.{NodeKind, Function, Operator, Imported, Expr, call, Exprs, count, rhs_of}
 use Rattle.ol_spec.specs.Cell.{values_of}
 use Rattle.ol_spec.specs.Eval.{Outcomes, values, failure, overflow, Eval, Evals, callees, callees_all, sites_size, enter, enter_on, single_eval, single, eval, eval_all, eval_rhs}
 use Rattle.ol_spec.specs.Step.{fit_all, calls}
-use Rattle.ol_spec.specs.Admission.{may_call, callee_in}
+use Rattle.ol_spec.specs.Admission.{may_call}
 use Rattle.ol_spec.specs.declared.Value.{Value}
 use Rattle.ol_spec.specs.declared.Outcome.{Outcome}
 use Rattle.ol_tables.specs.At.{file_at, node_in, expr_at, end_at, exprs_at, ends_at, ReadsAll}
@@ -26,9 +26,8 @@ use Rattle.ol_eval.specs.Post.{Ready, Meets, EvalsTo}
 use Rattle.ol_frame.specs.Outcomes.{ending_of}
 use Rattle.ol_frame.specs.declared.outcomes.Ending.{Ending}
 use Rattle.ol_frame.specs.declared.outcomes.Ending.TheVariants as End
-use Rattle.ol_eval.specs.Calls.{Holds, as_is, RanTo, Did, Passes, passed_all, all_in, PassedTo, Several, AllTo, is_call, outputs_at, rhs_eval, EntersTo, Steppable, SiteTo}
+use Rattle.ol_eval.specs.Calls.{Holds, as_is, RanTo, Did, Passes, all_in, PassedTo, Several, AllTo, is_call, outputs_at, rhs_eval, EntersTo, Steppable, SiteTo}
 use Rattle.ol_frame.specs.Stores.{Leaves}
-use Rattle.ol_eval.specs.declared.eval.Step.{Step}
 use Rattle.ol_eval.specs.declared.eval.Ran.{Ran}
 use Rattle.ol_tables.proofs.Lending.{tail_of, put_tail, tail_all, put_tail_lem, take_put, drop_put, drop_take}
 use Rattle.ol_frame.proofs.Endings.{failed_values, over_values}

@@ -1,8 +1,8 @@
 -- Laws of evaluation, over lists and numbers: each says what two evaluations, one after the other, make together.
 use mathlib.Core.Path.{◌≡◌, refl, sym, ap, subst, ◌∙◌}
 use mathlib.Core.Bool.{Bool, true, false}
-use mathlib.Core.List.{List, [], ◌∷◌, ◌++◌, append_assoc, append-nil}
-use Prim.Native.Nat.{ℕ, zero, suc, ◌+◌, ◌-◌, ◌≤◌, ◌<◌}
+use mathlib.Core.List.{List, [], ◌++◌, append_assoc, append-nil}
+use Prim.Native.Nat.{ℕ, ◌+◌, ◌-◌, ◌≤◌}
 use native.Mathlib.Omega.{arith}
 use lib.ListN.{length, take, drop, length-append, length-drop, take-append-drop, drop_of_length-le}
 use lib.Seq.{take-take, drop-drop, take_at, drop_at, length-take-le}
@@ -18,7 +18,7 @@ use Rattle.ol_frame.specs.Walk.{Skips}
 use Rattle.ol_eval.specs.Post.{Meets, Untaken}
 use Rattle.ol_eval.specs.declared.eval.Step.{Step}
 use Rattle.ol_frame.specs.declared.skip.Passed.{Passed}
-use Rattle.ol_tables.proofs.Lending.{tail_of, put_tail, tail_all, put_tail_lem, take_put, drop_put, drop_take}
+use Rattle.ol_tables.proofs.Lending.{tail_of, put_tail, tail_all, put_tail_lem, drop_put, drop_take}
 
 -- the new segment is as long as the old
 pub seg_length : {w : Eval} {x n : ℕ} {s new : List ℕ} {r : Step} → Meets w x n s r new → length new ≡ length s → n ≤ length s → length w.seg ≡ n

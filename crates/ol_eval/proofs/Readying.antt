@@ -1,8 +1,8 @@
 -- The parts of what can be evaluated can be evaluated, on their parts of the states.
 use mathlib.Core.Path.{◌≡◌, refl, sym, ap, subst, ◌∙◌}
-use mathlib.Core.Bool.{Bool, true, false, not}
-use mathlib.Core.List.{List, [], ◌∷◌, ◌++◌}
-use Prim.Native.Nat.{ℕ, zero, suc, ◌+◌, ◌-◌, ◌≤◌, ◌<◌}
+use mathlib.Core.Bool.{Bool, false, not}
+use mathlib.Core.List.{List, [], ◌++◌}
+use Prim.Native.Nat.{ℕ, suc, ◌+◌, ◌-◌, ◌≤◌}
 use native.Mathlib.Omega.{arith}
 use lib.ListN.{length, take, drop, get_or, length-drop, take-append-drop}
 use lib.Seq.{length-take-le, take-take}
@@ -13,18 +13,17 @@ use Rattle.ol_spec.specs.declared.Outcome.{Outcome}
 use Rattle.ol_frame.specs.Outcomes.{common_out}
 use Rattle.ol_tables.specs.At.{expr_at, end_at, exprs_at, ends_at, Reads, ReadsAll}
 use Rattle.ol_tables.specs.Tables.{Each, ty_code, ty_enum}
-use Rattle.ol_tables.specs.Heads.{head_size as head_of, parts_of}
+use Rattle.ol_tables.specs.Heads.{head_size as head_of}
 use Rattle.ol_tables.specs.Parts.{own_sites, Proper}
-use Rattle.ol_tables.proofs.Forms.{each_append, Formed, callees_all_lem, callees_form, one_read, one_tree, parted, none_read, by_form, callees_parts, var_form}
+use Rattle.ol_tables.proofs.Forms.{each_append, Formed, callees_all_lem, callees_form, one_tree, parted, none_read, by_form, var_form}
 use Rattle.ol_frame.specs.Walk.{sizes_in, Passable, Skips, SkipsTo}
 use Rattle.ol_frame.specs.declared.skip.Passed.{Passed}
-use Rattle.ol_frame.specs.Plans.{Plan, Cells, segs_at, seg_at, eval_in, Leaf, globals_in, scope_in, name_at}
+use Rattle.ol_frame.specs.Plans.{segs_at, seg_at, eval_in, Leaf, globals_in, scope_in, name_at}
 use Rattle.ol_eval.specs.Post.{Ready, Meets, EvalsTo, Untaken, UntakenTo, ChooseTo, choose_in}
 use Rattle.ol_frame.specs.Nodes.{Enters}
 use Rattle.ol_eval.specs.declared.eval.Step.{Step}
-use Rattle.ol_tables.proofs.Lending.{tail_of, put_tail, tail_all, take_put}
+use Rattle.ol_tables.proofs.Lending.{tail_of, put_tail, take_put}
 use Rattle.ol_frame.proofs.Passing.{callees_one}
-use Rattle.ol_tables.proofs.Forms.{own_call}
 use Rattle.ol_frame.proofs.RealKinds.{proper_type}
 use Rattle.ol_spec.specs.Operators.{unary_of, binary_of}
 use Rattle.ol_spec.specs.Types.{cast_to}
@@ -35,7 +34,7 @@ use Rattle.ol_spec.specs.declared.Outcome.TheVariants as Out
 use Rattle.ol_spec.specs.declared.Cause.TheVariants as Why
 use mathlib.Core.Option.{Option, some}
 use lib.ListN.{get_elem?}
-use Rattle.ol_frame.proofs.Planning.{plan_head, plan_first, plan_rest, plan_parts, plan_passable, segs_one, segs_cons, segs_form, segs_first}
+use Rattle.ol_frame.proofs.Planning.{plan_first, plan_rest, plan_parts, plan_passable, segs_one, segs_cons, segs_form, segs_first}
 use Rattle.ol_eval.proofs.Evals.{rest_old, rest_new}
 
 module _ {f tab rows consts : List ℕ} {node : ℕ} {cells before : List ℕ} where

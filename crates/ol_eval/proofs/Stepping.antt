@@ -1,6 +1,6 @@
 -- Laws of calling a node on its record: an Operator's instance steps, a Function runs as on a fresh record.
 use Prim.Native.Nat.{ℕ, zero, suc, ◌+◌, ◌-◌, ◌*◌, ◌<◌, ◌≤◌}
-use mathlib.Core.Bool.{Bool, true, false}
+use mathlib.Core.Bool.{Bool, false}
 use mathlib.Core.List.{List, [], ◌∷◌, ◌++◌, map}
 use mathlib.Core.Path.{◌≡◌, refl, sym, ap, subst, ◌∙◌}
 use native.Mathlib.Omega.{arith}
@@ -13,7 +13,7 @@ use Rattle.ol_spec.specs.Cell.{cells as cell_bytes, values_of}
 use Rattle.ol_spec.specs.Types.{default_of, defaults}
 use Rattle.ol_spec.specs.Order.{order}
 use Rattle.ol_spec.specs.Eval.{Globals, Evals, callees, sites_size, size_in, seg_size}
-use Rattle.ol_spec.specs.Step.{equation_sites, sites, own_size, is_fresh, old_cells, split, outputs_in, fit_all, Run, finished, failed_at, overflowed_at, no_equation, equation_at, run_all, run, fresh_by, fresh_at, fresh_record, globals, leave_on, leave, instance, call_by, calls}
+use Rattle.ol_spec.specs.Step.{equation_sites, sites, own_size, is_fresh, old_cells, split, outputs_in, fit_all, Run, finished, failed_at, overflowed_at, no_equation, equation_at, run_all, run, fresh_at, fresh_record, globals, leave_on, leave, instance, call_by, calls}
 use Rattle.ol_spec.specs.Step.{Ended as RunEnd}
 use Rattle.ol_spec.specs.State.{globals_of}
 use Rattle.ol_spec.specs.Admission.{may_call, bad_call, constant_names}

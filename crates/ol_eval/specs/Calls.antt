@@ -1,7 +1,7 @@
 -- What the members of the cycle that call, step and run nodes ask and give.
 use Rattle.std.specs.Prelude.{ℕ, ◌+◌, ◌*◌, ◌<◌, ◌≤◌, Bool, true, false, List, ◌++◌, ◌≡◌, eqb, length, take, drop, get_or}
 use Rattle.ol_spec.specs.Lists.{concat}
-use Rattle.ol_spec.specs.Syntax.{Imported, Variable, Node, rhs_of}
+use Rattle.ol_spec.specs.Syntax.{Imported, Variable, rhs_of}
 use Rattle.ol_spec.specs.Cell.{values_of}
 use Rattle.ol_spec.specs.Order.{order}
 use Rattle.ol_spec.specs.Eval.{Outcomes, values, failure, overflow, Evals, callees, sites_size, eval_all, eval_rhs}

@@ -1,6 +1,5 @@
 -- What the members of the cycle ask and give.
-use Rattle.std.specs.Prelude.{ℕ, ◌+◌, ◌<◌, ◌≤◌, Bool, true, false, List, [], ◌∷◌, ◌++◌, ◌≡◌, length, take, drop}
-use Rattle.ol_spec.specs.Syntax.{Expr}
+use Rattle.std.specs.Prelude.{ℕ, ◌≤◌, Bool, List, ◌++◌, ◌≡◌, length, take, drop}
 use Rattle.ol_spec.specs.Eval.{Eval, Branch, callees_all, next, map_eval, choose, branch, condition}
 use Rattle.ol_value.specs.Codes.{binary_by}
 use Rattle.ol_tables.specs.At.{expr_at, end_at, exprs_at, ends_at}

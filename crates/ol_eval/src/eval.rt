@@ -43,7 +43,7 @@ pub struct Step {
 }
 
 // The expression at `at`. A Var is read at once.
-#[cycle(call_equation_call_function_enter_equation_eval_eval_all_eval_call_eval_first_eval_form_eval_if_eval_second_eval_two_run_step_instance_step_site_step_untaken_tuple_equation)]
+#[cycle(evaluation)]
 pub fn eval(
     file: &[u8],
     tab: &[u8],
@@ -71,7 +71,7 @@ pub fn eval(
 }
 
 // The expression at `at`, by its form.
-#[cycle(call_equation_call_function_enter_equation_eval_eval_all_eval_call_eval_first_eval_form_eval_if_eval_second_eval_two_run_step_instance_step_site_step_untaken_tuple_equation)]
+#[cycle(evaluation)]
 fn eval_form(
     file: &[u8],
     tab: &[u8],
@@ -130,7 +130,7 @@ fn eval_form(
 }
 
 // The two operands of the Binary at `at`, of at most `level` levels, and what its operator makes of them. Both are evaluated, also of And.
-#[cycle(call_equation_call_function_enter_equation_eval_eval_all_eval_call_eval_first_eval_form_eval_if_eval_second_eval_two_run_step_instance_step_site_step_untaken_tuple_equation)]
+#[cycle(evaluation)]
 fn eval_two(
     file: &[u8],
     tab: &[u8],
@@ -168,7 +168,7 @@ fn eval_two(
 }
 
 // IfThenElse, whose condition is at `at`.
-#[cycle(call_equation_call_function_enter_equation_eval_eval_all_eval_call_eval_first_eval_form_eval_if_eval_second_eval_two_run_step_instance_step_site_step_untaken_tuple_equation)]
+#[cycle(evaluation)]
 fn eval_if(
     file: &[u8],
     tab: &[u8],
@@ -217,7 +217,7 @@ fn eval_if(
 }
 
 // Two branches, of which the first, at `at`, is taken.
-#[cycle(call_equation_call_function_enter_equation_eval_eval_all_eval_call_eval_first_eval_form_eval_if_eval_second_eval_two_run_step_instance_step_site_step_untaken_tuple_equation)]
+#[cycle(evaluation)]
 fn eval_first(
     file: &[u8],
     tab: &[u8],
@@ -253,7 +253,7 @@ fn eval_first(
 }
 
 // Two branches, the first at `at`, of which the second is taken.
-#[cycle(call_equation_call_function_enter_equation_eval_eval_all_eval_call_eval_first_eval_form_eval_if_eval_second_eval_two_run_step_instance_step_site_step_untaken_tuple_equation)]
+#[cycle(evaluation)]
 fn eval_second(
     file: &[u8],
     tab: &[u8],
@@ -289,7 +289,7 @@ fn eval_second(
 }
 
 // The branch at `at`, which is not taken, is evaluated for its records only: whether it overflowed. Its value or failure is dropped.
-#[cycle(call_equation_call_function_enter_equation_eval_eval_all_eval_call_eval_first_eval_form_eval_if_eval_second_eval_two_run_step_instance_step_site_step_untaken_tuple_equation)]
+#[cycle(evaluation)]
 fn step_untaken(
     file: &[u8],
     tab: &[u8],
@@ -318,7 +318,7 @@ pub struct Ran {
 }
 
 // The call at `at`, as one value.
-#[cycle(call_equation_call_function_enter_equation_eval_eval_all_eval_call_eval_first_eval_form_eval_if_eval_second_eval_two_run_step_instance_step_site_step_untaken_tuple_equation)]
+#[cycle(evaluation)]
 fn eval_call(
     file: &[u8],
     tab: &[u8],
@@ -345,7 +345,7 @@ fn eval_call(
 }
 
 // The call at `at`: its arguments, and then the callee, whose outputs are left in `args`.
-#[cycle(call_equation_call_function_enter_equation_eval_eval_all_eval_call_eval_first_eval_form_eval_if_eval_second_eval_two_run_step_instance_step_site_step_untaken_tuple_equation)]
+#[cycle(evaluation)]
 fn enter(
     file: &[u8],
     tab: &[u8],
@@ -392,7 +392,7 @@ fn enter(
 }
 
 // The parts of the call or Tuple at `at`, left to right up to the first failure or overflow. Their values go to `to`, a call's fitted to the callee's inputs.
-#[cycle(call_equation_call_function_enter_equation_eval_eval_all_eval_call_eval_first_eval_form_eval_if_eval_second_eval_two_run_step_instance_step_site_step_untaken_tuple_equation)]
+#[cycle(evaluation)]
 fn eval_all(
     file: &[u8],
     tab: &[u8],
@@ -452,7 +452,7 @@ fn eval_all(
 
 // A call of node k on its record: its arguments are in `args`, and its outputs are left there. A function that calls itself is not put into its
 // caller's frame: while arguments are evaluated, the callee's frame takes no stack. `turns` is 0 for every file that reads.
-#[cycle(call_equation_call_function_enter_equation_eval_eval_all_eval_call_eval_first_eval_form_eval_if_eval_second_eval_two_run_step_instance_step_site_step_untaken_tuple_equation)]
+#[cycle(evaluation)]
 fn step_site(
     turns: usize,
     file: &[u8],
@@ -479,7 +479,7 @@ fn step_site(
 }
 
 // A step of an instance of node k on its record.
-#[cycle(call_equation_call_function_enter_equation_eval_eval_all_eval_call_eval_first_eval_form_eval_if_eval_second_eval_two_run_step_instance_step_site_step_untaken_tuple_equation)]
+#[cycle(evaluation)]
 fn step_instance(
     file: &[u8],
     tab: &[u8],
@@ -516,7 +516,7 @@ fn step_instance(
 }
 
 // A call of Function k: as on a fresh record, which is not kept.
-#[cycle(call_equation_call_function_enter_equation_eval_eval_all_eval_call_eval_first_eval_form_eval_if_eval_second_eval_two_run_step_instance_step_site_step_untaken_tuple_equation)]
+#[cycle(evaluation)]
 fn call_function(
     file: &[u8],
     tab: &[u8],
@@ -546,7 +546,7 @@ pub struct Ended {
 }
 
 // All equations of the frame's node in evaluation order.
-#[cycle(call_equation_call_function_enter_equation_eval_eval_all_eval_call_eval_first_eval_form_eval_if_eval_second_eval_two_run_step_instance_step_site_step_untaken_tuple_equation)]
+#[cycle(evaluation)]
 pub fn run(file: &[u8], tab: &[u8], frame: &mut [u8; FRAME], old: &[u8], new: &mut [u8]) -> Ended
     requires { Framed frame.old × Runnable file.now (tab_of tab.now) (rows_of tab.now) (consts_of tab.now) (node_of frame.old) (cells_of frame.old) (before_of frame.old) old.now new.old }
     ensures { RunTo file.now (consts_of tab.now) (node_of frame.old) (first_of frame.old) (cells_of frame.old) (before_of frame.old) old.now result (cells_of frame.new) new.new × Framed frame.new }
@@ -574,7 +574,7 @@ pub fn run(file: &[u8], tab: &[u8], frame: &mut [u8; FRAME], old: &[u8], new: &m
 }
 
 // Equation i of the frame's node, which stands at `at`: its right side is evaluated, and its values are bound to its names.
-#[cycle(call_equation_call_function_enter_equation_eval_eval_all_eval_call_eval_first_eval_form_eval_if_eval_second_eval_two_run_step_instance_step_site_step_untaken_tuple_equation)]
+#[cycle(evaluation)]
 fn equation(
     file: &[u8],
     tab: &[u8],
@@ -602,7 +602,7 @@ fn equation(
 }
 
 // An equation whose right side is a call: its outputs are bound.
-#[cycle(call_equation_call_function_enter_equation_eval_eval_all_eval_call_eval_first_eval_form_eval_if_eval_second_eval_two_run_step_instance_step_site_step_untaken_tuple_equation)]
+#[cycle(evaluation)]
 fn call_equation(
     file: &[u8],
     tab: &[u8],
@@ -632,7 +632,7 @@ fn call_equation(
 }
 
 // An equation whose right side is a Tuple: its items are bound once all have succeeded.
-#[cycle(call_equation_call_function_enter_equation_eval_eval_all_eval_call_eval_first_eval_form_eval_if_eval_second_eval_two_run_step_instance_step_site_step_untaken_tuple_equation)]
+#[cycle(evaluation)]
 fn tuple_equation(
     file: &[u8],
     tab: &[u8],

@@ -1,0 +1,2218 @@
+-- What the members of the cycle are asked, each member by its name. A call within the cycle is asked first for its measure.
+use Rattle.std.proofs.Common.{rules, ℕ, ◌*◌, ◌+◌, ◌-◌, ◌<◌, ◌≤◌, drop, get_or, length, length-drop, take, length-take-le, Bool, true, false, List, ap, refl, subst, sym, ◌∙◌, ◌≡◌, arith, min}
+use Rattle.ol_eval.proofs.Arguments.{Going, going_done, going_failed, going_left, going_length, going_overflowed, going_passable, going_ready, going_start, going_turn, going_used, left_done, left_none, left_pass, left_suc}
+use Rattle.ol_eval.proofs.Calling.{call_all, call_at, call_done, call_lower, call_parts, call_room, call_several, call_single, call_size, call_small, call_steps, call_stop, call_used}
+use Rattle.ol_eval.proofs.Evals.{first_not, first_ran, if_stop, if_taken, mapped, remade, rest_old, second_not, second_ran, seq_as, two_done, two_stop, untaken_meets}
+use Rattle.ol_eval.proofs.Readying.{binary_is, cast_out_is, chosen_is, first_is, form_evals, fronted, leaf_evals, moved, moved_choice, moved_skip, moved_untaken, one_evals, ready_first, ready_front, ready_parts, ready_pass, ready_rest, ready_seg, ready_tail, skip_one, two_ends, two_segs, unary_out_is, var_evals}
+use Rattle.ol_eval.proofs.Rights.{call_inside, call_stops, callee_row, equation_ready, first_storable, names_inside, names_least, one_done, right_place, right_ready, tuple_all, tuple_done, tuple_inside, tuple_parts, tuple_several, tuple_stops, values_assignable}
+use Rattle.ol_eval.proofs.Stepping.{entered, framed_run, framed_runnable, function_done, function_runnable, instance_failed, instance_finished, instance_overflowed, instance_runnable, is_function, is_operator_lem, own_new, own_room, put_length}
+use Rattle.ol_eval.proofs.Turns.{keeps_done, keeps_ready, run_done, run_next, run_start, turn_goes, turn_part, turn_ready, turn_stops}
+use Rattle.ol_eval.specs.Calls.{all_in, is_call, passed_all}
+use Rattle.ol_eval.specs.Post.{UntakenTo, branch_in, choose_in, if_in, two_in}
+use Rattle.ol_frame.proofs.Copying.{all_copied}
+use Rattle.ol_frame.proofs.Equating.{equation_is}
+use Rattle.ol_frame.proofs.Framing.{before_length, cells_length, keeps_all, keeps_on}
+use Rattle.ol_frame.proofs.NodeRows.{few, inputs_first, inputs_most, narrow, outputs_most, row_room}
+use Rattle.ol_frame.proofs.Planning.{plan_head, plan_name, segs_cons}
+use Rattle.ol_frame.proofs.Running.{length_mid, length_put_mid, mid_of}
+use Rattle.ol_frame.proofs.Tabling.{rows_room}
+use Rattle.ol_frame.specs.Equations.{plan_at}
+use Rattle.ol_frame.specs.Frame.{before_of, cells_of, first_of, node_of}
+use Rattle.ol_frame.specs.Plans.{Leaf, eval_in, globals_in, name_at, scope_in, seg_at, segs_at}
+use Rattle.ol_frame.specs.Stores.{passed_by}
+use Rattle.ol_frame.specs.Walk.{Passable, SkipsTo}
+use Rattle.ol_spec.specs.Cell.{values_of}
+use Rattle.ol_spec.specs.Eval.{choose, condition, eval, map_eval, next, present_of}
+use Rattle.ol_spec.specs.Operators.{unary_of}
+use Rattle.ol_spec.specs.Places.{ty_size}
+use Rattle.ol_spec.specs.Types.{cast_to}
+use Rattle.ol_spec.specs.declared.Value.{Value}
+use Rattle.ol_tables.proofs.Forms.{arrow_form, binary_form, cast_form, if_form, parted, reads_deep, reads_in, type_some, unary_form}
+use Rattle.ol_tables.proofs.Lending.{length_put, put_tail, tail_all, tail_of}
+use Rattle.ol_tables.specs.At.{end_at, expr_at, node_in}
+use Rattle.ol_tables.specs.Heads.{next_at, parts_at}
+use Rattle.ol_tables.specs.Table.{consts_of, rows_of, tab_of}
+use Rattle.ol_tables.specs.Tables.{code_at, order_at, row_at}
+use Rattle.ol_value.specs.Codes.{binary_by, ty_of}
+use Rattle.ol_eval.proofs.Rights
+use Rattle.ol_eval.proofs.eval.+evaluation.Goals as goal
+
+pub call_equation-enter-r-requires : goal.call_equation-enter-r-requires
+call_equation-enter-r-requires t c =
+    let fd = c.requires.0 in
+    let p = c.requires.1 in
+    let f = c.args.file.now in
+    let n = c.number-n.result in
+    let ne = c.number-n.ensures.0 in
+    let rhs = c.args.at + 1 + 2 * n in
+    let q = right_ready p n 11 ne (subst (λ (m : ℕ). get_or f (c.args.at + 1 + 2 * m) 0 ≡ 11) (sym ne) c.requires.2) in
+    (omega arith, (fd, equation_ready p rhs q.place, q.code_is, refl))
+
+pub call_equation-bounds-file-p : goal.call_equation-bounds-file-p
+call_equation-bounds-file-p t c =
+    let p = c.requires.1 in
+    let f = c.args.file.now in
+    let n = c.number-n.result in
+    let ne = c.number-n.ensures.0 in
+    let q = right_ready p n 11 ne (subst (λ (m : ℕ). get_or f (c.args.at + 1 + 2 * m) 0 ≡ 11) (sym ne) c.requires.2) in
+    let inside = call_inside p q in
+    omega (arith, inside.0)
+
+pub call_equation-row-requires : goal.call_equation-row-requires
+call_equation-row-requires t c =
+    let p = c.requires.1 in
+    let f = c.args.file.now in
+    let tb = c.args.tab.now in
+    let n = c.number-n.result in
+    let ne = c.number-n.ensures.0 in
+    let q = right_ready p n 11 ne (subst (λ (m : ℕ). get_or f (c.args.at + 1 + 2 * m) 0 ≡ 11) (sym ne) c.requires.2) in
+    let k = c.number-c.result in
+    let ke = c.number-c.ensures.0 in
+    let row = callee_row p q k ke in
+    (rows_room tb _ p.running.program.table.long, row.small, omega arith)
+
+pub call_equation-bind-requires : goal.call_equation-bind-requires
+call_equation-bind-requires t c =
+    let fd = c.requires.0 in
+    let p = c.requires.1 in
+    let f = c.args.file.now in
+    let n = c.number-n.result in
+    let ne = c.number-n.ensures.0 in
+    let q = right_ready p n 11 ne (subst (λ (m : ℕ). get_or f (c.args.at + 1 + 2 * m) 0 ≡ 11) (sym ne) c.requires.2) in
+    let k = c.number-c.result in
+    let ke = c.number-c.ensures.0 in
+    let row = callee_row p q k ke in
+    let outs = c.row.ensures ∙ row.outputs in
+    let m = names_least p c.row.result q c.less-m.ensures in
+    (fd, values_assignable p c.less-m.result (c.enter-r.new.args) m.least (omega (arith, c.less-m.ensures, outs, row.few)) (let k : length (c.enter-r.new.args) ≡ 288 = c.enter-r.ensures.1 in omega (arith, k, c.less-m.ensures, outs, row.few)))
+
+pub call_equation-returns-in-Values : goal.call_equation-returns-in-Values
+call_equation-returns-in-Values t c =
+    let p = c.requires.1 in
+    let f = c.args.file.now in
+    let fr = c.args.frame.now in
+    let F = first_of fr in
+    let n = c.number-n.result in
+    let ne = c.number-n.ensures.0 in
+    let q = right_ready p n 11 ne (subst (λ (m : ℕ). get_or f (c.args.at + 1 + 2 * m) 0 ≡ 11) (sym ne) c.requires.2) in
+    let k = c.number-c.result in
+    let ke = c.number-c.ensures.0 in
+    let row = callee_row p q k ke in
+    let outs = c.row.ensures ∙ row.outputs in
+    (Rights.call_done p F c.less-m.result (c.enter-r.new.args) (cells_of c.bind.new.frame) q c.enter-r.ensures.0 c.in-Values.is (c.less-m.ensures ∙ ap (min n) outs) c.bind.ensures.0, c.bind.ensures.1)
+
+pub call_equation-returns-in_default : goal.call_equation-returns-in_default
+call_equation-returns-in_default t c =
+    let fd = c.requires.0 in
+    let p = c.requires.1 in
+    let f = c.args.file.now in
+    let fr = c.args.frame.now in
+    let F = first_of fr in
+    let n = c.number-n.result in
+    let ne = c.number-n.ensures.0 in
+    let q = right_ready p n 11 ne (subst (λ (m : ℕ). get_or f (c.args.at + 1 + 2 * m) 0 ≡ 11) (sym ne) c.requires.2) in
+    (call_stops p F (c.enter-r.new.args) (cells_of fr) q c.enter-r.ensures.0 c.in_default.not-Values, keeps_all fr fd)
+
+pub call_function-row-inputs-requires : goal.call_function-row-inputs-requires
+call_function-row-inputs-requires t c =
+    let h = c.requires.0 in
+    let R = h.running in
+    let B = h.below in
+    let tb = c.args.tab.now in
+    row_room tb R B _ (omega arith)
+
+pub call_function-fresh_frame-requires : goal.call_function-fresh_frame-requires
+call_function-fresh_frame-requires t c =
+    let h = c.requires.0 in
+    let R = h.running in
+    let B = h.below in
+    let i = c.row-inputs.result in
+    let iw = c.row-inputs.ensures in
+    (c.requires.1, omega (arith, few R B), inputs_first R B _ i refl iw, narrow R B _ refl, omega (arith, h.room, inputs_most R B i iw))
+
+pub call_function-run-r-requires : goal.call_function-run-r-requires
+call_function-run-r-requires t c =
+    let h = c.requires.0 in
+    let f = c.requires.2 in
+    let fp = c.fresh_frame.ensures in
+    let fr = c.fresh_frame.new.frame in
+    (omega (arith, fp.node), (fp.framed, framed_runnable fr fp.node (function_runnable h f (cells_of fr) (before_of fr) (cells_length fr fp.framed) (before_length fr fp.framed))))
+
+pub call_function-row-requires : goal.call_function-row-requires
+call_function-row-requires t c =
+    let h = c.requires.0 in
+    let R = h.running in
+    let B = h.below in
+    let tb = c.args.tab.now in
+    row_room tb R B _ (omega arith)
+
+pub call_function-copy_outputs-requires : goal.call_function-copy_outputs-requires
+call_function-copy_outputs-requires t c =
+    let h = c.requires.0 in
+    let R = h.running in
+    let B = h.below in
+    let i = c.row-inputs.result in
+    let iw = c.row-inputs.ensures in
+    (c.run-r.ensures.1, inputs_most R B i iw, outputs_most R B c.row.result c.row.ensures, omega (arith, h.room, outputs_most R B c.row.result c.row.ensures))
+
+pub call_function-returns : goal.call_function-returns
+call_function-returns t c =
+    let h = c.requires.0 in
+    let f = c.requires.2 in
+    let tb = c.args.tab.now in
+    let i = c.row-inputs.result in
+    let iw = c.row-inputs.ensures in
+    let fp = c.fresh_frame.ensures in
+    let fr = c.fresh_frame.new.frame in
+    let cells = cells_of c.run-r.new.frame in
+    (function_done h f i fr iw fp c.run-r.result cells c.run-r.new.new c.row.result c.copy_outputs.new.args (framed_run c.args.file.now (consts_of tb) fr c.args.old.now cells fp.node c.run-r.ensures.0) c.run-r.auto.new c.row.ensures c.copy_outputs.ensures, c.copy_outputs.auto.args)
+
+pub enter-bounds-file-p : goal.enter-bounds-file-p
+enter-bounds-file-p t c =
+    let p = c.requires.1 in
+    let b = c.requires.2 in
+    let f = c.args.file.now in
+    let a = c.args.at in
+    omega (arith, (call_at p b (get_or f (a + 1) 0) (get_or f (a + 2) 0) refl refl).inside)
+
+pub enter-row-size-requires : goal.enter-row-size-requires
+enter-row-size-requires t c =
+    let p = c.requires.1 in
+    let b = c.requires.2 in
+    let tb = c.args.tab.now in
+    let f = c.args.file.now in
+    let a = c.args.at in
+    let k = c.number-k.result in
+    let kE = c.number-k.ensures.0 in
+    let n = get_or f (a + 2) 0 in
+    (rows_room tb _ p.plan.program.table.long, call_small p b k n kE refl, omega arith)
+
+pub enter-overflow_sub-level : goal.enter-overflow_sub-level
+enter-overflow_sub-level t c =
+    let p = c.requires.1 in
+    let b = c.requires.2 in
+    let f = c.args.file.now in
+    let a = c.args.at in
+    let k = c.number-k.result in
+    let kE = c.number-k.ensures.0 in
+    let n = get_or f (a + 2) 0 in
+    (call_at p b k n kE refl).deep
+
+pub enter-slice_bounds-eval_all-count : goal.enter-slice_bounds-eval_all-count
+enter-slice_bounds-eval_all-count t c =
+    let p = c.requires.1 in
+    let b = c.requires.2 in
+    let f = c.args.file.now in
+    let a = c.args.at in
+    let k = c.number-k.result in
+    let kE = c.number-k.ensures.0 in
+    let n = get_or f (a + 2) 0 in
+    let uE = c.row-size.ensures in
+    let z = call_size p b k n kE refl in
+    let room = call_room p b k n kE refl in
+    omega (arith, uE, z, room)
+
+pub enter-slice_bounds-eval_all-start : goal.enter-slice_bounds-eval_all-start
+enter-slice_bounds-eval_all-start t c =
+    let p = c.requires.1 in
+    let b = c.requires.2 in
+    let f = c.args.file.now in
+    let a = c.args.at in
+    let k = c.number-k.result in
+    let kE = c.number-k.ensures.0 in
+    let n = get_or f (a + 2) 0 in
+    let uE = c.row-size.ensures in
+    let z = call_size p b k n kE refl in
+    let room = call_room p b k n kE refl in
+    omega (arith, uE, z, room)
+
+pub enter-slice_bounds-eval_all-count-2 : goal.enter-slice_bounds-eval_all-count-2
+enter-slice_bounds-eval_all-count-2 t c =
+    let p = c.requires.1 in
+    let b = c.requires.2 in
+    let f = c.args.file.now in
+    let a = c.args.at in
+    let k = c.number-k.result in
+    let kE = c.number-k.ensures.0 in
+    let n = get_or f (a + 2) 0 in
+    let uE = c.row-size.ensures in
+    let z = call_size p b k n kE refl in
+    let room = call_room p b k n kE refl in
+    let S = ap length p.same in
+    omega (arith, uE, z, room, S)
+
+pub enter-slice_bounds-eval_all-start-2 : goal.enter-slice_bounds-eval_all-start-2
+enter-slice_bounds-eval_all-start-2 t c =
+    let p = c.requires.1 in
+    let b = c.requires.2 in
+    let f = c.args.file.now in
+    let a = c.args.at in
+    let k = c.number-k.result in
+    let kE = c.number-k.ensures.0 in
+    let n = get_or f (a + 2) 0 in
+    let uE = c.row-size.ensures in
+    let z = call_size p b k n kE refl in
+    let room = call_room p b k n kE refl in
+    let S = ap length p.same in
+    omega (arith, uE, z, room, S)
+
+pub enter-eval_all-a-requires : goal.enter-eval_all-a-requires
+enter-eval_all-a-requires t c =
+    let fd = c.requires.0 in
+    let p = c.requires.1 in
+    let b = c.requires.2 in
+    let f = c.args.file.now in
+    let a = c.args.at in
+    let k = c.number-k.result in
+    let kE = c.number-k.ensures.0 in
+    let n = get_or f (a + 2) 0 in
+    let u = c.row-size.result in
+    let uE = c.row-size.ensures in
+    (omega (arith, (call_at p b k n kE refl).deep), (fd, call_parts p b k n kE refl u uE, call_several p b k n kE refl c.requires.3))
+
+pub enter-overflow_add-used : goal.enter-overflow_add-used
+enter-overflow_add-used t c =
+    let p = c.requires.1 in
+    let b = c.requires.2 in
+    let fr = c.args.frame.now in
+    let f = c.args.file.now in
+    let a = c.args.at in
+    let F = first_of fr in
+    let k = c.number-k.result in
+    let kE = c.number-k.ensures.0 in
+    let n = get_or f (a + 2) 0 in
+    let u = c.row-size.result in
+    let uE = c.row-size.ensures in
+    let C1 = c.eval_all-a.new.to in
+    omega (arith, call_used p b k n kE refl F u uE C1 ((call_all p b k n kE refl F C1 c.eval_all-a.ensures.0)))
+
+pub enter-slice_bounds-step_site-end : goal.enter-slice_bounds-step_site-end
+enter-slice_bounds-step_site-end t c =
+    let p = c.requires.1 in
+    let b = c.requires.2 in
+    let f = c.args.file.now in
+    let a = c.args.at in
+    let o = c.args.old.now in
+    let k = c.number-k.result in
+    let kE = c.number-k.ensures.0 in
+    let n = get_or f (a + 2) 0 in
+    let u = c.row-size.result in
+    let uE = c.row-size.ensures in
+    let z = call_size p b k n kE refl in
+    let room = call_room p b k n kE refl in
+    sym (length-take-le u o (omega (arith, uE, z, room)))
+
+pub enter-slice_bounds-step_site-end-in-Values : goal.enter-slice_bounds-step_site-end-in-Values
+enter-slice_bounds-step_site-end-in-Values t c =
+    let p = c.requires.1 in
+    let b = c.requires.2 in
+    let f = c.args.file.now in
+    let a = c.args.at in
+    let w = c.args.new.now in
+    let k = c.number-k.result in
+    let kE = c.number-k.ensures.0 in
+    let n = get_or f (a + 2) 0 in
+    let u = c.row-size.result in
+    let uE = c.row-size.ensures in
+    let z = call_size p b k n kE refl in
+    let room = call_room p b k n kE refl in
+    let S = ap length p.same in
+    let K1 = c.eval_all-a.auto.new in
+    let N1 = c.eval_all-a.new.new in
+    let le = subst (λ (m : ℕ). m ≤ length w) (sym (uE ∙ z)) (omega (arith, room, S)) in
+    let len = length_put u w N1 le K1 in
+    let lep = subst (λ (m : ℕ). u ≤ m) (sym len) le in
+    lep
+
+pub enter-slice_bounds-step_site-end-in-Values-2 : goal.enter-slice_bounds-step_site-end-in-Values-2
+enter-slice_bounds-step_site-end-in-Values-2 t c =
+    let p = c.requires.1 in
+    let b = c.requires.2 in
+    let f = c.args.file.now in
+    let a = c.args.at in
+    let w = c.args.new.now in
+    let k = c.number-k.result in
+    let kE = c.number-k.ensures.0 in
+    let n = get_or f (a + 2) 0 in
+    let u = c.row-size.result in
+    let uE = c.row-size.ensures in
+    let z = call_size p b k n kE refl in
+    let room = call_room p b k n kE refl in
+    let S = ap length p.same in
+    let K1 = c.eval_all-a.auto.new in
+    let N1 = c.eval_all-a.new.new in
+    let le = subst (λ (m : ℕ). m ≤ length w) (sym (uE ∙ z)) (omega (arith, room, S)) in
+    let len = length_put u w N1 le K1 in
+    let lep = subst (λ (m : ℕ). u ≤ m) (sym len) le in
+    sym (length-take-le u (put_tail u w N1) lep)
+
+pub enter-step_site-e-requires : goal.enter-step_site-e-requires
+enter-step_site-e-requires t c =
+    let p = c.requires.1 in
+    let b = c.requires.2 in
+    let f = c.args.file.now in
+    let a = c.args.at in
+    let k = c.number-k.result in
+    let kE = c.number-k.ensures.0 in
+    let n = get_or f (a + 2) 0 in
+    let u = c.row-size.result in
+    let uE = c.row-size.ensures in
+    let KA = c.eval_all-a.ensures.1 in
+    let N1 = c.eval_all-a.new.new in
+    (omega (arith, call_lower p b k n kE refl), (call_steps p b k n kE refl u uE N1 (KA ∙ c.requires.3), omega (arith, p.plan.program.sized.small)))
+
+pub enter-returns-in-Values : goal.enter-returns-in-Values
+enter-returns-in-Values t c =
+    let p = c.requires.1 in
+    let b = c.requires.2 in
+    let fr = c.args.frame.now in
+    let f = c.args.file.now in
+    let a = c.args.at in
+    let F = first_of fr in
+    let k = c.number-k.result in
+    let kE = c.number-k.ensures.0 in
+    let n = get_or f (a + 2) 0 in
+    let u = c.row-size.result in
+    let uE = c.row-size.ensures in
+    let KA = c.eval_all-a.ensures.1 in
+    let C1 = c.eval_all-a.new.to in
+    let C2 = c.step_site-e.new.args in
+    (call_done p b k n kE refl F u uE C1 C2 ((call_all p b k n kE refl F C1 c.eval_all-a.ensures.0)) c.in-Values.is c.step_site-e.ensures.0, c.step_site-e.ensures.1 ∙ KA)
+
+pub enter-returns-in_default : goal.enter-returns-in_default
+enter-returns-in_default t c =
+    let p = c.requires.1 in
+    let b = c.requires.2 in
+    let fr = c.args.frame.now in
+    let f = c.args.file.now in
+    let a = c.args.at in
+    let F = first_of fr in
+    let k = c.number-k.result in
+    let kE = c.number-k.ensures.0 in
+    let n = get_or f (a + 2) 0 in
+    let u = c.row-size.result in
+    let uE = c.row-size.ensures in
+    let KA = c.eval_all-a.ensures.1 in
+    let C1 = c.eval_all-a.new.to in
+    (call_stop p b k n kE refl F u uE C1 ((call_all p b k n kE refl F C1 c.eval_all-a.ensures.0)) c.in_default.not-Values, KA)
+
+pub equation-bounds-file-at : goal.equation-bounds-file-at
+equation-bounds-file-at t c =
+    let p = c.requires.1 in
+    omega (arith, names_inside p (get_or c.args.file.now c.args.at 0) refl)
+
+pub equation-overflow_add-rhs : goal.equation-overflow_add-rhs
+equation-overflow_add-rhs t c =
+    let p = c.requires.1 in
+    let n = c.number-n.result in
+    let ne = c.number-n.ensures.0 in
+    let s = names_inside p n ne in
+    omega (arith, s.0, s.1)
+
+pub equation-overflow_add-rhs-2 : goal.equation-overflow_add-rhs-2
+equation-overflow_add-rhs-2 t c =
+    let p = c.requires.1 in
+    let n = c.number-n.result in
+    let ne = c.number-n.ensures.0 in
+    let s = names_inside p n ne in
+    omega (arith, s.0, s.1)
+
+pub equation-bounds-file-rhs : goal.equation-bounds-file-rhs
+equation-bounds-file-rhs t c =
+    let p = c.requires.1 in
+    let n = c.number-n.result in
+    let ne = c.number-n.ensures.0 in
+    let s = names_inside p n ne in
+    s.0
+
+pub equation-eval-r-requires : goal.equation-eval-r-requires
+equation-eval-r-requires t c =
+    let fd = c.requires.0 in
+    let p = c.requires.1 in
+    let n = c.number-n.result in
+    let ne = c.number-n.ensures.0 in
+    (omega arith, (fd, equation_ready p ((c.args.at + 1 + 2 * n)) (right_place p n ne)))
+
+pub equation-overflow_add-at : goal.equation-overflow_add-at
+equation-overflow_add-at t c =
+    let p = c.requires.1 in
+    let n = c.number-n.result in
+    let ne = c.number-n.ensures.0 in
+    let s = names_inside p n ne in
+    omega (arith, s.0, s.1)
+
+pub equation-bind_out-requires : goal.equation-bind_out-requires
+equation-bind_out-requires t c =
+    let fd = c.requires.0 in
+    let p = c.requires.1 in
+    (fd, first_storable p)
+
+pub equation-returns-else-code-eq12 : goal.equation-returns-else-code-eq12
+equation-returns-else-code-eq12 t c =
+    let p = c.requires.1 in
+    let fr = c.args.frame.now in
+    let n = c.number-n.result in
+    let ne = c.number-n.ensures.0 in
+    (one_done p (first_of fr) ((c.args.at + 1 + 2 * n)) c.bind_out.result (cells_of c.bind_out.new.frame) (right_place p n ne) c.if-code-eq11.false c.if-code-eq12.false c.eval-r.ensures c.bind_out.ensures.0 c.bind_out.ensures.1, c.bind_out.ensures.2)
+
+pub eval-bounds-file-at : goal.eval-bounds-file-at
+eval-bounds-file-at t c =
+    let p = c.requires.1 in
+    let f = c.args.file.now in
+    let L = c.args.level in
+    let a = c.args.at in
+    let h = plan_head f p.plan in
+    reads_in f L a h
+
+pub eval-present-requires : goal.eval-present-requires
+eval-present-requires t c =
+    let fd = c.requires.0 in
+    let p = c.requires.1 in
+    let f = c.args.file.now in
+    (fd, plan_name f p.plan c.if-code-eq4.true, p.present)
+
+pub eval-returns-then-code-eq4 : goal.eval-returns-then-code-eq4
+eval-returns-then-code-eq4 t c =
+    let p = c.requires.1 in
+    let fr = c.args.frame.now in
+    let tb = c.args.tab.now in
+    let f = c.args.file.now in
+    let L = c.args.level in
+    let a = c.args.at in
+    let h = plan_head f p.plan in
+    var_evals f (consts_of tb) L a (node_of fr) (first_of fr) (cells_of fr) (before_of fr) p.plan.reads h c.if-code-eq4.true p.same (c.named_out.ensures (present_of (globals_in f (consts_of tb)) (scope_in f (node_of fr) false (cells_of fr) (cells_of fr)) (name_at f (a + 1))) c.present.ensures ∙ c.present.ensures)
+
+pub eval_all-loop-i-init : goal.eval_all-loop-i-init
+eval_all-loop-i-init t c =
+    let p = c.requires.1 in
+    let sv = c.requires.2 in
+    let q = sv.passes in
+    let tb = c.args.tab.now in
+    let fr = c.args.frame.now in
+    let hd = c.head-h.ensures in
+    let f = c.args.file.now in
+    let a = c.args.at in
+    let n = parts_at f a in
+    (omega arith, refl, refl, subst (λ (m : ℕ). Going (all_in f (consts_of tb) c.args.level n (next_at f a) (node_of fr) (first_of fr) (cells_of fr) (before_of fr) (take (segs_at f c.args.level n (next_at f a)) c.args.old.now)) f (tab_of tb) (rows_of tb) (consts_of tb) (is_call f a) (get_or f (a + 1) 0) n (next_at f a) c.args.level (node_of fr) (first_of fr) (cells_of fr) (before_of fr) c.args.old.now (n - 0) 0 m 0 c.args.to.now c.args.new.now) (sym hd.next) (going_left (left_none n) (going_start (first_of fr) p q)))
+
+pub eval_all-eval-r-requires : goal.eval_all-eval-r-requires
+eval_all-eval-r-requires t c =
+    let fd = c.requires.0 in
+    let hd = c.head-h.ensures in
+    let inv = c.loop-i.invariant in
+    let f = c.args.file.now in
+    let a = c.args.at in
+    let n = parts_at f a in
+    let lt = subst (λ (m : ℕ). c.loop-i.i < m) hd.parts c.loop-i-test.true in
+    let i = c.loop-i.i in
+    let g = going_left (left_suc n i lt) inv.3 in
+    (omega arith, (fd, going_ready g))
+
+pub eval_all-overflow_add-used : goal.eval_all-overflow_add-used
+eval_all-overflow_add-used t c =
+    let p = c.requires.1 in
+    let tb = c.args.tab.now in
+    let fr = c.args.frame.now in
+    let hd = c.head-h.ensures in
+    let inv = c.loop-i.invariant in
+    let f = c.args.file.now in
+    let a = c.args.at in
+    let n = parts_at f a in
+    let lt = subst (λ (m : ℕ). c.loop-i.i < m) hd.parts c.loop-i-test.true in
+    let i = c.loop-i.i in
+    let o = c.args.old.now in
+    let u = c.loop-i.used in
+    let g = going_left (left_suc n i lt) inv.3 in
+    let same = inv.2 ∙ ap length p.same in
+    let K = c.eval-r.auto.new in
+    let x = c.eval-r.new.new in
+    let len = going_length g x K same in
+    let h = moved f (consts_of tb) c.args.level (node_of fr) (first_of fr) (cells_of fr) (before_of fr) (refl {a = c.loop-i.pos}) (tail_all u o) c.eval-r.ensures in
+    omega (arith, going_used g h len, p.room, p.small)
+
+pub eval_all-pass_all-s-requires : goal.eval_all-pass_all-s-requires
+eval_all-pass_all-s-requires t c =
+    let p = c.requires.1 in
+    let tb = c.args.tab.now in
+    let fr = c.args.frame.now in
+    let hd = c.head-h.ensures in
+    let inv = c.loop-i.invariant in
+    let f = c.args.file.now in
+    let a = c.args.at in
+    let n = parts_at f a in
+    let lt = subst (λ (m : ℕ). c.loop-i.i < m) hd.parts c.loop-i-test.true in
+    let i = c.loop-i.i in
+    let o = c.args.old.now in
+    let u = c.loop-i.used in
+    let g = going_left (left_suc n i lt) inv.3 in
+    let same = inv.2 ∙ ap length p.same in
+    let K = c.eval-r.auto.new in
+    let x = c.eval-r.new.new in
+    let len = going_length g x K same in
+    let h = moved f (consts_of tb) c.args.level (node_of fr) (first_of fr) (cells_of fr) (before_of fr) (refl {a = c.loop-i.pos}) (tail_all u o) c.eval-r.ensures in
+    (subst (λ (m : ℕ). Passable f (rows_of tb) c.args.level m c.eval-r.result.next) (sym (ap (λ (m : ℕ). m - i - 1) hd.parts ∙ left_pass n i)) (going_passable g h len), rows_room tb _ p.plan.program.table.long)
+
+pub eval_all-overflow_add-result : goal.eval_all-overflow_add-result
+eval_all-overflow_add-result t c =
+    let p = c.requires.1 in
+    let tb = c.args.tab.now in
+    let fr = c.args.frame.now in
+    let hd = c.head-h.ensures in
+    let inv = c.loop-i.invariant in
+    let f = c.args.file.now in
+    let a = c.args.at in
+    let n = parts_at f a in
+    let lt = subst (λ (m : ℕ). c.loop-i.i < m) hd.parts c.loop-i-test.true in
+    let i = c.loop-i.i in
+    let kc = get_or f (a + 1) 0 in
+    let o = c.args.old.now in
+    let u = c.loop-i.used in
+    let g = going_left (left_suc n i lt) inv.3 in
+    let same = inv.2 ∙ ap length p.same in
+    let K = c.eval-r.auto.new in
+    let x = c.eval-r.new.new in
+    let len = going_length g x K same in
+    let h = moved f (consts_of tb) c.args.level (node_of fr) (first_of fr) (cells_of fr) (before_of fr) (refl {a = c.loop-i.pos}) (tail_all u o) c.eval-r.ensures in
+    let r = going_failed g h len c.in-Failure.c ((passed_all (is_call f a) (node_in f kc).inputs)) ((values_of n c.loop-i.to)) c.in-Failure.is ((subst (λ (m : ℕ). SkipsTo f c.args.level m c.eval-r.result.next c.pass_all-s.result) (ap (λ (m : ℕ). m - i - 1) hd.parts ∙ left_pass n i) c.pass_all-s.ensures)) in
+    omega (arith, r.used_is, p.room, p.small)
+
+pub eval_all-returns-in-Failure : goal.eval_all-returns-in-Failure
+eval_all-returns-in-Failure t c =
+    let p = c.requires.1 in
+    let tb = c.args.tab.now in
+    let fr = c.args.frame.now in
+    let hd = c.head-h.ensures in
+    let inv = c.loop-i.invariant in
+    let f = c.args.file.now in
+    let a = c.args.at in
+    let n = parts_at f a in
+    let lt = subst (λ (m : ℕ). c.loop-i.i < m) hd.parts c.loop-i-test.true in
+    let i = c.loop-i.i in
+    let kc = get_or f (a + 1) 0 in
+    let o = c.args.old.now in
+    let u = c.loop-i.used in
+    let g = going_left (left_suc n i lt) inv.3 in
+    let same = inv.2 ∙ ap length p.same in
+    let K = c.eval-r.auto.new in
+    let x = c.eval-r.new.new in
+    let len = going_length g x K same in
+    let h = moved f (consts_of tb) c.args.level (node_of fr) (first_of fr) (cells_of fr) (before_of fr) (refl {a = c.loop-i.pos}) (tail_all u o) c.eval-r.ensures in
+    (going_failed g h len c.in-Failure.c ((passed_all (is_call f a) (node_in f kc).inputs)) ((values_of n c.loop-i.to)) c.in-Failure.is ((subst (λ (m : ℕ). SkipsTo f c.args.level m c.eval-r.result.next c.pass_all-s.result) (ap (λ (m : ℕ). m - i - 1) hd.parts ∙ left_pass n i) c.pass_all-s.ensures)), inv.1)
+
+pub eval_all-pass_all-s-requires-in-Overflow : goal.eval_all-pass_all-s-requires-in-Overflow
+eval_all-pass_all-s-requires-in-Overflow t c =
+    let p = c.requires.1 in
+    let tb = c.args.tab.now in
+    let fr = c.args.frame.now in
+    let hd = c.head-h.ensures in
+    let inv = c.loop-i.invariant in
+    let f = c.args.file.now in
+    let a = c.args.at in
+    let n = parts_at f a in
+    let lt = subst (λ (m : ℕ). c.loop-i.i < m) hd.parts c.loop-i-test.true in
+    let i = c.loop-i.i in
+    let o = c.args.old.now in
+    let u = c.loop-i.used in
+    let g = going_left (left_suc n i lt) inv.3 in
+    let same = inv.2 ∙ ap length p.same in
+    let K = c.eval-r.auto.new in
+    let x = c.eval-r.new.new in
+    let len = going_length g x K same in
+    let h = moved f (consts_of tb) c.args.level (node_of fr) (first_of fr) (cells_of fr) (before_of fr) (refl {a = c.loop-i.pos}) (tail_all u o) c.eval-r.ensures in
+    (subst (λ (m : ℕ). Passable f (rows_of tb) c.args.level m c.eval-r.result.next) (sym (ap (λ (m : ℕ). m - i - 1) hd.parts ∙ left_pass n i)) (going_passable g h len), rows_room tb _ p.plan.program.table.long)
+
+pub eval_all-overflow_add-result-in-Overflow : goal.eval_all-overflow_add-result-in-Overflow
+eval_all-overflow_add-result-in-Overflow t c =
+    let p = c.requires.1 in
+    let tb = c.args.tab.now in
+    let fr = c.args.frame.now in
+    let hd = c.head-h.ensures in
+    let inv = c.loop-i.invariant in
+    let f = c.args.file.now in
+    let a = c.args.at in
+    let n = parts_at f a in
+    let lt = subst (λ (m : ℕ). c.loop-i.i < m) hd.parts c.loop-i-test.true in
+    let i = c.loop-i.i in
+    let kc = get_or f (a + 1) 0 in
+    let o = c.args.old.now in
+    let u = c.loop-i.used in
+    let g = going_left (left_suc n i lt) inv.3 in
+    let same = inv.2 ∙ ap length p.same in
+    let K = c.eval-r.auto.new in
+    let x = c.eval-r.new.new in
+    let len = going_length g x K same in
+    let h = moved f (consts_of tb) c.args.level (node_of fr) (first_of fr) (cells_of fr) (before_of fr) (refl {a = c.loop-i.pos}) (tail_all u o) c.eval-r.ensures in
+    let r = going_overflowed g h len ((passed_all (is_call f a) (node_in f kc).inputs)) ((values_of n c.loop-i.to)) c.in-Overflow.is ((subst (λ (m : ℕ). SkipsTo f c.args.level m c.eval-r.result.next c.pass_all-s-in-Overflow.result) (ap (λ (m : ℕ). m - i - 1) hd.parts ∙ left_pass n i) c.pass_all-s-in-Overflow.ensures)) in
+    omega (arith, r.used_is, p.room, p.small)
+
+pub eval_all-returns-in-Overflow : goal.eval_all-returns-in-Overflow
+eval_all-returns-in-Overflow t c =
+    let p = c.requires.1 in
+    let tb = c.args.tab.now in
+    let fr = c.args.frame.now in
+    let hd = c.head-h.ensures in
+    let inv = c.loop-i.invariant in
+    let f = c.args.file.now in
+    let a = c.args.at in
+    let n = parts_at f a in
+    let lt = subst (λ (m : ℕ). c.loop-i.i < m) hd.parts c.loop-i-test.true in
+    let i = c.loop-i.i in
+    let kc = get_or f (a + 1) 0 in
+    let o = c.args.old.now in
+    let u = c.loop-i.used in
+    let g = going_left (left_suc n i lt) inv.3 in
+    let same = inv.2 ∙ ap length p.same in
+    let K = c.eval-r.auto.new in
+    let x = c.eval-r.new.new in
+    let len = going_length g x K same in
+    let h = moved f (consts_of tb) c.args.level (node_of fr) (first_of fr) (cells_of fr) (before_of fr) (refl {a = c.loop-i.pos}) (tail_all u o) c.eval-r.ensures in
+    (going_overflowed g h len ((passed_all (is_call f a) (node_in f kc).inputs)) ((values_of n c.loop-i.to)) c.in-Overflow.is ((subst (λ (m : ℕ). SkipsTo f c.args.level m c.eval-r.result.next c.pass_all-s-in-Overflow.result) (ap (λ (m : ℕ). m - i - 1) hd.parts ∙ left_pass n i) c.pass_all-s-in-Overflow.ensures)), inv.1)
+
+pub eval_all-loop-i-preserved : goal.eval_all-loop-i-preserved
+eval_all-loop-i-preserved t c =
+    let p = c.requires.1 in
+    let sv = c.requires.2 in
+    let q = sv.passes in
+    let tb = c.args.tab.now in
+    let fr = c.args.frame.now in
+    let hd = c.head-h.ensures in
+    let inv = c.loop-i.invariant in
+    let f = c.args.file.now in
+    let a = c.args.at in
+    let n = parts_at f a in
+    let lt = subst (λ (m : ℕ). c.loop-i.i < m) hd.parts c.loop-i-test.true in
+    let i = c.loop-i.i in
+    let kE = c.number-k.ensures.0 in
+    let o = c.args.old.now in
+    let w = c.loop-i.new in
+    let u = c.loop-i.used in
+    let g = going_left (left_suc n i lt) inv.3 in
+    let same = inv.2 ∙ ap length p.same in
+    let K = c.eval-r.auto.new in
+    let x = c.eval-r.new.new in
+    let len = going_length g x K same in
+    let h = moved f (consts_of tb) c.args.level (node_of fr) (first_of fr) (cells_of fr) (before_of fr) (refl {a = c.loop-i.pos}) (tail_all u o) c.eval-r.ensures in
+    (omega (arith, lt), c.write_cell.auto.out ∙ inv.1, length_put u w x (omega (arith, inv.3.within, same)) K ∙ inv.2, going_turn g h len q.callee c.in-Value.is (λ e. c.passed-w.ensures.0 e ∙ ap (λ (x : ℕ). passed_by (is_call f a) (ty_of (code_at (tab_of tb) x i) e) c.in-Value.v) kE) c.passed-w.ensures.1 c.write_cell.ensures c.write_cell.auto.out)
+
+pub eval_all-returns : goal.eval_all-returns
+eval_all-returns t c =
+    let hd = c.head-h.ensures in
+    let f = c.args.file.now in
+    let a = c.args.at in
+    let n = parts_at f a in
+    (going_done (going_left (left_done n c.loop-i.i (omega (arith, c.loop-i-test.false, hd.parts))) c.loop-i.invariant.3), c.loop-i.invariant.1)
+
+pub eval_call-bounds-file-p : goal.eval_call-bounds-file-p
+eval_call-bounds-file-p t c =
+    let p = c.requires.1 in
+    let b = c.requires.2 in
+    let f = c.args.file.now in
+    let a = c.args.at in
+    let n = get_or f (a + 2) 0 in
+    omega (arith, (call_at p b (get_or f (a + 1) 0) n refl refl).inside)
+
+pub eval_call-row-outputs-requires : goal.eval_call-row-outputs-requires
+eval_call-row-outputs-requires t c =
+    let p = c.requires.1 in
+    let b = c.requires.2 in
+    let tb = c.args.tab.now in
+    let f = c.args.file.now in
+    let a = c.args.at in
+    let n = get_or f (a + 2) 0 in
+    let k = c.number-k.result in
+    let kE = c.number-k.ensures.0 in
+    (rows_room tb _ p.plan.program.table.long, call_small p b k n kE refl, omega arith)
+
+pub eval_call-returns : goal.eval_call-returns
+eval_call-returns t c =
+    let p = c.requires.1 in
+    let b = c.requires.2 in
+    let fr = c.args.frame.now in
+    let f = c.args.file.now in
+    let a = c.args.at in
+    let n = get_or f (a + 2) 0 in
+    let k = c.number-k.result in
+    let kE = c.number-k.ensures.0 in
+    let C = c.enter-r.new.args in
+    call_single p b k n kE refl (first_of fr) C c.row-outputs.result c.enter-r.ensures.0 c.row-outputs.ensures c.single_out.ensures
+
+pub eval_first-eval-t-requires : goal.eval_first-eval-t-requires
+eval_first-eval-t-requires t c =
+    let fd = c.requires.0 in
+    let p = c.requires.1 in
+    (omega arith, (fd, ready_first p))
+
+pub eval_first-chosen-to-requires : goal.eval_first-chosen-to-requires
+eval_first-chosen-to-requires t c =
+    let fd = c.requires.0 in
+    let p = c.requires.1 in
+    let h = c.eval-t.ensures in
+    let K = c.eval-t.auto.new in
+    let r = ready_rest p h K in
+    rw h.next_is (fd, r.plan, r.present, omega (arith, r.room, r.small))
+
+pub eval_first-pass-s-requires : goal.eval_first-pass-s-requires
+eval_first-pass-s-requires t c =
+    let p = c.requires.1 in
+    let tb = c.args.tab.now in
+    let h = c.eval-t.ensures in
+    let K = c.eval-t.auto.new in
+    rw h.next_is (ready_pass (ready_rest p h K), rows_room tb _ p.plan.program.table.long)
+
+pub eval_first-slice_bounds-step_untaken-count : goal.eval_first-slice_bounds-step_untaken-count
+eval_first-slice_bounds-step_untaken-count t c =
+    let p = c.requires.1 in
+    let le = ready_seg p in
+    let h = c.eval-t.ensures in
+    omega (arith, h.used_is, le)
+
+pub eval_first-slice_bounds-step_untaken-start : goal.eval_first-slice_bounds-step_untaken-start
+eval_first-slice_bounds-step_untaken-start t c =
+    let p = c.requires.1 in
+    let le = ready_seg p in
+    let h = c.eval-t.ensures in
+    omega (arith, h.used_is, le)
+
+pub eval_first-slice_bounds-step_untaken-count-then-runs : goal.eval_first-slice_bounds-step_untaken-count-then-runs
+eval_first-slice_bounds-step_untaken-count-then-runs t c =
+    let p = c.requires.1 in
+    let le = ready_seg p in
+    let h = c.eval-t.ensures in
+    let K = c.eval-t.auto.new in
+    omega (arith, h.used_is, le, K, ap length p.same)
+
+pub eval_first-slice_bounds-step_untaken-start-then-runs : goal.eval_first-slice_bounds-step_untaken-start-then-runs
+eval_first-slice_bounds-step_untaken-start-then-runs t c =
+    let p = c.requires.1 in
+    let le = ready_seg p in
+    let h = c.eval-t.ensures in
+    let K = c.eval-t.auto.new in
+    omega (arith, h.used_is, le, K, ap length p.same)
+
+pub eval_first-step_untaken-other-requires : goal.eval_first-step_untaken-other-requires
+eval_first-step_untaken-other-requires t c =
+    let fd = c.requires.0 in
+    let p = c.requires.1 in
+    let h = c.eval-t.ensures in
+    let K = c.eval-t.auto.new in
+    (omega arith, (fd, rw h.next_is (ready_rest p h K)))
+
+pub eval_first-overflow_add-result : goal.eval_first-overflow_add-result
+eval_first-overflow_add-result t c =
+    let p = c.requires.1 in
+    let f = c.args.file.now in
+    let L = c.args.level in
+    let a = c.args.at in
+    let mid = end_at f L a in
+    let h = c.eval-t.ensures in
+    let q = skip_one f L mid (parted f L 1 a p.plan.reads).tail (moved_skip f L 1 c.eval-t.ensures.next_is c.pass-s.ensures) in
+    let segs = two_segs f L a p.plan.reads in
+    omega (arith, h.used_is, q.used_is, segs, p.room, p.small)
+
+pub eval_first-overflow_add-result-else-runs : goal.eval_first-overflow_add-result-else-runs
+eval_first-overflow_add-result-else-runs t c =
+    let p = c.requires.1 in
+    let f = c.args.file.now in
+    let L = c.args.level in
+    let a = c.args.at in
+    let mid = end_at f L a in
+    let h = c.eval-t.ensures in
+    let q = skip_one f L mid (parted f L 1 a p.plan.reads).tail (moved_skip f L 1 c.eval-t.ensures.next_is c.pass-s.ensures) in
+    let segs = two_segs f L a p.plan.reads in
+    omega (arith, h.used_is, q.used_is, segs, p.room, p.small)
+
+pub eval_first-returns-then-runs : goal.eval_first-returns-then-runs
+eval_first-returns-then-runs t c =
+    let p = c.requires.1 in
+    let fr = c.args.frame.now in
+    let tb = c.args.tab.now in
+    let f = c.args.file.now in
+    let kk = consts_of tb in
+    let L = c.args.level in
+    let a = c.args.at in
+    let n = node_of fr in
+    let F = first_of fr in
+    let cl = cells_of fr in
+    let bb = before_of fr in
+    let o = c.args.old.now in
+    let le = ready_seg p in
+    let mid = end_at f L a in
+    let n1 = seg_at f L a in
+    let n2 = seg_at f L (end_at f L a) in
+    let h = c.eval-t.ensures in
+    let K = c.eval-t.auto.new in
+    let h2 = moved_untaken f kk L n F cl bb c.eval-t.ensures.next_is (rest_old c.eval-t.ensures) c.step_untaken-other.ensures in
+    let q = skip_one f L mid (parted f L 1 a p.plan.reads).tail (moved_skip f L 1 c.eval-t.ensures.next_is c.pass-s.ensures) in
+    let to = chosen_is f kk L n F cl bb c.eval-t.result.out c.eval-t.ensures.next_is c.chosen-to.ensures in
+    let segs = two_segs f L a p.plan.reads in
+    let ends = two_ends f L a p.plan.reads in
+    seq_as ((λ (x y : List ℕ). choose true (branch_in f kk L a n F cl bb x) (branch_in f kk L mid n F cl bb y))) n1 n2 segs ends (first_ran ((branch_in f kk L a n F cl bb (take n1 o))) ((branch_in f kk L mid n F cl bb (take n2 (drop n1 o)))) h q (untaken_meets h2) (K ∙ ap length p.same) le to (sym c.if-runs.true ∙ c.runs.ensures) (c.drop_failure.ensures (eval_in f kk n F cl bb (expr_at f L mid) (take n2 (drop n1 o))).out h2.over_is))
+
+pub eval_first-returns-else-runs : goal.eval_first-returns-else-runs
+eval_first-returns-else-runs t c =
+    let p = c.requires.1 in
+    let fr = c.args.frame.now in
+    let tb = c.args.tab.now in
+    let f = c.args.file.now in
+    let kk = consts_of tb in
+    let L = c.args.level in
+    let a = c.args.at in
+    let n = node_of fr in
+    let F = first_of fr in
+    let cl = cells_of fr in
+    let bb = before_of fr in
+    let o = c.args.old.now in
+    let mid = end_at f L a in
+    let n1 = seg_at f L a in
+    let n2 = seg_at f L (end_at f L a) in
+    let h = c.eval-t.ensures in
+    let q = skip_one f L mid (parted f L 1 a p.plan.reads).tail (moved_skip f L 1 c.eval-t.ensures.next_is c.pass-s.ensures) in
+    let to = chosen_is f kk L n F cl bb c.eval-t.result.out c.eval-t.ensures.next_is c.chosen-to.ensures in
+    let segs = two_segs f L a p.plan.reads in
+    let ends = two_ends f L a p.plan.reads in
+    seq_as ((λ (x y : List ℕ). choose true (branch_in f kk L a n F cl bb x) (branch_in f kk L mid n F cl bb y))) n1 n2 segs ends (first_not ((branch_in f kk L a n F cl bb (take n1 o))) ((branch_in f kk L mid n F cl bb (take n2 (drop n1 o)))) refl h q to (sym c.if-runs.false ∙ c.runs.ensures))
+
+pub eval_form-bounds-file-at : goal.eval_form-bounds-file-at
+eval_form-bounds-file-at t c =
+    let p = c.requires.1 in
+    let f = c.args.file.now in
+    let L = c.args.level in
+    let a = c.args.at in
+    let h = plan_head f p.plan in
+    reads_in f L a h
+
+pub eval_form-overflow_add-p : goal.eval_form-overflow_add-p
+eval_form-overflow_add-p t c =
+    let p = c.requires.1 in
+    let f = c.args.file.now in
+    let L = c.args.level in
+    let a = c.args.at in
+    let h = plan_head f p.plan in
+    omega (arith, reads_in f L a h, p.plan.program.sized.small)
+
+pub eval_form-bounds-file-p : goal.eval_form-bounds-file-p
+eval_form-bounds-file-p t c =
+    let p = c.requires.1 in
+    let f = c.args.file.now in
+    let L = c.args.level in
+    let a = c.args.at in
+    let h = plan_head f p.plan in
+    omega (arith, (unary_form f L a h c.in-5.is).1.inside)
+
+pub eval_form-overflow_sub-level : goal.eval_form-overflow_sub-level
+eval_form-overflow_sub-level t c =
+    let p = c.requires.1 in
+    let f = c.args.file.now in
+    let L = c.args.level in
+    let a = c.args.at in
+    let h = plan_head f p.plan in
+    let deep = reads_deep f L a h in
+    deep
+
+pub eval_form-eval_form-r-requires : goal.eval_form-eval_form-r-requires
+eval_form-eval_form-r-requires t c =
+    let fd = c.requires.0 in
+    let p = c.requires.1 in
+    let f = c.args.file.now in
+    let L = c.args.level in
+    let a = c.args.at in
+    let h = plan_head f p.plan in
+    let deep = reads_deep f L a h in
+    (omega (arith, deep), (fd, ready_parts p (unary_form f L a h c.in-5.is).1 refl))
+
+pub eval_form-overflow_sub-level-in-6 : goal.eval_form-overflow_sub-level-in-6
+eval_form-overflow_sub-level-in-6 t c =
+    let p = c.requires.1 in
+    let f = c.args.file.now in
+    let L = c.args.level in
+    let a = c.args.at in
+    let h = plan_head f p.plan in
+    let deep = reads_deep f L a h in
+    deep
+
+pub eval_form-eval_two-requires : goal.eval_form-eval_two-requires
+eval_form-eval_two-requires t c =
+    let fd = c.requires.0 in
+    let p = c.requires.1 in
+    let f = c.args.file.now in
+    let L = c.args.level in
+    let a = c.args.at in
+    let h = plan_head f p.plan in
+    let deep = reads_deep f L a h in
+    (omega (arith, deep), (fd, ready_parts p (binary_form f L a h c.in-6.is).1 refl))
+
+pub eval_form-overflow_sub-level-in-7 : goal.eval_form-overflow_sub-level-in-7
+eval_form-overflow_sub-level-in-7 t c =
+    let p = c.requires.1 in
+    let f = c.args.file.now in
+    let L = c.args.level in
+    let a = c.args.at in
+    let h = plan_head f p.plan in
+    let deep = reads_deep f L a h in
+    deep
+
+pub eval_form-eval_if-requires : goal.eval_form-eval_if-requires
+eval_form-eval_if-requires t c =
+    let fd = c.requires.0 in
+    let p = c.requires.1 in
+    let f = c.args.file.now in
+    let L = c.args.level in
+    let a = c.args.at in
+    let h = plan_head f p.plan in
+    let deep = reads_deep f L a h in
+    (omega (arith, deep), (fd, ready_parts p ((if_form f L a h c.in-7.is)) refl))
+
+pub eval_form-overflow_sub-level-then-is_first : goal.eval_form-overflow_sub-level-then-is_first
+eval_form-overflow_sub-level-then-is_first t c =
+    let p = c.requires.1 in
+    let f = c.args.file.now in
+    let L = c.args.level in
+    let a = c.args.at in
+    let h = plan_head f p.plan in
+    let deep = reads_deep f L a h in
+    deep
+
+pub eval_form-eval_first-requires : goal.eval_form-eval_first-requires
+eval_form-eval_first-requires t c =
+    let fd = c.requires.0 in
+    let p = c.requires.1 in
+    let f = c.args.file.now in
+    let L = c.args.level in
+    let a = c.args.at in
+    let h = plan_head f p.plan in
+    let deep = reads_deep f L a h in
+    (omega (arith, deep), (fd, ready_parts p ((arrow_form f L a h c.in-9.is)) refl))
+
+pub eval_form-overflow_sub-level-else-is_first : goal.eval_form-overflow_sub-level-else-is_first
+eval_form-overflow_sub-level-else-is_first t c =
+    let p = c.requires.1 in
+    let f = c.args.file.now in
+    let L = c.args.level in
+    let a = c.args.at in
+    let h = plan_head f p.plan in
+    let deep = reads_deep f L a h in
+    deep
+
+pub eval_form-eval_second-requires : goal.eval_form-eval_second-requires
+eval_form-eval_second-requires t c =
+    let fd = c.requires.0 in
+    let p = c.requires.1 in
+    let f = c.args.file.now in
+    let L = c.args.level in
+    let a = c.args.at in
+    let h = plan_head f p.plan in
+    let deep = reads_deep f L a h in
+    (omega (arith, deep), (fd, ready_parts p ((arrow_form f L a h c.in-9.is)) refl))
+
+pub eval_form-bounds-file-p-in-10 : goal.eval_form-bounds-file-p-in-10
+eval_form-bounds-file-p-in-10 t c =
+    let p = c.requires.1 in
+    let f = c.args.file.now in
+    let L = c.args.level in
+    let a = c.args.at in
+    let h = plan_head f p.plan in
+    omega (arith, (cast_form f L a h c.in-10.is).1.inside, type_some (cast_form f L a h c.in-10.is).0)
+
+pub eval_form-overflow_sub-level-in-10 : goal.eval_form-overflow_sub-level-in-10
+eval_form-overflow_sub-level-in-10 t c =
+    let p = c.requires.1 in
+    let f = c.args.file.now in
+    let L = c.args.level in
+    let a = c.args.at in
+    let h = plan_head f p.plan in
+    let deep = reads_deep f L a h in
+    deep
+
+pub eval_form-eval_form-r-requires-in-10 : goal.eval_form-eval_form-r-requires-in-10
+eval_form-eval_form-r-requires-in-10 t c =
+    let fd = c.requires.0 in
+    let p = c.requires.1 in
+    let f = c.args.file.now in
+    let L = c.args.level in
+    let a = c.args.at in
+    let h = plan_head f p.plan in
+    let deep = reads_deep f L a h in
+    let e : a + 1 + c.ty_size.result ≡ a + (1 + ty_size (cast_form f L a h c.in-10.is).0) = omega (arith, c.ty_size.ensures, (cast_form f L a h c.in-10.is).3) in
+    (omega (arith, deep), (fd, rw e (ready_parts p (cast_form f L a h c.in-10.is).1 refl)))
+
+pub eval_form-pass-s-requires : goal.eval_form-pass-s-requires
+eval_form-pass-s-requires t c =
+    let p = c.requires.1 in
+    let tb = c.args.tab.now in
+    (ready_pass p, rows_room tb _ p.plan.program.table.long)
+
+pub eval_form-returns-in-5 : goal.eval_form-returns-in-5
+unfolding eval
+eval_form-returns-in-5 t c =
+    let p = c.requires.1 in
+    let fr = c.args.frame.now in
+    let tb = c.args.tab.now in
+    let f = c.args.file.now in
+    let kk = consts_of tb in
+    let L = c.args.level in
+    let a = c.args.at in
+    let n = node_of fr in
+    let F = first_of fr in
+    let cl = cells_of fr in
+    let bb = before_of fr in
+    let h = plan_head f p.plan in
+    let R = p.plan.reads in
+    one_evals f kk L a n F cl bb (λ (s : List ℕ). map_eval (unary_of (unary_form f L a h c.in-5.is).0) (eval_in f kk n F cl bb (expr_at f (L - 1) (a + 2)) s)) R (unary_form f L a h c.in-5.is).1 refl (λ s. refl) (mapped (unary_of (unary_form f L a h c.in-5.is).0) c.eval_form-r.ensures (unary_out_is (get_or f (a + 1) 0) (unary_form f L a h c.in-5.is).0 c.eval_form-r.result.out (unary_form f L a h c.in-5.is).2 c.unary_out.ensures))
+
+pub eval_form-returns-in-6 : goal.eval_form-returns-in-6
+unfolding eval
+eval_form-returns-in-6 t c =
+    let p = c.requires.1 in
+    let fr = c.args.frame.now in
+    let tb = c.args.tab.now in
+    let f = c.args.file.now in
+    let kk = consts_of tb in
+    let L = c.args.level in
+    let a = c.args.at in
+    let n = node_of fr in
+    let F = first_of fr in
+    let cl = cells_of fr in
+    let bb = before_of fr in
+    let h = plan_head f p.plan in
+    let R = p.plan.reads in
+    form_evals f kk L a n F cl bb (two_in f kk (get_or f (a + 1) 0) (L - 1) (a + 2) n F cl bb) R (binary_form f L a h c.in-6.is).1 refl (λ s. binary_is (get_or f (a + 1) 0) (binary_form f L a h c.in-6.is).0 (binary_form f L a h c.in-6.is).2 (eval_in f kk n F cl bb (expr_at f (L - 1) (a + 2)) (take (seg_at f (L - 1) (a + 2)) s)) (eval_in f kk n F cl bb (expr_at f (L - 1) (end_at f (L - 1) (a + 2)))) (drop (seg_at f (L - 1) (a + 2)) s)) c.eval_two.ensures
+
+pub eval_form-returns-in-7 : goal.eval_form-returns-in-7
+unfolding eval
+eval_form-returns-in-7 t c =
+    let p = c.requires.1 in
+    let fr = c.args.frame.now in
+    let tb = c.args.tab.now in
+    let f = c.args.file.now in
+    let kk = consts_of tb in
+    let L = c.args.level in
+    let a = c.args.at in
+    let n = node_of fr in
+    let F = first_of fr in
+    let cl = cells_of fr in
+    let bb = before_of fr in
+    let h = plan_head f p.plan in
+    let R = p.plan.reads in
+    form_evals f kk L a n F cl bb (if_in f kk (L - 1) (a + 1) n F cl bb) R ((if_form f L a h c.in-7.is)) refl (λ s. refl) c.eval_if.ensures
+
+pub eval_form-returns-then-is_first : goal.eval_form-returns-then-is_first
+unfolding eval
+eval_form-returns-then-is_first t c =
+    let p = c.requires.1 in
+    let fr = c.args.frame.now in
+    let tb = c.args.tab.now in
+    let f = c.args.file.now in
+    let kk = consts_of tb in
+    let L = c.args.level in
+    let a = c.args.at in
+    let n = node_of fr in
+    let F = first_of fr in
+    let cl = cells_of fr in
+    let bb = before_of fr in
+    let h = plan_head f p.plan in
+    let R = p.plan.reads in
+    form_evals f kk L a n F cl bb (choose_in f kk true (L - 1) (a + 1) n F cl bb) R ((arrow_form f L a h c.in-9.is)) refl (λ s. first_is f kk (L - 1) (a + 1) n F true cl bb s (sym c.is_first.ensures ∙ c.if-is_first.true)) c.eval_first.ensures
+
+pub eval_form-returns-else-is_first : goal.eval_form-returns-else-is_first
+unfolding eval
+eval_form-returns-else-is_first t c =
+    let p = c.requires.1 in
+    let fr = c.args.frame.now in
+    let tb = c.args.tab.now in
+    let f = c.args.file.now in
+    let kk = consts_of tb in
+    let L = c.args.level in
+    let a = c.args.at in
+    let n = node_of fr in
+    let F = first_of fr in
+    let cl = cells_of fr in
+    let bb = before_of fr in
+    let h = plan_head f p.plan in
+    let R = p.plan.reads in
+    form_evals f kk L a n F cl bb (choose_in f kk false (L - 1) (a + 1) n F cl bb) R ((arrow_form f L a h c.in-9.is)) refl (λ s. first_is f kk (L - 1) (a + 1) n F false cl bb s (sym c.is_first.ensures ∙ c.if-is_first.false)) c.eval_second.ensures
+
+pub eval_form-returns-in-10 : goal.eval_form-returns-in-10
+unfolding eval
+eval_form-returns-in-10 t c =
+    let p = c.requires.1 in
+    let fr = c.args.frame.now in
+    let tb = c.args.tab.now in
+    let f = c.args.file.now in
+    let kk = consts_of tb in
+    let L = c.args.level in
+    let a = c.args.at in
+    let n = node_of fr in
+    let F = first_of fr in
+    let cl = cells_of fr in
+    let bb = before_of fr in
+    let o = c.args.old.now in
+    let h = plan_head f p.plan in
+    let R = p.plan.reads in
+    let q = a + (1 + ty_size (cast_form f L a h c.in-10.is).0) in
+    let e : a + 1 + c.ty_size.result ≡ q = omega (arith, c.ty_size.ensures, (cast_form f L a h c.in-10.is).3) in
+    one_evals f kk L a n F cl bb (λ (s : List ℕ). map_eval (cast_to (cast_form f L a h c.in-10.is).0) (eval_in f kk n F cl bb (expr_at f (L - 1) q) s)) R (cast_form f L a h c.in-10.is).1 refl (λ s. refl) (mapped (cast_to (cast_form f L a h c.in-10.is).0) (moved f kk (L - 1) n F cl bb e (refl {a = o}) c.eval_form-r-in-10.ensures) (cast_out_is (get_or f (a + 1) 0) (cast_form f L a h c.in-10.is).0 c.eval_form-r-in-10.result.out (cast_form f L a h c.in-10.is).4 (cast_form f L a h c.in-10.is).2 c.cast_out.ensures))
+
+pub eval_form-returns-in_default : goal.eval_form-returns-in_default
+eval_form-returns-in_default t c =
+    let p = c.requires.1 in
+    let fr = c.args.frame.now in
+    let tb = c.args.tab.now in
+    let f = c.args.file.now in
+    let kk = consts_of tb in
+    let L = c.args.level in
+    let a = c.args.at in
+    let n = node_of fr in
+    let F = first_of fr in
+    let cl = cells_of fr in
+    let bb = before_of fr in
+    let h = plan_head f p.plan in
+    let R = p.plan.reads in
+    let leaf : Leaf (get_or f a 0) = search rules in
+    leaf_evals f kk L a n F cl bb R h leaf p.same c.pass-s.ensures (λ seg. c.same_out.ensures ∙ c.leaf_out.ensures seg)
+
+pub eval_if-eval-c-requires : goal.eval_if-eval-c-requires
+eval_if-eval-c-requires t c =
+    let fd = c.requires.0 in
+    let p = c.requires.1 in
+    (omega arith, (fd, ready_first p))
+
+pub eval_if-slice_bounds-eval_first-count : goal.eval_if-slice_bounds-eval_first-count
+eval_if-slice_bounds-eval_first-count t c =
+    let p = c.requires.1 in
+    let le = ready_seg p in
+    let h = c.eval-c.ensures in
+    omega (arith, h.used_is, le)
+
+pub eval_if-slice_bounds-eval_first-start : goal.eval_if-slice_bounds-eval_first-start
+eval_if-slice_bounds-eval_first-start t c =
+    let p = c.requires.1 in
+    let le = ready_seg p in
+    let h = c.eval-c.ensures in
+    omega (arith, h.used_is, le)
+
+pub eval_if-slice_bounds-eval_first-count-in-First : goal.eval_if-slice_bounds-eval_first-count-in-First
+eval_if-slice_bounds-eval_first-count-in-First t c =
+    let p = c.requires.1 in
+    let le = ready_seg p in
+    let h = c.eval-c.ensures in
+    let K = c.eval-c.auto.new in
+    omega (arith, h.used_is, le, K, ap length p.same)
+
+pub eval_if-slice_bounds-eval_first-start-in-First : goal.eval_if-slice_bounds-eval_first-start-in-First
+eval_if-slice_bounds-eval_first-start-in-First t c =
+    let p = c.requires.1 in
+    let le = ready_seg p in
+    let h = c.eval-c.ensures in
+    let K = c.eval-c.auto.new in
+    omega (arith, h.used_is, le, K, ap length p.same)
+
+pub eval_if-eval_first-r-requires : goal.eval_if-eval_first-r-requires
+eval_if-eval_first-r-requires t c =
+    let fd = c.requires.0 in
+    let p = c.requires.1 in
+    let h = c.eval-c.ensures in
+    let K = c.eval-c.auto.new in
+    (omega arith, (fd, rw h.next_is (ready_rest p h K)))
+
+pub eval_if-overflow_add-result : goal.eval_if-overflow_add-result
+eval_if-overflow_add-result t c =
+    let p = c.requires.1 in
+    let fr = c.args.frame.now in
+    let tb = c.args.tab.now in
+    let f = c.args.file.now in
+    let kk = consts_of tb in
+    let L = c.args.level in
+    let a = c.args.at in
+    let n = node_of fr in
+    let F = first_of fr in
+    let cl = cells_of fr in
+    let bb = before_of fr in
+    let h = c.eval-c.ensures in
+    let segs = segs_cons f L 2 a p.plan.reads in
+    let g1 = moved_choice f kk true L n F cl bb c.eval-c.ensures.next_is (rest_old c.eval-c.ensures) c.eval_first-r.ensures in
+    omega (arith, h.used_is, g1.used_is, segs, p.room, p.small)
+
+pub eval_if-slice_bounds-eval_second-count : goal.eval_if-slice_bounds-eval_second-count
+eval_if-slice_bounds-eval_second-count t c =
+    let p = c.requires.1 in
+    let le = ready_seg p in
+    let h = c.eval-c.ensures in
+    omega (arith, h.used_is, le)
+
+pub eval_if-slice_bounds-eval_second-start : goal.eval_if-slice_bounds-eval_second-start
+eval_if-slice_bounds-eval_second-start t c =
+    let p = c.requires.1 in
+    let le = ready_seg p in
+    let h = c.eval-c.ensures in
+    omega (arith, h.used_is, le)
+
+pub eval_if-slice_bounds-eval_second-count-in-Second : goal.eval_if-slice_bounds-eval_second-count-in-Second
+eval_if-slice_bounds-eval_second-count-in-Second t c =
+    let p = c.requires.1 in
+    let le = ready_seg p in
+    let h = c.eval-c.ensures in
+    let K = c.eval-c.auto.new in
+    omega (arith, h.used_is, le, K, ap length p.same)
+
+pub eval_if-slice_bounds-eval_second-start-in-Second : goal.eval_if-slice_bounds-eval_second-start-in-Second
+eval_if-slice_bounds-eval_second-start-in-Second t c =
+    let p = c.requires.1 in
+    let le = ready_seg p in
+    let h = c.eval-c.ensures in
+    let K = c.eval-c.auto.new in
+    omega (arith, h.used_is, le, K, ap length p.same)
+
+pub eval_if-eval_second-r-requires : goal.eval_if-eval_second-r-requires
+eval_if-eval_second-r-requires t c =
+    let fd = c.requires.0 in
+    let p = c.requires.1 in
+    let h = c.eval-c.ensures in
+    let K = c.eval-c.auto.new in
+    (omega arith, (fd, rw h.next_is (ready_rest p h K)))
+
+pub eval_if-overflow_add-result-in-Second : goal.eval_if-overflow_add-result-in-Second
+eval_if-overflow_add-result-in-Second t c =
+    let p = c.requires.1 in
+    let fr = c.args.frame.now in
+    let tb = c.args.tab.now in
+    let f = c.args.file.now in
+    let kk = consts_of tb in
+    let L = c.args.level in
+    let a = c.args.at in
+    let n = node_of fr in
+    let F = first_of fr in
+    let cl = cells_of fr in
+    let bb = before_of fr in
+    let h = c.eval-c.ensures in
+    let segs = segs_cons f L 2 a p.plan.reads in
+    let g2 = moved_choice f kk false L n F cl bb c.eval-c.ensures.next_is (rest_old c.eval-c.ensures) c.eval_second-r.ensures in
+    omega (arith, h.used_is, g2.used_is, segs, p.room, p.small)
+
+pub eval_if-pass_all-s-requires : goal.eval_if-pass_all-s-requires
+eval_if-pass_all-s-requires t c =
+    let p = c.requires.1 in
+    let tb = c.args.tab.now in
+    let h = c.eval-c.ensures in
+    let K = c.eval-c.auto.new in
+    rw h.next_is (ready_pass (ready_rest p h K), rows_room tb _ p.plan.program.table.long)
+
+pub eval_if-overflow_add-result-in-Neither : goal.eval_if-overflow_add-result-in-Neither
+eval_if-overflow_add-result-in-Neither t c =
+    let p = c.requires.1 in
+    let f = c.args.file.now in
+    let L = c.args.level in
+    let a = c.args.at in
+    let h = c.eval-c.ensures in
+    let segs = segs_cons f L 2 a p.plan.reads in
+    let q = (moved_skip f L 2 c.eval-c.ensures.next_is c.pass_all-s.ensures) in
+    omega (arith, h.used_is, q.used_is, segs, p.room, p.small)
+
+pub eval_if-returns-in-First : goal.eval_if-returns-in-First
+eval_if-returns-in-First t c =
+    let p = c.requires.1 in
+    let fr = c.args.frame.now in
+    let tb = c.args.tab.now in
+    let f = c.args.file.now in
+    let kk = consts_of tb in
+    let L = c.args.level in
+    let a = c.args.at in
+    let n = node_of fr in
+    let F = first_of fr in
+    let cl = cells_of fr in
+    let bb = before_of fr in
+    let le = ready_seg p in
+    let mid = end_at f L a in
+    let n1 = seg_at f L a in
+    let h = c.eval-c.ensures in
+    let K = c.eval-c.auto.new in
+    let m2 = segs_at f L 2 (end_at f L a) in
+    let segs = segs_cons f L 2 a p.plan.reads in
+    let ends = (parted f L 2 a p.plan.reads).ends in
+    let g1 = moved_choice f kk true L n F cl bb c.eval-c.ensures.next_is (rest_old c.eval-c.ensures) c.eval_first-r.ensures in
+    remade c.same_out.ensures (seq_as ((λ (x y : List ℕ). next (eval_in f kk n F cl bb (expr_at f L a) x) (condition (λ (b : Bool) (rest : List ℕ). choose_in f kk b L mid n F cl bb rest)) y)) n1 m2 segs ends (if_taken ((λ (b : Bool) (rest : List ℕ). choose_in f kk b L mid n F cl bb rest)) true h g1 (K ∙ ap length p.same) le (sym c.test_of-test.ensures ∙ c.in-First.is)))
+
+pub eval_if-returns-in-Second : goal.eval_if-returns-in-Second
+eval_if-returns-in-Second t c =
+    let p = c.requires.1 in
+    let fr = c.args.frame.now in
+    let tb = c.args.tab.now in
+    let f = c.args.file.now in
+    let kk = consts_of tb in
+    let L = c.args.level in
+    let a = c.args.at in
+    let n = node_of fr in
+    let F = first_of fr in
+    let cl = cells_of fr in
+    let bb = before_of fr in
+    let le = ready_seg p in
+    let mid = end_at f L a in
+    let n1 = seg_at f L a in
+    let h = c.eval-c.ensures in
+    let K = c.eval-c.auto.new in
+    let m2 = segs_at f L 2 (end_at f L a) in
+    let segs = segs_cons f L 2 a p.plan.reads in
+    let ends = (parted f L 2 a p.plan.reads).ends in
+    let g2 = moved_choice f kk false L n F cl bb c.eval-c.ensures.next_is (rest_old c.eval-c.ensures) c.eval_second-r.ensures in
+    remade c.same_out-in-Second.ensures (seq_as ((λ (x y : List ℕ). next (eval_in f kk n F cl bb (expr_at f L a) x) (condition (λ (b : Bool) (rest : List ℕ). choose_in f kk b L mid n F cl bb rest)) y)) n1 m2 segs ends (if_taken ((λ (b : Bool) (rest : List ℕ). choose_in f kk b L mid n F cl bb rest)) false h g2 (K ∙ ap length p.same) le (sym c.test_of-test.ensures ∙ c.in-Second.is)))
+
+pub eval_if-returns-in-Neither : goal.eval_if-returns-in-Neither
+eval_if-returns-in-Neither t c =
+    let p = c.requires.1 in
+    let fr = c.args.frame.now in
+    let tb = c.args.tab.now in
+    let f = c.args.file.now in
+    let kk = consts_of tb in
+    let L = c.args.level in
+    let a = c.args.at in
+    let n = node_of fr in
+    let F = first_of fr in
+    let cl = cells_of fr in
+    let bb = before_of fr in
+    let mid = end_at f L a in
+    let n1 = seg_at f L a in
+    let h = c.eval-c.ensures in
+    let m2 = segs_at f L 2 (end_at f L a) in
+    let segs = segs_cons f L 2 a p.plan.reads in
+    let ends = (parted f L 2 a p.plan.reads).ends in
+    seq_as ((λ (x y : List ℕ). next (eval_in f kk n F cl bb (expr_at f L a) x) (condition (λ (b : Bool) (rest : List ℕ). choose_in f kk b L mid n F cl bb rest)) y)) n1 m2 segs ends (if_stop ((λ (b : Bool) (rest : List ℕ). choose_in f kk b L mid n F cl bb rest)) h ((moved_skip f L 2 c.eval-c.ensures.next_is c.pass_all-s.ensures)) (sym c.test_of-test.ensures ∙ c.in-Neither.is) c.untested.ensures)
+
+pub eval_second-pass-s-requires : goal.eval_second-pass-s-requires
+eval_second-pass-s-requires t c =
+    let p = c.requires.1 in
+    let tb = c.args.tab.now in
+    (ready_pass (ready_first p), rows_room tb _ p.plan.program.table.long)
+
+pub eval_second-slice_bounds-eval-count : goal.eval_second-slice_bounds-eval-count
+eval_second-slice_bounds-eval-count t c =
+    let p = c.requires.1 in
+    let f = c.args.file.now in
+    let L = c.args.level in
+    let a = c.args.at in
+    let le = ready_seg p in
+    let q = skip_one f L a (ready_first p).plan.reads c.pass-s.ensures in
+    omega (arith, q.used_is, le)
+
+pub eval_second-slice_bounds-eval-start : goal.eval_second-slice_bounds-eval-start
+eval_second-slice_bounds-eval-start t c =
+    let p = c.requires.1 in
+    let f = c.args.file.now in
+    let L = c.args.level in
+    let a = c.args.at in
+    let le = ready_seg p in
+    let q = skip_one f L a (ready_first p).plan.reads c.pass-s.ensures in
+    omega (arith, q.used_is, le)
+
+pub eval_second-slice_bounds-eval-count-2 : goal.eval_second-slice_bounds-eval-count-2
+eval_second-slice_bounds-eval-count-2 t c =
+    let p = c.requires.1 in
+    let f = c.args.file.now in
+    let L = c.args.level in
+    let a = c.args.at in
+    let le = ready_seg p in
+    let q = skip_one f L a (ready_first p).plan.reads c.pass-s.ensures in
+    omega (arith, q.used_is, le, ap length p.same)
+
+pub eval_second-slice_bounds-eval-start-2 : goal.eval_second-slice_bounds-eval-start-2
+eval_second-slice_bounds-eval-start-2 t c =
+    let p = c.requires.1 in
+    let f = c.args.file.now in
+    let L = c.args.level in
+    let a = c.args.at in
+    let le = ready_seg p in
+    let q = skip_one f L a (ready_first p).plan.reads c.pass-s.ensures in
+    omega (arith, q.used_is, le, ap length p.same)
+
+pub eval_second-eval-e-requires : goal.eval_second-eval-e-requires
+eval_second-eval-e-requires t c =
+    let fd = c.requires.0 in
+    let p = c.requires.1 in
+    let f = c.args.file.now in
+    let L = c.args.level in
+    let a = c.args.at in
+    let o = c.args.old.now in
+    let q = skip_one f L a (ready_first p).plan.reads c.pass-s.ensures in
+    let U = c.pass-s.result.used in
+    let e = (skip_one f L a (ready_first p).plan.reads c.pass-s.ensures).next_is in
+    (omega arith, (fd, rw e (ready_tail U (tail_of U o) (tail_of U c.args.new.now) p q.used_is (tail_all U o) (tail_all U c.args.new.now ∙ ap (drop U) p.same))))
+
+pub eval_second-chosen-eo-requires : goal.eval_second-chosen-eo-requires
+eval_second-chosen-eo-requires t c =
+    let fd = c.requires.0 in
+    let p = c.requires.1 in
+    let r = ready_first p in
+    (fd, r.plan, r.present, omega (arith, r.room, r.small))
+
+pub eval_second-slice_bounds-step_untaken-end : goal.eval_second-slice_bounds-step_untaken-end
+eval_second-slice_bounds-step_untaken-end t c =
+    let p = c.requires.1 in
+    let f = c.args.file.now in
+    let L = c.args.level in
+    let a = c.args.at in
+    let o = c.args.old.now in
+    let le = ready_seg p in
+    let q = skip_one f L a (ready_first p).plan.reads c.pass-s.ensures in
+    let U = c.pass-s.result.used in
+    sym (length-take-le U o (omega (arith, q.used_is, le)))
+
+pub eval_second-slice_bounds-step_untaken-end-then-runs : goal.eval_second-slice_bounds-step_untaken-end-then-runs
+eval_second-slice_bounds-step_untaken-end-then-runs t c =
+    let p = c.requires.1 in
+    let f = c.args.file.now in
+    let L = c.args.level in
+    let a = c.args.at in
+    let le = ready_seg p in
+    let q = skip_one f L a (ready_first p).plan.reads c.pass-s.ensures in
+    let U = c.pass-s.result.used in
+    let K = c.eval-e.auto.new in
+    let N = c.eval-e.new.new in
+    let len = length_put U c.args.new.now N (omega (arith, q.used_is, le, ap length p.same)) K in
+    let lep = subst (λ (k : ℕ). U ≤ k) (sym len) (omega (arith, q.used_is, le, ap length p.same)) in
+    lep
+
+pub eval_second-slice_bounds-step_untaken-end-then-runs-2 : goal.eval_second-slice_bounds-step_untaken-end-then-runs-2
+eval_second-slice_bounds-step_untaken-end-then-runs-2 t c =
+    let p = c.requires.1 in
+    let f = c.args.file.now in
+    let L = c.args.level in
+    let a = c.args.at in
+    let le = ready_seg p in
+    let q = skip_one f L a (ready_first p).plan.reads c.pass-s.ensures in
+    let U = c.pass-s.result.used in
+    let K = c.eval-e.auto.new in
+    let N = c.eval-e.new.new in
+    let len = length_put U c.args.new.now N (omega (arith, q.used_is, le, ap length p.same)) K in
+    let lep = subst (λ (k : ℕ). U ≤ k) (sym len) (omega (arith, q.used_is, le, ap length p.same)) in
+    sym (length-take-le U (put_tail U c.args.new.now N) lep)
+
+pub eval_second-step_untaken-other-requires : goal.eval_second-step_untaken-other-requires
+eval_second-step_untaken-other-requires t c =
+    let fd = c.requires.0 in
+    let p = c.requires.1 in
+    let f = c.args.file.now in
+    let L = c.args.level in
+    let a = c.args.at in
+    let q = skip_one f L a (ready_first p).plan.reads c.pass-s.ensures in
+    let U = c.pass-s.result.used in
+    let N = c.eval-e.new.new in
+    (omega arith, (fd, ready_front U N p q.used_is))
+
+pub eval_second-overflow_add-result : goal.eval_second-overflow_add-result
+eval_second-overflow_add-result t c =
+    let p = c.requires.1 in
+    let fr = c.args.frame.now in
+    let tb = c.args.tab.now in
+    let f = c.args.file.now in
+    let kk = consts_of tb in
+    let L = c.args.level in
+    let a = c.args.at in
+    let n = node_of fr in
+    let F = first_of fr in
+    let cl = cells_of fr in
+    let bb = before_of fr in
+    let o = c.args.old.now in
+    let q = skip_one f L a (ready_first p).plan.reads c.pass-s.ensures in
+    let U = c.pass-s.result.used in
+    let e = (skip_one f L a (ready_first p).plan.reads c.pass-s.ensures).next_is in
+    let h = moved f kk L n F cl bb e (tail_all U o ∙ ap (λ (u : ℕ). drop u o) q.used_is) c.eval-e.ensures in
+    let segs = two_segs f L a p.plan.reads in
+    omega (arith, q.used_is, h.used_is, segs, p.room, p.small)
+
+pub eval_second-overflow_add-result-else-runs : goal.eval_second-overflow_add-result-else-runs
+eval_second-overflow_add-result-else-runs t c =
+    let p = c.requires.1 in
+    let fr = c.args.frame.now in
+    let tb = c.args.tab.now in
+    let f = c.args.file.now in
+    let kk = consts_of tb in
+    let L = c.args.level in
+    let a = c.args.at in
+    let n = node_of fr in
+    let F = first_of fr in
+    let cl = cells_of fr in
+    let bb = before_of fr in
+    let o = c.args.old.now in
+    let q = skip_one f L a (ready_first p).plan.reads c.pass-s.ensures in
+    let U = c.pass-s.result.used in
+    let e = (skip_one f L a (ready_first p).plan.reads c.pass-s.ensures).next_is in
+    let h = moved f kk L n F cl bb e (tail_all U o ∙ ap (λ (u : ℕ). drop u o) q.used_is) c.eval-e.ensures in
+    let segs = two_segs f L a p.plan.reads in
+    omega (arith, q.used_is, h.used_is, segs, p.room, p.small)
+
+pub eval_second-returns-then-runs : goal.eval_second-returns-then-runs
+eval_second-returns-then-runs t c =
+    let p = c.requires.1 in
+    let fr = c.args.frame.now in
+    let tb = c.args.tab.now in
+    let f = c.args.file.now in
+    let kk = consts_of tb in
+    let L = c.args.level in
+    let a = c.args.at in
+    let n = node_of fr in
+    let F = first_of fr in
+    let cl = cells_of fr in
+    let bb = before_of fr in
+    let o = c.args.old.now in
+    let le = ready_seg p in
+    let mid = end_at f L a in
+    let n1 = seg_at f L a in
+    let n2 = seg_at f L (end_at f L a) in
+    let q = skip_one f L a (ready_first p).plan.reads c.pass-s.ensures in
+    let U = c.pass-s.result.used in
+    let M = c.step_untaken-other.new.new in
+    let e = (skip_one f L a (ready_first p).plan.reads c.pass-s.ensures).next_is in
+    let h = moved f kk L n F cl bb e (tail_all U o ∙ ap (λ (u : ℕ). drop u o) q.used_is) c.eval-e.ensures in
+    let h2 = subst (λ (u : ℕ). UntakenTo f kk L a n F cl bb (take u o) c.step_untaken-other.result M) q.used_is c.step_untaken-other.ensures in
+    let to = chosen_is f kk L n F cl bb c.eval-e.result.out (refl {a = a}) c.chosen-eo.ensures in
+    let segs = two_segs f L a p.plan.reads in
+    let ends = two_ends f L a p.plan.reads in
+    seq_as ((λ (x y : List ℕ). choose false (branch_in f kk L a n F cl bb x) (branch_in f kk L mid n F cl bb y))) n1 n2 segs ends (second_ran ((branch_in f kk L a n F cl bb (take n1 o))) ((branch_in f kk L mid n F cl bb (take n2 (drop n1 o)))) q h (untaken_meets (fronted f kk L a n F cl bb o h2)) p.same le to (sym c.if-runs.true ∙ c.runs.ensures) (c.drop_failure.ensures (eval_in f kk n F cl bb (expr_at f L a) (take n1 o)).out (fronted f kk L a n F cl bb o h2).over_is))
+
+pub eval_second-returns-else-runs : goal.eval_second-returns-else-runs
+eval_second-returns-else-runs t c =
+    let p = c.requires.1 in
+    let fr = c.args.frame.now in
+    let tb = c.args.tab.now in
+    let f = c.args.file.now in
+    let kk = consts_of tb in
+    let L = c.args.level in
+    let a = c.args.at in
+    let n = node_of fr in
+    let F = first_of fr in
+    let cl = cells_of fr in
+    let bb = before_of fr in
+    let o = c.args.old.now in
+    let mid = end_at f L a in
+    let n1 = seg_at f L a in
+    let n2 = seg_at f L (end_at f L a) in
+    let q = skip_one f L a (ready_first p).plan.reads c.pass-s.ensures in
+    let U = c.pass-s.result.used in
+    let e = (skip_one f L a (ready_first p).plan.reads c.pass-s.ensures).next_is in
+    let h = moved f kk L n F cl bb e (tail_all U o ∙ ap (λ (u : ℕ). drop u o) q.used_is) c.eval-e.ensures in
+    let to = chosen_is f kk L n F cl bb c.eval-e.result.out (refl {a = a}) c.chosen-eo.ensures in
+    let segs = two_segs f L a p.plan.reads in
+    let ends = two_ends f L a p.plan.reads in
+    seq_as ((λ (x y : List ℕ). choose false (branch_in f kk L a n F cl bb x) (branch_in f kk L mid n F cl bb y))) n1 n2 segs ends (second_not ((branch_in f kk L a n F cl bb (take n1 o))) ((branch_in f kk L mid n F cl bb (take n2 (drop n1 o)))) refl q h p.same to (sym c.if-runs.false ∙ c.runs.ensures))
+
+pub eval_two-overflow_add-p : goal.eval_two-overflow_add-p
+eval_two-overflow_add-p t c =
+    let p = c.requires.1 in
+    let f = c.args.file.now in
+    let L = c.args.level in
+    let a = c.args.at + 2 in
+    let ins = reads_in f L a (plan_head f p.plan) in
+    omega (arith, ins, p.plan.program.sized.small)
+
+pub eval_two-bounds-file-p : goal.eval_two-bounds-file-p
+eval_two-bounds-file-p t c =
+    let p = c.requires.1 in
+    let f = c.args.file.now in
+    let L = c.args.level in
+    let a = c.args.at + 2 in
+    let ins = reads_in f L a (plan_head f p.plan) in
+    omega (arith, ins, p.plan.program.sized.small)
+
+pub eval_two-overflow_add-at : goal.eval_two-overflow_add-at
+eval_two-overflow_add-at t c =
+    let p = c.requires.1 in
+    let f = c.args.file.now in
+    let L = c.args.level in
+    let a = c.args.at + 2 in
+    let ins = reads_in f L a (plan_head f p.plan) in
+    omega (arith, ins, p.plan.program.sized.small)
+
+pub eval_two-eval-l-requires : goal.eval_two-eval-l-requires
+eval_two-eval-l-requires t c =
+    let fd = c.requires.0 in
+    let p = c.requires.1 in
+    (omega arith, (fd, ready_first p))
+
+pub eval_two-slice_bounds-eval-count : goal.eval_two-slice_bounds-eval-count
+eval_two-slice_bounds-eval-count t c =
+    let p = c.requires.1 in
+    let le = ready_seg p in
+    let h = c.eval-l.ensures in
+    omega (arith, h.used_is, le)
+
+pub eval_two-slice_bounds-eval-start : goal.eval_two-slice_bounds-eval-start
+eval_two-slice_bounds-eval-start t c =
+    let p = c.requires.1 in
+    let le = ready_seg p in
+    let h = c.eval-l.ensures in
+    omega (arith, h.used_is, le)
+
+pub eval_two-slice_bounds-eval-count-then-done : goal.eval_two-slice_bounds-eval-count-then-done
+eval_two-slice_bounds-eval-count-then-done t c =
+    let p = c.requires.1 in
+    let le = ready_seg p in
+    let h = c.eval-l.ensures in
+    let K = c.eval-l.auto.new in
+    omega (arith, h.used_is, le, K, ap length p.same)
+
+pub eval_two-slice_bounds-eval-start-then-done : goal.eval_two-slice_bounds-eval-start-then-done
+eval_two-slice_bounds-eval-start-then-done t c =
+    let p = c.requires.1 in
+    let le = ready_seg p in
+    let h = c.eval-l.ensures in
+    let K = c.eval-l.auto.new in
+    omega (arith, h.used_is, le, K, ap length p.same)
+
+pub eval_two-eval-r-requires : goal.eval_two-eval-r-requires
+eval_two-eval-r-requires t c =
+    let fd = c.requires.0 in
+    let p = c.requires.1 in
+    let h = c.eval-l.ensures in
+    let K = c.eval-l.auto.new in
+    (omega arith, (fd, rw h.next_is (ready_rest p h K)))
+
+pub eval_two-overflow_add-result : goal.eval_two-overflow_add-result
+eval_two-overflow_add-result t c =
+    let p = c.requires.1 in
+    let fr = c.args.frame.now in
+    let tb = c.args.tab.now in
+    let f = c.args.file.now in
+    let kk = consts_of tb in
+    let L = c.args.level in
+    let a = c.args.at + 2 in
+    let n = node_of fr in
+    let F = first_of fr in
+    let cl = cells_of fr in
+    let bb = before_of fr in
+    let h = c.eval-l.ensures in
+    let h2 = moved f kk L n F cl bb c.eval-l.ensures.next_is (rest_old c.eval-l.ensures) c.eval-r.ensures in
+    let segs = two_segs f L a p.plan.reads in
+    omega (arith, h.used_is, h2.used_is, segs, p.room, p.small)
+
+pub eval_two-pass-s-requires : goal.eval_two-pass-s-requires
+eval_two-pass-s-requires t c =
+    let p = c.requires.1 in
+    let tb = c.args.tab.now in
+    let h = c.eval-l.ensures in
+    let K = c.eval-l.auto.new in
+    rw h.next_is (ready_pass (ready_rest p h K), rows_room tb _ p.plan.program.table.long)
+
+pub eval_two-overflow_add-result-else-done : goal.eval_two-overflow_add-result-else-done
+eval_two-overflow_add-result-else-done t c =
+    let p = c.requires.1 in
+    let f = c.args.file.now in
+    let L = c.args.level in
+    let a = c.args.at + 2 in
+    let mid = end_at f L a in
+    let h = c.eval-l.ensures in
+    let segs = two_segs f L a p.plan.reads in
+    let q = (skip_one f L mid (parted f L 1 a p.plan.reads).tail (moved_skip f L 1 c.eval-l.ensures.next_is c.pass-s.ensures)) in
+    omega (arith, h.used_is, q.used_is, segs, p.room, p.small)
+
+pub eval_two-returns-then-done : goal.eval_two-returns-then-done
+eval_two-returns-then-done t c =
+    let p = c.requires.1 in
+    let fr = c.args.frame.now in
+    let tb = c.args.tab.now in
+    let f = c.args.file.now in
+    let kk = consts_of tb in
+    let L = c.args.level in
+    let a = c.args.at + 2 in
+    let op = get_or f (c.args.at + 1) 0 in
+    let n = node_of fr in
+    let F = first_of fr in
+    let cl = cells_of fr in
+    let bb = before_of fr in
+    let le = ready_seg p in
+    let mid = end_at f L a in
+    let n1 = seg_at f L a in
+    let n2 = seg_at f L (end_at f L a) in
+    let h = c.eval-l.ensures in
+    let K = c.eval-l.auto.new in
+    let h2 = moved f kk L n F cl bb c.eval-l.ensures.next_is (rest_old c.eval-l.ensures) c.eval-r.ensures in
+    let segs = two_segs f L a p.plan.reads in
+    let ends = two_ends f L a p.plan.reads in
+    seq_as ((λ (x y : List ℕ). next (eval_in f kk n F cl bb (expr_at f L a) x) (λ v rest. map_eval (binary_by op v) (eval_in f kk n F cl bb (expr_at f L mid) rest)) y)) n1 n2 segs ends (two_done (eval_in f kk n F cl bb (expr_at f L mid)) op h h2 (K ∙ ap length p.same) le (sym c.if-done.true ∙ c.done.ensures) c.binary_out.ensures)
+
+pub eval_two-returns-else-done : goal.eval_two-returns-else-done
+eval_two-returns-else-done t c =
+    let p = c.requires.1 in
+    let fr = c.args.frame.now in
+    let tb = c.args.tab.now in
+    let f = c.args.file.now in
+    let kk = consts_of tb in
+    let L = c.args.level in
+    let a = c.args.at + 2 in
+    let op = get_or f (c.args.at + 1) 0 in
+    let n = node_of fr in
+    let F = first_of fr in
+    let cl = cells_of fr in
+    let bb = before_of fr in
+    let mid = end_at f L a in
+    let n1 = seg_at f L a in
+    let n2 = seg_at f L (end_at f L a) in
+    let h = c.eval-l.ensures in
+    let segs = two_segs f L a p.plan.reads in
+    let ends = two_ends f L a p.plan.reads in
+    remade c.same_out.ensures (seq_as ((λ (x y : List ℕ). next (eval_in f kk n F cl bb (expr_at f L a) x) (λ v rest. map_eval (binary_by op v) (eval_in f kk n F cl bb (expr_at f L mid) rest)) y)) n1 n2 segs ends (two_stop (λ (v : Value) (rest : List ℕ). map_eval (binary_by op v) (eval_in f kk n F cl bb (expr_at f L mid) rest)) h ((skip_one f L mid (parted f L 1 a p.plan.reads).tail (moved_skip f L 1 c.eval-l.ensures.next_is c.pass-s.ensures))) (sym c.if-done.false ∙ c.done.ensures)))
+
+pub run-row-n-requires : goal.run-row-n-requires
+run-row-n-requires t c =
+    let p = c.requires.1 in
+    let tb = c.args.tab.now in
+    let ke = c.node_of-k.ensures.0 in
+    let r = p.running in
+    (rows_room tb _ r.program.table.long, omega (arith, ke, p.below, r.program.sized.few), omega arith)
+
+pub run-plan_of-plan-requires : goal.run-plan_of-plan-requires
+run-plan_of-plan-requires t c =
+    let p = c.requires.1 in
+    let tb = c.args.tab.now in
+    let ke = c.node_of-k.ensures.0 in
+    let r = p.running in
+    (omega (arith, length-drop 1393 tb, r.program.table.long), omega (arith, ke, p.below, r.program.sized.few))
+
+pub run-loop-j-init : goal.run-loop-j-init
+run-loop-j-init t c =
+    let fd = c.requires.0 in
+    let p = c.requires.1 in
+    let fr = c.args.frame.now in
+    let F = first_of fr in
+    (omega arith, keeps_all fr fd, refl, run_start F p)
+
+pub run-slice_bounds-equation-count : goal.run-slice_bounds-equation-count
+run-slice_bounds-equation-count t c =
+    let p = c.requires.1 in
+    let tb = c.args.tab.now in
+    let fr = c.args.frame.now in
+    let k = node_of fr in
+    let F = first_of fr in
+    let ke = c.node_of-k.ensures.0 in
+    let r = p.running in
+    let node = r.nodes k p.below in
+    let n = c.row-n.ensures ∙ ap (λ (x : ℕ). row_at (rows_of tb) x 5) ke ∙ (r.program.sized.table.rows_of k p.below).count in
+    let lt = c.loop-j-test.true in
+    let inv = c.loop-j.invariant in
+    let i = c.order_at-i.result in
+    let is = c.order_at-i.ensures.0 ∙ ap (λ (x : ℕ). order_at (tab_of tb) x c.loop-j.j) ke ∙ (r.program.table.tabs_of k p.below).orders c.loop-j.j (omega (arith, lt, n)) in
+    let lf = c.loop-j.frame in
+    let l = run_next c.args.file.now (consts_of tb) k F (cells_of fr) (before_of fr) c.args.old.now (cells_of lf) c.loop-j.new i c.loop-j.j inv.3 (omega (arith, lt, n, node.all)) is in
+    let pl = c.plan_of-plan.ensures.0 ∙ ap (λ (x : ℕ). plan_at tb x) ke in
+    let q = equation_is tb r p.below pl p.sized p.small n l.inside.0 c.place_at-at.ensures c.records_at-a.ensures c.records_at-b.ensures in
+    let t = turn_part F p (cells_of lf) l q in
+    t.0
+
+pub run-slice_bounds-equation-start : goal.run-slice_bounds-equation-start
+run-slice_bounds-equation-start t c =
+    let p = c.requires.1 in
+    let tb = c.args.tab.now in
+    let fr = c.args.frame.now in
+    let k = node_of fr in
+    let F = first_of fr in
+    let ke = c.node_of-k.ensures.0 in
+    let r = p.running in
+    let node = r.nodes k p.below in
+    let n = c.row-n.ensures ∙ ap (λ (x : ℕ). row_at (rows_of tb) x 5) ke ∙ (r.program.sized.table.rows_of k p.below).count in
+    let lt = c.loop-j-test.true in
+    let inv = c.loop-j.invariant in
+    let i = c.order_at-i.result in
+    let is = c.order_at-i.ensures.0 ∙ ap (λ (x : ℕ). order_at (tab_of tb) x c.loop-j.j) ke ∙ (r.program.table.tabs_of k p.below).orders c.loop-j.j (omega (arith, lt, n)) in
+    let lf = c.loop-j.frame in
+    let l = run_next c.args.file.now (consts_of tb) k F (cells_of fr) (before_of fr) c.args.old.now (cells_of lf) c.loop-j.new i c.loop-j.j inv.3 (omega (arith, lt, n, node.all)) is in
+    let pl = c.plan_of-plan.ensures.0 ∙ ap (λ (x : ℕ). plan_at tb x) ke in
+    let q = equation_is tb r p.below pl p.sized p.small n l.inside.0 c.place_at-at.ensures c.records_at-a.ensures c.records_at-b.ensures in
+    let t = turn_part F p (cells_of lf) l q in
+    omega (arith, t.0, t.1)
+
+pub run-slice_bounds-equation-end : goal.run-slice_bounds-equation-end
+run-slice_bounds-equation-end t c =
+    let p = c.requires.1 in
+    let tb = c.args.tab.now in
+    let fr = c.args.frame.now in
+    let k = node_of fr in
+    let F = first_of fr in
+    let ke = c.node_of-k.ensures.0 in
+    let r = p.running in
+    let node = r.nodes k p.below in
+    let n = c.row-n.ensures ∙ ap (λ (x : ℕ). row_at (rows_of tb) x 5) ke ∙ (r.program.sized.table.rows_of k p.below).count in
+    let lt = c.loop-j-test.true in
+    let inv = c.loop-j.invariant in
+    let i = c.order_at-i.result in
+    let is = c.order_at-i.ensures.0 ∙ ap (λ (x : ℕ). order_at (tab_of tb) x c.loop-j.j) ke ∙ (r.program.table.tabs_of k p.below).orders c.loop-j.j (omega (arith, lt, n)) in
+    let lf = c.loop-j.frame in
+    let l = run_next c.args.file.now (consts_of tb) k F (cells_of fr) (before_of fr) c.args.old.now (cells_of lf) c.loop-j.new i c.loop-j.j inv.3 (omega (arith, lt, n, node.all)) is in
+    let pl = c.plan_of-plan.ensures.0 ∙ ap (λ (x : ℕ). plan_at tb x) ke in
+    let q = equation_is tb r p.below pl p.sized p.small n l.inside.0 c.place_at-at.ensures c.records_at-a.ensures c.records_at-b.ensures in
+    let t = turn_part F p (cells_of lf) l q in
+    omega (arith, t.0, t.1)
+
+pub run-slice_bounds-equation-count-in-loop-j : goal.run-slice_bounds-equation-count-in-loop-j
+run-slice_bounds-equation-count-in-loop-j t c =
+    let p = c.requires.1 in
+    let tb = c.args.tab.now in
+    let fr = c.args.frame.now in
+    let k = node_of fr in
+    let F = first_of fr in
+    let ke = c.node_of-k.ensures.0 in
+    let r = p.running in
+    let node = r.nodes k p.below in
+    let n = c.row-n.ensures ∙ ap (λ (x : ℕ). row_at (rows_of tb) x 5) ke ∙ (r.program.sized.table.rows_of k p.below).count in
+    let lt = c.loop-j-test.true in
+    let inv = c.loop-j.invariant in
+    let i = c.order_at-i.result in
+    let is = c.order_at-i.ensures.0 ∙ ap (λ (x : ℕ). order_at (tab_of tb) x c.loop-j.j) ke ∙ (r.program.table.tabs_of k p.below).orders c.loop-j.j (omega (arith, lt, n)) in
+    let lf = c.loop-j.frame in
+    let l = run_next c.args.file.now (consts_of tb) k F (cells_of fr) (before_of fr) c.args.old.now (cells_of lf) c.loop-j.new i c.loop-j.j inv.3 (omega (arith, lt, n, node.all)) is in
+    let pl = c.plan_of-plan.ensures.0 ∙ ap (λ (x : ℕ). plan_at tb x) ke in
+    let q = equation_is tb r p.below pl p.sized p.small n l.inside.0 c.place_at-at.ensures c.records_at-a.ensures c.records_at-b.ensures in
+    let t = turn_part F p (cells_of lf) l q in
+    t.0
+
+pub run-slice_bounds-equation-start-in-loop-j : goal.run-slice_bounds-equation-start-in-loop-j
+run-slice_bounds-equation-start-in-loop-j t c =
+    let p = c.requires.1 in
+    let tb = c.args.tab.now in
+    let fr = c.args.frame.now in
+    let k = node_of fr in
+    let F = first_of fr in
+    let ke = c.node_of-k.ensures.0 in
+    let r = p.running in
+    let node = r.nodes k p.below in
+    let n = c.row-n.ensures ∙ ap (λ (x : ℕ). row_at (rows_of tb) x 5) ke ∙ (r.program.sized.table.rows_of k p.below).count in
+    let lt = c.loop-j-test.true in
+    let inv = c.loop-j.invariant in
+    let i = c.order_at-i.result in
+    let is = c.order_at-i.ensures.0 ∙ ap (λ (x : ℕ). order_at (tab_of tb) x c.loop-j.j) ke ∙ (r.program.table.tabs_of k p.below).orders c.loop-j.j (omega (arith, lt, n)) in
+    let lf = c.loop-j.frame in
+    let l = run_next c.args.file.now (consts_of tb) k F (cells_of fr) (before_of fr) c.args.old.now (cells_of lf) c.loop-j.new i c.loop-j.j inv.3 (omega (arith, lt, n, node.all)) is in
+    let pl = c.plan_of-plan.ensures.0 ∙ ap (λ (x : ℕ). plan_at tb x) ke in
+    let q = equation_is tb r p.below pl p.sized p.small n l.inside.0 c.place_at-at.ensures c.records_at-a.ensures c.records_at-b.ensures in
+    let t = turn_part F p (cells_of lf) l q in
+    omega (arith, t.0, t.1, t.2)
+
+pub run-slice_bounds-equation-end-in-loop-j : goal.run-slice_bounds-equation-end-in-loop-j
+run-slice_bounds-equation-end-in-loop-j t c =
+    let p = c.requires.1 in
+    let tb = c.args.tab.now in
+    let fr = c.args.frame.now in
+    let k = node_of fr in
+    let F = first_of fr in
+    let ke = c.node_of-k.ensures.0 in
+    let r = p.running in
+    let node = r.nodes k p.below in
+    let n = c.row-n.ensures ∙ ap (λ (x : ℕ). row_at (rows_of tb) x 5) ke ∙ (r.program.sized.table.rows_of k p.below).count in
+    let lt = c.loop-j-test.true in
+    let inv = c.loop-j.invariant in
+    let i = c.order_at-i.result in
+    let is = c.order_at-i.ensures.0 ∙ ap (λ (x : ℕ). order_at (tab_of tb) x c.loop-j.j) ke ∙ (r.program.table.tabs_of k p.below).orders c.loop-j.j (omega (arith, lt, n)) in
+    let lf = c.loop-j.frame in
+    let l = run_next c.args.file.now (consts_of tb) k F (cells_of fr) (before_of fr) c.args.old.now (cells_of lf) c.loop-j.new i c.loop-j.j inv.3 (omega (arith, lt, n, node.all)) is in
+    let pl = c.plan_of-plan.ensures.0 ∙ ap (λ (x : ℕ). plan_at tb x) ke in
+    let q = equation_is tb r p.below pl p.sized p.small n l.inside.0 c.place_at-at.ensures c.records_at-a.ensures c.records_at-b.ensures in
+    let t = turn_part F p (cells_of lf) l q in
+    omega (arith, t.0, t.1, t.2)
+
+pub run-equation-e-requires : goal.run-equation-e-requires
+run-equation-e-requires t c =
+    let fd = c.requires.0 in
+    let p = c.requires.1 in
+    let tb = c.args.tab.now in
+    let fr = c.args.frame.now in
+    let k = node_of fr in
+    let F = first_of fr in
+    let ke = c.node_of-k.ensures.0 in
+    let r = p.running in
+    let node = r.nodes k p.below in
+    let n = c.row-n.ensures ∙ ap (λ (x : ℕ). row_at (rows_of tb) x 5) ke ∙ (r.program.sized.table.rows_of k p.below).count in
+    let lt = c.loop-j-test.true in
+    let inv = c.loop-j.invariant in
+    let i = c.order_at-i.result in
+    let is = c.order_at-i.ensures.0 ∙ ap (λ (x : ℕ). order_at (tab_of tb) x c.loop-j.j) ke ∙ (r.program.table.tabs_of k p.below).orders c.loop-j.j (omega (arith, lt, n)) in
+    let lf = c.loop-j.frame in
+    let l = run_next c.args.file.now (consts_of tb) k F (cells_of fr) (before_of fr) c.args.old.now (cells_of lf) c.loop-j.new i c.loop-j.j inv.3 (omega (arith, lt, n, node.all)) is in
+    let pl = c.plan_of-plan.ensures.0 ∙ ap (λ (x : ℕ). plan_at tb x) ke in
+    let q = equation_is tb r p.below pl p.sized p.small n l.inside.0 c.place_at-at.ensures c.records_at-a.ensures c.records_at-b.ensures in
+    (omega (arith, inv.1.node), (inv.1.framed, keeps_ready inv.1 (turn_ready F p (cells_of lf) l q (cells_length lf inv.1.framed ∙ sym (cells_length fr fd)))))
+
+pub run-returns-in_default : goal.run-returns-in_default
+run-returns-in_default t c =
+    let p = c.requires.1 in
+    let tb = c.args.tab.now in
+    let fr = c.args.frame.now in
+    let k = node_of fr in
+    let F = first_of fr in
+    let ke = c.node_of-k.ensures.0 in
+    let r = p.running in
+    let node = r.nodes k p.below in
+    let n = c.row-n.ensures ∙ ap (λ (x : ℕ). row_at (rows_of tb) x 5) ke ∙ (r.program.sized.table.rows_of k p.below).count in
+    let lt = c.loop-j-test.true in
+    let inv = c.loop-j.invariant in
+    let i = c.order_at-i.result in
+    let is = c.order_at-i.ensures.0 ∙ ap (λ (x : ℕ). order_at (tab_of tb) x c.loop-j.j) ke ∙ (r.program.table.tabs_of k p.below).orders c.loop-j.j (omega (arith, lt, n)) in
+    let lf = c.loop-j.frame in
+    let l = run_next c.args.file.now (consts_of tb) k F (cells_of fr) (before_of fr) c.args.old.now (cells_of lf) c.loop-j.new i c.loop-j.j inv.3 (omega (arith, lt, n, node.all)) is in
+    let pl = c.plan_of-plan.ensures.0 ∙ ap (λ (x : ℕ). plan_at tb x) ke in
+    let q = equation_is tb r p.below pl p.sized p.small n l.inside.0 c.place_at-at.ensures c.records_at-a.ensures c.records_at-b.ensures in
+    (turn_stops F p (cells_of lf) l q c.equation-e.result ((cells_of c.equation-e.new.frame)) (c.equation-e.new.new) c.in_default.not-Values (c.equation-e.auto.new) ((keeps_done c.args.file.now (consts_of tb) i (cells_of lf) (mid_of (c.records_at-a.result) (c.records_at-b.result) c.args.old.now) ((cells_of c.equation-e.new.frame)) inv.1 c.equation-e.ensures.0)), c.equation-e.ensures.1.framed)
+
+pub run-loop-j-preserved : goal.run-loop-j-preserved
+run-loop-j-preserved t c =
+    let p = c.requires.1 in
+    let tb = c.args.tab.now in
+    let fr = c.args.frame.now in
+    let k = node_of fr in
+    let F = first_of fr in
+    let ke = c.node_of-k.ensures.0 in
+    let r = p.running in
+    let node = r.nodes k p.below in
+    let n = c.row-n.ensures ∙ ap (λ (x : ℕ). row_at (rows_of tb) x 5) ke ∙ (r.program.sized.table.rows_of k p.below).count in
+    let lt = c.loop-j-test.true in
+    let inv = c.loop-j.invariant in
+    let i = c.order_at-i.result in
+    let is = c.order_at-i.ensures.0 ∙ ap (λ (x : ℕ). order_at (tab_of tb) x c.loop-j.j) ke ∙ (r.program.table.tabs_of k p.below).orders c.loop-j.j (omega (arith, lt, n)) in
+    let lf = c.loop-j.frame in
+    let l = run_next c.args.file.now (consts_of tb) k F (cells_of fr) (before_of fr) c.args.old.now (cells_of lf) c.loop-j.new i c.loop-j.j inv.3 (omega (arith, lt, n, node.all)) is in
+    let pl = c.plan_of-plan.ensures.0 ∙ ap (λ (x : ℕ). plan_at tb x) ke in
+    let q = equation_is tb r p.below pl p.sized p.small n l.inside.0 c.place_at-at.ensures c.records_at-a.ensures c.records_at-b.ensures in
+    let t = turn_part F p (cells_of lf) l q in
+    (omega (arith, lt), keeps_on inv.1 c.equation-e.ensures.1, (length_put_mid c.records_at-a.result c.records_at-b.result c.loop-j.new c.equation-e.new.new t.0 (omega (arith, t.1, t.2)) (c.equation-e.auto.new ∙ length_mid c.records_at-a.result c.records_at-b.result c.loop-j.new t.0 (omega (arith, t.1, t.2)))) ∙ inv.2, turn_goes F p (cells_of lf) l q c.equation-e.result (cells_of c.equation-e.new.frame) c.equation-e.new.new c.in-Values.is c.equation-e.auto.new ((keeps_done c.args.file.now (consts_of tb) i (cells_of lf) (mid_of (c.records_at-a.result) (c.records_at-b.result) c.args.old.now) ((cells_of c.equation-e.new.frame)) inv.1 c.equation-e.ensures.0)))
+
+pub run-returns : goal.run-returns
+run-returns t c =
+    let p = c.requires.1 in
+    let tb = c.args.tab.now in
+    let fr = c.args.frame.now in
+    let k = node_of fr in
+    let F = first_of fr in
+    let ke = c.node_of-k.ensures.0 in
+    let r = p.running in
+    let node = r.nodes k p.below in
+    let n = c.row-n.ensures ∙ ap (λ (x : ℕ). row_at (rows_of tb) x 5) ke ∙ (r.program.sized.table.rows_of k p.below).count in
+    let inv = c.loop-j.invariant in
+    let lf = c.loop-j.frame in
+    (run_done c.args.file.now (consts_of tb) k F (cells_of fr) (before_of fr) c.args.old.now (cells_of lf) c.loop-j.new c.loop-j.j inv.3 (omega (arith, c.loop-j-test.false, n, node.all)), inv.1.framed)
+
+pub step_instance-row-n-requires : goal.step_instance-row-n-requires
+step_instance-row-n-requires t c =
+    let h = c.requires.0 in
+    let R = h.running in
+    let B = h.below in
+    let tb = c.args.tab.now in
+    row_room tb R B _ (omega arith)
+
+pub step_instance-row-inputs-requires : goal.step_instance-row-inputs-requires
+step_instance-row-inputs-requires t c =
+    let h = c.requires.0 in
+    let R = h.running in
+    let B = h.below in
+    let tb = c.args.tab.now in
+    row_room tb R B _ (omega arith)
+
+pub step_instance-open_frame-requires : goal.step_instance-open_frame-requires
+step_instance-open_frame-requires t c =
+    let h = c.requires.0 in
+    let o = c.requires.2 in
+    let R = h.running in
+    let B = h.below in
+    let n = c.row-n.result in
+    let w = c.row-n.ensures in
+    let i = c.row-inputs.result in
+    let iw = c.row-inputs.ensures in
+    let room = own_room h n o w in
+    (c.requires.1, omega (arith, few R B), inputs_first R B n i w iw, narrow R B n w, omega (arith, h.room, inputs_most R B i iw), room)
+
+pub step_instance-slice_bounds-run-count : goal.step_instance-slice_bounds-run-count
+step_instance-slice_bounds-run-count t c =
+    let h = c.requires.0 in
+    let o = c.requires.2 in
+    let n = c.row-n.result in
+    let w = c.row-n.ensures in
+    let room = own_room h n o w in
+    omega (arith, room)
+
+pub step_instance-slice_bounds-run-start : goal.step_instance-slice_bounds-run-start
+step_instance-slice_bounds-run-start t c =
+    let h = c.requires.0 in
+    let o = c.requires.2 in
+    let n = c.row-n.result in
+    let w = c.row-n.ensures in
+    let room = own_room h n o w in
+    omega (arith, room)
+
+pub step_instance-slice_bounds-run-count-2 : goal.step_instance-slice_bounds-run-count-2
+step_instance-slice_bounds-run-count-2 t c =
+    let h = c.requires.0 in
+    let o = c.requires.2 in
+    let n = c.row-n.result in
+    let w = c.row-n.ensures in
+    omega (arith, own_new h n o w)
+
+pub step_instance-slice_bounds-run-start-2 : goal.step_instance-slice_bounds-run-start-2
+step_instance-slice_bounds-run-start-2 t c =
+    let h = c.requires.0 in
+    let o = c.requires.2 in
+    let n = c.row-n.result in
+    let w = c.row-n.ensures in
+    omega (arith, own_new h n o w)
+
+pub step_instance-run-r-requires : goal.step_instance-run-r-requires
+step_instance-run-r-requires t c =
+    let h = c.requires.0 in
+    let o = c.requires.2 in
+    let n = c.row-n.result in
+    let w = c.row-n.ensures in
+    let op = c.open_frame.ensures in
+    let fr = c.open_frame.new.frame in
+    (omega (arith, op.node), (op.framed, framed_runnable fr op.node (instance_runnable h n (cells_of fr) (before_of fr) o w (cells_length fr op.framed) (before_length fr op.framed))))
+
+pub step_instance-finish_frame-requires : goal.step_instance-finish_frame-requires
+step_instance-finish_frame-requires t c =
+    let h = c.requires.0 in
+    let o = c.requires.2 in
+    let R = h.running in
+    let B = h.below in
+    let n = c.row-n.result in
+    let w = c.row-n.ensures in
+    let x = c.run-r.new.new in
+    let kx = c.run-r.auto.new in
+    (c.run-r.ensures.1, narrow R B n w, omega (arith, put_length h n x o w kx, own_new h n o w))
+
+pub step_instance-row-requires : goal.step_instance-row-requires
+step_instance-row-requires t c =
+    let h = c.requires.0 in
+    let R = h.running in
+    let B = h.below in
+    let tb = c.args.tab.now in
+    row_room tb R B _ (omega arith)
+
+pub step_instance-copy_outputs-requires : goal.step_instance-copy_outputs-requires
+step_instance-copy_outputs-requires t c =
+    let h = c.requires.0 in
+    let R = h.running in
+    let B = h.below in
+    let i = c.row-inputs.result in
+    let iw = c.row-inputs.ensures in
+    (c.run-r.ensures.1, inputs_most R B i iw, outputs_most R B c.row.result c.row.ensures, omega (arith, h.room, outputs_most R B c.row.result c.row.ensures))
+
+pub step_instance-returns-in-Values : goal.step_instance-returns-in-Values
+step_instance-returns-in-Values t c =
+    let h = c.requires.0 in
+    let o = c.requires.2 in
+    let tb = c.args.tab.now in
+    let n = c.row-n.result in
+    let w = c.row-n.ensures in
+    let iw = c.row-inputs.ensures in
+    let op = c.open_frame.ensures in
+    let fr = c.open_frame.new.frame in
+    let frR = c.run-r.new.frame in
+    let cells = cells_of frR in
+    let x = c.run-r.new.new in
+    let e = entered h o w iw op in
+    let ran = framed_run c.args.file.now (consts_of tb) fr (tail_of (1 + 9 * n) c.args.old.now) cells op.node c.run-r.ensures.0 in
+    (instance_finished e c.run-r.result cells x c.finish_frame.new.to c.row.result c.copy_outputs.new.args ran c.in-Values.is c.finish_frame.ensures c.row.ensures c.copy_outputs.ensures, c.copy_outputs.auto.args)
+
+pub step_instance-returns-in-Failed : goal.step_instance-returns-in-Failed
+step_instance-returns-in-Failed t c =
+    let h = c.requires.0 in
+    let o = c.requires.2 in
+    let tb = c.args.tab.now in
+    let n = c.row-n.result in
+    let w = c.row-n.ensures in
+    let iw = c.row-inputs.ensures in
+    let op = c.open_frame.ensures in
+    let fr = c.open_frame.new.frame in
+    let frR = c.run-r.new.frame in
+    let cells = cells_of frR in
+    let x = c.run-r.new.new in
+    let e = entered h o w iw op in
+    let ran = framed_run c.args.file.now (consts_of tb) fr (tail_of (1 + 9 * n) c.args.old.now) cells op.node c.run-r.ensures.0 in
+    (instance_failed e c.in-Failed.c c.run-r.result cells x c.write_fresh.new.out c.args.args.now ran c.in-Failed.is c.write_fresh.ensures, refl)
+
+pub step_instance-returns-in-Overflowed : goal.step_instance-returns-in-Overflowed
+step_instance-returns-in-Overflowed t c =
+    let h = c.requires.0 in
+    let o = c.requires.2 in
+    let tb = c.args.tab.now in
+    let n = c.row-n.result in
+    let w = c.row-n.ensures in
+    let iw = c.row-inputs.ensures in
+    let op = c.open_frame.ensures in
+    let fr = c.open_frame.new.frame in
+    let frR = c.run-r.new.frame in
+    let cells = cells_of frR in
+    let x = c.run-r.new.new in
+    let kx = c.run-r.auto.new in
+    let e = entered h o w iw op in
+    let ran = framed_run c.args.file.now (consts_of tb) fr (tail_of (1 + 9 * n) c.args.old.now) cells op.node c.run-r.ensures.0 in
+    (instance_overflowed e c.run-r.result cells x c.copy.new.to c.args.args.now ran c.in-Overflowed.is (all_copied c.args.old.now (put_tail (1 + 9 * n) c.args.new.now x) c.copy.new.to (put_length h n x o w kx ∙ ap length h.same) c.copy.ensures), refl)
+
+pub step_site-row-kind-requires : goal.step_site-row-kind-requires
+step_site-row-kind-requires t c =
+    let h = c.requires.0 in
+    row_room c.args.tab.now h.running h.below _ (omega arith)
+
+pub step_site-step_instance-requires : goal.step_site-step_instance-requires
+step_site-step_instance-requires t c =
+    let h = c.requires.0 in
+    (omega arith, (h, refl, is_operator_lem h c.row-kind.result c.row-kind.ensures c.if-kind-eq1.true))
+
+pub step_site-call_function-requires : goal.step_site-call_function-requires
+step_site-call_function-requires t c =
+    let h = c.requires.0 in
+    (omega arith, (h, refl, is_function h c.row-kind.result c.row-kind.ensures c.if-kind-eq1.false))
+
+pub tuple_equation-eval_all-r-requires : goal.tuple_equation-eval_all-r-requires
+tuple_equation-eval_all-r-requires t c =
+    let fd = c.requires.0 in
+    let p = c.requires.1 in
+    let f = c.args.file.now in
+    let n = c.number-n.result in
+    let ne = c.number-n.ensures.0 in
+    let rhs = c.args.at + 1 + 2 * n in
+    let q = right_ready p n 12 ne (subst (λ (m : ℕ). get_or f (c.args.at + 1 + 2 * m) 0 ≡ 12) (sym ne) c.requires.2) in
+    let byte = get_or f (rhs + 1) 0 in
+    (omega arith, (fd, tuple_parts p q, tuple_several p q byte refl refl))
+
+pub tuple_equation-bounds-file-p : goal.tuple_equation-bounds-file-p
+tuple_equation-bounds-file-p t c =
+    let p = c.requires.1 in
+    let f = c.args.file.now in
+    let n = c.number-n.result in
+    let ne = c.number-n.ensures.0 in
+    let q = right_ready p n 12 ne (subst (λ (m : ℕ). get_or f (c.args.at + 1 + 2 * m) 0 ≡ 12) (sym ne) c.requires.2) in
+    let inside = tuple_inside p q in
+    omega (arith, inside.0)
+
+pub tuple_equation-bind-requires : goal.tuple_equation-bind-requires
+tuple_equation-bind-requires t c =
+    let fd = c.requires.0 in
+    let p = c.requires.1 in
+    let f = c.args.file.now in
+    let n = c.number-n.result in
+    let ne = c.number-n.ensures.0 in
+    let q = right_ready p n 12 ne (subst (λ (m : ℕ). get_or f (c.args.at + 1 + 2 * m) 0 ≡ 12) (sym ne) c.requires.2) in
+    let inside = tuple_inside p q in
+    let count = c.number.result in
+    let ce = c.number.ensures.0 in
+    let m = names_least p count q c.less-m.ensures in
+    (fd, values_assignable p c.less-m.result (c.eval_all-r.new.to) m.least (omega (arith, c.less-m.ensures, ce, inside.1)) (let k : length (c.eval_all-r.new.to) ≡ 288 = c.eval_all-r.ensures.1 in omega (arith, k, c.less-m.ensures, ce, inside.1)))
+
+pub tuple_equation-returns-in-Values : goal.tuple_equation-returns-in-Values
+tuple_equation-returns-in-Values t c =
+    let p = c.requires.1 in
+    let f = c.args.file.now in
+    let fr = c.args.frame.now in
+    let F = first_of fr in
+    let n = c.number-n.result in
+    let ne = c.number-n.ensures.0 in
+    let q = right_ready p n 12 ne (subst (λ (m : ℕ). get_or f (c.args.at + 1 + 2 * m) 0 ≡ 12) (sym ne) c.requires.2) in
+    let count = c.number.result in
+    let ce = c.number.ensures.0 in
+    (tuple_done p F count c.less-m.result (c.eval_all-r.new.to) (cells_of c.bind.new.frame) q ce ((tuple_all p q count ce F (c.eval_all-r.new.to) c.eval_all-r.ensures.0)) c.in-Values.is c.less-m.ensures c.bind.ensures.0, c.bind.ensures.1)
+
+pub tuple_equation-returns-in_default : goal.tuple_equation-returns-in_default
+tuple_equation-returns-in_default t c =
+    let fd = c.requires.0 in
+    let p = c.requires.1 in
+    let f = c.args.file.now in
+    let fr = c.args.frame.now in
+    let F = first_of fr in
+    let n = c.number-n.result in
+    let ne = c.number-n.ensures.0 in
+    let rhs = c.args.at + 1 + 2 * n in
+    let q = right_ready p n 12 ne (subst (λ (m : ℕ). get_or f (c.args.at + 1 + 2 * m) 0 ≡ 12) (sym ne) c.requires.2) in
+    let byte = get_or f (rhs + 1) 0 in
+    (tuple_stops p F byte (c.eval_all-r.new.to) (cells_of fr) q refl ((tuple_all p q byte refl F (c.eval_all-r.new.to) c.eval_all-r.ensures.0)) c.in_default.not-Values, keeps_all fr fd)
