@@ -4,6 +4,7 @@
 // Free are which bytes a read gives and whether a write takes them: `tell_row`, `tell_others`,
 // `tell_cut` and `main` only write, and promise nothing of it.
 #![tactic(auto)]
+
 mod operations; // operations.rt: the result of an operation
 mod sweeps; // sweeps.rt: rows that stand for 64 operations each
 
@@ -11,8 +12,8 @@ ghost use Rattle.std.specs.Prelude.{◌≡◌, ◌+◌, ◌*◌, ◌/◌, ◌≤
 ghost use Rattle.rows.specs.Rows.{Compares};
 ghost use Rattle.ieee_vectors.specs.Lines.{digit_of, number_at, answer_at, answers, results, Counted, Checked, Total, passing};
 
-use libc::{STDIN_FILENO, STDOUT_FILENO};
 use operations::{result, truth};
+use rows::streams::{Streams, read_full, write_all, write_decimal, write_hex};
 use rows::{Compared, compare};
 use sweeps::sweep;
 
@@ -101,37 +102,37 @@ struct Counts {
 }
 
 // Writes a row with the result found here.
-fn tell_row(text: &[u8], at: usize, r: u64)
+fn tell_row(streams: Streams, text: &[u8], at: usize, r: u64)
     requires { at + 54 ≤ length text.now }
 {
     let end = at + ROW;
-    io::write_all(STDOUT_FILENO, &text[at..end]);
-    io::print_hex(STDOUT_FILENO, r, 16);
-    io::write_all(STDOUT_FILENO, b"\n");
+    write_all(streams, &text[at..end]);
+    write_hex(streams, r);
+    write_all(streams, b"\n");
 }
 
 // Writes each row from row `from` on whose result is not the one found here.
-fn tell_others(text: &[u8], from: usize, found: &[u64], wanted: &[u64])
+fn tell_others(streams: Streams, text: &[u8], from: usize, found: &[u64], wanted: &[u64])
     requires { (54 * length found.now ≤ length text.now) × (length wanted.now ≡ length found.now) }
 {
     let mut k = from;
     while k < found.len() {
         if found[k] != wanted[k] {
-            tell_row(text, k * ROW, found[k]);
+            tell_row(streams, text, k * ROW, found[k]);
         }
         k += 1;
     }
 }
 
 // Compares the first rows of a text with what is found here, and writes those that do not agree.
-fn compare_in(text: &[u8], found: &mut [u64], wanted: &mut [u64]) -> Compared
+fn compare_in(streams: Streams, text: &[u8], found: &mut [u64], wanted: &mut [u64]) -> Compared
     requires { (54 * length found.old ≤ length text.now) × (length wanted.old ≡ length found.old) }
     ensures { Compares (answers text.now (length found.old)) (results text.now (length found.old)) result }
 {
     find(text, found);
     want(text, wanted);
     let c = compare(found, wanted);
-    tell_others(text, c.first, found, wanted);
+    tell_others(streams, text, c.first, found, wanted);
     c
 }
 
@@ -143,36 +144,36 @@ fn room() -> [u64; 64]
 }
 
 // The same of the first n rows.
-fn compare_rows(text: &[u8], n: usize) -> Compared
+fn compare_rows(streams: Streams, text: &[u8], n: usize) -> Compared
     requires { (n ≤ 64) × (54 * n ≤ length text.now) }
     ensures { Compares (answers text.now n) (results text.now n) result }
 {
     let mut found = room();
     let mut wanted = room();
-    compare_in(text, &mut found[..n], &mut wanted[..n])
+    compare_in(streams, text, &mut found[..n], &mut wanted[..n])
 }
 
 // Writes a last row that is cut off.
-fn tell_cut(text: &[u8], at: usize)
+fn tell_cut(streams: Streams, text: &[u8], at: usize)
     requires { at ≤ length text.now }
 {
-    io::write_all(STDOUT_FILENO, b"cut off: ");
-    io::write_all(STDOUT_FILENO, &text[at..]);
-    io::write_all(STDOUT_FILENO, b"\n");
+    write_all(streams, b"cut off: ");
+    write_all(streams, &text[at..]);
+    write_all(streams, b"\n");
 }
 
 // The counts of a text of at most 64 rows.
-fn count_rows(text: &[u8]) -> Counts
+fn count_rows(streams: Streams, text: &[u8]) -> Counts
     requires { length text.now ≤ 3456 }
     ensures { Counted text.now result }
 {
     let n = text.len() / ROW;
-    let c = compare_rows(text, n);
+    let c = compare_rows(streams, text, n);
     let right = c.agreeing;
     let others = n - right;
     let end = n * ROW;
     if end < text.len() {
-        tell_cut(text, end);
+        tell_cut(streams, text, end);
         Counts {
             right: right as u64,
             wrong: others as u64 + 1,
@@ -186,23 +187,23 @@ fn count_rows(text: &[u8]) -> Counts
 }
 
 // Reads the next rows, at most 64, and counts them.
-fn check_block() -> Counts
+fn check_block(streams: Streams) -> Counts
     ensures { Checked result }
 {
     let mut block = [0u8; 3456];
-    let n = io::read_full(STDIN_FILENO, &mut block);
-    count_rows(&block[..n])
+    let n = read_full(streams, &mut block);
+    count_rows(streams, &block[..n])
 }
 
 // Every row up to the input's end. A proved loop has to end, so it counts its turns down from a number that no run uses up.
-fn check_all() -> Counts
+fn check_all(streams: Streams) -> Counts
     ensures { Total result.right result.wrong }
 {
     let mut right: u64 = 0;
     let mut wrong: u64 = 0;
     let mut left: u64 = 0x100_0000_0000_0000;
     while left > 0 {
-        let c = check_block();
+        let c = check_block(streams);
         if c.right + c.wrong == 0 {
             return Counts {
                 right: right,
@@ -227,22 +228,26 @@ fn passes(c: Counts) -> bool
 }
 
 // Writes the counts, and whether the run passes.
-fn report(c: Counts) -> bool
+fn report(streams: Streams, c: Counts) -> bool
     ensures { result ≡ passing c }
 {
-    io::print_decimal(STDOUT_FILENO, c.right);
-    io::write_all(STDOUT_FILENO, b" rows right, ");
-    io::print_decimal(STDOUT_FILENO, c.wrong);
-    io::write_all(STDOUT_FILENO, b" wrong");
+    write_decimal(streams, c.right);
+    write_all(streams, b" rows right, ");
+    write_decimal(streams, c.wrong);
+    write_all(streams, b" wrong");
     if passes(c) {
-        io::write_all(STDOUT_FILENO, b": ok\n");
+        write_all(streams, b": ok\n");
         true
     } else {
-        io::write_all(STDOUT_FILENO, b"\n");
+        write_all(streams, b"\n");
         false
     }
 }
 
-fn main() {
-    report(check_all());
+fn main(rt: HostRuntime) {
+    let streams = Streams {
+        input: rt.stdin(),
+        output: rt.stdout(),
+    };
+    report(streams, check_all(streams));
 }

@@ -3,6 +3,7 @@
 // make.py says what the list is. Free are which bytes a read gives and whether a write takes them:
 // `tell_cut` and `main` only write, and what `tell_left`, `next_byte` and `next_row` read is free.
 #![tactic(auto)]
+
 ghost use Rattle.std.specs.Prelude.{◌∷◌, [], ◌≡◌, ◌+◌, ◌≤◌, ◌<◌, length, replicate};
 ghost use Rattle.io.specs.Counts.{IsPrefixLen};
 ghost use Rattle.ol_spec.specs.Answers.{sorted_fault};
@@ -11,25 +12,25 @@ ghost use Rattle.ol_spec.specs.Limits.{relay_loader};
 ghost use Rattle.rows.specs.Rows.{one, all_agree};
 ghost use Rattle.order_grid.specs.Questions.{reading_fault, row_of, order_row, order_agrees, refusal_agrees, read_agrees, Asked, Tallied};
 
-use libc::{STDIN_FILENO, STDOUT_FILENO};
 use ol_ir::Reading;
 use ol_ir::project::read_file;
 use ol_order::evaluation_order;
 use ol_spec::{Fault, Sorted};
+use rows::streams::{Streams, read_full, write_all, write_decimal};
 
 // What each entry of a lent buffer holds before a call.
 const MARK: usize = 170;
 
 // Says that the list ends too early: what was read stands for nothing, and the run cannot pass.
-fn tell_cut() {
-    io::write_all(STDOUT_FILENO, b"the list is cut off\n");
+fn tell_cut(streams: Streams) {
+    write_all(streams, b"the list is cut off\n");
 }
 
 // Says where bytes are left behind the list's last answer.
-fn tell_left() {
+fn tell_left(streams: Streams) {
     let mut one = [0u8; 1];
-    if io::read_full(STDIN_FILENO, &mut one) > 0 {
-        io::write_all(STDOUT_FILENO, b"bytes are left behind the list\n");
+    if read_full(streams, &mut one) > 0 {
+        write_all(streams, b"bytes are left behind the list\n");
     }
 }
 
@@ -41,68 +42,72 @@ fn byte(b: u8) -> u8
 }
 
 // The next byte of the list.
-fn next_byte() -> u8
+fn next_byte(streams: Streams) -> u8
     ensures { result < 256 }
 {
     let mut one = [0u8; 1];
-    if io::read_full(STDIN_FILENO, &mut one) < 1 {
-        tell_cut();
+    if read_full(streams, &mut one) < 1 {
+        tell_cut(streams);
     }
     byte(one[0])
 }
 
 // The next two bytes of the list, a number.
-fn next_number() -> usize
+fn next_number(streams: Streams) -> usize
     ensures { result < 65536 }
 {
-    let high = next_byte() as usize;
-    high * 256 + next_byte() as usize
+    let high = next_byte(streams) as usize;
+    high * 256 + next_byte(streams) as usize
 }
 
 // The next two bytes of the list, how many bytes of a buffer it means.
-fn next_length(buf: &[u8]) -> usize
+fn next_length(streams: Streams, buf: &[u8]) -> usize
     ensures { IsPrefixLen result buf.now }
 {
-    io::count(next_number() as isize, buf)
+    io::count(next_number(streams) as isize, buf)
 }
 
 // The next answer of the list: a fault, or number 0 at place 0.
-fn next_answer() -> Fault
+fn next_answer(streams: Streams) -> Fault
     ensures { result.place < 65536 }
 {
-    let number = next_byte();
+    let number = next_byte(streams);
     Fault {
         number: number,
-        place: next_number(),
+        place: next_number(streams),
     }
 }
 
 // The next two bytes of the list, how many entries a buffer has: at most 512.
-fn next_entries() -> usize
+fn next_entries(streams: Streams) -> usize
     ensures { result ≤ 512 }
 {
-    let n = next_number();
+    let n = next_number(streams);
     if n < 512 { n } else { 512 }
 }
 
 // What an entry of the buffer holds after a call, of an order the list's next byte, else its mark.
-fn next_entry(done: bool) -> usize
+fn next_entry(streams: Streams, done: bool) -> usize
     ensures { result < 256 }
 {
-    if done { next_byte() as usize } else { MARK }
+    if done {
+        next_byte(streams) as usize
+    } else {
+        MARK
+    }
 }
 
 // The next row of the list.
-fn next_row(row: &mut [u64])
+fn next_row(streams: Streams, row: &mut [u64])
     requires { 2 ≤ length row.old }
     ensures { length row.new ≡ length row.old }
 {
-    let f = next_answer();
+    let f = next_answer(streams);
     row[0] = f.number as u64;
     row[1] = f.place as u64;
     let mut i = 2;
     while i < row.len() {
-        row[i] = next_entry(f.number == 0) as u64;
+        row[i] = next_entry(streams, f.number == 0) as u64;
         i += 1;
     }
 }
@@ -218,13 +223,13 @@ fn read_agrees(file: &[u8], theirs: Fault) -> bool
 }
 
 // Whether the next question on a file's orders is answered as the list says.
-fn next_agrees(file: &[u8]) -> bool
+fn next_agrees(streams: Streams, file: &[u8]) -> bool
     ensures { Asked file.now result }
 {
-    let node = next_number();
-    let m = next_entries() + 2;
+    let node = next_number(streams);
+    let m = next_entries(streams) + 2;
     let mut wanted = room();
-    next_row(&mut wanted[..m]);
+    next_row(streams, &mut wanted[..m]);
     order_agrees(file, node, &wanted[..m])
 }
 
@@ -246,26 +251,26 @@ fn more(n: u64, so: bool) -> u64
 }
 
 // A file's reading, and its refusal by the ordering: one question.
-fn count_reading(file: &[u8]) -> Tally
+fn count_reading(streams: Streams, file: &[u8]) -> Tally
     ensures tallied { Tallied result.good result.all }
     ensures all_bound { result.all < 65536 }
 {
     Tally {
-        good: more(0, read_agrees(file, next_answer())),
+        good: more(0, read_agrees(file, next_answer(streams))),
         all: 1,
     }
 }
 
 // A file's orderings.
-fn count_orders(file: &[u8]) -> Tally
+fn count_orders(streams: Streams, file: &[u8]) -> Tally
     ensures tallied { Tallied result.good result.all }
     ensures all_bound { result.all < 65536 }
 {
-    let count = next_number() as u64;
+    let count = next_number(streams) as u64;
     let mut good = 0;
     let mut all = 0;
     while all < count {
-        good = more(good, next_agrees(file));
+        good = more(good, next_agrees(streams, file));
         all += 1;
     }
     Tally {
@@ -275,33 +280,33 @@ fn count_orders(file: &[u8]) -> Tally
 }
 
 // The questions on the next file of the list, which is put into zeros.
-fn count_file_in(orders: bool, zeros: &mut [u8]) -> Tally
+fn count_file_in(streams: Streams, orders: bool, zeros: &mut [u8]) -> Tally
     ensures tallied { Tallied result.good result.all }
     ensures all_bound { result.all < 65536 }
 {
-    let given = next_length(zeros);
-    if io::read_full(STDIN_FILENO, &mut zeros[..given]) < given {
-        tell_cut();
+    let given = next_length(streams, zeros);
+    if read_full(streams, &mut zeros[..given]) < given {
+        tell_cut(streams);
     }
-    let all = next_length(zeros);
+    let all = next_length(streams, zeros);
     if orders {
-        count_orders(&zeros[..all])
+        count_orders(streams, &zeros[..all])
     } else {
-        count_reading(&zeros[..all])
+        count_reading(streams, &zeros[..all])
     }
 }
 
 // The questions on the next file of the list.
-fn count_file(orders: bool) -> Tally
+fn count_file(streams: Streams, orders: bool) -> Tally
     ensures tallied { Tallied result.good result.all }
     ensures all_bound { result.all < 65536 }
 {
     let mut zeros = io::large_buffer();
-    count_file_in(orders, &mut zeros)
+    count_file_in(streams, orders, &mut zeros)
 }
 
 // The questions on a section's files.
-fn count_files(orders: bool, files: usize) -> Tally
+fn count_files(streams: Streams, orders: bool, files: usize) -> Tally
     requires { files < 65536 }
     ensures { Tallied result.good result.all }
 {
@@ -309,7 +314,7 @@ fn count_files(orders: bool, files: usize) -> Tally
     let mut all: u64 = 0;
     let mut t = 0;
     while t < files {
-        let one = count_file(orders);
+        let one = count_file(streams, orders);
         good += one.good;
         all += one.all;
         t += 1;
@@ -321,35 +326,39 @@ fn count_files(orders: bool, files: usize) -> Tally
 }
 
 // Compares a section, and writes a line on it.
-fn report(label: &[u8], orders: bool) -> Tally
+fn report(streams: Streams, label: &[u8], orders: bool) -> Tally
     ensures { Tallied result.good result.all }
 {
-    let sum = count_files(orders, next_number());
-    io::write_all(STDOUT_FILENO, label);
-    io::print_decimal(STDOUT_FILENO, sum.good);
-    io::write_all(STDOUT_FILENO, b" of ");
-    io::print_decimal(STDOUT_FILENO, sum.all);
-    io::write_all(STDOUT_FILENO, b"\n");
+    let sum = count_files(streams, orders, next_number(streams));
+    write_all(streams, label);
+    write_decimal(streams, sum.good);
+    write_all(streams, b" of ");
+    write_decimal(streams, sum.all);
+    write_all(streams, b"\n");
     sum
 }
 
 // Each section of the list, with a line on each.
-fn main() {
-    report(b"files that read: ", false);
-    report(b"fault 1: ", false);
-    report(b"fault 2: ", false);
-    report(b"fault 3: ", false);
-    report(b"fault 4: ", false);
-    report(b"fault 5: ", false);
-    report(b"chains: ", true);
-    report(b"rings: ", true);
-    report(b"self-reads: ", true);
-    report(b"double definitions: ", true);
-    report(b"undeclared names: ", true);
-    report(b"forms: ", true);
-    report(b"80 equations: ", true);
-    report(b"random nodes: ", true);
-    report(b"wrong buffers: ", true);
-    report(b"absent nodes: ", true);
-    tell_left();
+fn main(rt: HostRuntime) {
+    let streams = Streams {
+        input: rt.stdin(),
+        output: rt.stdout(),
+    };
+    report(streams, b"files that read: ", false);
+    report(streams, b"fault 1: ", false);
+    report(streams, b"fault 2: ", false);
+    report(streams, b"fault 3: ", false);
+    report(streams, b"fault 4: ", false);
+    report(streams, b"fault 5: ", false);
+    report(streams, b"chains: ", true);
+    report(streams, b"rings: ", true);
+    report(streams, b"self-reads: ", true);
+    report(streams, b"double definitions: ", true);
+    report(streams, b"undeclared names: ", true);
+    report(streams, b"forms: ", true);
+    report(streams, b"80 equations: ", true);
+    report(streams, b"random nodes: ", true);
+    report(streams, b"wrong buffers: ", true);
+    report(streams, b"absent nodes: ", true);
+    tell_left(streams);
 }

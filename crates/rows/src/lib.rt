@@ -1,6 +1,8 @@
 // The comparison that the programs of the gate make: a list of what was found with a list of what was wanted.
 #![tactic(auto)]
 
+pub mod streams;
+
 ghost use Rattle.std.specs.Prelude.{◌≡◌};
 ghost use Rattle.rows.specs.Rows.{Lesser, agreeing, first_other, Compares, all_agree};
 

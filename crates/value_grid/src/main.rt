@@ -3,30 +3,31 @@
 // Free are which bytes a read gives and whether a write takes them: `tell_cut`, `tell_left` and
 // `main` only write, and what `next_byte` and `next_cell` read is free.
 #![tactic(auto)]
+
 ghost use Rattle.std.specs.Prelude.{◌≡◌, ◌+◌, ◌%◌, ◌<◌, length};
 ghost use Rattle.ol_spec.specs.Cell.{cell};
 ghost use Rattle.ol_spec.specs.Lists.{same};
 ghost use Rattle.rows.specs.Rows.{one};
 ghost use Rattle.value_grid.specs.Questions.{grid_value, known_of, value_agrees, outcome_agrees, found_at, Asked, says_of, outcome_is, input_is, default_is, cell_is, answered_at, Agreed};
 
-use libc::{STDIN_FILENO, STDOUT_FILENO};
 use ol_spec::{Outcome, Value};
 use ol_value::causes::cause_number;
 use ol_value::{cell, operators, types};
+use rows::streams::{Streams, read_full, write_all, write_decimal};
 
 // How many cells the grid has.
 const CELLS: u64 = 42;
 
 // Says that the list ends too early: what was read stands for nothing, and the run cannot pass.
-fn tell_cut() {
-    io::write_all(STDOUT_FILENO, b"the list is cut off\n");
+fn tell_cut(streams: Streams) {
+    write_all(streams, b"the list is cut off\n");
 }
 
 // Says where bytes are left behind the list's last answer.
-fn tell_left() {
+fn tell_left(streams: Streams) {
     let mut one = [0u8; 1];
-    if io::read_full(STDIN_FILENO, &mut one) > 0 {
-        io::write_all(STDOUT_FILENO, b"bytes are left behind the list\n");
+    if read_full(streams, &mut one) > 0 {
+        write_all(streams, b"bytes are left behind the list\n");
     }
 }
 
@@ -38,12 +39,12 @@ fn byte(b: u8) -> u8
 }
 
 // The next byte of the list.
-fn next_byte() -> u8
+fn next_byte(streams: Streams) -> u8
     ensures { result < 256 }
 {
     let mut one = [0u8; 1];
-    if io::read_full(STDIN_FILENO, &mut one) < 1 {
-        tell_cut();
+    if read_full(streams, &mut one) < 1 {
+        tell_cut(streams);
     }
     byte(one[0])
 }
@@ -56,12 +57,12 @@ fn nine_bytes(nine: [u8; 9]) -> [u8; 9]
 }
 
 // The next nine bytes of the list.
-fn next_cell() -> [u8; 9]
+fn next_cell(streams: Streams) -> [u8; 9]
     ensures { 9 ≡ length result }
 {
     let mut nine = [0u8; 9];
-    if io::read_full(STDIN_FILENO, &mut nine) < 9 {
-        tell_cut();
+    if read_full(streams, &mut nine) < 9 {
+        tell_cut(streams);
     }
     nine_bytes(nine)
 }
@@ -119,12 +120,12 @@ fn outcome_agrees(head: u8, nine: [u8; 9], o: Outcome) -> bool
 }
 
 // Whether the next answer of the list is this outcome.
-fn agrees(o: Outcome) -> bool
+fn agrees(streams: Streams, o: Outcome) -> bool
     ensures { Asked (outcome_is o) result }
 {
-    let head = next_byte();
+    let head = next_byte(streams);
     if head == 4 {
-        outcome_agrees(head, next_cell(), o)
+        outcome_agrees(head, next_cell(streams), o)
     } else {
         outcome_agrees(head, [0u8; 9], o)
     }
@@ -146,27 +147,27 @@ fn says(mine: bool, head: u8) -> bool
 }
 
 // Whether the list takes an input where in_type does.
-fn input_agrees(code: u8, v: Value) -> bool
+fn input_agrees(streams: Streams, code: u8, v: Value) -> bool
     ensures { Asked (input_is code v) result }
 {
     let mine = types::in_type(code, v) & known(v);
-    says(mine, next_byte())
+    says(mine, next_byte(streams))
 }
 
 // Whether the next cell of the list is a type's default.
-fn default_agrees(code: u8) -> bool
+fn default_agrees(streams: Streams, code: u8) -> bool
     ensures { Asked (default_is code) result }
 {
-    is_cell(next_cell(), types::default_value(code, 100))
+    is_cell(next_cell(streams), types::default_value(code, 100))
 }
 
 // Whether the list takes a further cell where good_cell does.
-fn cell_agrees() -> bool
+fn cell_agrees(streams: Streams) -> bool
     ensures { Asked cell_is result }
 {
-    let nine = next_cell();
+    let nine = next_cell(streams);
     let mine = cell::good_cell(&nine, 0) & known(cell::read_cell(&nine, 0));
-    says(mine, next_byte())
+    says(mine, next_byte(streams))
 }
 
 // ---- a question
@@ -208,17 +209,17 @@ fn found(section: u8, t: u64, grid: &[u8]) -> Outcome
 }
 
 // The t-th question of a section.
-fn ask(section: u8, t: u64, grid: &[u8]) -> bool
+fn ask(streams: Streams, section: u8, t: u64, grid: &[u8]) -> bool
     ensures { Asked (answered_at section grid.now t) result }
 {
     if section < 4 {
-        agrees(found(section, t, grid))
+        agrees(streams, found(section, t, grid))
     } else if section == 4 {
-        input_agrees(code(t / CELLS), at(grid, t % CELLS))
+        input_agrees(streams, code(t / CELLS), at(grid, t % CELLS))
     } else if section == 5 {
-        default_agrees(code(t))
+        default_agrees(streams, code(t))
     } else {
-        cell_agrees()
+        cell_agrees(streams)
     }
 }
 
@@ -233,44 +234,48 @@ fn more(n: u64, so: bool) -> u64
 }
 
 // How many of a section's answers agree.
-fn agreed(section: u8, count: u64, grid: &[u8]) -> u64
+fn agreed(streams: Streams, section: u8, count: u64, grid: &[u8]) -> u64
     ensures { Agreed section grid.now result count }
 {
     let mut sum = 0;
     let mut t = 0;
     while t < count {
-        sum = more(sum, ask(section, t, grid));
+        sum = more(sum, ask(streams, section, t, grid));
         t += 1;
     }
     sum
 }
 
 // Asks a section, and writes a line on it.
-fn report(label: &[u8], section: u8, count: u64, grid: &[u8]) -> u64
+fn report(streams: Streams, label: &[u8], section: u8, count: u64, grid: &[u8]) -> u64
     ensures { Agreed section grid.now result count }
 {
-    let sum = agreed(section, count, grid);
-    io::write_all(STDOUT_FILENO, label);
-    io::print_decimal(STDOUT_FILENO, sum);
-    io::write_all(STDOUT_FILENO, b" of ");
-    io::print_decimal(STDOUT_FILENO, count);
-    io::write_all(STDOUT_FILENO, b"\n");
+    let sum = agreed(streams, section, count, grid);
+    write_all(streams, label);
+    write_decimal(streams, sum);
+    write_all(streams, b" of ");
+    write_decimal(streams, count);
+    write_all(streams, b"\n");
     sum
 }
 
 // Each section of the list, with a line on each.
-fn main() {
+fn main(rt: HostRuntime) {
+    let streams = Streams {
+        input: rt.stdin(),
+        output: rt.stdout(),
+    };
     let mut space = [0u8; 378];
-    if io::read_full(STDIN_FILENO, &mut space) < 378 {
-        tell_cut();
+    if read_full(streams, &mut space) < 378 {
+        tell_cut(streams);
     }
     let grid: &[u8] = &space;
-    report(b"binary operators: ", 0, 20 * CELLS * CELLS, grid);
-    report(b"unary operators: ", 1, 2 * CELLS, grid);
-    report(b"casts: ", 2, 13 * CELLS, grid);
-    report(b"stores: ", 3, 13 * CELLS, grid);
-    report(b"inputs: ", 4, 13 * CELLS, grid);
-    report(b"defaults: ", 5, 13, grid);
-    report(b"cells: ", 6, 17, grid);
-    tell_left();
+    report(streams, b"binary operators: ", 0, 20 * CELLS * CELLS, grid);
+    report(streams, b"unary operators: ", 1, 2 * CELLS, grid);
+    report(streams, b"casts: ", 2, 13 * CELLS, grid);
+    report(streams, b"stores: ", 3, 13 * CELLS, grid);
+    report(streams, b"inputs: ", 4, 13 * CELLS, grid);
+    report(streams, b"defaults: ", 5, 13, grid);
+    report(streams, b"cells: ", 6, 17, grid);
+    tell_left(streams);
 }

@@ -1,0 +1,12 @@
+use Prim.Native.Nat.{◌≤◌, ◌-◌, ◌+◌}
+use native.Mathlib.Omega.{arith}
+use borrow.Author.Rules.{rules}
+use Rattle.order_grid.specs.Questions.{Tallied}
+use Rattle.order_grid.proofs.Laws.{tallied_most, tallied_none, asked_more}
+use Rattle.order_grid.proofs.count_orders.Given as goal
+
+abbrev pub invariant-loop-all : goal.invariant-loop-all
+invariant-loop-all l = (l.all ≤ l.count) × Tallied l.good l.all
+
+abbrev pub decreases-loop-all : goal.decreases-loop-all
+decreases-loop-all l = l.count - l.all

@@ -1,0 +1,9 @@
+use borrow.Author.Tests.{ne_eqb}
+use borrow.Author.Rules.{rules}
+use Rattle.order_grid.proofs.refusal_agrees.Goals as goal
+
+pub returns-then-theirs-eq0 : goal.returns-then-theirs-eq0
+returns-then-theirs-eq0 c = rw c.if-theirs-eq0.true
+
+pub returns-else-theirs-eq0 : goal.returns-else-theirs-eq0
+returns-else-theirs-eq0 c = rw (ne_eqb _ 0 c.if-theirs-eq0.false) c.order_agrees.ensures

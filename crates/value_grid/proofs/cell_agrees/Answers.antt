@@ -1,0 +1,6 @@
+use Rattle.value_grid.proofs.Laws.{cell_asked}
+use borrow.Author.Rules.{rules}
+use Rattle.value_grid.proofs.cell_agrees.Goals as goal
+
+pub returns : goal.returns
+returns c = cell_asked c.next_cell-nine.result _ _ _ c.next_byte.result _ c.good_cell.ensures c.read_cell.ensures c.known.ensures c.says.ensures
