@@ -1,6 +1,6 @@
 -- Demands 3 and 2 of the public functions: `demand3_holds`, `demand2_holds`. Each call's contract says that it is the definition's call, so a list of calls is the definition's history.
 use Prim.Native.Nat.{ℕ}
-use mathlib.Core.List.{List, [], ◌∷◌, map}
+use mathlib.Core.List.{List, [], ◌∷◌}
 use mathlib.Core.Logic.{◌↔◌}
 use mathlib.Core.Path.{◌≡◌, refl, sym, ap, subst, ◌∙◌}
 use native.Mathlib.Omega.{arith}
@@ -9,16 +9,14 @@ use Rattle.ol_spec.specs.Syntax.{File}
 use Rattle.ol_spec.specs.Limits.{relay_loader}
 use Rattle.ol_spec.specs.Order.{Ring}
 use Rattle.ol_spec.specs.Answers.{fault_at}
-use Rattle.ol_spec.specs.Admission.{Judged, refused, admitted, judge, verdict, admission, state_size}
+use Rattle.ol_spec.specs.Admission.{Judged, refused, admitted, judge, verdict, state_size}
 use Rattle.ol_spec.specs.State.{fresh_state}
-use Rattle.ol_spec.specs.Cycle.{OrderingCall, CycleCall, StartCall, ordering, start, cycle}
-use Rattle.ol_spec.specs.Demand3.{Orders, OrderingClaim, Unfaulted, RingIn, RingClaim, SolutionClaim, RelistedClaim, RelistingClaim, Bytes, Turn, Made, next_state, history, AllSolve, AgreeUntil}
-use Rattle.ol_spec.specs.declared.Value.{Value}
+use Rattle.ol_spec.specs.Cycle.{OrderingCall, CycleCall, StartCall, start, cycle}
+use Rattle.ol_spec.specs.Demand3.{Orders, OrderingClaim, Unfaulted, RingIn, RingClaim, SolutionClaim, RelistedClaim, RelistingClaim, Bytes, Made, next_state, history, AllSolve, AgreeUntil}
 use Rattle.ol_spec.specs.declared.Verdict.{Verdict}
 use Rattle.ol_spec.specs.declared.Verdict.TheVariants as Adm
 use Rattle.ol_spec.specs.declared.Sorted.{Sorted}
 use Rattle.ol_spec.specs.declared.Sorted.TheVariants as Sort
-use Rattle.ol_spec.specs.declared.Cycled.{Cycled}
 use Rattle.ol_spec.specs.Encode.{encode}
 use Rattle.ol_spec.specs.RustSim.{stuck, all_consts}
 use Rattle.ol_spec.specs.AsRust.{AsRust, RunsAsRust, constant_place, ConstantsAsRust, OrdersAsRust}

@@ -39,7 +39,6 @@ use Rattle.ol_check.proofs.NamesBelow.{low_within}
 use Rattle.ol_order.specs.Orders.{ring_place, NodesStand, Planned, NodePlanned, OrdersDone}
 use Rattle.ol_order.specs.declared.table.Ring.{Ring}
 use Rattle.ol_order.specs.declared.table.Ring.TheVariants as Rin
-use Rattle.ol_run.specs.Admitted.{Admitted}
 use Rattle.ol_run.specs.Constants.{ConstantsAre}
 use Rattle.ol_tables.specs.Table.{tab_of}
 use Rattle.ol_run.specs.declared.constants.Found.{Found}

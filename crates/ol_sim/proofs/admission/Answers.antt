@@ -1,8 +1,6 @@
-use Prim.Native.Nat.{◌-◌}
 use native.Mathlib.Omega.{arith}
 use Rattle.ol_tables.proofs.HeadsFile.{bytes_of_lem}
 use Rattle.ol_sim.proofs.Measures.{admission_answers}
-use borrow.Author.Rules.{rules}
 use Rattle.ol_sim.proofs.admission.Goals as goal
 
 pub returns : goal.returns

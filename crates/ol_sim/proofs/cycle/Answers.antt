@@ -1,5 +1,4 @@
 use Rattle.ol_sim.proofs.Serving.{cycle_answers}
-use borrow.Author.Rules.{rules}
 use Rattle.ol_sim.proofs.cycle.Goals as goal
 
 pub returns : goal.returns

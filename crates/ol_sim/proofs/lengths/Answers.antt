@@ -1,5 +1,4 @@
 use Rattle.ol_sim.proofs.Serving.{measure_answers}
-use borrow.Author.Rules.{rules}
 use Rattle.ol_sim.proofs.lengths.Goals as goal
 
 pub returns : goal.returns

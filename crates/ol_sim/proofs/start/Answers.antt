@@ -1,5 +1,4 @@
 use Rattle.ol_sim.proofs.Serving.{start_answers}
-use borrow.Author.Rules.{rules}
 use Rattle.ol_sim.proofs.start.Goals as goal
 
 pub returns : goal.returns

@@ -2,7 +2,6 @@
 use Rattle.ol_spec.specs.Limits.{relay_loader}
 use Rattle.ol_spec.specs.Admission.{admission}
 use Rattle.ol_sim_c.proofs.Telling.{admits}
-use borrow.Author.Rules.{rules}
 use Rattle.ol_sim_c.proofs.ol_sim_admit.Goals as goal
 
 pub returns : goal.returns

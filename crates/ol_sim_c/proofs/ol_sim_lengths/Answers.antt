@@ -1,6 +1,5 @@
 use mathlib.Core.Path.{refl}
 use Rattle.ol_sim_c.proofs.Telling.{measures}
-use borrow.Author.Rules.{rules}
 use Rattle.ol_sim_c.proofs.ol_sim_lengths.Goals as goal
 
 pub returns-in-Done : goal.returns-in-Done

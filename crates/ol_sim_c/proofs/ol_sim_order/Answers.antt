@@ -1,6 +1,5 @@
 -- `ol_sim_c::ol_sim_order` meets its contract.
 use Rattle.ol_sim_c.proofs.Telling.{orders}
-use borrow.Author.Rules.{rules}
 use Rattle.ol_sim_c.proofs.ol_sim_order.Goals as goal
 
 pub returns : goal.returns

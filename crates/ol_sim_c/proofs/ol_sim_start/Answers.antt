@@ -1,6 +1,5 @@
 -- `ol_sim_c::ol_sim_start` meets its contract.
 use Rattle.ol_sim_c.proofs.Telling.{starts}
-use borrow.Author.Rules.{rules}
 use Rattle.ol_sim_c.proofs.ol_sim_start.Goals as goal
 
 pub returns : goal.returns

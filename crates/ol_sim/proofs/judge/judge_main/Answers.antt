@@ -1,9 +1,8 @@
-use mathlib.Core.Path.{◌≡◌, refl, sym, ap, ◌∙◌}
+use mathlib.Core.Path.{sym, ap, ◌∙◌}
 use native.Mathlib.Omega.{arith}
 use Rattle.ol_check.specs.Founds.{place_of}
 use Rattle.ol_sim.proofs.Chain.{refused_at, passed_by_lem}
 use Rattle.ol_sim.proofs.Steps.{main_done, main_ready}
-use borrow.Author.Rules.{rules}
 use Rattle.ol_sim.proofs.judge.judge_main.Goals as goal
 
 pub too_long-requires : goal.too_long-requires

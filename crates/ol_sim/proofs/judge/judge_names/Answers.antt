@@ -1,13 +1,9 @@
-use mathlib.Core.Path.{◌≡◌, refl, sym, ap, ◌∙◌}
-use Prim.Native.Nat.{◌+◌, ◌-◌, ◌≤◌, ◌<◌}
-use native.Mathlib.Omega.{arith}
+use mathlib.Core.Path.{sym, ap, ◌∙◌}
 use Rattle.ol_check.specs.Founds.{place_of}
 use Rattle.ol_tables.specs.At.{file_at}
 use Rattle.ol_sim.specs.Judging.{names_after}
 use Rattle.ol_sim.proofs.Chain.{refused_at, passed_by_lem}
 use Rattle.ol_sim.proofs.Begins.{faults_ready, walk_room, shapes_ready}
-use Rattle.ol_tables.proofs.Lending.{length_put}
-use borrow.Author.Rules.{rules}
 use Rattle.ol_sim.proofs.judge.judge_names.Goals as goal
 
 pub faults-found-requires : goal.faults-found-requires

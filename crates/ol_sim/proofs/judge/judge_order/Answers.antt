@@ -1,11 +1,8 @@
-use mathlib.Core.Path.{◌≡◌, refl, sym, ap, ◌∙◌}
-use Prim.Native.Nat.{◌+◌, ◌-◌, ◌*◌, ◌≤◌, ◌<◌}
+use mathlib.Core.Path.{sym, ap, ◌∙◌}
 use native.Mathlib.Omega.{arith}
-use lib.Seq.{length-take-le}
 use Rattle.ol_order.specs.Orders.{ring_place}
 use Rattle.ol_sim.proofs.Chain.{refused_at, passed_by_lem}
 use Rattle.ol_sim.proofs.Steps.{nodes_stand, planned, orders_long, constants_ready}
-use borrow.Author.Rules.{rules}
 use Rattle.ol_sim.proofs.judge.judge_order.Goals as goal
 
 pub slice_bounds-orders_of-count : goal.slice_bounds-orders_of-count

@@ -1,8 +1,5 @@
-use mathlib.Core.Path.{◌≡◌, refl, sym, ap, ◌∙◌}
-use Prim.Native.Nat.{◌+◌, ◌-◌, ◌≤◌, ◌<◌}
-use mathlib.Core.Option.{none, some}
 use native.Mathlib.Omega.{arith}
-use Rattle.ol_tables.proofs.HeadsFile.{bytes_of_lem, file_stands}
+use Rattle.ol_tables.proofs.HeadsFile.{bytes_of_lem}
 use Rattle.ol_sim.proofs.Steps.{state_long, state_short, some_none}
 use Rattle.ol_sim.proofs.judge.too_long.Goals as goal
 

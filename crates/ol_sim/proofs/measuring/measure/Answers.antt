@@ -1,6 +1,5 @@
 use native.Mathlib.Omega.{arith}
 use Rattle.ol_sim.proofs.Measures.{few_inputs_lem, few_values, lengths_here, no_node_lem}
-use borrow.Author.Rules.{rules}
 use Rattle.ol_sim.proofs.measuring.measure.Goals as goal
 
 pub overflow_mul-result : goal.overflow_mul-result

@@ -1,6 +1,5 @@
 use Rattle.ol_sim.proofs.Measures.{measure_ready}
 use Rattle.ol_sim.proofs.Serving.{measure_serves, start_serves, cycle_serves}
-use borrow.Author.Rules.{rules}
 use Rattle.ol_sim.proofs.serve.answer.Goals as goal
 
 pub measure-requires : goal.measure-requires

@@ -2,7 +2,6 @@ use mathlib.Core.Path.{refl}
 use Rattle.ol_tables.specs.At.{file_at}
 use Rattle.ol_check.proofs.NamesBelow.{low_within}
 use Rattle.ol_sim.proofs.Begins.{empty_zeros}
-use borrow.Author.Rules.{rules}
 use Rattle.ol_sim.proofs.serve.serve_low.Goals as goal
 
 pub serve_named-requires : goal.serve_named-requires

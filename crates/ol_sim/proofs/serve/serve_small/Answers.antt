@@ -1,8 +1,6 @@
-use Prim.Native.Nat.{◌-◌}
 use native.Mathlib.Omega.{arith}
 use Rattle.ol_tables.proofs.HeadsFile.{bytes_of_lem}
 use Rattle.ol_sim.proofs.Begins.{file_ready}
-use borrow.Author.Rules.{rules}
 use Rattle.ol_sim.proofs.serve.serve_small.Goals as goal
 
 pub serve_with-requires : goal.serve_with-requires

@@ -1,7 +1,6 @@
 use mathlib.Core.Path.{sym, ◌∙◌}
 use Rattle.ol_tables.specs.At.{file_at}
 use Rattle.ol_sim.proofs.Starts.{start_ready, starts_done, starts_unfit}
-use borrow.Author.Rules.{rules}
 use Rattle.ol_sim.proofs.starting.start_unless.Goals as goal
 
 pub write_start-requires : goal.write_start-requires
