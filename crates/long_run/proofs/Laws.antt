@@ -1,5 +1,6 @@
 -- Laws of the run: a cycle counted, a pair, a turn, and the file's start.
 use Rattle.std.proofs.Common.{◌≡◌, ℕ, ◌+◌, ◌/◌, ◌%◌, Bool, true, false, cond, ◌&&◌, eqb, List, [], ◌∷◌, sym, refl, ap, ◌∙◌, add-one, arith, eq-eqb, ne_eqb, eqb-true}
+use lib.Pointwise.{pointwise, bytes_decides}
 use Rattle.ol_spec.specs.Cycle.{start, cycle}
 use Rattle.ol_spec.specs.Limits.{relay_loader}
 use Rattle.ol_spec.specs.declared.Cycled.{Cycled}
@@ -38,6 +39,10 @@ tests_alike false false f g = refl
 
 same_is : (a b : List ℕ) (r : Bool) → (r ≡ true → a ≡ b) × (a ≡ b → r ≡ true) → r ≡ all_agree a b
 same_is a b r h = tests_alike r (all_agree a b) (λ e. rw (h.0 e) (agree_same b)) (λ e. h.1 (agree_equal a b e))
+
+-- what a comparison of texts says
+pub compared : (a b : List ℕ) (r : Bool) → r ≡ pointwise eqb a b → (r ≡ true → a ≡ b) × (a ≡ b → r ≡ true)
+compared a b r h = (λ e. (bytes_decides a b).0 (sym h ∙ e), λ e. h ∙ (bytes_decides a b).1 e)
 
 -- ---- a cycle, a pair, a turn
 

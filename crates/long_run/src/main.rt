@@ -1,12 +1,13 @@
 // A million cycles of the counter and of the feeder file, each on the state that the one before it left. make.py says what the standard input holds.
 // Free are which bytes a read gives and whether a write takes them: `tell`, `tell_cut`, `tell_left` and `main` promise nothing of it.
 #![tactic(auto)]
+
 ghost use Rattle.std.specs.Prelude.{◌≡◌, ◌≤◌, length};
 ghost use Rattle.long_run.specs.Runs.{is_answered, is_done, more, none, Stepped, Stands, stand, both, inputs_at, after, run_of, Ran};
 
-use libc::{STDIN_FILENO, STDOUT_FILENO};
 use ol_spec::{Cycled, Started};
 use relay_text::answers::say_answered;
+use rows::streams::{Streams, read_full, write_all, write_decimal};
 use std::num::wrapping_add_u64;
 
 // So many cycles are made in pairs, with the other inputs after each thousand.
@@ -64,7 +65,7 @@ fn step(
     let c = ol_sim::cycle(file, old, inputs, new, values);
     Tally {
         answered: more(t.answered, is_answered(c)),
-        fresh: more(t.fresh, check::same(new, fresh)),
+        fresh: more(t.fresh, &*new == fresh),
     }
 }
 
@@ -137,34 +138,35 @@ fn run(
 }
 
 // What was counted, and the last values and state, as the oracle's line has them.
-fn tell(t: Tally, values: &[u8], state: &[u8])
+fn tell(streams: Streams, t: Tally, values: &[u8], state: &[u8])
     requires { (length values.now ≤ 1008) × (length state.now ≤ 1008) }
 {
-    io::print_decimal(STDOUT_FILENO, t.answered);
-    io::write_all(STDOUT_FILENO, b" answered; the fresh state again ");
-    io::print_decimal(STDOUT_FILENO, t.fresh);
-    io::write_all(STDOUT_FILENO, b" times\n");
+    write_decimal(streams, t.answered);
+    write_all(streams, b" answered; the fresh state again ");
+    write_decimal(streams, t.fresh);
+    write_all(streams, b" times\n");
     let mut out = io::buffer();
     let n = say_answered(&mut out, values, state);
     let k = relay_text::within(n, &out);
-    io::write_all(STDOUT_FILENO, &out[..k]);
+    write_all(streams, &out[..k]);
 }
 
 // Says that the input ends too early: what was read stands for nothing, and the run cannot pass.
-fn tell_cut() {
-    io::write_all(STDOUT_FILENO, b"the input is cut off\n");
+fn tell_cut(streams: Streams) {
+    write_all(streams, b"the input is cut off\n");
 }
 
 // Says where bytes are left behind what is read.
-fn tell_left() {
+fn tell_left(streams: Streams) {
     let mut one = [0u8; 1];
-    if io::read_full(STDIN_FILENO, &mut one) > 0 {
-        io::write_all(STDOUT_FILENO, b"bytes are left behind the inputs\n");
+    if read_full(streams, &mut one) > 0 {
+        write_all(streams, b"bytes are left behind the inputs\n");
     }
 }
 
 // Starts a file twice, once for the state to compare with, makes all cycles and tells what was counted.
 fn run_file(
+    streams: Streams,
     file: &[u8],
     first: &[u8],
     second: &[u8],
@@ -181,7 +183,7 @@ fn run_file(
     if is_fresh {
         if is_started {
             let t = run(file, fresh, first, second, a, b, values);
-            tell(t, values, a);
+            tell(streams, t, values, a);
             t
         } else {
             nothing()
@@ -192,41 +194,51 @@ fn run_file(
 }
 
 // The counter, which has no inputs.
-fn count() -> Tally
+fn count(streams: Streams) -> Tally
     ensures { Ran result }
 {
     let mut file = [0u8; 40];
-    if io::read_full(STDIN_FILENO, &mut file) < 40 {
-        tell_cut();
+    if read_full(streams, &mut file) < 40 {
+        tell_cut(streams);
     }
     let mut fresh = [0u8; 10];
     let mut a = [0u8; 10];
     let mut b = [0u8; 10];
     let mut values = [0u8; 9];
-    run_file(&file, b"", b"", &mut fresh, &mut a, &mut b, &mut values)
+    run_file(
+        streams,
+        &file,
+        b"",
+        b"",
+        &mut fresh,
+        &mut a,
+        &mut b,
+        &mut values,
+    )
 }
 
 // The feeder file, with two lists of inputs.
-fn feed() -> Tally
+fn feed(streams: Streams) -> Tally
     ensures { Ran result }
 {
     let mut file = [0u8; 795];
-    if io::read_full(STDIN_FILENO, &mut file) < 795 {
-        tell_cut();
+    if read_full(streams, &mut file) < 795 {
+        tell_cut(streams);
     }
     let mut first = [0u8; 144];
-    if io::read_full(STDIN_FILENO, &mut first) < 144 {
-        tell_cut();
+    if read_full(streams, &mut first) < 144 {
+        tell_cut(streams);
     }
     let mut second = [0u8; 144];
-    if io::read_full(STDIN_FILENO, &mut second) < 144 {
-        tell_cut();
+    if read_full(streams, &mut second) < 144 {
+        tell_cut(streams);
     }
     let mut fresh = [0u8; 711];
     let mut a = [0u8; 711];
     let mut b = [0u8; 711];
     let mut values = [0u8; 414];
     run_file(
+        streams,
         &file,
         &first,
         &second,
@@ -237,8 +249,12 @@ fn feed() -> Tally
     )
 }
 
-fn main() {
-    count();
-    feed();
-    tell_left();
+fn main(rt: HostRuntime) {
+    let streams = Streams {
+        input: rt.stdin(),
+        output: rt.stdout(),
+    };
+    count(streams);
+    feed(streams);
+    tell_left(streams);
 }

@@ -6,6 +6,7 @@ use mathlib.Core.Option.{Option, none, some}
 use mathlib.Core.Path.{◌≡◌, refl, sym, ap, subst, ◌∙◌}
 use native.Mathlib.Omega.{arith}
 use lib.ListN.{length, take, get_or}
+use lib.Pointwise.{pointwise, bytes_decides}
 use lib.Dec.{T, eqb, leb, ltb, eqb→eq, le→leb, lt→ltb, leb→le, ltb→lt}
 use Rattle.ol_spec.specs.Lists.{same}
 use Rattle.ol_spec.proofs.Tests.{T_and, T_true, true_t, T_false, eq_eqb}
@@ -48,6 +49,13 @@ silent_out line w e h = sym (ap (λ x. eqb x 35) (get_d_out line w.from 35 h)) �
 
 pub named : (t w : List ℕ) (c : Command) → t ≡ w → command_of w ≡ c → c ≡ command_of t
 named t w c e h = sym h ∙ ap command_of (sym e)
+
+-- what a comparison of texts says
+pub is_word : (t w : List ℕ) (r : Bool) → r ≡ pointwise eqb t w → r ≡ true → t ≡ w
+is_word t w r e h = (bytes_decides t w).0 (sym e ∙ h)
+
+pub no_word : (t w : List ℕ) (r : Bool) → r ≡ pointwise eqb t w → t ≡ w → r ≡ true
+no_word t w r e h = e ∙ (bytes_decides t w).1 h
 
 same_eq : (a b : List ℕ) → T (same a b) → a ≡ b
 same_eq [] [] t = refl

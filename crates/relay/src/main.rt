@@ -1,17 +1,19 @@
 // The line program: commands on standard input, one a line, answers on standard output, one a line. oracle/README.md has the protocol.
 #![tactic(auto)]
+
 mod request;
 mod session;
 
 ghost use Rattle.std.specs.Prelude.{◌≡◌, true, cond, not, length, take};
+ghost use Rattle.io.specs.Counts.{IsPrefixLen};
 ghost use Rattle.relay_text.specs.Lines.{Said};
 ghost use Rattle.relay.specs.Reply.{reply};
 ghost use Rattle.relay.specs.Kept.{standing, Replies};
 ghost use Rattle.relay.specs.Turns.{unread, begun, waiting, after, Takes, Refills, Turned};
 ghost use Rattle.relay.specs.Sessions.{Served};
 
-use libc::{STDIN_FILENO, STDOUT_FILENO};
 use session::Session;
+use std::io::{Read, Stdin, Stdout, Write};
 
 // A piece of the input as it is read: its bytes from `at` up to `end` are not taken yet. The line's first
 // `length` bytes are there. It is whole once its end was met; the input is at its end once a read gives nothing.
@@ -68,15 +70,25 @@ struct Turn {
     is_over: bool,
 }
 
+// One read; how many bytes stand at the buffer's start then. A read that fails gives nothing.
+fn read(stdin: Stdin, buf: &mut [u8]) -> usize
+    ensures { IsPrefixLen result buf.new }
+{
+    let mut input = stdin;
+    match input.read(buf) {
+        Ok(n) => n,
+        Err(_) => 0,
+    }
+}
+
 // The input with something in it, unless it is at its end.
-fn refill(input: &mut [u8], i: Input) -> Input
+fn refill(stdin: Stdin, input: &mut [u8], i: Input) -> Input
     ensures { Refills i input.old result input.new }
 {
     if i.at < i.end {
         return i;
     }
-    let got = libc::read(STDIN_FILENO, input);
-    let n = io::count(got, input);
+    let n = read(stdin, input);
     Input {
         at: 0,
         end: n,
@@ -88,6 +100,7 @@ fn refill(input: &mut [u8], i: Input) -> Input
 
 // Answers a line of so many bytes: what is kept, and whether the answer was taken.
 fn respond(
+    stdout: Stdout,
     no: usize,
     n: usize,
     s: Session,
@@ -116,7 +129,7 @@ fn respond(
         out,
     );
     let t = r.session;
-    let w = write_front(out, r.length);
+    let w = write_front(stdout, out, r.length);
     Answered {
         session: t,
         length: w.length,
@@ -132,10 +145,11 @@ struct Written {
 }
 
 // Writes the bytes, all of them. Whether the system takes them is free.
-fn write(bytes: &[u8]) -> Written
+fn write(stdout: Stdout, bytes: &[u8]) -> Written
     ensures { result.length ≡ length bytes.now }
 {
-    let is_taken = io::write_all(STDOUT_FILENO, bytes);
+    let mut output = stdout;
+    let is_taken = output.write_all(bytes).is_ok();
     Written {
         length: bytes.len(),
         is_taken,
@@ -143,11 +157,11 @@ fn write(bytes: &[u8]) -> Written
 }
 
 // Writes the buffer's first n bytes.
-fn write_front(out: &[u8], n: usize) -> Written
+fn write_front(stdout: Stdout, out: &[u8], n: usize) -> Written
     ensures { Said (take n out.now) result.length out.now }
 {
     let k = relay_text::within(n, out);
-    write(&out[..k])
+    write(stdout, &out[..k])
 }
 
 // What is kept, the length of the answer as it was written, and whether it was taken.
@@ -190,6 +204,7 @@ fn is_last(ended: bool, taken: bool) -> bool
 
 // One turn, with an input that was refilled: takes what it has of a line, and answers the line once its end, or the input's, is met.
 fn advance(
+    stdout: Stdout,
     t: Turn,
     i: Input,
     input: &[u8],
@@ -216,6 +231,7 @@ fn advance(
         };
     }
     let r = respond(
+        stdout,
         t.line,
         taken.length,
         s,
@@ -247,6 +263,8 @@ fn advance(
 // Answers the lines of the input in turn, up to the input's end or an answer that is not taken.
 // A proved loop has to end, and nothing says that the input does. So the loop counts its turns down from a number that no run uses up.
 fn serve(
+    stdin: Stdin,
+    stdout: Stdout,
     input: &mut [u8],
     line: &mut [u8],
     file: &mut [u8; 131072],
@@ -278,9 +296,9 @@ fn serve(
             return t;
         }
         let i = t.input;
-        let filled = refill(input, i);
+        let filled = refill(stdin, input, i);
         t = advance(
-            t, filled, input, line, file, state, bytes, inputs, new, values, out,
+            stdout, t, filled, input, line, file, state, bytes, inputs, new, values, out,
         );
         turns -= 1;
     }
@@ -309,7 +327,7 @@ fn answer_buffer() -> [u8; 393216]
 }
 
 // The buffers. A line of 262,144 characters stands for at most 131,072 bytes.
-fn main() {
+fn main(rt: HostRuntime) {
     let mut input = io::large_buffer();
     let mut line = line_buffer();
     let mut file = bytes_buffer();
@@ -320,6 +338,8 @@ fn main() {
     let mut values = io::buffer();
     let mut out = answer_buffer();
     serve(
+        rt.stdin(),
+        rt.stdout(),
         &mut input,
         &mut line,
         &mut file,

@@ -62,22 +62,22 @@ pub enum Request {
 fn command_named(word: &[u8]) -> Command
     ensures { result ≡ command_of word.now }
 {
-    if check::same(word, b"file") {
+    if word == b"file".as_slice() {
         return Command::File;
     }
-    if check::same(word, b"order") {
+    if word == b"order".as_slice() {
         return Command::Order;
     }
-    if check::same(word, b"start") {
+    if word == b"start".as_slice() {
         return Command::Start;
     }
-    if check::same(word, b"load") {
+    if word == b"load".as_slice() {
         return Command::Load;
     }
-    if check::same(word, b"cycle") {
+    if word == b"cycle".as_slice() {
         return Command::Cycle;
     }
-    if check::same(word, b"at") {
+    if word == b"at".as_slice() {
         return Command::At;
     }
     Command::Unknown

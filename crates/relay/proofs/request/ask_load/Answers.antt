@@ -1,0 +1,14 @@
+use Rattle.relay_text.specs.Text.{bytes_of}
+use Rattle.relay_text.specs.Lines.{word_text}
+use Rattle.relay.specs.Requests.{file_of, about, load_of}
+use Rattle.relay.proofs.Asks.{with_bytes_lem, with_none}
+use borrow.Author.Rules.{rules}
+use Rattle.relay.proofs.request.ask_load.Goals as goal
+
+pub returns-in-Bytes : goal.returns-in-Bytes
+returns-in-Bytes c =
+    λ xs. with_bytes_lem (bytes_of (word_text c.args.line.now 1)) c.bytes_of.result c.bytes_of.new.bytes c.in-Bytes.k (λ b. about (load_of b)) c.bytes_of.ensures.0 c.in-Bytes.is
+
+pub returns-in-Malformed : goal.returns-in-Malformed
+returns-in-Malformed c =
+    λ xs. with_none (bytes_of (word_text c.args.line.now 1)) c.bytes_of.result c.bytes_of.new.bytes (λ b. about (load_of b)) c.bytes_of.ensures.0 c.in-Malformed.is
