@@ -1,11 +1,11 @@
 -- A value of the machine is had back from its cell.
 use Prim.Native.Nat.{ℕ, ◌<◌, ◌^◌}
 use mathlib.Core.Bool.{Bool, true}
-use mathlib.Core.List.{List, [], ◌∷◌}
-use mathlib.Core.Path.{◌≡◌, refl, sym, ap, subst, ◌∙◌}
+use mathlib.Core.List.{[], ◌∷◌}
+use mathlib.Core.Path.{◌≡◌, refl, sym, ap, ◌∙◌}
 use lib.IntN.{ℤ}
 use lib.Signed.{mag}
-use lib.Dec.{T, eqb, eqb_refl}
+use lib.Dec.{eqb}
 use lib.Ieee.{Float, fits, binary32, binary64}
 use Rattle.ol_spec.specs.Cell.{cell, value_of}
 use Rattle.ol_spec.specs.declared.Value.{Value}

@@ -1,18 +1,15 @@
 -- An evaluation depends on calls only through its callees; so the depth of calls does not matter, once it suffices.
 use Prim.Native.Nat.{ℕ, zero, suc, ◌<◌}
 use mathlib.Core.Bool.{Bool}
-use mathlib.Core.List.{List, [], ◌∷◌, ◌++◌, map}
+use mathlib.Core.List.{List, [], ◌∷◌, ◌++◌}
 use mathlib.Core.Path.{◌≡◌, refl, ap}
 use native.Mathlib.Omega.{arith}
 use lib.ListN.{length, take, drop, get_or}
-use Rattle.ol_spec.specs.Syntax.{NodeKind, Function, Operator, Imported, Node, Expr, bool_lit, int_lit, float_lit, char_lit, var, unary, binary, if_then_else, pre, arrow, cast, call, tuple, Exprs, nil, cons, rhs_of, variables}
-use Rattle.ol_spec.specs.Types.{cast_to, defaults}
+use Rattle.ol_spec.specs.Syntax.{NodeKind, Function, Operator, Imported, Node, Expr, bool_lit, int_lit, float_lit, char_lit, var, unary, binary, if_then_else, pre, arrow, cast, call, tuple, Exprs, nil, cons, rhs_of}
+use Rattle.ol_spec.specs.Types.{cast_to}
 use Rattle.ol_spec.specs.Operators.{unary_of, binary_of}
 use Rattle.ol_spec.specs.Order.{order}
 use Rattle.ol_spec.specs.Eval.{Globals, Scope, Calls, Evals, node_at, callees, callees_all, has_call, is_double?, real_kind, seg_size, record_size, map_eval, next, next_all, condition, choose, enter, single_eval, several_eval, eval, eval_all, eval_rhs}
-use Rattle.ol_spec.specs.Lists.{concat}
-use Rattle.ol_spec.specs.Cell.{cells}
-use Rattle.ol_spec.specs.Step.{sites, fresh_by, fresh_at}
 use Rattle.ol_spec.specs.Step.{scope, equation_at, store, run_all, run, is_fresh, old_cells, old_segs, fit_all, leave, instance, fresh_record, call_by, calls_at, calls}
 use Rattle.ol_spec.specs.declared.Value.{Value}
 use Rattle.ol_tables.specs.Tables.{Each}

@@ -1,29 +1,28 @@
 -- Names by their slots: a variable's cell, a constant's value, a variant.
-use Prim.Native.Nat.{ℕ, zero, suc, ◌+◌, ◌-◌, ◌*◌, ◌/◌, ◌<◌, ◌≤◌}
-use mathlib.Core.Bool.{Bool, true, false, cond}
+use Prim.Native.Nat.{ℕ, zero, suc, ◌+◌, ◌-◌, ◌*◌, ◌<◌, ◌≤◌}
+use mathlib.Core.Bool.{Bool, true, false}
 use mathlib.Core.List.{List, [], ◌∷◌, ◌++◌}
 use mathlib.Core.Option.{Option, none, some}
-use mathlib.Core.Path.{◌≡◌, refl, sym, ap, subst, ◌∙◌}
+use mathlib.Core.Path.{◌≡◌, refl, sym, ap, ◌∙◌}
 use native.Mathlib.Omega.{arith}
 use native.Mathlib.Nat.{div-mul-le_self}
 use lib.ListN.{length, get_or, get_elem?, take, drop, length-take}
 use lib.Seq.{drop-cons, drop-drop}
-use lib.Dec.{T, eqb}
-use Rattle.ol_spec.specs.Lists.{maybe, or_else, concat, member, position_if, position, lookup}
-use Rattle.ol_spec.specs.Syntax.{Expr, variables, variable_names, name_of, Variable, bool_lit, int_lit, float_lit, char_lit, var, unary, binary, if_then_else, pre, arrow, cast, call, tuple, name_in}
+use lib.Dec.{eqb}
+use Rattle.ol_spec.specs.Lists.{maybe, concat, member, position_if, position, lookup}
+use Rattle.ol_spec.specs.Syntax.{Expr, variables, name_of, Variable, name_in}
 use Rattle.ol_spec.specs.Numbers.{number_of}
 use Rattle.ol_spec.specs.Cell.{value_of, value_by, values_of}
 use Rattle.ol_spec.specs.Eval.{Globals, Scope, or_failure, present_of, before_of, pre_of}
 use Rattle.ol_spec.specs.declared.Value.{Value}
 use Rattle.ol_spec.specs.declared.Value.TheVariants as Val
-use Rattle.ol_spec.specs.declared.Outcome.{Outcome}
 use Rattle.ol_spec.specs.declared.Outcome.TheVariants as Out
 use Rattle.ol_spec.specs.declared.Cause.TheVariants as Why
 use Rattle.ol_spec.proofs.Tests.{T_true}
 use Rattle.ol_tables.specs.At.{file_at, node_in, expr_at, Reads}
-use Rattle.ol_tables.specs.Tables.{slot_at, slot_of, slot_by, constant_slot}
+use Rattle.ol_tables.specs.Tables.{slot_at, slot_of, slot_by}
 use Rattle.ol_tables.proofs.Forms.{by_form, var_form}
-use Rattle.ol_frame.specs.Plans.{known_in, constants_in, globals_in, width_in, names_in, scope_in, name_at, Named, Nameable, Looked, Cells}
+use Rattle.ol_frame.specs.Plans.{known_in, constants_in, globals_in, width_in, names_in, scope_in, name_at, Nameable, Cells}
 
 no_some : {A : Type 0} {x : A} → none ≡ some x → ⊥
 no_some e = let z : ◌≡◌ {A = ℕ} 0 1 = cc in omega arith

@@ -1,5 +1,5 @@
 -- The cases of outcomes, as functions that evaluation uses decide them.
-use Rattle.std.specs.Prelude.{ℕ, Bool, true, false, cond, ◌≡◌, eqb}
+use Rattle.std.specs.Prelude.{ℕ, Bool, true, false}
 use Rattle.ol_spec.specs.Eval.{RealKind, not_real, is_single, is_double_kind, kind_of_value, common_real, then_out, Outcomes, values, failure, overflow}
 use Rattle.ol_spec.specs.Answers.{outcome_number}
 use Rattle.ol_value.specs.Codes.{binary_by}

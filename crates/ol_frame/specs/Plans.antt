@@ -1,14 +1,14 @@
 -- What evaluation asks of a file and of the expressions in it.
-use Rattle.std.specs.Prelude.{ℕ, ◌+◌, ◌*◌, ◌/◌, ◌<◌, ◌≤◌, Bool, true, false, List, [], ◌∷◌, map, ◌≡◌, length, take, drop, get_or, T}
+use Rattle.std.specs.Prelude.{ℕ, ◌+◌, ◌*◌, ◌/◌, ◌<◌, ◌≤◌, Bool, List, map, ◌≡◌, length, take, drop, get_or, T}
 use Rattle.ol_spec.specs.Lists.{concat, member}
-use Rattle.ol_spec.specs.Syntax.{bool, File, Node, Expr, variables, variable_names, type_of}
+use Rattle.ol_spec.specs.Syntax.{bool, Expr, variables, variable_names, type_of}
 use Rattle.ol_spec.specs.Places.{collect_all}
 use Rattle.ol_spec.specs.Cell.{values_of}
 use Rattle.ol_spec.specs.Numbers.{number_of}
 use Rattle.ol_spec.specs.Eval.{Globals, Scope, Eval, callees_all, callees, sites_size, eval}
 use Rattle.ol_spec.specs.Step.{globals, scope, calls}
 use Rattle.ol_spec.specs.Admission.{constant_names, used_at, calls_where, bad_call}
-use Rattle.ol_tables.specs.At.{file_at, node_in, expr_at, end_at, exprs_at, ends_at, Reads, ReadsAll}
+use Rattle.ol_tables.specs.At.{file_at, node_in, expr_at, exprs_at, Reads, ReadsAll}
 use Rattle.ol_tables.specs.Tables.{Each, Tab, HasSlot, slot_of, Sound, slots_from}
 use Rattle.ol_tables.specs.Parts.{Proper}
 use Rattle.ol_frame.specs.Walk.{nodes_in, sizes_in, Sized}

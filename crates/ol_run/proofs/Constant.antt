@@ -1,5 +1,5 @@
 -- Laws of the constants' values.
-use Prim.Native.Nat.{ℕ, zero, suc, ◌+◌, ◌-◌, ◌*◌, ◌<◌, ◌≤◌}
+use Prim.Native.Nat.{ℕ, zero, suc, ◌+◌, ◌*◌, ◌<◌, ◌≤◌}
 use mathlib.Core.Bool.{Bool, true, false, cond}
 use mathlib.Core.List.{List, [], ◌∷◌, ◌++◌, map, append-nil, append_assoc}
 use mathlib.Core.Path.{◌≡◌, refl, sym, ap, subst, ◌∙◌}
@@ -7,7 +7,7 @@ use native.Mathlib.Omega.{arith}
 use lib.ListN.{length, take, drop, get_or, set, length-set, get_or-eq_default, length-append, length-map, drop_of_length-le}
 use lib.Dec.{eqb}
 use borrow.Author.Tests.{ne_eqb}
-use lib.Seq.{take_all, take_at, drop_at, length-take-le, drop-cons, take-suc}
+use lib.Seq.{take_at, drop_at, drop-cons, take-suc}
 use Rattle.ol_spec.proofs.Cells.{length_cell, length_cells}
 use Rattle.ol_spec.proofs.Admitted.{length_placed}
 use Rattle.ol_frame.specs.Outcomes.{done_of}
@@ -16,7 +16,7 @@ use Rattle.ol_spec.specs.Syntax.{Constant, constant_name, Ty, bool, int, float32
 use Rattle.ol_spec.specs.Places.{ty_size, placed, placed_constants, constant_size, constants_start, expr_size}
 use Rattle.ol_spec.specs.Cell.{value_of, values_of, cell, cells}
 use Rattle.ol_spec.specs.Types.{fit}
-use Rattle.ol_spec.specs.Eval.{Globals, Scope, Calls, Eval, callees, callees_all, sites_size, next, eval, then_out}
+use Rattle.ol_spec.specs.Eval.{Globals, Scope, Calls, Eval, callees, callees_all, sites_size, eval, then_out}
 use Rattle.ol_spec.specs.Step.{scope, calls, globals}
 use Rattle.ol_spec.specs.Admission.{no_variables, no_calls, constants, constants_from, constant_names, after_constant, Constants, stuck_at}
 use Rattle.ol_spec.specs.declared.Value.{Value}

@@ -4,7 +4,7 @@ use mathlib.Core.Bool.{Bool}
 use mathlib.Core.List.{List, [], ◌∷◌, ◌++◌, append_assoc, append-nil}
 use mathlib.Core.Path.{◌≡◌, refl, sym, ap, subst, ◌∙◌}
 use native.Mathlib.Omega.{arith}
-use lib.ListN.{length, take, drop, length-drop, length-map, length-append, drop_of_length-le, take-append-drop}
+use lib.ListN.{length, take, drop, length-drop, length-map, drop_of_length-le, take-append-drop}
 use lib.Seq.{take_all, take-add}
 use Rattle.ol_spec.specs.Syntax.{Node, File, main, constant_name}
 use Rattle.ol_spec.specs.Cell.{cells, values_of}
@@ -25,7 +25,6 @@ use Rattle.ol_tables.specs.At.{file_at, node_in}
 use Rattle.ol_frame.specs.Walk.{nodes_in, sizes_in}
 use Rattle.ol_frame.specs.Plans.{known_in, globals_in, width_in}
 use Rattle.ol_tables.specs.Tables.{row_at}
-use Rattle.ol_frame.specs.Nodes.{Running}
 use Rattle.ol_eval.specs.Calls.{Runnable, RunMeets, RunTo, run_in, EndsAs}
 use Rattle.ol_run.specs.MainCycle.{record_run, RecordReady, RecordRan, RunReady, Cycles, CyclesTo}
 use Rattle.ol_frame.specs.Outcomes.{ending_number}

@@ -1,11 +1,11 @@
 -- The table of a file: a constant's cell stored in it.
-use Prim.Native.Nat.{ℕ, suc, ◌+◌, ◌-◌, ◌*◌, ◌<◌, ◌≤◌}
-use mathlib.Core.List.{List, [], ◌∷◌, ◌++◌, append_assoc}
-use mathlib.Core.Path.{◌≡◌, refl, sym, ap, ap₂, ◌∙◌}
+use Prim.Native.Nat.{ℕ, ◌+◌, ◌-◌, ◌*◌, ◌<◌, ◌≤◌}
+use mathlib.Core.List.{List, ◌++◌, append_assoc}
+use mathlib.Core.Path.{◌≡◌, sym, ap, ◌∙◌}
 use native.Mathlib.Omega.{arith}
-use lib.ListN.{length, take, drop, get_or, set, length-set, length-append, length-drop, get_or-append}
+use lib.ListN.{length, take, drop, get_or, set, length-append, length-drop, get_or-append}
 use lib.Seq.{get_or-take, get_or-set_same, get_or-set_other, drop-set-lt, drop-drop, drop_at, take_at, take-add, length-take-le}
-use Rattle.ol_theory.specs.Member.{◌∈◌, upto}
+use Rattle.ol_theory.specs.Member.{upto}
 use Rattle.ol_theory.proofs.Members.{map_cong, in_upto}
 use Rattle.ol_tables.specs.Table.{number_at, rows_of, known_of, consts_of, tab_of}
 

@@ -1,5 +1,5 @@
 -- The constants' values: what evaluating them asks and gives.
-use Rattle.std.specs.Prelude.{ℕ, suc, ◌+◌, ◌<◌, ◌≤◌, false, List, [], ◌≡◌, length, take, get_or}
+use Rattle.std.specs.Prelude.{ℕ, ◌+◌, ◌<◌, ◌≤◌, false, List, [], ◌≡◌, length, get_or}
 use Rattle.ol_spec.specs.Syntax.{bool, bool_lit, Constant}
 use Rattle.ol_spec.specs.Places.{placed_constants, collect_all}
 use Rattle.ol_spec.specs.Cell.{cells, values_of}
@@ -8,7 +8,7 @@ use Rattle.ol_spec.specs.Eval.{callees_all, eval, then_out}
 use Rattle.ol_spec.specs.Admission.{used_at, calls_where, bad_call, value_place, no_variables, no_calls, Constants, all, stuck_at}
 use Rattle.ol_spec.specs.declared.Outcome.{Outcome}
 use Rattle.ol_spec.specs.declared.Outcome.TheVariants as Out
-use Rattle.ol_tables.specs.At.{file_at, node_in, expr_at, end_at, exprs_at, ReadsAll}
+use Rattle.ol_tables.specs.At.{file_at, node_in, expr_at, exprs_at, ReadsAll}
 use Rattle.ol_tables.specs.Tables.{Each, Sound, ty_code}
 use Rattle.ol_tables.specs.Parts.{Proper}
 use Rattle.ol_tables.specs.Table.{tab_of, rows_of}

@@ -1,9 +1,7 @@
-use mathlib.Core.Path.{◌≡◌, refl, sym, ap, subst, ◌∙◌}
-use Prim.Native.Nat.{ℕ, ◌+◌, ◌-◌, ◌*◌, ◌≤◌, ◌<◌}
-use native.Mathlib.Omega.{arith}
+use mathlib.Core.Path.{◌≡◌}
+use Prim.Native.Nat.{◌-◌, ◌≤◌}
 use lib.ListN.{length}
 use Rattle.ol_frame.specs.Stores.{Assigns}
-use Rattle.ol_frame.proofs.Storing.{assigns_none, assigns_turn, assign_storable}
 use Rattle.ol_tables.specs.Table.{tab_of}
 use Rattle.ol_frame.proofs.copies.assign.Given as goal
 

@@ -2,7 +2,6 @@ use native.Mathlib.Omega.{arith}
 use Rattle.ol_spec.specs.Cell.{values_of}
 use Rattle.ol_tables.proofs.Lending.{length_put}
 use Rattle.ol_frame.proofs.Copying.{record_finished}
-use borrow.Author.Rules.{rules}
 use Rattle.ol_frame.proofs.copies.finish.Goals as goal
 
 pub returns : goal.returns

@@ -1,16 +1,12 @@
 use mathlib.Core.Path.{sym, ap, ◌∙◌}
 use mathlib.Core.Bool.{Bool}
-use Rattle.ol_spec.specs.declared.Value.{Value}
 use Rattle.ol_spec.specs.Types.{fit}
-use Rattle.ol_spec.specs.Cell.{cell, value_of}
 use Prim.Native.Nat.{ℕ}
-use mathlib.Core.Path.{◌≡◌}
 use Rattle.ol_tables.specs.Tables.{code_at}
 use Rattle.ol_value.specs.Codes.{ty_of}
 use Rattle.ol_frame.specs.Stores.{passed_by}
 use Rattle.ol_frame.proofs.Storing.{kept_back}
 use Rattle.ol_tables.specs.Table.{tab_of}
-use borrow.Author.Rules.{rules}
 use Rattle.ol_frame.proofs.copies.passed.Goals as goal
 
 pub returns-then-fits : goal.returns-then-fits

@@ -1,9 +1,7 @@
-use mathlib.Core.Path.{◌≡◌, refl, sym, ap, subst, ◌∙◌}
-use Prim.Native.Nat.{ℕ, ◌+◌, ◌-◌, ◌*◌, ◌≤◌, ◌<◌}
-use native.Mathlib.Omega.{arith}
+use mathlib.Core.Path.{subst}
+use Prim.Native.Nat.{ℕ}
 use Rattle.ol_frame.specs.Stores.{Leaves}
 use Rattle.ol_frame.proofs.Storing.{one_output, other_outputs, failed_call, overflowed_call}
-use borrow.Author.Rules.{rules}
 use Rattle.ol_frame.proofs.copies.single_out.Goals as goal
 
 pub read_cell-requires : goal.read_cell-requires

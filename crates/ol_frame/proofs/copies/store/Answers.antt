@@ -1,10 +1,9 @@
-use mathlib.Core.Path.{sym, ap, ◌∙◌}
+use mathlib.Core.Path.{ap, ◌∙◌}
 use native.Mathlib.Omega.{arith}
 use Rattle.ol_frame.proofs.Storing.{stored, unstored, kept_back, slot_room}
 use Rattle.ol_tables.specs.Table.{tab_of}
 use Rattle.ol_spec.specs.Types.{fit}
 use Rattle.ol_value.specs.Codes.{ty_of}
-use borrow.Author.Rules.{rules}
 use Rattle.ol_frame.proofs.copies.store.Goals as goal
 
 pub write_cell-requires : goal.write_cell-requires

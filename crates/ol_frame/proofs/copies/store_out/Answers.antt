@@ -1,11 +1,10 @@
-use mathlib.Core.Path.{refl, sym, ap, subst, ◌∙◌}
+use mathlib.Core.Path.{sym, ap, ◌∙◌}
 use Rattle.ol_spec.specs.Eval.{several}
 use Rattle.ol_spec.specs.declared.Outcome.TheVariants as Out
 use Rattle.ol_spec.specs.declared.Outcome.{Outcome}
 use Rattle.ol_frame.specs.Outcomes.{ending_of}
 use Rattle.ol_frame.proofs.Storing.{out_stored, out_none, no_failure, no_overflow}
 use Rattle.ol_tables.specs.Table.{tab_of}
-use borrow.Author.Rules.{rules}
 use Rattle.ol_frame.proofs.copies.store_out.Goals as goal
 
 pub returns-in-Value : goal.returns-in-Value

@@ -1,10 +1,8 @@
-use mathlib.Core.Path.{◌≡◌, refl, sym, ap, subst, ◌∙◌}
+use mathlib.Core.Path.{◌≡◌}
 use mathlib.Core.List.{◌++◌}
-use Prim.Native.Nat.{ℕ, ◌+◌, ◌-◌, ◌*◌, ◌≤◌, ◌<◌}
-use native.Mathlib.Omega.{arith}
-use lib.ListN.{length, drop}
+use Prim.Native.Nat.{◌-◌, ◌*◌, ◌≤◌}
+use lib.ListN.{drop}
 use Rattle.ol_spec.specs.Cell.{cells, values_of}
-use Rattle.ol_frame.proofs.Copying.{copied_turn, copied_length}
 use Rattle.ol_frame.proofs.copies.write_cells.Given as goal
 
 abbrev pub invariant-loop-i : goal.invariant-loop-i

@@ -1,6 +1,5 @@
 use Rattle.ol_tables.specs.Table.{tab_of}
 use Rattle.ol_frame.proofs.Framing.{bound_in, keeps_put}
-use borrow.Author.Rules.{rules}
 use Rattle.ol_frame.proofs.frame.bind.Goals as goal
 
 pub returns : goal.returns

@@ -1,6 +1,5 @@
 use Rattle.ol_tables.specs.Table.{tab_of, rows_of}
 use Rattle.ol_frame.proofs.Framing.{frame_freshened}
-use borrow.Author.Rules.{rules}
 use Rattle.ol_frame.proofs.frame.fresh_frame.Goals as goal
 
 pub returns : goal.returns

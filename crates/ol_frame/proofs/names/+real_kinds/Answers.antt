@@ -1,19 +1,17 @@
 use mathlib.Core.Path.{◌≡◌, refl, sym, ap, subst, ◌∙◌}
-use mathlib.Core.Bool.{Bool, true, false}
-use Prim.Native.Nat.{ℕ, ◌+◌, ◌-◌, ◌*◌, ◌≤◌, ◌<◌}
+use mathlib.Core.Bool.{false}
+use Prim.Native.Nat.{ℕ, ◌+◌, ◌-◌, ◌≤◌}
 use native.Mathlib.Omega.{arith}
-use lib.ListN.{get_or, length}
+use lib.ListN.{get_or}
 use Rattle.ol_spec.specs.Syntax.{Expr}
-use Rattle.ol_spec.specs.Eval.{real_kind, RealKind, not_real, join, arithmetic, present_of}
-use Rattle.ol_spec.specs.declared.Outcome.{Outcome}
-use Rattle.ol_tables.specs.At.{expr_at, end_at, node_in}
+use Rattle.ol_spec.specs.Eval.{real_kind, not_real, join, present_of}
 use Rattle.ol_tables.proofs.Forms.{reads_in, reads_deep, float_form, var_form, unary_form, binary_form, if_form, pre_form, arrow_form, cast_form, call_form, by_form, one_tree, type_some}
 use Rattle.ol_frame.specs.Outcomes.{kind_of, outcome_kind}
 use Rattle.ol_frame.specs.Plans.{globals_in, scope_in, name_at}
 use Rattle.ol_frame.proofs.RealKinds.{arithmetic_code, plain_code, bits_code, code_kind, present_kind}
-use Rattle.ol_frame.proofs.Planning.{plan_head, plan_name, plan_parts, plan_rest, plan_first, plan_call, plan_passable, segs_form, segs_cons, segs_first, segs_one}
-use Rattle.ol_tables.specs.Table.{tab_of, rows_of, consts_of}
-use Rattle.ol_frame.specs.Frame.{node_of, first_of, cells_of, before_of}
+use Rattle.ol_frame.proofs.Planning.{plan_head, plan_name, plan_parts, plan_rest, plan_first, plan_call, plan_passable, segs_form, segs_cons, segs_first}
+use Rattle.ol_tables.specs.Table.{consts_of}
+use Rattle.ol_frame.specs.Frame.{node_of, cells_of}
 use Rattle.ol_frame.proofs.Tabling.{rows_room}
 use Rattle.ol_frame.proofs.names.+real_kinds.Goals as goal
 

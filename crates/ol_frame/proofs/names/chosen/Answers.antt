@@ -1,13 +1,12 @@
-use mathlib.Core.Path.{◌≡◌, refl, sym, ap, subst, ◌∙◌}
+use mathlib.Core.Path.{sym, ap, ◌∙◌}
 use Rattle.ol_spec.specs.Eval.{RealKind, real_kind, is_double?}
 use Rattle.ol_tables.specs.At.{expr_at}
-use mathlib.Core.Bool.{Bool, true, false}
+use mathlib.Core.Bool.{false}
 use Rattle.ol_frame.specs.Outcomes.{common_out}
 use Rattle.ol_frame.specs.Plans.{globals_in, scope_in}
 use Rattle.ol_frame.proofs.RealKinds.{common_plain}
-use Rattle.ol_tables.specs.Table.{tab_of, rows_of, consts_of}
-use Rattle.ol_frame.specs.Frame.{node_of, first_of, cells_of, before_of}
-use borrow.Author.Rules.{rules}
+use Rattle.ol_tables.specs.Table.{consts_of}
+use Rattle.ol_frame.specs.Frame.{node_of, cells_of}
 use Rattle.ol_frame.proofs.names.chosen.Goals as goal
 
 pub real_kind-k-requires : goal.real_kind-k-requires

@@ -1,21 +1,18 @@
-use mathlib.Core.Path.{◌≡◌, refl, sym, ap, subst, ◌∙◌}
-use mathlib.Core.Bool.{Bool, true, false}
-use Prim.Native.Nat.{ℕ, ◌+◌, ◌-◌, ◌*◌}
+use mathlib.Core.Path.{sym, ap, ◌∙◌}
+use Prim.Native.Nat.{ℕ, ◌+◌}
 use native.Mathlib.Omega.{arith}
 use lib.ListN.{get_or, take, drop}
-use Rattle.ol_spec.specs.Syntax.{Expr, var, pre}
+use Rattle.ol_spec.specs.Syntax.{Expr}
 use Rattle.ol_spec.specs.Eval.{eval}
 use Rattle.ol_spec.specs.Cell.{value_by}
 use Rattle.ol_spec.specs.Numbers.{number_of}
-use Rattle.ol_spec.specs.declared.Value.TheVariants as Val
 use Rattle.ol_spec.specs.declared.Outcome.TheVariants as Out
 use Rattle.ol_tables.proofs.Forms.{reads_in, reads_deep, bool_form, int_form, float_form, char_form, var_form, pre_form, tuple_form, some_code, last_code}
 use Rattle.ol_frame.specs.Plans.{eval_in}
 use Rattle.ol_frame.proofs.Naming.{value_at_lem}
 use Rattle.ol_frame.proofs.Planning.{plan_head, plan_name, plan_looked}
-use Rattle.ol_tables.specs.Table.{tab_of, rows_of, consts_of}
+use Rattle.ol_tables.specs.Table.{consts_of}
 use Rattle.ol_frame.specs.Frame.{node_of, first_of, cells_of, before_of}
-use borrow.Author.Rules.{rules}
 use Rattle.ol_frame.proofs.names.leaf_out.Goals as goal
 
 pub bounds-file-at : goal.bounds-file-at

@@ -1,15 +1,14 @@
-use mathlib.Core.Path.{◌≡◌, refl, sym, ap, subst, ◌∙◌}
+use mathlib.Core.Path.{sym, ap, ◌∙◌}
 use mathlib.Core.Bool.{false}
-use Prim.Native.Nat.{ℕ, ◌+◌, ◌-◌, ◌*◌}
+use Prim.Native.Nat.{◌-◌, ◌*◌}
 use Rattle.ol_spec.specs.Cell.{value_of}
 use Rattle.ol_frame.proofs.Tabling.{frame_cell, frame_room, const_cell, const_room}
 use native.Mathlib.Omega.{arith}
 use Rattle.ol_spec.specs.Eval.{or_failure}
 use Rattle.ol_spec.specs.declared.Outcome.TheVariants as Out
 use Rattle.ol_frame.proofs.Naming.{slot_cell, known_cell, is_variable, is_constant, is_variant_lem}
-use Rattle.ol_tables.specs.Table.{tab_of, rows_of, consts_of}
-use Rattle.ol_frame.specs.Frame.{node_of, first_of, cells_of, before_of}
-use borrow.Author.Rules.{rules}
+use Rattle.ol_tables.specs.Table.{tab_of, consts_of}
+use Rattle.ol_frame.specs.Frame.{node_of, cells_of}
 use Rattle.ol_frame.proofs.names.present.Goals as goal
 
 pub read_cell-requires : goal.read_cell-requires

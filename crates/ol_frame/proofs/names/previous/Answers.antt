@@ -1,22 +1,19 @@
-use mathlib.Core.Path.{◌≡◌, refl, sym, ap, subst, ◌∙◌}
-use mathlib.Core.Bool.{Bool, true, false}
-use mathlib.Core.Option.{Option, none, some}
-use Prim.Native.Nat.{ℕ, ◌+◌, ◌-◌, ◌*◌}
+use mathlib.Core.Path.{◌≡◌, sym, ap, ◌∙◌}
+use mathlib.Core.Bool.{Bool}
+use mathlib.Core.Option.{none, some}
+use Prim.Native.Nat.{◌+◌, ◌-◌, ◌*◌}
 use Rattle.ol_spec.specs.Cell.{value_of}
 use Rattle.ol_frame.proofs.Tabling.{before_cell, before_room, const_cell, const_room}
 use native.Mathlib.Omega.{arith}
-use lib.ListN.{get_or}
-use Rattle.ol_spec.specs.Lists.{maybe}
-use Rattle.ol_spec.specs.Eval.{or_failure, pre_of}
+use Rattle.ol_spec.specs.Eval.{pre_of}
 use Rattle.ol_spec.specs.declared.Outcome.TheVariants as Out
 use Rattle.ol_spec.specs.declared.Cause.TheVariants as Why
 use Rattle.ol_tables.specs.At.{expr_at}
 use Rattle.ol_tables.proofs.Forms.{reads_in, var_form}
 use Rattle.ol_frame.specs.Plans.{globals_in, scope_in}
 use Rattle.ol_frame.proofs.Naming.{slot_cell, known_cell, was_variable, was_constant, was_variant, is_name, no_name, pre_is, pre_none}
-use Rattle.ol_tables.specs.Table.{tab_of, rows_of, consts_of}
-use Rattle.ol_frame.specs.Frame.{node_of, first_of, cells_of, before_of}
-use borrow.Author.Rules.{rules}
+use Rattle.ol_tables.specs.Table.{tab_of, consts_of}
+use Rattle.ol_frame.specs.Frame.{node_of, first_of, before_of}
 use Rattle.ol_frame.proofs.names.previous.Goals as goal
 
 pub is_first-requires : goal.is_first-requires

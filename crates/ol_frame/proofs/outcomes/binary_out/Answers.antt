@@ -1,6 +1,5 @@
-use mathlib.Core.Path.{◌≡◌, refl, sym, ap, subst, ◌∙◌}
+use mathlib.Core.Path.{sym, ◌∙◌}
 use Rattle.ol_frame.specs.Outcomes.{binary_out}
-use borrow.Author.Rules.{rules}
 use Rattle.ol_frame.proofs.outcomes.binary_out.Goals as goal
 
 pub returns-in-Value-r : goal.returns-in-Value-r

@@ -1,8 +1,7 @@
-use mathlib.Core.Path.{◌≡◌, refl, sym, ap, subst, ◌∙◌}
+use mathlib.Core.Path.{sym, ap, ◌∙◌}
 use Rattle.ol_spec.specs.Eval.{then_out}
 use Rattle.ol_spec.specs.Types.{cast_to}
 use Rattle.ol_value.specs.Codes.{ty_of}
-use borrow.Author.Rules.{rules}
 use Rattle.ol_frame.proofs.outcomes.cast_out.Goals as goal
 
 pub returns-in-Value : goal.returns-in-Value

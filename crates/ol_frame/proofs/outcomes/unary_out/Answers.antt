@@ -1,7 +1,6 @@
-use mathlib.Core.Path.{◌≡◌, refl, sym, ap, subst, ◌∙◌}
+use mathlib.Core.Path.{sym, ap, ◌∙◌}
 use Rattle.ol_spec.specs.Eval.{then_out}
 use Rattle.ol_value.specs.Codes.{unary_by}
-use borrow.Author.Rules.{rules}
 use Rattle.ol_frame.proofs.outcomes.unary_out.Goals as goal
 
 pub returns-in-Value : goal.returns-in-Value

@@ -1,7 +1,6 @@
 use native.Mathlib.Omega.{arith}
 use Rattle.ol_tables.proofs.Forms.{parted, reads_in}
 use Rattle.ol_frame.proofs.Passing.{head_passed}
-use borrow.Author.Rules.{rules}
 use Rattle.ol_frame.proofs.skip.pass.Goals as goal
 
 pub bounds-file-at : goal.bounds-file-at

@@ -1,11 +1,7 @@
-use mathlib.Core.Path.{subst, sym}
+use mathlib.Core.Path.{subst}
 use native.Mathlib.Omega.{arith}
-use Prim.Native.Nat.{◌-◌}
-use lib.ListN.{length}
-use Rattle.ol_spec.specs.Eval.{callees_all}
-use Rattle.ol_tables.specs.At.{exprs_at, ends_at}
 use Rattle.ol_tables.specs.Walks.{Calls}
-use Rattle.ol_frame.proofs.Passing.{Rest, rest_start, met_below, met_room, met_on, rest_done}
+use Rattle.ol_frame.proofs.Passing.{rest_start, met_below, met_room, met_on, rest_done}
 use Rattle.ol_frame.proofs.skip.pass_all.Goals as goal
 
 pub loop-next-init : goal.loop-next-init

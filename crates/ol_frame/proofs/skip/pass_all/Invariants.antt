@@ -1,11 +1,8 @@
-use mathlib.Core.Path.{subst, sym}
-use native.Mathlib.Omega.{arith}
 use Prim.Native.Nat.{◌-◌}
 use lib.ListN.{length}
 use Rattle.ol_spec.specs.Eval.{callees_all}
 use Rattle.ol_tables.specs.At.{exprs_at, ends_at}
-use Rattle.ol_tables.specs.Walks.{Calls}
-use Rattle.ol_frame.proofs.Passing.{Rest, rest_start, met_below, met_room, met_on, rest_done}
+use Rattle.ol_frame.proofs.Passing.{Rest}
 use Rattle.ol_frame.proofs.skip.pass_all.Given as goal
 
 abbrev pub invariant-loop-next : goal.invariant-loop-next

@@ -1,18 +1,14 @@
-use mathlib.Core.Path.{◌≡◌, refl, sym, ap, subst, ◌∙◌}
-use mathlib.Core.Bool.{cond}
+use mathlib.Core.Path.{ap, ◌∙◌}
 use Prim.Native.Nat.{ℕ, ◌+◌}
 use native.Mathlib.Omega.{arith}
-use lib.Dec.{eqb}
 use lib.ListN.{get_or}
 use Rattle.ol_tables.specs.Table.{consts_of}
 use Rattle.ol_tables.proofs.Forms.{one_tree}
 use Rattle.ol_frame.specs.Plans.{known_in}
-use Rattle.ol_frame.specs.Walk.{SkipsTo}
 use Rattle.ol_frame.proofs.Tabling.{rows_room}
 use Rattle.ol_run.specs.Constants.{value_at}
 use Rattle.ol_run.proofs.Constant.{size_few, place_of, constant_passable}
 use Rattle.ol_eval.proofs.Readying.{moved_skip}
-use borrow.Author.Rules.{rules}
 use Rattle.ol_run.proofs.constants.constant_end.Goals as goal
 
 pub overflow_add-p : goal.overflow_add-p

@@ -1,18 +1,14 @@
-use mathlib.Core.Path.{◌≡◌, refl, sym, ap, subst, ◌∙◌}
-use mathlib.Core.Bool.{Bool, true, false, cond}
-use mathlib.Core.List.{List, [], ◌∷◌}
+use mathlib.Core.Path.{refl, ap, subst}
+use mathlib.Core.Bool.{Bool, true}
+use mathlib.Core.List.{[], ◌∷◌}
 use Prim.Native.Nat.{ℕ, ◌+◌}
 use native.Mathlib.Omega.{arith}
-use lib.Dec.{eqb}
 use lib.ListN.{get_or}
 use Rattle.ol_tables.specs.Table.{consts_of}
 use Rattle.ol_eval.specs.Post.{EvalsTo}
-use Rattle.ol_frame.specs.Frame.{node_of, first_of, cells_of, before_of}
-use Rattle.ol_frame.specs.Plans.{known_in}
-use Rattle.ol_run.specs.Constants.{value_at, constant_at}
+use Rattle.ol_frame.specs.Frame.{node_of, cells_of, before_of}
 use Rattle.ol_frame.specs.Walk.{nodes_in}
 use Rattle.ol_run.proofs.Constant.{size_few, constant_ready, constant_out_lem, value_place_lem}
-use borrow.Author.Rules.{rules}
 use Rattle.ol_run.proofs.constants.constant_value.Goals as goal
 
 pub overflow_add-p : goal.overflow_add-p

@@ -1,9 +1,8 @@
-use mathlib.Core.Path.{◌≡◌, refl, sym, ap, subst, ◌∙◌}
+use mathlib.Core.Path.{sym, ap, ◌∙◌}
 use Rattle.ol_spec.specs.Types.{fit}
 use Rattle.ol_spec.specs.Eval.{then_out}
 use Rattle.ol_spec.specs.declared.Outcome.TheVariants as Out
 use Rattle.ol_value.specs.Codes.{ty_of}
-use borrow.Author.Rules.{rules}
 use Rattle.ol_run.proofs.constants.fitted.Goals as goal
 
 pub returns-in-Value : goal.returns-in-Value

@@ -1,8 +1,6 @@
-use borrow.Author.Rules.{rules}
 use mathlib.Core.Path.{refl, sym, ◌∙◌}
 use native.Mathlib.Omega.{arith}
 use Prim.Native.Nat.{◌*◌}
-use lib.ListN.{length}
 use Rattle.ol_frame.specs.Frame.{cells_of}
 use Rattle.ol_tables.proofs.Lending.{put_tail}
 use Rattle.ol_state.proofs.Parts.{known_room, known_head}

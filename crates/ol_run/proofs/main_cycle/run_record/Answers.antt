@@ -1,4 +1,3 @@
-use mathlib.Core.Path.{◌∙◌}
 use native.Mathlib.Omega.{arith}
 use Prim.Native.Nat.{◌+◌, ◌*◌}
 use Rattle.ol_frame.specs.Frame.{cells_of}
@@ -6,7 +5,6 @@ use Rattle.ol_tables.proofs.Lending.{length_put}
 use Rattle.ol_frame.proofs.NodeRows.{narrow}
 use Rattle.ol_frame.proofs.Tabling.{rows_room}
 use Rattle.ol_run.proofs.MainCycle.{inside, few, own_room, own_new, open_ready, record_runnable, record_ran}
-use borrow.Author.Rules.{rules}
 use Rattle.ol_run.proofs.main_cycle.run_record.Goals as goal
 
 pub row-n-requires : goal.row-n-requires
