@@ -3,7 +3,7 @@ use Rattle.std.specs.Prelude.{ℕ, List, [], ◌∷◌, ◌++◌, ◌≡◌, ref
 use Rattle.ol_spec.specs.Real.{from_bits, to_bits, add_r}
 use Rattle.rows.specs.Rows.{agreeing}
 use Rattle.ieee_vectors.specs.Operations.{result_of}
-use Rattle.ieee_vectors.specs.Lines.{number_at, answer_at, answers, results, whole, cut, right_in}
+use Rattle.ieee_vectors.specs.Lines.{number_at, answers, results, whole, cut, right_in}
 
 -- a number's sixteen digits: the first three, and zeros; and a byte between
 abbrev digits : ℕ → ℕ → ℕ → List ℕ

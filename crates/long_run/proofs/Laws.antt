@@ -1,5 +1,5 @@
 -- Laws of the run: a cycle counted, a pair, a turn, and the file's start.
-use Rattle.std.proofs.Common.{◌≡◌, ℕ, ◌+◌, ◌/◌, ◌%◌, Bool, true, false, cond, ◌&&◌, eqb, List, [], ◌∷◌, sym, refl, ap, ◌∙◌, add-one, arith, eq-eqb, ne_eqb, eqb-true}
+use Rattle.std.proofs.Common.{◌≡◌, ℕ, ◌+◌, ◌/◌, ◌%◌, Bool, true, false, ◌&&◌, eqb, List, [], ◌∷◌, sym, refl, ap, ◌∙◌, add-one, arith, eq-eqb, ne_eqb, eqb-true}
 use lib.Pointwise.{pointwise, bytes_decides}
 use Rattle.ol_spec.specs.Cycle.{start, cycle}
 use Rattle.ol_spec.specs.Limits.{relay_loader}
@@ -8,7 +8,7 @@ use Rattle.ol_spec.specs.declared.Started.{Started}
 use Rattle.ol_sim.specs.Calls.{StartsAs, CyclesAs}
 use Rattle.rows.specs.Rows.{all_agree}
 use Rattle.long_run.specs.declared.Tally.{Tally}
-use Rattle.long_run.specs.Runs.{is_answered, is_done, more, none, counted, Stand, stand, forth, back, both, inputs_at, after, Stepped, Stands, run_of}
+use Rattle.long_run.specs.Runs.{is_answered, is_done, more, none, Stand, stand, forth, back, both, inputs_at, after, Stepped, Stands, run_of}
 
 -- ---- equal lists
 

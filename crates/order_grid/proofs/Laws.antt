@@ -1,5 +1,5 @@
 -- Laws of rows, marks and counts.
-use Prim.Native.Nat.{ℕ, zero, suc, ◌+◌, ◌-◌, ◌*◌, ◌≤◌, ◌<◌}
+use Prim.Native.Nat.{ℕ, zero, suc, ◌+◌, ◌≤◌, ◌<◌}
 use native.Mathlib.Numerals.{add-one}
 use native.Mathlib.Omega.{arith}
 use mathlib.Core.Bool.{Bool, true, false}
@@ -12,7 +12,7 @@ use Rattle.ol_ir.specs.Nexts.{reading_of}
 use Rattle.ol_spec.specs.Limits.{relay_loader}
 use Rattle.ol_spec.specs.Read.{read_file}
 use Rattle.ol_spec.specs.declared.Fault.{Fault}
-use Rattle.order_grid.specs.Questions.{reading_fault, refusal_agrees, row_of, Question, reading, ordered, agrees, good_in, Tallied, Asked, order_agrees, read_agrees}
+use Rattle.order_grid.specs.Questions.{reading_fault, refusal_agrees, row_of, Question, reading, ordered, agrees, good_in, Tallied, Asked, read_agrees}
 
 -- an entry more of a row behind its first two words h
 pub row_more : (h entries row : List ℕ) (i : ℕ) → i < length entries → i + 2 < length row → take (i + 2) row ≡ h ++ take i entries → take (i + 1 + 2) (set row (i + 2) (get_or entries i 0)) ≡ h ++ take (i + 1) entries

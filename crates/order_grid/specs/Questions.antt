@@ -1,5 +1,5 @@
 -- The questions of the list, and whether each is answered as it says. A row is an answer's number and place, and what each entry of the lent buffer holds then. An entry holds 170 before the call.
-use Rattle.std.specs.Prelude.{ℕ, ◌+◌, ◌-◌, Bool, true, false, cond, ◌&&◌, List, [], ◌∷◌, ◌≡◌, eqb, length, replicate}
+use Rattle.std.specs.Prelude.{ℕ, ◌+◌, ◌-◌, Bool, true, false, cond, List, [], ◌∷◌, ◌≡◌, eqb, length, replicate}
 use Rattle.ol_spec.specs.Answers.{no_fault, sorted_fault}
 use Rattle.ol_spec.specs.Cycle.{OrderingCall, ordering}
 use Rattle.ol_spec.specs.Limits.{relay_loader}

@@ -1,23 +1,23 @@
 -- What a line asks for, case by case.
 use Prim.Native.Nat.{ℕ, zero, suc, ◌+◌, ◌≤◌, ◌<◌}
-use mathlib.Core.Bool.{Bool, true, false, not, cond, ◌&&◌, ◌||◌}
+use mathlib.Core.Bool.{Bool, true, false, cond, ◌||◌}
 use mathlib.Core.List.{List, [], ◌∷◌}
 use mathlib.Core.Option.{Option, none, some}
-use mathlib.Core.Path.{◌≡◌, refl, sym, ap, subst, ◌∙◌}
+use mathlib.Core.Path.{◌≡◌, refl, sym, ap, ◌∙◌}
 use native.Mathlib.Omega.{arith}
 use lib.ListN.{length, take, get_or}
 use lib.Pointwise.{pointwise, bytes_decides}
 use lib.Dec.{T, eqb, leb, ltb, eqb→eq, le→leb, lt→ltb, leb→le, ltb→lt}
 use Rattle.ol_spec.specs.Lists.{same}
-use Rattle.ol_spec.proofs.Tests.{T_and, T_true, true_t, T_false, eq_eqb}
-use Rattle.relay_text.specs.Text.{word_from, word_at, word_number, behind, words_up_to, bytes_of, number_of, Decoded}
+use Rattle.ol_spec.proofs.Tests.{T_and, T_true, T_false, eq_eqb}
+use Rattle.relay_text.specs.Text.{word_number, behind, words_up_to, bytes_of, number_of, Decoded}
 use Rattle.relay_text.specs.Lines.{word_text}
 use Rattle.relay_text.specs.declared.Word.{Word}
 use Rattle.relay_text.specs.declared.Hex.{Hex}
 use Rattle.relay_text.specs.declared.Hex.TheVariants as Hx
 use Rattle.relay_text.specs.declared.Number.{Number}
 use Rattle.relay_text.specs.declared.Number.TheVariants as Num
-use Rattle.relay.specs.Requests.{Line, silent, wrong, about, order_of, cycle_of, cycle_at, file_word, order_name, start_word, load_word, cycle_word, at_word, command_of, fits_words, with_bytes, with_number, with_lengths, both_of, lengths_of, asked_by, is_silent, asks_as, asks}
+use Rattle.relay.specs.Requests.{Line, silent, wrong, about, cycle_of, cycle_at, file_word, order_name, start_word, load_word, cycle_word, at_word, command_of, fits_words, with_bytes, with_number, with_lengths, both_of, lengths_of, asked_by, is_silent, asks}
 use Rattle.relay.specs.declared.request.Command.{Command}
 use Rattle.relay.specs.declared.request.Command.TheVariants as Com
 use Rattle.relay.specs.declared.request.Lengths.{Lengths}

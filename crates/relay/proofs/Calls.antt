@@ -10,7 +10,7 @@ use native.Mathlib.Decide.{ℕ_discrete}
 use lib.ListN.{length, take, get_elem?, get_or, length-take, length-replicate}
 use lib.Dec.{T, eqb, ltb, eqb→eq, nltb→le}
 use Rattle.ol_spec.specs.Limits.{relay_loader}
-use Rattle.ol_spec.specs.Lists.{maybe, same}
+use Rattle.ol_spec.specs.Lists.{maybe}
 use Rattle.ol_spec.specs.Syntax.{Node, File, variables, main, no_node}
 use Rattle.ol_spec.specs.Places.{placed, node_size, nodes_start, placed_nodes}
 use Rattle.ol_spec.specs.Read.{Read, got, fault, read_file}
@@ -18,7 +18,6 @@ use Rattle.ol_spec.specs.Order.{unplaced}
 use Rattle.ol_spec.specs.Step.{Ended, finished, failed_at, overflowed_at, Run}
 use Rattle.ol_spec.specs.Admission.{Judged, refused, admitted, judge, verdict, admission, state_size, at_main}
 use Rattle.ol_spec.specs.State.{good_state, good_inputs}
-use Rattle.ol_spec.specs.Cell.{cells}
 use Rattle.ol_spec.specs.Answers.{verdict_length}
 use Rattle.ol_spec.specs.Cycle.{measure, lengths, ordering, order_read, order_node, order_unless_ring, order_fits, start, start_judged, CycleCall, cycle, cycle_judged, cycle_unless, end_on, fits17, main_run}
 use Rattle.ol_spec.specs.Demand3.{Bytes}

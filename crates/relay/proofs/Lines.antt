@@ -9,7 +9,7 @@ use native.Mathlib.Decide.{dec_le}
 use lib.ListN.{length, take, drop, get_or, set, length-take, length-set, drop_of_length-le}
 use lib.Seq.{take_all, length-take-le, take-append-le, take-suc-set, drop-cons, get_or-take}
 use lib.Dec.{eqb, eqb→eq}
-use Rattle.ol_spec.proofs.Tests.{T_true, T_false, true_t, eq_eqb}
+use Rattle.ol_spec.proofs.Tests.{T_true, T_false, eq_eqb}
 use Rattle.relay_text.specs.Lines.{Said}
 use Rattle.relay.specs.Requests.{asks}
 use Rattle.relay.specs.Reply.{Standing, Reply, obey, reply}

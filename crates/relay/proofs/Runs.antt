@@ -6,13 +6,13 @@ use mathlib.Core.Path.{◌≡◌, refl, sym, ap, subst, ◌∙◌}
 use mathlib.Core.Logic.{by_cases}
 use native.Mathlib.Omega.{arith}
 use native.Mathlib.Decide.{dec_le}
-use lib.ListN.{length, take, drop, length-take, length-append, drop_of_length-le}
+use lib.ListN.{length, take, length-take, length-append, drop_of_length-le}
 use lib.Dec.{eqb, eqb→eq}
 use Rattle.ol_spec.proofs.Tests.{T_false}
 use Rattle.relay_text.specs.Lines.{Said}
 use Rattle.relay.specs.Reply.{Standing, closed, opened, reply}
-use Rattle.relay.specs.Kept.{standing, Replies}
-use Rattle.relay.specs.Turns.{line_of, rest_of, has_end, cut, unread, begun, waits_for, waits_at, gone, Refills, Turned}
+use Rattle.relay.specs.Kept.{standing}
+use Rattle.relay.specs.Turns.{line_of, rest_of, has_end, cut, unread, waits_for, waits_at, gone, Refills, Turned}
 use Rattle.relay.specs.Sessions.{behind, ended_by, lines_from, tail_from, lines_of, tail_of, last_line, all_lines, session, last_text, Served}
 use Rattle.relay.specs.declared.Input.{Input}
 use Rattle.relay.specs.declared.Turn.{Turn}

@@ -1,5 +1,5 @@
 -- What a line is answered with, and what stands then: oracle/README.md's protocol over the public calls.
-use Rattle.std.specs.Prelude.{ℕ, ◌*◌, cond, List, [], ◌∷◌, ◌++◌, length, replicate, eqb, leb}
+use Rattle.std.specs.Prelude.{ℕ, ◌*◌, cond, List, [], ◌∷◌, length, replicate, eqb, leb}
 use Rattle.ol_spec.specs.Limits.{relay_loader}
 use Rattle.ol_spec.specs.Syntax.{variables, main}
 use Rattle.ol_spec.specs.Read.{read_file}

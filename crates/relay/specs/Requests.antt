@@ -1,5 +1,5 @@
 -- What a line asks for: oracle/README.md's protocol, line by line.
-use Rattle.std.specs.Prelude.{ℕ, ◌+◌, Bool, true, false, cond, ◌||◌, List, [], ◌∷◌, length, get_or, eqb, ltb, leb}
+use Rattle.std.specs.Prelude.{ℕ, ◌+◌, Bool, true, cond, ◌||◌, List, [], ◌∷◌, length, get_or, eqb, ltb, leb}
 use Rattle.std.proofs.Math.Option.{Option, none, some}
 use Rattle.ol_spec.specs.Lists.{same}
 use Rattle.relay_text.specs.Text.{word_from, words_up_to, bytes_of, number_of}

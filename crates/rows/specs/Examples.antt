@@ -1,5 +1,5 @@
 -- Executed examples of the comparison.
-use Rattle.std.specs.Prelude.{ℕ, true, false, List, [], ◌∷◌, ◌≡◌, refl}
+use Rattle.std.specs.Prelude.{true, false, [], ◌∷◌, ◌≡◌, refl}
 use Rattle.rows.specs.Rows.{agreeing, first_other, all_agree}
 
 -- all rows agree; one in the middle does not; the last does not; a list is cut; one is empty

@@ -1,5 +1,5 @@
 -- The questions of the list, and whether each is answered as it says. The grid has 42 cells; an enum has the names 100 and 200.
-use Rattle.std.specs.Prelude.{ℕ, ◌+◌, ◌*◌, ◌/◌, ◌%◌, Bool, true, false, cond, not, ◌&&◌, ◌||◌, List, [], ◌∷◌, ◌≡◌, ltb, eqb, length, take, drop}
+use Rattle.std.specs.Prelude.{ℕ, ◌+◌, ◌*◌, ◌/◌, ◌%◌, Bool, false, cond, not, ◌&&◌, ◌||◌, List, [], ◌∷◌, ◌≡◌, ltb, eqb, length, take, drop}
 use Rattle.ol_spec.specs.Answers.{outcome_number}
 use Rattle.ol_spec.specs.Cell.{tag, cell, value_of}
 use Rattle.ol_spec.specs.Lists.{same}

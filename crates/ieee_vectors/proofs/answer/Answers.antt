@@ -1,5 +1,4 @@
 use Rattle.ieee_vectors.proofs.Laws.{answer_done, answer_sweep}
-use borrow.Author.Rules.{rules}
 use Rattle.ieee_vectors.proofs.answer.Goals as goal
 
 pub returns-then-op-lt128 : goal.returns-then-op-lt128

@@ -1,6 +1,4 @@
-use Prim.Native.Nat.{◌+◌, ◌*◌, ◌≤◌}
 use native.Mathlib.Omega.{arith}
-use Rattle.ieee_vectors.specs.Lines.{Total}
 use Rattle.ieee_vectors.proofs.Laws.{checked_most, total_none, total_more}
 use Rattle.ieee_vectors.proofs.check_all.Goals as goal
 

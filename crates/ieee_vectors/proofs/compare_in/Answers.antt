@@ -1,7 +1,6 @@
 use mathlib.Core.Path.{ap, ◌∙◌}
 use Rattle.ieee_vectors.specs.Lines.{results}
 use Rattle.ieee_vectors.proofs.Laws.{compares_moved}
-use borrow.Author.Rules.{rules}
 use Rattle.ieee_vectors.proofs.compare_in.Goals as goal
 
 pub returns : goal.returns

@@ -3,7 +3,6 @@ use mathlib.Core.Path.{sym, ap}
 use lib.Seq.{length-take-le}
 use Rattle.ieee_vectors.specs.Lines.{answers, results}
 use Rattle.ieee_vectors.proofs.Laws.{compares_moved}
-use borrow.Author.Rules.{rules}
 use Rattle.ieee_vectors.proofs.compare_rows.Goals as goal
 
 pub slice_bounds-compare_in-end : goal.slice_bounds-compare_in-end

@@ -3,7 +3,6 @@ use lib.ListN.{length}
 use native.Mathlib.Omega.{arith}
 use mathlib.Core.Path.{refl}
 use Rattle.ieee_vectors.proofs.Laws.{right_most, counted_cut, counted_whole}
-use borrow.Author.Rules.{rules}
 use Rattle.ieee_vectors.proofs.count_rows.Goals as goal
 
 pub overflow_sub-others : goal.overflow_sub-others

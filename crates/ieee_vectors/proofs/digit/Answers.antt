@@ -1,6 +1,5 @@
 use native.Mathlib.Omega.{arith}
 use Rattle.ieee_vectors.proofs.Laws.{digit_0, digit_1, digit_2, digit_3, digit_4}
-use borrow.Author.Rules.{rules}
 use Rattle.ieee_vectors.proofs.digit.Goals as goal
 
 pub returns-then-c-lt48 : goal.returns-then-c-lt48

@@ -1,9 +1,6 @@
 use Prim.Native.Nat.{◌≤◌, ◌-◌}
-use native.Mathlib.Omega.{arith}
-use mathlib.Core.Path.{◌≡◌, refl, sym, ap, ◌∙◌}
-use borrow.Author.Rules.{rules}
-use Rattle.ieee_vectors.specs.Lines.{push, number_at}
-use Rattle.ieee_vectors.proofs.Laws.{number_more}
+use mathlib.Core.Path.{◌≡◌}
+use Rattle.ieee_vectors.specs.Lines.{number_at}
 use Rattle.ieee_vectors.proofs.number.Given as goal
 
 abbrev pub invariant-loop-i : goal.invariant-loop-i

@@ -1,6 +1,4 @@
 use Prim.Native.Nat.{◌-◌}
-use native.Mathlib.Omega.{arith}
-use borrow.Author.Rules.{rules}
 use lib.ListN.{length}
 use Rattle.ieee_vectors.proofs.tell_others.Given as goal
 

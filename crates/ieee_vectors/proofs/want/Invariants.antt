@@ -1,11 +1,7 @@
-use lib.Seq.{take_all}
 use Prim.Native.Nat.{◌≤◌, ◌-◌}
-use native.Mathlib.Omega.{arith}
-use mathlib.Core.Path.{◌≡◌, refl, sym, ap, ◌∙◌}
-use borrow.Author.Rules.{rules}
-use lib.ListN.{length, take, length-set}
+use mathlib.Core.Path.{◌≡◌}
+use lib.ListN.{length, take}
 use Rattle.ieee_vectors.specs.Lines.{results}
-use Rattle.ieee_vectors.proofs.Laws.{results_more}
 use Rattle.ieee_vectors.proofs.want.Given as goal
 
 abbrev pub invariant-loop-k : goal.invariant-loop-k

@@ -1,4 +1,3 @@
-use Rattle.std.proofs.Common.{◌∙◌, rules}
 use Rattle.long_run.proofs.more.Goals as goal
 
 pub returns-then-so : goal.returns-then-so

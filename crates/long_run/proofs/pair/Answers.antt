@@ -1,5 +1,4 @@
 use Rattle.long_run.proofs.Laws.{paired}
-use Rattle.std.proofs.Common.{rules}
 use Rattle.long_run.proofs.pair.Goals as goal
 
 pub returns : goal.returns

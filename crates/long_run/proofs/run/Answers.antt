@@ -1,5 +1,5 @@
-use Rattle.std.proofs.Common.{◌≡◌, ◌-◌, ◌≤◌, length, sym, refl, ap, ◌∙◌, arith}
-use Rattle.long_run.specs.Runs.{none, stand, after, Stands}
+use Rattle.std.proofs.Common.{◌≡◌, refl, ◌∙◌, arith}
+use Rattle.long_run.specs.Runs.{none, stand}
 use Rattle.long_run.proofs.Laws.{after_none, after_more}
 use Rattle.long_run.proofs.run.Goals as goal
 

@@ -1,6 +1,5 @@
-use Rattle.std.proofs.Common.{◌≡◌, ◌-◌, ◌≤◌, length, sym, refl, ap, ◌∙◌, arith}
+use Rattle.std.proofs.Common.{◌≡◌, ◌-◌, ◌≤◌, length}
 use Rattle.long_run.specs.Runs.{none, stand, after, Stands}
-use Rattle.long_run.proofs.Laws.{after_none, after_more}
 use Rattle.long_run.proofs.run.Given as goal
 
 abbrev pub invariant-loop-i : goal.invariant-loop-i

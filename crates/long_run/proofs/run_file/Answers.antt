@@ -1,4 +1,4 @@
-use Rattle.std.proofs.Common.{sym, ◌∙◌, rules}
+use Rattle.std.proofs.Common.{sym, ◌∙◌}
 use Rattle.long_run.proofs.Laws.{run_done, run_unstarted, run_not_fresh}
 use Rattle.long_run.proofs.run_file.Goals as goal
 

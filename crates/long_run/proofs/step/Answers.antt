@@ -1,5 +1,4 @@
 use Rattle.long_run.proofs.Laws.{stepped_is, compared}
-use Rattle.std.proofs.Common.{rules}
 use Rattle.long_run.proofs.step.Goals as goal
 
 pub returns : goal.returns

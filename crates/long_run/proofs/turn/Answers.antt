@@ -1,5 +1,4 @@
 use Rattle.long_run.proofs.Laws.{inputs_first, inputs_second}
-use Rattle.std.proofs.Common.{rules}
 use Rattle.long_run.proofs.turn.Goals as goal
 
 pub returns-then-i-eq0 : goal.returns-then-i-eq0

@@ -1,6 +1,4 @@
-use Prim.Native.Nat.{◌≤◌, ◌-◌, ◌*◌}
 use native.Mathlib.Omega.{arith}
-use Rattle.order_grid.specs.Questions.{Tallied}
 use Rattle.order_grid.proofs.Laws.{tallied_most, tallied_none, tallied_both}
 use Rattle.order_grid.proofs.count_files.Goals as goal
 

@@ -1,7 +1,4 @@
-use Prim.Native.Nat.{◌≤◌, ◌-◌, ◌+◌}
 use native.Mathlib.Omega.{arith}
-use borrow.Author.Rules.{rules}
-use Rattle.order_grid.specs.Questions.{Tallied}
 use Rattle.order_grid.proofs.Laws.{tallied_most, tallied_none, asked_more}
 use Rattle.order_grid.proofs.count_orders.Goals as goal
 

@@ -1,8 +1,5 @@
-use Prim.Native.Nat.{◌≤◌, ◌-◌, ◌+◌}
-use native.Mathlib.Omega.{arith}
-use borrow.Author.Rules.{rules}
+use Prim.Native.Nat.{◌≤◌, ◌-◌}
 use Rattle.order_grid.specs.Questions.{Tallied}
-use Rattle.order_grid.proofs.Laws.{tallied_most, tallied_none, asked_more}
 use Rattle.order_grid.proofs.count_orders.Given as goal
 
 abbrev pub invariant-loop-all : goal.invariant-loop-all

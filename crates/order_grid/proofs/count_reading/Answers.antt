@@ -1,6 +1,5 @@
 use native.Mathlib.Omega.{arith}
 use Rattle.order_grid.proofs.Laws.{read_more}
-use borrow.Author.Rules.{rules}
 use Rattle.order_grid.proofs.count_reading.Goals as goal
 
 pub returns : goal.returns

@@ -2,9 +2,8 @@ use Prim.Native.Nat.{◌+◌}
 use native.Mathlib.Omega.{arith}
 use mathlib.Core.Path.{sym}
 use mathlib.Core.List.{◌++◌}
-use lib.ListN.{take, drop, length-append}
+use lib.ListN.{drop, length-append}
 use lib.Seq.{length-take-le}
-use borrow.Author.Rules.{rules}
 use Rattle.order_grid.proofs.next_agrees.Goals as goal
 
 pub slice_bounds-next_row-end : goal.slice_bounds-next_row-end

@@ -1,8 +1,6 @@
-use Prim.Native.Nat.{◌≤◌, ◌-◌}
 use native.Mathlib.Omega.{arith}
-use mathlib.Core.Path.{◌≡◌, refl, sym, ap, ◌∙◌}
-use borrow.Author.Rules.{rules}
-use lib.ListN.{length, set, length-set}
+use mathlib.Core.Path.{refl, ◌∙◌}
+use lib.ListN.{set, length-set}
 use Rattle.order_grid.proofs.next_row.Goals as goal
 
 pub bounds-row-1 : goal.bounds-row-1

@@ -8,7 +8,6 @@ use Rattle.ol_spec.specs.Limits.{relay_loader}
 use Rattle.rows.specs.Rows.{all_agree}
 use Rattle.order_grid.specs.Questions.{order_row, order_agrees}
 use Rattle.order_grid.proofs.Laws.{marks_taken}
-use borrow.Author.Rules.{rules}
 use Rattle.order_grid.proofs.order_agrees.Goals as goal
 
 pub slice_bounds-order_gives-end : goal.slice_bounds-order_gives-end

@@ -1,4 +1,3 @@
-use borrow.Author.Rules.{rules}
 use Rattle.order_grid.proofs.order_answer.Goals as goal
 
 pub returns-in-Done : goal.returns-in-Done

@@ -1,7 +1,6 @@
 use mathlib.Core.Path.{ap, ◌∙◌}
 use Rattle.rows.specs.Rows.{all_agree}
 use Rattle.order_grid.proofs.Laws.{row_is}
-use borrow.Author.Rules.{rules}
 use Rattle.order_grid.proofs.order_gives.Goals as goal
 
 pub returns : goal.returns

@@ -1,9 +1,7 @@
-use Prim.Native.Nat.{◌≤◌, ◌-◌, ◌+◌}
 use native.Mathlib.Omega.{arith}
-use mathlib.Core.Path.{◌≡◌, refl, sym, ap, ◌∙◌}
-use mathlib.Core.List.{◌++◌, append-nil}
-use borrow.Author.Rules.{rules}
-use lib.ListN.{length, take, set, length-set, take-append-drop}
+use mathlib.Core.Path.{refl, ◌∙◌}
+use mathlib.Core.List.{append-nil}
+use lib.ListN.{take, set, length-set}
 use Rattle.order_grid.proofs.Laws.{row_more, row_whole}
 use Rattle.order_grid.proofs.put_row.Goals as goal
 

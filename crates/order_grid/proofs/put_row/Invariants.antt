@@ -1,10 +1,7 @@
 use Prim.Native.Nat.{◌≤◌, ◌-◌, ◌+◌}
-use native.Mathlib.Omega.{arith}
-use mathlib.Core.Path.{◌≡◌, refl, sym, ap, ◌∙◌}
-use mathlib.Core.List.{◌++◌, append-nil}
-use borrow.Author.Rules.{rules}
-use lib.ListN.{length, take, set, length-set, take-append-drop}
-use Rattle.order_grid.proofs.Laws.{row_more, row_whole}
+use mathlib.Core.Path.{◌≡◌}
+use mathlib.Core.List.{◌++◌}
+use lib.ListN.{length, take}
 use Rattle.order_grid.proofs.put_row.Given as goal
 
 abbrev pub invariant-loop-i : goal.invariant-loop-i

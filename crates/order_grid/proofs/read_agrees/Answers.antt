@@ -1,7 +1,6 @@
 use mathlib.Core.Path.{ap, ◌∙◌}
 use Rattle.order_grid.specs.Questions.{reading_fault}
 use Rattle.order_grid.proofs.Laws.{read_true, read_false}
-use borrow.Author.Rules.{rules}
 use Rattle.order_grid.proofs.read_agrees.Goals as goal
 
 pub returns-then-agrees : goal.returns-then-agrees

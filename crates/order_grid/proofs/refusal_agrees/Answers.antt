@@ -1,5 +1,4 @@
 use borrow.Author.Tests.{ne_eqb}
-use borrow.Author.Rules.{rules}
 use Rattle.order_grid.proofs.refusal_agrees.Goals as goal
 
 pub returns-then-theirs-eq0 : goal.returns-then-theirs-eq0

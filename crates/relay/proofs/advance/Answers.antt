@@ -1,4 +1,3 @@
-use borrow.Author.Rules.{rules}
 use mathlib.Core.Path.{sym, ◌∙◌}
 use Rattle.relay.proofs.Lines.{over_part, turned_waits, turned_answered}
 use Rattle.relay.proofs.advance.Goals as goal

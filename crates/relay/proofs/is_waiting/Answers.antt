@@ -1,5 +1,4 @@
 use Rattle.relay.proofs.Lines.{at_end_lem}
-use borrow.Author.Rules.{rules}
 use Rattle.relay.proofs.is_waiting.Goals as goal
 
 pub returns-then-i-2 : goal.returns-then-i-2

@@ -1,5 +1,4 @@
 use native.Mathlib.Omega.{arith}
-use borrow.Author.Rules.{rules}
 use Rattle.relay.proofs.Lines.{refills_not, refills}
 use Rattle.relay.proofs.refill.Goals as goal
 

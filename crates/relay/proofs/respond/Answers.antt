@@ -1,4 +1,3 @@
-use borrow.Author.Rules.{rules}
 use lib.ListN.{take}
 use Rattle.relay.specs.Kept.{standing}
 use Rattle.relay.proofs.Lines.{of_part, handed}

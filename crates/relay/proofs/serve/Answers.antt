@@ -1,7 +1,6 @@
 use native.Mathlib.Omega.{arith}
-use mathlib.Core.Path.{◌≡◌, refl, ◌∙◌}
-use lib.ListN.{length}
-use Rattle.relay.proofs.Runs.{Serving, serving_start, serving_turn}
+use mathlib.Core.Path.{refl, ◌∙◌}
+use Rattle.relay.proofs.Runs.{serving_start, serving_turn}
 use Rattle.relay.proofs.serve.Goals as goal
 
 pub closed-requires : goal.closed-requires

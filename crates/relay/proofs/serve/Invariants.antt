@@ -1,7 +1,6 @@
-use native.Mathlib.Omega.{arith}
-use mathlib.Core.Path.{◌≡◌, refl, ◌∙◌}
+use mathlib.Core.Path.{◌≡◌}
 use lib.ListN.{length}
-use Rattle.relay.proofs.Runs.{Serving, serving_start, serving_turn}
+use Rattle.relay.proofs.Runs.{Serving}
 use Rattle.relay.proofs.serve.Given as goal
 
 abbrev pub invariant-loop-turns : goal.invariant-loop-turns

@@ -1,9 +1,8 @@
 use native.Mathlib.Omega.{arith}
-use Prim.Native.Nat.{◌≤◌, ◌-◌}
-use mathlib.Core.Path.{◌≡◌, refl, ◌∙◌}
-use lib.ListN.{length, take, drop, length-set}
+use mathlib.Core.Path.{refl}
+use lib.ListN.{take, length-set}
 use Rattle.relay.specs.Turns.{unread}
-use Rattle.relay.proofs.Lines.{Going, going_from, going_whole, going_stored, going_dropped, going_end}
+use Rattle.relay.proofs.Lines.{going_from, going_whole, going_stored, going_dropped, going_end}
 use Rattle.relay.proofs.take_line.Goals as goal
 
 pub within-end-requires : goal.within-end-requires

@@ -1,4 +1,3 @@
-use borrow.Author.Rules.{rules}
 use Rattle.relay.proofs.Lines.{front}
 use Rattle.relay.proofs.write_front.Goals as goal
 

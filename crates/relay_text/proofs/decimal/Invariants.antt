@@ -1,10 +1,7 @@
-use native.Mathlib.Omega.{arith}
-use Prim.Native.Nat.{ℕ, ◌+◌, ◌≤◌, ◌-◌}
-use mathlib.Core.Path.{◌≡◌, refl, sym, ap, ◌∙◌}
+use Prim.Native.Nat.{◌≤◌, ◌-◌}
+use mathlib.Core.Path.{◌≡◌}
 use lib.ListN.{length, drop}
-use borrow.Author.Tests.{eq-eqb, ne_eqb}
 use Rattle.relay_text.specs.Text.{number_from}
-use Rattle.relay_text.proofs.Laws.{number_low, number_high, number_more, number_end}
 use Rattle.relay_text.proofs.decimal.Given as goal
 
 abbrev pub invariant-loop-i : goal.invariant-loop-i

@@ -1,6 +1,5 @@
 use mathlib.Core.Path.{ap}
 use mathlib.Core.Bool.{not}
-use borrow.Author.Rules.{rules}
 use Rattle.relay_text.proofs.is_of.Goals as goal
 
 pub returns-then-want : goal.returns-then-want

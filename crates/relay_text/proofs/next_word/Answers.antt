@@ -1,6 +1,5 @@
 use Rattle.relay_text.proofs.Laws.{word_is}
 use native.Mathlib.Omega.{arith}
-use mathlib.Core.Path.{◌≡◌, refl, sym, ap, ◌∙◌}
 use Rattle.relay_text.proofs.next_word.Goals as goal
 
 pub skip-from-requires : goal.skip-from-requires

@@ -1,10 +1,7 @@
-use Rattle.relay_text.specs.declared.Word.{Word}
-use native.Mathlib.Omega.{arith}
-use Prim.Native.Nat.{ℕ, ◌+◌, ◌≤◌, ◌-◌}
-use mathlib.Core.Path.{◌≡◌, refl, sym, ap, ◌∙◌}
+use Prim.Native.Nat.{◌≤◌, ◌-◌}
+use mathlib.Core.Path.{◌≡◌}
 use lib.ListN.{length}
-use Rattle.relay_text.specs.Text.{behind, word_at}
-use Rattle.relay_text.proofs.Laws.{behind_next, behind_done}
+use Rattle.relay_text.specs.Text.{behind}
 use Rattle.relay_text.proofs.nth.Given as goal
 
 abbrev pub invariant-loop-i : goal.invariant-loop-i

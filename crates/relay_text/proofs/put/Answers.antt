@@ -1,10 +1,10 @@
 use native.Mathlib.Omega.{arith}
 use native.Mathlib.Numerals.{add-one}
-use Prim.Native.Nat.{ℕ, ◌+◌, ◌≤◌, ◌-◌}
-use mathlib.Core.Path.{◌≡◌, refl, sym, ap, ◌∙◌}
+use Prim.Native.Nat.{ℕ, ◌+◌}
+use mathlib.Core.Path.{ap, ◌∙◌}
 use mathlib.Core.List.{List, ◌++◌}
-use lib.ListN.{length, length-set, take, drop, set, get_or}
-use lib.Seq.{paste, paste-zero, paste-suc, length-paste, take-paste, drop-paste, take_all}
+use lib.ListN.{length, take, drop, set, get_or}
+use lib.Seq.{paste-zero, paste-suc, length-paste, take-paste, drop-paste, take_all}
 use Rattle.relay_text.proofs.put.Goals as goal
 
 pub loop-i-init : goal.loop-i-init

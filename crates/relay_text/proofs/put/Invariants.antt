@@ -1,10 +1,7 @@
-use native.Mathlib.Omega.{arith}
-use native.Mathlib.Numerals.{add-one}
-use Prim.Native.Nat.{ℕ, ◌+◌, ◌≤◌, ◌-◌}
-use mathlib.Core.Path.{◌≡◌, refl, sym, ap, ◌∙◌}
-use mathlib.Core.List.{List, ◌++◌}
-use lib.ListN.{length, length-set, take, drop, set, get_or}
-use lib.Seq.{paste, paste-zero, paste-suc, length-paste, take-paste, drop-paste, take_all}
+use Prim.Native.Nat.{◌≤◌, ◌-◌}
+use mathlib.Core.Path.{◌≡◌}
+use lib.ListN.{length}
+use lib.Seq.{paste}
 use Rattle.relay_text.proofs.put.Given as goal
 
 abbrev pub invariant-loop-i : goal.invariant-loop-i

@@ -1,8 +1,8 @@
 use native.Mathlib.Omega.{arith}
-use Prim.Native.Nat.{ℕ, ◌+◌, ◌≤◌, ◌-◌}
-use mathlib.Core.Path.{◌≡◌, refl, sym, ap, ◌∙◌}
-use mathlib.Core.List.{List, ◌++◌, append_assoc, append-nil}
-use lib.ListN.{length, take, drop}
+use Prim.Native.Nat.{ℕ, ◌+◌}
+use mathlib.Core.Path.{refl, ap, ◌∙◌}
+use mathlib.Core.List.{List, ◌++◌}
+use lib.ListN.{take}
 use lib.Seq.{take_all}
 use Rattle.relay_text.specs.Text.{hexed}
 use Rattle.relay_text.proofs.Laws.{hexed_start, digits_more, hexed_length, behind_on}

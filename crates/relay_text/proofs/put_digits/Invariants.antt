@@ -1,11 +1,8 @@
-use native.Mathlib.Omega.{arith}
-use Prim.Native.Nat.{ℕ, ◌+◌, ◌≤◌, ◌-◌}
-use mathlib.Core.Path.{◌≡◌, refl, sym, ap, ◌∙◌}
-use mathlib.Core.List.{List, ◌++◌, append_assoc, append-nil}
+use Prim.Native.Nat.{◌+◌, ◌≤◌, ◌-◌}
+use mathlib.Core.Path.{◌≡◌}
+use mathlib.Core.List.{◌++◌}
 use lib.ListN.{length, take, drop}
-use lib.Seq.{take_all}
 use Rattle.relay_text.specs.Text.{hexed}
-use Rattle.relay_text.proofs.Laws.{hexed_start, digits_more, hexed_length, behind_on}
 use Rattle.relay_text.proofs.put_digits.Given as goal
 
 abbrev pub invariant-loop-i : goal.invariant-loop-i

@@ -1,7 +1,6 @@
 use native.Mathlib.Omega.{arith}
 use borrow.Author.Tests.{eq-eqb, ne_eqb}
 use Rattle.relay_text.proofs.Laws.{hexed_length}
-use borrow.Author.Rules.{rules}
 use Rattle.relay_text.proofs.put_hex.Goals as goal
 
 pub returns-then-bytes-eq0 : goal.returns-then-bytes-eq0

@@ -1,12 +1,11 @@
 use native.Mathlib.Omega.{arith}
 use Prim.Native.Nat.{ℕ, ◌+◌, ◌≤◌}
-use mathlib.Core.Path.{◌≡◌, sym, ap, ◌∙◌}
+use mathlib.Core.Path.{◌≡◌, ap, ◌∙◌}
 use mathlib.Core.List.{List, ◌++◌}
 use lib.ListN.{length, take}
 use Rattle.io.specs.Digits.{last_digits}
 use Rattle.relay_text.specs.Text.{places, decimal_word}
 use Rattle.relay_text.proofs.Laws.{places_fewest, places_bound}
-use borrow.Author.Rules.{rules}
 use Rattle.relay_text.proofs.put_number.Goals as goal
 
 pub put-requires : goal.put-requires

@@ -1,9 +1,5 @@
 use native.Mathlib.Omega.{arith}
-use borrow.Author.Tests.{not-true, not-false}
-use mathlib.Core.Path.{◌≡◌, refl, sym, ◌∙◌}
-use Prim.Native.Nat.{◌+◌, ◌≤◌, ◌-◌}
-use lib.ListN.{length, drop}
-use Rattle.relay_text.specs.Text.{run}
+use mathlib.Core.Path.{refl, sym, ◌∙◌}
 use Rattle.relay_text.proofs.Laws.{run_more, run_stop, run_end}
 use Rattle.relay_text.proofs.skip.Goals as goal
 

@@ -1,10 +1,7 @@
-use native.Mathlib.Omega.{arith}
-use borrow.Author.Tests.{not-true, not-false}
-use mathlib.Core.Path.{◌≡◌, refl, sym, ◌∙◌}
+use mathlib.Core.Path.{◌≡◌}
 use Prim.Native.Nat.{◌+◌, ◌≤◌, ◌-◌}
 use lib.ListN.{length, drop}
 use Rattle.relay_text.specs.Text.{run}
-use Rattle.relay_text.proofs.Laws.{run_more, run_stop, run_end}
 use Rattle.relay_text.proofs.skip.Given as goal
 
 abbrev pub invariant-loop-i : goal.invariant-loop-i

@@ -2,7 +2,6 @@ use native.Mathlib.Omega.{arith}
 use mathlib.Core.Path.{sym}
 use borrow.Author.Tests.{eq-eqb, ne_eqb}
 use Rattle.relay_text.proofs.Laws.{left_start, left_odd, one_written}
-use borrow.Author.Rules.{rules}
 use Rattle.relay_text.proofs.unhex.Goals as goal
 
 pub returns-then-text-eq45 : goal.returns-then-text-eq45

@@ -1,8 +1,8 @@
 use native.Mathlib.Omega.{arith}
-use Prim.Native.Nat.{◌+◌, ◌*◌, ◌≤◌, ◌-◌}
-use mathlib.Core.Path.{◌≡◌, refl}
-use lib.ListN.{length, drop, length-set}
-use Rattle.relay_text.proofs.Laws.{Left, left_start, left_odd, left_end, left_high, left_low, left_byte, Front, front_odd, front_end, front_high, front_low, front_byte_lem, front_written, byte_kept}
+use Prim.Native.Nat.{◌+◌, ◌*◌}
+use mathlib.Core.Path.{refl}
+use lib.ListN.{length-set}
+use Rattle.relay_text.proofs.Laws.{left_start, left_odd, left_end, left_high, left_low, left_byte, front_odd, front_end, front_high, front_low, front_byte_lem, front_written, byte_kept}
 use Rattle.relay_text.proofs.unhex_digits.Goals as goal
 
 pub loop-i-init : goal.loop-i-init

@@ -1,8 +1,7 @@
-use native.Mathlib.Omega.{arith}
-use Prim.Native.Nat.{◌+◌, ◌*◌, ◌≤◌, ◌-◌}
-use mathlib.Core.Path.{◌≡◌, refl}
-use lib.ListN.{length, drop, length-set}
-use Rattle.relay_text.proofs.Laws.{Left, left_start, left_odd, left_end, left_high, left_low, left_byte, Front, front_odd, front_end, front_high, front_low, front_byte_lem, front_written, byte_kept}
+use Prim.Native.Nat.{◌+◌, ◌≤◌, ◌-◌}
+use mathlib.Core.Path.{◌≡◌}
+use lib.ListN.{length, drop}
+use Rattle.relay_text.proofs.Laws.{Left, Front}
 use Rattle.relay_text.proofs.unhex_digits.Given as goal
 
 abbrev pub invariant-loop-i : goal.invariant-loop-i

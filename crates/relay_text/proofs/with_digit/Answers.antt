@@ -1,6 +1,5 @@
 use borrow.Author.Tests.{lt-ltb, le-ltb}
 use native.Mathlib.Omega.{arith}
-use borrow.Author.Rules.{rules}
 use Rattle.relay_text.proofs.with_digit.Goals as goal
 
 pub returns-then-v-lt-LARGE : goal.returns-then-v-lt-LARGE

@@ -1,8 +1,7 @@
 use Rattle.relay_text.specs.declared.Word.{Word}
 use native.Mathlib.Omega.{arith}
-use Prim.Native.Nat.{ℕ, ◌+◌, ◌≤◌, ◌-◌}
-use mathlib.Core.Path.{◌≡◌, refl, sym, ap, ◌∙◌}
-use lib.ListN.{length}
+use Prim.Native.Nat.{ℕ, ◌+◌, ◌-◌}
+use mathlib.Core.Path.{sym, ap, ◌∙◌}
 use Rattle.relay_text.specs.Text.{words_up_to}
 use Rattle.relay_text.proofs.Laws.{words_next, words_none, words_done}
 use Rattle.relay_text.proofs.words.Goals as goal

@@ -1,10 +1,7 @@
-use Rattle.relay_text.specs.declared.Word.{Word}
-use native.Mathlib.Omega.{arith}
-use Prim.Native.Nat.{ℕ, ◌+◌, ◌≤◌, ◌-◌}
-use mathlib.Core.Path.{◌≡◌, refl, sym, ap, ◌∙◌}
+use Prim.Native.Nat.{◌+◌, ◌≤◌, ◌-◌}
+use mathlib.Core.Path.{◌≡◌}
 use lib.ListN.{length}
 use Rattle.relay_text.specs.Text.{words_up_to}
-use Rattle.relay_text.proofs.Laws.{words_next, words_none, words_done}
 use Rattle.relay_text.proofs.words.Given as goal
 
 abbrev pub invariant-loop-n : goal.invariant-loop-n

@@ -1,10 +1,5 @@
-use Prim.Native.Nat.{◌≤◌, ◌-◌, ◌+◌}
 use native.Mathlib.Omega.{arith}
-use mathlib.Core.Logic.{⊎_elim}
-use mathlib.Core.Path.{◌≡◌, refl, sym, ◌∙◌, ap}
 use borrow.Author.Rules.{rules}
-use lib.ListN.{length, drop}
-use Rattle.rows.specs.Rows.{agreeing}
 use Rattle.rows.proofs.Laws.{agreeing_more, agreeing_not, agreeing_end}
 use Rattle.rows.proofs.agreeing.Goals as goal
 use Rattle.rows.proofs.agreeing.Goals.{then-found-i, else-found-i}

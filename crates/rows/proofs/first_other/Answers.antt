@@ -1,10 +1,5 @@
-use Prim.Native.Nat.{◌≤◌, ◌-◌, ◌+◌}
 use native.Mathlib.Omega.{arith}
-use mathlib.Core.Logic.{⊎_elim}
-use mathlib.Core.Path.{◌≡◌, refl, sym, ◌∙◌, ap}
 use borrow.Author.Rules.{rules}
-use lib.ListN.{length, drop}
-use Rattle.rows.specs.Rows.{first_other}
 use Rattle.rows.proofs.Laws.{first_more, first_not, first_end}
 use Rattle.rows.proofs.first_other.Goals as goal
 

@@ -1,7 +1,4 @@
 use Rattle.value_grid.proofs.Laws.{agreed_most, agreed_none, agreed_at, agreed_more}
-use Rattle.value_grid.specs.Questions.{Agreed}
-use borrow.Author.Rules.{rules}
-use Prim.Native.Nat.{◌≤◌, ◌-◌}
 use native.Mathlib.Omega.{arith}
 use Rattle.value_grid.proofs.agreed.Goals as goal
 

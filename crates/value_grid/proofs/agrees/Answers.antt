@@ -1,6 +1,5 @@
 use Rattle.std.specs.Prelude.{replicate}
 use Rattle.value_grid.proofs.Laws.{outcome_asked}
-use borrow.Author.Rules.{rules}
 use Rattle.value_grid.proofs.agrees.Goals as goal
 
 pub returns-then-head-eq4 : goal.returns-then-head-eq4

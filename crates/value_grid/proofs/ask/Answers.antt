@@ -1,5 +1,4 @@
 use Rattle.value_grid.proofs.Laws.{ask_outcome, ask_input, ask_default, ask_cell}
-use borrow.Author.Rules.{rules}
 use Rattle.value_grid.proofs.ask.Goals as goal
 
 pub returns-then-section-lt4 : goal.returns-then-section-lt4

@@ -1,5 +1,4 @@
 use Rattle.value_grid.proofs.Laws.{grid_in, grid_out}
-use borrow.Author.Rules.{rules}
 use Rattle.value_grid.proofs.at.Goals as goal
 
 pub returns-then-a-grid : goal.returns-then-a-grid

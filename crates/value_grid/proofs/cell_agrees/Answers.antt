@@ -1,5 +1,4 @@
 use Rattle.value_grid.proofs.Laws.{cell_asked}
-use borrow.Author.Rules.{rules}
 use Rattle.value_grid.proofs.cell_agrees.Goals as goal
 
 pub returns : goal.returns

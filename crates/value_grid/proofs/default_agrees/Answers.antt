@@ -1,7 +1,6 @@
 use Rattle.value_grid.proofs.Laws.{default_asked}
 use mathlib.Core.List.{[], ◌∷◌}
 use mathlib.Core.Path.{refl}
-use borrow.Author.Rules.{rules}
 use Rattle.value_grid.proofs.default_agrees.Goals as goal
 
 pub returns : goal.returns

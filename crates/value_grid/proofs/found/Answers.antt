@@ -1,5 +1,4 @@
 use Rattle.value_grid.proofs.Laws.{found_binary, found_unary, found_cast, found_store}
-use borrow.Author.Rules.{rules}
 use Rattle.value_grid.proofs.found.Goals as goal
 
 pub returns-then-section-eq0 : goal.returns-then-section-eq0

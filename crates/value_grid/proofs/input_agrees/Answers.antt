@@ -1,5 +1,4 @@
 use Rattle.value_grid.proofs.Laws.{input_asked}
-use borrow.Author.Rules.{rules}
 use Rattle.value_grid.proofs.input_agrees.Goals as goal
 
 pub returns : goal.returns

@@ -2,7 +2,6 @@ use Rattle.ol_spec.specs.Lists.{same}
 use Rattle.ol_spec.specs.Cell.{cell}
 use mathlib.Core.List.{append-nil}
 use mathlib.Core.Path.{ap, ◌∙◌}
-use borrow.Author.Rules.{rules}
 use Rattle.value_grid.proofs.is_cell.Goals as goal
 
 pub returns : goal.returns

@@ -1,4 +1,3 @@
-use borrow.Author.Rules.{rules}
 use Rattle.value_grid.proofs.known.Goals as goal
 
 pub returns : goal.returns

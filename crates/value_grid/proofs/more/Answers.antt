@@ -1,5 +1,4 @@
 use native.Mathlib.Omega.{arith}
-use borrow.Author.Rules.{rules}
 use Rattle.value_grid.proofs.more.Goals as goal
 
 pub returns-then-so : goal.returns-then-so

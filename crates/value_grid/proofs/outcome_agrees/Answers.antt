@@ -1,4 +1,3 @@
-use borrow.Author.Rules.{rules}
 use Rattle.value_grid.proofs.outcome_agrees.Goals as goal
 
 pub returns-in-Value : goal.returns-in-Value

@@ -1,9 +1,5 @@
 use Rattle.value_grid.proofs.Laws.{same_length, same_more, same_not, same_end}
-use borrow.Author.Rules.{rules}
-use Rattle.ol_spec.specs.Lists.{same}
-use lib.ListN.{length, drop}
-use Prim.Native.Nat.{◌≤◌, ◌-◌}
-use mathlib.Core.Path.{◌≡◌, refl, sym, ◌∙◌}
+use mathlib.Core.Path.{refl, sym, ◌∙◌}
 use native.Mathlib.Omega.{arith}
 use Rattle.value_grid.proofs.same_bytes.Goals as goal
 

@@ -1,10 +1,7 @@
-use Rattle.value_grid.proofs.Laws.{same_length, same_more, same_not, same_end}
-use borrow.Author.Rules.{rules}
 use Rattle.ol_spec.specs.Lists.{same}
 use lib.ListN.{length, drop}
 use Prim.Native.Nat.{◌≤◌, ◌-◌}
-use mathlib.Core.Path.{◌≡◌, refl, sym, ◌∙◌}
-use native.Mathlib.Omega.{arith}
+use mathlib.Core.Path.{◌≡◌}
 use Rattle.value_grid.proofs.same_bytes.Given as goal
 
 abbrev pub invariant-loop-i : goal.invariant-loop-i

@@ -1,6 +1,5 @@
 use Rattle.value_grid.proofs.Laws.{agrees_bool, agrees_cell}
 use mathlib.Core.Path.{refl}
-use borrow.Author.Rules.{rules}
 use Rattle.value_grid.proofs.value_agrees.Goals as goal
 
 pub returns-in-Bool : goal.returns-in-Bool

@@ -1,11 +1,11 @@
 use native.Mathlib.Omega.{arith}
-use mathlib.Core.Path.{◌≡◌, sym, ap, ◌∙◌}
+use mathlib.Core.Path.{ap, ◌∙◌}
 use lib.ListN.{get_or-eq_default}
 use Rattle.ol_spec.specs.Numbers.{residue}
 use Rattle.ieee_vectors.proofs.Laws.{above}
 use Rattle.ol_spec.specs.Real.{single, double, from_bits, of_int, truncate, add_r, sub_r, mul_r, div_r, neg_r, eq_r, lt_r, le_r}
 use Rattle.ieee_vectors.specs.Operations.{d_bits, s_bits, operations, read_single, result_of}
-use borrow.Author.Rules.{rules, sfits_of}
+use borrow.Author.Rules.{sfits_of}
 use mir.Facts.{to_z-of_z}
 use mir.Syntax.{w64}
 use Rattle.ieee_vectors.proofs.operations.result.Goals as goal

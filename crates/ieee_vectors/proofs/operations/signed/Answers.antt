@@ -1,7 +1,6 @@
 use Prim.Native.Nat.{◌-◌}
 use native.Mathlib.Omega.{arith}
-use Rattle.ol_value.proofs.Widths.{negated_fits, signed_low, signed_high}
-use borrow.Author.Rules.{rules}
+use Rattle.ol_value.proofs.Widths.{negated_fits, signed_high}
 use Rattle.ieee_vectors.proofs.operations.signed.Goals as goal
 
 pub overflow_sub-result-else-a-lt9223372036854775808 : goal.overflow_sub-result-else-a-lt9223372036854775808

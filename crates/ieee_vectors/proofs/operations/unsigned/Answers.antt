@@ -1,7 +1,6 @@
 use mathlib.Core.Path.{ap, ◌∙◌}
 use mir.Facts.{to_z-of_z}
 use Rattle.ol_spec.specs.Numbers.{residue}
-use borrow.Author.Rules.{rules}
 use Rattle.ieee_vectors.proofs.operations.unsigned.Goals as goal
 
 pub returns : goal.returns

@@ -1,7 +1,6 @@
 use native.Mathlib.Omega.{arith}
 use borrow.Author.Tests.{ne_eqb}
 use Rattle.ieee_vectors.specs.Sweeps.{near_tie}
-use borrow.Author.Rules.{rules}
 use Rattle.ieee_vectors.proofs.sweeps.near_tie.Goals as goal
 
 pub returns-then-turn-eq0 : goal.returns-then-turn-eq0

@@ -1,7 +1,6 @@
 use mathlib.Core.Path.{sym, ◌∙◌}
 use borrow.Author.Tests.{lt-ltb, le-ltb}
 use Rattle.ieee_vectors.specs.Sweeps.{operand_of}
-use borrow.Author.Rules.{rules}
 use Rattle.ieee_vectors.proofs.sweeps.operand.Goals as goal
 
 pub returns-then-op-lt2 : goal.returns-then-op-lt2

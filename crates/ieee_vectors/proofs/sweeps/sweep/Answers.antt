@@ -1,7 +1,6 @@
 use Rattle.ieee_vectors.proofs.Laws.{sweep_x, sweep_h}
-use Prim.Native.Nat.{◌≤◌, ◌-◌}
 use native.Mathlib.Omega.{arith}
-use mathlib.Core.Path.{◌≡◌, refl, sym, ap, ◌∙◌}
+use mathlib.Core.Path.{◌≡◌, refl, ap, ◌∙◌}
 use borrow.Author.Rules.{rules}
 use Rattle.ieee_vectors.specs.Sweeps.{sweep_to}
 use Rattle.ieee_vectors.proofs.sweeps.sweep.Goals as goal

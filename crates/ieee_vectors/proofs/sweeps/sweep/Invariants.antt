@@ -1,8 +1,5 @@
-use Rattle.ieee_vectors.proofs.Laws.{sweep_x, sweep_h}
 use Prim.Native.Nat.{◌≤◌, ◌-◌}
-use native.Mathlib.Omega.{arith}
-use mathlib.Core.Path.{◌≡◌, refl, sym, ap, ◌∙◌}
-use borrow.Author.Rules.{rules}
+use mathlib.Core.Path.{◌≡◌}
 use Rattle.ieee_vectors.specs.Sweeps.{sweep_to}
 use Rattle.ieee_vectors.proofs.sweeps.sweep.Given as goal
 

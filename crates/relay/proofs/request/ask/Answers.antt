@@ -1,7 +1,6 @@
 use native.Mathlib.Omega.{arith}
 use Rattle.relay.proofs.Asks.{asks_long, asks_silent, asks_words, asks_as_lem}
 use Rattle.relay.specs.Kept.{asked}
-use borrow.Author.Rules.{rules}
 use Rattle.relay.proofs.request.ask.Goals as goal
 
 pub returns-then-line-gt262144 : goal.returns-then-line-gt262144

@@ -3,7 +3,6 @@ use Rattle.relay_text.specs.Text.{bytes_of}
 use Rattle.relay_text.specs.Lines.{word_text}
 use Rattle.relay.specs.Requests.{with_bytes, about, cycle_at}
 use Rattle.relay.proofs.Asks.{with_bytes_lem, with_none}
-use borrow.Author.Rules.{rules}
 use Rattle.relay.proofs.request.ask_both.Goals as goal
 
 pub returns-in-Bytes : goal.returns-in-Bytes

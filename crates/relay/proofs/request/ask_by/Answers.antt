@@ -1,6 +1,5 @@
 use mathlib.Core.Path.{ap, ◌∙◌}
 use Rattle.relay.specs.Requests.{asked_by}
-use borrow.Author.Rules.{rules}
 use Rattle.relay.proofs.request.ask_by.Goals as goal
 
 pub returns-in-File : goal.returns-in-File

@@ -2,7 +2,6 @@ use mathlib.Core.Path.{◌∙◌}
 use Rattle.relay.specs.Requests.{lengths_of}
 use Rattle.relay.specs.declared.request.Lengths.TheVariants as Len
 use Rattle.relay.proofs.Asks.{cycle_by, by_lengths}
-use borrow.Author.Rules.{rules}
 use Rattle.relay.proofs.request.ask_cycle.Goals as goal
 
 pub returns-in-Malformed : goal.returns-in-Malformed

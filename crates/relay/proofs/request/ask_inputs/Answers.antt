@@ -2,7 +2,6 @@ use Rattle.relay_text.specs.Text.{bytes_of}
 use Rattle.relay_text.specs.Lines.{word_text}
 use Rattle.relay.specs.Requests.{about, cycle_of}
 use Rattle.relay.proofs.Asks.{with_bytes_lem, with_none}
-use borrow.Author.Rules.{rules}
 use Rattle.relay.proofs.request.ask_inputs.Goals as goal
 
 pub returns-in-Bytes : goal.returns-in-Bytes

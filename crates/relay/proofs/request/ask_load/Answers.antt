@@ -1,8 +1,7 @@
 use Rattle.relay_text.specs.Text.{bytes_of}
 use Rattle.relay_text.specs.Lines.{word_text}
-use Rattle.relay.specs.Requests.{file_of, about, load_of}
+use Rattle.relay.specs.Requests.{about, load_of}
 use Rattle.relay.proofs.Asks.{with_bytes_lem, with_none}
-use borrow.Author.Rules.{rules}
 use Rattle.relay.proofs.request.ask_load.Goals as goal
 
 pub returns-in-Bytes : goal.returns-in-Bytes

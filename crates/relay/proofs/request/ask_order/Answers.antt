@@ -2,7 +2,6 @@ use Rattle.relay_text.specs.Lines.{word_text}
 use Rattle.relay_text.specs.declared.Number.TheVariants as Num
 use Rattle.relay.specs.Requests.{about, order_of}
 use Rattle.relay.proofs.Asks.{with_number_lem}
-use borrow.Author.Rules.{rules}
 use Rattle.relay.proofs.request.ask_order.Goals as goal
 
 pub returns-in-Of : goal.returns-in-Of

@@ -2,7 +2,6 @@ use mathlib.Core.Path.{refl, sym, ◌∙◌}
 use Rattle.relay.specs.Requests.{file_word, order_name, start_word, load_word, cycle_word, at_word, command_of}
 use Rattle.relay.specs.declared.request.Command.TheVariants as Com
 use Rattle.relay.proofs.Asks.{named, is_word, no_word, differs, unknown}
-use borrow.Author.Rules.{rules}
 use Rattle.relay.proofs.request.command_named.Goals as goal
 
 pub returns-then-eq : goal.returns-then-eq

@@ -3,7 +3,6 @@ use Prim.Native.Nat.{◌-◌}
 use lib.ListN.{take, drop}
 use Rattle.relay_text.specs.declared.Word.{Word}
 use Rattle.relay.specs.Requests.{command_of}
-use borrow.Author.Rules.{rules}
 use Rattle.relay.proofs.request.command_of.Goals as goal
 
 pub returns : goal.returns

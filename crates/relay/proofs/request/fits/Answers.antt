@@ -2,7 +2,6 @@ use mathlib.Core.Path.{refl}
 use Rattle.relay.specs.declared.request.Command.TheVariants as Com
 use lib.Dec.{eqb}
 use Rattle.relay.proofs.Asks.{fits_as, first_of, second_of}
-use borrow.Author.Rules.{rules}
 use Rattle.relay.proofs.request.fits.Goals as goal
 
 pub returns-in-File : goal.returns-in-File

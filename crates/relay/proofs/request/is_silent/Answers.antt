@@ -1,6 +1,5 @@
 use native.Mathlib.Omega.{arith}
 use Rattle.relay.proofs.Asks.{silent_in, silent_out}
-use borrow.Author.Rules.{rules}
 use Rattle.relay.proofs.request.is_silent.Goals as goal
 
 pub returns-then-from-line : goal.returns-then-from-line

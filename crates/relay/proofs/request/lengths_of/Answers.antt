@@ -1,6 +1,5 @@
 use native.Mathlib.Omega.{arith}
 use Rattle.relay.proofs.Asks.{lengths_right, lengths_first, lengths_second, lengths_these}
-use borrow.Author.Rules.{rules}
 use Rattle.relay.proofs.request.lengths_of.Goals as goal
 
 pub returns-then-words-k : goal.returns-then-words-k

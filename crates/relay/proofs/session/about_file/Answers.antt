@@ -1,7 +1,6 @@
 use mathlib.Core.Path.{refl}
 use Rattle.relay.specs.Kept.{asked_in}
 use Rattle.relay.proofs.Tellings.{not_true, not_false, closed_replies, about_replies}
-use borrow.Author.Rules.{rules}
 use Rattle.relay.proofs.session.about_file.Goals as goal
 
 pub returns-then-not-s : goal.returns-then-not-s

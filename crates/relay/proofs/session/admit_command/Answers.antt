@@ -1,6 +1,5 @@
 use Rattle.ol_spec.specs.declared.Verdict.TheVariants as Ver
 use Rattle.relay.proofs.Tellings.{admit_said}
-use borrow.Author.Rules.{rules}
 use Rattle.relay.proofs.session.admit_command.Goals as goal
 
 pub returns-in-Admitted : goal.returns-in-Admitted

@@ -1,6 +1,5 @@
-use Rattle.relay.specs.Kept.{standing, asked}
+use Rattle.relay.specs.Kept.{standing}
 use Rattle.relay.proofs.Tellings.{of_line}
-use borrow.Author.Rules.{rules}
 use Rattle.relay.proofs.session.answer.Goals as goal
 
 pub returns : goal.returns

@@ -1,7 +1,6 @@
 use mathlib.Core.Path.{refl}
 use lib.ListN.{length, take}
 use Rattle.relay.proofs.Tellings.{at_done, at_refused, of_state}
-use borrow.Author.Rules.{rules}
 use Rattle.relay.proofs.session.at_command.Goals as goal
 
 pub returns-then-f-eq0 : goal.returns-then-f-eq0

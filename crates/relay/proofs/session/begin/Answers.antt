@@ -1,5 +1,4 @@
 use Rattle.relay.proofs.Tellings.{begins_refused, begins_admitted}
-use borrow.Author.Rules.{rules}
 use Rattle.relay.proofs.session.begin.Goals as goal
 
 pub returns-in-Refused : goal.returns-in-Refused

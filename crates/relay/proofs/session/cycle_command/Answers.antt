@@ -1,7 +1,6 @@
 use lib.ListN.{take}
 use Rattle.relay.specs.declared.request.Lengths.TheVariants as Len
 use Rattle.relay.proofs.Tellings.{of_lengths}
-use borrow.Author.Rules.{rules}
 use Rattle.relay.proofs.session.cycle_command.Goals as goal
 
 pub returns-in-These : goal.returns-in-These

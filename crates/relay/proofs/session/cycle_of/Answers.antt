@@ -1,6 +1,5 @@
 use lib.ListN.{take}
 use Rattle.relay.proofs.Tellings.{cycles_cut_new}
-use borrow.Author.Rules.{rules}
 use Rattle.relay.proofs.session.cycle_of.Goals as goal
 
 pub returns : goal.returns

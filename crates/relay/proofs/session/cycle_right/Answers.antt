@@ -5,7 +5,6 @@ use lib.Seq.{length-take-le}
 use Rattle.relay.specs.Reply.{cycle_call}
 use Rattle.relay.specs.declared.request.Lengths.TheVariants as Len
 use Rattle.relay.proofs.Tellings.{ends_same, cycle_told_lem, of_state}
-use borrow.Author.Rules.{rules}
 use Rattle.relay.proofs.session.cycle_right.Goals as goal
 
 pub slice_bounds-end-end-2 : goal.slice_bounds-end-end-2

@@ -3,7 +3,6 @@ use lib.ListN.{take}
 use Rattle.ol_tables.proofs.HeadsFile.{bytes_of_lem}
 use Rattle.relay.specs.declared.request.Lengths.TheVariants as Len
 use Rattle.relay.proofs.Tellings.{these_told, from_state}
-use borrow.Author.Rules.{rules}
 use Rattle.relay.proofs.session.cycle_these.Goals as goal
 
 pub returns : goal.returns

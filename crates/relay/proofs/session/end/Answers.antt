@@ -2,7 +2,6 @@ use mathlib.Core.Path.{refl}
 use lib.ListN.{length, take}
 use Rattle.ol_spec.specs.declared.Cycled.TheVariants as Cyc
 use Rattle.relay.proofs.Tellings.{end_as}
-use borrow.Author.Rules.{rules}
 use Rattle.relay.proofs.session.end.Goals as goal
 
 pub returns-in-Answered : goal.returns-in-Answered

@@ -1,9 +1,7 @@
-use Prim.Native.Nat.{◌-◌}
 use native.Mathlib.Omega.{arith}
 use lib.ListN.{take}
 use Rattle.ol_tables.proofs.HeadsFile.{bytes_of_lem}
 use Rattle.relay.proofs.Tellings.{list_right}
-use borrow.Author.Rules.{rules}
 use Rattle.relay.proofs.session.list.Goals as goal
 
 pub returns : goal.returns

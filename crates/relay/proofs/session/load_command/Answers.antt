@@ -2,7 +2,6 @@ use mathlib.Core.Path.{refl}
 use native.Mathlib.Omega.{arith}
 use lib.ListN.{take}
 use Rattle.relay.proofs.Tellings.{load_done, load_refused}
-use borrow.Author.Rules.{rules}
 use Rattle.relay.proofs.session.load_command.Goals as goal
 
 pub returns-then-f-eq0 : goal.returns-then-f-eq0

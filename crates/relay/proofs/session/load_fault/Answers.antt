@@ -1,5 +1,4 @@
 use Rattle.relay.proofs.Tellings.{load_fault_lem}
-use borrow.Author.Rules.{rules}
 use Rattle.relay.proofs.session.load_fault.Goals as goal
 
 pub returns : goal.returns

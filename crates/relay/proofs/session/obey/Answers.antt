@@ -3,7 +3,6 @@ use native.Mathlib.Omega.{arith}
 use Rattle.relay.specs.Kept.{standing}
 use Rattle.relay.specs.declared.request.Request.TheVariants as Req
 use Rattle.relay.proofs.Tellings.{of_request}
-use borrow.Author.Rules.{rules}
 use Rattle.relay.proofs.session.obey.Goals as goal
 
 pub returns-in-Silent : goal.returns-in-Silent

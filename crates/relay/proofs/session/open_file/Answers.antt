@@ -2,7 +2,6 @@ use mathlib.Core.Path.{sym}
 use native.Mathlib.Omega.{arith}
 use lib.Seq.{length-take-le}
 use Rattle.relay.proofs.Tellings.{open_replies}
-use borrow.Author.Rules.{rules}
 use Rattle.relay.proofs.session.open_file.Goals as goal
 
 pub slice_bounds-begin-end-2 : goal.slice_bounds-begin-end-2

@@ -4,7 +4,6 @@ use Rattle.ol_spec.specs.declared.Sorted.TheVariants as Sort
 use Rattle.relay_text.specs.Lines.{order_line}
 use Rattle.relay.specs.Reply.{order_text, order_call}
 use Rattle.relay.proofs.Tellings.{said_as, order_said}
-use borrow.Author.Rules.{rules}
 use Rattle.relay.proofs.session.order_command.Goals as goal
 
 pub returns-in-Refused : goal.returns-in-Refused

@@ -1,5 +1,4 @@
 use Rattle.relay.proofs.Tellings.{orders_cut}
-use borrow.Author.Rules.{rules}
 use Rattle.relay.proofs.session.order_with.Goals as goal
 
 pub returns : goal.returns

@@ -1,5 +1,4 @@
 use Rattle.relay.proofs.Tellings.{put_front}
-use borrow.Author.Rules.{rules}
 use Rattle.relay.proofs.session.replace.Goals as goal
 
 pub returns : goal.returns

@@ -1,6 +1,5 @@
 use Rattle.relay.specs.declared.request.Reason.TheVariants as Why
 use Rattle.relay.proofs.Tellings.{reason_said}
-use borrow.Author.Rules.{rules}
 use Rattle.relay.proofs.session.say_reason.Goals as goal
 
 pub returns-in-LineTooLong : goal.returns-in-LineTooLong

@@ -1,6 +1,5 @@
 use mathlib.Core.List.{[]}
 use Rattle.relay.proofs.Tellings.{start_told}
-use borrow.Author.Rules.{rules}
 use Rattle.relay.proofs.session.start_on.Goals as goal
 
 pub returns : goal.returns

@@ -1,7 +1,6 @@
 use mathlib.Core.Path.{refl}
 use native.Mathlib.Omega.{arith}
 use Rattle.relay.proofs.Tellings.{fault_kept, fault_above, fault_none}
-use borrow.Author.Rules.{rules}
 use Rattle.relay.proofs.session.state_fault.Goals as goal
 
 pub returns-then-f-le15 : goal.returns-then-f-le15

@@ -4,7 +4,6 @@ use lib.Seq.{length-take-le}
 use Rattle.relay.specs.Reply.{cycle_call}
 use Rattle.relay.specs.declared.request.Lengths.TheVariants as Len
 use Rattle.relay.proofs.Tellings.{ends_front}
-use borrow.Author.Rules.{rules}
 use Rattle.relay.proofs.session.step_of.Goals as goal
 
 pub slice_bounds-step-end-2 : goal.slice_bounds-step-end-2

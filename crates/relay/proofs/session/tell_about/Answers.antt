@@ -2,7 +2,6 @@ use mathlib.Core.Path.{refl}
 use lib.ListN.{take}
 use Rattle.relay.specs.declared.request.Query.TheVariants as Que
 use Rattle.relay.proofs.Tellings.{of_query, of_given, of_inputs, of_both}
-use borrow.Author.Rules.{rules}
 use Rattle.relay.proofs.session.tell_about.Goals as goal
 
 pub returns-in-Order : goal.returns-in-Order

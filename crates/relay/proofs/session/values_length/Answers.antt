@@ -1,8 +1,6 @@
-use Prim.Native.Nat.{◌-◌}
 use native.Mathlib.Omega.{arith}
 use Rattle.ol_tables.proofs.HeadsFile.{bytes_of_lem}
 use Rattle.relay.proofs.Calls.{values_told}
-use borrow.Author.Rules.{rules}
 use Rattle.relay.proofs.session.values_length.Goals as goal
 
 pub returns-in-Done : goal.returns-in-Done

@@ -3,7 +3,6 @@ use Prim.Native.Nat.{◌-◌}
 use lib.ListN.{take, drop}
 use Rattle.relay_text.specs.Text.{bytes_of, unhexed_front, onto, Decoded}
 use Rattle.relay_text.specs.declared.Word.{Word}
-use borrow.Author.Rules.{rules}
 use Rattle.relay_text.proofs.answers.bytes_of.Goals as goal
 
 pub returns : goal.returns

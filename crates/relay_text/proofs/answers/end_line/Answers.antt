@@ -1,5 +1,4 @@
 use native.Mathlib.Omega.{arith}
-use borrow.Author.Rules.{rules}
 use Rattle.relay_text.proofs.answers.end_line.Goals as goal
 
 pub returns : goal.returns

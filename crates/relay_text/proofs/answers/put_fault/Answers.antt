@@ -5,7 +5,6 @@ use Prim.Native.Nat.{ℕ}
 use Rattle.relay_text.specs.Text.{decimal_word}
 use Rattle.relay_text.specs.Lines.{blank}
 use Rattle.relay_text.proofs.Laws.{behind_on}
-use borrow.Author.Rules.{rules}
 use Rattle.relay_text.proofs.answers.put_fault.Goals as goal
 
 pub returns : goal.returns

@@ -4,7 +4,6 @@ use mathlib.Core.List.{List, ◌++◌}
 use Prim.Native.Nat.{ℕ}
 use Rattle.relay_text.specs.Text.{decimal_word}
 use Rattle.relay_text.proofs.Laws.{behind_on}
-use borrow.Author.Rules.{rules}
 use Rattle.relay_text.proofs.answers.put_index.Goals as goal
 
 pub returns : goal.returns

@@ -5,7 +5,6 @@ use Prim.Native.Nat.{ℕ}
 use Rattle.relay_text.specs.Text.{hex_word}
 use Rattle.relay_text.specs.Lines.{blank, line_end}
 use Rattle.relay_text.proofs.Laws.{behind_on}
-use borrow.Author.Rules.{rules}
 use Rattle.relay_text.proofs.answers.say_answered.Goals as goal
 
 pub put-c-requires : goal.put-c-requires

@@ -4,7 +4,6 @@ use mathlib.Core.List.{List, ◌++◌}
 use Prim.Native.Nat.{ℕ}
 use Rattle.relay_text.specs.Lines.{line_end, with_fault}
 use Rattle.relay_text.proofs.Laws.{behind_on}
-use borrow.Author.Rules.{rules}
 use Rattle.relay_text.proofs.answers.say_no_order.Goals as goal
 
 pub returns : goal.returns

@@ -1,11 +1,11 @@
 use native.Mathlib.Omega.{arith}
-use mathlib.Core.Path.{◌≡◌, refl, sym, ap, ◌∙◌}
+use mathlib.Core.Path.{refl, sym, ap, ◌∙◌}
 use mathlib.Core.List.{List, ◌++◌}
 use Prim.Native.Nat.{ℕ}
 use Rattle.relay_text.specs.Lines.{line_end}
-use lib.ListN.{length, take, drop}
-use Prim.Native.Nat.{◌+◌, ◌*◌, ◌≤◌, ◌-◌}
-use Rattle.relay_text.specs.Lines.{order_word, with_indexes}
+use lib.ListN.{take, drop}
+use Prim.Native.Nat.{◌+◌}
+use Rattle.relay_text.specs.Lines.{with_indexes}
 use Rattle.relay_text.proofs.Laws.{behind_on, indexes_more, indexes_end}
 use Rattle.relay_text.proofs.answers.say_order.Goals as goal
 

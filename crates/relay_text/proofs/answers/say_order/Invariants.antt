@@ -1,12 +1,7 @@
-use native.Mathlib.Omega.{arith}
-use mathlib.Core.Path.{◌≡◌, refl, sym, ap, ◌∙◌}
-use mathlib.Core.List.{List, ◌++◌}
-use Prim.Native.Nat.{ℕ}
-use Rattle.relay_text.specs.Lines.{line_end}
+use mathlib.Core.Path.{◌≡◌}
 use lib.ListN.{length, take, drop}
 use Prim.Native.Nat.{◌+◌, ◌*◌, ◌≤◌, ◌-◌}
 use Rattle.relay_text.specs.Lines.{order_word, with_indexes}
-use Rattle.relay_text.proofs.Laws.{behind_on, indexes_more, indexes_end}
 use Rattle.relay_text.proofs.answers.say_order.Given as goal
 
 abbrev pub invariant-loop-i : goal.invariant-loop-i

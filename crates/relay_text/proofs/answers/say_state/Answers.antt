@@ -5,7 +5,6 @@ use Prim.Native.Nat.{ℕ}
 use Rattle.relay_text.specs.Text.{hex_word}
 use Rattle.relay_text.specs.Lines.{line_end}
 use Rattle.relay_text.proofs.Laws.{behind_on}
-use borrow.Author.Rules.{rules}
 use Rattle.relay_text.proofs.answers.say_state.Goals as goal
 
 pub end_line-requires : goal.end_line-requires
