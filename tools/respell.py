@@ -119,7 +119,7 @@ def turned(text, turns, comments):
 
 
 def page(text, turns):
-    word = lambda t, dashes: re.sub(r"[\w'-]+", lambda w: turns.get(w[0], w[0]) if dashes or re.search("[a-z][A-Z]", w[0]) else w[0], t)
+    word = lambda t, dashes: re.sub(r"(?<![\w'-])\w[\w'-]*", lambda w: turns.get(w[0], w[0]) if dashes or re.search("[a-z][A-Z]", w[0]) else w[0], t)
     lines, fenced = [], False
     for line in text.split("\n"):
         if line.startswith("```"):

@@ -1,4 +1,4 @@
--- The operators, casts and stores of evaluation give IEEE 754's results: `operators-hold`.
+-- The operators, casts and stores of evaluation give IEEE 754's results: `operators_hold`.
 use Rattle.std.proofs.Common.{◌≡◌, ℕ, Bool, not, T, ◌⊎◌, ◌↔◌, sym, refl, ap, ◌∙◌, subst, ⊎_elim, T_not}
 use lib.Dec.{not_T}
 use lib.Ieee.{nan, inf, fin, binary32}

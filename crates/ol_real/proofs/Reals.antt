@@ -1,4 +1,4 @@
--- ol_spec's names for the operations on reals give IEEE 754's results: `ieee754-holds`.
+-- ol_spec's names for the operations on reals give IEEE 754's results: `ieee754_holds`.
 use Rattle.std.proofs.Common.{◌≡◌, ℕ, ◌*◌, ◌^◌, ◌<◌, not, T, ◌≢◌, ℤ, sym, refl, le_of_eq, lt_of_lt_of_le}
 use lib.Ieee.{Float, nan, inf, fin, binary32, binary64, up, down, top, is_nan}
 use lib.Ieee as Ieee

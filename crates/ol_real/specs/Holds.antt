@@ -1,5 +1,5 @@
 -- The whole claim on reals in one record, `Ieee754Holds`: each name that ol_spec's module Real has for an operation on reals gives the one result that IEEE 754 defines (`Ieee754`, `Encoding`).
--- proofs/Reals.antt proves it: `ieee754-holds`.
+-- proofs/Reals.antt proves it: `ieee754_holds`.
 use Rattle.std.specs.Prelude.{◌≡◌, ℕ, ◌^◌, ◌<◌, ◌≤◌, T, ◌≢◌, ◌↔◌, ℤ}
 use Rattle.std.specs.Float.{nan}
 use Rattle.ol_spec.specs.Real as R
