@@ -1,4 +1,4 @@
--- The Rust of docs/src/crates/ol_sim/src/lib.rs, function by function and under its names (`eval_call` is its `eval_call`), for what document 01 keeps of it. The tree of a
+-- The Rust of docs/src/crates/ol_sim/src/lib.rs, function by function and under its names (with `rust_` before where evaluation has the same), for what document 01 keeps of it. The tree of a
 -- file stands for the `Project`.
 -- `&mut` is a result: an evaluation gives the `call_states` that it leaves, also with an `Err`. `state` is read only.
 use Rattle.std.specs.Prelude.{ℕ, zero, suc, ◌+◌, ◌-◌, Bool, true, false, ◌&&◌, cond, List, [], ◌∷◌, ◌++◌, map, length, get_or, eqb, pos}
