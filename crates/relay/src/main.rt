@@ -5,15 +5,15 @@ mod request;
 mod session;
 
 ghost use Rattle.std.specs.Prelude.{◌≡◌, true, cond, not, length, take};
-ghost use Rattle.io.specs.Counts.{IsPrefixLen};
 ghost use Rattle.relay_text.specs.Lines.{Said};
 ghost use Rattle.relay.specs.Reply.{reply};
 ghost use Rattle.relay.specs.Kept.{standing, Replies};
 ghost use Rattle.relay.specs.Turns.{unread, begun, waiting, after, Takes, Refills, Turned};
 ghost use Rattle.relay.specs.Sessions.{Served};
 
+use rows::streams::read;
 use session::Session;
-use std::io::{Read, Stdin, Stdout, Write};
+use std::io::{Stdin, Stdout, Write};
 
 // A piece of the input as it is read: its bytes from `at` up to `end` are not taken yet. The line's first
 // `length` bytes are there. It is whole once its end was met; the input is at its end once a read gives nothing.
@@ -68,17 +68,6 @@ struct Turn {
     input: Input,
     line: usize,
     is_over: bool,
-}
-
-// One read; how many bytes stand at the buffer's start then. A read that fails gives nothing.
-fn read(stdin: Stdin, buf: &mut [u8]) -> usize
-    ensures { IsPrefixLen result buf.new }
-{
-    let mut input = stdin;
-    match input.read(buf) {
-        Ok(n) => n,
-        Err(_) => 0,
-    }
 }
 
 // The input with something in it, unless it is at its end.
