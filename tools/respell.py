@@ -17,7 +17,7 @@ import sys
 SPLIT = re.compile(r'"(?:[^"\\\n]|\\.)*"|--[^\n]*|//[^\n]*|[^\s(){}.;,@"«»\[\]\\]+|.', re.S)
 HEAD = re.compile(r"^(\s*)((?:(?:abbrev|unfoldable|pub|data|record) )*)((?!let )[^\s(){}.;,@\"«»\[\]\\]+(?: [\w'-]+)*)((?: \{[^{}]*\}| \((?:[^()]|\((?:[^()]|\([^()]*\))*\))*\))*) :(?= |$)")
 # Names whose capitals make one word.
-WHOLE = {"NaN": "Nan", "NaNs": "Nans", "IEEE": "Ieee", "RelayLoader": "RelayLoader"}
+WHOLE = {"NaN": "Nan", "IEEE": "Ieee"}
 # Lemmas whose spelling a definition takes: they get _lem.
 FREED = "add_r all_in all_lines by_zero end_on first_some found_in good_of head_at names_in no_size node_at number_put place_at reads_all ring_in rows_long run_in same_key ty_size".split()
 PAGES = ("README.md", "docs", "oracle/README.md", "examples", "tests", "bench")
