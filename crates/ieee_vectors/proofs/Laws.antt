@@ -1,4 +1,4 @@
--- Laws of the rows: digits, numbers, and the lists that the loops fill.
+-- Laws of the rows: numbers, and the lists that the loops fill.
 use Prim.Native.Nat.{ℕ, ◌+◌, ◌-◌, ◌*◌, ◌%◌, zero, suc, ◌≤◌, ◌<◌}
 use native.Mathlib.Numerals.{add-one}
 use native.Mathlib.Omega.{arith}
@@ -7,6 +7,7 @@ use mathlib.Core.List.{List, [], ◌∷◌}
 use mathlib.Core.Path.{◌≡◌, refl, sym, ◌∙◌}
 use mathlib.Core.Bool.{Bool, true, false}
 use lib.Dec.{ltb}
+use mir.Val.{bool_byte}
 use lib.ListN.{length, get_or, take, set, length-append}
 use lib.Seq.{take-suc-set}
 use borrow.Author.Tests.{lt-ltb, le-ltb}
@@ -17,27 +18,6 @@ use Rattle.rows.specs.Rows.{one, agreeing, Compares}
 use Rattle.rows.proofs.Laws.{agreeing_most, all_agree_lem}
 use Rattle.ieee_vectors.specs.Operations.{result_of}
 use Rattle.ieee_vectors.specs.Sweeps.{next_of, operand_of, sweep_to, sweep_of}
-
--- a number that is at least k and not k is above k
-pub above : (n k : ℕ) → k ≤ n → (n ≡ k → ⊥) → k + 1 ≤ n
-above n k h e = omega (arith, e)
-
--- a digit, by where its byte stands
-module _ (c : ℕ) where
-  pub digit_0 : c < 48 → 0 ≡ digit_of c
-  digit_0 h = rw (lt-ltb c 48 h)
-
-  pub digit_1 : 48 ≤ c → c < 58 → c - 48 ≡ digit_of c
-  digit_1 a h = rw (le-ltb c 48 a, lt-ltb c 58 h)
-
-  pub digit_2 : 58 ≤ c → c < 97 → 0 ≡ digit_of c
-  digit_2 a h = rw (le-ltb c 48 (omega arith), le-ltb c 58 a, lt-ltb c 97 h)
-
-  pub digit_3 : 97 ≤ c → c < 103 → c - 87 ≡ digit_of c
-  digit_3 a h = rw (le-ltb c 48 (omega arith), le-ltb c 58 (omega arith), le-ltb c 97 a, lt-ltb c 103 h)
-
-  pub digit_4 : 103 ≤ c → 0 ≡ digit_of c
-  digit_4 a = rw (le-ltb c 48 (omega arith), le-ltb c 58 (omega arith), le-ltb c 97 (omega arith), le-ltb c 103 a)
 
 -- one digit more
 pub number_more : (text : List ℕ) (at n x : ℕ) → x ≡ number_at text at n → push x (digit_of (get_or text (at + n) 0)) ≡ number_at text at (n + 1)
@@ -87,13 +67,13 @@ results_length text (suc n) = rw (length-append, results_length text n) (omega a
 pub right_most : (text : List ℕ) (n : ℕ) → agreeing (answers text n) (results text n) ≤ n
 right_most text n = omega (arith, agreeing_most (answers text n) (results text n), results_length text n)
 
--- the counts, where the last row is cut off and where it is not
-module _ (text : List ℕ) (r : Counts) (e : r.right ≡ right_in text) where
-  pub counted_cut : whole text * 54 < length text → r.wrong ≡ whole text - r.right + 1 → Counted text r
-  counted_cut h w = record { right = e; all = rw (lt-ltb _ _ h) (omega (arith, right_most text (whole text))) }
-
-  pub counted_whole : length text ≤ whole text * 54 → r.wrong ≡ whole text - r.right → Counted text r
-  counted_whole h w = record { right = e; all = rw (le-ltb _ _ h) (omega (arith, right_most text (whole text))) }
+-- the counts: a last row that is cut off is wrong
+pub counted_rows : (text : List ℕ) (r : Counts) → r.right ≡ right_in text → r.wrong ≡ whole text - r.right + bool_byte (ltb (whole text * 54) (length text)) → Counted text r
+counted_rows text r e w = record { right = e; all = omega (arith, right_most text (whole text), e, w, byte_one (ltb (whole text * 54) (length text))) }
+  where
+    byte_one : (b : Bool) → bool_byte b ≡ one b
+    byte_one true = refl
+    byte_one false = refl
 
 -- ---- a run
 

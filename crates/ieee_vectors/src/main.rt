@@ -1,8 +1,7 @@
 // Checks the conversions of ol_real and the arithmetic of reals against the rows on standard input:
 // those of oracle/ieee/published.py, then those of oracle/ieee/vectors.c, whose head says what a row
 // has. Each mismatch is written as the row with the result found here, and at the end the counts.
-// Free are which bytes a read gives and whether a write takes them: `tell_row`, `tell_others`,
-// `tell_cut` and `main` only write, and promise nothing of it.
+// Which bytes a read gives and whether a write takes them is free.
 #![tactic(auto)]
 
 mod operations; // operations.rt: the result of an operation
@@ -12,8 +11,8 @@ ghost use Rattle.std.specs.Prelude.{◌≡◌, ◌+◌, ◌*◌, ◌/◌, ◌≤
 ghost use Rattle.rows.specs.Rows.{Compares};
 ghost use Rattle.ieee_vectors.specs.Lines.{digit_of, number_at, answer_at, answers, results, Counted, Checked, Total, passing};
 
-use operations::{result, truth};
-use rows::streams::{Streams, read_full, write_all, write_decimal, write_hex};
+use operations::result;
+use rows::streams::Streams;
 use rows::{Compared, compare};
 use sweeps::sweep;
 
@@ -26,16 +25,10 @@ const ROW: usize = 54;
 fn digit(c: u8) -> u64
     ensures { (result ≡ digit_of c) × (result < 16) }
 {
-    if c < 48 {
-        0
-    } else if c < 58 {
-        (c - 48) as u64
-    } else if c < 97 {
-        0
-    } else if c < 103 {
-        (c - 87) as u64
-    } else {
-        0
+    match c {
+        b'0'..=b'9' => u64::from(c - b'0'),
+        b'a'..=b'f' => u64::from(c - b'a' + 10),
+        _ => 0,
     }
 }
 
@@ -45,10 +38,8 @@ fn number(text: &[u8], at: usize, n: usize) -> u64
     ensures { result ≡ number_at text.now at n }
 {
     let mut x: u64 = 0;
-    let mut i = 0;
-    while i < n {
+    for i in 0..n {
         x = x % 0x1000_0000_0000_0000 * 16 + digit(text[at + i]);
-        i += 1;
     }
     x
 }
@@ -75,22 +66,18 @@ fn find(text: &[u8], found: &mut [u64])
     requires { 54 * length found.old ≤ length text.now }
     ensures { found.new ≡ answers text.now (length found.old) }
 {
-    let mut k = 0;
-    while k < found.len() {
-        found[k] = answer(text, k * ROW);
-        k += 1;
+    for (k, r) in found.iter_mut().enumerate() {
+        *r = answer(text, k * ROW);
     }
 }
 
-// What the rows of a text say that they give.
+// What the rows of a text say that they give. A function for both loops would take a closure, with clauses on what it gives at each row: no shorter.
 fn want(text: &[u8], wanted: &mut [u64])
     requires { 54 * length wanted.old ≤ length text.now }
     ensures { wanted.new ≡ results text.now (length wanted.old) }
 {
-    let mut k = 0;
-    while k < wanted.len() {
-        wanted[k] = number(text, k * ROW + 37, 16);
-        k += 1;
+    for (k, r) in wanted.iter_mut().enumerate() {
+        *r = number(text, k * ROW + 37, 16);
     }
 }
 
@@ -105,22 +92,19 @@ struct Counts {
 fn tell_row(streams: Streams, text: &[u8], at: usize, r: u64)
     requires { at + 54 ≤ length text.now }
 {
-    let end = at + ROW;
-    write_all(streams, &text[at..end]);
-    write_hex(streams, r);
-    write_all(streams, b"\n");
+    streams.write_all(&text[at..at + ROW]);
+    streams.write_hex(r);
+    streams.write_all(b"\n");
 }
 
 // Writes each row from row `from` on whose result is not the one found here.
 fn tell_others(streams: Streams, text: &[u8], from: usize, found: &[u64], wanted: &[u64])
     requires { (54 * length found.now ≤ length text.now) × (length wanted.now ≡ length found.now) }
 {
-    let mut k = from;
-    while k < found.len() {
+    for k in from..found.len() {
         if found[k] != wanted[k] {
             tell_row(streams, text, k * ROW, found[k]);
         }
-        k += 1;
     }
 }
 
@@ -136,20 +120,13 @@ fn compare_in(streams: Streams, text: &[u8], found: &mut [u64], wanted: &mut [u6
     c
 }
 
-// Room for the results of 64 rows.
-fn room() -> [u64; 64]
-    ensures { 64 ≡ length result }
-{
-    [0; 64]
-}
-
 // The same of the first n rows.
 fn compare_rows(streams: Streams, text: &[u8], n: usize) -> Compared
     requires { (n ≤ 64) × (54 * n ≤ length text.now) }
     ensures { Compares (answers text.now n) (results text.now n) result }
 {
-    let mut found = room();
-    let mut wanted = room();
+    let mut found = [0; 64];
+    let mut wanted = [0; 64];
     compare_in(streams, text, &mut found[..n], &mut wanted[..n])
 }
 
@@ -157,9 +134,9 @@ fn compare_rows(streams: Streams, text: &[u8], n: usize) -> Compared
 fn tell_cut(streams: Streams, text: &[u8], at: usize)
     requires { at ≤ length text.now }
 {
-    write_all(streams, b"cut off: ");
-    write_all(streams, &text[at..]);
-    write_all(streams, b"\n");
+    streams.write_all(b"cut off: ");
+    streams.write_all(&text[at..]);
+    streams.write_all(b"\n");
 }
 
 // The counts of a text of at most 64 rows.
@@ -169,20 +146,15 @@ fn count_rows(streams: Streams, text: &[u8]) -> Counts
 {
     let n = text.len() / ROW;
     let c = compare_rows(streams, text, n);
-    let right = c.agreeing;
-    let others = n - right;
+    let others = n - c.agreeing;
     let end = n * ROW;
-    if end < text.len() {
+    let is_cut = end < text.len();
+    if is_cut {
         tell_cut(streams, text, end);
-        Counts {
-            right: right as u64,
-            wrong: others as u64 + 1,
-        }
-    } else {
-        Counts {
-            right: right as u64,
-            wrong: others as u64,
-        }
+    }
+    Counts {
+        right: c.agreeing as u64,
+        wrong: others as u64 + u64::from(is_cut),
     }
 }
 
@@ -190,56 +162,48 @@ fn count_rows(streams: Streams, text: &[u8]) -> Counts
 fn check_block(streams: Streams) -> Counts
     ensures { Checked result }
 {
-    let mut block = [0u8; 3456];
-    let n = read_full(streams, &mut block);
+    let mut block = [0; 3456];
+    let n = streams.read_full(&mut block);
     count_rows(streams, &block[..n])
 }
 
-// Every row up to the input's end. A proved loop has to end, so it counts its turns down from a number that no run uses up.
+// Every row up to the input's end. A proved loop has to end, so it has a number of turns that no run uses up.
 fn check_all(streams: Streams) -> Counts
     ensures { Total result.right result.wrong }
 {
     let mut right: u64 = 0;
     let mut wrong: u64 = 0;
-    let mut left: u64 = 0x100_0000_0000_0000;
-    while left > 0 {
+    for turn in 0..0x100_0000_0000_0000u64 {
         let c = check_block(streams);
         if c.right + c.wrong == 0 {
-            return Counts {
-                right: right,
-                wrong: wrong,
-            };
+            break;
         }
         right += c.right;
         wrong += c.wrong;
-        left -= 1;
     }
-    Counts {
-        right: right,
-        wrong: wrong,
-    }
+    Counts { right, wrong }
 }
 
 // Whether a run passes: there are rows, and each is right.
 fn passes(c: Counts) -> bool
     ensures { result ≡ passing c }
 {
-    if c.right > 0 { c.wrong == 0 } else { false }
+    c.right > 0 && c.wrong == 0
 }
 
 // Writes the counts, and whether the run passes.
 fn report(streams: Streams, c: Counts) -> bool
     ensures { result ≡ passing c }
 {
-    write_decimal(streams, c.right);
-    write_all(streams, b" rows right, ");
-    write_decimal(streams, c.wrong);
-    write_all(streams, b" wrong");
+    streams.write_decimal(c.right);
+    streams.write_all(b" rows right, ");
+    streams.write_decimal(c.wrong);
+    streams.write_all(b" wrong");
     if passes(c) {
-        write_all(streams, b": ok\n");
+        streams.write_all(b": ok\n");
         true
     } else {
-        write_all(streams, b"\n");
+        streams.write_all(b"\n");
         false
     }
 }

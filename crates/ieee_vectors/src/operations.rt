@@ -1,24 +1,6 @@
 // The operations of the rows, by their numbers.
 ghost use Rattle.std.specs.Prelude.{◌≡◌, ◌%◌};
-ghost use Rattle.ol_spec.specs.Numbers.{residue, signed};
-ghost use Rattle.rows.specs.Rows.{one};
 ghost use Rattle.ieee_vectors.specs.Operations.{result_of};
-
-use ol_spec::Value;
-
-// A truth as a result has it.
-pub(crate) fn truth(b: bool) -> u64
-    ensures { result ≡ one b }
-{
-    if b { 1 } else { 0 }
-}
-
-// A single's bits as a result has them.
-fn wide(x: u32) -> u64
-    ensures { result ≡ x }
-{
-    x as u64
-}
 
 // The last 32 bits.
 fn low(a: u64) -> u32
@@ -27,25 +9,8 @@ fn low(a: u64) -> u32
     (a % 0x1_0000_0000) as u32
 }
 
-// The integer that 64 bits stand for.
-fn signed(a: u64) -> i64
-    ensures { result ≡ signed 64 a }
-{
-    if a < 0x8000_0000_0000_0000 {
-        a as i64
-    } else {
-        -1 - (0xffff_ffff_ffff_ffff - a) as i64
-    }
-}
-
-// The bits of an integer.
-fn unsigned(n: i64) -> u64
-    ensures { result ≡ residue 64 n }
-{
-    ol_value::cell::payload_of(Value::Int(n))
-}
-
-// The result of an operation on two operands, by their bits.
+// The result of an operation on two operands, by their bits. The numbers are those of the rows, and stand in this match alone: an
+// enum would list them once more.
 pub(crate) fn result(op: u64, a: u64, b: u64) -> u64
     ensures { result ≡ result_of op a b }
 {
@@ -54,29 +19,29 @@ pub(crate) fn result(op: u64, a: u64, b: u64) -> u64
     let s = ol_real::f32_of_bits(low(a));
     let t = ol_real::f32_of_bits(low(b));
     match op {
-        0x00 => ol_real::f64_bits(ol_real::i64_to_f64(signed(a))),
-        0x01 => wide(ol_real::f32_bits(ol_real::i64_to_f32(signed(a)))),
-        0x02 => wide(ol_real::f32_bits(ol_real::f64_to_f32(x))),
+        0x00 => ol_real::f64_bits(ol_real::i64_to_f64(a.cast_signed())),
+        0x01 => u64::from(ol_real::f32_bits(ol_real::i64_to_f32(a.cast_signed()))),
+        0x02 => u64::from(ol_real::f32_bits(ol_real::f64_to_f32(x))),
         0x03 => ol_real::f64_bits(ol_real::f32_to_f64(s)),
-        0x04 => unsigned(ol_real::f64_to_i64(x)),
-        0x05 => unsigned(ol_real::f32_to_i64(s)),
+        0x04 => ol_real::f64_to_i64(x).cast_unsigned(),
+        0x05 => ol_real::f32_to_i64(s).cast_unsigned(),
         0x06 => ol_real::f64_bits(x + y),
         0x07 => ol_real::f64_bits(x - y),
         0x08 => ol_real::f64_bits(x * y),
         0x09 => ol_real::f64_bits(x / y),
-        0x0a => wide(ol_real::f32_bits(s + t)),
-        0x0b => wide(ol_real::f32_bits(s - t)),
-        0x0c => wide(ol_real::f32_bits(s * t)),
-        0x0d => wide(ol_real::f32_bits(s / t)),
+        0x0a => u64::from(ol_real::f32_bits(s + t)),
+        0x0b => u64::from(ol_real::f32_bits(s - t)),
+        0x0c => u64::from(ol_real::f32_bits(s * t)),
+        0x0d => u64::from(ol_real::f32_bits(s / t)),
         0x0e => ol_real::f64_bits(-x),
-        0x0f => wide(ol_real::f32_bits(-s)),
-        0x10 => truth(x == y),
-        0x11 => truth(x < y),
-        0x12 => truth(x <= y),
-        0x13 => truth(s == t),
-        0x14 => truth(s < t),
-        0x15 => truth(s <= t),
+        0x0f => u64::from(ol_real::f32_bits(-s)),
+        0x10 => u64::from(x == y),
+        0x11 => u64::from(x < y),
+        0x12 => u64::from(x <= y),
+        0x13 => u64::from(s == t),
+        0x14 => u64::from(s < t),
+        0x15 => u64::from(s <= t),
         0x16 => ol_real::f64_bits(x),
-        _ => wide(ol_real::f32_bits(s)),
+        _ => u64::from(ol_real::f32_bits(s)),
     }
 }

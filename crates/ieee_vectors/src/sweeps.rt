@@ -14,19 +14,17 @@ fn next(x: u64) -> u64
 }
 
 // x with a 1 at the place p and below it zeros, or one less or one more.
+#[tactic(auto, unfolding(crate::specs::Sweeps::near_tie))]
 fn near_tie(x: u64, p: u64, turn: u64) -> u64
     requires { p < 64 }
     ensures { result ≡ near_tie x p turn }
 {
     let y = ((((x >> p) << 1) | 1) << p) >> 1;
-    if turn == 0 {
-        y
-    } else if turn == 1 {
-        if y > 0 { y - 1 } else { 0 }
-    } else if turn == 2 {
-        y | 1
-    } else {
-        x
+    match turn {
+        0 => y,
+        1 => y.saturating_sub(1),
+        2 => y | 1,
+        _ => x,
     }
 }
 
@@ -34,12 +32,7 @@ fn near_tie(x: u64, p: u64, turn: u64) -> u64
 fn is_single(op: u64) -> bool
     ensures { result ≡ is_single op }
 {
-    (op == 0x03)
-        | (op == 0x05)
-        | ((0x0a <= op) & (op <= 0x0d))
-        | (op == 0x0f)
-        | ((0x13 <= op) & (op <= 0x15))
-        | (op == 0x17)
+    matches!(op, 0x03 | 0x05 | 0x0a..=0x0d | 0x0f | 0x13..=0x15 | 0x17)
 }
 
 // An operand of the operation from a random number: the exponent's field is e.
@@ -65,14 +58,12 @@ pub(crate) fn sweep(op: u64, e: u64, seed: u64) -> u64
 {
     let mut x = seed;
     let mut h: u64 = 0x9e37_79b9_7f4a_7c15;
-    let mut i: u64 = 0;
-    while i < 64 {
+    for i in 0..64u64 {
         let z = next(x);
         x = next(z);
         let a = operand(op, e, z);
         let b = operand(op, e % 4096 + 4064 + x % 64, next(x));
         h = next(h ^ result(op, a, b));
-        i += 1;
     }
     h
 }

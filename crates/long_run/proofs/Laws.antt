@@ -4,7 +4,7 @@ use lib.Pointwise.{pointwise, bytes_decides}
 use Rattle.ol_spec.specs.Cycle.{start, cycle}
 use Rattle.ol_spec.specs.Limits.{relay_loader}
 use Rattle.ol_spec.specs.declared.Cycled.{Cycled}
-use Rattle.ol_spec.specs.declared.Started.{Started}
+use Rattle.ol_spec.specs.Answers.{Started}
 use Rattle.ol_sim.specs.Calls.{StartsAs, CyclesAs}
 use Rattle.rows.specs.Rows.{all_agree}
 use Rattle.long_run.specs.declared.Tally.{Tally}

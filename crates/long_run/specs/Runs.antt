@@ -1,11 +1,10 @@
 -- A run of cycles, each on the state that the one before it left, by `cycle`; what is counted on the way, and where the buffers stand.
-use Rattle.std.specs.Prelude.{◌≡◌, ℕ, zero, suc, ◌+◌, ◌/◌, ◌%◌, ◌^◌, Bool, true, false, cond, List, ◌==◌}
+use Rattle.std.specs.Prelude.{◌≡◌, ℕ, zero, suc, ◌+◌, ◌/◌, ◌%◌, ◌^◌, Bool, true, false, cond, List, ◌==◌, Ok, Err}
 use Rattle.ol_spec.specs.Cycle.{CycleCall, StartCall, start, cycle}
 use Rattle.ol_spec.specs.Limits.{relay_loader}
 use Rattle.ol_spec.specs.declared.Cycled.{Cycled}
 use Rattle.ol_spec.specs.declared.Cycled.TheVariants as Cyc
-use Rattle.ol_spec.specs.declared.Started.{Started}
-use Rattle.ol_spec.specs.declared.Started.TheVariants as St
+use Rattle.ol_spec.specs.Answers.{Started}
 use Rattle.rows.specs.Rows.{all_agree}
 use Rattle.long_run.specs.declared.Tally.{Tally}
 
@@ -15,8 +14,8 @@ is_answered (Cyc.Stopped f) = false
 is_answered (Cyc.Refused f) = false
 
 abbrev pub is_done : Started → Bool
-is_done St.Done = true
-is_done (St.Refused f) = false
+is_done (Ok tt) = true
+is_done (Err f) = false
 
 -- one more, where it is so; a count has 64 bits
 abbrev pub more : ℕ → Bool → ℕ

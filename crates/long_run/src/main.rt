@@ -1,19 +1,22 @@
 // A million cycles of the counter and of the feeder file, each on the state that the one before it left. make.py says what the standard input holds.
-// Free are which bytes a read gives and whether a write takes them: `tell`, `tell_cut`, `tell_left` and `main` promise nothing of it.
+// Free are which bytes a read gives and whether a write takes them: `tell` and `main` promise nothing of it.
 #![tactic(auto)]
 
 ghost use Rattle.std.specs.Prelude.{◌≡◌, ◌≤◌, length};
 ghost use Rattle.long_run.specs.Runs.{is_answered, is_done, more, none, Stepped, Stands, stand, both, inputs_at, after, run_of, Ran};
 
-use ol_spec::{Cycled, Started};
+use ol_spec::{Cycled, Fault};
 use relay_text::answers::say_answered;
-use rows::streams::{Streams, read_full, write_all, write_decimal};
+use rows::streams::Streams;
 use std::num::wrapping_add_u64;
 
 // So many cycles are made in pairs, with the other inputs after each thousand.
 const PAIRS: usize = 500_000;
 
 const PHASE: usize = 1_000;
+
+// Said where the input ends too early: what was read stands for nothing, and the run cannot pass.
+const CUT: &[u8] = b"the input is cut off\n";
 
 // What was counted: the cycles that were answered, and those that left the fresh state again.
 #[derive(Clone, Copy)]
@@ -26,21 +29,14 @@ struct Tally {
 fn is_answered(c: Cycled) -> bool
     ensures { result ≡ is_answered c }
 {
-    match c {
-        Cycled::Answered => true,
-        Cycled::Stopped(_) => false,
-        Cycled::Refused(_) => false,
-    }
+    matches!(c, Cycled::Answered)
 }
 
 // Whether a start was made.
-fn is_done(s: Started) -> bool
+fn is_done(s: Result<(), Fault>) -> bool
     ensures { result ≡ is_done s }
 {
-    match s {
-        Started::Done => true,
-        Started::Refused(_) => false,
-    }
+    s.is_ok()
 }
 
 // One more, where it is so.
@@ -129,10 +125,8 @@ fn run(
     ensures { Stands (after file.now fresh.now first.now second.now 500000 (stand none a.old b.old values.old)) result a.new b.new values.new }
 {
     let mut t = nothing();
-    let mut i = 0;
-    while i < PAIRS {
+    for i in 0..PAIRS {
         t = turn(t, i, file, fresh, first, second, a, b, values);
-        i += 1;
     }
     t
 }
@@ -141,27 +135,14 @@ fn run(
 fn tell(streams: Streams, t: Tally, values: &[u8], state: &[u8])
     requires { (length values.now ≤ 1008) × (length state.now ≤ 1008) }
 {
-    write_decimal(streams, t.answered);
-    write_all(streams, b" answered; the fresh state again ");
-    write_decimal(streams, t.fresh);
-    write_all(streams, b" times\n");
+    streams.write_decimal(t.answered);
+    streams.write_all(b" answered; the fresh state again ");
+    streams.write_decimal(t.fresh);
+    streams.write_all(b" times\n");
     let mut out = io::buffer();
     let n = say_answered(&mut out, values, state);
     let k = relay_text::within(n, &out);
-    write_all(streams, &out[..k]);
-}
-
-// Says that the input ends too early: what was read stands for nothing, and the run cannot pass.
-fn tell_cut(streams: Streams) {
-    write_all(streams, b"the input is cut off\n");
-}
-
-// Says where bytes are left behind what is read.
-fn tell_left(streams: Streams) {
-    let mut one = [0u8; 1];
-    if read_full(streams, &mut one) > 0 {
-        write_all(streams, b"bytes are left behind the inputs\n");
-    }
+    streams.write_all(&out[..k]);
 }
 
 // Starts a file twice, once for the state to compare with, makes all cycles and tells what was counted.
@@ -197,10 +178,7 @@ fn run_file(
 fn count(streams: Streams) -> Tally
     ensures { Ran result }
 {
-    let mut file = [0u8; 40];
-    if read_full(streams, &mut file) < 40 {
-        tell_cut(streams);
-    }
+    let file = streams.next::<40>(CUT);
     let mut fresh = [0u8; 10];
     let mut a = [0u8; 10];
     let mut b = [0u8; 10];
@@ -221,18 +199,9 @@ fn count(streams: Streams) -> Tally
 fn feed(streams: Streams) -> Tally
     ensures { Ran result }
 {
-    let mut file = [0u8; 795];
-    if read_full(streams, &mut file) < 795 {
-        tell_cut(streams);
-    }
-    let mut first = [0u8; 144];
-    if read_full(streams, &mut first) < 144 {
-        tell_cut(streams);
-    }
-    let mut second = [0u8; 144];
-    if read_full(streams, &mut second) < 144 {
-        tell_cut(streams);
-    }
+    let file = streams.next::<795>(CUT);
+    let first = streams.next::<144>(CUT);
+    let second = streams.next::<144>(CUT);
     let mut fresh = [0u8; 711];
     let mut a = [0u8; 711];
     let mut b = [0u8; 711];
@@ -256,5 +225,5 @@ fn main(rt: HostRuntime) {
     };
     count(streams);
     feed(streams);
-    tell_left(streams);
+    streams.tell_left(b"bytes are left behind the inputs\n");
 }

@@ -1,14 +1,12 @@
 -- The declarations of a node, of all nodes and of a whole file, sorted; and the highest name.
-use Prim.Native.Nat.{ℕ, ◌+◌, ◌≤◌, ◌<◌}
-use mathlib.Core.Bool.{Bool, true, false, cond}
+use Prim.Native.Nat.{ℕ, max, ◌+◌, ◌≤◌, ◌<◌}
 use mathlib.Core.List.{List, [], ◌∷◌, ◌++◌, map}
 use mathlib.Core.Option.{none}
 use mathlib.Core.Path.{◌≡◌, refl, sym, ap, subst, ◌∙◌}
 use native.Mathlib.Omega.{arith}
 use native.Mathlib.Numerals.{add-one}
 use lib.ListN.{length, get_or, drop, drop_of_length-le}
-use borrow.Author.Tests.{ltb-true, ltb-false}
-use lib.Dec.{ltb}
+use Rattle.std.specs.Prelude.{None}
 use Rattle.ol_spec.specs.Lists.{concat, sum}
 use Rattle.ol_spec.specs.Syntax.{Variable, Node, File}
 use Rattle.ol_spec.specs.Places.{placed, placed_enums, placed_constants, placed_nodes, constant_size, variable_size, node_size, nodes_start, constants_start, outputs_start, locals_start}
@@ -21,7 +19,7 @@ use Rattle.ol_tables.specs.Heads.{Byte}
 use Rattle.ol_check.specs.Founds.{place_of}
 use Rattle.ol_check.specs.Spans.{end_from, behind_variable, variables_from}
 use Rattle.ol_check.specs.NodesJudged.{place_in, NodeReady, RowsReady}
-use Rattle.ol_check.specs.Clashing.{over, over_all, Sorts, Walks, marked_place, marked_most, VariablesSorted, enums_from, ConstantsAt, DeclaredReady, FileSorted}
+use Rattle.ol_check.specs.Clashing.{over_all, Sorts, Walks, VariablesSorted, enums_from, ConstantsAt, DeclaredReady, FileSorted}
 use Rattle.ol_check.specs.declared.rows.Sections.{Sections}
 use Rattle.ol_check.specs.declared.clash.Sorting.{Sorting}
 use Rattle.ol_tables.proofs.Forms.{each_map}
@@ -37,7 +35,7 @@ as_append u [] b = refl
 as_append u (p ∷ a) b = ap (λ l. declared_at u (placed_variable_name p) ∷ l) (as_append u a b)
 
 -- the variables of a section that stands in the file
-section_walks : {s : List ℕ} (k enums : ℕ) {count at p r : ℕ} {sorts sorts' marks marks' : List ℕ} (vs : List Variable) → VariablesSorted s (k + 18) count p sorts sorts' marks marks' r → count ≡ length vs → p ≡ at → Variables s enums at vs
+section_walks : {s : List ℕ} (k enums : ℕ) {count at p r : ℕ} {sorts sorts' : List ℕ} {marks marks' : Sorting} (vs : List Variable) → VariablesSorted s (18 + k) count p sorts sorts' marks marks' r → count ≡ length vs → p ≡ at → Variables s enums at vs
     → Walks (declared_as (variable k) (map placed_variable_name (placed variable_size at vs))) sorts sorts' marks marks' × (r ≡ at + sum (map variable_size vs))
 section_walks {s} k enums {count} {at} {p} {r} {sorts} {sorts'} {marks} {marks'} vs w ec ep there = (
   subst (λ ds. Walks ds sorts sorts' marks marks')
@@ -52,8 +50,8 @@ module _ {s rows : List ℕ} {nodes k : ℕ} (rd : NodeReady s rows nodes k) (st
   pub place_in_lem : at < length s
   place_in_lem = omega (arith, place_is, (ready_node rd st).inside)
 
-  pub node_walks : {is os ls o l r : ℕ} {sorts s₁ s₂ s₃ marks m₁ m₂ m₃ : List ℕ} → Byte s (at + 1) is → VariablesSorted s (k + 18) is (at + 2) sorts s₁ marks m₁ o → Byte s o os → VariablesSorted s (k + 18) os (o + 1) s₁ s₂ m₁ m₂ l
-      → Byte s l ls → VariablesSorted s (k + 18) ls (l + 1) s₂ s₃ m₂ m₃ r → Walks (node_declares (k, (place_in (file_at s) k, node_of (file_at s) k))) sorts s₃ marks m₃
+  pub node_walks : {is os ls o l r : ℕ} {sorts s₁ s₂ s₃ : List ℕ} {marks m₁ m₂ m₃ : Sorting} → Byte s (at + 1) is → VariablesSorted s (18 + k) is (at + 2) sorts s₁ marks m₁ o → Byte s o os → VariablesSorted s (18 + k) os (o + 1) s₁ s₂ m₁ m₂ l
+      → Byte s l ls → VariablesSorted s (18 + k) ls (l + 1) s₂ s₃ m₂ m₃ r → Walks (node_declares (k, (place_in (file_at s) k, node_of (file_at s) k))) sorts s₃ marks m₃
   node_walks {is} {os} {ls} {o} {l} {r} {sorts} {s₁} {s₂} {s₃} {marks} {m₁} {m₂} {m₃} bi r₁ bo r₂ bl r₃ =
       let n = node_of (file_at s) k in
       let p = place_in (file_at s) k in
@@ -71,7 +69,7 @@ module _ {s rows : List ℕ} {nodes k : ℕ} (rd : NodeReady s rows nodes k) (st
       let c = placed variable_size (locals_start p n + 1) n.locals in
       let same : declared_as u (map placed_variable_name a) ++ declared_as u (map placed_variable_name b) ++ declared_as u (map placed_variable_name c) ≡ node_declares (k, (p, n)) =
       ap (λ x. x ++ declared_as u (map placed_variable_name c)) (sym (as_append u a b)) ∙ sym (as_append u (a ++ b) c) in
-      record { is = subst (λ ds. Sorts ds sorts s₃ (marked_place marks) (marked_most marks) (marked_place m₃) (marked_most m₃)) same all; long = w₃.0.long ∙ w₂.0.long ∙ w₁.0.long }
+      record { is = subst (λ ds. Sorts ds sorts s₃ (place_of marks.found) marks.highest (place_of m₃.found) m₃.highest) same all }
 
 -- ---- all nodes
 
@@ -79,31 +77,33 @@ module _ {s rows : List ℕ} {nodes k : ℕ} (rd : NodeReady s rows nodes k) (st
 abbrev pub nodes_from : File → ℕ → List Declared
 nodes_from f k = concat (map node_declares (numbered k (drop k (placed_nodes f))))
 
-pub record NodesGoing (f : File) (sorts₀ marks₀ sorts marks : List ℕ) (k : ℕ) : Type 0 where
-  pub left : Left (nodes_from f k) sorts (marked_place marks) (marked_most marks) (nodes_from f 0) sorts₀ (marked_place marks₀) (marked_most marks₀)
-  pub long : length marks ≡ length marks₀
+pub record NodesGoing (f : File) (sorts₀ : List ℕ) (marks₀ : Sorting) (sorts : List ℕ) (marks : Sorting) (k : ℕ) : Type 0 where
+  pub left : Left (nodes_from f k) sorts (place_of marks.found) marks.highest (nodes_from f 0) sorts₀ (place_of marks₀.found) marks₀.highest
 
-module _ {f : File} {sorts₀ marks₀ : List ℕ} where
+module _ {f : File} {sorts₀ : List ℕ} {marks₀ : Sorting} where
   pub nodes_start_lem : NodesGoing f sorts₀ marks₀ sorts₀ marks₀ 0
-  nodes_start_lem = record { left = left_all; long = refl }
+  nodes_start_lem = record { left = left_all }
 
-  module _ {sorts marks : List ℕ} {k : ℕ} (w : NodesGoing f sorts₀ marks₀ sorts marks k) where
-    pub nodes_turn : k < length f.nodes → {sorts' marks' : List ℕ} → Walks (node_declares (k, (place_in f k, node_of f k))) sorts sorts' marks marks' → NodesGoing f sorts₀ marks₀ sorts' marks' (k + 1)
+  module _ {sorts : List ℕ} {marks : Sorting} {k : ℕ} (w : NodesGoing f sorts₀ marks₀ sorts marks k) where
+    pub nodes_turn : k < length f.nodes → {sorts' : List ℕ} {marks' : Sorting} → Walks (node_declares (k, (place_in f k, node_of f k))) sorts sorts' marks marks' → NodesGoing f sorts₀ marks₀ sorts' marks' (k + 1)
     nodes_turn lt {sorts'} {marks'} one =
         let x : ℕ × Node = (place_in f k, node_of f k) in
         let rest = drop (k + 1) (placed_nodes f) in
         let counted : numbered k (drop k (placed_nodes f)) ≡ (k, x) ∷ numbered (k + 1) rest = ap (numbered k) (nodes_on f k lt) ∙ ap (λ n. (k, x) ∷ numbered n rest) (sym (add-one k)) in
         record {
-          left = left_on (node_declares (k, x)) (subst (λ l. Left (concat (map node_declares l)) sorts (marked_place marks) (marked_most marks) (nodes_from f 0) sorts₀ (marked_place marks₀) (marked_most marks₀)) counted w.left) one.is;
-          long = one.long ∙ w.long;
+          left = left_on (node_declares (k, x)) (subst (λ l. Left (concat (map node_declares l)) sorts (place_of marks.found) marks.highest (nodes_from f 0) sorts₀ (place_of marks₀.found) marks₀.highest) counted w.left) one.is;
         }
 
     pub nodes_done : length f.nodes ≤ k → Walks (concat (map node_declares (numbered 0 (placed_nodes f)))) sorts₀ sorts marks₀ marks
     nodes_done over =
         let empty : drop k (placed_nodes f) ≡ [] = drop_of_length-le (placed_nodes f) {i = k} (omega (arith, length_placed node_size (nodes_start f) f.nodes)) in
-        record { is = left_none (subst (λ l. Left (concat (map node_declares (numbered k l))) sorts (marked_place marks) (marked_most marks) (nodes_from f 0) sorts₀ (marked_place marks₀) (marked_most marks₀)) empty w.left); long = w.long }
+        record { is = left_none (subst (λ l. Left (concat (map node_declares (numbered k l))) sorts (place_of marks.found) marks.highest (nodes_from f 0) sorts₀ (place_of marks₀.found) marks₀.highest) empty w.left) }
 
 -- ---- the file
+
+-- no clash, and no name
+abbrev no_marks : Sorting
+no_marks = record { found = None; highest = 0 }
 
 module _ {s rows : List ℕ} {c : Sections} (rd : DeclaredReady s rows c) (st : FileStands s (file_at s)) where
   pub nodes_ready : {n : ℕ} → Byte s c.nodes n → RowsReady s rows n
@@ -118,39 +118,32 @@ module _ {s rows : List ℕ} {c : Sections} (rd : DeclaredReady s rows c) (st : 
   pub constants_at : {n : ℕ} → Byte s c.constants n → ConstantsAt s n (c.constants + 1)
   constants_at b = record { reads = rd.reads; many = b.is ∙ ap (λ p. get_or s p 0) (omega (arith, rd.sections.constants)) ∙ st.constant_count; place = rd.sections.constants }
 
-  pub file_sorted : {ec : ℕ} {sorts s₁ s₂ s₃ m₁ m₂ m₃ : List ℕ} {r : Sorting} → Byte s 1 ec → Walks (enums_from s 0 ec 2) sorts s₁ (65536 ∷ 0 ∷ []) m₁
+  pub file_sorted : {ec : ℕ} {sorts s₁ s₂ s₃ : List ℕ} {m₁ m₂ m₃ : Sorting} → Byte s 1 ec → Walks (enums_from s 0 ec 2) sorts s₁ no_marks m₁
       → Walks (declared_as constant (map placed_constant_name (placed_constants (file_at s)))) s₁ s₂ m₁ m₂ → Walks (concat (map node_declares (numbered 0 (placed_nodes (file_at s))))) s₂ s₃ m₂ m₃
-      → place_of r.found ≡ marked_place m₃ → r.highest ≡ marked_most m₃ → FileSorted s sorts s₃ r
-  file_sorted {ec} {sorts} {s₁} {s₂} {s₃} {m₁} {m₂} {m₃} {r} eb enums constants nodes ef el =
+      → FileSorted s sorts s₃ m₃
+  file_sorted {ec} {sorts} {s₁} {s₂} {s₃} {m₁} {m₂} {m₃} eb enums constants nodes =
       let f = file_at s in
-      let we : Walks (concat (map enum_declares (numbered 0 (placed_enums f)))) sorts s₁ (65536 ∷ 0 ∷ []) m₁ =
-      subst (λ ds. Walks ds sorts s₁ (65536 ∷ 0 ∷ []) m₁) (ap (λ n. enums_from s 0 n 2) (eb.is ∙ st.enum_count) ∙ enums_listed 0 2 f.enums (omega (arith, st.few_enums)) st.enums) enums in
-      let all : Sorts (declared f) sorts s₃ none 0 (marked_place m₃) (marked_most m₃) = sorts_two (sorts_two we.is constants.is) nodes.is in
+      let we : Walks (concat (map enum_declares (numbered 0 (placed_enums f)))) sorts s₁ no_marks m₁ =
+      subst (λ ds. Walks ds sorts s₁ no_marks m₁) (ap (λ n. enums_from s 0 n 2) (eb.is ∙ st.enum_count) ∙ enums_listed 0 2 f.enums (omega (arith, st.few_enums)) st.enums) enums in
+      let all : Sorts (declared f) sorts s₃ none 0 (place_of m₃.found) m₃.highest = sorts_two (sorts_two we.is constants.is) nodes.is in
       record {
         enters = all.enters;
-        clash = ef ∙ all.finds;
-        finds = λ blank. ef ∙ all.finds ∙ clash_is sorts st blank.zero blank.below;
-        highest = el ∙ all.above;
+        clash = all.finds;
+        finds = λ blank. all.finds ∙ clash_is sorts st blank.zero blank.below;
+        highest = all.above;
       }
 
 -- ---- the highest name
 
-over_step : (most x : ℕ) → (most ≤ over most x) × (x ≤ over most x)
-over_step most x = go (ltb x most) refl
-  where
-    go : (b : Bool) → ltb x most ≡ b → (most ≤ cond b most x) × (x ≤ cond b most x)
-    go true e = (omega arith, omega (arith, ltb-true x most e))
-    go false e = (omega (arith, ltb-false x most e), omega arith)
-
 over_most : (most : ℕ) (ds : List Declared) → most ≤ over_all most ds
 unfolding over_all
 over_most most [] = omega arith
-over_most most (d ∷ ds) = omega (arith, (over_step most d.name).0, over_most (over most d.name) ds)
+over_most most (d ∷ ds) = omega (arith, over_most (max most d.name) ds)
 
 all_over : (most : ℕ) (ds : List Declared) → Each (λ d. d.name ≤ over_all most ds) ds
 unfolding over_all
 all_over most [] = tt
-all_over most (d ∷ ds) = (omega (arith, (over_step most d.name).1, over_most (over most d.name) ds), all_over (over most d.name) ds)
+all_over most (d ∷ ds) = (omega (arith, over_most (max most d.name) ds), all_over (max most d.name) ds)
 
 -- every declared name is below a number that is above the highest
 pub names_below : (n : ℕ) {s sorts sorts' : List ℕ} {r : Sorting} → FileSorted s sorts sorts' r → r.highest < n → Each (λ d. d.name < n) (declared (file_at s))

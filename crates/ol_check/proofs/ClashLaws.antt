@@ -10,7 +10,7 @@ use native.Mathlib.Decide.{dec_le}
 use lib.ListN.{length, get_or, set, length-set}
 use lib.Seq.{get_or-set_same, get_or-set_other}
 use lib.Dec.{ltb, leb, eqb}
-use borrow.Author.Tests.{ltb-true, lt-ltb, leb-true, le-leb, lt-leb, eqb-true, eq-eqb, ne_eqb}
+use borrow.Author.Tests.{ltb-true, lt-ltb, leb-true, le-leb, eqb-true, eq-eqb, ne_eqb}
 use Rattle.ol_spec.specs.Lists.{any_of, concat}
 use Rattle.ol_spec.specs.Syntax.{Node, File}
 use Rattle.ol_spec.specs.Places.{placed, placed_enums, placed_constants, placed_nodes, placed_names, placed_variables, enum_size, node_size, nodes_start}
@@ -37,18 +37,6 @@ meet : (last sort : ℕ) → Meets last sort → meets last sort ≡ true
 meet last sort h =
     rw (lt-ltb 0 last h.0)
     (⊎_elim (λ a. rw (eq-eqb last sort a) refl) (λ b. rw (le-leb last 17 b.0, le-leb 17 sort b.1) (or-true (eqb last sort))) h.1)
-
-pub clashes_none : (last sort : ℕ) → last ≡ 0 → false ≡ meets last sort
-clashes_none last sort e = rw e refl
-
-pub clashes_same : (last sort : ℕ) → (last ≡ 0 → ⊥) → last ≡ sort → true ≡ meets last sort
-clashes_same last sort nz e = sym (meet last sort (omega (arith, nz), inl e))
-
-pub clashes_low : (last sort : ℕ) → (last ≡ 0 → ⊥) → (last ≡ sort → ⊥) → last ≤ 17 → leb 17 sort ≡ meets last sort
-clashes_low last sort nz ne low = rw (lt-ltb 0 last (omega (arith, nz)), ne_eqb last sort ne, le-leb last 17 low) refl
-
-pub clashes_high : (last sort : ℕ) → (last ≡ 0 → ⊥) → (last ≡ sort → ⊥) → 17 < last → false ≡ meets last sort
-clashes_high last sort nz ne high = rw (lt-ltb 0 last (omega (arith, nz)), ne_eqb last sort ne, lt-leb last 17 high) refl
 
 -- ---- sorts
 

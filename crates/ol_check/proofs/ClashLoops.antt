@@ -1,13 +1,13 @@
 -- The loops over declarations: what is left to be sorted.
-use Prim.Native.Nat.{ℕ, suc, ◌+◌, ◌-◌, ◌*◌, ◌≤◌, ◌<◌}
+use Prim.Native.Nat.{ℕ, suc, max, ◌+◌, ◌-◌, ◌≤◌, ◌<◌}
 use mathlib.Core.Bool.{Bool, true, false, cond}
 use mathlib.Core.List.{List, [], ◌∷◌, ◌++◌, map}
 use mathlib.Core.Option.{Option, none, some}
 use mathlib.Core.Path.{◌≡◌, refl, sym, ap, subst, ◌∙◌}
 use native.Mathlib.Omega.{arith}
 use native.Mathlib.Numerals.{add-one}
-use lib.ListN.{length, get_or, set, drop, drop_of_length-le, length-set}
-use lib.Seq.{drop-cons, get_or-set_same, get_or-set_other}
+use lib.ListN.{length, get_or, set, drop, drop_of_length-le}
+use lib.Seq.{drop-cons}
 use lib.Dec.{ltb, eqb}
 use borrow.Author.Tests.{ltb-false, eqb-true, eqb-false, lt-ltb, le-ltb, ne_eqb}
 use Rattle.ol_spec.specs.Lists.{or_else, concat}
@@ -19,17 +19,18 @@ use Rattle.ol_spec.specs.Within.{constant_fits, enum_fits}
 use Rattle.ol_spec.specs.Admission.{variant, constant, variable, Declared, first_if, numbered, declared_at, declared_as, placed_constant_name, enum_declares}
 use Rattle.ol_spec.proofs.RoundTrip.Parts.{here_inside}
 use Rattle.ol_spec.proofs.RoundTrip.Items.{names_size, constant_size_lem}
-use Rattle.ol_tables.specs.Heads.{Byte, name_at, ty_size_at}
+use Rattle.ol_tables.specs.Heads.{Byte, name_at}
 use Rattle.ol_tables.specs.Walks.{skip_at}
 use Rattle.ol_tables.specs.Stands.{Listed}
 use Rattle.ol_tables.proofs.Skipping.{skip_stands}
 use Rattle.ol_tables.proofs.HeadsFile.{Passing, passing_start, passing_item, constant_stands}
-use Rattle.ol_check.specs.Spans.{starts_from, end_from, behind_enum, named_at, names_from}
+use Rattle.ol_check.specs.Spans.{starts_from, end_from, behind_variable, behind_enum, named_at, names_from}
 use Rattle.ol_check.specs.RowsDone.{Enums, no_constant}
-use Rattle.ol_check.specs.Clashing.{sort_code, sort_of, meets, sort_all, clash_in, over, over_all, Sorts, Walks, marked_place, marked_most, enums_from}
-use Rattle.ol_check.specs.Founds.{place_at, first_place}
+use Rattle.ol_check.specs.Clashing.{sort_code, sort_of, meets, sort_all, clash_in, over_all, Sorts, Walks, enums_from}
+use Rattle.ol_check.specs.Founds.{place_of, marked}
+use Rattle.ol_check.proofs.FoundLaws.{place_marked}
+use Rattle.ol_check.specs.declared.clash.Sorting.{Sorting}
 use Rattle.ol_check.proofs.SpanLaws.{starts_on, starts_none, end_on_lem, end_none, names_listed, enum_stands}
-use Rattle.ol_check.proofs.FoundLaws.{place_first}
 use Rattle.ol_check.proofs.WalkLoop.{found_none}
 
 -- ---- lists of declarations, one behind the other
@@ -58,7 +59,7 @@ clash_append sorts (d ∷ a) b =
 over_append : (most : ℕ) (a b : List Declared) → over_all most (a ++ b) ≡ over_all (over_all most a) b
 unfolding over_all
 over_append most [] b = refl
-over_append most (d ∷ a) b = over_append (over most d.name) a b
+over_append most (d ∷ a) b = over_append (max most d.name) a b
 
 -- what is left to be sorted leads to what all leads to
 pub record Left (ds : List Declared) (sorts : List ℕ) (found : Option ℕ) (most : ℕ) (all : List Declared) (sorts₀ : List ℕ) (found₀ : Option ℕ) (most₀ : ℕ) : Type 0 where
@@ -107,62 +108,54 @@ code_of c pos = go (ltb c 17) (eqb c 17) refl refl
 pub of_variant : (e : ℕ) → e < 16 → sort_of (e + 1) ≡ variant e
 of_variant e lt = let less : e + 1 - 1 ≡ e = omega arith in rw (lt-ltb (e + 1) 17 (omega arith)) (ap variant less)
 
-pub of_variable : (k : ℕ) → sort_of (k + 18) ≡ variable k
-of_variable k = let less : k + 18 - 18 ≡ k = omega arith in rw (le-ltb (k + 18) 17 (omega arith), ne_eqb (k + 18) 17 (λ e. omega arith)) (ap variable less)
+pub of_variable : (k : ℕ) → sort_of (18 + k) ≡ variable k
+of_variable k = let less : 18 + k - 18 ≡ k = omega arith in rw (le-ltb (18 + k) 17 (omega arith), ne_eqb (18 + k) 17 (λ e. omega arith)) (ap variable less)
 
 -- ---- one name
 
-pub name_walks : (s : List ℕ) (sort at : ℕ) {x b p l : ℕ} {q : Bool} {sorts sorts' marks marks' : List ℕ} → 0 < sort → at < 65536 → length marks ≡ 2 → x ≡ name_at s at → Byte sorts x b → q ≡ meets b sort → sorts' ≡ set sorts x sort
-    → p ≡ first_place (get_or marks 0 0) q at → l ≡ over (get_or (set marks 0 p) 1 0) x → marks' ≡ set (set marks 0 p) 1 l → Walks (declared_at (sort_of sort) (named_at s at) ∷ []) sorts sorts' marks marks'
+pub name_walks : (s : List ℕ) (sort at : ℕ) {x b : ℕ} {q : Bool} {sorts sorts' : List ℕ} {marks marks' : Sorting} → 0 < sort → x ≡ name_at s at → Byte sorts x b → q ≡ meets b sort → sorts' ≡ set sorts x sort
+    → marks'.found ≡ marked marks.found q at → marks'.highest ≡ max marks.highest x → Walks (declared_at (sort_of sort) (named_at s at) ∷ []) sorts sorts' marks marks'
 unfolding clash_in sort_all over_all
-name_walks s sort at {x} {b} {p} {l} {q} {sorts} {sorts'} {marks} {marks'} pos lt two ex eb eq es ep el em =
-    let m₁ = set marks 0 p in
+name_walks s sort at {x} {b} {q} {sorts} {sorts'} {marks} {marks'} pos ex eb eq es ef el =
     let code = sym (code_of sort pos) in
-    let place : get_or marks' 0 0 ≡ p = ap (λ g. get_or g 0 0) em ∙ get_or-set_other m₁ 1 0 l 0 (λ e. omega arith) ∙ get_or-set_same marks 0 p 0 (omega arith) in
-    let most : get_or marks' 1 0 ≡ l = ap (λ g. get_or g 1 0) em ∙ get_or-set_same m₁ 1 l 0 (omega (arith, length-set marks 0 p)) in
-    let kept : get_or m₁ 1 0 ≡ get_or marks 1 0 = get_or-set_other marks 0 1 p 0 (λ e. omega arith) in
     let meeting : q ≡ meets (get_or sorts (name_at s at) 0) (sort_code (sort_of sort)) = eq ∙ ap (λ n. meets n sort) eb.is ∙ ap (λ y. meets (get_or sorts y 0) sort) ex ∙ ap (meets (get_or sorts (name_at s at) 0)) code in
     record {
       is = record {
-        finds = ap place_at (place ∙ ep) ∙ place_first (get_or marks 0 0) q at lt ∙ ap (λ t. or_else (marked_place marks) (first_if t at none)) meeting;
-        above = most ∙ el ∙ ap (λ n. over n x) kept ∙ ap (over (marked_most marks)) ex;
+        finds = ap place_of ef ∙ place_marked marks.found q at ∙ ap (λ t. or_else (place_of marks.found) (first_if t at none)) meeting;
+        above = el ∙ ap (max marks.highest) ex;
         enters = es ∙ ap (λ y. set sorts y sort) ex ∙ ap (set sorts (name_at s at)) code;
       };
-      long = ap length em ∙ length-set m₁ 1 l ∙ length-set marks 0 p;
     }
 
 -- ---- so many names, so many variables
 
 -- those from number i on are left, and end where all end
-pub record NamesGoing (behind : ℕ → ℕ) (s : List ℕ) (sort count at : ℕ) (sorts₀ marks₀ sorts marks : List ℕ) (i next : ℕ) : Type 0 where
-  pub left : Left (declared_as (sort_of sort) (map (named_at s) (starts_from behind (count - i) next))) sorts (marked_place marks) (marked_most marks)
-      (declared_as (sort_of sort) (map (named_at s) (starts_from behind count at))) sorts₀ (marked_place marks₀) (marked_most marks₀)
+pub record NamesGoing (behind : ℕ → ℕ) (s : List ℕ) (sort count at : ℕ) (sorts₀ : List ℕ) (marks₀ : Sorting) (sorts : List ℕ) (marks : Sorting) (i next : ℕ) : Type 0 where
+  pub left : Left (declared_as (sort_of sort) (map (named_at s) (starts_from behind (count - i) next))) sorts (place_of marks.found) marks.highest
+      (declared_as (sort_of sort) (map (named_at s) (starts_from behind count at))) sorts₀ (place_of marks₀.found) marks₀.highest
   pub end : end_from behind (count - i) next ≡ end_from behind count at
-  pub long : length marks ≡ length marks₀
 
-module _ {behind : ℕ → ℕ} {s : List ℕ} {sort count at : ℕ} {sorts₀ marks₀ : List ℕ} where
+module _ {behind : ℕ → ℕ} {s : List ℕ} {sort count at : ℕ} {sorts₀ : List ℕ} {marks₀ : Sorting} where
   pub names_start : NamesGoing behind s sort count at sorts₀ marks₀ sorts₀ marks₀ 0 at
-  names_start = let z : count - 0 ≡ count = omega arith in record { left = rw z left_all; end = rw z refl; long = refl }
+  names_start = let z : count - 0 ≡ count = omega arith in record { left = rw z left_all; end = rw z refl }
 
-  module _ {sorts marks : List ℕ} {i next : ℕ} (w : NamesGoing behind s sort count at sorts₀ marks₀ sorts marks i next) where
-    pub names_turn : i < count → {sorts' marks' : List ℕ} {next' : ℕ} → next' ≡ behind next → Walks (declared_at (sort_of sort) (named_at s next) ∷ []) sorts sorts' marks marks'
+  module _ {sorts : List ℕ} {marks : Sorting} {i next : ℕ} (w : NamesGoing behind s sort count at sorts₀ marks₀ sorts marks i next) where
+    pub names_turn : i < count → {sorts' : List ℕ} {marks' : Sorting} {next' : ℕ} → next' ≡ behind next → Walks (declared_at (sort_of sort) (named_at s next) ∷ []) sorts sorts' marks marks'
         → NamesGoing behind s sort count at sorts₀ marks₀ sorts' marks' (i + 1) next'
     names_turn lt {sorts'} {marks'} {next'} en one =
         let all = declared_as (sort_of sort) (map (named_at s) (starts_from behind count at)) in
-        let on : Left (declared_at (sort_of sort) (named_at s next) ∷ declared_as (sort_of sort) (map (named_at s) (starts_from behind (count - (i + 1)) (behind next)))) sorts (marked_place marks) (marked_most marks) all sorts₀ (marked_place marks₀) (marked_most marks₀) =
-        subst (λ l. Left (declared_as (sort_of sort) (map (named_at s) l)) sorts (marked_place marks) (marked_most marks) all sorts₀ (marked_place marks₀) (marked_most marks₀)) (starts_on behind count i next lt) w.left in
+        let on : Left (declared_at (sort_of sort) (named_at s next) ∷ declared_as (sort_of sort) (map (named_at s) (starts_from behind (count - (i + 1)) (behind next)))) sorts (place_of marks.found) marks.highest all sorts₀ (place_of marks₀.found) marks₀.highest =
+        subst (λ l. Left (declared_as (sort_of sort) (map (named_at s) l)) sorts (place_of marks.found) marks.highest all sorts₀ (place_of marks₀.found) marks₀.highest) (starts_on behind count i next lt) w.left in
         record {
           left = rw en (left_on (declared_at (sort_of sort) (named_at s next) ∷ []) on one.is);
           end = ap (end_from behind (count - (i + 1))) en ∙ sym (end_on_lem behind count i next lt) ∙ w.end;
-          long = one.long ∙ w.long;
         }
 
     pub names_done : count ≤ i → Walks (declared_as (sort_of sort) (map (named_at s) (starts_from behind count at))) sorts₀ sorts marks₀ marks
     names_done over =
         record {
-          is = left_none (subst (λ l. Left (declared_as (sort_of sort) (map (named_at s) l)) sorts (marked_place marks) (marked_most marks) (declared_as (sort_of sort) (map (named_at s) (starts_from behind count at))) sorts₀ (marked_place marks₀) (marked_most marks₀))
+          is = left_none (subst (λ l. Left (declared_as (sort_of sort) (map (named_at s) l)) sorts (place_of marks.found) marks.highest (declared_as (sort_of sort) (map (named_at s) (starts_from behind count at))) sorts₀ (place_of marks₀.found) marks₀.highest)
               (starts_none behind count i next over) w.left);
-          long = w.long;
         }
 
     pub names_end : count ≤ i → next ≡ end_from behind count at
@@ -170,24 +163,23 @@ module _ {behind : ℕ → ℕ} {s : List ℕ} {sort count at : ℕ} {sorts₀ m
 
 -- ---- the constants
 
-pub record ConstantsGoing (s : List ℕ) (enums : ℕ) (cs : List Constant) (at : ℕ) (sorts₀ marks₀ sorts marks : List ℕ) (i next : ℕ) : Type 0 where
+pub record ConstantsGoing (s : List ℕ) (enums : ℕ) (cs : List Constant) (at : ℕ) (sorts₀ : List ℕ) (marks₀ : Sorting) (sorts : List ℕ) (marks : Sorting) (i next : ℕ) : Type 0 where
   pub passing : Passing constant_bytes (constant_fits base enums) constant_size s at cs i next
-  pub left : Left (declared_as constant (map placed_constant_name (placed constant_size next (drop i cs)))) sorts (marked_place marks) (marked_most marks)
-      (declared_as constant (map placed_constant_name (placed constant_size at cs))) sorts₀ (marked_place marks₀) (marked_most marks₀)
-  pub long : length marks ≡ length marks₀
+  pub left : Left (declared_as constant (map placed_constant_name (placed constant_size next (drop i cs)))) sorts (place_of marks.found) marks.highest
+      (declared_as constant (map placed_constant_name (placed constant_size at cs))) sorts₀ (place_of marks₀.found) marks₀.highest
 
-module _ {s : List ℕ} {enums : ℕ} {cs : List Constant} {at : ℕ} {sorts₀ marks₀ : List ℕ} where
+module _ {s : List ℕ} {enums : ℕ} {cs : List Constant} {at : ℕ} {sorts₀ : List ℕ} {marks₀ : Sorting} where
   pub constants_start_lem : Listed constant_bytes (constant_fits base enums) s at cs → ConstantsGoing s enums cs at sorts₀ marks₀ sorts₀ marks₀ 0 at
-  constants_start_lem st = record { passing = passing_start constant_bytes (constant_fits base enums) constant_size st; left = left_all; long = refl }
+  constants_start_lem st = record { passing = passing_start constant_bytes (constant_fits base enums) constant_size st; left = left_all }
 
-  module _ {sorts marks : List ℕ} {i next : ℕ} (w : ConstantsGoing s enums cs at sorts₀ marks₀ sorts marks i next) where
+  module _ {sorts : List ℕ} {marks : Sorting} {i next : ℕ} (w : ConstantsGoing s enums cs at sorts₀ marks₀ sorts marks i next) where
     pub constants_in_lem : i < length cs → next < length s
     constants_in_lem lt =
         let it = passing_item constant_size_lem no_constant w.passing lt in
         let c = get_or cs i no_constant in
         omega (arith, here_inside it.here (omega (arith, constant_size_lem c)), constant_size_lem c)
 
-    pub constants_turn : i < length cs → {sorts' marks' : List ℕ} {n next' : ℕ} → Walks (declared_at (sort_of 17) (named_at s next) ∷ []) sorts sorts' marks marks' → n ≡ ty_size_at s (next + 2) → next' ≡ skip_at s 1 (next + 2 + n)
+    pub constants_turn : i < length cs → {sorts' : List ℕ} {marks' : Sorting} {n next' : ℕ} → Walks (declared_at (sort_of 17) (named_at s next) ∷ []) sorts sorts' marks marks' → n ≡ behind_variable s next → next' ≡ skip_at s 1 n
         → ConstantsGoing s enums cs at sorts₀ marks₀ sorts' marks' (i + 1) next'
     constants_turn lt {sorts'} {marks'} {n} {next'} one en er =
         let it = passing_item constant_size_lem no_constant w.passing lt in
@@ -195,50 +187,46 @@ module _ {s : List ℕ} {enums : ℕ} {cs : List Constant} {at : ℕ} {sorts₀ 
         let st = constant_stands c it.fit it.here in
         let all = declared_as constant (map placed_constant_name (placed constant_size at cs)) in
         let behind : next' ≡ next + constant_size c =
-        er ∙ ap (λ m. skip_at s 1 (next + 2 + m)) (en ∙ st.ty.size) ∙ skip_stands {es = cons c.value nil} refl st.value ∙ omega arith in
-        let rest : Left (declared_at constant (next, c.name) ∷ declared_as constant (map placed_constant_name (placed constant_size (next + constant_size c) (drop (suc i) cs)))) sorts (marked_place marks) (marked_most marks) all sorts₀ (marked_place marks₀) (marked_most marks₀) =
-        subst (λ l. Left (declared_as constant (map placed_constant_name (placed constant_size next l))) sorts (marked_place marks) (marked_most marks) all sorts₀ (marked_place marks₀) (marked_most marks₀)) (drop-cons cs i no_constant lt) w.left in
+        er ∙ ap (skip_at s 1) (en ∙ ap (λ m. next + 2 + m) st.ty.size) ∙ skip_stands {es = cons c.value nil} refl st.value ∙ omega arith in
+        let rest : Left (declared_at constant (next, c.name) ∷ declared_as constant (map placed_constant_name (placed constant_size (next + constant_size c) (drop (suc i) cs)))) sorts (place_of marks.found) marks.highest all sorts₀ (place_of marks₀.found) marks₀.highest =
+        subst (λ l. Left (declared_as constant (map placed_constant_name (placed constant_size next l))) sorts (place_of marks.found) marks.highest all sorts₀ (place_of marks₀.found) marks₀.highest) (drop-cons cs i no_constant lt) w.left in
         record {
           passing = subst (Passing constant_bytes (constant_fits base enums) constant_size s at cs (i + 1)) (sym behind) it.on;
           left = rw (behind, add-one i) (left_on (declared_at constant (next, c.name) ∷ []) rest (subst (λ x. Walks (declared_at constant (next, x) ∷ []) sorts sorts' marks marks') st.name one).is);
-          long = one.long ∙ w.long;
         }
 
     pub constants_done : length cs ≤ i → Walks (declared_as constant (map placed_constant_name (placed constant_size at cs))) sorts₀ sorts marks₀ marks
     constants_done over =
         record {
-          is = left_none (subst (λ l. Left (declared_as constant (map placed_constant_name (placed constant_size next l))) sorts (marked_place marks) (marked_most marks) (declared_as constant (map placed_constant_name (placed constant_size at cs))) sorts₀ (marked_place marks₀) (marked_most marks₀))
+          is = left_none (subst (λ l. Left (declared_as constant (map placed_constant_name (placed constant_size next l))) sorts (place_of marks.found) marks.highest (declared_as constant (map placed_constant_name (placed constant_size at cs))) sorts₀ (place_of marks₀.found) marks₀.highest)
               (drop_of_length-le cs over) w.left);
-          long = w.long;
         }
 
 -- ---- the enums
 
-pub record EnumsGoing (s : List ℕ) (count at : ℕ) (sorts₀ marks₀ sorts marks : List ℕ) (e next : ℕ) : Type 0 where
-  pub left : Left (enums_from s e (count - e) next) sorts (marked_place marks) (marked_most marks) (enums_from s 0 count at) sorts₀ (marked_place marks₀) (marked_most marks₀)
-  pub long : length marks ≡ length marks₀
+pub record EnumsGoing (s : List ℕ) (count at : ℕ) (sorts₀ : List ℕ) (marks₀ : Sorting) (sorts : List ℕ) (marks : Sorting) (e next : ℕ) : Type 0 where
+  pub left : Left (enums_from s e (count - e) next) sorts (place_of marks.found) marks.highest (enums_from s 0 count at) sorts₀ (place_of marks₀.found) marks₀.highest
 
-module _ {s : List ℕ} {count at : ℕ} {sorts₀ marks₀ : List ℕ} where
+module _ {s : List ℕ} {count at : ℕ} {sorts₀ : List ℕ} {marks₀ : Sorting} where
   pub enums_start : EnumsGoing s count at sorts₀ marks₀ sorts₀ marks₀ 0 at
-  enums_start = let z : count - 0 ≡ count = omega arith in record { left = rw z left_all; long = refl }
+  enums_start = let z : count - 0 ≡ count = omega arith in record { left = rw z left_all }
 
-  module _ {sorts marks : List ℕ} {e next : ℕ} (w : EnumsGoing s count at sorts₀ marks₀ sorts marks e next) where
-    pub enums_turn : e < count → {sorts' marks' : List ℕ} {many next' : ℕ} → Byte s next many → next' ≡ next + 1 + 2 * many
+  module _ {sorts : List ℕ} {marks : Sorting} {e next : ℕ} (w : EnumsGoing s count at sorts₀ marks₀ sorts marks e next) where
+    pub enums_turn : e < count → {sorts' : List ℕ} {marks' : Sorting} {many next' : ℕ} → Byte s next many → next' ≡ behind_enum s next
         → Walks (declared_as (sort_of (e + 1)) (names_from s many (next + 1))) sorts sorts' marks marks' → EnumsGoing s count at sorts₀ marks₀ sorts' marks' (e + 1) next'
     unfolding enums_from
-    enums_turn lt {sorts'} {marks'} {many} {next'} em en one =
+    enums_turn lt {sorts'} {marks'} {many} {next'} em behind one =
         let less : count - e ≡ suc (count - (e + 1)) = omega arith in
         let here = declared_as (sort_of (e + 1)) (names_from s (get_or s next 0) (next + 1)) in
-        let on : Left (here ++ enums_from s (e + 1) (count - (e + 1)) (behind_enum s next)) sorts (marked_place marks) (marked_most marks) (enums_from s 0 count at) sorts₀ (marked_place marks₀) (marked_most marks₀) =
-        subst (λ n. Left (enums_from s e n next) sorts (marked_place marks) (marked_most marks) (enums_from s 0 count at) sorts₀ (marked_place marks₀) (marked_most marks₀)) less w.left in
-        let behind : next' ≡ behind_enum s next = en ∙ ap (λ n. next + 1 + 2 * n) em.is in
-        record { left = rw behind (left_on here on (subst (λ n. Walks (declared_as (sort_of (e + 1)) (names_from s n (next + 1))) sorts sorts' marks marks') em.is one).is); long = one.long ∙ w.long }
+        let on : Left (here ++ enums_from s (e + 1) (count - (e + 1)) (behind_enum s next)) sorts (place_of marks.found) marks.highest (enums_from s 0 count at) sorts₀ (place_of marks₀.found) marks₀.highest =
+        subst (λ n. Left (enums_from s e n next) sorts (place_of marks.found) marks.highest (enums_from s 0 count at) sorts₀ (place_of marks₀.found) marks₀.highest) less w.left in
+        record { left = rw behind (left_on here on (subst (λ n. Walks (declared_as (sort_of (e + 1)) (names_from s n (next + 1))) sorts sorts' marks marks') em.is one).is) }
 
     pub enums_done : count ≤ e → Walks (enums_from s 0 count at) sorts₀ sorts marks₀ marks
     unfolding enums_from
     enums_done over =
         let none_left : count - e ≡ 0 = omega arith in
-        record { is = left_none (subst (λ n. Left (enums_from s e n next) sorts (marked_place marks) (marked_most marks) (enums_from s 0 count at) sorts₀ (marked_place marks₀) (marked_most marks₀)) none_left w.left); long = w.long }
+        record { is = left_none (subst (λ n. Left (enums_from s e n next) sorts (place_of marks.found) marks.highest (enums_from s 0 count at) sorts₀ (place_of marks₀.found) marks₀.highest) none_left w.left) }
 
 -- enums that stand in the file
 pub enums_listed : {s : List ℕ} (i at : ℕ) (es : List (List ℕ)) → i + length es ≤ 16 → Enums s at es → enums_from s i (length es) at ≡ concat (map enum_declares (numbered i (placed enum_size at es)))

@@ -18,7 +18,7 @@ use Rattle.ol_spec.specs.Within.{constant_fits}
 use Rattle.ol_spec.specs.Admission.{first, unseen_item, unseen, used_at, used, value_place, constant_uses, in_constant, calls_where, shape_item}
 use Rattle.ol_spec.proofs.RoundTrip.Parts.{here_inside}
 use Rattle.ol_spec.proofs.RoundTrip.Items.{constant_size_lem}
-use Rattle.ol_tables.specs.Heads.{name_at, ty_size_at}
+use Rattle.ol_tables.specs.Heads.{name_at}
 use Rattle.ol_tables.specs.Tables.{Each}
 use Rattle.ol_tables.specs.Stands.{ConstantStands}
 use Rattle.ol_tables.proofs.HeadLaws.{walk_one}
@@ -48,11 +48,11 @@ constant_told {s} {names} {rows} {nodes} {i} {slots} {slots'} {names'} {f} {r} w
     }
 
 -- its value is walked where it stands, then its name entered
-pub constant_walked : {s : List ℕ} (names : List ℕ) {rows : List ℕ} {nodes i n x : ℕ} {slots slots' names' : List ℕ} {f r : Findings} → n ≡ ty_size_at s (f.next + 2) → x ≡ name_at s f.next → Walked s names rows nodes 0 1 slots slots' (at_place f (f.next + 2 + n)) r
+pub constant_walked : {s : List ℕ} (names : List ℕ) {rows : List ℕ} {nodes i p x : ℕ} {slots slots' names' : List ℕ} {f r : Findings} → p ≡ behind_variable s f.next → x ≡ name_at s f.next → Walked s names rows nodes 0 1 slots slots' (at_place f p) r
     → names' ≡ declared names x (i + 113) → ConstantWalked s names rows nodes i slots slots' names' f r
-constant_walked {s} names {rows} {nodes} {i} {n} {x} {slots} {slots'} {names'} {f} {r} en ex w ee =
+constant_walked {s} names {rows} {nodes} {i} {p} {x} {slots} {slots'} {names'} {f} {r} en ex w ee =
     record {
-      walked = subst (λ m. Walked s names rows nodes 0 1 slots slots' (at_place f (f.next + 2 + m)) r) en w;
+      walked = subst (λ m. Walked s names rows nodes 0 1 slots slots' (at_place f m) r) en w;
       entered = ee ∙ ap (λ y. declared names y (i + 113)) ex;
     }
 

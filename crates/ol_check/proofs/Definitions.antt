@@ -20,7 +20,6 @@ use Rattle.ol_tables.specs.Tables.{Each}
 use Rattle.ol_tables.specs.Stands.{FileStands}
 use Rattle.ol_tables.proofs.HeadsFile.{node_at_lem}
 use Rattle.ol_tables.proofs.Forms.{each_join}
-use Rattle.ol_tables.specs.Heads.{Byte}
 use Rattle.ol_check.specs.Judging.{Knows, taken_b, again_b}
 use Rattle.ol_check.specs.Entries.{variable_entries, Global}
 use Rattle.ol_check.specs.NodesJudged.{node_table, node_again, Covered, AllCovered}
@@ -38,18 +37,15 @@ or_last false true = refl
 or_last false false = refl
 
 module _ (defined : List ℕ) (inputs e : ℕ) where
-  pub taken_input : e ≤ inputs → true ≡ taken_b defined inputs e
+  taken_input : e ≤ inputs → true ≡ taken_b defined inputs e
   taken_input le = rw (le-leb e inputs le) refl
 
-  pub taken_outer : 112 < e → true ≡ taken_b defined inputs e
+  taken_outer : 112 < e → true ≡ taken_b defined inputs e
   taken_outer lt = rw (lt-ltb 112 e lt) (sym (go (leb e inputs)))
     where
       go : (a : Bool) → a || true ≡ true
       go true = refl
       go false = refl
-
-  pub taken_before : (b : ℕ) → inputs < e → e ≤ 112 → Byte defined e b → not (eqb b 0) ≡ taken_b defined inputs e
-  taken_before b hi lo eb = rw (lt-leb e inputs hi, le-ltb 112 e lo, eb.is) refl
 
   taken_marked : get_or defined e 0 ≡ 1 → taken_b defined inputs e ≡ true
   taken_marked q = rw q (or_last (leb e inputs) (ltb 112 e))

@@ -1,100 +1,42 @@
 -- The loops over the table by name: what is left to be entered or taken back.
-use Prim.Native.Nat.{ℕ, ◌+◌, ◌-◌, ◌*◌, ◌≤◌, ◌<◌}
+use Prim.Native.Nat.{ℕ, ◌+◌, ◌-◌, ◌≤◌, ◌<◌}
 use mathlib.Core.List.{List, [], ◌∷◌, map, map-append}
 use mathlib.Core.Path.{◌≡◌, refl, sym, ap, ◌∙◌}
-use native.Mathlib.Omega.{arith}
-use lib.ListN.{length, get_or, set}
-use borrow.Author.Tests.{le-leb, lt-leb, ne_eqb}
+use lib.ListN.{length, get_or}
 use Rattle.ol_spec.specs.Lists.{sum, concat}
 use Rattle.ol_spec.specs.Syntax.{Variable}
 use Rattle.ol_spec.specs.Places.{placed, variable_size}
 use Rattle.ol_spec.specs.Admission.{placed_variable_name}
-use Rattle.ol_tables.specs.Heads.{Byte, name_at, ty_size_at}
+use Rattle.ol_tables.specs.Heads.{Byte, name_at}
 use Rattle.ol_tables.specs.Stands.{Variables}
-use Rattle.ol_check.specs.Spans.{end_from, behind_name, behind_variable, behind_enum, named_at, names_of, names_from, variables_from, variants_from}
+use Rattle.ol_check.specs.Spans.{Visits, end_from, behind_name, behind_variable, behind_enum, named_at, names_of, names_from, variables_from, variants_from}
 use Rattle.ol_check.specs.RowsDone.{Enums}
-use Rattle.ol_check.specs.Entries.{declared, forgot, declare_all, forget_all, variable_entries, variant_entry, entries_from, VariablesEntered, VariablesForgotten}
-use Rattle.ol_check.proofs.SpanLaws.{starts_on, starts_none, end_on_lem, end_none, less_none, variables_near, variables_listed, variables_end, variants_on, variants_none, variants_listed}
+use Rattle.ol_check.specs.Entries.{declared, forgot, declare_all, forget_all, variable_entries, variant_entry, entries_from}
+use Rattle.ol_check.proofs.SpanLaws.{starts_on, starts_none, less_none, variables_listed, variables_end, variants_on, variants_none, variants_listed}
 use Rattle.ol_check.proofs.EntryLaws.{declare_append}
-
-pub declared_new : (names names' : List ℕ) (x e b : ℕ) → Byte names x b → b ≡ 0 → names' ≡ set names x e → names' ≡ declared names x e
-declared_new names names' x e b bb z h = h ∙ rw (← bb.is, z) refl
-
-pub declared_old : (names : List ℕ) (x e b : ℕ) → Byte names x b → (b ≡ 0 → ⊥) → names ≡ declared names x e
-declared_old names x e b bb z = rw (← bb.is, ne_eqb b 0 z) refl
-
-pub forgot_low : (names names' : List ℕ) (x b : ℕ) → Byte names x b → b ≤ 112 → names' ≡ set names x 0 → names' ≡ forgot names x
-forgot_low names names' x b bb z h = h ∙ rw (← bb.is, le-leb b 112 z) refl
-
-pub forgot_high : (names : List ℕ) (x b : ℕ) → Byte names x b → 112 < b → names ≡ forgot names x
-forgot_high names x b bb z = rw (← bb.is, lt-leb b 112 z) refl
 
 -- ---- variables
 
-module _ (s : List ℕ) (count i next : ℕ) where
-  on : i < count → variables_from s (count - i) next ≡ named_at s next ∷ variables_from s (count - (i + 1)) (behind_variable s next)
-  on lt = ap (map (named_at s)) (starts_on (behind_variable s) count i next lt)
+-- what is done at each of them is to enter it, or to take it back
+module _ {R : List ℕ → ℕ → ℕ → List ℕ → Type 0} (s : List ℕ) where
+  pub enter_visits : ((t : List ℕ) (i p : ℕ) (u : List ℕ) → R t i p u → u ≡ declared t (name_at s p) (i + 1)) → (i : ℕ) (ps t u : List ℕ) → Visits R i ps t u → u ≡ declare_all t (entries_from i (map (named_at s) ps))
+  unfolding Visits declare_all
+  enter_visits told i [] t u h = h
+  enter_visits told i (p ∷ ps) t u h = enter_visits told (i + 1) ps h.0 u h.2 ∙ ap (λ l. declare_all l (entries_from (i + 1) (map (named_at s) ps))) (told t i p h.0 h.1)
 
-  gone : count ≤ i → variables_from s (count - i) next ≡ []
-  gone over = ap (map (named_at s)) (starts_none (behind_variable s) count i next over)
+  pub forget_visits : ((t : List ℕ) (i p : ℕ) (u : List ℕ) → R t i p u → u ≡ forgot t (name_at s p)) → (i : ℕ) (ps t u : List ℕ) → Visits R i ps t u → u ≡ forget_all t (names_of (map (named_at s) ps))
+  unfolding Visits forget_all
+  forget_visits told i [] t u h = h
+  forget_visits told i (p ∷ ps) t u h = forget_visits told (i + 1) ps h.0 u h.2 ∙ ap (λ l. forget_all l (names_of (map (named_at s) ps))) (told t i p h.0 h.1)
 
-pub record EnterGoing (s names₀ names : List ℕ) (first count at i next : ℕ) : Type 0 where
-  pub entered : declare_all names (entries_from (first + i) (variables_from s (count - i) next)) ≡ declare_all names₀ (entries_from first (variables_from s count at))
-  pub end : end_from (behind_variable s) (count - i) next ≡ end_from (behind_variable s) count at
+-- so many variables from `at` on are entered, or taken back
+pub record VariablesEntered (s names names' : List ℕ) (first count at r : ℕ) : Type 0 where
+  pub ends : r ≡ end_from (behind_variable s) count at
+  pub entered : names' ≡ declare_all names (entries_from first (variables_from s count at))
 
-pub record ForgetGoing (s names₀ names : List ℕ) (count at i next : ℕ) : Type 0 where
-  pub forgotten : forget_all names (names_of (variables_from s (count - i) next)) ≡ forget_all names₀ (names_of (variables_from s count at))
-  pub end : end_from (behind_variable s) (count - i) next ≡ end_from (behind_variable s) count at
-
-module _ {s names₀ : List ℕ} {count at : ℕ} where
-  pub enter_start : {first : ℕ} → EnterGoing s names₀ names₀ first count at 0 at
-  enter_start {first} = let z : first + 0 ≡ first = omega arith in record { entered = rw (less_none count, z) refl; end = rw (less_none count) refl }
-
-  pub forget_start : ForgetGoing s names₀ names₀ count at 0 at
-  forget_start = record { forgotten = rw (less_none count) refl; end = rw (less_none count) refl }
-
-  module _ {names : List ℕ} {i next : ℕ} where
-    pub enter_turn : {first : ℕ} → EnterGoing s names₀ names first count at i next → i < count → {x n : ℕ} {names' : List ℕ} → x ≡ name_at s next → n ≡ ty_size_at s (next + 2)
-        → names' ≡ declared names x (first + i + 1) → EnterGoing s names₀ names' first count at (i + 1) (next + 2 + n)
-    unfolding declare_all
-    enter_turn {first} g lt {x} {n} {names'} ex en h =
-        let number : first + (i + 1) ≡ first + i + 1 = omega arith in
-        let behind = ap (λ m. next + 2 + m) en in
-        record {
-          entered = ap (λ l. declare_all l (entries_from (first + (i + 1)) (variables_from s (count - (i + 1)) (next + 2 + n)))) (h ∙ ap (λ y. declared names y (first + i + 1)) ex)
-              ∙ ap (λ p. declare_all (declared names (name_at s next) (first + i + 1)) (entries_from (first + (i + 1)) (variables_from s (count - (i + 1)) p))) behind
-              ∙ ap (λ m. declare_all (declared names (name_at s next) (first + i + 1)) (entries_from m (variables_from s (count - (i + 1)) (behind_variable s next)))) number
-              ∙ ap (λ l. declare_all names (entries_from (first + i) l)) (sym (on s count i next lt)) ∙ g.entered;
-          end = ap (end_from (behind_variable s) (count - (i + 1))) behind ∙ sym (end_on_lem (behind_variable s) count i next lt) ∙ g.end;
-        }
-
-    pub enter_done : {first : ℕ} → EnterGoing s names₀ names first count at i next → count ≤ i → VariablesEntered s names₀ names first count at next
-    unfolding declare_all
-    enter_done {first} g over =
-        record { ends = sym (end_none (behind_variable s) count i next over) ∙ g.end; entered = ap (λ l. declare_all names (entries_from (first + i) l)) (sym (gone s count i next over)) ∙ g.entered }
-
-    pub forget_turn : ForgetGoing s names₀ names count at i next → i < count → {x n : ℕ} {names' : List ℕ} → x ≡ name_at s next → n ≡ ty_size_at s (next + 2) → names' ≡ forgot names x
-        → ForgetGoing s names₀ names' count at (i + 1) (next + 2 + n)
-    unfolding forget_all
-    forget_turn g lt {x} {n} {names'} ex en h =
-        let behind = ap (λ m. next + 2 + m) en in
-        record {
-          forgotten = ap (λ l. forget_all l (names_of (variables_from s (count - (i + 1)) (next + 2 + n)))) (h ∙ ap (forgot names) ex)
-              ∙ ap (λ p. forget_all (forgot names (name_at s next)) (names_of (variables_from s (count - (i + 1)) p))) behind ∙ ap (λ l. forget_all names (names_of l)) (sym (on s count i next lt)) ∙ g.forgotten;
-          end = ap (end_from (behind_variable s) (count - (i + 1))) behind ∙ sym (end_on_lem (behind_variable s) count i next lt) ∙ g.end;
-        }
-
-    pub forget_done : ForgetGoing s names₀ names count at i next → count ≤ i → VariablesForgotten s names₀ names count at next
-    unfolding forget_all
-    forget_done g over = record { ends = sym (end_none (behind_variable s) count i next over) ∙ g.end; forgotten = ap (λ l. forget_all names (names_of l)) (sym (gone s count i next over)) ∙ g.forgotten }
-
--- at most four bytes each
-module _ {s names names' : List ℕ} {count at r : ℕ} where
-  pub entered_near : {first : ℕ} → VariablesEntered s names names' first count at r → r ≤ at + 4 * count
-  entered_near h = omega (arith, h.ends, variables_near s count at)
-
-  pub forgotten_near : VariablesForgotten s names names' count at r → r ≤ at + 4 * count
-  forgotten_near h = omega (arith, h.ends, variables_near s count at)
+pub record VariablesForgotten (s names names' : List ℕ) (count at r : ℕ) : Type 0 where
+  pub ends : r ≡ end_from (behind_variable s) count at
+  pub forgotten : names' ≡ forget_all names (names_of (variables_from s count at))
 
 -- the variables vs stand there
 pub record Entered (vs : List Variable) (names names' : List ℕ) (first at r : ℕ) : Type 0 where
@@ -139,11 +81,12 @@ module _ {s names₀ : List ℕ} {count at : ℕ} where
   variants_start = record { entered = rw (less_none count) refl }
 
   module _ {names : List ℕ} {i next : ℕ} (g : VariantsGoing s names₀ names count at i next) where
-    pub variants_turn : i < count → {x : ℕ} {names' : List ℕ} → x ≡ name_at s next → names' ≡ declared names x 255 → VariantsGoing s names₀ names' count at (i + 1) (next + 2)
+    pub variants_turn : i < count → {x : ℕ} {names' : List ℕ} → x ≡ name_at s next → names' ≡ declared names x 255 → {r : ℕ} → r ≡ next + 2 → VariantsGoing s names₀ names' count at (i + 1) r
     unfolding declare_all
-    variants_turn lt {x} {names'} ex h =
+    variants_turn lt {x} {names'} ex h {r} er =
         record {
-          entered = ap (λ l. declare_all l (map variant_entry (names_of (names_from s (count - (i + 1)) (next + 2))))) (h ∙ ap (λ z. declared names z 255) ex)
+          entered = ap (λ p. declare_all names' (map variant_entry (names_of (names_from s (count - (i + 1)) p)))) er
+              ∙ ap (λ l. declare_all l (map variant_entry (names_of (names_from s (count - (i + 1)) (next + 2))))) (h ∙ ap (λ z. declared names z 255) ex)
               ∙ ap (λ l. declare_all names (map variant_entry (names_of (map (named_at s) l)))) (sym (starts_on behind_name count i next lt)) ∙ g.entered;
         }
 

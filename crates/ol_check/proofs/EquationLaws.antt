@@ -1,6 +1,6 @@
 -- An equation: its names, its right side, and what is inside that.
 use Prim.Native.Nat.{ℕ, ◌+◌, ◌-◌, ◌*◌, ◌≤◌, ◌<◌, min}
-use mathlib.Core.Bool.{Bool, false, not, cond}
+use mathlib.Core.Bool.{Bool, cond}
 use mathlib.Core.List.{List, [], ◌∷◌, ◌++◌, map, append-nil, map-append}
 use mathlib.Core.Option.{Option}
 use mathlib.Core.Path.{◌≡◌, refl, sym, ap, subst, ◌∙◌}
@@ -8,10 +8,9 @@ use native.Mathlib.Omega.{arith}
 use native.Mathlib.Numerals.{add-one}
 use lib.ListN.{length, get_or, set, drop, length-set, drop_of_length-le}
 use lib.Seq.{get_or-set_same, get_or-set_other, drop-cons}
-use lib.Dec.{leb, eqb}
-use borrow.Author.Tests.{lt-ltb, le-ltb, le-leb, lt-leb}
-use native.Mathlib.Decide.{dec_le}
-use mathlib.Core.Logic.{by_cases}
+use lib.Dec.{eqb}
+use borrow.Author.Tests.{lt-ltb, le-ltb}
+use Rattle.std.specs.Prelude.{Option as RustOption}
 use Rattle.ol_spec.specs.Lists.{or_else, concat, sum}
 use Rattle.ol_spec.specs.Syntax.{Expr, Exprs, nil, cons, Equation, File, rhs_of}
 use Rattle.ol_spec.specs.Places.{expr_size, equation_size, collect, collect_all, placed, placed_names, rhs_place}
@@ -28,15 +27,15 @@ use Rattle.ol_tables.specs.Heads.{name_at, parts_of, head_size, parts_at, next_a
 use Rattle.ol_tables.specs.Stands.{Listed, Names, EquationStands}
 use Rattle.ol_tables.proofs.HeadLaws.{headed, walk_one, root_head, parts_told, next_told, joined_count}
 use Rattle.ol_tables.proofs.HeadsFile.{Passing, Item as PassedItem, passing_start, passing_item, equation_stands}
-use Rattle.ol_check.specs.Founds.{earliest, first_of, mark_place}
-use Rattle.ol_check.proofs.FoundLaws.{mark_same, mark_other}
+use Rattle.ol_check.specs.Founds.{place_of, earliest, marked}
+use Rattle.ol_check.proofs.FoundLaws.{place_marked}
 use Rattle.ol_tables.specs.Heads.{Byte}
 use Rattle.ol_tables.specs.Walks.{HeadOf, skip_at}
 use Rattle.ol_tables.proofs.Skipping.{walk_turn as step, skip_stands}
 use Rattle.ol_check.specs.Judging.{Findings, findings, heads, unseen_b, unseen_head, slot_of_entry, slot_head, slot_heads, called_b, called_head, arity_b, several_head, found_in, Adds, heads_from, Walked, at_place, root_shapes}
 use Rattle.ol_check.specs.Judging.{Knows, Context, SlotIs, entry_item, slot_names, taken_b, mark_all, again_b, NamesDefined, lone_b, other_b, RootJudged, EquationWalked, names_in, slot_equation, slot_equations, EquationsJudged}
 use Rattle.ol_tables.specs.declared.heads.Parts.{Parts}
-use Rattle.ol_check.specs.declared.Reached.{Reached}
+use Rattle.ol_check.specs.declared.Faults.{Faults}
 use Rattle.ol_check.specs.Records.{site_b, callee_b}
 use Rattle.ol_check.specs.Spans.{behind_name, named_at, names_from}
 use Rattle.ol_check.proofs.SpanLaws.{less_none, starts_on, starts_none, names_listed}
@@ -50,62 +49,59 @@ use Rattle.ol_check.proofs.HeadLaws.{flat, unseen_law, called_law, several_law, 
 pub placed_on : {A : Type 0} (size : A → ℕ) (d : A) (xs : List A) (i next : ℕ) → i < length xs → placed size next (drop i xs) ≡ (next, get_or xs i d) ∷ placed size (next + size (get_or xs i d)) (drop (i + 1) xs)
 placed_on size d xs i next lt = rw (add-one i) (ap (placed size next) (drop-cons xs i d lt))
 
-pub record NamesGoing (s names : List ℕ) (inputs many at : ℕ) (slots₀ defined₀ : List ℕ) (found₀ slots defined found : List ℕ) (i next : ℕ) : Type 0 where
-  pub unseen : found_in (first_of found 0) (map (entry_item names) (names_from s (many - i) next)) ≡ found_in (first_of found₀ 0) (map (entry_item names) (names_from s many at))
-  pub again : found_in (first_of found 1) (again_b names inputs defined (names_from s (many - i) next)) ≡ found_in (first_of found₀ 1) (again_b names inputs defined₀ (names_from s many at))
-  pub slotted : slot_names names slots (names_from s (many - i) next) ≡ slot_names names slots₀ (names_from s many at)
-  pub marked : mark_all names defined (names_from s (many - i) next) ≡ mark_all names defined₀ (names_from s many at)
-  pub called : first_of found 2 ≡ first_of found₀ 2
-  pub shaped : first_of found 3 ≡ first_of found₀ 3
-  pub long : length found ≡ length found₀
+pub record NamesGoing (s names : List ℕ) (inputs many : ℕ) (slots₀ defined₀ : List ℕ) (f : Faults) (slots defined : List ℕ) (g : Faults) (i next : ℕ) : Type 0 where
+  pub unseen : found_in (place_of g.unseen) (map (entry_item names) (names_from s (many - i) next)) ≡ found_in (place_of f.unseen) (map (entry_item names) (names_from s many f.next))
+  pub again : found_in (place_of g.again) (again_b names inputs defined (names_from s (many - i) next)) ≡ found_in (place_of f.again) (again_b names inputs defined₀ (names_from s many f.next))
+  pub slotted : slot_names names slots (names_from s (many - i) next) ≡ slot_names names slots₀ (names_from s many f.next)
+  pub marked : mark_all names defined (names_from s (many - i) next) ≡ mark_all names defined₀ (names_from s many f.next)
+  pub called : place_of g.called ≡ place_of f.called
+  pub shaped : place_of g.shaped ≡ place_of f.shaped
+  pub sized : g.size ≡ f.size
 
-module _ {s names : List ℕ} {inputs many at : ℕ} {slots₀ defined₀ found₀ : List ℕ} where
-  pub names_start : NamesGoing s names inputs many at slots₀ defined₀ found₀ slots₀ defined₀ found₀ 0 at
-  names_start = record { unseen = rw (less_none many) refl; again = rw (less_none many) refl; slotted = rw (less_none many) refl; marked = rw (less_none many) refl; called = refl; shaped = refl; long = refl }
+module _ {s names : List ℕ} {inputs many : ℕ} {slots₀ defined₀ : List ℕ} {f : Faults} where
+  pub names_start : NamesGoing s names inputs many slots₀ defined₀ f slots₀ defined₀ f 0 f.next
+  names_start = record { unseen = rw (less_none many) refl; again = rw (less_none many) refl; slotted = rw (less_none many) refl; marked = rw (less_none many) refl; called = refl; shaped = refl; sized = refl }
 
-  module _ {slots defined found : List ℕ} {i next : ℕ} (g : NamesGoing s names inputs many at slots₀ defined₀ found₀ slots defined found i next) where
-    pub names_turn : i < many → {x e b : ℕ} {t : Bool} {slots' defined' found₁ found' : List ℕ} → length found₀ ≡ 4 → next < 65536 → x ≡ name_at s next → Byte names x e → found₁ ≡ mark_place found 0 (eqb e 0) next
-        → t ≡ taken_b defined inputs e → found' ≡ mark_place found₁ 1 t next → b ≡ slot_of_entry e → slots' ≡ set slots next b → defined' ≡ set defined e 1
-        → NamesGoing s names inputs many at slots₀ defined₀ found₀ slots' defined' found' (i + 1) (next + 2)
+  module _ {slots defined : List ℕ} {g : Faults} {i next : ℕ} (w : NamesGoing s names inputs many slots₀ defined₀ f slots defined g i next) where
+    pub names_turn : i < many → {x e b : ℕ} {t : Bool} {u v : RustOption ℕ} {slots' defined' : List ℕ} → x ≡ name_at s next → Byte names x e → u ≡ marked g.unseen (eqb e 0) next
+        → t ≡ taken_b defined inputs e → v ≡ marked g.again t next → b ≡ slot_of_entry e → slots' ≡ set slots next b → defined' ≡ set defined e 1
+        → {next' : ℕ} → next' ≡ next + 2 → NamesGoing s names inputs many slots₀ defined₀ f slots' defined' (record g { unseen = u; again = v }) (i + 1) next'
     unfolding slot_names mark_all again_b
-    names_turn lt {x} {e} {b} {t} {slots'} {defined'} {found₁} {found'} four low ex be ef et ea eb es ed =
+    names_turn lt {x} {e} {b} {t} {u} {v} {slots'} {defined'} ex be eu et ev eb es ed {next'} on_next =
         let y = name_at s next in
         let ee : e ≡ get_or names y 0 = be.is ∙ ap (λ n. get_or names n 0) ex in
         let on : names_from s (many - i) next ≡ (next, y) ∷ names_from s (many - (i + 1)) (next + 2) = ap (map (named_at s)) (starts_on behind_name many i next lt) in
         let rest = names_from s (many - (i + 1)) (next + 2) in
         let put : defined' ≡ set defined (get_or names y 0) 1 = ed ∙ ap (λ n. set defined n 1) ee in
         let q = eqb e 0 in
-        let l₁ : length found₁ ≡ length found = ap length ef ∙ length-set found 0 _ in
-        let eu : first_of found' 0 ≡ earliest (first_of found 0) q next = ap (λ l. first_of l 0) ea ∙ mark_other found₁ 1 0 t next (λ w. omega arith) ∙ ap (λ l. first_of l 0) ef ∙ mark_same found 0 q next (omega (arith, g.long)) low in
-        let eg : first_of found' 1 ≡ earliest (first_of found 1) t next = ap (λ l. first_of l 1) ea ∙ mark_same found₁ 1 t next (omega (arith, g.long, l₁)) low ∙ ap (λ o. earliest o t next) (ap (λ l. first_of l 1) ef ∙ mark_other found 0 1 q next (λ w. omega arith)) in
-        record {
-          unseen = ap (λ o. found_in o (map (entry_item names) rest)) (eu ∙ ap (λ n. earliest (first_of found 0) (eqb n 0) next) ee)
-              ∙ found_step (first_of found 0) (eqb (get_or names y 0) 0) next (map (entry_item names) rest)
-              ∙ ap (λ l. found_in (first_of found 0) (map (entry_item names) l)) (sym on) ∙ g.unseen;
-          again = ap (λ o. found_in o (again_b names inputs defined' rest)) (eg ∙ ap (λ c. earliest (first_of found 1) c next) (et ∙ ap (taken_b defined inputs) ee))
-              ∙ found_step (first_of found 1) (taken_b defined inputs (get_or names y 0)) next (again_b names inputs defined' rest)
-              ∙ ap (λ l. found_in (first_of found 1) ((next, taken_b defined inputs (get_or names y 0)) ∷ again_b names inputs l rest)) put
-              ∙ ap (λ l. found_in (first_of found 1) (again_b names inputs defined l)) (sym on) ∙ g.again;
-          slotted = ap (λ l. slot_names names l rest) (es ∙ ap (set slots next) (eb ∙ ap slot_of_entry ee)) ∙ ap (slot_names names slots) (sym on) ∙ g.slotted;
-          marked = ap (λ l. mark_all names l rest) put ∙ ap (mark_all names defined) (sym on) ∙ g.marked;
-          called = ap (λ l. first_of l 2) ea ∙ mark_other found₁ 1 2 t next (λ w. omega arith) ∙ ap (λ l. first_of l 2) ef ∙ mark_other found 0 2 q next (λ w. omega arith) ∙ g.called;
-          shaped = ap (λ l. first_of l 3) ea ∙ mark_other found₁ 1 3 t next (λ w. omega arith) ∙ ap (λ l. first_of l 3) ef ∙ mark_other found 0 3 q next (λ w. omega arith) ∙ g.shaped;
-          long = ap length ea ∙ length-set found₁ 1 _ ∙ l₁ ∙ g.long;
+        rw on_next record {
+          unseen = ap (λ o. found_in o (map (entry_item names) rest)) (ap place_of eu ∙ place_marked g.unseen q next ∙ ap (λ n. earliest (place_of g.unseen) (eqb n 0) next) ee)
+              ∙ found_step (place_of g.unseen) (eqb (get_or names y 0) 0) next (map (entry_item names) rest)
+              ∙ ap (λ l. found_in (place_of g.unseen) (map (entry_item names) l)) (sym on) ∙ w.unseen;
+          again = ap (λ o. found_in o (again_b names inputs defined' rest)) (ap place_of ev ∙ place_marked g.again t next ∙ ap (λ c. earliest (place_of g.again) c next) (et ∙ ap (taken_b defined inputs) ee))
+              ∙ found_step (place_of g.again) (taken_b defined inputs (get_or names y 0)) next (again_b names inputs defined' rest)
+              ∙ ap (λ l. found_in (place_of g.again) ((next, taken_b defined inputs (get_or names y 0)) ∷ again_b names inputs l rest)) put
+              ∙ ap (λ l. found_in (place_of g.again) (again_b names inputs defined l)) (sym on) ∙ w.again;
+          slotted = ap (λ l. slot_names names l rest) (es ∙ ap (set slots next) (eb ∙ ap slot_of_entry ee)) ∙ ap (slot_names names slots) (sym on) ∙ w.slotted;
+          marked = ap (λ l. mark_all names l rest) put ∙ ap (mark_all names defined) (sym on) ∙ w.marked;
+          called = w.called;
+          shaped = w.shaped;
+          sized = w.sized;
         }
 
-    pub names_done : (f r : Reached) → i ≤ many → many ≤ i → next ≡ at + 2 * i → f.next ≡ at → r.size ≡ f.size → r.next ≡ next → NamesDefined s names inputs many slots₀ slots defined₀ defined (findings found₀ f) (findings found r)
+    pub names_done : many ≤ i → NamesDefined s names inputs many slots₀ slots defined₀ defined (findings f) (findings (record g { next = f.next + 2 * many }))
     unfolding slot_names mark_all again_b
-    names_done f r under over en ea ez er =
+    names_done over =
         let empty : names_from s (many - i) next ≡ [] = ap (map (named_at s)) (starts_none behind_name many i next over) in
         record {
-          next = omega arith;
-          unseen = rw ea (sym (found_none (first_of found 0)) ∙ ap (λ l. found_in (first_of found 0) (map (entry_item names) l)) (sym empty) ∙ g.unseen);
-          again = rw ea (sym (found_none (first_of found 1)) ∙ ap (λ l. found_in (first_of found 1) (again_b names inputs defined l)) (sym empty) ∙ g.again);
-          called = g.called;
-          shaped = g.shaped;
-          sized = ez;
-          slotted = rw ea (ap (slot_names names slots) (sym empty) ∙ g.slotted);
-          marked = rw ea (ap (mark_all names defined) (sym empty) ∙ g.marked);
+          next = refl;
+          unseen = sym (found_none (place_of g.unseen)) ∙ ap (λ l. found_in (place_of g.unseen) (map (entry_item names) l)) (sym empty) ∙ w.unseen;
+          again = sym (found_none (place_of g.again)) ∙ ap (λ l. found_in (place_of g.again) (again_b names inputs defined l)) (sym empty) ∙ w.again;
+          called = w.called;
+          shaped = w.shaped;
+          sized = w.sized;
+          slotted = ap (slot_names names slots) (sym empty) ∙ w.slotted;
+          marked = ap (mark_all names defined) (sym empty) ∙ w.marked;
         }
 
 -- what stands outside the names is left, and each name has the slot of its entry
@@ -131,65 +127,22 @@ module _ (names : List ℕ) where
 
 -- ---- the right side
 
-pub lone_several : (n v : ℕ) → 1 < n → leb v 1 ≡ lone_b n v
-lone_several n v lt =
-    rw (lt-ltb 1 n lt) (by_cases (dec_le v 1) (λ le. le-leb v 1 le ∙ ap not (sym (le-ltb 1 v le)))
-    (λ no. let more : 1 < v = omega arith in lt-leb v 1 more ∙ ap not (sym (lt-ltb 1 v more))))
-
-pub lone_one : (n v : ℕ) → n ≤ 1 → false ≡ lone_b n v
-lone_one n v le = rw (le-ltb 1 n le) refl
-
-pub other_several : (n v : ℕ) → 1 < v → not (eqb v n) ≡ other_b n v
-other_several n v lt = rw (lt-ltb 1 v lt) refl
-
-pub other_one : (n v : ℕ) → v ≤ 1 → false ≡ other_b n v
-other_one n v le = rw (le-ltb 1 v le) refl
-
--- what the four marks of a right side at n, of the equation at `at`, make of the first places
-record RootMarked (found f₃ f₄ : List ℕ) (n at : ℕ) (bu bc bl bo : Bool) : Type 0 where
-  unseen : first_of f₄ 0 ≡ earliest (first_of found 0) bu (n + 1)
-  again : first_of f₄ 1 ≡ first_of found 1
-  called : first_of f₄ 2 ≡ earliest (first_of found 2) bc n
-  few : first_of f₃ 3 ≡ earliest (first_of found 3) bl at
-  shaped : first_of f₄ 3 ≡ earliest (first_of f₃ 3) bo n
-
-root_marked : {found f₁ f₂ f₃ f₄ : List ℕ} {n at : ℕ} {bu bc bl bo : Bool} → length found ≡ 4 → n + 1 < 65536 → at < 65536 → f₁ ≡ mark_place found 0 bu (n + 1) → f₂ ≡ mark_place f₁ 2 bc n → f₃ ≡ mark_place f₂ 3 bl at → f₄ ≡ mark_place f₃ 3 bo n
-    → RootMarked found f₃ f₄ n at bu bc bl bo
-root_marked {found} {f₁} {f₂} {f₃} {f₄} {n} {at} {bu} {bc} {bl} {bo} long small low mu mc ml mo =
-    let l₁ : length f₁ ≡ 4 = ap length mu ∙ length-set found 0 _ ∙ long in
-    let l₂ : length f₂ ≡ 4 = ap length mc ∙ length-set f₁ 2 _ ∙ l₁ in
-    let l₃ : length f₃ ≡ 4 = ap length ml ∙ length-set f₂ 3 _ ∙ l₂ in
-    record {
-      unseen = ap (λ l. first_of l 0) mo ∙ mark_other f₃ 3 0 bo n (λ w. omega arith) ∙ ap (λ l. first_of l 0) ml ∙ mark_other f₂ 3 0 bl at (λ w. omega arith)
-          ∙ ap (λ l. first_of l 0) mc ∙ mark_other f₁ 2 0 bc n (λ w. omega arith) ∙ ap (λ l. first_of l 0) mu ∙ mark_same found 0 bu (n + 1) (omega arith) small;
-      again = ap (λ l. first_of l 1) mo ∙ mark_other f₃ 3 1 bo n (λ w. omega arith) ∙ ap (λ l. first_of l 1) ml ∙ mark_other f₂ 3 1 bl at (λ w. omega arith)
-          ∙ ap (λ l. first_of l 1) mc ∙ mark_other f₁ 2 1 bc n (λ w. omega arith) ∙ ap (λ l. first_of l 1) mu ∙ mark_other found 0 1 bu (n + 1) (λ w. omega arith);
-      called = ap (λ l. first_of l 2) mo ∙ mark_other f₃ 3 2 bo n (λ w. omega arith) ∙ ap (λ l. first_of l 2) ml ∙ mark_other f₂ 3 2 bl at (λ w. omega arith)
-          ∙ ap (λ l. first_of l 2) mc ∙ mark_same f₁ 2 bc n (omega (arith, l₁)) (omega arith)
-          ∙ ap (λ o. earliest o bc n) (ap (λ l. first_of l 2) mu ∙ mark_other found 0 2 bu (n + 1) (λ w. omega arith));
-      few = ap (λ l. first_of l 3) ml ∙ mark_same f₂ 3 bl at (omega (arith, l₂)) low
-          ∙ ap (λ o. earliest o bl at) (ap (λ l. first_of l 3) mc ∙ mark_other f₁ 2 3 bc n (λ w. omega arith) ∙ ap (λ l. first_of l 3) mu ∙ mark_other found 0 3 bu (n + 1) (λ w. omega arith));
-      shaped = ap (λ l. first_of l 3) mo ∙ mark_same f₃ 3 bo n (omega (arith, l₃)) (omega arith);
-    }
-
-module _ {s names rows : List ℕ} {nodes k at many : ℕ} (slots : List ℕ) {slots₁ slots₂ : List ℕ} (found : List ℕ) {f₁ f₂ f₃ f₄ : List ℕ} (reached : Reached) {r : Findings} {p : Parts} {bu bc bl bo : Bool} {v x z : ℕ}
-    (long : length found ≡ 4) (small : length s ≤ 32768) (low : at < 65536)
-    (hp : HeadOf s reached.next p) (ev : v ≡ arity_b s rows nodes reached.next) (es : slots₁ ≡ slot_head s names slots reached.next)
-    (mu : f₁ ≡ mark_place found 0 bu (reached.next + 1)) (fu : bu ≡ unseen_b s names reached.next)
-    (mc : f₂ ≡ mark_place f₁ 2 bc reached.next) (fc : bc ≡ called_b s rows k reached.next)
-    (ml : f₃ ≡ mark_place f₂ 3 bl at) (fl : bl ≡ lone_b many v)
-    (mo : f₄ ≡ mark_place f₃ 3 bo reached.next) (fo : bo ≡ other_b many v)
-    (ez : z ≡ min (reached.size + x) 65536) (fz : x ≡ site_b s rows nodes reached.next)
-    (inside : reached.next < length s) (w : Walked s names rows nodes k p.count slots₁ slots₂ (record { unseen = first_of f₄ 0; again = first_of f₄ 1; called = first_of f₄ 2; shaped = first_of f₄ 3; size = z; next = p.start }) r) where
-  pub root_judged : RootJudged s names rows nodes k at many slots slots₂ (findings found reached) r
+module _ {s names rows : List ℕ} {nodes k at many : ℕ} (slots : List ℕ) {slots₁ slots₂ : List ℕ} (g : Faults) {fu fc fl fo : RustOption ℕ} {r : Findings} {p : Parts} {bu bc bl bo : Bool} {v x z : ℕ}
+    (hp : HeadOf s g.next p) (ev : v ≡ arity_b s rows nodes g.next) (es : slots₁ ≡ slot_head s names slots g.next)
+    (mu : fu ≡ marked g.unseen bu (g.next + 1)) (tu : bu ≡ unseen_b s names g.next)
+    (mc : fc ≡ marked g.called bc g.next) (tc : bc ≡ called_b s rows k g.next)
+    (ml : fl ≡ marked g.shaped bl at) (tl : bl ≡ lone_b many v)
+    (mo : fo ≡ marked fl bo g.next) (to : bo ≡ other_b many v)
+    (ez : z ≡ min (g.size + x) 65536) (fz : x ≡ site_b s rows nodes g.next)
+    (inside : g.next < length s) (w : Walked s names rows nodes k p.count slots₁ slots₂ (record { unseen = place_of fu; again = place_of g.again; called = place_of fc; shaped = place_of fo; size = z; next = p.start }) r) where
+  pub root_judged : RootJudged s names rows nodes k at many slots slots₂ (findings g) r
   unfolding slot_heads
   root_judged =
-      let n = reached.next in
-      let marks = root_marked {found = found} {n = reached.next} {at = at} {bu = bu} {bc = bc} {bl = bl} {bo = bo} long (omega (arith, inside, small)) low mu mc ml mo in
-      let eu = marks.unseen in
-      let ec = marks.called in
-      let el = marks.few in
-      let eo = marks.shaped in
+      let n = g.next in
+      let eu : place_of fu ≡ earliest (place_of g.unseen) bu (n + 1) = ap place_of mu ∙ place_marked g.unseen bu (n + 1) in
+      let ec : place_of fc ≡ earliest (place_of g.called) bc n = ap place_of mc ∙ place_marked g.called bc n in
+      let el : place_of fl ≡ earliest (place_of g.shaped) bl at = ap place_of ml ∙ place_marked g.shaped bl at in
+      let eo : place_of fo ≡ earliest (place_of fl) bo n = ap place_of mo ∙ place_marked fl bo n in
       let one : 1 - 1 + p.count ≡ p.count = omega arith in
       let rest = heads_from s p.count p.start in
       let all : heads_from s 1 n ≡ n ∷ rest = step (λ q l. q ∷ l) (λ q. []) s 1 n (omega arith) inside (omega arith) hp.parts hp.next ∙ ap (λ m. n ∷ heads_from s m p.start) one in
@@ -200,23 +153,23 @@ module _ {s names rows : List ℕ} {nodes k at many : ℕ} (slots : List ℕ) {s
       ∙ ap (λ m. (at, lone_b many (arity_b s rows nodes n)) ∷ (n, other_b many (arity_b s rows nodes n)) ∷ map (several_head s rows nodes) (heads_from s p.count m)) (sym hp.next) in
       record {
         next = w.next ∙ sym end;
-        again = w.again ∙ marks.again;
+        again = w.again;
         sized =
             let rs = sum (map (site_b s rows nodes) (rest)) in
-            w.sized ∙ ap (λ m. min (m + rs) 65536) (ez ∙ ap (λ y. min (reached.size + y) 65536) fz) ∙ min_add reached.size (site_b s rows nodes n) rs 65536
-            ∙ ap (λ l. min (reached.size + sum (map (site_b s rows nodes) l)) 65536) (sym all);
+            w.sized ∙ ap (λ m. min (m + rs) 65536) (ez ∙ ap (λ y. min (g.size + y) 65536) fz) ∙ min_add g.size (site_b s rows nodes n) rs 65536
+            ∙ ap (λ l. min (g.size + sum (map (site_b s rows nodes) l)) 65536) (sym all);
         slotted = w.slotted ∙ ap (λ l. slot_heads s names l (rest)) es ∙ ap (slot_heads s names slots) (sym all);
-        unseen = w.unseen ∙ ap (λ o. found_in o (map (unseen_head s names) (rest))) (eu ∙ ap (λ b. earliest (first_of found 0) b (n + 1)) fu)
-            ∙ found_step (first_of found 0) (unseen_b s names n) (n + 1) (map (unseen_head s names) (rest)) ∙ ap (λ l. found_in (first_of found 0) (map (unseen_head s names) l)) (sym all);
-        called = w.called ∙ ap (λ o. found_in o (map (called_head s rows k) (rest))) (ec ∙ ap (λ b. earliest (first_of found 2) b n) fc)
-            ∙ found_step (first_of found 2) (called_b s rows k n) n (map (called_head s rows k) (rest)) ∙ ap (λ l. found_in (first_of found 2) (map (called_head s rows k) l)) (sym all);
+        unseen = w.unseen ∙ ap (λ o. found_in o (map (unseen_head s names) (rest))) (eu ∙ ap (λ b. earliest (place_of g.unseen) b (n + 1)) tu)
+            ∙ found_step (place_of g.unseen) (unseen_b s names n) (n + 1) (map (unseen_head s names) (rest)) ∙ ap (λ l. found_in (place_of g.unseen) (map (unseen_head s names) l)) (sym all);
+        called = w.called ∙ ap (λ o. found_in o (map (called_head s rows k) (rest))) (ec ∙ ap (λ b. earliest (place_of g.called) b n) tc)
+            ∙ found_step (place_of g.called) (called_b s rows k n) n (map (called_head s rows k) (rest)) ∙ ap (λ l. found_in (place_of g.called) (map (called_head s rows k) l)) (sym all);
         shaped =
             let items = map (several_head s rows nodes) (rest) in
             let a = arity_b s rows nodes n in
-            w.shaped ∙ ap (λ o. found_in o items) (eo ∙ ap (λ b. earliest (first_of f₃ 3) b n) (fo ∙ ap (other_b many) ev))
-            ∙ found_step (first_of f₃ 3) (other_b many a) n items ∙ ap (λ o. found_in o ((n, other_b many a) ∷ items)) (el ∙ ap (λ b. earliest (first_of found 3) b at) (fl ∙ ap (lone_b many) ev))
-            ∙ found_step (first_of found 3) (lone_b many a) at ((n, other_b many a) ∷ items)
-            ∙ ap (found_in (first_of found 3)) (sym shapes);
+            w.shaped ∙ ap (λ o. found_in o items) (eo ∙ ap (λ b. earliest (place_of fl) b n) (to ∙ ap (other_b many) ev))
+            ∙ found_step (place_of fl) (other_b many a) n items ∙ ap (λ o. found_in o ((n, other_b many a) ∷ items)) (el ∙ ap (λ b. earliest (place_of g.shaped) b at) (tl ∙ ap (lone_b many) ev))
+            ∙ found_step (place_of g.shaped) (lone_b many a) at ((n, other_b many a) ∷ items)
+            ∙ ap (found_in (place_of g.shaped)) (sym shapes);
       }
 
 -- the file ends before the right side

@@ -25,7 +25,7 @@ use Rattle.ol_check.specs.Founds.{place_of}
 use Rattle.ol_tables.specs.Heads.{Byte}
 use Rattle.ol_check.specs.Spans.{variants_from}
 use Rattle.ol_check.specs.Entries.{declared, declare_all, variant_entry, constant_entries, Global}
-use Rattle.ol_check.specs.Judging.{Findings, found_in, Knows, global_names}
+use Rattle.ol_check.specs.Judging.{findings, Findings, found_in, Knows, global_names}
 use Rattle.ol_check.specs.NodesJudged.{RowsReady, AllCovered, NamesReady, node_again, NodesJudged, slot_nodes}
 use Rattle.ol_check.specs.ConstantsJudged.{ConstantsJudged, ConstantsReady, slot_constants}
 use Rattle.ol_check.specs.Sizes.{NodesSized}
@@ -147,22 +147,22 @@ module _ {s rows names : List ℕ} {at : Sections} (rd : FileReady s rows names 
             covered = subst (λ n. AllCovered n f) same within.nodes;
           }
 
-      module _ {names₃ slots₂ rows' : List ℕ} {r : Faults} {e : Findings} (same : names₃ ≡ names₂) (nj : NodesJudged s names₂ (file_at s) slots₁ slots₂ g e) (ns : NodesSized (file_at s) rows rows' g.size r.size) (xu : place_of r.unseen ≡ e.unseen) (xg : place_of r.again ≡ e.again) (xc : place_of r.called ≡ e.called) (xh : place_of r.shaped ≡ e.shaped) where
+      module _ {names₃ slots₂ rows' : List ℕ} {r : Faults} (same : names₃ ≡ names₂) (nj : NodesJudged s names₂ (file_at s) slots₁ slots₂ g (findings r)) (ns : NodesSized (file_at s) rows rows' g.size r.size) where
         pub file_judged : FileJudged s (file_at s) names names₃ slots slots₂ rows rows' r
         unfolding fault7 fault8 fault9 fault10
         file_judged =
             let f = file_at s in
-            let table-again : place_of r.again ≡ first (concat (map (node_again names₂) (placed_nodes f))) = xg ∙ nj.again ∙ ap (λ o. found_in o (concat (map (node_again names₂) (placed_nodes f)))) (cj.again ∙ eg) in
+            let table-again : place_of r.again ≡ first (concat (map (node_again names₂) (placed_nodes f))) = nj.again ∙ ap (λ o. found_in o (concat (map (node_again names₂) (placed_nodes f)))) (cj.again ∙ eg) in
             let start : g₀.next ≡ constants_start f = en ∙ rd.sections.constants in
             let cs = f.constants in
             record {
-              unseen = xu ∙ nj.unseen ∙ ap (λ o. found_in o (concat (map (node_uses (constant_names f ++ variants f)) (placed_nodes f)))) (cj.unseen ∙ ap (λ o. found_in o (constant_uses (variants f) (placed constant_size g₀.next cs))) eu ∙ ap (λ p. first (constant_uses (variants f) (placed constant_size p cs))) start)
+              unseen = nj.unseen ∙ ap (λ o. found_in o (concat (map (node_uses (constant_names f ++ variants f)) (placed_nodes f)))) (cj.unseen ∙ ap (λ o. found_in o (constant_uses (variants f) (placed constant_size g₀.next cs))) eu ∙ ap (λ p. first (constant_uses (variants f) (placed constant_size p cs))) start)
                   ∙ sym (first_append (constant_uses (variants f) (placed_constants f)) (concat (map (node_uses (constant_names f ++ variants f)) (placed_nodes f))));
               taken = table-again ∙ ap (λ l. first (concat (map (node_again l) (placed_nodes f)))) global_is;
               again = λ no7. table-again ∙ ap first (nodes_defined st names₂ names_ready.global names_ready.knows names_ready.covered no7);
-              called = xc ∙ nj.called ∙ ap (λ o. found_in o (concat (map (node_calls f) (numbered 0 (placed_nodes f))))) (cj.called ∙ ap (λ o. found_in o (concat (map (in_constant (calls_where (λ x n. true))) (placed constant_size g₀.next cs)))) ec₀ ∙ ap (λ p. first (concat (map (in_constant (calls_where (λ x n. true))) (placed constant_size p cs)))) start)
+              called = nj.called ∙ ap (λ o. found_in o (concat (map (node_calls f) (numbered 0 (placed_nodes f))))) (cj.called ∙ ap (λ o. found_in o (concat (map (in_constant (calls_where (λ x n. true))) (placed constant_size g₀.next cs)))) ec₀ ∙ ap (λ p. first (concat (map (in_constant (calls_where (λ x n. true))) (placed constant_size p cs)))) start)
                   ∙ sym (first_append (concat (map (in_constant (calls_where (λ x n. true))) (placed_constants f))) (concat (map (node_calls f) (numbered 0 (placed_nodes f)))));
-              shaped = xh ∙ nj.shaped ∙ ap (λ o. found_in o (concat (map (node_shape f) (placed_nodes f)))) (cj.shaped ∙ ap (λ o. found_in o (concat (map (in_constant (shape_item f)) (placed constant_size g₀.next cs)))) eh ∙ ap (λ p. first (concat (map (in_constant (shape_item f)) (placed constant_size p cs)))) start)
+              shaped = nj.shaped ∙ ap (λ o. found_in o (concat (map (node_shape f) (placed_nodes f)))) (cj.shaped ∙ ap (λ o. found_in o (concat (map (in_constant (shape_item f)) (placed constant_size g₀.next cs)))) eh ∙ ap (λ p. first (concat (map (in_constant (shape_item f)) (placed constant_size p cs)))) start)
                   ∙ sym (first_append (concat (map (in_constant (shape_item f)) (placed_constants f))) (concat (map (node_shape f) (placed_nodes f))));
               entered = same ∙ global_is;
               slotted = nj.slotted ∙ ap (λ l. slot_nodes s l slots₁ (placed_nodes f)) global_is

@@ -1,3 +1,4 @@
+pub mod Standing
 pub mod Truths
 pub mod SpanLaws
 pub mod RowLoops

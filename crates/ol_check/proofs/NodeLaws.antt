@@ -22,17 +22,19 @@ use Rattle.ol_spec.specs.Admission.{callee_in, bad_call, may_call, equation_uses
 use Rattle.ol_spec.specs.Step.{sites}
 use Rattle.ol_spec.proofs.Admitted.{length_placed}
 use Rattle.ol_check.proofs.WalkLoop.{found_none, found_append}
-use Rattle.ol_check.proofs.EntryLoops.{Entered, Forgotten}
+use Rattle.ol_check.proofs.EntryLoops.{Entered, Forgotten, entered_told, forgotten_told, enter_visits, forget_visits}
+use Rattle.ol_check.specs.Spans.{end_from, behind_variable}
+use Rattle.ol_check.proofs.SpanLaws.{variables_near, variables_end}
 use Rattle.ol_tables.specs.At.{file_at}
 use Rattle.ol_tables.specs.Tables.{row_at, node_of, Each}
 use Rattle.ol_tables.specs.Stands.{Listed, Variables, NodeStands, FileStands}
 use Rattle.ol_tables.proofs.HeadsFile.{node_at_lem}
-use Rattle.ol_tables.specs.Heads.{Byte}
+use Rattle.ol_tables.specs.Heads.{name_at}
 use Rattle.ol_check.specs.RowsDone.{NodeRow}
 use Rattle.ol_check.specs.Records.{callee_b, record_by}
-use Rattle.ol_check.specs.Entries.{declare_all, forget_all, variable_entries, Global}
+use Rattle.ol_check.specs.Entries.{declared, forgot, declare_all, forget_all, variable_entries, Global}
 use Rattle.ol_check.specs.Judging.{Findings, may_b, bad_b, outputs_b, Knows, Context, EquationsJudged, found_in, slot_equations, again_b, global_names, seen_in, EquationsReady}
-use Rattle.ol_check.specs.NodesJudged.{place_in, NodeReady, node_table, Covered, node_again, NodeJudged, RowsReady, slot_nodes, NodesJudged, NamesReady}
+use Rattle.ol_check.specs.NodesJudged.{place_in, NodeReady, NodeVisited, node_table, Covered, node_again, NodeJudged, RowsReady, slot_nodes, NodesJudged, NamesReady}
 use Rattle.ol_check.proofs.EntryLaws.{declare_append, forget_append, entries_append, Enterable, knows_all, restored}
 
 -- ---- the sections of variables
@@ -72,11 +74,36 @@ module _ {s rows : List ℕ} {nodes k : ℕ} (rd : NodeReady s rows nodes k) (st
         locals_at_lem : l ≡ locals_start (place_in (file_at s) k) the
         locals_at_lem = omega (arith, at_is)
 
-        pub locals_are : {lc : ℕ} → Byte s l lc → lc ≡ length the.locals
-        locals_are b = b.is ∙ ap (λ p. get_or s p 0) locals_at_lem ∙ ready_node.local_count
-
         pub locals_there : Variables s (length (file_at s).enums) (l + 1) the.locals
         locals_there = subst (λ a. Listed variable_bytes (variable_fits base (length (file_at s).enums)) s (a + 1) the.locals) (sym locals_at_lem) ready_node.locals
+
+-- where the sections that the code walks stand, and how long they are
+pub record Sectioned (s : List ℕ) (k at i oc o l lc : ℕ) : Type 0 where
+  pub few : i + oc + lc ≤ 112
+  pub inside : at < 32768
+  pub second : o ≡ at + 2 + sum (map variable_size (node_of (file_at s) k).inputs)
+  pub third : l ≡ o + 1 + sum (map variable_size (node_of (file_at s) k).outputs)
+  pub locals : lc ≡ length (node_of (file_at s) k).locals
+  pub near : o ≤ at + 2 + 4 * i
+  pub far : l ≤ o + 1 + 4 * oc
+
+pub sectioned : {s rows : List ℕ} {nodes k : ℕ} (rd : NodeReady s rows nodes k) (st : FileStands s (file_at s)) {at i oc o l lc : ℕ} → at ≡ get_or rows (k * 8 + 7) 0 → i ≡ get_or rows (k * 8 + 2) 0 → oc ≡ get_or rows (k * 8 + 3) 0
+    → o ≡ end_from (behind_variable s) i (at + 2) → l ≡ end_from (behind_variable s) oc (o + 1) → lc ≡ get_or s l 0 → Sectioned s k at i oc o l lc
+sectioned {s} {rows} {nodes} {k} rd st {at} {i} {oc} {o} {l} {lc} ea ei eo e₁ e₂ el =
+    let n = ready_node rd st in
+    let second = e₁ ∙ ap (λ m. end_from (behind_variable s) m (at + 2)) (inputs_are rd st ea ei eo) ∙ variables_end (length (file_at s).enums) (node_of (file_at s) k).inputs (inputs_there rd st ea ei eo) in
+    let third = e₂ ∙ ap (λ m. end_from (behind_variable s) m (o + 1)) (outputs_are rd st ea ei eo) ∙ variables_end (length (file_at s).enums) (node_of (file_at s) k).outputs (outputs_there rd st ea ei eo second) in
+    let here : l ≡ locals_start (place_in (file_at s) k) (node_of (file_at s) k) = omega (arith, at_is rd st ea ei eo, second, third) in
+    let locals : lc ≡ length (node_of (file_at s) k).locals = el ∙ ap (λ p. get_or s p 0) here ∙ n.local_count in
+    record {
+      few = omega (arith, inputs_are rd st ea ei eo, outputs_are rd st ea ei eo, locals, n.few_inputs, n.few_outputs, n.few_locals);
+      inside = omega (arith, at_is rd st ea ei eo, n.inside, st.short);
+      second = second;
+      third = third;
+      locals = locals;
+      near = omega (arith, e₁, variables_near s i (at + 2));
+      far = omega (arith, e₂, variables_near s oc (o + 1));
+    }
 
 -- three sections of variables, one after the other
 pub entered_three : {a b c : List Variable} {names n₁ n₂ n₃ : List ℕ} {i j x y z p q r : ℕ} → i ≡ length a → j ≡ length b → Entered a names n₁ 0 x p → Entered b n₁ n₂ i y q → Entered c n₂ n₃ (i + j) z r
@@ -91,6 +118,29 @@ pub forgotten_three : {a b c : List Variable} {names n₁ n₂ n₃ : List ℕ} 
 forgotten_three {a} {b} {c} {names} u v w =
     w.forgotten ∙ ap (λ l. forget_all l (map name_of c)) (v.forgotten ∙ ap (λ l. forget_all l (map name_of b)) u.forgotten ∙ sym (forget_append names (map name_of a) (map name_of b)) ∙ ap (forget_all names) (sym (map-append name_of a b)))
     ∙ sym (forget_append names (map name_of (a ++ b)) (map name_of c)) ∙ ap (forget_all names) (sym (map-append name_of (a ++ b) c))
+
+-- a node's variables are entered, or taken back, where that is what is done at each
+module _ {R : List ℕ → ℕ → ℕ → List ℕ → Type 0} {s rows : List ℕ} {nodes k : ℕ} {t u : List ℕ} (rd : NodeReady s rows nodes k) (st : FileStands s (file_at s)) (v : NodeVisited R s rows k t u) where
+  node_sections : Sectioned s k v.at v.ins v.outs v.o v.l v.locs
+  node_sections = sectioned rd st v.place v.inputs v.outputs v.second v.third v.locals
+
+  pub node_entered : ((t : List ℕ) (i p : ℕ) (u : List ℕ) → R t i p u → u ≡ declared t (name_at s p) (i + 1)) → u ≡ node_table t (node_of (file_at s) k)
+  node_entered told =
+      let w = node_sections in
+      let n = node_of (file_at s) k in
+      let a = entered_told (record { ends = v.second; entered = enter_visits s told 0 _ t v.t₁ v.first_visits }) _ n.inputs (sym (inputs_are rd st v.place v.inputs v.outputs)) (inputs_there rd st v.place v.inputs v.outputs) in
+      let b = entered_told (record { ends = v.third; entered = enter_visits s told v.ins _ v.t₁ v.t₂ v.second_visits }) _ n.outputs (sym (outputs_are rd st v.place v.inputs v.outputs)) (outputs_there rd st v.place v.inputs v.outputs w.second) in
+      let c = entered_told (record { ends = refl; entered = enter_visits s told (v.ins + v.outs) _ v.t₂ u v.third_visits }) _ n.locals (sym w.locals) (locals_there rd st v.place v.inputs v.outputs w.second w.third) in
+      entered_three (inputs_are rd st v.place v.inputs v.outputs) (outputs_are rd st v.place v.inputs v.outputs) a b c
+
+  pub node_forgotten : ((t : List ℕ) (i p : ℕ) (u : List ℕ) → R t i p u → u ≡ forgot t (name_at s p)) → u ≡ forget_all t (map name_of (variables (node_of (file_at s) k)))
+  node_forgotten told =
+      let w = node_sections in
+      let n = node_of (file_at s) k in
+      let a = forgotten_told (record { ends = v.second; forgotten = forget_visits s told 0 _ t v.t₁ v.first_visits }) _ n.inputs (sym (inputs_are rd st v.place v.inputs v.outputs)) (inputs_there rd st v.place v.inputs v.outputs) in
+      let b = forgotten_told (record { ends = v.third; forgotten = forget_visits s told v.ins _ v.t₁ v.t₂ v.second_visits }) _ n.outputs (sym (outputs_are rd st v.place v.inputs v.outputs)) (outputs_there rd st v.place v.inputs v.outputs w.second) in
+      let c = forgotten_told (record { ends = refl; forgotten = forget_visits s told (v.ins + v.outs) _ v.t₂ u v.third_visits }) _ n.locals (sym w.locals) (locals_there rd st v.place v.inputs v.outputs w.second w.third) in
+      forgotten_three a b c
 
 -- ---- the context of a node's equations
 
@@ -258,6 +308,10 @@ module _ {s names : List ℕ} {f : File} {slots₀ : List ℕ} {g₀ : Findings}
           shaped = sym (found_none g.shaped) ∙ ap (λ l. found_in g.shaped (concat (map (node_shape f) l))) (sym empty) ∙ w.shaped;
           slotted = ap (slot_nodes s names slots) (sym empty) ∙ w.slotted;
         }
+
+-- there are as many nodes as the file has
+pub ready_counted : {s rows : List ℕ} {nodes k : ℕ} → NodeReady s rows nodes k → NodeReady s rows (length (file_at s).nodes) k
+ready_counted rd = record { reads = rd.reads; row = rd.row; many = refl; low = omega (arith, rd.low, rd.many); few = omega (arith, rd.few, rd.many) }
 
 pub ready_at : {s rows : List ℕ} {nodes : ℕ} → RowsReady s rows nodes → (k : ℕ) → k < nodes → NodeReady s rows nodes k
 ready_at rd k lt = record { reads = rd.reads; row = rd.row; many = rd.many; low = lt; few = rd.few }

@@ -1,14 +1,15 @@
 -- The loops that build rows, places and types: what holds after so many items.
 use Prim.Native.Nat.{ℕ, zero, suc, ◌+◌, ◌*◌, ◌-◌, ◌≤◌, ◌<◌}
-use mathlib.Core.List.{List, [], ◌∷◌, ◌++◌, map}
+use mathlib.Core.List.{List, [], ◌∷◌, ◌++◌, map, append_assoc}
 use mathlib.Core.Logic.{by_cases}
 use mathlib.Core.Path.{◌≡◌, refl, sym, ap, subst, ◌∙◌}
 use native.Mathlib.Omega.{arith}
 use native.Mathlib.Decide.{dec_lt}
-use lib.ListN.{length, get_or, set, length-set, length-append, get_or-append}
-use lib.Seq.{get_or-set_same, get_or-set_other, get_or-append-add}
+use lib.ListN.{length, get_or, set, take, drop, length-set, length-append, get_or-append}
+use lib.Seq.{get_or-set_same, get_or-set_other, get_or-append-add, drop-drop, sets, length-sets}
+use Rattle.std.proofs.lemmas.List.Edits.{sets-eq}
+use borrow.Rule.Slice.PartMut.{put_mid}
 use lib.Dec.{T, ltb, leb, leb→le}
-use borrow.Author.Tests.{ne_eqb}
 use Rattle.ol_spec.specs.Lists.{sum, concat, all_of}
 use Rattle.ol_spec.specs.Syntax.{Ty, Variable, Node, File, variables}
 use Rattle.ol_spec.specs.Places.{ty_size, enum_size, variable_size, constant_size, node_size, outputs_start, locals_start, equations_start, placed, placed_nodes, constants_start, nodes_start}
@@ -26,8 +27,8 @@ use Rattle.ol_tables.proofs.HeadsFile.{Passing, Item, passing_start, passing_ite
 use Rattle.ol_tables.proofs.TableLaws.{two_same, two_other, two_length, two_kept}
 use Rattle.ol_tables.proofs.Walking.{ty_small}
 use Rattle.ol_tables.specs.Heads.{Byte}
-use Rattle.ol_check.specs.Spans.{end_from, behind_variable, behind_enum}
-use Rattle.ol_check.specs.RowsDone.{Enums, EnumsAre, firsts_from, EnumsStored, type_set, TypeAt, no_variable, VariablesAre, types_from, TypesStored, put_all, outputs_at, locals_at, equations_at, row_from, node_types, node_stored, NodeStored}
+use Rattle.ol_check.specs.Spans.{starts_from, Visits, end_from, behind_variable, behind_enum}
+use Rattle.ol_check.specs.RowsDone.{Enums, EnumsAre, firsts_from, EnumsStored, type_set, TypeAt, no_variable, VariablesAre, types_from, TypesStored, outputs_at, locals_at, equations_at, row_from, node_types, node_stored, NodeStored}
 use Rattle.ol_check.specs.RowsDone.{NodeRow, NodeTypes, NodeIs, PlacesAre, NodesAre, rows_from, nodes_stored, NodesStored, TablesDone}
 use Rattle.ol_check.proofs.SpanLaws.{less_none, end_on_lem, end_none, variables_near}
 use Rattle.ol_check.proofs.PlanLaws.{plan_room, node_inside, nodes_apart}
@@ -170,16 +171,6 @@ pub record VariablesGoing (s types₀ types : List ℕ) (first count at next i :
 type_length : (types : List ℕ) (p : ℕ) (s : List ℕ) (at : ℕ) → length (type_set types p s at) ≡ length types
 type_length types p s at = length-set (set types p (get_or s at 0)) (p + 1) (ty_enum_at s at) ∙ length-set types p (get_or s at 0)
 
--- a type's two stores
-pub type_stored : (types t u s : List ℕ) (p at c n : ℕ) → Byte s at c → t ≡ set types p c → u ≡ set t (p + 1) n → n ≡ ty_enum_at s at → u ≡ type_set types p s at
-type_stored types t u s p at c n b et eu en = eu ∙ rw (et, en, b.is) refl
-
-pub enum_told : (s : List ℕ) (at c n : ℕ) → Byte s at c → c ≡ 12 → n ≡ get_or s (at + 1) 0 → n ≡ ty_enum_at s at
-enum_told s at c n b e h = rw (← b.is, e) h
-
-pub enum_none : (s : List ℕ) (at c : ℕ) → Byte s at c → (c ≡ 12 → ⊥) → 0 ≡ ty_enum_at s at
-enum_none s at c b e = rw (← b.is, ne_eqb c 12 e) refl
-
 -- other bytes stay
 type_other : (types : List ℕ) (p : ℕ) (s : List ℕ) (at j : ℕ) → (j ≡ p → ⊥) → (j ≡ p + 1 → ⊥) → get_or (type_set types p s at) j 0 ≡ get_or types j 0
 type_other types p s at j a b = get_or-set_other (set types p (get_or s at 0)) (p + 1) j _ 0 b ∙ get_or-set_other types p j _ 0 a
@@ -257,33 +248,14 @@ unfolding types_from
 types_length s zero p at types = refl
 types_length s (suc n) p at types = types_length s n (p + 2) (behind_variable s at) (type_set types p s (at + 2)) ∙ type_length types p s (at + 2)
 
--- those from number i on are left
-pub record TypesGoing (s types₀ types : List ℕ) (first count at i next : ℕ) : Type 0 where
-  pub left : types_from s (first + 2 * i) (count - i) next types ≡ types_from s first count at types₀
-  pub end : end_from (behind_variable s) (count - i) next ≡ end_from (behind_variable s) count at
-
-module _ {s types₀ : List ℕ} {first count at : ℕ} where
-  pub types_start : TypesGoing s types₀ types₀ first count at 0 at
-  types_start = let none_yet : first + 2 * 0 ≡ first = omega arith in record { left = rw (less_none count, none_yet) refl; end = rw (less_none count) refl }
-
-  module _ {types : List ℕ} {i next : ℕ} (g : TypesGoing s types₀ types first count at i next) where
-    pub types_turn : i < count → {n : ℕ} {types' : List ℕ} → types' ≡ type_set types (first + 2 * i) s (next + 2) → n ≡ ty_size_at s (next + 2) → TypesGoing s types₀ types' first count at (i + 1) (next + 2 + n)
-    unfolding types_from
-    types_turn lt {n} {types'} h en =
-        let less : count - i ≡ suc (count - (i + 1)) = omega arith in
-        let number : first + 2 * (i + 1) ≡ first + 2 * i + 2 = omega arith in
-        let behind = ap (λ m. next + 2 + m) en in
-        record {
-          left = ap (λ p. types_from s (first + 2 * (i + 1)) (count - (i + 1)) p types') behind ∙ ap (types_from s (first + 2 * (i + 1)) (count - (i + 1)) (behind_variable s next)) h
-              ∙ ap (λ m. types_from s m (count - (i + 1)) (behind_variable s next) (type_set types (first + 2 * i) s (next + 2))) number ∙ ap (λ m. types_from s (first + 2 * i) m next types) (sym less) ∙ g.left;
-          end = ap (end_from (behind_variable s) (count - (i + 1))) behind ∙ sym (end_on_lem (behind_variable s) count i next lt) ∙ g.end;
-        }
-
-    pub types_done : count ≤ i → TypesStored s types₀ types first count at next
-    unfolding types_from
-    types_done over =
-        let none_left : count - i ≡ 0 = omega arith in
-        record { ends = sym (end_none (behind_variable s) count i next over) ∙ g.end; stored = ap (λ m. types_from s (first + 2 * i) m next types) (sym none_left) ∙ g.left }
+-- what is done at each variable is to store its type
+pub types_visits : {R : List ℕ → ℕ → ℕ → List ℕ → Type 0} (s : List ℕ) (first : ℕ) → ((t : List ℕ) (i p : ℕ) (u : List ℕ) → R t i p u → u ≡ type_set t (first + 2 * i) s (p + 2)) → (i count at : ℕ) (t u : List ℕ) → Visits R i (starts_from (behind_variable s) count at) t u
+    → u ≡ types_from s (first + 2 * i) count at t
+unfolding Visits starts_from types_from
+types_visits s first told i zero at t u h = h
+types_visits s first told i (suc n) at t u h =
+    let number : first + 2 * (i + 1) ≡ first + 2 * i + 2 = omega arith in
+    types_visits s first told (i + 1) n (behind_variable s at) h.0 u h.2 ∙ ap (λ m. types_from s m n (behind_variable s at) h.0) number ∙ ap (types_from s (first + 2 * i + 2) n (behind_variable s at)) (told t i at h.0 h.1)
 
 pub types_near : {s types types' : List ℕ} {first count at r : ℕ} → TypesStored s types types' first count at r → r ≤ at + 4 * count
 types_near {s} {count = count} {at = at} h = omega (arith, h.ends, variables_near s count at)
@@ -291,22 +263,24 @@ types_near {s} {count = count} {at = at} h = omega (arith, h.ends, variables_nea
 -- ---- nodes
 
 -- a row's entries, and those outside it
-pub put_outside : (rows ns : List ℕ) (i j : ℕ) → (i ≤ j → j < i + length ns → ⊥) → get_or (put_all rows i ns) j 0 ≡ get_or rows j 0
+put_outside : (rows ns : List ℕ) (i j : ℕ) → (i ≤ j → j < i + length ns → ⊥) → get_or (sets rows i ns) j 0 ≡ get_or rows j 0
 put_outside rows [] i j h = refl
-put_outside rows (n ∷ ns) i j h = put_outside (set rows i n) ns (i + 1) j (λ a b. h (omega arith) (omega arith)) ∙ get_or-set_other rows i j n 0 (λ e. h (omega arith) (omega arith))
+put_outside rows (n ∷ ns) i j h = put_outside (set rows i n) ns (suc i) j (λ a b. h (omega arith) (omega arith)) ∙ get_or-set_other rows i j n 0 (λ e. h (omega arith) (omega arith))
 
-pub put_length : (rows ns : List ℕ) (i : ℕ) → length (put_all rows i ns) ≡ length rows
-put_length rows [] i = refl
-put_length rows (n ∷ ns) i = put_length (set rows i n) ns (i + 1) ∙ length-set rows i n
-
-pub put_inside : (rows ns : List ℕ) (i j : ℕ) → j < length ns → i + length ns ≤ length rows → get_or (put_all rows i ns) (i + j) 0 ≡ get_or ns j 0
+put_inside : (rows ns : List ℕ) (i j : ℕ) → j < length ns → i + length ns ≤ length rows → get_or (sets rows i ns) (i + j) 0 ≡ get_or ns j 0
 put_inside rows [] i j h room = absurd (omega arith)
 put_inside rows (n ∷ ns) i zero h room =
     let z : i + 0 ≡ i = omega arith in
-    rw z (put_outside (set rows i n) ns (i + 1) i (λ a b. omega arith) ∙ get_or-set_same rows i n 0 (omega arith))
+    rw z (put_outside (set rows i n) ns (suc i) i (λ a b. omega arith) ∙ get_or-set_same rows i n 0 (omega arith))
 put_inside rows (n ∷ ns) i (suc j) h room =
-    let z : i + suc j ≡ i + 1 + j = omega arith in
-    rw z (put_inside (set rows i n) ns (i + 1) j (omega arith) (omega (arith, length-set rows i n)))
+    let z : i + suc j ≡ suc i + j = omega arith in
+    rw z (put_inside (set rows i n) ns (suc i) j (omega arith) (omega (arith, length-set rows i n)))
+
+-- eight entries that are copied into a row are stored
+pub row_put : (rows ns got : List ℕ) (i : ℕ) → got ≡ ns → length ns ≡ 8 → i + 8 ≤ length rows → put_mid i (i + 8 - i) rows got ≡ sets rows i ns
+row_put rows ns got i e long room =
+    let k : i + 8 - i ≡ length ns = omega arith in
+    rw (k, e) (ap (λ z. take i rows ++ (ns ++ z)) (drop-drop (length ns) i rows) ∙ sym (append_assoc (take i rows) ns (drop (i + length ns) rows)) ∙ sym (sets-eq ns rows i (omega arith)))
 
 -- a type stays where its bytes do
 type_same : {types types' : List ℕ} {t : Ty} (p : ℕ) → get_or types' p 0 ≡ get_or types p 0 → get_or types' (p + 1) 0 ≡ get_or types (p + 1) 0 → TypeAt types p t → TypeAt types' p t
@@ -333,7 +307,7 @@ module _ (rows : List ℕ) {s rows' tab t₁ t₂ t₃ : List ℕ} {plans k at i
     (ib : i ≡ get_or s (at + 1) 0) (v₁ : VariablesDone s tab t₁ (plans + at) i (at + 2) o) (l₁ : length t₁ ≡ length tab)
     (ob : oc ≡ get_or s o 0) (v₂ : VariablesDone s t₁ t₂ (plans + at + 2 * i) oc (o + 1) l) (l₂ : length t₂ ≡ length t₁)
     (lb : lc ≡ get_or s l 0) (v₃ : VariablesDone s t₂ t₃ (plans + at + 2 * i + 2 * oc) lc (l + 1) q) (l₃ : length t₃ ≡ length t₂)
-    (qb : qc ≡ get_or s q 0) (kb : kind ≡ get_or s at 0) (put : rows' ≡ put_all rows (k * 8) (kind ∷ (q + 1) ∷ i ∷ oc ∷ (i + oc + lc) ∷ qc ∷ 0 ∷ at ∷ [])) where
+    (qb : qc ≡ get_or s q 0) (kb : kind ≡ get_or s at 0) (put : rows' ≡ sets rows (k * 8) (kind ∷ (q + 1) ∷ i ∷ oc ∷ (i + oc + lc) ∷ qc ∷ 0 ∷ at ∷ [])) where
   -- with its place
   abbrev pub t₄ : List ℕ
   t₄ = two_put t₃ (2 * k) at
@@ -391,7 +365,7 @@ module _ (rows : List ℕ) {s rows' tab t₁ t₂ t₃ : List ℕ} {plans k at i
 
 -- what is stored, by the bytes
 pub node_stored_lem : {s rows rows' tab t₁ t₂ t₃ t₄ : List ℕ} {plans k at i o oc l lc q qc kind : ℕ} → i ≡ get_or s (at + 1) 0 → TypesStored s tab t₁ (plans + at) i (at + 2) o → oc ≡ get_or s o 0 → TypesStored s t₁ t₂ (plans + at + 2 * i) oc (o + 1) l
-    → lc ≡ get_or s l 0 → TypesStored s t₂ t₃ (plans + at + 2 * i + 2 * oc) lc (l + 1) q → t₄ ≡ two_put t₃ (2 * k) at → qc ≡ get_or s q 0 → kind ≡ get_or s at 0 → rows' ≡ put_all rows (k * 8) (kind ∷ (q + 1) ∷ i ∷ oc ∷ (i + oc + lc) ∷ qc ∷ 0 ∷ at ∷ []) → NodeStored s rows rows' tab t₄ plans k at
+    → lc ≡ get_or s l 0 → TypesStored s t₂ t₃ (plans + at + 2 * i + 2 * oc) lc (l + 1) q → t₄ ≡ two_put t₃ (2 * k) at → qc ≡ get_or s q 0 → kind ≡ get_or s at 0 → rows' ≡ sets rows (k * 8) (kind ∷ (q + 1) ∷ i ∷ oc ∷ (i + oc + lc) ∷ qc ∷ 0 ∷ at ∷ []) → NodeStored s rows rows' tab t₄ plans k at
 node_stored_lem {s} {rows} {rows'} {tab} {t₁} {t₂} {t₃} {t₄} {plans} {k} {at} {i} {o} {oc} {l} {lc} {q} {qc} {kind} ei v₁ eoc v₂ elc v₃ e₄ eqc ek put =
     let eo : o ≡ outputs_at s at = v₁.ends ∙ ap (λ n. end_from (behind_variable s) n (at + 2)) ei in
     let no : oc ≡ get_or s (outputs_at s at) 0 = eoc ∙ ap (λ p. get_or s p 0) eo in
@@ -502,8 +476,8 @@ module _ {s places rows₀ tab₀ : List ℕ} {plans count : ℕ} (front : 64 �
   nodes_replay zero most near eq g = nodes_done g (omega arith)
   nodes_replay (suc n) {rows} {tab} {k} most near eq g =
       let at = get_or places k 0 in
-      let d : NodeStored s rows (put_all rows (k * 8) (row_from s at)) tab (node_stored s plans k at tab) plans k at = record { row = refl; typed = refl } in
-      nodes_replay n most near (omega arith) (nodes_turn g _ _ at most (omega arith) (put_length rows (row_from s at) (k * 8)) (node_length s plans k at tab) refl (node_told (omega arith) g.long front (omega (arith, near k (omega arith))) d))
+      let d : NodeStored s rows (sets rows (k * 8) (row_from s at)) tab (node_stored s plans k at tab) plans k at = record { row = refl; typed = refl } in
+      nodes_replay n most near (omega arith) (nodes_turn g _ _ at most (omega arith) (length-sets rows (k * 8) (row_from s at)) (node_length s plans k at tab) refl (node_told (omega arith) g.long front (omega (arith, near k (omega arith))) d))
 
   pub nodes_told : {rows' tab' : List ℕ} → count ≤ 32 → ((j : ℕ) → j < count → get_or places j 0 ≤ 32768) → length rows₀ ≡ 272 → NodesStored s places rows₀ rows' tab₀ tab' plans count → NodesDone s places rows₀ rows' tab₀ tab' plans count
   nodes_told {rows'} {tab'} most near long h =
@@ -524,7 +498,7 @@ module _ {s places rows₀ tab₀ : List ℕ} {plans count : ℕ} where
     rows_turn lt {at} {rows'} {tab'} ea h =
         let less : count - k ≡ suc (count - (k + 1)) = omega arith in
         record {
-          stored = ap (rows_from s places (k + 1) (count - (k + 1))) (h.row ∙ ap (λ p. put_all rows (k * 8) (row_from s p)) ea) ∙ ap (λ n. rows_from s places k n rows) (sym less) ∙ g.stored;
+          stored = ap (rows_from s places (k + 1) (count - (k + 1))) (h.row ∙ ap (λ p. sets rows (k * 8) (row_from s p)) ea) ∙ ap (λ n. rows_from s places k n rows) (sym less) ∙ g.stored;
           typed = ap (nodes_stored s places plans (k + 1) (count - (k + 1))) (h.typed ∙ ap (λ p. node_stored s plans k p tab) ea) ∙ ap (λ n. nodes_stored s places plans k n tab) (sym less) ∙ g.typed;
         }
 

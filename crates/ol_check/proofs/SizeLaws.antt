@@ -1,14 +1,11 @@
 -- Fault 14, and the length of a call site's record.
-use Prim.Native.Nat.{ℕ, zero, suc, ◌+◌, ◌-◌, ◌≤◌, ◌<◌}
-use mathlib.Core.Bool.{true, false, not, cond}
+use Prim.Native.Nat.{ℕ, zero, suc, ◌-◌, ◌≤◌}
+use mathlib.Core.Bool.{true, false, not}
 use mathlib.Core.List.{List, [], ◌∷◌, map}
 use mathlib.Core.Option.{none, some}
 use mathlib.Core.Path.{◌≡◌, refl, sym, ap, ◌∙◌}
 use native.Mathlib.Omega.{arith}
-use native.Mathlib.Nat.{add-zero}
 use lib.ListN.{length, get_or}
-use borrow.Author.Tests.{lt-ltb, le-ltb, ne_eqb}
-use Rattle.ol_spec.specs.Lists.{sum}
 use Rattle.ol_spec.specs.Syntax.{NodeKind, Function, Operator, Imported, Node, no_node, last_of, main}
 use Rattle.ol_spec.specs.Places.{placed_nodes, node_size, nodes_start, main_place}
 use Rattle.ol_spec.specs.Encode.{kind_code}
@@ -16,10 +13,7 @@ use Rattle.ol_spec.specs.Admission.{is_operator, at_main, fault14}
 use Rattle.ol_spec.proofs.Admitted.{length_placed}
 use Rattle.ol_tables.specs.At.{file_at}
 use Rattle.ol_tables.specs.Tables.{row_at, node_of}
-use Rattle.ol_tables.specs.Heads.{Byte}
 use Rattle.ol_check.specs.NodesJudged.{place_in, RowsReady}
-use Rattle.ol_tables.proofs.Skipping.{own_callee, own_none}
-use Rattle.ol_check.specs.Records.{callee_b, site_b, record_by}
 
 -- ---- the last node
 
@@ -64,26 +58,3 @@ module _ {s rows : List ℕ} {nodes : ℕ} (rd : RowsReady s rows nodes) (some_n
   main_other x p e other ep =
       ap some (ep ∙ (rd.row (nodes - 1) (omega (arith, rd.many))).place ∙ sym the_place)
       ∙ ap (λ b. at_main (file_at s) (not b)) (sym (operator_not (main (file_at s)).kind (λ q. other (kind_told x e ∙ q))))
-
--- ---- call sites
-
-module _ (s rows : List ℕ) (nodes p b : ℕ) (bb : Byte s p b) where
-  -- a call's
-  called : (c : ℕ) → b ≡ 11 → Byte s (p + 1) c → callee_b rows nodes c ≡ site_b s rows nodes p
-  called c e bc = sym (add-zero (callee_b rows nodes c)) ∙ ap (λ ks. sum (map (callee_b rows nodes) ks)) (sym (own_callee bb e bc))
-
-  pub site_call : (c r : ℕ) → b ≡ 11 → Byte s (p + 1) c → c < nodes → r ≡ row_at rows c 6 → r ≡ site_b s rows nodes p
-  site_call c r e bc lt er = er ∙ ap (λ t. cond t (row_at rows c 6) 0) (sym (lt-ltb c nodes lt)) ∙ called c e bc
-
-  pub site_absent : (c : ℕ) → b ≡ 11 → Byte s (p + 1) c → nodes ≤ c → 0 ≡ site_b s rows nodes p
-  site_absent c e bc le = ap (λ t. cond t (row_at rows c 6) 0) (sym (le-ltb c nodes le)) ∙ called c e bc
-
-  pub site_none : (b ≡ 11 → ⊥) → 0 ≡ site_b s rows nodes p
-  site_none e = ap (λ ks. sum (map (callee_b rows nodes) ks)) (sym (own_none bb e))
-
--- an Operator's call sites have records
-pub record_operator : (kind size : ℕ) → kind ≡ 1 → size ≡ record_by kind size
-record_operator kind size e = rw e refl
-
-pub record_other : (kind size : ℕ) → (kind ≡ 1 → ⊥) → 0 ≡ record_by kind size
-record_other kind size e = rw (ne_eqb kind 1 e) refl

@@ -2,7 +2,7 @@
 use Prim.Native.Nat.{ℕ, zero, suc, ◌+◌, ◌-◌, ◌*◌, ◌≤◌, ◌<◌}
 use mathlib.Core.Bool.{Bool}
 use mathlib.Core.List.{List, [], ◌∷◌, ◌++◌, map}
-use mathlib.Core.Path.{◌≡◌, refl, ap, ◌∙◌}
+use mathlib.Core.Path.{◌≡◌, refl, sym, ap, subst, ◌∙◌}
 use native.Mathlib.Omega.{arith}
 use lib.ListN.{length, get_or}
 use lib.Dec.{T}
@@ -21,7 +21,8 @@ use Rattle.ol_tables.specs.Stands.{Listed, Names, Variables}
 use Rattle.ol_tables.proofs.Walking.{ty_small}
 use Rattle.ol_tables.proofs.HeadLaws.{here_first, here_name}
 use Rattle.ol_tables.proofs.HeadsFile.{passing_start, passing_item, variable_stands}
-use Rattle.ol_check.specs.Spans.{starts_from, end_from, behind_name, behind_variable, behind_enum, named_at, names_from, variables_from, names_of, variants_from}
+use Rattle.std.specs.Borrow.{MutBor}
+use Rattle.ol_check.specs.Spans.{Visits, Visited, starts_from, end_from, behind_name, behind_variable, behind_enum, named_at, names_from, variables_from, names_of, variants_from}
 use Rattle.ol_check.specs.RowsDone.{Enums}
 
 -- ---- those from number i on
@@ -48,6 +49,44 @@ module _ (behind : ℕ → ℕ) (count i next : ℕ) where
   pub end_none : count ≤ i → end_from behind (count - i) next ≡ next
   unfolding end_from
   end_none le = ap (λ n. end_from behind n next) (none_less count i le)
+
+-- visits by a closure that is lent are visits by the closure
+pub visits_lent : (P : MutBor (List ℕ) → ℕ → ℕ → MutBor (List ℕ) → Type 0) (i : ℕ) (ps t u : List ℕ)
+    → Visits (λ t i p u. Visited (λ y y'. (x : ℕ) × P (record { ref_ptr = y.ref_ptr; ghost_name = x; now = y.now }) i p (record { ref_ptr = y.ref_ptr; ghost_name = x; now = y'.now })) t u) i ps t u → Visits (λ t i p u. Visited (λ y y'. P y i p y') t u) i ps t u
+unfolding Visits
+visits_lent P i [] t u h = h
+visits_lent P i (p ∷ ps) t u h =
+    let v = h.1 in
+    (h.0, record { shown = record { ref_ptr = v.shown.ref_ptr; ghost_name = v.met.0; now = v.shown.now }; left = record { ref_ptr = v.shown.ref_ptr; ghost_name = v.met.0; now = v.left.now }; met = v.met.1; shows = v.shows; leaves = v.leaves }, visits_lent P (i + 1) ps h.0 u h.2)
+
+-- what is left to be visited, and that it ends where all end
+pub record EachGoing (R : List ℕ → ℕ → ℕ → List ℕ → Type 0) (behind : ℕ → ℕ) (first count at : ℕ) (t₀ t : List ℕ) (i next : ℕ) : Type 0 where
+  pub left : (u : List ℕ) → Visits R (first + i) (starts_from behind (count - i) next) t u → Visits R first (starts_from behind count at) t₀ u
+  pub end : end_from behind (count - i) next ≡ end_from behind count at
+
+module _ {R : List ℕ → ℕ → ℕ → List ℕ → Type 0} {behind : ℕ → ℕ} {first count at : ℕ} {t₀ : List ℕ} where
+  pub each_start : EachGoing R behind first count at t₀ t₀ 0 at
+  each_start =
+      let z : count - 0 ≡ count = omega arith in
+      let f : first + 0 ≡ first = omega arith in
+      record { left = λ u h. subst (λ n. Visits R n (starts_from behind count at) t₀ u) f (subst (λ n. Visits R (first + 0) (starts_from behind n at) t₀ u) z h); end = rw z refl }
+
+  module _ {t : List ℕ} {i next : ℕ} (g : EachGoing R behind first count at t₀ t i next) where
+    pub each_turn : i < count → {m : List ℕ} {r : ℕ} → R t (first + i) next m → r ≡ behind next → EachGoing R behind first count at t₀ m (i + 1) r
+    unfolding Visits
+    each_turn lt {m} {r} one er =
+        let number : first + (i + 1) ≡ first + i + 1 = omega arith in
+        record {
+          left = λ u h. g.left u (subst (λ l. Visits R (first + i) l t u) (sym (starts_on behind count i next lt)) (m, one, subst (λ n. Visits R n (starts_from behind (count - (i + 1)) (behind next)) m u) number (subst (λ p. Visits R (first + (i + 1)) (starts_from behind (count - (i + 1)) p) m u) er h)));
+          end = ap (end_from behind (count - (i + 1))) er ∙ sym (end_on_lem behind count i next lt) ∙ g.end;
+        }
+
+    pub each_done : count ≤ i → Visits R first (starts_from behind count at) t₀ t
+    unfolding Visits
+    each_done over = g.left t (subst (λ l. Visits R (first + i) l t t) (sym (starts_none behind count i next over)) refl)
+
+    pub each_end : count ≤ i → next ≡ end_from behind count at
+    each_end over = sym (end_none behind count i next over) ∙ g.end
 
 -- a variable has at most four bytes
 pub variables_near : (s : List ℕ) (count at : ℕ) → end_from (behind_variable s) count at ≤ at + 4 * count

@@ -2,10 +2,11 @@
 use Prim.Native.Nat.{ℕ, zero, suc, ◌+◌, ◌-◌, ◌≤◌, ◌<◌, min}
 use mathlib.Core.Bool.{Bool, true, false, ◌&&◌, cond}
 use mathlib.Core.List.{List, [], ◌∷◌, ◌++◌, map}
+use mathlib.Core.Logic.{◌⊎◌, inl, inr}
 use mathlib.Core.Option.{Option, none, some}
 use mathlib.Core.Path.{◌≡◌, refl, sym, ap, ◌∙◌}
 use native.Mathlib.Omega.{arith}
-use lib.ListN.{length, get_or, length-set}
+use lib.ListN.{length, get_or}
 use lib.Dec.{ltb, eqb}
 use borrow.Author.Tests.{eq-eqb, ne_eqb}
 use Rattle.ol_spec.proofs.Walks.{first_append}
@@ -16,13 +17,13 @@ use Rattle.ol_spec.specs.Admission.{Item}
 use Rattle.ol_tables.specs.Heads.{Byte, name_at, parts_of, head_size, parts_at, next_at, joined, Standing}
 use Rattle.ol_tables.proofs.HeadLaws.{walk_head, next_told, parts_told, headed, head_some, joined_count}
 use Rattle.ol_tables.proofs.Skipping.{walk_none, walk_end, walk_many, walk_next, walk_turn as step, standing_few, skip_stands}
-use Rattle.ol_check.specs.Founds.{earliest, first_of, mark_place}
-use Rattle.ol_check.proofs.FoundLaws.{mark_same, mark_other}
+use Rattle.ol_check.specs.Founds.{place_of, earliest}
+use Rattle.ol_check.proofs.FoundLaws.{place_marked}
 use Rattle.ol_tables.specs.Walks.{HeadOf, walk_by, skip_at}
 use Rattle.ol_check.specs.Records.{site_b, callee_b}
 use Rattle.ol_check.specs.Judging.{Findings, findings, var_found, call_found, head_at, heads, unseen_b, unseen_head, slot_put, slot_head, slot_heads, bad_b, outputs_b, called_b, called_head, arity_b, several_head, found_in, Adds, heads_from, Walked}
 use Rattle.ol_tables.specs.declared.heads.Parts.{Parts}
-use Rattle.ol_check.specs.declared.Reached.{Reached}
+use Rattle.ol_check.specs.declared.Faults.{Faults}
 
 -- an item is judged
 pub found_step : (o : Option ℕ) (b : Bool) (q : ℕ) (is : List Item) → found_in (earliest o b q) is ≡ found_in o ((q, b) ∷ is)
@@ -74,22 +75,30 @@ min_cap a c le = omega arith
 abbrev pub Adding : ℕ → List ℕ → ℕ → List ℕ → Type 0
 Adding start xs size rest = (size ≤ 65536) × (min (size + sum rest) 65536 ≡ min (start + sum xs) 65536)
 
--- of so many expressions at `at`, those at `next` are left to be judged
-pub record WalkGoing (s names rows : List ℕ) (nodes k parts at : ℕ) (slots₀ : List ℕ) (found₀ : List ℕ) (z₀ : ℕ) (slots found : List ℕ) (z left next : ℕ) : Type 0 where
-  pub ends : skip_at s left next ≡ skip_at s parts at
-  pub slotted : slot_heads s names slots (heads_from s left next) ≡ slot_heads s names slots₀ (heads_from s parts at)
-  pub unseen : found_in (first_of found 0) (map (unseen_head s names) (heads_from s left next)) ≡ found_in (first_of found₀ 0) (map (unseen_head s names) (heads_from s parts at))
-  pub called : found_in (first_of found 2) (map (called_head s rows k) (heads_from s left next)) ≡ found_in (first_of found₀ 2) (map (called_head s rows k) (heads_from s parts at))
-  pub shaped : found_in (first_of found 3) (map (several_head s rows nodes) (heads_from s left next)) ≡ found_in (first_of found₀ 3) (map (several_head s rows nodes) (heads_from s parts at))
-  pub again : first_of found 1 ≡ first_of found₀ 1
-  pub long : length found ≡ length found₀
-  pub sized : Adding z₀ (map (site_b s rows nodes) (heads_from s parts at)) z (map (site_b s rows nodes) (heads_from s left next))
+pub file_ends : (s : List ℕ) (left next : ℕ) → length s ≤ next → (heads_from s left next ≡ []) × (skip_at s left next ≡ next)
+file_ends s left next out = (walk_end _ _ s (length s) left next out, walk_end _ _ s (length s) left next out)
 
-module _ {s names rows : List ℕ} {nodes k parts at : ℕ} {slots₀ : List ℕ} {found₀ : List ℕ} {z₀ : ℕ} where
-  pub walk_start : z₀ ≤ 65536 → WalkGoing s names rows nodes k parts at slots₀ found₀ z₀ slots₀ found₀ z₀ parts at
-  walk_start le = record { ends = refl; slotted = refl; unseen = refl; called = refl; shaped = refl; again = refl; long = refl; sized = (le, refl) }
+-- the three ways to the end
+walk_over : (s : List ℕ) (left next : ℕ) → (left ≤ 0) ⊎ ((length s ≤ next) ⊎ (length s < left)) → (heads_from s left next ≡ []) × (skip_at s left next ≡ next)
+walk_over s left next (inl le) = (walk_none _ _ s (length s) left next le, walk_none _ _ s (length s) left next le)
+walk_over s left next (inr (inl out)) = file_ends s left next out
+walk_over s left next (inr (inr over)) = (walk_many _ _ s (length s) left next over, walk_many _ _ s (length s) left next over)
 
-  module _ {slots found : List ℕ} {z left next : ℕ} (g : WalkGoing s names rows nodes k parts at slots₀ found₀ z₀ slots found z left next) where
+-- of so many expressions from where the walk stood, those at `next` are left to be judged
+pub record WalkGoing (s names rows : List ℕ) (nodes k parts : ℕ) (slots₀ : List ℕ) (f : Faults) (slots : List ℕ) (found : Faults) (z left next : ℕ) : Type 0 where
+  pub ends : skip_at s left next ≡ skip_at s parts f.next
+  pub slotted : slot_heads s names slots (heads_from s left next) ≡ slot_heads s names slots₀ (heads_from s parts f.next)
+  pub unseen : found_in (place_of found.unseen) (map (unseen_head s names) (heads_from s left next)) ≡ found_in (place_of f.unseen) (map (unseen_head s names) (heads_from s parts f.next))
+  pub called : found_in (place_of found.called) (map (called_head s rows k) (heads_from s left next)) ≡ found_in (place_of f.called) (map (called_head s rows k) (heads_from s parts f.next))
+  pub shaped : found_in (place_of found.shaped) (map (several_head s rows nodes) (heads_from s left next)) ≡ found_in (place_of f.shaped) (map (several_head s rows nodes) (heads_from s parts f.next))
+  pub again : place_of found.again ≡ place_of f.again
+  pub sized : Adding f.size (map (site_b s rows nodes) (heads_from s parts f.next)) z (map (site_b s rows nodes) (heads_from s left next))
+
+module _ {s names rows : List ℕ} {nodes k parts : ℕ} {slots₀ : List ℕ} {f : Faults} where
+  pub walk_start : f.size ≤ 65536 → WalkGoing s names rows nodes k parts slots₀ f slots₀ f f.size parts f.next
+  walk_start le = record { ends = refl; slotted = refl; unseen = refl; called = refl; shaped = refl; again = refl; sized = (le, refl) }
+
+  module _ {slots : List ℕ} {found : Faults} {z left next : ℕ} (g : WalkGoing s names rows nodes k parts slots₀ f slots found z left next) where
     module _ (lt : 0 < left) (inside : next < length s) (room : left ≤ length s) (p : Parts) (hp : HeadOf s next p) where
       on : heads_from s left next ≡ next ∷ heads_from s (left - 1 + p.count) p.start
       on = step (λ q r. q ∷ r) (λ q. []) s left next lt inside room hp.parts hp.next
@@ -103,21 +112,20 @@ module _ {s names rows : List ℕ} {nodes k parts at : ℕ} {slots₀ : List ℕ
           ∙ ap (λ i. found_in o (i ∷ r)) (sym ei)
           ∙ ap (λ l. found_in o (map item l)) (sym on) ∙ ez
 
-      walk_turn : (slots' found' : List ℕ) (bu bc : Bool) (n x z' : ℕ) → slots' ≡ slot_head s names slots next
-          → first_of found' 0 ≡ earliest (first_of found 0) bu (next + 1) → bu ≡ unseen_b s names next → first_of found' 2 ≡ earliest (first_of found 2) bc next → bc ≡ called_b s rows k next
-          → first_of found' 3 ≡ earliest (first_of found 3) (ltb 1 n) next → n ≡ arity_b s rows nodes next → (z ≤ 65536 → z' ≡ min (z + x) 65536) → x ≡ site_b s rows nodes next → first_of found' 1 ≡ first_of found 1 → length found' ≡ length found
-          → WalkGoing s names rows nodes k parts at slots₀ found₀ z₀ slots' found' z' (left - 1 + p.count) p.start
+      walk_turn : (slots' : List ℕ) (found' : Faults) (bu bc : Bool) (n x z' : ℕ) → slots' ≡ slot_head s names slots next
+          → place_of found'.unseen ≡ earliest (place_of found.unseen) bu (next + 1) → bu ≡ unseen_b s names next → place_of found'.called ≡ earliest (place_of found.called) bc next → bc ≡ called_b s rows k next
+          → place_of found'.shaped ≡ earliest (place_of found.shaped) (ltb 1 n) next → n ≡ arity_b s rows nodes next → (z ≤ 65536 → z' ≡ min (z + x) 65536) → x ≡ site_b s rows nodes next → place_of found'.again ≡ place_of found.again
+          → WalkGoing s names rows nodes k parts slots₀ f slots' found' z' (left - 1 + p.count) p.start
       unfolding slot_heads
-      walk_turn slots' found' bu bc n x z' es' eu fu ec fc eh fh ez fz ea el =
+      walk_turn slots' found' bu bc n x z' es' eu fu ec fc eh fh ez fz ea =
           record {
             ends = sym (step (λ q r. r) (λ q. q) s left next lt inside room hp.parts hp.next) ∙ g.ends;
             slotted = ap (λ l. slot_heads s names l (heads_from s (left - 1 + p.count) p.start)) es'
                 ∙ ap (slot_heads s names slots) (sym on) ∙ g.slotted;
-            unseen = step_found (unseen_head s names) (first_of found 0) _ _ _ _ refl (eu ∙ ap (λ b. earliest (first_of found 0) b (next + 1)) fu) g.unseen;
-            called = step_found (called_head s rows k) (first_of found 2) _ _ _ _ refl (ec ∙ ap (λ b. earliest (first_of found 2) b next) fc) g.called;
-            shaped = step_found (several_head s rows nodes) (first_of found 3) _ _ _ _ refl (eh ∙ ap (λ n. earliest (first_of found 3) (ltb 1 n) next) fh) g.shaped;
+            unseen = step_found (unseen_head s names) (place_of found.unseen) _ _ _ _ refl (eu ∙ ap (λ b. earliest (place_of found.unseen) b (next + 1)) fu) g.unseen;
+            called = step_found (called_head s rows k) (place_of found.called) _ _ _ _ refl (ec ∙ ap (λ b. earliest (place_of found.called) b next) fc) g.called;
+            shaped = step_found (several_head s rows nodes) (place_of found.shaped) _ _ _ _ refl (eh ∙ ap (λ n. earliest (place_of found.shaped) (ltb 1 n) next) fh) g.shaped;
             again = ea ∙ g.again;
-            long = el ∙ g.long;
             sized =
                 let w = g.sized in
                 let r = sum (map (site_b s rows nodes) (heads_from s (left - 1 + p.count) p.start)) in (
@@ -140,75 +148,61 @@ module _ {s names rows : List ℕ} {nodes k parts at : ℕ} {slots₀ : List ℕ
       no_site lt = sym (ap (λ b. sum (map (callee_b rows nodes) (cond b (get_or s (next + 1) 0 ∷ []) []))) (no_call lt).0)
 
       -- at a plain head nothing changes
-      pub walk_plain : {b d : ℕ} → Byte s next b → Byte s next d → (b ≡ 4 → ⊥) → d < 11 → WalkGoing s names rows nodes k parts at slots₀ found₀ z₀ slots found z (left - 1 + p.count) p.start
-      walk_plain eb ed nb low =
-          let lt : get_or s next 0 < 11 = omega (arith, ed.is) in
+      pub walk_plain : {b z' : ℕ} {slots' : List ℕ} {found' : Faults} → Byte s next b → (b ≡ 4 → ⊥) → b < 11 → slots' ≡ slots → found' ≡ found → z' ≡ z → WalkGoing s names rows nodes k parts slots₀ f slots' found' z' (left - 1 + p.count) p.start
+      walk_plain {b} {z'} {slots'} {found'} eb nb low es ef ez =
+          let lt : get_or s next 0 < 11 = omega (arith, eb.is) in
           let no4 : eqb (get_or s next 0) 4 ≡ false = ne_eqb (get_or s next 0) 4 (λ q. nb (eb.is ∙ q)) in
-          walk_turn slots found false false 1 0 z
-          (sym (ap (λ b. cond b (slot_put s names slots (next + 1)) slots) no4))
-          (earliest_not (first_of found 0) (next + 1)) (sym (ap (λ b. b && eqb (get_or names (name_at s (next + 1)) 0) 0) no4))
-          (earliest_not (first_of found 2) next) (none_called lt)
-          (earliest_not (first_of found 3) next) (one_value lt)
-          (λ le. sym (min_cap z 65536 le)) (no_site lt) refl refl
+          walk_turn slots' found' false false 1 0 z'
+          (es ∙ sym (ap (λ b. cond b (slot_put s names slots (next + 1)) slots) no4))
+          (ap (λ (w : Faults). place_of w.unseen) ef ∙ earliest_not (place_of found.unseen) (next + 1)) (sym (ap (λ b. b && eqb (get_or names (name_at s (next + 1)) 0) 0) no4))
+          (ap (λ (w : Faults). place_of w.called) ef ∙ earliest_not (place_of found.called) next) (none_called lt)
+          (ap (λ (w : Faults). place_of w.shaped) ef ∙ earliest_not (place_of found.shaped) next) (one_value lt)
+          (λ le. ez ∙ sym (min_cap z 65536 le)) (no_site lt) (ap (λ (w : Faults). place_of w.again) ef)
 
       -- a Var
-      pub walk_var : {b : ℕ} {slots' found' : List ℕ} → Byte s next b → b ≡ 4 → length found₀ ≡ 4 → next < 65535 → slots' ≡ slot_put s names slots (next + 1) → found' ≡ var_found s names found next
-          → WalkGoing s names rows nodes k parts at slots₀ found₀ z₀ slots' found' z (left - 1 + p.count) p.start
-      walk_var {b} {slots'} {found'} eb four long small es ef =
+      pub walk_var : {b z' : ℕ} {slots' : List ℕ} {found' : Faults} → Byte s next b → b ≡ 4 → slots' ≡ slot_put s names slots (next + 1) → found' ≡ var_found s names found next → z' ≡ z
+          → WalkGoing s names rows nodes k parts slots₀ f slots' found' z' (left - 1 + p.count) p.start
+      walk_var {b} {z'} {slots'} {found'} eb four es ef ez =
           let is4 : get_or s next 0 ≡ 4 = sym eb.is ∙ four in
           let yes : eqb (get_or s next 0) 4 ≡ true = eq-eqb (get_or s next 0) 4 is4 in
           let lt : get_or s next 0 < 11 = omega (arith, is4) in
           let q = eqb (get_or names (name_at s (next + 1)) 0) 0 in
-          walk_turn slots' found' q false 1 0 z
+          walk_turn slots' found' q false 1 0 z'
           (es ∙ sym (ap (λ b. cond b (slot_put s names slots (next + 1)) slots) yes))
-          (ap (λ l. first_of l 0) ef ∙ mark_same found 0 q (next + 1) (omega (arith, g.long)) (omega arith)) (sym (ap (λ b. b && q) yes))
-          (ap (λ l. first_of l 2) ef ∙ mark_other found 0 2 q (next + 1) (λ w. omega arith) ∙ earliest_not (first_of found 2) next) (none_called lt)
-          (ap (λ l. first_of l 3) ef ∙ mark_other found 0 3 q (next + 1) (λ w. omega arith) ∙ earliest_not (first_of found 3) next) (one_value lt)
-          (λ le. sym (min_cap z 65536 le)) (no_site lt) (ap (λ l. first_of l 1) ef ∙ mark_other found 0 1 q (next + 1) (λ w. omega arith)) (ap length ef ∙ length-set found 0 _)
+          (ap (λ (w : Faults). place_of w.unseen) ef ∙ place_marked found.unseen q (next + 1)) (sym (ap (λ b. b && q) yes))
+          (ap (λ (w : Faults). place_of w.called) ef ∙ earliest_not (place_of found.called) next) (none_called lt)
+          (ap (λ (w : Faults). place_of w.shaped) ef ∙ earliest_not (place_of found.shaped) next) (one_value lt)
+          (λ le. ez ∙ sym (min_cap z 65536 le)) (no_site lt) (ap (λ (w : Faults). place_of w.again) ef)
 
       -- a call or a Tuple
-      pub walk_call : {b x z' : ℕ} {found' : List ℕ} → Byte s next b → (b ≡ 4 → ⊥) → length found₀ ≡ 4 → next < 65536 → found' ≡ call_found s rows nodes k found next → z' ≡ min (z + x) 65536 → x ≡ site_b s rows nodes next
-          → WalkGoing s names rows nodes k parts at slots₀ found₀ z₀ slots found' z' (left - 1 + p.count) p.start
-      walk_call {b} {x} {z'} {found'} eb nb long small ef ez ex =
+      pub walk_call : {b x z' : ℕ} {slots' : List ℕ} {found' : Faults} → Byte s next b → (b ≡ 4 → ⊥) → slots' ≡ slots → found' ≡ call_found s rows nodes k found next → z' ≡ min (z + x) 65536 → x ≡ site_b s rows nodes next
+          → WalkGoing s names rows nodes k parts slots₀ f slots' found' z' (left - 1 + p.count) p.start
+      walk_call {b} {x} {z'} {slots'} {found'} eb nb es ef ez ex =
           let no4 : eqb (get_or s next 0) 4 ≡ false = ne_eqb (get_or s next 0) 4 (λ q. nb (eb.is ∙ q)) in
           let bc = called_b s rows k next in
           let bs = ltb 1 (arity_b s rows nodes next) in
-          let m = mark_place found 2 bc next in
-          let lm : length m ≡ length found = length-set found 2 _ in
-          walk_turn slots found' false bc (arity_b s rows nodes next) x z'
-          (sym (ap (λ b. cond b (slot_put s names slots (next + 1)) slots) no4))
-          (ap (λ l. first_of l 0) ef ∙ mark_other m 3 0 bs next (λ w. omega arith) ∙ mark_other found 2 0 bc next (λ w. omega arith) ∙ earliest_not (first_of found 0) (next + 1)) (sym (ap (λ b. b && eqb (get_or names (name_at s (next + 1)) 0) 0) no4))
-          (ap (λ l. first_of l 2) ef ∙ mark_other m 3 2 bs next (λ w. omega arith) ∙ mark_same found 2 bc next (omega (arith, g.long)) small) refl
-          (ap (λ l. first_of l 3) ef ∙ mark_same m 3 bs next (omega (arith, g.long, lm)) small ∙ ap (λ o. earliest o bs next) (mark_other found 2 3 bc next (λ w. omega arith))) refl
-          (λ le. ez) ex (ap (λ l. first_of l 1) ef ∙ mark_other m 3 1 bs next (λ w. omega arith) ∙ mark_other found 2 1 bc next (λ w. omega arith)) (ap length ef ∙ length-set m 3 _ ∙ lm)
+          walk_turn slots' found' false bc (arity_b s rows nodes next) x z'
+          (es ∙ sym (ap (λ b. cond b (slot_put s names slots (next + 1)) slots) no4))
+          (ap (λ (w : Faults). place_of w.unseen) ef ∙ earliest_not (place_of found.unseen) (next + 1)) (sym (ap (λ b. b && eqb (get_or names (name_at s (next + 1)) 0) 0) no4))
+          (ap (λ (w : Faults). place_of w.called) ef ∙ place_marked found.called bc next) refl
+          (ap (λ (w : Faults). place_of w.shaped) ef ∙ place_marked found.shaped bs next) refl
+          (λ le. ez) ex (ap (λ (w : Faults). place_of w.again) ef)
 
-    pub walk_done : (f r : Reached) → heads_from s left next ≡ [] → skip_at s left next ≡ next → f.next ≡ at → f.size ≡ z₀ → r.next ≡ next → r.size ≡ z
-        → Walked s names rows nodes k parts slots₀ slots (findings found₀ f) (findings found r)
+    -- none is left, the file ends, or more are left than the file has bytes
+    pub walk_done : (left ≤ 0) ⊎ ((length s ≤ next) ⊎ (length s < left)) → Walked s names rows nodes k parts slots₀ slots (findings f) (findings (record found { size = z; next = next }))
     unfolding slot_heads
-    walk_done f r empty end ea ez₀ en ez =
+    walk_done why =
+        let over = walk_over s left next why in
+        let empty = over.0 in
         record {
-          next = en ∙ sym end ∙ g.ends ∙ ap (skip_at s parts) (sym ea);
-          slotted = ap (slot_heads s names slots) (sym empty) ∙ g.slotted ∙ ap (λ a. slot_heads s names slots₀ (heads_from s parts a)) (sym ea);
+          next = sym over.1 ∙ g.ends;
+          slotted = ap (slot_heads s names slots) (sym empty) ∙ g.slotted;
           again = g.again;
-          unseen = rw ea (sym (found_none (first_of found 0)) ∙ ap (λ l. found_in (first_of found 0) (map (unseen_head s names) l)) (sym empty) ∙ g.unseen);
-          called = rw ea (sym (found_none (first_of found 2)) ∙ ap (λ l. found_in (first_of found 2) (map (called_head s rows k) l)) (sym empty) ∙ g.called);
-          shaped = rw ea (sym (found_none (first_of found 3)) ∙ ap (λ l. found_in (first_of found 3) (map (several_head s rows nodes) l)) (sym empty) ∙ g.shaped);
-          sized =
-              let w = g.sized in
-              ez ∙ sym (min_cap z 65536 w.0) ∙ ap (λ l. min (z + sum (map (site_b s rows nodes) l)) 65536) (sym empty) ∙ w.1
-              ∙ ap (λ m. min (m + sum (map (site_b s rows nodes) (heads_from s parts at))) 65536) (sym ez₀) ∙ ap (λ a. min (f.size + sum (map (site_b s rows nodes) (heads_from s parts a))) 65536) (sym ea);
+          unseen = sym (found_none (place_of found.unseen)) ∙ ap (λ l. found_in (place_of found.unseen) (map (unseen_head s names) l)) (sym empty) ∙ g.unseen;
+          called = sym (found_none (place_of found.called)) ∙ ap (λ l. found_in (place_of found.called) (map (called_head s rows k) l)) (sym empty) ∙ g.called;
+          shaped = sym (found_none (place_of found.shaped)) ∙ ap (λ l. found_in (place_of found.shaped) (map (several_head s rows nodes) l)) (sym empty) ∙ g.shaped;
+          sized = let w = g.sized in sym (min_cap z 65536 w.0) ∙ ap (λ l. min (z + sum (map (site_b s rows nodes) l)) 65536) (sym empty) ∙ w.1;
         }
-
--- the three ways to the end: none is left, the file ends, or more are left than the file has bytes
-module _ (s : List ℕ) (left next : ℕ) where
-  pub none_left : left ≤ 0 → (heads_from s left next ≡ []) × (skip_at s left next ≡ next)
-  none_left le = (walk_none _ _ s (length s) left next le, walk_none _ _ s (length s) left next le)
-
-  pub file_ends : length s ≤ next → (heads_from s left next ≡ []) × (skip_at s left next ≡ next)
-  file_ends out = (walk_end _ _ s (length s) left next out, walk_end _ _ s (length s) left next out)
-
-  pub too_many : length s < left → (heads_from s left next ≡ []) × (skip_at s left next ≡ next)
-  too_many over = (walk_many _ _ s (length s) left next over, walk_many _ _ s (length s) left next over)
 
 -- the expressions es, which stand where the walk stood, are judged
 pub record WalkedAs (s names rows : List ℕ) (nodes k : ℕ) (es : Exprs) (slots slots' : List ℕ) (f r : Findings) : Type 0 where

@@ -1,5 +1,5 @@
 -- Fault 6, by a table that says of each name which sort declared it last; and the highest declared name.
-use Rattle.std.specs.Prelude.{ℕ, zero, suc, ◌+◌, ◌-◌, ◌<◌, Bool, ◌&&◌, ◌||◌, cond, List, [], ◌∷◌, ◌++◌, ◌≡◌, length, get_or, set, ltb, leb, eqb}
+use Rattle.std.specs.Prelude.{ℕ, zero, suc, max, ◌+◌, ◌-◌, ◌<◌, Bool, ◌&&◌, ◌||◌, cond, List, [], ◌∷◌, ◌++◌, ◌≡◌, length, get_or, set, ltb, leb, eqb}
 use Rattle.std.proofs.Math.Option.{Option, none}
 use Rattle.ol_spec.specs.Lists.{or_else}
 use Rattle.ol_spec.specs.Syntax.{File}
@@ -8,7 +8,7 @@ use Rattle.ol_spec.specs.Admission.{Sort, variant, constant, variable, Declared,
 use Rattle.ol_tables.specs.At.{file_at}
 use Rattle.ol_tables.specs.Stands.{FileReads}
 use Rattle.ol_tables.specs.Tables.{Each, node_of}
-use Rattle.ol_check.specs.Founds.{place_of, place_at}
+use Rattle.ol_check.specs.Founds.{place_of}
 use Rattle.ol_check.specs.Spans.{end_from, behind_variable, behind_enum, names_from, variables_from}
 use Rattle.ol_check.specs.RowsDone.{NodeRow, SectionsAre}
 use Rattle.ol_check.specs.NodesJudged.{place_in}
@@ -38,14 +38,10 @@ unfoldable pub clash_in : List ℕ → List Declared → Option ℕ
 clash_in sorts [] = none
 clash_in sorts (d ∷ ds) = first_if (meets (get_or sorts d.name 0) (sort_code d.sort)) d.place (clash_in (set sorts d.name (sort_code d.sort)) ds)
 
--- the higher of two names
-abbrev pub over : ℕ → ℕ → ℕ
-over most x = cond (ltb x most) most x
-
 -- the highest of `most` and these names
 unfoldable pub over_all : ℕ → List Declared → ℕ
 over_all most [] = most
-over_all most (d ∷ ds) = over_all (over most d.name) ds
+over_all most (d ∷ ds) = over_all (max most d.name) ds
 
 -- what a walk over these declarations makes of the table, the first fault and the highest name
 pub record Sorts (ds : List Declared) (sorts sorts' : List ℕ) (found : Option ℕ) (most : ℕ) (found' : Option ℕ) (most' : ℕ) : Type 0 where
@@ -53,20 +49,12 @@ pub record Sorts (ds : List Declared) (sorts sorts' : List ℕ) (found : Option 
   pub above : most' ≡ over_all most ds
   pub enters : sorts' ≡ sort_all sorts ds
 
--- what a walk has marked: the first clash so far, and the highest name so far
-abbrev pub marked_place : List ℕ → Option ℕ
-marked_place marks = place_at (get_or marks 0 0)
-
-abbrev pub marked_most : List ℕ → ℕ
-marked_most marks = get_or marks 1 0
-
--- what a walk over these declarations makes of the table and of its marks
-pub record Walks (ds : List Declared) (sorts sorts' marks marks' : List ℕ) : Type 0 where
-  pub is : Sorts ds sorts sorts' (marked_place marks) (marked_most marks) (marked_place marks') (marked_most marks')
-  pub long : length marks' ≡ length marks
+-- what a walk over these declarations makes of the table and of its marks, which are the first clash so far and the highest name so far
+pub record Walks (ds : List Declared) (sorts sorts' : List ℕ) (marks marks' : Sorting) : Type 0 where
+  pub is : Sorts ds sorts sorts' (place_of marks.found) marks.highest (place_of marks'.found) marks'.highest
 
 -- so many variables from `at` on, and where they end
-pub record VariablesSorted (s : List ℕ) (sort count at : ℕ) (sorts sorts' marks marks' : List ℕ) (r : ℕ) : Type 0 where
+pub record VariablesSorted (s : List ℕ) (sort count at : ℕ) (sorts sorts' : List ℕ) (marks marks' : Sorting) (r : ℕ) : Type 0 where
   pub walks : Walks (declared_as (sort_of sort) (variables_from s count at)) sorts sorts' marks marks'
   pub ends : r ≡ end_from (behind_variable s) count at
 

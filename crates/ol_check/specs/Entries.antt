@@ -1,7 +1,6 @@
 -- The table by name: entry 0 for none, a variable's index and 1, a constant's index and 113, 255 for a variant. The first entry of a name stays.
 use Rattle.std.specs.Prelude.{ℕ, ◌+◌, ◌≤◌, cond, List, [], ◌∷◌, ◌≡◌, get_or, set, eqb, leb}
 use Rattle.ol_spec.specs.Syntax.{Variable, Constant}
-use Rattle.ol_check.specs.Spans.{end_from, behind_variable, names_of, variables_from}
 
 -- a name is entered, unless it has an entry; its entry is taken back, if it is a variable's
 abbrev pub declared : List ℕ → ℕ → ℕ → List ℕ
@@ -40,15 +39,6 @@ entry_in (d ∷ ds) x = cond (eqb x d.0) d.1 (entry_in ds x)
 abbrev pub entries_from : ℕ → List (ℕ × ℕ) → List (ℕ × ℕ)
 entries_from first [] = []
 entries_from first (p ∷ ps) = (p.1, first + 1) ∷ entries_from (first + 1) ps
-
--- so many variables from `at` on are entered, or taken back
-pub record VariablesEntered (s names names' : List ℕ) (first count at r : ℕ) : Type 0 where
-  pub ends : r ≡ end_from (behind_variable s) count at
-  pub entered : names' ≡ declare_all names (entries_from first (variables_from s count at))
-
-pub record VariablesForgotten (s names names' : List ℕ) (count at r : ℕ) : Type 0 where
-  pub ends : r ≡ end_from (behind_variable s) count at
-  pub forgotten : names' ≡ forget_all names (names_of (variables_from s count at))
 
 -- the table outside a node: no entry is a variable's
 abbrev pub Global : List ℕ → Type 0

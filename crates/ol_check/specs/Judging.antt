@@ -11,10 +11,10 @@ use Rattle.ol_tables.specs.Stands.{Equations}
 use Rattle.ol_tables.specs.Heads.{name_at, parts_at, next_at}
 use Rattle.ol_tables.specs.Walks.{walk_at, skip_at}
 use Rattle.ol_spec.specs.Step.{equation_sites}
-use Rattle.ol_check.specs.Founds.{first_of, mark_place}
+use Rattle.ol_check.specs.Founds.{place_of, marked}
 use Rattle.ol_check.specs.Spans.{names_from}
 use Rattle.ol_check.specs.Records.{site_b, callee_b}
-use Rattle.ol_check.specs.declared.Reached.{Reached}
+use Rattle.ol_check.specs.declared.Faults.{Faults}
 
 -- ---- heads
 
@@ -91,17 +91,17 @@ pub record Findings : Type 0 where
   pub size : ℕ
   pub next : ℕ
 
--- the same as the code holds it: the first places of 7 to 10, and what was reached
-abbrev pub findings : List ℕ → Reached → Findings
-findings found w =
-    record { unseen = first_of found 0; again = first_of found 1; called = first_of found 2; shaped = first_of found 3; size = w.size; next = w.next }
+-- the same as the code holds it
+abbrev pub findings : Faults → Findings
+findings g =
+    record { unseen = place_of g.unseen; again = place_of g.again; called = place_of g.called; shaped = place_of g.shaped; size = g.size; next = g.next }
 
--- the first places after the Var at p, and after the call or Tuple at p in node k
-abbrev pub var_found : List ℕ → List ℕ → List ℕ → ℕ → List ℕ
-var_found s names found p = mark_place found 0 (eqb (get_or names (name_at s (p + 1)) 0) 0) (p + 1)
+-- what is found after the Var at p, and after the call or Tuple at p in node k
+abbrev pub var_found : List ℕ → List ℕ → Faults → ℕ → Faults
+var_found s names g p = record g { unseen = marked g.unseen (eqb (get_or names (name_at s (p + 1)) 0) 0) (p + 1) }
 
-abbrev pub call_found : List ℕ → List ℕ → ℕ → ℕ → List ℕ → ℕ → List ℕ
-call_found s rows nodes k found p = mark_place (mark_place found 2 (called_b s rows k p) p) 3 (ltb 1 (arity_b s rows nodes p)) p
+abbrev pub call_found : List ℕ → List ℕ → ℕ → ℕ → Faults → ℕ → Faults
+call_found s rows nodes k g p = record g { called = marked g.called (called_b s rows k p) p; shaped = marked g.shaped (ltb 1 (arity_b s rows nodes p)) p }
 
 -- a fault found so far, or the first among the items
 abbrev pub found_in : Option ℕ → List Item → Option ℕ

@@ -7,7 +7,8 @@ use Rattle.ol_spec.specs.Lists.{concat}
 use Rattle.ol_spec.specs.Step.{own_size}
 use Rattle.ol_spec.specs.Admission.{Item, defined_by, node_uses, node_calls, node_shape, numbered, fault9}
 use Rattle.ol_tables.specs.At.{file_at}
-use Rattle.ol_tables.specs.Tables.{node_of, Each, plan_in, PlanOf}
+use Rattle.ol_tables.specs.Tables.{node_of, row_at, Each, plan_in, PlanOf}
+use Rattle.ol_check.specs.Spans.{starts_from, end_from, behind_variable, Visits}
 use Rattle.ol_tables.specs.Tables as Tables
 use Rattle.ol_tables.specs.Stands.{FileReads}
 use Rattle.ol_check.specs.RowsDone.{NodeRow}
@@ -26,6 +27,26 @@ pub record NodeReady (s rows : List ℕ) (nodes k : ℕ) : Type 0 where
   pub many : nodes ≡ length (file_at s).nodes
   pub low : k < nodes
   pub few : nodes ≤ 32
+
+-- a table is changed at the variables of node k, in the order in which they stand
+pub record NodeVisited (R : List ℕ → ℕ → ℕ → List ℕ → Type 0) (s rows : List ℕ) (k : ℕ) (t u : List ℕ) : Type 0 where
+  pub at : ℕ
+  pub ins : ℕ
+  pub outs : ℕ
+  pub locs : ℕ
+  pub o : ℕ
+  pub l : ℕ
+  pub t₁ : List ℕ
+  pub t₂ : List ℕ
+  pub place : at ≡ row_at rows k 7
+  pub inputs : ins ≡ row_at rows k 2
+  pub outputs : outs ≡ row_at rows k 3
+  pub second : o ≡ end_from (behind_variable s) ins (at + 2)
+  pub third : l ≡ end_from (behind_variable s) outs (o + 1)
+  pub locals : locs ≡ get_or s l 0
+  pub first_visits : Visits R 0 (starts_from (behind_variable s) ins (at + 2)) t t₁
+  pub second_visits : Visits R ins (starts_from (behind_variable s) outs (o + 1)) t₁ t₂
+  pub third_visits : Visits R (ins + outs) (starts_from (behind_variable s) locs (l + 1)) t₂ u
 
 -- the table by name inside node n
 abbrev pub node_table : List ℕ → Node → List ℕ

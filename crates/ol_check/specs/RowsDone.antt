@@ -1,5 +1,6 @@
 -- What the builders of rows, places and types store, as the bytes tell it, and what the tables are for a file that reads without fault.
 use Rattle.std.specs.Prelude.{ℕ, zero, suc, ◌+◌, ◌*◌, ◌≤◌, ◌<◌, false, List, [], ◌∷◌, map, ◌≡◌, length, get_or, set}
+use Rattle.std.proofs.lemmas.List.Edits.{sets}
 use Rattle.ol_spec.specs.Lists.{sum}
 use Rattle.ol_spec.specs.Syntax.{Ty, bool, bool_lit, Variable, Constant, Node, File, variables}
 use Rattle.ol_spec.specs.Places.{enum_size, variable_size, equations_start, placed_nodes, constants_start, nodes_start}
@@ -72,11 +73,6 @@ locals_at s at = end_from (behind_variable s) (get_or s (outputs_at s at) 0) (ou
 abbrev pub equations_at : List ℕ → ℕ → ℕ
 equations_at s at = end_from (behind_variable s) (get_or s (locals_at s at) 0) (locals_at s at + 1)
 
--- a row's eight entries from i on
-abbrev pub put_all : List ℕ → ℕ → List ℕ → List ℕ
-put_all rows i [] = rows
-put_all rows i (n ∷ ns) = put_all (set rows i n) (i + 1) ns
-
 -- the row of the node at `at`, with the size 0
 abbrev pub row_from : List ℕ → ℕ → List ℕ
 row_from s at =
@@ -93,13 +89,13 @@ abbrev pub node_stored : List ℕ → ℕ → ℕ → ℕ → List ℕ → List 
 node_stored s plans k at tab = two_put (node_types s (plans + at) at tab) (2 * k) at
 
 pub record NodeStored (s rows rows' tab tab' : List ℕ) (plans k at : ℕ) : Type 0 where
-  pub row : rows' ≡ put_all rows (k * 8) (row_from s at)
+  pub row : rows' ≡ sets rows (k * 8) (row_from s at)
   pub typed : tab' ≡ node_stored s plans k at tab
 
 -- the rows and the bytes after those of so many nodes, each at its place, the first being number k
 unfoldable pub rows_from : List ℕ → List ℕ → ℕ → ℕ → List ℕ → List ℕ
 rows_from s places k zero rows = rows
-rows_from s places k (suc n) rows = rows_from s places (k + 1) n (put_all rows (k * 8) (row_from s (get_or places k 0)))
+rows_from s places k (suc n) rows = rows_from s places (k + 1) n (sets rows (k * 8) (row_from s (get_or places k 0)))
 
 unfoldable pub nodes_stored : List ℕ → List ℕ → ℕ → ℕ → ℕ → List ℕ → List ℕ
 nodes_stored s places plans k zero tab = tab

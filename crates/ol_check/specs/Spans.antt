@@ -1,5 +1,6 @@
 -- Items that stand one behind the other, as the bytes tell them: names, variables, enums.
-use Rattle.std.specs.Prelude.{ℕ, zero, suc, ◌+◌, ◌*◌, List, [], ◌∷◌, ◌++◌, map, get_or}
+use Rattle.std.specs.Prelude.{ℕ, zero, suc, ◌+◌, ◌*◌, List, [], ◌∷◌, ◌++◌, map, ◌≡◌, get_or}
+use Rattle.std.specs.Borrow.{MutBor}
 use Rattle.ol_tables.specs.Heads.{name_at, ty_size_at}
 
 -- so many items from `at` on, each of which ends where `behind` says: where each stands, and where they end
@@ -40,3 +41,16 @@ names_of ps = map (λ p. p.1) ps
 unfoldable pub variants_from : List ℕ → ℕ → ℕ → List ℕ
 variants_from s zero at = []
 variants_from s (suc n) at = names_of (names_from s (get_or s at 0) (at + 1)) ++ variants_from s n (behind_enum s at)
+
+-- a table is changed by a call, which takes a reference to it
+pub record Visited (called : MutBor (List ℕ) → MutBor (List ℕ) → Type 0) (t u : List ℕ) : Type 0 where
+  pub shown : MutBor (List ℕ)
+  pub left : MutBor (List ℕ)
+  pub met : called shown left
+  pub shows : shown.now ≡ t
+  pub leaves : left.now ≡ u
+
+-- a table is changed at places, one after the other, the first being number i
+unfoldable pub Visits : (List ℕ → ℕ → ℕ → List ℕ → Type 0) → ℕ → List ℕ → List ℕ → List ℕ → Type 0
+Visits R i [] t u = u ≡ t
+Visits R i (p ∷ ps) t u = (m : List ℕ) × R t i p m × Visits R (i + 1) ps m u

@@ -5,11 +5,11 @@ ghost use Rattle.ol_tables.specs.At.{file_at};
 ghost use Rattle.ol_check.specs.Judging.{findings};
 ghost use Rattle.ol_check.specs.ConstantsJudged.{ConstantWalked, ConstantsJudged, ConstantsReady};
 
-use super::Reached;
-use super::judge::walk;
-use super::names::declare;
+use super::Faults;
+use super::judge::Judge;
+use super::names::{FIRST_CONSTANT, declare};
+use super::rows::variable_end;
 use ol_tables::bytes::name;
-use ol_tables::heads::ty_size;
 
 // Constant number `i`, where the walk stands: its value is judged, then its name entered.
 fn constant(
@@ -19,33 +19,25 @@ fn constant(
     rows: &[usize],
     nodes: usize,
     i: usize,
-    found: &mut [usize; 4],
-    f: Reached,
-) -> Reached
-    requires { (f.next < 32768) × (length file.now ≤ 32768) × (i < 64) × (f.size ≤ 65536) × (length found.old ≡ 4) }
-    ensures { ConstantWalked file.now names.old rows.now nodes i slots.old slots.new names.new (findings found.old f) (findings found.new result) × (length found.new ≡ 4) }
+    g: &mut Faults,
+)
+    requires { (g.old.next < 32768) × (length file.now ≤ 32768) × (i < 64) × (g.old.size ≤ 65536) }
+    ensures { ConstantWalked file.now names.old rows.now nodes i slots.old slots.new names.new (findings g.old) (findings g.new) }
 {
-    let at = f.next;
-    let size = f.size;
-    let r = walk(
+    let at = g.next;
+    g.next = variable_end(file, at);
+    let judge = Judge {
         file,
         names,
-        slots,
         rows,
         nodes,
-        0,
-        1,
-        found,
-        Reached {
-            size,
-            next: at + 2 + ty_size(file, at + 2),
-        },
-    );
-    declare(names, name(file, at), (i + 113) as u8);
-    r
+        node: 0,
+    };
+    judge.walk(slots, 1, g);
+    declare(names, name(file, at), (i + FIRST_CONSTANT) as u8);
 }
 
-// So many constants from where the walk stands.
+// So many constants from where the walk stands. `names` changes with each one, so `Judge` is made anew for each.
 pub(crate) fn judge_constants(
     file: &[u8],
     names: &mut [u8],
@@ -53,21 +45,15 @@ pub(crate) fn judge_constants(
     rows: &[usize],
     nodes: usize,
     many: usize,
-    found: &mut [usize; 4],
-    f: Reached,
-) -> Reached
-    requires { (length file.now ≤ 32768) × (many ≡ length (file_at file.now).constants) × (many ≤ 64) × ConstantsReady file.now names.old rows.now nodes (file_at file.now) (variants (file_at file.now)) (length (file_at file.now).enums) f.next (file_at file.now).constants × (f.size ≤ 65536) × (length found.old ≡ 4) }
-    ensures { ConstantsJudged file.now names.old (file_at file.now) (variants (file_at file.now)) f.next (file_at file.now).constants slots.old slots.new names.new (findings found.old f) (findings found.new result) × (length found.new ≡ 4) }
+    g: &mut Faults,
+)
+    requires { (length file.now ≤ 32768) × (many ≡ length (file_at file.now).constants) × (many ≤ 64) × ConstantsReady file.now names.old rows.now nodes (file_at file.now) (variants (file_at file.now)) (length (file_at file.now).enums) g.old.next (file_at file.now).constants × (g.old.size ≤ 65536) }
+    ensures { ConstantsJudged file.now names.old (file_at file.now) (variants (file_at file.now)) g.old.next (file_at file.now).constants slots.old slots.new names.new (findings g.old) (findings g.new) }
 {
-    let mut g = f;
-    let mut i = 0;
-    while i < many {
-        let at = g.next;
-        if file.len() <= at {
-            return g;
+    for i in 0..many {
+        if file.len() <= g.next {
+            return;
         }
-        g = constant(file, names, slots, rows, nodes, i, found, g);
-        i += 1;
+        constant(file, names, slots, rows, nodes, i, g);
     }
-    g
 }

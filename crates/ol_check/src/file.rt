@@ -7,11 +7,11 @@ ghost use Rattle.ol_tables.specs.Tables.{PlanOf};
 ghost use Rattle.ol_check.specs.FileJudged.{FileReady, NamesWithin, FileJudged};
 ghost use Rattle.ol_check.specs.NodesJudged.{TypesLeft};
 
+use super::Faults;
 use super::constants::judge_constants;
 use super::names::declare_enums;
 use super::nodes::judge_nodes;
 use super::rows::Sections;
-use super::{Faults, NO_PLACE, Reached, found_at};
 use ol_tables::bytes::byte;
 
 // Faults 7 to 10 of a file that reads without fault, and the bytes of an instance of its last node.
@@ -34,27 +34,23 @@ pub fn faults(
     let n = sections.nodes;
     let nodes = byte(file, n);
     declare_enums(file, names, byte(file, 1), 2);
-    let mut found = [NO_PLACE, NO_PLACE, NO_PLACE, NO_PLACE];
-    let g = judge_constants(
+    let mut g = Faults {
+        unseen: None,
+        again: None,
+        called: None,
+        shaped: None,
+        size: 0,
+        next: c + 1,
+    };
+    judge_constants(
         file,
         names,
         &mut slots[..half],
         rows,
         nodes,
         byte(file, c),
-        &mut found,
-        Reached {
-            size: 0,
-            next: c + 1,
-        },
+        &mut g,
     );
-    let r = judge_nodes(file, names, slots, rows, nodes, &mut found, half, g);
-    Faults {
-        unseen: found_at(found[0]),
-        again: found_at(found[1]),
-        called: found_at(found[2]),
-        shaped: found_at(found[3]),
-        size: r.size,
-        next: r.next,
-    }
+    judge_nodes(file, names, slots, rows, nodes, half, &mut g);
+    g
 }

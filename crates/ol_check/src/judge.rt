@@ -3,56 +3,44 @@ ghost use Rattle.std.specs.Prelude.{◌≡◌, ◌≤◌, ◌<◌, ◌+◌, ◌*
 ghost use Rattle.ol_spec.specs.Admission.{bad_call};
 ghost use Rattle.ol_tables.specs.At.{file_at};
 ghost use Rattle.ol_tables.specs.Tables.{node_of};
-ghost use Rattle.ol_check.specs.Founds.{mark_place};
 ghost use Rattle.ol_check.specs.Judging.{unseen_b, slot_of_entry, slot_put, slot_head, may_b, bad_b, called_b, outputs_b, arity_b, findings, var_found, call_found, Walked};
 ghost use Rattle.ol_check.specs.Judging.{taken_b, NamesDefined, lone_b, other_b, RootJudged, EquationWalked, seen_in, EquationsReady, EquationsJudged, Planned};
 
-use super::size::{capped, site};
-use super::{NO_PLACE, Reached};
+use super::names::{LAST_VARIABLE, NO_ENTRY, VARIANT};
+use super::size::{FUNCTION, IMPORTED, OPERATOR, capped, site};
+use super::{Faults, mark};
 use ol_tables::bytes::{byte, name, put_byte, put_two};
 use ol_tables::heads::head;
 use ol_tables::tables::{INPUTS, KIND, OUTPUTS, row};
+
+// The codes of a Var, a call and a Tuple. Below a call's code none has several values.
+const VAR: usize = 4;
+
+pub(crate) const CALL: usize = 11;
+
+const TUPLE: usize = 12;
+
+// What the expressions of a node are judged by: the file, the table by name, the rows of its nodes, how many there are, and the node's number.
+#[derive(Clone, Copy)]
+pub(crate) struct Judge<'a> {
+    pub file: &'a [u8],
+    pub names: &'a [u8],
+    pub rows: &'a [usize],
+    pub nodes: usize,
+    pub node: usize,
+    pub ghost low: { node < 256 },
+    pub ghost short: { length file.now ≤ 32768 },
+}
 
 // A name's slot, by its entry.
 fn slot(e: usize) -> u8
     requires { e < 256 }
     ensures { result ≡ slot_of_entry e }
 {
-    if e == 0 {
-        255
-    } else if e == 255 {
+    if e == NO_ENTRY || e == VARIANT {
         255
     } else {
         (e - 1) as u8
-    }
-}
-
-// Stores the slot of the name at `at`.
-fn put_slot(file: &[u8], names: &[u8], slots: &mut [u8], at: usize)
-    ensures { slots.new ≡ slot_put file.now names.now slots.old at }
-{
-    put_byte(slots, at, slot(byte(names, name(file, at))));
-}
-
-// Stores the slot of the expression at `at`, if it is a Var.
-fn slot_head(file: &[u8], names: &[u8], slots: &mut [u8], at: usize)
-    requires { at < length file.now }
-    ensures { slots.new ≡ slot_head file.now names.now slots.old at }
-{
-    if byte(file, at) == 4 {
-        put_slot(file, names, slots, at + 1);
-    }
-}
-
-// Whether the expression at `at` is a Var of an undeclared name.
-fn unseen_at(file: &[u8], names: &[u8], at: usize) -> bool
-    requires { at < length file.now }
-    ensures { result ≡ unseen_b file.now names.now at }
-{
-    if byte(file, at) == 4 {
-        byte(names, name(file, at + 1)) == 0
-    } else {
-        false
     }
 }
 
@@ -60,13 +48,7 @@ fn unseen_at(file: &[u8], names: &[u8], at: usize) -> bool
 fn may_call(caller: usize, callee: usize) -> bool
     ensures { result ≡ may_b caller callee }
 {
-    if callee == 2 {
-        false
-    } else if caller == 0 {
-        callee != 1
-    } else {
-        true
-    }
+    !matches!((caller, callee), (_, IMPORTED) | (FUNCTION, OPERATOR))
 }
 
 // Whether a call of node `c` with so many arguments in node `node` is faulted.
@@ -74,42 +56,9 @@ fn bad_call(rows: &[usize], node: usize, c: usize, arguments: usize) -> bool
     requires { (node < 256) × (c < 256) }
     ensures { result ≡ bad_b rows.now node c arguments }
 {
-    if c < node {
-        if may_call(row(rows, node, KIND), row(rows, c, KIND)) {
-            arguments != row(rows, c, INPUTS)
-        } else {
-            true
-        }
-    } else {
-        true
-    }
-}
-
-// Whether the expression at `at`, in node `node`, is a faulted call.
-fn called_at(file: &[u8], rows: &[usize], node: usize, at: usize) -> bool
-    requires { (node < 256) × (at < length file.now) }
-    ensures { result ≡ called_b file.now rows.now node at }
-{
-    if byte(file, at) == 11 {
-        bad_call(rows, node, byte(file, at + 1), byte(file, at + 2))
-    } else {
-        false
-    }
-}
-
-// How many values the expression at `at` has, in a file of so many nodes.
-fn arity_at(file: &[u8], rows: &[usize], nodes: usize, at: usize) -> usize
-    requires { at < length file.now }
-    ensures { result ≡ arity_b file.now rows.now nodes at }
-{
-    let code = byte(file, at);
-    if code == 12 {
-        byte(file, at + 1)
-    } else if code == 11 {
-        outputs(rows, nodes, byte(file, at + 1))
-    } else {
-        1
-    }
+    !(c < node
+        && may_call(row(rows, node, KIND), row(rows, c, KIND))
+        && arguments == row(rows, c, INPUTS))
 }
 
 // How many outputs node `c` has; 0 for an absent one.
@@ -120,265 +69,205 @@ fn outputs(rows: &[usize], nodes: usize, c: usize) -> usize
     if c < nodes { row(rows, c, OUTPUTS) } else { 0 }
 }
 
-// Notes the place `at` for fault j, if it is faulted and none was noted before. `found` has the first places of 7 to 10, or NO_PLACE.
-fn mark(found: &mut [usize; 4], j: usize, faulted: bool, at: usize)
-    requires { (length found.old ≡ 4) × (j < 4) }
-    ensures { (found.new ≡ mark_place found.old j faulted at) × (length found.new ≡ 4) }
-{
-    if faulted {
-        if found[j] == NO_PLACE {
-            found[j] = at;
-        }
-    }
-}
-
-// The Var at `at`: its slot, and 7.
-fn judge_var(file: &[u8], names: &[u8], slots: &mut [u8], found: &mut [usize; 4], at: usize)
-    requires { (length found.old ≡ 4) × (at < 40000) }
-    ensures { (slots.new ≡ slot_put file.now names.now slots.old (at + 1)) × (found.new ≡ var_found file.now names.now found.old at) }
-{
-    let e = byte(names, name(file, at + 1));
-    put_byte(slots, at + 1, slot(e));
-    mark(found, 0, e == 0, at + 1);
-}
-
-// The call or Tuple at `at`, in node `node`: 9 and 10.
-fn judge_call(
-    file: &[u8],
-    rows: &[usize],
-    nodes: usize,
-    node: usize,
-    found: &mut [usize; 4],
-    at: usize,
-)
-    requires { (length found.old ≡ 4) × (node < 256) × (at < length file.now) }
-    ensures { found.new ≡ call_found file.now rows.now nodes node found.old at }
-{
-    mark(found, 2, called_at(file, rows, node, at), at);
-    mark(found, 3, 1 < arity_at(file, rows, nodes, at), at);
-}
-
-// So many expressions of node `node`, one after the other from where the walk stands.
-pub(crate) fn walk(
-    file: &[u8],
-    names: &[u8],
-    slots: &mut [u8],
-    rows: &[usize],
-    nodes: usize,
-    node: usize,
-    parts: usize,
-    found: &mut [usize; 4],
-    f: Reached,
-) -> Reached
-    requires { (node < 256) × (length file.now ≤ 32768) × (f.size ≤ 65536) × (length found.old ≡ 4) }
-    ensures { Walked file.now names.now rows.now nodes node parts slots.old slots.new (findings found.old f) (findings found.new result) × (length found.new ≡ 4) }
-{
-    let mut next = f.next;
-    let mut left = parts;
-    let mut size = f.size;
-    while 0 < left {
-        if file.len() <= next {
-            return Reached { size, next };
-        }
-        if file.len() < left {
-            return Reached { size, next };
-        }
-        let h = head(file, next);
-        if byte(file, next) == 4 {
-            judge_var(file, names, slots, found, next);
-            left = left - 1 + h.count;
-            next = h.start;
-            continue;
-        }
-        if byte(file, next) < 11 {
-            left = left - 1 + h.count;
-            next = h.start;
-            continue;
-        }
-        judge_call(file, rows, nodes, node, found, next);
-        size = capped(size, site(file, rows, nodes, next));
-        left = left - 1 + h.count;
-        next = h.start;
-    }
-    Reached { size, next }
-}
-
 // Whether a name with this entry may not be defined: it is an input, a constant, a variant, or
 // defined before. `defined` is by entry.
 fn taken(defined: &[u8], inputs: usize, e: usize) -> bool
     ensures { result ≡ taken_b defined.now inputs e }
 {
-    if e <= inputs {
-        true
-    } else if 112 < e {
-        true
-    } else {
-        byte(defined, e) != 0
-    }
-}
-
-// So many names that an equation defines, from where the walk stands: the first that has no entry,
-// the first that may not be defined, and each one's slot.
-fn define(
-    file: &[u8],
-    names: &[u8],
-    slots: &mut [u8],
-    defined: &mut [u8],
-    inputs: usize,
-    many: usize,
-    found: &mut [usize; 4],
-    f: Reached,
-) -> Reached
-    requires { (many < 256) × (f.next ≤ 40000) × (length found.old ≡ 4) }
-    ensures { NamesDefined file.now names.now inputs many slots.old slots.new defined.old defined.new (findings found.old f) (findings found.new result) × (length found.new ≡ 4) }
-{
-    let mut next = f.next;
-    let mut i = 0;
-    let size = f.size;
-    while i < many {
-        let e = byte(names, name(file, next));
-        mark(found, 0, e == 0, next);
-        mark(found, 1, taken(defined, inputs, e), next);
-        put_byte(slots, next, slot(e));
-        put_byte(defined, e, 1);
-        next += 2;
-        i += 1;
-    }
-    Reached { size, next }
+    e <= inputs || LAST_VARIABLE < e || byte(defined, e) != 0
 }
 
 // Several names, and not several values.
 fn lone(many: usize, values: usize) -> bool
     ensures { result ≡ lone_b many values }
 {
-    if 1 < many { values <= 1 } else { false }
+    1 < many && values <= 1
 }
 
 // Several values, and not as many names.
 fn other(many: usize, values: usize) -> bool
     ensures { result ≡ other_b many values }
 {
-    if 1 < values { values != many } else { false }
+    1 < values && values != many
 }
 
-// The right side of the equation at `at`, which has so many names. The walk stands at the right side.
-fn root(
-    file: &[u8],
-    names: &[u8],
-    slots: &mut [u8],
-    rows: &[usize],
-    nodes: usize,
-    node: usize,
-    at: usize,
-    many: usize,
-    found: &mut [usize; 4],
-    f: Reached,
-) -> Reached
-    requires { (node < 256) × (length file.now ≤ 32768) × (f.size ≤ 65536) × (length found.old ≡ 4) × (at < 65536) }
-    ensures { RootJudged file.now names.now rows.now nodes node at many slots.old slots.new (findings found.old f) (findings found.new result) × (length found.new ≡ 4) }
-{
-    let next = f.next;
-    if file.len() <= next {
-        return f;
+impl<'a> Judge<'a> {
+    // Stores the slot of the name at `at`.
+    fn put_slot(&self, slots: &mut [u8], at: usize)
+        ensures { slots.new ≡ slot_put self.now.file.now self.now.names.now slots.old at }
+    {
+        put_byte(slots, at, slot(byte(self.names, name(self.file, at))));
     }
-    let h = head(file, next);
-    let values = arity_at(file, rows, nodes, next);
-    slot_head(file, names, slots, next);
-    mark(found, 0, unseen_at(file, names, next), next + 1);
-    mark(found, 2, called_at(file, rows, node, next), next);
-    mark(found, 3, lone(many, values), at);
-    mark(found, 3, other(many, values), next);
-    let size = capped(f.size, site(file, rows, nodes, next));
-    walk(
-        file,
-        names,
-        slots,
-        rows,
-        nodes,
-        node,
-        h.count,
-        found,
-        Reached {
-            size,
-            next: h.start,
-        },
-    )
-}
 
-// The equation where the walk stands, in a node of so many inputs.
-fn equation(
-    file: &[u8],
-    names: &[u8],
-    slots: &mut [u8],
-    defined: &mut [u8],
-    rows: &[usize],
-    nodes: usize,
-    node: usize,
-    inputs: usize,
-    found: &mut [usize; 4],
-    f: Reached,
-) -> Reached
-    requires { (node < 256) × (f.next < 32768) × (length file.now ≤ 32768) × (f.size ≤ 65536) × (length found.old ≡ 4) }
-    ensures { EquationWalked file.now names.now rows.now nodes node inputs slots.old slots.new defined.old defined.new (findings found.old f) (findings found.new result) × (length found.new ≡ 4) }
-{
-    let at = f.next;
-    let many = byte(file, at);
-    let size = f.size;
-    let d = define(
-        file,
-        names,
-        slots,
-        defined,
-        inputs,
-        many,
-        found,
-        Reached { size, next: at + 1 },
-    );
-    root(file, names, slots, rows, nodes, node, at, many, found, d)
-}
-
-// So many equations of a node of so many inputs, from where the walk stands. The first `half` bytes of `slots` are the slots; from `plan` on the node's plan is
-// written: where each equation stands, and then how many bytes the records of the equations before it have.
-pub(crate) fn equations(
-    file: &[u8],
-    names: &[u8],
-    slots: &mut [u8],
-    defined: &mut [u8],
-    rows: &[usize],
-    nodes: usize,
-    node: usize,
-    inputs: usize,
-    many: usize,
-    found: &mut [usize; 4],
-    half: usize,
-    plan: usize,
-    f: Reached,
-) -> Reached
-    requires { (node < 256) × (length file.now ≤ 32768) × EquationsReady file.now names.now rows.now nodes node many f.next × (f.size ≤ 65536) × (length found.old ≡ 4) × (1 ≤ f.size) × (half ≤ plan) × (plan + 4 * many ≤ length slots.old) }
-    ensures { EquationsJudged file.now names.now rows.now nodes (file_at file.now) (seen_in (file_at file.now) node) (bad_call (file_at file.now) node (node_of (file_at file.now) node)) inputs f.next (node_of (file_at file.now) node).equations (take half slots.old) (take half slots.new) defined.old defined.new (findings found.old f) (findings found.new result) × (length found.new ≡ 4) × Planned rows.now nodes f.size f.next (node_of (file_at file.now) node).equations half plan many slots.old slots.new }
-{
-    let mut g = f;
-    let mut i = 0;
-    while i < many {
-        let at = g.next;
-        if file.len() <= at {
-            return g;
+    // Stores the slot of the expression at `at`, if it is a Var.
+    fn slot_head(&self, slots: &mut [u8], at: usize)
+        requires { at < length self.now.file.now }
+        ensures { slots.new ≡ slot_head self.now.file.now self.now.names.now slots.old at }
+    {
+        if byte(self.file, at) == VAR {
+            self.put_slot(slots, at + 1);
         }
-        put_two(slots, plan + 2 * i, at);
-        put_two(slots, plan + 2 * many + 2 * i, g.size - f.size);
-        g = equation(
-            file,
-            names,
-            &mut slots[..half],
-            defined,
-            rows,
-            nodes,
-            node,
-            inputs,
-            found,
-            g,
-        );
-        i += 1;
     }
-    g
+
+    // Whether the expression at `at` is a Var of an undeclared name.
+    fn unseen_at(&self, at: usize) -> bool
+        requires { at < length self.now.file.now }
+        ensures { result ≡ unseen_b self.now.file.now self.now.names.now at }
+    {
+        byte(self.file, at) == VAR && byte(self.names, name(self.file, at + 1)) == NO_ENTRY
+    }
+
+    // Whether the expression at `at` is a faulted call.
+    fn called_at(&self, at: usize) -> bool
+        requires { at < length self.now.file.now }
+        ensures { result ≡ called_b self.now.file.now self.now.rows.now self.now.node at }
+    {
+        byte(self.file, at) == CALL
+            && bad_call(
+                self.rows,
+                self.node,
+                byte(self.file, at + 1),
+                byte(self.file, at + 2),
+            )
+    }
+
+    // How many values the expression at `at` has.
+    fn arity_at(&self, at: usize) -> usize
+        requires { at < length self.now.file.now }
+        ensures { result ≡ arity_b self.now.file.now self.now.rows.now self.now.nodes at }
+    {
+        match byte(self.file, at) {
+            TUPLE => byte(self.file, at + 1),
+            CALL => outputs(self.rows, self.nodes, byte(self.file, at + 1)),
+            _ => 1,
+        }
+    }
+
+    // The Var at `at`: its slot, and 7.
+    fn judge_var(&self, slots: &mut [u8], g: &mut Faults, at: usize)
+        requires { at < 40000 }
+        ensures { (slots.new ≡ slot_put self.now.file.now self.now.names.now slots.old (at + 1)) × (g.new ≡ var_found self.now.file.now self.now.names.now g.old at) }
+    {
+        let e = byte(self.names, name(self.file, at + 1));
+        put_byte(slots, at + 1, slot(e));
+        mark(&mut g.unseen, e == NO_ENTRY, at + 1);
+    }
+
+    // The call or Tuple at `at`: 9 and 10.
+    fn judge_call(&self, g: &mut Faults, at: usize)
+        requires { at < length self.now.file.now }
+        ensures { g.new ≡ call_found self.now.file.now self.now.rows.now self.now.nodes self.now.node g.old at }
+    {
+        mark(&mut g.called, self.called_at(at), at);
+        mark(&mut g.shaped, 1 < self.arity_at(at), at);
+    }
+
+    // So many expressions, one after the other from where the walk stands.
+    pub(crate) fn walk(&self, slots: &mut [u8], parts: usize, g: &mut Faults)
+        requires { g.old.size ≤ 65536 }
+        ensures { Walked self.now.file.now self.now.names.now self.now.rows.now self.now.nodes self.now.node parts slots.old slots.new (findings g.old) (findings g.new) }
+    {
+        let file = self.file;
+        let mut next = g.next;
+        let mut size = g.size;
+        let mut left = parts;
+        while 0 < left && next < file.len() && left <= file.len() {
+            let h = head(file, next);
+            let code = byte(file, next);
+            if code == VAR {
+                self.judge_var(slots, g, next);
+            } else if CALL <= code {
+                self.judge_call(g, next);
+                size = capped(size, site(file, self.rows, self.nodes, next));
+            }
+            left = left - 1 + h.count;
+            next = h.start;
+        }
+        g.size = size;
+        g.next = next;
+    }
+
+    // So many names that an equation defines, from where the walk stands: the first that has no entry,
+    // the first that may not be defined, and each one's slot.
+    fn define(
+        &self,
+        slots: &mut [u8],
+        defined: &mut [u8],
+        inputs: usize,
+        many: usize,
+        g: &mut Faults,
+    )
+        requires { (many < 256) × (g.old.next ≤ 40000) }
+        ensures { NamesDefined self.now.file.now self.now.names.now inputs many slots.old slots.new defined.old defined.new (findings g.old) (findings g.new) }
+    {
+        let at = g.next;
+        for i in 0..many {
+            let next = at + 2 * i;
+            let e = byte(self.names, name(self.file, next));
+            mark(&mut g.unseen, e == NO_ENTRY, next);
+            mark(&mut g.again, taken(defined, inputs, e), next);
+            put_byte(slots, next, slot(e));
+            put_byte(defined, e, 1);
+        }
+        g.next = at + 2 * many;
+    }
+
+    // The right side of the equation at `at`, which has so many names. The walk stands at the right side.
+    fn root(&self, slots: &mut [u8], at: usize, many: usize, g: &mut Faults)
+        requires { g.old.size ≤ 65536 }
+        ensures { RootJudged self.now.file.now self.now.names.now self.now.rows.now self.now.nodes self.now.node at many slots.old slots.new (findings g.old) (findings g.new) }
+    {
+        let next = g.next;
+        if self.file.len() <= next {
+            return;
+        }
+        let h = head(self.file, next);
+        let values = self.arity_at(next);
+        self.slot_head(slots, next);
+        mark(&mut g.unseen, self.unseen_at(next), next + 1);
+        mark(&mut g.called, self.called_at(next), next);
+        mark(&mut g.shaped, lone(many, values), at);
+        mark(&mut g.shaped, other(many, values), next);
+        g.size = capped(g.size, site(self.file, self.rows, self.nodes, next));
+        g.next = h.start;
+        self.walk(slots, h.count, g);
+    }
+
+    // The equation where the walk stands, in a node of so many inputs.
+    fn equation(&self, slots: &mut [u8], defined: &mut [u8], inputs: usize, g: &mut Faults)
+        requires { (g.old.next < 32768) × (g.old.size ≤ 65536) }
+        ensures { EquationWalked self.now.file.now self.now.names.now self.now.rows.now self.now.nodes self.now.node inputs slots.old slots.new defined.old defined.new (findings g.old) (findings g.new) }
+    {
+        let at = g.next;
+        let many = byte(self.file, at);
+        g.next = at + 1;
+        self.define(slots, defined, inputs, many, g);
+        self.root(slots, at, many, g);
+    }
+
+    // So many equations of a node of so many inputs, from where the walk stands. The first `half` bytes of `slots` are the slots; from `plan` on the node's plan is
+    // written: where each equation stands, and then how many bytes the records of the equations before it have.
+    pub(crate) fn equations(
+        &self,
+        slots: &mut [u8],
+        defined: &mut [u8],
+        inputs: usize,
+        many: usize,
+        half: usize,
+        plan: usize,
+        g: &mut Faults,
+    )
+        requires { EquationsReady self.now.file.now self.now.names.now self.now.rows.now self.now.nodes self.now.node many g.old.next × (g.old.size ≤ 65536) × (1 ≤ g.old.size) × (half ≤ plan) × (plan + 4 * many ≤ length slots.old) }
+        ensures { let f = file_at self.now.file.now in let n = node_of f self.now.node in EquationsJudged self.now.file.now self.now.names.now self.now.rows.now self.now.nodes f (seen_in f self.now.node) (bad_call f self.now.node n) inputs g.old.next n.equations (take half slots.old) (take half slots.new) defined.old defined.new (findings g.old) (findings g.new) × Planned self.now.rows.now self.now.nodes g.old.size g.old.next n.equations half plan many slots.old slots.new }
+    {
+        let start = g.size;
+        for i in 0..many {
+            if self.file.len() <= g.next {
+                return;
+            }
+            put_two(slots, plan + 2 * i, g.next);
+            put_two(slots, plan + 2 * many + 2 * i, g.size - start);
+            self.equation(&mut slots[..half], defined, inputs, g);
+        }
+    }
 }

@@ -11,43 +11,25 @@ pub mod file; // file.rt: faults 7 to 10 of a whole file
 pub mod size; // size.rt: faults 13 and 14, and the lengths of records
 
 ghost use Rattle.std.specs.Prelude.{◌≡◌};
-ghost use Rattle.ol_check.specs.Founds.{place_of, place_at};
-
-// A fault's place, or none.
-#[derive(Clone, Copy)]
-pub enum Found {
-    At(usize),
-    Nothing,
-}
+ghost use Rattle.ol_check.specs.Founds.{marked};
 
 // The first fault of each number, the bytes of an instance of the last node, and where the walk ended.
+// That `size` is at most 65536 is no ghost field: each value of this type in specs/ would need a proof of it beside it.
 #[derive(Clone, Copy)]
 pub struct Faults {
-    pub unseen: Found,
-    pub again: Found,
-    pub called: Found,
-    pub shaped: Found,
+    pub unseen: Option<usize>,
+    pub again: Option<usize>,
+    pub called: Option<usize>,
+    pub shaped: Option<usize>,
     pub size: usize,
     pub next: usize,
 }
 
-// The bytes of the records of a node's call sites so far, and where the walk stands.
-#[derive(Clone, Copy)]
-pub struct Reached {
-    pub size: usize,
-    pub next: usize,
-}
-
-// No place of a file.
-pub(crate) const NO_PLACE: usize = 65536;
-
-// A place, or none.
-pub(crate) fn found_at(place: usize) -> Found
-    ensures { place_of result ≡ place_at place }
+// Notes the place `at`, if it is faulted and none was noted before.
+pub(crate) fn mark(place: &mut Option<usize>, faulted: bool, at: usize)
+    ensures { place.new ≡ marked place.old faulted at }
 {
-    if place == NO_PLACE {
-        Found::Nothing
-    } else {
-        Found::At(place)
+    if faulted && place.is_none() {
+        *place = Some(at);
     }
 }

@@ -1,7 +1,8 @@
 // The rows of the nodes, the first variants, the nodes' places and the types of the variables.
-ghost use Rattle.std.specs.Prelude.{◌≡◌, [], ◌∷◌, ℕ, ◌+◌, ◌≤◌, ◌<◌, get_or, length};
-ghost use Rattle.ol_check.specs.Spans.{behind_enum};
-ghost use Rattle.ol_check.specs.RowsDone.{EnumsStored, type_set, TypesStored, put_all, NodeStored, NodesStored, PlacesAre, TablesDone};
+ghost use Rattle.std.specs.Prelude.{◌≡◌, [], ◌∷◌, ℕ, ◌+◌, ◌*◌, ◌≤◌, ◌<◌, get_or, length};
+ghost use Rattle.std.proofs.lemmas.List.Edits.{sets};
+ghost use Rattle.ol_check.specs.Spans.{starts_from, end_from, behind_variable, behind_enum, Visits, Visited};
+ghost use Rattle.ol_check.specs.RowsDone.{EnumsStored, type_set, TypesStored, NodeStored, NodesStored, PlacesAre, TablesDone};
 ghost use Rattle.ol_tables.specs.At.{file_at};
 ghost use Rattle.ol_tables.specs.Stands.{FileReads};
 
@@ -17,17 +18,46 @@ pub(crate) fn names_end(file: &[u8], at: usize) -> usize
     at + 1 + 2 * byte(file, at)
 }
 
+// Where the variable at `at` ends.
+pub(crate) fn variable_end(file: &[u8], at: usize) -> usize
+    requires { at ≤ 65536 }
+    ensures { result ≡ behind_variable file.now at }
+{
+    at + 2 + ty_size(file, at + 2)
+}
+
+// So many variables from `at` on, the first as number `first`: at each one `visit` changes the table, given its number and where it stands. Where they end is answered.
+pub(crate) fn each_variable<F: Fn(&mut [u8], usize, usize)>(
+    file: &[u8],
+    table: &mut [u8],
+    first: usize,
+    count: usize,
+    at: usize,
+    visit: F,
+) -> usize
+    requires few { (first ≤ 65536) × (count < 256) }
+    requires near { at ≤ 40000 }
+    requires taken { (y : _) (i p : ℕ) → i < count → p ≤ at + 4 * i → F.pre visit y (first + i) p }
+    ensures ends { result ≡ end_from (behind_variable file.now) count at }
+    ensures visited { Visits (λ t i p u. Visited (λ y y'. F.post visit y i p tt y') t u) first (starts_from (behind_variable file.now) count at) table.old table.new }
+{
+    let mut next = at;
+    for i in 0..count {
+        visit(table, first + i, next);
+        next = variable_end(file, next);
+    }
+    next
+}
+
 // So many enums from `at` on: the first variant of each is stored, and where they end is answered.
 fn enum_rows(file: &[u8], rows: &mut [usize], count: usize, at: usize) -> usize
     requires { (count ≤ 16) × (at ≤ 20000) }
     ensures { EnumsStored file.now rows.old rows.new count at result }
 {
     let mut next = at;
-    let mut e = 0;
-    while e < count {
+    for e in 0..count {
         put(rows, FIRSTS + e, name(file, next + 1));
         next = names_end(file, next);
-        e += 1;
     }
     next
 }
@@ -38,12 +68,9 @@ fn put_type(file: &[u8], types: &mut [u8], p: usize, at: usize)
     ensures { types.new ≡ type_set types.old p file.now at }
 {
     let code = byte(file, at);
+    let number = if code == 12 { byte(file, at + 1) } else { 0 };
     put_byte(types, p, code as u8);
-    if code == 12 {
-        put_byte(types, p + 1, byte(file, at + 1) as u8);
-    } else {
-        put_byte(types, p + 1, 0);
-    }
+    put_byte(types, p + 1, number as u8);
 }
 
 // So many variables from `at` on: their types are stored from `first` on, and where they end is
@@ -52,45 +79,23 @@ fn variable_types(file: &[u8], types: &mut [u8], first: usize, count: usize, at:
     requires { (first < 9250000000000000000) × (count < 256) × (at ≤ 40000) }
     ensures { TypesStored file.now types.old types.new first count at result }
 {
-    let mut next = at;
-    let mut i = 0;
-    while i < count {
-        put_type(file, types, first + 2 * i, next + 2);
-        next = next + 2 + ty_size(file, next + 2);
-        i += 1;
-    }
-    next
+    each_variable(file, types, 0, count, at, |types, i, at| {
+        put_type(file, types, first + 2 * i, at + 2)
+    })
 }
 
 // Stores a row's eight entries from `i` on.
-fn put_row(
-    rows: &mut [usize],
-    i: usize,
-    kind: usize,
-    equations: usize,
-    inputs: usize,
-    outputs: usize,
-    variables: usize,
-    count: usize,
-    place: usize,
-)
-    requires { i < 4096 }
-    ensures { rows.new ≡ put_all rows.old i (kind ∷ equations ∷ inputs ∷ outputs ∷ variables ∷ count ∷ 0 ∷ place ∷ []) }
+fn put_row(rows: &mut [usize], i: usize, row: &[usize; 8])
+    requires { i + 8 ≤ length rows.old }
+    ensures { rows.new ≡ sets rows.old i row.now }
 {
-    put(rows, i, kind);
-    put(rows, i + 1, equations);
-    put(rows, i + 1 + 1, inputs);
-    put(rows, i + 1 + 1 + 1, outputs);
-    put(rows, i + 1 + 1 + 1 + 1, variables);
-    put(rows, i + 1 + 1 + 1 + 1 + 1, count);
-    put(rows, i + 1 + 1 + 1 + 1 + 1 + 1, 0);
-    put(rows, i + 1 + 1 + 1 + 1 + 1 + 1 + 1, place);
+    rows[i..i + COLUMNS].copy_from_slice(row);
 }
 
 // The row of node `k`, which stands at `at`, its place, and the types of its variables, which stand at
 // its place among the plans. In `tab` the nodes' places come first; the plans start at `plans`.
 fn node_row(file: &[u8], rows: &mut [usize], tab: &mut [u8], plans: usize, k: usize, at: usize)
-    requires { (k < 32) × (at ≤ 32768) × (plans < 9240000000000000000) }
+    requires { (k < 32) × (at ≤ 32768) × (plans < 9240000000000000000) × (256 ≤ length rows.old) }
     ensures { NodeStored file.now rows.old rows.new tab.old tab.new plans k at }
 {
     let types = plans + at;
@@ -101,17 +106,17 @@ fn node_row(file: &[u8], rows: &mut [usize], tab: &mut [u8], plans: usize, k: us
     let locals = byte(file, l);
     let q = variable_types(file, tab, types + 2 * inputs + 2 * outputs, locals, l + 1);
     put_two(tab, 2 * k, at);
-    put_row(
-        rows,
-        k * COLUMNS,
+    let row = [
         byte(file, at),
         q + 1,
         inputs,
         outputs,
         inputs + outputs + locals,
         byte(file, q),
+        0,
         at,
-    );
+    ];
+    put_row(rows, k * COLUMNS, &row);
 }
 
 // So many nodes, each at its place.
@@ -123,13 +128,11 @@ fn node_rows(
     plans: usize,
     count: usize,
 )
-    requires { (count ≤ 32) × ((k : ℕ) → k < count → get_or places.now k 0 ≤ 32768) × (plans < 9240000000000000000) }
+    requires { (count ≤ 32) × ((k : ℕ) → k < count → get_or places.now k 0 ≤ 32768) × (plans < 9240000000000000000) × (256 ≤ length rows.old) }
     ensures { NodesStored file.now places.now rows.old rows.new tab.old tab.new plans count }
 {
-    let mut k = 0;
-    while k < count {
+    for k in 0..count {
         node_row(file, rows, tab, plans, k, entry(places, k));
-        k += 1;
     }
 }
 

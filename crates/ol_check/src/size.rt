@@ -9,20 +9,27 @@ ghost use Rattle.ol_check.specs.Records.{site_b, record_by};
 ghost use Rattle.ol_check.specs.NodesJudged.{RowsReady};
 ghost use Rattle.ol_check.specs.Sizes.{StateSized};
 
-use super::Found;
+use super::judge::CALL;
 use ol_tables::bytes::byte;
 use ol_tables::tables::{KIND, PLACE, SIZE, row};
 
+// The codes of a node's kinds.
+pub(crate) const FUNCTION: usize = 0;
+
+pub(crate) const OPERATOR: usize = 1;
+
+pub(crate) const IMPORTED: usize = 2;
+
 // Fault 14: the last node is no Operator.
-pub fn not_operator(file: &[u8], rows: &[usize], nodes: usize) -> Found
+pub fn not_operator(file: &[u8], rows: &[usize], nodes: usize) -> Option<usize>
     requires { RowsReady file.now rows.now nodes × (1 ≤ nodes) }
     ensures { place_of result ≡ fault14 (file_at file.now) }
 {
     let k = nodes - 1;
-    if row(rows, k, KIND) == 1 {
-        Found::Nothing
+    if row(rows, k, KIND) == OPERATOR {
+        None
     } else {
-        Found::At(row(rows, k, PLACE))
+        Some(row(rows, k, PLACE))
     }
 }
 
@@ -30,11 +37,7 @@ pub fn not_operator(file: &[u8], rows: &[usize], nodes: usize) -> Found
 pub(crate) fn capped(a: usize, b: usize) -> usize
     ensures { result ≡ min (a + b) 65536 }
 {
-    if a < 65536 {
-        if b < 65536 - a { a + b } else { 65536 }
-    } else {
-        65536
-    }
+    a.saturating_add(b).min(65536)
 }
 
 // The bytes of the record of the expression at `at`, if it is a call.
@@ -42,19 +45,18 @@ pub(crate) fn site(file: &[u8], rows: &[usize], nodes: usize, at: usize) -> usiz
     requires { at < length file.now }
     ensures { result ≡ site_b file.now rows.now nodes at }
 {
-    if byte(file, at) == 11 {
-        let c = byte(file, at + 1);
-        if c < nodes { row(rows, c, SIZE) } else { 0 }
-    } else {
-        0
+    if byte(file, at) != CALL {
+        return 0;
     }
+    let c = byte(file, at + 1);
+    if c < nodes { row(rows, c, SIZE) } else { 0 }
 }
 
 // The bytes of the record at a call site of a node of this kind, whose instance has so many.
 pub(crate) fn record_size(kind: usize, size: usize) -> usize
     ensures { result ≡ record_by kind size }
 {
-    if kind == 1 { size } else { 0 }
+    if kind == OPERATOR { size } else { 0 }
 }
 
 // The state's length, up to 65536: the constants' cells, then an instance of the last node, which

@@ -8,15 +8,12 @@ use lib.ListN.{length}
 use Rattle.ol_spec.specs.Syntax.{File}
 use Rattle.ol_spec.specs.Limits.{relay_loader}
 use Rattle.ol_spec.specs.Order.{Ring}
-use Rattle.ol_spec.specs.Answers.{fault_at}
+use Rattle.ol_spec.specs.Answers.{Verdict, Sorted, fault_at}
 use Rattle.ol_spec.specs.Admission.{Judged, refused, admitted, judge, verdict, state_size}
 use Rattle.ol_spec.specs.State.{fresh_state}
 use Rattle.ol_spec.specs.Cycle.{OrderingCall, CycleCall, StartCall, start, cycle}
 use Rattle.ol_spec.specs.Demand3.{Orders, OrderingClaim, Unfaulted, RingIn, RingClaim, SolutionClaim, RelistedClaim, RelistingClaim, Bytes, Made, next_state, history, AllSolve, AgreeUntil}
-use Rattle.ol_spec.specs.declared.Verdict.{Verdict}
-use Rattle.ol_spec.specs.declared.Verdict.TheVariants as Adm
-use Rattle.ol_spec.specs.declared.Sorted.{Sorted}
-use Rattle.ol_spec.specs.declared.Sorted.TheVariants as Sort
+use Rattle.std.specs.Prelude.{Ok, Err}
 use Rattle.ol_spec.specs.Encode.{encode}
 use Rattle.ol_spec.specs.RustSim.{stuck, all_consts}
 use Rattle.ol_spec.specs.AsRust.{AsRust, RunsAsRust, constant_place, ConstantsAsRust, OrdersAsRust}
@@ -57,7 +54,7 @@ cycles_history s old (m ∷ ms) h =
     λ i. record { turn = m.turn; old = o i; result = c i } ∷ rest i
 
 -- an admitted file has its tree
-tree_of : (s : List ℕ) (j : Judged) (n : ℕ) → judge relay_loader s ≡ j → verdict j ≡ Adm.Admitted n → Tree s
+tree_of : (s : List ℕ) (j : Judged) (n : ℕ) → judge relay_loader s ≡ j → verdict j ≡ Ok n → Tree s
 tree_of s (refused k p) n e h = absurd (let z : ◌≡◌ {A = ℕ} 0 1 = cc in omega arith)
 tree_of s (admitted f vs) n e h = record { file = f; constants = vs; is = e }
 
@@ -67,7 +64,7 @@ service_tree s ms h = tree_of s (judge relay_loader s) h.size refl (sym h.judged
 -- a service's cycles are the history from the start state
 pub service_history : (s : List ℕ) (ms : List Made) → Bytes s → (h : Service s ms) (t : Tree s) → ms ≡ history relay_loader s (turns ms) (fresh_state t.file t.constants)
 service_history s ms b h t =
-    let w = start_writes relay_loader s t.file t.constants b t.is h.lent (sym h.judged ∙ h.admits ∙ ap Adm.Admitted (sym h.long)) in
+    let w = start_writes relay_loader s t.file t.constants b t.is h.lent (sym h.judged ∙ h.admits ∙ ap Ok (sym h.long)) in
     let e : h.state ≡ fresh_state t.file t.constants = h.started.written ∙ ap (λ (c : StartCall). c.state) w in
     cycles_history s h.state ms h.cycles ∙ ap (history relay_loader s (turns ms)) e
 
@@ -75,7 +72,7 @@ ordering_holds : OrderingHolds
 unfolding OrderingHolds OrderingClaim
 ordering_holds s f at k n buf r buf' e g h =
     let c = demand3.ordering s f at k n buf e g in (
-      subst (λ (x : Sorted). ((p : ℕ) × (x ≡ Sort.Refused (fault_at 11 p))) ↔ Ring n.equations) (sym h.answered) c.0,
+      subst (λ (x : Sorted). ((p : ℕ) × (x ≡ Err (fault_at 11 p))) ↔ Ring n.equations) (sym h.answered) c.0,
       λ a l. (h.answered ∙ (c.1 a l).0, subst (Orders n.equations) (sym h.written) (c.1 a l).1),
     )
 
@@ -99,7 +96,7 @@ relisting_holds s s' ms ms' t f' at b h e r =
 
 ring_holds : RingHolds
 unfolding RingHolds RingClaim
-ring_holds s r h = subst (λ (x : Verdict). ((p : ℕ) × (x ≡ Adm.Refused (fault_at 11 p))) ↔ ((f : File) × Unfaulted relay_loader s f × RingIn f)) (sym h.answered) (demand3.rings s)
+ring_holds s r h = subst (λ (x : Verdict). ((p : ℕ) × (x ≡ Err (fault_at 11 p))) ↔ ((f : File) × Unfaulted relay_loader s f × RingIn f)) (sym h.answered) (demand3.rings s)
 
 relisted_holds : RelistedHolds
 unfolding RelistedHolds RelistedClaim
@@ -124,7 +121,7 @@ module _ (s : List ℕ) (ms : List Made) (b : Bytes s) (h : Service s ms) (t : T
   long : length h.lent ≡ state_size t.file
   long = h.long ∙ same_size (sym h.admits ∙ h.judged ∙ ap verdict t.is)
     where
-      same_size : {m n : ℕ} → Adm.Admitted m ≡ Adm.Admitted n → m ≡ n
+      same_size : {m n : ℕ} → ◌≡◌ {A = Verdict} (Ok m) (Ok n) → m ≡ n
       same_size e = cc
 
 runs_hold : RunsAsRustHolds
@@ -141,7 +138,7 @@ runs_hold s ms b h t =
 constants_hold : ConstantsAsRustHolds
 unfolding ConstantsAsRustHolds ConstantsAsRust
 constants_hold s f r b u no11 h p =
-    subst (λ (x : Verdict). (x ≡ Adm.Refused (fault_at 12 p)) ↔ ((i : ℕ) × (all_consts f ≡ stuck i) × (p ≡ constant_place f i))) (sym h.answered)
+    subst (λ (x : Verdict). (x ≡ Err (fault_at 12 p)) ↔ ((i : ℕ) × (all_consts f ≡ stuck i) × (p ≡ constant_place f i))) (sym h.answered)
     ((constants_as_rust relay_loader s f b u).1 no11 p)
 
 orders_hold : OrdersAsRustHolds

@@ -1,23 +1,18 @@
 -- The mission's third demand, and the second, of the public functions themselves: of what they answered and wrote, over any list of cycles from the start. Types only: proofs/Demand
 -- proves them.
 -- A call of a function is given by what it was lent and what it answered and wrote; that it was a call of this function is said by the function's own contract.
-use Rattle.std.specs.Prelude.{ℕ, List, [], ◌∷◌, ◌++◌, map, ◌↔◌, ◌≡◌, length}
+use Rattle.std.specs.Prelude.{ℕ, List, [], ◌∷◌, ◌++◌, map, ◌↔◌, ◌≡◌, length, Ok, Err}
 use Rattle.std.proofs.Math.Option.{none, some}
 use Rattle.std.proofs.Math.ListN.{get_elem?}
 use Rattle.ol_spec.specs.Syntax.{Node, File}
 use Rattle.ol_spec.specs.Read.{got, read_file}
 use Rattle.ol_spec.specs.Limits.{relay_loader}
 use Rattle.ol_spec.specs.Order.{Ring}
-use Rattle.ol_spec.specs.Answers.{fault_at}
+use Rattle.ol_spec.specs.Answers.{Verdict, Sorted, fault_at}
 use Rattle.ol_spec.specs.Admission.{fault11, judge, admitted, admission}
 use Rattle.ol_spec.specs.Cycle.{ordering, start, cycle}
 use Rattle.ol_spec.specs.Demand3.{Orders, Unfaulted, RingIn, Bytes, Turn, Made, next_state, AllSolve, Relisted, AllAlike, AgreeUntil}
 use Rattle.ol_spec.specs.declared.Value.{Value}
-use Rattle.ol_spec.specs.declared.Verdict.{Verdict}
-use Rattle.ol_spec.specs.declared.Verdict.TheVariants as Adm
-use Rattle.ol_spec.specs.declared.Sorted.{Sorted}
-use Rattle.ol_spec.specs.declared.Sorted.TheVariants as Sort
-use Rattle.ol_spec.specs.declared.Started.TheVariants as Start
 use Rattle.ol_spec.specs.RustOrder.{ordered, among, evaluation_result}
 use Rattle.ol_spec.specs.RustSim.{Sim, stuck, all_consts, new}
 use Rattle.ol_spec.specs.RustState.{state_bytes}
@@ -38,14 +33,14 @@ unfoldable pub OrderingHolds : Type 0
 OrderingHolds =
     (s : List ℕ) (f : File) (at k : ℕ) (n : Node) (buf : List ℕ) (r : Sorted) (buf' : List ℕ) → read_file s relay_loader ≡ got f at → get_elem? f.nodes k ≡ some n
     → OrdersAs (ordering relay_loader s k buf) r buf'
-    → (((p : ℕ) × (r ≡ Sort.Refused (fault_at 11 p))) ↔ Ring n.equations)
-    × (¬ Ring n.equations → length buf ≡ length n.equations → (r ≡ Sort.Done) × Orders n.equations buf')
+    → (((p : ℕ) × (r ≡ Err (fault_at 11 p))) ↔ Ring n.equations)
+    × (¬ Ring n.equations → length buf ≡ length n.equations → (r ≡ Ok tt) × Orders n.equations buf')
 
 -- what `admission` answered: 11 exactly if the file has none of the faults 1 to 10 and some node has a ring
 unfoldable pub RingHolds : Type 0
 RingHolds =
     (s : List ℕ) (r : Verdict) → AdmitsAs (admission relay_loader s) r
-    → ((p : ℕ) × (r ≡ Adm.Refused (fault_at 11 p))) ↔ ((f : File) × Unfaulted relay_loader s f × RingIn f)
+    → ((p : ℕ) × (r ≡ Err (fault_at 11 p))) ↔ ((f : File) × Unfaulted relay_loader s f × RingIn f)
 
 -- ---- a list of cycles
 
@@ -62,11 +57,11 @@ pub record Service (s : List ℕ) (ms : List Made) : Type 0 where
   pub verdict : Verdict
   pub judged : verdict ≡ admission relay_loader s
   pub size : ℕ
-  pub admits : verdict ≡ Adm.Admitted size
+  pub admits : verdict ≡ Ok size
   pub lent : List ℕ
   pub long : length lent ≡ size
   pub state : List ℕ
-  pub started : StartsAs (start relay_loader s lent) Start.Done state
+  pub started : StartsAs (start relay_loader s lent) (Ok tt) state
   pub cycles : Cycles s state ms
 
 -- the file's tree and its constants' values
@@ -117,15 +112,15 @@ RunsAsRustHolds =
 unfoldable pub ConstantsAsRustHolds : Type 0
 ConstantsAsRustHolds =
     (s : List ℕ) (f : File) (r : Verdict) → Bytes s → Unfaulted relay_loader s f → fault11 f ≡ none → AdmitsAs (admission relay_loader s) r
-    → (p : ℕ) → (r ≡ Adm.Refused (fault_at 12 p)) ↔ ((i : ℕ) × (all_consts f ≡ stuck i) × (p ≡ constant_place f i))
+    → (p : ℕ) → (r ≡ Err (fault_at 12 p)) ↔ ((i : ℕ) × (all_consts f ≡ stuck i) × (p ≡ constant_place f i))
 
 -- `evaluation_order` answered and wrote the Rust's order, or 11 at the first of the equations that the Rust's error names
 unfoldable pub OrdersAsRustHolds : Type 0
 OrdersAsRustHolds =
     (s : List ℕ) (f : File) (at k : ℕ) (n : Node) (buf : List ℕ) (r : Sorted) (buf' : List ℕ) → read_file s relay_loader ≡ got f at → get_elem? f.nodes k ≡ some n
     → OrdersAs (ordering relay_loader s k buf) r buf'
-    → ((is : List ℕ) → evaluation_result n ≡ ordered is → length buf ≡ length n.equations → (r ≡ Sort.Done) × (buf' ≡ is))
-    × ((i : ℕ) (is : List ℕ) → evaluation_result n ≡ among (i ∷ is) → r ≡ Sort.Refused (fault_at 11 (equation_place f k i)))
+    → ((is : List ℕ) → evaluation_result n ≡ ordered is → length buf ≡ length n.equations → (r ≡ Ok tt) × (buf' ≡ is))
+    × ((i : ℕ) (is : List ℕ) → evaluation_result n ≡ among (i ∷ is) → r ≡ Err (fault_at 11 (equation_place f k i)))
     × (¬ (evaluation_result n ≡ among []))
 
 -- each cycle of a service was at the instant of which the answered ones before it are the number, with the 1991 paper's `pre` and `->` there

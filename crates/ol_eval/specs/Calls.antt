@@ -11,9 +11,11 @@ use Rattle.ol_spec.specs.declared.Value.{Value}
 use Rattle.ol_tables.specs.At.{file_at, node_in, expr_at, end_at, exprs_at, ends_at}
 use Rattle.ol_tables.specs.Tables.{site_bytes}
 use Rattle.ol_tables.specs.Heads.{parts_at, next_at}
+use Rattle.ol_tables.specs.Table.{tab_of, rows_of, consts_of}
 use Rattle.ol_frame.specs.Walk.{nodes_in, sizes_in}
 use Rattle.ol_frame.specs.Plans.{Cells, globals_in, width_in, scope_in, segs_at, seg_at}
 use Rattle.ol_frame.specs.Equations.{count_in, place_in, equation_in}
+use Rattle.ol_frame.specs.Frame.{Framed, node_of, cells_of, before_of}
 use Rattle.ol_frame.specs.Nodes.{Running}
 use Rattle.ol_frame.specs.Outcomes.{ending_of}
 use Rattle.ol_frame.specs.declared.outcomes.Ending.{Ending}
@@ -105,6 +107,9 @@ pub record Steppable (file tab rows consts : List ℕ) (k : ℕ) (args old new :
   pub small : length old ≤ 32768
   pub same : new ≡ old
 
+abbrev pub CanStep : List ℕ → List ℕ → ℕ → List ℕ → List ℕ → List ℕ → Type 0
+CanStep file tab k args old new = Steppable file (tab_of tab) (rows_of tab) (consts_of tab) k args old new
+
 abbrev pub SiteTo : List ℕ → List ℕ → ℕ → List ℕ → List ℕ → Ending → List ℕ → List ℕ → Type 0
 SiteTo file consts k args old end args' new =
     (vs : List Value) → values_of (length (node_in file k).inputs) args ≡ fit_all (node_in file k).inputs vs → Did as_is (calls (globals_in file consts) k vs old) end (outputs_at file k args') new
@@ -120,6 +125,10 @@ pub record Runnable (file tab rows consts : List ℕ) (k : ℕ) (cells before ol
   pub sized : length old ≡ sites_size (sizes_in file) (sites (node_in file k))
   pub small : length old ≤ 32768
   pub same : new ≡ old
+
+-- the node of the frame fr can, on its cells
+abbrev pub CanRun : List ℕ → List ℕ → List ℕ → List ℕ → List ℕ → Type 0
+CanRun file tab fr old new = Framed fr × Runnable file (tab_of tab) (rows_of tab) (consts_of tab) (node_of fr) (cells_of fr) (before_of fr) old new
 
 abbrev pub run_in : List ℕ → List ℕ → ℕ → Bool → List ℕ → List ℕ → List ℕ → Run
 run_in file consts k first cells before old =
@@ -152,6 +161,10 @@ pub record EquationReady (file tab rows consts : List ℕ) (k i at : ℕ) (cells
   pub sized : length old ≡ sites_size (sizes_in file) (callees (equation_in file k i).rhs)
   pub small : length old ≤ 32768
   pub same : new ≡ old
+
+-- it is one of the frame's node, on the frame's cells
+abbrev pub CanEquate : List ℕ → List ℕ → ℕ → ℕ → List ℕ → List ℕ → List ℕ → Type 0
+CanEquate file tab i at fr old new = Framed fr × EquationReady file (tab_of tab) (rows_of tab) (consts_of tab) (node_of fr) i at (cells_of fr) (before_of fr) old new
 
 -- the right side of the equation that stands at `at` has this code
 abbrev pub RhsCode : List ℕ → ℕ → ℕ → Type 0

@@ -4,16 +4,17 @@
 // an expression may have, at most 24, and counts as 31 where no expression is evaluated yet.
 // The ranks, at an expression's level: enter 1, eval_call 2, eval_form 3, eval 4, eval_two, step_untaken and eval_all 5, eval_first and eval_second 6,
 // eval_if 7; at level 31: call_equation and tuple_equation 0, equation 1, run 2, step_instance and call_function 3, step_site 4.
+// file and tab stay two parameters: lent as one struct with methods they make a cycle of feeder30 8 percent more instructions.
 ghost use Rattle.std.specs.Prelude.{◌≡◌, true, false, ◌+◌, ◌-◌, ◌<◌, length, get_or};
 ghost use Rattle.ol_tables.specs.Heads.{parts_at, next_at};
-ghost use Rattle.ol_tables.specs.Table.{tab_of, rows_of, consts_of};
-ghost use Rattle.ol_frame.specs.Frame.{Framed, Keeps, node_of, first_of, cells_of, before_of};
-ghost use Rattle.ol_eval.specs.Post.{Ready, EvalsTo, TwoTo, ChooseTo, IfTo, UntakenTo};
-ghost use Rattle.ol_eval.specs.Calls.{Several, AllTo, EntersTo, Steppable, SiteTo, Runnable, RunTo, EquationReady, RhsCode, EquationTo};
+ghost use Rattle.ol_tables.specs.Table.{consts_of};
+ghost use Rattle.ol_frame.specs.Frame.{Framed, Keeps, cells_of};
+ghost use Rattle.ol_eval.specs.Post.{CanEval, on, EvalsTo, TwoTo, ChooseTo, IfTo, UntakenTo};
+ghost use Rattle.ol_eval.specs.Calls.{Several, AllTo, EntersTo, CanStep, SiteTo, CanRun, RunTo, CanEquate, RhsCode, EquationTo};
 ghost use Rattle.ol_spec.specs.Syntax.{Function, Operator};
 ghost use Rattle.ol_tables.specs.At.{node_in};
 
-use ol_frame::copies::{copy, less, passed, single_out};
+use ol_frame::copies::{copy, passed, single_out};
 use ol_frame::equations::{place_at, plan_of, records_at};
 use ol_frame::frame::{
     ARGUMENTS, FRAME, bind, bind_out, copy_outputs, finish_frame, fresh_frame, is_first, node_of,
@@ -25,12 +26,32 @@ use ol_frame::outcomes::{
     test_of, unary_out, untested,
 };
 use ol_frame::skip::{pass, pass_all};
-use ol_frame::tables::{number, order_at, row};
+use ol_frame::tables::{order_at, row};
 use ol_spec::Outcome;
 use ol_state::fresh::write_fresh;
 use ol_tables::heads::{head, ty_size};
 use ol_tables::tables::{COUNT, INPUTS, KIND, OUTPUTS, SIZE, VARIABLES};
 use ol_value::cell::write_cell;
+
+// The codes of the forms that are told apart here, each an expression's first byte (docs/FORMAT.md).
+const VAR: u8 = 4;
+
+const UNARY: u8 = 5;
+
+const BINARY: u8 = 6;
+
+const IF: u8 = 7;
+
+const ARROW: u8 = 9;
+
+const CAST: u8 = 10;
+
+const CALL: u8 = 11;
+
+const TUPLE: u8 = 12;
+
+// The kind of an Operator in a node's row.
+const OPERATOR: usize = 1;
 
 // ---- expressions
 
@@ -53,16 +74,13 @@ pub fn eval(
     old: &[u8],
     new: &mut [u8],
 ) -> Step
-    requires { Framed frame.now × Ready file.now (tab_of tab.now) (rows_of tab.now) (consts_of tab.now) level 1 at (node_of frame.now) (cells_of frame.now) (before_of frame.now) old.now new.old }
-    ensures { EvalsTo file.now (consts_of tab.now) level at (node_of frame.now) (first_of frame.now) (cells_of frame.now) (before_of frame.now) old.now result new.new }
+    requires { CanEval file.now tab.now level 1 at frame.now old.now new.old }
+    ensures { on (EvalsTo file.now (consts_of tab.now) level at) frame.now old.now result new.new }
 {
-    let code = file[at];
-    if code == 4 {
-        let p = at + 1;
-        let next = at + 3;
+    if file[at] == VAR {
         Step {
-            out: named_out(present(file, tab, frame, p)),
-            next: next,
+            out: named_out(present(file, tab, frame, at + 1)),
+            next: at + 3,
             used: 0,
         }
     } else {
@@ -81,43 +99,38 @@ fn eval_form(
     old: &[u8],
     new: &mut [u8],
 ) -> Step
-    requires { Framed frame.now × Ready file.now (tab_of tab.now) (rows_of tab.now) (consts_of tab.now) level 1 at (node_of frame.now) (cells_of frame.now) (before_of frame.now) old.now new.old }
-    ensures { EvalsTo file.now (consts_of tab.now) level at (node_of frame.now) (first_of frame.now) (cells_of frame.now) (before_of frame.now) old.now result new.new }
+    requires { CanEval file.now tab.now level 1 at frame.now old.now new.old }
+    ensures { on (EvalsTo file.now (consts_of tab.now) level at) frame.now old.now result new.new }
 {
-    let code = file[at];
     let p = at + 1;
-    match code {
-        5 => {
+    match file[at] {
+        UNARY => {
             let op = file[p];
             let r = eval_form(file, tab, at + 2, level - 1, frame, old, new);
-            let o = r.out;
             Step {
-                out: unary_out(op, o),
-                next: r.next,
-                used: r.used,
+                out: unary_out(op, r.out),
+                ..r
             }
         }
-        6 => eval_two(file, tab, at, level - 1, frame, old, new),
-        7 => eval_if(file, tab, p, level - 1, frame, old, new),
-        9 => {
+        BINARY => eval_two(file, tab, at, level - 1, frame, old, new),
+        IF => eval_if(file, tab, p, level - 1, frame, old, new),
+        ARROW => {
             if is_first(frame) {
                 eval_first(file, tab, p, level - 1, frame, old, new)
             } else {
                 eval_second(file, tab, p, level - 1, frame, old, new)
             }
         }
-        10 => {
+        CAST => {
             let t = file[p];
             let q = p + ty_size(file, p);
             let r = eval_form(file, tab, q, level - 1, frame, old, new);
-            let o = r.out;
             Step {
-                out: cast_out(t, o),
-                next: r.next,
-                used: r.used,
+                out: cast_out(t, r.out),
+                ..r
             }
         }
-        11 => eval_call(file, tab, at, level, frame, old, new),
+        CALL => eval_call(file, tab, at, level, frame, old, new),
         _ => {
             let s = pass(file, tab, at, level);
             Step {
@@ -140,27 +153,23 @@ fn eval_two(
     old: &[u8],
     new: &mut [u8],
 ) -> Step
-    requires { Framed frame.now × Ready file.now (tab_of tab.now) (rows_of tab.now) (consts_of tab.now) level 2 (at + 2) (node_of frame.now) (cells_of frame.now) (before_of frame.now) old.now new.old }
-    ensures { TwoTo file.now (consts_of tab.now) (get_or file.now (at + 1) 0) level (at + 2) (node_of frame.now) (first_of frame.now) (cells_of frame.now) (before_of frame.now) old.now result new.new }
+    requires { CanEval file.now tab.now level 2 (at + 2) frame.now old.now new.old }
+    ensures { on (TwoTo file.now (consts_of tab.now) (get_or file.now (at + 1) 0) level (at + 2)) frame.now old.now result new.new }
 {
-    let p = at + 1;
-    let op = file[p];
+    let op = file[at + 1];
     let l = eval(file, tab, at + 2, level, frame, old, new);
     let n = l.used;
-    let mid = l.next;
-    let lo = l.out;
-    if done(lo) {
-        let r = eval(file, tab, mid, level, frame, &old[n..], &mut new[n..]);
-        let ro = r.out;
+    if done(l.out) {
+        let r = eval(file, tab, l.next, level, frame, &old[n..], &mut new[n..]);
         Step {
-            out: binary_out(op, lo, ro),
+            out: binary_out(op, l.out, r.out),
             next: r.next,
             used: n + r.used,
         }
     } else {
-        let s = pass(file, tab, mid, level);
+        let s = pass(file, tab, l.next, level);
         Step {
-            out: same_out(lo),
+            out: same_out(l.out),
             next: s.next,
             used: n + s.used,
         }
@@ -178,37 +187,32 @@ fn eval_if(
     old: &[u8],
     new: &mut [u8],
 ) -> Step
-    requires { Framed frame.now × Ready file.now (tab_of tab.now) (rows_of tab.now) (consts_of tab.now) level 3 at (node_of frame.now) (cells_of frame.now) (before_of frame.now) old.now new.old }
-    ensures { IfTo file.now (consts_of tab.now) level at (node_of frame.now) (first_of frame.now) (cells_of frame.now) (before_of frame.now) old.now result new.new }
+    requires { CanEval file.now tab.now level 3 at frame.now old.now new.old }
+    ensures { on (IfTo file.now (consts_of tab.now) level at) frame.now old.now result new.new }
 {
     let c = eval(file, tab, at, level, frame, old, new);
     let n = c.used;
-    let mid = c.next;
-    let co = c.out;
-    let test = test_of(co);
-    match test {
+    match test_of(c.out) {
         Test::First => {
-            let r = eval_first(file, tab, mid, level, frame, &old[n..], &mut new[n..]);
-            let ro = r.out;
+            let r = eval_first(file, tab, c.next, level, frame, &old[n..], &mut new[n..]);
             Step {
-                out: same_out(ro),
+                out: same_out(r.out),
                 next: r.next,
                 used: n + r.used,
             }
         }
         Test::Second => {
-            let r = eval_second(file, tab, mid, level, frame, &old[n..], &mut new[n..]);
-            let ro = r.out;
+            let r = eval_second(file, tab, c.next, level, frame, &old[n..], &mut new[n..]);
             Step {
-                out: same_out(ro),
+                out: same_out(r.out),
                 next: r.next,
                 used: n + r.used,
             }
         }
         Test::Neither => {
-            let s = pass_all(file, tab, mid, level, 2);
+            let s = pass_all(file, tab, c.next, level, 2);
             Step {
-                out: untested(co),
+                out: untested(c.out),
                 next: s.next,
                 used: n + s.used,
             }
@@ -227,17 +231,15 @@ fn eval_first(
     old: &[u8],
     new: &mut [u8],
 ) -> Step
-    requires { Framed frame.now × Ready file.now (tab_of tab.now) (rows_of tab.now) (consts_of tab.now) level 2 at (node_of frame.now) (cells_of frame.now) (before_of frame.now) old.now new.old }
-    ensures { ChooseTo file.now (consts_of tab.now) true level at (node_of frame.now) (first_of frame.now) (cells_of frame.now) (before_of frame.now) old.now result new.new }
+    requires { CanEval file.now tab.now level 2 at frame.now old.now new.old }
+    ensures { on (ChooseTo file.now (consts_of tab.now) true level at) frame.now old.now result new.new }
 {
     let t = eval(file, tab, at, level, frame, old, new);
     let n = t.used;
-    let mid = t.next;
-    let raw = t.out;
-    let to = chosen(file, tab, frame, mid, level, raw);
-    let s = pass(file, tab, mid, level);
+    let to = chosen(file, tab, frame, t.next, level, t.out);
+    let s = pass(file, tab, t.next, level);
     if runs(to, s.has) {
-        let other = step_untaken(file, tab, mid, level, frame, &old[n..], &mut new[n..]);
+        let other = step_untaken(file, tab, t.next, level, frame, &old[n..], &mut new[n..]);
         Step {
             out: drop_failure(to, other),
             next: s.next,
@@ -263,15 +265,13 @@ fn eval_second(
     old: &[u8],
     new: &mut [u8],
 ) -> Step
-    requires { Framed frame.now × Ready file.now (tab_of tab.now) (rows_of tab.now) (consts_of tab.now) level 2 at (node_of frame.now) (cells_of frame.now) (before_of frame.now) old.now new.old }
-    ensures { ChooseTo file.now (consts_of tab.now) false level at (node_of frame.now) (first_of frame.now) (cells_of frame.now) (before_of frame.now) old.now result new.new }
+    requires { CanEval file.now tab.now level 2 at frame.now old.now new.old }
+    ensures { on (ChooseTo file.now (consts_of tab.now) false level at) frame.now old.now result new.new }
 {
     let s = pass(file, tab, at, level);
     let n = s.used;
-    let mid = s.next;
-    let e = eval(file, tab, mid, level, frame, &old[n..], &mut new[n..]);
-    let raw = e.out;
-    let eo = chosen(file, tab, frame, at, level, raw);
+    let e = eval(file, tab, s.next, level, frame, &old[n..], &mut new[n..]);
+    let eo = chosen(file, tab, frame, at, level, e.out);
     if runs(eo, s.has) {
         let other = step_untaken(file, tab, at, level, frame, &old[..n], &mut new[..n]);
         Step {
@@ -299,12 +299,10 @@ fn step_untaken(
     old: &[u8],
     new: &mut [u8],
 ) -> bool
-    requires { Framed frame.now × Ready file.now (tab_of tab.now) (rows_of tab.now) (consts_of tab.now) level 1 at (node_of frame.now) (cells_of frame.now) (before_of frame.now) old.now new.old }
-    ensures { UntakenTo file.now (consts_of tab.now) level at (node_of frame.now) (first_of frame.now) (cells_of frame.now) (before_of frame.now) old.now result new.new }
+    requires { CanEval file.now tab.now level 1 at frame.now old.now new.old }
+    ensures { on (UntakenTo file.now (consts_of tab.now) level at) frame.now old.now result new.new }
 {
-    let r = eval(file, tab, at, level, frame, old, new);
-    let o = r.out;
-    overflowed(o)
+    overflowed(eval(file, tab, at, level, frame, old, new).out)
 }
 
 // ---- calls
@@ -328,17 +326,15 @@ fn eval_call(
     old: &[u8],
     new: &mut [u8],
 ) -> Step
-    requires { Framed frame.now × Ready file.now (tab_of tab.now) (rows_of tab.now) (consts_of tab.now) level 1 at (node_of frame.now) (cells_of frame.now) (before_of frame.now) old.now new.old × (get_or file.now at 0 ≡ 11) }
-    ensures { EvalsTo file.now (consts_of tab.now) level at (node_of frame.now) (first_of frame.now) (cells_of frame.now) (before_of frame.now) old.now result new.new }
+    requires { CanEval file.now tab.now level 1 at frame.now old.now new.old × (get_or file.now at 0 ≡ 11) }
+    ensures { on (EvalsTo file.now (consts_of tab.now) level at) frame.now old.now result new.new }
 {
     let mut args = [0u8; ARGUMENTS];
     let r = enter(file, tab, at, level, frame, &mut args, old, new);
-    let p = at + 1;
-    let k = number(file[p]);
+    let k = usize::from(file[at + 1]);
     let outputs = row(tab, k, OUTPUTS);
-    let end = r.end;
     Step {
-        out: single_out(end, outputs, &args),
+        out: single_out(r.end, outputs, &args),
         next: r.next,
         used: r.used,
     }
@@ -356,11 +352,10 @@ fn enter(
     old: &[u8],
     new: &mut [u8],
 ) -> Ran
-    requires { Framed frame.now × Ready file.now (tab_of tab.now) (rows_of tab.now) (consts_of tab.now) level 1 at (node_of frame.now) (cells_of frame.now) (before_of frame.now) old.now new.old × (get_or file.now at 0 ≡ 11) × (length args.old ≡ 288) }
-    ensures { EntersTo file.now (consts_of tab.now) level at (node_of frame.now) (first_of frame.now) (cells_of frame.now) (before_of frame.now) old.now result args.new new.new × (length args.new ≡ length args.old) }
+    requires { CanEval file.now tab.now level 1 at frame.now old.now new.old × (get_or file.now at 0 ≡ 11) × (length args.old ≡ 288) }
+    ensures { on (EntersTo file.now (consts_of tab.now) level at) frame.now old.now result args.new new.new × (length args.new ≡ length args.old) }
 {
-    let p = at + 1;
-    let k = number(file[p]);
+    let k = usize::from(file[at + 1]);
     let size = row(tab, k, SIZE);
     let a = eval_all(
         file,
@@ -373,22 +368,12 @@ fn enter(
         &mut new[size..],
     );
     let used = size + a.used;
-    let end = a.end;
-    if let Ending::Values = end {
-        let turns = file.len() / 65536;
-        let e = step_site(turns, file, tab, k, args, &old[..size], &mut new[..size]);
-        Ran {
-            end: e,
-            next: a.next,
-            used: used,
-        }
-    } else {
-        Ran {
-            end: end,
-            next: a.next,
-            used: used,
-        }
-    }
+    let Ending::Values = a.end else {
+        return Ran { used, ..a };
+    };
+    let turns = file.len() / 65536;
+    let end = step_site(turns, file, tab, k, args, &old[..size], &mut new[..size]);
+    Ran { end, used, ..a }
 }
 
 // The parts of the call or Tuple at `at`, left to right up to the first failure or overflow. Their values go to `to`, a call's fitted to the callee's inputs.
@@ -403,27 +388,21 @@ fn eval_all(
     old: &[u8],
     new: &mut [u8],
 ) -> Ran
-    requires { Framed frame.now × Ready file.now (tab_of tab.now) (rows_of tab.now) (consts_of tab.now) level (parts_at file.now at) (next_at file.now at) (node_of frame.now) (cells_of frame.now) (before_of frame.now) old.now new.old × Several file.now at to.old }
-    ensures { AllTo file.now (consts_of tab.now) level at (node_of frame.now) (first_of frame.now) (cells_of frame.now) (before_of frame.now) old.now result to.new new.new × (length to.new ≡ length to.old) }
+    requires { CanEval file.now tab.now level (parts_at file.now at) (next_at file.now at) frame.now old.now new.old × Several file.now at to.old }
+    ensures { on (AllTo file.now (consts_of tab.now) level at) frame.now old.now result to.new new.new × (length to.new ≡ length to.old) }
 {
-    let fits = file[at] == 11;
-    let p = at + 1;
-    let k = number(file[p]);
+    let fits = file[at] == CALL;
+    let k = usize::from(file[at + 1]);
     let h = head(file, at);
     let n = h.count;
     let mut pos = h.start;
-    let mut used: usize = 0;
-    let mut i: usize = 0;
-    while i < n {
+    let mut used = 0;
+    for i in 0..n {
         let r = eval(file, tab, pos, level, frame, &old[used..], &mut new[used..]);
-        let o = r.out;
         used += r.used;
         pos = r.next;
-        match o {
-            Outcome::Value(v) => {
-                let w = passed(tab, fits, k, i, v);
-                write_cell(w, to, 9 * i);
-            }
+        match r.out {
+            Outcome::Value(v) => write_cell(passed(tab, fits, k, i, v), to, 9 * i),
             Outcome::Failure(c) => {
                 let s = pass_all(file, tab, pos, level, n - i - 1);
                 return Ran {
@@ -441,12 +420,11 @@ fn eval_all(
                 };
             }
         }
-        i += 1;
     }
     Ran {
         end: Ending::Values,
         next: pos,
-        used: used,
+        used,
     }
 }
 
@@ -462,15 +440,14 @@ fn step_site(
     old: &[u8],
     new: &mut [u8],
 ) -> Ending
-    requires { Steppable file.now (tab_of tab.now) (rows_of tab.now) (consts_of tab.now) k args.old old.now new.old × (turns ≡ 0) }
+    requires { CanStep file.now tab.now k args.old old.now new.old × (turns ≡ 0) }
     ensures { SiteTo file.now (consts_of tab.now) k args.old old.now result args.new new.new × (length args.new ≡ length args.old) }
 {
     if 0 < turns {
         step_site(turns - 1, file, tab, k, args, old, new)
     } else {
         let mut frame = [0u8; FRAME];
-        let kind = row(tab, k, KIND);
-        if kind == 1 {
+        if row(tab, k, KIND) == OPERATOR {
             step_instance(file, tab, k, args, &mut frame, old, new)
         } else {
             call_function(file, tab, k, args, &mut frame, old, new)
@@ -489,7 +466,7 @@ fn step_instance(
     old: &[u8],
     new: &mut [u8],
 ) -> Ending
-    requires { Steppable file.now (tab_of tab.now) (rows_of tab.now) (consts_of tab.now) k args.old old.now new.old × (length frame.old ≡ 2018) × ((node_in file.now k).kind ≡ Operator) }
+    requires { CanStep file.now tab.now k args.old old.now new.old × (length frame.old ≡ 2018) × ((node_in file.now k).kind ≡ Operator) }
     ensures { SiteTo file.now (consts_of tab.now) k args.old old.now result args.new new.new × (length args.new ≡ length args.old) }
 {
     let n = row(tab, k, VARIABLES);
@@ -497,8 +474,7 @@ fn step_instance(
     let inputs = row(tab, k, INPUTS);
     open_frame(k, n, inputs, args, old, frame);
     let r = run(file, tab, frame, &old[own..], &mut new[own..]);
-    let end = r.end;
-    match end {
+    match r.end {
         Ending::Values => {
             finish_frame(n, frame, new);
             copy_outputs(frame, inputs, row(tab, k, OUTPUTS), args);
@@ -526,7 +502,7 @@ fn call_function(
     old: &[u8],
     new: &mut [u8],
 ) -> Ending
-    requires { Steppable file.now (tab_of tab.now) (rows_of tab.now) (consts_of tab.now) k args.old old.now new.old × (length frame.old ≡ 2018) × ((node_in file.now k).kind ≡ Function) }
+    requires { CanStep file.now tab.now k args.old old.now new.old × (length frame.old ≡ 2018) × ((node_in file.now k).kind ≡ Function) }
     ensures { SiteTo file.now (consts_of tab.now) k args.old old.now result args.new new.new × (length args.new ≡ length args.old) }
 {
     let inputs = row(tab, k, INPUTS);
@@ -538,7 +514,7 @@ fn call_function(
 
 // ---- equations
 
-// How a run of a node's equations ended, and the equation that ended it.
+// How a run of a node's equations ended, and the equation that ended it. As one enum it is no plainer: a call of the node takes only the end.
 #[derive(Clone, Copy)]
 pub struct Ended {
     pub end: Ending,
@@ -548,15 +524,14 @@ pub struct Ended {
 // All equations of the frame's node in evaluation order.
 #[cycle(evaluation)]
 pub fn run(file: &[u8], tab: &[u8], frame: &mut [u8; FRAME], old: &[u8], new: &mut [u8]) -> Ended
-    requires { Framed frame.old × Runnable file.now (tab_of tab.now) (rows_of tab.now) (consts_of tab.now) (node_of frame.old) (cells_of frame.old) (before_of frame.old) old.now new.old }
-    ensures { RunTo file.now (consts_of tab.now) (node_of frame.old) (first_of frame.old) (cells_of frame.old) (before_of frame.old) old.now result (cells_of frame.new) new.new × Framed frame.new }
+    requires { CanRun file.now tab.now frame.old old.now new.old }
+    ensures { on (RunTo file.now (consts_of tab.now)) frame.old old.now result (cells_of frame.new) new.new × Framed frame.new }
 {
     let k = node_of(frame);
     let n = row(tab, k, COUNT);
     let plan = plan_of(tab, k);
     let total = old.len();
-    let mut j: usize = 0;
-    while j < n {
+    for j in 0..n {
         let i = order_at(tab, k, j);
         let at = place_at(tab, plan, i);
         let a = records_at(tab, plan, n, i, total);
@@ -565,7 +540,6 @@ pub fn run(file: &[u8], tab: &[u8], frame: &mut [u8; FRAME], old: &[u8], new: &m
         let Ending::Values = e else {
             return Ended { end: e, index: i };
         };
-        j += 1;
     }
     Ended {
         end: Ending::Values,
@@ -584,20 +558,18 @@ fn equation(
     old: &[u8],
     new: &mut [u8],
 ) -> Ending
-    requires { Framed frame.old × EquationReady file.now (tab_of tab.now) (rows_of tab.now) (consts_of tab.now) (node_of frame.old) i at (cells_of frame.old) (before_of frame.old) old.now new.old }
-    ensures { EquationTo file.now (consts_of tab.now) (node_of frame.old) i (first_of frame.old) (cells_of frame.old) (before_of frame.old) old.now result (cells_of frame.new) new.new × Keeps frame.old frame.new }
+    requires { CanEquate file.now tab.now i at frame.old old.now new.old }
+    ensures { on (λ k. EquationTo file.now (consts_of tab.now) k i) frame.old old.now result (cells_of frame.new) new.new × Keeps frame.old frame.new }
 {
-    let n = number(file[at]);
+    let n = usize::from(file[at]);
     let rhs = at + 1 + 2 * n;
-    let code = file[rhs];
-    if code == 11 {
-        call_equation(file, tab, at, i, frame, old, new)
-    } else if code == 12 {
-        tuple_equation(file, tab, at, i, frame, old, new)
-    } else {
-        let r = eval(file, tab, rhs, 24, frame, old, new);
-        let o = r.out;
-        bind_out(tab, at + 1, o, frame)
+    match file[rhs] {
+        CALL => call_equation(file, tab, at, i, frame, old, new),
+        TUPLE => tuple_equation(file, tab, at, i, frame, old, new),
+        _ => {
+            let r = eval(file, tab, rhs, 24, frame, old, new);
+            bind_out(tab, at + 1, r.out, frame)
+        }
     }
 }
 
@@ -612,23 +584,20 @@ fn call_equation(
     old: &[u8],
     new: &mut [u8],
 ) -> Ending
-    requires { Framed frame.old × EquationReady file.now (tab_of tab.now) (rows_of tab.now) (consts_of tab.now) (node_of frame.old) i at (cells_of frame.old) (before_of frame.old) old.now new.old × RhsCode file.now at 11 }
-    ensures { EquationTo file.now (consts_of tab.now) (node_of frame.old) i (first_of frame.old) (cells_of frame.old) (before_of frame.old) old.now result (cells_of frame.new) new.new × Keeps frame.old frame.new }
+    requires { CanEquate file.now tab.now i at frame.old old.now new.old × RhsCode file.now at 11 }
+    ensures { on (λ k. EquationTo file.now (consts_of tab.now) k i) frame.old old.now result (cells_of frame.new) new.new × Keeps frame.old frame.new }
 {
-    let n = number(file[at]);
+    let n = usize::from(file[at]);
     let rhs = at + 1 + 2 * n;
     let mut args = [0u8; ARGUMENTS];
     let r = enter(file, tab, rhs, 24, frame, &mut args, old, new);
-    let end = r.end;
-    if let Ending::Values = end {
-        let p = rhs + 1;
-        let c = number(file[p]);
-        let m = less(n, row(tab, c, OUTPUTS));
-        bind(tab, at + 1, m, &args, frame);
-        Ending::Values
-    } else {
-        end
-    }
+    let Ending::Values = r.end else {
+        return r.end;
+    };
+    let c = usize::from(file[rhs + 1]);
+    let m = n.min(row(tab, c, OUTPUTS));
+    bind(tab, at + 1, m, &args, frame);
+    Ending::Values
 }
 
 // An equation whose right side is a Tuple: its items are bound once all have succeeded.
@@ -642,20 +611,17 @@ fn tuple_equation(
     old: &[u8],
     new: &mut [u8],
 ) -> Ending
-    requires { Framed frame.old × EquationReady file.now (tab_of tab.now) (rows_of tab.now) (consts_of tab.now) (node_of frame.old) i at (cells_of frame.old) (before_of frame.old) old.now new.old × RhsCode file.now at 12 }
-    ensures { EquationTo file.now (consts_of tab.now) (node_of frame.old) i (first_of frame.old) (cells_of frame.old) (before_of frame.old) old.now result (cells_of frame.new) new.new × Keeps frame.old frame.new }
+    requires { CanEquate file.now tab.now i at frame.old old.now new.old × RhsCode file.now at 12 }
+    ensures { on (λ k. EquationTo file.now (consts_of tab.now) k i) frame.old old.now result (cells_of frame.new) new.new × Keeps frame.old frame.new }
 {
-    let n = number(file[at]);
+    let n = usize::from(file[at]);
     let rhs = at + 1 + 2 * n;
     let mut items = [0u8; ARGUMENTS];
     let r = eval_all(file, tab, rhs, 23, frame, &mut items, old, new);
-    let end = r.end;
-    if let Ending::Values = end {
-        let p = rhs + 1;
-        let m = less(n, number(file[p]));
-        bind(tab, at + 1, m, &items, frame);
-        Ending::Values
-    } else {
-        end
-    }
+    let Ending::Values = r.end else {
+        return r.end;
+    };
+    let m = n.min(usize::from(file[rhs + 1]));
+    bind(tab, at + 1, m, &items, frame);
+    Ending::Values
 }

@@ -9,13 +9,13 @@ use native.Mathlib.Omega.{arith}
 use types.Run.{OneOf}
 use denote.Enum.Declared.{tag_of}
 use Rattle.ol_spec.specs.Answers.{outcome_number}
-use Rattle.ol_spec.specs.Eval.{or_failure, several}
+use Rattle.ol_spec.specs.Eval.{or_failure, then_out, several}
 use Rattle.ol_spec.specs.declared.Outcome.{Outcome}
 use Rattle.ol_spec.specs.declared.Outcome.TheVariants as Out
 use Rattle.ol_spec.specs.declared.Cause.{Cause}
 use Rattle.ol_spec.specs.declared.Cause.TheVariants as Why
 use Rattle.ol_spec.specs.declared.Value.{Value}
-use Rattle.ol_frame.specs.Outcomes.{ending_of, ending_number, overflow_of, drop_out}
+use Rattle.ol_frame.specs.Outcomes.{ThenBy, ending_of, ending_number, binary_out, overflow_of, drop_out}
 use Rattle.ol_frame.specs.declared.outcomes.Ending.{Ending}
 use Rattle.ol_frame.specs.declared.outcomes.Ending.TheVariants as End
 use Rattle.ol_frame.specs.contracts.outcomes.Ending.{the_type}
@@ -50,13 +50,20 @@ ending_number_lem (Out.Failure c) = refl
 ending_number_lem Out.Overflow = refl
 
 -- a name's outcome is a value, or the failure of a name that nobody declared
-pub named_failed : (m : Option Value) (c : Cause) → Out.Failure c ≡ or_failure m → Out.Failure Why.Other ≡ Out.Failure c
-named_failed none c e = sym e
-named_failed (some v) c e = let z : ◌≡◌ {A = ℕ} 0 1 = cc in absurd (omega arith)
+pub named_other : (m : Option Value) (o : Outcome) → ((v : Value) → o ≡ Out.Value v → ⊥) → o ≡ or_failure m → Out.Failure Why.Other ≡ o
+named_other none o h e = sym e
+named_other (some v) o h e = absurd (h v e)
 
-pub named_over : {A : Type 0} (m : Option Value) → Out.Overflow ≡ or_failure m → A
-named_over none e = let z : ◌≡◌ {A = ℕ} 0 1 = cc in absurd (omega arith)
-named_over (some v) e = let z : ◌≡◌ {A = ℕ} 0 1 = cc in absurd (omega arith)
+-- an outcome after a step on its value
+pub then_is : (P : Value → Outcome → Type 0) (g : Value → Outcome) (o r : Outcome) → ((v : Value) (x : Outcome) → P v x → x ≡ g v) → ThenBy P o r → r ≡ then_out g o
+then_is P g (Out.Value v) r h p = h v r p
+then_is P g (Out.Failure c) r h e = e
+then_is P g Out.Overflow r h e = e
+
+pub binary_other : (op : ℕ) (l r : Outcome) → ((v : Value) → l ≡ Out.Value v → ⊥) → l ≡ binary_out op l r
+binary_other op (Out.Value v) r h = absurd (h v refl)
+binary_other op (Out.Failure c) r h = refl
+binary_other op Out.Overflow r h = refl
 
 -- the branch that is not taken overflowed, or it did not
 pub dropped : (taken other : Outcome) → overflow_of other ≡ true → Out.Overflow ≡ drop_out taken other

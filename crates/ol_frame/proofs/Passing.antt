@@ -16,7 +16,7 @@ use Rattle.ol_tables.specs.Tables.{Each, row_at}
 use Rattle.ol_tables.specs.Heads.{head_size as head_of}
 use Rattle.ol_tables.specs.Walks.{HeadOf, skip_at, sites_at, CallMet, NoCall}
 use Rattle.ol_tables.specs.declared.heads.Parts.{Parts}
-use Rattle.ol_tables.specs.declared.heads.NextCall.{NextCall}
+use Rattle.ol_tables.specs.declared.heads.Call.{Call}
 use Rattle.ol_tables.proofs.Forms.{parted, one_tree, by_form, reads_end}
 use Rattle.ol_frame.specs.Walk.{nodes_in, sizes_in, Below, Sized, Passable, Skips, SkipsTo}
 
@@ -80,8 +80,8 @@ module _ (s : List ℕ) where
         below = subst (Each (Below (nodes_in s))) (sym w.1) p.below;
       }
 
-  module _ {ks : List ℕ} {end next used : ℕ} {has : Bool} {left : ℕ} (l : Rest ks end next used has left) {c : NextCall} where
-    module _ (m : CallMet s left next c) where
+  module _ {ks : List ℕ} {end next used : ℕ} {has : Bool} {left : ℕ} (l : Rest ks end next used has left) where
+    module _ {c : Call} (m : CallMet s left next c) where
       -- a call of a node of the file
       pub met_below : c.callee < nodes_in s
       met_below = (subst (Each (Below (nodes_in s))) m.is l.below).0
@@ -108,7 +108,7 @@ module _ (s : List ℕ) where
             }
 
     -- no call is left
-    pub rest_done : NoCall s left next c → Skips (filled ks) end (sites_size (sizes_in s) ks) (record { next = c.at; used = used; has = has })
+    pub rest_done : {at : ℕ} → NoCall s left next at → Skips (filled ks) end (sites_size (sizes_in s) ks) (record { next = at; used = used; has = has })
     unfolding sites_size
     rest_done n =
         let none = ap (sites_size (sizes_in s)) n.none in

@@ -1,5 +1,5 @@
 -- The cases of outcomes, as functions that evaluation uses decide them.
-use Rattle.std.specs.Prelude.{ℕ, Bool, true, false}
+use Rattle.std.specs.Prelude.{ℕ, Bool, true, false, ◌≡◌}
 use Rattle.ol_spec.specs.Eval.{RealKind, not_real, is_single, is_double_kind, kind_of_value, common_real, then_out, Outcomes, values, failure, overflow}
 use Rattle.ol_spec.specs.Answers.{outcome_number}
 use Rattle.ol_value.specs.Codes.{binary_by}
@@ -32,6 +32,12 @@ abbrev pub done_of : Outcome → Bool
 done_of (Out.Value v) = true
 done_of (Out.Failure c) = false
 done_of Out.Overflow = false
+
+-- an outcome after a step on its value, if it has one, of which P tells what it may yield
+abbrev pub ThenBy : (Value → Outcome → Type 0) → Outcome → Outcome → Type 0
+ThenBy P (Out.Value v) r = P v r
+ThenBy P (Out.Failure c) r = r ≡ Out.Failure c
+ThenBy P Out.Overflow r = r ≡ Out.Overflow
 
 -- two operands, of which the second counts where the first has a value
 abbrev pub binary_out : ℕ → Outcome → Outcome → Outcome

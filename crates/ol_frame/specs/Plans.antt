@@ -1,16 +1,18 @@
 -- What evaluation asks of a file and of the expressions in it.
-use Rattle.std.specs.Prelude.{ℕ, ◌+◌, ◌*◌, ◌/◌, ◌<◌, ◌≤◌, Bool, List, map, ◌≡◌, length, take, drop, get_or, T}
+use Rattle.std.specs.Prelude.{ℕ, ◌+◌, ◌*◌, ◌/◌, ◌<◌, ◌≤◌, Bool, false, List, map, ◌≡◌, length, take, drop, get_or, T}
 use Rattle.ol_spec.specs.Lists.{concat, member}
 use Rattle.ol_spec.specs.Syntax.{bool, Expr, variables, variable_names, type_of}
 use Rattle.ol_spec.specs.Places.{collect_all}
 use Rattle.ol_spec.specs.Cell.{values_of}
 use Rattle.ol_spec.specs.Numbers.{number_of}
-use Rattle.ol_spec.specs.Eval.{Globals, Scope, Eval, callees_all, callees, sites_size, eval}
+use Rattle.ol_spec.specs.Eval.{Globals, Scope, Eval, RealKind, callees_all, callees, sites_size, eval, real_kind}
 use Rattle.ol_spec.specs.Step.{globals, scope, calls}
 use Rattle.ol_spec.specs.Admission.{constant_names, used_at, calls_where, bad_call}
 use Rattle.ol_tables.specs.At.{file_at, node_in, expr_at, exprs_at, Reads, ReadsAll}
 use Rattle.ol_tables.specs.Tables.{Each, Tab, HasSlot, slot_of, Sound, slots_from}
 use Rattle.ol_tables.specs.Parts.{Proper}
+use Rattle.ol_tables.specs.Table.{consts_of}
+use Rattle.ol_frame.specs.Frame.{node_of, cells_of}
 use Rattle.ol_frame.specs.Walk.{nodes_in, sizes_in, Sized}
 
 -- how many constants have their cells there, and their names
@@ -98,3 +100,8 @@ pub record Leaf (code : ℕ) : Type 0 where
 abbrev pub eval_in : List ℕ → List ℕ → ℕ → Bool → List ℕ → List ℕ → Expr → List ℕ → Eval
 eval_in file consts node first cells before e seg =
     eval (globals_in file consts) (scope_in file node first cells before) (calls (globals_in file consts)) e seg
+
+-- how the expression at a place of the file counts as real, by the table and on a frame
+abbrev pub kind_at : List ℕ → List ℕ → List ℕ → ℕ → ℕ → RealKind
+kind_at file tab frame level at =
+    real_kind (globals_in file (consts_of tab)) (scope_in file (node_of frame) false (cells_of frame) (cells_of frame)) (expr_at file level at)

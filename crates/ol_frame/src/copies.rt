@@ -1,5 +1,5 @@
 // Cells: copied, passed on and stored.
-ghost use Rattle.std.specs.Prelude.{◌≡◌, ◌∷◌, ◌++◌, ℕ, ◌+◌, ◌-◌, ◌*◌, ◌≤◌, ◌<◌, min, length, take, drop};
+ghost use Rattle.std.specs.Prelude.{◌≡◌, ◌∷◌, ◌++◌, ℕ, ◌+◌, ◌-◌, ◌*◌, ◌≤◌, ◌<◌, length, take, drop};
 ghost use Rattle.ol_spec.specs.Cell.{cell, cells, value_of, values_of};
 ghost use Rattle.ol_spec.specs.Eval.{Outcomes, single, several};
 ghost use Rattle.ol_value.specs.Codes.{ty_of};
@@ -9,7 +9,7 @@ ghost use Rattle.ol_frame.specs.Outcomes.{ending_of};
 ghost use Rattle.ol_frame.specs.Stores.{passed_by, Storable, Stores, StoresOut, Assignable, Assigns, Leaves};
 
 use crate::outcomes::{Ending, kept};
-use crate::tables::{code_of, slot_at};
+use crate::tables::{Slot, code_of, slot_at};
 use ol_spec::{Cause, Outcome, Value};
 use ol_value::cell::{read_cell, write_cell};
 use ol_value::types::fit_to;
@@ -18,12 +18,8 @@ use ol_value::types::fit_to;
 pub fn copy(from: &[u8], to: &mut [u8])
     ensures { to.new ≡ take (length to.old) from.now ++ drop (length from.now) to.old }
 {
-    let n = less(from.len(), to.len());
-    let mut i = 0;
-    while i < n {
-        to[i] = from[i];
-        i += 1;
-    }
+    let n = from.len().min(to.len());
+    to[..n].copy_from_slice(&from[..n]);
 }
 
 // The cells from index `first` up to `last`.
@@ -41,12 +37,10 @@ pub fn write_cells(n: usize, from: &[u8], to: &mut [u8])
     requires { (n ≤ 112) × (9 * n ≤ length from.now) × (9 * n ≤ length to.old) }
     ensures { to.new ≡ cells (values_of n from.now) ++ drop (9 * n) to.old }
 {
-    let mut i: usize = 0;
-    while i < n {
+    for i in 0..n {
         let p = 9 * i;
         let v = kept(read_cell(from, p));
         write_cell(v, to, p);
-        i += 1;
     }
 }
 
@@ -77,8 +71,7 @@ fn store(tab: &[u8], k: usize, at: usize, v: Value, cells: &mut [u8])
     requires { Storable (tab_of tab.now) k at cells.old }
     ensures { Stores (tab_of tab.now) k at v cells.old cells.new }
 {
-    let s = slot_at(tab, at);
-    if s < 112 {
+    if let Slot::Variable(s) = slot_at(tab, at) {
         let c = code_of(tab, k, s);
         let w = kept(fit_to(c, kept(v)));
         write_cell(w, cells, 9 * s);
@@ -105,12 +98,9 @@ pub(crate) fn assign(tab: &[u8], k: usize, at: usize, n: usize, from: &[u8], cel
     requires { Assignable (tab_of tab.now) k at n from.now cells.old }
     ensures { Assigns (tab_of tab.now) k at n n from.now cells.old cells.new }
 {
-    let mut i: usize = 0;
-    while i < n {
-        let p = at + 2 * i;
+    for i in 0..n {
         let v = read_cell(from, 9 * i);
-        store(tab, k, p, v, cells);
-        i += 1;
+        store(tab, k, at + 2 * i, v, cells);
     }
 }
 
@@ -120,21 +110,9 @@ pub fn single_out(end: Ending, outputs: usize, cells: &[u8]) -> Outcome
     ensures { (os : Outcomes) → Leaves os end outputs cells.now → result ≡ single os }
 {
     match end {
-        Ending::Values => {
-            if outputs == 1 {
-                Outcome::Value(read_cell(cells, 0))
-            } else {
-                Outcome::Failure(Cause::Other)
-            }
-        }
+        Ending::Values if outputs == 1 => Outcome::Value(read_cell(cells, 0)),
+        Ending::Values => Outcome::Failure(Cause::Other),
         Ending::Failed(c) => Outcome::Failure(c),
         Ending::Overflowed => Outcome::Overflow,
     }
-}
-
-// The lesser of two numbers.
-pub fn less(a: usize, b: usize) -> usize
-    ensures { result ≡ min a b }
-{
-    if a < b { a } else { b }
 }

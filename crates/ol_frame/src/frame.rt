@@ -1,5 +1,5 @@
 // A frame: what the equations of an instance are run on. Whether it is its first cycle, its node's number, its cells, and the cells before.
-ghost use Rattle.std.specs.Prelude.{◌≡◌, ◌∷◌, ◌++◌, ◌+◌, ◌*◌, ◌<◌, ◌≤◌, length, drop, cond};
+ghost use Rattle.std.specs.Prelude.{◌≡◌, ◌∷◌, ◌++◌, ◌+◌, ◌*◌, ◌<◌, ◌≤◌, length, drop};
 ghost use Rattle.ol_frame.specs.Frame.{Framed, node_of, first_of, cells_of, headed, Keeps, Opened, Freshened};
 ghost use Rattle.ol_frame.specs.Outcomes.{ending_of};
 ghost use Rattle.ol_frame.specs.Stores.{Storable, StoresOut, Assignable, Assigns};
@@ -10,7 +10,6 @@ ghost use Rattle.ol_tables.specs.Tables.{row_at};
 
 use crate::copies::{assign, copy_cells, finish, store_out};
 use crate::outcomes::Ending;
-use crate::tables::number;
 use ol_spec::Outcome;
 use ol_state::defaults::write_defaults;
 
@@ -37,14 +36,7 @@ pub fn node_of(frame: &[u8; FRAME]) -> usize
     requires { Framed frame.now }
     ensures { (result ≡ node_of frame.now) × (result < 256) }
 {
-    number(frame[1])
-}
-
-// A Bool as a byte.
-fn flag(b: bool) -> u8
-    ensures { result ≡ cond b 1 0 }
-{
-    if b { 1 } else { 0 }
+    usize::from(frame[1])
 }
 
 // Writes whether it is the first cycle, and the node's number.
@@ -52,7 +44,7 @@ pub fn set_frame(frame: &mut [u8], k: usize, first: bool)
     requires { Framed frame.old × (k < 256) }
     ensures { frame.new ≡ headed frame.old k first }
 {
-    frame[0] = flag(first);
+    frame[0] = u8::from(first);
     frame[1] = k as u8;
 }
 
@@ -100,7 +92,7 @@ pub fn bind_out(tab: &[u8], at: usize, o: Outcome, frame: &mut [u8]) -> Ending
     requires { Framed frame.old × Storable (tab_of tab.now) (node_of frame.old) at (cells_of frame.old) }
     ensures { (result ≡ ending_of (several o)) × StoresOut (tab_of tab.now) (node_of frame.old) at o (cells_of frame.old) (cells_of frame.new) × Keeps frame.old frame.new }
 {
-    let k = number(frame[1]);
+    let k = usize::from(frame[1]);
     store_out(tab, k, at, o, &mut frame[CELLS..BEFORE])
 }
 
@@ -109,6 +101,6 @@ pub fn bind(tab: &[u8], at: usize, n: usize, from: &[u8], frame: &mut [u8])
     requires { Framed frame.old × Assignable (tab_of tab.now) (node_of frame.old) at n from.now (cells_of frame.old) }
     ensures { Assigns (tab_of tab.now) (node_of frame.old) at n n from.now (cells_of frame.old) (cells_of frame.new) × Keeps frame.old frame.new }
 {
-    let k = number(frame[1]);
+    let k = usize::from(frame[1]);
     assign(tab, k, at, n, from, &mut frame[CELLS..BEFORE]);
 }

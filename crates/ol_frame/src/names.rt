@@ -1,48 +1,31 @@
 // What a name, a literal and a Pre yield, and whether an expression counts as real.
 ghost use Rattle.std.specs.Prelude.{◌≡◌, false, List, ℕ, ◌+◌, ◌≤◌, ◌<◌, pos, length, get_or};
-ghost use Rattle.ol_spec.specs.Eval.{or_failure, present_of, pre_of, real_kind, is_double?, join, first_type};
+ghost use Rattle.ol_spec.specs.Eval.{or_failure, present_of, pre_of, is_double?, join, first_type};
 ghost use Rattle.ol_spec.specs.declared.Value.TheVariants as Val;
 ghost use Rattle.ol_tables.specs.At.{expr_at, end_at, node_in};
 ghost use Rattle.ol_tables.specs.Table.{tab_of, rows_of, consts_of};
 ghost use Rattle.ol_frame.specs.Frame.{Framed, node_of, first_of, cells_of, before_of};
 ghost use Rattle.ol_frame.specs.Outcomes.{kind_of, common_out};
 ghost use Rattle.ol_frame.specs.Walk.{nodes_in};
-ghost use Rattle.ol_frame.specs.Plans.{Program, globals_in, scope_in, Nameable, Looked, Plan, Cells, name_at, Leaf, eval_in, segs_at};
+ghost use Rattle.ol_frame.specs.Plans.{Program, globals_in, scope_in, kind_at, Nameable, Looked, Plan, Cells, name_at, Leaf, eval_in, segs_at};
 
 use crate::frame::{BEFORE, CELLS, FRAME, is_first};
 use crate::outcomes::{
     RealKind, common_out, is_single, join_kinds, kind_of_outcome, kind_of_type, same_out,
 };
 use crate::skip::pass;
-use crate::tables::{code_of, number, row, slot_at};
+use crate::tables::{Slot, code_of, row, slot_at};
 use ol_spec::{Cause, Outcome, Value};
 use ol_tables::table::CONSTANTS;
 use ol_tables::tables::INPUTS;
 use ol_value::cell::read_cell;
-
-// A byte as a wider number.
-fn wide(b: u8) -> u16
-    ensures { (result ≡ b) × (result < 256) }
-{
-    b as u16
-}
-
-// A Char literal's value.
-fn char_of(b: u8) -> Value
-    ensures { result ≡ Val.Int (pos b) }
-{
-    Value::Int(b as i64)
-}
 
 // The name at `at`, as a variant.
 fn variant(file: &[u8], at: usize) -> Value
     requires { at + 2 ≤ length file.now }
     ensures { result ≡ Val.Enum (name_at file.now at) }
 {
-    let q = at + 1;
-    let a = wide(file[at]);
-    let b = wide(file[q]);
-    Value::Enum(a * 256 + b)
+    Value::Enum(u16::from_be_bytes([file[at], file[at + 1]]))
 }
 
 // The name at `at`: a variable's present cell, a constant's value or a variant.
@@ -50,13 +33,10 @@ pub fn present(file: &[u8], tab: &[u8], frame: &[u8; FRAME], at: usize) -> Outco
     requires { Framed frame.now × Nameable file.now (tab_of tab.now) (consts_of tab.now) (node_of frame.now) at × Cells file.now (node_of frame.now) (cells_of frame.now) }
     ensures { result ≡ or_failure (present_of (globals_in file.now (consts_of tab.now)) (scope_in file.now (node_of frame.now) false (cells_of frame.now) (cells_of frame.now)) (name_at file.now at)) }
 {
-    let s = slot_at(tab, at);
-    if s < 112 {
-        Outcome::Value(read_cell(frame, CELLS + s * 9))
-    } else if s < 255 {
-        Outcome::Value(read_cell(tab, CONSTANTS + (s - 112) * 9))
-    } else {
-        Outcome::Value(variant(file, at))
+    match slot_at(tab, at) {
+        Slot::Variable(s) => Outcome::Value(read_cell(frame, CELLS + s * 9)),
+        Slot::Constant(i) => Outcome::Value(read_cell(tab, CONSTANTS + i * 9)),
+        Slot::Other => Outcome::Value(variant(file, at)),
     }
 }
 
@@ -68,17 +48,13 @@ fn previous(file: &[u8], tab: &[u8], frame: &[u8; FRAME], at: usize, level: usiz
     if is_first(frame) {
         return Outcome::Failure(Cause::Cold);
     }
-    if file[at] == 4 {
-        let s = slot_at(tab, at + 1);
-        if s < 112 {
-            Outcome::Value(read_cell(frame, BEFORE + s * 9))
-        } else if s < 255 {
-            Outcome::Value(read_cell(tab, CONSTANTS + (s - 112) * 9))
-        } else {
-            Outcome::Failure(Cause::Other)
-        }
-    } else {
-        Outcome::Failure(Cause::Other)
+    if file[at] != 4 {
+        return Outcome::Failure(Cause::Other);
+    }
+    match slot_at(tab, at + 1) {
+        Slot::Variable(s) => Outcome::Value(read_cell(frame, BEFORE + s * 9)),
+        Slot::Constant(i) => Outcome::Value(read_cell(tab, CONSTANTS + i * 9)),
+        Slot::Other => Outcome::Failure(Cause::Other),
     }
 }
 
@@ -93,7 +69,7 @@ pub fn leaf_out(file: &[u8], tab: &[u8], at: usize, level: usize, frame: &[u8; F
         0 => Outcome::Value(Value::Bool(file[p] == 1)),
         1 => Outcome::Value(read_cell(file, at)),
         2 => Outcome::Value(read_cell(file, at)),
-        3 => Outcome::Value(char_of(file[p])),
+        3 => Outcome::Value(Value::Int(i64::from(file[p]))),
         4 => present(file, tab, frame, p),
         8 => previous(file, tab, frame, p, level - 1),
         _ => Outcome::Failure(Cause::Other),
@@ -105,16 +81,14 @@ fn call_kind(file: &[u8], tab: &[u8], k: usize) -> RealKind
     requires { Program file.now (tab_of tab.now) (rows_of tab.now) × (k < nodes_in file.now) }
     ensures { kind_of result ≡ first_type (node_in file.now k).outputs }
 {
-    let i = row(tab, k, INPUTS);
-    let t = code_of(tab, k, i);
-    kind_of_type(t)
+    kind_of_type(code_of(tab, k, row(tab, k, INPUTS)))
 }
 
 // How the expression at `at` counts as real.
 #[cycle(real_kinds)]
 fn real_kind(file: &[u8], tab: &[u8], frame: &[u8; FRAME], at: usize, level: usize) -> RealKind
     requires { Framed frame.now × Plan file.now (tab_of tab.now) (rows_of tab.now) (consts_of tab.now) (node_of frame.now) level 1 at × Cells file.now (node_of frame.now) (cells_of frame.now) × (segs_at file.now level 1 at ≤ 32768) }
-    ensures { kind_of result ≡ real_kind (globals_in file.now (consts_of tab.now)) (scope_in file.now (node_of frame.now) false (cells_of frame.now) (cells_of frame.now)) (expr_at file.now level at) }
+    ensures { kind_of result ≡ kind_at file.now tab.now frame.now level at }
 {
     let code = file[at];
     let p = at + 1;
@@ -122,28 +96,18 @@ fn real_kind(file: &[u8], tab: &[u8], frame: &[u8; FRAME], at: usize, level: usi
         2 => RealKind::Double,
         4 => kind_of_outcome(present(file, tab, frame, p)),
         5 => real_kind(file, tab, frame, at + 2, level - 1),
-        6 => {
-            let op = file[p];
-            if op < 10 {
-                RealKind::NotReal
-            } else if op < 14 {
-                real_kinds(file, tab, frame, at + 2, level - 1)
-            } else {
-                RealKind::NotReal
-            }
-        }
+        6 => match file[p] {
+            10..14 => real_kinds(file, tab, frame, at + 2, level - 1),
+            _ => RealKind::NotReal,
+        },
         7 => {
             let c = pass(file, tab, p, level - 1);
-            let q = c.next;
-            real_kinds(file, tab, frame, q, level - 1)
+            real_kinds(file, tab, frame, c.next, level - 1)
         }
         8 => real_kind(file, tab, frame, p, level - 1),
         9 => real_kinds(file, tab, frame, p, level - 1),
         10 => kind_of_type(file[p]),
-        11 => {
-            let k = number(file[p]);
-            call_kind(file, tab, k)
-        }
+        11 => call_kind(file, tab, usize::from(file[p])),
         _ => RealKind::NotReal,
     }
 }
@@ -152,12 +116,11 @@ fn real_kind(file: &[u8], tab: &[u8], frame: &[u8; FRAME], at: usize, level: usi
 #[cycle(real_kinds)]
 fn real_kinds(file: &[u8], tab: &[u8], frame: &[u8; FRAME], at: usize, level: usize) -> RealKind
     requires { Framed frame.now × Plan file.now (tab_of tab.now) (rows_of tab.now) (consts_of tab.now) (node_of frame.now) level 2 at × Cells file.now (node_of frame.now) (cells_of frame.now) × (segs_at file.now level 2 at ≤ 32768) }
-    ensures { kind_of result ≡ join (real_kind (globals_in file.now (consts_of tab.now)) (scope_in file.now (node_of frame.now) false (cells_of frame.now) (cells_of frame.now)) (expr_at file.now level at)) (real_kind (globals_in file.now (consts_of tab.now)) (scope_in file.now (node_of frame.now) false (cells_of frame.now) (cells_of frame.now)) (expr_at file.now level (end_at file.now level at))) }
+    ensures { kind_of result ≡ join (kind_at file.now tab.now frame.now level at) (kind_at file.now tab.now frame.now level (end_at file.now level at)) }
 {
     let a = real_kind(file, tab, frame, at, level);
     let p = pass(file, tab, at, level);
-    let q = p.next;
-    let b = real_kind(file, tab, frame, q, level);
+    let b = real_kind(file, tab, frame, p.next, level);
     join_kinds(a, b)
 }
 
@@ -171,11 +134,10 @@ pub fn chosen(
     taken: Outcome,
 ) -> Outcome
     requires { Framed frame.now × Plan file.now (tab_of tab.now) (rows_of tab.now) (consts_of tab.now) (node_of frame.now) level 1 at × Cells file.now (node_of frame.now) (cells_of frame.now) × (segs_at file.now level 1 at ≤ 32768) }
-    ensures { result ≡ common_out (is_double? (real_kind (globals_in file.now (consts_of tab.now)) (scope_in file.now (node_of frame.now) false (cells_of frame.now) (cells_of frame.now)) (expr_at file.now level at))) taken }
+    ensures { result ≡ common_out (is_double? (kind_at file.now tab.now frame.now level at)) taken }
 {
     if is_single(taken) {
-        let k = real_kind(file, tab, frame, at, level);
-        common_out(k, taken)
+        common_out(real_kind(file, tab, frame, at, level), taken)
     } else {
         same_out(taken)
     }

@@ -7,7 +7,7 @@ ghost use Rattle.ol_spec.specs.declared.Outcome.{Outcome};
 ghost use Rattle.ol_spec.specs.declared.Value.{Value};
 ghost use Rattle.ol_spec.specs.Eval.{or_failure, then_out, common_real, kind_of_type, is_double?, join};
 ghost use Rattle.ol_value.specs.Codes.{ty_of, unary_by};
-ghost use Rattle.ol_frame.specs.Outcomes.{done_of, binary_out, test_of, untested_of, runs_of, overflow_of, drop_out, single_of, common_out, kind_of, outcome_kind};
+ghost use Rattle.ol_frame.specs.Outcomes.{ThenBy, done_of, binary_out, test_of, untested_of, runs_of, overflow_of, drop_out, single_of, common_out, kind_of, outcome_kind};
 
 use ol_real::f32_to_f64;
 use ol_spec::{Cause, Outcome, Value};
@@ -31,14 +31,14 @@ pub enum Test {
 }
 
 // How an expression counts as real: not, in single or in double precision.
-#[derive(Clone, Copy)]
+#[derive(Clone, Copy, PartialEq, Eq)]
 pub(crate) enum RealKind {
     NotReal,
     Single,
     Double,
 }
 
-// A value, made again from its parts (it is then moved part by part, which is fast); it is had back from its cell.
+// A value, made again from its parts, so that it is moved part by part: measured faster than handing it on whole. It is had back from its cell.
 pub fn kept(v: Value) -> Value
     ensures { (result ≡ v) × (value_of (cell v) ≡ v) }
 {
@@ -51,7 +51,7 @@ pub fn kept(v: Value) -> Value
     }
 }
 
-// An outcome, made again from its parts.
+// An outcome, made again from its parts: measured faster than handing it on whole.
 pub fn same_out(o: Outcome) -> Outcome
     ensures { result ≡ o }
 {
@@ -62,14 +62,13 @@ pub fn same_out(o: Outcome) -> Outcome
     }
 }
 
-// A name's outcome, made again from its parts: a value, or the failure of a name that nobody declared. Of another outcome, which no name has, nothing is promised.
+// A name's outcome, made again from its parts (measured faster than handing it on whole): a value, or the failure of a name that nobody declared. Of another outcome, which no name has, nothing is promised.
 pub fn named_out(o: Outcome) -> Outcome
     ensures { (m : Option Value) → o ≡ or_failure m → result ≡ o }
 {
     match o {
         Outcome::Value(v) => Outcome::Value(kept(v)),
-        Outcome::Failure(_) => Outcome::Failure(Cause::Other),
-        Outcome::Overflow => Outcome::Failure(Cause::Other),
+        _ => Outcome::Failure(Cause::Other),
     }
 }
 
@@ -77,10 +76,18 @@ pub fn named_out(o: Outcome) -> Outcome
 pub fn done(o: Outcome) -> bool
     ensures { result ≡ done_of o }
 {
+    matches!(o, Outcome::Value(_))
+}
+
+// What f makes of an outcome's value, if it has one; another outcome stays.
+pub fn and_then<F: FnOnce(Value) -> Outcome>(o: Outcome, f: F) -> Outcome
+    requires { F.IsAlwaysCallable f }
+    ensures { ThenBy (F.post f) o result }
+{
     match o {
-        Outcome::Value(_) => true,
-        Outcome::Failure(_) => false,
-        Outcome::Overflow => false,
+        Outcome::Value(v) => f(v),
+        Outcome::Failure(c) => Outcome::Failure(c),
+        Outcome::Overflow => Outcome::Overflow,
     }
 }
 
@@ -88,22 +95,14 @@ pub fn done(o: Outcome) -> bool
 pub fn unary_out(op: u8, o: Outcome) -> Outcome
     ensures { result ≡ then_out (unary_by op) o }
 {
-    match o {
-        Outcome::Value(v) => eval_unary(op, v),
-        Outcome::Failure(c) => Outcome::Failure(c),
-        Outcome::Overflow => Outcome::Overflow,
-    }
+    and_then(o, |v| eval_unary(op, v))
 }
 
 // The outcome of a cast of an operand's.
 pub fn cast_out(code: u8, o: Outcome) -> Outcome
     ensures { (e : ℕ) → result ≡ then_out (cast_to (ty_of code e)) o }
 {
-    match o {
-        Outcome::Value(v) => cast_value(code, v),
-        Outcome::Failure(c) => Outcome::Failure(c),
-        Outcome::Overflow => Outcome::Overflow,
-    }
+    and_then(o, |v| cast_value(code, v))
 }
 
 // The outcome of a binary operator on its operands'.
@@ -111,13 +110,8 @@ pub fn binary_out(op: u8, l: Outcome, r: Outcome) -> Outcome
     ensures { result ≡ binary_out op l r }
 {
     match l {
-        Outcome::Value(v) => match r {
-            Outcome::Value(w) => eval_binary(op, v, w),
-            Outcome::Failure(c) => Outcome::Failure(c),
-            Outcome::Overflow => Outcome::Overflow,
-        },
-        Outcome::Failure(c) => Outcome::Failure(c),
-        Outcome::Overflow => Outcome::Overflow,
+        Outcome::Value(v) => and_then(r, |w| eval_binary(op, v, w)),
+        _ => same_out(l),
     }
 }
 
@@ -126,15 +120,9 @@ pub fn test_of(o: Outcome) -> Test
     ensures { result ≡ test_of o }
 {
     match o {
-        Outcome::Value(v) => match v {
-            Value::Bool(b) => { if b { Test::First } else { Test::Second } }
-            Value::Int(_) => Test::Neither,
-            Value::Float(_) => Test::Neither,
-            Value::Float32(_) => Test::Neither,
-            Value::Enum(_) => Test::Neither,
-        },
-        Outcome::Failure(_) => Test::Neither,
-        Outcome::Overflow => Test::Neither,
+        Outcome::Value(Value::Bool(true)) => Test::First,
+        Outcome::Value(Value::Bool(false)) => Test::Second,
+        _ => Test::Neither,
     }
 }
 
@@ -142,33 +130,21 @@ pub fn test_of(o: Outcome) -> Test
 pub fn untested(o: Outcome) -> Outcome
     ensures { result ≡ untested_of o }
 {
-    match o {
-        Outcome::Value(_) => Outcome::Failure(Cause::Other),
-        Outcome::Failure(c) => Outcome::Failure(c),
-        Outcome::Overflow => Outcome::Overflow,
-    }
+    and_then(o, |_| Outcome::Failure(Cause::Other))
 }
 
 // Whether the branch not taken is evaluated: the taken one succeeded, and it contains a call.
 pub fn runs(taken: Outcome, has: bool) -> bool
     ensures { result ≡ runs_of taken has }
 {
-    match taken {
-        Outcome::Value(_) => has,
-        Outcome::Failure(_) => false,
-        Outcome::Overflow => false,
-    }
+    has && done(taken)
 }
 
 // Whether it is an overflow.
 pub fn overflowed(o: Outcome) -> bool
     ensures { result ≡ overflow_of o }
 {
-    match o {
-        Outcome::Value(_) => false,
-        Outcome::Failure(_) => false,
-        Outcome::Overflow => true,
-    }
+    matches!(o, Outcome::Overflow)
 }
 
 // What a choice comes to where the branch that is not taken was evaluated: its failure is dropped, its overflow is not.
@@ -186,17 +162,7 @@ pub fn drop_failure(taken: Outcome, overflow: bool) -> Outcome
 pub(crate) fn is_single(o: Outcome) -> bool
     ensures { result ≡ single_of o }
 {
-    match o {
-        Outcome::Value(v) => match v {
-            Value::Bool(_) => false,
-            Value::Int(_) => false,
-            Value::Float(_) => false,
-            Value::Float32(_) => true,
-            Value::Enum(_) => false,
-        },
-        Outcome::Failure(_) => false,
-        Outcome::Overflow => false,
-    }
+    matches!(o, Outcome::Value(Value::Float32(_)))
 }
 
 // A value, widened where it is a single.
@@ -204,11 +170,8 @@ fn widened(v: Value) -> Value
     ensures { result ≡ common_real true v }
 {
     match v {
-        Value::Bool(_) => v,
-        Value::Int(_) => v,
-        Value::Float(_) => v,
         Value::Float32(x) => Value::Float(f32_to_f64(x)),
-        Value::Enum(_) => v,
+        _ => v,
     }
 }
 
@@ -216,14 +179,9 @@ fn widened(v: Value) -> Value
 pub(crate) fn common_out(kind: RealKind, o: Outcome) -> Outcome
     ensures { result ≡ common_out (is_double? (kind_of kind)) o }
 {
-    match o {
-        Outcome::Value(v) => match kind {
-            RealKind::NotReal => Outcome::Value(v),
-            RealKind::Single => Outcome::Value(v),
-            RealKind::Double => Outcome::Value(widened(v)),
-        },
-        Outcome::Failure(c) => Outcome::Failure(c),
-        Outcome::Overflow => Outcome::Overflow,
+    match (o, kind) {
+        (Outcome::Value(v), RealKind::Double) => Outcome::Value(widened(v)),
+        _ => same_out(o),
     }
 }
 
@@ -243,15 +201,9 @@ pub(crate) fn kind_of_outcome(o: Outcome) -> RealKind
     ensures { kind_of result ≡ outcome_kind o }
 {
     match o {
-        Outcome::Value(v) => match v {
-            Value::Bool(_) => RealKind::NotReal,
-            Value::Int(_) => RealKind::NotReal,
-            Value::Float(_) => RealKind::Double,
-            Value::Float32(_) => RealKind::Single,
-            Value::Enum(_) => RealKind::NotReal,
-        },
-        Outcome::Failure(_) => RealKind::NotReal,
-        Outcome::Overflow => RealKind::NotReal,
+        Outcome::Value(Value::Float(_)) => RealKind::Double,
+        Outcome::Value(Value::Float32(_)) => RealKind::Single,
+        _ => RealKind::NotReal,
     }
 }
 
@@ -259,13 +211,9 @@ pub(crate) fn kind_of_outcome(o: Outcome) -> RealKind
 pub(crate) fn join_kinds(a: RealKind, b: RealKind) -> RealKind
     ensures { kind_of result ≡ join (kind_of a) (kind_of b) }
 {
-    match a {
-        RealKind::NotReal => b,
-        RealKind::Single => match b {
-            RealKind::NotReal => RealKind::Single,
-            RealKind::Single => RealKind::Single,
-            RealKind::Double => RealKind::Double,
-        },
-        RealKind::Double => RealKind::Double,
+    match (a, b) {
+        (RealKind::Double, _) | (_, RealKind::Double) => RealKind::Double,
+        (RealKind::Single, _) | (_, RealKind::Single) => RealKind::Single,
+        _ => RealKind::NotReal,
     }
 }

@@ -4,7 +4,7 @@ ghost use Rattle.ol_tables.specs.Table.{rows_of};
 ghost use Rattle.ol_frame.specs.Walk.{Passable, SkipsTo};
 
 use crate::tables::row;
-use ol_tables::heads::{head, next_call};
+use ol_tables::heads::{NextCall, head, next_call};
 use ol_tables::tables::SIZE;
 
 // Where what was passed over ends, the bytes of its records, and whether it contains a call.
@@ -25,18 +25,14 @@ pub fn pass_all(file: &[u8], tab: &[u8], at: usize, level: usize, count: usize) 
     let mut used: usize = 0;
     let mut has = false;
     loop {
-        let c = next_call(file, left, next);
-        if c.found {
-            used += row(tab, c.callee, SIZE);
-            has = true;
-            next = c.at;
-            left = c.left;
-        } else {
-            return Passed {
-                next: c.at,
-                used: used,
-                has: has,
-            };
+        match next_call(file, left, next) {
+            NextCall::Found(c) => {
+                used += row(tab, c.callee, SIZE);
+                has = true;
+                next = c.at;
+                left = c.left;
+            }
+            NextCall::End(next) => return Passed { next, used, has },
         }
     }
 }
@@ -47,9 +43,8 @@ pub fn pass(file: &[u8], tab: &[u8], at: usize, level: usize) -> Passed
     ensures { SkipsTo file.now level 1 at result }
 {
     if file[at] < 5 {
-        let h = head(file, at);
         Passed {
-            next: h.start,
+            next: head(file, at).start,
             used: 0,
             has: false,
         }

@@ -8,11 +8,26 @@ use native.Mathlib.Omega.{arith}
 use native.Mathlib.Decide.{dec_le}
 use lib.ListN.{length, get_or, get_elem?}
 use borrow.Author.Tests.{le-leb, lt-leb}
+use Rattle.std.specs.Prelude.{Result, Ok, Err}
 use Rattle.ol_spec.specs.Lists.{from, up_to}
 use Rattle.ol_spec.specs.Read.{got, fault, then_read, known, byte, or_end, coded, count_r}
 use Rattle.ol_spec.specs.Answers.{fault_at}
-use Rattle.ol_ir.specs.Nexts.{counted_of}
-use Rattle.ol_ir.specs.declared.Counted.TheVariants as Cnt
+use Rattle.ol_ir.specs.Nexts.{Counting, counted_at, counted_of}
+use Rattle.ol_spec.specs.declared.Fault.{Fault}
+use Rattle.ol_ir.specs.declared.Counted.{Counted}
+
+-- ---- answers
+
+pub same_ok : {A : Type 0} {a b : A} → ◌≡◌ {A = Result A Fault} (Ok a) (Ok b) → a ≡ b
+same_ok e = cc
+
+pub same_count : {n p m q : ℕ} → ◌≡◌ {A = Counting} (Ok (counted_at n p)) (Ok (counted_at m q)) → n ≡ m
+same_count e = ap (λ (c : Counted). c.count) (same_ok e)
+
+pub same_place : {n p m q : ℕ} → ◌≡◌ {A = Counting} (Ok (counted_at n p)) (Ok (counted_at m q)) → p ≡ q
+same_place e = ap (λ (c : Counted). c.at) (same_ok e)
+
+-- ---- bytes
 
 pub get_in : {A : Type 0} (s : List A) (at : ℕ) (d : A) → at < length s → get_elem? s at ≡ some (get_or s at d)
 get_in [] zero d h = absurd (omega arith)
@@ -90,20 +105,20 @@ pub record CountIs (s : List ℕ) (lo hi at n p : ℕ) : Type 0 where
   pub next : p ≡ at + 1
 
 module _ (s : List ℕ) (lo hi at n p : ℕ) where
-  not_fault : (a b : ℕ) → Cnt.Items n p ≡ counted_of (count_r s lo hi at) → count_r s lo hi at ≡ fault a b → ⊥
+  not_fault : (a b : ℕ) → Ok (counted_at n p) ≡ counted_of (count_r s lo hi at) → count_r s lo hi at ≡ fault a b → ⊥
   unfolding counted_of
-  not_fault a b e f = let g : Cnt.Items n p ≡ Cnt.Refused (fault_at a b) = e ∙ ap counted_of f in let z : ◌≡◌ {A = ℕ} 0 1 = cc in omega arith
+  not_fault a b e f = let g : Ok (counted_at n p) ≡ Err (fault_at a b) = e ∙ ap counted_of f in let z : ◌≡◌ {A = ℕ} 0 1 = cc in omega arith
 
-  pub counted_is : Cnt.Items n p ≡ counted_of (count_r s lo hi at) → CountIs s lo hi at n p
+  pub counted_is : Ok (counted_at n p) ≡ counted_of (count_r s lo hi at) → CountIs s lo hi at n p
   unfolding counted_of
   counted_is e =
       by_cases (dec_le (length s) at) (λ gone. absurd (not_fault _ _ e (count_end s at lo hi gone))) (λ here.
       let h : at < length s = omega arith in
       by_cases (dec_le lo (get_or s at 0)) (λ a.
       by_cases (dec_le (get_or s at 0) hi) (λ b.
-      let g : Cnt.Items n p ≡ Cnt.Items (get_or s at 0) (at + 1) = e ∙ ap counted_of (count_is s at lo hi h a b) in
-      let v : n ≡ get_or s at 0 = cc in
-      let q : p ≡ at + 1 = cc in
+      let g : Ok (counted_at n p) ≡ Ok (counted_at (get_or s at 0) (at + 1)) = e ∙ ap counted_of (count_is s at lo hi h a b) in
+      let v : n ≡ get_or s at 0 = same_count g in
+      let q : p ≡ at + 1 = same_place g in
       record { inside = h; value = v; low = omega arith; high = omega arith; next = q })
       (λ b. absurd (not_fault _ _ e (count_high s at lo hi h a (omega arith)))))
       (λ a. absurd (not_fault _ _ e (count_low s at lo hi h (omega arith)))))

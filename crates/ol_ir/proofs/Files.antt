@@ -9,19 +9,18 @@ use native.Mathlib.Omega.{arith}
 use lib.ListN.{length, get_or}
 use lib.Dec.{eqb}
 use borrow.Author.Tests.{lt-ltb, le-ltb, eq-eqb, ne_eqb, eqb-true, eqb-false}
+use Rattle.std.specs.Prelude.{Ok, Err}
 use Rattle.ol_spec.specs.Syntax.{File}
 use Rattle.ol_spec.specs.Limits.{base, relay_loader}
 use Rattle.ol_spec.specs.Read.{Read, got, fault, Reader, then_read, give, many, count_r, section_r, read_file}
 use Rattle.ol_spec.specs.Answers.{fault_at}
 use Rattle.ol_spec.specs.declared.Fault.{Fault}
-use Rattle.ol_ir.specs.Nexts.{next_of, counted_of, list_of, parts_of, reading_of, after_format}
-use Rattle.ol_ir.specs.Walks.{loaded_of, read_of}
-use Rattle.ol_ir.specs.declared.Next.{Next}
-use Rattle.ol_ir.specs.declared.Next.TheVariants as Nxt
-use Rattle.ol_ir.specs.declared.Counted.{Counted}
-use Rattle.ol_ir.specs.declared.Counted.TheVariants as Cnt
+use Rattle.ol_ir.specs.Nexts.{Counting, Next, counted_at, next_of, counted_of, list_of, reading_of, after_format}
+use Rattle.ol_ir.proofs.Onward.{parts_of}
+use Rattle.ol_ir.specs.Walks.{Loading, loaded_of}
 use Rattle.ol_ir.proofs.Sizes.{never}
-use Rattle.ol_ir.proofs.Bytes.{byte_in, byte_out}
+use Rattle.ol_ir.proofs.Bytes.{same_count, same_place, byte_in, byte_out}
+use Rattle.ol_ir.specs.declared.Loaded.{Loaded}
 
 -- ---- so many items are a list of that length
 
@@ -50,33 +49,33 @@ many_long r k at xs n e = subst (Long k) e (long_many r k at)
 
 long_list : {A : Type 0} (n : ℕ) (r : Read (List A)) → Long n r → list_of r ≡ parts_of n (next_of r)
 unfolding list_of parts_of next_of Long
-long_list n (got xs p) h = ap (λ (k : ℕ). Cnt.Items k p) h
+long_list n (got xs p) h = ap (λ (k : ℕ). Ok (counted_at k p)) h
 long_list n (fault m p) h = refl
 
-module _ {A : Type 0} (s : List ℕ) (lo hi : ℕ) (r : Reader A) (at : ℕ) {x : Counted} (e : x ≡ counted_of (count_r s lo hi at)) where
-  list_read : (c : Read ℕ) (n p : ℕ) → counted_of c ≡ Cnt.Items n p → list_of (then_read c (λ k. many k r)) ≡ list_of (many n r p)
+module _ {A : Type 0} (s : List ℕ) (lo hi : ℕ) (r : Reader A) (at : ℕ) {x : Counting} (e : x ≡ counted_of (count_r s lo hi at)) where
+  list_read : (c : Read ℕ) (n p : ℕ) → counted_of c ≡ Ok (counted_at n p) → list_of (then_read c (λ k. many k r)) ≡ list_of (many n r p)
   unfolding counted_of then_read
-  list_read (got a q) n p g = let u : a ≡ n = cc in let v : q ≡ p = cc in rw (u, v) refl
+  list_read (got a q) n p g = let u : a ≡ n = same_count g in let v : q ≡ p = same_place g in rw (u, v) refl
   list_read (fault a q) n p g = let z : ◌≡◌ {A = ℕ} 0 1 = cc in absurd (omega arith)
 
-  list_fault : (c : Read ℕ) (f : Fault) → counted_of c ≡ Cnt.Refused f → list_of (then_read c (λ k. many k r)) ≡ Cnt.Refused f
+  list_fault : (c : Read ℕ) (f : Fault) → counted_of c ≡ Err f → list_of (then_read c (λ k. many k r)) ≡ Err f
   unfolding counted_of then_read list_of
   list_fault (got a q) f g = let z : ◌≡◌ {A = ℕ} 0 1 = cc in absurd (omega arith)
-  list_fault (fault a q) f g = let z : fault_at a q ≡ f = cc in ap Cnt.Refused z
+  list_fault (fault a q) f g = let z : fault_at a q ≡ f = cc in ap Err z
 
   -- a section's list: the count, then where the items end
-  section_list : (n p : ℕ) → x ≡ Cnt.Items n p → list_of (section_r s lo hi r at) ≡ parts_of n (next_of (many n r p))
+  section_list : (n p : ℕ) → x ≡ Ok (counted_at n p) → list_of (section_r s lo hi r at) ≡ parts_of n (next_of (many n r p))
   section_list n p g = list_read (count_r s lo hi at) n p (sym e ∙ g) ∙ long_list n (many n r p) (long_many r n p)
 
-  pub list_at : {y : Next} {n p q : ℕ} → x ≡ Cnt.Items n p → y ≡ next_of (many n r p) → y ≡ Nxt.At q → Cnt.Items n q ≡ list_of (section_r s lo hi r at)
+  pub list_at : {y : Next} {n p q : ℕ} → x ≡ Ok (counted_at n p) → y ≡ next_of (many n r p) → y ≡ Ok q → Ok (counted_at n q) ≡ list_of (section_r s lo hi r at)
   unfolding parts_of
   list_at {n = n} {p} g i j = sym (section_list n p g ∙ ap (parts_of n) (sym i ∙ j))
 
-  pub list_halt : {y : Next} {n p : ℕ} {f : Fault} → x ≡ Cnt.Items n p → y ≡ next_of (many n r p) → y ≡ Nxt.Refused f → Cnt.Refused f ≡ list_of (section_r s lo hi r at)
+  pub list_halt : {y : Next} {n p : ℕ} {f : Fault} → x ≡ Ok (counted_at n p) → y ≡ next_of (many n r p) → y ≡ Err f → Err f ≡ list_of (section_r s lo hi r at)
   unfolding parts_of
   list_halt {n = n} {p} g i j = sym (section_list n p g ∙ ap (parts_of n) (sym i ∙ j))
 
-  pub list_none : {f : Fault} → x ≡ Cnt.Refused f → Cnt.Refused f ≡ list_of (section_r s lo hi r at)
+  pub list_none : {f : Fault} → x ≡ Err f → Err f ≡ list_of (section_r s lo hi r at)
   list_none {f} g = sym (list_fault (count_r s lo hi at) f (sym e ∙ g))
 
 -- ---- the whole file
@@ -101,10 +100,15 @@ module _ (s : List ℕ) where
       file_unknown h = rw (le-ltb 32768 (length s) short, byte_in s 0 (omega arith), ne_eqb (get_or s 0 0) 1 h) refl
 
 -- whether it was read
-pub read_loaded : (r : Read File) → read_of (loaded_of r) ≡ reading_of r
-unfolding read_of loaded_of reading_of
-read_loaded (got f at) = refl
-read_loaded (fault n p) = refl
+pub read_done : {x : Loading} {l : Loaded} (r : Read File) → x ≡ loaded_of r → x ≡ Ok l → Ok tt ≡ reading_of r
+unfolding loaded_of reading_of
+read_done (got f at) e g = refl
+read_done (fault n p) e g = let z : ◌≡◌ {A = ℕ} 0 1 = cc in absurd (omega arith)
+
+pub read_refused : {x : Loading} {f : Fault} (r : Read File) → x ≡ loaded_of r → x ≡ Err f → Err f ≡ reading_of r
+unfolding loaded_of reading_of
+read_refused {f = f} (got a at) e g = let z : ◌≡◌ {A = ℕ} 0 1 = cc in absurd (omega arith)
+read_refused {f = f} (fault n p) e g = let z : f ≡ fault_at n p = cc in ap Err z
 
 -- a file that was read has the format that is known
 pub file_after : (s : List ℕ) (f : File) (end : ℕ) → read_file s relay_loader ≡ got f end → after_format s base ≡ got f end

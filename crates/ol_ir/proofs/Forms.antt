@@ -6,28 +6,27 @@ use mathlib.Core.Logic.{by_cases}
 use native.Mathlib.Omega.{arith}
 use native.Mathlib.Decide.{dec_le}
 use lib.ListN.{length, get_or, get_elem?}
+use Rattle.std.specs.Prelude.{Ok, Err}
 use Rattle.ol_spec.specs.Lists.{up_to}
 use Rattle.ol_spec.specs.Syntax.{Expr}
 use Rattle.ol_spec.specs.Read.{Read, got, fault, Reader, then_read, known, many, many_exprs, byte, number, name_r, coded, count_r, section_r, ty_codes}
 use Rattle.ol_spec.specs.Read.{enum_t, ty_body, ty_r, expr_r, variable_r, constant_r, equation_r, node_r, node_kinds}
 use Rattle.ol_spec.specs.Answers.{fault_at}
 use Rattle.ol_spec.specs.declared.Limits.{Limits}
-use Rattle.ol_ir.specs.Nexts.{next_of, counted_of}
+use Rattle.ol_ir.specs.Nexts.{Next, next_of, counted_of, onward, repeat}
 use Rattle.ol_ir.specs.Nodes.{interface_r}
-use Rattle.ol_ir.specs.declared.Next.{Next}
-use Rattle.ol_ir.specs.declared.Next.TheVariants as Nxt
 use Rattle.ol_ir.proofs.Bytes.{byte_in, byte_out, coded_is, coded_none, coded_end, get_some, get_out}
-use Rattle.ol_ir.proofs.Onward.{onward, repeat, next_then, next_give, counted_then, Chain, ItemChain, many_next, exprs_next, repeat_one}
+use Rattle.ol_ir.proofs.Onward.{next_then, next_give, counted_then, Chain, ItemChain, many_next, exprs_next, repeat_one}
 
 onward_assoc : (x : Next) (k h : ℕ → Next) → onward (onward x k) h ≡ onward x (λ p. onward (k p) h)
 unfolding onward
-onward_assoc (Nxt.At p) k h = refl
-onward_assoc (Nxt.Refused f) k h = refl
+onward_assoc (Ok p) k h = refl
+onward_assoc (Err f) k h = refl
 
 onward_cong : (x : Next) (k h : ℕ → Next) → ((p : ℕ) → k p ≡ h p) → onward x k ≡ onward x h
 unfolding onward
-onward_cong (Nxt.At p) k h e = e p
-onward_cong (Nxt.Refused f) k h e = refl
+onward_cong (Ok p) k h e = e p
+onward_cong (Err f) k h e = refl
 
 -- ---- bytes and names
 
@@ -40,24 +39,24 @@ module _ (s : List ℕ) where
   number_next zero d at = refl
   number_next (suc k) d at = next_then (byte s at) _ _ (λ b n. number_next k _ n)
 
-  bytes_in : (k at : ℕ) → at + k ≤ length s → repeat k byte_at at ≡ Nxt.At (at + k)
+  bytes_in : (k at : ℕ) → at + k ≤ length s → repeat k byte_at at ≡ Ok (at + k)
   unfolding repeat next_of onward
-  bytes_in zero at h = ap Nxt.At (omega arith)
+  bytes_in zero at h = ap Ok (omega arith)
   bytes_in (suc k) at h =
       let here : at < length s = omega arith in
-      rw (byte_in s at here) (bytes_in k (at + 1) (omega arith) ∙ ap Nxt.At (omega arith))
+      rw (byte_in s at here) (bytes_in k (at + 1) (omega arith) ∙ ap Ok (omega arith))
 
-  bytes_out : (k at : ℕ) → 1 ≤ k → length s < at + k → repeat k byte_at at ≡ Nxt.Refused (fault_at 2 (length s))
+  bytes_out : (k at : ℕ) → 1 ≤ k → length s < at + k → repeat k byte_at at ≡ Err (fault_at 2 (length s))
   unfolding repeat next_of onward
   bytes_out zero at p h = absurd (omega arith)
   bytes_out (suc k) at p h =
       by_cases (dec_le (length s) at) (λ gone. rw (byte_out s at gone) refl)
       (λ no. let here : at < length s = omega arith in rw (byte_in s at here) (bytes_out k (at + 1) (omega arith) (omega arith)))
 
-  pub number_in : (k at : ℕ) → at + k ≤ length s → Nxt.At (at + k) ≡ next_of (number s k 0 at)
+  pub number_in : (k at : ℕ) → at + k ≤ length s → Ok (at + k) ≡ next_of (number s k 0 at)
   number_in k at h = sym (number_next k 0 at ∙ bytes_in k at h)
 
-  pub number_out : (k at : ℕ) → 1 ≤ k → length s < at + k → Nxt.Refused (fault_at 2 (length s)) ≡ next_of (number s k 0 at)
+  pub number_out : (k at : ℕ) → 1 ≤ k → length s < at + k → Err (fault_at 2 (length s)) ≡ next_of (number s k 0 at)
   number_out k at p h = sym (number_next k 0 at ∙ bytes_out k at p h)
 
 repeat_twice : (f : ℕ → Next) (n at : ℕ) → repeat n (repeat 2 f) at ≡ repeat (2 * n) f at
@@ -102,22 +101,22 @@ code_next s t u at e = go (byte s at)
 
 module _ {A : Type 0} (s : List ℕ) (table : List A) (at : ℕ) where
   -- a byte below the table's length, one that is not, and none
-  pub code_in : at < length s → get_or s at 0 < length table → Nxt.At (at + 1) ≡ next_of (coded s table at)
+  pub code_in : at < length s → get_or s at 0 < length table → Ok (at + 1) ≡ next_of (coded s table at)
   unfolding next_of
   code_in h b = let w = get_some table (get_or s at 0) b in sym (ap next_of (coded_is s at table h w.0 w.1))
 
-  pub code_out : at < length s → length table ≤ get_or s at 0 → Nxt.Refused (fault_at 3 at) ≡ next_of (coded s table at)
+  pub code_out : at < length s → length table ≤ get_or s at 0 → Err (fault_at 3 at) ≡ next_of (coded s table at)
   unfolding next_of
   code_out h b = sym (ap next_of (coded_none s at table h (get_out table _ b)))
 
-  pub code_end : length s ≤ at → Nxt.Refused (fault_at 2 (length s)) ≡ next_of (coded s table at)
+  pub code_end : length s ≤ at → Err (fault_at 2 (length s)) ≡ next_of (coded s table at)
   unfolding next_of
   code_end h = sym (ap next_of (coded_end s at table h))
 
 -- ---- types
 
 module _ (s : List ℕ) (l : Limits) (enums at : ℕ) where
-  plain : (b p : ℕ) → b < 12 → next_of (then_read (known at (get_elem? ty_codes b) p) (ty_body s l enums)) ≡ Nxt.At p
+  plain : (b p : ℕ) → b < 12 → next_of (then_read (known at (get_elem? ty_codes b) p) (ty_body s l enums)) ≡ Ok p
   unfolding next_of then_read
   plain zero p h = refl
   plain (suc zero) p h = refl
@@ -133,7 +132,7 @@ module _ (s : List ℕ) (l : Limits) (enums at : ℕ) where
   plain (suc (suc (suc (suc (suc (suc (suc (suc (suc (suc (suc zero))))))))))) p h = refl
   plain (suc (suc (suc (suc (suc (suc (suc (suc (suc (suc (suc (suc b)))))))))))) p h = absurd (omega arith)
 
-  pub ty_plain : at < length s → get_or s at 0 < 12 → Nxt.At (at + 1) ≡ next_of (ty_r s l enums at)
+  pub ty_plain : at < length s → get_or s at 0 < 12 → Ok (at + 1) ≡ next_of (ty_r s l enums at)
   unfolding coded then_read
   ty_plain h b = sym (rw (byte_in s at h) (plain (get_or s at 0) (at + 1) b))
 
@@ -141,11 +140,11 @@ module _ (s : List ℕ) (l : Limits) (enums at : ℕ) where
   unfolding then_read
   ty_enum h b = sym (rw (coded_is s at ty_codes h enum_t (ap (get_elem? ty_codes) b)) (next_give (coded s (up_to enums) (at + 1)) _))
 
-  pub ty_none : at < length s → 12 < get_or s at 0 → Nxt.Refused (fault_at 3 at) ≡ next_of (ty_r s l enums at)
+  pub ty_none : at < length s → 12 < get_or s at 0 → Err (fault_at 3 at) ≡ next_of (ty_r s l enums at)
   unfolding then_read next_of
   ty_none h b = sym (rw (coded_none s at ty_codes h (get_out ty_codes _ b)) refl)
 
-  pub ty_end : length s ≤ at → Nxt.Refused (fault_at 2 (length s)) ≡ next_of (ty_r s l enums at)
+  pub ty_end : length s ≤ at → Err (fault_at 2 (length s)) ≡ next_of (ty_r s l enums at)
   unfolding then_read next_of
   ty_end h = sym (rw (coded_end s at ty_codes h) refl)
 

@@ -8,6 +8,7 @@ use native.Mathlib.Omega.{arith}
 use lib.ListN.{length, get_or, get_elem?}
 use lib.Dec.{leb}
 use borrow.Author.Tests.{leb-true}
+use Rattle.std.specs.Prelude.{Ok, Err}
 use Rattle.ol_spec.specs.Syntax.{Expr}
 use Rattle.ol_spec.specs.Read.{Read, got, fault, Reader, then_read, give, many_exprs, byte, number, name_r, coded, within?, count_r, bools, unary_ops}
 use Rattle.ol_spec.specs.Read.{bin_ops, ty_r, expr_codes, ExprCode, expr_body, expr_r, bool_code, int_code, float_code, char_code, var_code, unary_code}
@@ -15,19 +16,15 @@ use Rattle.ol_spec.specs.Read.{binary_code, if_code, pre_code, arrow_code, cast_
 use Rattle.ol_spec.specs.Answers.{fault_at}
 use Rattle.ol_spec.specs.declared.Fault.{Fault}
 use Rattle.ol_spec.specs.declared.Limits.{Limits}
-use Rattle.ol_ir.specs.Nexts.{next_of, counted_of, parts_of}
+use Rattle.ol_ir.specs.Nexts.{Counting, Next, counted_at, next_of, counted_of, onward, repeat}
 use Rattle.ol_ir.specs.Heads.{call_head, head_body, head_r}
-use Rattle.ol_ir.specs.declared.Next.{Next}
-use Rattle.ol_ir.specs.declared.Next.TheVariants as Nxt
-use Rattle.ol_ir.specs.declared.Counted.{Counted}
-use Rattle.ol_ir.specs.declared.Counted.TheVariants as Cnt
-use Rattle.ol_ir.proofs.Bytes.{coded_is, coded_none, coded_end, get_out}
-use Rattle.ol_ir.proofs.Onward.{onward, on_items, repeat, Chain, next_then, next_give, counted_then, exprs_next, repeat_one}
+use Rattle.ol_ir.proofs.Bytes.{same_count, coded_is, coded_none, coded_end, get_out}
+use Rattle.ol_ir.proofs.Onward.{parts_of, on_items, Chain, next_then, next_give, counted_then, exprs_next, repeat_one}
 
-never_on : (x : Next) (f : Fault) (k : ℕ → Next) → onward (onward x (λ p. Nxt.Refused f)) k ≡ onward x (λ p. Nxt.Refused f)
+never_on : (x : Next) (f : Fault) (k : ℕ → Next) → onward (onward x (λ p. Err f)) k ≡ onward x (λ p. Err f)
 unfolding onward
-never_on (Nxt.At p) f k = refl
-never_on (Nxt.Refused g) f k = refl
+never_on (Ok p) f k = refl
+never_on (Err g) f k = refl
 
 -- ---- the head, by its first byte
 
@@ -36,7 +33,7 @@ unfolding parts_of next_of counted_of then_read
 parts_read n (got a p) = refl
 parts_read n (fault m p) = refl
 
-pub parts_next : {A : Type 0} {z : Counted} {x : Next} (n : ℕ) (r : Read A) → z ≡ parts_of n x → x ≡ next_of r → z ≡ counted_of (then_read r (λ a. give n))
+pub parts_next : {A : Type 0} {z : Counting} {x : Next} (n : ℕ) (r : Read A) → z ≡ parts_of n x → x ≡ next_of r → z ≡ counted_of (then_read r (λ a. give n))
 parts_next n r e f = e ∙ ap (parts_of n) f ∙ parts_read n r
 
 -- one byte
@@ -46,20 +43,20 @@ one_byte s at = next_give (byte s at) (λ b. 0 * 256 + b)
 
 -- a call's node number is passed over
 module _ (s : List ℕ) (most at : ℕ) {x : Next} (e : x ≡ next_of (number s 1 0 at)) where
-  call_read : (r : Read ℕ) (p : ℕ) → next_of r ≡ Nxt.At p → counted_of (then_read r (λ k. count_r s 0 most)) ≡ counted_of (count_r s 0 most p)
+  call_read : (r : Read ℕ) (p : ℕ) → next_of r ≡ Ok p → counted_of (then_read r (λ k. count_r s 0 most)) ≡ counted_of (count_r s 0 most p)
   unfolding next_of then_read
   call_read (got a q) p g = let z : q ≡ p = cc in rw z refl
   call_read (fault n q) p g = let z : ◌≡◌ {A = ℕ} 0 1 = cc in absurd (omega arith)
 
-  call_fault : (r : Read ℕ) (f : Fault) → next_of r ≡ Nxt.Refused f → counted_of (then_read r (λ k. count_r s 0 most)) ≡ Cnt.Refused f
+  call_fault : (r : Read ℕ) (f : Fault) → next_of r ≡ Err f → counted_of (then_read r (λ k. count_r s 0 most)) ≡ Err f
   unfolding next_of then_read counted_of
   call_fault (got a q) f g = let z : ◌≡◌ {A = ℕ} 0 1 = cc in absurd (omega arith)
-  call_fault (fault n q) f g = let z : fault_at n q ≡ f = cc in ap Cnt.Refused z
+  call_fault (fault n q) f g = let z : fault_at n q ≡ f = cc in ap Err z
 
-  pub call_count : {z : Counted} {p : ℕ} → x ≡ Nxt.At p → z ≡ counted_of (count_r s 0 most p) → z ≡ counted_of (call_head s most at)
+  pub call_count : {z : Counting} {p : ℕ} → x ≡ Ok p → z ≡ counted_of (count_r s 0 most p) → z ≡ counted_of (call_head s most at)
   call_count {z} {p} g h = h ∙ sym (call_read (byte s at) p (sym (one_byte s at) ∙ sym e ∙ g))
 
-  pub call_refused : {f : Fault} → x ≡ Nxt.Refused f → Cnt.Refused f ≡ counted_of (call_head s most at)
+  pub call_refused : {f : Fault} → x ≡ Err f → Err f ≡ counted_of (call_head s most at)
   call_refused {f} g = sym (call_fault (byte s at) f (sym (one_byte s at) ∙ sym e ∙ g))
 
 module _ (s : List ℕ) (l : Limits) (enums : ℕ) where
@@ -69,11 +66,11 @@ module _ (s : List ℕ) (l : Limits) (enums : ℕ) where
     head_is b c h e f = rw (coded_is s at expr_codes h c (ap (get_elem? expr_codes) e ∙ f)) refl
 
     -- a head whose number of parts its first byte says, behind which r is read
-    pub head_parts : {A : Type 0} {z : Counted} {x : Next} (b n : ℕ) (c : ExprCode) (r : Read A) → at < length s → get_or s at 0 ≡ b → get_elem? expr_codes b ≡ some c → head_body s l enums c (at + 1) ≡ then_read r (λ a. give n) → z ≡ parts_of n x → x ≡ next_of r → z ≡ counted_of (head_r s l enums at)
+    pub head_parts : {A : Type 0} {z : Counting} {x : Next} (b n : ℕ) (c : ExprCode) (r : Read A) → at < length s → get_or s at 0 ≡ b → get_elem? expr_codes b ≡ some c → head_body s l enums c (at + 1) ≡ then_read r (λ a. give n) → z ≡ parts_of n x → x ≡ next_of r → z ≡ counted_of (head_r s l enums at)
     head_parts b n c r h e f g i j = parts_next n r i j ∙ ap counted_of (sym g ∙ sym (head_is b c h e f))
 
     -- a head of one byte
-    pub head_byte : (b n : ℕ) (c : ExprCode) → at < length s → get_or s at 0 ≡ b → get_elem? expr_codes b ≡ some c → head_body s l enums c (at + 1) ≡ got n (at + 1) → Cnt.Items n (at + 1) ≡ counted_of (head_r s l enums at)
+    pub head_byte : (b n : ℕ) (c : ExprCode) → at < length s → get_or s at 0 ≡ b → get_elem? expr_codes b ≡ some c → head_body s l enums c (at + 1) ≡ got n (at + 1) → Ok (counted_at n (at + 1)) ≡ counted_of (head_r s l enums at)
     unfolding counted_of
     head_byte b n c h e f g = sym (ap counted_of (head_is b c h e f ∙ g))
 
@@ -142,7 +139,7 @@ module _ (s : List ℕ) (l : Limits) (enums : ℕ) where
 
   module _ (at : ℕ) where
     -- where no level is left
-    pub deep_chain : Chain (next_of (expr_r s l enums 0 at)) (next_of (coded s expr_codes at)) (λ p. Nxt.Refused (fault_at 5 at))
+    pub deep_chain : Chain (next_of (expr_r s l enums 0 at)) (next_of (coded s expr_codes at)) (λ p. Err (fault_at 5 at))
     unfolding expr_r next_of
     deep_chain = record { is = next_then (coded s expr_codes at) _ _ (λ c n. refl) }
 
@@ -174,9 +171,9 @@ module _ (m : ℕ) where
   below_count s lo hi at h =
       below_then (byte s at) _ (λ n p. below_within s (leb lo n) (leb n hi) at n p (λ e. omega (arith, leb-true n hi e)))
 
-few : (m n p : ℕ) (r : Read ℕ) → Cnt.Items n p ≡ counted_of r → Below m r → n ≤ m
+few : (m n p : ℕ) (r : Read ℕ) → Ok (counted_at n p) ≡ counted_of r → Below m r → n ≤ m
 unfolding counted_of Below
-few m n p (got a q) e h = let z : n ≡ a = cc in omega arith
+few m n p (got a q) e h = let z : n ≡ a = same_count e in omega arith
 few m n p (fault a q) e h = let z : ◌≡◌ {A = ℕ} 0 1 = cc in absurd (omega arith)
 
 module _ (s : List ℕ) (l : Limits) (enums : ℕ) where
@@ -203,5 +200,5 @@ module _ (s : List ℕ) (l : Limits) (enums : ℕ) where
   unfolding head_r
   below_head at = below_then most_parts (coded s expr_codes at) _ (λ c p. below_body c p)
 
-  pub few_parts : (at n p : ℕ) → Cnt.Items n p ≡ counted_of (head_r s l enums at) → n ≤ most_parts
+  pub few_parts : (at n p : ℕ) → Ok (counted_at n p) ≡ counted_of (head_r s l enums at) → n ≤ most_parts
   few_parts at n p e = few most_parts n p (head_r s l enums at) e (below_head at)

@@ -1,5 +1,5 @@
 -- The items of a file that reads without fault, where they stand.
-use Prim.Native.Nat.{ℕ, zero, suc, ◌+◌, ◌*◌, ◌-◌, ◌≤◌, ◌<◌}
+use Prim.Native.Nat.{ℕ, zero, suc, ◌+◌, ◌*◌, ◌≤◌, ◌<◌}
 use mathlib.Core.List.{List, [], ◌∷◌, map}
 use mathlib.Core.Option.{some}
 use mathlib.Core.Path.{◌≡◌, refl, sym, ap, subst, ◌∙◌}
@@ -7,6 +7,7 @@ use native.Mathlib.Numerals.{add-one}
 use native.Mathlib.Omega.{arith}
 use lib.ListN.{length, get_elem?, set}
 use lib.Seq.{sets}
+use Rattle.std.specs.Prelude.{Ok, Err}
 use Rattle.ol_spec.specs.Syntax.{Equation, Node}
 use Rattle.ol_spec.specs.Places.{placed, section_size, variable_size, equation_size, equations_start, placed_equations, rhs_place}
 use Rattle.ol_spec.specs.Read.{Read, got, fault, Reader, many, count_r, coded, node_kinds, name_r, section_r, variable_r, equation_r, expr_r, node_r}
@@ -14,35 +15,32 @@ use Rattle.ol_spec.specs.Answers.{fault_at}
 use Rattle.ol_spec.specs.declared.Fault.{Fault}
 use Rattle.ol_spec.specs.declared.Limits.{Limits}
 use Rattle.ol_spec.proofs.Offsets.{steps, same_end, same_item}
-use Rattle.ol_ir.specs.Nexts.{next_of, counted_of}
+use Rattle.ol_ir.specs.Nexts.{Next, counted_at, next_of, counted_of}
 use Rattle.ol_ir.specs.Nodes.{interface_r}
 use Rattle.ol_ir.specs.Walks.{place_of, on_places, places_of}
-use Rattle.ol_ir.specs.declared.Next.{Next}
-use Rattle.ol_ir.specs.declared.Next.TheVariants as Nxt
-use Rattle.ol_ir.specs.declared.Counted.TheVariants as Cnt
-use Rattle.ol_ir.proofs.Bytes.{counted_is}
+use Rattle.ol_ir.proofs.Bytes.{same_count, same_place, counted_is}
 use Rattle.ol_ir.proofs.Sizes.{Takes, takes_count, takes_coded, takes_section, takes_names, takes_variable, takes_equation}
 use Rattle.ol_ir.proofs.Trees.{then_got}
 use Rattle.ol_ir.proofs.Files.{many_long}
 
 -- ---- from what the code answers back to what was read
 
-pub from_next : {A : Type 0} (r : Read A) (q : ℕ) → next_of r ≡ Nxt.At q → (a : A) × (r ≡ got a q)
+pub from_next : {A : Type 0} (r : Read A) (q : ℕ) → next_of r ≡ Ok q → (a : A) × (r ≡ got a q)
 unfolding next_of
 from_next (got a p) q e = let z : p ≡ q = cc in (a, ap (got a) z)
 from_next (fault n p) q e = let z : ◌≡◌ {A = ℕ} 0 1 = cc in absurd (omega arith)
 
-pub from_halt : {A : Type 0} (r : Read A) (f : Fault) → next_of r ≡ Nxt.Refused f → r ≡ fault f.number f.place
+pub from_halt : {A : Type 0} (r : Read A) (f : Fault) → next_of r ≡ Err f → r ≡ fault f.number f.place
 unfolding next_of
 from_halt (got a p) f e = let z : ◌≡◌ {A = ℕ} 0 1 = cc in absurd (omega arith)
 from_halt (fault n p) f e = let z : fault_at n p ≡ f = cc in ap (λ (v : Fault). fault v.number v.place) z
 
-pub from_items : (r : Read ℕ) (n q : ℕ) → counted_of r ≡ Cnt.Items n q → r ≡ got n q
+pub from_items : (r : Read ℕ) (n q : ℕ) → counted_of r ≡ Ok (counted_at n q) → r ≡ got n q
 unfolding counted_of
-from_items (got a p) n q e = let y : a ≡ n = cc in let z : p ≡ q = cc in rw (y, z) refl
+from_items (got a p) n q e = let y : a ≡ n = same_count e in let z : p ≡ q = same_place e in rw (y, z) refl
 from_items (fault a p) n q e = let z : ◌≡◌ {A = ℕ} 0 1 = cc in absurd (omega arith)
 
-pub from_no_items : (r : Read ℕ) (f : Fault) → counted_of r ≡ Cnt.Refused f → r ≡ fault f.number f.place
+pub from_no_items : (r : Read ℕ) (f : Fault) → counted_of r ≡ Err f → r ≡ fault f.number f.place
 unfolding counted_of
 from_no_items (got a p) f e = let z : ◌≡◌ {A = ℕ} 0 1 = cc in absurd (omega arith)
 from_no_items (fault n p) f e = let z : fault_at n p ≡ f = cc in ap (λ (v : Fault). fault v.number v.place) z
@@ -50,12 +48,12 @@ from_no_items (fault n p) f e = let z : fault_at n p ≡ f = cc in ap (λ (v : F
 -- ---- tables of places
 
 module _ {A : Type 0} (r : Reader A) where
-  places_at : (left at p : ℕ) → 0 < left → next_of (r at) ≡ Nxt.At p → places_of left r at ≡ at ∷ places_of (left - 1) r p
+  places_at : (left m at p : ℕ) → left ≡ m + 1 → next_of (r at) ≡ Ok p → places_of left r at ≡ at ∷ places_of m r p
   unfolding places_of on_places
-  places_at zero at p h e = absurd (omega arith)
-  places_at (suc n) at p h e = let one : suc n - 1 ≡ n = omega arith in let w = from_next (r at) p e in rw (one, w.1) refl
+  places_at zero m at p h e = absurd (omega arith)
+  places_at (suc n) m at p h e = let one : m ≡ n = omega arith in let w = from_next (r at) p e in rw (one, w.1) refl
 
-  places_halt : (left at : ℕ) (f : Fault) → 0 < left → next_of (r at) ≡ Nxt.Refused f → places_of left r at ≡ at ∷ []
+  places_halt : (left at : ℕ) (f : Fault) → 0 < left → next_of (r at) ≡ Err f → places_of left r at ≡ at ∷ []
   unfolding places_of on_places
   places_halt zero at f h e = absurd (omega arith)
   places_halt (suc n) at f h e = rw (from_halt (r at) f e) refl
@@ -70,12 +68,12 @@ pub record Puts {A : Type 0} (r : Reader A) (w : List ℕ) (i left at : ℕ) (ta
   pub is : w ≡ sets table i (places_of left r at)
 
 -- the next place is put, and the item answers x
-module _ {A : Type 0} {r : Reader A} {w table t : List ℕ} {i left at : ℕ} {x : Next} (p : Puts r w i left at table) (u : 0 < left) (e : x ≡ next_of (r at)) (k : t ≡ set table i at) where
-  pub put_turn : {q : ℕ} → x ≡ Nxt.At q → Puts r w (i + 1) (left - 1) q t
-  put_turn {q} g = record { is = p.is ∙ ap (λ l. sets table i l) (places_at r left at q u (sym e ∙ g)) ∙ rw (add-one, k) refl }
+module _ {A : Type 0} {r : Reader A} {w table t : List ℕ} {i left at : ℕ} {x : Next} (p : Puts r w i left at table) where
+  pub put_turn : {m q : ℕ} → left ≡ m + 1 → x ≡ next_of (r at) → t ≡ set table i at → x ≡ Ok q → Puts r w (i + 1) m q t
+  put_turn {m} {q} u e k g = record { is = p.is ∙ ap (λ l. sets table i l) (places_at r left m at q u (sym e ∙ g)) ∙ rw (add-one, k) refl }
 
-  pub put_halt : {f : Fault} → x ≡ Nxt.Refused f → t ≡ w
-  put_halt {f} g = k ∙ sym (p.is ∙ ap (λ l. sets table i l) (places_halt r left at f u (sym e ∙ g)))
+  pub put_halt : {f : Fault} → 0 < left → x ≡ next_of (r at) → t ≡ set table i at → x ≡ Err f → t ≡ w
+  put_halt {f} u e k g = k ∙ sym (p.is ∙ ap (λ l. sets table i l) (places_halt r left at f u (sym e ∙ g)))
 
 pub put_end : {A : Type 0} {r : Reader A} {w table : List ℕ} {i left at : ℕ} → Puts r w i left at table → left ≤ 0 → table ≡ w
 put_end {r = r} {w} {table} {i} {left} {at} p h = sym (p.is ∙ ap (λ l. sets table i l) (places_none r left at h))
@@ -136,7 +134,7 @@ section_at s lo hi r at xs n e =
 
 module _ (s : List ℕ) (l : Limits) (enums : ℕ) where
   pub record NodeAt (at : ℕ) (n : Node) (end : ℕ) : Type 0 where
-    pub front : next_of (interface_r s l enums at) ≡ Nxt.At (equations_start at n)
+    pub front : next_of (interface_r s l enums at) ≡ Ok (equations_start at n)
     pub equations : section_r s 0 l.equations (equation_r s l enums) (equations_start at n) ≡ got n.equations end
 
   pub node_at_lem : (at : ℕ) (n : Node) (end : ℕ) → node_r s l enums at ≡ got n end → NodeAt at n end
@@ -156,7 +154,7 @@ module _ (s : List ℕ) (l : Limits) (enums : ℕ) where
         front =
             ap next_of (then_got (coded s node_kinds at) _ k.first ∙ then_got (section_r s 0 l.inputs (variable_r s l enums) k.at) _ i.first
             ∙ then_got (section_r s 1 l.outputs (variable_r s l enums) i.at) _ o.first ∙ then_got (section_r s 0 l.locals (variable_r s l enums) o.at) _ c.first)
-            ∙ ap Nxt.At p;
+            ∙ ap Ok p;
         equations = subst (λ m. section_r s 0 l.equations (equation_r s l enums) m ≡ got q.value end) p (q.first ∙ ap (got q.value) (same_end q.rest));
       })
 

@@ -9,6 +9,7 @@ use lib.ListN.{length, get_or, get_elem?}
 use lib.Seq.{sets}
 use lib.Dec.{ltb}
 use borrow.Author.Tests.{lt-ltb, le-ltb, eq-eqb, ne_eqb}
+use Rattle.std.specs.Prelude.{Ok, Err}
 use Rattle.ol_spec.specs.Syntax.{Node, Constant, File}
 use Rattle.ol_spec.specs.Places.{placed, enum_size, constant_size, node_size, placed_nodes, nodes_start}
 use Rattle.ol_spec.specs.Limits.{base}
@@ -17,18 +18,13 @@ use Rattle.ol_spec.specs.Answers.{fault_at}
 use Rattle.ol_spec.specs.declared.Fault.{Fault}
 use Rattle.ol_spec.specs.declared.Limits.{Limits}
 use Rattle.ol_spec.proofs.Offsets.{steps, same_end, same_item}
-use Rattle.ol_ir.specs.Nexts.{next_of, counted_of, list_of, after_format}
-use Rattle.ol_ir.specs.Walks.{place_of, loaded_of, nodes_of, last_nodes, places_of, after_read, node_places, file_places, load_places}
-use Rattle.ol_ir.specs.declared.Next.{Next}
-use Rattle.ol_ir.specs.declared.Next.TheVariants as Nxt
-use Rattle.ol_ir.specs.declared.Counted.{Counted}
-use Rattle.ol_ir.specs.declared.Counted.TheVariants as Cnt
-use Rattle.ol_ir.specs.declared.Loaded.{Loaded}
-use Rattle.ol_ir.specs.declared.Loaded.TheVariants as Ldd
+use Rattle.ol_ir.specs.Nexts.{Counting, Next, counted_at, next_of, counted_of, list_of, after_format}
+use Rattle.ol_ir.specs.Walks.{Loading, loaded_with, place_of, loaded_of, nodes_of, last_nodes, places_of, after_read, node_places, file_places, load_places}
 use Rattle.ol_ir.proofs.Sizes.{takes_section, takes_constant, takes_node, takes_enum}
 use Rattle.ol_ir.proofs.Trees.{then_got, then_fault}
 use Rattle.ol_ir.proofs.Files.{many_long}
 use Rattle.ol_ir.proofs.Items.{within, from_next, from_halt, from_items, from_no_items, places_placed, placed_read, section_at}
+use Rattle.ol_ir.proofs.Bytes.{same_count, same_place}
 
 -- ---- the nodes, to the end of the file
 
@@ -47,29 +43,29 @@ module _ (s : List ℕ) where
     nodes_from = section_r s 1 l.nodes (node_r s l enums) at
 
     -- a byte more, the end, or a fault
-    pub last_more : {ns : List Node} {q : ℕ} → nodes_from ≡ got ns q → q < length s → Ldd.Refused (fault_at 2 q) ≡ nodes_of enums (last_nodes s l enums at)
+    pub last_more : {ns : List Node} {q : ℕ} → nodes_from ≡ got ns q → q < length s → Err (fault_at 2 q) ≡ nodes_of enums (last_nodes s l enums at)
     unfolding last_nodes nodes_of then_read
     last_more {ns} {q} e h = sym (rw (then_got nodes_from (at_end s) e, lt-ltb q (length s) h) refl)
 
-    pub last_done : {ns : List Node} {q k : ℕ} → nodes_from ≡ got ns q → length s ≤ q → length ns ≡ k → Ldd.Nodes enums k ≡ nodes_of enums (last_nodes s l enums at)
+    pub last_done : {ns : List Node} {q k : ℕ} → nodes_from ≡ got ns q → length s ≤ q → length ns ≡ k → Ok (loaded_with enums k) ≡ nodes_of enums (last_nodes s l enums at)
     unfolding last_nodes nodes_of then_read
-    last_done {ns} {q} e h c = sym (rw (then_got nodes_from (at_end s) e, le-ltb q (length s) h) (ap (Ldd.Nodes enums) c))
+    last_done {ns} {q} e h c = sym (rw (then_got nodes_from (at_end s) e, le-ltb q (length s) h) (ap (λ k. Ok (loaded_with enums k)) c))
 
-    pub last_fault : {a b : ℕ} → nodes_from ≡ fault a b → Ldd.Refused (fault_at a b) ≡ nodes_of enums (last_nodes s l enums at)
+    pub last_fault : {a b : ℕ} → nodes_from ≡ fault a b → Err (fault_at a b) ≡ nodes_of enums (last_nodes s l enums at)
     unfolding last_nodes nodes_of then_read
     last_fault e = sym (ap (λ x. nodes_of enums (then_read x (at_end s))) e)
 
     -- the section of the nodes, by what its count and its items answer
-    module _ {x : Counted} {n p : ℕ} (e : x ≡ counted_of (count_r s 1 l.nodes at)) (g : x ≡ Cnt.Items n p) where
+    module _ {x : Counting} {n p : ℕ} (e : x ≡ counted_of (count_r s 1 l.nodes at)) (g : x ≡ Ok (counted_at n p)) where
       counted_nodes : count_r s 1 l.nodes at ≡ got n p
       counted_nodes = from_items (count_r s 1 l.nodes at) n p (sym e ∙ g)
 
-      pub nodes_read_lem : {y : Next} {q : ℕ} → y ≡ next_of (many n (node_r s l enums) p) → y ≡ Nxt.At q → (ns : List Node) × (nodes_from ≡ got ns q) × (length ns ≡ n)
+      pub nodes_read_lem : {y : Next} {q : ℕ} → y ≡ next_of (many n (node_r s l enums) p) → y ≡ Ok q → (ns : List Node) × (nodes_from ≡ got ns q) × (length ns ≡ n)
       nodes_read_lem {y} {q} i j =
           let w = from_next (many n (node_r s l enums) p) q (sym i ∙ j) in
           (w.0, then_got (count_r s 1 l.nodes at) _ counted_nodes ∙ w.1, many_long (node_r s l enums) n p w.0 q w.1)
 
-      pub nodes_fault : {y : Next} {f : Fault} → y ≡ next_of (many n (node_r s l enums) p) → y ≡ Nxt.Refused f → nodes_from ≡ fault f.number f.place
+      pub nodes_fault : {y : Next} {f : Fault} → y ≡ next_of (many n (node_r s l enums) p) → y ≡ Err f → nodes_from ≡ fault f.number f.place
       nodes_fault {y} {f} i j = then_got (count_r s 1 l.nodes at) _ counted_nodes ∙ from_halt (many n (node_r s l enums) p) f (sym i ∙ j)
 
       -- the table of places
@@ -86,27 +82,27 @@ module _ (s : List ℕ) where
       unfolding node_places after_read
       all_placed = sym (ap (λ r. after_read r (λ m q. places_of m (node_r s l enums) q)) counted_nodes)
 
-    pub none_placed : {x : Counted} {f : Fault} → x ≡ counted_of (count_r s 1 l.nodes at) → x ≡ Cnt.Refused f → [] ≡ node_places s l enums at
+    pub none_placed : {x : Counting} {f : Fault} → x ≡ counted_of (count_r s 1 l.nodes at) → x ≡ Err f → [] ≡ node_places s l enums at
     unfolding node_places after_read
     none_placed {f = f} e g = sym (ap (λ r. after_read r (λ m q. places_of m (node_r s l enums) q)) (from_no_items (count_r s 1 l.nodes at) f (sym e ∙ g)))
 
-    pub no_nodes : {x : Counted} {f : Fault} → x ≡ counted_of (count_r s 1 l.nodes at) → x ≡ Cnt.Refused f → nodes_from ≡ fault f.number f.place
+    pub no_nodes : {x : Counting} {f : Fault} → x ≡ counted_of (count_r s 1 l.nodes at) → x ≡ Err f → nodes_from ≡ fault f.number f.place
     unfolding then_read
     no_nodes {f = f} e g = ap (λ (v : Read ℕ). then_read v (λ n. many n (node_r s l enums))) (from_no_items (count_r s 1 l.nodes at) f (sym e ∙ g))
 
     -- a refusal was no reading
-    pub not_nodes : {f : Fault} {t : Type 0} (ns : List Node) (end : ℕ) → Ldd.Refused f ≡ nodes_of enums (last_nodes s l enums at) → last_nodes s l enums at ≡ got ns end → t
+    pub not_nodes : {f : Fault} {t : Type 0} (ns : List Node) (end : ℕ) → Err f ≡ nodes_of enums (last_nodes s l enums at) → last_nodes s l enums at ≡ got ns end → t
     unfolding nodes_of
-    not_nodes {f} ns end e g = let h : Ldd.Refused f ≡ Ldd.Nodes enums (length ns) = e ∙ ap (nodes_of enums) g in let z : ◌≡◌ {A = ℕ} 0 1 = cc in absurd (omega arith)
+    not_nodes {f} ns end e g = let h : Err f ≡ Ok (loaded_with enums (length ns)) = e ∙ ap (nodes_of enums) g in let z : ◌≡◌ {A = ℕ} 0 1 = cc in absurd (omega arith)
 
 -- ---- the whole file
 
-from_list : {A : Type 0} (r : Read (List A)) (n q : ℕ) → list_of r ≡ Cnt.Items n q → (xs : List A) × (r ≡ got xs q) × (length xs ≡ n)
+from_list : {A : Type 0} (r : Read (List A)) (n q : ℕ) → list_of r ≡ Ok (counted_at n q) → (xs : List A) × (r ≡ got xs q) × (length xs ≡ n)
 unfolding list_of
-from_list (got xs p) n q e = let y : length xs ≡ n = cc in let z : p ≡ q = cc in (xs, ap (got xs) z, y)
+from_list (got xs p) n q e = let y : length xs ≡ n = same_count e in let z : p ≡ q = same_place e in (xs, ap (got xs) z, y)
 from_list (fault a p) n q e = let z : ◌≡◌ {A = ℕ} 0 1 = cc in absurd (omega arith)
 
-from_no_list : {A : Type 0} (r : Read (List A)) (f : Fault) → list_of r ≡ Cnt.Refused f → r ≡ fault f.number f.place
+from_no_list : {A : Type 0} (r : Read (List A)) (f : Fault) → list_of r ≡ Err f → r ≡ fault f.number f.place
 unfolding list_of
 from_no_list (got a p) f e = let z : ◌≡◌ {A = ℕ} 0 1 = cc in absurd (omega arith)
 from_no_list (fault n p) f e = let z : fault_at n p ≡ f = cc in ap (λ (v : Fault). fault v.number v.place) z
@@ -143,12 +139,12 @@ module _ (s : List ℕ) where
       sections : sections_r s (get_or s 0 0) l 1 ≡ then_read (section_r s 1 l.nodes (node_r s l n) q) (λ ns. give (file_of enums constants ns))
       start : (ns : List Node) → nodes_start (file_of enums constants ns) ≡ q + 1
 
-    module _ {x : Counted} {n p : ℕ} (e : x ≡ list_of (section_r s 0 l.enums (enum_r s l) 1)) (g : x ≡ Cnt.Items n p) where
+    module _ {x : Counting} {n p : ℕ} (e : x ≡ list_of (section_r s 0 l.enums (enum_r s l) 1)) (g : x ≡ Ok (counted_at n p)) where
       enums_read_lem : (es : List (List ℕ)) × (section_r s 0 l.enums (enum_r s l) 1 ≡ got es p) × (length es ≡ n)
       enums_read_lem = from_list (section_r s 0 l.enums (enum_r s l) 1) n p (sym e ∙ g)
 
       module _ {y : Next} (i : y ≡ next_of (section_r s 0 l.constants (constant_r s l n) p)) where
-        front : {q : ℕ} → y ≡ Nxt.At q → Front n q
+        front : {q : ℕ} → y ≡ Ok q → Front n q
         front {q} j =
             let a = enums_read_lem in
             let b = from_next (section_r s 0 l.constants (constant_r s l n) p) q (sym i ∙ j) in
@@ -166,13 +162,13 @@ module _ (s : List ℕ) where
             }
 
         -- the nodes decide
-        pub load_is : {z : Loaded} {q : ℕ} → y ≡ Nxt.At q → z ≡ nodes_of n (last_nodes s l n q) → z ≡ loaded_of (after_format s l)
+        pub load_is : {z : Loading} {q : ℕ} → y ≡ Ok q → z ≡ nodes_of n (last_nodes s l n q) → z ≡ loaded_of (after_format s l)
         unfolding after_format last_nodes
         load_is {z} {q} j h =
             let f = front j in
             h ∙ sym (ap (λ r. loaded_of (then_read r (at_end s))) f.sections ∙ (load_same f.enums f.constants (section_r s 1 l.nodes (node_r s l n) q) ∙ ap (λ m. nodes_of m (then_read (section_r s 1 l.nodes (node_r s l n) q) (at_end s))) f.long))
 
-        pub load_table : {t w : List ℕ} {q : ℕ} → y ≡ Nxt.At q → ((ns : List Node) (end : ℕ) → last_nodes s l n q ≡ got ns end → t ≡ sets w 0 (map place_of (placed node_size (q + 1) ns))) → (f : File) (end : ℕ) → after_format s l ≡ got f end → t ≡ sets w 0 (map place_of (placed_nodes f))
+        pub load_table : {t w : List ℕ} {q : ℕ} → y ≡ Ok q → ((ns : List Node) (end : ℕ) → last_nodes s l n q ≡ got ns end → t ≡ sets w 0 (map place_of (placed node_size (q + 1) ns))) → (f : File) (end : ℕ) → after_format s l ≡ got f end → t ≡ sets w 0 (map place_of (placed_nodes f))
         unfolding after_format last_nodes
         load_table {t} {w} {q} j h f end r =
             let d = front j in
@@ -186,15 +182,15 @@ module _ (s : List ℕ) where
             ap (λ v. after_read v (λ es p. after_read (section_r s 0 l.constants (constant_r s l (length es)) p) (λ cs q. node_places s l (length es) q))) a.1
             ∙ (ap (λ m. after_read (section_r s 0 l.constants (constant_r s l m) p) (λ cs q. node_places s l m q)) a.2 ∙ ap (λ v. after_read v (λ cs q. node_places s l n q)) h)
 
-        pub load_places_lem : {q : ℕ} → y ≡ Nxt.At q → node_places s l n q ≡ file_places s l
+        pub load_places_lem : {q : ℕ} → y ≡ Ok q → node_places s l n q ≡ file_places s l
         unfolding after_read
         load_places_lem {q} j = let b = from_next (section_r s 0 l.constants (constant_r s l n) p) q (sym i ∙ j) in sym (places_here (got b.0 q) b.1)
 
-        pub fault_places : {f : Fault} → y ≡ Nxt.Refused f → [] ≡ file_places s l
+        pub fault_places : {f : Fault} → y ≡ Err f → [] ≡ file_places s l
         unfolding after_read
         fault_places {f} j = sym (places_here (fault f.number f.place) (from_halt (section_r s 0 l.constants (constant_r s l n) p) f (sym i ∙ j)))
 
-        pub load_fault_lem : {f : Fault} → y ≡ Nxt.Refused f → Ldd.Refused f ≡ loaded_of (after_format s l)
+        pub load_fault_lem : {f : Fault} → y ≡ Err f → Err f ≡ loaded_of (after_format s l)
         unfolding after_format loaded_of
         load_fault_lem {f} j =
             let a = enums_read_lem in
@@ -202,20 +198,20 @@ module _ (s : List ℕ) where
             let c : section_r s 0 l.constants (constant_r s l (length a.0)) p ≡ fault f.number f.place = subst (λ m. section_r s 0 l.constants (constant_r s l m) p ≡ fault f.number f.place) (sym a.2) b in
             sym (ap loaded_of (then_fault (sections_r s (get_or s 0 0) l 1) _ (then_got (section_r s 0 l.enums (enum_r s l) 1) _ a.1 ∙ then_fault (section_r s 0 l.constants (constant_r s l (length a.0)) p) _ c)))
 
-    pub none_places : {x : Counted} {f : Fault} → x ≡ list_of (section_r s 0 l.enums (enum_r s l) 1) → x ≡ Cnt.Refused f → [] ≡ file_places s l
+    pub none_places : {x : Counting} {f : Fault} → x ≡ list_of (section_r s 0 l.enums (enum_r s l) 1) → x ≡ Err f → [] ≡ file_places s l
     unfolding file_places after_read
     none_places {f = f} e g =
         sym (ap (λ v. after_read v (λ es p. after_read (section_r s 0 l.constants (constant_r s l (length es)) p) (λ cs q. node_places s l (length es) q))) (from_no_list (section_r s 0 l.enums (enum_r s l) 1) f (sym e ∙ g)))
 
-    pub load_none : {x : Counted} {f : Fault} → x ≡ list_of (section_r s 0 l.enums (enum_r s l) 1) → x ≡ Cnt.Refused f → Ldd.Refused f ≡ loaded_of (after_format s l)
+    pub load_none : {x : Counting} {f : Fault} → x ≡ list_of (section_r s 0 l.enums (enum_r s l) 1) → x ≡ Err f → Err f ≡ loaded_of (after_format s l)
     unfolding after_format loaded_of
     load_none {f = f} e g =
         sym (ap loaded_of (then_fault (sections_r s (get_or s 0 0) l 1) _ (then_fault (section_r s 0 l.enums (enum_r s l) 1) _ (from_no_list (section_r s 0 l.enums (enum_r s l) 1) f (sym e ∙ g)))))
 
   -- a refusal was no reading
-  pub not_loaded : {f : Fault} {t : Type 0} {r : Read File} (g : File) (end : ℕ) → Ldd.Refused f ≡ loaded_of r → r ≡ got g end → t
+  pub not_loaded : {f : Fault} {t : Type 0} {r : Read File} (g : File) (end : ℕ) → Err f ≡ loaded_of r → r ≡ got g end → t
   unfolding loaded_of
-  not_loaded {f} g end e h = let i : Ldd.Refused f ≡ Ldd.Nodes (length g.enums) (length g.nodes) = e ∙ ap loaded_of h in let z : ◌≡◌ {A = ℕ} 0 1 = cc in absurd (omega arith)
+  not_loaded {f} g end e h = let i : Err f ≡ Ok (loaded_with (length g.enums) (length g.nodes)) = e ∙ ap loaded_of h in let z : ◌≡◌ {A = ℕ} 0 1 = cc in absurd (omega arith)
 
 -- ---- the places of a file's nodes, by its first byte
 

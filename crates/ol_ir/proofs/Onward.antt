@@ -1,31 +1,28 @@
 -- Reading goes on by places alone: what a chain of readers answers, by what each answers.
-use Prim.Native.Nat.{ℕ, zero, suc, ◌-◌, ◌≤◌, ◌<◌}
+use Prim.Native.Nat.{ℕ, zero, suc, ◌+◌, ◌≤◌, ◌<◌}
 use mathlib.Core.List.{List}
 use mathlib.Core.Path.{◌≡◌, refl, sym, ap, ◌∙◌}
 use native.Mathlib.Omega.{arith}
-use lib.ListN.{length}
+use Rattle.std.specs.Prelude.{Result, Ok, Err, IsErrAnd}
+use Rattle.std.proofs.lemmas.Result.{err_from_is_err_and}
 use Rattle.ol_spec.specs.Syntax.{Expr}
-use Rattle.ol_spec.specs.Read.{Read, got, fault, Reader, then_read, many, many_exprs}
+use Rattle.ol_spec.specs.Read.{Read, got, fault, Reader, then_read, many, many_exprs, count_r, section_r}
 use Rattle.ol_spec.specs.declared.Fault.{Fault}
-use Rattle.ol_ir.specs.Nexts.{next_of, counted_of, list_of}
-use Rattle.ol_ir.specs.declared.Next.{Next}
-use Rattle.ol_ir.specs.declared.Next.TheVariants as Nxt
-use Rattle.ol_ir.specs.declared.Counted.{Counted}
-use Rattle.ol_ir.specs.declared.Counted.TheVariants as Cnt
+use Rattle.ol_ir.specs.Nexts.{Counting, Next, counted_at, next_of, counted_of, onward, repeat, section_by}
 
 -- what follows from where reading goes on
-unfoldable pub onward : Next → (ℕ → Next) → Next
-onward (Nxt.At p) k = k p
-onward (Nxt.Refused f) k = Nxt.Refused f
+unfoldable pub on_items : Counting → (ℕ → ℕ → Next) → Next
+on_items (Ok c) k = k c.count c.at
+on_items (Err f) k = Err f
 
-unfoldable pub on_items : Counted → (ℕ → ℕ → Next) → Next
-on_items (Cnt.Items n p) k = k n p
-on_items (Cnt.Refused f) k = Nxt.Refused f
+-- so many items, the first where reading goes on
+unfoldable pub parts_of : ℕ → Next → Counting
+parts_of n (Ok p) = Ok (counted_at n p)
+parts_of n (Err f) = Err f
 
--- so many, one after the other
-unfoldable pub repeat : ℕ → (ℕ → Next) → ℕ → Next
-repeat zero f at = Nxt.At at
-repeat (suc n) f at = onward (f at) (repeat n f)
+-- what the exit of a `?` returns
+pub erred : {T : Type 0} (r : Result T Fault) (f : Fault) → IsErrAnd r (λ e. e ≡ f) → r ≡ Err f
+erred r f h = let p = err_from_is_err_and r h in p.1 ∙ ap Err p.2
 
 -- ---- chains
 
@@ -47,22 +44,17 @@ module _ {B : Type 0} where
   counted_then (got a n) k f h = h a n
   counted_then (fault n p) k f h = refl
 
-  pub list_then : {A : Type 0} (r : Read (List A)) (k : List A → Reader B) (f : ℕ → ℕ → Next) → ((xs : List A) (n : ℕ) → next_of (k xs n) ≡ f (length xs) n) → next_of (then_read r k) ≡ on_items (list_of r) f
-  unfolding next_of list_of then_read on_items
-  list_then (got a n) k f h = h a n
-  list_then (fault n p) k f h = refl
-
-pub onward_at : (x : Next) → onward x Nxt.At ≡ x
+pub onward_at : (x : Next) → onward x Ok ≡ x
 unfolding onward
-onward_at (Nxt.At p) = refl
-onward_at (Nxt.Refused f) = refl
+onward_at (Ok p) = refl
+onward_at (Err f) = refl
 
 -- ---- w is a chain: y, and what follows from where y goes on
 
 pub record Chain (w y : Next) (k : ℕ → Next) : Type 0 where
   pub is : w ≡ onward y k
 
-pub record ItemChain (w : Next) (y : Counted) (k : ℕ → ℕ → Next) : Type 0 where
+pub record ItemChain (w : Next) (y : Counting) (k : ℕ → ℕ → Next) : Type 0 where
   pub is : w ≡ on_items y k
 
 pub link : {y : Next} {k : ℕ → Next} → Chain (onward y k) y k
@@ -71,22 +63,22 @@ link = record { is = refl }
 -- a callee answered x, which stands for y: how the chain goes on
 
 module _ {x y w : Next} {k : ℕ → Next} where
-  pub arrive : {z : Next} {p : ℕ} → Chain w y k → x ≡ y → x ≡ Nxt.At p → z ≡ k p → z ≡ w
+  pub arrive : {z : Next} {p : ℕ} → Chain w y k → x ≡ y → x ≡ Ok p → z ≡ k p → z ≡ w
   unfolding onward
   arrive law e g h = h ∙ sym (law.is ∙ ap (λ (v : Next). onward v k) (sym e ∙ g))
 
-  pub halt : {f : Fault} → Chain w y k → x ≡ y → x ≡ Nxt.Refused f → Nxt.Refused f ≡ w
+  pub halt : {f : Fault} → Chain w y k → x ≡ y → x ≡ Err f → Err f ≡ w
   unfolding onward
   halt law e g = sym (law.is ∙ ap (λ (v : Next). onward v k) (sym e ∙ g))
 
-module _ {x y : Counted} {w : Next} {k : ℕ → ℕ → Next} where
-  pub items : {z : Next} {n p : ℕ} → ItemChain w y k → x ≡ y → x ≡ Cnt.Items n p → z ≡ k n p → z ≡ w
+module _ {x y : Counting} {w : Next} {k : ℕ → ℕ → Next} where
+  pub items : {z : Next} {n p : ℕ} → ItemChain w y k → x ≡ y → x ≡ Ok (counted_at n p) → z ≡ k n p → z ≡ w
   unfolding on_items
-  items law e g h = h ∙ sym (law.is ∙ ap (λ (v : Counted). on_items v k) (sym e ∙ g))
+  items law e g h = h ∙ sym (law.is ∙ ap (λ (v : Counting). on_items v k) (sym e ∙ g))
 
-  pub no_items : {f : Fault} → ItemChain w y k → x ≡ y → x ≡ Cnt.Refused f → Nxt.Refused f ≡ w
+  pub no_items : {f : Fault} → ItemChain w y k → x ≡ y → x ≡ Err f → Err f ≡ w
   unfolding on_items
-  no_items law e g = sym (law.is ∙ ap (λ (v : Counted). on_items v k) (sym e ∙ g))
+  no_items law e g = sym (law.is ∙ ap (λ (v : Counting). on_items v k) (sym e ∙ g))
 
 -- ---- loops
 
@@ -103,17 +95,17 @@ module _ (r : Reader Expr) where
   exprs_next (suc n) at = next_then (r at) _ _ (λ a m. next_give (many_exprs n r m) _ ∙ exprs_next n m)
 
 module _ (f : ℕ → Next) (at : ℕ) where
-  repeat_at : (n p : ℕ) → 0 < n → f at ≡ Nxt.At p → repeat n f at ≡ repeat (n - 1) f p
+  repeat_at : (n m p : ℕ) → n ≡ m + 1 → f at ≡ Ok p → repeat n f at ≡ repeat m f p
   unfolding repeat onward
-  repeat_at zero p h e = absurd (omega arith)
-  repeat_at (suc n) p h e = let one : suc n - 1 ≡ n = omega arith in rw (one, e) refl
+  repeat_at zero m p h e = absurd (omega arith)
+  repeat_at (suc n) m p h e = let one : n ≡ m = omega arith in rw (e, one) refl
 
-  repeat_halt : (n : ℕ) (g : Fault) → 0 < n → f at ≡ Nxt.Refused g → repeat n f at ≡ Nxt.Refused g
+  repeat_halt : (n : ℕ) (g : Fault) → 0 < n → f at ≡ Err g → repeat n f at ≡ Err g
   unfolding repeat onward
   repeat_halt zero g h e = absurd (omega arith)
   repeat_halt (suc n) g h e = rw e refl
 
-  repeat_none : (n : ℕ) → n ≤ 0 → repeat n f at ≡ Nxt.At at
+  repeat_none : (n : ℕ) → n ≤ 0 → repeat n f at ≡ Ok at
   unfolding repeat
   repeat_none zero h = refl
   repeat_none (suc n) h = absurd (omega arith)
@@ -128,12 +120,32 @@ pub record Turns (w : Next) (left : ℕ) (f : ℕ → Next) (at : ℕ) : Type 0 
 
 -- a loop's turn: the first of the items answered x
 module _ {x w : Next} {f : ℕ → Next} {left at : ℕ} (t : Turns w left f at) where
-  pub turn : {p : ℕ} → 0 < left → x ≡ f at → x ≡ Nxt.At p → Turns w (left - 1) f p
-  turn {p} h e g = record { is = t.is ∙ repeat_at f at left p h (sym e ∙ g) }
+  pub turn : {p m : ℕ} → left ≡ m + 1 → x ≡ f at → x ≡ Ok p → Turns w m f p
+  turn {p} {m} h e g = record { is = t.is ∙ repeat_at f at left m p h (sym e ∙ g) }
 
-  pub turn_halt : {g : Fault} → 0 < left → x ≡ f at → x ≡ Nxt.Refused g → Nxt.Refused g ≡ w
+  pub turn_halt : {g : Fault} → 0 < left → x ≡ f at → x ≡ Err g → Err g ≡ w
   turn_halt {g} h e i = sym (t.is ∙ repeat_halt f at left g h (sym e ∙ i))
 
 -- and its end
-pub turns_end : {w : Next} {f : ℕ → Next} {left at : ℕ} → Turns w left f at → left ≤ 0 → Nxt.At at ≡ w
+pub turns_end : {w : Next} {f : ℕ → Next} {left at : ℕ} → Turns w left f at → left ≤ 0 → Ok at ≡ w
 turns_end {w} {f} {left} {at} t h = sym (t.is ∙ repeat_none f at left h)
+
+-- ---- sections
+
+-- a count's answer, and that of the items behind it
+section_on : (f : ℕ → Next) (r : Read ℕ) → section_by f r ≡ on_items (counted_of r) (λ n p. repeat n f p)
+unfolding section_by counted_of on_items
+section_on f (got n p) = refl
+section_on f (fault n p) = refl
+
+pub counted_chain : (f : ℕ → Next) (r : Read ℕ) → ItemChain (section_by f r) (counted_of r) (λ n p. repeat n f p)
+counted_chain f r = record { is = section_on f r }
+
+-- a section of items is a count, and so many
+section_then : {A : Type 0} (r : Reader A) (c : Read ℕ) → section_by (λ p. next_of (r p)) c ≡ next_of (then_read c (λ n. many n r))
+unfolding section_by then_read next_of
+section_then r (got n p) = sym (many_next r n p)
+section_then r (fault n p) = refl
+
+pub section_next : {A : Type 0} (s : List ℕ) (lo hi : ℕ) (r : Reader A) (at : ℕ) → section_by (λ p. next_of (r p)) (count_r s lo hi at) ≡ next_of (section_r s lo hi r at)
+section_next s lo hi r at = section_then r (count_r s lo hi at)

@@ -9,6 +9,7 @@ use native.Mathlib.Decide.{dec_le, ℕ_discrete}
 use native.Mathlib.Omega.{arith}
 use borrow.Author.Tests.{lt-ltb, le-ltb, eq-eqb, ne_eqb}
 use lib.ListN.{length, get_or, get_elem?}
+use Rattle.std.specs.Prelude.{Ok, Err}
 use Rattle.ol_spec.specs.Syntax.{Expr, bool_lit, int_lit, float_lit, char_lit, var, unary, binary, if_then_else, pre, arrow, cast, call, tuple, count}
 use Rattle.ol_spec.specs.Places.{expr_size}
 use Rattle.ol_spec.specs.Read.{got, then_read, byte, number, name_r, coded, expr_codes, ExprCode, expr_body, expr_r, var_code, pre_code}
@@ -19,7 +20,6 @@ use Rattle.ol_ir.specs.Nexts.{next_of}
 use Rattle.ol_tables.specs.Heads.{code_of, head_size, parts_of, name_at, parts_at, next_at}
 use Rattle.ol_tables.specs.Walks.{skip_at}
 use Rattle.ol_ir.specs.Scans.{scan_of, scan_inside, scan_at}
-use Rattle.ol_ir.specs.declared.Next.TheVariants as Nxt
 use Rattle.ol_ir.specs.declared.Scan.TheVariants as Scn
 use Rattle.ol_ir.proofs.Bytes.{byte_in, coded_is}
 use Rattle.ol_ir.proofs.Forms.{number_out}
@@ -40,7 +40,7 @@ module _ (s : List ℕ) (at : ℕ) where
   name_none : length s ≤ at + 1 → (x n : ℕ) → name_r s at ≡ got x n → ⊥
   unfolding next_of
   name_none h x n e =
-      let f : Nxt.Refused (fault_at 2 (length s)) ≡ Nxt.At n = number_out s 2 at (omega arith) (omega arith) ∙ ap next_of e in
+      let f : Err (fault_at 2 (length s)) ≡ Ok n = number_out s 2 at (omega arith) (omega arith) ∙ ap next_of e in
       let z : ◌≡◌ {A = ℕ} 0 1 = cc in omega arith
 
   -- a name that was read is what the bytes say

@@ -9,6 +9,7 @@ use native.Mathlib.Omega.{arith}
 use lib.ListN.{length, get_or, set}
 use lib.Seq.{sets}
 use borrow.Author.Tests.{lt-ltb, eq-eqb, ne_eqb}
+use Rattle.std.specs.Prelude.{Ok, Err}
 use Rattle.ol_spec.specs.Lists.{up_to}
 use Rattle.ol_spec.specs.Syntax.{Expr, bool_lit, int_lit, float_lit, char_lit, var, unary, binary, if_then_else, pre, arrow, cast, call, tuple, Exprs, nil}
 use Rattle.ol_spec.specs.Syntax.{cons, count, Equation, Node}
@@ -26,13 +27,9 @@ use Rattle.ol_tables.specs.Walks.{skip_by, skip_at, sites_by, sites_at}
 use Rattle.ol_tables.proofs.Forms.{reads, reads_in, parted, none_read, own_read}
 use Rattle.ol_tables.proofs.HeadLaws.{head_some}
 use Rattle.ol_tables.proofs.Skipping.{count_size, callees_on, walk_next, walk_none}
-use Rattle.ol_ir.specs.Nexts.{next_of, counted_of}
+use Rattle.ol_ir.specs.Nexts.{Counting, Next, counted_at, next_of, counted_of}
 use Rattle.ol_ir.specs.Nodes.{interface_r, equations_r}
 use Rattle.ol_ir.specs.Walks.{place_of, on_places, places_of, after_read, skip_equation_at, equation_places, start_places}
-use Rattle.ol_ir.specs.declared.Next.{Next}
-use Rattle.ol_ir.specs.declared.Next.TheVariants as Nxt
-use Rattle.ol_ir.specs.declared.Counted.{Counted}
-use Rattle.ol_ir.specs.declared.Counted.TheVariants as Cnt
 use Rattle.ol_ir.proofs.Bytes.{CountIs, counted_is}
 use Rattle.ol_ir.proofs.Forms.{ty_plain, ty_enum, ty_none, ty_end}
 use Rattle.ol_ir.proofs.Heads.{head_is}
@@ -104,9 +101,9 @@ no_more (call k es) = omega arith
 no_more (tuple es) = omega arith
 
 -- where a type ends that was read
-module _ (s : List ℕ) (l : Limits) (enums at p : ℕ) (e : next_of (ty_r s l enums at) ≡ Nxt.At p) where
-  no_type : (f : Fault) → Nxt.Refused f ≡ next_of (ty_r s l enums at) → ⊥
-  no_type f g = let h : Nxt.Refused f ≡ Nxt.At p = g ∙ e in let z : ◌≡◌ {A = ℕ} 0 1 = cc in omega arith
+module _ (s : List ℕ) (l : Limits) (enums at p : ℕ) (e : next_of (ty_r s l enums at) ≡ Ok p) where
+  no_type : (f : Fault) → Err f ≡ next_of (ty_r s l enums at) → ⊥
+  no_type f g = let h : Err f ≡ Ok p = g ∙ e in let z : ◌≡◌ {A = ℕ} 0 1 = cc in omega arith
 
   type_inside : at < length s
   type_inside = by_cases (dec_le (length s) at) (λ gone. absurd (no_type (fault_at 2 (length s)) (ty_end s l enums at gone))) (λ no. omega arith)
@@ -120,7 +117,7 @@ module _ (s : List ℕ) (l : Limits) (enums at p : ℕ) (e : next_of (ty_r s l e
   type_one : (get_or s at 0 ≡ 12 → ⊥) → p ≡ at + 1
   type_one b =
       by_cases (dec_le 12 (get_or s at 0)) (λ h. absurd (no_type (fault_at 3 at) (ty_none s l enums at type_inside (omega arith))))
-      (λ h. let g : Nxt.At (at + 1) ≡ Nxt.At p = ty_plain s l enums at type_inside (omega arith) ∙ e in let z : at + 1 ≡ p = cc in omega arith)
+      (λ h. let g : Ok (at + 1) ≡ Ok p = ty_plain s l enums at type_inside (omega arith) ∙ e in let z : at + 1 ≡ p = cc in omega arith)
 
 -- of an expression that was read its bytes tell how many parts it has, and where they start
 module _ (s : List ℕ) (l : Limits) (enums d at : ℕ) (e : Expr) (n : ℕ) (r : expr_r s l enums d at ≡ got e n) where
@@ -144,7 +141,7 @@ module _ (s : List ℕ) (l : Limits) (enums d at : ℕ) (e : Expr) (n : ℕ) (r 
   told_cast c =
       let x = read in
       let t = steps (ty_r s l enums (at + 1)) _ (count (parts_of e)) (at + head_size e) (sym (head_is s l enums at 10 cast_code x.inside c refl) ∙ x.head) in
-      let q : next_of (ty_r s l enums (at + 1)) ≡ Nxt.At (at + head_size e) = ap next_of t.first ∙ ap Nxt.At (same_end t.rest) in
+      let q : next_of (ty_r s l enums (at + 1)) ≡ Ok (at + head_size e) = ap next_of t.first ∙ ap Ok (same_end t.rest) in
       let size : at + 1 + ty_size_at s (at + 1) ≡ at + head_size e =
       by_cases (ℕ_discrete (get_or s (at + 1) 0) 12) (λ y. rw (eq-eqb (get_or s (at + 1) 0) 12 y) (omega (arith, type_two s l enums (at + 1) (at + head_size e) q y)))
       (λ z. rw (ne_eqb (get_or s (at + 1) 0) 12 z) (omega (arith, type_one s l enums (at + 1) (at + head_size e) q z))) in
@@ -292,11 +289,11 @@ module _ (s : List ℕ) (l : Limits) (enums at : ℕ) (q : Equation) (n : ℕ) (
 
 -- ---- tables of the places of equations
 
-pub places_turn : (s table t w : List ℕ) (i left at q : ℕ) → sets table i (equation_places left s at) ≡ w → 0 < left → q ≡ skip_equation_at s at → t ≡ set table i at → sets t (i + 1) (equation_places (left - 1) s q) ≡ w
+pub places_turn : (s table t w : List ℕ) (i left m at q : ℕ) → sets table i (equation_places left s at) ≡ w → left ≡ m + 1 → q ≡ skip_equation_at s at → t ≡ set table i at → sets t (i + 1) (equation_places m s q) ≡ w
 unfolding equation_places
-places_turn s table t w i zero at q e h f g = absurd (omega arith)
-places_turn s table t w i (suc k) at q e h f g =
-    let one : suc k - 1 ≡ k = omega arith in
+places_turn s table t w i zero m at q e h f g = absurd (omega arith)
+places_turn s table t w i (suc k) m at q e h f g =
+    let one : m ≡ k = omega arith in
     rw (one, add-one i) (ap (λ v. sets v (suc i) (equation_places k s q)) g ∙ (ap (λ v. sets (set table i at) (suc i) (equation_places k s v)) f ∙ e))
 
 pub places_end : (s table w : List ℕ) (i left at : ℕ) → sets table i (equation_places left s at) ≡ w → left ≤ 0 → table ≡ w
@@ -323,7 +320,7 @@ module _ (s : List ℕ) (l : Limits) (enums at : ℕ) where
 
   -- by what the node's front and their count answer
   module _ {x : Next} (e : x ≡ next_of (interface_r s l enums at)) where
-    module _ {p : ℕ} {y : Counted} (g : x ≡ Nxt.At p) (i : y ≡ counted_of (count_r s 0 l.equations p)) where
+    module _ {p : ℕ} {y : Counting} (g : x ≡ Ok p) (i : y ≡ counted_of (count_r s 0 l.equations p)) where
       counted_there : equations_r s l enums at ≡ count_r s 0 l.equations p
       unfolding equations_r
       counted_there = then_got (interface_r s l enums at) _ (from_next (interface_r s l enums at) p (sym e ∙ g)).1
@@ -331,20 +328,20 @@ module _ (s : List ℕ) (l : Limits) (enums at : ℕ) where
       pub starts_counted : y ≡ counted_of (equations_r s l enums at)
       starts_counted = i ∙ sym (ap counted_of counted_there)
 
-      pub starts_placed : {n q : ℕ} → y ≡ Cnt.Items n q → equation_places n s q ≡ start_places s l enums at
+      pub starts_placed : {n q : ℕ} → y ≡ Ok (counted_at n q) → equation_places n s q ≡ start_places s l enums at
       unfolding after_read
       starts_placed {n} {q} j = sym (places_after (counted_there ∙ from_items (count_r s 0 l.equations p) n q (sym i ∙ j)))
 
-      pub starts_uncounted : {f : Fault} → y ≡ Cnt.Refused f → [] ≡ start_places s l enums at
+      pub starts_uncounted : {f : Fault} → y ≡ Err f → [] ≡ start_places s l enums at
       unfolding after_read
       starts_uncounted {f} j = sym (places_after (counted_there ∙ from_no_items (count_r s 0 l.equations p) f (sym i ∙ j)))
 
-    module _ {f : Fault} (g : x ≡ Nxt.Refused f) where
+    module _ {f : Fault} (g : x ≡ Err f) where
       front_fault : equations_r s l enums at ≡ fault f.number f.place
       unfolding equations_r
       front_fault = then_fault (interface_r s l enums at) _ (from_halt (interface_r s l enums at) f (sym e ∙ g))
 
-      pub front_refused : Cnt.Refused f ≡ counted_of (equations_r s l enums at)
+      pub front_refused : Err f ≡ counted_of (equations_r s l enums at)
       unfolding counted_of
       front_refused = sym (ap counted_of front_fault)
 
@@ -361,7 +358,7 @@ module _ (s : List ℕ) (l : Limits) (enums at : ℕ) where
     unfolding equations_r
     starts_read = then_got (interface_r s l enums at) _ (from_next (interface_r s l enums at) (equations_start at n) (node_at_lem s l enums at n end r).front).1 ∙ there.counted
 
-    pub starts_told : {x : Counted} → x ≡ counted_of (equations_r s l enums at) → x ≡ Cnt.Items (length n.equations) (equations_start at n + 1)
+    pub starts_told : {x : Counting} → x ≡ counted_of (equations_r s l enums at) → x ≡ Ok (counted_at (length n.equations) (equations_start at n + 1))
     unfolding counted_of
     starts_told e = e ∙ ap counted_of starts_read
 

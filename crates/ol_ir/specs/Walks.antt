@@ -1,35 +1,35 @@
 -- Walks over a file: tables of the places at which its items start.
-use Rattle.std.specs.Prelude.{ℕ, zero, suc, ◌+◌, ◌*◌, cond, List, [], ◌∷◌, ltb, eqb, length, get_or}
+use Rattle.std.specs.Prelude.{ℕ, zero, suc, ◌+◌, ◌*◌, cond, Result, Ok, Err, List, [], ◌∷◌, ltb, eqb, length, get_or}
 use Rattle.ol_spec.specs.Syntax.{Node, File}
 use Rattle.ol_spec.specs.Limits.{base}
 use Rattle.ol_spec.specs.Read.{Read, got, fault, Reader, then_read, count_r, section_r, enum_r, constant_r, node_r, at_end}
 use Rattle.ol_spec.specs.Answers.{fault_at}
+use Rattle.ol_spec.specs.declared.Fault.{Fault}
 use Rattle.ol_spec.specs.declared.Limits.{Limits}
 use Rattle.ol_tables.specs.Walks.{skip_at}
 use Rattle.ol_ir.specs.Nodes.{equations_r}
 use Rattle.ol_ir.specs.declared.Loaded.{Loaded}
-use Rattle.ol_ir.specs.declared.Loaded.TheVariants as Ldd
-use Rattle.ol_ir.specs.declared.Reading.{Reading}
-use Rattle.ol_ir.specs.declared.Reading.TheVariants as Rdg
 
 -- the place of a placed item
 abbrev pub place_of : {A : Type 0} → ℕ × A → ℕ
 place_of p = p.0
 
--- how many enums and nodes a file has that was read
-unfoldable pub loaded_of : Read File → Loaded
-loaded_of (got f at) = Ldd.Nodes (length f.enums) (length f.nodes)
-loaded_of (fault n p) = Ldd.Refused (fault_at n p)
+-- how many enums and nodes a file has, or a fault
+abbrev pub Loading : Type 0
+Loading = Result Loaded Fault
 
--- whether it was read
-unfoldable pub read_of : Loaded → Reading
-read_of (Ldd.Nodes e n) = Rdg.Done
-read_of (Ldd.Refused f) = Rdg.Refused f
+abbrev pub loaded_with : ℕ → ℕ → Loaded
+loaded_with e n = record { enums = e; nodes = n }
+
+-- how many enums and nodes a file has that was read
+unfoldable pub loaded_of : Read File → Loading
+loaded_of (got f at) = Ok (loaded_with (length f.enums) (length f.nodes))
+loaded_of (fault n p) = Err (fault_at n p)
 
 -- how many nodes were read, behind so many enums
-unfoldable pub nodes_of : ℕ → Read (List Node) → Loaded
-nodes_of enums (got ns at) = Ldd.Nodes enums (length ns)
-nodes_of enums (fault n p) = Ldd.Refused (fault_at n p)
+unfoldable pub nodes_of : ℕ → Read (List Node) → Loading
+nodes_of enums (got ns at) = Ok (loaded_with enums (length ns))
+nodes_of enums (fault n p) = Err (fault_at n p)
 
 -- the nodes, to the end of the bytes s
 unfoldable pub last_nodes : List ℕ → Limits → ℕ → Reader (List Node)

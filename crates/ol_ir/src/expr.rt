@@ -2,119 +2,86 @@
 ghost use Rattle.std.specs.Prelude.{◌≡◌, ℕ, ◌<◌};
 ghost use Rattle.ol_spec.specs.Read.{many_exprs, expr_r};
 ghost use Rattle.ol_spec.specs.declared.Limits.{Limits};
-ghost use Rattle.ol_ir.specs.Nexts.{next_of, counted_of, parts_of};
+ghost use Rattle.ol_ir.specs.Nexts.{next_of, counted_of};
 ghost use Rattle.ol_ir.specs.Heads.{head_r, call_head};
 ghost use Rattle.ol_ir.specs.Scans.{scan_at};
 
-use super::read::{bytes, code, count, name, refused, uncounted};
+use super::read::{byte, bytes, code, count, name, refused};
 use super::types::ty;
-use super::{Counted, Next, Scan};
+use super::{Counted, Reader, Scan};
+use ol_spec::Fault;
 use ol_tables::heads;
 
-// So many parts, the first of which starts where reading goes on.
-fn parts(n: usize, next: Next) -> Counted
-    ensures { result ≡ parts_of n next }
-{
-    match next {
-        Next::At(p) => Counted::Items(n, p),
-        Next::Refused(f) => Counted::Refused(f),
-    }
-}
-
-// A call's node number and its count of arguments.
-fn call(file: &[u8], arguments: usize, at: usize) -> Counted
-    ensures { result ≡ counted_of (call_head file.now arguments at) }
-{
-    match bytes(file, 1, at) {
-        Next::At(p) => count(file, 0, arguments, p),
-        Next::Refused(f) => Counted::Refused(f),
-    }
-}
-
-// An expression's head, and how many parts follow it.
-fn head(file: &[u8], arguments: usize, items: usize, enums: usize, at: usize) -> Counted
-    ensures { (l : Limits) → l.arguments ≡ arguments → l.items ≡ items → result ≡ counted_of (head_r file.now l enums at) }
-{
-    if at < file.len() {
-        let c = file[at];
-        let p = at + 1;
-        match c {
-            0 => parts(0, code(file, 2, p)),
-            1 => parts(0, bytes(file, 8, p)),
-            2 => parts(0, bytes(file, 8, p)),
-            3 => parts(0, bytes(file, 1, p)),
-            4 => parts(0, bytes(file, 2, p)),
-            5 => parts(1, code(file, 2, p)),
-            6 => parts(2, code(file, 20, p)),
-            7 => Counted::Items(3, p),
-            8 => Counted::Items(1, p),
-            9 => Counted::Items(2, p),
-            10 => parts(1, ty(file, enums, p)),
-            11 => call(file, arguments, p),
-            12 => count(file, 2, items, p),
-            _ => uncounted(3, at),
-        }
-    } else {
-        uncounted(2, file.len())
-    }
-}
-
 // An expression where no level is left: at one byte fault 3 before fault 5.
-fn deep(file: &[u8], at: usize) -> Next
+fn deep(file: &[u8], at: usize) -> Result<usize, Fault>
     ensures { (l : Limits) (enums : ℕ) → result ≡ next_of (expr_r file.now l enums 0 at) }
 {
-    match code(file, 13, at) {
-        Next::At(_) => refused(5, at),
-        Next::Refused(f) => Next::Refused(f),
-    }
+    code(file, 13, at)?;
+    refused(5, at)
 }
 
-// So many expressions of at most `level` levels, one after the other. The parts of the last one
-// are read in its place.
-pub(crate) fn exprs(
-    file: &[u8],
-    arguments: usize,
-    items: usize,
-    enums: usize,
-    level: usize,
-    count: usize,
-    at: usize,
-) -> Next
-    ensures { (l : Limits) → l.arguments ≡ arguments → l.items ≡ items → result ≡ next_of (many_exprs count (expr_r file.now l enums level) at) }
-{
-    let mut next = at;
-    let mut left = count;
-    let mut depth = level;
-    while 0 < left {
-        left -= 1;
-        if depth == 0 {
-            return deep(file, next);
-        }
-        match head(file, arguments, items, enums, next) {
-            Counted::Items(n, p) => {
-                if n == 0 {
-                    next = p;
-                } else if left == 0 {
-                    next = p;
-                    left = n;
-                    depth -= 1;
-                } else {
-                    match exprs(file, arguments, items, enums, depth - 1, n, p) {
-                        Next::At(q) => {
-                            next = q;
-                        }
-                        Next::Refused(f) => {
-                            return Next::Refused(f);
-                        }
-                    }
-                }
-            }
-            Counted::Refused(f) => {
-                return Next::Refused(f);
-            }
-        }
+impl Reader<'_> {
+    // A call's node number and its count of arguments.
+    fn call(&self, at: usize) -> Result<Counted, Fault>
+        ensures { result ≡ counted_of (call_head self.now.file.now self.now.limits.now.arguments at) }
+    {
+        let p = bytes(self.file, 1, at)?;
+        count(self.file, 0, self.limits.arguments, p)
     }
-    Next::At(next)
+
+    // An expression's head, and how many parts follow it.
+    fn head(&self, at: usize) -> Result<Counted, Fault>
+        ensures { result ≡ counted_of (head_r self.now.file.now self.now.limits.now self.now.enums at) }
+    {
+        let c = byte(self.file, at)?;
+        let p = at + 1;
+        let (parts, start) = match c {
+            0 => (0, code(self.file, 2, p)?),
+            1 | 2 => (0, bytes(self.file, 8, p)?),
+            3 => (0, bytes(self.file, 1, p)?),
+            4 => (0, bytes(self.file, 2, p)?),
+            5 => (1, code(self.file, 2, p)?),
+            6 => (2, code(self.file, 20, p)?),
+            7 => (3, p),
+            8 => (1, p),
+            9 => (2, p),
+            10 => (1, ty(self.file, self.enums, p)?),
+            11 => return self.call(p),
+            12 => return count(self.file, 2, self.limits.items, p),
+            _ => return refused(3, at),
+        };
+        Ok(Counted {
+            count: parts,
+            at: start,
+        })
+    }
+
+    // So many expressions of at most `level` levels, one after the other. The parts of the last one
+    // are read in its place.
+    pub(crate) fn exprs(&self, level: usize, count: usize, at: usize) -> Result<usize, Fault>
+        ensures { result ≡ next_of (many_exprs count (expr_r self.now.file.now self.now.limits.now self.now.enums level) at) }
+    {
+        let mut next = at;
+        let mut left = count;
+        let mut depth = level;
+        while 0 < left {
+            left -= 1;
+            if depth == 0 {
+                return deep(self.file, next);
+            }
+            let h = self.head(next)?;
+            if h.count == 0 {
+                next = h.at;
+            } else if left == 0 {
+                next = h.at;
+                left = h.count;
+                depth -= 1;
+            } else {
+                next = self.exprs(depth - 1, h.count, h.at)?;
+            }
+        }
+        Ok(next)
+    }
 }
 
 // What a scan for reads finds at an expression: a Var's name, nothing under Pre, the parts of any
@@ -124,15 +91,13 @@ pub fn scan(file: &[u8], at: usize) -> Scan
     ensures small { (x q : ℕ) → result ≡ Scan.Name x q → x < 65536 }
 {
     if at < file.len() {
-        let c = file[at];
-        let p = at + 1;
-        if c == 4 {
-            Scan::Name(name(file, p), at + 3)
-        } else if c == 8 {
-            Scan::Parts(0, heads::skip(file, 1, p))
-        } else {
-            let h = heads::head(file, at);
-            Scan::Parts(h.count, h.start)
+        match file[at] {
+            4 => Scan::Name(name(file, at + 1), at + 3),
+            8 => Scan::Parts(0, heads::skip(file, 1, at + 1)),
+            _ => {
+                let h = heads::head(file, at);
+                Scan::Parts(h.count, h.start)
+            }
         }
     } else {
         Scan::Parts(0, at)

@@ -6,179 +6,95 @@ ghost use Rattle.ol_spec.specs.Places.{placed, node_size, placed_nodes};
 ghost use Rattle.ol_spec.specs.Limits.{base, relay_loader};
 ghost use Rattle.ol_spec.specs.Read.{got, many, section_r, enum_r, constant_r, node_r, read_file};
 ghost use Rattle.ol_ir.specs.Nexts.{next_of, list_of, reading_of, after_format};
-ghost use Rattle.ol_ir.specs.Walks.{place_of, loaded_of, nodes_of, last_nodes, read_of, places_of, node_places, file_places, load_places};
+ghost use Rattle.ol_ir.specs.Walks.{place_of, loaded_of, nodes_of, last_nodes, places_of, node_places, file_places, load_places};
 
-use super::expr::exprs;
-use super::node::{names, node, variable};
-use super::read::{count, keep};
-use super::{Counted, Loaded, Next, Reading};
+use super::node::names;
+use super::read::{count, many, refused, section};
+use super::{Counted, Loaded, Reader};
 use ol_spec::{Fault, Limits};
-
-// So many enums.
-fn enums(file: &[u8], variants: usize, count: usize, at: usize) -> Next
-    ensures { (l : Limits) → l.variants ≡ variants → result ≡ next_of (many count (enum_r file.now l) at) }
-{
-    let mut next = at;
-    let mut left = count;
-    while 0 < left {
-        left -= 1;
-        match names(file, variants, next) {
-            Next::At(p) => {
-                next = p;
-            }
-            Next::Refused(f) => {
-                return Next::Refused(f);
-            }
-        }
-    }
-    Next::At(next)
-}
+use ol_tables::bytes::put;
 
 // The enums: how many there are, and where the constants start.
-fn enum_section(file: &[u8], limits: Limits, at: usize) -> Counted
-    ensures { result ≡ list_of (section_r file.now 0 limits.enums (enum_r file.now limits) at) }
+fn enums(file: &[u8], limits: &Limits, at: usize) -> Result<Counted, Fault>
+    ensures { result ≡ list_of (section_r file.now 0 limits.now.enums (enum_r file.now limits.now) at) }
 {
-    match count(file, 0, limits.enums, at) {
-        Counted::Items(n, p) => match enums(file, limits.variants, n, p) {
-            Next::At(q) => Counted::Items(n, q),
-            Next::Refused(f) => Counted::Refused(f),
-        },
-        Counted::Refused(f) => Counted::Refused(f),
-    }
+    let n = count(file, 0, limits.enums, at)?;
+    let end = many(n.count, n.at, |p| names(file, limits.variants, p))?;
+    Ok(Counted {
+        count: n.count,
+        at: end,
+    })
 }
 
-// A constant: its name, its type and its value.
-fn constant(
-    file: &[u8],
-    nesting: usize,
-    arguments: usize,
-    items: usize,
-    enums: usize,
-    at: usize,
-) -> Next
-    ensures { (l : Limits) → l.nesting ≡ nesting → l.arguments ≡ arguments → l.items ≡ items → result ≡ next_of (constant_r file.now l enums at) }
-{
-    match variable(file, enums, at) {
-        Next::At(p) => exprs(file, arguments, items, enums, nesting, 1, p),
-        Next::Refused(f) => Next::Refused(f),
+impl Reader<'_> {
+    // A constant: its name, its type and its value.
+    fn constant(&self, at: usize) -> Result<usize, Fault>
+        ensures { result ≡ next_of (constant_r self.now.file.now self.now.limits.now self.now.enums at) }
+    {
+        let p = self.variable(at)?;
+        self.exprs(self.limits.nesting, 1, p)
     }
-}
 
-// So many constants.
-fn constants(
-    file: &[u8],
-    nesting: usize,
-    arguments: usize,
-    items: usize,
-    enums: usize,
-    count: usize,
-    at: usize,
-) -> Next
-    ensures { (l : Limits) → l.nesting ≡ nesting → l.arguments ≡ arguments → l.items ≡ items → result ≡ next_of (many count (constant_r file.now l enums) at) }
-{
-    let mut next = at;
-    let mut left = count;
-    while 0 < left {
-        left -= 1;
-        match constant(file, nesting, arguments, items, enums, next) {
-            Next::At(p) => {
-                next = p;
-            }
-            Next::Refused(f) => {
-                return Next::Refused(f);
-            }
+    // The constants.
+    fn constants(&self, at: usize) -> Result<usize, Fault>
+        ensures { result ≡ next_of (section_r self.now.file.now 0 self.now.limits.now.constants (constant_r self.now.file.now self.now.limits.now self.now.enums) at) }
+    {
+        section(
+            self.file,
+            0,
+            self.limits.constants,
+            at,
+            |p| self.constant(p),
+        )
+    }
+
+    // So many nodes: entry k of the table gets the place at which node k starts.
+    fn nodes(&self, count: usize, at: usize, starts: &mut [usize]) -> Result<usize, Fault>
+        ensures next { result ≡ next_of (many count (node_r self.now.file.now self.now.limits.now self.now.enums) at) }
+        ensures places { starts.new ≡ sets starts.old 0 (places_of count (node_r self.now.file.now self.now.limits.now self.now.enums) at) }
+    {
+        let mut next = at;
+        for i in 0..count {
+            put(starts, i, next);
+            next = self.node(next)?;
         }
+        Ok(next)
     }
-    Next::At(next)
-}
 
-// The constants.
-fn constant_section(file: &[u8], limits: Limits, enums: usize, at: usize) -> Next
-    ensures { result ≡ next_of (section_r file.now 0 limits.constants (constant_r file.now limits enums) at) }
-{
-    match count(file, 0, limits.constants, at) {
-        Counted::Items(n, p) => constants(
-            file,
-            limits.nesting,
-            limits.arguments,
-            limits.items,
-            enums,
-            n,
-            p,
-        ),
-        Counted::Refused(f) => Next::Refused(f),
-    }
-}
-
-// So many nodes: entry k of the table gets the place at which node k starts.
-fn nodes(
-    file: &[u8],
-    limits: Limits,
-    enums: usize,
-    count: usize,
-    at: usize,
-    starts: &mut [usize],
-) -> Next
-    ensures next { result ≡ next_of (many count (node_r file.now limits enums) at) }
-    ensures places { starts.new ≡ sets starts.old 0 (places_of count (node_r file.now limits enums) at) }
-{
-    let mut next = at;
-    let mut left = count;
-    let mut i: usize = 0;
-    while 0 < left {
-        keep(starts, i, next);
-        left -= 1;
-        i += 1;
-        match node(file, limits, enums, next) {
-            Next::At(p) => {
-                next = p;
-            }
-            Next::Refused(f) => {
-                return Next::Refused(f);
-            }
+    // The nodes, up to the file's end.
+    fn last_nodes(&self, at: usize, starts: &mut [usize]) -> Result<Loaded, Fault>
+        ensures nodes { result ≡ nodes_of self.now.enums (last_nodes self.now.file.now self.now.limits.now self.now.enums at) }
+        ensures places { (ns : List Node) (end : ℕ) → last_nodes self.now.file.now self.now.limits.now self.now.enums at ≡ got ns end → starts.new ≡ sets starts.old 0 (map place_of (placed node_size (at + 1) ns)) }
+        ensures all { starts.new ≡ sets starts.old 0 (node_places self.now.file.now self.now.limits.now self.now.enums at) }
+    {
+        let n = count(self.file, 1, self.limits.nodes, at)?;
+        let q = self.nodes(n.count, n.at, starts)?;
+        if q < self.file.len() {
+            refused(2, q)
+        } else {
+            Ok(Loaded {
+                enums: self.enums,
+                nodes: n.count,
+            })
         }
-    }
-    Next::At(next)
-}
-
-// The nodes, up to the file's end.
-fn last_nodes(file: &[u8], limits: Limits, enums: usize, at: usize, starts: &mut [usize]) -> Loaded
-    ensures nodes { result ≡ nodes_of enums (last_nodes file.now limits enums at) }
-    ensures places { (ns : List Node) (end : ℕ) → last_nodes file.now limits enums at ≡ got ns end → starts.new ≡ sets starts.old 0 (map place_of (placed node_size (at + 1) ns)) }
-    ensures all { starts.new ≡ sets starts.old 0 (node_places file.now limits enums at) }
-{
-    match count(file, 1, limits.nodes, at) {
-        Counted::Items(n, p) => match nodes(file, limits, enums, n, p, starts) {
-            Next::At(q) => {
-                if q < file.len() {
-                    Loaded::Refused(Fault {
-                        number: 2,
-                        place: q,
-                    })
-                } else {
-                    Loaded::Nodes(enums, n)
-                }
-            }
-            Next::Refused(f) => Loaded::Refused(f),
-        },
-        Counted::Refused(f) => Loaded::Refused(f),
     }
 }
 
 // What follows the format byte, up to the file's end: entry k of the table gets the place at which
 // node k starts.
-fn load_limited(file: &[u8], limits: Limits, starts: &mut [usize]) -> Loaded
-    ensures read { result ≡ loaded_of (after_format file.now limits) }
-    ensures places { (f : File) (end : ℕ) → after_format file.now limits ≡ got f end → starts.new ≡ sets starts.old 0 (map place_of (placed_nodes f)) }
-    ensures all { starts.new ≡ sets starts.old 0 (file_places file.now limits) }
+fn load_limited(file: &[u8], limits: &Limits, starts: &mut [usize]) -> Result<Loaded, Fault>
+    ensures read { result ≡ loaded_of (after_format file.now limits.now) }
+    ensures places { (f : File) (end : ℕ) → after_format file.now limits.now ≡ got f end → starts.new ≡ sets starts.old 0 (map place_of (placed_nodes f)) }
+    ensures all { starts.new ≡ sets starts.old 0 (file_places file.now limits.now) }
 {
-    match enum_section(file, limits, 1) {
-        Counted::Items(n, p) => match constant_section(file, limits, n, p) {
-            Next::At(q) => last_nodes(file, limits, n, q, starts),
-            Next::Refused(f) => Loaded::Refused(f),
-        },
-        Counted::Refused(f) => Loaded::Refused(f),
-    }
+    let e = enums(file, limits, 1)?;
+    let reader = Reader {
+        file,
+        limits,
+        enums: e.count,
+    };
+    let q = reader.constants(e.at)?;
+    reader.last_nodes(q, starts)
 }
 
 // The limits of the format that the relay knows.
@@ -204,45 +120,27 @@ pub fn base() -> Limits
 
 // The whole file, by the relay's own loader: entry k of the table gets the place at which node k
 // starts.
-pub fn load_file(file: &[u8], starts: &mut [usize]) -> Loaded
+pub fn load_file(file: &[u8], starts: &mut [usize]) -> Result<Loaded, Fault>
     ensures read { result ≡ loaded_of (read_file file.now relay_loader) }
     ensures places { (f : File) (end : ℕ) → read_file file.now relay_loader ≡ got f end → starts.new ≡ sets starts.old 0 (map place_of (placed_nodes f)) }
     ensures all { starts.new ≡ sets starts.old 0 (load_places file.now) }
 {
     if 32768 < file.len() {
-        Loaded::Refused(Fault {
-            number: 1,
-            place: 32768,
-        })
-    } else if file.len() == 0 {
-        Loaded::Refused(Fault {
-            number: 2,
-            place: 0,
-        })
+        refused(1, 32768)
+    } else if file.is_empty() {
+        refused(2, 0)
     } else if file[0] == 1 {
-        load_limited(file, base(), starts)
+        load_limited(file, &base(), starts)
     } else {
-        Loaded::Refused(Fault {
-            number: 3,
-            place: 0,
-        })
-    }
-}
-
-// Whether a file was loaded.
-fn reading(l: Loaded) -> Reading
-    ensures { result ≡ read_of l }
-{
-    match l {
-        Loaded::Nodes(_, _) => Reading::Done,
-        Loaded::Refused(f) => Reading::Refused(f),
+        refused(3, 0)
     }
 }
 
 // The whole file, by the relay's own loader.
-pub fn read_file(file: &[u8]) -> Reading
+pub fn read_file(file: &[u8]) -> Result<(), Fault>
     ensures { result ≡ reading_of (read_file file.now relay_loader) }
 {
     let mut starts = [0usize; 1];
-    reading(load_file(file, &mut starts))
+    load_file(file, &mut starts)?;
+    Ok(())
 }

@@ -1,78 +1,102 @@
-// Bytes, codes and counts.
-ghost use Rattle.std.specs.Prelude.{◌≡◌, ◌<◌, set};
+// Bytes, codes, counts and sections.
+ghost use Rattle.std.specs.Prelude.{◌≡◌, ◌<◌, ◌≤◌, ℕ, Err, MatchResult, length, get_or};
 ghost use Rattle.ol_spec.specs.Lists.{up_to};
 ghost use Rattle.ol_spec.specs.Read.{number, coded, count_r};
 ghost use Rattle.ol_spec.specs.Answers.{fault_at};
 ghost use Rattle.ol_tables.specs.Heads.{name_at};
-ghost use Rattle.ol_ir.specs.Nexts.{next_of, counted_of};
+ghost use Rattle.ol_ir.specs.Nexts.{Next, Answers, next_of, counted_of, repeat, section_by};
 
-use super::{Counted, Next};
+use super::Counted;
 use ol_spec::Fault;
+use ol_tables::bytes;
 
-// A fault, in the place of where the next item starts.
-pub(crate) fn refused(number: u8, place: usize) -> Next
-    ensures { result ≡ Next.Refused (fault_at number place) }
+// A fault, as an answer.
+pub(crate) fn refused<T>(number: u8, place: usize) -> Result<T, Fault>
+    ensures { result ≡ Err (fault_at number place) }
 {
-    Next::Refused(Fault { number, place })
+    Err(Fault { number, place })
 }
 
-// A fault, in the place of a count.
-pub(crate) fn uncounted(number: u8, place: usize) -> Counted
-    ensures { result ≡ Counted.Refused (fault_at number place) }
+// The byte at `at`.
+pub(crate) fn byte(file: &[u8], at: usize) -> Result<usize, Fault>
+    ensures { MatchResult result (λ b. (at < length file.now) × (b ≡ get_or file.now at 0)) (λ f. (length file.now ≤ at) × (f ≡ fault_at 2 (length file.now))) }
 {
-    Counted::Refused(Fault { number, place })
+    if at < file.len() {
+        Ok(usize::from(file[at]))
+    } else {
+        refused(2, file.len())
+    }
 }
 
 // Passes over so many bytes.
-pub fn bytes(file: &[u8], count: usize, at: usize) -> Next
+pub fn bytes(file: &[u8], count: usize, at: usize) -> Result<usize, Fault>
     ensures { result ≡ next_of (number file.now count 0 at) }
 {
     let end = file.len();
     if count == 0 {
-        Next::At(at)
-    } else if at < end {
-        if count <= end - at {
-            Next::At(at + count)
-        } else {
-            refused(2, end)
-        }
+        Ok(at)
+    } else if at < end && count <= end - at {
+        Ok(at + count)
     } else {
-        refused(2, file.len())
+        refused(2, end)
     }
 }
 
 // A byte that is a code below `bound`.
-pub(crate) fn code(file: &[u8], bound: usize, at: usize) -> Next
+pub(crate) fn code(file: &[u8], bound: usize, at: usize) -> Result<usize, Fault>
     ensures { result ≡ next_of (coded file.now (up_to bound) at) }
 {
-    if at < file.len() {
-        let b = file[at] as usize;
-        if b < bound {
-            Next::At(at + 1)
-        } else {
-            refused(3, at)
-        }
+    if byte(file, at)? < bound {
+        Ok(at + 1)
     } else {
-        refused(2, file.len())
+        refused(3, at)
     }
 }
 
 // A count from `lo` to `hi`.
-pub fn count(file: &[u8], lo: usize, hi: usize, at: usize) -> Counted
+pub fn count(file: &[u8], lo: usize, hi: usize, at: usize) -> Result<Counted, Fault>
     ensures { result ≡ counted_of (count_r file.now lo hi at) }
 {
-    if at < file.len() {
-        let n = file[at] as usize;
-        if n < lo {
-            uncounted(4, at)
-        } else if hi < n {
-            uncounted(4, at)
-        } else {
-            Counted::Items(n, at + 1)
-        }
+    let n = byte(file, at)?;
+    if lo <= n && n <= hi {
+        Ok(Counted {
+            count: n,
+            at: at + 1,
+        })
     } else {
-        uncounted(2, file.len())
+        refused(4, at)
     }
+}
+
+// So many items, one after the other: where they end.
+pub(crate) fn many<F: Fn(usize) -> Result<usize, Fault>>(
+    count: usize,
+    at: usize,
+    item: F,
+) -> Result<usize, Fault>
+    requires { F.IsAlwaysCallable item }
+    ensures { (f : ℕ → Next) → Answers (F.post item) f → result ≡ repeat count f at }
+{
+    let mut next = at;
+    for _i in 0..count {
+        next = item(next)?;
+    }
+    Ok(next)
+}
+
+// A count from `lo` to `hi`, and so many items: where they end.
+pub(crate) fn section<F: Fn(usize) -> Result<usize, Fault>>(
+    file: &[u8],
+    lo: usize,
+    hi: usize,
+    at: usize,
+    item: F,
+) -> Result<usize, Fault>
+    requires { F.IsAlwaysCallable item }
+    ensures { (f : ℕ → Next) → Answers (F.post item) f → result ≡ section_by f (count_r file.now lo hi at) }
+{
+    let n = count(file, lo, hi, at)?;
+    many(n.count, n.at, item)
 }
 
 // A name: two bytes of the file; a byte past its end is 0.
@@ -80,23 +104,5 @@ pub fn name(file: &[u8], at: usize) -> usize
     ensures small { result < 65536 }
     ensures is { result ≡ name_at file.now at }
 {
-    if at < file.len() {
-        let p = at + 1;
-        if p < file.len() {
-            (file[at] as usize) * 256 + (file[p] as usize)
-        } else {
-            (file[at] as usize) * 256
-        }
-    } else {
-        0
-    }
-}
-
-// Puts a place into a table, as far as the table goes.
-pub(crate) fn keep(table: &mut [usize], i: usize, place: usize)
-    ensures { table.new ≡ set table.old i place }
-{
-    if i < table.len() {
-        table[i] = place;
-    }
+    bytes::name(file, at)
 }

@@ -9,7 +9,7 @@ pub(crate) fn skip_equation(file: &[u8], at: usize) -> usize
     ensures { result ≡ skip_equation_at file.now at }
 {
     if at < file.len() {
-        let n = file[at] as usize;
+        let n = usize::from(file[at]);
         skip(file, 1, at + 1 + 2 * n)
     } else {
         at

@@ -1,21 +1,26 @@
 -- The answer: the tables at the start, and what the ordering answers once the passes are over.
 use Prim.Native.Nat.{ℕ, zero, suc, ◌+◌, ◌≤◌, ◌<◌}
-use mathlib.Core.Bool.{Bool, true}
+use mathlib.Core.Bool.{Bool, true, cond}
 use mathlib.Core.List.{List, [], ◌∷◌, ◌++◌}
 use mathlib.Core.Path.{◌≡◌, refl, sym, ap, ◌∙◌}
 use native.Mathlib.Omega.{arith}
-use mathlib.Core.Option.{some}
+use mathlib.Core.Option.{none, some}
 use lib.ListN.{length, get_or, take, drop, replicate, length-replicate, take-append-drop}
 use lib.Seq.{sets, sets-eq}
-use borrow.Author.Tests.{eq-eqb, ne_eqb}
+use borrow.Author.Tests.{eq-eqb, ne_eqb, lt-ltb, le-ltb}
 use Rattle.ol_spec.specs.Syntax.{Equation}
-use Rattle.ol_spec.specs.Order.{order}
+use Rattle.ol_spec.specs.Order.{order, unplaced}
 use Rattle.ol_spec.specs.Cycle.{OrderingCall, no_order}
-use Rattle.ol_order.specs.Tables.{zeros, first_zero, order_of}
+use Rattle.ol_order.specs.Tables.{zeros, as_option, order_of}
 use Rattle.ol_order.specs.Post.{Blank, State, Sorts}
 use Rattle.ol_order.specs.Orders.{LowNames}
 use Rattle.ol_order.proofs.Passing.{length_list, unplaced_some, unplaced_none, all_placed}
-use Rattle.ol_spec.specs.declared.Sorted.TheVariants as Sort
+use mathlib.Core.Logic.{by_cases}
+use native.Mathlib.Decide.{dec_le}
+use Rattle.std.specs.Prelude.{Ok, nat_lt, position, ◌==◌}
+use Rattle.std.specs.Prelude as Std
+use Rattle.ol_order.proofs.Flags.{first_zero, first_position}
+use Rattle.ol_order.proofs.Scanning.{found_some, found_none}
 
 -- ---- the tables at the start
 
@@ -55,21 +60,11 @@ state_start qs n order e h r =
 
 -- ---- the answer, by what the passes leave
 
-first_inside : (p : List ℕ) → first_zero p ≤ length p
-unfolding first_zero
-first_inside [] = omega arith
-first_inside (zero ∷ p) = omega arith
-first_inside (suc x ∷ p) = omega (arith, first_inside p)
-
 no_zero : (l : List ℕ) → zeros l ≡ 0 → first_zero l ≡ length l
 unfolding zeros first_zero
 no_zero [] e = refl
 no_zero (zero ∷ l) e = absurd (omega arith)
 no_zero (suc x ∷ l) e = ap suc (no_zero l e)
-
--- all are placed
-pub first_none : {qs : List Equation} {p o list : List ℕ} {n : ℕ} → State qs list p o n → length qs ≤ n → n ≡ first_zero p
-first_none {p = p} st h = omega (arith, no_zero p (omega (arith, st.left)), st.left, st.flagged)
 
 -- those placed in front, the rest as it was
 front_written : {qs : List Equation} {p o : List ℕ} {n : ℕ} (before : List ℕ) → length before ≡ length qs → State qs (order qs) p o n → drop n o ≡ drop n before → o ≡ sets before 0 (order qs)
@@ -81,36 +76,70 @@ front_written {qs} {p} {o} {n} before b st h =
     ∙ (ap (λ v. order qs ++ v) h
     ∙ (ap (λ k. order qs ++ drop k before) z ∙ sym (sets-eq (order qs) before 0 (omega (arith, l, b, st.left))))))
 
-pub sorts_made : {qs : List Equation} {p o before : List ℕ} {n first : ℕ} → length before ≡ length qs → State qs (order qs) p o n × (drop n o ≡ drop n before) → first ≡ first_zero p → Sorts qs before o first
-sorts_made {qs} {p} {before = before} {first = first} b sh e =
-    let st = sh.0 in
-    record {
-      long = st.room;
-      inside = omega (arith, e, first_inside p, st.flagged);
-      few = omega (arith, length_list qs st, st.left);
-      written = front_written before b st sh.1;
-      ring = λ h. (unplaced_some st (omega (arith, st.flagged)) ∙ ap some (sym e));
-      placed = λ h. unplaced_none st (omega (arith, st.flagged));
-      order = λ h. all_placed st (omega (arith, st.flagged));
-    }
+module _ {qs : List Equation} {p o : List ℕ} {n : ℕ} (st : State qs (order qs) p o n) where
+  -- where the code finds the first that is not placed
+  pub placed_first : position (λ x. x == 0) p ≡ as_option (unplaced qs)
+  placed_first =
+      ap (λ i. cond (nat_lt i (length p)) (Std.Some i) Std.None) (first_position p)
+      ∙ by_cases (dec_le (length p) (first_zero p))
+      (λ h. ap (λ b. cond b (Std.Some (first_zero p)) Std.None) (le-ltb (first_zero p) (length p) h) ∙ sym (ap as_option (unplaced_none st h)))
+      (λ h. ap (λ b. cond b (Std.Some (first_zero p)) Std.None) (lt-ltb (first_zero p) (length p) (omega arith)) ∙ sym (ap as_option (unplaced_some st (omega arith))))
 
-module _ {qs : List Equation} {before o : List ℕ} {first : ℕ} (starts buf : List ℕ) (so : Sorts qs before o first) where
+  -- all are placed
+  pub placed_whole : length qs ≤ n → Std.None ≡ as_option (unplaced qs)
+  placed_whole h = let z = no_zero p (omega (arith, st.left)) in sym (ap as_option (unplaced_none st (omega (arith, z))))
+
+  is_inside : (i : ℕ) → unplaced qs ≡ some i → i < length qs
+  is_inside i e =
+      by_cases (dec_le (length p) (first_zero p))
+      (λ h. absurd (never (sym e ∙ unplaced_none st h)))
+      (λ h. let z : some i ≡ some (first_zero p) = sym e ∙ unplaced_some st (omega arith) in let y : i ≡ first_zero p = cc in omega (arith, y, st.flagged))
+    where
+      never : some i ≡ none → ⊥
+      never f = let z : ◌≡◌ {A = ℕ} 0 1 = cc in omega arith
+
+  is_order : unplaced qs ≡ none → o ≡ order qs
+  is_order e =
+      by_cases (dec_le (length p) (first_zero p)) (λ h. all_placed st h) (λ h. absurd (never (sym e ∙ unplaced_some st (omega arith))))
+    where
+      never : none ≡ some (first_zero p) → ⊥
+      never f = let z : ◌≡◌ {A = ℕ} 0 1 = cc in omega arith
+
+  pub sorts_made : {before : List ℕ} → length before ≡ length qs → drop n o ≡ drop n before → {r : Std.Option ℕ} → r ≡ as_option (unplaced qs) → Sorts qs before o r
+  sorts_made {before} b h e =
+      record {
+        long = st.room;
+        few = omega (arith, length_list qs st, st.left);
+        written = front_written before b st h;
+        ring = e;
+        inside = λ i f. is_inside i (found_some (unplaced qs) (sym f ∙ e));
+        order = λ f. is_order (found_none (unplaced qs) (sym f ∙ e));
+      }
+
+pub no_other : (r : Std.Option ℕ) → ((i : ℕ) → r ≡ Std.Some i → ⊥) → r ≡ Std.None
+no_other Std.None h = refl
+no_other (Std.Some i) h = absurd (h i refl)
+
+module _ {qs : List Equation} {before o : List ℕ} {r : Std.Option ℕ} (starts buf : List ℕ) (so : Sorts qs before o r) where
   -- a ring
-  pub answer_ring : first < length qs → no_order 11 (get_or starts first 0) buf ≡ order_of qs starts buf
+  pub answer_ring : {first : ℕ} → r ≡ Std.Some first → no_order 11 (get_or starts first 0) buf ≡ order_of qs starts buf
   unfolding order_of
-  answer_ring h = sym (rw (so.ring h) refl)
+  answer_ring h = sym (rw (found_some (unplaced qs) (sym h ∙ so.ring)) refl)
 
-  module _ (h : length qs ≤ first) where
+  module _ (h : r ≡ Std.None) where
+    all_there : unplaced qs ≡ none
+    all_there = found_none (unplaced qs) (sym h ∙ so.ring)
+
     abbrev ordered : OrderingCall
-    ordered = record { answer = Sort.Done; buffer = o }
+    ordered = record { answer = (Ok tt); buffer = o }
 
     pub answer_done : length buf ≡ length qs → ordered ≡ order_of qs starts buf
     unfolding order_of
-    answer_done f = sym (rw (so.placed h, eq-eqb (length buf) (length qs) f) (ap (λ l. ordered_as l) (sym (so.order h))))
+    answer_done f = sym (rw (all_there, eq-eqb (length buf) (length qs) f) (ap (λ l. ordered_as l) (sym (so.order h))))
       where
         ordered_as : List ℕ → OrderingCall
-        ordered_as l = record { answer = Sort.Done; buffer = l }
+        ordered_as l = record { answer = (Ok tt); buffer = l }
 
     pub answer_short : (length buf ≡ length qs → ⊥) → no_order 17 0 buf ≡ order_of qs starts buf
     unfolding order_of
-    answer_short f = sym (rw (so.placed h, ne_eqb (length buf) (length qs) f) refl)
+    answer_short f = sym (rw (all_there, ne_eqb (length buf) (length qs) f) refl)

@@ -9,27 +9,25 @@ use mathlib.Core.Path.{◌≡◌, refl, sym, ap, subst, ◌∙◌}
 use native.Mathlib.Numerals.{add-one}
 use native.Mathlib.Omega.{arith}
 use lib.ListN.{length, get_or, set, take, drop, replicate, length-set, length-map, drop_of_length-le, get_or-eq_default}
-use lib.Seq.{drop-cons, take-suc, get_or-take, length-take-le, get_or-set_same, get_or-set_other}
+use lib.Seq.{drop-cons, take-suc, length-take-le, get_or-set_same, get_or-set_other}
 use lib.Dec.{eqb}
-use borrow.Author.Tests.{eqb-true, eqb-false, eq-eqb, ne_eqb}
+use borrow.Author.Tests.{eqb-true, eqb-false, eq-eqb, ne_eqb, ltb-true, ltb-false, lt-ltb}
 use Rattle.ol_spec.specs.Lists.{member}
 use Rattle.ol_spec.specs.Syntax.{Equation}
 use Rattle.ol_spec.specs.Order.{later, definer_from, definer}
-use Rattle.ol_spec.specs.Read.{Read, got, fault, many, count_r, name_r, equation_r}
+use Rattle.ol_spec.specs.Read.{got, many, count_r, name_r, equation_r}
+use Rattle.std.specs.Prelude as Std
+use Rattle.std.specs.Prelude.{nat_lt}
 use Rattle.ol_spec.specs.declared.Fault.{Fault}
 use Rattle.ol_spec.specs.declared.Limits.{Limits}
 use Rattle.ol_spec.proofs.Ordering.{later_cases, definer_inside}
 use Rattle.ol_spec.proofs.Offsets.{steps, same_item}
-use Rattle.ol_order.specs.Tables.{key_of, keyed, put, put_all, names_at, on_count, put_starts, on_defined, defined_at, definer_code, no_equation, equation_at, equations_at}
+use Rattle.ol_order.specs.Tables.{key_of, keyed, put, put_all, names_at, on_count, put_starts, on_defined, defined_at, definer_code, entry_of, as_option, no_equation, equation_at, equations_at}
 use Rattle.ol_order.specs.Post.{Readable, Blank, Definers}
-use Rattle.ol_order.proofs.Turns.{equation_here}
+use Rattle.ol_order.proofs.Turns.{equation_here, each_read}
 use Rattle.ol_tables.specs.Heads.{name_at}
-use Rattle.ol_ir.specs.Nexts.{next_of, counted_of}
+use Rattle.ol_ir.specs.Nexts.{Next, Counting, counted_at, next_of, counted_of}
 use Rattle.ol_ir.specs.Walks.{on_places}
-use Rattle.ol_ir.specs.declared.Next.{Next}
-use Rattle.ol_ir.specs.declared.Next.TheVariants as Nxt
-use Rattle.ol_ir.specs.declared.Counted.{Counted}
-use Rattle.ol_ir.specs.declared.Counted.TheVariants as Cnt
 use Rattle.ol_ir.proofs.Items.{from_next, from_halt, from_items, from_no_items, section_at, equation_at_lem}
 use Rattle.ol_ir.proofs.Scans.{name_told}
 
@@ -115,44 +113,28 @@ names_told s (suc k) at xs n e =
     ap (λ r. name_at s at ∷ on_places r (names_at k s)) t.first
     ∙ (ap (λ x. x ∷ names_at k s t.at) (name_told s at t.value t.at t.first) ∙ (ap (λ l. t.value ∷ l) (names_told s k t.at u.value u.at u.first) ∙ same_item u.rest))
 
--- w is the table in which the entries of the names left, `left` of them from `at` on, get i
-module _ (s table w : List ℕ) (i left at : ℕ) (e : put (map key_of (names_at left s at)) i table ≡ w) where
-  pub puts_end : left ≤ 0 → table ≡ w
+-- w is the table in which the entries of the names from the j-th on, of `count`, get i; the j-th stands at `at`
+module _ (s table w : List ℕ) (i count j at : ℕ) (e : put (map key_of (names_at (count - j) s at)) i table ≡ w) where
+  pub puts_end : count ≤ j → table ≡ w
   unfolding put names_at
-  puts_end h = none left h e
-    where
-      none : (k : ℕ) → k ≤ 0 → put (map key_of (names_at k s at)) i table ≡ w → table ≡ w
-      none zero g f = f
-      none (suc k) g f = absurd (omega arith)
+  puts_end h = let z : count - j ≡ 0 = omega arith in sym (ap (λ n. put (map key_of (names_at n s at)) i table) z) ∙ e
 
-  module _ (u : 0 < left) {x : ℕ} {t : List ℕ} (c : x ≡ name_at s at) (k : t ≡ set table (key_of x) i) where
-    name_put : put (map key_of (on_places (name_r s at) (names_at (left - 1) s))) i t ≡ w
+  module _ (u : j < count) {x : ℕ} {t : List ℕ} (c : x ≡ name_at s at) (k : t ≡ set table (key_of x) i) where
+    name_put : put (map key_of (on_places (name_r s at) (names_at (count - (j + 1)) s))) i t ≡ w
     unfolding put names_at
-    name_put = next left u e
-      where
-        next : (m : ℕ) → 0 < m → put (map key_of (names_at m s at)) i table ≡ w → put (map key_of (on_places (name_r s at) (names_at (m - 1) s))) i t ≡ w
-        next zero h f = absurd (omega arith)
-        next (suc m) h f =
-            let one : suc m - 1 ≡ m = omega arith in
-            rw one (ap (put (map key_of (on_places (name_r s at) (names_at m s))) i) (k ∙ ap (λ v. set table (key_of v) i) c) ∙ f)
-
-    -- it is the last
-    pub puts_last : left - 1 ≡ 0 → t ≡ w
-    unfolding put names_at on_places
-    puts_last h = sym (ap (λ m. put (map key_of (on_places (name_r s at) (names_at m s))) i t) h ∙ go (name_r s at)) ∙ name_put
-      where
-        go : (r : Read ℕ) → put (map key_of (on_places r (names_at 0 s))) i t ≡ t
-        go (got n q) = refl
-        go (fault n q) = refl
+    name_put =
+        let z : count - j ≡ suc (count - (j + 1)) = omega arith in
+        ap (put (map key_of (on_places (name_r s at) (names_at (count - (j + 1)) s))) i) (k ∙ ap (λ v. set table (key_of v) i) c)
+        ∙ (sym (ap (λ n. put (map key_of (names_at n s at)) i table) z) ∙ e)
 
     module _ {y : Next} (g : y ≡ next_of (name_r s at)) where
-      pub puts_turn : {q : ℕ} → y ≡ Nxt.At q → put (map key_of (names_at (left - 1) s q)) i t ≡ w
+      pub puts_turn : {q : ℕ} → y ≡ Std.Ok q → put (map key_of (names_at (count - (j + 1)) s q)) i t ≡ w
       unfolding on_places
-      puts_turn {q} h = let a = from_next (name_r s at) q (sym g ∙ h) in sym (ap (λ r. put (map key_of (on_places r (names_at (left - 1) s))) i t) a.1) ∙ name_put
+      puts_turn {q} h = let a = from_next (name_r s at) q (sym g ∙ h) in sym (ap (λ r. put (map key_of (on_places r (names_at (count - (j + 1)) s))) i t) a.1) ∙ name_put
 
-      pub puts_not : {f : Fault} → y ≡ Nxt.Refused f → t ≡ w
+      pub puts_not : {f : Fault} → y ≡ Std.Err f → t ≡ w
       unfolding on_places put
-      puts_not {f} h = sym (ap (λ r. put (map key_of (on_places r (names_at (left - 1) s))) i t) (from_halt (name_r s at) f (sym g ∙ h))) ∙ name_put
+      puts_not {f} h = sym (ap (λ r. put (map key_of (on_places r (names_at (count - (j + 1)) s))) i t) (from_halt (name_r s at) f (sym g ∙ h))) ∙ name_put
 
 -- ---- the equations, one after the other
 
@@ -162,18 +144,18 @@ module _ (s starts table w : List ℕ) (most i : ℕ) (e : put_starts s most i (
   unfolding put_starts
   all_end h = sym (ap (λ k. put_starts s most i k table) (drop_of_length-le starts {i = i} h)) ∙ e
 
-  module _ (u : i < length starts) {x : Counted} (g : x ≡ counted_of (count_r s 1 most (get_or starts i 0))) where
+  module _ (u : i < length starts) {x : Counting} (g : x ≡ counted_of (count_r s 1 most (get_or starts i 0))) where
     next_start : on_count (count_r s 1 most (get_or starts i 0)) (λ n p. put_starts s most (suc i) (drop (suc i) starts) (put (map key_of (names_at n s p)) i table)) table ≡ w
     unfolding put_starts
     next_start = sym (ap (λ k. put_starts s most i k table) (drop-cons starts i 0 u)) ∙ e
 
-    pub all_turn : {n p : ℕ} {t : List ℕ} → x ≡ Cnt.Items n p → t ≡ put (map key_of (names_at n s p)) i table → put_starts s most (i + 1) (drop (i + 1) starts) t ≡ w
+    pub all_turn : {n p : ℕ} {t : List ℕ} → x ≡ Std.Ok (counted_at n p) → t ≡ put (map key_of (names_at n s p)) i table → put_starts s most (i + 1) (drop (i + 1) starts) t ≡ w
     all_turn {n} {p} {t} h k =
         rw add-one
         (ap (put_starts s most (suc i) (drop (suc i) starts)) k
         ∙ (sym (ap (λ r. on_count r (λ n p. put_starts s most (suc i) (drop (suc i) starts) (put (map key_of (names_at n s p)) i table)) table) (from_items (count_r s 1 most (get_or starts i 0)) n p (sym g ∙ h))) ∙ next_start))
 
-    pub all_not : {f : Fault} → x ≡ Cnt.Refused f → table ≡ w
+    pub all_not : {f : Fault} → x ≡ Std.Err f → table ≡ w
     all_not {f} h = sym (ap (λ r. on_count r (λ n p. put_starts s most (suc i) (drop (suc i) starts) (put (map key_of (names_at n s p)) i table)) table) (from_no_items (count_r s 1 most (get_or starts i 0)) f (sym g ∙ h))) ∙ next_start
 
 -- of equations that were read the names are theirs
@@ -190,49 +172,43 @@ module _ (s : List ℕ) (l : Limits) (enums : ℕ) where
       ∙ starts_put (suc i) starts (put (map key_of q.names) i table) (λ k g. h (suc k) (omega arith)))
 
   pub starts_defined : (starts table : List ℕ) → Readable s l enums starts → put_starts s l.names 0 starts table ≡ put_all 0 (map keyed (equations_at s l enums starts)) table
-  starts_defined starts table rd = starts_put 0 starts table rd.each
+  starts_defined starts table rd = starts_put 0 starts table (each_read s l enums rd)
 
 -- ---- a name among those of an equation
 
-module _ (s : List ℕ) (x left at : ℕ) (w : Bool) (e : member x (names_at left s at) ≡ w) where
-  pub among_end : left ≤ 0 → false ≡ w
+module _ (s : List ℕ) (x count j at : ℕ) (w : Bool) (e : member x (names_at (count - j) s at) ≡ w) where
+  pub among_end : count ≤ j → false ≡ w
   unfolding names_at
-  among_end h = go left h e
-    where
-      go : (k : ℕ) → k ≤ 0 → member x (names_at k s at) ≡ w → false ≡ w
-      go zero g f = f
-      go (suc k) g f = absurd (omega arith)
+  among_end h = let z : count - j ≡ 0 = omega arith in sym (ap (λ n. member x (names_at n s at)) z) ∙ e
 
-  module _ (u : 0 < left) {y : ℕ} (c : y ≡ name_at s at) where
-    first_name : (eqb x y || member x (on_places (name_r s at) (names_at (left - 1) s))) ≡ w
+  module _ (u : j < count) {y : ℕ} (c : y ≡ name_at s at) where
+    first_name : (eqb x y || member x (on_places (name_r s at) (names_at (count - (j + 1)) s))) ≡ w
     unfolding names_at
-    first_name = go left u e
-      where
-        go : (m : ℕ) → 0 < m → member x (names_at m s at) ≡ w → (eqb x y || member x (on_places (name_r s at) (names_at (m - 1) s))) ≡ w
-        go zero h f = absurd (omega arith)
-        go (suc m) h f = let one : suc m - 1 ≡ m = omega arith in rw one (ap (λ v. eqb x v || member x (on_places (name_r s at) (names_at m s))) c ∙ f)
+    first_name =
+        let z : count - j ≡ suc (count - (j + 1)) = omega arith in
+        ap (λ v. eqb x v || member x (on_places (name_r s at) (names_at (count - (j + 1)) s))) c ∙ (sym (ap (λ n. member x (names_at n s at)) z) ∙ e)
 
     pub among_here : x ≡ y → true ≡ w
-    among_here h = sym (ap (λ b. b || member x (on_places (name_r s at) (names_at (left - 1) s))) (eq-eqb x y h)) ∙ first_name
+    among_here h = sym (ap (λ b. b || member x (on_places (name_r s at) (names_at (count - (j + 1)) s))) (eq-eqb x y h)) ∙ first_name
 
     module _ (n : x ≡ y → ⊥) {z : Next} (g : z ≡ next_of (name_r s at)) where
-      next_names : member x (on_places (name_r s at) (names_at (left - 1) s)) ≡ w
-      next_names = sym (ap (λ b. b || member x (on_places (name_r s at) (names_at (left - 1) s))) (ne_eqb x y n)) ∙ first_name
+      next_names : member x (on_places (name_r s at) (names_at (count - (j + 1)) s)) ≡ w
+      next_names = sym (ap (λ b. b || member x (on_places (name_r s at) (names_at (count - (j + 1)) s))) (ne_eqb x y n)) ∙ first_name
 
-      pub among_turn : {q : ℕ} → z ≡ Nxt.At q → member x (names_at (left - 1) s q) ≡ w
+      pub among_turn : {q : ℕ} → z ≡ Std.Ok q → member x (names_at (count - (j + 1)) s q) ≡ w
       unfolding on_places
-      among_turn {q} h = let a = from_next (name_r s at) q (sym g ∙ h) in sym (ap (λ r. member x (on_places r (names_at (left - 1) s))) a.1) ∙ next_names
+      among_turn {q} h = let a = from_next (name_r s at) q (sym g ∙ h) in sym (ap (λ r. member x (on_places r (names_at (count - (j + 1)) s))) a.1) ∙ next_names
 
-      pub among_not : {f : Fault} → z ≡ Nxt.Refused f → false ≡ w
+      pub among_not : {f : Fault} → z ≡ Std.Err f → false ≡ w
       unfolding on_places
-      among_not {f} h = sym (ap (λ r. member x (on_places r (names_at (left - 1) s))) (from_halt (name_r s at) f (sym g ∙ h))) ∙ next_names
+      among_not {f} h = sym (ap (λ r. member x (on_places r (names_at (count - (j + 1)) s))) (from_halt (name_r s at) f (sym g ∙ h))) ∙ next_names
 
-module _ (s : List ℕ) (most at x : ℕ) {c : Counted} (g : c ≡ counted_of (count_r s 1 most at)) where
-  pub defines_names : {n p : ℕ} {b : Bool} → c ≡ Cnt.Items n p → b ≡ member x (names_at n s p) → b ≡ defined_at s most at x
+module _ (s : List ℕ) (most at x : ℕ) {c : Counting} (g : c ≡ counted_of (count_r s 1 most at)) where
+  pub defines_names : {n p : ℕ} {b : Bool} → c ≡ Std.Ok (counted_at n p) → b ≡ member x (names_at n s p) → b ≡ defined_at s most at x
   unfolding defined_at
   defines_names {n} {p} h e = e ∙ sym (ap (λ r. on_defined r (λ n p. member x (names_at n s p))) (from_items (count_r s 1 most at) n p (sym g ∙ h)))
 
-  pub defines_none : {f : Fault} → c ≡ Cnt.Refused f → false ≡ defined_at s most at x
+  pub defines_none : {f : Fault} → c ≡ Std.Err f → false ≡ defined_at s most at x
   unfolding defined_at
   defines_none {f} h = sym (ap (λ r. on_defined r (λ n p. member x (names_at n s p))) (from_no_items (count_r s 1 most at) f (sym g ∙ h)))
 
@@ -246,7 +222,7 @@ defined_is s l enums at q end x f =
 -- the same of those that start at the places of a table
 pub defined_here : (s : List ℕ) (l : Limits) (enums : ℕ) (starts : List ℕ) → Readable s l enums starts → (k x : ℕ) → k < length starts → defined_at s l.names (get_or starts k 0) x ≡ member x (get_or (equations_at s l enums starts) k no_equation).names
 defined_here s l enums starts rd k x h =
-    let f = rd.each k h in
+    let f = each_read s l enums rd k h in
     defined_is s l enums (get_or starts k 0) (equation_at s l enums (get_or starts k 0)) f.0 x f.1 ∙ ap (λ (q : Equation). member x q.names) (sym (equation_here s l enums starts k h))
 
 -- ---- the search from the last equation to the first
@@ -264,48 +240,26 @@ definer_last i (r ∷ qs) q x = ap (λ o. later o (member x r.names) i) (definer
     go true = let z : suc i + length qs ≡ i + suc (length qs) = omega arith in ap some z
     go false = refl
 
--- the first `left` equations have the name's last definer, if there is one
-module _ (qs : List Equation) (x left : ℕ) (i : left ≤ length qs) (e : definer qs x ≡ definer (take left qs) x) where
-  pub search_end : left ≤ 0 → 255 ≡ definer_code (definer qs x)
+-- o is the last of the first `left` equations that defines the name
+module _ (qs : List Equation) (x left : ℕ) (o : Option ℕ) (e : o ≡ definer (take left qs) x) where
+  pub search_end : left ≤ 0 → Std.None ≡ as_option o
   unfolding definer_from
-  search_end h = let z : left ≡ 0 = omega arith in sym (ap definer_code (e ∙ ap (λ k. definer (take k qs) x) z))
+  search_end h = let z : left ≡ 0 = omega arith in sym (ap as_option (e ∙ ap (λ k. definer (take k qs) x) z))
 
-  module _ (u : 0 < left) where
-    last_here : definer qs x ≡ cond (member x (get_or qs (left - 1) no_equation).names) (some (left - 1)) (definer (take (left - 1) qs) x)
+  module _ (k : ℕ) (f : left ≡ k + 1) (h : k < length qs) where
+    last_here : o ≡ cond (member x (get_or qs k no_equation).names) (some k) (definer (take k qs) x)
     last_here =
-        let z : left ≡ suc (left - 1) = omega arith in
-        let h : left - 1 < length qs = omega arith in
-        let y : 0 + length (take (left - 1) qs) ≡ left - 1 = omega (arith, length-take-le (left - 1) qs (omega arith)) in
+        let z : left ≡ suc k = omega arith in
+        let y : 0 + length (take k qs) ≡ k = omega (arith, length-take-le k qs (omega arith)) in
         e ∙ (ap (λ k. definer (take k qs) x) z
-        ∙ (ap (λ v. definer v x) (take-suc qs (left - 1) no_equation h)
-        ∙ (definer_last 0 (take (left - 1) qs) (get_or qs (left - 1) no_equation) x ∙ ap (λ k. cond (member x (get_or qs (left - 1) no_equation).names) (some k) (definer (take (left - 1) qs) x)) y)))
+        ∙ (ap (λ v. definer v x) (take-suc qs k no_equation h)
+        ∙ (definer_last 0 (take k qs) (get_or qs k no_equation) x ∙ ap (λ j. cond (member x (get_or qs k no_equation).names) (some j) (definer (take k qs) x)) y)))
 
-    pub search_here : member x (get_or qs (left - 1) no_equation).names ≡ true → left - 1 ≡ definer_code (definer qs x)
-    search_here h = sym (ap definer_code (last_here ∙ ap (λ b. cond b (some (left - 1)) (definer (take (left - 1) qs) x)) h))
+    pub search_here : member x (get_or qs k no_equation).names ≡ true → Std.Some k ≡ as_option o
+    search_here g = sym (ap as_option (last_here ∙ ap (λ b. cond b (some k) (definer (take k qs) x)) g))
 
-    pub search_on : member x (get_or qs (left - 1) no_equation).names ≡ false → definer qs x ≡ definer (take (left - 1) qs) x
-    search_on h = last_here ∙ ap (λ b. cond b (some (left - 1)) (definer (take (left - 1) qs) x)) h
-
-pub search_start : (qs : List Equation) (x left : ℕ) → length qs ≡ left → definer qs x ≡ definer (take left qs) x
-search_start qs x left e = ap (λ v. definer v x) (sym (ap (λ k. take k qs) (sym e) ∙ whole qs))
-  where
-    whole : (rs : List Equation) → take (length rs) rs ≡ rs
-    whole [] = refl
-    whole (r ∷ rs) = ap (λ v. r ∷ v) (whole rs)
-
--- the first equations are those at the first places
-pub equations_take : (s : List ℕ) (l : Limits) (enums : ℕ) (n : ℕ) (starts : List ℕ) → equations_at s l enums (take n starts) ≡ take n (equations_at s l enums starts)
-equations_take s l enums zero starts = refl
-equations_take s l enums (suc n) [] = refl
-equations_take s l enums (suc n) (a ∷ starts) = ap (λ v. equation_at s l enums a ∷ v) (equations_take s l enums n starts)
-
-pub readable_take : {s : List ℕ} {l : Limits} {enums : ℕ} {starts : List ℕ} (n : ℕ) → Readable s l enums starts → n ≤ length starts → Readable s l enums (take n starts)
-readable_take {s} {l} {enums} {starts} n rd h =
-    let len : length (take n starts) ≡ n = length-take-le n starts h in
-    record {
-      each = λ k i. subst (λ p. (m : ℕ) × (equation_r s l enums p ≡ got (equation_at s l enums p) m)) (sym (get_or-take n starts k 0 (omega (arith, len)))) (rd.each k (omega (arith, len)));
-      few = omega (arith, len, rd.few);
-    }
+    pub search_on : member x (get_or qs k no_equation).names ≡ false → o ≡ definer (take k qs) x
+    search_on g = last_here ∙ ap (λ b. cond b (some k) (definer (take k qs) x)) g
 
 -- ---- names with the same entry
 
@@ -369,23 +323,52 @@ low_keyed i (q ∷ qs) x h =
     ap (λ o. later o (member x (map key_of q.names)) i) (low_keyed (suc i) qs x (λ y g. (later_none (definer_from (suc i) qs y) (member y q.names) i (h y g)).0))
     ∙ ap (λ b. later (definer_from (suc i) qs x) b i) (low_member x q.names (λ y g. (later_none (definer_from (suc i) qs y) (member y q.names) i (h y g)).1))
 
--- what the table says of a name
-module _ {qs : List Equation} {low : Bool} {table : List ℕ} (df : Definers qs low table) (few : length qs ≤ 80) (x : ℕ) {d : ℕ} (e : d ≡ get_or table (key_of x) 255) where
-  pub entry_some : d < length qs → definer (take (d + 1) qs) x ≡ definer qs x
-  entry_some h = go (definer (map keyed qs) (key_of x)) refl
-    where
-      go : (o : Option ℕ) → definer (map keyed qs) (key_of x) ≡ o → definer (take (d + 1) qs) x ≡ definer qs x
-      go none f = absurd (omega (arith, e, df.is x ∙ ap definer_code f))
-      go (some j) f =
-          let z : suc j - 0 ≡ d + 1 = omega (arith, e, df.is x ∙ ap definer_code f) in
-          sym (keyed_some 0 qs x j f ∙ ap (λ k. definer (take k qs) x) z)
+-- ---- what the table says of a name
 
-  pub entry_none : length qs ≤ d → 255 ≡ definer_code (definer qs x)
+same_some : {a b : ℕ} → Std.Some a ≡ Std.Some b → a ≡ b
+same_some e = cc
+
+-- an entry below 255 is an equation
+entry_below : {d e : ℕ} → Std.Some d ≡ entry_of e → (d ≡ e) × (e < 255)
+entry_below {d} {e} h = go (nat_lt e 255) refl
+  where
+    go : (b : Bool) → nat_lt e 255 ≡ b → (d ≡ e) × (e < 255)
+    go true f = (same_some (h ∙ ap (λ c. cond c (Std.Some e) Std.None) f), ltb-true e 255 f)
+    go false f = let z : Std.Some d ≡ Std.None = h ∙ ap (λ c. cond c (Std.Some e) Std.None) f in absurd (cc)
+
+entry_out : {e : ℕ} → Std.None ≡ entry_of e → 255 ≤ e
+entry_out {e} h = go (nat_lt e 255) refl
+  where
+    go : (b : Bool) → nat_lt e 255 ≡ b → 255 ≤ e
+    go true f = let z : Std.Some e ≡ Std.None = sym (h ∙ ap (λ c. cond c (Std.Some e) Std.None) f) in absurd (cc)
+    go false f = ltb-false e 255 f
+
+entry_code : (o : Option ℕ) → ((j : ℕ) → o ≡ some j → j < 255) → entry_of (definer_code o) ≡ as_option o
+entry_code none h = refl
+entry_code (some j) h = ap (λ c. cond c (Std.Some j) Std.None) (lt-ltb j 255 (h j refl))
+
+module _ {qs : List Equation} {low : Bool} {table : List ℕ} (df : Definers qs low table) (few : length qs ≤ 80) (x : ℕ) where
+  pub entry_low : low ≡ true → entry_of (get_or table x 255) ≡ as_option (definer qs x)
+  entry_low g = ap entry_of (df.lows g x) ∙ entry_code (definer qs x) (λ j f. omega (arith, (definer_inside 0 qs x j f).1))
+
+  pub entry_some : {d : ℕ} → Std.Some d ≡ entry_of (get_or table (key_of x) 255) → (d < length qs) × (definer (take (d + 1) qs) x ≡ definer qs x)
+  entry_some {d} h = go (definer (map keyed qs) (key_of x)) refl
+    where
+      e : (d ≡ get_or table (key_of x) 255) × (get_or table (key_of x) 255 < 255)
+      e = entry_below h
+
+      go : (o : Option ℕ) → definer (map keyed qs) (key_of x) ≡ o → (d < length qs) × (definer (take (d + 1) qs) x ≡ definer qs x)
+      go none f = absurd (omega (arith, e.1, df.is x ∙ ap definer_code f))
+      go (some j) f =
+          let z : suc j - 0 ≡ d + 1 = omega (arith, e.0, df.is x ∙ ap definer_code f) in
+          (omega (arith, z, (definer_inside 0 (map keyed qs) (key_of x) j f).1, length-map qs keyed), sym (keyed_some 0 qs x j f ∙ ap (λ k. definer (take k qs) x) z))
+
+  pub entry_none : Std.None ≡ entry_of (get_or table (key_of x) 255) → Std.None ≡ as_option (definer qs x)
   entry_none h = go (definer (map keyed qs) (key_of x)) refl
     where
-      go : (o : Option ℕ) → definer (map keyed qs) (key_of x) ≡ o → 255 ≡ definer_code (definer qs x)
-      go none f = sym (ap definer_code (keyed_none 0 qs x f))
-      go (some j) f = absurd (omega (arith, e, df.is x ∙ ap definer_code f, (definer_inside 0 (map keyed qs) (key_of x) j f).1, length-map qs keyed))
+      go : (o : Option ℕ) → definer (map keyed qs) (key_of x) ≡ o → Std.None ≡ as_option (definer qs x)
+      go none f = sym (ap as_option (keyed_none 0 qs x f))
+      go (some j) f = absurd (omega (arith, entry_out h, df.is x ∙ ap definer_code f, (definer_inside 0 (map keyed qs) (key_of x) j f).1, length-map qs keyed))
 
 pub definers_made : (qs : List Equation) (low : Bool) (t w : List ℕ) → Blank qs low t → w ≡ put_all 0 (map keyed qs) t → Definers qs low w
 definers_made qs low t w blank e =

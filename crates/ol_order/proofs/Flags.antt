@@ -1,24 +1,20 @@
 -- The flags of the placed equations, and the list of those placed.
-use Prim.Native.Nat.{ℕ, zero, suc, ◌+◌, ◌≤◌, ◌<◌}
-use mathlib.Core.Bool.{Bool, true, false, ◌||◌}
+use Prim.Native.Nat.{ℕ, zero, suc, ◌+◌, ◌<◌}
+use mathlib.Core.Bool.{Bool, true, false, cond, not, ◌||◌}
 use mathlib.Core.List.{List, [], ◌∷◌, ◌++◌}
 use mathlib.Core.Path.{◌≡◌, refl, sym, ap, subst, ◌∙◌}
 use native.Mathlib.Numerals.{add-one}
 use native.Mathlib.Omega.{arith}
-use lib.ListN.{length, get_or, take, drop, set, length-set, drop_of_length-le}
-use lib.Seq.{get_or-set_same, get_or-set_other, take-suc, take-suc-set, drop-cons}
+use lib.ListN.{length, get_or, set, length-set}
+use lib.Seq.{get_or-set_same, get_or-set_other, take-suc-set}
 use lib.Dec.{eqb}
-use borrow.Author.Tests.{eqb-true, eqb-false}
+use borrow.Author.Tests.{eqb-true, eqb-false, ne_eqb}
+use Rattle.std.specs.Prelude.{◌==◌}
+use Rattle.std.specs.List.{position_or_len}
 use Rattle.ol_spec.specs.Lists.{member}
 use Rattle.ol_spec.specs.Syntax.{Equation}
-use Rattle.ol_order.specs.Tables.{flag_of, zeros, first_zero}
+use Rattle.ol_order.specs.Tables.{flag_of, zeros}
 use Rattle.ol_order.specs.Post.{State}
-
-take_all : (l : List ℕ) (i : ℕ) → length l ≤ i → take i l ≡ l
-take_all [] zero h = refl
-take_all [] (suc i) h = refl
-take_all (x ∷ l) zero h = absurd (omega arith)
-take_all (x ∷ l) (suc i) h = ap (λ m. x ∷ m) (take_all l i (omega arith))
 
 -- ---- membership
 
@@ -65,6 +61,9 @@ module _ {qs : List Equation} {list placed order : List ℕ} {n : ℕ} (st : Sta
   pub not_placed : (k : ℕ) → k < length placed → get_or placed k 0 ≡ 0 → member k list ≡ false
   not_placed k h e = flag_false (member k list) (sym (st.flags k h) ∙ e)
 
+  pub placed_flag : (k : ℕ) → k < length placed → member k list ≡ true → get_or placed k 0 ≡ 0 → ⊥
+  placed_flag k h e f = omega (arith, st.flags k h ∙ ap flag_of e, f)
+
   -- there is room for one that is not placed
   pub room_for : (k : ℕ) → k < length placed → get_or placed k 0 ≡ 0 → n < length order
   room_for k h e = omega (arith, zeros_set placed k h e, st.left, st.room)
@@ -86,38 +85,15 @@ module _ {qs : List Equation} {list placed order : List ℕ} {n : ℕ} (st : Sta
 
 -- ---- the first 0
 
-pub first_start : (l : List ℕ) → first_zero l ≡ 0 + first_zero (drop 0 l)
-first_start l = omega arith
+unfoldable pub first_zero : List ℕ → ℕ
+first_zero [] = 0
+first_zero (zero ∷ l) = 0
+first_zero (suc n ∷ l) = suc (first_zero l)
 
-zero_first : (x : ℕ) (l : List ℕ) → x ≡ 0 → first_zero (x ∷ l) ≡ 0
+-- it is where the code finds it
+pub first_position : (l : List ℕ) → position_or_len (λ x. x == 0) l ≡ first_zero l
 unfolding first_zero
-zero_first zero l e = refl
-zero_first (suc x) l e = absurd (omega arith)
-
-zero_later : (x : ℕ) (l : List ℕ) → (x ≡ 0 → ⊥) → first_zero (x ∷ l) ≡ suc (first_zero l)
-unfolding first_zero
-zero_later zero l e = absurd (e refl)
-zero_later (suc x) l e = refl
-
-module _ (l : List ℕ) (i : ℕ) where
-  pub first_here : i < length l → get_or l i 0 ≡ 0 → first_zero l ≡ i + first_zero (drop i l) → i ≡ first_zero l
-  first_here h e f = let z : first_zero (drop i l) ≡ 0 = ap first_zero (drop-cons l i 0 h) ∙ zero_first (get_or l i 0) (drop (suc i) l) e in omega arith
-
-  pub first_next : i < length l → (get_or l i 0 ≡ 0 → ⊥) → first_zero l ≡ i + first_zero (drop i l) → first_zero l ≡ i + 1 + first_zero (drop (i + 1) l)
-  first_next h e f =
-      let z : first_zero (drop i l) ≡ suc (first_zero (drop (suc i) l)) = ap first_zero (drop-cons l i 0 h) ∙ zero_later (get_or l i 0) (drop (suc i) l) e in
-      let y : first_zero (drop (i + 1) l) ≡ first_zero (drop (suc i) l) = ap (λ k. first_zero (drop k l)) (add-one i) in
-      omega (arith, z, y, f)
-
-  pub first_end : length l ≤ i → first_zero l ≡ i + first_zero (drop i l) → i ≡ first_zero l
-  unfolding first_zero
-  first_end h f = let z : first_zero (drop i l) ≡ 0 = ap first_zero (drop_of_length-le l h) in omega arith
-
--- ---- a copy
-
-module _ (a b : List ℕ) (i : ℕ) where
-  pub copy_turn : i < length a → length b ≡ length a → take i b ≡ take i a → take (i + 1) (set b i (get_or a i 0)) ≡ take (i + 1) a
-  copy_turn h e f = let k : i < length b = omega arith in rw add-one (take-suc-set b i (get_or a i 0) k ∙ (ap (λ l. l ++ get_or a i 0 ∷ []) f ∙ sym (take-suc a i 0 h)))
-
-  pub copy_end : length a ≤ i → length b ≡ length a → take i b ≡ take i a → b ≡ a
-  copy_end h e f = sym (take_all b i (omega arith)) ∙ (f ∙ take_all a i h)
+first_position [] = refl
+first_position (zero ∷ l) = refl
+first_position (suc n ∷ l) =
+    ap (λ b. cond (not b) (1 + position_or_len (λ x. x == 0) l) 0) (ne_eqb (suc n) 0 (λ e. omega arith)) ∙ omega (arith, first_position l)

@@ -18,19 +18,17 @@ use Rattle.ol_spec.specs.Answers.{fault_at, sorted_fault}
 use Rattle.ol_spec.specs.Cycle.{OrderingCall, no_order, order_fits, order_unless_ring, order_node, order_read, ordering}
 use Rattle.ol_spec.specs.declared.Fault.{Fault}
 use Rattle.ol_spec.specs.declared.Limits.{Limits}
-use Rattle.ol_spec.specs.declared.Sorted.{Sorted}
-use Rattle.ol_order.specs.Tables.{equation_in, node_in, equation_at, node_at, equations_at, order_if, order_unless, order_of}
+use Rattle.ol_spec.specs.Answers.{Sorted}
+use Rattle.ol_order.specs.Tables.{is_got, equation_in, node_in, equation_at, node_at, equations_at, order_if, order_unless, order_of}
 use Rattle.ol_order.specs.Post.{Readable, NodeReads}
 use Rattle.ol_order.specs.Counts.{equations_in, equations_of}
-use Rattle.ol_ir.specs.Nexts.{counted_of}
+use Rattle.ol_ir.specs.Nexts.{Counting, counted_at, counted_of}
 use Rattle.ol_ir.specs.Nodes.{equations_r}
 use Rattle.ol_order.proofs.Room.{short_file}
-use Rattle.ol_ir.specs.Walks.{place_of, loaded_of}
-use Rattle.ol_ir.specs.declared.Counted.{Counted}
-use Rattle.ol_ir.specs.declared.Counted.TheVariants as Cnt
+use Rattle.ol_ir.specs.Walks.{place_of, Loading, loaded_with, loaded_of}
+use Rattle.std.specs.Prelude as Std
 use Rattle.ol_ir.specs.declared.Loaded.{Loaded}
-use Rattle.ol_ir.specs.declared.Loaded.TheVariants as Ldd
-use Rattle.ol_ir.proofs.Bytes.{get_out}
+use Rattle.ol_ir.proofs.Bytes.{same_ok, same_count, get_out}
 use Rattle.ol_ir.proofs.Files.{file_after}
 use Rattle.ol_ir.proofs.Items.{equation_read, few_equations_lem}
 use Rattle.ol_ir.proofs.Load.{node_read, few_nodes_lem}
@@ -101,8 +99,7 @@ module _ (s : List ℕ) (l : Limits) (enums : ℕ) where
           each = λ k i.
               let g = place_get (placed_equations at n) k (omega (arith, length-map (placed_equations at n) place_of)) in
               let a = equation_read s l enums at n end r k g.0 g.1 g.2 in
-              let b : equation_r s l enums (get_or starts k 0) ≡ got g.1 a.0 = subst (λ p. equation_r s l enums p ≡ got g.1 a.0) (sym g.3) a.1 in
-              (a.0, b ∙ ap (λ q. got q a.0) (sym (at_place (get_or starts k 0) g.1 a.0 b)));
+              ap is_got (subst (λ p. equation_r s l enums p ≡ got g.1 a.0) (sym g.3) a.1);
           few = omega (arith, long_starts, few_equations_lem s l enums at n end r);
         }
 
@@ -131,52 +128,53 @@ module _ (s : List ℕ) (l : Limits) (enums at : ℕ) (nr : NodeReads s l enums 
   abbrev node : Node
   node = node_at s l enums at
 
-  pub as_counted : {x : Counted} {k q : ℕ} → x ≡ Cnt.Items (length node.equations) (equations_start at node + 1) → x ≡ Cnt.Items k q → k ≡ length node.equations
-  as_counted {k = k} {q} e g = let b : Cnt.Items k q ≡ Cnt.Items (length node.equations) (equations_start at node + 1) = sym g ∙ e in cc
+  pub as_counted : {x : Counting} {k q : ℕ} → x ≡ Std.Ok (counted_at (length node.equations) (equations_start at node + 1)) → x ≡ Std.Ok (counted_at k q) → k ≡ length node.equations
+  as_counted {k = k} {q} e g = same_count (sym g ∙ e)
 
   pub counted_few : {k : ℕ} → k ≡ length node.equations → k ≤ 80
   counted_few c = omega (arith, c, few_equations_lem s l enums at node nr.end nr.is, nr.few)
 
-  module _ {k : ℕ} {t : List ℕ} (c : k ≡ length node.equations) (h : t ≡ sets (replicate 80 0) 0 (map place_of (placed_equations at node))) where
-    few : length (map place_of (placed_equations at node)) ≤ 80
-    few = omega (arith, long_starts s l enums at node nr.end nr.is, few_equations_lem s l enums at node nr.end nr.is, nr.few)
+  few : length (map place_of (placed_equations at node)) ≤ 80
+  few = omega (arith, long_starts s l enums at node nr.end nr.is, few_equations_lem s l enums at node nr.end nr.is, nr.few)
 
-    pub front_is : take k t ≡ map place_of (placed_equations at node)
-    front_is = ap (take k) h ∙ table_front 80 (map place_of (placed_equations at node)) few k (long_starts s l enums at node nr.end nr.is ∙ sym c)
+  -- the front of a table of their places
+  pub front_is : {k : ℕ} {t : List ℕ} → k ≡ length node.equations → t ≡ sets (replicate 80 0) 0 (map place_of (placed_equations at node)) → take k t ≡ map place_of (placed_equations at node)
+  front_is {k} {t} c h = ap (take k) h ∙ table_front 80 (map place_of (placed_equations at node)) few k (long_starts s l enums at node nr.end nr.is ∙ sym c)
 
-    pub front_readable : Readable s l enums (take k t)
-    front_readable = subst (Readable s l enums) (sym front_is) (node_readable s l enums at node nr.end nr.is nr.few)
+  module _ {starts : List ℕ} (h : starts ≡ map place_of (placed_equations at node)) where
+    pub front_readable : Readable s l enums starts
+    front_readable = subst (Readable s l enums) (sym h) (node_readable s l enums at node nr.end nr.is nr.few)
 
-    pub front_order : (buf : List ℕ) → order_of (equations_at s l enums (take k t)) (take k t) buf ≡ order_node (some (at, node)) buf
+    pub front_order : (buf : List ℕ) → order_of (equations_at s l enums starts) starts buf ≡ order_node (some (at, node)) buf
     front_order buf =
-        ap (λ v. order_of (equations_at s l enums v) v buf) front_is
+        ap (λ v. order_of (equations_at s l enums v) v buf) h
         ∙ (ap (λ qs. order_of qs (map place_of (placed_equations at node)) buf) (node_equations s l enums at node nr.end nr.is) ∙ sym (node_order at node buf))
 
-  pub not_counted : {x : Counted} {f : Fault} {t : Type 0} → x ≡ Cnt.Items (length node.equations) (equations_start at node + 1) → x ≡ Cnt.Refused f → t
-  not_counted {f = f} e g = let b : Cnt.Refused f ≡ Cnt.Items (length node.equations) (equations_start at node + 1) = sym g ∙ e in let z : ◌≡◌ {A = ℕ} 0 1 = cc in absurd (omega arith)
+  pub not_counted : {x : Counting} {f : Fault} {t : Type 0} → x ≡ Std.Ok (counted_at (length node.equations) (equations_start at node + 1)) → x ≡ Std.Err f → t
+  not_counted {f = f} e g = let b : ◌≡◌ {A = Counting} (Std.Err f) (Std.Ok (counted_at (length node.equations) (equations_start at node + 1))) = sym g ∙ e in let z : ◌≡◌ {A = ℕ} 0 1 = cc in absurd (omega arith)
 
 -- ---- what the table of the nodes answers
 
-pub loaded_file : (r : Read File) (e k : ℕ) → Ldd.Nodes e k ≡ loaded_of r → (f : File) × (end : ℕ) × (r ≡ got f end) × (length f.enums ≡ e) × (length f.nodes ≡ k)
+pub loaded_file : (r : Read File) (e k : ℕ) → Std.Ok (loaded_with e k) ≡ loaded_of r → (f : File) × (end : ℕ) × (r ≡ got f end) × (length f.enums ≡ e) × (length f.nodes ≡ k)
 unfolding loaded_of
-loaded_file (got f end) e k h = (f, end, refl, cc, cc)
+loaded_file (got f end) e k h = let z = same_ok h in (f, end, refl, sym (ap (λ (l : Loaded). l.enums) z), sym (ap (λ (l : Loaded). l.nodes) z))
 loaded_file (fault n p) e k h = let z : ◌≡◌ {A = ℕ} 0 1 = cc in absurd (omega arith)
 
-pub loaded_not : (r : Read File) (f : Fault) → Ldd.Refused f ≡ loaded_of r → r ≡ fault f.number f.place
+pub loaded_not : (r : Read File) (f : Fault) → Std.Err f ≡ loaded_of r → r ≡ fault f.number f.place
 unfolding loaded_of
 loaded_not (got g end) f h = let z : ◌≡◌ {A = ℕ} 0 1 = cc in absurd (omega arith)
 loaded_not (fault n p) f h = let z : fault_at n p ≡ f = cc in ap (λ (v : Fault). fault v.number v.place) z
 
-module _ (s : List ℕ) {x : Loaded} (e : x ≡ loaded_of (read_file s relay_loader)) (node : ℕ) (buf : List ℕ) where
+module _ (s : List ℕ) {x : Loading} (e : x ≡ loaded_of (read_file s relay_loader)) (node : ℕ) (buf : List ℕ) where
   -- the file is refused
-  pub order_refused : {f : Fault} → x ≡ Ldd.Refused f → no_order f.number f.place buf ≡ ordering relay_loader s node buf
+  pub order_refused : {f : Fault} → x ≡ Std.Err f → no_order f.number f.place buf ≡ ordering relay_loader s node buf
   unfolding ordering
   order_refused {f} g = sym (ap (λ r. order_read r node buf) (loaded_not (read_file s relay_loader) f (sym g ∙ e)))
 
-  pub count_refused : {f : Fault} → x ≡ Ldd.Refused f → 0 ≡ equations_of (read_file s relay_loader) node
+  pub count_refused : {f : Fault} → x ≡ Std.Err f → 0 ≡ equations_of (read_file s relay_loader) node
   count_refused {f} g = sym (ap (λ r. equations_of r node) (loaded_not (read_file s relay_loader) f (sym g ∙ e)))
 
-  module _ {enums k : ℕ} (g : x ≡ Ldd.Nodes enums k) where
+  module _ {enums k : ℕ} (g : x ≡ Std.Ok (loaded_with enums k)) where
     abbrev loaded : (f : File) × (end : ℕ) × (read_file s relay_loader ≡ got f end) × (length f.enums ≡ enums) × (length f.nodes ≡ k)
     loaded = loaded_file (read_file s relay_loader) enums k (sym g ∙ e)
 
@@ -227,11 +225,10 @@ module _ (s : List ℕ) {x : Loaded} (e : x ≡ loaded_of (read_file s relay_loa
           ap (λ n. order_node (some (get_or t node 0, n)) buf) (node_is l b)
           ∙ (ap (λ p. order_node (some (p, entry.1)) buf) place_is ∙ sym (ap (λ r. order_read r node buf) loaded.2 ∙ ap (λ o. order_node o buf) entry.2))
 
-      pub count_present : (l : Limits) → l ≡ base → {y : Counted} {n q : ℕ} → y ≡ counted_of (equations_r s l enums (get_or t node 0)) → y ≡ Cnt.Items n q → n ≡ equations_of (read_file s relay_loader) node
+      pub count_present : (l : Limits) → l ≡ base → {y : Counting} {n q : ℕ} → y ≡ counted_of (equations_r s l enums (get_or t node 0)) → y ≡ Std.Ok (counted_at n q) → n ≡ equations_of (read_file s relay_loader) node
       count_present l b {n = n} {q} u v =
           let a = node_got l b in
-          let is : Cnt.Items n q ≡ Cnt.Items (length entry.1.equations) (equations_start (get_or t node 0) entry.1 + 1) = sym v ∙ starts_told s l enums (get_or t node 0) entry.1 a.0 a.1 u in
-          let same : n ≡ length entry.1.equations = cc in
+          let same : n ≡ length entry.1.equations = same_count (sym v ∙ starts_told s l enums (get_or t node 0) entry.1 a.0 a.1 u) in
           same ∙ sym (ap (λ r. equations_of r node) loaded.2 ∙ ap equations_in entry.2)
 
 -- what the ordering's call gives: the answer, the buffer, and the answer's number and place

@@ -11,9 +11,9 @@ use lib.Seq.{drop-cons, drop-drop, drop-set-lt, length-take-le}
 use Rattle.ol_spec.specs.Lists.{member}
 use Rattle.ol_spec.specs.Syntax.{Equation}
 use Rattle.ol_spec.specs.Order.{ready, place, pass, passes, order, outside_if, first_outside, unplaced}
-use Rattle.ol_order.specs.Tables.{no_equation, flag_of, zeros, first_zero}
+use Rattle.ol_order.specs.Tables.{no_equation, flag_of, zeros}
 use Rattle.ol_order.specs.Post.{State}
-use Rattle.ol_order.proofs.Flags.{is_placed_lem, not_placed, place_state}
+use Rattle.ol_order.proofs.Flags.{first_zero, is_placed_lem, not_placed, place_state}
 
 take_length : {A : Type 0} (l : List A) → take (length l) l ≡ l
 take_length [] = refl

@@ -8,7 +8,7 @@ use mathlib.Core.Path.{◌≡◌, refl, sym, ap, subst, ◌∙◌}
 use native.Mathlib.Decide.{dec_le}
 use native.Mathlib.Numerals.{add-one}
 use native.Mathlib.Omega.{arith}
-use lib.ListN.{length, get_or, set, take, drop, replicate, get_elem?, length-map, length-append, length-drop, take-append-drop, drop_of_length-le, get_or-append}
+use lib.ListN.{length, get_or, set, take, drop, get_elem?, length-map, length-append, length-drop, take-append-drop, drop_of_length-le, get_or-append}
 use lib.Seq.{sets, sets-eq, get_or-take, get_or-drop, get_or-append-add, get_or-set_other, length-take-le, length_front, take-set-lt, drop-set-lt, drop-append-le, drop-drop, drop-cons, ext_get_or}
 use mathlib.Core.List.Memᴰ.{head as here}
 use mathlib.Core.List.Memᴰ.{tail as there}
@@ -25,11 +25,11 @@ use Rattle.ol_spec.proofs.Offsets.{same_item}
 use Rattle.ol_spec.proofs.Ordering.{placed_or_stuck}
 use Rattle.ol_order.specs.Tables.{node_in, node_at, equations_at, waited_all}
 use Rattle.ol_order.specs.Post.{NodeReads, Sorts}
-use Rattle.ol_order.specs.Orders.{ring_place, Small, LowNames, StartsWith, row_written, EquationsDone, starts_in, PlanAt, NodeDone, NodesStand, NodePlanned, Planned, OrderOf, orders_written, OrdersDone}
-use Rattle.ol_order.specs.declared.table.Ring.{Ring}
-use Rattle.ol_order.specs.declared.table.Ring.TheVariants as Rin
+use Rattle.std.specs.Prelude as Std
+use Rattle.ol_order.proofs.Scanning.{found_some, found_none}
+use Rattle.ol_order.specs.Orders.{Ring, ring_place, Small, LowNames, StartsWith, row_written, EquationsDone, starts_in, PlanAt, NodeDone, NodesStand, NodePlanned, Planned, OrderOf, orders_written, OrdersDone}
 use Rattle.ol_order.proofs.Room.{short_file, node_room, variables_room}
-use Rattle.ol_order.proofs.Nodes.{place_get, length_placed, items_placed, item_of, place_same, node_equations, counted_few, front_is}
+use Rattle.ol_order.proofs.Nodes.{place_get, length_placed, items_placed, item_of, place_same, node_equations, counted_few}
 use Rattle.ol_tables.specs.Tables.{row_at, node_of, place_of as table_place, slots_from, two_at, plans_from, plan_in}
 use Rattle.ol_ir.specs.Walks.{place_of}
 use Rattle.ol_ir.proofs.Files.{file_after}
@@ -50,9 +50,9 @@ order_below qs e j h = ⊎_elim (λ p. p.valid.inside (get_or (order qs) j 0) (g
     never : (i : ℕ) → none ≡ some i → ⊥
     never i f = let z : ◌≡◌ {A = ℕ} 0 1 = cc in omega arith
 
-pub sorted_small : {qs : List Equation} {before o : List ℕ} {first : ℕ} → length qs ≤ 80 → Sorts qs before o first → length qs ≤ first → Small o
-sorted_small {qs} few so h =
-    subst Small (sym (so.order h)) (λ j i. omega (arith, order_below qs (so.placed h) j i))
+pub sorted_small : {qs : List Equation} {before o : List ℕ} → length qs ≤ 80 → Sorts qs before o Std.None → Small o
+sorted_small {qs} few so =
+    subst Small (sym (so.order refl)) (λ j i. omega (arith, order_below qs (found_none (unplaced qs) so.ring) j i))
 
 -- ---- a copy
 
@@ -69,26 +69,28 @@ front_get vs t j h g = ap (λ (l : List ℕ). get_or l j 0) (sets-eq vs t 0 (ome
 
 -- ---- what the equations leave
 
-module _ {qs : List Equation} {space o : List ℕ} {first : ℕ} (starts before : List ℕ) (so : Sorts qs space o first) where
-  pub equations_ring : first < length qs → EquationsDone qs starts before before (Rin.At (get_or starts first 0))
-  equations_ring h =
+module _ {qs : List Equation} {space o : List ℕ} (starts before : List ℕ) where
+  pub equations_ring : {first : ℕ} → Sorts qs space o (Std.Some first) → EquationsDone qs starts before before (Std.Some (get_or starts first 0))
+  equations_ring {first} so =
+      let u : unplaced qs ≡ some first = found_some (unplaced qs) so.ring in
       record {
-        found = sym (ap (maybe none (λ i. some (get_or starts i 0))) (so.ring h));
-        order = λ e. absurd (never (sym e ∙ so.ring h));
+        found = sym (ap (maybe none (λ i. some (get_or starts i 0))) u);
+        order = λ e. absurd (never first (sym e ∙ u));
         few = so.few;
-        written = sym (ap (maybe (sets before 0 (order qs)) (λ i. before)) (so.ring h));
+        written = sym (ap (maybe (sets before 0 (order qs)) (λ i. before)) u);
       }
     where
-      never : none ≡ some first → ⊥
-      never f = let z : ◌≡◌ {A = ℕ} 0 1 = cc in omega arith
+      never : (i : ℕ) → none ≡ some i → ⊥
+      never i f = let z : ◌≡◌ {A = ℕ} 0 1 = cc in omega arith
 
-  pub equations_done : {out : List ℕ} → length qs ≤ first → length o ≤ length before → out ≡ sets before 0 o → EquationsDone qs starts before out Rin.Nothing
-  equations_done {out} h few f =
+  pub equations_done : {out : List ℕ} → Sorts qs space o Std.None → length o ≤ length before → out ≡ sets before 0 o → EquationsDone qs starts before out Std.None
+  equations_done {out} so few f =
+      let u : unplaced qs ≡ none = found_none (unplaced qs) so.ring in
       record {
-        found = sym (ap (maybe none (λ i. some (get_or starts i 0))) (so.placed h));
-        order = λ e j i. ap (λ (l : List ℕ). get_or l j 0) f ∙ (front_get o before j few (omega (arith, so.long)) ∙ ap (λ (l : List ℕ). get_or l j 0) (so.order h));
+        found = sym (ap (maybe none (λ i. some (get_or starts i 0))) u);
+        order = λ e j i. ap (λ (l : List ℕ). get_or l j 0) f ∙ (front_get o before j few (omega (arith, so.long)) ∙ ap (λ (l : List ℕ). get_or l j 0) (so.order refl));
         few = so.few;
-        written = f ∙ (ap (sets before 0) (so.order h) ∙ sym (ap (maybe (sets before 0 (order qs)) (λ i. before)) (so.placed h)));
+        written = f ∙ (ap (sets before 0) (so.order refl) ∙ sym (ap (maybe (sets before 0 (order qs)) (λ i. before)) u));
       }
 
 -- ---- a part of the bytes is written
@@ -145,33 +147,30 @@ module _ (s : List ℕ) (l : Limits) (enums at : ℕ) (nr : NodeReads s l enums 
   abbrev node : Node
   node = node_at s l enums at
 
-  module _ {k : ℕ} {t : List ℕ} (c : k ≡ length node.equations) (h : t ≡ sets (replicate 80 0) 0 (map place_of (placed_equations at node))) where
-    front : take k t ≡ map place_of (placed_equations at node)
-    front = front_is s l enums at nr c h
-
-    pub front_equations : equations_at s l enums (take k t) ≡ node.equations
+  module _ {starts : List ℕ} (front : starts ≡ map place_of (placed_equations at node)) where
+    pub front_equations : equations_at s l enums starts ≡ node.equations
     front_equations = ap (equations_at s l enums) front ∙ node_equations s l enums at node nr.end nr.is
 
     -- the lists of its equations have room in a third of the file's bytes
-    pub front_room : 3 * length (waited_all (equations_at s l enums (take k t)) (equations_at s l enums (take k t))) ≤ length s
+    pub front_room : 3 * length (waited_all (equations_at s l enums starts) (equations_at s l enums starts)) ≤ length s
     front_room = subst (λ qs. 3 * length (waited_all qs qs) ≤ length s) (sym front_equations) (node_room s l enums at nr)
 
-    pub front_lists : {lists : List ℕ} (before : List ℕ) → lists ≡ sets before 0 (waited_all (equations_at s l enums (take k t)) (equations_at s l enums (take k t))) → lists ≡ sets before 0 (waited_all node.equations node.equations)
+    pub front_lists : {lists : List ℕ} (before : List ℕ) → lists ≡ sets before 0 (waited_all (equations_at s l enums starts) (equations_at s l enums starts)) → lists ≡ sets before 0 (waited_all node.equations node.equations)
     front_lists before e = e ∙ ap (λ qs. sets before 0 (waited_all qs qs)) front_equations
 
-    pub front_lows : {low : Bool} → (low ≡ true → LowNames node.equations) → low ≡ true → LowNames (equations_at s l enums (take k t))
+    pub front_lows : {low : Bool} → (low ≡ true → LowNames node.equations) → low ≡ true → LowNames (equations_at s l enums starts)
     front_lows f e = subst LowNames (sym front_equations) (f e)
 
-    ring_is : maybe none (λ i. some (get_or (take k t) i 0)) (unplaced (equations_at s l enums (take k t))) ≡ ring_in (at, node)
+    ring_is : maybe none (λ i. some (get_or starts i 0)) (unplaced (equations_at s l enums starts)) ≡ ring_in (at, node)
     ring_is =
-        ap (λ v. maybe none (λ i. some (get_or v i 0)) (unplaced (equations_at s l enums (take k t)))) front
+        ap (λ v. maybe none (λ i. some (get_or v i 0)) (unplaced (equations_at s l enums starts))) front
         ∙ (ap (λ qs. maybe none (λ i. some (get_or (map place_of (placed_equations at node)) i 0)) (unplaced qs)) front_equations ∙ go (unplaced node.equations))
       where
         go : (o : Option ℕ) → maybe none (λ i. some (get_or (map place_of (placed_equations at node)) i 0)) o ≡ maybe none (λ i. some (place_at (placed_equations at node) i)) o
         go none = refl
         go (some i) = ap some (sym (place_same (placed_equations at node) i))
 
-    pub node_done : (tab x : List ℕ) {r : Ring} (u m : ℕ) → m ≡ 80 → u + 80 ≤ length tab → length x ≡ 80 → EquationsDone (equations_at s l enums (take k t)) (take k t) (take m (drop u tab)) x r → NodeDone at node u tab (partly tab x u m) r
+    pub node_done : (tab x : List ℕ) {r : Ring} (u m : ℕ) → m ≡ 80 → u + 80 ≤ length tab → length x ≡ 80 → EquationsDone (equations_at s l enums starts) starts (take m (drop u tab)) x r → NodeDone at node u tab (partly tab x u m) r
     node_done tab x {r} u m z long lx d =
         let few : length (order node.equations) ≤ length node.equations = subst (λ qs. length (order qs) ≤ length qs) front_equations d.few in
         let all : length node.equations ≤ 80 = counted_few s l enums at nr refl in
@@ -180,7 +179,7 @@ module _ (s : List ℕ) (l : Limits) (enums at : ℕ) (nr : NodeReads s l enums 
           few = few;
           order = λ f j i.
               part_inside tab x u m (omega arith) j (omega arith)
-              ∙ subst (λ qs. StartsWith qs x) front_equations (d.order (some_none (λ i. get_or (take k t) i 0) (unplaced (equations_at s l enums (take k t))) (ring_is ∙ f))) j i;
+              ∙ subst (λ qs. StartsWith qs x) front_equations (d.order (some_none (λ i. get_or starts i 0) (unplaced (equations_at s l enums starts)) (ring_is ∙ f))) j i;
           written = ap (λ v. partly tab v u m) (d.written ∙ ap (λ qs. row_written qs 0 (take m (drop u tab))) front_equations) ∙ part_written node.equations tab u m (omega arith) (omega arith);
         }
 
@@ -227,27 +226,6 @@ module _ {at : ℕ} {n : Node} {u : ℕ} {before out : List ℕ} {r : Ring} (d :
 
 -- ---- what a plan says
 
-pub starts_begin : (t b : List ℕ) (plan n : ℕ) → sets b 0 (starts_in t (plan + 2 * 0) (n - 0)) ≡ sets b 0 (starts_in t plan n)
-starts_begin t b plan n =
-    let a : plan + 2 * 0 ≡ plan = omega arith in
-    let c : n - 0 ≡ n = omega arith in
-    ap (λ x. sets b 0 (starts_in t x (n - 0))) a ∙ ap (λ x. sets b 0 (starts_in t plan x)) c
-
--- b with the starts that are left is w
-pub starts_turn : (t b w : List ℕ) (plan n i v : ℕ) → i < n → v ≡ two_at t (plan + 2 * i) → sets b i (starts_in t (plan + 2 * i) (n - i)) ≡ w → sets (set b i v) (i + 1) (starts_in t (plan + 2 * (i + 1)) (n - (i + 1))) ≡ w
-unfolding starts_in
-starts_turn t b w plan n i v h z e =
-    let a : n - i ≡ suc (n - (i + 1)) = omega arith in
-    let c : plan + 2 * (i + 1) ≡ plan + 2 * i + 2 = omega arith in
-    let f : i + 1 ≡ suc i = omega arith in
-    ap (λ x. sets (set b i x) (i + 1) (starts_in t (plan + 2 * (i + 1)) (n - (i + 1)))) z
-    ∙ (ap (λ x. sets (set b i (two_at t (plan + 2 * i))) (i + 1) (starts_in t x (n - (i + 1)))) c
-    ∙ (ap (λ x. sets (set b i (two_at t (plan + 2 * i))) x (starts_in t (plan + 2 * i + 2) (n - (i + 1)))) f ∙ (ap (λ x. sets b i (starts_in t (plan + 2 * i) x)) (sym a) ∙ e)))
-
-pub starts_end : (t b w : List ℕ) (plan n i : ℕ) → n ≤ i → sets b i (starts_in t plan (n - i)) ≡ w → b ≡ w
-unfolding starts_in
-starts_end t b w plan n i h e = let z : n - i ≡ 0 = omega arith in ap (λ x. sets b i (starts_in t plan x)) (sym z) ∙ e
-
 starts_long : (t : List ℕ) (plan n : ℕ) → length (starts_in t plan n) ≡ n
 unfolding starts_in
 starts_long t plan zero = refl
@@ -258,6 +236,9 @@ unfolding starts_in
 starts_get t plan zero i h = absurd (omega arith)
 starts_get t plan (suc n) zero h = let z : plan ≡ plan + 2 * 0 = omega arith in ap (two_at t) z
 starts_get t plan (suc n) (suc i) h = let z : plan + 2 + 2 * i ≡ plan + 2 * suc i = omega arith in starts_get t (plan + 2) n i (omega arith) ∙ ap (two_at t) z
+
+pub starts_all_told : (t b : List ℕ) (plan n : ℕ) → length b ≡ n → ((i : ℕ) → i < n → get_or b i 0 ≡ two_at t (plan + 2 * i)) → b ≡ starts_in t plan n
+starts_all_told t b plan n e h = ext_get_or 0 b (starts_in t plan n) (e ∙ sym (starts_long t plan n)) (λ i g. h i (omega arith) ∙ sym (starts_get t plan n i (omega arith)))
 
 module _ (t before : List ℕ) (from : ℕ) (e : drop 2560 t ≡ drop 2560 before) (h : 2560 ≤ from) where
   get_kept : (p q : ℕ) → p ≡ from + q → get_or t p 0 ≡ get_or (drop from before) q 0
@@ -432,16 +413,16 @@ module _ {s places : List ℕ} {enums : ℕ} {low : Bool} (ns : NodesStand s enu
       ring_left : fault11 file ≡ or_else (ring_in (get_or places k 0, here_node)) (first_some (map ring_in (drop (suc k) (placed_nodes file))))
       ring_left = go.left ∙ ap (λ ps. first_some (map ring_in ps)) (here_is k h)
 
-      pub going_ring : {p : ℕ} (f : File) (end : ℕ) → read_file s relay_loader ≡ got f end → r ≡ Rin.At p → OrdersDone f before out (Rin.At p)
+      pub going_ring : {p : ℕ} (f : File) (end : ℕ) → read_file s relay_loader ≡ got f end → r ≡ Std.Some p → OrdersDone f before out (Std.Some p)
       going_ring {p} f end rd g =
           let a : some p ≡ ring_in (get_or places k 0, here_node) = ap ring_place (sym g) ∙ done_here.found in
           let b : fault11 file ≡ some p = ring_left ∙ ap (λ o. or_else o (first_some (map ring_in (drop (suc k) (placed_nodes file))))) (sym a) in
-          subst (λ v. OrdersDone v before out (Rin.At p)) (same_item (sym ns.is ∙ rd)) (record { found = sym b; written = ring_stays p (sym a); order = λ n. absurd (never p (sym n ∙ b)) })
+          subst (λ v. OrdersDone v before out (Std.Some p)) (same_item (sym ns.is ∙ rd)) (record { found = sym b; written = ring_stays p (sym a); order = λ n. absurd (never p (sym n ∙ b)) })
         where
           never : (i : ℕ) → none ≡ some i → ⊥
           never i f = let z : ◌≡◌ {A = ℕ} 0 1 = cc in omega arith
 
-      pub going_on : r ≡ Rin.Nothing → Going before (k + 1) out
+      pub going_on : r ≡ Std.None → Going before (k + 1) out
       going_on g =
           let a : none ≡ ring_in (get_or places k 0, here_node) = ap ring_place (sym g) ∙ done_here.found in
           let u : unplaced here_equations ≡ none = some_none (λ i. place_at (placed_equations (get_or places k 0) here_node) i) (unplaced here_equations) (sym a) in
@@ -461,7 +442,7 @@ module _ {s places : List ℕ} {enums : ℕ} {low : Bool} (ns : NodesStand s enu
     unfolding orders_written
     none_left h = ap (λ ps. orders_written k ps orders) (drop_of_length-le file.nodes {i = k} (omega (arith, as_many)))
 
-    pub going_done : length places ≤ k → (f : File) (end : ℕ) → read_file s relay_loader ≡ got f end → OrdersDone f before orders Rin.Nothing
+    pub going_done : length places ≤ k → (f : File) (end : ℕ) → read_file s relay_loader ≡ got f end → OrdersDone f before orders Std.None
     going_done h f end rd =
         let z : fault11 file ≡ none = go.left ∙ ap (λ ps. first_some (map ring_in ps)) (drop_of_length-le (placed_nodes file) {i = k} (omega (arith, as_many, long_nodes))) in
-        subst (λ v. OrdersDone v before orders Rin.Nothing) (same_item (sym ns.is ∙ rd)) (record { found = sym z; written = sym (go.rest ∙ none_left h); order = λ n k g. go.done k (omega (arith, as_many)) })
+        subst (λ v. OrdersDone v before orders Std.None) (same_item (sym ns.is ∙ rd)) (record { found = sym z; written = sym (go.rest ∙ none_left h); order = λ n k g. go.done k (omega (arith, as_many)) })

@@ -14,8 +14,10 @@ use Rattle.ol_spec.specs.Places.{expr_size, rhs_place}
 use Rattle.ol_spec.specs.Read.{got, Reader, many_exprs, name_r, expr_r}
 use Rattle.ol_spec.specs.Order.{reads, reads_all, definer}
 use Rattle.ol_spec.proofs.Ordering.{definer_inside}
-use Rattle.ol_order.specs.Tables.{equation_at, definer_code, with_definer, definers_of, waited}
+use Rattle.std.specs.Prelude as Std
+use Rattle.ol_order.specs.Tables.{equation_at, as_option, with_definer, definers_of, waited}
 use Rattle.ol_order.specs.Post.{Readable}
+use Rattle.ol_order.proofs.Turns.{each_read}
 use Rattle.ol_spec.specs.declared.Limits.{Limits}
 use Rattle.ol_tables.specs.Heads.{head_size, parts_of, joined, Byte}
 use Rattle.ol_tables.proofs.Skipping.{some_size, count_size}
@@ -76,17 +78,18 @@ module _ (s : List ℕ) (l : Limits) (enums d : ℕ) where
 
 -- ---- what is left to scan
 
--- a definer is below 255, and what is not is none
-pub code_some : (o : Option ℕ) {d : ℕ} → d ≡ definer_code o → d < 255 → o ≡ some d
-code_some none e h = absurd (omega arith)
-code_some (some j) e h = ap some (sym e)
+-- what the search for a definer gives
+pub found_some : (o : Option ℕ) {d : ℕ} → Std.Some d ≡ as_option o → o ≡ some d
+found_some none e = let z : ◌≡◌ {A = ℕ} 0 1 = cc in absurd (omega arith)
+found_some (some j) {d} e = let z : d ≡ j = cc in ap some (sym z)
 
-pub code_none : (qs : List Equation) (x : ℕ) {d : ℕ} → length qs ≤ 80 → d ≡ definer_code (definer qs x) → 255 ≤ d → definer qs x ≡ none
-code_none qs x {d} few e h = go (definer qs x) refl e
-  where
-    go : (o : Option ℕ) → definer qs x ≡ o → d ≡ definer_code o → definer qs x ≡ none
-    go none f g = f
-    go (some j) f g = absurd (omega (arith, g, (definer_inside 0 qs x j f).1))
+pub found_none : (o : Option ℕ) → Std.None ≡ as_option o → o ≡ none
+found_none none e = refl
+found_none (some j) e = let z : ◌≡◌ {A = ℕ} 0 1 = cc in absurd (omega arith)
+
+-- it is one of few equations
+pub found_few : (qs : List Equation) (x : ℕ) {d : ℕ} → length qs ≤ 80 → definer qs x ≡ some d → d < 80
+found_few qs x {d} few e = omega (arith, (definer_inside 0 qs x d e).1)
 
 -- `want` are the lists with all definers, m where they end; those of `left` expressions from `at` on are still to be written, from `end` on
 pub record Pending (s : List ℕ) (l : Limits) (enums : ℕ) (qs : List Equation) (want : List ℕ) (m : ℕ) (lists : List ℕ) (end left at : ℕ) : Type 0 where
@@ -247,7 +250,7 @@ module _ (s : List ℕ) (l : Limits) (enums : ℕ) (starts : List ℕ) (rd : Rea
   names_counted : CountIs s 1 l.names (get_or starts k 0) (length q.names) (get_or starts k 0 + 1)
   unfolding counted_of
   names_counted =
-      let f = rd.each k h in
+      let f = each_read s l enums rd k h in
       let c = section_at s 1 l.names (name_r s) (get_or starts k 0) q.names _ (equation_at_lem s l enums (get_or starts k 0) q f.0 f.1).names in
       counted_is s 1 l.names (get_or starts k 0) (length q.names) (get_or starts k 0 + 1) (sym (ap counted_of c.counted))
 
@@ -259,6 +262,6 @@ module _ (s : List ℕ) (l : Limits) (enums : ℕ) (starts : List ℕ) (rd : Rea
   unfolding waited
   right_start {r} b qs lists n =
       let right_place : rhs_place (get_or starts k 0) q ≡ get_or starts k 0 + 1 + 2 * r = omega (arith, names_counted.value, b.is) in
-      let f = rd.each k h in
+      let f = each_read s l enums rd k h in
       subst (λ v. Pending s l enums qs (sets lists n (definers_of qs (reads q.rhs))) (n + length (definers_of qs (reads q.rhs))) lists n 1 v) right_place
       (pending_start s l enums qs q.rhs (rhs_place (get_or starts k 0) q) f.0 n lists (equation_at_lem s l enums (get_or starts k 0) q f.0 f.1).right)

@@ -1,4 +1,4 @@
--- The lists of the definers that the equations wait for: each is scanned up to the first that is not placed.
+-- The lists of the definers that the equations wait for.
 use Prim.Native.Nat.{ℕ, zero, suc, ◌+◌, ◌-◌, ◌≤◌, ◌<◌}
 use mathlib.Core.Bool.{Bool, true, false, ◌&&◌}
 use mathlib.Core.List.{List, [], ◌∷◌, ◌++◌, append-nil, append_assoc}
@@ -13,7 +13,10 @@ use Rattle.ol_spec.specs.Syntax.{Equation}
 use Rattle.ol_spec.specs.Order.{reads, definer, ready}
 use Rattle.ol_spec.proofs.Ordering.{definer_inside}
 use Rattle.ol_order.specs.Tables.{no_equation, with_definer, definers_of, waited, waited_all, bounds}
-use Rattle.ol_order.specs.Post.{Waits}
+use Rattle.ol_order.specs.Post.{Waits, State}
+use Rattle.std.specs.Prelude.{All, ◌≢◌}
+use Rattle.std.proofs.lemmas.List.Elements.{All-nil, All-cons, All-head, All-tail}
+use Rattle.ol_order.proofs.Flags.{is_placed_lem, placed_flag}
 
 -- ---- one list
 
@@ -55,54 +58,54 @@ waited_below qs q = definers_below qs (reads q.rhs)
 abbrev part : List ℕ → ℕ → ℕ → List ℕ
 part l from to = take (to - from) (drop from l)
 
-part_cons : (l : List ℕ) (j to : ℕ) → j < to → to ≤ length l → part l j to ≡ get_or l j 0 ∷ part l (j + 1) to
-part_cons l j to h i =
-    let z : to - j ≡ suc (to - (j + 1)) = omega arith in
-    ap (λ k. take k (drop j l)) z ∙ (ap (take (suc (to - (j + 1)))) (drop-cons l j 0 (omega arith)) ∙ ap (λ k. get_or l j 0 ∷ take (to - (j + 1)) (drop k l)) (sym (add-one j)))
+below_all : (n : ℕ) (xs : List ℕ) → Below n xs → All (λ d. d < n) xs
+below_all n [] b = All-nil (λ d. d < n)
+below_all n (x ∷ xs) b = All-cons (λ d. d < n) x xs b.0 (below_all n xs b.1)
 
-part_none : (l : List ℕ) (j to : ℕ) → to ≤ j → part l j to ≡ []
-part_none l j to h = let z : to - j ≡ 0 = omega arith in ap (λ k. take k (drop j l)) z
+module _ {qs : List Equation} {lists begins : List ℕ} (w : Waits qs lists begins) (k : ℕ) (h : k < length qs) where
+  -- the list of equation k
+  abbrev pub its : List ℕ
+  its = part lists (get_or begins k 0) (get_or begins (k + 1) 0)
 
--- `want` says whether all entries of the list are placed, of which those from j up to `end` are left
-pub record Checked (qs : List Equation) (list lists : List ℕ) (want : Bool) (j end : ℕ) : Type 0 where
-  pub inside : end ≤ length lists
-  pub below : Below (length qs) (part lists j end)
-  pub is : want ≡ all_of (is_placed qs list) (part lists j end)
+  its_waited : its ≡ waited qs (get_or qs k no_equation)
+  its_waited = rw add-one (w.is k h)
 
-module _ (qs : List Equation) (list : List ℕ) where
-  pub checked_start : {lists begins : List ℕ} → Waits qs lists begins → (k : ℕ) → k < length qs → Checked qs list lists (ready qs list (get_or qs k no_equation)) (get_or begins k 0) (get_or begins (k + 1) 0)
-  checked_start {lists} {begins} w k h =
-      rw add-one
-      (record {
-        inside = w.inside k h;
-        below = subst (Below (length qs)) (sym (w.is k h)) (waited_below qs (get_or qs k no_equation));
-        is = ready_waited qs list (get_or qs k no_equation) ∙ ap (all_of (is_placed qs list)) (sym (w.is k h));
-      })
+  pub its_inside : (get_or begins k 0 ≤ get_or begins (k + 1) 0) × (get_or begins (k + 1) 0 ≤ length lists)
+  its_inside = rw add-one (w.rising k h, w.inside k h)
 
-  module _ {lists : List ℕ} {want : Bool} {j end : ℕ} (ch : Checked qs list lists want j end) where
-    pub checked_end : end ≤ j → want ≡ true
-    checked_end h = ch.is ∙ ap (all_of (is_placed qs list)) (part_none lists j end h)
+  pub its_below : All (λ d. d < length qs) its
+  its_below = below_all (length qs) its (subst (Below (length qs)) (sym its_waited) (waited_below qs (get_or qs k no_equation)))
 
-    module _ (h : j < end) where
-      pub checked_in : j < length lists
-      checked_in = omega (arith, ch.inside)
+  module _ {list placed order : List ℕ} {n : ℕ} (st : State qs list placed order n) where
+    is_ready : ready qs list (get_or qs k no_equation) ≡ all_of (is_placed qs list) its
+    is_ready = ready_waited qs list (get_or qs k no_equation) ∙ ap (all_of (is_placed qs list)) (sym its_waited)
 
-      next_is : part lists j end ≡ get_or lists j 0 ∷ part lists (j + 1) end
-      next_is = part_cons lists j end h ch.inside
+    all_there : (xs : List ℕ) → All (λ d. d < length qs) xs → All (λ d. get_or placed d 0 ≢ 0) xs → all_of (is_placed qs list) xs ≡ true
+    all_there [] b a = refl
+    all_there (x ∷ xs) b a =
+        ap (λ c. c && all_of (is_placed qs list) xs) (is_placed_lem st x (omega (arith, All-head (λ d. d < length qs) x xs b, st.flagged)) (All-head (λ d. get_or placed d 0 ≢ 0) x xs a))
+        ∙ all_there xs (All-tail (λ d. d < length qs) x xs b) (All-tail (λ d. get_or placed d 0 ≢ 0) x xs a)
 
-      pub checked_below : get_or lists j 0 < length qs
-      checked_below = (subst (Below (length qs)) next_is ch.below).0
+    all_flagged : (xs : List ℕ) → All (λ d. d < length qs) xs → all_of (is_placed qs list) xs ≡ true → All (λ d. get_or placed d 0 ≢ 0) xs
+    all_flagged [] b e = All-nil (λ d. get_or placed d 0 ≢ 0)
+    all_flagged (x ∷ xs) b e =
+        let f = both (member x list) (all_of (is_placed qs list) xs) e in
+        All-cons (λ d. get_or placed d 0 ≢ 0) x xs (placed_flag st x (omega (arith, All-head (λ d. d < length qs) x xs b, st.flagged)) f.0) (all_flagged xs (All-tail (λ d. d < length qs) x xs b) f.1)
+      where
+        both : (a b : Bool) → (a && b) ≡ true → (a ≡ true) × (b ≡ true)
+        both true b e = (refl, e)
+        both false b e = let z : ◌≡◌ {A = ℕ} 0 1 = cc in absurd (omega arith)
 
-      pub checked_next : member (get_or lists j 0) list ≡ true → Checked qs list lists want (j + 1) end
-      checked_next m =
-          record {
-            inside = ch.inside;
-            below = (subst (Below (length qs)) next_is ch.below).1;
-            is = ch.is ∙ (ap (all_of (is_placed qs list)) next_is ∙ ap (λ b. b && all_of (is_placed qs list) (part lists (j + 1) end)) m);
-          }
+    -- it is ready if all in its list are placed
+    pub ready_all : All (λ d. get_or placed d 0 ≢ 0) its → ready qs list (get_or qs k no_equation) ≡ true
+    ready_all a = is_ready ∙ all_there its its_below a
 
-      pub checked_waits : member (get_or lists j 0) list ≡ false → want ≡ false
-      checked_waits m = ch.is ∙ (ap (all_of (is_placed qs list)) next_is ∙ ap (λ b. b && all_of (is_placed qs list) (part lists (j + 1) end)) m)
+    pub ready_not : (All (λ d. get_or placed d 0 ≢ 0) its → ⊥) → ready qs list (get_or qs k no_equation) ≡ false
+    ready_not a = is_ready ∙ go (all_of (is_placed qs list) its) refl
+      where
+        go : (b : Bool) → all_of (is_placed qs list) its ≡ b → b ≡ false
+        go true e = absurd (a (all_flagged its its_below e))
+        go false e = refl
 
 -- equations with these lists are as many as others with them
 pub same_many : {qs rs : List Equation} {lists begins : List ℕ} → Waits qs lists begins → Waits rs lists begins → length qs ≡ length rs
@@ -170,6 +173,12 @@ unfolding bounds
 first_bound qs n [] = refl
 first_bound qs n (r ∷ rs) = refl
 
+rising_lem : (qs : List Equation) (n : ℕ) (rs : List Equation) (k : ℕ) → k < length rs → get_or (bounds qs n rs) k 0 ≤ get_or (bounds qs n rs) (suc k) 0
+unfolding bounds
+rising_lem qs n [] k h = absurd (omega arith)
+rising_lem qs n (r ∷ rs) zero h = omega (arith, first_bound qs (n + length (waited qs r)) rs)
+rising_lem qs n (r ∷ rs) (suc k) h = rising_lem qs (n + length (waited qs r)) rs k (omega arith)
+
 -- the lists stand behind p
 module _ (qs : List Equation) where
   bounded : (n : ℕ) (rs : List Equation) (k : ℕ) → k < length rs → get_or (bounds qs n rs) (suc k) 0 ≤ n + length (waited_all qs rs)
@@ -196,6 +205,7 @@ module _ (qs : List Equation) where
       let l : lists ≡ [] ++ (waited_all qs qs ++ drop (0 + length (waited_all qs qs)) before) = e ∙ sets-eq (waited_all qs qs) before 0 (omega arith) in
       record {
         long = ap length b ∙ length_bounds qs 0 qs;
+        rising = λ k i. rw b (rising_lem qs 0 qs k i);
         inside = λ k i. omega (arith, ap (λ (v : List ℕ). get_or v (suc k) 0) b, bounded 0 qs k i, ap length e, length-sets before 0 (waited_all qs qs));
         is = λ k i.
             ap (λ v. part v (get_or begins k 0) (get_or begins (suc k) 0)) l

@@ -1,4 +1,6 @@
 pub mod Tables
 pub mod Post
+pub mod Equations
 pub mod Orders
+pub mod Nodes
 pub mod Counts

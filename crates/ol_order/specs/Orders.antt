@@ -11,12 +11,15 @@ use Rattle.ol_spec.specs.Order.{definer, order, unplaced}
 use Rattle.ol_spec.specs.Admission.{ring_in, fault11}
 use Rattle.ol_tables.specs.Tables.{row_at, node_of, slots_from, two_at, plans_of, plan_in, equation_place}
 use Rattle.ol_ir.specs.Walks.{place_of}
-use Rattle.ol_order.specs.declared.table.Ring.{Ring}
-use Rattle.ol_order.specs.declared.table.Ring.TheVariants as Rin
+use Rattle.std.specs.Prelude as Std
+
+-- the place of the first equation that is never placed, if there is one
+abbrev pub Ring : Type 0
+Ring = Std.Option ℕ
 
 abbrev pub ring_place : Ring → Option ℕ
-ring_place (Rin.At p) = some p
-ring_place Rin.Nothing = none
+ring_place (Std.Some p) = some p
+ring_place Std.None = none
 
 -- every entry is a byte
 abbrev pub Small : List ℕ → Type 0

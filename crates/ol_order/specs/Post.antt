@@ -1,17 +1,18 @@
 -- What the functions of the ordering ask and give.
 use Rattle.std.specs.Prelude.{ℕ, suc, ◌+◌, ◌-◌, ◌≤◌, ◌<◌, Bool, true, List, map, ◌≡◌, length, get_or, take, drop}
-use Rattle.std.proofs.Math.Option.{none, some}
+use Rattle.std.specs.Prelude as Std
+use Rattle.std.proofs.Math.Option.{none}
 use Rattle.std.proofs.lemmas.List.Edits.{sets}
 use Rattle.ol_spec.specs.Lists.{member}
 use Rattle.ol_spec.specs.Syntax.{Equation}
 use Rattle.ol_spec.specs.Read.{got, equation_r, node_r}
 use Rattle.ol_spec.specs.Order.{definer, order, unplaced}
 use Rattle.ol_spec.specs.declared.Limits.{Limits}
-use Rattle.ol_order.specs.Tables.{key_of, keyed, no_equation, equation_at, node_at, definer_code, waited, flag_of, zeros}
+use Rattle.ol_order.specs.Tables.{is_got, key_of, keyed, no_equation, node_at, definer_code, as_option, waited, flag_of, zeros}
 
 -- an equation is read at each of these places
 pub record Readable (s : List ℕ) (l : Limits) (enums : ℕ) (starts : List ℕ) : Type 0 where
-  pub each : (k : ℕ) → k < length starts → (n : ℕ) × (equation_r s l enums (get_or starts k 0) ≡ got (equation_at s l enums (get_or starts k 0)) n)
+  pub each : (k : ℕ) → k < length starts → is_got (equation_r s l enums (get_or starts k 0)) ≡ true
   pub few : length starts ≤ 80
 
 -- a node is read at the place
@@ -34,6 +35,7 @@ pub record Definers (qs : List Equation) (low : Bool) (table : List ℕ) : Type 
 -- the list of equation k, from its beginning up to the next one's, has the definers that it waits for
 pub record Waits (qs : List Equation) (lists begins : List ℕ) : Type 0 where
   pub long : length begins ≡ suc (length qs)
+  pub rising : (k : ℕ) → k < length qs → get_or begins k 0 ≤ get_or begins (suc k) 0
   pub inside : (k : ℕ) → k < length qs → get_or begins (suc k) 0 ≤ length lists
   pub is : (k : ℕ) → k < length qs → take (get_or begins (suc k) 0 - get_or begins k 0) (drop (get_or begins k 0) lists) ≡ waited qs (get_or qs k no_equation)
 
@@ -58,12 +60,11 @@ pub record Waiting (lists begins placed order : List ℕ) (done : ℕ) : Type 0 
   pub waits : Waits equations lists begins
   pub state : State equations (take done order) placed order done
 
--- r is the first equation that is never placed, or their number; then `ord` is their order. In both cases those placed stand in front, in their order, and the rest is as it was before
-pub record Sorts (qs : List Equation) (before ord : List ℕ) (r : ℕ) : Type 0 where
+-- r is the first equation that is never placed; where there is none, `ord` is the order. In both cases those placed stand in front, in their order, and the rest is as it was before
+pub record Sorts (qs : List Equation) (before ord : List ℕ) (r : Std.Option ℕ) : Type 0 where
   pub long : length ord ≡ length qs
-  pub inside : r ≤ length qs
   pub few : length (order qs) ≤ length qs
   pub written : ord ≡ sets before 0 (order qs)
-  pub ring : r < length qs → unplaced qs ≡ some r
-  pub placed : length qs ≤ r → unplaced qs ≡ none
-  pub order : length qs ≤ r → ord ≡ order qs
+  pub ring : r ≡ as_option (unplaced qs)
+  pub inside : (i : ℕ) → r ≡ Std.Some i → i < length qs
+  pub order : r ≡ Std.None → ord ≡ order qs

@@ -1,5 +1,6 @@
 -- The tables of the ordering: the equations at their places, which equation defines a name, which equations are placed.
-use Rattle.std.specs.Prelude.{ℕ, zero, suc, ◌+◌, ◌%◌, Bool, true, false, List, [], ◌∷◌, ◌++◌, map, length, get_or, set, eqb}
+use Rattle.std.specs.Prelude.{ℕ, zero, suc, ◌+◌, ◌%◌, Bool, true, false, cond, nat_lt, List, [], ◌∷◌, ◌++◌, map, length, get_or, set, eqb, Ok}
+use Rattle.std.specs.Prelude as Std
 use Rattle.std.proofs.Math.Option.{Option, none, some}
 use Rattle.ol_spec.specs.Lists.{member}
 use Rattle.ol_spec.specs.Syntax.{bool_lit, Equation, Node, no_node}
@@ -9,12 +10,15 @@ use Rattle.ol_spec.specs.Cycle.{OrderingCall, no_order}
 use Rattle.ol_tables.specs.Heads.{name_at}
 use Rattle.ol_ir.specs.Walks.{on_places}
 use Rattle.ol_spec.specs.declared.Limits.{Limits}
-use Rattle.ol_spec.specs.declared.Sorted.TheVariants as Sort
 
 -- ---- what stands at a place: the readings, with a default where there is a fault
 
 abbrev pub no_equation : Equation
 no_equation = record { names = []; rhs = bool_lit false }
+
+abbrev pub is_got : Read Equation → Bool
+is_got (got q n) = true
+is_got (fault n p) = false
 
 abbrev pub equation_in : Read Equation → Equation
 equation_in (got q n) = q
@@ -71,6 +75,15 @@ abbrev pub definer_code : Option ℕ → ℕ
 definer_code none = 255
 definer_code (some j) = j
 
+-- what an entry of the table says
+abbrev pub entry_of : ℕ → Std.Option ℕ
+entry_of d = cond (nat_lt d 255) (Std.Some d) Std.None
+
+-- as the code's Option
+abbrev pub as_option : Option ℕ → Std.Option ℕ
+as_option none = Std.None
+as_option (some j) = Std.Some j
+
 abbrev pub on_defined : Read ℕ → (ℕ → ℕ → Bool) → Bool
 on_defined (got n p) k = k n p
 on_defined (fault n p) k = false
@@ -115,16 +128,10 @@ zeros [] = 0
 zeros (zero ∷ l) = suc (zeros l)
 zeros (suc n ∷ l) = zeros l
 
--- the first 0, or the length
-unfoldable pub first_zero : List ℕ → ℕ
-first_zero [] = 0
-first_zero (zero ∷ l) = 0
-first_zero (suc n ∷ l) = suc (first_zero l)
-
 -- ---- the answer
 
 abbrev pub order_if : Bool → List Equation → List ℕ → OrderingCall
-order_if true qs buf = record { answer = Sort.Done; buffer = order qs }
+order_if true qs buf = record { answer = (Ok tt); buffer = order qs }
 order_if false qs buf = no_order 17 0 buf
 
 abbrev pub order_unless : Option ℕ → List Equation → List ℕ → List ℕ → OrderingCall

@@ -6,25 +6,25 @@ ghost use Rattle.ol_order.specs.Counts.{equations_of};
 
 use ol_ir::node::equation_starts;
 use ol_ir::project::{base, load_file};
-use ol_ir::{Counted, Loaded};
 
-// How many equations a node of a file has; 0 where the file does not read or has no such node. It asks nothing else of the file, as the ordering does.
+// How many equations a node of a file has; 0 where the file does not read or has no such node. It asks
+// nothing else of the file, as the ordering does.
 pub fn equation_count(file: &[u8], node: usize) -> usize
     ensures { result ≡ equations_of (read_file file.now relay_loader) node }
 {
     let mut nodes = [0usize; 32];
     match load_file(file, &mut nodes) {
-        Loaded::Nodes(enums, n) => {
-            if node < n {
+        Ok(loaded) => {
+            if node < loaded.nodes {
                 let mut starts = [0usize; 0];
-                match equation_starts(file, base(), enums, nodes[node], &mut starts) {
-                    Counted::Items(count, _) => count,
-                    Counted::Refused(_) => 0,
+                match equation_starts(file, base(), loaded.enums, nodes[node], &mut starts) {
+                    Ok(equations) => equations.count,
+                    Err(_) => 0,
                 }
             } else {
                 0
             }
         }
-        Loaded::Refused(_) => 0,
+        Err(_) => 0,
     }
 }

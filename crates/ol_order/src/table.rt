@@ -5,23 +5,19 @@ ghost use Rattle.std.proofs.lemmas.List.Edits.{sets};
 ghost use Rattle.ol_spec.specs.Syntax.{File};
 ghost use Rattle.ol_spec.specs.Limits.{relay_loader};
 ghost use Rattle.ol_spec.specs.Read.{got, read_file};
-ghost use Rattle.ol_order.specs.Tables.{equations_at, node_at, waited_all};
-ghost use Rattle.ol_order.specs.Post.{Readable, NodeReads};
+ghost use Rattle.ol_order.specs.Tables.{node_at, waited_all};
+ghost use Rattle.ol_order.specs.Post.{NodeReads};
+ghost use Rattle.ol_order.specs.Equations.{those, all_waited};
+ghost use Rattle.ol_order.specs.Nodes.{OrdersAsked, OrdersTold};
 ghost use Rattle.ol_order.specs.Orders.{Small, LowNames, EquationsDone, starts_in, PlanAt, NodeDone, NodesStand, Planned, OrdersDone};
 
+use crate::equations::Equations;
 use crate::{no_definers, sort};
 use ol_ir::project::base;
 use ol_spec::Limits;
 use ol_tables::bytes::name;
 use ol_tables::table::{ORDERS, SLOTS};
 use ol_tables::tables::{COUNT, MOST_EQUATIONS, VARIABLES, row};
-
-// The place of the first equation that is never placed, if there is one.
-#[derive(Clone, Copy)]
-pub enum Ring {
-    At(usize),
-    Nothing,
-}
 
 // Where the slots start, behind the orders and the nodes' places; the plans have the second half of
 // the bytes from there on.
@@ -33,64 +29,39 @@ fn copy_bytes(order: &[usize], out: &mut [u8])
     requires small { Small order.now }
     ensures { out.new ≡ sets out.old 0 order.now }
 {
-    let mut i = 0;
-    while i < order.len() {
-        out[i] = order[i] as u8;
-        i += 1;
+    for (i, k) in order.iter().enumerate() {
+        out[i] = *k as u8;
     }
 }
 
-// The order of the equations that start at these places, with room for all definers that they wait
-// for.
-fn order_starts(
-    file: &[u8],
-    limits: Limits,
-    enums: usize,
-    starts: &[usize],
-    low: bool,
-    lists: &mut [u8],
-    out: &mut [u8],
-) -> Ring
-    requires readable { Readable file.now limits enums starts.now }
-    requires low_names { low ≡ true → LowNames (equations_at file.now limits enums starts.now) }
-    requires starts_in_bounds { length (waited_all (equations_at file.now limits enums starts.now) (equations_at file.now limits enums starts.now)) ≤ length lists.old }
+// The order of the equations, with room for all definers that they wait for.
+fn order_starts(equations: Equations, low: bool, lists: &mut [u8], out: &mut [u8]) -> Option<usize>
+    requires low_names { low ≡ true → LowNames (those equations) }
+    requires room { length (all_waited equations) ≤ length lists.old }
     requires out_len { length out.old ≡ 80 }
-    ensures order { EquationsDone (equations_at file.now limits enums starts.now) starts.now out.old out.new result }
-    ensures lists { lists.new ≡ sets lists.old 0 (waited_all (equations_at file.now limits enums starts.now) (equations_at file.now limits enums starts.now)) }
+    ensures order { EquationsDone (those equations.entry) equations.entry.starts.now out.old out.new result }
+    ensures lists { lists.new ≡ sets lists.old 0 (all_waited equations.entry) }
 {
     let mut definers = no_definers();
     let mut space = [0usize; 80];
-    let n = starts.len();
-    let order = &mut space[..n];
-    let first = sort(
-        file,
-        limits,
-        enums,
-        starts,
-        low,
-        &mut definers,
-        lists,
-        order,
-    );
-    if first < n {
-        Ring::At(starts[first])
-    } else {
-        copy_bytes(order, out);
-        Ring::Nothing
+    let order = &mut space[..equations.starts.len()];
+    match sort(equations, low, &mut definers, lists, order) {
+        Some(first) => Some(equations.starts[first]),
+        None => {
+            copy_bytes(order, out);
+            None
+        }
     }
 }
 
-// Where n equations start, as their plan, which is written from `plan` on, tells.
-fn starts_of(tab: &[u8], plan: usize, n: usize, starts: &mut [usize])
+// Where equations start, as their plan, which is written from `plan` on, tells.
+fn starts_of(tab: &[u8], plan: usize, starts: &mut [usize])
     requires plan_bound { plan < 9223372036854775808 }
-    requires n_in_bounds { n ≤ length starts.old }
-    ensures { starts.new ≡ sets starts.old 0 (starts_in tab.now plan n) }
+    ensures { starts.new ≡ starts_in tab.now plan (length starts.old) }
 {
-    let mut i = 0;
-    while i < n {
+    for (i, start) in starts.iter_mut().enumerate() {
         let p = plan + 2 * i;
-        starts[i] = name(tab, p);
-        i += 1;
+        *start = name(tab, p);
     }
 }
 
@@ -107,7 +78,7 @@ fn order_row(
     lists: &mut [u8],
     from: usize,
     tab: &mut [u8],
-) -> Ring
+) -> Option<usize>
     requires node_reads { NodeReads file.now limits enums at }
     requires low_names { low ≡ true → LowNames (node_at file.now limits enums at).equations }
     requires file_len_bound { length file.now ≤ 3 * length lists.old }
@@ -117,87 +88,82 @@ fn order_row(
     ensures lists { lists.new ≡ sets lists.old 0 (waited_all (node_at file.now limits enums at).equations (node_at file.now limits enums at).equations) }
 {
     let mut space = [0usize; 80];
-    starts_of(tab, plan, n, &mut space);
-    let end = from + MOST_EQUATIONS;
-    order_starts(
+    let starts = &mut space[..n];
+    starts_of(tab, plan, starts);
+    let equations = Equations {
         file,
         limits,
         enums,
-        &space[..n],
-        low,
-        lists,
-        &mut tab[from..end],
-    )
+        starts,
+    };
+    let end = from + MOST_EQUATIONS;
+    order_starts(equations, low, lists, &mut tab[from..end])
 }
 
-// The orders of all nodes of a file, with room for all definers that the equations of one wait for.
-fn orders_with(
-    file: &[u8],
+// The nodes of a file that reads without fault, by the places at which they start, with the rows of
+// its table. With `low` every name that an equation defines is below 1,024.
+#[derive(Clone, Copy)]
+struct Nodes<'f, 'p, 'r> {
+    file: &'f [u8],
     enums: usize,
-    places: &[usize],
-    rows: &[usize],
+    places: &'p [usize],
+    rows: &'r [usize],
     low: bool,
-    lists: &mut [u8],
-    tab: &mut [u8],
-) -> Ring
-    requires nodes_stand { NodesStand file.now enums places.now low }
-    requires planned { Planned file.now rows.now tab.old }
-    requires file_len_bound { length file.now ≤ 3 * length lists.old }
-    ensures orders_done { (f : File) (end : ℕ) → read_file file.now relay_loader ≡ got f end → OrdersDone f (take 2560 tab.old) (take 2560 tab.new) result }
-    ensures kept { drop 2560 tab.new ≡ drop 2560 tab.old }
+}
+
+// The orders of all nodes, with room for all definers that the equations of one wait for.
+fn orders_with(nodes: Nodes, lists: &mut [u8], tab: &mut [u8]) -> Option<usize>
+    requires asked { OrdersAsked nodes tab.old }
+    requires room { length nodes.file.now ≤ 3 * length lists.old }
+    ensures { OrdersTold nodes.entry tab.old tab.new result }
 {
     let limits = base();
     let plans = SLOTS_FROM + (tab.len() - SLOTS_FROM) / 2;
-    let mut k = 0;
-    while k < places.len() {
-        let at = places[k];
-        let plan = plans + at + 2 * row(rows, k, VARIABLES);
+    for (k, at) in nodes.places.iter().enumerate() {
+        let at = *at;
+        let plan = plans + at + 2 * row(nodes.rows, k, VARIABLES);
         let from = k * MOST_EQUATIONS;
         match order_row(
-            file,
+            nodes.file,
             limits,
-            enums,
+            nodes.enums,
             at,
-            row(rows, k, COUNT),
+            row(nodes.rows, k, COUNT),
             plan,
-            low,
+            nodes.low,
             lists,
             from,
             tab,
         ) {
-            Ring::At(p) => {
-                return Ring::At(p);
-            }
-            Ring::Nothing => {
-                k += 1;
-            }
+            Some(ring) => return Some(ring),
+            None => {}
         }
     }
-    Ring::Nothing
+    None
+}
+
+// The orders of all nodes, with lists of N entries.
+fn orders_sized<const N: usize>(nodes: Nodes, tab: &mut [u8]) -> Option<usize>
+    requires asked { OrdersAsked nodes tab.old }
+    requires room { length nodes.file.now ≤ 3 * N }
+    requires size { N < 65536 }
+    ensures { OrdersTold nodes.entry tab.old tab.new result }
+{
+    let mut lists = [0u8; N];
+    orders_with(nodes, &mut lists, tab)
 }
 
 // The orders of all nodes of any file. A function that calls itself is not put into its caller's
 // frame: a caller that has a short file does not touch the long lists' stack. `turns` is 0 for every
 // file that reads.
-fn orders_long(
-    turns: usize,
-    file: &[u8],
-    enums: usize,
-    places: &[usize],
-    rows: &[usize],
-    low: bool,
-    tab: &mut [u8],
-) -> Ring
-    requires nodes_stand { NodesStand file.now enums places.now low }
-    requires planned { Planned file.now rows.now tab.old }
-    ensures orders_done { (f : File) (end : ℕ) → read_file file.now relay_loader ≡ got f end → OrdersDone f (take 2560 tab.old) (take 2560 tab.new) result }
-    ensures kept { drop 2560 tab.new ≡ drop 2560 tab.old }
+fn orders_long(turns: usize, nodes: Nodes, tab: &mut [u8]) -> Option<usize>
+    requires { OrdersAsked nodes tab.old }
+    ensures { OrdersTold nodes.entry tab.old tab.new result }
 {
     if 0 < turns {
-        orders_long(turns - 1, file, enums, places, rows, low, tab)
+        orders_long(turns - 1, nodes, tab)
     } else {
-        let mut lists = [0u8; 10923];
-        orders_with(file, enums, places, rows, low, &mut lists, tab)
+        orders_sized::<10923>(nodes, tab)
     }
 }
 
@@ -211,16 +177,22 @@ pub fn orders_of(
     rows: &[usize],
     low: bool,
     tab: &mut [u8],
-) -> Ring
+) -> Option<usize>
     requires nodes_stand { NodesStand file.now enums places.now low }
     requires planned { Planned file.now rows.now tab.old }
     ensures orders_done { (f : File) (end : ℕ) → read_file file.now relay_loader ≡ got f end → OrdersDone f (take 2560 tab.old) (take 2560 tab.new) result }
     ensures kept { drop 2560 tab.new ≡ drop 2560 tab.old }
 {
+    let nodes = Nodes {
+        file,
+        enums,
+        places,
+        rows,
+        low,
+    };
     if file.len() <= 1536 {
-        let mut lists = [0u8; 512];
-        orders_with(file, enums, places, rows, low, &mut lists, tab)
+        orders_sized::<512>(nodes, tab)
     } else {
-        orders_long(file.len() / 65536, file, enums, places, rows, low, tab)
+        orders_long(file.len() / 65536, nodes, tab)
     }
 }

@@ -6,7 +6,6 @@ use lib.Bits.{bit_and, and_mask}
 use lib.Ieee.{Float, nan, inf, fin, Format, binary64, hid, ones, top, up, down, is_nan, nan_bits, below, level, lt, eq, le, ne}
 use lib.Ieee as Ieee
 use lib.Ieee.Fits.{down_pos, and_i, and_l, and_r, eq→eqb}
-use lib.Ieee.Compare.{differs_from_itself}
 use lib.Ieee.Bits.{nan_bits_is, nan_bits_above}
 use Rattle.ol_spec.specs.Real.{to_bits, from_bits, truncate}
 use Rattle.ol_spec.proofs.Tests.{T-or}
@@ -18,39 +17,33 @@ yes h = subst T (sym h) tt
 pub no : {b : Bool} → b ≡ false → T (not b)
 no h = subst (λ (a : Bool). T (not a)) (sym h) tt
 
--- ==== x != x
-pub is_nan_lem : (x : Float) → ne x x ≡ true → x ≡ nan
-is_nan_lem x h = differs_from_itself x (yes h)
-
-pub no_nan : (x : Float) → ne x x ≡ false → T (not (is_nan x))
-unfolding ne eq is_nan
-no_nan nan h = no h
-no_nan (inf s) h = tt
-no_nan (fin s m e) h = tt
-
--- ==== bits
-pub nan_bits_lem : (f : Format) (x : Float) → ne x x ≡ true → ones f * hid f + hid f / 2 ≡ to_bits f x
-unfolding to_bits Ieee.to_bits
-nan_bits_lem f x h = ap (Ieee.to_bits f) (sym (is_nan_lem x h))
-
--- the one NaN as the machine makes it
-pub made_nan : (f : Format) → Ieee.div f (Ieee.of_bits f 0) (Ieee.of_bits f 0) ≡ nan
-unfolding Ieee.div Ieee.of_bits
-made_nan Ieee.binary32 = refl
-made_nan Ieee.binary64 = refl
-
+-- ==== the one NaN
 nan_only : (x : Float) → T (is_nan x) → x ≡ nan
 unfolding is_nan
 nan_only nan h = refl
 nan_only (inf _) h = elim h [ ]
 nan_only (fin _ _ _) h = elim h [ ]
 
+pub is_nan_lem : (x : Float) → is_nan x ≡ true → x ≡ nan
+is_nan_lem x h = nan_only x (yes h)
+
+-- ==== bits
+pub nan_bits_lem : (f : Format) (x : Float) → is_nan x ≡ true → ones f * hid f + hid f / 2 ≡ to_bits f x
+unfolding to_bits Ieee.to_bits
+nan_bits_lem f x h = ap (Ieee.to_bits f) (sym (is_nan_lem x h))
+
+-- the one NaN's bits
+pub made_nan : (f : Format) → Ieee.of_bits f (ones f * hid f + hid f / 2) ≡ nan
+unfolding Ieee.of_bits
+made_nan Ieee.binary32 = refl
+made_nan Ieee.binary64 = refl
+
 -- a pattern without its sign is above the infinity's, or it is not: k is the number of its digits and its exponent's
 module _ (f : Format) (b k : ℕ) (K : top f ≡ 2 ^ k) where
   above_is : nan_bits f b ≡ ltb (ones f * hid f) (bit_and b (2 ^ k - 1))
   above_is = nan_bits_above f b ∙ ap (λ (z : ℕ). ltb (ones f * hid f) z) (ap (λ (z : ℕ). b % z) K ∙ sym (and_mask b k))
 
-  pub nan_pattern : ones f * hid f < bit_and b (2 ^ k - 1) → Ieee.div f (Ieee.of_bits f 0) (Ieee.of_bits f 0) ≡ from_bits f b
+  pub nan_pattern : ones f * hid f < bit_and b (2 ^ k - 1) → Ieee.of_bits f (ones f * hid f + hid f / 2) ≡ from_bits f b
   unfolding from_bits
   nan_pattern h = made_nan f ∙ sym (nan_only (Ieee.of_bits f b) (subst T (sym above_is ∙ nan_bits_is f b) (lt→ltb (ones f * hid f) (bit_and b (2 ^ k - 1)) h)))
 
@@ -134,6 +127,6 @@ pub lower_limit : Ieee.neg (Ieee.of_bits binary64 0x43e0_0000_0000_0000) ≡ fin
 unfolding Ieee.of_bits Ieee.neg
 lower_limit = refl
 
-pub nan_cut : (x : Float) → ne x x ≡ true → pos 0 ≡ truncate x
+pub nan_cut : (x : Float) → is_nan x ≡ true → pos 0 ≡ truncate x
 unfolding truncate Ieee.to_signed
 nan_cut x h = ap (Ieee.to_signed 63) (sym (is_nan_lem x h))

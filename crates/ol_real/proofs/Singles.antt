@@ -15,7 +15,7 @@ use lib.Ieee.Nearest.{closest}
 use lib.Ieee.Scale.{round_same}
 use Rattle.ol_spec.specs.Real.{single, double, of_int, from_bits, round_single}
 use Rattle.ol_real.specs.Kept.{Kept}
-use Rattle.ol_real.proofs.Conversions.{no_nan, is_nan_lem, made_nan}
+use Rattle.ol_real.proofs.Conversions.{no, is_nan_lem, made_nan}
 use Rattle.ol_real.proofs.Narrowing.{closest_is, round_kept, kept_most, kept_leading, units_bits, units_infinite}
 
 -- ==== m / 2 ^ d to the nearest whole number, by shifts and a mask
@@ -51,8 +51,8 @@ module _ (m d : ℕ) (lo : 1 ≤ d) (hi : d < 64) where
   tie_is h k = closest_is m (2 ^ d) (m / 2 ^ d + m / 2 ^ d % 2) (λ l. absurd (omega (arith, unit_is, twice_is))) (λ _. refl) (λ l. absurd (omega (arith, unit_is, twice_is)))
 
 -- ==== the infinity as the machine makes it
-pub made_inf : Ieee.div binary32 (of_bits binary32 0x3f80_0000) (of_bits binary32 0) ≡ inf false
-unfolding Ieee.div of_bits
+pub made_inf : of_bits binary32 0x7f80_0000 ≡ inf false
+unfolding of_bits
 made_inf = refl
 
 -- a pattern that is not above the infinity's is no NaN's
@@ -76,7 +76,7 @@ module _ (m d k q : ℕ) (h : Kept m d k) (e : q ≡ closest m (2 ^ d)) where
   pub bits_nearest : k * 8388608 + q < 0x7f80_0000 → of_bits binary32 (k * 8388608 + q) ≡ round binary32 false (m * 2 ^ k) (2 ^ d * 2 ^ 149)
   bits_nearest l = units_bits binary32 q k most leading l ∙ sym nearest_is
 
-  pub bits_infinite : 0x7f80_0000 ≤ k * 8388608 + q → Ieee.div binary32 (of_bits binary32 0x3f80_0000) (of_bits binary32 0) ≡ round binary32 false (m * 2 ^ k) (2 ^ d * 2 ^ 149)
+  pub bits_infinite : 0x7f80_0000 ≤ k * 8388608 + q → of_bits binary32 0x7f80_0000 ≡ round binary32 false (m * 2 ^ k) (2 ^ d * 2 ^ 149)
   bits_infinite l = made_inf ∙ sym (units_infinite binary32 q k most leading l) ∙ sym nearest_is
 
 -- ==== one fraction written with other powers of two
@@ -149,7 +149,7 @@ module _ (b : ℕ) where
   pub digits_small : digits < 2 ^ 53
   digits_small = omega (arith, mask_lt b 52)
 
-  pub infinite_single : b ≤ inf_bits → 2047 ≤ field → Ieee.div binary32 (of_bits binary32 0x3f80_0000) (of_bits binary32 0) ≡ round_single (from_bits double b)
+  pub infinite_single : b ≤ inf_bits → 2047 ≤ field → of_bits binary32 0x7f80_0000 ≡ round_single (from_bits double b)
   unfolding round_single from_bits of_bits
   infinite_single h l = let e : inf_bits ≡ b = omega arith in made_inf ∙ ap (λ (x : ℕ). round_single (from_bits double x)) e
 
@@ -217,7 +217,7 @@ neg_units f s q k = go (ltb (q * 2 ^ k) (2 ^ (low f + suc (Ieee.emax f))))
     go true = neg_odd (suc (Ieee.prec f)) s q k (low f)
     go false = refl
 
-neg_round : (f : Format) (s : Bool) (a c : ℕ) → neg (round f s a c) ≡ round f (not s) a c
+pub neg_round : (f : Format) (s : Bool) (a c : ℕ) → neg (round f s a c) ≡ round f (not s) a c
 neg_round f s a c = ap neg (round_is f s a c) ∙ neg_units f s _ _ ∙ sym (round_is f (not s) a c)
 
 neg_single : (y : Float) → neg (round_single y) ≡ round_single (neg y)
@@ -262,9 +262,9 @@ module _ (x : Float) (F : T (fits binary64 x)) where
   abbrev bits : ℕ
   bits = Ieee.to_bits binary64 x
 
-  pub size_most : ne x x ≡ false → unsigned bits ≤ inf_bits
+  pub size_most : is_nan x ≡ false → unsigned bits ≤ inf_bits
   size_most h =
-      let n : T (not (nan_bits binary64 bits)) = subst (λ (t : Bool). T (not t)) (sym (nan_bits_is binary64 bits ∙ ap is_nan (of_bits-to_bits binary64 x F))) (no_nan x h) in
+      let n : T (not (nan_bits binary64 bits)) = subst (λ (t : Bool). T (not t)) (sym (nan_bits_is binary64 bits ∙ ap is_nan (of_bits-to_bits binary64 x F))) (no h) in
       le_trans (le_of_eq (and_mask bits 63)) (nltb→le inf_bits (bits % 2 ^ 63) (subst (λ (t : Bool). T (not t)) (nan_bits_above binary64 bits) n))
 
   pub plus_single : bits < 2 ^ 63 → round_single (from_bits double (unsigned bits)) ≡ round_single x
@@ -275,6 +275,6 @@ module _ (x : Float) (F : T (fits binary64 x)) where
   unfolding from_bits
   minus_single h = neg_single (of_bits binary64 (unsigned bits)) ∙ ap round_single (minus_bits bits h ∙ of_bits-to_bits binary64 x F)
 
-pub nan_single : (x : Float) → ne x x ≡ true → Ieee.div binary32 (of_bits binary32 0) (of_bits binary32 0) ≡ round_single x
+pub nan_single : (x : Float) → is_nan x ≡ true → of_bits binary32 0x7fc0_0000 ≡ round_single x
 unfolding round_single
 nan_single x h = made_nan binary32 ∙ ap round_single (sym (is_nan_lem x h))

@@ -19,12 +19,8 @@ pub fn i64_to_f64(n: i64) -> f64
 pub fn i64_to_f32(n: i64) -> f32
     ensures { result ≡ of_int single n }
 {
-    if n >= 0 {
-        u64_to_f32(n as u64)
-    } else {
-        // -n does not fit at the lowest n, so one comes off before the cast and is added after it
-        -u64_to_f32(((0 - (n + 1)) as u64) + 1)
-    }
+    let size = u64_to_f32(n.unsigned_abs());
+    if n < 0 { -size } else { size }
 }
 
 // The single nearest to an integer that is not negative.
@@ -35,7 +31,7 @@ fn u64_to_f32(n: u64) -> f32
         n as f32
     } else {
         // the leading 24 of n's digits stay, and d go
-        let d = 40 - (u64::leading_zeros(n) as u64);
+        let d = 40 - u64::from(n.leading_zeros());
         nearest_single(n, d, d + 149)
     }
 }
@@ -44,10 +40,10 @@ fn u64_to_f32(n: u64) -> f32
 pub fn f64_to_f32(x: f64) -> f32
     ensures { result ≡ round_single x }
 {
-    if x != x {
-        0.0 / 0.0
+    if x.is_nan() {
+        f32::NAN
     } else {
-        let bits = f64::to_bits(x);
+        let bits = x.to_bits();
         let r = size_to_f32(bits & 0x7fff_ffff_ffff_ffff);
         if bits < 0x8000_0000_0000_0000 { r } else { -r }
     }
@@ -60,17 +56,17 @@ fn size_to_f32(b: u64) -> f32
 {
     let e = b >> 52;
     let m = (b & 0xf_ffff_ffff_ffff) + 0x10_0000_0000_0000;
-    if e >= 2047 {
-        1.0 / 0.0
-    } else if e >= 897 {
+    match e {
+        2047.. => f32::INFINITY,
+
         // a normal single, or too large for one
-        nearest_single(m, 29, e - 897)
-    } else if e >= 873 {
+        897..=2046 => nearest_single(m, 29, e - 897),
+
         // a subnormal single
-        nearest_single(m, 926 - e, 0)
-    } else {
+        873..=896 => nearest_single(m, 926 - e, 0),
+
         // less than half of the least single above 0
-        0.0
+        _ => 0.0,
     }
 }
 
@@ -85,7 +81,7 @@ fn nearest_single(m: u64, d: u64, k: u64) -> f32
     if bits < 0x7f80_0000 {
         f32::from_bits(bits as u32)
     } else {
-        1.0 / 0.0
+        f32::INFINITY
     }
 }
 
@@ -117,14 +113,14 @@ pub fn f32_to_f64(x: f32) -> f64
 pub fn f64_to_i64(x: f64) -> i64
     ensures { result ≡ truncate x }
 {
-    if x != x {
+    if x.is_nan() {
         0
     } else if x >= 9223372036854775808.0 {
-        9223372036854775807
+        i64::MAX
     } else if x >= -9223372036854775808.0 {
         std::num::truncating_f64_to_i64(x)
     } else {
-        -9223372036854775808
+        i64::MIN
     }
 }
 
@@ -135,14 +131,15 @@ pub fn f32_to_i64(x: f32) -> i64
     f64_to_i64(f32_to_f64(x))
 }
 
-// The bits of a double; of a NaN 7FF8000000000000.
+// The bits of a double; of a NaN 7FF8000000000000. These four stand in pairs: one function for both formats would need a trait
+// with the test, the two constants and the raw bits as members, which is longer.
 pub fn f64_bits(x: f64) -> u64
     ensures { result ≡ to_bits double x }
 {
-    if x != x {
+    if x.is_nan() {
         0x7ff8_0000_0000_0000
     } else {
-        f64::to_bits(x)
+        x.to_bits()
     }
 }
 
@@ -150,7 +147,7 @@ pub fn f64_bits(x: f64) -> u64
 pub fn f32_bits(x: f32) -> u32
     ensures { result ≡ to_bits single x }
 {
-    if x != x { 0x7fc0_0000 } else { f32::to_bits(x) }
+    if x.is_nan() { 0x7fc0_0000 } else { x.to_bits() }
 }
 
 // The double of a bit pattern; every NaN's pattern gives the one NaN.
@@ -158,7 +155,7 @@ pub fn f64_of_bits(b: u64) -> f64
     ensures { result ≡ from_bits double b }
 {
     if (b & 0x7fff_ffff_ffff_ffff) > 0x7ff0_0000_0000_0000 {
-        0.0 / 0.0
+        f64::NAN
     } else {
         f64::from_bits(b)
     }
@@ -169,7 +166,7 @@ pub fn f32_of_bits(b: u32) -> f32
     ensures { result ≡ from_bits single b }
 {
     if (b & 0x7fff_ffff) > 0x7f80_0000 {
-        0.0 / 0.0
+        f32::NAN
     } else {
         f32::from_bits(b)
     }

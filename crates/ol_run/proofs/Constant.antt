@@ -11,7 +11,7 @@ use lib.Seq.{take_at, drop_at, drop-cons, take-suc}
 use Rattle.ol_spec.proofs.Cells.{length_cell, length_cells}
 use Rattle.ol_spec.proofs.Admitted.{length_placed}
 use Rattle.ol_frame.specs.Outcomes.{done_of}
-use Rattle.ol_run.specs.declared.constants.Found.TheVariants as Fnd
+use Rattle.std.specs.Prelude.{Ok, Err}
 use Rattle.ol_spec.specs.Syntax.{Constant, constant_name, Ty, bool, int, float32, float64, char, enum, Node, no_node, variables, Expr}
 use Rattle.ol_spec.specs.Places.{ty_size, placed, placed_constants, constant_size, constants_start, expr_size}
 use Rattle.ol_spec.specs.Cell.{value_of, values_of, cell, cells}
@@ -245,6 +245,12 @@ after_value p k F Out.Overflow o w e f = absurd (no_value (sym e ∙ f))
     no_value : Out.Overflow ≡ Out.Value w → ⊥
     no_value h = let z : ◌≡◌ {A = ℕ} 0 1 = cc in omega arith
 
+-- what is no value
+pub not_done : (o : Outcome) → ((v : Value) → o ≡ Out.Value v → ⊥) → done_of o ≡ false
+not_done (Out.Value v) h = absurd (h v refl)
+not_done (Out.Failure c) h = refl
+not_done Out.Overflow h = refl
+
 after_none : (p : ℕ) (k : Value → Constants) (F : Value → Value) (E o : Outcome) → o ≡ then_out (λ v. Out.Value (F v)) E → done_of o ≡ false → after_constant p (λ v. k (F v)) E ≡ stuck_at p
 after_none p k F (Out.Value v) o e f = absurd (no_done (ap done_of (sym e) ∙ f))
   where
@@ -271,10 +277,10 @@ module _ {file t₀ : List ℕ} {nodes at count : ℕ} (p : ConstantsReady file 
   opened : constants (file_at file) ≡ after_constant (constant_at file i).0 (λ v. constants_from (file_at file) (take i (constant_names (file_at file)) ++ (constant_at file i).1.name ∷ []) (g.values ++ fit (constant_at file i).1.ty v ∷ []) (drop (suc i) (placed_constants (file_at file)))) here
   opened = g.rest ∙ ap (λ (cs : List (ℕ × Constant)). constants_from (file_at file) (take i (constant_names (file_at file))) g.values cs) (drop-cons (placed_constants (file_at file)) i no_constant inside)
 
-  pub going_stuck : {o : Outcome} → o ≡ constant_out file (consts_of t) (known_in (consts_of t)) → done_of o ≡ false → (cs : List ℕ) → ConstantsAre count (constants (file_at file)) (Fnd.Stuck pos) cs
+  pub going_stuck : {o : Outcome} → o ≡ constant_out file (consts_of t) (known_in (consts_of t)) → done_of o ≡ false → (cs : List ℕ) → ConstantsAre count (constants (file_at file)) (Err pos) cs
   going_stuck {o} h d cs =
       let e = opened ∙ after_none (constant_at file i).0 (λ w. constants_from (file_at file) (take i (constant_names (file_at file)) ++ (constant_at file i).1.name ∷ []) (g.values ++ w ∷ []) (drop (suc i) (placed_constants (file_at file)))) (fit (constant_at file i).1.ty) here o (turn_out h) d in
-      subst (λ (c : Constants). ConstantsAre count c (Fnd.Stuck pos) cs) (sym e) (ap Fnd.Stuck (g.place l))
+      subst (λ (c : Constants). ConstantsAre count c (Err pos) cs) (sym e) (ap Err (g.place l))
 
   names_next : take (suc i) (constant_names (file_at file)) ≡ take i (constant_names (file_at file)) ++ (constant_at file i).1.name ∷ []
   names_next =
@@ -313,8 +319,8 @@ module _ {file t₀ : List ℕ} {nodes at count : ℕ} (p : ConstantsReady file 
         place = λ b. e ∙ next_place b;
       })
 
-pub going_done : {file t₀ : List ℕ} {nodes at count : ℕ} → ConstantsReady file t₀ nodes at count → {t : List ℕ} {pos i : ℕ} → Going file t₀ t count pos i → i ≡ count → ConstantsAre count (constants (file_at file)) Fnd.All (consts_of t)
+pub going_done : {file t₀ : List ℕ} {nodes at count : ℕ} → ConstantsReady file t₀ nodes at count → {t : List ℕ} {pos i : ℕ} → Going file t₀ t count pos i → i ≡ count → ConstantsAre count (constants (file_at file)) (Ok tt) (consts_of t)
 going_done {file} {count = count} p {t} {pos} {i} g e =
     let none : drop i (placed_constants (file_at file)) ≡ [] = drop_of_length-le (placed_constants (file_at file)) {i = i} (omega (arith, length_placed constant_size (constants_start (file_at file)) (file_at file).constants, p.counted)) in
     let q = g.rest ∙ ap (λ (cs : List (ℕ × Constant)). constants_from (file_at file) (take i (constant_names (file_at file))) g.values cs) none in
-    subst (λ (c : Constants). ConstantsAre count c Fnd.All (consts_of t)) (sym q) (refl, g.bytes, ap (values_of (length g.values)) (g.bytes ∙ sym (append-nil (cells g.values))) ∙ values_kept g.values [] g.had, g.counted ∙ e)
+    subst (λ (c : Constants). ConstantsAre count c (Ok tt) (consts_of t)) (sym q) (refl, g.bytes, ap (values_of (length g.values)) (g.bytes ∙ sym (append-nil (cells g.values))) ∙ values_kept g.values [] g.had, g.counted ∙ e)

@@ -1,5 +1,5 @@
 -- The constants' values: what evaluating them asks and gives.
-use Rattle.std.specs.Prelude.{ℕ, ◌+◌, ◌<◌, ◌≤◌, false, List, [], ◌≡◌, length, get_or}
+use Rattle.std.specs.Prelude.{ℕ, ◌+◌, ◌<◌, ◌≤◌, false, List, [], ◌≡◌, length, get_or, Result, Ok, Err}
 use Rattle.ol_spec.specs.Syntax.{bool, bool_lit, Constant}
 use Rattle.ol_spec.specs.Places.{placed_constants, collect_all}
 use Rattle.ol_spec.specs.Cell.{cells, values_of}
@@ -14,8 +14,6 @@ use Rattle.ol_tables.specs.Parts.{Proper}
 use Rattle.ol_tables.specs.Table.{tab_of, rows_of}
 use Rattle.ol_frame.specs.Walk.{nodes_in}
 use Rattle.ol_frame.specs.Plans.{Program, Named, known_in, globals_in}
-use Rattle.ol_run.specs.declared.constants.Found.{Found}
-use Rattle.ol_run.specs.declared.constants.Found.TheVariants as Fnd
 
 -- no callee
 abbrev pub Never : ℕ → Type 0
@@ -60,9 +58,9 @@ pub record ConstantsReady (file t : List ℕ) (nodes at count : ℕ) : Type 0 wh
   pub few : count ≤ 64
 
 -- what evaluating n constants gives: their cells, or the place of the first that has no value
-abbrev pub ConstantsAre : ℕ → Constants → Found → List ℕ → Type 0
-ConstantsAre n (all vs) r cs = (r ≡ Fnd.All) × (cs ≡ cells vs) × (values_of (length vs) cs ≡ vs) × (length vs ≡ n)
-ConstantsAre n (stuck_at p) r cs = r ≡ Fnd.Stuck p
+abbrev pub ConstantsAre : ℕ → Constants → Result (Unit {0}) ℕ → List ℕ → Type 0
+ConstantsAre n (all vs) r cs = (r ≡ Ok tt) × (cs ≡ cells vs) × (values_of (length vs) cs ≡ vs) × (length vs ≡ n)
+ConstantsAre n (stuck_at p) r cs = r ≡ Err p
 
 -- the table's rows, orders, types and slots stay
 pub record SameTables (t t' : List ℕ) : Type 0 where

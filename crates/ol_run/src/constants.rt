@@ -14,7 +14,7 @@ ghost use Rattle.ol_tables.specs.Table.{tab_of, rows_of, consts_of};
 
 use ol_eval::eval::eval;
 use ol_frame::frame::{FRAME, set_frame};
-use ol_frame::outcomes::kept;
+use ol_frame::outcomes::{and_then, kept};
 use ol_frame::skip::pass;
 use ol_spec::Outcome;
 use ol_tables::heads::ty_size;
@@ -22,22 +22,11 @@ use ol_tables::table::{CONSTANTS, KNOWN};
 use ol_value::cell::write_cell;
 use ol_value::types::fit_to;
 
-// All values were written, or the first constant without one stands at a place.
-#[derive(Clone, Copy)]
-pub enum Found {
-    All,
-    Stuck(usize),
-}
-
 // An outcome's value, fitted to the type with this code.
 fn fitted(code: u8, o: Outcome) -> Outcome
     ensures { (e : ℕ) → result ≡ then_out (λ v. Out.Value (fit (ty_of code e) v)) o }
 {
-    match o {
-        Outcome::Value(v) => Outcome::Value(fit_to(code, v)),
-        Outcome::Failure(c) => Outcome::Failure(c),
-        Outcome::Overflow => Outcome::Overflow,
-    }
+    and_then(o, |v| Outcome::Value(fit_to(code, v)))
 }
 
 // The value of the constant at `at`, where those before it have their cells in the table. The frame is at a first cycle, behind the last node.
@@ -52,8 +41,7 @@ fn constant_value(file: &[u8], tab: &[u8], at: usize, frame: &[u8; FRAME]) -> Ou
     let none = [0u8; 1];
     let mut new = [0u8; 1];
     let r = eval(file, tab, e, 24, frame, &none, &mut new);
-    let o = r.out;
-    fitted(code, o)
+    fitted(code, r.out)
 }
 
 // Where the constant at `at` ends, behind those that have their cells in the table.
@@ -67,37 +55,34 @@ fn constant_end(file: &[u8], tab: &[u8], at: usize) -> usize
     s.next
 }
 
-// The cells of `count` constants, the first of which is at `at`, are written into the table; the file has so many nodes.
-pub fn constant_values(file: &[u8], tab: &mut [u8], nodes: usize, at: usize, count: usize) -> Found
+// The cells of `count` constants, the first of which is at `at`, are written into the table; the file has so many nodes. Else the place of the first without a value.
+pub fn constant_values(
+    file: &[u8],
+    tab: &mut [u8],
+    nodes: usize,
+    at: usize,
+    count: usize,
+) -> Result<(), usize>
     requires { ConstantsReady file.now tab.old nodes at count }
     ensures { ConstantsAre count (constants (file_at file.now)) result (consts_of tab.new) × SameTables tab.old tab.new }
 {
     tab[KNOWN] = 0;
     if count == 0 {
-        return Found::All;
+        return Ok(());
     }
     let mut frame = [0u8; FRAME];
     set_frame(&mut frame, nodes, true);
     let mut pos = at;
-    let mut i: usize = 0;
-    while i < count {
-        let n = 9 * i;
-        let o = constant_value(file, tab, pos, &frame);
-        match o {
+    for i in 0..count {
+        match constant_value(file, tab, pos, &frame) {
             Outcome::Value(v) => {
                 let w = kept(v);
-                write_cell(w, tab, CONSTANTS + n);
+                write_cell(w, tab, CONSTANTS + 9 * i);
             }
-            Outcome::Failure(_) => {
-                return Found::Stuck(pos);
-            }
-            Outcome::Overflow => {
-                return Found::Stuck(pos);
-            }
+            _ => return Err(pos),
         }
         pos = constant_end(file, tab, pos);
-        i += 1;
-        tab[KNOWN] = i as u8;
+        tab[KNOWN] = (i + 1) as u8;
     }
-    Found::All
+    Ok(())
 }

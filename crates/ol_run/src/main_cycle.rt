@@ -14,7 +14,6 @@ use ol_spec::{Cycled, Fault};
 use ol_tables::bytes::byte;
 use ol_tables::table::KNOWN;
 use ol_tables::tables::{INPUTS, VARIABLES};
-use ol_value::causes::cause_number;
 
 // The run on the main record, in a frame of its own: the segments of its equations are moved, the rest of it stays.
 fn run_record(
@@ -63,16 +62,15 @@ pub fn run_main(
         &mut new[head..],
         &mut frame,
     );
-    let end = r.end;
     let place = r.index;
-    match end {
+    match r.end {
         Ending::Values => {
             finish_frame(n, &frame, &mut new[head..]);
             write_cells(n, &frame[CELLS..BEFORE], values);
             Cycled::Answered
         }
         Ending::Failed(c) => Cycled::Stopped(Fault {
-            number: cause_number(c),
+            number: u8::from(c),
             place,
         }),
         Ending::Overflowed => {

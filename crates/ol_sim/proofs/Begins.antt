@@ -25,6 +25,7 @@ use Rattle.ol_check.specs.declared.Faults.{Faults}
 use Rattle.ol_check.specs.Clashing.{DeclaredReady, Blank}
 use Rattle.ol_sim.specs.Judging.{whole, from6, Loads, FileReady, Rowed, TypesIn, SectionsReady, Empty, NamesReady, FaultsAre, ShapesReady, half_of, slots_of, plans_of}
 use Rattle.ol_spec.specs.Demand3.{Bytes}
+use Rattle.ol_sim.specs.declared.program.Project.{Project}
 use Rattle.ol_tables.proofs.HeadsFile.{file_stands}
 use Rattle.ol_check.proofs.RowLoops.{types_stay}
 use Rattle.ol_check.proofs.SizeTable.{rows_sized}
@@ -46,14 +47,14 @@ empty_zeros f n h = record { zero = zero_at n; within = subst (λ m. NamesWithin
 
 -- ---- the rows
 
-pub rowed_done : {s places rows rows' tab before after : List ℕ} {enums plans : ℕ} {c : Sections} → FileReady s enums places rows tab → TablesDone (file_at s) rows' before after plans c → length rows' ≡ length rows → Rowed s rows' c
+pub rowed_done : {s rows rows' tab before after : List ℕ} {plans : ℕ} {c : Sections} → FileReady s rows tab → TablesDone (file_at s) rows' before after plans c → length rows' ≡ length rows → Rowed s rows' c
 rowed_done h d e =
-    record { reads = h.loads.reads; stands = h.stands; long = e ∙ h.rows_long; sections = d.sections; row = d.are.row; firsts = d.are.firsts }
+    record { reads = h.reads; stands = h.stands; long = e ∙ h.rows_long; sections = d.sections; row = d.are.row; firsts = d.are.firsts }
 
 pub declared_ready : {s rows : List ℕ} {c : Sections} → Rowed s rows c → DeclaredReady s rows c
 declared_ready r = record { reads = r.reads; row = r.row; sections = r.sections }
 
-pub faults_ready : {s places rows tab names : List ℕ} {enums : ℕ} {c : Sections} {low : Bool} → NamesReady s enums places rows tab names c low → Ready s rows names c
+pub faults_ready : {s rows tab names : List ℕ} {c : Sections} {low : Bool} → NamesReady s rows tab names c low → Ready s rows names c
 faults_ready h = let r = h.sections.rowed in record { reads = r.reads; row = r.row; sections = r.sections; empty = h.empty.zero }
 
 -- the nodes' places and types stay where their bytes do
@@ -70,20 +71,20 @@ types_same f tab tab' few long front types h =
     }
 
 -- room for the slots and the plans
-pub walk_room : {s places rows tab : List ℕ} {enums : ℕ} {c : Sections} → SectionsReady s enums places rows tab c → (half_of tab ≤ length (tail_of 4017 tab)) × (length s ≤ half_of tab) × (half_of tab + length s ≤ length (tail_of 4017 tab))
+pub walk_room : {s rows tab : List ℕ} {c : Sections} → SectionsReady s rows tab c → (half_of tab ≤ length (tail_of 4017 tab)) × (length s ≤ half_of tab) × (half_of tab + length s ≤ length (tail_of 4017 tab))
 walk_room {tab = tab} h =
     let tail : length (tail_of 4017 tab) ≡ length tab - 4017 = ap length (tail_all 4017 tab) ∙ length-drop 4017 tab in
     (omega (arith, tail), omega (arith, h.tab_long), omega (arith, tail, h.tab_long))
 
 -- room for the nodes' places and the plans
-pub types_room : {s places rows tab : List ℕ} {enums : ℕ} → FileReady s enums places rows tab → 64 + half_of tab + length s ≤ length (tail_of 3953 tab)
+pub types_room : {s rows tab : List ℕ} → FileReady s rows tab → 64 + half_of tab + length s ≤ length (tail_of 3953 tab)
 types_room {tab = tab} h = omega (arith, ap length (tail_all 3953 tab), length-drop 3953 tab, h.tab_long)
 
 -- the nodes' places
-pub places_are : {s places rows tab : List ℕ} {enums : ℕ} → FileReady s enums places rows tab → PlacesAre (file_at s) places
-places_are h = record { at = λ k lt. ap (λ l. get_or l k 0) h.loads.placed }
+pub places_are : {p : Project} → Loads p → PlacesAre (file_at p.file.now) p.places.now
+places_are h = record { at = λ k lt. ap (λ l. get_or l k 0) h.placed }
 
-module _ {s places rows rows' tab : List ℕ} {enums : ℕ} {c : Sections} (x : List ℕ) (h : FileReady s enums places rows tab) (d : TablesDone (file_at s) rows' (tail_of 3953 tab) x (64 + half_of tab) c) (k : length x ≡ length (tail_of 3953 tab)) where
+module _ {s rows rows' tab : List ℕ} {c : Sections} (x : List ℕ) (h : FileReady s rows tab) (d : TablesDone (file_at s) rows' (tail_of 3953 tab) x (64 + half_of tab) c) (k : length x ≡ length (tail_of 3953 tab)) where
   -- the table with the nodes' places and the types
   abbrev pub tab₁ : List ℕ
   tab₁ = put_tail 3953 tab x
@@ -94,11 +95,10 @@ module _ {s places rows rows' tab : List ℕ} {enums : ℕ} {c : Sections} (x : 
   pub typed_long : length tab₁ ≡ length tab
   typed_long = length_put 3953 tab x room₁ k
 
-  pub sections_ready : length rows' ≡ length rows → SectionsReady s enums places rows' tab₁ c
+  pub sections_ready : length rows' ≡ length rows → SectionsReady s rows' tab₁ c
   sections_ready e =
       let half : half_of tab ≡ half_of tab₁ = ap (λ n. (n - 4017) / 2) (sym typed_long) in
       record {
-        loads = h.loads;
         rowed = rowed_done h d e;
         typed = record { typed = subst (λ m. Typed (file_at s) (64 + m) (drop 3953 tab₁)) half (subst (λ l. Typed (file_at s) (64 + half_of tab) l) (sym (drop_put 3953 tab x room₁)) d.are.typed) };
         tab_long = omega (arith, typed_long, h.tab_long);
@@ -151,12 +151,11 @@ module _ {s places rows rows' tab : List ℕ} {enums : ℕ} {c : Sections} (x : 
         ap (λ n. get_or tab₂ n 0) a ∙ get_or-append-add (take 4017 tab₁) (y ++ drop 1024 (drop 4017 tab₁)) (length y + (i - 5041)) 0 ∙ get_or-append-add y (drop 1024 (drop 4017 tab₁)) (i - 5041) 0
         ∙ get_or-drop 1024 (drop 4017 tab₁) (i - 5041) 0 ∙ get_or-drop 4017 tab₁ (1024 + (i - 5041)) 0 ∙ ap (λ n. get_or tab₁ n 0) b
 
-    pub sorted_ready : SectionsReady s enums places rows' tab₂ c
+    pub sorted_ready : SectionsReady s rows' tab₂ c
     sorted_ready =
         let r = sections_ready e in
         let long : length tab₁ ≡ length tab₂ = typed_long ∙ sym sorted_long in
         record {
-          loads = h.loads;
           rowed = r.rowed;
           typed = types_same (file_at s) tab₁ tab₂ r.rowed.stands.few_nodes long (λ i lt. sorted_front i lt) (λ k lt i a b. sorted_back i (omega (arith, a, typed_long, h.wide))) r.typed;
           tab_long = omega (arith, sorted_long, h.tab_long);
@@ -167,7 +166,7 @@ module _ {s places rows rows' tab : List ℕ} {enums : ℕ} {c : Sections} (x : 
 faults_are : {s names names' slots slots' rows rows' : List ℕ} {found : Faults} → FileJudged s (file_at s) names names' slots slots' rows rows' found → FaultsAre (file_at s) found
 faults_are j = record { unseen = j.unseen; again = j.again; called = j.called; shaped = j.shaped }
 
-pub shapes_ready : {s places rows rows' tab names names' : List ℕ} {enums : ℕ} {c : Sections} {low : Bool} {found : Faults} (x : List ℕ) → NamesReady s enums places rows tab names c low → length rows' ≡ length rows → length x ≡ length (tail_of 4017 tab) → Adm.fault6 (file_at s) ≡ none → FileJudged s (file_at s) names names' (take (half_of tab) (tail_of 4017 tab)) (take (half_of tab) x) rows rows' found → (Adm.fault9 (file_at s) ≡ none → (k : ℕ) → k < length (file_at s).nodes → PlanOf (file_at s) (drop (half_of tab) x) k) → TypesLeft (file_at s) (half_of tab) (tail_of 4017 tab) x → ShapesReady s enums places rows' (put_tail 4017 tab x) c low found
+pub shapes_ready : {s rows rows' tab names names' : List ℕ} {c : Sections} {low : Bool} {found : Faults} (x : List ℕ) → NamesReady s rows tab names c low → length rows' ≡ length rows → length x ≡ length (tail_of 4017 tab) → Adm.fault6 (file_at s) ≡ none → FileJudged s (file_at s) names names' (take (half_of tab) (tail_of 4017 tab)) (take (half_of tab) x) rows rows' found → (Adm.fault9 (file_at s) ≡ none → (k : ℕ) → k < length (file_at s).nodes → PlanOf (file_at s) (drop (half_of tab) x) k) → TypesLeft (file_at s) (half_of tab) (tail_of 4017 tab) x → ShapesReady s rows' (put_tail 4017 tab x) c low found
 shapes_ready {s} {rows = rows} {rows'} {tab} {names} {names'} {found = found} x h same e no6 j p tl =
     let d = h.sections in
     let r = d.rowed in
@@ -187,7 +186,6 @@ shapes_ready {s} {rows = rows} {rows'} {tab} {names} {names'} {found = found} x 
     ∙ ap (λ l. get_or l (half_of tab + y) 0) (tail_all 4017 tab) ∙ get_or-drop 4017 tab (half_of tab + y) 0 ∙ ap (λ m. get_or tab m 0) (sym n) in
     record {
       sections = record {
-        loads = d.loads;
         rowed = record {
           reads = r.reads;
           stands = r.stands;
@@ -228,11 +226,11 @@ false_not_true e = let z : ◌≡◌ {A = ℕ} 0 1 = ap (λ b. mathlib.Core.Bool
 
 -- ---- any file that reads without fault, with blank arrays
 
-pub file_ready : {s places : List ℕ} {enums : ℕ} (n : ℕ) → 6065 ≤ n → Loads s enums places → Bytes s → 4017 + 2 * length s ≤ n → FileReady s enums places (replicate 272 0) (replicate n 0)
+pub file_ready : {s : List ℕ} (n : ℕ) → 6065 ≤ n → FileReads s → Bytes s → 4017 + 2 * length s ≤ n → FileReady s (replicate 272 0) (replicate n 0)
 file_ready n w l b h =
     record {
-      loads = l;
-      stands = file_stands b l.reads;
+      reads = l;
+      stands = file_stands b l;
       rows_long = length-replicate {A = ℕ} 272 0;
       tab_long = omega (arith, length-replicate {A = ℕ} n 0, h);
       wide = omega (arith, length-replicate {A = ℕ} n 0, w);

@@ -7,15 +7,14 @@ use native.Mathlib.Omega.{arith}
 use lib.ListN.{length}
 use Rattle.ol_spec.specs.Limits.{relay_loader}
 use Rattle.ol_spec.specs.Syntax.{File, Node, no_node, main, variables}
-use Rattle.ol_spec.specs.Answers.{fault_at, verdict_fault, verdict_length}
+use Rattle.ol_spec.specs.Answers.{Measured, Verdict, fault_at, measured_fault, verdict_fault, verdict_length}
+use Rattle.ol_spec.specs.declared.Fault.{Fault}
 use Rattle.ol_spec.specs.Admission as Adm
 use Rattle.ol_spec.specs.Cycle.{measure_node, measure, lengths}
 use Rattle.ol_spec.specs.Demand3.{Bytes}
 use Rattle.ol_spec.specs.Read.{got}
 use Rattle.ol_spec.specs.declared.Value.{Value}
-use Rattle.ol_spec.specs.declared.Measured.{Measured}
-use Rattle.ol_spec.specs.declared.Measured.TheVariants as Mea
-use Rattle.ol_spec.specs.declared.Verdict.{Verdict}
+use Rattle.std.specs.Prelude.{Ok, Err}
 use Rattle.ol_spec.proofs.Admits.{admits}
 use Rattle.ol_tables.specs.At.{file_at, item_of, no_file}
 use Rattle.ol_tables.specs.Tables.{row_at, node_of}
@@ -25,35 +24,46 @@ use Rattle.ol_ir.proofs.Bytes.{get_in, get_out}
 use Rattle.ol_check.proofs.RowLoops.{few_variables}
 use Rattle.ol_sim.specs.Calls.{MeasuresAs, AdmitsAs}
 use Rattle.ol_sim.specs.Judging.{whole}
-use Rattle.ol_sim.specs.Answering.{MeasureReady, AnswerReady}
+use Rattle.ol_sim.specs.Answering.{AnswerReady}
 use Rattle.ol_sim.specs.Serving.{verdict_of}
 use Rattle.ol_sim.proofs.Starts.{main_is}
 
-pub measure_ready : {s t : List ℕ} {size m : ℕ} → AnswerReady s t size m → MeasureReady s (rows_of t) size m
-measure_ready h = record { stands = h.tables.stands; rowed = h.tables.rowed; sized = h.sized; last = h.last }
-
 -- ---- by the rows
 
-module _ {s rows : List ℕ} {size m : ℕ} (h : MeasureReady s rows size m) where
+module _ {s t : List ℕ} {size m : ℕ} (h : AnswerReady s t size m) where
   abbrev f : File
   f = file_at s
 
-  pub few_inputs_lem : row_at rows m 2 ≤ 32
-  few_inputs_lem = omega (arith, (h.rowed.rows_of m (omega (arith, h.last))).inputs, (node_at_lem h.stands m (omega (arith, h.last))).few_inputs)
+  pub few_inputs_lem : row_at (rows_of t) m 2 ≤ 32
+  few_inputs_lem = omega (arith, (h.tables.rowed.rows_of m (omega (arith, h.last))).inputs, (node_at_lem h.tables.stands m (omega (arith, h.last))).few_inputs)
 
-  pub few_values : row_at rows m 4 ≤ 112
-  few_values = omega (arith, (h.rowed.rows_of m (omega (arith, h.last))).variables, few_variables (node_at_lem h.stands m (omega (arith, h.last))))
+  pub few_values : row_at (rows_of t) m 4 ≤ 112
+  few_values = omega (arith, (h.tables.rowed.rows_of m (omega (arith, h.last))).variables, few_variables (node_at_lem h.tables.stands m (omega (arith, h.last))))
 
-  pub lengths_here : {i v q : ℕ} (k : ℕ) → k ≤ m → i ≡ row_at rows m 2 → v ≡ row_at rows m 4 → q ≡ row_at rows k 5 → Mea.Done (record { state = size; inputs = 9 * i; values = 9 * v; equations = q }) ≡ measure (whole f) k
+  pub lengths_here : {i v q : ℕ} (k : ℕ) → k ≤ m → i ≡ row_at (rows_of t) m 2 → v ≡ row_at (rows_of t) m 4 → q ≡ row_at (rows_of t) k 5 → Ok (record { state = size; inputs = 9 * i; values = 9 * v; equations = q }) ≡ measure (whole f) k
   lengths_here {i} {v} {q} k le ei ev eq =
-      let r = h.rowed.rows_of m (omega (arith, h.last)) in
+      let r = h.tables.rowed.rows_of m (omega (arith, h.last)) in
       let is : i ≡ length (main f).inputs = ei ∙ r.inputs ∙ ap (λ (n : Node). length n.inputs) (sym (main_is f m h.last)) in
       let vs : v ≡ length (variables (main f)) = ev ∙ r.variables ∙ ap (λ (n : Node). length (variables n)) (sym (main_is f m h.last)) in
-      let qs : q ≡ length (node_of f k).equations = eq ∙ (h.rowed.rows_of k (omega (arith, h.last))).count in
+      let qs : q ≡ length (node_of f k).equations = eq ∙ (h.tables.rowed.rows_of k (omega (arith, h.last))).count in
       rw (h.sized, is, vs, qs) (sym (ap (measure_node f) (get_in f.nodes k no_node (omega (arith, h.last)))))
 
-  pub no_node_lem : (k : ℕ) → ¬ (k ≤ m) → Mea.Refused (fault_at 3 0) ≡ measure (whole f) k
+  pub no_node_lem : (k : ℕ) → ¬ (k ≤ m) → Err (fault_at 3 0) ≡ measure (whole f) k
   no_node_lem k gt = sym (ap (measure_node f) (get_out f.nodes k (omega (arith, h.last))))
+
+-- ---- what was judged
+
+module _ (s : List ℕ) (k : ℕ) {r : Measured} where
+  measures_as : r ≡ lengths relay_loader s k → MeasuresAs (lengths relay_loader s k) r
+  measures_as e = record { answered = e; told = ap measured_fault e }
+
+  pub measures_whole : Adm.judge relay_loader s ≡ whole (file_at s) → r ≡ measure (whole (file_at s)) k → MeasuresAs (lengths relay_loader s k) r
+  unfolding lengths
+  measures_whole e q = measures_as (q ∙ sym (ap (λ j. measure j k) e))
+
+pub measures_refused : (s : List ℕ) (k : ℕ) {x : Fault} → Adm.judge relay_loader s ≡ Adm.refused x.number x.place → MeasuresAs (lengths relay_loader s k) (Err x)
+unfolding lengths
+measures_refused s k e = measures_as s k (sym (ap (λ j. measure j k) e))
 
 -- ---- node 0
 

@@ -8,20 +8,19 @@ use lib.Seq.{sets}
 use Rattle.ol_spec.specs.Limits.{relay_loader}
 use Rattle.ol_spec.specs.Syntax.{File}
 use Rattle.ol_spec.specs.Places.{node_size, nodes_start, placed_nodes}
-use Rattle.ol_spec.specs.Read.{got, fault, read_file}
+use Rattle.ol_spec.specs.Read.{got, read_file}
 use Rattle.ol_spec.specs.Admission as Adm
 use Rattle.ol_spec.specs.declared.Fault.{Fault}
 use Rattle.ol_tables.specs.At.{file_at, item_of, no_file}
 use Rattle.ol_tables.specs.Stands.{FileReads, FileStands}
+use Rattle.std.specs.Prelude.{Ok, Err}
 use Rattle.ol_ir.specs.Walks.{place_of, loaded_of}
 use Rattle.ol_ir.specs.declared.Loaded.{Loaded}
-use Rattle.ol_ir.specs.declared.Loaded.TheVariants as Ldd
 use Rattle.ol_order.proofs.Nodes.{length_placed, table_front, loaded_file, loaded_not}
-use Rattle.ol_sim.specs.Judging.{Loads}
 
-module _ (s : List ℕ) {r : Loaded} {enums n : ℕ} (e : r ≡ loaded_of (read_file s relay_loader)) (d : r ≡ Ldd.Nodes enums n) where
-  abbrev loaded : (f : File) × (end : ℕ) × (read_file s relay_loader ≡ got f end) × (length f.enums ≡ enums) × (length f.nodes ≡ n)
-  loaded = loaded_file (read_file s relay_loader) enums n (sym d ∙ e)
+module _ (s : List ℕ) {l : Loaded} (e : Ok l ≡ loaded_of (read_file s relay_loader)) where
+  abbrev loaded : (f : File) × (end : ℕ) × (read_file s relay_loader ≡ got f end) × (length f.enums ≡ l.enums) × (length f.nodes ≡ l.nodes)
+  loaded = loaded_file (read_file s relay_loader) l.enums l.nodes e
 
   the_file : file_at s ≡ loaded.0
   the_file = ap (item_of no_file) loaded.2
@@ -29,27 +28,19 @@ module _ (s : List ℕ) {r : Loaded} {enums n : ℕ} (e : r ≡ loaded_of (read_
   pub file_reads : FileReads s
   file_reads = record { end = loaded.1; is = loaded.2 ∙ ap (λ f. got f loaded.1) (sym the_file) }
 
-  many_nodes : length (file_at s).nodes ≡ n
+  many_nodes : length (file_at s).nodes ≡ l.nodes
   many_nodes = ap (λ (f : File). length f.nodes) the_file ∙ loaded.4
 
-  pub loads : {t : List ℕ} → FileStands s (file_at s) → ((f : File) (end : ℕ) → read_file s relay_loader ≡ got f end → t ≡ sets (replicate 32 0) 0 (map place_of (placed_nodes f))) → Loads s enums (take n t)
+  pub loads : {t : List ℕ} → FileStands s (file_at s) → ((f : File) (end : ℕ) → read_file s relay_loader ≡ got f end → t ≡ sets (replicate 32 0) 0 (map place_of (placed_nodes f))) → (length (file_at s).enums ≡ l.enums) × (take l.nodes t ≡ map place_of (placed_nodes (file_at s)))
   loads {t} st i =
-      let w : length (map place_of (placed_nodes (file_at s))) ≡ n = length-map (placed_nodes (file_at s)) place_of ∙ length_placed node_size (nodes_start (file_at s)) (file_at s).nodes ∙ many_nodes in
-      record {
-        reads = file_reads;
-        counted = ap (λ (f : File). length f.enums) the_file ∙ loaded.3;
-        placed = ap (take n) (i (file_at s) file_reads.end file_reads.is) ∙ table_front 32 (map place_of (placed_nodes (file_at s))) (omega (arith, w, many_nodes, st.few_nodes)) n w;
-      }
+      let w : length (map place_of (placed_nodes (file_at s))) ≡ l.nodes = length-map (placed_nodes (file_at s)) place_of ∙ length_placed node_size (nodes_start (file_at s)) (file_at s).nodes ∙ many_nodes in
+      (ap (λ (f : File). length f.enums) the_file ∙ loaded.3, ap (take l.nodes) (i (file_at s) file_reads.end file_reads.is) ∙ table_front 32 (map place_of (placed_nodes (file_at s))) (omega (arith, w, many_nodes, st.few_nodes)) l.nodes w)
 
-  pub few_places : FileStands s (file_at s) → n ≤ 32
+  pub few_places : FileStands s (file_at s) → l.nodes ≤ 32
   few_places st = omega (arith, many_nodes, st.few_nodes)
 
 -- ---- a file that was not
 
--- the fault that reading met
-read_fault : (s : List ℕ) {r : Loaded} {x : Fault} → r ≡ loaded_of (read_file s relay_loader) → r ≡ Ldd.Refused x → read_file s relay_loader ≡ fault x.number x.place
-read_fault s {r} {x} e d = loaded_not (read_file s relay_loader) x (sym d ∙ e)
-
-pub judge_refused : (s : List ℕ) {r : Loaded} {x : Fault} → r ≡ loaded_of (read_file s relay_loader) → r ≡ Ldd.Refused x → Adm.judge relay_loader s ≡ Adm.refused x.number x.place
+pub judge_refused : (s : List ℕ) {x : Fault} → Err x ≡ loaded_of (read_file s relay_loader) → Adm.judge relay_loader s ≡ Adm.refused x.number x.place
 unfolding Adm.judge
-judge_refused s e d = ap (Adm.judge_read relay_loader) (read_fault s e d)
+judge_refused s {x} e = ap (Adm.judge_read relay_loader) (loaded_not (read_file s relay_loader) x e)

@@ -10,13 +10,12 @@ use lib.Seq.{take_at, length-take-le}
 use Rattle.ol_spec.specs.Limits.{relay_loader}
 use Rattle.ol_spec.specs.Syntax.{File, Node, NodeKind, Function, Operator, Imported, no_node, main}
 use Rattle.ol_spec.specs.Cell.{cells}
-use Rattle.ol_spec.specs.Answers.{fault_at, started_fault}
+use Rattle.ol_spec.specs.Answers.{Started, fault_at, started_fault}
 use Rattle.ol_spec.specs.Step.{instance_size, site_size_by, sizes_at, fresh_at, fresh_record}
 use Rattle.ol_spec.specs.State.{globals_of, fresh_state}
 use Rattle.ol_spec.specs.Admission as Adm
 use Rattle.ol_spec.specs.Cycle.{StartCall, start, start_judged, start_fits}
-use Rattle.ol_spec.specs.declared.Started.{Started}
-use Rattle.ol_spec.specs.declared.Started.TheVariants as Sta
+use Rattle.std.specs.Prelude.{Ok, Err}
 use Rattle.ol_spec.specs.declared.Fault.{Fault}
 use Rattle.ol_spec.specs.declared.Value.{Value}
 use Rattle.ol_spec.proofs.MainFacts.{main_at_lem}
@@ -31,8 +30,7 @@ use Rattle.ol_sim.specs.Calls.{StartsAs}
 use Rattle.ol_sim.specs.Judging.{Judges, Admits, values_in, from6, whole}
 use Rattle.ol_sim.specs.Starting.{StartReady}
 use Rattle.ol_sim.specs.Answering.{AnswerReady}
-use Rattle.ol_sim.specs.declared.judge.Judged.{Judged}
-use Rattle.ol_sim.specs.declared.judge.Judged.TheVariants as Jud
+use Rattle.ol_sim.specs.declared.judge.Admitted.{Admitted}
 use Rattle.ol_sim.proofs.Begins.{judge_is}
 use Rattle.ol_tables.proofs.Lending.{tail_of, put_tail, put_tail_lem, tail_all}
 
@@ -54,15 +52,15 @@ eqb_other m n h = go (eqb m n) (λ t. h (eqb→eq m n t))
 
 -- ---- what was judged
 
-module _ {s t : List ℕ} {j : Judged} (r : FileReads s) (h : Judges s (from6 (file_at s)) (Admits s t) j) where
-  pub admits_of : {size main : ℕ} → j ≡ Jud.Admitted size main → Admits s t size main
-  admits_of e = (subst (λ x. Judges s (from6 (file_at s)) (Admits s t) x) e h).is.1
+module _ {s t : List ℕ} (r : FileReads s) where
+  pub admits_of : {a : Admitted} → Judges s (from6 (file_at s)) (Admits s t) (Ok a) → Admits s t a.size a.main
+  admits_of h = h.is.1
 
-  pub judged_whole : {size main : ℕ} → j ≡ Jud.Admitted size main → Adm.judge relay_loader s ≡ whole (file_at s)
-  judged_whole e = judge_is s r ∙ (subst (λ x. Judges s (from6 (file_at s)) (Admits s t) x) e h).is.0
+  pub judged_whole : {a : Admitted} → Judges s (from6 (file_at s)) (Admits s t) (Ok a) → Adm.judge relay_loader s ≡ whole (file_at s)
+  judged_whole h = judge_is s r ∙ h.is.0
 
-  pub judged_refused : {x : Fault} → j ≡ Jud.Refused x → Adm.judge relay_loader s ≡ Adm.refused x.number x.place
-  judged_refused e = judge_is s r ∙ (subst (λ x. Judges s (from6 (file_at s)) (Admits s t) x) e h).is
+  pub judged_refused : {x : Fault} → Judges s (from6 (file_at s)) (Admits s t) (Err x) → Adm.judge relay_loader s ≡ Adm.refused x.number x.place
+  judged_refused h = judge_is s r ∙ h.is
 
 -- ---- the ways out
 
@@ -71,7 +69,7 @@ as_call v e p q =
     let a = p ∙ sym (ap (λ (c : StartCall). c.answer) e) in
     record { answered = a; told = ap started_fault a; written = q ∙ sym (ap (λ (c : StartCall). c.state) e) }
 
-pub starts_refused : (s : List ℕ) (st : List ℕ) {x : Fault} → Adm.judge relay_loader s ≡ Adm.refused x.number x.place → StartsAs (start relay_loader s st) (Sta.Refused x) st
+pub starts_refused : (s : List ℕ) (st : List ℕ) {x : Fault} → Adm.judge relay_loader s ≡ Adm.refused x.number x.place → StartsAs (start relay_loader s st) (Err x) st
 unfolding start
 starts_refused s st {x} e = as_call (start_judged (Adm.refused x.number x.place) st) (ap (λ j. start_judged j st) e) refl refl
 
@@ -79,11 +77,11 @@ pub starts_whole : (s : List ℕ) (st : List ℕ) {r : Started} {t : List ℕ} �
 unfolding start
 starts_whole s st e h = as_call (start_judged (whole (file_at s)) st) (ap (λ j. start_judged j st) e) h.answered h.written
 
-pub starts_done : (f : File) (st : List ℕ) {t : List ℕ} → length st ≡ Adm.state_size f → t ≡ fresh_state f (values_in f) → StartsAs (start_judged (whole f) st) Sta.Done t
+pub starts_done : (f : File) (st : List ℕ) {t : List ℕ} → length st ≡ Adm.state_size f → t ≡ fresh_state f (values_in f) → StartsAs (start_judged (whole f) st) (Ok tt) t
 starts_done f st l q =
     as_call (start_fits true f (values_in f) st) (ap (λ b. start_fits b f (values_in f) st) (eqb_same (length st) (Adm.state_size f) l)) refl q
 
-pub starts_unfit : (f : File) (st : List ℕ) → (length st ≡ Adm.state_size f → ⊥) → StartsAs (start_judged (whole f) st) (Sta.Refused (fault_at 17 0)) st
+pub starts_unfit : (f : File) (st : List ℕ) → (length st ≡ Adm.state_size f → ⊥) → StartsAs (start_judged (whole f) st) (Err (fault_at 17 0)) st
 starts_unfit f st l =
     as_call (start_fits false f (values_in f) st) (ap (λ b. start_fits b f (values_in f) st) (eqb_other (length st) (Adm.state_size f) l)) refl refl
 

@@ -1,13 +1,10 @@
 -- The steps of judging a file.
 use Prim.Native.Nat.{ℕ, zero, suc, ◌+◌, ◌-◌, ◌*◌, ◌/◌, ◌<◌, ◌≤◌, min}
 use mathlib.Core.Bool.{Bool, true, false, ◌&&◌, cond}
-use mathlib.Core.List.{List, [], ◌∷◌}
-use mathlib.Core.Logic.{by_cases}
-use mathlib.Core.Option.{none, some}
+use mathlib.Core.List.{List, [], ◌∷◌, map}
+use mathlib.Core.Option.{Option, none, some}
 use mathlib.Core.Path.{◌≡◌, refl, ap, sym, subst, ◌∙◌}
 use native.Mathlib.Omega.{arith}
-use native.Mathlib.Decide.{dec_le}
-use native.Mathlib.Nat.{min-eq_left, min-eq_right}
 use lib.Dec.{T, ltb, leb, eqb}
 use borrow.Author.Tests.{lt-ltb, le-ltb}
 use lib.ListN.{length, get_or, take, drop, length-drop}
@@ -36,35 +33,18 @@ use Rattle.ol_check.specs.NodesJudged.{RowsReady}
 use Rattle.ol_check.specs.Sizes.{MainSized}
 use Rattle.ol_check.specs.declared.Faults.{Faults}
 use Rattle.ol_check.proofs.NamesBelow.{low_within}
-use Rattle.ol_order.specs.Orders.{ring_place, NodesStand, Planned, NodePlanned, OrdersDone}
-use Rattle.ol_order.specs.declared.table.Ring.{Ring}
-use Rattle.ol_order.specs.declared.table.Ring.TheVariants as Rin
+use Rattle.ol_order.specs.Orders.{Ring, ring_place, NodesStand, Planned, NodePlanned, OrdersDone}
 use Rattle.ol_run.specs.Constants.{ConstantsAre}
 use Rattle.ol_tables.specs.Table.{tab_of}
-use Rattle.ol_run.specs.declared.constants.Found.{Found}
-use Rattle.ol_run.specs.declared.constants.Found.TheVariants as Fnd
-use Rattle.ol_sim.specs.Judging.{Judges, Measured, Held, values_in, from13, MainReady, ConstantsReady, Slots, OrderReady, ShapesReady, half_of, plans_of}
+use Rattle.std.specs.Prelude.{Result}
+use Rattle.std.specs.Prelude as Std
+use Rattle.std.specs.Result.{result_err}
+use Rattle.ol_check.specs.Founds as Founds
+use Rattle.ol_ir.specs.Walks as Walks
+use Rattle.ol_sim.specs.Judging.{Held, values_in, ConstantsReady, Slots, OrderReady, ShapesReady, half_of, plans_of}
 use Rattle.ol_check.specs.RowsDone.{Typed}
 use Rattle.ol_sim.proofs.Lows.{low_names}
-use Rattle.ol_sim.specs.declared.judge.Judged.TheVariants as Jud
-use Rattle.ol_sim.proofs.Chain.{passed_by_lem}
 use Rattle.ol_sim.proofs.Tables.{tab_whole}
-
--- a capped sum below the cap is the sum
-uncapped : (a : ℕ) → min a 65536 ≤ 32768 → min a 65536 ≡ a
-uncapped a h = by_cases (dec_le a 65536) (λ l. min-eq_left l) (λ g. absurd (omega (arith, min-eq_right {n = 65536} {m = a} (omega arith))))
-
-pub main_done : {s rows : List ℕ} {size main : ℕ} → MainReady s rows size main → Adm.fault13 relay_loader (file_at s) ≡ none → size ≤ 32768 → Adm.fault14 (file_at s) ≡ none → Judges s (from13 (file_at s)) (Measured s) (Jud.Admitted size main)
-main_done {s} {rows} {size} {main} h no13 small no14 =
-    passed_by_lem no13 (passed_by_lem no14 (record { is = (refl, measured) }))
-  where
-    measured : Measured s size main
-    measured = record {
-      sized = h.sized ∙ uncapped (Adm.state_size (file_at s)) (subst (λ n. n ≤ 32768) h.sized small);
-      small = small;
-      last = h.last;
-      operator = no14;
-    }
 
 -- the counts of constants and of nodes, read where the sections start
 pub count_constants : {s : List ℕ} {c : Sections} {b : ℕ} → FileStands s (file_at s) → SectionsAre (file_at s) c → b ≡ get_or s c.constants 0 → b ≡ length (file_at s).constants
@@ -73,39 +53,43 @@ count_constants {s} st a e = e ∙ ap (λ i. get_or s i 0) (omega (arith, a.cons
 pub count_nodes : {s : List ℕ} {c : Sections} {b : ℕ} → FileStands s (file_at s) → SectionsAre (file_at s) c → b ≡ get_or s c.nodes 0 → b ≡ length (file_at s).nodes
 count_nodes {s} st a e = e ∙ ap (λ i. get_or s i 0) (omega (arith, a.nodes)) ∙ st.node_count
 
--- what evaluating the constants gave
-module _ (f : File) (n : ℕ) (cs : List ℕ) {r : Found} (h : ConstantsAre n (Adm.constants f) r cs) where
-  pub stuck_12 : {p : ℕ} → r ≡ Fnd.Stuck p → Adm.fault12 f ≡ some p
-  stuck_12 {p} e = go (Adm.constants f) h
-    where
-      go : (c : Adm.Constants) → ConstantsAre n c r cs → Adm.stuck_place c ≡ some p
-      go (Adm.all vs) h = let z : ◌≡◌ {A = ℕ} 0 1 = cc in absurd (omega arith)
-      go (Adm.stuck_at q) h = let z : Fnd.Stuck q ≡ Fnd.Stuck p = sym h ∙ e in let y : q ≡ p = cc in ap some y
-
-  pub all_held : r ≡ Fnd.All → n ≡ length f.constants → (Adm.fault12 f ≡ none) × Held f cs
-  all_held e many = go (Adm.constants f) refl h
-    where
-      go : (c : Adm.Constants) → Adm.constants f ≡ c → ConstantsAre n c r cs → (Adm.fault12 f ≡ none) × Held f cs
-      go (Adm.all vs) q h =
-          let w : values_in f ≡ vs = ap Adm.constant_values q in
-          (ap Adm.stuck_place q, record { is = h.1 ∙ ap cells (sym w); back = subst (λ us. values_of (length us) cs ≡ us) (sym w) h.2; many = ap length w ∙ h.3 ∙ many })
-      go (Adm.stuck_at p) q h = let z : ◌≡◌ {A = ℕ} 0 1 = cc in absurd (omega arith)
-
 pub some_none : {n : ℕ} → some n ≡ none → ⊥
 some_none e = let z : ◌≡◌ {A = ℕ} 1 0 = ap (λ o. maybe 0 (λ x. 1) o) e in omega arith
 
+-- what evaluating the constants gave
+module _ (f : File) (n : ℕ) (cs : List ℕ) (r : Result (Unit {0}) ℕ) (h : ConstantsAre n (Adm.constants f) r cs) where
+  pub stuck_12 : Founds.place_of (result_err r) ≡ Adm.fault12 f
+  stuck_12 = go (Adm.constants f) h
+    where
+      go : (c : Adm.Constants) → ConstantsAre n c r cs → Founds.place_of (result_err r) ≡ Adm.stuck_place c
+      go (Adm.all vs) h = ap (λ x. Founds.place_of (result_err x)) h.0
+      go (Adm.stuck_at p) h = ap (λ x. Founds.place_of (result_err x)) h
+
+  pub all_held : Adm.fault12 f ≡ none → n ≡ length f.constants → Held f cs
+  all_held no12 many = go (Adm.constants f) refl h
+    where
+      go : (c : Adm.Constants) → Adm.constants f ≡ c → ConstantsAre n c r cs → Held f cs
+      go (Adm.all vs) q h =
+          let w : values_in f ≡ vs = ap Adm.constant_values q in
+          record { is = h.1 ∙ ap cells (sym w); back = subst (λ us. values_of (length us) cs ≡ us) (sym w) h.2; many = ap length w ∙ h.3 ∙ many }
+      go (Adm.stuck_at p) q h = absurd (some_none (sym (ap Adm.stuck_place q) ∙ no12))
+
 -- ---- the orders
 
-module _ {s places rows t : List ℕ} {enums main : ℕ} {c : Sections} {low : Bool} (h : OrderReady s enums places rows t c main low) where
-  pub nodes_stand : NodesStand s enums places low
-  nodes_stand =
-      let l = h.sections.loads in
+-- a ring's place is a found one
+pub ring_found : (r : Ring) {o : Option ℕ} → ring_place r ≡ o → Founds.place_of r ≡ o
+ring_found (Std.Some p) e = e
+ring_found Std.None e = e
+
+module _ {s rows t : List ℕ} {main : ℕ} {c : Sections} {low : Bool} (h : OrderReady s rows t c main low) where
+  pub nodes_stand : {enums : ℕ} {places : List ℕ} → FileReads s → length (file_at s).enums ≡ enums → places ≡ map Walks.place_of (placed_nodes (file_at s)) → NodesStand s enums places low
+  nodes_stand reads counted placed =
       record {
         file = file_at s;
-        end = l.reads.end;
-        is = l.reads.is;
-        counted = l.counted;
-        placed = l.placed;
+        end = reads.end;
+        is = reads.is;
+        counted = counted;
+        placed = placed;
         lows = λ t. low_names (file_at s) h.sound.no7 (low_within 1024 (file_at s) (h.lows t));
       }
 
@@ -157,11 +141,10 @@ module _ {s places rows t : List ℕ} {enums main : ℕ} {c : Sections} {low : B
     front j g = ap (λ l. get_or l j 0) tab_is ∙ sym (get_or-take 2560 x j 0 g)
 
     -- 6 to 11 do not hold, and all tables are there
-    pub constants_ready : {size : ℕ} → r ≡ Rin.Nothing → (MainSized (file_at s) main → size ≡ min (Adm.state_size (file_at s)) 65536) → ConstantsReady s rows ordered c size
-    constants_ready e z =
+    pub constants_ready : {size : ℕ} → Adm.fault11 (file_at s) ≡ none → (MainSized (file_at s) main → size ≡ min (Adm.state_size (file_at s)) 65536) → ConstantsReady s rows ordered c size
+    constants_ready no11 z =
         let d = h.sections in
         let st = d.rowed.stands in
-        let no11 : Adm.fault11 (file_at s) ≡ none = sym o.found ∙ ap ring_place e in
         record {
           tables = record {
             reads = d.rowed.reads;
@@ -177,7 +160,7 @@ module _ {s places rows t : List ℕ} {enums main : ℕ} {c : Sections} {low : B
         }
 
 -- 7 to 10 do not hold
-pub order_ready : {s places rows t : List ℕ} {enums : ℕ} {c : Sections} {low : Bool} {found : Faults} → ShapesReady s enums places rows t c low found → Adm.fault7 (file_at s) ≡ none → Adm.fault8 (file_at s) ≡ none → Adm.fault9 (file_at s) ≡ none → Adm.fault10 (file_at s) ≡ none → OrderReady s enums places rows t c found.size low
+pub order_ready : {s rows t : List ℕ} {c : Sections} {low : Bool} {found : Faults} → ShapesReady s rows t c low found → Adm.fault7 (file_at s) ≡ none → Adm.fault8 (file_at s) ≡ none → Adm.fault9 (file_at s) ≡ none → Adm.fault10 (file_at s) ≡ none → OrderReady s rows t c found.size low
 order_ready h n7 n8 n9 n10 =
     record {
       sections = h.sections;

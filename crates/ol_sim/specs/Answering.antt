@@ -3,19 +3,11 @@ use Rattle.std.specs.Prelude.{ℕ, suc, ◌*◌, ◌≤◌, List, ◌≡◌, len
 use Rattle.ol_spec.specs.Syntax.{Operator}
 use Rattle.ol_spec.specs.Admission.{state_size}
 use Rattle.ol_tables.specs.At.{file_at}
-use Rattle.ol_tables.specs.Stands.{FileStands}
-use Rattle.ol_tables.specs.Tables.{Rows, node_of}
+use Rattle.ol_tables.specs.Tables.{node_of}
 use Rattle.ol_tables.specs.Table.{tab_of, rows_of, consts_of}
 use Rattle.ol_frame.specs.Nodes.{Running}
 use Rattle.ol_run.specs.Admitted.{Admitted}
 use Rattle.ol_sim.specs.Judging.{Held}
-
--- an admitted file: its rows, the length of its state, and its main node
-pub record MeasureReady (s rows : List ℕ) (size main : ℕ) : Type 0 where
-  pub stands : FileStands s (file_at s)
-  pub rowed : Rows (file_at s) rows
-  pub sized : size ≡ state_size (file_at s)
-  pub last : suc main ≡ length (file_at s).nodes
 
 -- an admitted file: its table t, the length of its state, its constants' cells, and its main node
 pub record AnswerReady (s t : List ℕ) (size main : ℕ) : Type 0 where

@@ -1,11 +1,7 @@
 -- What the public functions answer and write, as their contracts say it: the answer itself, its number and place, and every byte written.
 use Rattle.std.specs.Prelude.{ℕ, List, ◌≡◌}
-use Rattle.ol_spec.specs.Answers.{measured_fault, verdict_fault, verdict_length, sorted_fault, started_fault, cycled_fault}
+use Rattle.ol_spec.specs.Answers.{Verdict, Measured, Sorted, Started, measured_fault, verdict_fault, verdict_length, sorted_fault, started_fault, cycled_fault}
 use Rattle.ol_spec.specs.Cycle.{OrderingCall, StartCall, CycleCall}
-use Rattle.ol_spec.specs.declared.Measured.{Measured}
-use Rattle.ol_spec.specs.declared.Verdict.{Verdict}
-use Rattle.ol_spec.specs.declared.Sorted.{Sorted}
-use Rattle.ol_spec.specs.declared.Started.{Started}
 use Rattle.ol_spec.specs.declared.Cycled.{Cycled}
 
 -- the lengths

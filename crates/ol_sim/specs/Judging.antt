@@ -1,11 +1,13 @@
 -- What judging a file that reads without fault gives: the first of the faults that are still to be asked, or the file's tables.
-use Rattle.std.specs.Prelude.{ℕ, suc, ◌+◌, ◌-◌, ◌*◌, ◌/◌, ◌≤◌, ◌<◌, min, Bool, true, List, [], ◌∷◌, map, ◌≡◌, length, get_or, take, drop}
+use Rattle.std.specs.Prelude.{ℕ, suc, ◌+◌, ◌-◌, ◌*◌, ◌/◌, ◌≤◌, ◌<◌, min, Bool, true, List, [], ◌∷◌, map, ◌≡◌, length, get_or, take, drop, Result, Ok, Err}
+use Rattle.std.specs.Prelude as Std
 use Rattle.std.proofs.Math.Option.{Option, none, some}
 use Rattle.ol_spec.specs.Syntax.{File}
 use Rattle.ol_spec.specs.Places.{placed_nodes}
 use Rattle.ol_spec.specs.Limits.{relay_loader}
 use Rattle.ol_spec.specs.Cell.{cells, values_of}
 use Rattle.ol_spec.specs.Admission as Adm
+use Rattle.ol_spec.specs.Demand3.{Bytes}
 use Rattle.ol_spec.specs.declared.Value.{Value}
 use Rattle.ol_tables.specs.At.{file_at}
 use Rattle.ol_tables.specs.Tables.{Each, Rows, node_of, place_of, first_at, size_cap, PlanOf}
@@ -19,8 +21,9 @@ use Rattle.ol_check.specs.Sizes.{MainSized}
 use Rattle.ol_check.specs.declared.rows.Sections.{Sections}
 use Rattle.ol_check.specs.declared.Faults.{Faults}
 use Rattle.ol_run.specs.Admitted.{Sound, Admitted}
-use Rattle.ol_sim.specs.declared.judge.Judged.{Judged}
-use Rattle.ol_sim.specs.declared.judge.Judged.TheVariants as Jud
+use Rattle.ol_spec.specs.declared.Fault.{Fault}
+use Rattle.ol_sim.specs.declared.judge.Admitted.{Admitted as Passed}
+use Rattle.ol_sim.specs.declared.program.Project.{Project}
 
 -- the faults from a number on, in their order
 abbrev pub from13 : File → List (ℕ × Option ℕ)
@@ -73,12 +76,17 @@ pub record Admits (s t : List ℕ) (size main : ℕ) : Type 0 where
 abbrev pub whole : File → Adm.Judged
 whole f = Adm.admitted f (values_in f)
 
--- what judging gives, where the faults xs are still to be asked and P holds of an admitted file
-abbrev pub JudgesBy : List ℕ → List (ℕ × Option ℕ) → (ℕ → ℕ → Type 0) → Judged → Type 0
-JudgesBy s xs P (Jud.Refused x) = Adm.refuse_first xs (whole (file_at s)) ≡ Adm.refused x.number x.place
-JudgesBy s xs P (Jud.Admitted size main) = (Adm.refuse_first xs (whole (file_at s)) ≡ whole (file_at s)) × P size main
+-- the fault of this number, where it holds at a place
+abbrev pub refused_if : ℕ → Std.Option ℕ → Result (Unit {0}) Fault
+refused_if n (Std.Some p) = Err (record { number = n; place = p })
+refused_if n Std.None = Ok tt
 
-pub record Judges (s : List ℕ) (xs : List (ℕ × Option ℕ)) (P : ℕ → ℕ → Type 0) (r : Judged) : Type 0 where
+-- what judging gives, where the faults xs are still to be asked and P holds of an admitted file
+abbrev pub JudgesBy : List ℕ → List (ℕ × Option ℕ) → (ℕ → ℕ → Type 0) → Result Passed Fault → Type 0
+JudgesBy s xs P (Err x) = Adm.refuse_first xs (whole (file_at s)) ≡ Adm.refused x.number x.place
+JudgesBy s xs P (Ok a) = (Adm.refuse_first xs (whole (file_at s)) ≡ whole (file_at s)) × P a.size a.main
+
+pub record Judges (s : List ℕ) (xs : List (ℕ × Option ℕ)) (P : ℕ → ℕ → Type 0) (r : Result Passed Fault) : Type 0 where
   pub is : JudgesBy s xs P r
 
 -- the table by name after the walk over the file, which a fault 6 keeps from being made
@@ -88,11 +96,12 @@ names_after none f names = global_table names f
 
 -- ---- what each step of judging is told
 
--- the file reads without fault, with so many enums and its nodes at these places
-pub record Loads (s : List ℕ) (enums : ℕ) (places : List ℕ) : Type 0 where
-  pub reads : FileReads s
-  pub counted : length (file_at s).enums ≡ enums
-  pub placed : places ≡ map Walks.place_of (placed_nodes (file_at s))
+-- the file, of bytes, reads without fault, with so many enums and its nodes at these places
+pub record Loads (p : Project) : Type 0 where
+  pub bytes : Bytes p.file.now
+  pub reads : FileReads p.file.now
+  pub counted : length (file_at p.file.now).enums ≡ p.enums
+  pub placed : p.places.now ≡ map Walks.place_of (placed_nodes (file_at p.file.now))
 
 -- the bytes of the slots in the table t, behind which as many have the plans
 abbrev pub half_of : List ℕ → ℕ
@@ -104,9 +113,9 @@ slots_of t = take (half_of t) (drop 4017 t)
 abbrev pub plans_of : List ℕ → List ℕ
 plans_of t = drop (half_of t) (drop 4017 t)
 
--- and buffers for its tables; the slots' part of the table t is 0, and has room for an entry of every name below 1,024
-pub record FileReady (s : List ℕ) (enums : ℕ) (places rows t : List ℕ) : Type 0 where
-  pub loads : Loads s enums places
+-- buffers for its tables; the slots' part of the table t is 0, and has room for an entry of every name below 1,024
+pub record FileReady (s rows t : List ℕ) : Type 0 where
+  pub reads : FileReads s
   pub stands : FileStands s (file_at s)
   pub rows_long : length rows ≡ 272
   pub tab_long : 4017 + 2 * length s ≤ length t
@@ -126,8 +135,7 @@ pub record Rowed (s rows : List ℕ) (c : Sections) : Type 0 where
 pub record TypesIn (f : File) (t : List ℕ) : Type 0 where
   pub typed : Typed f (64 + half_of t) (drop 3953 t)
 
-pub record SectionsReady (s : List ℕ) (enums : ℕ) (places rows t : List ℕ) (c : Sections) : Type 0 where
-  pub loads : Loads s enums places
+pub record SectionsReady (s rows t : List ℕ) (c : Sections) : Type 0 where
   pub rowed : Rowed s rows c
   pub typed : TypesIn (file_at s) t
   pub tab_long : 4017 + 2 * length s ≤ length t
@@ -137,8 +145,8 @@ pub record Empty (f : File) (names : List ℕ) : Type 0 where
   pub zero : (x : ℕ) → get_or names x 0 ≡ 0
   pub within : NamesWithin (length names) f
 
-pub record NamesReady (s : List ℕ) (enums : ℕ) (places rows t names : List ℕ) (c : Sections) (low : Bool) : Type 0 where
-  pub sections : SectionsReady s enums places rows t c
+pub record NamesReady (s rows t names : List ℕ) (c : Sections) (low : Bool) : Type 0 where
+  pub sections : SectionsReady s rows t c
   pub empty : Empty (file_at s) names
   pub lows : Low (file_at s) low
 
@@ -165,8 +173,8 @@ pub record FaultsAre (f : File) (r : Faults) : Type 0 where
   pub called : Founds.place_of r.called ≡ Adm.fault9 f
   pub shaped : Founds.place_of r.shaped ≡ Adm.fault10 f
 
-pub record ShapesReady (s : List ℕ) (enums : ℕ) (places rows t : List ℕ) (c : Sections) (low : Bool) (found : Faults) : Type 0 where
-  pub sections : SectionsReady s enums places rows t c
+pub record ShapesReady (s rows t : List ℕ) (c : Sections) (low : Bool) (found : Faults) : Type 0 where
+  pub sections : SectionsReady s rows t c
   pub no6 : Adm.fault6 (file_at s) ≡ none
   pub are : FaultsAre (file_at s) found
   pub slots : Slots s (file_at s) (slots_of t)
@@ -175,8 +183,8 @@ pub record ShapesReady (s : List ℕ) (enums : ℕ) (places rows t : List ℕ) (
   pub lows : Low (file_at s) low
 
 -- 6 to 10 do not hold, and the main instance has so many bytes
-pub record OrderReady (s : List ℕ) (enums : ℕ) (places rows t : List ℕ) (c : Sections) (main : ℕ) (low : Bool) : Type 0 where
-  pub sections : SectionsReady s enums places rows t c
+pub record OrderReady (s rows t : List ℕ) (c : Sections) (main : ℕ) (low : Bool) : Type 0 where
+  pub sections : SectionsReady s rows t c
   pub rows_are : Rows (file_at s) rows
   pub main_is : MainSized (file_at s) main
   pub slots : Slots s (file_at s) (slots_of t)

@@ -1,58 +1,32 @@
--- What every call of the public functions answers and writes: by `lengths`, `start` and `cycle`.
-use Rattle.std.specs.Prelude.{ℕ, List, ◌≡◌}
+-- What every call of the public functions gives: what it finds on the file's program, or the fault for which the file is not admitted.
+use Rattle.std.specs.Prelude.{ℕ, List, ◌≡◌, Result, Ok, Err}
+use denote.Ref.{Bor}
 use Rattle.ol_spec.specs.Limits.{relay_loader}
-use Rattle.ol_spec.specs.Cycle.{lengths, start, cycle}
-use Rattle.ol_spec.specs.declared.Lengths.{Lengths}
-use Rattle.ol_spec.specs.declared.Measured.{Measured}
-use Rattle.ol_spec.specs.declared.Measured.TheVariants as Mea
-use Rattle.ol_spec.specs.declared.Verdict.{Verdict}
-use Rattle.ol_spec.specs.declared.Verdict.TheVariants as Ver
-use Rattle.ol_spec.specs.declared.Started.{Started}
-use Rattle.ol_spec.specs.declared.Started.TheVariants as Sta
-use Rattle.ol_spec.specs.declared.Cycled.{Cycled}
-use Rattle.ol_spec.specs.declared.Cycled.TheVariants as Cyc
-use Rattle.ol_sim.specs.Calls.{MeasuresAs, StartsAs, CyclesAs}
-use Rattle.ol_sim.specs.declared.calls.Call.{Call}
-use Rattle.ol_sim.specs.declared.calls.Call.TheVariants as Asked
-use Rattle.ol_sim.specs.declared.calls.Answer.{Answer}
-use Rattle.ol_sim.specs.declared.calls.Answer.TheVariants as Ans
+use Rattle.ol_spec.specs.Admission.{judge, refused}
+use Rattle.ol_spec.specs.Answers.{Measured, Verdict}
+use Rattle.ol_spec.specs.declared.Fault.{Fault}
+use Rattle.ol_tables.specs.At.{file_at}
+use Rattle.ol_tables.specs.Tables.{Variants}
+use Rattle.ol_sim.specs.Judging.{whole}
+use Rattle.ol_sim.specs.Answering.{AnswerReady}
+use Rattle.ol_sim.specs.declared.program.Program.{Program}
 
--- in an answer to a call that asks for no lengths
-abbrev pub no_lengths : Lengths
-no_lengths = record { state = 0; inputs = 0; values = 0; equations = 0 }
+-- an admitted file with its tables
+pub record Stands (p : Program) : Type 0 where
+  pub ready : AnswerReady p.file.now p.tab.now p.size p.main
+  pub tells : Variants (file_at p.file.now) p.names.now
+  pub judged : judge relay_loader p.file.now ≡ whole (file_at p.file.now)
 
--- an answer as the lengths', the start's and the cycle's
-abbrev pub measured_of : Answer → Measured
-measured_of (Ans.Done l) = Mea.Done l
-measured_of (Ans.Stopped x) = Mea.Refused x
-measured_of (Ans.Refused x) = Mea.Refused x
+-- a call may be made on every admitted file
+abbrev pub Callable : (Bor Program → Type 0) → Type 0
+Callable Pre = (p : Bor Program) → Stands p.now → Pre p
 
-abbrev pub started_of : Answer → Started
-started_of (Ans.Done l) = Sta.Done
-started_of (Ans.Stopped x) = Sta.Refused x
-started_of (Ans.Refused x) = Sta.Refused x
-
-abbrev pub cycled_of : Answer → Cycled
-cycled_of (Ans.Done l) = Cyc.Answered
-cycled_of (Ans.Stopped x) = Cyc.Stopped x
-cycled_of (Ans.Refused x) = Cyc.Refused x
-
--- a cycle's answer
-abbrev pub answer_of : Cycled → Answer
-answer_of Cyc.Answered = Ans.Done no_lengths
-answer_of (Cyc.Stopped x) = Ans.Stopped x
-answer_of (Cyc.Refused x) = Ans.Refused x
+-- a call on the program of the file s gives r and leaves f', or the file is not admitted and no call is made
+abbrev pub Serves : {F R : Type 0} → (Bor Program → R → F → Type 0) → F → List ℕ → Result R Fault → F → Type 0
+Serves Calls f s (Ok r) f' = (p : Bor Program) × (p.now.file.now ≡ s) × Calls p r f'
+Serves Calls f s (Err x) f' = (judge relay_loader s ≡ refused x.number x.place) × (f' ≡ f)
 
 -- the lengths as admission's verdict
 abbrev pub verdict_of : Measured → Verdict
-verdict_of (Mea.Done l) = Ver.Admitted l.state
-verdict_of (Mea.Refused x) = Ver.Refused x
-
--- what a call answers and writes; `new` is the start's buffer and the cycle's new state
-abbrev pub ServesBy : Call → List ℕ → List ℕ → List ℕ → List ℕ → List ℕ → Answer → List ℕ → List ℕ → Type 0
-ServesBy (Asked.Lengths k) s old inputs new values r new' values' = MeasuresAs (lengths relay_loader s k) (measured_of r) × (new' ≡ new) × (values' ≡ values)
-ServesBy Asked.Start s old inputs new values r new' values' = StartsAs (start relay_loader s new) (started_of r) new' × (values' ≡ values)
-ServesBy Asked.Cycle s old inputs new values r new' values' = CyclesAs (cycle relay_loader s old inputs new values) (cycled_of r) new' values'
-
-pub record Serves (call : Call) (s old inputs new values : List ℕ) (r : Answer) (new' values' : List ℕ) : Type 0 where
-  pub is : ServesBy call s old inputs new values r new' values'
+verdict_of (Ok l) = Ok l.state
+verdict_of (Err x) = Err x

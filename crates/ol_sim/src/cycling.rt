@@ -1,13 +1,12 @@
 // The cycle: 15 to 17, then the main instance's run and its end.
 ghost use Rattle.std.specs.Prelude.{◌≡◌};
+ghost use Rattle.ol_spec.specs.Limits.{relay_loader};
 ghost use Rattle.ol_spec.specs.Answers.{fault_at};
-ghost use Rattle.ol_spec.specs.Cycle.{cycle_judged};
-ghost use Rattle.ol_tables.specs.At.{file_at};
-ghost use Rattle.ol_tables.specs.Tables.{Variants};
+ghost use Rattle.ol_spec.specs.Cycle.{cycle};
 ghost use Rattle.ol_sim.specs.Calls.{CyclesAs};
-ghost use Rattle.ol_sim.specs.Judging.{whole};
-ghost use Rattle.ol_sim.specs.Answering.{AnswerReady};
+ghost use Rattle.ol_sim.specs.Serving.{Stands};
 
+use crate::program::Program;
 use ol_run::main_cycle::run_main;
 use ol_spec::{Cycled, Fault};
 use ol_state::{good_inputs, good_state};
@@ -21,37 +20,31 @@ fn refuse(number: u8) -> Cycled
     Cycled::Refused(Fault { number, place: 0 })
 }
 
-// 15, 16 and 17, then the run. The table by name tells the variants.
-pub(crate) fn cycle_unless(
-    file: &[u8],
-    tab: &[u8],
-    names: &[u8],
-    size: usize,
-    main: usize,
-    old: &[u8],
-    inputs: &[u8],
-    new: &mut [u8],
-    values: &mut [u8],
-) -> Cycled
-    requires { AnswerReady file.now tab.now size main × Variants (file_at file.now) names.now }
-    ensures { CyclesAs (cycle_judged (whole (file_at file.now)) old.now inputs.now new.old values.old) result new.new values.new }
-{
-    if good_state(file, tab, names, old) {
-        if good_inputs(file, tab, inputs) {
-            if new.len() == size {
-                let n = column(tab, main, VARIABLES);
-                if values.len() == 9 * n {
-                    run_main(file, tab, main, old, inputs, new, values)
-                } else {
-                    refuse(17)
-                }
-            } else {
-                refuse(17)
-            }
-        } else {
-            refuse(16)
+impl Program<'_> {
+    // 15, 16 and 17, then the run. The table by name tells the variants.
+    pub(crate) fn cycle(
+        &self,
+        old: &[u8],
+        inputs: &[u8],
+        new: &mut [u8],
+        values: &mut [u8],
+    ) -> Cycled
+        requires { Stands self.now }
+        ensures { CyclesAs (cycle relay_loader self.now.file.now old.now inputs.now new.old values.old) result new.new values.new }
+    {
+        let file = self.file;
+        let tab = self.tab;
+        let main = self.main;
+        if !good_state(file, tab, self.names, old) {
+            return refuse(15);
         }
-    } else {
-        refuse(15)
+        if !good_inputs(file, tab, inputs) {
+            return refuse(16);
+        }
+        let n = column(tab, main, VARIABLES);
+        if new.len() != self.size || values.len() != 9 * n {
+            return refuse(17);
+        }
+        run_main(file, tab, main, old, inputs, new, values)
     }
 }

@@ -1,315 +1,141 @@
-// The one way of every public call: the file is loaded, the lengths of its tables are chosen, it is judged, and the call is answered.
-ghost use Rattle.std.specs.Prelude.{◌≡◌, true, ◌≤◌, length};
-ghost use Rattle.ol_spec.specs.Limits.{relay_loader};
-ghost use Rattle.ol_spec.specs.Admission.{fault6, judge};
+// The one way of every public call: the file is loaded, the lengths of its tables are chosen, it is judged, and a call is made on its program.
+ghost use Rattle.std.specs.Prelude.{◌≡◌, true, ◌+◌, ◌*◌, ◌≤◌, length};
+ghost use Rattle.ol_spec.specs.Admission.{fault6};
 ghost use Rattle.ol_tables.specs.At.{file_at};
 ghost use Rattle.ol_check.specs.Founds.{place_of};
-ghost use Rattle.ol_sim.specs.Judging.{Below, Low, NamesReady, SectionsReady, FileReady, Loads, whole};
-ghost use Rattle.ol_tables.specs.Tables.{Variants};
-ghost use Rattle.ol_sim.specs.Answering.{AnswerReady};
-ghost use Rattle.ol_sim.specs.Serving.{Serves};
+ghost use Rattle.ol_sim.specs.Judging.{Below, Loads, Low, SectionsReady, FileReady};
+ghost use Rattle.ol_sim.specs.Serving.{Callable, Serves};
 
-use crate::calls::{Answer, Call, answer_of};
-use crate::cycling::cycle_unless;
-use crate::judge::{Judged, judge_names};
-use crate::measuring::measure;
-use crate::starting::start_unless;
-use ol_check::Found;
+use crate::judge::judge_names;
+use crate::program::{Program, Project};
 use ol_check::clash::sort_file;
 use ol_check::rows::{Sections, rows_of};
-use ol_ir::Loaded;
 use ol_ir::project::load_file;
+use ol_spec::Fault;
 use ol_tables::table::{LARGE_TAB, NODES, SLOTS, SMALL_TAB};
 use ol_tables::tables::ROWS;
 
-// Answers the call of an admitted file, whose tables are written.
-fn answer(
-    call: Call,
-    file: &[u8],
-    tab: &[u8],
-    names: &[u8],
-    size: usize,
-    main: usize,
-    old: &[u8],
-    inputs: &[u8],
-    new: &mut [u8],
-    values: &mut [u8],
-) -> Answer
-    requires answer_ready { AnswerReady file.now tab.now size main × Variants (file_at file.now) names.now }
-    requires file_value { judge relay_loader file.now ≡ whole (file_at file.now) }
-    ensures { Serves call file.now old.now inputs.now new.old values.old result new.new values.new }
-{
-    match call {
-        Call::Lengths(node) => measure(file, tab, size, main, node),
-        Call::Start => start_unless(file, tab, size, main, new),
-        Call::Cycle => answer_of(cycle_unless(
-            file, tab, names, size, main, old, inputs, new, values,
-        )),
-    }
-}
-
-// Judges with an empty table by name, and answers.
-fn serve_named(
-    call: Call,
-    file: &[u8],
-    enums: usize,
-    places: &[usize],
+// Judges with an empty table by name, which is longer than every declared name, and calls.
+// `rows` and `tab` stay two parameters: of a struct of two `&mut` every clause would have to keep both ghost names.
+fn serve_named<const N: usize, R, F: FnMut(&Program) -> R>(
+    project: &Project,
     rows: &mut [usize],
     tab: &mut [u8],
-    names: &mut [u8],
     sections: Sections,
     low: bool,
-    clash: Found,
-    old: &[u8],
-    inputs: &[u8],
-    new: &mut [u8],
-    values: &mut [u8],
-) -> Answer
-    requires names_ready { NamesReady file.now enums places.now rows.old tab.old names.old sections low }
-    requires clash_value { place_of clash ≡ fault6 (file_at file.now) }
-    ensures { Serves call file.now old.now inputs.now new.old values.old result new.new values.new }
+    clash: Option<usize>,
+    call: &mut F,
+) -> Result<R, Fault>
+    requires callable { Callable (F.pre call.old) }
+    requires loads { Loads project.now }
+    requires sections_ready { SectionsReady project.now.file.now rows.old tab.old sections }
+    requires below { Below N (file_at project.now.file.now) }
+    requires lows { Low (file_at project.now.file.now) low }
+    requires clash_value { place_of clash ≡ fault6 (file_at project.now.file.now) }
+    requires fits { N ≤ 65536 }
+    ensures { Serves (F.step call.old) call.old project.now.file.now result call.new }
 {
-    match judge_names(file, enums, places, rows, tab, names, sections, low, clash) {
-        Judged::Refused(f) => Answer::Refused(f),
-        Judged::Admitted(size, main) => {
-            answer(call, file, tab, names, size, main, old, inputs, new, values)
-        }
-    }
+    let mut names = [0u8; N];
+    let admitted = judge_names(project, rows, tab, &mut names, sections, low, clash)?;
+    Ok(call(&Program {
+        file: project.file,
+        tab,
+        names: &names,
+        size: admitted.size,
+        main: admitted.main,
+    }))
 }
 
-// With every declared name below 1,024.
-fn serve_low(
-    call: Call,
-    file: &[u8],
-    enums: usize,
-    places: &[usize],
-    rows: &mut [usize],
-    tab: &mut [u8],
-    sections: Sections,
-    clash: Found,
-    old: &[u8],
-    inputs: &[u8],
-    new: &mut [u8],
-    values: &mut [u8],
-) -> Answer
-    requires sections_ready { SectionsReady file.now enums places.now rows.old tab.old sections × Low (file_at file.now) true }
-    requires clash_value { place_of clash ≡ fault6 (file_at file.now) }
-    ensures { Serves call file.now old.now inputs.now new.old values.old result new.new values.new }
-{
-    let mut names = [0u8; 1024];
-    serve_named(
-        call, file, enums, places, rows, tab, &mut names, sections, true, clash, old, inputs, new,
-        values,
-    )
-}
-
-// With any names. A function that calls itself is not put into its caller's frame: a call with low
-// names does not touch the large tables' stack. `turns` is 0 for every file that reads.
-fn serve_high(
+// With every declared name below N, which is more than 1,024. A function that calls itself is not put into its caller's frame: a call with
+// low names does not touch these tables' stack. `turns` is 0 for every file that reads.
+fn serve_sorted<const N: usize, R, F: FnMut(&Program) -> R>(
     turns: usize,
-    call: Call,
-    file: &[u8],
-    enums: usize,
-    places: &[usize],
+    project: &Project,
     rows: &mut [usize],
     tab: &mut [u8],
     sections: Sections,
-    old: &[u8],
-    inputs: &[u8],
-    new: &mut [u8],
-    values: &mut [u8],
-) -> Answer
-    requires { SectionsReady file.now enums places.now rows.old tab.old sections }
-    ensures { Serves call file.now old.now inputs.now new.old values.old result new.new values.new }
+    call: &mut F,
+) -> Result<R, Fault>
+    requires callable { Callable (F.pre call.old) }
+    requires loads { Loads project.now }
+    requires sections_ready { SectionsReady project.now.file.now rows.old tab.old sections }
+    requires below { Below N (file_at project.now.file.now) }
+    requires fits { N ≤ 65536 }
+    ensures { Serves (F.step call.old) call.old project.now.file.now result call.new }
 {
     if 0 < turns {
-        serve_high(
-            turns - 1,
-            call,
-            file,
-            enums,
-            places,
-            rows,
-            tab,
-            sections,
-            old,
-            inputs,
-            new,
-            values,
-        )
+        serve_sorted::<N, R, F>(turns - 1, project, rows, tab, sections, call)
     } else {
-        let mut sorts = [0u8; 65536];
-        let s = sort_file(file, rows, sections, &mut sorts);
-        let clash = s.found;
-        let mut names = [0u8; 65536];
-        serve_named(
-            call, file, enums, places, rows, tab, &mut names, sections, false, clash, old, inputs,
-            new, values,
-        )
-    }
-}
-
-// With every declared name below 8,192. It calls itself as `serve_high` does: a call with low names does not touch these tables' stack.
-fn serve_middle(
-    turns: usize,
-    call: Call,
-    file: &[u8],
-    enums: usize,
-    places: &[usize],
-    rows: &mut [usize],
-    tab: &mut [u8],
-    sections: Sections,
-    old: &[u8],
-    inputs: &[u8],
-    new: &mut [u8],
-    values: &mut [u8],
-) -> Answer
-    requires { SectionsReady file.now enums places.now rows.old tab.old sections × Below 8192 (file_at file.now) }
-    ensures { Serves call file.now old.now inputs.now new.old values.old result new.new values.new }
-{
-    if 0 < turns {
-        serve_middle(
-            turns - 1,
-            call,
-            file,
-            enums,
-            places,
-            rows,
-            tab,
-            sections,
-            old,
-            inputs,
-            new,
-            values,
-        )
-    } else {
-        let mut sorts = [0u8; 8192];
-        let s = sort_file(file, rows, sections, &mut sorts);
-        let clash = s.found;
-        let mut names = [0u8; 8192];
-        serve_named(
-            call, file, enums, places, rows, tab, &mut names, sections, false, clash, old, inputs,
-            new, values,
-        )
+        let mut sorts = [0u8; N];
+        let s = sort_file(project.file, rows, sections, &mut sorts);
+        serve_named::<N, R, F>(project, rows, tab, sections, false, s.found, call)
     }
 }
 
 // With tables to write. Until the slots are written, their part of `tab` is blank: fault 6 uses 1,024 bytes of it.
-fn serve_with(
-    call: Call,
-    file: &[u8],
-    enums: usize,
-    places: &[usize],
+fn serve_with<R, F: FnMut(&Program) -> R>(
+    project: &Project,
     rows: &mut [usize],
     tab: &mut [u8],
-    old: &[u8],
-    inputs: &[u8],
-    new: &mut [u8],
-    values: &mut [u8],
-) -> Answer
-    requires { FileReady file.now enums places.now rows.old tab.old }
-    ensures { Serves call file.now old.now inputs.now new.old values.old result new.new values.new }
+    call: &mut F,
+) -> Result<R, Fault>
+    requires callable { Callable (F.pre call.old) }
+    requires loads { Loads project.now }
+    requires ready { FileReady project.now.file.now rows.old tab.old }
+    ensures { Serves (F.step call.old) call.old project.now.file.now result call.new }
 {
+    let file = project.file;
     let plans = SLOTS - NODES + (tab.len() - SLOTS) / 2;
-    let sections = rows_of(file, places, rows, &mut tab[NODES..], plans);
+    let sections = rows_of(file, project.places, rows, &mut tab[NODES..], plans);
     let s = sort_file(file, rows, sections, &mut tab[SLOTS..SLOTS + 1024]);
-    let clash = s.found;
+    let turns = file.len() / 65536;
     if s.highest < 1024 {
-        serve_low(
-            call, file, enums, places, rows, tab, sections, clash, old, inputs, new, values,
-        )
+        serve_named::<1024, R, F>(project, rows, tab, sections, true, s.found, call)
     } else if s.highest < 8192 {
-        let turns = file.len() / 65536;
-        serve_middle(
-            turns, call, file, enums, places, rows, tab, sections, old, inputs, new, values,
-        )
+        serve_sorted::<8192, R, F>(turns, project, rows, tab, sections, call)
     } else {
-        let turns = file.len() / 65536;
-        serve_high(
-            turns, call, file, enums, places, rows, tab, sections, old, inputs, new, values,
-        )
+        serve_sorted::<65536, R, F>(turns, project, rows, tab, sections, call)
     }
 }
 
-// A file of at most 1,024 bytes.
-fn serve_small(
-    call: Call,
-    file: &[u8],
-    enums: usize,
-    places: &[usize],
-    old: &[u8],
-    inputs: &[u8],
-    new: &mut [u8],
-    values: &mut [u8],
-) -> Answer
-    requires { Loads file.now enums places.now × (length file.now ≤ 1024) }
-    ensures { Serves call file.now old.now inputs.now new.old values.old result new.new values.new }
-{
-    let mut rows = [0usize; ROWS];
-    let mut tab = [0u8; SMALL_TAB];
-    serve_with(
-        call, file, enums, places, &mut rows, &mut tab, old, inputs, new, values,
-    )
-}
-
-// Any file. It calls itself as `serve_high` does: a small file does not touch the large table's stack.
-fn serve_large(
+// With a table of N bytes. It calls itself as `serve_sorted` does: a small file does not touch the large table's stack.
+fn serve_sized<const N: usize, R, F: FnMut(&Program) -> R>(
     turns: usize,
-    call: Call,
-    file: &[u8],
-    enums: usize,
-    places: &[usize],
-    old: &[u8],
-    inputs: &[u8],
-    new: &mut [u8],
-    values: &mut [u8],
-) -> Answer
-    requires { Loads file.now enums places.now }
-    ensures { Serves call file.now old.now inputs.now new.old values.old result new.new values.new }
+    project: &Project,
+    call: &mut F,
+) -> Result<R, Fault>
+    requires callable { Callable (F.pre call.old) }
+    requires loads { Loads project.now }
+    requires room { 4017 + 2 * length project.now.file.now ≤ N }
+    requires wide { 6065 ≤ N }
+    requires fits { N ≤ 69553 }
+    ensures { Serves (F.step call.old) call.old project.now.file.now result call.new }
 {
     if 0 < turns {
-        serve_large(
-            turns - 1,
-            call,
-            file,
-            enums,
-            places,
-            old,
-            inputs,
-            new,
-            values,
-        )
+        serve_sized::<N, R, F>(turns - 1, project, call)
     } else {
         let mut rows = [0usize; ROWS];
-        let mut tab = [0u8; LARGE_TAB];
-        serve_with(
-            call, file, enums, places, &mut rows, &mut tab, old, inputs, new, values,
-        )
+        let mut tab = [0u8; N];
+        serve_with(project, &mut rows, &mut tab, call)
     }
 }
 
-// Answers a call. One that has no old state, inputs or values is given empty slices for them; `new` is the start's buffer too.
-pub(crate) fn serve(
-    call: Call,
-    file: &[u8],
-    old: &[u8],
-    inputs: &[u8],
-    new: &mut [u8],
-    values: &mut [u8],
-) -> Answer
-    ensures { Serves call file.now old.now inputs.now new.old values.old result new.new values.new }
+// Calls on the file's program, or gives the fault for which it is not admitted.
+pub(crate) fn serve<R, F: FnMut(&Program) -> R>(file: &[u8], call: &mut F) -> Result<R, Fault>
+    requires { Callable (F.pre call.old) }
+    ensures { Serves (F.step call.old) call.old file.now result call.new }
 {
     let mut starts = [0usize; 32];
-    match load_file(file, &mut starts) {
-        Loaded::Nodes(enums, n) => {
-            let places = &starts[..n];
-            if file.len() <= 1024 {
-                serve_small(call, file, enums, places, old, inputs, new, values)
-            } else {
-                let turns = file.len() / 65536;
-                serve_large(turns, call, file, enums, places, old, inputs, new, values)
-            }
-        }
-        Loaded::Refused(f) => Answer::Refused(f),
+    let loaded = load_file(file, &mut starts)?;
+    let project = Project {
+        file,
+        enums: loaded.enums,
+        places: &starts[..loaded.nodes],
+    };
+    if file.len() <= 1024 {
+        serve_sized::<SMALL_TAB, R, F>(0, &project, call)
+    } else {
+        let turns = file.len() / 65536;
+        serve_sized::<LARGE_TAB, R, F>(turns, &project, call)
     }
 }

@@ -1,16 +1,15 @@
 // The start: the fresh state.
 ghost use Rattle.std.specs.Prelude.{◌≡◌};
-ghost use Rattle.ol_spec.specs.Cycle.{start_judged};
+ghost use Rattle.ol_spec.specs.Limits.{relay_loader};
 ghost use Rattle.ol_spec.specs.State.{fresh_state};
+ghost use Rattle.ol_spec.specs.Cycle.{start};
 ghost use Rattle.ol_tables.specs.At.{file_at};
 ghost use Rattle.ol_sim.specs.Calls.{StartsAs};
-ghost use Rattle.ol_sim.specs.Judging.{values_in, whole};
+ghost use Rattle.ol_sim.specs.Judging.{values_in};
 ghost use Rattle.ol_sim.specs.Starting.{StartReady};
-ghost use Rattle.ol_sim.specs.Answering.{AnswerReady};
-ghost use Rattle.ol_sim.specs.Serving.{started_of};
+ghost use Rattle.ol_sim.specs.Serving.{Stands};
 
-use crate::calls::{Answer, no_lengths};
-use ol_frame::copies::copy;
+use crate::program::Program;
 use ol_spec::Fault;
 use ol_state::fresh::write_fresh;
 use ol_tables::bytes::byte;
@@ -23,28 +22,25 @@ fn write_start(file: &[u8], tab: &[u8], main: usize, state: &mut [u8])
 {
     let n = 9 * byte(tab, KNOWN);
     let end = CONSTANTS + n;
-    copy(&tab[CONSTANTS..end], &mut state[..n]);
+    let cells = &tab[CONSTANTS..end];
+    state[..n].copy_from_slice(cells);
     write_fresh(file, tab, main, &mut state[n..]);
 }
 
-// 17, then the fresh state.
-pub(crate) fn start_unless(
-    file: &[u8],
-    tab: &[u8],
-    size: usize,
-    main: usize,
-    state: &mut [u8],
-) -> Answer
-    requires { AnswerReady file.now tab.now size main }
-    ensures { StartsAs (start_judged (whole (file_at file.now)) state.old) (started_of result) state.new }
-{
-    if state.len() == size {
-        write_start(file, tab, main, state);
-        Answer::Done(no_lengths())
-    } else {
-        Answer::Refused(Fault {
-            number: 17,
-            place: 0,
-        })
+impl Program<'_> {
+    // 17, then the fresh state.
+    pub(crate) fn start(&self, state: &mut [u8]) -> Result<(), Fault>
+        requires { Stands self.now }
+        ensures { StartsAs (start relay_loader self.now.file.now state.old) result state.new }
+    {
+        if state.len() == self.size {
+            write_start(self.file, self.tab, self.main, state);
+            Ok(())
+        } else {
+            Err(Fault {
+                number: 17,
+                place: 0,
+            })
+        }
     }
 }

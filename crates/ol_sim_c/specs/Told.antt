@@ -1,13 +1,15 @@
 -- What a caller in C is told: the number as the function's result (0 where there is no fault), the place and the lengths through pointers.
-use Rattle.std.specs.Prelude.{ℕ, List, ◌≡◌}
-use Rattle.ol_spec.specs.Answers.{measured_fault, verdict_fault, sorted_fault, started_fault, cycled_fault}
+use Rattle.std.specs.Prelude.{ℕ, List, ◌≡◌, Result, Ok, Err}
+use Rattle.std.specs.Result.{result_unwrap_or}
+use Rattle.ol_spec.specs.Answers.{Measured, Verdict, no_fault, measured_fault, verdict_fault, sorted_fault, started_fault, cycled_fault}
 use Rattle.ol_spec.specs.Cycle.{OrderingCall, StartCall, CycleCall}
 use Rattle.ol_spec.specs.declared.Fault.{Fault}
 use Rattle.ol_spec.specs.declared.Lengths.{Lengths}
-use Rattle.ol_spec.specs.declared.Measured.{Measured}
-use Rattle.ol_spec.specs.declared.Measured.TheVariants as Mea
-use Rattle.ol_spec.specs.declared.Verdict.{Verdict}
-use Rattle.ol_spec.specs.declared.Verdict.TheVariants as Adm
+
+-- the fault that is answered, or none
+abbrev pub fault_of : {T : Type 0} → Result T Fault → Fault
+fault_of (Ok x) = no_fault
+fault_of (Err x) = x
 
 -- a fault, or that there is none
 pub record Tells (x : Fault) (number place : ℕ) : Type 0 where
@@ -16,8 +18,8 @@ pub record Tells (x : Fault) (number place : ℕ) : Type 0 where
 
 -- the lengths where they are answered; where they are refused what was there
 abbrev pub lengths_after : Measured → Lengths → Lengths
-lengths_after (Mea.Done l) before = l
-lengths_after (Mea.Refused x) before = before
+lengths_after (Ok l) before = l
+lengths_after (Err x) before = before
 
 -- `ol_sim_lengths`: the answer, and the four lengths, which a refusal leaves as they were
 pub record Measures (m : Measured) (before : Lengths) (number place : ℕ) (after : Lengths) : Type 0 where
@@ -26,8 +28,7 @@ pub record Measures (m : Measured) (before : Lengths) (number place : ℕ) (afte
 
 -- the state's length of a file that is admitted; of one that is refused what was there
 abbrev pub size_after : Verdict → ℕ → ℕ
-size_after (Adm.Admitted n) size = n
-size_after (Adm.Refused x) size = size
+size_after v size = result_unwrap_or v size
 
 -- `ol_sim_admit`: the verdict, and the state's length, which a refusal leaves as it was
 pub record Admits (v : Verdict) (before number place size : ℕ) : Type 0 where

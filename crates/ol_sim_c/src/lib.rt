@@ -4,55 +4,24 @@
 ghost use Rattle.std.specs.Prelude.{◌≡◌};
 ghost use Rattle.ol_spec.specs.Limits.{relay_loader};
 ghost use Rattle.ol_spec.specs.Admission.{admission};
-ghost use Rattle.ol_spec.specs.Answers.{verdict_fault, sorted_fault, started_fault, cycled_fault};
+ghost use Rattle.ol_spec.specs.Answers.{cycled_fault};
 ghost use Rattle.ol_spec.specs.Cycle.{lengths, ordering, start, cycle};
-ghost use Rattle.ol_sim_c.specs.Told.{Tells, size_after, Measures, Admits, Orders, Starts, Cycles};
+ghost use Rattle.ol_sim_c.specs.Told.{fault_of, Tells, Measures, Admits, Orders, Starts, Cycles};
 
-use ol_spec::{Cycled, Fault, Measured, Sorted, Started, Verdict};
+use ol_spec::{Cycled, Fault};
 
-fn no_fault() -> Fault
-    ensures { result ≡ record { number = 0; place = 0 } }
+const NO_FAULT: Fault = Fault {
+    number: 0,
+    place: 0,
+};
+
+// The fault that is answered, or none.
+fn fault_of<T: Copy>(r: Result<T, Fault>) -> Fault
+    ensures { result ≡ fault_of r }
 {
-    Fault {
-        number: 0,
-        place: 0,
-    }
-}
-
-fn verdict_fault(v: Verdict) -> Fault
-    ensures { result ≡ verdict_fault v }
-{
-    match v {
-        Verdict::Admitted(_) => no_fault(),
-        Verdict::Refused(f) => f,
-    }
-}
-
-// The length of the state of a file that is admitted, else the one that was there.
-fn size_after(v: Verdict, size: usize) -> usize
-    ensures { result ≡ size_after v size }
-{
-    match v {
-        Verdict::Admitted(n) => n,
-        Verdict::Refused(_) => size,
-    }
-}
-
-fn sorted_fault(s: Sorted) -> Fault
-    ensures { result ≡ sorted_fault s }
-{
-    match s {
-        Sorted::Done => no_fault(),
-        Sorted::Refused(f) => f,
-    }
-}
-
-fn started_fault(s: Started) -> Fault
-    ensures { result ≡ started_fault s }
-{
-    match s {
-        Started::Done => no_fault(),
-        Started::Refused(f) => f,
+    match r {
+        Ok(_) => NO_FAULT,
+        Err(f) => f,
     }
 }
 
@@ -60,9 +29,8 @@ fn cycled_fault(c: Cycled) -> Fault
     ensures { result ≡ cycled_fault c }
 {
     match c {
-        Cycled::Answered => no_fault(),
-        Cycled::Stopped(f) => f,
-        Cycled::Refused(f) => f,
+        Cycled::Answered => NO_FAULT,
+        Cycled::Stopped(f) | Cycled::Refused(f) => f,
     }
 }
 
@@ -88,14 +56,14 @@ pub extern "C" fn ol_sim_lengths(
     ensures { Measures (lengths relay_loader file.now node) (record { state = state.old; inputs = inputs.old; values = values.old; equations = equations.old }) result place.new (record { state = state.new; inputs = inputs.new; values = values.new; equations = equations.new }) }
 {
     match ol_sim::lengths(file, node) {
-        Measured::Done(l) => {
+        Ok(l) => {
             *state = l.state;
             *inputs = l.inputs;
             *values = l.values;
             *equations = l.equations;
-            tell(no_fault(), place)
+            tell(NO_FAULT, place)
         }
-        Measured::Refused(f) => tell(f, place),
+        Err(f) => tell(f, place),
     }
 }
 
@@ -105,8 +73,8 @@ pub extern "C" fn ol_sim_admit(file: &[u8], place: &mut usize, size: &mut usize)
     ensures { Admits (admission relay_loader file.now) size.old result place.new size.new }
 {
     let v = ol_sim::admission(file);
-    *size = size_after(v, *size);
-    tell(verdict_fault(v), place)
+    *size = v.unwrap_or(*size);
+    tell(fault_of(v), place)
 }
 
 // The order in which a node's equations run.
@@ -120,7 +88,7 @@ pub extern "C" fn ol_sim_order(
     ensures { Orders (ordering relay_loader file.now node buffer.old) result place.new buffer.new }
 {
     let s = ol_sim::evaluation_order(file, node, buffer);
-    tell(sorted_fault(s), place)
+    tell(fault_of(s), place)
 }
 
 // Writes the fresh state.
@@ -129,7 +97,7 @@ pub extern "C" fn ol_sim_start(file: &[u8], state: &mut [u8], place: &mut usize)
     ensures { Starts (start relay_loader file.now state.old) result place.new state.new }
 {
     let s = ol_sim::start(file, state);
-    tell(started_fault(s), place)
+    tell(fault_of(s), place)
 }
 
 // A cycle: from the old state and the inputs to the new state and the values.

@@ -33,7 +33,7 @@ use Rattle.ol_spec.specs.RustSim.{Env, get, State, state, no_states, past, prev,
 use Rattle.ol_spec.specs.AsRust.{fitting, named, answer_of, written, told, refusal, step_on, call_on, sim_after, AsRust, RunsAsRust}
 use Rattle.ol_spec.specs.RustState.{constants_in, state_bytes}
 use Rattle.ol_spec.specs.declared.Value.{Value}
-use Rattle.ol_spec.specs.declared.Started.TheVariants as Start
+use Rattle.std.specs.Prelude.{Ok}
 use Rattle.ol_spec.specs.declared.Cycled.TheVariants as Cyc
 use Rattle.ol_spec.proofs.Tests.{T_and, T_true, true_t, eq_eqb}
 use Rattle.ol_spec.proofs.Lists.{distinct_parts}
@@ -353,7 +353,7 @@ opened ld s f vs bytes e =
 
 -- the start writes the bytes of `Sim::new`
 pub start_is : (ld : Loader) (s : List ℕ) (f : File) (vs : List Value) (buf : List ℕ) → judge ld s ≡ admitted f vs → length buf ≡ state_size f
-    → start ld s buf ≡ record { answer = Start.Done; state = fresh_state f vs }
+    → start ld s buf ≡ record { answer = (Ok tt); state = fresh_state f vs }
 unfolding start
 start_is ld s f vs buf e l = ap (λ j. start_judged j buf) e ∙ ap (λ b. start_fits b f vs buf) (T_true (eqb (length buf) (state_size f)) (eq_eqb _ _ l))
 
@@ -364,6 +364,6 @@ runs_as_rust ld s f vs buf ts bytes e l =
     let z = start_is ld s f vs buf e l in (
       o.sim,
       o.is_new,
-      z ∙ ap (λ st. record { answer = Start.Done; state = st }) (state_is f vs o.facts o.rust (fresh_state f vs) o.sim o.start),
+      z ∙ ap (λ st. record { answer = (Ok tt); state = st }) (state_is f vs o.facts o.rust (fresh_state f vs) o.sim o.start),
       subst (λ (c : StartCall). AsRust f o.sim (history ld s ts c.state)) (sym z) (as_rust f vs o.facts o.rust ld s e ts (fresh_state f vs) o.sim o.start),
     )

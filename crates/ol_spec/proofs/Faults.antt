@@ -33,9 +33,7 @@ use Rattle.ol_spec.specs.Faults.{From, Numbered, Inside, NumbersClaim}
 use Rattle.ol_spec.specs.declared.Value.{Value}
 use Rattle.ol_spec.specs.declared.Fault.{Fault}
 use Rattle.ol_spec.specs.declared.Cause.TheVariants as Why
-use Rattle.ol_spec.specs.declared.Verdict.TheVariants as Adm
-use Rattle.ol_spec.specs.declared.Sorted.TheVariants as Sort
-use Rattle.ol_spec.specs.declared.Started.TheVariants as Start
+use Rattle.std.specs.Prelude.{Err, Result}
 use Rattle.ol_spec.specs.declared.Cycled.{Cycled}
 use Rattle.ol_spec.specs.declared.Cycled.TheVariants as Cyc
 use Rattle.ol_spec.proofs.Tests.{or_left, or_right, eq_eqb}
@@ -241,48 +239,42 @@ last_placed (n ∷ ns) p i m =
 
 -- ---- the claim
 
-same_adm : {x y : Fault} → Adm.Refused x ≡ Adm.Refused y → x ≡ y
-same_adm e = cc
-
-same_sort : {x y : Fault} → Sort.Refused x ≡ Sort.Refused y → x ≡ y
-same_sort e = cc
-
-same_start : {x y : Fault} → Start.Refused x ≡ Start.Refused y → x ≡ y
-same_start e = cc
+same_err : {A : Type 0} {x y : Fault} → ◌≡◌ {A = Result A Fault} (Err x) (Err y) → x ≡ y
+same_err e = cc
 
 same_stopped : {x y : Fault} → Cyc.Stopped x ≡ Cyc.Stopped y → x ≡ y
 same_stopped e = cc
 
-admission_numbers : (j : Judged) → LowJudged j → (x : Fault) → verdict j ≡ Adm.Refused x → From 1 14 x
-admission_numbers (refused n p) h x e = subst (From 1 14) (same_adm e) h
+admission_numbers : (j : Judged) → LowJudged j → (x : Fault) → verdict j ≡ Err x → From 1 14 x
+admission_numbers (refused n p) h x e = subst (From 1 14) (same_err e) h
 admission_numbers (admitted f vs) h x e = let z : ◌≡◌ {A = ℕ} 0 1 = cc in absurd (omega arith)
 
 abbrev Ordered : Fault → Type 0
 Ordered x = From 1 5 x ⊎ ((x.number ≡ 11) ⊎ (x.number ≡ 17))
 
-ordering_numbers : (r : Read File) → Low r → (k : ℕ) (buf : List ℕ) (x : Fault) → (order_read r k buf).answer ≡ Sort.Refused x → Ordered x
-ordering_numbers (fault n p) h k buf x e = inl (subst (From 1 5) (same_sort e) h)
+ordering_numbers : (r : Read File) → Low r → (k : ℕ) (buf : List ℕ) (x : Fault) → (order_read r k buf).answer ≡ Err x → Ordered x
+ordering_numbers (fault n p) h k buf x e = inl (subst (From 1 5) (same_err e) h)
 ordering_numbers (got f at) h k buf x e = node (get_elem? (placed_nodes f) k) e
   where
-    fits : (b : Bool) (n : Node) → (order_fits b n buf).answer ≡ Sort.Refused x → Ordered x
+    fits : (b : Bool) (n : Node) → (order_fits b n buf).answer ≡ Err x → Ordered x
     fits true n e = let z : ◌≡◌ {A = ℕ} 0 1 = cc in absurd (omega arith)
-    fits false n e = inr (inr (ap (λ (y : Fault). y.number) (sym (same_sort e))))
+    fits false n e = inr (inr (ap (λ (y : Fault). y.number) (sym (same_err e))))
 
-    ring : (o : Option ℕ) (n : ℕ × Node) → (order_unless_ring o n buf).answer ≡ Sort.Refused x → Ordered x
-    ring (some i) n e = inr (inl (ap (λ (y : Fault). y.number) (sym (same_sort e))))
+    ring : (o : Option ℕ) (n : ℕ × Node) → (order_unless_ring o n buf).answer ≡ Err x → Ordered x
+    ring (some i) n e = inr (inl (ap (λ (y : Fault). y.number) (sym (same_err e))))
     ring none n e = fits (eqb (length buf) (length n.1.equations)) n.1 e
 
-    node : (o : Option (ℕ × Node)) → (order_node o buf).answer ≡ Sort.Refused x → Ordered x
-    node none e = inl (subst (From 1 5) (same_sort e) (omega arith, omega arith))
+    node : (o : Option (ℕ × Node)) → (order_node o buf).answer ≡ Err x → Ordered x
+    node none e = inl (subst (From 1 5) (same_err e) (omega arith, omega arith))
     node (some n) e = ring (unplaced n.1.equations) n e
 
-start_numbers : (j : Judged) → LowJudged j → (st : List ℕ) (x : Fault) → (start_judged j st).answer ≡ Start.Refused x → From 1 14 x ⊎ (x.number ≡ 17)
-start_numbers (refused n p) h st x e = inl (subst (From 1 14) (same_start e) h)
+start_numbers : (j : Judged) → LowJudged j → (st : List ℕ) (x : Fault) → (start_judged j st).answer ≡ Err x → From 1 14 x ⊎ (x.number ≡ 17)
+start_numbers (refused n p) h st x e = inl (subst (From 1 14) (same_err e) h)
 start_numbers (admitted f vs) h st x e = fits (eqb (length st) (state_size f)) e
   where
-    fits : (b : Bool) → (start_fits b f vs st).answer ≡ Start.Refused x → From 1 14 x ⊎ (x.number ≡ 17)
+    fits : (b : Bool) → (start_fits b f vs st).answer ≡ Err x → From 1 14 x ⊎ (x.number ≡ 17)
     fits true e = let z : ◌≡◌ {A = ℕ} 0 1 = cc in absurd (omega arith)
-    fits false e = inr (ap (λ (y : Fault). y.number) (sym (same_start e)))
+    fits false e = inr (ap (λ (y : Fault). y.number) (sym (same_err e)))
 
 module _ (f : File) (vs : List Value) (old ins new vals : List ℕ) where
   refused_run : (e : Ended) (cs : List Value) (ss : List (List ℕ)) (x : Fault) → (end_on f old vals e cs ss).answer ≡ Cyc.Refused x → ⊥

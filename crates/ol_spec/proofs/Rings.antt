@@ -16,7 +16,7 @@ use Rattle.ol_spec.specs.Answers.{fault_at}
 use Rattle.ol_spec.specs.Admission.{place_at, ring_in, first_some, fault6, fault7, fault8, fault9, fault10, fault11, fault12, fault13, fault14, constants, constant_values, Judged, refused, admitted, refuse_at, refuse_first, judge_file, judge_read, judge, verdict}
 use Rattle.ol_spec.specs.Demand3.{Unfaulted, RingIn, RingClaim}
 use Rattle.ol_spec.specs.declared.Fault.{Fault}
-use Rattle.ol_spec.specs.declared.Verdict.TheVariants as Adm
+use Rattle.std.specs.Prelude.{Err}
 use Rattle.ol_spec.proofs.Lists.{get_elem_inside, get_d_is}
 use Rattle.ol_spec.proofs.Ordering.{placed_or_stuck}
 use Rattle.ol_spec.proofs.Admitted.{node_placed}
@@ -94,7 +94,7 @@ judge_11 : (ld : Loader) (f : File) (p : ℕ) → fault6 f ≡ none → fault7 f
 judge_11 ld f p e6 e7 e8 e9 e10 e11 =
     rw (e6, e7, e8, e9, e10, e11) refl
 
-pub same_fault : (n p : ℕ) (j : Judged) → verdict j ≡ Adm.Refused (fault_at n p) → j ≡ refused n p
+pub same_fault : (n p : ℕ) (j : Judged) → verdict j ≡ Err (fault_at n p) → j ≡ refused n p
 same_fault n p (refused m r) e =
     let x : fault_at m r ≡ fault_at n p = cc in
     ap (λ (y : Fault). refused y.number y.place) x

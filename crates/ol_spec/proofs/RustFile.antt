@@ -27,7 +27,7 @@ use Rattle.ol_spec.specs.RustSim.{Env, get, insert, no_states, default_state, RV
 use Rattle.ol_spec.specs.RustSim as Rust
 use Rattle.ol_spec.specs.RustLeaves.{fit_to}
 use Rattle.ol_spec.specs.declared.Value.{Value}
-use Rattle.ol_spec.specs.declared.Verdict.TheVariants.{Refused}
+use Rattle.std.specs.Prelude.{Err}
 use Rattle.ol_spec.specs.declared.Outcome.{Outcome}
 use Rattle.ol_spec.proofs.RustLeaves.{Tells, gives, errs, panics, fit_is, fine_single}
 use Rattle.ol_spec.proofs.Tests.{T_and, and_t, T-dec, member_in, in_member}
@@ -208,7 +208,7 @@ consts_of ld s f vs read a =
 
 pub constants_as_rust : (ld : Loader) → ConstantsAsRust ld
 unfolding ConstantsAsRust judge
-constants_as_rust ld s f bytes u = (same_constants, λ no11 p. (to no11 p, λ w. refused_12 w.0 no11 (same_constants ∙ ap (constants_by f) w.1) ∙ ap (λ x. Refused (fault_at 12 x)) (sym w.2)))
+constants_as_rust ld s f bytes u = (same_constants, λ no11 p. (to no11 p, λ w. refused_12 w.0 no11 (same_constants ∙ ap (constants_by f) w.1) ∙ ap (λ x. Err (fault_at 12 x)) (sym w.2)))
   where
     told : (a : Constants) (b : Consts) → ConstRel f (constant_no_variant f u.no6) 0 (placed_constants f) a b → a ≡ constants_by f b
     told (all vs) (evaluated env) h =
@@ -229,7 +229,7 @@ constants_as_rust ld s f bytes u = (same_constants, λ no11 p. (to no11 p, λ w.
     judged : fault11 f ≡ none → judge ld s ≡ from12 (constants f)
     judged no11 = rw (u.read, u.no6, u.no7, u.no8, u.no9, u.no10, no11) refl
 
-    refused_12 : (i : ℕ) → fault11 f ≡ none → constants f ≡ stuck_at (constant_place f i) → admission ld s ≡ Refused (fault_at 12 (constant_place f i))
+    refused_12 : (i : ℕ) → fault11 f ≡ none → constants f ≡ stuck_at (constant_place f i) → admission ld s ≡ Err (fault_at 12 (constant_place f i))
     refused_12 i no11 q = ap verdict (judged no11 ∙ ap from12 q)
 
     later : (p : ℕ) (vs : List Value) → refuse_first rest (admitted f vs) ≡ refused 12 p → ⊥
@@ -244,5 +244,5 @@ constants_as_rust ld s f bytes u = (same_constants, λ no11 p. (to no11 p, λ w.
     by p (evaluated env) e = absurd (later p (constants_in f env) e)
     by p (stuck i) e = let z : p ≡ constant_place f i = cc in (i, refl, z)
 
-    to : fault11 f ≡ none → (p : ℕ) → admission ld s ≡ Refused (fault_at 12 p) → (i : ℕ) × (all_consts f ≡ stuck i) × (p ≡ constant_place f i)
+    to : fault11 f ≡ none → (p : ℕ) → admission ld s ≡ Err (fault_at 12 p) → (i : ℕ) × (all_consts f ≡ stuck i) × (p ≡ constant_place f i)
     to no11 p e = by p (all_consts f) (ap from12 (sym same_constants) ∙ sym (judged no11) ∙ same_fault 12 p (judge ld s) e)

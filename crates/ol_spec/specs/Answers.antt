@@ -1,20 +1,29 @@
 -- What each answer stands for: document 01's number and place, and the state's length where admission reports it. The number 0 stands for no fault.
-use Rattle.std.specs.Prelude.{ℕ}
+use Rattle.std.specs.Prelude.{ℕ, Result, Ok, Err}
 use Rattle.ol_spec.specs.declared.Fault.{Fault}
 use Rattle.ol_spec.specs.declared.Cause.{Cause}
 use Rattle.ol_spec.specs.declared.Cause.TheVariants as Why
 use Rattle.ol_spec.specs.declared.Outcome.{Outcome}
 use Rattle.ol_spec.specs.declared.Outcome.TheVariants as Out
-use Rattle.ol_spec.specs.declared.Verdict.{Verdict}
-use Rattle.ol_spec.specs.declared.Verdict.TheVariants as Adm
-use Rattle.ol_spec.specs.declared.Measured.{Measured}
-use Rattle.ol_spec.specs.declared.Measured.TheVariants as Mea
-use Rattle.ol_spec.specs.declared.Sorted.{Sorted}
-use Rattle.ol_spec.specs.declared.Sorted.TheVariants as Sort
-use Rattle.ol_spec.specs.declared.Started.{Started}
-use Rattle.ol_spec.specs.declared.Started.TheVariants as Start
+use Rattle.ol_spec.specs.declared.Lengths.{Lengths}
 use Rattle.ol_spec.specs.declared.Cycled.{Cycled}
 use Rattle.ol_spec.specs.declared.Cycled.TheVariants as Cyc
+
+-- what admission answers: the length of the file's state, or the first fault
+abbrev pub Verdict : Type 0
+Verdict = Result ℕ Fault
+
+-- what is answered where the lengths are asked for
+abbrev pub Measured : Type 0
+Measured = Result Lengths Fault
+
+-- what the ordering answers
+abbrev pub Sorted : Type 0
+Sorted = Result (Unit {0}) Fault
+
+-- what the start answers
+abbrev pub Started : Type 0
+Started = Result (Unit {0}) Fault
 
 abbrev pub fault_at : ℕ → ℕ → Fault
 fault_at n p = record { number = n; place = p }
@@ -23,25 +32,25 @@ abbrev pub no_fault : Fault
 no_fault = fault_at 0 0
 
 abbrev pub verdict_fault : Verdict → Fault
-verdict_fault (Adm.Admitted n) = no_fault
-verdict_fault (Adm.Refused x) = x
+verdict_fault (Ok n) = no_fault
+verdict_fault (Err x) = x
 
 -- the state's length, 0 for a file that is not admitted
 abbrev pub verdict_length : Verdict → ℕ
-verdict_length (Adm.Admitted n) = n
-verdict_length (Adm.Refused x) = 0
+verdict_length (Ok n) = n
+verdict_length (Err x) = 0
 
 abbrev pub measured_fault : Measured → Fault
-measured_fault (Mea.Done l) = no_fault
-measured_fault (Mea.Refused x) = x
+measured_fault (Ok l) = no_fault
+measured_fault (Err x) = x
 
 abbrev pub sorted_fault : Sorted → Fault
-sorted_fault Sort.Done = no_fault
-sorted_fault (Sort.Refused x) = x
+sorted_fault (Ok tt) = no_fault
+sorted_fault (Err x) = x
 
 abbrev pub started_fault : Started → Fault
-started_fault Start.Done = no_fault
-started_fault (Start.Refused x) = x
+started_fault (Ok tt) = no_fault
+started_fault (Err x) = x
 
 abbrev pub cycled_fault : Cycled → Fault
 cycled_fault Cyc.Answered = no_fault

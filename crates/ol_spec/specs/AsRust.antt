@@ -1,5 +1,5 @@
 -- What a list of cycles has to do with the Rust of specs/RustSim. Types only: proofs/AsRust proves the claim.
-use Rattle.std.specs.Prelude.{ℕ, ◌<◌, ◌≤◌, Bool, true, false, ◌&&◌, ◌||◌, cond, List, [], ◌∷◌, map, ◌↔◌, ◌≡◌, length, get_or}
+use Rattle.std.specs.Prelude.{ℕ, ◌<◌, ◌≤◌, Bool, true, false, ◌&&◌, ◌||◌, cond, List, [], ◌∷◌, map, ◌↔◌, ◌≡◌, length, get_or, Ok, Err}
 use Rattle.std.proofs.Math.Option.{Option, none, some}
 use Rattle.ol_spec.specs.Lists.{maybe}
 use Rattle.std.proofs.Math.ListN.{get_elem?}
@@ -18,9 +18,6 @@ use Rattle.ol_spec.specs.RustLeaves.{RValue, plain, Tuple, SimError, uninitializ
 use Rattle.ol_spec.specs.RustSim.{Env, Key, States, Sim, Consts, evaluated, stuck, all_consts, Report, ok, err, panic, Stepped, step_instance, step_full, new}
 use Rattle.ol_spec.specs.RustState.{constants_in, state_bytes}
 use Rattle.ol_spec.specs.declared.Value.{Value}
-use Rattle.ol_spec.specs.declared.Verdict.TheVariants.{Refused}
-use Rattle.ol_spec.specs.declared.Sorted.TheVariants as Sort
-use Rattle.ol_spec.specs.declared.Started.TheVariants as Start
 use Rattle.ol_spec.specs.declared.Cycled.{Cycled}
 use Rattle.ol_spec.specs.declared.Cycled.TheVariants as Cyc
 
@@ -120,7 +117,7 @@ AsRust f sim (m ∷ ms) = (m.old ≡ state_bytes f sim) × (m.result ≡ call_on
 unfoldable pub RunsAsRust : Loader → Type 0
 RunsAsRust ld =
     (s : List ℕ) (f : File) (vs : List Value) (buf : List ℕ) (ts : List Turn) → Bytes s → judge ld s ≡ admitted f vs → length buf ≡ state_size f
-    → (sim : Sim) × (new f ≡ some sim) × (start ld s buf ≡ record { answer = Start.Done; state = state_bytes f sim }) × AsRust f sim (history ld s ts (start ld s buf).state)
+    → (sim : Sim) × (new f ≡ some sim) × (start ld s buf ≡ record { answer = (Ok tt); state = state_bytes f sim }) × AsRust f sim (history ld s ts (start ld s buf).state)
 
 -- ---- the constants
 
@@ -139,7 +136,7 @@ unfoldable pub ConstantsAsRust : Loader → Type 0
 ConstantsAsRust ld =
     (s : List ℕ) (f : File) → Bytes s → Unfaulted ld s f
     → (constants f ≡ constants_by f (all_consts f))
-    × (fault11 f ≡ none → (p : ℕ) → (admission ld s ≡ Refused (fault_at 12 p)) ↔ ((i : ℕ) × (all_consts f ≡ stuck i) × (p ≡ constant_place f i)))
+    × (fault11 f ≡ none → (p : ℕ) → (admission ld s ≡ Err (fault_at 12 p)) ↔ ((i : ℕ) × (all_consts f ≡ stuck i) × (p ≡ constant_place f i)))
 
 -- ---- the order
 
@@ -152,8 +149,8 @@ equation_place f k i = maybe 0 (λ n. place_at (placed_equations n.0 n.1) i) (ge
 unfoldable pub OrdersAsRust : Loader → Type 0
 OrdersAsRust ld =
     (s : List ℕ) (f : File) (at k : ℕ) (n : Node) (buf : List ℕ) → read_file s ld ≡ got f at → get_elem? f.nodes k ≡ some n
-    → ((is : List ℕ) → evaluation_result n ≡ ordered is → length buf ≡ length n.equations → ordering ld s k buf ≡ record { answer = Sort.Done; buffer = is })
-    × ((i : ℕ) (is : List ℕ) → evaluation_result n ≡ among (i ∷ is) → (ordering ld s k buf).answer ≡ Sort.Refused (fault_at 11 (equation_place f k i)))
+    → ((is : List ℕ) → evaluation_result n ≡ ordered is → length buf ≡ length n.equations → ordering ld s k buf ≡ record { answer = (Ok tt); buffer = is })
+    × ((i : ℕ) (is : List ℕ) → evaluation_result n ≡ among (i ∷ is) → (ordering ld s k buf).answer ≡ Err (fault_at 11 (equation_place f k i)))
     × (¬ (evaluation_result n ≡ among []))
 
 -- specs/RustSim bounds how deep calls go. More than there are nodes changes nothing: in an admitted file a callee's number is lower than its caller's.

@@ -1,5 +1,5 @@
 -- The public calls as functions on bytes: the lengths, the ordering, the start and the cycle. Each gives its answer, and what every buffer holds that it was lent to write.
-use Rattle.std.specs.Prelude.{ℕ, ◌+◌, ◌*◌, Bool, true, false, not, ◌&&◌, List, ◌++◌, length, take, drop, eqb}
+use Rattle.std.specs.Prelude.{ℕ, ◌+◌, ◌*◌, Bool, true, false, not, ◌&&◌, List, ◌++◌, length, take, drop, eqb, Ok, Err}
 use Rattle.std.proofs.Math.Option.{Option, none, some}
 use Rattle.std.proofs.Math.ListN.{get_elem?}
 use Rattle.ol_spec.specs.Lists.{concat}
@@ -14,25 +14,19 @@ use Rattle.ol_spec.specs.Step.{Ended, finished, failed_at, overflowed_at, Run, r
 use Rattle.ol_spec.specs.Admission.{place_at, Judged, refused, admitted, judge, head_size, state_size}
 use Rattle.ol_spec.specs.State.{globals_of, fresh_state, good_state, good_inputs}
 use Rattle.ol_spec.specs.declared.Value.{Value}
-use Rattle.ol_spec.specs.Answers.{fault_at, outcome_number, cause_number}
+use Rattle.ol_spec.specs.Answers.{Measured, Sorted, Started, fault_at, outcome_number, cause_number}
 use Rattle.ol_spec.specs.declared.Outcome.TheVariants as Out
-use Rattle.ol_spec.specs.declared.Measured.{Measured}
-use Rattle.ol_spec.specs.declared.Measured.TheVariants as Mea
-use Rattle.ol_spec.specs.declared.Sorted.{Sorted}
-use Rattle.ol_spec.specs.declared.Sorted.TheVariants as Sort
-use Rattle.ol_spec.specs.declared.Started.{Started}
-use Rattle.ol_spec.specs.declared.Started.TheVariants as Start
 use Rattle.ol_spec.specs.declared.Cycled.{Cycled}
 use Rattle.ol_spec.specs.declared.Cycled.TheVariants as Cyc
 
 -- ---- the lengths: 1 to 14, then 3 at place 0 for an absent node
 
 abbrev pub measure_node : File → Option Node → Measured
-measure_node f none = Mea.Refused (fault_at 3 0)
-measure_node f (some n) = Mea.Done (record { state = state_size f; inputs = 9 * length (main f).inputs; values = 9 * length (variables (main f)); equations = length n.equations })
+measure_node f none = Err (fault_at 3 0)
+measure_node f (some n) = Ok (record { state = state_size f; inputs = 9 * length (main f).inputs; values = 9 * length (variables (main f)); equations = length n.equations })
 
 abbrev pub measure : Judged → ℕ → Measured
-measure (refused n p) k = Mea.Refused (fault_at n p)
+measure (refused n p) k = Err (fault_at n p)
 measure (admitted f vs) k = measure_node f (get_elem? f.nodes k)
 
 -- the file's bytes, and the number of the node whose equations are counted
@@ -46,10 +40,10 @@ pub record OrderingCall : Type 0 where
   pub buffer : List ℕ
 
 abbrev pub no_order : ℕ → ℕ → List ℕ → OrderingCall
-no_order n p buf = record { answer = Sort.Refused (fault_at n p); buffer = buf }
+no_order n p buf = record { answer = Err (fault_at n p); buffer = buf }
 
 abbrev pub order_fits : Bool → Node → List ℕ → OrderingCall
-order_fits true n buf = record { answer = Sort.Done; buffer = order n.equations }
+order_fits true n buf = record { answer = Ok tt; buffer = order n.equations }
 order_fits false n buf = no_order 17 0 buf
 
 abbrev pub order_unless_ring : Option ℕ → ℕ × Node → List ℕ → OrderingCall
@@ -75,10 +69,10 @@ pub record StartCall : Type 0 where
   pub state : List ℕ
 
 abbrev pub no_start : ℕ → ℕ → List ℕ → StartCall
-no_start n p st = record { answer = Start.Refused (fault_at n p); state = st }
+no_start n p st = record { answer = Err (fault_at n p); state = st }
 
 abbrev pub start_fits : Bool → File → List Value → List ℕ → StartCall
-start_fits true f vs st = record { answer = Start.Done; state = fresh_state f vs }
+start_fits true f vs st = record { answer = Ok tt; state = fresh_state f vs }
 start_fits false f vs st = no_start 17 0 st
 
 abbrev pub start_judged : Judged → List ℕ → StartCall

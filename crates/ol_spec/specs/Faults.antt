@@ -1,5 +1,5 @@
 -- Which numbers each call answers, and where a cycle can stop. Types only: proofs/Faults proves the claim.
-use Rattle.std.specs.Prelude.{ℕ, ◌<◌, ◌≤◌, List, [], ◌∷◌, ◌⊎◌, ◌≡◌, length, T}
+use Rattle.std.specs.Prelude.{ℕ, ◌<◌, ◌≤◌, List, [], ◌∷◌, ◌⊎◌, ◌≡◌, length, T, Err}
 use Rattle.ol_spec.specs.Lists.{member}
 use Rattle.ol_spec.specs.Syntax.{File, main}
 use Rattle.ol_spec.specs.Limits.{Loader}
@@ -7,9 +7,6 @@ use Rattle.ol_spec.specs.Admission.{judge, admitted, admission}
 use Rattle.ol_spec.specs.Cycle.{ordering, start, cycle}
 use Rattle.ol_spec.specs.declared.Value.{Value}
 use Rattle.ol_spec.specs.declared.Fault.{Fault}
-use Rattle.ol_spec.specs.declared.Verdict.TheVariants as Adm
-use Rattle.ol_spec.specs.declared.Sorted.TheVariants as Sort
-use Rattle.ol_spec.specs.declared.Started.TheVariants as Start
 use Rattle.ol_spec.specs.declared.Cycled.{Cycled}
 use Rattle.ol_spec.specs.declared.Cycled.TheVariants as Cyc
 
@@ -40,8 +37,8 @@ pub record Inside (ld : Loader) (s : List ℕ) (i : ℕ) : Type 0 where
 -- Whatever a call is lent: admission refuses with 1 to 14; the ordering with 1 to 5, 11 or 17; the start with 1 to 14 or 17; the cycle with 1 to 17. A cycle stops with one of 18 to 21,
 -- and only in an admitted file, at one of its main equations.
 pub record NumbersClaim (ld : Loader) : Type 0 where
-  pub admission : (s : List ℕ) (x : Fault) → admission ld s ≡ Adm.Refused x → From 1 14 x
-  pub ordering : (s : List ℕ) (k : ℕ) (buf : List ℕ) (x : Fault) → (ordering ld s k buf).answer ≡ Sort.Refused x → From 1 5 x ⊎ ((x.number ≡ 11) ⊎ (x.number ≡ 17))
-  pub start : (s st : List ℕ) (x : Fault) → (start ld s st).answer ≡ Start.Refused x → From 1 14 x ⊎ (x.number ≡ 17)
+  pub admission : (s : List ℕ) (x : Fault) → admission ld s ≡ Err x → From 1 14 x
+  pub ordering : (s : List ℕ) (k : ℕ) (buf : List ℕ) (x : Fault) → (ordering ld s k buf).answer ≡ Err x → From 1 5 x ⊎ ((x.number ≡ 11) ⊎ (x.number ≡ 17))
+  pub start : (s st : List ℕ) (x : Fault) → (start ld s st).answer ≡ Err x → From 1 14 x ⊎ (x.number ≡ 17)
   pub stopped : (s old ins new vals : List ℕ) (x : Fault) → (cycle ld s old ins new vals).answer ≡ Cyc.Stopped x → Inside ld s x.place
   pub numbered : (s old ins new vals : List ℕ) → Numbered (cycle ld s old ins new vals).answer

@@ -13,11 +13,27 @@ pub enum Value {
 
 // Why an evaluation failed: a `pre` in a first cycle, a zero divisor or a shift count outside
 // 0..63, or anything else.
-#[derive(Clone, Copy)]
+#[derive(Clone, Copy, PartialEq, Eq)]
 pub enum Cause {
     Cold,
     Range,
     Other,
+}
+
+// The number of a cycle that stops by this cause: document 01's.
+impl From<Cause> for u8 {
+    ghost use Rattle.std.specs.Prelude.{◌≡◌};
+    ghost use Rattle.ol_spec.specs.Answers.{cause_number};
+
+    ghost from_gives = { λ c n. n ≡ cause_number c };
+
+    fn from(c: Cause) -> u8 {
+        match c {
+            Cause::Cold => 18,
+            Cause::Range => 20,
+            Cause::Other => 21,
+        }
+    }
 }
 
 // What an evaluation gives: a value, a failure or an overflow.
@@ -30,7 +46,7 @@ pub enum Outcome {
 
 // The greatest counts of a section's items, of an expression's levels (`nesting`) and of the
 // state's bytes (`state`): a value, so that another entry or another format byte is another value.
-#[derive(Clone, Copy)]
+#[derive(Clone, Copy, PartialEq, Eq)]
 pub struct Limits {
     pub enums: usize,
     pub variants: usize,
@@ -48,21 +64,14 @@ pub struct Limits {
 }
 
 // A fault's number, and its place.
-#[derive(Clone, Copy)]
+#[derive(Clone, Copy, PartialEq, Eq)]
 pub struct Fault {
     pub number: u8,
     pub place: usize,
 }
 
-// What admission answers: the length of the file's state, or the first fault.
-#[derive(Clone, Copy)]
-pub enum Verdict {
-    Admitted(usize),
-    Refused(Fault),
-}
-
 // The lengths that a caller needs: in bytes of the state, of a cycle's inputs and of its values; and how many equations a node has.
-#[derive(Clone, Copy)]
+#[derive(Clone, Copy, PartialEq, Eq)]
 pub struct Lengths {
     pub state: usize,
     pub inputs: usize,
@@ -70,29 +79,8 @@ pub struct Lengths {
     pub equations: usize,
 }
 
-// What is answered where the lengths are asked for.
-#[derive(Clone, Copy)]
-pub enum Measured {
-    Done(Lengths),
-    Refused(Fault),
-}
-
-// What the ordering answers.
-#[derive(Clone, Copy)]
-pub enum Sorted {
-    Done,
-    Refused(Fault),
-}
-
-// What the start answers.
-#[derive(Clone, Copy)]
-pub enum Started {
-    Done,
-    Refused(Fault),
-}
-
 // What a cycle answers: values, a stop (18 to 21) or a refusal (1 to 17).
-#[derive(Clone, Copy)]
+#[derive(Clone, Copy, PartialEq, Eq)]
 pub enum Cycled {
     Answered,
     Stopped(Fault),

@@ -6,7 +6,6 @@ use mathlib.Core.List.{List, [], ◌∷◌, ◌++◌, map}
 use mathlib.Core.Path.{◌≡◌, refl, sym, ap, ap₂, ◌∙◌}
 use native.Mathlib.Omega.{arith}
 use lib.ListN.{length, take, drop, drop_of_length-le}
-use mathlib.Core.Bool.{true, false}
 use Rattle.ol_theory.specs.Member.{◌∈◌}
 use Rattle.ol_spec.specs.Lists.{concat}
 use Rattle.ol_spec.specs.Syntax.{NodeKind, Function, Operator, Imported, Node, File, variables, main}
@@ -17,13 +16,12 @@ use Rattle.ol_spec.specs.Step.{sites, fresh_instance, fresh_by, fresh_at, fresh_
 use Rattle.ol_spec.specs.State.{globals_of, fresh_state}
 use Rattle.ol_spec.specs.declared.Value.{Value}
 use Rattle.ol_tables.specs.Tables.{row_at, node_of, size_cap}
-use Rattle.ol_state.specs.declared.sites.Site.{Site}
 use Rattle.ol_state.specs.Known.{Known, Sited}
 use Rattle.ol_state.specs.Defaults.{cells_at}
 use Rattle.ol_state.proofs.DefaultCells.{length_cells_at}
 use Rattle.ol_state.proofs.Filling.{Filling, put_part, fill_none, fill_at, fill_left, fill_more, fill_part, fill_done}
-use Rattle.ol_state.specs.Ahead.{ahead, NextSite}
-use Rattle.ol_state.proofs.Instances.{Rest, Turn, sites_start, rest_start, next_site, no_site, default_cells, own_room, is_operator_lem, no_operator, no_size_lem, all_used, part_long, main_is}
+use Rattle.ol_state.specs.Ahead.{ahead}
+use Rattle.ol_state.proofs.Instances.{Rest, Turn, sites_start, rest_start, next_turn, default_cells, own_room, is_operator_lem, no_operator, no_size_lem, all_used, part_long, main_is}
 
 map_same : (p p' : ℕ → List ℕ) (ks : List ℕ) → ((c : ℕ) → c ∈ ks → p c ≡ p' c) → concat (map p ks) ≡ concat (map p' ks)
 map_same p p' [] h = refl
@@ -87,49 +85,49 @@ module _ {f : File} {s tab rows : List ℕ} {k : ℕ} {out₀ : List ℕ} (h : S
       fresh_record_lem f vs h.known.lower k h.below (is_operator_lem h.known h.below o) ∙ ap (λ l. 0 ∷ l ++ fresh_all f vs (sites (node_of f k))) (sym (default_cells h.known h.below)) in
       fill_at z (fill_more (0 ∷ c) _ (1 + n) (omega (arith, length_cells_at tab rows k 0 (row_at rows k 4))) (omega arith) out e (fill_left w fill_none))
 
--- Of node k's record, which is all of `base`, the part up to `used` is written; these call sites are left.
-pub record Going (f : File) (s : List ℕ) (k : ℕ) (base : List ℕ) (used : ℕ) (out : List ℕ) (at eqs pending : ℕ) : Type 0 where
-  pub rest : Rest f s k (length base) used at eqs pending
+-- Of node k's record, which is all of `base`, the part up to `used` is written; call sites of these nodes are left.
+pub record Going (f : File) (k : ℕ) (base : List ℕ) (used : ℕ) (out cs : List ℕ) : Type 0 where
+  pub rest : Rest f k (length base) used cs
   pub small : length base ≤ size_cap
-  pub filled : (vs : List Value) → Filling (fresh_of f vs k) base used out (fresh_all f vs (ahead s at eqs pending))
+  pub filled : (vs : List Value) → Filling (fresh_of f vs k) base used out (fresh_all f vs cs)
 
-pub going_start : {f : File} {s tab rows : List ℕ} {k : ℕ} {out₀ : List ℕ} (h : Sited f s tab rows k out₀) {out : List ℕ} {n a q : ℕ} → row_at rows k 0 ≡ 1 → n ≡ row_at rows k 4 → a ≡ row_at rows k 1 → q ≡ row_at rows k 5 → out ≡ 0 ∷ cells_at tab rows k 0 (row_at rows k 4) ++ drop (1 + 9 * row_at rows k 4) out₀ → Going f s k out (1 + 9 * n) out a q 0
-going_start {f} {s} {tab} {rows} {k} {out₀} h {out} one e₁ e₂ e₃ e =
+pub going_start : {f : File} {s tab rows : List ℕ} {k : ℕ} {out₀ : List ℕ} (h : Sited f s tab rows k out₀) {out cs : List ℕ} {n : ℕ} → row_at rows k 0 ≡ 1 → n ≡ row_at rows k 4 → cs ≡ ahead s (row_at rows k 1) (row_at rows k 5) 0 → out ≡ 0 ∷ cells_at tab rows k 0 (row_at rows k 4) ++ drop (1 + 9 * row_at rows k 4) out₀ → Going f k out (1 + 9 * n) out cs
+going_start {f} {s} {tab} {rows} {k} {out₀} h {out} {cs} one e₁ e₂ e =
     let o = is_operator_lem h.known h.below one in
     let room : 1 + 9 * row_at rows k 4 ≤ length out₀ = omega (arith, own_room h.known h.below o, h.sized) in
     let w = own_fresh h one room e in
     let long = (w []).long in
-    rw (e₁, e₂, e₃)
+    let l : sites (node_of f k) ≡ cs = sites_start h.known h.below ∙ sym e₂ in
+    rw e₁
     (record {
-      rest = rest_start h.known h.below o (long ∙ h.sized);
+      rest = rest_start h.known h.below o (long ∙ h.sized) e₂;
       small = omega (arith, long, h.small);
-      filled = λ vs. record { is = (w vs).is ∙ ap (λ cs. take (1 + 9 * row_at rows k 4) out ++ fresh_all f vs cs) (sites_start h.known h.below); behind = refl; long = refl };
+      filled = λ vs. record { is = (w vs).is ∙ ap (λ ks. take (1 + 9 * row_at rows k 4) out ++ fresh_all f vs ks) l; behind = refl; long = refl };
     })
 
-module _ {f : File} {s tab rows : List ℕ} (known : Known f s tab rows) {k : ℕ} (below : k < length f.nodes) {base out : List ℕ} {used at eqs pending : ℕ} (going : Going f s k base used out at eqs pending) {r : Site} (n : NextSite s at eqs pending r) where
-  -- the record of the next call site
-  pub turn_of : r.found ≡ true → Turn f s rows k (length base) used at eqs pending r
-  turn_of e = next_site known below going.rest going.small n e
+module _ {f : File} {s tab rows : List ℕ} (known : Known f s tab rows) {k : ℕ} (below : k < length f.nodes) {base out all : List ℕ} {used : ℕ} (going : Going f k base used out all) where
+  module _ {c : ℕ} {cs : List ℕ} (is : all ≡ c ∷ cs) where
+    -- the record of the next call site
+    pub turn_of : Turn f rows k (length base) used c cs
+    turn_of = next_turn known below going.rest going.small is
 
-  module _ (e : r.found ≡ true) {z : ℕ} (size : z ≡ row_at rows r.callee 6) where
     -- it is written
-    pub going_on : (x : List ℕ) → length x ≡ length (take (used + z - used) (drop used out)) → ((vs : List Value) → x ≡ fresh_of f vs r.callee) → Going f s k base (used + z) (put_part used (used + z - used) out x) r.at r.eqs r.pending
-    going_on x kept fresh =
-        let t = turn_of e in
-        let a = row_at rows r.callee 6 in
+    pub going_on : {z : ℕ} → z ≡ row_at rows c 6 → (x : List ℕ) → length x ≡ length (take (used + z - used) (drop used out)) → ((vs : List Value) → x ≡ fresh_of f vs c) → Going f k base (used + z) (put_part used (used + z - used) out x) cs
+    going_on {z} size x kept fresh =
+        let t = turn_of in
+        let a = row_at rows c 6 in
         let m : used + a - used ≡ a = omega arith in
-        let q : used + row_at rows r.callee 6 ≡ used + z = omega (arith, size) in
+        let q : used + row_at rows c 6 ≡ used + z = omega (arith, size) in
         rw (← q)
         (record {
           rest = t.next;
           small = going.small;
-          filled = λ vs. fill_part (fresh_of f vs r.callee) _ a (sym (ap length (fresh vs)) ∙ kept ∙ part_long known below t going.small size out (going.filled []).long ∙ size) t.room (used + a - used) m x (fresh vs) (fill_left (ap (fresh_all f vs) t.met.is) (going.filled vs));
+          filled = λ vs. fill_part (fresh_of f vs c) _ a (sym (ap length (fresh vs)) ∙ kept ∙ part_long known below t going.small size out (going.filled []).long ∙ size) t.room (used + a - used) m x (fresh vs) (fill_left (ap (fresh_all f vs) is) (going.filled vs));
         })
 
   -- all are written
-  pub going_done : r.found ≡ false → (vs : List Value) → out ≡ fresh_of f vs k
-  going_done e vs =
-      let none = no_site known below going.rest going.small n e in
+  pub going_done : all ≡ [] → (vs : List Value) → out ≡ fresh_of f vs k
+  going_done none vs =
       fill_done (going.filled vs) (ap (fresh_all f vs) none ∙ sym (drop_of_length-le base {i = used} (omega (arith, all_used going.rest none))))
 
 -- the main node's fresh record is that of a call site of its number

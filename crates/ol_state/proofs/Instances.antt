@@ -1,6 +1,5 @@
 -- A node's record: where its equations stand, what the tables say of it, and the walk over its call sites with the bytes of their records.
 use Prim.Native.Nat.{ℕ, zero, suc, ◌+◌, ◌-◌, ◌*◌, ◌<◌, ◌≤◌}
-use mathlib.Core.Bool.{true, false}
 use mathlib.Core.List.Memᴰ.{head as here}
 use mathlib.Core.List.Memᴰ.{tail as there}
 use mathlib.Core.List.{List, [], ◌∷◌, ◌++◌, map}
@@ -27,9 +26,8 @@ use Rattle.ol_spec.proofs.RoundTrip.Parts.{Here, here_back}
 use Rattle.ol_spec.proofs.RoundTrip.Placed.{NodeHere, node_here, file_here}
 use Rattle.ol_tables.specs.Tables.{RowOf, code_at, enum_at, row_at, node_of, site_bytes, place_of, size_cap}
 use Rattle.ol_tables.proofs.HeadLaws.{here_first}
-use Rattle.ol_state.specs.declared.sites.Site.{Site}
 use Rattle.ol_state.specs.Known.{Counted, Known, Sited}
-use Rattle.ol_state.specs.Ahead.{ahead, SiteMet, NextBy, NextSite}
+use Rattle.ol_state.specs.Ahead.{ahead}
 use Rattle.ol_state.specs.Defaults.{cells_at}
 use Rattle.ol_state.proofs.Fits.{fits, NodeFits, node_fits_lem, all_nth}
 use Rattle.ol_state.proofs.Told.{cells_told}
@@ -160,59 +158,52 @@ main_is f k e = go f.nodes k e
 
 -- ---- the walk over the records of its call sites
 
--- the call sites that are left are of nodes of lower numbers, and their records fill a list with so many bytes from `used` on
-pub record Rest (f : File) (s : List ℕ) (k total used at eqs pending : ℕ) : Type 0 where
-  pub lower : (c : ℕ) → c ∈ ahead s at eqs pending → c < k
-  pub room : used + sites_size (sizes_of f) (ahead s at eqs pending) ≡ total
+-- the call sites that are left, of these nodes, are of nodes of lower numbers, and their records fill a list with so many bytes from `used` on
+pub record Rest (f : File) (k total used : ℕ) (cs : List ℕ) : Type 0 where
+  pub lower : (c : ℕ) → c ∈ cs → c < k
+  pub room : used + sites_size (sizes_of f) cs ≡ total
 
--- the next of them
-pub record Turn (f : File) (s rows : List ℕ) (k total used at eqs pending : ℕ) (r : Site) : Type 0 where
-  pub lower : r.callee < k
-  pub size : row_at rows r.callee 6 ≡ site_bytes f r.callee
-  pub room : used + row_at rows r.callee 6 ≤ total
-  pub next : Rest f s k total (used + row_at rows r.callee 6) r.at r.eqs r.pending
-  pub met : SiteMet s at eqs pending r
+-- the next of them, of node c
+pub record Turn (f : File) (rows : List ℕ) (k total used c : ℕ) (cs : List ℕ) : Type 0 where
+  pub lower : c < k
+  pub size : row_at rows c 6 ≡ site_bytes f c
+  pub room : used + row_at rows c 6 ≤ total
+  pub next : Rest f k total (used + row_at rows c 6) cs
 
 module _ {f : File} {s tab rows : List ℕ} (known : Known f s tab rows) {k : ℕ} (below : k < length f.nodes) where
-  pub rest_start : {total : ℕ} → (node_of f k).kind ≡ Operator → total ≡ site_bytes f k → Rest f s k total (1 + 9 * row_at rows k 4) (row_at rows k 1) (row_at rows k 5) 0
-  rest_start {total} o e =
-      let l = sites_start known below in
+  pub rest_start : {total : ℕ} {cs : List ℕ} → (node_of f k).kind ≡ Operator → total ≡ site_bytes f k → cs ≡ ahead s (row_at rows k 1) (row_at rows k 5) 0 → Rest f k total (1 + 9 * row_at rows k 4) cs
+  rest_start {total} {cs} o e a =
+      let l : cs ≡ sites (node_of f k) = a ∙ sym (sites_start known below) in
       record {
-        lower = λ c m. known.lower k c (subst (λ (cs : List ℕ). c ∈ cs) (sym l) m);
-        room = ap (λ cs. 1 + 9 * row_at rows k 4 + sites_size (sizes_of f) cs) (sym l) ∙ omega (arith, own_size_lem known below, operator_size known below o);
+        lower = λ c m. known.lower k c (subst (λ (ks : List ℕ). c ∈ ks) l m);
+        room = ap (λ ks. 1 + 9 * row_at rows k 4 + sites_size (sizes_of f) ks) l ∙ omega (arith, own_size_lem known below, operator_size known below o, e);
       }
 
-  module _ {total used at eqs pending : ℕ} (rest : Rest f s k total used at eqs pending) (small : total ≤ size_cap) {r : Site} (n : NextSite s at eqs pending r) where
-    pub next_site : r.found ≡ true → Turn f s rows k total used at eqs pending r
-    next_site e =
-        let m : SiteMet s at eqs pending r = subst (λ b. NextBy b s at eqs pending r) e n.next in
-        let left = ahead s r.at r.eqs r.pending in
-        let low = rest.lower r.callee (subst (λ (cs : List ℕ). r.callee ∈ cs) (sym m.is) (here refl)) in
-        let q : sites_size (sizes_of f) (ahead s at eqs pending) ≡ site_bytes f r.callee + sites_size (sizes_of f) left = ap (sites_size (sizes_of f)) m.is ∙ sites_cons (sizes_of f) r.callee left in
-        let size = size_told known {k = r.callee} (omega arith) (omega (arith, rest.room)) in
+  module _ {total used : ℕ} {all : List ℕ} (rest : Rest f k total used all) (small : total ≤ size_cap) {c : ℕ} {cs : List ℕ} (is : all ≡ c ∷ cs) where
+    pub next_turn : Turn f rows k total used c cs
+    next_turn =
+        let low = rest.lower c (subst (λ (ks : List ℕ). c ∈ ks) (sym is) (here refl)) in
+        let q : sites_size (sizes_of f) all ≡ site_bytes f c + sites_size (sizes_of f) cs = ap (sites_size (sizes_of f)) is ∙ sites_cons (sizes_of f) c cs in
+        let size = size_told known {k = c} (omega arith) (omega (arith, rest.room)) in
         record {
           lower = low;
           size = size;
           room = omega (arith, rest.room);
-          next = record { lower = λ c x. rest.lower c (subst (λ (cs : List ℕ). c ∈ cs) (sym m.is) (there x)); room = omega (arith, rest.room) };
-          met = m;
+          next = record { lower = λ d x. rest.lower d (subst (λ (ks : List ℕ). d ∈ ks) (sym is) (there x)); room = omega (arith, rest.room) };
         }
 
-    pub no_site : r.found ≡ false → ahead s at eqs pending ≡ []
-    no_site e = subst (λ b. NextBy b s at eqs pending r) e n.next
-
 -- the part of a list that is the record of the next call site
-module _ {f : File} {s tab rows : List ℕ} (known : Known f s tab rows) {k : ℕ} (below : k < length f.nodes) {total used at eqs pending : ℕ} {r : Site} (t : Turn f s rows k total used at eqs pending r) (small : total ≤ size_cap) {z : ℕ} (size : z ≡ row_at rows r.callee 6) (l : List ℕ) (long : length l ≡ total) where
+module _ {f : File} {s tab rows : List ℕ} (known : Known f s tab rows) {k : ℕ} (below : k < length f.nodes) {total used c : ℕ} {cs : List ℕ} (t : Turn f rows k total used c cs) (small : total ≤ size_cap) {z : ℕ} (size : z ≡ row_at rows c 6) (l : List ℕ) (long : length l ≡ total) where
   pub part_room : used + z ≤ length l
   part_room = omega (arith, t.room)
 
   pub part_long : length (take (used + z - used) (drop used l)) ≡ z
   part_long = let m : used + z - used ≡ z = omega arith in rw m (length-take-le z (drop used l) (omega (arith, part_room, length-drop used l)))
 
-  pub part_sited : Sited f s tab rows r.callee (take (used + z - used) (drop used l))
+  pub part_sited : Sited f s tab rows c (take (used + z - used) (drop used l))
   part_sited = record { known = known; below = omega (arith, t.lower); sized = part_long ∙ size ∙ t.size; small = omega (arith, part_long, t.room) }
 
 -- none are left: all bytes are used
-pub all_used : {f : File} {s : List ℕ} {k total used at eqs pending : ℕ} → Rest f s k total used at eqs pending → ahead s at eqs pending ≡ [] → used ≡ total
+pub all_used : {f : File} {k total used : ℕ} {cs : List ℕ} → Rest f k total used cs → cs ≡ [] → used ≡ total
 unfolding sites_size
 all_used {f} rest e = let q = ap (sites_size (sizes_of f)) e in omega (arith, rest.room, q)

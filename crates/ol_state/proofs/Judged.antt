@@ -2,11 +2,13 @@
 use Prim.Native.Nat.{ℕ, suc, ◌+◌, ◌-◌, ◌*◌, ◌<◌, ◌≤◌}
 use mathlib.Core.Bool.{Bool, true, false, ◌&&◌}
 use mathlib.Core.List.{List, [], ◌∷◌}
-use mathlib.Core.Path.{◌≡◌, refl, ap, ap₂, ◌∙◌}
+use mathlib.Core.Path.{◌≡◌, refl, ap, ◌∙◌}
 use native.Mathlib.Omega.{arith}
 use lib.Dec.{eqb, leb}
-use lib.ListN.{length, take, drop, get_or, drop_of_length-le}
-use lib.Seq.{drop-cons, drop-drop}
+use Rattle.std.specs.Prelude.{nat_eq}
+use Rattle.std.specs.Cmp.Lexicographic.{pointwise}
+use lib.ListN.{take, drop, get_or}
+use lib.Seq.{drop-drop}
 use Rattle.ol_spec.specs.Lists.{same}
 use Rattle.ol_spec.specs.Cell.{good_cell, good_cells}
 use Rattle.ol_state.specs.Own.{good_bytes}
@@ -32,23 +34,12 @@ module _ (names : List ℕ) (n i : ℕ) (s : List ℕ) where
 
 -- ---- bytes
 
-pub same_next : (a b : List ℕ) (i : ℕ) → i < length a → i < length b → same (drop i a) (drop i b) ≡ eqb (get_or a i 0) (get_or b i 0) && same (drop (i + 1) a) (drop (i + 1) b)
-same_next a b i h k =
-    let e : suc i ≡ i + 1 = omega arith in
-    ap₂ same (drop-cons a i 0 h ∙ ap (λ m. get_or a i 0 ∷ drop m a) e) (drop-cons b i 0 k ∙ ap (λ m. get_or b i 0 ∷ drop m b) e)
-
-pub same_end : (a b : List ℕ) (i : ℕ) → length a ≤ i → length b ≤ i → same (drop i a) (drop i b) ≡ true
-same_end a b i h k = ap₂ same (drop_of_length-le a {i = i} h) (drop_of_length-le b {i = i} k)
-
-pub same_apart : (a b : List ℕ) → (length a ≡ length b → ⊥) → same a b ≡ false
-same_apart [] [] h = absurd (h refl)
-same_apart [] (y ∷ b) h = refl
-same_apart (x ∷ a) [] h = refl
-same_apart (x ∷ a) (y ∷ b) h = go (eqb x y) (same_apart a b (λ e. h (ap suc e)))
-  where
-    go : (c : Bool) {d : Bool} → d ≡ false → c && d ≡ false
-    go true e = e
-    go false e = refl
+-- what `==` at bytes answers
+pub same_is : (a b : List ℕ) → pointwise nat_eq a b ≡ same a b
+same_is [] [] = refl
+same_is [] (y ∷ b) = refl
+same_is (x ∷ a) [] = refl
+same_is (x ∷ a) (y ∷ b) = ap (λ c. eqb x y && c) (same_is a b)
 
 -- ---- a record's own bytes: the started byte, the cells, and whether it is not started, or else has the defaults
 

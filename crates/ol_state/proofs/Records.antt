@@ -18,11 +18,10 @@ use Rattle.ol_spec.specs.declared.Value.{Value}
 use Rattle.ol_spec.proofs.Segments.{sites_cons}
 use Rattle.ol_spec.proofs.Calls.{good_site}
 use Rattle.ol_tables.specs.Tables.{row_at, node_of, site_bytes}
-use Rattle.ol_state.specs.declared.sites.Site.{Site}
 use Rattle.ol_state.specs.Known.{Known, Sited}
-use Rattle.ol_state.specs.Ahead.{ahead, NextSite}
+use Rattle.ol_state.specs.Ahead.{ahead}
 use Rattle.ol_state.specs.Defaults.{cells_at}
-use Rattle.ol_state.proofs.Instances.{Rest, Turn, sizes_of, sites_start, rest_start, next_site, no_site, default_cells, own_room, is_operator_lem, no_operator, variables_told}
+use Rattle.ol_state.proofs.Instances.{Rest, Turn, sizes_of, sites_start, rest_start, next_turn, default_cells, own_room, is_operator_lem, no_operator, variables_told}
 use Rattle.ol_state.specs.Own.{good_bytes}
 use Rattle.ol_state.proofs.Judged.{and_pass, and_stop}
 
@@ -34,10 +33,10 @@ good_of f vs k r = good_at (globals_of f vs) (length f.nodes) k r
 abbrev pub good_all : File → List Value → List ℕ → List ℕ → Bool
 good_all f vs ks s = good_sites (globals_of f vs) (good_of f vs) ks s
 
--- Node k's record r is good exactly if the records from `used` on are, those of the call sites that are left.
-pub record Judging (f : File) (s : List ℕ) (k : ℕ) (r : List ℕ) (used at eqs pending : ℕ) : Type 0 where
-  pub rest : Rest f s k (length r) used at eqs pending
-  pub left : (vs : List Value) → good_of f vs k r ≡ good_all f vs (ahead s at eqs pending) (drop used r)
+-- Node k's record r is good exactly if the records from `used` on are, those of the call sites that are left, of these nodes.
+pub record Judging (f : File) (k : ℕ) (r : List ℕ) (used : ℕ) (cs : List ℕ) : Type 0 where
+  pub rest : Rest f k (length r) used cs
+  pub left : (vs : List Value) → good_of f vs k r ≡ good_all f vs cs (drop used r)
 
 -- a record's own bytes are good, by the tables
 abbrev pub bytes_good : File → List ℕ → List ℕ → ℕ → List ℕ → Bool
@@ -72,10 +71,10 @@ module _ {f : File} {s tab rows : List ℕ} {k : ℕ} {r : List ℕ} (h : Sited 
   none_judged other vs = sym (other_good h.known vs k r h.below (no_operator h.known h.below other))
 
   -- all bytes are used
-  pub judging_full : {used at eqs pending : ℕ} → Judging f s k r used at eqs pending → length r ≤ used → (vs : List Value) → true ≡ good_of f vs k r
-  judging_full {used} {at} {eqs} {pending} j full vs =
+  pub judging_full : {used : ℕ} {cs : List ℕ} → Judging f k r used cs → length r ≤ used → (vs : List Value) → true ≡ good_of f vs k r
+  judging_full {used} {cs} j full vs =
       sym (j.left vs
-      ∙ none_left h.known vs (ahead s at eqs pending) (drop used r) (λ c m. omega (arith, j.rest.lower c m, h.below)) (omega (arith, j.rest.room, full)))
+      ∙ none_left h.known vs cs (drop used r) (λ c m. omega (arith, j.rest.lower c m, h.below)) (omega (arith, j.rest.room, full)))
 
   -- an Operator's: its own bytes, and the records of its call sites
   operator_good : row_at rows k 0 ≡ 1 → (vs : List Value) → good_of f vs k r ≡ bytes_good f tab rows k r && good_all f vs (sites (node_of f k)) (drop (1 + 9 * row_at rows k 4) r)
@@ -91,45 +90,47 @@ module _ {f : File} {s tab rows : List ℕ} {k : ℕ} {r : List ℕ} (h : Sited 
   pub own_bad : row_at rows k 0 ≡ 1 → false ≡ bytes_good f tab rows k r → (vs : List Value) → false ≡ good_of f vs k r
   own_bad one b vs = sym (operator_good one vs ∙ and_stop _ (sym b))
 
-  pub judging_start : {n a q : ℕ} → row_at rows k 0 ≡ 1 → true ≡ bytes_good f tab rows k r → n ≡ row_at rows k 4 → a ≡ row_at rows k 1 → q ≡ row_at rows k 5 → Judging f s k r (1 + 9 * n) a q 0
-  judging_start one b e₁ e₂ e₃ =
-      rw (e₁, e₂, e₃)
+  pub judging_start : {n : ℕ} {cs : List ℕ} → row_at rows k 0 ≡ 1 → true ≡ bytes_good f tab rows k r → n ≡ row_at rows k 4 → cs ≡ ahead s (row_at rows k 1) (row_at rows k 5) 0 → Judging f k r (1 + 9 * n) cs
+  judging_start {n} {cs} one b e₁ e₂ =
+      let l : sites (node_of f k) ≡ cs = sites_start h.known h.below ∙ sym e₂ in
+      rw e₁
       (record {
-        rest = rest_start h.known h.below (is_operator_lem h.known h.below one) h.sized;
-        left = λ vs. operator_good one vs ∙ and_pass (sym b) ∙ ap (λ cs. good_all f vs cs (drop (1 + 9 * row_at rows k 4) r)) (sites_start h.known h.below);
+        rest = rest_start h.known h.below (is_operator_lem h.known h.below one) h.sized e₂;
+        left = λ vs. operator_good one vs ∙ and_pass (sym b) ∙ ap (λ ks. good_all f vs ks (drop (1 + 9 * row_at rows k 4) r)) l;
       })
 
-module _ {f : File} {s tab rows : List ℕ} {k : ℕ} {r : List ℕ} (h : Sited f s tab rows k r) {used at eqs pending : ℕ} (judging : Judging f s k r used at eqs pending) {x : Site} (n : NextSite s at eqs pending x) where
-  -- the record of the next call site
-  pub turn_of : x.found ≡ true → Turn f s rows k (length r) used at eqs pending x
-  turn_of e = next_site h.known h.below judging.rest h.small n e
+module _ {f : File} {s tab rows : List ℕ} {k : ℕ} {r : List ℕ} (h : Sited f s tab rows k r) {used : ℕ} {all : List ℕ} (judging : Judging f k r used all) where
+  module _ {c : ℕ} {cs : List ℕ} (is : all ≡ c ∷ cs) where
+    -- the record of the next call site
+    pub turn_of : Turn f rows k (length r) used c cs
+    turn_of = next_turn h.known h.below judging.rest h.small is
 
-  module _ (e : x.found ≡ true) {z : ℕ} (size : z ≡ row_at rows x.callee 6) where
-    -- the first of the records that are left, and the others
-    next_good : (vs : List Value) → good_of f vs k r ≡ good_of f vs x.callee (take (used + z - used) (drop used r)) && good_all f vs (ahead s x.at x.eqs x.pending) (drop (used + z) r)
-    unfolding good_sites
-    next_good vs =
-        let t = turn_of e in
-        let m : site_bytes f x.callee ≡ used + z - used = omega (arith, size, t.size) in
-        let q : site_bytes f x.callee ≡ z = sym (size ∙ t.size) in
-        judging.left vs
-        ∙ ap (λ cs. good_all f vs cs (drop used r)) t.met.is
-        ∙ (λ i. good_of f vs x.callee (take (m i) (drop used r)) && good_all f vs (ahead s x.at x.eqs x.pending) (drop (q i) (drop used r)))
-        ∙ ap (λ l. good_of f vs x.callee (take (used + z - used) (drop used r)) && good_all f vs (ahead s x.at x.eqs x.pending) l) (drop-drop z used r)
+    module _ {z : ℕ} (size : z ≡ row_at rows c 6) where
+      -- the first of the records that are left, and the others
+      next_good : (vs : List Value) → good_of f vs k r ≡ good_of f vs c (take (used + z - used) (drop used r)) && good_all f vs cs (drop (used + z) r)
+      unfolding good_sites
+      next_good vs =
+          let t = turn_of in
+          let m : site_bytes f c ≡ used + z - used = omega (arith, size, t.size) in
+          let q : site_bytes f c ≡ z = sym (size ∙ t.size) in
+          judging.left vs
+          ∙ ap (λ ks. good_all f vs ks (drop used r)) is
+          ∙ (λ i. good_of f vs c (take (m i) (drop used r)) && good_all f vs cs (drop (q i) (drop used r)))
+          ∙ ap (λ l. good_of f vs c (take (used + z - used) (drop used r)) && good_all f vs cs l) (drop-drop z used r)
 
-    -- it is good, or bad
-    pub judging_on : ((vs : List Value) → true ≡ good_of f vs x.callee (take (used + z - used) (drop used r))) → Judging f s k r (used + z) x.at x.eqs x.pending
-    judging_on good =
-        let t = turn_of e in
-        record {
-          rest = record { lower = t.next.lower; room = omega (arith, t.next.room, size) };
-          left = λ vs. next_good vs ∙ and_pass (sym (good vs));
-        }
+      -- it is good, or bad
+      pub judging_on : ((vs : List Value) → true ≡ good_of f vs c (take (used + z - used) (drop used r))) → Judging f k r (used + z) cs
+      judging_on good =
+          let t = turn_of in
+          record {
+            rest = record { lower = t.next.lower; room = omega (arith, t.next.room, size) };
+            left = λ vs. next_good vs ∙ and_pass (sym (good vs));
+          }
 
-    pub judging_stop : ((vs : List Value) → false ≡ good_of f vs x.callee (take (used + z - used) (drop used r))) → (vs : List Value) → false ≡ good_of f vs k r
-    judging_stop bad vs = sym (next_good vs ∙ and_stop _ (sym (bad vs)))
+      pub judging_stop : ((vs : List Value) → false ≡ good_of f vs c (take (used + z - used) (drop used r))) → (vs : List Value) → false ≡ good_of f vs k r
+      judging_stop bad vs = sym (next_good vs ∙ and_stop _ (sym (bad vs)))
 
   -- all are good
-  pub judging_done : x.found ≡ false → (vs : List Value) → true ≡ good_of f vs k r
+  pub judging_done : all ≡ [] → (vs : List Value) → true ≡ good_of f vs k r
   unfolding good_sites
-  judging_done e vs = sym (judging.left vs ∙ ap (λ cs. good_all f vs cs (drop used r)) (no_site h.known h.below judging.rest h.small n e))
+  judging_done none vs = sym (judging.left vs ∙ ap (λ ks. good_all f vs ks (drop used r)) none)

@@ -5,7 +5,7 @@ use mathlib.Core.Path.{◌≡◌, refl, sym, ap, ap₂, ◌∙◌}
 use native.Mathlib.Omega.{arith}
 use lib.Dec.{T}
 use lib.ListN.{length, get_or, length-append}
-use mathlib.Core.Bool.{true, cond}
+use mathlib.Core.Bool.{cond}
 use borrow.Author.Tests.{lt-ltb, le-ltb}
 use Rattle.ol_spec.specs.Lists.{concat, all_of}
 use Rattle.ol_spec.specs.Syntax.{nil, cons, Equation}
@@ -19,11 +19,11 @@ use Rattle.ol_spec.proofs.Tests.{T_and}
 use Rattle.ol_spec.proofs.RoundTrip.Parts.{Here, here_front, here_back}
 use Rattle.ol_spec.proofs.RoundTrip.Items.{names_size, expr_size_lem}
 use Rattle.ol_tables.specs.Walks.{skip_at, sites_at, CallMet, NoCall}
-use Rattle.ol_tables.specs.declared.heads.NextCall.{NextCall}
+use Rattle.ol_tables.specs.declared.heads.Call.{Call}
 use Rattle.ol_tables.proofs.HeadLaws.{headed}
 use Rattle.ol_tables.proofs.HeadsFile.{equation_stands}
 use Rattle.ol_tables.proofs.Skipping.{walk_none, skip_stands, sites_stand}
-use Rattle.ol_state.specs.Ahead.{right_at, equations_ahead, ahead, SiteMet}
+use Rattle.ol_state.specs.Ahead.{right_at, equations_ahead, ahead}
 
 -- ---- equations
 
@@ -78,41 +78,25 @@ module _ (s : List ℕ) where
 
 -- ---- the next call site
 
--- of the callees that are ahead none is met yet: these are left
-pub record Seeking (s : List ℕ) (at eqs pending pos left more : ℕ) : Type 0 where
-  pub same : ahead s at eqs pending ≡ ahead s pos left more
-  pub onward : at ≤ pos
-
-pub seeking_start : {s : List ℕ} {at eqs pending : ℕ} → Seeking s at eqs pending at eqs pending
-seeking_start = record { same = refl; onward = omega arith }
-
-module _ {s : List ℕ} {at eqs pending pos left more : ℕ} (l : Seeking s at eqs pending pos left more) {c : NextCall} where
+module _ {s : List ℕ} {pos : ℕ} (left : ℕ) {more : ℕ} where
   -- a call is met
-  pub site_met : CallMet s more pos c → SiteMet s at eqs pending (record { found = true; callee = c.callee; at = c.at; eqs = left; pending = c.left })
+  pub site_met : {c : Call} → CallMet s more pos c → ahead s pos left more ≡ c.callee ∷ ahead s c.at left c.left
   unfolding ahead
-  site_met m =
-      record {
-        is = l.same ∙ ap₂ (λ (ks : List ℕ) (p : ℕ). ks ++ equations_ahead s left p) m.is m.ends;
-        onward = omega (arith, l.onward, m.onward);
-        inside = omega (arith, l.onward, m.inside);
-      }
+  site_met m = ap₂ (λ (ks : List ℕ) (p : ℕ). ks ++ equations_ahead s left p) m.is m.ends
 
-  module _ (n : NoCall s more pos c) where
+  module _ {end : ℕ} (n : NoCall s more pos end) where
     -- the equations are left
-    behind : ahead s at eqs pending ≡ equations_ahead s left c.at
+    behind : ahead s pos left more ≡ equations_ahead s left end
     unfolding ahead
-    behind = l.same ∙ ap₂ (λ (ks : List ℕ) (p : ℕ). ks ++ equations_ahead s left p) n.none n.ends
+    behind = ap₂ (λ (ks : List ℕ) (p : ℕ). ks ++ equations_ahead s left p) n.none n.ends
 
-    pub none_left : left ≡ 0 → ahead s at eqs pending ≡ []
-    none_left z = behind ∙ equations_none s left c.at (omega arith)
+    pub none_left : left ≡ 0 → ahead s pos left more ≡ []
+    none_left z = behind ∙ equations_none s left end (omega arith)
 
-    pub file_ends : length s ≤ c.at → ahead s at eqs pending ≡ []
-    file_ends h = behind ∙ equations_end s left c.at h
+    pub file_ends : length s ≤ end → ahead s pos left more ≡ []
+    file_ends h = behind ∙ equations_end s left end h
 
     -- the names of the next are passed
-    pub names_passed : {b : ℕ} → 0 < left → c.at < length s → b ≡ get_or s c.at 0 → Seeking s at eqs pending (c.at + 1 + 2 * b) (left - 1) 1
+    pub names_passed : {b : ℕ} → 0 < left → end < length s → b ≡ get_or s end 0 → ahead s pos left more ≡ ahead s (end + 1 + 2 * b) (left - 1) 1
     names_passed {b} u i e =
-        record {
-          same = behind ∙ equations_next s left c.at u i ∙ ap (λ m. ahead s (c.at + 1 + 2 * m) (left - 1) 1) (sym e);
-          onward = omega (arith, l.onward, n.onward);
-        }
+        behind ∙ equations_next s left end u i ∙ ap (λ m. ahead s (end + 1 + 2 * m) (left - 1) 1) (sym e)

@@ -1,7 +1,7 @@
 -- The call sites of a node, met head by head: which callees are left at a place of the file, as its bytes tell them.
-use Rattle.std.specs.Prelude.{ℕ, zero, suc, ◌+◌, ◌*◌, ◌<◌, Bool, true, false, cond, List, [], ◌∷◌, ◌++◌, ◌≡◌, ltb, length, get_or}
+use Rattle.std.specs.Prelude.{ℕ, zero, suc, ◌+◌, ◌*◌, cond, List, [], ◌++◌, ltb, length, get_or}
 use Rattle.ol_tables.specs.Walks.{skip_at, sites_at}
-use Rattle.ol_state.specs.declared.sites.Site.{Site}
+use Rattle.ol_state.specs.declared.sites.CallSites.{CallSites}
 
 module _ (s : List ℕ) where
   -- where the right side of the equation at `at` stands, behind its names
@@ -17,16 +17,6 @@ module _ (s : List ℕ) where
   unfoldable pub ahead : ℕ → ℕ → ℕ → List ℕ
   ahead at eqs pending = sites_at s pending at ++ equations_ahead eqs (skip_at s pending at)
 
--- the next call site is met: its callee, and what is left behind its head
-pub record SiteMet (s : List ℕ) (at eqs pending : ℕ) (r : Site) : Type 0 where
-  pub is : ahead s at eqs pending ≡ r.callee ∷ ahead s r.at r.eqs r.pending
-  pub onward : at < r.at
-  pub inside : at < length s
-
--- what looking for the next call site answers
-abbrev pub NextBy : Bool → List ℕ → ℕ → ℕ → ℕ → Site → Type 0
-NextBy true s at eqs pending r = SiteMet s at eqs pending r
-NextBy false s at eqs pending r = ahead s at eqs pending ≡ []
-
-pub record NextSite (s : List ℕ) (at eqs pending : ℕ) (r : Site) : Type 0 where
-  pub next : NextBy r.found s at eqs pending r
+-- the callees of the call sites that are left
+abbrev pub callees_of : CallSites → List ℕ
+callees_of c = ahead c.file.now c.at c.eqs c.pending

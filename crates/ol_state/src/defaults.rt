@@ -1,8 +1,6 @@
 // The started byte and the default cells of a fresh record, by the tables.
 ghost use Rattle.std.specs.Prelude.{◌≡◌, ◌∷◌, ◌++◌, ◌+◌, ◌*◌, ◌≤◌, ◌<◌, length, drop};
-ghost use Rattle.ol_tables.specs.Tables.{row_at};
-ghost use Rattle.ol_tables.specs.Table.{tab_of, rows_of};
-ghost use Rattle.ol_state.specs.Defaults.{default_cell, cells_at};
+ghost use Rattle.ol_state.specs.Defaults.{default_cell, width_at, defaults_at};
 
 use ol_tables::bytes::byte;
 use ol_tables::table::{column, first_variant, types_of};
@@ -21,26 +19,23 @@ fn put_default(code: usize, first: usize, out: &mut [u8])
 
 // The default cells of node k's variables.
 pub fn write_defaults(tab: &[u8], k: usize, out: &mut [u8])
-    requires { (k ≤ 65535) × (9 * row_at (rows_of tab.now) k 4 ≤ length out.old) }
-    ensures { out.new ≡ cells_at (tab_of tab.now) (rows_of tab.now) k 0 (row_at (rows_of tab.now) k 4) ++ drop (9 * row_at (rows_of tab.now) k 4) out.old }
+    requires { (k ≤ 65535) × (9 * width_at tab.now k ≤ length out.old) }
+    ensures { out.new ≡ defaults_at tab.now k ++ drop (9 * width_at tab.now k) out.old }
 {
     let n = column(tab, k, VARIABLES);
     let types = types_of(tab, k);
-    let mut i: usize = 0;
-    while i < n {
+    for i in 0..n {
         let p = types + 2 * i;
         let code = byte(tab, p);
         let first = first_variant(tab, byte(tab, p + 1));
-        let q = 9 * i;
-        put_default(code, first, &mut out[q..]);
-        i += 1;
+        put_default(code, first, &mut out[9 * i..]);
     }
 }
 
 // The started byte 0 and the default cells of node k's variables.
 pub(crate) fn write_own(tab: &[u8], k: usize, out: &mut [u8])
-    requires { (k ≤ 65535) × (1 + 9 * row_at (rows_of tab.now) k 4 ≤ length out.old) }
-    ensures { out.new ≡ 0 ∷ cells_at (tab_of tab.now) (rows_of tab.now) k 0 (row_at (rows_of tab.now) k 4) ++ drop (1 + 9 * row_at (rows_of tab.now) k 4) out.old }
+    requires { (k ≤ 65535) × (1 + 9 * width_at tab.now k ≤ length out.old) }
+    ensures { out.new ≡ 0 ∷ defaults_at tab.now k ++ drop (1 + 9 * width_at tab.now k) out.old }
 {
     out[0] = 0;
     write_defaults(tab, k, &mut out[1..]);

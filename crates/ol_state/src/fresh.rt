@@ -8,10 +8,10 @@ ghost use Rattle.ol_tables.specs.Table.{tab_of, rows_of};
 ghost use Rattle.ol_state.specs.Known.{Counted, Sited};
 
 use crate::defaults::write_own;
-use crate::sites::next_site;
+use crate::sites::call_sites;
 use ol_tables::bytes::byte;
 use ol_tables::table::column;
-use ol_tables::tables::{COUNT, EQUATIONS, KIND, PLACE, SIZE, VARIABLES};
+use ol_tables::tables::{KIND, PLACE, SIZE, VARIABLES};
 
 // The number of the main node, the last one: the nodes' count stands before the first node.
 pub(crate) fn main_node(file: &[u8], tab: &[u8]) -> usize
@@ -30,22 +30,10 @@ pub fn write_fresh(file: &[u8], tab: &[u8], k: usize, out: &mut [u8])
     if column(tab, k, KIND) == 1 {
         write_own(tab, k, out);
         let mut used = 1 + 9 * column(tab, k, VARIABLES);
-        let mut at = column(tab, k, EQUATIONS);
-        let mut eqs = column(tab, k, COUNT);
-        let mut pending: usize = 0;
-        loop {
-            let s = next_site(file, at, eqs, pending);
-            if s.found {
-                let c = s.callee;
-                let end = used + column(tab, c, SIZE);
-                write_fresh(file, tab, c, &mut out[used..end]);
-                used = end;
-                at = s.at;
-                eqs = s.eqs;
-                pending = s.pending;
-            } else {
-                return;
-            }
+        for c in call_sites(file, tab, k) {
+            let end = used + column(tab, c, SIZE);
+            write_fresh(file, tab, c, &mut out[used..end]);
+            used = end;
         }
     }
 }

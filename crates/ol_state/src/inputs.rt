@@ -17,10 +17,8 @@ fn enum_at(file: &[u8], e: usize) -> usize
     ensures { EnumAt (file_at file.now) file.now e result }
 {
     let mut pos: usize = 2;
-    let mut i: usize = 0;
-    while i < e {
-        pos = pos + 1 + 2 * byte(file, pos);
-        i += 1;
+    for _ in 0..e {
+        pos += 1 + 2 * byte(file, pos);
     }
     pos
 }
@@ -31,12 +29,10 @@ fn has_variant(file: &[u8], at: usize, v: usize) -> bool
     ensures { (vs : List ℕ) → Here file.now at (section_bytes name_bytes vs) → T (all_of name_fits vs) → result ≡ member v vs }
 {
     let n = byte(file, at);
-    let mut j: usize = 0;
-    while j < n {
+    for j in 0..n {
         if name(file, at + 1 + 2 * j) == v {
             return true;
         }
-        j += 1;
     }
     false
 }
@@ -46,18 +42,10 @@ pub(crate) fn judge_input(file: &[u8], code: usize, e: usize, cells: &[u8], at: 
     requires { Typed (file_at file.now) file.now code e × (at + 9 ≤ length cells.now) }
     ensures { result ≡ good_input (file_at file.now) code e (take 9 (drop at cells.now)) }
 {
-    if good_cell(cells, at) {
-        let v = read_cell(cells, at);
-        if in_type(code as u8, v) {
-            if is_enum(v) {
-                has_variant(file, enum_at(file, e), name_of(v) as usize)
-            } else {
-                true
-            }
-        } else {
-            false
-        }
-    } else {
-        false
+    if !good_cell(cells, at) {
+        return false;
     }
+    let v = read_cell(cells, at);
+    in_type(code as u8, v)
+        && (!is_enum(v) || has_variant(file, enum_at(file, e), usize::from(name_of(v))))
 }

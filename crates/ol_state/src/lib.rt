@@ -14,17 +14,16 @@ ghost use Rattle.ol_state.specs.Ready.{Ready};
 pub mod fresh; // fresh.rt: fresh records
 pub mod defaults; // defaults.rt: the started byte and the default cells of a fresh record
 mod sites; // sites.rt: the call sites of a node, in file order
-mod cells; // cells.rt: cells and bytes
+mod cells; // cells.rt: cells
 mod inputs; // inputs.rt: inputs
 mod own; // own.rt: a record's started byte and cells
 
 use crate::fresh::main_node;
-use crate::sites::next_site;
-use cells::same_bytes;
+use crate::sites::call_sites;
 use inputs::judge_input;
 use ol_tables::bytes::byte;
 use ol_tables::table::{CONSTANTS, KNOWN, column, types_of};
-use ol_tables::tables::{COUNT, EQUATIONS, INPUTS, KIND, SIZE, VARIABLES};
+use ol_tables::tables::{INPUTS, KIND, SIZE, VARIABLES};
 use own::good_own;
 
 // Whether the record of a call site of node k, which is all of `r`, is good: its own bytes, then the
@@ -33,36 +32,25 @@ fn good_record(file: &[u8], tab: &[u8], variants: &[u8], k: usize, r: &[u8]) -> 
     requires { Sited (file_at file.now) file.now (tab_of tab.now) (rows_of tab.now) k r.now × Variants (file_at file.now) variants.now }
     ensures { (vs : List Value) → result ≡ good_at (globals_of (file_at file.now) vs) (length (file_at file.now).nodes) k r.now }
 {
-    if column(tab, k, KIND) == 1 {
-        if good_own(tab, variants, k, r) {
-            let mut used = 1 + 9 * column(tab, k, VARIABLES);
-            let mut at = column(tab, k, EQUATIONS);
-            let mut eqs = column(tab, k, COUNT);
-            let mut pending: usize = 0;
-            while used < r.len() {
-                let s = next_site(file, at, eqs, pending);
-                if s.found {
-                    let c = s.callee;
-                    let end = used + column(tab, c, SIZE);
-                    if good_record(file, tab, variants, c, &r[used..end]) {
-                        used = end;
-                        at = s.at;
-                        eqs = s.eqs;
-                        pending = s.pending;
-                    } else {
-                        return false;
-                    }
-                } else {
-                    return true;
-                }
-            }
-            true
-        } else {
-            false
-        }
-    } else {
-        true
+    if column(tab, k, KIND) != 1 {
+        return true;
     }
+    if !good_own(tab, variants, k, r) {
+        return false;
+    }
+    let mut used = 1 + 9 * column(tab, k, VARIABLES);
+    let mut sites = call_sites(file, tab, k);
+    while used < r.len() {
+        let Some(c) = sites.next() else {
+            return true;
+        };
+        let end = used + column(tab, c, SIZE);
+        if !good_record(file, tab, variants, c, &r[used..end]) {
+            return false;
+        }
+        used = end;
+    }
+    true
 }
 
 // 15: whether an old state is well formed: its length, the constants' cells, then the main record.
@@ -73,15 +61,10 @@ pub fn good_state(file: &[u8], tab: &[u8], variants: &[u8], state: &[u8]) -> boo
     let k = main_node(file, tab);
     let head = 9 * byte(tab, KNOWN);
     let end = CONSTANTS + head;
-    if state.len() == head + column(tab, k, SIZE) {
-        if same_bytes(&state[..head], &tab[CONSTANTS..end]) {
-            good_record(file, tab, variants, k, &state[head..])
-        } else {
-            false
-        }
-    } else {
-        false
+    if state.len() != head + column(tab, k, SIZE) {
+        return false;
     }
+    state[..head] == tab[CONSTANTS..end] && good_record(file, tab, variants, k, &state[head..])
 }
 
 // 16: whether inputs are a cell for each input of the main node, good, and of its type's kind, range
@@ -92,21 +75,15 @@ pub fn good_inputs(file: &[u8], tab: &[u8], inputs: &[u8]) -> bool
 {
     let k = main_node(file, tab);
     let n = column(tab, k, INPUTS);
-    if inputs.len() == 9 * n {
-        let types = types_of(tab, k);
-        let mut i: usize = 0;
-        while i < n {
-            let p = types + 2 * i;
-            let code = byte(tab, p);
-            let number = byte(tab, p + 1);
-            if judge_input(file, code, number, inputs, 9 * i) {
-                i += 1;
-            } else {
-                return false;
-            }
-        }
-        true
-    } else {
-        false
+    if inputs.len() != 9 * n {
+        return false;
     }
+    let types = types_of(tab, k);
+    for i in 0..n {
+        let p = types + 2 * i;
+        if !judge_input(file, byte(tab, p), byte(tab, p + 1), inputs, 9 * i) {
+            return false;
+        }
+    }
+    true
 }

@@ -185,26 +185,23 @@ pub record Looking (s : List ℕ) (parts at left next : ℕ) : Type 0 where
   pub ends : skip_at s parts at ≡ skip_at s left next
   pub onward : at ≤ next
 
-pub looking_start : {s : List ℕ} {parts at : ℕ} → Looking s parts at parts at
-looking_start = record { sites = refl; ends = refl; onward = omega arith }
-
 module _ {s : List ℕ} {parts at left next : ℕ} (l : Looking s parts at left next) where
   -- the walk ends here
-  looked : sites_at s left next ≡ [] → skip_at s left next ≡ next → NoCall s parts at (record { found = false; callee = 0; at = next; left = 0 })
+  looked : sites_at s left next ≡ [] → skip_at s left next ≡ next → NoCall s parts at next
   looked e f = record { none = l.sites ∙ e; ends = l.ends ∙ f; onward = l.onward }
 
-  pub looked_end : length s ≤ next → NoCall s parts at (record { found = false; callee = 0; at = next; left = 0 })
+  pub looked_end : length s ≤ next → NoCall s parts at next
   looked_end h = looked (walk_end _ _ s (length s) left next h) (walk_end _ _ s (length s) left next h)
 
-  pub looked_many : length s < left → NoCall s parts at (record { found = false; callee = 0; at = next; left = 0 })
+  pub looked_many : length s < left → NoCall s parts at next
   looked_many h = looked (walk_many _ _ s (length s) left next h) (walk_many _ _ s (length s) left next h)
 
-  pub looked_all : left ≤ 0 → NoCall s parts at (record { found = false; callee = 0; at = next; left = 0 })
+  pub looked_all : left ≤ 0 → NoCall s parts at next
   looked_all h = looked (walk_none _ _ s (length s) left next h) (walk_none _ _ s (length s) left next h)
 
   module _ (u : 0 < left) (i : next < length s) (j : left ≤ length s) {h : Parts} (t : HeadOf s next h) {b : ℕ} (code : Byte s next b) where
     -- a call's head
-    pub looked_call : {k : ℕ} → b ≡ 11 → Byte s (next + 1) k → CallMet s parts at (record { found = true; callee = k; at = h.start; left = left - 1 + h.count })
+    pub looked_call : {k : ℕ} → b ≡ 11 → Byte s (next + 1) k → CallMet s parts at (record { callee = k; at = h.start; left = left - 1 + h.count })
     looked_call {k} e c =
         record {
           is = l.sites ∙ walk_turn _ _ s left next u i j t.parts t.next ∙ ap (λ (ks : List ℕ). ks ++ sites_at s (left - 1 + h.count) h.start) (own_callee code e c);

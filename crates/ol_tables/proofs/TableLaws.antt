@@ -2,7 +2,7 @@
 use Prim.Native.Nat.{ℕ, ◌+◌, ◌-◌, ◌*◌, ◌/◌, ◌%◌, ◌<◌, ◌≤◌}
 use mathlib.Core.List.{List}
 use mathlib.Core.Logic.{by_cases}
-use mathlib.Core.Path.{◌≡◌, refl, sym, ap, ◌∙◌}
+use mathlib.Core.Path.{◌≡◌, sym, ap, ◌∙◌}
 use native.Mathlib.Omega.{arith}
 use native.Mathlib.Decide.{dec_le}
 use lib.ListN.{length, take, drop, get_or, set, length-set, length-map, length-drop, get_or-eq_default}
@@ -109,10 +109,6 @@ module _ (t : List ℕ) (k i : ℕ) where
   enum_is {p} e = plans_byte (start_at (tab_of t) k + 2 * i + 1) p (omega (arith, e))
 
 -- ---- packing, number by number
-
-pub packs_start : (rows : List ℕ) (first : ℕ) (t : List ℕ) → Packs rows first first t t
-packs_start rows first t =
-    record { put = λ i a b. absurd (omega (arith, a, b)); before = λ i a. refl; behind = λ i a b. refl; rest = refl }
 
 pub packs_turn : {rows : List ℕ} {first i : ℕ} {t₀ t t' : List ℕ} → Packs rows first i t₀ t → i < 272 → 816 ≤ length t → get_or rows i 0 < 16777216 → first ≤ i → t' ≡ number_put t i (get_or rows i 0) → Packs rows first (i + 1) t₀ t'
 packs_turn {rows} {first} {i} {t₀} {t} {t'} p b long small le e =

@@ -6,14 +6,13 @@ use mathlib.Core.Path.{◌≡◌, refl, sym, ap, subst, ◌∙◌}
 use native.Mathlib.Omega.{arith}
 use lib.ListN.{length, get_or, get_or-eq_default}
 use lib.Dec.{T, ltb, leb, eqb, leb→le}
-use borrow.Author.Tests.{lt-ltb, le-ltb, ne_eqb, ltb-true}
+use borrow.Author.Tests.{lt-ltb, le-ltb, ltb-true}
 use Rattle.ol_spec.specs.Lists.{all_of}
 use Rattle.ol_spec.proofs.Tests.{T_and}
 use Rattle.ol_spec.specs.Syntax.{Expr, Exprs, nil, cons, count}
 use Rattle.ol_spec.specs.Places.{exprs_size}
-use Rattle.ol_tables.specs.Heads.{parts_table, sizes_table, ty_size_at, next_at, parts_of, head_size, joined, Standing}
+use Rattle.ol_tables.specs.Heads.{sizes_table, ty_size_at, next_at, parts_of, head_size, joined, Standing}
 use Rattle.ol_tables.proofs.HeadLaws.{Headed, headed, parts_told, next_told, joined_count, head_ends}
-use Rattle.ol_tables.specs.Heads.{Byte}
 use Rattle.ol_tables.specs.Walks.{HeadOf}
 use Rattle.ol_tables.specs.declared.heads.Parts.{Parts}
 
@@ -29,25 +28,12 @@ table_size c h =
     let w = T_and (leb 1 (get_or sizes_table c 0)) _ (each_entry (λ n. leb 1 n && leb n 9) sizes_table c tt h) in
     (leb→le _ _ w.0, leb→le _ _ w.1)
 
-table_parts : (c : ℕ) → c < 10 → get_or parts_table c 0 ≤ 3
-table_parts c h = leb→le _ _ (each_entry (λ n. leb n 3) parts_table c tt h)
-
-pub ty_two : (s : List ℕ) (at c : ℕ) → Byte s at c → c ≡ 12 → 2 ≡ ty_size_at s at
-ty_two s at c b e = rw (← b.is, e) refl
-
-pub ty_one : (s : List ℕ) (at c : ℕ) → Byte s at c → (c ≡ 12 → ⊥) → 1 ≡ ty_size_at s at
-ty_one s at c b e = rw (← b.is, ne_eqb c 12 e) refl
-
 cond_small : (b : Bool) → cond b 2 1 ≤ 2
 cond_small true = omega arith
 cond_small false = omega arith
 
 pub ty_small : (s : List ℕ) (at : ℕ) → ty_size_at s at ≤ 2
 ty_small s at = cond_small (eqb (get_or s at 0) 12)
-
--- one that is not the least so far
-pub next_up : (n c : ℕ) → n ≤ c → (c ≡ n → ⊥) → n + 1 ≤ c
-next_up n c le ne = omega arith
 
 -- a head has a byte at least
 pub next_on_lem : (s : List ℕ) (at : ℕ) → at < length s → at < next_at s at
@@ -63,53 +49,6 @@ next_on_lem s at i =
     pick : (a b d : Bool) → (a ≡ true → at < at + get_or sizes_table (get_or s at 0) 0) → at < cond a (at + get_or sizes_table (get_or s at 0) 0) (cond b (at + 1 + ty_size_at s (at + 1)) (cond d (at + 3) (at + 2)))
     pick true b d h = h refl
     pick false b d h = two b d
-
-module _ (s : List ℕ) (at c : ℕ) (b : Byte s at c) (i : at < length s) where
-  head_low : c < 10 → HeadOf s at (record { count = get_or parts_table c 0; start = at + get_or sizes_table c 0 })
-  head_low h =
-      let z = table_size c h in
-      record {
-        parts = rw (← b.is, lt-ltb c 10 h) refl;
-        next = rw (lt-ltb at (length s) i, ← b.is, lt-ltb c 10 h) refl;
-        few = omega (arith, table_parts c h);
-        onward = λ h. omega (arith, z.0);
-        near = omega (arith, z.1);
-      }
-
-  -- a code below 10, with its numbers in the tables
-  pub head_code : (n : ℕ) → n < 10 → c ≡ n → HeadOf s at (record { count = get_or parts_table n 0; start = at + get_or sizes_table n 0 })
-  head_code n h e = subst (λ m. HeadOf s at (record { count = get_or parts_table m 0; start = at + get_or sizes_table m 0 })) e (head_low (omega arith))
-
-  pub head_cast : (n : ℕ) → 10 ≤ c → c ≡ 10 → n ≡ ty_size_at s (at + 1) → HeadOf s at (record { count = 1; start = at + 1 + n })
-  head_cast n h e t =
-      record {
-        parts = rw (← b.is, e) refl;
-        next = rw (lt-ltb at (length s) i, ← b.is, e) (ap (λ m. at + 1 + m) t);
-        few = omega arith;
-        onward = λ h. omega arith;
-        near = omega (arith, t, ty_small s (at + 1));
-      }
-
-  pub head_call : (n : ℕ) → 10 ≤ c → (c ≡ 10 → ⊥) → c ≡ 11 → Byte s (at + 2) n → HeadOf s at (record { count = n; start = at + 3 })
-  head_call n h g e t =
-      record {
-        parts = rw (← b.is, e) t.is;
-        next = rw (lt-ltb at (length s) i, ← b.is, e) refl;
-        few = t.small;
-        onward = λ h. omega arith;
-        near = omega arith;
-      }
-
-  pub head_tuple : (n : ℕ) → 10 ≤ c → (c ≡ 10 → ⊥) → (c ≡ 11 → ⊥) → Byte s (at + 1) n → HeadOf s at (record { count = n; start = at + 2 })
-  head_tuple n h g e t =
-      let low : ltb c 10 ≡ false = le-ltb c 10 (omega arith) in
-      record {
-        parts = rw (← b.is, low, ne_eqb c 10 g, ne_eqb c 11 e) t.is;
-        next = rw (lt-ltb at (length s) i, ← b.is, low, ne_eqb c 10 g, ne_eqb c 11 e) refl;
-        few = t.small;
-        onward = λ h. omega arith;
-        near = omega arith;
-      }
 
 -- where the file ends
 pub head_end : (s : List ℕ) (at : ℕ) → length s ≤ at → HeadOf s at (record { count = 0; start = at })
@@ -171,7 +110,3 @@ going_done {s} {enums} {at} {es} {left} {next} g h = go g.rest g.many g.ends
     go : (rest : Exprs) → count rest ≡ left → at + exprs_size es ≡ next + exprs_size rest → next ≡ at + exprs_size es
     go nil m e = omega arith
     go (cons x xs) m e = absurd (h (omega arith))
-
--- the file does not end before them
-pub going_in : {s : List ℕ} {enums at : ℕ} {es : Exprs} {left next : ℕ} → Going s enums at es left next → 0 < left → length s ≤ next → ⊥
-going_in g h out = let t = going_turn g h in omega (arith, t.headed.inside)

@@ -1,8 +1,10 @@
 -- What the walks over expressions answer.
-use Rattle.std.specs.Prelude.{ℕ, zero, suc, ◌+◌, ◌≤◌, ◌<◌, Bool, true, false, cond, List, [], ◌∷◌, ◌++◌, ◌≡◌, ltb, eqb, length, get_or}
+use Rattle.std.specs.Prelude.{ℕ, zero, suc, ◌+◌, ◌≤◌, ◌<◌, cond, List, [], ◌∷◌, ◌++◌, ◌≡◌, ltb, eqb, length, get_or}
 use Rattle.ol_tables.specs.Heads.{parts_at, next_at}
 use Rattle.ol_tables.specs.declared.heads.Parts.{Parts}
+use Rattle.ol_tables.specs.declared.heads.Call.{Call}
 use Rattle.ol_tables.specs.declared.heads.NextCall.{NextCall}
+use Rattle.ol_tables.specs.declared.heads.NextCall.TheVariants as Nxt
 
 -- an expression's head, as the bytes tell it
 pub record HeadOf (s : List ℕ) (at : ℕ) (h : Parts) : Type 0 where
@@ -42,19 +44,19 @@ abbrev pub sites_at : List ℕ → ℕ → ℕ → List ℕ
 sites_at s left at = sites_by s (length s) left at
 
 -- a call is met: its callee, and behind its head the place and how many expressions are left
-pub record CallMet (s : List ℕ) (left at : ℕ) (r : NextCall) : Type 0 where
+pub record CallMet (s : List ℕ) (left at : ℕ) (r : Call) : Type 0 where
   pub is : sites_at s left at ≡ r.callee ∷ sites_at s r.left r.at
   pub ends : skip_at s left at ≡ skip_at s r.left r.at
   pub onward : at < r.at
   pub inside : at < length s
 
 -- no call is met: where the walk ends
-pub record NoCall (s : List ℕ) (left at : ℕ) (r : NextCall) : Type 0 where
+pub record NoCall (s : List ℕ) (left at end : ℕ) : Type 0 where
   pub none : sites_at s left at ≡ []
-  pub ends : skip_at s left at ≡ r.at
-  pub onward : at ≤ r.at
+  pub ends : skip_at s left at ≡ end
+  pub onward : at ≤ end
 
 -- what looking for the next call among so many expressions at `at` answers
-abbrev pub Calls : Bool → List ℕ → ℕ → ℕ → NextCall → Type 0
-Calls true s left at r = CallMet s left at r
-Calls false s left at r = NoCall s left at r
+abbrev pub Calls : List ℕ → ℕ → ℕ → NextCall → Type 0
+Calls s left at (Nxt.Found r) = CallMet s left at r
+Calls s left at (Nxt.End end) = NoCall s left at end

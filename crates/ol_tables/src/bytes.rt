@@ -4,18 +4,11 @@ ghost use Rattle.ol_tables.specs.Heads.{name_at};
 ghost use Rattle.ol_tables.specs.Heads.{Byte};
 ghost use Rattle.ol_tables.specs.Tables.{two_put};
 
-// A byte as a number.
-fn wide(b: u8) -> usize
-    ensures { result ≡ b }
-{
-    b as usize
-}
-
 // The byte at `at`.
 pub fn byte(s: &[u8], at: usize) -> usize
     ensures { Byte s.now at result }
 {
-    if at < s.len() { wide(s[at]) } else { 0 }
+    s.get(at).map_or(0, |b| usize::from(*b))
 }
 
 // The name at `at`.
@@ -33,16 +26,23 @@ pub fn name(s: &[u8], at: usize) -> usize
 pub fn entry(rows: &[usize], i: usize) -> usize
     ensures { result ≡ get_or rows.now i 0 }
 {
-    if i < rows.len() { rows[i] } else { 0 }
+    rows.get(i).copied().unwrap_or(0)
+}
+
+// Stores an entry.
+pub fn put<T: Copy>(rows: &mut [T], i: usize, n: T)
+    ensures { rows.new ≡ set rows.old i n }
+{
+    if i < rows.len() {
+        rows[i] = n;
+    }
 }
 
 // Stores a byte.
 pub fn put_byte(tab: &mut [u8], i: usize, b: u8)
     ensures { tab.new ≡ set tab.old i b }
 {
-    if i < tab.len() {
-        tab[i] = b;
-    }
+    put(tab, i, b);
 }
 
 // Stores a number in two bytes from p on.
@@ -52,14 +52,5 @@ pub fn put_two(tab: &mut [u8], p: usize, n: usize)
     if p < tab.len() {
         put_byte(tab, p, (n / 256 % 256) as u8);
         put_byte(tab, p + 1, (n % 256) as u8);
-    }
-}
-
-// Stores an entry.
-pub fn put(rows: &mut [usize], i: usize, n: usize)
-    ensures { rows.new ≡ set rows.old i n }
-{
-    if i < rows.len() {
-        rows[i] = n;
     }
 }

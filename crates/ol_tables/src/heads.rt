@@ -20,78 +20,25 @@ pub fn ty_size(file: &[u8], at: usize) -> usize
 }
 
 // The head of the expression at `at`, in the file. The numbers are those of parts_table and sizes_table
-// (specs/Heads); a constant array would be built anew at each use.
+// (specs/Heads).
 fn head_inside(file: &[u8], at: usize) -> Parts
     requires { at < length file.now }
     ensures { HeadOf file.now at result }
 {
-    let c = byte(file, at);
-    if c == 4 {
-        Parts {
-            count: 0,
-            start: at + 3,
-        }
-    } else if c == 6 {
-        Parts {
-            count: 2,
-            start: at + 2,
-        }
-    } else if c == 0 {
-        Parts {
-            count: 0,
-            start: at + 2,
-        }
-    } else if c == 5 {
-        Parts {
-            count: 1,
-            start: at + 2,
-        }
-    } else if c == 1 {
-        Parts {
-            count: 0,
-            start: at + 9,
-        }
-    } else if c == 2 {
-        Parts {
-            count: 0,
-            start: at + 9,
-        }
-    } else if c == 3 {
-        Parts {
-            count: 0,
-            start: at + 2,
-        }
-    } else if c == 7 {
-        Parts {
-            count: 3,
-            start: at + 1,
-        }
-    } else if c == 8 {
-        Parts {
-            count: 1,
-            start: at + 1,
-        }
-    } else if c == 9 {
-        Parts {
-            count: 2,
-            start: at + 1,
-        }
-    } else if c == 10 {
-        Parts {
-            count: 1,
-            start: at + 1 + ty_size(file, at + 1),
-        }
-    } else if c == 11 {
-        Parts {
-            count: byte(file, at + 2),
-            start: at + 3,
-        }
-    } else {
-        Parts {
-            count: byte(file, at + 1),
-            start: at + 2,
-        }
-    }
+    let (count, start) = match file[at] {
+        0 | 3 => (0, at + 2),
+        1 | 2 => (0, at + 9),
+        4 => (0, at + 3),
+        5 => (1, at + 2),
+        6 => (2, at + 2),
+        7 => (3, at + 1),
+        8 => (1, at + 1),
+        9 => (2, at + 1),
+        10 => (1, at + 1 + ty_size(file, at + 1)),
+        11 => (byte(file, at + 2), at + 3),
+        _ => (byte(file, at + 1), at + 2),
+    };
+    Parts { count, start }
 }
 
 // The head of the expression at `at`; where the file ends, no part and no byte.
@@ -114,13 +61,7 @@ pub fn skip(file: &[u8], parts: usize, at: usize) -> usize
 {
     let mut next = at;
     let mut left = parts;
-    while 0 < left {
-        if file.len() <= next {
-            return next;
-        }
-        if file.len() < left {
-            return next;
-        }
+    while 0 < left && next < file.len() && left <= file.len() {
         let h = head(file, next);
         left = left - 1 + h.count;
         next = h.start;
@@ -128,57 +69,39 @@ pub fn skip(file: &[u8], parts: usize, at: usize) -> usize
     next
 }
 
-// The next call, if one was found: its callee, and what is left behind its head: the place and how many
-// expressions. If none was found, the place is the end.
+// A call: its callee, and what is left behind its head: the place and how many expressions.
 #[derive(Clone, Copy)]
-pub struct NextCall {
-    pub found: bool,
+pub struct Call {
     pub callee: usize,
     pub at: usize,
     pub left: usize,
 }
 
+// What looking for the next call finds: a call, or where the expressions end.
+#[derive(Clone, Copy)]
+pub enum NextCall {
+    Found(Call),
+    End(usize),
+}
+
 // Looks for the next call among the expressions that stand at `at`, so many one after the other.
 pub fn next_call(file: &[u8], parts: usize, at: usize) -> NextCall
-    ensures { Calls result.found file.now parts at result }
+    ensures { Calls file.now parts at result }
 {
     let mut next = at;
     let mut left = parts;
-    while 0 < left {
-        if file.len() <= next {
-            return NextCall {
-                found: false,
-                callee: 0,
-                at: next,
-                left: 0,
-            };
-        }
-        if file.len() < left {
-            return NextCall {
-                found: false,
-                callee: 0,
-                at: next,
-                left: 0,
-            };
-        }
+    while 0 < left && next < file.len() && left <= file.len() {
         let h = head(file, next);
-        let start = h.start;
         let rest = left - 1 + h.count;
         if byte(file, next) == 11 {
-            return NextCall {
-                found: true,
+            return NextCall::Found(Call {
                 callee: byte(file, next + 1),
-                at: start,
+                at: h.start,
                 left: rest,
-            };
+            });
         }
         left = rest;
-        next = start;
+        next = h.start;
     }
-    NextCall {
-        found: false,
-        callee: 0,
-        at: next,
-        left: 0,
-    }
+    NextCall::End(next)
 }

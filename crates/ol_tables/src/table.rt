@@ -7,7 +7,7 @@ ghost use Rattle.ol_tables.specs.Tables.{row_at, first_at};
 ghost use Rattle.ol_tables.specs.Table.{rows_of, types_at, number_put, Packs};
 
 use super::bytes::{byte, name};
-use super::tables::{FIRSTS, ROWS};
+use super::tables::{COLUMNS, FIRSTS, ROWS};
 
 // Where its parts start, and its length for a small file and for any.
 pub const KNOWN: usize = 816; // how many constants have their cells here
@@ -25,6 +25,7 @@ pub const SMALL_TAB: usize = 6065;
 pub const LARGE_TAB: usize = 69553;
 
 // Number i of the rows; 0 past their end.
+#[tactic(auto, using(crate::proofs::TableLaws::rows_get, crate::proofs::TableLaws::rows_past))]
 fn number_at(tab: &[u8], i: usize) -> usize
     ensures { result ≡ get_or (rows_of tab.now) i 0 }
 {
@@ -37,21 +38,19 @@ fn number_at(tab: &[u8], i: usize) -> usize
 }
 
 // Column j of node k's row; 0 past the end.
+#[tactic(auto, using(crate::proofs::TableLaws::rows_past))]
 pub fn column(tab: &[u8], k: usize, j: usize) -> usize
     ensures { result ≡ row_at (rows_of tab.now) k j }
 {
-    if k < ROWS {
-        if j < ROWS {
-            number_at(tab, k * 8 + j)
-        } else {
-            0
-        }
+    if k < ROWS && j < ROWS {
+        number_at(tab, k * COLUMNS + j)
     } else {
         0
     }
 }
 
 // The first variant of enum e; 0 past the end.
+#[tactic(auto, using(crate::proofs::TableLaws::rows_past))]
 pub fn first_variant(tab: &[u8], e: usize) -> usize
     ensures { result ≡ first_at (rows_of tab.now) e }
 {
@@ -68,11 +67,7 @@ pub fn types_of(tab: &[u8], k: usize) -> usize
     ensures { (result ≡ types_at tab.now k) × (result < 9300000000000000000) }
 {
     let at = name(tab, NODES + 2 * k);
-    if SLOTS < tab.len() {
-        SLOTS + (tab.len() - SLOTS) / 2 + at
-    } else {
-        SLOTS + at
-    }
+    SLOTS + tab.len().saturating_sub(SLOTS) / 2 + at
 }
 
 // Stores number i.
@@ -93,9 +88,7 @@ pub fn pack(rows: &[usize], first: usize, last: usize, tab: &mut [u8])
     requires { (first ≤ last) × (last ≤ 272) × (last ≤ length rows.now) × (816 ≤ length tab.old) × ((i : ℕ) → first ≤ i → i < last → get_or rows.now i 0 < 16777216) }
     ensures { Packs rows.now first last tab.old tab.new }
 {
-    let mut i = first;
-    while i < last {
+    for i in first..last {
         put_number(tab, i, rows[i]);
-        i += 1;
     }
 }

@@ -37,12 +37,8 @@ pub const MOST_CELLS: usize = 1008;
 pub fn row(rows: &[usize], k: usize, j: usize) -> usize
     ensures { result ≡ row_at rows.now k j }
 {
-    if k < rows.len() {
-        if j < rows.len() {
-            entry(rows, k * 8 + j)
-        } else {
-            0
-        }
+    if k < rows.len() && j < rows.len() {
+        entry(rows, k * COLUMNS + j)
     } else {
         0
     }

@@ -1,17 +1,18 @@
 -- Types by their codes: the cases of a code, and what fitting, casting and the tests of inputs make of each.
 use mathlib.Core.Path.{◌≡◌, refl, sym, ap, ◌∙◌}
 use mathlib.Core.Bool.{Bool, true, false, not, ◌&&◌, ◌||◌}
-use mathlib.Core.List.{List, [], ◌∷◌}
-use mathlib.Core.Option.{Option, none, some}
+use mathlib.Core.List.{List, []}
+use mathlib.Core.Option.{none}
 use Prim.Native.Nat.{ℕ, zero, suc, ◌≤◌, ◌<◌}
 use native.Mathlib.Omega.{arith}
-use borrow.Author.Tests.{le-leb, lt-leb, ne_eqb}
-use lib.Dec.{leb, eqb}
-use lib.Ieee.{Float}
-use lib.ListN.{get_or, get_elem?}
+use lib.Dec.{eqb}
+use lib.Ieee.{Float, Format, binary32, binary64}
+use lib.IntN.{ℤ}
+use lib.ListN.{get_or}
 use Rattle.ol_spec.specs.Syntax.{Ty, bool, int, float32, float64, char, enum}
 use Rattle.ol_spec.specs.Read.{TyCode, bool_t, float32_t, float64_t, char_t, enum_t, int_t, ty_codes}
-use Rattle.ol_spec.specs.Types.{fit, cast_to, cast_real, in_type}
+use Rattle.ol_spec.specs.Real.{by_precision, of_int, round_single}
+use Rattle.ol_spec.specs.Types.{fit, fit_single, fit_double, cast_to, cast_real, in_type}
 use Rattle.ol_spec.specs.Lists.{member}
 use Rattle.ol_spec.specs.Cell.{tag, is_variant}
 use Rattle.ol_spec.specs.declared.Value.{Value}
@@ -19,7 +20,7 @@ use Rattle.ol_spec.specs.declared.Value.TheVariants as Val
 use Rattle.ol_spec.specs.declared.Outcome.TheVariants as Out
 use Rattle.ol_spec.specs.declared.Cause.TheVariants as Why
 use Rattle.ol_value.specs.declared.narrowing.TypeRow.{TypeRow}
-use Rattle.ol_value.specs.Codes.{row_says, row_for, ty_from, ty_of, is_number, name_in, in_kind}
+use Rattle.ol_value.specs.Codes.{row_says, row_for, ty_from, ty_of, name_in, in_kind}
 use Rattle.ol_value.proofs.Backs.{no_true}
 use Rattle.ol_value.proofs.Widths.{no_some, rangeless}
 
@@ -116,43 +117,21 @@ cast_other float64 v o = absurd o
 cast_other char v o = refl
 cast_other (enum e) v o = refl
 
--- a cast to a real: of a number, and of another value
-pub cast_number : (f : Value → Value) (v : Value) → is_number v ≡ true → Out.Value (f v) ≡ cast_real f v
-cast_number f (Val.Bool b) t = no_true t
-cast_number f (Val.Int i) t = refl
-cast_number f (Val.Float x) t = refl
-cast_number f (Val.Float32 x) t = refl
-cast_number f (Val.Enum v) t = no_true t
+-- a cast to a real, by the format and by what the number is
+module _ (x : Float) where
+  pub int_cast : (p : Format) (i : ℤ) → x ≡ of_int p i → Out.Value (by_precision p (Val.Float32 x) (Val.Float x)) ≡ cast_real (by_precision p fit_single fit_double) (Val.Int i)
+  int_cast binary32 i e = ap (λ y. Out.Value (Val.Float32 y)) e
+  int_cast binary64 i e = ap (λ y. Out.Value (Val.Float y)) e
 
-pub cast_not : (f : Value → Value) (v : Value) → is_number v ≡ false → Out.Failure Why.Other ≡ cast_real f v
-cast_not f (Val.Bool b) t = refl
-cast_not f (Val.Int i) t = no_true (sym t)
-cast_not f (Val.Float x) t = no_true (sym t)
-cast_not f (Val.Float32 x) t = no_true (sym t)
-cast_not f (Val.Enum v) t = refl
+  pub double_cast : (p : Format) (y : Float) → x ≡ by_precision p (round_single y) y → Out.Value (by_precision p (Val.Float32 x) (Val.Float x)) ≡ cast_real (by_precision p fit_single fit_double) (Val.Float y)
+  double_cast binary32 y e = ap (λ y. Out.Value (Val.Float32 y)) e
+  double_cast binary64 y e = ap (λ y. Out.Value (Val.Float y)) e
 
--- ---- the tests of inputs, by the kind of the value
+  pub single_cast : (p : Format) (y : Float) → x ≡ y → Out.Value (by_precision p (Val.Float32 x) (Val.Float x)) ≡ cast_real (by_precision p fit_single fit_double) (Val.Float32 y)
+  single_cast binary32 y e = ap (λ y. Out.Value (Val.Float32 y)) e
+  single_cast binary64 y e = ap (λ y. Out.Value (Val.Float y)) e
 
-module _ (e : ℕ) where
-  pub bool_in : (b : Bool) (code : ℕ) → eqb code 0 ≡ in_kind (ty_of code e) (Val.Bool b)
-  bool_in b =
-      by_code (λ c t. eqb c 0 ≡ in_kind (ty_from e t) (Val.Bool b))
-      refl (λ c p q. ne_eqb c 0 (λ z. omega arith)) refl refl refl (λ c p. ne_eqb c 0 (λ z. omega arith))
-
-  pub float_in : (x : Float) (code : ℕ) → eqb code 10 ≡ in_kind (ty_of code e) (Val.Float x)
-  float_in x =
-      by_code (λ c t. eqb c 10 ≡ in_kind (ty_from e t) (Val.Float x))
-      refl (λ c p q. ne_eqb c 10 (λ z. omega arith)) refl refl refl (λ c p. ne_eqb c 10 (λ z. omega arith))
-
-  pub single_in : (x : Float) (code : ℕ) → eqb code 9 ≡ in_kind (ty_of code e) (Val.Float32 x)
-  single_in x =
-      by_code (λ c t. eqb c 9 ≡ in_kind (ty_from e t) (Val.Float32 x))
-      refl (λ c p q. ne_eqb c 9 (λ z. omega arith)) refl refl refl (λ c p. ne_eqb c 9 (λ z. omega arith))
-
-  pub enum_in : (v code : ℕ) → leb 12 code ≡ in_kind (ty_of code e) (Val.Enum v)
-  enum_in v =
-      by_code (λ c t. leb 12 c ≡ in_kind (ty_from e t) (Val.Enum v))
-      refl (λ c p q. lt-leb 12 c (omega arith)) refl refl refl (λ c p. le-leb 12 c p)
+-- ---- the tests of inputs
 
 -- what is left of `in_type` where `in_type` has answered: an enum's name is one of its variants
 pub in_type_is : (enums : List (List ℕ)) (code e : ℕ) (v : Value) → in_type enums (ty_of code e) v ≡ in_kind (ty_of code e) v && is_variant (get_or enums e []) v
@@ -197,16 +176,3 @@ variant_is ns (Val.Int i) = refl
 variant_is ns (Val.Float x) = refl
 variant_is ns (Val.Float32 x) = refl
 variant_is ns (Val.Enum v) = refl
-
--- ---- at a code that the reader knows
-
-entry_known : {A : Type 0} (l : List A) (n : ℕ) (a d : A) → get_elem? l n ≡ some a → get_or l n d ≡ a
-entry_known [] n a d e = absurd (none_some e)
-  where
-    none_some : ◌≡◌ {A = Option _} none (some a) → ⊥
-    none_some p = let z : ◌≡◌ {A = ℕ} 0 1 = cc in omega arith
-entry_known (x ∷ l) zero a d e = cc
-entry_known (x ∷ l) (suc n) a d e = entry_known l n a d e
-
-pub ty_known : (code : ℕ) {t : TyCode} → get_elem? ty_codes code ≡ some t → (e : ℕ) → ty_of code e ≡ ty_from e t
-ty_known code {t} h e = ap (ty_from e) (entry_known ty_codes code t enum_t h)

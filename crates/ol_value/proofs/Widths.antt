@@ -3,19 +3,19 @@ use mathlib.Core.Path.{◌≡◌, refl, sym, ap, subst, ◌∙◌}
 use mathlib.Core.Bool.{Bool, true, false, cond}
 use mathlib.Core.List.{List, [], ◌∷◌, map}
 use mathlib.Core.Option.{Option, none, some}
-use Prim.Native.Nat.{ℕ, zero, suc, ◌-◌, ◌*◌, ◌%◌, ◌^◌, ◌≤◌, ◌<◌}
-use native.Mathlib.Nat.{mod-eq_of_lt, mod-lt, one-mul, zero-add}
+use Prim.Native.Nat.{ℕ, zero, suc, ◌-◌, ◌*◌, ◌+◌, ◌/◌, ◌%◌, ◌^◌, ◌≤◌, ◌<◌}
+use native.Mathlib.Nat.{mod-eq_of_lt, mod-lt, one-mul, mul-suc, mul-sub, mul-le-mul_left, div-add-mod, mul-add-mod_self_left}
+use Rattle.std.proofs.lemmas.Nat.{pow-add}
 use native.Mathlib.Omega.{arith}
-use borrow.Author.Tests.{lt-ltb, le-ltb, eq-eqb, ne_eqb}
+use native.Mathlib.Decide.{dec_le}
+use borrow.Author.Tests.{eq-eqb, ne_eqb}
 use lib.Dec.{eqb}
 use lib.ListN.{length, get_or, get_or-eq_default}
 use lib.Pow.{pow_pos, pow_mono, pow-lt}
-use lib.IntN.{ℤ, pos, negsuc, ◌-ℤ◌}
-use lib.Signed.{mag, le_z}
+use lib.IntN.{ℤ, pos, negsuc}
 use mir.Syntax.{w64}
-use mir.Val.{SFits, to_z}
-use mir.Facts.{to_z-of_z, to_z_pos}
-use Rattle.ol_spec.specs.Numbers.{residue, signed}
+use mir.Val.{SFits, of_z}
+use Rattle.ol_spec.specs.Numbers.{residue}
 use Rattle.ol_spec.specs.Syntax.{Ty, bool, int, float32, float64, char, enum}
 use Rattle.ol_spec.specs.Read.{enum_t, ty_codes}
 use Rattle.ol_spec.specs.Types.{IntTy, signed_to, unsigned_to, whole, int_tys, int_ty, narrow, in_range, default, fit, cast_int, cast_to}
@@ -23,8 +23,7 @@ use Rattle.ol_spec.specs.declared.Value.{Value}
 use Rattle.ol_spec.specs.declared.Value.TheVariants as Val
 use Rattle.ol_value.specs.declared.narrowing.TypeRow.{TypeRow}
 use Rattle.ol_value.specs.Codes.{int_ty_of, Narrow, row_of, row_says, row_for, ty_from, ty_of, in_kind}
-use Rattle.ol_value.proofs.Backs.{back, no_true}
-use Rattle.ol_value.proofs.Magnitudes.{natural, negative}
+use Rattle.ol_value.proofs.Backs.{no_true}
 
 -- ---- the table
 
@@ -124,37 +123,41 @@ module _ (t : TypeRow) where
   pub rangeless : (ty : Ty) → row_says t ≡ row_for ty → t.bits ≡ 0 → (row_for ty).0 ≡ none
   rangeless ty h z = sym (rw (eq-eqb t.bits 0 z) at (ap (λ p. p.0) h))
 
-  pub out_row : (ty : Ty) → row_says t ≡ row_for ty → t.bits ≡ 0 → (i : ℤ) → false ≡ in_kind ty (Val.Int i)
-  out_row ty h z i = go ty (rangeless ty h z)
-    where
-      go : (ty : Ty) → (row_for ty).0 ≡ none → false ≡ in_kind ty (Val.Int i)
-      go bool r = refl
-      go (int c) r = no_some (sym r)
-      go float32 r = refl
-      go float64 r = refl
-      go char r = no_some (sym r)
-      go (enum e) r = refl
-
 -- ---- powers
 
 pub power_is : (b : ℕ) → b < 64 → 1 * 2 ^ b % 2 ^ 64 ≡ 2 ^ b
 power_is b h = rw (one-mul (2 ^ b)) (mod-eq_of_lt {m = 2 ^ 64} (pow-lt h))
-
-pub power_pos : (b : ℕ) → 0 < 2 ^ b
-power_pos b = pow_pos b
 
 pub power_32 : {b : ℕ} → b ≤ 32 → 2 ^ b ≤ 2 ^ 32
 power_32 h = pow_mono h
 
 -- ---- a number's bits
 
-pub residue_natural : (b : ℕ) (i : ℤ) → le_z (pos 0) i ≡ true → mag i % 2 ^ b ≡ residue b i
-residue_natural b i t = sym (ap (residue b) (natural i t))
+-- a number's low bits are those of its 64 bits
+negative_residue : (b n : ℕ) → b ≤ 32 → n < 2 ^ 63 → (2 ^ 64 - suc n) % 2 ^ b ≡ 2 ^ b - suc (n % 2 ^ b)
+negative_residue b n h l =
+    let p = 2 ^ b in
+    let k = 2 ^ (64 - b) in
+    let q = n / p in
+    let r = n % p in
+    let below : r < p = mod-lt n (pow_pos b) in
+    let whole_width : b + (64 - b) ≡ 64 = omega arith in
+    let all : p * k ≡ 2 ^ 64 = sym (pow-add 2 b (64 - b)) ∙ ap (λ e. 2 ^ e) whole_width in
+    let parts : p * q + r ≡ n = div-add-mod n p in
+    let high : p * suc q ≤ p * k = mul-le-mul_left p (above (dec_le (suc q) k)) in
+    let split : 2 ^ 64 - suc n ≡ p * (k - suc q) + (p - suc r) = omega (arith, mul-sub p k (suc q), mul-suc p q, below, all, parts, high) in
+    rw (split, mul-add-mod_self_left p (k - suc q) (p - suc r)) (mod-eq_of_lt (omega arith))
+  where
+    above : Dec (suc (n / 2 ^ b) ≤ 2 ^ (64 - b)) → suc (n / 2 ^ b) ≤ 2 ^ (64 - b)
+    above (yes p) = p
+    above (no m) =
+        let whole_width : b + (64 - b) ≡ 64 = omega arith in
+        let all : 2 ^ b * 2 ^ (64 - b) ≡ 2 ^ 64 = sym (pow-add 2 b (64 - b)) ∙ ap (λ e. 2 ^ e) whole_width in
+        absurd (omega (arith, all, div-add-mod n (2 ^ b), mul-le-mul_left {m = 2 ^ (64 - b)} {n = n / 2 ^ b} (2 ^ b) (omega (arith, m)), l))
 
-pub residue_negative : (b : ℕ) (i : ℤ) → le_z (pos 0) i ≡ false → 2 ^ b - 1 - mag i % 2 ^ b ≡ residue b i
-residue_negative b i t =
-    let e : 2 ^ b - 1 - mag i % 2 ^ b ≡ 2 ^ b - suc (mag i % 2 ^ b) = omega arith in
-    e ∙ sym (ap (residue b) (negative i t))
+pub residue_is : (b : ℕ) (i : ℤ) → b ≤ 32 → SFits w64 i → of_z w64 i % 2 ^ b ≡ residue b i
+residue_is b (pos n) h f = refl
+residue_is b (negsuc n) h f = negative_residue b n h f.sfits
 
 pub residue_lt : (b : ℕ) (i : ℤ) → residue b i < 2 ^ b
 residue_lt b (pos n) = mod-lt n (pow_pos b)
@@ -168,27 +171,6 @@ natural_fits h = record { sfits = h }
 -- of at most 32 bits
 pub few_bits : {b n : ℕ} → b ≤ 32 → n < 2 ^ b → n < 2 ^ 63
 few_bits h l = omega (arith, power_32 h)
-
-pub rest_small : (b n : ℕ) → b ≤ 32 → 2 ^ b - 1 - n < 2 ^ 63
-rest_small b n h = omega (arith, power_32 h)
-
-pub signed_low : (b n : ℕ) → n < 2 ^ 63 → n < 2 ^ (b - 1) → to_z w64 n ≡ signed b n
-signed_low b n h t = to_z_pos w64 {n = n} h ∙ rw (lt-ltb n (2 ^ (b - 1)) t)
-
--- the upper half: -1 less the rest to the highest bits
-module _ (r : ℕ) (h : r < 2 ^ 63) where
-  minus_one_minus : (k : ℕ) → negsuc 0 -ℤ pos k ≡ negsuc k
-  minus_one_minus zero = refl
-  minus_one_minus (suc k) = ap (λ m. negsuc (suc m)) (zero-add k)
-
-  negated : negsuc 0 -ℤ to_z w64 r ≡ negsuc r
-  negated = ap (λ z. negsuc 0 -ℤ z) (to_z_pos w64 {n = r} h) ∙ minus_one_minus r
-
-  pub negated_fits : SFits w64 (negsuc 0 -ℤ to_z w64 r)
-  negated_fits = subst (SFits w64) (sym negated) (record { sfits = h })
-
-  pub signed_high : (b n : ℕ) → r ≡ 2 ^ b - suc n → 2 ^ (b - 1) ≤ n → back (negsuc 0 -ℤ to_z w64 r) ≡ signed b n
-  signed_high b n e t = to_z-of_z negated_fits ∙ negated ∙ ap negsuc e ∙ rw (le-ltb n (2 ^ (b - 1)) t)
 
 -- ---- an entry, by its tests
 

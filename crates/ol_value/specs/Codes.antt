@@ -1,5 +1,6 @@
 -- Types and operators by their codes.
-use Rattle.std.specs.Prelude.{ℕ, ◌-◌, ◌%◌, ◌/◌, ◌<◌, ◌≤◌, Bool, true, false, cond, [], eqb, get_or}
+use Rattle.std.specs.Prelude as Maybe
+use Rattle.std.specs.Prelude.{◌≡◌, Some, None, Result, Ok, Err, ℕ, ◌-◌, ◌%◌, ◌/◌, ◌<◌, ◌≤◌, Bool, true, false, cond, [], eqb, get_or}
 use Rattle.std.proofs.Math.Option.{Option, none, some}
 use Rattle.std.proofs.Math.ListN.{get_elem?}
 use Rattle.ol_spec.specs.Lists.{maybe}
@@ -7,16 +8,20 @@ use Rattle.ol_spec.specs.Syntax.{Ty, bool, int, float32, float64, char, enum}
 use Rattle.ol_spec.specs.Read.{TyCode, bool_t, float32_t, float64_t, char_t, enum_t, int_t, ty_codes, unary_ops, bin_ops}
 use Rattle.ol_spec.specs.Types.{IntTy, signed_to, unsigned_to, whole, int_ty, int_in}
 use Rattle.ol_spec.specs.Cell.{tag}
-use Rattle.ol_spec.specs.Real.{single, double}
-use Rattle.ol_spec.specs.Operators.{unary_of, Pair, bools, ints, reals, names, unlike, pair, on_pair}
+use Rattle.ol_spec.specs.Syntax.{UnaryOp, Not, Neg, BinOp, And, Or, Xor, Implies, Eq, Neq, Lt, Le, Gt, Ge, Add, Sub, Mul, Div, Mod, BitAnd, BitOr, BitXor, Shl, Shr}
+use Rattle.ol_spec.specs.Real.{Real, widen}
+use Rattle.ol_spec.specs.Operators.{unary_of, Pair, pair, on_pair}
 use Rattle.ol_spec.specs.declared.Value.{Value}
 use Rattle.ol_spec.specs.declared.Value.TheVariants as Val
 use Rattle.ol_spec.specs.declared.Outcome.{Outcome}
 use Rattle.ol_spec.specs.declared.Outcome.TheVariants as Out
+use Rattle.ol_spec.specs.declared.Cause.{Cause}
 use Rattle.ol_spec.specs.declared.Cause.TheVariants as Why
 use Rattle.ol_value.specs.declared.narrowing.TypeRow.{TypeRow}
-use Rattle.ol_value.specs.declared.pairs.Operands.{Operands}
-use Rattle.ol_value.specs.declared.pairs.Operands.TheVariants as Opd
+use Rattle.ol_value.specs.declared.codes.Unary.{Unary}
+use Rattle.ol_value.specs.declared.codes.Unary.TheVariants as One
+use Rattle.ol_value.specs.declared.codes.Binary.{Binary}
+use Rattle.ol_value.specs.declared.codes.Binary.TheVariants as Two
 
 -- ---- what the types make of integers
 
@@ -61,13 +66,6 @@ ty_from e (int_t c) = int c
 abbrev pub ty_of : ℕ → ℕ → Ty
 ty_of code e = ty_from e (get_or ty_codes code enum_t)
 
-abbrev pub is_number : Value → Bool
-is_number (Val.Bool b) = false
-is_number (Val.Int i) = true
-is_number (Val.Float x) = true
-is_number (Val.Float32 x) = true
-is_number (Val.Enum v) = false
-
 -- an Enum's name
 abbrev pub name_in : Value → ℕ
 name_in (Val.Bool b) = 0
@@ -87,14 +85,49 @@ in_kind (enum e) v = eqb (tag v) 4
 
 -- ---- operators
 
--- what two operands are, by their kinds
-abbrev pub pair_of : Operands → Pair
-pair_of (Opd.Bools a b) = bools a b
-pair_of (Opd.Ints i j) = ints i j
-pair_of (Opd.Singles x y) = reals single x y
-pair_of (Opd.Doubles x y) = reals double x y
-pair_of (Opd.Names v w) = names v w
-pair_of Opd.Unlike = unlike
+-- a real as a double
+abbrev pub as_double : Value → Maybe.Option Real
+as_double (Val.Bool b) = None
+as_double (Val.Int i) = None
+as_double (Val.Float x) = Some x
+as_double (Val.Float32 x) = Some (widen x)
+as_double (Val.Enum v) = None
+
+-- the operators, as the definitions have them
+abbrev pub one_of : Unary → UnaryOp
+one_of One.Not = Not
+one_of One.Neg = Neg
+
+abbrev pub op_of : Binary → BinOp
+op_of Two.And = And
+op_of Two.Or = Or
+op_of Two.Xor = Xor
+op_of Two.Implies = Implies
+op_of Two.Eq = Eq
+op_of Two.Neq = Neq
+op_of Two.Lt = Lt
+op_of Two.Le = Le
+op_of Two.Gt = Gt
+op_of Two.Ge = Ge
+op_of Two.Add = Add
+op_of Two.Sub = Sub
+op_of Two.Mul = Mul
+op_of Two.Div = Div
+op_of Two.Mod = Mod
+op_of Two.BitAnd = BitAnd
+op_of Two.BitOr = BitOr
+op_of Two.BitXor = BitXor
+op_of Two.Shl = Shl
+op_of Two.Shr = Shr
+
+-- the operator that a code stands for, if there is one
+abbrev pub UnaryDecodes : ℕ → Result Unary Cause → Type 0
+UnaryDecodes code (Ok op) = get_elem? unary_ops code ≡ some (one_of op)
+UnaryDecodes code (Err c) = (get_elem? unary_ops code ≡ none) × (c ≡ Why.Other)
+
+abbrev pub BinaryDecodes : ℕ → Result Binary Cause → Type 0
+BinaryDecodes code (Ok op) = get_elem? bin_ops code ≡ some (op_of op)
+BinaryDecodes code (Err c) = (get_elem? bin_ops code ≡ none) × (c ≡ Why.Other)
 
 -- by the operator's code; an unknown one fails, and a file with one is turned back
 abbrev pub unary_by : ℕ → Value → Outcome

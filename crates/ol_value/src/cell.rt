@@ -1,82 +1,28 @@
 // Cells: a value as nine bytes, its tag and then a 64-bit payload, big-endian.
-ghost use Rattle.std.specs.Prelude.{◌≡◌, ◌++◌, ◌+◌, ◌%◌, ◌≤◌, ◌<◌, eqb, length, take, drop};
+ghost use Rattle.std.specs.Prelude.{◌≡◌, ◌++◌, ◌+◌, ◌≤◌, eqb, length, take, drop};
 ghost use Rattle.ol_spec.specs.Lists.{same};
-ghost use Rattle.ol_spec.specs.Numbers.{bytes_of, number_of, residue, signed};
+ghost use Rattle.ol_spec.specs.Numbers.{number_of};
 ghost use Rattle.ol_spec.specs.Cell.{tag, payload, cell, value_by, value_of};
 ghost use Rattle.ol_value.specs.Codes.{name_in};
 
-use crate::ints::magnitude;
 use ol_real::{f32_bits, f32_of_bits, f64_bits, f64_of_bits};
 use ol_spec::Value;
 
-// A byte as a number.
-fn wide(b: u8) -> u64
-    ensures { (result ≡ b) × (result < 256) }
-{
-    b as u64
-}
-
-// A number's last byte.
-fn low_byte(n: u64) -> u8
-    ensures { result ≡ n % 256 }
-{
-    (n % 256) as u8
-}
-
-// The 32-bit number at an offset.
-fn read_half(bytes: &[u8], at: usize) -> u64
-    requires { at + 4 ≤ length bytes.now }
-    ensures { (result ≡ number_of 0 (take 4 (drop at bytes.now))) × (result < 4294967296) }
-{
-    let a = wide(bytes[at]);
-    let b = wide(bytes[at + 1]);
-    let c = wide(bytes[at + 2]);
-    let d = wide(bytes[at + 3]);
-    a * 16777216 + b * 65536 + c * 256 + d
-}
-
-// The 64-bit number at an offset. Both halves are sums of bytes times powers of 256, which the
-// compiler makes one load.
+// The 64-bit number at an offset. The compiler makes one load of the eight.
 fn read_number(bytes: &[u8], at: usize) -> u64
     requires { at + 8 ≤ length bytes.now }
     ensures { result ≡ number_of 0 (take 8 (drop at bytes.now)) }
 {
-    let a = read_half(bytes, at);
-    let b = read_half(bytes, at + 4);
-    a * 4294967296 + b
-}
-
-// Writes a number's eight bytes at an offset, the last one first.
-fn write_number(n: u64, out: &mut [u8], at: usize)
-    requires { at + 8 ≤ length out.old }
-    ensures { out.new ≡ take at out.old ++ (bytes_of 8 n ++ drop (at + 8) out.old) }
-{
-    let mut m = n;
-    let mut j: usize = 0;
-    while j < 8 {
-        out[at + 7 - j] = low_byte(m);
-        m = m / 256;
-        j += 1;
-    }
-}
-
-// The 64 bits of an integer.
-fn int_bits(i: i64) -> u64
-    ensures { result ≡ residue 64 i }
-{
-    let m = magnitude(i);
-    if 0 <= i { m } else { 18446744073709551615 - m }
-}
-
-// 64 bits, read as a signed integer.
-fn int_of_bits(p: u64) -> i64
-    ensures { result ≡ signed 64 p }
-{
-    if p < 9223372036854775808 {
-        p as i64
-    } else {
-        -1 - (18446744073709551615 - p) as i64
-    }
+    u64::from_be_bytes([
+        bytes[at],
+        bytes[at + 1],
+        bytes[at + 2],
+        bytes[at + 3],
+        bytes[at + 4],
+        bytes[at + 5],
+        bytes[at + 6],
+        bytes[at + 7],
+    ])
 }
 
 // A value's tag: 0 Bool, 1 Int, 2 Float, 3 Float32, 4 Enum.
@@ -97,11 +43,11 @@ pub fn payload_of(v: Value) -> u64
     ensures { result ≡ payload v }
 {
     match v {
-        Value::Bool(b) => b as u64,
-        Value::Int(i) => int_bits(i),
+        Value::Bool(b) => u64::from(b),
+        Value::Int(i) => i.cast_unsigned(),
         Value::Float(x) => f64_bits(x),
-        Value::Float32(x) => f32_bits(x) as u64,
-        Value::Enum(w) => w as u64,
+        Value::Float32(x) => u64::from(f32_bits(x)),
+        Value::Enum(w) => u64::from(w),
     }
 }
 
@@ -111,7 +57,7 @@ fn value_by(t: u8, p: u64) -> Value
 {
     match t {
         0 => Value::Bool(p == 1),
-        1 => Value::Int(int_of_bits(p)),
+        1 => Value::Int(p.cast_signed()),
         2 => Value::Float(f64_of_bits(p)),
         3 => Value::Float32(f32_of_bits((p % 4294967296) as u32)),
         _ => Value::Enum((p % 65536) as u16),
@@ -146,25 +92,22 @@ pub fn write_cell(v: Value, out: &mut [u8], at: usize)
     ensures { out.new ≡ take at out.old ++ (cell v ++ drop (at + 9) out.old) }
 {
     out[at] = tag_of(v);
-    write_number(payload_of(v), out, at + 1);
+    out[at + 1..at + 9].copy_from_slice(&payload_of(v).to_be_bytes());
 }
 
 // Whether a value is an Enum.
 pub fn is_enum(v: Value) -> bool
     ensures { result ≡ eqb (tag v) 4 }
 {
-    tag_of(v) == 4
+    matches!(v, Value::Enum(_))
 }
 
-// An Enum's name; of another value 0.
+// An Enum's name; of another value 0. No Option: callers in other crates have the number, behind `is_enum`.
 pub fn name_of(v: Value) -> u16
     ensures { result ≡ name_in v }
 {
     match v {
-        Value::Bool(_) => 0,
-        Value::Int(_) => 0,
-        Value::Float(_) => 0,
-        Value::Float32(_) => 0,
         Value::Enum(w) => w,
+        _ => 0,
     }
 }

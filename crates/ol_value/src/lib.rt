@@ -1,10 +1,9 @@
 // Everything that evaluation does to single values: document 01, "The cell".
 #![tactic(auto)]
 
-pub mod causes;
 pub mod cell;
-mod ints;
+mod codes;
 mod narrowing;
 pub mod operators;
-mod pairs;
+mod reals;
 pub mod types;

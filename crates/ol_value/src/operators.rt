@@ -1,15 +1,16 @@
-// The operators on values: document 01's `eval_binary`, and its unary operators. An operator is its
-// code; both sides have been evaluated.
-ghost use Rattle.std.specs.Prelude.{◌≡◌, ◌≤◌};
-ghost use Rattle.ol_spec.specs.Real.{single, double};
-ghost use Rattle.ol_spec.specs.Operators.{not_of, neg_of, div_real, bool_out, bools, ints, reals, names, unlike};
-ghost use Rattle.ol_value.specs.Codes.{unary_by, pair_by, binary_by};
+// The operators on values: document 01's `eval_binary`, and its unary operators. Both sides have been
+// evaluated.
+ghost use Rattle.std.specs.Prelude.{◌≡◌, ◌&&◌, ◌*◌, ◌%◌, ◌^◌, ℤ, pos, FitsSigned};
+ghost use Rattle.std.specs.Int.{w64};
+ghost use Rattle.std.specs.Int.Signed.{lt_z, le_z, shr_z};
+ghost use Rattle.std.specs.Option.{SomeIff};
+ghost use Rattle.ol_spec.specs.Numbers.{residue, signed};
+ghost use Rattle.ol_spec.specs.Operators.{bool_out, exact, div_int, mod_int, shift_by, bools, ints, reals, names, unlike, on_pair, unary_of, binary_of};
+ghost use Rattle.ol_value.specs.Codes.{as_double, one_of, op_of, unary_by, binary_by};
 
-use crate::ints::{
-    add_ints, bit_and, bit_or, bit_xor, div_ints, eq_ints, ge_ints, gt_ints, le_ints, lt_ints,
-    mod_ints, mul_ints, neg_int, shl_ints, shr_ints, sub_ints,
-};
-use crate::pairs::{Operands, pair_up};
+use crate::codes::{Binary, Unary};
+use crate::reals::Real;
+use ol_real::f32_to_f64;
 use ol_spec::{Cause, Outcome, Value};
 
 // A truth value as an outcome.
@@ -19,246 +20,212 @@ fn bool_out(b: bool) -> Outcome
     Outcome::Value(Value::Bool(b))
 }
 
+// An integer result, or an overflow outside 64 bits.
+fn exact(n: Option<i64>) -> Outcome
+    ensures { (z : ℤ) → SomeIff n (FitsSigned w64 z) z → result ≡ exact z }
+{
+    match n {
+        Some(n) => Outcome::Value(Value::Int(n)),
+        None => Outcome::Overflow,
+    }
+}
+
 // And to Neq of two Bools.
-fn eval_bools(op: u8, a: bool, b: bool) -> Outcome
-    ensures { result ≡ pair_by op (bools a b) }
+#[tactic(auto, unfolding(ol_spec::specs::Operators::on_pair))]
+fn eval_bools(op: Binary, a: bool, b: bool) -> Outcome
+    ensures { result ≡ on_pair (op_of op) (bools a b) }
 {
     match op {
-        0 => bool_out(a & b),
-        1 => bool_out(a | b),
-        2 => bool_out(a ^ b),
-        3 => bool_out(!a | b),
-        4 => bool_out(a == b),
-        5 => bool_out(a != b),
+        Binary::And => bool_out(a & b),
+        Binary::Or => bool_out(a | b),
+        Binary::Xor => bool_out(a ^ b),
+        Binary::Implies => bool_out(!a | b),
+        Binary::Eq => bool_out(a == b),
+        Binary::Neq => bool_out(a != b),
         _ => Outcome::Failure(Cause::Other),
     }
 }
 
-// Eq to Ge of two integers.
-fn compare_ints(op: u8, i: i64, j: i64) -> bool
-    requires { (4 ≤ op) × (op ≤ 9) }
-    ensures { bool_out result ≡ pair_by op (ints i j) }
+// Eq to Shr of two integers. Division is toward zero, -7 / 2 is -3, and Mod has the dividend's sign;
+// Shl drops bits past the 64th, and Shr copies the sign bit.
+#[tactic(auto, unfolding(ol_spec::specs::Operators::on_pair))]
+fn eval_ints(op: Binary, a: i64, b: i64) -> Outcome
+    ensures { result ≡ on_pair (op_of op) (ints a b) }
 {
     match op {
-        4 => eq_ints(i, j),
-        5 => !eq_ints(i, j),
-        6 => lt_ints(i, j),
-        7 => le_ints(i, j),
-        8 => gt_ints(i, j),
-        _ => ge_ints(i, j),
-    }
-}
-
-// Add to Mod of two integers.
-fn compute_ints(op: u8, i: i64, j: i64) -> Outcome
-    requires { (10 ≤ op) × (op ≤ 14) }
-    ensures { result ≡ pair_by op (ints i j) }
-{
-    match op {
-        10 => add_ints(i, j),
-        11 => sub_ints(i, j),
-        12 => mul_ints(i, j),
-        13 => div_ints(i, j),
-        _ => mod_ints(i, j),
-    }
-}
-
-// BitAnd to Shr of two integers.
-fn combine_ints(op: u8, i: i64, j: i64) -> Outcome
-    requires { (15 ≤ op) × (op ≤ 19) }
-    ensures { result ≡ pair_by op (ints i j) }
-{
-    match op {
-        15 => bit_and(i, j),
-        16 => bit_or(i, j),
-        17 => bit_xor(i, j),
-        18 => shl_ints(i, j),
-        _ => shr_ints(i, j),
-    }
-}
-
-// Eq to Shr of two integers.
-fn eval_ints(op: u8, i: i64, j: i64) -> Outcome
-    ensures { result ≡ pair_by op (ints i j) }
-{
-    match op {
-        4..=9 => bool_out(compare_ints(op, i, j)),
-        10..=14 => compute_ints(op, i, j),
-        15..=19 => combine_ints(op, i, j),
+        Binary::Eq => bool_out(a == b),
+        Binary::Neq => bool_out(a != b),
+        Binary::Lt => bool_out(a < b),
+        Binary::Le => bool_out(a <= b),
+        Binary::Gt => bool_out(a > b),
+        Binary::Ge => bool_out(a >= b),
+        Binary::Add => exact(a.checked_add(b)),
+        Binary::Sub => exact(a.checked_sub(b)),
+        Binary::Mul => exact(a.checked_mul(b)),
+        Binary::Div => div_ints(a, b),
+        Binary::Mod => mod_ints(a, b),
+        Binary::BitAnd => Outcome::Value(Value::Int(a & b)),
+        Binary::BitOr => Outcome::Value(Value::Int(a | b)),
+        Binary::BitXor => Outcome::Value(Value::Int(a ^ b)),
+        Binary::Shl => shl_ints(a, b),
+        Binary::Shr => shr_ints(a, b),
         _ => Outcome::Failure(Cause::Other),
     }
 }
 
-// Eq to Ge of two singles: beside a NaN each but Neq is false.
-fn compare_singles(op: u8, x: f32, y: f32) -> bool
-    requires { (4 ≤ op) × (op ≤ 9) }
-    ensures { bool_out result ≡ pair_by op (reals single x y) }
+// A zero divisor is out of range, and the lowest number by -1 overflows.
+fn div_ints(a: i64, b: i64) -> Outcome
+    ensures { result ≡ div_int a b }
 {
-    match op {
-        4 => x == y,
-        5 => x != y,
-        6 => x < y,
-        7 => x <= y,
-        8 => x > y,
-        _ => x >= y,
+    if b == 0 {
+        return Outcome::Failure(Cause::Range); // a / 0
     }
+    exact(a.checked_div(b))
 }
 
-// A zero divisor is out of range, -0.0 too.
-fn div_singles(x: f32, y: f32) -> Outcome
-    ensures { result ≡ div_real single x y }
+// Likewise.
+fn mod_ints(a: i64, b: i64) -> Outcome
+    ensures { result ≡ mod_int a b }
 {
-    if y == 0.0f32 {
-        Outcome::Failure(Cause::Range)
+    if b == 0 {
+        return Outcome::Failure(Cause::Range); // a mod 0
+    }
+    exact(a.checked_rem(b))
+}
+
+// Whether a shift takes this count: 0 to 63.
+fn is_count(b: i64) -> bool
+    ensures { result ≡ le_z (pos 0) b && lt_z b (pos 64) }
+{
+    (0 <= b) & (b < 64)
+}
+
+// A count that no shift takes is out of range.
+fn shl_ints(a: i64, b: i64) -> Outcome
+    ensures { result ≡ shift_by (λ k. signed 64 (residue 64 a * 2 ^ k % 2 ^ 64)) b }
+{
+    if is_count(b) {
+        Outcome::Value(Value::Int(a << b))
     } else {
-        Outcome::Value(Value::Float32(x / y))
-    }
-}
-
-// Add to Div of two singles, rounded once.
-fn compute_singles(op: u8, x: f32, y: f32) -> Outcome
-    requires { (10 ≤ op) × (op ≤ 13) }
-    ensures { result ≡ pair_by op (reals single x y) }
-{
-    match op {
-        10 => Outcome::Value(Value::Float32(x + y)),
-        11 => Outcome::Value(Value::Float32(x - y)),
-        12 => Outcome::Value(Value::Float32(x * y)),
-        _ => div_singles(x, y),
-    }
-}
-
-// Eq to Div of two singles.
-fn eval_singles(op: u8, x: f32, y: f32) -> Outcome
-    ensures { result ≡ pair_by op (reals single x y) }
-{
-    match op {
-        4..=9 => bool_out(compare_singles(op, x, y)),
-        10..=13 => compute_singles(op, x, y),
-        _ => Outcome::Failure(Cause::Other),
-    }
-}
-
-// Eq to Ge of two doubles: beside a NaN each but Neq is false.
-fn compare_doubles(op: u8, x: f64, y: f64) -> bool
-    requires { (4 ≤ op) × (op ≤ 9) }
-    ensures { bool_out result ≡ pair_by op (reals double x y) }
-{
-    match op {
-        4 => x == y,
-        5 => x != y,
-        6 => x < y,
-        7 => x <= y,
-        8 => x > y,
-        _ => x >= y,
-    }
-}
-
-// A zero divisor is out of range, -0.0 too.
-fn div_doubles(x: f64, y: f64) -> Outcome
-    ensures { result ≡ div_real double x y }
-{
-    if y == 0.0f64 {
         Outcome::Failure(Cause::Range)
+    }
+}
+
+// Likewise.
+fn shr_ints(a: i64, b: i64) -> Outcome
+    ensures { result ≡ shift_by (λ k. shr_z a (2 ^ k)) b }
+{
+    if is_count(b) {
+        Outcome::Value(Value::Int(a >> b))
     } else {
-        Outcome::Value(Value::Float(x / y))
+        Outcome::Failure(Cause::Range)
     }
 }
 
-// Add to Div of two doubles, rounded once.
-fn compute_doubles(op: u8, x: f64, y: f64) -> Outcome
-    requires { (10 ≤ op) × (op ≤ 13) }
-    ensures { result ≡ pair_by op (reals double x y) }
+// Eq to Div of two reals of one format, rounded once. Beside a NaN each comparison but Neq is false, and a
+// zero divisor is out of range, -0.0 too.
+#[tactic(auto, unfolding(ol_spec::specs::Operators::on_pair))]
+fn eval_reals<T: Real>(op: Binary, x: T, y: T) -> Outcome
+    ensures { result ≡ on_pair (op_of op) (reals T.format (T.number x) (T.number y)) }
 {
     match op {
-        10 => Outcome::Value(Value::Float(x + y)),
-        11 => Outcome::Value(Value::Float(x - y)),
-        12 => Outcome::Value(Value::Float(x * y)),
-        _ => div_doubles(x, y),
-    }
-}
-
-// Eq to Div of two doubles.
-fn eval_doubles(op: u8, x: f64, y: f64) -> Outcome
-    ensures { result ≡ pair_by op (reals double x y) }
-{
-    match op {
-        4..=9 => bool_out(compare_doubles(op, x, y)),
-        10..=13 => compute_doubles(op, x, y),
+        Binary::Eq => bool_out(x == y),
+        Binary::Neq => bool_out(x != y),
+        Binary::Lt => bool_out(x < y),
+        Binary::Le => bool_out(x <= y),
+        Binary::Gt => bool_out(x > y),
+        Binary::Ge => bool_out(x >= y),
+        Binary::Add => Outcome::Value((x + y).value()),
+        Binary::Sub => Outcome::Value((x - y).value()),
+        Binary::Mul => Outcome::Value((x * y).value()),
+        Binary::Div if y == T::zero() => Outcome::Failure(Cause::Range),
+        Binary::Div => Outcome::Value((x / y).value()),
         _ => Outcome::Failure(Cause::Other), // Mod too, whatever the divisor
     }
 }
 
 // Eq and Neq of two names.
-fn eval_names(op: u8, v: u16, w: u16) -> Outcome
-    ensures { result ≡ pair_by op (names v w) }
+#[tactic(auto, unfolding(ol_spec::specs::Operators::on_pair))]
+fn eval_names(op: Binary, v: u16, w: u16) -> Outcome
+    ensures { result ≡ on_pair (op_of op) (names v w) }
 {
     match op {
-        4 => bool_out(v == w),
-        5 => bool_out(v != w),
+        Binary::Eq => bool_out(v == w),
+        Binary::Neq => bool_out(v != w),
         _ => Outcome::Failure(Cause::Other),
     }
 }
 
 // Unlike kinds are unequal.
-fn eval_unlike(op: u8) -> Outcome
-    ensures { result ≡ pair_by op unlike }
+#[tactic(auto, unfolding(ol_spec::specs::Operators::on_pair))]
+fn eval_unlike(op: Binary) -> Outcome
+    ensures { result ≡ on_pair (op_of op) unlike }
 {
     match op {
-        4 => bool_out(false),
-        5 => bool_out(true),
+        Binary::Eq => bool_out(false),
+        Binary::Neq => bool_out(true),
         _ => Outcome::Failure(Cause::Other),
     }
 }
 
-// Document 01's `eval_binary`.
+// A real as a double.
+fn as_double(v: Value) -> Option<f64>
+    ensures { result ≡ as_double v }
+{
+    match v {
+        Value::Float(x) => Some(x),
+        Value::Float32(x) => Some(f32_to_f64(x)),
+        _ => None,
+    }
+}
+
+// An operator on two operands, by their kinds: two singles are singles, other reals are doubles.
+fn eval_pair(op: Binary, l: Value, r: Value) -> Outcome
+    ensures { result ≡ binary_of (op_of op) l r }
+{
+    match (l, r) {
+        (Value::Bool(a), Value::Bool(b)) => eval_bools(op, a, b),
+        (Value::Int(a), Value::Int(b)) => eval_ints(op, a, b),
+        (Value::Float32(x), Value::Float32(y)) => eval_reals(op, x, y),
+        (Value::Enum(v), Value::Enum(w)) => eval_names(op, v, w),
+        // one call for doubles, so that it is put in place
+        _ => match (as_double(l), as_double(r)) {
+            (Some(x), Some(y)) => eval_reals(op, x, y),
+            _ => eval_unlike(op),
+        },
+    }
+}
+
+// Document 01's `eval_binary`, by the operator's code.
 pub fn eval_binary(op: u8, l: Value, r: Value) -> Outcome
     ensures { result ≡ binary_by op l r }
 {
-    let p = pair_up(l, r);
-    match p {
-        Operands::Bools(a, b) => eval_bools(op, a, b),
-        Operands::Ints(i, j) => eval_ints(op, i, j),
-        Operands::Singles(x, y) => eval_singles(op, x, y),
-        Operands::Doubles(x, y) => eval_doubles(op, x, y),
-        Operands::Names(v, w) => eval_names(op, v, w),
-        Operands::Unlike => eval_unlike(op),
+    match Binary::try_from(op) {
+        Ok(op) => eval_pair(op, l, r),
+        Err(cause) => Outcome::Failure(cause),
     }
 }
 
-// Not, of a Bool.
-fn unary_not(v: Value) -> Outcome
-    ensures { result ≡ not_of v }
+// Not, of a Bool, and Neg, of a number: the lowest integer overflows.
+#[tactic(auto, unfolding(ol_spec::specs::Operators::unary_of, ol_spec::specs::Real::neg_r))]
+fn eval_one(op: Unary, v: Value) -> Outcome
+    ensures { result ≡ unary_of (one_of op) v }
 {
-    match v {
-        Value::Bool(b) => Outcome::Value(Value::Bool(!b)),
-        Value::Int(_) => Outcome::Failure(Cause::Other),
-        Value::Float(_) => Outcome::Failure(Cause::Other),
-        Value::Float32(_) => Outcome::Failure(Cause::Other),
-        Value::Enum(_) => Outcome::Failure(Cause::Other),
+    match (op, v) {
+        (Unary::Not, Value::Bool(b)) => bool_out(!b),
+        (Unary::Neg, Value::Int(a)) => exact(a.checked_neg()),
+        (Unary::Neg, Value::Float(x)) => Outcome::Value(Value::Float(-x)),
+        (Unary::Neg, Value::Float32(x)) => Outcome::Value(Value::Float32(-x)),
+        _ => Outcome::Failure(Cause::Other),
     }
 }
 
-// Neg, of a number.
-fn unary_neg(v: Value) -> Outcome
-    ensures { result ≡ neg_of v }
-{
-    match v {
-        Value::Bool(_) => Outcome::Failure(Cause::Other),
-        Value::Int(i) => neg_int(i),
-        Value::Float(x) => Outcome::Value(Value::Float(-x)),
-        Value::Float32(x) => Outcome::Value(Value::Float32(-x)),
-        Value::Enum(_) => Outcome::Failure(Cause::Other),
-    }
-}
-
-// Not (0) and Neg (1).
+// A unary operator by its code: Not (0) and Neg (1).
 pub fn eval_unary(op: u8, v: Value) -> Outcome
     ensures { result ≡ unary_by op v }
 {
-    match op {
-        0 => unary_not(v),
-        1 => unary_neg(v),
-        _ => Outcome::Failure(Cause::Other),
+    match Unary::try_from(op) {
+        Ok(op) => eval_one(op, v),
+        Err(cause) => Outcome::Failure(cause),
     }
 }

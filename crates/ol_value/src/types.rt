@@ -1,39 +1,24 @@
-// Types: their defaults and kinds, and what storing and casting make of a value. A type is its code;
-// an enum's number is looked up by the caller.
+// Types: their defaults and kinds, and what storing and casting make of a value. An enum's number is looked up by the caller.
+// A type stays its code: the packed table of narrowing.rt, which is for speed, is read by it, and any byte is taken.
 ghost use Rattle.std.specs.Prelude.{◌≡◌, List, [], ℕ, get_or};
+ghost use Rattle.ol_spec.specs.Real.{by_precision};
 ghost use Rattle.ol_spec.specs.Types.{default, fit_single, fit_double, fit};
 ghost use Rattle.ol_spec.specs.Types.{cast_int, cast_real, cast_to};
-ghost use Rattle.ol_value.specs.Codes.{int_ty_of, Narrow, ty_of, is_number, in_kind};
+ghost use Rattle.ol_value.specs.Codes.{int_ty_of, Narrow, ty_of, in_kind};
 
 use crate::narrowing::{TypeRow, in_range, narrow_int, type_row};
+use crate::reals::Real;
 use ol_real::{f32_to_f64, f32_to_i64, f64_to_f32, f64_to_i64, i64_to_f32, i64_to_f64};
 use ol_spec::{Cause, Outcome, Value};
 
-// A value as a Float32 variable holds it.
-fn fit_single(v: Value) -> Value
-    ensures { result ≡ fit_single v }
-{
-    match v {
-        Value::Bool(b) => Value::Bool(b),
-        Value::Int(i) => Value::Float32(i64_to_f32(i)),
-        Value::Float(x) => Value::Float32(f64_to_f32(x)),
-        Value::Float32(x) => Value::Float32(x),
-        Value::Enum(w) => Value::Enum(w),
-    }
-}
+// The codes of the types that hold no integers. An Enum's is the last.
+const BOOL: u8 = 0;
 
-// A value as a Float64 variable holds it.
-fn fit_double(v: Value) -> Value
-    ensures { result ≡ fit_double v }
-{
-    match v {
-        Value::Bool(b) => Value::Bool(b),
-        Value::Int(i) => Value::Float(i64_to_f64(i)),
-        Value::Float(x) => Value::Float(x),
-        Value::Float32(x) => Value::Float(f32_to_f64(x)),
-        Value::Enum(w) => Value::Enum(w),
-    }
-}
+const FLOAT32: u8 = 9;
+
+const FLOAT64: u8 = 10;
+
+const ENUM: u8 = 12;
 
 // An integer as a variable of the type holds it.
 fn fit_number(code: u8, i: i64) -> Value
@@ -44,8 +29,8 @@ fn fit_number(code: u8, i: i64) -> Value
         return Value::Int(narrow_int(t, i));
     }
     match code {
-        9 => Value::Float32(i64_to_f32(i)),
-        10 => Value::Float(i64_to_f64(i)),
+        FLOAT32 => Value::Float32(i64_to_f32(i)),
+        FLOAT64 => Value::Float(i64_to_f64(i)),
         _ => Value::Int(i),
     }
 }
@@ -57,20 +42,10 @@ pub fn fit_to(code: u8, v: Value) -> Value
     match v {
         Value::Bool(b) => Value::Bool(b),
         Value::Int(i) => fit_number(code, i),
-        Value::Float(x) => {
-            if code == 9 {
-                Value::Float32(f64_to_f32(x))
-            } else {
-                Value::Float(x)
-            }
-        }
-        Value::Float32(x) => {
-            if code == 10 {
-                Value::Float(f32_to_f64(x))
-            } else {
-                Value::Float32(x)
-            }
-        }
+        Value::Float(x) if code == FLOAT32 => Value::Float32(f64_to_f32(x)),
+        Value::Float(x) => Value::Float(x),
+        Value::Float32(x) if code == FLOAT64 => Value::Float(f32_to_f64(x)),
+        Value::Float32(x) => Value::Float32(x),
         Value::Enum(w) => Value::Enum(w),
     }
 }
@@ -80,48 +55,26 @@ fn cast_int(t: TypeRow, v: Value) -> Outcome
     requires { Narrow (int_ty_of t) }
     ensures { result ≡ cast_int (int_ty_of t) v }
 {
-    match v {
-        Value::Bool(_) => Outcome::Failure(Cause::Other),
-        Value::Int(i) => Outcome::Value(Value::Int(narrow_int(t, i))),
-        Value::Float(x) => Outcome::Value(Value::Int(narrow_int(t, f64_to_i64(x)))),
-        Value::Float32(x) => Outcome::Value(Value::Int(narrow_int(t, f32_to_i64(x)))),
-        Value::Enum(_) => Outcome::Failure(Cause::Other),
-    }
+    let i = match v {
+        Value::Int(i) => i,
+        Value::Float(x) => f64_to_i64(x),
+        Value::Float32(x) => f32_to_i64(x),
+        Value::Bool(_) | Value::Enum(_) => return Outcome::Failure(Cause::Other),
+    };
+    Outcome::Value(Value::Int(narrow_int(t, i)))
 }
 
-// Whether a value is a number.
-fn is_number(v: Value) -> bool
-    ensures { result ≡ is_number v }
+// A cast to a real.
+fn cast_real<T: Real>(v: Value) -> Outcome
+    ensures { result ≡ cast_real (by_precision T.format fit_single fit_double) v }
 {
-    match v {
-        Value::Bool(_) => false,
-        Value::Int(_) => true,
-        Value::Float(_) => true,
-        Value::Float32(_) => true,
-        Value::Enum(_) => false,
-    }
-}
-
-// A cast to Float32.
-fn cast_single(v: Value) -> Outcome
-    ensures { result ≡ cast_real fit_single v }
-{
-    if is_number(v) {
-        Outcome::Value(fit_single(v))
-    } else {
-        Outcome::Failure(Cause::Other)
-    }
-}
-
-// A cast to Float64.
-fn cast_double(v: Value) -> Outcome
-    ensures { result ≡ cast_real fit_double v }
-{
-    if is_number(v) {
-        Outcome::Value(fit_double(v))
-    } else {
-        Outcome::Failure(Cause::Other)
-    }
+    let x = match v {
+        Value::Int(i) => T::from_int(i),
+        Value::Float(x) => T::from_double(x),
+        Value::Float32(x) => T::from_single(x),
+        Value::Bool(_) | Value::Enum(_) => return Outcome::Failure(Cause::Other),
+    };
+    Outcome::Value(x.value())
 }
 
 // Document 01's `cast_value`.
@@ -133,8 +86,8 @@ pub fn cast_value(code: u8, v: Value) -> Outcome
         return cast_int(t, v);
     }
     match code {
-        9 => cast_single(v),
-        10 => cast_double(v),
+        FLOAT32 => cast_real::<f32>(v),
+        FLOAT64 => cast_real::<f64>(v),
         _ => Outcome::Failure(Cause::Other),
     }
 }
@@ -144,17 +97,11 @@ pub fn default_value(code: u8, first: u16) -> Value
     ensures { (enums : List (List ℕ)) (e : ℕ) → get_or (get_or enums e []) 0 0 ≡ first → result ≡ default enums (ty_of code e) }
 {
     match code {
-        0 => Value::Bool(false),
-        9 => Value::Float32(0.0),
-        10 => Value::Float(0.0),
-        _ => {
-            let t = type_row(code);
-            if t.bits == 0 {
-                Value::Enum(first)
-            } else {
-                Value::Int(0)
-            }
-        }
+        BOOL => Value::Bool(false),
+        FLOAT32 => Value::Float32(0.0),
+        FLOAT64 => Value::Float(0.0),
+        _ if type_row(code).bits == 0 => Value::Enum(first),
+        _ => Value::Int(0),
     }
 }
 
@@ -163,11 +110,11 @@ pub fn in_type(code: u8, v: Value) -> bool
     ensures { (e : ℕ) → result ≡ in_kind (ty_of code e) v }
 {
     match v {
-        Value::Bool(_) => code == 0,
+        Value::Bool(_) => code == BOOL,
         Value::Int(i) => int_in_type(code, i),
-        Value::Float(_) => code == 10,
-        Value::Float32(_) => code == 9,
-        Value::Enum(_) => 12 <= code,
+        Value::Float(_) => code == FLOAT64,
+        Value::Float32(_) => code == FLOAT32,
+        Value::Enum(_) => ENUM <= code,
     }
 }
 
@@ -176,5 +123,5 @@ fn int_in_type(code: u8, i: i64) -> bool
     ensures { (e : ℕ) → result ≡ in_kind (ty_of code e) (Value.Int i) }
 {
     let t = type_row(code);
-    if t.bits == 0 { false } else { in_range(t, i) }
+    t.bits != 0 && in_range(t, i)
 }

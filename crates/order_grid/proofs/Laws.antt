@@ -4,15 +4,17 @@ use native.Mathlib.Numerals.{add-one}
 use native.Mathlib.Omega.{arith}
 use mathlib.Core.Bool.{Bool, true, false}
 use mathlib.Core.List.{List, [], ◌∷◌, ◌++◌, append_assoc}
-use mathlib.Core.Path.{◌≡◌, refl, sym, ap, ◌∙◌}
+use mathlib.Core.Path.{◌≡◌, refl, sym, ap, subst, ◌∙◌}
 use lib.ListN.{length, get_or, take, set, replicate}
 use lib.Seq.{take-suc, take-suc-set, take_all}
+use Rattle.std.specs.Int.{from_bool}
 use Rattle.rows.specs.Rows.{one, all_agree}
 use Rattle.ol_ir.specs.Nexts.{reading_of}
+use Rattle.ol_spec.specs.Answers.{sorted_fault}
 use Rattle.ol_spec.specs.Limits.{relay_loader}
 use Rattle.ol_spec.specs.Read.{read_file}
 use Rattle.ol_spec.specs.declared.Fault.{Fault}
-use Rattle.order_grid.specs.Questions.{reading_fault, refusal_agrees, row_of, Question, reading, ordered, agrees, good_in, Tallied, Asked, read_agrees}
+use Rattle.order_grid.specs.Questions.{refusal_agrees, row_of, Question, reading, ordered, agrees, good_in, Tallied, Asked, read_agrees}
 
 -- an entry more of a row behind its first two words h
 pub row_more : (h entries row : List ℕ) (i : ℕ) → i < length entries → i + 2 < length row → take (i + 2) row ≡ h ++ take i entries → take (i + 1 + 2) (set row (i + 2) (get_or entries i 0)) ≡ h ++ take (i + 1) entries
@@ -26,8 +28,8 @@ row_first [] a b h = absurd (omega arith)
 row_first (x ∷ []) a b h = absurd (omega arith)
 row_first (x ∷ y ∷ l) a b h = refl
 
-pub row_whole : (f : Fault) (entries row l : List ℕ) (i : ℕ) → 2 ≤ length l → length entries ≤ i → length row ≤ i + 2 → take (i + 2) row ≡ take 2 (set (set l 0 f.number) 1 f.place) ++ take i entries → row ≡ row_of f entries
-row_whole f entries row l i h a b e = sym (take_all (i + 2) row b) ∙ e ∙ rw (row_first l f.number f.place h, take_all i entries a)
+pub row_whole : (f : Fault) {n : ℕ} → n ≡ f.number → (entries row l : List ℕ) (i : ℕ) → 2 ≤ length l → length entries ≤ i → length row ≤ i + 2 → take (i + 2) row ≡ take 2 (set (set l 0 n) 1 f.place) ++ take i entries → row ≡ row_of f entries
+row_whole f {n} q entries row l i h a b e = sym (take_all (i + 2) row b) ∙ e ∙ rw (row_first l n f.place h, take_all i entries a, q)
 
 -- the first marks of many
 pub marks_taken : (n m a : ℕ) → n ≤ m → take n (replicate m a) ≡ replicate n a
@@ -59,11 +61,20 @@ one_more : (q : Question) (n good all : ℕ) → n ≡ one (agrees q) → Tallie
 unfolding good_in
 one_more q n good all e t = record { questions = q ∷ t.questions; good_is = omega (arith, t.good_is); all_is = omega (arith, t.all_is) }
 
-pub asked_more : (file : List ℕ) (good all : ℕ) (r : Bool) → Asked file r → Tallied good all → Tallied (good + one r) (all + 1)
-asked_more file good all r a t = one_more (ordered file a.node a.wanted) (one r) good all (ap one a.answered) t
+-- 1 where it is so, else 0
+as_one : {n : ℕ} (b : Bool) → n ≡ from_bool b → n ≡ one b
+as_one true e = e
+as_one false e = e
 
-pub read_more : (file : List ℕ) (f : Fault) (r : Bool) → r ≡ read_agrees file f → Tallied (0 + one r) 1
-read_more file f r a = one_more (reading file f) (one r) 0 0 (ap one a) tallied_none
+pub asked_more : (file : List ℕ) (good all : ℕ) (r : Bool) {n : ℕ} → n ≡ from_bool r → Asked file r → Tallied good all → Tallied (good + n) (all + 1)
+asked_more file good all r {n} e a t = one_more (ordered file a.node a.wanted) n good all (as_one r e ∙ ap one a.answered) t
+
+pub read_more : (file : List ℕ) (f : Fault) (r : Bool) {n : ℕ} → n ≡ from_bool r → r ≡ read_agrees file f → Tallied n 1
+read_more file f r {n} e a = let z : 0 + n ≡ n = omega arith in subst (λ m. Tallied m 1) z (one_more (reading file f) n 0 0 (as_one r e ∙ ap one a) tallied_none)
+
+pub from_few : {n : ℕ} (r : Bool) → n ≡ from_bool r → n ≤ 1
+from_few true e = omega arith
+from_few false e = omega arith
 
 -- the questions of two parts
 good_both : (ps qs : List Question) → good_in (ps ++ qs) ≡ good_in ps + good_in qs
@@ -85,7 +96,7 @@ tallied_both s t =
 
 -- ---- a reading
 
-module _ (file : List ℕ) (f m : Fault) (b : Bool) (e : m ≡ reading_fault (reading_of (read_file file relay_loader))) (g : b ≡ all_agree (row_of m []) (row_of f [])) where
+module _ (file : List ℕ) (f m : Fault) (b : Bool) (e : m ≡ sorted_fault (reading_of (read_file file relay_loader))) (g : b ≡ all_agree (row_of m []) (row_of f [])) where
   pub read_true : (r : Bool) → b ≡ true → r ≡ refusal_agrees file f → r ≡ read_agrees file f
   unfolding read_agrees
   read_true r t h = rw (← e, ← g, t) h

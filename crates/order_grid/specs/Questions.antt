@@ -1,19 +1,12 @@
 -- The questions of the list, and whether each is answered as it says. A row is an answer's number and place, and what each entry of the lent buffer holds then. An entry holds 170 before the call.
 use Rattle.std.specs.Prelude.{ℕ, ◌+◌, ◌-◌, Bool, true, false, cond, List, [], ◌∷◌, ◌≡◌, eqb, length, replicate}
-use Rattle.ol_spec.specs.Answers.{no_fault, sorted_fault}
+use Rattle.ol_spec.specs.Answers.{sorted_fault}
 use Rattle.ol_spec.specs.Cycle.{OrderingCall, ordering}
 use Rattle.ol_spec.specs.Limits.{relay_loader}
 use Rattle.ol_spec.specs.Read.{read_file}
 use Rattle.ol_spec.specs.declared.Fault.{Fault}
-use Rattle.ol_ir.specs.declared.Reading.{Reading}
-use Rattle.ol_ir.specs.declared.Reading.TheVariants as Rd
 use Rattle.ol_ir.specs.Nexts.{reading_of}
 use Rattle.rows.specs.Rows.{one, all_agree}
-
--- what a reading answers: a fault, or number 0 at place 0
-abbrev pub reading_fault : Reading → Fault
-reading_fault Rd.Done = no_fault
-reading_fault (Rd.Refused f) = f
 
 -- an answer, and what a buffer holds, as a row
 abbrev pub row_of : Fault → List ℕ → List ℕ
@@ -32,7 +25,7 @@ refusal_agrees file f = cond (eqb f.number 0) true (order_agrees file 0 (row_of 
 
 -- a file's reading gives this answer, and the ordering too where it is a fault
 unfoldable pub read_agrees : List ℕ → Fault → Bool
-read_agrees file f = cond (all_agree (row_of (reading_fault (reading_of (read_file file relay_loader))) []) (row_of f [])) (refusal_agrees file f) false
+read_agrees file f = cond (all_agree (row_of (sorted_fault (reading_of (read_file file relay_loader))) []) (row_of f [])) (refusal_agrees file f) false
 
 -- a question of the list: which file, node and answer it has is free, as what a read gives is
 pub data Question : Type 0 where

@@ -8,14 +8,15 @@ ghost use Rattle.read_bench.specs.Digests.{loaded_digest, read_digest};
 
 use ol_ir::Loaded;
 use ol_ir::project::load_file;
+use ol_spec::Fault;
 
 // How many nodes a loaded file has; of a refused one its fault's number, above 256.
-fn digest(l: Loaded) -> u64
+fn digest(l: Result<Loaded, Fault>) -> u64
     ensures { result ≡ loaded_digest l }
 {
     match l {
-        Loaded::Nodes(_, n) => n as u64,
-        Loaded::Refused(f) => 256 + f.number as u64,
+        Ok(l) => l.nodes as u64,
+        Err(f) => 256 + u64::from(f.number),
     }
 }
 

@@ -22,9 +22,8 @@ use Rattle.ol_spec.specs.Answers.{verdict_length}
 use Rattle.ol_spec.specs.Cycle.{measure, lengths, ordering, order_read, order_node, order_unless_ring, order_fits, start, start_judged, CycleCall, cycle, cycle_judged, cycle_unless, end_on, fits17, main_run}
 use Rattle.ol_spec.specs.Demand3.{Bytes}
 use Rattle.ol_spec.specs.declared.Value.{Value}
-use Rattle.ol_spec.specs.declared.Measured.{Measured}
-use Rattle.ol_spec.specs.declared.Measured.TheVariants as Mea
-use Rattle.ol_spec.specs.declared.Verdict.TheVariants as Ver
+use Rattle.ol_spec.specs.Answers.{Measured}
+use Rattle.std.specs.Prelude.{Ok, Err}
 use Rattle.ol_spec.proofs.Admits.{admits}
 use Rattle.ol_spec.proofs.MainFacts.{main_at_lem}
 use Rattle.ol_spec.proofs.Tests.{T_true, T_false, eq_eqb}
@@ -132,8 +131,8 @@ module _ (file old ins new new' vals vals' : List ℕ) where
 -- ---- the length of the values
 
 abbrev pub values_in : Measured → ℕ
-values_in (Mea.Done l) = l.values
-values_in (Mea.Refused x) = 0
+values_in (Ok l) = l.values
+values_in (Err x) = 0
 
 module _ (file : List ℕ) (b : Bytes file) where
   pub values_told : {m d : Measured} → MeasuresAs (lengths relay_loader file 0) m → m ≡ d → values_in d ≡ values_length (judge relay_loader file)
@@ -174,11 +173,11 @@ pub fresh_of_lem : (file s : List ℕ) → length s ≡ verdict_length (admissio
 unfolding start
 fresh_of_lem file s e = start_by (judge relay_loader file) s (verdict_length (admission relay_loader file)) e refl
 
-small_verdict : (j : Judged) (n : ℕ) → ((f : File) (vs : List Value) → j ≡ admitted f vs → state_size f ≤ 32768) → verdict j ≡ Ver.Admitted n → n ≤ 32768
+small_verdict : (j : Judged) (n : ℕ) → ((f : File) (vs : List Value) → j ≡ admitted f vs → state_size f ≤ 32768) → verdict j ≡ Ok n → n ≤ 32768
 small_verdict (refused m p) n h e = let z : ◌≡◌ {A = ℕ} 0 1 = cc in absurd (omega arith)
 small_verdict (admitted f vs) n h e = let z : state_size f ≡ n = cc in omega (arith, z, h f vs refl)
 
-pub small_admitted : (file : List ℕ) (n : ℕ) → admission relay_loader file ≡ Ver.Admitted n → n ≤ 32768
+pub small_admitted : (file : List ℕ) (n : ℕ) → admission relay_loader file ≡ Ok n → n ≤ 32768
 small_admitted file n e = small_verdict (judge relay_loader file) n (small_state file) e
 
 -- ---- the ordering

@@ -1,5 +1,5 @@
-pub mod Calls
 pub mod Asks
+pub mod Calls
 pub mod Tellings
 pub mod Lines
 pub mod Runs

@@ -1,6 +1,6 @@
 -- The bytes of a line, taken one by one.
 use Prim.Native.Nat.{ℕ, zero, suc, ◌+◌, ◌≤◌, ◌<◌}
-use mathlib.Core.Bool.{Bool, true, false, not, cond}
+use mathlib.Core.Bool.{Bool, true, false, not, cond, ◌||◌}
 use mathlib.Core.List.{List, [], ◌∷◌, ◌++◌, append-nil, append_assoc}
 use mathlib.Core.Path.{◌≡◌, refl, sym, ap, subst, ◌∙◌}
 use mathlib.Core.Logic.{by_cases}
@@ -127,15 +127,16 @@ module _ (line₀ unread₀ line input : List ℕ) (n at end : ℕ) (le : end �
         rest_is = g.rest_is ∙ ap rest_of u ∙ on_rest b rest e;
       }
 
-  pub going_end : (f : Bool) → end ≤ at → Takes line₀ unread₀ f (record { at = at; end = end; length = n; is_whole = false; is_end = f }) line input
-  going_end f h =
+  pub going_end : (f : Bool) (past : ℕ) → end ≤ at → end ≤ past → Takes line₀ unread₀ f (record { at = past; end = end; length = n; is_whole = false; is_end = f }) line input
+  going_end f past h g' =
       let u : drop at (take end input) ≡ [] = drop_of_length-le (take end input) {i = at} (omega (arith, length-take end input)) in
+      let u' : drop past (take end input) ≡ [] = drop_of_length-le (take end input) {i = past} (omega (arith, length-take end input)) in
       let h : has_end unread₀ ≡ false = g.ends ∙ ap has_end u ∙ none_has in
       record {
         whole = sym h;
         ended = sym (ap (λ z. cond z false f) h);
         gone_on = sym (g.line_is ∙ ap (λ l. cut (take n line ++ line_of l)) u ∙ ap (λ l. cut (take n line ++ l)) none_line ∙ ap cut (append-nil (take n line)) ∙ short line n g.long);
-        left = u ∙ sym (g.rest_is ∙ ap rest_of u ∙ none_rest);
+        left = u' ∙ sym (g.rest_is ∙ ap rest_of u ∙ none_rest);
         long = g.long;
       }
 
@@ -144,7 +145,7 @@ going_from line n at x y h e = subst (λ z. Going (take n line) (drop at z) line
 
 -- ---- turns
 
-pub over_part : (e t o : Bool) → o ≡ cond e true (not t) → o ≡ false → e ≡ false
+pub over_part : (e t o : Bool) → o ≡ (e || not t) → o ≡ false → e ≡ false
 over_part true t o h f = clash o f h
 over_part false t o h f = refl
 
@@ -169,8 +170,8 @@ waits_is i taken line input line' g =
     ap (λ z. waits_for z taken.is_end taken.length) g.whole
     ∙ ap (λ z. cond (has_end (unread i input)) false (cond taken.is_end z true)) (empty_same taken.length line' (gone i line input) g.long g.gone_on)
 
-pub turned_waits : (t : Turn) (i taken : Input) (line input line' file state out : List ℕ) → Takes (begun i line) (unread i input) i.is_end taken line' input → waiting taken ≡ true → Turned t i (record { session = t.session; input = taken; line = t.line; is_over = taken.is_end }) line input file state out line' file state out
-turned_waits t i taken line input line' file state out g w =
+pub turned_waits : (t : Turn) (i taken : Input) (line input line' : List ℕ) (s : Session) → Takes (begun i line) (unread i input) i.is_end taken line' input → waiting taken ≡ true → Turned t i (record { input = taken; line = t.line; is_over = taken.is_end }) line input s line' s
+turned_waits t i taken line input line' s g w =
     record {
       left = g.left;
       ended = g.ended;
@@ -181,13 +182,13 @@ turned_waits t i taken line input line' file state out g w =
       waits_too = λ h. (refl, refl, refl);
     }
 
-pub turned_answered : (t : Turn) (i taken : Input) (line input line' file state out file' state' out' : List ℕ) (kept : Session) (n k : ℕ) (over : Bool) → Takes (begun i line) (unread i input) i.is_end taken line' input → Replies (reply t.line (take taken.length line') (standing t.session file state)) n kept file' state' out' → waiting taken ≡ false → k ≡ after t.line → (over ≡ false → taken.is_end ≡ false) → Turned t i (record { session = kept; input = record { at = taken.at; end = taken.end; length = 0; is_whole = false; is_end = taken.is_end }; line = k; is_over = over }) line input file state out line' file' state' out'
-turned_answered t i taken line input line' file state out file' state' out' kept n k over g r w a o =
+pub turned_answered : (t : Turn) (i taken : Input) (line input line' : List ℕ) (s s' : Session) (n k : ℕ) (over : Bool) → Takes (begun i line) (unread i input) i.is_end taken line' input → Replies (reply t.line (take taken.length line') (standing s)) n s' → waiting taken ≡ false → k ≡ after t.line → (over ≡ false → taken.is_end ≡ false) → Turned t i (record { input = record { at = taken.at; end = taken.end; length = 0; is_whole = false; is_end = taken.is_end }; line = k; is_over = over }) line input s line' s'
+turned_answered t i taken line input line' s s' n k over g r w a o =
     record {
       left = g.left;
       ended = g.ended;
       over = o;
-      answered = λ h. (n, subst (λ l. Replies (reply t.line l (standing t.session file state)) n kept file' state' out') g.gone_on r);
+      answered = λ h. (n, subst (λ l. Replies (reply t.line l (standing s)) n s') g.gone_on r);
       next = λ h. (refl, a);
       waits = λ h. clash (waiting taken) w (waits_is i taken line input line' g ∙ h);
       waits_too = λ h. clash (waiting taken) w (waits_is i taken line input line' g ∙ h);
@@ -197,14 +198,11 @@ turned_answered t i taken line input line' file state out file' state' out' kept
 pub front : (n k m : ℕ) (out : List ℕ) → k ≤ length out → k ≡ length (take k out) → take k out ≡ take n out → m ≡ length (take k out) → Said (take n out) m out
 front n k m out le c e w = record { inside = omega (arith, le, c, w); is = ap (λ z. take z out) (w ∙ sym c) ∙ e }
 
-pub handed : {w : Reply} {n m : ℕ} {s : Session} {file state out : List ℕ} → Replies w n s file state out → Said (take n out) m out → Replies w m s file state out
+pub handed : {w : Reply} {n m : ℕ} {s : Session} → Replies w n s → Said (take n s.out) m s.out → Replies w m s
 handed r h = record { said = record { inside = h.inside; is = h.is ∙ r.said.is }; kept = r.kept }
 
-pub of_part : {n : ℕ} {s : Session} {file state out : List ℕ} (number : ℕ) (a b : List ℕ) (st : Standing) → a ≡ b → Replies (reply number a st) n s file state out → Replies (reply number b st) n s file state out
-of_part {n} {s} {file} {state} {out} number a b st e h = subst (λ l. Replies (reply number l st) n s file state out) e h
-
-pub at_end_lem : (i : Input) → i.is_whole ≡ false → i.is_end ≡ true → eqb i.length 0 ≡ waiting i
-at_end_lem i w e = sym (ap (λ x. cond x false (cond i.is_end (eqb i.length 0) true)) w ∙ ap (λ x. cond x (eqb i.length 0) true) e)
+pub of_part : {n : ℕ} {s : Session} (number : ℕ) (a b : List ℕ) (st : Standing) → a ≡ b → Replies (reply number a st) n s → Replies (reply number b st) n s
+of_part {n} {s} number a b st e h = subst (λ l. Replies (reply number l st) n s) e h
 
 -- ---- a line that is too long: what is kept of it is too long, too
 

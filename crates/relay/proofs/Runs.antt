@@ -11,7 +11,8 @@ use lib.Dec.{eqb, eqb→eq}
 use Rattle.ol_spec.proofs.Tests.{T_false}
 use Rattle.relay_text.specs.Lines.{Said}
 use Rattle.relay.specs.Reply.{Standing, closed, opened, reply}
-use Rattle.relay.specs.Kept.{standing}
+use Rattle.std.specs.Prelude.{None}
+use Rattle.relay.specs.Kept.{stands_by, standing}
 use Rattle.relay.specs.Turns.{line_of, rest_of, has_end, cut, unread, waits_for, waits_at, gone, Refills, Turned}
 use Rattle.relay.specs.Sessions.{behind, ended_by, lines_from, tail_from, lines_of, tail_of, last_line, all_lines, session, last_text, Served}
 use Rattle.relay.specs.declared.Input.{Input}
@@ -149,15 +150,15 @@ more_texts n (x ∷ ls) l st =
 
 -- ---- the loop
 
--- where the loop stands, with so many turns to go: no line's number is above the turns
-pub record Serving (t : Turn) (turns : ℕ) (line input file state out : List ℕ) : Type 0 where
-  pub served : Served t line input file state out
+-- where the loop stands, behind so many turns: no more lines are answered
+pub record Serving (t : Turn) (turns : ℕ) (line input : List ℕ) (kept : Session) : Type 0 where
+  pub served : Served t line input kept
   pub over : t.is_over ≡ false → t.input.is_end ≡ false
-  pub room : length served.answered + turns ≤ 18446744073709551615
+  pub few : length served.answered ≤ turns
 
-pub serving_start : (s : Session) (line input file state out : List ℕ) → s.is_open ≡ false → Serving (record { session = s; input = record { at = 0; end = 0; length = 0; is_whole = false; is_end = false }; line = 1; is_over = false }) 18446744073709551615 line input file state out
+pub serving_start : (line input : List ℕ) (kept : Session) → kept.kept ≡ None → Serving (record { input = record { at = 0; end = 0; length = 0; is_whole = false; is_end = false }; line = 1; is_over = false }) 0 line input kept
 unfolding lines_from tail_from session last_text
-serving_start s line input file state out c =
+serving_start line input kept c =
     record {
       served = record {
         read = [];
@@ -167,12 +168,12 @@ serving_start s line input file state out c =
         tail = λ o. refl;
         kept = λ o. refl;
         all = λ o. clash false refl o;
-        stands = ap (λ z. cond z (opened (take s.file file) (take s.state state)) closed) c;
+        stands = ap (λ z. stands_by z kept.file kept.state) c;
         said = (0, record { inside = omega arith; is = refl });
         number = λ o. refl;
       };
       over = λ o. refl;
-      room = omega arith;
+      few = omega arith;
     }
 
 -- the bytes that are read, those that the turn goes on with at their end
@@ -202,17 +203,17 @@ reads_on i input read answered begins more a t s =
     })
 
 -- what stands, what is said and the next number, after these lines
-record After (lines : List (List ℕ)) (r : Turn) (file state out : List ℕ) : Type 0 where
-  pub stands : standing r.session file state ≡ (session 1 lines closed).stands
-  pub said : (n : ℕ) × Said (last_text [] (session 1 lines closed).texts) n out
+record After (lines : List (List ℕ)) (r : Turn) (kept : Session) : Type 0 where
+  pub stands : standing kept ≡ (session 1 lines closed).stands
+  pub said : (n : ℕ) × Said (last_text [] (session 1 lines closed).texts) n kept.out
   pub number : length lines < 18446744073709551615 → r.line ≡ 1 + length lines
 
 -- a turn more: at most one line more is answered than the n before
-record Step (n : ℕ) (r : Turn) (line input file state out : List ℕ) : Type 0 where
-  pub served : Served r line input file state out
+record Step (n : ℕ) (r : Turn) (line input : List ℕ) (kept : Session) : Type 0 where
+  pub served : Served r line input kept
   pub grows : length served.answered ≤ n + 1
 
-module _ (t r : Turn) (i : Input) (line input input' file state out line' file' state' out' : List ℕ) (s : Served t line input file state out) (q : Refills t.input input i input') (d : Turned t i r line input' file state out line' file' state' out') (o : t.input.is_end ≡ false) (lt : length s.answered < 18446744073709551615) where
+module _ (t r : Turn) (i : Input) (line input input' line' : List ℕ) (kept kept' : Session) (s : Served t line input kept) (q : Refills t.input input i input') (d : Turned t i r line input' kept line' kept') (o : t.input.is_end ≡ false) (lt : length s.answered < 18446744073709551615) where
   -- what the turn goes on with: what was unread, or what a read gave
   abbrev more : List ℕ
   more = unread i input'
@@ -226,24 +227,24 @@ module _ (t r : Turn) (i : Input) (line input input' file state out line' file' 
   gone_is : gone i line input' ≡ cut whole
   gone_is = ap (λ z. cut (z ++ line_of more)) (ap (λ n. take n line) q.begun_is ∙ s.kept o) ∙ cut_less 262145 s.begins (line_of more)
 
-  reply_is : reply t.line (gone i line input') (standing t.session file state) ≡ reply (1 + length s.answered) whole (session 1 s.answered closed).stands
+  reply_is : reply t.line (gone i line input') (standing kept) ≡ reply (1 + length s.answered) whole (session 1 s.answered closed).stands
   reply_is =
-      ap (λ z. reply z (gone i line input') (standing t.session file state)) (s.number lt)
-      ∙ ap (λ z. reply (1 + length s.answered) z (standing t.session file state)) gone_is
-      ∙ reply_cut (1 + length s.answered) whole (standing t.session file state)
+      ap (λ z. reply z (gone i line input') (standing kept)) (s.number lt)
+      ∙ ap (λ z. reply (1 + length s.answered) z (standing kept)) gone_is
+      ∙ reply_cut (1 + length s.answered) whole (standing kept)
       ∙ ap (λ z. reply (1 + length s.answered) whole z) s.stands
 
-  answered_more : waits_at i r line input' ≡ false → After (s.answered ++ (whole ∷ [])) r file' state' out'
+  answered_more : waits_at i r line input' ≡ false → After (s.answered ++ (whole ∷ [])) r kept'
   answered_more w =
       let a = d.answered w in
       let one : length (s.answered ++ (whole ∷ [])) ≡ length s.answered + 1 = length-append s.answered (whole ∷ []) in
       record {
         stands = a.1.kept ∙ ap (λ z. z.stands) reply_is ∙ sym (more_stands 1 s.answered whole closed);
-        said = (a.0, subst (λ z. Said z a.0 out') (ap (λ z. z.text) reply_is ∙ sym (ap (last_text []) (more_texts 1 s.answered whole closed) ∙ last_of [] (session 1 s.answered closed).texts (reply (1 + length s.answered) whole (session 1 s.answered closed).stands).text)) a.1.said);
+        said = (a.0, subst (λ z. Said z a.0 kept'.out) (ap (λ z. z.text) reply_is ∙ sym (ap (last_text []) (more_texts 1 s.answered whole closed) ∙ last_of [] (session 1 s.answered closed).texts (reply (1 + length s.answered) whole (session 1 s.answered closed).stands).text)) a.1.said);
         number = λ h. omega (arith, one, s.number lt, (d.next w).1);
       }
 
-  waited : waits_at i r line input' ≡ true → After s.answered r file' state' out'
+  waited : waits_at i r line input' ≡ true → After s.answered r kept'
   waited w =
       record {
         stands = (d.waits w).1 ∙ s.stands;
@@ -252,7 +253,7 @@ module _ (t r : Turn) (i : Input) (line input input' file state out line' file' 
       }
 
   -- a line's end is met
-  line_ends : has_end more ≡ true → Step (length s.answered) r line' input' file' state' out'
+  line_ends : has_end more ≡ true → Step (length s.answered) r line' input' kept'
   line_ends h =
       let w : waits_at i r line input' ≡ false = ap (λ z. waits_for z r.input.is_end (length (gone i line input'))) h in
       let a = answered_more w in
@@ -274,7 +275,7 @@ module _ (t r : Turn) (i : Input) (line input input' file state out line' file' 
       }
 
   -- the line waits for more
-  line_waits : has_end more ≡ false → r.input.is_end ≡ false → Step (length s.answered) r line' input' file' state' out'
+  line_waits : has_end more ≡ false → r.input.is_end ≡ false → Step (length s.answered) r line' input' kept'
   line_waits h e =
       let w : waits_at i r line input' ≡ true = ap (λ z. waits_for z r.input.is_end (length (gone i line input'))) h ∙ ap (λ z. cond z (eqb (length (gone i line input')) 0) true) e in
       let a = waited w in
@@ -302,7 +303,7 @@ module _ (t r : Turn) (i : Input) (line input input' file state out line' file' 
       ap (λ z. z ++ last_line (tail_of reads.read)) (reads.lines_are ∙ ap (λ z. s.answered ++ z) f.lines_are ∙ append-nil s.answered)
       ∙ ap (λ z. s.answered ++ last_line z) (reads.tail_is ∙ f.tail_is)
 
-  at_last : (lines : List (List ℕ)) → length lines ≤ length s.answered + 1 → r.input.is_end ≡ true → lines ≡ all_lines reads.read → After lines r file' state' out' → Step (length s.answered) r line' input' file' state' out'
+  at_last : (lines : List (List ℕ)) → length lines ≤ length s.answered + 1 → r.input.is_end ≡ true → lines ≡ all_lines reads.read → After lines r kept' → Step (length s.answered) r line' input' kept'
   at_last lines g e all a =
       record {
         grows = g;
@@ -320,7 +321,7 @@ module _ (t r : Turn) (i : Input) (line input input' file state out line' file' 
         };
       }
 
-  line_last : has_end more ≡ false → r.input.is_end ≡ true → Step (length s.answered) r line' input' file' state' out'
+  line_last : has_end more ≡ false → r.input.is_end ≡ true → Step (length s.answered) r line' input' kept'
   line_last h e =
       let w : waits_at i r line input' ≡ eqb (length (gone i line input')) 0 = ap (λ z. waits_for z r.input.is_end (length (gone i line input'))) h ∙ ap (λ z. cond z (eqb (length (gone i line input')) 0) true) e in
       let k : eqb (length (gone i line input')) 0 ≡ eqb (length (cut whole)) 0 = ap (λ z. eqb (length z) 0) gone_is in
@@ -329,10 +330,10 @@ module _ (t r : Turn) (i : Input) (line input input' file state out line' file' 
       (λ none. at_last s.answered (omega arith) e (sym (all_are h ∙ ap (λ z. s.answered ++ z) (no_last 262144 whole (sym k ∙ none)) ∙ append-nil s.answered)) (waited (w ∙ none)))
       (λ some. at_last (s.answered ++ (whole ∷ [])) (omega (arith, length-append s.answered (whole ∷ []))) e (sym (all_are h ∙ ap (λ z. s.answered ++ z) (a_last 262144 whole (sym k ∙ some)))) (answered_more (w ∙ some)))
 
-  step : Step (length s.answered) r line' input' file' state' out'
+  step : Step (length s.answered) r line' input' kept'
   step = either (has_end more) line_ends (λ h. either r.input.is_end (line_last h) (line_waits h))
 
-pub serving_turn : (t r : Turn) (i : Input) (turns : ℕ) (line input input' file state out line' file' state' out' : List ℕ) → Serving t turns line input file state out → Refills t.input input i input' → Turned t i r line input' file state out line' file' state' out' → t.is_over ≡ false → 0 < turns → Serving r (turns - 1) line' input' file' state' out'
-serving_turn t r i turns line input input' file state out line' file' state' out' g q d o lt =
-    let one = step t r i line input input' file state out line' file' state' out' g.served q d (g.over o) (omega (arith, g.room, lt)) in
-    record { served = one.served; over = d.over; room = omega (arith, one.grows, g.room, lt) }
+pub serving_turn : (t r : Turn) (i : Input) (turns : ℕ) (line input input' line' : List ℕ) (kept kept' : Session) → Serving t turns line input kept → Refills t.input input i input' → Turned t i r line input' kept line' kept' → t.is_over ≡ false → turns < 18446744073709551615 → Serving r (turns + 1) line' input' kept'
+serving_turn t r i turns line input input' line' kept kept' g q d o lt =
+    let one = step t r i line input input' line' kept kept' g.served q d (g.over o) (omega (arith, g.few, lt)) in
+    record { served = one.served; over = d.over; few = omega (arith, one.grows, g.few) }

@@ -1,24 +1,21 @@
 -- What a line is answered with, and what stands then: oracle/README.md's protocol over the public calls.
-use Rattle.std.specs.Prelude.{ℕ, ◌*◌, cond, List, [], ◌∷◌, length, replicate, eqb, leb}
+use Rattle.std.specs.Prelude.{ℕ, ◌*◌, ◌&&◌, cond, List, [], ◌∷◌, length, replicate, leb, Option, Some, None, Ok, Err}
 use Rattle.ol_spec.specs.Limits.{relay_loader}
 use Rattle.ol_spec.specs.Syntax.{variables, main}
 use Rattle.ol_spec.specs.Read.{read_file}
 use Rattle.ol_spec.specs.Admission.{Judged, refused, admitted, judge, admission}
-use Rattle.ol_spec.specs.Answers.{no_fault, verdict_fault, verdict_length}
+use Rattle.ol_spec.specs.Answers.{verdict_fault, verdict_length}
 use Rattle.ol_spec.specs.Cycle.{OrderingCall, CycleCall, ordering, start, cycle}
 use Rattle.ol_spec.specs.Demand3.{next_state}
 use Rattle.ol_spec.specs.declared.Fault.{Fault}
-use Rattle.ol_spec.specs.declared.Verdict.{Verdict}
-use Rattle.ol_spec.specs.declared.Verdict.TheVariants as Ver
-use Rattle.ol_spec.specs.declared.Sorted.{Sorted}
-use Rattle.ol_spec.specs.declared.Sorted.TheVariants as Sort
+use Rattle.ol_spec.specs.Answers.{Verdict}
+use Rattle.ol_spec.specs.Answers.{Sorted}
 use Rattle.ol_spec.specs.declared.Cycled.{Cycled}
 use Rattle.ol_spec.specs.declared.Cycled.TheVariants as Cyc
 use Rattle.ol_order.specs.Counts.{equations_of}
 use Rattle.relay_text.specs.Lines.{error_line, refused_line, admit_line, state_line, answered_line, stopped_line, order_line, no_order_line}
 use Rattle.relay.specs.Requests.{Asked, order_of, start_again, load_of, cycle_of, cycle_at, Line, silent, wrong, file_of, about, asks}
-use Rattle.relay.specs.declared.request.Lengths.{Lengths}
-use Rattle.relay.specs.declared.request.Lengths.TheVariants as Len
+use Rattle.relay.specs.declared.request.Lent.{Lent}
 use Rattle.relay.specs.declared.request.Reason.{Reason}
 use Rattle.relay.specs.declared.request.Reason.TheVariants as Why
 
@@ -71,14 +68,14 @@ abbrev pub admit_text : Verdict → List ℕ
 admit_text v = admit_line (verdict_fault v).number (verdict_fault v).place (verdict_length v)
 
 abbrev pub start_text : Verdict → List ℕ → List ℕ
-start_text (Ver.Admitted n) state = state_line state
-start_text (Ver.Refused x) state = refusal x
+start_text (Ok n) state = state_line state
+start_text (Err x) state = refusal x
 
 -- ---- order NODE
 
 abbrev pub order_ends : Sorted → List ℕ → List ℕ
-order_ends Sort.Done entries = order_line entries
-order_ends (Sort.Refused x) entries = no_order_line x.number x.place
+order_ends (Ok tt) entries = order_line entries
+order_ends (Err x) entries = no_order_line x.number x.place
 
 abbrev pub order_text : OrderingCall → List ℕ
 order_text w = order_ends w.answer w.buffer
@@ -90,20 +87,21 @@ order_call file k = ordering relay_loader file k (zeros (equations_of (read_file
 -- ---- load STATE
 
 -- what a cycle is refused with for its file or its old state (1 to 15)
-abbrev pub state_fault : Cycled → Fault
-state_fault Cyc.Answered = no_fault
-state_fault (Cyc.Stopped x) = no_fault
-state_fault (Cyc.Refused x) = cond (leb x.number 15) x no_fault
+abbrev pub state_fault : Cycled → Option Fault
+state_fault Cyc.Answered = None
+state_fault (Cyc.Stopped x) = None
+state_fault (Cyc.Refused x) = cond (leb 1 x.number && leb x.number 15) (Some x) None
 
-abbrev pub load_fault : List ℕ → List ℕ → Fault
+abbrev pub load_fault : List ℕ → List ℕ → Option Fault
 load_fault file state = state_fault (cycle relay_loader file state [] [] []).answer
 
 -- loaded
 abbrev pub loaded_line : List ℕ
 loaded_line = 108 ∷ 111 ∷ 97 ∷ 100 ∷ 101 ∷ 100 ∷ 10 ∷ []
 
-abbrev pub load_by : Fault → List ℕ → List ℕ → Told
-load_by x state given = cond (eqb x.number 0) (record { text = loaded_line; state = given }) (record { text = refusal x; state = state })
+abbrev pub load_by : Option Fault → List ℕ → List ℕ → Told
+load_by None state given = record { text = loaded_line; state = given }
+load_by (Some x) state given = record { text = refusal x; state = state }
 
 abbrev pub load_told : List ℕ → List ℕ → List ℕ → Told
 load_told file given state = load_by (load_fault file given) state given
@@ -125,20 +123,20 @@ abbrev pub end_told : CycleCall → List ℕ → Told
 end_told w old = record { text = end_text w.answer w.new w.values; state = next_state w.answer old w.new }
 
 -- the cycle that is lent a new state and values of the lengths that the line gives; else of the right ones
-abbrev pub cycle_call : List ℕ → List ℕ → List ℕ → Lengths → CycleCall
-cycle_call file old inputs (Len.These n v) = cycle relay_loader file old inputs (zeros n) (zeros v)
-cycle_call file old inputs Len.Right = cycle relay_loader file old inputs (zeros (length old)) (zeros (values_length (judge relay_loader file)))
-cycle_call file old inputs Len.Malformed = cycle relay_loader file old inputs (zeros (length old)) (zeros (values_length (judge relay_loader file)))
+abbrev pub cycle_call : List ℕ → List ℕ → List ℕ → Option Lent → CycleCall
+cycle_call file old inputs (Some l) = cycle relay_loader file old inputs (zeros l.state) (zeros l.values)
+cycle_call file old inputs None = cycle relay_loader file old inputs (zeros (length old)) (zeros (values_length (judge relay_loader file)))
 
-abbrev pub cycle_told : List ℕ → List ℕ → Lengths → List ℕ → Told
+abbrev pub cycle_told : List ℕ → List ℕ → Option Lent → List ℕ → Told
 cycle_told file inputs l state = end_told (cycle_call file state inputs l) state
 
 -- ---- at STATE INPUTS [LENGTHS]: load and cycle in one
 
-abbrev pub at_by : Fault → List ℕ → List ℕ → List ℕ → Lengths → List ℕ → Told
-at_by x file given inputs l state = cond (eqb x.number 0) (cycle_told file inputs l given) (record { text = refusal x; state = state })
+abbrev pub at_by : Option Fault → List ℕ → List ℕ → List ℕ → Option Lent → List ℕ → Told
+at_by None file given inputs l state = cycle_told file inputs l given
+at_by (Some x) file given inputs l state = record { text = refusal x; state = state }
 
-abbrev pub at_told : List ℕ → List ℕ → List ℕ → Lengths → List ℕ → Told
+abbrev pub at_told : List ℕ → List ℕ → List ℕ → Option Lent → List ℕ → Told
 at_told file given inputs l state = at_by (load_fault file given) file given inputs l state
 
 -- ---- the reply

@@ -1,15 +1,11 @@
 -- What a line asks for: oracle/README.md's protocol, line by line.
-use Rattle.std.specs.Prelude.{ℕ, ◌+◌, Bool, true, cond, ◌||◌, List, [], ◌∷◌, length, get_or, eqb, ltb, leb}
-use Rattle.std.proofs.Math.Option.{Option, none, some}
+use Rattle.std.specs.Prelude.{ℕ, ◌+◌, Bool, cond, ◌||◌, List, [], ◌∷◌, length, get_or, eqb, ltb, leb, Option, Some, None, Result, Ok, Err}
 use Rattle.ol_spec.specs.Lists.{same}
 use Rattle.relay_text.specs.Text.{word_from, words_up_to, bytes_of, number_of}
 use Rattle.relay_text.specs.Lines.{word_text}
-use Rattle.relay_text.specs.declared.Number.{Number}
-use Rattle.relay_text.specs.declared.Number.TheVariants as Num
 use Rattle.relay.specs.declared.request.Command.{Command}
 use Rattle.relay.specs.declared.request.Command.TheVariants as Com
-use Rattle.relay.specs.declared.request.Lengths.{Lengths}
-use Rattle.relay.specs.declared.request.Lengths.TheVariants as Len
+use Rattle.relay.specs.declared.request.Lent.{Lent}
 use Rattle.relay.specs.declared.request.Reason.{Reason}
 use Rattle.relay.specs.declared.request.Reason.TheVariants as Why
 
@@ -18,8 +14,8 @@ pub data Asked : Type 0 where
   order_of : ℕ → Asked
   start_again : Asked
   load_of : List ℕ → Asked
-  cycle_of : List ℕ → Lengths → Asked
-  cycle_at : List ℕ → List ℕ → Lengths → Asked
+  cycle_of : List ℕ → Option Lent → Asked
+  cycle_at : List ℕ → List ℕ → Option Lent → Asked
 
 -- a line that says nothing; one that is wrong; a file; a question about the file
 pub data Line : Type 0 where
@@ -50,11 +46,12 @@ abbrev pub at_word : List ℕ
 at_word = 97 ∷ 116 ∷ []
 
 -- the command that a word names
-unfoldable pub command_of : List ℕ → Command
+unfoldable pub command_of : List ℕ → Result Command Reason
 command_of t =
-    cond (same t file_word) Com.File
-    (cond (same t order_name) Com.Order
-    (cond (same t start_word) Com.Start (cond (same t load_word) Com.Load (cond (same t cycle_word) Com.Cycle (cond (same t at_word) Com.At Com.Unknown)))))
+    cond (same t file_word) (Ok Com.File)
+    (cond (same t order_name) (Ok Com.Order)
+    (cond (same t start_word) (Ok Com.Start)
+    (cond (same t load_word) (Ok Com.Load) (cond (same t cycle_word) (Ok Com.Cycle) (cond (same t at_word) (Ok Com.At) (Err Why.UnknownCommand))))))
 
 -- whether a command may have so many words, its own included
 abbrev pub fits_words : Command → ℕ → Bool
@@ -64,33 +61,32 @@ fits_words Com.Start n = eqb n 1
 fits_words Com.Load n = eqb n 2
 fits_words Com.Cycle n = eqb n 2 || eqb n 4
 fits_words Com.At n = eqb n 3 || eqb n 5
-fits_words Com.Unknown n = true
 
 -- ---- its words
 
 -- with the bytes that a word stands for, or in error
 abbrev pub with_bytes : Option (List ℕ) → (List ℕ → Line) → Line
-with_bytes none k = wrong Why.MalformedHexadecimal
-with_bytes (some b) k = k b
+with_bytes None k = wrong Why.MalformedHexadecimal
+with_bytes (Some b) k = k b
 
-abbrev pub with_number : Number → (ℕ → Line) → Line
-with_number (Num.Of n) k = k n
-with_number Num.Malformed k = wrong Why.MalformedNumber
+abbrev pub with_number : Option ℕ → (ℕ → Line) → Line
+with_number None k = wrong Why.MalformedNumber
+with_number (Some n) k = k n
 
-abbrev pub with_lengths : Lengths → (Lengths → Line) → Line
-with_lengths Len.Right k = k Len.Right
-with_lengths (Len.These n v) k = k (Len.These n v)
-with_lengths Len.Malformed k = wrong Why.MalformedNumber
+-- with what a line gives, or in error
+abbrev pub with_ok : {A : Type 0} → Result A Reason → (A → Line) → Line
+with_ok (Ok x) k = k x
+with_ok (Err why) k = wrong why
 
 -- two numbers as the lengths of the new state and of the values
-abbrev pub both_of : Number → Number → Lengths
-both_of (Num.Of n) (Num.Of v) = Len.These n v
-both_of (Num.Of n) Num.Malformed = Len.Malformed
-both_of Num.Malformed v = Len.Malformed
+abbrev pub both_of : Option ℕ → Option ℕ → Result (Option Lent) Reason
+both_of (Some n) (Some v) = Ok (Some (record { state = n; values = v }))
+both_of (Some n) None = Err Why.MalformedNumber
+both_of None v = Err Why.MalformedNumber
 
 -- the lengths that a line gives from its word number k on, if it goes on so far
-abbrev pub lengths_of : List ℕ → ℕ → Lengths
-lengths_of line k = cond (leb (words_up_to 6 line 0) k) Len.Right (both_of (number_of (word_text line k)) (number_of (word_text line (k + 1))))
+abbrev pub lengths_of : List ℕ → ℕ → Result (Option Lent) Reason
+lengths_of line k = cond (leb (words_up_to 6 line 0) k) (Ok None) (both_of (number_of (word_text line k)) (number_of (word_text line (k + 1))))
 
 -- ---- the line
 
@@ -99,10 +95,9 @@ asked_by Com.File line = with_bytes (bytes_of (word_text line 1)) file_of
 asked_by Com.Order line = with_number (number_of (word_text line 1)) (λ n. about (order_of n))
 asked_by Com.Start line = about start_again
 asked_by Com.Load line = with_bytes (bytes_of (word_text line 1)) (λ b. about (load_of b))
-asked_by Com.Cycle line = with_lengths (lengths_of line 2) (λ l. with_bytes (bytes_of (word_text line 1)) (λ i. about (cycle_of i l)))
+asked_by Com.Cycle line = with_ok (lengths_of line 2) (λ l. with_bytes (bytes_of (word_text line 1)) (λ i. about (cycle_of i l)))
 asked_by Com.At line =
-    with_lengths (lengths_of line 3) (λ l. with_bytes (bytes_of (word_text line 2)) (λ i. with_bytes (bytes_of (word_text line 1)) (λ b. about (cycle_at b i l))))
-asked_by Com.Unknown line = wrong Why.UnknownCommand
+    with_ok (lengths_of line 3) (λ l. with_bytes (bytes_of (word_text line 2)) (λ i. with_bytes (bytes_of (word_text line 1)) (λ b. about (cycle_at b i l))))
 
 -- a line without a word, or whose first word begins with #
 abbrev pub is_silent : List ℕ → Bool
@@ -116,4 +111,4 @@ abbrev pub longest : ℕ
 longest = 262144
 
 unfoldable pub asks : List ℕ → Line
-asks line = cond (ltb longest (length line)) (wrong Why.LineTooLong) (cond (is_silent line) silent (asks_as (command_of (word_text line 0)) line))
+asks line = cond (ltb longest (length line)) (wrong Why.LineTooLong) (cond (is_silent line) silent (with_ok (command_of (word_text line 0)) (λ c. asks_as c line)))

@@ -6,6 +6,7 @@ use Rattle.relay.specs.Reply.{Standing, closed, reply}
 use Rattle.relay.specs.Kept.{standing}
 use Rattle.relay.specs.Turns.{cut, unread, begun}
 use Rattle.relay.specs.declared.Turn.{Turn}
+use Rattle.relay.specs.declared.session.Session.{Session}
 
 -- ---- lines
 
@@ -64,7 +65,7 @@ last_text t (u ∷ us) = last_text u us
 
 -- a run that ends at r, having read these bytes: the lines of `answered` were answered in turn, from number 1 on, and stand at the front of the lines that were read; the lines behind them are in `begins` and what is unread.
 -- Once the input is at its end, `answered` is all lines, also a last one without an end. At the start of the buffer is the last text
-pub record Served (r : Turn) (line input file state out : List ℕ) : Type 0 where
+pub record Served (r : Turn) (line input : List ℕ) (s : Session) : Type 0 where
   pub read : List ℕ
   pub answered : List (List ℕ)
   pub begins : List ℕ
@@ -72,6 +73,6 @@ pub record Served (r : Turn) (line input file state out : List ℕ) : Type 0 whe
   pub tail : r.input.is_end ≡ false → tail_of read ≡ tail_from begins (unread r.input input)
   pub kept : r.input.is_end ≡ false → begun r.input line ≡ cut begins
   pub all : r.input.is_end ≡ true → answered ≡ all_lines read
-  pub stands : standing r.session file state ≡ (session 1 answered closed).stands
-  pub said : (n : ℕ) × Said (last_text [] (session 1 answered closed).texts) n out
+  pub stands : standing s ≡ (session 1 answered closed).stands
+  pub said : (n : ℕ) × Said (last_text [] (session 1 answered closed).texts) n s.out
   pub number : length answered < 18446744073709551615 → r.line ≡ 1 + length answered

@@ -5,6 +5,7 @@ use Rattle.relay.specs.Reply.{reply}
 use Rattle.relay.specs.Kept.{standing, Replies}
 use Rattle.relay.specs.declared.Input.{Input}
 use Rattle.relay.specs.declared.Turn.{Turn}
+use Rattle.relay.specs.declared.session.Session.{Session}
 
 -- the bytes up to the first line's end, those behind it, and whether there is one
 unfoldable pub line_of : List ℕ → List ℕ
@@ -64,11 +65,11 @@ waits_at i r line input = waits_for (has_end (unread i input)) r.input.is_end (l
 
 -- a turn, from t to r, with the input i: a line whose end is met is answered, and so is a last line without one, if there is anything of it; the next line has the next number, and what is behind the line stays unread.
 -- Else the line waits for more, and what stands stays; the run is over then only if the input is at its end
-pub record Turned (t : Turn) (i : Input) (r : Turn) (line input file state out line' file' state' out' : List ℕ) : Type 0 where
+pub record Turned (t : Turn) (i : Input) (r : Turn) (line input : List ℕ) (s : Session) (line' : List ℕ) (s' : Session) : Type 0 where
   pub left : unread r.input input ≡ rest_of (unread i input)
   pub ended : r.input.is_end ≡ cond (has_end (unread i input)) false i.is_end
   pub over : r.is_over ≡ false → r.input.is_end ≡ false
-  pub answered : waits_at i r line input ≡ false → (n : ℕ) × Replies (reply t.line (gone i line input) (standing t.session file state)) n r.session file' state' out'
+  pub answered : waits_at i r line input ≡ false → (n : ℕ) × Replies (reply t.line (gone i line input) (standing s)) n s'
   pub next : waits_at i r line input ≡ false → (begun r.input line' ≡ []) × (r.line ≡ after t.line)
-  pub waits : waits_at i r line input ≡ true → (begun r.input line' ≡ gone i line input) × (standing r.session file' state' ≡ standing t.session file state)
-  pub waits_too : waits_at i r line input ≡ true → (r.line ≡ t.line) × (out' ≡ out) × (r.is_over ≡ r.input.is_end)
+  pub waits : waits_at i r line input ≡ true → (begun r.input line' ≡ gone i line input) × (standing s' ≡ standing s)
+  pub waits_too : waits_at i r line input ≡ true → (r.line ≡ t.line) × (s'.out ≡ s.out) × (r.is_over ≡ r.input.is_end)

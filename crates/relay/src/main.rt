@@ -4,7 +4,7 @@
 mod request;
 mod session;
 
-ghost use Rattle.std.specs.Prelude.{◌≡◌, true, cond, not, length, take};
+ghost use Rattle.std.specs.Prelude.{◌≡◌, ◌||◌, not, length, take};
 ghost use Rattle.relay_text.specs.Lines.{Said};
 ghost use Rattle.relay.specs.Reply.{reply};
 ghost use Rattle.relay.specs.Kept.{standing, Replies};
@@ -17,6 +17,7 @@ use std::io::{Stdin, Stdout, Write};
 
 // A piece of the input as it is read: its bytes from `at` up to `end` are not taken yet. The line's first
 // `length` bytes are there. It is whole once its end was met; the input is at its end once a read gives nothing.
+// The first is of the line and the second of the input, which goes on behind a line, so one enum for both is no plainer.
 #[derive(Clone, Copy)]
 struct Input {
     at: usize,
@@ -28,43 +29,39 @@ struct Input {
 
 // Moves bytes of the input into the line, up to a line's end. Of a line that is too long the bytes
 // that do not fit are dropped.
-fn take_line(input: &[u8], i: Input, line: &mut [u8]) -> Input
-    requires { length line.old ≡ 262145 }
+fn take_line(input: &[u8], i: Input, line: &mut [u8; 262145]) -> Input
     ensures { Takes (begun i line.old) (unread i input.now) i.is_end result line.new input.now }
 {
-    let mut at = i.at;
-    let mut n = i.length;
+    let mut length = i.length;
     let end = relay_text::within(i.end, input);
-    while at < end {
+    for at in i.at..end {
         let b = input[at];
-        at += 1;
         if b == b'\n' {
             return Input {
-                at,
+                at: at + 1,
                 end,
-                length: n,
+                length,
                 is_whole: true,
                 is_end: false,
             };
         }
-        if n < line.len() {
-            line[n] = b;
-            n += 1;
+        if length < line.len() {
+            line[length] = b;
+            length += 1;
         }
     }
     Input {
-        at,
+        at: i.at.max(end),
         end,
-        length: n,
+        length,
         is_whole: false,
         is_end: i.is_end,
     }
 }
 
-// Where a session stands: what is kept, the input, the number of the line that is read, whether it is over.
+// Where a run stands: the input, the number of the line that is read, whether it is over.
 #[derive(Clone, Copy)]
 struct Turn {
-    session: Session,
     input: Input,
     line: usize,
     is_over: bool,
@@ -87,46 +84,16 @@ fn refill(stdin: Stdin, input: &mut [u8], i: Input) -> Input
     }
 }
 
-// Answers a line of so many bytes: what is kept, and whether the answer was taken.
-fn respond(
-    stdout: Stdout,
-    no: usize,
-    n: usize,
-    s: Session,
-    line: &[u8],
-    file: &mut [u8; 131072],
-    state: &mut [u8; 131072],
-    bytes: &mut [u8; 131072],
-    inputs: &mut [u8; 131072],
-    new: &mut [u8; 131072],
-    values: &mut [u8; 4096],
-    out: &mut [u8; 393216],
-) -> Answered
-    ensures { Replies (reply no (take n line.now) (standing s file.old state.old)) result.length result.session file.new state.new out.new }
+// Answers a line of so many bytes: what was handed to the write.
+fn respond(stdout: Stdout, no: usize, n: usize, line: &[u8], session: &mut Session) -> Written
+    ensures { Replies (reply no (take n line.now) (standing session.old)) result.length session.new }
 {
     let m = relay_text::within(n, line);
-    let r = session::answer(
-        no,
-        &line[..m],
-        s,
-        file,
-        state,
-        bytes,
-        inputs,
-        new,
-        values,
-        out,
-    );
-    let t = r.session;
-    let w = write_front(stdout, out, r.length);
-    Answered {
-        session: t,
-        length: w.length,
-        is_taken: w.is_taken,
-    }
+    let k = session.answer(no, &line[..m]);
+    write_front(stdout, &session.out, k)
 }
 
-// How many bytes a write was handed, and whether it took them.
+// How many bytes a write was handed, and whether it took them. Both hold of every write, so no Option says it plainer.
 #[derive(Clone, Copy)]
 struct Written {
     length: usize,
@@ -153,42 +120,25 @@ fn write_front(stdout: Stdout, out: &[u8], n: usize) -> Written
     write(stdout, &out[..k])
 }
 
-// What is kept, the length of the answer as it was written, and whether it was taken.
-#[derive(Clone, Copy)]
-struct Answered {
-    session: Session,
-    length: usize,
-    is_taken: bool,
-}
-
 // The number of the line behind this one.
 fn next(n: usize) -> usize
     ensures { result ≡ after n }
 {
-    if n < usize::MAX { n + 1 } else { n }
+    n.saturating_add(1)
 }
 
 // Whether a line waits for more: its end is not met, and the input goes on, or there is nothing of it.
 fn is_waiting(i: Input) -> bool
     ensures { result ≡ waiting i }
 {
-    if i.is_whole {
-        return false;
-    }
-    if i.is_end {
-        return i.length == 0;
-    }
-    true
+    !i.is_whole && (!i.is_end || i.length == 0)
 }
 
 // Whether the line that was answered is the last: the input is at its end, or the answer was not taken.
 fn is_last(ended: bool, taken: bool) -> bool
-    ensures { result ≡ cond ended true (not taken) }
+    ensures { result ≡ (ended || not taken) }
 {
-    if ended {
-        return true;
-    }
-    !taken
+    ended || !taken
 }
 
 // One turn, with an input that was refilled: takes what it has of a line, and answers the line once its end, or the input's, is met.
@@ -197,78 +147,46 @@ fn advance(
     t: Turn,
     i: Input,
     input: &[u8],
-    line: &mut [u8],
-    file: &mut [u8; 131072],
-    state: &mut [u8; 131072],
-    bytes: &mut [u8; 131072],
-    inputs: &mut [u8; 131072],
-    new: &mut [u8; 131072],
-    values: &mut [u8; 4096],
-    out: &mut [u8; 393216],
+    line: &mut [u8; 262145],
+    session: &mut Session,
 ) -> Turn
-    requires { length line.old ≡ 262145 }
-    ensures { Turned t i result line.old input.now file.old state.old out.old line.new file.new state.new out.new }
+    ensures { Turned t i result line.old input.now session.old line.new session.new }
 {
-    let s = t.session;
     let taken = take_line(input, i, line);
     if is_waiting(taken) {
         return Turn {
-            session: s,
             input: taken,
             line: t.line,
             is_over: taken.is_end,
         };
     }
-    let r = respond(
-        stdout,
-        t.line,
-        taken.length,
-        s,
-        line,
-        file,
-        state,
-        bytes,
-        inputs,
-        new,
-        values,
-        out,
-    );
-    let kept = r.session;
-    let rest = Input {
-        at: taken.at,
-        end: taken.end,
-        length: 0,
-        is_whole: false,
-        is_end: taken.is_end,
-    };
+    let written = respond(stdout, t.line, taken.length, line, session);
     Turn {
-        session: kept,
-        input: rest,
+        input: Input {
+            at: taken.at,
+            end: taken.end,
+            length: 0,
+            is_whole: false,
+            is_end: taken.is_end,
+        },
         line: next(t.line),
-        is_over: is_last(taken.is_end, r.is_taken),
+        is_over: is_last(taken.is_end, written.is_taken),
     }
 }
 
 // Answers the lines of the input in turn, up to the input's end or an answer that is not taken.
-// A proved loop has to end, and nothing says that the input does. So the loop counts its turns down from a number that no run uses up.
+// A proved loop has to end, and nothing says that the input does. So the loop counts its turns, up to a number that no run reaches.
 fn serve(
     stdin: Stdin,
     stdout: Stdout,
     input: &mut [u8],
-    line: &mut [u8],
-    file: &mut [u8; 131072],
-    state: &mut [u8; 131072],
-    bytes: &mut [u8; 131072],
-    inputs: &mut [u8; 131072],
-    new: &mut [u8; 131072],
-    values: &mut [u8; 4096],
-    out: &mut [u8; 393216],
+    line: &mut [u8; 262145],
+    session: &mut Session,
 ) -> Turn
-    requires { length line.old ≡ 262145 }
-    ensures { Served result line.new input.new file.new state.new out.new }
+    requires { session.old.kept ≡ None }
+    ensures { Served result line.new input.new session.new }
 {
     let mut t = Turn {
-        session: session::closed(),
         input: Input {
             at: 0,
             end: 0,
@@ -279,64 +197,20 @@ fn serve(
         line: 1,
         is_over: false,
     };
-    let mut turns = u64::MAX;
-    while turns > 0 {
+    for _ in 0..u64::MAX {
         if t.is_over {
             return t;
         }
-        let i = t.input;
-        let filled = refill(stdin, input, i);
-        t = advance(
-            stdout, t, filled, input, line, file, state, bytes, inputs, new, values, out,
-        );
-        turns -= 1;
+        let filled = refill(stdin, input, t.input);
+        t = advance(stdout, t, filled, input, line, session);
     }
     t
 }
 
 // Room for a line, and a character more, so that one that is too long is seen to be.
-fn line_buffer() -> [u8; 262145]
-    ensures { 262145 ≡ length result }
-{
-    [0; 262145]
-}
-
-// Room for the bytes that a line stands for.
-fn bytes_buffer() -> [u8; 131072]
-    ensures { 131072 ≡ length result }
-{
-    [0; 131072]
-}
-
-// Room for an answer.
-fn answer_buffer() -> [u8; 393216]
-    ensures { 393216 ≡ length result }
-{
-    [0; 393216]
-}
-
-// The buffers. A line of 262,144 characters stands for at most 131,072 bytes.
 fn main(rt: HostRuntime) {
     let mut input = io::large_buffer();
-    let mut line = line_buffer();
-    let mut file = bytes_buffer();
-    let mut state = bytes_buffer();
-    let mut bytes = bytes_buffer();
-    let mut inputs = bytes_buffer();
-    let mut new = bytes_buffer();
-    let mut values = io::buffer();
-    let mut out = answer_buffer();
-    serve(
-        rt.stdin(),
-        rt.stdout(),
-        &mut input,
-        &mut line,
-        &mut file,
-        &mut state,
-        &mut bytes,
-        &mut inputs,
-        &mut new,
-        &mut values,
-        &mut out,
-    );
+    let mut line = [0; 262145];
+    let mut session = Session::new();
+    serve(rt.stdin(), rt.stdout(), &mut input, &mut line, &mut session);
 }

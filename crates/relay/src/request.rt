@@ -1,13 +1,14 @@
 // What a line asks for. Bytes that a line gives are decoded into buffers, and told by their number.
-ghost use Rattle.std.specs.Prelude.{◌≡◌, List, ℕ, ◌+◌, ◌≤◌, length, take};
-ghost use Rattle.relay_text.specs.Text.{bytes_of};
+ghost use Rattle.std.specs.Prelude.{◌≡◌, ◌+◌, ◌≤◌, length, take, ok_or, MatchResult};
+ghost use Rattle.relay_text.specs.Text.{bytes_of, number_of};
 ghost use Rattle.relay_text.specs.Lines.{word_text};
-ghost use Rattle.relay.specs.Requests.{command_of, fits_words, lengths_of, with_bytes, cycle_of, cycle_at, about, asked_by, is_silent, asks};
+ghost use Rattle.relay.specs.Requests.{command_of, fits_words, lengths_of, asked_by, is_silent, asks};
+ghost use Rattle.relay.specs.Reply.{reason_text};
 ghost use Rattle.relay.specs.Kept.{asked};
-ghost use Rattle.relay.specs.declared.request.Command.TheVariants as Com;
+ghost use Rattle.relay.specs.declared.request.Reason.TheVariants as Why;
 
 use relay_text::answers::{bytes_of, number_of};
-use relay_text::{Hex, Number, nth, words};
+use relay_text::{nth, words};
 
 // The command that a line's first word names.
 #[derive(Clone, Copy)]
@@ -18,15 +19,13 @@ pub enum Command {
     Load,
     Cycle,
     At,
-    Unknown,
 }
 
-// The lengths of the new state and of the values that a cycle is lent: the right ones, or those that the line gives.
+// The lengths of the new state and of the values that a cycle is lent.
 #[derive(Clone, Copy)]
-pub enum Lengths {
-    Right,
-    These(usize, usize),
-    Malformed,
+pub struct Lent {
+    pub state: usize,
+    pub values: usize,
 }
 
 // Why a line is not obeyed.
@@ -40,57 +39,62 @@ pub enum Reason {
     NoFile,
 }
 
-// What is asked about the file that is open: a state and inputs of so many bytes.
+impl Reason {
+    // The reason, as the answer tells it.
+    pub(crate) fn text(self) -> &'static [u8]
+        ensures text { result.now ≡ reason_text self }
+        ensures short { length result.now ≤ 32 }
+    {
+        match self {
+            Reason::LineTooLong => b"line too long",
+            Reason::UnknownCommand => b"unknown command",
+            Reason::WrongWords => b"wrong number of words",
+            Reason::MalformedNumber => b"malformed number",
+            Reason::MalformedHexadecimal => b"malformed hexadecimal",
+            Reason::NoFile => b"no file",
+        }
+    }
+}
+
+// What is asked about the file that is open: a state and inputs of so many bytes, and the lengths that the line gives.
 #[derive(Clone, Copy)]
 pub enum Query {
     Order(usize),
     Start,
     Load(usize),
-    Cycle(usize, Lengths),
-    At(usize, usize, Lengths),
+    Cycle(usize, Option<Lent>),
+    At(usize, usize, Option<Lent>),
 }
 
-// What a line asks for: a file of so many bytes, or something about the file that is open.
+// What a line asks for: nothing, a file of so many bytes, or something about the file that is open.
 #[derive(Clone, Copy)]
 pub enum Request {
     Silent,
-    Wrong(Reason),
     File(usize),
     About(Query),
 }
 
-fn command_named(word: &[u8]) -> Command
+// The most characters that a line may have.
+const LONGEST: usize = 262144;
+
+fn command_named(word: &[u8]) -> Result<Command, Reason>
     ensures { result ≡ command_of word.now }
 {
     if word == b"file".as_slice() {
-        return Command::File;
+        Ok(Command::File)
+    } else if word == b"order".as_slice() {
+        Ok(Command::Order)
+    } else if word == b"start".as_slice() {
+        Ok(Command::Start)
+    } else if word == b"load".as_slice() {
+        Ok(Command::Load)
+    } else if word == b"cycle".as_slice() {
+        Ok(Command::Cycle)
+    } else if word == b"at".as_slice() {
+        Ok(Command::At)
+    } else {
+        Err(Reason::UnknownCommand)
     }
-    if word == b"order".as_slice() {
-        return Command::Order;
-    }
-    if word == b"start".as_slice() {
-        return Command::Start;
-    }
-    if word == b"load".as_slice() {
-        return Command::Load;
-    }
-    if word == b"cycle".as_slice() {
-        return Command::Cycle;
-    }
-    if word == b"at".as_slice() {
-        return Command::At;
-    }
-    Command::Unknown
-}
-
-// The command that a line's first word names.
-fn command_of(line: &[u8]) -> Command
-    ensures { result ≡ command_of (word_text line.now 0) }
-{
-    let w = nth(line, 0);
-    let from = w.from;
-    let to = w.to;
-    command_named(&line[from..to])
 }
 
 // Whether a command may have so many words, its own included.
@@ -98,13 +102,10 @@ fn fits(c: Command, words: usize) -> bool
     ensures { result ≡ fits_words c words }
 {
     match c {
-        Command::File => words == 2,
-        Command::Order => words == 2,
         Command::Start => words == 1,
-        Command::Load => words == 2,
+        Command::File | Command::Order | Command::Load => words == 2,
         Command::Cycle => words == 2 || words == 4,
         Command::At => words == 3 || words == 5,
-        Command::Unknown => true,
     }
 }
 
@@ -112,151 +113,88 @@ fn fits(c: Command, words: usize) -> bool
 fn is_silent(line: &[u8]) -> bool
     ensures { result ≡ is_silent line.now }
 {
-    let w = nth(line, 0);
-    let from = w.from;
-    if from < line.len() {
-        line[from] == b'#'
-    } else {
-        true
-    }
+    let at = nth(line, 0).start;
+    at == line.len() || line[at] == b'#'
+}
+
+// The number that the line's word number k stands for.
+fn number(line: &[u8], k: usize) -> Result<usize, Reason>
+    ensures { result ≡ ok_or (number_of (word_text line.now k)) Why.MalformedNumber }
+{
+    number_of(line, k).ok_or(Reason::MalformedNumber)
+}
+
+// The bytes that the line's word number k stands for, at the start of `bytes`.
+fn hexadecimal(line: &[u8], k: usize, bytes: &mut [u8]) -> Result<usize, Reason>
+    requires { length line.now ≤ length bytes.old + length bytes.old }
+    ensures { MatchResult result (λ n. bytes_of (word_text line.now k) ≡ Some (take n bytes.new)) (λ why. (why ≡ Why.MalformedHexadecimal) × (bytes_of (word_text line.now k) ≡ None)) }
+{
+    bytes_of(line, k, bytes).ok_or(Reason::MalformedHexadecimal)
 }
 
 // The lengths that a line gives from its word number k on, if it goes on so far.
-fn lengths_of(line: &[u8], k: usize) -> Lengths
+fn lengths_of(line: &[u8], k: usize) -> Result<Option<Lent>, Reason>
     requires { k ≤ 3 }
     ensures { result ≡ lengths_of line.now k }
 {
     if words(line) <= k {
-        return Lengths::Right;
+        return Ok(None);
     }
-    let Number::Of(new) = number_of(line, k) else {
-        return Lengths::Malformed;
-    };
-    let Number::Of(values) = number_of(line, k + 1) else {
-        return Lengths::Malformed;
-    };
-    Lengths::These(new, values)
-}
-
-// The inputs that a line gives as its word number 1, and these lengths.
-fn ask_inputs(line: &[u8], l: Lengths, inputs: &mut [u8]) -> Request
-    requires { length line.now ≤ length inputs.old + length inputs.old }
-    ensures { (xs : List ℕ) → with_bytes (bytes_of (word_text line.now 1)) (λ i. about (cycle_of i l)) ≡ asked result xs inputs.new }
-{
-    match bytes_of(line, 1, inputs) {
-        Hex::Bytes(j) => Request::About(Query::Cycle(j, l)),
-        Hex::Malformed => Request::Wrong(Reason::MalformedHexadecimal),
-    }
-}
-
-// cycle INPUTS [LENGTHS]
-fn ask_cycle(line: &[u8], inputs: &mut [u8]) -> Request
-    requires { length line.now ≤ length inputs.old + length inputs.old }
-    ensures { (xs : List ℕ) → asked_by Com.Cycle line.now ≡ asked result xs inputs.new }
-{
-    match lengths_of(line, 2) {
-        Lengths::Malformed => Request::Wrong(Reason::MalformedNumber),
-        Lengths::Right => ask_inputs(line, Lengths::Right, inputs),
-        Lengths::These(n, v) => ask_inputs(line, Lengths::These(n, v), inputs),
-    }
-}
-
-// The state that a line gives as its word number 1, with inputs of so many bytes and these lengths.
-fn ask_state(line: &[u8], j: usize, l: Lengths, bytes: &mut [u8]) -> Request
-    requires { length line.now ≤ length bytes.old + length bytes.old }
-    ensures { (xs : List ℕ) → with_bytes (bytes_of (word_text line.now 1)) (λ b. about (cycle_at b (take j xs) l)) ≡ asked result bytes.new xs }
-{
-    match bytes_of(line, 1, bytes) {
-        Hex::Bytes(k) => Request::About(Query::At(k, j, l)),
-        Hex::Malformed => Request::Wrong(Reason::MalformedHexadecimal),
-    }
-}
-
-// The inputs that a line gives as its word number 2, the state before them, and these lengths.
-fn ask_both(line: &[u8], l: Lengths, bytes: &mut [u8], inputs: &mut [u8]) -> Request
-    requires { (length line.now ≤ length bytes.old + length bytes.old) × (length line.now ≤ length inputs.old + length inputs.old) }
-    ensures { with_bytes (bytes_of (word_text line.now 2)) (λ i. with_bytes (bytes_of (word_text line.now 1)) (λ b. about (cycle_at b i l))) ≡ asked result bytes.new inputs.new }
-{
-    match bytes_of(line, 2, inputs) {
-        Hex::Bytes(j) => ask_state(line, j, l, bytes),
-        Hex::Malformed => Request::Wrong(Reason::MalformedHexadecimal),
-    }
-}
-
-// at STATE INPUTS [LENGTHS]
-fn ask_at(line: &[u8], bytes: &mut [u8], inputs: &mut [u8]) -> Request
-    requires { (length line.now ≤ length bytes.old + length bytes.old) × (length line.now ≤ length inputs.old + length inputs.old) }
-    ensures { asked_by Com.At line.now ≡ asked result bytes.new inputs.new }
-{
-    match lengths_of(line, 3) {
-        Lengths::Malformed => Request::Wrong(Reason::MalformedNumber),
-        Lengths::Right => ask_both(line, Lengths::Right, bytes, inputs),
-        Lengths::These(n, v) => ask_both(line, Lengths::These(n, v), bytes, inputs),
-    }
-}
-
-// file HEX
-fn ask_file(line: &[u8], bytes: &mut [u8]) -> Request
-    requires { length line.now ≤ length bytes.old + length bytes.old }
-    ensures { (xs : List ℕ) → asked_by Com.File line.now ≡ asked result bytes.new xs }
-{
-    match bytes_of(line, 1, bytes) {
-        Hex::Bytes(k) => Request::File(k),
-        Hex::Malformed => Request::Wrong(Reason::MalformedHexadecimal),
-    }
-}
-
-// order NODE
-fn ask_order(line: &[u8]) -> Request
-    ensures { (xs ys : List ℕ) → asked_by Com.Order line.now ≡ asked result xs ys }
-{
-    match number_of(line, 1) {
-        Number::Of(k) => Request::About(Query::Order(k)),
-        Number::Malformed => Request::Wrong(Reason::MalformedNumber),
-    }
-}
-
-// load STATE
-fn ask_load(line: &[u8], bytes: &mut [u8]) -> Request
-    requires { length line.now ≤ length bytes.old + length bytes.old }
-    ensures { (xs : List ℕ) → asked_by Com.Load line.now ≡ asked result bytes.new xs }
-{
-    match bytes_of(line, 1, bytes) {
-        Hex::Bytes(k) => Request::About(Query::Load(k)),
-        Hex::Malformed => Request::Wrong(Reason::MalformedHexadecimal),
-    }
+    let state = number(line, k)?;
+    let values = number(line, k + 1)?;
+    Ok(Some(Lent { state, values }))
 }
 
 // What a line asks for that begins with this command.
-fn ask_by(c: Command, line: &[u8], bytes: &mut [u8], inputs: &mut [u8]) -> Request
+fn ask_by(c: Command, line: &[u8], bytes: &mut [u8], inputs: &mut [u8]) -> Result<Request, Reason>
     requires { (length line.now ≤ length bytes.old + length bytes.old) × (length line.now ≤ length inputs.old + length inputs.old) }
     ensures { asked_by c line.now ≡ asked result bytes.new inputs.new }
 {
     match c {
-        Command::File => ask_file(line, bytes),
-        Command::Order => ask_order(line),
-        Command::Start => Request::About(Query::Start),
-        Command::Load => ask_load(line, bytes),
-        Command::Cycle => ask_cycle(line, inputs),
-        Command::At => ask_at(line, bytes, inputs),
-        Command::Unknown => Request::Wrong(Reason::UnknownCommand),
+        Command::File => {
+            let n = hexadecimal(line, 1, bytes)?;
+            Ok(Request::File(n))
+        }
+        Command::Order => {
+            let node = number(line, 1)?;
+            Ok(Request::About(Query::Order(node)))
+        }
+        Command::Start => Ok(Request::About(Query::Start)),
+        Command::Load => {
+            let n = hexadecimal(line, 1, bytes)?;
+            Ok(Request::About(Query::Load(n)))
+        }
+        Command::Cycle => {
+            let lent = lengths_of(line, 2)?;
+            let n = hexadecimal(line, 1, inputs)?;
+            Ok(Request::About(Query::Cycle(n, lent)))
+        }
+        Command::At => {
+            let lent = lengths_of(line, 3)?;
+            let n = hexadecimal(line, 2, inputs)?;
+            let k = hexadecimal(line, 1, bytes)?;
+            Ok(Request::About(Query::At(k, n, lent)))
+        }
     }
 }
 
 // What a line asks for. The buffers get the bytes that it gives.
-pub(crate) fn ask(line: &[u8], bytes: &mut [u8], inputs: &mut [u8]) -> Request
-    requires { (length bytes.old ≡ 131072) × (length inputs.old ≡ 131072) }
+pub(crate) fn ask(
+    line: &[u8],
+    bytes: &mut [u8; 131072],
+    inputs: &mut [u8; 131072],
+) -> Result<Request, Reason>
     ensures { asks line.now ≡ asked result bytes.new inputs.new }
 {
-    if 262144 < line.len() {
-        return Request::Wrong(Reason::LineTooLong);
+    if line.len() > LONGEST {
+        return Err(Reason::LineTooLong);
     }
     if is_silent(line) {
-        return Request::Silent;
+        return Ok(Request::Silent);
     }
-    let c = command_of(line);
+    let c = command_named(&line[nth(line, 0)])?;
     if !fits(c, words(line)) {
-        return Request::Wrong(Reason::WrongWords);
+        return Err(Reason::WrongWords);
     }
     ask_by(c, line, bytes, inputs)
 }

@@ -1,117 +1,71 @@
-// What a request is answered with, over the public entry. The buffers hold what a session keeps: the
-// file, and the state that the next cycle starts from.
-ghost use Rattle.std.specs.Prelude.{true, false, ◌≡◌, [], ℕ, ◌+◌, ◌*◌, ◌≤◌, length, take};
-ghost use Rattle.io.specs.Counts.{IsPrefixLen};
+// What a line is answered with, over the public entry.
+ghost use Rattle.std.specs.Prelude.{◌≡◌, ℕ, ◌≤◌, [], length, take, MatchResult};
 ghost use Rattle.ol_spec.specs.Limits.{relay_loader};
-ghost use Rattle.ol_spec.specs.Admission.{judge, admission};
-ghost use Rattle.ol_spec.specs.Cycle.{ordering, cycle};
-ghost use Rattle.ol_spec.specs.Demand3.{next_state};
-ghost use Rattle.ol_sim.specs.Calls.{OrdersAs, CyclesAs};
-ghost use Rattle.relay_text.specs.Lines.{Said, error_line};
+ghost use Rattle.ol_spec.specs.Admission.{judge};
+ghost use Rattle.relay_text.specs.Lines.{Said};
+ghost use Rattle.relay.specs.Reply.{Standing, error_reply, obey, reply, order_call, order_text, values_length, load_fault, told, load_told, cycle_told, at_told};
 ghost use Rattle.relay.specs.Requests.{start_again, file_of};
-ghost use Rattle.relay.specs.Reply.{Standing, reason_text, tell_about, obey, reply, admit_text, start_text, order_call, order_text, order_ends, told, values_length, state_fault, load_fault, load_told, end_text, cycle_call, cycle_told, at_told};
-ghost use Rattle.relay.specs.declared.request.Lengths.TheVariants as Len;
-ghost use Rattle.relay.specs.Kept.{asked, asked_in, standing, Replies, Tells, Ends, Begins, Room};
+ghost use Rattle.relay.specs.Kept.{asked_in, standing, Replies, Tells, Begins, Lends};
 
-use crate::request::{Lengths, Query, Reason, Request, ask};
+use crate::request::{Lent, Query, Reason, Request, ask};
 use ol_order::counts::equation_count;
-use ol_spec::{Cycled, Fault, Measured, Sorted, Verdict};
+use ol_spec::{Cycled, Fault};
 use relay_text::answers::{
     say_admit, say_answered, say_error, say_no_order, say_order, say_refused, say_state,
     say_stopped,
 };
-use relay_text::{put, within};
+use relay_text::put;
 
-// Whether a file is open, its length, and its state's length.
+// The lengths of the file that is open, and of the state that its next cycle starts from.
 #[derive(Clone, Copy)]
-pub struct Session {
-    pub is_open: bool,
+pub struct Kept {
     pub file: usize,
     pub state: usize,
 }
 
-// What is kept from now on, and the length of the answer.
-#[derive(Clone, Copy)]
-pub struct Replied {
-    pub session: Session,
-    pub length: usize,
+// What a session keeps, the open file and its state among it, and the buffers that it works in: the bytes that a line gives,
+// a cycle's inputs, new state and values, and the answer.
+#[derive(Drop)]
+pub struct Session {
+    pub kept: Option<Kept>,
+    pub file: [u8; 131072],
+    pub state: [u8; 131072],
+    pub bytes: [u8; 131072],
+    pub inputs: [u8; 131072],
+    pub next: [u8; 131072],
+    pub values: [u8; 4096],
+    pub out: [u8; 393216],
 }
 
-// The length of the answer, and of the state.
-#[derive(Clone, Copy)]
-pub struct Stood {
-    pub length: usize,
-    pub state: usize,
-}
+const NO_FAULT: Fault = Fault {
+    number: 0,
+    place: 0,
+};
 
-// What a file is admitted or refused with, and the length of its fresh state.
-#[derive(Clone, Copy)]
-pub struct Begun {
-    pub verdict: Verdict,
-    pub state: usize,
-}
-
-// How a cycle ended, and the length of its values.
-#[derive(Clone, Copy)]
-pub struct Stepped {
-    pub cycled: Cycled,
-    pub values: usize,
-}
-
-// How an ordering ended, and its number of entries.
-#[derive(Clone, Copy)]
-pub struct Listed {
-    pub sorted: Sorted,
-    pub count: usize,
-}
-
-// No file is open.
-pub(crate) fn closed() -> Session
-    ensures { result.is_open ≡ false }
+// The first n bytes, or all where there are fewer.
+fn front(s: &[u8], n: usize) -> &[u8]
+    ensures { result.now ≡ take n s.now }
 {
-    Session {
-        is_open: false,
-        file: 0,
-        state: 0,
-    }
+    &s[..n.min(s.len())]
 }
 
-// error LINE REASON
-fn say_reason(out: &mut [u8], no: usize, why: Reason) -> usize
-    requires { 128 ≤ length out.old }
-    ensures { Said (error_line no (reason_text why)) result out.new }
+// Puts bytes in the place of those at a buffer's start.
+fn replace(buffer: &mut [u8], bytes: &[u8])
+    requires { length bytes.now ≤ length buffer.old }
+    ensures { take (length bytes.now) buffer.new ≡ bytes.now }
 {
-    match why {
-        Reason::LineTooLong => say_error(out, no, b"line too long"),
-        Reason::UnknownCommand => say_error(out, no, b"unknown command"),
-        Reason::WrongWords => say_error(out, no, b"wrong number of words"),
-        Reason::MalformedNumber => say_error(out, no, b"malformed number"),
-        Reason::MalformedHexadecimal => say_error(out, no, b"malformed hexadecimal"),
-        Reason::NoFile => say_error(out, no, b"no file"),
-    }
+    put(buffer, 0, bytes);
 }
 
 // ---- the public entry
 
-// Judges a file, and starts it if it is admitted.
-fn begin(file: &[u8], state: &mut [u8]) -> Begun
-    requires { length state.old ≡ 131072 }
-    ensures { Begins file.now result.verdict result.state state.new }
+// Judges a file, and starts it if it is admitted: the length of its fresh state.
+fn begin(file: &[u8], state: &mut [u8; 131072]) -> Result<usize, Fault>
+    ensures { Begins file.now result state.new }
 {
-    match ol_sim::admission(file) {
-        Verdict::Refused(f) => Begun {
-            verdict: Verdict::Refused(f),
-            state: 0,
-        },
-        Verdict::Admitted(n) => {
-            let m = within(n, state);
-            ol_sim::start(file, &mut state[..m]);
-            Begun {
-                verdict: Verdict::Admitted(n),
-                state: m,
-            }
-        }
-    }
+    let n = ol_sim::admission(file)?;
+    let _ = ol_sim::start(file, &mut state[..n]);
+    Ok(n)
 }
 
 // The length of a file's values: 0 where it is refused.
@@ -119,496 +73,214 @@ fn values_length(file: &[u8]) -> usize
     ensures { result ≡ values_length (judge relay_loader file.now) }
 {
     match ol_sim::lengths(file, 0) {
-        Measured::Done(l) => l.values,
-        Measured::Refused(_) => 0,
+        Ok(l) => l.values,
+        Err(_) => 0,
     }
 }
 
-// A cycle with values of so many bytes, as far as the buffer goes.
-fn cycle_with(
-    file: &[u8],
-    old: &[u8],
-    inputs: &[u8],
-    new: &mut [u8],
-    values: &mut [u8],
-    v: usize,
-) -> Cycled
-    ensures { CyclesAs (cycle relay_loader file.now old.now inputs.now new.old (take v values.old)) result new.new (take v values.new) }
+// The lengths that a cycle is lent: those that the line gives, as far as the buffers go, or the right ones.
+fn lent_to(file: &[u8], old: &[u8], given: Option<Lent>) -> Lent
+    requires { length old.now ≤ 131072 }
+    ensures { Lends file.now old.now given result }
 {
-    let b = within(v, values);
-    ol_sim::cycle(file, old, inputs, new, &mut values[..b])
-}
-
-// A cycle with values of the right length.
-fn step(file: &[u8], old: &[u8], inputs: &[u8], new: &mut [u8], values: &mut [u8]) -> Stepped
-    requires { (length new.old ≡ length old.now) × (length values.old ≡ 4096) }
-    ensures { Ends (cycle_call file.now old.now inputs.now Len.Right) old.now result.cycled new.new (take result.values values.new) }
-{
-    let v = values_length(file);
-    let c = cycle_with(file, old, inputs, new, values, v);
-    Stepped {
-        cycled: c,
-        values: v,
+    match given {
+        Some(l) => Lent {
+            state: l.state.min(131072),
+            values: l.values.min(4096),
+        },
+        None => Lent {
+            state: old.len(),
+            values: values_length(file),
+        },
     }
 }
 
-// A count of entries, at most as many as there are.
-fn among(n: usize, entries: &[usize]) -> usize
-    ensures prefix_len { IsPrefixLen result entries.now }
-    ensures entries_value { take result entries.now ≡ take n entries.now }
+// What a cycle from this state is refused with for the file or the state; its buffers are empty, so that a good state ends in 16 or 17.
+fn load_fault(file: &[u8], state: &[u8]) -> Option<Fault>
+    ensures { result ≡ load_fault file.now state.now }
 {
-    if n <= entries.len() { n } else { entries.len() }
+    let mut new = [0; 0];
+    let mut values = [0; 0];
+    match ol_sim::cycle(file, state, b"", &mut new, &mut values) {
+        Cycled::Refused(f) if 1 <= f.number && f.number <= 15 => Some(f),
+        _ => None,
+    }
 }
-
-// The order of a node's equations with a buffer of n entries, as far as there are so many.
-fn order_with(file: &[u8], node: usize, entries: &mut [usize], n: usize) -> Sorted
-    ensures { OrdersAs (ordering relay_loader file.now node (take n entries.old)) result (take n entries.new) }
-{
-    let m = among(n, entries);
-    ol_sim::evaluation_order(file, node, &mut entries[..m])
-}
-
-// The order of a node's equations, with an entry for each.
-fn list(file: &[u8], node: usize, entries: &mut [usize]) -> Listed
-    requires { length entries.old ≡ 80 }
-    ensures { order_ends result.sorted (take result.count entries.new) ≡ order_text (order_call file.now node) }
-{
-    let n = equation_count(file, node);
-    let sorted = order_with(file, node, entries, n);
-    Listed { sorted, count: n }
-}
-
-// ---- the commands
 
 // order NODE
-fn order_command(node: usize, file: &[u8], out: &mut [u8]) -> usize
+fn order(file: &[u8], node: usize, out: &mut [u8]) -> usize
     requires { 1696 ≤ length out.old }
     ensures { Said (order_text (order_call file.now node)) result out.new }
 {
-    let mut entries = [0usize; 80];
-    let l = list(file, node, &mut entries);
-    let sorted = l.sorted;
-    match sorted {
-        Sorted::Refused(f) => say_no_order(out, f.number, f.place),
-        Sorted::Done => {
-            let n = among(l.count, &entries);
-            say_order(out, &entries[..n])
+    let mut entries = [0; 80];
+    let entries = &mut entries[..equation_count(file, node)];
+    match ol_sim::evaluation_order(file, node, entries) {
+        Ok(()) => say_order(out, entries),
+        Err(f) => say_no_order(out, f),
+    }
+}
+
+impl Session {
+    // No file is open.
+    pub(crate) fn new() -> Session
+        ensures { result.kept ≡ None }
+    {
+        Session {
+            kept: None,
+            file: [0; 131072],
+            state: [0; 131072],
+            bytes: [0; 131072],
+            inputs: [0; 131072],
+            next: [0; 131072],
+            values: [0; 4096],
+            out: [0; 393216],
         }
     }
-}
 
-// file HEX: the answer to a file that is judged
-fn admit_command(v: Verdict, out: &mut [u8]) -> usize
-    requires { 128 ≤ length out.old }
-    ensures { Said (admit_text v) result out.new }
-{
-    match v {
-        Verdict::Admitted(n) => say_admit(out, 0, 0, n),
-        Verdict::Refused(f) => say_admit(out, f.number, f.place, 0),
-    }
-}
-
-// start: the answer to a file that is judged and started
-fn start_command(v: Verdict, state: &[u8], out: &mut [u8]) -> usize
-    requires { 128 + 2 * length state.now ≤ length out.old }
-    ensures { Said (start_text v state.now) result out.new }
-{
-    match v {
-        Verdict::Admitted(_) => say_state(out, state),
-        Verdict::Refused(f) => say_refused(out, f.number, f.place),
-    }
-}
-
-// The fault of the file or of the old state that a cycle is refused with; number 0 where there is none.
-fn state_fault(c: Cycled) -> Fault
-    ensures { result ≡ state_fault c }
-{
-    match c {
-        Cycled::Refused(f) => {
-            if f.number <= 15 {
-                f
-            } else {
-                Fault {
-                    number: 0,
-                    place: 0,
-                }
+    // file HEX
+    fn open_file(&mut self, n: usize) -> usize
+        ensures { (no : ℕ) (st : Standing) → Replies (obey no (file_of (take n self.old.bytes)) st) result self.new }
+    {
+        replace(&mut self.file, front(&self.bytes, n));
+        match begin(front(&self.file, n), &mut self.state) {
+            Ok(state) => {
+                self.kept = Some(Kept { file: n, state });
+                say_admit(&mut self.out, NO_FAULT, state)
             }
-        }
-        Cycled::Stopped(_) => Fault {
-            number: 0,
-            place: 0,
-        },
-        Cycled::Answered => Fault {
-            number: 0,
-            place: 0,
-        },
-    }
-}
-
-// Whether a cycle could start from a state: its buffers are empty, so that a good state ends in 16 or 17.
-fn load_fault(file: &[u8], state: &[u8]) -> Fault
-    ensures { result ≡ load_fault file.now state.now }
-{
-    let mut new = [0u8; 1];
-    let mut values = [0u8; 1];
-    let c = ol_sim::cycle(file, state, b"", &mut new[..0], &mut values[..0]);
-    state_fault(c)
-}
-
-// Puts a state in the place of the one that stands.
-fn replace(state: &mut [u8], new: &[u8])
-    requires { length new.now ≤ length state.old }
-    ensures { take (length new.now) state.new ≡ new.now }
-{
-    put(state, 0, new);
-}
-
-// load STATE
-fn load_command(file: &[u8], given: &[u8], n: usize, state: &mut [u8], out: &mut [u8]) -> Stood
-    requires { (length given.now ≤ length state.old) × (128 ≤ length out.old) }
-    ensures { Tells (load_told file.now given.now (take n state.old)) result.length result.state state.new out.new }
-{
-    let f = load_fault(file, given);
-    if f.number == 0 {
-        replace(state, given);
-        let k = put(out, 0, b"loaded\n");
-        return Stood {
-            length: k,
-            state: given.len(),
-        };
-    }
-    let k = say_refused(out, f.number, f.place);
-    Stood {
-        length: k,
-        state: n,
-    }
-}
-
-// Tells how a cycle ended, and takes the new state over where there is one.
-fn end(c: Cycled, n: usize, state: &mut [u8], new: &[u8], values: &[u8], out: &mut [u8]) -> Stood
-    requires { (length new.now ≤ length state.old) × (128 + (2 * length values.now + 2 * length new.now) ≤ length out.old) }
-    ensures { Said (end_text c new.now values.now) result.length out.new × (take result.state state.new ≡ next_state c (take n state.old) new.now) }
-{
-    match c {
-        Cycled::Answered => {
-            replace(state, new);
-            let k = say_answered(out, values, new);
-            Stood {
-                length: k,
-                state: new.len(),
-            }
-        }
-        Cycled::Stopped(f) => {
-            replace(state, new);
-            let k = say_stopped(out, f.number, f.place, new);
-            Stood {
-                length: k,
-                state: new.len(),
-            }
-        }
-        Cycled::Refused(f) => {
-            let k = say_refused(out, f.number, f.place);
-            Stood {
-                length: k,
-                state: n,
+            Err(f) => {
+                self.kept = Some(Kept { file: n, state: 0 });
+                say_admit(&mut self.out, f, 0)
             }
         }
     }
-}
 
-// A cycle that is lent a new state and values of so many bytes, as far as the buffers go.
-fn cycle_of(
-    file: &[u8],
-    old: &[u8],
-    inputs: &[u8],
-    new: &mut [u8],
-    n: usize,
-    values: &mut [u8],
-    v: usize,
-) -> Cycled
-    ensures { CyclesAs (cycle relay_loader file.now old.now inputs.now (take n new.old) (take v values.old)) result (take n new.new) (take v values.new) }
-{
-    let a = within(n, new);
-    cycle_with(file, old, inputs, &mut new[..a], values, v)
-}
-
-// A cycle that is lent a new state and values of the right lengths.
-fn step_of(file: &[u8], old: &[u8], inputs: &[u8], new: &mut [u8], values: &mut [u8]) -> Stepped
-    requires { (length old.now ≤ length new.old) × (length values.old ≡ 4096) }
-    ensures { Ends (cycle_call file.now old.now inputs.now Len.Right) old.now result.cycled (take (length old.now) new.new) (take result.values values.new) }
-{
-    let n = old.len();
-    step(file, old, inputs, &mut new[..n], values)
-}
-
-// cycle INPUTS NEW VALUES
-fn cycle_these(
-    n: usize,
-    v: usize,
-    file: &[u8],
-    m: usize,
-    inputs: &[u8],
-    state: &mut [u8],
-    new: &mut [u8],
-    values: &mut [u8],
-    out: &mut [u8],
-) -> Stood
-    requires { Room state.old new.old values.old out.old }
-    ensures { Tells (cycle_told file.now inputs.now (Len.These n v) (take m state.old)) result.length result.state state.new out.new }
-{
-    let j = within(m, state);
-    let c = cycle_of(file, &state[..j], inputs, new, n, values, v);
-    let a = within(n, new);
-    let b = within(v, values);
-    end(c, j, state, &new[..a], &values[..b], out)
-}
-
-// cycle INPUTS
-fn cycle_right(
-    file: &[u8],
-    m: usize,
-    inputs: &[u8],
-    state: &mut [u8],
-    new: &mut [u8],
-    values: &mut [u8],
-    out: &mut [u8],
-) -> Stood
-    requires { Room state.old new.old values.old out.old }
-    ensures { Tells (cycle_told file.now inputs.now Len.Right (take m state.old)) result.length result.state state.new out.new }
-{
-    let j = within(m, state);
-    let r = step_of(file, &state[..j], inputs, new, values);
-    let c = r.cycled;
-    let b = within(r.values, values);
-    end(c, j, state, &new[..j], &values[..b], out)
-}
-
-// cycle INPUTS [LENGTHS]
-fn cycle_command(
-    l: Lengths,
-    file: &[u8],
-    m: usize,
-    inputs: &[u8],
-    state: &mut [u8],
-    new: &mut [u8],
-    values: &mut [u8],
-    out: &mut [u8],
-) -> Stood
-    requires { Room state.old new.old values.old out.old }
-    ensures { Tells (cycle_told file.now inputs.now l (take m state.old)) result.length result.state state.new out.new }
-{
-    match l {
-        Lengths::These(n, v) => cycle_these(n, v, file, m, inputs, state, new, values, out),
-        Lengths::Right => cycle_right(file, m, inputs, state, new, values, out),
-        Lengths::Malformed => cycle_right(file, m, inputs, state, new, values, out),
-    }
-}
-
-// at STATE INPUTS [LENGTHS]
-fn at_command(
-    l: Lengths,
-    file: &[u8],
-    m: usize,
-    given: &[u8],
-    inputs: &[u8],
-    state: &mut [u8],
-    new: &mut [u8],
-    values: &mut [u8],
-    out: &mut [u8],
-) -> Stood
-    requires { (length given.now ≤ 131072) × Room state.old new.old values.old out.old }
-    ensures { Tells (at_told file.now given.now inputs.now l (take m state.old)) result.length result.state state.new out.new }
-{
-    let f = load_fault(file, given);
-    if f.number == 0 {
-        replace(state, given);
-        return cycle_command(l, file, given.len(), inputs, state, new, values, out);
-    }
-    let k = say_refused(out, f.number, f.place);
-    Stood {
-        length: k,
-        state: m,
-    }
-}
-
-// start
-fn start_on(file: &[u8], state: &mut [u8], out: &mut [u8]) -> Stood
-    requires { (length state.old ≡ 131072) × (length out.old ≡ 393216) }
-    ensures { Tells (told start_again file.now []) result.length result.state state.new out.new }
-{
-    let b = begin(file, state);
-    let v = b.verdict;
-    let m = within(b.state, state);
-    let k = start_command(v, &state[..m], out);
-    Stood {
-        length: k,
-        state: m,
-    }
-}
-
-// What is asked about the file that is open, whose state has m bytes.
-fn tell_about(
-    q: Query,
-    file: &[u8],
-    m: usize,
-    bytes: &[u8],
-    inputs: &[u8],
-    state: &mut [u8],
-    new: &mut [u8],
-    values: &mut [u8],
-    out: &mut [u8],
-) -> Stood
-    requires { (length bytes.now ≡ 131072) × Room state.old new.old values.old out.old }
-    ensures { Tells (told (asked_in q bytes.now inputs.now) file.now (take m state.old)) result.length result.state state.new out.new }
-{
-    match q {
-        Query::Order(node) => {
-            let k = order_command(node, file, out);
-            Stood {
-                length: k,
-                state: m,
+    // start
+    fn start(&mut self, kept: Kept) -> usize
+        ensures { Tells (told start_again (take kept.file self.old.file) []) (take kept.file self.old.file) result self.new }
+    {
+        match begin(front(&self.file, kept.file), &mut self.state) {
+            Ok(state) => {
+                self.kept = Some(Kept {
+                    file: kept.file,
+                    state,
+                });
+                say_state(&mut self.out, front(&self.state, state))
+            }
+            Err(f) => {
+                self.kept = Some(Kept {
+                    file: kept.file,
+                    state: 0,
+                });
+                say_refused(&mut self.out, f)
             }
         }
-        Query::Start => start_on(file, state, out),
-        Query::Load(n) => {
-            let k = within(n, bytes);
-            load_command(file, &bytes[..k], m, state, out)
-        }
-        Query::Cycle(n, l) => {
-            let j = within(n, inputs);
-            cycle_command(l, file, m, &inputs[..j], state, new, values, out)
-        }
-        Query::At(n, i, l) => {
-            let k = within(n, bytes);
-            let j = within(i, inputs);
-            at_command(
-                l,
-                file,
-                m,
-                &bytes[..k],
-                &inputs[..j],
-                state,
-                new,
-                values,
-                out,
-            )
-        }
     }
-}
 
-// file HEX
-fn open_file(n: usize, bytes: &[u8], file: &mut [u8], state: &mut [u8], out: &mut [u8]) -> Replied
-    requires { (length bytes.now ≡ 131072) × (length file.old ≡ 131072) × (length state.old ≡ 131072) × (length out.old ≡ 393216) }
-    ensures { (no : ℕ) (st : Standing) → Replies (obey no (file_of (take n bytes.now)) st) result.length result.session file.new state.new out.new }
-{
-    let k = within(n, bytes);
-    replace(file, &bytes[..k]);
-    let b = begin(&file[..k], state);
-    let v = b.verdict;
-    let length = admit_command(v, out);
-    Replied {
-        session: Session {
-            is_open: true,
-            file: k,
-            state: b.state,
-        },
-        length,
-    }
-}
-
-// What is asked about the file, where one is open.
-fn about_file(
-    no: usize,
-    q: Query,
-    s: Session,
-    file: &[u8],
-    bytes: &[u8],
-    inputs: &[u8],
-    state: &mut [u8],
-    new: &mut [u8],
-    values: &mut [u8],
-    out: &mut [u8],
-) -> Replied
-    requires { (length bytes.now ≡ 131072) × Room state.old new.old values.old out.old }
-    ensures { Replies (tell_about no (asked_in q bytes.now inputs.now) (standing s file.now state.old)) result.length result.session file.now state.new out.new }
-{
-    if !s.is_open {
-        let k = say_reason(out, no, Reason::NoFile);
-        return Replied {
-            session: s,
-            length: k,
-        };
-    }
-    let m = within(s.file, file);
-    let r = tell_about(
-        q,
-        &file[..m],
-        s.state,
-        bytes,
-        inputs,
-        state,
-        new,
-        values,
-        out,
-    );
-    Replied {
-        session: Session {
-            is_open: true,
-            file: m,
-            state: r.state,
-        },
-        length: r.length,
-    }
-}
-
-// The answer to a request, and what is kept from then on.
-fn obey(
-    no: usize,
-    q: Request,
-    s: Session,
-    bytes: &[u8],
-    inputs: &[u8],
-    file: &mut [u8],
-    state: &mut [u8],
-    new: &mut [u8],
-    values: &mut [u8],
-    out: &mut [u8],
-) -> Replied
-    requires { (length bytes.now ≡ 131072) × (length file.old ≡ 131072) × Room state.old new.old values.old out.old }
-    ensures { Replies (obey no (asked q bytes.now inputs.now) (standing s file.old state.old)) result.length result.session file.new state.new out.new }
-{
-    match q {
-        Request::Silent => Replied {
-            session: s,
-            length: 0,
-        },
-        Request::Wrong(why) => {
-            let k = say_reason(out, no, why);
-            Replied {
-                session: s,
-                length: k,
+    // load STATE
+    fn load(&mut self, k: usize, kept: Kept) -> usize
+        requires { self.old.kept ≡ Some kept }
+        ensures { Tells (load_told (take kept.file self.old.file) (take k self.old.bytes) (take kept.state self.old.state)) (take kept.file self.old.file) result self.new }
+    {
+        match load_fault(front(&self.file, kept.file), front(&self.bytes, k)) {
+            Some(f) => say_refused(&mut self.out, f),
+            None => {
+                replace(&mut self.state, front(&self.bytes, k));
+                self.kept = Some(Kept {
+                    file: kept.file,
+                    state: k,
+                });
+                put(&mut self.out, 0, b"loaded\n")
             }
         }
-        Request::File(n) => open_file(n, bytes, file, state, out),
-        Request::About(x) => about_file(no, x, s, file, bytes, inputs, state, new, values, out),
     }
-}
 
-// The answer to a line, and what is kept from then on: no text where the line says nothing.
-pub(crate) fn answer(
-    no: usize,
-    line: &[u8],
-    s: Session,
-    file: &mut [u8; 131072],
-    state: &mut [u8; 131072],
-    bytes: &mut [u8; 131072],
-    inputs: &mut [u8; 131072],
-    new: &mut [u8; 131072],
-    values: &mut [u8; 4096],
-    out: &mut [u8; 393216],
-) -> Replied
-    ensures { Replies (reply no line.now (standing s file.old state.old)) result.length result.session file.new state.new out.new }
-{
-    let q = ask(line, bytes, inputs);
-    obey(no, q, s, bytes, inputs, file, state, new, values, out)
+    // cycle INPUTS [LENGTHS]
+    fn cycle(&mut self, n: usize, given: Option<Lent>, kept: Kept) -> usize
+        requires { self.old.kept ≡ Some kept }
+        ensures { Tells (cycle_told (take kept.file self.old.file) (take n self.old.inputs) given (take kept.state self.old.state)) (take kept.file self.old.file) result self.new }
+    {
+        let file = front(&self.file, kept.file);
+        let old = front(&self.state, kept.state);
+        let lent = lent_to(file, old, given);
+        let next = &mut self.next[..];
+        let new = &mut next[..lent.state];
+        let values = &mut self.values[..];
+        let values = &mut values[..lent.values];
+        match ol_sim::cycle(file, old, front(&self.inputs, n), new, values) {
+            Cycled::Answered => {
+                replace(&mut self.state, new);
+                self.kept = Some(Kept {
+                    file: kept.file,
+                    state: lent.state,
+                });
+                say_answered(&mut self.out, values, new)
+            }
+            Cycled::Stopped(f) => {
+                replace(&mut self.state, new);
+                self.kept = Some(Kept {
+                    file: kept.file,
+                    state: lent.state,
+                });
+                say_stopped(&mut self.out, f, new)
+            }
+            Cycled::Refused(f) => say_refused(&mut self.out, f),
+        }
+    }
+
+    // at STATE INPUTS [LENGTHS]
+    fn at(&mut self, k: usize, n: usize, given: Option<Lent>, kept: Kept) -> usize
+        requires { self.old.kept ≡ Some kept }
+        ensures { Tells (at_told (take kept.file self.old.file) (take k self.old.bytes) (take n self.old.inputs) given (take kept.state self.old.state)) (take kept.file self.old.file) result self.new }
+    {
+        match load_fault(front(&self.file, kept.file), front(&self.bytes, k)) {
+            Some(f) => say_refused(&mut self.out, f),
+            None => {
+                replace(&mut self.state, front(&self.bytes, k));
+                let kept = Kept {
+                    file: kept.file,
+                    state: k,
+                };
+                self.kept = Some(kept);
+                self.cycle(n, given, kept)
+            }
+        }
+    }
+
+    // What is asked about the file that is open.
+    fn tell_about(&mut self, q: Query, kept: Kept) -> usize
+        requires { self.old.kept ≡ Some kept }
+        ensures { Tells (told (asked_in q self.old.bytes self.old.inputs) (take kept.file self.old.file) (take kept.state self.old.state)) (take kept.file self.old.file) result self.new }
+    {
+        match q {
+            Query::Order(node) => order(front(&self.file, kept.file), node, &mut self.out),
+            Query::Start => self.start(kept),
+            Query::Load(k) => self.load(k, kept),
+            Query::Cycle(n, given) => self.cycle(n, given, kept),
+            Query::At(k, n, given) => self.at(k, n, given, kept),
+        }
+    }
+
+    // Does what a line asks for.
+    fn obey(&mut self, line: &[u8]) -> Result<usize, Reason>
+        ensures { MatchResult result (λ n. (no : ℕ) → Replies (reply no line.now (standing self.old)) n self.new) (λ why. (standing self.new ≡ standing self.old) × ((no : ℕ) → reply no line.now (standing self.old) ≡ error_reply no why (standing self.old))) }
+    {
+        match ask(line, &mut self.bytes, &mut self.inputs)? {
+            Request::Silent => Ok(0),
+            Request::File(n) => Ok(self.open_file(n)),
+            Request::About(q) => {
+                let kept = self.kept.ok_or(Reason::NoFile)?;
+                Ok(self.tell_about(q, kept))
+            }
+        }
+    }
+
+    // The answer to a line, of so many bytes at the start of `out`: none where the line says nothing.
+    pub(crate) fn answer(&mut self, no: usize, line: &[u8]) -> usize
+        ensures { Replies (reply no line.now (standing self.old)) result self.new }
+    {
+        match self.obey(line) {
+            Ok(n) => n,
+            Err(why) => say_error(&mut self.out, no, why.text()),
+        }
+    }
 }

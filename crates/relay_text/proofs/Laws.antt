@@ -4,18 +4,24 @@ use native.Mathlib.Omega.{arith}
 use native.Mathlib.Nat.{pow-suc, pow-zero, one-le-pow}
 use native.Mathlib.Numerals.{add-one}
 use mathlib.Core.Path.{◌≡◌, refl, sym, ap, subst, ◌∙◌}
-use mathlib.Core.Bool.{Bool, true, false, cond}
+use mathlib.Core.Bool.{Bool, true, false, cond, not, ◌&&◌}
+use Rattle.std.specs.Ordering.{is_lt, nat_cmp}
+use Rattle.std.proofs.lemmas.Map.Keys.{ge_from_not_lt}
+use Rattle.std.specs.declared.ops.Range.{Range}
 use mathlib.Core.List.{List, [], ◌∷◌, ◌++◌, append_assoc, append-nil}
-use mathlib.Core.Option.{Option, none, some}
-use lib.ListN.{length, take, drop, get_or, set, take-append-drop, drop_of_length-le}
-use lib.Seq.{drop-cons, drop-drop, drop-set-lt, length-take-le, take-suc, take-suc-set}
-use lib.Dec.{ltb}
-use borrow.Author.Tests.{ltb-true, ltb-false, lt-ltb, le-ltb, eq-eqb, ne_eqb}
-use Rattle.relay_text.specs.Text.{sort, run, word_from, word_to, word_at, behind, words_up_to, hex_value, before, with_byte, unhexed, front_byte, unhexed_front, onto, glyph_of, hexed, with_digit, number_from, places}
+use Rattle.std.specs.Prelude.{Option, Some, None}
+use lib.ListN.{length, take, drop, get_or, set, take-append-drop, drop_of_length-le, length-append}
+use lib.Seq.{take_all, drop-cons, drop-drop, drop-set-lt, length-take-le, take-suc, take-suc-set}
+use lib.Dec.{ltb, eqb}
+use lib.Pointwise.{pointwise}
+use Rattle.std.specs.Prelude.{◌⊎◌}
+use Rattle.std.proofs.lemmas.Bool.Decides.{nat_tests}
+use borrow.Author.Tests.{ltb-true, ltb-false, le-ltb, eq-eqb, ne_eqb}
+use Rattle.relay_text.specs.Text.{sort, run, word_from, word_to, word_at, behind, words_up_to, hex_value, before, with_byte, unhexed, bytes_of, front_byte, unhexed_front, onto, glyph_of, hexed, with_digit, number_from, places}
 use Rattle.io.specs.Digits.{IsDigitCount}
 use Rattle.relay_text.specs.Text.{decimal_word}
-use Rattle.relay_text.specs.Lines.{blank, with_indexes}
-use Rattle.relay_text.specs.declared.Number.TheVariants as Num
+use Rattle.relay_text.specs.Lines.{blank, with_indexes, Puts, Appends}
+use Rattle.relay_text.specs.declared.line.Line.{Line}
 
 -- ---- lists
 
@@ -24,6 +30,10 @@ pub next : (l : List ℕ) (i : ℕ) → i < length l → drop i l ≡ get_or l i
 next l i h = rw (add-one, drop-cons l i 0)
 
 -- ---- words
+
+of_not : (b : Bool) → not b ≡ true → b ≡ false
+of_not true h = sym h
+of_not false h = refl
 
 module _ (w : Bool) (l : List ℕ) (i : ℕ) (h : i < length l) where
   pub run_more : sort w (get_or l i 0) ≡ true → i + run w (drop i l) ≡ (i + 1) + run w (drop (i + 1) l)
@@ -66,66 +76,74 @@ pub words_done : (l : List ℕ) (k n at : ℕ) → k ≤ n → n ≡ n + words_u
 unfolding words_up_to
 words_done l k n at h = let e : k - n ≡ 0 = omega arith in rw e (omega arith)
 
-pub word_is : (line : List ℕ) (at a b : ℕ) → a ≡ word_from line at → b ≡ a + run false (drop a line) → record { from = a; to = b } ≡ word_at line at
+pub word_is : (line : List ℕ) (at a b : ℕ) → a ≡ word_from line at → b ≡ a + run false (drop a line) → record { start = a; end = b } ≡ word_at line at
 word_is line at a b p q = rw (q, p)
+
+-- a word that is found is empty, or goes on
+module _ (line : List ℕ) (at : ℕ) (w : Range ℕ) (e : w ≡ word_at line at) where
+  pub empty_word : w.start ≤ w.end → not (is_lt (nat_cmp w.start w.end)) ≡ true → word_from line at ≡ word_to line at
+  empty_word f h = sym (ap (λ (r : Range ℕ). r.start) e) ∙ omega (arith, ge_from_not_lt w.start w.end (of_not (is_lt (nat_cmp w.start w.end)) h)) ∙ ap (λ (r : Range ℕ). r.end) e
+
+  pub word_goes_on : not (is_lt (nat_cmp w.start w.end)) ≡ false → word_from line at ≡ word_to line at → ⊥
+  word_goes_on h q =
+      let same : w.start ≡ w.end = ap (λ (r : Range ℕ). r.start) e ∙ q ∙ sym (ap (λ (r : Range ℕ). r.end) e) in
+      let bad : true ≡ false = rw (le-ltb w.start w.end (omega arith), eq-eqb w.start w.end same) at h in
+      cc
 
 -- ---- hexadecimal
 
 pub before_nil : (o : Option (List ℕ)) → o ≡ before [] o
-before_nil none = refl
-before_nil (some l) = refl
+before_nil None = refl
+before_nil (Some l) = refl
 
 pub before_twice : (xs ys : List ℕ) (o : Option (List ℕ)) → before xs (before ys o) ≡ before (xs ++ ys) o
-before_twice xs ys none = refl
-before_twice xs ys (some l) = ap some (sym (append_assoc xs ys l))
+before_twice xs ys None = refl
+before_twice xs ys (Some l) = ap Some (sym (append_assoc xs ys l))
 
 -- the bytes so far stand before those of what is left
 abbrev pub Left : List ℕ → List ℕ → ℕ → Type 0
-Left text out i = unhexed text ≡ before (take i out) (unhexed (drop (i + i) text))
+Left text out i = unhexed text ≡ before (take i out) (unhexed (drop (2 * i) text))
 
 pub left_start : (text out : List ℕ) → Left text out 0
 left_start text out = before_nil (unhexed text)
 
 -- the digits that are left, where they are one, and where they are two and more
 module _ (text : List ℕ) (i : ℕ) where
-  one_left : i + i + 1 ≡ length text → drop (i + i) text ≡ get_or text (i + i) 0 ∷ []
-  one_left e = next text (i + i) (omega arith) ∙ ap (λ (l : List ℕ). get_or text (i + i) 0 ∷ l) (drop_of_length-le text {i = i + i + 1} (omega arith))
+  one_left : 2 * i + 1 ≡ length text → drop (2 * i) text ≡ get_or text (2 * i) 0 ∷ []
+  one_left e = next text (2 * i) (omega arith) ∙ ap (λ (l : List ℕ). get_or text (2 * i) 0 ∷ l) (drop_of_length-le text {i = 2 * i + 1} (omega arith))
 
-  two_left : i + i + 1 < length text → drop (i + i) text ≡ get_or text (i + i) 0 ∷ (get_or text (i + i + 1) 0 ∷ drop (i + i + 1 + 1) text)
-  two_left h = next text (i + i) (omega arith) ∙ ap (λ (l : List ℕ). get_or text (i + i) 0 ∷ l) (next text (i + i + 1) h)
+  two_left : 2 * i + 1 < length text → drop (2 * i) text ≡ get_or text (2 * i) 0 ∷ (get_or text (2 * i + 1) 0 ∷ drop (2 * i + 1 + 1) text)
+  two_left h = next text (2 * i) (omega arith) ∙ ap (λ (l : List ℕ). get_or text (2 * i) 0 ∷ l) (next text (2 * i + 1) h)
 
 module _ (text out : List ℕ) (i : ℕ) (left : Left text out i) where
   -- one digit is left
-  pub left_odd : i + i + 1 ≡ length text → unhexed text ≡ none
+  pub left_odd : 2 * i + 1 ≡ length text → unhexed text ≡ None
   unfolding unhexed
   left_odd e = left ∙ ap (λ (l : List ℕ). before (take i out) (unhexed l)) (one_left text i e)
 
   -- none is left
-  pub left_end : length text ≤ i + i → unhexed text ≡ some (take i out)
+  pub left_end : length text ≤ 2 * i → unhexed text ≡ Some (take i out)
   unfolding unhexed
-  left_end h = left ∙ ap (λ (l : List ℕ). before (take i out) (unhexed l)) (drop_of_length-le text {i = i + i} h) ∙ ap some (append-nil (take i out))
+  left_end h = left ∙ ap (λ (l : List ℕ). before (take i out) (unhexed l)) (drop_of_length-le text {i = 2 * i} h) ∙ ap Some (append-nil (take i out))
 
-  module _ (h : i + i + 1 < length text) where
-    pub left_two : unhexed text ≡ before (take i out) (with_byte (hex_value (get_or text (i + i) 0)) (hex_value (get_or text (i + i + 1) 0)) (unhexed (drop (i + i + 1 + 1) text)))
+  module _ (h : 2 * i + 1 < length text) where
+    left_two : unhexed text ≡ before (take i out) (with_byte (hex_value (get_or text (2 * i) 0)) (hex_value (get_or text (2 * i + 1) 0)) (unhexed (drop (2 * i + 1 + 1) text)))
     unfolding unhexed
     left_two = left ∙ ap (λ (l : List ℕ). before (take i out) (unhexed l)) (two_left text i h)
 
-    module _ (a b : ℕ) (ea : a ≡ hex_value (get_or text (i + i) 0)) (eb : b ≡ hex_value (get_or text (i + i + 1) 0)) where
-      pub left_digits : unhexed text ≡ before (take i out) (with_byte a b (unhexed (drop (i + i + 1 + 1) text)))
-      left_digits = rw (ea, eb) left_two
+    -- the first is no digit
+    pub left_high : None ≡ hex_value (get_or text (2 * i) 0) → unhexed text ≡ None
+    left_high e = left_two ∙ rw (← e) refl
 
-      -- the first is no digit
-      pub left_high : 15 < a → unhexed text ≡ none
-      left_high g = left_digits ∙ rw (lt-ltb 15 a g) refl
+    module _ (a : ℕ) (ea : Some a ≡ hex_value (get_or text (2 * i) 0)) where
+      pub left_low : None ≡ hex_value (get_or text (2 * i + 1) 0) → unhexed text ≡ None
+      left_low e = left_two ∙ rw (← ea, ← e) refl
 
-      pub left_low : a ≤ 15 → 15 < b → unhexed text ≡ none
-      left_low f g = left_digits ∙ rw (le-ltb 15 a f, lt-ltb 15 b g) refl
-
-      pub left_byte : a ≤ 15 → b ≤ 15 → i < length out → Left text (set out i (a * 16 + b)) (i + 1)
-      left_byte f g room =
+      pub left_byte : (b : ℕ) → Some b ≡ hex_value (get_or text (2 * i + 1) 0) → i < length out → Left text (set out i (a * 16 + b)) (i + 1)
+      left_byte b eb room =
           let t : take (i + 1) (set out i (a * 16 + b)) ≡ take i out ++ ((a * 16 + b) ∷ []) = rw add-one (take-suc-set out i (a * 16 + b) room) in
-          let d : (i + 1) + (i + 1) ≡ i + i + 1 + 1 = omega arith in
-          rw (t, d) (left_digits ∙ rw (le-ltb 15 a f, le-ltb 15 b g) (before_twice (take i out) ((a * 16 + b) ∷ []) (unhexed (drop (i + i + 1 + 1) text))))
+          let d : 2 * (i + 1) ≡ 2 * i + 1 + 1 = omega arith in
+          rw (t, d) (left_two ∙ rw (← ea, ← eb) (before_twice (take i out) ((a * 16 + b) ∷ []) (unhexed (drop (2 * i + 1 + 1) text))))
 
 pub hexed_append : (a b : List ℕ) → hexed (a ++ b) ≡ hexed a ++ hexed b
 unfolding hexed
@@ -143,10 +161,12 @@ pub hexed_more : (l : List ℕ) (i : ℕ) → i < length l
 unfolding hexed
 hexed_more l i h = rw (add-one, take-suc l i 0 h) (hexed_append (take i l) (get_or l i 0 ∷ []))
 
--- at the start no digit stands there
-pub hexed_start : (at : ℕ) (out : List ℕ) → take (at + 0 + 0) out ≡ take at out ++ hexed []
+pub hexed_none : hexed [] ≡ []
 unfolding hexed
-hexed_start at out = let e : at + 0 + 0 ≡ at = omega arith in rw e (sym (append-nil (take at out)))
+hexed_none = refl
+
+pub hexed_all : (bytes : List ℕ) (i : ℕ) → length bytes ≤ i → hexed (take i bytes) ≡ hexed bytes
+hexed_all bytes i h = ap hexed (take_all i bytes h)
 
 -- behind what is put, and behind what was put before, every byte stays
 pub behind_on : (last out out₀ : List ℕ) (n r m : ℕ) → r ≡ m → n ≤ r → drop r last ≡ drop r out → drop n out ≡ drop n out₀ → drop m last ≡ drop m out₀
@@ -157,39 +177,40 @@ behind_on last out out₀ n r m e h f g =
 
 -- what is written: the bytes so far stand before those of what is left
 abbrev pub Front : List ℕ → List ℕ → ℕ → Type 0
-Front text out i = unhexed_front text ≡ take i out ++ unhexed_front (drop (i + i) text)
+Front text out i = unhexed_front text ≡ take i out ++ unhexed_front (drop (2 * i) text)
 
 module _ (text out : List ℕ) (i : ℕ) (front : Front text out i) where
-  front_none : unhexed_front (drop (i + i) text) ≡ [] → unhexed_front text ≡ take i out
+  front_none : unhexed_front (drop (2 * i) text) ≡ [] → unhexed_front text ≡ take i out
   front_none e = front ∙ ap (λ (l : List ℕ). take i out ++ l) e ∙ append-nil (take i out)
 
-  pub front_odd : i + i + 1 ≡ length text → unhexed_front text ≡ take i out
+  pub front_odd : 2 * i + 1 ≡ length text → unhexed_front text ≡ take i out
   unfolding unhexed_front
   front_odd e = front_none (ap unhexed_front (one_left text i e))
 
-  pub front_end : length text ≤ i + i → unhexed_front text ≡ take i out
+  pub front_end : length text ≤ 2 * i → unhexed_front text ≡ take i out
   unfolding unhexed_front
-  front_end h = front_none (ap unhexed_front (drop_of_length-le text {i = i + i} h))
+  front_end h = front_none (ap unhexed_front (drop_of_length-le text {i = 2 * i} h))
 
-  module _ (h : i + i + 1 < length text) (a b : ℕ) (ea : a ≡ hex_value (get_or text (i + i) 0)) (eb : b ≡ hex_value (get_or text (i + i + 1) 0)) where
-    front_left : unhexed_front (drop (i + i) text) ≡ front_byte a b (unhexed_front (drop (i + i + 1 + 1) text))
+  module _ (h : 2 * i + 1 < length text) where
+    front_two : unhexed_front (drop (2 * i) text) ≡ front_byte (hex_value (get_or text (2 * i) 0)) (hex_value (get_or text (2 * i + 1) 0)) (unhexed_front (drop (2 * i + 1 + 1) text))
     unfolding unhexed_front
-    front_left = rw (ea, eb) (ap unhexed_front (two_left text i h))
+    front_two = ap unhexed_front (two_left text i h)
 
-    pub front_high : 15 < a → unhexed_front text ≡ take i out
-    front_high g = front_none (front_left ∙ rw (lt-ltb 15 a g))
+    pub front_high : None ≡ hex_value (get_or text (2 * i) 0) → unhexed_front text ≡ take i out
+    front_high e = front_none (front_two ∙ rw (← e) refl)
 
-    pub front_low : a ≤ 15 → 15 < b → unhexed_front text ≡ take i out
-    front_low f g = front_none (front_left ∙ rw (le-ltb 15 a f, lt-ltb 15 b g))
+    module _ (a : ℕ) (ea : Some a ≡ hex_value (get_or text (2 * i) 0)) where
+      pub front_low : None ≡ hex_value (get_or text (2 * i + 1) 0) → unhexed_front text ≡ take i out
+      front_low e = front_none (front_two ∙ rw (← ea, ← e) refl)
 
-    pub front_byte_lem : a ≤ 15 → b ≤ 15 → i < length out → Front text (set out i (a * 16 + b)) (i + 1)
-    front_byte_lem f g room =
-        let t : take (i + 1) (set out i (a * 16 + b)) ≡ take i out ++ ((a * 16 + b) ∷ []) = rw add-one (take-suc-set out i (a * 16 + b) room) in
-        let d : (i + 1) + (i + 1) ≡ i + i + 1 + 1 = omega arith in
-        rw (t, d)
-        (front
-        ∙ ap (λ (l : List ℕ). take i out ++ l) (front_left ∙ rw (le-ltb 15 a f, le-ltb 15 b g))
-        ∙ sym (append_assoc (take i out) ((a * 16 + b) ∷ []) (unhexed_front (drop (i + i + 1 + 1) text))))
+      pub front_byte_lem : (b : ℕ) → Some b ≡ hex_value (get_or text (2 * i + 1) 0) → i < length out → Front text (set out i (a * 16 + b)) (i + 1)
+      front_byte_lem b eb room =
+          let t : take (i + 1) (set out i (a * 16 + b)) ≡ take i out ++ ((a * 16 + b) ∷ []) = rw add-one (take-suc-set out i (a * 16 + b) room) in
+          let d : 2 * (i + 1) ≡ 2 * i + 1 + 1 = omega arith in
+          rw (t, d)
+          (front
+          ∙ ap (λ (l : List ℕ). take i out ++ l) (front_two ∙ rw (← ea, ← eb) refl)
+          ∙ sym (append_assoc (take i out) ((a * 16 + b) ∷ []) (unhexed_front (drop (2 * i + 1 + 1) text))))
 
 -- a byte is written, and none behind it
 pub byte_kept : (out out₀ : List ℕ) (i x : ℕ) → drop i out ≡ drop i out₀ → drop (i + 1) (set out i x) ≡ drop (i + 1) out₀
@@ -202,36 +223,36 @@ front_written text out out₀ i e l k =
     ∙ ap (λ (r : List ℕ). take i out ++ r) (k ∙ ap (λ (n : ℕ). drop n out₀) (sym (length-take-le i out l)))
     ∙ ap (λ (xs : List ℕ). onto xs out₀) (sym e)
 
--- of one character alone nothing is written
-pub one_written : (text out : List ℕ) → length text ≡ 1 → out ≡ onto (unhexed_front text) out
-unfolding unhexed_front
-one_written text out e = front_written text out out 0 (front_odd text out 0 refl (sym e)) (omega arith) refl
+-- a hyphen alone stands for nothing, and what is none is taken by its digits
+pub hyphen_bytes : bytes_of (45 ∷ []) ≡ Some []
+hyphen_bytes = refl
 
--- one byte's digits are put behind those that stand there
-pub digits_more : (out₀ out last bytes : List ℕ) (at i r a b : ℕ) → i < length bytes → r ≡ at + i + i + 2
-    → take r last ≡ take (at + i + i) out ++ (a ∷ (b ∷ [])) → a ≡ glyph_of (get_or bytes i 0 / 16) → b ≡ glyph_of (get_or bytes i 0 % 16)
-    → take (at + i + i) out ≡ take at out₀ ++ hexed (take i bytes) → take (at + (i + 1) + (i + 1)) last ≡ take at out₀ ++ hexed (take (i + 1) bytes)
-digits_more out₀ out last bytes at i r a b h er t ea eb inv =
-    let e : at + (i + 1) + (i + 1) ≡ r = omega arith in
-    rw (e, hexed_more bytes i h, t, inv, ea, eb) (append_assoc (take at out₀) (hexed (take i bytes)) (glyph_of (get_or bytes i 0 / 16) ∷ (glyph_of (get_or bytes i 0 % 16) ∷ [])))
+and_true : (b : Bool) → (b && true) ≡ b
+and_true true = refl
+and_true false = refl
+
+pub other_bytes : (t : List ℕ) → pointwise eqb t (45 ∷ []) ≡ false → bytes_of t ≡ unhexed t
+other_bytes [] h = refl
+other_bytes (x ∷ []) h = rw (sym (and_true (eqb x 45)) ∙ h)
+other_bytes (x ∷ y ∷ l) h = let ne : length (x ∷ y ∷ l) ≡ 1 → ⊥ = omega arith in rw (ne_eqb _ _ ne)
+
+pub hyphen_written : (out : List ℕ) → out ≡ onto (unhexed_front (45 ∷ [])) out
+unfolding unhexed_front
+hyphen_written out = refl
 
 -- ---- numbers
 
+-- a number goes on by a digit, and ends at what is none
 module _ (v : ℕ) (l : List ℕ) (i : ℕ) (h : i < length l) where
-  pub number_low : get_or l i 0 < 48 → number_from v (drop i l) ≡ Num.Malformed
+  pub number_stop : (get_or l i 0 < 48) ⊎ (57 < get_or l i 0) → number_from v (drop i l) ≡ None
   unfolding number_from
-  number_low g = rw (next l i h, lt-ltb (get_or l i 0) 48 g) refl
+  number_stop g = rw (next l i h) (grind (arith, nat_tests))
 
-  module _ (f : 48 ≤ get_or l i 0) where
-    pub number_high : 57 < get_or l i 0 → number_from v (drop i l) ≡ Num.Malformed
-    unfolding number_from
-    number_high g = rw (next l i h, le-ltb (get_or l i 0) 48 f, lt-ltb 57 (get_or l i 0) g) refl
+  pub number_more : 48 ≤ get_or l i 0 → get_or l i 0 ≤ 57 → number_from v (drop i l) ≡ number_from (with_digit v (get_or l i 0)) (drop (i + 1) l)
+  unfolding number_from
+  number_more f g = rw (next l i h, le-ltb (get_or l i 0) 48 f, le-ltb 57 (get_or l i 0) g) refl
 
-    pub number_more : get_or l i 0 ≤ 57 → number_from v (drop i l) ≡ number_from (with_digit v (get_or l i 0)) (drop (i + 1) l)
-    unfolding number_from
-    number_more g = rw (next l i h, le-ltb (get_or l i 0) 48 f, le-ltb 57 (get_or l i 0) g) refl
-
-pub number_end : (v : ℕ) (l : List ℕ) (i : ℕ) → length l ≤ i → number_from v (drop i l) ≡ Num.Of v
+pub number_end : (v : ℕ) (l : List ℕ) (i : ℕ) → length l ≤ i → number_from v (drop i l) ≡ Some v
 unfolding number_from
 number_end v l i h = rw (drop_of_length-le l {i = i} h) refl
 
@@ -274,6 +295,39 @@ pub places_bound : (f n : ℕ) → places f n ≤ suc f
 unfolding places
 places_bound zero n = omega arith
 places_bound (suc f) n = if_case (λ (m : ℕ). m ≤ suc (suc f)) n (λ g. omega arith) (λ g. omega (arith, places_bound f (n / 10)))
+
+-- ---- lines that are put together
+
+further : (a b : List ℕ) (r n : ℕ) → r ≤ n → drop r a ≡ drop r b → drop n a ≡ drop n b
+further a b r n h e = behind_on a a b r n n refl h refl e
+
+-- a piece that was put
+pub appends_put : (a b : Line) (piece : List ℕ) → length b.out.now ≡ length a.out.now → b.length ≡ a.length + length piece → take b.length b.out.now ≡ take a.length a.out.now ++ piece → drop b.length b.out.now ≡ drop b.length a.out.now → Appends a b piece
+appends_put a b piece l i t d = record { long = l; is = i; text = t; behind = λ n h. further b.out.now a.out.now b.length n h d }
+
+pub appends_as : (a b : Line) (x y : List ℕ) → x ≡ y → Appends a b x → Appends a b y
+appends_as a b x y e h = rw e at h
+
+-- nothing more
+pub appends_none : (a : Line) → Appends a a []
+appends_none a = record { long = refl; is = omega arith; text = sym (append-nil (take a.length a.out.now)); behind = λ n h. refl }
+
+-- one piece behind another
+pub appends_both : (a b c : Line) (x y : List ℕ) → Appends a b x → Appends b c y → Appends a c (x ++ y)
+appends_both a b c x y h k =
+    record {
+      long = k.long ∙ h.long;
+      is = omega (arith, k.is, h.is, length-append x y);
+      text = k.text ∙ ap (λ (l : List ℕ). l ++ y) h.text ∙ append_assoc (take a.length a.out.now) x y;
+      behind = λ n le. k.behind n le ∙ h.behind n (omega (arith, k.is));
+    }
+
+-- a line whose text is told otherwise, behind its first piece and before its last
+pub puts_on : (a b m e : Line) (x y t : List ℕ) (n : ℕ) (out : List ℕ) → Appends a b x → b.length ≤ m.length → ((k : ℕ) → m.length ≤ k → drop k m.out.now ≡ drop k b.out.now) → Appends m e y → take m.length m.out.now ≡ t → n ≡ e.length → e.length ≤ length e.out.now → out ≡ e.out.now → Puts (t ++ y) a.out.now n out
+puts_on a b m e x y t n out h on behind k is i fits o = (
+  record { inside = rw (i, o) fits; is = rw (i, o) (k.text ∙ ap (λ (l : List ℕ). l ++ y) is) },
+  rw (i, o) (k.behind e.length (omega arith) ∙ behind e.length (omega (arith, k.is)) ∙ h.behind e.length (omega (arith, on, k.is))),
+)
 
 -- ---- answers
 

@@ -1,5 +1,7 @@
 -- The answers' lines, as oracle/README.md has them.
-use Rattle.std.specs.Prelude.{ℕ, ◌-◌, ◌≤◌, ◌≡◌, List, [], ◌∷◌, ◌++◌, length, take, drop}
+use Rattle.std.specs.Prelude.{ℕ, ◌+◌, ◌-◌, ◌≤◌, ◌≡◌, List, [], ◌∷◌, ◌++◌, length, take, drop}
+use Rattle.ol_spec.specs.declared.Fault.{Fault}
+use Rattle.relay_text.specs.declared.line.Line.{Line}
 use Rattle.relay_text.specs.Text.{hex_word, decimal_word, word_number}
 
 -- ---- pieces
@@ -13,6 +15,10 @@ line_end = 10 ∷ []
 -- a number and a place behind a text
 abbrev pub with_fault : List ℕ → ℕ → ℕ → List ℕ
 with_fault text number place = text ++ decimal_word number ++ blank ++ decimal_word place
+
+-- the same of a fault
+abbrev pub fault_words : Fault → List ℕ
+fault_words x = decimal_word x.number ++ blank ++ decimal_word x.place
 
 -- ---- answers
 
@@ -94,8 +100,15 @@ pub record Said (text : List ℕ) (n : ℕ) (out : List ℕ) : Type 0 where
 abbrev pub Puts : List ℕ → List ℕ → ℕ → List ℕ → Type 0
 Puts text old n out = Said text n out × (drop n out ≡ drop n old)
 
+-- a line with a piece behind what was put, and every byte behind it as it was
+pub record Appends (old new : Line) (piece : List ℕ) : Type 0 where
+  pub long : length new.out.now ≡ length old.out.now
+  pub is : new.length ≡ old.length + length piece
+  pub text : take new.length new.out.now ≡ take old.length old.out.now ++ piece
+  pub behind : (n : ℕ) → new.length ≤ n → drop n new.out.now ≡ drop n old.out.now
+
 -- ---- words
 
 -- the text of the line's word number k
 abbrev pub word_text : List ℕ → ℕ → List ℕ
-word_text line k = let w = word_number line k in take (w.to - w.from) (drop w.from line)
+word_text line k = let w = word_number line k in take (w.end - w.start) (drop w.start line)

@@ -1,12 +1,7 @@
 -- What a line's words stand for, and what is written for bytes and numbers: oracle/README.md's protocol.
-use Rattle.std.specs.Prelude.{ℕ, zero, suc, ◌+◌, ◌*◌, ◌-◌, ◌/◌, ◌%◌, ◌≤◌, ◌≡◌, Bool, true, false, cond, not, List, [], ◌∷◌, ◌++◌, length, take, drop, get_or, eqb, ltb, leb}
-use Rattle.std.proofs.Math.Option.{Option, none, some}
+use Rattle.std.specs.Prelude.{ℕ, zero, suc, ◌+◌, ◌*◌, ◌-◌, ◌/◌, ◌%◌, ◌≤◌, ◌≡◌, Bool, true, false, cond, not, List, [], ◌∷◌, ◌++◌, length, take, drop, get_or, eqb, ltb, leb, Option, Some, None}
 use Rattle.io.specs.Digits.{last_digits}
-use Rattle.relay_text.specs.declared.Word.{Word}
-use Rattle.relay_text.specs.declared.Hex.{Hex}
-use Rattle.relay_text.specs.declared.Hex.TheVariants as Hx
-use Rattle.relay_text.specs.declared.Number.{Number}
-use Rattle.relay_text.specs.declared.Number.TheVariants as Num
+use Rattle.std.specs.declared.ops.Range.{Range}
 
 -- ---- words
 
@@ -31,8 +26,8 @@ word_from line at = at + run true (drop at line)
 abbrev pub word_to : List ℕ → ℕ → ℕ
 word_to line at = word_from line at + run false (drop (word_from line at) line)
 
-abbrev pub word_at : List ℕ → ℕ → Word
-word_at line at = record { from = word_from line at; to = word_to line at }
+abbrev pub word_at : List ℕ → ℕ → Range ℕ
+word_at line at = record { start = word_from line at; end = word_to line at }
 
 -- where the first k words from a place on end
 unfoldable pub behind : List ℕ → ℕ → ℕ → ℕ
@@ -40,7 +35,7 @@ behind line zero at = at
 behind line (suc k) at = behind line k (word_to line at)
 
 -- the line's word number k, counted from 0
-abbrev pub word_number : List ℕ → ℕ → Word
+abbrev pub word_number : List ℕ → ℕ → Range ℕ
 word_number line k = word_at line (behind line k 0)
 
 -- how many words stand from a place on, k where there are more
@@ -50,31 +45,37 @@ words_up_to (suc k) line at = cond (eqb (word_from line at) (word_to line at)) 0
 
 -- ---- hexadecimal
 
--- a digit's value; 16 for what is no digit
-abbrev pub hex_value : ℕ → ℕ
-hex_value c = cond (ltb c 48) 16 (cond (leb c 57) (c - 48) (cond (ltb c 65) 16 (cond (leb c 70) (c - 55) (cond (ltb c 97) 16 (cond (leb c 102) (c - 87) 16)))))
+-- a digit's value; none for what is no digit
+abbrev pub hex_value : ℕ → Option ℕ
+hex_value c =
+    cond (ltb c 48) None
+    (cond (leb c 57) (Some (c - 48)) (cond (ltb c 65) None (cond (leb c 70) (Some (c - 55)) (cond (ltb c 97) None (cond (leb c 102) (Some (c - 87)) None)))))
 
 abbrev pub before : List ℕ → Option (List ℕ) → Option (List ℕ)
-before xs none = none
-before xs (some l) = some (xs ++ l)
+before xs None = None
+before xs (Some l) = Some (xs ++ l)
 
 -- two digits and what stands behind them
-abbrev pub with_byte : ℕ → ℕ → Option (List ℕ) → Option (List ℕ)
-with_byte high low rest = cond (ltb 15 high) none (cond (ltb 15 low) none (before ((high * 16 + low) ∷ []) rest))
+abbrev pub with_byte : Option ℕ → Option ℕ → Option (List ℕ) → Option (List ℕ)
+with_byte (Some high) (Some low) rest = before ((high * 16 + low) ∷ []) rest
+with_byte (Some high) None rest = None
+with_byte None low rest = None
 
 -- the bytes that digits stand for, two for each; none where one is left over or is no digit
 unfoldable pub unhexed : List ℕ → Option (List ℕ)
-unhexed [] = some []
-unhexed (a ∷ []) = none
+unhexed [] = Some []
+unhexed (a ∷ []) = None
 unhexed (a ∷ b ∷ l) = with_byte (hex_value a) (hex_value b) (unhexed l)
 
 -- the bytes that a word stands for: a hyphen alone is nothing at all
 abbrev pub bytes_of : List ℕ → Option (List ℕ)
-bytes_of t = cond (eqb (length t) 1) (cond (eqb (get_or t 0 0) 45) (some []) (unhexed t)) (unhexed t)
+bytes_of t = cond (eqb (length t) 1) (cond (eqb (get_or t 0 0) 45) (Some []) (unhexed t)) (unhexed t)
 
 -- two digits and what is written behind them; nothing where one is none
-abbrev pub front_byte : ℕ → ℕ → List ℕ → List ℕ
-front_byte high low rest = cond (ltb 15 high) [] (cond (ltb 15 low) [] ((high * 16 + low) ∷ rest))
+abbrev pub front_byte : Option ℕ → Option ℕ → List ℕ → List ℕ
+front_byte (Some high) (Some low) rest = (high * 16 + low) ∷ rest
+front_byte (Some high) None rest = []
+front_byte None low rest = []
 
 -- the bytes of the digits that stand before the first that is none, or that is left over
 unfoldable pub unhexed_front : List ℕ → List ℕ
@@ -87,9 +88,9 @@ abbrev pub onto : List ℕ → List ℕ → List ℕ
 onto bytes old = bytes ++ drop (length bytes) old
 
 -- what is found of them, at the start of a buffer
-abbrev pub Decoded : Option (List ℕ) → Hex → List ℕ → Type 0
-Decoded o (Hx.Bytes n) out = (n ≤ length out) × (o ≡ some (take n out))
-Decoded o Hx.Malformed out = o ≡ none
+abbrev pub Decoded : Option (List ℕ) → Option ℕ → List ℕ → Type 0
+Decoded o (Some n) out = (n ≤ length out) × (o ≡ Some (take n out))
+Decoded o None out = o ≡ None
 
 abbrev pub glyph_of : ℕ → ℕ
 glyph_of d = cond (ltb d 10) (48 + d) (87 + d)
@@ -113,13 +114,13 @@ abbrev pub with_digit : ℕ → ℕ → ℕ
 with_digit v c = cond (ltb v large) (v * 10 + (c - 48)) v
 
 -- the number that decimal digits stand for, behind those that stand for v
-unfoldable pub number_from : ℕ → List ℕ → Number
-number_from v [] = Num.Of v
-number_from v (c ∷ l) = cond (ltb c 48) Num.Malformed (cond (ltb 57 c) Num.Malformed (number_from (with_digit v c) l))
+unfoldable pub number_from : ℕ → List ℕ → Option ℕ
+number_from v [] = Some v
+number_from v (c ∷ l) = cond (ltb c 48) None (cond (ltb 57 c) None (number_from (with_digit v c) l))
 
 -- the number that a word stands for
-abbrev pub number_of : List ℕ → Number
-number_of t = cond (eqb (length t) 0) Num.Malformed (number_from 0 t)
+abbrev pub number_of : List ℕ → Option ℕ
+number_of t = cond (eqb (length t) 0) None (number_from 0 t)
 
 -- how many decimal digits a number has, as far as the steps f go
 unfoldable pub places : ℕ → ℕ → ℕ

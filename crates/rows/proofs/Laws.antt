@@ -1,56 +1,51 @@
--- Laws of the comparison: a turn of its loops, and that exactly equal lists agree in every row.
-use Prim.Native.Nat.{ℕ, suc, ◌+◌, ◌≤◌, ◌<◌}
-use native.Mathlib.Numerals.{add-one}
-use native.Mathlib.Decide.{dec_lt}
-use native.Mathlib.Omega.{arith}
-use mathlib.Core.Bool.{Bool, true, false, ◌&&◌}
-use mathlib.Core.List.{List, [], ◌∷◌}
-use mathlib.Core.Logic.{by_cases}
-use mathlib.Core.Path.{◌≡◌, refl, sym, ap, ◌∙◌}
-use lib.Dec.{eqb}
-use lib.ListN.{length, get_or, drop, drop_of_length-le}
-use lib.Seq.{drop-cons}
-use borrow.Author.Tests.{eqb-true, eq-eqb, ne_eqb}
+-- Laws of the comparison: it by the words of the library, and that exactly equal lists agree in every row.
+use Rattle.std.proofs.Common.{◌≡◌, ℕ, suc, ◌+◌, ◌≤◌, min, Bool, true, false, cond, not, ◌&&◌, List, [], ◌∷◌, length, eqb, nat_lt, Some, None, zip, count_by, position, sym, refl, ap, arith, eqb-true, eq-eqb}
+use Rattle.std.specs.List.{position_or_len}
+use Rattle.std.specs.Option.{unwrap_or}
+use Rattle.std.proofs.lemmas.List.Sums.{sum_by-cons, prefix_len-le-length}
+use Rattle.std.proofs.lemmas.Slice.Zip.{length-zip}
+use lib.Pointwise.{pointwise}
 use Rattle.rows.specs.Rows.{one, agreeing, first_other, all_agree}
 
--- nothing agrees with nothing
-agreeing_nil : (xs : List ℕ) → agreeing xs [] ≡ 0
+-- ---- the comparison by the words of the library
+
+-- how many pairs are of equal numbers
+pub agreeing_is : (xs ws : List ℕ) → agreeing xs ws ≡ count_by (λ p. eqb p.0 p.1) (zip xs ws)
 unfolding agreeing
-agreeing_nil [] = refl
-agreeing_nil (x ∷ xs) = refl
+agreeing_is [] ws = refl
+agreeing_is (x ∷ xs) [] = refl
+agreeing_is (x ∷ xs) (w ∷ ws) = rw (sum_by-cons (λ p. cond (eqb p.0 p.1) 1 0) (x, w) (zip xs ws)) (counts_one (eqb x w) _ _ (agreeing_is xs ws))
+  where
+    counts_one : (b : Bool) (n m : ℕ) → n ≡ m → one b + n ≡ cond b 1 0 + m
+    counts_one true n m h = omega arith
+    counts_one false n m h = omega arith
 
-first_nil : (xs : List ℕ) → first_other xs [] ≡ 0
+-- the place of the first pair that is not
+first_place : (xs ws : List ℕ) → first_other xs ws ≡ position_or_len (λ p. not (eqb p.0 p.1)) (zip xs ws)
 unfolding first_other
-first_nil [] = refl
-first_nil (x ∷ xs) = refl
+first_place [] ws = refl
+first_place (x ∷ xs) [] = refl
+first_place (x ∷ xs) (w ∷ ws) = rw (first_place xs ws) (passes_one (eqb x w) _)
+  where
+    passes_one : (b : Bool) (n : ℕ) → cond b (suc n) 0 ≡ cond (not (not b)) (1 + n) 0
+    passes_one true n = omega arith
+    passes_one false n = refl
 
-module _ (xs ws : List ℕ) (i : ℕ) (p : i < length xs) (q : i < length ws) where
-  -- a row that agrees or does not, and those behind it
-  pub agreeing_more : get_or xs i 0 ≡ get_or ws i 0 → agreeing (drop i xs) (drop i ws) ≡ 1 + agreeing (drop (i + 1) xs) (drop (i + 1) ws)
-  unfolding agreeing
-  agreeing_more h = rw (add-one, drop-cons xs i 0, drop-cons ws i 0, eq-eqb _ _ h)
+place_or : (n m : ℕ) → n ≤ m → unwrap_or (cond (nat_lt n m) (Some n) None) m ≡ n
+place_or n m h = grind arith
 
-  pub agreeing_not : (get_or xs i 0 ≡ get_or ws i 0 → ⊥) → agreeing (drop i xs) (drop i ws) ≡ agreeing (drop (i + 1) xs) (drop (i + 1) ws)
-  unfolding agreeing
-  agreeing_not h = rw (add-one, drop-cons xs i 0, drop-cons ws i 0, ne_eqb _ _ h) (omega arith)
+pub first_is : (xs ws : List ℕ) → first_other xs ws ≡ unwrap_or (position (λ p. not (eqb p.0 p.1)) (zip xs ws)) (min (length xs) (length ws))
+first_is xs ws = rw (← length-zip xs ws, first_place xs ws) (sym (place_or _ _ (prefix_len-le-length _ (zip xs ws))))
 
-  pub first_more : get_or xs i 0 ≡ get_or ws i 0 → first_other (drop i xs) (drop i ws) ≡ 1 + first_other (drop (i + 1) xs) (drop (i + 1) ws)
-  unfolding first_other
-  first_more h = rw (add-one, drop-cons xs i 0, drop-cons ws i 0, eq-eqb _ _ h) (omega arith)
+-- whether the lists are equal
+pub all_agree_is : (xs ws : List ℕ) → all_agree xs ws ≡ pointwise eqb xs ws
+unfolding all_agree
+all_agree_is [] [] = refl
+all_agree_is [] (w ∷ ws) = refl
+all_agree_is (x ∷ xs) [] = refl
+all_agree_is (x ∷ xs) (w ∷ ws) = ap (λ b. eqb x w && b) (all_agree_is xs ws)
 
-  pub first_not : (get_or xs i 0 ≡ get_or ws i 0 → ⊥) → first_other (drop i xs) (drop i ws) ≡ 0
-  unfolding first_other
-  first_not h = rw (drop-cons xs i 0, drop-cons ws i 0, ne_eqb _ _ h)
-
--- no row is left of one of the lists
-module _ (xs ws : List ℕ) (i : ℕ) (e : i < length xs → length ws ≤ i) where
-  pub agreeing_end : agreeing (drop i xs) (drop i ws) ≡ 0
-  unfolding agreeing
-  agreeing_end = by_cases (dec_lt i (length xs)) (λ p. rw (drop_of_length-le ws (e p)) (agreeing_nil (drop i xs))) (λ p. rw (drop_of_length-le xs {i = i} (omega arith)))
-
-  pub first_end : first_other (drop i xs) (drop i ws) ≡ 0
-  unfolding first_other
-  first_end = by_cases (dec_lt i (length xs)) (λ p. rw (drop_of_length-le ws (e p)) (first_nil (drop i xs))) (λ p. rw (drop_of_length-le xs {i = i} (omega arith)))
+-- ---- all rows
 
 -- no more rows agree than there are
 one_most : (b : Bool) (n m : ℕ) → n ≤ m → one b + n ≤ suc m
@@ -84,28 +79,3 @@ pub same_agrees : (xs : List ℕ) → agreeing xs xs ≡ length xs
 unfolding agreeing
 same_agrees [] = refl
 same_agrees (x ∷ xs) = rw (eq-eqb x x refl) (omega (arith, same_agrees xs))
-
--- all rows agree: the lists are as long as each other, and as many rows agree
-pub agree_length : (xs ws : List ℕ) → (length xs ≡ length ws → ⊥) → all_agree xs ws ≡ false
-unfolding all_agree
-agree_length [] [] h = absurd (h refl)
-agree_length [] (w ∷ ws) h = refl
-agree_length (x ∷ xs) [] h = refl
-agree_length (x ∷ xs) (w ∷ ws) h = rw (agree_length xs ws (λ e. h (ap suc e))) (and_false (eqb x w))
-  where
-    and_false : (b : Bool) → b && false ≡ false
-    and_false true = refl
-    and_false false = refl
-
-count_agrees : (b : Bool) (n m : ℕ) → n ≤ m → b && eqb n m ≡ eqb (one b + n) (suc m)
-count_agrees true n m h =
-    by_cases (dec_lt n m) (λ e. ne_eqb n m (λ q. omega arith) ∙ sym (ne_eqb (1 + n) (suc m) (λ q. omega arith)))
-    (λ e. eq-eqb n m (omega arith) ∙ sym (eq-eqb (1 + n) (suc m) (omega arith)))
-count_agrees false n m h = sym (ne_eqb (0 + n) (suc m) (λ q. omega arith))
-
-pub agree_count : (xs ws : List ℕ) → length xs ≡ length ws → all_agree xs ws ≡ eqb (agreeing xs ws) (length ws)
-unfolding agreeing all_agree
-agree_count [] [] h = refl
-agree_count [] (w ∷ ws) h = absurd (omega arith)
-agree_count (x ∷ xs) [] h = absurd (omega arith)
-agree_count (x ∷ xs) (w ∷ ws) h = rw (agree_count xs ws (omega arith)) (count_agrees (eqb x w) (agreeing xs ws) (length ws) (agreeing_most xs ws))

@@ -1,12 +1,6 @@
 -- Rows that agree: a list of what was found beside a list of what was wanted. A row that only one of the two lists has does not agree.
-use Rattle.std.specs.Prelude.{ℕ, suc, ◌+◌, ◌≤◌, ◌<◌, Bool, true, false, cond, ◌&&◌, List, [], ◌∷◌, ◌≡◌, eqb}
+use Rattle.std.specs.Prelude.{ℕ, suc, ◌+◌, Bool, true, false, cond, ◌&&◌, List, [], ◌∷◌, ◌≡◌, eqb}
 use Rattle.rows.specs.declared.Compared.{Compared}
-
--- r is the lesser of two numbers
-pub record Lesser (a b r : ℕ) : Type 0 where
-  pub first : r ≤ a
-  pub second : r ≤ b
-  pub other : r < a → r ≡ b
 
 -- 1 for a row that agrees, else 0
 abbrev pub one : Bool → ℕ

@@ -3,8 +3,8 @@
 
 pub mod streams;
 
-ghost use Rattle.std.specs.Prelude.{◌≡◌};
-ghost use Rattle.rows.specs.Rows.{Lesser, agreeing, first_other, Compares, all_agree};
+ghost use Rattle.std.specs.Prelude.{◌≡◌, ◌==◌, not, count_by, position, zip};
+ghost use Rattle.rows.specs.Rows.{agreeing, first_other, Compares, all_agree};
 
 // How many rows agree, and the index of the first that does not; where all do, how many there are.
 #[derive(Clone, Copy)]
@@ -13,62 +13,36 @@ pub struct Compared {
     pub first: usize,
 }
 
-// The lesser of two numbers.
-fn lesser(a: usize, b: usize) -> usize
-    ensures { Lesser a b result }
-{
-    if a < b { a } else { b }
-}
-
 // How many rows agree.
 fn agreeing(found: &[u64], wanted: &[u64]) -> usize
-    ensures { result ≡ agreeing found.now wanted.now }
+    ensures { result ≡ count_by (λ p. p.0 == p.1) (zip found.now wanted.now) }
 {
-    let n = lesser(found.len(), wanted.len());
-    let mut sum = 0;
-    let mut i = 0;
-    while i < n {
-        if found[i] == wanted[i] {
-            sum += 1;
-        }
-        i += 1;
-    }
-    sum
+    found.iter().zip(wanted).filter(|(f, w)| f == w).count()
 }
 
 // The index of the first row that does not agree.
-fn first_other(found: &[u64], wanted: &[u64]) -> usize
-    ensures { result ≡ first_other found.now wanted.now }
+fn first_other(found: &[u64], wanted: &[u64]) -> Option<usize>
+    ensures { result ≡ position (λ p. not (p.0 == p.1)) (zip found.now wanted.now) }
 {
-    let n = lesser(found.len(), wanted.len());
-    let mut first = 0;
-    while first < n {
-        if found[first] != wanted[first] {
-            return first;
-        }
-        first += 1;
-    }
-    first
+    found.iter().zip(wanted).position(|(f, w)| f != w)
 }
 
 // Compares two lists of rows.
+#[tactic(auto, using(crate::proofs::Laws::agreeing_is, crate::proofs::Laws::first_is))]
 pub fn compare(found: &[u64], wanted: &[u64]) -> Compared
     ensures { Compares found.now wanted.now result }
 {
+    let rows = found.len().min(wanted.len());
     Compared {
         agreeing: agreeing(found, wanted),
-        first: first_other(found, wanted),
+        first: first_other(found, wanted).unwrap_or(rows),
     }
 }
 
 // Whether all rows agree.
+#[tactic(auto, using(crate::proofs::Laws::all_agree_is))]
 pub fn agrees(found: &[u64], wanted: &[u64]) -> bool
     ensures { result ≡ all_agree found.now wanted.now }
 {
-    if found.len() == wanted.len() {
-        let c = compare(found, wanted);
-        c.agreeing == wanted.len()
-    } else {
-        false
-    }
+    found == wanted
 }

@@ -1,5 +1,6 @@
 // The standard input and output, as the programs read and write them. Which bytes a read gives and
 // whether a write takes them is free. A read that fails counts as the input's end.
+ghost use Rattle.std.specs.Prelude.{◌≡◌, ◌<◌, length};
 ghost use Rattle.io.specs.Counts.{IsPrefixLen};
 
 use std::io::{Read, Stdin, Stdout, Write};
@@ -11,46 +12,81 @@ pub struct Streams {
     pub output: Stdout,
 }
 
-// One read; how many bytes stand at the buffer's start then. A read that fails gives nothing.
-pub fn read(input: Stdin, buf: &mut [u8]) -> usize
-    ensures { IsPrefixLen result buf.new }
-{
-    let mut from = input;
-    match from.read(buf) {
-        Ok(n) => n,
-        Err(_) => 0,
-    }
-}
-
-// Reads until the buffer is full, the input ends or a read fails; how many bytes stand at the buffer's start then.
-pub fn read_full(streams: Streams, buf: &mut [u8]) -> usize
-    ensures { IsPrefixLen result buf.new }
-{
-    let mut done = 0;
-    while done < buf.len() {
-        let n = read(streams.input, &mut buf[done..]);
-        if n == 0 {
-            break;
+impl Streams {
+    // Reads until the buffer is full, the input ends or a read fails; how many bytes stand at the buffer's start then.
+    pub fn read_full(self, buf: &mut [u8]) -> usize
+        ensures { IsPrefixLen result buf.new }
+    {
+        let mut done = 0;
+        while done < buf.len() {
+            let n = read(self.input, &mut buf[done..]);
+            if n == 0 {
+                break;
+            }
+            done += n;
         }
-        done += n;
+        done
     }
-    done
+
+    // Fills the buffer. Where the input ends too early, it says so by the line `cut`: what was read stands for nothing, and the run cannot pass.
+    pub fn fill(self, buf: &mut [u8], cut: &[u8])
+        ensures { length buf.new ≡ length buf.old }
+    {
+        if self.read_full(buf) < buf.len() {
+            self.write_all(cut);
+        }
+    }
+
+    // The next N bytes.
+    pub fn next<const N: usize>(self, cut: &[u8]) -> [u8; N]
+        ensures { length result ≡ N }
+    {
+        let mut bytes = [0; N];
+        self.fill(&mut bytes, cut);
+        bytes
+    }
+
+    // The next byte.
+    pub fn next_byte(self, cut: &[u8]) -> u8
+        ensures { result < 256 }
+    {
+        let [byte] = self.next::<1>(cut);
+        byte
+    }
+
+    // The next two bytes, a number.
+    pub fn next_number(self, cut: &[u8]) -> usize
+        ensures { result < 65536 }
+    {
+        usize::from(u16::from_be_bytes(self.next(cut)))
+    }
+
+    // Says by the line `left` where bytes are left behind what is read.
+    pub fn tell_left(self, left: &[u8]) {
+        if self.read_full(&mut [0]) > 0 {
+            self.write_all(left);
+        }
+    }
+
+    // Hands the bytes to the system; there is no outcome, whether it takes them or not.
+    pub fn write_all(mut self, bytes: &[u8]) {
+        let _ = self.output.write_all(bytes);
+    }
+
+    // The same of a number in decimal digits.
+    pub fn write_decimal(mut self, n: u64) {
+        let _ = write!(self.output, "{n}");
+    }
+
+    // The same of a number in 16 hexadecimal digits.
+    pub fn write_hex(mut self, n: u64) {
+        let _ = write!(self.output, "{n:016x}");
+    }
 }
 
-// Hands the bytes to the system; there is no outcome, whether it takes them or not.
-pub fn write_all(streams: Streams, bytes: &[u8]) {
-    let mut output = streams.output;
-    let _is_taken = output.write_all(bytes).is_ok();
-}
-
-// The same of a number in decimal digits.
-pub fn write_decimal(streams: Streams, n: u64) {
-    let mut output = streams.output;
-    let _is_taken = write!(output, "{n}").is_ok();
-}
-
-// The same of a number in 16 hexadecimal digits.
-pub fn write_hex(streams: Streams, n: u64) {
-    let mut output = streams.output;
-    let _is_taken = write!(output, "{n:016x}").is_ok();
+// One read; how many bytes stand at the buffer's start then. A read that fails gives nothing.
+pub fn read(mut input: Stdin, buf: &mut [u8]) -> usize
+    ensures { IsPrefixLen result buf.new }
+{
+    input.read(buf).unwrap_or(0)
 }

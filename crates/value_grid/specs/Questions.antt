@@ -10,6 +10,8 @@ use Rattle.ol_spec.specs.declared.Outcome.{Outcome}
 use Rattle.ol_spec.specs.declared.Outcome.TheVariants as Out
 use Rattle.ol_value.specs.Codes.{ty_of, name_in, in_kind, unary_by, binary_by}
 use Rattle.rows.specs.Rows.{one}
+use Rattle.value_grid.specs.declared.Section.{Section}
+use Rattle.value_grid.specs.declared.Section.TheVariants as Sec
 
 -- ---- an answer
 
@@ -64,20 +66,15 @@ grid_cell grid a = cond (ltb (length grid) (a + 9)) (Val.Bool false) (value_of (
 unfoldable pub grid_value : List ℕ → ℕ → Value
 grid_value grid k = grid_cell grid (k % 256 * 9)
 
--- the outcome of the t-th question: the sections are binary operators, unary operators, casts and stores
-unfoldable pub found_at : ℕ → ℕ → List ℕ → Outcome
-found_at section t grid =
-    cond (eqb section 0) (binary_by (t / 42 / 42 % 256) (grid_value grid (t / 42 % 42)) (grid_value grid (t % 42)))
-    (cond (eqb section 1) (unary_by (t / 42 % 256) (grid_value grid (t % 42)))
-    (cond (eqb section 2) (cast_to (ty_of (t / 42 % 256) 0) (grid_value grid (t % 42)))
-    (Out.Value (fit (ty_of (t / 42 % 256) 0) (grid_value grid (t % 42))))))
-
--- the answer to the t-th question of a section agrees: behind those four come inputs, defaults and further cells
-unfoldable pub answered_at : ℕ → List ℕ → ℕ → Answer → Bool
-answered_at section grid t =
-    cond (ltb section 4) (outcome_is (found_at section t grid))
-    (cond (eqb section 4) (input_is (t / 42 % 256) (grid_value grid (t % 42)))
-    (cond (eqb section 5) (default_is (t % 256)) cell_is))
+-- the answer to the t-th question of a section agrees
+unfoldable pub answered_at : Section → List ℕ → ℕ → Answer → Bool
+answered_at Sec.Binary grid t = outcome_is (binary_by (t / 42 / 42 % 256) (grid_value grid (t / 42 % 42)) (grid_value grid (t % 42)))
+answered_at Sec.Unary grid t = outcome_is (unary_by (t / 42 % 256) (grid_value grid (t % 42)))
+answered_at Sec.Cast grid t = outcome_is (cast_to (ty_of (t / 42 % 256) 0) (grid_value grid (t % 42)))
+answered_at Sec.Store grid t = outcome_is (Out.Value (fit (ty_of (t / 42 % 256) 0) (grid_value grid (t % 42))))
+answered_at Sec.Input grid t = input_is (t / 42 % 256) (grid_value grid (t % 42))
+answered_at Sec.Default grid t = default_is (t % 256)
+answered_at Sec.Cell grid t = cell_is
 
 -- what was read is free: r says of some answer whether it is the wanted one
 pub record Asked (wanted : Answer → Bool) (r : Bool) : Type 0 where
@@ -87,12 +84,12 @@ pub record Asked (wanted : Answer → Bool) (r : Bool) : Type 0 where
 -- ---- the counts
 
 -- how many answers agree, where the last stands first
-unfoldable pub good_in : ℕ → List ℕ → List Answer → ℕ
+unfoldable pub good_in : Section → List ℕ → List Answer → ℕ
 good_in section grid [] = 0
 good_in section grid (a ∷ before) = good_in section grid before + one (answered_at section grid (length before) a)
 
 -- so many of a section's answers agree: there is one for each question
-pub record Agreed (section : ℕ) (grid : List ℕ) (sum count : ℕ) : Type 0 where
+pub record Agreed (section : Section) (grid : List ℕ) (sum count : ℕ) : Type 0 where
   pub answers : List Answer
   pub good : sum ≡ good_in section grid answers
   pub all : count ≡ length answers

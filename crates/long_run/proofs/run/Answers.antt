@@ -12,12 +12,6 @@ loop-i-init c = (omega arith, refl, refl, refl, after_none c.args.file.now c.arg
 pub turn-t-requires : goal.turn-t-requires
 turn-t-requires c = tt
 
-pub overflow_add-i : goal.overflow_add-i
-overflow_add-i c = omega arith
-
-pub loop-i-smaller : goal.loop-i-smaller
-loop-i-smaller c = omega arith
-
 pub loop-i-preserved : goal.loop-i-preserved
 loop-i-preserved c = (omega arith, c.turn-t.auto.a ∙ c.loop-i.invariant.1, c.turn-t.auto.b ∙ c.loop-i.invariant.2, c.turn-t.auto.values ∙ c.loop-i.invariant.3, after_more c.args.file.now c.args.fresh.now c.args.first.now c.args.second.now c.loop-i.i (stand none c.args.a.now c.args.b.now c.args.values.now) c.loop-i.t _ c.loop-i.a c.loop-i.b c.loop-i.values _ _ _ c.loop-i.invariant.4 c.turn-t.ensures)
 

@@ -1,106 +1,36 @@
-use mathlib.Core.Path.{sym, ◌∙◌}
+use Prim.Native.Nat.{◌<◌}
 use native.Mathlib.Omega.{arith}
-use Rattle.ol_order.proofs.Flags.{is_placed_lem, not_placed, room_for}
-use Rattle.ol_order.proofs.Waiting.{checked_start, checked_end, checked_in, checked_below, checked_next, checked_waits}
-use Rattle.ol_order.proofs.Passing.{passing_start, passing_end, passing_placed, passing_waits, passing_ready}
+use lib.ListN.{length}
+use borrow.Author.Tests.{both_ways}
+use Rattle.std.proofs.lemmas.List.Elements.{All-weaker}
+use Rattle.ol_order.proofs.Flags.{room_for}
+use Rattle.ol_order.proofs.Waiting.{its, its_below, ready_all, ready_not}
+use Rattle.ol_order.proofs.Passing.{passing_end, passing_placed, passing_waits, passing_ready}
 use Rattle.ol_order.proofs.pass.Goals as goal
+use Rattle.ol_order.proofs.pass.Goals.{then-placed-k-eq0+then-all_placed, else-placed-k-eq0, else-placed-k-eq0-via-then-placed-k-eq0+else-all_placed, else-placed-k-eq0-via-else-placed-k-eq0}
 
-pub equations-init : goal.equations-init
-equations-init c = λ qs w st. passing_start qs st
-
-pub overflow_add-i : goal.overflow_add-i
-overflow_add-i c =
-    omega (arith, c.equations-test.true, (c.equations.invariant c.requires.equations c.requires.waits c.requires.state).state.flagged, c.requires.waits.long)
-
-pub bounds-placed-k : goal.bounds-placed-k
-bounds-placed-k c = (omega (arith, c.equations-test.true))
-
-pub offset_bounds-begins-k : goal.offset_bounds-begins-k
-offset_bounds-begins-k c =
-    omega (arith, c.equations-test.true, (c.equations.invariant c.requires.equations c.requires.waits c.requires.state).state.flagged, c.requires.waits.long)
-
-pub bounds-begins-k : goal.bounds-begins-k
-bounds-begins-k c =
-    omega (arith, c.equations-test.true, (c.equations.invariant c.requires.equations c.requires.waits c.requires.state).state.flagged, c.requires.waits.long)
-
-pub offset_bounds-begins-i : goal.offset_bounds-begins-i
-offset_bounds-begins-i c =
-    omega (arith, c.equations-test.true, (c.equations.invariant c.requires.equations c.requires.waits c.requires.state).state.flagged, c.requires.waits.long)
-
-pub bounds-begins-i : goal.bounds-begins-i
-bounds-begins-i c =
-    omega (arith, c.equations-test.true, (c.equations.invariant c.requires.equations c.requires.waits c.requires.state).state.flagged, c.requires.waits.long)
-
-pub loop-j-init : goal.loop-j-init
-loop-j-init c =
-    λ qs w. checked_start qs _ w _ (omega (arith, c.equations-test.true, (c.equations.invariant c.requires.equations c.requires.waits c.requires.state).state.flagged, c.requires.waits.long, w.long))
-
-pub bounds-lists-j : goal.bounds-lists-j
-bounds-lists-j c =
-    checked_in c.requires.equations _ (c.loop-j.invariant c.requires.equations c.requires.waits) c.loop-j-test.true
-
-pub overflow_cast-d : goal.overflow_cast-d
-overflow_cast-d c = omega (arith, c.type_inv.lists c.loop-j.j)
-
-pub bounds-placed-d : goal.bounds-placed-d
-bounds-placed-d c =
-    (omega (arith, checked_below c.requires.equations _ (c.loop-j.invariant c.requires.equations c.requires.waits) c.loop-j-test.true, (c.equations.invariant c.requires.equations c.requires.waits c.requires.state).state.flagged))
-
-pub equations-smaller-then-placed-d-eq0 : goal.equations-smaller-then-placed-d-eq0
-equations-smaller-then-placed-d-eq0 c =
-    omega (arith, c.equations-test.true, (c.equations.invariant c.requires.equations c.requires.waits c.requires.state).state.flagged, c.requires.waits.long)
-
-pub equations-preserved-then-placed-d-eq0 : goal.equations-preserved-then-placed-d-eq0
-equations-preserved-then-placed-d-eq0 c =
-    λ qs w st. passing_waits qs (c.equations.invariant qs w st) (omega (arith, c.equations-test.true, (c.equations.invariant qs w st).state.flagged)) (checked_waits qs _ (c.loop-j.invariant qs w) c.loop-j-test.true (not_placed (c.equations.invariant c.requires.equations c.requires.waits c.requires.state).state _ (omega (arith, checked_below c.requires.equations _ (c.loop-j.invariant c.requires.equations c.requires.waits) c.loop-j-test.true, (c.equations.invariant c.requires.equations c.requires.waits c.requires.state).state.flagged)) c.if-placed-d-eq0.true))
-
-pub overflow_add-j : goal.overflow_add-j
-overflow_add-j c =
-    omega (arith, checked_in c.requires.equations _ (c.loop-j.invariant c.requires.equations c.requires.waits) c.loop-j-test.true)
-
-pub loop-j-smaller : goal.loop-j-smaller
-loop-j-smaller c = omega (arith, c.loop-j-test.true)
-
-pub loop-j-preserved : goal.loop-j-preserved
-loop-j-preserved c =
-    λ qs w. checked_next qs _ (c.loop-j.invariant qs w) c.loop-j-test.true (is_placed_lem (c.equations.invariant c.requires.equations c.requires.waits c.requires.state).state _ (omega (arith, checked_below c.requires.equations _ (c.loop-j.invariant c.requires.equations c.requires.waits) c.loop-j-test.true, (c.equations.invariant c.requires.equations c.requires.waits c.requires.state).state.flagged)) c.if-placed-d-eq0.false)
-
-pub bounds-placed-k-then-placed-k-eq0 : goal.bounds-placed-k-then-placed-k-eq0
-bounds-placed-k-then-placed-k-eq0 c = (omega (arith, c.equations-test.true))
-
-pub offset_bounds-order-n : goal.offset_bounds-order-n
-offset_bounds-order-n c =
-    omega (arith, (room_for (c.equations.invariant c.requires.equations c.requires.waits c.requires.state).state c.equations.i (omega (arith, c.equations-test.true)) c.if-placed-k-eq0.true), (c.equations.invariant c.requires.equations c.requires.waits c.requires.state).state.room, c.requires.waits.long)
+pub all_placed-requires : goal.all_placed-requires
+all_placed-requires c =
+    let st = (c.loop-k.invariant c.requires.equations c.requires.waits c.requires.state).state in
+    let h : c.loop-k.k < length c.requires.equations = omega (arith, st.flagged) in
+    All-weaker (λ d. d < length c.requires.equations) (λ d. d < length c.loop-k.placed) (λ d g. omega (arith, st.flagged)) (its c.requires.waits c.loop-k.k h) (its_below c.requires.waits c.loop-k.k h)
 
 pub bounds-order-n : goal.bounds-order-n
-bounds-order-n c =
-    omega (arith, (room_for (c.equations.invariant c.requires.equations c.requires.waits c.requires.state).state c.equations.i (omega (arith, c.equations-test.true)) c.if-placed-k-eq0.true), (c.equations.invariant c.requires.equations c.requires.waits c.requires.state).state.room, c.requires.waits.long)
+bounds-order-n c = room_for (c.loop-k.invariant c.requires.equations c.requires.waits c.requires.state).state c.loop-k.k (omega arith) c.if-placed-k-eq0.true
 
-pub overflow_add-n : goal.overflow_add-n
-overflow_add-n c =
-    omega (arith, (room_for (c.equations.invariant c.requires.equations c.requires.waits c.requires.state).state c.equations.i (omega (arith, c.equations-test.true)) c.if-placed-k-eq0.true), (c.equations.invariant c.requires.equations c.requires.waits c.requires.state).state.room, c.requires.waits.long)
+pub loop-k-preserved : goal.loop-k-preserved
+loop-k-preserved c = λ qs w st.
+    let ps = c.loop-k.invariant qs w st in
+    let h : c.loop-k.k < length qs = omega (arith, ps.state.flagged) in
+    elim c.if-placed-k-eq0.branch [
+      | then-placed-k-eq0+then-all_placed v ↦ rw (v.placed-is, v.order-is, v.n-is) (passing_ready qs ps h v.if-placed-k-eq0.true (ready_all w c.loop-k.k h ps.state (v.all_placed.ensures.0 v.if-all_placed.true)))
+      | else-placed-k-eq0 v ↦
+          rw (v.placed-is, v.order-is, v.n-is)
+          (elim v.else-placed-k-eq0.branch [
+            | else-placed-k-eq0-via-then-placed-k-eq0+else-all_placed u ↦ passing_waits qs ps h (ready_not w c.loop-k.k h ps.state (λ a. both_ways _ u.if-all_placed.false (u.all_placed.ensures.1 a)))
+            | else-placed-k-eq0-via-else-placed-k-eq0 u ↦ passing_placed qs ps h u.if-placed-k-eq0.false
+          ])
+    ]
 
-pub equations-smaller-then-placed-k-eq0 : goal.equations-smaller-then-placed-k-eq0
-equations-smaller-then-placed-k-eq0 c =
-    omega (arith, c.equations-test.true, (c.equations.invariant c.requires.equations c.requires.waits c.requires.state).state.flagged, c.requires.waits.long)
-
-pub equations-preserved-then-placed-k-eq0 : goal.equations-preserved-then-placed-k-eq0
-equations-preserved-then-placed-k-eq0 c = λ qs w st. passing_ready qs (c.equations.invariant qs w st) (omega (arith, c.equations-test.true, (c.equations.invariant qs w st).state.flagged)) c.if-placed-k-eq0.true (checked_end qs _ (c.loop-j.invariant qs w) c.loop-j-test.false)
-
-pub equations-smaller : goal.equations-smaller
-equations-smaller c =
-    omega (arith, c.equations-test.true, (c.equations.invariant c.requires.equations c.requires.waits c.requires.state).state.flagged, c.requires.waits.long)
-
-pub equations-preserved : goal.equations-preserved
-equations-preserved c = λ qs w st. passing_placed qs (c.equations.invariant qs w st) (omega (arith, c.equations-test.true, (c.equations.invariant qs w st).state.flagged)) c.if-placed-k-eq0.false
-
-pub shape_of-placed : goal.shape_of-placed
-shape_of-placed c =
-    (c.equations.invariant c.requires.equations c.requires.waits c.requires.state).state.flagged ∙ sym c.requires.state.flagged
-
-pub shape_of-order : goal.shape_of-order
-shape_of-order c =
-    (c.equations.invariant c.requires.equations c.requires.waits c.requires.state).state.room ∙ sym c.requires.state.room
-
-pub returns : goal.returns
-returns c = record { placed = λ qs w st. (passing_end qs (c.equations.invariant qs w st) (omega (arith, c.equations-test.false, (c.equations.invariant qs w st).state.flagged))).0; behind = (passing_end c.requires.equations (c.equations.invariant c.requires.equations c.requires.waits c.requires.state) (omega (arith, c.equations-test.false, (c.equations.invariant c.requires.equations c.requires.waits c.requires.state).state.flagged))).1 }
+pub returns-clause-placed : goal.returns-clause-placed
+returns-clause-placed c = λ qs w st. (passing_end qs (c.loop-k.invariant qs w st) (omega (arith, (c.loop-k.invariant qs w st).state.flagged))).0

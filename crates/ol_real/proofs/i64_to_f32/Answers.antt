@@ -1,34 +1,30 @@
-use Rattle.std.proofs.Common.{ap, ◌∙◌, lit≤, w64}
+use Rattle.std.proofs.Common.{◌≡◌, suc, ◌<◌, true, false, ℤ, pos, sym, refl, ap, ◌∙◌, ltb→lt, arith, w64}
+use mir.ValLaws.{to_z-of_z}
+use lib.IntN.{negsuc, nat_abs}
+use lib.Signed.{lt_z}
 use lib.Ieee.{binary32, neg}
-use Rattle.std.proofs.num.Nearest.{Plain, Turned, plain, turn}
+use lib.Ieee as Ieee
 use Rattle.ol_spec.specs.Real.{single, of_int}
+use Rattle.ol_real.proofs.Conversions.{yes}
+use Rattle.ol_real.proofs.Singles.{neg_round}
 use Rattle.ol_real.proofs.i64_to_f32.Goals as goal
 
--- what is not negative can be cast; of what is, each step to its size is defined, and the single of the size, negated, is the single
-upper : (c : goal.Then-n-ge0) → Plain w64 c.args.n
-upper c = plain w64 c.args.n (lit≤ tt) c.ranges.n c.if-n-ge0.true
+-- the single of an integer by that of its size
+below : (n : ℤ) → lt_z n (pos 0) ≡ true → neg (of_int single (pos (nat_abs n))) ≡ of_int single n
+unfolding of_int Ieee.of_int
+below (pos m) h = let l : m < 0 = ltb→lt m 0 (yes h) in absurd (omega arith)
+below (negsuc m) h = neg_round binary32 false (suc m) 1
 
-lower : (c : goal.Else-n-ge0) → Turned w64 c.args.n
-lower c = turn w64 c.args.n (lit≤ tt) c.ranges.n c.if-n-ge0.false
+above : (n : ℤ) → lt_z n (pos 0) ≡ false → of_int single (pos (nat_abs n)) ≡ of_int single n
+above (pos m) h = refl
+above (negsuc m) h = cc
 
-pub overflow_cast-n : goal.overflow_cast-n
-overflow_cast-n c = (upper c).0
+pub returns-then-n-lt0 : goal.returns-then-n-lt0
+returns-then-n-lt0 c =
+    let e = to_z-of_z w64 c.args.n c.ranges.n in
+    ap neg (c.u64_to_f32-size.ensures ∙ ap (λ m. of_int single (pos m)) (c.unsigned_abs.ensures.value ∙ ap nat_abs e)) ∙ below c.args.n (ap (λ z. lt_z z (pos 0)) (sym e) ∙ c.if-n-lt0.true)
 
-pub overflow_add-n : goal.overflow_add-n
-overflow_add-n c = (lower c).0
-
-pub overflow_sub-n : goal.overflow_sub-n
-overflow_sub-n c = (turn w64 c.args.n (lit≤ tt) c.ranges.n c.if-n-ge0.false).1
-
-pub overflow_cast-n-else-n-ge0 : goal.overflow_cast-n-else-n-ge0
-overflow_cast-n-else-n-ge0 c = (turn w64 c.args.n (lit≤ tt) c.ranges.n c.if-n-ge0.false).2
-
-pub overflow_add-n-else-n-ge0 : goal.overflow_add-n-else-n-ge0
-overflow_add-n-else-n-ge0 c = (turn w64 c.args.n (lit≤ tt) c.ranges.n c.if-n-ge0.false).3
-
-pub returns-then-n-ge0 : goal.returns-then-n-ge0
-returns-then-n-ge0 c = c.u64_to_f32.ensures ∙ ap (of_int single) (plain w64 c.args.n (lit≤ tt) c.ranges.n c.if-n-ge0.true).1
-
-pub returns-else-n-ge0 : goal.returns-else-n-ge0
-unfolding of_int
-returns-else-n-ge0 c = ap neg c.u64_to_f32-else-n-ge0.ensures ∙ (turn w64 c.args.n (lit≤ tt) c.ranges.n c.if-n-ge0.false).4 binary32
+pub returns-else-n-lt0 : goal.returns-else-n-lt0
+returns-else-n-lt0 c =
+    let e = to_z-of_z w64 c.args.n c.ranges.n in
+    c.u64_to_f32-size.ensures ∙ ap (λ m. of_int single (pos m)) (c.unsigned_abs.ensures.value ∙ ap nat_abs e) ∙ above c.args.n (ap (λ z. lt_z z (pos 0)) (sym e) ∙ c.if-n-lt0.false)

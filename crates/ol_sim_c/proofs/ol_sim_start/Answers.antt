@@ -3,4 +3,4 @@ use Rattle.ol_sim_c.proofs.Telling.{starts}
 use Rattle.ol_sim_c.proofs.ol_sim_start.Goals as goal
 
 pub returns : goal.returns
-returns c = starts c.start-s.ensures c.started_fault.ensures c.tell.ensures
+returns c = starts c.start-s.ensures c.fault_of.ensures c.tell.ensures

@@ -12,9 +12,6 @@ main_node-k-requires c =
     let h = c.requires in
     counted h
 
-pub column-n-requires : goal.column-n-requires
-column-n-requires c = tt
-
 pub overflow_mul-n : goal.overflow_mul-n
 overflow_mul-n c =
     let h = c.requires in
@@ -30,7 +27,7 @@ types_of-types-requires c =
     omega (arith, few h k last)
 
 pub loop-i-init : goal.loop-i-init
-loop-i-init c = (omega arith, refl)
+loop-i-init c = refl
 
 pub overflow_mul-p : goal.overflow_mul-p
 overflow_mul-p c =
@@ -46,18 +43,12 @@ overflow_add-p c =
     let last = c.main_node-k.ensures in
     omega (arith, c.types_of-types.ensures.1, few_inputs_lem h k last, c.column-n.ensures, c.loop-i-test.true)
 
-pub byte-code-requires : goal.byte-code-requires
-byte-code-requires c = tt
-
 pub overflow_add-p-in-loop-i : goal.overflow_add-p-in-loop-i
 overflow_add-p-in-loop-i c =
     let h = c.requires in
     let k = c.main_node-k.result in
     let last = c.main_node-k.ensures in
     omega (arith, c.types_of-types.ensures.1, few_inputs_lem h k last, c.column-n.ensures, c.loop-i-test.true)
-
-pub byte-number-requires : goal.byte-number-requires
-byte-number-requires c = tt
 
 pub overflow_mul-i : goal.overflow_mul-i
 overflow_mul-i c =
@@ -71,23 +62,9 @@ judge_input-requires c =
     let h = c.requires in
     let k = c.main_node-k.result in
     let last = c.main_node-k.ensures in
-    let code = c.byte-code.ensures.is ∙ code_is c.args.tab.now k c.loop-i.i (ap (λ p. p + 2 * c.loop-i.i) c.types_of-types.ensures.0) in
-    let enum = c.byte-number.ensures.is ∙ enum_is c.args.tab.now k c.loop-i.i (ap (λ p. p + 2 * c.loop-i.i + 1) c.types_of-types.ensures.0) in
-    (input_typed h k last c.loop-i.i (omega (arith, c.loop-i-test.true, c.column-n.ensures)) code enum c.byte-code.ensures.small c.byte-number.ensures.small, omega (arith, c.loop-i-test.true, c.if-inputs-n.true))
-
-pub overflow_add-i : goal.overflow_add-i
-overflow_add-i c =
-    let h = c.requires in
-    let k = c.main_node-k.result in
-    let last = c.main_node-k.ensures in
-    omega (arith, c.types_of-types.ensures.1, few_inputs_lem h k last, c.column-n.ensures, c.loop-i-test.true)
-
-pub loop-i-smaller : goal.loop-i-smaller
-loop-i-smaller c =
-    let h = c.requires in
-    let k = c.main_node-k.result in
-    let last = c.main_node-k.ensures in
-    omega (arith, c.types_of-types.ensures.1, few_inputs_lem h k last, c.column-n.ensures, c.loop-i-test.true)
+    let code = c.byte.ensures.is ∙ code_is c.args.tab.now k c.loop-i.i (ap (λ p. p + 2 * c.loop-i.i) c.types_of-types.ensures.0) in
+    let enum = c.byte-in-loop-i.ensures.is ∙ enum_is c.args.tab.now k c.loop-i.i (ap (λ p. p + 2 * c.loop-i.i + 1) c.types_of-types.ensures.0) in
+    (input_typed h k last c.loop-i.i (omega (arith, c.loop-i-test.true, c.column-n.ensures)) code enum c.byte.ensures.small c.byte-in-loop-i.ensures.small, omega (arith, c.loop-i-test.true, c.if-inputs-n.false))
 
 pub loop-i-preserved : goal.loop-i-preserved
 loop-i-preserved c =
@@ -95,32 +72,32 @@ loop-i-preserved c =
     let k = c.main_node-k.result in
     let last = c.main_node-k.ensures in
     let r = c.args.inputs.now in
-    let code = c.byte-code.ensures.is ∙ code_is c.args.tab.now k c.loop-i.i (ap (λ p. p + 2 * c.loop-i.i) c.types_of-types.ensures.0) in
-    let enum = c.byte-number.ensures.is ∙ enum_is c.args.tab.now k c.loop-i.i (ap (λ p. p + 2 * c.loop-i.i + 1) c.types_of-types.ensures.0) in
-    (omega (arith, c.loop-i-test.true), c.loop-i.invariant.1 ∙ each_next h k last c.loop-i.i (omega (arith, c.loop-i-test.true, c.column-n.ensures)) code enum r ∙ and_pass (sym c.judge_input.ensures ∙ c.if-judge_input.true))
+    let code = c.byte.ensures.is ∙ code_is c.args.tab.now k c.loop-i.i (ap (λ p. p + 2 * c.loop-i.i) c.types_of-types.ensures.0) in
+    let enum = c.byte-in-loop-i.ensures.is ∙ enum_is c.args.tab.now k c.loop-i.i (ap (λ p. p + 2 * c.loop-i.i + 1) c.types_of-types.ensures.0) in
+    (c.loop-i.invariant ∙ each_next h k last c.loop-i.i (omega (arith, c.loop-i-test.true, c.column-n.ensures)) code enum r ∙ and_pass (sym c.judge_input.ensures ∙ c.if-not-judge_input.false))
 
-pub returns-else-judge_input : goal.returns-else-judge_input
-returns-else-judge_input c =
+pub returns-then-not-judge_input : goal.returns-then-not-judge_input
+returns-then-not-judge_input c =
     let h = c.requires in
     let k = c.main_node-k.result in
     let last = c.main_node-k.ensures in
     let r = c.args.inputs.now in
-    let code = c.byte-code.ensures.is ∙ code_is c.args.tab.now k c.loop-i.i (ap (λ p. p + 2 * c.loop-i.i) c.types_of-types.ensures.0) in
-    let enum = c.byte-number.ensures.is ∙ enum_is c.args.tab.now k c.loop-i.i (ap (λ p. p + 2 * c.loop-i.i + 1) c.types_of-types.ensures.0) in
-    sym (inputs_each h k last r c.column-n.ensures c.if-inputs-n.true ∙ c.loop-i.invariant.1 ∙ each_next h k last c.loop-i.i (omega (arith, c.loop-i-test.true, c.column-n.ensures)) code enum r ∙ and_stop _ (sym c.judge_input.ensures ∙ c.if-judge_input.false))
+    let code = c.byte.ensures.is ∙ code_is c.args.tab.now k c.loop-i.i (ap (λ p. p + 2 * c.loop-i.i) c.types_of-types.ensures.0) in
+    let enum = c.byte-in-loop-i.ensures.is ∙ enum_is c.args.tab.now k c.loop-i.i (ap (λ p. p + 2 * c.loop-i.i + 1) c.types_of-types.ensures.0) in
+    sym (inputs_each h k last r c.column-n.ensures c.if-inputs-n.false ∙ c.loop-i.invariant ∙ each_next h k last c.loop-i.i (omega (arith, c.loop-i-test.true, c.column-n.ensures)) code enum r ∙ and_stop _ (sym c.judge_input.ensures ∙ c.if-not-judge_input.true))
 
-pub returns-after-loop-i : goal.returns-after-loop-i
-returns-after-loop-i c =
+pub returns : goal.returns
+returns c =
     let h = c.requires in
     let k = c.main_node-k.result in
     let last = c.main_node-k.ensures in
     let r = c.args.inputs.now in
-    sym (inputs_each h k last r c.column-n.ensures c.if-inputs-n.true ∙ c.loop-i.invariant.1 ∙ each_none h k last c.loop-i.i r (omega (arith, c.loop-i-test.false, c.column-n.ensures)))
+    sym (inputs_each h k last r c.column-n.ensures c.if-inputs-n.false ∙ c.loop-i.invariant ∙ each_none h k last c.loop-i.i r (omega (arith, c.loop-i-test.false, c.column-n.ensures)))
 
-pub returns-else-inputs-n : goal.returns-else-inputs-n
-returns-else-inputs-n c =
+pub returns-then-inputs-n : goal.returns-then-inputs-n
+returns-then-inputs-n c =
     let h = c.requires in
     let k = c.main_node-k.result in
     let last = c.main_node-k.ensures in
     let r = c.args.inputs.now in
-    inputs_length h k last r c.column-n.ensures c.if-inputs-n.false
+    inputs_length h k last r c.column-n.ensures c.if-inputs-n.true

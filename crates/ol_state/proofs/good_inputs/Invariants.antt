@@ -1,4 +1,4 @@
-use Prim.Native.Nat.{◌≤◌, ◌-◌, ◌*◌}
+use Prim.Native.Nat.{◌*◌}
 use mathlib.Core.Path.{◌≡◌}
 use lib.ListN.{drop}
 use Rattle.ol_spec.specs.Syntax.{main}
@@ -8,7 +8,4 @@ use Rattle.ol_state.proofs.good_inputs.Given as goal
 
 abbrev pub invariant-loop-i : goal.invariant-loop-i
 invariant-loop-i l =
-    (l.i ≤ l.n) × (good_each (file_at l.file).enums (main (file_at l.file)).inputs l.inputs ≡ good_each (file_at l.file).enums (drop l.i (main (file_at l.file)).inputs) (drop (9 * l.i) l.inputs))
-
-abbrev pub decreases-loop-i : goal.decreases-loop-i
-decreases-loop-i l = l.n - l.i
+    good_each (file_at l.file).enums (main (file_at l.file)).inputs l.inputs ≡ good_each (file_at l.file).enums (drop l.i (main (file_at l.file)).inputs) (drop (9 * l.i) l.inputs)

@@ -1,9 +1,6 @@
-use Prim.Native.Nat.{◌≤◌, ◌-◌, ◌*◌}
+use Prim.Native.Nat.{◌≤◌, ◌*◌}
 use Rattle.order_grid.specs.Questions.{Tallied}
 use Rattle.order_grid.proofs.count_files.Given as goal
 
 abbrev pub invariant-loop-t : goal.invariant-loop-t
-invariant-loop-t l = (l.t ≤ l.files) × (l.all ≤ l.t * 65535) × Tallied l.good l.all
-
-abbrev pub decreases-loop-t : goal.decreases-loop-t
-decreases-loop-t l = l.files - l.t
+invariant-loop-t l = (l.all ≤ l._t * 65535) × Tallied l.good l.all

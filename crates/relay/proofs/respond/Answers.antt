@@ -5,4 +5,4 @@ use Rattle.relay.proofs.respond.Goals as goal
 
 pub returns : goal.returns
 returns c =
-    handed (of_part c.args.no (take c.within-m.result c.args.line.now) (take c.args.n c.args.line.now) (standing c.args.s c.args.file.now c.args.state.now) c.within-m.ensures.s_value c.answer-r.ensures) c.write_front-w.ensures
+    handed (of_part c.args.no (take c.within-m.result c.args.line.now) (take c.args.n c.args.line.now) (standing c.args.session.now) c.within-m.ensures.s_value c.answer-k.ensures) c.write_front.ensures

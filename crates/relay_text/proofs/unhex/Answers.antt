@@ -1,18 +1,15 @@
-use native.Mathlib.Omega.{arith}
-use mathlib.Core.Path.{sym}
-use borrow.Author.Tests.{eq-eqb, ne_eqb}
-use Rattle.relay_text.proofs.Laws.{left_start, left_odd, one_written}
+use Rattle.std.proofs.Common.{◌≡◌, [], ◌∷◌, sym, ◌∙◌, arith}
+use lib.Pointwise.{bytes_decides}
+use Rattle.relay_text.specs.Text.{bytes_of}
+use Rattle.relay_text.proofs.Laws.{hyphen_bytes, hyphen_written, other_bytes}
 use Rattle.relay_text.proofs.unhex.Goals as goal
 
-pub returns-then-text-eq45 : goal.returns-then-text-eq45
-returns-then-text-eq45 c =
-    ((omega arith, rw (eq-eqb _ _ c.if-text-eq1.true, eq-eqb _ _ c.if-text-eq45.true)), one_written c.args.text.now c.args.out.now c.if-text-eq1.true)
-
-pub returns-then-text-eq1 : goal.returns-then-text-eq1
-returns-then-text-eq1 c = (
-  rw (eq-eqb _ _ c.if-text-eq1.true, ne_eqb _ _ c.if-text-eq45.false) (left_odd c.args.text.now c.args.out.now 0 (left_start c.args.text.now c.args.out.now) (sym c.if-text-eq1.true)),
-  one_written c.args.text.now c.args.out.now c.if-text-eq1.true,
-)
+pub returns-then-eq : goal.returns-then-eq
+returns-then-eq c =
+    let e : c.args.text.now ≡ 45 ∷ [] = (bytes_decides c.args.text.now c.as_slice.result.now).0 (sym c.eq.ensures ∙ c.if-eq.true) ∙ c.as_slice.ensures in
+    ((omega arith, rw e hyphen_bytes), rw e (hyphen_written c.args.out.now))
 
 pub returns : goal.returns
-returns c = (rw (ne_eqb _ _ c.if-text-eq1.false) c.unhex_digits.ensures.0, c.unhex_digits.ensures.1)
+returns c =
+    let e : bytes_of c.args.text.now ≡ _ = other_bytes c.args.text.now (rw c.as_slice.ensures at (sym c.eq.ensures ∙ c.if-eq.false)) in
+    (rw e c.unhex_digits.ensures.0, c.unhex_digits.ensures.1)

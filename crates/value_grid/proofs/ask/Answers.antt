@@ -1,14 +1,30 @@
-use Rattle.value_grid.proofs.Laws.{ask_outcome, ask_input, ask_default, ask_cell}
+use Rattle.value_grid.specs.Questions.{answered_at}
 use Rattle.value_grid.proofs.ask.Goals as goal
 
-pub returns-then-section-lt4 : goal.returns-then-section-lt4
-returns-then-section-lt4 c = ask_outcome c.args.section c.args.t c.args.grid.now _ c.if-section-lt4.true _ c.found.ensures c.agrees.ensures
+pub returns-in-Binary : goal.returns-in-Binary
+unfolding answered_at
+returns-in-Binary c = rw c.in-Binary.is (rw (c.eval_binary.ensures, c.code.ensures, c.at-l.ensures, c.at-v.ensures) at c.agrees.ensures)
 
-pub returns-then-section-eq4 : goal.returns-then-section-eq4
-returns-then-section-eq4 c = ask_input c.args.section c.args.t c.args.grid.now _ c.if-section-eq4.true _ _ c.code.ensures c.at.ensures c.input_agrees.ensures
+pub returns-in-Unary : goal.returns-in-Unary
+unfolding answered_at
+returns-in-Unary c = rw c.in-Unary.is (rw (c.eval_unary.ensures, c.code-c.ensures, c.at-v.ensures) at c.agrees-in-Unary.ensures)
 
-pub returns-then-section-eq5 : goal.returns-then-section-eq5
-returns-then-section-eq5 c = ask_default c.args.section c.args.t c.args.grid.now _ c.if-section-eq5.true _ c.code-then-section-eq5.ensures c.default_agrees.ensures
+pub returns-in-Cast : goal.returns-in-Cast
+unfolding answered_at
+returns-in-Cast c = rw c.in-Cast.is (rw (c.cast_value.ensures 0, c.code-c.ensures, c.at-v.ensures) at c.agrees-in-Cast.ensures)
 
-pub returns-else-section-eq5 : goal.returns-else-section-eq5
-returns-else-section-eq5 c = ask_cell c.args.section c.args.t c.args.grid.now _ c.if-section-lt4.false c.if-section-eq4.false c.if-section-eq5.false c.cell_agrees.ensures
+pub returns-in-Store : goal.returns-in-Store
+unfolding answered_at
+returns-in-Store c = rw c.in-Store.is (rw (c.fit_to.ensures 0, c.code-c.ensures, c.at-v.ensures) at c.agrees-in-Store.ensures)
+
+pub returns-in-Input : goal.returns-in-Input
+unfolding answered_at
+returns-in-Input c = rw c.in-Input.is (rw (c.code-c.ensures, c.at-v.ensures) at c.input_agrees.ensures)
+
+pub returns-in-Default : goal.returns-in-Default
+unfolding answered_at
+returns-in-Default c = rw c.in-Default.is (rw c.code-in-Default.ensures at c.default_agrees.ensures)
+
+pub returns-in-Cell : goal.returns-in-Cell
+unfolding answered_at
+returns-in-Cell c = rw c.in-Cell.is c.cell_agrees.ensures

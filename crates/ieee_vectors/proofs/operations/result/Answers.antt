@@ -2,21 +2,26 @@ use native.Mathlib.Omega.{arith}
 use mathlib.Core.Path.{ap, ◌∙◌}
 use lib.ListN.{get_or-eq_default}
 use Rattle.ol_spec.specs.Numbers.{residue}
-use Rattle.ieee_vectors.proofs.Laws.{above}
 use Rattle.ol_spec.specs.Real.{single, double, from_bits, of_int, truncate, add_r, sub_r, mul_r, div_r, neg_r, eq_r, lt_r, le_r}
 use Rattle.ieee_vectors.specs.Operations.{d_bits, s_bits, operations, read_single, result_of}
 use borrow.Author.Rules.{sfits_of}
 use mir.Facts.{to_z-of_z}
 use mir.Syntax.{w64}
+use mir.Val.{of_z}
+use Rattle.ol_value.proofs.Backs.{signed_is, residue_is}
 use Rattle.ieee_vectors.proofs.operations.result.Goals as goal
 
 pub returns-in-0 : goal.returns-in-0
 unfolding result_of
-returns-in-0 c = rw c.in-0.is (c.f64_bits.ensures ∙ ap d_bits (c.i64_to_f64.ensures ∙ ap (of_int double) (to_z-of_z {w = w64} (sfits_of c.signed.type_inv) ∙ c.signed.ensures)))
+returns-in-0 c =
+    rw c.in-0.is
+    (c.f64_bits.ensures ∙ ap d_bits (c.i64_to_f64.ensures ∙ ap (of_int double) (to_z-of_z {w = w64} (sfits_of c.cast_signed.type_inv) ∙ c.cast_signed.ensures ∙ signed_is c.args.a)))
 
 pub returns-in-1 : goal.returns-in-1
 unfolding result_of
-returns-in-1 c = rw c.in-1.is (c.wide.ensures ∙ c.f32_bits.ensures ∙ ap s_bits (c.i64_to_f32.ensures ∙ ap (of_int single) (to_z-of_z {w = w64} (sfits_of c.signed-in-1.type_inv) ∙ c.signed-in-1.ensures)))
+returns-in-1 c =
+    rw c.in-1.is
+    (c.from.ensures ∙ c.f32_bits.ensures ∙ ap s_bits (c.i64_to_f32.ensures ∙ ap (of_int single) (to_z-of_z {w = w64} (sfits_of c.cast_signed-in-1.type_inv) ∙ c.cast_signed-in-1.ensures ∙ signed_is c.args.a)))
 
 pub returns-in-2 : goal.returns-in-2
 unfolding result_of
@@ -28,11 +33,20 @@ returns-in-3 c = rw c.in-3.is (cc)
 
 pub returns-in-4 : goal.returns-in-4
 unfolding result_of
-returns-in-4 c = rw c.in-4.is (c.unsigned.ensures ∙ ap (residue 64) (to_z-of_z {w = w64} (sfits_of c.f64_to_i64.type_inv) ∙ c.f64_to_i64.ensures ∙ ap truncate c.f64_of_bits-x.ensures))
+returns-in-4 c =
+    let z = c.f64_to_i64.result in
+    let f = sfits_of c.f64_to_i64.type_inv in
+    rw c.in-4.is
+    (c.cast_unsigned.ensures ∙ ap (of_z w64) (to_z-of_z {w = w64} f) ∙ residue_is z f ∙ ap (residue 64) (c.f64_to_i64.ensures ∙ ap truncate c.f64_of_bits-x.ensures))
 
 pub returns-in-5 : goal.returns-in-5
 unfolding result_of
-returns-in-5 c = rw c.in-5.is (c.unsigned-in-5.ensures ∙ ap (residue 64) (to_z-of_z {w = w64} (sfits_of c.f32_to_i64.type_inv) ∙ c.f32_to_i64.ensures ∙ ap truncate (c.f32_of_bits-s.ensures ∙ ap (from_bits single) c.low.ensures)))
+returns-in-5 c =
+    let z = c.f32_to_i64.result in
+    let f = sfits_of c.f32_to_i64.type_inv in
+    rw c.in-5.is
+    (c.cast_unsigned-in-5.ensures ∙ ap (of_z w64) (to_z-of_z {w = w64} f) ∙ residue_is z f
+    ∙ ap (residue 64) (c.f32_to_i64.ensures ∙ ap truncate (c.f32_of_bits-s.ensures ∙ ap (from_bits single) c.low.ensures)))
 
 pub returns-in-6 : goal.returns-in-6
 unfolding result_of add_r
@@ -104,7 +118,4 @@ returns-in-22 c = rw c.in-22.is (cc)
 
 pub returns-in_default : goal.returns-in_default
 unfolding result_of
-returns-in_default c =
-    let A = c.args.op in
-    let r = c.in_default.in_default-own.rest in
-    rw (get_or-eq_default operations read_single {n = A} (above A 22 (above A 21 (above A 20 (above A 19 (above A 18 (above A 17 (above A 16 (above A 15 (above A 14 (above A 13 (above A 12 (above A 11 (above A 10 (above A 9 (above A 8 (above A 7 (above A 6 (above A 5 (above A 4 (above A 3 (above A 2 (above A 1 (above A 0 (omega arith) r.0.0.0.0.0.0.0.0.0.0.0.0.0.0.0.0.0.0.0.0.0.0.1) r.0.0.0.0.0.0.0.0.0.0.0.0.0.0.0.0.0.0.0.0.0.1) r.0.0.0.0.0.0.0.0.0.0.0.0.0.0.0.0.0.0.0.0.1) r.0.0.0.0.0.0.0.0.0.0.0.0.0.0.0.0.0.0.0.1) r.0.0.0.0.0.0.0.0.0.0.0.0.0.0.0.0.0.0.1) r.0.0.0.0.0.0.0.0.0.0.0.0.0.0.0.0.0.1) r.0.0.0.0.0.0.0.0.0.0.0.0.0.0.0.0.1) r.0.0.0.0.0.0.0.0.0.0.0.0.0.0.0.1) r.0.0.0.0.0.0.0.0.0.0.0.0.0.0.1) r.0.0.0.0.0.0.0.0.0.0.0.0.0.1) r.0.0.0.0.0.0.0.0.0.0.0.0.1) r.0.0.0.0.0.0.0.0.0.0.0.1) r.0.0.0.0.0.0.0.0.0.0.1) r.0.0.0.0.0.0.0.0.0.1) r.0.0.0.0.0.0.0.0.1) r.0.0.0.0.0.0.0.1) r.0.0.0.0.0.0.1) r.0.0.0.0.0.1) r.0.0.0.0.1) r.0.0.0.1) r.0.0.1) r.0.1) r.1)) (cc)
+returns-in_default c = rw (get_or-eq_default operations read_single {n = c.args.op} (omega arith)) (cc)

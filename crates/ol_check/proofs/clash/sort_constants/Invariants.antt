@@ -1,5 +1,3 @@
-use Prim.Native.Nat.{◌-◌}
-use mathlib.Core.Path.{◌≡◌}
 use lib.ListN.{length}
 use Rattle.ol_spec.specs.Places.{constants_start}
 use Rattle.ol_tables.specs.At.{file_at}
@@ -8,7 +6,4 @@ use Rattle.ol_check.proofs.clash.sort_constants.Given as goal
 
 abbrev pub invariant-loop-i : goal.invariant-loop-i
 invariant-loop-i l =
-    (length l.sorts ≡ length l.initial.sorts) × ConstantsGoing l.file (length (file_at l.file).enums) (file_at l.file).constants (constants_start (file_at l.file)) l.initial.sorts l.initial.marks l.sorts l.marks l.i l.next
-
-abbrev pub decreases-loop-i : goal.decreases-loop-i
-decreases-loop-i l = l.count - l.i
+    ConstantsGoing l.file (length (file_at l.file).enums) (file_at l.file).constants (constants_start (file_at l.file)) l.initial.sorts l.initial.marks l.sorts l.marks l.i l.next

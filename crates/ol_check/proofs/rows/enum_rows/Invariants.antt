@@ -1,12 +1,7 @@
-use Prim.Native.Nat.{◌+◌, ◌*◌, ◌-◌, ◌≤◌}
-use mathlib.Core.Path.{◌≡◌}
-use lib.ListN.{length}
+use Prim.Native.Nat.{◌+◌, ◌*◌, ◌≤◌}
 use Rattle.ol_check.proofs.RowLoops.{FirstsGoing}
 use Rattle.ol_check.proofs.rows.enum_rows.Given as goal
 
 abbrev pub invariant-loop-e : goal.invariant-loop-e
 invariant-loop-e l =
-    (l.next ≤ l.at + 511 * l.e) × (length l.rows ≡ length l.initial.rows) × FirstsGoing l.file l.initial.rows l.rows l.count l.at l.e l.next
-
-abbrev pub decreases-loop-e : goal.decreases-loop-e
-decreases-loop-e l = l.count - l.e
+    (l.next ≤ l.at + 511 * l.e) × FirstsGoing l.file l.initial.rows l.rows l.count l.at l.e l.next

@@ -18,13 +18,13 @@ pub variable_types-q-requires : goal.variable_types-q-requires
 variable_types-q-requires c =
     (omega (arith, c.requires.1, c.requires.2, c.byte-inputs.ensures.small, c.byte-outputs.ensures.small), c.byte-locals.ensures.small, omega (arith, c.requires.1, types_near c.variable_types-o.ensures, c.byte-inputs.ensures.small, types_near c.variable_types-l.ensures, c.byte-outputs.ensures.small))
 
-pub overflow_add-q : goal.overflow_add-q
-overflow_add-q c =
+pub overflow_add-row : goal.overflow_add-row
+overflow_add-row c =
     omega (arith, c.requires.0, c.requires.1, types_near c.variable_types-o.ensures, c.byte-inputs.ensures.small, types_near c.variable_types-l.ensures, c.byte-outputs.ensures.small, types_near c.variable_types-q.ensures, c.byte-locals.ensures.small)
 
 pub put_row-requires : goal.put_row-requires
 put_row-requires c =
-    omega (arith, c.requires.0)
+    omega (arith, c.requires.0, c.requires.3)
 
 pub returns : goal.returns
 returns c = node_stored_lem c.byte-inputs.ensures.is c.variable_types-o.ensures c.byte-outputs.ensures.is c.variable_types-l.ensures c.byte-locals.ensures.is c.variable_types-q.ensures c.put_two.ensures c.byte-2.ensures.is c.byte.ensures.is c.put_row.ensures

@@ -1,5 +1,6 @@
-use mathlib.Core.Path.{refl}
+use native.Mathlib.Omega.{arith}
+use Rattle.ol_check.proofs.RowLoops.{row_put}
 use Rattle.ol_check.proofs.rows.put_row.Goals as goal
 
 pub returns : goal.returns
-returns c = rw (c.put-8.ensures, c.put-7.ensures, c.put-6.ensures, c.put-5.ensures, c.put-4.ensures, c.put-3.ensures, c.put-2.ensures, c.put.ensures) refl
+returns c = row_put c.args.rows.now c.args.row.now _ c.args.i c.copy_from_slice.ensures.after (omega arith) c.requires

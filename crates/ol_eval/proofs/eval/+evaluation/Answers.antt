@@ -39,78 +39,78 @@ use Rattle.ol_eval.proofs.eval.+evaluation.Goals as goal
 
 pub call_equation-enter-r-requires : goal.call_equation-enter-r-requires
 call_equation-enter-r-requires t c =
-    let fd = c.requires.0 in
-    let p = c.requires.1 in
+    let fd = c.requires.0.0 in
+    let p = c.requires.0.1 in
     let f = c.args.file.now in
-    let n = c.number-n.result in
-    let ne = c.number-n.ensures.0 in
+    let n = c.from-n.result in
+    let ne = c.from-n.ensures in
     let rhs = c.args.at + 1 + 2 * n in
-    let q = right_ready p n 11 ne (subst (λ (m : ℕ). get_or f (c.args.at + 1 + 2 * m) 0 ≡ 11) (sym ne) c.requires.2) in
-    (omega arith, (fd, equation_ready p rhs q.place, q.code_is, refl))
+    let q = right_ready p n 11 ne (subst (λ (m : ℕ). get_or f (c.args.at + 1 + 2 * m) 0 ≡ 11) (sym ne) c.requires.1) in
+    (omega arith, ((fd, equation_ready p rhs q.place), q.code_is, refl))
 
-pub call_equation-bounds-file-p : goal.call_equation-bounds-file-p
-call_equation-bounds-file-p t c =
-    let p = c.requires.1 in
+pub call_equation-bounds-file-rhs : goal.call_equation-bounds-file-rhs
+call_equation-bounds-file-rhs t c =
+    let p = c.requires.0.1 in
     let f = c.args.file.now in
-    let n = c.number-n.result in
-    let ne = c.number-n.ensures.0 in
-    let q = right_ready p n 11 ne (subst (λ (m : ℕ). get_or f (c.args.at + 1 + 2 * m) 0 ≡ 11) (sym ne) c.requires.2) in
+    let n = c.from-n.result in
+    let ne = c.from-n.ensures in
+    let q = right_ready p n 11 ne (subst (λ (m : ℕ). get_or f (c.args.at + 1 + 2 * m) 0 ≡ 11) (sym ne) c.requires.1) in
     let inside = call_inside p q in
     omega (arith, inside.0)
 
 pub call_equation-row-requires : goal.call_equation-row-requires
 call_equation-row-requires t c =
-    let p = c.requires.1 in
+    let p = c.requires.0.1 in
     let f = c.args.file.now in
     let tb = c.args.tab.now in
-    let n = c.number-n.result in
-    let ne = c.number-n.ensures.0 in
-    let q = right_ready p n 11 ne (subst (λ (m : ℕ). get_or f (c.args.at + 1 + 2 * m) 0 ≡ 11) (sym ne) c.requires.2) in
-    let k = c.number-c.result in
-    let ke = c.number-c.ensures.0 in
+    let n = c.from-n.result in
+    let ne = c.from-n.ensures in
+    let q = right_ready p n 11 ne (subst (λ (m : ℕ). get_or f (c.args.at + 1 + 2 * m) 0 ≡ 11) (sym ne) c.requires.1) in
+    let k = c.from-c.result in
+    let ke = c.from-c.ensures in
     let row = callee_row p q k ke in
     (rows_room tb _ p.running.program.table.long, row.small, omega arith)
 
 pub call_equation-bind-requires : goal.call_equation-bind-requires
 call_equation-bind-requires t c =
-    let fd = c.requires.0 in
-    let p = c.requires.1 in
+    let fd = c.requires.0.0 in
+    let p = c.requires.0.1 in
     let f = c.args.file.now in
-    let n = c.number-n.result in
-    let ne = c.number-n.ensures.0 in
-    let q = right_ready p n 11 ne (subst (λ (m : ℕ). get_or f (c.args.at + 1 + 2 * m) 0 ≡ 11) (sym ne) c.requires.2) in
-    let k = c.number-c.result in
-    let ke = c.number-c.ensures.0 in
+    let n = c.from-n.result in
+    let ne = c.from-n.ensures in
+    let q = right_ready p n 11 ne (subst (λ (m : ℕ). get_or f (c.args.at + 1 + 2 * m) 0 ≡ 11) (sym ne) c.requires.1) in
+    let k = c.from-c.result in
+    let ke = c.from-c.ensures in
     let row = callee_row p q k ke in
     let outs = c.row.ensures ∙ row.outputs in
-    let m = names_least p c.row.result q c.less-m.ensures in
-    (fd, values_assignable p c.less-m.result (c.enter-r.new.args) m.least (omega (arith, c.less-m.ensures, outs, row.few)) (let k : length (c.enter-r.new.args) ≡ 288 = c.enter-r.ensures.1 in omega (arith, k, c.less-m.ensures, outs, row.few)))
+    let m = names_least p c.row.result q c.min-m.ensures in
+    (fd, values_assignable p c.min-m.result (c.enter-r.new.args) m.least (omega (arith, c.min-m.ensures, outs, row.few)) (let k : length (c.enter-r.new.args) ≡ 288 = c.enter-r.ensures.1 in omega (arith, k, c.min-m.ensures, outs, row.few)))
 
-pub call_equation-returns-in-Values : goal.call_equation-returns-in-Values
-call_equation-returns-in-Values t c =
-    let p = c.requires.1 in
+pub call_equation-returns : goal.call_equation-returns
+call_equation-returns t c =
+    let p = c.requires.0.1 in
     let f = c.args.file.now in
     let fr = c.args.frame.now in
     let F = first_of fr in
-    let n = c.number-n.result in
-    let ne = c.number-n.ensures.0 in
-    let q = right_ready p n 11 ne (subst (λ (m : ℕ). get_or f (c.args.at + 1 + 2 * m) 0 ≡ 11) (sym ne) c.requires.2) in
-    let k = c.number-c.result in
-    let ke = c.number-c.ensures.0 in
+    let n = c.from-n.result in
+    let ne = c.from-n.ensures in
+    let q = right_ready p n 11 ne (subst (λ (m : ℕ). get_or f (c.args.at + 1 + 2 * m) 0 ≡ 11) (sym ne) c.requires.1) in
+    let k = c.from-c.result in
+    let ke = c.from-c.ensures in
     let row = callee_row p q k ke in
     let outs = c.row.ensures ∙ row.outputs in
-    (Rights.call_done p F c.less-m.result (c.enter-r.new.args) (cells_of c.bind.new.frame) q c.enter-r.ensures.0 c.in-Values.is (c.less-m.ensures ∙ ap (min n) outs) c.bind.ensures.0, c.bind.ensures.1)
+    (Rights.call_done p F c.min-m.result (c.enter-r.new.args) (cells_of c.bind.new.frame) q c.enter-r.ensures.0 c.in-Values.is (c.min-m.ensures ∙ ap (min n) outs) c.bind.ensures.0, c.bind.ensures.1)
 
 pub call_equation-returns-in_default : goal.call_equation-returns-in_default
 call_equation-returns-in_default t c =
-    let fd = c.requires.0 in
-    let p = c.requires.1 in
+    let fd = c.requires.0.0 in
+    let p = c.requires.0.1 in
     let f = c.args.file.now in
     let fr = c.args.frame.now in
     let F = first_of fr in
-    let n = c.number-n.result in
-    let ne = c.number-n.ensures.0 in
-    let q = right_ready p n 11 ne (subst (λ (m : ℕ). get_or f (c.args.at + 1 + 2 * m) 0 ≡ 11) (sym ne) c.requires.2) in
+    let n = c.from-n.result in
+    let ne = c.from-n.ensures in
+    let q = right_ready p n 11 ne (subst (λ (m : ℕ). get_or f (c.args.at + 1 + 2 * m) 0 ≡ 11) (sym ne) c.requires.1) in
     (call_stops p F (c.enter-r.new.args) (cells_of fr) q c.enter-r.ensures.0 c.in_default.not-Values, keeps_all fr fd)
 
 pub call_function-row-inputs-requires : goal.call_function-row-inputs-requires
@@ -167,45 +167,45 @@ call_function-returns t c =
     let cells = cells_of c.run-r.new.frame in
     (function_done h f i fr iw fp c.run-r.result cells c.run-r.new.new c.row.result c.copy_outputs.new.args (framed_run c.args.file.now (consts_of tb) fr c.args.old.now cells fp.node c.run-r.ensures.0) c.run-r.auto.new c.row.ensures c.copy_outputs.ensures, c.copy_outputs.auto.args)
 
-pub enter-bounds-file-p : goal.enter-bounds-file-p
-enter-bounds-file-p t c =
-    let p = c.requires.1 in
-    let b = c.requires.2 in
+pub enter-bounds-file-at : goal.enter-bounds-file-at
+enter-bounds-file-at t c =
+    let p = c.requires.0.1 in
+    let b = c.requires.1 in
     let f = c.args.file.now in
     let a = c.args.at in
     omega (arith, (call_at p b (get_or f (a + 1) 0) (get_or f (a + 2) 0) refl refl).inside)
 
 pub enter-row-size-requires : goal.enter-row-size-requires
 enter-row-size-requires t c =
-    let p = c.requires.1 in
-    let b = c.requires.2 in
+    let p = c.requires.0.1 in
+    let b = c.requires.1 in
     let tb = c.args.tab.now in
     let f = c.args.file.now in
     let a = c.args.at in
-    let k = c.number-k.result in
-    let kE = c.number-k.ensures.0 in
+    let k = c.from-k.result in
+    let kE = c.from-k.ensures in
     let n = get_or f (a + 2) 0 in
     (rows_room tb _ p.plan.program.table.long, call_small p b k n kE refl, omega arith)
 
 pub enter-overflow_sub-level : goal.enter-overflow_sub-level
 enter-overflow_sub-level t c =
-    let p = c.requires.1 in
-    let b = c.requires.2 in
+    let p = c.requires.0.1 in
+    let b = c.requires.1 in
     let f = c.args.file.now in
     let a = c.args.at in
-    let k = c.number-k.result in
-    let kE = c.number-k.ensures.0 in
+    let k = c.from-k.result in
+    let kE = c.from-k.ensures in
     let n = get_or f (a + 2) 0 in
     (call_at p b k n kE refl).deep
 
 pub enter-slice_bounds-eval_all-count : goal.enter-slice_bounds-eval_all-count
 enter-slice_bounds-eval_all-count t c =
-    let p = c.requires.1 in
-    let b = c.requires.2 in
+    let p = c.requires.0.1 in
+    let b = c.requires.1 in
     let f = c.args.file.now in
     let a = c.args.at in
-    let k = c.number-k.result in
-    let kE = c.number-k.ensures.0 in
+    let k = c.from-k.result in
+    let kE = c.from-k.ensures in
     let n = get_or f (a + 2) 0 in
     let uE = c.row-size.ensures in
     let z = call_size p b k n kE refl in
@@ -214,12 +214,12 @@ enter-slice_bounds-eval_all-count t c =
 
 pub enter-slice_bounds-eval_all-start : goal.enter-slice_bounds-eval_all-start
 enter-slice_bounds-eval_all-start t c =
-    let p = c.requires.1 in
-    let b = c.requires.2 in
+    let p = c.requires.0.1 in
+    let b = c.requires.1 in
     let f = c.args.file.now in
     let a = c.args.at in
-    let k = c.number-k.result in
-    let kE = c.number-k.ensures.0 in
+    let k = c.from-k.result in
+    let kE = c.from-k.ensures in
     let n = get_or f (a + 2) 0 in
     let uE = c.row-size.ensures in
     let z = call_size p b k n kE refl in
@@ -228,12 +228,12 @@ enter-slice_bounds-eval_all-start t c =
 
 pub enter-slice_bounds-eval_all-count-2 : goal.enter-slice_bounds-eval_all-count-2
 enter-slice_bounds-eval_all-count-2 t c =
-    let p = c.requires.1 in
-    let b = c.requires.2 in
+    let p = c.requires.0.1 in
+    let b = c.requires.1 in
     let f = c.args.file.now in
     let a = c.args.at in
-    let k = c.number-k.result in
-    let kE = c.number-k.ensures.0 in
+    let k = c.from-k.result in
+    let kE = c.from-k.ensures in
     let n = get_or f (a + 2) 0 in
     let uE = c.row-size.ensures in
     let z = call_size p b k n kE refl in
@@ -243,12 +243,12 @@ enter-slice_bounds-eval_all-count-2 t c =
 
 pub enter-slice_bounds-eval_all-start-2 : goal.enter-slice_bounds-eval_all-start-2
 enter-slice_bounds-eval_all-start-2 t c =
-    let p = c.requires.1 in
-    let b = c.requires.2 in
+    let p = c.requires.0.1 in
+    let b = c.requires.1 in
     let f = c.args.file.now in
     let a = c.args.at in
-    let k = c.number-k.result in
-    let kE = c.number-k.ensures.0 in
+    let k = c.from-k.result in
+    let kE = c.from-k.ensures in
     let n = get_or f (a + 2) 0 in
     let uE = c.row-size.ensures in
     let z = call_size p b k n kE refl in
@@ -258,28 +258,28 @@ enter-slice_bounds-eval_all-start-2 t c =
 
 pub enter-eval_all-a-requires : goal.enter-eval_all-a-requires
 enter-eval_all-a-requires t c =
-    let fd = c.requires.0 in
-    let p = c.requires.1 in
-    let b = c.requires.2 in
+    let fd = c.requires.0.0 in
+    let p = c.requires.0.1 in
+    let b = c.requires.1 in
     let f = c.args.file.now in
     let a = c.args.at in
-    let k = c.number-k.result in
-    let kE = c.number-k.ensures.0 in
+    let k = c.from-k.result in
+    let kE = c.from-k.ensures in
     let n = get_or f (a + 2) 0 in
     let u = c.row-size.result in
     let uE = c.row-size.ensures in
-    (omega (arith, (call_at p b k n kE refl).deep), (fd, call_parts p b k n kE refl u uE, call_several p b k n kE refl c.requires.3))
+    (omega (arith, (call_at p b k n kE refl).deep), ((fd, call_parts p b k n kE refl u uE), call_several p b k n kE refl c.requires.2))
 
 pub enter-overflow_add-used : goal.enter-overflow_add-used
 enter-overflow_add-used t c =
-    let p = c.requires.1 in
-    let b = c.requires.2 in
+    let p = c.requires.0.1 in
+    let b = c.requires.1 in
     let fr = c.args.frame.now in
     let f = c.args.file.now in
     let a = c.args.at in
     let F = first_of fr in
-    let k = c.number-k.result in
-    let kE = c.number-k.ensures.0 in
+    let k = c.from-k.result in
+    let kE = c.from-k.ensures in
     let n = get_or f (a + 2) 0 in
     let u = c.row-size.result in
     let uE = c.row-size.ensures in
@@ -288,13 +288,13 @@ enter-overflow_add-used t c =
 
 pub enter-slice_bounds-step_site-end : goal.enter-slice_bounds-step_site-end
 enter-slice_bounds-step_site-end t c =
-    let p = c.requires.1 in
-    let b = c.requires.2 in
+    let p = c.requires.0.1 in
+    let b = c.requires.1 in
     let f = c.args.file.now in
     let a = c.args.at in
     let o = c.args.old.now in
-    let k = c.number-k.result in
-    let kE = c.number-k.ensures.0 in
+    let k = c.from-k.result in
+    let kE = c.from-k.ensures in
     let n = get_or f (a + 2) 0 in
     let u = c.row-size.result in
     let uE = c.row-size.ensures in
@@ -302,15 +302,15 @@ enter-slice_bounds-step_site-end t c =
     let room = call_room p b k n kE refl in
     sym (length-take-le u o (omega (arith, uE, z, room)))
 
-pub enter-slice_bounds-step_site-end-in-Values : goal.enter-slice_bounds-step_site-end-in-Values
-enter-slice_bounds-step_site-end-in-Values t c =
-    let p = c.requires.1 in
-    let b = c.requires.2 in
+pub enter-slice_bounds-step_site-end-2 : goal.enter-slice_bounds-step_site-end-2
+enter-slice_bounds-step_site-end-2 t c =
+    let p = c.requires.0.1 in
+    let b = c.requires.1 in
     let f = c.args.file.now in
     let a = c.args.at in
     let w = c.args.new.now in
-    let k = c.number-k.result in
-    let kE = c.number-k.ensures.0 in
+    let k = c.from-k.result in
+    let kE = c.from-k.ensures in
     let n = get_or f (a + 2) 0 in
     let u = c.row-size.result in
     let uE = c.row-size.ensures in
@@ -324,15 +324,15 @@ enter-slice_bounds-step_site-end-in-Values t c =
     let lep = subst (λ (m : ℕ). u ≤ m) (sym len) le in
     lep
 
-pub enter-slice_bounds-step_site-end-in-Values-2 : goal.enter-slice_bounds-step_site-end-in-Values-2
-enter-slice_bounds-step_site-end-in-Values-2 t c =
-    let p = c.requires.1 in
-    let b = c.requires.2 in
+pub enter-slice_bounds-step_site-end-3 : goal.enter-slice_bounds-step_site-end-3
+enter-slice_bounds-step_site-end-3 t c =
+    let p = c.requires.0.1 in
+    let b = c.requires.1 in
     let f = c.args.file.now in
     let a = c.args.at in
     let w = c.args.new.now in
-    let k = c.number-k.result in
-    let kE = c.number-k.ensures.0 in
+    let k = c.from-k.result in
+    let kE = c.from-k.ensures in
     let n = get_or f (a + 2) 0 in
     let u = c.row-size.result in
     let uE = c.row-size.ensures in
@@ -346,49 +346,49 @@ enter-slice_bounds-step_site-end-in-Values-2 t c =
     let lep = subst (λ (m : ℕ). u ≤ m) (sym len) le in
     sym (length-take-le u (put_tail u w N1) lep)
 
-pub enter-step_site-e-requires : goal.enter-step_site-e-requires
-enter-step_site-e-requires t c =
-    let p = c.requires.1 in
-    let b = c.requires.2 in
+pub enter-step_site-end-requires : goal.enter-step_site-end-requires
+enter-step_site-end-requires t c =
+    let p = c.requires.0.1 in
+    let b = c.requires.1 in
     let f = c.args.file.now in
     let a = c.args.at in
-    let k = c.number-k.result in
-    let kE = c.number-k.ensures.0 in
+    let k = c.from-k.result in
+    let kE = c.from-k.ensures in
     let n = get_or f (a + 2) 0 in
     let u = c.row-size.result in
     let uE = c.row-size.ensures in
     let KA = c.eval_all-a.ensures.1 in
     let N1 = c.eval_all-a.new.new in
-    (omega (arith, call_lower p b k n kE refl), (call_steps p b k n kE refl u uE N1 (KA ∙ c.requires.3), omega (arith, p.plan.program.sized.small)))
+    (omega (arith, call_lower p b k n kE refl), (call_steps p b k n kE refl u uE N1 (KA ∙ c.requires.2), omega (arith, p.plan.program.sized.small)))
 
-pub enter-returns-in-Values : goal.enter-returns-in-Values
-enter-returns-in-Values t c =
-    let p = c.requires.1 in
-    let b = c.requires.2 in
+pub enter-returns : goal.enter-returns
+enter-returns t c =
+    let p = c.requires.0.1 in
+    let b = c.requires.1 in
     let fr = c.args.frame.now in
     let f = c.args.file.now in
     let a = c.args.at in
     let F = first_of fr in
-    let k = c.number-k.result in
-    let kE = c.number-k.ensures.0 in
+    let k = c.from-k.result in
+    let kE = c.from-k.ensures in
     let n = get_or f (a + 2) 0 in
     let u = c.row-size.result in
     let uE = c.row-size.ensures in
     let KA = c.eval_all-a.ensures.1 in
     let C1 = c.eval_all-a.new.to in
-    let C2 = c.step_site-e.new.args in
-    (call_done p b k n kE refl F u uE C1 C2 ((call_all p b k n kE refl F C1 c.eval_all-a.ensures.0)) c.in-Values.is c.step_site-e.ensures.0, c.step_site-e.ensures.1 ∙ KA)
+    let C2 = c.step_site-end.new.args in
+    (call_done p b k n kE refl F u uE C1 C2 ((call_all p b k n kE refl F C1 c.eval_all-a.ensures.0)) c.in-Values.is c.step_site-end.ensures.0, c.step_site-end.ensures.1 ∙ KA)
 
 pub enter-returns-in_default : goal.enter-returns-in_default
 enter-returns-in_default t c =
-    let p = c.requires.1 in
-    let b = c.requires.2 in
+    let p = c.requires.0.1 in
+    let b = c.requires.1 in
     let fr = c.args.frame.now in
     let f = c.args.file.now in
     let a = c.args.at in
     let F = first_of fr in
-    let k = c.number-k.result in
-    let kE = c.number-k.ensures.0 in
+    let k = c.from-k.result in
+    let kE = c.from-k.ensures in
     let n = get_or f (a + 2) 0 in
     let u = c.row-size.result in
     let uE = c.row-size.ensures in
@@ -404,24 +404,24 @@ equation-bounds-file-at t c =
 pub equation-overflow_add-rhs : goal.equation-overflow_add-rhs
 equation-overflow_add-rhs t c =
     let p = c.requires.1 in
-    let n = c.number-n.result in
-    let ne = c.number-n.ensures.0 in
+    let n = c.from-n.result in
+    let ne = c.from-n.ensures in
     let s = names_inside p n ne in
     omega (arith, s.0, s.1)
 
 pub equation-overflow_add-rhs-2 : goal.equation-overflow_add-rhs-2
 equation-overflow_add-rhs-2 t c =
     let p = c.requires.1 in
-    let n = c.number-n.result in
-    let ne = c.number-n.ensures.0 in
+    let n = c.from-n.result in
+    let ne = c.from-n.ensures in
     let s = names_inside p n ne in
     omega (arith, s.0, s.1)
 
 pub equation-bounds-file-rhs : goal.equation-bounds-file-rhs
 equation-bounds-file-rhs t c =
     let p = c.requires.1 in
-    let n = c.number-n.result in
-    let ne = c.number-n.ensures.0 in
+    let n = c.from-n.result in
+    let ne = c.from-n.ensures in
     let s = names_inside p n ne in
     s.0
 
@@ -429,15 +429,15 @@ pub equation-eval-r-requires : goal.equation-eval-r-requires
 equation-eval-r-requires t c =
     let fd = c.requires.0 in
     let p = c.requires.1 in
-    let n = c.number-n.result in
-    let ne = c.number-n.ensures.0 in
+    let n = c.from-n.result in
+    let ne = c.from-n.ensures in
     (omega arith, (fd, equation_ready p ((c.args.at + 1 + 2 * n)) (right_place p n ne)))
 
 pub equation-overflow_add-at : goal.equation-overflow_add-at
 equation-overflow_add-at t c =
     let p = c.requires.1 in
-    let n = c.number-n.result in
-    let ne = c.number-n.ensures.0 in
+    let n = c.from-n.result in
+    let ne = c.from-n.ensures in
     let s = names_inside p n ne in
     omega (arith, s.0, s.1)
 
@@ -447,13 +447,13 @@ equation-bind_out-requires t c =
     let p = c.requires.1 in
     (fd, first_storable p)
 
-pub equation-returns-else-code-eq12 : goal.equation-returns-else-code-eq12
-equation-returns-else-code-eq12 t c =
+pub equation-returns-in_default : goal.equation-returns-in_default
+equation-returns-in_default t c =
     let p = c.requires.1 in
     let fr = c.args.frame.now in
-    let n = c.number-n.result in
-    let ne = c.number-n.ensures.0 in
-    (one_done p (first_of fr) ((c.args.at + 1 + 2 * n)) c.bind_out.result (cells_of c.bind_out.new.frame) (right_place p n ne) c.if-code-eq11.false c.if-code-eq12.false c.eval-r.ensures c.bind_out.ensures.0 c.bind_out.ensures.1, c.bind_out.ensures.2)
+    let n = c.from-n.result in
+    let ne = c.from-n.ensures in
+    (one_done p (first_of fr) ((c.args.at + 1 + 2 * n)) c.bind_out.result (cells_of c.bind_out.new.frame) (right_place p n ne) (search rules) (search rules) c.eval-r.ensures c.bind_out.ensures.0 c.bind_out.ensures.1, c.bind_out.ensures.2)
 
 pub eval-bounds-file-at : goal.eval-bounds-file-at
 eval-bounds-file-at t c =
@@ -469,10 +469,10 @@ eval-present-requires t c =
     let fd = c.requires.0 in
     let p = c.requires.1 in
     let f = c.args.file.now in
-    (fd, plan_name f p.plan c.if-code-eq4.true, p.present)
+    (fd, plan_name f p.plan c.if-file-at-eq-VAR.true, p.present)
 
-pub eval-returns-then-code-eq4 : goal.eval-returns-then-code-eq4
-eval-returns-then-code-eq4 t c =
+pub eval-returns-then-file-at-eq-VAR : goal.eval-returns-then-file-at-eq-VAR
+eval-returns-then-file-at-eq-VAR t c =
     let p = c.requires.1 in
     let fr = c.args.frame.now in
     let tb = c.args.tab.now in
@@ -480,12 +480,12 @@ eval-returns-then-code-eq4 t c =
     let L = c.args.level in
     let a = c.args.at in
     let h = plan_head f p.plan in
-    var_evals f (consts_of tb) L a (node_of fr) (first_of fr) (cells_of fr) (before_of fr) p.plan.reads h c.if-code-eq4.true p.same (c.named_out.ensures (present_of (globals_in f (consts_of tb)) (scope_in f (node_of fr) false (cells_of fr) (cells_of fr)) (name_at f (a + 1))) c.present.ensures ∙ c.present.ensures)
+    var_evals f (consts_of tb) L a (node_of fr) (first_of fr) (cells_of fr) (before_of fr) p.plan.reads h c.if-file-at-eq-VAR.true p.same (c.named_out.ensures (present_of (globals_in f (consts_of tb)) (scope_in f (node_of fr) false (cells_of fr) (cells_of fr)) (name_at f (a + 1))) c.present.ensures ∙ c.present.ensures)
 
 pub eval_all-loop-i-init : goal.eval_all-loop-i-init
 eval_all-loop-i-init t c =
-    let p = c.requires.1 in
-    let sv = c.requires.2 in
+    let p = c.requires.0.1 in
+    let sv = c.requires.1 in
     let q = sv.passes in
     let tb = c.args.tab.now in
     let fr = c.args.frame.now in
@@ -497,7 +497,7 @@ eval_all-loop-i-init t c =
 
 pub eval_all-eval-r-requires : goal.eval_all-eval-r-requires
 eval_all-eval-r-requires t c =
-    let fd = c.requires.0 in
+    let fd = c.requires.0.0 in
     let hd = c.head-h.ensures in
     let inv = c.loop-i.invariant in
     let f = c.args.file.now in
@@ -510,7 +510,7 @@ eval_all-eval-r-requires t c =
 
 pub eval_all-overflow_add-used : goal.eval_all-overflow_add-used
 eval_all-overflow_add-used t c =
-    let p = c.requires.1 in
+    let p = c.requires.0.1 in
     let tb = c.args.tab.now in
     let fr = c.args.frame.now in
     let hd = c.head-h.ensures in
@@ -532,7 +532,7 @@ eval_all-overflow_add-used t c =
 
 pub eval_all-pass_all-s-requires : goal.eval_all-pass_all-s-requires
 eval_all-pass_all-s-requires t c =
-    let p = c.requires.1 in
+    let p = c.requires.0.1 in
     let tb = c.args.tab.now in
     let fr = c.args.frame.now in
     let hd = c.head-h.ensures in
@@ -554,7 +554,7 @@ eval_all-pass_all-s-requires t c =
 
 pub eval_all-overflow_add-result : goal.eval_all-overflow_add-result
 eval_all-overflow_add-result t c =
-    let p = c.requires.1 in
+    let p = c.requires.0.1 in
     let tb = c.args.tab.now in
     let fr = c.args.frame.now in
     let hd = c.head-h.ensures in
@@ -578,7 +578,7 @@ eval_all-overflow_add-result t c =
 
 pub eval_all-returns-in-Failure : goal.eval_all-returns-in-Failure
 eval_all-returns-in-Failure t c =
-    let p = c.requires.1 in
+    let p = c.requires.0.1 in
     let tb = c.args.tab.now in
     let fr = c.args.frame.now in
     let hd = c.head-h.ensures in
@@ -601,7 +601,7 @@ eval_all-returns-in-Failure t c =
 
 pub eval_all-pass_all-s-requires-in-Overflow : goal.eval_all-pass_all-s-requires-in-Overflow
 eval_all-pass_all-s-requires-in-Overflow t c =
-    let p = c.requires.1 in
+    let p = c.requires.0.1 in
     let tb = c.args.tab.now in
     let fr = c.args.frame.now in
     let hd = c.head-h.ensures in
@@ -623,7 +623,7 @@ eval_all-pass_all-s-requires-in-Overflow t c =
 
 pub eval_all-overflow_add-result-in-Overflow : goal.eval_all-overflow_add-result-in-Overflow
 eval_all-overflow_add-result-in-Overflow t c =
-    let p = c.requires.1 in
+    let p = c.requires.0.1 in
     let tb = c.args.tab.now in
     let fr = c.args.frame.now in
     let hd = c.head-h.ensures in
@@ -647,7 +647,7 @@ eval_all-overflow_add-result-in-Overflow t c =
 
 pub eval_all-returns-in-Overflow : goal.eval_all-returns-in-Overflow
 eval_all-returns-in-Overflow t c =
-    let p = c.requires.1 in
+    let p = c.requires.0.1 in
     let tb = c.args.tab.now in
     let fr = c.args.frame.now in
     let hd = c.head-h.ensures in
@@ -670,8 +670,8 @@ eval_all-returns-in-Overflow t c =
 
 pub eval_all-loop-i-preserved : goal.eval_all-loop-i-preserved
 eval_all-loop-i-preserved t c =
-    let p = c.requires.1 in
-    let sv = c.requires.2 in
+    let p = c.requires.0.1 in
+    let sv = c.requires.1 in
     let q = sv.passes in
     let tb = c.args.tab.now in
     let fr = c.args.frame.now in
@@ -682,7 +682,7 @@ eval_all-loop-i-preserved t c =
     let n = parts_at f a in
     let lt = subst (λ (m : ℕ). c.loop-i.i < m) hd.parts c.loop-i-test.true in
     let i = c.loop-i.i in
-    let kE = c.number-k.ensures.0 in
+    let kE = c.from-k.ensures in
     let o = c.args.old.now in
     let w = c.loop-i.new in
     let u = c.loop-i.used in
@@ -692,7 +692,7 @@ eval_all-loop-i-preserved t c =
     let x = c.eval-r.new.new in
     let len = going_length g x K same in
     let h = moved f (consts_of tb) c.args.level (node_of fr) (first_of fr) (cells_of fr) (before_of fr) (refl {a = c.loop-i.pos}) (tail_all u o) c.eval-r.ensures in
-    (omega (arith, lt), c.write_cell.auto.out ∙ inv.1, length_put u w x (omega (arith, inv.3.within, same)) K ∙ inv.2, going_turn g h len q.callee c.in-Value.is (λ e. c.passed-w.ensures.0 e ∙ ap (λ (x : ℕ). passed_by (is_call f a) (ty_of (code_at (tab_of tb) x i) e) c.in-Value.v) kE) c.passed-w.ensures.1 c.write_cell.ensures c.write_cell.auto.out)
+    (omega (arith, lt), c.write_cell.auto.out ∙ inv.1, length_put u w x (omega (arith, inv.3.within, same)) K ∙ inv.2, going_turn g h len q.callee c.in-Value.is (λ e. c.passed.ensures.0 e ∙ ap (λ (x : ℕ). passed_by (is_call f a) (ty_of (code_at (tab_of tb) x i) e) c.in-Value.v) kE) c.passed.ensures.1 c.write_cell.ensures c.write_cell.auto.out)
 
 pub eval_all-returns : goal.eval_all-returns
 eval_all-returns t c =
@@ -702,10 +702,10 @@ eval_all-returns t c =
     let n = parts_at f a in
     (going_done (going_left (left_done n c.loop-i.i (omega (arith, c.loop-i-test.false, hd.parts))) c.loop-i.invariant.3), c.loop-i.invariant.1)
 
-pub eval_call-bounds-file-p : goal.eval_call-bounds-file-p
-eval_call-bounds-file-p t c =
-    let p = c.requires.1 in
-    let b = c.requires.2 in
+pub eval_call-bounds-file-at : goal.eval_call-bounds-file-at
+eval_call-bounds-file-at t c =
+    let p = c.requires.0.1 in
+    let b = c.requires.1 in
     let f = c.args.file.now in
     let a = c.args.at in
     let n = get_or f (a + 2) 0 in
@@ -713,26 +713,26 @@ eval_call-bounds-file-p t c =
 
 pub eval_call-row-outputs-requires : goal.eval_call-row-outputs-requires
 eval_call-row-outputs-requires t c =
-    let p = c.requires.1 in
-    let b = c.requires.2 in
+    let p = c.requires.0.1 in
+    let b = c.requires.1 in
     let tb = c.args.tab.now in
     let f = c.args.file.now in
     let a = c.args.at in
     let n = get_or f (a + 2) 0 in
-    let k = c.number-k.result in
-    let kE = c.number-k.ensures.0 in
+    let k = c.from-k.result in
+    let kE = c.from-k.ensures in
     (rows_room tb _ p.plan.program.table.long, call_small p b k n kE refl, omega arith)
 
 pub eval_call-returns : goal.eval_call-returns
 eval_call-returns t c =
-    let p = c.requires.1 in
-    let b = c.requires.2 in
+    let p = c.requires.0.1 in
+    let b = c.requires.1 in
     let fr = c.args.frame.now in
     let f = c.args.file.now in
     let a = c.args.at in
     let n = get_or f (a + 2) 0 in
-    let k = c.number-k.result in
-    let kE = c.number-k.ensures.0 in
+    let k = c.from-k.result in
+    let kE = c.from-k.ensures in
     let C = c.enter-r.new.args in
     call_single p b k n kE refl (first_of fr) C c.row-outputs.result c.enter-r.ensures.0 c.row-outputs.ensures c.single_out.ensures
 
@@ -1329,7 +1329,7 @@ eval_if-returns-in-First t c =
     let segs = segs_cons f L 2 a p.plan.reads in
     let ends = (parted f L 2 a p.plan.reads).ends in
     let g1 = moved_choice f kk true L n F cl bb c.eval-c.ensures.next_is (rest_old c.eval-c.ensures) c.eval_first-r.ensures in
-    remade c.same_out.ensures (seq_as ((λ (x y : List ℕ). next (eval_in f kk n F cl bb (expr_at f L a) x) (condition (λ (b : Bool) (rest : List ℕ). choose_in f kk b L mid n F cl bb rest)) y)) n1 m2 segs ends (if_taken ((λ (b : Bool) (rest : List ℕ). choose_in f kk b L mid n F cl bb rest)) true h g1 (K ∙ ap length p.same) le (sym c.test_of-test.ensures ∙ c.in-First.is)))
+    remade c.same_out.ensures (seq_as ((λ (x y : List ℕ). next (eval_in f kk n F cl bb (expr_at f L a) x) (condition (λ (b : Bool) (rest : List ℕ). choose_in f kk b L mid n F cl bb rest)) y)) n1 m2 segs ends (if_taken ((λ (b : Bool) (rest : List ℕ). choose_in f kk b L mid n F cl bb rest)) true h g1 (K ∙ ap length p.same) le (sym c.test_of.ensures ∙ c.in-First.is)))
 
 pub eval_if-returns-in-Second : goal.eval_if-returns-in-Second
 eval_if-returns-in-Second t c =
@@ -1353,7 +1353,7 @@ eval_if-returns-in-Second t c =
     let segs = segs_cons f L 2 a p.plan.reads in
     let ends = (parted f L 2 a p.plan.reads).ends in
     let g2 = moved_choice f kk false L n F cl bb c.eval-c.ensures.next_is (rest_old c.eval-c.ensures) c.eval_second-r.ensures in
-    remade c.same_out-in-Second.ensures (seq_as ((λ (x y : List ℕ). next (eval_in f kk n F cl bb (expr_at f L a) x) (condition (λ (b : Bool) (rest : List ℕ). choose_in f kk b L mid n F cl bb rest)) y)) n1 m2 segs ends (if_taken ((λ (b : Bool) (rest : List ℕ). choose_in f kk b L mid n F cl bb rest)) false h g2 (K ∙ ap length p.same) le (sym c.test_of-test.ensures ∙ c.in-Second.is)))
+    remade c.same_out-in-Second.ensures (seq_as ((λ (x y : List ℕ). next (eval_in f kk n F cl bb (expr_at f L a) x) (condition (λ (b : Bool) (rest : List ℕ). choose_in f kk b L mid n F cl bb rest)) y)) n1 m2 segs ends (if_taken ((λ (b : Bool) (rest : List ℕ). choose_in f kk b L mid n F cl bb rest)) false h g2 (K ∙ ap length p.same) le (sym c.test_of.ensures ∙ c.in-Second.is)))
 
 pub eval_if-returns-in-Neither : goal.eval_if-returns-in-Neither
 eval_if-returns-in-Neither t c =
@@ -1374,7 +1374,7 @@ eval_if-returns-in-Neither t c =
     let m2 = segs_at f L 2 (end_at f L a) in
     let segs = segs_cons f L 2 a p.plan.reads in
     let ends = (parted f L 2 a p.plan.reads).ends in
-    seq_as ((λ (x y : List ℕ). next (eval_in f kk n F cl bb (expr_at f L a) x) (condition (λ (b : Bool) (rest : List ℕ). choose_in f kk b L mid n F cl bb rest)) y)) n1 m2 segs ends (if_stop ((λ (b : Bool) (rest : List ℕ). choose_in f kk b L mid n F cl bb rest)) h ((moved_skip f L 2 c.eval-c.ensures.next_is c.pass_all-s.ensures)) (sym c.test_of-test.ensures ∙ c.in-Neither.is) c.untested.ensures)
+    seq_as ((λ (x y : List ℕ). next (eval_in f kk n F cl bb (expr_at f L a) x) (condition (λ (b : Bool) (rest : List ℕ). choose_in f kk b L mid n F cl bb rest)) y)) n1 m2 segs ends (if_stop ((λ (b : Bool) (rest : List ℕ). choose_in f kk b L mid n F cl bb rest)) h ((moved_skip f L 2 c.eval-c.ensures.next_is c.pass_all-s.ensures)) (sym c.test_of.ensures ∙ c.in-Neither.is) c.untested.ensures)
 
 pub eval_second-pass-s-requires : goal.eval_second-pass-s-requires
 eval_second-pass-s-requires t c =
@@ -1593,8 +1593,8 @@ eval_second-returns-else-runs t c =
     let ends = two_ends f L a p.plan.reads in
     seq_as ((λ (x y : List ℕ). choose false (branch_in f kk L a n F cl bb x) (branch_in f kk L mid n F cl bb y))) n1 n2 segs ends (second_not ((branch_in f kk L a n F cl bb (take n1 o))) ((branch_in f kk L mid n F cl bb (take n2 (drop n1 o)))) refl q h p.same to (sym c.if-runs.false ∙ c.runs.ensures))
 
-pub eval_two-overflow_add-p : goal.eval_two-overflow_add-p
-eval_two-overflow_add-p t c =
+pub eval_two-overflow_add-op : goal.eval_two-overflow_add-op
+eval_two-overflow_add-op t c =
     let p = c.requires.1 in
     let f = c.args.file.now in
     let L = c.args.level in
@@ -1602,8 +1602,8 @@ eval_two-overflow_add-p t c =
     let ins = reads_in f L a (plan_head f p.plan) in
     omega (arith, ins, p.plan.program.sized.small)
 
-pub eval_two-bounds-file-p : goal.eval_two-bounds-file-p
-eval_two-bounds-file-p t c =
+pub eval_two-bounds-file-at : goal.eval_two-bounds-file-at
+eval_two-bounds-file-at t c =
     let p = c.requires.1 in
     let f = c.args.file.now in
     let L = c.args.level in
@@ -2139,80 +2139,80 @@ step_instance-returns-in-Overflowed t c =
     let ran = framed_run c.args.file.now (consts_of tb) fr (tail_of (1 + 9 * n) c.args.old.now) cells op.node c.run-r.ensures.0 in
     (instance_overflowed e c.run-r.result cells x c.copy.new.to c.args.args.now ran c.in-Overflowed.is (all_copied c.args.old.now (put_tail (1 + 9 * n) c.args.new.now x) c.copy.new.to (put_length h n x o w kx ∙ ap length h.same) c.copy.ensures), refl)
 
-pub step_site-row-kind-requires : goal.step_site-row-kind-requires
-step_site-row-kind-requires t c =
+pub step_site-row-requires : goal.step_site-row-requires
+step_site-row-requires t c =
     let h = c.requires.0 in
     row_room c.args.tab.now h.running h.below _ (omega arith)
 
 pub step_site-step_instance-requires : goal.step_site-step_instance-requires
 step_site-step_instance-requires t c =
     let h = c.requires.0 in
-    (omega arith, (h, refl, is_operator_lem h c.row-kind.result c.row-kind.ensures c.if-kind-eq1.true))
+    (omega arith, (h, refl, is_operator_lem h c.row.result c.row.ensures c.if-row-eq-OPERATOR.true))
 
 pub step_site-call_function-requires : goal.step_site-call_function-requires
 step_site-call_function-requires t c =
     let h = c.requires.0 in
-    (omega arith, (h, refl, is_function h c.row-kind.result c.row-kind.ensures c.if-kind-eq1.false))
+    (omega arith, (h, refl, is_function h c.row.result c.row.ensures c.if-row-eq-OPERATOR.false))
 
 pub tuple_equation-eval_all-r-requires : goal.tuple_equation-eval_all-r-requires
 tuple_equation-eval_all-r-requires t c =
-    let fd = c.requires.0 in
-    let p = c.requires.1 in
+    let fd = c.requires.0.0 in
+    let p = c.requires.0.1 in
     let f = c.args.file.now in
-    let n = c.number-n.result in
-    let ne = c.number-n.ensures.0 in
+    let n = c.from-n.result in
+    let ne = c.from-n.ensures in
     let rhs = c.args.at + 1 + 2 * n in
-    let q = right_ready p n 12 ne (subst (λ (m : ℕ). get_or f (c.args.at + 1 + 2 * m) 0 ≡ 12) (sym ne) c.requires.2) in
+    let q = right_ready p n 12 ne (subst (λ (m : ℕ). get_or f (c.args.at + 1 + 2 * m) 0 ≡ 12) (sym ne) c.requires.1) in
     let byte = get_or f (rhs + 1) 0 in
-    (omega arith, (fd, tuple_parts p q, tuple_several p q byte refl refl))
+    (omega arith, ((fd, tuple_parts p q), tuple_several p q byte refl refl))
 
-pub tuple_equation-bounds-file-p : goal.tuple_equation-bounds-file-p
-tuple_equation-bounds-file-p t c =
-    let p = c.requires.1 in
+pub tuple_equation-bounds-file-rhs : goal.tuple_equation-bounds-file-rhs
+tuple_equation-bounds-file-rhs t c =
+    let p = c.requires.0.1 in
     let f = c.args.file.now in
-    let n = c.number-n.result in
-    let ne = c.number-n.ensures.0 in
-    let q = right_ready p n 12 ne (subst (λ (m : ℕ). get_or f (c.args.at + 1 + 2 * m) 0 ≡ 12) (sym ne) c.requires.2) in
+    let n = c.from-n.result in
+    let ne = c.from-n.ensures in
+    let q = right_ready p n 12 ne (subst (λ (m : ℕ). get_or f (c.args.at + 1 + 2 * m) 0 ≡ 12) (sym ne) c.requires.1) in
     let inside = tuple_inside p q in
     omega (arith, inside.0)
 
 pub tuple_equation-bind-requires : goal.tuple_equation-bind-requires
 tuple_equation-bind-requires t c =
-    let fd = c.requires.0 in
-    let p = c.requires.1 in
+    let fd = c.requires.0.0 in
+    let p = c.requires.0.1 in
     let f = c.args.file.now in
-    let n = c.number-n.result in
-    let ne = c.number-n.ensures.0 in
-    let q = right_ready p n 12 ne (subst (λ (m : ℕ). get_or f (c.args.at + 1 + 2 * m) 0 ≡ 12) (sym ne) c.requires.2) in
+    let n = c.from-n.result in
+    let ne = c.from-n.ensures in
+    let q = right_ready p n 12 ne (subst (λ (m : ℕ). get_or f (c.args.at + 1 + 2 * m) 0 ≡ 12) (sym ne) c.requires.1) in
     let inside = tuple_inside p q in
-    let count = c.number.result in
-    let ce = c.number.ensures.0 in
-    let m = names_least p count q c.less-m.ensures in
-    (fd, values_assignable p c.less-m.result (c.eval_all-r.new.to) m.least (omega (arith, c.less-m.ensures, ce, inside.1)) (let k : length (c.eval_all-r.new.to) ≡ 288 = c.eval_all-r.ensures.1 in omega (arith, k, c.less-m.ensures, ce, inside.1)))
+    let count = c.from.result in
+    let ce = c.from.ensures in
+    let m = names_least p count q c.min-m.ensures in
+    (fd, values_assignable p c.min-m.result (c.eval_all-r.new.to) m.least (omega (arith, c.min-m.ensures, ce, inside.1)) (let k : length (c.eval_all-r.new.to) ≡ 288 = c.eval_all-r.ensures.1 in omega (arith, k, c.min-m.ensures, ce, inside.1)))
 
-pub tuple_equation-returns-in-Values : goal.tuple_equation-returns-in-Values
-tuple_equation-returns-in-Values t c =
-    let p = c.requires.1 in
+pub tuple_equation-returns : goal.tuple_equation-returns
+tuple_equation-returns t c =
+    let p = c.requires.0.1 in
     let f = c.args.file.now in
     let fr = c.args.frame.now in
     let F = first_of fr in
-    let n = c.number-n.result in
-    let ne = c.number-n.ensures.0 in
-    let q = right_ready p n 12 ne (subst (λ (m : ℕ). get_or f (c.args.at + 1 + 2 * m) 0 ≡ 12) (sym ne) c.requires.2) in
-    let count = c.number.result in
-    let ce = c.number.ensures.0 in
-    (tuple_done p F count c.less-m.result (c.eval_all-r.new.to) (cells_of c.bind.new.frame) q ce ((tuple_all p q count ce F (c.eval_all-r.new.to) c.eval_all-r.ensures.0)) c.in-Values.is c.less-m.ensures c.bind.ensures.0, c.bind.ensures.1)
+    let n = c.from-n.result in
+    let ne = c.from-n.ensures in
+    let q = right_ready p n 12 ne (subst (λ (m : ℕ). get_or f (c.args.at + 1 + 2 * m) 0 ≡ 12) (sym ne) c.requires.1) in
+    let count = c.from.result in
+    let ce = c.from.ensures in
+    (tuple_done p F count c.min-m.result (c.eval_all-r.new.to) (cells_of c.bind.new.frame) q ce ((tuple_all p q count ce F (c.eval_all-r.new.to) c.eval_all-r.ensures.0)) c.in-Values.is c.min-m.ensures c.bind.ensures.0, c.bind.ensures.1)
 
 pub tuple_equation-returns-in_default : goal.tuple_equation-returns-in_default
 tuple_equation-returns-in_default t c =
-    let fd = c.requires.0 in
-    let p = c.requires.1 in
+    let fd = c.requires.0.0 in
+    let p = c.requires.0.1 in
     let f = c.args.file.now in
     let fr = c.args.frame.now in
     let F = first_of fr in
-    let n = c.number-n.result in
-    let ne = c.number-n.ensures.0 in
+    let n = c.from-n.result in
+    let ne = c.from-n.ensures in
     let rhs = c.args.at + 1 + 2 * n in
-    let q = right_ready p n 12 ne (subst (λ (m : ℕ). get_or f (c.args.at + 1 + 2 * m) 0 ≡ 12) (sym ne) c.requires.2) in
+    let q = right_ready p n 12 ne (subst (λ (m : ℕ). get_or f (c.args.at + 1 + 2 * m) 0 ≡ 12) (sym ne) c.requires.1) in
     let byte = get_or f (rhs + 1) 0 in
     (tuple_stops p F byte (c.eval_all-r.new.to) (cells_of fr) q refl ((tuple_all p q byte refl F (c.eval_all-r.new.to) c.eval_all-r.ensures.0)) c.in_default.not-Values, keeps_all fr fd)

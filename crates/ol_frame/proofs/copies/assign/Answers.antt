@@ -11,20 +11,20 @@ loop-i-init c =
     let tab = tab_of c.args.tab.now in
     let from = c.args.from.now in
     let old = c.args.cells.now in
-    (omega arith, refl, assigns_none tab c.args.k c.args.at c.args.n from old)
-
-pub overflow_mul-p : goal.overflow_mul-p
-overflow_mul-p c =
-    let lt = c.loop-i-test.true in
-    omega (arith, lt, c.requires.few, c.requires.small)
-
-pub overflow_add-p : goal.overflow_add-p
-overflow_add-p c =
-    let lt = c.loop-i-test.true in
-    omega (arith, lt, c.requires.few, c.requires.small)
+    (refl, assigns_none tab c.args.k c.args.at c.args.n from old)
 
 pub overflow_mul-i : goal.overflow_mul-i
 overflow_mul-i c =
+    let lt = c.loop-i-test.true in
+    omega (arith, lt, c.requires.few, c.requires.small)
+
+pub overflow_add-at : goal.overflow_add-at
+overflow_add-at c =
+    let lt = c.loop-i-test.true in
+    omega (arith, lt, c.requires.few, c.requires.small)
+
+pub overflow_mul-i-in-loop-i : goal.overflow_mul-i-in-loop-i
+overflow_mul-i-in-loop-i c =
     let lt = c.loop-i-test.true in
     omega (arith, lt, c.requires.few, c.requires.small)
 
@@ -36,17 +36,7 @@ read_cell-v-requires c =
 pub store-requires : goal.store-requires
 store-requires c =
     let lt = c.loop-i-test.true in
-    assign_storable c.loop-i.i c.loop-i.cells c.requires lt c.loop-i.invariant.1
-
-pub overflow_add-i : goal.overflow_add-i
-overflow_add-i c =
-    let lt = c.loop-i-test.true in
-    omega (arith, lt, c.requires.few)
-
-pub loop-i-smaller : goal.loop-i-smaller
-loop-i-smaller c =
-    let lt = c.loop-i-test.true in
-    omega (arith, lt, c.requires.few)
+    assign_storable c.loop-i.i c.loop-i.cells c.requires lt c.loop-i.invariant.0
 
 pub loop-i-preserved : goal.loop-i-preserved
 loop-i-preserved c =
@@ -54,15 +44,15 @@ loop-i-preserved c =
     let tab = tab_of c.args.tab.now in
     let from = c.args.from.now in
     let old = c.args.cells.now in
-    (omega (arith, lt), c.store.auto.cells ∙ c.loop-i.invariant.1, assigns_turn tab c.args.k c.args.at c.args.n from old c.loop-i.i c.read_cell-v.result c.loop-i.cells _ lt c.loop-i.invariant.2 c.read_cell-v.ensures c.store.ensures)
+    (c.store.auto.cells ∙ c.loop-i.invariant.0, assigns_turn tab c.args.k c.args.at c.args.n from old c.loop-i.i c.read_cell-v.result c.loop-i.cells _ lt c.loop-i.invariant.1 c.read_cell-v.ensures c.store.ensures)
 
 pub shape_of-cells : goal.shape_of-cells
-shape_of-cells c = c.loop-i.invariant.1
+shape_of-cells c = c.loop-i.invariant.0
 
 pub returns : goal.returns
 returns c =
     let tab = tab_of c.args.tab.now in
     let from = c.args.from.now in
     let old = c.args.cells.now in
-    let e : c.loop-i.i ≡ c.args.n = omega (arith, c.loop-i.invariant.0, c.loop-i-test.false) in
-    subst (λ (j : ℕ). Assigns tab c.args.k c.args.at c.args.n j from old c.loop-i.cells) e c.loop-i.invariant.2
+    let e : c.loop-i.i ≡ c.args.n = omega arith in
+    subst (λ (j : ℕ). Assigns tab c.args.k c.args.at c.args.n j from old c.loop-i.cells) e c.loop-i.invariant.1

@@ -1,12 +1,8 @@
 use mathlib.Core.Path.{◌≡◌}
-use Prim.Native.Nat.{◌-◌, ◌≤◌}
 use lib.ListN.{length}
 use Rattle.ol_frame.specs.Stores.{Assigns}
 use Rattle.ol_tables.specs.Table.{tab_of}
 use Rattle.ol_frame.proofs.copies.assign.Given as goal
 
 abbrev pub invariant-loop-i : goal.invariant-loop-i
-invariant-loop-i l = (l.i ≤ l.n) × (length l.cells ≡ length l.initial.cells) × Assigns (tab_of l.tab) l.k l.at l.n l.i l.from l.initial.cells l.cells
-
-abbrev pub decreases-loop-i : goal.decreases-loop-i
-decreases-loop-i l = l.n - l.i
+invariant-loop-i l = (length l.cells ≡ length l.initial.cells) × Assigns (tab_of l.tab) l.k l.at l.n l.i l.from l.initial.cells l.cells

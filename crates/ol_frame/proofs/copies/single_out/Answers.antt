@@ -8,15 +8,15 @@ pub read_cell-requires : goal.read_cell-requires
 read_cell-requires c =
     c.requires
 
-pub returns-then-outputs-eq1 : goal.returns-then-outputs-eq1
-returns-then-outputs-eq1 c =
+pub returns-in-Values : goal.returns-in-Values
+returns-in-Values c =
     let cells = c.args.cells.now in
     λ os h. one_output os c.args.end c.read_cell.result cells c.in-Values.is c.read_cell.ensures (subst (λ (n : ℕ). Leaves os c.args.end n cells) c.if-outputs-eq1.true h)
 
-pub returns-else-outputs-eq1 : goal.returns-else-outputs-eq1
-returns-else-outputs-eq1 c =
+pub returns-in-Values-2 : goal.returns-in-Values-2
+returns-in-Values-2 c =
     let cells = c.args.cells.now in
-    λ os h. other_outputs os c.args.end c.args.outputs cells c.in-Values.is c.if-outputs-eq1.false h
+    λ os h. other_outputs os c.args.end c.args.outputs cells c.in-Values-2.is c.if-outputs-eq1.false h
 
 pub returns-in-Failed : goal.returns-in-Failed
 returns-in-Failed c =

@@ -6,4 +6,4 @@ pub returns : goal.returns
 returns c =
     let t = tab_of c.args.tab.now in
     let x = c.assign.new.cells in
-    (bound_in t c.args.frame.now x c.number-k.result c.args.at c.requires.0 c.number-k.ensures.0 c.assign.auto.cells c.args.n c.args.from.now c.assign.ensures, keeps_put t c.args.frame.now x c.number-k.result c.args.at c.requires.0 c.number-k.ensures.0 c.assign.auto.cells)
+    (bound_in t c.args.frame.now x c.from-k.result c.args.at c.requires.0 c.from-k.ensures c.assign.auto.cells c.args.n c.args.from.now c.assign.ensures, keeps_put t c.args.frame.now x c.from-k.result c.args.at c.requires.0 c.from-k.ensures c.assign.auto.cells)

@@ -6,4 +6,4 @@ pub returns : goal.returns
 returns c =
     let t = tab_of c.args.tab.now in
     let x = c.store_out.new.cells in
-    (c.store_out.ensures.0, stored_in t c.args.frame.now x c.number-k.result c.args.at c.requires.0 c.number-k.ensures.0 c.store_out.auto.cells c.args.o c.store_out.ensures.1, keeps_put t c.args.frame.now x c.number-k.result c.args.at c.requires.0 c.number-k.ensures.0 c.store_out.auto.cells)
+    (c.store_out.ensures.0, stored_in t c.args.frame.now x c.from-k.result c.args.at c.requires.0 c.from-k.ensures c.store_out.auto.cells c.args.o c.store_out.ensures.1, keeps_put t c.args.frame.now x c.from-k.result c.args.at c.requires.0 c.from-k.ensures c.store_out.auto.cells)

@@ -73,8 +73,8 @@ real_kind-bounds-file-p t c =
     let h = plan_head f p in
     omega (arith, (binary_form f L a h c.in-6.is).1.inside)
 
-pub real_kind-overflow_sub-level-then-op-lt14 : goal.real_kind-overflow_sub-level-then-op-lt14
-real_kind-overflow_sub-level-then-op-lt14 t c =
+pub real_kind-overflow_sub-level-in-10-to-13 : goal.real_kind-overflow_sub-level-in-10-to-13
+real_kind-overflow_sub-level-in-10-to-13 t c =
     let f = c.args.file.now in
     let L = c.args.level in
     let a = c.args.at in
@@ -209,7 +209,7 @@ pub real_kind-call_kind-requires : goal.real_kind-call_kind-requires
 real_kind-call_kind-requires t c =
     let f = c.args.file.now in
     let p = c.requires.1 in
-    (p.program, omega (arith, c.number-k.ensures.0, (plan_call f p c.in-11.is).lower, p.node≤))
+    (p.program, omega (arith, c.from.ensures, (plan_call f p c.in-11.is).lower, p.node≤))
 
 pub real_kind-returns-in-2 : goal.real_kind-returns-in-2
 real_kind-returns-in-2 t c =
@@ -259,8 +259,8 @@ real_kind-returns-in-5 t c =
     let sc = scope_in f n false cl cl in
     c.real_kind.ensures ∙ ap (λ (e : Expr). real_kind g sc e) (sym (unary_form f L a h c.in-5.is).1.tree)
 
-pub real_kind-returns-then-op-lt10 : goal.real_kind-returns-then-op-lt10
-real_kind-returns-then-op-lt10 t c =
+pub real_kind-returns-in-10-to-13 : goal.real_kind-returns-in-10-to-13
+real_kind-returns-in-10-to-13 t c =
     let f = c.args.file.now in
     let T = c.args.tab.now in
     let kk = consts_of T in
@@ -273,10 +273,10 @@ real_kind-returns-then-op-lt10 t c =
     let h = plan_head f p in
     let g = globals_in f kk in
     let sc = scope_in f n false cl cl in
-    sym (plain_code (get_or f (a + 1) 0) (binary_form f L a h c.in-6.is).0 _ (binary_form f L a h c.in-6.is).2 c.if-op-lt10.true) ∙ ap (λ (e : Expr). real_kind g sc e) (sym (binary_form f L a h c.in-6.is).1.tree)
+    c.real_kinds.ensures ∙ sym (arithmetic_code (get_or f (a + 1) 0) (binary_form f L a h c.in-6.is).0 _ (binary_form f L a h c.in-6.is).2 (λ l. omega arith) (omega arith)) ∙ ap (λ (e : Expr). real_kind g sc e) (sym (binary_form f L a h c.in-6.is).1.tree)
 
-pub real_kind-returns-then-op-lt14 : goal.real_kind-returns-then-op-lt14
-real_kind-returns-then-op-lt14 t c =
+pub real_kind-returns-in_default-file : goal.real_kind-returns-in_default-file
+real_kind-returns-in_default-file t c =
     let f = c.args.file.now in
     let T = c.args.tab.now in
     let kk = consts_of T in
@@ -289,10 +289,10 @@ real_kind-returns-then-op-lt14 t c =
     let h = plan_head f p in
     let g = globals_in f kk in
     let sc = scope_in f n false cl cl in
-    c.real_kinds.ensures ∙ sym (arithmetic_code (get_or f (a + 1) 0) (binary_form f L a h c.in-6.is).0 _ (binary_form f L a h c.in-6.is).2 (λ l. omega (arith, c.if-op-lt10.false)) c.if-op-lt14.true) ∙ ap (λ (e : Expr). real_kind g sc e) (sym (binary_form f L a h c.in-6.is).1.tree)
+    sym (plain_code (get_or f (a + 1) 0) (binary_form f L a h c.in-6.is).0 _ (binary_form f L a h c.in-6.is).2 (omega arith)) ∙ ap (λ (e : Expr). real_kind g sc e) (sym (binary_form f L a h c.in-6.is).1.tree)
 
-pub real_kind-returns-else-op-lt14 : goal.real_kind-returns-else-op-lt14
-real_kind-returns-else-op-lt14 t c =
+pub real_kind-returns-in_default-file-2 : goal.real_kind-returns-in_default-file-2
+real_kind-returns-in_default-file-2 t c =
     let f = c.args.file.now in
     let T = c.args.tab.now in
     let kk = consts_of T in
@@ -305,7 +305,7 @@ real_kind-returns-else-op-lt14 t c =
     let h = plan_head f p in
     let g = globals_in f kk in
     let sc = scope_in f n false cl cl in
-    sym (bits_code (get_or f (a + 1) 0) (binary_form f L a h c.in-6.is).0 _ (binary_form f L a h c.in-6.is).2 (λ l. omega (arith, c.if-op-lt14.false))) ∙ ap (λ (e : Expr). real_kind g sc e) (sym (binary_form f L a h c.in-6.is).1.tree)
+    sym (bits_code (get_or f (a + 1) 0) (binary_form f L a h c.in-6.is).0 _ (binary_form f L a h c.in-6.is).2 (λ l. omega arith)) ∙ ap (λ (e : Expr). real_kind g sc e) (sym (binary_form f L a h c.in-6.is).1.tree)
 
 pub real_kind-returns-in-7 : goal.real_kind-returns-in-7
 real_kind-returns-in-7 t c =
@@ -386,7 +386,7 @@ real_kind-returns-in-11 t c =
     let h = plan_head f p in
     let g = globals_in f kk in
     let sc = scope_in f n false cl cl in
-    (rw c.number-k.ensures.0 at c.call_kind.ensures) ∙ ap (λ (e : Expr). real_kind g sc e) (sym (call_form f L a h c.in-11.is).0.tree)
+    (rw c.from.ensures at c.call_kind.ensures) ∙ ap (λ (e : Expr). real_kind g sc e) (sym (call_form f L a h c.in-11.is).0.tree)
 
 pub real_kind-returns-in_default : goal.real_kind-returns-in_default
 real_kind-returns-in_default t c =

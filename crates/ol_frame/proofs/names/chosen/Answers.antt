@@ -9,13 +9,13 @@ use Rattle.ol_tables.specs.Table.{consts_of}
 use Rattle.ol_frame.specs.Frame.{node_of, cells_of}
 use Rattle.ol_frame.proofs.names.chosen.Goals as goal
 
-pub real_kind-k-requires : goal.real_kind-k-requires
-real_kind-k-requires c =
+pub real_kind-requires : goal.real_kind-requires
+real_kind-requires c =
     c.requires
 
 pub returns-then-is_single : goal.returns-then-is_single
 returns-then-is_single c =
-    c.common_out.ensures ∙ ap (λ (k : RealKind). common_out (is_double? k) c.args.taken) c.real_kind-k.ensures
+    c.common_out.ensures ∙ ap (λ (k : RealKind). common_out (is_double? k) c.args.taken) c.real_kind.ensures
 
 pub returns-else-is_single : goal.returns-else-is_single
 returns-else-is_single c =

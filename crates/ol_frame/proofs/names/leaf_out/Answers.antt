@@ -1,5 +1,10 @@
 use mathlib.Core.Path.{sym, ap, ◌∙◌}
-use Prim.Native.Nat.{ℕ, ◌+◌}
+use Prim.Native.Nat.{ℕ, ◌+◌, ◌<◌, ◌^◌}
+use lib.Signed.{mag}
+use mir.Syntax.{w64}
+use mir.Facts.{to_z-of_z}
+use borrow.Author.Rules.{sfits_of}
+use Rattle.ol_spec.specs.declared.Value.TheVariants as Val
 use native.Mathlib.Omega.{arith}
 use lib.ListN.{get_or, take, drop}
 use Rattle.ol_spec.specs.Syntax.{Expr}
@@ -156,7 +161,8 @@ returns-in-3 c =
     let a = c.args.at in
     let p = c.requires.1 in
     let h = plan_head f p in
-    λ seg. ap Out.Value c.char_of.ensures ∙ ap (λ (e : Expr). (eval_in f k n F cl b e seg).out) (sym (char_form f L a h c.in-3.is).tree)
+    let fit : mag c.from.result < 2 ^ 63 = rw c.from.ensures (omega (arith, c.type_inv.file (a + 1))) in
+    λ seg. ap (λ x. Out.Value (Val.Int x)) (to_z-of_z {w = w64} (sfits_of fit) ∙ c.from.ensures) ∙ ap (λ (e : Expr). (eval_in f k n F cl b e seg).out) (sym (char_form f L a h c.in-3.is).tree)
 
 pub returns-in-4 : goal.returns-in-4
 unfolding eval

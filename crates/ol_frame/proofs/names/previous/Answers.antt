@@ -1,7 +1,8 @@
-use mathlib.Core.Path.{◌≡◌, sym, ap, ◌∙◌}
+use mathlib.Core.Path.{◌≡◌, refl, sym, ap, ◌∙◌}
 use mathlib.Core.Bool.{Bool}
 use mathlib.Core.Option.{none, some}
-use Prim.Native.Nat.{◌+◌, ◌-◌, ◌*◌}
+use lib.ListN.{take, drop}
+use Prim.Native.Nat.{ℕ, ◌+◌, ◌<◌, ◌*◌}
 use Rattle.ol_spec.specs.Cell.{value_of}
 use Rattle.ol_frame.proofs.Tabling.{before_cell, before_room, const_cell, const_room}
 use native.Mathlib.Omega.{arith}
@@ -13,6 +14,7 @@ use Rattle.ol_tables.proofs.Forms.{reads_in, var_form}
 use Rattle.ol_frame.specs.Plans.{globals_in, scope_in}
 use Rattle.ol_frame.proofs.Naming.{slot_cell, known_cell, was_variable, was_constant, was_variant, is_name, no_name, pre_is, pre_none}
 use Rattle.ol_tables.specs.Table.{tab_of, consts_of}
+use Rattle.ol_tables.specs.Tables.{slot_at}
 use Rattle.ol_frame.specs.Frame.{node_of, first_of, before_of}
 use Rattle.ol_frame.proofs.names.previous.Goals as goal
 
@@ -47,12 +49,12 @@ overflow_add-at c =
     let f = c.args.file.now in
     let a = c.args.at in
     let p = c.requires.1 in
-    omega (arith, (var_form f c.args.level a p.reads c.if-file-at-eq4.true).inside, c.well_formed)
+    omega (arith, (var_form f c.args.level a p.reads c.if-file-at-ne4.false).inside, c.well_formed)
 
-pub slot_at-s-requires : goal.slot_at-s-requires
-slot_at-s-requires c =
+pub slot_at-requires : goal.slot_at-requires
+slot_at-requires c =
     let p = c.requires.1 in
-    omega (arith, (p.named c.if-file-at-eq4.true).long, (p.named c.if-file-at-eq4.true).inside)
+    omega (arith, (p.named c.if-file-at-ne4.false).long, (p.named c.if-file-at-ne4.false).inside)
 
 pub read_cell-requires : goal.read_cell-requires
 read_cell-requires c =
@@ -65,12 +67,13 @@ read_cell-requires c =
     let n = node_of fr in
     let a = c.args.at in
     let p = c.requires.1 in
-    let s = c.slot_at-s.result in
-    let e = c.slot_at-s.ensures in
-    before_room fr (s * 9) (slot_cell f t k n (a + 1) ((p.named c.if-file-at-eq4.true)) s e b c.requires.2 c.if-s-lt112.true)
+    let s = c.in-Variable.s in
+    let e = c.in-Variable.ensures.0 in
+    let l : s < 112 = omega (arith, c.in-Variable.ensures.0, c.in-Variable.ensures.1) in
+    before_room fr (s * 9) (slot_cell f t k n (a + 1) ((p.named c.if-file-at-ne4.false)) s e b c.requires.2 l)
 
-pub read_cell-requires-then-s-lt255 : goal.read_cell-requires-then-s-lt255
-read_cell-requires-then-s-lt255 c =
+pub read_cell-requires-in-Constant : goal.read_cell-requires-in-Constant
+read_cell-requires-in-Constant c =
     let f = c.args.file.now in
     let T = c.args.tab.now in
     let t = tab_of T in
@@ -79,30 +82,12 @@ read_cell-requires-then-s-lt255 c =
     let n = node_of fr in
     let a = c.args.at in
     let p = c.requires.1 in
-    let s = c.slot_at-s.result in
-    let e = c.slot_at-s.ensures in
-    const_room T ((s - 112) * 9) (known_cell f t k n (a + 1) ((p.named c.if-file-at-eq4.true)) s e (λ l. omega (arith, c.if-s-lt112.false)) c.if-s-lt255.true)
+    let s = slot_at t (a + 1) in
+    let i = c.in-Constant.i in
+    const_room T (i * 9) (rw c.in-Constant.ensures.0 (known_cell f t k n (a + 1) ((p.named c.if-file-at-ne4.false)) s refl (λ l. omega (arith, c.in-Constant.ensures.1)) c.in-Constant.ensures.2))
 
-pub returns-then-s-lt112 : goal.returns-then-s-lt112
-returns-then-s-lt112 c =
-    let f = c.args.file.now in
-    let T = c.args.tab.now in
-    let t = tab_of T in
-    let k = consts_of T in
-    let fr = c.args.frame.now in
-    let b = before_of fr in
-    let n = node_of fr in
-    let a = c.args.at in
-    let F = first_of fr in
-    let p = c.requires.1 in
-    let s = c.slot_at-s.result in
-    let e = c.slot_at-s.ensures in
-    let g = globals_in f k in
-    let cl = scope_in f n F b b in
-    ap Out.Value (c.read_cell.ensures ∙ ap value_of (before_cell fr (s * 9))) ∙ sym (pre_is g cl F (expr_at f c.args.level a) _ (some _) ((sym c.is_first.ensures ∙ c.if-is_first.false)) ((is_name f c.args.level a p.reads c.if-file-at-eq4.true)) (was_variable f t k n (a + 1) ((p.named c.if-file-at-eq4.true)) s e F b b c.if-s-lt112.true))
-
-pub returns-then-s-lt255 : goal.returns-then-s-lt255
-returns-then-s-lt255 c =
+pub returns-in-Variable : goal.returns-in-Variable
+returns-in-Variable c =
     let f = c.args.file.now in
     let T = c.args.tab.now in
     let t = tab_of T in
@@ -113,14 +98,15 @@ returns-then-s-lt255 c =
     let a = c.args.at in
     let F = first_of fr in
     let p = c.requires.1 in
-    let s = c.slot_at-s.result in
-    let e = c.slot_at-s.ensures in
+    let s = c.in-Variable.s in
+    let e = c.in-Variable.ensures.0 in
+    let l : s < 112 = omega (arith, c.in-Variable.ensures.0, c.in-Variable.ensures.1) in
     let g = globals_in f k in
     let cl = scope_in f n F b b in
-    ap Out.Value (c.read_cell-then-s-lt255.ensures ∙ ap value_of (const_cell T ((s - 112) * 9) (known_cell f t k n (a + 1) ((p.named c.if-file-at-eq4.true)) s e (λ l. omega (arith, c.if-s-lt112.false)) c.if-s-lt255.true))) ∙ sym (pre_is g cl F (expr_at f c.args.level a) _ (some _) ((sym c.is_first.ensures ∙ c.if-is_first.false)) ((is_name f c.args.level a p.reads c.if-file-at-eq4.true)) (was_constant f t k n (a + 1) ((p.named c.if-file-at-eq4.true)) s e F b b (λ l. omega (arith, c.if-s-lt112.false)) c.if-s-lt255.true))
+    ap Out.Value (c.read_cell.ensures ∙ ap value_of (before_cell fr (s * 9))) ∙ sym (pre_is g cl F (expr_at f c.args.level a) _ (some _) ((sym c.is_first.ensures ∙ c.if-is_first.false)) ((is_name f c.args.level a p.reads c.if-file-at-ne4.false)) (was_variable f t k n (a + 1) ((p.named c.if-file-at-ne4.false)) s e F b b l))
 
-pub returns-else-s-lt255 : goal.returns-else-s-lt255
-returns-else-s-lt255 c =
+pub returns-in-Constant : goal.returns-in-Constant
+returns-in-Constant c =
     let f = c.args.file.now in
     let T = c.args.tab.now in
     let t = tab_of T in
@@ -131,14 +117,31 @@ returns-else-s-lt255 c =
     let a = c.args.at in
     let F = first_of fr in
     let p = c.requires.1 in
-    let s = c.slot_at-s.result in
-    let e = c.slot_at-s.ensures in
+    let s = slot_at t (a + 1) in
+    let i = c.in-Constant.i in
     let g = globals_in f k in
     let cl = scope_in f n F b b in
-    sym (pre_is g cl F (expr_at f c.args.level a) _ none ((sym c.is_first.ensures ∙ c.if-is_first.false)) ((is_name f c.args.level a p.reads c.if-file-at-eq4.true)) (was_variant f t k n (a + 1) ((p.named c.if-file-at-eq4.true)) s e F b b (λ l. omega (arith, c.if-s-lt255.false))))
+    ap Out.Value (c.read_cell-in-Constant.ensures ∙ ap value_of (const_cell T (i * 9) (rw c.in-Constant.ensures.0 (known_cell f t k n (a + 1) ((p.named c.if-file-at-ne4.false)) s refl (λ l. omega (arith, c.in-Constant.ensures.1)) c.in-Constant.ensures.2))) ∙ ap (λ (j : ℕ). value_of (take 9 (drop (j * 9) k))) c.in-Constant.ensures.0) ∙ sym (pre_is g cl F (expr_at f c.args.level a) _ (some _) ((sym c.is_first.ensures ∙ c.if-is_first.false)) ((is_name f c.args.level a p.reads c.if-file-at-ne4.false)) (was_constant f t k n (a + 1) ((p.named c.if-file-at-ne4.false)) s refl F b b (λ l. omega (arith, c.in-Constant.ensures.1)) c.in-Constant.ensures.2))
 
-pub returns-else-file-at-eq4 : goal.returns-else-file-at-eq4
-returns-else-file-at-eq4 c =
+pub returns-in-Other : goal.returns-in-Other
+returns-in-Other c =
+    let f = c.args.file.now in
+    let T = c.args.tab.now in
+    let t = tab_of T in
+    let k = consts_of T in
+    let fr = c.args.frame.now in
+    let b = before_of fr in
+    let n = node_of fr in
+    let a = c.args.at in
+    let F = first_of fr in
+    let p = c.requires.1 in
+    let s = slot_at t (a + 1) in
+    let g = globals_in f k in
+    let cl = scope_in f n F b b in
+    sym (pre_is g cl F (expr_at f c.args.level a) _ none ((sym c.is_first.ensures ∙ c.if-is_first.false)) ((is_name f c.args.level a p.reads c.if-file-at-ne4.false)) (was_variant f t k n (a + 1) ((p.named c.if-file-at-ne4.false)) s refl F b b (λ l. omega (arith, c.in-Other.ensures))))
+
+pub returns-then-file-at-ne4 : goal.returns-then-file-at-ne4
+returns-then-file-at-ne4 c =
     let f = c.args.file.now in
     let T = c.args.tab.now in
     let k = consts_of T in
@@ -150,4 +153,4 @@ returns-else-file-at-eq4 c =
     let p = c.requires.1 in
     let g = globals_in f k in
     let cl = scope_in f n F b b in
-    sym (pre_none g cl F (expr_at f c.args.level a) ((sym c.is_first.ensures ∙ c.if-is_first.false)) (no_name f c.args.level a p.reads c.if-file-at-eq4.false))
+    sym (pre_none g cl F (expr_at f c.args.level a) ((sym c.is_first.ensures ∙ c.if-is_first.false)) (no_name f c.args.level a p.reads c.if-file-at-ne4.true))

@@ -1,9 +1,8 @@
 use mathlib.Core.Path.{ap, ◌∙◌}
-use Prim.Native.Nat.{◌+◌, ◌*◌}
 use Rattle.ol_spec.specs.declared.Value.TheVariants as Val
 use Rattle.ol_frame.proofs.Naming.{name_bytes_lem}
 use Rattle.ol_frame.proofs.names.variant.Goals as goal
 
 pub returns : goal.returns
 returns c =
-    ap Val.Enum ((λ i. c.wide-a.ensures.0 i * 256 + c.wide-b.ensures.0 i) ∙ name_bytes_lem c.args.file.now c.args.at c.requires)
+    ap Val.Enum (c.from_be_bytes.ensures ∙ name_bytes_lem c.args.file.now c.args.at c.requires)

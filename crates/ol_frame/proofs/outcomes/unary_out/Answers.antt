@@ -1,12 +1,7 @@
-use mathlib.Core.Path.{sym, ap, ◌∙◌}
-use Rattle.ol_spec.specs.Eval.{then_out}
+use Rattle.std.proofs.Common.{rules}
 use Rattle.ol_value.specs.Codes.{unary_by}
+use Rattle.ol_frame.proofs.Endings.{then_is}
 use Rattle.ol_frame.proofs.outcomes.unary_out.Goals as goal
 
-pub returns-in-Value : goal.returns-in-Value
-returns-in-Value c =
-    c.eval_unary.ensures ∙ ap (then_out (unary_by c.args.op)) (sym c.in-Value.is)
-
-pub returns-in-Failure : goal.returns-in-Failure
-returns-in-Failure c =
-    ap (then_out (unary_by c.args.op)) (sym c.in-Failure.is)
+pub returns : goal.returns
+returns c = then_is _ (unary_by c.args.op) c.args.o c.and_then.result (λ v x h. search rules) c.and_then.ensures

@@ -14,4 +14,4 @@ pub returns-then-file-at-lt5 : goal.returns-then-file-at-lt5
 returns-then-file-at-lt5 c =
     let f = c.args.file.now in
     let p = c.requires.0 in
-    head_passed f p (omega (arith, c.if-file-at-lt5.true)) c.head-h.ensures
+    head_passed f p (omega (arith, c.if-file-at-lt5.true)) c.head.ensures

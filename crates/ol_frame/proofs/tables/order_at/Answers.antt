@@ -5,8 +5,8 @@ use lib.ListN.{get_or, length-drop}
 use Rattle.ol_frame.proofs.Tabling.{tab_byte}
 use Rattle.ol_frame.proofs.tables.order_at.Goals as goal
 
-pub bounds-tab-p : goal.bounds-tab-p
-bounds-tab-p c =
+pub bounds-tab-k : goal.bounds-tab-k
+bounds-tab-k c =
     let t = c.args.tab.now in
     omega (arith, length-drop 1393 t, c.requires.0, c.requires.1, c.requires.2)
 
@@ -15,4 +15,4 @@ returns c =
     let t = c.args.tab.now in
     let i = c.args.k * 80 + c.args.j in
     let e : 1393 + c.args.k * 80 + c.args.j ≡ 1393 + i = omega arith in
-    (c.number.ensures.0 ∙ ap (λ (n : ℕ). get_or t n 0) e ∙ tab_byte t i, c.number.ensures.1)
+    (c.from.ensures ∙ ap (λ (n : ℕ). get_or t n 0) e ∙ tab_byte t i, omega arith)

@@ -14,12 +14,12 @@ bounds-tab-a c =
     let t = c.args.tab.now in
     omega (arith, (length-drop 1393 t), c.requires.0, c.requires.1)
 
-pub bounds-tab-b : goal.bounds-tab-b
-bounds-tab-b c =
+pub bounds-tab-a-2 : goal.bounds-tab-a-2
+bounds-tab-a-2 c =
     let t = c.args.tab.now in
     omega (arith, (length-drop 1393 t), c.requires.0, c.requires.1)
 
 pub returns : goal.returns
 returns c =
     let t = c.args.tab.now in
-    (omega (arith, (types_from_lem t c.args.k (c.number.result * 256 + c.number-2.result) (omega (arith, c.number.ensures.0, c.number-2.ensures.0)))), omega (arith, c.number.ensures.1, c.number-2.ensures.1))
+    (omega (arith, (types_from_lem t c.args.k (c.from.result * 256 + c.from-2.result) (omega (arith, c.from.ensures, c.from-2.ensures)))), omega (arith, c.from.ensures, c.from-2.ensures))

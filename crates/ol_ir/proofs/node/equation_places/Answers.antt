@@ -1,28 +1,15 @@
--- `ol_ir::node::equation_places` meets its contract.
-use mathlib.Core.Path.{refl, ◌∙◌}
+use mathlib.Core.Path.{ap}
 use native.Mathlib.Omega.{arith}
+use lib.Seq.{sets}
+use Rattle.ol_ir.specs.Walks.{equation_places}
 use Rattle.ol_ir.proofs.Skips.{places_turn, places_end}
 use Rattle.ol_ir.proofs.node.equation_places.Goals as goal
 
-pub loop-left-init : goal.loop-left-init
-loop-left-init c = (omega arith, refl, refl)
+pub loop-i-init : goal.loop-i-init
+loop-i-init c = ap (λ n. sets c.args.starts.now 0 (equation_places n c.args.file.now c.args.at)) (omega arith)
 
-pub overflow_sub-left : goal.overflow_sub-left
-overflow_sub-left c = omega (arith, c.loop-left.invariant.0)
-
-pub overflow_add-i : goal.overflow_add-i
-overflow_add-i c = omega (arith, c.loop-left.invariant.0)
-
-pub loop-left-smaller : goal.loop-left-smaller
-loop-left-smaller c = omega (arith, c.loop-left.invariant.0)
-
-pub loop-left-preserved : goal.loop-left-preserved
-loop-left-preserved c =
-    (omega (arith, c.loop-left.invariant.0), c.keep.auto.table ∙ c.loop-left.invariant.1, places_turn c.args.file.now _ _ _ _ _ _ _ c.loop-left.invariant.2 c.loop-left-test.true c.skip_equation-next.ensures c.keep.ensures)
-
-pub shape_of-starts : goal.shape_of-starts
-shape_of-starts c = c.loop-left.invariant.1
+pub loop-i-preserved : goal.loop-i-preserved
+loop-i-preserved c = places_turn c.args.file.now _ _ _ _ _ _ _ _ c.loop-i.invariant (omega arith) c.skip_equation-next.ensures c.put.ensures
 
 pub returns : goal.returns
-returns c =
-    places_end c.args.file.now _ _ _ _ _ c.loop-left.invariant.2 c.loop-left-test.false
+returns c = places_end c.args.file.now _ _ _ _ _ c.loop-i.invariant (omega arith)

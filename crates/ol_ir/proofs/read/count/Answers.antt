@@ -1,30 +1,28 @@
--- `ol_ir::read::count` meets its contract.
+use Prim.Native.Nat.{◌+◌}
 use mathlib.Core.Path.{◌∙◌, sym, ap}
 use native.Mathlib.Omega.{arith}
-use Rattle.ol_ir.specs.Nexts.{counted_of}
+use Rattle.std.specs.Prelude.{Ok, Err}
+use Rattle.ol_ir.specs.Nexts.{counted_at, counted_of}
 use Rattle.ol_ir.proofs.Bytes.{count_is, count_low, count_high, count_end}
+use Rattle.ol_ir.proofs.Onward.{erred}
 use Rattle.ol_ir.proofs.read.count.Goals as goal
+use Rattle.ol_ir.proofs.read.count.Goals.{else-lo-n-via-then-lo-n+else-n-hi, else-lo-n-via-else-lo-n}
 
-pub overflow_cast-n : goal.overflow_cast-n
-overflow_cast-n c =
-    omega (arith, c.type_inv.file c.args.at)
-
-pub returns-then-n-lo : goal.returns-then-n-lo
+pub returns-in_err-n : goal.returns-in_err-n
 unfolding counted_of
-returns-then-n-lo c =
-    c.uncounted.ensures ∙ sym (ap counted_of (count_low _ c.args.at c.args.lo c.args.hi c.if-at-file.true c.if-n-lo.true))
+returns-in_err-n c = erred _ _ c.from_residual.ensures.1 ∙ (ap Err c.in_err-n.ensures.1 ∙ sym (ap counted_of (count_end _ c.args.at c.args.lo c.args.hi c.in_err-n.ensures.0)))
 
-pub returns-then-hi-n : goal.returns-then-hi-n
+pub returns-then-n-hi : goal.returns-then-n-hi
 unfolding counted_of
-returns-then-hi-n c =
-    c.uncounted-then-hi-n.ensures ∙ sym (ap counted_of (count_high _ c.args.at c.args.lo c.args.hi c.if-at-file.true c.if-n-lo.false c.if-hi-n.true))
+returns-then-n-hi c =
+    let b = c.in_ok-n.ensures in
+    ap (λ n. Ok (counted_at n (c.args.at + 1))) b.1 ∙ sym (ap counted_of (count_is _ c.args.at c.args.lo c.args.hi b.0 (omega (arith, b.1)) (omega (arith, b.1))))
 
-pub returns-else-hi-n : goal.returns-else-hi-n
+pub returns-else-lo-n : goal.returns-else-lo-n
 unfolding counted_of
-returns-else-hi-n c =
-    sym (ap counted_of (count_is _ c.args.at c.args.lo c.args.hi c.if-at-file.true c.if-n-lo.false c.if-hi-n.false))
-
-pub returns-else-at-file : goal.returns-else-at-file
-unfolding counted_of
-returns-else-at-file c =
-    c.uncounted-else-at-file.ensures ∙ sym (ap counted_of (count_end _ c.args.at c.args.lo c.args.hi c.if-at-file.false))
+returns-else-lo-n c =
+    let b = c.in_ok-n.ensures in
+    elim c.else-lo-n.branch [
+      | else-lo-n-via-then-lo-n+else-n-hi w ↦ c.refused.ensures ∙ sym (ap counted_of (count_high _ c.args.at c.args.lo c.args.hi b.0 (omega (arith, b.1)) (omega (arith, b.1))))
+      | else-lo-n-via-else-lo-n w ↦ c.refused.ensures ∙ sym (ap counted_of (count_low _ c.args.at c.args.lo c.args.hi b.0 (omega (arith, b.1))))
+    ]

@@ -1,21 +1,18 @@
--- `ol_ir::types::ty` meets its contract.
-use mathlib.Core.Path.{◌∙◌}
+use mathlib.Core.Path.{ap, sym, ◌∙◌}
 use native.Mathlib.Omega.{arith}
+use Rattle.std.specs.Prelude.{Err}
+use Rattle.ol_ir.proofs.Onward.{erred}
 use Rattle.ol_ir.proofs.Forms.{ty_plain, ty_enum, ty_none, ty_end}
 use Rattle.ol_ir.proofs.types.ty.Goals as goal
 
-pub returns-then-t-lt12 : goal.returns-then-t-lt12
-returns-then-t-lt12 c =
-    λ l. ty_plain _ l c.args.enums _ c.if-at-file.true c.if-t-lt12.true
+pub returns-in_err-byte : goal.returns-in_err-byte
+returns-in_err-byte c = λ l. erred _ _ c.from_residual.ensures.1 ∙ (ap Err c.in_err-byte.ensures.1 ∙ ty_end _ l c.args.enums _ c.in_err-byte.ensures.0)
 
-pub returns-then-t-eq12 : goal.returns-then-t-eq12
-returns-then-t-eq12 c =
-    λ l. c.code.ensures ∙ ty_enum _ l c.args.enums _ c.if-at-file.true c.if-t-eq12.true
+pub returns-in-0-to-11 : goal.returns-in-0-to-11
+returns-in-0-to-11 c = λ l. ty_plain _ l c.args.enums _ c.in_ok-byte.ensures.0 (omega (arith, c.in_ok-byte.ensures.1))
 
-pub returns-else-t-eq12 : goal.returns-else-t-eq12
-returns-else-t-eq12 c =
-    λ l. c.refused.ensures ∙ ty_none _ l c.args.enums _ c.if-at-file.true (omega arith)
+pub returns-in-12 : goal.returns-in-12
+returns-in-12 c = λ l. c.code.ensures ∙ ty_enum _ l c.args.enums _ c.in_ok-byte.ensures.0 (sym c.in_ok-byte.ensures.1 ∙ c.in-12.is)
 
-pub returns-else-at-file : goal.returns-else-at-file
-returns-else-at-file c =
-    λ l. c.refused-else-at-file.ensures ∙ ty_end _ l c.args.enums _ c.if-at-file.false
+pub returns-in_default : goal.returns-in_default
+returns-in_default c = λ l. c.refused.ensures ∙ ty_none _ l c.args.enums _ c.in_ok-byte.ensures.0 (omega (arith, c.in_ok-byte.ensures.1))

@@ -6,24 +6,25 @@ use Rattle.ol_order.proofs.counts.equation_count.Goals as goal
 
 pub offset_bounds-nodes-node : goal.offset_bounds-nodes-node
 offset_bounds-nodes-node c =
-    omega (arith, (nodes_few c.args.file.now c.load_file.ensures.read c.args.node [] c.in-Nodes.is), c.if-node-n.true)
+    omega (arith, nodes_few c.args.file.now c.load_file.ensures.read c.args.node [] c.in-Ok.is, c.if-node-loaded.true)
 
 pub bounds-nodes-node : goal.bounds-nodes-node
 bounds-nodes-node c =
-    omega (arith, (nodes_few c.args.file.now c.load_file.ensures.read c.args.node [] c.in-Nodes.is), c.if-node-n.true)
+    omega (arith, nodes_few c.args.file.now c.load_file.ensures.read c.args.node [] c.in-Ok.is, c.if-node-loaded.true)
 
-pub returns-in-Items : goal.returns-in-Items
-returns-in-Items c =
-    count_present c.args.file.now c.load_file.ensures.read c.args.node [] c.in-Nodes.is c.load_file.ensures.places c.if-node-n.true c.base.result c.base.ensures c.equation_starts.ensures.many c.in-Items.is
+pub returns-in-Ok-equation_starts : goal.returns-in-Ok-equation_starts
+returns-in-Ok-equation_starts c =
+    count_present c.args.file.now c.load_file.ensures.read c.args.node [] c.in-Ok.is c.load_file.ensures.places c.if-node-loaded.true c.base.result c.base.ensures c.equation_starts.ensures.many c.in-Ok-equation_starts.is
 
-pub returns-in-Refused-equation_starts : goal.returns-in-Refused-equation_starts
-returns-in-Refused-equation_starts c =
-    not_counted c.args.file.now c.base.result _ _ (node_reads c.args.file.now c.load_file.ensures.read c.args.node [] c.in-Nodes.is c.load_file.ensures.places c.if-node-n.true c.base.result c.base.ensures) (starts_told c.args.file.now c.base.result _ _ _ _ (node_reads c.args.file.now c.load_file.ensures.read c.args.node [] c.in-Nodes.is c.load_file.ensures.places c.if-node-n.true c.base.result c.base.ensures).is c.equation_starts.ensures.many) c.in-Refused-equation_starts.is
+pub returns-in-Err-equation_starts : goal.returns-in-Err-equation_starts
+returns-in-Err-equation_starts c =
+    let nr = node_reads c.args.file.now c.load_file.ensures.read c.args.node [] c.in-Ok.is c.load_file.ensures.places c.if-node-loaded.true c.base.result c.base.ensures in
+    not_counted c.args.file.now c.base.result _ _ nr (starts_told c.args.file.now c.base.result _ _ _ _ nr.is c.equation_starts.ensures.many) c.in-Err-equation_starts.is
 
-pub returns-else-node-n : goal.returns-else-node-n
-returns-else-node-n c =
-    count_absent c.args.file.now c.load_file.ensures.read c.args.node [] c.in-Nodes.is c.if-node-n.false
+pub returns-else-node-loaded : goal.returns-else-node-loaded
+returns-else-node-loaded c =
+    count_absent c.args.file.now c.load_file.ensures.read c.args.node [] c.in-Ok.is c.if-node-loaded.false
 
-pub returns-in-Refused : goal.returns-in-Refused
-returns-in-Refused c =
-    count_refused c.args.file.now c.load_file.ensures.read c.args.node [] c.in-Refused.is
+pub returns-in-Err : goal.returns-in-Err
+returns-in-Err c =
+    count_refused c.args.file.now c.load_file.ensures.read c.args.node [] c.in-Err.is

@@ -2,6 +2,6 @@ use native.Mathlib.Omega.{arith}
 use Rattle.ol_order.proofs.Room.{short_file}
 use Rattle.ol_order.proofs.table.+orders_long.Goals as goal
 
-pub orders_with-requires-clause-file_len_bound : goal.orders_with-requires-clause-file_len_bound
-orders_with-requires-clause-file_len_bound t c =
-    omega (arith, short_file c.args.file.now c.requires.nodes_stand.file c.requires.nodes_stand.end c.requires.nodes_stand.is)
+pub orders_sized-requires-clause-room : goal.orders_sized-requires-clause-room
+orders_sized-requires-clause-room t c =
+    omega (arith, short_file c.args.nodes.file.now c.requires.stand.file c.requires.stand.end c.requires.stand.is)

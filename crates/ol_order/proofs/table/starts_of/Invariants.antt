@@ -1,13 +1,8 @@
-use Prim.Native.Nat.{◌+◌, ◌-◌, ◌*◌, ◌≤◌}
+use Prim.Native.Nat.{ℕ, ◌+◌, ◌*◌, ◌<◌}
 use mathlib.Core.Path.{◌≡◌}
-use lib.ListN.{length}
-use lib.Seq.{sets}
-use Rattle.ol_order.specs.Orders.{starts_in}
+use lib.ListN.{get_or}
+use Rattle.ol_tables.specs.Tables.{two_at}
 use Rattle.ol_order.proofs.table.starts_of.Given as goal
 
 abbrev pub invariant-loop-i : goal.invariant-loop-i
-invariant-loop-i l =
-    (l.i ≤ l.n) × (length l.starts ≡ length l.initial.starts) × (sets l.starts l.i (starts_in l.tab (l.plan + 2 * l.i) (l.n - l.i)) ≡ sets l.initial.starts 0 (starts_in l.tab l.plan l.n))
-
-abbrev pub decreases-loop-i : goal.decreases-loop-i
-decreases-loop-i l = l.n - l.i
+invariant-loop-i l = (j : ℕ) → j < l.i → get_or l.starts j 0 ≡ two_at l.tab (l.plan + 2 * j)

@@ -4,21 +4,11 @@ use Prim.Native.Nat.{ℕ}
 use native.Mathlib.Omega.{arith}
 use lib.ListN.{length, length-set, replicate}
 use Rattle.ol_tables.specs.At.{end_at}
-use Rattle.ol_frame.specs.Outcomes.{done_of}
 use Rattle.ol_run.specs.Constants.{value_at}
 use Rattle.ol_frame.specs.Frame.{node_of, first_of}
 use Rattle.ol_frame.proofs.Framing.{holds_head}
-use Rattle.ol_run.proofs.Constant.{known_is, same_onward, cleared_same, cleared_ready, going_start, going_ready, going_written, going_stuck, going_turn, going_done}
+use Rattle.ol_run.proofs.Constant.{known_is, not_done, same_onward, cleared_same, cleared_ready, going_start, going_ready, going_written, going_stuck, going_turn, going_done}
 use Rattle.ol_run.proofs.constants.constant_values.Goals as goal
-
-pub bounds-tab-816 : goal.bounds-tab-816
-bounds-tab-816 c =
-    let p = c.requires in
-    omega (arith, p.long)
-
-pub shape_of-tab-then-count-eq0 : goal.shape_of-tab-then-count-eq0
-shape_of-tab-then-count-eq0 c =
-    length-set c.args.tab.now 816 0
 
 pub returns-then-count-eq0 : goal.returns-then-count-eq0
 returns-then-count-eq0 c =
@@ -34,19 +24,13 @@ set_frame-requires c =
 pub loop-i-init : goal.loop-i-init
 loop-i-init c =
     let p = c.requires in
-    (omega arith, going_start p)
+    going_start p
 
-pub overflow_mul-n : goal.overflow_mul-n
-overflow_mul-n c =
-    let p = c.requires in
-    let lt = c.loop-i-test.true in
-    omega (arith, lt, p.few)
-
-pub constant_value-o-requires : goal.constant_value-o-requires
-constant_value-o-requires c =
+pub constant_value-requires : goal.constant_value-requires
+constant_value-requires c =
     let p = c.requires in
     let q = cleared_ready p in
-    let g = c.loop-i.invariant.1 in
+    let g = c.loop-i.invariant in
     let lt = c.loop-i-test.true in
     let head = holds_head (replicate 2018 0) c.args.nodes true refl in
     let fe = c.set_frame.ensures in
@@ -55,105 +39,52 @@ constant_value-o-requires c =
       constant_ready = going_ready q c.loop-i.tab g lt;
     }
 
-pub kept-w-requires : goal.kept-w-requires
-kept-w-requires c = tt
-
-pub overflow_add-n : goal.overflow_add-n
-overflow_add-n c =
-    let p = c.requires in
-    let lt = c.loop-i-test.true in
-    omega (arith, lt, p.few)
-
 pub write_cell-requires : goal.write_cell-requires
 write_cell-requires c =
     let p = c.requires in
-    let g = c.loop-i.invariant.1 in
+    let g = c.loop-i.invariant in
     let lt = c.loop-i-test.true in
     let long = g.long ∙ length-set c.args.tab.now 816 0 in
     omega (arith, lt, p.few, p.long, long)
-
-pub shape_of-tab-in-Failure : goal.shape_of-tab-in-Failure
-shape_of-tab-in-Failure c =
-    let g = c.loop-i.invariant.1 in
-    let long = g.long ∙ length-set c.args.tab.now 816 0 in
-    long
-
-pub returns-in-Failure : goal.returns-in-Failure
-returns-in-Failure c =
-    let p = c.requires in
-    let q = cleared_ready p in
-    let g = c.loop-i.invariant.1 in
-    let lt = c.loop-i-test.true in
-    (going_stuck q g lt c.constant_value-o.ensures (ap done_of c.in-Failure.is) _, same_onward (cleared_same p) g.same)
-
-pub shape_of-tab-in-Overflow : goal.shape_of-tab-in-Overflow
-shape_of-tab-in-Overflow c =
-    let g = c.loop-i.invariant.1 in
-    let long = g.long ∙ length-set c.args.tab.now 816 0 in
-    long
-
-pub returns-in-Overflow : goal.returns-in-Overflow
-returns-in-Overflow c =
-    let p = c.requires in
-    let q = cleared_ready p in
-    let g = c.loop-i.invariant.1 in
-    let lt = c.loop-i-test.true in
-    (going_stuck q g lt c.constant_value-o.ensures (ap done_of c.in-Overflow.is) _, same_onward (cleared_same p) g.same)
 
 pub constant_end-pos-requires : goal.constant_end-pos-requires
 constant_end-pos-requires c =
     let p = c.requires in
     let q = cleared_ready p in
-    let g = c.loop-i.invariant.1 in
+    let g = c.loop-i.invariant in
     let lt = c.loop-i-test.true in
     let w = going_written q c.kept-w.result c.write_cell.ensures g lt in
     going_ready q c.write_cell.new.out w lt
-
-pub overflow_add-i : goal.overflow_add-i
-overflow_add-i c =
-    let p = c.requires in
-    let lt = c.loop-i-test.true in
-    omega (arith, lt, p.few)
-
-pub overflow_cast-tab : goal.overflow_cast-tab
-overflow_cast-tab c =
-    let p = c.requires in
-    let lt = c.loop-i-test.true in
-    omega (arith, lt, p.few)
 
 pub bounds-tab-816-in-loop-i : goal.bounds-tab-816-in-loop-i
 bounds-tab-816-in-loop-i c =
     let p = c.requires in
     let q = cleared_ready p in
-    let g = c.loop-i.invariant.1 in
+    let g = c.loop-i.invariant in
     let lt = c.loop-i-test.true in
     let w = going_written q c.kept-w.result c.write_cell.ensures g lt in
     omega (arith, p.long, w.long, length-set c.args.tab.now 816 0)
-
-pub loop-i-smaller : goal.loop-i-smaller
-loop-i-smaller c =
-    let p = c.requires in
-    let lt = c.loop-i-test.true in
-    omega (arith, lt, p.few)
 
 pub loop-i-preserved : goal.loop-i-preserved
 loop-i-preserved c =
     let p = c.requires in
     let q = cleared_ready p in
-    let g = c.loop-i.invariant.1 in
+    let g = c.loop-i.invariant in
     let lt = c.loop-i-test.true in
     let w = going_written q c.kept-w.result c.write_cell.ensures g lt in
-    (omega (arith, lt), going_turn q g lt c.constant_value-o.ensures c.in-Value.is c.kept-w.ensures.0 c.kept-w.ensures.1 c.write_cell.ensures (c.constant_end-pos.ensures ∙ ap (λ (k : ℕ). end_at c.args.file.now 24 (value_at c.args.file.now k)) (known_is w)))
-
-pub shape_of-tab : goal.shape_of-tab
-shape_of-tab c =
-    let g = c.loop-i.invariant.1 in
-    let long = g.long ∙ length-set c.args.tab.now 816 0 in
-    long
+    going_turn q g lt c.constant_value.ensures c.in-Value.is c.kept-w.ensures.0 c.kept-w.ensures.1 c.write_cell.ensures (c.constant_end-pos.ensures ∙ ap (λ (k : ℕ). end_at c.args.file.now 24 (value_at c.args.file.now k)) (known_is w))
 
 pub returns : goal.returns
 returns c =
     let p = c.requires in
     let q = cleared_ready p in
-    let g = c.loop-i.invariant.1 in
-    (going_done q g (omega (arith, c.loop-i.invariant.0, c.loop-i-test.false)), same_onward (cleared_same p) g.same)
+    let g = c.loop-i.invariant in
+    (going_done q g (omega arith), same_onward (cleared_same p) g.same)
+
+pub returns-in_default : goal.returns-in_default
+returns-in_default c =
+    let p = c.requires in
+    let q = cleared_ready p in
+    let g = c.loop-i.invariant in
+    let lt = c.loop-i-test.true in
+    (going_stuck q g lt c.constant_value.ensures (not_done _ c.in_default.not-Value) _, same_onward (cleared_same p) g.same)

@@ -263,7 +263,7 @@ returns-in-Failed c =
     let e = all_copied c.args.old.now c.args.new.now c.copy.new.to c.requires.renewed c.copy.ensures in
     let x = c.run_record-r.new.new in
     let frame = c.run_record-r.new.frame in
-    cycle_failed h H front copied x (cells_of frame) c.run_record-r.result e c.run_record-r.ensures.0 _ c.cause_number.result c.in-Failed.is c.cause_number.ensures
+    cycle_failed h H front copied x (cells_of frame) c.run_record-r.result e c.run_record-r.ensures.0 _ c.from.result c.in-Failed.is c.from.ensures
 
 pub shape_of-new-in-Overflowed : goal.shape_of-new-in-Overflowed
 shape_of-new-in-Overflowed c =

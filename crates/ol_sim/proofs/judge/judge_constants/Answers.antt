@@ -1,9 +1,10 @@
-use Rattle.std.proofs.Common.{◌+◌, ◌*◌, subst, ◌∙◌, arith}
+use Rattle.std.proofs.Common.{◌+◌, ◌*◌, ap, subst, ◌∙◌, arith}
 use Rattle.std.proofs.Math.ListN.{length-drop}
+use Rattle.ol_check.specs.Founds.{place_of}
 use Rattle.ol_tables.specs.At.{file_at}
 use Rattle.ol_tables.specs.Table.{Packs, consts_of}
 use Rattle.ol_run.proofs.AdmittedConstants.{constants_ready}
-use Rattle.ol_sim.proofs.Chain.{refused_at, passed_by_lem, judges_more}
+use Rattle.ol_sim.proofs.Chain.{no_place, passed_by_lem, judges_more}
 use Rattle.ol_sim.proofs.Packing.{rows_small, firsts_small, admitted_packed, admitted_same}
 use Rattle.ol_sim.proofs.Steps.{count_constants, count_nodes, stuck_12, all_held}
 use Rattle.ol_sim.proofs.judge.judge_constants.Goals as goal
@@ -47,8 +48,8 @@ overflow_add-c c =
     let st = c.requires.tables.stands in
     omega (arith, c.requires.sections.constants, st.inside, st.short)
 
-pub constant_values-requires : goal.constant_values-requires
-constant_values-requires c =
+pub constant_values-stuck-requires : goal.constant_values-stuck-requires
+constant_values-stuck-requires c =
     let t = c.requires.tables in
     let nodes = count_nodes t.stands c.requires.sections c.byte-nodes.ensures.is in
     let enums = c.byte-enums.ensures.is ∙ t.stands.enum_count in
@@ -71,20 +72,14 @@ judge_main-requires c =
       last = omega (arith, count_nodes t.stands c.requires.sections c.byte-nodes.ensures.is, t.stands.some_node);
     }
 
-pub shape_of-tab-in-Stuck : goal.shape_of-tab-in-Stuck
-shape_of-tab-in-Stuck c = c.constant_values.auto.tab ∙ c.pack-2.auto.tab ∙ c.pack.auto.tab
-
-pub returns-in-Stuck : goal.returns-in-Stuck
-returns-in-Stuck c = refused_at c.refuse.ensures (stuck_12 (file_at c.args.file.now) c.byte-count.result (consts_of c.constant_values.new.tab) c.constant_values.ensures.0 c.in-Stuck.is)
-
-pub shape_of-tab-in-All : goal.shape_of-tab-in-All
-shape_of-tab-in-All c = c.constant_values.auto.tab ∙ c.pack-2.auto.tab ∙ c.pack.auto.tab
-
-pub returns-in-All : goal.returns-in-All
-returns-in-All c =
+pub returns : goal.returns
+returns c =
+    let f = file_at c.args.file.now in
     let t = c.requires.tables in
     let nodes = count_nodes t.stands c.requires.sections c.byte-nodes.ensures.is in
     let enums = c.byte-enums.ensures.is ∙ t.stands.enum_count in
     let packed = admitted_packed t (subst (λ n. Packs c.args.rows.now 0 (n * 8) c.args.tab.now c.pack.new.tab) nodes c.pack.ensures) (subst (λ n. Packs c.args.rows.now 256 (256 + n) c.pack.new.tab c.pack-2.new.tab) enums c.pack-2.ensures) in
-    let held = all_held (file_at c.args.file.now) c.byte-count.result (consts_of c.constant_values.new.tab) c.constant_values.ensures.0 c.in-All.is (count_constants t.stands c.requires.sections c.byte-count.ensures.is) in
-    passed_by_lem held.0 (judges_more (λ size main m. record { measured = m; tables = admitted_same packed c.constant_values.ensures.1; held = held.1 }) c.judge_main.ensures)
+    let s = c.constant_values-stuck in
+    let no12 = no_place 12 c.err.result c.in_ok-refuse_at.ensures (ap place_of c.err.ensures.value ∙ stuck_12 f c.byte-count.result (consts_of s.new.tab) s.result s.ensures.0) in
+    let held = all_held f c.byte-count.result (consts_of s.new.tab) s.result s.ensures.0 no12 (count_constants t.stands c.requires.sections c.byte-count.ensures.is) in
+    passed_by_lem no12 (judges_more (λ size main m. record { measured = m; tables = admitted_same packed s.ensures.1; held = held }) c.judge_main.ensures)

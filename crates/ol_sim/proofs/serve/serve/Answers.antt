@@ -1,39 +1,48 @@
-use Rattle.std.proofs.Common.{sym, arith}
+use Rattle.std.proofs.Common.{◌+◌, ◌*◌, ◌≤◌, length, sym, arith}
 use Rattle.std.proofs.Math.Seq.{length-take-le}
 use Rattle.ol_tables.proofs.HeadsFile.{bytes_of_lem, file_stands}
 use Rattle.ol_sim.proofs.Reading.{file_reads, loads, few_places, judge_refused}
 use Rattle.ol_sim.proofs.Serving.{refused_serves}
 use Rattle.ol_sim.proofs.serve.serve.Goals as goal
 
+pub returns-in_err-loaded : goal.returns-in_err-loaded
+returns-in_err-loaded g c = refused_serves _ _ c.args.file.now c.from_residual.result c.from_residual.ensures.1 (judge_refused c.args.file.now c.in_err-loaded.ensures.read)
+
 pub slice_bounds-starts-end : goal.slice_bounds-starts-end
-slice_bounds-starts-end c =
+slice_bounds-starts-end g c =
     let s = c.args.file.now in
-    let read = c.load_file.ensures.read in
-    let stands = file_stands (bytes_of_lem s (λ i. omega (arith, c.type_inv.file i))) (file_reads s read c.in-Nodes.is) in
-    (omega (arith, few_places s read c.in-Nodes.is stands, c.load_file.auto.starts))
+    let read = c.in_ok-loaded.ensures.read in
+    let stands = file_stands (bytes_of_lem s (λ i. omega (arith, c.type_inv.file i))) (file_reads s read) in
+    omega (arith, few_places s read stands, c.load_file.auto.starts)
 
-pub slice_bounds-places-end : goal.slice_bounds-places-end
-slice_bounds-places-end c =
+pub slice_bounds-project-end : goal.slice_bounds-project-end
+slice_bounds-project-end g c =
     let s = c.args.file.now in
-    let read = c.load_file.ensures.read in
-    let stands = file_stands (bytes_of_lem s (λ i. omega (arith, c.type_inv.file i))) (file_reads s read c.in-Nodes.is) in
-    sym (length-take-le _ _ (omega (arith, few_places s read c.in-Nodes.is stands, c.load_file.auto.starts)))
+    let read = c.in_ok-loaded.ensures.read in
+    let stands = file_stands (bytes_of_lem s (λ i. omega (arith, c.type_inv.file i))) (file_reads s read) in
+    sym (length-take-le _ _ (omega (arith, few_places s read stands, c.load_file.auto.starts)))
 
-pub serve_small-requires : goal.serve_small-requires
-serve_small-requires c =
+pub serve_sized-requires-clause-loads : goal.serve_sized-requires-clause-loads
+serve_sized-requires-clause-loads g c =
     let s = c.args.file.now in
-    let read = c.load_file.ensures.read in
-    let stands = file_stands (bytes_of_lem s (λ i. omega (arith, c.type_inv.file i))) (file_reads s read c.in-Nodes.is) in
-    (loads s read c.in-Nodes.is stands c.load_file.ensures.places, c.if-file-le1024.true)
+    let read = c.in_ok-loaded.ensures.read in
+    let bytes = bytes_of_lem s (λ i. omega (arith, c.type_inv.file i)) in
+    let reads = file_reads s read in
+    let l = loads s read (file_stands bytes reads) c.load_file.ensures.places in
+    record { bytes = bytes; reads = reads; counted = l.0; placed = l.1 }
 
-pub serve_large-requires : goal.serve_large-requires
-serve_large-requires c =
+pub serve_sized-requires-else-file-le1024-clause-loads : goal.serve_sized-requires-else-file-le1024-clause-loads
+serve_sized-requires-else-file-le1024-clause-loads g c =
     let s = c.args.file.now in
-    let read = c.load_file.ensures.read in
-    let stands = file_stands (bytes_of_lem s (λ i. omega (arith, c.type_inv.file i))) (file_reads s read c.in-Nodes.is) in
-    loads s read c.in-Nodes.is stands c.load_file.ensures.places
+    let read = c.in_ok-loaded.ensures.read in
+    let bytes = bytes_of_lem s (λ i. omega (arith, c.type_inv.file i)) in
+    let reads = file_reads s read in
+    let l = loads s read (file_stands bytes reads) c.load_file.ensures.places in
+    record { bytes = bytes; reads = reads; counted = l.0; placed = l.1 }
 
-pub returns-in-Refused : goal.returns-in-Refused
-returns-in-Refused c =
-    let a = c.args in
-    refused_serves a.file.now a.old.now a.inputs.now a.new.now a.values.now (judge_refused a.file.now c.load_file.ensures.read c.in-Refused.is) a.call
+pub serve_sized-requires-else-file-le1024-clause-room : goal.serve_sized-requires-else-file-le1024-clause-room
+serve_sized-requires-else-file-le1024-clause-room g c =
+    let s = c.args.file.now in
+    let stands = file_stands (bytes_of_lem s (λ i. omega (arith, c.type_inv.file i))) (file_reads s c.in_ok-loaded.ensures.read) in
+    let room : 4017 + 2 * length s ≤ 69553 = omega (arith, stands.short) in
+    room

@@ -1,30 +1,34 @@
-use Rattle.std.proofs.Common.{arith}
+use Rattle.ol_tables.specs.At.{file_at}
+use Rattle.ol_check.proofs.NamesBelow.{low_within}
 use Rattle.ol_run.proofs.Admitted.{running}
-use Rattle.ol_tables.proofs.HeadsFile.{bytes_of_lem}
+use Rattle.ol_sim.proofs.Begins.{empty_zeros}
 use Rattle.ol_sim.proofs.Starts.{admits_of, judged_whole, judged_refused}
-use Rattle.ol_sim.proofs.Serving.{refused_serves, consts_many, answer_ready, names_tell}
+use Rattle.ol_sim.proofs.Serving.{consts_many, answer_ready, names_tell, refused_serves}
 use Rattle.ol_sim.proofs.serve.serve_named.Goals as goal
 
 pub judge_names-requires : goal.judge_names-requires
-judge_names-requires c = c.requires
-
-pub answer-requires : goal.answer-requires
-answer-requires c =
-    let h = c.requires.names_ready in
-    let reads = h.sections.loads.reads in
-    let admits = admits_of reads c.judge_names.ensures.judged c.in-Admitted.is in
+judge_names-requires g c =
+    let f = file_at c.args.project.now.file.now in
+    let r = c.requires in
     record {
-      answer_ready = (
-        answer_ready admits (running admits.tables _ (bytes_of_lem c.args.file.now (λ i. omega (arith, c.type_inv.file i))) (consts_many admits)),
-        names_tell h.sections.rowed.stands h.empty admits.tables.ordered.sound.no6 c.judge_names.ensures.named,
-      );
-      file_value = judged_whole reads c.judge_names.ensures.judged c.in-Admitted.is;
+      loads = r.loads;
+      names_ready = record { sections = r.sections_ready; empty = empty_zeros f g.row.N (low_within g.row.N f r.below); lows = r.lows };
+      clash_value = r.clash_value;
     }
 
-pub returns-in-Refused : goal.returns-in-Refused
-returns-in-Refused c =
-    let a = c.args in
-    refused_serves a.file.now a.old.now a.inputs.now a.new.now a.values.now (judged_refused c.requires.names_ready.sections.loads.reads c.judge_names.ensures.judged c.in-Refused.is) a.call
+pub call-requires : goal.call-requires
+call-requires g c =
+    let s = c.args.project.now.file.now in
+    let st = c.requires.sections_ready in
+    let reads = c.requires.loads.reads in
+    let judged = c.in_ok-admitted.ensures.judged in
+    let admits = admits_of reads judged in
+    let empty = empty_zeros (file_at s) g.row.N (low_within g.row.N (file_at s) c.requires.below) in
+    c.requires.callable _ (record {
+      ready = answer_ready admits (running admits.tables _ c.requires.loads.bytes (consts_many admits));
+      tells = names_tell st.rowed.stands empty admits.tables.ordered.sound.no6 c.judge_names.ensures.named;
+      judged = judged_whole reads judged;
+    })
 
-pub returns-in-Admitted : goal.returns-in-Admitted
-returns-in-Admitted c = c.answer.ensures
+pub returns-in_err-admitted : goal.returns-in_err-admitted
+returns-in_err-admitted g c = refused_serves _ _ c.args.project.now.file.now c.from_residual.result c.from_residual.ensures.1 (judged_refused c.requires.loads.reads c.in_err-admitted.ensures.judged)

@@ -1,19 +1,24 @@
-use mathlib.Core.Path.{sym, ap, ◌∙◌}
+use Prim.Native.Nat.{ℕ}
+use mathlib.Core.Bool.{true}
+use mathlib.Core.List.{List}
+use mathlib.Core.Path.{◌≡◌, refl, sym, ap, ◌∙◌}
 use lib.Dec.{eqb}
+use lib.ListN.{get_or}
 use Rattle.ol_spec.specs.Cell.{is_variant}
+use Rattle.ol_spec.specs.declared.Value.{Value}
+use Rattle.ol_spec.specs.declared.Value.TheVariants as Val
 use Rattle.ol_state.proofs.cells.is_variant.Goals as goal
 
-pub returns-in-Bool : goal.returns-in-Bool
-returns-in-Bool c = λ names tells. ap (is_variant names) (sym c.in-Bool.is)
-
-pub returns-in-Int : goal.returns-in-Int
-returns-in-Int c = λ names tells. ap (is_variant names) (sym c.in-Int.is)
-
-pub returns-in-Float : goal.returns-in-Float
-returns-in-Float c = λ names tells. ap (is_variant names) (sym c.in-Float.is)
-
-pub returns-in-Float32 : goal.returns-in-Float32
-returns-in-Float32 c = λ names tells. ap (is_variant names) (sym c.in-Float32.is)
+other : (names : List ℕ) (v : Value) → ((w : ℕ) → v ≡ Val.Enum w → ⊥) → true ≡ is_variant names v
+other names (Val.Bool b) h = refl
+other names (Val.Int i) h = refl
+other names (Val.Float x) h = refl
+other names (Val.Float32 x) h = refl
+other names (Val.Enum w) h = absurd (h w refl)
 
 pub returns-in-Enum : goal.returns-in-Enum
-returns-in-Enum c = λ names tells. ap (λ x. eqb x 255) c.byte.ensures.is ∙ tells _ ∙ ap (is_variant names) (sym c.in-Enum.is)
+returns-in-Enum c =
+    λ names tells. ap (λ x. eqb x 255) (c.byte.ensures.is ∙ ap (λ n. get_or c.args.variants.now n 0) c.from.ensures) ∙ tells _ ∙ ap (is_variant names) (sym c.in-Enum.is)
+
+pub returns-in_default : goal.returns-in_default
+returns-in_default c = λ names tells. other names c.args.v c.in_default.not-Enum

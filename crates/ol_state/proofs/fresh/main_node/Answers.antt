@@ -5,16 +5,10 @@ use lib.ListN.{get_or}
 use Rattle.ol_state.proofs.Instances.{nodes_count}
 use Rattle.ol_state.proofs.fresh.main_node.Goals as goal
 
-pub column-requires : goal.column-requires
-column-requires c = tt
-
 pub overflow_sub-column : goal.overflow_sub-column
 overflow_sub-column c =
     let n = nodes_count c.requires in
     omega (arith, c.column.ensures, n.after)
-
-pub byte-requires : goal.byte-requires
-byte-requires c = tt
 
 pub overflow_sub-result : goal.overflow_sub-result
 overflow_sub-result c =

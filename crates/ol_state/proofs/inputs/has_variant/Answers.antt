@@ -2,12 +2,9 @@ use native.Mathlib.Omega.{arith}
 use Rattle.ol_state.proofs.Enums.{look_start, look_length, look_found, look_on, look_end}
 use Rattle.ol_state.proofs.inputs.has_variant.Goals as goal
 
-pub byte-n-requires : goal.byte-n-requires
-byte-n-requires c = tt
-
 pub loop-j-init : goal.loop-j-init
 loop-j-init c =
-    (omega arith, λ vs h t. look_start c.args.v vs h t)
+    λ vs h t. look_start c.args.v vs h t
 
 pub overflow_add-at : goal.overflow_add-at
 overflow_add-at c =
@@ -24,27 +21,14 @@ overflow_add-at-in-loop-j c =
     let small = c.byte-n.ensures.small in
     omega (arith, small, c.loop-j-test.true, c.requires)
 
-pub name-requires : goal.name-requires
-name-requires c = tt
-
 pub returns-then-name-v : goal.returns-then-name-v
 returns-then-name-v c =
-    λ vs h t. look_found c.args.v vs (c.loop-j.invariant.1 vs h t) (omega (arith, c.loop-j-test.true, c.byte-n.ensures.is, look_length c.args.v vs h)) c.name.ensures c.if-name-v.true
-
-pub overflow_add-j : goal.overflow_add-j
-overflow_add-j c =
-    let small = c.byte-n.ensures.small in
-    omega (arith, small, c.loop-j-test.true, c.requires)
-
-pub loop-j-smaller : goal.loop-j-smaller
-loop-j-smaller c =
-    let small = c.byte-n.ensures.small in
-    omega (arith, small, c.loop-j-test.true, c.requires)
+    λ vs h t. look_found c.args.v vs (c.loop-j.invariant vs h t) (omega (arith, c.loop-j-test.true, c.byte-n.ensures.is, look_length c.args.v vs h)) c.name.ensures c.if-name-v.true
 
 pub loop-j-preserved : goal.loop-j-preserved
 loop-j-preserved c =
-    (omega (arith, c.loop-j-test.true), λ vs h t. look_on c.args.v vs (c.loop-j.invariant.1 vs h t) (omega (arith, c.loop-j-test.true, c.byte-n.ensures.is, look_length c.args.v vs h)) c.name.ensures c.if-name-v.false)
+    λ vs h t. look_on c.args.v vs (c.loop-j.invariant vs h t) (omega (arith, c.loop-j-test.true, c.byte-n.ensures.is, look_length c.args.v vs h)) c.name.ensures c.if-name-v.false
 
 pub returns : goal.returns
 returns c =
-    λ vs h t. look_end c.args.v vs (c.loop-j.invariant.1 vs h t) (omega (arith, c.loop-j-test.false, c.byte-n.ensures.is, look_length c.args.v vs h))
+    λ vs h t. look_end c.args.v vs (c.loop-j.invariant vs h t) (omega (arith, c.loop-j-test.false, c.byte-n.ensures.is, look_length c.args.v vs h))

@@ -1,4 +1,4 @@
-use Prim.Native.Nat.{ℕ, ◌≤◌, ◌-◌}
+use Prim.Native.Nat.{ℕ}
 use mathlib.Core.List.{List}
 use lib.Dec.{T}
 use Rattle.ol_spec.specs.Lists.{all_of}
@@ -10,7 +10,4 @@ use Rattle.ol_state.proofs.inputs.has_variant.Given as goal
 
 abbrev pub invariant-loop-j : goal.invariant-loop-j
 invariant-loop-j l =
-    (l.j ≤ l.n) × ((vs : List ℕ) → Here l.file l.at (section_bytes name_bytes vs) → T (all_of name_fits vs) → Looking l.file l.v l.at vs l.j)
-
-abbrev pub decreases-loop-j : goal.decreases-loop-j
-decreases-loop-j l = l.n - l.j
+    (vs : List ℕ) → Here l.file l.at (section_bytes name_bytes vs) → T (all_of name_fits vs) → Looking l.file l.v l.at vs l.j

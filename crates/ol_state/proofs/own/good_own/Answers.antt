@@ -1,4 +1,5 @@
 use Prim.Native.Nat.{◌*◌}
+use mathlib.Core.Bool.{not}
 use mathlib.Core.Path.{◌≡◌, sym, ap, ap₂, ◌∙◌}
 use native.Mathlib.Omega.{arith}
 use lib.ListN.{take, drop, length-drop}
@@ -11,13 +12,11 @@ use Rattle.ol_state.specs.Defaults.{cells_at}
 use Rattle.ol_tables.proofs.Lending.{tail_all}
 use Rattle.ol_state.proofs.Judged.{own_defaults, own_started, own_cells, own_byte}
 use Rattle.ol_state.proofs.own.good_own.Goals as goal
+use Rattle.ol_state.proofs.own.good_own.Goals.{then-started-le1, else-started-le1}
 
 pub bounds-r-0 : goal.bounds-r-0
 bounds-r-0 c =
     omega (arith, c.requires.2)
-
-pub column-requires : goal.column-requires
-column-requires c = tt
 
 pub slice_bounds-good_cells-count : goal.slice_bounds-good_cells-count
 slice_bounds-good_cells-count c =
@@ -55,32 +54,42 @@ are_defaults-requires c =
     let tail = tail_all 1 c.args.r.now in
     (c.requires.0, c.requires.1, rw tail (omega (arith, c.requires.2, length-drop 1 r)))
 
-pub returns-then-started-eq0 : goal.returns-then-started-eq0
-returns-then-started-eq0 c =
+pub returns-then-started-ne0 : goal.returns-then-started-ne0
+returns-then-started-ne0 c =
     let r = c.args.r.now in
-    let tail = tail_all 1 c.args.r.now in
+    let n = row_at (rows_of c.args.tab.now) c.args.k 4 in
+    let ds = cells_at (tab_of c.args.tab.now) (rows_of c.args.tab.now) c.args.k 0 n in
     λ names tells.
-    let g : good_cells names (row_at (rows_of c.args.tab.now) c.args.k 4) (drop 1 r) ≡ _ = ap₂ (good_cells names) (sym c.column.ensures) (sym tail) ∙ sym (c.good_cells.ensures names tells) ∙ c.if-good_cells.true in
-    c.are_defaults.ensures ∙ ap (λ l. same (take (9 * row_at (rows_of c.args.tab.now) c.args.k 4) l) (cells_at (tab_of c.args.tab.now) (rows_of c.args.tab.now) c.args.k 0 (row_at (rows_of c.args.tab.now) c.args.k 4))) tail
-    ∙ own_defaults names (cells_at (tab_of c.args.tab.now) (rows_of c.args.tab.now) c.args.k 0 (row_at (rows_of c.args.tab.now) c.args.k 4)) (row_at (rows_of c.args.tab.now) c.args.k 4) r (le-leb _ _ c.if-started-le1.true) g (eq-eqb _ _ c.if-started-eq0.true)
+    elim c.if-started-le1.branch [
+      | then-started-le1 w ↦
+          let g : good_cells names n (drop 1 r) ≡ _ = ap₂ (good_cells names) (sym w.column.ensures) (sym (tail_all 1 r)) ∙ sym (w.good_cells.ensures names tells) ∙ sym w.value-is ∙ c.if-good_cells.true in
+          let z = ne_eqb _ _ c.if-started-ne0.true in
+          ap not z ∙ own_started names ds n r (le-leb _ _ w.if-started-le1.true) g z
+      | else-started-le1 w ↦ let e = lt-leb _ _ w.if-started-le1.false in let q = sym c.if-good_cells.true ∙ w.value-is ∙ e in cc
+    ]
 
-pub returns-else-started-eq0 : goal.returns-else-started-eq0
-returns-else-started-eq0 c =
+pub returns-else-started-ne0 : goal.returns-else-started-ne0
+returns-else-started-ne0 c =
     let r = c.args.r.now in
-    let tail = tail_all 1 c.args.r.now in
+    let n = row_at (rows_of c.args.tab.now) c.args.k 4 in
+    let ds = cells_at (tab_of c.args.tab.now) (rows_of c.args.tab.now) c.args.k 0 n in
     λ names tells.
-    let g : good_cells names (row_at (rows_of c.args.tab.now) c.args.k 4) (drop 1 r) ≡ _ = ap₂ (good_cells names) (sym c.column.ensures) (sym tail) ∙ sym (c.good_cells.ensures names tells) ∙ c.if-good_cells.true in
-    own_started names (cells_at (tab_of c.args.tab.now) (rows_of c.args.tab.now) c.args.k 0 (row_at (rows_of c.args.tab.now) c.args.k 4)) (row_at (rows_of c.args.tab.now) c.args.k 4) r (le-leb _ _ c.if-started-le1.true) g (ne_eqb _ _ c.if-started-eq0.false)
+    elim c.if-started-le1.branch [
+      | then-started-le1 w ↦
+          let g : good_cells names n (drop 1 r) ≡ _ = ap₂ (good_cells names) (sym w.column.ensures) (sym (tail_all 1 r)) ∙ sym (w.good_cells.ensures names tells) ∙ sym w.value-is ∙ c.if-good_cells.true in
+          c.are_defaults.ensures ∙ ap (λ l. same (take (9 * n) l) ds) (tail_all 1 r) ∙ own_defaults names ds n r (le-leb _ _ w.if-started-le1.true) g (eq-eqb _ _ c.if-started-ne0.false)
+      | else-started-le1 w ↦ let e = lt-leb _ _ w.if-started-le1.false in let q = sym c.if-good_cells.true ∙ w.value-is ∙ e in cc
+    ]
 
 pub returns-else-good_cells : goal.returns-else-good_cells
 returns-else-good_cells c =
     let r = c.args.r.now in
-    let tail = tail_all 1 c.args.r.now in
+    let n = row_at (rows_of c.args.tab.now) c.args.k 4 in
+    let ds = cells_at (tab_of c.args.tab.now) (rows_of c.args.tab.now) c.args.k 0 n in
     λ names tells.
-    let g : good_cells names (row_at (rows_of c.args.tab.now) c.args.k 4) (drop 1 r) ≡ _ = ap₂ (good_cells names) (sym c.column.ensures) (sym tail) ∙ sym (c.good_cells.ensures names tells) ∙ c.if-good_cells.false in
-    own_cells names (cells_at (tab_of c.args.tab.now) (rows_of c.args.tab.now) c.args.k 0 (row_at (rows_of c.args.tab.now) c.args.k 4)) (row_at (rows_of c.args.tab.now) c.args.k 4) r (le-leb _ _ c.if-started-le1.true) g
-
-pub returns-else-started-le1 : goal.returns-else-started-le1
-returns-else-started-le1 c =
-    let r = c.args.r.now in
-    λ names tells. own_byte names (cells_at (tab_of c.args.tab.now) (rows_of c.args.tab.now) c.args.k 0 (row_at (rows_of c.args.tab.now) c.args.k 4)) (row_at (rows_of c.args.tab.now) c.args.k 4) r (lt-leb _ _ c.if-started-le1.false)
+    elim c.if-started-le1.branch [
+      | then-started-le1 w ↦
+          let g : good_cells names n (drop 1 r) ≡ _ = ap₂ (good_cells names) (sym w.column.ensures) (sym (tail_all 1 r)) ∙ sym (w.good_cells.ensures names tells) ∙ sym w.value-is ∙ c.if-good_cells.false in
+          c.if-good_cells.false ∙ own_cells names ds n r (le-leb _ _ w.if-started-le1.true) g
+      | else-started-le1 w ↦ c.if-good_cells.false ∙ own_byte names ds n r (lt-leb _ _ w.if-started-le1.false)
+    ]

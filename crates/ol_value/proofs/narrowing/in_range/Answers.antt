@@ -3,7 +3,7 @@ use native.Mathlib.Omega.{arith}
 use lib.Dec.{ltb}
 use lib.Signed.{mag}
 use mir.Facts.{to_z-of_z}
-use Rattle.ol_value.proofs.Magnitudes.{sign_is, nonneg_true, nonneg_false}
+use Rattle.ol_value.proofs.Magnitudes.{sign_is, nonneg_true}
 use Rattle.ol_value.proofs.Widths.{whole_is, signed_ty, unsigned_ty, narrow_bits}
 use Rattle.ol_value.proofs.narrowing.in_range.Goals as goal
 
@@ -28,7 +28,3 @@ pub returns-then-i-ge0 : goal.returns-then-i-ge0
 returns-then-i-ge0 c =
     rw (unsigned_ty c.args.t c.if-b-eq64.false c.if-t.false, nonneg_true c.args.i (sign_is c.ranges.i c.if-i-ge0.true))
     (ap₂ ltb (c.magnitude-m.ensures ∙ ap mag (to_z-of_z c.ranges.i)) c.power-then-i-ge0.ensures)
-
-pub returns-else-i-ge0 : goal.returns-else-i-ge0
-returns-else-i-ge0 c =
-    rw (unsigned_ty c.args.t c.if-b-eq64.false c.if-t.false, nonneg_false c.args.i (sign_is c.ranges.i c.if-i-ge0.false))

@@ -16,11 +16,11 @@ returns-then-t c =
 
 pub returns-in-9 : goal.returns-in-9
 unfolding cast_to
-returns-in-9 c = λ e. rw c.in-9.is c.cast_single.ensures
+returns-in-9 c = λ e. rw c.in-9.is c.cast_real.ensures
 
 pub returns-in-10 : goal.returns-in-10
 unfolding cast_to
-returns-in-10 c = λ e. rw c.in-10.is c.cast_double.ensures
+returns-in-10 c = λ e. rw c.in-10.is c.cast_real-in-10.ensures
 
 pub returns-in_default : goal.returns-in_default
 returns-in_default c =

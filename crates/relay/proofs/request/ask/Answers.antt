@@ -1,20 +1,24 @@
-use native.Mathlib.Omega.{arith}
-use Rattle.relay.proofs.Asks.{asks_long, asks_silent, asks_words, asks_as_lem}
-use Rattle.relay.specs.Kept.{asked}
+use Rattle.std.proofs.Common.{◌∙◌, rules, arith}
+use Rattle.relay.proofs.Asks.{asks_long, asks_silent, asks_unknown, asks_words, asks_obeyed, first_word}
 use Rattle.relay.proofs.request.ask.Goals as goal
 
-pub returns-then-line-gt262144 : goal.returns-then-line-gt262144
-returns-then-line-gt262144 c =
-    asks_long c.args.line.now c.if-line-gt262144.true
+pub returns-then-line-gt-LONGEST : goal.returns-then-line-gt-LONGEST
+returns-then-line-gt-LONGEST c = asks_long c.args.line.now c.if-line-gt-LONGEST.true
 
 pub returns-then-is_silent : goal.returns-then-is_silent
-returns-then-is_silent c =
-    asks_silent c.args.line.now c.is_silent.result (λ h. omega (arith, h)) c.is_silent.ensures c.if-is_silent.true
+returns-then-is_silent c = asks_silent c.args.line.now c.is_silent.result (λ h. omega (arith, h)) c.is_silent.ensures c.if-is_silent.true
+
+pub returns-in_err-c : goal.returns-in_err-c
+returns-in_err-c c =
+    rw (asks_unknown c.args.line.now c.is_silent.result c.command_named.result (λ h. omega (arith, h)) c.is_silent.ensures c.if-is_silent.false (first_word c.args.line.now c.nth.result c.nth.ensures.2 c.command_named.ensures) _ c.in_err-c.was) (search rules)
 
 pub returns-then-not-fits : goal.returns-then-not-fits
 returns-then-not-fits c =
-    asks_words c.args.line.now c.is_silent.result c.command_of-c.result c.words.result c.fits.result (λ h. omega (arith, h)) c.is_silent.ensures c.if-is_silent.false c.command_of-c.ensures c.words.ensures c.fits.ensures c.if-not-fits.true
+    asks_words c.args.line.now c.is_silent.result c.command_named.result (λ h. omega (arith, h)) c.is_silent.ensures c.if-is_silent.false (first_word c.args.line.now c.nth.result c.nth.ensures.2 c.command_named.ensures) c.in_ok-c.c c.in_ok-c.was
+    c.words.result c.fits.result c.words.ensures c.fits.ensures c.if-not-fits.true
 
 pub returns : goal.returns
 returns c =
-    asks_as_lem c.args.line.now c.is_silent.result c.command_of-c.result c.words.result c.fits.result (asked c.ask_by.result c.ask_by.new.bytes c.ask_by.new.inputs) (λ h. omega (arith, h)) c.is_silent.ensures c.if-is_silent.false c.command_of-c.ensures c.words.ensures c.fits.ensures c.if-not-fits.false c.ask_by.ensures
+    asks_obeyed c.args.line.now c.is_silent.result c.command_named.result (λ h. omega (arith, h)) c.is_silent.ensures c.if-is_silent.false (first_word c.args.line.now c.nth.result c.nth.ensures.2 c.command_named.ensures) c.in_ok-c.c c.in_ok-c.was
+    c.words.result c.fits.result c.words.ensures c.fits.ensures c.if-not-fits.false
+    ∙ c.ask_by.ensures

@@ -1,10 +1,15 @@
+use Rattle.std.proofs.Common.{sym, ◌∙◌, rules, arith}
+use Rattle.relay.proofs.Calls.{small_admitted}
 use Rattle.relay.proofs.Tellings.{begins_refused, begins_admitted}
 use Rattle.relay.proofs.session.begin.Goals as goal
 
-pub returns-in-Refused : goal.returns-in-Refused
-returns-in-Refused c =
-    begins_refused c.args.file.now c.args.state.now c.admission.result c.in-Refused.f c.admission.ensures.answered c.in-Refused.is
+pub returns-in_err-n : goal.returns-in_err-n
+returns-in_err-n c = begins_refused _ _ _ _ (sym c.admission.ensures.answered ∙ c.in_err-n.was) (search rules)
 
-pub returns-in-Admitted : goal.returns-in-Admitted
-returns-in-Admitted c =
-    begins_admitted c.args.file.now c.args.state.now c.start.new.state c.admission.result c.in-Admitted.n c.within-m.result c.start.result c.admission.ensures.answered c.in-Admitted.is c.requires c.within-m.ensures.prefix_len c.within-m.ensures.s_value c.start.ensures c.start.auto.state
+pub slice_bounds-start-end : goal.slice_bounds-start-end
+slice_bounds-start-end c = omega (arith, small_admitted c.args.file.now c.in_ok-n.n (sym c.admission.ensures.answered ∙ c.in_ok-n.was))
+
+pub returns : goal.returns
+returns c =
+    let e = sym c.admission.ensures.answered ∙ c.in_ok-n.was in
+    begins_admitted _ _ _ _ c.start.result e (omega (arith, small_admitted c.args.file.now c.in_ok-n.n e)) c.start.ensures c.start.auto.state

@@ -1,63 +1,31 @@
-use native.Mathlib.Omega.{arith}
-use mathlib.Core.Path.{refl, sym, ap, ◌∙◌}
-use mathlib.Core.List.{List, ◌++◌}
-use Prim.Native.Nat.{ℕ}
-use Rattle.relay_text.specs.Lines.{line_end}
-use lib.ListN.{take, drop}
-use Prim.Native.Nat.{◌+◌}
+use Rattle.std.proofs.Common.{rules, List, ℕ, ◌+◌, ◌++◌, get_or, take, drop, refl, sym, ap, ◌∙◌, arith}
+use Rattle.relay_text.specs.Text.{decimal_word}
 use Rattle.relay_text.specs.Lines.{with_indexes}
-use Rattle.relay_text.proofs.Laws.{behind_on, indexes_more, indexes_end}
+use Rattle.relay_text.proofs.Laws.{indexes_more, indexes_end, puts_on}
 use Rattle.relay_text.proofs.answers.say_order.Goals as goal
 
-pub put-at-requires : goal.put-at-requires
-put-at-requires c = omega arith
+pub loop-index-init : goal.loop-index-init
+loop-index-init c =
+    let piece = c.piece.ensures.appends in
+    record { same_reference = refl; long = refl; room = omega (arith, piece.is); text = ap (λ (l : List ℕ). with_indexes l c.args.entries.now) piece.text; behind = λ n h. refl; on = omega arith }
 
-pub loop-i-init : goal.loop-i-init
-loop-i-init c =
-    (omega arith, omega (arith, c.put-at.ensures.0), refl, ap (λ (l : List ℕ). with_indexes l c.args.entries.now) c.put-at.ensures.1, omega arith, refl)
-
-pub offset_bounds-entries-i : goal.offset_bounds-entries-i
-offset_bounds-entries-i c = omega arith
-
-pub bounds-entries-i : goal.bounds-entries-i
-bounds-entries-i c = omega arith
-
-pub put_index-at-requires : goal.put_index-at-requires
-put_index-at-requires c = omega (arith, c.put-at.auto.out)
-
-pub overflow_add-i : goal.overflow_add-i
-overflow_add-i c = omega arith
-
-pub loop-i-smaller : goal.loop-i-smaller
-loop-i-smaller c = omega arith
-
-pub loop-i-preserved : goal.loop-i-preserved
-loop-i-preserved c = (
-  omega arith,
-  omega (arith, c.put_index-at.ensures.0),
-  c.put_index-at.auto.out ∙ c.loop-i.invariant.2,
-  ap (λ (l : List ℕ). with_indexes l (drop (c.loop-i.i + 1) c.args.entries.now)) c.put_index-at.ensures.1
-      ∙ sym (indexes_more (take c.loop-i.at c.loop-i.out) c.args.entries.now c.loop-i.i (omega arith)) ∙ c.loop-i.invariant.3,
-  omega (arith, c.put_index-at.ensures.3),
-  behind_on c.put_index-at.new.out c.loop-i.out c.put-at.new.out c.loop-i.at c.put_index-at.result c.put_index-at.result refl c.put_index-at.ensures.3 c.put_index-at.ensures.2 c.loop-i.invariant.5,
-)
-
-pub end_line-requires : goal.end_line-requires
-end_line-requires c = omega (arith, c.put-at.auto.out)
-
-pub shape_of-out : goal.shape_of-out
-shape_of-out c = c.end_line.auto.out ∙ c.loop-i.invariant.2 ∙ c.put-at.auto.out
+pub loop-index-preserved : goal.loop-index-preserved
+loop-index-preserved c =
+    let loop = c.loop-index in
+    let piece = c.piece-in-loop-index.ensures.appends in
+    let number = c.number.ensures.appends in
+    record {
+      same_reference = c.number.ensures.same_reference ∙ c.piece-in-loop-index.ensures.same_reference ∙ loop.invariant.same_reference;
+      long = number.long ∙ piece.long ∙ loop.invariant.long;
+      room = omega (arith, piece.is, c.number.ensures.short, loop.invariant.room);
+      text = ap (λ (l : List ℕ). with_indexes l (drop (loop.index-index + 1) c.args.entries.now)) (number.text ∙ ap (λ (l : List ℕ). l ++ decimal_word (get_or c.args.entries.now loop.index-index 0)) piece.text)
+          ∙ sym (indexes_more (take loop.answer.length loop.answer.out.now) c.args.entries.now loop.index-index c.loop-index-test.true) ∙ loop.invariant.text;
+      behind = λ n h. number.behind n h ∙ piece.behind n (omega (arith, number.is, h)) ∙ loop.invariant.behind n (omega (arith, number.is, piece.is, h));
+      on = omega (arith, number.is, piece.is, loop.invariant.on);
+    }
 
 pub returns : goal.returns
 returns c =
-    let loop = c.loop-i in
-    let put = c.put-at in
-    let end = c.end_line in (
-      record {
-        inside = end.ensures.1.0.inside;
-        is = end.ensures.1.0.is ∙ ap (λ (l : List ℕ). l ++ line_end)
-            (indexes_end (take loop.at loop.out) c.args.entries.now loop.i (omega arith) ∙ loop.invariant.3);
-      },
-      behind_on end.new.out loop.out c.args.out.now loop.at end.result end.result refl (omega (arith, end.ensures.0)) end.ensures.1.1
-          (behind_on loop.out put.new.out c.args.out.now put.result loop.at loop.at refl loop.invariant.4 loop.invariant.5 put.ensures.2),
-    )
+    let loop = c.loop-index in
+    let text = indexes_end (take loop.answer.length loop.answer.out.now) c.args.entries.now loop.index-index c.loop-index-test.false ∙ loop.invariant.text in
+    puts_on _ _ _ _ _ _ _ _ _ c.piece.ensures.appends loop.invariant.on loop.invariant.behind c.end.ensures.appends text c.end.ensures.is (omega (arith, c.end.ensures.appends.is, c.end.ensures.appends.long, loop.invariant.room, loop.invariant.long, c.piece.ensures.appends.long)) (search rules)

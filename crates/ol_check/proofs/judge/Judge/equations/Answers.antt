@@ -1,0 +1,40 @@
+use Prim.Native.Nat.{◌+◌, ◌*◌, ◌≤◌, ◌<◌}
+use mathlib.Core.Path.{refl, sym}
+use lib.ListN.{length}
+use native.Mathlib.Omega.{arith}
+use Rattle.ol_tables.specs.At.{file_at}
+use Rattle.ol_tables.specs.Tables.{node_of}
+use Rattle.ol_check.proofs.EquationLaws.{equations_start_lem, equations_turn, equations_done, equations_cut, equations_sized, walked_parts}
+use Rattle.ol_check.proofs.PlanLaws.{plan_start, plan_least, plan_turn, plan_done, plan_front, plan_back}
+use Rattle.ol_check.proofs.judge.Judge.equations.Goals as goal
+
+pub loop-i-init : goal.loop-i-init
+loop-i-init c = record { going = equations_start_lem c.requires.1 c.requires.0.stand; planned = plan_start c.requires.1 }
+
+pub returns-then-self-g : goal.returns-then-self-g
+returns-then-self-g c =
+    absurd (equations_cut c.loop-i.invariant.going (omega (arith, c.loop-i-test.true, c.requires.0.count)) c.if-self-g.true)
+
+pub overflow_sub-g : goal.overflow_sub-g
+overflow_sub-g c = plan_least c.loop-i.invariant.planned c.requires.1
+
+pub equation-requires : goal.equation-requires
+equation-requires c = (omega (arith, c.if-self-g.false, c.args.self.now.short), c.loop-i.invariant.going.sized.0)
+
+pub loop-i-preserved : goal.loop-i-preserved
+loop-i-preserved c =
+    let w = c.loop-i.invariant in
+    let qs = (node_of (file_at c.args.self.now.file.now) c.args.self.now.node).equations in
+    let lt : c.loop-i.i < length qs = omega (arith, c.loop-i-test.true, c.requires.0.count) in
+    let room : c.args.plan + 4 * length qs ≤ length c.loop-i.slots = omega (arith, c.requires.4, c.loop-i.auto.slots, c.requires.0.count) in
+    let front = plan_front w.planned _ _ c.equation.new.slots c.requires.0.count lt c.requires.3 room c.requires.2 c.put_two.ensures c.put_two-in-loop-i.ensures c.equation.auto.slots in
+    let back = plan_back w.planned _ _ c.equation.new.slots c.requires.0.count lt c.requires.3 room c.requires.2 c.put_two.ensures c.put_two-in-loop-i.ensures c.equation.auto.slots in
+    let walked = walked_parts front (sym back) c.equation.ensures in
+    record {
+      going = equations_turn w.going lt _ _ _ c.requires.0.context walked;
+      planned = plan_turn w.planned _ _ c.equation.new.slots c.requires.0.count lt c.requires.3 room c.requires.2 c.put_two.ensures c.put_two-in-loop-i.ensures c.equation.auto.slots w.going.passing.place (omega arith) refl c.requires.1 _ (equations_sized w.going lt c.requires.0.context walked);
+    }
+
+pub returns : goal.returns
+returns c =
+    (equations_done c.loop-i.invariant.going (omega (arith, c.loop-i-test.false, c.requires.0.count)), plan_done _ c.loop-i.invariant.planned c.loop-i.auto.i-end c.loop-i-test.false)

@@ -1,6 +1,0 @@
-use Rattle.ol_check.proofs.HeadTests.{var_judged}
-use Rattle.ol_check.proofs.judge.judge_var.Goals as goal
-
-pub returns : goal.returns
-returns c =
-    var_judged c.args.file.now c.args.names.now c.args.slots.now c.args.found.now c.args.at c.name.ensures c.byte-e.ensures c.slot.ensures c.put_byte.ensures c.mark.ensures.0

@@ -1,0 +1,17 @@
+-- What the ordering of a file's nodes asks and gives.
+use Rattle.std.specs.Prelude.{ℕ, List, ◌≡◌, take, drop}
+use Rattle.ol_spec.specs.Syntax.{File}
+use Rattle.ol_spec.specs.Limits.{relay_loader}
+use Rattle.ol_spec.specs.Read.{got, read_file}
+use Rattle.ol_order.specs.Orders.{Ring, NodesStand, Planned, OrdersDone}
+use Rattle.ol_order.specs.declared.table.Nodes.{Nodes}
+
+-- the nodes stand in a file that reads, and its table has their plans
+pub record OrdersAsked (n : Nodes) (tab : List ℕ) : Type 0 where
+  pub stand : NodesStand n.file.now n.enums n.places.now n.low
+  pub planned : Planned n.file.now n.rows.now tab
+
+-- the first 2,560 bytes of the table have their orders, the others stay
+pub record OrdersTold (n : Nodes) (before after : List ℕ) (r : Ring) : Type 0 where
+  pub done : (f : File) (end : ℕ) → read_file n.file.now relay_loader ≡ got f end → OrdersDone f (take 2560 before) (take 2560 after) r
+  pub kept : drop 2560 after ≡ drop 2560 before

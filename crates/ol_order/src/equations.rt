@@ -1,0 +1,64 @@
+// Equations of a file, by their places.
+ghost use Rattle.std.specs.Prelude.{◌≡◌, ℕ, ◌≤◌, length, take};
+ghost use Rattle.ol_spec.specs.Lists.{member};
+ghost use Rattle.ol_order.specs.Tables.{names_at, defined_at};
+ghost use Rattle.ol_order.specs.Post.{Readable};
+
+use ol_ir::read::{bytes, count, name};
+use ol_spec::Limits;
+
+// The equations that start at these places.
+#[derive(Clone, Copy)]
+pub(crate) struct Equations<'f, 's> {
+    pub(crate) file: &'f [u8],
+    pub(crate) limits: Limits,
+    pub(crate) enums: usize,
+    pub(crate) starts: &'s [usize],
+    ghost readable: { Readable file.now limits enums starts.now },
+}
+
+// Whether the name is one of so many, up to one that the file's end cuts off.
+fn among(file: &[u8], count: usize, at: usize, x: usize) -> bool
+    ensures { result ≡ member x (names_at count file.now at) }
+{
+    let mut next = at;
+    for _i in 0..count {
+        if x == name(file, next) {
+            return true;
+        }
+        match bytes(file, 2, next) {
+            Ok(p) => next = p,
+            Err(_) => return false,
+        }
+    }
+    false
+}
+
+// Whether the equation that starts at `at` defines the name.
+fn defines(file: &[u8], most: usize, at: usize, x: usize) -> bool
+    ensures { result ≡ defined_at file.now most at x }
+{
+    match count(file, 1, most, at) {
+        Ok(names) => among(file, names.count, names.at, x),
+        Err(_) => false,
+    }
+}
+
+impl<'f, 's> Equations<'f, 's> {
+    ghost use Rattle.ol_spec.specs.Order.{definer};
+    ghost use Rattle.ol_order.specs.Tables.{as_option};
+    ghost use Rattle.ol_order.specs.Equations.{those};
+
+    // The last of the first n equations that defines the name.
+    pub(crate) fn search(self, n: usize, x: usize) -> Option<usize>
+        requires { n ≤ length self.starts.now }
+        ensures { result ≡ as_option (definer (take n (those self.entry)) x) }
+    {
+        for k in (0..n).rev() {
+            if defines(self.file, self.limits.names, self.starts[k], x) {
+                return Some(k);
+            }
+        }
+        None
+    }
+}

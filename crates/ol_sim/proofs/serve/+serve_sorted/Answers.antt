@@ -1,0 +1,20 @@
+use Rattle.ol_tables.specs.At.{file_at}
+use Rattle.ol_sim.proofs.Begins.{declared_ready, blank_zeros, false_not_true}
+use Rattle.ol_sim.proofs.serve.+serve_sorted.Goals as goal
+
+pub sort_file-s-requires : goal.sort_file-s-requires
+sort_file-s-requires g t c = declared_ready c.requires.sections_ready.rowed
+
+pub serve_named-requires : goal.serve_named-requires
+serve_named-requires g t c =
+    let f = file_at c.args.project.now.file.now in
+    let r = c.requires in
+    record {
+      callable = r.callable;
+      loads = r.loads;
+      sections_ready = r.sections_ready;
+      below = r.below;
+      lows = λ e. absurd (false_not_true e);
+      clash_value = c.sort_file-s.ensures.finds (blank_zeros f g.row.N r.below);
+      fits = r.fits;
+    }

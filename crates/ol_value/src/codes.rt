@@ -1,0 +1,86 @@
+// The operators, from their codes in the file.
+use ol_spec::Cause;
+
+// The unary operators, in the order of their codes.
+#[derive(Clone, Copy)]
+pub(crate) enum Unary {
+    Not,
+    Neg,
+}
+
+// The binary operators, in the order of their codes.
+#[derive(Clone, Copy)]
+pub(crate) enum Binary {
+    And,
+    Or,
+    Xor,
+    Implies,
+    Eq,
+    Neq,
+    Lt,
+    Le,
+    Gt,
+    Ge,
+    Add,
+    Sub,
+    Mul,
+    Div,
+    Mod,
+    BitAnd,
+    BitOr,
+    BitXor,
+    Shl,
+    Shr,
+}
+
+// An unknown code fails as an operator that does not take its operands.
+impl TryFrom<u8> for Unary {
+    type Error = Cause;
+
+    ghost use Rattle.ol_value.specs.Codes.{UnaryDecodes};
+
+    ghost try_from_gives = { UnaryDecodes };
+
+    fn try_from(code: u8) -> Result<Self, Cause> {
+        match code {
+            0 => Ok(Unary::Not),
+            1 => Ok(Unary::Neg),
+            _ => Err(Cause::Other),
+        }
+    }
+}
+
+// Likewise.
+impl TryFrom<u8> for Binary {
+    type Error = Cause;
+
+    ghost use Rattle.ol_value.specs.Codes.{BinaryDecodes};
+
+    ghost try_from_gives = { BinaryDecodes };
+
+    fn try_from(code: u8) -> Result<Self, Cause> {
+        match code {
+            0 => Ok(Binary::And),
+            1 => Ok(Binary::Or),
+            2 => Ok(Binary::Xor),
+            3 => Ok(Binary::Implies),
+            4 => Ok(Binary::Eq),
+            5 => Ok(Binary::Neq),
+            6 => Ok(Binary::Lt),
+            7 => Ok(Binary::Le),
+            8 => Ok(Binary::Gt),
+            9 => Ok(Binary::Ge),
+            10 => Ok(Binary::Add),
+            11 => Ok(Binary::Sub),
+            12 => Ok(Binary::Mul),
+            13 => Ok(Binary::Div),
+            14 => Ok(Binary::Mod),
+            15 => Ok(Binary::BitAnd),
+            16 => Ok(Binary::BitOr),
+            17 => Ok(Binary::BitXor),
+            18 => Ok(Binary::Shl),
+            19 => Ok(Binary::Shr),
+            _ => Err(Cause::Other),
+        }
+    }
+}
