@@ -28,7 +28,8 @@ fn variant(file: &[u8], at: usize) -> Value
     Value::Enum(u16::from_be_bytes([file[at], file[at + 1]]))
 }
 
-// The name at `at`: a variable's present cell, a constant's value or a variant.
+// The name at `at`: a variable's present cell, a constant's value or a variant. It stays out of `eval`, which the compiler then puts into its callers: measured.
+#[inline(never)]
 pub fn present(file: &[u8], tab: &[u8], frame: &[u8; FRAME], at: usize) -> Outcome
     requires { Framed frame.now × Nameable file.now (tab_of tab.now) (consts_of tab.now) (node_of frame.now) at × Cells file.now (node_of frame.now) (cells_of frame.now) }
     ensures { result ≡ or_failure (present_of (globals_in file.now (consts_of tab.now)) (scope_in file.now (node_of frame.now) false (cells_of frame.now) (cells_of frame.now)) (name_at file.now at)) }
