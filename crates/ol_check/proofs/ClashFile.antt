@@ -1,13 +1,12 @@
 -- The declarations of a node, of all nodes and of a whole file, sorted; and the highest name.
 use Prim.Native.Nat.{ℕ, max, ◌+◌, ◌≤◌, ◌<◌}
 use mathlib.Core.List.{List, [], ◌∷◌, ◌++◌, map}
-use mathlib.Core.Option.{none}
 use mathlib.Core.Path.{◌≡◌, refl, sym, ap, subst, ◌∙◌}
 use native.Mathlib.Omega.{arith}
 use native.Mathlib.Numerals.{add-one}
 use lib.ListN.{length, get_or, drop, drop_of_length-le}
 use Rattle.std.specs.Prelude.{None}
-use Rattle.ol_spec.specs.Lists.{concat, sum}
+use Rattle.ol_spec.specs.Lists.{concat, sum, or_else}
 use Rattle.ol_spec.specs.Syntax.{Variable, Node, File}
 use Rattle.ol_spec.specs.Places.{placed, placed_enums, placed_constants, placed_nodes, constant_size, variable_size, node_size, nodes_start, constants_start, outputs_start, locals_start}
 use Rattle.ol_spec.specs.Admission.{Sort, variable, constant, Declared, numbered, declared_at, declared_as, placed_variable_name, placed_constant_name, enum_declares, node_declares, declared}
@@ -19,9 +18,10 @@ use Rattle.ol_tables.specs.Heads.{Byte}
 use Rattle.ol_check.specs.Founds.{place_of}
 use Rattle.ol_check.specs.Spans.{end_from, behind_variable, variables_from}
 use Rattle.ol_check.specs.NodesJudged.{place_in, NodeReady, RowsReady}
-use Rattle.ol_check.specs.Clashing.{over_all, Sorts, Walks, VariablesSorted, enums_from, ConstantsAt, DeclaredReady, FileSorted}
+use Rattle.ol_check.specs.Clashing.{clash_in, over_all, Walks, VariablesSorted, enums_from, ConstantsAt, DeclaredReady, FileSorted}
 use Rattle.ol_check.specs.declared.rows.Sections.{Sections}
 use Rattle.ol_check.specs.declared.clash.Sorting.{Sorting}
+use Rattle.ol_check.specs.declared.clash.Sorter.{Sorter}
 use Rattle.ol_tables.proofs.Forms.{each_map}
 use Rattle.ol_check.proofs.SpanLaws.{variables_listed, variables_end}
 use Rattle.ol_check.proofs.NodeLaws.{ready_row, ready_node, nodes_on}
@@ -35,10 +35,10 @@ as_append u [] b = refl
 as_append u (p ∷ a) b = ap (λ l. declared_at u (placed_variable_name p) ∷ l) (as_append u a b)
 
 -- the variables of a section that stands in the file
-section_walks : {s : List ℕ} (k enums : ℕ) {count at p r : ℕ} {sorts sorts' : List ℕ} {marks marks' : Sorting} (vs : List Variable) → VariablesSorted s (18 + k) count p sorts sorts' marks marks' r → count ≡ length vs → p ≡ at → Variables s enums at vs
-    → Walks (declared_as (variable k) (map placed_variable_name (placed variable_size at vs))) sorts sorts' marks marks' × (r ≡ at + sum (map variable_size vs))
-section_walks {s} k enums {count} {at} {p} {r} {sorts} {sorts'} {marks} {marks'} vs w ec ep there = (
-  subst (λ ds. Walks ds sorts sorts' marks marks')
+section_walks : {s : List ℕ} (k enums : ℕ) {count at p r : ℕ} {v v' : Sorter} (vs : List Variable) → VariablesSorted s (18 + k) count p v v' r → count ≡ length vs → p ≡ at → Variables s enums at vs
+    → Walks (declared_as (variable k) (map placed_variable_name (placed variable_size at vs))) v v' × (r ≡ at + sum (map variable_size vs))
+section_walks {s} k enums {count} {at} {p} {r} {v} {v'} vs w ec ep there = (
+  subst (λ ds. Walks ds v v')
       (ap (λ u. declared_as u (variables_from s count p)) (of_variable k) ∙ ap (λ n. declared_as (variable k) (variables_from s n p)) ec ∙ ap (λ q. declared_as (variable k) (variables_from s (length vs) q)) ep ∙ ap (declared_as (variable k)) (variables_listed enums vs there)) w.walks,
   w.ends ∙ ap (λ n. end_from (behind_variable s) n p) ec ∙ ap (end_from (behind_variable s) (length vs)) ep ∙ variables_end enums vs there,
 )
@@ -50,9 +50,9 @@ module _ {s rows : List ℕ} {nodes k : ℕ} (rd : NodeReady s rows nodes k) (st
   pub place_in_lem : at < length s
   place_in_lem = omega (arith, place_is, (ready_node rd st).inside)
 
-  pub node_walks : {is os ls o l r : ℕ} {sorts s₁ s₂ s₃ : List ℕ} {marks m₁ m₂ m₃ : Sorting} → Byte s (at + 1) is → VariablesSorted s (18 + k) is (at + 2) sorts s₁ marks m₁ o → Byte s o os → VariablesSorted s (18 + k) os (o + 1) s₁ s₂ m₁ m₂ l
-      → Byte s l ls → VariablesSorted s (18 + k) ls (l + 1) s₂ s₃ m₂ m₃ r → Walks (node_declares (k, (place_in (file_at s) k, node_of (file_at s) k))) sorts s₃ marks m₃
-  node_walks {is} {os} {ls} {o} {l} {r} {sorts} {s₁} {s₂} {s₃} {marks} {m₁} {m₂} {m₃} bi r₁ bo r₂ bl r₃ =
+  pub node_walks : {is os ls o l r : ℕ} {v v₁ v₂ v₃ : Sorter} → Byte s (at + 1) is → VariablesSorted s (18 + k) is (at + 2) v v₁ o → Byte s o os → VariablesSorted s (18 + k) os (o + 1) v₁ v₂ l
+      → Byte s l ls → VariablesSorted s (18 + k) ls (l + 1) v₂ v₃ r → Walks (node_declares (k, (place_in (file_at s) k, node_of (file_at s) k))) v v₃
+  node_walks {is} {os} {ls} {o} {l} {r} {v} {v₁} {v₂} {v₃} bi r₁ bo r₂ bl r₃ =
       let n = node_of (file_at s) k in
       let p = place_in (file_at s) k in
       let ns = ready_node rd st in
@@ -63,13 +63,13 @@ module _ {s rows : List ℕ} {nodes k : ℕ} (rd : NodeReady s rows nodes k) (st
       let w₂ = section_walks k m {at = outputs_start p n + 1} n.outputs r₂ (bo.is ∙ ap (λ q. get_or s q 0) eo ∙ ns.output_count) (ap (λ q. q + 1) eo) ns.outputs in
       let el : l ≡ locals_start p n = w₂.1 ∙ omega arith in
       let w₃ = section_walks k m {at = locals_start p n + 1} n.locals r₃ (bl.is ∙ ap (λ q. get_or s q 0) el ∙ ns.local_count) (ap (λ q. q + 1) el) ns.locals in
-      let all = sorts_two (sorts_two w₁.0.is w₂.0.is) w₃.0.is in
+      let all = sorts_two (sorts_two w₁.0 w₂.0) w₃.0 in
       let a = placed variable_size (p + 2) n.inputs in
       let b = placed variable_size (outputs_start p n + 1) n.outputs in
       let c = placed variable_size (locals_start p n + 1) n.locals in
       let same : declared_as u (map placed_variable_name a) ++ declared_as u (map placed_variable_name b) ++ declared_as u (map placed_variable_name c) ≡ node_declares (k, (p, n)) =
       ap (λ x. x ++ declared_as u (map placed_variable_name c)) (sym (as_append u a b)) ∙ sym (as_append u (a ++ b) c) in
-      record { is = subst (λ ds. Sorts ds sorts s₃ (place_of marks.found) marks.highest (place_of m₃.found) m₃.highest) same all }
+      subst (λ ds. Walks ds v v₃) same all
 
 -- ---- all nodes
 
@@ -77,27 +77,27 @@ module _ {s rows : List ℕ} {nodes k : ℕ} (rd : NodeReady s rows nodes k) (st
 abbrev pub nodes_from : File → ℕ → List Declared
 nodes_from f k = concat (map node_declares (numbered k (drop k (placed_nodes f))))
 
-pub record NodesGoing (f : File) (sorts₀ : List ℕ) (marks₀ : Sorting) (sorts : List ℕ) (marks : Sorting) (k : ℕ) : Type 0 where
-  pub left : Left (nodes_from f k) sorts (place_of marks.found) marks.highest (nodes_from f 0) sorts₀ (place_of marks₀.found) marks₀.highest
+pub record NodesGoing (f : File) (v₀ v : Sorter) (k : ℕ) : Type 0 where
+  pub left : Left (nodes_from f k) v (nodes_from f 0) v₀
 
-module _ {f : File} {sorts₀ : List ℕ} {marks₀ : Sorting} where
-  pub nodes_start_lem : NodesGoing f sorts₀ marks₀ sorts₀ marks₀ 0
+module _ {f : File} {v₀ : Sorter} where
+  pub nodes_start_lem : NodesGoing f v₀ v₀ 0
   nodes_start_lem = record { left = left_all }
 
-  module _ {sorts : List ℕ} {marks : Sorting} {k : ℕ} (w : NodesGoing f sorts₀ marks₀ sorts marks k) where
-    pub nodes_turn : k < length f.nodes → {sorts' : List ℕ} {marks' : Sorting} → Walks (node_declares (k, (place_in f k, node_of f k))) sorts sorts' marks marks' → NodesGoing f sorts₀ marks₀ sorts' marks' (k + 1)
-    nodes_turn lt {sorts'} {marks'} one =
+  module _ {v : Sorter} {k : ℕ} (w : NodesGoing f v₀ v k) where
+    pub nodes_turn : k < length f.nodes → {v' : Sorter} → Walks (node_declares (k, (place_in f k, node_of f k))) v v' → NodesGoing f v₀ v' (k + 1)
+    nodes_turn lt {v'} one =
         let x : ℕ × Node = (place_in f k, node_of f k) in
         let rest = drop (k + 1) (placed_nodes f) in
         let counted : numbered k (drop k (placed_nodes f)) ≡ (k, x) ∷ numbered (k + 1) rest = ap (numbered k) (nodes_on f k lt) ∙ ap (λ n. (k, x) ∷ numbered n rest) (sym (add-one k)) in
         record {
-          left = left_on (node_declares (k, x)) (subst (λ l. Left (concat (map node_declares l)) sorts (place_of marks.found) marks.highest (nodes_from f 0) sorts₀ (place_of marks₀.found) marks₀.highest) counted w.left) one.is;
+          left = left_on (node_declares (k, x)) (subst (λ l. Left (concat (map node_declares l)) v (nodes_from f 0) v₀) counted w.left) one;
         }
 
-    pub nodes_done : length f.nodes ≤ k → Walks (concat (map node_declares (numbered 0 (placed_nodes f)))) sorts₀ sorts marks₀ marks
+    pub nodes_done : length f.nodes ≤ k → Walks (concat (map node_declares (numbered 0 (placed_nodes f)))) v₀ v
     nodes_done over =
         let empty : drop k (placed_nodes f) ≡ [] = drop_of_length-le (placed_nodes f) {i = k} (omega (arith, length_placed node_size (nodes_start f) f.nodes)) in
-        record { is = left_none (subst (λ l. Left (concat (map node_declares (numbered k l))) sorts (place_of marks.found) marks.highest (nodes_from f 0) sorts₀ (place_of marks₀.found) marks₀.highest) empty w.left) }
+        left_none (subst (λ l. Left (concat (map node_declares (numbered k l))) v (nodes_from f 0) v₀) empty w.left)
 
 -- ---- the file
 
@@ -118,19 +118,20 @@ module _ {s rows : List ℕ} {c : Sections} (rd : DeclaredReady s rows c) (st : 
   pub constants_at : {n : ℕ} → Byte s c.constants n → ConstantsAt s n (c.constants + 1)
   constants_at b = record { reads = rd.reads; many = b.is ∙ ap (λ p. get_or s p 0) (omega (arith, rd.sections.constants)) ∙ st.constant_count; place = rd.sections.constants }
 
-  pub file_sorted : {ec : ℕ} {sorts s₁ s₂ s₃ : List ℕ} {m₁ m₂ m₃ : Sorting} → Byte s 1 ec → Walks (enums_from s 0 ec 2) sorts s₁ no_marks m₁
-      → Walks (declared_as constant (map placed_constant_name (placed_constants (file_at s)))) s₁ s₂ m₁ m₂ → Walks (concat (map node_declares (numbered 0 (placed_nodes (file_at s))))) s₂ s₃ m₂ m₃
-      → FileSorted s sorts s₃ m₃
-  file_sorted {ec} {sorts} {s₁} {s₂} {s₃} {m₁} {m₂} {m₃} eb enums constants nodes =
+  pub file_sorted : {ec : ℕ} {v v₁ v₂ v₃ : Sorter} {sorts : List ℕ} → Byte s 1 ec → Walks (enums_from s 0 ec 2) v v₁
+      → Walks (declared_as constant (map placed_constant_name (placed_constants (file_at s)))) v₁ v₂ → Walks (concat (map node_declares (numbered 0 (placed_nodes (file_at s))))) v₂ v₃
+      → v.marks ≡ no_marks → sorts ≡ v₃.sorts.now → FileSorted s v.sorts.now sorts v₃.marks
+  file_sorted {ec} {v} {v₁} {v₂} {v₃} eb enums constants nodes em es =
       let f = file_at s in
-      let we : Walks (concat (map enum_declares (numbered 0 (placed_enums f)))) sorts s₁ no_marks m₁ =
-      subst (λ ds. Walks ds sorts s₁ no_marks m₁) (ap (λ n. enums_from s 0 n 2) (eb.is ∙ st.enum_count) ∙ enums_listed 0 2 f.enums (omega (arith, st.few_enums)) st.enums) enums in
-      let all : Sorts (declared f) sorts s₃ none 0 (place_of m₃.found) m₃.highest = sorts_two (sorts_two we.is constants.is) nodes.is in
+      let we : Walks (concat (map enum_declares (numbered 0 (placed_enums f)))) v v₁ =
+      subst (λ ds. Walks ds v v₁) (ap (λ n. enums_from s 0 n 2) (eb.is ∙ st.enum_count) ∙ enums_listed 0 2 f.enums (omega (arith, st.few_enums)) st.enums) enums in
+      let all : Walks (declared f) v v₃ = sorts_two (sorts_two we constants) nodes in
+      let first : place_of v₃.marks.found ≡ clash_in v.sorts.now (declared f) = all.finds ∙ ap (λ m. or_else (place_of m.found) (clash_in v.sorts.now (declared f))) em in
       record {
-        enters = all.enters;
-        clash = all.finds;
-        finds = λ blank. all.finds ∙ clash_is sorts st blank.zero blank.below;
-        highest = all.above;
+        enters = es ∙ all.enters;
+        clash = first;
+        finds = λ blank. first ∙ clash_is v.sorts.now st blank.zero blank.below;
+        highest = all.above ∙ ap (λ m. over_all m.highest (declared f)) em;
       }
 
 -- ---- the highest name

@@ -26,10 +26,10 @@ use Rattle.ol_tables.proofs.Skipping.{skip_stands}
 use Rattle.ol_tables.proofs.HeadsFile.{Passing, passing_start, passing_item, constant_stands}
 use Rattle.ol_check.specs.Spans.{starts_from, end_from, behind_variable, behind_enum, named_at, names_from}
 use Rattle.ol_check.specs.RowsDone.{Enums, no_constant}
-use Rattle.ol_check.specs.Clashing.{sort_code, sort_of, meets, sort_all, clash_in, over_all, Sorts, Walks, enums_from}
+use Rattle.ol_check.specs.Clashing.{sort_code, sort_of, meets, sort_all, clash_in, over_all, Walks, enums_from}
 use Rattle.ol_check.specs.Founds.{place_of, marked}
 use Rattle.ol_check.proofs.FoundLaws.{place_marked}
-use Rattle.ol_check.specs.declared.clash.Sorting.{Sorting}
+use Rattle.ol_check.specs.declared.clash.Sorter.{Sorter}
 use Rattle.ol_check.proofs.SpanLaws.{starts_on, starts_none, end_on_lem, end_none, names_listed, enum_stands}
 use Rattle.ol_check.proofs.WalkLoop.{found_none}
 
@@ -62,36 +62,45 @@ over_append most [] b = refl
 over_append most (d ∷ a) b = over_append (max most d.name) a b
 
 -- what is left to be sorted leads to what all leads to
-pub record Left (ds : List Declared) (sorts : List ℕ) (found : Option ℕ) (most : ℕ) (all : List Declared) (sorts₀ : List ℕ) (found₀ : Option ℕ) (most₀ : ℕ) : Type 0 where
-  pub finds : or_else found (clash_in sorts ds) ≡ or_else found₀ (clash_in sorts₀ all)
-  pub above : over_all most ds ≡ over_all most₀ all
-  pub enters : sort_all sorts ds ≡ sort_all sorts₀ all
+pub record Left (ds : List Declared) (v : Sorter) (all : List Declared) (v₀ : Sorter) : Type 0 where
+  pub same_reference : v.sorts.ghost_name ≡ v₀.sorts.ghost_name
+  pub finds : or_else (place_of v.marks.found) (clash_in v.sorts.now ds) ≡ or_else (place_of v₀.marks.found) (clash_in v₀.sorts.now all)
+  pub above : over_all v.marks.highest ds ≡ over_all v₀.marks.highest all
+  pub enters : sort_all v.sorts.now ds ≡ sort_all v₀.sorts.now all
 
-module _ {all : List Declared} {sorts₀ : List ℕ} {found₀ : Option ℕ} {most₀ : ℕ} where
-  pub left_all : Left all sorts₀ found₀ most₀ all sorts₀ found₀ most₀
-  left_all = record { finds = refl; above = refl; enters = refl }
+module _ {all : List Declared} {v₀ : Sorter} where
+  pub left_all : Left all v₀ all v₀
+  left_all = record { same_reference = refl; finds = refl; above = refl; enters = refl }
 
   -- some of them are sorted
-  pub left_on : {rest : List Declared} {sorts sorts' : List ℕ} {found found' : Option ℕ} {most most' : ℕ} (seg : List Declared) → Left (seg ++ rest) sorts found most all sorts₀ found₀ most₀ → Sorts seg sorts sorts' found most found' most'
-      → Left rest sorts' found' most' all sorts₀ found₀ most₀
-  left_on {rest} {sorts} {sorts'} {found} {found'} {most} {most'} seg l w =
+  pub left_on : {rest : List Declared} {v v' : Sorter} (seg : List Declared) → Left (seg ++ rest) v all v₀ → Walks seg v v' → Left rest v' all v₀
+  left_on {rest} {v} {v'} seg l w =
+      let sorts = v.sorts.now in
+      let sorts' = v'.sorts.now in
+      let found = place_of v.marks.found in
       record {
+        same_reference = w.same_reference ∙ l.same_reference;
         finds = ap (λ o. or_else o (clash_in sorts' rest)) w.finds ∙ or_assoc found (clash_in sorts seg) (clash_in sorts' rest)
             ∙ ap (λ t. or_else found (or_else (clash_in sorts seg) (clash_in t rest))) w.enters ∙ ap (or_else found) (sym (clash_append sorts seg rest)) ∙ l.finds;
-        above = ap (λ m. over_all m rest) w.above ∙ sym (over_append most seg rest) ∙ l.above;
+        above = ap (λ m. over_all m rest) w.above ∙ sym (over_append v.marks.highest seg rest) ∙ l.above;
         enters = ap (λ t. sort_all t rest) w.enters ∙ sym (sort_append sorts seg rest) ∙ l.enters;
       }
 
-  pub left_none : {sorts : List ℕ} {found : Option ℕ} {most : ℕ} → Left [] sorts found most all sorts₀ found₀ most₀ → Sorts all sorts₀ sorts found₀ most₀ found most
+  pub left_none : {v : Sorter} → Left [] v all v₀ → Walks all v₀ v
   unfolding clash_in sort_all over_all
-  left_none {sorts} {found} l = record { finds = sym (found_none found) ∙ l.finds; above = l.above; enters = l.enters }
+  left_none {v} l =
+      record { same_reference = l.same_reference; finds = sym (found_none (place_of v.marks.found)) ∙ l.finds; above = l.above; enters = l.enters }
 
 -- two lists
-pub sorts_two : {a b : List Declared} {s₀ s₁ s₂ : List ℕ} {f₀ f₁ f₂ : Option ℕ} {l₀ l₁ l₂ : ℕ} → Sorts a s₀ s₁ f₀ l₀ f₁ l₁ → Sorts b s₁ s₂ f₁ l₁ f₂ l₂ → Sorts (a ++ b) s₀ s₂ f₀ l₀ f₂ l₂
-sorts_two {a} {b} {s₀} {s₁} {s₂} {f₀} {f₁} {f₂} {l₀} {l₁} {l₂} v w =
+pub sorts_two : {a b : List Declared} {v₀ v₁ v₂ : Sorter} → Walks a v₀ v₁ → Walks b v₁ v₂ → Walks (a ++ b) v₀ v₂
+sorts_two {a} {b} {v₀} {v₁} {v₂} v w =
+    let s₀ = v₀.sorts.now in
+    let s₁ = v₁.sorts.now in
+    let f₀ = place_of v₀.marks.found in
     record {
+      same_reference = w.same_reference ∙ v.same_reference;
       finds = w.finds ∙ ap (λ o. or_else o (clash_in s₁ b)) v.finds ∙ or_assoc f₀ (clash_in s₀ a) (clash_in s₁ b) ∙ ap (λ t. or_else f₀ (or_else (clash_in s₀ a) (clash_in t b))) v.enters ∙ ap (or_else f₀) (sym (clash_append s₀ a b));
-      above = w.above ∙ ap (λ m. over_all m b) v.above ∙ sym (over_append l₀ a b);
+      above = w.above ∙ ap (λ m. over_all m b) v.above ∙ sym (over_append v₀.marks.highest a b);
       enters = w.enters ∙ ap (λ t. sort_all t b) v.enters ∙ sym (sort_append s₀ a b);
     }
 
@@ -113,120 +122,117 @@ of_variable k = let less : 18 + k - 18 ≡ k = omega arith in rw (le-ltb (18 + k
 
 -- ---- one name
 
-pub name_walks : (s : List ℕ) (sort at : ℕ) {x b : ℕ} {q : Bool} {sorts sorts' : List ℕ} {marks marks' : Sorting} → 0 < sort → x ≡ name_at s at → Byte sorts x b → q ≡ meets b sort → sorts' ≡ set sorts x sort
-    → marks'.found ≡ marked marks.found q at → marks'.highest ≡ max marks.highest x → Walks (declared_at (sort_of sort) (named_at s at) ∷ []) sorts sorts' marks marks'
+pub name_walks : (s : List ℕ) (sort at : ℕ) {x b : ℕ} {q : Bool} {v v' : Sorter} → 0 < sort → x ≡ name_at s at → Byte v.sorts.now x b → q ≡ meets b sort → v'.sorts.now ≡ set v.sorts.now x sort
+    → v'.marks.found ≡ marked v.marks.found q at → v'.marks.highest ≡ max v.marks.highest x → v'.sorts.ghost_name ≡ v.sorts.ghost_name → Walks (declared_at (sort_of sort) (named_at s at) ∷ []) v v'
 unfolding clash_in sort_all over_all
-name_walks s sort at {x} {b} {q} {sorts} {sorts'} {marks} {marks'} pos ex eb eq es ef el =
+name_walks s sort at {x} {b} {q} {v} {v'} pos ex eb eq es ef el same =
+    let sorts = v.sorts.now in
+    let marks = v.marks in
     let code = sym (code_of sort pos) in
     let meeting : q ≡ meets (get_or sorts (name_at s at) 0) (sort_code (sort_of sort)) = eq ∙ ap (λ n. meets n sort) eb.is ∙ ap (λ y. meets (get_or sorts y 0) sort) ex ∙ ap (meets (get_or sorts (name_at s at) 0)) code in
     record {
-      is = record {
-        finds = ap place_of ef ∙ place_marked marks.found q at ∙ ap (λ t. or_else (place_of marks.found) (first_if t at none)) meeting;
-        above = el ∙ ap (max marks.highest) ex;
-        enters = es ∙ ap (λ y. set sorts y sort) ex ∙ ap (set sorts (name_at s at)) code;
-      };
+      same_reference = same;
+      finds = ap place_of ef ∙ place_marked marks.found q at ∙ ap (λ t. or_else (place_of marks.found) (first_if t at none)) meeting;
+      above = el ∙ ap (max marks.highest) ex;
+      enters = es ∙ ap (λ y. set sorts y sort) ex ∙ ap (set sorts (name_at s at)) code;
     }
 
 -- ---- so many names, so many variables
 
 -- those from number i on are left, and end where all end
-pub record NamesGoing (behind : ℕ → ℕ) (s : List ℕ) (sort count at : ℕ) (sorts₀ : List ℕ) (marks₀ : Sorting) (sorts : List ℕ) (marks : Sorting) (i next : ℕ) : Type 0 where
-  pub left : Left (declared_as (sort_of sort) (map (named_at s) (starts_from behind (count - i) next))) sorts (place_of marks.found) marks.highest
-      (declared_as (sort_of sort) (map (named_at s) (starts_from behind count at))) sorts₀ (place_of marks₀.found) marks₀.highest
+pub record NamesGoing (behind : ℕ → ℕ) (s : List ℕ) (sort count at : ℕ) (v₀ v : Sorter) (i next : ℕ) : Type 0 where
+  pub left : Left (declared_as (sort_of sort) (map (named_at s) (starts_from behind (count - i) next))) v
+      (declared_as (sort_of sort) (map (named_at s) (starts_from behind count at))) v₀
   pub end : end_from behind (count - i) next ≡ end_from behind count at
 
-module _ {behind : ℕ → ℕ} {s : List ℕ} {sort count at : ℕ} {sorts₀ : List ℕ} {marks₀ : Sorting} where
-  pub names_start : NamesGoing behind s sort count at sorts₀ marks₀ sorts₀ marks₀ 0 at
+module _ {behind : ℕ → ℕ} {s : List ℕ} {sort count at : ℕ} {v₀ : Sorter} where
+  pub names_start : NamesGoing behind s sort count at v₀ v₀ 0 at
   names_start = let z : count - 0 ≡ count = omega arith in record { left = rw z left_all; end = rw z refl }
 
-  module _ {sorts : List ℕ} {marks : Sorting} {i next : ℕ} (w : NamesGoing behind s sort count at sorts₀ marks₀ sorts marks i next) where
-    pub names_turn : i < count → {sorts' : List ℕ} {marks' : Sorting} {next' : ℕ} → next' ≡ behind next → Walks (declared_at (sort_of sort) (named_at s next) ∷ []) sorts sorts' marks marks'
-        → NamesGoing behind s sort count at sorts₀ marks₀ sorts' marks' (i + 1) next'
-    names_turn lt {sorts'} {marks'} {next'} en one =
+  module _ {v : Sorter} {i next : ℕ} (w : NamesGoing behind s sort count at v₀ v i next) where
+    pub names_turn : i < count → {v' : Sorter} {next' : ℕ} → next' ≡ behind next → Walks (declared_at (sort_of sort) (named_at s next) ∷ []) v v'
+        → NamesGoing behind s sort count at v₀ v' (i + 1) next'
+    names_turn lt {v'} {next'} en one =
         let all = declared_as (sort_of sort) (map (named_at s) (starts_from behind count at)) in
-        let on : Left (declared_at (sort_of sort) (named_at s next) ∷ declared_as (sort_of sort) (map (named_at s) (starts_from behind (count - (i + 1)) (behind next)))) sorts (place_of marks.found) marks.highest all sorts₀ (place_of marks₀.found) marks₀.highest =
-        subst (λ l. Left (declared_as (sort_of sort) (map (named_at s) l)) sorts (place_of marks.found) marks.highest all sorts₀ (place_of marks₀.found) marks₀.highest) (starts_on behind count i next lt) w.left in
+        let on : Left (declared_at (sort_of sort) (named_at s next) ∷ declared_as (sort_of sort) (map (named_at s) (starts_from behind (count - (i + 1)) (behind next)))) v all v₀ =
+        subst (λ l. Left (declared_as (sort_of sort) (map (named_at s) l)) v all v₀) (starts_on behind count i next lt) w.left in
         record {
-          left = rw en (left_on (declared_at (sort_of sort) (named_at s next) ∷ []) on one.is);
+          left = rw en (left_on (declared_at (sort_of sort) (named_at s next) ∷ []) on one);
           end = ap (end_from behind (count - (i + 1))) en ∙ sym (end_on_lem behind count i next lt) ∙ w.end;
         }
 
-    pub names_done : count ≤ i → Walks (declared_as (sort_of sort) (map (named_at s) (starts_from behind count at))) sorts₀ sorts marks₀ marks
+    pub names_done : count ≤ i → Walks (declared_as (sort_of sort) (map (named_at s) (starts_from behind count at))) v₀ v
     names_done over =
-        record {
-          is = left_none (subst (λ l. Left (declared_as (sort_of sort) (map (named_at s) l)) sorts (place_of marks.found) marks.highest (declared_as (sort_of sort) (map (named_at s) (starts_from behind count at))) sorts₀ (place_of marks₀.found) marks₀.highest)
-              (starts_none behind count i next over) w.left);
-        }
+        left_none (subst (λ l. Left (declared_as (sort_of sort) (map (named_at s) l)) v (declared_as (sort_of sort) (map (named_at s) (starts_from behind count at))) v₀)
+        (starts_none behind count i next over) w.left)
 
     pub names_end : count ≤ i → next ≡ end_from behind count at
     names_end over = sym (end_none behind count i next over) ∙ w.end
 
 -- ---- the constants
 
-pub record ConstantsGoing (s : List ℕ) (enums : ℕ) (cs : List Constant) (at : ℕ) (sorts₀ : List ℕ) (marks₀ : Sorting) (sorts : List ℕ) (marks : Sorting) (i next : ℕ) : Type 0 where
+pub record ConstantsGoing (s : List ℕ) (enums : ℕ) (cs : List Constant) (at : ℕ) (v₀ v : Sorter) (i next : ℕ) : Type 0 where
   pub passing : Passing constant_bytes (constant_fits base enums) constant_size s at cs i next
-  pub left : Left (declared_as constant (map placed_constant_name (placed constant_size next (drop i cs)))) sorts (place_of marks.found) marks.highest
-      (declared_as constant (map placed_constant_name (placed constant_size at cs))) sorts₀ (place_of marks₀.found) marks₀.highest
+  pub left : Left (declared_as constant (map placed_constant_name (placed constant_size next (drop i cs)))) v
+      (declared_as constant (map placed_constant_name (placed constant_size at cs))) v₀
 
-module _ {s : List ℕ} {enums : ℕ} {cs : List Constant} {at : ℕ} {sorts₀ : List ℕ} {marks₀ : Sorting} where
-  pub constants_start_lem : Listed constant_bytes (constant_fits base enums) s at cs → ConstantsGoing s enums cs at sorts₀ marks₀ sorts₀ marks₀ 0 at
+module _ {s : List ℕ} {enums : ℕ} {cs : List Constant} {at : ℕ} {v₀ : Sorter} where
+  pub constants_start_lem : Listed constant_bytes (constant_fits base enums) s at cs → ConstantsGoing s enums cs at v₀ v₀ 0 at
   constants_start_lem st = record { passing = passing_start constant_bytes (constant_fits base enums) constant_size st; left = left_all }
 
-  module _ {sorts : List ℕ} {marks : Sorting} {i next : ℕ} (w : ConstantsGoing s enums cs at sorts₀ marks₀ sorts marks i next) where
+  module _ {v : Sorter} {i next : ℕ} (w : ConstantsGoing s enums cs at v₀ v i next) where
     pub constants_in_lem : i < length cs → next < length s
     constants_in_lem lt =
         let it = passing_item constant_size_lem no_constant w.passing lt in
         let c = get_or cs i no_constant in
         omega (arith, here_inside it.here (omega (arith, constant_size_lem c)), constant_size_lem c)
 
-    pub constants_turn : i < length cs → {sorts' : List ℕ} {marks' : Sorting} {n next' : ℕ} → Walks (declared_at (sort_of 17) (named_at s next) ∷ []) sorts sorts' marks marks' → n ≡ behind_variable s next → next' ≡ skip_at s 1 n
-        → ConstantsGoing s enums cs at sorts₀ marks₀ sorts' marks' (i + 1) next'
-    constants_turn lt {sorts'} {marks'} {n} {next'} one en er =
+    pub constants_turn : i < length cs → {v' : Sorter} {n next' : ℕ} → Walks (declared_at (sort_of 17) (named_at s next) ∷ []) v v' → n ≡ behind_variable s next → next' ≡ skip_at s 1 n
+        → ConstantsGoing s enums cs at v₀ v' (i + 1) next'
+    constants_turn lt {v'} {n} {next'} one en er =
         let it = passing_item constant_size_lem no_constant w.passing lt in
         let c = get_or cs i no_constant in
         let st = constant_stands c it.fit it.here in
         let all = declared_as constant (map placed_constant_name (placed constant_size at cs)) in
         let behind : next' ≡ next + constant_size c =
         er ∙ ap (skip_at s 1) (en ∙ ap (λ m. next + 2 + m) st.ty.size) ∙ skip_stands {es = cons c.value nil} refl st.value ∙ omega arith in
-        let rest : Left (declared_at constant (next, c.name) ∷ declared_as constant (map placed_constant_name (placed constant_size (next + constant_size c) (drop (suc i) cs)))) sorts (place_of marks.found) marks.highest all sorts₀ (place_of marks₀.found) marks₀.highest =
-        subst (λ l. Left (declared_as constant (map placed_constant_name (placed constant_size next l))) sorts (place_of marks.found) marks.highest all sorts₀ (place_of marks₀.found) marks₀.highest) (drop-cons cs i no_constant lt) w.left in
+        let rest : Left (declared_at constant (next, c.name) ∷ declared_as constant (map placed_constant_name (placed constant_size (next + constant_size c) (drop (suc i) cs)))) v all v₀ =
+        subst (λ l. Left (declared_as constant (map placed_constant_name (placed constant_size next l))) v all v₀) (drop-cons cs i no_constant lt) w.left in
         record {
           passing = subst (Passing constant_bytes (constant_fits base enums) constant_size s at cs (i + 1)) (sym behind) it.on;
-          left = rw (behind, add-one i) (left_on (declared_at constant (next, c.name) ∷ []) rest (subst (λ x. Walks (declared_at constant (next, x) ∷ []) sorts sorts' marks marks') st.name one).is);
+          left = rw (behind, add-one i) (left_on (declared_at constant (next, c.name) ∷ []) rest (subst (λ x. Walks (declared_at constant (next, x) ∷ []) v v') st.name one));
         }
 
-    pub constants_done : length cs ≤ i → Walks (declared_as constant (map placed_constant_name (placed constant_size at cs))) sorts₀ sorts marks₀ marks
+    pub constants_done : length cs ≤ i → Walks (declared_as constant (map placed_constant_name (placed constant_size at cs))) v₀ v
     constants_done over =
-        record {
-          is = left_none (subst (λ l. Left (declared_as constant (map placed_constant_name (placed constant_size next l))) sorts (place_of marks.found) marks.highest (declared_as constant (map placed_constant_name (placed constant_size at cs))) sorts₀ (place_of marks₀.found) marks₀.highest)
-              (drop_of_length-le cs over) w.left);
-        }
+        left_none (subst (λ l. Left (declared_as constant (map placed_constant_name (placed constant_size next l))) v (declared_as constant (map placed_constant_name (placed constant_size at cs))) v₀)
+        (drop_of_length-le cs over) w.left)
 
 -- ---- the enums
 
-pub record EnumsGoing (s : List ℕ) (count at : ℕ) (sorts₀ : List ℕ) (marks₀ : Sorting) (sorts : List ℕ) (marks : Sorting) (e next : ℕ) : Type 0 where
-  pub left : Left (enums_from s e (count - e) next) sorts (place_of marks.found) marks.highest (enums_from s 0 count at) sorts₀ (place_of marks₀.found) marks₀.highest
+pub record EnumsGoing (s : List ℕ) (count at : ℕ) (v₀ v : Sorter) (e next : ℕ) : Type 0 where
+  pub left : Left (enums_from s e (count - e) next) v (enums_from s 0 count at) v₀
 
-module _ {s : List ℕ} {count at : ℕ} {sorts₀ : List ℕ} {marks₀ : Sorting} where
-  pub enums_start : EnumsGoing s count at sorts₀ marks₀ sorts₀ marks₀ 0 at
+module _ {s : List ℕ} {count at : ℕ} {v₀ : Sorter} where
+  pub enums_start : EnumsGoing s count at v₀ v₀ 0 at
   enums_start = let z : count - 0 ≡ count = omega arith in record { left = rw z left_all }
 
-  module _ {sorts : List ℕ} {marks : Sorting} {e next : ℕ} (w : EnumsGoing s count at sorts₀ marks₀ sorts marks e next) where
-    pub enums_turn : e < count → {sorts' : List ℕ} {marks' : Sorting} {many next' : ℕ} → Byte s next many → next' ≡ behind_enum s next
-        → Walks (declared_as (sort_of (e + 1)) (names_from s many (next + 1))) sorts sorts' marks marks' → EnumsGoing s count at sorts₀ marks₀ sorts' marks' (e + 1) next'
+  module _ {v : Sorter} {e next : ℕ} (w : EnumsGoing s count at v₀ v e next) where
+    pub enums_turn : e < count → {v' : Sorter} {many next' : ℕ} → Byte s next many → next' ≡ behind_enum s next
+        → Walks (declared_as (sort_of (e + 1)) (names_from s many (next + 1))) v v' → EnumsGoing s count at v₀ v' (e + 1) next'
     unfolding enums_from
-    enums_turn lt {sorts'} {marks'} {many} {next'} em behind one =
+    enums_turn lt {v'} {many} {next'} em behind one =
         let less : count - e ≡ suc (count - (e + 1)) = omega arith in
         let here = declared_as (sort_of (e + 1)) (names_from s (get_or s next 0) (next + 1)) in
-        let on : Left (here ++ enums_from s (e + 1) (count - (e + 1)) (behind_enum s next)) sorts (place_of marks.found) marks.highest (enums_from s 0 count at) sorts₀ (place_of marks₀.found) marks₀.highest =
-        subst (λ n. Left (enums_from s e n next) sorts (place_of marks.found) marks.highest (enums_from s 0 count at) sorts₀ (place_of marks₀.found) marks₀.highest) less w.left in
-        record { left = rw behind (left_on here on (subst (λ n. Walks (declared_as (sort_of (e + 1)) (names_from s n (next + 1))) sorts sorts' marks marks') em.is one).is) }
+        let on : Left (here ++ enums_from s (e + 1) (count - (e + 1)) (behind_enum s next)) v (enums_from s 0 count at) v₀ =
+        subst (λ n. Left (enums_from s e n next) v (enums_from s 0 count at) v₀) less w.left in
+        record { left = rw behind (left_on here on (subst (λ n. Walks (declared_as (sort_of (e + 1)) (names_from s n (next + 1))) v v') em.is one)) }
 
-    pub enums_done : count ≤ e → Walks (enums_from s 0 count at) sorts₀ sorts marks₀ marks
+    pub enums_done : count ≤ e → Walks (enums_from s 0 count at) v₀ v
     unfolding enums_from
     enums_done over =
         let none_left : count - e ≡ 0 = omega arith in
-        record { is = left_none (subst (λ n. Left (enums_from s e n next) sorts (place_of marks.found) marks.highest (enums_from s 0 count at) sorts₀ (place_of marks₀.found) marks₀.highest) none_left w.left) }
+        left_none (subst (λ n. Left (enums_from s e n next) v (enums_from s 0 count at) v₀) none_left w.left)
 
 -- enums that stand in the file
 pub enums_listed : {s : List ℕ} (i at : ℕ) (es : List (List ℕ)) → i + length es ≤ 16 → Enums s at es → enums_from s i (length es) at ≡ concat (map enum_declares (numbered i (placed enum_size at es)))

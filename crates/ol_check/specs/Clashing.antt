@@ -14,6 +14,7 @@ use Rattle.ol_check.specs.RowsDone.{NodeRow, SectionsAre}
 use Rattle.ol_check.specs.NodesJudged.{place_in}
 use Rattle.ol_check.specs.declared.rows.Sections.{Sections}
 use Rattle.ol_check.specs.declared.clash.Sorting.{Sorting}
+use Rattle.ol_check.specs.declared.clash.Sorter.{Sorter}
 
 -- the byte of a sort: an enum's number and 1, 17 for a constant, a node's number and 18
 abbrev pub sort_code : Sort → ℕ
@@ -43,19 +44,16 @@ unfoldable pub over_all : ℕ → List Declared → ℕ
 over_all most [] = most
 over_all most (d ∷ ds) = over_all (max most d.name) ds
 
--- what a walk over these declarations makes of the table, the first fault and the highest name
-pub record Sorts (ds : List Declared) (sorts sorts' : List ℕ) (found : Option ℕ) (most : ℕ) (found' : Option ℕ) (most' : ℕ) : Type 0 where
-  pub finds : found' ≡ or_else found (clash_in sorts ds)
-  pub above : most' ≡ over_all most ds
-  pub enters : sorts' ≡ sort_all sorts ds
-
--- what a walk over these declarations makes of the table and of its marks, which are the first clash so far and the highest name so far
-pub record Walks (ds : List Declared) (sorts sorts' : List ℕ) (marks marks' : Sorting) : Type 0 where
-  pub is : Sorts ds sorts sorts' (place_of marks.found) marks.highest (place_of marks'.found) marks'.highest
+-- what a walk over these declarations makes of a sorter: its table, of which it keeps the reference, the first clash so far and the highest name so far
+pub record Walks (ds : List Declared) (v v' : Sorter) : Type 0 where
+  pub same_reference : v'.sorts.ghost_name ≡ v.sorts.ghost_name
+  pub finds : place_of v'.marks.found ≡ or_else (place_of v.marks.found) (clash_in v.sorts.now ds)
+  pub above : v'.marks.highest ≡ over_all v.marks.highest ds
+  pub enters : v'.sorts.now ≡ sort_all v.sorts.now ds
 
 -- so many variables from `at` on, and where they end
-pub record VariablesSorted (s : List ℕ) (sort count at : ℕ) (sorts sorts' : List ℕ) (marks marks' : Sorting) (r : ℕ) : Type 0 where
-  pub walks : Walks (declared_as (sort_of sort) (variables_from s count at)) sorts sorts' marks marks'
+pub record VariablesSorted (s : List ℕ) (sort count at : ℕ) (v v' : Sorter) (r : ℕ) : Type 0 where
+  pub walks : Walks (declared_as (sort_of sort) (variables_from s count at)) v v'
   pub ends : r ≡ end_from (behind_variable s) count at
 
 -- the variants of so many enums from `at` on, the first being number e

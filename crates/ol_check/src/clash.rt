@@ -34,103 +34,99 @@ fn clashes(last: usize, sort: usize) -> bool
     last != 0 && (last == sort || (last <= CONSTANT && CONSTANT <= sort))
 }
 
-// The name at `at`, declared as the sort.
-fn sort_name(file: &[u8], sorts: &mut [u8], marks: &mut Sorting, sort: usize, at: usize)
-    requires { (0 < sort) × (sort < 256) × (at < 65536) }
-    ensures { Walks (declared_at (sort_of sort) (named_at file.now at) ∷ []) sorts.old sorts.new marks.old marks.new }
-{
-    let x = name(file, at);
-    let clashed = clashes(byte(sorts, x), sort);
-    put_byte(sorts, x, sort as u8);
-    mark(&mut marks.found, clashed, at);
-    marks.highest = marks.highest.max(x);
+// A walk over declarations: the sort that declared each name last, the first clash and the highest name.
+#[derive(Drop)]
+pub struct Sorter<'a> {
+    sorts: &'a mut [u8],
+    marks: Sorting,
 }
 
-// So many names from `at` on.
-fn sort_names(
-    file: &[u8],
-    sorts: &mut [u8],
-    marks: &mut Sorting,
-    sort: usize,
-    count: usize,
-    at: usize,
-)
-    requires { (0 < sort) × (sort < 256) × (count < 256) × (at ≤ 40000) }
-    ensures { Walks (declared_as (sort_of sort) (names_from file.now count at)) sorts.old sorts.new marks.old marks.new }
-{
-    for i in 0..count {
-        sort_name(file, sorts, marks, sort, at + 2 * i);
+impl Sorter<'_> {
+    // The name at `at`, declared as the sort.
+    fn name(&mut self, file: &[u8], sort: usize, at: usize)
+        requires { (0 < sort) × (sort < 256) × (at < 65536) }
+        ensures { Walks (declared_at (sort_of sort) (named_at file.now at) ∷ []) self.old self.new }
+    {
+        let x = name(file, at);
+        let sorts = &mut *self.sorts;
+        let clashed = clashes(byte(sorts, x), sort);
+        put_byte(sorts, x, sort as u8);
+        mark(&mut self.marks.found, clashed, at);
+        self.marks.highest = self.marks.highest.max(x);
     }
-}
 
-// So many variables from `at` on; where they end is answered.
-// `each_variable` lends one table, and what a closure leaves in a second one that it captured is not known to a proof.
-fn sort_variables(
-    file: &[u8],
-    sorts: &mut [u8],
-    marks: &mut Sorting,
-    sort: usize,
-    count: usize,
-    at: usize,
-) -> usize
-    requires { (0 < sort) × (sort < 256) × (count < 256) × (at ≤ 40000) }
-    ensures { VariablesSorted file.now sort count at sorts.old sorts.new marks.old marks.new result }
-{
-    let mut next = at;
-    for i in 0..count {
-        sort_name(file, sorts, marks, sort, next);
-        next = variable_end(file, next);
+    // So many names from `at` on.
+    fn names(&mut self, file: &[u8], sort: usize, count: usize, at: usize)
+        requires { (0 < sort) × (sort < 256) × (count < 256) × (at ≤ 40000) }
+        ensures { Walks (declared_as (sort_of sort) (names_from file.now count at)) self.old self.new }
+    {
+        for i in 0..count {
+            self.name(file, sort, at + 2 * i);
+        }
     }
-    next
-}
 
-// The variants of so many enums from `at` on.
-fn sort_enums(file: &[u8], sorts: &mut [u8], marks: &mut Sorting, count: usize, at: usize)
-    requires { (count ≤ 16) × (at ≤ 20000) }
-    ensures { Walks (enums_from file.now 0 count at) sorts.old sorts.new marks.old marks.new }
-{
-    let mut next = at;
-    for e in 0..count {
-        let many = byte(file, next);
-        sort_names(file, sorts, marks, e + 1, many, next + 1);
-        next = names_end(file, next);
+    // So many variables from `at` on; where they end is answered.
+    // `each_variable` is no plainer here: what it lends would be generic, and a generic type is never a slice.
+    fn variables(&mut self, file: &[u8], sort: usize, count: usize, at: usize) -> usize
+        requires { (0 < sort) × (sort < 256) × (count < 256) × (at ≤ 40000) }
+        ensures { VariablesSorted file.now sort count at self.old self.new result }
+    {
+        let mut next = at;
+        for i in 0..count {
+            self.name(file, sort, next);
+            next = variable_end(file, next);
+        }
+        next
     }
-}
 
-// The file's constants, so many from `at` on.
-fn sort_constants(file: &[u8], sorts: &mut [u8], marks: &mut Sorting, count: usize, at: usize)
-    requires { ConstantsAt file.now count at }
-    ensures { Walks (declared_as constant (map placed_constant_name (placed_constants (file_at file.now)))) sorts.old sorts.new marks.old marks.new }
-{
-    let mut next = at;
-    for i in 0..count {
-        sort_name(file, sorts, marks, CONSTANT, next);
-        next = skip(file, 1, variable_end(file, next));
+    // The variants of so many enums from `at` on.
+    fn enums(&mut self, file: &[u8], count: usize, at: usize)
+        requires { (count ≤ 16) × (at ≤ 20000) }
+        ensures { Walks (enums_from file.now 0 count at) self.old self.new }
+    {
+        let mut next = at;
+        for e in 0..count {
+            let many = byte(file, next);
+            self.names(file, e + 1, many, next + 1);
+            next = names_end(file, next);
+        }
     }
-}
 
-// The variables of node `k`.
-fn sort_node(file: &[u8], sorts: &mut [u8], marks: &mut Sorting, rows: &[usize], k: usize)
-    requires { NodeReady file.now rows.now (length (file_at file.now).nodes) k }
-    ensures { Walks (node_declares (k, (place_in (file_at file.now) k, node_of (file_at file.now) k))) sorts.old sorts.new marks.old marks.new }
-{
-    let at = row(rows, k, PLACE);
-    let inputs = byte(file, at + 1);
-    let sort = CONSTANT + 1 + k;
-    let o = sort_variables(file, sorts, marks, sort, inputs, at + 2);
-    let outputs = byte(file, o);
-    let l = sort_variables(file, sorts, marks, sort, outputs, o + 1);
-    let locals = byte(file, l);
-    sort_variables(file, sorts, marks, sort, locals, l + 1);
-}
+    // The file's constants, so many from `at` on.
+    fn constants(&mut self, file: &[u8], count: usize, at: usize)
+        requires { ConstantsAt file.now count at }
+        ensures { Walks (declared_as constant (map placed_constant_name (placed_constants (file_at file.now)))) self.old self.new }
+    {
+        let mut next = at;
+        for i in 0..count {
+            self.name(file, CONSTANT, next);
+            next = skip(file, 1, variable_end(file, next));
+        }
+    }
 
-// The variables of all nodes.
-fn sort_nodes(file: &[u8], sorts: &mut [u8], marks: &mut Sorting, rows: &[usize], nodes: usize)
-    requires { RowsReady file.now rows.now nodes }
-    ensures { Walks (concat (map node_declares (numbered 0 (placed_nodes (file_at file.now))))) sorts.old sorts.new marks.old marks.new }
-{
-    for k in 0..nodes {
-        sort_node(file, sorts, marks, rows, k);
+    // The variables of node `k`.
+    fn node(&mut self, file: &[u8], rows: &[usize], k: usize)
+        requires { NodeReady file.now rows.now (length (file_at file.now).nodes) k }
+        ensures { Walks (node_declares (k, (place_in (file_at file.now) k, node_of (file_at file.now) k))) self.old self.new }
+    {
+        let at = row(rows, k, PLACE);
+        let inputs = byte(file, at + 1);
+        let sort = CONSTANT + 1 + k;
+        let o = self.variables(file, sort, inputs, at + 2);
+        let outputs = byte(file, o);
+        let l = self.variables(file, sort, outputs, o + 1);
+        let locals = byte(file, l);
+        self.variables(file, sort, locals, l + 1);
+    }
+
+    // The variables of all nodes.
+    fn nodes(&mut self, file: &[u8], rows: &[usize], nodes: usize)
+        requires { RowsReady file.now rows.now nodes }
+        ensures { Walks (concat (map node_declares (numbered 0 (placed_nodes (file_at file.now))))) self.old self.new }
+    {
+        for k in 0..nodes {
+            self.node(file, rows, k);
+        }
     }
 }
 
@@ -142,12 +138,15 @@ pub fn sort_file(file: &[u8], rows: &[usize], sections: Sections, sorts: &mut [u
 {
     let c = sections.constants;
     let n = sections.nodes;
-    let mut marks = Sorting {
-        found: None,
-        highest: 0,
+    let mut sorter = Sorter {
+        sorts,
+        marks: Sorting {
+            found: None,
+            highest: 0,
+        },
     };
-    sort_enums(file, sorts, &mut marks, byte(file, 1), 2);
-    sort_constants(file, sorts, &mut marks, byte(file, c), c + 1);
-    sort_nodes(file, sorts, &mut marks, rows, byte(file, n));
-    marks
+    sorter.enums(file, byte(file, 1), 2);
+    sorter.constants(file, byte(file, c), c + 1);
+    sorter.nodes(file, rows, byte(file, n));
+    sorter.marks
 }

@@ -1,24 +1,26 @@
+use Rattle.std.proofs.Common.{rules}
+use mathlib.Core.Path.{refl}
 use native.Mathlib.Omega.{arith}
 use Rattle.ol_check.proofs.Standing.{stands}
 use Rattle.ol_check.proofs.ClashFile.{nodes_ready, enums_few, constants_at, file_sorted}
 use Rattle.ol_check.proofs.clash.sort_file.Goals as goal
 
-pub sort_enums-requires : goal.sort_enums-requires
-sort_enums-requires c =
+pub enums-requires : goal.enums-requires
+enums-requires c =
     let f = c.args.file.now in
     (enums_few c.requires (stands c.type_inv.file c.requires.reads) c.byte.ensures, omega arith)
 
-pub sort_constants-requires : goal.sort_constants-requires
-sort_constants-requires c =
+pub constants-requires : goal.constants-requires
+constants-requires c =
     let f = c.args.file.now in
     constants_at c.requires (stands c.type_inv.file c.requires.reads) c.byte-2.ensures
 
-pub sort_nodes-requires : goal.sort_nodes-requires
-sort_nodes-requires c =
+pub nodes-requires : goal.nodes-requires
+nodes-requires c =
     let f = c.args.file.now in
     nodes_ready c.requires (stands c.type_inv.file c.requires.reads) c.byte-3.ensures
 
 pub returns : goal.returns
 returns c =
     let f = c.args.file.now in
-    file_sorted c.requires (stands c.type_inv.file c.requires.reads) c.byte.ensures c.sort_enums.ensures c.sort_constants.ensures c.sort_nodes.ensures
+    file_sorted c.requires (stands c.type_inv.file c.requires.reads) c.byte.ensures c.enums.ensures c.constants.ensures c.nodes.ensures refl (search rules)

@@ -5,15 +5,15 @@ use Rattle.ol_spec.specs.Places.{constants_start}
 use Rattle.ol_tables.specs.At.{file_at}
 use Rattle.ol_check.proofs.Standing.{stands}
 use Rattle.ol_check.proofs.ClashLoops.{ConstantsGoing, constants_start_lem, constants_in_lem, constants_turn, constants_done}
-use Rattle.ol_check.proofs.clash.sort_constants.Goals as goal
+use Rattle.ol_check.proofs.clash.Sorter.constants.Goals as goal
 
 pub loop-i-init : goal.loop-i-init
 loop-i-init c =
     let f = c.args.file.now in
-    subst (ConstantsGoing f (length (file_at f).enums) (file_at f).constants (constants_start (file_at f)) _ _ _ _ 0) (sym c.requires.place) (constants_start_lem (stands c.type_inv.file c.requires.reads).constants)
+    subst (ConstantsGoing f (length (file_at f).enums) (file_at f).constants (constants_start (file_at f)) _ _ 0) (sym c.requires.place) (constants_start_lem (stands c.type_inv.file c.requires.reads).constants)
 
-pub sort_name-requires : goal.sort_name-requires
-sort_name-requires c =
+pub name-requires : goal.name-requires
+name-requires c =
     let f = c.args.file.now in
     let inside = constants_in_lem c.loop-i.invariant (omega (arith, c.loop-i-test.true, c.requires.many)) in
     (omega arith, omega arith, omega (arith, inside, (stands c.type_inv.file c.requires.reads).short))
@@ -26,7 +26,7 @@ variable_end-requires c =
 
 pub loop-i-preserved : goal.loop-i-preserved
 loop-i-preserved c =
-    constants_turn c.loop-i.invariant (omega (arith, c.loop-i-test.true, c.requires.many)) c.sort_name.ensures c.variable_end.ensures c.skip-next.ensures
+    constants_turn c.loop-i.invariant (omega (arith, c.loop-i-test.true, c.requires.many)) c.name.ensures c.variable_end.ensures c.skip-next.ensures
 
 pub returns : goal.returns
 returns c =
