@@ -142,7 +142,8 @@ fn orders_with(nodes: Nodes, lists: &mut [u8], tab: &mut [u8]) -> Option<usize>
     None
 }
 
-// The orders of all nodes, with lists of N entries.
+// The orders of all nodes, with lists of N entries. It stays out of its caller: a short file does not touch the long lists' stack.
+#[inline(never)]
 fn orders_sized<const N: usize>(nodes: Nodes, tab: &mut [u8]) -> Option<usize>
     requires asked { OrdersAsked nodes tab.old }
     requires room { length nodes.file.now ≤ 3 * N }
@@ -151,20 +152,6 @@ fn orders_sized<const N: usize>(nodes: Nodes, tab: &mut [u8]) -> Option<usize>
 {
     let mut lists = [0u8; N];
     orders_with(nodes, &mut lists, tab)
-}
-
-// The orders of all nodes of any file. A function that calls itself is not put into its caller's
-// frame: a caller that has a short file does not touch the long lists' stack. `turns` is 0 for every
-// file that reads.
-fn orders_long(turns: usize, nodes: Nodes, tab: &mut [u8]) -> Option<usize>
-    requires { OrdersAsked nodes tab.old }
-    ensures { OrdersTold nodes.entry tab.old tab.new result }
-{
-    if 0 < turns {
-        orders_long(turns - 1, nodes, tab)
-    } else {
-        orders_sized::<10923>(nodes, tab)
-    }
 }
 
 // The orders of all nodes of a file that reads without fault, and that start at these places: the
@@ -193,6 +180,6 @@ pub fn orders_of(
     if file.len() <= 1536 {
         orders_sized::<512>(nodes, tab)
     } else {
-        orders_long(file.len() / 65536, nodes, tab)
+        orders_sized::<10923>(nodes, tab)
     }
 }

@@ -46,10 +46,10 @@ fn serve_named<const N: usize, R, F: FnMut(&Program) -> R>(
     }))
 }
 
-// With every declared name below N, which is more than 1,024. A function that calls itself is not put into its caller's frame: a call with
-// low names does not touch these tables' stack. `turns` is 0 for every file that reads.
+// With every declared name below N, which is more than 1,024. It stays out of `serve_with`: a call with low names does not touch these
+// tables' stack.
+#[inline(never)]
 fn serve_sorted<const N: usize, R, F: FnMut(&Program) -> R>(
-    turns: usize,
     project: &Project,
     rows: &mut [usize],
     tab: &mut [u8],
@@ -63,13 +63,9 @@ fn serve_sorted<const N: usize, R, F: FnMut(&Program) -> R>(
     requires fits { N ≤ 65536 }
     ensures { Serves (F.step call.old) call.old project.now.file.now result call.new }
 {
-    if 0 < turns {
-        serve_sorted::<N, R, F>(turns - 1, project, rows, tab, sections, call)
-    } else {
-        let mut sorts = [0u8; N];
-        let s = sort_file(project.file, rows, sections, &mut sorts);
-        serve_named::<N, R, F>(project, rows, tab, sections, false, s.found, call)
-    }
+    let mut sorts = [0u8; N];
+    let s = sort_file(project.file, rows, sections, &mut sorts);
+    serve_named::<N, R, F>(project, rows, tab, sections, false, s.found, call)
 }
 
 // With tables to write. Until the slots are written, their part of `tab` is blank: fault 6 uses 1,024 bytes of it.
@@ -88,19 +84,18 @@ fn serve_with<R, F: FnMut(&Program) -> R>(
     let plans = SLOTS - NODES + (tab.len() - SLOTS) / 2;
     let sections = rows_of(file, project.places, rows, &mut tab[NODES..], plans);
     let s = sort_file(file, rows, sections, &mut tab[SLOTS..SLOTS + 1024]);
-    let turns = file.len() / 65536;
     if s.highest < 1024 {
         serve_named::<1024, R, F>(project, rows, tab, sections, true, s.found, call)
     } else if s.highest < 8192 {
-        serve_sorted::<8192, R, F>(turns, project, rows, tab, sections, call)
+        serve_sorted::<8192, R, F>(project, rows, tab, sections, call)
     } else {
-        serve_sorted::<65536, R, F>(turns, project, rows, tab, sections, call)
+        serve_sorted::<65536, R, F>(project, rows, tab, sections, call)
     }
 }
 
-// With a table of N bytes. It calls itself as `serve_sorted` does: a small file does not touch the large table's stack.
+// With a table of N bytes. It stays out of `serve`: a small file does not touch the large table's stack.
+#[inline(never)]
 fn serve_sized<const N: usize, R, F: FnMut(&Program) -> R>(
-    turns: usize,
     project: &Project,
     call: &mut F,
 ) -> Result<R, Fault>
@@ -111,13 +106,9 @@ fn serve_sized<const N: usize, R, F: FnMut(&Program) -> R>(
     requires fits { N ≤ 69553 }
     ensures { Serves (F.step call.old) call.old project.now.file.now result call.new }
 {
-    if 0 < turns {
-        serve_sized::<N, R, F>(turns - 1, project, call)
-    } else {
-        let mut rows = [0usize; ROWS];
-        let mut tab = [0u8; N];
-        serve_with(project, &mut rows, &mut tab, call)
-    }
+    let mut rows = [0usize; ROWS];
+    let mut tab = [0u8; N];
+    serve_with(project, &mut rows, &mut tab, call)
 }
 
 // Calls on the file's program, or gives the fault for which it is not admitted.
@@ -133,9 +124,8 @@ pub(crate) fn serve<R, F: FnMut(&Program) -> R>(file: &[u8], call: &mut F) -> Re
         places: &starts[..loaded.nodes],
     };
     if file.len() <= 1024 {
-        serve_sized::<SMALL_TAB, R, F>(0, &project, call)
+        serve_sized::<SMALL_TAB, R, F>(&project, call)
     } else {
-        let turns = file.len() / 65536;
-        serve_sized::<LARGE_TAB, R, F>(turns, &project, call)
+        serve_sized::<LARGE_TAB, R, F>(&project, call)
     }
 }

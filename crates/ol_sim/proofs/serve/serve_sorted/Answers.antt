@@ -1,12 +1,12 @@
 use Rattle.ol_tables.specs.At.{file_at}
 use Rattle.ol_sim.proofs.Begins.{declared_ready, blank_zeros, false_not_true}
-use Rattle.ol_sim.proofs.serve.+serve_sorted.Goals as goal
+use Rattle.ol_sim.proofs.serve.serve_sorted.Goals as goal
 
 pub sort_file-s-requires : goal.sort_file-s-requires
-sort_file-s-requires g t c = declared_ready c.requires.sections_ready.rowed
+sort_file-s-requires g c = declared_ready c.requires.sections_ready.rowed
 
 pub serve_named-requires : goal.serve_named-requires
-serve_named-requires g t c =
+serve_named-requires g c =
     let f = file_at c.args.project.now.file.now in
     let r = c.requires in
     record {
