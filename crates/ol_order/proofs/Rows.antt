@@ -27,10 +27,10 @@ use Rattle.ol_order.specs.Tables.{node_in, node_at, equations_at, waited_all}
 use Rattle.ol_order.specs.Post.{NodeReads, Sorts}
 use Rattle.std.specs.Prelude as Std
 use Rattle.ol_order.proofs.Scanning.{found_some, found_none}
-use Rattle.ol_order.specs.Orders.{Ring, ring_place, Small, LowNames, StartsWith, row_written, EquationsDone, starts_in, PlanAt, NodeDone, NodesStand, NodePlanned, Planned, OrderOf, orders_written, OrdersDone}
+use Rattle.ol_order.specs.Orders.{Ring, ring_place, Small, LowNames, StartsWith, row_written, EquationsDone, starts_in, NodeDone, NodesStand, NodePlanned, Planned, OrderOf, orders_written, OrdersDone}
 use Rattle.ol_order.proofs.Room.{short_file, node_room, variables_room}
 use Rattle.ol_order.proofs.Nodes.{place_get, length_placed, items_placed, item_of, place_same, node_equations, counted_few}
-use Rattle.ol_tables.specs.Tables.{row_at, node_of, place_of as table_place, slots_from, two_at, plans_from, plan_in}
+use Rattle.ol_tables.specs.Tables.{row_at, node_of, place_of as table_place, slots_from, two_at, plans_from, plans_of, plan_in}
 use Rattle.ol_ir.specs.Walks.{place_of}
 use Rattle.ol_ir.proofs.Files.{file_after}
 use Rattle.ol_ir.proofs.Items.{few_equations_lem}
@@ -240,19 +240,36 @@ starts_get t plan (suc n) (suc i) h = let z : plan + 2 + 2 * i ≡ plan + 2 * su
 pub starts_all_told : (t b : List ℕ) (plan n : ℕ) → length b ≡ n → ((i : ℕ) → i < n → get_or b i 0 ≡ two_at t (plan + 2 * i)) → b ≡ starts_in t plan n
 starts_all_told t b plan n e h = ext_get_or 0 b (starts_in t plan n) (e ∙ sym (starts_long t plan n)) (λ i g. h i (omega arith) ∙ sym (starts_get t plan n i (omega arith)))
 
-module _ (t before : List ℕ) (from : ℕ) (e : drop 2560 t ≡ drop 2560 before) (h : 2560 ≤ from) where
-  get_kept : (p q : ℕ) → p ≡ from + q → get_or t p 0 ≡ get_or (drop from before) q 0
-  get_kept p q z =
-      let a : 2560 + (p - 2560) ≡ p = omega arith in
-      subst (λ x. get_or t x 0 ≡ get_or before x 0) a (sym (get_or-drop 2560 t (p - 2560) 0) ∙ (ap (λ (l : List ℕ). get_or l (p - 2560) 0) e ∙ get_or-drop 2560 before (p - 2560) 0))
-      ∙ (ap (λ x. get_or before x 0) z ∙ sym (get_or-drop from before q 0))
+get_behind : (t : List ℕ) (from p q : ℕ) → p ≡ from + q → get_or t p 0 ≡ get_or (drop from t) q 0
+get_behind t from p q z = ap (λ x. get_or t x 0) z ∙ sym (get_or-drop from t q 0)
 
-  -- where the bytes from 2,560 on stay, what stands from `from` on does
-  two_kept : (p q : ℕ) → p ≡ from + q → two_at t p ≡ two_at (drop from before) q
-  two_kept p q z =
-      ap (λ x. x * 256 + get_or t (p + 1) 0) (get_kept p q z) ∙ ap (λ x. get_or (drop from before) q 0 * 256 + x) (get_kept (p + 1) (q + 1) (omega arith))
+two_behind : (t : List ℕ) (from p q : ℕ) → p ≡ from + q → two_at t p ≡ two_at (drop from t) q
+two_behind t from p q z =
+    ap (λ x. x * 256 + get_or t (p + 1) 0) (get_behind t from p q z) ∙ ap (λ x. get_or (drop from t) q 0 * 256 + x) (get_behind t from (p + 1) (q + 1) (omega arith))
+
+-- where the bytes from 2,560 on stay, so do the plans
+module _ (tab before : List ℕ) (e : drop 2560 tab ≡ drop 2560 before) (n : length tab ≡ length before) where
+  plans_kept : plans_of tab ≡ plans_of before
+  plans_kept =
+      let p = plans_from before in
+      let z : 2560 + (p - 2560) ≡ p = omega arith in
+      ap (λ l. drop (slots_from + (l - slots_from) / 2) tab) n
+      ∙ subst (λ q. drop q tab ≡ drop q before) z (sym (drop-drop (p - 2560) 2560 tab) ∙ (ap (drop (p - 2560)) e ∙ drop-drop (p - 2560) 2560 before))
+
+  pub planned_kept : {s rows : List ℕ} → Planned s rows before → Planned s rows tab
+  planned_kept p =
+      record {
+        long = omega (arith, p.long, n);
+        file = λ f end rd k h.
+            let q = p.file f end rd k h in
+            record { variables = q.variables; count = q.count; places = λ i g. ap (λ (t : List ℕ). two_at t (plan_in f k + 2 * i)) plans_kept ∙ q.places i g };
+      }
 
 -- ---- the nodes, one after the other
+
+no_ring : (r : Ring) → ((p : ℕ) → r ≡ Std.Some p → ⊥) → none ≡ ring_place r
+no_ring Std.None h = refl
+no_ring (Std.Some p) h = absurd (h p refl)
 
 module _ {s places : List ℕ} {enums : ℕ} {low : Bool} (ns : NodesStand s enums places low) where
   abbrev file : File
@@ -309,6 +326,14 @@ module _ {s places : List ℕ} {enums : ℕ} {low : Bool} (ns : NodesStand s enu
         subst (λ v. LowNames (node_at s v enums place).equations) (sym e)
         (subst (λ (n : Node). LowNames n.equations) (sym node_is) (ns.lows t k (omega (arith, as_many))))
 
+    -- with the limits that the code has
+    module _ {l : Limits} (e : l ≡ base) where
+      pub done_at_base : {from : ℕ} {before out : List ℕ} {r : Ring} → NodeDone place (node_at s l enums place) from before out r → NodeDone place (node_at s base enums place) from before out r
+      done_at_base {from} {before} {out} {r} = subst (λ v. NodeDone place (node_at s v enums place) from before out r) e
+
+      pub lists_at_base : {lists : List ℕ} (before : List ℕ) → lists ≡ sets before 0 (waited_all (node_at s l enums place).equations (node_at s l enums place).equations) → lists ≡ sets before 0 (waited_all (node_at s base enums place).equations (node_at s base enums place).equations)
+      lists_at_base {lists} before = subst (λ v. lists ≡ sets before 0 (waited_all (node_at s v enums place).equations (node_at s v enums place).equations)) e
+
     here_is : drop k (placed_nodes file) ≡ (place, get_or file.nodes k no_node) ∷ drop (suc k) (placed_nodes file)
     here_is = go (placed_nodes file) k entry.2 ∙ ap (λ (q : ℕ × Node). q ∷ drop (suc k) (placed_nodes file)) (ap (λ p. (p, entry.1)) (sym place_is) ∙ ap (λ n. (place, n)) (sym (node_item k entry.0 entry.1 entry.2)))
       where
@@ -321,11 +346,11 @@ module _ {s places : List ℕ} {enums : ℕ} {low : Bool} (ns : NodesStand s enu
     few_here : length (get_or file.nodes k no_node).equations ≤ 80
     few_here = subst (λ (n : Node). length n.equations ≤ 80) node_is (omega (arith, few_equations_lem s base enums place (node_at s base enums place) node_stands.end node_stands.is))
 
-    pub few_read : (l : Limits) → l ≡ base → length (node_at s l enums place).equations ≤ 80
-    few_read l e = subst (λ v. length (node_at s v enums place).equations ≤ 80) (sym e) (subst (λ (n : Node). length n.equations ≤ 80) (sym node_is) few_here)
+    pub few_read : length (node_at s base enums place).equations ≤ 80
+    few_read = subst (λ (n : Node). length n.equations ≤ 80) (sym node_is) few_here
 
-    module _ {rows before : List ℕ} (pl : Planned s rows before) where
-      abbrev planned : NodePlanned file rows before k
+    module _ {rows tab : List ℕ} (pl : Planned s rows tab) where
+      abbrev planned : NodePlanned file rows tab k
       planned = pl.file file ns.end ns.is k (omega (arith, as_many))
 
       -- it starts inside the file, and so do its variables
@@ -343,31 +368,32 @@ module _ {s places : List ℕ} {enums : ℕ} {low : Bool} (ns : NodesStand s enu
       starts_all : length starts ≡ row_at rows k 5
       starts_all = length-map (placed_equations place (node_of file k)) place_of ∙ (length_placed equation_size (equations_start place (node_of file k) + 1) (node_of file k).equations ∙ sym planned.count)
 
-      module _ (tab : List ℕ) (same : drop 2560 tab ≡ drop 2560 before) (short : length before < 9223372036854775808) where
-        -- where its plan starts, with so many variables
-        abbrev plan_with : ℕ → ℕ
-        plan_with v = slots_from + (length before - slots_from) / 2 + place + 2 * v
+      -- where its plan starts, with so many variables
+      abbrev plan_with : ℕ → ℕ
+      plan_with v = plans_from tab + place + 2 * v
 
-        abbrev plan : ℕ
-        plan = plan_with (row_at rows k 4)
+      starts_told : starts_in tab (plan_with (row_at rows k 4)) (row_at rows k 5) ≡ starts
+      starts_told =
+          let plan = plan_with (row_at rows k 4) in
+          let long = starts_long tab plan (row_at rows k 5) in
+          ext_get_or 0 (starts_in tab plan (row_at rows k 5)) starts (long ∙ sym starts_all)
+          (λ i h.
+          starts_get tab plan (row_at rows k 5) i (omega (arith, long))
+          ∙ (two_behind tab (plans_from tab) (plan + 2 * i) (plan_in file k + 2 * i) (omega (arith, place_told, planned.variables))
+          ∙ (planned.places i (omega (arith, long, planned.count)) ∙ ap (λ p. get_or (map place_of (placed_equations p (node_of file k))) i 0) place_told)))
 
-        starts_told : starts_in tab plan (row_at rows k 5) ≡ starts
-        starts_told =
-            let long = starts_long tab plan (row_at rows k 5) in
-            ext_get_or 0 (starts_in tab plan (row_at rows k 5)) starts (long ∙ sym starts_all)
-            (λ i h.
-            starts_get tab plan (row_at rows k 5) i (omega (arith, long))
-            ∙ (two_kept tab before (plans_from before) same (omega arith) (plan + 2 * i) (plan_in file k + 2 * i) (omega (arith, place_told, planned.variables))
-            ∙ (planned.places i (omega (arith, long, planned.count)) ∙ ap (λ p. get_or (map place_of (placed_equations p (node_of file k))) i 0) place_told)))
+      pub plan_few : {n : ℕ} → n ≡ row_at rows k 5 → n ≤ 80
+      plan_few b = omega (arith, b, planned.count, few_here)
 
-        plan_base : PlanAt tab plan (row_at rows k 5) place (node_at s base enums place)
-        plan_base =
-            subst (λ (n : Node). PlanAt tab plan (row_at rows k 5) place n) (sym node_is) (record { short = omega (arith, place_short); count = planned.count; starts = starts_told })
+      module _ {l : Limits} (e : l ≡ base) where
+        node_same : node_at s l enums place ≡ node_of file k
+        node_same = ap (λ v. node_at s v enums place) e ∙ node_is
 
-        pub node_plan : (l : Limits) → l ≡ base → {v n : ℕ} → v ≡ row_at rows k 4 → n ≡ row_at rows k 5 → PlanAt tab (plan_with v) n place (node_at s l enums place)
-        node_plan l e {v} {n} a b =
-            subst (λ v. PlanAt tab (plan_with v) n place (node_at s l enums place)) (sym a)
-            (subst (λ n. PlanAt tab plan n place (node_at s l enums place)) (sym b) (subst (λ v. PlanAt tab plan (row_at rows k 5) place (node_at s v enums place)) (sym e) plan_base))
+        -- what its plan says
+        pub plan_starts : {v n : ℕ} → v ≡ row_at rows k 4 → n ≡ row_at rows k 5 → starts_in tab (plan_with v) n ≡ map place_of (placed_equations place (node_at s l enums place))
+        plan_starts {v} {n} a b =
+            ap (λ v. starts_in tab (plan_with v) n) a
+            ∙ (ap (starts_in tab (plan_with (row_at rows k 4))) b ∙ (starts_told ∙ ap (λ (n : Node). map place_of (placed_equations place n)) (sym node_same)))
 
   -- the nodes before k have no ring, and their orders are written
   pub record Going (before : List ℕ) (k : ℕ) (orders : List ℕ) : Type 0 where
@@ -381,7 +407,7 @@ module _ {s places : List ℕ} {enums : ℕ} {low : Bool} (ns : NodesStand s enu
   going_start = record { inside = omega arith; left = refl; done = λ i g. absurd (omega arith); rest = refl }
 
   module _ {before : List ℕ} {k : ℕ} {orders : List ℕ} (go : Going before k orders) where
-    module _ (h : k < length places) {l : Limits} (e : l ≡ base) {out : List ℕ} {r : Ring} (d : NodeDone (get_or places k 0) (node_at s l enums (get_or places k 0)) (k * 80) orders out r) where
+    module _ (h : k < length places) {out : List ℕ} {r : Ring} (d : NodeDone (get_or places k 0) (node_at s base enums (get_or places k 0)) (k * 80) orders out r) where
       abbrev here_node : Node
       here_node = get_or file.nodes k no_node
 
@@ -389,7 +415,7 @@ module _ {s places : List ℕ} {enums : ℕ} {low : Bool} (ns : NodesStand s enu
       here_equations = here_node.equations
 
       done_here : NodeDone (get_or places k 0) here_node (k * 80) orders out r
-      done_here = subst (λ (n : Node). NodeDone (get_or places k 0) n (k * 80) orders out r) (node_is k h) (subst (λ v. NodeDone (get_or places k 0) (node_at s v enums (get_or places k 0)) (k * 80) orders out r) e d)
+      done_here = subst (λ (n : Node). NodeDone (get_or places k 0) n (k * 80) orders out r) (node_is k h) d
 
       -- what is still to be written, by whether this node has a ring
       rest_here : orders_written 0 file.nodes before ≡ maybe (orders_written (suc k) (drop (suc k) file.nodes) (sets orders (k * 80) (order here_equations))) (λ i. orders) (unplaced here_equations)
@@ -422,9 +448,9 @@ module _ {s places : List ℕ} {enums : ℕ} {low : Bool} (ns : NodesStand s enu
           never : (i : ℕ) → none ≡ some i → ⊥
           never i f = let z : ◌≡◌ {A = ℕ} 0 1 = cc in omega arith
 
-      pub going_on : r ≡ Std.None → Going before (k + 1) out
+      pub going_on : ((p : ℕ) → r ≡ Std.Some p → ⊥) → Going before (k + 1) out
       going_on g =
-          let a : none ≡ ring_in (get_or places k 0, here_node) = ap ring_place (sym g) ∙ done_here.found in
+          let a : none ≡ ring_in (get_or places k 0, here_node) = no_ring r g ∙ done_here.found in
           let u : unplaced here_equations ≡ none = some_none (λ i. place_at (placed_equations (get_or places k 0) here_node) i) (unplaced here_equations) (sym a) in
           let w : out ≡ sets orders (k * 80) (order here_equations) = out_at none u in
           record {

@@ -1,10 +1,19 @@
 -- What the ordering of a file's nodes asks and gives.
-use Rattle.std.specs.Prelude.{ℕ, List, ◌≡◌, take, drop}
-use Rattle.ol_spec.specs.Syntax.{File}
-use Rattle.ol_spec.specs.Limits.{relay_loader}
+use Rattle.std.specs.Prelude.{ℕ, List, ◌≡◌, take, drop, get_or}
+use Rattle.ol_spec.specs.Syntax.{Node, File}
+use Rattle.ol_spec.specs.Limits.{base, relay_loader}
 use Rattle.ol_spec.specs.Read.{got, read_file}
+use Rattle.ol_order.specs.Tables.{node_at}
 use Rattle.ol_order.specs.Orders.{Ring, NodesStand, Planned, OrdersDone}
 use Rattle.ol_order.specs.declared.table.Nodes.{Nodes}
+
+-- where node k starts
+abbrev pub nth_place : Nodes → ℕ → ℕ
+nth_place n k = get_or n.places.now k 0
+
+-- node k
+abbrev pub nth_node : Nodes → ℕ → Node
+nth_node n k = node_at n.file.now base n.enums (nth_place n k)
 
 -- the nodes stand in a file that reads, and its table has their plans
 pub record OrdersAsked (n : Nodes) (tab : List ℕ) : Type 0 where

@@ -4,7 +4,7 @@ use Rattle.std.proofs.Math.Option.{Option, none, some}
 use Rattle.std.proofs.lemmas.List.Edits.{sets}
 use Rattle.ol_spec.specs.Lists.{maybe}
 use Rattle.ol_spec.specs.Syntax.{Equation, Node, File, no_node, variables}
-use Rattle.ol_spec.specs.Places.{placed_nodes, placed_equations}
+use Rattle.ol_spec.specs.Places.{placed_nodes}
 use Rattle.ol_spec.specs.Limits.{relay_loader}
 use Rattle.ol_spec.specs.Read.{got, read_file}
 use Rattle.ol_spec.specs.Order.{definer, order, unplaced}
@@ -48,12 +48,6 @@ pub record EquationsDone (qs : List Equation) (starts before out : List ℕ) (r 
 unfoldable pub starts_in : List ℕ → ℕ → ℕ → List ℕ
 starts_in tab plan zero = []
 starts_in tab plan (suc n) = two_at tab plan ∷ starts_in tab (plan + 2) n
-
--- a node that starts at `at` has n equations, and its plan, which starts at `plan`, says where they start
-pub record PlanAt (tab : List ℕ) (plan n at : ℕ) (node : Node) : Type 0 where
-  pub short : plan < 9223372036854775808
-  pub count : n ≡ length node.equations
-  pub starts : starts_in tab plan n ≡ map place_of (placed_equations at node)
 
 -- of the node n that starts at `at`: the place of the first equation that is never placed, or their order, from `from` on
 pub record NodeDone (at : ℕ) (n : Node) (from : ℕ) (before out : List ℕ) (r : Ring) : Type 0 where

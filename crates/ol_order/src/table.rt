@@ -5,16 +5,14 @@ ghost use Rattle.std.proofs.lemmas.List.Edits.{sets};
 ghost use Rattle.ol_spec.specs.Syntax.{File};
 ghost use Rattle.ol_spec.specs.Limits.{relay_loader};
 ghost use Rattle.ol_spec.specs.Read.{got, read_file};
-ghost use Rattle.ol_order.specs.Tables.{node_at, waited_all};
-ghost use Rattle.ol_order.specs.Post.{NodeReads};
+ghost use Rattle.ol_order.specs.Tables.{waited_all};
 ghost use Rattle.ol_order.specs.Equations.{those, all_waited};
-ghost use Rattle.ol_order.specs.Nodes.{OrdersAsked, OrdersTold};
-ghost use Rattle.ol_order.specs.Orders.{Small, LowNames, EquationsDone, starts_in, PlanAt, NodeDone, NodesStand, Planned, OrdersDone};
+ghost use Rattle.ol_order.specs.Nodes.{nth_place, nth_node, OrdersAsked, OrdersTold};
+ghost use Rattle.ol_order.specs.Orders.{Small, LowNames, EquationsDone, starts_in, NodeDone, NodesStand, Planned, OrdersDone};
 
 use crate::equations::Equations;
 use crate::{no_definers, sort};
 use ol_ir::project::base;
-use ol_spec::Limits;
 use ol_tables::bytes::name;
 use ol_tables::table::{ORDERS, SLOTS};
 use ol_tables::tables::{COUNT, MOST_EQUATIONS, VARIABLES, row};
@@ -65,41 +63,6 @@ fn starts_of(tab: &[u8], plan: usize, starts: &mut [usize])
     }
 }
 
-// The order of the n equations of the node that starts at `at`, with room for all definers that they
-// wait for. The plan says where they start; their order is written from `from` on.
-fn order_row(
-    file: &[u8],
-    limits: Limits,
-    enums: usize,
-    at: usize,
-    n: usize,
-    plan: usize,
-    low: bool,
-    lists: &mut [u8],
-    from: usize,
-    tab: &mut [u8],
-) -> Option<usize>
-    requires node_reads { NodeReads file.now limits enums at }
-    requires low_names { low ≡ true → LowNames (node_at file.now limits enums at).equations }
-    requires file_len_bound { length file.now ≤ 3 * length lists.old }
-    requires plan_at { PlanAt tab.old plan n at (node_at file.now limits enums at) }
-    requires from_in_bounds { from + 80 ≤ length tab.old }
-    ensures order { NodeDone at (node_at file.now limits enums at) from tab.old tab.new result }
-    ensures lists { lists.new ≡ sets lists.old 0 (waited_all (node_at file.now limits enums at).equations (node_at file.now limits enums at).equations) }
-{
-    let mut space = [0usize; 80];
-    let starts = &mut space[..n];
-    starts_of(tab, plan, starts);
-    let equations = Equations {
-        file,
-        limits,
-        enums,
-        starts,
-    };
-    let end = from + MOST_EQUATIONS;
-    order_starts(equations, low, lists, &mut tab[from..end])
-}
-
 // The nodes of a file that reads without fault, by the places at which they start, with the rows of
 // its table. With `low` every name that an equation defines is below 1,024.
 #[derive(Clone, Copy)]
@@ -111,47 +74,50 @@ struct Nodes<'f, 'p, 'r> {
     low: bool,
 }
 
-// The orders of all nodes, with room for all definers that the equations of one wait for.
-fn orders_with(nodes: Nodes, lists: &mut [u8], tab: &mut [u8]) -> Option<usize>
-    requires asked { OrdersAsked nodes tab.old }
-    requires room { length nodes.file.now ≤ 3 * length lists.old }
-    ensures { OrdersTold nodes.entry tab.old tab.new result }
-{
-    let limits = base();
-    let plans = SLOTS_FROM + (tab.len() - SLOTS_FROM) / 2;
-    for (k, at) in nodes.places.iter().enumerate() {
-        let at = *at;
-        let plan = plans + at + 2 * row(nodes.rows, k, VARIABLES);
+impl<'f, 'p, 'r> Nodes<'f, 'p, 'r> {
+    // The order of the equations of node k, with room for all definers that they wait for. Its plan
+    // says where they start; their order is written into the node's part of the table.
+    fn order_node(self, k: usize, lists: &mut [u8], tab: &mut [u8]) -> Option<usize>
+        requires k_in_bounds { k < length self.places.now }
+        requires asked { OrdersAsked self tab.old }
+        requires room { length self.file.now ≤ 3 * length lists.old }
+        ensures order { NodeDone (nth_place self.entry k) (nth_node self.entry k) (k * 80) tab.old tab.new result }
+        ensures lists { lists.new ≡ sets lists.old 0 (waited_all (nth_node self.entry k).equations (nth_node self.entry k).equations) }
+    {
+        let at = self.places[k];
+        let plans = SLOTS_FROM + (tab.len() - SLOTS_FROM) / 2;
+        let plan = plans + at + 2 * row(self.rows, k, VARIABLES);
+        let mut space = [0usize; 80];
+        let starts = &mut space[..row(self.rows, k, COUNT)];
+        starts_of(tab, plan, starts);
+        let equations = Equations {
+            file: self.file,
+            limits: base(),
+            enums: self.enums,
+            starts,
+        };
         let from = k * MOST_EQUATIONS;
-        match order_row(
-            nodes.file,
-            limits,
-            nodes.enums,
-            at,
-            row(nodes.rows, k, COUNT),
-            plan,
-            nodes.low,
-            lists,
-            from,
-            tab,
-        ) {
-            Some(ring) => return Some(ring),
-            None => {}
-        }
+        let end = from + MOST_EQUATIONS;
+        order_starts(equations, self.low, lists, &mut tab[from..end])
     }
-    None
-}
 
-// The orders of all nodes, with lists of N entries. It stays out of its caller: a short file does not touch the long lists' stack.
-#[inline(never)]
-fn orders_sized<const N: usize>(nodes: Nodes, tab: &mut [u8]) -> Option<usize>
-    requires asked { OrdersAsked nodes tab.old }
-    requires room { length nodes.file.now ≤ 3 * N }
-    requires size { N < 65536 }
-    ensures { OrdersTold nodes.entry tab.old tab.new result }
-{
-    let mut lists = [0u8; N];
-    orders_with(nodes, &mut lists, tab)
+    // The orders of all nodes, with lists of N entries. It stays out of its caller: a short file does
+    // not touch the long lists' stack.
+    #[inline(never)]
+    fn order_all<const N: usize>(self, tab: &mut [u8]) -> Option<usize>
+        requires asked { OrdersAsked self tab.old }
+        requires room { length self.file.now ≤ 3 * N }
+        requires size { N < 65536 }
+        ensures { OrdersTold self.entry tab.old tab.new result }
+    {
+        let mut lists = [0u8; N];
+        for k in 0..self.places.len() {
+            if let Some(ring) = self.order_node(k, &mut lists, tab) {
+                return Some(ring);
+            }
+        }
+        None
+    }
 }
 
 // The orders of all nodes of a file that reads without fault, and that start at these places: the
@@ -178,8 +144,8 @@ pub fn orders_of(
         low,
     };
     if file.len() <= 1536 {
-        orders_sized::<512>(nodes, tab)
+        nodes.order_all::<512>(tab)
     } else {
-        orders_sized::<10923>(nodes, tab)
+        nodes.order_all::<10923>(tab)
     }
 }

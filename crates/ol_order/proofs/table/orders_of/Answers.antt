@@ -2,7 +2,7 @@ use native.Mathlib.Omega.{arith}
 use Rattle.ol_order.proofs.Room.{short_file}
 use Rattle.ol_order.proofs.table.orders_of.Goals as goal
 
-pub orders_sized-requires-else-file-le1536-clause-room : goal.orders_sized-requires-else-file-le1536-clause-room
-orders_sized-requires-else-file-le1536-clause-room c =
+pub order_all-requires-else-file-le1536-clause-room : goal.order_all-requires-else-file-le1536-clause-room
+order_all-requires-else-file-le1536-clause-room c =
     let stand = c.requires.nodes_stand in
     omega (arith, short_file c.args.file.now stand.file stand.end stand.is)
