@@ -8,7 +8,8 @@ use mathlib.Core.Path.{◌≡◌, refl, sym, ◌∙◌}
 use mathlib.Core.Bool.{Bool, true, false}
 use lib.Dec.{ltb}
 use mir.Val.{bool_byte}
-use lib.ListN.{length, get_or, take, set, length-append}
+use lib.ListN.{length, get_or, take, drop, set, length-take, length-append}
+use Rattle.std.proofs.lemmas.List.{length-drop, get_or-take, get_or-drop}
 use lib.Seq.{take-suc-set}
 use borrow.Author.Tests.{lt-ltb, le-ltb}
 use Rattle.ieee_vectors.specs.Lines.{digit_of, push, number_at, answer_at, answers, results, whole, cut, right_in, Counted, Checked, right_sum, row_sum, Total}
@@ -19,10 +20,20 @@ use Rattle.rows.proofs.Laws.{agreeing_most, all_agree_lem}
 use Rattle.ieee_vectors.specs.Operations.{result_of}
 use Rattle.ieee_vectors.specs.Sweeps.{next_of, operand_of, sweep_to, sweep_of}
 
--- one digit more
-pub number_more : (text : List ℕ) (at n x : ℕ) → x ≡ number_at text at n → push x (digit_of (get_or text (at + n) 0)) ≡ number_at text at (n + 1)
-unfolding number_at
-number_more text at n x e = rw (add-one, e)
+-- the digits of a number, one more and all
+module _ (text : List ℕ) (at n : ℕ) (h : at + n ≤ length text) where
+  abbrev digits : List ℕ
+  digits = take (at + n - at) (drop at text)
+
+  digits_length : length digits ≡ n
+  digits_length = omega (arith, length-take (at + n - at) (drop at text), length-drop at text)
+
+  pub number_more : (i x d : ℕ) → i < length digits → x ≡ number_at text at i → d ≡ digit_of (get_or digits i 0) → push x d ≡ number_at text at (i + 1)
+  unfolding number_at
+  number_more i x d l e f = rw (add-one, e, f, get_or-take (at + n - at) (drop at text) i 0 (omega (arith, digits_length, l)), get_or-drop at text i 0)
+
+  pub number_end : (i x : ℕ) → i ≤ length digits → length digits ≤ i → x ≡ number_at text at i → x ≡ number_at text at n
+  number_end i x a b e = let k : i ≡ n = omega (arith, digits_length, a, b) in rw k at e
 
 -- one row more
 module _ (text l : List ℕ) (k : ℕ) (h : k < length l) where

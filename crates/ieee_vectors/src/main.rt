@@ -38,8 +38,8 @@ fn number(text: &[u8], at: usize, n: usize) -> u64
     ensures { result ≡ number_at text.now at n }
 {
     let mut x: u64 = 0;
-    for i in 0..n {
-        x = x % 0x1000_0000_0000_0000 * 16 + digit(text[at + i]);
+    for c in &text[at..at + n] {
+        x = x % 0x1000_0000_0000_0000 * 16 + digit(*c);
     }
     x
 }
@@ -116,7 +116,9 @@ fn compare_in(streams: Streams, text: &[u8], found: &mut [u64], wanted: &mut [u6
     find(text, found);
     want(text, wanted);
     let c = compare(found, wanted);
-    tell_others(streams, text, c.first, found, wanted);
+    if let Some(first) = c.first {
+        tell_others(streams, text, first, found, wanted);
+    }
     c
 }
 
@@ -173,7 +175,7 @@ fn check_all(streams: Streams) -> Counts
 {
     let mut right: u64 = 0;
     let mut wrong: u64 = 0;
-    for turn in 0..0x100_0000_0000_0000u64 {
+    for _ in 0..0x100_0000_0000_0000u64 {
         let c = check_block(streams);
         if c.right + c.wrong == 0 {
             break;

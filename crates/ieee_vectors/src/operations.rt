@@ -9,8 +9,8 @@ fn low(a: u64) -> u32
     (a % 0x1_0000_0000) as u32
 }
 
-// The result of an operation on two operands, by their bits. The numbers are those of the rows, and stand in this match alone: an
-// enum would list them once more.
+// The result of an operation on two operands, by their bits. The numbers are those of the rows. An enum would list all 24 twice more,
+// and save only the tests of sweeps.rt: which operations are on singles, and which on integers.
 pub(crate) fn result(op: u64, a: u64, b: u64) -> u64
     ensures { result ≡ result_of op a b }
 {

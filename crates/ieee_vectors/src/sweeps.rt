@@ -58,7 +58,7 @@ pub(crate) fn sweep(op: u64, e: u64, seed: u64) -> u64
 {
     let mut x = seed;
     let mut h: u64 = 0x9e37_79b9_7f4a_7c15;
-    for i in 0..64u64 {
+    for _ in 0..64u64 {
         let z = next(x);
         x = next(z);
         let a = operand(op, e, z);

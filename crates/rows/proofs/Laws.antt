@@ -5,7 +5,7 @@ use Rattle.std.specs.Option.{unwrap_or}
 use Rattle.std.proofs.lemmas.List.Sums.{sum_by-cons, prefix_len-le-length}
 use Rattle.std.proofs.lemmas.Slice.Zip.{length-zip}
 use lib.Pointwise.{pointwise}
-use Rattle.rows.specs.Rows.{one, agreeing, first_other, all_agree}
+use Rattle.rows.specs.Rows.{one, agreeing, further, first_other, all_agree}
 
 -- ---- the comparison by the words of the library
 
@@ -21,21 +21,15 @@ agreeing_is (x ∷ xs) (w ∷ ws) = rw (sum_by-cons (λ p. cond (eqb p.0 p.1) 1 
     counts_one false n m h = omega arith
 
 -- the place of the first pair that is not
-first_place : (xs ws : List ℕ) → first_other xs ws ≡ position_or_len (λ p. not (eqb p.0 p.1)) (zip xs ws)
+pub first_is : (xs ws : List ℕ) → first_other xs ws ≡ position (λ p. not (eqb p.0 p.1)) (zip xs ws)
 unfolding first_other
-first_place [] ws = refl
-first_place (x ∷ xs) [] = refl
-first_place (x ∷ xs) (w ∷ ws) = rw (first_place xs ws) (passes_one (eqb x w) _)
+first_is [] ws = refl
+first_is (x ∷ xs) [] = refl
+first_is (x ∷ xs) (w ∷ ws) = rw (first_is xs ws) (passes_one (eqb x w) _ _)
   where
-    passes_one : (b : Bool) (n : ℕ) → cond b (suc n) 0 ≡ cond (not (not b)) (1 + n) 0
-    passes_one true n = omega arith
-    passes_one false n = refl
-
-place_or : (n m : ℕ) → n ≤ m → unwrap_or (cond (nat_lt n m) (Some n) None) m ≡ n
-place_or n m h = grind arith
-
-pub first_is : (xs ws : List ℕ) → first_other xs ws ≡ unwrap_or (position (λ p. not (eqb p.0 p.1)) (zip xs ws)) (min (length xs) (length ws))
-first_is xs ws = rw (← length-zip xs ws, first_place xs ws) (sym (place_or _ _ (prefix_len-le-length _ (zip xs ws))))
+    passes_one : (b : Bool) (n m : ℕ) → cond b (further (cond (nat_lt n m) (Some n) None)) (Some 0) ≡ cond (nat_lt (cond (not (not b)) (1 + n) 0) (suc m)) (Some (cond (not (not b)) (1 + n) 0)) None
+    passes_one true n m = grind arith
+    passes_one false n m = grind arith
 
 -- whether the lists are equal
 pub all_agree_is : (xs ws : List ℕ) → all_agree xs ws ≡ pointwise eqb xs ws

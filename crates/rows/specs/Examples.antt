@@ -1,25 +1,25 @@
 -- Executed examples of the comparison.
-use Rattle.std.specs.Prelude.{true, false, [], ◌∷◌, ◌≡◌, refl}
+use Rattle.std.specs.Prelude.{true, false, [], ◌∷◌, ◌≡◌, Some, None, refl}
 use Rattle.rows.specs.Rows.{agreeing, first_other, all_agree}
 
 -- all rows agree; one in the middle does not; the last does not; a list is cut; one is empty
-pub all : (agreeing (7 ∷ 8 ∷ 9 ∷ []) (7 ∷ 8 ∷ 9 ∷ []) ≡ 3) × (first_other (7 ∷ 8 ∷ 9 ∷ []) (7 ∷ 8 ∷ 9 ∷ []) ≡ 3)
+pub all : (agreeing (7 ∷ 8 ∷ 9 ∷ []) (7 ∷ 8 ∷ 9 ∷ []) ≡ 3) × (first_other (7 ∷ 8 ∷ 9 ∷ []) (7 ∷ 8 ∷ 9 ∷ []) ≡ None)
 unfolding agreeing first_other
 all = (refl, refl)
 
-pub middle : (agreeing (7 ∷ 0 ∷ 9 ∷ []) (7 ∷ 8 ∷ 9 ∷ []) ≡ 2) × (first_other (7 ∷ 0 ∷ 9 ∷ []) (7 ∷ 8 ∷ 9 ∷ []) ≡ 1)
+pub middle : (agreeing (7 ∷ 0 ∷ 9 ∷ []) (7 ∷ 8 ∷ 9 ∷ []) ≡ 2) × (first_other (7 ∷ 0 ∷ 9 ∷ []) (7 ∷ 8 ∷ 9 ∷ []) ≡ Some 1)
 unfolding agreeing first_other
 middle = (refl, refl)
 
-pub last : (agreeing (7 ∷ 8 ∷ 0 ∷ []) (7 ∷ 8 ∷ 9 ∷ []) ≡ 2) × (first_other (7 ∷ 8 ∷ 0 ∷ []) (7 ∷ 8 ∷ 9 ∷ []) ≡ 2)
+pub last : (agreeing (7 ∷ 8 ∷ 0 ∷ []) (7 ∷ 8 ∷ 9 ∷ []) ≡ 2) × (first_other (7 ∷ 8 ∷ 0 ∷ []) (7 ∷ 8 ∷ 9 ∷ []) ≡ Some 2)
 unfolding agreeing first_other
 last = (refl, refl)
 
-pub cut : (agreeing (7 ∷ 8 ∷ []) (7 ∷ 8 ∷ 9 ∷ []) ≡ 2) × (first_other (7 ∷ 8 ∷ []) (7 ∷ 8 ∷ 9 ∷ []) ≡ 2)
+pub cut : (agreeing (7 ∷ 8 ∷ []) (7 ∷ 8 ∷ 9 ∷ []) ≡ 2) × (first_other (7 ∷ 8 ∷ []) (7 ∷ 8 ∷ 9 ∷ []) ≡ None)
 unfolding agreeing first_other
 cut = (refl, refl)
 
-pub empty : (agreeing [] (7 ∷ []) ≡ 0) × (first_other [] (7 ∷ []) ≡ 0)
+pub empty : (agreeing [] (7 ∷ []) ≡ 0) × (first_other [] (7 ∷ []) ≡ None)
 unfolding agreeing first_other
 empty = (refl, refl)
 

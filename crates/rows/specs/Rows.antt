@@ -1,5 +1,5 @@
 -- Rows that agree: a list of what was found beside a list of what was wanted. A row that only one of the two lists has does not agree.
-use Rattle.std.specs.Prelude.{ℕ, suc, ◌+◌, Bool, true, false, cond, ◌&&◌, List, [], ◌∷◌, ◌≡◌, eqb}
+use Rattle.std.specs.Prelude.{ℕ, suc, ◌+◌, Bool, true, false, cond, ◌&&◌, List, [], ◌∷◌, ◌≡◌, eqb, Option, Some, None}
 use Rattle.rows.specs.declared.Compared.{Compared}
 
 -- 1 for a row that agrees, else 0
@@ -13,11 +13,16 @@ agreeing [] ws = 0
 agreeing (x ∷ xs) [] = 0
 agreeing (x ∷ xs) (w ∷ ws) = one (eqb x w) + agreeing xs ws
 
--- the index of the first row that does not agree; where all do, how many there are
-unfoldable pub first_other : List ℕ → List ℕ → ℕ
-first_other [] ws = 0
-first_other (x ∷ xs) [] = 0
-first_other (x ∷ xs) (w ∷ ws) = cond (eqb x w) (suc (first_other xs ws)) 0
+-- an index in a list with one row more at its front
+abbrev pub further : Option ℕ → Option ℕ
+further None = None
+further (Some i) = Some (suc i)
+
+-- the index of the first row that both lists have and that does not agree, if there is one
+unfoldable pub first_other : List ℕ → List ℕ → Option ℕ
+first_other [] ws = None
+first_other (x ∷ xs) [] = None
+first_other (x ∷ xs) (w ∷ ws) = cond (eqb x w) (further (first_other xs ws)) (Some 0)
 
 -- whether all rows agree
 unfoldable pub all_agree : List ℕ → List ℕ → Bool

@@ -6,11 +6,11 @@ pub mod streams;
 ghost use Rattle.std.specs.Prelude.{◌≡◌, ◌==◌, not, count_by, position, zip};
 ghost use Rattle.rows.specs.Rows.{agreeing, first_other, Compares, all_agree};
 
-// How many rows agree, and the index of the first that does not; where all do, how many there are.
+// How many rows agree, and the index of the first that does not.
 #[derive(Clone, Copy)]
 pub struct Compared {
     pub agreeing: usize,
-    pub first: usize,
+    pub first: Option<usize>,
 }
 
 // How many rows agree.
@@ -32,10 +32,9 @@ fn first_other(found: &[u64], wanted: &[u64]) -> Option<usize>
 pub fn compare(found: &[u64], wanted: &[u64]) -> Compared
     ensures { Compares found.now wanted.now result }
 {
-    let rows = found.len().min(wanted.len());
     Compared {
         agreeing: agreeing(found, wanted),
-        first: first_other(found, wanted).unwrap_or(rows),
+        first: first_other(found, wanted),
     }
 }
 

@@ -5,6 +5,11 @@ ghost use Rattle.io.specs.Counts.{IsPrefixLen};
 
 use std::io::{Read, Stdin, Stdout, Write};
 
+// What is said where a list ends too early, and where bytes are left behind its last answer.
+pub const CUT: &[u8] = b"the list is cut off\n";
+
+pub const LEFT: &[u8] = b"bytes are left behind the list\n";
+
 // What a program reads, and where it writes.
 #[derive(Clone, Copy)]
 pub struct Streams {
@@ -81,6 +86,11 @@ impl Streams {
     // The same of a number in 16 hexadecimal digits.
     pub fn write_hex(mut self, n: u64) {
         let _ = write!(self.output, "{n:016x}");
+    }
+
+    // The same of a line: how many answers are good, and of how many.
+    pub fn write_sum(mut self, label: &str, good: u64, all: u64) {
+        let _ = writeln!(self.output, "{label}: {good} of {all}");
     }
 }
 

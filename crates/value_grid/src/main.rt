@@ -10,15 +10,10 @@ ghost use Rattle.value_grid.specs.Questions.{grid_value, known_of, value_agrees,
 
 use ol_spec::{Outcome, Value};
 use ol_value::{cell, operators, types};
-use rows::streams::Streams;
+use rows::streams::{CUT, LEFT, Streams};
 
 // How many cells the grid has.
 const CELLS: u64 = 42;
-
-// What is said where the list ends too early, and where bytes are left behind its last answer.
-const CUT: &[u8] = b"the list is cut off\n";
-
-const LEFT: &[u8] = b"bytes are left behind the list\n";
 
 // The sections of the list.
 #[derive(Clone, Copy)]
@@ -43,13 +38,14 @@ fn is_cell(nine: [u8; 9], v: Value) -> bool
     mine == nine
 }
 
-// Whether an answer, its first byte and what may follow, is this value.
+// Whether an answer, its first byte and the cell that may follow, is this value. An enum of the two is no shorter: a byte that
+// stands alone is never 4, and each test here would need that of it.
 fn value_agrees(head: u8, nine: [u8; 9], v: Value) -> bool
     ensures { result ≡ value_agrees head nine v }
 {
     match v {
         Value::Bool(b) => head == u8::from(b),
-        _ => (head == 4) & is_cell(nine, v),
+        _ => head == 4 && is_cell(nine, v),
     }
 }
 
@@ -78,7 +74,7 @@ fn known(v: Value) -> bool
     ensures { result ≡ known_of v }
 {
     match v {
-        Value::Enum(name) => (name == 100) | (name == 200),
+        Value::Enum(name) => name == 100 || name == 200,
         _ => true,
     }
 }
@@ -87,7 +83,7 @@ fn known(v: Value) -> bool
 fn says(mine: bool, head: u8) -> bool
     ensures { result ≡ says_of mine head }
 {
-    if mine { head == 1 } else { head != 1 }
+    mine == (head == 1)
 }
 
 // Whether the list takes an input where in_type does.
@@ -135,7 +131,7 @@ fn at(grid: &[u8], k: u64) -> Value
     }
 }
 
-// The t-th question of a section.
+// The t-th question of a section. A function for each section, given to the loop, is no plainer: the definitions name the sections.
 fn ask(streams: Streams, section: Section, t: u64, grid: &[u8]) -> bool
     ensures { Asked (answered_at section grid.now t) result }
 {
@@ -172,15 +168,11 @@ fn agreed(streams: Streams, section: Section, count: u64, grid: &[u8]) -> u64
 }
 
 // Asks a section, and writes a line on it.
-fn report(streams: Streams, label: &[u8], section: Section, count: u64, grid: &[u8]) -> u64
+fn report(streams: Streams, label: &str, section: Section, count: u64, grid: &[u8]) -> u64
     ensures { Agreed section grid.now result count }
 {
     let sum = agreed(streams, section, count, grid);
-    streams.write_all(label);
-    streams.write_decimal(sum);
-    streams.write_all(b" of ");
-    streams.write_decimal(count);
-    streams.write_all(b"\n");
+    streams.write_sum(label, sum, count);
     sum
 }
 
@@ -193,22 +185,16 @@ fn main(rt: HostRuntime) {
     let grid: &[u8] = &streams.next::<378>(CUT);
     report(
         streams,
-        b"binary operators: ",
+        "binary operators",
         Section::Binary,
         20 * CELLS * CELLS,
         grid,
     );
-    report(
-        streams,
-        b"unary operators: ",
-        Section::Unary,
-        2 * CELLS,
-        grid,
-    );
-    report(streams, b"casts: ", Section::Cast, 13 * CELLS, grid);
-    report(streams, b"stores: ", Section::Store, 13 * CELLS, grid);
-    report(streams, b"inputs: ", Section::Input, 13 * CELLS, grid);
-    report(streams, b"defaults: ", Section::Default, 13, grid);
-    report(streams, b"cells: ", Section::Cell, 17, grid);
+    report(streams, "unary operators", Section::Unary, 2 * CELLS, grid);
+    report(streams, "casts", Section::Cast, 13 * CELLS, grid);
+    report(streams, "stores", Section::Store, 13 * CELLS, grid);
+    report(streams, "inputs", Section::Input, 13 * CELLS, grid);
+    report(streams, "defaults", Section::Default, 13, grid);
+    report(streams, "cells", Section::Cell, 17, grid);
     streams.tell_left(LEFT);
 }
