@@ -6,9 +6,9 @@ use mathlib.Core.Logic.{by_cases}
 use mathlib.Core.Path.{◌≡◌, refl, sym, ap, ap₂, ◌∙◌}
 use native.Mathlib.Decide.{dec_lt}
 use native.Mathlib.Omega.{arith}
-use lib.ListN.{length}
-use lib.Dec.{ltb}
-use borrow.Author.Tests.{lt-ltb, le-ltb, ne_eqb}
+use lib.ListN.{length, get_or}
+use lib.Dec.{ltb, eqb}
+use borrow.Author.Tests.{lt-ltb, le-ltb}
 use Rattle.ol_spec.specs.Syntax.{Expr, bool_lit, int_lit, float_lit, char_lit, var, unary, binary, if_then_else, pre, arrow, cast, call, tuple, Exprs, nil, cons, count}
 use Rattle.ol_spec.specs.Places.{expr_size, exprs_size}
 use Rattle.ol_spec.specs.Eval.{callees, callees_all}
@@ -173,11 +173,11 @@ sites_stand {s} {enums} {at} {es} e st = ap (λ n. sites_at s n at) (sym e) ∙ 
 -- ---- the next call
 
 -- a call's callee; another form has none
-pub own_callee : {s : List ℕ} {at b k : ℕ} → Byte s at b → b ≡ 11 → Byte s (at + 1) k → own_at s at ≡ k ∷ []
-own_callee code e c = rw (← code.is, e, ← c.is) refl
+own_callee : (s : List ℕ) (at : ℕ) {k : ℕ} → true ≡ eqb (get_or s at 0) 11 → Byte s (at + 1) k → own_at s at ≡ k ∷ []
+own_callee s at e c = rw (← e, ← c.is) refl
 
-pub own_none : {s : List ℕ} {at b : ℕ} → Byte s at b → (b ≡ 11 → ⊥) → own_at s at ≡ []
-own_none {b = b} code e = rw (← code.is, ne_eqb b 11 e) refl
+own_none : (s : List ℕ) (at : ℕ) → false ≡ eqb (get_or s at 0) 11 → own_at s at ≡ []
+own_none s at e = rw (← e) refl
 
 -- of the expressions at `at`, so many, those that are left stand at `next`, and no call was met before them
 pub record Looking (s : List ℕ) (parts at left next : ℕ) : Type 0 where
@@ -199,22 +199,22 @@ module _ {s : List ℕ} {parts at left next : ℕ} (l : Looking s parts at left 
   pub looked_all : left ≤ 0 → NoCall s parts at next
   looked_all h = looked (walk_none _ _ s (length s) left next h) (walk_none _ _ s (length s) left next h)
 
-  module _ (u : 0 < left) (i : next < length s) (j : left ≤ length s) {h : Parts} (t : HeadOf s next h) {b : ℕ} (code : Byte s next b) where
+  module _ (u : 0 < left) (i : next < length s) (j : left ≤ length s) {h : Parts} (t : HeadOf s next h) where
     -- a call's head
-    pub looked_call : {k : ℕ} → b ≡ 11 → Byte s (next + 1) k → CallMet s parts at (record { callee = k; at = h.start; left = left - 1 + h.count })
+    pub looked_call : {k : ℕ} → true ≡ eqb (get_or s next 0) 11 → Byte s (next + 1) k → CallMet s parts at (record { callee = k; at = h.start; left = left - 1 + h.count })
     looked_call {k} e c =
         record {
-          is = l.sites ∙ walk_turn _ _ s left next u i j t.parts t.next ∙ ap (λ (ks : List ℕ). ks ++ sites_at s (left - 1 + h.count) h.start) (own_callee code e c);
+          is = l.sites ∙ walk_turn _ _ s left next u i j t.parts t.next ∙ ap (λ (ks : List ℕ). ks ++ sites_at s (left - 1 + h.count) h.start) (own_callee s next e c);
           ends = l.ends ∙ walk_turn _ _ s left next u i j t.parts t.next;
           onward = omega (arith, l.onward, t.onward i);
           inside = omega (arith, l.onward, i);
         }
 
     -- another one's
-    pub looking_on : (b ≡ 11 → ⊥) → Looking s parts at (left - 1 + h.count) h.start
+    pub looking_on : false ≡ eqb (get_or s next 0) 11 → Looking s parts at (left - 1 + h.count) h.start
     looking_on e =
         record {
-          sites = l.sites ∙ walk_turn _ _ s left next u i j t.parts t.next ∙ ap (λ (ks : List ℕ). ks ++ sites_at s (left - 1 + h.count) h.start) (own_none code e);
+          sites = l.sites ∙ walk_turn _ _ s left next u i j t.parts t.next ∙ ap (λ (ks : List ℕ). ks ++ sites_at s (left - 1 + h.count) h.start) (own_none s next e);
           ends = l.ends ∙ walk_turn _ _ s left next u i j t.parts t.next;
           onward = omega (arith, l.onward, t.onward i);
         }

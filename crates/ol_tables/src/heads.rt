@@ -4,6 +4,7 @@ ghost use Rattle.ol_tables.specs.Heads.{ty_size_at};
 ghost use Rattle.ol_tables.specs.Walks.{HeadOf, skip_at, Calls};
 
 use super::bytes::byte;
+use super::form::Form;
 
 // How many parts an expression has, and where they start.
 #[derive(Clone, Copy)]
@@ -19,24 +20,24 @@ pub fn ty_size(file: &[u8], at: usize) -> usize
     if byte(file, at) == 12 { 2 } else { 1 }
 }
 
-// The head of the expression at `at`, in the file. The numbers are those of parts_table and sizes_table
+// The head of the expression at `at`, in the file; a byte that is no code is taken as a Tuple. The numbers are those of parts_table and sizes_table
 // (specs/Heads).
 fn head_inside(file: &[u8], at: usize) -> Parts
     requires { at < length file.now }
     ensures { HeadOf file.now at result }
 {
-    let (count, start) = match file[at] {
-        0 | 3 => (0, at + 2),
-        1 | 2 => (0, at + 9),
-        4 => (0, at + 3),
-        5 => (1, at + 2),
-        6 => (2, at + 2),
-        7 => (3, at + 1),
-        8 => (1, at + 1),
-        9 => (2, at + 1),
-        10 => (1, at + 1 + ty_size(file, at + 1)),
-        11 => (byte(file, at + 2), at + 3),
-        _ => (byte(file, at + 1), at + 2),
+    let (count, start) = match Form::try_from(file[at]) {
+        Ok(Form::Bool | Form::Char) => (0, at + 2),
+        Ok(Form::Int | Form::Float) => (0, at + 9),
+        Ok(Form::Var) => (0, at + 3),
+        Ok(Form::Unary) => (1, at + 2),
+        Ok(Form::Binary) => (2, at + 2),
+        Ok(Form::If) => (3, at + 1),
+        Ok(Form::Pre) => (1, at + 1),
+        Ok(Form::Arrow) => (2, at + 1),
+        Ok(Form::Cast) => (1, at + 1 + ty_size(file, at + 1)),
+        Ok(Form::Call) => (byte(file, at + 2), at + 3),
+        Ok(Form::Tuple) | Err(_) => (byte(file, at + 1), at + 2),
     };
     Parts { count, start }
 }
@@ -93,7 +94,7 @@ pub fn next_call(file: &[u8], parts: usize, at: usize) -> NextCall
     while 0 < left && next < file.len() && left <= file.len() {
         let h = head(file, next);
         let rest = left - 1 + h.count;
-        if byte(file, next) == 11 {
+        if Form::Call.is_at(file, next) {
             return NextCall::Found(Call {
                 callee: byte(file, next + 1),
                 at: h.start,

@@ -2,6 +2,7 @@
 #![tactic(auto)]
 
 pub mod bytes; // bytes.rt: bytes, names and table entries
+pub mod form; // form.rt: the forms of expressions
 pub mod heads; // heads.rt: expressions, head by head
 pub mod tables; // tables.rt: the columns of the rows, and their entries
 pub mod table; // table.rt: the table of a file, as bytes
