@@ -2,6 +2,7 @@
 use Prim.Native.Nat.{ℕ, suc, ◌+◌, ◌*◌, ◌≤◌, ◌<◌}
 use mathlib.Core.Bool.{Bool, true, false, ◌&&◌}
 use mathlib.Core.List.{List}
+use mathlib.Core.Logic.{◌⊎◌, ⊎_elim}
 use mathlib.Core.Option.{some}
 use mathlib.Core.Path.{◌≡◌, refl, sym, ap, ◌∙◌}
 use native.Mathlib.Omega.{arith}
@@ -16,9 +17,12 @@ use Rattle.ol_spec.specs.Read.{binary_code, if_code, pre_code, arrow_code, cast_
 use Rattle.ol_spec.specs.Answers.{fault_at}
 use Rattle.ol_spec.specs.declared.Fault.{Fault}
 use Rattle.ol_spec.specs.declared.Limits.{Limits}
+use Rattle.ol_tables.specs.FormCodes.{code_of_form}
+use Rattle.ol_tables.specs.declared.form.Form.{Form}
+use Rattle.ol_tables.specs.declared.form.Form.TheVariants as Frm
 use Rattle.ol_ir.specs.Nexts.{Counting, Next, counted_at, next_of, counted_of, onward, repeat}
 use Rattle.ol_ir.specs.Heads.{call_head, head_body, head_r}
-use Rattle.ol_ir.proofs.Bytes.{same_count, coded_is, coded_none, coded_end, get_out}
+use Rattle.ol_ir.proofs.Bytes.{same_count, coded_is}
 use Rattle.ol_ir.proofs.Onward.{parts_of, on_items, Chain, next_then, next_give, counted_then, exprs_next, repeat_one}
 
 never_on : (x : Next) (f : Fault) (k : ℕ → Next) → onward (onward x (λ p. Err f)) k ≡ onward x (λ p. Err f)
@@ -69,18 +73,19 @@ module _ (s : List ℕ) (l : Limits) (enums : ℕ) where
     pub head_parts : {A : Type 0} {z : Counting} {x : Next} (b n : ℕ) (c : ExprCode) (r : Read A) → at < length s → get_or s at 0 ≡ b → get_elem? expr_codes b ≡ some c → head_body s l enums c (at + 1) ≡ then_read r (λ a. give n) → z ≡ parts_of n x → x ≡ next_of r → z ≡ counted_of (head_r s l enums at)
     head_parts b n c r h e f g i j = parts_next n r i j ∙ ap counted_of (sym g ∙ sym (head_is b c h e f))
 
+    -- an Int's and a Float's
+    pub head_number : {z : Counting} {x : Next} (form : Form) → at < length s → get_or s at 0 ≡ code_of_form form → (form ≡ Frm.Int) ⊎ (form ≡ Frm.Float) → z ≡ parts_of 0 x → x ≡ next_of (number s 8 0 (at + 1)) → z ≡ counted_of (head_r s l enums at)
+    head_number form h e f = ⊎_elim (λ g. head_parts 1 0 int_code (number s 8 0 (at + 1)) h (e ∙ ap code_of_form g) refl refl) (λ g. head_parts 2 0 float_code (number s 8 0 (at + 1)) h (e ∙ ap code_of_form g) refl refl) f
+
     -- a head of one byte
     pub head_byte : (b n : ℕ) (c : ExprCode) → at < length s → get_or s at 0 ≡ b → get_elem? expr_codes b ≡ some c → head_body s l enums c (at + 1) ≡ got n (at + 1) → Ok (counted_at n (at + 1)) ≡ counted_of (head_r s l enums at)
     unfolding counted_of
     head_byte b n c h e f g = sym (ap counted_of (head_is b c h e f ∙ g))
 
-    pub head_none : at < length s → 12 < get_or s at 0 → head_r s l enums at ≡ fault 3 at
+    -- its first byte is no code, or there is none
+    pub head_none : {m p : ℕ} → coded s expr_codes at ≡ fault m p → head_r s l enums at ≡ fault m p
     unfolding head_r then_read
-    head_none h b = rw (coded_none s at expr_codes h (get_out expr_codes _ b)) refl
-
-    pub head_end : length s ≤ at → head_r s l enums at ≡ fault 2 (length s)
-    unfolding head_r then_read
-    head_end h = rw (coded_end s at expr_codes h) refl
+    head_none e = rw e refl
 
   -- ---- an expression's parts, read by r
 

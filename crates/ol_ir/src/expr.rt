@@ -1,16 +1,31 @@
 // Expressions: operator first, the parts directly behind it.
-ghost use Rattle.std.specs.Prelude.{◌≡◌, ℕ, ◌<◌};
-ghost use Rattle.ol_spec.specs.Read.{many_exprs, expr_r};
+ghost use Rattle.std.specs.Prelude.{◌≡◌, ℕ, ◌<◌, MatchResult, length, get_or};
+ghost use Rattle.ol_spec.specs.Read.{many_exprs, expr_r, coded, expr_codes, fault};
 ghost use Rattle.ol_spec.specs.declared.Limits.{Limits};
+ghost use Rattle.ol_tables.specs.FormCodes.{code_of_form};
 ghost use Rattle.ol_ir.specs.Nexts.{next_of, counted_of};
 ghost use Rattle.ol_ir.specs.Heads.{head_r, call_head};
 ghost use Rattle.ol_ir.specs.Scans.{scan_at};
 
-use super::read::{byte, bytes, code, count, name, refused};
+use super::read::{bytes, code, count, name, refused};
 use super::types::ty;
 use super::{Counted, Reader, Scan};
 use ol_spec::Fault;
+use ol_tables::form::Form;
 use ol_tables::heads;
+
+// The form of the expression at `at`, by its code.
+fn form_at(file: &[u8], at: usize) -> Result<Form, Fault>
+    ensures { MatchResult result (λ form. (at < length file.now) × (get_or file.now at 0 ≡ code_of_form form)) (λ f. coded file.now expr_codes at ≡ fault f.number f.place) }
+{
+    if file.len() <= at {
+        return refused(2, file.len());
+    }
+    match Form::try_from(file[at]) {
+        Ok(form) => Ok(form),
+        Err(_) => refused(3, at),
+    }
+}
 
 // An expression where no level is left: at one byte fault 3 before fault 5.
 fn deep(file: &[u8], at: usize) -> Result<usize, Fault>
@@ -33,22 +48,21 @@ impl Reader<'_> {
     fn head(&self, at: usize) -> Result<Counted, Fault>
         ensures { result ≡ counted_of (head_r self.now.file.now self.now.limits.now self.now.enums at) }
     {
-        let c = byte(self.file, at)?;
+        let form = form_at(self.file, at)?;
         let p = at + 1;
-        let (parts, start) = match c {
-            0 => (0, code(self.file, 2, p)?),
-            1 | 2 => (0, bytes(self.file, 8, p)?),
-            3 => (0, bytes(self.file, 1, p)?),
-            4 => (0, bytes(self.file, 2, p)?),
-            5 => (1, code(self.file, 2, p)?),
-            6 => (2, code(self.file, 20, p)?),
-            7 => (3, p),
-            8 => (1, p),
-            9 => (2, p),
-            10 => (1, ty(self.file, self.enums, p)?),
-            11 => return self.call(p),
-            12 => return count(self.file, 2, self.limits.items, p),
-            _ => return refused(3, at),
+        let (parts, start) = match form {
+            Form::Bool => (0, code(self.file, 2, p)?),
+            Form::Int | Form::Float => (0, bytes(self.file, 8, p)?),
+            Form::Char => (0, bytes(self.file, 1, p)?),
+            Form::Var => (0, bytes(self.file, 2, p)?),
+            Form::Unary => (1, code(self.file, 2, p)?),
+            Form::Binary => (2, code(self.file, 20, p)?),
+            Form::If => (3, p),
+            Form::Pre => (1, p),
+            Form::Arrow => (2, p),
+            Form::Cast => (1, ty(self.file, self.enums, p)?),
+            Form::Call => return self.call(p),
+            Form::Tuple => return count(self.file, 2, self.limits.items, p),
         };
         Ok(Counted {
             count: parts,
@@ -90,16 +104,14 @@ pub fn scan(file: &[u8], at: usize) -> Scan
     ensures is { result ≡ scan_at file.now at }
     ensures small { (x q : ℕ) → result ≡ Scan.Name x q → x < 65536 }
 {
-    if at < file.len() {
-        match file[at] {
-            4 => Scan::Name(name(file, at + 1), at + 3),
-            8 => Scan::Parts(0, heads::skip(file, 1, at + 1)),
-            _ => {
-                let h = heads::head(file, at);
-                Scan::Parts(h.count, h.start)
-            }
-        }
-    } else {
+    if file.len() <= at {
         Scan::Parts(0, at)
+    } else if Form::Var.is_at(file, at) {
+        Scan::Name(name(file, at + 1), at + 3)
+    } else if Form::Pre.is_at(file, at) {
+        Scan::Parts(0, heads::skip(file, 1, at + 1))
+    } else {
+        let h = heads::head(file, at);
+        Scan::Parts(h.count, h.start)
     }
 }

@@ -1,20 +1,21 @@
--- `ol_ir::expr::scan` meets its contract.
-use Prim.Native.Nat.{ℕ, ◌+◌}
-use mathlib.Core.Path.{◌≡◌, ap, ◌∙◌}
-use native.Mathlib.Omega.{arith}
+use Prim.Native.Nat.{◌+◌}
+use mathlib.Core.Path.{ap, ◌∙◌}
 use Rattle.ol_tables.specs.Heads.{parts_at}
 use Rattle.ol_ir.specs.declared.Scan.TheVariants as Scn
 use Rattle.ol_ir.proofs.Scans.{scans_name, scans_pre, scans_parts, scans_end}
 use Rattle.ol_ir.proofs.expr.scan.Goals as goal
 
-pub returns-in-4 : goal.returns-in-4
-returns-in-4 c = record { is = ap (λ x. Scn.Name x (c.args.at + 3)) c.name.ensures.is ∙ scans_name c.args.file.now c.args.at c.if-at-file.true c.in-4.is; small = λ x q j. let z : c.name.result ≡ x = cc in omega (arith, c.name.ensures.small) }
+pub returns-then-file-at-clause-is : goal.returns-then-file-at-clause-is
+returns-then-file-at-clause-is c = scans_end c.args.file.now c.args.at c.if-file-at.true
 
-pub returns-in-8 : goal.returns-in-8
-returns-in-8 c = record { is = ap (Scn.Parts 0) c.skip.ensures ∙ scans_pre c.args.file.now c.args.at c.if-at-file.true c.in-8.is; small = λ x q j. let z : ◌≡◌ {A = ℕ} 0 1 = cc in absurd (omega arith) }
+pub returns-then-is_at-clause-is : goal.returns-then-is_at-clause-is
+returns-then-is_at-clause-is c = ap (λ x. Scn.Name x (c.args.at + 3)) c.name.ensures.is ∙ scans_name c.args.file.now c.args.at c.if-file-at.false c.if-is_at.ensures
 
-pub returns-in_default : goal.returns-in_default
-returns-in_default c = record { is = ap (λ m. Scn.Parts m c.head-h.result.start) c.head-h.ensures.parts ∙ (ap (Scn.Parts (parts_at c.args.file.now c.args.at)) c.head-h.ensures.next ∙ scans_parts c.args.file.now c.args.at c.if-at-file.true (λ e. omega arith) (λ e. omega arith)); small = λ x q j. let z : ◌≡◌ {A = ℕ} 0 1 = cc in absurd (omega arith) }
+pub returns-then-is_at-2-clause-is : goal.returns-then-is_at-2-clause-is
+returns-then-is_at-2-clause-is c = ap (Scn.Parts 0) c.skip.ensures ∙ scans_pre c.args.file.now c.args.at c.if-file-at.false c.if-is_at.ensures c.if-is_at-2.ensures
 
-pub returns-else-at-file : goal.returns-else-at-file
-returns-else-at-file c = record { is = scans_end c.args.file.now c.args.at c.if-at-file.false; small = λ x q j. let z : ◌≡◌ {A = ℕ} 0 1 = cc in absurd (omega arith) }
+pub returns-else-is_at-2-clause-is : goal.returns-else-is_at-2-clause-is
+returns-else-is_at-2-clause-is c =
+    let parts = ap (λ m. Scn.Parts m c.head-h.result.start) c.head-h.ensures.parts in
+    let next = ap (Scn.Parts (parts_at c.args.file.now c.args.at)) c.head-h.ensures.next in
+    parts ∙ next ∙ scans_parts c.args.file.now c.args.at c.if-file-at.false c.if-is_at.ensures c.if-is_at-2.ensures
