@@ -8,20 +8,20 @@ use mathlib.Core.Path.{◌≡◌, refl, sym, ap, ◌∙◌}
 use native.Mathlib.Omega.{arith}
 use lib.ListN.{length, get_or}
 use lib.Dec.{ltb, eqb}
-use borrow.Author.Tests.{eq-eqb, ne_eqb}
+use borrow.Author.Tests.{eqb-true}
 use Rattle.ol_spec.proofs.Walks.{first_append}
 use Rattle.ol_spec.specs.Lists.{sum}
 use Rattle.ol_spec.specs.Syntax.{Exprs, nil, cons, count}
 use Rattle.ol_spec.specs.Places.{exprs_size, collect_all}
 use Rattle.ol_spec.specs.Admission.{Item}
-use Rattle.ol_tables.specs.Heads.{Byte, name_at, parts_of, head_size, parts_at, next_at, joined, Standing}
+use Rattle.ol_tables.specs.Heads.{name_at, parts_of, head_size, parts_at, next_at, joined, Standing}
 use Rattle.ol_tables.proofs.HeadLaws.{walk_head, next_told, parts_told, headed, head_some, joined_count}
 use Rattle.ol_tables.proofs.Skipping.{walk_none, walk_end, walk_many, walk_next, walk_turn as step, standing_few, skip_stands}
 use Rattle.ol_check.specs.Founds.{place_of, earliest}
 use Rattle.ol_check.proofs.FoundLaws.{place_marked}
 use Rattle.ol_tables.specs.Walks.{HeadOf, walk_by, skip_at}
-use Rattle.ol_check.specs.Records.{site_b, callee_b}
-use Rattle.ol_check.specs.Judging.{Findings, findings, var_found, call_found, head_at, heads, unseen_b, unseen_head, slot_put, slot_head, slot_heads, bad_b, outputs_b, called_b, called_head, arity_b, several_head, found_in, Adds, heads_from, Walked}
+use Rattle.ol_check.specs.Records.{site_b}
+use Rattle.ol_check.specs.Judging.{Findings, findings, var_found, call_found, head_at, heads, unseen_b, unseen_head, slot_put, slot_head, slot_heads, called_b, called_head, arity_b, several_head, found_in, Adds, heads_from, Walked}
 use Rattle.ol_tables.specs.declared.heads.Parts.{Parts}
 use Rattle.ol_check.specs.declared.Faults.{Faults}
 
@@ -135,55 +135,51 @@ module _ {s names rows : List ℕ} {nodes k parts : ℕ} {slots₀ : List ℕ} {
                 );
           }
 
-      no_call : get_or s next 0 < 11 → (eqb (get_or s next 0) 11 ≡ false) × (eqb (get_or s next 0) 12 ≡ false)
-      no_call lt = (ne_eqb (get_or s next 0) 11 (λ q. omega (arith, lt)), ne_eqb (get_or s next 0) 12 (λ q. omega (arith, lt)))
+      -- neither a call nor a Tuple: it has one value, and no record
+      module _ (nc : false ≡ eqb (get_or s next 0) 11) (nt : false ≡ eqb (get_or s next 0) 12) where
+        one_value : 1 ≡ arity_b s rows nodes next
+        one_value = rw (← nt, ← nc) refl
 
-      one_value : get_or s next 0 < 11 → 1 ≡ arity_b s rows nodes next
-      one_value lt = sym (ap (λ b. cond b (get_or s (next + 1) 0) (cond (eqb (get_or s next 0) 11) (outputs_b rows nodes (get_or s (next + 1) 0)) 1)) (no_call lt).1 ∙ ap (λ b. cond b (outputs_b rows nodes (get_or s (next + 1) 0)) 1) (no_call lt).0)
+        none_called : false ≡ called_b s rows k next
+        none_called = rw (← nc) refl
 
-      none_called : get_or s next 0 < 11 → false ≡ called_b s rows k next
-      none_called lt = sym (ap (λ b. b && bad_b rows k (get_or s (next + 1) 0) (get_or s (next + 2) 0)) (no_call lt).0)
+        no_site : 0 ≡ site_b s rows nodes next
+        no_site = rw (← nc) refl
 
-      no_site : get_or s next 0 < 11 → 0 ≡ site_b s rows nodes next
-      no_site lt = sym (ap (λ b. sum (map (callee_b rows nodes) (cond b (get_or s (next + 1) 0 ∷ []) []))) (no_call lt).0)
-
-      -- at a plain head nothing changes
-      pub walk_plain : {b z' : ℕ} {slots' : List ℕ} {found' : Faults} → Byte s next b → (b ≡ 4 → ⊥) → b < 11 → slots' ≡ slots → found' ≡ found → z' ≡ z → WalkGoing s names rows nodes k parts slots₀ f slots' found' z' (left - 1 + p.count) p.start
-      walk_plain {b} {z'} {slots'} {found'} eb nb low es ef ez =
-          let lt : get_or s next 0 < 11 = omega (arith, eb.is) in
-          let no4 : eqb (get_or s next 0) 4 ≡ false = ne_eqb (get_or s next 0) 4 (λ q. nb (eb.is ∙ q)) in
-          walk_turn slots' found' false false 1 0 z'
-          (es ∙ sym (ap (λ b. cond b (slot_put s names slots (next + 1)) slots) no4))
-          (ap (λ (w : Faults). place_of w.unseen) ef ∙ earliest_not (place_of found.unseen) (next + 1)) (sym (ap (λ b. b && eqb (get_or names (name_at s (next + 1)) 0) 0) no4))
-          (ap (λ (w : Faults). place_of w.called) ef ∙ earliest_not (place_of found.called) next) (none_called lt)
-          (ap (λ (w : Faults). place_of w.shaped) ef ∙ earliest_not (place_of found.shaped) next) (one_value lt)
-          (λ le. ez ∙ sym (min_cap z 65536 le)) (no_site lt) (ap (λ (w : Faults). place_of w.again) ef)
+        -- at a plain head nothing changes
+        pub walk_plain : {z' : ℕ} {slots' : List ℕ} {found' : Faults} → false ≡ eqb (get_or s next 0) 4 → slots' ≡ slots → found' ≡ found → z' ≡ z → WalkGoing s names rows nodes k parts slots₀ f slots' found' z' (left - 1 + p.count) p.start
+        walk_plain {z'} {slots'} {found'} nv es ef ez =
+            walk_turn slots' found' false false 1 0 z'
+            (es ∙ ap (λ b. cond b (slot_put s names slots (next + 1)) slots) nv)
+            (ap (λ (w : Faults). place_of w.unseen) ef ∙ earliest_not (place_of found.unseen) (next + 1)) (ap (λ b. b && eqb (get_or names (name_at s (next + 1)) 0) 0) nv)
+            (ap (λ (w : Faults). place_of w.called) ef ∙ earliest_not (place_of found.called) next) none_called
+            (ap (λ (w : Faults). place_of w.shaped) ef ∙ earliest_not (place_of found.shaped) next) one_value
+            (λ le. ez ∙ sym (min_cap z 65536 le)) no_site (ap (λ (w : Faults). place_of w.again) ef)
 
       -- a Var
-      pub walk_var : {b z' : ℕ} {slots' : List ℕ} {found' : Faults} → Byte s next b → b ≡ 4 → slots' ≡ slot_put s names slots (next + 1) → found' ≡ var_found s names found next → z' ≡ z
+      pub walk_var : {z' : ℕ} {slots' : List ℕ} {found' : Faults} → true ≡ eqb (get_or s next 0) 4 → slots' ≡ slot_put s names slots (next + 1) → found' ≡ var_found s names found next → z' ≡ z
           → WalkGoing s names rows nodes k parts slots₀ f slots' found' z' (left - 1 + p.count) p.start
-      walk_var {b} {z'} {slots'} {found'} eb four es ef ez =
-          let is4 : get_or s next 0 ≡ 4 = sym eb.is ∙ four in
-          let yes : eqb (get_or s next 0) 4 ≡ true = eq-eqb (get_or s next 0) 4 is4 in
-          let lt : get_or s next 0 < 11 = omega (arith, is4) in
+      walk_var {z'} {slots'} {found'} v es ef ez =
+          let is4 : get_or s next 0 ≡ 4 = eqb-true (get_or s next 0) 4 (sym v) in
+          let nc : false ≡ eqb (get_or s next 0) 11 = rw is4 refl in
+          let nt : false ≡ eqb (get_or s next 0) 12 = rw is4 refl in
           let q = eqb (get_or names (name_at s (next + 1)) 0) 0 in
           walk_turn slots' found' q false 1 0 z'
-          (es ∙ sym (ap (λ b. cond b (slot_put s names slots (next + 1)) slots) yes))
-          (ap (λ (w : Faults). place_of w.unseen) ef ∙ place_marked found.unseen q (next + 1)) (sym (ap (λ b. b && q) yes))
-          (ap (λ (w : Faults). place_of w.called) ef ∙ earliest_not (place_of found.called) next) (none_called lt)
-          (ap (λ (w : Faults). place_of w.shaped) ef ∙ earliest_not (place_of found.shaped) next) (one_value lt)
-          (λ le. ez ∙ sym (min_cap z 65536 le)) (no_site lt) (ap (λ (w : Faults). place_of w.again) ef)
+          (es ∙ ap (λ b. cond b (slot_put s names slots (next + 1)) slots) v)
+          (ap (λ (w : Faults). place_of w.unseen) ef ∙ place_marked found.unseen q (next + 1)) (ap (λ b. b && q) v)
+          (ap (λ (w : Faults). place_of w.called) ef ∙ earliest_not (place_of found.called) next) (none_called nc nt)
+          (ap (λ (w : Faults). place_of w.shaped) ef ∙ earliest_not (place_of found.shaped) next) (one_value nc nt)
+          (λ le. ez ∙ sym (min_cap z 65536 le)) (no_site nc nt) (ap (λ (w : Faults). place_of w.again) ef)
 
       -- a call or a Tuple
-      pub walk_call : {b x z' : ℕ} {slots' : List ℕ} {found' : Faults} → Byte s next b → (b ≡ 4 → ⊥) → slots' ≡ slots → found' ≡ call_found s rows nodes k found next → z' ≡ min (z + x) 65536 → x ≡ site_b s rows nodes next
+      pub walk_call : {x z' : ℕ} {slots' : List ℕ} {found' : Faults} → false ≡ eqb (get_or s next 0) 4 → slots' ≡ slots → found' ≡ call_found s rows nodes k found next → z' ≡ min (z + x) 65536 → x ≡ site_b s rows nodes next
           → WalkGoing s names rows nodes k parts slots₀ f slots' found' z' (left - 1 + p.count) p.start
-      walk_call {b} {x} {z'} {slots'} {found'} eb nb es ef ez ex =
-          let no4 : eqb (get_or s next 0) 4 ≡ false = ne_eqb (get_or s next 0) 4 (λ q. nb (eb.is ∙ q)) in
+      walk_call {x} {z'} {slots'} {found'} nv es ef ez ex =
           let bc = called_b s rows k next in
           let bs = ltb 1 (arity_b s rows nodes next) in
           walk_turn slots' found' false bc (arity_b s rows nodes next) x z'
-          (es ∙ sym (ap (λ b. cond b (slot_put s names slots (next + 1)) slots) no4))
-          (ap (λ (w : Faults). place_of w.unseen) ef ∙ earliest_not (place_of found.unseen) (next + 1)) (sym (ap (λ b. b && eqb (get_or names (name_at s (next + 1)) 0) 0) no4))
+          (es ∙ ap (λ b. cond b (slot_put s names slots (next + 1)) slots) nv)
+          (ap (λ (w : Faults). place_of w.unseen) ef ∙ earliest_not (place_of found.unseen) (next + 1)) (ap (λ b. b && eqb (get_or names (name_at s (next + 1)) 0) 0) nv)
           (ap (λ (w : Faults). place_of w.called) ef ∙ place_marked found.called bc next) refl
           (ap (λ (w : Faults). place_of w.shaped) ef ∙ place_marked found.shaped bs next) refl
           (λ le. ez) ex (ap (λ (w : Faults). place_of w.again) ef)

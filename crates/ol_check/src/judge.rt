@@ -10,15 +10,9 @@ use super::names::{LAST_VARIABLE, NO_ENTRY, VARIANT};
 use super::size::{FUNCTION, IMPORTED, OPERATOR, capped, site};
 use super::{Faults, mark};
 use ol_tables::bytes::{byte, name, put_byte, put_two};
+use ol_tables::form::Form;
 use ol_tables::heads::head;
 use ol_tables::tables::{INPUTS, KIND, OUTPUTS, row};
-
-// The codes of a Var, a call and a Tuple. Below a call's code none has several values.
-const VAR: usize = 4;
-
-pub(crate) const CALL: usize = 11;
-
-const TUPLE: usize = 12;
 
 // What the expressions of a node are judged by: the file, the table by name, the rows of its nodes, how many there are, and the node's number.
 #[derive(Clone, Copy)]
@@ -104,7 +98,7 @@ impl<'a> Judge<'a> {
         requires { at < length self.now.file.now }
         ensures { slots.new ≡ slot_head self.now.file.now self.now.names.now slots.old at }
     {
-        if byte(self.file, at) == VAR {
+        if Form::Var.is_at(self.file, at) {
             self.put_slot(slots, at + 1);
         }
     }
@@ -114,7 +108,7 @@ impl<'a> Judge<'a> {
         requires { at < length self.now.file.now }
         ensures { result ≡ unseen_b self.now.file.now self.now.names.now at }
     {
-        byte(self.file, at) == VAR && byte(self.names, name(self.file, at + 1)) == NO_ENTRY
+        Form::Var.is_at(self.file, at) && byte(self.names, name(self.file, at + 1)) == NO_ENTRY
     }
 
     // Whether the expression at `at` is a faulted call.
@@ -122,7 +116,7 @@ impl<'a> Judge<'a> {
         requires { at < length self.now.file.now }
         ensures { result ≡ called_b self.now.file.now self.now.rows.now self.now.node at }
     {
-        byte(self.file, at) == CALL
+        Form::Call.is_at(self.file, at)
             && bad_call(
                 self.rows,
                 self.node,
@@ -136,9 +130,9 @@ impl<'a> Judge<'a> {
         requires { at < length self.now.file.now }
         ensures { result ≡ arity_b self.now.file.now self.now.rows.now self.now.nodes at }
     {
-        match byte(self.file, at) {
-            TUPLE => byte(self.file, at + 1),
-            CALL => outputs(self.rows, self.nodes, byte(self.file, at + 1)),
+        match Form::try_from(self.file[at]) {
+            Ok(Form::Tuple) => byte(self.file, at + 1),
+            Ok(Form::Call) => outputs(self.rows, self.nodes, byte(self.file, at + 1)),
             _ => 1,
         }
     }
@@ -173,10 +167,9 @@ impl<'a> Judge<'a> {
         let mut left = parts;
         while 0 < left && next < file.len() && left <= file.len() {
             let h = head(file, next);
-            let code = byte(file, next);
-            if code == VAR {
+            if Form::Var.is_at(file, next) {
                 self.judge_var(slots, g, next);
-            } else if CALL <= code {
+            } else if Form::Call.is_at(file, next) || Form::Tuple.is_at(file, next) {
                 self.judge_call(g, next);
                 size = capped(size, site(file, self.rows, self.nodes, next));
             }

@@ -9,8 +9,8 @@ ghost use Rattle.ol_check.specs.Records.{site_b, record_by};
 ghost use Rattle.ol_check.specs.NodesJudged.{RowsReady};
 ghost use Rattle.ol_check.specs.Sizes.{StateSized};
 
-use super::judge::CALL;
 use ol_tables::bytes::byte;
+use ol_tables::form::Form;
 use ol_tables::tables::{KIND, PLACE, SIZE, row};
 
 // The codes of a node's kinds.
@@ -45,7 +45,7 @@ pub(crate) fn site(file: &[u8], rows: &[usize], nodes: usize, at: usize) -> usiz
     requires { at < length file.now }
     ensures { result ≡ site_b file.now rows.now nodes at }
 {
-    if byte(file, at) != CALL {
+    if !Form::Call.is_at(file, at) {
         return 0;
     }
     let c = byte(file, at + 1);
