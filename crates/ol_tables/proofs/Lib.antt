@@ -1,3 +1,4 @@
+pub mod FormLaws
 pub mod HeadLaws
 pub mod Walking
 pub mod Skipping

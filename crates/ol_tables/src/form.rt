@@ -1,5 +1,5 @@
 // The forms of expressions, from their codes in the file.
-ghost use Rattle.std.specs.Prelude.{◌≡◌, ◌<◌, length, get_or, eqb};
+ghost use Rattle.std.specs.Prelude.{◌≡◌, ◌<◌, min, length, get_or, eqb};
 ghost use Rattle.ol_tables.specs.FormCodes.{code_of_form};
 
 // The form of an expression, as its first byte tells: the forms in the order of their codes (docs/FORMAT.md, "Expressions").
@@ -21,6 +21,17 @@ pub enum Form {
 }
 
 impl Form {
+    // The form of the expression at `at`. A byte that is no code, which no file has there that reads without fault, is taken as a Tuple's.
+    pub fn at(file: &[u8], at: usize) -> Form
+        requires { at < length file.now }
+        ensures { min (get_or file.now at 0) 12 ≡ code_of_form result }
+    {
+        match Form::try_from(file[at]) {
+            Ok(form) => form,
+            Err(_) => Form::Tuple,
+        }
+    }
+
     // Whether the expression at `at` is of this form.
     pub fn is_at(self, file: &[u8], at: usize) -> bool
         requires { at < length file.now }

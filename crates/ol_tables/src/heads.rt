@@ -20,24 +20,24 @@ pub fn ty_size(file: &[u8], at: usize) -> usize
     if byte(file, at) == 12 { 2 } else { 1 }
 }
 
-// The head of the expression at `at`, in the file; a byte that is no code is taken as a Tuple. The numbers are those of parts_table and sizes_table
+// The head of the expression at `at`, in the file. The numbers are those of parts_table and sizes_table
 // (specs/Heads).
 fn head_inside(file: &[u8], at: usize) -> Parts
     requires { at < length file.now }
     ensures { HeadOf file.now at result }
 {
-    let (count, start) = match Form::try_from(file[at]) {
-        Ok(Form::Bool | Form::Char) => (0, at + 2),
-        Ok(Form::Int | Form::Float) => (0, at + 9),
-        Ok(Form::Var) => (0, at + 3),
-        Ok(Form::Unary) => (1, at + 2),
-        Ok(Form::Binary) => (2, at + 2),
-        Ok(Form::If) => (3, at + 1),
-        Ok(Form::Pre) => (1, at + 1),
-        Ok(Form::Arrow) => (2, at + 1),
-        Ok(Form::Cast) => (1, at + 1 + ty_size(file, at + 1)),
-        Ok(Form::Call) => (byte(file, at + 2), at + 3),
-        Ok(Form::Tuple) | Err(_) => (byte(file, at + 1), at + 2),
+    let (count, start) = match Form::at(file, at) {
+        Form::Bool | Form::Char => (0, at + 2),
+        Form::Int | Form::Float => (0, at + 9),
+        Form::Var => (0, at + 3),
+        Form::Unary => (1, at + 2),
+        Form::Binary => (2, at + 2),
+        Form::If => (3, at + 1),
+        Form::Pre => (1, at + 1),
+        Form::Arrow => (2, at + 1),
+        Form::Cast => (1, at + 1 + ty_size(file, at + 1)),
+        Form::Call => (byte(file, at + 2), at + 3),
+        Form::Tuple => (byte(file, at + 1), at + 2),
     };
     Parts { count, start }
 }
