@@ -1,11 +1,9 @@
 // The operators on values: document 01's `eval_binary`, and its unary operators. Both sides have been
 // evaluated.
-ghost use Rattle.std.specs.Prelude.{◌≡◌, ◌&&◌, ◌*◌, ◌%◌, ◌^◌, ℤ, pos, FitsSigned};
+ghost use Rattle.std.specs.Prelude.{◌≡◌, ℕ, ℤ, false, eqb, FitsSigned};
 ghost use Rattle.std.specs.Int.{w64};
-ghost use Rattle.std.specs.Int.Signed.{lt_z, le_z, shr_z};
 ghost use Rattle.std.specs.Option.{SomeIff};
-ghost use Rattle.ol_spec.specs.Numbers.{residue, signed};
-ghost use Rattle.ol_spec.specs.Operators.{bool_out, exact, div_int, mod_int, shift_by, bools, ints, reals, names, unlike, on_pair, unary_of, binary_of};
+ghost use Rattle.ol_spec.specs.Operators.{bool_out, exact, bools, ints, reals, names, unlike, on_pair, unary_of, binary_of};
 ghost use Rattle.ol_value.specs.Codes.{as_double, one_of, op_of, unary_by, binary_by};
 
 use crate::codes::{Binary, Unary};
@@ -46,8 +44,9 @@ fn eval_bools(op: Binary, a: bool, b: bool) -> Outcome
     }
 }
 
-// Eq to Shr of two integers. Division is toward zero, -7 / 2 is -3, and Mod has the dividend's sign;
-// Shl drops bits past the 64th, and Shr copies the sign bit.
+// Eq to Shr of two integers. Division is toward zero, -7 / 2 is -3, and Mod has the dividend's sign: a zero
+// divisor is out of range, and the lowest number by -1 overflows. Shl drops bits past the 64th, and Shr
+// copies the sign bit: a count outside 0 to 63 is out of range.
 #[tactic(auto, unfolding(ol_spec::specs::Operators::on_pair))]
 fn eval_ints(op: Binary, a: i64, b: i64) -> Outcome
     ensures { result ≡ on_pair (op_of op) (ints a b) }
@@ -62,63 +61,16 @@ fn eval_ints(op: Binary, a: i64, b: i64) -> Outcome
         Binary::Add => exact(a.checked_add(b)),
         Binary::Sub => exact(a.checked_sub(b)),
         Binary::Mul => exact(a.checked_mul(b)),
-        Binary::Div => div_ints(a, b),
-        Binary::Mod => mod_ints(a, b),
+        Binary::Div | Binary::Mod if b == 0 => Outcome::Failure(Cause::Range),
+        Binary::Div => exact(a.checked_div(b)),
+        Binary::Mod => exact(a.checked_rem(b)),
         Binary::BitAnd => Outcome::Value(Value::Int(a & b)),
         Binary::BitOr => Outcome::Value(Value::Int(a | b)),
         Binary::BitXor => Outcome::Value(Value::Int(a ^ b)),
-        Binary::Shl => shl_ints(a, b),
-        Binary::Shr => shr_ints(a, b),
+        Binary::Shl | Binary::Shr if !(0..64).contains(&b) => Outcome::Failure(Cause::Range),
+        Binary::Shl => Outcome::Value(Value::Int(a << b)),
+        Binary::Shr => Outcome::Value(Value::Int(a >> b)),
         _ => Outcome::Failure(Cause::Other),
-    }
-}
-
-// A zero divisor is out of range, and the lowest number by -1 overflows.
-fn div_ints(a: i64, b: i64) -> Outcome
-    ensures { result ≡ div_int a b }
-{
-    if b == 0 {
-        return Outcome::Failure(Cause::Range); // a / 0
-    }
-    exact(a.checked_div(b))
-}
-
-// Likewise.
-fn mod_ints(a: i64, b: i64) -> Outcome
-    ensures { result ≡ mod_int a b }
-{
-    if b == 0 {
-        return Outcome::Failure(Cause::Range); // a mod 0
-    }
-    exact(a.checked_rem(b))
-}
-
-// Whether a shift takes this count: 0 to 63.
-fn is_count(b: i64) -> bool
-    ensures { result ≡ le_z (pos 0) b && lt_z b (pos 64) }
-{
-    (0 <= b) & (b < 64)
-}
-
-// A count that no shift takes is out of range.
-fn shl_ints(a: i64, b: i64) -> Outcome
-    ensures { result ≡ shift_by (λ k. signed 64 (residue 64 a * 2 ^ k % 2 ^ 64)) b }
-{
-    if is_count(b) {
-        Outcome::Value(Value::Int(a << b))
-    } else {
-        Outcome::Failure(Cause::Range)
-    }
-}
-
-// Likewise.
-fn shr_ints(a: i64, b: i64) -> Outcome
-    ensures { result ≡ shift_by (λ k. shr_z a (2 ^ k)) b }
-{
-    if is_count(b) {
-        Outcome::Value(Value::Int(a >> b))
-    } else {
-        Outcome::Failure(Cause::Range)
     }
 }
 
@@ -144,26 +96,15 @@ fn eval_reals<T: Real>(op: Binary, x: T, y: T) -> Outcome
     }
 }
 
-// Eq and Neq of two names.
+// Eq and Neq, of operands that no other operator takes: two names, or unlike kinds, which are unequal.
 #[tactic(auto, unfolding(ol_spec::specs::Operators::on_pair))]
-fn eval_names(op: Binary, v: u16, w: u16) -> Outcome
-    ensures { result ≡ on_pair (op_of op) (names v w) }
+fn eval_same(op: Binary, same: bool) -> Outcome
+    ensures of_names { (v w : ℕ) → same ≡ eqb v w → result ≡ on_pair (op_of op) (names v w) }
+    ensures of_unlike { same ≡ false → result ≡ on_pair (op_of op) unlike }
 {
     match op {
-        Binary::Eq => bool_out(v == w),
-        Binary::Neq => bool_out(v != w),
-        _ => Outcome::Failure(Cause::Other),
-    }
-}
-
-// Unlike kinds are unequal.
-#[tactic(auto, unfolding(ol_spec::specs::Operators::on_pair))]
-fn eval_unlike(op: Binary) -> Outcome
-    ensures { result ≡ on_pair (op_of op) unlike }
-{
-    match op {
-        Binary::Eq => bool_out(false),
-        Binary::Neq => bool_out(true),
+        Binary::Eq => bool_out(same),
+        Binary::Neq => bool_out(!same),
         _ => Outcome::Failure(Cause::Other),
     }
 }
@@ -187,11 +128,11 @@ fn eval_pair(op: Binary, l: Value, r: Value) -> Outcome
         (Value::Bool(a), Value::Bool(b)) => eval_bools(op, a, b),
         (Value::Int(a), Value::Int(b)) => eval_ints(op, a, b),
         (Value::Float32(x), Value::Float32(y)) => eval_reals(op, x, y),
-        (Value::Enum(v), Value::Enum(w)) => eval_names(op, v, w),
+        (Value::Enum(v), Value::Enum(w)) => eval_same(op, v == w),
         // one call for doubles, so that it is put in place
         _ => match (as_double(l), as_double(r)) {
             (Some(x), Some(y)) => eval_reals(op, x, y),
-            _ => eval_unlike(op),
+            _ => eval_same(op, false),
         },
     }
 }
