@@ -97,7 +97,8 @@ fn tell_row(streams: Streams, text: &[u8], at: usize, r: u64)
     streams.write_all(b"\n");
 }
 
-// Writes each row from row `from` on whose result is not the one found here.
+// Writes each row from row `from` on whose result is not the one found here. Each is written by its place in
+// the text, so the loop goes over places.
 fn tell_others(streams: Streams, text: &[u8], from: usize, found: &[u64], wanted: &[u64])
     requires { (54 * length found.now ≤ length text.now) × (length wanted.now ≡ length found.now) }
 {
@@ -122,7 +123,7 @@ fn compare_in(streams: Streams, text: &[u8], found: &mut [u64], wanted: &mut [u6
     c
 }
 
-// The same of the first n rows.
+// The same of the first n rows. How many there are is known at the run only: the buffers have the most, and need no heap.
 fn compare_rows(streams: Streams, text: &[u8], n: usize) -> Compared
     requires { (n ≤ 64) × (54 * n ≤ length text.now) }
     ensures { Compares (answers text.now n) (results text.now n) result }

@@ -2,7 +2,7 @@
 ghost use Rattle.std.specs.Prelude.{◌≡◌, ◌%◌};
 ghost use Rattle.ieee_vectors.specs.Operations.{result_of};
 
-// The last 32 bits.
+// The last 32 bits. A cast must lose no bits, and no conversion of std drops some.
 fn low(a: u64) -> u32
     ensures { result ≡ a % 0x1_0000_0000 }
 {

@@ -129,7 +129,8 @@ fn first_unplaced(placed: &[u8]) -> Option<usize>
 }
 
 // Places the equations whose lists these are: the first that is never placed. The buffer gets the
-// order of those placed.
+// order of those placed. How many there are is known at the run only, and there is no heap: this file's
+// buffers have the most, and a part of each is lent.
 fn place(lists: &[u8], begins: &[usize], order: &mut [usize]) -> Option<usize>
     requires { Listed lists.now begins.now order.old }
     ensures { (qs : List Equation) → Waits qs lists.now begins.now → Sorts qs order.old order.new result }

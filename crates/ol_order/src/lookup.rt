@@ -12,7 +12,8 @@ use ol_ir::expr::scan;
 use ol_tables::bytes::byte;
 
 // Equations with the table of their definers: for each remainder by 1,024 the last equation that
-// defines a name of it. With `low` each name's own entry has its definer.
+// defines a name of it. With `low` each name's own entry has its definer. It is a fact of the names:
+// no field waits for it, and two variants would have the same fields.
 #[derive(Clone, Copy)]
 pub(crate) struct Lookup<'f, 's, 't> {
     pub(crate) equations: Equations<'f, 's>,
@@ -21,7 +22,8 @@ pub(crate) struct Lookup<'f, 's, 't> {
     ghost told: { Definers (those equations) low definers.now },
 }
 
-// An entry of the table: 255 stands for none.
+// An entry of the table: 255 stands for none. There is no heap, and the table is on the stack: an entry
+// is a byte, and an Option of one takes two.
 fn definer(definers: &[u8], x: usize) -> Option<usize>
     ensures { result ≡ entry_of (get_or definers.now x 255) }
 {

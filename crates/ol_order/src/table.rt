@@ -32,7 +32,8 @@ fn copy_bytes(order: &[usize], out: &mut [u8])
     }
 }
 
-// The order of the equations, with room for all definers that they wait for.
+// The order of the equations, with room for all definers that they wait for. How many there are is known
+// at the run only, and there is no heap: this file's buffers have the most, and a part of each is lent.
 fn order_starts(equations: Equations, low: bool, lists: &mut [u8], out: &mut [u8]) -> Option<usize>
     requires low_names { low ≡ true → LowNames (those equations) }
     requires room { length (all_waited equations) ≤ length lists.old }
@@ -64,7 +65,9 @@ fn starts_of(tab: &[u8], plan: usize, starts: &mut [usize])
 }
 
 // The nodes of a file that reads without fault, by the places at which they start, with the rows of
-// its table. With `low` every name that an equation defines is below 1,024.
+// its table. With `low` every name that an equation defines is below 1,024. It is a fact of the names:
+// no field waits for it, and two variants would have the same fields. What holds of the nodes is asked
+// by each method: it has the file as it is read, and a ghost field takes a proposition only.
 #[derive(Clone, Copy)]
 struct Nodes<'f, 'p, 'r> {
     file: &'f [u8],

@@ -10,7 +10,8 @@ use crate::defaults::write_defaults;
 use ol_tables::table::column;
 use ol_tables::tables::{MOST_CELLS, VARIABLES};
 
-// Whether the cells are the defaults of node k's variables.
+// Whether the cells are the defaults of node k's variables. How many there are is known at the run only, and
+// there is no heap: the buffer has the most, and its front is compared.
 fn are_defaults(tab: &[u8], k: usize, cells: &[u8]) -> bool
     requires { (k ≤ 65535) × (width_at tab.now k ≤ 112) × (9 * width_at tab.now k ≤ length cells.now) }
     ensures { result ≡ same (take (9 * width_at tab.now k) cells.now) (defaults_at tab.now k) }

@@ -7,7 +7,7 @@ ghost use Rattle.ol_spec.specs.Types.{narrow, in_range};
 ghost use Rattle.ol_value.specs.Codes.{int_ty_of, Narrow, ty_of, row_of, row_says, row_for};
 
 // A type's width in bits, 0 if it holds no integers; whether an integer that is stored in it or cast to it is
-// narrowed; and whether it has a sign.
+// narrowed; and whether it has a sign. `Narrow` holds of the rows that narrow alone, so it is no invariant.
 #[derive(Clone, Copy)]
 pub(crate) struct TypeRow {
     pub(crate) bits: u8,

@@ -39,7 +39,8 @@ fn next_length(streams: Streams, buf: &[u8]) -> usize
     io::count(streams.next_number(CUT) as isize, buf)
 }
 
-// The next answer of the list: a fault, or number 0 at place 0.
+// The next answer of the list: a fault, or number 0 at place 0. A row has it as the list does, and rows are
+// compared as they stand: a Result would be taken apart again.
 fn next_answer(streams: Streams) -> Fault
     ensures { result.place < 65536 }
 {
@@ -90,7 +91,7 @@ fn answer(r: Result<(), Fault>) -> Fault
     }
 }
 
-// Writes an answer, and what a buffer holds, as a row.
+// Writes an answer, and what a buffer holds, as a row: a list of numbers, since it is compared as one, entry by entry.
 fn put_row(f: Fault, entries: &[usize], row: &mut [u64])
     requires { length row.old ≡ length entries.now + 2 }
     ensures { row.new ≡ row_of f entries.now }

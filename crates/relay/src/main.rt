@@ -59,7 +59,8 @@ fn take_line(input: &[u8], i: Input, line: &mut [u8; 262145]) -> Input
     }
 }
 
-// Where a run stands: the input, the number of the line that is read, whether it is over.
+// Where a run stands: the input, the number of the line that is read, whether it is over. The end of a run is told
+// of the input and the line too (`Served`), so an Option that drops them says less.
 #[derive(Clone, Copy)]
 struct Turn {
     input: Input,

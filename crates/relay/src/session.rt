@@ -37,6 +37,7 @@ pub struct Session {
     pub out: [u8; 393216],
 }
 
+// What an admitted file is told with.
 const NO_FAULT: Fault = Fault {
     number: 0,
     place: 0,
@@ -107,7 +108,7 @@ fn load_fault(file: &[u8], state: &[u8]) -> Option<Fault>
     }
 }
 
-// order NODE
+// order NODE. A node has at most 80 entries: a buffer of so many needs no allocation, which could fail.
 fn order(file: &[u8], node: usize, out: &mut [u8]) -> usize
     requires { 1696 ≤ length out.old }
     ensures { Said (order_text (order_call file.now node)) result out.new }
@@ -175,6 +176,8 @@ impl Session {
             }
         }
     }
+
+    // `kept` is what the session keeps: the methods from here on are called where a file is open, and so do not test for it again.
 
     // load STATE
     fn load(&mut self, k: usize, kept: Kept) -> usize

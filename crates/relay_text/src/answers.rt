@@ -1,4 +1,5 @@
-// The answers' lines, and what the words of a command's line stand for.
+// The answers' lines, and what the words of a command's line stand for. Each line asks for the room that it takes; 128 bytes
+// have room for each line that has no list in it, and need no name.
 ghost use Rattle.std.specs.Prelude.{◌≡◌, ◌+◌, ◌*◌, ◌≤◌, length};
 ghost use Rattle.relay_text.specs.Text.{bytes_of, unhexed_front, onto, number_of, Decoded};
 ghost use Rattle.relay_text.specs.Lines.{error_line, refused_line, admit_line, state_line, answered_line, stopped_line, order_line, no_order_line, Puts, word_text};

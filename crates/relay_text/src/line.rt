@@ -23,7 +23,7 @@ impl Line<'_> {
         self.length = put(self.out, self.length, piece);
     }
 
-    // A number, in decimal digits.
+    // A number, in decimal digits, at most 20: a buffer of so many needs no allocation, which could fail.
     pub(crate) fn number(&mut self, n: usize)
         requires { self.old.length + 20 ≤ length self.old.out.now }
         ensures same_reference { self.new.out.ghost_name ≡ self.old.out.ghost_name }
