@@ -15,9 +15,10 @@ use borrow.Author.Tests.{eqb-true, eqb-false, eq-eqb, ne_eqb, ltb-true, ltb-fals
 use Rattle.ol_spec.specs.Lists.{member}
 use Rattle.ol_spec.specs.Syntax.{Equation}
 use Rattle.ol_spec.specs.Order.{later, definer_from, definer}
-use Rattle.ol_spec.specs.Read.{got, many, count_r, name_r, equation_r}
+use Rattle.ol_spec.specs.Read.{Read, got, fault, many, count_r, name_r, equation_r}
 use Rattle.std.specs.Prelude as Std
-use Rattle.std.specs.Prelude.{nat_lt}
+use Rattle.std.specs.Prelude.{nat_lt, MatchResult}
+use Rattle.ol_ir.specs.declared.Counted.{Counted}
 use Rattle.ol_spec.specs.declared.Fault.{Fault}
 use Rattle.ol_spec.specs.declared.Limits.{Limits}
 use Rattle.ol_spec.proofs.Ordering.{later_cases, definer_inside}
@@ -203,14 +204,14 @@ module _ (s : List ℕ) (x count j at : ℕ) (w : Bool) (e : member x (names_at 
       unfolding on_places
       among_not {f} h = sym (ap (λ r. member x (on_places r (names_at (count - (j + 1)) s))) (from_halt (name_r s at) f (sym g ∙ h))) ∙ next_names
 
-module _ (s : List ℕ) (most at x : ℕ) {c : Counting} (g : c ≡ counted_of (count_r s 1 most at)) where
-  pub defines_names : {n p : ℕ} {b : Bool} → c ≡ Std.Ok (counted_at n p) → b ≡ member x (names_at n s p) → b ≡ defined_at s most at x
-  unfolding defined_at
-  defines_names {n} {p} h e = e ∙ sym (ap (λ r. on_defined r (λ n p. member x (names_at n s p))) (from_items (count_r s 1 most at) n p (sym g ∙ h)))
-
-  pub defines_none : {f : Fault} → c ≡ Std.Err f → false ≡ defined_at s most at x
-  unfolding defined_at
-  defines_none {f} h = sym (ap (λ r. on_defined r (λ n p. member x (names_at n s p))) (from_no_items (count_r s 1 most at) f (sym g ∙ h)))
+-- whether the count stands and one of so many names is it
+pub defines_told : (s : List ℕ) (most at x : ℕ) {c : Counting} {b : Bool} (P : Counted → Type 0) → c ≡ counted_of (count_r s 1 most at) → MatchResult c P (λ f. b ≡ false) → ((n p : ℕ) → P (counted_at n p) → b ≡ member x (names_at n s p)) → b ≡ defined_at s most at x
+unfolding defined_at counted_of
+defines_told s most at x {c} {b} P g m h = go (count_r s 1 most at) (subst (λ r. MatchResult r P (λ f. b ≡ false)) g m)
+  where
+    go : (r : Read ℕ) → MatchResult (counted_of r) P (λ f. b ≡ false) → b ≡ on_defined r (λ n p. member x (names_at n s p))
+    go (got n p) v = h n p v
+    go (fault n p) v = v
 
 -- of an equation that was read: whether it is one of its names
 pub defined_is : (s : List ℕ) (l : Limits) (enums at : ℕ) (q : Equation) (end x : ℕ) → equation_r s l enums at ≡ got q end → defined_at s l.names at x ≡ member x q.names

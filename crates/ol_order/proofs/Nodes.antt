@@ -28,6 +28,8 @@ use Rattle.ol_order.proofs.Room.{short_file}
 use Rattle.ol_ir.specs.Walks.{place_of, Loading, loaded_with, loaded_of}
 use Rattle.std.specs.Prelude as Std
 use Rattle.ol_ir.specs.declared.Loaded.{Loaded}
+use Rattle.ol_ir.specs.declared.Counted.{Counted}
+use Rattle.std.specs.Prelude.{MatchResult}
 use Rattle.ol_ir.proofs.Bytes.{same_ok, same_count, get_out}
 use Rattle.ol_ir.proofs.Files.{file_after}
 use Rattle.ol_ir.proofs.Items.{equation_read, few_equations_lem}
@@ -225,10 +227,10 @@ module _ (s : List ℕ) {x : Loading} (e : x ≡ loaded_of (read_file s relay_lo
           ap (λ n. order_node (some (get_or t node 0, n)) buf) (node_is l b)
           ∙ (ap (λ p. order_node (some (p, entry.1)) buf) place_is ∙ sym (ap (λ r. order_read r node buf) loaded.2 ∙ ap (λ o. order_node o buf) entry.2))
 
-      pub count_present : (l : Limits) → l ≡ base → {y : Counting} {n q : ℕ} → y ≡ counted_of (equations_r s l enums (get_or t node 0)) → y ≡ Std.Ok (counted_at n q) → n ≡ equations_of (read_file s relay_loader) node
-      count_present l b {n = n} {q} u v =
+      pub count_present : (l : Limits) → l ≡ base → {y : Counting} {v : ℕ} (P : Counted → Type 0) → y ≡ counted_of (equations_r s l enums (get_or t node 0)) → MatchResult y P (λ f. v ≡ 0) → ((n q : ℕ) → P (counted_at n q) → v ≡ n) → v ≡ equations_of (read_file s relay_loader) node
+      count_present l b {y} {v} P u m w =
           let a = node_got l b in
-          let same : n ≡ length entry.1.equations = same_count (sym v ∙ starts_told s l enums (get_or t node 0) entry.1 a.0 a.1 u) in
+          let same = w _ _ (subst (λ r. MatchResult r P (λ f. v ≡ 0)) (starts_told s l enums (get_or t node 0) entry.1 a.0 a.1 u) m) in
           same ∙ sym (ap (λ r. equations_of r node) loaded.2 ∙ ap equations_in entry.2)
 
 -- what the ordering's call gives: the answer, the buffer, and the answer's number and place

@@ -13,18 +13,14 @@ pub fn equation_count(file: &[u8], node: usize) -> usize
     ensures { result ≡ equations_of (read_file file.now relay_loader) node }
 {
     let mut nodes = [0usize; 32];
-    match load_file(file, &mut nodes) {
-        Ok(loaded) => {
-            if node < loaded.nodes {
-                let mut starts = [0usize; 0];
-                match equation_starts(file, base(), loaded.enums, nodes[node], &mut starts) {
-                    Ok(equations) => equations.count,
-                    Err(_) => 0,
-                }
-            } else {
-                0
-            }
-        }
-        Err(_) => 0,
+    let Ok(loaded) = load_file(file, &mut nodes) else {
+        return 0;
+    };
+    if loaded.nodes <= node {
+        return 0;
     }
+    equation_starts(file, base(), loaded.enums, nodes[node], &mut []).map_or(
+        0,
+        |equations| equations.count,
+    )
 }

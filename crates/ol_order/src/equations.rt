@@ -38,10 +38,7 @@ fn among(file: &[u8], count: usize, at: usize, x: usize) -> bool
 fn defines(file: &[u8], most: usize, at: usize, x: usize) -> bool
     ensures { result ≡ defined_at file.now most at x }
 {
-    match count(file, 1, most, at) {
-        Ok(names) => among(file, names.count, names.at, x),
-        Err(_) => false,
-    }
+    count(file, 1, most, at).is_ok_and(|names| among(file, names.count, names.at, x))
 }
 
 impl<'f, 's> Equations<'f, 's> {

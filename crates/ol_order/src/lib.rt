@@ -6,7 +6,7 @@ mod lookup; // lookup.rt: the equation that defines a name
 pub mod table; // table.rt: the orders of all nodes of a file
 pub mod counts; // counts.rt: how many equations a node has
 
-ghost use Rattle.std.specs.Prelude.{List, [], map, ◌≡◌, ◌≢◌, ◌↔◌, ℕ, ◌≤◌, ◌<◌, length, get_or, set, take, drop, All, IsTrue, slice_index, position, ◌==◌};
+ghost use Rattle.std.specs.Prelude.{List, [], map, ◌≡◌, ◌≢◌, ◌↔◌, ℕ, ◌≤◌, ◌<◌, length, get_or, take, drop, All, IsTrue, slice_index, position, ◌==◌};
 ghost use Rattle.std.proofs.Math.Option.{some};
 ghost use Rattle.std.proofs.lemmas.List.Edits.{sets};
 ghost use Rattle.ol_spec.specs.Syntax.{Equation};
@@ -24,6 +24,7 @@ use ol_ir::node::equation_starts;
 use ol_ir::project::{base, load_file};
 use ol_ir::read::{bytes, count, name};
 use ol_spec::{Fault, Limits};
+use ol_tables::bytes::put;
 
 // No name has a definer: 255 stands for none.
 pub(crate) fn no_definers() -> [u8; 1024]
@@ -33,15 +34,6 @@ pub(crate) fn no_definers() -> [u8; 1024]
     [255; 1024]
 }
 
-// An entry of the table gets the equation's index, where there is one.
-fn enter(definers: &mut [u8], x: usize, index: u8)
-    ensures { definers.new ≡ set definers.old x index }
-{
-    if x < definers.len() {
-        definers[x] = index;
-    }
-}
-
 // Each of so many names gets the equation's index, at its remainder by 1,024, up to one that the
 // file's end cuts off.
 fn define(file: &[u8], count: usize, at: usize, index: u8, definers: &mut [u8])
@@ -49,7 +41,7 @@ fn define(file: &[u8], count: usize, at: usize, index: u8, definers: &mut [u8])
 {
     let mut next = at;
     for _i in 0..count {
-        enter(definers, name(file, next) % 1024, index);
+        put(definers, name(file, next) % 1024, index);
         match bytes(file, 2, next) {
             Ok(p) => next = p,
             Err(_) => return,

@@ -42,10 +42,8 @@ impl<'f, 's, 't> Lookup<'f, 's, 't> {
         if self.low {
             return definer(self.definers, x);
         }
-        match definer(self.definers, x % 1024) {
-            Some(d) => self.equations.search(d + 1, x),
-            None => None,
-        }
+        let d = definer(self.definers, x % 1024)?;
+        self.equations.search(d + 1, x)
     }
 
     // Writes the definers that equation k waits for into the lists, from n on: where they end.

@@ -1,10 +1,6 @@
-use Rattle.ol_order.proofs.Definers.{defines_names, defines_none}
+use Rattle.std.proofs.Common.{of_calls}
+use Rattle.ol_order.proofs.Definers.{defines_told}
 use Rattle.ol_order.proofs.equations.defines.Goals as goal
 
-pub returns-in-Ok : goal.returns-in-Ok
-returns-in-Ok c =
-    defines_names c.args.file.now c.args.most c.args.at c.args.x c.count.ensures c.in-Ok.is c.among.ensures
-
-pub returns-in-Err : goal.returns-in-Err
-returns-in-Err c =
-    defines_none c.args.file.now c.args.most c.args.at c.args.x c.count.ensures c.in-Err.is
+pub returns : goal.returns
+returns c = defines_told c.args.file.now c.args.most c.args.at c.args.x _ c.count.ensures c.is_ok_and.ensures (λ n p h. search (of_calls, h))

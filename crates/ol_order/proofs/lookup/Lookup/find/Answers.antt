@@ -18,10 +18,10 @@ returns-then-self c = c.definer.ensures ∙ entry_low c.args.self.told (few c.ar
 pub search-requires : goal.search-requires
 search-requires c =
     let e = c.args.self.equations in
-    omega (arith, as_many e.file.now e.limits e.enums e.starts.now, (entry_some c.args.self.told (few e) c.args.x c.in-Some.ensures).0)
+    omega (arith, as_many e.file.now e.limits e.enums e.starts.now, (entry_some c.args.self.told (few e) c.args.x c.in_ok-d.ensures).0)
 
-pub returns-in-Some : goal.returns-in-Some
-returns-in-Some c = c.search.ensures ∙ ap as_option (entry_some c.args.self.told (few c.args.self.equations) c.args.x c.in-Some.ensures).1
+pub returns : goal.returns
+returns c = c.search.ensures ∙ ap as_option (entry_some c.args.self.told (few c.args.self.equations) c.args.x c.in_ok-d.ensures).1
 
-pub returns-in-None : goal.returns-in-None
-returns-in-None c = entry_none c.args.self.told (few c.args.self.equations) c.args.x c.in-None.ensures
+pub returns-in_err-d : goal.returns-in_err-d
+returns-in_err-d c = c.from_residual.ensures ∙ entry_none c.args.self.told (few c.args.self.equations) c.args.x c.in_err-d.ensures
