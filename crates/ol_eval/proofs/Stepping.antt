@@ -43,7 +43,8 @@ use Rattle.ol_frame.proofs.Passing.{callees_one}
 use Rattle.ol_frame.proofs.Depth.{calls_of}
 use Rattle.ol_state.proofs.FreshRecords.{fresh_record_lem}
 use Rattle.ol_frame.proofs.Running.{each_in}
-use Rattle.ol_frame.specs.Frame.{node_of, first_of, cells_of, before_of, Opened, Freshened}
+use Rattle.ol_frame.specs.Frame.{Opened, Freshened}
+use Rattle.ol_frame.specs.declared.frame.Frame.{Frame}
 use Rattle.ol_frame.proofs.NodeRows.{inputs_few, width_is, inputs_are, outputs_are}
 use Rattle.ol_frame.proofs.Storing.{values_take, values_drop, values_front}
 
@@ -256,7 +257,7 @@ pub record Entered (file tab rows consts : List ℕ) (k : ℕ) (args old new : L
   pub begun : values_of n cells ≡ values_of i args ++ drop i (values_of n (tail_of 1 old))
   pub earlier : values_of n before ≡ values_of n (tail_of 1 old)
 
-pub entered : {file tab rows consts args old new fr : List ℕ} {k n i : ℕ} → Steppable file tab rows consts k args old new → (node_in file k).kind ≡ Operator → n ≡ row_at rows k 4 → i ≡ row_at rows k 2 → Opened k n i args old fr → Entered file tab rows consts k args old new (first_of fr) n i (cells_of fr) (before_of fr)
+pub entered : {file tab rows consts args old new : List ℕ} {fr : Frame} {k n i : ℕ} → Steppable file tab rows consts k args old new → (node_in file k).kind ≡ Operator → n ≡ row_at rows k 4 → i ≡ row_at rows k 2 → Opened k n i args old fr → Entered file tab rows consts k args old new fr.first n i fr.cells fr.before
 entered {args = args} {old = old} {n = n} {i = i} h o w iw p =
     record {
       site = h;
@@ -358,27 +359,27 @@ module _ {file tab rows consts args old new : List ℕ} {k : ℕ} (h : Steppable
   fresh_cells : (rest : List ℕ) → values_of (width_in file k) (dcells ++ rest) ≡ values_of (width_in file k) dcells
   fresh_cells rest = values_front (width_in file k) dcells rest (omega (arith, dlength))
 
-  module _ (i : ℕ) (fr : List ℕ) (inputs : i ≡ row_at rows k 2) (p : Freshened tab rows k i args fr) where
+  module _ (i : ℕ) (fr : Frame) (inputs : i ≡ row_at rows k 2) (p : Freshened tab rows k i args fr) where
     -- the default cells are those of a fresh record
     defaults_as : values_of (row_at rows k 4) (cells_at tab rows k 0 (row_at rows k 4)) ≡ old_cells fnode (fresh_record fglob fnode)
     defaults_as =
         let R = concat (map (fresh_at fglob (nodes_in file)) (sites fnode)) in
         (λ j. values_of (width_is h.running h.below (row_at rows k 4) refl j) (default_cells h.running.known h.below j)) ∙ sym (fresh_cells R)
 
-    runs_fresh : (vs : List Value) → values_of (length fnode.inputs) args ≡ fit_all fnode.inputs vs → run_in file consts k (first_of fr) (cells_of fr) (before_of fr) old ≡ run fglob (calls fglob) fnode (fit_all fnode.inputs vs) (fresh_record fglob fnode)
+    runs_fresh : (vs : List Value) → values_of (length fnode.inputs) args ≡ fit_all fnode.inputs vs → run_in file consts k fr.first fr.cells fr.before old ≡ run fglob (calls fglob) fnode (fit_all fnode.inputs vs) (fresh_record fglob fnode)
     unfolding run
     runs_fresh vs e =
         let F = fresh_record fglob fnode in
         let wi = inputs_are h.running h.below i inputs in
         let wn = width_is h.running h.below (row_at rows k 4) refl in
-        let b = ap (λ (m : ℕ). values_of m (before_of fr)) (sym wn) ∙ p.before ∙ defaults_as in
-        let c = ap (λ (m : ℕ). values_of m (cells_of fr)) (sym wn) ∙ p.cells ∙ (λ j. (ap (λ (m : ℕ). values_of m args) wi ∙ e) j ++ drop (wi j) (defaults_as j)) in
+        let b = ap (λ (m : ℕ). values_of m fr.before) (sym wn) ∙ p.before ∙ defaults_as in
+        let c = ap (λ (m : ℕ). values_of m fr.cells) (sym wn) ∙ p.cells ∙ (λ j. (ap (λ (m : ℕ). values_of m args) wi ∙ e) j ++ drop (wi j) (defaults_as j)) in
         λ j. run_all fglob (calls fglob) fnode (p.first j) (b j) (order fnode.equations) (c j) (function_split h.running k old (drop (own_size fnode) F) h.below func j)
 
-    pub function_done : (r : Ended) (cells' new' : List ℕ) (o : ℕ) (args' : List ℕ) → RunTo file consts k (first_of fr) (cells_of fr) (before_of fr) old r cells' new' → length new' ≡ length new → o ≡ row_at rows k 3 → values_of o args' ≡ values_of o (drop (9 * i) cells') → SiteTo file consts k args old r.end args' new'
+    pub function_done : (r : Ended) (cells' new' : List ℕ) (o : ℕ) (args' : List ℕ) → RunTo file consts k fr.first fr.cells fr.before old r cells' new' → length new' ≡ length new → o ≡ row_at rows k 3 → values_of o args' ≡ values_of o (drop (9 * i) cells') → SiteTo file consts k args old r.end args' new'
     unfolding instance
     function_done r cells' new' o args' m l oE left vs e =
-        let U = run_in file consts k (first_of fr) (cells_of fr) (before_of fr) old in
+        let U = run_in file consts k fr.first fr.cells fr.before old in
         let F = fresh_record fglob fnode in
         let q : record { out = (leave fglob fnode F U).out; seg = old } ≡ calls fglob k vs old = ap (λ (u : Run). record { out = (leave fglob fnode F u).out; seg = old }) (runs_fresh vs e) ∙ sym (function_call h.running k vs old h.below func) in
         subst (λ (w : Evals). Did as_is w r.end (outputs_at file k args') new') q
@@ -387,10 +388,10 @@ module _ {file tab rows consts args old new : List ℕ} {k : ℕ} (h : Steppable
 -- ---- on a frame
 
 -- a run on a frame of node k
-pub framed_runnable : (fr : List ℕ) {file tab rows consts : List ℕ} {k : ℕ} {old new : List ℕ} → node_of fr ≡ k → Runnable file tab rows consts k (cells_of fr) (before_of fr) old new → Runnable file tab rows consts (node_of fr) (cells_of fr) (before_of fr) old new
+pub framed_runnable : (fr : Frame) {file tab rows consts : List ℕ} {k : ℕ} {old new : List ℕ} → fr.node ≡ k → Runnable file tab rows consts k fr.cells fr.before old new → Runnable file tab rows consts fr.node fr.cells fr.before old new
 framed_runnable fr {file} {tab} {rows} {consts} {k} {old} {new} e p =
-    subst (λ (n : ℕ). Runnable file tab rows consts n (cells_of fr) (before_of fr) old new) (sym e) p
+    subst (λ (n : ℕ). Runnable file tab rows consts n fr.cells fr.before old new) (sym e) p
 
-pub framed_run : (file consts fr old cells' : List ℕ) {k : ℕ} {new : List ℕ} {r : Ended} → node_of fr ≡ k → RunTo file consts (node_of fr) (first_of fr) (cells_of fr) (before_of fr) old r cells' new → RunTo file consts k (first_of fr) (cells_of fr) (before_of fr) old r cells' new
+pub framed_run : (file consts : List ℕ) (fr : Frame) (old cells' : List ℕ) {k : ℕ} {new : List ℕ} {r : Ended} → fr.node ≡ k → RunTo file consts fr.node fr.first fr.cells fr.before old r cells' new → RunTo file consts k fr.first fr.cells fr.before old r cells' new
 framed_run file consts fr old cells' {k} {new} {r} e p =
-    subst (λ (n : ℕ). RunTo file consts n (first_of fr) (cells_of fr) (before_of fr) old r cells' new) e p
+    subst (λ (n : ℕ). RunTo file consts n fr.first fr.cells fr.before old r cells' new) e p

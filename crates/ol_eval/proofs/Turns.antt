@@ -15,7 +15,8 @@ use Rattle.ol_spec.specs.declared.Value.{Value}
 use Rattle.ol_tables.specs.At.{node_in}
 use Rattle.ol_frame.specs.Walk.{sizes_in}
 use Rattle.ol_frame.specs.Plans.{globals_in, width_in}
-use Rattle.ol_frame.specs.Frame.{node_of, first_of, before_of, Keeps}
+use Rattle.ol_frame.specs.Frame.{Keeps}
+use Rattle.ol_frame.specs.declared.frame.Frame.{Frame}
 use Rattle.ol_frame.specs.Outcomes.{ending_of}
 use Rattle.ol_frame.specs.declared.outcomes.Ending.{Ending}
 use Rattle.ol_frame.specs.declared.outcomes.Ending.TheVariants as End
@@ -161,13 +162,13 @@ run_done file consts k first cells₀ before old cells new j l h =
 
 -- ---- on a frame whose cells were written
 
-pub keeps_ready : {file tab rows consts fr fr' : List ℕ} {i at : ℕ} {cells old new : List ℕ} → Keeps fr fr' → EquationReady file tab rows consts (node_of fr) i at cells (before_of fr) old new → EquationReady file tab rows consts (node_of fr') i at cells (before_of fr') old new
+pub keeps_ready : {file tab rows consts : List ℕ} {fr fr' : Frame} {i at : ℕ} {cells old new : List ℕ} → Keeps fr fr' → EquationReady file tab rows consts fr.node i at cells fr.before old new → EquationReady file tab rows consts fr'.node i at cells fr'.before old new
 keeps_ready {file} {tab} {rows} {consts} {fr} {fr'} {i} {at} {cells} {old} {new} h p =
-    subst (λ (n : ℕ). EquationReady file tab rows consts n i at cells (before_of fr') old new) (sym h.node)
-    (subst (λ (b : List ℕ). EquationReady file tab rows consts (node_of fr) i at cells b old new) (sym h.before) p)
+    subst (λ (n : ℕ). EquationReady file tab rows consts n i at cells fr'.before old new) (sym h.node)
+    (subst (λ (b : List ℕ). EquationReady file tab rows consts fr.node i at cells b old new) (sym h.before) p)
 
-pub keeps_done : (file consts : List ℕ) (i : ℕ) (cells old cells' : List ℕ) {fr fr' new : List ℕ} {e : Ending} → Keeps fr fr' → EquationTo file consts (node_of fr') i (first_of fr') cells (before_of fr') old e cells' new → EquationTo file consts (node_of fr) i (first_of fr) cells (before_of fr) old e cells' new
+pub keeps_done : (file consts : List ℕ) (i : ℕ) (cells old cells' : List ℕ) {fr fr' : Frame} {new : List ℕ} {e : Ending} → Keeps fr fr' → EquationTo file consts fr'.node i fr'.first cells fr'.before old e cells' new → EquationTo file consts fr.node i fr.first cells fr.before old e cells' new
 keeps_done file consts i cells old cells' {fr} {fr'} {new} {e} h p =
-    subst (λ (n : ℕ). EquationTo file consts n i (first_of fr) cells (before_of fr) old e cells' new) h.node
-    (subst (λ (f : Bool). EquationTo file consts (node_of fr') i f cells (before_of fr) old e cells' new) h.first
-    (subst (λ (b : List ℕ). EquationTo file consts (node_of fr') i (first_of fr') cells b old e cells' new) h.before p))
+    subst (λ (n : ℕ). EquationTo file consts n i fr.first cells fr.before old e cells' new) h.node
+    (subst (λ (f : Bool). EquationTo file consts fr'.node i f cells fr.before old e cells' new) h.first
+    (subst (λ (b : List ℕ). EquationTo file consts fr'.node i fr'.first cells b old e cells' new) h.before p))

@@ -15,7 +15,7 @@ use Rattle.ol_tables.specs.Table.{tab_of, rows_of, consts_of}
 use Rattle.ol_frame.specs.Walk.{nodes_in, sizes_in}
 use Rattle.ol_frame.specs.Plans.{Cells, globals_in, width_in, scope_in, segs_at, seg_at}
 use Rattle.ol_frame.specs.Equations.{count_in, place_in, equation_in}
-use Rattle.ol_frame.specs.Frame.{Framed, node_of, cells_of, before_of}
+use Rattle.ol_frame.specs.declared.frame.Frame.{Frame}
 use Rattle.ol_frame.specs.Nodes.{Running}
 use Rattle.ol_frame.specs.Outcomes.{ending_of}
 use Rattle.ol_frame.specs.declared.outcomes.Ending.{Ending}
@@ -127,8 +127,8 @@ pub record Runnable (file tab rows consts : List ℕ) (k : ℕ) (cells before ol
   pub same : new ≡ old
 
 -- the node of the frame fr can, on its cells
-abbrev pub CanRun : List ℕ → List ℕ → List ℕ → List ℕ → List ℕ → Type 0
-CanRun file tab fr old new = Framed fr × Runnable file (tab_of tab) (rows_of tab) (consts_of tab) (node_of fr) (cells_of fr) (before_of fr) old new
+abbrev pub CanRun : List ℕ → List ℕ → Frame → List ℕ → List ℕ → Type 0
+CanRun file tab fr old new = Runnable file (tab_of tab) (rows_of tab) (consts_of tab) fr.node fr.cells fr.before old new
 
 abbrev pub run_in : List ℕ → List ℕ → ℕ → Bool → List ℕ → List ℕ → List ℕ → Run
 run_in file consts k first cells before old =
@@ -163,8 +163,8 @@ pub record EquationReady (file tab rows consts : List ℕ) (k i at : ℕ) (cells
   pub same : new ≡ old
 
 -- it is one of the frame's node, on the frame's cells
-abbrev pub CanEquate : List ℕ → List ℕ → ℕ → ℕ → List ℕ → List ℕ → List ℕ → Type 0
-CanEquate file tab i at fr old new = Framed fr × EquationReady file (tab_of tab) (rows_of tab) (consts_of tab) (node_of fr) i at (cells_of fr) (before_of fr) old new
+abbrev pub CanEquate : List ℕ → List ℕ → ℕ → ℕ → Frame → List ℕ → List ℕ → Type 0
+CanEquate file tab i at fr old new = EquationReady file (tab_of tab) (rows_of tab) (consts_of tab) fr.node i at fr.cells fr.before old new
 
 -- the right side of the equation that stands at `at` has this code
 abbrev pub RhsCode : List ℕ → ℕ → ℕ → Type 0

@@ -5,7 +5,7 @@ use Rattle.ol_value.specs.Codes.{binary_by}
 use Rattle.ol_tables.specs.At.{expr_at, end_at, exprs_at, ends_at}
 use Rattle.ol_tables.specs.Table.{tab_of, rows_of, consts_of}
 use Rattle.ol_tables.specs.Tables.{Each}
-use Rattle.ol_frame.specs.Frame.{Framed, node_of, first_of, cells_of, before_of}
+use Rattle.ol_frame.specs.declared.frame.Frame.{Frame}
 use Rattle.ol_frame.specs.Plans.{Plan, Cells, segs_at, seg_at, eval_in, globals_in, scope_in}
 use Rattle.ol_frame.specs.Nodes.{Enters}
 use Rattle.ol_frame.specs.Outcomes.{overflow_of}
@@ -22,12 +22,12 @@ pub record Ready (file tab rows consts : List ℕ) (level n at node : ℕ) (cell
   pub calls : Each (Enters file tab rows consts node) (callees_all (exprs_at file level n at))
 
 -- they can be on the frame fr, by the tables tab
-abbrev pub CanEval : List ℕ → List ℕ → ℕ → ℕ → ℕ → List ℕ → List ℕ → List ℕ → Type 0
-CanEval file tab level n at fr old new = Framed fr × Ready file (tab_of tab) (rows_of tab) (consts_of tab) level n at (node_of fr) (cells_of fr) (before_of fr) old new
+abbrev pub CanEval : List ℕ → List ℕ → ℕ → ℕ → ℕ → Frame → List ℕ → List ℕ → Type 0
+CanEval file tab level n at fr old new = Ready file (tab_of tab) (rows_of tab) (consts_of tab) level n at fr.node fr.cells fr.before old new
 
 -- what is said of a node, of whether it is its first cycle, of its cells and of the cells before, said of those of the frame fr
-abbrev pub on : {X : Type 1} → (ℕ → Bool → List ℕ → List ℕ → X) → List ℕ → X
-on P fr = P (node_of fr) (first_of fr) (cells_of fr) (before_of fr)
+abbrev pub on : {X : Type 1} → (ℕ → Bool → List ℕ → List ℕ → X) → Frame → X
+on P fr = P fr.node fr.first fr.cells fr.before
 
 -- what an evaluation gives: its outcome, where the expression ends, the bytes of its records, and the new state
 pub record Meets (want : Eval) (next used : ℕ) (old : List ℕ) (r : Step) (new : List ℕ) : Type 0 where

@@ -8,7 +8,7 @@
 ghost use Rattle.std.specs.Prelude.{◌≡◌, true, false, ◌+◌, ◌-◌, ◌<◌, length, get_or};
 ghost use Rattle.ol_tables.specs.Heads.{parts_at, next_at};
 ghost use Rattle.ol_tables.specs.Table.{consts_of};
-ghost use Rattle.ol_frame.specs.Frame.{Framed, Keeps, cells_of};
+ghost use Rattle.ol_frame.specs.Frame.{Keeps};
 ghost use Rattle.ol_eval.specs.Post.{CanEval, on, EvalsTo, TwoTo, ChooseTo, IfTo, UntakenTo};
 ghost use Rattle.ol_eval.specs.Calls.{Several, AllTo, EntersTo, CanStep, SiteTo, CanRun, RunTo, CanEquate, RhsCode, EquationTo};
 ghost use Rattle.ol_spec.specs.Syntax.{Function, Operator};
@@ -16,10 +16,7 @@ ghost use Rattle.ol_tables.specs.At.{node_in};
 
 use ol_frame::copies::{copy, passed, single_out};
 use ol_frame::equations::{place_at, plan_of, records_at};
-use ol_frame::frame::{
-    ARGUMENTS, FRAME, bind, bind_out, copy_outputs, finish_frame, fresh_frame, is_first, node_of,
-    open_frame,
-};
+use ol_frame::frame::{ARGUMENTS, Frame};
 use ol_frame::names::{chosen, leaf_out, present};
 use ol_frame::outcomes::{
     Ending, Test, binary_out, cast_out, done, drop_failure, named_out, overflowed, runs, same_out,
@@ -70,7 +67,7 @@ pub fn eval(
     tab: &[u8],
     at: usize,
     level: usize,
-    frame: &[u8; FRAME],
+    frame: &Frame,
     old: &[u8],
     new: &mut [u8],
 ) -> Step
@@ -95,7 +92,7 @@ fn eval_form(
     tab: &[u8],
     at: usize,
     level: usize,
-    frame: &[u8; FRAME],
+    frame: &Frame,
     old: &[u8],
     new: &mut [u8],
 ) -> Step
@@ -115,7 +112,7 @@ fn eval_form(
         BINARY => eval_two(file, tab, at, level - 1, frame, old, new),
         IF => eval_if(file, tab, p, level - 1, frame, old, new),
         ARROW => {
-            if is_first(frame) {
+            if frame.first {
                 eval_first(file, tab, p, level - 1, frame, old, new)
             } else {
                 eval_second(file, tab, p, level - 1, frame, old, new)
@@ -149,7 +146,7 @@ fn eval_two(
     tab: &[u8],
     at: usize,
     level: usize,
-    frame: &[u8; FRAME],
+    frame: &Frame,
     old: &[u8],
     new: &mut [u8],
 ) -> Step
@@ -183,7 +180,7 @@ fn eval_if(
     tab: &[u8],
     at: usize,
     level: usize,
-    frame: &[u8; FRAME],
+    frame: &Frame,
     old: &[u8],
     new: &mut [u8],
 ) -> Step
@@ -227,7 +224,7 @@ fn eval_first(
     tab: &[u8],
     at: usize,
     level: usize,
-    frame: &[u8; FRAME],
+    frame: &Frame,
     old: &[u8],
     new: &mut [u8],
 ) -> Step
@@ -261,7 +258,7 @@ fn eval_second(
     tab: &[u8],
     at: usize,
     level: usize,
-    frame: &[u8; FRAME],
+    frame: &Frame,
     old: &[u8],
     new: &mut [u8],
 ) -> Step
@@ -295,7 +292,7 @@ fn step_untaken(
     tab: &[u8],
     at: usize,
     level: usize,
-    frame: &[u8; FRAME],
+    frame: &Frame,
     old: &[u8],
     new: &mut [u8],
 ) -> bool
@@ -322,7 +319,7 @@ fn eval_call(
     tab: &[u8],
     at: usize,
     level: usize,
-    frame: &[u8; FRAME],
+    frame: &Frame,
     old: &[u8],
     new: &mut [u8],
 ) -> Step
@@ -347,7 +344,7 @@ fn enter(
     tab: &[u8],
     at: usize,
     level: usize,
-    frame: &[u8; FRAME],
+    frame: &Frame,
     args: &mut [u8; ARGUMENTS],
     old: &[u8],
     new: &mut [u8],
@@ -371,8 +368,7 @@ fn enter(
     let Ending::Values = a.end else {
         return Ran { used, ..a };
     };
-    let turns = file.len() / 65536;
-    let end = step_site(turns, file, tab, k, args, &old[..size], &mut new[..size]);
+    let end = step_site(file, tab, k, args, &old[..size], &mut new[..size]);
     Ran { end, used, ..a }
 }
 
@@ -383,7 +379,7 @@ fn eval_all(
     tab: &[u8],
     at: usize,
     level: usize,
-    frame: &[u8; FRAME],
+    frame: &Frame,
     to: &mut [u8; ARGUMENTS],
     old: &[u8],
     new: &mut [u8],
@@ -428,11 +424,11 @@ fn eval_all(
     }
 }
 
-// A call of node k on its record: its arguments are in `args`, and its outputs are left there. A function that calls itself is not put into its
-// caller's frame: while arguments are evaluated, the callee's frame takes no stack. `turns` is 0 for every file that reads.
+// A call of node k on its record: its arguments are in `args`, and its outputs are left there. It stays out of its caller: while arguments are evaluated,
+// the callee's frame takes no stack.
 #[cycle(evaluation)]
+#[inline(never)]
 fn step_site(
-    turns: usize,
     file: &[u8],
     tab: &[u8],
     k: usize,
@@ -440,18 +436,14 @@ fn step_site(
     old: &[u8],
     new: &mut [u8],
 ) -> Ending
-    requires { CanStep file.now tab.now k args.old old.now new.old × (turns ≡ 0) }
+    requires { CanStep file.now tab.now k args.old old.now new.old }
     ensures { SiteTo file.now (consts_of tab.now) k args.old old.now result args.new new.new × (length args.new ≡ length args.old) }
 {
-    if 0 < turns {
-        step_site(turns - 1, file, tab, k, args, old, new)
+    let mut frame = Frame::new();
+    if row(tab, k, KIND) == OPERATOR {
+        step_instance(file, tab, k, args, &mut frame, old, new)
     } else {
-        let mut frame = [0u8; FRAME];
-        if row(tab, k, KIND) == OPERATOR {
-            step_instance(file, tab, k, args, &mut frame, old, new)
-        } else {
-            call_function(file, tab, k, args, &mut frame, old, new)
-        }
+        call_function(file, tab, k, args, &mut frame, old, new)
     }
 }
 
@@ -462,22 +454,22 @@ fn step_instance(
     tab: &[u8],
     k: usize,
     args: &mut [u8; ARGUMENTS],
-    frame: &mut [u8; FRAME],
+    frame: &mut Frame,
     old: &[u8],
     new: &mut [u8],
 ) -> Ending
-    requires { CanStep file.now tab.now k args.old old.now new.old × (length frame.old ≡ 2018) × ((node_in file.now k).kind ≡ Operator) }
+    requires { CanStep file.now tab.now k args.old old.now new.old × ((node_in file.now k).kind ≡ Operator) }
     ensures { SiteTo file.now (consts_of tab.now) k args.old old.now result args.new new.new × (length args.new ≡ length args.old) }
 {
     let n = row(tab, k, VARIABLES);
     let own = 1 + 9 * n;
     let inputs = row(tab, k, INPUTS);
-    open_frame(k, n, inputs, args, old, frame);
+    frame.open(k, n, inputs, args, old);
     let r = run(file, tab, frame, &old[own..], &mut new[own..]);
     match r.end {
         Ending::Values => {
-            finish_frame(n, frame, new);
-            copy_outputs(frame, inputs, row(tab, k, OUTPUTS), args);
+            frame.finish(n, new);
+            frame.copy_outputs(inputs, row(tab, k, OUTPUTS), args);
             Ending::Values
         }
         Ending::Failed(c) => {
@@ -498,17 +490,17 @@ fn call_function(
     tab: &[u8],
     k: usize,
     args: &mut [u8; ARGUMENTS],
-    frame: &mut [u8; FRAME],
+    frame: &mut Frame,
     old: &[u8],
     new: &mut [u8],
 ) -> Ending
-    requires { CanStep file.now tab.now k args.old old.now new.old × (length frame.old ≡ 2018) × ((node_in file.now k).kind ≡ Function) }
+    requires { CanStep file.now tab.now k args.old old.now new.old × ((node_in file.now k).kind ≡ Function) }
     ensures { SiteTo file.now (consts_of tab.now) k args.old old.now result args.new new.new × (length args.new ≡ length args.old) }
 {
     let inputs = row(tab, k, INPUTS);
-    fresh_frame(tab, k, inputs, args, frame);
+    frame.fresh(tab, k, inputs, args);
     let r = run(file, tab, frame, old, new);
-    copy_outputs(frame, inputs, row(tab, k, OUTPUTS), args);
+    frame.copy_outputs(inputs, row(tab, k, OUTPUTS), args);
     r.end
 }
 
@@ -523,11 +515,11 @@ pub struct Ended {
 
 // All equations of the frame's node in evaluation order.
 #[cycle(evaluation)]
-pub fn run(file: &[u8], tab: &[u8], frame: &mut [u8; FRAME], old: &[u8], new: &mut [u8]) -> Ended
+pub fn run(file: &[u8], tab: &[u8], frame: &mut Frame, old: &[u8], new: &mut [u8]) -> Ended
     requires { CanRun file.now tab.now frame.old old.now new.old }
-    ensures { on (RunTo file.now (consts_of tab.now)) frame.old old.now result (cells_of frame.new) new.new × Framed frame.new }
+    ensures { on (RunTo file.now (consts_of tab.now)) frame.old old.now result frame.new.cells new.new }
 {
-    let k = node_of(frame);
+    let k = frame.node;
     let n = row(tab, k, COUNT);
     let plan = plan_of(tab, k);
     let total = old.len();
@@ -554,12 +546,12 @@ fn equation(
     tab: &[u8],
     at: usize,
     i: usize,
-    frame: &mut [u8; FRAME],
+    frame: &mut Frame,
     old: &[u8],
     new: &mut [u8],
 ) -> Ending
     requires { CanEquate file.now tab.now i at frame.old old.now new.old }
-    ensures { on (λ k. EquationTo file.now (consts_of tab.now) k i) frame.old old.now result (cells_of frame.new) new.new × Keeps frame.old frame.new }
+    ensures { on (λ k. EquationTo file.now (consts_of tab.now) k i) frame.old old.now result frame.new.cells new.new × Keeps frame.old frame.new }
 {
     let n = usize::from(file[at]);
     let rhs = at + 1 + 2 * n;
@@ -568,7 +560,7 @@ fn equation(
         TUPLE => tuple_equation(file, tab, at, i, frame, old, new),
         _ => {
             let r = eval(file, tab, rhs, 24, frame, old, new);
-            bind_out(tab, at + 1, r.out, frame)
+            frame.bind_out(tab, at + 1, r.out)
         }
     }
 }
@@ -580,12 +572,12 @@ fn call_equation(
     tab: &[u8],
     at: usize,
     i: usize,
-    frame: &mut [u8; FRAME],
+    frame: &mut Frame,
     old: &[u8],
     new: &mut [u8],
 ) -> Ending
     requires { CanEquate file.now tab.now i at frame.old old.now new.old × RhsCode file.now at 11 }
-    ensures { on (λ k. EquationTo file.now (consts_of tab.now) k i) frame.old old.now result (cells_of frame.new) new.new × Keeps frame.old frame.new }
+    ensures { on (λ k. EquationTo file.now (consts_of tab.now) k i) frame.old old.now result frame.new.cells new.new × Keeps frame.old frame.new }
 {
     let n = usize::from(file[at]);
     let rhs = at + 1 + 2 * n;
@@ -596,7 +588,7 @@ fn call_equation(
     };
     let c = usize::from(file[rhs + 1]);
     let m = n.min(row(tab, c, OUTPUTS));
-    bind(tab, at + 1, m, &args, frame);
+    frame.bind(tab, at + 1, m, &args);
     Ending::Values
 }
 
@@ -607,12 +599,12 @@ fn tuple_equation(
     tab: &[u8],
     at: usize,
     i: usize,
-    frame: &mut [u8; FRAME],
+    frame: &mut Frame,
     old: &[u8],
     new: &mut [u8],
 ) -> Ending
     requires { CanEquate file.now tab.now i at frame.old old.now new.old × RhsCode file.now at 12 }
-    ensures { on (λ k. EquationTo file.now (consts_of tab.now) k i) frame.old old.now result (cells_of frame.new) new.new × Keeps frame.old frame.new }
+    ensures { on (λ k. EquationTo file.now (consts_of tab.now) k i) frame.old old.now result frame.new.cells new.new × Keeps frame.old frame.new }
 {
     let n = usize::from(file[at]);
     let rhs = at + 1 + 2 * n;
@@ -622,6 +614,6 @@ fn tuple_equation(
         return r.end;
     };
     let m = n.min(usize::from(file[rhs + 1]));
-    bind(tab, at + 1, m, &items, frame);
+    frame.bind(tab, at + 1, m, &items);
     Ending::Values
 }

@@ -1,13 +1,9 @@
 -- Endings, told apart.
 use Prim.Native.Nat.{ℕ}
 use mathlib.Core.Bool.{true, false}
-use mathlib.Core.List.{[], ◌∷◌}
-use mathlib.Core.Logic.{inl, inr}
 use mathlib.Core.Option.{Option, none, some}
 use mathlib.Core.Path.{◌≡◌, refl, sym}
 use native.Mathlib.Omega.{arith}
-use types.Run.{OneOf}
-use denote.Enum.Declared.{tag_of}
 use Rattle.ol_spec.specs.Answers.{outcome_number}
 use Rattle.ol_spec.specs.Eval.{or_failure, then_out, several}
 use Rattle.ol_spec.specs.declared.Outcome.{Outcome}
@@ -18,7 +14,6 @@ use Rattle.ol_spec.specs.declared.Value.{Value}
 use Rattle.ol_frame.specs.Outcomes.{ThenBy, ending_of, ending_number, binary_out, overflow_of, drop_out}
 use Rattle.ol_frame.specs.declared.outcomes.Ending.{Ending}
 use Rattle.ol_frame.specs.declared.outcomes.Ending.TheVariants as End
-use Rattle.ol_frame.specs.contracts.outcomes.Ending.{the_type}
 
 pub failed_values : {A : Type 0} {e : Ending} {c : Cause} → e ≡ End.Failed c → e ≡ End.Values → A
 failed_values f v = let z : ◌≡◌ {A = ℕ} 0 1 = cc in absurd (omega arith)
@@ -32,16 +27,6 @@ over_failed o f = let z : ◌≡◌ {A = ℕ} 0 1 = cc in absurd (omega arith)
 -- an ending fails by one cause
 pub one_cause : {e : Ending} {c d : Cause} → e ≡ End.Failed c → e ≡ End.Failed d → c ≡ d
 one_cause f h = cc
-
--- what a test for `Values` tells where it does not pass
-pub unvalued : (e : Ending) → OneOf (1 ∷ 2 ∷ []) (tag_of the_type e) → ¬ (e ≡ End.Values)
-unvalued End.Values k = λ _. no k
-  where
-    no : OneOf (1 ∷ 2 ∷ []) 0 → ⊥
-    no (inl p) = omega (arith, p)
-    no (inr p) = omega (arith, p)
-unvalued (End.Failed c) k = λ v. failed_values refl v
-unvalued End.Overflowed k = λ v. over_values refl v
 
 -- an outcome has the number of how it ends
 pub ending_number_lem : (o : Outcome) → ending_number (ending_of (several o)) ≡ outcome_number o

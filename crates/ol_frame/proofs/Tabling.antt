@@ -1,4 +1,4 @@
--- The parts of a file's table and of a frame: their bytes and cells, where they stand in the whole.
+-- The parts of a file's table: their bytes and cells, where they stand in the whole.
 use Prim.Native.Nat.{ℕ, ◌+◌, ◌-◌, ◌*◌, ◌≤◌}
 use mathlib.Core.List.{List}
 use mathlib.Core.Path.{◌≡◌, sym, ap, ◌∙◌}
@@ -7,7 +7,6 @@ use lib.ListN.{length, take, drop, get_or, length-drop, length-take}
 use lib.Seq.{get_or-drop, take-take, drop-drop}
 use Rattle.ol_tables.proofs.Lending.{drop_take}
 use Rattle.ol_tables.specs.Table.{tab_of, consts_of}
-use Rattle.ol_frame.specs.Frame.{cells_of, before_of}
 
 -- nine bytes of a part
 pub part_cell : (n k i : ℕ) (t : List ℕ) → i + 9 ≤ n → take 9 (drop (k + i) t) ≡ take 9 (drop i (take n (drop k t)))
@@ -28,16 +27,3 @@ const_cell t i h = part_cell (9 * get_or t 816 0) 817 i t (omega (arith, length-
 
 pub const_room : (t : List ℕ) (i : ℕ) → i + 9 ≤ length (consts_of t) → 817 + i + 9 ≤ length t
 const_room t i h = omega (arith, length-take (9 * get_or t 816 0) (drop 817 t), length-drop 817 t)
-
--- a cell of a frame, and one of the cells before
-pub frame_cell : (fr : List ℕ) (i : ℕ) → i + 9 ≤ length (cells_of fr) → take 9 (drop (2 + i) fr) ≡ take 9 (drop i (cells_of fr))
-frame_cell fr i h = part_cell 1008 2 i fr (omega (arith, length-take 1008 (drop 2 fr)))
-
-pub frame_room : (fr : List ℕ) (i : ℕ) → i + 9 ≤ length (cells_of fr) → 2 + i + 9 ≤ length fr
-frame_room fr i h = omega (arith, length-take 1008 (drop 2 fr), length-drop 2 fr)
-
-pub before_cell : (fr : List ℕ) (i : ℕ) → take 9 (drop (1010 + i) fr) ≡ take 9 (drop i (before_of fr))
-before_cell fr i = ap (take 9) (sym (drop-drop i 1010 fr))
-
-pub before_room : (fr : List ℕ) (i : ℕ) → i + 9 ≤ length (before_of fr) → 1010 + i + 9 ≤ length fr
-before_room fr i h = omega (arith, length-drop 1010 fr)

@@ -12,7 +12,7 @@ use Rattle.ol_tables.specs.At.{file_at, node_in, expr_at, exprs_at, Reads, Reads
 use Rattle.ol_tables.specs.Tables.{Each, Tab, HasSlot, slot_of, Sound, slots_from}
 use Rattle.ol_tables.specs.Parts.{Proper}
 use Rattle.ol_tables.specs.Table.{consts_of}
-use Rattle.ol_frame.specs.Frame.{node_of, cells_of}
+use Rattle.ol_frame.specs.declared.frame.Frame.{Frame}
 use Rattle.ol_frame.specs.Walk.{nodes_in, sizes_in, Sized}
 
 -- how many constants have their cells there, and their names
@@ -102,6 +102,6 @@ eval_in file consts node first cells before e seg =
     eval (globals_in file consts) (scope_in file node first cells before) (calls (globals_in file consts)) e seg
 
 -- how the expression at a place of the file counts as real, by the table and on a frame
-abbrev pub kind_at : List ℕ → List ℕ → List ℕ → ℕ → ℕ → RealKind
+abbrev pub kind_at : List ℕ → List ℕ → Frame → ℕ → ℕ → RealKind
 kind_at file tab frame level at =
-    real_kind (globals_in file (consts_of tab)) (scope_in file (node_of frame) false (cells_of frame) (cells_of frame)) (expr_at file level at)
+    real_kind (globals_in file (consts_of tab)) (scope_in file frame.node false frame.cells frame.cells) (expr_at file level at)

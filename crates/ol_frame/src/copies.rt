@@ -44,15 +44,6 @@ pub fn write_cells(n: usize, from: &[u8], to: &mut [u8])
     }
 }
 
-// A finished step's record: started, with the present cells.
-pub fn finish(n: usize, present: &[u8], to: &mut [u8])
-    requires { (n ≤ 112) × (9 * n ≤ length present.now) × (1 + 9 * n ≤ length to.old) }
-    ensures { to.new ≡ 1 ∷ cells (values_of n present.now) ++ drop (1 + 9 * n) to.old }
-{
-    write_cells(n, present, &mut to[1..]);
-    to[0] = 1;
-}
-
 // A value as it is passed on: fitted to variable i of node k, or as it is.
 pub fn passed(tab: &[u8], fits: bool, k: usize, i: usize, v: Value) -> Value
     requires { (slots_from ≤ length (tab_of tab.now)) × (k < 32) × (i < 112) }

@@ -1,6 +1,5 @@
-// A frame: what the equations of an instance are run on. Whether it is its first cycle, its node's number, its cells, and the cells before.
-ghost use Rattle.std.specs.Prelude.{◌≡◌, ◌∷◌, ◌++◌, ◌+◌, ◌*◌, ◌<◌, ◌≤◌, length, drop};
-ghost use Rattle.ol_frame.specs.Frame.{Framed, node_of, first_of, cells_of, headed, Keeps, Opened, Freshened};
+// A frame: what the equations of an instance are run on.
+ghost use Rattle.std.specs.Prelude.{◌≡◌, ◌∷◌, ◌++◌, false, ◌+◌, ◌*◌, ◌≤◌, length, drop};
 ghost use Rattle.ol_frame.specs.Outcomes.{ending_of};
 ghost use Rattle.ol_frame.specs.Stores.{Storable, StoresOut, Assignable, Assigns};
 ghost use Rattle.ol_spec.specs.Cell.{cells, values_of};
@@ -8,99 +7,93 @@ ghost use Rattle.ol_spec.specs.Eval.{several};
 ghost use Rattle.ol_tables.specs.Table.{tab_of, rows_of};
 ghost use Rattle.ol_tables.specs.Tables.{row_at};
 
-use crate::copies::{assign, copy_cells, finish, store_out};
+use crate::copies::{assign, copy_cells, store_out, write_cells};
 use crate::outcomes::Ending;
 use ol_spec::Outcome;
 use ol_state::defaults::write_defaults;
-
-// Its length, and where the cells and the cells before start.
-pub const FRAME: usize = 2018;
-
-pub const CELLS: usize = 2;
-
-pub const BEFORE: usize = 1010;
+use ol_tables::tables::MOST_CELLS;
 
 // The bytes of a call's arguments, or of its outputs: at most 32 cells.
 pub const ARGUMENTS: usize = 288;
 
-// Whether it is the instance's first cycle.
-pub fn is_first(frame: &[u8; FRAME]) -> bool
-    requires { Framed frame.now }
-    ensures { result ≡ first_of frame.now }
-{
-    frame[0] == 1
+// Whether it is the instance's first cycle, its node's number, its cells, and the cells before.
+#[derive(Drop)]
+pub struct Frame {
+    pub first: bool,
+    pub node: usize,
+    pub cells: [u8; MOST_CELLS],
+    pub before: [u8; MOST_CELLS],
+    pub ghost cells_sized: { length cells ≡ 1008 },
+    pub ghost before_sized: { length before ≡ 1008 },
 }
 
-// Its node's number.
-pub fn node_of(frame: &[u8; FRAME]) -> usize
-    requires { Framed frame.now }
-    ensures { (result ≡ node_of frame.now) × (result < 256) }
-{
-    usize::from(frame[1])
-}
+impl Frame {
+    ghost use Rattle.ol_frame.specs.Frame.{Keeps, Opened, Freshened};
 
-// Writes whether it is the first cycle, and the node's number.
-pub fn set_frame(frame: &mut [u8], k: usize, first: bool)
-    requires { Framed frame.old × (k < 256) }
-    ensures { frame.new ≡ headed frame.old k first }
-{
-    frame[0] = u8::from(first);
-    frame[1] = k as u8;
-}
+    // All zero.
+    pub fn new() -> Frame {
+        Frame {
+            first: false,
+            node: 0,
+            cells: [0; MOST_CELLS],
+            before: [0; MOST_CELLS],
+        }
+    }
 
-// A frame of node k for a step on its record `old`: its inputs are `args`, the other cells and the cells before are the record's.
-pub fn open_frame(k: usize, n: usize, inputs: usize, args: &[u8], old: &[u8], frame: &mut [u8])
-    requires { Framed frame.old × (k < 256) × (inputs ≤ n) × (n ≤ 112) × (9 * inputs ≤ length args.now) × (1 + 9 * n ≤ length old.now) }
-    ensures { Opened k n inputs args.now old.now frame.new }
-{
-    set_frame(frame, k, old[0] == 0);
-    copy_cells(0, n, &old[1..], &mut frame[BEFORE..FRAME]);
-    copy_cells(inputs, n, &old[1..], &mut frame[CELLS..BEFORE]);
-    copy_cells(0, inputs, args, &mut frame[CELLS..BEFORE]);
-}
+    // A frame of node k for a step on its record `old`: its inputs are `args`, the other cells and the cells before are the record's.
+    pub fn open(&mut self, k: usize, n: usize, inputs: usize, args: &[u8], old: &[u8])
+        requires { (inputs ≤ n) × (n ≤ 112) × (9 * inputs ≤ length args.now) × (1 + 9 * n ≤ length old.now) }
+        ensures { Opened k n inputs args.now old.now self.new }
+    {
+        self.first = old[0] == 0;
+        self.node = k;
+        copy_cells(0, n, &old[1..], &mut self.before);
+        copy_cells(inputs, n, &old[1..], &mut self.cells);
+        copy_cells(0, inputs, args, &mut self.cells);
+    }
 
-// A frame of node k for a call of a Function: its inputs are `args`, the other cells and the cells before are defaults.
-pub fn fresh_frame(tab: &[u8], k: usize, inputs: usize, args: &[u8], frame: &mut [u8])
-    requires { Framed frame.old × (k < 256) × (inputs ≤ row_at (rows_of tab.now) k 4) × (row_at (rows_of tab.now) k 4 ≤ 112) × (9 * inputs ≤ length args.now) }
-    ensures { Freshened (tab_of tab.now) (rows_of tab.now) k inputs args.now frame.new }
-{
-    set_frame(frame, k, true);
-    write_defaults(tab, k, &mut frame[BEFORE..FRAME]);
-    write_defaults(tab, k, &mut frame[CELLS..BEFORE]);
-    copy_cells(0, inputs, args, &mut frame[CELLS..BEFORE]);
-}
+    // A frame of node k for a call of a Function: its inputs are `args`, the other cells and the cells before are defaults.
+    pub fn fresh(&mut self, tab: &[u8], k: usize, inputs: usize, args: &[u8])
+        requires { (k ≤ 65535) × (inputs ≤ row_at (rows_of tab.now) k 4) × (row_at (rows_of tab.now) k 4 ≤ 112) × (9 * inputs ≤ length args.now) }
+        ensures { Freshened (tab_of tab.now) (rows_of tab.now) k inputs args.now self.new }
+    {
+        self.first = true;
+        self.node = k;
+        write_defaults(tab, k, &mut self.before);
+        write_defaults(tab, k, &mut self.cells);
+        copy_cells(0, inputs, args, &mut self.cells);
+    }
 
-// The cells of a frame's outputs are copied to `args`.
-pub fn copy_outputs(frame: &[u8], inputs: usize, outputs: usize, args: &mut [u8])
-    requires { Framed frame.now × (inputs ≤ 32) × (outputs ≤ 16) × (9 * outputs ≤ length args.old) }
-    ensures { values_of outputs args.new ≡ values_of outputs (drop (9 * inputs) (cells_of frame.now)) }
-{
-    let from = CELLS + 9 * inputs;
-    copy_cells(0, outputs, &frame[from..BEFORE], args);
-}
+    // The cells of the outputs, which stand behind the inputs, are copied to `args`.
+    pub fn copy_outputs(&self, inputs: usize, outputs: usize, args: &mut [u8])
+        requires { (inputs ≤ 32) × (outputs ≤ 16) × (9 * outputs ≤ length args.old) }
+        ensures { values_of outputs args.new ≡ values_of outputs (drop (9 * inputs) self.now.cells) }
+    {
+        copy_cells(0, outputs, &self.cells[9 * inputs..], args);
+    }
 
-// A finished step's record, from its frame.
-pub fn finish_frame(n: usize, frame: &[u8], to: &mut [u8])
-    requires { Framed frame.now × (n ≤ 112) × (1 + 9 * n ≤ length to.old) }
-    ensures { to.new ≡ 1 ∷ cells (values_of n (cells_of frame.now)) ++ drop (1 + 9 * n) to.old }
-{
-    finish(n, &frame[CELLS..BEFORE], to);
-}
+    // A finished step's record: started, with the present cells.
+    pub fn finish(&self, n: usize, to: &mut [u8])
+        requires { (n ≤ 112) × (1 + 9 * n ≤ length to.old) }
+        ensures { to.new ≡ 1 ∷ cells (values_of n self.now.cells) ++ drop (1 + 9 * n) to.old }
+    {
+        write_cells(n, &self.cells, &mut to[1..]);
+        to[0] = 1;
+    }
 
-// Binds an outcome's value, if it has one, to the frame's cell of the name that stands at `at`; answers how the equation ended.
-pub fn bind_out(tab: &[u8], at: usize, o: Outcome, frame: &mut [u8]) -> Ending
-    requires { Framed frame.old × Storable (tab_of tab.now) (node_of frame.old) at (cells_of frame.old) }
-    ensures { (result ≡ ending_of (several o)) × StoresOut (tab_of tab.now) (node_of frame.old) at o (cells_of frame.old) (cells_of frame.new) × Keeps frame.old frame.new }
-{
-    let k = usize::from(frame[1]);
-    store_out(tab, k, at, o, &mut frame[CELLS..BEFORE])
-}
+    // Binds an outcome's value, if it has one, to the cell of the name that stands at `at`; answers how the equation ended.
+    pub fn bind_out(&mut self, tab: &[u8], at: usize, o: Outcome) -> Ending
+        requires { Storable (tab_of tab.now) self.old.node at self.old.cells }
+        ensures { (result ≡ ending_of (several o)) × StoresOut (tab_of tab.now) self.old.node at o self.old.cells self.new.cells × Keeps self.old self.new }
+    {
+        store_out(tab, self.node, at, o, &mut self.cells)
+    }
 
-// Binds n values, each to the frame's cell of its name; the names stand from `at` on.
-pub fn bind(tab: &[u8], at: usize, n: usize, from: &[u8], frame: &mut [u8])
-    requires { Framed frame.old × Assignable (tab_of tab.now) (node_of frame.old) at n from.now (cells_of frame.old) }
-    ensures { Assigns (tab_of tab.now) (node_of frame.old) at n n from.now (cells_of frame.old) (cells_of frame.new) × Keeps frame.old frame.new }
-{
-    let k = usize::from(frame[1]);
-    assign(tab, k, at, n, from, &mut frame[CELLS..BEFORE]);
+    // Binds n values, each to the cell of its name; the names stand from `at` on.
+    pub fn bind(&mut self, tab: &[u8], at: usize, n: usize, from: &[u8])
+        requires { Assignable (tab_of tab.now) self.old.node at n from.now self.old.cells }
+        ensures { Assigns (tab_of tab.now) self.old.node at n n from.now self.old.cells self.new.cells × Keeps self.old self.new }
+    {
+        assign(tab, self.node, at, n, from, &mut self.cells);
+    }
 }

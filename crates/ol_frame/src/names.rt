@@ -4,12 +4,11 @@ ghost use Rattle.ol_spec.specs.Eval.{or_failure, present_of, pre_of, is_double?,
 ghost use Rattle.ol_spec.specs.declared.Value.TheVariants as Val;
 ghost use Rattle.ol_tables.specs.At.{expr_at, end_at, node_in};
 ghost use Rattle.ol_tables.specs.Table.{tab_of, rows_of, consts_of};
-ghost use Rattle.ol_frame.specs.Frame.{Framed, node_of, first_of, cells_of, before_of};
 ghost use Rattle.ol_frame.specs.Outcomes.{kind_of, common_out};
 ghost use Rattle.ol_frame.specs.Walk.{nodes_in};
 ghost use Rattle.ol_frame.specs.Plans.{Program, globals_in, scope_in, kind_at, Nameable, Looked, Plan, Cells, name_at, Leaf, eval_in, segs_at};
 
-use crate::frame::{BEFORE, CELLS, FRAME, is_first};
+use crate::frame::Frame;
 use crate::outcomes::{
     RealKind, common_out, is_single, join_kinds, kind_of_outcome, kind_of_type, same_out,
 };
@@ -30,39 +29,39 @@ fn variant(file: &[u8], at: usize) -> Value
 
 // The name at `at`: a variable's present cell, a constant's value or a variant. It stays out of `eval`, which the compiler then puts into its callers: measured.
 #[inline(never)]
-pub fn present(file: &[u8], tab: &[u8], frame: &[u8; FRAME], at: usize) -> Outcome
-    requires { Framed frame.now × Nameable file.now (tab_of tab.now) (consts_of tab.now) (node_of frame.now) at × Cells file.now (node_of frame.now) (cells_of frame.now) }
-    ensures { result ≡ or_failure (present_of (globals_in file.now (consts_of tab.now)) (scope_in file.now (node_of frame.now) false (cells_of frame.now) (cells_of frame.now)) (name_at file.now at)) }
+pub fn present(file: &[u8], tab: &[u8], frame: &Frame, at: usize) -> Outcome
+    requires { Nameable file.now (tab_of tab.now) (consts_of tab.now) frame.now.node at × Cells file.now frame.now.node frame.now.cells }
+    ensures { result ≡ or_failure (present_of (globals_in file.now (consts_of tab.now)) (scope_in file.now frame.now.node false frame.now.cells frame.now.cells) (name_at file.now at)) }
 {
     match slot_at(tab, at) {
-        Slot::Variable(s) => Outcome::Value(read_cell(frame, CELLS + s * 9)),
+        Slot::Variable(s) => Outcome::Value(read_cell(&frame.cells, s * 9)),
         Slot::Constant(i) => Outcome::Value(read_cell(tab, CONSTANTS + i * 9)),
         Slot::Other => Outcome::Value(variant(file, at)),
     }
 }
 
 // Pre of the expression at `at`: cold at a first cycle, whatever the expression; later it fails on anything but a variable or constant.
-fn previous(file: &[u8], tab: &[u8], frame: &[u8; FRAME], at: usize, level: usize) -> Outcome
-    requires { Framed frame.now × Looked file.now (tab_of tab.now) (consts_of tab.now) (node_of frame.now) level at × Cells file.now (node_of frame.now) (before_of frame.now) }
-    ensures { result ≡ pre_of (globals_in file.now (consts_of tab.now)) (scope_in file.now (node_of frame.now) (first_of frame.now) (before_of frame.now) (before_of frame.now)) (first_of frame.now) (expr_at file.now level at) }
+fn previous(file: &[u8], tab: &[u8], frame: &Frame, at: usize, level: usize) -> Outcome
+    requires { Looked file.now (tab_of tab.now) (consts_of tab.now) frame.now.node level at × Cells file.now frame.now.node frame.now.before }
+    ensures { result ≡ pre_of (globals_in file.now (consts_of tab.now)) (scope_in file.now frame.now.node frame.now.first frame.now.before frame.now.before) frame.now.first (expr_at file.now level at) }
 {
-    if is_first(frame) {
+    if frame.first {
         return Outcome::Failure(Cause::Cold);
     }
     if file[at] != 4 {
         return Outcome::Failure(Cause::Other);
     }
     match slot_at(tab, at + 1) {
-        Slot::Variable(s) => Outcome::Value(read_cell(frame, BEFORE + s * 9)),
+        Slot::Variable(s) => Outcome::Value(read_cell(&frame.before, s * 9)),
         Slot::Constant(i) => Outcome::Value(read_cell(tab, CONSTANTS + i * 9)),
         Slot::Other => Outcome::Failure(Cause::Other),
     }
 }
 
 // What the form at `at` yields, where no part of it is evaluated: a literal, a Var, a Pre; a Tuple fails.
-pub fn leaf_out(file: &[u8], tab: &[u8], at: usize, level: usize, frame: &[u8; FRAME]) -> Outcome
-    requires { Framed frame.now × Plan file.now (tab_of tab.now) (rows_of tab.now) (consts_of tab.now) (node_of frame.now) level 1 at × Cells file.now (node_of frame.now) (cells_of frame.now) × Cells file.now (node_of frame.now) (before_of frame.now) × Leaf (get_or file.now at 0) }
-    ensures { (seg : List ℕ) → result ≡ (eval_in file.now (consts_of tab.now) (node_of frame.now) (first_of frame.now) (cells_of frame.now) (before_of frame.now) (expr_at file.now level at) seg).out }
+pub fn leaf_out(file: &[u8], tab: &[u8], at: usize, level: usize, frame: &Frame) -> Outcome
+    requires { Plan file.now (tab_of tab.now) (rows_of tab.now) (consts_of tab.now) frame.now.node level 1 at × Cells file.now frame.now.node frame.now.cells × Cells file.now frame.now.node frame.now.before × Leaf (get_or file.now at 0) }
+    ensures { (seg : List ℕ) → result ≡ (eval_in file.now (consts_of tab.now) frame.now.node frame.now.first frame.now.cells frame.now.before (expr_at file.now level at) seg).out }
 {
     let code = file[at];
     let p = at + 1;
@@ -87,8 +86,8 @@ fn call_kind(file: &[u8], tab: &[u8], k: usize) -> RealKind
 
 // How the expression at `at` counts as real.
 #[cycle(real_kinds)]
-fn real_kind(file: &[u8], tab: &[u8], frame: &[u8; FRAME], at: usize, level: usize) -> RealKind
-    requires { Framed frame.now × Plan file.now (tab_of tab.now) (rows_of tab.now) (consts_of tab.now) (node_of frame.now) level 1 at × Cells file.now (node_of frame.now) (cells_of frame.now) × (segs_at file.now level 1 at ≤ 32768) }
+fn real_kind(file: &[u8], tab: &[u8], frame: &Frame, at: usize, level: usize) -> RealKind
+    requires { Plan file.now (tab_of tab.now) (rows_of tab.now) (consts_of tab.now) frame.now.node level 1 at × Cells file.now frame.now.node frame.now.cells × (segs_at file.now level 1 at ≤ 32768) }
     ensures { kind_of result ≡ kind_at file.now tab.now frame.now level at }
 {
     let code = file[at];
@@ -115,8 +114,8 @@ fn real_kind(file: &[u8], tab: &[u8], frame: &[u8; FRAME], at: usize, level: usi
 
 // Of two expressions, the first of which is at `at`: one double makes both double.
 #[cycle(real_kinds)]
-fn real_kinds(file: &[u8], tab: &[u8], frame: &[u8; FRAME], at: usize, level: usize) -> RealKind
-    requires { Framed frame.now × Plan file.now (tab_of tab.now) (rows_of tab.now) (consts_of tab.now) (node_of frame.now) level 2 at × Cells file.now (node_of frame.now) (cells_of frame.now) × (segs_at file.now level 2 at ≤ 32768) }
+fn real_kinds(file: &[u8], tab: &[u8], frame: &Frame, at: usize, level: usize) -> RealKind
+    requires { Plan file.now (tab_of tab.now) (rows_of tab.now) (consts_of tab.now) frame.now.node level 2 at × Cells file.now frame.now.node frame.now.cells × (segs_at file.now level 2 at ≤ 32768) }
     ensures { kind_of result ≡ join (kind_at file.now tab.now frame.now level at) (kind_at file.now tab.now frame.now level (end_at file.now level at)) }
 {
     let a = real_kind(file, tab, frame, at, level);
@@ -129,12 +128,12 @@ fn real_kinds(file: &[u8], tab: &[u8], frame: &[u8; FRAME], at: usize, level: us
 pub fn chosen(
     file: &[u8],
     tab: &[u8],
-    frame: &[u8; FRAME],
+    frame: &Frame,
     at: usize,
     level: usize,
     taken: Outcome,
 ) -> Outcome
-    requires { Framed frame.now × Plan file.now (tab_of tab.now) (rows_of tab.now) (consts_of tab.now) (node_of frame.now) level 1 at × Cells file.now (node_of frame.now) (cells_of frame.now) × (segs_at file.now level 1 at ≤ 32768) }
+    requires { Plan file.now (tab_of tab.now) (rows_of tab.now) (consts_of tab.now) frame.now.node level 1 at × Cells file.now frame.now.node frame.now.cells × (segs_at file.now level 1 at ≤ 32768) }
     ensures { result ≡ common_out (is_double? (kind_at file.now tab.now frame.now level at)) taken }
 {
     if is_single(taken) {

@@ -138,7 +138,6 @@ constants_ready {s} t a nodes at count nodes_is begins counted =
       counted = counted;
       begins = λ h. begins ∙ first_place_lem (constants_start (file_at s)) (file_at s).constants (omega arith);
       nodes_is = nodes_is;
-      nodes_few = omega (arith, a.stands.few_nodes);
       long = omega (arith, a.tabled.long, length-drop 1393 t);
       few = omega (arith, a.stands.few_constants);
     }

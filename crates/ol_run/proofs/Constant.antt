@@ -184,7 +184,6 @@ module _ {file t : List ℕ} {nodes at count : ℕ} (p : ConstantsReady file t n
         counted = p.counted;
         begins = p.begins;
         nodes_is = p.nodes_is;
-        nodes_few = p.nodes_few;
         long = omega (arith, p.long, length-set t 816 0);
         few = p.few;
       }

@@ -34,8 +34,8 @@ use Rattle.ol_tables.proofs.Lending.{tail_of, put_tail, tail_all, put_tail_lem, 
 use Rattle.ol_frame.proofs.Endings.{failed_values, over_values, over_failed, one_cause}
 use Rattle.ol_frame.proofs.NodeRows.{width_is, inputs_are, narrow, inputs_first}
 use Rattle.ol_state.proofs.Instances.{few_nodes_lem}
-use Rattle.ol_frame.specs.Frame.{Framed, first_of, node_of, cells_of, before_of, Opened}
-use Rattle.ol_frame.proofs.Framing.{cells_length, before_length}
+use Rattle.ol_frame.specs.Frame.{Opened}
+use Rattle.ol_frame.specs.declared.frame.Frame.{Frame}
 
 -- the main node is the last
 pub main_is : (file : List ℕ) (k : ℕ) → suc k ≡ nodes_in file → main (file_at file) ≡ node_in file k
@@ -104,7 +104,7 @@ module _ (f : File) (old vals : List ℕ) (U : Run) (r : Ended) (got : List Valu
 
 -- ---- the run on its record
 
-module _ {file tab rows consts inputs old new frame : List ℕ} {k : ℕ} (h : RecordReady file tab rows consts k inputs old new frame) where
+module _ {file tab rows consts inputs old new : List ℕ} {k : ℕ} (h : RecordReady file tab rows consts k inputs old new) where
   pub inside : k < nodes_in file
   inside = omega (arith, h.last)
 
@@ -118,31 +118,28 @@ module _ {file tab rows consts inputs old new frame : List ℕ} {k : ℕ} (h : R
   pub few : k < 32
   few = few_nodes_lem h.running.known inside
 
-  pub open_ready : (n i : ℕ) → n ≡ row_at rows k 4 → i ≡ row_at rows k 2 → Framed frame × (k < 256) × (i ≤ n) × (n ≤ 112) × (9 * i ≤ length inputs) × (1 + 9 * n ≤ length old)
+  pub open_ready : (n i : ℕ) → n ≡ row_at rows k 4 → i ≡ row_at rows k 2 → (i ≤ n) × (n ≤ 112) × (9 * i ≤ length inputs) × (1 + 9 * n ≤ length old)
   open_ready n i e f =
-      (h.framed, omega (arith, few), inputs_first h.running inside n i e f, narrow h.running inside n e, omega (arith, h.given, inputs_are h.running inside i f), own_room n e)
+      (inputs_first h.running inside n i e f, narrow h.running inside n e, omega (arith, h.given, inputs_are h.running inside i f), own_room n e)
 
   -- the frame that was opened on the record
-  module _ (n i : ℕ) (e : n ≡ row_at rows k 4) (f : i ≡ row_at rows k 2) {opened : List ℕ} (o : Opened k n i inputs old opened) where
-    pub record_runnable : Framed opened × Runnable file tab rows consts (node_of opened) (cells_of opened) (before_of opened) (tail_of (1 + 9 * n) old) (tail_of (1 + 9 * n) new)
+  module _ (n i : ℕ) (e : n ≡ row_at rows k 4) (f : i ≡ row_at rows k 2) {opened : Frame} (o : Opened k n i inputs old opened) where
+    pub record_runnable : Runnable file tab rows consts opened.node opened.cells opened.before (tail_of (1 + 9 * n) old) (tail_of (1 + 9 * n) new)
     record_runnable =
         let w = width_is h.running inside n e in
         let z = ap length (tail_all (1 + 9 * n) old) ∙ length-drop (1 + 9 * n) old in
         let m = h.running.program.width k in
-        let l = o.framed in (
-          l,
-          subst (λ (q : ℕ). Runnable file tab rows consts q (cells_of opened) (before_of opened) (tail_of (1 + 9 * n) old) (tail_of (1 + 9 * n) new)) (sym o.node) (record {
-            running = h.running;
-            below = inside;
-            present = record { long = omega (arith, m, cells_length opened l) };
-            previous = record { long = omega (arith, m, before_length opened l) };
-            sized = omega (arith, z, h.sized, w);
-            small = omega (arith, z, h.small);
-            same = ap (tail_of (1 + 9 * n)) h.same;
-          }),
-        )
+        subst (λ (q : ℕ). Runnable file tab rows consts q opened.cells opened.before (tail_of (1 + 9 * n) old) (tail_of (1 + 9 * n) new)) (sym o.node) (record {
+          running = h.running;
+          below = inside;
+          present = record { long = omega (arith, m, opened.cells_sized) };
+          previous = record { long = omega (arith, m, opened.before_sized) };
+          sized = omega (arith, z, h.sized, w);
+          small = omega (arith, z, h.small);
+          same = ap (tail_of (1 + 9 * n)) h.same;
+        })
 
-    pub record_ran : (cells' x : List ℕ) (r : Ended) → RunTo file consts (node_of opened) (first_of opened) (cells_of opened) (before_of opened) (tail_of (1 + 9 * n) old) r cells' x → RecordRan file consts k inputs old r (put_tail (1 + 9 * n) new x) cells'
+    pub record_ran : (cells' x : List ℕ) (r : Ended) → RunTo file consts opened.node opened.first opened.cells opened.before (tail_of (1 + 9 * n) old) r cells' x → RecordRan file consts k inputs old r (put_tail (1 + 9 * n) new x) cells'
     record_ran cells' x r m =
         let w = width_is h.running inside n e in
         let v = inputs_are h.running inside i f in
@@ -151,14 +148,14 @@ module _ {file tab rows consts inputs old new frame : List ℕ} {k : ℕ} (h : R
         let s : drop (own_size (node_in file k)) N ≡ x = ap (λ (q : ℕ). drop q N) (sym own) ∙ drop_put (1 + 9 * n) new x (own_new n e) in
         let t : take (own_size (node_in file k)) N ≡ take (own_size (node_in file k)) new =
         ap (λ (q : ℕ). take q N) (sym own) ∙ take_put (1 + 9 * n) new x (own_new n e) ∙ ap (λ (q : ℕ). take q new) own in
-        let bs : values_of (width_in file k) (before_of opened) ≡ values_of (width_in file k) (drop 1 old) =
-        ap (λ (q : ℕ). values_of q (before_of opened)) (sym w) ∙ o.before ∙ ap (λ (q : ℕ). values_of q (drop 1 old)) w in
-        let cs : values_of (width_in file k) (cells_of opened) ≡ values_of (length (node_in file k).inputs) inputs ++ drop (length (node_in file k).inputs) (values_of (width_in file k) (drop 1 old)) =
-        ap (λ (q : ℕ). values_of q (cells_of opened)) (sym w) ∙ o.cells ∙ (λ j. values_of (v j) inputs ++ drop (v j) (values_of (w j) (drop 1 old))) in
-        let u : run_in file consts (node_of opened) (first_of opened) (cells_of opened) (before_of opened) (tail_of (1 + 9 * n) old) ≡ record_run file consts k inputs old =
-        ap (λ (q : ℕ). run_in file consts q (first_of opened) (cells_of opened) (before_of opened) (tail_of (1 + 9 * n) old)) o.node
-        ∙ record_run_lem file consts k inputs old (cells_of opened) (before_of opened) (tail_of (1 + 9 * n) old) (first_of opened) o.first bs (tail_all (1 + 9 * n) old ∙ ap (λ (q : ℕ). drop q old) own) cs in
-        let m' = subst (λ (q : ℕ). RunMeets (run_in file consts (node_of opened) (first_of opened) (cells_of opened) (before_of opened) (tail_of (1 + 9 * n) old)) r (values_of (width_in file q) cells') x) o.node m in
+        let bs : values_of (width_in file k) opened.before ≡ values_of (width_in file k) (drop 1 old) =
+        ap (λ (q : ℕ). values_of q opened.before) (sym w) ∙ o.before ∙ ap (λ (q : ℕ). values_of q (drop 1 old)) w in
+        let cs : values_of (width_in file k) opened.cells ≡ values_of (length (node_in file k).inputs) inputs ++ drop (length (node_in file k).inputs) (values_of (width_in file k) (drop 1 old)) =
+        ap (λ (q : ℕ). values_of q opened.cells) (sym w) ∙ o.cells ∙ (λ j. values_of (v j) inputs ++ drop (v j) (values_of (w j) (drop 1 old))) in
+        let u : run_in file consts opened.node opened.first opened.cells opened.before (tail_of (1 + 9 * n) old) ≡ record_run file consts k inputs old =
+        ap (λ (q : ℕ). run_in file consts q opened.first opened.cells opened.before (tail_of (1 + 9 * n) old)) o.node
+        ∙ record_run_lem file consts k inputs old opened.cells opened.before (tail_of (1 + 9 * n) old) opened.first o.first bs (tail_all (1 + 9 * n) old ∙ ap (λ (q : ℕ). drop q old) own) cs in
+        let m' = subst (λ (q : ℕ). RunMeets (run_in file consts opened.node opened.first opened.cells opened.before (tail_of (1 + 9 * n) old)) r (values_of (width_in file q) cells') x) o.node m in
         record {
           ran = subst (λ (l : List ℕ). RunMeets (record_run file consts k inputs old) r (values_of (width_in file k) cells') l) (sym s) (subst (λ (y : Run). RunMeets y r (values_of (width_in file k) cells') x) u m');
           kept = t ∙ ap (take (own_size (node_in file k))) h.same;
@@ -183,10 +180,10 @@ module _ {file tab rows consts old inputs new vals : List ℕ} {k : ℕ} (h : Ru
     head_room = omega (arith, state_is)
 
     -- the main record can be run
-    pub main_ready : (copied frame : List ℕ) → copied ≡ old → Framed frame → RecordReady file tab rows consts k inputs (tail_of H old) (tail_of H copied) frame
-    main_ready copied frame e l =
+    pub main_ready : (copied : List ℕ) → copied ≡ old → RecordReady file tab rows consts k inputs (tail_of H old) (tail_of H copied)
+    main_ready copied e =
         let z = ap length (tail_all H old) ∙ length-drop H old in
-        record { running = h.running; last = h.last; sized = omega (arith, z, state_is); small = omega (arith, z, h.small); same = ap (tail_of H) e; given = h.given; framed = l }
+        record { running = h.running; last = h.last; sized = omega (arith, z, state_is); small = omega (arith, z, h.small); same = ap (tail_of H) e; given = h.given }
 
     pub copied_room : (copied : List ℕ) → copied ≡ old → H ≤ length copied
     copied_room copied e = omega (arith, head_room, ap length e)
@@ -197,17 +194,16 @@ module _ {file tab rows consts old inputs new vals : List ℕ} {k : ℕ} (h : Ru
     pub moved_room : (copied x : List ℕ) → copied ≡ old → length x ≡ length (tail_of H copied) → H ≤ length (put_tail H copied x)
     moved_room copied x e l = omega (arith, moved_length copied x e l, copied_room copied e)
 
-    pub finish_ready : (n : ℕ) (copied x frame : List ℕ) → n ≡ row_at rows k 4 → copied ≡ old → length x ≡ length (tail_of H copied) → Framed frame
-        → Framed frame × (n ≤ 112) × (1 + 9 * n ≤ length (tail_of H (put_tail H copied x)))
-    finish_ready n copied x frame w e l p =
+    pub finish_ready : (n : ℕ) (copied x : List ℕ) → n ≡ row_at rows k 4 → copied ≡ old → length x ≡ length (tail_of H copied) → (n ≤ 112) × (1 + 9 * n ≤ length (tail_of H (put_tail H copied x)))
+    finish_ready n copied x w e l =
         let m = narrow h.running main_inside n w in
         let A = put_tail H copied x in
-        (p, m, omega (arith, ap length (tail_all H A), length-drop H A, moved_length copied x e l, ap length e, state_is, width_is h.running main_inside n w))
+        (m, omega (arith, ap length (tail_all H A), length-drop H A, moved_length copied x e l, ap length e, state_is, width_is h.running main_inside n w))
 
-    pub values_ready : (n : ℕ) (frame : List ℕ) → n ≡ row_at rows k 4 → Framed frame → (n ≤ 112) × (9 * n ≤ length (cells_of frame)) × (9 * n ≤ length vals)
-    values_ready n frame w p =
+    pub values_ready : (n : ℕ) (frame : Frame) → n ≡ row_at rows k 4 → (n ≤ 112) × (9 * n ≤ length frame.cells) × (9 * n ≤ length vals)
+    values_ready n frame w =
         let m = narrow h.running main_inside n w in
-        (m, omega (arith, cells_length frame p, m), omega (arith, h.told, width_is h.running main_inside n w))
+        (m, omega (arith, frame.cells_sized, m), omega (arith, h.told, width_is h.running main_inside n w))
 
     pub ended_length : (copied x y : List ℕ) → copied ≡ old → length x ≡ length (tail_of H copied) → length y ≡ length (tail_of H (put_tail H copied x)) → length (put_tail H (put_tail H copied x) y) ≡ length copied
     ended_length copied x y e l m = length_put H (put_tail H copied x) y (moved_room copied x e l) m ∙ moved_length copied x e l

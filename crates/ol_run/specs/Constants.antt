@@ -53,7 +53,6 @@ pub record ConstantsReady (file t : List ℕ) (nodes at count : ℕ) : Type 0 wh
   pub counted : count ≡ length (file_at file).constants
   pub begins : 0 < count → at ≡ (constant_at file 0).0
   pub nodes_is : nodes ≡ nodes_in file
-  pub nodes_few : nodes < 256
   pub long : 1393 ≤ length t
   pub few : count ≤ 64
 

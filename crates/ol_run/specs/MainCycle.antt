@@ -10,19 +10,17 @@ use Rattle.ol_tables.specs.At.{file_at, node_in}
 use Rattle.ol_frame.specs.Walk.{nodes_in, sizes_in}
 use Rattle.ol_frame.specs.Plans.{globals_in, width_in}
 use Rattle.ol_frame.specs.Nodes.{Running}
-use Rattle.ol_frame.specs.Frame.{Framed}
 use Rattle.ol_eval.specs.Calls.{RunMeets}
 use Rattle.ol_eval.specs.declared.eval.Ended.{Ended}
 
 -- an instance's record, and what it is run with; `new` is a copy of the record
-pub record RecordReady (file tab rows consts : List ℕ) (k : ℕ) (inputs old new frame : List ℕ) : Type 0 where
+pub record RecordReady (file tab rows consts : List ℕ) (k : ℕ) (inputs old new : List ℕ) : Type 0 where
   pub running : Running file tab rows consts
   pub last : suc k ≡ nodes_in file
   pub sized : length old ≡ instance_size (sizes_in file) (node_in file k)
   pub small : length old ≤ 32768
   pub same : new ≡ old
   pub given : length inputs ≡ 9 * length (node_in file k).inputs
-  pub framed : Framed frame
 
 -- the run of node k on its record
 abbrev pub record_run : List ℕ → List ℕ → ℕ → List ℕ → List ℕ → Run

@@ -6,14 +6,13 @@ ghost use Rattle.ol_spec.specs.declared.Outcome.TheVariants as Out;
 ghost use Rattle.ol_value.specs.Codes.{ty_of};
 ghost use Rattle.ol_frame.specs.Walk.{nodes_in};
 ghost use Rattle.ol_frame.specs.Plans.{known_in};
-ghost use Rattle.ol_frame.specs.Frame.{Framed, node_of, first_of};
 ghost use Rattle.ol_run.specs.Constants.{ConstantReady, ConstantsReady, ConstantsAre, SameTables, constant_at, value_at, constant_out};
 ghost use Rattle.ol_spec.specs.Admission.{constants};
 ghost use Rattle.ol_tables.specs.At.{file_at, end_at};
 ghost use Rattle.ol_tables.specs.Table.{tab_of, rows_of, consts_of};
 
 use ol_eval::eval::eval;
-use ol_frame::frame::{FRAME, set_frame};
+use ol_frame::frame::Frame;
 use ol_frame::outcomes::{and_then, kept};
 use ol_frame::skip::pass;
 use ol_spec::Outcome;
@@ -30,8 +29,8 @@ fn fitted(code: u8, o: Outcome) -> Outcome
 }
 
 // The value of the constant at `at`, where those before it have their cells in the table. The frame is at a first cycle, behind the last node.
-fn constant_value(file: &[u8], tab: &[u8], at: usize, frame: &[u8; FRAME]) -> Outcome
-    requires framed { Framed frame.now × (node_of frame.now ≡ nodes_in file.now) × (first_of frame.now ≡ true) }
+fn constant_value(file: &[u8], tab: &[u8], at: usize, frame: &Frame) -> Outcome
+    requires framed { (frame.now.node ≡ nodes_in file.now) × (frame.now.first ≡ true) }
     requires constant_ready { ConstantReady file.now (tab_of tab.now) (rows_of tab.now) (known_in (consts_of tab.now)) × (at ≡ (constant_at file.now (known_in (consts_of tab.now))).0) }
     ensures { result ≡ constant_out file.now (consts_of tab.now) (known_in (consts_of tab.now)) }
 {
@@ -70,8 +69,9 @@ pub fn constant_values(
     if count == 0 {
         return Ok(());
     }
-    let mut frame = [0u8; FRAME];
-    set_frame(&mut frame, nodes, true);
+    let mut frame = Frame::new();
+    frame.first = true;
+    frame.node = nodes;
     let mut pos = at;
     for i in 0..count {
         match constant_value(file, tab, pos, &frame) {

@@ -2,12 +2,11 @@
 ghost use Rattle.std.specs.Prelude.{◌≡◌, List};
 ghost use Rattle.ol_spec.specs.declared.Value.{Value};
 ghost use Rattle.ol_tables.specs.Table.{tab_of, rows_of, consts_of};
-ghost use Rattle.ol_frame.specs.Frame.{Framed, cells_of};
 ghost use Rattle.ol_run.specs.MainCycle.{RecordReady, RecordRan, RunReady, CyclesTo};
 
 use ol_eval::eval::{Ended, run};
 use ol_frame::copies::{copy, write_cells};
-use ol_frame::frame::{BEFORE, CELLS, FRAME, finish_frame, open_frame};
+use ol_frame::frame::Frame;
 use ol_frame::outcomes::Ending;
 use ol_frame::tables::row;
 use ol_spec::{Cycled, Fault};
@@ -23,15 +22,15 @@ fn run_record(
     inputs: &[u8],
     old: &[u8],
     new: &mut [u8],
-    frame: &mut [u8; FRAME],
+    frame: &mut Frame,
 ) -> Ended
-    requires { RecordReady file.now (tab_of tab.now) (rows_of tab.now) (consts_of tab.now) main inputs.now old.now new.old frame.old }
-    ensures { RecordRan file.now (consts_of tab.now) main inputs.now old.now result new.new (cells_of frame.new) × Framed frame.new }
+    requires { RecordReady file.now (tab_of tab.now) (rows_of tab.now) (consts_of tab.now) main inputs.now old.now new.old }
+    ensures { RecordRan file.now (consts_of tab.now) main inputs.now old.now result new.new frame.new.cells }
 {
     let n = row(tab, main, VARIABLES);
     let k = row(tab, main, INPUTS);
     let own = 1 + 9 * n;
-    open_frame(main, n, k, inputs, old, frame);
+    frame.open(main, n, k, inputs, old);
     run(file, tab, frame, &old[own..], &mut new[own..])
 }
 
@@ -51,7 +50,7 @@ pub fn run_main(
 {
     let n = row(tab, main, VARIABLES);
     let head = 9 * byte(tab, KNOWN);
-    let mut frame = [0u8; FRAME];
+    let mut frame = Frame::new();
     copy(old, new);
     let r = run_record(
         file,
@@ -65,8 +64,8 @@ pub fn run_main(
     let place = r.index;
     match r.end {
         Ending::Values => {
-            finish_frame(n, &frame, &mut new[head..]);
-            write_cells(n, &frame[CELLS..BEFORE], values);
+            frame.finish(n, &mut new[head..]);
+            write_cells(n, &frame.cells, values);
             Cycled::Answered
         }
         Ending::Failed(c) => Cycled::Stopped(Fault {

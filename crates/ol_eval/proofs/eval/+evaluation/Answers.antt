@@ -11,13 +11,12 @@ use Rattle.ol_eval.specs.Calls.{all_in, is_call, passed_all}
 use Rattle.ol_eval.specs.Post.{UntakenTo, branch_in, choose_in, if_in, two_in}
 use Rattle.ol_frame.proofs.Copying.{all_copied}
 use Rattle.ol_frame.proofs.Equating.{equation_is}
-use Rattle.ol_frame.proofs.Framing.{before_length, cells_length, keeps_all, keeps_on}
+use Rattle.ol_frame.proofs.Framing.{keeps_all, keeps_on}
 use Rattle.ol_frame.proofs.NodeRows.{few, inputs_first, inputs_most, narrow, outputs_most, row_room}
 use Rattle.ol_frame.proofs.Planning.{plan_head, plan_name, segs_cons}
 use Rattle.ol_frame.proofs.Running.{length_mid, length_put_mid, mid_of}
 use Rattle.ol_frame.proofs.Tabling.{rows_room}
 use Rattle.ol_frame.specs.Equations.{plan_at}
-use Rattle.ol_frame.specs.Frame.{before_of, cells_of, first_of, node_of}
 use Rattle.ol_frame.specs.Plans.{Leaf, eval_in, globals_in, name_at, scope_in, seg_at, segs_at}
 use Rattle.ol_frame.specs.Stores.{passed_by}
 use Rattle.ol_frame.specs.Walk.{Passable, SkipsTo}
@@ -39,18 +38,17 @@ use Rattle.ol_eval.proofs.eval.+evaluation.Goals as goal
 
 pub call_equation-enter-r-requires : goal.call_equation-enter-r-requires
 call_equation-enter-r-requires t c =
-    let fd = c.requires.0.0 in
-    let p = c.requires.0.1 in
+    let p = c.requires.0 in
     let f = c.args.file.now in
     let n = c.from-n.result in
     let ne = c.from-n.ensures in
     let rhs = c.args.at + 1 + 2 * n in
     let q = right_ready p n 11 ne (subst (λ (m : ℕ). get_or f (c.args.at + 1 + 2 * m) 0 ≡ 11) (sym ne) c.requires.1) in
-    (omega arith, ((fd, equation_ready p rhs q.place), q.code_is, refl))
+    (omega arith, ((equation_ready p rhs q.place), q.code_is, refl))
 
 pub call_equation-bounds-file-rhs : goal.call_equation-bounds-file-rhs
 call_equation-bounds-file-rhs t c =
-    let p = c.requires.0.1 in
+    let p = c.requires.0 in
     let f = c.args.file.now in
     let n = c.from-n.result in
     let ne = c.from-n.ensures in
@@ -60,7 +58,7 @@ call_equation-bounds-file-rhs t c =
 
 pub call_equation-row-requires : goal.call_equation-row-requires
 call_equation-row-requires t c =
-    let p = c.requires.0.1 in
+    let p = c.requires.0 in
     let f = c.args.file.now in
     let tb = c.args.tab.now in
     let n = c.from-n.result in
@@ -73,8 +71,7 @@ call_equation-row-requires t c =
 
 pub call_equation-bind-requires : goal.call_equation-bind-requires
 call_equation-bind-requires t c =
-    let fd = c.requires.0.0 in
-    let p = c.requires.0.1 in
+    let p = c.requires.0 in
     let f = c.args.file.now in
     let n = c.from-n.result in
     let ne = c.from-n.ensures in
@@ -84,14 +81,14 @@ call_equation-bind-requires t c =
     let row = callee_row p q k ke in
     let outs = c.row.ensures ∙ row.outputs in
     let m = names_least p c.row.result q c.min-m.ensures in
-    (fd, values_assignable p c.min-m.result (c.enter-r.new.args) m.least (omega (arith, c.min-m.ensures, outs, row.few)) (let k : length (c.enter-r.new.args) ≡ 288 = c.enter-r.ensures.1 in omega (arith, k, c.min-m.ensures, outs, row.few)))
+    (values_assignable p c.min-m.result (c.enter-r.new.args) m.least (omega (arith, c.min-m.ensures, outs, row.few)) (let k : length (c.enter-r.new.args) ≡ 288 = c.enter-r.ensures.1 in omega (arith, k, c.min-m.ensures, outs, row.few)))
 
 pub call_equation-returns : goal.call_equation-returns
 call_equation-returns t c =
-    let p = c.requires.0.1 in
+    let p = c.requires.0 in
     let f = c.args.file.now in
     let fr = c.args.frame.now in
-    let F = first_of fr in
+    let F = fr.first in
     let n = c.from-n.result in
     let ne = c.from-n.ensures in
     let q = right_ready p n 11 ne (subst (λ (m : ℕ). get_or f (c.args.at + 1 + 2 * m) 0 ≡ 11) (sym ne) c.requires.1) in
@@ -99,19 +96,18 @@ call_equation-returns t c =
     let ke = c.from-c.ensures in
     let row = callee_row p q k ke in
     let outs = c.row.ensures ∙ row.outputs in
-    (Rights.call_done p F c.min-m.result (c.enter-r.new.args) (cells_of c.bind.new.frame) q c.enter-r.ensures.0 c.in-Values.is (c.min-m.ensures ∙ ap (min n) outs) c.bind.ensures.0, c.bind.ensures.1)
+    (Rights.call_done p F c.min-m.result (c.enter-r.new.args) c.bind.new.self.cells q c.enter-r.ensures.0 c.in-Values.is (c.min-m.ensures ∙ ap (min n) outs) c.bind.ensures.0, c.bind.ensures.1)
 
 pub call_equation-returns-in_default : goal.call_equation-returns-in_default
 call_equation-returns-in_default t c =
-    let fd = c.requires.0.0 in
-    let p = c.requires.0.1 in
+    let p = c.requires.0 in
     let f = c.args.file.now in
     let fr = c.args.frame.now in
-    let F = first_of fr in
+    let F = fr.first in
     let n = c.from-n.result in
     let ne = c.from-n.ensures in
     let q = right_ready p n 11 ne (subst (λ (m : ℕ). get_or f (c.args.at + 1 + 2 * m) 0 ≡ 11) (sym ne) c.requires.1) in
-    (call_stops p F (c.enter-r.new.args) (cells_of fr) q c.enter-r.ensures.0 c.in_default.not-Values, keeps_all fr fd)
+    (call_stops p F (c.enter-r.new.args) fr.cells q c.enter-r.ensures.0 c.in_default.not-Values, keeps_all fr)
 
 pub call_function-row-inputs-requires : goal.call_function-row-inputs-requires
 call_function-row-inputs-requires t c =
@@ -121,22 +117,22 @@ call_function-row-inputs-requires t c =
     let tb = c.args.tab.now in
     row_room tb R B _ (omega arith)
 
-pub call_function-fresh_frame-requires : goal.call_function-fresh_frame-requires
-call_function-fresh_frame-requires t c =
+pub call_function-fresh-requires : goal.call_function-fresh-requires
+call_function-fresh-requires t c =
     let h = c.requires.0 in
     let R = h.running in
     let B = h.below in
     let i = c.row-inputs.result in
     let iw = c.row-inputs.ensures in
-    (c.requires.1, omega (arith, few R B), inputs_first R B _ i refl iw, narrow R B _ refl, omega (arith, h.room, inputs_most R B i iw))
+    (omega (arith, few R B), inputs_first R B _ i refl iw, narrow R B _ refl, omega (arith, h.room, inputs_most R B i iw))
 
 pub call_function-run-r-requires : goal.call_function-run-r-requires
 call_function-run-r-requires t c =
     let h = c.requires.0 in
-    let f = c.requires.2 in
-    let fp = c.fresh_frame.ensures in
-    let fr = c.fresh_frame.new.frame in
-    (omega (arith, fp.node), (fp.framed, framed_runnable fr fp.node (function_runnable h f (cells_of fr) (before_of fr) (cells_length fr fp.framed) (before_length fr fp.framed))))
+    let f = c.requires.1 in
+    let fp = c.fresh.ensures in
+    let fr = c.fresh.new.self in
+    (omega (arith, fp.node), framed_runnable fr fp.node (function_runnable h f fr.cells fr.before fr.cells_sized fr.before_sized))
 
 pub call_function-row-requires : goal.call_function-row-requires
 call_function-row-requires t c =
@@ -153,23 +149,23 @@ call_function-copy_outputs-requires t c =
     let B = h.below in
     let i = c.row-inputs.result in
     let iw = c.row-inputs.ensures in
-    (c.run-r.ensures.1, inputs_most R B i iw, outputs_most R B c.row.result c.row.ensures, omega (arith, h.room, outputs_most R B c.row.result c.row.ensures))
+    (inputs_most R B i iw, outputs_most R B c.row.result c.row.ensures, omega (arith, h.room, outputs_most R B c.row.result c.row.ensures))
 
 pub call_function-returns : goal.call_function-returns
 call_function-returns t c =
     let h = c.requires.0 in
-    let f = c.requires.2 in
+    let f = c.requires.1 in
     let tb = c.args.tab.now in
     let i = c.row-inputs.result in
     let iw = c.row-inputs.ensures in
-    let fp = c.fresh_frame.ensures in
-    let fr = c.fresh_frame.new.frame in
-    let cells = cells_of c.run-r.new.frame in
-    (function_done h f i fr iw fp c.run-r.result cells c.run-r.new.new c.row.result c.copy_outputs.new.args (framed_run c.args.file.now (consts_of tb) fr c.args.old.now cells fp.node c.run-r.ensures.0) c.run-r.auto.new c.row.ensures c.copy_outputs.ensures, c.copy_outputs.auto.args)
+    let fp = c.fresh.ensures in
+    let fr = c.fresh.new.self in
+    let cells = c.run-r.new.frame.cells in
+    (function_done h f i fr iw fp c.run-r.result cells c.run-r.new.new c.row.result c.copy_outputs.new.args (framed_run c.args.file.now (consts_of tb) fr c.args.old.now cells fp.node c.run-r.ensures) c.run-r.auto.new c.row.ensures c.copy_outputs.ensures, c.copy_outputs.auto.args)
 
 pub enter-bounds-file-at : goal.enter-bounds-file-at
 enter-bounds-file-at t c =
-    let p = c.requires.0.1 in
+    let p = c.requires.0 in
     let b = c.requires.1 in
     let f = c.args.file.now in
     let a = c.args.at in
@@ -177,7 +173,7 @@ enter-bounds-file-at t c =
 
 pub enter-row-size-requires : goal.enter-row-size-requires
 enter-row-size-requires t c =
-    let p = c.requires.0.1 in
+    let p = c.requires.0 in
     let b = c.requires.1 in
     let tb = c.args.tab.now in
     let f = c.args.file.now in
@@ -189,7 +185,7 @@ enter-row-size-requires t c =
 
 pub enter-overflow_sub-level : goal.enter-overflow_sub-level
 enter-overflow_sub-level t c =
-    let p = c.requires.0.1 in
+    let p = c.requires.0 in
     let b = c.requires.1 in
     let f = c.args.file.now in
     let a = c.args.at in
@@ -200,7 +196,7 @@ enter-overflow_sub-level t c =
 
 pub enter-slice_bounds-eval_all-count : goal.enter-slice_bounds-eval_all-count
 enter-slice_bounds-eval_all-count t c =
-    let p = c.requires.0.1 in
+    let p = c.requires.0 in
     let b = c.requires.1 in
     let f = c.args.file.now in
     let a = c.args.at in
@@ -214,7 +210,7 @@ enter-slice_bounds-eval_all-count t c =
 
 pub enter-slice_bounds-eval_all-start : goal.enter-slice_bounds-eval_all-start
 enter-slice_bounds-eval_all-start t c =
-    let p = c.requires.0.1 in
+    let p = c.requires.0 in
     let b = c.requires.1 in
     let f = c.args.file.now in
     let a = c.args.at in
@@ -228,7 +224,7 @@ enter-slice_bounds-eval_all-start t c =
 
 pub enter-slice_bounds-eval_all-count-2 : goal.enter-slice_bounds-eval_all-count-2
 enter-slice_bounds-eval_all-count-2 t c =
-    let p = c.requires.0.1 in
+    let p = c.requires.0 in
     let b = c.requires.1 in
     let f = c.args.file.now in
     let a = c.args.at in
@@ -243,7 +239,7 @@ enter-slice_bounds-eval_all-count-2 t c =
 
 pub enter-slice_bounds-eval_all-start-2 : goal.enter-slice_bounds-eval_all-start-2
 enter-slice_bounds-eval_all-start-2 t c =
-    let p = c.requires.0.1 in
+    let p = c.requires.0 in
     let b = c.requires.1 in
     let f = c.args.file.now in
     let a = c.args.at in
@@ -258,8 +254,7 @@ enter-slice_bounds-eval_all-start-2 t c =
 
 pub enter-eval_all-a-requires : goal.enter-eval_all-a-requires
 enter-eval_all-a-requires t c =
-    let fd = c.requires.0.0 in
-    let p = c.requires.0.1 in
+    let p = c.requires.0 in
     let b = c.requires.1 in
     let f = c.args.file.now in
     let a = c.args.at in
@@ -268,16 +263,16 @@ enter-eval_all-a-requires t c =
     let n = get_or f (a + 2) 0 in
     let u = c.row-size.result in
     let uE = c.row-size.ensures in
-    (omega (arith, (call_at p b k n kE refl).deep), ((fd, call_parts p b k n kE refl u uE), call_several p b k n kE refl c.requires.2))
+    (omega (arith, (call_at p b k n kE refl).deep), ((call_parts p b k n kE refl u uE), call_several p b k n kE refl c.requires.2))
 
 pub enter-overflow_add-used : goal.enter-overflow_add-used
 enter-overflow_add-used t c =
-    let p = c.requires.0.1 in
+    let p = c.requires.0 in
     let b = c.requires.1 in
     let fr = c.args.frame.now in
     let f = c.args.file.now in
     let a = c.args.at in
-    let F = first_of fr in
+    let F = fr.first in
     let k = c.from-k.result in
     let kE = c.from-k.ensures in
     let n = get_or f (a + 2) 0 in
@@ -288,7 +283,7 @@ enter-overflow_add-used t c =
 
 pub enter-slice_bounds-step_site-end : goal.enter-slice_bounds-step_site-end
 enter-slice_bounds-step_site-end t c =
-    let p = c.requires.0.1 in
+    let p = c.requires.0 in
     let b = c.requires.1 in
     let f = c.args.file.now in
     let a = c.args.at in
@@ -304,7 +299,7 @@ enter-slice_bounds-step_site-end t c =
 
 pub enter-slice_bounds-step_site-end-2 : goal.enter-slice_bounds-step_site-end-2
 enter-slice_bounds-step_site-end-2 t c =
-    let p = c.requires.0.1 in
+    let p = c.requires.0 in
     let b = c.requires.1 in
     let f = c.args.file.now in
     let a = c.args.at in
@@ -326,7 +321,7 @@ enter-slice_bounds-step_site-end-2 t c =
 
 pub enter-slice_bounds-step_site-end-3 : goal.enter-slice_bounds-step_site-end-3
 enter-slice_bounds-step_site-end-3 t c =
-    let p = c.requires.0.1 in
+    let p = c.requires.0 in
     let b = c.requires.1 in
     let f = c.args.file.now in
     let a = c.args.at in
@@ -348,7 +343,7 @@ enter-slice_bounds-step_site-end-3 t c =
 
 pub enter-step_site-end-requires : goal.enter-step_site-end-requires
 enter-step_site-end-requires t c =
-    let p = c.requires.0.1 in
+    let p = c.requires.0 in
     let b = c.requires.1 in
     let f = c.args.file.now in
     let a = c.args.at in
@@ -359,16 +354,16 @@ enter-step_site-end-requires t c =
     let uE = c.row-size.ensures in
     let KA = c.eval_all-a.ensures.1 in
     let N1 = c.eval_all-a.new.new in
-    (omega (arith, call_lower p b k n kE refl), (call_steps p b k n kE refl u uE N1 (KA ∙ c.requires.2), omega (arith, p.plan.program.sized.small)))
+    (omega (arith, call_lower p b k n kE refl), call_steps p b k n kE refl u uE N1 (KA ∙ c.requires.2))
 
 pub enter-returns : goal.enter-returns
 enter-returns t c =
-    let p = c.requires.0.1 in
+    let p = c.requires.0 in
     let b = c.requires.1 in
     let fr = c.args.frame.now in
     let f = c.args.file.now in
     let a = c.args.at in
-    let F = first_of fr in
+    let F = fr.first in
     let k = c.from-k.result in
     let kE = c.from-k.ensures in
     let n = get_or f (a + 2) 0 in
@@ -381,12 +376,12 @@ enter-returns t c =
 
 pub enter-returns-in_default : goal.enter-returns-in_default
 enter-returns-in_default t c =
-    let p = c.requires.0.1 in
+    let p = c.requires.0 in
     let b = c.requires.1 in
     let fr = c.args.frame.now in
     let f = c.args.file.now in
     let a = c.args.at in
-    let F = first_of fr in
+    let F = fr.first in
     let k = c.from-k.result in
     let kE = c.from-k.ensures in
     let n = get_or f (a + 2) 0 in
@@ -398,12 +393,12 @@ enter-returns-in_default t c =
 
 pub equation-bounds-file-at : goal.equation-bounds-file-at
 equation-bounds-file-at t c =
-    let p = c.requires.1 in
+    let p = c.requires in
     omega (arith, names_inside p (get_or c.args.file.now c.args.at 0) refl)
 
 pub equation-overflow_add-rhs : goal.equation-overflow_add-rhs
 equation-overflow_add-rhs t c =
-    let p = c.requires.1 in
+    let p = c.requires in
     let n = c.from-n.result in
     let ne = c.from-n.ensures in
     let s = names_inside p n ne in
@@ -411,7 +406,7 @@ equation-overflow_add-rhs t c =
 
 pub equation-overflow_add-rhs-2 : goal.equation-overflow_add-rhs-2
 equation-overflow_add-rhs-2 t c =
-    let p = c.requires.1 in
+    let p = c.requires in
     let n = c.from-n.result in
     let ne = c.from-n.ensures in
     let s = names_inside p n ne in
@@ -419,7 +414,7 @@ equation-overflow_add-rhs-2 t c =
 
 pub equation-bounds-file-rhs : goal.equation-bounds-file-rhs
 equation-bounds-file-rhs t c =
-    let p = c.requires.1 in
+    let p = c.requires in
     let n = c.from-n.result in
     let ne = c.from-n.ensures in
     let s = names_inside p n ne in
@@ -427,15 +422,14 @@ equation-bounds-file-rhs t c =
 
 pub equation-eval-r-requires : goal.equation-eval-r-requires
 equation-eval-r-requires t c =
-    let fd = c.requires.0 in
-    let p = c.requires.1 in
+    let p = c.requires in
     let n = c.from-n.result in
     let ne = c.from-n.ensures in
-    (omega arith, (fd, equation_ready p ((c.args.at + 1 + 2 * n)) (right_place p n ne)))
+    (omega arith, (equation_ready p ((c.args.at + 1 + 2 * n)) (right_place p n ne)))
 
 pub equation-overflow_add-at : goal.equation-overflow_add-at
 equation-overflow_add-at t c =
-    let p = c.requires.1 in
+    let p = c.requires in
     let n = c.from-n.result in
     let ne = c.from-n.ensures in
     let s = names_inside p n ne in
@@ -443,21 +437,20 @@ equation-overflow_add-at t c =
 
 pub equation-bind_out-requires : goal.equation-bind_out-requires
 equation-bind_out-requires t c =
-    let fd = c.requires.0 in
-    let p = c.requires.1 in
-    (fd, first_storable p)
+    let p = c.requires in
+    (first_storable p)
 
 pub equation-returns-in_default : goal.equation-returns-in_default
 equation-returns-in_default t c =
-    let p = c.requires.1 in
+    let p = c.requires in
     let fr = c.args.frame.now in
     let n = c.from-n.result in
     let ne = c.from-n.ensures in
-    (one_done p (first_of fr) ((c.args.at + 1 + 2 * n)) c.bind_out.result (cells_of c.bind_out.new.frame) (right_place p n ne) (search rules) (search rules) c.eval-r.ensures c.bind_out.ensures.0 c.bind_out.ensures.1, c.bind_out.ensures.2)
+    (one_done p fr.first ((c.args.at + 1 + 2 * n)) c.bind_out.result c.bind_out.new.self.cells (right_place p n ne) (search rules) (search rules) c.eval-r.ensures c.bind_out.ensures.0 c.bind_out.ensures.1, c.bind_out.ensures.2)
 
 pub eval-bounds-file-at : goal.eval-bounds-file-at
 eval-bounds-file-at t c =
-    let p = c.requires.1 in
+    let p = c.requires in
     let f = c.args.file.now in
     let L = c.args.level in
     let a = c.args.at in
@@ -466,25 +459,24 @@ eval-bounds-file-at t c =
 
 pub eval-present-requires : goal.eval-present-requires
 eval-present-requires t c =
-    let fd = c.requires.0 in
-    let p = c.requires.1 in
+    let p = c.requires in
     let f = c.args.file.now in
-    (fd, plan_name f p.plan c.if-file-at-eq-VAR.true, p.present)
+    (plan_name f p.plan c.if-file-at-eq-VAR.true, p.present)
 
 pub eval-returns-then-file-at-eq-VAR : goal.eval-returns-then-file-at-eq-VAR
 eval-returns-then-file-at-eq-VAR t c =
-    let p = c.requires.1 in
+    let p = c.requires in
     let fr = c.args.frame.now in
     let tb = c.args.tab.now in
     let f = c.args.file.now in
     let L = c.args.level in
     let a = c.args.at in
     let h = plan_head f p.plan in
-    var_evals f (consts_of tb) L a (node_of fr) (first_of fr) (cells_of fr) (before_of fr) p.plan.reads h c.if-file-at-eq-VAR.true p.same (c.named_out.ensures (present_of (globals_in f (consts_of tb)) (scope_in f (node_of fr) false (cells_of fr) (cells_of fr)) (name_at f (a + 1))) c.present.ensures ∙ c.present.ensures)
+    var_evals f (consts_of tb) L a fr.node fr.first fr.cells fr.before p.plan.reads h c.if-file-at-eq-VAR.true p.same (c.named_out.ensures (present_of (globals_in f (consts_of tb)) (scope_in f fr.node false fr.cells fr.cells) (name_at f (a + 1))) c.present.ensures ∙ c.present.ensures)
 
 pub eval_all-loop-i-init : goal.eval_all-loop-i-init
 eval_all-loop-i-init t c =
-    let p = c.requires.0.1 in
+    let p = c.requires.0 in
     let sv = c.requires.1 in
     let q = sv.passes in
     let tb = c.args.tab.now in
@@ -493,11 +485,10 @@ eval_all-loop-i-init t c =
     let f = c.args.file.now in
     let a = c.args.at in
     let n = parts_at f a in
-    (omega arith, refl, refl, subst (λ (m : ℕ). Going (all_in f (consts_of tb) c.args.level n (next_at f a) (node_of fr) (first_of fr) (cells_of fr) (before_of fr) (take (segs_at f c.args.level n (next_at f a)) c.args.old.now)) f (tab_of tb) (rows_of tb) (consts_of tb) (is_call f a) (get_or f (a + 1) 0) n (next_at f a) c.args.level (node_of fr) (first_of fr) (cells_of fr) (before_of fr) c.args.old.now (n - 0) 0 m 0 c.args.to.now c.args.new.now) (sym hd.next) (going_left (left_none n) (going_start (first_of fr) p q)))
+    (omega arith, refl, refl, subst (λ (m : ℕ). Going (all_in f (consts_of tb) c.args.level n (next_at f a) fr.node fr.first fr.cells fr.before (take (segs_at f c.args.level n (next_at f a)) c.args.old.now)) f (tab_of tb) (rows_of tb) (consts_of tb) (is_call f a) (get_or f (a + 1) 0) n (next_at f a) c.args.level fr.node fr.first fr.cells fr.before c.args.old.now (n - 0) 0 m 0 c.args.to.now c.args.new.now) (sym hd.next) (going_left (left_none n) (going_start fr.first p q)))
 
 pub eval_all-eval-r-requires : goal.eval_all-eval-r-requires
 eval_all-eval-r-requires t c =
-    let fd = c.requires.0.0 in
     let hd = c.head-h.ensures in
     let inv = c.loop-i.invariant in
     let f = c.args.file.now in
@@ -506,11 +497,11 @@ eval_all-eval-r-requires t c =
     let lt = subst (λ (m : ℕ). c.loop-i.i < m) hd.parts c.loop-i-test.true in
     let i = c.loop-i.i in
     let g = going_left (left_suc n i lt) inv.3 in
-    (omega arith, (fd, going_ready g))
+    (omega arith, (going_ready g))
 
 pub eval_all-overflow_add-used : goal.eval_all-overflow_add-used
 eval_all-overflow_add-used t c =
-    let p = c.requires.0.1 in
+    let p = c.requires.0 in
     let tb = c.args.tab.now in
     let fr = c.args.frame.now in
     let hd = c.head-h.ensures in
@@ -527,12 +518,12 @@ eval_all-overflow_add-used t c =
     let K = c.eval-r.auto.new in
     let x = c.eval-r.new.new in
     let len = going_length g x K same in
-    let h = moved f (consts_of tb) c.args.level (node_of fr) (first_of fr) (cells_of fr) (before_of fr) (refl {a = c.loop-i.pos}) (tail_all u o) c.eval-r.ensures in
+    let h = moved f (consts_of tb) c.args.level fr.node fr.first fr.cells fr.before (refl {a = c.loop-i.pos}) (tail_all u o) c.eval-r.ensures in
     omega (arith, going_used g h len, p.room, p.small)
 
 pub eval_all-pass_all-s-requires : goal.eval_all-pass_all-s-requires
 eval_all-pass_all-s-requires t c =
-    let p = c.requires.0.1 in
+    let p = c.requires.0 in
     let tb = c.args.tab.now in
     let fr = c.args.frame.now in
     let hd = c.head-h.ensures in
@@ -549,12 +540,12 @@ eval_all-pass_all-s-requires t c =
     let K = c.eval-r.auto.new in
     let x = c.eval-r.new.new in
     let len = going_length g x K same in
-    let h = moved f (consts_of tb) c.args.level (node_of fr) (first_of fr) (cells_of fr) (before_of fr) (refl {a = c.loop-i.pos}) (tail_all u o) c.eval-r.ensures in
+    let h = moved f (consts_of tb) c.args.level fr.node fr.first fr.cells fr.before (refl {a = c.loop-i.pos}) (tail_all u o) c.eval-r.ensures in
     (subst (λ (m : ℕ). Passable f (rows_of tb) c.args.level m c.eval-r.result.next) (sym (ap (λ (m : ℕ). m - i - 1) hd.parts ∙ left_pass n i)) (going_passable g h len), rows_room tb _ p.plan.program.table.long)
 
 pub eval_all-overflow_add-result : goal.eval_all-overflow_add-result
 eval_all-overflow_add-result t c =
-    let p = c.requires.0.1 in
+    let p = c.requires.0 in
     let tb = c.args.tab.now in
     let fr = c.args.frame.now in
     let hd = c.head-h.ensures in
@@ -572,13 +563,13 @@ eval_all-overflow_add-result t c =
     let K = c.eval-r.auto.new in
     let x = c.eval-r.new.new in
     let len = going_length g x K same in
-    let h = moved f (consts_of tb) c.args.level (node_of fr) (first_of fr) (cells_of fr) (before_of fr) (refl {a = c.loop-i.pos}) (tail_all u o) c.eval-r.ensures in
+    let h = moved f (consts_of tb) c.args.level fr.node fr.first fr.cells fr.before (refl {a = c.loop-i.pos}) (tail_all u o) c.eval-r.ensures in
     let r = going_failed g h len c.in-Failure.c ((passed_all (is_call f a) (node_in f kc).inputs)) ((values_of n c.loop-i.to)) c.in-Failure.is ((subst (λ (m : ℕ). SkipsTo f c.args.level m c.eval-r.result.next c.pass_all-s.result) (ap (λ (m : ℕ). m - i - 1) hd.parts ∙ left_pass n i) c.pass_all-s.ensures)) in
     omega (arith, r.used_is, p.room, p.small)
 
 pub eval_all-returns-in-Failure : goal.eval_all-returns-in-Failure
 eval_all-returns-in-Failure t c =
-    let p = c.requires.0.1 in
+    let p = c.requires.0 in
     let tb = c.args.tab.now in
     let fr = c.args.frame.now in
     let hd = c.head-h.ensures in
@@ -596,12 +587,12 @@ eval_all-returns-in-Failure t c =
     let K = c.eval-r.auto.new in
     let x = c.eval-r.new.new in
     let len = going_length g x K same in
-    let h = moved f (consts_of tb) c.args.level (node_of fr) (first_of fr) (cells_of fr) (before_of fr) (refl {a = c.loop-i.pos}) (tail_all u o) c.eval-r.ensures in
+    let h = moved f (consts_of tb) c.args.level fr.node fr.first fr.cells fr.before (refl {a = c.loop-i.pos}) (tail_all u o) c.eval-r.ensures in
     (going_failed g h len c.in-Failure.c ((passed_all (is_call f a) (node_in f kc).inputs)) ((values_of n c.loop-i.to)) c.in-Failure.is ((subst (λ (m : ℕ). SkipsTo f c.args.level m c.eval-r.result.next c.pass_all-s.result) (ap (λ (m : ℕ). m - i - 1) hd.parts ∙ left_pass n i) c.pass_all-s.ensures)), inv.1)
 
 pub eval_all-pass_all-s-requires-in-Overflow : goal.eval_all-pass_all-s-requires-in-Overflow
 eval_all-pass_all-s-requires-in-Overflow t c =
-    let p = c.requires.0.1 in
+    let p = c.requires.0 in
     let tb = c.args.tab.now in
     let fr = c.args.frame.now in
     let hd = c.head-h.ensures in
@@ -618,12 +609,12 @@ eval_all-pass_all-s-requires-in-Overflow t c =
     let K = c.eval-r.auto.new in
     let x = c.eval-r.new.new in
     let len = going_length g x K same in
-    let h = moved f (consts_of tb) c.args.level (node_of fr) (first_of fr) (cells_of fr) (before_of fr) (refl {a = c.loop-i.pos}) (tail_all u o) c.eval-r.ensures in
+    let h = moved f (consts_of tb) c.args.level fr.node fr.first fr.cells fr.before (refl {a = c.loop-i.pos}) (tail_all u o) c.eval-r.ensures in
     (subst (λ (m : ℕ). Passable f (rows_of tb) c.args.level m c.eval-r.result.next) (sym (ap (λ (m : ℕ). m - i - 1) hd.parts ∙ left_pass n i)) (going_passable g h len), rows_room tb _ p.plan.program.table.long)
 
 pub eval_all-overflow_add-result-in-Overflow : goal.eval_all-overflow_add-result-in-Overflow
 eval_all-overflow_add-result-in-Overflow t c =
-    let p = c.requires.0.1 in
+    let p = c.requires.0 in
     let tb = c.args.tab.now in
     let fr = c.args.frame.now in
     let hd = c.head-h.ensures in
@@ -641,13 +632,13 @@ eval_all-overflow_add-result-in-Overflow t c =
     let K = c.eval-r.auto.new in
     let x = c.eval-r.new.new in
     let len = going_length g x K same in
-    let h = moved f (consts_of tb) c.args.level (node_of fr) (first_of fr) (cells_of fr) (before_of fr) (refl {a = c.loop-i.pos}) (tail_all u o) c.eval-r.ensures in
+    let h = moved f (consts_of tb) c.args.level fr.node fr.first fr.cells fr.before (refl {a = c.loop-i.pos}) (tail_all u o) c.eval-r.ensures in
     let r = going_overflowed g h len ((passed_all (is_call f a) (node_in f kc).inputs)) ((values_of n c.loop-i.to)) c.in-Overflow.is ((subst (λ (m : ℕ). SkipsTo f c.args.level m c.eval-r.result.next c.pass_all-s-in-Overflow.result) (ap (λ (m : ℕ). m - i - 1) hd.parts ∙ left_pass n i) c.pass_all-s-in-Overflow.ensures)) in
     omega (arith, r.used_is, p.room, p.small)
 
 pub eval_all-returns-in-Overflow : goal.eval_all-returns-in-Overflow
 eval_all-returns-in-Overflow t c =
-    let p = c.requires.0.1 in
+    let p = c.requires.0 in
     let tb = c.args.tab.now in
     let fr = c.args.frame.now in
     let hd = c.head-h.ensures in
@@ -665,12 +656,12 @@ eval_all-returns-in-Overflow t c =
     let K = c.eval-r.auto.new in
     let x = c.eval-r.new.new in
     let len = going_length g x K same in
-    let h = moved f (consts_of tb) c.args.level (node_of fr) (first_of fr) (cells_of fr) (before_of fr) (refl {a = c.loop-i.pos}) (tail_all u o) c.eval-r.ensures in
+    let h = moved f (consts_of tb) c.args.level fr.node fr.first fr.cells fr.before (refl {a = c.loop-i.pos}) (tail_all u o) c.eval-r.ensures in
     (going_overflowed g h len ((passed_all (is_call f a) (node_in f kc).inputs)) ((values_of n c.loop-i.to)) c.in-Overflow.is ((subst (λ (m : ℕ). SkipsTo f c.args.level m c.eval-r.result.next c.pass_all-s-in-Overflow.result) (ap (λ (m : ℕ). m - i - 1) hd.parts ∙ left_pass n i) c.pass_all-s-in-Overflow.ensures)), inv.1)
 
 pub eval_all-loop-i-preserved : goal.eval_all-loop-i-preserved
 eval_all-loop-i-preserved t c =
-    let p = c.requires.0.1 in
+    let p = c.requires.0 in
     let sv = c.requires.1 in
     let q = sv.passes in
     let tb = c.args.tab.now in
@@ -691,7 +682,7 @@ eval_all-loop-i-preserved t c =
     let K = c.eval-r.auto.new in
     let x = c.eval-r.new.new in
     let len = going_length g x K same in
-    let h = moved f (consts_of tb) c.args.level (node_of fr) (first_of fr) (cells_of fr) (before_of fr) (refl {a = c.loop-i.pos}) (tail_all u o) c.eval-r.ensures in
+    let h = moved f (consts_of tb) c.args.level fr.node fr.first fr.cells fr.before (refl {a = c.loop-i.pos}) (tail_all u o) c.eval-r.ensures in
     (omega (arith, lt), c.write_cell.auto.out ∙ inv.1, length_put u w x (omega (arith, inv.3.within, same)) K ∙ inv.2, going_turn g h len q.callee c.in-Value.is (λ e. c.passed.ensures.0 e ∙ ap (λ (x : ℕ). passed_by (is_call f a) (ty_of (code_at (tab_of tb) x i) e) c.in-Value.v) kE) c.passed.ensures.1 c.write_cell.ensures c.write_cell.auto.out)
 
 pub eval_all-returns : goal.eval_all-returns
@@ -704,7 +695,7 @@ eval_all-returns t c =
 
 pub eval_call-bounds-file-at : goal.eval_call-bounds-file-at
 eval_call-bounds-file-at t c =
-    let p = c.requires.0.1 in
+    let p = c.requires.0 in
     let b = c.requires.1 in
     let f = c.args.file.now in
     let a = c.args.at in
@@ -713,7 +704,7 @@ eval_call-bounds-file-at t c =
 
 pub eval_call-row-outputs-requires : goal.eval_call-row-outputs-requires
 eval_call-row-outputs-requires t c =
-    let p = c.requires.0.1 in
+    let p = c.requires.0 in
     let b = c.requires.1 in
     let tb = c.args.tab.now in
     let f = c.args.file.now in
@@ -725,7 +716,7 @@ eval_call-row-outputs-requires t c =
 
 pub eval_call-returns : goal.eval_call-returns
 eval_call-returns t c =
-    let p = c.requires.0.1 in
+    let p = c.requires.0 in
     let b = c.requires.1 in
     let fr = c.args.frame.now in
     let f = c.args.file.now in
@@ -734,26 +725,24 @@ eval_call-returns t c =
     let k = c.from-k.result in
     let kE = c.from-k.ensures in
     let C = c.enter-r.new.args in
-    call_single p b k n kE refl (first_of fr) C c.row-outputs.result c.enter-r.ensures.0 c.row-outputs.ensures c.single_out.ensures
+    call_single p b k n kE refl fr.first C c.row-outputs.result c.enter-r.ensures.0 c.row-outputs.ensures c.single_out.ensures
 
 pub eval_first-eval-t-requires : goal.eval_first-eval-t-requires
 eval_first-eval-t-requires t c =
-    let fd = c.requires.0 in
-    let p = c.requires.1 in
-    (omega arith, (fd, ready_first p))
+    let p = c.requires in
+    (omega arith, (ready_first p))
 
 pub eval_first-chosen-to-requires : goal.eval_first-chosen-to-requires
 eval_first-chosen-to-requires t c =
-    let fd = c.requires.0 in
-    let p = c.requires.1 in
+    let p = c.requires in
     let h = c.eval-t.ensures in
     let K = c.eval-t.auto.new in
     let r = ready_rest p h K in
-    rw h.next_is (fd, r.plan, r.present, omega (arith, r.room, r.small))
+    rw h.next_is (r.plan, r.present, omega (arith, r.room, r.small))
 
 pub eval_first-pass-s-requires : goal.eval_first-pass-s-requires
 eval_first-pass-s-requires t c =
-    let p = c.requires.1 in
+    let p = c.requires in
     let tb = c.args.tab.now in
     let h = c.eval-t.ensures in
     let K = c.eval-t.auto.new in
@@ -761,21 +750,21 @@ eval_first-pass-s-requires t c =
 
 pub eval_first-slice_bounds-step_untaken-count : goal.eval_first-slice_bounds-step_untaken-count
 eval_first-slice_bounds-step_untaken-count t c =
-    let p = c.requires.1 in
+    let p = c.requires in
     let le = ready_seg p in
     let h = c.eval-t.ensures in
     omega (arith, h.used_is, le)
 
 pub eval_first-slice_bounds-step_untaken-start : goal.eval_first-slice_bounds-step_untaken-start
 eval_first-slice_bounds-step_untaken-start t c =
-    let p = c.requires.1 in
+    let p = c.requires in
     let le = ready_seg p in
     let h = c.eval-t.ensures in
     omega (arith, h.used_is, le)
 
 pub eval_first-slice_bounds-step_untaken-count-then-runs : goal.eval_first-slice_bounds-step_untaken-count-then-runs
 eval_first-slice_bounds-step_untaken-count-then-runs t c =
-    let p = c.requires.1 in
+    let p = c.requires in
     let le = ready_seg p in
     let h = c.eval-t.ensures in
     let K = c.eval-t.auto.new in
@@ -783,7 +772,7 @@ eval_first-slice_bounds-step_untaken-count-then-runs t c =
 
 pub eval_first-slice_bounds-step_untaken-start-then-runs : goal.eval_first-slice_bounds-step_untaken-start-then-runs
 eval_first-slice_bounds-step_untaken-start-then-runs t c =
-    let p = c.requires.1 in
+    let p = c.requires in
     let le = ready_seg p in
     let h = c.eval-t.ensures in
     let K = c.eval-t.auto.new in
@@ -791,15 +780,14 @@ eval_first-slice_bounds-step_untaken-start-then-runs t c =
 
 pub eval_first-step_untaken-other-requires : goal.eval_first-step_untaken-other-requires
 eval_first-step_untaken-other-requires t c =
-    let fd = c.requires.0 in
-    let p = c.requires.1 in
+    let p = c.requires in
     let h = c.eval-t.ensures in
     let K = c.eval-t.auto.new in
-    (omega arith, (fd, rw h.next_is (ready_rest p h K)))
+    (omega arith, (rw h.next_is (ready_rest p h K)))
 
 pub eval_first-overflow_add-result : goal.eval_first-overflow_add-result
 eval_first-overflow_add-result t c =
-    let p = c.requires.1 in
+    let p = c.requires in
     let f = c.args.file.now in
     let L = c.args.level in
     let a = c.args.at in
@@ -811,7 +799,7 @@ eval_first-overflow_add-result t c =
 
 pub eval_first-overflow_add-result-else-runs : goal.eval_first-overflow_add-result-else-runs
 eval_first-overflow_add-result-else-runs t c =
-    let p = c.requires.1 in
+    let p = c.requires in
     let f = c.args.file.now in
     let L = c.args.level in
     let a = c.args.at in
@@ -823,17 +811,17 @@ eval_first-overflow_add-result-else-runs t c =
 
 pub eval_first-returns-then-runs : goal.eval_first-returns-then-runs
 eval_first-returns-then-runs t c =
-    let p = c.requires.1 in
+    let p = c.requires in
     let fr = c.args.frame.now in
     let tb = c.args.tab.now in
     let f = c.args.file.now in
     let kk = consts_of tb in
     let L = c.args.level in
     let a = c.args.at in
-    let n = node_of fr in
-    let F = first_of fr in
-    let cl = cells_of fr in
-    let bb = before_of fr in
+    let n = fr.node in
+    let F = fr.first in
+    let cl = fr.cells in
+    let bb = fr.before in
     let o = c.args.old.now in
     let le = ready_seg p in
     let mid = end_at f L a in
@@ -850,17 +838,17 @@ eval_first-returns-then-runs t c =
 
 pub eval_first-returns-else-runs : goal.eval_first-returns-else-runs
 eval_first-returns-else-runs t c =
-    let p = c.requires.1 in
+    let p = c.requires in
     let fr = c.args.frame.now in
     let tb = c.args.tab.now in
     let f = c.args.file.now in
     let kk = consts_of tb in
     let L = c.args.level in
     let a = c.args.at in
-    let n = node_of fr in
-    let F = first_of fr in
-    let cl = cells_of fr in
-    let bb = before_of fr in
+    let n = fr.node in
+    let F = fr.first in
+    let cl = fr.cells in
+    let bb = fr.before in
     let o = c.args.old.now in
     let mid = end_at f L a in
     let n1 = seg_at f L a in
@@ -874,7 +862,7 @@ eval_first-returns-else-runs t c =
 
 pub eval_form-bounds-file-at : goal.eval_form-bounds-file-at
 eval_form-bounds-file-at t c =
-    let p = c.requires.1 in
+    let p = c.requires in
     let f = c.args.file.now in
     let L = c.args.level in
     let a = c.args.at in
@@ -883,7 +871,7 @@ eval_form-bounds-file-at t c =
 
 pub eval_form-overflow_add-p : goal.eval_form-overflow_add-p
 eval_form-overflow_add-p t c =
-    let p = c.requires.1 in
+    let p = c.requires in
     let f = c.args.file.now in
     let L = c.args.level in
     let a = c.args.at in
@@ -892,7 +880,7 @@ eval_form-overflow_add-p t c =
 
 pub eval_form-bounds-file-p : goal.eval_form-bounds-file-p
 eval_form-bounds-file-p t c =
-    let p = c.requires.1 in
+    let p = c.requires in
     let f = c.args.file.now in
     let L = c.args.level in
     let a = c.args.at in
@@ -901,7 +889,7 @@ eval_form-bounds-file-p t c =
 
 pub eval_form-overflow_sub-level : goal.eval_form-overflow_sub-level
 eval_form-overflow_sub-level t c =
-    let p = c.requires.1 in
+    let p = c.requires in
     let f = c.args.file.now in
     let L = c.args.level in
     let a = c.args.at in
@@ -911,18 +899,17 @@ eval_form-overflow_sub-level t c =
 
 pub eval_form-eval_form-r-requires : goal.eval_form-eval_form-r-requires
 eval_form-eval_form-r-requires t c =
-    let fd = c.requires.0 in
-    let p = c.requires.1 in
+    let p = c.requires in
     let f = c.args.file.now in
     let L = c.args.level in
     let a = c.args.at in
     let h = plan_head f p.plan in
     let deep = reads_deep f L a h in
-    (omega (arith, deep), (fd, ready_parts p (unary_form f L a h c.in-5.is).1 refl))
+    (omega (arith, deep), (ready_parts p (unary_form f L a h c.in-5.is).1 refl))
 
 pub eval_form-overflow_sub-level-in-6 : goal.eval_form-overflow_sub-level-in-6
 eval_form-overflow_sub-level-in-6 t c =
-    let p = c.requires.1 in
+    let p = c.requires in
     let f = c.args.file.now in
     let L = c.args.level in
     let a = c.args.at in
@@ -932,18 +919,17 @@ eval_form-overflow_sub-level-in-6 t c =
 
 pub eval_form-eval_two-requires : goal.eval_form-eval_two-requires
 eval_form-eval_two-requires t c =
-    let fd = c.requires.0 in
-    let p = c.requires.1 in
+    let p = c.requires in
     let f = c.args.file.now in
     let L = c.args.level in
     let a = c.args.at in
     let h = plan_head f p.plan in
     let deep = reads_deep f L a h in
-    (omega (arith, deep), (fd, ready_parts p (binary_form f L a h c.in-6.is).1 refl))
+    (omega (arith, deep), (ready_parts p (binary_form f L a h c.in-6.is).1 refl))
 
 pub eval_form-overflow_sub-level-in-7 : goal.eval_form-overflow_sub-level-in-7
 eval_form-overflow_sub-level-in-7 t c =
-    let p = c.requires.1 in
+    let p = c.requires in
     let f = c.args.file.now in
     let L = c.args.level in
     let a = c.args.at in
@@ -953,18 +939,17 @@ eval_form-overflow_sub-level-in-7 t c =
 
 pub eval_form-eval_if-requires : goal.eval_form-eval_if-requires
 eval_form-eval_if-requires t c =
-    let fd = c.requires.0 in
-    let p = c.requires.1 in
+    let p = c.requires in
     let f = c.args.file.now in
     let L = c.args.level in
     let a = c.args.at in
     let h = plan_head f p.plan in
     let deep = reads_deep f L a h in
-    (omega (arith, deep), (fd, ready_parts p ((if_form f L a h c.in-7.is)) refl))
+    (omega (arith, deep), (ready_parts p ((if_form f L a h c.in-7.is)) refl))
 
-pub eval_form-overflow_sub-level-then-is_first : goal.eval_form-overflow_sub-level-then-is_first
-eval_form-overflow_sub-level-then-is_first t c =
-    let p = c.requires.1 in
+pub eval_form-overflow_sub-level-then-frame : goal.eval_form-overflow_sub-level-then-frame
+eval_form-overflow_sub-level-then-frame t c =
+    let p = c.requires in
     let f = c.args.file.now in
     let L = c.args.level in
     let a = c.args.at in
@@ -974,18 +959,17 @@ eval_form-overflow_sub-level-then-is_first t c =
 
 pub eval_form-eval_first-requires : goal.eval_form-eval_first-requires
 eval_form-eval_first-requires t c =
-    let fd = c.requires.0 in
-    let p = c.requires.1 in
+    let p = c.requires in
     let f = c.args.file.now in
     let L = c.args.level in
     let a = c.args.at in
     let h = plan_head f p.plan in
     let deep = reads_deep f L a h in
-    (omega (arith, deep), (fd, ready_parts p ((arrow_form f L a h c.in-9.is)) refl))
+    (omega (arith, deep), (ready_parts p ((arrow_form f L a h c.in-9.is)) refl))
 
-pub eval_form-overflow_sub-level-else-is_first : goal.eval_form-overflow_sub-level-else-is_first
-eval_form-overflow_sub-level-else-is_first t c =
-    let p = c.requires.1 in
+pub eval_form-overflow_sub-level-else-frame : goal.eval_form-overflow_sub-level-else-frame
+eval_form-overflow_sub-level-else-frame t c =
+    let p = c.requires in
     let f = c.args.file.now in
     let L = c.args.level in
     let a = c.args.at in
@@ -995,18 +979,17 @@ eval_form-overflow_sub-level-else-is_first t c =
 
 pub eval_form-eval_second-requires : goal.eval_form-eval_second-requires
 eval_form-eval_second-requires t c =
-    let fd = c.requires.0 in
-    let p = c.requires.1 in
+    let p = c.requires in
     let f = c.args.file.now in
     let L = c.args.level in
     let a = c.args.at in
     let h = plan_head f p.plan in
     let deep = reads_deep f L a h in
-    (omega (arith, deep), (fd, ready_parts p ((arrow_form f L a h c.in-9.is)) refl))
+    (omega (arith, deep), (ready_parts p ((arrow_form f L a h c.in-9.is)) refl))
 
 pub eval_form-bounds-file-p-in-10 : goal.eval_form-bounds-file-p-in-10
 eval_form-bounds-file-p-in-10 t c =
-    let p = c.requires.1 in
+    let p = c.requires in
     let f = c.args.file.now in
     let L = c.args.level in
     let a = c.args.at in
@@ -1015,7 +998,7 @@ eval_form-bounds-file-p-in-10 t c =
 
 pub eval_form-overflow_sub-level-in-10 : goal.eval_form-overflow_sub-level-in-10
 eval_form-overflow_sub-level-in-10 t c =
-    let p = c.requires.1 in
+    let p = c.requires in
     let f = c.args.file.now in
     let L = c.args.level in
     let a = c.args.at in
@@ -1025,36 +1008,35 @@ eval_form-overflow_sub-level-in-10 t c =
 
 pub eval_form-eval_form-r-requires-in-10 : goal.eval_form-eval_form-r-requires-in-10
 eval_form-eval_form-r-requires-in-10 t c =
-    let fd = c.requires.0 in
-    let p = c.requires.1 in
+    let p = c.requires in
     let f = c.args.file.now in
     let L = c.args.level in
     let a = c.args.at in
     let h = plan_head f p.plan in
     let deep = reads_deep f L a h in
     let e : a + 1 + c.ty_size.result ≡ a + (1 + ty_size (cast_form f L a h c.in-10.is).0) = omega (arith, c.ty_size.ensures, (cast_form f L a h c.in-10.is).3) in
-    (omega (arith, deep), (fd, rw e (ready_parts p (cast_form f L a h c.in-10.is).1 refl)))
+    (omega (arith, deep), (rw e (ready_parts p (cast_form f L a h c.in-10.is).1 refl)))
 
 pub eval_form-pass-s-requires : goal.eval_form-pass-s-requires
 eval_form-pass-s-requires t c =
-    let p = c.requires.1 in
+    let p = c.requires in
     let tb = c.args.tab.now in
     (ready_pass p, rows_room tb _ p.plan.program.table.long)
 
 pub eval_form-returns-in-5 : goal.eval_form-returns-in-5
 unfolding eval
 eval_form-returns-in-5 t c =
-    let p = c.requires.1 in
+    let p = c.requires in
     let fr = c.args.frame.now in
     let tb = c.args.tab.now in
     let f = c.args.file.now in
     let kk = consts_of tb in
     let L = c.args.level in
     let a = c.args.at in
-    let n = node_of fr in
-    let F = first_of fr in
-    let cl = cells_of fr in
-    let bb = before_of fr in
+    let n = fr.node in
+    let F = fr.first in
+    let cl = fr.cells in
+    let bb = fr.before in
     let h = plan_head f p.plan in
     let R = p.plan.reads in
     one_evals f kk L a n F cl bb (λ (s : List ℕ). map_eval (unary_of (unary_form f L a h c.in-5.is).0) (eval_in f kk n F cl bb (expr_at f (L - 1) (a + 2)) s)) R (unary_form f L a h c.in-5.is).1 refl (λ s. refl) (mapped (unary_of (unary_form f L a h c.in-5.is).0) c.eval_form-r.ensures (unary_out_is (get_or f (a + 1) 0) (unary_form f L a h c.in-5.is).0 c.eval_form-r.result.out (unary_form f L a h c.in-5.is).2 c.unary_out.ensures))
@@ -1062,17 +1044,17 @@ eval_form-returns-in-5 t c =
 pub eval_form-returns-in-6 : goal.eval_form-returns-in-6
 unfolding eval
 eval_form-returns-in-6 t c =
-    let p = c.requires.1 in
+    let p = c.requires in
     let fr = c.args.frame.now in
     let tb = c.args.tab.now in
     let f = c.args.file.now in
     let kk = consts_of tb in
     let L = c.args.level in
     let a = c.args.at in
-    let n = node_of fr in
-    let F = first_of fr in
-    let cl = cells_of fr in
-    let bb = before_of fr in
+    let n = fr.node in
+    let F = fr.first in
+    let cl = fr.cells in
+    let bb = fr.before in
     let h = plan_head f p.plan in
     let R = p.plan.reads in
     form_evals f kk L a n F cl bb (two_in f kk (get_or f (a + 1) 0) (L - 1) (a + 2) n F cl bb) R (binary_form f L a h c.in-6.is).1 refl (λ s. binary_is (get_or f (a + 1) 0) (binary_form f L a h c.in-6.is).0 (binary_form f L a h c.in-6.is).2 (eval_in f kk n F cl bb (expr_at f (L - 1) (a + 2)) (take (seg_at f (L - 1) (a + 2)) s)) (eval_in f kk n F cl bb (expr_at f (L - 1) (end_at f (L - 1) (a + 2)))) (drop (seg_at f (L - 1) (a + 2)) s)) c.eval_two.ensures
@@ -1080,71 +1062,71 @@ eval_form-returns-in-6 t c =
 pub eval_form-returns-in-7 : goal.eval_form-returns-in-7
 unfolding eval
 eval_form-returns-in-7 t c =
-    let p = c.requires.1 in
+    let p = c.requires in
     let fr = c.args.frame.now in
     let tb = c.args.tab.now in
     let f = c.args.file.now in
     let kk = consts_of tb in
     let L = c.args.level in
     let a = c.args.at in
-    let n = node_of fr in
-    let F = first_of fr in
-    let cl = cells_of fr in
-    let bb = before_of fr in
+    let n = fr.node in
+    let F = fr.first in
+    let cl = fr.cells in
+    let bb = fr.before in
     let h = plan_head f p.plan in
     let R = p.plan.reads in
     form_evals f kk L a n F cl bb (if_in f kk (L - 1) (a + 1) n F cl bb) R ((if_form f L a h c.in-7.is)) refl (λ s. refl) c.eval_if.ensures
 
-pub eval_form-returns-then-is_first : goal.eval_form-returns-then-is_first
+pub eval_form-returns-then-frame : goal.eval_form-returns-then-frame
 unfolding eval
-eval_form-returns-then-is_first t c =
-    let p = c.requires.1 in
+eval_form-returns-then-frame t c =
+    let p = c.requires in
     let fr = c.args.frame.now in
     let tb = c.args.tab.now in
     let f = c.args.file.now in
     let kk = consts_of tb in
     let L = c.args.level in
     let a = c.args.at in
-    let n = node_of fr in
-    let F = first_of fr in
-    let cl = cells_of fr in
-    let bb = before_of fr in
+    let n = fr.node in
+    let F = fr.first in
+    let cl = fr.cells in
+    let bb = fr.before in
     let h = plan_head f p.plan in
     let R = p.plan.reads in
-    form_evals f kk L a n F cl bb (choose_in f kk true (L - 1) (a + 1) n F cl bb) R ((arrow_form f L a h c.in-9.is)) refl (λ s. first_is f kk (L - 1) (a + 1) n F true cl bb s (sym c.is_first.ensures ∙ c.if-is_first.true)) c.eval_first.ensures
+    form_evals f kk L a n F cl bb (choose_in f kk true (L - 1) (a + 1) n F cl bb) R ((arrow_form f L a h c.in-9.is)) refl (λ s. first_is f kk (L - 1) (a + 1) n F true cl bb s (c.if-frame.true)) c.eval_first.ensures
 
-pub eval_form-returns-else-is_first : goal.eval_form-returns-else-is_first
+pub eval_form-returns-else-frame : goal.eval_form-returns-else-frame
 unfolding eval
-eval_form-returns-else-is_first t c =
-    let p = c.requires.1 in
+eval_form-returns-else-frame t c =
+    let p = c.requires in
     let fr = c.args.frame.now in
     let tb = c.args.tab.now in
     let f = c.args.file.now in
     let kk = consts_of tb in
     let L = c.args.level in
     let a = c.args.at in
-    let n = node_of fr in
-    let F = first_of fr in
-    let cl = cells_of fr in
-    let bb = before_of fr in
+    let n = fr.node in
+    let F = fr.first in
+    let cl = fr.cells in
+    let bb = fr.before in
     let h = plan_head f p.plan in
     let R = p.plan.reads in
-    form_evals f kk L a n F cl bb (choose_in f kk false (L - 1) (a + 1) n F cl bb) R ((arrow_form f L a h c.in-9.is)) refl (λ s. first_is f kk (L - 1) (a + 1) n F false cl bb s (sym c.is_first.ensures ∙ c.if-is_first.false)) c.eval_second.ensures
+    form_evals f kk L a n F cl bb (choose_in f kk false (L - 1) (a + 1) n F cl bb) R ((arrow_form f L a h c.in-9.is)) refl (λ s. first_is f kk (L - 1) (a + 1) n F false cl bb s (c.if-frame.false)) c.eval_second.ensures
 
 pub eval_form-returns-in-10 : goal.eval_form-returns-in-10
 unfolding eval
 eval_form-returns-in-10 t c =
-    let p = c.requires.1 in
+    let p = c.requires in
     let fr = c.args.frame.now in
     let tb = c.args.tab.now in
     let f = c.args.file.now in
     let kk = consts_of tb in
     let L = c.args.level in
     let a = c.args.at in
-    let n = node_of fr in
-    let F = first_of fr in
-    let cl = cells_of fr in
-    let bb = before_of fr in
+    let n = fr.node in
+    let F = fr.first in
+    let cl = fr.cells in
+    let bb = fr.before in
     let o = c.args.old.now in
     let h = plan_head f p.plan in
     let R = p.plan.reads in
@@ -1154,17 +1136,17 @@ eval_form-returns-in-10 t c =
 
 pub eval_form-returns-in_default : goal.eval_form-returns-in_default
 eval_form-returns-in_default t c =
-    let p = c.requires.1 in
+    let p = c.requires in
     let fr = c.args.frame.now in
     let tb = c.args.tab.now in
     let f = c.args.file.now in
     let kk = consts_of tb in
     let L = c.args.level in
     let a = c.args.at in
-    let n = node_of fr in
-    let F = first_of fr in
-    let cl = cells_of fr in
-    let bb = before_of fr in
+    let n = fr.node in
+    let F = fr.first in
+    let cl = fr.cells in
+    let bb = fr.before in
     let h = plan_head f p.plan in
     let R = p.plan.reads in
     let leaf : Leaf (get_or f a 0) = search rules in
@@ -1172,27 +1154,26 @@ eval_form-returns-in_default t c =
 
 pub eval_if-eval-c-requires : goal.eval_if-eval-c-requires
 eval_if-eval-c-requires t c =
-    let fd = c.requires.0 in
-    let p = c.requires.1 in
-    (omega arith, (fd, ready_first p))
+    let p = c.requires in
+    (omega arith, (ready_first p))
 
 pub eval_if-slice_bounds-eval_first-count : goal.eval_if-slice_bounds-eval_first-count
 eval_if-slice_bounds-eval_first-count t c =
-    let p = c.requires.1 in
+    let p = c.requires in
     let le = ready_seg p in
     let h = c.eval-c.ensures in
     omega (arith, h.used_is, le)
 
 pub eval_if-slice_bounds-eval_first-start : goal.eval_if-slice_bounds-eval_first-start
 eval_if-slice_bounds-eval_first-start t c =
-    let p = c.requires.1 in
+    let p = c.requires in
     let le = ready_seg p in
     let h = c.eval-c.ensures in
     omega (arith, h.used_is, le)
 
 pub eval_if-slice_bounds-eval_first-count-in-First : goal.eval_if-slice_bounds-eval_first-count-in-First
 eval_if-slice_bounds-eval_first-count-in-First t c =
-    let p = c.requires.1 in
+    let p = c.requires in
     let le = ready_seg p in
     let h = c.eval-c.ensures in
     let K = c.eval-c.auto.new in
@@ -1200,7 +1181,7 @@ eval_if-slice_bounds-eval_first-count-in-First t c =
 
 pub eval_if-slice_bounds-eval_first-start-in-First : goal.eval_if-slice_bounds-eval_first-start-in-First
 eval_if-slice_bounds-eval_first-start-in-First t c =
-    let p = c.requires.1 in
+    let p = c.requires in
     let le = ready_seg p in
     let h = c.eval-c.ensures in
     let K = c.eval-c.auto.new in
@@ -1208,25 +1189,24 @@ eval_if-slice_bounds-eval_first-start-in-First t c =
 
 pub eval_if-eval_first-r-requires : goal.eval_if-eval_first-r-requires
 eval_if-eval_first-r-requires t c =
-    let fd = c.requires.0 in
-    let p = c.requires.1 in
+    let p = c.requires in
     let h = c.eval-c.ensures in
     let K = c.eval-c.auto.new in
-    (omega arith, (fd, rw h.next_is (ready_rest p h K)))
+    (omega arith, (rw h.next_is (ready_rest p h K)))
 
 pub eval_if-overflow_add-result : goal.eval_if-overflow_add-result
 eval_if-overflow_add-result t c =
-    let p = c.requires.1 in
+    let p = c.requires in
     let fr = c.args.frame.now in
     let tb = c.args.tab.now in
     let f = c.args.file.now in
     let kk = consts_of tb in
     let L = c.args.level in
     let a = c.args.at in
-    let n = node_of fr in
-    let F = first_of fr in
-    let cl = cells_of fr in
-    let bb = before_of fr in
+    let n = fr.node in
+    let F = fr.first in
+    let cl = fr.cells in
+    let bb = fr.before in
     let h = c.eval-c.ensures in
     let segs = segs_cons f L 2 a p.plan.reads in
     let g1 = moved_choice f kk true L n F cl bb c.eval-c.ensures.next_is (rest_old c.eval-c.ensures) c.eval_first-r.ensures in
@@ -1234,21 +1214,21 @@ eval_if-overflow_add-result t c =
 
 pub eval_if-slice_bounds-eval_second-count : goal.eval_if-slice_bounds-eval_second-count
 eval_if-slice_bounds-eval_second-count t c =
-    let p = c.requires.1 in
+    let p = c.requires in
     let le = ready_seg p in
     let h = c.eval-c.ensures in
     omega (arith, h.used_is, le)
 
 pub eval_if-slice_bounds-eval_second-start : goal.eval_if-slice_bounds-eval_second-start
 eval_if-slice_bounds-eval_second-start t c =
-    let p = c.requires.1 in
+    let p = c.requires in
     let le = ready_seg p in
     let h = c.eval-c.ensures in
     omega (arith, h.used_is, le)
 
 pub eval_if-slice_bounds-eval_second-count-in-Second : goal.eval_if-slice_bounds-eval_second-count-in-Second
 eval_if-slice_bounds-eval_second-count-in-Second t c =
-    let p = c.requires.1 in
+    let p = c.requires in
     let le = ready_seg p in
     let h = c.eval-c.ensures in
     let K = c.eval-c.auto.new in
@@ -1256,7 +1236,7 @@ eval_if-slice_bounds-eval_second-count-in-Second t c =
 
 pub eval_if-slice_bounds-eval_second-start-in-Second : goal.eval_if-slice_bounds-eval_second-start-in-Second
 eval_if-slice_bounds-eval_second-start-in-Second t c =
-    let p = c.requires.1 in
+    let p = c.requires in
     let le = ready_seg p in
     let h = c.eval-c.ensures in
     let K = c.eval-c.auto.new in
@@ -1264,25 +1244,24 @@ eval_if-slice_bounds-eval_second-start-in-Second t c =
 
 pub eval_if-eval_second-r-requires : goal.eval_if-eval_second-r-requires
 eval_if-eval_second-r-requires t c =
-    let fd = c.requires.0 in
-    let p = c.requires.1 in
+    let p = c.requires in
     let h = c.eval-c.ensures in
     let K = c.eval-c.auto.new in
-    (omega arith, (fd, rw h.next_is (ready_rest p h K)))
+    (omega arith, (rw h.next_is (ready_rest p h K)))
 
 pub eval_if-overflow_add-result-in-Second : goal.eval_if-overflow_add-result-in-Second
 eval_if-overflow_add-result-in-Second t c =
-    let p = c.requires.1 in
+    let p = c.requires in
     let fr = c.args.frame.now in
     let tb = c.args.tab.now in
     let f = c.args.file.now in
     let kk = consts_of tb in
     let L = c.args.level in
     let a = c.args.at in
-    let n = node_of fr in
-    let F = first_of fr in
-    let cl = cells_of fr in
-    let bb = before_of fr in
+    let n = fr.node in
+    let F = fr.first in
+    let cl = fr.cells in
+    let bb = fr.before in
     let h = c.eval-c.ensures in
     let segs = segs_cons f L 2 a p.plan.reads in
     let g2 = moved_choice f kk false L n F cl bb c.eval-c.ensures.next_is (rest_old c.eval-c.ensures) c.eval_second-r.ensures in
@@ -1290,7 +1269,7 @@ eval_if-overflow_add-result-in-Second t c =
 
 pub eval_if-pass_all-s-requires : goal.eval_if-pass_all-s-requires
 eval_if-pass_all-s-requires t c =
-    let p = c.requires.1 in
+    let p = c.requires in
     let tb = c.args.tab.now in
     let h = c.eval-c.ensures in
     let K = c.eval-c.auto.new in
@@ -1298,7 +1277,7 @@ eval_if-pass_all-s-requires t c =
 
 pub eval_if-overflow_add-result-in-Neither : goal.eval_if-overflow_add-result-in-Neither
 eval_if-overflow_add-result-in-Neither t c =
-    let p = c.requires.1 in
+    let p = c.requires in
     let f = c.args.file.now in
     let L = c.args.level in
     let a = c.args.at in
@@ -1309,17 +1288,17 @@ eval_if-overflow_add-result-in-Neither t c =
 
 pub eval_if-returns-in-First : goal.eval_if-returns-in-First
 eval_if-returns-in-First t c =
-    let p = c.requires.1 in
+    let p = c.requires in
     let fr = c.args.frame.now in
     let tb = c.args.tab.now in
     let f = c.args.file.now in
     let kk = consts_of tb in
     let L = c.args.level in
     let a = c.args.at in
-    let n = node_of fr in
-    let F = first_of fr in
-    let cl = cells_of fr in
-    let bb = before_of fr in
+    let n = fr.node in
+    let F = fr.first in
+    let cl = fr.cells in
+    let bb = fr.before in
     let le = ready_seg p in
     let mid = end_at f L a in
     let n1 = seg_at f L a in
@@ -1333,17 +1312,17 @@ eval_if-returns-in-First t c =
 
 pub eval_if-returns-in-Second : goal.eval_if-returns-in-Second
 eval_if-returns-in-Second t c =
-    let p = c.requires.1 in
+    let p = c.requires in
     let fr = c.args.frame.now in
     let tb = c.args.tab.now in
     let f = c.args.file.now in
     let kk = consts_of tb in
     let L = c.args.level in
     let a = c.args.at in
-    let n = node_of fr in
-    let F = first_of fr in
-    let cl = cells_of fr in
-    let bb = before_of fr in
+    let n = fr.node in
+    let F = fr.first in
+    let cl = fr.cells in
+    let bb = fr.before in
     let le = ready_seg p in
     let mid = end_at f L a in
     let n1 = seg_at f L a in
@@ -1357,17 +1336,17 @@ eval_if-returns-in-Second t c =
 
 pub eval_if-returns-in-Neither : goal.eval_if-returns-in-Neither
 eval_if-returns-in-Neither t c =
-    let p = c.requires.1 in
+    let p = c.requires in
     let fr = c.args.frame.now in
     let tb = c.args.tab.now in
     let f = c.args.file.now in
     let kk = consts_of tb in
     let L = c.args.level in
     let a = c.args.at in
-    let n = node_of fr in
-    let F = first_of fr in
-    let cl = cells_of fr in
-    let bb = before_of fr in
+    let n = fr.node in
+    let F = fr.first in
+    let cl = fr.cells in
+    let bb = fr.before in
     let mid = end_at f L a in
     let n1 = seg_at f L a in
     let h = c.eval-c.ensures in
@@ -1378,13 +1357,13 @@ eval_if-returns-in-Neither t c =
 
 pub eval_second-pass-s-requires : goal.eval_second-pass-s-requires
 eval_second-pass-s-requires t c =
-    let p = c.requires.1 in
+    let p = c.requires in
     let tb = c.args.tab.now in
     (ready_pass (ready_first p), rows_room tb _ p.plan.program.table.long)
 
 pub eval_second-slice_bounds-eval-count : goal.eval_second-slice_bounds-eval-count
 eval_second-slice_bounds-eval-count t c =
-    let p = c.requires.1 in
+    let p = c.requires in
     let f = c.args.file.now in
     let L = c.args.level in
     let a = c.args.at in
@@ -1394,7 +1373,7 @@ eval_second-slice_bounds-eval-count t c =
 
 pub eval_second-slice_bounds-eval-start : goal.eval_second-slice_bounds-eval-start
 eval_second-slice_bounds-eval-start t c =
-    let p = c.requires.1 in
+    let p = c.requires in
     let f = c.args.file.now in
     let L = c.args.level in
     let a = c.args.at in
@@ -1404,7 +1383,7 @@ eval_second-slice_bounds-eval-start t c =
 
 pub eval_second-slice_bounds-eval-count-2 : goal.eval_second-slice_bounds-eval-count-2
 eval_second-slice_bounds-eval-count-2 t c =
-    let p = c.requires.1 in
+    let p = c.requires in
     let f = c.args.file.now in
     let L = c.args.level in
     let a = c.args.at in
@@ -1414,7 +1393,7 @@ eval_second-slice_bounds-eval-count-2 t c =
 
 pub eval_second-slice_bounds-eval-start-2 : goal.eval_second-slice_bounds-eval-start-2
 eval_second-slice_bounds-eval-start-2 t c =
-    let p = c.requires.1 in
+    let p = c.requires in
     let f = c.args.file.now in
     let L = c.args.level in
     let a = c.args.at in
@@ -1424,8 +1403,7 @@ eval_second-slice_bounds-eval-start-2 t c =
 
 pub eval_second-eval-e-requires : goal.eval_second-eval-e-requires
 eval_second-eval-e-requires t c =
-    let fd = c.requires.0 in
-    let p = c.requires.1 in
+    let p = c.requires in
     let f = c.args.file.now in
     let L = c.args.level in
     let a = c.args.at in
@@ -1433,18 +1411,17 @@ eval_second-eval-e-requires t c =
     let q = skip_one f L a (ready_first p).plan.reads c.pass-s.ensures in
     let U = c.pass-s.result.used in
     let e = (skip_one f L a (ready_first p).plan.reads c.pass-s.ensures).next_is in
-    (omega arith, (fd, rw e (ready_tail U (tail_of U o) (tail_of U c.args.new.now) p q.used_is (tail_all U o) (tail_all U c.args.new.now ∙ ap (drop U) p.same))))
+    (omega arith, (rw e (ready_tail U (tail_of U o) (tail_of U c.args.new.now) p q.used_is (tail_all U o) (tail_all U c.args.new.now ∙ ap (drop U) p.same))))
 
 pub eval_second-chosen-eo-requires : goal.eval_second-chosen-eo-requires
 eval_second-chosen-eo-requires t c =
-    let fd = c.requires.0 in
-    let p = c.requires.1 in
+    let p = c.requires in
     let r = ready_first p in
-    (fd, r.plan, r.present, omega (arith, r.room, r.small))
+    (r.plan, r.present, omega (arith, r.room, r.small))
 
 pub eval_second-slice_bounds-step_untaken-end : goal.eval_second-slice_bounds-step_untaken-end
 eval_second-slice_bounds-step_untaken-end t c =
-    let p = c.requires.1 in
+    let p = c.requires in
     let f = c.args.file.now in
     let L = c.args.level in
     let a = c.args.at in
@@ -1456,7 +1433,7 @@ eval_second-slice_bounds-step_untaken-end t c =
 
 pub eval_second-slice_bounds-step_untaken-end-then-runs : goal.eval_second-slice_bounds-step_untaken-end-then-runs
 eval_second-slice_bounds-step_untaken-end-then-runs t c =
-    let p = c.requires.1 in
+    let p = c.requires in
     let f = c.args.file.now in
     let L = c.args.level in
     let a = c.args.at in
@@ -1471,7 +1448,7 @@ eval_second-slice_bounds-step_untaken-end-then-runs t c =
 
 pub eval_second-slice_bounds-step_untaken-end-then-runs-2 : goal.eval_second-slice_bounds-step_untaken-end-then-runs-2
 eval_second-slice_bounds-step_untaken-end-then-runs-2 t c =
-    let p = c.requires.1 in
+    let p = c.requires in
     let f = c.args.file.now in
     let L = c.args.level in
     let a = c.args.at in
@@ -1486,29 +1463,28 @@ eval_second-slice_bounds-step_untaken-end-then-runs-2 t c =
 
 pub eval_second-step_untaken-other-requires : goal.eval_second-step_untaken-other-requires
 eval_second-step_untaken-other-requires t c =
-    let fd = c.requires.0 in
-    let p = c.requires.1 in
+    let p = c.requires in
     let f = c.args.file.now in
     let L = c.args.level in
     let a = c.args.at in
     let q = skip_one f L a (ready_first p).plan.reads c.pass-s.ensures in
     let U = c.pass-s.result.used in
     let N = c.eval-e.new.new in
-    (omega arith, (fd, ready_front U N p q.used_is))
+    (omega arith, (ready_front U N p q.used_is))
 
 pub eval_second-overflow_add-result : goal.eval_second-overflow_add-result
 eval_second-overflow_add-result t c =
-    let p = c.requires.1 in
+    let p = c.requires in
     let fr = c.args.frame.now in
     let tb = c.args.tab.now in
     let f = c.args.file.now in
     let kk = consts_of tb in
     let L = c.args.level in
     let a = c.args.at in
-    let n = node_of fr in
-    let F = first_of fr in
-    let cl = cells_of fr in
-    let bb = before_of fr in
+    let n = fr.node in
+    let F = fr.first in
+    let cl = fr.cells in
+    let bb = fr.before in
     let o = c.args.old.now in
     let q = skip_one f L a (ready_first p).plan.reads c.pass-s.ensures in
     let U = c.pass-s.result.used in
@@ -1519,17 +1495,17 @@ eval_second-overflow_add-result t c =
 
 pub eval_second-overflow_add-result-else-runs : goal.eval_second-overflow_add-result-else-runs
 eval_second-overflow_add-result-else-runs t c =
-    let p = c.requires.1 in
+    let p = c.requires in
     let fr = c.args.frame.now in
     let tb = c.args.tab.now in
     let f = c.args.file.now in
     let kk = consts_of tb in
     let L = c.args.level in
     let a = c.args.at in
-    let n = node_of fr in
-    let F = first_of fr in
-    let cl = cells_of fr in
-    let bb = before_of fr in
+    let n = fr.node in
+    let F = fr.first in
+    let cl = fr.cells in
+    let bb = fr.before in
     let o = c.args.old.now in
     let q = skip_one f L a (ready_first p).plan.reads c.pass-s.ensures in
     let U = c.pass-s.result.used in
@@ -1540,17 +1516,17 @@ eval_second-overflow_add-result-else-runs t c =
 
 pub eval_second-returns-then-runs : goal.eval_second-returns-then-runs
 eval_second-returns-then-runs t c =
-    let p = c.requires.1 in
+    let p = c.requires in
     let fr = c.args.frame.now in
     let tb = c.args.tab.now in
     let f = c.args.file.now in
     let kk = consts_of tb in
     let L = c.args.level in
     let a = c.args.at in
-    let n = node_of fr in
-    let F = first_of fr in
-    let cl = cells_of fr in
-    let bb = before_of fr in
+    let n = fr.node in
+    let F = fr.first in
+    let cl = fr.cells in
+    let bb = fr.before in
     let o = c.args.old.now in
     let le = ready_seg p in
     let mid = end_at f L a in
@@ -1569,17 +1545,17 @@ eval_second-returns-then-runs t c =
 
 pub eval_second-returns-else-runs : goal.eval_second-returns-else-runs
 eval_second-returns-else-runs t c =
-    let p = c.requires.1 in
+    let p = c.requires in
     let fr = c.args.frame.now in
     let tb = c.args.tab.now in
     let f = c.args.file.now in
     let kk = consts_of tb in
     let L = c.args.level in
     let a = c.args.at in
-    let n = node_of fr in
-    let F = first_of fr in
-    let cl = cells_of fr in
-    let bb = before_of fr in
+    let n = fr.node in
+    let F = fr.first in
+    let cl = fr.cells in
+    let bb = fr.before in
     let o = c.args.old.now in
     let mid = end_at f L a in
     let n1 = seg_at f L a in
@@ -1595,7 +1571,7 @@ eval_second-returns-else-runs t c =
 
 pub eval_two-overflow_add-op : goal.eval_two-overflow_add-op
 eval_two-overflow_add-op t c =
-    let p = c.requires.1 in
+    let p = c.requires in
     let f = c.args.file.now in
     let L = c.args.level in
     let a = c.args.at + 2 in
@@ -1604,7 +1580,7 @@ eval_two-overflow_add-op t c =
 
 pub eval_two-bounds-file-at : goal.eval_two-bounds-file-at
 eval_two-bounds-file-at t c =
-    let p = c.requires.1 in
+    let p = c.requires in
     let f = c.args.file.now in
     let L = c.args.level in
     let a = c.args.at + 2 in
@@ -1613,7 +1589,7 @@ eval_two-bounds-file-at t c =
 
 pub eval_two-overflow_add-at : goal.eval_two-overflow_add-at
 eval_two-overflow_add-at t c =
-    let p = c.requires.1 in
+    let p = c.requires in
     let f = c.args.file.now in
     let L = c.args.level in
     let a = c.args.at + 2 in
@@ -1622,27 +1598,26 @@ eval_two-overflow_add-at t c =
 
 pub eval_two-eval-l-requires : goal.eval_two-eval-l-requires
 eval_two-eval-l-requires t c =
-    let fd = c.requires.0 in
-    let p = c.requires.1 in
-    (omega arith, (fd, ready_first p))
+    let p = c.requires in
+    (omega arith, (ready_first p))
 
 pub eval_two-slice_bounds-eval-count : goal.eval_two-slice_bounds-eval-count
 eval_two-slice_bounds-eval-count t c =
-    let p = c.requires.1 in
+    let p = c.requires in
     let le = ready_seg p in
     let h = c.eval-l.ensures in
     omega (arith, h.used_is, le)
 
 pub eval_two-slice_bounds-eval-start : goal.eval_two-slice_bounds-eval-start
 eval_two-slice_bounds-eval-start t c =
-    let p = c.requires.1 in
+    let p = c.requires in
     let le = ready_seg p in
     let h = c.eval-l.ensures in
     omega (arith, h.used_is, le)
 
 pub eval_two-slice_bounds-eval-count-then-done : goal.eval_two-slice_bounds-eval-count-then-done
 eval_two-slice_bounds-eval-count-then-done t c =
-    let p = c.requires.1 in
+    let p = c.requires in
     let le = ready_seg p in
     let h = c.eval-l.ensures in
     let K = c.eval-l.auto.new in
@@ -1650,7 +1625,7 @@ eval_two-slice_bounds-eval-count-then-done t c =
 
 pub eval_two-slice_bounds-eval-start-then-done : goal.eval_two-slice_bounds-eval-start-then-done
 eval_two-slice_bounds-eval-start-then-done t c =
-    let p = c.requires.1 in
+    let p = c.requires in
     let le = ready_seg p in
     let h = c.eval-l.ensures in
     let K = c.eval-l.auto.new in
@@ -1658,25 +1633,24 @@ eval_two-slice_bounds-eval-start-then-done t c =
 
 pub eval_two-eval-r-requires : goal.eval_two-eval-r-requires
 eval_two-eval-r-requires t c =
-    let fd = c.requires.0 in
-    let p = c.requires.1 in
+    let p = c.requires in
     let h = c.eval-l.ensures in
     let K = c.eval-l.auto.new in
-    (omega arith, (fd, rw h.next_is (ready_rest p h K)))
+    (omega arith, (rw h.next_is (ready_rest p h K)))
 
 pub eval_two-overflow_add-result : goal.eval_two-overflow_add-result
 eval_two-overflow_add-result t c =
-    let p = c.requires.1 in
+    let p = c.requires in
     let fr = c.args.frame.now in
     let tb = c.args.tab.now in
     let f = c.args.file.now in
     let kk = consts_of tb in
     let L = c.args.level in
     let a = c.args.at + 2 in
-    let n = node_of fr in
-    let F = first_of fr in
-    let cl = cells_of fr in
-    let bb = before_of fr in
+    let n = fr.node in
+    let F = fr.first in
+    let cl = fr.cells in
+    let bb = fr.before in
     let h = c.eval-l.ensures in
     let h2 = moved f kk L n F cl bb c.eval-l.ensures.next_is (rest_old c.eval-l.ensures) c.eval-r.ensures in
     let segs = two_segs f L a p.plan.reads in
@@ -1684,7 +1658,7 @@ eval_two-overflow_add-result t c =
 
 pub eval_two-pass-s-requires : goal.eval_two-pass-s-requires
 eval_two-pass-s-requires t c =
-    let p = c.requires.1 in
+    let p = c.requires in
     let tb = c.args.tab.now in
     let h = c.eval-l.ensures in
     let K = c.eval-l.auto.new in
@@ -1692,7 +1666,7 @@ eval_two-pass-s-requires t c =
 
 pub eval_two-overflow_add-result-else-done : goal.eval_two-overflow_add-result-else-done
 eval_two-overflow_add-result-else-done t c =
-    let p = c.requires.1 in
+    let p = c.requires in
     let f = c.args.file.now in
     let L = c.args.level in
     let a = c.args.at + 2 in
@@ -1704,7 +1678,7 @@ eval_two-overflow_add-result-else-done t c =
 
 pub eval_two-returns-then-done : goal.eval_two-returns-then-done
 eval_two-returns-then-done t c =
-    let p = c.requires.1 in
+    let p = c.requires in
     let fr = c.args.frame.now in
     let tb = c.args.tab.now in
     let f = c.args.file.now in
@@ -1712,10 +1686,10 @@ eval_two-returns-then-done t c =
     let L = c.args.level in
     let a = c.args.at + 2 in
     let op = get_or f (c.args.at + 1) 0 in
-    let n = node_of fr in
-    let F = first_of fr in
-    let cl = cells_of fr in
-    let bb = before_of fr in
+    let n = fr.node in
+    let F = fr.first in
+    let cl = fr.cells in
+    let bb = fr.before in
     let le = ready_seg p in
     let mid = end_at f L a in
     let n1 = seg_at f L a in
@@ -1729,7 +1703,7 @@ eval_two-returns-then-done t c =
 
 pub eval_two-returns-else-done : goal.eval_two-returns-else-done
 eval_two-returns-else-done t c =
-    let p = c.requires.1 in
+    let p = c.requires in
     let fr = c.args.frame.now in
     let tb = c.args.tab.now in
     let f = c.args.file.now in
@@ -1737,10 +1711,10 @@ eval_two-returns-else-done t c =
     let L = c.args.level in
     let a = c.args.at + 2 in
     let op = get_or f (c.args.at + 1) 0 in
-    let n = node_of fr in
-    let F = first_of fr in
-    let cl = cells_of fr in
-    let bb = before_of fr in
+    let n = fr.node in
+    let F = fr.first in
+    let cl = fr.cells in
+    let bb = fr.before in
     let mid = end_at f L a in
     let n1 = seg_at f L a in
     let n2 = seg_at f L (end_at f L a) in
@@ -1751,239 +1725,225 @@ eval_two-returns-else-done t c =
 
 pub run-row-n-requires : goal.run-row-n-requires
 run-row-n-requires t c =
-    let p = c.requires.1 in
+    let p = c.requires in
     let tb = c.args.tab.now in
-    let ke = c.node_of-k.ensures.0 in
     let r = p.running in
-    (rows_room tb _ r.program.table.long, omega (arith, ke, p.below, r.program.sized.few), omega arith)
+    (rows_room tb _ r.program.table.long, omega (arith, p.below, r.program.sized.few), omega arith)
 
 pub run-plan_of-plan-requires : goal.run-plan_of-plan-requires
 run-plan_of-plan-requires t c =
-    let p = c.requires.1 in
+    let p = c.requires in
     let tb = c.args.tab.now in
-    let ke = c.node_of-k.ensures.0 in
     let r = p.running in
-    (omega (arith, length-drop 1393 tb, r.program.table.long), omega (arith, ke, p.below, r.program.sized.few))
+    (omega (arith, length-drop 1393 tb, r.program.table.long), omega (arith, p.below, r.program.sized.few))
 
 pub run-loop-j-init : goal.run-loop-j-init
 run-loop-j-init t c =
-    let fd = c.requires.0 in
-    let p = c.requires.1 in
+    let p = c.requires in
     let fr = c.args.frame.now in
-    let F = first_of fr in
-    (omega arith, keeps_all fr fd, refl, run_start F p)
+    let F = fr.first in
+    (omega arith, keeps_all fr, refl, run_start F p)
 
 pub run-slice_bounds-equation-count : goal.run-slice_bounds-equation-count
 run-slice_bounds-equation-count t c =
-    let p = c.requires.1 in
+    let p = c.requires in
     let tb = c.args.tab.now in
     let fr = c.args.frame.now in
-    let k = node_of fr in
-    let F = first_of fr in
-    let ke = c.node_of-k.ensures.0 in
+    let k = fr.node in
+    let F = fr.first in
     let r = p.running in
     let node = r.nodes k p.below in
-    let n = c.row-n.ensures ∙ ap (λ (x : ℕ). row_at (rows_of tb) x 5) ke ∙ (r.program.sized.table.rows_of k p.below).count in
+    let n = c.row-n.ensures ∙ (r.program.sized.table.rows_of k p.below).count in
     let lt = c.loop-j-test.true in
     let inv = c.loop-j.invariant in
     let i = c.order_at-i.result in
-    let is = c.order_at-i.ensures.0 ∙ ap (λ (x : ℕ). order_at (tab_of tb) x c.loop-j.j) ke ∙ (r.program.table.tabs_of k p.below).orders c.loop-j.j (omega (arith, lt, n)) in
+    let is = c.order_at-i.ensures.0 ∙ (r.program.table.tabs_of k p.below).orders c.loop-j.j (omega (arith, lt, n)) in
     let lf = c.loop-j.frame in
-    let l = run_next c.args.file.now (consts_of tb) k F (cells_of fr) (before_of fr) c.args.old.now (cells_of lf) c.loop-j.new i c.loop-j.j inv.3 (omega (arith, lt, n, node.all)) is in
-    let pl = c.plan_of-plan.ensures.0 ∙ ap (λ (x : ℕ). plan_at tb x) ke in
+    let l = run_next c.args.file.now (consts_of tb) k F fr.cells fr.before c.args.old.now lf.cells c.loop-j.new i c.loop-j.j inv.3 (omega (arith, lt, n, node.all)) is in
+    let pl = c.plan_of-plan.ensures.0 in
     let q = equation_is tb r p.below pl p.sized p.small n l.inside.0 c.place_at-at.ensures c.records_at-a.ensures c.records_at-b.ensures in
-    let t = turn_part F p (cells_of lf) l q in
+    let t = turn_part F p lf.cells l q in
     t.0
 
 pub run-slice_bounds-equation-start : goal.run-slice_bounds-equation-start
 run-slice_bounds-equation-start t c =
-    let p = c.requires.1 in
+    let p = c.requires in
     let tb = c.args.tab.now in
     let fr = c.args.frame.now in
-    let k = node_of fr in
-    let F = first_of fr in
-    let ke = c.node_of-k.ensures.0 in
+    let k = fr.node in
+    let F = fr.first in
     let r = p.running in
     let node = r.nodes k p.below in
-    let n = c.row-n.ensures ∙ ap (λ (x : ℕ). row_at (rows_of tb) x 5) ke ∙ (r.program.sized.table.rows_of k p.below).count in
+    let n = c.row-n.ensures ∙ (r.program.sized.table.rows_of k p.below).count in
     let lt = c.loop-j-test.true in
     let inv = c.loop-j.invariant in
     let i = c.order_at-i.result in
-    let is = c.order_at-i.ensures.0 ∙ ap (λ (x : ℕ). order_at (tab_of tb) x c.loop-j.j) ke ∙ (r.program.table.tabs_of k p.below).orders c.loop-j.j (omega (arith, lt, n)) in
+    let is = c.order_at-i.ensures.0 ∙ (r.program.table.tabs_of k p.below).orders c.loop-j.j (omega (arith, lt, n)) in
     let lf = c.loop-j.frame in
-    let l = run_next c.args.file.now (consts_of tb) k F (cells_of fr) (before_of fr) c.args.old.now (cells_of lf) c.loop-j.new i c.loop-j.j inv.3 (omega (arith, lt, n, node.all)) is in
-    let pl = c.plan_of-plan.ensures.0 ∙ ap (λ (x : ℕ). plan_at tb x) ke in
+    let l = run_next c.args.file.now (consts_of tb) k F fr.cells fr.before c.args.old.now lf.cells c.loop-j.new i c.loop-j.j inv.3 (omega (arith, lt, n, node.all)) is in
+    let pl = c.plan_of-plan.ensures.0 in
     let q = equation_is tb r p.below pl p.sized p.small n l.inside.0 c.place_at-at.ensures c.records_at-a.ensures c.records_at-b.ensures in
-    let t = turn_part F p (cells_of lf) l q in
+    let t = turn_part F p lf.cells l q in
     omega (arith, t.0, t.1)
 
 pub run-slice_bounds-equation-end : goal.run-slice_bounds-equation-end
 run-slice_bounds-equation-end t c =
-    let p = c.requires.1 in
+    let p = c.requires in
     let tb = c.args.tab.now in
     let fr = c.args.frame.now in
-    let k = node_of fr in
-    let F = first_of fr in
-    let ke = c.node_of-k.ensures.0 in
+    let k = fr.node in
+    let F = fr.first in
     let r = p.running in
     let node = r.nodes k p.below in
-    let n = c.row-n.ensures ∙ ap (λ (x : ℕ). row_at (rows_of tb) x 5) ke ∙ (r.program.sized.table.rows_of k p.below).count in
+    let n = c.row-n.ensures ∙ (r.program.sized.table.rows_of k p.below).count in
     let lt = c.loop-j-test.true in
     let inv = c.loop-j.invariant in
     let i = c.order_at-i.result in
-    let is = c.order_at-i.ensures.0 ∙ ap (λ (x : ℕ). order_at (tab_of tb) x c.loop-j.j) ke ∙ (r.program.table.tabs_of k p.below).orders c.loop-j.j (omega (arith, lt, n)) in
+    let is = c.order_at-i.ensures.0 ∙ (r.program.table.tabs_of k p.below).orders c.loop-j.j (omega (arith, lt, n)) in
     let lf = c.loop-j.frame in
-    let l = run_next c.args.file.now (consts_of tb) k F (cells_of fr) (before_of fr) c.args.old.now (cells_of lf) c.loop-j.new i c.loop-j.j inv.3 (omega (arith, lt, n, node.all)) is in
-    let pl = c.plan_of-plan.ensures.0 ∙ ap (λ (x : ℕ). plan_at tb x) ke in
+    let l = run_next c.args.file.now (consts_of tb) k F fr.cells fr.before c.args.old.now lf.cells c.loop-j.new i c.loop-j.j inv.3 (omega (arith, lt, n, node.all)) is in
+    let pl = c.plan_of-plan.ensures.0 in
     let q = equation_is tb r p.below pl p.sized p.small n l.inside.0 c.place_at-at.ensures c.records_at-a.ensures c.records_at-b.ensures in
-    let t = turn_part F p (cells_of lf) l q in
+    let t = turn_part F p lf.cells l q in
     omega (arith, t.0, t.1)
 
 pub run-slice_bounds-equation-count-in-loop-j : goal.run-slice_bounds-equation-count-in-loop-j
 run-slice_bounds-equation-count-in-loop-j t c =
-    let p = c.requires.1 in
+    let p = c.requires in
     let tb = c.args.tab.now in
     let fr = c.args.frame.now in
-    let k = node_of fr in
-    let F = first_of fr in
-    let ke = c.node_of-k.ensures.0 in
+    let k = fr.node in
+    let F = fr.first in
     let r = p.running in
     let node = r.nodes k p.below in
-    let n = c.row-n.ensures ∙ ap (λ (x : ℕ). row_at (rows_of tb) x 5) ke ∙ (r.program.sized.table.rows_of k p.below).count in
+    let n = c.row-n.ensures ∙ (r.program.sized.table.rows_of k p.below).count in
     let lt = c.loop-j-test.true in
     let inv = c.loop-j.invariant in
     let i = c.order_at-i.result in
-    let is = c.order_at-i.ensures.0 ∙ ap (λ (x : ℕ). order_at (tab_of tb) x c.loop-j.j) ke ∙ (r.program.table.tabs_of k p.below).orders c.loop-j.j (omega (arith, lt, n)) in
+    let is = c.order_at-i.ensures.0 ∙ (r.program.table.tabs_of k p.below).orders c.loop-j.j (omega (arith, lt, n)) in
     let lf = c.loop-j.frame in
-    let l = run_next c.args.file.now (consts_of tb) k F (cells_of fr) (before_of fr) c.args.old.now (cells_of lf) c.loop-j.new i c.loop-j.j inv.3 (omega (arith, lt, n, node.all)) is in
-    let pl = c.plan_of-plan.ensures.0 ∙ ap (λ (x : ℕ). plan_at tb x) ke in
+    let l = run_next c.args.file.now (consts_of tb) k F fr.cells fr.before c.args.old.now lf.cells c.loop-j.new i c.loop-j.j inv.3 (omega (arith, lt, n, node.all)) is in
+    let pl = c.plan_of-plan.ensures.0 in
     let q = equation_is tb r p.below pl p.sized p.small n l.inside.0 c.place_at-at.ensures c.records_at-a.ensures c.records_at-b.ensures in
-    let t = turn_part F p (cells_of lf) l q in
+    let t = turn_part F p lf.cells l q in
     t.0
 
 pub run-slice_bounds-equation-start-in-loop-j : goal.run-slice_bounds-equation-start-in-loop-j
 run-slice_bounds-equation-start-in-loop-j t c =
-    let p = c.requires.1 in
+    let p = c.requires in
     let tb = c.args.tab.now in
     let fr = c.args.frame.now in
-    let k = node_of fr in
-    let F = first_of fr in
-    let ke = c.node_of-k.ensures.0 in
+    let k = fr.node in
+    let F = fr.first in
     let r = p.running in
     let node = r.nodes k p.below in
-    let n = c.row-n.ensures ∙ ap (λ (x : ℕ). row_at (rows_of tb) x 5) ke ∙ (r.program.sized.table.rows_of k p.below).count in
+    let n = c.row-n.ensures ∙ (r.program.sized.table.rows_of k p.below).count in
     let lt = c.loop-j-test.true in
     let inv = c.loop-j.invariant in
     let i = c.order_at-i.result in
-    let is = c.order_at-i.ensures.0 ∙ ap (λ (x : ℕ). order_at (tab_of tb) x c.loop-j.j) ke ∙ (r.program.table.tabs_of k p.below).orders c.loop-j.j (omega (arith, lt, n)) in
+    let is = c.order_at-i.ensures.0 ∙ (r.program.table.tabs_of k p.below).orders c.loop-j.j (omega (arith, lt, n)) in
     let lf = c.loop-j.frame in
-    let l = run_next c.args.file.now (consts_of tb) k F (cells_of fr) (before_of fr) c.args.old.now (cells_of lf) c.loop-j.new i c.loop-j.j inv.3 (omega (arith, lt, n, node.all)) is in
-    let pl = c.plan_of-plan.ensures.0 ∙ ap (λ (x : ℕ). plan_at tb x) ke in
+    let l = run_next c.args.file.now (consts_of tb) k F fr.cells fr.before c.args.old.now lf.cells c.loop-j.new i c.loop-j.j inv.3 (omega (arith, lt, n, node.all)) is in
+    let pl = c.plan_of-plan.ensures.0 in
     let q = equation_is tb r p.below pl p.sized p.small n l.inside.0 c.place_at-at.ensures c.records_at-a.ensures c.records_at-b.ensures in
-    let t = turn_part F p (cells_of lf) l q in
+    let t = turn_part F p lf.cells l q in
     omega (arith, t.0, t.1, t.2)
 
 pub run-slice_bounds-equation-end-in-loop-j : goal.run-slice_bounds-equation-end-in-loop-j
 run-slice_bounds-equation-end-in-loop-j t c =
-    let p = c.requires.1 in
+    let p = c.requires in
     let tb = c.args.tab.now in
     let fr = c.args.frame.now in
-    let k = node_of fr in
-    let F = first_of fr in
-    let ke = c.node_of-k.ensures.0 in
+    let k = fr.node in
+    let F = fr.first in
     let r = p.running in
     let node = r.nodes k p.below in
-    let n = c.row-n.ensures ∙ ap (λ (x : ℕ). row_at (rows_of tb) x 5) ke ∙ (r.program.sized.table.rows_of k p.below).count in
+    let n = c.row-n.ensures ∙ (r.program.sized.table.rows_of k p.below).count in
     let lt = c.loop-j-test.true in
     let inv = c.loop-j.invariant in
     let i = c.order_at-i.result in
-    let is = c.order_at-i.ensures.0 ∙ ap (λ (x : ℕ). order_at (tab_of tb) x c.loop-j.j) ke ∙ (r.program.table.tabs_of k p.below).orders c.loop-j.j (omega (arith, lt, n)) in
+    let is = c.order_at-i.ensures.0 ∙ (r.program.table.tabs_of k p.below).orders c.loop-j.j (omega (arith, lt, n)) in
     let lf = c.loop-j.frame in
-    let l = run_next c.args.file.now (consts_of tb) k F (cells_of fr) (before_of fr) c.args.old.now (cells_of lf) c.loop-j.new i c.loop-j.j inv.3 (omega (arith, lt, n, node.all)) is in
-    let pl = c.plan_of-plan.ensures.0 ∙ ap (λ (x : ℕ). plan_at tb x) ke in
+    let l = run_next c.args.file.now (consts_of tb) k F fr.cells fr.before c.args.old.now lf.cells c.loop-j.new i c.loop-j.j inv.3 (omega (arith, lt, n, node.all)) is in
+    let pl = c.plan_of-plan.ensures.0 in
     let q = equation_is tb r p.below pl p.sized p.small n l.inside.0 c.place_at-at.ensures c.records_at-a.ensures c.records_at-b.ensures in
-    let t = turn_part F p (cells_of lf) l q in
+    let t = turn_part F p lf.cells l q in
     omega (arith, t.0, t.1, t.2)
 
 pub run-equation-e-requires : goal.run-equation-e-requires
 run-equation-e-requires t c =
-    let fd = c.requires.0 in
-    let p = c.requires.1 in
+    let p = c.requires in
     let tb = c.args.tab.now in
     let fr = c.args.frame.now in
-    let k = node_of fr in
-    let F = first_of fr in
-    let ke = c.node_of-k.ensures.0 in
+    let k = fr.node in
+    let F = fr.first in
     let r = p.running in
     let node = r.nodes k p.below in
-    let n = c.row-n.ensures ∙ ap (λ (x : ℕ). row_at (rows_of tb) x 5) ke ∙ (r.program.sized.table.rows_of k p.below).count in
+    let n = c.row-n.ensures ∙ (r.program.sized.table.rows_of k p.below).count in
     let lt = c.loop-j-test.true in
     let inv = c.loop-j.invariant in
     let i = c.order_at-i.result in
-    let is = c.order_at-i.ensures.0 ∙ ap (λ (x : ℕ). order_at (tab_of tb) x c.loop-j.j) ke ∙ (r.program.table.tabs_of k p.below).orders c.loop-j.j (omega (arith, lt, n)) in
+    let is = c.order_at-i.ensures.0 ∙ (r.program.table.tabs_of k p.below).orders c.loop-j.j (omega (arith, lt, n)) in
     let lf = c.loop-j.frame in
-    let l = run_next c.args.file.now (consts_of tb) k F (cells_of fr) (before_of fr) c.args.old.now (cells_of lf) c.loop-j.new i c.loop-j.j inv.3 (omega (arith, lt, n, node.all)) is in
-    let pl = c.plan_of-plan.ensures.0 ∙ ap (λ (x : ℕ). plan_at tb x) ke in
+    let l = run_next c.args.file.now (consts_of tb) k F fr.cells fr.before c.args.old.now lf.cells c.loop-j.new i c.loop-j.j inv.3 (omega (arith, lt, n, node.all)) is in
+    let pl = c.plan_of-plan.ensures.0 in
     let q = equation_is tb r p.below pl p.sized p.small n l.inside.0 c.place_at-at.ensures c.records_at-a.ensures c.records_at-b.ensures in
-    (omega (arith, inv.1.node), (inv.1.framed, keeps_ready inv.1 (turn_ready F p (cells_of lf) l q (cells_length lf inv.1.framed ∙ sym (cells_length fr fd)))))
+    (omega (arith, inv.1.node), (keeps_ready inv.1 (turn_ready F p lf.cells l q (lf.cells_sized ∙ sym fr.cells_sized))))
 
 pub run-returns-in_default : goal.run-returns-in_default
 run-returns-in_default t c =
-    let p = c.requires.1 in
+    let p = c.requires in
     let tb = c.args.tab.now in
     let fr = c.args.frame.now in
-    let k = node_of fr in
-    let F = first_of fr in
-    let ke = c.node_of-k.ensures.0 in
+    let k = fr.node in
+    let F = fr.first in
     let r = p.running in
     let node = r.nodes k p.below in
-    let n = c.row-n.ensures ∙ ap (λ (x : ℕ). row_at (rows_of tb) x 5) ke ∙ (r.program.sized.table.rows_of k p.below).count in
+    let n = c.row-n.ensures ∙ (r.program.sized.table.rows_of k p.below).count in
     let lt = c.loop-j-test.true in
     let inv = c.loop-j.invariant in
     let i = c.order_at-i.result in
-    let is = c.order_at-i.ensures.0 ∙ ap (λ (x : ℕ). order_at (tab_of tb) x c.loop-j.j) ke ∙ (r.program.table.tabs_of k p.below).orders c.loop-j.j (omega (arith, lt, n)) in
+    let is = c.order_at-i.ensures.0 ∙ (r.program.table.tabs_of k p.below).orders c.loop-j.j (omega (arith, lt, n)) in
     let lf = c.loop-j.frame in
-    let l = run_next c.args.file.now (consts_of tb) k F (cells_of fr) (before_of fr) c.args.old.now (cells_of lf) c.loop-j.new i c.loop-j.j inv.3 (omega (arith, lt, n, node.all)) is in
-    let pl = c.plan_of-plan.ensures.0 ∙ ap (λ (x : ℕ). plan_at tb x) ke in
+    let l = run_next c.args.file.now (consts_of tb) k F fr.cells fr.before c.args.old.now lf.cells c.loop-j.new i c.loop-j.j inv.3 (omega (arith, lt, n, node.all)) is in
+    let pl = c.plan_of-plan.ensures.0 in
     let q = equation_is tb r p.below pl p.sized p.small n l.inside.0 c.place_at-at.ensures c.records_at-a.ensures c.records_at-b.ensures in
-    (turn_stops F p (cells_of lf) l q c.equation-e.result ((cells_of c.equation-e.new.frame)) (c.equation-e.new.new) c.in_default.not-Values (c.equation-e.auto.new) ((keeps_done c.args.file.now (consts_of tb) i (cells_of lf) (mid_of (c.records_at-a.result) (c.records_at-b.result) c.args.old.now) ((cells_of c.equation-e.new.frame)) inv.1 c.equation-e.ensures.0)), c.equation-e.ensures.1.framed)
+    (turn_stops F p lf.cells l q c.equation-e.result c.equation-e.new.frame.cells (c.equation-e.new.new) c.in_default.not-Values (c.equation-e.auto.new) ((keeps_done c.args.file.now (consts_of tb) i lf.cells (mid_of (c.records_at-a.result) (c.records_at-b.result) c.args.old.now) c.equation-e.new.frame.cells inv.1 c.equation-e.ensures.0)))
 
 pub run-loop-j-preserved : goal.run-loop-j-preserved
 run-loop-j-preserved t c =
-    let p = c.requires.1 in
+    let p = c.requires in
     let tb = c.args.tab.now in
     let fr = c.args.frame.now in
-    let k = node_of fr in
-    let F = first_of fr in
-    let ke = c.node_of-k.ensures.0 in
+    let k = fr.node in
+    let F = fr.first in
     let r = p.running in
     let node = r.nodes k p.below in
-    let n = c.row-n.ensures ∙ ap (λ (x : ℕ). row_at (rows_of tb) x 5) ke ∙ (r.program.sized.table.rows_of k p.below).count in
+    let n = c.row-n.ensures ∙ (r.program.sized.table.rows_of k p.below).count in
     let lt = c.loop-j-test.true in
     let inv = c.loop-j.invariant in
     let i = c.order_at-i.result in
-    let is = c.order_at-i.ensures.0 ∙ ap (λ (x : ℕ). order_at (tab_of tb) x c.loop-j.j) ke ∙ (r.program.table.tabs_of k p.below).orders c.loop-j.j (omega (arith, lt, n)) in
+    let is = c.order_at-i.ensures.0 ∙ (r.program.table.tabs_of k p.below).orders c.loop-j.j (omega (arith, lt, n)) in
     let lf = c.loop-j.frame in
-    let l = run_next c.args.file.now (consts_of tb) k F (cells_of fr) (before_of fr) c.args.old.now (cells_of lf) c.loop-j.new i c.loop-j.j inv.3 (omega (arith, lt, n, node.all)) is in
-    let pl = c.plan_of-plan.ensures.0 ∙ ap (λ (x : ℕ). plan_at tb x) ke in
+    let l = run_next c.args.file.now (consts_of tb) k F fr.cells fr.before c.args.old.now lf.cells c.loop-j.new i c.loop-j.j inv.3 (omega (arith, lt, n, node.all)) is in
+    let pl = c.plan_of-plan.ensures.0 in
     let q = equation_is tb r p.below pl p.sized p.small n l.inside.0 c.place_at-at.ensures c.records_at-a.ensures c.records_at-b.ensures in
-    let t = turn_part F p (cells_of lf) l q in
-    (omega (arith, lt), keeps_on inv.1 c.equation-e.ensures.1, (length_put_mid c.records_at-a.result c.records_at-b.result c.loop-j.new c.equation-e.new.new t.0 (omega (arith, t.1, t.2)) (c.equation-e.auto.new ∙ length_mid c.records_at-a.result c.records_at-b.result c.loop-j.new t.0 (omega (arith, t.1, t.2)))) ∙ inv.2, turn_goes F p (cells_of lf) l q c.equation-e.result (cells_of c.equation-e.new.frame) c.equation-e.new.new c.in-Values.is c.equation-e.auto.new ((keeps_done c.args.file.now (consts_of tb) i (cells_of lf) (mid_of (c.records_at-a.result) (c.records_at-b.result) c.args.old.now) ((cells_of c.equation-e.new.frame)) inv.1 c.equation-e.ensures.0)))
+    let t = turn_part F p lf.cells l q in
+    (omega (arith, lt), keeps_on inv.1 c.equation-e.ensures.1, (length_put_mid c.records_at-a.result c.records_at-b.result c.loop-j.new c.equation-e.new.new t.0 (omega (arith, t.1, t.2)) (c.equation-e.auto.new ∙ length_mid c.records_at-a.result c.records_at-b.result c.loop-j.new t.0 (omega (arith, t.1, t.2)))) ∙ inv.2, turn_goes F p lf.cells l q c.equation-e.result c.equation-e.new.frame.cells c.equation-e.new.new c.in-Values.is c.equation-e.auto.new ((keeps_done c.args.file.now (consts_of tb) i lf.cells (mid_of (c.records_at-a.result) (c.records_at-b.result) c.args.old.now) c.equation-e.new.frame.cells inv.1 c.equation-e.ensures.0)))
 
 pub run-returns : goal.run-returns
 run-returns t c =
-    let p = c.requires.1 in
+    let p = c.requires in
     let tb = c.args.tab.now in
     let fr = c.args.frame.now in
-    let k = node_of fr in
-    let F = first_of fr in
-    let ke = c.node_of-k.ensures.0 in
+    let k = fr.node in
+    let F = fr.first in
     let r = p.running in
     let node = r.nodes k p.below in
-    let n = c.row-n.ensures ∙ ap (λ (x : ℕ). row_at (rows_of tb) x 5) ke ∙ (r.program.sized.table.rows_of k p.below).count in
+    let n = c.row-n.ensures ∙ (r.program.sized.table.rows_of k p.below).count in
     let inv = c.loop-j.invariant in
     let lf = c.loop-j.frame in
-    (run_done c.args.file.now (consts_of tb) k F (cells_of fr) (before_of fr) c.args.old.now (cells_of lf) c.loop-j.new c.loop-j.j inv.3 (omega (arith, c.loop-j-test.false, n, node.all)), inv.1.framed)
+    (run_done c.args.file.now (consts_of tb) k F fr.cells fr.before c.args.old.now lf.cells c.loop-j.new c.loop-j.j inv.3 (omega (arith, c.loop-j-test.false, n, node.all)))
 
 pub step_instance-row-n-requires : goal.step_instance-row-n-requires
 step_instance-row-n-requires t c =
@@ -2001,10 +1961,10 @@ step_instance-row-inputs-requires t c =
     let tb = c.args.tab.now in
     row_room tb R B _ (omega arith)
 
-pub step_instance-open_frame-requires : goal.step_instance-open_frame-requires
-step_instance-open_frame-requires t c =
+pub step_instance-open-requires : goal.step_instance-open-requires
+step_instance-open-requires t c =
     let h = c.requires.0 in
-    let o = c.requires.2 in
+    let o = c.requires.1 in
     let R = h.running in
     let B = h.below in
     let n = c.row-n.result in
@@ -2012,12 +1972,12 @@ step_instance-open_frame-requires t c =
     let i = c.row-inputs.result in
     let iw = c.row-inputs.ensures in
     let room = own_room h n o w in
-    (c.requires.1, omega (arith, few R B), inputs_first R B n i w iw, narrow R B n w, omega (arith, h.room, inputs_most R B i iw), room)
+    (inputs_first R B n i w iw, narrow R B n w, omega (arith, h.room, inputs_most R B i iw), room)
 
 pub step_instance-slice_bounds-run-count : goal.step_instance-slice_bounds-run-count
 step_instance-slice_bounds-run-count t c =
     let h = c.requires.0 in
-    let o = c.requires.2 in
+    let o = c.requires.1 in
     let n = c.row-n.result in
     let w = c.row-n.ensures in
     let room = own_room h n o w in
@@ -2026,7 +1986,7 @@ step_instance-slice_bounds-run-count t c =
 pub step_instance-slice_bounds-run-start : goal.step_instance-slice_bounds-run-start
 step_instance-slice_bounds-run-start t c =
     let h = c.requires.0 in
-    let o = c.requires.2 in
+    let o = c.requires.1 in
     let n = c.row-n.result in
     let w = c.row-n.ensures in
     let room = own_room h n o w in
@@ -2035,7 +1995,7 @@ step_instance-slice_bounds-run-start t c =
 pub step_instance-slice_bounds-run-count-2 : goal.step_instance-slice_bounds-run-count-2
 step_instance-slice_bounds-run-count-2 t c =
     let h = c.requires.0 in
-    let o = c.requires.2 in
+    let o = c.requires.1 in
     let n = c.row-n.result in
     let w = c.row-n.ensures in
     omega (arith, own_new h n o w)
@@ -2043,7 +2003,7 @@ step_instance-slice_bounds-run-count-2 t c =
 pub step_instance-slice_bounds-run-start-2 : goal.step_instance-slice_bounds-run-start-2
 step_instance-slice_bounds-run-start-2 t c =
     let h = c.requires.0 in
-    let o = c.requires.2 in
+    let o = c.requires.1 in
     let n = c.row-n.result in
     let w = c.row-n.ensures in
     omega (arith, own_new h n o w)
@@ -2051,24 +2011,24 @@ step_instance-slice_bounds-run-start-2 t c =
 pub step_instance-run-r-requires : goal.step_instance-run-r-requires
 step_instance-run-r-requires t c =
     let h = c.requires.0 in
-    let o = c.requires.2 in
+    let o = c.requires.1 in
     let n = c.row-n.result in
     let w = c.row-n.ensures in
-    let op = c.open_frame.ensures in
-    let fr = c.open_frame.new.frame in
-    (omega (arith, op.node), (op.framed, framed_runnable fr op.node (instance_runnable h n (cells_of fr) (before_of fr) o w (cells_length fr op.framed) (before_length fr op.framed))))
+    let op = c.open.ensures in
+    let fr = c.open.new.self in
+    (omega (arith, op.node), framed_runnable fr op.node (instance_runnable h n fr.cells fr.before o w fr.cells_sized fr.before_sized))
 
-pub step_instance-finish_frame-requires : goal.step_instance-finish_frame-requires
-step_instance-finish_frame-requires t c =
+pub step_instance-finish-requires : goal.step_instance-finish-requires
+step_instance-finish-requires t c =
     let h = c.requires.0 in
-    let o = c.requires.2 in
+    let o = c.requires.1 in
     let R = h.running in
     let B = h.below in
     let n = c.row-n.result in
     let w = c.row-n.ensures in
     let x = c.run-r.new.new in
     let kx = c.run-r.auto.new in
-    (c.run-r.ensures.1, narrow R B n w, omega (arith, put_length h n x o w kx, own_new h n o w))
+    (narrow R B n w, omega (arith, put_length h n x o w kx, own_new h n o w))
 
 pub step_instance-row-requires : goal.step_instance-row-requires
 step_instance-row-requires t c =
@@ -2085,90 +2045,89 @@ step_instance-copy_outputs-requires t c =
     let B = h.below in
     let i = c.row-inputs.result in
     let iw = c.row-inputs.ensures in
-    (c.run-r.ensures.1, inputs_most R B i iw, outputs_most R B c.row.result c.row.ensures, omega (arith, h.room, outputs_most R B c.row.result c.row.ensures))
+    (inputs_most R B i iw, outputs_most R B c.row.result c.row.ensures, omega (arith, h.room, outputs_most R B c.row.result c.row.ensures))
 
 pub step_instance-returns-in-Values : goal.step_instance-returns-in-Values
 step_instance-returns-in-Values t c =
     let h = c.requires.0 in
-    let o = c.requires.2 in
+    let o = c.requires.1 in
     let tb = c.args.tab.now in
     let n = c.row-n.result in
     let w = c.row-n.ensures in
     let iw = c.row-inputs.ensures in
-    let op = c.open_frame.ensures in
-    let fr = c.open_frame.new.frame in
+    let op = c.open.ensures in
+    let fr = c.open.new.self in
     let frR = c.run-r.new.frame in
-    let cells = cells_of frR in
+    let cells = frR.cells in
     let x = c.run-r.new.new in
     let e = entered h o w iw op in
-    let ran = framed_run c.args.file.now (consts_of tb) fr (tail_of (1 + 9 * n) c.args.old.now) cells op.node c.run-r.ensures.0 in
-    (instance_finished e c.run-r.result cells x c.finish_frame.new.to c.row.result c.copy_outputs.new.args ran c.in-Values.is c.finish_frame.ensures c.row.ensures c.copy_outputs.ensures, c.copy_outputs.auto.args)
+    let ran = framed_run c.args.file.now (consts_of tb) fr (tail_of (1 + 9 * n) c.args.old.now) cells op.node c.run-r.ensures in
+    (instance_finished e c.run-r.result cells x c.finish.new.to c.row.result c.copy_outputs.new.args ran c.in-Values.is c.finish.ensures c.row.ensures c.copy_outputs.ensures, c.copy_outputs.auto.args)
 
 pub step_instance-returns-in-Failed : goal.step_instance-returns-in-Failed
 step_instance-returns-in-Failed t c =
     let h = c.requires.0 in
-    let o = c.requires.2 in
+    let o = c.requires.1 in
     let tb = c.args.tab.now in
     let n = c.row-n.result in
     let w = c.row-n.ensures in
     let iw = c.row-inputs.ensures in
-    let op = c.open_frame.ensures in
-    let fr = c.open_frame.new.frame in
+    let op = c.open.ensures in
+    let fr = c.open.new.self in
     let frR = c.run-r.new.frame in
-    let cells = cells_of frR in
+    let cells = frR.cells in
     let x = c.run-r.new.new in
     let e = entered h o w iw op in
-    let ran = framed_run c.args.file.now (consts_of tb) fr (tail_of (1 + 9 * n) c.args.old.now) cells op.node c.run-r.ensures.0 in
+    let ran = framed_run c.args.file.now (consts_of tb) fr (tail_of (1 + 9 * n) c.args.old.now) cells op.node c.run-r.ensures in
     (instance_failed e c.in-Failed.c c.run-r.result cells x c.write_fresh.new.out c.args.args.now ran c.in-Failed.is c.write_fresh.ensures, refl)
 
 pub step_instance-returns-in-Overflowed : goal.step_instance-returns-in-Overflowed
 step_instance-returns-in-Overflowed t c =
     let h = c.requires.0 in
-    let o = c.requires.2 in
+    let o = c.requires.1 in
     let tb = c.args.tab.now in
     let n = c.row-n.result in
     let w = c.row-n.ensures in
     let iw = c.row-inputs.ensures in
-    let op = c.open_frame.ensures in
-    let fr = c.open_frame.new.frame in
+    let op = c.open.ensures in
+    let fr = c.open.new.self in
     let frR = c.run-r.new.frame in
-    let cells = cells_of frR in
+    let cells = frR.cells in
     let x = c.run-r.new.new in
     let kx = c.run-r.auto.new in
     let e = entered h o w iw op in
-    let ran = framed_run c.args.file.now (consts_of tb) fr (tail_of (1 + 9 * n) c.args.old.now) cells op.node c.run-r.ensures.0 in
+    let ran = framed_run c.args.file.now (consts_of tb) fr (tail_of (1 + 9 * n) c.args.old.now) cells op.node c.run-r.ensures in
     (instance_overflowed e c.run-r.result cells x c.copy.new.to c.args.args.now ran c.in-Overflowed.is (all_copied c.args.old.now (put_tail (1 + 9 * n) c.args.new.now x) c.copy.new.to (put_length h n x o w kx ∙ ap length h.same) c.copy.ensures), refl)
 
 pub step_site-row-requires : goal.step_site-row-requires
 step_site-row-requires t c =
-    let h = c.requires.0 in
+    let h = c.requires in
     row_room c.args.tab.now h.running h.below _ (omega arith)
 
 pub step_site-step_instance-requires : goal.step_site-step_instance-requires
 step_site-step_instance-requires t c =
-    let h = c.requires.0 in
-    (omega arith, (h, refl, is_operator_lem h c.row.result c.row.ensures c.if-row-eq-OPERATOR.true))
+    let h = c.requires in
+    (omega arith, (h, is_operator_lem h c.row.result c.row.ensures c.if-row-eq-OPERATOR.true))
 
 pub step_site-call_function-requires : goal.step_site-call_function-requires
 step_site-call_function-requires t c =
-    let h = c.requires.0 in
-    (omega arith, (h, refl, is_function h c.row.result c.row.ensures c.if-row-eq-OPERATOR.false))
+    let h = c.requires in
+    (omega arith, (h, is_function h c.row.result c.row.ensures c.if-row-eq-OPERATOR.false))
 
 pub tuple_equation-eval_all-r-requires : goal.tuple_equation-eval_all-r-requires
 tuple_equation-eval_all-r-requires t c =
-    let fd = c.requires.0.0 in
-    let p = c.requires.0.1 in
+    let p = c.requires.0 in
     let f = c.args.file.now in
     let n = c.from-n.result in
     let ne = c.from-n.ensures in
     let rhs = c.args.at + 1 + 2 * n in
     let q = right_ready p n 12 ne (subst (λ (m : ℕ). get_or f (c.args.at + 1 + 2 * m) 0 ≡ 12) (sym ne) c.requires.1) in
     let byte = get_or f (rhs + 1) 0 in
-    (omega arith, ((fd, tuple_parts p q), tuple_several p q byte refl refl))
+    (omega arith, ((tuple_parts p q), tuple_several p q byte refl refl))
 
 pub tuple_equation-bounds-file-rhs : goal.tuple_equation-bounds-file-rhs
 tuple_equation-bounds-file-rhs t c =
-    let p = c.requires.0.1 in
+    let p = c.requires.0 in
     let f = c.args.file.now in
     let n = c.from-n.result in
     let ne = c.from-n.ensures in
@@ -2178,8 +2137,7 @@ tuple_equation-bounds-file-rhs t c =
 
 pub tuple_equation-bind-requires : goal.tuple_equation-bind-requires
 tuple_equation-bind-requires t c =
-    let fd = c.requires.0.0 in
-    let p = c.requires.0.1 in
+    let p = c.requires.0 in
     let f = c.args.file.now in
     let n = c.from-n.result in
     let ne = c.from-n.ensures in
@@ -2188,31 +2146,30 @@ tuple_equation-bind-requires t c =
     let count = c.from.result in
     let ce = c.from.ensures in
     let m = names_least p count q c.min-m.ensures in
-    (fd, values_assignable p c.min-m.result (c.eval_all-r.new.to) m.least (omega (arith, c.min-m.ensures, ce, inside.1)) (let k : length (c.eval_all-r.new.to) ≡ 288 = c.eval_all-r.ensures.1 in omega (arith, k, c.min-m.ensures, ce, inside.1)))
+    (values_assignable p c.min-m.result (c.eval_all-r.new.to) m.least (omega (arith, c.min-m.ensures, ce, inside.1)) (let k : length (c.eval_all-r.new.to) ≡ 288 = c.eval_all-r.ensures.1 in omega (arith, k, c.min-m.ensures, ce, inside.1)))
 
 pub tuple_equation-returns : goal.tuple_equation-returns
 tuple_equation-returns t c =
-    let p = c.requires.0.1 in
+    let p = c.requires.0 in
     let f = c.args.file.now in
     let fr = c.args.frame.now in
-    let F = first_of fr in
+    let F = fr.first in
     let n = c.from-n.result in
     let ne = c.from-n.ensures in
     let q = right_ready p n 12 ne (subst (λ (m : ℕ). get_or f (c.args.at + 1 + 2 * m) 0 ≡ 12) (sym ne) c.requires.1) in
     let count = c.from.result in
     let ce = c.from.ensures in
-    (tuple_done p F count c.min-m.result (c.eval_all-r.new.to) (cells_of c.bind.new.frame) q ce ((tuple_all p q count ce F (c.eval_all-r.new.to) c.eval_all-r.ensures.0)) c.in-Values.is c.min-m.ensures c.bind.ensures.0, c.bind.ensures.1)
+    (tuple_done p F count c.min-m.result (c.eval_all-r.new.to) c.bind.new.self.cells q ce ((tuple_all p q count ce F (c.eval_all-r.new.to) c.eval_all-r.ensures.0)) c.in-Values.is c.min-m.ensures c.bind.ensures.0, c.bind.ensures.1)
 
 pub tuple_equation-returns-in_default : goal.tuple_equation-returns-in_default
 tuple_equation-returns-in_default t c =
-    let fd = c.requires.0.0 in
-    let p = c.requires.0.1 in
+    let p = c.requires.0 in
     let f = c.args.file.now in
     let fr = c.args.frame.now in
-    let F = first_of fr in
+    let F = fr.first in
     let n = c.from-n.result in
     let ne = c.from-n.ensures in
     let rhs = c.args.at + 1 + 2 * n in
     let q = right_ready p n 12 ne (subst (λ (m : ℕ). get_or f (c.args.at + 1 + 2 * m) 0 ≡ 12) (sym ne) c.requires.1) in
     let byte = get_or f (rhs + 1) 0 in
-    (tuple_stops p F byte (c.eval_all-r.new.to) (cells_of fr) q refl ((tuple_all p q byte refl F (c.eval_all-r.new.to) c.eval_all-r.ensures.0)) c.in_default.not-Values, keeps_all fr fd)
+    (tuple_stops p F byte (c.eval_all-r.new.to) fr.cells q refl ((tuple_all p q byte refl F (c.eval_all-r.new.to) c.eval_all-r.ensures.0)) c.in_default.not-Values, keeps_all fr)

@@ -11,7 +11,6 @@ use Rattle.ol_frame.specs.Plans.{globals_in, scope_in, name_at}
 use Rattle.ol_frame.proofs.RealKinds.{arithmetic_code, plain_code, bits_code, code_kind, present_kind}
 use Rattle.ol_frame.proofs.Planning.{plan_head, plan_name, plan_parts, plan_rest, plan_first, plan_call, plan_passable, segs_form, segs_cons, segs_first}
 use Rattle.ol_tables.specs.Table.{consts_of}
-use Rattle.ol_frame.specs.Frame.{node_of, cells_of}
 use Rattle.ol_frame.proofs.Tabling.{rows_room}
 use Rattle.ol_frame.proofs.names.+real_kinds.Goals as goal
 
@@ -20,7 +19,7 @@ real_kind-bounds-file-at t c =
     let f = c.args.file.now in
     let L = c.args.level in
     let a = c.args.at in
-    let p = c.requires.1 in
+    let p = c.requires.0 in
     let h = plan_head f p in
     reads_in f L a h
 
@@ -29,24 +28,23 @@ real_kind-overflow_add-p t c =
     let f = c.args.file.now in
     let L = c.args.level in
     let a = c.args.at in
-    let p = c.requires.1 in
+    let p = c.requires.0 in
     let h = plan_head f p in
     omega (arith, reads_in f L a h, c.well_formed)
 
 pub real_kind-present-requires : goal.real_kind-present-requires
 real_kind-present-requires t c =
     let f = c.args.file.now in
-    let fd = c.requires.0 in
-    let p = c.requires.1 in
-    let z = c.requires.2 in
-    (fd, plan_name f p c.in-4.is, z)
+    let p = c.requires.0 in
+    let z = c.requires.1 in
+    (plan_name f p c.in-4.is, z)
 
 pub real_kind-overflow_sub-level : goal.real_kind-overflow_sub-level
 real_kind-overflow_sub-level t c =
     let f = c.args.file.now in
     let L = c.args.level in
     let a = c.args.at in
-    let p = c.requires.1 in
+    let p = c.requires.0 in
     let h = plan_head f p in
     let deep = reads_deep f L a h in
     deep
@@ -56,20 +54,19 @@ real_kind-real_kind-requires t c =
     let f = c.args.file.now in
     let L = c.args.level in
     let a = c.args.at in
-    let fd = c.requires.0 in
-    let p = c.requires.1 in
-    let z = c.requires.2 in
-    let room = c.requires.3 in
+    let p = c.requires.0 in
+    let z = c.requires.1 in
+    let room = c.requires.2 in
     let h = plan_head f p in
     let deep = reads_deep f L a h in
-    (omega (arith, deep), (fd, plan_parts f p ((unary_form f L a h c.in-5.is).1), z, subst (λ (m : ℕ). m ≤ 32768) (segs_form f p.reads ((unary_form f L a h c.in-5.is).1) refl) room))
+    (omega (arith, deep), (plan_parts f p ((unary_form f L a h c.in-5.is).1), z, subst (λ (m : ℕ). m ≤ 32768) (segs_form f p.reads ((unary_form f L a h c.in-5.is).1) refl) room))
 
 pub real_kind-bounds-file-p : goal.real_kind-bounds-file-p
 real_kind-bounds-file-p t c =
     let f = c.args.file.now in
     let L = c.args.level in
     let a = c.args.at in
-    let p = c.requires.1 in
+    let p = c.requires.0 in
     let h = plan_head f p in
     omega (arith, (binary_form f L a h c.in-6.is).1.inside)
 
@@ -78,7 +75,7 @@ real_kind-overflow_sub-level-in-10-to-13 t c =
     let f = c.args.file.now in
     let L = c.args.level in
     let a = c.args.at in
-    let p = c.requires.1 in
+    let p = c.requires.0 in
     let h = plan_head f p in
     let deep = reads_deep f L a h in
     deep
@@ -88,20 +85,19 @@ real_kind-real_kinds-requires t c =
     let f = c.args.file.now in
     let L = c.args.level in
     let a = c.args.at in
-    let fd = c.requires.0 in
-    let p = c.requires.1 in
-    let z = c.requires.2 in
-    let room = c.requires.3 in
+    let p = c.requires.0 in
+    let z = c.requires.1 in
+    let room = c.requires.2 in
     let h = plan_head f p in
     let deep = reads_deep f L a h in
-    (omega (arith, deep), (fd, plan_parts f p (binary_form f L a h c.in-6.is).1, z, subst (λ (m : ℕ). m ≤ 32768) (segs_form f p.reads (binary_form f L a h c.in-6.is).1 refl) room))
+    (omega (arith, deep), (plan_parts f p (binary_form f L a h c.in-6.is).1, z, subst (λ (m : ℕ). m ≤ 32768) (segs_form f p.reads (binary_form f L a h c.in-6.is).1 refl) room))
 
 pub real_kind-overflow_sub-level-in-7 : goal.real_kind-overflow_sub-level-in-7
 real_kind-overflow_sub-level-in-7 t c =
     let f = c.args.file.now in
     let L = c.args.level in
     let a = c.args.at in
-    let p = c.requires.1 in
+    let p = c.requires.0 in
     let h = plan_head f p in
     let deep = reads_deep f L a h in
     deep
@@ -112,8 +108,8 @@ real_kind-pass-c-requires t c =
     let T = c.args.tab.now in
     let L = c.args.level in
     let a = c.args.at in
-    let p = c.requires.1 in
-    let room = c.requires.3 in
+    let p = c.requires.0 in
+    let room = c.requires.2 in
     let h = plan_head f p in
     (plan_passable f (plan_first f ((plan_parts f p ((if_form f L a h c.in-7.is))))) (omega (arith, segs_first f ((plan_parts f p ((if_form f L a h c.in-7.is)))), (subst (λ (m : ℕ). m ≤ 32768) (segs_form f p.reads ((if_form f L a h c.in-7.is)) refl) room))), rows_room T _ p.program.table.long)
 
@@ -122,7 +118,7 @@ real_kind-overflow_sub-level-in-7-2 t c =
     let f = c.args.file.now in
     let L = c.args.level in
     let a = c.args.at in
-    let p = c.requires.1 in
+    let p = c.requires.0 in
     let h = plan_head f p in
     let deep = reads_deep f L a h in
     deep
@@ -132,21 +128,20 @@ real_kind-real_kinds-requires-in-7 t c =
     let f = c.args.file.now in
     let L = c.args.level in
     let a = c.args.at in
-    let fd = c.requires.0 in
-    let p = c.requires.1 in
-    let z = c.requires.2 in
-    let room = c.requires.3 in
+    let p = c.requires.0 in
+    let z = c.requires.1 in
+    let room = c.requires.2 in
     let h = plan_head f p in
     let deep = reads_deep f L a h in
     let e = c.pass-c.ensures.next_is ∙ (one_tree f (L - 1) (a + 1) (plan_first f ((plan_parts f p ((if_form f L a h c.in-7.is))))).reads).1 in
-    (omega (arith, deep), (fd, rw e (plan_rest f ((plan_parts f p ((if_form f L a h c.in-7.is))))), z, rw e (omega (arith, segs_cons f (L - 1) 2 (a + 1) (plan_parts f p ((if_form f L a h c.in-7.is))).reads, (subst (λ (m : ℕ). m ≤ 32768) (segs_form f p.reads ((if_form f L a h c.in-7.is)) refl) room)))))
+    (omega (arith, deep), (rw e (plan_rest f ((plan_parts f p ((if_form f L a h c.in-7.is))))), z, rw e (omega (arith, segs_cons f (L - 1) 2 (a + 1) (plan_parts f p ((if_form f L a h c.in-7.is))).reads, (subst (λ (m : ℕ). m ≤ 32768) (segs_form f p.reads ((if_form f L a h c.in-7.is)) refl) room)))))
 
 pub real_kind-overflow_sub-level-in-8 : goal.real_kind-overflow_sub-level-in-8
 real_kind-overflow_sub-level-in-8 t c =
     let f = c.args.file.now in
     let L = c.args.level in
     let a = c.args.at in
-    let p = c.requires.1 in
+    let p = c.requires.0 in
     let h = plan_head f p in
     let deep = reads_deep f L a h in
     deep
@@ -156,20 +151,19 @@ real_kind-real_kind-requires-in-8 t c =
     let f = c.args.file.now in
     let L = c.args.level in
     let a = c.args.at in
-    let fd = c.requires.0 in
-    let p = c.requires.1 in
-    let z = c.requires.2 in
-    let room = c.requires.3 in
+    let p = c.requires.0 in
+    let z = c.requires.1 in
+    let room = c.requires.2 in
     let h = plan_head f p in
     let deep = reads_deep f L a h in
-    (omega (arith, deep), (fd, plan_parts f p ((pre_form f L a h c.in-8.is)), z, subst (λ (m : ℕ). m ≤ 32768) (segs_form f p.reads ((pre_form f L a h c.in-8.is)) refl) room))
+    (omega (arith, deep), (plan_parts f p ((pre_form f L a h c.in-8.is)), z, subst (λ (m : ℕ). m ≤ 32768) (segs_form f p.reads ((pre_form f L a h c.in-8.is)) refl) room))
 
 pub real_kind-overflow_sub-level-in-9 : goal.real_kind-overflow_sub-level-in-9
 real_kind-overflow_sub-level-in-9 t c =
     let f = c.args.file.now in
     let L = c.args.level in
     let a = c.args.at in
-    let p = c.requires.1 in
+    let p = c.requires.0 in
     let h = plan_head f p in
     let deep = reads_deep f L a h in
     deep
@@ -179,20 +173,19 @@ real_kind-real_kinds-requires-in-9 t c =
     let f = c.args.file.now in
     let L = c.args.level in
     let a = c.args.at in
-    let fd = c.requires.0 in
-    let p = c.requires.1 in
-    let z = c.requires.2 in
-    let room = c.requires.3 in
+    let p = c.requires.0 in
+    let z = c.requires.1 in
+    let room = c.requires.2 in
     let h = plan_head f p in
     let deep = reads_deep f L a h in
-    (omega (arith, deep), (fd, plan_parts f p ((arrow_form f L a h c.in-9.is)), z, subst (λ (m : ℕ). m ≤ 32768) (segs_form f p.reads ((arrow_form f L a h c.in-9.is)) refl) room))
+    (omega (arith, deep), (plan_parts f p ((arrow_form f L a h c.in-9.is)), z, subst (λ (m : ℕ). m ≤ 32768) (segs_form f p.reads ((arrow_form f L a h c.in-9.is)) refl) room))
 
 pub real_kind-bounds-file-p-in-10 : goal.real_kind-bounds-file-p-in-10
 real_kind-bounds-file-p-in-10 t c =
     let f = c.args.file.now in
     let L = c.args.level in
     let a = c.args.at in
-    let p = c.requires.1 in
+    let p = c.requires.0 in
     let h = plan_head f p in
     omega (arith, (cast_form f L a h c.in-10.is).1.inside, type_some (cast_form f L a h c.in-10.is).0)
 
@@ -201,14 +194,14 @@ real_kind-bounds-file-p-in-11 t c =
     let f = c.args.file.now in
     let L = c.args.level in
     let a = c.args.at in
-    let p = c.requires.1 in
+    let p = c.requires.0 in
     let h = plan_head f p in
     omega (arith, (call_form f L a h c.in-11.is).0.inside)
 
 pub real_kind-call_kind-requires : goal.real_kind-call_kind-requires
 real_kind-call_kind-requires t c =
     let f = c.args.file.now in
-    let p = c.requires.1 in
+    let p = c.requires.0 in
     (p.program, omega (arith, c.from.ensures, (plan_call f p c.in-11.is).lower, p.node≤))
 
 pub real_kind-returns-in-2 : goal.real_kind-returns-in-2
@@ -217,11 +210,11 @@ real_kind-returns-in-2 t c =
     let T = c.args.tab.now in
     let kk = consts_of T in
     let fr = c.args.frame.now in
-    let cl = cells_of fr in
-    let n = node_of fr in
+    let cl = fr.cells in
+    let n = fr.node in
     let L = c.args.level in
     let a = c.args.at in
-    let p = c.requires.1 in
+    let p = c.requires.0 in
     let h = plan_head f p in
     let g = globals_in f kk in
     let sc = scope_in f n false cl cl in
@@ -233,11 +226,11 @@ real_kind-returns-in-4 t c =
     let T = c.args.tab.now in
     let kk = consts_of T in
     let fr = c.args.frame.now in
-    let cl = cells_of fr in
-    let n = node_of fr in
+    let cl = fr.cells in
+    let n = fr.node in
     let L = c.args.level in
     let a = c.args.at in
-    let p = c.requires.1 in
+    let p = c.requires.0 in
     let h = plan_head f p in
     let g = globals_in f kk in
     let sc = scope_in f n false cl cl in
@@ -249,11 +242,11 @@ real_kind-returns-in-5 t c =
     let T = c.args.tab.now in
     let kk = consts_of T in
     let fr = c.args.frame.now in
-    let cl = cells_of fr in
-    let n = node_of fr in
+    let cl = fr.cells in
+    let n = fr.node in
     let L = c.args.level in
     let a = c.args.at in
-    let p = c.requires.1 in
+    let p = c.requires.0 in
     let h = plan_head f p in
     let g = globals_in f kk in
     let sc = scope_in f n false cl cl in
@@ -265,11 +258,11 @@ real_kind-returns-in-10-to-13 t c =
     let T = c.args.tab.now in
     let kk = consts_of T in
     let fr = c.args.frame.now in
-    let cl = cells_of fr in
-    let n = node_of fr in
+    let cl = fr.cells in
+    let n = fr.node in
     let L = c.args.level in
     let a = c.args.at in
-    let p = c.requires.1 in
+    let p = c.requires.0 in
     let h = plan_head f p in
     let g = globals_in f kk in
     let sc = scope_in f n false cl cl in
@@ -281,11 +274,11 @@ real_kind-returns-in_default-file t c =
     let T = c.args.tab.now in
     let kk = consts_of T in
     let fr = c.args.frame.now in
-    let cl = cells_of fr in
-    let n = node_of fr in
+    let cl = fr.cells in
+    let n = fr.node in
     let L = c.args.level in
     let a = c.args.at in
-    let p = c.requires.1 in
+    let p = c.requires.0 in
     let h = plan_head f p in
     let g = globals_in f kk in
     let sc = scope_in f n false cl cl in
@@ -297,11 +290,11 @@ real_kind-returns-in_default-file-2 t c =
     let T = c.args.tab.now in
     let kk = consts_of T in
     let fr = c.args.frame.now in
-    let cl = cells_of fr in
-    let n = node_of fr in
+    let cl = fr.cells in
+    let n = fr.node in
     let L = c.args.level in
     let a = c.args.at in
-    let p = c.requires.1 in
+    let p = c.requires.0 in
     let h = plan_head f p in
     let g = globals_in f kk in
     let sc = scope_in f n false cl cl in
@@ -313,11 +306,11 @@ real_kind-returns-in-7 t c =
     let T = c.args.tab.now in
     let kk = consts_of T in
     let fr = c.args.frame.now in
-    let cl = cells_of fr in
-    let n = node_of fr in
+    let cl = fr.cells in
+    let n = fr.node in
     let L = c.args.level in
     let a = c.args.at in
-    let p = c.requires.1 in
+    let p = c.requires.0 in
     let h = plan_head f p in
     let g = globals_in f kk in
     let sc = scope_in f n false cl cl in
@@ -330,11 +323,11 @@ real_kind-returns-in-8 t c =
     let T = c.args.tab.now in
     let kk = consts_of T in
     let fr = c.args.frame.now in
-    let cl = cells_of fr in
-    let n = node_of fr in
+    let cl = fr.cells in
+    let n = fr.node in
     let L = c.args.level in
     let a = c.args.at in
-    let p = c.requires.1 in
+    let p = c.requires.0 in
     let h = plan_head f p in
     let g = globals_in f kk in
     let sc = scope_in f n false cl cl in
@@ -346,11 +339,11 @@ real_kind-returns-in-9 t c =
     let T = c.args.tab.now in
     let kk = consts_of T in
     let fr = c.args.frame.now in
-    let cl = cells_of fr in
-    let n = node_of fr in
+    let cl = fr.cells in
+    let n = fr.node in
     let L = c.args.level in
     let a = c.args.at in
-    let p = c.requires.1 in
+    let p = c.requires.0 in
     let h = plan_head f p in
     let g = globals_in f kk in
     let sc = scope_in f n false cl cl in
@@ -362,11 +355,11 @@ real_kind-returns-in-10 t c =
     let T = c.args.tab.now in
     let kk = consts_of T in
     let fr = c.args.frame.now in
-    let cl = cells_of fr in
-    let n = node_of fr in
+    let cl = fr.cells in
+    let n = fr.node in
     let L = c.args.level in
     let a = c.args.at in
-    let p = c.requires.1 in
+    let p = c.requires.0 in
     let h = plan_head f p in
     let g = globals_in f kk in
     let sc = scope_in f n false cl cl in
@@ -378,11 +371,11 @@ real_kind-returns-in-11 t c =
     let T = c.args.tab.now in
     let kk = consts_of T in
     let fr = c.args.frame.now in
-    let cl = cells_of fr in
-    let n = node_of fr in
+    let cl = fr.cells in
+    let n = fr.node in
     let L = c.args.level in
     let a = c.args.at in
-    let p = c.requires.1 in
+    let p = c.requires.0 in
     let h = plan_head f p in
     let g = globals_in f kk in
     let sc = scope_in f n false cl cl in
@@ -394,11 +387,11 @@ real_kind-returns-in_default t c =
     let T = c.args.tab.now in
     let kk = consts_of T in
     let fr = c.args.frame.now in
-    let cl = cells_of fr in
-    let n = node_of fr in
+    let cl = fr.cells in
+    let n = fr.node in
     let L = c.args.level in
     let a = c.args.at in
-    let p = c.requires.1 in
+    let p = c.requires.0 in
     let h = plan_head f p in
     let g = globals_in f kk in
     let sc = scope_in f n false cl cl in
@@ -411,17 +404,16 @@ real_kind-returns-in_default t c =
 pub real_kinds-real_kind-a-requires : goal.real_kinds-real_kind-a-requires
 real_kinds-real_kind-a-requires t c =
     let f = c.args.file.now in
-    let fd = c.requires.0 in
-    let p = c.requires.1 in
-    let z = c.requires.2 in
-    let room = c.requires.3 in
-    (omega arith, (fd, (plan_first f p), z, (omega (arith, segs_first f p, room))))
+    let p = c.requires.0 in
+    let z = c.requires.1 in
+    let room = c.requires.2 in
+    (omega arith, ((plan_first f p), z, (omega (arith, segs_first f p, room))))
 
 pub real_kinds-pass-p-requires : goal.real_kinds-pass-p-requires
 real_kinds-pass-p-requires t c =
     let f = c.args.file.now in
-    let p = c.requires.1 in
-    let room = c.requires.3 in
+    let p = c.requires.0 in
+    let room = c.requires.2 in
     let T = c.args.tab.now in
     (plan_passable f ((plan_first f p)) ((omega (arith, segs_first f p, room))), rows_room T _ p.program.table.long)
 
@@ -430,18 +422,17 @@ real_kinds-real_kind-b-requires t c =
     let f = c.args.file.now in
     let L = c.args.level in
     let a = c.args.at in
-    let fd = c.requires.0 in
-    let p = c.requires.1 in
-    let z = c.requires.2 in
-    let room = c.requires.3 in
+    let p = c.requires.0 in
+    let z = c.requires.1 in
+    let room = c.requires.2 in
     let e = (c.pass-p.ensures.next_is ∙ (one_tree f L a (plan_first f p).reads).1) in
-    (omega arith, (fd, rw e ((plan_rest f p)), z, rw e ((omega (arith, segs_cons f L 1 a p.reads, room)))))
+    (omega arith, (rw e ((plan_rest f p)), z, rw e ((omega (arith, segs_cons f L 1 a p.reads, room)))))
 
 pub real_kinds-returns : goal.real_kinds-returns
 real_kinds-returns t c =
     let f = c.args.file.now in
     let L = c.args.level in
     let a = c.args.at in
-    let p = c.requires.1 in
+    let p = c.requires.0 in
     let e = (c.pass-p.ensures.next_is ∙ (one_tree f L a (plan_first f p).reads).1) in
     c.join_kinds.ensures ∙ (λ i. join (c.real_kind-a.ensures i) ((rw e at c.real_kind-b.ensures) i))

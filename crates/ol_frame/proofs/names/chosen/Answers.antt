@@ -6,7 +6,6 @@ use Rattle.ol_frame.specs.Outcomes.{common_out}
 use Rattle.ol_frame.specs.Plans.{globals_in, scope_in}
 use Rattle.ol_frame.proofs.RealKinds.{common_plain}
 use Rattle.ol_tables.specs.Table.{consts_of}
-use Rattle.ol_frame.specs.Frame.{node_of, cells_of}
 use Rattle.ol_frame.proofs.names.chosen.Goals as goal
 
 pub real_kind-requires : goal.real_kind-requires
@@ -20,5 +19,5 @@ returns-then-is_single c =
 pub returns-else-is_single : goal.returns-else-is_single
 returns-else-is_single c =
     let f = c.args.file.now in
-    let K = real_kind (globals_in f (consts_of c.args.tab.now)) (scope_in f (node_of c.args.frame.now) false (cells_of c.args.frame.now) (cells_of c.args.frame.now)) (expr_at f c.args.level c.args.at) in
+    let K = real_kind (globals_in f (consts_of c.args.tab.now)) (scope_in f c.args.frame.now.node false c.args.frame.now.cells c.args.frame.now.cells) (expr_at f c.args.level c.args.at) in
     c.same_out.ensures ∙ common_plain K c.args.taken (sym c.is_single.ensures ∙ c.if-is_single.false)

@@ -17,7 +17,6 @@ use Rattle.ol_frame.specs.Plans.{eval_in}
 use Rattle.ol_frame.proofs.Naming.{value_at_lem}
 use Rattle.ol_frame.proofs.Planning.{plan_head, plan_name, plan_looked}
 use Rattle.ol_tables.specs.Table.{consts_of}
-use Rattle.ol_frame.specs.Frame.{node_of, first_of, cells_of, before_of}
 use Rattle.ol_frame.proofs.names.leaf_out.Goals as goal
 
 pub bounds-file-at : goal.bounds-file-at
@@ -25,7 +24,7 @@ bounds-file-at c =
     let f = c.args.file.now in
     let L = c.args.level in
     let a = c.args.at in
-    let p = c.requires.1 in
+    let p = c.requires.0 in
     let h = plan_head f p in
     reads_in f L a h
 
@@ -34,7 +33,7 @@ overflow_add-p c =
     let f = c.args.file.now in
     let L = c.args.level in
     let a = c.args.at in
-    let p = c.requires.1 in
+    let p = c.requires.0 in
     let h = plan_head f p in
     omega (arith, reads_in f L a h, c.well_formed)
 
@@ -43,7 +42,7 @@ bounds-file-p c =
     let f = c.args.file.now in
     let L = c.args.level in
     let a = c.args.at in
-    let p = c.requires.1 in
+    let p = c.requires.0 in
     let h = plan_head f p in
     omega (arith, (bool_form f L a h c.in-0.is).0.inside)
 
@@ -52,7 +51,7 @@ read_cell-requires c =
     let f = c.args.file.now in
     let L = c.args.level in
     let a = c.args.at in
-    let p = c.requires.1 in
+    let p = c.requires.0 in
     let h = plan_head f p in
     (int_form f L a h c.in-1.is).inside
 
@@ -61,7 +60,7 @@ read_cell-requires-in-2 c =
     let f = c.args.file.now in
     let L = c.args.level in
     let a = c.args.at in
-    let p = c.requires.1 in
+    let p = c.requires.0 in
     let h = plan_head f p in
     (float_form f L a h c.in-2.is).inside
 
@@ -70,30 +69,30 @@ bounds-file-p-in-3 c =
     let f = c.args.file.now in
     let L = c.args.level in
     let a = c.args.at in
-    let p = c.requires.1 in
+    let p = c.requires.0 in
     let h = plan_head f p in
     omega (arith, (char_form f L a h c.in-3.is).inside)
 
 pub present-requires : goal.present-requires
 present-requires c =
     let f = c.args.file.now in
-    let p = c.requires.1 in
-    (c.requires.0, plan_name f p c.in-4.is, c.requires.2)
+    let p = c.requires.0 in
+    (plan_name f p c.in-4.is, c.requires.1)
 
 pub overflow_sub-level : goal.overflow_sub-level
 overflow_sub-level c =
     let f = c.args.file.now in
     let L = c.args.level in
     let a = c.args.at in
-    let p = c.requires.1 in
+    let p = c.requires.0 in
     let h = plan_head f p in
     reads_deep f L a h
 
 pub previous-requires : goal.previous-requires
 previous-requires c =
     let f = c.args.file.now in
-    let p = c.requires.1 in
-    (c.requires.0, plan_looked f p c.in-8.is, c.requires.3)
+    let p = c.requires.0 in
+    (plan_looked f p c.in-8.is, c.requires.2)
 
 pub returns-in-0 : goal.returns-in-0
 unfolding eval
@@ -102,13 +101,13 @@ returns-in-0 c =
     let T = c.args.tab.now in
     let k = consts_of T in
     let fr = c.args.frame.now in
-    let cl = cells_of fr in
-    let b = before_of fr in
-    let n = node_of fr in
-    let F = first_of fr in
+    let cl = fr.cells in
+    let b = fr.before in
+    let n = fr.node in
+    let F = fr.first in
     let L = c.args.level in
     let a = c.args.at in
-    let p = c.requires.1 in
+    let p = c.requires.0 in
     let h = plan_head f p in
     λ seg. ap (λ (e : Expr). (eval_in f k n F cl b e seg).out) (sym (bool_form f L a h c.in-0.is).0.tree)
 
@@ -119,13 +118,13 @@ returns-in-1 c =
     let T = c.args.tab.now in
     let k = consts_of T in
     let fr = c.args.frame.now in
-    let cl = cells_of fr in
-    let b = before_of fr in
-    let n = node_of fr in
-    let F = first_of fr in
+    let cl = fr.cells in
+    let b = fr.before in
+    let n = fr.node in
+    let F = fr.first in
     let L = c.args.level in
     let a = c.args.at in
-    let p = c.requires.1 in
+    let p = c.requires.0 in
     let h = plan_head f p in
     λ seg. ap Out.Value (c.read_cell.ensures ∙ value_at_lem f a (reads_in f L a h) ∙ ap (λ (t : ℕ). value_by t (number_of 0 (take 8 (drop (a + 1) f)))) c.in-1.is) ∙ ap (λ (e : Expr). (eval_in f k n F cl b e seg).out) (sym (int_form f L a h c.in-1.is).tree)
 
@@ -136,13 +135,13 @@ returns-in-2 c =
     let T = c.args.tab.now in
     let k = consts_of T in
     let fr = c.args.frame.now in
-    let cl = cells_of fr in
-    let b = before_of fr in
-    let n = node_of fr in
-    let F = first_of fr in
+    let cl = fr.cells in
+    let b = fr.before in
+    let n = fr.node in
+    let F = fr.first in
     let L = c.args.level in
     let a = c.args.at in
-    let p = c.requires.1 in
+    let p = c.requires.0 in
     let h = plan_head f p in
     λ seg. ap Out.Value (c.read_cell-in-2.ensures ∙ value_at_lem f a (reads_in f L a h) ∙ ap (λ (t : ℕ). value_by t (number_of 0 (take 8 (drop (a + 1) f)))) c.in-2.is) ∙ ap (λ (e : Expr). (eval_in f k n F cl b e seg).out) (sym (float_form f L a h c.in-2.is).tree)
 
@@ -153,13 +152,13 @@ returns-in-3 c =
     let T = c.args.tab.now in
     let k = consts_of T in
     let fr = c.args.frame.now in
-    let cl = cells_of fr in
-    let b = before_of fr in
-    let n = node_of fr in
-    let F = first_of fr in
+    let cl = fr.cells in
+    let b = fr.before in
+    let n = fr.node in
+    let F = fr.first in
     let L = c.args.level in
     let a = c.args.at in
-    let p = c.requires.1 in
+    let p = c.requires.0 in
     let h = plan_head f p in
     let fit : mag c.from.result < 2 ^ 63 = rw c.from.ensures (omega (arith, c.type_inv.file (a + 1))) in
     λ seg. ap (λ x. Out.Value (Val.Int x)) (to_z-of_z {w = w64} (sfits_of fit) ∙ c.from.ensures) ∙ ap (λ (e : Expr). (eval_in f k n F cl b e seg).out) (sym (char_form f L a h c.in-3.is).tree)
@@ -171,13 +170,13 @@ returns-in-4 c =
     let T = c.args.tab.now in
     let k = consts_of T in
     let fr = c.args.frame.now in
-    let cl = cells_of fr in
-    let b = before_of fr in
-    let n = node_of fr in
-    let F = first_of fr in
+    let cl = fr.cells in
+    let b = fr.before in
+    let n = fr.node in
+    let F = fr.first in
     let L = c.args.level in
     let a = c.args.at in
-    let p = c.requires.1 in
+    let p = c.requires.0 in
     let h = plan_head f p in
     λ seg. c.present.ensures ∙ ap (λ (e : Expr). (eval_in f k n F cl b e seg).out) (sym (var_form f L a h c.in-4.is).tree)
 
@@ -188,13 +187,13 @@ returns-in-8 c =
     let T = c.args.tab.now in
     let k = consts_of T in
     let fr = c.args.frame.now in
-    let cl = cells_of fr in
-    let b = before_of fr in
-    let n = node_of fr in
-    let F = first_of fr in
+    let cl = fr.cells in
+    let b = fr.before in
+    let n = fr.node in
+    let F = fr.first in
     let L = c.args.level in
     let a = c.args.at in
-    let p = c.requires.1 in
+    let p = c.requires.0 in
     let h = plan_head f p in
     λ seg. c.previous.ensures ∙ ap (λ (e : Expr). (eval_in f k n F cl b e seg).out) (sym (pre_form f L a h c.in-8.is).tree)
 
@@ -205,13 +204,13 @@ returns-in_default c =
     let T = c.args.tab.now in
     let k = consts_of T in
     let fr = c.args.frame.now in
-    let cl = cells_of fr in
-    let b = before_of fr in
-    let n = node_of fr in
-    let F = first_of fr in
+    let cl = fr.cells in
+    let b = fr.before in
+    let n = fr.node in
+    let F = fr.first in
     let L = c.args.level in
     let a = c.args.at in
-    let p = c.requires.1 in
+    let p = c.requires.0 in
     let h = plan_head f p in
-    let lf = c.requires.4 in
+    let lf = c.requires.3 in
     λ seg. ap (λ (e : Expr). (eval_in f k n F cl b e seg).out) (sym (tuple_form f L a h ((last_code (get_or f a 0) (some_code f L a h) (omega arith) (omega arith) (omega arith) (omega arith) (omega arith) lf.no_unary lf.no_binary lf.no_if (omega arith) lf.no_arrow lf.no_cast lf.no_call))).0.tree)

@@ -3,14 +3,13 @@ use mathlib.Core.Bool.{false}
 use lib.ListN.{take, drop}
 use Prim.Native.Nat.{ℕ, ◌<◌, ◌*◌}
 use Rattle.ol_spec.specs.Cell.{value_of}
-use Rattle.ol_frame.proofs.Tabling.{frame_cell, frame_room, const_cell, const_room}
+use Rattle.ol_frame.proofs.Tabling.{const_cell, const_room}
 use native.Mathlib.Omega.{arith}
 use Rattle.ol_spec.specs.Eval.{or_failure}
 use Rattle.ol_spec.specs.declared.Outcome.TheVariants as Out
 use Rattle.ol_frame.proofs.Naming.{slot_cell, known_cell, is_variable, is_constant, is_variant_lem}
 use Rattle.ol_tables.specs.Table.{tab_of, consts_of}
 use Rattle.ol_tables.specs.Tables.{slot_at}
-use Rattle.ol_frame.specs.Frame.{node_of, cells_of}
 use Rattle.ol_frame.proofs.names.present.Goals as goal
 
 pub read_cell-requires : goal.read_cell-requires
@@ -20,14 +19,14 @@ read_cell-requires c =
     let t = tab_of T in
     let k = consts_of T in
     let fr = c.args.frame.now in
-    let cl = cells_of fr in
-    let n = node_of fr in
+    let cl = fr.cells in
+    let n = fr.node in
     let a = c.args.at in
-    let p = c.requires.1 in
+    let p = c.requires.0 in
     let s = c.in-Variable.s in
     let e = c.in-Variable.ensures.0 in
     let l : s < 112 = omega (arith, c.in-Variable.ensures.0, c.in-Variable.ensures.1) in
-    frame_room fr (s * 9) (slot_cell f t k n a p s e cl c.requires.2 l)
+    slot_cell f t k n a p s e cl c.requires.1 l
 
 pub read_cell-requires-in-Constant : goal.read_cell-requires-in-Constant
 read_cell-requires-in-Constant c =
@@ -36,9 +35,9 @@ read_cell-requires-in-Constant c =
     let t = tab_of T in
     let k = consts_of T in
     let fr = c.args.frame.now in
-    let n = node_of fr in
+    let n = fr.node in
     let a = c.args.at in
-    let p = c.requires.1 in
+    let p = c.requires.0 in
     let s = slot_at t a in
     let i = c.in-Constant.i in
     const_room T (i * 9) (rw c.in-Constant.ensures.0 (known_cell f t k n a p s refl (λ l. omega (arith, c.in-Constant.ensures.1)) c.in-Constant.ensures.2))
@@ -50,14 +49,14 @@ returns-in-Variable c =
     let t = tab_of T in
     let k = consts_of T in
     let fr = c.args.frame.now in
-    let cl = cells_of fr in
-    let n = node_of fr in
+    let cl = fr.cells in
+    let n = fr.node in
     let a = c.args.at in
-    let p = c.requires.1 in
+    let p = c.requires.0 in
     let s = c.in-Variable.s in
     let e = c.in-Variable.ensures.0 in
     let l : s < 112 = omega (arith, c.in-Variable.ensures.0, c.in-Variable.ensures.1) in
-    ap Out.Value (c.read_cell.ensures ∙ ap value_of (frame_cell fr (s * 9) (slot_cell f t k n a p s e cl c.requires.2 l))) ∙ ap or_failure (sym (is_variable f t k n a p s e false cl cl l))
+    ap Out.Value c.read_cell.ensures ∙ ap or_failure (sym (is_variable f t k n a p s e false cl cl l))
 
 pub returns-in-Constant : goal.returns-in-Constant
 returns-in-Constant c =
@@ -66,10 +65,10 @@ returns-in-Constant c =
     let t = tab_of T in
     let k = consts_of T in
     let fr = c.args.frame.now in
-    let cl = cells_of fr in
-    let n = node_of fr in
+    let cl = fr.cells in
+    let n = fr.node in
     let a = c.args.at in
-    let p = c.requires.1 in
+    let p = c.requires.0 in
     let s = slot_at t a in
     let i = c.in-Constant.i in
     ap Out.Value (c.read_cell-in-Constant.ensures ∙ ap value_of (const_cell T (i * 9) (rw c.in-Constant.ensures.0 (known_cell f t k n a p s refl (λ l. omega (arith, c.in-Constant.ensures.1)) c.in-Constant.ensures.2))) ∙ ap (λ (j : ℕ). value_of (take 9 (drop (j * 9) k))) c.in-Constant.ensures.0) ∙ ap or_failure (sym (is_constant f t k n a p s refl false cl cl (λ l. omega (arith, c.in-Constant.ensures.1)) c.in-Constant.ensures.2))
@@ -81,9 +80,9 @@ returns-in-Other c =
     let t = tab_of T in
     let k = consts_of T in
     let fr = c.args.frame.now in
-    let cl = cells_of fr in
-    let n = node_of fr in
+    let cl = fr.cells in
+    let n = fr.node in
     let a = c.args.at in
-    let p = c.requires.1 in
+    let p = c.requires.0 in
     let s = slot_at t a in
     ap Out.Value c.variant.ensures ∙ ap or_failure (sym (is_variant_lem f t k n a p s refl false cl cl (λ l. omega (arith, c.in-Other.ensures))))

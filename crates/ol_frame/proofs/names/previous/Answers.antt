@@ -4,7 +4,7 @@ use mathlib.Core.Option.{none, some}
 use lib.ListN.{take, drop}
 use Prim.Native.Nat.{ℕ, ◌+◌, ◌<◌, ◌*◌}
 use Rattle.ol_spec.specs.Cell.{value_of}
-use Rattle.ol_frame.proofs.Tabling.{before_cell, before_room, const_cell, const_room}
+use Rattle.ol_frame.proofs.Tabling.{const_cell, const_room}
 use native.Mathlib.Omega.{arith}
 use Rattle.ol_spec.specs.Eval.{pre_of}
 use Rattle.ol_spec.specs.declared.Outcome.TheVariants as Out
@@ -15,45 +15,40 @@ use Rattle.ol_frame.specs.Plans.{globals_in, scope_in}
 use Rattle.ol_frame.proofs.Naming.{slot_cell, known_cell, was_variable, was_constant, was_variant, is_name, no_name, pre_is, pre_none}
 use Rattle.ol_tables.specs.Table.{tab_of, consts_of}
 use Rattle.ol_tables.specs.Tables.{slot_at}
-use Rattle.ol_frame.specs.Frame.{node_of, first_of, before_of}
 use Rattle.ol_frame.proofs.names.previous.Goals as goal
 
-pub is_first-requires : goal.is_first-requires
-is_first-requires c =
-    c.requires.0
-
-pub returns-then-is_first : goal.returns-then-is_first
-returns-then-is_first c =
+pub returns-then-frame : goal.returns-then-frame
+returns-then-frame c =
     let f = c.args.file.now in
     let T = c.args.tab.now in
     let k = consts_of T in
     let fr = c.args.frame.now in
-    let b = before_of fr in
-    let n = node_of fr in
+    let b = fr.before in
+    let n = fr.node in
     let a = c.args.at in
-    let F = first_of fr in
+    let F = fr.first in
     let g = globals_in f k in
     let cl = scope_in f n F b b in
-    let e : pre_of g cl F (expr_at f c.args.level a) ≡ Out.Failure Why.Cold = ap (λ (x : Bool). pre_of g cl x (expr_at f c.args.level a)) (sym c.is_first.ensures ∙ c.if-is_first.true) in
+    let e : pre_of g cl F (expr_at f c.args.level a) ≡ Out.Failure Why.Cold = ap (λ (x : Bool). pre_of g cl x (expr_at f c.args.level a)) (c.if-frame.true) in
     sym e
 
 pub bounds-file-at : goal.bounds-file-at
 bounds-file-at c =
     let f = c.args.file.now in
     let a = c.args.at in
-    let p = c.requires.1 in
+    let p = c.requires.0 in
     reads_in f c.args.level a p.reads
 
 pub overflow_add-at : goal.overflow_add-at
 overflow_add-at c =
     let f = c.args.file.now in
     let a = c.args.at in
-    let p = c.requires.1 in
+    let p = c.requires.0 in
     omega (arith, (var_form f c.args.level a p.reads c.if-file-at-ne4.false).inside, c.well_formed)
 
 pub slot_at-requires : goal.slot_at-requires
 slot_at-requires c =
-    let p = c.requires.1 in
+    let p = c.requires.0 in
     omega (arith, (p.named c.if-file-at-ne4.false).long, (p.named c.if-file-at-ne4.false).inside)
 
 pub read_cell-requires : goal.read_cell-requires
@@ -63,14 +58,14 @@ read_cell-requires c =
     let t = tab_of T in
     let k = consts_of T in
     let fr = c.args.frame.now in
-    let b = before_of fr in
-    let n = node_of fr in
+    let b = fr.before in
+    let n = fr.node in
     let a = c.args.at in
-    let p = c.requires.1 in
+    let p = c.requires.0 in
     let s = c.in-Variable.s in
     let e = c.in-Variable.ensures.0 in
     let l : s < 112 = omega (arith, c.in-Variable.ensures.0, c.in-Variable.ensures.1) in
-    before_room fr (s * 9) (slot_cell f t k n (a + 1) ((p.named c.if-file-at-ne4.false)) s e b c.requires.2 l)
+    slot_cell f t k n (a + 1) (p.named c.if-file-at-ne4.false) s e b c.requires.1 l
 
 pub read_cell-requires-in-Constant : goal.read_cell-requires-in-Constant
 read_cell-requires-in-Constant c =
@@ -79,9 +74,9 @@ read_cell-requires-in-Constant c =
     let t = tab_of T in
     let k = consts_of T in
     let fr = c.args.frame.now in
-    let n = node_of fr in
+    let n = fr.node in
     let a = c.args.at in
-    let p = c.requires.1 in
+    let p = c.requires.0 in
     let s = slot_at t (a + 1) in
     let i = c.in-Constant.i in
     const_room T (i * 9) (rw c.in-Constant.ensures.0 (known_cell f t k n (a + 1) ((p.named c.if-file-at-ne4.false)) s refl (λ l. omega (arith, c.in-Constant.ensures.1)) c.in-Constant.ensures.2))
@@ -93,17 +88,17 @@ returns-in-Variable c =
     let t = tab_of T in
     let k = consts_of T in
     let fr = c.args.frame.now in
-    let b = before_of fr in
-    let n = node_of fr in
+    let b = fr.before in
+    let n = fr.node in
     let a = c.args.at in
-    let F = first_of fr in
-    let p = c.requires.1 in
+    let F = fr.first in
+    let p = c.requires.0 in
     let s = c.in-Variable.s in
     let e = c.in-Variable.ensures.0 in
     let l : s < 112 = omega (arith, c.in-Variable.ensures.0, c.in-Variable.ensures.1) in
     let g = globals_in f k in
     let cl = scope_in f n F b b in
-    ap Out.Value (c.read_cell.ensures ∙ ap value_of (before_cell fr (s * 9))) ∙ sym (pre_is g cl F (expr_at f c.args.level a) _ (some _) ((sym c.is_first.ensures ∙ c.if-is_first.false)) ((is_name f c.args.level a p.reads c.if-file-at-ne4.false)) (was_variable f t k n (a + 1) ((p.named c.if-file-at-ne4.false)) s e F b b l))
+    ap Out.Value c.read_cell.ensures ∙ sym (pre_is g cl F (expr_at f c.args.level a) _ (some _) ((c.if-frame.false)) ((is_name f c.args.level a p.reads c.if-file-at-ne4.false)) (was_variable f t k n (a + 1) ((p.named c.if-file-at-ne4.false)) s e F b b l))
 
 pub returns-in-Constant : goal.returns-in-Constant
 returns-in-Constant c =
@@ -112,16 +107,16 @@ returns-in-Constant c =
     let t = tab_of T in
     let k = consts_of T in
     let fr = c.args.frame.now in
-    let b = before_of fr in
-    let n = node_of fr in
+    let b = fr.before in
+    let n = fr.node in
     let a = c.args.at in
-    let F = first_of fr in
-    let p = c.requires.1 in
+    let F = fr.first in
+    let p = c.requires.0 in
     let s = slot_at t (a + 1) in
     let i = c.in-Constant.i in
     let g = globals_in f k in
     let cl = scope_in f n F b b in
-    ap Out.Value (c.read_cell-in-Constant.ensures ∙ ap value_of (const_cell T (i * 9) (rw c.in-Constant.ensures.0 (known_cell f t k n (a + 1) ((p.named c.if-file-at-ne4.false)) s refl (λ l. omega (arith, c.in-Constant.ensures.1)) c.in-Constant.ensures.2))) ∙ ap (λ (j : ℕ). value_of (take 9 (drop (j * 9) k))) c.in-Constant.ensures.0) ∙ sym (pre_is g cl F (expr_at f c.args.level a) _ (some _) ((sym c.is_first.ensures ∙ c.if-is_first.false)) ((is_name f c.args.level a p.reads c.if-file-at-ne4.false)) (was_constant f t k n (a + 1) ((p.named c.if-file-at-ne4.false)) s refl F b b (λ l. omega (arith, c.in-Constant.ensures.1)) c.in-Constant.ensures.2))
+    ap Out.Value (c.read_cell-in-Constant.ensures ∙ ap value_of (const_cell T (i * 9) (rw c.in-Constant.ensures.0 (known_cell f t k n (a + 1) ((p.named c.if-file-at-ne4.false)) s refl (λ l. omega (arith, c.in-Constant.ensures.1)) c.in-Constant.ensures.2))) ∙ ap (λ (j : ℕ). value_of (take 9 (drop (j * 9) k))) c.in-Constant.ensures.0) ∙ sym (pre_is g cl F (expr_at f c.args.level a) _ (some _) ((c.if-frame.false)) ((is_name f c.args.level a p.reads c.if-file-at-ne4.false)) (was_constant f t k n (a + 1) ((p.named c.if-file-at-ne4.false)) s refl F b b (λ l. omega (arith, c.in-Constant.ensures.1)) c.in-Constant.ensures.2))
 
 pub returns-in-Other : goal.returns-in-Other
 returns-in-Other c =
@@ -130,15 +125,15 @@ returns-in-Other c =
     let t = tab_of T in
     let k = consts_of T in
     let fr = c.args.frame.now in
-    let b = before_of fr in
-    let n = node_of fr in
+    let b = fr.before in
+    let n = fr.node in
     let a = c.args.at in
-    let F = first_of fr in
-    let p = c.requires.1 in
+    let F = fr.first in
+    let p = c.requires.0 in
     let s = slot_at t (a + 1) in
     let g = globals_in f k in
     let cl = scope_in f n F b b in
-    sym (pre_is g cl F (expr_at f c.args.level a) _ none ((sym c.is_first.ensures ∙ c.if-is_first.false)) ((is_name f c.args.level a p.reads c.if-file-at-ne4.false)) (was_variant f t k n (a + 1) ((p.named c.if-file-at-ne4.false)) s refl F b b (λ l. omega (arith, c.in-Other.ensures))))
+    sym (pre_is g cl F (expr_at f c.args.level a) _ none ((c.if-frame.false)) ((is_name f c.args.level a p.reads c.if-file-at-ne4.false)) (was_variant f t k n (a + 1) ((p.named c.if-file-at-ne4.false)) s refl F b b (λ l. omega (arith, c.in-Other.ensures))))
 
 pub returns-then-file-at-ne4 : goal.returns-then-file-at-ne4
 returns-then-file-at-ne4 c =
@@ -146,11 +141,11 @@ returns-then-file-at-ne4 c =
     let T = c.args.tab.now in
     let k = consts_of T in
     let fr = c.args.frame.now in
-    let b = before_of fr in
-    let n = node_of fr in
+    let b = fr.before in
+    let n = fr.node in
     let a = c.args.at in
-    let F = first_of fr in
-    let p = c.requires.1 in
+    let F = fr.first in
+    let p = c.requires.0 in
     let g = globals_in f k in
     let cl = scope_in f n F b b in
-    sym (pre_none g cl F (expr_at f c.args.level a) ((sym c.is_first.ensures ∙ c.if-is_first.false)) (no_name f c.args.level a p.reads c.if-file-at-ne4.true))
+    sym (pre_none g cl F (expr_at f c.args.level a) ((c.if-frame.false)) (no_name f c.args.level a p.reads c.if-file-at-ne4.true))

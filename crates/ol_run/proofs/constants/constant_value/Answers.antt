@@ -6,7 +6,6 @@ use native.Mathlib.Omega.{arith}
 use lib.ListN.{get_or}
 use Rattle.ol_tables.specs.Table.{consts_of}
 use Rattle.ol_eval.specs.Post.{EvalsTo}
-use Rattle.ol_frame.specs.Frame.{node_of, cells_of, before_of}
 use Rattle.ol_frame.specs.Walk.{nodes_in}
 use Rattle.ol_run.proofs.Constant.{size_few, constant_ready, constant_out_lem, value_place_lem}
 use Rattle.ol_run.proofs.constants.constant_value.Goals as goal
@@ -44,7 +43,7 @@ eval-r-requires c =
     let code = get_or f (c.args.at + 2) 0 in
     let ce = ap (λ (x : ℕ). get_or f (x + 2) 0) at in
     let e = value_place_lem kk p (c.args.at + 2 + c.ty_size.result) code ce ((λ i. at i + 2 + c.ty_size.ensures i)) in
-    (c.requires.framed.0, rw (e, c.requires.framed.1) (constant_ready kk p (cells_of fr) (before_of fr) (0 ∷ []) (0 ∷ []) refl (omega arith)))
+    rw (e, c.requires.framed.0) (constant_ready kk p fr.cells fr.before (0 ∷ []) (0 ∷ []) refl (omega arith))
 
 pub returns : goal.returns
 returns c =
@@ -57,8 +56,8 @@ returns c =
     let ce = ap (λ (x : ℕ). get_or f (x + 2) 0) at in
     let e = value_place_lem kk p (c.args.at + 2 + c.ty_size.result) code ce ((λ i. at i + 2 + c.ty_size.ensures i)) in
     let new = c.eval-r.new.new in
-    constant_out_lem kk p (cells_of fr) (before_of fr) (0 ∷ []) code ce
-    (subst (λ (x : ℕ). EvalsTo f kk 24 x (nodes_in f) true (cells_of fr) (before_of fr) (0 ∷ []) c.eval-r.result new) e
-    (subst (λ (n : ℕ). EvalsTo f kk 24 (c.args.at + 2 + c.ty_size.result) n true (cells_of fr) (before_of fr) (0 ∷ []) c.eval-r.result new) c.requires.framed.1
-    (subst (λ (b : Bool). EvalsTo f kk 24 (c.args.at + 2 + c.ty_size.result) (node_of fr) b (cells_of fr) (before_of fr) (0 ∷ []) c.eval-r.result new) c.requires.framed.2 c.eval-r.ensures)))
+    constant_out_lem kk p fr.cells fr.before (0 ∷ []) code ce
+    (subst (λ (x : ℕ). EvalsTo f kk 24 x (nodes_in f) true fr.cells fr.before (0 ∷ []) c.eval-r.result new) e
+    (subst (λ (n : ℕ). EvalsTo f kk 24 (c.args.at + 2 + c.ty_size.result) n true fr.cells fr.before (0 ∷ []) c.eval-r.result new) c.requires.framed.0
+    (subst (λ (b : Bool). EvalsTo f kk 24 (c.args.at + 2 + c.ty_size.result) fr.node b fr.cells fr.before (0 ∷ []) c.eval-r.result new) c.requires.framed.1 c.eval-r.ensures)))
     c.fitted.ensures

@@ -5,8 +5,6 @@ use native.Mathlib.Omega.{arith}
 use lib.ListN.{length, length-set, replicate}
 use Rattle.ol_tables.specs.At.{end_at}
 use Rattle.ol_run.specs.Constants.{value_at}
-use Rattle.ol_frame.specs.Frame.{node_of, first_of}
-use Rattle.ol_frame.proofs.Framing.{holds_head}
 use Rattle.ol_run.proofs.Constant.{known_is, not_done, same_onward, cleared_same, cleared_ready, going_start, going_ready, going_written, going_stuck, going_turn, going_done}
 use Rattle.ol_run.proofs.constants.constant_values.Goals as goal
 
@@ -15,11 +13,6 @@ returns-then-count-eq0 c =
     let p = c.requires in
     let q = cleared_ready p in
     (going_done q (going_start p) (omega (arith, c.if-count-eq0.true)), same_onward (cleared_same p) (going_start p).same)
-
-pub set_frame-requires : goal.set_frame-requires
-set_frame-requires c =
-    let p = c.requires in
-    (refl, p.nodes_few)
 
 pub loop-i-init : goal.loop-i-init
 loop-i-init c =
@@ -32,10 +25,8 @@ constant_value-requires c =
     let q = cleared_ready p in
     let g = c.loop-i.invariant in
     let lt = c.loop-i-test.true in
-    let head = holds_head (replicate 2018 0) c.args.nodes true refl in
-    let fe = c.set_frame.ensures in
     record {
-      framed = (ap length fe ∙ head.framed, ap (λ l. node_of l) fe ∙ head.node ∙ p.nodes_is, ap (λ l. first_of l) fe ∙ head.first_is);
+      framed = (p.nodes_is, refl);
       constant_ready = going_ready q c.loop-i.tab g lt;
     }
 

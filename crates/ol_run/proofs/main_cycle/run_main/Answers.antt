@@ -1,7 +1,6 @@
 use mathlib.Core.Path.{refl, sym, ◌∙◌}
 use native.Mathlib.Omega.{arith}
 use Prim.Native.Nat.{◌*◌}
-use Rattle.ol_frame.specs.Frame.{cells_of}
 use Rattle.ol_tables.proofs.Lending.{put_tail}
 use Rattle.ol_state.proofs.Parts.{known_room, known_head}
 use Rattle.ol_state.proofs.Instances.{few_nodes_lem}
@@ -103,15 +102,10 @@ run_record-r-requires c =
     let front = known_head t b.is b.small room in
     let copied = c.copy.new.to in
     let e = all_copied c.args.old.now c.args.new.now c.copy.new.to c.requires.renewed c.copy.ensures in
-    main_ready h H front copied _ e refl
+    main_ready h H front copied e
 
-pub slice_bounds-finish_frame-end : goal.slice_bounds-finish_frame-end
-slice_bounds-finish_frame-end c =
-    let kf = c.run_record-r.ensures.1 in
-    sym kf
-
-pub slice_bounds-finish_frame-count : goal.slice_bounds-finish_frame-count
-slice_bounds-finish_frame-count c =
+pub slice_bounds-finish-count : goal.slice_bounds-finish-count
+slice_bounds-finish-count c =
     let h = c.requires in
     let t = c.args.tab.now in
     let b = c.byte-head.ensures in
@@ -124,8 +118,8 @@ slice_bounds-finish_frame-count c =
     let kx = c.run_record-r.auto.new in
     omega (arith, moved_room h H front copied x e kx)
 
-pub slice_bounds-finish_frame-start : goal.slice_bounds-finish_frame-start
-slice_bounds-finish_frame-start c =
+pub slice_bounds-finish-start : goal.slice_bounds-finish-start
+slice_bounds-finish-start c =
     let h = c.requires in
     let t = c.args.tab.now in
     let b = c.byte-head.ensures in
@@ -138,8 +132,8 @@ slice_bounds-finish_frame-start c =
     let kx = c.run_record-r.auto.new in
     omega (arith, moved_room h H front copied x e kx)
 
-pub slice_bounds-finish_frame-end-in-Values : goal.slice_bounds-finish_frame-end-in-Values
-slice_bounds-finish_frame-end-in-Values c =
+pub slice_bounds-finish-end : goal.slice_bounds-finish-end
+slice_bounds-finish-end c =
     let h = c.requires in
     let t = c.args.tab.now in
     let b = c.byte-head.ensures in
@@ -152,8 +146,8 @@ slice_bounds-finish_frame-end-in-Values c =
     let kx = c.run_record-r.auto.new in
     omega (arith, moved_room h H front copied x e kx)
 
-pub finish_frame-requires : goal.finish_frame-requires
-finish_frame-requires c =
+pub finish-requires : goal.finish-requires
+finish-requires c =
     let h = c.requires in
     let t = c.args.tab.now in
     let n = c.row-n.result in
@@ -166,24 +160,7 @@ finish_frame-requires c =
     let e = all_copied c.args.old.now c.args.new.now c.copy.new.to c.requires.renewed c.copy.ensures in
     let x = c.run_record-r.new.new in
     let kx = c.run_record-r.auto.new in
-    let frame = c.run_record-r.new.frame in
-    let kf = c.run_record-r.ensures.1 in
-    finish_ready h H front n copied x frame w e kx kf
-
-pub slice_bounds-write_cells-count : goal.slice_bounds-write_cells-count
-slice_bounds-write_cells-count c =
-    let kf = c.run_record-r.ensures.1 in
-    omega (arith, kf)
-
-pub slice_bounds-write_cells-start : goal.slice_bounds-write_cells-start
-slice_bounds-write_cells-start c =
-    let kf = c.run_record-r.ensures.1 in
-    omega (arith, kf)
-
-pub slice_bounds-write_cells-end : goal.slice_bounds-write_cells-end
-slice_bounds-write_cells-end c =
-    let kf = c.run_record-r.ensures.1 in
-    omega (arith, kf)
+    finish_ready h H front n copied x w e kx
 
 pub write_cells-requires : goal.write_cells-requires
 write_cells-requires c =
@@ -196,8 +173,7 @@ write_cells-requires c =
     let H = 9 * c.byte-head.result in
     let front = known_head t b.is b.small room in
     let frame = c.run_record-r.new.frame in
-    let kf = c.run_record-r.ensures.1 in
-    values_ready h H front n frame w kf
+    values_ready h H front n frame w
 
 pub copy-requires-in-Overflowed : goal.copy-requires-in-Overflowed
 copy-requires-in-Overflowed c = tt
@@ -215,7 +191,7 @@ shape_of-new-in-Values c =
     let kn = c.copy.auto.to in
     let x = c.run_record-r.new.new in
     let kx = c.run_record-r.auto.new in
-    ended_length h H front copied x c.finish_frame.new.to e kx c.finish_frame.auto.to ∙ kn
+    ended_length h H front copied x c.finish.new.to e kx c.finish.auto.to ∙ kn
 
 pub shape_of-values : goal.shape_of-values
 shape_of-values c = c.write_cells.auto.to
@@ -234,7 +210,7 @@ returns-in-Values c =
     let e = all_copied c.args.old.now c.args.new.now c.copy.new.to c.requires.renewed c.copy.ensures in
     let x = c.run_record-r.new.new in
     let frame = c.run_record-r.new.frame in
-    cycle_finished h H front copied x (cells_of frame) c.run_record-r.result e c.run_record-r.ensures.0 n c.finish_frame.new.to c.write_cells.new.to w c.in-Values.is c.finish_frame.ensures c.write_cells.ensures
+    cycle_finished h H front copied x frame.cells c.run_record-r.result e c.run_record-r.ensures n c.finish.new.to c.write_cells.new.to w c.in-Values.is c.finish.ensures c.write_cells.ensures
 
 pub shape_of-new-in-Failed : goal.shape_of-new-in-Failed
 shape_of-new-in-Failed c =
@@ -263,7 +239,7 @@ returns-in-Failed c =
     let e = all_copied c.args.old.now c.args.new.now c.copy.new.to c.requires.renewed c.copy.ensures in
     let x = c.run_record-r.new.new in
     let frame = c.run_record-r.new.frame in
-    cycle_failed h H front copied x (cells_of frame) c.run_record-r.result e c.run_record-r.ensures.0 _ c.from.result c.in-Failed.is c.from.ensures
+    cycle_failed h H front copied x frame.cells c.run_record-r.result e c.run_record-r.ensures _ c.from.result c.in-Failed.is c.from.ensures
 
 pub shape_of-new-in-Overflowed : goal.shape_of-new-in-Overflowed
 shape_of-new-in-Overflowed c =
@@ -294,4 +270,4 @@ returns-in-Overflowed c =
     let x = c.run_record-r.new.new in
     let kx = c.run_record-r.auto.new in
     let frame = c.run_record-r.new.frame in
-    cycle_overflowed h H front copied x (cells_of frame) c.run_record-r.result e c.run_record-r.ensures.0 c.copy-in-Overflowed.new.to c.in-Overflowed.is (all_copied c.args.old.now (put_tail H copied x) c.copy-in-Overflowed.new.to (moved_length h H front copied x e kx ∙ kn ∙ h.renewed) c.copy-in-Overflowed.ensures)
+    cycle_overflowed h H front copied x frame.cells c.run_record-r.result e c.run_record-r.ensures c.copy-in-Overflowed.new.to c.in-Overflowed.is (all_copied c.args.old.now (put_tail H copied x) c.copy-in-Overflowed.new.to (moved_length h H front copied x e kx ∙ kn ∙ h.renewed) c.copy-in-Overflowed.ensures)

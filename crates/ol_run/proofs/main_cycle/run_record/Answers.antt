@@ -1,6 +1,5 @@
 use native.Mathlib.Omega.{arith}
 use Prim.Native.Nat.{◌+◌, ◌*◌}
-use Rattle.ol_frame.specs.Frame.{cells_of}
 use Rattle.ol_tables.proofs.Lending.{length_put}
 use Rattle.ol_frame.proofs.NodeRows.{narrow}
 use Rattle.ol_frame.proofs.Tabling.{rows_room}
@@ -31,8 +30,8 @@ overflow_add-own c =
     let w = c.row-n.ensures in
     omega (arith, narrow h.running (inside h) n w)
 
-pub open_frame-requires : goal.open_frame-requires
-open_frame-requires c =
+pub open-requires : goal.open-requires
+open-requires c =
     let h = c.requires in
     let n = c.row-n.result in
     let w = c.row-n.ensures in
@@ -89,7 +88,7 @@ run-requires c =
     let w = c.row-n.ensures in
     let i = c.row-k.result in
     let iw = c.row-k.ensures in
-    let o = c.open_frame.ensures in
+    let o = c.open.ensures in
     record_runnable h n i w iw o
 
 pub shape_of-new : goal.shape_of-new
@@ -108,6 +107,6 @@ returns c =
     let w = c.row-n.ensures in
     let i = c.row-k.result in
     let iw = c.row-k.ensures in
-    let o = c.open_frame.ensures in
+    let o = c.open.ensures in
     let x = c.run.new.new in
-    (record_ran h n i w iw o (cells_of c.run.new.frame) x c.run.result c.run.ensures.0, c.run.ensures.1)
+    record_ran h n i w iw o c.run.new.frame.cells x c.run.result c.run.ensures
