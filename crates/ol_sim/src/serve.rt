@@ -17,6 +17,7 @@ use ol_tables::tables::ROWS;
 
 // Judges with an empty table by name, which is longer than every declared name, and calls.
 // `rows` and `tab` stay two parameters: of a struct of two `&mut` every clause would have to keep both ghost names.
+// `Callable` is asked at each step down to the call: a closure has no ghost field that could hold it.
 fn serve_named<const N: usize, R, F: FnMut(&Program) -> R>(
     project: &Project,
     rows: &mut [usize],
@@ -111,7 +112,8 @@ fn serve_sized<const N: usize, R, F: FnMut(&Program) -> R>(
     serve_with(project, &mut rows, &mut tab, call)
 }
 
-// Calls on the file's program, or gives the fault for which it is not admitted.
+// Calls on the file's program, or gives the fault for which it is not admitted. How many nodes the file has is known at the run only, and
+// there is no heap: `starts` has the most, and its front is lent.
 pub(crate) fn serve<R, F: FnMut(&Program) -> R>(file: &[u8], call: &mut F) -> Result<R, Fault>
     requires { Callable (F.pre call.old) }
     ensures { Serves (F.step call.old) call.old file.now result call.new }
