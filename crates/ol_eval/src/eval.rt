@@ -26,26 +26,10 @@ use ol_frame::skip::{pass, pass_all};
 use ol_frame::tables::{order_at, row};
 use ol_spec::Outcome;
 use ol_state::fresh::write_fresh;
+use ol_tables::form::Form;
 use ol_tables::heads::{head, ty_size};
 use ol_tables::tables::{COUNT, INPUTS, KIND, OUTPUTS, SIZE, VARIABLES};
 use ol_value::cell::write_cell;
-
-// The codes of the forms that are told apart here, each an expression's first byte (docs/FORMAT.md).
-const VAR: u8 = 4;
-
-const UNARY: u8 = 5;
-
-const BINARY: u8 = 6;
-
-const IF: u8 = 7;
-
-const ARROW: u8 = 9;
-
-const CAST: u8 = 10;
-
-const CALL: u8 = 11;
-
-const TUPLE: u8 = 12;
 
 // The kind of an Operator in a node's row.
 const OPERATOR: usize = 1;
@@ -74,7 +58,7 @@ pub fn eval(
     requires { CanEval file.now tab.now level 1 at frame.now old.now new.old }
     ensures { on (EvalsTo file.now (consts_of tab.now) level at) frame.now old.now result new.new }
 {
-    if file[at] == VAR {
+    if Form::Var.is_at(file, at) {
         Step {
             out: named_out(present(file, tab, frame, at + 1)),
             next: at + 3,
@@ -100,8 +84,8 @@ fn eval_form(
     ensures { on (EvalsTo file.now (consts_of tab.now) level at) frame.now old.now result new.new }
 {
     let p = at + 1;
-    match file[at] {
-        UNARY => {
+    match Form::at(file, at) {
+        Form::Unary => {
             let op = file[p];
             let r = eval_form(file, tab, at + 2, level - 1, frame, old, new);
             Step {
@@ -109,16 +93,16 @@ fn eval_form(
                 ..r
             }
         }
-        BINARY => eval_two(file, tab, at, level - 1, frame, old, new),
-        IF => eval_if(file, tab, p, level - 1, frame, old, new),
-        ARROW => {
+        Form::Binary => eval_two(file, tab, at, level - 1, frame, old, new),
+        Form::If => eval_if(file, tab, p, level - 1, frame, old, new),
+        Form::Arrow => {
             if frame.first {
                 eval_first(file, tab, p, level - 1, frame, old, new)
             } else {
                 eval_second(file, tab, p, level - 1, frame, old, new)
             }
         }
-        CAST => {
+        Form::Cast => {
             let t = file[p];
             let q = p + ty_size(file, p);
             let r = eval_form(file, tab, q, level - 1, frame, old, new);
@@ -127,7 +111,7 @@ fn eval_form(
                 ..r
             }
         }
-        CALL => eval_call(file, tab, at, level, frame, old, new),
+        Form::Call => eval_call(file, tab, at, level, frame, old, new),
         _ => {
             let s = pass(file, tab, at, level);
             Step {
@@ -387,7 +371,7 @@ fn eval_all(
     requires { CanEval file.now tab.now level (parts_at file.now at) (next_at file.now at) frame.now old.now new.old × Several file.now at to.old }
     ensures { on (AllTo file.now (consts_of tab.now) level at) frame.now old.now result to.new new.new × (length to.new ≡ length to.old) }
 {
-    let fits = file[at] == CALL;
+    let fits = Form::Call.is_at(file, at);
     let k = usize::from(file[at + 1]);
     let h = head(file, at);
     let n = h.count;
@@ -555,9 +539,9 @@ fn equation(
 {
     let n = usize::from(file[at]);
     let rhs = at + 1 + 2 * n;
-    match file[rhs] {
-        CALL => call_equation(file, tab, at, i, frame, old, new),
-        TUPLE => tuple_equation(file, tab, at, i, frame, old, new),
+    match Form::at(file, rhs) {
+        Form::Call => call_equation(file, tab, at, i, frame, old, new),
+        Form::Tuple => tuple_equation(file, tab, at, i, frame, old, new),
         _ => {
             let r = eval(file, tab, rhs, 24, frame, old, new);
             frame.bind_out(tab, at + 1, r.out)

@@ -2,6 +2,7 @@
 use Prim.Native.Nat.{ℕ, ◌+◌, ◌<◌, ◌≤◌, min}
 use mathlib.Core.Bool.{Bool, true, false, not, ◌||◌}
 use mathlib.Core.List.{List, [], append-nil}
+use mathlib.Core.Logic.{◌⊎◌, ⊎_elim}
 use mathlib.Core.Path.{◌≡◌, refl, sym, ap, subst, ◌∙◌}
 use native.Mathlib.Omega.{arith}
 use native.Mathlib.Nat.{zero-add}
@@ -17,6 +18,9 @@ use Rattle.ol_tables.specs.Heads.{head_size as head_of}
 use Rattle.ol_tables.specs.Walks.{HeadOf, skip_at, sites_at, CallMet, NoCall}
 use Rattle.ol_tables.specs.declared.heads.Parts.{Parts}
 use Rattle.ol_tables.specs.declared.heads.Call.{Call}
+use Rattle.ol_tables.specs.declared.form.Form.{Form}
+use Rattle.ol_tables.specs.declared.form.Form.TheVariants as Frm
+use Rattle.ol_tables.specs.FormCodes.{code_of_form}
 use Rattle.ol_tables.proofs.Forms.{parted, one_tree, by_form, reads_end}
 use Rattle.ol_frame.specs.Walk.{nodes_in, sizes_in, Below, Sized, Passable, Skips, SkipsTo}
 
@@ -27,6 +31,14 @@ or_true false = refl
 or_false : (b : Bool) → b ≡ b || false
 or_false true = refl
 or_false false = refl
+
+-- the codes of a literal and a Var are below 5
+pub low_code : {code : ℕ} {form : Form} → min code 12 ≡ code_of_form form → (form ≡ Frm.Bool) ⊎ ((form ≡ Frm.Int) ⊎ ((form ≡ Frm.Float) ⊎ ((form ≡ Frm.Char) ⊎ (form ≡ Frm.Var)))) → code < 5
+low_code {code} {form} h =
+    ⊎_elim (λ e. low Frm.Bool (omega arith) e) (⊎_elim (λ e. low Frm.Int (omega arith) e) (⊎_elim (λ e. low Frm.Float (omega arith) e) (⊎_elim (λ e. low Frm.Char (omega arith) e) (λ e. low Frm.Var (omega arith) e))))
+  where
+    low : (g : Form) → code_of_form g < 5 → form ≡ g → code < 5
+    low g l e = omega (arith, l, h ∙ ap code_of_form e)
 
 module _ (s : List ℕ) where
   pub callees_one : (level at : ℕ) → ReadsAll s level 1 at → callees_all (exprs_at s level 1 at) ≡ callees (expr_at s level at)

@@ -1,5 +1,5 @@
 -- Laws of plans: the parts of what can be evaluated can be evaluated.
-use Prim.Native.Nat.{ℕ, suc, ◌+◌, ◌-◌, ◌<◌, ◌≤◌}
+use Prim.Native.Nat.{ℕ, suc, ◌+◌, ◌-◌, ◌<◌, ◌≤◌, min}
 use mathlib.Core.Bool.{false, ◌&&◌}
 use mathlib.Core.List.{List, [], ◌++◌, append-nil}
 use mathlib.Core.Path.{◌≡◌, sym, ap, subst, ◌∙◌}
@@ -16,7 +16,10 @@ use Rattle.ol_tables.specs.At.{file_at, node_in, expr_at, end_at, exprs_at, Read
 use Rattle.ol_tables.specs.Tables.{Each, Sound}
 use Rattle.ol_tables.specs.Heads.{head_size as head_of}
 use Rattle.ol_tables.specs.Parts.{own_sites}
-use Rattle.ol_tables.proofs.Forms.{each_append, each_join, each_map, Formed, parted, one_read, none_read, collected, collected_form, callees_all_lem, callees_form, var_form, pre_form, call_form}
+use Rattle.ol_tables.proofs.Forms.{each_append, each_join, each_map, Formed, some_code, parted, one_read, none_read, collected, collected_form, callees_all_lem, callees_form, var_form, pre_form, call_form}
+use Rattle.ol_tables.specs.declared.form.Form.{Form}
+use Rattle.ol_tables.specs.FormCodes.{code_of_form}
+use Rattle.ol_tables.proofs.FormLaws.{code_is}
 use Rattle.ol_frame.specs.Walk.{nodes_in, sizes_in, Below, Passable}
 use Rattle.ol_frame.specs.Plans.{Named, Plan, segs_at, seg_at, name_at, Nameable, Looked}
 use Rattle.ol_frame.proofs.Passing.{callees_one}
@@ -94,6 +97,10 @@ module _ (s : List ℕ) where
   module _ {tab rows consts : List ℕ} {node : ℕ} where
     pub plan_head : {level n at : ℕ} → Plan s tab rows consts node level (suc n) at → Reads s level at
     plan_head {level} {n} {at} p = (parted s level n at p.reads).head
+
+    -- the code that was read as a form
+    pub plan_form : {level at : ℕ} {form : Form} → Plan s tab rows consts node level 1 at → (g : Form) → min (get_or s at 0) 12 ≡ code_of_form form → form ≡ g → get_or s at 0 ≡ code_of_form g
+    plan_form {level} {at} p g h e = code_is g (some_code s level at (plan_head p)) h e
 
     pub plan_first : {level n at : ℕ} → Plan s tab rows consts node level (suc n) at → Plan s tab rows consts node level 1 at
     plan_first {level} {n} {at} p =

@@ -15,6 +15,7 @@ use crate::outcomes::{
 use crate::skip::pass;
 use crate::tables::{Slot, code_of, row, slot_at};
 use ol_spec::{Cause, Outcome, Value};
+use ol_tables::form::Form;
 use ol_tables::table::CONSTANTS;
 use ol_tables::tables::INPUTS;
 use ol_value::cell::read_cell;
@@ -48,7 +49,7 @@ fn previous(file: &[u8], tab: &[u8], frame: &Frame, at: usize, level: usize) -> 
     if frame.first {
         return Outcome::Failure(Cause::Cold);
     }
-    if file[at] != 4 {
+    if !Form::Var.is_at(file, at) {
         return Outcome::Failure(Cause::Other);
     }
     match slot_at(tab, at + 1) {
@@ -63,15 +64,14 @@ pub fn leaf_out(file: &[u8], tab: &[u8], at: usize, level: usize, frame: &Frame)
     requires { Plan file.now (tab_of tab.now) (rows_of tab.now) (consts_of tab.now) frame.now.node level 1 at × Cells file.now frame.now.node frame.now.cells × Cells file.now frame.now.node frame.now.before × Leaf (get_or file.now at 0) }
     ensures { (seg : List ℕ) → result ≡ (eval_in file.now (consts_of tab.now) frame.now.node frame.now.first frame.now.cells frame.now.before (expr_at file.now level at) seg).out }
 {
-    let code = file[at];
     let p = at + 1;
-    match code {
-        0 => Outcome::Value(Value::Bool(file[p] == 1)),
-        1 => Outcome::Value(read_cell(file, at)),
-        2 => Outcome::Value(read_cell(file, at)),
-        3 => Outcome::Value(Value::Int(i64::from(file[p]))),
-        4 => present(file, tab, frame, p),
-        8 => previous(file, tab, frame, p, level - 1),
+    match Form::at(file, at) {
+        Form::Bool => Outcome::Value(Value::Bool(file[p] == 1)),
+        Form::Int => Outcome::Value(read_cell(file, at)),
+        Form::Float => Outcome::Value(read_cell(file, at)),
+        Form::Char => Outcome::Value(Value::Int(i64::from(file[p]))),
+        Form::Var => present(file, tab, frame, p),
+        Form::Pre => previous(file, tab, frame, p, level - 1),
         _ => Outcome::Failure(Cause::Other),
     }
 }
@@ -90,24 +90,23 @@ fn real_kind(file: &[u8], tab: &[u8], frame: &Frame, at: usize, level: usize) ->
     requires { Plan file.now (tab_of tab.now) (rows_of tab.now) (consts_of tab.now) frame.now.node level 1 at × Cells file.now frame.now.node frame.now.cells × (segs_at file.now level 1 at ≤ 32768) }
     ensures { kind_of result ≡ kind_at file.now tab.now frame.now level at }
 {
-    let code = file[at];
     let p = at + 1;
-    match code {
-        2 => RealKind::Double,
-        4 => kind_of_outcome(present(file, tab, frame, p)),
-        5 => real_kind(file, tab, frame, at + 2, level - 1),
-        6 => match file[p] {
+    match Form::at(file, at) {
+        Form::Float => RealKind::Double,
+        Form::Var => kind_of_outcome(present(file, tab, frame, p)),
+        Form::Unary => real_kind(file, tab, frame, at + 2, level - 1),
+        Form::Binary => match file[p] {
             10..14 => real_kinds(file, tab, frame, at + 2, level - 1),
             _ => RealKind::NotReal,
         },
-        7 => {
+        Form::If => {
             let c = pass(file, tab, p, level - 1);
             real_kinds(file, tab, frame, c.next, level - 1)
         }
-        8 => real_kind(file, tab, frame, p, level - 1),
-        9 => real_kinds(file, tab, frame, p, level - 1),
-        10 => kind_of_type(file[p]),
-        11 => call_kind(file, tab, usize::from(file[p])),
+        Form::Pre => real_kind(file, tab, frame, p, level - 1),
+        Form::Arrow => real_kinds(file, tab, frame, p, level - 1),
+        Form::Cast => kind_of_type(file[p]),
+        Form::Call => call_kind(file, tab, usize::from(file[p])),
         _ => RealKind::NotReal,
     }
 }

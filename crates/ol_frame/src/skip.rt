@@ -4,6 +4,7 @@ ghost use Rattle.ol_tables.specs.Table.{rows_of};
 ghost use Rattle.ol_frame.specs.Walk.{Passable, SkipsTo};
 
 use crate::tables::row;
+use ol_tables::form::Form;
 use ol_tables::heads::{NextCall, head, next_call};
 use ol_tables::tables::SIZE;
 
@@ -42,13 +43,12 @@ pub fn pass(file: &[u8], tab: &[u8], at: usize, level: usize) -> Passed
     requires { Passable file.now (rows_of tab.now) level 1 at × (816 ≤ length tab.now) }
     ensures { SkipsTo file.now level 1 at result }
 {
-    if file[at] < 5 {
-        Passed {
+    match Form::at(file, at) {
+        Form::Bool | Form::Int | Form::Float | Form::Char | Form::Var => Passed {
             next: head(file, at).start,
             used: 0,
             has: false,
-        }
-    } else {
-        pass_all(file, tab, at, level, 1)
+        },
+        _ => pass_all(file, tab, at, level, 1),
     }
 }

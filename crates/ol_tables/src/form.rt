@@ -26,10 +26,7 @@ impl Form {
         requires { at < length file.now }
         ensures { min (get_or file.now at 0) 12 ≡ code_of_form result }
     {
-        match Form::try_from(file[at]) {
-            Ok(form) => form,
-            Err(_) => Form::Tuple,
-        }
+        Form::try_from(file[at]).unwrap_or(Form::Tuple)
     }
 
     // Whether the expression at `at` is of this form.

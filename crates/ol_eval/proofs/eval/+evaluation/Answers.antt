@@ -1,5 +1,5 @@
 -- What the members of the cycle are asked, each member by its name. A call within the cycle is asked first for its measure.
-use Rattle.std.proofs.Common.{rules, ℕ, ◌*◌, ◌+◌, ◌-◌, ◌<◌, ◌≤◌, drop, get_or, length, length-drop, take, length-take-le, Bool, true, false, List, ap, refl, subst, sym, ◌∙◌, ◌≡◌, arith, min}
+use Rattle.std.proofs.Common.{ℕ, ◌*◌, ◌+◌, ◌-◌, ◌<◌, ◌≤◌, drop, get_or, length, length-drop, take, length-take-le, Bool, true, false, List, ap, refl, subst, sym, ◌∙◌, ◌≡◌, arith, min}
 use Rattle.ol_eval.proofs.Arguments.{Going, going_done, going_failed, going_left, going_length, going_overflowed, going_passable, going_ready, going_start, going_turn, going_used, left_done, left_none, left_pass, left_suc}
 use Rattle.ol_eval.proofs.Calling.{call_all, call_at, call_done, call_lower, call_parts, call_room, call_several, call_single, call_size, call_small, call_steps, call_stop, call_used}
 use Rattle.ol_eval.proofs.Evals.{first_not, first_ran, if_stop, if_taken, mapped, remade, rest_old, second_not, second_ran, seq_as, two_done, two_stop, untaken_meets}
@@ -13,10 +13,9 @@ use Rattle.ol_frame.proofs.Copying.{all_copied}
 use Rattle.ol_frame.proofs.Equating.{equation_is}
 use Rattle.ol_frame.proofs.Framing.{keeps_all, keeps_on}
 use Rattle.ol_frame.proofs.NodeRows.{few, inputs_first, inputs_most, narrow, outputs_most, row_room}
-use Rattle.ol_frame.proofs.Planning.{plan_head, plan_name, segs_cons}
+use Rattle.ol_frame.proofs.Planning.{plan_form, plan_head, plan_name, segs_cons}
 use Rattle.ol_frame.proofs.Running.{length_mid, length_put_mid, mid_of}
 use Rattle.ol_frame.proofs.Tabling.{rows_room}
-use Rattle.ol_frame.specs.Equations.{plan_at}
 use Rattle.ol_frame.specs.Plans.{Leaf, eval_in, globals_in, name_at, scope_in, seg_at, segs_at}
 use Rattle.ol_frame.specs.Stores.{passed_by}
 use Rattle.ol_frame.specs.Walk.{Passable, SkipsTo}
@@ -28,10 +27,13 @@ use Rattle.ol_spec.specs.Types.{cast_to}
 use Rattle.ol_spec.specs.declared.Value.{Value}
 use Rattle.ol_tables.proofs.Forms.{arrow_form, binary_form, cast_form, if_form, parted, reads_deep, reads_in, type_some, unary_form}
 use Rattle.ol_tables.proofs.Lending.{length_put, put_tail, tail_all, tail_of}
+use Rattle.ol_tables.specs.declared.form.Form.TheVariants as Frm
+use Rattle.ol_tables.proofs.FormLaws.{form_is}
+use borrow.Author.Tests.{true-eqb}
 use Rattle.ol_tables.specs.At.{end_at, expr_at, node_in}
 use Rattle.ol_tables.specs.Heads.{next_at, parts_at}
 use Rattle.ol_tables.specs.Table.{consts_of, rows_of, tab_of}
-use Rattle.ol_tables.specs.Tables.{code_at, order_at, row_at}
+use Rattle.ol_tables.specs.Tables.{code_at}
 use Rattle.ol_value.specs.Codes.{binary_by, ty_of}
 use Rattle.ol_eval.proofs.Rights
 use Rattle.ol_eval.proofs.eval.+evaluation.Goals as goal
@@ -412,13 +414,31 @@ equation-overflow_add-rhs-2 t c =
     let s = names_inside p n ne in
     omega (arith, s.0, s.1)
 
-pub equation-bounds-file-rhs : goal.equation-bounds-file-rhs
-equation-bounds-file-rhs t c =
+pub equation-at-requires : goal.equation-at-requires
+equation-at-requires t c =
     let p = c.requires in
     let n = c.from-n.result in
     let ne = c.from-n.ensures in
     let s = names_inside p n ne in
     s.0
+
+pub equation-call_equation-requires : goal.equation-call_equation-requires
+equation-call_equation-requires t c =
+    let p = c.requires in
+    let f = c.args.file.now in
+    let n = c.from-n.result in
+    let ne = c.from-n.ensures in
+    let code = plan_form f (equation_ready p (c.args.at + 1 + 2 * n) (right_place p n ne)).plan Frm.Call c.at.ensures c.in-Call.is in
+    (omega arith, (p, subst (λ (m : ℕ). get_or f (c.args.at + 1 + 2 * m) 0 ≡ 11) ne code))
+
+pub equation-tuple_equation-requires : goal.equation-tuple_equation-requires
+equation-tuple_equation-requires t c =
+    let p = c.requires in
+    let f = c.args.file.now in
+    let n = c.from-n.result in
+    let ne = c.from-n.ensures in
+    let code = plan_form f (equation_ready p (c.args.at + 1 + 2 * n) (right_place p n ne)).plan Frm.Tuple c.at.ensures c.in-Tuple.is in
+    (omega arith, (p, subst (λ (m : ℕ). get_or f (c.args.at + 1 + 2 * m) 0 ≡ 12) ne code))
 
 pub equation-eval-r-requires : goal.equation-eval-r-requires
 equation-eval-r-requires t c =
@@ -446,10 +466,10 @@ equation-returns-in_default t c =
     let fr = c.args.frame.now in
     let n = c.from-n.result in
     let ne = c.from-n.ensures in
-    (one_done p fr.first ((c.args.at + 1 + 2 * n)) c.bind_out.result c.bind_out.new.self.cells (right_place p n ne) (search rules) (search rules) c.eval-r.ensures c.bind_out.ensures.0 c.bind_out.ensures.1, c.bind_out.ensures.2)
+    (one_done p fr.first ((c.args.at + 1 + 2 * n)) c.bind_out.result c.bind_out.new.self.cells (right_place p n ne) (λ e. c.in_default.not-Call (form_is Frm.Call c.at.ensures e)) (λ e. c.in_default.not-Tuple (form_is Frm.Tuple c.at.ensures e)) c.eval-r.ensures c.bind_out.ensures.0 c.bind_out.ensures.1, c.bind_out.ensures.2)
 
-pub eval-bounds-file-at : goal.eval-bounds-file-at
-eval-bounds-file-at t c =
+pub eval-is_at-requires : goal.eval-is_at-requires
+eval-is_at-requires t c =
     let p = c.requires in
     let f = c.args.file.now in
     let L = c.args.level in
@@ -461,10 +481,10 @@ pub eval-present-requires : goal.eval-present-requires
 eval-present-requires t c =
     let p = c.requires in
     let f = c.args.file.now in
-    (plan_name f p.plan c.if-file-at-eq-VAR.true, p.present)
+    (plan_name f p.plan (true-eqb _ _ c.if-is_at.ensures), p.present)
 
-pub eval-returns-then-file-at-eq-VAR : goal.eval-returns-then-file-at-eq-VAR
-eval-returns-then-file-at-eq-VAR t c =
+pub eval-returns-then-is_at : goal.eval-returns-then-is_at
+eval-returns-then-is_at t c =
     let p = c.requires in
     let fr = c.args.frame.now in
     let tb = c.args.tab.now in
@@ -472,7 +492,7 @@ eval-returns-then-file-at-eq-VAR t c =
     let L = c.args.level in
     let a = c.args.at in
     let h = plan_head f p.plan in
-    var_evals f (consts_of tb) L a fr.node fr.first fr.cells fr.before p.plan.reads h c.if-file-at-eq-VAR.true p.same (c.named_out.ensures (present_of (globals_in f (consts_of tb)) (scope_in f fr.node false fr.cells fr.cells) (name_at f (a + 1))) c.present.ensures ∙ c.present.ensures)
+    var_evals f (consts_of tb) L a fr.node fr.first fr.cells fr.before p.plan.reads h (true-eqb _ _ c.if-is_at.ensures) p.same (c.named_out.ensures (present_of (globals_in f (consts_of tb)) (scope_in f fr.node false fr.cells fr.cells) (name_at f (a + 1))) c.present.ensures ∙ c.present.ensures)
 
 pub eval_all-loop-i-init : goal.eval_all-loop-i-init
 eval_all-loop-i-init t c =
@@ -683,7 +703,7 @@ eval_all-loop-i-preserved t c =
     let x = c.eval-r.new.new in
     let len = going_length g x K same in
     let h = moved f (consts_of tb) c.args.level fr.node fr.first fr.cells fr.before (refl {a = c.loop-i.pos}) (tail_all u o) c.eval-r.ensures in
-    (omega (arith, lt), c.write_cell.auto.out ∙ inv.1, length_put u w x (omega (arith, inv.3.within, same)) K ∙ inv.2, going_turn g h len q.callee c.in-Value.is (λ e. c.passed.ensures.0 e ∙ ap (λ (x : ℕ). passed_by (is_call f a) (ty_of (code_at (tab_of tb) x i) e) c.in-Value.v) kE) c.passed.ensures.1 c.write_cell.ensures c.write_cell.auto.out)
+    (omega (arith, lt), c.write_cell.auto.out ∙ inv.1, length_put u w x (omega (arith, inv.3.within, same)) K ∙ inv.2, going_turn g h len q.callee c.in-Value.is (λ e. c.passed.ensures.0 e ∙ ap (λ (b : Bool). passed_by b (ty_of (code_at (tab_of tb) c.from-k.result i) e) c.in-Value.v) c.is_at-fits.ensures ∙ ap (λ (x : ℕ). passed_by (is_call f a) (ty_of (code_at (tab_of tb) x i) e) c.in-Value.v) kE) c.passed.ensures.1 c.write_cell.ensures c.write_cell.auto.out)
 
 pub eval_all-returns : goal.eval_all-returns
 eval_all-returns t c =
@@ -860,8 +880,8 @@ eval_first-returns-else-runs t c =
     let ends = two_ends f L a p.plan.reads in
     seq_as ((λ (x y : List ℕ). choose true (branch_in f kk L a n F cl bb x) (branch_in f kk L mid n F cl bb y))) n1 n2 segs ends (first_not ((branch_in f kk L a n F cl bb (take n1 o))) ((branch_in f kk L mid n F cl bb (take n2 (drop n1 o)))) refl h q to (sym c.if-runs.false ∙ c.runs.ensures))
 
-pub eval_form-bounds-file-at : goal.eval_form-bounds-file-at
-eval_form-bounds-file-at t c =
+pub eval_form-at-requires : goal.eval_form-at-requires
+eval_form-at-requires t c =
     let p = c.requires in
     let f = c.args.file.now in
     let L = c.args.level in
@@ -885,7 +905,7 @@ eval_form-bounds-file-p t c =
     let L = c.args.level in
     let a = c.args.at in
     let h = plan_head f p.plan in
-    omega (arith, (unary_form f L a h c.in-5.is).1.inside)
+    omega (arith, (unary_form f L a h (plan_form f p.plan Frm.Unary c.at.ensures c.in-Unary.is)).1.inside)
 
 pub eval_form-overflow_sub-level : goal.eval_form-overflow_sub-level
 eval_form-overflow_sub-level t c =
@@ -905,10 +925,10 @@ eval_form-eval_form-r-requires t c =
     let a = c.args.at in
     let h = plan_head f p.plan in
     let deep = reads_deep f L a h in
-    (omega (arith, deep), (ready_parts p (unary_form f L a h c.in-5.is).1 refl))
+    (omega (arith, deep), (ready_parts p (unary_form f L a h (plan_form f p.plan Frm.Unary c.at.ensures c.in-Unary.is)).1 refl))
 
-pub eval_form-overflow_sub-level-in-6 : goal.eval_form-overflow_sub-level-in-6
-eval_form-overflow_sub-level-in-6 t c =
+pub eval_form-overflow_sub-level-in-Binary : goal.eval_form-overflow_sub-level-in-Binary
+eval_form-overflow_sub-level-in-Binary t c =
     let p = c.requires in
     let f = c.args.file.now in
     let L = c.args.level in
@@ -925,10 +945,10 @@ eval_form-eval_two-requires t c =
     let a = c.args.at in
     let h = plan_head f p.plan in
     let deep = reads_deep f L a h in
-    (omega (arith, deep), (ready_parts p (binary_form f L a h c.in-6.is).1 refl))
+    (omega (arith, deep), (ready_parts p (binary_form f L a h (plan_form f p.plan Frm.Binary c.at.ensures c.in-Binary.is)).1 refl))
 
-pub eval_form-overflow_sub-level-in-7 : goal.eval_form-overflow_sub-level-in-7
-eval_form-overflow_sub-level-in-7 t c =
+pub eval_form-overflow_sub-level-in-If : goal.eval_form-overflow_sub-level-in-If
+eval_form-overflow_sub-level-in-If t c =
     let p = c.requires in
     let f = c.args.file.now in
     let L = c.args.level in
@@ -945,7 +965,7 @@ eval_form-eval_if-requires t c =
     let a = c.args.at in
     let h = plan_head f p.plan in
     let deep = reads_deep f L a h in
-    (omega (arith, deep), (ready_parts p ((if_form f L a h c.in-7.is)) refl))
+    (omega (arith, deep), (ready_parts p ((if_form f L a h (plan_form f p.plan Frm.If c.at.ensures c.in-If.is))) refl))
 
 pub eval_form-overflow_sub-level-then-frame : goal.eval_form-overflow_sub-level-then-frame
 eval_form-overflow_sub-level-then-frame t c =
@@ -965,7 +985,7 @@ eval_form-eval_first-requires t c =
     let a = c.args.at in
     let h = plan_head f p.plan in
     let deep = reads_deep f L a h in
-    (omega (arith, deep), (ready_parts p ((arrow_form f L a h c.in-9.is)) refl))
+    (omega (arith, deep), (ready_parts p ((arrow_form f L a h (plan_form f p.plan Frm.Arrow c.at.ensures c.in-Arrow.is))) refl))
 
 pub eval_form-overflow_sub-level-else-frame : goal.eval_form-overflow_sub-level-else-frame
 eval_form-overflow_sub-level-else-frame t c =
@@ -985,19 +1005,19 @@ eval_form-eval_second-requires t c =
     let a = c.args.at in
     let h = plan_head f p.plan in
     let deep = reads_deep f L a h in
-    (omega (arith, deep), (ready_parts p ((arrow_form f L a h c.in-9.is)) refl))
+    (omega (arith, deep), (ready_parts p ((arrow_form f L a h (plan_form f p.plan Frm.Arrow c.at.ensures c.in-Arrow.is))) refl))
 
-pub eval_form-bounds-file-p-in-10 : goal.eval_form-bounds-file-p-in-10
-eval_form-bounds-file-p-in-10 t c =
+pub eval_form-bounds-file-p-in-Cast : goal.eval_form-bounds-file-p-in-Cast
+eval_form-bounds-file-p-in-Cast t c =
     let p = c.requires in
     let f = c.args.file.now in
     let L = c.args.level in
     let a = c.args.at in
     let h = plan_head f p.plan in
-    omega (arith, (cast_form f L a h c.in-10.is).1.inside, type_some (cast_form f L a h c.in-10.is).0)
+    omega (arith, (cast_form f L a h (plan_form f p.plan Frm.Cast c.at.ensures c.in-Cast.is)).1.inside, type_some (cast_form f L a h (plan_form f p.plan Frm.Cast c.at.ensures c.in-Cast.is)).0)
 
-pub eval_form-overflow_sub-level-in-10 : goal.eval_form-overflow_sub-level-in-10
-eval_form-overflow_sub-level-in-10 t c =
+pub eval_form-overflow_sub-level-in-Cast : goal.eval_form-overflow_sub-level-in-Cast
+eval_form-overflow_sub-level-in-Cast t c =
     let p = c.requires in
     let f = c.args.file.now in
     let L = c.args.level in
@@ -1006,16 +1026,16 @@ eval_form-overflow_sub-level-in-10 t c =
     let deep = reads_deep f L a h in
     deep
 
-pub eval_form-eval_form-r-requires-in-10 : goal.eval_form-eval_form-r-requires-in-10
-eval_form-eval_form-r-requires-in-10 t c =
+pub eval_form-eval_form-r-requires-in-Cast : goal.eval_form-eval_form-r-requires-in-Cast
+eval_form-eval_form-r-requires-in-Cast t c =
     let p = c.requires in
     let f = c.args.file.now in
     let L = c.args.level in
     let a = c.args.at in
     let h = plan_head f p.plan in
     let deep = reads_deep f L a h in
-    let e : a + 1 + c.ty_size.result ≡ a + (1 + ty_size (cast_form f L a h c.in-10.is).0) = omega (arith, c.ty_size.ensures, (cast_form f L a h c.in-10.is).3) in
-    (omega (arith, deep), (rw e (ready_parts p (cast_form f L a h c.in-10.is).1 refl)))
+    let e : a + 1 + c.ty_size.result ≡ a + (1 + ty_size (cast_form f L a h (plan_form f p.plan Frm.Cast c.at.ensures c.in-Cast.is)).0) = omega (arith, c.ty_size.ensures, (cast_form f L a h (plan_form f p.plan Frm.Cast c.at.ensures c.in-Cast.is)).3) in
+    (omega (arith, deep), (rw e (ready_parts p (cast_form f L a h (plan_form f p.plan Frm.Cast c.at.ensures c.in-Cast.is)).1 refl)))
 
 pub eval_form-pass-s-requires : goal.eval_form-pass-s-requires
 eval_form-pass-s-requires t c =
@@ -1023,27 +1043,15 @@ eval_form-pass-s-requires t c =
     let tb = c.args.tab.now in
     (ready_pass p, rows_room tb _ p.plan.program.table.long)
 
-pub eval_form-returns-in-5 : goal.eval_form-returns-in-5
-unfolding eval
-eval_form-returns-in-5 t c =
+pub eval_form-eval_call-requires : goal.eval_form-eval_call-requires
+eval_form-eval_call-requires t c =
     let p = c.requires in
-    let fr = c.args.frame.now in
-    let tb = c.args.tab.now in
     let f = c.args.file.now in
-    let kk = consts_of tb in
-    let L = c.args.level in
-    let a = c.args.at in
-    let n = fr.node in
-    let F = fr.first in
-    let cl = fr.cells in
-    let bb = fr.before in
-    let h = plan_head f p.plan in
-    let R = p.plan.reads in
-    one_evals f kk L a n F cl bb (λ (s : List ℕ). map_eval (unary_of (unary_form f L a h c.in-5.is).0) (eval_in f kk n F cl bb (expr_at f (L - 1) (a + 2)) s)) R (unary_form f L a h c.in-5.is).1 refl (λ s. refl) (mapped (unary_of (unary_form f L a h c.in-5.is).0) c.eval_form-r.ensures (unary_out_is (get_or f (a + 1) 0) (unary_form f L a h c.in-5.is).0 c.eval_form-r.result.out (unary_form f L a h c.in-5.is).2 c.unary_out.ensures))
+    (omega arith, (p, plan_form f p.plan Frm.Call c.at.ensures c.in-Call.is))
 
-pub eval_form-returns-in-6 : goal.eval_form-returns-in-6
+pub eval_form-returns-in-Unary : goal.eval_form-returns-in-Unary
 unfolding eval
-eval_form-returns-in-6 t c =
+eval_form-returns-in-Unary t c =
     let p = c.requires in
     let fr = c.args.frame.now in
     let tb = c.args.tab.now in
@@ -1057,11 +1065,11 @@ eval_form-returns-in-6 t c =
     let bb = fr.before in
     let h = plan_head f p.plan in
     let R = p.plan.reads in
-    form_evals f kk L a n F cl bb (two_in f kk (get_or f (a + 1) 0) (L - 1) (a + 2) n F cl bb) R (binary_form f L a h c.in-6.is).1 refl (λ s. binary_is (get_or f (a + 1) 0) (binary_form f L a h c.in-6.is).0 (binary_form f L a h c.in-6.is).2 (eval_in f kk n F cl bb (expr_at f (L - 1) (a + 2)) (take (seg_at f (L - 1) (a + 2)) s)) (eval_in f kk n F cl bb (expr_at f (L - 1) (end_at f (L - 1) (a + 2)))) (drop (seg_at f (L - 1) (a + 2)) s)) c.eval_two.ensures
+    one_evals f kk L a n F cl bb (λ (s : List ℕ). map_eval (unary_of (unary_form f L a h (plan_form f p.plan Frm.Unary c.at.ensures c.in-Unary.is)).0) (eval_in f kk n F cl bb (expr_at f (L - 1) (a + 2)) s)) R (unary_form f L a h (plan_form f p.plan Frm.Unary c.at.ensures c.in-Unary.is)).1 refl (λ s. refl) (mapped (unary_of (unary_form f L a h (plan_form f p.plan Frm.Unary c.at.ensures c.in-Unary.is)).0) c.eval_form-r.ensures (unary_out_is (get_or f (a + 1) 0) (unary_form f L a h (plan_form f p.plan Frm.Unary c.at.ensures c.in-Unary.is)).0 c.eval_form-r.result.out (unary_form f L a h (plan_form f p.plan Frm.Unary c.at.ensures c.in-Unary.is)).2 c.unary_out.ensures))
 
-pub eval_form-returns-in-7 : goal.eval_form-returns-in-7
+pub eval_form-returns-in-Binary : goal.eval_form-returns-in-Binary
 unfolding eval
-eval_form-returns-in-7 t c =
+eval_form-returns-in-Binary t c =
     let p = c.requires in
     let fr = c.args.frame.now in
     let tb = c.args.tab.now in
@@ -1075,7 +1083,25 @@ eval_form-returns-in-7 t c =
     let bb = fr.before in
     let h = plan_head f p.plan in
     let R = p.plan.reads in
-    form_evals f kk L a n F cl bb (if_in f kk (L - 1) (a + 1) n F cl bb) R ((if_form f L a h c.in-7.is)) refl (λ s. refl) c.eval_if.ensures
+    form_evals f kk L a n F cl bb (two_in f kk (get_or f (a + 1) 0) (L - 1) (a + 2) n F cl bb) R (binary_form f L a h (plan_form f p.plan Frm.Binary c.at.ensures c.in-Binary.is)).1 refl (λ s. binary_is (get_or f (a + 1) 0) (binary_form f L a h (plan_form f p.plan Frm.Binary c.at.ensures c.in-Binary.is)).0 (binary_form f L a h (plan_form f p.plan Frm.Binary c.at.ensures c.in-Binary.is)).2 (eval_in f kk n F cl bb (expr_at f (L - 1) (a + 2)) (take (seg_at f (L - 1) (a + 2)) s)) (eval_in f kk n F cl bb (expr_at f (L - 1) (end_at f (L - 1) (a + 2)))) (drop (seg_at f (L - 1) (a + 2)) s)) c.eval_two.ensures
+
+pub eval_form-returns-in-If : goal.eval_form-returns-in-If
+unfolding eval
+eval_form-returns-in-If t c =
+    let p = c.requires in
+    let fr = c.args.frame.now in
+    let tb = c.args.tab.now in
+    let f = c.args.file.now in
+    let kk = consts_of tb in
+    let L = c.args.level in
+    let a = c.args.at in
+    let n = fr.node in
+    let F = fr.first in
+    let cl = fr.cells in
+    let bb = fr.before in
+    let h = plan_head f p.plan in
+    let R = p.plan.reads in
+    form_evals f kk L a n F cl bb (if_in f kk (L - 1) (a + 1) n F cl bb) R ((if_form f L a h (plan_form f p.plan Frm.If c.at.ensures c.in-If.is))) refl (λ s. refl) c.eval_if.ensures
 
 pub eval_form-returns-then-frame : goal.eval_form-returns-then-frame
 unfolding eval
@@ -1093,7 +1119,7 @@ eval_form-returns-then-frame t c =
     let bb = fr.before in
     let h = plan_head f p.plan in
     let R = p.plan.reads in
-    form_evals f kk L a n F cl bb (choose_in f kk true (L - 1) (a + 1) n F cl bb) R ((arrow_form f L a h c.in-9.is)) refl (λ s. first_is f kk (L - 1) (a + 1) n F true cl bb s (c.if-frame.true)) c.eval_first.ensures
+    form_evals f kk L a n F cl bb (choose_in f kk true (L - 1) (a + 1) n F cl bb) R ((arrow_form f L a h (plan_form f p.plan Frm.Arrow c.at.ensures c.in-Arrow.is))) refl (λ s. first_is f kk (L - 1) (a + 1) n F true cl bb s (c.if-frame.true)) c.eval_first.ensures
 
 pub eval_form-returns-else-frame : goal.eval_form-returns-else-frame
 unfolding eval
@@ -1111,11 +1137,11 @@ eval_form-returns-else-frame t c =
     let bb = fr.before in
     let h = plan_head f p.plan in
     let R = p.plan.reads in
-    form_evals f kk L a n F cl bb (choose_in f kk false (L - 1) (a + 1) n F cl bb) R ((arrow_form f L a h c.in-9.is)) refl (λ s. first_is f kk (L - 1) (a + 1) n F false cl bb s (c.if-frame.false)) c.eval_second.ensures
+    form_evals f kk L a n F cl bb (choose_in f kk false (L - 1) (a + 1) n F cl bb) R ((arrow_form f L a h (plan_form f p.plan Frm.Arrow c.at.ensures c.in-Arrow.is))) refl (λ s. first_is f kk (L - 1) (a + 1) n F false cl bb s (c.if-frame.false)) c.eval_second.ensures
 
-pub eval_form-returns-in-10 : goal.eval_form-returns-in-10
+pub eval_form-returns-in-Cast : goal.eval_form-returns-in-Cast
 unfolding eval
-eval_form-returns-in-10 t c =
+eval_form-returns-in-Cast t c =
     let p = c.requires in
     let fr = c.args.frame.now in
     let tb = c.args.tab.now in
@@ -1130,9 +1156,9 @@ eval_form-returns-in-10 t c =
     let o = c.args.old.now in
     let h = plan_head f p.plan in
     let R = p.plan.reads in
-    let q = a + (1 + ty_size (cast_form f L a h c.in-10.is).0) in
-    let e : a + 1 + c.ty_size.result ≡ q = omega (arith, c.ty_size.ensures, (cast_form f L a h c.in-10.is).3) in
-    one_evals f kk L a n F cl bb (λ (s : List ℕ). map_eval (cast_to (cast_form f L a h c.in-10.is).0) (eval_in f kk n F cl bb (expr_at f (L - 1) q) s)) R (cast_form f L a h c.in-10.is).1 refl (λ s. refl) (mapped (cast_to (cast_form f L a h c.in-10.is).0) (moved f kk (L - 1) n F cl bb e (refl {a = o}) c.eval_form-r-in-10.ensures) (cast_out_is (get_or f (a + 1) 0) (cast_form f L a h c.in-10.is).0 c.eval_form-r-in-10.result.out (cast_form f L a h c.in-10.is).4 (cast_form f L a h c.in-10.is).2 c.cast_out.ensures))
+    let q = a + (1 + ty_size (cast_form f L a h (plan_form f p.plan Frm.Cast c.at.ensures c.in-Cast.is)).0) in
+    let e : a + 1 + c.ty_size.result ≡ q = omega (arith, c.ty_size.ensures, (cast_form f L a h (plan_form f p.plan Frm.Cast c.at.ensures c.in-Cast.is)).3) in
+    one_evals f kk L a n F cl bb (λ (s : List ℕ). map_eval (cast_to (cast_form f L a h (plan_form f p.plan Frm.Cast c.at.ensures c.in-Cast.is)).0) (eval_in f kk n F cl bb (expr_at f (L - 1) q) s)) R (cast_form f L a h (plan_form f p.plan Frm.Cast c.at.ensures c.in-Cast.is)).1 refl (λ s. refl) (mapped (cast_to (cast_form f L a h (plan_form f p.plan Frm.Cast c.at.ensures c.in-Cast.is)).0) (moved f kk (L - 1) n F cl bb e (refl {a = o}) c.eval_form-r-in-Cast.ensures) (cast_out_is (get_or f (a + 1) 0) (cast_form f L a h (plan_form f p.plan Frm.Cast c.at.ensures c.in-Cast.is)).0 c.eval_form-r-in-Cast.result.out (cast_form f L a h (plan_form f p.plan Frm.Cast c.at.ensures c.in-Cast.is)).4 (cast_form f L a h (plan_form f p.plan Frm.Cast c.at.ensures c.in-Cast.is)).2 c.cast_out.ensures))
 
 pub eval_form-returns-in_default : goal.eval_form-returns-in_default
 eval_form-returns-in_default t c =
@@ -1149,7 +1175,14 @@ eval_form-returns-in_default t c =
     let bb = fr.before in
     let h = plan_head f p.plan in
     let R = p.plan.reads in
-    let leaf : Leaf (get_or f a 0) = search rules in
+    let leaf : Leaf (get_or f a 0) = record {
+          no_unary = (λ e. c.in_default.not-Unary (form_is Frm.Unary c.at.ensures e));
+          no_binary = (λ e. c.in_default.not-Binary (form_is Frm.Binary c.at.ensures e));
+          no_if = (λ e. c.in_default.not-If (form_is Frm.If c.at.ensures e));
+          no_arrow = (λ e. c.in_default.not-Arrow (form_is Frm.Arrow c.at.ensures e));
+          no_cast = (λ e. c.in_default.not-Cast (form_is Frm.Cast c.at.ensures e));
+          no_call = (λ e. c.in_default.not-Call (form_is Frm.Call c.at.ensures e));
+        } in
     leaf_evals f kk L a n F cl bb R h leaf p.same c.pass-s.ensures (λ seg. c.same_out.ensures ∙ c.leaf_out.ensures seg)
 
 pub eval_if-eval-c-requires : goal.eval_if-eval-c-requires

@@ -6,16 +6,18 @@ use lib.ListN.{get_or}
 use Rattle.ol_spec.specs.Syntax.{Expr}
 use Rattle.ol_spec.specs.Eval.{real_kind, not_real, join, present_of}
 use Rattle.ol_tables.proofs.Forms.{reads_in, reads_deep, float_form, var_form, unary_form, binary_form, if_form, pre_form, arrow_form, cast_form, call_form, by_form, one_tree, type_some}
+use Rattle.ol_tables.specs.declared.form.Form.TheVariants as Frm
+use Rattle.ol_tables.proofs.FormLaws.{form_is}
 use Rattle.ol_frame.specs.Outcomes.{kind_of, outcome_kind}
 use Rattle.ol_frame.specs.Plans.{globals_in, scope_in, name_at}
 use Rattle.ol_frame.proofs.RealKinds.{arithmetic_code, plain_code, bits_code, code_kind, present_kind}
-use Rattle.ol_frame.proofs.Planning.{plan_head, plan_name, plan_parts, plan_rest, plan_first, plan_call, plan_passable, segs_form, segs_cons, segs_first}
+use Rattle.ol_frame.proofs.Planning.{plan_head, plan_form, plan_name, plan_parts, plan_rest, plan_first, plan_call, plan_passable, segs_form, segs_cons, segs_first}
 use Rattle.ol_tables.specs.Table.{consts_of}
 use Rattle.ol_frame.proofs.Tabling.{rows_room}
 use Rattle.ol_frame.proofs.names.+real_kinds.Goals as goal
 
-pub real_kind-bounds-file-at : goal.real_kind-bounds-file-at
-real_kind-bounds-file-at t c =
+pub real_kind-at-requires : goal.real_kind-at-requires
+real_kind-at-requires t c =
     let f = c.args.file.now in
     let L = c.args.level in
     let a = c.args.at in
@@ -37,7 +39,7 @@ real_kind-present-requires t c =
     let f = c.args.file.now in
     let p = c.requires.0 in
     let z = c.requires.1 in
-    (plan_name f p c.in-4.is, z)
+    (plan_name f p (plan_form f p Frm.Var c.at.ensures c.in-Var.is), z)
 
 pub real_kind-overflow_sub-level : goal.real_kind-overflow_sub-level
 real_kind-overflow_sub-level t c =
@@ -59,7 +61,7 @@ real_kind-real_kind-requires t c =
     let room = c.requires.2 in
     let h = plan_head f p in
     let deep = reads_deep f L a h in
-    (omega (arith, deep), (plan_parts f p ((unary_form f L a h c.in-5.is).1), z, subst (λ (m : ℕ). m ≤ 32768) (segs_form f p.reads ((unary_form f L a h c.in-5.is).1) refl) room))
+    (omega (arith, deep), (plan_parts f p ((unary_form f L a h (plan_form f p Frm.Unary c.at.ensures c.in-Unary.is)).1), z, subst (λ (m : ℕ). m ≤ 32768) (segs_form f p.reads ((unary_form f L a h (plan_form f p Frm.Unary c.at.ensures c.in-Unary.is)).1) refl) room))
 
 pub real_kind-bounds-file-p : goal.real_kind-bounds-file-p
 real_kind-bounds-file-p t c =
@@ -68,7 +70,7 @@ real_kind-bounds-file-p t c =
     let a = c.args.at in
     let p = c.requires.0 in
     let h = plan_head f p in
-    omega (arith, (binary_form f L a h c.in-6.is).1.inside)
+    omega (arith, (binary_form f L a h (plan_form f p Frm.Binary c.at.ensures c.in-Binary.is)).1.inside)
 
 pub real_kind-overflow_sub-level-in-10-to-13 : goal.real_kind-overflow_sub-level-in-10-to-13
 real_kind-overflow_sub-level-in-10-to-13 t c =
@@ -90,10 +92,10 @@ real_kind-real_kinds-requires t c =
     let room = c.requires.2 in
     let h = plan_head f p in
     let deep = reads_deep f L a h in
-    (omega (arith, deep), (plan_parts f p (binary_form f L a h c.in-6.is).1, z, subst (λ (m : ℕ). m ≤ 32768) (segs_form f p.reads (binary_form f L a h c.in-6.is).1 refl) room))
+    (omega (arith, deep), (plan_parts f p (binary_form f L a h (plan_form f p Frm.Binary c.at.ensures c.in-Binary.is)).1, z, subst (λ (m : ℕ). m ≤ 32768) (segs_form f p.reads (binary_form f L a h (plan_form f p Frm.Binary c.at.ensures c.in-Binary.is)).1 refl) room))
 
-pub real_kind-overflow_sub-level-in-7 : goal.real_kind-overflow_sub-level-in-7
-real_kind-overflow_sub-level-in-7 t c =
+pub real_kind-overflow_sub-level-in-If : goal.real_kind-overflow_sub-level-in-If
+real_kind-overflow_sub-level-in-If t c =
     let f = c.args.file.now in
     let L = c.args.level in
     let a = c.args.at in
@@ -111,10 +113,10 @@ real_kind-pass-c-requires t c =
     let p = c.requires.0 in
     let room = c.requires.2 in
     let h = plan_head f p in
-    (plan_passable f (plan_first f ((plan_parts f p ((if_form f L a h c.in-7.is))))) (omega (arith, segs_first f ((plan_parts f p ((if_form f L a h c.in-7.is)))), (subst (λ (m : ℕ). m ≤ 32768) (segs_form f p.reads ((if_form f L a h c.in-7.is)) refl) room))), rows_room T _ p.program.table.long)
+    (plan_passable f (plan_first f ((plan_parts f p ((if_form f L a h (plan_form f p Frm.If c.at.ensures c.in-If.is)))))) (omega (arith, segs_first f ((plan_parts f p ((if_form f L a h (plan_form f p Frm.If c.at.ensures c.in-If.is))))), (subst (λ (m : ℕ). m ≤ 32768) (segs_form f p.reads ((if_form f L a h (plan_form f p Frm.If c.at.ensures c.in-If.is))) refl) room))), rows_room T _ p.program.table.long)
 
-pub real_kind-overflow_sub-level-in-7-2 : goal.real_kind-overflow_sub-level-in-7-2
-real_kind-overflow_sub-level-in-7-2 t c =
+pub real_kind-overflow_sub-level-in-If-2 : goal.real_kind-overflow_sub-level-in-If-2
+real_kind-overflow_sub-level-in-If-2 t c =
     let f = c.args.file.now in
     let L = c.args.level in
     let a = c.args.at in
@@ -123,8 +125,8 @@ real_kind-overflow_sub-level-in-7-2 t c =
     let deep = reads_deep f L a h in
     deep
 
-pub real_kind-real_kinds-requires-in-7 : goal.real_kind-real_kinds-requires-in-7
-real_kind-real_kinds-requires-in-7 t c =
+pub real_kind-real_kinds-requires-in-If : goal.real_kind-real_kinds-requires-in-If
+real_kind-real_kinds-requires-in-If t c =
     let f = c.args.file.now in
     let L = c.args.level in
     let a = c.args.at in
@@ -133,11 +135,11 @@ real_kind-real_kinds-requires-in-7 t c =
     let room = c.requires.2 in
     let h = plan_head f p in
     let deep = reads_deep f L a h in
-    let e = c.pass-c.ensures.next_is ∙ (one_tree f (L - 1) (a + 1) (plan_first f ((plan_parts f p ((if_form f L a h c.in-7.is))))).reads).1 in
-    (omega (arith, deep), (rw e (plan_rest f ((plan_parts f p ((if_form f L a h c.in-7.is))))), z, rw e (omega (arith, segs_cons f (L - 1) 2 (a + 1) (plan_parts f p ((if_form f L a h c.in-7.is))).reads, (subst (λ (m : ℕ). m ≤ 32768) (segs_form f p.reads ((if_form f L a h c.in-7.is)) refl) room)))))
+    let e = c.pass-c.ensures.next_is ∙ (one_tree f (L - 1) (a + 1) (plan_first f ((plan_parts f p ((if_form f L a h (plan_form f p Frm.If c.at.ensures c.in-If.is)))))).reads).1 in
+    (omega (arith, deep), (rw e (plan_rest f ((plan_parts f p ((if_form f L a h (plan_form f p Frm.If c.at.ensures c.in-If.is)))))), z, rw e (omega (arith, segs_cons f (L - 1) 2 (a + 1) (plan_parts f p ((if_form f L a h (plan_form f p Frm.If c.at.ensures c.in-If.is)))).reads, (subst (λ (m : ℕ). m ≤ 32768) (segs_form f p.reads ((if_form f L a h (plan_form f p Frm.If c.at.ensures c.in-If.is))) refl) room)))))
 
-pub real_kind-overflow_sub-level-in-8 : goal.real_kind-overflow_sub-level-in-8
-real_kind-overflow_sub-level-in-8 t c =
+pub real_kind-overflow_sub-level-in-Pre : goal.real_kind-overflow_sub-level-in-Pre
+real_kind-overflow_sub-level-in-Pre t c =
     let f = c.args.file.now in
     let L = c.args.level in
     let a = c.args.at in
@@ -146,8 +148,8 @@ real_kind-overflow_sub-level-in-8 t c =
     let deep = reads_deep f L a h in
     deep
 
-pub real_kind-real_kind-requires-in-8 : goal.real_kind-real_kind-requires-in-8
-real_kind-real_kind-requires-in-8 t c =
+pub real_kind-real_kind-requires-in-Pre : goal.real_kind-real_kind-requires-in-Pre
+real_kind-real_kind-requires-in-Pre t c =
     let f = c.args.file.now in
     let L = c.args.level in
     let a = c.args.at in
@@ -156,10 +158,10 @@ real_kind-real_kind-requires-in-8 t c =
     let room = c.requires.2 in
     let h = plan_head f p in
     let deep = reads_deep f L a h in
-    (omega (arith, deep), (plan_parts f p ((pre_form f L a h c.in-8.is)), z, subst (λ (m : ℕ). m ≤ 32768) (segs_form f p.reads ((pre_form f L a h c.in-8.is)) refl) room))
+    (omega (arith, deep), (plan_parts f p ((pre_form f L a h (plan_form f p Frm.Pre c.at.ensures c.in-Pre.is))), z, subst (λ (m : ℕ). m ≤ 32768) (segs_form f p.reads ((pre_form f L a h (plan_form f p Frm.Pre c.at.ensures c.in-Pre.is))) refl) room))
 
-pub real_kind-overflow_sub-level-in-9 : goal.real_kind-overflow_sub-level-in-9
-real_kind-overflow_sub-level-in-9 t c =
+pub real_kind-overflow_sub-level-in-Arrow : goal.real_kind-overflow_sub-level-in-Arrow
+real_kind-overflow_sub-level-in-Arrow t c =
     let f = c.args.file.now in
     let L = c.args.level in
     let a = c.args.at in
@@ -168,8 +170,8 @@ real_kind-overflow_sub-level-in-9 t c =
     let deep = reads_deep f L a h in
     deep
 
-pub real_kind-real_kinds-requires-in-9 : goal.real_kind-real_kinds-requires-in-9
-real_kind-real_kinds-requires-in-9 t c =
+pub real_kind-real_kinds-requires-in-Arrow : goal.real_kind-real_kinds-requires-in-Arrow
+real_kind-real_kinds-requires-in-Arrow t c =
     let f = c.args.file.now in
     let L = c.args.level in
     let a = c.args.at in
@@ -178,34 +180,34 @@ real_kind-real_kinds-requires-in-9 t c =
     let room = c.requires.2 in
     let h = plan_head f p in
     let deep = reads_deep f L a h in
-    (omega (arith, deep), (plan_parts f p ((arrow_form f L a h c.in-9.is)), z, subst (λ (m : ℕ). m ≤ 32768) (segs_form f p.reads ((arrow_form f L a h c.in-9.is)) refl) room))
+    (omega (arith, deep), (plan_parts f p ((arrow_form f L a h (plan_form f p Frm.Arrow c.at.ensures c.in-Arrow.is))), z, subst (λ (m : ℕ). m ≤ 32768) (segs_form f p.reads ((arrow_form f L a h (plan_form f p Frm.Arrow c.at.ensures c.in-Arrow.is))) refl) room))
 
-pub real_kind-bounds-file-p-in-10 : goal.real_kind-bounds-file-p-in-10
-real_kind-bounds-file-p-in-10 t c =
+pub real_kind-bounds-file-p-in-Cast : goal.real_kind-bounds-file-p-in-Cast
+real_kind-bounds-file-p-in-Cast t c =
     let f = c.args.file.now in
     let L = c.args.level in
     let a = c.args.at in
     let p = c.requires.0 in
     let h = plan_head f p in
-    omega (arith, (cast_form f L a h c.in-10.is).1.inside, type_some (cast_form f L a h c.in-10.is).0)
+    omega (arith, (cast_form f L a h (plan_form f p Frm.Cast c.at.ensures c.in-Cast.is)).1.inside, type_some (cast_form f L a h (plan_form f p Frm.Cast c.at.ensures c.in-Cast.is)).0)
 
-pub real_kind-bounds-file-p-in-11 : goal.real_kind-bounds-file-p-in-11
-real_kind-bounds-file-p-in-11 t c =
+pub real_kind-bounds-file-p-in-Call : goal.real_kind-bounds-file-p-in-Call
+real_kind-bounds-file-p-in-Call t c =
     let f = c.args.file.now in
     let L = c.args.level in
     let a = c.args.at in
     let p = c.requires.0 in
     let h = plan_head f p in
-    omega (arith, (call_form f L a h c.in-11.is).0.inside)
+    omega (arith, (call_form f L a h (plan_form f p Frm.Call c.at.ensures c.in-Call.is)).0.inside)
 
 pub real_kind-call_kind-requires : goal.real_kind-call_kind-requires
 real_kind-call_kind-requires t c =
     let f = c.args.file.now in
     let p = c.requires.0 in
-    (p.program, omega (arith, c.from.ensures, (plan_call f p c.in-11.is).lower, p.node≤))
+    (p.program, omega (arith, c.from.ensures, (plan_call f p (plan_form f p Frm.Call c.at.ensures c.in-Call.is)).lower, p.node≤))
 
-pub real_kind-returns-in-2 : goal.real_kind-returns-in-2
-real_kind-returns-in-2 t c =
+pub real_kind-returns-in-Float : goal.real_kind-returns-in-Float
+real_kind-returns-in-Float t c =
     let f = c.args.file.now in
     let T = c.args.tab.now in
     let kk = consts_of T in
@@ -218,10 +220,10 @@ real_kind-returns-in-2 t c =
     let h = plan_head f p in
     let g = globals_in f kk in
     let sc = scope_in f n false cl cl in
-    ap (λ (e : Expr). real_kind g sc e) (sym (float_form f L a h c.in-2.is).tree)
+    ap (λ (e : Expr). real_kind g sc e) (sym (float_form f L a h (plan_form f p Frm.Float c.at.ensures c.in-Float.is)).tree)
 
-pub real_kind-returns-in-4 : goal.real_kind-returns-in-4
-real_kind-returns-in-4 t c =
+pub real_kind-returns-in-Var : goal.real_kind-returns-in-Var
+real_kind-returns-in-Var t c =
     let f = c.args.file.now in
     let T = c.args.tab.now in
     let kk = consts_of T in
@@ -234,10 +236,10 @@ real_kind-returns-in-4 t c =
     let h = plan_head f p in
     let g = globals_in f kk in
     let sc = scope_in f n false cl cl in
-    c.kind_of_outcome.ensures ∙ ap outcome_kind c.present.ensures ∙ present_kind (present_of g sc (name_at f (a + 1))) ∙ ap (λ (e : Expr). real_kind g sc e) (sym (var_form f L a h c.in-4.is).tree)
+    c.kind_of_outcome.ensures ∙ ap outcome_kind c.present.ensures ∙ present_kind (present_of g sc (name_at f (a + 1))) ∙ ap (λ (e : Expr). real_kind g sc e) (sym (var_form f L a h (plan_form f p Frm.Var c.at.ensures c.in-Var.is)).tree)
 
-pub real_kind-returns-in-5 : goal.real_kind-returns-in-5
-real_kind-returns-in-5 t c =
+pub real_kind-returns-in-Unary : goal.real_kind-returns-in-Unary
+real_kind-returns-in-Unary t c =
     let f = c.args.file.now in
     let T = c.args.tab.now in
     let kk = consts_of T in
@@ -250,7 +252,7 @@ real_kind-returns-in-5 t c =
     let h = plan_head f p in
     let g = globals_in f kk in
     let sc = scope_in f n false cl cl in
-    c.real_kind.ensures ∙ ap (λ (e : Expr). real_kind g sc e) (sym (unary_form f L a h c.in-5.is).1.tree)
+    c.real_kind.ensures ∙ ap (λ (e : Expr). real_kind g sc e) (sym (unary_form f L a h (plan_form f p Frm.Unary c.at.ensures c.in-Unary.is)).1.tree)
 
 pub real_kind-returns-in-10-to-13 : goal.real_kind-returns-in-10-to-13
 real_kind-returns-in-10-to-13 t c =
@@ -266,7 +268,7 @@ real_kind-returns-in-10-to-13 t c =
     let h = plan_head f p in
     let g = globals_in f kk in
     let sc = scope_in f n false cl cl in
-    c.real_kinds.ensures ∙ sym (arithmetic_code (get_or f (a + 1) 0) (binary_form f L a h c.in-6.is).0 _ (binary_form f L a h c.in-6.is).2 (λ l. omega arith) (omega arith)) ∙ ap (λ (e : Expr). real_kind g sc e) (sym (binary_form f L a h c.in-6.is).1.tree)
+    c.real_kinds.ensures ∙ sym (arithmetic_code (get_or f (a + 1) 0) (binary_form f L a h (plan_form f p Frm.Binary c.at.ensures c.in-Binary.is)).0 _ (binary_form f L a h (plan_form f p Frm.Binary c.at.ensures c.in-Binary.is)).2 (λ l. omega arith) (omega arith)) ∙ ap (λ (e : Expr). real_kind g sc e) (sym (binary_form f L a h (plan_form f p Frm.Binary c.at.ensures c.in-Binary.is)).1.tree)
 
 pub real_kind-returns-in_default-file : goal.real_kind-returns-in_default-file
 real_kind-returns-in_default-file t c =
@@ -282,7 +284,7 @@ real_kind-returns-in_default-file t c =
     let h = plan_head f p in
     let g = globals_in f kk in
     let sc = scope_in f n false cl cl in
-    sym (plain_code (get_or f (a + 1) 0) (binary_form f L a h c.in-6.is).0 _ (binary_form f L a h c.in-6.is).2 (omega arith)) ∙ ap (λ (e : Expr). real_kind g sc e) (sym (binary_form f L a h c.in-6.is).1.tree)
+    sym (plain_code (get_or f (a + 1) 0) (binary_form f L a h (plan_form f p Frm.Binary c.at.ensures c.in-Binary.is)).0 _ (binary_form f L a h (plan_form f p Frm.Binary c.at.ensures c.in-Binary.is)).2 (omega arith)) ∙ ap (λ (e : Expr). real_kind g sc e) (sym (binary_form f L a h (plan_form f p Frm.Binary c.at.ensures c.in-Binary.is)).1.tree)
 
 pub real_kind-returns-in_default-file-2 : goal.real_kind-returns-in_default-file-2
 real_kind-returns-in_default-file-2 t c =
@@ -298,10 +300,10 @@ real_kind-returns-in_default-file-2 t c =
     let h = plan_head f p in
     let g = globals_in f kk in
     let sc = scope_in f n false cl cl in
-    sym (bits_code (get_or f (a + 1) 0) (binary_form f L a h c.in-6.is).0 _ (binary_form f L a h c.in-6.is).2 (λ l. omega arith)) ∙ ap (λ (e : Expr). real_kind g sc e) (sym (binary_form f L a h c.in-6.is).1.tree)
+    sym (bits_code (get_or f (a + 1) 0) (binary_form f L a h (plan_form f p Frm.Binary c.at.ensures c.in-Binary.is)).0 _ (binary_form f L a h (plan_form f p Frm.Binary c.at.ensures c.in-Binary.is)).2 (λ l. omega arith)) ∙ ap (λ (e : Expr). real_kind g sc e) (sym (binary_form f L a h (plan_form f p Frm.Binary c.at.ensures c.in-Binary.is)).1.tree)
 
-pub real_kind-returns-in-7 : goal.real_kind-returns-in-7
-real_kind-returns-in-7 t c =
+pub real_kind-returns-in-If : goal.real_kind-returns-in-If
+real_kind-returns-in-If t c =
     let f = c.args.file.now in
     let T = c.args.tab.now in
     let kk = consts_of T in
@@ -314,11 +316,11 @@ real_kind-returns-in-7 t c =
     let h = plan_head f p in
     let g = globals_in f kk in
     let sc = scope_in f n false cl cl in
-    let e = c.pass-c.ensures.next_is ∙ (one_tree f (L - 1) (a + 1) (plan_first f ((plan_parts f p ((if_form f L a h c.in-7.is))))).reads).1 in
-    (rw e at c.real_kinds-in-7.ensures) ∙ ap (λ (e : Expr). real_kind g sc e) (sym (if_form f L a h c.in-7.is).tree)
+    let e = c.pass-c.ensures.next_is ∙ (one_tree f (L - 1) (a + 1) (plan_first f ((plan_parts f p ((if_form f L a h (plan_form f p Frm.If c.at.ensures c.in-If.is)))))).reads).1 in
+    (rw e at c.real_kinds-in-If.ensures) ∙ ap (λ (e : Expr). real_kind g sc e) (sym (if_form f L a h (plan_form f p Frm.If c.at.ensures c.in-If.is)).tree)
 
-pub real_kind-returns-in-8 : goal.real_kind-returns-in-8
-real_kind-returns-in-8 t c =
+pub real_kind-returns-in-Pre : goal.real_kind-returns-in-Pre
+real_kind-returns-in-Pre t c =
     let f = c.args.file.now in
     let T = c.args.tab.now in
     let kk = consts_of T in
@@ -331,10 +333,10 @@ real_kind-returns-in-8 t c =
     let h = plan_head f p in
     let g = globals_in f kk in
     let sc = scope_in f n false cl cl in
-    c.real_kind-in-8.ensures ∙ ap (λ (e : Expr). real_kind g sc e) (sym (pre_form f L a h c.in-8.is).tree)
+    c.real_kind-in-Pre.ensures ∙ ap (λ (e : Expr). real_kind g sc e) (sym (pre_form f L a h (plan_form f p Frm.Pre c.at.ensures c.in-Pre.is)).tree)
 
-pub real_kind-returns-in-9 : goal.real_kind-returns-in-9
-real_kind-returns-in-9 t c =
+pub real_kind-returns-in-Arrow : goal.real_kind-returns-in-Arrow
+real_kind-returns-in-Arrow t c =
     let f = c.args.file.now in
     let T = c.args.tab.now in
     let kk = consts_of T in
@@ -347,10 +349,10 @@ real_kind-returns-in-9 t c =
     let h = plan_head f p in
     let g = globals_in f kk in
     let sc = scope_in f n false cl cl in
-    c.real_kinds-in-9.ensures ∙ ap (λ (e : Expr). real_kind g sc e) (sym (arrow_form f L a h c.in-9.is).tree)
+    c.real_kinds-in-Arrow.ensures ∙ ap (λ (e : Expr). real_kind g sc e) (sym (arrow_form f L a h (plan_form f p Frm.Arrow c.at.ensures c.in-Arrow.is)).tree)
 
-pub real_kind-returns-in-10 : goal.real_kind-returns-in-10
-real_kind-returns-in-10 t c =
+pub real_kind-returns-in-Cast : goal.real_kind-returns-in-Cast
+real_kind-returns-in-Cast t c =
     let f = c.args.file.now in
     let T = c.args.tab.now in
     let kk = consts_of T in
@@ -363,10 +365,10 @@ real_kind-returns-in-10 t c =
     let h = plan_head f p in
     let g = globals_in f kk in
     let sc = scope_in f n false cl cl in
-    code_kind (kind_of c.kind_of_type.result) (get_or f (a + 1) 0) (cast_form f L a h c.in-10.is).0 (cast_form f L a h c.in-10.is).4 (cast_form f L a h c.in-10.is).2 c.kind_of_type.ensures ∙ ap (λ (e : Expr). real_kind g sc e) (sym (cast_form f L a h c.in-10.is).1.tree)
+    code_kind (kind_of c.kind_of_type.result) (get_or f (a + 1) 0) (cast_form f L a h (plan_form f p Frm.Cast c.at.ensures c.in-Cast.is)).0 (cast_form f L a h (plan_form f p Frm.Cast c.at.ensures c.in-Cast.is)).4 (cast_form f L a h (plan_form f p Frm.Cast c.at.ensures c.in-Cast.is)).2 c.kind_of_type.ensures ∙ ap (λ (e : Expr). real_kind g sc e) (sym (cast_form f L a h (plan_form f p Frm.Cast c.at.ensures c.in-Cast.is)).1.tree)
 
-pub real_kind-returns-in-11 : goal.real_kind-returns-in-11
-real_kind-returns-in-11 t c =
+pub real_kind-returns-in-Call : goal.real_kind-returns-in-Call
+real_kind-returns-in-Call t c =
     let f = c.args.file.now in
     let T = c.args.tab.now in
     let kk = consts_of T in
@@ -379,7 +381,7 @@ real_kind-returns-in-11 t c =
     let h = plan_head f p in
     let g = globals_in f kk in
     let sc = scope_in f n false cl cl in
-    (rw c.from.ensures at c.call_kind.ensures) ∙ ap (λ (e : Expr). real_kind g sc e) (sym (call_form f L a h c.in-11.is).0.tree)
+    (rw c.from.ensures at c.call_kind.ensures) ∙ ap (λ (e : Expr). real_kind g sc e) (sym (call_form f L a h (plan_form f p Frm.Call c.at.ensures c.in-Call.is)).0.tree)
 
 pub real_kind-returns-in_default : goal.real_kind-returns-in_default
 real_kind-returns-in_default t c =
@@ -399,7 +401,7 @@ real_kind-returns-in_default t c =
     (λ b n2 n4 n5 n6 n7 n8 n9 n10 n11. refl) (λ i n2 n4 n5 n6 n7 n8 n9 n10 n11. refl) (λ b n2 n4 n5 n6 n7 n8 n9 n10 n11. absurd (n2 refl)) (λ c n2 n4 n5 n6 n7 n8 n9 n10 n11. refl) (λ x n2 n4 n5 n6 n7 n8 n9 n10 n11. absurd (n4 refl))
     (λ op e n2 n4 n5 n6 n7 n8 n9 n10 n11. absurd (n5 refl)) (λ op l r n2 n4 n5 n6 n7 n8 n9 n10 n11. absurd (n6 refl)) (λ c t e n2 n4 n5 n6 n7 n8 n9 n10 n11. absurd (n7 refl)) (λ e n2 n4 n5 n6 n7 n8 n9 n10 n11. absurd (n8 refl))
     (λ a b n2 n4 n5 n6 n7 n8 n9 n10 n11. absurd (n9 refl)) (λ t e n2 n4 n5 n6 n7 n8 n9 n10 n11. absurd (n10 refl)) (λ k es n2 n4 n5 n6 n7 n8 n9 n10 n11. absurd (n11 refl)) (λ es n2 n4 n5 n6 n7 n8 n9 n10 n11. refl) L a h
-    (omega arith) (omega arith) (omega arith) (omega arith) (omega arith) (omega arith) (omega arith) (omega arith) (omega arith)
+    (λ e. c.in_default.not-Float (form_is Frm.Float c.at.ensures e)) (λ e. c.in_default.not-Var (form_is Frm.Var c.at.ensures e)) (λ e. c.in_default.not-Unary (form_is Frm.Unary c.at.ensures e)) (λ e. c.in_default.not-Binary (form_is Frm.Binary c.at.ensures e)) (λ e. c.in_default.not-If (form_is Frm.If c.at.ensures e)) (λ e. c.in_default.not-Pre (form_is Frm.Pre c.at.ensures e)) (λ e. c.in_default.not-Arrow (form_is Frm.Arrow c.at.ensures e)) (λ e. c.in_default.not-Cast (form_is Frm.Cast c.at.ensures e)) (λ e. c.in_default.not-Call (form_is Frm.Call c.at.ensures e))
 
 pub real_kinds-real_kind-a-requires : goal.real_kinds-real_kind-a-requires
 real_kinds-real_kind-a-requires t c =

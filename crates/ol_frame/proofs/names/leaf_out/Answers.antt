@@ -13,14 +13,16 @@ use Rattle.ol_spec.specs.Cell.{value_by}
 use Rattle.ol_spec.specs.Numbers.{number_of}
 use Rattle.ol_spec.specs.declared.Outcome.TheVariants as Out
 use Rattle.ol_tables.proofs.Forms.{reads_in, reads_deep, bool_form, int_form, float_form, char_form, var_form, pre_form, tuple_form, some_code, last_code}
+use Rattle.ol_tables.specs.declared.form.Form.TheVariants as Frm
+use Rattle.ol_tables.proofs.FormLaws.{form_is}
 use Rattle.ol_frame.specs.Plans.{eval_in}
 use Rattle.ol_frame.proofs.Naming.{value_at_lem}
-use Rattle.ol_frame.proofs.Planning.{plan_head, plan_name, plan_looked}
+use Rattle.ol_frame.proofs.Planning.{plan_head, plan_form, plan_name, plan_looked}
 use Rattle.ol_tables.specs.Table.{consts_of}
 use Rattle.ol_frame.proofs.names.leaf_out.Goals as goal
 
-pub bounds-file-at : goal.bounds-file-at
-bounds-file-at c =
+pub at-requires : goal.at-requires
+at-requires c =
     let f = c.args.file.now in
     let L = c.args.level in
     let a = c.args.at in
@@ -44,7 +46,7 @@ bounds-file-p c =
     let a = c.args.at in
     let p = c.requires.0 in
     let h = plan_head f p in
-    omega (arith, (bool_form f L a h c.in-0.is).0.inside)
+    omega (arith, (bool_form f L a h (plan_form f p Frm.Bool c.at.ensures c.in-Bool.is)).0.inside)
 
 pub read_cell-requires : goal.read_cell-requires
 read_cell-requires c =
@@ -53,31 +55,31 @@ read_cell-requires c =
     let a = c.args.at in
     let p = c.requires.0 in
     let h = plan_head f p in
-    (int_form f L a h c.in-1.is).inside
+    (int_form f L a h (plan_form f p Frm.Int c.at.ensures c.in-Int.is)).inside
 
-pub read_cell-requires-in-2 : goal.read_cell-requires-in-2
-read_cell-requires-in-2 c =
+pub read_cell-requires-in-Float : goal.read_cell-requires-in-Float
+read_cell-requires-in-Float c =
     let f = c.args.file.now in
     let L = c.args.level in
     let a = c.args.at in
     let p = c.requires.0 in
     let h = plan_head f p in
-    (float_form f L a h c.in-2.is).inside
+    (float_form f L a h (plan_form f p Frm.Float c.at.ensures c.in-Float.is)).inside
 
-pub bounds-file-p-in-3 : goal.bounds-file-p-in-3
-bounds-file-p-in-3 c =
+pub bounds-file-p-in-Char : goal.bounds-file-p-in-Char
+bounds-file-p-in-Char c =
     let f = c.args.file.now in
     let L = c.args.level in
     let a = c.args.at in
     let p = c.requires.0 in
     let h = plan_head f p in
-    omega (arith, (char_form f L a h c.in-3.is).inside)
+    omega (arith, (char_form f L a h (plan_form f p Frm.Char c.at.ensures c.in-Char.is)).inside)
 
 pub present-requires : goal.present-requires
 present-requires c =
     let f = c.args.file.now in
     let p = c.requires.0 in
-    (plan_name f p c.in-4.is, c.requires.1)
+    (plan_name f p (plan_form f p Frm.Var c.at.ensures c.in-Var.is), c.requires.1)
 
 pub overflow_sub-level : goal.overflow_sub-level
 overflow_sub-level c =
@@ -92,11 +94,11 @@ pub previous-requires : goal.previous-requires
 previous-requires c =
     let f = c.args.file.now in
     let p = c.requires.0 in
-    (plan_looked f p c.in-8.is, c.requires.2)
+    (plan_looked f p (plan_form f p Frm.Pre c.at.ensures c.in-Pre.is), c.requires.2)
 
-pub returns-in-0 : goal.returns-in-0
+pub returns-in-Bool : goal.returns-in-Bool
 unfolding eval
-returns-in-0 c =
+returns-in-Bool c =
     let f = c.args.file.now in
     let T = c.args.tab.now in
     let k = consts_of T in
@@ -109,11 +111,11 @@ returns-in-0 c =
     let a = c.args.at in
     let p = c.requires.0 in
     let h = plan_head f p in
-    λ seg. ap (λ (e : Expr). (eval_in f k n F cl b e seg).out) (sym (bool_form f L a h c.in-0.is).0.tree)
+    λ seg. ap (λ (e : Expr). (eval_in f k n F cl b e seg).out) (sym (bool_form f L a h (plan_form f p Frm.Bool c.at.ensures c.in-Bool.is)).0.tree)
 
-pub returns-in-1 : goal.returns-in-1
+pub returns-in-Int : goal.returns-in-Int
 unfolding eval
-returns-in-1 c =
+returns-in-Int c =
     let f = c.args.file.now in
     let T = c.args.tab.now in
     let k = consts_of T in
@@ -126,11 +128,11 @@ returns-in-1 c =
     let a = c.args.at in
     let p = c.requires.0 in
     let h = plan_head f p in
-    λ seg. ap Out.Value (c.read_cell.ensures ∙ value_at_lem f a (reads_in f L a h) ∙ ap (λ (t : ℕ). value_by t (number_of 0 (take 8 (drop (a + 1) f)))) c.in-1.is) ∙ ap (λ (e : Expr). (eval_in f k n F cl b e seg).out) (sym (int_form f L a h c.in-1.is).tree)
+    λ seg. ap Out.Value (c.read_cell.ensures ∙ value_at_lem f a (reads_in f L a h) ∙ ap (λ (t : ℕ). value_by t (number_of 0 (take 8 (drop (a + 1) f)))) (plan_form f p Frm.Int c.at.ensures c.in-Int.is)) ∙ ap (λ (e : Expr). (eval_in f k n F cl b e seg).out) (sym (int_form f L a h (plan_form f p Frm.Int c.at.ensures c.in-Int.is)).tree)
 
-pub returns-in-2 : goal.returns-in-2
+pub returns-in-Float : goal.returns-in-Float
 unfolding eval
-returns-in-2 c =
+returns-in-Float c =
     let f = c.args.file.now in
     let T = c.args.tab.now in
     let k = consts_of T in
@@ -143,11 +145,11 @@ returns-in-2 c =
     let a = c.args.at in
     let p = c.requires.0 in
     let h = plan_head f p in
-    λ seg. ap Out.Value (c.read_cell-in-2.ensures ∙ value_at_lem f a (reads_in f L a h) ∙ ap (λ (t : ℕ). value_by t (number_of 0 (take 8 (drop (a + 1) f)))) c.in-2.is) ∙ ap (λ (e : Expr). (eval_in f k n F cl b e seg).out) (sym (float_form f L a h c.in-2.is).tree)
+    λ seg. ap Out.Value (c.read_cell-in-Float.ensures ∙ value_at_lem f a (reads_in f L a h) ∙ ap (λ (t : ℕ). value_by t (number_of 0 (take 8 (drop (a + 1) f)))) (plan_form f p Frm.Float c.at.ensures c.in-Float.is)) ∙ ap (λ (e : Expr). (eval_in f k n F cl b e seg).out) (sym (float_form f L a h (plan_form f p Frm.Float c.at.ensures c.in-Float.is)).tree)
 
-pub returns-in-3 : goal.returns-in-3
+pub returns-in-Char : goal.returns-in-Char
 unfolding eval
-returns-in-3 c =
+returns-in-Char c =
     let f = c.args.file.now in
     let T = c.args.tab.now in
     let k = consts_of T in
@@ -161,11 +163,11 @@ returns-in-3 c =
     let p = c.requires.0 in
     let h = plan_head f p in
     let fit : mag c.from.result < 2 ^ 63 = rw c.from.ensures (omega (arith, c.type_inv.file (a + 1))) in
-    λ seg. ap (λ x. Out.Value (Val.Int x)) (to_z-of_z {w = w64} (sfits_of fit) ∙ c.from.ensures) ∙ ap (λ (e : Expr). (eval_in f k n F cl b e seg).out) (sym (char_form f L a h c.in-3.is).tree)
+    λ seg. ap (λ x. Out.Value (Val.Int x)) (to_z-of_z {w = w64} (sfits_of fit) ∙ c.from.ensures) ∙ ap (λ (e : Expr). (eval_in f k n F cl b e seg).out) (sym (char_form f L a h (plan_form f p Frm.Char c.at.ensures c.in-Char.is)).tree)
 
-pub returns-in-4 : goal.returns-in-4
+pub returns-in-Var : goal.returns-in-Var
 unfolding eval
-returns-in-4 c =
+returns-in-Var c =
     let f = c.args.file.now in
     let T = c.args.tab.now in
     let k = consts_of T in
@@ -178,11 +180,11 @@ returns-in-4 c =
     let a = c.args.at in
     let p = c.requires.0 in
     let h = plan_head f p in
-    λ seg. c.present.ensures ∙ ap (λ (e : Expr). (eval_in f k n F cl b e seg).out) (sym (var_form f L a h c.in-4.is).tree)
+    λ seg. c.present.ensures ∙ ap (λ (e : Expr). (eval_in f k n F cl b e seg).out) (sym (var_form f L a h (plan_form f p Frm.Var c.at.ensures c.in-Var.is)).tree)
 
-pub returns-in-8 : goal.returns-in-8
+pub returns-in-Pre : goal.returns-in-Pre
 unfolding eval
-returns-in-8 c =
+returns-in-Pre c =
     let f = c.args.file.now in
     let T = c.args.tab.now in
     let k = consts_of T in
@@ -195,7 +197,7 @@ returns-in-8 c =
     let a = c.args.at in
     let p = c.requires.0 in
     let h = plan_head f p in
-    λ seg. c.previous.ensures ∙ ap (λ (e : Expr). (eval_in f k n F cl b e seg).out) (sym (pre_form f L a h c.in-8.is).tree)
+    λ seg. c.previous.ensures ∙ ap (λ (e : Expr). (eval_in f k n F cl b e seg).out) (sym (pre_form f L a h (plan_form f p Frm.Pre c.at.ensures c.in-Pre.is)).tree)
 
 pub returns-in_default : goal.returns-in_default
 unfolding eval
@@ -213,4 +215,4 @@ returns-in_default c =
     let p = c.requires.0 in
     let h = plan_head f p in
     let lf = c.requires.3 in
-    λ seg. ap (λ (e : Expr). (eval_in f k n F cl b e seg).out) (sym (tuple_form f L a h ((last_code (get_or f a 0) (some_code f L a h) (omega arith) (omega arith) (omega arith) (omega arith) (omega arith) lf.no_unary lf.no_binary lf.no_if (omega arith) lf.no_arrow lf.no_cast lf.no_call))).0.tree)
+    λ seg. ap (λ (e : Expr). (eval_in f k n F cl b e seg).out) (sym (tuple_form f L a h ((last_code (get_or f a 0) (some_code f L a h) (λ e. c.in_default.not-Bool (form_is Frm.Bool c.at.ensures e)) (λ e. c.in_default.not-Int (form_is Frm.Int c.at.ensures e)) (λ e. c.in_default.not-Float (form_is Frm.Float c.at.ensures e)) (λ e. c.in_default.not-Char (form_is Frm.Char c.at.ensures e)) (λ e. c.in_default.not-Var (form_is Frm.Var c.at.ensures e)) lf.no_unary lf.no_binary lf.no_if (λ e. c.in_default.not-Pre (form_is Frm.Pre c.at.ensures e)) lf.no_arrow lf.no_cast lf.no_call))).0.tree)

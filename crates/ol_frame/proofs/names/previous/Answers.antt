@@ -6,6 +6,7 @@ use Prim.Native.Nat.{ℕ, ◌+◌, ◌<◌, ◌*◌}
 use Rattle.ol_spec.specs.Cell.{value_of}
 use Rattle.ol_frame.proofs.Tabling.{const_cell, const_room}
 use native.Mathlib.Omega.{arith}
+use borrow.Author.Tests.{true-eqb, false-eqb}
 use Rattle.ol_spec.specs.Eval.{pre_of}
 use Rattle.ol_spec.specs.declared.Outcome.TheVariants as Out
 use Rattle.ol_spec.specs.declared.Cause.TheVariants as Why
@@ -32,8 +33,8 @@ returns-then-frame c =
     let e : pre_of g cl F (expr_at f c.args.level a) ≡ Out.Failure Why.Cold = ap (λ (x : Bool). pre_of g cl x (expr_at f c.args.level a)) (c.if-frame.true) in
     sym e
 
-pub bounds-file-at : goal.bounds-file-at
-bounds-file-at c =
+pub is_at-requires : goal.is_at-requires
+is_at-requires c =
     let f = c.args.file.now in
     let a = c.args.at in
     let p = c.requires.0 in
@@ -44,12 +45,12 @@ overflow_add-at c =
     let f = c.args.file.now in
     let a = c.args.at in
     let p = c.requires.0 in
-    omega (arith, (var_form f c.args.level a p.reads c.if-file-at-ne4.false).inside, c.well_formed)
+    omega (arith, (var_form f c.args.level a p.reads (true-eqb _ _ c.if-not-is_at.ensures)).inside, c.well_formed)
 
 pub slot_at-requires : goal.slot_at-requires
 slot_at-requires c =
     let p = c.requires.0 in
-    omega (arith, (p.named c.if-file-at-ne4.false).long, (p.named c.if-file-at-ne4.false).inside)
+    omega (arith, (p.named (true-eqb _ _ c.if-not-is_at.ensures)).long, (p.named (true-eqb _ _ c.if-not-is_at.ensures)).inside)
 
 pub read_cell-requires : goal.read_cell-requires
 read_cell-requires c =
@@ -65,7 +66,7 @@ read_cell-requires c =
     let s = c.in-Variable.s in
     let e = c.in-Variable.ensures.0 in
     let l : s < 112 = omega (arith, c.in-Variable.ensures.0, c.in-Variable.ensures.1) in
-    slot_cell f t k n (a + 1) (p.named c.if-file-at-ne4.false) s e b c.requires.1 l
+    slot_cell f t k n (a + 1) (p.named (true-eqb _ _ c.if-not-is_at.ensures)) s e b c.requires.1 l
 
 pub read_cell-requires-in-Constant : goal.read_cell-requires-in-Constant
 read_cell-requires-in-Constant c =
@@ -79,7 +80,7 @@ read_cell-requires-in-Constant c =
     let p = c.requires.0 in
     let s = slot_at t (a + 1) in
     let i = c.in-Constant.i in
-    const_room T (i * 9) (rw c.in-Constant.ensures.0 (known_cell f t k n (a + 1) ((p.named c.if-file-at-ne4.false)) s refl (λ l. omega (arith, c.in-Constant.ensures.1)) c.in-Constant.ensures.2))
+    const_room T (i * 9) (rw c.in-Constant.ensures.0 (known_cell f t k n (a + 1) ((p.named (true-eqb _ _ c.if-not-is_at.ensures))) s refl (λ l. omega (arith, c.in-Constant.ensures.1)) c.in-Constant.ensures.2))
 
 pub returns-in-Variable : goal.returns-in-Variable
 returns-in-Variable c =
@@ -98,7 +99,7 @@ returns-in-Variable c =
     let l : s < 112 = omega (arith, c.in-Variable.ensures.0, c.in-Variable.ensures.1) in
     let g = globals_in f k in
     let cl = scope_in f n F b b in
-    ap Out.Value c.read_cell.ensures ∙ sym (pre_is g cl F (expr_at f c.args.level a) _ (some _) ((c.if-frame.false)) ((is_name f c.args.level a p.reads c.if-file-at-ne4.false)) (was_variable f t k n (a + 1) ((p.named c.if-file-at-ne4.false)) s e F b b l))
+    ap Out.Value c.read_cell.ensures ∙ sym (pre_is g cl F (expr_at f c.args.level a) _ (some _) ((c.if-frame.false)) ((is_name f c.args.level a p.reads (true-eqb _ _ c.if-not-is_at.ensures))) (was_variable f t k n (a + 1) ((p.named (true-eqb _ _ c.if-not-is_at.ensures))) s e F b b l))
 
 pub returns-in-Constant : goal.returns-in-Constant
 returns-in-Constant c =
@@ -116,7 +117,7 @@ returns-in-Constant c =
     let i = c.in-Constant.i in
     let g = globals_in f k in
     let cl = scope_in f n F b b in
-    ap Out.Value (c.read_cell-in-Constant.ensures ∙ ap value_of (const_cell T (i * 9) (rw c.in-Constant.ensures.0 (known_cell f t k n (a + 1) ((p.named c.if-file-at-ne4.false)) s refl (λ l. omega (arith, c.in-Constant.ensures.1)) c.in-Constant.ensures.2))) ∙ ap (λ (j : ℕ). value_of (take 9 (drop (j * 9) k))) c.in-Constant.ensures.0) ∙ sym (pre_is g cl F (expr_at f c.args.level a) _ (some _) ((c.if-frame.false)) ((is_name f c.args.level a p.reads c.if-file-at-ne4.false)) (was_constant f t k n (a + 1) ((p.named c.if-file-at-ne4.false)) s refl F b b (λ l. omega (arith, c.in-Constant.ensures.1)) c.in-Constant.ensures.2))
+    ap Out.Value (c.read_cell-in-Constant.ensures ∙ ap value_of (const_cell T (i * 9) (rw c.in-Constant.ensures.0 (known_cell f t k n (a + 1) ((p.named (true-eqb _ _ c.if-not-is_at.ensures))) s refl (λ l. omega (arith, c.in-Constant.ensures.1)) c.in-Constant.ensures.2))) ∙ ap (λ (j : ℕ). value_of (take 9 (drop (j * 9) k))) c.in-Constant.ensures.0) ∙ sym (pre_is g cl F (expr_at f c.args.level a) _ (some _) ((c.if-frame.false)) ((is_name f c.args.level a p.reads (true-eqb _ _ c.if-not-is_at.ensures))) (was_constant f t k n (a + 1) ((p.named (true-eqb _ _ c.if-not-is_at.ensures))) s refl F b b (λ l. omega (arith, c.in-Constant.ensures.1)) c.in-Constant.ensures.2))
 
 pub returns-in-Other : goal.returns-in-Other
 returns-in-Other c =
@@ -133,10 +134,10 @@ returns-in-Other c =
     let s = slot_at t (a + 1) in
     let g = globals_in f k in
     let cl = scope_in f n F b b in
-    sym (pre_is g cl F (expr_at f c.args.level a) _ none ((c.if-frame.false)) ((is_name f c.args.level a p.reads c.if-file-at-ne4.false)) (was_variant f t k n (a + 1) ((p.named c.if-file-at-ne4.false)) s refl F b b (λ l. omega (arith, c.in-Other.ensures))))
+    sym (pre_is g cl F (expr_at f c.args.level a) _ none ((c.if-frame.false)) ((is_name f c.args.level a p.reads (true-eqb _ _ c.if-not-is_at.ensures))) (was_variant f t k n (a + 1) ((p.named (true-eqb _ _ c.if-not-is_at.ensures))) s refl F b b (λ l. omega (arith, c.in-Other.ensures))))
 
-pub returns-then-file-at-ne4 : goal.returns-then-file-at-ne4
-returns-then-file-at-ne4 c =
+pub returns-then-not-is_at : goal.returns-then-not-is_at
+returns-then-not-is_at c =
     let f = c.args.file.now in
     let T = c.args.tab.now in
     let k = consts_of T in
@@ -148,4 +149,4 @@ returns-then-file-at-ne4 c =
     let p = c.requires.0 in
     let g = globals_in f k in
     let cl = scope_in f n F b b in
-    sym (pre_none g cl F (expr_at f c.args.level a) ((c.if-frame.false)) (no_name f c.args.level a p.reads c.if-file-at-ne4.true))
+    sym (pre_none g cl F (expr_at f c.args.level a) ((c.if-frame.false)) (no_name f c.args.level a p.reads (false-eqb _ _ c.if-not-is_at.ensures)))
