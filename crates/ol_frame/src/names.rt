@@ -96,7 +96,7 @@ fn real_kind(file: &[u8], tab: &[u8], frame: &Frame, at: usize, level: usize) ->
         Form::Var => kind_of_outcome(present(file, tab, frame, p)),
         Form::Unary => real_kind(file, tab, frame, at + 2, level - 1),
         Form::Binary => match file[p] {
-            10..14 => real_kinds(file, tab, frame, at + 2, level - 1),
+            10..14 => real_kinds(file, tab, frame, at + 2, level - 1), // Add to Div
             _ => RealKind::NotReal,
         },
         Form::If => {

@@ -12,7 +12,7 @@ ghost use Rattle.ol_frame.specs.Outcomes.{ThenBy, done_of, binary_out, test_of, 
 use ol_real::f32_to_f64;
 use ol_spec::{Cause, Outcome, Value};
 use ol_value::operators::{eval_binary, eval_unary};
-use ol_value::types::cast_value;
+use ol_value::types::{FLOAT32, FLOAT64, cast_value};
 
 // How several expressions, a call, an equation or a run of equations end: with values, at a failure of some cause, at an overflow.
 #[derive(Clone, Copy)]
@@ -185,13 +185,13 @@ pub(crate) fn common_out(kind: RealKind, o: Outcome) -> Outcome
     }
 }
 
-// The real kind of a type.
+// The real kind of a type, by its code.
 pub(crate) fn kind_of_type(code: u8) -> RealKind
     ensures { (e : ℕ) → kind_of result ≡ kind_of_type (ty_of code e) }
 {
     match code {
-        9 => RealKind::Single,
-        10 => RealKind::Double,
+        FLOAT32 => RealKind::Single,
+        FLOAT64 => RealKind::Double,
         _ => RealKind::NotReal,
     }
 }

@@ -14,9 +14,9 @@ use ol_spec::{Cause, Outcome, Value};
 // The codes of the types that hold no integers. An Enum's is the last.
 const BOOL: u8 = 0;
 
-const FLOAT32: u8 = 9;
+pub const FLOAT32: u8 = 9;
 
-const FLOAT64: u8 = 10;
+pub const FLOAT64: u8 = 10;
 
 const ENUM: u8 = 12;
 
