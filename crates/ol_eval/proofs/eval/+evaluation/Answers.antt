@@ -1176,13 +1176,13 @@ eval_form-returns-in_default t c =
     let h = plan_head f p.plan in
     let R = p.plan.reads in
     let leaf : Leaf (get_or f a 0) = record {
-          no_unary = (λ e. c.in_default.not-Unary (form_is Frm.Unary c.at.ensures e));
-          no_binary = (λ e. c.in_default.not-Binary (form_is Frm.Binary c.at.ensures e));
-          no_if = (λ e. c.in_default.not-If (form_is Frm.If c.at.ensures e));
-          no_arrow = (λ e. c.in_default.not-Arrow (form_is Frm.Arrow c.at.ensures e));
-          no_cast = (λ e. c.in_default.not-Cast (form_is Frm.Cast c.at.ensures e));
-          no_call = (λ e. c.in_default.not-Call (form_is Frm.Call c.at.ensures e));
-        } in
+      no_unary = (λ e. c.in_default.not-Unary (form_is Frm.Unary c.at.ensures e));
+      no_binary = (λ e. c.in_default.not-Binary (form_is Frm.Binary c.at.ensures e));
+      no_if = (λ e. c.in_default.not-If (form_is Frm.If c.at.ensures e));
+      no_arrow = (λ e. c.in_default.not-Arrow (form_is Frm.Arrow c.at.ensures e));
+      no_cast = (λ e. c.in_default.not-Cast (form_is Frm.Cast c.at.ensures e));
+      no_call = (λ e. c.in_default.not-Call (form_is Frm.Call c.at.ensures e));
+    } in
     leaf_evals f kk L a n F cl bb R h leaf p.same c.pass-s.ensures (λ seg. c.same_out.ensures ∙ c.leaf_out.ensures seg)
 
 pub eval_if-eval-c-requires : goal.eval_if-eval-c-requires
