@@ -1,14 +1,12 @@
 -- The loops that build rows, places and types: what holds after so many items.
 use Prim.Native.Nat.{ℕ, zero, suc, ◌+◌, ◌*◌, ◌-◌, ◌≤◌, ◌<◌}
-use mathlib.Core.List.{List, [], ◌∷◌, ◌++◌, map, append_assoc}
+use mathlib.Core.List.{List, [], ◌∷◌, ◌++◌, map}
 use mathlib.Core.Logic.{by_cases}
 use mathlib.Core.Path.{◌≡◌, refl, sym, ap, subst, ◌∙◌}
 use native.Mathlib.Omega.{arith}
 use native.Mathlib.Decide.{dec_lt}
-use lib.ListN.{length, get_or, set, take, drop, length-set, length-append, get_or-append}
-use lib.Seq.{get_or-set_same, get_or-set_other, get_or-append-add, drop-drop, sets, length-sets}
-use Rattle.std.proofs.lemmas.List.Edits.{sets-eq}
-use borrow.Rule.Slice.PartMut.{put_mid}
+use lib.ListN.{length, get_or, set, length-set, length-append, get_or-append}
+use lib.Seq.{get_or-set_same, get_or-set_other, get_or-append-add, sets, length-sets}
 use lib.Dec.{T, ltb, leb, leb→le}
 use Rattle.ol_spec.specs.Lists.{sum, concat, all_of}
 use Rattle.ol_spec.specs.Syntax.{Ty, Variable, Node, File, variables}
@@ -277,11 +275,6 @@ put_inside rows (n ∷ ns) i (suc j) h room =
     rw z (put_inside (set rows i n) ns (suc i) j (omega arith) (omega (arith, length-set rows i n)))
 
 -- eight entries that are copied into a row are stored
-pub row_put : (rows ns got : List ℕ) (i : ℕ) → got ≡ ns → length ns ≡ 8 → i + 8 ≤ length rows → put_mid i (i + 8 - i) rows got ≡ sets rows i ns
-row_put rows ns got i e long room =
-    let k : i + 8 - i ≡ length ns = omega arith in
-    rw (k, e) (ap (λ z. take i rows ++ (ns ++ z)) (drop-drop (length ns) i rows) ∙ sym (append_assoc (take i rows) ns (drop (i + length ns) rows)) ∙ sym (sets-eq ns rows i (omega arith)))
-
 -- a type stays where its bytes do
 type_same : {types types' : List ℕ} {t : Ty} (p : ℕ) → get_or types' p 0 ≡ get_or types p 0 → get_or types' (p + 1) 0 ≡ get_or types (p + 1) 0 → TypeAt types p t → TypeAt types' p t
 type_same p a b h = record { code = a ∙ h.code; number = b ∙ h.number }

@@ -6,6 +6,7 @@ ghost use Rattle.ol_spec.specs.Places.{placed_constants, placed_nodes};
 ghost use Rattle.ol_spec.specs.Admission.{constant, declared_as, declared_at, placed_constant_name, node_declares, numbered};
 ghost use Rattle.ol_tables.specs.At.{file_at};
 ghost use Rattle.ol_tables.specs.Tables.{node_of};
+ghost use Rattle.ol_tables.specs.Numbers.{numbers};
 ghost use Rattle.ol_check.specs.Spans.{named_at, names_from};
 ghost use Rattle.ol_check.specs.NodesJudged.{place_in, NodeReady, RowsReady};
 ghost use Rattle.ol_check.specs.Clashing.{sort_of, meets, Walks, VariablesSorted, enums_from, ConstantsAt, DeclaredReady, FileSorted};
@@ -14,7 +15,7 @@ use super::mark;
 use super::rows::{Sections, names_end, variable_end};
 use ol_tables::bytes::{byte, name, put_byte};
 use ol_tables::heads::skip;
-use ol_tables::tables::{PLACE, row};
+use ol_tables::tables::FileRows;
 
 // The sort of a constant; below it are the enums', and above it the nodes'.
 // An enum of sorts is no plainer: the table holds the bytes, and `clashes` compares them.
@@ -105,11 +106,11 @@ impl Sorter<'_> {
     }
 
     // The variables of node `k`.
-    fn node(&mut self, file: &[u8], rows: &[usize], k: usize)
-        requires { NodeReady file.now rows.now (length (file_at file.now).nodes) k }
+    fn node(&mut self, file: &[u8], rows: &FileRows, k: usize)
+        requires { NodeReady file.now (numbers rows.now) (length (file_at file.now).nodes) k }
         ensures { Walks (node_declares (k, (place_in (file_at file.now) k, node_of (file_at file.now) k))) self.old self.new }
     {
-        let at = row(rows, k, PLACE);
+        let at = rows.node(k).place;
         let inputs = byte(file, at + 1);
         let sort = CONSTANT + 1 + k;
         let o = self.variables(file, sort, inputs, at + 2);
@@ -120,8 +121,8 @@ impl Sorter<'_> {
     }
 
     // The variables of all nodes.
-    fn nodes(&mut self, file: &[u8], rows: &[usize], nodes: usize)
-        requires { RowsReady file.now rows.now nodes }
+    fn nodes(&mut self, file: &[u8], rows: &FileRows, nodes: usize)
+        requires { RowsReady file.now (numbers rows.now) nodes }
         ensures { Walks (concat (map node_declares (numbered 0 (placed_nodes (file_at file.now))))) self.old self.new }
     {
         for k in 0..nodes {
@@ -132,8 +133,8 @@ impl Sorter<'_> {
 
 // Every declared name of a file that reads without fault: the first clash, which is fault 6 where
 // the table is 0 everywhere and longer than every name, and the highest of them.
-pub fn sort_file(file: &[u8], rows: &[usize], sections: Sections, sorts: &mut [u8]) -> Sorting
-    requires { DeclaredReady file.now rows.now sections }
+pub fn sort_file(file: &[u8], rows: &FileRows, sections: Sections, sorts: &mut [u8]) -> Sorting
+    requires { DeclaredReady file.now (numbers rows.now) sections }
     ensures { FileSorted file.now sorts.old sorts.new result }
 {
     let c = sections.constants;

@@ -2,6 +2,7 @@
 ghost use Rattle.std.specs.Prelude.{◌≡◌, ◌≤◌, ◌<◌, length};
 ghost use Rattle.ol_spec.specs.Admission.{variants};
 ghost use Rattle.ol_tables.specs.At.{file_at};
+ghost use Rattle.ol_tables.specs.Numbers.{numbers};
 ghost use Rattle.ol_check.specs.Judging.{findings};
 ghost use Rattle.ol_check.specs.ConstantsJudged.{ConstantWalked, ConstantsJudged, ConstantsReady};
 
@@ -10,19 +11,20 @@ use super::judge::Judge;
 use super::names::{FIRST_CONSTANT, declare};
 use super::rows::variable_end;
 use ol_tables::bytes::name;
+use ol_tables::tables::FileRows;
 
 // Constant number `i`, where the walk stands: its value is judged, then its name entered.
 fn constant(
     file: &[u8],
     names: &mut [u8],
     slots: &mut [u8],
-    rows: &[usize],
+    rows: &FileRows,
     nodes: usize,
     i: usize,
     g: &mut Faults,
 )
-    requires { (g.old.next < 32768) × (length file.now ≤ 32768) × (i < 64) × (g.old.size ≤ 65536) }
-    ensures { ConstantWalked file.now names.old rows.now nodes i slots.old slots.new names.new (findings g.old) (findings g.new) }
+    requires { (g.old.next < 32768) × (length file.now ≤ 32768) × (i < 64) × (nodes ≤ 32) × (g.old.size ≤ 65536) }
+    ensures { ConstantWalked file.now names.old (numbers rows.now) nodes i slots.old slots.new names.new (findings g.old) (findings g.new) }
 {
     let at = g.next;
     g.next = variable_end(file, at);
@@ -42,12 +44,12 @@ pub(crate) fn judge_constants(
     file: &[u8],
     names: &mut [u8],
     slots: &mut [u8],
-    rows: &[usize],
+    rows: &FileRows,
     nodes: usize,
     many: usize,
     g: &mut Faults,
 )
-    requires { (length file.now ≤ 32768) × (many ≡ length (file_at file.now).constants) × (many ≤ 64) × ConstantsReady file.now names.old rows.now nodes (file_at file.now) (variants (file_at file.now)) (length (file_at file.now).enums) g.old.next (file_at file.now).constants × (g.old.size ≤ 65536) }
+    requires { (length file.now ≤ 32768) × (many ≡ length (file_at file.now).constants) × (many ≤ 64) × (nodes ≤ 32) × ConstantsReady file.now names.old (numbers rows.now) nodes (file_at file.now) (variants (file_at file.now)) (length (file_at file.now).enums) g.old.next (file_at file.now).constants × (g.old.size ≤ 65536) }
     ensures { ConstantsJudged file.now names.old (file_at file.now) (variants (file_at file.now)) g.old.next (file_at file.now).constants slots.old slots.new names.new (findings g.old) (findings g.new) }
 {
     for i in 0..many {

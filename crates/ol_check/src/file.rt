@@ -4,6 +4,7 @@ ghost use Rattle.std.specs.Prelude.{◌≡◌, ℕ, ◌<◌, ◌≤◌, ◌+◌,
 ghost use Rattle.ol_spec.specs.Admission.{fault9};
 ghost use Rattle.ol_tables.specs.At.{file_at};
 ghost use Rattle.ol_tables.specs.Tables.{PlanOf};
+ghost use Rattle.ol_tables.specs.Numbers.{numbers};
 ghost use Rattle.ol_check.specs.FileJudged.{FileReady, NamesWithin, FileJudged};
 ghost use Rattle.ol_check.specs.NodesJudged.{TypesLeft};
 
@@ -13,20 +14,21 @@ use super::names::declare_enums;
 use super::nodes::judge_nodes;
 use super::rows::Sections;
 use ol_tables::bytes::byte;
+use ol_tables::tables::FileRows;
 
 // Faults 7 to 10 of a file that reads without fault, and the bytes of an instance of its last node.
 // The table by name is empty, and longer than every declared name. The first `half` bytes of `slots` are the slots; behind them stand the
 // nodes' plans, of which the types are left; what the other bytes there are is not told.
 pub fn faults(
     file: &[u8],
-    rows: &mut [usize],
+    rows: &mut FileRows,
     sections: Sections,
     names: &mut [u8],
     slots: &mut [u8],
     half: usize,
 ) -> Faults
-    requires { FileReady file.now rows.old names.old sections × NamesWithin (length names.old) (file_at file.now) × (length rows.old ≡ 272) × (half ≤ length slots.old) × (length file.now ≤ half) × (half + length file.now ≤ length slots.old) }
-    ensures judged { FileJudged file.now (file_at file.now) names.old names.new (take half slots.old) (take half slots.new) rows.old rows.new result }
+    requires { FileReady file.now (numbers rows.old) names.old sections × NamesWithin (length names.old) (file_at file.now) × (half ≤ length slots.old) × (length file.now ≤ half) × (half + length file.now ≤ length slots.old) }
+    ensures judged { FileJudged file.now (file_at file.now) names.old names.new (take half slots.old) (take half slots.new) (numbers rows.old) (numbers rows.new) result }
     ensures planned { fault9 (file_at file.now) ≡ none → (k : ℕ) → k < length (file_at file.now).nodes → PlanOf (file_at file.now) (drop half slots.new) k }
     ensures typed { TypesLeft (file_at file.now) half slots.old slots.new }
 {

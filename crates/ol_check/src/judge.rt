@@ -3,6 +3,7 @@ ghost use Rattle.std.specs.Prelude.{◌≡◌, ◌≤◌, ◌<◌, ◌+◌, ◌*
 ghost use Rattle.ol_spec.specs.Admission.{bad_call};
 ghost use Rattle.ol_tables.specs.At.{file_at};
 ghost use Rattle.ol_tables.specs.Tables.{node_of};
+ghost use Rattle.ol_tables.specs.Numbers.{numbers};
 ghost use Rattle.ol_check.specs.Judging.{unseen_b, slot_of_entry, slot_put, slot_head, may_b, bad_b, called_b, outputs_b, arity_b, findings, var_found, call_found, Walked};
 ghost use Rattle.ol_check.specs.Judging.{taken_b, NamesDefined, lone_b, other_b, RootJudged, EquationWalked, seen_in, EquationsReady, EquationsJudged, Planned};
 
@@ -12,21 +13,22 @@ use super::{Faults, mark};
 use ol_tables::bytes::{byte, name, put_byte, put_two};
 use ol_tables::form::Form;
 use ol_tables::heads::head;
-use ol_tables::tables::{INPUTS, KIND, OUTPUTS, row};
+use ol_tables::tables::FileRows;
 
 // What the expressions of a node are judged by: the file, the table by name, the rows of its nodes, how many there are, and the node's number.
 #[derive(Clone, Copy)]
 pub(crate) struct Judge<'a> {
     pub file: &'a [u8],
     pub names: &'a [u8],
-    pub rows: &'a [usize],
+    pub rows: &'a FileRows,
     pub nodes: usize,
     pub node: usize,
-    pub ghost low: { node < 256 },
+    pub ghost low: { node < 32 },
+    pub ghost few: { nodes ≤ 32 },
     pub ghost short: { length file.now ≤ 32768 },
 }
 
-// A name's slot, by its entry.
+// A name's slot, by its entry; 255 for a variant or no entry. It stays a number: the table has one byte for each place, with no room for an `Option`.
 fn slot(e: usize) -> u8
     requires { e < 256 }
     ensures { result ≡ slot_of_entry e }
@@ -46,21 +48,21 @@ fn may_call(caller: usize, callee: usize) -> bool
 }
 
 // Whether a call of node `c` with so many arguments in node `node` is faulted.
-fn bad_call(rows: &[usize], node: usize, c: usize, arguments: usize) -> bool
-    requires { (node < 256) × (c < 256) }
-    ensures { result ≡ bad_b rows.now node c arguments }
+fn bad_call(rows: &FileRows, node: usize, c: usize, arguments: usize) -> bool
+    requires { node < 32 }
+    ensures { result ≡ bad_b (numbers rows.now) node c arguments }
 {
     !(c < node
-        && may_call(row(rows, node, KIND), row(rows, c, KIND))
-        && arguments == row(rows, c, INPUTS))
+        && may_call(rows.node(node).kind, rows.node(c).kind)
+        && arguments == rows.node(c).inputs)
 }
 
 // How many outputs node `c` has; 0 for an absent one.
-fn outputs(rows: &[usize], nodes: usize, c: usize) -> usize
-    requires { c < 256 }
-    ensures { result ≡ outputs_b rows.now nodes c }
+fn outputs(rows: &FileRows, nodes: usize, c: usize) -> usize
+    requires { nodes ≤ 32 }
+    ensures { result ≡ outputs_b (numbers rows.now) nodes c }
 {
-    if c < nodes { row(rows, c, OUTPUTS) } else { 0 }
+    if c < nodes { rows.node(c).outputs } else { 0 }
 }
 
 // Whether a name with this entry may not be defined: it is an input, a constant, a variant, or
@@ -94,6 +96,7 @@ impl<'a> Judge<'a> {
     }
 
     // Stores the slot of the expression at `at`, if it is a Var.
+    // That a place is in the file stays a fact here and in four functions below: a type of such places is no plainer, since a walk counts with them.
     fn slot_head(&self, slots: &mut [u8], at: usize)
         requires { at < length self.now.file.now }
         ensures { slots.new ≡ slot_head self.now.file.now self.now.names.now slots.old at }
@@ -114,7 +117,7 @@ impl<'a> Judge<'a> {
     // Whether the expression at `at` is a faulted call.
     fn called_at(&self, at: usize) -> bool
         requires { at < length self.now.file.now }
-        ensures { result ≡ called_b self.now.file.now self.now.rows.now self.now.node at }
+        ensures { result ≡ called_b self.now.file.now (numbers self.now.rows.now) self.now.node at }
     {
         Form::Call.is_at(self.file, at)
             && bad_call(
@@ -128,7 +131,7 @@ impl<'a> Judge<'a> {
     // How many values the expression at `at` has.
     fn arity_at(&self, at: usize) -> usize
         requires { at < length self.now.file.now }
-        ensures { result ≡ arity_b self.now.file.now self.now.rows.now self.now.nodes at }
+        ensures { result ≡ arity_b self.now.file.now (numbers self.now.rows.now) self.now.nodes at }
     {
         match Form::try_from(self.file[at]) {
             Ok(Form::Tuple) => byte(self.file, at + 1),
@@ -150,7 +153,7 @@ impl<'a> Judge<'a> {
     // The call or Tuple at `at`: 9 and 10.
     fn judge_call(&self, g: &mut Faults, at: usize)
         requires { at < length self.now.file.now }
-        ensures { g.new ≡ call_found self.now.file.now self.now.rows.now self.now.nodes self.now.node g.old at }
+        ensures { g.new ≡ call_found self.now.file.now (numbers self.now.rows.now) self.now.nodes self.now.node g.old at }
     {
         mark(&mut g.called, self.called_at(at), at);
         mark(&mut g.shaped, 1 < self.arity_at(at), at);
@@ -159,7 +162,7 @@ impl<'a> Judge<'a> {
     // So many expressions, one after the other from where the walk stands.
     pub(crate) fn walk(&self, slots: &mut [u8], parts: usize, g: &mut Faults)
         requires { g.old.size ≤ 65536 }
-        ensures { Walked self.now.file.now self.now.names.now self.now.rows.now self.now.nodes self.now.node parts slots.old slots.new (findings g.old) (findings g.new) }
+        ensures { Walked self.now.file.now self.now.names.now (numbers self.now.rows.now) self.now.nodes self.now.node parts slots.old slots.new (findings g.old) (findings g.new) }
     {
         let file = self.file;
         let mut next = g.next;
@@ -208,7 +211,7 @@ impl<'a> Judge<'a> {
     // The right side of the equation at `at`, which has so many names. The walk stands at the right side.
     fn root(&self, slots: &mut [u8], at: usize, many: usize, g: &mut Faults)
         requires { g.old.size ≤ 65536 }
-        ensures { RootJudged self.now.file.now self.now.names.now self.now.rows.now self.now.nodes self.now.node at many slots.old slots.new (findings g.old) (findings g.new) }
+        ensures { RootJudged self.now.file.now self.now.names.now (numbers self.now.rows.now) self.now.nodes self.now.node at many slots.old slots.new (findings g.old) (findings g.new) }
     {
         let next = g.next;
         if self.file.len() <= next {
@@ -229,7 +232,7 @@ impl<'a> Judge<'a> {
     // The equation where the walk stands, in a node of so many inputs.
     fn equation(&self, slots: &mut [u8], defined: &mut [u8], inputs: usize, g: &mut Faults)
         requires { (g.old.next < 32768) × (g.old.size ≤ 65536) }
-        ensures { EquationWalked self.now.file.now self.now.names.now self.now.rows.now self.now.nodes self.now.node inputs slots.old slots.new defined.old defined.new (findings g.old) (findings g.new) }
+        ensures { EquationWalked self.now.file.now self.now.names.now (numbers self.now.rows.now) self.now.nodes self.now.node inputs slots.old slots.new defined.old defined.new (findings g.old) (findings g.new) }
     {
         let at = g.next;
         let many = byte(self.file, at);
@@ -250,8 +253,8 @@ impl<'a> Judge<'a> {
         plan: usize,
         g: &mut Faults,
     )
-        requires { EquationsReady self.now.file.now self.now.names.now self.now.rows.now self.now.nodes self.now.node many g.old.next × (g.old.size ≤ 65536) × (1 ≤ g.old.size) × (half ≤ plan) × (plan + 4 * many ≤ length slots.old) }
-        ensures { let f = file_at self.now.file.now in let n = node_of f self.now.node in EquationsJudged self.now.file.now self.now.names.now self.now.rows.now self.now.nodes f (seen_in f self.now.node) (bad_call f self.now.node n) inputs g.old.next n.equations (take half slots.old) (take half slots.new) defined.old defined.new (findings g.old) (findings g.new) × Planned self.now.rows.now self.now.nodes g.old.size g.old.next n.equations half plan many slots.old slots.new }
+        requires { EquationsReady self.now.file.now self.now.names.now (numbers self.now.rows.now) self.now.nodes self.now.node many g.old.next × (g.old.size ≤ 65536) × (1 ≤ g.old.size) × (half ≤ plan) × (plan + 4 * many ≤ length slots.old) }
+        ensures { let f = file_at self.now.file.now in let n = node_of f self.now.node in EquationsJudged self.now.file.now self.now.names.now (numbers self.now.rows.now) self.now.nodes f (seen_in f self.now.node) (bad_call f self.now.node n) inputs g.old.next n.equations (take half slots.old) (take half slots.new) defined.old defined.new (findings g.old) (findings g.new) × Planned (numbers self.now.rows.now) self.now.nodes g.old.size g.old.next n.equations half plan many slots.old slots.new }
     {
         let start = g.size;
         for i in 0..many {

@@ -3,6 +3,7 @@ ghost use Rattle.std.specs.Prelude.{◌≡◌, ℕ, map, ◌≤◌, ◌<◌, ◌
 ghost use Rattle.ol_spec.specs.Syntax.{variables, name_of};
 ghost use Rattle.ol_tables.specs.At.{file_at};
 ghost use Rattle.ol_tables.specs.Tables.{node_of, row_at};
+ghost use Rattle.ol_tables.specs.Numbers.{numbers};
 ghost use Rattle.ol_check.specs.Entries.{forget_all};
 ghost use Rattle.ol_check.specs.Spans.{Visited};
 ghost use Rattle.ol_check.specs.Judging.{findings};
@@ -15,27 +16,26 @@ use super::judge::Judge;
 use super::names::{declare, forget};
 use super::rows::each_variable;
 use super::size::record_size;
-use ol_tables::bytes::{byte, name, put};
-use ol_tables::tables::{
-    COLUMNS, COUNT, EQUATIONS, INPUTS, KIND, OUTPUTS, PLACE, SIZE, VARIABLES, row,
-};
+use ol_tables::bytes::{byte, name};
+use ol_tables::tables::FileRows;
 
 // The variables of node `k`: at each one `visit` changes the table, given its number and where it stands.
 // A struct of the file, the rows and `k` cannot state `NodeReady` in a ghost field, since that holds where the reading ended and is no proposition.
 fn node_variables<F: Fn(&mut [u8], usize, usize)>(
     file: &[u8],
     table: &mut [u8],
-    rows: &[usize],
+    rows: &FileRows,
     k: usize,
     visit: F,
 )
-    requires ready { NodeReady file.now rows.now (length (file_at file.now).nodes) k }
+    requires ready { NodeReady file.now (numbers rows.now) (length (file_at file.now).nodes) k }
     requires taken { (y : _) (i p : ℕ) → i < 112 → F.pre visit y i p }
-    ensures { NodeVisited (λ t i p u. Visited (λ y y'. F.post visit y i p tt y') t u) file.now rows.now k table.old table.new }
+    ensures { NodeVisited (λ t i p u. Visited (λ y y'. F.post visit y i p tt y') t u) file.now (numbers rows.now) k table.old table.new }
 {
-    let at = row(rows, k, PLACE);
-    let inputs = row(rows, k, INPUTS);
-    let outputs = row(rows, k, OUTPUTS);
+    let row = rows.node(k);
+    let at = row.place;
+    let inputs = row.inputs;
+    let outputs = row.outputs;
     let o = each_variable(file, table, 0, inputs, at + 2, &visit);
     let l = each_variable(file, table, inputs, outputs, o + 1, &visit);
     let locals = byte(file, l);
@@ -43,8 +43,8 @@ fn node_variables<F: Fn(&mut [u8], usize, usize)>(
 }
 
 // Enters the variables of node `k`.
-fn declare_node(file: &[u8], names: &mut [u8], rows: &[usize], k: usize)
-    requires { NodeReady file.now rows.now (length (file_at file.now).nodes) k }
+fn declare_node(file: &[u8], names: &mut [u8], rows: &FileRows, k: usize)
+    requires { NodeReady file.now (numbers rows.now) (length (file_at file.now).nodes) k }
     ensures { names.new ≡ node_table names.old (node_of (file_at file.now) k) }
 {
     node_variables(file, names, rows, k, |names, i, at| {
@@ -53,8 +53,8 @@ fn declare_node(file: &[u8], names: &mut [u8], rows: &[usize], k: usize)
 }
 
 // Takes the entries of the variables of node `k` back.
-fn forget_node(file: &[u8], names: &mut [u8], rows: &[usize], k: usize)
-    requires { NodeReady file.now rows.now (length (file_at file.now).nodes) k }
+fn forget_node(file: &[u8], names: &mut [u8], rows: &FileRows, k: usize)
+    requires { NodeReady file.now (numbers rows.now) (length (file_at file.now).nodes) k }
     ensures { names.new ≡ forget_all names.old (map name_of (variables (node_of (file_at file.now) k))) }
 {
     node_variables(file, names, rows, k, |names, _, at| {
@@ -63,23 +63,25 @@ fn forget_node(file: &[u8], names: &mut [u8], rows: &[usize], k: usize)
 }
 
 // Judges node `k`, and stores the length of its records. The table by name is as before in the end.
+// That `slots` has room for the plans stays a fact here and in two functions: a struct of `slots` and `half` would hold a `&mut`, and lend one of its parts in every call.
 fn node(
     file: &[u8],
     names: &mut [u8],
     slots: &mut [u8],
-    rows: &mut [usize],
+    rows: &mut FileRows,
     nodes: usize,
     k: usize,
     half: usize,
     g: &mut Faults,
 )
-    requires { NodeReady file.now rows.old nodes k × NamesReady names.old (file_at file.now) × (half + length file.now ≤ length slots.old) }
-    ensures { (names.new ≡ names.old) × (rows.new ≡ set rows.old (k * 8 + 6) (record_by (row_at rows.old k 0) g.new.size)) × NodeJudged file.now names.old rows.old nodes (file_at file.now) k (take half slots.old) (take half slots.new) (findings g.old) (findings g.new) × NodePlanned rows.old nodes (file_at file.now) half k slots.old slots.new }
+    requires { NodeReady file.now (numbers rows.old) nodes k × NamesReady names.old (file_at file.now) × (half + length file.now ≤ length slots.old) }
+    ensures { (names.new ≡ names.old) × (numbers rows.new ≡ set (numbers rows.old) (k * 8 + 6) (record_by (row_at (numbers rows.old) k 0) g.new.size)) × NodeJudged file.now names.old (numbers rows.old) nodes (file_at file.now) k (take half slots.old) (take half slots.new) (findings g.old) (findings g.new) × NodePlanned (numbers rows.old) nodes (file_at file.now) half k slots.old slots.new }
 {
     declare_node(file, names, rows, k);
     let mut defined = [0u8; 256];
-    g.size = 1 + 9 * row(rows, k, VARIABLES);
-    g.next = row(rows, k, EQUATIONS);
+    let row = *rows.node(k);
+    g.size = 1 + 9 * row.variables;
+    g.next = row.equations;
     let judge = Judge {
         file,
         names,
@@ -90,15 +92,14 @@ fn node(
     judge.equations(
         slots,
         &mut defined,
-        row(rows, k, INPUTS),
-        row(rows, k, COUNT),
+        row.inputs,
+        row.count,
         half,
-        half + row(rows, k, PLACE) + 2 * row(rows, k, VARIABLES),
+        half + row.place + 2 * row.variables,
         g,
     );
     forget_node(file, names, rows, k);
-    let size = record_size(row(rows, k, KIND), g.size);
-    put(rows, k * COLUMNS + SIZE, size);
+    rows.put_size(k, record_size(row.kind, g.size));
 }
 
 // Judges all nodes, and stores the lengths of their records; that of an instance of the last node is answered.
@@ -106,13 +107,13 @@ pub(crate) fn judge_nodes(
     file: &[u8],
     names: &mut [u8],
     slots: &mut [u8],
-    rows: &mut [usize],
+    rows: &mut FileRows,
     nodes: usize,
     half: usize,
     g: &mut Faults,
 )
-    requires { RowsReady file.now rows.old nodes × NamesReady names.old (file_at file.now) × (length rows.old ≡ 272) × (half + length file.now ≤ length slots.old) }
-    ensures { (names.new ≡ names.old) × NodesJudged file.now names.old (file_at file.now) (take half slots.old) (take half slots.new) (findings g.old) (findings g.new) × NodesSized (file_at file.now) rows.old rows.new g.old.size g.new.size × PlansBelow (file_at file.now) half slots.new nodes × TypesLeft (file_at file.now) half slots.old slots.new }
+    requires { RowsReady file.now (numbers rows.old) nodes × NamesReady names.old (file_at file.now) × (half + length file.now ≤ length slots.old) }
+    ensures { (names.new ≡ names.old) × NodesJudged file.now names.old (file_at file.now) (take half slots.old) (take half slots.new) (findings g.old) (findings g.new) × NodesSized (file_at file.now) (numbers rows.old) (numbers rows.new) g.old.size g.new.size × PlansBelow (file_at file.now) half slots.new nodes × TypesLeft (file_at file.now) half slots.old slots.new }
 {
     for k in 0..nodes {
         node(file, names, slots, rows, nodes, k, half, g);

@@ -5,10 +5,11 @@ ghost use Rattle.ol_check.specs.Spans.{starts_from, end_from, behind_variable, b
 ghost use Rattle.ol_check.specs.RowsDone.{EnumsStored, type_set, TypesStored, NodeStored, NodesStored, PlacesAre, TablesDone};
 ghost use Rattle.ol_tables.specs.At.{file_at};
 ghost use Rattle.ol_tables.specs.Stands.{FileReads};
+ghost use Rattle.ol_tables.specs.Numbers.{numbers};
 
-use ol_tables::bytes::{byte, entry, name, put, put_byte, put_two};
+use ol_tables::bytes::{byte, entry, name, put_byte, put_two};
 use ol_tables::heads::ty_size;
-use ol_tables::tables::{COLUMNS, FIRSTS};
+use ol_tables::tables::{FileRows, Row};
 
 // Where the section of names at `at` ends.
 pub(crate) fn names_end(file: &[u8], at: usize) -> usize
@@ -27,6 +28,7 @@ pub(crate) fn variable_end(file: &[u8], at: usize) -> usize
 }
 
 // So many variables from `at` on, the first as number `first`: at each one `visit` changes the table, given its number and where it stands. Where they end is answered.
+// A count stays a number below 256, here and in four functions: it is what `byte` answers, and a `u8` would be cast back at each use.
 pub(crate) fn each_variable<F: Fn(&mut [u8], usize, usize)>(
     file: &[u8],
     table: &mut [u8],
@@ -50,13 +52,13 @@ pub(crate) fn each_variable<F: Fn(&mut [u8], usize, usize)>(
 }
 
 // So many enums from `at` on: the first variant of each is stored, and where they end is answered.
-fn enum_rows(file: &[u8], rows: &mut [usize], count: usize, at: usize) -> usize
+fn enum_rows(file: &[u8], rows: &mut FileRows, count: usize, at: usize) -> usize
     requires { (count ≤ 16) × (at ≤ 20000) }
-    ensures { EnumsStored file.now rows.old rows.new count at result }
+    ensures { EnumsStored file.now (numbers rows.old) (numbers rows.new) count at result }
 {
     let mut next = at;
     for e in 0..count {
-        put(rows, FIRSTS + e, name(file, next + 1));
+        rows.put_first(e, name(file, next + 1));
         next = names_end(file, next);
     }
     next
@@ -84,19 +86,11 @@ fn variable_types(file: &[u8], types: &mut [u8], first: usize, count: usize, at:
     })
 }
 
-// Stores a row's eight entries from `i` on.
-fn put_row(rows: &mut [usize], i: usize, row: &[usize; 8])
-    requires { i + 8 ≤ length rows.old }
-    ensures { rows.new ≡ sets rows.old i row.now }
-{
-    rows[i..i + COLUMNS].copy_from_slice(row);
-}
-
 // The row of node `k`, which stands at `at`, its place, and the types of its variables, which stand at
 // its place among the plans. In `tab` the nodes' places come first; the plans start at `plans`.
-fn node_row(file: &[u8], rows: &mut [usize], tab: &mut [u8], plans: usize, k: usize, at: usize)
-    requires { (k < 32) × (at ≤ 32768) × (plans < 9240000000000000000) × (256 ≤ length rows.old) }
-    ensures { NodeStored file.now rows.old rows.new tab.old tab.new plans k at }
+fn node_row(file: &[u8], rows: &mut FileRows, tab: &mut [u8], plans: usize, k: usize, at: usize)
+    requires { (k < 32) × (at ≤ 32768) × (plans < 9240000000000000000) }
+    ensures { NodeStored file.now (numbers rows.old) (numbers rows.new) tab.old tab.new plans k at }
 {
     let types = plans + at;
     let inputs = byte(file, at + 1);
@@ -106,30 +100,30 @@ fn node_row(file: &[u8], rows: &mut [usize], tab: &mut [u8], plans: usize, k: us
     let locals = byte(file, l);
     let q = variable_types(file, tab, types + 2 * inputs + 2 * outputs, locals, l + 1);
     put_two(tab, 2 * k, at);
-    let row = [
-        byte(file, at),
-        q + 1,
+    let row = Row {
+        kind: byte(file, at),
+        equations: q + 1,
         inputs,
         outputs,
-        inputs + outputs + locals,
-        byte(file, q),
-        0,
-        at,
-    ];
-    put_row(rows, k * COLUMNS, &row);
+        variables: inputs + outputs + locals,
+        count: byte(file, q),
+        size: 0,
+        place: at,
+    };
+    rows.put_node(k, row);
 }
 
 // So many nodes, each at its place.
 fn node_rows(
     file: &[u8],
     places: &[usize],
-    rows: &mut [usize],
+    rows: &mut FileRows,
     tab: &mut [u8],
     plans: usize,
     count: usize,
 )
-    requires { (count ≤ 32) × ((k : ℕ) → k < count → get_or places.now k 0 ≤ 32768) × (plans < 9240000000000000000) × (256 ≤ length rows.old) }
-    ensures { NodesStored file.now places.now rows.old rows.new tab.old tab.new plans count }
+    requires { (count ≤ 32) × ((k : ℕ) → k < count → get_or places.now k 0 ≤ 32768) × (plans < 9240000000000000000) }
+    ensures { NodesStored file.now places.now (numbers rows.old) (numbers rows.new) tab.old tab.new plans count }
 {
     for k in 0..count {
         node_row(file, rows, tab, plans, k, entry(places, k));
@@ -150,12 +144,12 @@ pub struct Sections {
 pub fn rows_of(
     file: &[u8],
     places: &[usize],
-    rows: &mut [usize],
+    rows: &mut FileRows,
     tab: &mut [u8],
     plans: usize,
 ) -> Sections
-    requires { FileReads file.now × PlacesAre (file_at file.now) places.now × (length rows.old ≡ 272) × (64 ≤ plans) × (plans + length file.now ≤ length tab.old) }
-    ensures { TablesDone (file_at file.now) rows.new tab.old tab.new plans result }
+    requires { FileReads file.now × PlacesAre (file_at file.now) places.now × (64 ≤ plans) × (plans + length file.now ≤ length tab.old) }
+    ensures { TablesDone (file_at file.now) (numbers rows.new) tab.old tab.new plans result }
 {
     let c = enum_rows(file, rows, byte(file, 1), 2);
     let n = entry(places, 0) - 1;

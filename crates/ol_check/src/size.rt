@@ -4,6 +4,7 @@ ghost use Rattle.ol_spec.specs.Places.{constants_start};
 ghost use Rattle.ol_spec.specs.Admission.{fault14};
 ghost use Rattle.ol_tables.specs.At.{file_at};
 ghost use Rattle.ol_tables.specs.Stands.{FileReads};
+ghost use Rattle.ol_tables.specs.Numbers.{numbers};
 ghost use Rattle.ol_check.specs.Founds.{place_of};
 ghost use Rattle.ol_check.specs.Records.{site_b, record_by};
 ghost use Rattle.ol_check.specs.NodesJudged.{RowsReady};
@@ -11,7 +12,7 @@ ghost use Rattle.ol_check.specs.Sizes.{StateSized};
 
 use ol_tables::bytes::byte;
 use ol_tables::form::Form;
-use ol_tables::tables::{KIND, PLACE, SIZE, row};
+use ol_tables::tables::FileRows;
 
 // The codes of a node's kinds.
 pub(crate) const FUNCTION: usize = 0;
@@ -21,15 +22,15 @@ pub(crate) const OPERATOR: usize = 1;
 pub(crate) const IMPORTED: usize = 2;
 
 // Fault 14: the last node is no Operator.
-pub fn not_operator(file: &[u8], rows: &[usize], nodes: usize) -> Option<usize>
-    requires { RowsReady file.now rows.now nodes × (1 ≤ nodes) }
+pub fn not_operator(file: &[u8], rows: &FileRows, nodes: usize) -> Option<usize>
+    requires { RowsReady file.now (numbers rows.now) nodes × (1 ≤ nodes) }
     ensures { place_of result ≡ fault14 (file_at file.now) }
 {
-    let k = nodes - 1;
-    if row(rows, k, KIND) == OPERATOR {
+    let last = rows.node(nodes - 1);
+    if last.kind == OPERATOR {
         None
     } else {
-        Some(row(rows, k, PLACE))
+        Some(last.place)
     }
 }
 
@@ -41,15 +42,15 @@ pub(crate) fn capped(a: usize, b: usize) -> usize
 }
 
 // The bytes of the record of the expression at `at`, if it is a call.
-pub(crate) fn site(file: &[u8], rows: &[usize], nodes: usize, at: usize) -> usize
-    requires { at < length file.now }
-    ensures { result ≡ site_b file.now rows.now nodes at }
+pub(crate) fn site(file: &[u8], rows: &FileRows, nodes: usize, at: usize) -> usize
+    requires { (at < length file.now) × (nodes ≤ 32) }
+    ensures { result ≡ site_b file.now (numbers rows.now) nodes at }
 {
     if !Form::Call.is_at(file, at) {
         return 0;
     }
     let c = byte(file, at + 1);
-    if c < nodes { row(rows, c, SIZE) } else { 0 }
+    if c < nodes { rows.node(c).size } else { 0 }
 }
 
 // The bytes of the record at a call site of a node of this kind, whose instance has so many.

@@ -6,3 +6,4 @@ pub mod HeadsFile
 pub mod Forms
 pub mod Lending
 pub mod TableLaws
+pub mod NumberLaws

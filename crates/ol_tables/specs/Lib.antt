@@ -1,5 +1,6 @@
 pub mod At
 pub mod Tables
+pub mod Numbers
 pub mod Table
 pub mod Heads
 pub mod FormCodes

@@ -4,5 +4,6 @@
 pub mod bytes; // bytes.rt: bytes, names and table entries
 pub mod form; // form.rt: the forms of expressions
 pub mod heads; // heads.rt: expressions, head by head
-pub mod tables; // tables.rt: the columns of the rows, and their entries
+pub mod tables; // tables.rt: the rows of a file, and their columns in the table of bytes
+pub mod rows; // rows.rt: the rows, read and stored
 pub mod table; // table.rt: the table of a file, as bytes

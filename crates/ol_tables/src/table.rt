@@ -4,10 +4,11 @@
 // then what its equations need.
 ghost use Rattle.std.specs.Prelude.{◌≡◌, ℕ, ◌+◌, ◌*◌, ◌≤◌, ◌<◌, length, get_or};
 ghost use Rattle.ol_tables.specs.Tables.{row_at, first_at};
+ghost use Rattle.ol_tables.specs.Numbers.{numbers};
 ghost use Rattle.ol_tables.specs.Table.{rows_of, types_at, number_put, Packs};
 
 use super::bytes::{byte, name};
-use super::tables::{COLUMNS, FIRSTS, ROWS};
+use super::tables::{COLUMNS, FIRSTS, FileRows, ROWS};
 
 // Where its parts start, and its length for a small file and for any.
 pub const KNOWN: usize = 816; // how many constants have their cells here
@@ -83,12 +84,25 @@ fn put_number(tab: &mut [u8], i: usize, n: usize)
     tab[r] = (n % 256) as u8;
 }
 
-// Stores the numbers of the rows from index `first` up to `last`.
-pub fn pack(rows: &[usize], first: usize, last: usize, tab: &mut [u8])
-    requires { (first ≤ last) × (last ≤ 272) × (last ≤ length rows.now) × (816 ≤ length tab.old) × ((i : ℕ) → first ≤ i → i < last → get_or rows.now i 0 < 16777216) }
-    ensures { Packs rows.now first last tab.old tab.new }
+// Stores the rows of so many nodes.
+pub fn pack_nodes(rows: &FileRows, count: usize, tab: &mut [u8])
+    requires { (count ≤ 32) × (816 ≤ length tab.old) × ((i : ℕ) → 0 ≤ i → i < count * 8 → get_or (numbers rows.now) i 0 < 16777216) }
+    ensures { Packs (numbers rows.now) 0 (count * 8) tab.old tab.new }
 {
-    for i in first..last {
-        put_number(tab, i, rows[i]);
+    for k in 0..count {
+        let row = rows.node(k).numbers();
+        for (j, n) in row.iter().enumerate() {
+            put_number(tab, k * COLUMNS + j, *n);
+        }
+    }
+}
+
+// Stores the first variants of so many enums.
+pub fn pack_firsts(rows: &FileRows, count: usize, tab: &mut [u8])
+    requires { (count ≤ 16) × (816 ≤ length tab.old) × ((i : ℕ) → 256 ≤ i → i < 256 + count → get_or (numbers rows.now) i 0 < 16777216) }
+    ensures { Packs (numbers rows.now) 256 (256 + count) tab.old tab.new }
+{
+    for e in 0..count {
+        put_number(tab, FIRSTS + e, rows.first(e));
     }
 }

@@ -1,10 +1,7 @@
-// The rows of a file: a row of eight numbers for each of 32 nodes, then the first variant of each of 16 enums.
-ghost use Rattle.std.specs.Prelude.{◌≡◌};
-ghost use Rattle.ol_tables.specs.Tables.{row_at};
+// The rows of a file: a row for each of 32 nodes, and the first variant of each of 16 enums.
+ghost use Rattle.std.specs.Prelude.{◌≡◌, length};
 
-use super::bytes::entry;
-
-// The columns of a node's row, and how many there are.
+// The columns of a node's row in the table of bytes, and how many there are.
 pub const KIND: usize = 0;
 
 pub const EQUATIONS: usize = 1; // where the first equation starts
@@ -33,13 +30,23 @@ pub const MOST_EQUATIONS: usize = 80;
 
 pub const MOST_CELLS: usize = 1008;
 
-// Entry j of node k's row; 0 past the end.
-pub fn row(rows: &[usize], k: usize, j: usize) -> usize
-    ensures { result ≡ row_at rows.now k j }
-{
-    if k < rows.len() && j < rows.len() {
-        entry(rows, k * COLUMNS + j)
-    } else {
-        0
-    }
+// A node's row.
+#[derive(Clone, Copy)]
+pub struct Row {
+    pub kind: usize,
+    pub equations: usize, // where the first equation starts
+    pub inputs: usize,
+    pub outputs: usize,
+    pub variables: usize,
+    pub count: usize, // how many equations there are
+    pub size: usize, // the bytes of the record at a call site
+    pub place: usize, // where the node starts
+}
+
+// The rows of the nodes, and the first variants of the enums. The ghost field tells other crates the lengths that the types have.
+#[derive(Clone, Copy)]
+pub struct FileRows {
+    pub(crate) nodes: [Row; 32],
+    pub(crate) firsts: [usize; 16],
+    pub ghost lengths: { (length nodes ≡ 32) × (length firsts ≡ 16) },
 }

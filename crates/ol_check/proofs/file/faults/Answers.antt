@@ -14,21 +14,21 @@ declare_enums-requires c =
 
 pub slice_bounds-judge_constants-end : goal.slice_bounds-judge_constants-end
 slice_bounds-judge_constants-end c =
-    c.requires.3
+    c.requires.2
 
 pub slice_bounds-judge_constants-end-2 : goal.slice_bounds-judge_constants-end-2
 slice_bounds-judge_constants-end-2 c =
-    sym (length-take-le _ _ c.requires.3)
+    sym (length-take-le _ _ c.requires.2)
 
 pub judge_constants-requires : goal.judge_constants-requires
 judge_constants-requires c =
     let st = stands c.type_inv.file c.requires.0.reads in
-    (st.short, (constant_count_lem c.requires.0 c.requires.1 st c.byte-2.ensures), omega (arith, (constant_count_lem c.requires.0 c.requires.1 st c.byte-2.ensures), st.few_constants), constants_ready c.requires.0 c.requires.1 st c.byte-nodes.ensures c.byte.ensures c.byte-2.ensures c.declare_enums.ensures, omega arith)
+    (st.short, (constant_count_lem c.requires.0 c.requires.1 st c.byte-2.ensures), omega (arith, (constant_count_lem c.requires.0 c.requires.1 st c.byte-2.ensures), st.few_constants), (rows_ready c.requires.0 c.requires.1 st c.byte-nodes.ensures).few, constants_ready c.requires.0 c.requires.1 st c.byte-nodes.ensures c.byte.ensures c.byte-2.ensures c.declare_enums.ensures, omega arith)
 
 pub judge_nodes-requires : goal.judge_nodes-requires
 judge_nodes-requires c =
     let st = stands c.type_inv.file c.requires.0.reads in
-    (rows_ready c.requires.0 c.requires.1 st c.byte-nodes.ensures, names_ready c.requires.0 c.requires.1 st c.byte-nodes.ensures c.byte.ensures c.byte-2.ensures c.declare_enums.ensures refl refl refl refl refl c.judge_constants.ensures, c.requires.2, omega (arith, c.requires.5, length_front c.args.slots.now c.judge_constants.new.slots c.args.half c.judge_constants.auto.slots))
+    (rows_ready c.requires.0 c.requires.1 st c.byte-nodes.ensures, names_ready c.requires.0 c.requires.1 st c.byte-nodes.ensures c.byte.ensures c.byte-2.ensures c.declare_enums.ensures refl refl refl refl refl c.judge_constants.ensures, omega (arith, c.requires.4, length_front c.args.slots.now c.judge_constants.new.slots c.args.half c.judge_constants.auto.slots))
 
 pub shape_of-names : goal.shape_of-names
 shape_of-names c = c.judge_nodes.auto.names ∙ c.judge_constants.auto.names ∙ c.declare_enums.auto.names
@@ -36,4 +36,4 @@ shape_of-names c = c.judge_nodes.auto.names ∙ c.judge_constants.auto.names ∙
 pub returns : goal.returns
 returns c =
     let st = stands c.type_inv.file c.requires.0.reads in
-    record { judged = file_judged c.requires.0 c.requires.1 st c.byte-nodes.ensures c.byte.ensures c.byte-2.ensures c.declare_enums.ensures refl refl refl refl refl c.judge_constants.ensures c.judge_nodes.ensures.0 (judged_from (front_new c.args.half c.args.slots.now c.judge_constants.new.slots c.requires.3 c.judge_constants.auto.slots) c.judge_nodes.ensures.1) c.judge_nodes.ensures.2; planned = λ no k lt. c.judge_nodes.ensures.3 no k (omega (arith, (rows_ready c.requires.0 c.requires.1 st c.byte-nodes.ensures).many)); typed = record { left = λ k l x a b. c.judge_nodes.ensures.4.left k l x a b ∙ front_rest c.args.half c.args.slots.now c.judge_constants.new.slots c.requires.3 c.judge_constants.auto.slots (c.args.half + x) (omega arith) } }
+    record { judged = file_judged c.requires.0 c.requires.1 st c.byte-nodes.ensures c.byte.ensures c.byte-2.ensures c.declare_enums.ensures refl refl refl refl refl c.judge_constants.ensures c.judge_nodes.ensures.0 (judged_from (front_new c.args.half c.args.slots.now c.judge_constants.new.slots c.requires.2 c.judge_constants.auto.slots) c.judge_nodes.ensures.1) c.judge_nodes.ensures.2; planned = λ no k lt. c.judge_nodes.ensures.3 no k (omega (arith, (rows_ready c.requires.0 c.requires.1 st c.byte-nodes.ensures).many)); typed = record { left = λ k l x a b. c.judge_nodes.ensures.4.left k l x a b ∙ front_rest c.args.half c.args.slots.now c.judge_constants.new.slots c.requires.2 c.judge_constants.auto.slots (c.args.half + x) (omega arith) } }

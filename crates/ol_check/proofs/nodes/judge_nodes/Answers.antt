@@ -1,3 +1,4 @@
+use Rattle.ol_tables.proofs.NumberLaws.{numbers_long}
 use mathlib.Core.Path.{refl, sym, subst, ◌∙◌}
 use native.Mathlib.Omega.{arith}
 use Rattle.ol_tables.specs.At.{file_at}
@@ -9,12 +10,12 @@ use Rattle.ol_check.proofs.nodes.judge_nodes.Goals as goal
 
 pub loop-k-init : goal.loop-k-init
 loop-k-init c =
-    record { same = refl; kept = kept_start c.requires.2; going = nodes_start_lem; sized = sizes_start; planned = λ no j h. absurd (omega arith); typed = record { left = λ j l x a b. refl } }
+    record { same = refl; kept = kept_start (numbers_long c.args.rows.now); going = nodes_start_lem; sized = sizes_start; planned = λ no j h. absurd (omega arith); typed = record { left = λ j l x a b. refl } }
 
 pub node-requires : goal.node-requires
 node-requires c =
     let w = c.loop-k.invariant in
-    (ready_at (rows_kept c.requires.0 w.kept) c.loop-k.k c.loop-k-test.true, subst (λ l. NamesReady l (file_at c.args.file.now)) (sym w.same) c.requires.1, omega (arith, c.requires.3, c.loop-k.auto.slots))
+    (ready_at (rows_kept c.requires.0 w.kept) c.loop-k.k c.loop-k-test.true, subst (λ l. NamesReady l (file_at c.args.file.now)) (sym w.same) c.requires.1, omega (arith, c.requires.2, c.loop-k.auto.slots))
 
 pub loop-k-preserved : goal.loop-k-preserved
 loop-k-preserved c =

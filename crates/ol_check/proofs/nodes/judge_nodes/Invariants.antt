@@ -5,15 +5,16 @@ use Rattle.ol_check.specs.Judging.{findings}
 use Rattle.ol_check.specs.NodesJudged.{PlansBelow, TypesLeft}
 use Rattle.ol_check.proofs.NodeLaws.{NodesGoing}
 use Rattle.ol_check.proofs.SizeTable.{RowsKept, SizesGoing}
+use Rattle.ol_tables.specs.Numbers.{numbers}
 use Rattle.ol_check.proofs.nodes.judge_nodes.Given as goal
 
 abbrev pub invariant-loop-k : goal.invariant-loop-k
 invariant-loop-k l =
     record {
       same : l.names ≡ l.initial.names;
-      kept : RowsKept l.initial.rows l.rows;
+      kept : RowsKept (numbers l.initial.rows) (numbers l.rows);
       going : NodesGoing l.file l.initial.names (file_at l.file) (take l.half l.initial.slots) (findings l.initial.g) (take l.half l.slots) (findings l.g) l.k;
-      sized : SizesGoing l.file l.initial.rows l.nodes l.initial.g.size l.rows l.g.size l.k;
+      sized : SizesGoing l.file (numbers l.initial.rows) l.nodes l.initial.g.size (numbers l.rows) l.g.size l.k;
       planned : PlansBelow (file_at l.file) l.half l.slots l.k;
       typed : TypesLeft (file_at l.file) l.half l.initial.slots l.slots;
     }

@@ -22,9 +22,5 @@ pub overflow_add-row : goal.overflow_add-row
 overflow_add-row c =
     omega (arith, c.requires.0, c.requires.1, types_near c.variable_types-o.ensures, c.byte-inputs.ensures.small, types_near c.variable_types-l.ensures, c.byte-outputs.ensures.small, types_near c.variable_types-q.ensures, c.byte-locals.ensures.small)
 
-pub put_row-requires : goal.put_row-requires
-put_row-requires c =
-    omega (arith, c.requires.0, c.requires.3)
-
 pub returns : goal.returns
-returns c = node_stored_lem c.byte-inputs.ensures.is c.variable_types-o.ensures c.byte-outputs.ensures.is c.variable_types-l.ensures c.byte-locals.ensures.is c.variable_types-q.ensures c.put_two.ensures c.byte-2.ensures.is c.byte.ensures.is c.put_row.ensures
+returns c = node_stored_lem c.byte-inputs.ensures.is c.variable_types-o.ensures c.byte-outputs.ensures.is c.variable_types-l.ensures c.byte-locals.ensures.is c.variable_types-q.ensures c.put_two.ensures c.byte-2.ensures.is c.byte.ensures.is c.put_node.ensures

@@ -7,7 +7,7 @@ loop-k-init c = rows_start
 
 pub node_row-requires : goal.node_row-requires
 node_row-requires c =
-    (omega (arith, c.requires.0, c.loop-k-test.true), omega (arith, c.entry.ensures, c.requires.1 c.loop-k.k c.loop-k-test.true), c.requires.2, omega (arith, c.requires.3))
+    (omega (arith, c.requires.0, c.loop-k-test.true), omega (arith, c.entry.ensures, c.requires.1 c.loop-k.k c.loop-k-test.true), omega (arith, c.requires.2))
 
 pub loop-k-preserved : goal.loop-k-preserved
 loop-k-preserved c = rows_turn c.loop-k.invariant c.loop-k-test.true c.entry.ensures c.node_row.ensures

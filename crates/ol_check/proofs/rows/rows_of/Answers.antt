@@ -1,7 +1,8 @@
 use Rattle.ol_check.proofs.RowLoops.{first_place_lem, nodes_count, tables_done, places_in}
-use mathlib.Core.Path.{refl, ◌∙◌}
+use mathlib.Core.Path.{refl}
 use native.Mathlib.Omega.{arith}
 use Rattle.ol_check.proofs.Standing.{stands}
+use Rattle.ol_tables.proofs.NumberLaws.{numbers_long}
 use Rattle.ol_check.proofs.rows.rows_of.Goals as goal
 
 pub enum_rows-c-requires : goal.enum_rows-c-requires
@@ -17,8 +18,8 @@ overflow_sub-n c =
 pub node_rows-requires : goal.node_rows-requires
 node_rows-requires c =
     let st = stands c.type_inv.file c.requires.0 in
-    (omega (arith, (nodes_count st c.byte.ensures c.requires.2 c.enum_rows-c.ensures c.requires.1 c.entry-n.ensures refl c.byte-2.ensures), st.few_nodes), λ k lt. places_in st c.requires.1 k (omega (arith, (nodes_count st c.byte.ensures c.requires.2 c.enum_rows-c.ensures c.requires.1 c.entry-n.ensures refl c.byte-2.ensures))), omega (arith, c.requires.4), omega (arith, c.requires.2, c.enum_rows-c.auto.rows))
+    (omega (arith, (nodes_count st c.byte.ensures (numbers_long c.args.rows.now) c.enum_rows-c.ensures c.requires.1 c.entry-n.ensures refl c.byte-2.ensures), st.few_nodes), λ k lt. places_in st c.requires.1 k (omega (arith, (nodes_count st c.byte.ensures (numbers_long c.args.rows.now) c.enum_rows-c.ensures c.requires.1 c.entry-n.ensures refl c.byte-2.ensures))), omega (arith, c.requires.3))
 
 pub returns : goal.returns
 returns c =
-    tables_done (stands c.type_inv.file c.requires.0) c.byte.ensures c.requires.2 c.enum_rows-c.ensures c.requires.1 c.entry-n.ensures refl (c.enum_rows-c.auto.rows ∙ c.requires.2) c.requires.3 c.requires.4 c.byte-2.ensures c.node_rows.ensures
+    tables_done (stands c.type_inv.file c.requires.0) c.byte.ensures (numbers_long c.args.rows.now) c.enum_rows-c.ensures c.requires.1 c.entry-n.ensures refl (numbers_long c.enum_rows-c.new.rows) c.requires.2 c.requires.3 c.byte-2.ensures c.node_rows.ensures

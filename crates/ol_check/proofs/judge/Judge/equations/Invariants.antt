@@ -6,6 +6,7 @@ use Rattle.ol_check.specs.Judging.{findings, seen_in}
 use Rattle.ol_check.proofs.EquationLaws.{EquationsGoing}
 use Rattle.ol_check.proofs.PlanLaws.{PlanGoing}
 use lib.ListN.{length}
+use Rattle.ol_tables.specs.Numbers.{numbers}
 use Rattle.ol_check.proofs.judge.Judge.equations.Given as goal
 
 abbrev pub invariant-loop-i : goal.invariant-loop-i
@@ -13,6 +14,6 @@ invariant-loop-i l =
     let s = l.self.file.now in
     let n = node_of (file_at s) l.self.node in
     record {
-      going : EquationsGoing s l.self.names.now l.self.rows.now l.self.nodes (file_at s) (seen_in (file_at s) l.self.node) (bad_call (file_at s) l.self.node n) l.inputs (length (file_at s).enums) n.equations (take l.half l.initial.slots) l.initial.defined (findings l.initial.g) (take l.half l.slots) l.defined (findings l.g) l.i;
-      planned : PlanGoing l.self.rows.now l.self.nodes l.initial.g.size l.initial.g.next n.equations l.half l.plan l.i l.initial.slots l.slots l.g.size;
+      going : EquationsGoing s l.self.names.now (numbers l.self.rows.now) l.self.nodes (file_at s) (seen_in (file_at s) l.self.node) (bad_call (file_at s) l.self.node n) l.inputs (length (file_at s).enums) n.equations (take l.half l.initial.slots) l.initial.defined (findings l.initial.g) (take l.half l.slots) l.defined (findings l.g) l.i;
+      planned : PlanGoing (numbers l.self.rows.now) l.self.nodes l.initial.g.size l.initial.g.next n.equations l.half l.plan l.i l.initial.slots l.slots l.g.size;
     }

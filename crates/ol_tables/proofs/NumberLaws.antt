@@ -1,0 +1,119 @@
+-- The numbers of a file's rows, read and stored.
+use Prim.Native.Nat.{ℕ, zero, suc, ◌+◌, ◌*◌, ◌<◌}
+use mathlib.Core.List.{List, [], ◌∷◌, ◌++◌, map}
+use mathlib.Core.Path.{◌≡◌, refl, ap, ◌∙◌}
+use native.Mathlib.Omega.{arith}
+use lib.ListN.{length, get_or, set}
+use lib.Seq.{sets}
+use Rattle.ol_spec.specs.Lists.{concat}
+use Rattle.ol_tables.specs.Tables.{row_at, first_at}
+use Rattle.ol_tables.specs.Numbers.{row_numbers, numbers, RowIs}
+use Rattle.ol_tables.specs.declared.tables.Row.{Row}
+use Rattle.ol_tables.specs.declared.tables.FileRows.{FileRows}
+
+-- the numbers of these rows, before other numbers
+flat : List Row → List ℕ → List ℕ
+flat rs ns = concat (map row_numbers rs) ++ ns
+
+abbrev no_row : Row
+no_row = record { kind = 0; equations = 0; inputs = 0; outputs = 0; variables = 0; count = 0; size = 0; place = 0 }
+
+-- one row further
+further : (r : Row) (rs : List Row) (ns : List ℕ) (k j : ℕ) → get_or (flat rs ns) (k * 8 + j) 0 ≡ get_or (flat (r ∷ rs) ns) (suc k * 8 + j) 0
+unfolding flat
+further r rs ns k j = let on : suc (suc (suc (suc (suc (suc (suc (suc (k * 8 + j)))))))) ≡ suc k * 8 + j = omega arith in ap (λ i. get_or (flat (r ∷ rs) ns) i 0) on
+
+row_is : (rs : List Row) (ns : List ℕ) (k : ℕ) → k < length rs → RowIs (flat rs ns) k (get_or rs k no_row)
+unfolding flat
+row_is [] ns k lt = absurd (omega arith)
+row_is (r ∷ rs) ns zero lt = record { kind = refl; equations = refl; inputs = refl; outputs = refl; variables = refl; count = refl; size = refl; place = refl }
+row_is (r ∷ rs) ns (suc k) lt =
+    let on = row_is rs ns k (omega arith) in
+    record { kind = on.kind ∙ further r rs ns k 0; equations = on.equations ∙ further r rs ns k 1; inputs = on.inputs ∙ further r rs ns k 2; outputs = on.outputs ∙ further r rs ns k 3; variables = on.variables ∙ further r rs ns k 4; count = on.count ∙ further r rs ns k 5; size = on.size ∙ further r rs ns k 6; place = on.place ∙ further r rs ns k 7 }
+
+put_row : (rs : List Row) (ns : List ℕ) (k : ℕ) (r : Row) → k < length rs → flat (set rs k r) ns ≡ sets (flat rs ns) (k * 8) (row_numbers r)
+unfolding flat
+put_row [] ns k r lt = absurd (omega arith)
+put_row (q ∷ rs) ns zero r lt = refl
+put_row (q ∷ rs) ns (suc k) r lt =
+    let on : suc (suc (suc (suc (suc (suc (suc (suc (k * 8)))))))) ≡ suc k * 8 = omega arith in
+    ap (λ l. row_numbers q ++ l) (put_row rs ns k r (omega arith)) ∙ ap (λ i. sets (flat (q ∷ rs) ns) i (row_numbers r)) on
+
+-- a row with another size
+abbrev sized : Row → ℕ → Row
+sized r n = record { kind = r.kind; equations = r.equations; inputs = r.inputs; outputs = r.outputs; variables = r.variables; count = r.count; size = n; place = r.place }
+
+put_size : (rs : List Row) (ns : List ℕ) (k n : ℕ) → k < length rs → flat (set rs k (sized (get_or rs k no_row) n)) ns ≡ set (flat rs ns) (k * 8 + 6) n
+unfolding flat
+put_size [] ns k n lt = absurd (omega arith)
+put_size (q ∷ rs) ns zero n lt = refl
+put_size (q ∷ rs) ns (suc k) n lt =
+    let on : suc (suc (suc (suc (suc (suc (suc (suc (k * 8 + 6)))))))) ≡ suc k * 8 + 6 = omega arith in
+    ap (λ l. row_numbers q ++ l) (put_size rs ns k n (omega arith)) ∙ ap (λ i. set (flat (q ∷ rs) ns) i n) on
+
+put_behind : (rs : List Row) (ns : List ℕ) (i x : ℕ) → flat rs (set ns i x) ≡ set (flat rs ns) (length rs * 8 + i) x
+unfolding flat
+put_behind [] ns i x = let on : i ≡ 0 * 8 + i = omega arith in ap (λ j. set ns j x) on
+put_behind (q ∷ rs) ns i x =
+    let on : suc (suc (suc (suc (suc (suc (suc (suc (length rs * 8 + i)))))))) ≡ suc (length rs) * 8 + i = omega arith in
+    ap (λ l. row_numbers q ++ l) (put_behind rs ns i x) ∙ ap (λ j. set (flat (q ∷ rs) ns) j x) on
+
+get_behind : (rs : List Row) (ns : List ℕ) (i : ℕ) → get_or ns i 0 ≡ get_or (flat rs ns) (length rs * 8 + i) 0
+unfolding flat
+get_behind [] ns i = let on : i ≡ 0 * 8 + i = omega arith in ap (λ j. get_or ns j 0) on
+get_behind (q ∷ rs) ns i =
+    let on : suc (suc (suc (suc (suc (suc (suc (suc (length rs * 8 + i)))))))) ≡ suc (length rs) * 8 + i = omega arith in
+    get_behind rs ns i ∙ ap (λ j. get_or (flat (q ∷ rs) ns) j 0) on
+
+-- ---- of a file's rows
+
+pub node_is : (rows : FileRows) (k : ℕ) → k < 32 → RowIs (numbers rows) k (get_or rows.nodes k no_row)
+unfolding numbers flat
+node_is rows k lt = row_is rows.nodes rows.firsts k (omega (arith, rows.lengths))
+
+pub first_is : (rows : FileRows) (e : ℕ) → get_or rows.firsts e 0 ≡ first_at (numbers rows) e
+unfolding numbers flat
+first_is rows e =
+    let at : length rows.nodes * 8 + e ≡ 256 + e = omega (arith, rows.lengths) in
+    get_behind rows.nodes rows.firsts e ∙ ap (λ j. get_or (numbers rows) j 0) at
+
+-- the numbers after these arrays are stored
+as_flat : (rows : FileRows) {nodes : List Row} {firsts : List ℕ} → rows.nodes ≡ nodes → rows.firsts ≡ firsts → numbers rows ≡ flat nodes firsts
+unfolding numbers flat
+as_flat rows {nodes} en ef = ap (λ l. flat l rows.firsts) en ∙ ap (flat nodes) ef
+
+pub node_put : (rows rows' : FileRows) (k : ℕ) (r : Row) → k < 32 → rows'.nodes ≡ set rows.nodes k r → rows'.firsts ≡ rows.firsts → numbers rows' ≡ sets (numbers rows) (k * 8) (row_numbers r)
+unfolding numbers flat
+node_put rows rows' k r lt en ef = as_flat rows' en ef ∙ put_row rows.nodes rows.firsts k r (omega (arith, rows.lengths))
+
+pub size_put : (rows rows' : FileRows) (k n : ℕ) → k < 32 → rows'.nodes ≡ set rows.nodes k (sized (get_or rows.nodes k no_row) n) → rows'.firsts ≡ rows.firsts → numbers rows' ≡ set (numbers rows) (k * 8 + 6) n
+unfolding numbers flat
+size_put rows rows' k n lt en ef = as_flat rows' en ef ∙ put_size rows.nodes rows.firsts k n (omega (arith, rows.lengths))
+
+pub first_put : (rows rows' : FileRows) (e x : ℕ) → rows'.nodes ≡ rows.nodes → rows'.firsts ≡ set rows.firsts e x → numbers rows' ≡ set (numbers rows) (256 + e) x
+unfolding numbers flat
+first_put rows rows' e x en ef =
+    let at : length rows.nodes * 8 + e ≡ 256 + e = omega (arith, rows.lengths) in
+    as_flat rows' en ef ∙ put_behind rows.nodes rows.firsts e x ∙ ap (λ j. set (numbers rows) j x) at
+
+-- there are 272 of them
+flat_long : (rs : List Row) (ns : List ℕ) → length (flat rs ns) ≡ length rs * 8 + length ns
+unfolding flat
+flat_long [] ns = omega arith
+flat_long (r ∷ rs) ns = omega (arith, flat_long rs ns)
+
+pub numbers_long : (rows : FileRows) → length (numbers rows) ≡ 272
+unfolding numbers flat
+numbers_long rows = omega (arith, flat_long rows.nodes rows.firsts, rows.lengths)
+
+-- the numbers of a row, by its index
+pub row_entry : {ns : List ℕ} {k : ℕ} {r : Row} → RowIs ns k r → (j : ℕ) → j < 8 → get_or (row_numbers r) j 0 ≡ row_at ns k j
+row_entry is zero lt = is.kind
+row_entry is (suc zero) lt = is.equations
+row_entry is (suc (suc zero)) lt = is.inputs
+row_entry is (suc (suc (suc zero))) lt = is.outputs
+row_entry is (suc (suc (suc (suc zero)))) lt = is.variables
+row_entry is (suc (suc (suc (suc (suc zero))))) lt = is.count
+row_entry is (suc (suc (suc (suc (suc (suc zero)))))) lt = is.size
+row_entry is (suc (suc (suc (suc (suc (suc (suc zero))))))) lt = is.place
+row_entry is (suc (suc (suc (suc (suc (suc (suc (suc j)))))))) lt = absurd (omega arith)

@@ -1,0 +1,85 @@
+// The rows of a file, read and stored.
+ghost use Rattle.std.specs.Prelude.{◌≡◌, ◌+◌, ◌*◌, ◌<◌, set};
+ghost use Rattle.std.proofs.lemmas.List.Edits.{sets};
+ghost use Rattle.ol_tables.specs.Tables.{first_at};
+ghost use Rattle.ol_tables.specs.Numbers.{row_numbers, numbers, RowIs};
+
+use super::tables::{FileRows, Row};
+
+impl Row {
+    // Its numbers, in the order of the columns.
+    pub fn numbers(&self) -> [usize; 8]
+        ensures { result ≡ row_numbers self.now }
+    {
+        [
+            self.kind,
+            self.equations,
+            self.inputs,
+            self.outputs,
+            self.variables,
+            self.count,
+            self.size,
+            self.place,
+        ]
+    }
+}
+
+impl FileRows {
+    // Rows of zeros.
+    pub fn new() -> FileRows {
+        let row = Row {
+            kind: 0,
+            equations: 0,
+            inputs: 0,
+            outputs: 0,
+            variables: 0,
+            count: 0,
+            size: 0,
+            place: 0,
+        };
+        FileRows {
+            nodes: [row; 32],
+            firsts: [0; 16],
+        }
+    }
+
+    // Node k's row.
+    pub fn node(&self, k: usize) -> &Row
+        requires { k < 32 }
+        ensures { RowIs (numbers self.now) k result.now }
+    {
+        &self.nodes[k]
+    }
+
+    // The first variant of enum e.
+    pub fn first(&self, e: usize) -> usize
+        requires { e < 16 }
+        ensures { result ≡ first_at (numbers self.now) e }
+    {
+        self.firsts[e]
+    }
+
+    // Stores node k's row.
+    pub fn put_node(&mut self, k: usize, row: Row)
+        requires { k < 32 }
+        ensures { numbers self.new ≡ sets (numbers self.old) (k * 8) (row_numbers row) }
+    {
+        self.nodes[k] = row;
+    }
+
+    // Stores the bytes of the record at a call site of node k.
+    pub fn put_size(&mut self, k: usize, size: usize)
+        requires { k < 32 }
+        ensures { numbers self.new ≡ set (numbers self.old) (k * 8 + 6) size }
+    {
+        self.nodes[k].size = size;
+    }
+
+    // Stores the first variant of enum e.
+    pub fn put_first(&mut self, e: usize, x: usize)
+        requires { e < 16 }
+        ensures { numbers self.new ≡ set (numbers self.old) (256 + e) x }
+    {
+        self.firsts[e] = x;
+    }
+}
