@@ -67,7 +67,8 @@ impl Sorter<'_> {
     }
 
     // So many variables from `at` on; where they end is answered.
-    // `each_variable` is no plainer here: what it lends would be generic, and a generic type is never a slice.
+    // `each_variable` does not serve here: it lends a table of bytes to a closure that changes nothing else. One that changes what it captured would
+    // have to be shown callable again after each call, by each caller; and what is lent can't be generic, since a slice is never a type argument.
     fn variables(&mut self, file: &[u8], sort: usize, count: usize, at: usize) -> usize
         requires { (0 < sort) × (sort < 256) × (count < 256) × (at ≤ 40000) }
         ensures { VariablesSorted file.now sort count at self.old self.new result }

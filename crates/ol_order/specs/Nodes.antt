@@ -3,6 +3,7 @@ use Rattle.std.specs.Prelude.{ℕ, List, ◌≡◌, take, drop, get_or}
 use Rattle.ol_spec.specs.Syntax.{Node, File}
 use Rattle.ol_spec.specs.Limits.{base, relay_loader}
 use Rattle.ol_spec.specs.Read.{got, read_file}
+use Rattle.ol_tables.specs.Numbers.{numbers}
 use Rattle.ol_order.specs.Tables.{node_at}
 use Rattle.ol_order.specs.Orders.{Ring, NodesStand, Planned, OrdersDone}
 use Rattle.ol_order.specs.declared.table.Nodes.{Nodes}
@@ -18,7 +19,7 @@ nth_node n k = node_at n.file.now base n.enums (nth_place n k)
 -- the nodes stand in a file that reads, and its table has their plans
 pub record OrdersAsked (n : Nodes) (tab : List ℕ) : Type 0 where
   pub stand : NodesStand n.file.now n.enums n.places.now n.low
-  pub planned : Planned n.file.now n.rows.now tab
+  pub planned : Planned n.file.now (numbers n.rows.now) tab
 
 -- the first 2,560 bytes of the table have their orders, the others stay
 pub record OrdersTold (n : Nodes) (before after : List ℕ) (r : Ring) : Type 0 where

@@ -5,6 +5,7 @@ ghost use Rattle.std.proofs.lemmas.List.Edits.{sets};
 ghost use Rattle.ol_spec.specs.Syntax.{File};
 ghost use Rattle.ol_spec.specs.Limits.{relay_loader};
 ghost use Rattle.ol_spec.specs.Read.{got, read_file};
+ghost use Rattle.ol_tables.specs.Numbers.{numbers};
 ghost use Rattle.ol_order.specs.Tables.{waited_all};
 ghost use Rattle.ol_order.specs.Equations.{those, all_waited};
 ghost use Rattle.ol_order.specs.Nodes.{nth_place, nth_node, OrdersAsked, OrdersTold};
@@ -15,7 +16,7 @@ use crate::{no_definers, sort};
 use ol_ir::project::base;
 use ol_tables::bytes::name;
 use ol_tables::table::{ORDERS, SLOTS};
-use ol_tables::tables::{COUNT, MOST_EQUATIONS, VARIABLES, row};
+use ol_tables::tables::{FileRows, MOST_EQUATIONS};
 
 // Where the slots start, behind the orders and the nodes' places; the plans have the second half of
 // the bytes from there on.
@@ -73,7 +74,7 @@ struct Nodes<'f, 'p, 'r> {
     file: &'f [u8],
     enums: usize,
     places: &'p [usize],
-    rows: &'r [usize],
+    rows: &'r FileRows,
     low: bool,
 }
 
@@ -89,9 +90,10 @@ impl<'f, 'p, 'r> Nodes<'f, 'p, 'r> {
     {
         let at = self.places[k];
         let plans = SLOTS_FROM + (tab.len() - SLOTS_FROM) / 2;
-        let plan = plans + at + 2 * row(self.rows, k, VARIABLES);
+        let row = self.rows.node(k);
+        let plan = plans + at + 2 * row.variables;
         let mut space = [0usize; 80];
-        let starts = &mut space[..row(self.rows, k, COUNT)];
+        let starts = &mut space[..row.count];
         starts_of(tab, plan, starts);
         let equations = Equations {
             file: self.file,
@@ -130,12 +132,12 @@ pub fn orders_of(
     file: &[u8],
     enums: usize,
     places: &[usize],
-    rows: &[usize],
+    rows: &FileRows,
     low: bool,
     tab: &mut [u8],
 ) -> Option<usize>
     requires nodes_stand { NodesStand file.now enums places.now low }
-    requires planned { Planned file.now rows.now tab.old }
+    requires planned { Planned file.now (numbers rows.now) tab.old }
     ensures orders_done { (f : File) (end : ℕ) → read_file file.now relay_loader ≡ got f end → OrdersDone f (take 2560 tab.old) (take 2560 tab.new) result }
     ensures kept { drop 2560 tab.new ≡ drop 2560 tab.old }
 {

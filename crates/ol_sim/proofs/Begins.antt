@@ -47,9 +47,9 @@ empty_zeros f n h = record { zero = zero_at n; within = subst (λ m. NamesWithin
 
 -- ---- the rows
 
-pub rowed_done : {s rows rows' tab before after : List ℕ} {plans : ℕ} {c : Sections} → FileReady s rows tab → TablesDone (file_at s) rows' before after plans c → length rows' ≡ length rows → Rowed s rows' c
-rowed_done h d e =
-    record { reads = h.reads; stands = h.stands; long = e ∙ h.rows_long; sections = d.sections; row = d.are.row; firsts = d.are.firsts }
+pub rowed_done : {s rows tab before after : List ℕ} {plans : ℕ} {c : Sections} → FileReady s tab → TablesDone (file_at s) rows before after plans c → Rowed s rows c
+rowed_done h d =
+    record { reads = h.reads; stands = h.stands; sections = d.sections; row = d.are.row; firsts = d.are.firsts }
 
 pub declared_ready : {s rows : List ℕ} {c : Sections} → Rowed s rows c → DeclaredReady s rows c
 declared_ready r = record { reads = r.reads; row = r.row; sections = r.sections }
@@ -77,14 +77,14 @@ walk_room {tab = tab} h =
     (omega (arith, tail), omega (arith, h.tab_long), omega (arith, tail, h.tab_long))
 
 -- room for the nodes' places and the plans
-pub types_room : {s rows tab : List ℕ} → FileReady s rows tab → 64 + half_of tab + length s ≤ length (tail_of 3953 tab)
+pub types_room : {s tab : List ℕ} → FileReady s tab → 64 + half_of tab + length s ≤ length (tail_of 3953 tab)
 types_room {tab = tab} h = omega (arith, ap length (tail_all 3953 tab), length-drop 3953 tab, h.tab_long)
 
 -- the nodes' places
 pub places_are : {p : Project} → Loads p → PlacesAre (file_at p.file.now) p.places.now
 places_are h = record { at = λ k lt. ap (λ l. get_or l k 0) h.placed }
 
-module _ {s rows rows' tab : List ℕ} {c : Sections} (x : List ℕ) (h : FileReady s rows tab) (d : TablesDone (file_at s) rows' (tail_of 3953 tab) x (64 + half_of tab) c) (k : length x ≡ length (tail_of 3953 tab)) where
+module _ {s rows tab : List ℕ} {c : Sections} (x : List ℕ) (h : FileReady s tab) (d : TablesDone (file_at s) rows (tail_of 3953 tab) x (64 + half_of tab) c) (k : length x ≡ length (tail_of 3953 tab)) where
   -- the table with the nodes' places and the types
   abbrev pub tab₁ : List ℕ
   tab₁ = put_tail 3953 tab x
@@ -95,11 +95,11 @@ module _ {s rows rows' tab : List ℕ} {c : Sections} (x : List ℕ) (h : FileRe
   pub typed_long : length tab₁ ≡ length tab
   typed_long = length_put 3953 tab x room₁ k
 
-  pub sections_ready : length rows' ≡ length rows → SectionsReady s rows' tab₁ c
-  sections_ready e =
+  pub sections_ready : SectionsReady s rows tab₁ c
+  sections_ready =
       let half : half_of tab ≡ half_of tab₁ = ap (λ n. (n - 4017) / 2) (sym typed_long) in
       record {
-        rowed = rowed_done h d e;
+        rowed = rowed_done h d;
         typed = record { typed = subst (λ m. Typed (file_at s) (64 + m) (drop 3953 tab₁)) half (subst (λ l. Typed (file_at s) (64 + half_of tab) l) (sym (drop_put 3953 tab x room₁)) d.are.typed) };
         tab_long = omega (arith, typed_long, h.tab_long);
       }
@@ -124,7 +124,7 @@ module _ {s rows rows' tab : List ℕ} {c : Sections} (x : List ℕ) (h : FileRe
         below = subst (λ n. Each (λ d. d.name < n) (Adm.declared (file_at s))) (sym sorts_long) low;
       }
 
-  module _ (e : length rows' ≡ length rows) (y : List ℕ) (ky : length y ≡ length (take 1024 (drop 4017 tab₁))) where
+  module _ (y : List ℕ) (ky : length y ≡ length (take 1024 (drop 4017 tab₁))) where
     -- the table after fault 6 was looked for
     abbrev pub tab₂ : List ℕ
     tab₂ = take 4017 tab₁ ++ (y ++ drop 1024 (drop 4017 tab₁))
@@ -151,9 +151,9 @@ module _ {s rows rows' tab : List ℕ} {c : Sections} (x : List ℕ) (h : FileRe
         ap (λ n. get_or tab₂ n 0) a ∙ get_or-append-add (take 4017 tab₁) (y ++ drop 1024 (drop 4017 tab₁)) (length y + (i - 5041)) 0 ∙ get_or-append-add y (drop 1024 (drop 4017 tab₁)) (i - 5041) 0
         ∙ get_or-drop 1024 (drop 4017 tab₁) (i - 5041) 0 ∙ get_or-drop 4017 tab₁ (1024 + (i - 5041)) 0 ∙ ap (λ n. get_or tab₁ n 0) b
 
-    pub sorted_ready : SectionsReady s rows' tab₂ c
+    pub sorted_ready : SectionsReady s rows tab₂ c
     sorted_ready =
-        let r = sections_ready e in
+        let r = sections_ready in
         let long : length tab₁ ≡ length tab₂ = typed_long ∙ sym sorted_long in
         record {
           rowed = r.rowed;
@@ -166,11 +166,10 @@ module _ {s rows rows' tab : List ℕ} {c : Sections} (x : List ℕ) (h : FileRe
 faults_are : {s names names' slots slots' rows rows' : List ℕ} {found : Faults} → FileJudged s (file_at s) names names' slots slots' rows rows' found → FaultsAre (file_at s) found
 faults_are j = record { unseen = j.unseen; again = j.again; called = j.called; shaped = j.shaped }
 
-pub shapes_ready : {s rows rows' tab names names' : List ℕ} {c : Sections} {low : Bool} {found : Faults} (x : List ℕ) → NamesReady s rows tab names c low → length rows' ≡ length rows → length x ≡ length (tail_of 4017 tab) → Adm.fault6 (file_at s) ≡ none → FileJudged s (file_at s) names names' (take (half_of tab) (tail_of 4017 tab)) (take (half_of tab) x) rows rows' found → (Adm.fault9 (file_at s) ≡ none → (k : ℕ) → k < length (file_at s).nodes → PlanOf (file_at s) (drop (half_of tab) x) k) → TypesLeft (file_at s) (half_of tab) (tail_of 4017 tab) x → ShapesReady s rows' (put_tail 4017 tab x) c low found
-shapes_ready {s} {rows = rows} {rows'} {tab} {names} {names'} {found = found} x h same e no6 j p tl =
+pub shapes_ready : {s rows rows' tab names names' : List ℕ} {c : Sections} {low : Bool} {found : Faults} (x : List ℕ) → NamesReady s rows tab names c low → length rows' ≡ 272 → length x ≡ length (tail_of 4017 tab) → Adm.fault6 (file_at s) ≡ none → FileJudged s (file_at s) names names' (take (half_of tab) (tail_of 4017 tab)) (take (half_of tab) x) rows rows' found → (Adm.fault9 (file_at s) ≡ none → (k : ℕ) → k < length (file_at s).nodes → PlanOf (file_at s) (drop (half_of tab) x) k) → TypesLeft (file_at s) (half_of tab) (tail_of 4017 tab) x → ShapesReady s rows' (put_tail 4017 tab x) c low found
+shapes_ready {s} {rows = rows} {rows'} {tab} {names} {names'} {found = found} x h long e no6 j p tl =
     let d = h.sections in
     let r = d.rowed in
-    let long : length rows' ≡ 272 = same ∙ r.long in
     let u : 4017 ≤ length tab = omega (arith, d.tab_long) in
     let tab' = put_tail 4017 tab x in
     let half : half_of tab' ≡ half_of tab = ap (λ n. (n - 4017) / 2) (length_put 4017 tab x u e) in
@@ -189,7 +188,6 @@ shapes_ready {s} {rows = rows} {rows'} {tab} {names} {names'} {found = found} x 
         rowed = record {
           reads = r.reads;
           stands = r.stands;
-          long = long;
           sections = r.sections;
           row = j.sized.row;
           firsts = λ n g. j.sized.above (256 + n) (omega arith) ∙ r.firsts n g;
@@ -226,12 +224,11 @@ false_not_true e = let z : ◌≡◌ {A = ℕ} 0 1 = ap (λ b. mathlib.Core.Bool
 
 -- ---- any file that reads without fault, with blank arrays
 
-pub file_ready : {s : List ℕ} (n : ℕ) → 6065 ≤ n → FileReads s → Bytes s → 4017 + 2 * length s ≤ n → FileReady s (replicate 272 0) (replicate n 0)
+pub file_ready : {s : List ℕ} (n : ℕ) → 6065 ≤ n → FileReads s → Bytes s → 4017 + 2 * length s ≤ n → FileReady s (replicate n 0)
 file_ready n w l b h =
     record {
       reads = l;
       stands = file_stands b l;
-      rows_long = length-replicate {A = ℕ} 272 0;
       tab_long = omega (arith, length-replicate {A = ℕ} n 0, h);
       wide = omega (arith, length-replicate {A = ℕ} n 0, w);
       blank = λ x. get_or-drop 4017 (replicate n 0) x 0 ∙ zero_at n (4017 + x);

@@ -114,10 +114,9 @@ abbrev pub plans_of : List ℕ → List ℕ
 plans_of t = drop (half_of t) (drop 4017 t)
 
 -- buffers for its tables; the slots' part of the table t is 0, and has room for an entry of every name below 1,024
-pub record FileReady (s rows t : List ℕ) : Type 0 where
+pub record FileReady (s t : List ℕ) : Type 0 where
   pub reads : FileReads s
   pub stands : FileStands s (file_at s)
-  pub rows_long : length rows ≡ 272
   pub tab_long : 4017 + 2 * length s ≤ length t
   pub wide : 6065 ≤ length t
   pub blank : (x : ℕ) → get_or (drop 4017 t) x 0 ≡ 0
@@ -126,7 +125,6 @@ pub record FileReady (s rows t : List ℕ) : Type 0 where
 pub record Rowed (s rows : List ℕ) (c : Sections) : Type 0 where
   pub reads : FileReads s
   pub stands : FileStands s (file_at s)
-  pub long : length rows ≡ 272
   pub sections : SectionsAre (file_at s) c
   pub row : (k : ℕ) → k < length (file_at s).nodes → NodeRow (node_of (file_at s) k) (place_of (placed_nodes (file_at s)) k) k rows
   pub firsts : (e : ℕ) → e < length (file_at s).enums → first_at rows e ≡ get_or (get_or (file_at s).enums e []) 0 0

@@ -6,6 +6,7 @@ ghost use Rattle.ol_spec.specs.Admission.{fault6, fault13, state_size};
 ghost use Rattle.ol_tables.specs.At.{file_at};
 ghost use Rattle.ol_tables.specs.Stands.{FileReads};
 ghost use Rattle.ol_tables.specs.Tables.{Rows, size_cap};
+ghost use Rattle.ol_tables.specs.Numbers.{numbers};
 ghost use Rattle.ol_check.specs.Founds.{place_of};
 ghost use Rattle.ol_sim.specs.Judging.{refused_if, Loads, Judges, Measured, Admits, names_after, from6, from7, from11, from12, from13, MainReady, ConstantsReady, OrderReady, ShapesReady, NamesReady};
 
@@ -18,8 +19,8 @@ use ol_order::table::orders_of;
 use ol_run::constants::constant_values;
 use ol_spec::Fault;
 use ol_tables::bytes::byte;
-use ol_tables::table::{ORDERS, SLOTS, pack};
-use ol_tables::tables::{COLUMNS, FIRSTS, PLACE, row};
+use ol_tables::table::{ORDERS, SLOTS, pack_firsts, pack_nodes};
+use ol_tables::tables::FileRows;
 
 // What a file without fault gives: the length of its state, and its main node's number.
 #[derive(Clone, Copy)]
@@ -39,20 +40,20 @@ fn refuse_at(number: u8, place: Option<usize>) -> Result<(), Fault>
 }
 
 // 13: the state, of this length, is too long.
-fn too_long(file: &[u8], rows: &[usize], main: usize, size: usize) -> Option<usize>
-    requires { FileReads file.now × Rows (file_at file.now) rows.now × (suc main ≡ length (file_at file.now).nodes) × (size ≡ min (state_size (file_at file.now)) size_cap) }
+fn too_long(file: &[u8], rows: &FileRows, main: usize, size: usize) -> Option<usize>
+    requires { FileReads file.now × Rows (file_at file.now) (numbers rows.now) × (suc main ≡ length (file_at file.now).nodes) × (size ≡ min (state_size (file_at file.now)) size_cap) }
     ensures { (place_of result ≡ fault13 relay_loader (file_at file.now)) × (place_of result ≡ none → size ≤ 32768) }
 {
     if 32768 < size {
-        Some(row(rows, main, PLACE))
+        Some(rows.node(main).place)
     } else {
         None
     }
 }
 
 // 13 and 14.
-fn judge_main(file: &[u8], rows: &[usize], size: usize, main: usize) -> Result<Admitted, Fault>
-    requires { MainReady file.now rows.now size main }
+fn judge_main(file: &[u8], rows: &FileRows, size: usize, main: usize) -> Result<Admitted, Fault>
+    requires { MainReady file.now (numbers rows.now) size main }
     ensures { Judges file.now (from13 (file_at file.now)) (Measured file.now) result }
 {
     refuse_at(13, too_long(file, rows, main, size))?;
@@ -63,12 +64,12 @@ fn judge_main(file: &[u8], rows: &[usize], size: usize, main: usize) -> Result<A
 // 12 to 14: the rows and the constants' cells are written into the table.
 fn judge_constants(
     file: &[u8],
-    rows: &[usize],
+    rows: &FileRows,
     tab: &mut [u8],
     sections: Sections,
     size: usize,
 ) -> Result<Admitted, Fault>
-    requires { ConstantsReady file.now rows.now tab.old sections size }
+    requires { ConstantsReady file.now (numbers rows.now) tab.old sections size }
     ensures { Judges file.now (from12 (file_at file.now)) (Admits file.now tab.new) result }
 {
     let c = sections.constants;
@@ -76,8 +77,8 @@ fn judge_constants(
     let count = byte(file, c);
     let nodes = byte(file, n);
     let enums = byte(file, 1);
-    pack(rows, 0, nodes * COLUMNS, tab);
-    pack(rows, FIRSTS, FIRSTS + enums, tab);
+    pack_nodes(rows, nodes, tab);
+    pack_firsts(rows, enums, tab);
     let stuck = constant_values(file, tab, nodes, c + 1, count);
     refuse_at(12, stuck.err())?;
     judge_main(file, rows, size, nodes - 1)
@@ -86,14 +87,14 @@ fn judge_constants(
 // 11 to 14: the orders are written. The main instance has so many bytes.
 fn judge_order(
     project: &Project,
-    rows: &[usize],
+    rows: &FileRows,
     tab: &mut [u8],
     sections: Sections,
     main: usize,
     low: bool,
 ) -> Result<Admitted, Fault>
     requires loads { Loads project.now }
-    requires order_ready { OrderReady project.now.file.now rows.now tab.old sections main low }
+    requires order_ready { OrderReady project.now.file.now (numbers rows.now) tab.old sections main low }
     ensures { Judges project.now.file.now (from11 (file_at project.now.file.now)) (Admits project.now.file.now tab.new) result }
 {
     let file = project.file;
@@ -113,14 +114,14 @@ fn judge_order(
 // 7 to 14, of which 7 to 10 were looked for.
 fn judge_shapes(
     project: &Project,
-    rows: &[usize],
+    rows: &FileRows,
     tab: &mut [u8],
     sections: Sections,
     low: bool,
     found: Faults,
 ) -> Result<Admitted, Fault>
     requires loads { Loads project.now }
-    requires shapes_ready { ShapesReady project.now.file.now rows.now tab.old sections low found }
+    requires shapes_ready { ShapesReady project.now.file.now (numbers rows.now) tab.old sections low found }
     ensures { Judges project.now.file.now (from7 (file_at project.now.file.now)) (Admits project.now.file.now tab.new) result }
 {
     refuse_at(7, found.unseen)?;
@@ -133,7 +134,7 @@ fn judge_shapes(
 // 6 to 14, of which 6 was looked for, with an empty table by name.
 pub(crate) fn judge_names(
     project: &Project,
-    rows: &mut [usize],
+    rows: &mut FileRows,
     tab: &mut [u8],
     names: &mut [u8],
     sections: Sections,
@@ -141,7 +142,7 @@ pub(crate) fn judge_names(
     clash: Option<usize>,
 ) -> Result<Admitted, Fault>
     requires loads { Loads project.now }
-    requires names_ready { NamesReady project.now.file.now rows.old tab.old names.old sections low }
+    requires names_ready { NamesReady project.now.file.now (numbers rows.old) tab.old names.old sections low }
     requires clash_value { place_of clash ≡ fault6 (file_at project.now.file.now) }
     ensures judged { Judges project.now.file.now (from6 (file_at project.now.file.now)) (Admits project.now.file.now tab.new) result }
     ensures named { names.new ≡ names_after (fault6 (file_at project.now.file.now)) (file_at project.now.file.now) names.old }

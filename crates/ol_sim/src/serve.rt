@@ -2,6 +2,7 @@
 ghost use Rattle.std.specs.Prelude.{◌≡◌, true, ◌+◌, ◌*◌, ◌≤◌, length};
 ghost use Rattle.ol_spec.specs.Admission.{fault6};
 ghost use Rattle.ol_tables.specs.At.{file_at};
+ghost use Rattle.ol_tables.specs.Numbers.{numbers};
 ghost use Rattle.ol_check.specs.Founds.{place_of};
 ghost use Rattle.ol_sim.specs.Judging.{Below, Loads, Low, SectionsReady, FileReady};
 ghost use Rattle.ol_sim.specs.Serving.{Callable, Serves};
@@ -13,14 +14,14 @@ use ol_check::rows::{Sections, rows_of};
 use ol_ir::project::load_file;
 use ol_spec::Fault;
 use ol_tables::table::{LARGE_TAB, NODES, SLOTS, SMALL_TAB};
-use ol_tables::tables::ROWS;
+use ol_tables::tables::FileRows;
 
 // Judges with an empty table by name, which is longer than every declared name, and calls.
 // `rows` and `tab` stay two parameters: of a struct of two `&mut` every clause would have to keep both ghost names.
 // `Callable` is asked at each step down to the call: a closure has no ghost field that could hold it.
 fn serve_named<const N: usize, R, F: FnMut(&Program) -> R>(
     project: &Project,
-    rows: &mut [usize],
+    rows: &mut FileRows,
     tab: &mut [u8],
     sections: Sections,
     low: bool,
@@ -29,7 +30,7 @@ fn serve_named<const N: usize, R, F: FnMut(&Program) -> R>(
 ) -> Result<R, Fault>
     requires callable { Callable (F.pre call.old) }
     requires loads { Loads project.now }
-    requires sections_ready { SectionsReady project.now.file.now rows.old tab.old sections }
+    requires sections_ready { SectionsReady project.now.file.now (numbers rows.old) tab.old sections }
     requires below { Below N (file_at project.now.file.now) }
     requires lows { Low (file_at project.now.file.now) low }
     requires clash_value { place_of clash ≡ fault6 (file_at project.now.file.now) }
@@ -52,14 +53,14 @@ fn serve_named<const N: usize, R, F: FnMut(&Program) -> R>(
 #[inline(never)]
 fn serve_sorted<const N: usize, R, F: FnMut(&Program) -> R>(
     project: &Project,
-    rows: &mut [usize],
+    rows: &mut FileRows,
     tab: &mut [u8],
     sections: Sections,
     call: &mut F,
 ) -> Result<R, Fault>
     requires callable { Callable (F.pre call.old) }
     requires loads { Loads project.now }
-    requires sections_ready { SectionsReady project.now.file.now rows.old tab.old sections }
+    requires sections_ready { SectionsReady project.now.file.now (numbers rows.old) tab.old sections }
     requires below { Below N (file_at project.now.file.now) }
     requires fits { N ≤ 65536 }
     ensures { Serves (F.step call.old) call.old project.now.file.now result call.new }
@@ -72,13 +73,13 @@ fn serve_sorted<const N: usize, R, F: FnMut(&Program) -> R>(
 // With tables to write. Until the slots are written, their part of `tab` is blank: fault 6 uses 1,024 bytes of it.
 fn serve_with<R, F: FnMut(&Program) -> R>(
     project: &Project,
-    rows: &mut [usize],
+    rows: &mut FileRows,
     tab: &mut [u8],
     call: &mut F,
 ) -> Result<R, Fault>
     requires callable { Callable (F.pre call.old) }
     requires loads { Loads project.now }
-    requires ready { FileReady project.now.file.now rows.old tab.old }
+    requires ready { FileReady project.now.file.now tab.old }
     ensures { Serves (F.step call.old) call.old project.now.file.now result call.new }
 {
     let file = project.file;
@@ -107,7 +108,7 @@ fn serve_sized<const N: usize, R, F: FnMut(&Program) -> R>(
     requires fits { N ≤ 69553 }
     ensures { Serves (F.step call.old) call.old project.now.file.now result call.new }
 {
-    let mut rows = [0usize; ROWS];
+    let mut rows = FileRows::new();
     let mut tab = [0u8; N];
     serve_with(project, &mut rows, &mut tab, call)
 }

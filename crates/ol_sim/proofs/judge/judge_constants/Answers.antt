@@ -2,6 +2,7 @@ use Rattle.std.proofs.Common.{◌+◌, ◌*◌, ap, subst, ◌∙◌, arith}
 use Rattle.std.proofs.Math.ListN.{length-drop}
 use Rattle.ol_check.specs.Founds.{place_of}
 use Rattle.ol_tables.specs.At.{file_at}
+use Rattle.ol_tables.specs.Numbers.{numbers}
 use Rattle.ol_tables.specs.Table.{Packs, consts_of}
 use Rattle.ol_run.proofs.AdmittedConstants.{constants_ready}
 use Rattle.ol_sim.proofs.Chain.{no_place, passed_by_lem, judges_more}
@@ -9,37 +10,23 @@ use Rattle.ol_sim.proofs.Packing.{rows_small, firsts_small, admitted_packed, adm
 use Rattle.ol_sim.proofs.Steps.{count_constants, count_nodes, stuck_12, all_held}
 use Rattle.ol_sim.proofs.judge.judge_constants.Goals as goal
 
-pub overflow_mul-nodes : goal.overflow_mul-nodes
-overflow_mul-nodes c =
-    let st = c.requires.tables.stands in
-    omega (arith, count_nodes st c.requires.sections c.byte-nodes.ensures.is, st.few_nodes)
-
-pub pack-requires : goal.pack-requires
-pack-requires c =
+pub pack_nodes-requires : goal.pack_nodes-requires
+pack_nodes-requires c =
     let t = c.requires.tables in
     let nodes = count_nodes t.stands c.requires.sections c.byte-nodes.ensures.is in
     let few = t.stands.few_nodes in (
-      omega arith,
       omega (arith, nodes, few),
-      omega (arith, nodes, few, t.rowed.long),
       omega (arith, t.tabled.long, length-drop 1393 c.args.tab.now),
       λ i lo hi. rows_small t.stands t.rowed i lo (omega (arith, hi, nodes)),
     )
 
-pub overflow_add-enums : goal.overflow_add-enums
-overflow_add-enums c =
-    let st = c.requires.tables.stands in
-    omega (arith, c.byte-enums.ensures.is ∙ st.enum_count, st.few_enums)
-
-pub pack-requires-2 : goal.pack-requires-2
-pack-requires-2 c =
+pub pack_firsts-requires : goal.pack_firsts-requires
+pack_firsts-requires c =
     let t = c.requires.tables in
     let enums = c.byte-enums.ensures.is ∙ t.stands.enum_count in
     let few = t.stands.few_enums in (
-      omega arith,
       omega (arith, enums, few),
-      omega (arith, enums, few, t.rowed.long),
-      omega (arith, c.pack.auto.tab, t.tabled.long, length-drop 1393 c.args.tab.now),
+      omega (arith, c.pack_nodes.auto.tab, t.tabled.long, length-drop 1393 c.args.tab.now),
       λ i lo hi. firsts_small t.stands t.rowed i lo (omega (arith, hi, enums)),
     )
 
@@ -53,8 +40,8 @@ constant_values-stuck-requires c =
     let t = c.requires.tables in
     let nodes = count_nodes t.stands c.requires.sections c.byte-nodes.ensures.is in
     let enums = c.byte-enums.ensures.is ∙ t.stands.enum_count in
-    let packed = admitted_packed t (subst (λ n. Packs c.args.rows.now 0 (n * 8) c.args.tab.now c.pack.new.tab) nodes c.pack.ensures) (subst (λ n. Packs c.args.rows.now 256 (256 + n) c.pack.new.tab c.pack-2.new.tab) enums c.pack-2.ensures) in
-    constants_ready c.pack-2.new.tab packed c.byte-nodes.result _ c.byte-count.result nodes c.requires.sections.constants (count_constants t.stands c.requires.sections c.byte-count.ensures.is)
+    let packed = admitted_packed t (subst (λ n. Packs (numbers c.args.rows.now) 0 (n * 8) c.args.tab.now c.pack_nodes.new.tab) nodes c.pack_nodes.ensures) (subst (λ n. Packs (numbers c.args.rows.now) 256 (256 + n) c.pack_nodes.new.tab c.pack_firsts.new.tab) enums c.pack_firsts.ensures) in
+    constants_ready c.pack_firsts.new.tab packed c.byte-nodes.result _ c.byte-count.result nodes c.requires.sections.constants (count_constants t.stands c.requires.sections c.byte-count.ensures.is)
 
 pub overflow_sub-nodes : goal.overflow_sub-nodes
 overflow_sub-nodes c =
@@ -78,7 +65,7 @@ returns c =
     let t = c.requires.tables in
     let nodes = count_nodes t.stands c.requires.sections c.byte-nodes.ensures.is in
     let enums = c.byte-enums.ensures.is ∙ t.stands.enum_count in
-    let packed = admitted_packed t (subst (λ n. Packs c.args.rows.now 0 (n * 8) c.args.tab.now c.pack.new.tab) nodes c.pack.ensures) (subst (λ n. Packs c.args.rows.now 256 (256 + n) c.pack.new.tab c.pack-2.new.tab) enums c.pack-2.ensures) in
+    let packed = admitted_packed t (subst (λ n. Packs (numbers c.args.rows.now) 0 (n * 8) c.args.tab.now c.pack_nodes.new.tab) nodes c.pack_nodes.ensures) (subst (λ n. Packs (numbers c.args.rows.now) 256 (256 + n) c.pack_nodes.new.tab c.pack_firsts.new.tab) enums c.pack_firsts.ensures) in
     let s = c.constant_values-stuck in
     let no12 = no_place 12 c.err.result c.in_ok-refuse_at.ensures (ap place_of c.err.ensures.value ∙ stuck_12 f c.byte-count.result (consts_of s.new.tab) s.result s.ensures.0) in
     let held = all_held f c.byte-count.result (consts_of s.new.tab) s.result s.ensures.0 no12 (count_constants t.stands c.requires.sections c.byte-count.ensures.is) in

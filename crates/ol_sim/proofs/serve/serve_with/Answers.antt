@@ -7,7 +7,7 @@ use Rattle.ol_sim.proofs.serve.serve_with.Goals as goal
 
 pub rows_of-sections-requires : goal.rows_of-sections-requires
 rows_of-sections-requires g c =
-    (c.requires.ready.reads, places_are c.requires.loads, c.requires.ready.rows_long, omega arith, types_room c.requires.ready)
+    (c.requires.ready.reads, places_are c.requires.loads, omega arith, types_room c.requires.ready)
 
 pub slice_bounds-sort_file-start : goal.slice_bounds-sort_file-start
 slice_bounds-sort_file-start g c =
@@ -22,12 +22,12 @@ slice_bounds-sort_file-end g c =
 pub sort_file-s-requires : goal.sort_file-s-requires
 sort_file-s-requires g c =
     let r = c.rows_of-sections in
-    declared_ready (rowed_done c.requires.ready r.ensures r.auto.rows)
+    declared_ready (rowed_done c.requires.ready r.ensures)
 
 pub serve_named-requires-clause-sections_ready : goal.serve_named-requires-clause-sections_ready
 serve_named-requires-clause-sections_ready g c =
     let r = c.rows_of-sections in
-    sorted_ready r.new.tab c.requires.ready r.ensures r.auto.tab r.auto.rows c.sort_file-s.new.sorts c.sort_file-s.auto.sorts
+    sorted_ready r.new.tab c.requires.ready r.ensures r.auto.tab c.sort_file-s.new.sorts c.sort_file-s.auto.sorts
 
 pub serve_named-requires-clause-below : goal.serve_named-requires-clause-below
 serve_named-requires-clause-below g c =
@@ -48,7 +48,7 @@ serve_named-requires-clause-clash_value g c =
 pub serve_sorted-requires-clause-sections_ready : goal.serve_sorted-requires-clause-sections_ready
 serve_sorted-requires-clause-sections_ready g c =
     let r = c.rows_of-sections in
-    sorted_ready r.new.tab c.requires.ready r.ensures r.auto.tab r.auto.rows c.sort_file-s.new.sorts c.sort_file-s.auto.sorts
+    sorted_ready r.new.tab c.requires.ready r.ensures r.auto.tab c.sort_file-s.new.sorts c.sort_file-s.auto.sorts
 
 pub serve_sorted-requires-clause-below : goal.serve_sorted-requires-clause-below
 serve_sorted-requires-clause-below g c =
@@ -58,7 +58,7 @@ serve_sorted-requires-clause-below g c =
 pub serve_sorted-requires-else-s-lt8192-clause-sections_ready : goal.serve_sorted-requires-else-s-lt8192-clause-sections_ready
 serve_sorted-requires-else-s-lt8192-clause-sections_ready g c =
     let r = c.rows_of-sections in
-    sorted_ready r.new.tab c.requires.ready r.ensures r.auto.tab r.auto.rows c.sort_file-s.new.sorts c.sort_file-s.auto.sorts
+    sorted_ready r.new.tab c.requires.ready r.ensures r.auto.tab c.sort_file-s.new.sorts c.sort_file-s.auto.sorts
 
 pub serve_sorted-requires-else-s-lt8192-clause-below : goal.serve_sorted-requires-else-s-lt8192-clause-below
 serve_sorted-requires-else-s-lt8192-clause-below g c = high_declared (file_at c.args.project.now.file.now) c.requires.ready.stands

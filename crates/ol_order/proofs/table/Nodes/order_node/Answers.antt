@@ -8,23 +8,28 @@ use Rattle.ol_order.proofs.Nodes.{front_readable}
 use Rattle.ol_order.proofs.Rows.{few_places, node_reads, node_lows, place_short, plan_few, plan_starts, front_room, front_lists, front_lows, part_80, node_done, done_at_base, lists_at_base}
 use Rattle.ol_order.proofs.table.Nodes.order_node.Goals as goal
 
+pub node-row-requires : goal.node-row-requires
+node-row-requires c =
+    let few : length c.args.self.places.now ≤ 32 = few_places c.requires.asked.stand in
+    omega (arith, few)
+
 pub overflow_add-plan : goal.overflow_add-plan
 overflow_add-plan c = omega (arith, place_short c.requires.asked.stand c.args.k c.requires.k_in_bounds c.requires.asked.planned)
 
 pub overflow_mul-plan : goal.overflow_mul-plan
-overflow_mul-plan c = omega (arith, place_short c.requires.asked.stand c.args.k c.requires.k_in_bounds c.requires.asked.planned, c.row.ensures)
+overflow_mul-plan c = omega (arith, place_short c.requires.asked.stand c.args.k c.requires.k_in_bounds c.requires.asked.planned, c.node-row.ensures.variables)
 
 pub overflow_add-plan-2 : goal.overflow_add-plan-2
-overflow_add-plan-2 c = omega (arith, place_short c.requires.asked.stand c.args.k c.requires.k_in_bounds c.requires.asked.planned, c.row.ensures)
+overflow_add-plan-2 c = omega (arith, place_short c.requires.asked.stand c.args.k c.requires.k_in_bounds c.requires.asked.planned, c.node-row.ensures.variables)
 
 pub slice_bounds-space-end : goal.slice_bounds-space-end
-slice_bounds-space-end c = plan_few c.requires.asked.stand c.args.k c.requires.k_in_bounds c.requires.asked.planned c.row-2.ensures
+slice_bounds-space-end c = plan_few c.requires.asked.stand c.args.k c.requires.k_in_bounds c.requires.asked.planned c.node-row.ensures.count
 
 pub slice_bounds-starts-end : goal.slice_bounds-starts-end
-slice_bounds-starts-end c = sym (length-take-le _ _ (plan_few c.requires.asked.stand c.args.k c.requires.k_in_bounds c.requires.asked.planned c.row-2.ensures))
+slice_bounds-starts-end c = sym (length-take-le _ _ (plan_few c.requires.asked.stand c.args.k c.requires.k_in_bounds c.requires.asked.planned c.node-row.ensures.count))
 
 pub starts_of-requires : goal.starts_of-requires
-starts_of-requires c = record { plan_bound = omega (arith, place_short c.requires.asked.stand c.args.k c.requires.k_in_bounds c.requires.asked.planned, c.row.ensures) }
+starts_of-requires c = record { plan_bound = omega (arith, place_short c.requires.asked.stand c.args.k c.requires.k_in_bounds c.requires.asked.planned, c.node-row.ensures.variables) }
 
 pub overflow_mul-from : goal.overflow_mul-from
 overflow_mul-from c =
@@ -47,7 +52,7 @@ invariant_of-equations c =
     let pl = c.requires.asked.planned in
     let h = c.requires.k_in_bounds in
     let nr = node_reads ns c.args.k h c.base.result c.base.ensures in
-    let told = c.starts_of.ensures ∙ (ap (starts_in c.args.tab.now _) (length-take-le _ _ (plan_few ns c.args.k h pl c.row-2.ensures)) ∙ plan_starts ns c.args.k h pl c.base.ensures c.row.ensures c.row-2.ensures) in
+    let told = c.starts_of.ensures ∙ (ap (starts_in c.args.tab.now _) (length-take-le _ _ (plan_few ns c.args.k h pl c.node-row.ensures.count)) ∙ plan_starts ns c.args.k h pl c.base.ensures c.node-row.ensures.variables c.node-row.ensures.count) in
     record { readable = front_readable c.args.self.file.now c.base.result c.args.self.enums _ nr told }
 
 pub order_starts-requires-clause-low_names : goal.order_starts-requires-clause-low_names
@@ -56,7 +61,7 @@ order_starts-requires-clause-low_names c =
     let pl = c.requires.asked.planned in
     let h = c.requires.k_in_bounds in
     let nr = node_reads ns c.args.k h c.base.result c.base.ensures in
-    let told = c.starts_of.ensures ∙ (ap (starts_in c.args.tab.now _) (length-take-le _ _ (plan_few ns c.args.k h pl c.row-2.ensures)) ∙ plan_starts ns c.args.k h pl c.base.ensures c.row.ensures c.row-2.ensures) in
+    let told = c.starts_of.ensures ∙ (ap (starts_in c.args.tab.now _) (length-take-le _ _ (plan_few ns c.args.k h pl c.node-row.ensures.count)) ∙ plan_starts ns c.args.k h pl c.base.ensures c.node-row.ensures.variables c.node-row.ensures.count) in
     front_lows c.args.self.file.now c.base.result c.args.self.enums _ nr told (node_lows ns c.args.k h c.base.result c.base.ensures)
 
 pub order_starts-requires-clause-room : goal.order_starts-requires-clause-room
@@ -65,7 +70,7 @@ order_starts-requires-clause-room c =
     let pl = c.requires.asked.planned in
     let h = c.requires.k_in_bounds in
     let nr = node_reads ns c.args.k h c.base.result c.base.ensures in
-    let told = c.starts_of.ensures ∙ (ap (starts_in c.args.tab.now _) (length-take-le _ _ (plan_few ns c.args.k h pl c.row-2.ensures)) ∙ plan_starts ns c.args.k h pl c.base.ensures c.row.ensures c.row-2.ensures) in
+    let told = c.starts_of.ensures ∙ (ap (starts_in c.args.tab.now _) (length-take-le _ _ (plan_few ns c.args.k h pl c.node-row.ensures.count)) ∙ plan_starts ns c.args.k h pl c.base.ensures c.node-row.ensures.variables c.node-row.ensures.count) in
     omega (arith, c.requires.room, front_room c.args.self.file.now c.base.result c.args.self.enums _ nr told)
 
 pub returns-clause-order : goal.returns-clause-order
@@ -74,7 +79,7 @@ returns-clause-order c =
     let pl = c.requires.asked.planned in
     let h = c.requires.k_in_bounds in
     let nr = node_reads ns c.args.k h c.base.result c.base.ensures in
-    let told = c.starts_of.ensures ∙ (ap (starts_in c.args.tab.now _) (length-take-le _ _ (plan_few ns c.args.k h pl c.row-2.ensures)) ∙ plan_starts ns c.args.k h pl c.base.ensures c.row.ensures c.row-2.ensures) in
+    let told = c.starts_of.ensures ∙ (ap (starts_in c.args.tab.now _) (length-take-le _ _ (plan_few ns c.args.k h pl c.node-row.ensures.count)) ∙ plan_starts ns c.args.k h pl c.base.ensures c.node-row.ensures.variables c.node-row.ensures.count) in
     let few : length c.args.self.places.now ≤ 32 = few_places ns in
     let inside : c.args.k * 80 + 80 ≤ length c.args.tab.now = omega (arith, few, pl.long) in
     done_at_base ns c.args.k h c.base.ensures
@@ -86,5 +91,5 @@ returns-clause-lists c =
     let pl = c.requires.asked.planned in
     let h = c.requires.k_in_bounds in
     let nr = node_reads ns c.args.k h c.base.result c.base.ensures in
-    let told = c.starts_of.ensures ∙ (ap (starts_in c.args.tab.now _) (length-take-le _ _ (plan_few ns c.args.k h pl c.row-2.ensures)) ∙ plan_starts ns c.args.k h pl c.base.ensures c.row.ensures c.row-2.ensures) in
+    let told = c.starts_of.ensures ∙ (ap (starts_in c.args.tab.now _) (length-take-le _ _ (plan_few ns c.args.k h pl c.node-row.ensures.count)) ∙ plan_starts ns c.args.k h pl c.base.ensures c.node-row.ensures.variables c.node-row.ensures.count) in
     lists_at_base ns c.args.k h c.base.ensures c.args.lists.now (front_lists c.args.self.file.now c.base.result c.args.self.enums _ nr told c.args.lists.now c.order_starts.ensures.lists)
