@@ -71,7 +71,7 @@ pub fn types_of(tab: &[u8], k: usize) -> usize
     SLOTS + tab.len().saturating_sub(SLOTS) / 2 + at
 }
 
-// Stores number i.
+// Stores number i. That the table has room for the rows stays a fact, here and in the two functions below: the tables of small and large files differ in length.
 fn put_number(tab: &mut [u8], i: usize, n: usize)
     requires { (i < 272) × (816 ≤ length tab.old) × (n < 16777216) }
     ensures { tab.new ≡ number_put tab.old i n }
