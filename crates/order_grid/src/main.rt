@@ -15,17 +15,13 @@ ghost use Rattle.order_grid.specs.Questions.{row_of, order_row, order_agrees, re
 use ol_ir::project::read_file;
 use ol_order::evaluation_order;
 use ol_spec::Fault;
-use rows::streams::Streams;
+use rows::streams::{CUT, LEFT, Streams};
 
 // What each entry of a lent buffer holds before a call.
 const MARK: u8 = 170;
 
-// What is said where the list ends too early, and where bytes are left behind its last answer.
-const CUT: &[u8] = b"the list is cut off\n";
-
-const LEFT: &[u8] = b"bytes are left behind the list\n";
-
 // What a section of the list asks of each of its files.
+// A function in its place would take two clauses on what it counts, at each of the four functions that hand it on.
 #[derive(Clone, Copy)]
 enum Section {
     Reading,
@@ -36,7 +32,7 @@ enum Section {
 fn next_length(streams: Streams, buf: &[u8]) -> usize
     ensures { IsPrefixLen result buf.now }
 {
-    io::count(streams.next_number(CUT) as isize, buf)
+    streams.next_number(CUT).min(buf.len())
 }
 
 // The next answer of the list: a fault, or number 0 at place 0. A row has it as the list does, and rows are
@@ -71,8 +67,8 @@ fn next_row(streams: Streams, row: &mut [u64])
     let f = next_answer(streams);
     row[0] = u64::from(f.number);
     row[1] = f.place as u64;
-    for i in 2..row.len() {
-        row[i] = u64::from(next_entry(streams, f.number == 0));
+    for entry in &mut row[2..] {
+        *entry = u64::from(next_entry(streams, f.number == 0));
     }
 }
 
@@ -149,12 +145,8 @@ fn order_agrees(file: &[u8], node: usize, wanted: &[u64]) -> bool
 fn refusal_agrees(file: &[u8], theirs: Fault) -> bool
     ensures { result ≡ refusal_agrees file.now theirs }
 {
-    if theirs.number == 0 {
-        true
-    } else {
-        let wanted = [u64::from(theirs.number), theirs.place as u64, 170, 170, 170];
-        order_agrees(file, 0, &wanted)
-    }
+    let wanted = [u64::from(theirs.number), theirs.place as u64, 170, 170, 170];
+    theirs.number == 0 || order_agrees(file, 0, &wanted)
 }
 
 // Whether a file's reading gives this answer, and the ordering too where it is a fault.
@@ -164,11 +156,7 @@ fn read_agrees(file: &[u8], theirs: Fault) -> bool
     let mine = answer(read_file(file));
     let found = [u64::from(mine.number), mine.place as u64];
     let wanted = [u64::from(theirs.number), theirs.place as u64];
-    if rows::agrees(&found, &wanted) {
-        refusal_agrees(file, theirs)
-    } else {
-        false
-    }
+    rows::agrees(&found, &wanted) && refusal_agrees(file, theirs)
 }
 
 // Whether the next question on a file's orders is answered as the list says.
@@ -209,7 +197,7 @@ fn count_orders(streams: Streams, file: &[u8]) -> Tally
 {
     let count = streams.next_number(CUT);
     let mut good = 0;
-    for _t in 0..count {
+    for _ in 0..count {
         good += u64::from(next_agrees(streams, file));
     }
     Tally {
@@ -248,7 +236,7 @@ fn count_files(streams: Streams, section: Section, files: usize) -> Tally
 {
     let mut good: u64 = 0;
     let mut all: u64 = 0;
-    for _t in 0..files {
+    for _ in 0..files {
         let one = count_file(streams, section);
         good += one.good;
         all += one.all;
@@ -257,15 +245,11 @@ fn count_files(streams: Streams, section: Section, files: usize) -> Tally
 }
 
 // Compares a section, and writes a line on it.
-fn report(streams: Streams, label: &[u8], section: Section) -> Tally
+fn report(streams: Streams, label: &str, section: Section) -> Tally
     ensures { Tallied result.good result.all }
 {
     let sum = count_files(streams, section, streams.next_number(CUT));
-    streams.write_all(label);
-    streams.write_decimal(sum.good);
-    streams.write_all(b" of ");
-    streams.write_decimal(sum.all);
-    streams.write_all(b"\n");
+    streams.write_sum(label, sum.good, sum.all);
     sum
 }
 
@@ -275,21 +259,21 @@ fn main(rt: HostRuntime) {
         input: rt.stdin(),
         output: rt.stdout(),
     };
-    report(streams, b"files that read: ", Section::Reading);
-    report(streams, b"fault 1: ", Section::Reading);
-    report(streams, b"fault 2: ", Section::Reading);
-    report(streams, b"fault 3: ", Section::Reading);
-    report(streams, b"fault 4: ", Section::Reading);
-    report(streams, b"fault 5: ", Section::Reading);
-    report(streams, b"chains: ", Section::Orders);
-    report(streams, b"rings: ", Section::Orders);
-    report(streams, b"self-reads: ", Section::Orders);
-    report(streams, b"double definitions: ", Section::Orders);
-    report(streams, b"undeclared names: ", Section::Orders);
-    report(streams, b"forms: ", Section::Orders);
-    report(streams, b"80 equations: ", Section::Orders);
-    report(streams, b"random nodes: ", Section::Orders);
-    report(streams, b"wrong buffers: ", Section::Orders);
-    report(streams, b"absent nodes: ", Section::Orders);
+    report(streams, "files that read", Section::Reading);
+    report(streams, "fault 1", Section::Reading);
+    report(streams, "fault 2", Section::Reading);
+    report(streams, "fault 3", Section::Reading);
+    report(streams, "fault 4", Section::Reading);
+    report(streams, "fault 5", Section::Reading);
+    report(streams, "chains", Section::Orders);
+    report(streams, "rings", Section::Orders);
+    report(streams, "self-reads", Section::Orders);
+    report(streams, "double definitions", Section::Orders);
+    report(streams, "undeclared names", Section::Orders);
+    report(streams, "forms", Section::Orders);
+    report(streams, "80 equations", Section::Orders);
+    report(streams, "random nodes", Section::Orders);
+    report(streams, "wrong buffers", Section::Orders);
+    report(streams, "absent nodes", Section::Orders);
     streams.tell_left(LEFT);
 }

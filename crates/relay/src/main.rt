@@ -18,6 +18,7 @@ use std::io::{Stdin, Stdout, Write};
 // A piece of the input as it is read: its bytes from `at` up to `end` are not taken yet. The line's first
 // `length` bytes are there. It is whole once its end was met; the input is at its end once a read gives nothing.
 // The first is of the line and the second of the input, which goes on behind a line, so one enum for both is no plainer.
+// Both buffers have fixed lengths, so that no answer depends on the memory that there is.
 #[derive(Clone, Copy)]
 struct Input {
     at: usize,

@@ -40,7 +40,7 @@ pub enum Reason {
 }
 
 impl Reason {
-    // The reason, as the answer tells it.
+    // The reason, as the answer tells it. Display would write it through a Formatter, whose Result may be an error, and could not say that it is short.
     pub(crate) fn text(self) -> &'static [u8]
         ensures text { result.now ≡ reason_text self }
         ensures short { length result.now ≤ 32 }

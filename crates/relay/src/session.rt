@@ -24,7 +24,8 @@ pub struct Kept {
 }
 
 // What a session keeps, the open file and its state among it, and the buffers that it works in: the bytes that a line gives,
-// a cycle's inputs, new state and values, and the answer.
+// a cycle's inputs, new state and values, and the answer. Their lengths are fixed, so that no answer depends on the memory that
+// there is: each has room for what the longest line can ask for, and how much of it is in use is told beside it.
 #[derive(Drop)]
 pub struct Session {
     pub kept: Option<Kept>,

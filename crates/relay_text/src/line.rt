@@ -47,7 +47,8 @@ impl Line<'_> {
         self.number(fault.place);
     }
 
-    // Bytes in hexadecimal; `-` for none.
+    // Bytes in hexadecimal; `-` for none. The kit's crate hex has it too, but reads a malformed text without saying what it wrote
+    // before the fault, as `unhex` says: the digits would then stand in two crates.
     pub(crate) fn hex(&mut self, bytes: &[u8])
         requires { self.old.length + (1 + 2 * length bytes.now) ≤ length self.old.out.now }
         ensures same_reference { self.new.out.ghost_name ≡ self.old.out.ghost_name }

@@ -13,4 +13,4 @@ returns-then-agrees c =
 pub returns-else-agrees : goal.returns-else-agrees
 returns-else-agrees c =
     let same = c.agrees.ensures ∙ (ap (λ n. all_agree (n ∷ c.answer-mine.result.place ∷ []) (c.from-2.result ∷ c.args.theirs.place ∷ [])) c.from.ensures ∙ ap (λ n. all_agree (c.answer-mine.result.number ∷ c.answer-mine.result.place ∷ []) (n ∷ c.args.theirs.place ∷ [])) c.from-2.ensures) in
-    read_false c.args.file.now c.args.theirs _ _ (c.answer-mine.ensures ∙ ap sorted_fault c.read_file.ensures) same c.if-agrees.false
+    c.if-agrees.false ∙ read_false c.args.file.now c.args.theirs _ _ (c.answer-mine.ensures ∙ ap sorted_fault c.read_file.ensures) same c.if-agrees.false
