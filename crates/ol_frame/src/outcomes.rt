@@ -10,9 +10,10 @@ ghost use Rattle.ol_value.specs.Codes.{ty_of, unary_by};
 ghost use Rattle.ol_frame.specs.Outcomes.{ThenBy, done_of, binary_out, test_of, untested_of, runs_of, overflow_of, drop_out, single_of, common_out, kind_of, outcome_kind};
 
 use ol_real::f32_to_f64;
+use ol_spec::type_codes::{FLOAT32, FLOAT64};
 use ol_spec::{Cause, Outcome, Value};
 use ol_value::operators::{eval_binary, eval_unary};
-use ol_value::types::{FLOAT32, FLOAT64, cast_value};
+use ol_value::types::cast_value;
 
 // How several expressions, a call, an equation or a run of equations end: with values, at a failure of some cause, at an overflow.
 #[derive(Clone, Copy)]

@@ -1,6 +1,8 @@
 // The types that the relay's public functions and their contracts share.
 #![tactic(auto)]
 
+pub mod type_codes; // type_codes.rt: the codes of the types
+
 // A cell's value: the flat choice of Bool, Int, both reals and Enum (a variant's name).
 #[derive(Clone, Copy)]
 pub enum Value {

@@ -178,6 +178,14 @@ other_known names (Val.Float x) q = refl
 other_known names (Val.Float32 x) q = refl
 other_known names (Val.Enum w) q = absurd (false_true (sym q))
 
+-- a value that is no Enum has another tag
+pub other_tag : (v : Value) → ((w : ℕ) → v ≡ Val.Enum w → ⊥) → eqb (tag v) 4 ≡ false
+other_tag (Val.Bool b) h = refl
+other_tag (Val.Int i) h = refl
+other_tag (Val.Float x) h = refl
+other_tag (Val.Float32 x) h = refl
+other_tag (Val.Enum w) h = absurd (h w refl)
+
 and_none : (b : Bool) → (b && false) ≡ false
 and_none true = refl
 and_none false = refl

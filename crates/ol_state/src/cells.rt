@@ -5,6 +5,7 @@ ghost use Rattle.ol_tables.specs.Tables.{Tells};
 
 use ol_spec::Value;
 use ol_tables::bytes::byte;
+use ol_tables::tables::VARIANT;
 use ol_value::cell::{good_cell, read_cell};
 
 // Whether an Enum's name is a variant's; another value has none. There is no heap, and the table by name
@@ -13,7 +14,7 @@ fn is_variant(variants: &[u8], v: Value) -> bool
     ensures { (names : List ℕ) → Tells variants.now names → result ≡ is_variant names v }
 {
     match v {
-        Value::Enum(w) => byte(variants, usize::from(w)) == 255,
+        Value::Enum(w) => byte(variants, usize::from(w)) == VARIANT,
         _ => true,
     }
 }

@@ -10,6 +10,7 @@ ghost use Rattle.ol_state.specs.Known.{Counted, Sited};
 use crate::defaults::write_own;
 use crate::sites::call_sites;
 use ol_tables::bytes::byte;
+use ol_tables::kind::NodeKind;
 use ol_tables::table::column;
 use ol_tables::tables::{KIND, PLACE, SIZE, VARIABLES};
 
@@ -27,7 +28,7 @@ pub fn write_fresh(file: &[u8], tab: &[u8], k: usize, out: &mut [u8])
     requires { Sited (file_at file.now) file.now (tab_of tab.now) (rows_of tab.now) k out.old }
     ensures { (vs : List Value) → out.new ≡ fresh_at (globals_of (file_at file.now) vs) (length (file_at file.now).nodes) k }
 {
-    if column(tab, k, KIND) == 1 {
+    if NodeKind::Operator.is(column(tab, k, KIND)) {
         write_own(tab, k, out);
         let mut used = 1 + 9 * column(tab, k, VARIABLES);
         for c in call_sites(file, tab, k) {

@@ -7,8 +7,9 @@ ghost use Rattle.ol_spec.proofs.RoundTrip.Parts.{Here};
 ghost use Rattle.ol_tables.specs.At.{file_at};
 ghost use Rattle.ol_state.specs.Inputs.{EnumAt, Typed, good_input};
 
+use ol_spec::Value;
 use ol_tables::bytes::{byte, name};
-use ol_value::cell::{good_cell, is_enum, name_of, read_cell};
+use ol_value::cell::{good_cell, read_cell};
 use ol_value::types::in_type;
 
 // Where enum e stands.
@@ -47,5 +48,8 @@ pub(crate) fn judge_input(file: &[u8], code: usize, e: usize, cells: &[u8], at: 
     }
     let v = read_cell(cells, at);
     in_type(code as u8, v)
-        && (!is_enum(v) || has_variant(file, enum_at(file, e), usize::from(name_of(v))))
+        && match v {
+            Value::Enum(w) => has_variant(file, enum_at(file, e), usize::from(w)),
+            _ => true,
+        }
 }

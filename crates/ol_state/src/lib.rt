@@ -22,6 +22,7 @@ use crate::fresh::main_node;
 use crate::sites::call_sites;
 use inputs::judge_input;
 use ol_tables::bytes::byte;
+use ol_tables::kind::NodeKind;
 use ol_tables::table::{CONSTANTS, KNOWN, column, types_of};
 use ol_tables::tables::{INPUTS, KIND, SIZE, VARIABLES};
 use own::good_own;
@@ -32,7 +33,7 @@ fn good_record(file: &[u8], tab: &[u8], variants: &[u8], k: usize, r: &[u8]) -> 
     requires { Sited (file_at file.now) file.now (tab_of tab.now) (rows_of tab.now) k r.now × Variants (file_at file.now) variants.now }
     ensures { (vs : List Value) → result ≡ good_at (globals_of (file_at file.now) vs) (length (file_at file.now).nodes) k r.now }
 {
-    if column(tab, k, KIND) != 1 {
+    if !NodeKind::Operator.is(column(tab, k, KIND)) {
         return true;
     }
     if !good_own(tab, variants, k, r) {
@@ -40,6 +41,7 @@ fn good_record(file: &[u8], tab: &[u8], variants: &[u8], k: usize, r: &[u8]) -> 
     }
     let mut used = 1 + 9 * column(tab, k, VARIABLES);
     let mut sites = call_sites(file, tab, k);
+    // The bytes end the walk, and not the call sites: where none are left, no call site is looked for (docs/PERFORMANCE.md).
     while used < r.len() {
         let Some(c) = sites.next() else {
             return true;

@@ -4,6 +4,7 @@ pub mod Numbers
 pub mod Table
 pub mod Heads
 pub mod FormCodes
+pub mod KindCodes
 pub mod Walks
 pub mod Stands
 pub mod Parts

@@ -25,6 +25,9 @@ pub const FIRSTS: usize = 256;
 
 pub const ROWS: usize = 272;
 
+// In a table by name, the entry of a variant.
+pub const VARIANT: usize = 255;
+
 // The most equations of a node, and the bytes of its cells.
 pub const MOST_EQUATIONS: usize = 80;
 

@@ -1,31 +1,24 @@
 // Cells: a value as nine bytes, its tag and then a 64-bit payload, big-endian.
-ghost use Rattle.std.specs.Prelude.{◌≡◌, ◌++◌, ◌+◌, ◌≤◌, eqb, length, take, drop};
+ghost use Rattle.std.specs.Prelude.{◌≡◌, ◌++◌, ◌+◌, ◌≤◌, length, take, drop};
 ghost use Rattle.ol_spec.specs.Lists.{same};
 ghost use Rattle.ol_spec.specs.Numbers.{number_of};
 ghost use Rattle.ol_spec.specs.Cell.{tag, payload, cell, value_by, value_of};
-ghost use Rattle.ol_value.specs.Codes.{name_in};
 
 use ol_real::{f32_bits, f32_of_bits, f64_bits, f64_of_bits};
 use ol_spec::Value;
 
-// The 64-bit number at an offset. The compiler makes one load of the eight.
+// The 64-bit number at an offset.
 fn read_number(bytes: &[u8], at: usize) -> u64
     requires { at + 8 ≤ length bytes.now }
     ensures { result ≡ number_of 0 (take 8 (drop at bytes.now)) }
 {
-    u64::from_be_bytes([
-        bytes[at],
-        bytes[at + 1],
-        bytes[at + 2],
-        bytes[at + 3],
-        bytes[at + 4],
-        bytes[at + 5],
-        bytes[at + 6],
-        bytes[at + 7],
-    ])
+    let mut eight = [0; 8];
+    eight.copy_from_slice(&bytes[at..at + 8]);
+    u64::from_be_bytes(eight)
 }
 
-// A value's tag: 0 Bool, 1 Int, 2 Float, 3 Float32, 4 Enum.
+// A value's tag: 0 Bool, 1 Int, 2 Float, 3 Float32, 4 Enum. The numbers stand here and in value_by
+// alone, each beside its variant, so names for them would say no more.
 fn tag_of(v: Value) -> u8
     ensures { result ≡ tag v }
 {
@@ -93,21 +86,4 @@ pub fn write_cell(v: Value, out: &mut [u8], at: usize)
 {
     out[at] = tag_of(v);
     out[at + 1..at + 9].copy_from_slice(&payload_of(v).to_be_bytes());
-}
-
-// Whether a value is an Enum.
-pub fn is_enum(v: Value) -> bool
-    ensures { result ≡ eqb (tag v) 4 }
-{
-    matches!(v, Value::Enum(_))
-}
-
-// An Enum's name; of another value 0. No Option: callers in other crates have the number, behind `is_enum`.
-pub fn name_of(v: Value) -> u16
-    ensures { result ≡ name_in v }
-{
-    match v {
-        Value::Enum(w) => w,
-        _ => 0,
-    }
 }

@@ -1,6 +1,7 @@
 use mathlib.Core.List.{[]}
 use mathlib.Core.Path.{sym, ap, ◌∙◌}
 use native.Mathlib.Omega.{arith}
+use borrow.Author.Tests.{eqb-true, eqb-false}
 use Rattle.ol_state.specs.Ahead.{callees_of}
 use Rattle.ol_state.proofs.Instances.{few_nodes_lem, own_room, is_operator_lem, part_room, part_sited}
 use Rattle.ol_state.proofs.FreshRecords.{going_start, turn_of, going_on, going_done, none_written}
@@ -10,28 +11,28 @@ pub write_own-requires : goal.write_own-requires
 write_own-requires t c =
     let h = c.requires in
     let few = few_nodes_lem h.known h.below in
-    let one = sym c.column.ensures ∙ c.if-column-eq1.true in
+    let one = sym c.column.ensures ∙ eqb-true _ 1 (sym c.is.ensures ∙ c.if-is.true) in
     let own = own_room h.known h.below (is_operator_lem h.known h.below one) in
     (omega (arith, few), omega (arith, own, h.sized))
 
 pub overflow_mul-used : goal.overflow_mul-used
 overflow_mul-used t c =
     let h = c.requires in
-    let one = sym c.column.ensures ∙ c.if-column-eq1.true in
+    let one = sym c.column.ensures ∙ eqb-true _ 1 (sym c.is.ensures ∙ c.if-is.true) in
     let own = own_room h.known h.below (is_operator_lem h.known h.below one) in
-    omega (arith, own, c.column-then-column-eq1.ensures, h.sized, h.small)
+    omega (arith, own, c.column-then-is.ensures, h.sized, h.small)
 
 pub overflow_add-used : goal.overflow_add-used
 overflow_add-used t c =
     let h = c.requires in
-    let one = sym c.column.ensures ∙ c.if-column-eq1.true in
+    let one = sym c.column.ensures ∙ eqb-true _ 1 (sym c.is.ensures ∙ c.if-is.true) in
     let own = own_room h.known h.below (is_operator_lem h.known h.below one) in
-    omega (arith, own, c.column-then-column-eq1.ensures, h.sized, h.small)
+    omega (arith, own, c.column-then-is.ensures, h.sized, h.small)
 
 pub loop-c-init : goal.loop-c-init
 loop-c-init t c =
-    let one = sym c.column.ensures ∙ c.if-column-eq1.true in
-    going_start c.requires one c.column-then-column-eq1.ensures (ap callees_of c.into_iter-c-iterator.ensures.into_iter_gives ∙ c.call_sites-c-items.ensures) c.write_own.ensures
+    let one = sym c.column.ensures ∙ eqb-true _ 1 (sym c.is.ensures ∙ c.if-is.true) in
+    going_start c.requires one c.column-then-is.ensures (ap callees_of c.into_iter-c-iterator.ensures.into_iter_gives ∙ c.call_sites-c-items.ensures) c.write_own.ensures
 
 pub overflow_add-end : goal.overflow_add-end
 overflow_add-end t c =
@@ -66,6 +67,6 @@ returns-in-None t c =
     let h = c.requires in
     going_done h.known h.below c.loop-c.invariant c.in-None.ensures.steps.0
 
-pub returns-else-column-eq1 : goal.returns-else-column-eq1
-returns-else-column-eq1 t c =
-    none_written c.requires (λ e. c.if-column-eq1.false (c.column.ensures ∙ e))
+pub returns-else-is : goal.returns-else-is
+returns-else-is t c =
+    none_written c.requires (λ e. eqb-false _ 1 (sym c.is.ensures ∙ c.if-is.false) (c.column.ensures ∙ e))
