@@ -5,13 +5,12 @@ use mathlib.Core.Path.{◌≡◌, refl, sym, ap, ◌∙◌}
 use native.Mathlib.Omega.{arith}
 use native.Mathlib.Decide.{dec_le}
 use mathlib.Core.Logic.{by_cases}
-use lib.ListN.{length, take, drop, set, length-append, length-drop, drop_of_length-le}
-use lib.Seq.{take_at, drop_at, drop-drop, set_split, take_all}
+use lib.ListN.{length, take, drop, length-append, length-drop, drop_of_length-le}
+use lib.Seq.{take_at, drop_at, drop-drop, take_all}
 use Rattle.ol_spec.specs.Cell.{cell, cells, value_of, values_of}
 use Rattle.ol_spec.specs.declared.Value.{Value}
 use Rattle.ol_spec.proofs.Cells.{length_cells}
 use Rattle.ol_spec.proofs.Runs.{length_values}
-use Rattle.ol_tables.proofs.Lending.{tail_of, put_tail, tail_all, drop_put}
 
 -- as many are copied as both have
 pub bytes_copied : (i : ℕ) (from to₀ to : List ℕ) → to ≡ take i from ++ drop i to₀ → i ≡ min (length from) (length to₀) → to ≡ take (length to₀) from ++ drop (length from) to₀
@@ -56,9 +55,3 @@ copied_turn i from to₀ to new v e w h =
 
 pub copied_length : (i : ℕ) (from to₀ to : List ℕ) → 9 * i ≤ length to₀ → to ≡ cells (values_of i from) ++ drop (9 * i) to₀ → length to ≡ length to₀
 copied_length i from to₀ to l e = ap length e ∙ length-append (cells (values_of i from)) (drop (9 * i) to₀) ∙ omega (arith, cells_length i from, length-drop (9 * i) to₀)
-
--- the cells are written behind the started byte, and then that byte
-pub record_finished : (n : ℕ) (to y : List ℕ) (vs : List Value) → 1 + 9 * n ≤ length to → length (put_tail 1 to y) ≡ length to → y ≡ cells vs ++ drop (9 * n) (tail_of 1 to) → set (put_tail 1 to y) 0 1 ≡ 1 ∷ cells vs ++ drop (1 + 9 * n) to
-record_finished n to y vs h l w =
-    set_split (put_tail 1 to y) 0 1 (omega arith)
-    ∙ ap (λ (r : List ℕ). 1 ∷ r) (drop_put 1 to y (omega arith) ∙ w ∙ ap (λ (r : List ℕ). cells vs ++ r) (ap (drop (9 * n)) (tail_all 1 to) ∙ drop-drop (9 * n) 1 to))

@@ -1,5 +1,5 @@
 // Cells: copied, passed on and stored.
-ghost use Rattle.std.specs.Prelude.{◌≡◌, ◌∷◌, ◌++◌, ℕ, ◌+◌, ◌-◌, ◌*◌, ◌≤◌, ◌<◌, length, take, drop};
+ghost use Rattle.std.specs.Prelude.{◌≡◌, ◌++◌, ℕ, ◌+◌, ◌-◌, ◌*◌, ◌≤◌, ◌<◌, length, take, drop};
 ghost use Rattle.ol_spec.specs.Cell.{cell, cells, value_of, values_of};
 ghost use Rattle.ol_spec.specs.Eval.{Outcomes, single, several};
 ghost use Rattle.ol_value.specs.Codes.{ty_of};

@@ -1,5 +1,5 @@
 // A cycle of the main instance: its run on the old state and the inputs, and what it leaves.
-ghost use Rattle.std.specs.Prelude.{◌≡◌, List};
+ghost use Rattle.std.specs.Prelude.{List};
 ghost use Rattle.ol_spec.specs.declared.Value.{Value};
 ghost use Rattle.ol_tables.specs.Table.{tab_of, rows_of, consts_of};
 ghost use Rattle.ol_run.specs.MainCycle.{RecordReady, RecordRan, RunReady, CyclesTo};

@@ -2,7 +2,7 @@ use mathlib.Core.Path.{refl, ap, ◌∙◌}
 use mathlib.Core.Bool.{true}
 use Prim.Native.Nat.{ℕ}
 use native.Mathlib.Omega.{arith}
-use lib.ListN.{length, length-set, replicate}
+use lib.ListN.{length-set}
 use Rattle.ol_tables.specs.At.{end_at}
 use Rattle.ol_run.specs.Constants.{value_at}
 use Rattle.ol_run.proofs.Constant.{known_is, not_done, same_onward, cleared_same, cleared_ready, going_start, going_ready, going_written, going_stuck, going_turn, going_done}
