@@ -2,22 +2,24 @@
 use Prim.Native.Nat.{ℕ, zero, suc, ◌+◌, ◌≤◌, ◌<◌}
 use mathlib.Core.Bool.{Bool, true, cond}
 use mathlib.Core.List.{List, [], ◌∷◌, ◌++◌}
-use mathlib.Core.Path.{◌≡◌, refl, sym, ap, ◌∙◌}
+use mathlib.Core.Path.{◌≡◌, refl, sym, ap, subst, ◌∙◌}
 use native.Mathlib.Omega.{arith}
-use mathlib.Core.Option.{none, some}
+use mathlib.Core.Option.{Option, none, some}
 use lib.ListN.{length, get_or, take, drop, replicate, length-replicate, take-append-drop}
 use lib.Seq.{sets, sets-eq}
 use borrow.Author.Tests.{eq-eqb, ne_eqb, lt-ltb, le-ltb}
 use Rattle.ol_spec.specs.Syntax.{Equation}
 use Rattle.ol_spec.specs.Order.{order, unplaced}
 use Rattle.ol_spec.specs.Cycle.{OrderingCall, no_order}
-use Rattle.ol_order.specs.Tables.{zeros, as_option, order_of}
+use Rattle.ol_spec.specs.Answers.{Sorted, fault_at}
+use Rattle.ol_spec.specs.declared.Fault.{Fault}
+use Rattle.ol_order.specs.Tables.{zeros, as_option, as_error, order_of}
 use Rattle.ol_order.specs.Post.{Blank, State, Sorts}
 use Rattle.ol_order.specs.Orders.{LowNames}
 use Rattle.ol_order.proofs.Passing.{length_list, unplaced_some, unplaced_none, all_placed}
 use mathlib.Core.Logic.{by_cases}
 use native.Mathlib.Decide.{dec_le}
-use Rattle.std.specs.Prelude.{Ok, nat_lt, position, ◌==◌}
+use Rattle.std.specs.Prelude.{Result, Ok, Err, is_ok, MatchResult, IsErrAnd, nat_lt, position, ◌==◌}
 use Rattle.std.specs.Prelude as Std
 use Rattle.ol_order.proofs.Flags.{first_zero, first_position}
 use Rattle.ol_order.proofs.Scanning.{found_some, found_none}
@@ -60,11 +62,32 @@ state_start qs n order e h r =
 
 -- ---- the answer, by what the passes leave
 
-no_zero : (l : List ℕ) → zeros l ≡ 0 → first_zero l ≡ length l
-unfolding zeros first_zero
-no_zero [] e = refl
-no_zero (zero ∷ l) e = absurd (omega arith)
-no_zero (suc x ∷ l) e = ap suc (no_zero l e)
+pub error_some : (o : Option ℕ) {d : ℕ} → Err d ≡ as_error o → o ≡ some d
+error_some none e = let z : ◌≡◌ {A = ℕ} 0 1 = cc in absurd (omega arith)
+error_some (some j) {d} e = let z : d ≡ j = cc in ap some (sym z)
+
+pub error_none : (o : Option ℕ) → Ok tt ≡ as_error o → o ≡ none
+error_none none e = refl
+error_none (some j) e = let z : ◌≡◌ {A = ℕ} 0 1 = cc in absurd (omega arith)
+
+-- a fault in place of the error stands where the error does
+pub all_well : {E D : Type 0} {r : Result (Unit {0}) E} {q : Result (Unit {0}) D} {u : Unit {0}} → is_ok q ≡ is_ok r → q ≡ Ok u → r ≡ Ok tt
+all_well {r = r} e f = go r (sym (ap is_ok f) ∙ e)
+  where
+    go : {E : Type 0} (r : Result (Unit {0}) E) → true ≡ is_ok r → r ≡ Ok tt
+    go (Ok tt) h = refl
+    go (Err x) h = let z : ◌≡◌ {A = ℕ} 0 1 = cc in absurd (omega arith)
+
+pub erred : {T E : Type 0} (r : Result T E) {x : E} → IsErrAnd r (λ e. e ≡ x) → r ≡ Err x
+erred (Ok y) h = absurd h
+erred (Err e) h = ap Err h
+
+-- as the code finds it, as the code answers it
+pub found_error : (o : Option ℕ) {d : ℕ} → Std.Some d ≡ as_option o → Err d ≡ as_error o
+found_error o e = ap as_error (sym (found_some o e))
+
+pub found_no_error : (o : Option ℕ) → Std.None ≡ as_option o → Ok tt ≡ as_error o
+found_no_error o e = ap as_error (sym (found_none o e))
 
 -- those placed in front, the rest as it was
 front_written : {qs : List Equation} {p o : List ℕ} {n : ℕ} (before : List ℕ) → length before ≡ length qs → State qs (order qs) p o n → drop n o ≡ drop n before → o ≡ sets before 0 (order qs)
@@ -85,10 +108,6 @@ module _ {qs : List Equation} {p o : List ℕ} {n : ℕ} (st : State qs (order q
       (λ h. ap (λ b. cond b (Std.Some (first_zero p)) Std.None) (le-ltb (first_zero p) (length p) h) ∙ sym (ap as_option (unplaced_none st h)))
       (λ h. ap (λ b. cond b (Std.Some (first_zero p)) Std.None) (lt-ltb (first_zero p) (length p) (omega arith)) ∙ sym (ap as_option (unplaced_some st (omega arith))))
 
-  -- all are placed
-  pub placed_whole : length qs ≤ n → Std.None ≡ as_option (unplaced qs)
-  placed_whole h = let z = no_zero p (omega (arith, st.left)) in sym (ap as_option (unplaced_none st (omega (arith, z))))
-
   is_inside : (i : ℕ) → unplaced qs ≡ some i → i < length qs
   is_inside i e =
       by_cases (dec_le (length p) (first_zero p))
@@ -105,30 +124,36 @@ module _ {qs : List Equation} {p o : List ℕ} {n : ℕ} (st : State qs (order q
       never : none ≡ some (first_zero p) → ⊥
       never f = let z : ◌≡◌ {A = ℕ} 0 1 = cc in omega arith
 
-  pub sorts_made : {before : List ℕ} → length before ≡ length qs → drop n o ≡ drop n before → {r : Std.Option ℕ} → r ≡ as_option (unplaced qs) → Sorts qs before o r
+  pub sorts_made : {before : List ℕ} → length before ≡ length qs → drop n o ≡ drop n before → {r : Result (Unit {0}) ℕ} → r ≡ as_error (unplaced qs) → Sorts qs before o r
   sorts_made {before} b h e =
       record {
         long = st.room;
         few = omega (arith, length_list qs st, st.left);
         written = front_written before b st h;
         ring = e;
-        inside = λ i f. is_inside i (found_some (unplaced qs) (sym f ∙ e));
-        order = λ f. is_order (found_none (unplaced qs) (sym f ∙ e));
+        inside = λ i f. is_inside i (error_some (unplaced qs) (sym f ∙ e));
+        order = λ f. is_order (error_none (unplaced qs) (sym f ∙ e));
       }
 
-pub no_other : (r : Std.Option ℕ) → ((i : ℕ) → r ≡ Std.Some i → ⊥) → r ≡ Std.None
-no_other Std.None h = refl
-no_other (Std.Some i) h = absurd (h i refl)
-
-module _ {qs : List Equation} {before o : List ℕ} {r : Std.Option ℕ} (starts buf : List ℕ) (so : Sorts qs before o r) where
+module _ {qs : List Equation} {before o : List ℕ} {r : Result (Unit {0}) ℕ} (starts buf : List ℕ) (so : Sorts qs before o r) where
   -- a ring
-  pub answer_ring : {first : ℕ} → r ≡ Std.Some first → no_order 11 (get_or starts first 0) buf ≡ order_of qs starts buf
+  pub answer_ring : {first : ℕ} → r ≡ Err first → no_order 11 (get_or starts first 0) buf ≡ order_of qs starts buf
   unfolding order_of
-  answer_ring h = sym (rw (found_some (unplaced qs) (sym h ∙ so.ring)) refl)
+  answer_ring h = sym (rw (error_some (unplaced qs) (sym h ∙ so.ring)) refl)
 
-  module _ (h : r ≡ Std.None) where
+  pub answer_fault : {q : Sorted} {f : Fault} (P : ℕ → Fault → Type 0) → MatchResult r (λ x. q ≡ Ok x) (λ e. IsErrAnd q (P e)) → q ≡ Err f → ((first : ℕ) → P first f → f ≡ fault_at 11 (get_or starts first 0)) → no_order f.number f.place buf ≡ order_of qs starts buf
+  answer_fault {q} {f} P m e h = go r refl m
+    where
+      go : (v : Result (Unit {0}) ℕ) → r ≡ v → MatchResult v (λ x. q ≡ Ok x) (λ e. IsErrAnd q (P e)) → no_order f.number f.place buf ≡ order_of qs starts buf
+      go (Ok tt) g w = let z : ◌≡◌ {A = Sorted} (Ok tt) (Err f) = sym w ∙ e in let y : ◌≡◌ {A = ℕ} 0 1 = cc in absurd (omega arith)
+      go (Err first) g w = ap (λ (x : Fault). no_order x.number x.place buf) (h first (subst (λ v. IsErrAnd v (P first)) e w)) ∙ answer_ring g
+
+  pub sorts_well : r ≡ Ok tt → Sorts qs before o (Ok tt)
+  sorts_well h = subst (λ v. Sorts qs before o v) h so
+
+  module _ (h : r ≡ Ok tt) where
     all_there : unplaced qs ≡ none
-    all_there = found_none (unplaced qs) (sym h ∙ so.ring)
+    all_there = error_none (unplaced qs) (sym h ∙ so.ring)
 
     abbrev ordered : OrderingCall
     ordered = record { answer = (Ok tt); buffer = o }

@@ -25,8 +25,8 @@ use Rattle.ol_spec.proofs.Offsets.{same_item}
 use Rattle.ol_spec.proofs.Ordering.{placed_or_stuck}
 use Rattle.ol_order.specs.Tables.{node_in, node_at, equations_at, waited_all}
 use Rattle.ol_order.specs.Post.{NodeReads, Sorts}
-use Rattle.std.specs.Prelude as Std
-use Rattle.ol_order.proofs.Scanning.{found_some, found_none}
+use Rattle.std.specs.Prelude.{Ok, Err}
+use Rattle.ol_order.proofs.Answers.{error_some, error_none}
 use Rattle.ol_order.specs.Orders.{Ring, ring_place, Small, LowNames, StartsWith, row_written, EquationsDone, starts_in, NodeDone, NodesStand, NodePlanned, Planned, OrderOf, orders_written, OrdersDone}
 use Rattle.ol_order.proofs.Room.{short_file, node_room, variables_room}
 use Rattle.ol_order.proofs.Nodes.{place_get, length_placed, items_placed, item_of, place_same, node_equations, counted_few}
@@ -50,9 +50,9 @@ order_below qs e j h = ⊎_elim (λ p. p.valid.inside (get_or (order qs) j 0) (g
     never : (i : ℕ) → none ≡ some i → ⊥
     never i f = let z : ◌≡◌ {A = ℕ} 0 1 = cc in omega arith
 
-pub sorted_small : {qs : List Equation} {before o : List ℕ} → length qs ≤ 80 → Sorts qs before o Std.None → Small o
+pub sorted_small : {qs : List Equation} {before o : List ℕ} → length qs ≤ 80 → Sorts qs before o (Ok tt) → Small o
 sorted_small {qs} few so =
-    subst Small (sym (so.order refl)) (λ j i. omega (arith, order_below qs (found_none (unplaced qs) so.ring) j i))
+    subst Small (sym (so.order refl)) (λ j i. omega (arith, order_below qs (error_none (unplaced qs) so.ring) j i))
 
 -- ---- a copy
 
@@ -70,9 +70,9 @@ front_get vs t j h g = ap (λ (l : List ℕ). get_or l j 0) (sets-eq vs t 0 (ome
 -- ---- what the equations leave
 
 module _ {qs : List Equation} {space o : List ℕ} (starts before : List ℕ) where
-  pub equations_ring : {first : ℕ} → Sorts qs space o (Std.Some first) → EquationsDone qs starts before before (Std.Some (get_or starts first 0))
+  pub equations_ring : {first : ℕ} → Sorts qs space o (Err first) → EquationsDone qs starts before before (Err (get_or starts first 0))
   equations_ring {first} so =
-      let u : unplaced qs ≡ some first = found_some (unplaced qs) so.ring in
+      let u : unplaced qs ≡ some first = error_some (unplaced qs) so.ring in
       record {
         found = sym (ap (maybe none (λ i. some (get_or starts i 0))) u);
         order = λ e. absurd (never first (sym e ∙ u));
@@ -83,9 +83,9 @@ module _ {qs : List Equation} {space o : List ℕ} (starts before : List ℕ) wh
       never : (i : ℕ) → none ≡ some i → ⊥
       never i f = let z : ◌≡◌ {A = ℕ} 0 1 = cc in omega arith
 
-  pub equations_done : {out : List ℕ} → Sorts qs space o Std.None → length o ≤ length before → out ≡ sets before 0 o → EquationsDone qs starts before out Std.None
+  pub equations_done : {out : List ℕ} → Sorts qs space o (Ok tt) → length o ≤ length before → out ≡ sets before 0 o → EquationsDone qs starts before out (Ok tt)
   equations_done {out} so few f =
-      let u : unplaced qs ≡ none = found_none (unplaced qs) so.ring in
+      let u : unplaced qs ≡ none = error_none (unplaced qs) so.ring in
       record {
         found = sym (ap (maybe none (λ i. some (get_or starts i 0))) u);
         order = λ e j i. ap (λ (l : List ℕ). get_or l j 0) f ∙ (front_get o before j few (omega (arith, so.long)) ∙ ap (λ (l : List ℕ). get_or l j 0) (so.order refl));
@@ -267,10 +267,6 @@ module _ (tab before : List ℕ) (e : drop 2560 tab ≡ drop 2560 before) (n : l
 
 -- ---- the nodes, one after the other
 
-no_ring : (r : Ring) → ((p : ℕ) → r ≡ Std.Some p → ⊥) → none ≡ ring_place r
-no_ring Std.None h = refl
-no_ring (Std.Some p) h = absurd (h p refl)
-
 module _ {s places : List ℕ} {enums : ℕ} {low : Bool} (ns : NodesStand s enums places low) where
   abbrev file : File
   file = ns.file
@@ -439,18 +435,18 @@ module _ {s places : List ℕ} {enums : ℕ} {low : Bool} (ns : NodesStand s enu
       ring_left : fault11 file ≡ or_else (ring_in (get_or places k 0, here_node)) (first_some (map ring_in (drop (suc k) (placed_nodes file))))
       ring_left = go.left ∙ ap (λ ps. first_some (map ring_in ps)) (here_is k h)
 
-      pub going_ring : {p : ℕ} (f : File) (end : ℕ) → read_file s relay_loader ≡ got f end → r ≡ Std.Some p → OrdersDone f before out (Std.Some p)
+      pub going_ring : {p : ℕ} (f : File) (end : ℕ) → read_file s relay_loader ≡ got f end → r ≡ Err p → OrdersDone f before out (Err p)
       going_ring {p} f end rd g =
           let a : some p ≡ ring_in (get_or places k 0, here_node) = ap ring_place (sym g) ∙ done_here.found in
           let b : fault11 file ≡ some p = ring_left ∙ ap (λ o. or_else o (first_some (map ring_in (drop (suc k) (placed_nodes file))))) (sym a) in
-          subst (λ v. OrdersDone v before out (Std.Some p)) (same_item (sym ns.is ∙ rd)) (record { found = sym b; written = ring_stays p (sym a); order = λ n. absurd (never p (sym n ∙ b)) })
+          subst (λ v. OrdersDone v before out (Err p)) (same_item (sym ns.is ∙ rd)) (record { found = sym b; written = ring_stays p (sym a); order = λ n. absurd (never p (sym n ∙ b)) })
         where
           never : (i : ℕ) → none ≡ some i → ⊥
           never i f = let z : ◌≡◌ {A = ℕ} 0 1 = cc in omega arith
 
-      pub going_on : ((p : ℕ) → r ≡ Std.Some p → ⊥) → Going before (k + 1) out
+      pub going_on : r ≡ Ok tt → Going before (k + 1) out
       going_on g =
-          let a : none ≡ ring_in (get_or places k 0, here_node) = no_ring r g ∙ done_here.found in
+          let a : none ≡ ring_in (get_or places k 0, here_node) = ap ring_place (sym g) ∙ done_here.found in
           let u : unplaced here_equations ≡ none = some_none (λ i. place_at (placed_equations (get_or places k 0) here_node) i) (unplaced here_equations) (sym a) in
           let w : out ≡ sets orders (k * 80) (order here_equations) = out_at none u in
           record {
@@ -468,7 +464,7 @@ module _ {s places : List ℕ} {enums : ℕ} {low : Bool} (ns : NodesStand s enu
     unfolding orders_written
     none_left h = ap (λ ps. orders_written k ps orders) (drop_of_length-le file.nodes {i = k} (omega (arith, as_many)))
 
-    pub going_done : length places ≤ k → (f : File) (end : ℕ) → read_file s relay_loader ≡ got f end → OrdersDone f before orders Std.None
+    pub going_done : length places ≤ k → (f : File) (end : ℕ) → read_file s relay_loader ≡ got f end → OrdersDone f before orders (Ok tt)
     going_done h f end rd =
         let z : fault11 file ≡ none = go.left ∙ ap (λ ps. first_some (map ring_in ps)) (drop_of_length-le (placed_nodes file) {i = k} (omega (arith, as_many, long_nodes))) in
-        subst (λ v. OrdersDone v before orders Std.None) (same_item (sym ns.is ∙ rd)) (record { found = sym z; written = sym (go.rest ∙ none_left h); order = λ n k g. go.done k (omega (arith, as_many)) })
+        subst (λ v. OrdersDone v before orders (Ok tt)) (same_item (sym ns.is ∙ rd)) (record { found = sym z; written = sym (go.rest ∙ none_left h); order = λ n k g. go.done k (omega (arith, as_many)) })

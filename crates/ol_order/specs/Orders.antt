@@ -1,5 +1,5 @@
 -- The orders of all nodes of a file, as bytes.
-use Rattle.std.specs.Prelude.{ℕ, zero, suc, ◌+◌, ◌*◌, ◌≤◌, ◌<◌, Bool, true, List, [], ◌∷◌, map, ◌≡◌, length, get_or}
+use Rattle.std.specs.Prelude.{ℕ, zero, suc, ◌+◌, ◌*◌, ◌≤◌, ◌<◌, Bool, true, List, [], ◌∷◌, map, ◌≡◌, length, get_or, Result, Ok, Err}
 use Rattle.std.proofs.Math.Option.{Option, none, some}
 use Rattle.std.proofs.lemmas.List.Edits.{sets}
 use Rattle.ol_spec.specs.Lists.{maybe}
@@ -11,15 +11,14 @@ use Rattle.ol_spec.specs.Order.{definer, order, unplaced}
 use Rattle.ol_spec.specs.Admission.{ring_in, fault11}
 use Rattle.ol_tables.specs.Tables.{row_at, node_of, slots_from, two_at, plans_of, plan_in, equation_place}
 use Rattle.ol_ir.specs.Walks.{place_of}
-use Rattle.std.specs.Prelude as Std
 
--- the place of the first equation that is never placed, if there is one
+-- an error is the place of the first equation that is never placed
 abbrev pub Ring : Type 0
-Ring = Std.Option ℕ
+Ring = Result (Unit {0}) ℕ
 
 abbrev pub ring_place : Ring → Option ℕ
-ring_place (Std.Some p) = some p
-ring_place Std.None = none
+ring_place (Err p) = some p
+ring_place (Ok tt) = none
 
 -- every entry is a byte
 abbrev pub Small : List ℕ → Type 0

@@ -1,6 +1,5 @@
 -- What the functions of the ordering ask and give.
-use Rattle.std.specs.Prelude.{ℕ, suc, ◌+◌, ◌-◌, ◌≤◌, ◌<◌, Bool, true, List, map, ◌≡◌, length, get_or, take, drop}
-use Rattle.std.specs.Prelude as Std
+use Rattle.std.specs.Prelude.{ℕ, suc, ◌+◌, ◌-◌, ◌≤◌, ◌<◌, Bool, true, List, map, ◌≡◌, length, get_or, take, drop, Result, Ok, Err}
 use Rattle.std.proofs.Math.Option.{none}
 use Rattle.std.proofs.lemmas.List.Edits.{sets}
 use Rattle.ol_spec.specs.Lists.{member}
@@ -8,7 +7,7 @@ use Rattle.ol_spec.specs.Syntax.{Equation}
 use Rattle.ol_spec.specs.Read.{got, equation_r, node_r}
 use Rattle.ol_spec.specs.Order.{definer, order, unplaced}
 use Rattle.ol_spec.specs.declared.Limits.{Limits}
-use Rattle.ol_order.specs.Tables.{is_got, key_of, keyed, no_equation, node_at, definer_code, as_option, waited, flag_of, zeros}
+use Rattle.ol_order.specs.Tables.{is_got, key_of, keyed, no_equation, node_at, definer_code, as_error, waited, flag_of, zeros}
 
 -- an equation is read at each of these places
 pub record Readable (s : List ℕ) (l : Limits) (enums : ℕ) (starts : List ℕ) : Type 0 where
@@ -61,10 +60,10 @@ pub record Waiting (lists begins placed order : List ℕ) (done : ℕ) : Type 0 
   pub state : State equations (take done order) placed order done
 
 -- r is the first equation that is never placed; where there is none, `ord` is the order. In both cases those placed stand in front, in their order, and the rest is as it was before
-pub record Sorts (qs : List Equation) (before ord : List ℕ) (r : Std.Option ℕ) : Type 0 where
+pub record Sorts (qs : List Equation) (before ord : List ℕ) (r : Result (Unit {0}) ℕ) : Type 0 where
   pub long : length ord ≡ length qs
   pub few : length (order qs) ≤ length qs
   pub written : ord ≡ sets before 0 (order qs)
-  pub ring : r ≡ as_option (unplaced qs)
-  pub inside : (i : ℕ) → r ≡ Std.Some i → i < length qs
-  pub order : r ≡ Std.None → ord ≡ order qs
+  pub ring : r ≡ as_error (unplaced qs)
+  pub inside : (i : ℕ) → r ≡ Err i → i < length qs
+  pub order : r ≡ Ok tt → ord ≡ order qs

@@ -1,5 +1,5 @@
 -- The tables of the ordering: the equations at their places, which equation defines a name, which equations are placed.
-use Rattle.std.specs.Prelude.{ℕ, zero, suc, ◌+◌, ◌%◌, Bool, true, false, cond, nat_lt, List, [], ◌∷◌, ◌++◌, map, length, get_or, set, eqb, Ok}
+use Rattle.std.specs.Prelude.{ℕ, zero, suc, ◌+◌, ◌%◌, Bool, true, false, cond, nat_lt, List, [], ◌∷◌, ◌++◌, map, length, get_or, set, eqb, Result, Ok, Err}
 use Rattle.std.specs.Prelude as Std
 use Rattle.std.proofs.Math.Option.{Option, none, some}
 use Rattle.ol_spec.specs.Lists.{member}
@@ -83,6 +83,11 @@ entry_of d = cond (nat_lt d 255) (Std.Some d) Std.None
 abbrev pub as_option : Option ℕ → Std.Option ℕ
 as_option none = Std.None
 as_option (some j) = Std.Some j
+
+-- as the code's Result, in which one that is found is an error
+abbrev pub as_error : Option ℕ → Result (Unit {0}) ℕ
+as_error none = Ok tt
+as_error (some j) = Err j
 
 abbrev pub on_defined : Read ℕ → (ℕ → ℕ → Bool) → Bool
 on_defined (got n p) k = k n p

@@ -120,25 +120,24 @@ fn first_unplaced(placed: &[u8]) -> Option<usize>
     placed.iter().position(|flag| *flag == 0)
 }
 
-// Places the equations whose lists these are: the first that is never placed. The buffer gets the
+// Places the equations whose lists these are; an error is the first that is never placed. The buffer gets the
 // order of those placed. How many there are is known at the run only, and there is no heap: this file's
 // buffers have the most, and a part of each is lent.
-fn place(lists: &[u8], begins: &[usize], order: &mut [usize]) -> Option<usize>
+fn place(lists: &[u8], begins: &[usize], order: &mut [usize]) -> Result<(), usize>
     requires { Listed lists.now begins.now order.old }
     ensures { (qs : List Equation) → Waits qs lists.now begins.now → Sorts qs order.old order.new result }
 {
     let mut flags = [0u8; 80];
     let placed = &mut flags[..order.len()];
-    let n = passes(lists, begins, placed, order);
-    if n < order.len() {
-        first_unplaced(placed)
-    } else {
-        None
+    passes(lists, begins, placed, order);
+    match first_unplaced(placed) {
+        Some(first) => Err(first),
+        None => Ok(()),
     }
 }
 
 // Places the equations, with a table in which no name has a definer yet, and room for all definers
-// that they wait for: the first that is never placed. The buffer gets the order of those placed, the
+// that they wait for; an error is the first that is never placed. The buffer gets the order of those placed, the
 // table and the lists the definers.
 pub(crate) fn sort(
     equations: Equations,
@@ -146,7 +145,7 @@ pub(crate) fn sort(
     definers: &mut [u8],
     lists: &mut [u8],
     order: &mut [usize],
-) -> Option<usize>
+) -> Result<(), usize>
     requires blank { Blank (those equations) low definers.old }
     requires room { length (all_waited equations) ≤ length lists.old }
     requires order_len { length order.old ≡ length equations.starts.now }
@@ -181,12 +180,10 @@ fn order_equations(equations: Equations, buffer: &mut [usize]) -> Result<(), Fau
     let mut lists = [0u8; 10923];
     let mut space = [0usize; 80];
     let order = &mut space[..equations.starts.len()];
-    if let Some(first) = sort(equations, false, &mut definers, &mut lists, order) {
-        return Err(Fault {
-            number: 11,
-            place: equations.starts[first],
-        });
-    }
+    sort(equations, false, &mut definers, &mut lists, order).map_err(|first| Fault {
+        number: 11,
+        place: equations.starts[first],
+    })?;
     if buffer.len() != order.len() {
         return Err(Fault {
             number: 17,

@@ -35,7 +35,12 @@ fn copy_bytes(order: &[usize], out: &mut [u8])
 
 // The order of the equations, with room for all definers that they wait for. How many there are is known
 // at the run only, and there is no heap: this file's buffers have the most, and a part of each is lent.
-fn order_starts(equations: Equations, low: bool, lists: &mut [u8], out: &mut [u8]) -> Option<usize>
+fn order_starts(
+    equations: Equations,
+    low: bool,
+    lists: &mut [u8],
+    out: &mut [u8],
+) -> Result<(), usize>
     requires low_names { low ≡ true → LowNames (those equations) }
     requires room { length (all_waited equations) ≤ length lists.old }
     requires out_len { length out.old ≡ 80 }
@@ -45,13 +50,9 @@ fn order_starts(equations: Equations, low: bool, lists: &mut [u8], out: &mut [u8
     let mut definers = no_definers();
     let mut space = [0usize; 80];
     let order = &mut space[..equations.starts.len()];
-    match sort(equations, low, &mut definers, lists, order) {
-        Some(first) => Some(equations.starts[first]),
-        None => {
-            copy_bytes(order, out);
-            None
-        }
-    }
+    sort(equations, low, &mut definers, lists, order).map_err(|first| equations.starts[first])?;
+    copy_bytes(order, out);
+    Ok(())
 }
 
 // Where equations start, as their plan, which is written from `plan` on, tells.
@@ -81,7 +82,7 @@ struct Nodes<'f, 'p, 'r> {
 impl<'f, 'p, 'r> Nodes<'f, 'p, 'r> {
     // The order of the equations of node k, with room for all definers that they wait for. Its plan
     // says where they start; their order is written into the node's part of the table.
-    fn order_node(self, k: usize, lists: &mut [u8], tab: &mut [u8]) -> Option<usize>
+    fn order_node(self, k: usize, lists: &mut [u8], tab: &mut [u8]) -> Result<(), usize>
         requires k_in_bounds { k < length self.places.now }
         requires asked { OrdersAsked self tab.old }
         requires room { length self.file.now ≤ 3 * length lists.old }
@@ -109,7 +110,7 @@ impl<'f, 'p, 'r> Nodes<'f, 'p, 'r> {
     // The orders of all nodes, with lists of N entries. It stays out of its caller: a short file does
     // not touch the long lists' stack.
     #[inline(never)]
-    fn order_all<const N: usize>(self, tab: &mut [u8]) -> Option<usize>
+    fn order_all<const N: usize>(self, tab: &mut [u8]) -> Result<(), usize>
         requires asked { OrdersAsked self tab.old }
         requires room { length self.file.now ≤ 3 * N }
         requires size { N < 65536 }
@@ -117,11 +118,9 @@ impl<'f, 'p, 'r> Nodes<'f, 'p, 'r> {
     {
         let mut lists = [0u8; N];
         for k in 0..self.places.len() {
-            if let Some(ring) = self.order_node(k, &mut lists, tab) {
-                return Some(ring);
-            }
+            self.order_node(k, &mut lists, tab)?;
         }
-        None
+        Ok(())
     }
 }
 
@@ -135,7 +134,7 @@ pub fn orders_of(
     rows: &FileRows,
     low: bool,
     tab: &mut [u8],
-) -> Option<usize>
+) -> Result<(), usize>
     requires nodes_stand { NodesStand file.now enums places.now low }
     requires planned { Planned file.now (numbers rows.now) tab.old }
     ensures orders_done { (f : File) (end : ℕ) → read_file file.now relay_loader ≡ got f end → OrdersDone f (take 2560 tab.old) (take 2560 tab.new) result }

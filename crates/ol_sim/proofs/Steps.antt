@@ -36,7 +36,7 @@ use Rattle.ol_check.proofs.NamesBelow.{low_within}
 use Rattle.ol_order.specs.Orders.{Ring, ring_place, NodesStand, Planned, NodePlanned, OrdersDone}
 use Rattle.ol_run.specs.Constants.{ConstantsAre}
 use Rattle.ol_tables.specs.Table.{tab_of}
-use Rattle.std.specs.Prelude.{Result}
+use Rattle.std.specs.Prelude.{Result, Ok, Err}
 use Rattle.std.specs.Prelude as Std
 use Rattle.std.specs.Result.{result_err}
 use Rattle.ol_check.specs.Founds as Founds
@@ -77,9 +77,9 @@ module _ (f : File) (n : ℕ) (cs : List ℕ) (r : Result (Unit {0}) ℕ) (h : C
 -- ---- the orders
 
 -- a ring's place is a found one
-pub ring_found : (r : Ring) {o : Option ℕ} → ring_place r ≡ o → Founds.place_of r ≡ o
-ring_found (Std.Some p) e = e
-ring_found Std.None e = e
+pub ring_found : (r : Ring) {o : Option ℕ} → ring_place r ≡ o → Founds.place_of (result_err r) ≡ o
+ring_found (Err p) e = e
+ring_found (Ok tt) e = e
 
 module _ {s rows t : List ℕ} {main : ℕ} {c : Sections} {low : Bool} (h : OrderReady s rows t c main low) where
   pub nodes_stand : {enums : ℕ} {places : List ℕ} → FileReads s → length (file_at s).enums ≡ enums → places ≡ map Walks.place_of (placed_nodes (file_at s)) → NodesStand s enums places low

@@ -106,7 +106,7 @@ fn judge_order(
         low,
         &mut tab[ORDERS..],
     );
-    refuse_at(11, ring)?;
+    refuse_at(11, ring.err())?;
     let size = state_size(file, sections.constants, main);
     judge_constants(file, rows, tab, sections, size)
 }
