@@ -1,6 +1,6 @@
 -- The answer: the tables at the start, and what the ordering answers once the passes are over.
 use Prim.Native.Nat.{ℕ, zero, suc, ◌+◌, ◌≤◌, ◌<◌}
-use mathlib.Core.Bool.{Bool, true, cond}
+use mathlib.Core.Bool.{Bool, true, false, cond, not}
 use mathlib.Core.List.{List, [], ◌∷◌, ◌++◌}
 use mathlib.Core.Path.{◌≡◌, refl, sym, ap, subst, ◌∙◌}
 use native.Mathlib.Omega.{arith}
@@ -13,15 +13,15 @@ use Rattle.ol_spec.specs.Order.{order, unplaced}
 use Rattle.ol_spec.specs.Cycle.{OrderingCall, no_order}
 use Rattle.ol_spec.specs.Answers.{Sorted, fault_at}
 use Rattle.ol_spec.specs.declared.Fault.{Fault}
-use Rattle.ol_order.specs.Tables.{zeros, as_option, as_error, order_of}
+use Rattle.ol_order.specs.Tables.{waiting, as_option, as_error, order_of}
 use Rattle.ol_order.specs.Post.{Blank, State, Sorts}
 use Rattle.ol_order.specs.Orders.{LowNames}
 use Rattle.ol_order.proofs.Passing.{length_list, unplaced_some, unplaced_none, all_placed}
 use mathlib.Core.Logic.{by_cases}
 use native.Mathlib.Decide.{dec_le}
-use Rattle.std.specs.Prelude.{Result, Ok, Err, is_ok, MatchResult, IsErrAnd, nat_lt, position, ◌==◌}
+use Rattle.std.specs.Prelude.{Result, Ok, Err, is_ok, MatchResult, IsErrAnd, position}
 use Rattle.std.specs.Prelude as Std
-use Rattle.ol_order.proofs.Flags.{first_zero, first_position}
+use Rattle.ol_order.proofs.Flags.{first_waiting}
 use Rattle.ol_order.proofs.Scanning.{found_some, found_none}
 
 -- ---- the tables at the start
@@ -30,34 +30,35 @@ use Rattle.ol_order.proofs.Scanning.{found_some, found_none}
 pub blank_made : (qs : List Equation) (low : Bool) {t : List ℕ} → 1024 ≡ length t → ((x : ℕ) → get_or t x 255 ≡ 255) → (low ≡ true → LowNames qs) → Blank qs low t
 blank_made qs low h f l = record { is = f; long = h; lows = l }
 
-abbrev noughts : ℕ → List ℕ
-noughts n = replicate n 0
+-- the flags where none is placed
+abbrev unplaced_flags : ℕ → List Bool
+unplaced_flags n = replicate n false
 
-take_noughts : (n m : ℕ) → n ≤ m → take n (noughts m) ≡ noughts n
-take_noughts zero m h = refl
-take_noughts (suc n) zero h = absurd (omega arith)
-take_noughts (suc n) (suc m) h = ap (λ (l : List ℕ). 0 ∷ l) (take_noughts n m (omega arith))
+take_flags : (n m : ℕ) → n ≤ m → take n (unplaced_flags m) ≡ unplaced_flags n
+take_flags zero m h = refl
+take_flags (suc n) zero h = absurd (omega arith)
+take_flags (suc n) (suc m) h = ap (λ (l : List Bool). false ∷ l) (take_flags n m (omega arith))
 
-all_nought : (n j : ℕ) → get_or (noughts n) j 0 ≡ 0
-all_nought zero zero = refl
-all_nought zero (suc j) = refl
-all_nought (suc n) zero = refl
-all_nought (suc n) (suc j) = all_nought n j
+each_unplaced : (n j : ℕ) → get_or (unplaced_flags n) j false ≡ false
+each_unplaced zero zero = refl
+each_unplaced zero (suc j) = refl
+each_unplaced (suc n) zero = refl
+each_unplaced (suc n) (suc j) = each_unplaced n j
 
-count_noughts : (n : ℕ) → zeros (noughts n) ≡ n
-unfolding zeros
-count_noughts zero = refl
-count_noughts (suc n) = ap suc (count_noughts n)
+all_waiting : (n : ℕ) → waiting (unplaced_flags n) ≡ n
+unfolding waiting
+all_waiting zero = refl
+all_waiting (suc n) = ap suc (all_waiting n)
 
-pub state_start : (qs : List Equation) (n : ℕ) (order : List ℕ) → length qs ≡ n → n ≤ 80 → length order ≡ length qs → State qs [] (take n (noughts 80)) order 0
+pub state_start : (qs : List Equation) (n : ℕ) (order : List ℕ) → length qs ≡ n → n ≤ 80 → length order ≡ length qs → State qs [] (take n (unplaced_flags 80)) order 0
 state_start qs n order e h r =
-    let z = take_noughts n 80 h in
+    let z = take_flags n 80 h in
     record {
       front = refl;
-      flags = λ j i. ap (λ (l : List ℕ). get_or l j 0) z ∙ all_nought n j;
-      flagged = ap length z ∙ (length-replicate n 0 ∙ sym e);
+      flags = λ j i. ap (λ (l : List Bool). get_or l j false) z ∙ each_unplaced n j;
+      flagged = ap length z ∙ (length-replicate n false ∙ sym e);
       room = r;
-      left = omega (arith, ap zeros z, count_noughts n);
+      left = omega (arith, ap waiting z, all_waiting n);
     }
 
 -- ---- the answer, by what the passes leave
@@ -90,7 +91,7 @@ pub found_no_error : (o : Option ℕ) → Std.None ≡ as_option o → Ok tt ≡
 found_no_error o e = ap as_error (sym (found_none o e))
 
 -- those placed in front, the rest as it was
-front_written : {qs : List Equation} {p o : List ℕ} {n : ℕ} (before : List ℕ) → length before ≡ length qs → State qs (order qs) p o n → drop n o ≡ drop n before → o ≡ sets before 0 (order qs)
+front_written : {qs : List Equation} {p : List Bool} {o : List ℕ} {n : ℕ} (before : List ℕ) → length before ≡ length qs → State qs (order qs) p o n → drop n o ≡ drop n before → o ≡ sets before 0 (order qs)
 front_written {qs} {p} {o} {n} before b st h =
     let l : length (order qs) ≡ n = length_list qs st in
     let z : n ≡ 0 + length (order qs) = omega (arith, l) in
@@ -99,29 +100,28 @@ front_written {qs} {p} {o} {n} before b st h =
     ∙ (ap (λ v. order qs ++ v) h
     ∙ (ap (λ k. order qs ++ drop k before) z ∙ sym (sets-eq (order qs) before 0 (omega (arith, l, b, st.left))))))
 
-module _ {qs : List Equation} {p o : List ℕ} {n : ℕ} (st : State qs (order qs) p o n) where
+module _ {qs : List Equation} {p : List Bool} {o : List ℕ} {n : ℕ} (st : State qs (order qs) p o n) where
   -- where the code finds the first that is not placed
-  pub placed_first : position (λ x. x == 0) p ≡ as_option (unplaced qs)
+  pub placed_first : position not p ≡ as_option (unplaced qs)
   placed_first =
-      ap (λ i. cond (nat_lt i (length p)) (Std.Some i) Std.None) (first_position p)
-      ∙ by_cases (dec_le (length p) (first_zero p))
-      (λ h. ap (λ b. cond b (Std.Some (first_zero p)) Std.None) (le-ltb (first_zero p) (length p) h) ∙ sym (ap as_option (unplaced_none st h)))
-      (λ h. ap (λ b. cond b (Std.Some (first_zero p)) Std.None) (lt-ltb (first_zero p) (length p) (omega arith)) ∙ sym (ap as_option (unplaced_some st (omega arith))))
+      by_cases (dec_le (length p) (first_waiting p))
+      (λ h. ap (λ b. cond b (Std.Some (first_waiting p)) Std.None) (le-ltb (first_waiting p) (length p) h) ∙ sym (ap as_option (unplaced_none st h)))
+      (λ h. ap (λ b. cond b (Std.Some (first_waiting p)) Std.None) (lt-ltb (first_waiting p) (length p) (omega arith)) ∙ sym (ap as_option (unplaced_some st (omega arith))))
 
   is_inside : (i : ℕ) → unplaced qs ≡ some i → i < length qs
   is_inside i e =
-      by_cases (dec_le (length p) (first_zero p))
+      by_cases (dec_le (length p) (first_waiting p))
       (λ h. absurd (never (sym e ∙ unplaced_none st h)))
-      (λ h. let z : some i ≡ some (first_zero p) = sym e ∙ unplaced_some st (omega arith) in let y : i ≡ first_zero p = cc in omega (arith, y, st.flagged))
+      (λ h. let z : some i ≡ some (first_waiting p) = sym e ∙ unplaced_some st (omega arith) in let y : i ≡ first_waiting p = cc in omega (arith, y, st.flagged))
     where
       never : some i ≡ none → ⊥
       never f = let z : ◌≡◌ {A = ℕ} 0 1 = cc in omega arith
 
   is_order : unplaced qs ≡ none → o ≡ order qs
   is_order e =
-      by_cases (dec_le (length p) (first_zero p)) (λ h. all_placed st h) (λ h. absurd (never (sym e ∙ unplaced_some st (omega arith))))
+      by_cases (dec_le (length p) (first_waiting p)) (λ h. all_placed st h) (λ h. absurd (never (sym e ∙ unplaced_some st (omega arith))))
     where
-      never : none ≡ some (first_zero p) → ⊥
+      never : none ≡ some (first_waiting p) → ⊥
       never f = let z : ◌≡◌ {A = ℕ} 0 1 = cc in omega arith
 
   pub sorts_made : {before : List ℕ} → length before ≡ length qs → drop n o ≡ drop n before → {r : Result (Unit {0}) ℕ} → r ≡ as_error (unplaced qs) → Sorts qs before o r

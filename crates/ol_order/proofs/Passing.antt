@@ -11,9 +11,9 @@ use lib.Seq.{drop-cons, drop-drop, drop-set-lt, length-take-le}
 use Rattle.ol_spec.specs.Lists.{member}
 use Rattle.ol_spec.specs.Syntax.{Equation}
 use Rattle.ol_spec.specs.Order.{ready, place, pass, passes, order, outside_if, first_outside, unplaced}
-use Rattle.ol_order.specs.Tables.{no_equation, flag_of, zeros}
+use Rattle.ol_order.specs.Tables.{no_equation, waiting}
 use Rattle.ol_order.specs.Post.{State}
-use Rattle.ol_order.proofs.Flags.{first_zero, is_placed_lem, not_placed, place_state}
+use Rattle.ol_order.proofs.Flags.{first_waiting, flag_is, place_state}
 
 take_length : {A : Type 0} (l : List A) → take (length l) l ≡ l
 take_length [] = refl
@@ -31,16 +31,16 @@ module _ (qs : List Equation) where
   pass_turn k list h = ap (λ rs. pass qs k rs list) (drop-cons qs k no_equation h)
 
   -- w is what the pass gives, whose turn is at equation i; behind those placed, the entries are as they were before it
-  pub record Passing (w : List ℕ) (i : ℕ) (before placed order : List ℕ) (n : ℕ) : Type 0 where
+  pub record Passing (w : List ℕ) (i : ℕ) (before : List ℕ) (placed : List Bool) (order : List ℕ) (n : ℕ) : Type 0 where
     pub inside : i ≤ length qs
     pub is : w ≡ pass qs i (drop i qs) (take n order)
     pub state : State qs (take n order) placed order n
     pub behind : drop n order ≡ drop n before
 
-  pub passing_start : {placed order : List ℕ} {n : ℕ} → State qs (take n order) placed order n → Passing (pass qs 0 qs (take n order)) 0 order placed order n
+  pub passing_start : {placed : List Bool} {order : List ℕ} {n : ℕ} → State qs (take n order) placed order n → Passing (pass qs 0 qs (take n order)) 0 order placed order n
   passing_start st = record { inside = omega arith; is = refl; state = st; behind = refl }
 
-  module _ {w before placed order : List ℕ} {i n : ℕ} (ps : Passing w i before placed order n) where
+  module _ {w before : List ℕ} {placed : List Bool} {order : List ℕ} {i n : ℕ} (ps : Passing w i before placed order n) where
     pub passing_end : length qs ≤ i → State qs w placed order n × (drop n order ≡ drop n before)
     unfolding pass
     passing_end h =
@@ -58,9 +58,9 @@ module _ (qs : List Equation) where
           }
 
       -- it is placed already
-      pub passing_placed : (get_or placed i 0 ≡ 0 → ⊥) → Passing w (i + 1) before placed order n
+      pub passing_placed : get_or placed i false ≡ true → Passing w (i + 1) before placed order n
       passing_placed e =
-          let m = is_placed_lem ps.state i (omega (arith, ps.state.flagged)) e in
+          let m = flag_is ps.state i (omega (arith, ps.state.flagged)) e in
           stays _ refl (ap (λ b. not b && ready qs (take n order) (get_or qs i no_equation)) m)
 
       -- it waits
@@ -72,16 +72,16 @@ module _ (qs : List Equation) where
           and_false false = refl
 
       -- it is placed now
-      pub passing_ready : get_or placed i 0 ≡ 0 → ready qs (take n order) (get_or qs i no_equation) ≡ true → Passing w (i + 1) before (set placed i 1) (set order n i) (n + 1)
+      pub passing_ready : get_or placed i false ≡ false → ready qs (take n order) (get_or qs i no_equation) ≡ true → Passing w (i + 1) before (set placed i true) (set order n i) (n + 1)
       passing_ready e f =
           let b : i < length placed = omega (arith, ps.state.flagged) in
-          let m = not_placed ps.state i b e in
+          let m = flag_is ps.state i b e in
           let st = place_state ps.state i b e in
           let go : (not (member i (take n order)) && ready qs (take n order) (get_or qs i no_equation)) ≡ true = ap (λ c. not c && ready qs (take n order) (get_or qs i no_equation)) m ∙ f in
           record {
             inside = omega arith;
             is = rw (add-one i) (ps.is ∙ (pass_turn i (take n order) h ∙ (ap (λ c. pass qs (suc i) (drop (suc i) qs) (place qs c i (take n order))) go ∙ ap (pass qs (suc i) (drop (suc i) qs)) (sym st.front))));
-            state = subst (λ v. State qs v (set placed i 1) (set order n i) (n + 1)) (sym st.front) st;
+            state = subst (λ v. State qs v (set placed i true) (set order n i) (n + 1)) (sym st.front) st;
             behind = drop-set-lt (n + 1) order n i (omega arith) ∙ drop_further order before n (n + 1) (omega arith) ps.behind;
           }
 
@@ -107,7 +107,7 @@ module _ (qs : List Equation) where
   passes_step zero list h = absurd (omega arith)
   passes_step (suc k) list h = let one : suc k - 1 ≡ k = omega arith in rw one refl
 
-  pub length_list : {list placed order : List ℕ} {n : ℕ} → State qs list placed order n → length list ≡ n
+  pub length_list : {list : List ℕ} {placed : List Bool} {order : List ℕ} {n : ℕ} → State qs list placed order n → length list ≡ n
   length_list {list} {placed} {order} {n} st =
       let h : n ≤ length order = omega (arith, st.left, st.room) in
       ap length (sym st.front) ∙ length-take-le n order h
@@ -127,35 +127,35 @@ module _ (qs : List Equation) where
       let m : member i list ≡ true = subst (λ k. member k list ≡ true) z (h 0 (omega arith)) in
       ap (λ b. pass qs (suc i) rs (place qs (not b && ready qs list r) i list)) m ∙ pass_idle (suc i) rs list (λ j g. let y : i + suc j ≡ suc i + j = omega arith in subst (λ k. member k list ≡ true) y (h (suc j) (omega arith)))
 
-  -- no flag is 0 if their number is
-  no_nought : (ps : List ℕ) (j : ℕ) → zeros ps ≡ 0 → j < length ps → get_or ps j 0 ≡ 0 → ⊥
-  unfolding zeros
-  no_nought [] zero e h g = omega arith
-  no_nought [] (suc j) e h g = omega arith
-  no_nought (zero ∷ ps) zero e h g = omega arith
-  no_nought (zero ∷ ps) (suc j) e h g = omega arith
-  no_nought (suc x ∷ ps) zero e h g = omega arith
-  no_nought (suc x ∷ ps) (suc j) e h g = no_nought ps j e (omega arith) g
+  -- each is placed if none waits
+  none_waits : (ps : List Bool) (j : ℕ) → waiting ps ≡ 0 → j < length ps → get_or ps j false ≡ true
+  unfolding waiting
+  none_waits [] zero e h = absurd (omega arith)
+  none_waits [] (suc j) e h = absurd (omega arith)
+  none_waits (false ∷ ps) zero e h = absurd (omega arith)
+  none_waits (false ∷ ps) (suc j) e h = absurd (omega arith)
+  none_waits (true ∷ ps) zero e h = refl
+  none_waits (true ∷ ps) (suc j) e h = none_waits ps j e (omega arith)
 
-  full_idle : {list placed order : List ℕ} {n : ℕ} → State qs list placed order n → length qs ≤ n → pass qs 0 qs list ≡ list
+  full_idle : {list : List ℕ} {placed : List Bool} {order : List ℕ} {n : ℕ} → State qs list placed order n → length qs ≤ n → pass qs 0 qs list ≡ list
   full_idle {list} {placed} {order} {n} st h =
       pass_idle 0 qs list (λ j g.
       let b : j < length placed = omega (arith, st.flagged) in
       let z : 0 + j ≡ j = omega arith in
-      subst (λ k. member k list ≡ true) (sym z) (is_placed_lem st j b (no_nought placed j (omega (arith, st.left)) b)))
+      subst (λ k. member k list ≡ true) (sym z) (flag_is st j b (none_waits placed j (omega (arith, st.left)) b)))
 
   -- w is what some more passes give, as many as there are equations left or more; behind those placed, the entries are as they were before the first
-  pub record Passes (w before placed order : List ℕ) (n : ℕ) : Type 0 where
+  pub record Passes (w before : List ℕ) (placed : List Bool) (order : List ℕ) (n : ℕ) : Type 0 where
     pub left : ℕ
     pub enough : length qs ≤ n + left
     pub is : w ≡ passes qs left (take n order)
     pub state : State qs (take n order) placed order n
     pub behind : drop n order ≡ drop n before
 
-  renew : {list placed order : List ℕ} {n : ℕ} → State qs list placed order n → State qs (take n order) placed order n
+  renew : {list : List ℕ} {placed : List Bool} {order : List ℕ} {n : ℕ} → State qs list placed order n → State qs (take n order) placed order n
   renew {placed = placed} {order} {n} st = subst (λ v. State qs v placed order n) (sym st.front) st
 
-  module _ {w before placed order p o : List ℕ} {n m : ℕ} (ps : Passes w before placed order n) (u : n < length qs) (st : State qs (pass qs 0 qs (take n order)) p o m × (drop m o ≡ drop m order)) where
+  module _ {w before : List ℕ} {placed : List Bool} {order : List ℕ} {p : List Bool} {o : List ℕ} {n m : ℕ} (ps : Passes w before placed order n) (u : n < length qs) (st : State qs (pass qs 0 qs (take n order)) p o m × (drop m o ≡ drop m order)) where
     some_left : 0 < ps.left
     some_left = omega (arith, ps.enough)
 
@@ -191,77 +191,67 @@ module _ (qs : List Equation) where
         (subst (λ v. State qs w p o v) e (subst (λ v. State qs v p o m) f st.0), subst (λ v. drop v o ≡ drop v before) e still_behind)
 
   -- all are placed
-  pub passes_end : {w before placed order : List ℕ} {n : ℕ} → Passes w before placed order n → length qs ≤ n → State qs w placed order n × (drop n order ≡ drop n before)
+  pub passes_end : {w before : List ℕ} {placed : List Bool} {order : List ℕ} {n : ℕ} → Passes w before placed order n → length qs ≤ n → State qs w placed order n × (drop n order ≡ drop n before)
   passes_end {w} {before} {placed} {order} {n} ps h = (subst (λ v. State qs v placed order n) (sym (ps.is ∙ passes_idle ps.left (take n order) (full_idle ps.state h))) ps.state, ps.behind)
 
-  pub passes_start : {placed ord : List ℕ} → State qs [] placed ord 0 → Passes (order qs) ord placed ord 0
+  pub passes_start : {placed : List Bool} {ord : List ℕ} → State qs [] placed ord 0 → Passes (order qs) ord placed ord 0
   unfolding order
   passes_start st = record { left = length qs; enough = omega arith; is = refl; state = st; behind = refl }
 
 -- ---- the first that is not placed
 
-flag_on : (b : Bool) (x : ℕ) → suc x ≡ flag_of b → b ≡ true
-flag_on true x e = refl
-flag_on false x e = absurd (omega arith)
-
-flag_off : (b : Bool) → 0 ≡ flag_of b → b ≡ false
-flag_off true e = absurd (omega arith)
-flag_off false e = refl
-
 module _ (qs : List Equation) (list : List ℕ) where
   -- the flags of the equations from i on
-  abbrev FlagsFrom : ℕ → List ℕ → Type 0
-  FlagsFrom i ps = (j : ℕ) → j < length ps → get_or ps j 0 ≡ flag_of (member (i + j) list)
+  abbrev FlagsFrom : ℕ → List Bool → Type 0
+  FlagsFrom i ps = (j : ℕ) → j < length ps → get_or ps j false ≡ member (i + j) list
 
-  here : (i x : ℕ) (ps : List ℕ) → FlagsFrom i (x ∷ ps) → x ≡ flag_of (member i list)
-  here i x ps f = let z : i + 0 ≡ i = omega arith in f 0 (omega arith) ∙ ap (λ k. flag_of (member k list)) z
+  here : (i : ℕ) (x : Bool) (ps : List Bool) → FlagsFrom i (x ∷ ps) → member i list ≡ x
+  here i x ps f = let z : i + 0 ≡ i = omega arith in sym (f 0 (omega arith) ∙ ap (λ k. member k list) z)
 
-  there : (i x : ℕ) (ps : List ℕ) → FlagsFrom i (x ∷ ps) → FlagsFrom (suc i) ps
-  there i x ps f j h = let z : i + suc j ≡ suc i + j = omega arith in f (suc j) (omega arith) ∙ ap (λ k. flag_of (member k list)) z
+  there : (i : ℕ) (x : Bool) (ps : List Bool) → FlagsFrom i (x ∷ ps) → FlagsFrom (suc i) ps
+  there i x ps f j h = let z : i + suc j ≡ suc i + j = omega arith in f (suc j) (omega arith) ∙ ap (λ k. member k list) z
 
-  first_some_lem : (i : ℕ) (rs : List Equation) (ps : List ℕ) → length ps ≡ length rs → FlagsFrom i ps → first_zero ps < length ps → first_outside qs list i rs ≡ some (i + first_zero ps)
-  unfolding first_zero
+  first_some_lem : (i : ℕ) (rs : List Equation) (ps : List Bool) → length ps ≡ length rs → FlagsFrom i ps → first_waiting ps < length ps → first_outside qs list i rs ≡ some (i + first_waiting ps)
   first_some_lem i [] [] e f h = absurd (omega arith)
   first_some_lem i [] (x ∷ ps) e f h = absurd (omega arith)
   first_some_lem i (r ∷ rs) [] e f h = absurd (omega arith)
-  first_some_lem i (r ∷ rs) (zero ∷ ps) e f h =
+  first_some_lem i (r ∷ rs) (false ∷ ps) e f h =
       let z : i ≡ i + 0 = omega arith in
-      ap (λ b. outside_if b i (first_outside qs list (suc i) rs)) (flag_off (member i list) (here i zero ps f)) ∙ ap some z
-  first_some_lem i (r ∷ rs) (suc x ∷ ps) e f h =
-      let z : suc i + first_zero ps ≡ i + suc (first_zero ps) = omega arith in
-      ap (λ b. outside_if b i (first_outside qs list (suc i) rs)) (flag_on (member i list) x (here i (suc x) ps f))
-      ∙ (first_some_lem (suc i) rs ps (omega arith) (there i (suc x) ps f) (omega arith) ∙ ap some z)
+      ap (λ b. outside_if b i (first_outside qs list (suc i) rs)) (here i false ps f) ∙ ap some z
+  first_some_lem i (r ∷ rs) (true ∷ ps) e f h =
+      let z : suc i + first_waiting ps ≡ i + (1 + first_waiting ps) = omega arith in
+      ap (λ b. outside_if b i (first_outside qs list (suc i) rs)) (here i true ps f)
+      ∙ (first_some_lem (suc i) rs ps (omega arith) (there i true ps f) (omega arith) ∙ ap some z)
 
-  first_none : (i : ℕ) (rs : List Equation) (ps : List ℕ) → length ps ≡ length rs → FlagsFrom i ps → length ps ≤ first_zero ps → first_outside qs list i rs ≡ none
-  unfolding first_zero
+  first_none : (i : ℕ) (rs : List Equation) (ps : List Bool) → length ps ≡ length rs → FlagsFrom i ps → length ps ≤ first_waiting ps → first_outside qs list i rs ≡ none
   first_none i [] [] e f h = refl
   first_none i [] (x ∷ ps) e f h = absurd (omega arith)
   first_none i (r ∷ rs) [] e f h = absurd (omega arith)
-  first_none i (r ∷ rs) (zero ∷ ps) e f h = absurd (omega arith)
-  first_none i (r ∷ rs) (suc x ∷ ps) e f h =
-      ap (λ b. outside_if b i (first_outside qs list (suc i) rs)) (flag_on (member i list) x (here i (suc x) ps f))
-      ∙ first_none (suc i) rs ps (omega arith) (there i (suc x) ps f) (omega arith)
+  first_none i (r ∷ rs) (false ∷ ps) e f h = absurd (omega arith)
+  first_none i (r ∷ rs) (true ∷ ps) e f h =
+      ap (λ b. outside_if b i (first_outside qs list (suc i) rs)) (here i true ps f)
+      ∙ first_none (suc i) rs ps (omega arith) (there i true ps f) (omega arith)
 
-no_zeros : (ps : List ℕ) → length ps ≤ first_zero ps → zeros ps ≡ 0
-unfolding zeros first_zero
-no_zeros [] h = refl
-no_zeros (zero ∷ ps) h = absurd (omega arith)
-no_zeros (suc x ∷ ps) h = no_zeros ps (omega arith)
+all_flagged : (ps : List Bool) → length ps ≤ first_waiting ps → waiting ps ≡ 0
+unfolding waiting
+all_flagged [] h = refl
+all_flagged (false ∷ ps) h = absurd (omega arith)
+all_flagged (true ∷ ps) h = all_flagged ps (omega arith)
 
-module _ {qs : List Equation} {placed ord : List ℕ} {n : ℕ} (st : State qs (order qs) placed ord n) where
+module _ {qs : List Equation} {placed : List Bool} {ord : List ℕ} {n : ℕ} (st : State qs (order qs) placed ord n) where
   from_zero : FlagsFrom qs (order qs) 0 placed
-  from_zero j h = let z : j ≡ 0 + j = omega arith in st.flags j h ∙ ap (λ k. flag_of (member k (order qs))) z
+  from_zero j h = let z : j ≡ 0 + j = omega arith in st.flags j h ∙ ap (λ k. member k (order qs)) z
 
-  pub unplaced_some : first_zero placed < length placed → unplaced qs ≡ some (first_zero placed)
+  pub unplaced_some : first_waiting placed < length placed → unplaced qs ≡ some (first_waiting placed)
   unfolding unplaced
-  unplaced_some h = let z : 0 + first_zero placed ≡ first_zero placed = omega arith in first_some_lem qs (order qs) 0 qs placed st.flagged from_zero h ∙ ap some z
+  unplaced_some h = let z : 0 + first_waiting placed ≡ first_waiting placed = omega arith in first_some_lem qs (order qs) 0 qs placed st.flagged from_zero h ∙ ap some z
 
-  pub unplaced_none : length placed ≤ first_zero placed → unplaced qs ≡ none
+  pub unplaced_none : length placed ≤ first_waiting placed → unplaced qs ≡ none
   unfolding unplaced
   unplaced_none h = first_none qs (order qs) 0 qs placed st.flagged from_zero h
 
   -- all are placed: the whole list is the order
-  pub all_placed : length placed ≤ first_zero placed → ord ≡ order qs
+  pub all_placed : length placed ≤ first_waiting placed → ord ≡ order qs
   all_placed h =
-      let z : n ≡ length ord = omega (arith, no_zeros placed h, st.left, st.room) in
+      let z : n ≡ length ord = omega (arith, all_flagged placed h, st.left, st.room) in
       sym (take_length ord) ∙ (ap (λ k. take k ord) (sym z) ∙ st.front)

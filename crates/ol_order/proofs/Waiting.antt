@@ -14,9 +14,9 @@ use Rattle.ol_spec.specs.Order.{reads, definer, ready}
 use Rattle.ol_spec.proofs.Ordering.{definer_inside}
 use Rattle.ol_order.specs.Tables.{no_equation, with_definer, definers_of, waited, waited_all, bounds}
 use Rattle.ol_order.specs.Post.{Waits, State}
-use Rattle.std.specs.Prelude.{All, ◌≢◌}
+use Rattle.std.specs.Prelude.{All, IsTrue}
 use Rattle.std.proofs.lemmas.List.Elements.{All-nil, All-cons, All-head, All-tail}
-use Rattle.ol_order.proofs.Flags.{is_placed_lem, placed_flag}
+use Rattle.ol_order.proofs.Flags.{flag_is}
 
 -- ---- one list
 
@@ -76,31 +76,31 @@ module _ {qs : List Equation} {lists begins : List ℕ} (w : Waits qs lists begi
   pub its_below : All (λ d. d < length qs) its
   its_below = below_all (length qs) its (subst (Below (length qs)) (sym its_waited) (waited_below qs (get_or qs k no_equation)))
 
-  module _ {list placed order : List ℕ} {n : ℕ} (st : State qs list placed order n) where
+  module _ {list : List ℕ} {placed : List Bool} {order : List ℕ} {n : ℕ} (st : State qs list placed order n) where
     is_ready : ready qs list (get_or qs k no_equation) ≡ all_of (is_placed qs list) its
     is_ready = ready_waited qs list (get_or qs k no_equation) ∙ ap (all_of (is_placed qs list)) (sym its_waited)
 
-    all_there : (xs : List ℕ) → All (λ d. d < length qs) xs → All (λ d. get_or placed d 0 ≢ 0) xs → all_of (is_placed qs list) xs ≡ true
+    all_there : (xs : List ℕ) → All (λ d. d < length qs) xs → All (λ d. IsTrue (get_or placed d false)) xs → all_of (is_placed qs list) xs ≡ true
     all_there [] b a = refl
     all_there (x ∷ xs) b a =
-        ap (λ c. c && all_of (is_placed qs list) xs) (is_placed_lem st x (omega (arith, All-head (λ d. d < length qs) x xs b, st.flagged)) (All-head (λ d. get_or placed d 0 ≢ 0) x xs a))
-        ∙ all_there xs (All-tail (λ d. d < length qs) x xs b) (All-tail (λ d. get_or placed d 0 ≢ 0) x xs a)
+        ap (λ c. c && all_of (is_placed qs list) xs) (flag_is st x (omega (arith, All-head (λ d. d < length qs) x xs b, st.flagged)) (All-head (λ d. IsTrue (get_or placed d false)) x xs a))
+        ∙ all_there xs (All-tail (λ d. d < length qs) x xs b) (All-tail (λ d. IsTrue (get_or placed d false)) x xs a)
 
-    all_flagged : (xs : List ℕ) → All (λ d. d < length qs) xs → all_of (is_placed qs list) xs ≡ true → All (λ d. get_or placed d 0 ≢ 0) xs
-    all_flagged [] b e = All-nil (λ d. get_or placed d 0 ≢ 0)
+    all_flagged : (xs : List ℕ) → All (λ d. d < length qs) xs → all_of (is_placed qs list) xs ≡ true → All (λ d. IsTrue (get_or placed d false)) xs
+    all_flagged [] b e = All-nil (λ d. IsTrue (get_or placed d false))
     all_flagged (x ∷ xs) b e =
         let f = both (member x list) (all_of (is_placed qs list) xs) e in
-        All-cons (λ d. get_or placed d 0 ≢ 0) x xs (placed_flag st x (omega (arith, All-head (λ d. d < length qs) x xs b, st.flagged)) f.0) (all_flagged xs (All-tail (λ d. d < length qs) x xs b) f.1)
+        All-cons (λ d. IsTrue (get_or placed d false)) x xs (st.flags x (omega (arith, All-head (λ d. d < length qs) x xs b, st.flagged)) ∙ f.0) (all_flagged xs (All-tail (λ d. d < length qs) x xs b) f.1)
       where
         both : (a b : Bool) → (a && b) ≡ true → (a ≡ true) × (b ≡ true)
         both true b e = (refl, e)
         both false b e = let z : ◌≡◌ {A = ℕ} 0 1 = cc in absurd (omega arith)
 
     -- it is ready if all in its list are placed
-    pub ready_all : All (λ d. get_or placed d 0 ≢ 0) its → ready qs list (get_or qs k no_equation) ≡ true
+    pub ready_all : All (λ d. IsTrue (get_or placed d false)) its → ready qs list (get_or qs k no_equation) ≡ true
     ready_all a = is_ready ∙ all_there its its_below a
 
-    pub ready_not : (All (λ d. get_or placed d 0 ≢ 0) its → ⊥) → ready qs list (get_or qs k no_equation) ≡ false
+    pub ready_not : (All (λ d. IsTrue (get_or placed d false)) its → ⊥) → ready qs list (get_or qs k no_equation) ≡ false
     ready_not a = is_ready ∙ go (all_of (is_placed qs list) its) refl
       where
         go : (b : Bool) → all_of (is_placed qs list) its ≡ b → b ≡ false

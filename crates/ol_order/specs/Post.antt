@@ -1,5 +1,5 @@
 -- What the functions of the ordering ask and give.
-use Rattle.std.specs.Prelude.{ℕ, suc, ◌+◌, ◌-◌, ◌≤◌, ◌<◌, Bool, true, List, map, ◌≡◌, length, get_or, take, drop, Result, Ok, Err}
+use Rattle.std.specs.Prelude.{ℕ, suc, ◌+◌, ◌-◌, ◌≤◌, ◌<◌, Bool, true, false, List, map, ◌≡◌, length, get_or, take, drop, Result, Ok, Err}
 use Rattle.std.proofs.Math.Option.{none}
 use Rattle.std.proofs.lemmas.List.Edits.{sets}
 use Rattle.ol_spec.specs.Lists.{member}
@@ -7,7 +7,7 @@ use Rattle.ol_spec.specs.Syntax.{Equation}
 use Rattle.ol_spec.specs.Read.{got, equation_r, node_r}
 use Rattle.ol_spec.specs.Order.{definer, order, unplaced}
 use Rattle.ol_spec.specs.declared.Limits.{Limits}
-use Rattle.ol_order.specs.Tables.{is_got, key_of, keyed, no_equation, node_at, definer_code, as_error, waited, flag_of, zeros}
+use Rattle.ol_order.specs.Tables.{is_got, key_of, keyed, no_equation, node_at, definer_code, as_error, waited, waiting}
 
 -- an equation is read at each of these places
 pub record Readable (s : List ℕ) (l : Limits) (enums : ℕ) (starts : List ℕ) : Type 0 where
@@ -46,15 +46,15 @@ pub record Listed (lists begins order : List ℕ) : Type 0 where
   pub few : length equations ≤ 80
 
 -- The first n entries of `order` are the list of those placed, and each equation has its flag.
-pub record State (qs : List Equation) (list placed order : List ℕ) (n : ℕ) : Type 0 where
+pub record State (qs : List Equation) (list : List ℕ) (placed : List Bool) (order : List ℕ) (n : ℕ) : Type 0 where
   pub front : take n order ≡ list
-  pub flags : (j : ℕ) → j < length placed → get_or placed j 0 ≡ flag_of (member j list)
+  pub flags : (j : ℕ) → j < length placed → get_or placed j false ≡ member j list
   pub flagged : length placed ≡ length qs
   pub room : length order ≡ length qs
-  pub left : n + zeros placed ≡ length qs
+  pub left : n + waiting placed ≡ length qs
 
 -- the lists of some equations, of which the first `done` entries of `order` are placed
-pub record Waiting (lists begins placed order : List ℕ) (done : ℕ) : Type 0 where
+pub record Waiting (lists begins : List ℕ) (placed : List Bool) (order : List ℕ) (done : ℕ) : Type 0 where
   pub equations : List Equation
   pub waits : Waits equations lists begins
   pub state : State equations (take done order) placed order done

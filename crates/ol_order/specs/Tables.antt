@@ -124,14 +124,11 @@ bounds qs n (r ∷ rs) = n ∷ bounds qs (n + length (waited qs r)) rs
 
 -- ---- the flags of the placed equations
 
-abbrev pub flag_of : Bool → ℕ
-flag_of true = 1
-flag_of false = 0
-
-unfoldable pub zeros : List ℕ → ℕ
-zeros [] = 0
-zeros (zero ∷ l) = suc (zeros l)
-zeros (suc n ∷ l) = zeros l
+-- how many are not placed
+unfoldable pub waiting : List Bool → ℕ
+waiting [] = 0
+waiting (false ∷ l) = suc (waiting l)
+waiting (true ∷ l) = waiting l
 
 -- ---- the answer
 

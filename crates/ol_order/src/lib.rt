@@ -6,7 +6,7 @@ mod lookup; // lookup.rt: the equation that defines a name
 pub mod table; // table.rt: the orders of all nodes of a file
 pub mod counts; // counts.rt: how many equations a node has
 
-ghost use Rattle.std.specs.Prelude.{List, [], map, ◌≡◌, ◌≢◌, ◌↔◌, ℕ, ◌≤◌, ◌<◌, length, get_or, take, drop, All, IsTrue, slice_index, position, ◌==◌};
+ghost use Rattle.std.specs.Prelude.{List, [], map, ◌≡◌, ◌↔◌, ℕ, ◌≤◌, ◌<◌, length, get_or, take, drop, All, IsTrue, false, not, position};
 ghost use Rattle.std.proofs.Math.Option.{some};
 ghost use Rattle.std.proofs.lemmas.List.Edits.{sets};
 ghost use Rattle.ol_spec.specs.Syntax.{Equation};
@@ -64,11 +64,11 @@ fn define_all(file: &[u8], most: usize, starts: &[usize], definers: &mut [u8])
 }
 
 // Whether all these are placed.
-fn all_placed(waits: &[u8], placed: &[u8]) -> bool
+fn all_placed(waits: &[u8], placed: &[bool]) -> bool
     requires { All (λ d. d < length placed.now) waits.now }
-    ensures { IsTrue result ↔ All (λ d. slice_index placed.now d ≢ 0) waits.now }
+    ensures { IsTrue result ↔ All (λ d. IsTrue (get_or placed.now d false)) waits.now }
 {
-    waits.iter().all(|d| placed[usize::from(*d)] != 0)
+    waits.iter().all(|d| placed[usize::from(*d)])
 }
 
 // One pass over the equations in file order: each that waits for none is placed. Behind those placed,
@@ -76,7 +76,7 @@ fn all_placed(waits: &[u8], placed: &[u8]) -> bool
 fn pass(
     lists: &[u8],
     begins: &[usize],
-    placed: &mut [u8],
+    placed: &mut [bool],
     order: &mut [usize],
     done: usize,
 ) -> usize
@@ -86,8 +86,8 @@ fn pass(
 {
     let mut n = done;
     for k in 0..placed.len() {
-        if placed[k] == 0 && all_placed(&lists[begins[k]..begins[k + 1]], placed) {
-            placed[k] = 1;
+        if !placed[k] && all_placed(&lists[begins[k]..begins[k + 1]], placed) {
+            placed[k] = true;
             order[n] = k;
             n += 1;
         }
@@ -97,7 +97,7 @@ fn pass(
 
 // Passes until all are placed or one places none: how many are placed. Behind those, the entries of
 // `order` stay.
-fn passes(lists: &[u8], begins: &[usize], placed: &mut [u8], order: &mut [usize]) -> usize
+fn passes(lists: &[u8], begins: &[usize], placed: &mut [bool], order: &mut [usize]) -> usize
     requires { Waiting lists.now begins.now placed.old order.old 0 }
     ensures placed { (qs : List Equation) → Waits qs lists.now begins.now → State qs [] placed.old order.old 0 → State qs (in_order qs) placed.new order.new result }
     ensures behind { drop result order.new ≡ drop result order.old }
@@ -114,20 +114,20 @@ fn passes(lists: &[u8], begins: &[usize], placed: &mut [u8], order: &mut [usize]
 }
 
 // The first that is not placed.
-fn first_unplaced(placed: &[u8]) -> Option<usize>
-    ensures { result ≡ position (λ flag. flag == 0) placed.now }
+fn first_unplaced(placed: &[bool]) -> Option<usize>
+    ensures { result ≡ position not placed.now }
 {
-    placed.iter().position(|flag| *flag == 0)
+    placed.iter().position(|p| !*p)
 }
 
-// Places the equations whose lists these are; an error is the first that is never placed. The buffer gets the
-// order of those placed. How many there are is known at the run only, and there is no heap: this file's
-// buffers have the most, and a part of each is lent.
+// Places the equations whose lists these are; an error is the first that is never placed. The buffer gets
+// the order of those placed. How many there are is known at the run only, and there is no heap: this
+// file's buffers have the most, and a part of each is lent.
 fn place(lists: &[u8], begins: &[usize], order: &mut [usize]) -> Result<(), usize>
     requires { Listed lists.now begins.now order.old }
     ensures { (qs : List Equation) → Waits qs lists.now begins.now → Sorts qs order.old order.new result }
 {
-    let mut flags = [0u8; 80];
+    let mut flags = [false; 80];
     let placed = &mut flags[..order.len()];
     passes(lists, begins, placed, order);
     match first_unplaced(placed) {
@@ -137,8 +137,8 @@ fn place(lists: &[u8], begins: &[usize], order: &mut [usize]) -> Result<(), usiz
 }
 
 // Places the equations, with a table in which no name has a definer yet, and room for all definers
-// that they wait for; an error is the first that is never placed. The buffer gets the order of those placed, the
-// table and the lists the definers.
+// that they wait for; an error is the first that is never placed. The buffer gets the order of those
+// placed, the table and the lists the definers.
 pub(crate) fn sort(
     equations: Equations,
     low: bool,

@@ -22,8 +22,8 @@ pub(crate) struct Lookup<'f, 's, 't> {
     ghost told: { Definers (those equations) low definers.now },
 }
 
-// An entry of the table: 255 stands for none. There is no heap, and the table is on the stack: an entry
-// is a byte, and an Option of one takes two.
+// An entry of the table: 255 stands for none. An Option of a byte takes two bytes, and each call clears the
+// whole table for each node.
 fn definer(definers: &[u8], x: usize) -> Option<usize>
     ensures { result ≡ entry_of (get_or definers.now x 255) }
 {
