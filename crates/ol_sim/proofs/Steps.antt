@@ -37,7 +37,6 @@ use Rattle.ol_order.specs.Orders.{Ring, ring_place, NodesStand, Planned, NodePla
 use Rattle.ol_run.specs.Constants.{ConstantsAre}
 use Rattle.ol_tables.specs.Table.{tab_of}
 use Rattle.std.specs.Prelude.{Result, Ok, Err}
-use Rattle.std.specs.Prelude as Std
 use Rattle.std.specs.Result.{result_err}
 use Rattle.ol_check.specs.Founds as Founds
 use Rattle.ol_ir.specs.Walks as Walks
