@@ -7,13 +7,14 @@ ghost use Rattle.ol_tables.specs.Numbers.{numbers};
 ghost use Rattle.ol_check.specs.Judging.{unseen_b, slot_of_entry, slot_put, slot_head, may_b, bad_b, called_b, outputs_b, arity_b, findings, var_found, call_found, Walked};
 ghost use Rattle.ol_check.specs.Judging.{taken_b, NamesDefined, lone_b, other_b, RootJudged, EquationWalked, seen_in, EquationsReady, EquationsJudged, Planned};
 
-use super::names::{LAST_VARIABLE, NO_ENTRY, VARIANT};
-use super::size::{FUNCTION, IMPORTED, OPERATOR, capped, site};
+use super::names::{LAST_VARIABLE, NO_ENTRY};
+use super::size::{capped, site};
 use super::{Faults, mark};
 use ol_tables::bytes::{byte, name, put_byte, put_two};
 use ol_tables::form::Form;
 use ol_tables::heads::head;
-use ol_tables::tables::FileRows;
+use ol_tables::kind::NodeKind;
+use ol_tables::tables::{FileRows, VARIANT};
 
 // What the expressions of a node are judged by: the file, the table by name, the rows of its nodes, how many there are, and the node's number.
 #[derive(Clone, Copy)]
@@ -44,7 +45,8 @@ fn slot(e: usize) -> u8
 fn may_call(caller: usize, callee: usize) -> bool
     ensures { result ≡ may_b caller callee }
 {
-    !matches!((caller, callee), (_, IMPORTED) | (FUNCTION, OPERATOR))
+    !NodeKind::Imported.is(callee)
+        && !(NodeKind::Function.is(caller) && NodeKind::Operator.is(callee))
 }
 
 // Whether a call of node `c` with so many arguments in node `node` is faulted.

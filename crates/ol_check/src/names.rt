@@ -5,16 +5,15 @@ ghost use Rattle.ol_check.specs.Entries.{declared, forgot, declare_all, variant_
 
 use super::rows::names_end;
 use ol_tables::bytes::{byte, name, put_byte};
+use ol_tables::tables::VARIANT;
 
-// Entries of the table by name: none, the last of a variable, the first of a constant, and a variant's.
+// Entries of the table by name: none, the last of a variable, and the first of a constant; a variant's is VARIANT (ol_tables).
 // An enum of entries is no plainer: a slot is the entry less one for both kinds, and each byte would be made into an enum and taken apart at once.
 pub(crate) const NO_ENTRY: usize = 0;
 
 pub(crate) const LAST_VARIABLE: usize = 112;
 
 pub(crate) const FIRST_CONSTANT: usize = 113;
-
-pub(crate) const VARIANT: usize = 255;
 
 // Enters a name, unless it has an entry.
 pub(crate) fn declare(names: &mut [u8], x: usize, e: u8)

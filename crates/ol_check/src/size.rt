@@ -12,14 +12,8 @@ ghost use Rattle.ol_check.specs.Sizes.{StateSized};
 
 use ol_tables::bytes::byte;
 use ol_tables::form::Form;
+use ol_tables::kind::NodeKind;
 use ol_tables::tables::FileRows;
-
-// The codes of a node's kinds.
-pub(crate) const FUNCTION: usize = 0;
-
-pub(crate) const OPERATOR: usize = 1;
-
-pub(crate) const IMPORTED: usize = 2;
 
 // Fault 14: the last node is no Operator.
 pub fn not_operator(file: &[u8], rows: &FileRows, nodes: usize) -> Option<usize>
@@ -27,7 +21,7 @@ pub fn not_operator(file: &[u8], rows: &FileRows, nodes: usize) -> Option<usize>
     ensures { place_of result ≡ fault14 (file_at file.now) }
 {
     let last = rows.node(nodes - 1);
-    if last.kind == OPERATOR {
+    if NodeKind::Operator.is(last.kind) {
         None
     } else {
         Some(last.place)
@@ -57,7 +51,7 @@ pub(crate) fn site(file: &[u8], rows: &FileRows, nodes: usize, at: usize) -> usi
 pub(crate) fn record_size(kind: usize, size: usize) -> usize
     ensures { result ≡ record_by kind size }
 {
-    if kind == OPERATOR { size } else { 0 }
+    if NodeKind::Operator.is(kind) { size } else { 0 }
 }
 
 // The state's length, up to 65536: the constants' cells, then an instance of the last node, which

@@ -28,11 +28,9 @@ use ol_spec::Outcome;
 use ol_state::fresh::write_fresh;
 use ol_tables::form::Form;
 use ol_tables::heads::{head, ty_size};
+use ol_tables::kind::NodeKind;
 use ol_tables::tables::{COUNT, INPUTS, KIND, OUTPUTS, SIZE, VARIABLES};
 use ol_value::cell::write_cell;
-
-// The kind of an Operator in a node's row.
-const OPERATOR: usize = 1;
 
 // ---- expressions
 
@@ -424,7 +422,7 @@ fn step_site(
     ensures { SiteTo file.now (consts_of tab.now) k args.old old.now result args.new new.new × (length args.new ≡ length args.old) }
 {
     let mut frame = Frame::new();
-    if row(tab, k, KIND) == OPERATOR {
+    if NodeKind::Operator.is(row(tab, k, KIND)) {
         step_instance(file, tab, k, args, &mut frame, old, new)
     } else {
         call_function(file, tab, k, args, &mut frame, old, new)

@@ -29,7 +29,7 @@ use Rattle.ol_tables.proofs.Forms.{arrow_form, binary_form, cast_form, if_form, 
 use Rattle.ol_tables.proofs.Lending.{length_put, put_tail, tail_all, tail_of}
 use Rattle.ol_tables.specs.declared.form.Form.TheVariants as Frm
 use Rattle.ol_tables.proofs.FormLaws.{form_is}
-use borrow.Author.Tests.{true-eqb}
+use borrow.Author.Tests.{eqb-true, eqb-false, true-eqb}
 use Rattle.ol_tables.specs.At.{end_at, expr_at, node_in}
 use Rattle.ol_tables.specs.Heads.{next_at, parts_at}
 use Rattle.ol_tables.specs.Table.{consts_of, rows_of, tab_of}
@@ -2140,12 +2140,12 @@ step_site-row-requires t c =
 pub step_site-step_instance-requires : goal.step_site-step_instance-requires
 step_site-step_instance-requires t c =
     let h = c.requires in
-    (omega arith, (h, is_operator_lem h c.row.result c.row.ensures c.if-row-eq-OPERATOR.true))
+    (omega arith, (h, is_operator_lem h c.row.result c.row.ensures (eqb-true _ 1 (sym c.is.ensures ∙ c.if-is.true))))
 
 pub step_site-call_function-requires : goal.step_site-call_function-requires
 step_site-call_function-requires t c =
     let h = c.requires in
-    (omega arith, (h, is_function h c.row.result c.row.ensures c.if-row-eq-OPERATOR.false))
+    (omega arith, (h, is_function h c.row.result c.row.ensures (eqb-false _ 1 (sym c.is.ensures ∙ c.if-is.false))))
 
 pub tuple_equation-eval_all-r-requires : goal.tuple_equation-eval_all-r-requires
 tuple_equation-eval_all-r-requires t c =
