@@ -161,7 +161,7 @@ fn count_rows(streams: Streams, text: &[u8]) -> Counts
     }
 }
 
-// Reads the next rows, at most 64, and counts them.
+// Reads the next rows, at most 64, and counts them. How many bytes there are is known at the run only: the buffer has the most.
 fn check_block(streams: Streams) -> Counts
     ensures { Checked result }
 {

@@ -71,7 +71,7 @@ impl Reader<'_> {
     }
 
     // So many expressions of at most `level` levels, one after the other. The parts of the last one
-    // are read in its place.
+    // are read in its place. No count of an index: each head adds its parts to what is left.
     pub(crate) fn exprs(&self, level: usize, count: usize, at: usize) -> Result<usize, Fault>
         ensures { result ≡ next_of (many_exprs count (expr_r self.now.file.now self.now.limits.now self.now.enums level) at) }
     {

@@ -32,6 +32,7 @@ pub struct Loaded {
     pub nodes: usize,
 }
 
+// No Result: both are heads, each with what the scan goes on with, and none is a failure.
 // What a scan for reads finds at an expression: a Var's name, or how many parts are left to scan,
 // and where the scan goes on.
 #[derive(Clone, Copy)]

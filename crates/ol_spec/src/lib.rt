@@ -65,7 +65,7 @@ pub struct Limits {
     pub state: usize,
 }
 
-// A fault's number, and its place.
+// A fault's number, and its place. The number stays one: the C interface and the line program answer it as it is (docs/FORMAT.md, "Faults").
 #[derive(Clone, Copy, PartialEq, Eq)]
 pub struct Fault {
     pub number: u8,

@@ -21,7 +21,7 @@ pub enum Form {
 }
 
 impl Form {
-    // The form of the expression at `at`. A byte that is no code, which no file has there that reads without fault, is taken as a Tuple's.
+    // The form of the expression at `at`; that it is in the file is asked, since each caller has just tested it. A byte that is no code, which no file has there that reads without fault, is taken as a Tuple's.
     pub fn at(file: &[u8], at: usize) -> Form
         requires { at < length file.now }
         ensures { min (get_or file.now at 0) 12 ≡ code_of_form result }

@@ -5,6 +5,7 @@ ghost use Rattle.ol_tables.specs.Walks.{HeadOf, skip_at, Calls};
 
 use super::bytes::byte;
 use super::form::Form;
+use ol_spec::type_codes::ENUM;
 
 // How many parts an expression has, and where they start.
 #[derive(Clone, Copy)]
@@ -17,7 +18,11 @@ pub struct Parts {
 pub fn ty_size(file: &[u8], at: usize) -> usize
     ensures { result ≡ ty_size_at file.now at }
 {
-    if byte(file, at) == 12 { 2 } else { 1 }
+    if byte(file, at) == usize::from(ENUM) {
+        2
+    } else {
+        1
+    }
 }
 
 // The head of the expression at `at`, in the file. The numbers are those of parts_table and sizes_table
@@ -56,7 +61,8 @@ pub fn head(file: &[u8], at: usize) -> Parts
     }
 }
 
-// Where the expressions end that stand at `at`, so many one after the other.
+// Where the expressions end that stand at `at`, so many one after the other. No count: each head adds its parts to what is left. The loop stands here, in
+// `next_call` and in ol_check's `walk`, which each do something else at a head: one walk would lend what they change to a closure, and say at each step what it holds.
 pub fn skip(file: &[u8], parts: usize, at: usize) -> usize
     ensures { result ≡ skip_at file.now parts at }
 {
@@ -79,6 +85,7 @@ pub struct Call {
 }
 
 // What looking for the next call finds: a call, or where the expressions end.
+// No Result: that the expressions end is no failure, and where they end is what the caller goes on from.
 #[derive(Clone, Copy)]
 pub enum NextCall {
     Found(Call),

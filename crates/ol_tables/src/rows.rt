@@ -1,5 +1,6 @@
 // The rows of a file, read and stored.
 ghost use Rattle.std.specs.Prelude.{◌≡◌, ◌+◌, ◌*◌, ◌<◌, set};
+ghost use Rattle.std.proofs.Math.ListN.{replicate};
 ghost use Rattle.std.proofs.lemmas.List.Edits.{sets};
 ghost use Rattle.ol_tables.specs.Tables.{first_at};
 ghost use Rattle.ol_tables.specs.Numbers.{row_numbers, numbers, RowIs};
@@ -8,7 +9,7 @@ use super::tables::{FileRows, Row};
 
 impl Row {
     // Its numbers, in the order of the columns.
-    pub fn numbers(&self) -> [usize; 8]
+    pub(crate) fn numbers(&self) -> [usize; 8]
         ensures { result ≡ row_numbers self.now }
     {
         [
@@ -26,7 +27,9 @@ impl Row {
 
 impl FileRows {
     // Rows of zeros.
-    pub fn new() -> FileRows {
+    pub fn new() -> FileRows
+        ensures { numbers result ≡ replicate 272 0 }
+    {
         let row = Row {
             kind: 0,
             equations: 0,

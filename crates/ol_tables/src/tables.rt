@@ -33,7 +33,7 @@ pub const MOST_EQUATIONS: usize = 80;
 
 pub const MOST_CELLS: usize = 1008;
 
-// A node's row.
+// A node's row. The kind stays a code: rows are packed as numbers, and each use asks for one kind only (`NodeKind::is`).
 #[derive(Clone, Copy)]
 pub struct Row {
     pub kind: usize,

@@ -74,7 +74,7 @@ fn next_row(streams: Streams, row: &mut [u64])
 
 // ---- a question
 
-// What a reading or an ordering answers, as the list has it.
+// What a reading or an ordering answers, as the list has it: number 0 for no fault.
 fn answer(r: Result<(), Fault>) -> Fault
     ensures { result ≡ sorted_fault r }
 {
