@@ -27,12 +27,12 @@ use Rattle.ol_tables.specs.At.{file_at, node_in, expr_at, end_at, exprs_at}
 use Rattle.ol_tables.specs.Tables.{Each, ty_code, ty_enum}
 use Rattle.ol_tables.specs.Parts.{Proper}
 use Rattle.ol_tables.proofs.Forms.{parted, reads_end, each_join, each_map}
-use Rattle.ol_frame.specs.Walk.{nodes_in, sizes_in, Below, Passable}
+use Rattle.ol_frame.specs.Walk.{nodes_in, sizes_in}
 use Rattle.ol_frame.specs.Plans.{known_in, globals_in, scope_in, width_in, seg_at, eval_in}
 use Rattle.ol_eval.specs.Post.{Ready, EvalsTo}
 use Rattle.ol_run.specs.Constants.{Never, ConstantReady, ConstantsReady, ConstantsAre, SameTables, no_constant, constant_at, value_at, constant_out}
 use Rattle.ol_tables.specs.Table.{tab_of, rows_of, known_of, consts_of}
-use Rattle.ol_run.proofs.Tabled.{known_set, consts_set, rows_set, tab_set, cell_put, rows_put, tab_put, put_long, put_known, kept_cells, more_cells}
+use Rattle.ol_run.proofs.Tabled.{known_set, consts_set, rows_set, tab_set, cell_put, rows_put, tab_put, put_long, more_cells}
 use Rattle.ol_frame.specs.Nodes.{Enters}
 use Rattle.ol_eval.specs.declared.eval.Step.{Step}
 use Rattle.ol_frame.proofs.Passing.{callees_one}
@@ -109,19 +109,6 @@ module _ {file tab rows : List ℕ} where
   pub place_of : (i : ℕ) → ConstantReady file tab rows i → (e code : ℕ) → code ≡ get_or file ((constant_at file i).0 + 2) 0 → e ≡ (constant_at file i).0 + 2 + cond (eqb code 12) 2 1 → e ≡ value_at file i
   place_of i p e code ce h =
       h ∙ ap (λ (k : ℕ). (constant_at file i).0 + 2 + k) (ap (λ (d : ℕ). cond (eqb d 12) 2 1) (ce ∙ sym p.code) ∙ sym (size_code (constant_at file i).1.ty p.proper))
-
-  -- it can be passed over
-  pub constant_passable : (i : ℕ) → ConstantReady file tab rows i → Passable file rows 24 1 (value_at file i)
-  constant_passable i p =
-      record {
-        sized = p.program.sized;
-        reads = p.reads;
-        below = each_map Never (Below (nodes_in file)) (λ c n. absurd n) (callees_all (exprs_at file 24 1 (value_at file i))) p.closed;
-        room = omega (arith, no_bytes (sizes_in file) (callees_all (exprs_at file 24 1 (value_at file i))) p.closed);
-      }
-
-  pub value_place_lem : (consts : List ℕ) → ConstantReady file tab rows (known_in consts) → (e code : ℕ) → code ≡ get_or file ((constant_at file (known_in consts)).0 + 2) 0 → e ≡ (constant_at file (known_in consts)).0 + 2 + cond (eqb code 12) 2 1 → e ≡ value_at file (known_in consts)
-  value_place_lem consts p e code ce h = place_of (known_in consts) p e code ce h
 
 -- ---- all constants, one after the other
 
@@ -208,27 +195,6 @@ module _ {file t₀ : List ℕ} {nodes at count : ℕ} (p : ConstantsReady file 
   pub going_ready : {pos i : ℕ} (t : List ℕ) → Going file t₀ t count pos i → i < count → ConstantReady file (tab_of t) (rows_of t) (known_in (consts_of t)) × (pos ≡ (constant_at file (known_in (consts_of t))).0)
   going_ready {pos} {i} t g l =
       rw (known_is g) (ready_same g.same (p.each i (omega (arith, p.counted))), g.place l)
-
-  -- its cell is written, and not counted yet
-  pub going_written : {t new : List ℕ} {pos i : ℕ} (w : Value) → new ≡ cell_put t (cell w) i → Going file t₀ t count pos i → i < count → Going file t₀ new count pos i
-  going_written {t} {new} {pos} {i} w e g l =
-      let c = cell w in
-      let n = length_cell w in
-      let few : i < 64 = omega (arith, l, p.few) in
-      let room : 1393 ≤ length t = omega (arith, g.long, p.long) in
-      let k = put_known t c i n few room ∙ g.known in
-      subst (λ (x : List ℕ). Going file t₀ x count pos i) (sym e)
-      (record {
-        values = g.values;
-        had = g.had;
-        counted = g.counted;
-        long = put_long t c i n few room ∙ g.long;
-        known = k;
-        bytes = ap (λ (m : ℕ). take (9 * m) (drop 817 (cell_put t c i))) k ∙ kept_cells t c i n few room ∙ ap (λ (m : ℕ). take (9 * m) (drop 817 t)) (sym g.known) ∙ g.bytes;
-        same = record { rows = rows_put t c i n few room ∙ g.same.rows; tab = tab_put t c i n few room ∙ g.same.tab };
-        rest = g.rest;
-        place = g.place;
-      })
 
 after_value : (p : ℕ) (k : Value → Constants) (F : Value → Value) (E o : Outcome) (w : Value) → o ≡ then_out (λ v. Out.Value (F v)) E → o ≡ Out.Value w → after_constant p (λ v. k (F v)) E ≡ k w
 after_value p k F (Out.Value v) o w e f = ap k (same_value (sym e ∙ f))

@@ -72,14 +72,8 @@ module _ (t c : List ℕ) (i : ℕ) (nine : length c ≡ 9) (few : i < 64) (room
   before_long : length (take (9 * i) (drop 817 t)) ≡ 9 * i
   before_long = length-take-le (9 * i) (drop 817 t) (omega (arith, length-drop 817 t))
 
-  pub kept_cells : take (9 * i) (drop 817 put) ≡ take (9 * i) (drop 817 t)
-  kept_cells = ap (take (9 * i)) cells_part ∙ take_at (take (9 * i) (drop 817 t)) (c ++ drop (817 + 9 * i + 9) t) (9 * i) before_long
-
   pub more_cells : take (9 * (i + 1)) (drop 817 put) ≡ take (9 * i) (drop 817 t) ++ c
   more_cells =
       let B = take (9 * i) (drop 817 t) in
       let D = drop (817 + 9 * i + 9) t in
       ap (take (9 * (i + 1))) (cells_part ∙ sym (append_assoc B c D)) ∙ take_at (B ++ c) D (9 * (i + 1)) (length-append B c ∙ omega (arith, before_long, nine))
-
-  pub put_known : known_of put ≡ known_of t
-  put_known = put_front 816 (omega arith)

@@ -11,10 +11,9 @@ ghost use Rattle.ol_spec.specs.Admission.{constants};
 ghost use Rattle.ol_tables.specs.At.{file_at, end_at};
 ghost use Rattle.ol_tables.specs.Table.{tab_of, rows_of, consts_of};
 
-use ol_eval::eval::eval;
+use ol_eval::eval::{Step, eval};
 use ol_frame::frame::Frame;
 use ol_frame::outcomes::{and_then, kept};
-use ol_frame::skip::pass;
 use ol_spec::Outcome;
 use ol_tables::heads::ty_size;
 use ol_tables::table::{CONSTANTS, KNOWN};
@@ -28,11 +27,11 @@ fn fitted(code: u8, o: Outcome) -> Outcome
     and_then(o, |v| Outcome::Value(fit_to(code, v)))
 }
 
-// The value of the constant at `at`, where those before it have their cells in the table. The frame is at a first cycle, behind the last node.
-fn constant_value(file: &[u8], tab: &[u8], at: usize, frame: &Frame) -> Outcome
+// The constant at `at`, where those before it have their cells in the table: its value, fitted to its type, and where it ends. The frame is at a first cycle, behind the last node.
+fn constant_value(file: &[u8], tab: &[u8], at: usize, frame: &Frame) -> Step
     requires framed { (frame.now.node ≡ nodes_in file.now) × (frame.now.first ≡ true) }
     requires constant_ready { ConstantReady file.now (tab_of tab.now) (rows_of tab.now) (known_in (consts_of tab.now)) × (at ≡ (constant_at file.now (known_in (consts_of tab.now))).0) }
-    ensures { result ≡ constant_out file.now (consts_of tab.now) (known_in (consts_of tab.now)) }
+    ensures { (result.out ≡ constant_out file.now (consts_of tab.now) (known_in (consts_of tab.now))) × (result.next ≡ end_at file.now 24 (value_at file.now (known_in (consts_of tab.now)))) }
 {
     let p = at + 2;
     let code = file[p];
@@ -40,18 +39,10 @@ fn constant_value(file: &[u8], tab: &[u8], at: usize, frame: &Frame) -> Outcome
     let none = [0u8; 1];
     let mut new = [0u8; 1];
     let r = eval(file, tab, e, 24, frame, &none, &mut new);
-    fitted(code, r.out)
-}
-
-// Where the constant at `at` ends, behind those that have their cells in the table.
-fn constant_end(file: &[u8], tab: &[u8], at: usize) -> usize
-    requires { ConstantReady file.now (tab_of tab.now) (rows_of tab.now) (known_in (consts_of tab.now)) × (at ≡ (constant_at file.now (known_in (consts_of tab.now))).0) }
-    ensures { result ≡ end_at file.now 24 (value_at file.now (known_in (consts_of tab.now))) }
-{
-    let p = at + 2;
-    let e = p + ty_size(file, p);
-    let s = pass(file, tab, e, 24);
-    s.next
+    Step {
+        out: fitted(code, r.out),
+        ..r
+    }
 }
 
 // The cells of `count` constants, the first of which is at `at`, are written into the table; the file has so many nodes. Else the place of the first without a value.
@@ -74,14 +65,15 @@ pub fn constant_values(
     frame.node = nodes;
     let mut pos = at;
     for i in 0..count {
-        match constant_value(file, tab, pos, &frame) {
+        let s = constant_value(file, tab, pos, &frame);
+        match s.out {
             Outcome::Value(v) => {
                 let w = kept(v);
                 write_cell(w, tab, CONSTANTS + 9 * i);
             }
             _ => return Err(pos),
         }
-        pos = constant_end(file, tab, pos);
+        pos = s.next;
         tab[KNOWN] = (i + 1) as u8;
     }
     Ok(())

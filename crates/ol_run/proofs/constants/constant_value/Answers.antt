@@ -7,7 +7,9 @@ use lib.ListN.{get_or}
 use Rattle.ol_tables.specs.Table.{consts_of}
 use Rattle.ol_eval.specs.Post.{EvalsTo}
 use Rattle.ol_frame.specs.Walk.{nodes_in}
-use Rattle.ol_run.proofs.Constant.{size_few, constant_ready, constant_out_lem, value_place_lem}
+use Rattle.ol_frame.specs.Plans.{known_in}
+use Rattle.ol_run.specs.Constants.{value_at}
+use Rattle.ol_run.proofs.Constant.{size_few, constant_ready, constant_out_lem, place_of}
 use Rattle.ol_run.proofs.constants.constant_value.Goals as goal
 
 pub overflow_add-p : goal.overflow_add-p
@@ -42,7 +44,7 @@ eval-r-requires c =
     let kk = consts_of c.args.tab.now in
     let code = get_or f (c.args.at + 2) 0 in
     let ce = ap (λ (x : ℕ). get_or f (x + 2) 0) at in
-    let e = value_place_lem kk p (c.args.at + 2 + c.ty_size.result) code ce ((λ i. at i + 2 + c.ty_size.ensures i)) in
+    let e = place_of (known_in kk) p (c.args.at + 2 + c.ty_size.result) code ce ((λ i. at i + 2 + c.ty_size.ensures i)) in
     rw (e, c.requires.framed.0) (constant_ready kk p fr.cells fr.before (0 ∷ []) (0 ∷ []) refl (omega arith))
 
 pub returns : goal.returns
@@ -54,10 +56,10 @@ returns c =
     let kk = consts_of c.args.tab.now in
     let code = get_or f (c.args.at + 2) 0 in
     let ce = ap (λ (x : ℕ). get_or f (x + 2) 0) at in
-    let e = value_place_lem kk p (c.args.at + 2 + c.ty_size.result) code ce ((λ i. at i + 2 + c.ty_size.ensures i)) in
+    let e = place_of (known_in kk) p (c.args.at + 2 + c.ty_size.result) code ce ((λ i. at i + 2 + c.ty_size.ensures i)) in
     let new = c.eval-r.new.new in
-    constant_out_lem kk p fr.cells fr.before (0 ∷ []) code ce
-    (subst (λ (x : ℕ). EvalsTo f kk 24 x (nodes_in f) true fr.cells fr.before (0 ∷ []) c.eval-r.result new) e
+    let m : EvalsTo f kk 24 (value_at f (known_in kk)) (nodes_in f) true fr.cells fr.before (0 ∷ []) c.eval-r.result new =
+    subst (λ (x : ℕ). EvalsTo f kk 24 x (nodes_in f) true fr.cells fr.before (0 ∷ []) c.eval-r.result new) e
     (subst (λ (n : ℕ). EvalsTo f kk 24 (c.args.at + 2 + c.ty_size.result) n true fr.cells fr.before (0 ∷ []) c.eval-r.result new) c.requires.framed.0
-    (subst (λ (b : Bool). EvalsTo f kk 24 (c.args.at + 2 + c.ty_size.result) fr.node b fr.cells fr.before (0 ∷ []) c.eval-r.result new) c.requires.framed.1 c.eval-r.ensures)))
-    c.fitted.ensures
+    (subst (λ (b : Bool). EvalsTo f kk 24 (c.args.at + 2 + c.ty_size.result) fr.node b fr.cells fr.before (0 ∷ []) c.eval-r.result new) c.requires.framed.1 c.eval-r.ensures)) in
+    (constant_out_lem kk p fr.cells fr.before (0 ∷ []) code ce m c.fitted.ensures, m.next_is)

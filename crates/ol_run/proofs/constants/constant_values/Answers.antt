@@ -5,7 +5,7 @@ use native.Mathlib.Omega.{arith}
 use lib.ListN.{length-set}
 use Rattle.ol_tables.specs.At.{end_at}
 use Rattle.ol_run.specs.Constants.{value_at}
-use Rattle.ol_run.proofs.Constant.{known_is, not_done, same_onward, cleared_same, cleared_ready, going_start, going_ready, going_written, going_stuck, going_turn, going_done}
+use Rattle.ol_run.proofs.Constant.{known_is, not_done, same_onward, cleared_same, cleared_ready, going_start, going_ready, going_stuck, going_turn, going_done}
 use Rattle.ol_run.proofs.constants.constant_values.Goals as goal
 
 pub returns-then-count-eq0 : goal.returns-then-count-eq0
@@ -19,8 +19,8 @@ loop-i-init c =
     let p = c.requires in
     going_start p
 
-pub constant_value-requires : goal.constant_value-requires
-constant_value-requires c =
+pub constant_value-s-requires : goal.constant_value-s-requires
+constant_value-s-requires c =
     let p = c.requires in
     let q = cleared_ready p in
     let g = c.loop-i.invariant in
@@ -38,23 +38,11 @@ write_cell-requires c =
     let long = g.long ∙ length-set c.args.tab.now 816 0 in
     omega (arith, lt, p.few, p.long, long)
 
-pub constant_end-pos-requires : goal.constant_end-pos-requires
-constant_end-pos-requires c =
-    let p = c.requires in
-    let q = cleared_ready p in
-    let g = c.loop-i.invariant in
-    let lt = c.loop-i-test.true in
-    let w = going_written q c.kept-w.result c.write_cell.ensures g lt in
-    going_ready q c.write_cell.new.out w lt
-
 pub bounds-tab-816-in-loop-i : goal.bounds-tab-816-in-loop-i
 bounds-tab-816-in-loop-i c =
     let p = c.requires in
-    let q = cleared_ready p in
     let g = c.loop-i.invariant in
-    let lt = c.loop-i-test.true in
-    let w = going_written q c.kept-w.result c.write_cell.ensures g lt in
-    omega (arith, p.long, w.long, length-set c.args.tab.now 816 0)
+    omega (arith, p.long, g.long, c.write_cell.auto.out, length-set c.args.tab.now 816 0)
 
 pub loop-i-preserved : goal.loop-i-preserved
 loop-i-preserved c =
@@ -62,8 +50,7 @@ loop-i-preserved c =
     let q = cleared_ready p in
     let g = c.loop-i.invariant in
     let lt = c.loop-i-test.true in
-    let w = going_written q c.kept-w.result c.write_cell.ensures g lt in
-    going_turn q g lt c.constant_value.ensures c.in-Value.is c.kept-w.ensures.0 c.kept-w.ensures.1 c.write_cell.ensures (c.constant_end-pos.ensures ∙ ap (λ (k : ℕ). end_at c.args.file.now 24 (value_at c.args.file.now k)) (known_is w))
+    going_turn q g lt c.constant_value-s.ensures.0 c.in-Value.is c.kept-w.ensures.0 c.kept-w.ensures.1 c.write_cell.ensures (c.constant_value-s.ensures.1 ∙ ap (λ (k : ℕ). end_at c.args.file.now 24 (value_at c.args.file.now k)) (known_is g))
 
 pub returns : goal.returns
 returns c =
@@ -78,4 +65,4 @@ returns-in_default c =
     let q = cleared_ready p in
     let g = c.loop-i.invariant in
     let lt = c.loop-i-test.true in
-    (going_stuck q g lt c.constant_value.ensures (not_done _ c.in_default.not-Value) _, same_onward (cleared_same p) g.same)
+    (going_stuck q g lt c.constant_value-s.ensures.0 (not_done _ c.in_default.not-Value) _, same_onward (cleared_same p) g.same)
