@@ -1,5 +1,5 @@
 // A frame: what the equations of an instance are run on.
-ghost use Rattle.std.specs.Prelude.{◌≡◌, ◌∷◌, ◌++◌, ◌+◌, ◌*◌, ◌≤◌, length, drop};
+ghost use Rattle.std.specs.Prelude.{◌≡◌, false, ◌∷◌, ◌++◌, ◌+◌, ◌*◌, ◌≤◌, length, drop};
 ghost use Rattle.ol_frame.specs.Outcomes.{ending_of};
 ghost use Rattle.ol_frame.specs.Stores.{Storable, StoresOut, Assignable, Assigns};
 ghost use Rattle.ol_spec.specs.Cell.{cells, values_of};
@@ -16,7 +16,8 @@ use ol_tables::tables::MOST_CELLS;
 // The bytes of a call's arguments, or of its outputs: at most 32 cells.
 pub const ARGUMENTS: usize = 288;
 
-// Whether it is the instance's first cycle, its node's number, its cells, and the cells before.
+// Whether it is the instance's first cycle, its node's number, its cells, and the cells before. `first` guards no field: the cells before are there in a first cycle too.
+// That each array has its length stands in a ghost field, since a proof does not know it of an array that was lent.
 #[derive(Drop)]
 pub struct Frame {
     pub first: bool,
@@ -31,7 +32,9 @@ impl Frame {
     ghost use Rattle.ol_frame.specs.Frame.{Keeps, Opened, Freshened};
 
     // All zero.
-    pub fn new() -> Frame {
+    pub fn new() -> Frame
+        ensures { (result.first ≡ false) × (result.node ≡ 0) }
+    {
         Frame {
             first: false,
             node: 0,

@@ -1,4 +1,5 @@
 // What a name, a literal and a Pre yield, and whether an expression counts as real.
+// file and tab stay two parameters, as in ol_eval. What is asked of them (`Cells`, `Plan`) speaks of the file beside the frame, so no ghost field of a frame can hold it.
 ghost use Rattle.std.specs.Prelude.{◌≡◌, false, List, ℕ, ◌+◌, ◌≤◌, ◌<◌, pos, length, get_or};
 ghost use Rattle.ol_spec.specs.Eval.{or_failure, present_of, pre_of, is_double?, join, first_type};
 ghost use Rattle.ol_spec.specs.declared.Value.TheVariants as Val;
@@ -96,7 +97,8 @@ fn real_kind(file: &[u8], tab: &[u8], frame: &Frame, at: usize, level: usize) ->
         Form::Var => kind_of_outcome(present(file, tab, frame, p)),
         Form::Unary => real_kind(file, tab, frame, at + 2, level - 1),
         Form::Binary => match file[p] {
-            10..14 => real_kinds(file, tab, frame, at + 2, level - 1), // Add to Div
+            // Add to Div: the enum of the operators is ol_value's own, and nothing else is asked of one here.
+            10..14 => real_kinds(file, tab, frame, at + 2, level - 1),
             _ => RealKind::NotReal,
         },
         Form::If => {

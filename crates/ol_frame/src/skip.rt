@@ -8,7 +8,7 @@ use ol_tables::form::Form;
 use ol_tables::heads::{NextCall, head, next_call};
 use ol_tables::tables::SIZE;
 
-// Where what was passed over ends, the bytes of its records, and whether it contains a call.
+// Where what was passed over ends, the bytes of its records, and whether it contains a call. `has` guards no field, and `used` does not tell it: a call of a Function has no bytes of record.
 #[derive(Clone, Copy)]
 pub struct Passed {
     pub next: usize,

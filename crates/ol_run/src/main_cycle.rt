@@ -72,6 +72,7 @@ pub fn run_main(
             number: u8::from(c),
             place,
         }),
+        // 19 is an overflow's number, which has no Cause.
         Ending::Overflowed => {
             copy(old, new);
             Cycled::Stopped(Fault { number: 19, place })

@@ -38,6 +38,7 @@ impl<'a> Iterator for CallSites<'a> {
 
     ghost remaining = { item_count callees_of };
 
+    // No count: equations are passed over until one has a call.
     fn next(&mut self) -> Option<usize> {
         loop {
             let end = match next_call(self.file, self.pending, self.at) {
