@@ -155,6 +155,12 @@ module _ (qs : List Equation) where
   renew : {list : List ℕ} {placed : List Bool} {order : List ℕ} {n : ℕ} → State qs list placed order n → State qs (take n order) placed order n
   renew {placed = placed} {order} {n} st = subst (λ v. State qs v placed order n) (sym st.front) st
 
+  -- as many are placed as the list has
+  counted : {w : List ℕ} (before : List ℕ) {placed : List Bool} {order : List ℕ} {n : ℕ} → State qs w placed order n → drop n order ≡ drop n before → State qs w placed order (length w) × (drop (length w) order ≡ drop (length w) before)
+  counted {w} before {placed} {order} st e =
+      let l = sym (length_list st) in
+      (subst (λ v. State qs w placed order v) l st, subst (λ v. drop v order ≡ drop v before) l e)
+
   module _ {w before : List ℕ} {placed : List Bool} {order : List ℕ} {p : List Bool} {o : List ℕ} {n m : ℕ} (ps : Passes w before placed order n) (u : n < length qs) (st : State qs (pass qs 0 qs (take n order)) p o m × (drop m o ≡ drop m order)) where
     some_left : 0 < ps.left
     some_left = omega (arith, ps.enough)
@@ -181,18 +187,18 @@ module _ (qs : List Equation) where
         }
 
     -- the pass added none
-    pub passes_stop : m ≡ n → State qs w p o n × (drop n o ≡ drop n before)
+    pub passes_stop : m ≡ n → State qs w p o (length w) × (drop (length w) o ≡ drop (length w) before)
     passes_stop e =
         let a = pass_adds 0 qs (take n order) in
         let b : length (take n order ++ a.0) ≡ n = ap length (sym a.1) ∙ (length_list st.0 ∙ e) in
         let c : a.0 ≡ [] = nothing a.0 (omega (arith, b, length-append (take n order) a.0, length_list ps.state)) in
         let d : pass qs 0 qs (take n order) ≡ take n order = a.1 ∙ (ap (λ l. take n order ++ l) c ∙ append-nil (take n order)) in
         let f : pass qs 0 qs (take n order) ≡ w = d ∙ sym (ps.is ∙ passes_idle ps.left (take n order) d) in
-        (subst (λ v. State qs w p o v) e (subst (λ v. State qs v p o m) f st.0), subst (λ v. drop v o ≡ drop v before) e still_behind)
+        counted before (subst (λ v. State qs v p o m) f st.0) still_behind
 
   -- all are placed
-  pub passes_end : {w before : List ℕ} {placed : List Bool} {order : List ℕ} {n : ℕ} → Passes w before placed order n → length qs ≤ n → State qs w placed order n × (drop n order ≡ drop n before)
-  passes_end {w} {before} {placed} {order} {n} ps h = (subst (λ v. State qs v placed order n) (sym (ps.is ∙ passes_idle ps.left (take n order) (full_idle ps.state h))) ps.state, ps.behind)
+  pub passes_end : {w before : List ℕ} {placed : List Bool} {order : List ℕ} {n : ℕ} → Passes w before placed order n → length qs ≤ n → State qs w placed order (length w) × (drop (length w) order ≡ drop (length w) before)
+  passes_end {w} {before} {placed} {order} {n} ps h = counted before (subst (λ v. State qs v placed order n) (sym (ps.is ∙ passes_idle ps.left (take n order) (full_idle ps.state h))) ps.state) ps.behind
 
   pub passes_start : {placed : List Bool} {ord : List ℕ} → State qs [] placed ord 0 → Passes (order qs) ord placed ord 0
   unfolding order

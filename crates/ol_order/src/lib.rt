@@ -95,22 +95,20 @@ fn pass(
     n
 }
 
-// Passes until all are placed or one places none: how many are placed. Behind those, the entries of
-// `order` stay.
-fn passes(lists: &[u8], begins: &[usize], placed: &mut [bool], order: &mut [usize]) -> usize
+// Passes until all are placed or one places none. Behind those placed, the entries of `order` stay.
+fn passes(lists: &[u8], begins: &[usize], placed: &mut [bool], order: &mut [usize])
     requires { Waiting lists.now begins.now placed.old order.old 0 }
-    ensures placed { (qs : List Equation) → Waits qs lists.now begins.now → State qs [] placed.old order.old 0 → State qs (in_order qs) placed.new order.new result }
-    ensures behind { drop result order.new ≡ drop result order.old }
+    ensures placed { (qs : List Equation) → Waits qs lists.now begins.now → State qs [] placed.old order.old 0 → State qs (in_order qs) placed.new order.new (length (in_order qs)) }
+    ensures behind { (qs : List Equation) → Waits qs lists.now begins.now → State qs [] placed.old order.old 0 → drop (length (in_order qs)) order.new ≡ drop (length (in_order qs)) order.old }
 {
     let mut done = 0;
     while done < placed.len() {
         let n = pass(lists, begins, placed, order, done);
         if n == done {
-            return done;
+            return;
         }
         done = n;
     }
-    done
 }
 
 // The first that is not placed.

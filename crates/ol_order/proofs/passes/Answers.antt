@@ -19,7 +19,11 @@ shape_of-order-then-n-done c =
     c.pass-n.auto.order ∙ ((c.loop-done.invariant c.requires.equations c.requires.waits c.requires.state).state.room ∙ sym c.requires.state.room)
 
 pub returns-then-n-done : goal.returns-then-n-done
-returns-then-n-done c = record { placed = λ qs w st. (passes_stop qs (c.loop-done.invariant qs w st) (omega (arith, c.loop-done-test.true, (c.loop-done.invariant qs w st).state.flagged)) (c.pass-n.ensures.placed qs w (c.loop-done.invariant qs w st).state, c.pass-n.ensures.behind) c.if-n-done.true).0; behind = (passes_stop c.requires.equations (c.loop-done.invariant c.requires.equations c.requires.waits c.requires.state) (omega (arith, c.loop-done-test.true, (c.loop-done.invariant c.requires.equations c.requires.waits c.requires.state).state.flagged)) ((c.pass-n.ensures.placed c.requires.equations c.requires.waits (c.loop-done.invariant c.requires.equations c.requires.waits c.requires.state).state, c.pass-n.ensures.behind)) c.if-n-done.true).1 }
+returns-then-n-done c =
+    record {
+      placed = λ qs w st. (passes_stop qs (c.loop-done.invariant qs w st) (omega (arith, c.loop-done-test.true, (c.loop-done.invariant qs w st).state.flagged)) (c.pass-n.ensures.placed qs w (c.loop-done.invariant qs w st).state, c.pass-n.ensures.behind) c.if-n-done.true).0;
+      behind = λ qs w st. (passes_stop qs (c.loop-done.invariant qs w st) (omega (arith, c.loop-done-test.true, (c.loop-done.invariant qs w st).state.flagged)) (c.pass-n.ensures.placed qs w (c.loop-done.invariant qs w st).state, c.pass-n.ensures.behind) c.if-n-done.true).1;
+    }
 
 pub loop-done-smaller : goal.loop-done-smaller
 loop-done-smaller c =
@@ -37,4 +41,8 @@ shape_of-order c =
     (c.loop-done.invariant c.requires.equations c.requires.waits c.requires.state).state.room ∙ sym c.requires.state.room
 
 pub returns : goal.returns
-returns c = record { placed = λ qs w st. (passes_end qs (c.loop-done.invariant qs w st) (omega (arith, c.loop-done-test.false, (c.loop-done.invariant qs w st).state.flagged))).0; behind = (passes_end c.requires.equations (c.loop-done.invariant c.requires.equations c.requires.waits c.requires.state) (omega (arith, c.loop-done-test.false, (c.loop-done.invariant c.requires.equations c.requires.waits c.requires.state).state.flagged))).1 }
+returns c =
+    record {
+      placed = λ qs w st. (passes_end qs (c.loop-done.invariant qs w st) (omega (arith, c.loop-done-test.false, (c.loop-done.invariant qs w st).state.flagged))).0;
+      behind = λ qs w st. (passes_end qs (c.loop-done.invariant qs w st) (omega (arith, c.loop-done-test.false, (c.loop-done.invariant qs w st).state.flagged))).1;
+    }

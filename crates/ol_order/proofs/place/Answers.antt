@@ -13,11 +13,13 @@ passes-requires c =
 pub returns-in-Some : goal.returns-in-Some
 returns-in-Some c = λ qs w.
     let long : length c.args.order.now ≡ length qs = c.requires.room ∙ same_many c.requires.waits w in
-    let st = c.passes.ensures.placed qs w (state_start qs (length c.args.order.now) c.args.order.now (sym long) (omega (arith, c.requires.room, c.requires.few)) long) in
-    sorts_made st long c.passes.ensures.behind (found_error (unplaced qs) (c.in-Some.ensures ∙ placed_first st))
+    let start = state_start qs (length c.args.order.now) c.args.order.now (sym long) (omega (arith, c.requires.room, c.requires.few)) long in
+    let st = c.passes.ensures.placed qs w start in
+    sorts_made st long (c.passes.ensures.behind qs w start) (found_error (unplaced qs) (c.in-Some.ensures ∙ placed_first st))
 
 pub returns-in-None : goal.returns-in-None
 returns-in-None c = λ qs w.
     let long : length c.args.order.now ≡ length qs = c.requires.room ∙ same_many c.requires.waits w in
-    let st = c.passes.ensures.placed qs w (state_start qs (length c.args.order.now) c.args.order.now (sym long) (omega (arith, c.requires.room, c.requires.few)) long) in
-    sorts_made st long c.passes.ensures.behind (found_no_error (unplaced qs) (c.in-None.ensures ∙ placed_first st))
+    let start = state_start qs (length c.args.order.now) c.args.order.now (sym long) (omega (arith, c.requires.room, c.requires.few)) long in
+    let st = c.passes.ensures.placed qs w start in
+    sorts_made st long (c.passes.ensures.behind qs w start) (found_no_error (unplaced qs) (c.in-None.ensures ∙ placed_first st))
