@@ -5,7 +5,8 @@ use mathlib.Core.Logic.{by_cases}
 use mathlib.Core.Path.{◌≡◌, refl, sym, ap, subst, ◌∙◌}
 use native.Mathlib.Omega.{arith}
 use native.Mathlib.Decide.{dec_lt}
-use lib.ListN.{length, get_or, set, length-set, length-append, get_or-append}
+use Rattle.std.proofs.lemmas.List.{get_or_past, get_or-take}
+use lib.ListN.{length, get_or, set, take, length-set, length-append, get_or-append}
 use lib.Seq.{get_or-set_same, get_or-set_other, get_or-append-add, sets, length-sets}
 use lib.Dec.{T, ltb, leb, leb→le}
 use Rattle.ol_spec.specs.Lists.{sum, concat, all_of}
@@ -514,6 +515,24 @@ first_place_lem {f = f} st pl = pl.at 0 st.some_node ∙ first_at_lem f.nodes (n
 -- every node stands inside the file
 pub places_in : {s places : List ℕ} {f : File} → FileStands s f → PlacesAre f places → (k : ℕ) → k < length f.nodes → get_or places k 0 ≤ 32768
 places_in st pl k lt = omega (arith, pl.at k lt, (node_at_lem st k lt).inside, st.short)
+
+-- no node stands at 0, so the list has a place for each
+node_behind : {s : List ℕ} {f : File} → FileStands s f → (k : ℕ) → k < length f.nodes → 0 < place_of (placed_nodes f) k
+node_behind {f = f} st k lt =
+    let first = first_at_lem f.nodes (nodes_start f) st.some_node in
+    by_cases (dec_lt 0 k)
+    (λ behind. omega (arith, first, nodes_apart st 0 k behind lt))
+    (λ here. let e : k ≡ 0 = omega arith in rw e (omega (arith, first)))
+
+pub places_long : {s places : List ℕ} {f : File} → FileStands s f → PlacesAre f places → length f.nodes ≤ length places
+places_long {s} {places} {f} st pl =
+    by_cases (dec_lt (length places) (length f.nodes))
+    (λ short. absurd (omega (arith, pl.at (length places) short, get_or_past places (length places) 0 (omega arith), node_behind st (length places) short)))
+    (λ enough. omega arith)
+
+-- the front of the list has them
+pub places_front : {places : List ℕ} {f : File} {n : ℕ} → PlacesAre f places → length f.nodes ≡ n → PlacesAre f (take n places)
+places_front {places} {n = n} pl many = record { at = λ k lt. get_or-take n places k 0 (omega arith) ∙ pl.at k lt }
 
 -- the places that the reader keeps
 places_many : (ns : List Node) (at : ℕ) → length (map (λ p. p.0) (placed node_size at ns)) ≡ length ns

@@ -37,7 +37,7 @@ fn clashes(last: usize, sort: usize) -> bool
 
 // A walk over declarations: the sort that declared each name last, the first clash and the highest name.
 #[derive(Drop)]
-pub struct Sorter<'a> {
+pub(crate) struct Sorter<'a> {
     sorts: &'a mut [u8],
     marks: Sorting,
 }
@@ -74,7 +74,7 @@ impl Sorter<'_> {
         ensures { VariablesSorted file.now sort count at self.old self.new result }
     {
         let mut next = at;
-        for i in 0..count {
+        for _ in 0..count {
             self.name(file, sort, next);
             next = variable_end(file, next);
         }
@@ -100,7 +100,7 @@ impl Sorter<'_> {
         ensures { Walks (declared_as constant (map placed_constant_name (placed_constants (file_at file.now)))) self.old self.new }
     {
         let mut next = at;
-        for i in 0..count {
+        for _ in 0..count {
             self.name(file, CONSTANT, next);
             next = skip(file, 1, variable_end(file, next));
         }

@@ -37,12 +37,8 @@ pub fn faults(
     let nodes = byte(file, n);
     declare_enums(file, names, byte(file, 1), 2);
     let mut g = Faults {
-        unseen: None,
-        again: None,
-        called: None,
-        shaped: None,
-        size: 0,
         next: c + 1,
+        ..Faults::default()
     };
     judge_constants(
         file,

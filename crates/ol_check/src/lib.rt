@@ -15,7 +15,7 @@ ghost use Rattle.ol_check.specs.Founds.{marked};
 
 // The first fault of each number, the bytes of an instance of the last node, and where the walk ended.
 // That `size` is at most 65536 is no ghost field: each value of this type in specs/ would need a proof of it beside it.
-#[derive(Clone, Copy)]
+#[derive(Clone, Copy, Default)]
 pub struct Faults {
     pub unseen: Option<usize>,
     pub again: Option<usize>,

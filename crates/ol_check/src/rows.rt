@@ -114,19 +114,12 @@ fn node_row(file: &[u8], rows: &mut FileRows, tab: &mut [u8], plans: usize, k: u
 }
 
 // So many nodes, each at its place.
-fn node_rows(
-    file: &[u8],
-    places: &[usize],
-    rows: &mut FileRows,
-    tab: &mut [u8],
-    plans: usize,
-    count: usize,
-)
-    requires { (count ≤ 32) × ((k : ℕ) → k < count → get_or places.now k 0 ≤ 32768) × (plans < 9240000000000000000) }
-    ensures { NodesStored file.now places.now (numbers rows.old) (numbers rows.new) tab.old tab.new plans count }
+fn node_rows(file: &[u8], places: &[usize], rows: &mut FileRows, tab: &mut [u8], plans: usize)
+    requires { (length places.now ≤ 32) × ((k : ℕ) → k < length places.now → get_or places.now k 0 ≤ 32768) × (plans < 9240000000000000000) }
+    ensures { NodesStored file.now places.now (numbers rows.old) (numbers rows.new) tab.old tab.new plans (length places.now) }
 {
-    for k in 0..count {
-        node_row(file, rows, tab, plans, k, entry(places, k));
+    for (k, at) in places.iter().enumerate() {
+        node_row(file, rows, tab, plans, k, *at);
     }
 }
 
@@ -153,7 +146,7 @@ pub fn rows_of(
 {
     let c = enum_rows(file, rows, byte(file, 1), 2);
     let n = entry(places, 0) - 1;
-    node_rows(file, places, rows, tab, plans, byte(file, n));
+    node_rows(file, &places[..byte(file, n)], rows, tab, plans);
     Sections {
         constants: c,
         nodes: n,

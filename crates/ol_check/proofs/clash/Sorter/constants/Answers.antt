@@ -7,27 +7,27 @@ use Rattle.ol_check.proofs.Standing.{stands}
 use Rattle.ol_check.proofs.ClashLoops.{ConstantsGoing, constants_start_lem, constants_in_lem, constants_turn, constants_done}
 use Rattle.ol_check.proofs.clash.Sorter.constants.Goals as goal
 
-pub loop-i-init : goal.loop-i-init
-loop-i-init c =
+pub loop-init : goal.loop-init
+loop-init c =
     let f = c.args.file.now in
     subst (ConstantsGoing f (length (file_at f).enums) (file_at f).constants (constants_start (file_at f)) _ _ 0) (sym c.requires.place) (constants_start_lem (stands c.type_inv.file c.requires.reads).constants)
 
 pub name-requires : goal.name-requires
 name-requires c =
     let f = c.args.file.now in
-    let inside = constants_in_lem c.loop-i.invariant (omega (arith, c.loop-i-test.true, c.requires.many)) in
+    let inside = constants_in_lem c.loop.invariant (omega (arith, c.loop-test.true, c.requires.many)) in
     (omega arith, omega arith, omega (arith, inside, (stands c.type_inv.file c.requires.reads).short))
 
 pub variable_end-requires : goal.variable_end-requires
 variable_end-requires c =
     let f = c.args.file.now in
-    let inside = constants_in_lem c.loop-i.invariant (omega (arith, c.loop-i-test.true, c.requires.many)) in
+    let inside = constants_in_lem c.loop.invariant (omega (arith, c.loop-test.true, c.requires.many)) in
     omega (arith, inside, (stands c.type_inv.file c.requires.reads).short)
 
-pub loop-i-preserved : goal.loop-i-preserved
-loop-i-preserved c =
-    constants_turn c.loop-i.invariant (omega (arith, c.loop-i-test.true, c.requires.many)) c.name.ensures c.variable_end.ensures c.skip-next.ensures
+pub loop-preserved : goal.loop-preserved
+loop-preserved c =
+    constants_turn c.loop.invariant (omega (arith, c.loop-test.true, c.requires.many)) c.name.ensures c.variable_end.ensures c.skip-next.ensures
 
 pub returns : goal.returns
 returns c =
-    constants_done c.loop-i.invariant (omega (arith, c.loop-i-test.false, c.requires.many))
+    constants_done c.loop.invariant (omega (arith, c.loop-test.false, c.requires.many))

@@ -3,6 +3,6 @@ use Rattle.ol_check.specs.Spans.{behind_variable}
 use Rattle.ol_check.proofs.ClashLoops.{NamesGoing}
 use Rattle.ol_check.proofs.clash.Sorter.variables.Given as goal
 
-abbrev pub invariant-loop-i : goal.invariant-loop-i
-invariant-loop-i l =
-    (l.next ≤ l.at + 4 * l.i) × NamesGoing (behind_variable l.file) l.file l.sort l.count l.at l.initial.self l.self l.i l.next
+abbrev pub invariant-loop : goal.invariant-loop
+invariant-loop l =
+    (l.next ≤ l.at + 4 * l.counter) × NamesGoing (behind_variable l.file) l.file l.sort l.count l.at l.initial.self l.self l.counter l.next
