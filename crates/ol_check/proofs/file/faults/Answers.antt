@@ -30,7 +30,7 @@ pub judge_nodes-requires : goal.judge_nodes-requires
 judge_nodes-requires c =
     let d = c.default.ensures in
     let st = stands c.type_inv.file c.requires.0.reads in
-    (rows_ready c.requires.0 c.requires.1 st c.byte-nodes.ensures, names_ready c.requires.0 c.requires.1 st c.byte-nodes.ensures c.byte.ensures c.byte-2.ensures c.declare_enums.ensures refl (ap place_of d.0) (ap place_of d.1) (ap place_of d.2) (ap place_of d.3) c.judge_constants.ensures, omega (arith, c.requires.4, length_front c.args.slots.now c.judge_constants.new.slots c.args.half c.judge_constants.auto.slots))
+    (rows_ready c.requires.0 c.requires.1 st c.byte-nodes.ensures, names_ready c.requires.0 c.requires.1 st c.byte-nodes.ensures c.byte.ensures c.byte-2.ensures c.declare_enums.ensures refl (ap place_of d.0) (ap place_of d.1.0) (ap place_of d.1.1.0) (ap place_of d.1.1.1.0) c.judge_constants.ensures, omega (arith, c.requires.4, length_front c.args.slots.now c.judge_constants.new.slots c.args.half c.judge_constants.auto.slots))
 
 pub shape_of-names : goal.shape_of-names
 shape_of-names c = c.judge_nodes.auto.names ∙ c.judge_constants.auto.names ∙ c.declare_enums.auto.names
@@ -39,4 +39,4 @@ pub returns : goal.returns
 returns c =
     let d = c.default.ensures in
     let st = stands c.type_inv.file c.requires.0.reads in
-    record { judged = file_judged c.requires.0 c.requires.1 st c.byte-nodes.ensures c.byte.ensures c.byte-2.ensures c.declare_enums.ensures refl (ap place_of d.0) (ap place_of d.1) (ap place_of d.2) (ap place_of d.3) c.judge_constants.ensures c.judge_nodes.ensures.0 (judged_from (front_new c.args.half c.args.slots.now c.judge_constants.new.slots c.requires.2 c.judge_constants.auto.slots) c.judge_nodes.ensures.1) c.judge_nodes.ensures.2; planned = λ no k lt. c.judge_nodes.ensures.3 no k (omega (arith, (rows_ready c.requires.0 c.requires.1 st c.byte-nodes.ensures).many)); typed = record { left = λ k l x a b. c.judge_nodes.ensures.4.left k l x a b ∙ front_rest c.args.half c.args.slots.now c.judge_constants.new.slots c.requires.2 c.judge_constants.auto.slots (c.args.half + x) (omega arith) } }
+    record { judged = file_judged c.requires.0 c.requires.1 st c.byte-nodes.ensures c.byte.ensures c.byte-2.ensures c.declare_enums.ensures refl (ap place_of d.0) (ap place_of d.1.0) (ap place_of d.1.1.0) (ap place_of d.1.1.1.0) c.judge_constants.ensures c.judge_nodes.ensures.0 (judged_from (front_new c.args.half c.args.slots.now c.judge_constants.new.slots c.requires.2 c.judge_constants.auto.slots) c.judge_nodes.ensures.1) c.judge_nodes.ensures.2; planned = λ no k lt. c.judge_nodes.ensures.3 no k (omega (arith, (rows_ready c.requires.0 c.requires.1 st c.byte-nodes.ensures).many)); typed = record { left = λ k l x a b. c.judge_nodes.ensures.4.left k l x a b ∙ front_rest c.args.half c.args.slots.now c.judge_constants.new.slots c.requires.2 c.judge_constants.auto.slots (c.args.half + x) (omega arith) } }
