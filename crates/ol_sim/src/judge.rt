@@ -61,74 +61,65 @@ fn judge_main(file: &[u8], rows: &FileRows, size: usize, main: usize) -> Result<
     Ok(Admitted { size, main })
 }
 
-// 12 to 14: the rows and the constants' cells are written into the table.
-fn judge_constants(
-    file: &[u8],
-    rows: &FileRows,
-    tab: &mut [u8],
-    sections: Sections,
-    size: usize,
-) -> Result<Admitted, Fault>
-    requires { ConstantsReady file.now (numbers rows.now) tab.old sections size }
-    ensures { Judges file.now (from12 (file_at file.now)) (Admits file.now tab.new) result }
-{
-    let c = sections.constants;
-    let n = sections.nodes;
-    let count = byte(file, c);
-    let nodes = byte(file, n);
-    let enums = byte(file, 1);
-    pack_nodes(rows, nodes, tab);
-    pack_firsts(rows, enums, tab);
-    let stuck = constant_values(file, tab, nodes, c + 1, count);
-    refuse_at(12, stuck.err())?;
-    judge_main(file, rows, size, nodes - 1)
-}
-
-// 11 to 14: the orders are written. The main instance has so many bytes.
-fn judge_order(
-    project: &Project,
-    rows: &FileRows,
-    tab: &mut [u8],
-    sections: Sections,
-    main: usize,
-    low: bool,
-) -> Result<Admitted, Fault>
-    requires loads { Loads project.now }
-    requires order_ready { OrderReady project.now.file.now (numbers rows.now) tab.old sections main low }
-    ensures { Judges project.now.file.now (from11 (file_at project.now.file.now)) (Admits project.now.file.now tab.new) result }
-{
-    let file = project.file;
-    let ring = orders_of(
-        file,
-        project.enums,
-        project.places,
-        rows,
-        low,
-        &mut tab[ORDERS..],
-    );
-    refuse_at(11, ring.err())?;
-    let size = state_size(file, sections.constants, main);
-    judge_constants(file, rows, tab, sections, size)
-}
-
-// 7 to 14, of which 7 to 10 were looked for.
-fn judge_shapes(
-    project: &Project,
-    rows: &FileRows,
-    tab: &mut [u8],
+// What judging from 7 on asks and leaves as it is: the file, the rows of its table, its sections, and whether every declared name is below 1,024.
+#[derive(Clone, Copy)]
+struct Judging<'a> {
+    project: Project<'a>,
+    rows: &'a FileRows,
     sections: Sections,
     low: bool,
-    found: Faults,
-) -> Result<Admitted, Fault>
-    requires loads { Loads project.now }
-    requires shapes_ready { ShapesReady project.now.file.now (numbers rows.now) tab.old sections low found }
-    ensures { Judges project.now.file.now (from7 (file_at project.now.file.now)) (Admits project.now.file.now tab.new) result }
-{
-    refuse_at(7, found.unseen)?;
-    refuse_at(8, found.again)?;
-    refuse_at(9, found.called)?;
-    refuse_at(10, found.shaped)?;
-    judge_order(project, rows, tab, sections, found.size, low)
+}
+
+impl Judging<'_> {
+    // 12 to 14: the rows and the constants' cells are written into the table.
+    fn constants(&self, tab: &mut [u8], size: usize) -> Result<Admitted, Fault>
+        requires { ConstantsReady self.now.project.file.now (numbers self.now.rows.now) tab.old self.now.sections size }
+        ensures { Judges self.now.project.file.now (from12 (file_at self.now.project.file.now)) (Admits self.now.project.file.now tab.new) result }
+    {
+        let file = self.project.file;
+        let c = self.sections.constants;
+        let count = byte(file, c);
+        let nodes = byte(file, self.sections.nodes);
+        let enums = byte(file, 1);
+        pack_nodes(self.rows, nodes, tab);
+        pack_firsts(self.rows, enums, tab);
+        let stuck = constant_values(file, tab, nodes, c + 1, count);
+        refuse_at(12, stuck.err())?;
+        judge_main(file, self.rows, size, nodes - 1)
+    }
+
+    // 11 to 14: the orders are written. The main instance has so many bytes.
+    fn order(&self, tab: &mut [u8], main: usize) -> Result<Admitted, Fault>
+        requires loads { Loads self.now.project }
+        requires order_ready { OrderReady self.now.project.file.now (numbers self.now.rows.now) tab.old self.now.sections main self.now.low }
+        ensures { Judges self.now.project.file.now (from11 (file_at self.now.project.file.now)) (Admits self.now.project.file.now tab.new) result }
+    {
+        let project = self.project;
+        let ring = orders_of(
+            project.file,
+            project.enums,
+            project.places,
+            self.rows,
+            self.low,
+            &mut tab[ORDERS..],
+        );
+        refuse_at(11, ring.err())?;
+        let size = state_size(project.file, self.sections.constants, main);
+        self.constants(tab, size)
+    }
+
+    // 7 to 14, of which 7 to 10 were looked for.
+    fn shapes(&self, tab: &mut [u8], found: Faults) -> Result<Admitted, Fault>
+        requires loads { Loads self.now.project }
+        requires shapes_ready { ShapesReady self.now.project.file.now (numbers self.now.rows.now) tab.old self.now.sections self.now.low found }
+        ensures { Judges self.now.project.file.now (from7 (file_at self.now.project.file.now)) (Admits self.now.project.file.now tab.new) result }
+    {
+        refuse_at(7, found.unseen)?;
+        refuse_at(8, found.again)?;
+        refuse_at(9, found.called)?;
+        refuse_at(10, found.shaped)?;
+        self.order(tab, found.size)
+    }
 }
 
 // 6 to 14, of which 6 was looked for, with an empty table by name.
@@ -150,5 +141,11 @@ pub(crate) fn judge_names(
     refuse_at(6, clash)?;
     let half = (tab.len() - SLOTS) / 2;
     let found = faults(project.file, rows, sections, names, &mut tab[SLOTS..], half);
-    judge_shapes(project, rows, tab, sections, low, found)
+    let judging = Judging {
+        project: *project,
+        rows,
+        sections,
+        low,
+    };
+    judging.shapes(tab, found)
 }

@@ -11,8 +11,8 @@ faults-found-requires c =
     let h = c.requires.names_ready in
     (faults_ready h, h.empty.within, (walk_room h.sections).0, (walk_room h.sections).1, (walk_room h.sections).2)
 
-pub judge_shapes-requires-clause-shapes_ready : goal.judge_shapes-requires-clause-shapes_ready
-judge_shapes-requires-clause-shapes_ready c =
+pub shapes-requires-clause-shapes_ready : goal.shapes-requires-clause-shapes_ready
+shapes-requires-clause-shapes_ready c =
     let r = c.faults-found in
     shapes_ready r.new.slots c.requires.names_ready (numbers_long r.new.rows) r.auto.slots (no_place 6 c.args.clash c.in_ok-refuse_at.ensures c.requires.clash_value) r.ensures.judged r.ensures.planned r.ensures.typed
 
@@ -20,6 +20,6 @@ pub returns : goal.returns
 returns c =
     let no6 = no_place 6 c.args.clash c.in_ok-refuse_at.ensures c.requires.clash_value in
     record {
-      judged = passed_by_lem no6 c.judge_shapes.ensures;
+      judged = passed_by_lem no6 c.shapes.ensures;
       named = c.faults-found.ensures.judged.entered ∙ sym (ap (λ o. names_after o (file_at c.args.project.now.file.now) c.args.names.now) no6);
     }

@@ -8,7 +8,7 @@ use Rattle.ol_run.proofs.AdmittedConstants.{constants_ready}
 use Rattle.ol_sim.proofs.Chain.{no_place, passed_by_lem, judges_more}
 use Rattle.ol_sim.proofs.Packing.{rows_small, firsts_small, admitted_packed, admitted_same}
 use Rattle.ol_sim.proofs.Steps.{count_constants, count_nodes, stuck_12, all_held}
-use Rattle.ol_sim.proofs.judge.judge_constants.Goals as goal
+use Rattle.ol_sim.proofs.judge.Judging.constants.Goals as goal
 
 pub pack_nodes-requires : goal.pack_nodes-requires
 pack_nodes-requires c =
@@ -40,7 +40,7 @@ constant_values-stuck-requires c =
     let t = c.requires.tables in
     let nodes = count_nodes t.stands c.requires.sections c.byte-nodes.ensures.is in
     let enums = c.byte-enums.ensures.is ∙ t.stands.enum_count in
-    let packed = admitted_packed t (subst (λ n. Packs (numbers c.args.rows.now) 0 (n * 8) c.args.tab.now c.pack_nodes.new.tab) nodes c.pack_nodes.ensures) (subst (λ n. Packs (numbers c.args.rows.now) 256 (256 + n) c.pack_nodes.new.tab c.pack_firsts.new.tab) enums c.pack_firsts.ensures) in
+    let packed = admitted_packed t (subst (λ n. Packs (numbers c.args.self.now.rows.now) 0 (n * 8) c.args.tab.now c.pack_nodes.new.tab) nodes c.pack_nodes.ensures) (subst (λ n. Packs (numbers c.args.self.now.rows.now) 256 (256 + n) c.pack_nodes.new.tab c.pack_firsts.new.tab) enums c.pack_firsts.ensures) in
     constants_ready c.pack_firsts.new.tab packed c.byte-nodes.result _ c.byte-count.result nodes c.requires.sections.constants (count_constants t.stands c.requires.sections c.byte-count.ensures.is)
 
 pub overflow_sub-nodes : goal.overflow_sub-nodes
@@ -61,11 +61,11 @@ judge_main-requires c =
 
 pub returns : goal.returns
 returns c =
-    let f = file_at c.args.file.now in
+    let f = file_at c.args.self.now.project.file.now in
     let t = c.requires.tables in
     let nodes = count_nodes t.stands c.requires.sections c.byte-nodes.ensures.is in
     let enums = c.byte-enums.ensures.is ∙ t.stands.enum_count in
-    let packed = admitted_packed t (subst (λ n. Packs (numbers c.args.rows.now) 0 (n * 8) c.args.tab.now c.pack_nodes.new.tab) nodes c.pack_nodes.ensures) (subst (λ n. Packs (numbers c.args.rows.now) 256 (256 + n) c.pack_nodes.new.tab c.pack_firsts.new.tab) enums c.pack_firsts.ensures) in
+    let packed = admitted_packed t (subst (λ n. Packs (numbers c.args.self.now.rows.now) 0 (n * 8) c.args.tab.now c.pack_nodes.new.tab) nodes c.pack_nodes.ensures) (subst (λ n. Packs (numbers c.args.self.now.rows.now) 256 (256 + n) c.pack_nodes.new.tab c.pack_firsts.new.tab) enums c.pack_firsts.ensures) in
     let s = c.constant_values-stuck in
     let no12 = no_place 12 c.err.result c.in_ok-refuse_at.ensures (ap place_of c.err.ensures.value ∙ stuck_12 f c.byte-count.result (consts_of s.new.tab) s.result s.ensures.0) in
     let held = all_held f c.byte-count.result (consts_of s.new.tab) s.result s.ensures.0 no12 (count_constants t.stands c.requires.sections c.byte-count.ensures.is) in

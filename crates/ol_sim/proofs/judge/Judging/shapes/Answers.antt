@@ -1,9 +1,9 @@
 use Rattle.ol_sim.proofs.Chain.{no_place}
 use Rattle.ol_sim.proofs.Steps.{order_ready}
-use Rattle.ol_sim.proofs.judge.judge_shapes.Goals as goal
+use Rattle.ol_sim.proofs.judge.Judging.shapes.Goals as goal
 
-pub judge_order-requires-clause-order_ready : goal.judge_order-requires-clause-order_ready
-judge_order-requires-clause-order_ready c =
+pub order-requires-clause-order_ready : goal.order-requires-clause-order_ready
+order-requires-clause-order_ready c =
     let h = c.requires.shapes_ready in
     let no7 = no_place 7 c.args.found.unseen c.in_ok-refuse_at.ensures h.are.unseen in
     let no8 = no_place 8 c.args.found.again c.in_ok-refuse_at-2.ensures (h.are.again no7) in
