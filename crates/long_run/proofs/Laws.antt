@@ -1,60 +1,40 @@
 -- Laws of the run: a cycle counted, a pair, a turn, and the file's start.
-use Rattle.std.proofs.Common.{◌≡◌, ℕ, ◌+◌, ◌/◌, ◌%◌, Bool, true, false, ◌&&◌, eqb, List, [], ◌∷◌, sym, refl, ap, ◌∙◌, add-one, arith, eq-eqb, ne_eqb, eqb-true}
-use lib.Pointwise.{pointwise, bytes_decides}
+use Rattle.std.proofs.Common.{◌≡◌, ℕ, ◌+◌, ◌/◌, ◌%◌, ◌^◌, ◌<◌, Bool, true, false, eqb, List, Ok, Err, is_err, sym, refl, ap, ◌∙◌, add-one, arith, ne_eqb}
+use lib.Pointwise.{pointwise}
+use mir.Val.{bool_byte}
 use Rattle.ol_spec.specs.Cycle.{start, cycle}
 use Rattle.ol_spec.specs.Limits.{relay_loader}
 use Rattle.ol_spec.specs.declared.Cycled.{Cycled}
+use Rattle.ol_spec.specs.declared.Cycled.TheVariants as Cyc
 use Rattle.ol_spec.specs.Answers.{Started}
 use Rattle.ol_sim.specs.Calls.{StartsAs, CyclesAs}
 use Rattle.rows.specs.Rows.{all_agree}
+use Rattle.rows.proofs.Laws.{all_agree_is}
 use Rattle.long_run.specs.declared.Tally.{Tally}
-use Rattle.long_run.specs.Runs.{is_answered, is_done, more, none, Stand, stand, forth, back, both, inputs_at, after, Stepped, Stands, run_of}
+use Rattle.long_run.specs.Runs.{is_answered, is_done, more, none, Stand, stand, forth, back, both, inputs_at, after, Stepped, Stands, run_of, Ran}
 
--- ---- equal lists
+-- ---- what is counted
 
-and_true : (b c : Bool) → b && c ≡ true → (b ≡ true) × (c ≡ true)
-and_true true c e = (refl, e)
-and_true false c e = let z : ◌≡◌ {A = ℕ} 0 1 = cc in absurd (omega arith)
+pub unanswered : (c : Cycled) → (c ≡ Cyc.Answered → ⊥) → false ≡ is_answered c
+unanswered Cyc.Answered h = absurd (h refl)
+unanswered (Cyc.Stopped f) h = refl
+unanswered (Cyc.Refused f) h = refl
 
-agree_same : (a : List ℕ) → all_agree a a ≡ true
-unfolding all_agree
-agree_same [] = refl
-agree_same (x ∷ a) = rw (eq-eqb x x refl) (agree_same a)
+pub more_is : (n d : ℕ) (so : Bool) → n < 2 ^ 64 → d ≡ bool_byte so → (n + d) % 2 ^ 64 ≡ more n so
+more_is n d true h e = rw e
+more_is n d false h e = omega arith
 
-agree_equal : (a b : List ℕ) → all_agree a b ≡ true → a ≡ b
-unfolding all_agree
-agree_equal [] [] e = refl
-agree_equal [] (y ∷ b) e = let z : ◌≡◌ {A = ℕ} 0 1 = cc in absurd (omega arith)
-agree_equal (x ∷ a) [] e = let z : ◌≡◌ {A = ℕ} 0 1 = cc in absurd (omega arith)
-agree_equal (x ∷ a) (y ∷ b) e =
-    let p = and_true (eqb x y) (all_agree a b) e in
-    let h = eqb-true x y p.0 in
-    let t = agree_equal a b p.1 in
-    cc
+-- ---- a cycle, a pair
 
-tests_alike : (r s : Bool) → (r ≡ true → s ≡ true) → (s ≡ true → r ≡ true) → r ≡ s
-tests_alike true s f g = sym (f refl)
-tests_alike false true f g = g refl
-tests_alike false false f g = refl
-
-same_is : (a b : List ℕ) (r : Bool) → (r ≡ true → a ≡ b) × (a ≡ b → r ≡ true) → r ≡ all_agree a b
-same_is a b r h = tests_alike r (all_agree a b) (λ e. rw (h.0 e) (agree_same b)) (λ e. h.1 (agree_equal a b e))
-
--- what a comparison of texts says
-pub compared : (a b : List ℕ) (r : Bool) → r ≡ pointwise eqb a b → (r ≡ true → a ≡ b) × (a ≡ b → r ≡ true)
-compared a b r h = (λ e. (bytes_decides a b).0 (sym h ∙ e), λ e. h ∙ (bytes_decides a b).1 e)
-
--- ---- a cycle, a pair, a turn
-
-tally_is : {x y u w : ℕ} → x ≡ u → y ≡ w → ◌≡◌ {A = Tally} (record { answered = x; fresh = y }) (record { answered = u; fresh = w })
+pub tally_is : {x y u w : ℕ} → x ≡ u → y ≡ w → ◌≡◌ {A = Tally} (record { answered = x; fresh = y }) (record { answered = u; fresh = w })
 tally_is p q i = record { answered = p i; fresh = q i }
 
-pub stepped_is : (file fresh old inputs new values : List ℕ) (t : Tally) (rc : Cycled) (new' values' : List ℕ) (x y : ℕ) (ia sm : Bool) → CyclesAs (cycle relay_loader file old inputs new values) rc new' values' → ia ≡ is_answered rc → x ≡ more t.answered ia → (sm ≡ true → new' ≡ fresh) × (new' ≡ fresh → sm ≡ true) → y ≡ more t.fresh sm → Stepped file fresh old inputs new values t (record { answered = x; fresh = y }) new' values'
-stepped_is file fresh old inputs new values t rc new' values' x y ia sm h ea ex es ey =
+pub stepped_is : {file fresh old inputs new values : List ℕ} {t : Tally} {rc : Cycled} {new' values' : List ℕ} (x y : ℕ) (ia sm : Bool) → CyclesAs (cycle relay_loader file old inputs new values) rc new' values' → ia ≡ is_answered rc → x ≡ more t.answered ia → sm ≡ pointwise eqb new' fresh → y ≡ more t.fresh sm → Stepped file fresh old inputs new values t (record { answered = x; fresh = y }) new' values'
+stepped_is {fresh = fresh} {t = t} {new' = new'} x y ia sm h ea ex es ey =
     record {
       counts =
           tally_is (ex ∙ ap (more t.answered) (ea ∙ ap is_answered h.answered))
-          (ey ∙ ap (more t.fresh) (same_is new' fresh sm es ∙ ap (λ l. all_agree l fresh) h.renewed));
+          (ey ∙ ap (more t.fresh) (es ∙ sym (all_agree_is new' fresh) ∙ ap (λ l. all_agree l fresh) h.renewed));
       new_is = h.renewed;
       values_is = h.valued;
     }
@@ -88,15 +68,26 @@ module _ (file fresh first second : List ℕ) where
 
 -- ---- a file's run
 
-module _ (file first second fresh a b values : List ℕ) (rf ra : Started) (fresh' a' : List ℕ) (hf : StartsAs (start relay_loader file fresh) rf fresh') (ha : StartsAs (start relay_loader file a) ra a') where
-  pub run_done : is_done rf ≡ true → is_done ra ≡ true → (t : Tally) → t ≡ (after file fresh' first second 500000 (stand none a' b values)).tally → t ≡ run_of file first second fresh a b values
-  unfolding run_of
-  run_done e g t q = rw (← hf.answered, e, ← ha.answered, g, ← hf.written, ← ha.written) q
+started : (r : Started) → is_err r ≡ false → is_done r ≡ true
+started (Ok u) e = refl
+started (Err f) e = sym e
 
-  pub run_unstarted : is_done rf ≡ true → is_done ra ≡ false → (t : Tally) → t ≡ none → t ≡ run_of file first second fresh a b values
-  unfolding run_of
-  run_unstarted e g t q = rw (← hf.answered, e, ← ha.answered, g) q
+unstarted : (r : Started) → is_err r ≡ true → is_done r ≡ false
+unstarted (Ok u) e = sym e
+unstarted (Err f) e = refl
 
-  pub run_not_fresh : is_done rf ≡ false → (t : Tally) → t ≡ none → t ≡ run_of file first second fresh a b values
+module _ (file first second fresh a b values : List ℕ) (rf : Started) (fresh' : List ℕ) (hf : StartsAs (start relay_loader file fresh) rf fresh') where
+  ran_as : (t : Tally) → t ≡ run_of file first second fresh a b values → Ran t
+  ran_as t e = record { file = file; first = first; second = second; fresh = fresh; a = a; b = b; values = values; counts = e }
+
+  pub ran_done : (ra : Started) (a' : List ℕ) → StartsAs (start relay_loader file a) ra a' → is_err rf ≡ false → is_err ra ≡ false → (t : Tally) (x y v : List ℕ) → Stands (after file fresh' first second 500000 (stand none a' b values)) t x y v → Ran t
   unfolding run_of
-  run_not_fresh e t q = rw (← hf.answered, e) q
+  ran_done ra a' ha e g t x y v s = ran_as t (rw (← hf.answered, started rf e, ← ha.answered, started ra g, ← hf.written, ← ha.written) s.counts)
+
+  pub ran_unstarted : (ra : Started) (a' : List ℕ) → StartsAs (start relay_loader file a) ra a' → is_err rf ≡ false → is_err ra ≡ true → (t : Tally) → t ≡ none → Ran t
+  unfolding run_of
+  ran_unstarted ra a' ha e g t q = ran_as t (rw (← hf.answered, started rf e, ← ha.answered, unstarted ra g) q)
+
+  pub ran_not_fresh : is_err rf ≡ true → (t : Tally) → t ≡ none → Ran t
+  unfolding run_of
+  ran_not_fresh e t q = ran_as t (rw (← hf.answered, unstarted rf e) q)
