@@ -17,6 +17,7 @@ use ol_tables::kind::NodeKind;
 use ol_tables::tables::{FileRows, VARIANT};
 
 // What the expressions of a node are judged by: the file, the table by name, the rows of its nodes, how many there are, and the node's number.
+// How many nodes there are stands beside the rows here and in the clauses: the rows have 32, and the file says how many of them are nodes.
 #[derive(Clone, Copy)]
 pub(crate) struct Judge<'a> {
     pub file: &'a [u8],

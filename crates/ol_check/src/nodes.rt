@@ -78,6 +78,7 @@ fn node(
     ensures { (names.new ≡ names.old) × (numbers rows.new ≡ set (numbers rows.old) (k * 8 + 6) (record_by (row_at (numbers rows.old) k 0) g.new.size)) × NodeJudged file.now names.old (numbers rows.old) nodes (file_at file.now) k (take half slots.old) (take half slots.new) (findings g.old) (findings g.new) × NodePlanned (numbers rows.old) nodes (file_at file.now) half k slots.old slots.new }
 {
     declare_node(file, names, rows, k);
+    // A byte for each entry, and no bool: it is a table by entry as those of the names and the sorts are, and its clauses are theirs.
     let mut defined = [0u8; 256];
     let row = *rows.node(k);
     g.size = 1 + 9 * row.variables;

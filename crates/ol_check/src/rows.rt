@@ -7,6 +7,7 @@ ghost use Rattle.ol_tables.specs.At.{file_at};
 ghost use Rattle.ol_tables.specs.Stands.{FileReads};
 ghost use Rattle.ol_tables.specs.Numbers.{numbers};
 
+use ol_spec::type_codes::ENUM;
 use ol_tables::bytes::{byte, entry, name, put_byte, put_two};
 use ol_tables::heads::ty_size;
 use ol_tables::tables::{FileRows, Row};
@@ -64,13 +65,17 @@ fn enum_rows(file: &[u8], rows: &mut FileRows, count: usize, at: usize) -> usize
     next
 }
 
-// Stores the type at `at` in two bytes from p on.
+// Stores the type at `at` in two bytes from p on. Only an Enum has a number: the table has two bytes for every type, and the second is 0 for the others.
 fn put_type(file: &[u8], types: &mut [u8], p: usize, at: usize)
     requires { (p < 9300000000000000000) × (at ≤ 42000) }
     ensures { types.new ≡ type_set types.old p file.now at }
 {
     let code = byte(file, at);
-    let number = if code == 12 { byte(file, at + 1) } else { 0 };
+    let number = if code == usize::from(ENUM) {
+        byte(file, at + 1)
+    } else {
+        0
+    };
     put_byte(types, p, code as u8);
     put_byte(types, p + 1, number as u8);
 }

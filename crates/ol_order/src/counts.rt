@@ -12,6 +12,7 @@ use ol_ir::project::{base, load_file};
 pub fn equation_count(file: &[u8], node: usize) -> usize
     ensures { result ≡ equations_of (read_file file.now relay_loader) node }
 {
+    // How many nodes there are is known at the run only: the array has the most.
     let mut nodes = [0usize; 32];
     let Ok(loaded) = load_file(file, &mut nodes) else {
         return 0;

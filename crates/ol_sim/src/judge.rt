@@ -61,7 +61,8 @@ fn judge_main(file: &[u8], rows: &FileRows, size: usize, main: usize) -> Result<
     Ok(Admitted { size, main })
 }
 
-// What judging from 7 on asks and leaves as it is: the file, the rows of its table, its sections, and whether every declared name is below 1,024.
+// What judging from 7 on asks and leaves as it is: the file, the rows of its table, its sections, and whether every declared name is below 1,024:
+// a fact of its own, with no field that waits for it.
 #[derive(Clone, Copy)]
 struct Judging<'a> {
     project: Project<'a>,

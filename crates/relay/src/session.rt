@@ -38,7 +38,7 @@ pub struct Session {
     pub out: [u8; 393216],
 }
 
-// What an admitted file is told with.
+// What an admitted file is told with: the protocol's line has number 0 at place 0 for no fault.
 const NO_FAULT: Fault = Fault {
     number: 0,
     place: 0,
@@ -139,7 +139,7 @@ impl Session {
         }
     }
 
-    // file HEX
+    // file HEX. Of a refused file the state is the empty one: each call on it is refused for the file.
     fn open_file(&mut self, n: usize) -> usize
         ensures { (no : ℕ) (st : Standing) → Replies (obey no (file_of (take n self.old.bytes)) st) result self.new }
     {
