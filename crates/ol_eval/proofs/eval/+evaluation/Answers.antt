@@ -422,15 +422,6 @@ equation-at-requires t c =
     let s = names_inside p n ne in
     s.0
 
-pub equation-call_equation-requires : goal.equation-call_equation-requires
-equation-call_equation-requires t c =
-    let p = c.requires in
-    let f = c.args.file.now in
-    let n = c.from-n.result in
-    let ne = c.from-n.ensures in
-    let code = plan_form f (equation_ready p (c.args.at + 1 + 2 * n) (right_place p n ne)).plan Frm.Call c.at.ensures c.in-Call.is in
-    (omega arith, (p, subst (λ (m : ℕ). get_or f (c.args.at + 1 + 2 * m) 0 ≡ 11) ne code))
-
 pub equation-tuple_equation-requires : goal.equation-tuple_equation-requires
 equation-tuple_equation-requires t c =
     let p = c.requires in
@@ -1042,12 +1033,6 @@ eval_form-pass-s-requires t c =
     let p = c.requires in
     let tb = c.args.tab.now in
     (ready_pass p, rows_room tb _ p.plan.program.table.long)
-
-pub eval_form-eval_call-requires : goal.eval_form-eval_call-requires
-eval_form-eval_call-requires t c =
-    let p = c.requires in
-    let f = c.args.file.now in
-    (omega arith, (p, plan_form f p.plan Frm.Call c.at.ensures c.in-Call.is))
 
 pub eval_form-returns-in-Unary : goal.eval_form-returns-in-Unary
 unfolding eval
