@@ -1,4 +1,5 @@
 // A frame: what the equations of an instance are run on.
+ghost use Rattle.std.proofs.Math.ListN.{replicate};
 ghost use Rattle.std.specs.Prelude.{◌≡◌, false, ◌∷◌, ◌++◌, ◌+◌, ◌*◌, ◌≤◌, length, drop};
 ghost use Rattle.ol_frame.specs.Outcomes.{ending_of};
 ghost use Rattle.ol_frame.specs.Stores.{Storable, StoresOut, Assignable, Assigns};
@@ -33,7 +34,7 @@ impl Frame {
 
     // All zero.
     pub fn new() -> Frame
-        ensures { (result.first ≡ false) × (result.node ≡ 0) }
+        ensures { (result.first ≡ false) × (result.node ≡ 0) × (result.cells ≡ replicate 1008 0) × (result.before ≡ replicate 1008 0) }
     {
         Frame {
             first: false,
