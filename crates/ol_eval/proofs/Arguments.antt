@@ -1,6 +1,7 @@
 -- Laws of several expressions, evaluated in turn: the loop of `eval_all`.
 use Prim.Native.Nat.{ℕ, suc, ◌+◌, ◌-◌, ◌*◌, ◌≤◌, ◌<◌}
-use mathlib.Core.Bool.{Bool, true, false}
+use mathlib.Core.Bool.{Bool}
+use Rattle.std.specs.Prelude.{Option, Some, None, MatchOption}
 use mathlib.Core.List.{List, [], ◌∷◌, ◌++◌, map, append_assoc, append-nil}
 use mathlib.Core.Path.{◌≡◌, refl, sym, ap, subst, ◌∙◌}
 use native.Mathlib.Omega.{arith}
@@ -9,7 +10,7 @@ use lib.Seq.{take-take, drop-drop, take_at, drop_at}
 use Rattle.ol_spec.specs.Syntax.{Variable, bool, variables, type_of, Exprs}
 use Rattle.ol_spec.specs.Cell.{cell, value_of, values_of}
 use Rattle.ol_spec.specs.Types.{fit}
-use Rattle.ol_spec.specs.Eval.{Outcomes, values, failure, overflow, Eval, Evals, callees_all, sites_size, cons_out, next_all, next_all_on, eval, eval_all}
+use Rattle.ol_spec.specs.Eval.{Outcomes, values, failure, overflow, several, Eval, Evals, callees_all, sites_size, cons_out, next_all, next_all_on, eval, eval_all}
 use Rattle.ol_spec.specs.Step.{fit_all, calls}
 use Rattle.ol_spec.specs.declared.Value.{Value}
 use Rattle.ol_spec.specs.declared.Cause.{Cause}
@@ -22,11 +23,14 @@ use Rattle.ol_tables.proofs.Forms.{parted, none_read}
 use Rattle.ol_frame.specs.Walk.{nodes_in, sizes_in, Passable, SkipsTo}
 use Rattle.ol_frame.specs.Plans.{Program, globals_in, scope_in, eval_in, segs_at, seg_at}
 use Rattle.ol_eval.specs.Post.{Ready, EvalsTo}
-use Rattle.ol_frame.specs.Stores.{passed_by}
+use Rattle.ol_frame.specs.Stores.{PassedOn}
 use Rattle.ol_frame.specs.Outcomes.{ending_of}
 use Rattle.ol_frame.specs.declared.outcomes.Ending.{Ending}
 use Rattle.ol_frame.specs.declared.outcomes.Ending.TheVariants as End
-use Rattle.ol_eval.specs.Calls.{Holds, RanTo, Passes, passed_all, all_in}
+use Rattle.ol_eval.specs.Calls.{Holds, RanTo, Passes, passed_all, all_in, callee_at}
+use Rattle.ol_tables.specs.Heads.{parts_at, next_at}
+use Rattle.ol_tables.specs.Table.{tab_of, rows_of, consts_of}
+use Rattle.ol_frame.specs.declared.frame.Frame.{Frame}
 use Rattle.ol_eval.specs.declared.eval.Step.{Step}
 use Rattle.ol_frame.specs.declared.skip.Passed.{Passed}
 use Rattle.ol_tables.proofs.Lending.{tail_of, put_tail, tail_all, put_tail_lem, drop_take}
@@ -64,22 +68,25 @@ next_by_lem E K rest o e = ap (λ (x : Outcome). next_all_on x E.seg K rest) e
 
 -- ---- values passed on
 
-pub passed_none : (fits : Bool) (xs : List Variable) → [] ≡ passed_all fits xs []
+pub passed_none : (file : List ℕ) (callee : Option ℕ) → [] ≡ passed_all file callee []
 unfolding fit_all
-passed_none true [] = refl
-passed_none true (x ∷ xs) = refl
-passed_none false xs = refl
+passed_none file (Some k) = none_fit (node_in file k).inputs
+  where
+    none_fit : (xs : List Variable) → [] ≡ fit_all xs []
+    none_fit [] = refl
+    none_fit (x ∷ xs) = refl
+passed_none file None = refl
 
 -- one more, as the table of types tells
-passed_snoc : {file tab rows : List ℕ} (fits : Bool) (k n i : ℕ) → Program file tab rows → (fits ≡ true → (k < nodes_in file) × (n ≡ length (node_in file k).inputs)) → i < n → (vs : List Value) → length vs ≡ i → (v w : Value) → ((e : ℕ) → w ≡ passed_by fits (ty_of (code_at tab k i) e) v) → passed_all fits (node_in file k).inputs vs ++ w ∷ [] ≡ passed_all fits (node_in file k).inputs (vs ++ v ∷ [])
-passed_snoc {file} {tab} {rows} true k n i p c lt vs l v w h =
+passed_snoc : {file tab rows : List ℕ} (callee : Option ℕ) (n i : ℕ) → Program file tab rows → MatchOption callee (Unit {0}) (λ k. (k < nodes_in file) × (n ≡ length (node_in file k).inputs)) → i < n → (vs : List Value) → length vs ≡ i → (v w : Value) → PassedOn tab callee i v w → passed_all file callee vs ++ w ∷ [] ≡ passed_all file callee (vs ++ v ∷ [])
+passed_snoc {file} {tab} {rows} (Some k) n i p c lt vs l v w h =
     let N = node_in file k in
-    let few : i < length N.inputs = omega (arith, (c refl).1) in
+    let few : i < length N.inputs = omega (arith, c.1) in
     let inside : i < length (variables N) = omega (arith, few, length-append (N.inputs ++ N.outputs) N.locals, length-append N.inputs N.outputs) in
-    let t : w ≡ fit (get_or (map type_of (variables N)) i bool) v = passed_as true i v w (typed k p (c refl).0) inside h in
+    let t : w ≡ fit (get_or (map type_of (variables N)) i bool) v = passed_as i v w (typed k p c.0) inside h in
     ap (λ (x : Value). fit_all N.inputs vs ++ x ∷ []) (t ∙ (λ j. fit (get_or (map type_of (append_assoc N.inputs N.outputs N.locals j)) (sym l j) bool) v))
     ∙ sym (fit_snoc N.inputs (N.outputs ++ N.locals) vs v (omega (arith, few)))
-passed_snoc false k n i p c lt vs l v w h = ap (λ (x : Value). vs ++ x ∷ []) (h 0)
+passed_snoc None n i p c lt vs l v w h = ap (λ (x : Value). vs ++ x ∷ []) h
 
 -- ---- the expressions from a place on, the first and the others
 
@@ -120,7 +127,7 @@ left_done n i h = omega arith
 
 -- ---- the loop: `left` expressions from `pos` on are still to be evaluated
 
-pub record Going (want : Evals) (file tab rows consts : List ℕ) (fits : Bool) (k n at level node : ℕ) (first : Bool) (cells before old : List ℕ) (left i pos used : ℕ) (to new : List ℕ) : Type 0 where
+pub record Going (want : Evals) (file tab rows consts : List ℕ) (callee : Option ℕ) (n at level node : ℕ) (first : Bool) (cells before old : List ℕ) (left i pos used : ℕ) (to new : List ℕ) : Type 0 where
   pub values : List Value
   pub head : List ℕ
   pub counted : length values ≡ i
@@ -132,12 +139,17 @@ pub record Going (want : Evals) (file tab rows consts : List ℕ) (fits : Bool) 
   pub seg_is : want.seg ≡ head ++ (all_in file consts level left pos node first cells before (take (segs_at file level left pos) (drop used old))).seg
   pub total : segs_at file level n at ≡ used + segs_at file level left pos
   pub ends : ends_at file level n at ≡ ends_at file level left pos
-  pub stored : values_of i to ≡ passed_all fits (node_in file k).inputs values
+  pub stored : values_of i to ≡ passed_all file callee values
   pub long : 9 * n ≤ length to
   pub within : used ≤ length old
 
-pub going_start : {file tab rows consts : List ℕ} {fits : Bool} {k n at level node : ℕ} (first : Bool) {cells before old new to : List ℕ} → Ready file tab rows consts level n at node cells before old new → Passes file fits k n to → Going (all_in file consts level n at node first cells before (take (segs_at file level n at) old)) file tab rows consts fits k n at level node first cells before old n 0 at 0 to new
-going_start {file} {tab} {rows} {consts} {fits} {k} {n} {at} {level} {node} first {cells} {before} {old} {new} {to} p q =
+-- the parts of the call or Tuple at `at`, on the frame fr
+abbrev pub Goes : List ℕ → List ℕ → ℕ → ℕ → Frame → List ℕ → ℕ → ℕ → ℕ → ℕ → List ℕ → List ℕ → Type 0
+Goes file tab level at fr old left i pos used to new =
+    Going (all_in file (consts_of tab) level (parts_at file at) (next_at file at) fr.node fr.first fr.cells fr.before (take (segs_at file level (parts_at file at) (next_at file at)) old)) file (tab_of tab) (rows_of tab) (consts_of tab) (callee_at file at) (parts_at file at) (next_at file at) level fr.node fr.first fr.cells fr.before old left i pos used to new
+
+pub going_start : {file tab rows consts : List ℕ} {callee : Option ℕ} {n at level node : ℕ} (first : Bool) {cells before old new to : List ℕ} → Ready file tab rows consts level n at node cells before old new → Passes file callee n to → Going (all_in file consts level n at node first cells before (take (segs_at file level n at) old)) file tab rows consts callee n at level node first cells before old n 0 at 0 to new
+going_start {file} {tab} {rows} {consts} {callee} {n} {at} {level} {node} first {cells} {before} {old} {new} {to} p q =
     record {
       values = [];
       head = [];
@@ -150,17 +162,17 @@ going_start {file} {tab} {rows} {consts} {fits} {k} {n} {at} {level} {node} firs
       seg_is = refl;
       total = omega arith;
       ends = refl;
-      stored = passed_none fits (node_in file k).inputs;
+      stored = passed_none file callee;
       long = q.room;
       within = omega arith;
     }
 
--- with another number of expressions left, or at another place, by equations
-pub going_left : {want : Evals} {file tab rows consts : List ℕ} {fits : Bool} {k n at level node : ℕ} {first : Bool} {cells before old : List ℕ} {left i pos used : ℕ} {to new : List ℕ} {left' : ℕ} → left ≡ left' → Going want file tab rows consts fits k n at level node first cells before old left i pos used to new → Going want file tab rows consts fits k n at level node first cells before old left' i pos used to new
-going_left {want} {file} {tab} {rows} {consts} {fits} {k} {n} {at} {level} {node} {first} {cells} {before} {old} {left} {i} {pos} {used} {to} {new} e g =
-    subst (λ (m : ℕ). Going want file tab rows consts fits k n at level node first cells before old m i pos used to new) e g
+-- with another number of expressions left, by an equation
+pub going_left : {want : Evals} {file tab rows consts : List ℕ} {callee : Option ℕ} {n at level node : ℕ} {first : Bool} {cells before old : List ℕ} {left i pos used : ℕ} {to new : List ℕ} {left' : ℕ} → left ≡ left' → Going want file tab rows consts callee n at level node first cells before old left i pos used to new → Going want file tab rows consts callee n at level node first cells before old left' i pos used to new
+going_left {want} {file} {tab} {rows} {consts} {callee} {n} {at} {level} {node} {first} {cells} {before} {old} {left} {i} {pos} {used} {to} {new} e g =
+    subst (λ (m : ℕ). Going want file tab rows consts callee n at level node first cells before old m i pos used to new) e g
 
-module _ {want : Evals} {file tab rows consts : List ℕ} {fits : Bool} {k n at level node : ℕ} {first : Bool} {cells before old : List ℕ} {left i pos used : ℕ} {to new : List ℕ} (g : Going want file tab rows consts fits k n at level node first cells before old (suc left) i pos used to new) where
+module _ {want : Evals} {file tab rows consts : List ℕ} {callee : Option ℕ} {n at level node : ℕ} {first : Bool} {cells before old : List ℕ} {left i pos used : ℕ} {to new : List ℕ} (g : Going want file tab rows consts callee n at level node first cells before old (suc left) i pos used to new) where
   abbrev seg : ℕ
   seg = seg_at file level pos
 
@@ -219,12 +231,12 @@ module _ {want : Evals} {file tab rows consts : List ℕ} {fits : Bool} {k n at 
     pub going_passable : Passable file rows level left r.next
     going_passable = subst (λ (m : ℕ). Passable file rows level left m) (sym h.next_is) (ready_pass ready_next)
 
-    pub going_turn : {v w : Value} {to' : List ℕ} → (fits ≡ true → (k < nodes_in file) × (n ≡ length (node_in file k).inputs)) → r.out ≡ Out.Value v → ((e : ℕ) → w ≡ passed_by fits (ty_of (code_at tab k i) e) v) → value_of (cell w) ≡ w → to' ≡ take (9 * i) to ++ (cell w ++ drop (9 * i + 9) to) → length to' ≡ length to → Going want file tab rows consts fits k n at level node first cells before old left (i + 1) r.next (used + r.used) to' (put_tail used new x)
+    pub going_turn : {v w : Value} {to' : List ℕ} → MatchOption callee (Unit {0}) (λ k. (k < nodes_in file) × (n ≡ length (node_in file k).inputs)) → r.out ≡ Out.Value v → PassedOn tab callee i v w → value_of (cell w) ≡ w → to' ≡ take (9 * i) to ++ (cell w ++ drop (9 * i + 9) to) → length to' ≡ length to → Going want file tab rows consts callee n at level node first cells before old left (i + 1) r.next (used + r.used) to' (put_tail used new x)
     going_turn {v} {w} {to'} c o pw kw write keep =
         let R = opened (Out.Value v) (sym h.out ∙ o) in
         let rest = take behind (drop (used + seg) old) in
         let lt : i < n = omega (arith, g.whole) in
-        let t : Going want file tab rows consts fits k n at level node first cells before old left (i + 1) (end_at file level pos) (used + seg) to' (put_tail used new x) =
+        let t : Going want file tab rows consts callee n at level node first cells before old left (i + 1) (end_at file level pos) (used + seg) to' (put_tail used new x) =
         record {
           values = g.values ++ v ∷ [];
           head = g.head ++ here.seg;
@@ -237,16 +249,15 @@ module _ {want : Evals} {file tab rows consts : List ℕ} {fits : Bool} {k n at 
           seg_is = g.seg_is ∙ ap (λ (e : Evals). g.head ++ e.seg) R ∙ sym (append_assoc g.head here.seg (later rest).seg);
           total = total_is;
           ends = g.ends ∙ (parted file level left pos g.ready.plan.reads).ends;
-          stored = ap (values_of (i + 1)) write ∙ values_next i to w (omega (arith, lt, g.long)) kw ∙ ap (λ (vs : List Value). vs ++ w ∷ []) g.stored ∙ passed_snoc fits k n i g.ready.plan.program c lt g.values g.counted v w pw;
+          stored = ap (values_of (i + 1)) write ∙ values_next i to w (omega (arith, lt, g.long)) kw ∙ ap (λ (vs : List Value). vs ++ w ∷ []) g.stored ∙ passed_snoc callee n i g.ready.plan.program c lt g.values g.counted v w pw;
           long = omega (arith, g.long, keep);
           within = omega (arith, going_seg, length-drop used old, g.within);
         } in
-        subst (λ (m : ℕ). Going want file tab rows consts fits k n at level node first cells before old left (i + 1) r.next (used + m) to' (put_tail used new x)) (sym h.used_is)
-        (subst (λ (m : ℕ). Going want file tab rows consts fits k n at level node first cells before old left (i + 1) m (used + seg) to' (put_tail used new x)) (sym h.next_is) t)
+        subst (λ (m : ℕ). Going want file tab rows consts callee n at level node first cells before old left (i + 1) r.next (used + m) to' (put_tail used new x)) (sym h.used_is)
+        (subst (λ (m : ℕ). Going want file tab rows consts callee n at level node first cells before old left (i + 1) m (used + seg) to' (put_tail used new x)) (sym h.next_is) t)
 
-    -- it failed, or overflowed: the others are passed over
-    going_stop : {q : Passed} (make : List Value → List Value) (got : List Value) (e : Ending) (out : Outcomes) (o : Outcome) → r.out ≡ o → ((w : List ℕ) (K : List ℕ → Evals) (rest : List ℕ) → next_all_on o w K rest ≡ record { out = out; seg = w ++ rest }) → cons_all g.values out ≡ out → e ≡ ending_of out → Holds make out got → SkipsTo file level left r.next q → RanTo make want (ends_at file level n at) (segs_at file level n at) old (record { end = e; next = q.next; used = used + r.used + q.used }) got (put_tail used new x)
-    going_stop {q} make got e out o ro stop cons ee hold skip =
+    stopped : {q : Passed} (make : List Value → List Value) (got : List Value) (e : Ending) (out : Outcomes) (o : Outcome) → r.out ≡ o → ((w : List ℕ) (K : List ℕ → Evals) (rest : List ℕ) → next_all_on o w K rest ≡ record { out = out; seg = w ++ rest }) → cons_all g.values out ≡ out → e ≡ ending_of out → Holds make out got → SkipsTo file level left r.next q → RanTo make want (ends_at file level n at) (segs_at file level n at) old (record { end = e; next = q.next; used = used + r.used + q.used }) got (put_tail used new x)
+    stopped {q} make got e out o ro stop cons ee hold skip =
         let s = moved_skip file level left h.next_is skip in
         let rest = take behind (drop (used + seg) old) in
         let R = opened o (sym h.out ∙ ro) ∙ stop here.seg later rest in
@@ -261,11 +272,14 @@ module _ {want : Evals} {file tab rows consts : List ℕ} {fits : Bool} {k n at 
               ∙ ap (λ (l : List ℕ). l ++ drop (segs_at file level n at) old) (append_assoc g.head here.seg rest ∙ sym (g.seg_is ∙ ap (λ (y : Evals). g.head ++ y.seg) R));
         }
 
-    pub going_failed : {q : Passed} (c : Cause) (make : List Value → List Value) (got : List Value) → r.out ≡ Out.Failure c → SkipsTo file level left r.next q → RanTo make want (ends_at file level n at) (segs_at file level n at) old (record { end = End.Failed c; next = q.next; used = used + r.used + q.used }) got (put_tail used new x)
-    going_failed c make got o s = going_stop make got (End.Failed c) (failure c) (Out.Failure c) o (λ w K rest. refl) (cons_failure c g.values) refl tt s
-
-    pub going_overflowed : {q : Passed} (make : List Value → List Value) (got : List Value) → r.out ≡ Out.Overflow → SkipsTo file level left r.next q → RanTo make want (ends_at file level n at) (segs_at file level n at) old (record { end = End.Overflowed; next = q.next; used = used + r.used + q.used }) got (put_tail used new x)
-    going_overflowed make got o s = going_stop make got End.Overflowed overflow Out.Overflow o (λ w K rest. refl) (cons_overflow g.values) refl tt s
+    -- it failed, or overflowed: the others are passed over
+    pub going_stop : {q : Passed} {e : Ending} (make : List Value → List Value) (got : List Value) → ((v : Value) → ¬ (r.out ≡ Out.Value v)) → e ≡ ending_of (several r.out) → SkipsTo file level left r.next q → RanTo make want (ends_at file level n at) (segs_at file level n at) old (record { end = e; next = q.next; used = used + r.used + q.used }) got (put_tail used new x)
+    going_stop {q} {e} make got ne ee s = go r.out refl
+      where
+        go : (o : Outcome) → r.out ≡ o → RanTo make want (ends_at file level n at) (segs_at file level n at) old (record { end = e; next = q.next; used = used + r.used + q.used }) got (put_tail used new x)
+        go (Out.Value v) o = absurd (ne v o)
+        go (Out.Failure c) o = stopped make got e (failure c) (Out.Failure c) o (λ w K rest. refl) (cons_failure c g.values) (ee ∙ ap (λ (y : Outcome). ending_of (several y)) o) tt s
+        go Out.Overflow o = stopped make got e overflow Out.Overflow o (λ w K rest. refl) (cons_overflow g.values) (ee ∙ ap (λ (y : Outcome). ending_of (several y)) o) tt s
 
     -- the bytes so far, and of all
     pub going_used : used + r.used ≤ segs_at file level n at
@@ -276,8 +290,8 @@ unfolding sites_size
 none_segs file level at = ap (λ (es : Exprs). sites_size (sizes_in file) (callees_all es)) (none_read file level at).0
 
 -- all have their values
-pub going_done : {want : Evals} {file tab rows consts : List ℕ} {fits : Bool} {k n at level node : ℕ} {first : Bool} {cells before old : List ℕ} {i pos used : ℕ} {to new : List ℕ} → Going want file tab rows consts fits k n at level node first cells before old 0 i pos used to new → RanTo (passed_all fits (node_in file k).inputs) want (ends_at file level n at) (segs_at file level n at) old (record { end = End.Values; next = pos; used = used }) (values_of n to) new
-going_done {want} {file} {tab} {rows} {consts} {fits} {k} {n} {at} {level} {node} {first} {cells} {before} {old} {i} {pos} {used} {to} {new} g =
+pub going_done : {want : Evals} {file tab rows consts : List ℕ} {callee : Option ℕ} {n at level node : ℕ} {first : Bool} {cells before old : List ℕ} {i pos used : ℕ} {to new : List ℕ} → Going want file tab rows consts callee n at level node first cells before old 0 i pos used to new → RanTo (passed_all file callee) want (ends_at file level n at) (segs_at file level n at) old (record { end = End.Values; next = pos; used = used }) (values_of n to) new
+going_done {want} {file} {tab} {rows} {consts} {callee} {n} {at} {level} {node} {first} {cells} {before} {old} {i} {pos} {used} {to} {new} g =
     let none = none_read file level pos in
     let z = none_segs file level pos in
     let R = all_none file consts level node first cells before pos (take (segs_at file level 0 pos) (drop used old)) in
@@ -289,6 +303,6 @@ going_done {want} {file} {tab} {rows} {consts} {fits} {k} {n} {at} {level} {node
       end_is = ap ending_of (sym W);
       next_is = sym (g.ends ∙ none.1);
       used_is = sym t;
-      values_are = subst (λ (y : Outcomes). Holds (passed_all fits (node_in file k).inputs) y (values_of n to)) (sym W) (subst (λ (m : ℕ). values_of m to ≡ passed_all fits (node_in file k).inputs g.values) e g.stored);
+      values_are = subst (λ (y : Outcomes). Holds (passed_all file callee) y (values_of n to)) (sym W) (subst (λ (m : ℕ). values_of m to ≡ passed_all file callee g.values) e g.stored);
       state = g.state ∙ (λ j. sym seg j ++ drop (sym t j) old);
     }

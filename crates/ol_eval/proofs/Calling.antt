@@ -1,6 +1,7 @@
 -- Laws of a call: its arguments, then its callee on the call site's record.
 use Prim.Native.Nat.{ℕ, zero, suc, ◌+◌, ◌-◌, ◌≤◌, ◌<◌}
-use mathlib.Core.Bool.{Bool, true, false, cond}
+use mathlib.Core.Bool.{Bool, cond}
+use Rattle.std.specs.Prelude.{Option, Some, None}
 use mathlib.Core.List.{List, ◌∷◌, ◌++◌, append_assoc}
 use mathlib.Core.Path.{◌≡◌, refl, sym, ap, subst, ◌∙◌}
 use native.Mathlib.Omega.{arith}
@@ -26,7 +27,7 @@ use Rattle.ol_eval.specs.Post.{Ready, Meets, EvalsTo}
 use Rattle.ol_frame.specs.Outcomes.{ending_of}
 use Rattle.ol_frame.specs.declared.outcomes.Ending.{Ending}
 use Rattle.ol_frame.specs.declared.outcomes.Ending.TheVariants as End
-use Rattle.ol_eval.specs.Calls.{Holds, as_is, RanTo, Did, Passes, all_in, PassedTo, Several, AllTo, is_call, outputs_at, rhs_eval, EntersTo, Steppable, SiteTo}
+use Rattle.ol_eval.specs.Calls.{Holds, as_is, RanTo, Did, Passes, all_in, PassedTo, Several, AllTo, callee_at, outputs_at, rhs_eval, EntersTo, Steppable, SiteTo}
 use Rattle.ol_frame.specs.Stores.{Leaves}
 use Rattle.ol_eval.specs.declared.eval.Ran.{Ran}
 use Rattle.ol_tables.proofs.Lending.{tail_of, put_tail, tail_all, put_tail_lem, take_put, drop_put, drop_take}
@@ -105,11 +106,11 @@ not_imported_lem Imported Operator h e = let z : ◌≡◌ {A = ℕ} 0 1 = cc in
 not_imported_lem Imported Imported h e = absurd h
 
 -- the parts of a call, and of a Tuple
-pub is_call_lem : (file : List ℕ) (at : ℕ) → get_or file at 0 ≡ 11 → is_call file at ≡ true
-is_call_lem file at b = ap (λ (c : ℕ). eqb c 11) b
+pub callee_of_call : (file : List ℕ) (at : ℕ) → get_or file at 0 ≡ 11 → callee_at file at ≡ Some (get_or file (at + 1) 0)
+callee_of_call file at b = ap (λ (c : ℕ). cond (eqb c 11) (Some (get_or file (at + 1) 0)) None) b
 
-pub is_tuple : (file : List ℕ) (at : ℕ) → get_or file at 0 ≡ 12 → is_call file at ≡ false
-is_tuple file at b = ap (λ (c : ℕ). eqb c 11) b
+pub no_callee : (file : List ℕ) (at : ℕ) → get_or file at 0 ≡ 12 → callee_at file at ≡ None
+no_callee file at b = ap (λ (c : ℕ). cond (eqb c 11) (Some (get_or file (at + 1) 0)) None) b
 
 module _ (file : List ℕ) (at : ℕ) where
   -- how many parts a code tells, and where they start
@@ -190,8 +191,11 @@ module _ {file tab rows consts : List ℕ} {level at node : ℕ} {cells before o
   pub call_arity : n ≡ length (node_in file k).inputs
   call_arity = call_callee.arity
 
-  pub call_passes : {to : List ℕ} → length to ≡ 288 → Passes file true k n to
-  call_passes l = record { room = omega (arith, call_few); few = omega (arith, call_few); small = call_small; callee = λ e. (call_below, call_arity) }
+  callee_is : callee_at file at ≡ Some k
+  callee_is = callee_of_call file at b ∙ ap Some (sym kE)
+
+  pub call_passes : {to : List ℕ} → length to ≡ 288 → Passes file (Some k) n to
+  call_passes l = record { room = omega (arith, call_few); few = omega (arith, call_few); small = call_small; called = (call_below, call_arity) }
 
   -- the parts of the call are its arguments
   parts_are : parts_at file at ≡ n
@@ -204,17 +208,15 @@ module _ {file tab rows consts : List ℕ} {level at node : ℕ} {cells before o
   call_several {to} l =
       record {
         inside = omega (arith, call_at.inside);
-        passes = subst (λ (m : ℕ). Passes file (is_call file at) (get_or file (at + 1) 0) m to) (sym parts_are)
-            (subst (λ (c : ℕ). Passes file (is_call file at) c n to) kE
-            (subst (λ (f : Bool). Passes file f k n to) (sym (is_call_lem file at b)) (call_passes l)));
+        passes = subst (λ (m : ℕ). Passes file (callee_at file at) m to) (sym parts_are)
+            (subst (λ (c : Option ℕ). Passes file c n to) (sym callee_is) (call_passes l));
       }
 
-  pub call_all : (first : Bool) {old' : List ℕ} {r : Ran} (to : List ℕ) {new' : List ℕ} → AllTo file consts (level - 1) at node first cells before old' r to new' → PassedTo file consts true k n (level - 1) (at + 3) node first cells before old' r to new'
+  pub call_all : (first : Bool) {old' : List ℕ} {r : Ran} (to : List ℕ) {new' : List ℕ} → AllTo file consts (level - 1) at node first cells before old' r to new' → PassedTo file consts (Some k) n (level - 1) (at + 3) node first cells before old' r to new'
   call_all first {old'} {r} to {new'} h =
-      subst (λ (f : Bool). PassedTo file consts f k n (level - 1) (at + 3) node first cells before old' r to new') (is_call_lem file at b)
-      (subst (λ (c : ℕ). PassedTo file consts (is_call file at) c n (level - 1) (at + 3) node first cells before old' r to new') (sym kE)
-      (subst (λ (m : ℕ). PassedTo file consts (is_call file at) (get_or file (at + 1) 0) m (level - 1) (at + 3) node first cells before old' r to new') parts_are
-      (subst (λ (p : ℕ). PassedTo file consts (is_call file at) (get_or file (at + 1) 0) (parts_at file at) (level - 1) p node first cells before old' r to new') start_is h)))
+      subst (λ (c : Option ℕ). PassedTo file consts c n (level - 1) (at + 3) node first cells before old' r to new') callee_is
+      (subst (λ (m : ℕ). PassedTo file consts (callee_at file at) m (level - 1) (at + 3) node first cells before old' r to new') parts_are
+      (subst (λ (p : ℕ). PassedTo file consts (callee_at file at) (parts_at file at) (level - 1) p node first cells before old' r to new') start_is h))
 
   -- the arguments, on what follows the call site's record
   call_args : (u : ℕ) → u ≡ row_at rows k 6 → Ready file tab rows consts (level - 1) n (at + 3) node cells before (tail_of u old) (tail_of u new)
@@ -270,21 +272,21 @@ module _ {file tab rows consts : List ℕ} {level at node : ℕ} {cells before o
         (subst (λ (w : Evals). RanTo as_is w (ends_at file (level - 1) n (at + 3)) (own + more) old r (outputs_at file k callee) new') (sym call_is) h)))
 
     -- the arguments, on the caller's own part
-    args_moved : (u : ℕ) → u ≡ row_at rows k 6 → {a : Ran} (callee : List ℕ) {new₁ : List ℕ} → PassedTo file consts true k n (level - 1) (at + 3) node first cells before (tail_of u old) a callee new₁ → RanTo (fit_all (node_in file k).inputs) (all_in file consts (level - 1) n (at + 3) node first cells before (take (segs_at file (level - 1) n (at + 3)) (drop (site_bytes (file_at file) k) old))) (ends_at file (level - 1) n (at + 3)) (segs_at file (level - 1) n (at + 3)) (drop (site_bytes (file_at file) k) old) a (values_of (length (node_in file k).inputs) callee) new₁
+    args_moved : (u : ℕ) → u ≡ row_at rows k 6 → {a : Ran} (callee : List ℕ) {new₁ : List ℕ} → PassedTo file consts (Some k) n (level - 1) (at + 3) node first cells before (tail_of u old) a callee new₁ → RanTo (fit_all (node_in file k).inputs) (all_in file consts (level - 1) n (at + 3) node first cells before (take (segs_at file (level - 1) n (at + 3)) (drop (site_bytes (file_at file) k) old))) (ends_at file (level - 1) n (at + 3)) (segs_at file (level - 1) n (at + 3)) (drop (site_bytes (file_at file) k) old) a (values_of (length (node_in file k).inputs) callee) new₁
     args_moved u e {a} callee {new₁} h =
         subst (λ (m : ℕ). RanTo (fit_all (node_in file k).inputs) (all_in file consts (level - 1) n (at + 3) node first cells before (take more (drop own old))) (ends_at file (level - 1) n (at + 3)) more (drop own old) a (values_of m callee) new₁) call_arity
         (subst (λ (s : List ℕ). RanTo (fit_all (node_in file k).inputs) (all_in file consts (level - 1) n (at + 3) node first cells before (take more s)) (ends_at file (level - 1) n (at + 3)) more s a (values_of n callee) new₁) (tail_all u old ∙ ap (λ (m : ℕ). drop m old) (e ∙ call_size)) h)
 
-    pub call_done : (u : ℕ) → u ≡ row_at rows k 6 → {a : Ran} (callee₁ callee₂ : List ℕ) {new₁ new_s : List ℕ} {e : Ending} → PassedTo file consts true k n (level - 1) (at + 3) node first cells before (tail_of u old) a callee₁ new₁ → a.end ≡ End.Values → SiteTo file consts k callee₁ (take u old) e callee₂ new_s → EntersTo file consts level at node first cells before old (record { end = e; next = a.next; used = u + a.used }) callee₂ (new_s ++ drop u (put_tail u new new₁))
+    pub call_done : (u : ℕ) → u ≡ row_at rows k 6 → {a : Ran} (callee₁ callee₂ : List ℕ) {new₁ new_s : List ℕ} {e : Ending} → PassedTo file consts (Some k) n (level - 1) (at + 3) node first cells before (tail_of u old) a callee₁ new₁ → a.end ≡ End.Values → SiteTo file consts k callee₁ (take u old) e callee₂ new_s → EntersTo file consts level at node first cells before old (record { end = e; next = a.next; used = u + a.used }) callee₂ (new_s ++ drop u (put_tail u new new₁))
     call_done u e {a} callee₁ callee₂ {new₁} {new_s} {e = end} h z s =
         let y = e ∙ call_size in
         enters_as callee₂ (enter_done (calls (globals_in file consts) k) u (args_moved u e callee₁ h) z (subst (λ (m : ℕ). SiteTo file consts k callee₁ (take m old) end callee₂ new_s) y s) p.same y (omega (arith, call_room)))
 
-    pub call_stop : (u : ℕ) → u ≡ row_at rows k 6 → {a : Ran} (callee₁ : List ℕ) {new₁ : List ℕ} → PassedTo file consts true k n (level - 1) (at + 3) node first cells before (tail_of u old) a callee₁ new₁ → ¬ (a.end ≡ End.Values) → EntersTo file consts level at node first cells before old (record { end = a.end; next = a.next; used = u + a.used }) callee₁ (put_tail u new new₁)
+    pub call_stop : (u : ℕ) → u ≡ row_at rows k 6 → {a : Ran} (callee₁ : List ℕ) {new₁ : List ℕ} → PassedTo file consts (Some k) n (level - 1) (at + 3) node first cells before (tail_of u old) a callee₁ new₁ → ¬ (a.end ≡ End.Values) → EntersTo file consts level at node first cells before old (record { end = a.end; next = a.next; used = u + a.used }) callee₁ (put_tail u new new₁)
     call_stop u e {a} callee₁ {new₁} h z =
         enters_as callee₁ (enter_stop (outputs_at file k callee₁) (calls (globals_in file consts) k) u (args_moved u e callee₁ h) z p.same (e ∙ call_size))
 
-    pub call_used : (u : ℕ) → u ≡ row_at rows k 6 → {a : Ran} (callee : List ℕ) {new₁ : List ℕ} → PassedTo file consts true k n (level - 1) (at + 3) node first cells before (tail_of u old) a callee new₁ → u + a.used ≤ 32768
+    pub call_used : (u : ℕ) → u ≡ row_at rows k 6 → {a : Ran} (callee : List ℕ) {new₁ : List ℕ} → PassedTo file consts (Some k) n (level - 1) (at + 3) node first cells before (tail_of u old) a callee new₁ → u + a.used ≤ 32768
     call_used u e callee h = omega (arith, h.used_is, e ∙ call_size, call_room, p.small)
 
     -- ---- the call as one value

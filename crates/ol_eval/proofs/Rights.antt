@@ -1,6 +1,7 @@
 -- Laws of an equation: its right side is evaluated on its segment, and the values are stored under its names.
 use Prim.Native.Nat.{ℕ, zero, suc, ◌+◌, ◌*◌, ◌<◌, ◌≤◌, min}
 use mathlib.Core.Bool.{Bool, false}
+use Rattle.std.specs.Prelude.{Option, None}
 use mathlib.Core.List.{List, [], ◌∷◌, ◌++◌, append-nil}
 use mathlib.Core.Path.{◌≡◌, refl, sym, ap, subst, ◌∙◌}
 use native.Mathlib.Omega.{arith}
@@ -27,7 +28,7 @@ use Rattle.ol_frame.specs.Walk.{nodes_in, sizes_in, Below}
 use Rattle.ol_frame.specs.Plans.{eval_in, globals_in, scope_in, width_in, names_in, constants_in, segs_at, seg_at}
 use Rattle.ol_eval.specs.Post.{Ready, EvalsTo}
 use Rattle.ol_frame.specs.Nodes.{EquationPlan, Running, Enters}
-use Rattle.ol_eval.specs.Calls.{passed_all, Holds, as_is, Did, Passes, PassedTo, is_call, Several, AllTo, all_in, rhs_eval, EntersTo, EquationReady, EquationTo}
+use Rattle.ol_eval.specs.Calls.{passed_all, Holds, as_is, Did, Passes, PassedTo, callee_at, Several, AllTo, all_in, rhs_eval, EntersTo, EquationReady, EquationTo}
 use Rattle.ol_frame.specs.Equations.{count_in, place_in, rhs_in, equation_in}
 use Rattle.ol_frame.specs.Stores.{cells_in, Storable, StoresOut, Assignable, Assigns}
 use Rattle.ol_frame.specs.Outcomes.{ending_of}
@@ -39,7 +40,7 @@ use Rattle.ol_frame.proofs.Passing.{callees_one}
 use Rattle.ol_frame.proofs.Planning.{sounds_below, segs_one, segs_form, plan_call}
 use Rattle.ol_tables.specs.Heads.{parts_at, next_at}
 use Rattle.ol_eval.proofs.Readying.{ready_parts}
-use Rattle.ol_eval.proofs.Calling.{is_tuple, parts_tuple, next_tuple}
+use Rattle.ol_eval.proofs.Calling.{no_callee, parts_tuple, next_tuple}
 use Rattle.ol_frame.proofs.NodeRows.{outputs_most}
 use Rattle.ol_frame.proofs.Storing.{typed, storable, assign_least, values_take}
 
@@ -298,10 +299,10 @@ module _ {file tab rows consts : List ℕ} {k i at : ℕ} {cells before old new 
     tuple_ready p count e =
         subst (λ (c : ℕ). Ready file tab rows consts 23 c (rhs + 2) k cells before old new) (sym e) (ready_parts (equation_ready rhs p.place) (tuple_is p).0 refl)
 
-    tuple_passes : RhsReady file k i rhs n 12 → (count : ℕ) → count ≡ get_or file (rhs + 1) 0 → {to : List ℕ} → length to ≡ 288 → Passes file false (get_or file (rhs + 1) 0) count to
+    tuple_passes : RhsReady file k i rhs n 12 → (count : ℕ) → count ≡ get_or file (rhs + 1) 0 → {to : List ℕ} → length to ≡ 288 → Passes file None count to
     tuple_passes p count e l =
         let t = (tuple_inside p).1 in
-        record { room = omega arith; few = omega arith; small = omega arith; callee = λ h. absurd (let z : ◌≡◌ {A = ℕ} 0 1 = cc in omega arith) }
+        record { room = omega arith; few = omega arith; small = tt; called = tt }
 
     -- the parts of the Tuple are its items
     parts_are : RhsReady file k i rhs n 12 → (count : ℕ) → count ≡ get_or file (rhs + 1) 0 → parts_at file rhs ≡ count
@@ -314,8 +315,8 @@ module _ {file tab rows consts : List ℕ} {k i at : ℕ} {cells before old new 
     tuple_several p count e {to} l =
         record {
           inside = omega (arith, tuple_inside p);
-          passes = subst (λ (m : ℕ). Passes file (is_call file rhs) (get_or file (rhs + 1) 0) m to) (sym (parts_are p count e))
-              (subst (λ (f : Bool). Passes file f (get_or file (rhs + 1) 0) count to) (sym (is_tuple file rhs p.code_is)) (tuple_passes p count e l));
+          passes = subst (λ (m : ℕ). Passes file (callee_at file rhs) m to) (sym (parts_are p count e))
+              (subst (λ (c : Option ℕ). Passes file c count to) (sym (no_callee file rhs p.code_is)) (tuple_passes p count e l));
         }
 
     pub tuple_parts : RhsReady file k i rhs n 12 → Ready file tab rows consts 23 (parts_at file rhs) (next_at file rhs) k cells before old new
@@ -323,11 +324,11 @@ module _ {file tab rows consts : List ℕ} {k i at : ℕ} {cells before old new 
         subst (λ (m : ℕ). Ready file tab rows consts 23 m (next_at file rhs) k cells before old new) (sym (parts_are p (get_or file (rhs + 1) 0) refl))
         (subst (λ (a : ℕ). Ready file tab rows consts 23 (get_or file (rhs + 1) 0) a k cells before old new) (sym (start_is p)) (tuple_ready p (get_or file (rhs + 1) 0) refl))
 
-    pub tuple_all : RhsReady file k i rhs n 12 → (count : ℕ) → count ≡ get_or file (rhs + 1) 0 → (first : Bool) {r : Ran} (to : List ℕ) {new' : List ℕ} → AllTo file consts 23 rhs k first cells before old r to new' → PassedTo file consts false (get_or file (rhs + 1) 0) count 23 (rhs + 2) k first cells before old r to new'
+    pub tuple_all : RhsReady file k i rhs n 12 → (count : ℕ) → count ≡ get_or file (rhs + 1) 0 → (first : Bool) {r : Ran} (to : List ℕ) {new' : List ℕ} → AllTo file consts 23 rhs k first cells before old r to new' → PassedTo file consts None count 23 (rhs + 2) k first cells before old r to new'
     tuple_all p count e first {r} to {new'} h =
-        subst (λ (f : Bool). PassedTo file consts f (get_or file (rhs + 1) 0) count 23 (rhs + 2) k first cells before old r to new') (is_tuple file rhs p.code_is)
-        (subst (λ (m : ℕ). PassedTo file consts (is_call file rhs) (get_or file (rhs + 1) 0) m 23 (rhs + 2) k first cells before old r to new') (parts_are p count e)
-        (subst (λ (a : ℕ). PassedTo file consts (is_call file rhs) (get_or file (rhs + 1) 0) (parts_at file rhs) 23 a k first cells before old r to new') (start_is p) h))
+        subst (λ (c : Option ℕ). PassedTo file consts c count 23 (rhs + 2) k first cells before old r to new') (no_callee file rhs p.code_is)
+        (subst (λ (m : ℕ). PassedTo file consts (callee_at file rhs) m 23 (rhs + 2) k first cells before old r to new') (parts_are p count e)
+        (subst (λ (a : ℕ). PassedTo file consts (callee_at file rhs) (parts_at file rhs) 23 a k first cells before old r to new') (start_is p) h))
 
     tuple_eval : (first : Bool) (p : RhsReady file k i rhs n 12) (count : ℕ) → count ≡ get_or file (rhs + 1) 0 → all_in file consts 23 count (rhs + 2) k first cells before (take (segs_at file 23 count (rhs + 2)) old) ≡ W first
     tuple_eval first p count e =
@@ -346,19 +347,19 @@ module _ {file tab rows consts : List ℕ} {k i at : ℕ} {cells before old new 
         let r = subst (λ (x : ℕ). ReadsAll file 24 1 x) (sym p.place) plan.plan.reads in
         ap (λ (c : ℕ). segs_at file 23 c (rhs + 2)) e ∙ sym (segs_form file r t refl) ∙ segs_one file 24 rhs r ∙ ap (seg_at file 24) p.place ∙ seg_is
 
-    pub tuple_done : (first : Bool) (count m : ℕ) (to cells' : List ℕ) {new' : List ℕ} {r : Ran} → RhsReady file k i rhs n 12 → count ≡ get_or file (rhs + 1) 0 → PassedTo file consts false (get_or file (rhs + 1) 0) count 23 (rhs + 2) k first cells before old r to new' → r.end ≡ End.Values
+    pub tuple_done : (first : Bool) (count m : ℕ) (to cells' : List ℕ) {new' : List ℕ} {r : Ran} → RhsReady file k i rhs n 12 → count ≡ get_or file (rhs + 1) 0 → PassedTo file consts None count 23 (rhs + 2) k first cells before old r to new' → r.end ≡ End.Values
         → m ≡ min n count → Assigns tab k (at + 1) m m to cells cells' → EquationTo file consts k i first cells before old End.Values cells' new'
     tuple_done first count m to cells' {new'} {r} p e h z c a =
         let G = all_in file consts 23 count (rhs + 2) k first cells before (take (segs_at file 23 count (rhs + 2)) old) in
         several_done first G r.end m count to cells' new' (tuple_eval first p count e) z h.end_is
         (plain G.out h.values_are) (no_rest first (tuple_used p count e) h.state) (c ∙ ap (λ (x : ℕ). min x count) p.count) a
       where
-        plain : (o : Outcomes) → Holds (passed_all false (node_in file (get_or file (rhs + 1) 0)).inputs) o (values_of count to) → Holds as_is o (values_of count to)
+        plain : (o : Outcomes) → Holds (passed_all file None) o (values_of count to) → Holds as_is o (values_of count to)
         plain (values vs) h = h
         plain (failure d) h = tt
         plain overflow h = tt
 
-    pub tuple_stops : (first : Bool) (count : ℕ) (to cells' : List ℕ) {new' : List ℕ} {r : Ran} → RhsReady file k i rhs n 12 → count ≡ get_or file (rhs + 1) 0 → PassedTo file consts false (get_or file (rhs + 1) 0) count 23 (rhs + 2) k first cells before old r to new' → ¬ (r.end ≡ End.Values)
+    pub tuple_stops : (first : Bool) (count : ℕ) (to cells' : List ℕ) {new' : List ℕ} {r : Ran} → RhsReady file k i rhs n 12 → count ≡ get_or file (rhs + 1) 0 → PassedTo file consts None count 23 (rhs + 2) k first cells before old r to new' → ¬ (r.end ≡ End.Values)
         → EquationTo file consts k i first cells before old r.end cells' new'
     tuple_stops first count to cells' {new'} {r} p e h z =
         several_stops first (all_in file consts 23 count (rhs + 2) k first cells before (take (segs_at file 23 count (rhs + 2)) old)) r.end cells' new' (tuple_eval first p count e) z h.end_is

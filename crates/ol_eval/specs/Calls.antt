@@ -1,7 +1,7 @@
 -- What the members of the cycle that call, step and run nodes ask and give.
-use Rattle.std.specs.Prelude.{ℕ, ◌+◌, ◌*◌, ◌<◌, ◌≤◌, Bool, true, false, List, ◌++◌, ◌≡◌, eqb, length, take, drop, get_or}
+use Rattle.std.specs.Prelude.{ℕ, ◌+◌, ◌*◌, ◌<◌, ◌≤◌, Bool, cond, Option, Some, None, MatchOption, List, ◌++◌, ◌≡◌, eqb, length, take, drop, get_or}
 use Rattle.ol_spec.specs.Lists.{concat}
-use Rattle.ol_spec.specs.Syntax.{Imported, Variable, rhs_of}
+use Rattle.ol_spec.specs.Syntax.{Imported, rhs_of}
 use Rattle.ol_spec.specs.Cell.{values_of}
 use Rattle.ol_spec.specs.Order.{order}
 use Rattle.ol_spec.specs.Eval.{Outcomes, values, failure, overflow, Evals, callees, sites_size, eval_all, eval_rhs}
@@ -48,37 +48,37 @@ pub record Did (make : List Value → List Value) (want : Evals) (end : Ending) 
 
 -- ---- several expressions
 
--- n values go to `to`, fitted to the inputs of node k if `fits`
-pub record Passes (file : List ℕ) (fits : Bool) (k n : ℕ) (to : List ℕ) : Type 0 where
+-- n values go to `to`, fitted to the inputs of the node that is called, if one is
+pub record Passes (file : List ℕ) (callee : Option ℕ) (n : ℕ) (to : List ℕ) : Type 0 where
   pub room : 9 * n ≤ length to
   pub few : n ≤ 112
-  pub small : k < 32
-  pub callee : fits ≡ true → (k < nodes_in file) × (n ≡ length (node_in file k).inputs)
+  pub small : MatchOption callee (Unit {0}) (λ k. k < 32)
+  pub called : MatchOption callee (Unit {0}) (λ k. (k < nodes_in file) × (n ≡ length (node_in file k).inputs))
 
-abbrev pub passed_all : Bool → List Variable → List Value → List Value
-passed_all true inputs vs = fit_all inputs vs
-passed_all false inputs vs = vs
+abbrev pub passed_all : List ℕ → Option ℕ → List Value → List Value
+passed_all file (Some k) vs = fit_all (node_in file k).inputs vs
+passed_all file None vs = vs
 
 abbrev pub all_in : List ℕ → List ℕ → ℕ → ℕ → ℕ → ℕ → Bool → List ℕ → List ℕ → List ℕ → Evals
 all_in file consts level n at node first cells before seg =
     eval_all (globals_in file consts) (scope_in file node first cells before) (calls (globals_in file consts)) (exprs_at file level n at) seg
 
-abbrev pub PassedTo : List ℕ → List ℕ → Bool → ℕ → ℕ → ℕ → ℕ → ℕ → Bool → List ℕ → List ℕ → List ℕ → Ran → List ℕ → List ℕ → Type 0
-PassedTo file consts fits k n level at node first cells before old r to new =
-    RanTo (passed_all fits (node_in file k).inputs) (all_in file consts level n at node first cells before (take (segs_at file level n at) old)) (ends_at file level n at) (segs_at file level n at) old r (values_of n to) new
+abbrev pub PassedTo : List ℕ → List ℕ → Option ℕ → ℕ → ℕ → ℕ → ℕ → Bool → List ℕ → List ℕ → List ℕ → Ran → List ℕ → List ℕ → Type 0
+PassedTo file consts callee n level at node first cells before old r to new =
+    RanTo (passed_all file callee) (all_in file consts level n at node first cells before (take (segs_at file level n at) old)) (ends_at file level n at) (segs_at file level n at) old r (values_of n to) new
 
--- it is a call that stands there
-abbrev pub is_call : List ℕ → ℕ → Bool
-is_call file at = eqb (get_or file at 0) 11
+-- the node that is called, if it is a call that stands there
+abbrev pub callee_at : List ℕ → ℕ → Option ℕ
+callee_at file at = cond (eqb (get_or file at 0) 11) (Some (get_or file (at + 1) 0)) None
 
 -- the parts of the call or Tuple at `at` have room in `to` for their values, a call's fitted to its callee's inputs
 pub record Several (file : List ℕ) (at : ℕ) (to : List ℕ) : Type 0 where
   pub inside : at + 1 < length file
-  pub passes : Passes file (is_call file at) (get_or file (at + 1) 0) (parts_at file at) to
+  pub passes : Passes file (callee_at file at) (parts_at file at) to
 
 abbrev pub AllTo : List ℕ → List ℕ → ℕ → ℕ → ℕ → Bool → List ℕ → List ℕ → List ℕ → Ran → List ℕ → List ℕ → Type 0
 AllTo file consts level at node first cells before old r to new =
-    PassedTo file consts (is_call file at) (get_or file (at + 1) 0) (parts_at file at) level (next_at file at) node first cells before old r to new
+    PassedTo file consts (callee_at file at) (parts_at file at) level (next_at file at) node first cells before old r to new
 
 -- ---- a call
 

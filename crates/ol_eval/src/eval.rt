@@ -6,12 +6,12 @@
 // eval_if 7; at level 31: call_equation and tuple_equation 0, equation 1, run 2, step_instance and call_function 3, step_site 4.
 // file and tab stay two parameters: lent as one struct with methods they make a cycle of feeder30 8 percent more instructions.
 // So what they ask together stands in the clauses, under one name each: `CanEval`, `CanStep`, `CanRun` and `CanEquate`.
-ghost use Rattle.std.specs.Prelude.{◌≡◌, true, false, ◌+◌, ◌-◌, length, get_or};
+ghost use Rattle.std.specs.Prelude.{◌≡◌, true, false, ◌+◌, ◌-◌, ◌<◌, length, get_or};
 ghost use Rattle.ol_tables.specs.Heads.{parts_at, next_at};
 ghost use Rattle.ol_tables.specs.Table.{consts_of};
 ghost use Rattle.ol_frame.specs.Frame.{Keeps};
 ghost use Rattle.ol_eval.specs.Post.{CanEval, on, EvalsTo, TwoTo, ChooseTo, IfTo, UntakenTo};
-ghost use Rattle.ol_eval.specs.Calls.{Several, AllTo, EntersTo, CanStep, SiteTo, CanRun, RunTo, CanEquate, RhsCode, EquationTo};
+ghost use Rattle.ol_eval.specs.Calls.{callee_at, Several, AllTo, EntersTo, CanStep, SiteTo, CanRun, RunTo, CanEquate, RhsCode, EquationTo};
 ghost use Rattle.ol_spec.specs.Syntax.{Function, Operator};
 ghost use Rattle.ol_tables.specs.At.{node_in};
 
@@ -20,8 +20,8 @@ use ol_frame::equations::{place_at, plan_of, records_at};
 use ol_frame::frame::{ARGUMENTS, Frame};
 use ol_frame::names::{chosen, leaf_out, present};
 use ol_frame::outcomes::{
-    Ending, Test, binary_out, cast_out, done, drop_failure, named_out, overflowed, runs, same_out,
-    test_of, unary_out, untested,
+    Ending, Test, binary_out, cast_out, done, drop_failure, end_of, named_out, overflowed, runs,
+    same_out, test_of, unary_out, untested,
 };
 use ol_frame::skip::{pass, pass_all};
 use ol_frame::tables::{order_at, row};
@@ -355,6 +355,18 @@ fn enter(
     Ran { end, used, ..a }
 }
 
+// The node that is called, if it is a call that stands at `at`.
+fn callee_at(file: &[u8], at: usize) -> Option<usize>
+    requires { at + 1 < length file.now }
+    ensures { result ≡ callee_at file.now at }
+{
+    if Form::Call.is_at(file, at) {
+        Some(usize::from(file[at + 1]))
+    } else {
+        None
+    }
+}
+
 // The parts of the call or Tuple at `at`, left to right up to the first failure or overflow. Their values go to `to`, a call's fitted to the callee's inputs.
 #[cycle(evaluation)]
 fn eval_all(
@@ -370,8 +382,7 @@ fn eval_all(
     requires { CanEval file.now tab.now level (parts_at file.now at) (next_at file.now at) frame.now old.now new.old × Several file.now at to.old }
     ensures { on (AllTo file.now (consts_of tab.now) level at) frame.now old.now result to.new new.new × (length to.new ≡ length to.old) }
 {
-    let fits = Form::Call.is_at(file, at);
-    let k = usize::from(file[at + 1]);
+    let callee = callee_at(file, at);
     let h = head(file, at);
     let n = h.count;
     let mut pos = h.start;
@@ -380,25 +391,15 @@ fn eval_all(
         let r = eval(file, tab, pos, level, frame, &old[used..], &mut new[used..]);
         used += r.used;
         pos = r.next;
-        match r.out {
-            Outcome::Value(v) => write_cell(passed(tab, fits, k, i, v), to, 9 * i),
-            Outcome::Failure(c) => {
-                let s = pass_all(file, tab, pos, level, n - i - 1);
-                return Ran {
-                    end: Ending::Failed(c),
-                    next: s.next,
-                    used: used + s.used,
-                };
-            }
-            Outcome::Overflow => {
-                let s = pass_all(file, tab, pos, level, n - i - 1);
-                return Ran {
-                    end: Ending::Overflowed,
-                    next: s.next,
-                    used: used + s.used,
-                };
-            }
-        }
+        let Outcome::Value(v) = r.out else {
+            let s = pass_all(file, tab, pos, level, n - i - 1);
+            return Ran {
+                end: end_of(r.out),
+                next: s.next,
+                used: used + s.used,
+            };
+        };
+        write_cell(passed(tab, callee, i, v), to, 9 * i);
     }
     Ran {
         end: Ending::Values,

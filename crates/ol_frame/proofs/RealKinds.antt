@@ -6,7 +6,7 @@ use mathlib.Core.Option.{Option, none, some}
 use lib.ListN.{length, get_or, get_elem?, length-append}
 use mathlib.Core.Path.{◌≡◌, refl, sym, ap, ◌∙◌}
 use native.Mathlib.Omega.{arith}
-use Rattle.ol_spec.specs.Eval.{RealKind, not_real, kind_of_type, kind_of_value, first_type, common_real, arithmetic, or_failure, is_double?}
+use Rattle.ol_spec.specs.Eval.{RealKind, not_real, join, kind_of_type, kind_of_value, first_type, common_real, arithmetic, or_failure, is_double?}
 use Rattle.ol_spec.specs.declared.Outcome.{Outcome}
 use Rattle.ol_spec.specs.declared.Outcome.TheVariants as Out
 use Rattle.ol_spec.specs.Lists.{maybe}
@@ -20,7 +20,11 @@ use Rattle.ol_spec.specs.Syntax.{Ty, bool, int, float32, float64, char, enum, Va
 use Rattle.ol_spec.specs.declared.Value.{Value}
 use Rattle.ol_spec.specs.declared.Value.TheVariants as Val
 use Rattle.ol_value.specs.Codes.{ty_of}
-use Rattle.ol_frame.specs.Outcomes.{outcome_kind, common_out, single_of}
+use Rattle.ol_frame.specs.Outcomes.{kind_of, outcome_kind, common_out, single_of}
+use Rattle.ol_frame.specs.declared.outcomes.RealKind.{RealKind as Kind}
+use Rattle.ol_frame.specs.declared.outcomes.RealKind.TheVariants as Knd
+use Rattle.ol_frame.specs.contracts.outcomes.RealKindOrd.TheImpl as kinds
+use Rattle.std.specs.Ordering.{ord_max}
 
 pub other_kind : (c e : ℕ) → ¬ (c ≡ 9) → ¬ (c ≡ 10) → not_real ≡ kind_of_type (ty_of c e)
 other_kind zero e n m = refl
@@ -187,3 +191,15 @@ common_plain k (Out.Value (Val.Float32 x)) h = let z : ◌≡◌ {A = ℕ} 0 1 =
 common_plain k (Out.Value (Val.Enum w)) h = refl
 common_plain k (Out.Failure c) h = refl
 common_plain k Out.Overflow h = refl
+
+-- the greater of two kinds is what both count as
+pub greater_kind : (a b : Kind) → kind_of (ord_max kinds.cmp-value.it a b) ≡ join (kind_of a) (kind_of b)
+greater_kind Knd.NotReal Knd.NotReal = refl
+greater_kind Knd.NotReal Knd.Single = refl
+greater_kind Knd.NotReal Knd.Double = refl
+greater_kind Knd.Single Knd.NotReal = refl
+greater_kind Knd.Single Knd.Single = refl
+greater_kind Knd.Single Knd.Double = refl
+greater_kind Knd.Double Knd.NotReal = refl
+greater_kind Knd.Double Knd.Single = refl
+greater_kind Knd.Double Knd.Double = refl

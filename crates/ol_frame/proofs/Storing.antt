@@ -3,6 +3,7 @@ use Prim.Native.Nat.{ℕ, zero, suc, ◌+◌, ◌-◌, ◌*◌, ◌<◌, ◌≤�
 use mathlib.Core.Bool.{Bool}
 use mathlib.Core.List.{List, [], ◌∷◌, ◌++◌, map, append_assoc}
 use mathlib.Core.Option.{Option, none, some}
+use Rattle.std.specs.Prelude.{Some}
 use mathlib.Core.Path.{◌≡◌, refl, sym, ap, ◌∙◌}
 use native.Mathlib.Omega.{arith}
 use lib.ListN.{length, take, drop, get_or, set, length-drop}
@@ -27,7 +28,7 @@ use Rattle.ol_frame.specs.Plans.{Program}
 use Rattle.ol_frame.specs.declared.outcomes.Ending.{Ending}
 use Rattle.ol_frame.specs.declared.outcomes.Ending.TheVariants as End
 use Rattle.ol_frame.proofs.Endings.{failed_values, over_values, over_failed, one_cause}
-use Rattle.ol_frame.specs.Stores.{passed_by, cells_in, Typed, Storable, Stores, StoresOut, Assignable, Assigns, Leaves}
+use Rattle.ol_frame.specs.Stores.{PassedOn, cells_in, Typed, Storable, Stores, StoresOut, Assignable, Assigns, Leaves}
 use Rattle.ol_frame.proofs.Copying.{values_snoc, all_copied}
 use Rattle.ol_frame.proofs.Naming.{position_in, length_names}
 use Rattle.ol_frame.proofs.RealKinds.{proper_type}
@@ -130,9 +131,9 @@ typed {file} {tab} k p h =
           (λ j. ty_of ((p.table.tabs_of k h).codes i l j) ((p.table.tabs_of k h).enums i l j)) ∙ proper_type (get_or (map type_of (variables (node_in file k))) i bool) (p.proper k i);
     }
 
--- a value that was passed on
-pub passed_as : {tab : List ℕ} {k : ℕ} {n : Node} (fits : Bool) (i : ℕ) (v r : Value) → Typed tab k n → i < length (variables n) → ((e : ℕ) → r ≡ passed_by fits (ty_of (code_at tab k i) e) v) → r ≡ passed_by fits (get_or (map type_of (variables n)) i bool) v
-passed_as {tab} {k} fits i v r t l h = h (enum_at tab k i) ∙ ap (λ (u : Ty). passed_by fits u v) (t.types i l)
+-- a value that was passed on to a node
+pub passed_as : {tab : List ℕ} {k : ℕ} {n : Node} (i : ℕ) (v r : Value) → Typed tab k n → i < length (variables n) → PassedOn tab (Some k) i v r → r ≡ fit (get_or (map type_of (variables n)) i bool) v
+passed_as {tab} {k} i v r t l h = h (enum_at tab k i) ∙ ap (λ (u : Ty). fit u v) (t.types i l)
 
 -- one argument more, fitted to its input
 pub fit_snoc : (xs ys : List Variable) (vs : List Value) (v : Value) → length vs < length xs → fit_all xs (vs ++ v ∷ []) ≡ fit_all xs vs ++ fit (get_or (map type_of (xs ++ ys)) (length vs) bool) v ∷ []
@@ -223,14 +224,10 @@ out_stored tab k at o v old new e h n x xs cs t s vs w =
     inside : {a b : List Value} → values a ≡ values b → a ≡ b
     inside e = cc
 
-pub out_none : (tab : List ℕ) (k at : ℕ) (o : Outcome) (old new : List ℕ) → ((vs : List Value) → several o ≡ values vs → ⊥) → StoresOut tab k at o old new
-out_none tab k at o old new f n x xs cs t s vs w = absurd (f vs w)
-
-pub no_failure : (c : Cause) (vs : List Value) → failure c ≡ values vs → ⊥
-no_failure c vs e = let z : ◌≡◌ {A = ℕ} 0 1 = cc in omega arith
-
-pub no_overflow : (vs : List Value) → overflow ≡ values vs → ⊥
-no_overflow vs e = let z : ◌≡◌ {A = ℕ} 0 1 = cc in omega arith
+pub out_none : (tab : List ℕ) (k at : ℕ) (o : Outcome) (old : List ℕ) → ((v : Value) → ¬ (o ≡ Out.Value v)) → StoresOut tab k at o old old
+out_none tab k at (Out.Value v) old ne n x xs cs t s vs w = absurd (ne v refl)
+out_none tab k at (Out.Failure c) old ne n x xs cs t s vs w = absurd (let z : ◌≡◌ {A = ℕ} 0 1 = cc in omega arith)
+out_none tab k at Out.Overflow old ne n x xs cs t s vs w = absurd (let z : ◌≡◌ {A = ℕ} 0 1 = cc in omega arith)
 
 module _ (tab : List ℕ) (k at n : ℕ) (from old : List ℕ) where
   pub assigns_none : Assigns tab k at n 0 from old old

@@ -1,5 +1,5 @@
 -- What storing values in a node's cells, and passing values on, asks and gives.
-use Rattle.std.specs.Prelude.{ℕ, ◌+◌, ◌*◌, ◌<◌, ◌≤◌, Bool, true, false, List, ◌∷◌, map, ◌≡◌, length, get_or}
+use Rattle.std.specs.Prelude.{ℕ, ◌+◌, ◌*◌, ◌<◌, ◌≤◌, Option, Some, None, List, ◌∷◌, map, ◌≡◌, length, get_or}
 use Rattle.ol_spec.specs.Lists.{position}
 use Rattle.ol_spec.specs.Syntax.{Ty, bool, Node, variables, variable_names, type_of}
 use Rattle.ol_spec.specs.Cell.{values_of}
@@ -13,10 +13,10 @@ use Rattle.ol_tables.specs.Tables.{slots_from, slot_at, code_at, enum_at, HasSlo
 use Rattle.ol_frame.specs.declared.outcomes.Ending.{Ending}
 use Rattle.ol_frame.specs.declared.outcomes.Ending.TheVariants as End
 
--- a value as it is passed on: fitted to a type, or as it is
-abbrev pub passed_by : Bool → Ty → Value → Value
-passed_by true t v = fit t v
-passed_by false t v = v
+-- a value as it is passed on: fitted to variable i of the node that is called, by the code of its type, or as it is where none is called
+abbrev pub PassedOn : List ℕ → Option ℕ → ℕ → Value → Value → Type 0
+PassedOn tab (Some k) i v r = (e : ℕ) → r ≡ fit (ty_of (code_at tab k i) e) v
+PassedOn tab None i v r = r ≡ v
 
 -- the values of node n's cells
 abbrev pub cells_in : Node → List ℕ → List Value

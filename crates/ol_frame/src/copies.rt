@@ -1,14 +1,14 @@
 // Cells: copied, passed on and stored.
-ghost use Rattle.std.specs.Prelude.{◌≡◌, ◌++◌, ℕ, ◌+◌, ◌-◌, ◌*◌, ◌≤◌, ◌<◌, length, take, drop};
+ghost use Rattle.std.specs.Prelude.{◌≡◌, ◌++◌, ℕ, ◌+◌, ◌-◌, ◌*◌, ◌≤◌, ◌<◌, length, take, drop, MatchOption};
 ghost use Rattle.ol_spec.specs.Cell.{cell, cells, value_of, values_of};
 ghost use Rattle.ol_spec.specs.Eval.{Outcomes, single, several};
 ghost use Rattle.ol_value.specs.Codes.{ty_of};
 ghost use Rattle.ol_tables.specs.Tables.{slots_from, code_at};
 ghost use Rattle.ol_tables.specs.Table.{tab_of};
 ghost use Rattle.ol_frame.specs.Outcomes.{ending_of};
-ghost use Rattle.ol_frame.specs.Stores.{passed_by, Storable, Stores, StoresOut, Assignable, Assigns, Leaves};
+ghost use Rattle.ol_frame.specs.Stores.{PassedOn, Storable, Stores, StoresOut, Assignable, Assigns, Leaves};
 
-use crate::outcomes::{Ending, kept};
+use crate::outcomes::{Ending, end_of, kept};
 use crate::tables::{Slot, code_of, slot_at};
 use ol_spec::{Cause, Outcome, Value};
 use ol_value::cell::{read_cell, write_cell};
@@ -44,16 +44,17 @@ pub fn write_cells(n: usize, from: &[u8], to: &mut [u8])
     }
 }
 
-// A value as it is passed on: fitted to variable i of node k, or as it is.
-pub fn passed(tab: &[u8], fits: bool, k: usize, i: usize, v: Value) -> Value
-    requires { (slots_from ≤ length (tab_of tab.now)) × (k < 32) × (i < 112) }
-    ensures { ((e : ℕ) → result ≡ passed_by fits (ty_of (code_at (tab_of tab.now) k i) e) v) × (value_of (cell result) ≡ result) }
+// A value as it is passed on: fitted to variable i of the node that is called, or as it is.
+pub fn passed(tab: &[u8], callee: Option<usize>, i: usize, v: Value) -> Value
+    requires { (slots_from ≤ length (tab_of tab.now)) × MatchOption callee (Unit {0}) (λ k. k < 32) × (i < 112) }
+    ensures { PassedOn (tab_of tab.now) callee i v result × (value_of (cell result) ≡ result) }
 {
-    if fits {
-        let c = code_of(tab, k, i);
-        kept(fit_to(c, kept(v)))
-    } else {
-        kept(v)
+    match callee {
+        Some(k) => {
+            let c = code_of(tab, k, i);
+            kept(fit_to(c, kept(v)))
+        }
+        None => kept(v),
     }
 }
 
@@ -79,8 +80,7 @@ pub(crate) fn store_out(tab: &[u8], k: usize, at: usize, o: Outcome, cells: &mut
             store(tab, k, at, kept(v), cells);
             Ending::Values
         }
-        Outcome::Failure(c) => Ending::Failed(c),
-        Outcome::Overflow => Ending::Overflowed,
+        _ => end_of(o),
     }
 }
 

@@ -11,7 +11,7 @@ ghost use Rattle.ol_frame.specs.Plans.{Program, globals_in, scope_in, kind_at, N
 
 use crate::frame::Frame;
 use crate::outcomes::{
-    RealKind, common_out, is_single, join_kinds, kind_of_outcome, kind_of_type, same_out,
+    RealKind, common_out, is_single, kind_of_outcome, kind_of_type, same_out,
 };
 use crate::skip::pass;
 use crate::tables::{Slot, code_of, row, slot_at};
@@ -122,7 +122,7 @@ fn real_kinds(file: &[u8], tab: &[u8], frame: &Frame, at: usize, level: usize) -
     let a = real_kind(file, tab, frame, at, level);
     let p = pass(file, tab, at, level);
     let b = real_kind(file, tab, frame, p.next, level);
-    join_kinds(a, b)
+    a.max(b)
 }
 
 // The outcome of a taken branch, where the other is at `at`: a single widens if that one counts as double.

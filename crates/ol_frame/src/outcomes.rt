@@ -5,9 +5,9 @@ ghost use Rattle.ol_spec.specs.Cell.{cell, value_of};
 ghost use Rattle.ol_spec.specs.Types.{cast_to};
 ghost use Rattle.ol_spec.specs.declared.Outcome.{Outcome};
 ghost use Rattle.ol_spec.specs.declared.Value.{Value};
-ghost use Rattle.ol_spec.specs.Eval.{or_failure, then_out, common_real, kind_of_type, is_double?, join};
+ghost use Rattle.ol_spec.specs.Eval.{or_failure, several, then_out, common_real, kind_of_type, is_double?};
 ghost use Rattle.ol_value.specs.Codes.{ty_of, unary_by};
-ghost use Rattle.ol_frame.specs.Outcomes.{ThenBy, done_of, binary_out, test_of, untested_of, runs_of, overflow_of, drop_out, single_of, common_out, kind_of, outcome_kind};
+ghost use Rattle.ol_frame.specs.Outcomes.{ThenBy, ending_of, done_of, binary_out, test_of, untested_of, runs_of, overflow_of, drop_out, single_of, common_out, kind_of, outcome_kind};
 
 use ol_real::f32_to_f64;
 use ol_spec::type_codes::{FLOAT32, FLOAT64};
@@ -31,8 +31,8 @@ pub enum Test {
     Neither,
 }
 
-// How an expression counts as real: not, in single or in double precision.
-#[derive(Clone, Copy, PartialEq, Eq)]
+// How an expression counts as real: not, in single or in double precision. In this order: one double makes both double.
+#[derive(Clone, Copy, PartialEq, Eq, PartialOrd, Ord)]
 pub(crate) enum RealKind {
     NotReal,
     Single,
@@ -70,6 +70,17 @@ pub fn named_out(o: Outcome) -> Outcome
     match o {
         Outcome::Value(v) => Outcome::Value(kept(v)),
         _ => Outcome::Failure(Cause::Other),
+    }
+}
+
+// How an expression of this outcome ends.
+pub fn end_of(o: Outcome) -> Ending
+    ensures { result ≡ ending_of (several o) }
+{
+    match o {
+        Outcome::Value(_) => Ending::Values,
+        Outcome::Failure(c) => Ending::Failed(c),
+        Outcome::Overflow => Ending::Overflowed,
     }
 }
 
@@ -204,17 +215,6 @@ pub(crate) fn kind_of_outcome(o: Outcome) -> RealKind
     match o {
         Outcome::Value(Value::Float(_)) => RealKind::Double,
         Outcome::Value(Value::Float32(_)) => RealKind::Single,
-        _ => RealKind::NotReal,
-    }
-}
-
-// The real kind of two: one double makes both double.
-pub(crate) fn join_kinds(a: RealKind, b: RealKind) -> RealKind
-    ensures { kind_of result ≡ join (kind_of a) (kind_of b) }
-{
-    match (a, b) {
-        (RealKind::Double, _) | (_, RealKind::Double) => RealKind::Double,
-        (RealKind::Single, _) | (_, RealKind::Single) => RealKind::Single,
         _ => RealKind::NotReal,
     }
 }

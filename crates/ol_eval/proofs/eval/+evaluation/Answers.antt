@@ -1,14 +1,14 @@
 -- What the members of the cycle are asked, each member by its name. A call within the cycle is asked first for its measure.
-use Rattle.std.proofs.Common.{ℕ, ◌*◌, ◌+◌, ◌-◌, ◌<◌, ◌≤◌, drop, get_or, length, length-drop, take, length-take-le, Bool, true, false, List, ap, refl, subst, sym, ◌∙◌, ◌≡◌, arith, min}
-use Rattle.ol_eval.proofs.Arguments.{Going, going_done, going_failed, going_left, going_length, going_overflowed, going_passable, going_ready, going_start, going_turn, going_used, left_done, left_none, left_pass, left_suc}
+use Rattle.std.proofs.Common.{ℕ, suc, ◌*◌, ◌+◌, ◌-◌, ◌<◌, ◌≤◌, drop, get_or, length, length-drop, take, length-take-le, Bool, true, false, List, ap, refl, subst, sym, ◌∙◌, ◌≡◌, arith, min}
+use Rattle.ol_eval.proofs.Arguments.{Goes, going_done, going_left, going_length, going_passable, going_ready, going_start, going_stop, going_turn, going_used, left_done, left_none, left_pass, left_suc}
 use Rattle.ol_eval.proofs.Calling.{call_all, call_at, call_done, call_lower, call_parts, call_room, call_several, call_single, call_size, call_small, call_steps, call_stop, call_used}
 use Rattle.ol_eval.proofs.Evals.{first_not, first_ran, if_stop, if_taken, mapped, remade, rest_old, second_not, second_ran, seq_as, two_done, two_stop, untaken_meets}
 use Rattle.ol_eval.proofs.Readying.{binary_is, cast_out_is, chosen_is, first_is, form_evals, fronted, leaf_evals, moved, moved_choice, moved_skip, moved_untaken, one_evals, ready_first, ready_front, ready_parts, ready_pass, ready_rest, ready_seg, ready_tail, skip_one, two_ends, two_segs, unary_out_is, var_evals}
 use Rattle.ol_eval.proofs.Rights.{call_inside, call_stops, callee_row, equation_ready, first_storable, names_inside, names_least, one_done, right_place, right_ready, tuple_all, tuple_done, tuple_inside, tuple_parts, tuple_several, tuple_stops, values_assignable}
 use Rattle.ol_eval.proofs.Stepping.{entered, framed_run, framed_runnable, function_done, function_runnable, instance_failed, instance_finished, instance_overflowed, instance_runnable, is_function, is_operator_lem, own_new, own_room, put_length}
 use Rattle.ol_eval.proofs.Turns.{keeps_done, keeps_ready, run_done, run_next, run_start, turn_goes, turn_part, turn_ready, turn_stops}
-use Rattle.ol_eval.specs.Calls.{all_in, is_call, passed_all}
-use Rattle.ol_eval.specs.Post.{UntakenTo, branch_in, choose_in, if_in, two_in}
+use Rattle.ol_eval.specs.Calls.{AllTo, callee_at, passed_all}
+use Rattle.ol_eval.specs.Post.{on, EvalsTo, UntakenTo, branch_in, choose_in, if_in, two_in}
 use Rattle.ol_frame.proofs.Copying.{all_copied}
 use Rattle.ol_frame.proofs.Equating.{equation_is}
 use Rattle.ol_frame.proofs.Framing.{keeps_all, keeps_on}
@@ -17,10 +17,15 @@ use Rattle.ol_frame.proofs.Planning.{plan_form, plan_head, plan_name, segs_cons}
 use Rattle.ol_frame.proofs.Running.{length_mid, length_put_mid, mid_of}
 use Rattle.ol_frame.proofs.Tabling.{rows_room}
 use Rattle.ol_frame.specs.Plans.{Leaf, eval_in, globals_in, name_at, scope_in, seg_at, segs_at}
-use Rattle.ol_frame.specs.Stores.{passed_by}
 use Rattle.ol_frame.specs.Walk.{Passable, SkipsTo}
+use Rattle.ol_frame.specs.Stores.{PassedOn}
+use Rattle.ol_frame.specs.Outcomes.{ending_of}
+use Rattle.ol_frame.specs.declared.outcomes.Ending.{Ending}
+use Rattle.ol_frame.specs.declared.skip.Passed.{Passed}
+use Rattle.ol_spec.specs.declared.Outcome.TheVariants as Out
+use Rattle.std.specs.Prelude.{Option}
 use Rattle.ol_spec.specs.Cell.{values_of}
-use Rattle.ol_spec.specs.Eval.{choose, condition, eval, map_eval, next, present_of}
+use Rattle.ol_spec.specs.Eval.{choose, condition, eval, map_eval, next, present_of, several}
 use Rattle.ol_spec.specs.Operators.{unary_of}
 use Rattle.ol_spec.specs.Places.{ty_size}
 use Rattle.ol_spec.specs.Types.{cast_to}
@@ -36,6 +41,7 @@ use Rattle.ol_tables.specs.Table.{consts_of, rows_of, tab_of}
 use Rattle.ol_tables.specs.Tables.{code_at}
 use Rattle.ol_value.specs.Codes.{binary_by, ty_of}
 use Rattle.ol_eval.proofs.Rights
+use Rattle.ol_eval.proofs.eval.+evaluation.Goals.{eval_all-After-eval-r}
 use Rattle.ol_eval.proofs.eval.+evaluation.Goals as goal
 
 pub call_equation-enter-r-requires : goal.call_equation-enter-r-requires
@@ -485,224 +491,79 @@ eval-returns-then-is_at t c =
     let h = plan_head f p.plan in
     var_evals f (consts_of tb) L a fr.node fr.first fr.cells fr.before p.plan.reads h (true-eqb _ _ c.if-is_at.ensures) p.same (c.named_out.ensures (present_of (globals_in f (consts_of tb)) (scope_in f fr.node false fr.cells fr.cells) (name_at f (a + 1))) c.present.ensures ∙ c.present.ensures)
 
-pub eval_all-loop-i-init : goal.eval_all-loop-i-init
-eval_all-loop-i-init t c =
-    let p = c.requires.0 in
-    let sv = c.requires.1 in
-    let q = sv.passes in
-    let tb = c.args.tab.now in
-    let fr = c.args.frame.now in
-    let hd = c.head-h.ensures in
-    let f = c.args.file.now in
-    let a = c.args.at in
-    let n = parts_at f a in
-    (omega arith, refl, refl, subst (λ (m : ℕ). Going (all_in f (consts_of tb) c.args.level n (next_at f a) fr.node fr.first fr.cells fr.before (take (segs_at f c.args.level n (next_at f a)) c.args.old.now)) f (tab_of tb) (rows_of tb) (consts_of tb) (is_call f a) (get_or f (a + 1) 0) n (next_at f a) c.args.level fr.node fr.first fr.cells fr.before c.args.old.now (n - 0) 0 m 0 c.args.to.now c.args.new.now) (sym hd.next) (going_left (left_none n) (going_start fr.first p q)))
+-- a turn of the loop over the parts: the part at `pos` is evaluated
+module _ (t : ℕ) (c : eval_all-After-eval-r t) where
+  -- how many are behind it
+  abbrev part_left : ℕ
+  part_left = parts_at c.args.file.now c.args.at - (c.loop-i.i + 1)
+
+  left_is : c.head-h.result.count - c.loop-i.i - 1 ≡ part_left
+  left_is = ap (λ (m : ℕ). m - c.loop-i.i - 1) c.head-h.ensures.parts ∙ left_pass (parts_at c.args.file.now c.args.at) c.loop-i.i
+
+  part_goes : Goes c.args.file.now c.args.tab.now c.args.level c.args.at c.args.frame.now c.args.old.now (suc part_left) c.loop-i.i c.loop-i.pos c.loop-i.used c.loop-i.to c.loop-i.new
+  part_goes = going_left (left_suc (parts_at c.args.file.now c.args.at) c.loop-i.i (subst (λ (m : ℕ). c.loop-i.i < m) c.head-h.ensures.parts c.loop-i-test.true)) c.loop-i.invariant.3
+
+  part_length : length c.eval-r.new.new ≡ length (drop c.loop-i.used c.args.old.now)
+  part_length = going_length part_goes c.eval-r.new.new c.eval-r.auto.new (c.loop-i.invariant.2 ∙ ap length c.requires.0.same)
+
+  part_evals : on (EvalsTo c.args.file.now (consts_of c.args.tab.now) c.args.level c.loop-i.pos) c.args.frame.now (drop c.loop-i.used c.args.old.now) c.eval-r.result c.eval-r.new.new
+  part_evals =
+      let fr = c.args.frame.now in
+      moved c.args.file.now (consts_of c.args.tab.now) c.args.level fr.node fr.first fr.cells fr.before (refl {a = c.loop-i.pos}) (tail_all c.loop-i.used c.args.old.now) c.eval-r.ensures
+
+  -- it has no value: the others are passed over
+  part_stops : {q : Passed} {e : Ending} → ((v : Value) → ¬ (c.eval-r.result.out ≡ Out.Value v)) → e ≡ ending_of (several c.eval-r.result.out) → SkipsTo c.args.file.now c.args.level (c.head-h.result.count - c.loop-i.i - 1) c.eval-r.result.next q → on (AllTo c.args.file.now (consts_of c.args.tab.now) c.args.level c.args.at) c.args.frame.now c.args.old.now (record { end = e; next = q.next; used = c.loop-i.used + c.eval-r.result.used + q.used }) c.loop-i.to (put_tail c.loop-i.used c.loop-i.new c.eval-r.new.new)
+  part_stops {q} none e skip =
+      going_stop part_goes part_evals part_length (passed_all c.args.file.now (callee_at c.args.file.now c.args.at)) (values_of (parts_at c.args.file.now c.args.at) c.loop-i.to) none e
+      (subst (λ (m : ℕ). SkipsTo c.args.file.now c.args.level m c.eval-r.result.next q) left_is skip)
 
 pub eval_all-eval-r-requires : goal.eval_all-eval-r-requires
 eval_all-eval-r-requires t c =
-    let hd = c.head-h.ensures in
-    let inv = c.loop-i.invariant in
-    let f = c.args.file.now in
-    let a = c.args.at in
-    let n = parts_at f a in
-    let lt = subst (λ (m : ℕ). c.loop-i.i < m) hd.parts c.loop-i-test.true in
-    let i = c.loop-i.i in
-    let g = going_left (left_suc n i lt) inv.3 in
-    (omega arith, (going_ready g))
+    let n = parts_at c.args.file.now c.args.at in
+    (omega arith, going_ready (going_left (left_suc n c.loop-i.i (subst (λ (m : ℕ). c.loop-i.i < m) c.head-h.ensures.parts c.loop-i-test.true)) c.loop-i.invariant.3))
 
 pub eval_all-overflow_add-used : goal.eval_all-overflow_add-used
 eval_all-overflow_add-used t c =
-    let p = c.requires.0 in
-    let tb = c.args.tab.now in
-    let fr = c.args.frame.now in
-    let hd = c.head-h.ensures in
-    let inv = c.loop-i.invariant in
-    let f = c.args.file.now in
-    let a = c.args.at in
-    let n = parts_at f a in
-    let lt = subst (λ (m : ℕ). c.loop-i.i < m) hd.parts c.loop-i-test.true in
-    let i = c.loop-i.i in
-    let o = c.args.old.now in
-    let u = c.loop-i.used in
-    let g = going_left (left_suc n i lt) inv.3 in
-    let same = inv.2 ∙ ap length p.same in
-    let K = c.eval-r.auto.new in
-    let x = c.eval-r.new.new in
-    let len = going_length g x K same in
-    let h = moved f (consts_of tb) c.args.level fr.node fr.first fr.cells fr.before (refl {a = c.loop-i.pos}) (tail_all u o) c.eval-r.ensures in
-    omega (arith, going_used g h len, p.room, p.small)
+    let d = (goal.at.eval_all-overflow_add-used t c).After-eval-r in
+    omega (arith, going_used (part_goes t d) (part_evals t d) (part_length t d), c.requires.0.room, c.requires.0.small)
 
 pub eval_all-pass_all-s-requires : goal.eval_all-pass_all-s-requires
 eval_all-pass_all-s-requires t c =
-    let p = c.requires.0 in
-    let tb = c.args.tab.now in
-    let fr = c.args.frame.now in
-    let hd = c.head-h.ensures in
-    let inv = c.loop-i.invariant in
-    let f = c.args.file.now in
-    let a = c.args.at in
-    let n = parts_at f a in
-    let lt = subst (λ (m : ℕ). c.loop-i.i < m) hd.parts c.loop-i-test.true in
-    let i = c.loop-i.i in
-    let o = c.args.old.now in
-    let u = c.loop-i.used in
-    let g = going_left (left_suc n i lt) inv.3 in
-    let same = inv.2 ∙ ap length p.same in
-    let K = c.eval-r.auto.new in
-    let x = c.eval-r.new.new in
-    let len = going_length g x K same in
-    let h = moved f (consts_of tb) c.args.level fr.node fr.first fr.cells fr.before (refl {a = c.loop-i.pos}) (tail_all u o) c.eval-r.ensures in
-    (subst (λ (m : ℕ). Passable f (rows_of tb) c.args.level m c.eval-r.result.next) (sym (ap (λ (m : ℕ). m - i - 1) hd.parts ∙ left_pass n i)) (going_passable g h len), rows_room tb _ p.plan.program.table.long)
+    let d = (goal.at.eval_all-pass_all-s-requires t c).After-eval-r in
+    (subst (λ (m : ℕ). Passable c.args.file.now (rows_of c.args.tab.now) c.args.level m c.eval-r.result.next) (sym (left_is t d)) (going_passable (part_goes t d) (part_evals t d) (part_length t d)), rows_room c.args.tab.now _ c.requires.0.plan.program.table.long)
 
 pub eval_all-overflow_add-result : goal.eval_all-overflow_add-result
 eval_all-overflow_add-result t c =
-    let p = c.requires.0 in
-    let tb = c.args.tab.now in
-    let fr = c.args.frame.now in
-    let hd = c.head-h.ensures in
-    let inv = c.loop-i.invariant in
-    let f = c.args.file.now in
-    let a = c.args.at in
-    let n = parts_at f a in
-    let lt = subst (λ (m : ℕ). c.loop-i.i < m) hd.parts c.loop-i-test.true in
-    let i = c.loop-i.i in
-    let kc = get_or f (a + 1) 0 in
-    let o = c.args.old.now in
-    let u = c.loop-i.used in
-    let g = going_left (left_suc n i lt) inv.3 in
-    let same = inv.2 ∙ ap length p.same in
-    let K = c.eval-r.auto.new in
-    let x = c.eval-r.new.new in
-    let len = going_length g x K same in
-    let h = moved f (consts_of tb) c.args.level fr.node fr.first fr.cells fr.before (refl {a = c.loop-i.pos}) (tail_all u o) c.eval-r.ensures in
-    let r = going_failed g h len c.in-Failure.c ((passed_all (is_call f a) (node_in f kc).inputs)) ((values_of n c.loop-i.to)) c.in-Failure.is ((subst (λ (m : ℕ). SkipsTo f c.args.level m c.eval-r.result.next c.pass_all-s.result) (ap (λ (m : ℕ). m - i - 1) hd.parts ∙ left_pass n i) c.pass_all-s.ensures)) in
-    omega (arith, r.used_is, p.room, p.small)
+    omega (arith, (part_stops t (goal.at.eval_all-overflow_add-result t c).After-eval-r c.in_default.not-Value c.end_of.ensures c.pass_all-s.ensures).used_is, c.requires.0.room, c.requires.0.small)
 
-pub eval_all-returns-in-Failure : goal.eval_all-returns-in-Failure
-eval_all-returns-in-Failure t c =
-    let p = c.requires.0 in
-    let tb = c.args.tab.now in
-    let fr = c.args.frame.now in
-    let hd = c.head-h.ensures in
-    let inv = c.loop-i.invariant in
-    let f = c.args.file.now in
-    let a = c.args.at in
-    let n = parts_at f a in
-    let lt = subst (λ (m : ℕ). c.loop-i.i < m) hd.parts c.loop-i-test.true in
-    let i = c.loop-i.i in
-    let kc = get_or f (a + 1) 0 in
-    let o = c.args.old.now in
-    let u = c.loop-i.used in
-    let g = going_left (left_suc n i lt) inv.3 in
-    let same = inv.2 ∙ ap length p.same in
-    let K = c.eval-r.auto.new in
-    let x = c.eval-r.new.new in
-    let len = going_length g x K same in
-    let h = moved f (consts_of tb) c.args.level fr.node fr.first fr.cells fr.before (refl {a = c.loop-i.pos}) (tail_all u o) c.eval-r.ensures in
-    (going_failed g h len c.in-Failure.c ((passed_all (is_call f a) (node_in f kc).inputs)) ((values_of n c.loop-i.to)) c.in-Failure.is ((subst (λ (m : ℕ). SkipsTo f c.args.level m c.eval-r.result.next c.pass_all-s.result) (ap (λ (m : ℕ). m - i - 1) hd.parts ∙ left_pass n i) c.pass_all-s.ensures)), inv.1)
-
-pub eval_all-pass_all-s-requires-in-Overflow : goal.eval_all-pass_all-s-requires-in-Overflow
-eval_all-pass_all-s-requires-in-Overflow t c =
-    let p = c.requires.0 in
-    let tb = c.args.tab.now in
-    let fr = c.args.frame.now in
-    let hd = c.head-h.ensures in
-    let inv = c.loop-i.invariant in
-    let f = c.args.file.now in
-    let a = c.args.at in
-    let n = parts_at f a in
-    let lt = subst (λ (m : ℕ). c.loop-i.i < m) hd.parts c.loop-i-test.true in
-    let i = c.loop-i.i in
-    let o = c.args.old.now in
-    let u = c.loop-i.used in
-    let g = going_left (left_suc n i lt) inv.3 in
-    let same = inv.2 ∙ ap length p.same in
-    let K = c.eval-r.auto.new in
-    let x = c.eval-r.new.new in
-    let len = going_length g x K same in
-    let h = moved f (consts_of tb) c.args.level fr.node fr.first fr.cells fr.before (refl {a = c.loop-i.pos}) (tail_all u o) c.eval-r.ensures in
-    (subst (λ (m : ℕ). Passable f (rows_of tb) c.args.level m c.eval-r.result.next) (sym (ap (λ (m : ℕ). m - i - 1) hd.parts ∙ left_pass n i)) (going_passable g h len), rows_room tb _ p.plan.program.table.long)
-
-pub eval_all-overflow_add-result-in-Overflow : goal.eval_all-overflow_add-result-in-Overflow
-eval_all-overflow_add-result-in-Overflow t c =
-    let p = c.requires.0 in
-    let tb = c.args.tab.now in
-    let fr = c.args.frame.now in
-    let hd = c.head-h.ensures in
-    let inv = c.loop-i.invariant in
-    let f = c.args.file.now in
-    let a = c.args.at in
-    let n = parts_at f a in
-    let lt = subst (λ (m : ℕ). c.loop-i.i < m) hd.parts c.loop-i-test.true in
-    let i = c.loop-i.i in
-    let kc = get_or f (a + 1) 0 in
-    let o = c.args.old.now in
-    let u = c.loop-i.used in
-    let g = going_left (left_suc n i lt) inv.3 in
-    let same = inv.2 ∙ ap length p.same in
-    let K = c.eval-r.auto.new in
-    let x = c.eval-r.new.new in
-    let len = going_length g x K same in
-    let h = moved f (consts_of tb) c.args.level fr.node fr.first fr.cells fr.before (refl {a = c.loop-i.pos}) (tail_all u o) c.eval-r.ensures in
-    let r = going_overflowed g h len ((passed_all (is_call f a) (node_in f kc).inputs)) ((values_of n c.loop-i.to)) c.in-Overflow.is ((subst (λ (m : ℕ). SkipsTo f c.args.level m c.eval-r.result.next c.pass_all-s-in-Overflow.result) (ap (λ (m : ℕ). m - i - 1) hd.parts ∙ left_pass n i) c.pass_all-s-in-Overflow.ensures)) in
-    omega (arith, r.used_is, p.room, p.small)
-
-pub eval_all-returns-in-Overflow : goal.eval_all-returns-in-Overflow
-eval_all-returns-in-Overflow t c =
-    let p = c.requires.0 in
-    let tb = c.args.tab.now in
-    let fr = c.args.frame.now in
-    let hd = c.head-h.ensures in
-    let inv = c.loop-i.invariant in
-    let f = c.args.file.now in
-    let a = c.args.at in
-    let n = parts_at f a in
-    let lt = subst (λ (m : ℕ). c.loop-i.i < m) hd.parts c.loop-i-test.true in
-    let i = c.loop-i.i in
-    let kc = get_or f (a + 1) 0 in
-    let o = c.args.old.now in
-    let u = c.loop-i.used in
-    let g = going_left (left_suc n i lt) inv.3 in
-    let same = inv.2 ∙ ap length p.same in
-    let K = c.eval-r.auto.new in
-    let x = c.eval-r.new.new in
-    let len = going_length g x K same in
-    let h = moved f (consts_of tb) c.args.level fr.node fr.first fr.cells fr.before (refl {a = c.loop-i.pos}) (tail_all u o) c.eval-r.ensures in
-    (going_overflowed g h len ((passed_all (is_call f a) (node_in f kc).inputs)) ((values_of n c.loop-i.to)) c.in-Overflow.is ((subst (λ (m : ℕ). SkipsTo f c.args.level m c.eval-r.result.next c.pass_all-s-in-Overflow.result) (ap (λ (m : ℕ). m - i - 1) hd.parts ∙ left_pass n i) c.pass_all-s-in-Overflow.ensures)), inv.1)
+pub eval_all-returns-in_default : goal.eval_all-returns-in_default
+eval_all-returns-in_default t c =
+    (part_stops t (goal.at.eval_all-returns-in_default t c).After-eval-r c.in_default.not-Value c.end_of.ensures c.pass_all-s.ensures, c.loop-i.invariant.1)
 
 pub eval_all-loop-i-preserved : goal.eval_all-loop-i-preserved
 eval_all-loop-i-preserved t c =
-    let p = c.requires.0 in
-    let sv = c.requires.1 in
-    let q = sv.passes in
-    let tb = c.args.tab.now in
-    let fr = c.args.frame.now in
-    let hd = c.head-h.ensures in
+    let d = (goal.at.eval_all-loop-i-preserved t c).After-eval-r in
     let inv = c.loop-i.invariant in
-    let f = c.args.file.now in
-    let a = c.args.at in
-    let n = parts_at f a in
-    let lt = subst (λ (m : ℕ). c.loop-i.i < m) hd.parts c.loop-i-test.true in
-    let i = c.loop-i.i in
-    let kE = c.from-k.ensures in
-    let o = c.args.old.now in
     let w = c.loop-i.new in
     let u = c.loop-i.used in
-    let g = going_left (left_suc n i lt) inv.3 in
-    let same = inv.2 ∙ ap length p.same in
-    let K = c.eval-r.auto.new in
-    let x = c.eval-r.new.new in
-    let len = going_length g x K same in
-    let h = moved f (consts_of tb) c.args.level fr.node fr.first fr.cells fr.before (refl {a = c.loop-i.pos}) (tail_all u o) c.eval-r.ensures in
-    (omega (arith, lt), c.write_cell.auto.out ∙ inv.1, length_put u w x (omega (arith, inv.3.within, same)) K ∙ inv.2, going_turn g h len q.callee c.in-Value.is (λ e. c.passed.ensures.0 e ∙ ap (λ (b : Bool). passed_by b (ty_of (code_at (tab_of tb) c.from-k.result i) e) c.in-Value.v) c.is_at-fits.ensures ∙ ap (λ (x : ℕ). passed_by (is_call f a) (ty_of (code_at (tab_of tb) x i) e) c.in-Value.v) kE) c.passed.ensures.1 c.write_cell.ensures c.write_cell.auto.out)
+    (omega (arith, c.loop-i-test.true, c.head-h.ensures.parts), c.write_cell.auto.out ∙ inv.1, length_put u w c.eval-r.new.new (omega (arith, inv.3.within, inv.2 ∙ ap length c.requires.0.same)) c.eval-r.auto.new ∙ inv.2,
+        going_turn (part_goes t d) (part_evals t d) (part_length t d) c.requires.1.passes.called c.in-Value.is
+        (subst (λ (k : Option ℕ). PassedOn (tab_of c.args.tab.now) k c.loop-i.i c.in-Value.v c.passed.result) c.callee_at-callee.ensures c.passed.ensures.0) c.passed.ensures.1 c.write_cell.ensures c.write_cell.auto.out)
+
+pub eval_all-passed-requires : goal.eval_all-passed-requires
+eval_all-passed-requires t c =
+    (omega (arith, c.requires.0.plan.program.table.long), rw c.callee_at-callee.ensures c.requires.1.passes.small, omega (arith, c.requires.1.passes.few, c.loop-i-test.true, c.head-h.ensures.parts))
+
+pub eval_all-loop-i-init : goal.eval_all-loop-i-init
+eval_all-loop-i-init t c =
+    let at = c.args.at in
+    let n = parts_at c.args.file.now at in
+    (omega arith, refl, refl, subst (λ (m : ℕ). Goes c.args.file.now c.args.tab.now c.args.level at c.args.frame.now c.args.old.now (n - 0) 0 m 0 c.args.to.now c.args.new.now) (sym c.head-h.ensures.next) (going_left (left_none n) (going_start c.args.frame.now.first c.requires.0 c.requires.1.passes)))
 
 pub eval_all-returns : goal.eval_all-returns
 eval_all-returns t c =
-    let hd = c.head-h.ensures in
-    let f = c.args.file.now in
-    let a = c.args.at in
-    let n = parts_at f a in
-    (going_done (going_left (left_done n c.loop-i.i (omega (arith, c.loop-i-test.false, hd.parts))) c.loop-i.invariant.3), c.loop-i.invariant.1)
+    let n = parts_at c.args.file.now c.args.at in
+    (going_done (going_left (left_done n c.loop-i.i (omega (arith, c.loop-i-test.false, c.head-h.ensures.parts))) c.loop-i.invariant.3), c.loop-i.invariant.1)
 
 pub eval_call-bounds-file-at : goal.eval_call-bounds-file-at
 eval_call-bounds-file-at t c =

@@ -6,8 +6,7 @@ use Rattle.ol_tables.specs.Heads.{parts_at, next_at}
 use Rattle.ol_tables.specs.Table.{tab_of, rows_of, consts_of}
 use Rattle.ol_frame.specs.Frame.{Keeps}
 use Rattle.ol_frame.specs.Plans.{segs_at}
-use Rattle.ol_eval.specs.Calls.{all_in, is_call}
-use Rattle.ol_eval.proofs.Arguments.{Going}
+use Rattle.ol_eval.proofs.Arguments.{Goes}
 use Rattle.ol_eval.proofs.Turns.{LeftIn}
 use Rattle.ol_eval.proofs.eval.+evaluation.Given as goal
 
@@ -65,7 +64,7 @@ decreases-tuple_equation l = l.frame.now.node * 256 + 248
 -- the parts that are left go on from here as all of them from the start
 abbrev pub invariant-eval_all-loop-i : goal.invariant-eval_all-loop-i
 invariant-eval_all-loop-i l =
-    (l.i ≤ parts_at l.file l.at) × (length l.to ≡ length l.initial.to) × (length l.new ≡ length l.initial.new) × Going (all_in l.file (consts_of l.tab) l.level (parts_at l.file l.at) (next_at l.file l.at) l.frame.node l.frame.first l.frame.cells l.frame.before (take (segs_at l.file l.level (parts_at l.file l.at) (next_at l.file l.at)) l.old)) l.file (tab_of l.tab) (rows_of l.tab) (consts_of l.tab) (is_call l.file l.at) (get_or l.file (l.at + 1) 0) (parts_at l.file l.at) (next_at l.file l.at) l.level l.frame.node l.frame.first l.frame.cells l.frame.before l.old (parts_at l.file l.at - l.i) l.i l.pos l.used l.to l.new
+    (l.i ≤ parts_at l.file l.at) × (length l.to ≡ length l.initial.to) × (length l.new ≡ length l.initial.new) × Goes l.file l.tab l.level l.at l.frame l.old (parts_at l.file l.at - l.i) l.i l.pos l.used l.to l.new
 
 abbrev pub decreases-eval_all-loop-i : goal.decreases-eval_all-loop-i
 decreases-eval_all-loop-i l = l.n - l.i

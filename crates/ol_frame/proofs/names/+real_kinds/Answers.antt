@@ -10,7 +10,7 @@ use Rattle.ol_tables.specs.declared.form.Form.TheVariants as Frm
 use Rattle.ol_tables.proofs.FormLaws.{form_is}
 use Rattle.ol_frame.specs.Outcomes.{kind_of, outcome_kind}
 use Rattle.ol_frame.specs.Plans.{globals_in, scope_in, name_at}
-use Rattle.ol_frame.proofs.RealKinds.{arithmetic_code, plain_code, bits_code, code_kind, present_kind}
+use Rattle.ol_frame.proofs.RealKinds.{greater_kind, arithmetic_code, plain_code, bits_code, code_kind, present_kind}
 use Rattle.ol_frame.proofs.Planning.{plan_head, plan_form, plan_name, plan_parts, plan_rest, plan_first, plan_call, plan_passable, segs_form, segs_cons, segs_first}
 use Rattle.ol_tables.specs.Table.{consts_of}
 use Rattle.ol_frame.proofs.Tabling.{rows_room}
@@ -437,4 +437,4 @@ real_kinds-returns t c =
     let a = c.args.at in
     let p = c.requires.0 in
     let e = (c.pass-p.ensures.next_is ∙ (one_tree f L a (plan_first f p).reads).1) in
-    c.join_kinds.ensures ∙ (λ i. join (c.real_kind-a.ensures i) ((rw e at c.real_kind-b.ensures) i))
+    ap kind_of c.max.ensures ∙ greater_kind c.real_kind-a.result c.real_kind-b.result ∙ (λ i. join (c.real_kind-a.ensures i) ((rw e at c.real_kind-b.ensures) i))
