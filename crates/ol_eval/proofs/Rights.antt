@@ -28,7 +28,7 @@ use Rattle.ol_frame.specs.Walk.{nodes_in, sizes_in, Below}
 use Rattle.ol_frame.specs.Plans.{eval_in, globals_in, scope_in, width_in, names_in, constants_in, segs_at, seg_at}
 use Rattle.ol_eval.specs.Post.{Ready, EvalsTo}
 use Rattle.ol_frame.specs.Nodes.{EquationPlan, Running, Enters}
-use Rattle.ol_eval.specs.Calls.{passed_all, Holds, as_is, Did, Passes, PassedTo, callee_at, Several, AllTo, all_in, rhs_eval, EntersTo, EquationReady, EquationTo}
+use Rattle.ol_eval.specs.Calls.{passed_all, Holds, as_is, Did, Passes, PassedTo, callee_at, Several, AllTo, all_in, rhs_eval, EntersTo, EquationReady, EquationTo, RhsCode}
 use Rattle.ol_frame.specs.Equations.{count_in, place_in, rhs_in, equation_in}
 use Rattle.ol_frame.specs.Stores.{cells_in, Storable, StoresOut, Assignable, Assigns}
 use Rattle.ol_frame.specs.Outcomes.{ending_of}
@@ -105,8 +105,8 @@ module _ {file tab rows consts : List ℕ} {k i at : ℕ} {cells before old new 
   right_place n e = let c : n ≡ length (equation_in file k i).names = e ∙ names_count in λ j. q.place j + 1 + 2 * c j
 
   -- besides, its code is known
-  pub right_ready : (n code : ℕ) → n ≡ get_or file at 0 → get_or file (at + 1 + 2 * n) 0 ≡ code → RhsReady file k i (at + 1 + 2 * n) n code
-  right_ready n code e c = record { place = right_place n e; count = e ∙ names_count; code_is = c }
+  pub right_ready : (n code : ℕ) → n ≡ get_or file at 0 → RhsCode file at code → RhsReady file k i (at + 1 + 2 * n) n code
+  right_ready n code e c = record { place = right_place n e; count = e ∙ names_count; code_is = subst (λ (m : ℕ). get_or file (at + 1 + 2 * m) 0 ≡ code) (sym e) c }
 
   -- ---- it can be evaluated
 

@@ -1,31 +1,33 @@
 -- What the members of the cycle are asked, each member by its name. A call within the cycle is asked first for its measure.
-use Rattle.std.proofs.Common.{ℕ, suc, ◌*◌, ◌+◌, ◌-◌, ◌<◌, ◌≤◌, drop, get_or, length, length-drop, take, length-take-le, Bool, true, false, List, ap, refl, subst, sym, ◌∙◌, ◌≡◌, arith, min}
+use Rattle.std.proofs.Common.{ℕ, suc, ◌*◌, ◌+◌, ◌-◌, ◌<◌, ◌≤◌, drop, get_or, length, length-drop, take, length-take-le, Bool, true, false, List, ◌∷◌, ap, refl, subst, sym, ◌∙◌, ◌≡◌, arith, min}
 use Rattle.ol_eval.proofs.Arguments.{Goes, going_done, going_left, going_length, going_passable, going_ready, going_start, going_stop, going_turn, going_used, left_done, left_none, left_pass, left_suc}
 use Rattle.ol_eval.proofs.Calling.{call_all, call_at, call_done, call_lower, call_parts, call_room, call_several, call_single, call_size, call_small, call_steps, call_stop, call_used}
 use Rattle.ol_eval.proofs.Evals.{first_not, first_ran, if_stop, if_taken, mapped, remade, rest_old, second_not, second_ran, seq_as, two_done, two_stop, untaken_meets}
 use Rattle.ol_eval.proofs.Readying.{binary_is, cast_out_is, chosen_is, first_is, form_evals, fronted, leaf_evals, moved, moved_choice, moved_skip, moved_untaken, one_evals, ready_first, ready_front, ready_parts, ready_pass, ready_rest, ready_seg, ready_tail, skip_one, two_ends, two_segs, unary_out_is, var_evals}
 use Rattle.ol_eval.proofs.Rights.{call_inside, call_stops, callee_row, equation_ready, first_storable, names_inside, names_least, one_done, right_place, right_ready, tuple_all, tuple_done, tuple_inside, tuple_parts, tuple_several, tuple_stops, values_assignable}
 use Rattle.ol_eval.proofs.Stepping.{entered, framed_run, framed_runnable, function_done, function_runnable, instance_failed, instance_finished, instance_overflowed, instance_runnable, is_function, is_operator_lem, own_new, own_room, put_length}
-use Rattle.ol_eval.proofs.Turns.{keeps_done, keeps_ready, run_done, run_next, run_start, turn_goes, turn_part, turn_ready, turn_stops}
-use Rattle.ol_eval.specs.Calls.{AllTo, callee_at, passed_all}
+use Rattle.ol_eval.proofs.Turns.{LeftIn, keeps_done, keeps_ready, run_done, run_next, run_start, turn_goes, turn_part, turn_ready, turn_stops}
+use Rattle.ol_eval.specs.Calls.{AllTo, PassedTo, callee_at, passed_all}
 use Rattle.ol_eval.specs.Post.{on, EvalsTo, UntakenTo, branch_in, choose_in, if_in, two_in}
 use Rattle.ol_frame.proofs.Copying.{all_copied}
 use Rattle.ol_frame.proofs.Equating.{equation_is}
+use Rattle.ol_frame.specs.Equations.{EquationIs}
+use Rattle.ol_spec.specs.Order.{order}
 use Rattle.ol_frame.proofs.Framing.{keeps_all, keeps_on}
 use Rattle.ol_frame.proofs.NodeRows.{few, inputs_first, inputs_most, narrow, outputs_most, row_room}
 use Rattle.ol_frame.proofs.Planning.{plan_form, plan_head, plan_name, segs_cons}
 use Rattle.ol_frame.proofs.Running.{length_mid, length_put_mid, mid_of}
 use Rattle.ol_frame.proofs.Tabling.{rows_room}
 use Rattle.ol_frame.specs.Plans.{Leaf, eval_in, globals_in, name_at, scope_in, seg_at, segs_at}
-use Rattle.ol_frame.specs.Walk.{Passable, SkipsTo}
+use Rattle.ol_frame.specs.Walk.{Passable, SkipsTo, Skips}
 use Rattle.ol_frame.specs.Stores.{PassedOn}
 use Rattle.ol_frame.specs.Outcomes.{ending_of}
 use Rattle.ol_frame.specs.declared.outcomes.Ending.{Ending}
 use Rattle.ol_frame.specs.declared.skip.Passed.{Passed}
 use Rattle.ol_spec.specs.declared.Outcome.TheVariants as Out
-use Rattle.std.specs.Prelude.{Option}
+use Rattle.std.specs.Prelude.{Option, Some}
 use Rattle.ol_spec.specs.Cell.{values_of}
-use Rattle.ol_spec.specs.Eval.{choose, condition, eval, map_eval, next, present_of, several}
+use Rattle.ol_spec.specs.Eval.{choose, condition, eval, map_eval, next, present_of, several, has_call}
 use Rattle.ol_spec.specs.Operators.{unary_of}
 use Rattle.ol_spec.specs.Places.{ty_size}
 use Rattle.ol_spec.specs.Types.{cast_to}
@@ -41,7 +43,7 @@ use Rattle.ol_tables.specs.Table.{consts_of, rows_of, tab_of}
 use Rattle.ol_tables.specs.Tables.{code_at}
 use Rattle.ol_value.specs.Codes.{binary_by, ty_of}
 use Rattle.ol_eval.proofs.Rights
-use Rattle.ol_eval.proofs.eval.+evaluation.Goals.{eval_all-After-eval-r}
+use Rattle.ol_eval.proofs.eval.+evaluation.Goals.{enter-After-row-size, enter-After-eval_all-a, eval_all-After-eval-r, eval_second-After-pass-s, eval_second-After-eval-e, run-After-records_at-b}
 use Rattle.ol_eval.proofs.eval.+evaluation.Goals as goal
 
 pub call_equation-enter-r-requires : goal.call_equation-enter-r-requires
@@ -51,7 +53,7 @@ call_equation-enter-r-requires t c =
     let n = c.from-n.result in
     let ne = c.from-n.ensures in
     let rhs = c.args.at + 1 + 2 * n in
-    let q = right_ready p n 11 ne (subst (λ (m : ℕ). get_or f (c.args.at + 1 + 2 * m) 0 ≡ 11) (sym ne) c.requires.1) in
+    let q = right_ready p n 11 ne c.requires.1 in
     (omega arith, ((equation_ready p rhs q.place), q.code_is, refl))
 
 pub call_equation-bounds-file-rhs : goal.call_equation-bounds-file-rhs
@@ -60,7 +62,7 @@ call_equation-bounds-file-rhs t c =
     let f = c.args.file.now in
     let n = c.from-n.result in
     let ne = c.from-n.ensures in
-    let q = right_ready p n 11 ne (subst (λ (m : ℕ). get_or f (c.args.at + 1 + 2 * m) 0 ≡ 11) (sym ne) c.requires.1) in
+    let q = right_ready p n 11 ne c.requires.1 in
     let inside = call_inside p q in
     omega (arith, inside.0)
 
@@ -71,7 +73,7 @@ call_equation-row-requires t c =
     let tb = c.args.tab.now in
     let n = c.from-n.result in
     let ne = c.from-n.ensures in
-    let q = right_ready p n 11 ne (subst (λ (m : ℕ). get_or f (c.args.at + 1 + 2 * m) 0 ≡ 11) (sym ne) c.requires.1) in
+    let q = right_ready p n 11 ne c.requires.1 in
     let k = c.from-c.result in
     let ke = c.from-c.ensures in
     let row = callee_row p q k ke in
@@ -83,7 +85,7 @@ call_equation-bind-requires t c =
     let f = c.args.file.now in
     let n = c.from-n.result in
     let ne = c.from-n.ensures in
-    let q = right_ready p n 11 ne (subst (λ (m : ℕ). get_or f (c.args.at + 1 + 2 * m) 0 ≡ 11) (sym ne) c.requires.1) in
+    let q = right_ready p n 11 ne c.requires.1 in
     let k = c.from-c.result in
     let ke = c.from-c.ensures in
     let row = callee_row p q k ke in
@@ -99,7 +101,7 @@ call_equation-returns t c =
     let F = fr.first in
     let n = c.from-n.result in
     let ne = c.from-n.ensures in
-    let q = right_ready p n 11 ne (subst (λ (m : ℕ). get_or f (c.args.at + 1 + 2 * m) 0 ≡ 11) (sym ne) c.requires.1) in
+    let q = right_ready p n 11 ne c.requires.1 in
     let k = c.from-c.result in
     let ke = c.from-c.ensures in
     let row = callee_row p q k ke in
@@ -114,7 +116,7 @@ call_equation-returns-in_default t c =
     let F = fr.first in
     let n = c.from-n.result in
     let ne = c.from-n.ensures in
-    let q = right_ready p n 11 ne (subst (λ (m : ℕ). get_or f (c.args.at + 1 + 2 * m) 0 ≡ 11) (sym ne) c.requires.1) in
+    let q = right_ready p n 11 ne c.requires.1 in
     (call_stops p F (c.enter-r.new.args) fr.cells q c.enter-r.ensures.0 c.in_default.not-Values, keeps_all fr)
 
 pub call_function-row-inputs-requires : goal.call_function-row-inputs-requires
@@ -202,63 +204,42 @@ enter-overflow_sub-level t c =
     let n = get_or f (a + 2) 0 in
     (call_at p b k n kE refl).deep
 
+-- the callee k, whose record has `size` bytes of the two states
+module _ (t : ℕ) (c : enter-After-row-size t) where
+  own_is : c.row-size.result + segs_at c.args.file.now (c.args.level - 1) (get_or c.args.file.now (c.args.at + 2) 0) (c.args.at + 3) ≤ length c.args.old.now
+  own_is =
+      let p = c.requires.0 in
+      let b = c.requires.1 in
+      let k = c.from-k.result in
+      let kE = c.from-k.ensures in
+      let n = get_or c.args.file.now (c.args.at + 2) 0 in
+      omega (arith, c.row-size.ensures, call_size p b k n kE refl, call_room p b k n kE refl)
+
+  own_fits : c.row-size.result ≤ length c.args.old.now
+  own_fits = omega (arith, own_is)
+
+  own_fits_new : c.row-size.result ≤ length c.args.new.now
+  own_fits_new = omega (arith, own_is, ap length c.requires.0.same)
+
+-- its arguments were evaluated
+module _ (t : ℕ) (c : enter-After-eval_all-a t) where
+  args_passed : on (PassedTo c.args.file.now (consts_of c.args.tab.now) (Some c.from-k.result) (get_or c.args.file.now (c.args.at + 2) 0) (c.args.level - 1) (c.args.at + 3)) c.args.frame.now (tail_of c.row-size.result c.args.old.now) c.eval_all-a.result c.eval_all-a.new.to c.eval_all-a.new.new
+  args_passed = call_all c.requires.0 c.requires.1 c.from-k.result (get_or c.args.file.now (c.args.at + 2) 0) c.from-k.ensures refl c.args.frame.now.first c.eval_all-a.new.to c.eval_all-a.ensures.0
+
+  own_kept : c.row-size.result ≤ length c.args.new.now → c.row-size.result ≤ length (put_tail c.row-size.result c.args.new.now c.eval_all-a.new.new)
+  own_kept le = subst (λ (m : ℕ). c.row-size.result ≤ m) (sym (length_put c.row-size.result c.args.new.now c.eval_all-a.new.new le c.eval_all-a.auto.new)) le
+
 pub enter-slice_bounds-eval_all-count : goal.enter-slice_bounds-eval_all-count
-enter-slice_bounds-eval_all-count t c =
-    let p = c.requires.0 in
-    let b = c.requires.1 in
-    let f = c.args.file.now in
-    let a = c.args.at in
-    let k = c.from-k.result in
-    let kE = c.from-k.ensures in
-    let n = get_or f (a + 2) 0 in
-    let uE = c.row-size.ensures in
-    let z = call_size p b k n kE refl in
-    let room = call_room p b k n kE refl in
-    omega (arith, uE, z, room)
+enter-slice_bounds-eval_all-count t c = omega (arith, own_fits t (goal.at.enter-slice_bounds-eval_all-count t c).After-row-size)
 
 pub enter-slice_bounds-eval_all-start : goal.enter-slice_bounds-eval_all-start
-enter-slice_bounds-eval_all-start t c =
-    let p = c.requires.0 in
-    let b = c.requires.1 in
-    let f = c.args.file.now in
-    let a = c.args.at in
-    let k = c.from-k.result in
-    let kE = c.from-k.ensures in
-    let n = get_or f (a + 2) 0 in
-    let uE = c.row-size.ensures in
-    let z = call_size p b k n kE refl in
-    let room = call_room p b k n kE refl in
-    omega (arith, uE, z, room)
+enter-slice_bounds-eval_all-start t c = omega (arith, own_fits t (goal.at.enter-slice_bounds-eval_all-start t c).After-row-size)
 
 pub enter-slice_bounds-eval_all-count-2 : goal.enter-slice_bounds-eval_all-count-2
-enter-slice_bounds-eval_all-count-2 t c =
-    let p = c.requires.0 in
-    let b = c.requires.1 in
-    let f = c.args.file.now in
-    let a = c.args.at in
-    let k = c.from-k.result in
-    let kE = c.from-k.ensures in
-    let n = get_or f (a + 2) 0 in
-    let uE = c.row-size.ensures in
-    let z = call_size p b k n kE refl in
-    let room = call_room p b k n kE refl in
-    let S = ap length p.same in
-    omega (arith, uE, z, room, S)
+enter-slice_bounds-eval_all-count-2 t c = omega (arith, own_fits_new t (goal.at.enter-slice_bounds-eval_all-count-2 t c).After-row-size)
 
 pub enter-slice_bounds-eval_all-start-2 : goal.enter-slice_bounds-eval_all-start-2
-enter-slice_bounds-eval_all-start-2 t c =
-    let p = c.requires.0 in
-    let b = c.requires.1 in
-    let f = c.args.file.now in
-    let a = c.args.at in
-    let k = c.from-k.result in
-    let kE = c.from-k.ensures in
-    let n = get_or f (a + 2) 0 in
-    let uE = c.row-size.ensures in
-    let z = call_size p b k n kE refl in
-    let room = call_room p b k n kE refl in
-    let S = ap length p.same in
-    omega (arith, uE, z, room, S)
+enter-slice_bounds-eval_all-start-2 t c = omega (arith, own_fits_new t (goal.at.enter-slice_bounds-eval_all-start-2 t c).After-row-size)
 
 pub enter-eval_all-a-requires : goal.enter-eval_all-a-requires
 enter-eval_all-a-requires t c =
@@ -276,128 +257,39 @@ enter-eval_all-a-requires t c =
 pub enter-overflow_add-used : goal.enter-overflow_add-used
 enter-overflow_add-used t c =
     let p = c.requires.0 in
-    let b = c.requires.1 in
-    let fr = c.args.frame.now in
-    let f = c.args.file.now in
-    let a = c.args.at in
-    let F = fr.first in
-    let k = c.from-k.result in
-    let kE = c.from-k.ensures in
-    let n = get_or f (a + 2) 0 in
-    let u = c.row-size.result in
-    let uE = c.row-size.ensures in
-    let C1 = c.eval_all-a.new.to in
-    omega (arith, call_used p b k n kE refl F u uE C1 ((call_all p b k n kE refl F C1 c.eval_all-a.ensures.0)))
+    let n = get_or c.args.file.now (c.args.at + 2) 0 in
+    omega (arith, call_used p c.requires.1 c.from-k.result n c.from-k.ensures refl c.args.frame.now.first c.row-size.result c.row-size.ensures c.eval_all-a.new.to (args_passed t (goal.at.enter-overflow_add-used t c).After-eval_all-a))
 
 pub enter-slice_bounds-step_site-end : goal.enter-slice_bounds-step_site-end
-enter-slice_bounds-step_site-end t c =
-    let p = c.requires.0 in
-    let b = c.requires.1 in
-    let f = c.args.file.now in
-    let a = c.args.at in
-    let o = c.args.old.now in
-    let k = c.from-k.result in
-    let kE = c.from-k.ensures in
-    let n = get_or f (a + 2) 0 in
-    let u = c.row-size.result in
-    let uE = c.row-size.ensures in
-    let z = call_size p b k n kE refl in
-    let room = call_room p b k n kE refl in
-    sym (length-take-le u o (omega (arith, uE, z, room)))
+enter-slice_bounds-step_site-end t c = sym (length-take-le c.row-size.result c.args.old.now (own_fits t (goal.at.enter-slice_bounds-step_site-end t c).After-row-size))
 
 pub enter-slice_bounds-step_site-end-2 : goal.enter-slice_bounds-step_site-end-2
 enter-slice_bounds-step_site-end-2 t c =
-    let p = c.requires.0 in
-    let b = c.requires.1 in
-    let f = c.args.file.now in
-    let a = c.args.at in
-    let w = c.args.new.now in
-    let k = c.from-k.result in
-    let kE = c.from-k.ensures in
-    let n = get_or f (a + 2) 0 in
-    let u = c.row-size.result in
-    let uE = c.row-size.ensures in
-    let z = call_size p b k n kE refl in
-    let room = call_room p b k n kE refl in
-    let S = ap length p.same in
-    let K1 = c.eval_all-a.auto.new in
-    let N1 = c.eval_all-a.new.new in
-    let le = subst (λ (m : ℕ). m ≤ length w) (sym (uE ∙ z)) (omega (arith, room, S)) in
-    let len = length_put u w N1 le K1 in
-    let lep = subst (λ (m : ℕ). u ≤ m) (sym len) le in
-    lep
+    let d = goal.at.enter-slice_bounds-step_site-end-2 t c in
+    own_kept t d.After-eval_all-a (own_fits_new t d.After-row-size)
 
 pub enter-slice_bounds-step_site-end-3 : goal.enter-slice_bounds-step_site-end-3
 enter-slice_bounds-step_site-end-3 t c =
-    let p = c.requires.0 in
-    let b = c.requires.1 in
-    let f = c.args.file.now in
-    let a = c.args.at in
-    let w = c.args.new.now in
-    let k = c.from-k.result in
-    let kE = c.from-k.ensures in
-    let n = get_or f (a + 2) 0 in
-    let u = c.row-size.result in
-    let uE = c.row-size.ensures in
-    let z = call_size p b k n kE refl in
-    let room = call_room p b k n kE refl in
-    let S = ap length p.same in
-    let K1 = c.eval_all-a.auto.new in
-    let N1 = c.eval_all-a.new.new in
-    let le = subst (λ (m : ℕ). m ≤ length w) (sym (uE ∙ z)) (omega (arith, room, S)) in
-    let len = length_put u w N1 le K1 in
-    let lep = subst (λ (m : ℕ). u ≤ m) (sym len) le in
-    sym (length-take-le u (put_tail u w N1) lep)
+    let d = goal.at.enter-slice_bounds-step_site-end-3 t c in
+    sym (length-take-le c.row-size.result (put_tail c.row-size.result c.args.new.now c.eval_all-a.new.new) (own_kept t d.After-eval_all-a (own_fits_new t d.After-row-size)))
 
 pub enter-step_site-end-requires : goal.enter-step_site-end-requires
 enter-step_site-end-requires t c =
     let p = c.requires.0 in
     let b = c.requires.1 in
-    let f = c.args.file.now in
-    let a = c.args.at in
     let k = c.from-k.result in
-    let kE = c.from-k.ensures in
-    let n = get_or f (a + 2) 0 in
-    let u = c.row-size.result in
-    let uE = c.row-size.ensures in
-    let KA = c.eval_all-a.ensures.1 in
-    let N1 = c.eval_all-a.new.new in
-    (omega (arith, call_lower p b k n kE refl), call_steps p b k n kE refl u uE N1 (KA ∙ c.requires.2))
+    let n = get_or c.args.file.now (c.args.at + 2) 0 in
+    (omega (arith, call_lower p b k n c.from-k.ensures refl), call_steps p b k n c.from-k.ensures refl c.row-size.result c.row-size.ensures c.eval_all-a.new.new (c.eval_all-a.ensures.1 ∙ c.requires.2))
 
 pub enter-returns : goal.enter-returns
 enter-returns t c =
-    let p = c.requires.0 in
-    let b = c.requires.1 in
-    let fr = c.args.frame.now in
-    let f = c.args.file.now in
-    let a = c.args.at in
-    let F = fr.first in
-    let k = c.from-k.result in
-    let kE = c.from-k.ensures in
-    let n = get_or f (a + 2) 0 in
-    let u = c.row-size.result in
-    let uE = c.row-size.ensures in
-    let KA = c.eval_all-a.ensures.1 in
-    let C1 = c.eval_all-a.new.to in
-    let C2 = c.step_site-end.new.args in
-    (call_done p b k n kE refl F u uE C1 C2 ((call_all p b k n kE refl F C1 c.eval_all-a.ensures.0)) c.in-Values.is c.step_site-end.ensures.0, c.step_site-end.ensures.1 ∙ KA)
+    let n = get_or c.args.file.now (c.args.at + 2) 0 in
+    (call_done c.requires.0 c.requires.1 c.from-k.result n c.from-k.ensures refl c.args.frame.now.first c.row-size.result c.row-size.ensures c.eval_all-a.new.to c.step_site-end.new.args (args_passed t (goal.at.enter-returns t c).After-eval_all-a) c.in-Values.is c.step_site-end.ensures.0, c.step_site-end.ensures.1 ∙ c.eval_all-a.ensures.1)
 
 pub enter-returns-in_default : goal.enter-returns-in_default
 enter-returns-in_default t c =
-    let p = c.requires.0 in
-    let b = c.requires.1 in
-    let fr = c.args.frame.now in
-    let f = c.args.file.now in
-    let a = c.args.at in
-    let F = fr.first in
-    let k = c.from-k.result in
-    let kE = c.from-k.ensures in
-    let n = get_or f (a + 2) 0 in
-    let u = c.row-size.result in
-    let uE = c.row-size.ensures in
-    let KA = c.eval_all-a.ensures.1 in
-    let C1 = c.eval_all-a.new.to in
-    (call_stop p b k n kE refl F u uE C1 ((call_all p b k n kE refl F C1 c.eval_all-a.ensures.0)) c.in_default.not-Values, KA)
+    let n = get_or c.args.file.now (c.args.at + 2) 0 in
+    (call_stop c.requires.0 c.requires.1 c.from-k.result n c.from-k.ensures refl c.args.frame.now.first c.row-size.result c.row-size.ensures c.eval_all-a.new.to (args_passed t (goal.at.enter-returns-in_default t c).After-eval_all-a) c.in_default.not-Values, c.eval_all-a.ensures.1)
 
 pub equation-bounds-file-at : goal.equation-bounds-file-at
 equation-bounds-file-at t c =
@@ -1240,57 +1132,47 @@ eval_second-pass-s-requires t c =
     let tb = c.args.tab.now in
     (ready_pass (ready_first p), rows_room tb _ p.plan.program.table.long)
 
+-- the first branch was passed over
+module _ (t : ℕ) (c : eval_second-After-pass-s t) where
+  first_passed : Skips (has_call (expr_at c.args.file.now c.args.level c.args.at)) (end_at c.args.file.now c.args.level c.args.at) (seg_at c.args.file.now c.args.level c.args.at) c.pass-s.result
+  first_passed = skip_one c.args.file.now c.args.level c.args.at (ready_first c.requires).plan.reads c.pass-s.ensures
+
+  first_fits : c.pass-s.result.used ≤ length c.args.old.now
+  first_fits = omega (arith, first_passed.used_is, ready_seg c.requires)
+
+  first_fits_new : c.pass-s.result.used ≤ length c.args.new.now
+  first_fits_new = omega (arith, first_fits, ap length c.requires.same)
+
+-- the second was evaluated
+module _ (t : ℕ) (c : eval_second-After-eval-e t) (q : Skips (has_call (expr_at c.args.file.now c.args.level c.args.at)) (end_at c.args.file.now c.args.level c.args.at) (seg_at c.args.file.now c.args.level c.args.at) c.pass-s.result) where
+  second_evals : on (EvalsTo c.args.file.now (consts_of c.args.tab.now) c.args.level (end_at c.args.file.now c.args.level c.args.at)) c.args.frame.now (drop (seg_at c.args.file.now c.args.level c.args.at) c.args.old.now) c.eval-e.result c.eval-e.new.new
+  second_evals =
+      let fr = c.args.frame.now in
+      moved c.args.file.now (consts_of c.args.tab.now) c.args.level fr.node fr.first fr.cells fr.before q.next_is (tail_all c.pass-s.result.used c.args.old.now ∙ ap (λ (u : ℕ). drop u c.args.old.now) q.used_is) c.eval-e.ensures
+
+  both_used : c.pass-s.result.used + c.eval-e.result.used ≤ 32768
+  both_used = omega (arith, q.used_is, second_evals.used_is, two_segs c.args.file.now c.args.level c.args.at c.requires.plan.reads, c.requires.room, c.requires.small)
+
+  first_kept : c.pass-s.result.used ≤ length c.args.new.now → c.pass-s.result.used ≤ length (put_tail c.pass-s.result.used c.args.new.now c.eval-e.new.new)
+  first_kept le = subst (λ (m : ℕ). c.pass-s.result.used ≤ m) (sym (length_put c.pass-s.result.used c.args.new.now c.eval-e.new.new le c.eval-e.auto.new)) le
+
 pub eval_second-slice_bounds-eval-count : goal.eval_second-slice_bounds-eval-count
-eval_second-slice_bounds-eval-count t c =
-    let p = c.requires in
-    let f = c.args.file.now in
-    let L = c.args.level in
-    let a = c.args.at in
-    let le = ready_seg p in
-    let q = skip_one f L a (ready_first p).plan.reads c.pass-s.ensures in
-    omega (arith, q.used_is, le)
+eval_second-slice_bounds-eval-count t c = omega (arith, first_fits t (goal.at.eval_second-slice_bounds-eval-count t c).After-pass-s)
 
 pub eval_second-slice_bounds-eval-start : goal.eval_second-slice_bounds-eval-start
-eval_second-slice_bounds-eval-start t c =
-    let p = c.requires in
-    let f = c.args.file.now in
-    let L = c.args.level in
-    let a = c.args.at in
-    let le = ready_seg p in
-    let q = skip_one f L a (ready_first p).plan.reads c.pass-s.ensures in
-    omega (arith, q.used_is, le)
+eval_second-slice_bounds-eval-start t c = omega (arith, first_fits t (goal.at.eval_second-slice_bounds-eval-start t c).After-pass-s)
 
 pub eval_second-slice_bounds-eval-count-2 : goal.eval_second-slice_bounds-eval-count-2
-eval_second-slice_bounds-eval-count-2 t c =
-    let p = c.requires in
-    let f = c.args.file.now in
-    let L = c.args.level in
-    let a = c.args.at in
-    let le = ready_seg p in
-    let q = skip_one f L a (ready_first p).plan.reads c.pass-s.ensures in
-    omega (arith, q.used_is, le, ap length p.same)
+eval_second-slice_bounds-eval-count-2 t c = omega (arith, first_fits_new t (goal.at.eval_second-slice_bounds-eval-count-2 t c).After-pass-s)
 
 pub eval_second-slice_bounds-eval-start-2 : goal.eval_second-slice_bounds-eval-start-2
-eval_second-slice_bounds-eval-start-2 t c =
-    let p = c.requires in
-    let f = c.args.file.now in
-    let L = c.args.level in
-    let a = c.args.at in
-    let le = ready_seg p in
-    let q = skip_one f L a (ready_first p).plan.reads c.pass-s.ensures in
-    omega (arith, q.used_is, le, ap length p.same)
+eval_second-slice_bounds-eval-start-2 t c = omega (arith, first_fits_new t (goal.at.eval_second-slice_bounds-eval-start-2 t c).After-pass-s)
 
 pub eval_second-eval-e-requires : goal.eval_second-eval-e-requires
 eval_second-eval-e-requires t c =
-    let p = c.requires in
-    let f = c.args.file.now in
-    let L = c.args.level in
-    let a = c.args.at in
-    let o = c.args.old.now in
-    let q = skip_one f L a (ready_first p).plan.reads c.pass-s.ensures in
-    let U = c.pass-s.result.used in
-    let e = (skip_one f L a (ready_first p).plan.reads c.pass-s.ensures).next_is in
-    (omega arith, (rw e (ready_tail U (tail_of U o) (tail_of U c.args.new.now) p q.used_is (tail_all U o) (tail_all U c.args.new.now ∙ ap (drop U) p.same))))
+    let q = first_passed t (goal.at.eval_second-eval-e-requires t c).After-pass-s in
+    let u = c.pass-s.result.used in
+    (omega arith, rw q.next_is (ready_tail u (tail_of u c.args.old.now) (tail_of u c.args.new.now) c.requires q.used_is (tail_all u c.args.old.now) (tail_all u c.args.new.now ∙ ap (drop u) c.requires.same)))
 
 pub eval_second-chosen-eo-requires : goal.eval_second-chosen-eo-requires
 eval_second-chosen-eo-requires t c =
@@ -1299,99 +1181,30 @@ eval_second-chosen-eo-requires t c =
     (r.plan, r.present, omega (arith, r.room, r.small))
 
 pub eval_second-slice_bounds-step_untaken-end : goal.eval_second-slice_bounds-step_untaken-end
-eval_second-slice_bounds-step_untaken-end t c =
-    let p = c.requires in
-    let f = c.args.file.now in
-    let L = c.args.level in
-    let a = c.args.at in
-    let o = c.args.old.now in
-    let le = ready_seg p in
-    let q = skip_one f L a (ready_first p).plan.reads c.pass-s.ensures in
-    let U = c.pass-s.result.used in
-    sym (length-take-le U o (omega (arith, q.used_is, le)))
+eval_second-slice_bounds-step_untaken-end t c = sym (length-take-le c.pass-s.result.used c.args.old.now (first_fits t (goal.at.eval_second-slice_bounds-step_untaken-end t c).After-pass-s))
 
 pub eval_second-slice_bounds-step_untaken-end-then-runs : goal.eval_second-slice_bounds-step_untaken-end-then-runs
 eval_second-slice_bounds-step_untaken-end-then-runs t c =
-    let p = c.requires in
-    let f = c.args.file.now in
-    let L = c.args.level in
-    let a = c.args.at in
-    let le = ready_seg p in
-    let q = skip_one f L a (ready_first p).plan.reads c.pass-s.ensures in
-    let U = c.pass-s.result.used in
-    let K = c.eval-e.auto.new in
-    let N = c.eval-e.new.new in
-    let len = length_put U c.args.new.now N (omega (arith, q.used_is, le, ap length p.same)) K in
-    let lep = subst (λ (k : ℕ). U ≤ k) (sym len) (omega (arith, q.used_is, le, ap length p.same)) in
-    lep
+    let d = goal.at.eval_second-slice_bounds-step_untaken-end-then-runs t c in
+    first_kept t d.After-eval-e (first_passed t d.After-pass-s) (first_fits_new t d.After-pass-s)
 
 pub eval_second-slice_bounds-step_untaken-end-then-runs-2 : goal.eval_second-slice_bounds-step_untaken-end-then-runs-2
 eval_second-slice_bounds-step_untaken-end-then-runs-2 t c =
-    let p = c.requires in
-    let f = c.args.file.now in
-    let L = c.args.level in
-    let a = c.args.at in
-    let le = ready_seg p in
-    let q = skip_one f L a (ready_first p).plan.reads c.pass-s.ensures in
-    let U = c.pass-s.result.used in
-    let K = c.eval-e.auto.new in
-    let N = c.eval-e.new.new in
-    let len = length_put U c.args.new.now N (omega (arith, q.used_is, le, ap length p.same)) K in
-    let lep = subst (λ (k : ℕ). U ≤ k) (sym len) (omega (arith, q.used_is, le, ap length p.same)) in
-    sym (length-take-le U (put_tail U c.args.new.now N) lep)
+    let d = goal.at.eval_second-slice_bounds-step_untaken-end-then-runs-2 t c in
+    sym (length-take-le c.pass-s.result.used (put_tail c.pass-s.result.used c.args.new.now c.eval-e.new.new) (first_kept t d.After-eval-e (first_passed t d.After-pass-s) (first_fits_new t d.After-pass-s)))
 
 pub eval_second-step_untaken-other-requires : goal.eval_second-step_untaken-other-requires
-eval_second-step_untaken-other-requires t c =
-    let p = c.requires in
-    let f = c.args.file.now in
-    let L = c.args.level in
-    let a = c.args.at in
-    let q = skip_one f L a (ready_first p).plan.reads c.pass-s.ensures in
-    let U = c.pass-s.result.used in
-    let N = c.eval-e.new.new in
-    (omega arith, (ready_front U N p q.used_is))
+eval_second-step_untaken-other-requires t c = (omega arith, ready_front c.pass-s.result.used c.eval-e.new.new c.requires (first_passed t (goal.at.eval_second-step_untaken-other-requires t c).After-pass-s).used_is)
 
 pub eval_second-overflow_add-result : goal.eval_second-overflow_add-result
 eval_second-overflow_add-result t c =
-    let p = c.requires in
-    let fr = c.args.frame.now in
-    let tb = c.args.tab.now in
-    let f = c.args.file.now in
-    let kk = consts_of tb in
-    let L = c.args.level in
-    let a = c.args.at in
-    let n = fr.node in
-    let F = fr.first in
-    let cl = fr.cells in
-    let bb = fr.before in
-    let o = c.args.old.now in
-    let q = skip_one f L a (ready_first p).plan.reads c.pass-s.ensures in
-    let U = c.pass-s.result.used in
-    let e = (skip_one f L a (ready_first p).plan.reads c.pass-s.ensures).next_is in
-    let h = moved f kk L n F cl bb e (tail_all U o ∙ ap (λ (u : ℕ). drop u o) q.used_is) c.eval-e.ensures in
-    let segs = two_segs f L a p.plan.reads in
-    omega (arith, q.used_is, h.used_is, segs, p.room, p.small)
+    let d = goal.at.eval_second-overflow_add-result t c in
+    omega (arith, both_used t d.After-eval-e (first_passed t d.After-pass-s))
 
 pub eval_second-overflow_add-result-else-runs : goal.eval_second-overflow_add-result-else-runs
 eval_second-overflow_add-result-else-runs t c =
-    let p = c.requires in
-    let fr = c.args.frame.now in
-    let tb = c.args.tab.now in
-    let f = c.args.file.now in
-    let kk = consts_of tb in
-    let L = c.args.level in
-    let a = c.args.at in
-    let n = fr.node in
-    let F = fr.first in
-    let cl = fr.cells in
-    let bb = fr.before in
-    let o = c.args.old.now in
-    let q = skip_one f L a (ready_first p).plan.reads c.pass-s.ensures in
-    let U = c.pass-s.result.used in
-    let e = (skip_one f L a (ready_first p).plan.reads c.pass-s.ensures).next_is in
-    let h = moved f kk L n F cl bb e (tail_all U o ∙ ap (λ (u : ℕ). drop u o) q.used_is) c.eval-e.ensures in
-    let segs = two_segs f L a p.plan.reads in
-    omega (arith, q.used_is, h.used_is, segs, p.room, p.small)
+    let d = goal.at.eval_second-overflow_add-result-else-runs t c in
+    omega (arith, both_used t d.After-eval-e (first_passed t d.After-pass-s))
 
 pub eval_second-returns-then-runs : goal.eval_second-returns-then-runs
 eval_second-returns-then-runs t c =
@@ -1411,11 +1224,11 @@ eval_second-returns-then-runs t c =
     let mid = end_at f L a in
     let n1 = seg_at f L a in
     let n2 = seg_at f L (end_at f L a) in
-    let q = skip_one f L a (ready_first p).plan.reads c.pass-s.ensures in
+    let d = goal.at.eval_second-returns-then-runs t c in
+    let q = first_passed t d.After-pass-s in
     let U = c.pass-s.result.used in
     let M = c.step_untaken-other.new.new in
-    let e = (skip_one f L a (ready_first p).plan.reads c.pass-s.ensures).next_is in
-    let h = moved f kk L n F cl bb e (tail_all U o ∙ ap (λ (u : ℕ). drop u o) q.used_is) c.eval-e.ensures in
+    let h = second_evals t d.After-eval-e q in
     let h2 = subst (λ (u : ℕ). UntakenTo f kk L a n F cl bb (take u o) c.step_untaken-other.result M) q.used_is c.step_untaken-other.ensures in
     let to = chosen_is f kk L n F cl bb c.eval-e.result.out (refl {a = a}) c.chosen-eo.ensures in
     let segs = two_segs f L a p.plan.reads in
@@ -1439,10 +1252,10 @@ eval_second-returns-else-runs t c =
     let mid = end_at f L a in
     let n1 = seg_at f L a in
     let n2 = seg_at f L (end_at f L a) in
-    let q = skip_one f L a (ready_first p).plan.reads c.pass-s.ensures in
+    let d = goal.at.eval_second-returns-else-runs t c in
+    let q = first_passed t d.After-pass-s in
     let U = c.pass-s.result.used in
-    let e = (skip_one f L a (ready_first p).plan.reads c.pass-s.ensures).next_is in
-    let h = moved f kk L n F cl bb e (tail_all U o ∙ ap (λ (u : ℕ). drop u o) q.used_is) c.eval-e.ensures in
+    let h = second_evals t d.After-eval-e q in
     let to = chosen_is f kk L n F cl bb c.eval-e.result.out (refl {a = a}) c.chosen-eo.ensures in
     let segs = two_segs f L a p.plan.reads in
     let ends = two_ends f L a p.plan.reads in
@@ -1623,206 +1436,75 @@ run-loop-j-init t c =
     let F = fr.first in
     (omega arith, keeps_all fr, refl, run_start F p)
 
+-- a turn of the loop over the equations: the next one, i, stands at `at`, and its records from a up to b
+module _ (t : ℕ) (c : run-After-records_at-b t) where
+  turn_left : on (LeftIn c.args.file.now (consts_of c.args.tab.now)) c.args.frame.now c.args.old.now (c.order_at-i.result ∷ drop (c.loop-j.j + 1) (order (node_in c.args.file.now c.args.frame.now.node).equations)) c.loop-j.frame.cells c.loop-j.new
+  turn_left =
+      let p = c.requires in
+      let fr = c.args.frame.now in
+      let n = c.row-n.ensures ∙ (p.running.program.sized.table.rows_of fr.node p.below).count in
+      run_next c.args.file.now (consts_of c.args.tab.now) fr.node fr.first fr.cells fr.before c.args.old.now c.loop-j.frame.cells c.loop-j.new c.order_at-i.result c.loop-j.j c.loop-j.invariant.3
+      (omega (arith, c.loop-j-test.true, n, (p.running.nodes fr.node p.below).all))
+      (c.order_at-i.ensures.0 ∙ (p.running.program.table.tabs_of fr.node p.below).orders c.loop-j.j (omega (arith, c.loop-j-test.true, n)))
+
+  turn_place : EquationIs c.args.file.now c.args.frame.now.node c.order_at-i.result c.place_at-at.result c.records_at-a.result c.records_at-b.result
+  turn_place =
+      let p = c.requires in
+      equation_is c.args.tab.now p.running p.below c.plan_of-plan.ensures.0 p.sized p.small (c.row-n.ensures ∙ (p.running.program.sized.table.rows_of c.args.frame.now.node p.below).count) turn_left.inside.0 c.place_at-at.ensures c.records_at-a.ensures c.records_at-b.ensures
+
+  turn_bounds : (c.records_at-a.result ≤ c.records_at-b.result) × (c.records_at-b.result ≤ length c.args.old.now) × (length c.loop-j.new ≡ length c.args.old.now)
+  turn_bounds = turn_part c.args.frame.now.first c.requires c.loop-j.frame.cells turn_left turn_place
+
 pub run-slice_bounds-equation-count : goal.run-slice_bounds-equation-count
-run-slice_bounds-equation-count t c =
-    let p = c.requires in
-    let tb = c.args.tab.now in
-    let fr = c.args.frame.now in
-    let k = fr.node in
-    let F = fr.first in
-    let r = p.running in
-    let node = r.nodes k p.below in
-    let n = c.row-n.ensures ∙ (r.program.sized.table.rows_of k p.below).count in
-    let lt = c.loop-j-test.true in
-    let inv = c.loop-j.invariant in
-    let i = c.order_at-i.result in
-    let is = c.order_at-i.ensures.0 ∙ (r.program.table.tabs_of k p.below).orders c.loop-j.j (omega (arith, lt, n)) in
-    let lf = c.loop-j.frame in
-    let l = run_next c.args.file.now (consts_of tb) k F fr.cells fr.before c.args.old.now lf.cells c.loop-j.new i c.loop-j.j inv.3 (omega (arith, lt, n, node.all)) is in
-    let pl = c.plan_of-plan.ensures.0 in
-    let q = equation_is tb r p.below pl p.sized p.small n l.inside.0 c.place_at-at.ensures c.records_at-a.ensures c.records_at-b.ensures in
-    let t = turn_part F p lf.cells l q in
-    t.0
+run-slice_bounds-equation-count t c = (turn_bounds t (goal.at.run-slice_bounds-equation-count t c).After-records_at-b).0
 
 pub run-slice_bounds-equation-start : goal.run-slice_bounds-equation-start
-run-slice_bounds-equation-start t c =
-    let p = c.requires in
-    let tb = c.args.tab.now in
-    let fr = c.args.frame.now in
-    let k = fr.node in
-    let F = fr.first in
-    let r = p.running in
-    let node = r.nodes k p.below in
-    let n = c.row-n.ensures ∙ (r.program.sized.table.rows_of k p.below).count in
-    let lt = c.loop-j-test.true in
-    let inv = c.loop-j.invariant in
-    let i = c.order_at-i.result in
-    let is = c.order_at-i.ensures.0 ∙ (r.program.table.tabs_of k p.below).orders c.loop-j.j (omega (arith, lt, n)) in
-    let lf = c.loop-j.frame in
-    let l = run_next c.args.file.now (consts_of tb) k F fr.cells fr.before c.args.old.now lf.cells c.loop-j.new i c.loop-j.j inv.3 (omega (arith, lt, n, node.all)) is in
-    let pl = c.plan_of-plan.ensures.0 in
-    let q = equation_is tb r p.below pl p.sized p.small n l.inside.0 c.place_at-at.ensures c.records_at-a.ensures c.records_at-b.ensures in
-    let t = turn_part F p lf.cells l q in
-    omega (arith, t.0, t.1)
+run-slice_bounds-equation-start t c = omega (arith, turn_bounds t (goal.at.run-slice_bounds-equation-start t c).After-records_at-b)
 
 pub run-slice_bounds-equation-end : goal.run-slice_bounds-equation-end
-run-slice_bounds-equation-end t c =
-    let p = c.requires in
-    let tb = c.args.tab.now in
-    let fr = c.args.frame.now in
-    let k = fr.node in
-    let F = fr.first in
-    let r = p.running in
-    let node = r.nodes k p.below in
-    let n = c.row-n.ensures ∙ (r.program.sized.table.rows_of k p.below).count in
-    let lt = c.loop-j-test.true in
-    let inv = c.loop-j.invariant in
-    let i = c.order_at-i.result in
-    let is = c.order_at-i.ensures.0 ∙ (r.program.table.tabs_of k p.below).orders c.loop-j.j (omega (arith, lt, n)) in
-    let lf = c.loop-j.frame in
-    let l = run_next c.args.file.now (consts_of tb) k F fr.cells fr.before c.args.old.now lf.cells c.loop-j.new i c.loop-j.j inv.3 (omega (arith, lt, n, node.all)) is in
-    let pl = c.plan_of-plan.ensures.0 in
-    let q = equation_is tb r p.below pl p.sized p.small n l.inside.0 c.place_at-at.ensures c.records_at-a.ensures c.records_at-b.ensures in
-    let t = turn_part F p lf.cells l q in
-    omega (arith, t.0, t.1)
+run-slice_bounds-equation-end t c = omega (arith, turn_bounds t (goal.at.run-slice_bounds-equation-end t c).After-records_at-b)
 
 pub run-slice_bounds-equation-count-in-loop-j : goal.run-slice_bounds-equation-count-in-loop-j
-run-slice_bounds-equation-count-in-loop-j t c =
-    let p = c.requires in
-    let tb = c.args.tab.now in
-    let fr = c.args.frame.now in
-    let k = fr.node in
-    let F = fr.first in
-    let r = p.running in
-    let node = r.nodes k p.below in
-    let n = c.row-n.ensures ∙ (r.program.sized.table.rows_of k p.below).count in
-    let lt = c.loop-j-test.true in
-    let inv = c.loop-j.invariant in
-    let i = c.order_at-i.result in
-    let is = c.order_at-i.ensures.0 ∙ (r.program.table.tabs_of k p.below).orders c.loop-j.j (omega (arith, lt, n)) in
-    let lf = c.loop-j.frame in
-    let l = run_next c.args.file.now (consts_of tb) k F fr.cells fr.before c.args.old.now lf.cells c.loop-j.new i c.loop-j.j inv.3 (omega (arith, lt, n, node.all)) is in
-    let pl = c.plan_of-plan.ensures.0 in
-    let q = equation_is tb r p.below pl p.sized p.small n l.inside.0 c.place_at-at.ensures c.records_at-a.ensures c.records_at-b.ensures in
-    let t = turn_part F p lf.cells l q in
-    t.0
+run-slice_bounds-equation-count-in-loop-j t c = (turn_bounds t (goal.at.run-slice_bounds-equation-count-in-loop-j t c).After-records_at-b).0
 
 pub run-slice_bounds-equation-start-in-loop-j : goal.run-slice_bounds-equation-start-in-loop-j
-run-slice_bounds-equation-start-in-loop-j t c =
-    let p = c.requires in
-    let tb = c.args.tab.now in
-    let fr = c.args.frame.now in
-    let k = fr.node in
-    let F = fr.first in
-    let r = p.running in
-    let node = r.nodes k p.below in
-    let n = c.row-n.ensures ∙ (r.program.sized.table.rows_of k p.below).count in
-    let lt = c.loop-j-test.true in
-    let inv = c.loop-j.invariant in
-    let i = c.order_at-i.result in
-    let is = c.order_at-i.ensures.0 ∙ (r.program.table.tabs_of k p.below).orders c.loop-j.j (omega (arith, lt, n)) in
-    let lf = c.loop-j.frame in
-    let l = run_next c.args.file.now (consts_of tb) k F fr.cells fr.before c.args.old.now lf.cells c.loop-j.new i c.loop-j.j inv.3 (omega (arith, lt, n, node.all)) is in
-    let pl = c.plan_of-plan.ensures.0 in
-    let q = equation_is tb r p.below pl p.sized p.small n l.inside.0 c.place_at-at.ensures c.records_at-a.ensures c.records_at-b.ensures in
-    let t = turn_part F p lf.cells l q in
-    omega (arith, t.0, t.1, t.2)
+run-slice_bounds-equation-start-in-loop-j t c = omega (arith, turn_bounds t (goal.at.run-slice_bounds-equation-start-in-loop-j t c).After-records_at-b)
 
 pub run-slice_bounds-equation-end-in-loop-j : goal.run-slice_bounds-equation-end-in-loop-j
-run-slice_bounds-equation-end-in-loop-j t c =
-    let p = c.requires in
-    let tb = c.args.tab.now in
-    let fr = c.args.frame.now in
-    let k = fr.node in
-    let F = fr.first in
-    let r = p.running in
-    let node = r.nodes k p.below in
-    let n = c.row-n.ensures ∙ (r.program.sized.table.rows_of k p.below).count in
-    let lt = c.loop-j-test.true in
-    let inv = c.loop-j.invariant in
-    let i = c.order_at-i.result in
-    let is = c.order_at-i.ensures.0 ∙ (r.program.table.tabs_of k p.below).orders c.loop-j.j (omega (arith, lt, n)) in
-    let lf = c.loop-j.frame in
-    let l = run_next c.args.file.now (consts_of tb) k F fr.cells fr.before c.args.old.now lf.cells c.loop-j.new i c.loop-j.j inv.3 (omega (arith, lt, n, node.all)) is in
-    let pl = c.plan_of-plan.ensures.0 in
-    let q = equation_is tb r p.below pl p.sized p.small n l.inside.0 c.place_at-at.ensures c.records_at-a.ensures c.records_at-b.ensures in
-    let t = turn_part F p lf.cells l q in
-    omega (arith, t.0, t.1, t.2)
+run-slice_bounds-equation-end-in-loop-j t c = omega (arith, turn_bounds t (goal.at.run-slice_bounds-equation-end-in-loop-j t c).After-records_at-b)
 
 pub run-equation-e-requires : goal.run-equation-e-requires
 run-equation-e-requires t c =
-    let p = c.requires in
-    let tb = c.args.tab.now in
-    let fr = c.args.frame.now in
-    let k = fr.node in
-    let F = fr.first in
-    let r = p.running in
-    let node = r.nodes k p.below in
-    let n = c.row-n.ensures ∙ (r.program.sized.table.rows_of k p.below).count in
-    let lt = c.loop-j-test.true in
-    let inv = c.loop-j.invariant in
-    let i = c.order_at-i.result in
-    let is = c.order_at-i.ensures.0 ∙ (r.program.table.tabs_of k p.below).orders c.loop-j.j (omega (arith, lt, n)) in
+    let d = (goal.at.run-equation-e-requires t c).After-records_at-b in
     let lf = c.loop-j.frame in
-    let l = run_next c.args.file.now (consts_of tb) k F fr.cells fr.before c.args.old.now lf.cells c.loop-j.new i c.loop-j.j inv.3 (omega (arith, lt, n, node.all)) is in
-    let pl = c.plan_of-plan.ensures.0 in
-    let q = equation_is tb r p.below pl p.sized p.small n l.inside.0 c.place_at-at.ensures c.records_at-a.ensures c.records_at-b.ensures in
-    (omega (arith, inv.1.node), (keeps_ready inv.1 (turn_ready F p lf.cells l q (lf.cells_sized ∙ sym fr.cells_sized))))
+    (omega (arith, c.loop-j.invariant.1.node), keeps_ready c.loop-j.invariant.1 (turn_ready c.args.frame.now.first c.requires lf.cells (turn_left t d) (turn_place t d) (lf.cells_sized ∙ sym c.args.frame.now.cells_sized)))
 
 pub run-returns-in_default : goal.run-returns-in_default
 run-returns-in_default t c =
-    let p = c.requires in
-    let tb = c.args.tab.now in
-    let fr = c.args.frame.now in
-    let k = fr.node in
-    let F = fr.first in
-    let r = p.running in
-    let node = r.nodes k p.below in
-    let n = c.row-n.ensures ∙ (r.program.sized.table.rows_of k p.below).count in
-    let lt = c.loop-j-test.true in
-    let inv = c.loop-j.invariant in
-    let i = c.order_at-i.result in
-    let is = c.order_at-i.ensures.0 ∙ (r.program.table.tabs_of k p.below).orders c.loop-j.j (omega (arith, lt, n)) in
+    let d = (goal.at.run-returns-in_default t c).After-records_at-b in
     let lf = c.loop-j.frame in
-    let l = run_next c.args.file.now (consts_of tb) k F fr.cells fr.before c.args.old.now lf.cells c.loop-j.new i c.loop-j.j inv.3 (omega (arith, lt, n, node.all)) is in
-    let pl = c.plan_of-plan.ensures.0 in
-    let q = equation_is tb r p.below pl p.sized p.small n l.inside.0 c.place_at-at.ensures c.records_at-a.ensures c.records_at-b.ensures in
-    (turn_stops F p lf.cells l q c.equation-e.result c.equation-e.new.frame.cells (c.equation-e.new.new) c.in_default.not-Values (c.equation-e.auto.new) ((keeps_done c.args.file.now (consts_of tb) i lf.cells (mid_of (c.records_at-a.result) (c.records_at-b.result) c.args.old.now) c.equation-e.new.frame.cells inv.1 c.equation-e.ensures.0)))
+    turn_stops c.args.frame.now.first c.requires lf.cells (turn_left t d) (turn_place t d) c.equation-e.result c.equation-e.new.frame.cells c.equation-e.new.new c.in_default.not-Values c.equation-e.auto.new
+    (keeps_done c.args.file.now (consts_of c.args.tab.now) c.order_at-i.result lf.cells (mid_of c.records_at-a.result c.records_at-b.result c.args.old.now) c.equation-e.new.frame.cells c.loop-j.invariant.1 c.equation-e.ensures.0)
 
 pub run-loop-j-preserved : goal.run-loop-j-preserved
 run-loop-j-preserved t c =
-    let p = c.requires in
-    let tb = c.args.tab.now in
-    let fr = c.args.frame.now in
-    let k = fr.node in
-    let F = fr.first in
-    let r = p.running in
-    let node = r.nodes k p.below in
-    let n = c.row-n.ensures ∙ (r.program.sized.table.rows_of k p.below).count in
-    let lt = c.loop-j-test.true in
-    let inv = c.loop-j.invariant in
-    let i = c.order_at-i.result in
-    let is = c.order_at-i.ensures.0 ∙ (r.program.table.tabs_of k p.below).orders c.loop-j.j (omega (arith, lt, n)) in
+    let d = (goal.at.run-loop-j-preserved t c).After-records_at-b in
+    let a = c.records_at-a.result in
+    let b = c.records_at-b.result in
     let lf = c.loop-j.frame in
-    let l = run_next c.args.file.now (consts_of tb) k F fr.cells fr.before c.args.old.now lf.cells c.loop-j.new i c.loop-j.j inv.3 (omega (arith, lt, n, node.all)) is in
-    let pl = c.plan_of-plan.ensures.0 in
-    let q = equation_is tb r p.below pl p.sized p.small n l.inside.0 c.place_at-at.ensures c.records_at-a.ensures c.records_at-b.ensures in
-    let t = turn_part F p lf.cells l q in
-    (omega (arith, lt), keeps_on inv.1 c.equation-e.ensures.1, (length_put_mid c.records_at-a.result c.records_at-b.result c.loop-j.new c.equation-e.new.new t.0 (omega (arith, t.1, t.2)) (c.equation-e.auto.new ∙ length_mid c.records_at-a.result c.records_at-b.result c.loop-j.new t.0 (omega (arith, t.1, t.2)))) ∙ inv.2, turn_goes F p lf.cells l q c.equation-e.result c.equation-e.new.frame.cells c.equation-e.new.new c.in-Values.is c.equation-e.auto.new ((keeps_done c.args.file.now (consts_of tb) i lf.cells (mid_of (c.records_at-a.result) (c.records_at-b.result) c.args.old.now) c.equation-e.new.frame.cells inv.1 c.equation-e.ensures.0)))
+    let inv = c.loop-j.invariant in
+    let z = turn_bounds t d in
+    let le : b ≤ length c.loop-j.new = omega (arith, z.1, z.2) in
+    (omega (arith, c.loop-j-test.true), keeps_on inv.1 c.equation-e.ensures.1, length_put_mid a b c.loop-j.new c.equation-e.new.new z.0 le (c.equation-e.auto.new ∙ length_mid a b c.loop-j.new z.0 le) ∙ inv.2,
+        turn_goes c.args.frame.now.first c.requires lf.cells (turn_left t d) (turn_place t d) c.equation-e.result c.equation-e.new.frame.cells c.equation-e.new.new c.in-Values.is c.equation-e.auto.new
+        (keeps_done c.args.file.now (consts_of c.args.tab.now) c.order_at-i.result lf.cells (mid_of a b c.args.old.now) c.equation-e.new.frame.cells inv.1 c.equation-e.ensures.0))
 
 pub run-returns : goal.run-returns
 run-returns t c =
     let p = c.requires in
-    let tb = c.args.tab.now in
     let fr = c.args.frame.now in
-    let k = fr.node in
-    let F = fr.first in
-    let r = p.running in
-    let node = r.nodes k p.below in
-    let n = c.row-n.ensures ∙ (r.program.sized.table.rows_of k p.below).count in
-    let inv = c.loop-j.invariant in
-    let lf = c.loop-j.frame in
-    (run_done c.args.file.now (consts_of tb) k F fr.cells fr.before c.args.old.now lf.cells c.loop-j.new c.loop-j.j inv.3 (omega (arith, c.loop-j-test.false, n, node.all)))
+    run_done c.args.file.now (consts_of c.args.tab.now) fr.node fr.first fr.cells fr.before c.args.old.now c.loop-j.frame.cells c.loop-j.new c.loop-j.j c.loop-j.invariant.3
+    (omega (arith, c.loop-j-test.false, c.row-n.ensures, (p.running.program.sized.table.rows_of fr.node p.below).count, (p.running.nodes fr.node p.below).all))
 
 pub step_instance-row-n-requires : goal.step_instance-row-n-requires
 step_instance-row-n-requires t c =
@@ -2000,7 +1682,7 @@ tuple_equation-eval_all-r-requires t c =
     let n = c.from-n.result in
     let ne = c.from-n.ensures in
     let rhs = c.args.at + 1 + 2 * n in
-    let q = right_ready p n 12 ne (subst (λ (m : ℕ). get_or f (c.args.at + 1 + 2 * m) 0 ≡ 12) (sym ne) c.requires.1) in
+    let q = right_ready p n 12 ne c.requires.1 in
     let byte = get_or f (rhs + 1) 0 in
     (omega arith, ((tuple_parts p q), tuple_several p q byte refl refl))
 
@@ -2010,7 +1692,7 @@ tuple_equation-bounds-file-rhs t c =
     let f = c.args.file.now in
     let n = c.from-n.result in
     let ne = c.from-n.ensures in
-    let q = right_ready p n 12 ne (subst (λ (m : ℕ). get_or f (c.args.at + 1 + 2 * m) 0 ≡ 12) (sym ne) c.requires.1) in
+    let q = right_ready p n 12 ne c.requires.1 in
     let inside = tuple_inside p q in
     omega (arith, inside.0)
 
@@ -2020,7 +1702,7 @@ tuple_equation-bind-requires t c =
     let f = c.args.file.now in
     let n = c.from-n.result in
     let ne = c.from-n.ensures in
-    let q = right_ready p n 12 ne (subst (λ (m : ℕ). get_or f (c.args.at + 1 + 2 * m) 0 ≡ 12) (sym ne) c.requires.1) in
+    let q = right_ready p n 12 ne c.requires.1 in
     let inside = tuple_inside p q in
     let count = c.from.result in
     let ce = c.from.ensures in
@@ -2035,7 +1717,7 @@ tuple_equation-returns t c =
     let F = fr.first in
     let n = c.from-n.result in
     let ne = c.from-n.ensures in
-    let q = right_ready p n 12 ne (subst (λ (m : ℕ). get_or f (c.args.at + 1 + 2 * m) 0 ≡ 12) (sym ne) c.requires.1) in
+    let q = right_ready p n 12 ne c.requires.1 in
     let count = c.from.result in
     let ce = c.from.ensures in
     (tuple_done p F count c.min-m.result (c.eval_all-r.new.to) c.bind.new.self.cells q ce ((tuple_all p q count ce F (c.eval_all-r.new.to) c.eval_all-r.ensures.0)) c.in-Values.is c.min-m.ensures c.bind.ensures.0, c.bind.ensures.1)
@@ -2049,6 +1731,6 @@ tuple_equation-returns-in_default t c =
     let n = c.from-n.result in
     let ne = c.from-n.ensures in
     let rhs = c.args.at + 1 + 2 * n in
-    let q = right_ready p n 12 ne (subst (λ (m : ℕ). get_or f (c.args.at + 1 + 2 * m) 0 ≡ 12) (sym ne) c.requires.1) in
+    let q = right_ready p n 12 ne c.requires.1 in
     let byte = get_or f (rhs + 1) 0 in
     (tuple_stops p F byte (c.eval_all-r.new.to) fr.cells q refl ((tuple_all p q byte refl F (c.eval_all-r.new.to) c.eval_all-r.ensures.0)) c.in_default.not-Values, keeps_all fr)
