@@ -2,7 +2,7 @@
 use mathlib.Core.Path.{◌≡◌, refl, sym, ap, subst, ◌∙◌}
 use mathlib.Core.Bool.{Bool, false, not}
 use mathlib.Core.List.{List, [], ◌++◌}
-use Prim.Native.Nat.{ℕ, suc, ◌+◌, ◌-◌, ◌≤◌}
+use Prim.Native.Nat.{ℕ, suc, ◌+◌, ◌-◌, ◌≤◌, ◌<◌}
 use native.Mathlib.Omega.{arith}
 use lib.ListN.{length, take, drop, get_or, length-drop, take-append-drop}
 use lib.Seq.{length-take-le, take-take}
@@ -15,7 +15,7 @@ use Rattle.ol_tables.specs.At.{expr_at, end_at, exprs_at, ends_at, Reads, ReadsA
 use Rattle.ol_tables.specs.Tables.{Each, ty_code, ty_enum}
 use Rattle.ol_tables.specs.Heads.{head_size as head_of}
 use Rattle.ol_tables.specs.Parts.{own_sites, Proper}
-use Rattle.ol_tables.proofs.Forms.{each_append, Formed, callees_all_lem, callees_form, one_tree, parted, none_read, by_form, var_form}
+use Rattle.ol_tables.proofs.Forms.{each_append, Formed, callees_all_lem, callees_form, one_tree, parted, none_read, by_form, var_form, reads_in, reads_deep}
 use Rattle.ol_frame.specs.Walk.{sizes_in, Passable, Skips, SkipsTo}
 use Rattle.ol_frame.specs.declared.skip.Passed.{Passed}
 use Rattle.ol_frame.specs.Plans.{segs_at, seg_at, eval_in, Leaf, globals_in, scope_in, name_at}
@@ -34,7 +34,7 @@ use Rattle.ol_spec.specs.declared.Outcome.TheVariants as Out
 use Rattle.ol_spec.specs.declared.Cause.TheVariants as Why
 use mathlib.Core.Option.{Option, some}
 use lib.ListN.{get_elem?}
-use Rattle.ol_frame.proofs.Planning.{plan_first, plan_rest, plan_parts, plan_passable, segs_one, segs_cons, segs_form, segs_first}
+use Rattle.ol_frame.proofs.Planning.{plan_head, plan_first, plan_rest, plan_parts, plan_passable, segs_one, segs_cons, segs_form, segs_first}
 use Rattle.ol_eval.proofs.Evals.{rest_old, rest_new}
 
 module _ {f tab rows consts : List ℕ} {node : ℕ} {cells before : List ℕ} where
@@ -114,6 +114,20 @@ module _ {f tab rows consts : List ℕ} {node : ℕ} {cells before : List ℕ} w
 
   pub ready_seg : {level n at : ℕ} {old new : List ℕ} → Ready f tab rows consts level (suc n) at node cells before old new → seg_at f level at ≤ length old
   ready_seg {level} {n} {at} p = omega (arith, p.room, segs_cons f level n at p.plan.reads)
+
+  -- the first is in the file, and has a level
+  pub ready_inside : {level n at : ℕ} {old new : List ℕ} → Ready f tab rows consts level (suc n) at node cells before old new → at < length f
+  ready_inside {level} {n} {at} p = reads_in f level at (plan_head f p.plan)
+
+  pub ready_deep : {level n at : ℕ} {old new : List ℕ} → Ready f tab rows consts level (suc n) at node cells before old new → 0 < level
+  ready_deep {level} {n} {at} p = reads_deep f level at (plan_head f p.plan)
+
+  -- what it used is within the two states
+  pub ready_fits : {level n at : ℕ} {old n₀ new : List ℕ} {w : Eval} {x : ℕ} {l : Step} → Ready f tab rows consts level (suc n) at node cells before old n₀ → Meets w x (seg_at f level at) old l new → l.used ≤ length old
+  ready_fits p h = omega (arith, h.used_is, ready_seg p)
+
+  pub ready_fits_new : {level n at : ℕ} {old n₀ new : List ℕ} {w : Eval} {x : ℕ} {l : Step} → Ready f tab rows consts level (suc n) at node cells before old n₀ → Meets w x (seg_at f level at) old l new → length new ≡ length n₀ → l.used ≤ length new
+  ready_fits_new p h k = omega (arith, h.used_is, ready_seg p, k, ap length p.same)
 
 -- what was evaluated at a place, and on a part, that are the caller's own by equations
 pub moved : (f consts : List ℕ) (level node : ℕ) (first : Bool) (cells before : List ℕ) {p q : ℕ} {s s' : List ℕ} {r : Step} {new : List ℕ} → p ≡ q → s ≡ s' → EvalsTo f consts level p node first cells before s r new → EvalsTo f consts level q node first cells before s' r new

@@ -3,7 +3,7 @@ use Rattle.std.proofs.Common.{ℕ, suc, ◌*◌, ◌+◌, ◌-◌, ◌<◌, ◌�
 use Rattle.ol_eval.proofs.Arguments.{Goes, going_done, going_left, going_length, going_passable, going_ready, going_start, going_stop, going_turn, going_used, left_done, left_none, left_pass, left_suc}
 use Rattle.ol_eval.proofs.Calling.{call_all, call_at, call_done, call_lower, call_parts, call_room, call_several, call_single, call_size, call_small, call_steps, call_stop, call_used}
 use Rattle.ol_eval.proofs.Evals.{first_not, first_ran, if_stop, if_taken, mapped, remade, rest_old, second_not, second_ran, seq_as, two_done, two_stop, untaken_meets}
-use Rattle.ol_eval.proofs.Readying.{binary_is, cast_out_is, chosen_is, first_is, form_evals, fronted, leaf_evals, moved, moved_choice, moved_skip, moved_untaken, one_evals, ready_first, ready_front, ready_parts, ready_pass, ready_rest, ready_seg, ready_tail, skip_one, two_ends, two_segs, unary_out_is, var_evals}
+use Rattle.ol_eval.proofs.Readying.{binary_is, cast_out_is, chosen_is, first_is, form_evals, fronted, leaf_evals, moved, moved_choice, moved_skip, moved_untaken, one_evals, ready_deep, ready_first, ready_fits, ready_fits_new, ready_front, ready_inside, ready_parts, ready_pass, ready_rest, ready_seg, ready_tail, skip_one, two_ends, two_segs, unary_out_is, var_evals}
 use Rattle.ol_eval.proofs.Rights.{call_inside, call_stops, callee_row, equation_ready, first_storable, names_inside, names_least, one_done, right_place, right_ready, tuple_all, tuple_done, tuple_inside, tuple_parts, tuple_several, tuple_stops, values_assignable}
 use Rattle.ol_eval.proofs.Stepping.{entered, framed_run, framed_runnable, function_done, function_runnable, instance_failed, instance_finished, instance_overflowed, instance_runnable, is_function, is_operator_lem, own_new, own_room, put_length}
 use Rattle.ol_eval.proofs.Turns.{LeftIn, keeps_done, keeps_ready, run_done, run_next, run_start, turn_goes, turn_part, turn_ready, turn_stops}
@@ -43,13 +43,12 @@ use Rattle.ol_tables.specs.Table.{consts_of, rows_of, tab_of}
 use Rattle.ol_tables.specs.Tables.{code_at}
 use Rattle.ol_value.specs.Codes.{binary_by, ty_of}
 use Rattle.ol_eval.proofs.Rights
-use Rattle.ol_eval.proofs.eval.+evaluation.Goals.{enter-After-row-size, enter-After-eval_all-a, eval_all-After-eval-r, eval_second-After-pass-s, eval_second-After-eval-e, run-After-records_at-b}
+use Rattle.ol_eval.proofs.eval.+evaluation.Goals.{enter-After-row-size, enter-After-eval_all-a, eval_all-After-eval-r, eval_first-After-pass-s, eval_second-After-pass-s, eval_second-After-eval-e, run-After-records_at-b}
 use Rattle.ol_eval.proofs.eval.+evaluation.Goals as goal
 
 pub call_equation-enter-r-requires : goal.call_equation-enter-r-requires
 call_equation-enter-r-requires t c =
     let p = c.requires.0 in
-    let f = c.args.file.now in
     let n = c.from-n.result in
     let ne = c.from-n.ensures in
     let rhs = c.args.at + 1 + 2 * n in
@@ -59,7 +58,6 @@ call_equation-enter-r-requires t c =
 pub call_equation-bounds-file-rhs : goal.call_equation-bounds-file-rhs
 call_equation-bounds-file-rhs t c =
     let p = c.requires.0 in
-    let f = c.args.file.now in
     let n = c.from-n.result in
     let ne = c.from-n.ensures in
     let q = right_ready p n 11 ne c.requires.1 in
@@ -69,7 +67,6 @@ call_equation-bounds-file-rhs t c =
 pub call_equation-row-requires : goal.call_equation-row-requires
 call_equation-row-requires t c =
     let p = c.requires.0 in
-    let f = c.args.file.now in
     let tb = c.args.tab.now in
     let n = c.from-n.result in
     let ne = c.from-n.ensures in
@@ -82,7 +79,6 @@ call_equation-row-requires t c =
 pub call_equation-bind-requires : goal.call_equation-bind-requires
 call_equation-bind-requires t c =
     let p = c.requires.0 in
-    let f = c.args.file.now in
     let n = c.from-n.result in
     let ne = c.from-n.ensures in
     let q = right_ready p n 11 ne c.requires.1 in
@@ -96,7 +92,6 @@ call_equation-bind-requires t c =
 pub call_equation-returns : goal.call_equation-returns
 call_equation-returns t c =
     let p = c.requires.0 in
-    let f = c.args.file.now in
     let fr = c.args.frame.now in
     let F = fr.first in
     let n = c.from-n.result in
@@ -111,7 +106,6 @@ call_equation-returns t c =
 pub call_equation-returns-in_default : goal.call_equation-returns-in_default
 call_equation-returns-in_default t c =
     let p = c.requires.0 in
-    let f = c.args.file.now in
     let fr = c.args.frame.now in
     let F = fr.first in
     let n = c.from-n.result in
@@ -120,12 +114,7 @@ call_equation-returns-in_default t c =
     (call_stops p F (c.enter-r.new.args) fr.cells q c.enter-r.ensures.0 c.in_default.not-Values, keeps_all fr)
 
 pub call_function-row-inputs-requires : goal.call_function-row-inputs-requires
-call_function-row-inputs-requires t c =
-    let h = c.requires.0 in
-    let R = h.running in
-    let B = h.below in
-    let tb = c.args.tab.now in
-    row_room tb R B _ (omega arith)
+call_function-row-inputs-requires t c = row_room c.args.tab.now c.requires.0.running c.requires.0.below _ (omega arith)
 
 pub call_function-fresh-requires : goal.call_function-fresh-requires
 call_function-fresh-requires t c =
@@ -145,12 +134,7 @@ call_function-run-r-requires t c =
     (omega (arith, fp.node), framed_runnable fr fp.node (function_runnable h f fr.cells fr.before fr.cells_sized fr.before_sized))
 
 pub call_function-row-requires : goal.call_function-row-requires
-call_function-row-requires t c =
-    let h = c.requires.0 in
-    let R = h.running in
-    let B = h.below in
-    let tb = c.args.tab.now in
-    row_room tb R B _ (omega arith)
+call_function-row-requires t c = row_room c.args.tab.now c.requires.0.running c.requires.0.below _ (omega arith)
 
 pub call_function-copy_outputs-requires : goal.call_function-copy_outputs-requires
 call_function-copy_outputs-requires t c =
@@ -358,13 +342,7 @@ equation-returns-in_default t c =
     (one_done p fr.first ((c.args.at + 1 + 2 * n)) c.bind_out.result c.bind_out.new.self.cells (right_place p n ne) (λ e. c.in_default.not-Call (form_is Frm.Call c.at.ensures e)) (λ e. c.in_default.not-Tuple (form_is Frm.Tuple c.at.ensures e)) c.eval-r.ensures c.bind_out.ensures.0 c.bind_out.ensures.1, c.bind_out.ensures.2)
 
 pub eval-is_at-requires : goal.eval-is_at-requires
-eval-is_at-requires t c =
-    let p = c.requires in
-    let f = c.args.file.now in
-    let L = c.args.level in
-    let a = c.args.at in
-    let h = plan_head f p.plan in
-    reads_in f L a h
+eval-is_at-requires t c = ready_inside c.requires
 
 pub eval-present-requires : goal.eval-present-requires
 eval-present-requires t c =
@@ -492,9 +470,7 @@ eval_call-returns t c =
     call_single p b k n kE refl fr.first C c.row-outputs.result c.enter-r.ensures.0 c.row-outputs.ensures c.single_out.ensures
 
 pub eval_first-eval-t-requires : goal.eval_first-eval-t-requires
-eval_first-eval-t-requires t c =
-    let p = c.requires in
-    (omega arith, (ready_first p))
+eval_first-eval-t-requires t c = (omega arith, ready_first c.requires)
 
 pub eval_first-chosen-to-requires : goal.eval_first-chosen-to-requires
 eval_first-chosen-to-requires t c =
@@ -513,34 +489,16 @@ eval_first-pass-s-requires t c =
     rw h.next_is (ready_pass (ready_rest p h K), rows_room tb _ p.plan.program.table.long)
 
 pub eval_first-slice_bounds-step_untaken-count : goal.eval_first-slice_bounds-step_untaken-count
-eval_first-slice_bounds-step_untaken-count t c =
-    let p = c.requires in
-    let le = ready_seg p in
-    let h = c.eval-t.ensures in
-    omega (arith, h.used_is, le)
+eval_first-slice_bounds-step_untaken-count t c = omega (arith, ready_fits c.requires c.eval-t.ensures)
 
 pub eval_first-slice_bounds-step_untaken-start : goal.eval_first-slice_bounds-step_untaken-start
-eval_first-slice_bounds-step_untaken-start t c =
-    let p = c.requires in
-    let le = ready_seg p in
-    let h = c.eval-t.ensures in
-    omega (arith, h.used_is, le)
+eval_first-slice_bounds-step_untaken-start t c = omega (arith, ready_fits c.requires c.eval-t.ensures)
 
 pub eval_first-slice_bounds-step_untaken-count-then-runs : goal.eval_first-slice_bounds-step_untaken-count-then-runs
-eval_first-slice_bounds-step_untaken-count-then-runs t c =
-    let p = c.requires in
-    let le = ready_seg p in
-    let h = c.eval-t.ensures in
-    let K = c.eval-t.auto.new in
-    omega (arith, h.used_is, le, K, ap length p.same)
+eval_first-slice_bounds-step_untaken-count-then-runs t c = omega (arith, ready_fits_new c.requires c.eval-t.ensures c.eval-t.auto.new)
 
 pub eval_first-slice_bounds-step_untaken-start-then-runs : goal.eval_first-slice_bounds-step_untaken-start-then-runs
-eval_first-slice_bounds-step_untaken-start-then-runs t c =
-    let p = c.requires in
-    let le = ready_seg p in
-    let h = c.eval-t.ensures in
-    let K = c.eval-t.auto.new in
-    omega (arith, h.used_is, le, K, ap length p.same)
+eval_first-slice_bounds-step_untaken-start-then-runs t c = omega (arith, ready_fits_new c.requires c.eval-t.ensures c.eval-t.auto.new)
 
 pub eval_first-step_untaken-other-requires : goal.eval_first-step_untaken-other-requires
 eval_first-step_untaken-other-requires t c =
@@ -549,29 +507,22 @@ eval_first-step_untaken-other-requires t c =
     let K = c.eval-t.auto.new in
     (omega arith, (rw h.next_is (ready_rest p h K)))
 
+-- the first branch was evaluated, and the second passed over
+module _ (t : ℕ) (c : eval_first-After-pass-s t) where
+  second_passed : Skips (has_call (expr_at c.args.file.now c.args.level (end_at c.args.file.now c.args.level c.args.at))) (end_at c.args.file.now c.args.level (end_at c.args.file.now c.args.level c.args.at)) (seg_at c.args.file.now c.args.level (end_at c.args.file.now c.args.level c.args.at)) c.pass-s.result
+  second_passed =
+      let f = c.args.file.now in
+      let L = c.args.level in
+      skip_one f L (end_at f L c.args.at) (parted f L 1 c.args.at c.requires.plan.reads).tail (moved_skip f L 1 c.eval-t.ensures.next_is c.pass-s.ensures)
+
+  two_used : c.eval-t.result.used + c.pass-s.result.used ≤ 32768
+  two_used = omega (arith, c.eval-t.ensures.used_is, second_passed.used_is, two_segs c.args.file.now c.args.level c.args.at c.requires.plan.reads, c.requires.room, c.requires.small)
+
 pub eval_first-overflow_add-result : goal.eval_first-overflow_add-result
-eval_first-overflow_add-result t c =
-    let p = c.requires in
-    let f = c.args.file.now in
-    let L = c.args.level in
-    let a = c.args.at in
-    let mid = end_at f L a in
-    let h = c.eval-t.ensures in
-    let q = skip_one f L mid (parted f L 1 a p.plan.reads).tail (moved_skip f L 1 c.eval-t.ensures.next_is c.pass-s.ensures) in
-    let segs = two_segs f L a p.plan.reads in
-    omega (arith, h.used_is, q.used_is, segs, p.room, p.small)
+eval_first-overflow_add-result t c = omega (arith, two_used t (goal.at.eval_first-overflow_add-result t c).After-pass-s)
 
 pub eval_first-overflow_add-result-else-runs : goal.eval_first-overflow_add-result-else-runs
-eval_first-overflow_add-result-else-runs t c =
-    let p = c.requires in
-    let f = c.args.file.now in
-    let L = c.args.level in
-    let a = c.args.at in
-    let mid = end_at f L a in
-    let h = c.eval-t.ensures in
-    let q = skip_one f L mid (parted f L 1 a p.plan.reads).tail (moved_skip f L 1 c.eval-t.ensures.next_is c.pass-s.ensures) in
-    let segs = two_segs f L a p.plan.reads in
-    omega (arith, h.used_is, q.used_is, segs, p.room, p.small)
+eval_first-overflow_add-result-else-runs t c = omega (arith, two_used t (goal.at.eval_first-overflow_add-result-else-runs t c).After-pass-s)
 
 pub eval_first-returns-then-runs : goal.eval_first-returns-then-runs
 eval_first-returns-then-runs t c =
@@ -594,7 +545,7 @@ eval_first-returns-then-runs t c =
     let h = c.eval-t.ensures in
     let K = c.eval-t.auto.new in
     let h2 = moved_untaken f kk L n F cl bb c.eval-t.ensures.next_is (rest_old c.eval-t.ensures) c.step_untaken-other.ensures in
-    let q = skip_one f L mid (parted f L 1 a p.plan.reads).tail (moved_skip f L 1 c.eval-t.ensures.next_is c.pass-s.ensures) in
+    let q = second_passed t (goal.at.eval_first-returns-then-runs t c).After-pass-s in
     let to = chosen_is f kk L n F cl bb c.eval-t.result.out c.eval-t.ensures.next_is c.chosen-to.ensures in
     let segs = two_segs f L a p.plan.reads in
     let ends = two_ends f L a p.plan.reads in
@@ -618,29 +569,17 @@ eval_first-returns-else-runs t c =
     let n1 = seg_at f L a in
     let n2 = seg_at f L (end_at f L a) in
     let h = c.eval-t.ensures in
-    let q = skip_one f L mid (parted f L 1 a p.plan.reads).tail (moved_skip f L 1 c.eval-t.ensures.next_is c.pass-s.ensures) in
+    let q = second_passed t (goal.at.eval_first-returns-else-runs t c).After-pass-s in
     let to = chosen_is f kk L n F cl bb c.eval-t.result.out c.eval-t.ensures.next_is c.chosen-to.ensures in
     let segs = two_segs f L a p.plan.reads in
     let ends = two_ends f L a p.plan.reads in
     seq_as ((λ (x y : List ℕ). choose true (branch_in f kk L a n F cl bb x) (branch_in f kk L mid n F cl bb y))) n1 n2 segs ends (first_not ((branch_in f kk L a n F cl bb (take n1 o))) ((branch_in f kk L mid n F cl bb (take n2 (drop n1 o)))) refl h q to (sym c.if-runs.false ∙ c.runs.ensures))
 
 pub eval_form-at-requires : goal.eval_form-at-requires
-eval_form-at-requires t c =
-    let p = c.requires in
-    let f = c.args.file.now in
-    let L = c.args.level in
-    let a = c.args.at in
-    let h = plan_head f p.plan in
-    reads_in f L a h
+eval_form-at-requires t c = ready_inside c.requires
 
 pub eval_form-overflow_add-p : goal.eval_form-overflow_add-p
-eval_form-overflow_add-p t c =
-    let p = c.requires in
-    let f = c.args.file.now in
-    let L = c.args.level in
-    let a = c.args.at in
-    let h = plan_head f p.plan in
-    omega (arith, reads_in f L a h, p.plan.program.sized.small)
+eval_form-overflow_add-p t c = omega (arith, ready_inside c.requires, c.requires.plan.program.sized.small)
 
 pub eval_form-bounds-file-p : goal.eval_form-bounds-file-p
 eval_form-bounds-file-p t c =
@@ -652,14 +591,7 @@ eval_form-bounds-file-p t c =
     omega (arith, (unary_form f L a h (plan_form f p.plan Frm.Unary c.at.ensures c.in-Unary.is)).1.inside)
 
 pub eval_form-overflow_sub-level : goal.eval_form-overflow_sub-level
-eval_form-overflow_sub-level t c =
-    let p = c.requires in
-    let f = c.args.file.now in
-    let L = c.args.level in
-    let a = c.args.at in
-    let h = plan_head f p.plan in
-    let deep = reads_deep f L a h in
-    deep
+eval_form-overflow_sub-level t c = ready_deep c.requires
 
 pub eval_form-eval_form-r-requires : goal.eval_form-eval_form-r-requires
 eval_form-eval_form-r-requires t c =
@@ -668,18 +600,11 @@ eval_form-eval_form-r-requires t c =
     let L = c.args.level in
     let a = c.args.at in
     let h = plan_head f p.plan in
-    let deep = reads_deep f L a h in
+    let deep = ready_deep p in
     (omega (arith, deep), (ready_parts p (unary_form f L a h (plan_form f p.plan Frm.Unary c.at.ensures c.in-Unary.is)).1 refl))
 
 pub eval_form-overflow_sub-level-in-Binary : goal.eval_form-overflow_sub-level-in-Binary
-eval_form-overflow_sub-level-in-Binary t c =
-    let p = c.requires in
-    let f = c.args.file.now in
-    let L = c.args.level in
-    let a = c.args.at in
-    let h = plan_head f p.plan in
-    let deep = reads_deep f L a h in
-    deep
+eval_form-overflow_sub-level-in-Binary t c = ready_deep c.requires
 
 pub eval_form-eval_two-requires : goal.eval_form-eval_two-requires
 eval_form-eval_two-requires t c =
@@ -688,18 +613,11 @@ eval_form-eval_two-requires t c =
     let L = c.args.level in
     let a = c.args.at in
     let h = plan_head f p.plan in
-    let deep = reads_deep f L a h in
+    let deep = ready_deep p in
     (omega (arith, deep), (ready_parts p (binary_form f L a h (plan_form f p.plan Frm.Binary c.at.ensures c.in-Binary.is)).1 refl))
 
 pub eval_form-overflow_sub-level-in-If : goal.eval_form-overflow_sub-level-in-If
-eval_form-overflow_sub-level-in-If t c =
-    let p = c.requires in
-    let f = c.args.file.now in
-    let L = c.args.level in
-    let a = c.args.at in
-    let h = plan_head f p.plan in
-    let deep = reads_deep f L a h in
-    deep
+eval_form-overflow_sub-level-in-If t c = ready_deep c.requires
 
 pub eval_form-eval_if-requires : goal.eval_form-eval_if-requires
 eval_form-eval_if-requires t c =
@@ -708,18 +626,11 @@ eval_form-eval_if-requires t c =
     let L = c.args.level in
     let a = c.args.at in
     let h = plan_head f p.plan in
-    let deep = reads_deep f L a h in
+    let deep = ready_deep p in
     (omega (arith, deep), (ready_parts p ((if_form f L a h (plan_form f p.plan Frm.If c.at.ensures c.in-If.is))) refl))
 
 pub eval_form-overflow_sub-level-then-frame : goal.eval_form-overflow_sub-level-then-frame
-eval_form-overflow_sub-level-then-frame t c =
-    let p = c.requires in
-    let f = c.args.file.now in
-    let L = c.args.level in
-    let a = c.args.at in
-    let h = plan_head f p.plan in
-    let deep = reads_deep f L a h in
-    deep
+eval_form-overflow_sub-level-then-frame t c = ready_deep c.requires
 
 pub eval_form-eval_first-requires : goal.eval_form-eval_first-requires
 eval_form-eval_first-requires t c =
@@ -728,18 +639,11 @@ eval_form-eval_first-requires t c =
     let L = c.args.level in
     let a = c.args.at in
     let h = plan_head f p.plan in
-    let deep = reads_deep f L a h in
+    let deep = ready_deep p in
     (omega (arith, deep), (ready_parts p ((arrow_form f L a h (plan_form f p.plan Frm.Arrow c.at.ensures c.in-Arrow.is))) refl))
 
 pub eval_form-overflow_sub-level-else-frame : goal.eval_form-overflow_sub-level-else-frame
-eval_form-overflow_sub-level-else-frame t c =
-    let p = c.requires in
-    let f = c.args.file.now in
-    let L = c.args.level in
-    let a = c.args.at in
-    let h = plan_head f p.plan in
-    let deep = reads_deep f L a h in
-    deep
+eval_form-overflow_sub-level-else-frame t c = ready_deep c.requires
 
 pub eval_form-eval_second-requires : goal.eval_form-eval_second-requires
 eval_form-eval_second-requires t c =
@@ -748,7 +652,7 @@ eval_form-eval_second-requires t c =
     let L = c.args.level in
     let a = c.args.at in
     let h = plan_head f p.plan in
-    let deep = reads_deep f L a h in
+    let deep = ready_deep p in
     (omega (arith, deep), (ready_parts p ((arrow_form f L a h (plan_form f p.plan Frm.Arrow c.at.ensures c.in-Arrow.is))) refl))
 
 pub eval_form-bounds-file-p-in-Cast : goal.eval_form-bounds-file-p-in-Cast
@@ -758,17 +662,11 @@ eval_form-bounds-file-p-in-Cast t c =
     let L = c.args.level in
     let a = c.args.at in
     let h = plan_head f p.plan in
-    omega (arith, (cast_form f L a h (plan_form f p.plan Frm.Cast c.at.ensures c.in-Cast.is)).1.inside, type_some (cast_form f L a h (plan_form f p.plan Frm.Cast c.at.ensures c.in-Cast.is)).0)
+    let read = cast_form f L a h (plan_form f p.plan Frm.Cast c.at.ensures c.in-Cast.is) in
+    omega (arith, read.1.inside, type_some read.0)
 
 pub eval_form-overflow_sub-level-in-Cast : goal.eval_form-overflow_sub-level-in-Cast
-eval_form-overflow_sub-level-in-Cast t c =
-    let p = c.requires in
-    let f = c.args.file.now in
-    let L = c.args.level in
-    let a = c.args.at in
-    let h = plan_head f p.plan in
-    let deep = reads_deep f L a h in
-    deep
+eval_form-overflow_sub-level-in-Cast t c = ready_deep c.requires
 
 pub eval_form-eval_form-r-requires-in-Cast : goal.eval_form-eval_form-r-requires-in-Cast
 eval_form-eval_form-r-requires-in-Cast t c =
@@ -777,9 +675,10 @@ eval_form-eval_form-r-requires-in-Cast t c =
     let L = c.args.level in
     let a = c.args.at in
     let h = plan_head f p.plan in
-    let deep = reads_deep f L a h in
-    let e : a + 1 + c.ty_size.result ≡ a + (1 + ty_size (cast_form f L a h (plan_form f p.plan Frm.Cast c.at.ensures c.in-Cast.is)).0) = omega (arith, c.ty_size.ensures, (cast_form f L a h (plan_form f p.plan Frm.Cast c.at.ensures c.in-Cast.is)).3) in
-    (omega (arith, deep), (rw e (ready_parts p (cast_form f L a h (plan_form f p.plan Frm.Cast c.at.ensures c.in-Cast.is)).1 refl)))
+    let read = cast_form f L a h (plan_form f p.plan Frm.Cast c.at.ensures c.in-Cast.is) in
+    let deep = ready_deep p in
+    let e : a + 1 + c.ty_size.result ≡ a + (1 + ty_size read.0) = omega (arith, c.ty_size.ensures, read.3) in
+    (omega (arith, deep), (rw e (ready_parts p read.1 refl)))
 
 pub eval_form-pass-s-requires : goal.eval_form-pass-s-requires
 eval_form-pass-s-requires t c =
@@ -802,8 +701,9 @@ eval_form-returns-in-Unary t c =
     let cl = fr.cells in
     let bb = fr.before in
     let h = plan_head f p.plan in
+    let read = unary_form f L a h (plan_form f p.plan Frm.Unary c.at.ensures c.in-Unary.is) in
     let R = p.plan.reads in
-    one_evals f kk L a n F cl bb (λ (s : List ℕ). map_eval (unary_of (unary_form f L a h (plan_form f p.plan Frm.Unary c.at.ensures c.in-Unary.is)).0) (eval_in f kk n F cl bb (expr_at f (L - 1) (a + 2)) s)) R (unary_form f L a h (plan_form f p.plan Frm.Unary c.at.ensures c.in-Unary.is)).1 refl (λ s. refl) (mapped (unary_of (unary_form f L a h (plan_form f p.plan Frm.Unary c.at.ensures c.in-Unary.is)).0) c.eval_form-r.ensures (unary_out_is (get_or f (a + 1) 0) (unary_form f L a h (plan_form f p.plan Frm.Unary c.at.ensures c.in-Unary.is)).0 c.eval_form-r.result.out (unary_form f L a h (plan_form f p.plan Frm.Unary c.at.ensures c.in-Unary.is)).2 c.unary_out.ensures))
+    one_evals f kk L a n F cl bb (λ (s : List ℕ). map_eval (unary_of read.0) (eval_in f kk n F cl bb (expr_at f (L - 1) (a + 2)) s)) R read.1 refl (λ s. refl) (mapped (unary_of read.0) c.eval_form-r.ensures (unary_out_is (get_or f (a + 1) 0) read.0 c.eval_form-r.result.out read.2 c.unary_out.ensures))
 
 pub eval_form-returns-in-Binary : goal.eval_form-returns-in-Binary
 unfolding eval
@@ -820,8 +720,9 @@ eval_form-returns-in-Binary t c =
     let cl = fr.cells in
     let bb = fr.before in
     let h = plan_head f p.plan in
+    let read = binary_form f L a h (plan_form f p.plan Frm.Binary c.at.ensures c.in-Binary.is) in
     let R = p.plan.reads in
-    form_evals f kk L a n F cl bb (two_in f kk (get_or f (a + 1) 0) (L - 1) (a + 2) n F cl bb) R (binary_form f L a h (plan_form f p.plan Frm.Binary c.at.ensures c.in-Binary.is)).1 refl (λ s. binary_is (get_or f (a + 1) 0) (binary_form f L a h (plan_form f p.plan Frm.Binary c.at.ensures c.in-Binary.is)).0 (binary_form f L a h (plan_form f p.plan Frm.Binary c.at.ensures c.in-Binary.is)).2 (eval_in f kk n F cl bb (expr_at f (L - 1) (a + 2)) (take (seg_at f (L - 1) (a + 2)) s)) (eval_in f kk n F cl bb (expr_at f (L - 1) (end_at f (L - 1) (a + 2)))) (drop (seg_at f (L - 1) (a + 2)) s)) c.eval_two.ensures
+    form_evals f kk L a n F cl bb (two_in f kk (get_or f (a + 1) 0) (L - 1) (a + 2) n F cl bb) R read.1 refl (λ s. binary_is (get_or f (a + 1) 0) read.0 read.2 (eval_in f kk n F cl bb (expr_at f (L - 1) (a + 2)) (take (seg_at f (L - 1) (a + 2)) s)) (eval_in f kk n F cl bb (expr_at f (L - 1) (end_at f (L - 1) (a + 2)))) (drop (seg_at f (L - 1) (a + 2)) s)) c.eval_two.ensures
 
 pub eval_form-returns-in-If : goal.eval_form-returns-in-If
 unfolding eval
@@ -893,10 +794,11 @@ eval_form-returns-in-Cast t c =
     let bb = fr.before in
     let o = c.args.old.now in
     let h = plan_head f p.plan in
+    let read = cast_form f L a h (plan_form f p.plan Frm.Cast c.at.ensures c.in-Cast.is) in
     let R = p.plan.reads in
-    let q = a + (1 + ty_size (cast_form f L a h (plan_form f p.plan Frm.Cast c.at.ensures c.in-Cast.is)).0) in
-    let e : a + 1 + c.ty_size.result ≡ q = omega (arith, c.ty_size.ensures, (cast_form f L a h (plan_form f p.plan Frm.Cast c.at.ensures c.in-Cast.is)).3) in
-    one_evals f kk L a n F cl bb (λ (s : List ℕ). map_eval (cast_to (cast_form f L a h (plan_form f p.plan Frm.Cast c.at.ensures c.in-Cast.is)).0) (eval_in f kk n F cl bb (expr_at f (L - 1) q) s)) R (cast_form f L a h (plan_form f p.plan Frm.Cast c.at.ensures c.in-Cast.is)).1 refl (λ s. refl) (mapped (cast_to (cast_form f L a h (plan_form f p.plan Frm.Cast c.at.ensures c.in-Cast.is)).0) (moved f kk (L - 1) n F cl bb e (refl {a = o}) c.eval_form-r-in-Cast.ensures) (cast_out_is (get_or f (a + 1) 0) (cast_form f L a h (plan_form f p.plan Frm.Cast c.at.ensures c.in-Cast.is)).0 c.eval_form-r-in-Cast.result.out (cast_form f L a h (plan_form f p.plan Frm.Cast c.at.ensures c.in-Cast.is)).4 (cast_form f L a h (plan_form f p.plan Frm.Cast c.at.ensures c.in-Cast.is)).2 c.cast_out.ensures))
+    let q = a + (1 + ty_size read.0) in
+    let e : a + 1 + c.ty_size.result ≡ q = omega (arith, c.ty_size.ensures, read.3) in
+    one_evals f kk L a n F cl bb (λ (s : List ℕ). map_eval (cast_to read.0) (eval_in f kk n F cl bb (expr_at f (L - 1) q) s)) R read.1 refl (λ s. refl) (mapped (cast_to read.0) (moved f kk (L - 1) n F cl bb e (refl {a = o}) c.eval_form-r-in-Cast.ensures) (cast_out_is (get_or f (a + 1) 0) read.0 c.eval_form-r-in-Cast.result.out read.4 read.2 c.cast_out.ensures))
 
 pub eval_form-returns-in_default : goal.eval_form-returns-in_default
 eval_form-returns-in_default t c =
@@ -924,46 +826,22 @@ eval_form-returns-in_default t c =
     leaf_evals f kk L a n F cl bb R h leaf p.same c.pass-s.ensures (λ seg. c.same_out.ensures ∙ c.leaf_out.ensures seg)
 
 pub eval_if-eval-c-requires : goal.eval_if-eval-c-requires
-eval_if-eval-c-requires t c =
-    let p = c.requires in
-    (omega arith, (ready_first p))
+eval_if-eval-c-requires t c = (omega arith, ready_first c.requires)
 
 pub eval_if-slice_bounds-eval_first-count : goal.eval_if-slice_bounds-eval_first-count
-eval_if-slice_bounds-eval_first-count t c =
-    let p = c.requires in
-    let le = ready_seg p in
-    let h = c.eval-c.ensures in
-    omega (arith, h.used_is, le)
+eval_if-slice_bounds-eval_first-count t c = omega (arith, ready_fits c.requires c.eval-c.ensures)
 
 pub eval_if-slice_bounds-eval_first-start : goal.eval_if-slice_bounds-eval_first-start
-eval_if-slice_bounds-eval_first-start t c =
-    let p = c.requires in
-    let le = ready_seg p in
-    let h = c.eval-c.ensures in
-    omega (arith, h.used_is, le)
+eval_if-slice_bounds-eval_first-start t c = omega (arith, ready_fits c.requires c.eval-c.ensures)
 
 pub eval_if-slice_bounds-eval_first-count-in-First : goal.eval_if-slice_bounds-eval_first-count-in-First
-eval_if-slice_bounds-eval_first-count-in-First t c =
-    let p = c.requires in
-    let le = ready_seg p in
-    let h = c.eval-c.ensures in
-    let K = c.eval-c.auto.new in
-    omega (arith, h.used_is, le, K, ap length p.same)
+eval_if-slice_bounds-eval_first-count-in-First t c = omega (arith, ready_fits_new c.requires c.eval-c.ensures c.eval-c.auto.new)
 
 pub eval_if-slice_bounds-eval_first-start-in-First : goal.eval_if-slice_bounds-eval_first-start-in-First
-eval_if-slice_bounds-eval_first-start-in-First t c =
-    let p = c.requires in
-    let le = ready_seg p in
-    let h = c.eval-c.ensures in
-    let K = c.eval-c.auto.new in
-    omega (arith, h.used_is, le, K, ap length p.same)
+eval_if-slice_bounds-eval_first-start-in-First t c = omega (arith, ready_fits_new c.requires c.eval-c.ensures c.eval-c.auto.new)
 
 pub eval_if-eval_first-r-requires : goal.eval_if-eval_first-r-requires
-eval_if-eval_first-r-requires t c =
-    let p = c.requires in
-    let h = c.eval-c.ensures in
-    let K = c.eval-c.auto.new in
-    (omega arith, (rw h.next_is (ready_rest p h K)))
+eval_if-eval_first-r-requires t c = (omega arith, rw c.eval-c.ensures.next_is (ready_rest c.requires c.eval-c.ensures c.eval-c.auto.new))
 
 pub eval_if-overflow_add-result : goal.eval_if-overflow_add-result
 eval_if-overflow_add-result t c =
@@ -984,41 +862,19 @@ eval_if-overflow_add-result t c =
     omega (arith, h.used_is, g1.used_is, segs, p.room, p.small)
 
 pub eval_if-slice_bounds-eval_second-count : goal.eval_if-slice_bounds-eval_second-count
-eval_if-slice_bounds-eval_second-count t c =
-    let p = c.requires in
-    let le = ready_seg p in
-    let h = c.eval-c.ensures in
-    omega (arith, h.used_is, le)
+eval_if-slice_bounds-eval_second-count t c = omega (arith, ready_fits c.requires c.eval-c.ensures)
 
 pub eval_if-slice_bounds-eval_second-start : goal.eval_if-slice_bounds-eval_second-start
-eval_if-slice_bounds-eval_second-start t c =
-    let p = c.requires in
-    let le = ready_seg p in
-    let h = c.eval-c.ensures in
-    omega (arith, h.used_is, le)
+eval_if-slice_bounds-eval_second-start t c = omega (arith, ready_fits c.requires c.eval-c.ensures)
 
 pub eval_if-slice_bounds-eval_second-count-in-Second : goal.eval_if-slice_bounds-eval_second-count-in-Second
-eval_if-slice_bounds-eval_second-count-in-Second t c =
-    let p = c.requires in
-    let le = ready_seg p in
-    let h = c.eval-c.ensures in
-    let K = c.eval-c.auto.new in
-    omega (arith, h.used_is, le, K, ap length p.same)
+eval_if-slice_bounds-eval_second-count-in-Second t c = omega (arith, ready_fits_new c.requires c.eval-c.ensures c.eval-c.auto.new)
 
 pub eval_if-slice_bounds-eval_second-start-in-Second : goal.eval_if-slice_bounds-eval_second-start-in-Second
-eval_if-slice_bounds-eval_second-start-in-Second t c =
-    let p = c.requires in
-    let le = ready_seg p in
-    let h = c.eval-c.ensures in
-    let K = c.eval-c.auto.new in
-    omega (arith, h.used_is, le, K, ap length p.same)
+eval_if-slice_bounds-eval_second-start-in-Second t c = omega (arith, ready_fits_new c.requires c.eval-c.ensures c.eval-c.auto.new)
 
 pub eval_if-eval_second-r-requires : goal.eval_if-eval_second-r-requires
-eval_if-eval_second-r-requires t c =
-    let p = c.requires in
-    let h = c.eval-c.ensures in
-    let K = c.eval-c.auto.new in
-    (omega arith, (rw h.next_is (ready_rest p h K)))
+eval_if-eval_second-r-requires t c = (omega arith, rw c.eval-c.ensures.next_is (ready_rest c.requires c.eval-c.ensures c.eval-c.auto.new))
 
 pub eval_if-overflow_add-result-in-Second : goal.eval_if-overflow_add-result-in-Second
 eval_if-overflow_add-result-in-Second t c =
@@ -1226,7 +1082,6 @@ eval_second-returns-then-runs t c =
     let n2 = seg_at f L (end_at f L a) in
     let d = goal.at.eval_second-returns-then-runs t c in
     let q = first_passed t d.After-pass-s in
-    let U = c.pass-s.result.used in
     let M = c.step_untaken-other.new.new in
     let h = second_evals t d.After-eval-e q in
     let h2 = subst (λ (u : ℕ). UntakenTo f kk L a n F cl bb (take u o) c.step_untaken-other.result M) q.used_is c.step_untaken-other.ensures in
@@ -1254,7 +1109,6 @@ eval_second-returns-else-runs t c =
     let n2 = seg_at f L (end_at f L a) in
     let d = goal.at.eval_second-returns-else-runs t c in
     let q = first_passed t d.After-pass-s in
-    let U = c.pass-s.result.used in
     let h = second_evals t d.After-eval-e q in
     let to = chosen_is f kk L n F cl bb c.eval-e.result.out (refl {a = a}) c.chosen-eo.ensures in
     let segs = two_segs f L a p.plan.reads in
@@ -1262,66 +1116,28 @@ eval_second-returns-else-runs t c =
     seq_as ((λ (x y : List ℕ). choose false (branch_in f kk L a n F cl bb x) (branch_in f kk L mid n F cl bb y))) n1 n2 segs ends (second_not ((branch_in f kk L a n F cl bb (take n1 o))) ((branch_in f kk L mid n F cl bb (take n2 (drop n1 o)))) refl q h p.same to (sym c.if-runs.false ∙ c.runs.ensures))
 
 pub eval_two-overflow_add-op : goal.eval_two-overflow_add-op
-eval_two-overflow_add-op t c =
-    let p = c.requires in
-    let f = c.args.file.now in
-    let L = c.args.level in
-    let a = c.args.at + 2 in
-    let ins = reads_in f L a (plan_head f p.plan) in
-    omega (arith, ins, p.plan.program.sized.small)
+eval_two-overflow_add-op t c = omega (arith, ready_inside c.requires, c.requires.plan.program.sized.small)
 
 pub eval_two-bounds-file-at : goal.eval_two-bounds-file-at
-eval_two-bounds-file-at t c =
-    let p = c.requires in
-    let f = c.args.file.now in
-    let L = c.args.level in
-    let a = c.args.at + 2 in
-    let ins = reads_in f L a (plan_head f p.plan) in
-    omega (arith, ins, p.plan.program.sized.small)
+eval_two-bounds-file-at t c = omega (arith, ready_inside c.requires, c.requires.plan.program.sized.small)
 
 pub eval_two-overflow_add-at : goal.eval_two-overflow_add-at
-eval_two-overflow_add-at t c =
-    let p = c.requires in
-    let f = c.args.file.now in
-    let L = c.args.level in
-    let a = c.args.at + 2 in
-    let ins = reads_in f L a (plan_head f p.plan) in
-    omega (arith, ins, p.plan.program.sized.small)
+eval_two-overflow_add-at t c = omega (arith, ready_inside c.requires, c.requires.plan.program.sized.small)
 
 pub eval_two-eval-l-requires : goal.eval_two-eval-l-requires
-eval_two-eval-l-requires t c =
-    let p = c.requires in
-    (omega arith, (ready_first p))
+eval_two-eval-l-requires t c = (omega arith, ready_first c.requires)
 
 pub eval_two-slice_bounds-eval-count : goal.eval_two-slice_bounds-eval-count
-eval_two-slice_bounds-eval-count t c =
-    let p = c.requires in
-    let le = ready_seg p in
-    let h = c.eval-l.ensures in
-    omega (arith, h.used_is, le)
+eval_two-slice_bounds-eval-count t c = omega (arith, ready_fits c.requires c.eval-l.ensures)
 
 pub eval_two-slice_bounds-eval-start : goal.eval_two-slice_bounds-eval-start
-eval_two-slice_bounds-eval-start t c =
-    let p = c.requires in
-    let le = ready_seg p in
-    let h = c.eval-l.ensures in
-    omega (arith, h.used_is, le)
+eval_two-slice_bounds-eval-start t c = omega (arith, ready_fits c.requires c.eval-l.ensures)
 
 pub eval_two-slice_bounds-eval-count-then-done : goal.eval_two-slice_bounds-eval-count-then-done
-eval_two-slice_bounds-eval-count-then-done t c =
-    let p = c.requires in
-    let le = ready_seg p in
-    let h = c.eval-l.ensures in
-    let K = c.eval-l.auto.new in
-    omega (arith, h.used_is, le, K, ap length p.same)
+eval_two-slice_bounds-eval-count-then-done t c = omega (arith, ready_fits_new c.requires c.eval-l.ensures c.eval-l.auto.new)
 
 pub eval_two-slice_bounds-eval-start-then-done : goal.eval_two-slice_bounds-eval-start-then-done
-eval_two-slice_bounds-eval-start-then-done t c =
-    let p = c.requires in
-    let le = ready_seg p in
-    let h = c.eval-l.ensures in
-    let K = c.eval-l.auto.new in
-    omega (arith, h.used_is, le, K, ap length p.same)
+eval_two-slice_bounds-eval-start-then-done t c = omega (arith, ready_fits_new c.requires c.eval-l.ensures c.eval-l.auto.new)
 
 pub eval_two-eval-r-requires : goal.eval_two-eval-r-requires
 eval_two-eval-r-requires t c =
@@ -1507,20 +1323,10 @@ run-returns t c =
     (omega (arith, c.loop-j-test.false, c.row-n.ensures, (p.running.program.sized.table.rows_of fr.node p.below).count, (p.running.nodes fr.node p.below).all))
 
 pub step_instance-row-n-requires : goal.step_instance-row-n-requires
-step_instance-row-n-requires t c =
-    let h = c.requires.0 in
-    let R = h.running in
-    let B = h.below in
-    let tb = c.args.tab.now in
-    row_room tb R B _ (omega arith)
+step_instance-row-n-requires t c = row_room c.args.tab.now c.requires.0.running c.requires.0.below _ (omega arith)
 
 pub step_instance-row-inputs-requires : goal.step_instance-row-inputs-requires
-step_instance-row-inputs-requires t c =
-    let h = c.requires.0 in
-    let R = h.running in
-    let B = h.below in
-    let tb = c.args.tab.now in
-    row_room tb R B _ (omega arith)
+step_instance-row-inputs-requires t c = row_room c.args.tab.now c.requires.0.running c.requires.0.below _ (omega arith)
 
 pub step_instance-open-requires : goal.step_instance-open-requires
 step_instance-open-requires t c =
@@ -1536,38 +1342,16 @@ step_instance-open-requires t c =
     (inputs_first R B n i w iw, narrow R B n w, omega (arith, h.room, inputs_most R B i iw), room)
 
 pub step_instance-slice_bounds-run-count : goal.step_instance-slice_bounds-run-count
-step_instance-slice_bounds-run-count t c =
-    let h = c.requires.0 in
-    let o = c.requires.1 in
-    let n = c.row-n.result in
-    let w = c.row-n.ensures in
-    let room = own_room h n o w in
-    omega (arith, room)
+step_instance-slice_bounds-run-count t c = omega (arith, own_room c.requires.0 c.row-n.result c.requires.1 c.row-n.ensures)
 
 pub step_instance-slice_bounds-run-start : goal.step_instance-slice_bounds-run-start
-step_instance-slice_bounds-run-start t c =
-    let h = c.requires.0 in
-    let o = c.requires.1 in
-    let n = c.row-n.result in
-    let w = c.row-n.ensures in
-    let room = own_room h n o w in
-    omega (arith, room)
+step_instance-slice_bounds-run-start t c = omega (arith, own_room c.requires.0 c.row-n.result c.requires.1 c.row-n.ensures)
 
 pub step_instance-slice_bounds-run-count-2 : goal.step_instance-slice_bounds-run-count-2
-step_instance-slice_bounds-run-count-2 t c =
-    let h = c.requires.0 in
-    let o = c.requires.1 in
-    let n = c.row-n.result in
-    let w = c.row-n.ensures in
-    omega (arith, own_new h n o w)
+step_instance-slice_bounds-run-count-2 t c = omega (arith, own_new c.requires.0 c.row-n.result c.requires.1 c.row-n.ensures)
 
 pub step_instance-slice_bounds-run-start-2 : goal.step_instance-slice_bounds-run-start-2
-step_instance-slice_bounds-run-start-2 t c =
-    let h = c.requires.0 in
-    let o = c.requires.1 in
-    let n = c.row-n.result in
-    let w = c.row-n.ensures in
-    omega (arith, own_new h n o w)
+step_instance-slice_bounds-run-start-2 t c = omega (arith, own_new c.requires.0 c.row-n.result c.requires.1 c.row-n.ensures)
 
 pub step_instance-run-r-requires : goal.step_instance-run-r-requires
 step_instance-run-r-requires t c =
@@ -1592,12 +1376,7 @@ step_instance-finish-requires t c =
     (narrow R B n w, omega (arith, put_length h n x o w kx, own_new h n o w))
 
 pub step_instance-row-requires : goal.step_instance-row-requires
-step_instance-row-requires t c =
-    let h = c.requires.0 in
-    let R = h.running in
-    let B = h.below in
-    let tb = c.args.tab.now in
-    row_room tb R B _ (omega arith)
+step_instance-row-requires t c = row_room c.args.tab.now c.requires.0.running c.requires.0.below _ (omega arith)
 
 pub step_instance-copy_outputs-requires : goal.step_instance-copy_outputs-requires
 step_instance-copy_outputs-requires t c =
@@ -1689,7 +1468,6 @@ tuple_equation-eval_all-r-requires t c =
 pub tuple_equation-bounds-file-rhs : goal.tuple_equation-bounds-file-rhs
 tuple_equation-bounds-file-rhs t c =
     let p = c.requires.0 in
-    let f = c.args.file.now in
     let n = c.from-n.result in
     let ne = c.from-n.ensures in
     let q = right_ready p n 12 ne c.requires.1 in
@@ -1699,7 +1477,6 @@ tuple_equation-bounds-file-rhs t c =
 pub tuple_equation-bind-requires : goal.tuple_equation-bind-requires
 tuple_equation-bind-requires t c =
     let p = c.requires.0 in
-    let f = c.args.file.now in
     let n = c.from-n.result in
     let ne = c.from-n.ensures in
     let q = right_ready p n 12 ne c.requires.1 in
@@ -1712,7 +1489,6 @@ tuple_equation-bind-requires t c =
 pub tuple_equation-returns : goal.tuple_equation-returns
 tuple_equation-returns t c =
     let p = c.requires.0 in
-    let f = c.args.file.now in
     let fr = c.args.frame.now in
     let F = fr.first in
     let n = c.from-n.result in
