@@ -148,7 +148,7 @@ abbrev pub Goes : List ℕ → List ℕ → ℕ → ℕ → Frame → List ℕ �
 Goes file tab level at fr old left i pos used to new =
     Going (all_in file (consts_of tab) level (parts_at file at) (next_at file at) fr.node fr.first fr.cells fr.before (take (segs_at file level (parts_at file at) (next_at file at)) old)) file (tab_of tab) (rows_of tab) (consts_of tab) (callee_at file at) (parts_at file at) (next_at file at) level fr.node fr.first fr.cells fr.before old left i pos used to new
 
-pub going_start : {file tab rows consts : List ℕ} {callee : Option ℕ} {n at level node : ℕ} (first : Bool) {cells before old new to : List ℕ} → Ready file tab rows consts level n at node cells before old new → Passes file callee n to → Going (all_in file consts level n at node first cells before (take (segs_at file level n at) old)) file tab rows consts callee n at level node first cells before old n 0 at 0 to new
+pub going_start : {file tab rows consts : List ℕ} {callee : Option ℕ} {n at level node : ℕ} (first : Bool) {cells before old new to : List ℕ} → Ready file tab rows consts level n at node cells before old new → 9 * n ≤ length to → Going (all_in file consts level n at node first cells before (take (segs_at file level n at) old)) file tab rows consts callee n at level node first cells before old n 0 at 0 to new
 going_start {file} {tab} {rows} {consts} {callee} {n} {at} {level} {node} first {cells} {before} {old} {new} {to} p q =
     record {
       values = [];
@@ -163,7 +163,7 @@ going_start {file} {tab} {rows} {consts} {callee} {n} {at} {level} {node} first 
       total = omega arith;
       ends = refl;
       stored = passed_none file callee;
-      long = q.room;
+      long = q;
       within = omega arith;
     }
 

@@ -194,8 +194,8 @@ module _ {file tab rows consts : List ℕ} {level at node : ℕ} {cells before o
   callee_is : callee_at file at ≡ Some k
   callee_is = callee_of_call file at b ∙ ap Some (sym kE)
 
-  pub call_passes : {to : List ℕ} → length to ≡ 288 → Passes file (Some k) n to
-  call_passes l = record { room = omega (arith, call_few); few = omega (arith, call_few); small = call_small; called = (call_below, call_arity) }
+  call_passes : Passes file (Some k) n
+  call_passes = record { few = call_few; small = call_small; called = (call_below, call_arity) }
 
   -- the parts of the call are its arguments
   parts_are : parts_at file at ≡ n
@@ -204,12 +204,12 @@ module _ {file tab rows consts : List ℕ} {level at node : ℕ} {cells before o
   start_is : next_at file at ≡ at + 3
   start_is = next_call file at b (omega (arith, call_at.inside))
 
-  pub call_several : {to : List ℕ} → length to ≡ 288 → Several file at to
-  call_several {to} l =
+  pub call_several : Several file at
+  call_several =
       record {
         inside = omega (arith, call_at.inside);
-        passes = subst (λ (m : ℕ). Passes file (callee_at file at) m to) (sym parts_are)
-            (subst (λ (c : Option ℕ). Passes file c n to) (sym callee_is) (call_passes l));
+        passes = subst (λ (m : ℕ). Passes file (callee_at file at) m) (sym parts_are)
+            (subst (λ (c : Option ℕ). Passes file c n) (sym callee_is) call_passes);
       }
 
   pub call_all : (first : Bool) {old' : List ℕ} {r : Ran} (to : List ℕ) {new' : List ℕ} → AllTo file consts (level - 1) at node first cells before old' r to new' → PassedTo file consts (Some k) n (level - 1) (at + 3) node first cells before old' r to new'
@@ -238,8 +238,8 @@ module _ {file tab rows consts : List ℕ} {level at node : ℕ} {cells before o
       (subst (λ (p : ℕ). Ready file tab rows consts (level - 1) n p node cells before (tail_of u old) (tail_of u new)) (sym start_is) (call_args u e))
 
   -- the callee, on its record
-  pub call_steps : (u : ℕ) → u ≡ row_at rows k 6 → {callee : List ℕ} (new₁ : List ℕ) → length callee ≡ 288 → Steppable file tab rows consts k callee (take u old) (take u (put_tail u new new₁))
-  call_steps u e {callee} new₁ l =
+  pub call_steps : (u : ℕ) → u ≡ row_at rows k 6 → (new₁ : List ℕ) → Steppable file tab rows consts k (take u old) (take u (put_tail u new new₁))
+  call_steps u e new₁ =
       let z = e ∙ call_size in
       let le : u ≤ length old = omega (arith, call_room, z) in
       let t = length-take-le u old le in
@@ -247,7 +247,6 @@ module _ {file tab rows consts : List ℕ} {level at node : ℕ} {cells before o
         running = call_running;
         below = call_below;
         kind = not_imported_lem (node_in file node).kind (node_in file k).kind call_callee.kinds;
-        room = l;
         sized = t ∙ z;
         small = omega (arith, t, le, p.small);
         same = take_put u new new₁ (omega (arith, le, ap length p.same)) ∙ ap (take u) p.same;

@@ -299,10 +299,10 @@ module _ {file tab rows consts : List ℕ} {k i at : ℕ} {cells before old new 
     tuple_ready p count e =
         subst (λ (c : ℕ). Ready file tab rows consts 23 c (rhs + 2) k cells before old new) (sym e) (ready_parts (equation_ready rhs p.place) (tuple_is p).0 refl)
 
-    tuple_passes : RhsReady file k i rhs n 12 → (count : ℕ) → count ≡ get_or file (rhs + 1) 0 → {to : List ℕ} → length to ≡ 288 → Passes file None count to
-    tuple_passes p count e l =
+    tuple_passes : RhsReady file k i rhs n 12 → (count : ℕ) → count ≡ get_or file (rhs + 1) 0 → Passes file None count
+    tuple_passes p count e =
         let t = (tuple_inside p).1 in
-        record { room = omega arith; few = omega arith; small = tt; called = tt }
+        record { few = omega arith; small = tt; called = tt }
 
     -- the parts of the Tuple are its items
     parts_are : RhsReady file k i rhs n 12 → (count : ℕ) → count ≡ get_or file (rhs + 1) 0 → parts_at file rhs ≡ count
@@ -311,12 +311,12 @@ module _ {file tab rows consts : List ℕ} {k i at : ℕ} {cells before old new 
     start_is : RhsReady file k i rhs n 12 → next_at file rhs ≡ rhs + 2
     start_is p = next_tuple file rhs p.code_is (omega (arith, tuple_inside p))
 
-    pub tuple_several : RhsReady file k i rhs n 12 → (count : ℕ) → count ≡ get_or file (rhs + 1) 0 → {to : List ℕ} → length to ≡ 288 → Several file rhs to
-    tuple_several p count e {to} l =
+    pub tuple_several : RhsReady file k i rhs n 12 → (count : ℕ) → count ≡ get_or file (rhs + 1) 0 → Several file rhs
+    tuple_several p count e =
         record {
           inside = omega (arith, tuple_inside p);
-          passes = subst (λ (m : ℕ). Passes file (callee_at file rhs) m to) (sym (parts_are p count e))
-              (subst (λ (c : Option ℕ). Passes file c count to) (sym (no_callee file rhs p.code_is)) (tuple_passes p count e l));
+          passes = subst (λ (m : ℕ). Passes file (callee_at file rhs) m) (sym (parts_are p count e))
+              (subst (λ (c : Option ℕ). Passes file c count) (sym (no_callee file rhs p.code_is)) (tuple_passes p count e));
         }
 
     pub tuple_parts : RhsReady file k i rhs n 12 → Ready file tab rows consts 23 (parts_at file rhs) (next_at file rhs) k cells before old new

@@ -190,7 +190,7 @@ outputs_among n cs =
 
 -- ---- a node, by its rows
 
-module _ {file tab rows consts args old new : List ℕ} {k : ℕ} (h : Steppable file tab rows consts k args old new) where
+module _ {file tab rows consts old new : List ℕ} {k : ℕ} (h : Steppable file tab rows consts k old new) where
   -- its kind
   pub is_operator_lem : (c : ℕ) → c ≡ row_at rows k 0 → c ≡ 1 → (node_in file k).kind ≡ Operator
   is_operator_lem c e o = fresh_operator h.running.known h.below (sym e ∙ o)
@@ -249,7 +249,7 @@ module _ {file tab rows consts args old new : List ℕ} {k : ℕ} (h : Steppable
 
 -- what was done before the run: its cells are there, and those before
 pub record Entered (file tab rows consts : List ℕ) (k : ℕ) (args old new : List ℕ) (first : Bool) (n i : ℕ) (cells before : List ℕ) : Type 0 where
-  pub site : Steppable file tab rows consts k args old new
+  pub site : Steppable file tab rows consts k old new
   pub operator : (node_in file k).kind ≡ Operator
   pub width : n ≡ row_at rows k 4
   pub inputs : i ≡ row_at rows k 2
@@ -257,7 +257,7 @@ pub record Entered (file tab rows consts : List ℕ) (k : ℕ) (args old new : L
   pub begun : values_of n cells ≡ values_of i args ++ drop i (values_of n (tail_of 1 old))
   pub earlier : values_of n before ≡ values_of n (tail_of 1 old)
 
-pub entered : {file tab rows consts args old new : List ℕ} {fr : Frame} {k n i : ℕ} → Steppable file tab rows consts k args old new → (node_in file k).kind ≡ Operator → n ≡ row_at rows k 4 → i ≡ row_at rows k 2 → Opened k n i args old fr → Entered file tab rows consts k args old new fr.first n i fr.cells fr.before
+pub entered : {file tab rows consts args old new : List ℕ} {fr : Frame} {k n i : ℕ} → Steppable file tab rows consts k old new → (node_in file k).kind ≡ Operator → n ≡ row_at rows k 4 → i ≡ row_at rows k 2 → Opened k n i args old fr → Entered file tab rows consts k args old new fr.first n i fr.cells fr.before
 entered {args = args} {old = old} {n = n} {i = i} h o w iw p =
     record {
       site = h;
@@ -324,7 +324,7 @@ module _ {file tab rows consts args old new : List ℕ} {k : ℕ} {first : Bool}
 
 -- ---- a call of a Function
 
-module _ {file tab rows consts args old new : List ℕ} {k : ℕ} (h : Steppable file tab rows consts k args old new) (func : (node_in file k).kind ≡ Function) where
+module _ {file tab rows consts old new : List ℕ} {k : ℕ} (h : Steppable file tab rows consts k old new) (func : (node_in file k).kind ≡ Function) where
   abbrev fnode : Node
   fnode = node_in file k
 
@@ -359,7 +359,7 @@ module _ {file tab rows consts args old new : List ℕ} {k : ℕ} (h : Steppable
   fresh_cells : (rest : List ℕ) → values_of (width_in file k) (dcells ++ rest) ≡ values_of (width_in file k) dcells
   fresh_cells rest = values_front (width_in file k) dcells rest (omega (arith, dlength))
 
-  module _ (i : ℕ) (fr : Frame) (inputs : i ≡ row_at rows k 2) (p : Freshened tab rows k i args fr) where
+  module _ {args : List ℕ} (i : ℕ) (fr : Frame) (inputs : i ≡ row_at rows k 2) (p : Freshened tab rows k i args fr) where
     -- the default cells are those of a fresh record
     defaults_as : values_of (row_at rows k 4) (cells_at tab rows k 0 (row_at rows k 4)) ≡ old_cells fnode (fresh_record fglob fnode)
     defaults_as =

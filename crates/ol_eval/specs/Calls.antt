@@ -48,10 +48,9 @@ pub record Did (make : List Value → List Value) (want : Evals) (end : Ending) 
 
 -- ---- several expressions
 
--- n values go to `to`, fitted to the inputs of the node that is called, if one is
-pub record Passes (file : List ℕ) (callee : Option ℕ) (n : ℕ) (to : List ℕ) : Type 0 where
-  pub room : 9 * n ≤ length to
-  pub few : n ≤ 112
+-- n values are passed on, fitted to the inputs of the node that is called, if one is
+pub record Passes (file : List ℕ) (callee : Option ℕ) (n : ℕ) : Type 0 where
+  pub few : n ≤ 32
   pub small : MatchOption callee (Unit {0}) (λ k. k < 32)
   pub called : MatchOption callee (Unit {0}) (λ k. (k < nodes_in file) × (n ≡ length (node_in file k).inputs))
 
@@ -71,10 +70,10 @@ PassedTo file consts callee n level at node first cells before old r to new =
 abbrev pub callee_at : List ℕ → ℕ → Option ℕ
 callee_at file at = cond (eqb (get_or file at 0) 11) (Some (get_or file (at + 1) 0)) None
 
--- the parts of the call or Tuple at `at` have room in `to` for their values, a call's fitted to its callee's inputs
-pub record Several (file : List ℕ) (at : ℕ) (to : List ℕ) : Type 0 where
+-- the parts of the call or Tuple at `at` are arguments or items, a call's as many as its callee's inputs
+pub record Several (file : List ℕ) (at : ℕ) : Type 0 where
   pub inside : at + 1 < length file
-  pub passes : Passes file (callee_at file at) (parts_at file at) to
+  pub passes : Passes file (callee_at file at) (parts_at file at)
 
 abbrev pub AllTo : List ℕ → List ℕ → ℕ → ℕ → ℕ → Bool → List ℕ → List ℕ → List ℕ → Ran → List ℕ → List ℕ → Type 0
 AllTo file consts level at node first cells before old r to new =
@@ -97,18 +96,17 @@ EntersTo file consts level at node first cells before old r args new =
 
 -- ---- a call of a node on its record
 
--- a call site of node k, whose record is `old`, with the arguments in `args`
-pub record Steppable (file tab rows consts : List ℕ) (k : ℕ) (args old new : List ℕ) : Type 0 where
+-- a call site of node k, whose record is `old`
+pub record Steppable (file tab rows consts : List ℕ) (k : ℕ) (old new : List ℕ) : Type 0 where
   pub running : Running file tab rows consts
   pub below : k < nodes_in file
   pub kind : ¬ ((node_in file k).kind ≡ Imported)
-  pub room : length args ≡ 288
   pub sized : length old ≡ site_bytes (file_at file) k
   pub small : length old ≤ 32768
   pub same : new ≡ old
 
-abbrev pub CanStep : List ℕ → List ℕ → ℕ → List ℕ → List ℕ → List ℕ → Type 0
-CanStep file tab k args old new = Steppable file (tab_of tab) (rows_of tab) (consts_of tab) k args old new
+abbrev pub CanStep : List ℕ → List ℕ → ℕ → List ℕ → List ℕ → Type 0
+CanStep file tab k old new = Steppable file (tab_of tab) (rows_of tab) (consts_of tab) k old new
 
 abbrev pub SiteTo : List ℕ → List ℕ → ℕ → List ℕ → List ℕ → Ending → List ℕ → List ℕ → Type 0
 SiteTo file consts k args old end args' new =

@@ -17,7 +17,7 @@ ghost use Rattle.ol_tables.specs.At.{node_in};
 
 use ol_frame::copies::{copy, passed, single_out};
 use ol_frame::equations::{place_at, plan_of, records_at};
-use ol_frame::frame::{ARGUMENTS, Frame};
+use ol_frame::frame::{Arguments, Frame};
 use ol_frame::names::{chosen, leaf_out, present};
 use ol_frame::outcomes::{
     Ending, Test, binary_out, cast_out, done, drop_failure, end_of, named_out, overflowed, runs,
@@ -309,12 +309,12 @@ fn eval_call(
     requires { CanEval file.now tab.now level 1 at frame.now old.now new.old × (get_or file.now at 0 ≡ 11) }
     ensures { on (EvalsTo file.now (consts_of tab.now) level at) frame.now old.now result new.new }
 {
-    let mut args = [0u8; ARGUMENTS];
+    let mut args = Arguments::new();
     let r = enter(file, tab, at, level, frame, &mut args, old, new);
     let k = usize::from(file[at + 1]);
     let outputs = row(tab, k, OUTPUTS);
     Step {
-        out: single_out(r.end, outputs, &args),
+        out: single_out(r.end, outputs, &args.cells),
         next: r.next,
         used: r.used,
     }
@@ -328,12 +328,12 @@ fn enter(
     at: usize,
     level: usize,
     frame: &Frame,
-    args: &mut [u8; ARGUMENTS],
+    args: &mut Arguments,
     old: &[u8],
     new: &mut [u8],
 ) -> Ran
-    requires { CanEval file.now tab.now level 1 at frame.now old.now new.old × (get_or file.now at 0 ≡ 11) × (length args.old ≡ 288) }
-    ensures { on (EntersTo file.now (consts_of tab.now) level at) frame.now old.now result args.new new.new × (length args.new ≡ length args.old) }
+    requires { CanEval file.now tab.now level 1 at frame.now old.now new.old × (get_or file.now at 0 ≡ 11) }
+    ensures { on (EntersTo file.now (consts_of tab.now) level at) frame.now old.now result args.new.cells new.new }
 {
     let k = usize::from(file[at + 1]);
     let size = row(tab, k, SIZE);
@@ -375,12 +375,12 @@ fn eval_all(
     at: usize,
     level: usize,
     frame: &Frame,
-    to: &mut [u8; ARGUMENTS],
+    to: &mut Arguments,
     old: &[u8],
     new: &mut [u8],
 ) -> Ran
-    requires { CanEval file.now tab.now level (parts_at file.now at) (next_at file.now at) frame.now old.now new.old × Several file.now at to.old }
-    ensures { on (AllTo file.now (consts_of tab.now) level at) frame.now old.now result to.new new.new × (length to.new ≡ length to.old) }
+    requires { CanEval file.now tab.now level (parts_at file.now at) (next_at file.now at) frame.now old.now new.old × Several file.now at }
+    ensures { on (AllTo file.now (consts_of tab.now) level at) frame.now old.now result to.new.cells new.new }
 {
     let callee = callee_at(file, at);
     let h = head(file, at);
@@ -399,7 +399,7 @@ fn eval_all(
                 used: used + s.used,
             };
         };
-        write_cell(passed(tab, callee, i, v), to, 9 * i);
+        write_cell(passed(tab, callee, i, v), &mut to.cells, 9 * i);
     }
     Ran {
         end: Ending::Values,
@@ -416,12 +416,12 @@ fn step_site(
     file: &[u8],
     tab: &[u8],
     k: usize,
-    args: &mut [u8; ARGUMENTS],
+    args: &mut Arguments,
     old: &[u8],
     new: &mut [u8],
 ) -> Ending
-    requires { CanStep file.now tab.now k args.old old.now new.old }
-    ensures { SiteTo file.now (consts_of tab.now) k args.old old.now result args.new new.new × (length args.new ≡ length args.old) }
+    requires { CanStep file.now tab.now k old.now new.old }
+    ensures { SiteTo file.now (consts_of tab.now) k args.old.cells old.now result args.new.cells new.new }
 {
     let mut frame = Frame::new();
     if NodeKind::Operator.is(row(tab, k, KIND)) {
@@ -437,23 +437,23 @@ fn step_instance(
     file: &[u8],
     tab: &[u8],
     k: usize,
-    args: &mut [u8; ARGUMENTS],
+    args: &mut Arguments,
     frame: &mut Frame,
     old: &[u8],
     new: &mut [u8],
 ) -> Ending
-    requires { CanStep file.now tab.now k args.old old.now new.old × ((node_in file.now k).kind ≡ Operator) }
-    ensures { SiteTo file.now (consts_of tab.now) k args.old old.now result args.new new.new × (length args.new ≡ length args.old) }
+    requires { CanStep file.now tab.now k old.now new.old × ((node_in file.now k).kind ≡ Operator) }
+    ensures { SiteTo file.now (consts_of tab.now) k args.old.cells old.now result args.new.cells new.new }
 {
     let n = row(tab, k, VARIABLES);
     let own = 1 + 9 * n;
     let inputs = row(tab, k, INPUTS);
-    frame.open(k, n, inputs, args, old);
+    frame.open(k, n, inputs, &args.cells, old);
     let r = run(file, tab, frame, &old[own..], &mut new[own..]);
     match r.end {
         Ending::Values => {
             frame.finish(n, new);
-            frame.copy_outputs(inputs, row(tab, k, OUTPUTS), args);
+            frame.copy_outputs(inputs, row(tab, k, OUTPUTS), &mut args.cells);
             Ending::Values
         }
         Ending::Failed(c) => {
@@ -473,18 +473,18 @@ fn call_function(
     file: &[u8],
     tab: &[u8],
     k: usize,
-    args: &mut [u8; ARGUMENTS],
+    args: &mut Arguments,
     frame: &mut Frame,
     old: &[u8],
     new: &mut [u8],
 ) -> Ending
-    requires { CanStep file.now tab.now k args.old old.now new.old × ((node_in file.now k).kind ≡ Function) }
-    ensures { SiteTo file.now (consts_of tab.now) k args.old old.now result args.new new.new × (length args.new ≡ length args.old) }
+    requires { CanStep file.now tab.now k old.now new.old × ((node_in file.now k).kind ≡ Function) }
+    ensures { SiteTo file.now (consts_of tab.now) k args.old.cells old.now result args.new.cells new.new }
 {
     let inputs = row(tab, k, INPUTS);
-    frame.fresh(tab, k, inputs, args);
+    frame.fresh(tab, k, inputs, &args.cells);
     let r = run(file, tab, frame, old, new);
-    frame.copy_outputs(inputs, row(tab, k, OUTPUTS), args);
+    frame.copy_outputs(inputs, row(tab, k, OUTPUTS), &mut args.cells);
     r.end
 }
 
@@ -565,14 +565,14 @@ fn call_equation(
 {
     let n = usize::from(file[at]);
     let rhs = at + 1 + 2 * n;
-    let mut args = [0u8; ARGUMENTS];
+    let mut args = Arguments::new();
     let r = enter(file, tab, rhs, 24, frame, &mut args, old, new);
     let Ending::Values = r.end else {
         return r.end;
     };
     let c = usize::from(file[rhs + 1]);
     let m = n.min(row(tab, c, OUTPUTS));
-    frame.bind(tab, at + 1, m, &args);
+    frame.bind(tab, at + 1, m, &args.cells);
     Ending::Values
 }
 
@@ -592,12 +592,12 @@ fn tuple_equation(
 {
     let n = usize::from(file[at]);
     let rhs = at + 1 + 2 * n;
-    let mut items = [0u8; ARGUMENTS];
+    let mut items = Arguments::new();
     let r = eval_all(file, tab, rhs, 23, frame, &mut items, old, new);
     let Ending::Values = r.end else {
         return r.end;
     };
     let m = n.min(usize::from(file[rhs + 1]));
-    frame.bind(tab, at + 1, m, &items);
+    frame.bind(tab, at + 1, m, &items.cells);
     Ending::Values
 }

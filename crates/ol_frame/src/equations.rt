@@ -1,6 +1,5 @@
 // The equations of a node, as its plan in the table tells them: where each stands, and where its records start.
 ghost use Rattle.std.specs.Prelude.{cond, ◌≡◌, ◌+◌, ◌*◌, ◌≤◌, ◌<◌, ltb, length};
-ghost use Rattle.ol_tables.specs.Table.{rows_of};
 ghost use Rattle.ol_tables.specs.Tables.{two_at};
 ghost use Rattle.ol_frame.specs.Equations.{plan_at};
 

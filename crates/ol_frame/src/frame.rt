@@ -14,8 +14,21 @@ use ol_spec::Outcome;
 use ol_state::defaults::write_defaults;
 use ol_tables::tables::MOST_CELLS;
 
-// The bytes of a call's arguments, or of its outputs: at most 32 cells.
-pub const ARGUMENTS: usize = 288;
+// The cells of a call's arguments, or of its outputs: at most 32. Their bytes' number stands in a ghost field, as a frame's do.
+#[derive(Drop)]
+pub struct Arguments {
+    pub cells: [u8; 288],
+    pub ghost sized: { length cells ≡ 288 },
+}
+
+impl Arguments {
+    // All zero.
+    pub fn new() -> Arguments
+        ensures { result.cells ≡ replicate 288 0 }
+    {
+        Arguments { cells: [0; 288] }
+    }
+}
 
 // Whether it is the instance's first cycle, its node's number, its cells, and the cells before. `first` guards no field: the cells before are there in a first cycle too.
 // That each array has its length stands in a ghost field, since a proof does not know it of an array that was lent.

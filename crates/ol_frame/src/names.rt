@@ -1,6 +1,6 @@
 // What a name, a literal and a Pre yield, and whether an expression counts as real.
 // file and tab stay two parameters, as in ol_eval. What is asked of them (`Cells`, `Plan`) speaks of the file beside the frame, so no ghost field of a frame can hold it.
-ghost use Rattle.std.specs.Prelude.{◌≡◌, false, List, ℕ, ◌+◌, ◌≤◌, ◌<◌, pos, length, get_or};
+ghost use Rattle.std.specs.Prelude.{◌≡◌, false, List, ℕ, ◌+◌, ◌≤◌, ◌<◌, length, get_or};
 ghost use Rattle.ol_spec.specs.Eval.{or_failure, present_of, pre_of, is_double?, join, first_type};
 ghost use Rattle.ol_spec.specs.declared.Value.TheVariants as Val;
 ghost use Rattle.ol_tables.specs.At.{expr_at, end_at, node_in};
@@ -10,9 +10,7 @@ ghost use Rattle.ol_frame.specs.Walk.{nodes_in};
 ghost use Rattle.ol_frame.specs.Plans.{Program, globals_in, scope_in, kind_at, Nameable, Looked, Plan, Cells, name_at, Leaf, eval_in, segs_at};
 
 use crate::frame::Frame;
-use crate::outcomes::{
-    RealKind, common_out, is_single, kind_of_outcome, kind_of_type, same_out,
-};
+use crate::outcomes::{RealKind, common_out, is_single, kind_of_outcome, kind_of_type, same_out};
 use crate::skip::pass;
 use crate::tables::{Slot, code_of, row, slot_at};
 use ol_spec::{Cause, Outcome, Value};

@@ -53,7 +53,7 @@ call_equation-enter-r-requires t c =
     let ne = c.from-n.ensures in
     let rhs = c.args.at + 1 + 2 * n in
     let q = right_ready p n 11 ne c.requires.1 in
-    (omega arith, ((equation_ready p rhs q.place), q.code_is, refl))
+    (omega arith, ((equation_ready p rhs q.place), q.code_is))
 
 pub call_equation-bounds-file-rhs : goal.call_equation-bounds-file-rhs
 call_equation-bounds-file-rhs t c =
@@ -87,7 +87,7 @@ call_equation-bind-requires t c =
     let row = callee_row p q k ke in
     let outs = c.row.ensures ∙ row.outputs in
     let m = names_least p c.row.result q c.min-m.ensures in
-    (values_assignable p c.min-m.result (c.enter-r.new.args) m.least (omega (arith, c.min-m.ensures, outs, row.few)) (let k : length (c.enter-r.new.args) ≡ 288 = c.enter-r.ensures.1 in omega (arith, k, c.min-m.ensures, outs, row.few)))
+    (values_assignable p c.min-m.result (c.enter-r.new.args.cells) m.least (omega (arith, c.min-m.ensures, outs, row.few)) (omega (arith, c.enter-r.new.args.sized, c.min-m.ensures, outs, row.few)))
 
 pub call_equation-returns : goal.call_equation-returns
 call_equation-returns t c =
@@ -101,7 +101,7 @@ call_equation-returns t c =
     let ke = c.from-c.ensures in
     let row = callee_row p q k ke in
     let outs = c.row.ensures ∙ row.outputs in
-    (Rights.call_done p F c.min-m.result (c.enter-r.new.args) c.bind.new.self.cells q c.enter-r.ensures.0 c.in-Values.is (c.min-m.ensures ∙ ap (min n) outs) c.bind.ensures.0, c.bind.ensures.1)
+    (Rights.call_done p F c.min-m.result (c.enter-r.new.args.cells) c.bind.new.self.cells q c.enter-r.ensures c.in-Values.is (c.min-m.ensures ∙ ap (min n) outs) c.bind.ensures.0, c.bind.ensures.1)
 
 pub call_equation-returns-in_default : goal.call_equation-returns-in_default
 call_equation-returns-in_default t c =
@@ -111,7 +111,7 @@ call_equation-returns-in_default t c =
     let n = c.from-n.result in
     let ne = c.from-n.ensures in
     let q = right_ready p n 11 ne c.requires.1 in
-    (call_stops p F (c.enter-r.new.args) fr.cells q c.enter-r.ensures.0 c.in_default.not-Values, keeps_all fr)
+    (call_stops p F (c.enter-r.new.args.cells) fr.cells q c.enter-r.ensures c.in_default.not-Values, keeps_all fr)
 
 pub call_function-row-inputs-requires : goal.call_function-row-inputs-requires
 call_function-row-inputs-requires t c = row_room c.args.tab.now c.requires.0.running c.requires.0.below _ (omega arith)
@@ -123,7 +123,7 @@ call_function-fresh-requires t c =
     let B = h.below in
     let i = c.row-inputs.result in
     let iw = c.row-inputs.ensures in
-    (omega (arith, few R B), inputs_first R B _ i refl iw, narrow R B _ refl, omega (arith, h.room, inputs_most R B i iw))
+    (omega (arith, few R B), inputs_first R B _ i refl iw, narrow R B _ refl, omega (arith, c.args.args.now.sized, inputs_most R B i iw))
 
 pub call_function-run-r-requires : goal.call_function-run-r-requires
 call_function-run-r-requires t c =
@@ -143,7 +143,7 @@ call_function-copy_outputs-requires t c =
     let B = h.below in
     let i = c.row-inputs.result in
     let iw = c.row-inputs.ensures in
-    (inputs_most R B i iw, outputs_most R B c.row.result c.row.ensures, omega (arith, h.room, outputs_most R B c.row.result c.row.ensures))
+    (inputs_most R B i iw, outputs_most R B c.row.result c.row.ensures, omega (arith, c.args.args.now.sized, outputs_most R B c.row.result c.row.ensures))
 
 pub call_function-returns : goal.call_function-returns
 call_function-returns t c =
@@ -155,7 +155,7 @@ call_function-returns t c =
     let fp = c.fresh.ensures in
     let fr = c.fresh.new.self in
     let cells = c.run-r.new.frame.cells in
-    (function_done h f i fr iw fp c.run-r.result cells c.run-r.new.new c.row.result c.copy_outputs.new.args (framed_run c.args.file.now (consts_of tb) fr c.args.old.now cells fp.node c.run-r.ensures) c.run-r.auto.new c.row.ensures c.copy_outputs.ensures, c.copy_outputs.auto.args)
+    function_done h f i fr iw fp c.run-r.result cells c.run-r.new.new c.row.result c.copy_outputs.new.args (framed_run c.args.file.now (consts_of tb) fr c.args.old.now cells fp.node c.run-r.ensures) c.run-r.auto.new c.row.ensures c.copy_outputs.ensures
 
 pub enter-bounds-file-at : goal.enter-bounds-file-at
 enter-bounds-file-at t c =
@@ -207,8 +207,8 @@ module _ (t : ℕ) (c : enter-After-row-size t) where
 
 -- its arguments were evaluated
 module _ (t : ℕ) (c : enter-After-eval_all-a t) where
-  args_passed : on (PassedTo c.args.file.now (consts_of c.args.tab.now) (Some c.from-k.result) (get_or c.args.file.now (c.args.at + 2) 0) (c.args.level - 1) (c.args.at + 3)) c.args.frame.now (tail_of c.row-size.result c.args.old.now) c.eval_all-a.result c.eval_all-a.new.to c.eval_all-a.new.new
-  args_passed = call_all c.requires.0 c.requires.1 c.from-k.result (get_or c.args.file.now (c.args.at + 2) 0) c.from-k.ensures refl c.args.frame.now.first c.eval_all-a.new.to c.eval_all-a.ensures.0
+  args_passed : on (PassedTo c.args.file.now (consts_of c.args.tab.now) (Some c.from-k.result) (get_or c.args.file.now (c.args.at + 2) 0) (c.args.level - 1) (c.args.at + 3)) c.args.frame.now (tail_of c.row-size.result c.args.old.now) c.eval_all-a.result c.eval_all-a.new.to.cells c.eval_all-a.new.new
+  args_passed = call_all c.requires.0 c.requires.1 c.from-k.result (get_or c.args.file.now (c.args.at + 2) 0) c.from-k.ensures refl c.args.frame.now.first c.eval_all-a.new.to.cells c.eval_all-a.ensures
 
   own_kept : c.row-size.result ≤ length c.args.new.now → c.row-size.result ≤ length (put_tail c.row-size.result c.args.new.now c.eval_all-a.new.new)
   own_kept le = subst (λ (m : ℕ). c.row-size.result ≤ m) (sym (length_put c.row-size.result c.args.new.now c.eval_all-a.new.new le c.eval_all-a.auto.new)) le
@@ -236,13 +236,13 @@ enter-eval_all-a-requires t c =
     let n = get_or f (a + 2) 0 in
     let u = c.row-size.result in
     let uE = c.row-size.ensures in
-    (omega (arith, (call_at p b k n kE refl).deep), ((call_parts p b k n kE refl u uE), call_several p b k n kE refl c.requires.2))
+    (omega (arith, (call_at p b k n kE refl).deep), ((call_parts p b k n kE refl u uE), call_several p b k n kE refl))
 
 pub enter-overflow_add-used : goal.enter-overflow_add-used
 enter-overflow_add-used t c =
     let p = c.requires.0 in
     let n = get_or c.args.file.now (c.args.at + 2) 0 in
-    omega (arith, call_used p c.requires.1 c.from-k.result n c.from-k.ensures refl c.args.frame.now.first c.row-size.result c.row-size.ensures c.eval_all-a.new.to (args_passed t (goal.at.enter-overflow_add-used t c).After-eval_all-a))
+    omega (arith, call_used p c.requires.1 c.from-k.result n c.from-k.ensures refl c.args.frame.now.first c.row-size.result c.row-size.ensures c.eval_all-a.new.to.cells (args_passed t (goal.at.enter-overflow_add-used t c).After-eval_all-a))
 
 pub enter-slice_bounds-step_site-end : goal.enter-slice_bounds-step_site-end
 enter-slice_bounds-step_site-end t c = sym (length-take-le c.row-size.result c.args.old.now (own_fits t (goal.at.enter-slice_bounds-step_site-end t c).After-row-size))
@@ -263,17 +263,17 @@ enter-step_site-end-requires t c =
     let b = c.requires.1 in
     let k = c.from-k.result in
     let n = get_or c.args.file.now (c.args.at + 2) 0 in
-    (omega (arith, call_lower p b k n c.from-k.ensures refl), call_steps p b k n c.from-k.ensures refl c.row-size.result c.row-size.ensures c.eval_all-a.new.new (c.eval_all-a.ensures.1 ∙ c.requires.2))
+    (omega (arith, call_lower p b k n c.from-k.ensures refl), call_steps p b k n c.from-k.ensures refl c.row-size.result c.row-size.ensures c.eval_all-a.new.new)
 
 pub enter-returns : goal.enter-returns
 enter-returns t c =
     let n = get_or c.args.file.now (c.args.at + 2) 0 in
-    (call_done c.requires.0 c.requires.1 c.from-k.result n c.from-k.ensures refl c.args.frame.now.first c.row-size.result c.row-size.ensures c.eval_all-a.new.to c.step_site-end.new.args (args_passed t (goal.at.enter-returns t c).After-eval_all-a) c.in-Values.is c.step_site-end.ensures.0, c.step_site-end.ensures.1 ∙ c.eval_all-a.ensures.1)
+    call_done c.requires.0 c.requires.1 c.from-k.result n c.from-k.ensures refl c.args.frame.now.first c.row-size.result c.row-size.ensures c.eval_all-a.new.to.cells c.step_site-end.new.args.cells (args_passed t (goal.at.enter-returns t c).After-eval_all-a) c.in-Values.is c.step_site-end.ensures
 
 pub enter-returns-in_default : goal.enter-returns-in_default
 enter-returns-in_default t c =
     let n = get_or c.args.file.now (c.args.at + 2) 0 in
-    (call_stop c.requires.0 c.requires.1 c.from-k.result n c.from-k.ensures refl c.args.frame.now.first c.row-size.result c.row-size.ensures c.eval_all-a.new.to (args_passed t (goal.at.enter-returns-in_default t c).After-eval_all-a) c.in_default.not-Values, c.eval_all-a.ensures.1)
+    call_stop c.requires.0 c.requires.1 c.from-k.result n c.from-k.ensures refl c.args.frame.now.first c.row-size.result c.row-size.ensures c.eval_all-a.new.to.cells (args_passed t (goal.at.enter-returns-in_default t c).After-eval_all-a) c.in_default.not-Values
 
 pub equation-bounds-file-at : goal.equation-bounds-file-at
 equation-bounds-file-at t c =
@@ -370,11 +370,11 @@ module _ (t : ℕ) (c : eval_all-After-eval-r t) where
   left_is : c.head-h.result.count - c.loop-i.i - 1 ≡ part_left
   left_is = ap (λ (m : ℕ). m - c.loop-i.i - 1) c.head-h.ensures.parts ∙ left_pass (parts_at c.args.file.now c.args.at) c.loop-i.i
 
-  part_goes : Goes c.args.file.now c.args.tab.now c.args.level c.args.at c.args.frame.now c.args.old.now (suc part_left) c.loop-i.i c.loop-i.pos c.loop-i.used c.loop-i.to c.loop-i.new
-  part_goes = going_left (left_suc (parts_at c.args.file.now c.args.at) c.loop-i.i (subst (λ (m : ℕ). c.loop-i.i < m) c.head-h.ensures.parts c.loop-i-test.true)) c.loop-i.invariant.3
+  part_goes : Goes c.args.file.now c.args.tab.now c.args.level c.args.at c.args.frame.now c.args.old.now (suc part_left) c.loop-i.i c.loop-i.pos c.loop-i.used c.loop-i.to.cells c.loop-i.new
+  part_goes = going_left (left_suc (parts_at c.args.file.now c.args.at) c.loop-i.i (subst (λ (m : ℕ). c.loop-i.i < m) c.head-h.ensures.parts c.loop-i-test.true)) c.loop-i.invariant.2
 
   part_length : length c.eval-r.new.new ≡ length (drop c.loop-i.used c.args.old.now)
-  part_length = going_length part_goes c.eval-r.new.new c.eval-r.auto.new (c.loop-i.invariant.2 ∙ ap length c.requires.0.same)
+  part_length = going_length part_goes c.eval-r.new.new c.eval-r.auto.new (c.loop-i.invariant.1 ∙ ap length c.requires.0.same)
 
   part_evals : on (EvalsTo c.args.file.now (consts_of c.args.tab.now) c.args.level c.loop-i.pos) c.args.frame.now (drop c.loop-i.used c.args.old.now) c.eval-r.result c.eval-r.new.new
   part_evals =
@@ -382,15 +382,15 @@ module _ (t : ℕ) (c : eval_all-After-eval-r t) where
       moved c.args.file.now (consts_of c.args.tab.now) c.args.level fr.node fr.first fr.cells fr.before (refl {a = c.loop-i.pos}) (tail_all c.loop-i.used c.args.old.now) c.eval-r.ensures
 
   -- it has no value: the others are passed over
-  part_stops : {q : Passed} {e : Ending} → ((v : Value) → ¬ (c.eval-r.result.out ≡ Out.Value v)) → e ≡ ending_of (several c.eval-r.result.out) → SkipsTo c.args.file.now c.args.level (c.head-h.result.count - c.loop-i.i - 1) c.eval-r.result.next q → on (AllTo c.args.file.now (consts_of c.args.tab.now) c.args.level c.args.at) c.args.frame.now c.args.old.now (record { end = e; next = q.next; used = c.loop-i.used + c.eval-r.result.used + q.used }) c.loop-i.to (put_tail c.loop-i.used c.loop-i.new c.eval-r.new.new)
+  part_stops : {q : Passed} {e : Ending} → ((v : Value) → ¬ (c.eval-r.result.out ≡ Out.Value v)) → e ≡ ending_of (several c.eval-r.result.out) → SkipsTo c.args.file.now c.args.level (c.head-h.result.count - c.loop-i.i - 1) c.eval-r.result.next q → on (AllTo c.args.file.now (consts_of c.args.tab.now) c.args.level c.args.at) c.args.frame.now c.args.old.now (record { end = e; next = q.next; used = c.loop-i.used + c.eval-r.result.used + q.used }) c.loop-i.to.cells (put_tail c.loop-i.used c.loop-i.new c.eval-r.new.new)
   part_stops {q} none e skip =
-      going_stop part_goes part_evals part_length (passed_all c.args.file.now (callee_at c.args.file.now c.args.at)) (values_of (parts_at c.args.file.now c.args.at) c.loop-i.to) none e
+      going_stop part_goes part_evals part_length (passed_all c.args.file.now (callee_at c.args.file.now c.args.at)) (values_of (parts_at c.args.file.now c.args.at) c.loop-i.to.cells) none e
       (subst (λ (m : ℕ). SkipsTo c.args.file.now c.args.level m c.eval-r.result.next q) left_is skip)
 
 pub eval_all-eval-r-requires : goal.eval_all-eval-r-requires
 eval_all-eval-r-requires t c =
     let n = parts_at c.args.file.now c.args.at in
-    (omega arith, going_ready (going_left (left_suc n c.loop-i.i (subst (λ (m : ℕ). c.loop-i.i < m) c.head-h.ensures.parts c.loop-i-test.true)) c.loop-i.invariant.3))
+    (omega arith, going_ready (going_left (left_suc n c.loop-i.i (subst (λ (m : ℕ). c.loop-i.i < m) c.head-h.ensures.parts c.loop-i-test.true)) c.loop-i.invariant.2))
 
 pub eval_all-overflow_add-used : goal.eval_all-overflow_add-used
 eval_all-overflow_add-used t c =
@@ -408,17 +408,19 @@ eval_all-overflow_add-result t c =
 
 pub eval_all-returns-in_default : goal.eval_all-returns-in_default
 eval_all-returns-in_default t c =
-    (part_stops t (goal.at.eval_all-returns-in_default t c).After-eval-r c.in_default.not-Value c.end_of.ensures c.pass_all-s.ensures, c.loop-i.invariant.1)
+    part_stops t (goal.at.eval_all-returns-in_default t c).After-eval-r c.in_default.not-Value c.end_of.ensures c.pass_all-s.ensures
 
 pub eval_all-loop-i-preserved : goal.eval_all-loop-i-preserved
 eval_all-loop-i-preserved t c =
     let d = (goal.at.eval_all-loop-i-preserved t c).After-eval-r in
     let inv = c.loop-i.invariant in
     let w = c.loop-i.new in
-    let u = c.loop-i.used in
-    (omega (arith, c.loop-i-test.true, c.head-h.ensures.parts), c.write_cell.auto.out ∙ inv.1, length_put u w c.eval-r.new.new (omega (arith, inv.3.within, inv.2 ∙ ap length c.requires.0.same)) c.eval-r.auto.new ∙ inv.2,
-        going_turn (part_goes t d) (part_evals t d) (part_length t d) c.requires.1.passes.called c.in-Value.is
-        (subst (λ (k : Option ℕ). PassedOn (tab_of c.args.tab.now) k c.loop-i.i c.in-Value.v c.passed.result) c.callee_at-callee.ensures c.passed.ensures.0) c.passed.ensures.1 c.write_cell.ensures c.write_cell.auto.out)
+    let u = c.loop-i.used in (
+      omega (arith, c.loop-i-test.true, c.head-h.ensures.parts),
+      length_put u w c.eval-r.new.new (omega (arith, inv.2.within, inv.1 ∙ ap length c.requires.0.same)) c.eval-r.auto.new ∙ inv.1,
+      going_turn (part_goes t d) (part_evals t d) (part_length t d) c.requires.1.passes.called c.in-Value.is
+          (subst (λ (k : Option ℕ). PassedOn (tab_of c.args.tab.now) k c.loop-i.i c.in-Value.v c.passed.result) c.callee_at-callee.ensures c.passed.ensures.0) c.passed.ensures.1 c.write_cell.ensures c.write_cell.auto.out,
+    )
 
 pub eval_all-passed-requires : goal.eval_all-passed-requires
 eval_all-passed-requires t c =
@@ -428,12 +430,12 @@ pub eval_all-loop-i-init : goal.eval_all-loop-i-init
 eval_all-loop-i-init t c =
     let at = c.args.at in
     let n = parts_at c.args.file.now at in
-    (omega arith, refl, refl, subst (λ (m : ℕ). Goes c.args.file.now c.args.tab.now c.args.level at c.args.frame.now c.args.old.now (n - 0) 0 m 0 c.args.to.now c.args.new.now) (sym c.head-h.ensures.next) (going_left (left_none n) (going_start c.args.frame.now.first c.requires.0 c.requires.1.passes)))
+    (omega arith, refl, subst (λ (m : ℕ). Goes c.args.file.now c.args.tab.now c.args.level at c.args.frame.now c.args.old.now (n - 0) 0 m 0 c.args.to.now.cells c.args.new.now) (sym c.head-h.ensures.next) (going_left (left_none n) (going_start c.args.frame.now.first c.requires.0 (omega (arith, c.requires.1.passes.few, c.args.to.now.sized)))))
 
 pub eval_all-returns : goal.eval_all-returns
 eval_all-returns t c =
     let n = parts_at c.args.file.now c.args.at in
-    (going_done (going_left (left_done n c.loop-i.i (omega (arith, c.loop-i-test.false, c.head-h.ensures.parts))) c.loop-i.invariant.3), c.loop-i.invariant.1)
+    going_done (going_left (left_done n c.loop-i.i (omega (arith, c.loop-i-test.false, c.head-h.ensures.parts))) c.loop-i.invariant.2)
 
 pub eval_call-bounds-file-at : goal.eval_call-bounds-file-at
 eval_call-bounds-file-at t c =
@@ -466,8 +468,8 @@ eval_call-returns t c =
     let n = get_or f (a + 2) 0 in
     let k = c.from-k.result in
     let kE = c.from-k.ensures in
-    let C = c.enter-r.new.args in
-    call_single p b k n kE refl fr.first C c.row-outputs.result c.enter-r.ensures.0 c.row-outputs.ensures c.single_out.ensures
+    let C = c.enter-r.new.args.cells in
+    call_single p b k n kE refl fr.first C c.row-outputs.result c.enter-r.ensures c.row-outputs.ensures c.single_out.ensures
 
 pub eval_first-eval-t-requires : goal.eval_first-eval-t-requires
 eval_first-eval-t-requires t c = (omega arith, ready_first c.requires)
@@ -1310,10 +1312,13 @@ run-loop-j-preserved t c =
     let lf = c.loop-j.frame in
     let inv = c.loop-j.invariant in
     let z = turn_bounds t d in
-    let le : b ≤ length c.loop-j.new = omega (arith, z.1, z.2) in
-    (omega (arith, c.loop-j-test.true), keeps_on inv.1 c.equation-e.ensures.1, length_put_mid a b c.loop-j.new c.equation-e.new.new z.0 le (c.equation-e.auto.new ∙ length_mid a b c.loop-j.new z.0 le) ∙ inv.2,
-        turn_goes c.args.frame.now.first c.requires lf.cells (turn_left t d) (turn_place t d) c.equation-e.result c.equation-e.new.frame.cells c.equation-e.new.new c.in-Values.is c.equation-e.auto.new
-        (keeps_done c.args.file.now (consts_of c.args.tab.now) c.order_at-i.result lf.cells (mid_of a b c.args.old.now) c.equation-e.new.frame.cells inv.1 c.equation-e.ensures.0))
+    let le : b ≤ length c.loop-j.new = omega (arith, z.1, z.2) in (
+      omega (arith, c.loop-j-test.true),
+      keeps_on inv.1 c.equation-e.ensures.1,
+      length_put_mid a b c.loop-j.new c.equation-e.new.new z.0 le (c.equation-e.auto.new ∙ length_mid a b c.loop-j.new z.0 le) ∙ inv.2,
+      turn_goes c.args.frame.now.first c.requires lf.cells (turn_left t d) (turn_place t d) c.equation-e.result c.equation-e.new.frame.cells c.equation-e.new.new c.in-Values.is c.equation-e.auto.new
+          (keeps_done c.args.file.now (consts_of c.args.tab.now) c.order_at-i.result lf.cells (mid_of a b c.args.old.now) c.equation-e.new.frame.cells inv.1 c.equation-e.ensures.0),
+    )
 
 pub run-returns : goal.run-returns
 run-returns t c =
@@ -1339,7 +1344,7 @@ step_instance-open-requires t c =
     let i = c.row-inputs.result in
     let iw = c.row-inputs.ensures in
     let room = own_room h n o w in
-    (inputs_first R B n i w iw, narrow R B n w, omega (arith, h.room, inputs_most R B i iw), room)
+    (inputs_first R B n i w iw, narrow R B n w, omega (arith, c.args.args.now.sized, inputs_most R B i iw), room)
 
 pub step_instance-slice_bounds-run-count : goal.step_instance-slice_bounds-run-count
 step_instance-slice_bounds-run-count t c = omega (arith, own_room c.requires.0 c.row-n.result c.requires.1 c.row-n.ensures)
@@ -1385,7 +1390,7 @@ step_instance-copy_outputs-requires t c =
     let B = h.below in
     let i = c.row-inputs.result in
     let iw = c.row-inputs.ensures in
-    (inputs_most R B i iw, outputs_most R B c.row.result c.row.ensures, omega (arith, h.room, outputs_most R B c.row.result c.row.ensures))
+    (inputs_most R B i iw, outputs_most R B c.row.result c.row.ensures, omega (arith, c.args.args.now.sized, outputs_most R B c.row.result c.row.ensures))
 
 pub step_instance-returns-in-Values : goal.step_instance-returns-in-Values
 step_instance-returns-in-Values t c =
@@ -1402,7 +1407,7 @@ step_instance-returns-in-Values t c =
     let x = c.run-r.new.new in
     let e = entered h o w iw op in
     let ran = framed_run c.args.file.now (consts_of tb) fr (tail_of (1 + 9 * n) c.args.old.now) cells op.node c.run-r.ensures in
-    (instance_finished e c.run-r.result cells x c.finish.new.to c.row.result c.copy_outputs.new.args ran c.in-Values.is c.finish.ensures c.row.ensures c.copy_outputs.ensures, c.copy_outputs.auto.args)
+    instance_finished e c.run-r.result cells x c.finish.new.to c.row.result c.copy_outputs.new.args ran c.in-Values.is c.finish.ensures c.row.ensures c.copy_outputs.ensures
 
 pub step_instance-returns-in-Failed : goal.step_instance-returns-in-Failed
 step_instance-returns-in-Failed t c =
@@ -1419,7 +1424,7 @@ step_instance-returns-in-Failed t c =
     let x = c.run-r.new.new in
     let e = entered h o w iw op in
     let ran = framed_run c.args.file.now (consts_of tb) fr (tail_of (1 + 9 * n) c.args.old.now) cells op.node c.run-r.ensures in
-    (instance_failed e c.in-Failed.c c.run-r.result cells x c.write_fresh.new.out c.args.args.now ran c.in-Failed.is c.write_fresh.ensures, refl)
+    instance_failed e c.in-Failed.c c.run-r.result cells x c.write_fresh.new.out c.args.args.now.cells ran c.in-Failed.is c.write_fresh.ensures
 
 pub step_instance-returns-in-Overflowed : goal.step_instance-returns-in-Overflowed
 step_instance-returns-in-Overflowed t c =
@@ -1437,7 +1442,7 @@ step_instance-returns-in-Overflowed t c =
     let kx = c.run-r.auto.new in
     let e = entered h o w iw op in
     let ran = framed_run c.args.file.now (consts_of tb) fr (tail_of (1 + 9 * n) c.args.old.now) cells op.node c.run-r.ensures in
-    (instance_overflowed e c.run-r.result cells x c.copy.new.to c.args.args.now ran c.in-Overflowed.is (all_copied c.args.old.now (put_tail (1 + 9 * n) c.args.new.now x) c.copy.new.to (put_length h n x o w kx ∙ ap length h.same) c.copy.ensures), refl)
+    instance_overflowed e c.run-r.result cells x c.copy.new.to c.args.args.now.cells ran c.in-Overflowed.is (all_copied c.args.old.now (put_tail (1 + 9 * n) c.args.new.now x) c.copy.new.to (put_length h n x o w kx ∙ ap length h.same) c.copy.ensures)
 
 pub step_site-row-requires : goal.step_site-row-requires
 step_site-row-requires t c =
@@ -1463,7 +1468,7 @@ tuple_equation-eval_all-r-requires t c =
     let rhs = c.args.at + 1 + 2 * n in
     let q = right_ready p n 12 ne c.requires.1 in
     let byte = get_or f (rhs + 1) 0 in
-    (omega arith, ((tuple_parts p q), tuple_several p q byte refl refl))
+    (omega arith, ((tuple_parts p q), tuple_several p q byte refl))
 
 pub tuple_equation-bounds-file-rhs : goal.tuple_equation-bounds-file-rhs
 tuple_equation-bounds-file-rhs t c =
@@ -1484,7 +1489,7 @@ tuple_equation-bind-requires t c =
     let count = c.from.result in
     let ce = c.from.ensures in
     let m = names_least p count q c.min-m.ensures in
-    (values_assignable p c.min-m.result (c.eval_all-r.new.to) m.least (omega (arith, c.min-m.ensures, ce, inside.1)) (let k : length (c.eval_all-r.new.to) ≡ 288 = c.eval_all-r.ensures.1 in omega (arith, k, c.min-m.ensures, ce, inside.1)))
+    (values_assignable p c.min-m.result (c.eval_all-r.new.to.cells) m.least (omega (arith, c.min-m.ensures, ce, inside.1)) (omega (arith, c.eval_all-r.new.to.sized, c.min-m.ensures, ce, inside.1)))
 
 pub tuple_equation-returns : goal.tuple_equation-returns
 tuple_equation-returns t c =
@@ -1496,7 +1501,7 @@ tuple_equation-returns t c =
     let q = right_ready p n 12 ne c.requires.1 in
     let count = c.from.result in
     let ce = c.from.ensures in
-    (tuple_done p F count c.min-m.result (c.eval_all-r.new.to) c.bind.new.self.cells q ce ((tuple_all p q count ce F (c.eval_all-r.new.to) c.eval_all-r.ensures.0)) c.in-Values.is c.min-m.ensures c.bind.ensures.0, c.bind.ensures.1)
+    (tuple_done p F count c.min-m.result (c.eval_all-r.new.to.cells) c.bind.new.self.cells q ce ((tuple_all p q count ce F (c.eval_all-r.new.to.cells) c.eval_all-r.ensures)) c.in-Values.is c.min-m.ensures c.bind.ensures.0, c.bind.ensures.1)
 
 pub tuple_equation-returns-in_default : goal.tuple_equation-returns-in_default
 tuple_equation-returns-in_default t c =
@@ -1509,4 +1514,4 @@ tuple_equation-returns-in_default t c =
     let rhs = c.args.at + 1 + 2 * n in
     let q = right_ready p n 12 ne c.requires.1 in
     let byte = get_or f (rhs + 1) 0 in
-    (tuple_stops p F byte (c.eval_all-r.new.to) fr.cells q refl ((tuple_all p q byte refl F (c.eval_all-r.new.to) c.eval_all-r.ensures.0)) c.in_default.not-Values, keeps_all fr)
+    (tuple_stops p F byte (c.eval_all-r.new.to.cells) fr.cells q refl ((tuple_all p q byte refl F (c.eval_all-r.new.to.cells) c.eval_all-r.ensures)) c.in_default.not-Values, keeps_all fr)

@@ -64,7 +64,7 @@ decreases-tuple_equation l = l.frame.now.node * 256 + 248
 -- the parts that are left go on from here as all of them from the start
 abbrev pub invariant-eval_all-loop-i : goal.invariant-eval_all-loop-i
 invariant-eval_all-loop-i l =
-    (l.i ≤ parts_at l.file l.at) × (length l.to ≡ length l.initial.to) × (length l.new ≡ length l.initial.new) × Goes l.file l.tab l.level l.at l.frame l.old (parts_at l.file l.at - l.i) l.i l.pos l.used l.to l.new
+    (l.i ≤ parts_at l.file l.at) × (length l.new ≡ length l.initial.new) × Goes l.file l.tab l.level l.at l.frame l.old (parts_at l.file l.at - l.i) l.i l.pos l.used l.to.cells l.new
 
 abbrev pub decreases-eval_all-loop-i : goal.decreases-eval_all-loop-i
 decreases-eval_all-loop-i l = l.n - l.i

@@ -12,7 +12,7 @@ use Rattle.ol_frame.proofs.copies.passed.Goals as goal
 pub returns-in-Some : goal.returns-in-Some
 returns-in-Some c =
     let fitted : PassedOn (tab_of c.args.tab.now) (Some c.in-Some.k) c.args.i c.args.v c.kept-in-Some.result =
-        λ e. c.kept-in-Some.ensures.0 ∙ c.fit_to.ensures e ∙ (λ j. fit (ty_of (c.code_of-c.ensures j) e) (c.kept.ensures.0 j)) in
+    λ e. c.kept-in-Some.ensures.0 ∙ c.fit_to.ensures e ∙ (λ j. fit (ty_of (c.code_of-c.ensures j) e) (c.kept.ensures.0 j)) in
     (rw c.in-Some.is fitted, kept_back c.kept-in-Some.result c.fit_to.result c.kept-in-Some.ensures.0 c.kept-in-Some.ensures.1)
 
 pub returns-in-None : goal.returns-in-None
