@@ -11,13 +11,14 @@ use native.Mathlib.Omega.{arith}
 use lib.ListN.{length, get_or, set, take, drop, length-set, length-map, drop_of_length-le, get_or-eq_default}
 use lib.Seq.{drop-cons, take-suc, length-take-le, get_or-set_same, get_or-set_other}
 use lib.Dec.{eqb}
-use borrow.Author.Tests.{eqb-true, eqb-false, eq-eqb, ne_eqb}
-use Rattle.ol_spec.specs.Lists.{member}
+use borrow.Author.Tests.{eqb-true, eqb-false, ne_eqb}
+use Rattle.ol_spec.specs.Lists.{any_of, member}
 use Rattle.ol_spec.specs.Syntax.{Equation}
 use Rattle.ol_spec.specs.Order.{later, definer_from, definer}
 use Rattle.ol_spec.specs.Read.{Read, got, fault, many, count_r, name_r, equation_r}
 use Rattle.std.specs.Prelude as Std
 use Rattle.std.specs.Prelude.{MatchResult}
+use Rattle.std.specs.List.{list_any}
 use Rattle.ol_ir.specs.declared.Counted.{Counted}
 use Rattle.ol_spec.specs.declared.Fault.{Fault}
 use Rattle.ol_spec.specs.declared.Limits.{Limits}
@@ -101,28 +102,31 @@ names_told s (suc k) at xs n e =
     ap (λ r. name_at s at ∷ on_places r (names_at k s)) t.first
     ∙ (ap (λ x. x ∷ names_at k s t.at) (name_told s at t.value t.at t.first) ∙ (ap (λ l. t.value ∷ l) (names_told s k t.at u.value u.at u.first) ∙ same_item u.rest))
 
--- w is the table in which the entries of the names from the j-th on, of `count`, get i; the j-th stands at `at`
-module _ (s : List ℕ) (table w : Table) (i count j at : ℕ) (e : put (map key_of (names_at (count - j) s at)) i table ≡ w) where
-  pub puts_end : count ≤ j → table ≡ w
-  unfolding put names_at
-  puts_end h = let z : count - j ≡ 0 = omega arith in sym (ap (λ n. put (map key_of (names_at n s at)) i table) z) ∙ e
+-- so many names from a place on are the name there and those behind it
+module _ (s : List ℕ) (at left : ℕ) {count x : ℕ} (u : count ≡ left + 1) (c : x ≡ name_at s at) {y : Next} (g : y ≡ next_of (name_r s at)) where
+  name_first : names_at count s at ≡ x ∷ on_places (name_r s at) (names_at left s)
+  unfolding names_at
+  name_first =
+      let z : count ≡ suc left = omega (arith, u) in
+      ap (λ n. names_at n s at) z ∙ ap (λ v. v ∷ on_places (name_r s at) (names_at left s)) (sym c)
 
-  module _ (u : j < count) {x : ℕ} {t : Table} (c : x ≡ name_at s at) (k : t ≡ set table (key_of x) (Std.Some i)) where
-    name_put : put (map key_of (on_places (name_r s at) (names_at (count - (j + 1)) s))) i t ≡ w
-    unfolding put names_at
-    name_put =
-        let z : count - j ≡ suc (count - (j + 1)) = omega arith in
-        ap (put (map key_of (on_places (name_r s at) (names_at (count - (j + 1)) s))) i) (k ∙ ap (λ v. set table (key_of v) (Std.Some i)) c)
-        ∙ (sym (ap (λ n. put (map key_of (names_at n s at)) i table) z) ∙ e)
+  pub names_on : {q : ℕ} → y ≡ Std.Ok q → names_at count s at ≡ x ∷ names_at left s q
+  unfolding on_places
+  names_on {q} h = name_first ∙ ap (λ r. x ∷ on_places r (names_at left s)) (from_next (name_r s at) q (sym g ∙ h)).1
 
-    module _ {y : Next} (g : y ≡ next_of (name_r s at)) where
-      pub puts_turn : {q : ℕ} → y ≡ Std.Ok q → put (map key_of (names_at (count - (j + 1)) s q)) i t ≡ w
-      unfolding on_places
-      puts_turn {q} h = let a = from_next (name_r s at) q (sym g ∙ h) in sym (ap (λ r. put (map key_of (on_places r (names_at (count - (j + 1)) s))) i t) a.1) ∙ name_put
+  pub names_cut : {f : Fault} → y ≡ Std.Err f → names_at count s at ≡ x ∷ []
+  unfolding on_places
+  names_cut {f} h = name_first ∙ ap (λ r. x ∷ on_places r (names_at left s)) (from_halt (name_r s at) f (sym g ∙ h))
 
-      pub puts_not : {f : Fault} → y ≡ Std.Err f → t ≡ w
-      unfolding on_places put
-      puts_not {f} h = sym (ap (λ r. put (map key_of (on_places r (names_at (count - (j + 1)) s))) i t) (from_halt (name_r s at) f (sym g ∙ h))) ∙ name_put
+-- w is the table in which the entries of these names get i
+module _ (i : ℕ) (xs : List ℕ) (table : Table) {w : Table} (e : put (map key_of xs) i table ≡ w) where
+  pub puts_end : xs ≡ [] → table ≡ w
+  unfolding put
+  puts_end h = sym (ap (λ l. put (map key_of l) i table) h) ∙ e
+
+  pub puts_turn : {x : ℕ} {rest : List ℕ} {t : Table} → xs ≡ x ∷ rest → t ≡ set table (key_of x) (Std.Some i) → put (map key_of rest) i t ≡ w
+  unfolding put
+  puts_turn {x} {rest} {t} h k = ap (put (map key_of rest) i) k ∙ (sym (ap (λ l. put (map key_of l) i table) h) ∙ e)
 
 -- ---- the equations, one after the other
 
@@ -164,32 +168,10 @@ module _ (s : List ℕ) (l : Limits) (enums : ℕ) where
 
 -- ---- a name among those of an equation
 
-module _ (s : List ℕ) (x count j at : ℕ) (w : Bool) (e : member x (names_at (count - j) s at) ≡ w) where
-  pub among_end : count ≤ j → false ≡ w
-  unfolding names_at
-  among_end h = let z : count - j ≡ 0 = omega arith in sym (ap (λ n. member x (names_at n s at)) z) ∙ e
-
-  module _ (u : j < count) {y : ℕ} (c : y ≡ name_at s at) where
-    first_name : (eqb x y || member x (on_places (name_r s at) (names_at (count - (j + 1)) s))) ≡ w
-    unfolding names_at
-    first_name =
-        let z : count - j ≡ suc (count - (j + 1)) = omega arith in
-        ap (λ v. eqb x v || member x (on_places (name_r s at) (names_at (count - (j + 1)) s))) c ∙ (sym (ap (λ n. member x (names_at n s at)) z) ∙ e)
-
-    pub among_here : x ≡ y → true ≡ w
-    among_here h = sym (ap (λ b. b || member x (on_places (name_r s at) (names_at (count - (j + 1)) s))) (eq-eqb x y h)) ∙ first_name
-
-    module _ (n : x ≡ y → ⊥) {z : Next} (g : z ≡ next_of (name_r s at)) where
-      next_names : member x (on_places (name_r s at) (names_at (count - (j + 1)) s)) ≡ w
-      next_names = sym (ap (λ b. b || member x (on_places (name_r s at) (names_at (count - (j + 1)) s))) (ne_eqb x y n)) ∙ first_name
-
-      pub among_turn : {q : ℕ} → z ≡ Std.Ok q → member x (names_at (count - (j + 1)) s q) ≡ w
-      unfolding on_places
-      among_turn {q} h = let a = from_next (name_r s at) q (sym g ∙ h) in sym (ap (λ r. member x (on_places r (names_at (count - (j + 1)) s))) a.1) ∙ next_names
-
-      pub among_not : {f : Fault} → z ≡ Std.Err f → false ≡ w
-      unfolding on_places
-      among_not {f} h = sym (ap (λ r. member x (on_places r (names_at (count - (j + 1)) s))) (from_halt (name_r s at) f (sym g ∙ h))) ∙ next_names
+-- the definitions' test of a list is the library's
+pub any_is : (p : ℕ → Bool) (xs : List ℕ) → list_any p xs ≡ any_of p xs
+any_is p [] = refl
+any_is p (x ∷ xs) = ap (λ b. p x || b) (any_is p xs)
 
 -- whether the count stands and one of so many names is it
 pub defines_told : (s : List ℕ) (most at x : ℕ) {c : Counting} {b : Bool} (P : Counted → Type 0) → c ≡ counted_of (count_r s 1 most at) → MatchResult c P (λ f. b ≡ false) → ((n p : ℕ) → P (counted_at n p) → b ≡ member x (names_at n s p)) → b ≡ defined_at s most at x

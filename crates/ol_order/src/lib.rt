@@ -1,6 +1,7 @@
 // The order of a node's equations: document 01, "The order".
 #![tactic(auto)]
 
+mod names; // names.rt: an equation's names
 mod equations; // equations.rt: equations by their places
 mod lookup; // lookup.rt: the equation that defines a name
 pub mod table; // table.rt: the orders of all nodes of a file
@@ -14,15 +15,17 @@ ghost use Rattle.ol_spec.specs.Limits.{relay_loader};
 ghost use Rattle.ol_spec.specs.Order.{pass, order as in_order};
 ghost use Rattle.ol_spec.specs.Answers.{sorted_fault};
 ghost use Rattle.ol_spec.specs.Cycle.{order_node, ordering};
-ghost use Rattle.ol_order.specs.Tables.{node_at, key_of, keyed, put, put_all, names_at, put_starts, order_of};
+ghost use Rattle.ol_order.specs.Tables.{node_at, key_of, keyed, put, put_all, put_starts, order_of};
+ghost use Rattle.ol_order.specs.Names.{names_of};
 ghost use Rattle.ol_order.specs.Post.{NodeReads, Blank, Waits, Listed, Waiting, State, Sorts};
 ghost use Rattle.ol_order.specs.Equations.{those, all_waited};
 
 use crate::equations::Equations;
 use crate::lookup::Lookup;
+use crate::names::Names;
 use ol_ir::node::equation_starts;
 use ol_ir::project::{base, load_file};
-use ol_ir::read::{bytes, count, name};
+use ol_ir::read::count;
 use ol_spec::{Fault, Limits};
 use ol_tables::bytes::put;
 
@@ -34,18 +37,12 @@ pub(crate) fn no_definers() -> [Option<u8>; 1024]
     [None; 1024]
 }
 
-// Each of so many names gets the equation's index, at its remainder by 1,024, up to one that the
-// file's end cuts off.
-fn define(file: &[u8], count: usize, at: usize, index: u8, definers: &mut [Option<u8>])
-    ensures { definers.new ≡ put (map key_of (names_at count file.now at)) index definers.old }
+// Each of these names gets the equation's index, at its remainder by 1,024.
+fn define(names: Names, index: u8, definers: &mut [Option<u8>])
+    ensures { definers.new ≡ put (map key_of (names_of names.entry)) index definers.old }
 {
-    let mut next = at;
-    for _i in 0..count {
-        put(definers, name(file, next) % 1024, Some(index));
-        match bytes(file, 2, next) {
-            Ok(p) => next = p,
-            Err(_) => return,
-        }
+    for x in names {
+        put(definers, x % 1024, Some(index));
     }
 }
 
@@ -57,7 +54,7 @@ fn define_all(file: &[u8], most: usize, starts: &[usize], definers: &mut [Option
 {
     for (i, at) in starts.iter().enumerate() {
         match count(file, 1, most, *at) {
-            Ok(names) => define(file, names.count, names.at, i as u8, definers),
+            Ok(left) => define(Names { file, left }, i as u8, definers),
             Err(_) => return,
         }
     }
