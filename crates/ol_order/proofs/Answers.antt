@@ -14,8 +14,7 @@ use Rattle.ol_spec.specs.Cycle.{OrderingCall, no_order}
 use Rattle.ol_spec.specs.Answers.{Sorted, fault_at}
 use Rattle.ol_spec.specs.declared.Fault.{Fault}
 use Rattle.ol_order.specs.Tables.{waiting, as_option, as_error, order_of}
-use Rattle.ol_order.specs.Post.{Blank, State, Sorts}
-use Rattle.ol_order.specs.Orders.{LowNames}
+use Rattle.ol_order.specs.Post.{State, Sorts}
 use Rattle.ol_order.proofs.Passing.{length_list, unplaced_some, unplaced_none, all_placed}
 use mathlib.Core.Logic.{by_cases}
 use native.Mathlib.Decide.{dec_le}
@@ -26,9 +25,12 @@ use Rattle.ol_order.proofs.Scanning.{found_some, found_none}
 
 -- ---- the tables at the start
 
--- a table in which no name has a definer
-pub blank_made : (qs : List Equation) (low : Bool) {t : List ℕ} → 1024 ≡ length t → ((x : ℕ) → get_or t x 255 ≡ 255) → (low ≡ true → LowNames qs) → Blank qs low t
-blank_made qs low h f l = record { is = f; long = h; lows = l }
+-- so many of one entry have it everywhere
+pub same_each : {A : Type 0} {a : A} (n i : ℕ) → get_or (replicate n a) i a ≡ a
+same_each zero zero = refl
+same_each zero (suc i) = refl
+same_each (suc n) zero = refl
+same_each (suc n) (suc i) = same_each n i
 
 -- the flags where none is placed
 abbrev unplaced_flags : ℕ → List Bool
@@ -38,12 +40,6 @@ take_flags : (n m : ℕ) → n ≤ m → take n (unplaced_flags m) ≡ unplaced_
 take_flags zero m h = refl
 take_flags (suc n) zero h = absurd (omega arith)
 take_flags (suc n) (suc m) h = ap (λ (l : List Bool). false ∷ l) (take_flags n m (omega arith))
-
-each_unplaced : (n j : ℕ) → get_or (unplaced_flags n) j false ≡ false
-each_unplaced zero zero = refl
-each_unplaced zero (suc j) = refl
-each_unplaced (suc n) zero = refl
-each_unplaced (suc n) (suc j) = each_unplaced n j
 
 all_waiting : (n : ℕ) → waiting (unplaced_flags n) ≡ n
 unfolding waiting
@@ -55,7 +51,7 @@ state_start qs n order e h r =
     let z = take_flags n 80 h in
     record {
       front = refl;
-      flags = λ j i. ap (λ (l : List Bool). get_or l j false) z ∙ each_unplaced n j;
+      flags = λ j i. ap (λ (l : List Bool). get_or l j false) z ∙ same_each n j;
       flagged = ap length z ∙ (length-replicate n false ∙ sym e);
       room = r;
       left = omega (arith, ap waiting z, all_waiting n);

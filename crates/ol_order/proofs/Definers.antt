@@ -8,96 +8,84 @@ use mathlib.Core.Option.{Option, none, some}
 use mathlib.Core.Path.{◌≡◌, refl, sym, ap, subst, ◌∙◌}
 use native.Mathlib.Numerals.{add-one}
 use native.Mathlib.Omega.{arith}
-use lib.ListN.{length, get_or, set, take, drop, replicate, length-set, length-map, drop_of_length-le, get_or-eq_default}
+use lib.ListN.{length, get_or, set, take, drop, length-set, length-map, drop_of_length-le, get_or-eq_default}
 use lib.Seq.{drop-cons, take-suc, length-take-le, get_or-set_same, get_or-set_other}
 use lib.Dec.{eqb}
-use borrow.Author.Tests.{eqb-true, eqb-false, eq-eqb, ne_eqb, ltb-true, ltb-false, lt-ltb}
-use Rattle.ol_spec.specs.Lists.{member}
+use borrow.Author.Tests.{eqb-true, eqb-false, ne_eqb}
+use Rattle.ol_spec.specs.Lists.{any_of, member}
 use Rattle.ol_spec.specs.Syntax.{Equation}
 use Rattle.ol_spec.specs.Order.{later, definer_from, definer}
 use Rattle.ol_spec.specs.Read.{Read, got, fault, many, count_r, name_r, equation_r}
 use Rattle.std.specs.Prelude as Std
-use Rattle.std.specs.Prelude.{nat_lt, MatchResult}
+use Rattle.std.specs.Prelude.{MatchResult}
+use Rattle.std.specs.List.{list_any}
 use Rattle.ol_ir.specs.declared.Counted.{Counted}
 use Rattle.ol_spec.specs.declared.Fault.{Fault}
 use Rattle.ol_spec.specs.declared.Limits.{Limits}
 use Rattle.ol_spec.proofs.Ordering.{later_cases, definer_inside}
 use Rattle.ol_spec.proofs.Offsets.{steps, same_item}
-use Rattle.ol_order.specs.Tables.{key_of, keyed, put, put_all, names_at, on_count, put_starts, on_defined, defined_at, definer_code, entry_of, as_option, no_equation, equation_at, equations_at}
+use Rattle.ol_order.specs.Tables.{Table, key_of, keyed, put, put_all, names_at, on_count, put_starts, on_defined, defined_at, as_option, no_equation, equation_at, equations_at}
 use Rattle.ol_order.specs.Post.{Readable, Blank, Definers}
 use Rattle.ol_order.proofs.Turns.{equation_here, each_read}
+use Rattle.ol_order.proofs.Scanning.{found_some, found_none}
 use Rattle.ol_tables.specs.Heads.{name_at}
 use Rattle.ol_ir.specs.Nexts.{Next, Counting, counted_at, next_of, counted_of}
 use Rattle.ol_ir.specs.Walks.{on_places}
 use Rattle.ol_ir.proofs.Items.{from_next, from_halt, from_items, from_no_items, section_at, equation_at_lem}
 use Rattle.ol_ir.proofs.Scans.{name_told}
 
--- an entry of the table is the same with any default
-pub in_range_lem : (t : List ℕ) (x : ℕ) → x < length t → get_or t x 0 ≡ get_or t x 255
-in_range_lem [] zero h = absurd (omega arith)
-in_range_lem [] (suc x) h = absurd (omega arith)
-in_range_lem (y ∷ t) zero h = refl
-in_range_lem (y ∷ t) (suc x) h = in_range_lem t x (omega arith)
-
 -- ---- one equation's names
 
-pub length_put : (xs : List ℕ) (i : ℕ) (t : List ℕ) → length (put xs i t) ≡ length t
+length_put : (xs : List ℕ) (i : ℕ) (t : Table) → length (put xs i t) ≡ length t
 unfolding put
 length_put [] i t = refl
-length_put (x ∷ xs) i t = length_put xs i (set t x i) ∙ length-set t x i
+length_put (x ∷ xs) i t = length_put xs i (set t x (Std.Some i)) ∙ length-set t x (Std.Some i)
 
 cond_same : {A : Type 0} (b : Bool) (a : A) → cond b a a ≡ a
 cond_same true a = refl
 cond_same false a = refl
 
-put_get : (xs : List ℕ) (i : ℕ) (t : List ℕ) (x : ℕ) → x < length t → get_or (put xs i t) x 255 ≡ cond (member x xs) i (get_or t x 255)
+put_get : (xs : List ℕ) (i : ℕ) (t : Table) (x : ℕ) → x < length t → get_or (put xs i t) x Std.None ≡ cond (member x xs) (Std.Some i) (get_or t x Std.None)
 unfolding put
 put_get [] i t x h = refl
 put_get (y ∷ xs) i t x h =
-    put_get xs i (set t y i) x (omega (arith, length-set t y i)) ∙ go (eqb x y) refl
+    put_get xs i (set t y (Std.Some i)) x (omega (arith, length-set t y (Std.Some i))) ∙ go (eqb x y) refl
   where
-    go : (b : Bool) → eqb x y ≡ b → cond (member x xs) i (get_or (set t y i) x 255) ≡ cond (b || member x xs) i (get_or t x 255)
+    go : (b : Bool) → eqb x y ≡ b → cond (member x xs) (Std.Some i) (get_or (set t y (Std.Some i)) x Std.None) ≡ cond (b || member x xs) (Std.Some i) (get_or t x Std.None)
     go true e =
         let p : y ≡ x = sym (eqb-true x y e) in
-        ap (cond (member x xs) i) (subst (λ z. get_or (set t z i) x 255 ≡ i) (sym p) (get_or-set_same t x i 255 h)) ∙ cond_same (member x xs) i
-    go false e = ap (cond (member x xs) i) (get_or-set_other t y x i 255 (eqb-false x y e))
+        ap (cond (member x xs) (Std.Some i)) (subst (λ z. get_or (set t z (Std.Some i)) x Std.None ≡ Std.Some i) (sym p) (get_or-set_same t x (Std.Some i) Std.None h)) ∙ cond_same (member x xs) (Std.Some i)
+    go false e = ap (cond (member x xs) (Std.Some i)) (get_or-set_other t y x (Std.Some i) Std.None (eqb-false x y e))
 
 -- ---- all equations
 
-or_code : Option ℕ → ℕ → ℕ
-or_code none v = v
-or_code (some j) v = j
+or_entry : Option ℕ → Std.Option ℕ → Std.Option ℕ
+or_entry none v = v
+or_entry (some j) v = Std.Some j
 
-later_code : (o : Option ℕ) (b : Bool) (i v : ℕ) → or_code o (cond b i v) ≡ or_code (later o b i) v
-unfolding or_code
-later_code (some j) b i v = refl
-later_code none true i v = refl
-later_code none false i v = refl
+later_entry : (o : Option ℕ) (b : Bool) (i : ℕ) (v : Std.Option ℕ) → or_entry o (cond b (Std.Some i) v) ≡ or_entry (later o b i) v
+unfolding or_entry
+later_entry (some j) b i v = refl
+later_entry none true i v = refl
+later_entry none false i v = refl
 
-put_all_get : (i : ℕ) (qs : List Equation) (t : List ℕ) (x : ℕ) → x < length t → get_or (put_all i qs t) x 255 ≡ or_code (definer_from i qs x) (get_or t x 255)
-unfolding put_all definer_from or_code
+put_all_get : (i : ℕ) (qs : List Equation) (t : Table) (x : ℕ) → x < length t → get_or (put_all i qs t) x Std.None ≡ or_entry (definer_from i qs x) (get_or t x Std.None)
+unfolding put_all definer_from or_entry
 put_all_get i [] t x h = refl
 put_all_get i (q ∷ qs) t x h =
     put_all_get (suc i) qs (put q.names i t) x (omega (arith, length_put q.names i t))
-    ∙ (ap (or_code (definer_from (suc i) qs x)) (put_get q.names i t x h) ∙ later_code (definer_from (suc i) qs x) (member x q.names) i (get_or t x 255))
+    ∙ (ap (or_entry (definer_from (suc i) qs x)) (put_get q.names i t x h) ∙ later_entry (definer_from (suc i) qs x) (member x q.names) i (get_or t x Std.None))
 
-code_or : (o : Option ℕ) → or_code o 255 ≡ definer_code o
-unfolding or_code
-code_or none = refl
-code_or (some j) = refl
-
--- a table in which no name has a definer
-pub no_entry : (n x : ℕ) → get_or {A = ℕ} (replicate n 255) x 255 ≡ 255
-no_entry zero zero = refl
-no_entry zero (suc x) = refl
-no_entry (suc n) zero = refl
-no_entry (suc n) (suc x) = no_entry n x
+or_none_entry : (o : Option ℕ) → or_entry o Std.None ≡ as_option o
+unfolding or_entry
+or_none_entry none = refl
+or_none_entry (some j) = refl
 
 -- the whole table, from one in which no name has a definer
-pub definers_is : (qs : List Equation) (t : List ℕ) (x : ℕ) → x < length t → get_or t x 255 ≡ 255 → get_or (put_all 0 qs t) x 255 ≡ definer_code (definer qs x)
-definers_is qs t x h e = put_all_get 0 qs t x h ∙ (ap (or_code (definer_from 0 qs x)) e ∙ code_or (definer_from 0 qs x))
+definers_is : (qs : List Equation) (t : Table) (x : ℕ) → x < length t → get_or t x Std.None ≡ Std.None → get_or (put_all 0 qs t) x Std.None ≡ as_option (definer qs x)
+definers_is qs t x h e = put_all_get 0 qs t x h ∙ (ap (or_entry (definer_from 0 qs x)) e ∙ or_none_entry (definer_from 0 qs x))
 
-pub length_put_all : (i : ℕ) (qs : List Equation) (t : List ℕ) → length (put_all i qs t) ≡ length t
+length_put_all : (i : ℕ) (qs : List Equation) (t : Table) → length (put_all i qs t) ≡ length t
 unfolding put_all
 length_put_all i [] t = refl
 length_put_all i (q ∷ qs) t = length_put_all (suc i) qs (put q.names i t) ∙ length_put q.names i t
@@ -114,33 +102,36 @@ names_told s (suc k) at xs n e =
     ap (λ r. name_at s at ∷ on_places r (names_at k s)) t.first
     ∙ (ap (λ x. x ∷ names_at k s t.at) (name_told s at t.value t.at t.first) ∙ (ap (λ l. t.value ∷ l) (names_told s k t.at u.value u.at u.first) ∙ same_item u.rest))
 
--- w is the table in which the entries of the names from the j-th on, of `count`, get i; the j-th stands at `at`
-module _ (s table w : List ℕ) (i count j at : ℕ) (e : put (map key_of (names_at (count - j) s at)) i table ≡ w) where
-  pub puts_end : count ≤ j → table ≡ w
-  unfolding put names_at
-  puts_end h = let z : count - j ≡ 0 = omega arith in sym (ap (λ n. put (map key_of (names_at n s at)) i table) z) ∙ e
+-- so many names from a place on are the name there and those behind it
+module _ (s : List ℕ) (at left : ℕ) {count x : ℕ} (u : count ≡ left + 1) (c : x ≡ name_at s at) {y : Next} (g : y ≡ next_of (name_r s at)) where
+  name_first : names_at count s at ≡ x ∷ on_places (name_r s at) (names_at left s)
+  unfolding names_at
+  name_first =
+      let z : count ≡ suc left = omega (arith, u) in
+      ap (λ n. names_at n s at) z ∙ ap (λ v. v ∷ on_places (name_r s at) (names_at left s)) (sym c)
 
-  module _ (u : j < count) {x : ℕ} {t : List ℕ} (c : x ≡ name_at s at) (k : t ≡ set table (key_of x) i) where
-    name_put : put (map key_of (on_places (name_r s at) (names_at (count - (j + 1)) s))) i t ≡ w
-    unfolding put names_at
-    name_put =
-        let z : count - j ≡ suc (count - (j + 1)) = omega arith in
-        ap (put (map key_of (on_places (name_r s at) (names_at (count - (j + 1)) s))) i) (k ∙ ap (λ v. set table (key_of v) i) c)
-        ∙ (sym (ap (λ n. put (map key_of (names_at n s at)) i table) z) ∙ e)
+  pub names_on : {q : ℕ} → y ≡ Std.Ok q → names_at count s at ≡ x ∷ names_at left s q
+  unfolding on_places
+  names_on {q} h = name_first ∙ ap (λ r. x ∷ on_places r (names_at left s)) (from_next (name_r s at) q (sym g ∙ h)).1
 
-    module _ {y : Next} (g : y ≡ next_of (name_r s at)) where
-      pub puts_turn : {q : ℕ} → y ≡ Std.Ok q → put (map key_of (names_at (count - (j + 1)) s q)) i t ≡ w
-      unfolding on_places
-      puts_turn {q} h = let a = from_next (name_r s at) q (sym g ∙ h) in sym (ap (λ r. put (map key_of (on_places r (names_at (count - (j + 1)) s))) i t) a.1) ∙ name_put
+  pub names_cut : {f : Fault} → y ≡ Std.Err f → names_at count s at ≡ x ∷ []
+  unfolding on_places
+  names_cut {f} h = name_first ∙ ap (λ r. x ∷ on_places r (names_at left s)) (from_halt (name_r s at) f (sym g ∙ h))
 
-      pub puts_not : {f : Fault} → y ≡ Std.Err f → t ≡ w
-      unfolding on_places put
-      puts_not {f} h = sym (ap (λ r. put (map key_of (on_places r (names_at (count - (j + 1)) s))) i t) (from_halt (name_r s at) f (sym g ∙ h))) ∙ name_put
+-- w is the table in which the entries of these names get i
+module _ (i : ℕ) (xs : List ℕ) (table : Table) {w : Table} (e : put (map key_of xs) i table ≡ w) where
+  pub puts_end : xs ≡ [] → table ≡ w
+  unfolding put
+  puts_end h = sym (ap (λ l. put (map key_of l) i table) h) ∙ e
+
+  pub puts_turn : {x : ℕ} {rest : List ℕ} {t : Table} → xs ≡ x ∷ rest → t ≡ set table (key_of x) (Std.Some i) → put (map key_of rest) i t ≡ w
+  unfolding put
+  puts_turn {x} {rest} {t} h k = ap (put (map key_of rest) i) k ∙ (sym (ap (λ l. put (map key_of l) i table) h) ∙ e)
 
 -- ---- the equations, one after the other
 
 -- w is the table in which the names of the equations from i on get their indices
-module _ (s starts table w : List ℕ) (most i : ℕ) (e : put_starts s most i (drop i starts) table ≡ w) where
+module _ (s starts : List ℕ) (table w : Table) (most i : ℕ) (e : put_starts s most i (drop i starts) table ≡ w) where
   pub all_end : length starts ≤ i → table ≡ w
   unfolding put_starts
   all_end h = sym (ap (λ k. put_starts s most i k table) (drop_of_length-le starts {i = i} h)) ∙ e
@@ -150,7 +141,7 @@ module _ (s starts table w : List ℕ) (most i : ℕ) (e : put_starts s most i (
     unfolding put_starts
     next_start = sym (ap (λ k. put_starts s most i k table) (drop-cons starts i 0 u)) ∙ e
 
-    pub all_turn : {n p : ℕ} {t : List ℕ} → x ≡ Std.Ok (counted_at n p) → t ≡ put (map key_of (names_at n s p)) i table → put_starts s most (i + 1) (drop (i + 1) starts) t ≡ w
+    pub all_turn : {n p : ℕ} {t : Table} → x ≡ Std.Ok (counted_at n p) → t ≡ put (map key_of (names_at n s p)) i table → put_starts s most (i + 1) (drop (i + 1) starts) t ≡ w
     all_turn {n} {p} {t} h k =
         rw add-one
         (ap (put_starts s most (suc i) (drop (suc i) starts)) k
@@ -161,7 +152,7 @@ module _ (s starts table w : List ℕ) (most i : ℕ) (e : put_starts s most i (
 
 -- of equations that were read the names are theirs
 module _ (s : List ℕ) (l : Limits) (enums : ℕ) where
-  starts_put : (i : ℕ) (starts table : List ℕ) → ((k : ℕ) → k < length starts → (n : ℕ) × (equation_r s l enums (get_or starts k 0) ≡ got (equation_at s l enums (get_or starts k 0)) n)) → put_starts s l.names i starts table ≡ put_all i (map keyed (equations_at s l enums starts)) table
+  starts_put : (i : ℕ) (starts : List ℕ) (table : Table) → ((k : ℕ) → k < length starts → (n : ℕ) × (equation_r s l enums (get_or starts k 0) ≡ got (equation_at s l enums (get_or starts k 0)) n)) → put_starts s l.names i starts table ≡ put_all i (map keyed (equations_at s l enums starts)) table
   unfolding put_starts put_all
   starts_put i [] table h = refl
   starts_put i (a ∷ starts) table h =
@@ -172,37 +163,15 @@ module _ (s : List ℕ) (l : Limits) (enums : ℕ) where
       ∙ (ap (λ xs. put_starts s l.names (suc i) starts (put (map key_of xs) i table)) (names_told s (length q.names) (a + 1) q.names _ c.items)
       ∙ starts_put (suc i) starts (put (map key_of q.names) i table) (λ k g. h (suc k) (omega arith)))
 
-  pub starts_defined : (starts table : List ℕ) → Readable s l enums starts → put_starts s l.names 0 starts table ≡ put_all 0 (map keyed (equations_at s l enums starts)) table
+  pub starts_defined : (starts : List ℕ) (table : Table) → Readable s l enums starts → put_starts s l.names 0 starts table ≡ put_all 0 (map keyed (equations_at s l enums starts)) table
   starts_defined starts table rd = starts_put 0 starts table (each_read s l enums rd)
 
 -- ---- a name among those of an equation
 
-module _ (s : List ℕ) (x count j at : ℕ) (w : Bool) (e : member x (names_at (count - j) s at) ≡ w) where
-  pub among_end : count ≤ j → false ≡ w
-  unfolding names_at
-  among_end h = let z : count - j ≡ 0 = omega arith in sym (ap (λ n. member x (names_at n s at)) z) ∙ e
-
-  module _ (u : j < count) {y : ℕ} (c : y ≡ name_at s at) where
-    first_name : (eqb x y || member x (on_places (name_r s at) (names_at (count - (j + 1)) s))) ≡ w
-    unfolding names_at
-    first_name =
-        let z : count - j ≡ suc (count - (j + 1)) = omega arith in
-        ap (λ v. eqb x v || member x (on_places (name_r s at) (names_at (count - (j + 1)) s))) c ∙ (sym (ap (λ n. member x (names_at n s at)) z) ∙ e)
-
-    pub among_here : x ≡ y → true ≡ w
-    among_here h = sym (ap (λ b. b || member x (on_places (name_r s at) (names_at (count - (j + 1)) s))) (eq-eqb x y h)) ∙ first_name
-
-    module _ (n : x ≡ y → ⊥) {z : Next} (g : z ≡ next_of (name_r s at)) where
-      next_names : member x (on_places (name_r s at) (names_at (count - (j + 1)) s)) ≡ w
-      next_names = sym (ap (λ b. b || member x (on_places (name_r s at) (names_at (count - (j + 1)) s))) (ne_eqb x y n)) ∙ first_name
-
-      pub among_turn : {q : ℕ} → z ≡ Std.Ok q → member x (names_at (count - (j + 1)) s q) ≡ w
-      unfolding on_places
-      among_turn {q} h = let a = from_next (name_r s at) q (sym g ∙ h) in sym (ap (λ r. member x (on_places r (names_at (count - (j + 1)) s))) a.1) ∙ next_names
-
-      pub among_not : {f : Fault} → z ≡ Std.Err f → false ≡ w
-      unfolding on_places
-      among_not {f} h = sym (ap (λ r. member x (on_places r (names_at (count - (j + 1)) s))) (from_halt (name_r s at) f (sym g ∙ h))) ∙ next_names
+-- the definitions' test of a list is the library's
+pub any_is : (p : ℕ → Bool) (xs : List ℕ) → list_any p xs ≡ any_of p xs
+any_is p [] = refl
+any_is p (x ∷ xs) = ap (λ b. p x || b) (any_is p xs)
 
 -- whether the count stands and one of so many names is it
 pub defines_told : (s : List ℕ) (most at x : ℕ) {c : Counting} {b : Bool} (P : Counted → Type 0) → c ≡ counted_of (count_r s 1 most at) → MatchResult c P (λ f. b ≡ false) → ((n p : ℕ) → P (counted_at n p) → b ≡ member x (names_at n s p)) → b ≡ defined_at s most at x
@@ -326,57 +295,22 @@ low_keyed i (q ∷ qs) x h =
 
 -- ---- what the table says of a name
 
-same_some : {a b : ℕ} → Std.Some a ≡ Std.Some b → a ≡ b
-same_some e = cc
+module _ {qs : List Equation} {low : Bool} {table : Table} (df : Definers qs low table) (x : ℕ) where
+  pub entry_some : {d : ℕ} → Std.Some d ≡ get_or table (key_of x) Std.None → (d < length qs) × (definer (take (d + 1) qs) x ≡ definer qs x)
+  entry_some {d} h =
+      let e = found_some (definer (map keyed qs) (key_of x)) (h ∙ df.is x) in
+      let z : suc d - 0 ≡ d + 1 = omega arith in
+      (omega (arith, (definer_inside 0 (map keyed qs) (key_of x) d e).1, length-map qs keyed), sym (keyed_some 0 qs x d e ∙ ap (λ k. definer (take k qs) x) z))
 
--- an entry below 255 is an equation
-entry_below : {d e : ℕ} → Std.Some d ≡ entry_of e → (d ≡ e) × (e < 255)
-entry_below {d} {e} h = go (nat_lt e 255) refl
-  where
-    go : (b : Bool) → nat_lt e 255 ≡ b → (d ≡ e) × (e < 255)
-    go true f = (same_some (h ∙ ap (λ c. cond c (Std.Some e) Std.None) f), ltb-true e 255 f)
-    go false f = let z : Std.Some d ≡ Std.None = h ∙ ap (λ c. cond c (Std.Some e) Std.None) f in absurd (cc)
+  pub entry_none : Std.None ≡ get_or table (key_of x) Std.None → Std.None ≡ as_option (definer qs x)
+  entry_none h = sym (ap as_option (keyed_none 0 qs x (found_none (definer (map keyed qs) (key_of x)) (h ∙ df.is x))))
 
-entry_out : {e : ℕ} → Std.None ≡ entry_of e → 255 ≤ e
-entry_out {e} h = go (nat_lt e 255) refl
-  where
-    go : (b : Bool) → nat_lt e 255 ≡ b → 255 ≤ e
-    go true f = let z : Std.Some e ≡ Std.None = sym (h ∙ ap (λ c. cond c (Std.Some e) Std.None) f) in absurd (cc)
-    go false f = ltb-false e 255 f
-
-entry_code : (o : Option ℕ) → ((j : ℕ) → o ≡ some j → j < 255) → entry_of (definer_code o) ≡ as_option o
-entry_code none h = refl
-entry_code (some j) h = ap (λ c. cond c (Std.Some j) Std.None) (lt-ltb j 255 (h j refl))
-
-module _ {qs : List Equation} {low : Bool} {table : List ℕ} (df : Definers qs low table) (few : length qs ≤ 80) (x : ℕ) where
-  pub entry_low : low ≡ true → entry_of (get_or table x 255) ≡ as_option (definer qs x)
-  entry_low g = ap entry_of (df.lows g x) ∙ entry_code (definer qs x) (λ j f. omega (arith, (definer_inside 0 qs x j f).1))
-
-  pub entry_some : {d : ℕ} → Std.Some d ≡ entry_of (get_or table (key_of x) 255) → (d < length qs) × (definer (take (d + 1) qs) x ≡ definer qs x)
-  entry_some {d} h = go (definer (map keyed qs) (key_of x)) refl
-    where
-      e : (d ≡ get_or table (key_of x) 255) × (get_or table (key_of x) 255 < 255)
-      e = entry_below h
-
-      go : (o : Option ℕ) → definer (map keyed qs) (key_of x) ≡ o → (d < length qs) × (definer (take (d + 1) qs) x ≡ definer qs x)
-      go none f = absurd (omega (arith, e.1, df.is x ∙ ap definer_code f))
-      go (some j) f =
-          let z : suc j - 0 ≡ d + 1 = omega (arith, e.0, df.is x ∙ ap definer_code f) in
-          (omega (arith, z, (definer_inside 0 (map keyed qs) (key_of x) j f).1, length-map qs keyed), sym (keyed_some 0 qs x j f ∙ ap (λ k. definer (take k qs) x) z))
-
-  pub entry_none : Std.None ≡ entry_of (get_or table (key_of x) 255) → Std.None ≡ as_option (definer qs x)
-  entry_none h = go (definer (map keyed qs) (key_of x)) refl
-    where
-      go : (o : Option ℕ) → definer (map keyed qs) (key_of x) ≡ o → Std.None ≡ as_option (definer qs x)
-      go none f = sym (ap as_option (keyed_none 0 qs x f))
-      go (some j) f = absurd (omega (arith, entry_out h, df.is x ∙ ap definer_code f, (definer_inside 0 (map keyed qs) (key_of x) j f).1, length-map qs keyed))
-
-pub definers_made : (qs : List Equation) (low : Bool) (t w : List ℕ) → Blank qs low t → w ≡ put_all 0 (map keyed qs) t → Definers qs low w
+pub definers_made : (qs : List Equation) (low : Bool) (t w : Table) → Blank qs low t → w ≡ put_all 0 (map keyed qs) t → Definers qs low w
 definers_made qs low t w blank e =
     record {
       is = λ x. let b : key_of x < 1024 = omega arith in entry (key_of x) (omega (arith, blank.long));
-      lows = λ g x. by_cases (dec_le 1024 x) (λ h. get_or-eq_default w 255 (omega (arith, ap length e, length_put_all 0 (map keyed qs) t, blank.long)) ∙ sym (ap definer_code (blank.lows g x h))) (λ h. entry x (omega (arith, blank.long)) ∙ ap definer_code (low_keyed 0 qs x (blank.lows g)));
+      lows = λ g x. by_cases (dec_le 1024 x) (λ h. get_or-eq_default w Std.None (omega (arith, ap length e, length_put_all 0 (map keyed qs) t, blank.long)) ∙ sym (ap as_option (blank.lows g x h))) (λ h. entry x (omega (arith, blank.long)) ∙ ap as_option (low_keyed 0 qs x (blank.lows g)));
     }
   where
-    entry : (x : ℕ) → x < length t → get_or w x 255 ≡ definer_code (definer (map keyed qs) x)
-    entry x h = ap (λ l. get_or l x 255) e ∙ definers_is (map keyed qs) t x h (blank.is x)
+    entry : (x : ℕ) → x < length t → get_or w x Std.None ≡ as_option (definer (map keyed qs) x)
+    entry x h = ap (λ (l : Table). get_or l x Std.None) e ∙ definers_is (map keyed qs) t x h (blank.is x)

@@ -1,5 +1,6 @@
 pub mod Tables
 pub mod Post
+pub mod Names
 pub mod Equations
 pub mod Orders
 pub mod Nodes

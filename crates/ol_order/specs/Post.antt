@@ -1,5 +1,6 @@
 -- What the functions of the ordering ask and give.
 use Rattle.std.specs.Prelude.{ℕ, suc, ◌+◌, ◌-◌, ◌≤◌, ◌<◌, Bool, true, false, List, map, ◌≡◌, length, get_or, take, drop, Result, Ok, Err}
+use Rattle.std.specs.Prelude as Std
 use Rattle.std.proofs.Math.Option.{none}
 use Rattle.std.proofs.lemmas.List.Edits.{sets}
 use Rattle.ol_spec.specs.Lists.{member}
@@ -7,7 +8,7 @@ use Rattle.ol_spec.specs.Syntax.{Equation}
 use Rattle.ol_spec.specs.Read.{got, equation_r, node_r}
 use Rattle.ol_spec.specs.Order.{definer, order, unplaced}
 use Rattle.ol_spec.specs.declared.Limits.{Limits}
-use Rattle.ol_order.specs.Tables.{is_got, key_of, keyed, no_equation, node_at, definer_code, as_error, waited, waiting}
+use Rattle.ol_order.specs.Tables.{Table, is_got, key_of, keyed, no_equation, node_at, as_option, as_error, waited, waiting}
 
 -- an equation is read at each of these places
 pub record Readable (s : List ℕ) (l : Limits) (enums : ℕ) (starts : List ℕ) : Type 0 where
@@ -21,15 +22,15 @@ pub record NodeReads (s : List ℕ) (l : Limits) (enums at : ℕ) : Type 0 where
   pub few : l.equations ≤ 80
 
 -- no name has a definer in the table yet, and with `low` no equation defines a name from 1,024 on
-pub record Blank (qs : List Equation) (low : Bool) (table : List ℕ) : Type 0 where
-  pub is : (x : ℕ) → get_or table x 255 ≡ 255
+pub record Blank (qs : List Equation) (low : Bool) (table : Table) : Type 0 where
+  pub is : (x : ℕ) → get_or table x Std.None ≡ Std.None
   pub long : 1024 ≡ length table
   pub lows : low ≡ true → (x : ℕ) → 1024 ≤ x → definer qs x ≡ none
 
 -- a name's entry has the last equation that defines a name with the same entry; with `low` each name's own place has its last definer
-pub record Definers (qs : List Equation) (low : Bool) (table : List ℕ) : Type 0 where
-  pub is : (x : ℕ) → get_or table (key_of x) 255 ≡ definer_code (definer (map keyed qs) (key_of x))
-  pub lows : low ≡ true → (x : ℕ) → get_or table x 255 ≡ definer_code (definer qs x)
+pub record Definers (qs : List Equation) (low : Bool) (table : Table) : Type 0 where
+  pub is : (x : ℕ) → get_or table (key_of x) Std.None ≡ as_option (definer (map keyed qs) (key_of x))
+  pub lows : low ≡ true → (x : ℕ) → get_or table x Std.None ≡ as_option (definer qs x)
 
 -- the list of equation k, from its beginning up to the next one's, has the definers that it waits for
 pub record Waits (qs : List Equation) (lists begins : List ℕ) : Type 0 where

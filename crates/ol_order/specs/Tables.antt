@@ -1,5 +1,5 @@
 -- The tables of the ordering: the equations at their places, which equation defines a name, which equations are placed.
-use Rattle.std.specs.Prelude.{ℕ, zero, suc, ◌+◌, ◌%◌, Bool, true, false, cond, nat_lt, List, [], ◌∷◌, ◌++◌, map, length, get_or, set, eqb, Result, Ok, Err}
+use Rattle.std.specs.Prelude.{ℕ, zero, suc, ◌+◌, ◌%◌, Bool, true, false, List, [], ◌∷◌, ◌++◌, map, length, get_or, set, eqb, Result, Ok, Err}
 use Rattle.std.specs.Prelude as Std
 use Rattle.std.proofs.Math.Option.{Option, none, some}
 use Rattle.ol_spec.specs.Lists.{member}
@@ -37,7 +37,10 @@ node_at s l enums at = node_in (node_r s l enums at)
 abbrev pub equations_at : List ℕ → Limits → ℕ → List ℕ → List Equation
 equations_at s l enums starts = map (equation_at s l enums) starts
 
--- ---- the table of definers: entry r is the index of the last equation that defines a name of the remainder r, or 255
+-- ---- the table of definers: entry r is the index of the last equation that defines a name of the remainder r, if one does
+
+abbrev pub Table : Type 0
+Table = List (Std.Option ℕ)
 
 -- a name's entry
 abbrev pub key_of : ℕ → ℕ
@@ -48,12 +51,12 @@ abbrev pub keyed : Equation → Equation
 keyed q = record { names = map key_of q.names; rhs = q.rhs }
 
 -- each of these entries gets i
-unfoldable pub put : List ℕ → ℕ → List ℕ → List ℕ
+unfoldable pub put : List ℕ → ℕ → Table → Table
 put [] i table = table
-put (x ∷ xs) i table = put xs i (set table x i)
+put (x ∷ xs) i table = put xs i (set table x (Std.Some i))
 
 -- the entries of each equation's names get its index, the first having the index i
-unfoldable pub put_all : ℕ → List Equation → List ℕ → List ℕ
+unfoldable pub put_all : ℕ → List Equation → Table → Table
 put_all i [] table = table
 put_all i (q ∷ qs) table = put_all (suc i) qs (put q.names i table)
 
@@ -62,22 +65,14 @@ unfoldable pub names_at : ℕ → List ℕ → ℕ → List ℕ
 names_at zero s at = []
 names_at (suc n) s at = name_at s at ∷ on_places (name_r s at) (names_at n s)
 
-abbrev pub on_count : Read ℕ → (ℕ → ℕ → List ℕ) → List ℕ → List ℕ
+abbrev pub on_count : Read ℕ → (ℕ → ℕ → Table) → Table → Table
 on_count (got n p) k table = k n p
 on_count (fault n p) k table = table
 
 -- the entries of the names at each of these places get its index, the first having the index i, up to the first place at which no count of names stands
-unfoldable pub put_starts : List ℕ → ℕ → ℕ → List ℕ → List ℕ → List ℕ
+unfoldable pub put_starts : List ℕ → ℕ → ℕ → List ℕ → Table → Table
 put_starts s most i [] table = table
 put_starts s most i (a ∷ starts) table = on_count (count_r s 1 most a) (λ n p. put_starts s most (suc i) starts (put (map key_of (names_at n s p)) i table)) table
-
-abbrev pub definer_code : Option ℕ → ℕ
-definer_code none = 255
-definer_code (some j) = j
-
--- what an entry of the table says
-abbrev pub entry_of : ℕ → Std.Option ℕ
-entry_of d = cond (nat_lt d 255) (Std.Some d) Std.None
 
 -- as the code's Option
 abbrev pub as_option : Option ℕ → Std.Option ℕ

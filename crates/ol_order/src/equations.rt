@@ -1,10 +1,12 @@
 // Equations of a file, by their places.
-ghost use Rattle.std.specs.Prelude.{◌≡◌, ℕ, ◌≤◌, length, take};
+ghost use Rattle.std.specs.Prelude.{◌≡◌, ◌≤◌, length, take};
 ghost use Rattle.ol_spec.specs.Lists.{member};
-ghost use Rattle.ol_order.specs.Tables.{names_at, defined_at};
+ghost use Rattle.ol_order.specs.Tables.{defined_at};
+ghost use Rattle.ol_order.specs.Names.{names_of};
 ghost use Rattle.ol_order.specs.Post.{Readable};
 
-use ol_ir::read::{bytes, count, name};
+use crate::names::Names;
+use ol_ir::read::count;
 use ol_spec::Limits;
 
 // The equations that start at these places.
@@ -17,28 +19,18 @@ pub(crate) struct Equations<'f, 's> {
     ghost readable: { Readable file.now limits enums starts.now },
 }
 
-// Whether the name is one of so many, up to one that the file's end cuts off.
-fn among(file: &[u8], count: usize, at: usize, x: usize) -> bool
-    ensures { result ≡ member x (names_at count file.now at) }
+// Whether the name is one of these.
+fn among(mut names: Names, x: usize) -> bool
+    ensures { result ≡ member x (names_of names.entry) }
 {
-    let mut next = at;
-    for _i in 0..count {
-        if x == name(file, next) {
-            return true;
-        }
-        match bytes(file, 2, next) {
-            Ok(p) => next = p,
-            Err(_) => return false,
-        }
-    }
-    false
+    names.any(|y| x == y)
 }
 
 // Whether the equation that starts at `at` defines the name.
 fn defines(file: &[u8], most: usize, at: usize, x: usize) -> bool
     ensures { result ≡ defined_at file.now most at x }
 {
-    count(file, 1, most, at).is_ok_and(|names| among(file, names.count, names.at, x))
+    count(file, 1, most, at).is_ok_and(|left| among(Names { file, left }, x))
 }
 
 impl<'f, 's> Equations<'f, 's> {

@@ -1,12 +1,13 @@
 // The order of a node's equations: document 01, "The order".
 #![tactic(auto)]
 
+mod names; // names.rt: an equation's names
 mod equations; // equations.rt: equations by their places
 mod lookup; // lookup.rt: the equation that defines a name
 pub mod table; // table.rt: the orders of all nodes of a file
 pub mod counts; // counts.rt: how many equations a node has
 
-ghost use Rattle.std.specs.Prelude.{List, [], map, ◌≡◌, ◌↔◌, ℕ, ◌≤◌, ◌<◌, length, get_or, take, drop, All, IsTrue, false, not, position};
+ghost use Rattle.std.specs.Prelude.{List, [], map, ◌≡◌, ◌↔◌, ℕ, ◌≤◌, ◌<◌, length, get_or, take, drop, All, IsTrue, false, not, position, None};
 ghost use Rattle.std.proofs.Math.Option.{some};
 ghost use Rattle.std.proofs.lemmas.List.Edits.{sets};
 ghost use Rattle.ol_spec.specs.Syntax.{Equation};
@@ -14,50 +15,46 @@ ghost use Rattle.ol_spec.specs.Limits.{relay_loader};
 ghost use Rattle.ol_spec.specs.Order.{pass, order as in_order};
 ghost use Rattle.ol_spec.specs.Answers.{sorted_fault};
 ghost use Rattle.ol_spec.specs.Cycle.{order_node, ordering};
-ghost use Rattle.ol_order.specs.Tables.{node_at, key_of, keyed, put, put_all, names_at, put_starts, order_of};
+ghost use Rattle.ol_order.specs.Tables.{node_at, key_of, keyed, put, put_all, put_starts, order_of};
+ghost use Rattle.ol_order.specs.Names.{names_of};
 ghost use Rattle.ol_order.specs.Post.{NodeReads, Blank, Waits, Listed, Waiting, State, Sorts};
 ghost use Rattle.ol_order.specs.Equations.{those, all_waited};
 
 use crate::equations::Equations;
 use crate::lookup::Lookup;
+use crate::names::Names;
 use ol_ir::node::equation_starts;
 use ol_ir::project::{base, load_file};
-use ol_ir::read::{bytes, count, name};
+use ol_ir::read::count;
 use ol_spec::{Fault, Limits};
 use ol_tables::bytes::put;
 
-// No name has a definer: 255 stands for none.
-pub(crate) fn no_definers() -> [u8; 1024]
+// No name has a definer.
+pub(crate) fn no_definers() -> [Option<u8>; 1024]
     ensures long { 1024 ≡ length result }
-    ensures none { (x : ℕ) → get_or result x 255 ≡ 255 }
+    ensures none { (x : ℕ) → get_or result x None ≡ None }
 {
-    [255; 1024]
+    [None; 1024]
 }
 
-// Each of so many names gets the equation's index, at its remainder by 1,024, up to one that the
-// file's end cuts off.
-fn define(file: &[u8], count: usize, at: usize, index: u8, definers: &mut [u8])
-    ensures { definers.new ≡ put (map key_of (names_at count file.now at)) index definers.old }
+// Each of these names gets the equation's index, at its remainder by 1,024.
+fn define(names: Names, index: u8, definers: &mut [Option<u8>])
+    ensures { definers.new ≡ put (map key_of (names_of names.entry)) index definers.old }
 {
-    let mut next = at;
-    for _i in 0..count {
-        put(definers, name(file, next) % 1024, index);
-        match bytes(file, 2, next) {
-            Ok(p) => next = p,
-            Err(_) => return,
-        }
+    for x in names {
+        put(definers, x % 1024, Some(index));
     }
 }
 
 // Which equation is the last that defines a name of each remainder by 1,024. Ends where no count of
 // names stands.
-fn define_all(file: &[u8], most: usize, starts: &[usize], definers: &mut [u8])
+fn define_all(file: &[u8], most: usize, starts: &[usize], definers: &mut [Option<u8>])
     requires { length starts.now ≤ 80 }
     ensures { definers.new ≡ put_starts file.now most 0 starts.now definers.old }
 {
     for (i, at) in starts.iter().enumerate() {
         match count(file, 1, most, *at) {
-            Ok(names) => define(file, names.count, names.at, i as u8, definers),
+            Ok(left) => define(Names { file, left }, i as u8, definers),
             Err(_) => return,
         }
     }
@@ -140,7 +137,7 @@ fn place(lists: &[u8], begins: &[usize], order: &mut [usize]) -> Result<(), usiz
 pub(crate) fn sort(
     equations: Equations,
     low: bool,
-    definers: &mut [u8],
+    definers: &mut [Option<u8>],
     lists: &mut [u8],
     order: &mut [usize],
 ) -> Result<(), usize>

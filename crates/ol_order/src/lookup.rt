@@ -1,8 +1,8 @@
 // The equation that defines a name, and the lists of those that equations wait for.
-ghost use Rattle.std.specs.Prelude.{◌≡◌, suc, ◌+◌, ◌≤◌, ◌<◌, length, get_or};
+ghost use Rattle.std.specs.Prelude.{◌≡◌, suc, ◌+◌, ◌≤◌, ◌<◌, length, get_or, None};
 ghost use Rattle.std.proofs.lemmas.List.Edits.{sets};
 ghost use Rattle.ol_spec.specs.Order.{definer as last_definer};
-ghost use Rattle.ol_order.specs.Tables.{entry_of, as_option, bounds};
+ghost use Rattle.ol_order.specs.Tables.{as_option, bounds};
 ghost use Rattle.ol_order.specs.Post.{Definers};
 ghost use Rattle.ol_order.specs.Equations.{those, waited_by, all_waited};
 
@@ -18,19 +18,15 @@ use ol_tables::bytes::byte;
 pub(crate) struct Lookup<'f, 's, 't> {
     pub(crate) equations: Equations<'f, 's>,
     pub(crate) low: bool,
-    pub(crate) definers: &'t [u8],
+    pub(crate) definers: &'t [Option<u8>],
     ghost told: { Definers (those equations) low definers.now },
 }
 
-// An entry of the table: 255 stands for none. An Option of a byte takes two bytes, and each call clears the
-// whole table for each node.
-fn definer(definers: &[u8], x: usize) -> Option<usize>
-    ensures { result ≡ entry_of (get_or definers.now x 255) }
+// An entry of the table; past its end it is none.
+fn definer(definers: &[Option<u8>], x: usize) -> Option<usize>
+    ensures { result ≡ get_or definers.now x None }
 {
-    match definers.get(x) {
-        Some(d) if *d < 255 => Some(usize::from(*d)),
-        _ => None,
-    }
+    definers.get(x).copied().flatten().map(usize::from)
 }
 
 impl<'f, 's, 't> Lookup<'f, 's, 't> {

@@ -4,7 +4,7 @@
 // what `next_row` reads is free, and `main` only writes.
 #![tactic(auto)]
 
-ghost use Rattle.std.specs.Prelude.{◌∷◌, [], ◌≡◌, ◌+◌, ◌≤◌, ◌<◌, length, replicate};
+ghost use Rattle.std.specs.Prelude.{◌≡◌, ◌+◌, ◌≤◌, ◌<◌, length, replicate};
 ghost use Rattle.io.specs.Counts.{IsPrefixLen};
 ghost use Rattle.ol_spec.specs.Answers.{sorted_fault};
 ghost use Rattle.ol_spec.specs.Cycle.{ordering};

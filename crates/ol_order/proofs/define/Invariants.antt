@@ -1,8 +1,8 @@
-use Prim.Native.Nat.{◌-◌}
 use mathlib.Core.Path.{◌≡◌}
 use mathlib.Core.List.{map}
-use Rattle.ol_order.specs.Tables.{key_of, put, names_at}
+use Rattle.ol_order.specs.Tables.{key_of, put}
+use Rattle.ol_order.specs.Names.{names_of}
 use Rattle.ol_order.proofs.define.Given as goal
 
-abbrev pub invariant-loop-i : goal.invariant-loop-i
-invariant-loop-i l = put (map key_of (names_at (l.count - l._i) l.file l.next)) l.index l.definers ≡ put (map key_of (names_at l.count l.file l.at)) l.index l.initial.definers
+abbrev pub invariant-loop-x : goal.invariant-loop-x
+invariant-loop-x l = put (map key_of (names_of l.x-iterator)) l.index l.definers ≡ put (map key_of (names_of l.fn.names)) l.index l.initial.definers

@@ -1,9 +1,9 @@
--- `ol_order::no_definers` meets its contract.
 use Prim.Native.Nat.{ℕ}
 use mathlib.Core.Path.{sym}
 use lib.ListN.{length-replicate}
-use Rattle.ol_order.proofs.Definers.{no_entry}
+use Rattle.std.specs.Prelude as Std
+use Rattle.ol_order.proofs.Answers.{same_each}
 use Rattle.ol_order.proofs.no_definers.Goals as goal
 
 pub returns : goal.returns
-returns c = record { long = sym (length-replicate {A = ℕ} 1024 255); none = no_entry 1024 }
+returns c = record { long = sym (length-replicate {A = Std.Option ℕ} 1024 Std.None); none = same_each 1024 }

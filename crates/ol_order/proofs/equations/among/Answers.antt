@@ -1,17 +1,14 @@
-use Rattle.ol_order.proofs.Definers.{among_end, among_here, among_turn, among_not}
+use mathlib.Core.Path.{refl, ◌∙◌}
+use lib.Dec.{eqb}
+use borrow.Author.Tests.{tests}
+use Rattle.std.proofs.Common.{rules}
+use Rattle.std.proofs.lemmas.Iterator.Consumers.{YieldsList-from_first}
+use Rattle.std.proofs.lemmas.Iterator.Search.{any_from_yields_List}
+use Rattle.ol_order.specs.Names.{names_of}
+use Rattle.ol_order.proofs.Definers.{any_is}
 use Rattle.ol_order.proofs.equations.among.Goals as goal
 
-pub returns-then-x-name : goal.returns-then-x-name
-returns-then-x-name c =
-    among_here c.args.file.now c.args.x _ _ _ _ c.loop-i.invariant c.loop-i-test.true c.name.ensures.is c.if-x-name.true
-
-pub loop-i-preserved : goal.loop-i-preserved
-loop-i-preserved c =
-    among_turn c.args.file.now c.args.x _ _ _ _ c.loop-i.invariant c.loop-i-test.true c.name.ensures.is c.if-x-name.false c.bytes.ensures c.in-Ok.is
-
-pub returns-in-Err : goal.returns-in-Err
-returns-in-Err c =
-    among_not c.args.file.now c.args.x _ _ _ _ c.loop-i.invariant c.loop-i-test.true c.name.ensures.is c.if-x-name.false c.bytes.ensures c.in-Err.is
-
 pub returns : goal.returns
-returns c = among_end c.args.file.now c.args.x _ _ _ _ c.loop-i.invariant c.loop-i-test.false
+returns c =
+    any_from_yields_List (eqb c.args.x) c.any.new.self _ _ c.any.ensures.ran (YieldsList-from_first (λ y. y) names_of (names_of c.args.names) refl) (λ y b q k. search (rules, tests))
+    ∙ any_is (eqb c.args.x) (names_of c.args.names)
