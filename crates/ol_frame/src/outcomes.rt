@@ -10,8 +10,8 @@ ghost use Rattle.ol_value.specs.Codes.{ty_of, unary_by};
 ghost use Rattle.ol_frame.specs.Outcomes.{ThenBy, ending_of, done_of, binary_out, test_of, untested_of, runs_of, overflow_of, drop_out, single_of, common_out, kind_of, outcome_kind};
 
 use ol_real::f32_to_f64;
-use ol_spec::type_codes::{FLOAT32, FLOAT64};
 use ol_spec::{Cause, Outcome, Value};
+use ol_value::codes::DataType;
 use ol_value::operators::{eval_binary, eval_unary};
 use ol_value::types::cast_value;
 
@@ -201,10 +201,10 @@ pub(crate) fn common_out(kind: RealKind, o: Outcome) -> Outcome
 pub(crate) fn kind_of_type(code: u8) -> RealKind
     ensures { (e : ℕ) → kind_of result ≡ kind_of_type (ty_of code e) }
 {
-    match code {
-        FLOAT32 => RealKind::Single,
-        FLOAT64 => RealKind::Double,
-        _ => RealKind::NotReal,
+    match DataType::from(code) {
+        DataType::Float32 => RealKind::Single,
+        DataType::Float64 => RealKind::Double,
+        DataType::Bool | DataType::Int(_) | DataType::Char | DataType::Enum => RealKind::NotReal,
     }
 }
 

@@ -10,11 +10,6 @@ use mir.Syntax.{w64}
 use mir.Val.{SFits, to_z, of_z, sel}
 use Rattle.ol_spec.specs.Numbers.{residue, signed}
 
-pub no_true {ℓ} : {A : Type ℓ} → false ≡ true → A
-no_true e = let z : ◌≡◌ {A = ℕ} 0 1 = cc in absurd (omega arith)
-
--- ---- numbers and their bits
-
 pub signed_is : (n : ℕ) → to_z w64 n ≡ signed 64 n
 signed_is n = go (ltb n (2 ^ 63))
   where
@@ -25,7 +20,3 @@ signed_is n = go (ltb n (2 ^ 63))
 pub residue_is : (i : ℤ) → SFits w64 i → of_z w64 i ≡ residue 64 i
 residue_is (pos n) f = sym (mod-eq_of_lt {n = n} {m = 2 ^ 64} (omega (arith, f.sfits)))
 residue_is (negsuc n) f = ap (λ m. 2 ^ 64 - suc m) (sym (mod-eq_of_lt {n = n} {m = 2 ^ 64} (omega (arith, f.sfits))))
-
--- a number, read back from its bits
-abbrev pub back : ℤ → ℤ
-back z = to_z w64 (of_z w64 z)

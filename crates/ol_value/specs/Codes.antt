@@ -1,7 +1,7 @@
 -- Types and operators by their codes.
 use Rattle.std.specs.Prelude as Maybe
 use Rattle.std.specs.Prelude.{◌≡◌, Some, None, Result, Ok, Err, ℕ, ◌-◌, ◌%◌, ◌/◌, ◌<◌, ◌≤◌, Bool, true, false, cond, [], eqb, get_or}
-use Rattle.std.proofs.Math.Option.{Option, none, some}
+use Rattle.std.proofs.Math.Option.{none, some}
 use Rattle.std.proofs.Math.ListN.{get_elem?}
 use Rattle.ol_spec.specs.Lists.{maybe}
 use Rattle.ol_spec.specs.Syntax.{Ty, bool, int, float32, float64, char, enum}
@@ -17,7 +17,10 @@ use Rattle.ol_spec.specs.declared.Outcome.{Outcome}
 use Rattle.ol_spec.specs.declared.Outcome.TheVariants as Out
 use Rattle.ol_spec.specs.declared.Cause.{Cause}
 use Rattle.ol_spec.specs.declared.Cause.TheVariants as Why
-use Rattle.ol_value.specs.declared.narrowing.TypeRow.{TypeRow}
+use Rattle.ol_value.specs.declared.codes.IntType.{IntType}
+use Rattle.ol_value.specs.declared.codes.IntType.TheVariants as Num
+use Rattle.ol_value.specs.declared.codes.DataType.{DataType}
+use Rattle.ol_value.specs.declared.codes.DataType.TheVariants as Typ
 use Rattle.ol_value.specs.declared.codes.Unary.{Unary}
 use Rattle.ol_value.specs.declared.codes.Unary.TheVariants as One
 use Rattle.ol_value.specs.declared.codes.Binary.{Binary}
@@ -25,26 +28,11 @@ use Rattle.ol_value.specs.declared.codes.Binary.TheVariants as Two
 
 -- ---- what the types make of integers
 
--- a row's width and sign; 64 bits leave the number
-abbrev pub int_ty_of : TypeRow → IntTy
-int_ty_of t = cond (eqb t.bits 64) whole (cond t.signed (signed_to t.bits) (unsigned_to t.bits))
-
--- a row of the table by type code, from its byte: the width, and 1 if storing narrows, and 2 if there is a sign
-abbrev pub row_of : ℕ → TypeRow
-row_of b = record { bits = b - b % 8; narrows = eqb (b % 2) 1; signed = eqb (b % 4 / 2) 1 }
-
--- what a row says: the range of the integers that the type holds, if it holds any, and whether storing and casting narrow to it
-abbrev pub row_says : TypeRow → Option IntTy × Bool
-row_says t = (cond (eqb t.bits 0) none (some (int_ty_of t)), t.narrows)
-
--- the same of a type: a Char is 0 to 255, and is not narrowed
-abbrev pub row_for : Ty → Option IntTy × Bool
-row_for bool = (none, false)
-row_for (int c) = (some (int_ty c), true)
-row_for float32 = (none, false)
-row_for float64 = (none, false)
-row_for char = (some (unsigned_to 8), false)
-row_for (enum e) = (none, false)
+-- an integer type, as the definitions have it
+abbrev pub int_ty_of : IntType → IntTy
+int_ty_of (Num.Signed b) = signed_to b
+int_ty_of (Num.Unsigned b) = unsigned_to b
+int_ty_of Num.Whole = whole
 
 -- the widths that narrow: 1 to 32 bits
 abbrev pub Narrow : IntTy → Type 0
@@ -65,6 +53,15 @@ ty_from e (int_t c) = int c
 
 abbrev pub ty_of : ℕ → ℕ → Ty
 ty_of code e = ty_from e (get_or ty_codes code enum_t)
+
+-- the type that a code starts is of this kind, and an integer type is the code's in the one table
+abbrev pub TypeDecodes : ℕ → DataType → Type 0
+TypeDecodes code Typ.Bool = get_or ty_codes code enum_t ≡ bool_t
+TypeDecodes code (Typ.Int t) = (get_or ty_codes code enum_t ≡ int_t code) × (int_ty_of t ≡ int_ty code)
+TypeDecodes code Typ.Float32 = get_or ty_codes code enum_t ≡ float32_t
+TypeDecodes code Typ.Float64 = get_or ty_codes code enum_t ≡ float64_t
+TypeDecodes code Typ.Char = get_or ty_codes code enum_t ≡ char_t
+TypeDecodes code Typ.Enum = get_or ty_codes code enum_t ≡ enum_t
 
 -- an Enum's name
 abbrev pub name_in : Value → ℕ

@@ -1,4 +1,4 @@
-// The operators, from their codes in the file.
+// The operators and the types, from their codes in the file.
 use ol_spec::Cause;
 
 // The unary operators, in the order of their codes.
@@ -81,6 +81,50 @@ impl TryFrom<u8> for Binary {
             18 => Ok(Binary::Shl),
             19 => Ok(Binary::Shr),
             _ => Err(Cause::Other),
+        }
+    }
+}
+
+// What an integer type makes of a number: its low bits, so many, read with a sign or without; or, with 64 bits, the number itself.
+#[derive(Clone, Copy)]
+pub enum IntType {
+    Signed(u8),
+    Unsigned(u8),
+    Whole,
+}
+
+// A type (docs/FORMAT.md, "Types"). An Enum's number stands behind its code, and is the caller's.
+#[derive(Clone, Copy)]
+pub enum DataType {
+    Bool,
+    Int(IntType),
+    Float32,
+    Float64,
+    Char,
+    Enum,
+}
+
+// A code above 12, which no file has that reads without fault, is read as an Enum's.
+impl From<u8> for DataType {
+    ghost use Rattle.ol_value.specs.Codes.{TypeDecodes};
+
+    ghost from_gives = { TypeDecodes };
+
+    fn from(code: u8) -> Self {
+        match code {
+            0 => DataType::Bool,
+            1 => DataType::Int(IntType::Signed(8)),
+            2 => DataType::Int(IntType::Signed(16)),
+            3 => DataType::Int(IntType::Signed(32)),
+            4 => DataType::Int(IntType::Whole),
+            5 => DataType::Int(IntType::Unsigned(8)),
+            6 => DataType::Int(IntType::Unsigned(16)),
+            7 => DataType::Int(IntType::Unsigned(32)),
+            8 => DataType::Int(IntType::Whole),
+            9 => DataType::Float32,
+            10 => DataType::Float64,
+            11 => DataType::Char,
+            _ => DataType::Enum,
         }
     }
 }

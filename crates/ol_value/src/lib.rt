@@ -2,7 +2,7 @@
 #![tactic(auto)]
 
 pub mod cell;
-mod codes;
+pub mod codes;
 mod narrowing;
 pub mod operators;
 mod reals;

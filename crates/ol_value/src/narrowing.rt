@@ -1,61 +1,11 @@
-// What each type makes of integers: one table by type code, read by narrowing, fitting, casting, defaults and the
-// ranges of inputs.
+// What each integer type makes of numbers.
 ghost use Rattle.std.specs.Prelude.{◌≡◌, ℕ, ◌<◌, ◌≤◌, ◌^◌};
 ghost use Rattle.std.specs.Int.Signed.{mag};
 ghost use Rattle.ol_spec.specs.Numbers.{residue, signed};
 ghost use Rattle.ol_spec.specs.Types.{narrow, in_range};
-ghost use Rattle.ol_value.specs.Codes.{int_ty_of, Narrow, ty_of, row_of, row_says, row_for};
+ghost use Rattle.ol_value.specs.Codes.{int_ty_of, Narrow};
 
-// A type's width in bits, 0 if it holds no integers; whether an integer that is stored in it or cast to it is
-// narrowed; and whether it has a sign. `Narrow` holds of the rows that narrow alone, so it is no invariant.
-#[derive(Clone, Copy)]
-pub(crate) struct TypeRow {
-    pub(crate) bits: u8,
-    pub(crate) narrows: bool,
-    pub(crate) signed: bool,
-}
-
-// The one table, by type code, a row in a byte: the width, which is a multiple of 8, and 1 if storing narrows, and 2 if
-// there is a sign. 64 bits leave the number; a Char has a range, and storing does not narrow it.
-// Stays packed, with 0 for no integers: rows of three fields were measured 3.5% slower, since they are copied to the stack at each use.
-const TYPE_ROWS: [u8; 13] = [
-    0, // Bool
-    11, // Int8
-    19, // Int16
-    35, // Int32
-    67, // Int64
-    9, // Uint8
-    17, // Uint16
-    33, // Uint32
-    65, // Uint64
-    0, // Float32
-    0, // Float64
-    8, // Char
-    0, // Enum
-];
-
-// A row of the table.
-fn unpacked(b: u8) -> TypeRow
-    ensures { result ≡ row_of b }
-{
-    TypeRow {
-        bits: b - b % 8,
-        narrows: b % 2 == 1,
-        signed: b % 4 / 2 == 1,
-    }
-}
-
-// The row of the type with this code; a code above 12 is read as an enum's.
-pub(crate) fn type_row(code: u8) -> TypeRow
-    ensures { (e : ℕ) → row_says result ≡ row_for (ty_of code e) }
-{
-    let c = usize::from(code);
-    if c < 13 {
-        unpacked(TYPE_ROWS[c])
-    } else {
-        unpacked(0)
-    }
-}
+use crate::codes::IntType;
 
 // 2 to the power b.
 fn power(b: u8) -> u64
@@ -93,31 +43,26 @@ fn signed_of(b: u8, n: u64) -> i64
     }
 }
 
-// Document 01's `narrow_int`: a number as an integer type of this width and sign holds it.
-pub(crate) fn narrow_int(t: TypeRow, i: i64) -> i64
+// Document 01's `narrow_int`: a number as an integer type holds it.
+pub(crate) fn narrow_int(t: IntType, i: i64) -> i64
     requires { Narrow (int_ty_of t) }
     ensures { result ≡ narrow (int_ty_of t) i }
 {
-    let b = t.bits;
-    if b == 64 {
-        return i;
+    match t {
+        IntType::Signed(b) => signed_of(b, residue_of(b, i)),
+        IntType::Unsigned(b) => residue_of(b, i) as i64,
+        IntType::Whole => i,
     }
-    let n = residue_of(b, i);
-    if t.signed { signed_of(b, n) } else { n as i64 }
 }
 
-// Whether a number is in the range of this width and sign.
-pub(crate) fn in_range(t: TypeRow, i: i64) -> bool
+// Whether a number is in the range of an integer type.
+pub(crate) fn in_range(t: IntType, i: i64) -> bool
     requires { Narrow (int_ty_of t) }
     ensures { result ≡ in_range (int_ty_of t) i }
 {
-    let b = t.bits;
-    if b == 64 {
-        return true;
+    match t {
+        IntType::Signed(b) => magnitude(i) < power(b - 1),
+        IntType::Unsigned(b) => 0 <= i && magnitude(i) < power(b),
+        IntType::Whole => true,
     }
-    let m = magnitude(i);
-    if t.signed {
-        return m < power(b - 1);
-    }
-    0 <= i && m < power(b)
 }
