@@ -1,7 +1,7 @@
 // The types that the relay's public functions and their contracts share.
 #![tactic(auto)]
 
-pub mod type_codes; // type_codes.rt: the codes of the types
+pub mod type_codes; // type_codes.rt: the code of an Enum's type
 
 // A cell's value: the flat choice of Bool, Int, both reals and Enum (a variant's name).
 #[derive(Clone, Copy)]

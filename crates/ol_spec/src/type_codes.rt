@@ -1,9 +1,3 @@
-// The codes of a file's types (docs/FORMAT.md, "Types") that programs ask for: those between BOOL and FLOAT32 are the
-// integers', then come the reals', a Char's and an Enum's, the last.
-pub const BOOL: u8 = 0;
-
-pub const FLOAT32: u8 = 9;
-
-pub const FLOAT64: u8 = 10;
-
+// The code of an Enum's type (docs/FORMAT.md, "Types"): the last, and the only one with a number behind it. A file's types are read by whether a byte is
+// below it, at it or above it, and no other code is asked for there; ol_value's DataType is what a code stands for.
 pub const ENUM: u8 = 12;

@@ -5,7 +5,6 @@ use mathlib.Core.List.{List, [], ◌∷◌}
 use mathlib.Core.Path.{◌≡◌, refl, sym, ap, ◌∙◌}
 use native.Mathlib.Omega.{arith}
 use lib.ListN.{length, take, drop, get_or}
-use lib.Pointwise.{pointwise, bytes_decides}
 use lib.Dec.{T, eqb, ltb, eqb→eq, lt→ltb, ltb→lt}
 use Rattle.std.specs.Prelude.{Result, Ok, Err}
 use Rattle.std.specs.declared.ops.Range.{Range}
@@ -13,7 +12,7 @@ use Rattle.ol_spec.specs.Lists.{same}
 use Rattle.ol_spec.proofs.Tests.{T_and, T_true, T_false}
 use Rattle.relay_text.specs.Text.{word_number, behind, words_up_to}
 use Rattle.relay_text.specs.Lines.{word_text}
-use Rattle.relay.specs.Requests.{Line, silent, wrong, file_word, order_name, start_word, load_word, cycle_word, at_word, command_of, fits_words, with_ok, asked_by, is_silent, asks_as, asks}
+use Rattle.relay.specs.Requests.{silent, wrong, file_word, order_name, start_word, load_word, cycle_word, at_word, command_of, fits_words, with_ok, asked_by, is_silent, asks_as, asks}
 use Rattle.relay.specs.declared.request.Command.{Command}
 use Rattle.relay.specs.declared.request.Reason.{Reason}
 use Rattle.relay.specs.declared.request.Reason.TheVariants as Why
@@ -44,13 +43,6 @@ silent_out line w e h = sym (ap (λ x. eqb x 35) (get_d_out line w.start 35 h)) 
 pub named : (t w : List ℕ) (c : Result Command Reason) → t ≡ w → command_of w ≡ c → c ≡ command_of t
 named t w c e h = sym h ∙ ap command_of (sym e)
 
--- what a comparison of texts says
-pub is_word : (t w : List ℕ) (r : Bool) → r ≡ pointwise eqb t w → r ≡ true → t ≡ w
-is_word t w r e h = (bytes_decides t w).0 (sym e ∙ h)
-
-pub no_word : (t w : List ℕ) (r : Bool) → r ≡ pointwise eqb t w → t ≡ w → r ≡ true
-no_word t w r e h = e ∙ (bytes_decides t w).1 h
-
 same_eq : (a b : List ℕ) → T (same a b) → a ≡ b
 same_eq [] [] t = refl
 same_eq [] (y ∷ b) t = absurd t
@@ -61,12 +53,25 @@ same_eq (x ∷ a) (y ∷ b) t =
     let r : a ≡ b = same_eq a b w.1 in
     cc
 
-pub differs : (t w : List ℕ) (r : Bool) → r ≡ false → (t ≡ w → r ≡ true) → same t w ≡ false
-differs t w r n h = T_false (same t w) (λ s. let e = h (same_eq t w s) in let z : ◌≡◌ {A = ℕ} 0 1 = cc in omega arith)
+same_not : (t w : List ℕ) → (t ≡ w → ⊥) → same t w ≡ false
+same_not t w n = T_false (same t w) (λ s. n (same_eq t w s))
 
-pub unknown : (t : List ℕ) → same t file_word ≡ false → same t order_name ≡ false → same t start_word ≡ false → same t load_word ≡ false → same t cycle_word ≡ false → same t at_word ≡ false → Err Why.UnknownCommand ≡ command_of t
+same_byte : {t w : List ℕ} → t ≡ w → (i : ℕ) → get_or t i 0 ≡ get_or w i 0
+same_byte e i = ap (λ (u : List ℕ). get_or u i 0) e
+
+-- a word that is none of the commands', by its length and its bytes
+pub unknown_word : (t : List ℕ) → (length t ≡ 4 → get_or t 0 0 ≡ 102 → get_or t 1 0 ≡ 105 → get_or t 2 0 ≡ 108 → get_or t 3 0 ≡ 101 → ⊥) → (length t ≡ 5 → get_or t 0 0 ≡ 111 → get_or t 1 0 ≡ 114 → get_or t 2 0 ≡ 100 → get_or t 3 0 ≡ 101 → get_or t 4 0 ≡ 114 → ⊥) → (length t ≡ 5 → get_or t 0 0 ≡ 115 → get_or t 1 0 ≡ 116 → get_or t 2 0 ≡ 97 → get_or t 3 0 ≡ 114 → get_or t 4 0 ≡ 116 → ⊥) → (length t ≡ 4 → get_or t 0 0 ≡ 108 → get_or t 1 0 ≡ 111 → get_or t 2 0 ≡ 97 → get_or t 3 0 ≡ 100 → ⊥) → (length t ≡ 5 → get_or t 0 0 ≡ 99 → get_or t 1 0 ≡ 121 → get_or t 2 0 ≡ 99 → get_or t 3 0 ≡ 108 → get_or t 4 0 ≡ 101 → ⊥) → (length t ≡ 2 → get_or t 0 0 ≡ 97 → get_or t 1 0 ≡ 116 → ⊥) → Err Why.UnknownCommand ≡ command_of t
 unfolding command_of
-unknown t e1 e2 e3 e4 e5 e6 = rw (e1, e2, e3, e4, e5, e6) refl
+unknown_word t f o s l c a =
+    rw (
+      same_not t file_word (λ e. f (ap length e) (same_byte e 0) (same_byte e 1) (same_byte e 2) (same_byte e 3)),
+      same_not t order_name (λ e. o (ap length e) (same_byte e 0) (same_byte e 1) (same_byte e 2) (same_byte e 3) (same_byte e 4)),
+      same_not t start_word (λ e. s (ap length e) (same_byte e 0) (same_byte e 1) (same_byte e 2) (same_byte e 3) (same_byte e 4)),
+      same_not t load_word (λ e. l (ap length e) (same_byte e 0) (same_byte e 1) (same_byte e 2) (same_byte e 3)),
+      same_not t cycle_word (λ e. c (ap length e) (same_byte e 0) (same_byte e 1) (same_byte e 2) (same_byte e 3) (same_byte e 4)),
+      same_not t at_word (λ e. a (ap length e) (same_byte e 0) (same_byte e 1)),
+    )
+    refl
 
 -- the command that the line's first word names
 pub first_word : (line : List ℕ) (w : Range ℕ) {d : Result Command Reason} → w ≡ word_number line 0 → d ≡ command_of (take (w.end - w.start) (drop w.start line)) → d ≡ command_of (word_text line 0)

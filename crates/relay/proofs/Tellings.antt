@@ -35,16 +35,6 @@ use Rattle.relay.proofs.Calls.{same_lengths, few_values, cut, fresh_of_lem, smal
 pub put_front : (r : ℕ) (old new out : List ℕ) → r ≡ 0 + length new → take r out ≡ take 0 old ++ new → take (length new) out ≡ new
 put_front r old new out e h = let z : length new ≡ r = omega (arith, e) in ap (λ n. take n out) z ∙ h
 
--- the first n bytes of a buffer, put in the place of those of another that is as long
-pub front_put : (n : ℕ) (s buffer : List ℕ) → length buffer ≡ length s → take (length (take n s)) buffer ≡ take n s → take n buffer ≡ take n s
-front_put n s buffer h e =
-    by_cases (dec_le n (length s))
-    (λ le. ap (λ m. take m buffer) (sym (length-take-le n s le)) ∙ e)
-    (λ gt.
-    let whole : take n buffer ≡ buffer = take_all n buffer (omega (arith, h)) in
-    let all : length buffer ≤ length (take n s) = omega (arith, length-take n s, h) in
-    whole ∙ sym (take_all (length (take n s)) buffer all) ∙ e)
-
 -- ---- file, start
 
 none_fresh : (j : Judged) (x : Fault) → verdict j ≡ Err x → (start_judged j (zeros (verdict_length (verdict j)))).state ≡ []

@@ -77,23 +77,19 @@ pub enum Request {
 // The most characters that a line may have.
 const LONGEST: usize = 262144;
 
+// The command that a word names.
+#[tactic(auto, using(crate::proofs::Asks::unknown_word))]
 fn command_named(word: &[u8]) -> Result<Command, Reason>
     ensures { result ≡ command_of word.now }
 {
-    if word == b"file".as_slice() {
-        Ok(Command::File)
-    } else if word == b"order".as_slice() {
-        Ok(Command::Order)
-    } else if word == b"start".as_slice() {
-        Ok(Command::Start)
-    } else if word == b"load".as_slice() {
-        Ok(Command::Load)
-    } else if word == b"cycle".as_slice() {
-        Ok(Command::Cycle)
-    } else if word == b"at".as_slice() {
-        Ok(Command::At)
-    } else {
-        Err(Reason::UnknownCommand)
+    match word {
+        b"file" => Ok(Command::File),
+        b"order" => Ok(Command::Order),
+        b"start" => Ok(Command::Start),
+        b"load" => Ok(Command::Load),
+        b"cycle" => Ok(Command::Cycle),
+        b"at" => Ok(Command::At),
+        _ => Err(Reason::UnknownCommand),
     }
 }
 

@@ -291,11 +291,6 @@ places_fewest (suc f) n (suc k) small h =
     (λ g. one_place n (suc k) g h)
     (λ g. ap suc (places_fewest f (n / 10) k (omega (arith, pow-suc 10 (suc f))) (one_less n k g h)))
 
-pub places_bound : (f n : ℕ) → places f n ≤ suc f
-unfolding places
-places_bound zero n = omega arith
-places_bound (suc f) n = if_case (λ (m : ℕ). m ≤ suc (suc f)) n (λ g. omega arith) (λ g. omega (arith, places_bound f (n / 10)))
-
 -- ---- lines that are put together
 
 further : (a b : List ℕ) (r n : ℕ) → r ≤ n → drop r a ≡ drop r b → drop n a ≡ drop n b
