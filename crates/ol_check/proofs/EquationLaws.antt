@@ -202,12 +202,6 @@ equation_walked {s} {names} {rows} {nodes} {k} {inputs} {many} {slots} {slots₁
       rooted = subst (λ m. RootJudged s names rows nodes k g.next m slots₁ slots₂ d r) b.is rooted;
     }
 
--- the slots, by what they are equal to
-pub walked_parts : {s names rows : List ℕ} {nodes k inputs : ℕ} {a a' b b' defined defined' : List ℕ} {g r : Findings} → a ≡ a' → b ≡ b' → EquationWalked s names rows nodes k inputs a b defined defined' g r
-    → EquationWalked s names rows nodes k inputs a' b' defined defined' g r
-walked_parts {s} {names} {rows} {nodes} {k} {inputs} {a} {a'} {b} {b'} {defined} {defined'} {g} {r} ea eb w =
-    subst (λ l. EquationWalked s names rows nodes k inputs l b' defined defined' g r) ea (subst (λ l. EquationWalked s names rows nodes k inputs a l defined defined' g r) eb w)
-
 -- the names xs, which stand where the walk stood, are defined
 record DefinedAs (names : List ℕ) (inputs : ℕ) (xs slots slots' defined defined' : List ℕ) (f r : Findings) : Type 0 where
   next : r.next ≡ f.next + 2 * length xs

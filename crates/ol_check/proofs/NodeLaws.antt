@@ -319,7 +319,3 @@ ready_at rd k lt = record { reads = rd.reads; row = rd.row; many = rd.many; low 
 -- the table is the one at the start
 pub judged_same : {s names names₀ rows : List ℕ} {nodes : ℕ} {f : File} {k : ℕ} {slots slots' : List ℕ} {g r : Findings} → names ≡ names₀ → NodeJudged s names rows nodes f k slots slots' g r → NodeJudged s names₀ rows nodes f k slots slots' g r
 judged_same {s} {names} {names₀} {rows} {nodes} {f} {k} {slots} {slots'} {g} {r} e h = subst (λ l. NodeJudged s l rows nodes f k slots slots' g r) e h
-
--- the slots before the nodes, by what they are equal to
-pub judged_from : {s names : List ℕ} {f : File} {slots slots₀ slots' : List ℕ} {g r : Findings} → slots ≡ slots₀ → NodesJudged s names f slots slots' g r → NodesJudged s names f slots₀ slots' g r
-judged_from {s} {names} {f} {slots} {slots₀} {slots'} {g} {r} e h = subst (λ l. NodesJudged s names f l slots' g r) e h

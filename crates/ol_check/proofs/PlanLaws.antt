@@ -7,8 +7,7 @@ use native.Mathlib.Omega.{arith}
 use native.Mathlib.Decide.{dec_lt}
 use native.Mathlib.Numerals.{add-one}
 use lib.Dec.{T}
-use lib.ListN.{length, get_or, take, drop, length-append}
-use lib.Seq.{get_or-append-add, get_or-drop, take_at, length-take-le}
+use lib.ListN.{length, get_or, take, length-append}
 use Rattle.ol_spec.specs.Lists.{sum, concat, all_of}
 use Rattle.ol_spec.specs.Syntax.{Variable, Equation, Node, File, variables, no_node}
 use Rattle.ol_spec.specs.Places.{variable_size, equation_size, node_size, nodes_start}
@@ -23,25 +22,11 @@ use Rattle.ol_tables.specs.Tables.{node_of, two_at, two_put, plan_in, PlanOf, re
 use Rattle.ol_tables.specs.Stands.{NodeStands, FileStands}
 use Rattle.ol_tables.proofs.HeadsFile.{section_few, placed_at, passing_item, passing_nth, node_at_lem}
 use Rattle.ol_tables.proofs.Skipping.{some_size}
-use Rattle.ol_tables.proofs.TableLaws.{two_same, two_other, two_length, two_front, two_drop, two_kept}
+use Rattle.ol_tables.proofs.TableLaws.{two_same, two_other, two_length, two_kept}
 use Rattle.ol_check.specs.Judging.{size_to, Planned}
 use Rattle.ol_check.specs.NodesJudged.{place_in, NodeReady, NodePlanned, TypesLeft}
 use Rattle.ol_check.specs.Records.{callee_b}
 use Rattle.ol_check.proofs.CalleeLaws.{sum_append}
-
--- ---- a front part that was lent
-
-module _ (half : ℕ) (t x : List ℕ) (room : half ≤ length t) (same : length x ≡ length (take half t)) where
-  front_length : length x ≡ half
-  front_length = same ∙ length-take-le half t room
-
-  pub front_new : take half (x ++ drop half t) ≡ x
-  front_new = take_at x (drop half t) half front_length
-
-  pub front_rest : (y : ℕ) → half ≤ y → get_or (x ++ drop half t) y 0 ≡ get_or t y 0
-  front_rest y le =
-      let e : y ≡ length x + (y - half) = omega (arith, front_length) in
-      ap (λ n. get_or (x ++ drop half t) n 0) e ∙ get_or-append-add x (drop half t) (y - half) 0 ∙ get_or-drop half t (y - half) 0 ∙ ap (λ n. get_or t n 0) (omega arith)
 
 -- ---- so many equations
 
@@ -53,96 +38,78 @@ sum_sites c (q ∷ qs) (suc i) lt =
     omega (arith, sum_append c (equation_sites q) (concat (map equation_sites (take (suc i) qs))), sum_append c (equation_sites q) (concat (map equation_sites (take i qs))), sum_sites c qs i (omega arith))
 
 -- the plan of the first i, and the sum so far
-pub record PlanGoing (rows : List ℕ) (nodes size at : ℕ) (qs : List Equation) (half p i : ℕ) (slots slots' : List ℕ) (z : ℕ) : Type 0 where
-  pub planned : Planned rows nodes size at qs half p i slots slots'
+pub record PlanGoing (rows : List ℕ) (nodes size at : ℕ) (qs : List Equation) (p i : ℕ) (plans plans' : List ℕ) (z : ℕ) : Type 0 where
+  pub planned : Planned rows nodes size at qs p i plans plans'
   pub sized : z ≡ size_to rows nodes size qs i
 
-pub plan_start : {rows : List ℕ} {nodes size at : ℕ} {qs : List Equation} {half p : ℕ} {slots : List ℕ} → size ≤ 65536 → PlanGoing rows nodes size at qs half p 0 slots slots size
+pub plan_start : {rows : List ℕ} {nodes size at : ℕ} {qs : List Equation} {p : ℕ} {plans : List ℕ} → size ≤ 65536 → PlanGoing rows nodes size at qs p 0 plans plans size
 plan_start le =
     record {
-      planned = record { places = λ j h. absurd (omega arith); offsets = λ j h. absurd (omega arith); before = λ x h b. refl; behind = λ x h. refl };
+      planned = record { places = λ j h. absurd (omega arith); offsets = λ j h. absurd (omega arith); before = λ x h. refl; behind = λ x h. refl };
       sized = omega arith;
     }
 
-module _ {rows : List ℕ} {nodes size at : ℕ} {qs : List Equation} {half p i : ℕ} {slots₀ slots : List ℕ} {z : ℕ} (g : PlanGoing rows nodes size at qs half p i slots₀ slots z) where
+module _ {rows : List ℕ} {nodes size at : ℕ} {qs : List Equation} {p i : ℕ} {plans₀ plans : List ℕ} {z : ℕ} (g : PlanGoing rows nodes size at qs p i plans₀ plans z) where
   -- the sum does not fall below its start
   pub plan_least : size ≤ 65536 → size ≤ z
   plan_least le = omega (arith, g.sized)
 
-  module _ {many : ℕ} (n v : ℕ) {slots₁ slots₂ : List ℕ} (front : List ℕ) (em : many ≡ length qs) (lt : i < length qs) (le : half ≤ p) (room : p + 4 * length qs ≤ length slots) (some : 1 ≤ size)
-      (e₁ : slots₁ ≡ two_put slots (p + 2 * i) n) (e₂ : slots₂ ≡ two_put slots₁ (p + 2 * many + 2 * i) v) (same : length front ≡ length (take half slots₂)) where
-    long₁ : length slots₁ ≡ length slots
-    long₁ = ap length e₁ ∙ two_length slots (p + 2 * i) n
-
-    pub plan_long : length slots₂ ≡ length slots
-    plan_long = ap length e₂ ∙ two_length slots₁ (p + 2 * many + 2 * i) v ∙ long₁
-
-    -- the slots are as before
-    pub plan_front : take half slots₂ ≡ take half slots
-    plan_front = ap (take half) e₂ ∙ two_front half slots₁ (p + 2 * many + 2 * i) v (omega arith) ∙ ap (take half) e₁ ∙ two_front half slots (p + 2 * i) n (omega arith)
-
-    pub plan_back : take half (front ++ drop half slots₂) ≡ front
-    plan_back = front_new half slots₂ front (omega (arith, plan_long)) same
-
-    rest : (y : ℕ) → half ≤ y → get_or (front ++ drop half slots₂) y 0 ≡ get_or slots₂ y 0
-    rest = front_rest half slots₂ front (omega (arith, plan_long)) same
+  module _ {many : ℕ} (n v : ℕ) {plans₁ plans₂ : List ℕ} (em : many ≡ length qs) (lt : i < length qs) (room : p + 4 * length qs ≤ length plans) (some : 1 ≤ size) (e₁ : plans₁ ≡ two_put plans (p + 2 * i) n)
+      (e₂ : plans₂ ≡ two_put plans₁ (p + 2 * many + 2 * i) v) where
+    long₁ : length plans₁ ≡ length plans
+    long₁ = ap length e₁ ∙ two_length plans (p + 2 * i) n
 
     -- all but four bytes are as before
-    kept : (y : ℕ) → half ≤ y → (y ≡ p + 2 * i → ⊥) → (y ≡ p + 2 * i + 1 → ⊥) → (y ≡ p + 2 * many + 2 * i → ⊥) → (y ≡ p + 2 * many + 2 * i + 1 → ⊥) → get_or (front ++ drop half slots₂) y 0 ≡ get_or slots y 0
-    kept y h a b c d =
-        rest y h ∙ ap (λ l. get_or l y 0) e₂ ∙ two_other slots₁ (p + 2 * many + 2 * i) v y c d ∙ ap (λ l. get_or l y 0) e₁ ∙ two_other slots (p + 2 * i) n y a b
+    kept : (y : ℕ) → (y ≡ p + 2 * i → ⊥) → (y ≡ p + 2 * i + 1 → ⊥) → (y ≡ p + 2 * many + 2 * i → ⊥) → (y ≡ p + 2 * many + 2 * i + 1 → ⊥) → get_or plans₂ y 0 ≡ get_or plans y 0
+    kept y a b c d = ap (λ l. get_or l y 0) e₂ ∙ two_other plans₁ (p + 2 * many + 2 * i) v y c d ∙ ap (λ l. get_or l y 0) e₁ ∙ two_other plans (p + 2 * i) n y a b
 
-    place_put : n < 65536 → two_at (front ++ drop half slots₂) (p + 2 * i) ≡ n
+    place_put : n < 65536 → two_at plans₂ (p + 2 * i) ≡ n
     place_put low =
-        two_kept slots₁ (front ++ drop half slots₂) (p + 2 * i)
-        (rest (p + 2 * i) (omega arith) ∙ ap (λ l. get_or l (p + 2 * i) 0) e₂ ∙ two_other slots₁ (p + 2 * many + 2 * i) v (p + 2 * i) (λ q. omega arith) (λ q. omega arith))
-        (rest (p + 2 * i + 1) (omega arith) ∙ ap (λ l. get_or l (p + 2 * i + 1) 0) e₂ ∙ two_other slots₁ (p + 2 * many + 2 * i) v (p + 2 * i + 1) (λ q. omega arith) (λ q. omega arith))
-        ∙ ap (λ l. two_at l (p + 2 * i)) e₁ ∙ two_same slots (p + 2 * i) n (omega arith) low
+        two_kept plans₁ plans₂ (p + 2 * i) (ap (λ l. get_or l (p + 2 * i) 0) e₂ ∙ two_other plans₁ (p + 2 * many + 2 * i) v (p + 2 * i) (λ q. omega arith) (λ q. omega arith))
+        (ap (λ l. get_or l (p + 2 * i + 1) 0) e₂ ∙ two_other plans₁ (p + 2 * many + 2 * i) v (p + 2 * i + 1) (λ q. omega arith) (λ q. omega arith))
+        ∙ ap (λ l. two_at l (p + 2 * i)) e₁ ∙ two_same plans (p + 2 * i) n (omega arith) low
 
-    offset_put : v < 65536 → two_at (front ++ drop half slots₂) (p + 2 * many + 2 * i) ≡ v
-    offset_put low =
-        two_kept slots₂ (front ++ drop half slots₂) (p + 2 * many + 2 * i) (rest (p + 2 * many + 2 * i) (omega arith)) (rest (p + 2 * many + 2 * i + 1) (omega arith))
-        ∙ ap (λ l. two_at l (p + 2 * many + 2 * i)) e₂ ∙ two_same slots₁ (p + 2 * many + 2 * i) v (omega (arith, long₁)) low
+    offset_put : v < 65536 → two_at plans₂ (p + 2 * many + 2 * i) ≡ v
+    offset_put low = ap (λ l. two_at l (p + 2 * many + 2 * i)) e₂ ∙ two_same plans₁ (p + 2 * many + 2 * i) v (omega (arith, long₁)) low
 
     pub plan_turn : n ≡ at + sum (map equation_size (take i qs)) → n < 65536 → v ≡ z - size → size ≤ 65536 → (z' : ℕ) → z' ≡ min (z + sum (map (callee_b rows nodes) (equation_sites (get_or qs i no_equation)))) 65536
-        → PlanGoing rows nodes size at qs half p (i + 1) slots₀ (front ++ drop half slots₂) z'
+        → PlanGoing rows nodes size at qs p (i + 1) plans₀ plans₂ z'
     plan_turn en low ev small z' ez =
         let c = callee_b rows nodes in
         let o = g.planned in
-        let new = front ++ drop half slots₂ in
         record {
           planned = record {
             places = λ j h. by_cases (dec_lt j i)
-                (λ old. two_kept slots new (p + 2 * j) (kept (p + 2 * j) (omega arith) (λ q. omega arith) (λ q. omega arith) (λ q. omega arith) (λ q. omega arith))
-                (kept (p + 2 * j + 1) (omega arith) (λ q. omega arith) (λ q. omega arith) (λ q. omega arith) (λ q. omega arith)) ∙ o.places j old)
+                (λ old. two_kept plans plans₂ (p + 2 * j) (kept (p + 2 * j) (λ q. omega arith) (λ q. omega arith) (λ q. omega arith) (λ q. omega arith))
+                (kept (p + 2 * j + 1) (λ q. omega arith) (λ q. omega arith) (λ q. omega arith) (λ q. omega arith)) ∙ o.places j old)
                 (λ no. let e : j ≡ i = omega arith in rw e (place_put low ∙ en ∙ sym (placed_at equation_size qs at i lt)));
             offsets = λ j h. by_cases (dec_lt j i)
-                (λ old. two_kept slots new (p + 2 * length qs + 2 * j) (kept (p + 2 * length qs + 2 * j) (omega arith) (λ q. omega arith) (λ q. omega arith) (λ q. omega arith) (λ q. omega arith))
-                (kept (p + 2 * length qs + 2 * j + 1) (omega arith) (λ q. omega arith) (λ q. omega arith) (λ q. omega arith) (λ q. omega arith)) ∙ o.offsets j old)
+                (λ old. two_kept plans plans₂ (p + 2 * length qs + 2 * j) (kept (p + 2 * length qs + 2 * j) (λ q. omega arith) (λ q. omega arith) (λ q. omega arith) (λ q. omega arith))
+                (kept (p + 2 * length qs + 2 * j + 1) (λ q. omega arith) (λ q. omega arith) (λ q. omega arith) (λ q. omega arith)) ∙ o.offsets j old)
                 (λ no. let e : j ≡ i = omega arith in
-                rw e (ap (λ m. two_at new (p + 2 * m + 2 * i)) (sym em) ∙ offset_put (omega (arith, g.sized)) ∙ ev ∙ ap (λ m. m - size) g.sized));
-            before = λ x h b. kept x h (λ q. omega arith) (λ q. omega arith) (λ q. omega arith) (λ q. omega arith) ∙ o.before x h b;
-            behind = λ x h. kept x (omega arith) (λ q. omega arith) (λ q. omega arith) (λ q. omega arith) (λ q. omega arith) ∙ o.behind x h;
+                rw e (ap (λ m. two_at plans₂ (p + 2 * m + 2 * i)) (sym em) ∙ offset_put (omega (arith, g.sized)) ∙ ev ∙ ap (λ m. m - size) g.sized));
+            before = λ x h. kept x (λ q. omega arith) (λ q. omega arith) (λ q. omega arith) (λ q. omega arith) ∙ o.before x h;
+            behind = λ x h. kept x (λ q. omega arith) (λ q. omega arith) (λ q. omega arith) (λ q. omega arith) ∙ o.behind x h;
           };
           sized = rw (add-one i) (omega (arith, ez, g.sized, sum_sites c qs i lt));
         }
 
 -- all are planned
-pub plan_done : {rows : List ℕ} {nodes size at : ℕ} {qs : List Equation} {half p i : ℕ} {slots₀ slots : List ℕ} {z : ℕ} (many : ℕ) → PlanGoing rows nodes size at qs half p i slots₀ slots z → i ≤ many → many ≤ i → Planned rows nodes size at qs half p many slots₀ slots
-plan_done {rows} {nodes} {size} {at} {qs} {half} {p} {i} {slots₀} {slots} {z} many g under over =
+pub plan_done : {rows : List ℕ} {nodes size at : ℕ} {qs : List Equation} {p i : ℕ} {plans₀ plans : List ℕ} {z : ℕ} (many : ℕ) → PlanGoing rows nodes size at qs p i plans₀ plans z → i ≤ many → many ≤ i → Planned rows nodes size at qs p many plans₀ plans
+plan_done {rows} {nodes} {size} {at} {qs} {p} {i} {plans₀} {plans} {z} many g under over =
     let e : i ≡ many = omega arith in
-    subst (λ m. Planned rows nodes size at qs half p m slots₀ slots) e g.planned
+    subst (λ m. Planned rows nodes size at qs p m plans₀ plans) e g.planned
 
 -- a plan, by what its numbers are equal to
-planned_as : {rows : List ℕ} {nodes size size' at at' : ℕ} {qs : List Equation} {half p p' i i' : ℕ} {slots slots' : List ℕ} → size ≡ size' → at ≡ at' → p ≡ p' → i ≡ i'
-    → Planned rows nodes size at qs half p i slots slots' → Planned rows nodes size' at' qs half p' i' slots slots'
-planned_as {rows} {nodes} {size} {size'} {at} {at'} {qs} {half} {p} {p'} {i} {i'} {slots} {slots'} ez ea ep ei w =
-    subst (λ x. Planned rows nodes x at' qs half p' i' slots slots') ez
-    (subst (λ x. Planned rows nodes size x qs half p' i' slots slots') ea (subst (λ x. Planned rows nodes size at qs half x i' slots slots') ep (subst (λ x. Planned rows nodes size at qs half p x slots slots') ei w)))
+planned_as : {rows : List ℕ} {nodes size size' at at' : ℕ} {qs : List Equation} {p p' i i' : ℕ} {plans plans' : List ℕ} → size ≡ size' → at ≡ at' → p ≡ p' → i ≡ i' → Planned rows nodes size at qs p i plans plans'
+    → Planned rows nodes size' at' qs p' i' plans plans'
+planned_as {rows} {nodes} {size} {size'} {at} {at'} {qs} {p} {p'} {i} {i'} {plans} {plans'} ez ea ep ei w =
+    subst (λ x. Planned rows nodes x at' qs p' i' plans plans') ez
+    (subst (λ x. Planned rows nodes size x qs p' i' plans plans') ea (subst (λ x. Planned rows nodes size at qs x i' plans plans') ep (subst (λ x. Planned rows nodes size at qs p x plans plans') ei w)))
 
 -- the plan of a node's equations, where its row says, is the node's
-pub node_planned : {s rows : List ℕ} {nodes k : ℕ} → NodeReady s rows nodes k → {half : ℕ} {slots slots' : List ℕ} {m a p v u : ℕ} → m ≡ get_or rows (k * 8 + 5) 0 → a ≡ get_or rows (k * 8 + 1) 0 → p ≡ get_or rows (k * 8 + 7) 0
-    → v ≡ get_or rows (k * 8 + 4) 0 → u ≡ get_or rows (k * 8 + 4) 0 → Planned rows nodes (1 + 9 * u) a (node_of (file_at s) k).equations half (half + p + 2 * v) m slots slots' → NodePlanned rows nodes (file_at s) half k slots slots'
+pub node_planned : {s rows : List ℕ} {nodes k : ℕ} → NodeReady s rows nodes k → {plans plans' : List ℕ} {m a p v u : ℕ} → m ≡ get_or rows (k * 8 + 5) 0 → a ≡ get_or rows (k * 8 + 1) 0 → p ≡ get_or rows (k * 8 + 7) 0
+    → v ≡ get_or rows (k * 8 + 4) 0 → u ≡ get_or rows (k * 8 + 4) 0 → Planned rows nodes (1 + 9 * u) a (node_of (file_at s) k).equations (p + 2 * v) m plans plans' → NodePlanned rows nodes (file_at s) k plans plans'
 node_planned {s} {rows} {nodes} {k} rd em ea ep ev eu w =
     let row = rd.row k (omega (arith, rd.low, rd.many)) in
     planned_as (omega (arith, eu, row.variables)) (ea ∙ row.equations) (omega (arith, ep, ev, row.place, row.variables)) (em ∙ row.count) w
@@ -189,31 +156,26 @@ module _ {s : List ℕ} {f : File} (st : FileStands s f) where
   plans_apart : (j k : ℕ) → j < k → k < length f.nodes → plan_in f j + 4 * length (node_of f j).equations ≤ place_in f k
   plans_apart j k less lt = omega (arith, nodes_apart j k less lt, plan_room (node_of f j) (node_at_lem st j (omega arith)))
 
-  module _ {rows : List ℕ} {nodes half k : ℕ} {slots slots' : List ℕ} (w : NodePlanned rows nodes f half k slots slots') (lt : k < length f.nodes) where
+  module _ {rows : List ℕ} {nodes k : ℕ} {plans plans' : List ℕ} (w : NodePlanned rows nodes f k plans plans') (lt : k < length f.nodes) where
     -- the plan of a node before it is left
-    pub plan_kept : (j : ℕ) → j < k → PlanOf f (drop half slots) j → PlanOf f (drop half slots') j
+    pub plan_kept : (j : ℕ) → j < k → PlanOf f plans j → PlanOf f plans' j
     plan_kept j less o =
         let far = plans_apart j k less lt in
-        let same : (q : ℕ) → q + 1 < plan_in f k → two_at (drop half slots') q ≡ two_at (drop half slots) q = λ q h.
-        two_drop half slots' q (half + q) refl ∙ two_kept slots slots' (half + q) (w.before (half + q) (omega arith) (omega arith)) (w.before (half + q + 1) (omega arith) (omega arith)) ∙ sym (two_drop half slots q (half + q) refl) in
+        let same : (q : ℕ) → q + 1 < plan_in f k → two_at plans' q ≡ two_at plans q = λ q h. two_kept plans plans' q (w.before q (omega arith)) (w.before (q + 1) h) in
         record {
           places = λ i h. same (plan_in f j + 2 * i) (omega (arith, far)) ∙ o.places i h;
           offsets = λ few i h. same (plan_in f j + 2 * length (node_of f j).equations + 2 * i) (omega (arith, far)) ∙ o.offsets few i h;
         }
 
     -- the types of all nodes are left
-    pub types_left : TypesLeft f half slots slots'
+    pub types_left : TypesLeft f plans plans'
     types_left =
         record {
           left = λ j h x a b. by_cases (dec_lt k j)
-              (λ over. w.behind (half + x) (omega (arith, plans_apart k j over h)))
-              (λ under. w.before (half + x) (omega arith) (by_cases (dec_lt j k) (λ less. omega (arith, plans_apart j k less lt, b)) (λ same. let e : j ≡ k = omega arith in omega (arith, subst (λ m. x < plan_in f m) e b))));
+              (λ over. w.behind x (omega (arith, plans_apart k j over h)))
+              (λ under. w.before x (by_cases (dec_lt j k) (λ less. omega (arith, plans_apart j k less lt, b)) (λ same. let e : j ≡ k = omega arith in omega (arith, subst (λ m. x < plan_in f m) e b))));
         }
 
     -- and its own is the file's
-    pub plan_made : ((i : ℕ) → i < length (node_of f k).equations → record_bytes f k ≤ 32768 → size_to rows nodes (own_size (node_of f k)) (node_of f k).equations i - own_size (node_of f k) ≡ bytes_before f k i) → PlanOf f (drop half slots') k
-    plan_made told =
-        record {
-          places = λ i h. two_drop half slots' (plan_in f k + 2 * i) (half + plan_in f k + 2 * i) (omega arith) ∙ w.places i h;
-          offsets = λ few i h. two_drop half slots' (plan_in f k + 2 * length (node_of f k).equations + 2 * i) (half + plan_in f k + 2 * length (node_of f k).equations + 2 * i) (omega arith) ∙ w.offsets i h ∙ told i h few;
-        }
+    pub plan_made : ((i : ℕ) → i < length (node_of f k).equations → record_bytes f k ≤ 32768 → size_to rows nodes (own_size (node_of f k)) (node_of f k).equations i - own_size (node_of f k) ≡ bytes_before f k i) → PlanOf f plans' k
+    plan_made told = record { places = λ i h. w.places i h; offsets = λ few i h. w.offsets i h ∙ told i h few }

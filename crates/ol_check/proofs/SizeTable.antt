@@ -209,20 +209,20 @@ module _ {s rows₀ rows : List ℕ} {nodes k : ℕ} (rd : RowsReady s rows₀ n
       }
 
 -- the plans of the nodes below k + 1
-pub plans_turn : {s rows₀ rows : List ℕ} {nodes k size₁ size₀ half : ℕ} {slots : List ℕ} (slots' : List ℕ) → RowsReady s rows₀ nodes → SizesGoing s rows₀ nodes size₁ rows size₀ k → Bytes s → k < nodes
-    → NodePlanned rows nodes (file_at s) half k slots slots' → PlansBelow (file_at s) half slots k → PlansBelow (file_at s) half slots' (k + 1)
-plans_turn {s} {rows₀} {rows} {nodes} {k} {half = half} slots' rd g bytes lt w below =
+pub plans_turn : {s rows₀ rows : List ℕ} {nodes k size₁ size₀ : ℕ} {plans : List ℕ} (plans' : List ℕ) → RowsReady s rows₀ nodes → SizesGoing s rows₀ nodes size₁ rows size₀ k → Bytes s → k < nodes
+    → NodePlanned rows nodes (file_at s) k plans plans' → PlansBelow (file_at s) plans k → PlansBelow (file_at s) plans' (k + 1)
+plans_turn {s} {rows₀} {rows} {nodes} {k} plans' rd g bytes lt w below =
     λ no j h.
     let f = file_at s in
     let st = file_stands bytes rd.reads in
     let low : k < length f.nodes = omega (arith, rd.many) in
     by_cases (dec_lt j k) (λ old. plan_kept st w low j old (below no j old))
     (λ new. let e : k ≡ j = omega arith in
-    subst (PlanOf f (drop half slots')) e (plan_made st w low (λ i m few. before_sized bytes rd.reads no rows nodes k rd.many lt (g.sizes no) i (few_variables (node_at_lem st k low)) few)))
+    subst (PlanOf f plans') e (plan_made st w low (λ i m few. before_sized bytes rd.reads no rows nodes k rd.many lt (g.sizes no) i (few_variables (node_at_lem st k low)) few)))
 
 -- the types of all nodes are left
-pub types_turn : {s rows₀ rows : List ℕ} {nodes k half : ℕ} {slots₀ slots : List ℕ} (slots' : List ℕ) → RowsReady s rows₀ nodes → Bytes s → k < nodes → NodePlanned rows nodes (file_at s) half k slots slots' → TypesLeft (file_at s) half slots₀ slots → TypesLeft (file_at s) half slots₀ slots'
-types_turn slots' rd bytes lt w h = record { left = λ j l x a b. (types_left (file_stands bytes rd.reads) w (omega (arith, rd.many))).left j l x a b ∙ h.left j l x a b }
+pub types_turn : {s rows₀ rows : List ℕ} {nodes k : ℕ} {plans₀ plans : List ℕ} (plans' : List ℕ) → RowsReady s rows₀ nodes → Bytes s → k < nodes → NodePlanned rows nodes (file_at s) k plans plans' → TypesLeft (file_at s) plans₀ plans → TypesLeft (file_at s) plans₀ plans'
+types_turn plans' rd bytes lt w h = record { left = λ j l x a b. (types_left (file_stands bytes rd.reads) w (omega (arith, rd.many))).left j l x a b ∙ h.left j l x a b }
 
 -- the rows are the file's
 pub rows_sized : {f : File} {rows rows' : List ℕ} → length rows' ≡ 272 → ((e : ℕ) → e < length f.enums → first_at rows e ≡ get_or (get_or f.enums e []) 0 0) → SizesDone f rows rows'

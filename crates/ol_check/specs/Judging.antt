@@ -253,9 +253,9 @@ pub record EquationsJudged (s names rows : List ℕ) (nodes : ℕ) (f : File) (v
 abbrev pub size_to : List ℕ → ℕ → ℕ → List Equation → ℕ → ℕ
 size_to rows nodes size qs i = min (size + sum (map (callee_b rows nodes) (concat (map equation_sites (take i qs))))) 65536
 
--- the plan of equations, the first of which stands at `at`, is stored from p on for the first i of them: where each stands, then the bytes of the records before it. What stands behind `half` and outside the plan is as before
-pub record Planned (rows : List ℕ) (nodes size at : ℕ) (qs : List Equation) (half p i : ℕ) (slots slots' : List ℕ) : Type 0 where
-  pub places : (j : ℕ) → j < i → two_at slots' (p + 2 * j) ≡ get_or (map (λ q. q.0) (placed equation_size at qs)) j 0
-  pub offsets : (j : ℕ) → j < i → two_at slots' (p + 2 * length qs + 2 * j) ≡ size_to rows nodes size qs j - size
-  pub before : (x : ℕ) → half ≤ x → x < p → get_or slots' x 0 ≡ get_or slots x 0
-  pub behind : (x : ℕ) → p + 4 * length qs ≤ x → get_or slots' x 0 ≡ get_or slots x 0
+-- the plan of equations, the first of which stands at `at`, is stored from p on for the first i of them: where each stands, then the bytes of the records before it. What stands outside the plan is as before
+pub record Planned (rows : List ℕ) (nodes size at : ℕ) (qs : List Equation) (p i : ℕ) (plans plans' : List ℕ) : Type 0 where
+  pub places : (j : ℕ) → j < i → two_at plans' (p + 2 * j) ≡ get_or (map (λ q. q.0) (placed equation_size at qs)) j 0
+  pub offsets : (j : ℕ) → j < i → two_at plans' (p + 2 * length qs + 2 * j) ≡ size_to rows nodes size qs j - size
+  pub before : (x : ℕ) → x < p → get_or plans' x 0 ≡ get_or plans x 0
+  pub behind : (x : ℕ) → p + 4 * length qs ≤ x → get_or plans' x 0 ≡ get_or plans x 0

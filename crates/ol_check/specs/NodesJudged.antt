@@ -1,5 +1,5 @@
 -- Faults 7 to 10 of a node's equations, and their slots.
-use Rattle.std.specs.Prelude.{ℕ, ◌+◌, ◌<◌, ◌≤◌, min, List, [], ◌∷◌, map, ◌≡◌, length, get_or, replicate, drop}
+use Rattle.std.specs.Prelude.{ℕ, ◌+◌, ◌<◌, ◌≤◌, min, List, [], ◌∷◌, map, ◌≡◌, length, get_or, replicate}
 use Rattle.std.proofs.Math.Option.{none}
 use Rattle.ol_spec.specs.Syntax.{Node, File, variables}
 use Rattle.ol_spec.specs.Places.{placed_nodes, placed_equations, equations_start}
@@ -68,10 +68,10 @@ pub record NodeJudged (s names rows : List ℕ) (nodes : ℕ) (f : File) (k : �
   pub slotted : slots' ≡ slot_equations s (node_table names (node_of f k)) slots (placed_equations (place_in f k) (node_of f k))
   pub sized : r.size ≡ min (instance_b rows nodes (node_of f k)) 65536
 
--- node k's plan is stored, as the rows tell it; the plans stand behind `half` bytes
-abbrev pub NodePlanned : List ℕ → ℕ → File → ℕ → ℕ → List ℕ → List ℕ → Type 0
-NodePlanned rows nodes f half k slots slots' =
-    Planned rows nodes (own_size (node_of f k)) (equations_start (place_in f k) (node_of f k) + 1) (node_of f k).equations half (half + plan_in f k) (length (node_of f k).equations) slots slots'
+-- node k's plan is stored, as the rows tell it
+abbrev pub NodePlanned : List ℕ → ℕ → File → ℕ → List ℕ → List ℕ → Type 0
+NodePlanned rows nodes f k plans plans' =
+    Planned rows nodes (own_size (node_of f k)) (equations_start (place_in f k) (node_of f k) + 1) (node_of f k).equations (plan_in f k) (length (node_of f k).equations) plans plans'
 
 -- ---- all nodes
 
@@ -105,9 +105,9 @@ pub record NodesJudged (s names : List ℕ) (f : File) (slots slots' : List ℕ)
   pub slotted : slots' ≡ slot_nodes s names slots (placed_nodes f)
 
 -- the types of the nodes' variables, which stand before what their equations need, are left
-pub record TypesLeft (f : File) (half : ℕ) (slots slots' : List ℕ) : Type 0 where
-  pub left : (k : ℕ) → k < length f.nodes → (x : ℕ) → place_in f k ≤ x → x < plan_in f k → get_or slots' (half + x) 0 ≡ get_or slots (half + x) 0
+pub record TypesLeft (f : File) (plans plans' : List ℕ) : Type 0 where
+  pub left : (k : ℕ) → k < length f.nodes → (x : ℕ) → place_in f k ≤ x → x < plan_in f k → get_or plans' x 0 ≡ get_or plans x 0
 
 -- the plans of the nodes below k are those of the file, where 9 does not hold
-abbrev pub PlansBelow : File → ℕ → List ℕ → ℕ → Type 0
-PlansBelow f half slots k = fault9 f ≡ none → (j : ℕ) → j < k → PlanOf f (drop half slots) j
+abbrev pub PlansBelow : File → List ℕ → ℕ → Type 0
+PlansBelow f plans k = fault9 f ≡ none → (j : ℕ) → j < k → PlanOf f plans j

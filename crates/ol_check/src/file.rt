@@ -1,6 +1,6 @@
 // Faults 7 to 10 of a whole file, the slots of its names, and the lengths of its records.
 ghost use Rattle.std.proofs.Math.Option.{none};
-ghost use Rattle.std.specs.Prelude.{◌≡◌, ℕ, ◌<◌, ◌≤◌, ◌+◌, length, take, drop};
+ghost use Rattle.std.specs.Prelude.{◌≡◌, ℕ, ◌<◌, ◌≤◌, length};
 ghost use Rattle.ol_spec.specs.Admission.{fault9};
 ghost use Rattle.ol_tables.specs.At.{file_at};
 ghost use Rattle.ol_tables.specs.Tables.{PlanOf};
@@ -17,7 +17,7 @@ use ol_tables::bytes::byte;
 use ol_tables::tables::FileRows;
 
 // Faults 7 to 10 of a file that reads without fault, and the bytes of an instance of its last node.
-// The table by name is empty, and longer than every declared name. The first `half` bytes of `slots` are the slots; behind them stand the
+// The table by name is empty, and longer than every declared name. The slots of the names are written into `slots`. In `plans` stand the
 // nodes' plans, of which the types are left; what the other bytes there are is not told.
 pub fn faults(
     file: &[u8],
@@ -25,12 +25,12 @@ pub fn faults(
     sections: Sections,
     names: &mut [u8],
     slots: &mut [u8],
-    half: usize,
+    plans: &mut [u8],
 ) -> Faults
-    requires { FileReady file.now (numbers rows.old) names.old sections × NamesWithin (length names.old) (file_at file.now) × (half ≤ length slots.old) × (length file.now ≤ half) × (half + length file.now ≤ length slots.old) }
-    ensures judged { FileJudged file.now (file_at file.now) names.old names.new (take half slots.old) (take half slots.new) (numbers rows.old) (numbers rows.new) result }
-    ensures planned { fault9 (file_at file.now) ≡ none → (k : ℕ) → k < length (file_at file.now).nodes → PlanOf (file_at file.now) (drop half slots.new) k }
-    ensures typed { TypesLeft (file_at file.now) half slots.old slots.new }
+    requires { FileReady file.now (numbers rows.old) names.old sections × NamesWithin (length names.old) (file_at file.now) × (length file.now ≤ length plans.old) }
+    ensures judged { FileJudged file.now (file_at file.now) names.old names.new slots.old slots.new (numbers rows.old) (numbers rows.new) result }
+    ensures planned { fault9 (file_at file.now) ≡ none → (k : ℕ) → k < length (file_at file.now).nodes → PlanOf (file_at file.now) plans.new k }
+    ensures typed { TypesLeft (file_at file.now) plans.old plans.new }
 {
     let c = sections.constants;
     let n = sections.nodes;
@@ -40,15 +40,7 @@ pub fn faults(
         next: c + 1,
         ..Faults::default()
     };
-    judge_constants(
-        file,
-        names,
-        &mut slots[..half],
-        rows,
-        nodes,
-        byte(file, c),
-        &mut g,
-    );
-    judge_nodes(file, names, slots, rows, nodes, half, &mut g);
+    judge_constants(file, names, slots, rows, nodes, byte(file, c), &mut g);
+    judge_nodes(file, names, slots, plans, rows, nodes, &mut g);
     g
 }

@@ -1,5 +1,5 @@
 // Faults 7 to 10 of every expression and equation, the slots of the names, and the records of the call sites.
-ghost use Rattle.std.specs.Prelude.{◌≡◌, ◌≤◌, ◌<◌, ◌+◌, ◌*◌, length, take};
+ghost use Rattle.std.specs.Prelude.{◌≡◌, ◌≤◌, ◌<◌, ◌+◌, ◌*◌, length};
 ghost use Rattle.ol_spec.specs.Admission.{bad_call};
 ghost use Rattle.ol_tables.specs.At.{file_at};
 ghost use Rattle.ol_tables.specs.Tables.{node_of};
@@ -244,29 +244,29 @@ impl<'a> Judge<'a> {
         self.root(slots, at, many, g);
     }
 
-    // So many equations of a node of so many inputs, from where the walk stands. The first `half` bytes of `slots` are the slots; from `plan` on the node's plan is
-    // written: where each equation stands, and then how many bytes the records of the equations before it have.
+    // So many equations of a node of so many inputs, from where the walk stands. The node's plan is written into `plans` from `plan` on: where each equation stands,
+    // and then how many bytes the records of the equations before it have.
     pub(crate) fn equations(
         &self,
         slots: &mut [u8],
+        plans: &mut [u8],
         defined: &mut [u8],
         inputs: usize,
         many: usize,
-        half: usize,
         plan: usize,
         g: &mut Faults,
     )
-        requires { EquationsReady self.now.file.now self.now.names.now (numbers self.now.rows.now) self.now.nodes self.now.node many g.old.next × (g.old.size ≤ 65536) × (1 ≤ g.old.size) × (half ≤ plan) × (plan + 4 * many ≤ length slots.old) }
-        ensures { let f = file_at self.now.file.now in let n = node_of f self.now.node in EquationsJudged self.now.file.now self.now.names.now (numbers self.now.rows.now) self.now.nodes f (seen_in f self.now.node) (bad_call f self.now.node n) inputs g.old.next n.equations (take half slots.old) (take half slots.new) defined.old defined.new (findings g.old) (findings g.new) × Planned (numbers self.now.rows.now) self.now.nodes g.old.size g.old.next n.equations half plan many slots.old slots.new }
+        requires { EquationsReady self.now.file.now self.now.names.now (numbers self.now.rows.now) self.now.nodes self.now.node many g.old.next × (g.old.size ≤ 65536) × (1 ≤ g.old.size) × (plan + 4 * many ≤ length plans.old) }
+        ensures { let f = file_at self.now.file.now in let n = node_of f self.now.node in EquationsJudged self.now.file.now self.now.names.now (numbers self.now.rows.now) self.now.nodes f (seen_in f self.now.node) (bad_call f self.now.node n) inputs g.old.next n.equations slots.old slots.new defined.old defined.new (findings g.old) (findings g.new) × Planned (numbers self.now.rows.now) self.now.nodes g.old.size g.old.next n.equations plan many plans.old plans.new }
     {
         let start = g.size;
         for i in 0..many {
             if self.file.len() <= g.next {
                 return;
             }
-            put_two(slots, plan + 2 * i, g.next);
-            put_two(slots, plan + 2 * many + 2 * i, g.size - start);
-            self.equation(&mut slots[..half], defined, inputs, g);
+            put_two(plans, plan + 2 * i, g.next);
+            put_two(plans, plan + 2 * many + 2 * i, g.size - start);
+            self.equation(slots, defined, inputs, g);
         }
     }
 }

@@ -1,5 +1,5 @@
 // Faults 7 to 10 of the nodes, and the lengths of their records: a node's variables are entered, its equations judged, and its variables taken back.
-ghost use Rattle.std.specs.Prelude.{◌≡◌, ℕ, map, ◌≤◌, ◌<◌, ◌+◌, ◌*◌, length, set, take};
+ghost use Rattle.std.specs.Prelude.{◌≡◌, ℕ, map, ◌≤◌, ◌<◌, ◌+◌, ◌*◌, length, set};
 ghost use Rattle.ol_spec.specs.Syntax.{variables, name_of};
 ghost use Rattle.ol_tables.specs.At.{file_at};
 ghost use Rattle.ol_tables.specs.Tables.{node_of, row_at};
@@ -63,19 +63,19 @@ fn forget_node(file: &[u8], names: &mut [u8], rows: &FileRows, k: usize)
 }
 
 // Judges node `k`, and stores the length of its records. The table by name is as before in the end.
-// That `slots` has room for the plans stays a fact here and in two functions: a struct of `slots` and `half` would hold a `&mut`, and lend one of its parts in every call.
+// That `plans` has room for the plans stays a fact here and in two functions: a struct of `slots` and `plans` would hold two `&mut`, and lend each of them in every call.
 fn node(
     file: &[u8],
     names: &mut [u8],
     slots: &mut [u8],
+    plans: &mut [u8],
     rows: &mut FileRows,
     nodes: usize,
     k: usize,
-    half: usize,
     g: &mut Faults,
 )
-    requires { NodeReady file.now (numbers rows.old) nodes k × NamesReady names.old (file_at file.now) × (half + length file.now ≤ length slots.old) }
-    ensures { (names.new ≡ names.old) × (numbers rows.new ≡ set (numbers rows.old) (k * 8 + 6) (record_by (row_at (numbers rows.old) k 0) g.new.size)) × NodeJudged file.now names.old (numbers rows.old) nodes (file_at file.now) k (take half slots.old) (take half slots.new) (findings g.old) (findings g.new) × NodePlanned (numbers rows.old) nodes (file_at file.now) half k slots.old slots.new }
+    requires { NodeReady file.now (numbers rows.old) nodes k × NamesReady names.old (file_at file.now) × (length file.now ≤ length plans.old) }
+    ensures { (names.new ≡ names.old) × (numbers rows.new ≡ set (numbers rows.old) (k * 8 + 6) (record_by (row_at (numbers rows.old) k 0) g.new.size)) × NodeJudged file.now names.old (numbers rows.old) nodes (file_at file.now) k slots.old slots.new (findings g.old) (findings g.new) × NodePlanned (numbers rows.old) nodes (file_at file.now) k plans.old plans.new }
 {
     declare_node(file, names, rows, k);
     // A byte for each entry, and no bool: it is a table by entry as those of the names and the sorts are, and its clauses are theirs.
@@ -92,11 +92,11 @@ fn node(
     };
     judge.equations(
         slots,
+        plans,
         &mut defined,
         row.inputs,
         row.count,
-        half,
-        half + row.place + 2 * row.variables,
+        row.place + 2 * row.variables,
         g,
     );
     forget_node(file, names, rows, k);
@@ -108,15 +108,15 @@ pub(crate) fn judge_nodes(
     file: &[u8],
     names: &mut [u8],
     slots: &mut [u8],
+    plans: &mut [u8],
     rows: &mut FileRows,
     nodes: usize,
-    half: usize,
     g: &mut Faults,
 )
-    requires { RowsReady file.now (numbers rows.old) nodes × NamesReady names.old (file_at file.now) × (half + length file.now ≤ length slots.old) }
-    ensures { (names.new ≡ names.old) × NodesJudged file.now names.old (file_at file.now) (take half slots.old) (take half slots.new) (findings g.old) (findings g.new) × NodesSized (file_at file.now) (numbers rows.old) (numbers rows.new) g.old.size g.new.size × PlansBelow (file_at file.now) half slots.new nodes × TypesLeft (file_at file.now) half slots.old slots.new }
+    requires { RowsReady file.now (numbers rows.old) nodes × NamesReady names.old (file_at file.now) × (length file.now ≤ length plans.old) }
+    ensures { (names.new ≡ names.old) × NodesJudged file.now names.old (file_at file.now) slots.old slots.new (findings g.old) (findings g.new) × NodesSized (file_at file.now) (numbers rows.old) (numbers rows.new) g.old.size g.new.size × PlansBelow (file_at file.now) plans.new nodes × TypesLeft (file_at file.now) plans.old plans.new }
 {
     for k in 0..nodes {
-        node(file, names, slots, rows, nodes, k, half, g);
+        node(file, names, slots, plans, rows, nodes, k, g);
     }
 }

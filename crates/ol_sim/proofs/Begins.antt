@@ -8,7 +8,7 @@ use mathlib.Core.Logic.{by_cases}
 use native.Mathlib.Omega.{arith}
 use native.Mathlib.Decide.{dec_lt}
 use lib.ListN.{length, get_or, take, drop, replicate, length-replicate, length-append, length-drop, get_or-append, get_or-eq_default}
-use lib.Seq.{get_or-take, get_or-drop, get_or-append-add, length-take-le}
+use lib.Seq.{get_or-take, get_or-drop, get_or-append-add, length-take-le, take_at, drop_at}
 use Rattle.ol_spec.specs.Limits.{relay_loader}
 use Rattle.ol_spec.specs.Syntax.{File}
 use Rattle.ol_spec.specs.Admission as Adm
@@ -20,7 +20,6 @@ use Rattle.ol_check.specs.RowsDone.{NodeTypes, Typed, TablesDone, PlacesAre}
 use Rattle.ol_check.specs.NodesJudged.{TypesLeft}
 use Rattle.ol_check.specs.declared.rows.Sections.{Sections}
 use Rattle.ol_check.specs.FileJudged.{NamesWithin, FileJudged}
-use Rattle.ol_check.specs.FileJudged.{FileReady as Ready}
 use Rattle.ol_check.specs.declared.Faults.{Faults}
 use Rattle.ol_check.specs.Clashing.{DeclaredReady, Blank}
 use Rattle.ol_sim.specs.Judging.{whole, from6, Loads, FileReady, Rowed, TypesIn, SectionsReady, Empty, NamesReady, FaultsAre, ShapesReady, half_of, slots_of, plans_of}
@@ -29,7 +28,7 @@ use Rattle.ol_sim.specs.declared.program.Project.{Project}
 use Rattle.ol_tables.proofs.HeadsFile.{file_stands}
 use Rattle.ol_check.proofs.RowLoops.{types_stay}
 use Rattle.ol_check.proofs.SizeTable.{rows_sized}
-use Rattle.ol_tables.proofs.Lending.{tail_of, put_tail, tail_all, take_put, drop_put, length_put}
+use Rattle.ol_tables.proofs.Lending.{tail_of, put_tail, tail_all, drop_put, length_put}
 
 -- ---- tables by name
 
@@ -54,9 +53,6 @@ rowed_done h d =
 pub declared_ready : {s rows : List ℕ} {c : Sections} → Rowed s rows c → DeclaredReady s rows c
 declared_ready r = record { reads = r.reads; row = r.row; sections = r.sections }
 
-pub faults_ready : {s rows tab names : List ℕ} {c : Sections} {low : Bool} → NamesReady s rows tab names c low → Ready s rows names c
-faults_ready h = let r = h.sections.rowed in record { reads = r.reads; row = r.row; sections = r.sections; empty = h.empty.zero }
-
 -- the nodes' places and types stay where their bytes do
 types_same : (f : File) (tab tab' : List ℕ) → length f.nodes ≤ 32 → length tab ≡ length tab' → ((i : ℕ) → i < 4017 → get_or tab' i 0 ≡ get_or tab i 0)
     → ((k : ℕ) → k < length f.nodes → (i : ℕ) → 4017 + half_of tab + place_of (placed_nodes f) k ≤ i → i < 4017 + half_of tab + plan_in f k → get_or tab' i 0 ≡ get_or tab i 0) → TypesIn f tab → TypesIn f tab'
@@ -69,12 +65,6 @@ types_same f tab tab' few long front types h =
           subst (λ m. NodeTypes (node_of f k) at k (64 + m) (drop 3953 tab')) half
           (types_stay (64 + half_of tab + plan_in f k) (omega arith) (λ i a b. byte i (types k lt (3953 + i) (omega (arith, a)) (omega (arith, b)))) (byte (2 * k) (front (3953 + 2 * k) (omega arith))) (byte (2 * k + 1) (front (3953 + (2 * k + 1)) (omega arith))) (h.typed k lt));
     }
-
--- room for the slots and the plans
-pub walk_room : {s rows tab : List ℕ} {c : Sections} → SectionsReady s rows tab c → (half_of tab ≤ length (tail_of 4017 tab)) × (length s ≤ half_of tab) × (half_of tab + length s ≤ length (tail_of 4017 tab))
-walk_room {tab = tab} h =
-    let tail : length (tail_of 4017 tab) ≡ length tab - 4017 = ap length (tail_all 4017 tab) ∙ length-drop 4017 tab in
-    (omega (arith, tail), omega (arith, h.tab_long), omega (arith, tail, h.tab_long))
 
 -- room for the nodes' places and the plans
 pub types_room : {s tab : List ℕ} → FileReady s tab → 64 + half_of tab + length s ≤ length (tail_of 3953 tab)
@@ -166,23 +156,31 @@ module _ {s rows tab : List ℕ} {c : Sections} (x : List ℕ) (h : FileReady s 
 faults_are : {s names names' slots slots' rows rows' : List ℕ} {found : Faults} → FileJudged s (file_at s) names names' slots slots' rows rows' found → FaultsAre (file_at s) found
 faults_are j = record { unseen = j.unseen; again = j.again; called = j.called; shaped = j.shaped }
 
-pub shapes_ready : {s rows rows' tab names names' : List ℕ} {c : Sections} {low : Bool} {found : Faults} (x : List ℕ) → NamesReady s rows tab names c low → length rows' ≡ 272 → length x ≡ length (tail_of 4017 tab) → Adm.fault6 (file_at s) ≡ none → FileJudged s (file_at s) names names' (take (half_of tab) (tail_of 4017 tab)) (take (half_of tab) x) rows rows' found → (Adm.fault9 (file_at s) ≡ none → (k : ℕ) → k < length (file_at s).nodes → PlanOf (file_at s) (drop (half_of tab) x) k) → TypesLeft (file_at s) (half_of tab) (tail_of 4017 tab) x → ShapesReady s rows' (put_tail 4017 tab x) c low found
-shapes_ready {s} {rows = rows} {rows'} {tab} {names} {names'} {found = found} x h long e no6 j p tl =
+-- a byte of the last of three parts
+in_third : (xs ys zs : List ℕ) (i : ℕ) → get_or (xs ++ (ys ++ zs)) (length xs + (length ys + i)) 0 ≡ get_or zs i 0
+in_third xs ys zs i = get_or-append-add xs (ys ++ zs) (length ys + i) 0 ∙ get_or-append-add ys zs i 0
+
+-- the parts of the table are `head`, the slots and the plans, of which the last two are left as slots' and plans'
+pub shapes_ready : {s rows rows' tab names names' slots plans slots' plans' : List ℕ} {c : Sections} {low : Bool} {found : Faults} (head : List ℕ) → NamesReady s rows tab names c low → length rows' ≡ 272 → Adm.fault6 (file_at s) ≡ none
+    → tab ≡ head ++ (slots ++ plans) → length head ≡ 4017 → length slots ≡ half_of tab → length slots' ≡ length slots → length plans' ≡ length plans → FileJudged s (file_at s) names names' slots slots' rows rows' found
+    → (Adm.fault9 (file_at s) ≡ none → (k : ℕ) → k < length (file_at s).nodes → PlanOf (file_at s) plans' k) → TypesLeft (file_at s) plans plans' → ShapesReady s rows' (head ++ (slots' ++ plans')) c low found
+shapes_ready {s} {rows = rows} {rows'} {tab} {names} {names'} {slots} {plans} {slots'} {plans'} {found = found} head h long no6 parts head_long slots_long same_slots same_plans j p tl =
     let d = h.sections in
     let r = d.rowed in
-    let u : 4017 ≤ length tab = omega (arith, d.tab_long) in
-    let tab' = put_tail 4017 tab x in
-    let half : half_of tab' ≡ half_of tab = ap (λ n. (n - 4017) / 2) (length_put 4017 tab x u e) in
-    let slots : slots_of tab' ≡ take (half_of tab) x = λ i. take (half i) (drop_put 4017 tab x u i) in
-    let plans : plans_of tab' ≡ drop (half_of tab) x = λ i. drop (half i) (drop_put 4017 tab x u i) in
-    let tail : length (tail_of 4017 tab) ≡ length tab - 4017 = ap length (tail_all 4017 tab) ∙ length-drop 4017 tab in
-    let front : (i : ℕ) → i < 4017 → get_or tab' i 0 ≡ get_or tab i 0 = λ i lt. sym (get_or-take 4017 tab' i 0 lt) ∙ ap (λ l. get_or l i 0) (take_put 4017 tab x u) ∙ get_or-take 4017 tab i 0 lt in
+    let tab' = head ++ (slots' ++ plans') in
+    let same : length tab' ≡ length tab = omega (arith, length-append head (slots' ++ plans'), length-append slots' plans', same_slots, same_plans, ap length parts, length-append head (slots ++ plans), length-append slots plans) in
+    let half : half_of tab' ≡ half_of tab = ap (λ n. (n - 4017) / 2) same in
+    let behind : drop 4017 tab' ≡ slots' ++ plans' = drop_at head (slots' ++ plans') 4017 head_long in
+    let slots_are : slots_of tab' ≡ slots' = (λ i. take (half i) (behind i)) ∙ take_at slots' plans' (half_of tab) (same_slots ∙ slots_long) in
+    let plans_are : plans_of tab' ≡ plans' = (λ i. drop (half i) (behind i)) ∙ drop_at slots' plans' (half_of tab) (same_slots ∙ slots_long) in
+    let front : (i : ℕ) → i < 4017 → get_or tab' i 0 ≡ get_or tab i 0 = λ i lt.
+    get_or-append head (slots' ++ plans') 0 i (omega (arith, head_long, lt)) ∙ sym (get_or-append head (slots ++ plans) 0 i (omega (arith, head_long, lt))) ∙ ap (λ l. get_or l i 0) (sym parts) in
     let left : (k : ℕ) → k < length (file_at s).nodes → (i : ℕ) → 4017 + half_of tab + place_of (placed_nodes (file_at s)) k ≤ i → i < 4017 + half_of tab + plan_in (file_at s) k → get_or tab' i 0 ≡ get_or tab i 0 =
     λ k lt i a b.
     let y = i - (4017 + half_of tab) in
-    let n : i ≡ 4017 + (half_of tab + y) = omega (arith, a) in
-    ap (λ m. get_or tab' m 0) n ∙ sym (get_or-drop 4017 tab' (half_of tab + y) 0) ∙ ap (λ l. get_or l (half_of tab + y) 0) (drop_put 4017 tab x u) ∙ tl.left k lt y (omega (arith, a)) (omega (arith, a, b))
-    ∙ ap (λ l. get_or l (half_of tab + y) 0) (tail_all 4017 tab) ∙ get_or-drop 4017 tab (half_of tab + y) 0 ∙ ap (λ m. get_or tab m 0) (sym n) in
+    let n' : i ≡ length head + (length slots' + y) = omega (arith, a, head_long, slots_long, same_slots) in
+    let n : length head + (length slots + y) ≡ i = omega (arith, a, head_long, slots_long) in
+    ap (λ m. get_or tab' m 0) n' ∙ in_third head slots' plans' y ∙ tl.left k lt y (omega (arith, a)) (omega (arith, a, b)) ∙ sym (in_third head slots plans y) ∙ ap (λ m. get_or (head ++ (slots ++ plans)) m 0) n ∙ ap (λ l. get_or l i 0) (sym parts) in
     record {
       sections = record {
         rowed = record {
@@ -192,23 +190,23 @@ shapes_ready {s} {rows = rows} {rows'} {tab} {names} {names'} {found = found} x 
           row = j.sized.row;
           firsts = λ n g. j.sized.above (256 + n) (omega arith) ∙ r.firsts n g;
         };
-        typed = types_same (file_at s) tab tab' r.stands.few_nodes (sym (length_put 4017 tab x u e)) (λ i lt. front i lt) (λ k lt i a b. left k lt i a b) d.typed;
-        tab_long = omega (arith, length_put 4017 tab x u e, d.tab_long);
+        typed = types_same (file_at s) tab tab' r.stands.few_nodes (sym same) (λ i lt. front i lt) (λ k lt i a b. left k lt i a b) d.typed;
+        tab_long = omega (arith, same, d.tab_long);
       };
       no6 = no6;
       are = faults_are j;
       slots = record {
         names = names;
         names' = names';
-        before = take (half_of tab) (tail_of 4017 tab);
+        before = slots;
         rows = rows;
         rows' = rows';
         found = found;
         empty = h.empty;
-        long = omega (arith, length-take-le (half_of tab) (tail_of 4017 tab) (omega (arith, tail)), d.tab_long);
-        judged = subst (λ t. FileJudged s (file_at s) names names' (take (half_of tab) (tail_of 4017 tab)) t rows rows' found) (sym slots) j;
+        long = omega (arith, slots_long, d.tab_long);
+        judged = subst (λ t. FileJudged s (file_at s) names names' slots t rows rows' found) (sym slots_are) j;
       };
-      plans = record { planned = subst (λ t. Adm.fault9 (file_at s) ≡ none → (k : ℕ) → k < length (file_at s).nodes → PlanOf (file_at s) t k) (sym plans) p };
+      plans = record { planned = subst (λ t. Adm.fault9 (file_at s) ≡ none → (k : ℕ) → k < length (file_at s).nodes → PlanOf (file_at s) t k) (sym plans_are) p };
       sized = λ no9. (rows_sized long r.firsts j.sized no9, j.main no9);
       lows = h.lows;
     }

@@ -140,8 +140,10 @@ pub(crate) fn judge_names(
     ensures named { names.new ≡ names_after (fault6 (file_at project.now.file.now)) (file_at project.now.file.now) names.old }
 {
     refuse_at(6, clash)?;
-    let half = (tab.len() - SLOTS) / 2;
-    let found = faults(project.file, rows, sections, names, &mut tab[SLOTS..], half);
+    // Two splits of whole slices: after a split of the part `tab[SLOTS..]`, a proof would know only the length of the table.
+    let (_, rest) = tab.split_at_mut(SLOTS);
+    let (slots, plans) = rest.split_at_mut(rest.len() / 2);
+    let found = faults(project.file, rows, sections, names, slots, plans);
     let judging = Judging {
         project: *project,
         rows,

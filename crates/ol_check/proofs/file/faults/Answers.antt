@@ -1,9 +1,5 @@
-use Prim.Native.Nat.{◌+◌}
-use mathlib.Core.Path.{refl, sym, ap, ◌∙◌}
+use mathlib.Core.Path.{refl, ap, ◌∙◌}
 use Rattle.ol_check.specs.Founds.{place_of}
-use Rattle.ol_check.proofs.NodeLaws.{judged_from}
-use Rattle.ol_check.proofs.PlanLaws.{front_new, front_rest}
-use lib.Seq.{length-take-le, length_front}
 use Rattle.ol_check.proofs.FileLaws.{few_enums_lem, rows_ready, constant_count_lem, constants_ready, names_ready, file_judged}
 use Rattle.ol_check.proofs.Standing.{stands}
 use native.Mathlib.Omega.{arith}
@@ -12,14 +8,6 @@ use Rattle.ol_check.proofs.file.faults.Goals as goal
 pub declare_enums-requires : goal.declare_enums-requires
 declare_enums-requires c =
     (few_enums_lem (stands c.type_inv.file c.requires.0.reads) c.byte.ensures, omega arith)
-
-pub slice_bounds-judge_constants-end : goal.slice_bounds-judge_constants-end
-slice_bounds-judge_constants-end c =
-    c.requires.2
-
-pub slice_bounds-judge_constants-end-2 : goal.slice_bounds-judge_constants-end-2
-slice_bounds-judge_constants-end-2 c =
-    sym (length-take-le _ _ c.requires.2)
 
 pub judge_constants-requires : goal.judge_constants-requires
 judge_constants-requires c =
@@ -30,7 +18,7 @@ pub judge_nodes-requires : goal.judge_nodes-requires
 judge_nodes-requires c =
     let d = c.default.ensures in
     let st = stands c.type_inv.file c.requires.0.reads in
-    (rows_ready c.requires.0 c.requires.1 st c.byte-nodes.ensures, names_ready c.requires.0 c.requires.1 st c.byte-nodes.ensures c.byte.ensures c.byte-2.ensures c.declare_enums.ensures refl (ap place_of d.0) (ap place_of d.1.0) (ap place_of d.1.1.0) (ap place_of d.1.1.1.0) c.judge_constants.ensures, omega (arith, c.requires.4, length_front c.args.slots.now c.judge_constants.new.slots c.args.half c.judge_constants.auto.slots))
+    (rows_ready c.requires.0 c.requires.1 st c.byte-nodes.ensures, names_ready c.requires.0 c.requires.1 st c.byte-nodes.ensures c.byte.ensures c.byte-2.ensures c.declare_enums.ensures refl (ap place_of d.0) (ap place_of d.1.0) (ap place_of d.1.1.0) (ap place_of d.1.1.1.0) c.judge_constants.ensures, c.requires.2)
 
 pub shape_of-names : goal.shape_of-names
 shape_of-names c = c.judge_nodes.auto.names ∙ c.judge_constants.auto.names ∙ c.declare_enums.auto.names
@@ -39,4 +27,4 @@ pub returns : goal.returns
 returns c =
     let d = c.default.ensures in
     let st = stands c.type_inv.file c.requires.0.reads in
-    record { judged = file_judged c.requires.0 c.requires.1 st c.byte-nodes.ensures c.byte.ensures c.byte-2.ensures c.declare_enums.ensures refl (ap place_of d.0) (ap place_of d.1.0) (ap place_of d.1.1.0) (ap place_of d.1.1.1.0) c.judge_constants.ensures c.judge_nodes.ensures.0 (judged_from (front_new c.args.half c.args.slots.now c.judge_constants.new.slots c.requires.2 c.judge_constants.auto.slots) c.judge_nodes.ensures.1) c.judge_nodes.ensures.2; planned = λ no k lt. c.judge_nodes.ensures.3 no k (omega (arith, (rows_ready c.requires.0 c.requires.1 st c.byte-nodes.ensures).many)); typed = record { left = λ k l x a b. c.judge_nodes.ensures.4.left k l x a b ∙ front_rest c.args.half c.args.slots.now c.judge_constants.new.slots c.requires.2 c.judge_constants.auto.slots (c.args.half + x) (omega arith) } }
+    record { judged = file_judged c.requires.0 c.requires.1 st c.byte-nodes.ensures c.byte.ensures c.byte-2.ensures c.declare_enums.ensures refl (ap place_of d.0) (ap place_of d.1.0) (ap place_of d.1.1.0) (ap place_of d.1.1.1.0) c.judge_constants.ensures c.judge_nodes.ensures.0 c.judge_nodes.ensures.1 c.judge_nodes.ensures.2; planned = λ no k lt. c.judge_nodes.ensures.3 no k (omega (arith, (rows_ready c.requires.0 c.requires.1 st c.byte-nodes.ensures).many)); typed = c.judge_nodes.ensures.4 }

@@ -15,7 +15,7 @@ loop-k-init c =
 pub node-requires : goal.node-requires
 node-requires c =
     let w = c.loop-k.invariant in
-    (ready_at (rows_kept c.requires.0 w.kept) c.loop-k.k c.loop-k-test.true, subst (λ l. NamesReady l (file_at c.args.file.now)) (sym w.same) c.requires.1, omega (arith, c.requires.2, c.loop-k.auto.slots))
+    (ready_at (rows_kept c.requires.0 w.kept) c.loop-k.k c.loop-k-test.true, subst (λ l. NamesReady l (file_at c.args.file.now)) (sym w.same) c.requires.1, omega (arith, c.requires.2, c.loop-k.auto.plans))
 
 pub loop-k-preserved : goal.loop-k-preserved
 loop-k-preserved c =

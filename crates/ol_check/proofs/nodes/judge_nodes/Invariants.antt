@@ -1,5 +1,4 @@
 use mathlib.Core.Path.{◌≡◌}
-use lib.ListN.{take}
 use Rattle.ol_tables.specs.At.{file_at}
 use Rattle.ol_check.specs.Judging.{findings}
 use Rattle.ol_check.specs.NodesJudged.{PlansBelow, TypesLeft}
@@ -13,8 +12,8 @@ invariant-loop-k l =
     record {
       same : l.names ≡ l.initial.names;
       kept : RowsKept (numbers l.initial.rows) (numbers l.rows);
-      going : NodesGoing l.file l.initial.names (file_at l.file) (take l.half l.initial.slots) (findings l.initial.g) (take l.half l.slots) (findings l.g) l.k;
+      going : NodesGoing l.file l.initial.names (file_at l.file) l.initial.slots (findings l.initial.g) l.slots (findings l.g) l.k;
       sized : SizesGoing l.file (numbers l.initial.rows) l.nodes l.initial.g.size (numbers l.rows) l.g.size l.k;
-      planned : PlansBelow (file_at l.file) l.half l.slots l.k;
-      typed : TypesLeft (file_at l.file) l.half l.initial.slots l.slots;
+      planned : PlansBelow (file_at l.file) l.plans l.k;
+      typed : TypesLeft (file_at l.file) l.initial.plans l.plans;
     }

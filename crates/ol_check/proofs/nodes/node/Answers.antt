@@ -6,18 +6,13 @@ use native.Mathlib.Omega.{arith}
 use Rattle.ol_tables.specs.Numbers.{numbers}
 use Rattle.ol_check.proofs.nodes.node.Goals as goal
 
-pub overflow_add-half : goal.overflow_add-half
-overflow_add-half c =
-    let st = stands c.type_inv.file c.requires.0.reads in
-    (omega (arith, c.requires.2, c.node-row.ensures.place, (ready_row c.requires.0 st).place, (plan_inside st c.args.k (omega (arith, c.requires.0.low, c.requires.0.many)))))
-
-pub overflow_mul-row : goal.overflow_mul-row
-overflow_mul-row c =
+pub overflow_add-row : goal.overflow_add-row
+overflow_add-row c =
     let st = stands c.type_inv.file c.requires.0.reads in
     (omega (arith, c.requires.2, c.node-row.ensures.place, c.node-row.ensures.variables, (ready_row c.requires.0 st).place, (ready_row c.requires.0 st).variables, (plan_inside st c.args.k (omega (arith, c.requires.0.low, c.requires.0.many)))))
 
-pub overflow_add-half-2 : goal.overflow_add-half-2
-overflow_add-half-2 c =
+pub overflow_mul-row : goal.overflow_mul-row
+overflow_mul-row c =
     let st = stands c.type_inv.file c.requires.0.reads in
     (omega (arith, c.requires.2, c.node-row.ensures.place, c.node-row.ensures.variables, (ready_row c.requires.0 st).place, (ready_row c.requires.0 st).variables, (plan_inside st c.args.k (omega (arith, c.requires.0.low, c.requires.0.many)))))
 
@@ -43,7 +38,7 @@ forget_node-requires c = ready_counted c.requires.0
 pub equations-requires : goal.equations-requires
 equations-requires c =
     let st = stands c.type_inv.file c.requires.0.reads in
-    (equations_ready c.requires.0 st c.args.names.now c.requires.1 c.declare_node.ensures c.node-row.ensures.count c.node-row.ensures.equations, (omega (arith, c.node-row.ensures.variables, (ready_row c.requires.0 st).variables, few_variables (ready_node c.requires.0 st))), omega arith, omega arith, omega (arith, c.requires.2, c.node-row.ensures.count, c.node-row.ensures.place, c.node-row.ensures.variables, (ready_row c.requires.0 st).place, (ready_row c.requires.0 st).variables, (ready_row c.requires.0 st).count, (plan_inside st c.args.k (omega (arith, c.requires.0.low, c.requires.0.many)))))
+    (equations_ready c.requires.0 st c.args.names.now c.requires.1 c.declare_node.ensures c.node-row.ensures.count c.node-row.ensures.equations, (omega (arith, c.node-row.ensures.variables, (ready_row c.requires.0 st).variables, few_variables (ready_node c.requires.0 st))), omega arith, omega (arith, c.requires.2, c.node-row.ensures.count, c.node-row.ensures.place, c.node-row.ensures.variables, (ready_row c.requires.0 st).place, (ready_row c.requires.0 st).variables, (ready_row c.requires.0 st).count, (plan_inside st c.args.k (omega (arith, c.requires.0.low, c.requires.0.many)))))
 
 pub returns : goal.returns
 returns c =

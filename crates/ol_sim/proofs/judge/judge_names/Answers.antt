@@ -1,20 +1,21 @@
-use mathlib.Core.Path.{sym, ap, ◌∙◌}
+use mathlib.Core.List.{◌++◌}
+use mathlib.Core.Path.{◌≡◌, sym, ap, ◌∙◌}
+use native.Mathlib.Omega.{arith}
+use lib.ListN.{length}
 use Rattle.ol_tables.specs.At.{file_at}
 use Rattle.ol_tables.proofs.NumberLaws.{numbers_long}
-use Rattle.ol_sim.specs.Judging.{names_after}
+use Rattle.ol_sim.specs.Judging.{half_of, names_after}
 use Rattle.ol_sim.proofs.Chain.{no_place, passed_by_lem}
-use Rattle.ol_sim.proofs.Begins.{faults_ready, walk_room, shapes_ready}
+use Rattle.ol_sim.proofs.Begins.{shapes_ready}
 use Rattle.ol_sim.proofs.judge.judge_names.Goals as goal
-
-pub faults-found-requires : goal.faults-found-requires
-faults-found-requires c =
-    let h = c.requires.names_ready in
-    (faults_ready h, h.empty.within, (walk_room h.sections).0, (walk_room h.sections).1, (walk_room h.sections).2)
 
 pub shapes-requires-clause-shapes_ready : goal.shapes-requires-clause-shapes_ready
 shapes-requires-clause-shapes_ready c =
+    let rest = c.split_at_mut-rest in
+    let cut = c.split_at_mut-slots in
     let r = c.faults-found in
-    shapes_ready r.new.slots c.requires.names_ready (numbers_long r.new.rows) r.auto.slots (no_place 6 c.args.clash c.in_ok-refuse_at.ensures c.requires.clash_value) r.ensures.judged r.ensures.planned r.ensures.typed
+    let half : length cut.result.0.now ≡ half_of c.args.tab.now = omega (arith, cut.ensures.front_len, rest.ensures.back_len) in
+    shapes_ready _ c.requires.names_ready (numbers_long r.new.rows) (no_place 6 c.args.clash c.in_ok-refuse_at.ensures c.requires.clash_value) (rest.ensures.value ∙ ap (λ l. rest.result.0.now ++ l) cut.ensures.value) rest.ensures.front_len half r.auto.slots r.auto.plans r.ensures.judged r.ensures.planned r.ensures.typed
 
 pub returns : goal.returns
 returns c =

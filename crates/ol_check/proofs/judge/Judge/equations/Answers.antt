@@ -1,11 +1,11 @@
 use Prim.Native.Nat.{◌+◌, ◌*◌, ◌≤◌, ◌<◌}
-use mathlib.Core.Path.{refl, sym}
+use mathlib.Core.Path.{refl}
 use lib.ListN.{length}
 use native.Mathlib.Omega.{arith}
 use Rattle.ol_tables.specs.At.{file_at}
 use Rattle.ol_tables.specs.Tables.{node_of}
-use Rattle.ol_check.proofs.EquationLaws.{equations_start_lem, equations_turn, equations_done, equations_cut, equations_sized, walked_parts}
-use Rattle.ol_check.proofs.PlanLaws.{plan_start, plan_least, plan_turn, plan_done, plan_front, plan_back}
+use Rattle.ol_check.proofs.EquationLaws.{equations_start_lem, equations_turn, equations_done, equations_cut, equations_sized}
+use Rattle.ol_check.proofs.PlanLaws.{plan_start, plan_least, plan_turn, plan_done}
 use Rattle.ol_check.proofs.judge.Judge.equations.Goals as goal
 
 pub loop-i-init : goal.loop-i-init
@@ -26,13 +26,10 @@ loop-i-preserved c =
     let w = c.loop-i.invariant in
     let qs = (node_of (file_at c.args.self.now.file.now) c.args.self.now.node).equations in
     let lt : c.loop-i.i < length qs = omega (arith, c.loop-i-test.true, c.requires.0.count) in
-    let room : c.args.plan + 4 * length qs ≤ length c.loop-i.slots = omega (arith, c.requires.4, c.loop-i.auto.slots, c.requires.0.count) in
-    let front = plan_front w.planned _ _ c.equation.new.slots c.requires.0.count lt c.requires.3 room c.requires.2 c.put_two.ensures c.put_two-in-loop-i.ensures c.equation.auto.slots in
-    let back = plan_back w.planned _ _ c.equation.new.slots c.requires.0.count lt c.requires.3 room c.requires.2 c.put_two.ensures c.put_two-in-loop-i.ensures c.equation.auto.slots in
-    let walked = walked_parts front (sym back) c.equation.ensures in
+    let room : c.args.plan + 4 * length qs ≤ length c.loop-i.plans = omega (arith, c.requires.3, c.loop-i.auto.plans, c.requires.0.count) in
     record {
-      going = equations_turn w.going lt _ _ _ c.requires.0.context walked;
-      planned = plan_turn w.planned _ _ c.equation.new.slots c.requires.0.count lt c.requires.3 room c.requires.2 c.put_two.ensures c.put_two-in-loop-i.ensures c.equation.auto.slots w.going.passing.place (omega arith) refl c.requires.1 _ (equations_sized w.going lt c.requires.0.context walked);
+      going = equations_turn w.going lt _ _ _ c.requires.0.context c.equation.ensures;
+      planned = plan_turn w.planned _ _ c.requires.0.count lt room c.requires.2 c.put_two.ensures c.put_two-in-loop-i.ensures w.going.passing.place (omega arith) refl c.requires.1 _ (equations_sized w.going lt c.requires.0.context c.equation.ensures);
     }
 
 pub returns : goal.returns

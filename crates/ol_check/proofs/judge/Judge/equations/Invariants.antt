@@ -1,4 +1,3 @@
-use lib.ListN.{take}
 use Rattle.ol_spec.specs.Admission.{bad_call}
 use Rattle.ol_tables.specs.At.{file_at}
 use Rattle.ol_tables.specs.Tables.{node_of}
@@ -14,6 +13,6 @@ invariant-loop-i l =
     let s = l.self.file.now in
     let n = node_of (file_at s) l.self.node in
     record {
-      going : EquationsGoing s l.self.names.now (numbers l.self.rows.now) l.self.nodes (file_at s) (seen_in (file_at s) l.self.node) (bad_call (file_at s) l.self.node n) l.inputs (length (file_at s).enums) n.equations (take l.half l.initial.slots) l.initial.defined (findings l.initial.g) (take l.half l.slots) l.defined (findings l.g) l.i;
-      planned : PlanGoing (numbers l.self.rows.now) l.self.nodes l.initial.g.size l.initial.g.next n.equations l.half l.plan l.i l.initial.slots l.slots l.g.size;
+      going : EquationsGoing s l.self.names.now (numbers l.self.rows.now) l.self.nodes (file_at s) (seen_in (file_at s) l.self.node) (bad_call (file_at s) l.self.node n) l.inputs (length (file_at s).enums) n.equations l.initial.slots l.initial.defined (findings l.initial.g) l.slots l.defined (findings l.g) l.i;
+      planned : PlanGoing (numbers l.self.rows.now) l.self.nodes l.initial.g.size l.initial.g.next n.equations l.plan l.i l.initial.plans l.plans l.g.size;
     }
