@@ -75,7 +75,7 @@ pub two_length : (t : List ℕ) (p n : ℕ) → length (two_put t p n) ≡ lengt
 unfolding two_put
 two_length t p n = length-set (set t p (n / 256 % 256)) (p + 1) (n % 256) ∙ length-set t p (n / 256 % 256)
 
--- what stands before them is left
+-- a two-byte entry of what stands behind `half` bytes
 pub two_drop : (half : ℕ) (t : List ℕ) (q r : ℕ) → r ≡ half + q → two_at (drop half t) q ≡ two_at t r
 two_drop half t q r e =
     let a : get_or (drop half t) q 0 ≡ get_or t r 0 = get_or-drop half t q 0 ∙ ap (λ x. get_or t x 0) (sym e) in
