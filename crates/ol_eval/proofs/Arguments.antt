@@ -16,9 +16,7 @@ use Rattle.ol_spec.specs.declared.Value.{Value}
 use Rattle.ol_spec.specs.declared.Cause.{Cause}
 use Rattle.ol_spec.specs.declared.Outcome.{Outcome}
 use Rattle.ol_spec.specs.declared.Outcome.TheVariants as Out
-use Rattle.ol_value.specs.Codes.{ty_of}
 use Rattle.ol_tables.specs.At.{node_in, expr_at, end_at, ends_at, ReadsAll}
-use Rattle.ol_tables.specs.Tables.{code_at}
 use Rattle.ol_tables.proofs.Forms.{parted, none_read}
 use Rattle.ol_frame.specs.Walk.{nodes_in, sizes_in, Passable, SkipsTo}
 use Rattle.ol_frame.specs.Plans.{Program, globals_in, scope_in, eval_in, segs_at, seg_at}
@@ -27,7 +25,7 @@ use Rattle.ol_frame.specs.Stores.{PassedOn}
 use Rattle.ol_frame.specs.Outcomes.{ending_of}
 use Rattle.ol_frame.specs.declared.outcomes.Ending.{Ending}
 use Rattle.ol_frame.specs.declared.outcomes.Ending.TheVariants as End
-use Rattle.ol_eval.specs.Calls.{Holds, RanTo, Passes, passed_all, all_in, callee_at}
+use Rattle.ol_eval.specs.Calls.{Holds, RanTo, passed_all, all_in, callee_at}
 use Rattle.ol_tables.specs.Heads.{parts_at, next_at}
 use Rattle.ol_tables.specs.Table.{tab_of, rows_of, consts_of}
 use Rattle.ol_frame.specs.declared.frame.Frame.{Frame}

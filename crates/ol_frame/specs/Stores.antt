@@ -1,7 +1,7 @@
 -- What storing values in a node's cells, and passing values on, asks and gives.
 use Rattle.std.specs.Prelude.{ℕ, ◌+◌, ◌*◌, ◌<◌, ◌≤◌, Option, Some, None, List, ◌∷◌, map, ◌≡◌, length, get_or}
 use Rattle.ol_spec.specs.Lists.{position}
-use Rattle.ol_spec.specs.Syntax.{Ty, bool, Node, variables, variable_names, type_of}
+use Rattle.ol_spec.specs.Syntax.{bool, Node, variables, variable_names, type_of}
 use Rattle.ol_spec.specs.Cell.{values_of}
 use Rattle.ol_spec.specs.Types.{fit}
 use Rattle.ol_spec.specs.Eval.{Outcomes, values, failure, overflow, several}

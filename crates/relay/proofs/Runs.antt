@@ -1,5 +1,5 @@
 -- The lines of a whole run, one more at each turn.
-use Prim.Native.Nat.{ℕ, zero, suc, ◌+◌, ◌-◌, ◌≤◌, ◌<◌}
+use Prim.Native.Nat.{ℕ, zero, suc, ◌+◌, ◌≤◌, ◌<◌}
 use mathlib.Core.Bool.{Bool, true, false, cond}
 use mathlib.Core.List.{List, [], ◌∷◌, ◌++◌, append-nil, append_assoc}
 use mathlib.Core.Path.{◌≡◌, refl, sym, ap, subst, ◌∙◌}
@@ -10,7 +10,7 @@ use lib.ListN.{length, take, length-take, length-append, drop_of_length-le}
 use lib.Dec.{eqb, eqb→eq}
 use Rattle.ol_spec.proofs.Tests.{T_false}
 use Rattle.relay_text.specs.Lines.{Said}
-use Rattle.relay.specs.Reply.{Standing, closed, opened, reply}
+use Rattle.relay.specs.Reply.{Standing, closed, reply}
 use Rattle.std.specs.Prelude.{None}
 use Rattle.relay.specs.Kept.{stands_by, standing}
 use Rattle.relay.specs.Turns.{line_of, rest_of, has_end, cut, unread, waits_for, waits_at, gone, Refills, Turned}

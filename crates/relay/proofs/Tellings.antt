@@ -1,11 +1,11 @@
 -- From what a function's callees answered and wrote to what it tells, case by case.
-use Prim.Native.Nat.{ℕ, ◌+◌, ◌≤◌, ◌<◌, min}
+use Prim.Native.Nat.{ℕ, ◌+◌, ◌≤◌, min}
 use mathlib.Core.List.{List, [], ◌++◌}
 use mathlib.Core.Logic.{by_cases}
 use mathlib.Core.Path.{◌≡◌, refl, sym, ap, subst, ◌∙◌}
 use native.Mathlib.Omega.{arith}
 use native.Mathlib.Decide.{dec_le}
-use lib.ListN.{length, take, drop, get_or, length-take, length-append, length-drop, length-replicate}
+use lib.ListN.{length, take, drop, length-append, length-drop, length-replicate}
 use lib.Seq.{length-take-le, take_all, take_at}
 use Rattle.std.specs.Prelude.{Option, Some, None, Result, Ok, Err, ok_or}
 use Rattle.ol_spec.specs.Limits.{relay_loader}
@@ -21,13 +21,13 @@ use Rattle.ol_sim.specs.Calls.{OrdersAs, StartsAs, CyclesAs}
 use Rattle.relay_text.specs.Lines.{Said}
 use Rattle.relay.specs.Requests.{Asked, Line, wrong, about, asks}
 use Rattle.relay.specs.Reply.{Standing, closed, opened, error_reply, tell_about, obey, reply, told, zeros, fresh_of, order_ends, order_text, order_call, values_length, end_text, cycle_call, cycle_told}
-use Rattle.relay.specs.Kept.{stands_by, standing, Replies, Tells, Ends, Begins, lends_as, Lends}
+use Rattle.relay.specs.Kept.{stands_by, standing, Replies, Tells, Ends, Begins, Lends}
 use Rattle.relay.specs.declared.request.Lent.{Lent}
 use Rattle.relay.specs.declared.request.Reason.{Reason}
 use Rattle.relay.specs.declared.request.Reason.TheVariants as Why
 use Rattle.relay.specs.declared.session.Kept.{Kept}
 use Rattle.relay.specs.declared.session.Session.{Session}
-use Rattle.relay.proofs.Calls.{same_lengths, few_values, cut, fresh_of_lem, small_admitted, same_order, few_equations_lem}
+use Rattle.relay.proofs.Calls.{same_lengths, few_values, cut, fresh_of_lem, same_order}
 
 -- ---- parts of buffers
 

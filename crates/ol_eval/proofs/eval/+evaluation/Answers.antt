@@ -32,16 +32,15 @@ use Rattle.ol_spec.specs.Operators.{unary_of}
 use Rattle.ol_spec.specs.Places.{ty_size}
 use Rattle.ol_spec.specs.Types.{cast_to}
 use Rattle.ol_spec.specs.declared.Value.{Value}
-use Rattle.ol_tables.proofs.Forms.{arrow_form, binary_form, cast_form, if_form, parted, reads_deep, reads_in, type_some, unary_form}
+use Rattle.ol_tables.proofs.Forms.{arrow_form, binary_form, cast_form, if_form, parted, type_some, unary_form}
 use Rattle.ol_tables.proofs.Lending.{length_put, put_tail, tail_all, tail_of}
 use Rattle.ol_tables.specs.declared.form.Form.TheVariants as Frm
 use Rattle.ol_tables.proofs.FormLaws.{form_is}
 use borrow.Author.Tests.{eqb-true, eqb-false, true-eqb}
 use Rattle.ol_tables.specs.At.{end_at, expr_at, node_in}
-use Rattle.ol_tables.specs.Heads.{next_at, parts_at}
+use Rattle.ol_tables.specs.Heads.{parts_at}
 use Rattle.ol_tables.specs.Table.{consts_of, rows_of, tab_of}
-use Rattle.ol_tables.specs.Tables.{code_at}
-use Rattle.ol_value.specs.Codes.{binary_by, ty_of}
+use Rattle.ol_value.specs.Codes.{binary_by}
 use Rattle.ol_eval.proofs.Rights
 use Rattle.ol_eval.proofs.eval.+evaluation.Goals.{enter-After-row-size, enter-After-eval_all-a, eval_all-After-eval-r, eval_first-After-pass-s, eval_second-After-pass-s, eval_second-After-eval-e, run-After-records_at-b}
 use Rattle.ol_eval.proofs.eval.+evaluation.Goals as goal

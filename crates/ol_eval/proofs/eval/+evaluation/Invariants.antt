@@ -1,11 +1,10 @@
 -- The members' measures, and the invariants of their loops.
-use Rattle.std.proofs.Common.{◌-◌, ◌+◌, ◌*◌, ◌≤◌, ◌≡◌, length, take, drop, get_or}
+use Rattle.std.proofs.Common.{◌-◌, ◌+◌, ◌*◌, ◌≤◌, ◌≡◌, length, drop}
 use Rattle.ol_spec.specs.Order.{order}
 use Rattle.ol_tables.specs.At.{node_in}
-use Rattle.ol_tables.specs.Heads.{parts_at, next_at}
-use Rattle.ol_tables.specs.Table.{tab_of, rows_of, consts_of}
+use Rattle.ol_tables.specs.Heads.{parts_at}
+use Rattle.ol_tables.specs.Table.{consts_of}
 use Rattle.ol_frame.specs.Frame.{Keeps}
-use Rattle.ol_frame.specs.Plans.{segs_at}
 use Rattle.ol_eval.proofs.Arguments.{Goes}
 use Rattle.ol_eval.proofs.Turns.{LeftIn}
 use Rattle.ol_eval.proofs.eval.+evaluation.Given as goal

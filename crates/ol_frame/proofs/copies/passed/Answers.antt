@@ -1,8 +1,6 @@
-use mathlib.Core.Path.{◌≡◌, ap, ◌∙◌}
+use mathlib.Core.Path.{◌∙◌}
 use Rattle.std.specs.Prelude.{Some}
 use Rattle.ol_spec.specs.Types.{fit}
-use Prim.Native.Nat.{ℕ}
-use Rattle.ol_tables.specs.Tables.{code_at}
 use Rattle.ol_value.specs.Codes.{ty_of}
 use Rattle.ol_frame.specs.Stores.{PassedOn}
 use Rattle.ol_frame.proofs.Storing.{kept_back}

@@ -1,6 +1,5 @@
 use Rattle.std.proofs.Common.{arith}
 use Rattle.ol_tables.proofs.HeadsFile.{bytes_of_lem}
-use Rattle.relay.proofs.Calls.{few_values}
 use Rattle.relay.proofs.Tellings.{lends_given, lends_right}
 use Rattle.relay.proofs.session.lent_to.Goals as goal
 
