@@ -7,7 +7,7 @@
 mod operations; // operations.rt: the result of an operation
 mod sweeps; // sweeps.rt: rows that stand for 64 operations each
 
-ghost use Rattle.std.specs.Prelude.{◌≡◌, ◌+◌, ◌*◌, ◌/◌, ◌≤◌, ◌<◌, length};
+ghost use Rattle.std.specs.Prelude.{◌≡◌, ◌+◌, ◌*◌, ◌≤◌, ◌<◌, length};
 ghost use Rattle.rows.specs.Rows.{Compares};
 ghost use Rattle.ieee_vectors.specs.Lines.{digit_of, number_at, answer_at, answers, results, Counted, Checked, Total, passing};
 

@@ -1,5 +1,5 @@
 // The table by name: entry 0 for none, a variable's index and 1, a constant's index and 113, 255 for a variant. The first entry of a name stays.
-ghost use Rattle.std.specs.Prelude.{◌≡◌, map, ◌≤◌, ◌<◌, ◌+◌};
+ghost use Rattle.std.specs.Prelude.{◌≡◌, map, ◌≤◌, ◌<◌};
 ghost use Rattle.ol_check.specs.Spans.{names_of, names_from, variants_from};
 ghost use Rattle.ol_check.specs.Entries.{declared, forgot, declare_all, variant_entry};
 

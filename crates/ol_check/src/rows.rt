@@ -1,6 +1,5 @@
 // The rows of the nodes, the first variants, the nodes' places and the types of the variables.
-ghost use Rattle.std.specs.Prelude.{◌≡◌, [], ◌∷◌, ℕ, ◌+◌, ◌*◌, ◌≤◌, ◌<◌, get_or, length};
-ghost use Rattle.std.proofs.lemmas.List.Edits.{sets};
+ghost use Rattle.std.specs.Prelude.{◌≡◌, ℕ, ◌+◌, ◌*◌, ◌≤◌, ◌<◌, get_or, length};
 ghost use Rattle.ol_check.specs.Spans.{starts_from, end_from, behind_variable, behind_enum, Visits, Visited};
 ghost use Rattle.ol_check.specs.RowsDone.{EnumsStored, type_set, TypesStored, NodeStored, NodesStored, PlacesAre, TablesDone};
 ghost use Rattle.ol_tables.specs.At.{file_at};

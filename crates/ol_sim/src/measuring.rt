@@ -1,5 +1,4 @@
 // The lengths that a caller needs, from the table of an admitted file.
-ghost use Rattle.std.specs.Prelude.{◌≡◌};
 ghost use Rattle.ol_spec.specs.Limits.{relay_loader};
 ghost use Rattle.ol_spec.specs.Cycle.{lengths};
 ghost use Rattle.ol_sim.specs.Calls.{MeasuresAs};

@@ -1,5 +1,5 @@
 // The one way of every public call: the file is loaded, the lengths of its tables are chosen, it is judged, and a call is made on its program.
-ghost use Rattle.std.specs.Prelude.{◌≡◌, true, ◌+◌, ◌*◌, ◌≤◌, length};
+ghost use Rattle.std.specs.Prelude.{◌≡◌, ◌+◌, ◌*◌, ◌≤◌, length};
 ghost use Rattle.ol_spec.specs.Admission.{fault6};
 ghost use Rattle.ol_tables.specs.At.{file_at};
 ghost use Rattle.ol_tables.specs.Numbers.{numbers};

@@ -1,5 +1,5 @@
 // The call sites of a node, in file order: the calls in its equations' right sides are met one by one.
-ghost use Rattle.std.specs.Prelude.{◌≡◌, ◌≤◌, length};
+ghost use Rattle.std.specs.Prelude.{◌≡◌};
 ghost use Rattle.std.specs.Iterator.{YieldsFirst, item_count};
 ghost use Rattle.ol_tables.specs.Tables.{row_at};
 ghost use Rattle.ol_tables.specs.Table.{rows_of};

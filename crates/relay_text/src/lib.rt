@@ -4,7 +4,7 @@
 pub mod answers;
 mod line;
 
-ghost use Rattle.std.specs.Prelude.{◌≡◌, ◌++◌, ◌+◌, ◌≤◌, ◌<◌, length, take, drop};
+ghost use Rattle.std.specs.Prelude.{◌≡◌, ◌++◌, ◌+◌, ◌≤◌, length, take, drop};
 ghost use Rattle.io.specs.Counts.{IsPrefixLen};
 ghost use Rattle.relay_text.specs.Text.{is_blank, sort, run, word_at, word_number, words_up_to, hex_value, bytes_of, unhexed, unhexed_front, onto, Decoded, with_digit, number_of};
 

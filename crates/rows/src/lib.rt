@@ -4,7 +4,7 @@
 pub mod streams;
 
 ghost use Rattle.std.specs.Prelude.{◌≡◌, ◌==◌, not, count_by, position, zip};
-ghost use Rattle.rows.specs.Rows.{agreeing, first_other, Compares, all_agree};
+ghost use Rattle.rows.specs.Rows.{Compares, all_agree};
 
 // How many rows agree, and the index of the first that does not.
 #[derive(Clone, Copy)]

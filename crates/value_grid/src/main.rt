@@ -3,7 +3,7 @@
 // Which bytes a read gives and whether a write takes them is free.
 #![tactic(auto)]
 
-ghost use Rattle.std.specs.Prelude.{◌≡◌, ◌%◌, ◌<◌, length};
+ghost use Rattle.std.specs.Prelude.{◌≡◌, ◌%◌};
 ghost use Rattle.ol_spec.specs.Cell.{cell};
 ghost use Rattle.ol_spec.specs.Lists.{same};
 ghost use Rattle.value_grid.specs.Questions.{grid_value, known_of, value_agrees, outcome_agrees, Asked, says_of, outcome_is, input_is, default_is, cell_is, answered_at, Agreed};
