@@ -14,8 +14,7 @@ use lib.Seq.{take-suc-set}
 use borrow.Author.Tests.{lt-ltb, le-ltb}
 use Rattle.ieee_vectors.specs.Lines.{digit_of, push, number_at, answer_at, answers, results, whole, cut, right_in, Counted, Checked, right_sum, row_sum, Total}
 use Rattle.ieee_vectors.specs.declared.Counts.{Counts}
-use Rattle.rows.specs.declared.Compared.{Compared}
-use Rattle.rows.specs.Rows.{one, agreeing, Compares}
+use Rattle.rows.specs.Rows.{one, agreeing}
 use Rattle.rows.proofs.Laws.{agreeing_most, all_agree_lem}
 use Rattle.ieee_vectors.specs.Operations.{result_of}
 use Rattle.ieee_vectors.specs.Sweeps.{next_of, operand_of, sweep_to, sweep_of}
@@ -64,10 +63,6 @@ module _ (op e seed i x h : ℕ) (ex : x ≡ (sweep_to op e seed i).x) (eh : h �
   sweep_h w a b r g ea ew eb er eg = rw (add-one, ← ex, ← eh, ← ez, ← ey, ← ew, ← ea, ← eb, ← er) eg
 
 -- ---- a text
-
--- a comparison of equal lists
-pub compares_moved : {f w a b : List ℕ} {r : Compared} → f ≡ a → w ≡ b → Compares f w r → Compares a b r
-compares_moved e g h = rw (e, g) at h
 
 results_length : (text : List ℕ) (n : ℕ) → length (results text n) ≡ n
 unfolding results

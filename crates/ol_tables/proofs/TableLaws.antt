@@ -5,8 +5,8 @@ use mathlib.Core.Logic.{by_cases}
 use mathlib.Core.Path.{◌≡◌, sym, ap, ◌∙◌}
 use native.Mathlib.Omega.{arith}
 use native.Mathlib.Decide.{dec_le}
-use lib.ListN.{length, take, drop, get_or, set, length-set, length-map, length-drop, get_or-eq_default}
-use lib.Seq.{get_or-set_same, get_or-set_other, get_or-drop, drop-set-lt, take-set-le}
+use lib.ListN.{length, drop, get_or, set, length-set, length-map, length-drop, get_or-eq_default}
+use lib.Seq.{get_or-set_same, get_or-set_other, get_or-drop, drop-set-lt}
 use Rattle.ol_theory.specs.Member.{upto}
 use Rattle.ol_theory.proofs.Members.{length_from, map_upto}
 use Rattle.ol_tables.specs.Tables.{two_at, two_put, plans_from, start_at, code_at, enum_at}
@@ -76,10 +76,6 @@ unfolding two_put
 two_length t p n = length-set (set t p (n / 256 % 256)) (p + 1) (n % 256) ∙ length-set t p (n / 256 % 256)
 
 -- what stands before them is left
-pub two_front : (half : ℕ) (t : List ℕ) (p n : ℕ) → half ≤ p → take half (two_put t p n) ≡ take half t
-unfolding two_put
-two_front half t p n le = take-set-le half (set t p (n / 256 % 256)) (p + 1) (n % 256) (omega arith) ∙ take-set-le half t p (n / 256 % 256) le
-
 pub two_drop : (half : ℕ) (t : List ℕ) (q r : ℕ) → r ≡ half + q → two_at (drop half t) q ≡ two_at t r
 two_drop half t q r e =
     let a : get_or (drop half t) q 0 ≡ get_or t r 0 = get_or-drop half t q 0 ∙ ap (λ x. get_or t x 0) (sym e) in

@@ -4,9 +4,9 @@ use mathlib.Core.Bool.{Bool, true, false, ◌&&◌, cond}
 use mathlib.Core.List.{List, [], ◌∷◌}
 use mathlib.Core.Path.{◌≡◌, refl, sym, ap, subst, ◌∙◌}
 use native.Mathlib.Omega.{arith}
-use lib.ListN.{length, get_or, get_or-eq_default}
+use lib.ListN.{length, get_or}
 use lib.Dec.{T, ltb, leb, eqb, leb→le}
-use borrow.Author.Tests.{lt-ltb, le-ltb, ltb-true}
+use borrow.Author.Tests.{lt-ltb, ltb-true}
 use Rattle.ol_spec.specs.Lists.{all_of}
 use Rattle.ol_spec.proofs.Tests.{T_and}
 use Rattle.ol_spec.specs.Syntax.{Expr, Exprs, nil, cons, count}
@@ -49,17 +49,6 @@ next_on_lem s at i =
     pick : (a b d : Bool) → (a ≡ true → at < at + get_or sizes_table (get_or s at 0) 0) → at < cond a (at + get_or sizes_table (get_or s at 0) 0) (cond b (at + 1 + ty_size_at s (at + 1)) (cond d (at + 3) (at + 2)))
     pick true b d h = h refl
     pick false b d h = two b d
-
--- where the file ends
-pub head_end : (s : List ℕ) (at : ℕ) → length s ≤ at → HeadOf s at (record { count = 0; start = at })
-head_end s at h =
-    record {
-      parts = rw (get_or-eq_default s 0 h) refl;
-      next = rw (le-ltb at (length s) h) refl;
-      few = omega arith;
-      onward = λ i. absurd (omega arith);
-      near = omega arith;
-    }
 
 -- ---- a walk over expressions, head by head
 

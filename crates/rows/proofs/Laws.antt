@@ -1,9 +1,6 @@
 -- Laws of the comparison: it by the words of the library, and that exactly equal lists agree in every row.
-use Rattle.std.proofs.Common.{◌≡◌, ℕ, suc, ◌+◌, ◌≤◌, min, Bool, true, false, cond, not, ◌&&◌, List, [], ◌∷◌, length, eqb, nat_lt, Some, None, zip, count_by, position, sym, refl, ap, arith, eqb-true, eq-eqb}
-use Rattle.std.specs.List.{position_or_len}
-use Rattle.std.specs.Option.{unwrap_or}
-use Rattle.std.proofs.lemmas.List.Sums.{sum_by-cons, prefix_len-le-length}
-use Rattle.std.proofs.lemmas.Slice.Zip.{length-zip}
+use Rattle.std.proofs.Common.{◌≡◌, ℕ, suc, ◌+◌, ◌≤◌, Bool, true, false, cond, not, ◌&&◌, List, [], ◌∷◌, length, eqb, nat_lt, Some, None, zip, count_by, position, refl, ap, arith, eqb-true, eq-eqb}
+use Rattle.std.proofs.lemmas.List.Sums.{sum_by-cons}
 use lib.Pointwise.{pointwise}
 use Rattle.rows.specs.Rows.{one, agreeing, further, first_other, all_agree}
 

@@ -72,9 +72,6 @@ pub agreed_none : (section : Section) (grid : List ℕ) → Agreed section grid 
 unfolding good_in
 agreed_none section grid = record { answers = []; good = refl; all = refl }
 
-pub agreed_at : {section : Section} {grid : List ℕ} {sum t count : ℕ} → Agreed section grid sum t → t ≡ count → Agreed section grid sum count
-agreed_at a e = rw e at a
-
 -- one answer more
 pub agreed_more : (section : Section) (grid : List ℕ) (sum t : ℕ) (r : Bool) → Asked (answered_at section grid t) r → Agreed section grid sum t → Agreed section grid (sum + one r) (t + 1)
 unfolding good_in
