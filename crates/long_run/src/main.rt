@@ -2,8 +2,8 @@
 // Free are which bytes a read gives and whether a write takes them: `tell` and `main` promise nothing of it.
 #![tactic(auto)]
 
-ghost use Rattle.std.specs.Prelude.{◌≡◌, ◌≤◌, length};
-ghost use Rattle.long_run.specs.Runs.{none, Stepped, Stands, stand, after, run_of, Ran};
+ghost use Rattle.std.specs.Prelude.{◌≤◌, length};
+ghost use Rattle.long_run.specs.Runs.{none, Stepped, Stands, stand, after, Ran};
 
 use ol_spec::Cycled;
 use relay_text::answers::say_answered;
