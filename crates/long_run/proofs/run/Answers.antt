@@ -1,4 +1,4 @@
-use Rattle.std.proofs.Common.{ℕ, ◌≡◌, ap, sym, ◌∙◌, arith}
+use Rattle.std.proofs.Common.{◌≡◌, arith}
 use Rattle.long_run.specs.Runs.{none, stand, inputs_at}
 use Rattle.long_run.proofs.Laws.{tally_is, inputs_first, inputs_second, paired, after_none, after_more}
 use Rattle.long_run.proofs.run.Goals as goal

@@ -1,4 +1,4 @@
-use Rattle.std.proofs.Common.{ℕ, ◌≡◌, ◌<◌, arith, ap, sym, ◌∙◌}
+use Rattle.std.proofs.Common.{◌≡◌, arith, ap, sym, ◌∙◌}
 use Rattle.long_run.specs.Runs.{is_answered}
 use Rattle.long_run.proofs.Laws.{unanswered, more_is, stepped_is}
 use Rattle.long_run.proofs.step.Goals as goal
