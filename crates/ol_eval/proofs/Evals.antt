@@ -12,8 +12,8 @@ use Rattle.ol_spec.specs.declared.Value.{Value}
 use Rattle.ol_spec.specs.declared.Value.TheVariants as Val
 use Rattle.ol_spec.specs.declared.Outcome.{Outcome}
 use Rattle.ol_spec.specs.declared.Outcome.TheVariants as Out
-use Rattle.ol_frame.specs.Outcomes.{done_of, binary_out, test_bit, test_of, untested_of, runs_of, drop_out, common_out}
-use Rattle.ol_frame.specs.declared.outcomes.Test.TheVariants as Tst
+use Rattle.ol_frame.specs.Outcomes.{done_of, binary_out, test_of, untested_of, runs_of, drop_out, common_out}
+use Rattle.std.specs.Prelude.{Some, None}
 use Rattle.ol_frame.specs.Walk.{Skips}
 use Rattle.ol_eval.specs.Post.{Meets, Untaken}
 use Rattle.ol_eval.specs.declared.eval.Step.{Step}
@@ -110,25 +110,20 @@ two_stop {w} K {n = n} {k = k} {s = s} h g d =
 
 -- ---- a condition
 
--- a condition that takes neither branch is no Bool
-no_bit : {A : Type 0} (b : Bool) → Tst.Neither ≡ test_bit b → A
-no_bit true h = let z : ◌≡◌ {A = ℕ} 0 1 = cc in absurd (omega arith)
-no_bit false h = let z : ◌≡◌ {A = ℕ} 0 1 = cc in absurd (omega arith)
+no_bool : {A : Type 0} {b : Bool} → None ≡ Some b → A
+no_bool h = let z : ◌≡◌ {A = ℕ} 0 1 = cc in absurd (omega arith)
 
-pub bool_of : (o : Outcome) (b : Bool) → test_of o ≡ test_bit b → o ≡ Out.Value (Val.Bool b)
-bool_of (Out.Value (Val.Bool true)) true h = refl
-bool_of (Out.Value (Val.Bool true)) false h = let z : ◌≡◌ {A = ℕ} 0 1 = cc in absurd (omega arith)
-bool_of (Out.Value (Val.Bool false)) true h = let z : ◌≡◌ {A = ℕ} 0 1 = cc in absurd (omega arith)
-bool_of (Out.Value (Val.Bool false)) false h = refl
-bool_of (Out.Value (Val.Int i)) b h = no_bit b h
-bool_of (Out.Value (Val.Float x)) b h = no_bit b h
-bool_of (Out.Value (Val.Float32 x)) b h = no_bit b h
-bool_of (Out.Value (Val.Enum w)) b h = no_bit b h
-bool_of (Out.Failure d) b h = no_bit b h
-bool_of Out.Overflow b h = no_bit b h
+pub bool_of : (o : Outcome) (b : Bool) → test_of o ≡ Some b → o ≡ Out.Value (Val.Bool b)
+bool_of (Out.Value (Val.Bool c)) b h = let e : c ≡ b = cc in ap (λ (d : Bool). Out.Value (Val.Bool d)) e
+bool_of (Out.Value (Val.Int i)) b h = no_bool h
+bool_of (Out.Value (Val.Float x)) b h = no_bool h
+bool_of (Out.Value (Val.Float32 x)) b h = no_bool h
+bool_of (Out.Value (Val.Enum w)) b h = no_bool h
+bool_of (Out.Failure d) b h = no_bool h
+bool_of Out.Overflow b h = no_bool h
 
 -- the condition is the Bool b
-pub if_taken : {w : Eval} (K : Bool → List ℕ → Eval) (b : Bool) {x y n k : ℕ} {s new new' : List ℕ} {c r : Step} → Meets w x n s c new → Meets (K b (take k (drop n s))) y k (drop n s) r new' → length new ≡ length s → n ≤ length s → test_of c.out ≡ test_bit b → Meets (next w (condition K) (take k (drop n s))) y (n + k) s (record { out = r.out; next = r.next; used = c.used + r.used }) (put_tail c.used new new')
+pub if_taken : {w : Eval} (K : Bool → List ℕ → Eval) (b : Bool) {x y n k : ℕ} {s new new' : List ℕ} {c r : Step} → Meets w x n s c new → Meets (K b (take k (drop n s))) y k (drop n s) r new' → length new ≡ length s → n ≤ length s → test_of c.out ≡ Some b → Meets (next w (condition K) (take k (drop n s))) y (n + k) s (record { out = r.out; next = r.next; used = c.used + r.used }) (put_tail c.used new new')
 unfolding condition
 if_taken {w} K b {n = n} {k = k} {s = s} h g e le t =
     let v = bool_of w.out b (ap test_of (sym h.out) ∙ t) in
@@ -139,13 +134,12 @@ if_taken {w} K b {n = n} {k = k} {s = s} h g e le t =
       state = seq_state h g e le;
     })
 
-condition_none : (w : Eval) (K : Bool → List ℕ → Eval) (rest : List ℕ) → test_of w.out ≡ Tst.Neither → next w (condition K) rest ≡ record { out = untested_of w.out; seg = w.seg ++ rest }
+condition_none : (w : Eval) (K : Bool → List ℕ → Eval) (rest : List ℕ) → test_of w.out ≡ None → next w (condition K) rest ≡ record { out = untested_of w.out; seg = w.seg ++ rest }
 unfolding condition next
 condition_none w K rest n = go w.out n
   where
-    go : (o : Outcome) → test_of o ≡ Tst.Neither → next_on o w.seg (condition K) rest ≡ record { out = untested_of o; seg = w.seg ++ rest }
-    go (Out.Value (Val.Bool true)) n = no_bit true (sym n)
-    go (Out.Value (Val.Bool false)) n = no_bit false (sym n)
+    go : (o : Outcome) → test_of o ≡ None → next_on o w.seg (condition K) rest ≡ record { out = untested_of o; seg = w.seg ++ rest }
+    go (Out.Value (Val.Bool b)) n = no_bool (sym n)
     go (Out.Value (Val.Int i)) n = refl
     go (Out.Value (Val.Float x)) n = refl
     go (Out.Value (Val.Float32 x)) n = refl
@@ -153,7 +147,7 @@ condition_none w K rest n = go w.out n
     go (Out.Failure d) n = refl
     go Out.Overflow n = refl
 
-pub if_stop : {w : Eval} (K : Bool → List ℕ → Eval) {x y n k : ℕ} {b : Bool} {s new : List ℕ} {c : Step} {q : Passed} {o : Outcome} → Meets w x n s c new → Skips b y k q → test_of c.out ≡ Tst.Neither → o ≡ untested_of c.out → Meets (next w (condition K) (take k (drop n s))) y (n + k) s (record { out = o; next = q.next; used = c.used + q.used }) new
+pub if_stop : {w : Eval} (K : Bool → List ℕ → Eval) {x y n k : ℕ} {b : Bool} {s new : List ℕ} {c : Step} {q : Passed} {o : Outcome} → Meets w x n s c new → Skips b y k q → test_of c.out ≡ None → o ≡ untested_of c.out → Meets (next w (condition K) (take k (drop n s))) y (n + k) s (record { out = o; next = q.next; used = c.used + q.used }) new
 if_stop {w} K {n = n} {k = k} {s = s} h g t j =
     meets_as (condition_none w K (take k (drop n s)) (ap test_of (sym h.out) ∙ t)) (record {
       out = j ∙ ap untested_of h.out;

@@ -4,9 +4,9 @@
 // an expression may have, at most 24, and counts as 31 where no expression is evaluated yet.
 // The ranks, at an expression's level: enter 1, eval_call 2, eval_form 3, eval 4, eval_two, step_untaken and eval_all 5, eval_first and eval_second 6,
 // eval_if 7; at level 31: call_equation and tuple_equation 0, equation 1, run 2, step_instance and call_function 3, step_site 4.
-// file and tab stay two parameters: lent as one struct with methods they make a cycle of feeder30 8 percent more instructions.
+// file and tab stay two parameters: lent as one struct with methods they make a cycle of feeder30 8 percent more instructions, which misses its measure of speed (docs/PERFORMANCE.md).
 // So what they ask together stands in the clauses, under one name each: `CanEval`, `CanStep`, `CanRun` and `CanEquate`.
-ghost use Rattle.std.specs.Prelude.{◌≡◌, true, false, ◌+◌, ◌-◌, ◌<◌, length, get_or};
+ghost use Rattle.std.specs.Prelude.{◌≡◌, true, false, ◌+◌, ◌<◌, length, get_or};
 ghost use Rattle.ol_tables.specs.Heads.{parts_at, next_at};
 ghost use Rattle.ol_tables.specs.Table.{consts_of};
 ghost use Rattle.ol_frame.specs.Frame.{Keeps};
@@ -20,7 +20,7 @@ use ol_frame::equations::{place_at, plan_of, records_at};
 use ol_frame::frame::{Arguments, Frame};
 use ol_frame::names::{chosen, leaf_out, present};
 use ol_frame::outcomes::{
-    Ending, Test, binary_out, cast_out, done, drop_failure, end_of, named_out, overflowed, runs,
+    Ending, binary_out, cast_out, done, drop_failure, end_of, named_out, overflowed, runs,
     same_out, test_of, unary_out, untested,
 };
 use ol_frame::skip::{pass, pass_all};
@@ -173,7 +173,7 @@ fn eval_if(
     let c = eval(file, tab, at, level, frame, old, new);
     let n = c.used;
     match test_of(c.out) {
-        Test::First => {
+        Some(true) => {
             let r = eval_first(file, tab, c.next, level, frame, &old[n..], &mut new[n..]);
             Step {
                 out: same_out(r.out),
@@ -181,7 +181,7 @@ fn eval_if(
                 used: n + r.used,
             }
         }
-        Test::Second => {
+        Some(false) => {
             let r = eval_second(file, tab, c.next, level, frame, &old[n..], &mut new[n..]);
             Step {
                 out: same_out(r.out),
@@ -189,7 +189,7 @@ fn eval_if(
                 used: n + r.used,
             }
         }
-        Test::Neither => {
+        None => {
             let s = pass_all(file, tab, c.next, level, 2);
             Step {
                 out: untested(c.out),
@@ -490,7 +490,7 @@ fn call_function(
 
 // ---- equations
 
-// How a run of a node's equations ended, and the equation that ended it. As one enum it is no plainer: a call of the node takes only the end.
+// How a run of a node's equations ended, and the equation that ended it, which counts where it did not end with values. As a Result it is no plainer: its error would hold an Ending that is never Values, and a call of the node takes only the end.
 #[derive(Clone, Copy)]
 pub struct Ended {
     pub end: Ending,
@@ -576,7 +576,7 @@ fn call_equation(
     Ending::Values
 }
 
-// An equation whose right side is a Tuple: its items are bound once all have succeeded.
+// An equation whose right side is a Tuple: its items are bound once all have succeeded. It differs from a call in what is run, in what it leaves and in how many values that are: each has its own lemmas, and one function of both would take them all.
 #[cycle(evaluation)]
 fn tuple_equation(
     file: &[u8],

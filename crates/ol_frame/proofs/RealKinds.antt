@@ -26,23 +26,6 @@ use Rattle.ol_frame.specs.declared.outcomes.RealKind.TheVariants as Knd
 use Rattle.ol_frame.specs.contracts.outcomes.RealKindOrd.TheImpl as kinds
 use Rattle.std.specs.Ordering.{ord_max}
 
-pub other_kind : (c e : ℕ) → ¬ (c ≡ 9) → ¬ (c ≡ 10) → not_real ≡ kind_of_type (ty_of c e)
-other_kind zero e n m = refl
-other_kind (suc zero) e n m = refl
-other_kind (suc (suc zero)) e n m = refl
-other_kind (suc (suc (suc zero))) e n m = refl
-other_kind (suc (suc (suc (suc zero)))) e n m = refl
-other_kind (suc (suc (suc (suc (suc zero))))) e n m = refl
-other_kind (suc (suc (suc (suc (suc (suc zero)))))) e n m = refl
-other_kind (suc (suc (suc (suc (suc (suc (suc zero))))))) e n m = refl
-other_kind (suc (suc (suc (suc (suc (suc (suc (suc zero)))))))) e n m = refl
-other_kind (suc (suc (suc (suc (suc (suc (suc (suc (suc zero))))))))) e n m = absurd (n refl)
-other_kind (suc (suc (suc (suc (suc (suc (suc (suc (suc (suc zero)))))))))) e n m = absurd (m refl)
-other_kind (suc (suc (suc (suc (suc (suc (suc (suc (suc (suc (suc zero))))))))))) e n m = refl
-other_kind (suc (suc (suc (suc (suc (suc (suc (suc (suc (suc (suc (suc zero)))))))))))) e n m = refl
-other_kind (suc (suc (suc (suc (suc (suc (suc (suc (suc (suc (suc (suc (suc zero))))))))))))) e n m = refl
-other_kind (suc (suc (suc (suc (suc (suc (suc (suc (suc (suc (suc (suc (suc (suc c)))))))))))))) e n m = refl
-
 pub common_none : (v : Value) → common_real false v ≡ v
 common_none (Val.Bool b) = refl
 common_none (Val.Int i) = refl

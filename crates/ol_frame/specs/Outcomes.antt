@@ -1,5 +1,5 @@
 -- The cases of outcomes, as functions that evaluation uses decide them.
-use Rattle.std.specs.Prelude.{ℕ, Bool, true, false, ◌≡◌}
+use Rattle.std.specs.Prelude.{ℕ, Bool, true, false, Option, Some, None, ◌≡◌}
 use Rattle.ol_spec.specs.Eval.{RealKind, not_real, is_single, is_double_kind, kind_of_value, common_real, then_out, Outcomes, values, failure, overflow}
 use Rattle.ol_spec.specs.Answers.{outcome_number}
 use Rattle.ol_value.specs.Codes.{binary_by}
@@ -10,8 +10,6 @@ use Rattle.ol_spec.specs.declared.Outcome.TheVariants as Out
 use Rattle.ol_spec.specs.declared.Cause.TheVariants as Why
 use Rattle.ol_frame.specs.declared.outcomes.Ending.{Ending}
 use Rattle.ol_frame.specs.declared.outcomes.Ending.TheVariants as End
-use Rattle.ol_frame.specs.declared.outcomes.Test.{Test}
-use Rattle.ol_frame.specs.declared.outcomes.Test.TheVariants as Tst
 use Rattle.ol_frame.specs.declared.outcomes.RealKind.{RealKind as Kind}
 use Rattle.ol_frame.specs.declared.outcomes.RealKind.TheVariants as Knd
 
@@ -45,23 +43,18 @@ binary_out op (Out.Value v) r = then_out (binary_by op v) r
 binary_out op (Out.Failure c) r = Out.Failure c
 binary_out op Out.Overflow r = Out.Overflow
 
--- the branch that a Bool takes
-abbrev pub test_bit : Bool → Test
-test_bit true = Tst.First
-test_bit false = Tst.Second
+-- the Bool that a condition is, if it is one
+abbrev pub test_value : Value → Option Bool
+test_value (Val.Bool b) = Some b
+test_value (Val.Int i) = None
+test_value (Val.Float x) = None
+test_value (Val.Float32 x) = None
+test_value (Val.Enum w) = None
 
-abbrev pub test_value : Value → Test
-test_value (Val.Bool b) = test_bit b
-test_value (Val.Int i) = Tst.Neither
-test_value (Val.Float x) = Tst.Neither
-test_value (Val.Float32 x) = Tst.Neither
-test_value (Val.Enum w) = Tst.Neither
-
--- the branch that a condition takes
-abbrev pub test_of : Outcome → Test
+abbrev pub test_of : Outcome → Option Bool
 test_of (Out.Value v) = test_value v
-test_of (Out.Failure c) = Tst.Neither
-test_of Out.Overflow = Tst.Neither
+test_of (Out.Failure c) = None
+test_of Out.Overflow = None
 
 -- a condition that is no Bool: a value there fails, and a failure has its own cause
 abbrev pub untested_of : Outcome → Outcome

@@ -1,9 +1,8 @@
 // Cells: copied, passed on and stored.
-ghost use Rattle.std.specs.Prelude.{◌≡◌, ◌++◌, ℕ, ◌+◌, ◌-◌, ◌*◌, ◌≤◌, ◌<◌, length, take, drop, MatchOption};
+ghost use Rattle.std.specs.Prelude.{◌≡◌, ◌++◌, ◌-◌, ◌*◌, ◌≤◌, ◌<◌, length, take, drop, MatchOption};
 ghost use Rattle.ol_spec.specs.Cell.{cell, cells, value_of, values_of};
 ghost use Rattle.ol_spec.specs.Eval.{Outcomes, single, several};
-ghost use Rattle.ol_value.specs.Codes.{ty_of};
-ghost use Rattle.ol_tables.specs.Tables.{slots_from, code_at};
+ghost use Rattle.ol_tables.specs.Tables.{slots_from};
 ghost use Rattle.ol_tables.specs.Table.{tab_of};
 ghost use Rattle.ol_frame.specs.Outcomes.{ending_of};
 ghost use Rattle.ol_frame.specs.Stores.{PassedOn, Storable, Stores, StoresOut, Assignable, Assigns, Leaves};

@@ -14,7 +14,7 @@ use ol_spec::Outcome;
 use ol_state::defaults::write_defaults;
 use ol_tables::tables::MOST_CELLS;
 
-// The cells of a call's arguments, or of its outputs: at most 32. Their bytes' number stands in a ghost field, as a frame's do.
+// The cells of a call's arguments, or of its outputs: at most 32, of an array, since there is no heap. Their bytes' number stands in a ghost field, as a frame's do.
 #[derive(Drop)]
 pub struct Arguments {
     pub cells: [u8; 288],
@@ -30,7 +30,7 @@ impl Arguments {
     }
 }
 
-// Whether it is the instance's first cycle, its node's number, its cells, and the cells before. `first` guards no field: the cells before are there in a first cycle too.
+// Whether it is the instance's first cycle, its node's number, its cells, and the cells before. `first` guards no field: the definitions have the cells before in a first cycle too, where a `pre` is cold.
 // That each array has its length stands in a ghost field, since a proof does not know it of an array that was lent.
 #[derive(Drop)]
 pub struct Frame {

@@ -1,4 +1,4 @@
-// Outcomes, taken apart outside the functions of evaluation that call each other.
+// Outcomes, taken apart outside the functions of evaluation that call each other: there each match would multiply the goals of them all.
 ghost use Rattle.std.specs.Prelude.{◌≡◌, true, ℕ};
 ghost use Rattle.std.proofs.Math.Option.{Option};
 ghost use Rattle.ol_spec.specs.Cell.{cell, value_of};
@@ -15,20 +15,12 @@ use ol_value::codes::DataType;
 use ol_value::operators::{eval_binary, eval_unary};
 use ol_value::types::cast_value;
 
-// How several expressions, a call, an equation or a run of equations end: with values, at a failure of some cause, at an overflow.
+// How several expressions, a call, an equation or a run of equations end: with values, at a failure of some cause, at an overflow. Three ends, as an Outcome's (ol_spec).
 #[derive(Clone, Copy)]
 pub enum Ending {
     Values,
     Failed(Cause),
     Overflowed,
-}
-
-// Which branch a condition takes: of a Bool one of the two, else neither.
-#[derive(Clone, Copy)]
-pub enum Test {
-    First,
-    Second,
-    Neither,
 }
 
 // How an expression counts as real: not, in single or in double precision. In this order: one double makes both double.
@@ -127,14 +119,13 @@ pub fn binary_out(op: u8, l: Outcome, r: Outcome) -> Outcome
     }
 }
 
-// The branch that a condition takes.
-pub fn test_of(o: Outcome) -> Test
+// The Bool that a condition is, if it is one.
+pub fn test_of(o: Outcome) -> Option<bool>
     ensures { result ≡ test_of o }
 {
     match o {
-        Outcome::Value(Value::Bool(true)) => Test::First,
-        Outcome::Value(Value::Bool(false)) => Test::Second,
-        _ => Test::Neither,
+        Outcome::Value(Value::Bool(b)) => Some(b),
+        _ => None,
     }
 }
 

@@ -7,7 +7,7 @@ ghost use Rattle.ol_frame.specs.Slots.{Says};
 use ol_tables::table::{NODES, ORDERS, SLOTS};
 use ol_tables::tables::{COLUMNS, MOST_EQUATIONS};
 
-// Entry j of node k's row, which stands in the table: ol_tables' `column` without its tests, with which a cycle of feeder30 was measured 5 percent slower. That the table has these parts stays a fact of
+// Entry j of node k's row, which stands in the table: ol_tables' `column` without its tests, with which a cycle of feeder30 was measured 5 percent slower, which misses its measure of speed (docs/PERFORMANCE.md). Three bytes have no from_be_bytes. That the table has these parts stays a fact of
 // the callers: a struct of the table was measured slower in evaluation (ol_eval).
 pub fn row(tab: &[u8], k: usize, j: usize) -> usize
     requires { (816 ≤ length tab.now) × (k < 32) × (j < 8) }

@@ -36,9 +36,7 @@ fn constant_value(file: &[u8], tab: &[u8], at: usize, frame: &Frame) -> Step
     let p = at + 2;
     let code = file[p];
     let e = p + ty_size(file, p);
-    let none = [0u8; 1];
-    let mut new = [0u8; 1];
-    let r = eval(file, tab, e, 24, frame, &none, &mut new);
+    let r = eval(file, tab, e, 24, frame, &[], &mut []);
     Step {
         out: fitted(code, r.out),
         ..r

@@ -1,7 +1,7 @@
 // A file as it is loaded, and as it is admitted.
 
 // A file that reads without fault: how many enums it has, and where its nodes start. What holds of it is `Loads`, and
-// of an admitted file `Stands`: each has the end of the reading, a number, and a ghost field takes a proposition only.
+// of an admitted file `Stands`: each has data in it, as the end of the reading, and in a ghost field it would stand truncated, to be taken out again in each proof that reads a part.
 #[derive(Clone, Copy)]
 pub(crate) struct Project<'a> {
     pub(crate) file: &'a [u8],

@@ -38,7 +38,9 @@ impl From<Cause> for u8 {
     }
 }
 
-// What an evaluation gives: a value, a failure or an overflow.
+// What an evaluation gives: a value, a failure or an overflow. Three ends of one enum, as document 01 has them, and no Result: a failure and an overflow
+// behind one Err would be told apart again wherever they count (a branch not taken, an instance's record, a cycle's end), and no `?` leads from them, since
+// behind a failure evaluation still passes over what is left.
 #[derive(Clone, Copy)]
 pub enum Outcome {
     Value(Value),
@@ -46,8 +48,8 @@ pub enum Outcome {
     Overflow,
 }
 
-// The greatest counts of a section's items, of an expression's levels (`nesting`) and of the
-// state's bytes (`state`): a value, so that another entry or another format byte is another value.
+// The greatest counts of a section's items, of an expression's levels (`nesting`) and of the state's bytes (`state`). They are a value that readers take, so
+// that the Rust's own loader and the relay's are two values of it.
 #[derive(Clone, Copy, PartialEq, Eq)]
 pub struct Limits {
     pub enums: usize,
@@ -65,7 +67,8 @@ pub struct Limits {
     pub state: usize,
 }
 
-// A fault's number, and its place. The number stays one: the C interface and the line program answer it as it is (docs/FORMAT.md, "Faults").
+// A fault's number, and its place. The number stays one (docs/FORMAT.md, "Faults"): the C interface and the line program answer it, and the definitions of
+// reading and admission and the theorems on refusals speak of it, so an enum would be turned into its number in each clause.
 #[derive(Clone, Copy, PartialEq, Eq)]
 pub struct Fault {
     pub number: u8,
@@ -81,7 +84,8 @@ pub struct Lengths {
     pub equations: usize,
 }
 
-// What a cycle answers: values, a stop (18 to 21) or a refusal (1 to 17).
+// What a cycle answers: values, a stop (18 to 21) or a refusal (1 to 17). Three answers of one enum: a stopped cycle was begun and
+// a refused one was not, so the two faults behind one Err would be told apart again by each caller.
 #[derive(Clone, Copy, PartialEq, Eq)]
 pub enum Cycled {
     Answered,

@@ -835,11 +835,11 @@ eval_if-slice_bounds-eval_first-count t c = omega (arith, ready_fits c.requires 
 pub eval_if-slice_bounds-eval_first-start : goal.eval_if-slice_bounds-eval_first-start
 eval_if-slice_bounds-eval_first-start t c = omega (arith, ready_fits c.requires c.eval-c.ensures)
 
-pub eval_if-slice_bounds-eval_first-count-in-First : goal.eval_if-slice_bounds-eval_first-count-in-First
-eval_if-slice_bounds-eval_first-count-in-First t c = omega (arith, ready_fits_new c.requires c.eval-c.ensures c.eval-c.auto.new)
+pub eval_if-slice_bounds-eval_first-count-in-Some-true : goal.eval_if-slice_bounds-eval_first-count-in-Some-true
+eval_if-slice_bounds-eval_first-count-in-Some-true t c = omega (arith, ready_fits_new c.requires c.eval-c.ensures c.eval-c.auto.new)
 
-pub eval_if-slice_bounds-eval_first-start-in-First : goal.eval_if-slice_bounds-eval_first-start-in-First
-eval_if-slice_bounds-eval_first-start-in-First t c = omega (arith, ready_fits_new c.requires c.eval-c.ensures c.eval-c.auto.new)
+pub eval_if-slice_bounds-eval_first-start-in-Some-true : goal.eval_if-slice_bounds-eval_first-start-in-Some-true
+eval_if-slice_bounds-eval_first-start-in-Some-true t c = omega (arith, ready_fits_new c.requires c.eval-c.ensures c.eval-c.auto.new)
 
 pub eval_if-eval_first-r-requires : goal.eval_if-eval_first-r-requires
 eval_if-eval_first-r-requires t c = (omega arith, rw c.eval-c.ensures.next_is (ready_rest c.requires c.eval-c.ensures c.eval-c.auto.new))
@@ -868,17 +868,17 @@ eval_if-slice_bounds-eval_second-count t c = omega (arith, ready_fits c.requires
 pub eval_if-slice_bounds-eval_second-start : goal.eval_if-slice_bounds-eval_second-start
 eval_if-slice_bounds-eval_second-start t c = omega (arith, ready_fits c.requires c.eval-c.ensures)
 
-pub eval_if-slice_bounds-eval_second-count-in-Second : goal.eval_if-slice_bounds-eval_second-count-in-Second
-eval_if-slice_bounds-eval_second-count-in-Second t c = omega (arith, ready_fits_new c.requires c.eval-c.ensures c.eval-c.auto.new)
+pub eval_if-slice_bounds-eval_second-count-in-Some-false : goal.eval_if-slice_bounds-eval_second-count-in-Some-false
+eval_if-slice_bounds-eval_second-count-in-Some-false t c = omega (arith, ready_fits_new c.requires c.eval-c.ensures c.eval-c.auto.new)
 
-pub eval_if-slice_bounds-eval_second-start-in-Second : goal.eval_if-slice_bounds-eval_second-start-in-Second
-eval_if-slice_bounds-eval_second-start-in-Second t c = omega (arith, ready_fits_new c.requires c.eval-c.ensures c.eval-c.auto.new)
+pub eval_if-slice_bounds-eval_second-start-in-Some-false : goal.eval_if-slice_bounds-eval_second-start-in-Some-false
+eval_if-slice_bounds-eval_second-start-in-Some-false t c = omega (arith, ready_fits_new c.requires c.eval-c.ensures c.eval-c.auto.new)
 
 pub eval_if-eval_second-r-requires : goal.eval_if-eval_second-r-requires
 eval_if-eval_second-r-requires t c = (omega arith, rw c.eval-c.ensures.next_is (ready_rest c.requires c.eval-c.ensures c.eval-c.auto.new))
 
-pub eval_if-overflow_add-result-in-Second : goal.eval_if-overflow_add-result-in-Second
-eval_if-overflow_add-result-in-Second t c =
+pub eval_if-overflow_add-result-in-Some-false : goal.eval_if-overflow_add-result-in-Some-false
+eval_if-overflow_add-result-in-Some-false t c =
     let p = c.requires in
     let fr = c.args.frame.now in
     let tb = c.args.tab.now in
@@ -903,8 +903,8 @@ eval_if-pass_all-s-requires t c =
     let K = c.eval-c.auto.new in
     rw h.next_is (ready_pass (ready_rest p h K), rows_room tb _ p.plan.program.table.long)
 
-pub eval_if-overflow_add-result-in-Neither : goal.eval_if-overflow_add-result-in-Neither
-eval_if-overflow_add-result-in-Neither t c =
+pub eval_if-overflow_add-result-in-None : goal.eval_if-overflow_add-result-in-None
+eval_if-overflow_add-result-in-None t c =
     let p = c.requires in
     let f = c.args.file.now in
     let L = c.args.level in
@@ -914,8 +914,8 @@ eval_if-overflow_add-result-in-Neither t c =
     let q = (moved_skip f L 2 c.eval-c.ensures.next_is c.pass_all-s.ensures) in
     omega (arith, h.used_is, q.used_is, segs, p.room, p.small)
 
-pub eval_if-returns-in-First : goal.eval_if-returns-in-First
-eval_if-returns-in-First t c =
+pub eval_if-returns-in-Some-true : goal.eval_if-returns-in-Some-true
+eval_if-returns-in-Some-true t c =
     let p = c.requires in
     let fr = c.args.frame.now in
     let tb = c.args.tab.now in
@@ -936,10 +936,10 @@ eval_if-returns-in-First t c =
     let segs = segs_cons f L 2 a p.plan.reads in
     let ends = (parted f L 2 a p.plan.reads).ends in
     let g1 = moved_choice f kk true L n F cl bb c.eval-c.ensures.next_is (rest_old c.eval-c.ensures) c.eval_first-r.ensures in
-    remade c.same_out.ensures (seq_as ((λ (x y : List ℕ). next (eval_in f kk n F cl bb (expr_at f L a) x) (condition (λ (b : Bool) (rest : List ℕ). choose_in f kk b L mid n F cl bb rest)) y)) n1 m2 segs ends (if_taken ((λ (b : Bool) (rest : List ℕ). choose_in f kk b L mid n F cl bb rest)) true h g1 (K ∙ ap length p.same) le (sym c.test_of.ensures ∙ c.in-First.is)))
+    remade c.same_out.ensures (seq_as ((λ (x y : List ℕ). next (eval_in f kk n F cl bb (expr_at f L a) x) (condition (λ (b : Bool) (rest : List ℕ). choose_in f kk b L mid n F cl bb rest)) y)) n1 m2 segs ends (if_taken ((λ (b : Bool) (rest : List ℕ). choose_in f kk b L mid n F cl bb rest)) true h g1 (K ∙ ap length p.same) le (sym c.test_of.ensures ∙ c.in-Some-true.is ∙ ap Some c.in-Some-true.field-0-test)))
 
-pub eval_if-returns-in-Second : goal.eval_if-returns-in-Second
-eval_if-returns-in-Second t c =
+pub eval_if-returns-in-Some-false : goal.eval_if-returns-in-Some-false
+eval_if-returns-in-Some-false t c =
     let p = c.requires in
     let fr = c.args.frame.now in
     let tb = c.args.tab.now in
@@ -960,10 +960,10 @@ eval_if-returns-in-Second t c =
     let segs = segs_cons f L 2 a p.plan.reads in
     let ends = (parted f L 2 a p.plan.reads).ends in
     let g2 = moved_choice f kk false L n F cl bb c.eval-c.ensures.next_is (rest_old c.eval-c.ensures) c.eval_second-r.ensures in
-    remade c.same_out-in-Second.ensures (seq_as ((λ (x y : List ℕ). next (eval_in f kk n F cl bb (expr_at f L a) x) (condition (λ (b : Bool) (rest : List ℕ). choose_in f kk b L mid n F cl bb rest)) y)) n1 m2 segs ends (if_taken ((λ (b : Bool) (rest : List ℕ). choose_in f kk b L mid n F cl bb rest)) false h g2 (K ∙ ap length p.same) le (sym c.test_of.ensures ∙ c.in-Second.is)))
+    remade c.same_out-in-Some-false.ensures (seq_as ((λ (x y : List ℕ). next (eval_in f kk n F cl bb (expr_at f L a) x) (condition (λ (b : Bool) (rest : List ℕ). choose_in f kk b L mid n F cl bb rest)) y)) n1 m2 segs ends (if_taken ((λ (b : Bool) (rest : List ℕ). choose_in f kk b L mid n F cl bb rest)) false h g2 (K ∙ ap length p.same) le (sym c.test_of.ensures ∙ c.in-Some-false.is ∙ ap Some c.in-Some-false.field-0-test)))
 
-pub eval_if-returns-in-Neither : goal.eval_if-returns-in-Neither
-eval_if-returns-in-Neither t c =
+pub eval_if-returns-in-None : goal.eval_if-returns-in-None
+eval_if-returns-in-None t c =
     let p = c.requires in
     let fr = c.args.frame.now in
     let tb = c.args.tab.now in
@@ -981,7 +981,7 @@ eval_if-returns-in-Neither t c =
     let m2 = segs_at f L 2 (end_at f L a) in
     let segs = segs_cons f L 2 a p.plan.reads in
     let ends = (parted f L 2 a p.plan.reads).ends in
-    seq_as ((λ (x y : List ℕ). next (eval_in f kk n F cl bb (expr_at f L a) x) (condition (λ (b : Bool) (rest : List ℕ). choose_in f kk b L mid n F cl bb rest)) y)) n1 m2 segs ends (if_stop ((λ (b : Bool) (rest : List ℕ). choose_in f kk b L mid n F cl bb rest)) h ((moved_skip f L 2 c.eval-c.ensures.next_is c.pass_all-s.ensures)) (sym c.test_of.ensures ∙ c.in-Neither.is) c.untested.ensures)
+    seq_as ((λ (x y : List ℕ). next (eval_in f kk n F cl bb (expr_at f L a) x) (condition (λ (b : Bool) (rest : List ℕ). choose_in f kk b L mid n F cl bb rest)) y)) n1 m2 segs ends (if_stop ((λ (b : Bool) (rest : List ℕ). choose_in f kk b L mid n F cl bb rest)) h ((moved_skip f L 2 c.eval-c.ensures.next_is c.pass_all-s.ensures)) (sym c.test_of.ensures ∙ c.in-None.is) c.untested.ensures)
 
 pub eval_second-pass-s-requires : goal.eval_second-pass-s-requires
 eval_second-pass-s-requires t c =
