@@ -209,7 +209,7 @@ module _ {want : Evals} {file tab rows consts : List ℕ} {callee : Option ℕ} 
   pub going_length : (x : List ℕ) → length x ≡ length (tail_of used new) → length new ≡ length old → length x ≡ length (drop used old)
   going_length x e l = e ∙ ap length (tail_all used new) ∙ length-drop used new ∙ ap (λ (m : ℕ). m - used) l ∙ sym (length-drop used old)
 
-  module _ {r : Step} {x : List ℕ} (h : EvalsTo file consts level pos node first cells before (drop used old) r x) (len : length x ≡ length (drop used old)) where
+  module _ {r : Step Outcome} {x : List ℕ} (h : EvalsTo file consts level pos node first cells before (drop used old) r x) (len : length x ≡ length (drop used old)) where
     here_length : length (eval_in file consts node first cells before (expr_at file level pos) (take (seg_at file level pos) (drop used old))).seg ≡ seg_at file level pos
     here_length = seg_length h len going_seg
 
@@ -254,7 +254,7 @@ module _ {want : Evals} {file tab rows consts : List ℕ} {callee : Option ℕ} 
         subst (λ (m : ℕ). Going want file tab rows consts callee n at level node first cells before old left (i + 1) r.next (used + m) to' (put_tail used new x)) (sym h.used_is)
         (subst (λ (m : ℕ). Going want file tab rows consts callee n at level node first cells before old left (i + 1) m (used + seg) to' (put_tail used new x)) (sym h.next_is) t)
 
-    stopped : {q : Passed} (make : List Value → List Value) (got : List Value) (e : Ending) (out : Outcomes) (o : Outcome) → r.out ≡ o → ((w : List ℕ) (K : List ℕ → Evals) (rest : List ℕ) → next_all_on o w K rest ≡ record { out = out; seg = w ++ rest }) → cons_all g.values out ≡ out → e ≡ ending_of out → Holds make out got → SkipsTo file level left r.next q → RanTo make want (ends_at file level n at) (segs_at file level n at) old (record { end = e; next = q.next; used = used + r.used + q.used }) got (put_tail used new x)
+    stopped : {q : Passed} (make : List Value → List Value) (got : List Value) (e : Ending) (out : Outcomes) (o : Outcome) → r.out ≡ o → ((w : List ℕ) (K : List ℕ → Evals) (rest : List ℕ) → next_all_on o w K rest ≡ record { out = out; seg = w ++ rest }) → cons_all g.values out ≡ out → e ≡ ending_of out → Holds make out got → SkipsTo file level left r.next q → RanTo make want (ends_at file level n at) (segs_at file level n at) old (record { out = e; next = q.next; used = used + r.used + q.used }) got (put_tail used new x)
     stopped {q} make got e out o ro stop cons ee hold skip =
         let s = moved_skip file level left h.next_is skip in
         let rest = take behind (drop (used + seg) old) in
@@ -271,10 +271,10 @@ module _ {want : Evals} {file tab rows consts : List ℕ} {callee : Option ℕ} 
         }
 
     -- it failed, or overflowed: the others are passed over
-    pub going_stop : {q : Passed} {e : Ending} (make : List Value → List Value) (got : List Value) → ((v : Value) → ¬ (r.out ≡ Out.Value v)) → e ≡ ending_of (several r.out) → SkipsTo file level left r.next q → RanTo make want (ends_at file level n at) (segs_at file level n at) old (record { end = e; next = q.next; used = used + r.used + q.used }) got (put_tail used new x)
+    pub going_stop : {q : Passed} {e : Ending} (make : List Value → List Value) (got : List Value) → ((v : Value) → ¬ (r.out ≡ Out.Value v)) → e ≡ ending_of (several r.out) → SkipsTo file level left r.next q → RanTo make want (ends_at file level n at) (segs_at file level n at) old (record { out = e; next = q.next; used = used + r.used + q.used }) got (put_tail used new x)
     going_stop {q} {e} make got ne ee s = go r.out refl
       where
-        go : (o : Outcome) → r.out ≡ o → RanTo make want (ends_at file level n at) (segs_at file level n at) old (record { end = e; next = q.next; used = used + r.used + q.used }) got (put_tail used new x)
+        go : (o : Outcome) → r.out ≡ o → RanTo make want (ends_at file level n at) (segs_at file level n at) old (record { out = e; next = q.next; used = used + r.used + q.used }) got (put_tail used new x)
         go (Out.Value v) o = absurd (ne v o)
         go (Out.Failure c) o = stopped make got e (failure c) (Out.Failure c) o (λ w K rest. refl) (cons_failure c g.values) (ee ∙ ap (λ (y : Outcome). ending_of (several y)) o) tt s
         go Out.Overflow o = stopped make got e overflow Out.Overflow o (λ w K rest. refl) (cons_overflow g.values) (ee ∙ ap (λ (y : Outcome). ending_of (several y)) o) tt s
@@ -288,7 +288,7 @@ unfolding sites_size
 none_segs file level at = ap (λ (es : Exprs). sites_size (sizes_in file) (callees_all es)) (none_read file level at).0
 
 -- all have their values
-pub going_done : {want : Evals} {file tab rows consts : List ℕ} {callee : Option ℕ} {n at level node : ℕ} {first : Bool} {cells before old : List ℕ} {i pos used : ℕ} {to new : List ℕ} → Going want file tab rows consts callee n at level node first cells before old 0 i pos used to new → RanTo (passed_all file callee) want (ends_at file level n at) (segs_at file level n at) old (record { end = End.Values; next = pos; used = used }) (values_of n to) new
+pub going_done : {want : Evals} {file tab rows consts : List ℕ} {callee : Option ℕ} {n at level node : ℕ} {first : Bool} {cells before old : List ℕ} {i pos used : ℕ} {to new : List ℕ} → Going want file tab rows consts callee n at level node first cells before old 0 i pos used to new → RanTo (passed_all file callee) want (ends_at file level n at) (segs_at file level n at) old (record { out = End.Values; next = pos; used = used }) (values_of n to) new
 going_done {want} {file} {tab} {rows} {consts} {callee} {n} {at} {level} {node} {first} {cells} {before} {old} {i} {pos} {used} {to} {new} g =
     let none = none_read file level pos in
     let z = none_segs file level pos in

@@ -29,7 +29,7 @@ use Rattle.ol_frame.specs.declared.outcomes.Ending.{Ending}
 use Rattle.ol_frame.specs.declared.outcomes.Ending.TheVariants as End
 use Rattle.ol_eval.specs.Calls.{Holds, as_is, RanTo, Did, Passes, all_in, PassedTo, Several, AllTo, callee_at, outputs_at, rhs_eval, EntersTo, Steppable, SiteTo}
 use Rattle.ol_frame.specs.Stores.{Leaves}
-use Rattle.ol_eval.specs.declared.eval.Ran.{Ran}
+use Rattle.ol_eval.specs.declared.eval.Step.{Step}
 use Rattle.ol_tables.proofs.Lending.{tail_of, put_tail, tail_all, put_tail_lem, take_put, drop_put, drop_take}
 use Rattle.ol_frame.proofs.Endings.{failed_values, over_values}
 use Rattle.ol_frame.proofs.Passing.{callees_one, row_size}
@@ -61,7 +61,7 @@ enter_not K own A h = go A.out h
     go overflow h = refl
 
 -- the arguments succeeded, and the callee was called
-pub enter_done : {make : List Value → List Value} {A : Evals} {x m n : ℕ} {s new new₁ new_s : List ℕ} {a : Ran} {got got₂ : List Value} {e : Ending} (K : List Value → List ℕ → Evals) (u : ℕ) → RanTo make A x m (drop n s) a got new₁ → a.end ≡ End.Values → ((vs : List Value) → got ≡ make vs → Did as_is (K vs (take n s)) e got₂ new_s) → new ≡ s → u ≡ n → n ≤ length s → RanTo as_is (enter K (take n s) A) x (n + m) s (record { end = e; next = a.next; used = u + a.used }) got₂ (new_s ++ drop u (put_tail u new new₁))
+pub enter_done : {make : List Value → List Value} {A : Evals} {x m n : ℕ} {s new new₁ new_s : List ℕ} {a : Step Ending} {got got₂ : List Value} {e : Ending} (K : List Value → List ℕ → Evals) (u : ℕ) → RanTo make A x m (drop n s) a got new₁ → a.out ≡ End.Values → ((vs : List Value) → got ≡ make vs → Did as_is (K vs (take n s)) e got₂ new_s) → new ≡ s → u ≡ n → n ≤ length s → RanTo as_is (enter K (take n s) A) x (n + m) s (record { out = e; next = a.next; used = u + a.used }) got₂ (new_s ++ drop u (put_tail u new new₁))
 enter_done {make} {A} {x} {m} {n} {s} {new} {new₁} {new_s} {a} {got} {got₂} {e} K u h z k same ue le =
     let v = with_values A.out (sym h.end_is ∙ z) in
     let vs = v.0 in
@@ -77,7 +77,7 @@ enter_done {make} {A} {x} {m} {n} {s} {new} {new₁} {new_s} {a} {got} {got₂} 
     }
 
 -- an argument failed or overflowed
-pub enter_stop : {make : List Value → List Value} {A : Evals} {x m n : ℕ} {s new new₁ : List ℕ} {a : Ran} {got : List Value} (got₂ : List Value) (K : List Value → List ℕ → Evals) (u : ℕ) → RanTo make A x m (drop n s) a got new₁ → ¬ (a.end ≡ End.Values) → new ≡ s → u ≡ n → RanTo as_is (enter K (take n s) A) x (n + m) s (record { end = a.end; next = a.next; used = u + a.used }) got₂ (put_tail u new new₁)
+pub enter_stop : {make : List Value → List Value} {A : Evals} {x m n : ℕ} {s new new₁ : List ℕ} {a : Step Ending} {got : List Value} (got₂ : List Value) (K : List Value → List ℕ → Evals) (u : ℕ) → RanTo make A x m (drop n s) a got new₁ → ¬ (a.out ≡ End.Values) → new ≡ s → u ≡ n → RanTo as_is (enter K (take n s) A) x (n + m) s (record { out = a.out; next = a.next; used = u + a.used }) got₂ (put_tail u new new₁)
 enter_stop {make} {A} {x} {m} {n} {s} {new} {new₁} {a} {got} got₂ K u h z same ue =
     let no : ¬ (ending_of A.out ≡ End.Values) = λ e. z (h.end_is ∙ e) in
     let E = enter_not K (take n s) A no in
@@ -212,7 +212,7 @@ module _ {file tab rows consts : List ℕ} {level at node : ℕ} {cells before o
             (subst (λ (c : Option ℕ). Passes file c n) (sym callee_is) call_passes);
       }
 
-  pub call_all : (first : Bool) {old' : List ℕ} {r : Ran} (to : List ℕ) {new' : List ℕ} → AllTo file consts (level - 1) at node first cells before old' r to new' → PassedTo file consts (Some k) n (level - 1) (at + 3) node first cells before old' r to new'
+  pub call_all : (first : Bool) {old' : List ℕ} {r : Step Ending} (to : List ℕ) {new' : List ℕ} → AllTo file consts (level - 1) at node first cells before old' r to new' → PassedTo file consts (Some k) n (level - 1) (at + 3) node first cells before old' r to new'
   call_all first {old'} {r} to {new'} h =
       subst (λ (c : Option ℕ). PassedTo file consts c n (level - 1) (at + 3) node first cells before old' r to new') callee_is
       (subst (λ (m : ℕ). PassedTo file consts (callee_at file at) m (level - 1) (at + 3) node first cells before old' r to new') parts_are
@@ -263,7 +263,7 @@ module _ {file tab rows consts : List ℕ} {level at node : ℕ} {cells before o
         (λ j. eval_rhs g sc (calls g) (rhs_of (call_at.tree j)) (take (call_segs j) old))
         ∙ (λ j. enter (calls g k) (take-take own (own + more) old (omega arith) j) (eval_all g sc (calls g) args (d j)))
 
-    enters_as : {r : Ran} (callee : List ℕ) {new' : List ℕ} → RanTo as_is (enter (calls (globals_in file consts) k) (take (site_bytes (file_at file) k) old) (all_in file consts (level - 1) n (at + 3) node first cells before (take (segs_at file (level - 1) n (at + 3)) (drop (site_bytes (file_at file) k) old)))) (ends_at file (level - 1) n (at + 3)) (site_bytes (file_at file) k + segs_at file (level - 1) n (at + 3)) old r (outputs_at file k callee) new' → EntersTo file consts level at node first cells before old r callee new'
+    enters_as : {r : Step Ending} (callee : List ℕ) {new' : List ℕ} → RanTo as_is (enter (calls (globals_in file consts) k) (take (site_bytes (file_at file) k) old) (all_in file consts (level - 1) n (at + 3) node first cells before (take (segs_at file (level - 1) n (at + 3)) (drop (site_bytes (file_at file) k) old)))) (ends_at file (level - 1) n (at + 3)) (site_bytes (file_at file) k + segs_at file (level - 1) n (at + 3)) old r (outputs_at file k callee) new' → EntersTo file consts level at node first cells before old r callee new'
     enters_as {r} callee {new'} h =
         subst (λ (c : ℕ). RanTo as_is (rhs_eval file consts level at node first cells before (take (seg_at file level at) old)) (end_at file level at) (seg_at file level at) old r (outputs_at file c callee) new') kE
         (subst (λ (m : ℕ). RanTo as_is (rhs_eval file consts level at node first cells before (take (seg_at file level at) old)) (end_at file level at) m old r (outputs_at file k callee) new') (sym call_segs)
@@ -271,21 +271,21 @@ module _ {file tab rows consts : List ℕ} {level at node : ℕ} {cells before o
         (subst (λ (w : Evals). RanTo as_is w (ends_at file (level - 1) n (at + 3)) (own + more) old r (outputs_at file k callee) new') (sym call_is) h)))
 
     -- the arguments, on the caller's own part
-    args_moved : (u : ℕ) → u ≡ row_at rows k 6 → {a : Ran} (callee : List ℕ) {new₁ : List ℕ} → PassedTo file consts (Some k) n (level - 1) (at + 3) node first cells before (tail_of u old) a callee new₁ → RanTo (fit_all (node_in file k).inputs) (all_in file consts (level - 1) n (at + 3) node first cells before (take (segs_at file (level - 1) n (at + 3)) (drop (site_bytes (file_at file) k) old))) (ends_at file (level - 1) n (at + 3)) (segs_at file (level - 1) n (at + 3)) (drop (site_bytes (file_at file) k) old) a (values_of (length (node_in file k).inputs) callee) new₁
+    args_moved : (u : ℕ) → u ≡ row_at rows k 6 → {a : Step Ending} (callee : List ℕ) {new₁ : List ℕ} → PassedTo file consts (Some k) n (level - 1) (at + 3) node first cells before (tail_of u old) a callee new₁ → RanTo (fit_all (node_in file k).inputs) (all_in file consts (level - 1) n (at + 3) node first cells before (take (segs_at file (level - 1) n (at + 3)) (drop (site_bytes (file_at file) k) old))) (ends_at file (level - 1) n (at + 3)) (segs_at file (level - 1) n (at + 3)) (drop (site_bytes (file_at file) k) old) a (values_of (length (node_in file k).inputs) callee) new₁
     args_moved u e {a} callee {new₁} h =
         subst (λ (m : ℕ). RanTo (fit_all (node_in file k).inputs) (all_in file consts (level - 1) n (at + 3) node first cells before (take more (drop own old))) (ends_at file (level - 1) n (at + 3)) more (drop own old) a (values_of m callee) new₁) call_arity
         (subst (λ (s : List ℕ). RanTo (fit_all (node_in file k).inputs) (all_in file consts (level - 1) n (at + 3) node first cells before (take more s)) (ends_at file (level - 1) n (at + 3)) more s a (values_of n callee) new₁) (tail_all u old ∙ ap (λ (m : ℕ). drop m old) (e ∙ call_size)) h)
 
-    pub call_done : (u : ℕ) → u ≡ row_at rows k 6 → {a : Ran} (callee₁ callee₂ : List ℕ) {new₁ new_s : List ℕ} {e : Ending} → PassedTo file consts (Some k) n (level - 1) (at + 3) node first cells before (tail_of u old) a callee₁ new₁ → a.end ≡ End.Values → SiteTo file consts k callee₁ (take u old) e callee₂ new_s → EntersTo file consts level at node first cells before old (record { end = e; next = a.next; used = u + a.used }) callee₂ (new_s ++ drop u (put_tail u new new₁))
+    pub call_done : (u : ℕ) → u ≡ row_at rows k 6 → {a : Step Ending} (callee₁ callee₂ : List ℕ) {new₁ new_s : List ℕ} {e : Ending} → PassedTo file consts (Some k) n (level - 1) (at + 3) node first cells before (tail_of u old) a callee₁ new₁ → a.out ≡ End.Values → SiteTo file consts k callee₁ (take u old) e callee₂ new_s → EntersTo file consts level at node first cells before old (record { out = e; next = a.next; used = u + a.used }) callee₂ (new_s ++ drop u (put_tail u new new₁))
     call_done u e {a} callee₁ callee₂ {new₁} {new_s} {e = end} h z s =
         let y = e ∙ call_size in
         enters_as callee₂ (enter_done (calls (globals_in file consts) k) u (args_moved u e callee₁ h) z (subst (λ (m : ℕ). SiteTo file consts k callee₁ (take m old) end callee₂ new_s) y s) p.same y (omega (arith, call_room)))
 
-    pub call_stop : (u : ℕ) → u ≡ row_at rows k 6 → {a : Ran} (callee₁ : List ℕ) {new₁ : List ℕ} → PassedTo file consts (Some k) n (level - 1) (at + 3) node first cells before (tail_of u old) a callee₁ new₁ → ¬ (a.end ≡ End.Values) → EntersTo file consts level at node first cells before old (record { end = a.end; next = a.next; used = u + a.used }) callee₁ (put_tail u new new₁)
+    pub call_stop : (u : ℕ) → u ≡ row_at rows k 6 → {a : Step Ending} (callee₁ : List ℕ) {new₁ : List ℕ} → PassedTo file consts (Some k) n (level - 1) (at + 3) node first cells before (tail_of u old) a callee₁ new₁ → ¬ (a.out ≡ End.Values) → EntersTo file consts level at node first cells before old (record { out = a.out; next = a.next; used = u + a.used }) callee₁ (put_tail u new new₁)
     call_stop u e {a} callee₁ {new₁} h z =
         enters_as callee₁ (enter_stop (outputs_at file k callee₁) (calls (globals_in file consts) k) u (args_moved u e callee₁ h) z p.same (e ∙ call_size))
 
-    pub call_used : (u : ℕ) → u ≡ row_at rows k 6 → {a : Ran} (callee : List ℕ) {new₁ : List ℕ} → PassedTo file consts (Some k) n (level - 1) (at + 3) node first cells before (tail_of u old) a callee new₁ → u + a.used ≤ 32768
+    pub call_used : (u : ℕ) → u ≡ row_at rows k 6 → {a : Step Ending} (callee : List ℕ) {new₁ : List ℕ} → PassedTo file consts (Some k) n (level - 1) (at + 3) node first cells before (tail_of u old) a callee new₁ → u + a.used ≤ 32768
     call_used u e callee h = omega (arith, h.used_is, e ∙ call_size, call_room, p.small)
 
     -- ---- the call as one value
@@ -295,12 +295,12 @@ module _ {file tab rows consts : List ℕ} {level at node : ℕ} {cells before o
     single_is seg =
         subst (λ (x : Expr). eval_in file consts node first cells before x seg ≡ single_eval (eval_rhs (globals_in file consts) (scope_in file node first cells before) (calls (globals_in file consts)) (rhs_of x) seg)) (sym call_at.tree) refl
 
-    pub call_single : {r : Ran} (callee : List ℕ) {new' : List ℕ} {o : Outcome} (outputs : ℕ) → EntersTo file consts level at node first cells before old r callee new' → outputs ≡ row_at rows k 3 → ((os : Outcomes) → Leaves os r.end outputs callee → o ≡ single os) → EvalsTo file consts level at node first cells before old (record { out = o; next = r.next; used = r.used }) new'
+    pub call_single : {r : Step Ending} (callee : List ℕ) {new' : List ℕ} {o : Outcome} (outputs : ℕ) → EntersTo file consts level at node first cells before old r callee new' → outputs ≡ row_at rows k 3 → ((os : Outcomes) → Leaves os r.out outputs callee → o ≡ single os) → EvalsTo file consts level at node first cells before old (record { out = o; next = r.next; used = r.used }) new'
     call_single {r} callee {new'} {o} outputs h oE s =
         let w = rhs_eval file consts level at node first cells before (take (seg_at file level at) old) in
         let row = p.plan.program.sized.table.rows_of k call_below in
-        let left : Leaves w.out r.end outputs callee =
-        leaves w.out r.end outputs callee h.end_is
+        let left : Leaves w.out r.out outputs callee =
+        leaves w.out r.out outputs callee h.end_is
         (subst (λ (m : ℕ). Holds as_is w.out (values_of m callee)) (sym (oE ∙ row.outputs))
         (subst (λ (c : ℕ). Holds as_is w.out (outputs_at file c callee)) (sym kE) h.values_are)) in
         subst (λ (x : Eval). Meets x (end_at file level at) (seg_at file level at) old (record { out = o; next = r.next; used = r.used }) new') (sym (single_is (take (seg_at file level at) old)))

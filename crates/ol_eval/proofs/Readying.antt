@@ -71,7 +71,7 @@ module _ {f tab rows consts : List ℕ} {node : ℕ} {cells before : List ℕ} w
         calls = (calls_both p).1;
       }
 
-  pub ready_rest : {level n at : ℕ} {old n₀ new : List ℕ} {w : Eval} {x : ℕ} {l : Step} → Ready f tab rows consts level (suc n) at node cells before old n₀ → Meets w x (seg_at f level at) old l new → length new ≡ length n₀ → Ready f tab rows consts level n (end_at f level at) node cells before (tail_of l.used old) (tail_of l.used new)
+  pub ready_rest : {level n at : ℕ} {old n₀ new : List ℕ} {w : Eval} {x : ℕ} {l : Step Outcome} → Ready f tab rows consts level (suc n) at node cells before old n₀ → Meets w x (seg_at f level at) old l new → length new ≡ length n₀ → Ready f tab rows consts level n (end_at f level at) node cells before (tail_of l.used old) (tail_of l.used new)
   ready_rest {level} {n} {at} {old} {n₀} {new} {w} {x} {l} p h k =
       let r = p.room in
       let c = segs_cons f level n at p.plan.reads in
@@ -123,14 +123,14 @@ module _ {f tab rows consts : List ℕ} {node : ℕ} {cells before : List ℕ} w
   ready_deep {level} {n} {at} p = reads_deep f level at (plan_head f p.plan)
 
   -- what it used is within the two states
-  pub ready_fits : {level n at : ℕ} {old n₀ new : List ℕ} {w : Eval} {x : ℕ} {l : Step} → Ready f tab rows consts level (suc n) at node cells before old n₀ → Meets w x (seg_at f level at) old l new → l.used ≤ length old
+  pub ready_fits : {level n at : ℕ} {old n₀ new : List ℕ} {w : Eval} {x : ℕ} {l : Step Outcome} → Ready f tab rows consts level (suc n) at node cells before old n₀ → Meets w x (seg_at f level at) old l new → l.used ≤ length old
   ready_fits p h = omega (arith, h.used_is, ready_seg p)
 
-  pub ready_fits_new : {level n at : ℕ} {old n₀ new : List ℕ} {w : Eval} {x : ℕ} {l : Step} → Ready f tab rows consts level (suc n) at node cells before old n₀ → Meets w x (seg_at f level at) old l new → length new ≡ length n₀ → l.used ≤ length new
+  pub ready_fits_new : {level n at : ℕ} {old n₀ new : List ℕ} {w : Eval} {x : ℕ} {l : Step Outcome} → Ready f tab rows consts level (suc n) at node cells before old n₀ → Meets w x (seg_at f level at) old l new → length new ≡ length n₀ → l.used ≤ length new
   ready_fits_new p h k = omega (arith, h.used_is, ready_seg p, k, ap length p.same)
 
 -- what was evaluated at a place, and on a part, that are the caller's own by equations
-pub moved : (f consts : List ℕ) (level node : ℕ) (first : Bool) (cells before : List ℕ) {p q : ℕ} {s s' : List ℕ} {r : Step} {new : List ℕ} → p ≡ q → s ≡ s' → EvalsTo f consts level p node first cells before s r new → EvalsTo f consts level q node first cells before s' r new
+pub moved : (f consts : List ℕ) (level node : ℕ) (first : Bool) (cells before : List ℕ) {p q : ℕ} {s s' : List ℕ} {r : Step Outcome} {new : List ℕ} → p ≡ q → s ≡ s' → EvalsTo f consts level p node first cells before s r new → EvalsTo f consts level q node first cells before s' r new
 moved f consts level node first cells before {q = q} {s = s} {r = r} {new = new} e g h =
     subst (λ (y : List ℕ). EvalsTo f consts level q node first cells before y r new) g
     (subst (λ (x : ℕ). EvalsTo f consts level x node first cells before s r new) e h)
@@ -140,7 +140,7 @@ moved_untaken f consts level node first cells before {q = q} {s = s} {over = ove
     subst (λ (y : List ℕ). UntakenTo f consts level q node first cells before y over new) g
     (subst (λ (x : ℕ). UntakenTo f consts level x node first cells before s over new) e h)
 
-pub moved_choice : (f consts : List ℕ) (test : Bool) (level node : ℕ) (first : Bool) (cells before : List ℕ) {p q : ℕ} {s s' : List ℕ} {r : Step} {new : List ℕ} → p ≡ q → s ≡ s' → ChooseTo f consts test level p node first cells before s r new → ChooseTo f consts test level q node first cells before s' r new
+pub moved_choice : (f consts : List ℕ) (test : Bool) (level node : ℕ) (first : Bool) (cells before : List ℕ) {p q : ℕ} {s s' : List ℕ} {r : Step Outcome} {new : List ℕ} → p ≡ q → s ≡ s' → ChooseTo f consts test level p node first cells before s r new → ChooseTo f consts test level q node first cells before s' r new
 moved_choice f consts test level node first cells before {q = q} {s = s} {r = r} {new = new} e g h =
     subst (λ (y : List ℕ). ChooseTo f consts test level q node first cells before y r new) g
     (subst (λ (x : ℕ). ChooseTo f consts test level x node first cells before s r new) e h)
@@ -189,7 +189,7 @@ chosen_is f consts level node first cells before {p} {at} taken e h =
 -- ---- the expression at a place, by its form
 
 module _ (f consts : List ℕ) (level at node : ℕ) (first : Bool) (cells before : List ℕ) where
-  pub form_evals : {t : Expr} {n : ℕ} {old new : List ℕ} {r : Step} (W : List ℕ → Eval) → ReadsAll f level 1 at → Formed f level at t n → own_sites t ≡ [] → ((seg : List ℕ) → eval_in f consts node first cells before t seg ≡ W seg) → Meets (W (take (segs_at f (level - 1) n (at + head_of t)) old)) (ends_at f (level - 1) n (at + head_of t)) (segs_at f (level - 1) n (at + head_of t)) old r new → EvalsTo f consts level at node first cells before old r new
+  pub form_evals : {t : Expr} {n : ℕ} {old new : List ℕ} {r : Step Outcome} (W : List ℕ → Eval) → ReadsAll f level 1 at → Formed f level at t n → own_sites t ≡ [] → ((seg : List ℕ) → eval_in f consts node first cells before t seg ≡ W seg) → Meets (W (take (segs_at f (level - 1) n (at + head_of t)) old)) (ends_at f (level - 1) n (at + head_of t)) (segs_at f (level - 1) n (at + head_of t)) old r new → EvalsTo f consts level at node first cells before old r new
   form_evals {t} {n} {old} {new} {r} W h g o w m =
       let e : seg_at f level at ≡ segs_at f (level - 1) n (at + head_of t) = sym (segs_one f level at h) ∙ segs_form f h g o in
       subst (λ (k : ℕ). Meets (eval_in f consts node first cells before (expr_at f level at) (take k old)) (end_at f level at) k old r new) (sym e)
@@ -198,7 +198,7 @@ module _ (f consts : List ℕ) (level at node : ℕ) (first : Bool) (cells befor
       (sym (ap (λ (x : Expr). eval_in f consts node first cells before x (take (segs_at f (level - 1) n (at + head_of t)) old)) g.tree ∙ w (take (segs_at f (level - 1) n (at + head_of t)) old))) m))
 
   -- a form with one part
-  pub one_evals : {t : Expr} {old new : List ℕ} {r : Step} (W : List ℕ → Eval) → ReadsAll f level 1 at → Formed f level at t 1 → own_sites t ≡ [] → ((seg : List ℕ) → eval_in f consts node first cells before t seg ≡ W seg) → Meets (W (take (seg_at f (level - 1) (at + head_of t)) old)) (end_at f (level - 1) (at + head_of t)) (seg_at f (level - 1) (at + head_of t)) old r new → EvalsTo f consts level at node first cells before old r new
+  pub one_evals : {t : Expr} {old new : List ℕ} {r : Step Outcome} (W : List ℕ → Eval) → ReadsAll f level 1 at → Formed f level at t 1 → own_sites t ≡ [] → ((seg : List ℕ) → eval_in f consts node first cells before t seg ≡ W seg) → Meets (W (take (seg_at f (level - 1) (at + head_of t)) old)) (end_at f (level - 1) (at + head_of t)) (seg_at f (level - 1) (at + head_of t)) old r new → EvalsTo f consts level at node first cells before old r new
   one_evals {t} {old} {new} {r} W h g o w m =
       let s = at + head_of t in
       form_evals W h g o w

@@ -35,7 +35,6 @@ use Rattle.ol_frame.specs.Outcomes.{ending_of}
 use Rattle.ol_frame.specs.declared.outcomes.Ending.{Ending}
 use Rattle.ol_frame.specs.declared.outcomes.Ending.TheVariants as End
 use Rattle.ol_eval.specs.declared.eval.Step.{Step}
-use Rattle.ol_eval.specs.declared.eval.Ran.{Ran}
 use Rattle.ol_frame.proofs.Passing.{callees_one}
 use Rattle.ol_frame.proofs.Planning.{sounds_below, segs_one, segs_form, plan_call}
 use Rattle.ol_tables.specs.Heads.{parts_at, next_at}
@@ -202,7 +201,7 @@ module _ {file tab rows consts : List ℕ} {k i at : ℕ} {cells before old new 
       by_form file (λ c x. ¬ (c ≡ 11) → ¬ (c ≡ 12) → rhs_of x ≡ one x) (λ b n m. refl) (λ j n m. refl) (λ b n m. refl) (λ c n m. refl) (λ x n m. refl) (λ op x n m. refl) (λ op l r n m. refl)
       (λ c t x n m. refl) (λ x n m. refl) (λ a b n m. refl) (λ t x n m. refl) (λ c es n m. absurd (n refl)) (λ es n m. absurd (m refl)) 24 rhs (subst (Reads file 24) (sym e) reads) n m
 
-  pub one_done : (first : Bool) (rhs : ℕ) (end : Ending) (cells' : List ℕ) {new' : List ℕ} {r : Step} → rhs ≡ rhs_in file k i → ¬ (get_or file rhs 0 ≡ 11) → ¬ (get_or file rhs 0 ≡ 12) → EvalsTo file consts 24 rhs k first cells before old r new'
+  pub one_done : (first : Bool) (rhs : ℕ) (end : Ending) (cells' : List ℕ) {new' : List ℕ} {r : Step Outcome} → rhs ≡ rhs_in file k i → ¬ (get_or file rhs 0 ≡ 11) → ¬ (get_or file rhs 0 ≡ 12) → EvalsTo file consts 24 rhs k first cells before old r new'
       → end ≡ ending_of (several r.out) → StoresOut tab k (at + 1) r.out cells cells' → EquationTo file consts k i first cells before old end cells' new'
   one_done first rhs end cells' {new'} {r} e n m h d s =
       let G = eval_in file consts k first cells before (expr_at file 24 rhs) (take (seg_at file 24 rhs) old) in
@@ -275,17 +274,17 @@ module _ {file tab rows consts : List ℕ} {k i at : ℕ} {cells before old new 
           outputs = ap (λ (x : ℕ). row_at rows x 3) e ∙ t.outputs;
         }
 
-    pub call_done : (first : Bool) (m : ℕ) (callee cells' : List ℕ) {new' : List ℕ} {r : Ran} → RhsReady file k i rhs n 11 → EntersTo file consts 24 rhs k first cells before old r callee new' → r.end ≡ End.Values
+    pub call_done : (first : Bool) (m : ℕ) (callee cells' : List ℕ) {new' : List ℕ} {r : Step Ending} → RhsReady file k i rhs n 11 → EntersTo file consts 24 rhs k first cells before old r callee new' → r.out ≡ End.Values
         → m ≡ min n (length (node_in file (get_or file (rhs + 1) 0)).outputs) → Assigns tab k (at + 1) m m callee cells cells' → EquationTo file consts k i first cells before old End.Values cells' new'
     call_done first m callee cells' {new'} {r} p h z c a =
         let G = rhs_eval file consts 24 rhs k first cells before (take (seg_at file 24 rhs) old) in
         let t = length (node_in file (get_or file (rhs + 1) 0)).outputs in
-        several_done first G r.end m t callee cells' new' (right_eval first rhs p.place) z h.end_is
+        several_done first G r.out m t callee cells' new' (right_eval first rhs p.place) z h.end_is
         h.values_are (no_rest first (ap (seg_at file 24) p.place ∙ seg_is) h.state) (c ∙ ap (λ (x : ℕ). min x t) p.count) a
 
-    pub call_stops : (first : Bool) (callee cells' : List ℕ) {new' : List ℕ} {r : Ran} → RhsReady file k i rhs n 11 → EntersTo file consts 24 rhs k first cells before old r callee new' → ¬ (r.end ≡ End.Values) → EquationTo file consts k i first cells before old r.end cells' new'
+    pub call_stops : (first : Bool) (callee cells' : List ℕ) {new' : List ℕ} {r : Step Ending} → RhsReady file k i rhs n 11 → EntersTo file consts 24 rhs k first cells before old r callee new' → ¬ (r.out ≡ End.Values) → EquationTo file consts k i first cells before old r.out cells' new'
     call_stops first callee cells' {new'} {r} p h z =
-        several_stops first (rhs_eval file consts 24 rhs k first cells before (take (seg_at file 24 rhs) old)) r.end cells' new' (right_eval first rhs p.place) z h.end_is
+        several_stops first (rhs_eval file consts 24 rhs k first cells before (take (seg_at file 24 rhs) old)) r.out cells' new' (right_eval first rhs p.place) z h.end_is
         (no_rest first (ap (seg_at file 24) p.place ∙ seg_is) h.state)
 
     -- a Tuple: its items
@@ -324,7 +323,7 @@ module _ {file tab rows consts : List ℕ} {k i at : ℕ} {cells before old new 
         subst (λ (m : ℕ). Ready file tab rows consts 23 m (next_at file rhs) k cells before old new) (sym (parts_are p (get_or file (rhs + 1) 0) refl))
         (subst (λ (a : ℕ). Ready file tab rows consts 23 (get_or file (rhs + 1) 0) a k cells before old new) (sym (start_is p)) (tuple_ready p (get_or file (rhs + 1) 0) refl))
 
-    pub tuple_all : RhsReady file k i rhs n 12 → (count : ℕ) → count ≡ get_or file (rhs + 1) 0 → (first : Bool) {r : Ran} (to : List ℕ) {new' : List ℕ} → AllTo file consts 23 rhs k first cells before old r to new' → PassedTo file consts None count 23 (rhs + 2) k first cells before old r to new'
+    pub tuple_all : RhsReady file k i rhs n 12 → (count : ℕ) → count ≡ get_or file (rhs + 1) 0 → (first : Bool) {r : Step Ending} (to : List ℕ) {new' : List ℕ} → AllTo file consts 23 rhs k first cells before old r to new' → PassedTo file consts None count 23 (rhs + 2) k first cells before old r to new'
     tuple_all p count e first {r} to {new'} h =
         subst (λ (c : Option ℕ). PassedTo file consts c count 23 (rhs + 2) k first cells before old r to new') (no_callee file rhs p.code_is)
         (subst (λ (m : ℕ). PassedTo file consts (callee_at file rhs) m 23 (rhs + 2) k first cells before old r to new') (parts_are p count e)
@@ -347,11 +346,11 @@ module _ {file tab rows consts : List ℕ} {k i at : ℕ} {cells before old new 
         let r = subst (λ (x : ℕ). ReadsAll file 24 1 x) (sym p.place) plan.plan.reads in
         ap (λ (c : ℕ). segs_at file 23 c (rhs + 2)) e ∙ sym (segs_form file r t refl) ∙ segs_one file 24 rhs r ∙ ap (seg_at file 24) p.place ∙ seg_is
 
-    pub tuple_done : (first : Bool) (count m : ℕ) (to cells' : List ℕ) {new' : List ℕ} {r : Ran} → RhsReady file k i rhs n 12 → count ≡ get_or file (rhs + 1) 0 → PassedTo file consts None count 23 (rhs + 2) k first cells before old r to new' → r.end ≡ End.Values
+    pub tuple_done : (first : Bool) (count m : ℕ) (to cells' : List ℕ) {new' : List ℕ} {r : Step Ending} → RhsReady file k i rhs n 12 → count ≡ get_or file (rhs + 1) 0 → PassedTo file consts None count 23 (rhs + 2) k first cells before old r to new' → r.out ≡ End.Values
         → m ≡ min n count → Assigns tab k (at + 1) m m to cells cells' → EquationTo file consts k i first cells before old End.Values cells' new'
     tuple_done first count m to cells' {new'} {r} p e h z c a =
         let G = all_in file consts 23 count (rhs + 2) k first cells before (take (segs_at file 23 count (rhs + 2)) old) in
-        several_done first G r.end m count to cells' new' (tuple_eval first p count e) z h.end_is
+        several_done first G r.out m count to cells' new' (tuple_eval first p count e) z h.end_is
         (plain G.out h.values_are) (no_rest first (tuple_used p count e) h.state) (c ∙ ap (λ (x : ℕ). min x count) p.count) a
       where
         plain : (o : Outcomes) → Holds (passed_all file None) o (values_of count to) → Holds as_is o (values_of count to)
@@ -359,8 +358,8 @@ module _ {file tab rows consts : List ℕ} {k i at : ℕ} {cells before old new 
         plain (failure d) h = tt
         plain overflow h = tt
 
-    pub tuple_stops : (first : Bool) (count : ℕ) (to cells' : List ℕ) {new' : List ℕ} {r : Ran} → RhsReady file k i rhs n 12 → count ≡ get_or file (rhs + 1) 0 → PassedTo file consts None count 23 (rhs + 2) k first cells before old r to new' → ¬ (r.end ≡ End.Values)
-        → EquationTo file consts k i first cells before old r.end cells' new'
+    pub tuple_stops : (first : Bool) (count : ℕ) (to cells' : List ℕ) {new' : List ℕ} {r : Step Ending} → RhsReady file k i rhs n 12 → count ≡ get_or file (rhs + 1) 0 → PassedTo file consts None count 23 (rhs + 2) k first cells before old r to new' → ¬ (r.out ≡ End.Values)
+        → EquationTo file consts k i first cells before old r.out cells' new'
     tuple_stops first count to cells' {new'} {r} p e h z =
-        several_stops first (all_in file consts 23 count (rhs + 2) k first cells before (take (segs_at file 23 count (rhs + 2)) old)) r.end cells' new' (tuple_eval first p count e) z h.end_is
+        several_stops first (all_in file consts 23 count (rhs + 2) k first cells before (take (segs_at file 23 count (rhs + 2)) old)) r.out cells' new' (tuple_eval first p count e) z h.end_is
         (no_rest first (tuple_used p count e) h.state)

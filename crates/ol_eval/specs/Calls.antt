@@ -20,7 +20,7 @@ use Rattle.ol_frame.specs.Nodes.{Running}
 use Rattle.ol_frame.specs.Outcomes.{ending_of}
 use Rattle.ol_frame.specs.declared.outcomes.Ending.{Ending}
 use Rattle.ol_frame.specs.declared.outcomes.Ending.TheVariants as End
-use Rattle.ol_eval.specs.declared.eval.Ran.{Ran}
+use Rattle.ol_eval.specs.declared.eval.Step.{Step}
 use Rattle.ol_eval.specs.declared.eval.Ended.{Ended}
 
 -- if there are values, `got` is what is made of them; else it is free: of a failure or an overflow nobody reads the values
@@ -33,8 +33,8 @@ abbrev pub as_is : List Value → List Value
 as_is vs = vs
 
 -- what evaluating several values gives: how it ended, where the expressions end, the bytes of their records, the values, and the new state
-pub record RanTo (make : List Value → List Value) (want : Evals) (next used : ℕ) (old : List ℕ) (r : Ran) (got : List Value) (new : List ℕ) : Type 0 where
-  pub end_is : r.end ≡ ending_of want.out
+pub record RanTo (make : List Value → List Value) (want : Evals) (next used : ℕ) (old : List ℕ) (r : Step Ending) (got : List Value) (new : List ℕ) : Type 0 where
+  pub end_is : r.out ≡ ending_of want.out
   pub next_is : r.next ≡ next
   pub used_is : r.used ≡ used
   pub values_are : Holds make want.out got
@@ -62,7 +62,7 @@ abbrev pub all_in : List ℕ → List ℕ → ℕ → ℕ → ℕ → ℕ → Bo
 all_in file consts level n at node first cells before seg =
     eval_all (globals_in file consts) (scope_in file node first cells before) (calls (globals_in file consts)) (exprs_at file level n at) seg
 
-abbrev pub PassedTo : List ℕ → List ℕ → Option ℕ → ℕ → ℕ → ℕ → ℕ → Bool → List ℕ → List ℕ → List ℕ → Ran → List ℕ → List ℕ → Type 0
+abbrev pub PassedTo : List ℕ → List ℕ → Option ℕ → ℕ → ℕ → ℕ → ℕ → Bool → List ℕ → List ℕ → List ℕ → Step Ending → List ℕ → List ℕ → Type 0
 PassedTo file consts callee n level at node first cells before old r to new =
     RanTo (passed_all file callee) (all_in file consts level n at node first cells before (take (segs_at file level n at) old)) (ends_at file level n at) (segs_at file level n at) old r (values_of n to) new
 
@@ -75,7 +75,7 @@ pub record Several (file : List ℕ) (at : ℕ) : Type 0 where
   pub inside : at + 1 < length file
   pub passes : Passes file (callee_at file at) (parts_at file at)
 
-abbrev pub AllTo : List ℕ → List ℕ → ℕ → ℕ → ℕ → Bool → List ℕ → List ℕ → List ℕ → Ran → List ℕ → List ℕ → Type 0
+abbrev pub AllTo : List ℕ → List ℕ → ℕ → ℕ → ℕ → Bool → List ℕ → List ℕ → List ℕ → Step Ending → List ℕ → List ℕ → Type 0
 AllTo file consts level at node first cells before old r to new =
     PassedTo file consts (callee_at file at) (parts_at file at) level (next_at file at) node first cells before old r to new
 
@@ -90,7 +90,7 @@ abbrev pub rhs_eval : List ℕ → List ℕ → ℕ → ℕ → ℕ → Bool →
 rhs_eval file consts level at node first cells before seg =
     eval_rhs (globals_in file consts) (scope_in file node first cells before) (calls (globals_in file consts)) (rhs_of (expr_at file level at)) seg
 
-abbrev pub EntersTo : List ℕ → List ℕ → ℕ → ℕ → ℕ → Bool → List ℕ → List ℕ → List ℕ → Ran → List ℕ → List ℕ → Type 0
+abbrev pub EntersTo : List ℕ → List ℕ → ℕ → ℕ → ℕ → Bool → List ℕ → List ℕ → List ℕ → Step Ending → List ℕ → List ℕ → Type 0
 EntersTo file consts level at node first cells before old r args new =
     RanTo as_is (rhs_eval file consts level at node first cells before (take (seg_at file level at) old)) (end_at file level at) (seg_at file level at) old r (outputs_at file (get_or file (at + 1) 0) args) new
 

@@ -9,6 +9,7 @@ use Rattle.ol_frame.specs.declared.frame.Frame.{Frame}
 use Rattle.ol_frame.specs.Plans.{Plan, Cells, segs_at, seg_at, eval_in, globals_in, scope_in}
 use Rattle.ol_frame.specs.Nodes.{Enters}
 use Rattle.ol_frame.specs.Outcomes.{overflow_of}
+use Rattle.ol_spec.specs.declared.Outcome.{Outcome}
 use Rattle.ol_eval.specs.declared.eval.Step.{Step}
 
 -- n expressions from `at` on can be evaluated on the parts `old` and `new` of the two states
@@ -30,14 +31,14 @@ abbrev pub on : {X : Type 1} → (ℕ → Bool → List ℕ → List ℕ → X) 
 on P fr = P fr.node fr.first fr.cells fr.before
 
 -- what an evaluation gives: its outcome, where the expression ends, the bytes of its records, and the new state
-pub record Meets (want : Eval) (next used : ℕ) (old : List ℕ) (r : Step) (new : List ℕ) : Type 0 where
+pub record Meets (want : Eval) (next used : ℕ) (old : List ℕ) (r : Step Outcome) (new : List ℕ) : Type 0 where
   pub out : r.out ≡ want.out
   pub next_is : r.next ≡ next
   pub used_is : r.used ≡ used
   pub state : new ≡ want.seg ++ drop used old
 
 -- the expression at `at`
-abbrev pub EvalsTo : List ℕ → List ℕ → ℕ → ℕ → ℕ → Bool → List ℕ → List ℕ → List ℕ → Step → List ℕ → Type 0
+abbrev pub EvalsTo : List ℕ → List ℕ → ℕ → ℕ → ℕ → Bool → List ℕ → List ℕ → List ℕ → Step Outcome → List ℕ → Type 0
 EvalsTo file consts level at node first cells before old r new =
     Meets (eval_in file consts node first cells before (expr_at file level at) (take (seg_at file level at) old)) (end_at file level at) (seg_at file level at) old r new
 
@@ -57,7 +58,7 @@ two_in file consts op level at node first cells before seg =
     (λ v rest. map_eval (binary_by op v) (eval_in file consts node first cells before (expr_at file level (end_at file level at)) rest))
     (drop (seg_at file level at) seg)
 
-abbrev pub TwoTo : List ℕ → List ℕ → ℕ → ℕ → ℕ → ℕ → Bool → List ℕ → List ℕ → List ℕ → Step → List ℕ → Type 0
+abbrev pub TwoTo : List ℕ → List ℕ → ℕ → ℕ → ℕ → ℕ → Bool → List ℕ → List ℕ → List ℕ → Step Outcome → List ℕ → Type 0
 TwoTo file consts op level at node first cells before old r new =
     Meets (two_in file consts op level at node first cells before (take (segs_at file level 2 at) old)) (ends_at file level 2 at) (segs_at file level 2 at) old r new
 
@@ -70,7 +71,7 @@ abbrev pub choose_in : List ℕ → List ℕ → Bool → ℕ → ℕ → ℕ �
 choose_in file consts test level at node first cells before seg =
     choose test (branch_in file consts level at node first cells before (take (seg_at file level at) seg)) (branch_in file consts level (end_at file level at) node first cells before (drop (seg_at file level at) seg))
 
-abbrev pub ChooseTo : List ℕ → List ℕ → Bool → ℕ → ℕ → ℕ → Bool → List ℕ → List ℕ → List ℕ → Step → List ℕ → Type 0
+abbrev pub ChooseTo : List ℕ → List ℕ → Bool → ℕ → ℕ → ℕ → Bool → List ℕ → List ℕ → List ℕ → Step Outcome → List ℕ → Type 0
 ChooseTo file consts test level at node first cells before old r new =
     Meets (choose_in file consts test level at node first cells before (take (segs_at file level 2 at) old)) (ends_at file level 2 at) (segs_at file level 2 at) old r new
 
@@ -81,6 +82,6 @@ if_in file consts level at node first cells before seg =
     (condition (λ test rest. choose_in file consts test level (end_at file level at) node first cells before rest))
     (drop (seg_at file level at) seg)
 
-abbrev pub IfTo : List ℕ → List ℕ → ℕ → ℕ → ℕ → Bool → List ℕ → List ℕ → List ℕ → Step → List ℕ → Type 0
+abbrev pub IfTo : List ℕ → List ℕ → ℕ → ℕ → ℕ → Bool → List ℕ → List ℕ → List ℕ → Step Outcome → List ℕ → Type 0
 IfTo file consts level at node first cells before old r new =
     Meets (if_in file consts level at node first cells before (take (segs_at file level 3 at) old)) (ends_at file level 3 at) (segs_at file level 3 at) old r new

@@ -35,10 +35,10 @@ use ol_value::cell::write_cell;
 
 // ---- expressions
 
-// What evaluating an expression gives: its outcome, where it ends, and the bytes of its records.
+// What evaluating gives: an expression's outcome, or how several or a call ended; where they end; and the bytes of their records.
 #[derive(Clone, Copy)]
-pub struct Step {
-    pub out: Outcome,
+pub struct Step<T> {
+    pub out: T,
     pub next: usize,
     pub used: usize,
 }
@@ -53,7 +53,7 @@ pub fn eval(
     frame: &Frame,
     old: &[u8],
     new: &mut [u8],
-) -> Step
+) -> Step<Outcome>
     requires { CanEval file.now tab.now level 1 at frame.now old.now new.old }
     ensures { on (EvalsTo file.now (consts_of tab.now) level at) frame.now old.now result new.new }
 {
@@ -78,7 +78,7 @@ fn eval_form(
     frame: &Frame,
     old: &[u8],
     new: &mut [u8],
-) -> Step
+) -> Step<Outcome>
     requires { CanEval file.now tab.now level 1 at frame.now old.now new.old }
     ensures { on (EvalsTo file.now (consts_of tab.now) level at) frame.now old.now result new.new }
 {
@@ -132,7 +132,7 @@ fn eval_two(
     frame: &Frame,
     old: &[u8],
     new: &mut [u8],
-) -> Step
+) -> Step<Outcome>
     requires { CanEval file.now tab.now level 2 (at + 2) frame.now old.now new.old }
     ensures { on (TwoTo file.now (consts_of tab.now) (get_or file.now (at + 1) 0) level (at + 2)) frame.now old.now result new.new }
 {
@@ -166,7 +166,7 @@ fn eval_if(
     frame: &Frame,
     old: &[u8],
     new: &mut [u8],
-) -> Step
+) -> Step<Outcome>
     requires { CanEval file.now tab.now level 3 at frame.now old.now new.old }
     ensures { on (IfTo file.now (consts_of tab.now) level at) frame.now old.now result new.new }
 {
@@ -210,7 +210,7 @@ fn eval_first(
     frame: &Frame,
     old: &[u8],
     new: &mut [u8],
-) -> Step
+) -> Step<Outcome>
     requires { CanEval file.now tab.now level 2 at frame.now old.now new.old }
     ensures { on (ChooseTo file.now (consts_of tab.now) true level at) frame.now old.now result new.new }
 {
@@ -244,7 +244,7 @@ fn eval_second(
     frame: &Frame,
     old: &[u8],
     new: &mut [u8],
-) -> Step
+) -> Step<Outcome>
     requires { CanEval file.now tab.now level 2 at frame.now old.now new.old }
     ensures { on (ChooseTo file.now (consts_of tab.now) false level at) frame.now old.now result new.new }
 {
@@ -287,14 +287,6 @@ fn step_untaken(
 
 // ---- calls
 
-// What evaluating several expressions, or a call, gives: how it ended, where they end, and the bytes of their records.
-#[derive(Clone, Copy)]
-pub struct Ran {
-    pub end: Ending,
-    pub next: usize,
-    pub used: usize,
-}
-
 // The call at `at`, as one value.
 #[cycle(evaluation)]
 fn eval_call(
@@ -305,7 +297,7 @@ fn eval_call(
     frame: &Frame,
     old: &[u8],
     new: &mut [u8],
-) -> Step
+) -> Step<Outcome>
     requires { CanEval file.now tab.now level 1 at frame.now old.now new.old × (get_or file.now at 0 ≡ 11) }
     ensures { on (EvalsTo file.now (consts_of tab.now) level at) frame.now old.now result new.new }
 {
@@ -314,7 +306,7 @@ fn eval_call(
     let k = usize::from(file[at + 1]);
     let outputs = row(tab, k, OUTPUTS);
     Step {
-        out: single_out(r.end, outputs, &args.cells),
+        out: single_out(r.out, outputs, &args.cells),
         next: r.next,
         used: r.used,
     }
@@ -331,7 +323,7 @@ fn enter(
     args: &mut Arguments,
     old: &[u8],
     new: &mut [u8],
-) -> Ran
+) -> Step<Ending>
     requires { CanEval file.now tab.now level 1 at frame.now old.now new.old × (get_or file.now at 0 ≡ 11) }
     ensures { on (EntersTo file.now (consts_of tab.now) level at) frame.now old.now result args.new.cells new.new }
 {
@@ -348,11 +340,11 @@ fn enter(
         &mut new[size..],
     );
     let used = size + a.used;
-    let Ending::Values = a.end else {
-        return Ran { used, ..a };
+    let Ending::Values = a.out else {
+        return Step { used, ..a };
     };
     let end = step_site(file, tab, k, args, &old[..size], &mut new[..size]);
-    Ran { end, used, ..a }
+    Step { out: end, used, ..a }
 }
 
 // The node that is called, if it is a call that stands at `at`.
@@ -378,7 +370,7 @@ fn eval_all(
     to: &mut Arguments,
     old: &[u8],
     new: &mut [u8],
-) -> Ran
+) -> Step<Ending>
     requires { CanEval file.now tab.now level (parts_at file.now at) (next_at file.now at) frame.now old.now new.old × Several file.now at }
     ensures { on (AllTo file.now (consts_of tab.now) level at) frame.now old.now result to.new.cells new.new }
 {
@@ -393,16 +385,16 @@ fn eval_all(
         pos = r.next;
         let Outcome::Value(v) = r.out else {
             let s = pass_all(file, tab, pos, level, n - i - 1);
-            return Ran {
-                end: end_of(r.out),
+            return Step {
+                out: end_of(r.out),
                 next: s.next,
                 used: used + s.used,
             };
         };
         write_cell(passed(tab, callee, i, v), &mut to.cells, 9 * i);
     }
-    Ran {
-        end: Ending::Values,
+    Step {
+        out: Ending::Values,
         next: pos,
         used,
     }
@@ -567,8 +559,8 @@ fn call_equation(
     let rhs = at + 1 + 2 * n;
     let mut args = Arguments::new();
     let r = enter(file, tab, rhs, 24, frame, &mut args, old, new);
-    let Ending::Values = r.end else {
-        return r.end;
+    let Ending::Values = r.out else {
+        return r.out;
     };
     let c = usize::from(file[rhs + 1]);
     let m = n.min(row(tab, c, OUTPUTS));
@@ -594,8 +586,8 @@ fn tuple_equation(
     let rhs = at + 1 + 2 * n;
     let mut items = Arguments::new();
     let r = eval_all(file, tab, rhs, 23, frame, &mut items, old, new);
-    let Ending::Values = r.end else {
-        return r.end;
+    let Ending::Values = r.out else {
+        return r.out;
     };
     let m = n.min(usize::from(file[rhs + 1]));
     frame.bind(tab, at + 1, m, &items.cells);

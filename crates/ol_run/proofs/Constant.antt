@@ -89,7 +89,7 @@ module _ {file tab rows : List ℕ} where
         calls = each_map Never (Enters file tab rows consts (nodes_in file)) (λ c n. absurd n) (callees_all (exprs_at file 24 1 (value_at file (known_in consts)))) p.closed;
       }
 
-  pub constant_out_lem : (consts : List ℕ) → ConstantReady file tab rows (known_in consts) → (cells before old : List ℕ) {r : Step} {new : List ℕ} (code : ℕ) {o : Outcome} → code ≡ get_or file ((constant_at file (known_in consts)).0 + 2) 0 → EvalsTo file consts 24 (value_at file (known_in consts)) (nodes_in file) true cells before old r new → ((e : ℕ) → o ≡ then_out (λ v. Out.Value (fit (ty_of code e) v)) r.out) → o ≡ constant_out file consts (known_in consts)
+  pub constant_out_lem : (consts : List ℕ) → ConstantReady file tab rows (known_in consts) → (cells before old : List ℕ) {r : Step Outcome} {new : List ℕ} (code : ℕ) {o : Outcome} → code ≡ get_or file ((constant_at file (known_in consts)).0 + 2) 0 → EvalsTo file consts 24 (value_at file (known_in consts)) (nodes_in file) true cells before old r new → ((e : ℕ) → o ≡ then_out (λ v. Out.Value (fit (ty_of code e) v)) r.out) → o ≡ constant_out file consts (known_in consts)
   constant_out_lem consts p cells before old {r} code ce m f =
       let i = known_in consts in
       let at = value_at file i in

@@ -381,7 +381,7 @@ module _ (t : ℕ) (c : eval_all-After-eval-r t) where
       moved c.args.file.now (consts_of c.args.tab.now) c.args.level fr.node fr.first fr.cells fr.before (refl {a = c.loop-i.pos}) (tail_all c.loop-i.used c.args.old.now) c.eval-r.ensures
 
   -- it has no value: the others are passed over
-  part_stops : {q : Passed} {e : Ending} → ((v : Value) → ¬ (c.eval-r.result.out ≡ Out.Value v)) → e ≡ ending_of (several c.eval-r.result.out) → SkipsTo c.args.file.now c.args.level (c.head-h.result.count - c.loop-i.i - 1) c.eval-r.result.next q → on (AllTo c.args.file.now (consts_of c.args.tab.now) c.args.level c.args.at) c.args.frame.now c.args.old.now (record { end = e; next = q.next; used = c.loop-i.used + c.eval-r.result.used + q.used }) c.loop-i.to.cells (put_tail c.loop-i.used c.loop-i.new c.eval-r.new.new)
+  part_stops : {q : Passed} {e : Ending} → ((v : Value) → ¬ (c.eval-r.result.out ≡ Out.Value v)) → e ≡ ending_of (several c.eval-r.result.out) → SkipsTo c.args.file.now c.args.level (c.head-h.result.count - c.loop-i.i - 1) c.eval-r.result.next q → on (AllTo c.args.file.now (consts_of c.args.tab.now) c.args.level c.args.at) c.args.frame.now c.args.old.now (record { out = e; next = q.next; used = c.loop-i.used + c.eval-r.result.used + q.used }) c.loop-i.to.cells (put_tail c.loop-i.used c.loop-i.new c.eval-r.new.new)
   part_stops {q} none e skip =
       going_stop part_goes part_evals part_length (passed_all c.args.file.now (callee_at c.args.file.now c.args.at)) (values_of (parts_at c.args.file.now c.args.at) c.loop-i.to.cells) none e
       (subst (λ (m : ℕ). SkipsTo c.args.file.now c.args.level m c.eval-r.result.next q) left_is skip)
