@@ -66,8 +66,7 @@ pub fn leaf_out(file: &[u8], tab: &[u8], at: usize, level: usize, frame: &Frame)
     let p = at + 1;
     match Form::at(file, at) {
         Form::Bool => Outcome::Value(Value::Bool(file[p] == 1)),
-        Form::Int => Outcome::Value(read_cell(file, at)),
-        Form::Float => Outcome::Value(read_cell(file, at)),
+        Form::Int | Form::Float => Outcome::Value(read_cell(file, at)),
         Form::Char => Outcome::Value(Value::Int(i64::from(file[p]))),
         Form::Var => present(file, tab, frame, p),
         Form::Pre => previous(file, tab, frame, p, level - 1),

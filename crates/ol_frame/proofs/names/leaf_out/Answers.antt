@@ -1,4 +1,5 @@
 use mathlib.Core.Path.{sym, ap, ◌∙◌}
+use mathlib.Core.Logic.{inl, inr}
 use Prim.Native.Nat.{ℕ, ◌+◌, ◌<◌, ◌^◌}
 use lib.Signed.{mag}
 use mir.Syntax.{w64}
@@ -55,16 +56,7 @@ read_cell-requires c =
     let a = c.args.at in
     let p = c.requires.0 in
     let h = plan_head f p in
-    (int_form f L a h (plan_form f p Frm.Int c.at.ensures c.in-Int.is)).inside
-
-pub read_cell-requires-in-Float : goal.read_cell-requires-in-Float
-read_cell-requires-in-Float c =
-    let f = c.args.file.now in
-    let L = c.args.level in
-    let a = c.args.at in
-    let p = c.requires.0 in
-    let h = plan_head f p in
-    (float_form f L a h (plan_form f p Frm.Float c.at.ensures c.in-Float.is)).inside
+    elim c.in-Int.is [ inl e ↦ (int_form f L a h (plan_form f p Frm.Int c.at.ensures e)).inside | inr e ↦ (float_form f L a h (plan_form f p Frm.Float c.at.ensures e)).inside ]
 
 pub bounds-file-p-in-Char : goal.bounds-file-p-in-Char
 bounds-file-p-in-Char c =
@@ -128,24 +120,9 @@ returns-in-Int c =
     let a = c.args.at in
     let p = c.requires.0 in
     let h = plan_head f p in
-    λ seg. ap Out.Value (c.read_cell.ensures ∙ value_at_lem f a (reads_in f L a h) ∙ ap (λ (t : ℕ). value_by t (number_of 0 (take 8 (drop (a + 1) f)))) (plan_form f p Frm.Int c.at.ensures c.in-Int.is)) ∙ ap (λ (e : Expr). (eval_in f k n F cl b e seg).out) (sym (int_form f L a h (plan_form f p Frm.Int c.at.ensures c.in-Int.is)).tree)
-
-pub returns-in-Float : goal.returns-in-Float
-unfolding eval
-returns-in-Float c =
-    let f = c.args.file.now in
-    let T = c.args.tab.now in
-    let k = consts_of T in
-    let fr = c.args.frame.now in
-    let cl = fr.cells in
-    let b = fr.before in
-    let n = fr.node in
-    let F = fr.first in
-    let L = c.args.level in
-    let a = c.args.at in
-    let p = c.requires.0 in
-    let h = plan_head f p in
-    λ seg. ap Out.Value (c.read_cell-in-Float.ensures ∙ value_at_lem f a (reads_in f L a h) ∙ ap (λ (t : ℕ). value_by t (number_of 0 (take 8 (drop (a + 1) f)))) (plan_form f p Frm.Float c.at.ensures c.in-Float.is)) ∙ ap (λ (e : Expr). (eval_in f k n F cl b e seg).out) (sym (float_form f L a h (plan_form f p Frm.Float c.at.ensures c.in-Float.is)).tree)
+    λ seg. elim c.in-Int.is [
+      inl e ↦ ap Out.Value (c.read_cell.ensures ∙ value_at_lem f a (reads_in f L a h) ∙ ap (λ (t : ℕ). value_by t (number_of 0 (take 8 (drop (a + 1) f)))) (plan_form f p Frm.Int c.at.ensures e)) ∙ ap (λ (e : Expr). (eval_in f k n F cl b e seg).out) (sym (int_form f L a h (plan_form f p Frm.Int c.at.ensures e)).tree)
+      | inr e ↦ ap Out.Value (c.read_cell.ensures ∙ value_at_lem f a (reads_in f L a h) ∙ ap (λ (t : ℕ). value_by t (number_of 0 (take 8 (drop (a + 1) f)))) (plan_form f p Frm.Float c.at.ensures e)) ∙ ap (λ (e : Expr). (eval_in f k n F cl b e seg).out) (sym (float_form f L a h (plan_form f p Frm.Float c.at.ensures e)).tree) ]
 
 pub returns-in-Char : goal.returns-in-Char
 unfolding eval
