@@ -23,7 +23,7 @@ fn types_at(tab: &[u8], k: usize) -> usize
     ensures { (result ≡ types_at tab.now k) × (result < 9300000000000000000) }
 {
     let a = NODES + 2 * k;
-    SLOTS + (tab.len() - SLOTS) / 2 + usize::from(tab[a]) * 256 + usize::from(tab[a + 1])
+    SLOTS + (tab.len() - SLOTS) / 2 + usize::from(u16::from_be_bytes([tab[a], tab[a + 1]]))
 }
 
 // The type code of variable i of node k.

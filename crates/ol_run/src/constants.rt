@@ -28,7 +28,7 @@ fn fitted(code: u8, o: Outcome) -> Outcome
 }
 
 // The constant at `at`, where those before it have their cells in the table: its value, fitted to its type, and where it ends. The frame is at a first cycle, behind the last node.
-fn constant_value(file: &[u8], tab: &[u8], at: usize, frame: &Frame) -> Step
+fn constant_value(file: &[u8], tab: &[u8], at: usize, frame: &Frame) -> Step<Outcome>
     requires framed { (frame.now.node ≡ nodes_in file.now) × (frame.now.first ≡ true) }
     requires constant_ready { ConstantReady file.now (tab_of tab.now) (rows_of tab.now) (known_in (consts_of tab.now)) × (at ≡ (constant_at file.now (known_in (consts_of tab.now))).0) }
     ensures { (result.out ≡ constant_out file.now (consts_of tab.now) (known_in (consts_of tab.now))) × (result.next ≡ end_at file.now 24 (value_at file.now (known_in (consts_of tab.now)))) }

@@ -1,3 +1,4 @@
+use mathlib.Core.Path.{◌∙◌}
 use native.Mathlib.Omega.{arith}
 use Prim.Native.Nat.{◌+◌, ◌*◌}
 use lib.ListN.{length-drop}
@@ -22,4 +23,4 @@ bounds-tab-a-2 c =
 pub returns : goal.returns
 returns c =
     let t = c.args.tab.now in
-    (omega (arith, (types_from_lem t c.args.k (c.from.result * 256 + c.from-2.result) (omega (arith, c.from.ensures, c.from-2.ensures)))), omega (arith, c.from.ensures, c.from-2.ensures))
+    (omega (arith, types_from_lem t c.args.k c.from.result (c.from.ensures ∙ c.from_be_bytes.ensures)), omega (arith, c.from.ensures, c.from_be_bytes.type_inv))
