@@ -1,6 +1,6 @@
 use mathlib.Core.Path.{refl, ap, subst}
 use mathlib.Core.Bool.{Bool, true}
-use mathlib.Core.List.{[], ◌∷◌}
+use mathlib.Core.List.{[]}
 use Prim.Native.Nat.{ℕ, ◌+◌}
 use native.Mathlib.Omega.{arith}
 use lib.ListN.{get_or}
@@ -45,7 +45,7 @@ eval-r-requires c =
     let code = get_or f (c.args.at + 2) 0 in
     let ce = ap (λ (x : ℕ). get_or f (x + 2) 0) at in
     let e = place_of (known_in kk) p (c.args.at + 2 + c.ty_size.result) code ce ((λ i. at i + 2 + c.ty_size.ensures i)) in
-    rw (e, c.requires.framed.0) (constant_ready kk p fr.cells fr.before (0 ∷ []) (0 ∷ []) refl (omega arith))
+    rw (e, c.requires.framed.0) (constant_ready kk p fr.cells fr.before [] [] refl (omega arith))
 
 pub returns : goal.returns
 returns c =
@@ -58,8 +58,8 @@ returns c =
     let ce = ap (λ (x : ℕ). get_or f (x + 2) 0) at in
     let e = place_of (known_in kk) p (c.args.at + 2 + c.ty_size.result) code ce ((λ i. at i + 2 + c.ty_size.ensures i)) in
     let new = c.eval-r.new.new in
-    let m : EvalsTo f kk 24 (value_at f (known_in kk)) (nodes_in f) true fr.cells fr.before (0 ∷ []) c.eval-r.result new =
-    subst (λ (x : ℕ). EvalsTo f kk 24 x (nodes_in f) true fr.cells fr.before (0 ∷ []) c.eval-r.result new) e
-    (subst (λ (n : ℕ). EvalsTo f kk 24 (c.args.at + 2 + c.ty_size.result) n true fr.cells fr.before (0 ∷ []) c.eval-r.result new) c.requires.framed.0
-    (subst (λ (b : Bool). EvalsTo f kk 24 (c.args.at + 2 + c.ty_size.result) fr.node b fr.cells fr.before (0 ∷ []) c.eval-r.result new) c.requires.framed.1 c.eval-r.ensures)) in
-    (constant_out_lem kk p fr.cells fr.before (0 ∷ []) code ce m c.fitted.ensures, m.next_is)
+    let m : EvalsTo f kk 24 (value_at f (known_in kk)) (nodes_in f) true fr.cells fr.before [] c.eval-r.result new =
+    subst (λ (x : ℕ). EvalsTo f kk 24 x (nodes_in f) true fr.cells fr.before [] c.eval-r.result new) e
+    (subst (λ (n : ℕ). EvalsTo f kk 24 (c.args.at + 2 + c.ty_size.result) n true fr.cells fr.before [] c.eval-r.result new) c.requires.framed.0
+    (subst (λ (b : Bool). EvalsTo f kk 24 (c.args.at + 2 + c.ty_size.result) fr.node b fr.cells fr.before [] c.eval-r.result new) c.requires.framed.1 c.eval-r.ensures)) in
+    (constant_out_lem kk p fr.cells fr.before [] code ce m c.fitted.ensures, m.next_is)
