@@ -1,6 +1,5 @@
 use mathlib.Core.Path.{◌∙◌}
 use native.Mathlib.Omega.{arith}
-use Prim.Native.Nat.{◌+◌, ◌*◌}
 use lib.ListN.{length-drop}
 use Rattle.ol_tables.proofs.TableLaws.{types_from_lem}
 use Rattle.ol_frame.proofs.tables.types_at.Goals as goal
