@@ -1,5 +1,5 @@
 // What each integer type makes of numbers.
-ghost use Rattle.std.specs.Prelude.{◌≡◌, ℕ, ◌<◌, ◌≤◌, ◌^◌};
+ghost use Rattle.std.specs.Prelude.{◌≡◌, ◌<◌, ◌≤◌, ◌^◌};
 ghost use Rattle.std.specs.Int.Signed.{mag};
 ghost use Rattle.ol_spec.specs.Numbers.{residue, signed};
 ghost use Rattle.ol_spec.specs.Types.{narrow, in_range};
