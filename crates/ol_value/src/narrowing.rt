@@ -1,33 +1,17 @@
 // What each integer type makes of numbers.
 ghost use Rattle.std.specs.Prelude.{◌≡◌, ◌<◌, ◌≤◌, ◌^◌};
-ghost use Rattle.std.specs.Int.Signed.{mag};
 ghost use Rattle.ol_spec.specs.Numbers.{residue, signed};
 ghost use Rattle.ol_spec.specs.Types.{narrow, in_range};
 ghost use Rattle.ol_value.specs.Codes.{int_ty_of, Narrow};
 
 use crate::codes::IntType;
 
-// 2 to the power b.
-fn power(b: u8) -> u64
-    requires { b < 64 }
-    ensures { result ≡ 2 ^ b }
-{
-    1 << b
-}
-
-// n for n, and for -(n + 1) too.
-fn magnitude(a: i64) -> u64
-    ensures { result ≡ mag a }
-{
-    if 0 <= a { a as u64 } else { !a as u64 }
-}
-
 // The b bits of i in two's complement.
 fn residue_of(b: u8, i: i64) -> u64
     requires { b ≤ 32 }
     ensures { result ≡ residue b i }
 {
-    i.cast_unsigned() % power(b)
+    i.cast_unsigned() % (1 << b)
 }
 
 // The b bits n, read as signed.
@@ -36,10 +20,10 @@ fn signed_of(b: u8, n: u64) -> i64
     requires n_bound { n < 2 ^ b }
     ensures { result ≡ signed b n }
 {
-    if n < power(b - 1) {
+    if n < 1 << (b - 1) {
         n as i64
     } else {
-        n as i64 - power(b) as i64
+        n as i64 - (1 << b)
     }
 }
 
@@ -61,8 +45,11 @@ pub(crate) fn in_range(t: IntType, i: i64) -> bool
     ensures { result ≡ in_range (int_ty_of t) i }
 {
     match t {
-        IntType::Signed(b) => magnitude(i) < power(b - 1),
-        IntType::Unsigned(b) => 0 <= i && magnitude(i) < power(b),
+        IntType::Signed(b) => {
+            let half = 1 << (b - 1);
+            (-half..half).contains(&i)
+        }
+        IntType::Unsigned(b) => (0..1 << b).contains(&i),
         IntType::Whole => true,
     }
 }
