@@ -14,17 +14,13 @@ fn residue_of(b: u8, i: i64) -> u64
     i.cast_unsigned() % (1 << b)
 }
 
-// The b bits n, read as signed.
-fn signed_of(b: u8, n: u64) -> i64
-    requires b_nonzero { (0 < b) × (b ≤ 32) }
-    requires n_bound { n < 2 ^ b }
-    ensures { result ≡ signed b n }
+// The b bits of i, read as signed: shifted up until the last is the sign, and back.
+fn signed_of(b: u8, i: i64) -> i64
+    requires { (0 < b) × (b ≤ 32) }
+    ensures { result ≡ signed b (residue b i) }
 {
-    if n < 1 << (b - 1) {
-        n as i64
-    } else {
-        n as i64 - (1 << b)
-    }
+    let rest = 64 - b;
+    (i << rest) >> rest
 }
 
 // Document 01's `narrow_int`: a number as an integer type holds it.
@@ -33,7 +29,7 @@ pub(crate) fn narrow_int(t: IntType, i: i64) -> i64
     ensures { result ≡ narrow (int_ty_of t) i }
 {
     match t {
-        IntType::Signed(b) => signed_of(b, residue_of(b, i)),
+        IntType::Signed(b) => signed_of(b, i),
         IntType::Unsigned(b) => residue_of(b, i) as i64,
         IntType::Whole => i,
     }
