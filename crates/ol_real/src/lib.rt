@@ -15,7 +15,8 @@ pub fn i64_to_f64(n: i64) -> f64
     std::num::nearest_i64_to_f64(n)
 }
 
-// An integer as a single: the nearest, a tie to the even one. It is rounded once.
+// An integer as a single: the nearest, a tie to the even one. It is rounded once. std's nearest_i64_to_f32 rounds in two
+// halves of 128 bits, and so does its nearest_f64_to_f32_with_nan; here one u64 holds the digits.
 pub fn i64_to_f32(n: i64) -> f32
     ensures { result ≡ of_int single n }
 {
@@ -110,64 +111,49 @@ pub fn f32_to_f64(x: f32) -> f64
 }
 
 // A double cut toward zero, to the nearest end of the range where it is outside; a NaN gives 0.
+#[tactic(auto, unfolding(ol_spec::specs::Real::truncate))]
 pub fn f64_to_i64(x: f64) -> i64
     ensures { result ≡ truncate x }
 {
-    if x.is_nan() {
-        0
-    } else if x >= 9223372036854775808.0 {
-        i64::MAX
-    } else if x >= -9223372036854775808.0 {
-        std::num::truncating_f64_to_i64(x)
-    } else {
-        i64::MIN
-    }
+    std::num::saturating_f64_to_i64(x)
 }
 
 // A single cut toward zero, likewise.
+#[tactic(auto, unfolding(ol_spec::specs::Real::truncate))]
 pub fn f32_to_i64(x: f32) -> i64
     ensures { result ≡ truncate x }
 {
-    f64_to_i64(f32_to_f64(x))
+    std::num::saturating_f32_to_i64(x)
 }
 
-// The bits of a double; of a NaN 7FF8000000000000. These four stand in pairs: one function for both formats would need a trait
-// with the test, the two constants and the raw bits as members, which is longer.
+// The bits of a double; of a NaN 7FF8000000000000.
+#[tactic(auto, unfolding(ol_spec::specs::Real::to_bits))]
 pub fn f64_bits(x: f64) -> u64
     ensures { result ≡ to_bits double x }
 {
-    if x.is_nan() {
-        0x7ff8_0000_0000_0000
-    } else {
-        x.to_bits()
-    }
+    std::num::f64_to_bits_with_nan(x)
 }
 
 // The bits of a single; of a NaN 7FC00000.
+#[tactic(auto, unfolding(ol_spec::specs::Real::to_bits))]
 pub fn f32_bits(x: f32) -> u32
     ensures { result ≡ to_bits single x }
 {
-    if x.is_nan() { 0x7fc0_0000 } else { x.to_bits() }
+    std::num::f32_to_bits_with_nan(x)
 }
 
 // The double of a bit pattern; every NaN's pattern gives the one NaN.
+#[tactic(auto, unfolding(ol_spec::specs::Real::from_bits))]
 pub fn f64_of_bits(b: u64) -> f64
     ensures { result ≡ from_bits double b }
 {
-    if (b & 0x7fff_ffff_ffff_ffff) > 0x7ff0_0000_0000_0000 {
-        f64::NAN
-    } else {
-        f64::from_bits(b)
-    }
+    std::num::f64_from_bits_with_nan(b)
 }
 
 // The single of a bit pattern, likewise.
+#[tactic(auto, unfolding(ol_spec::specs::Real::from_bits))]
 pub fn f32_of_bits(b: u32) -> f32
     ensures { result ≡ from_bits single b }
 {
-    if (b & 0x7fff_ffff) > 0x7f80_0000 {
-        f32::NAN
-    } else {
-        f32::from_bits(b)
-    }
+    std::num::f32_from_bits_with_nan(b)
 }

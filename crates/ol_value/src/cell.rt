@@ -74,9 +74,7 @@ pub fn good_cell(bytes: &[u8], at: usize) -> bool
     let t = bytes[at];
     let p = read_number(bytes, at + 1);
     let v = value_by(t, p);
-    let like = tag_of(v) == t;
-    let equal = payload_of(v) == p;
-    like & equal
+    tag_of(v) == t && payload_of(v) == p
 }
 
 // Writes a value's cell at an offset, and no other byte.

@@ -86,7 +86,8 @@ impl TryFrom<u8> for Binary {
 }
 
 // What an integer type makes of a number: its low bits, so many, read with a sign or without; or, with 64 bits, the number itself.
-// That a width is 1 to 32 bits stands in three clauses, as `Narrow`: an enum has no ghost field, and a struct round the width would be named in each arm below.
+// That a width is 1 to 32 bits stands in three clauses, as `Narrow`: a struct with a ghost field round the width would be named in each of the six arms
+// below, and an enum of the three widths would need a function to their bits, where `Signed(8)` says it.
 #[derive(Clone, Copy)]
 pub enum IntType {
     Signed(u8),

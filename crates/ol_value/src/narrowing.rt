@@ -1,46 +1,26 @@
 // What each integer type makes of numbers.
-ghost use Rattle.std.specs.Prelude.{◌≡◌, ℕ, ◌<◌, ◌≤◌, ◌^◌};
-ghost use Rattle.std.specs.Int.Signed.{mag};
+ghost use Rattle.std.specs.Prelude.{◌≡◌, ◌<◌, ◌≤◌, ◌^◌};
 ghost use Rattle.ol_spec.specs.Numbers.{residue, signed};
 ghost use Rattle.ol_spec.specs.Types.{narrow, in_range};
 ghost use Rattle.ol_value.specs.Codes.{int_ty_of, Narrow};
 
 use crate::codes::IntType;
 
-// 2 to the power b.
-fn power(b: u8) -> u64
-    requires { b < 64 }
-    ensures { result ≡ 2 ^ b }
-{
-    1 << b
-}
-
-// n for n, and for -(n + 1) too.
-fn magnitude(a: i64) -> u64
-    ensures { result ≡ mag a }
-{
-    if 0 <= a { a as u64 } else { !a as u64 }
-}
-
 // The b bits of i in two's complement.
 fn residue_of(b: u8, i: i64) -> u64
     requires { b ≤ 32 }
     ensures { result ≡ residue b i }
 {
-    i.cast_unsigned() % power(b)
+    i.cast_unsigned() % (1 << b)
 }
 
-// The b bits n, read as signed.
-fn signed_of(b: u8, n: u64) -> i64
-    requires b_nonzero { (0 < b) × (b ≤ 32) }
-    requires n_bound { n < 2 ^ b }
-    ensures { result ≡ signed b n }
+// The b bits of i, read as signed: shifted up until the last is the sign, and back.
+fn signed_of(b: u8, i: i64) -> i64
+    requires { (0 < b) × (b ≤ 32) }
+    ensures { result ≡ signed b (residue b i) }
 {
-    if n < power(b - 1) {
-        n as i64
-    } else {
-        n as i64 - power(b) as i64
-    }
+    let rest = 64 - b;
+    (i << rest) >> rest
 }
 
 // Document 01's `narrow_int`: a number as an integer type holds it.
@@ -49,7 +29,7 @@ pub(crate) fn narrow_int(t: IntType, i: i64) -> i64
     ensures { result ≡ narrow (int_ty_of t) i }
 {
     match t {
-        IntType::Signed(b) => signed_of(b, residue_of(b, i)),
+        IntType::Signed(b) => signed_of(b, i),
         IntType::Unsigned(b) => residue_of(b, i) as i64,
         IntType::Whole => i,
     }
@@ -61,8 +41,11 @@ pub(crate) fn in_range(t: IntType, i: i64) -> bool
     ensures { result ≡ in_range (int_ty_of t) i }
 {
     match t {
-        IntType::Signed(b) => magnitude(i) < power(b - 1),
-        IntType::Unsigned(b) => 0 <= i && magnitude(i) < power(b),
+        IntType::Signed(b) => {
+            let half = 1 << (b - 1);
+            (-half..half).contains(&i)
+        }
+        IntType::Unsigned(b) => (0..1 << b).contains(&i),
         IntType::Whole => true,
     }
 }

@@ -1,5 +1,5 @@
 // The two formats of the reals, as operators, fits and casts take them.
-ghost use Rattle.std.specs.Prelude.{◌≡◌, refl};
+ghost use Rattle.std.specs.Prelude.{◌≡◌};
 ghost use Rattle.std.specs.Ordering.{partial_lt, partial_le, partial_gt, partial_ge};
 ghost use Rattle.ol_spec.specs.Real.{Real as Number, Precision, single, double, by_precision, zero_r, of_int, round_single, add_r, sub_r, mul_r, div_r, eq_r, lt_r, le_r};
 ghost use Rattle.ol_spec.specs.declared.Value.TheVariants as Val;
