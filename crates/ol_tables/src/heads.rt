@@ -84,8 +84,8 @@ pub struct Call {
     pub left: usize,
 }
 
-// What looking for the next call finds: a call, or where the expressions end.
-// No Result: that the expressions end is no failure, and where they end is what the caller goes on from.
+// What looking for the next call finds: a call, or where the expressions end. No Result: that the expressions end is no failure, and where they end is what the
+// caller goes on from.
 #[derive(Clone, Copy)]
 pub enum NextCall {
     Found(Call),
