@@ -61,7 +61,8 @@ pub fn head(file: &[u8], at: usize) -> Parts
     }
 }
 
-// A walk over expressions, head by head: where the next head stands, and how many expressions are left there.
+// A walk over expressions, head by head: where the next head stands, and how many expressions are left there. No Iterator: its clause (`YieldsFirst`) tells the
+// items, and what is asked for here is where the walk stands after a step.
 #[derive(Drop)]
 struct Heads<'f> {
     file: &'f [u8],
