@@ -13,7 +13,7 @@ ghost use Rattle.ol_check.specs.Clashing.{sort_of, meets, Walks, VariablesSorted
 
 use super::mark;
 use super::rows::{Sections, names_end, variable_end};
-use ol_tables::bytes::{byte, name, put_byte};
+use ol_tables::bytes::{byte, name, put};
 use ol_tables::heads::skip;
 use ol_tables::tables::FileRows;
 
@@ -51,7 +51,7 @@ impl Sorter<'_> {
         let x = name(file, at);
         let sorts = &mut *self.sorts;
         let clashed = clashes(byte(sorts, x), sort);
-        put_byte(sorts, x, sort as u8);
+        put(sorts, x, sort as u8);
         mark(&mut self.marks.found, clashed, at);
         self.marks.highest = self.marks.highest.max(x);
     }

@@ -10,7 +10,7 @@ ghost use Rattle.ol_check.specs.Judging.{taken_b, NamesDefined, lone_b, other_b,
 use super::names::{LAST_VARIABLE, NO_ENTRY};
 use super::size::{capped, site};
 use super::{Faults, mark};
-use ol_tables::bytes::{byte, name, put_byte, put_two};
+use ol_tables::bytes::{byte, name, put, put_two};
 use ol_tables::form::Form;
 use ol_tables::heads::head;
 use ol_tables::kind::NodeKind;
@@ -95,7 +95,7 @@ impl<'a> Judge<'a> {
     fn put_slot(&self, slots: &mut [u8], at: usize)
         ensures { slots.new ≡ slot_put self.now.file.now self.now.names.now slots.old at }
     {
-        put_byte(slots, at, slot(byte(self.names, name(self.file, at))));
+        put(slots, at, slot(byte(self.names, name(self.file, at))));
     }
 
     // Stores the slot of the expression at `at`, if it is a Var.
@@ -149,7 +149,7 @@ impl<'a> Judge<'a> {
         ensures { (slots.new ≡ slot_put self.now.file.now self.now.names.now slots.old (at + 1)) × (g.new ≡ var_found self.now.file.now self.now.names.now g.old at) }
     {
         let e = byte(self.names, name(self.file, at + 1));
-        put_byte(slots, at + 1, slot(e));
+        put(slots, at + 1, slot(e));
         mark(&mut g.unseen, e == NO_ENTRY, at + 1);
     }
 
@@ -205,8 +205,8 @@ impl<'a> Judge<'a> {
             let e = byte(self.names, name(self.file, next));
             mark(&mut g.unseen, e == NO_ENTRY, next);
             mark(&mut g.again, taken(defined, inputs, e), next);
-            put_byte(slots, next, slot(e));
-            put_byte(defined, e, 1);
+            put(slots, next, slot(e));
+            put(defined, e, 1);
         }
         g.next = at + 2 * many;
     }

@@ -4,7 +4,7 @@ ghost use Rattle.ol_check.specs.Spans.{names_of, names_from, variants_from};
 ghost use Rattle.ol_check.specs.Entries.{declared, forgot, declare_all, variant_entry};
 
 use super::rows::names_end;
-use ol_tables::bytes::{byte, name, put_byte};
+use ol_tables::bytes::{byte, name, put};
 use ol_tables::tables::VARIANT;
 
 // Entries of the table by name: none, the last of a variable, and the first of a constant; a variant's is VARIANT (ol_tables).
@@ -20,7 +20,7 @@ pub(crate) fn declare(names: &mut [u8], x: usize, e: u8)
     ensures { names.new ≡ declared names.old x e }
 {
     if byte(names, x) == NO_ENTRY {
-        put_byte(names, x, e);
+        put(names, x, e);
     }
 }
 
@@ -29,7 +29,7 @@ pub(crate) fn forget(names: &mut [u8], x: usize)
     ensures { names.new ≡ forgot names.old x }
 {
     if byte(names, x) <= LAST_VARIABLE {
-        put_byte(names, x, NO_ENTRY as u8);
+        put(names, x, NO_ENTRY as u8);
     }
 }
 

@@ -7,7 +7,7 @@ ghost use Rattle.ol_tables.specs.Stands.{FileReads};
 ghost use Rattle.ol_tables.specs.Numbers.{numbers};
 
 use ol_spec::type_codes::ENUM;
-use ol_tables::bytes::{byte, entry, name, put_byte, put_two};
+use ol_tables::bytes::{byte, entry, name, put, put_two};
 use ol_tables::heads::ty_size;
 use ol_tables::tables::{FileRows, Row};
 
@@ -75,8 +75,8 @@ fn put_type(file: &[u8], types: &mut [u8], p: usize, at: usize)
     } else {
         0
     };
-    put_byte(types, p, code as u8);
-    put_byte(types, p + 1, number as u8);
+    put(types, p, code as u8);
+    put(types, p + 1, number as u8);
 }
 
 // So many variables from `at` on: their types are stored from `first` on, and where they end is

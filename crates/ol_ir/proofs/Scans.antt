@@ -1,6 +1,6 @@
 -- What a scan for reads finds, by the byte at which it looks.
 use Prim.Native.Nat.{ℕ, zero, suc, ◌+◌, ◌*◌, ◌-◌, ◌≤◌, ◌<◌}
-use mathlib.Core.Bool.{true, false, cond}
+use mathlib.Core.Bool.{cond}
 use mathlib.Core.List.{List}
 use mathlib.Core.Option.{some}
 use mathlib.Core.Logic.{by_cases}
@@ -8,7 +8,6 @@ use mathlib.Core.Path.{◌≡◌, refl, sym, ap, ◌∙◌}
 use native.Mathlib.Decide.{dec_le, ℕ_discrete}
 use native.Mathlib.Omega.{arith}
 use borrow.Author.Tests.{lt-ltb, le-ltb, eq-eqb, ne_eqb}
-use lib.Dec.{eqb}
 use lib.ListN.{length, get_or, get_elem?}
 use Rattle.std.specs.Prelude.{Ok, Err}
 use Rattle.ol_spec.specs.Syntax.{Expr, bool_lit, int_lit, float_lit, char_lit, var, unary, binary, if_then_else, pre, arrow, cast, call, tuple, count}
@@ -115,17 +114,17 @@ module _ (s : List ℕ) (l : Limits) (enums d at : ℕ) (e : Expr) (n : ℕ) (g 
 -- what the scan finds, by the bytes
 module _ (s : List ℕ) (at : ℕ) where
   module _ (h : at < length s) where
-    pub scans_name : true ≡ eqb (get_or s at 0) 4 → Scn.Name (name_at s (at + 1)) (at + 3) ≡ scan_at s at
+    pub scans_name : get_or s at 0 ≡ 4 → Scn.Name (name_at s (at + 1)) (at + 3) ≡ scan_at s at
     unfolding scan_at
-    scans_name b = sym (rw (lt-ltb at (length s) h, ← b) refl)
+    scans_name b = sym (rw (lt-ltb at (length s) h, eq-eqb (get_or s at 0) 4 b) refl)
 
-    pub scans_pre : false ≡ eqb (get_or s at 0) 4 → true ≡ eqb (get_or s at 0) 8 → Scn.Parts 0 (skip_at s 1 (at + 1)) ≡ scan_at s at
+    pub scans_pre : get_or s at 0 ≡ 8 → Scn.Parts 0 (skip_at s 1 (at + 1)) ≡ scan_at s at
     unfolding scan_at
-    scans_pre a b = sym (rw (lt-ltb at (length s) h, ← a, ← b) refl)
+    scans_pre b = sym (rw (lt-ltb at (length s) h, ne_eqb (get_or s at 0) 4 (λ a. omega (arith, a, b)), eq-eqb (get_or s at 0) 8 b) refl)
 
-    pub scans_parts : false ≡ eqb (get_or s at 0) 4 → false ≡ eqb (get_or s at 0) 8 → Scn.Parts (parts_at s at) (next_at s at) ≡ scan_at s at
+    pub scans_parts : (get_or s at 0 ≡ 4 → ⊥) → (get_or s at 0 ≡ 8 → ⊥) → Scn.Parts (parts_at s at) (next_at s at) ≡ scan_at s at
     unfolding scan_at
-    scans_parts a b = sym (rw (lt-ltb at (length s) h, ← a, ← b) refl)
+    scans_parts a b = sym (rw (lt-ltb at (length s) h, ne_eqb (get_or s at 0) 4 a, ne_eqb (get_or s at 0) 8 b) refl)
 
   pub scans_end : length s ≤ at → Scn.Parts 0 at ≡ scan_at s at
   unfolding scan_at

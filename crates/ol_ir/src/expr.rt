@@ -7,10 +7,11 @@ ghost use Rattle.ol_ir.specs.Nexts.{next_of, counted_of};
 ghost use Rattle.ol_ir.specs.Heads.{head_r, call_head};
 ghost use Rattle.ol_ir.specs.Scans.{scan_at};
 
-use super::read::{bytes, code, count, name, refused};
+use super::read::{bytes, code, count, refused};
 use super::types::ty;
 use super::{Counted, Reader, Scan};
 use ol_spec::Fault;
+use ol_tables::bytes::name;
 use ol_tables::form::Form;
 use ol_tables::heads;
 
@@ -105,13 +106,14 @@ pub fn scan(file: &[u8], at: usize) -> Scan
     ensures small { (x q : ℕ) → result ≡ Scan.Name x q → x < 65536 }
 {
     if file.len() <= at {
-        Scan::Parts(0, at)
-    } else if Form::Var.is_at(file, at) {
-        Scan::Name(name(file, at + 1), at + 3)
-    } else if Form::Pre.is_at(file, at) {
-        Scan::Parts(0, heads::skip(file, 1, at + 1))
-    } else {
-        let h = heads::head(file, at);
-        Scan::Parts(h.count, h.start)
+        return Scan::Parts(0, at);
+    }
+    match Form::at(file, at) {
+        Form::Var => Scan::Name(name(file, at + 1), at + 3),
+        Form::Pre => Scan::Parts(0, heads::skip(file, 1, at + 1)),
+        _ => {
+            let h = heads::head(file, at);
+            Scan::Parts(h.count, h.start)
+        }
     }
 }

@@ -18,7 +18,8 @@ pub(crate) struct Reader<'a> {
     enums: usize,
 }
 
-// What reading a count, or an expression's first bytes, finds: so many items follow, and where the first starts.
+// What reading a count, or an expression's first bytes, finds: so many items follow, and where the first starts. No `Parts` of ol_tables, whose two numbers are
+// an expression's parts only: here the items may be names, variables, nodes or others, and both types stand in public signatures.
 #[derive(Clone, Copy)]
 pub struct Counted {
     pub count: usize,
@@ -32,9 +33,8 @@ pub struct Loaded {
     pub nodes: usize,
 }
 
-// No Result: both are heads, each with what the scan goes on with, and none is a failure.
 // What a scan for reads finds at an expression: a Var's name, or how many parts are left to scan,
-// and where the scan goes on.
+// and where the scan goes on. No Result: both are heads, each with what the scan goes on with, and none is a failure.
 #[derive(Clone, Copy)]
 pub enum Scan {
     Name(usize, usize),

@@ -140,7 +140,6 @@ pub fn load_file(file: &[u8], starts: &mut [usize]) -> Result<Loaded, Fault>
 pub fn read_file(file: &[u8]) -> Result<(), Fault>
     ensures { result ≡ reading_of (read_file file.now relay_loader) }
 {
-    let mut starts = [0usize; 1];
-    load_file(file, &mut starts)?;
+    load_file(file, &mut [])?;
     Ok(())
 }

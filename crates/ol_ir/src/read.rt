@@ -3,12 +3,10 @@ ghost use Rattle.std.specs.Prelude.{◌≡◌, ◌<◌, ◌≤◌, ℕ, Err, Mat
 ghost use Rattle.ol_spec.specs.Lists.{up_to};
 ghost use Rattle.ol_spec.specs.Read.{number, coded, count_r};
 ghost use Rattle.ol_spec.specs.Answers.{fault_at};
-ghost use Rattle.ol_tables.specs.Heads.{name_at};
 ghost use Rattle.ol_ir.specs.Nexts.{Next, Answers, next_of, counted_of, repeat, section_by};
 
 use super::Counted;
 use ol_spec::Fault;
-use ol_tables::bytes;
 
 // A fault, as an answer.
 pub(crate) fn refused<T>(number: u8, place: usize) -> Result<T, Fault>
@@ -97,12 +95,4 @@ pub(crate) fn section<F: Fn(usize) -> Result<usize, Fault>>(
 {
     let n = count(file, lo, hi, at)?;
     many(n.count, n.at, item)
-}
-
-// A name: two bytes of the file; a byte past its end is 0.
-pub fn name(file: &[u8], at: usize) -> usize
-    ensures small { result < 65536 }
-    ensures is { result ≡ name_at file.now at }
-{
-    bytes::name(file, at)
 }

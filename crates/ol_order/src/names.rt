@@ -3,7 +3,8 @@ ghost use Rattle.std.specs.Iterator.{YieldsFirst, item_count};
 ghost use Rattle.ol_order.specs.Names.{names_of};
 
 use ol_ir::Counted;
-use ol_ir::read::{bytes, name};
+use ol_ir::read::bytes;
+use ol_tables::bytes::name;
 
 // The names that are left, up to one that the file's end cuts off.
 #[derive(Drop)]

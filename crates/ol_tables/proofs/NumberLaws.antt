@@ -1,10 +1,15 @@
 -- The numbers of a file's rows, read and stored.
-use Prim.Native.Nat.{ℕ, zero, suc, ◌+◌, ◌*◌, ◌<◌}
+use Prim.Native.Nat.{ℕ, zero, suc, ◌+◌, ◌*◌, ◌<◌, ◌≤◌}
 use mathlib.Core.List.{List, [], ◌∷◌, ◌++◌, map}
 use mathlib.Core.Path.{◌≡◌, refl, ap, ◌∙◌}
 use native.Mathlib.Omega.{arith}
-use lib.ListN.{length, get_or, set}
+use borrow.Author.Tests.{true-ltb, false-ltb}
+use denote.Bor.{Bor}
+use lib.Dec.{ltb}
+use lib.ListN.{length, get_or, set, replicate}
 use lib.Seq.{sets}
+use Rattle.std.specs.Prelude.{Option, Some, None, is_some, IfSome, MatchOption}
+use Rattle.core.specs.Option.{option_copied}
 use Rattle.ol_spec.specs.Lists.{concat}
 use Rattle.ol_tables.specs.Tables.{row_at, first_at}
 use Rattle.ol_tables.specs.Numbers.{row_numbers, numbers, RowIs}
@@ -23,12 +28,12 @@ further : (r : Row) (rs : List Row) (ns : List ℕ) (k j : ℕ) → get_or (flat
 unfolding flat
 further r rs ns k j = let on : suc (suc (suc (suc (suc (suc (suc (suc (k * 8 + j)))))))) ≡ suc k * 8 + j = omega arith in ap (λ i. get_or (flat (r ∷ rs) ns) i 0) on
 
-row_is : (rs : List Row) (ns : List ℕ) (k : ℕ) → k < length rs → RowIs (flat rs ns) k (get_or rs k no_row)
+row_is : (rs : List Row) (ns : List ℕ) (k : ℕ) (d : Row) → k < length rs → RowIs (flat rs ns) k (get_or rs k d)
 unfolding flat
-row_is [] ns k lt = absurd (omega arith)
-row_is (r ∷ rs) ns zero lt = record { kind = refl; equations = refl; inputs = refl; outputs = refl; variables = refl; count = refl; size = refl; place = refl }
-row_is (r ∷ rs) ns (suc k) lt =
-    let on = row_is rs ns k (omega arith) in
+row_is [] ns k d lt = absurd (omega arith)
+row_is (r ∷ rs) ns zero d lt = record { kind = refl; equations = refl; inputs = refl; outputs = refl; variables = refl; count = refl; size = refl; place = refl }
+row_is (r ∷ rs) ns (suc k) d lt =
+    let on = row_is rs ns k d (omega arith) in
     record { kind = on.kind ∙ further r rs ns k 0; equations = on.equations ∙ further r rs ns k 1; inputs = on.inputs ∙ further r rs ns k 2; outputs = on.outputs ∙ further r rs ns k 3; variables = on.variables ∙ further r rs ns k 4; count = on.count ∙ further r rs ns k 5; size = on.size ∙ further r rs ns k 6; place = on.place ∙ further r rs ns k 7 }
 
 put_row : (rs : List Row) (ns : List ℕ) (k : ℕ) (r : Row) → k < length rs → flat (set rs k r) ns ≡ sets (flat rs ns) (k * 8) (row_numbers r)
@@ -67,15 +72,27 @@ get_behind (q ∷ rs) ns i =
 
 -- ---- of a file's rows
 
-pub node_is : (rows : FileRows) (k : ℕ) → k < 32 → RowIs (numbers rows) k (get_or rows.nodes k no_row)
+pub node_is : (rows : FileRows) (k : ℕ) (d : Row) → k < 32 → RowIs (numbers rows) k (get_or rows.nodes k d)
 unfolding numbers flat
-node_is rows k lt = row_is rows.nodes rows.firsts k (omega (arith, rows.lengths))
+node_is rows k d lt = row_is rows.nodes rows.firsts k d (omega (arith, rows.lengths))
+
+-- what is found among the rows at any k: node k's row, or none past the last
+pub row_found : (rows : FileRows) (k : ℕ) (o : Option (Bor Row)) → is_some o ≡ ltb k (length rows.nodes) → IfSome o (λ x. x.now ≡ get_or rows.nodes k x.now) → MatchOption (option_copied o) (32 ≤ k) (λ r. (k < 32) × RowIs (numbers rows) k r)
+row_found rows k None here is = omega (arith, false-ltb _ _ here, rows.lengths)
+row_found rows k (Some x) here is =
+    let lt : k < 32 = omega (arith, true-ltb _ _ here, rows.lengths) in
+    (lt, rw is (node_is rows k x.now lt))
 
 pub first_is : (rows : FileRows) (e : ℕ) → get_or rows.firsts e 0 ≡ first_at (numbers rows) e
 unfolding numbers flat
 first_is rows e =
     let at : length rows.nodes * 8 + e ≡ 256 + e = omega (arith, rows.lengths) in
     get_behind rows.nodes rows.firsts e ∙ ap (λ j. get_or (numbers rows) j 0) at
+
+-- 32 rows of zeros, then 16 zeros
+pub zeros : (rows : FileRows) (r : Row) → rows.nodes ≡ replicate 32 r → rows.firsts ≡ replicate 16 0 → row_numbers r ≡ replicate 8 0 → numbers rows ≡ replicate 272 0
+unfolding numbers
+zeros rows r en ef z = ap (λ l. concat (map row_numbers l) ++ rows.firsts) en ∙ (ap (λ l. concat (map row_numbers (replicate 32 r)) ++ l) ef ∙ ap (λ l. concat (replicate 32 l) ++ replicate 16 0) z)
 
 -- the numbers after these arrays are stored
 as_flat : (rows : FileRows) {nodes : List Row} {firsts : List ℕ} → rows.nodes ≡ nodes → rows.firsts ≡ firsts → numbers rows ≡ flat nodes firsts

@@ -2,8 +2,8 @@
 use Prim.Native.Nat.{ℕ, zero, suc, ◌+◌, ◌-◌, ◌≤◌, ◌<◌}
 use mathlib.Core.Bool.{Bool, true, false, cond}
 use mathlib.Core.List.{List, [], ◌∷◌, ◌++◌, append_assoc}
-use mathlib.Core.Logic.{by_cases}
-use mathlib.Core.Path.{◌≡◌, refl, sym, ap, ap₂, ◌∙◌}
+use mathlib.Core.Logic.{by_cases, inl, inr}
+use mathlib.Core.Path.{◌≡◌, refl, sym, ap, ap₂, subst, ◌∙◌}
 use native.Mathlib.Decide.{dec_lt}
 use native.Mathlib.Omega.{arith}
 use lib.ListN.{length, get_or}
@@ -16,8 +16,9 @@ use Rattle.ol_spec.proofs.RoundTrip.Parts.{here_inside}
 use Rattle.ol_spec.proofs.RoundTrip.Items.{exprs_size_lem}
 use Rattle.ol_tables.specs.Heads.{parts_at, next_at, parts_of, head_size, joined, Byte, HeadIs, Standing}
 use Rattle.ol_tables.specs.Parts.{own_sites}
-use Rattle.ol_tables.specs.Walks.{HeadOf, walk_by, skip_by, skip_at, own_at, sites_by, sites_at, CallMet, NoCall}
+use Rattle.ol_tables.specs.Walks.{HeadOf, walk_by, skip_by, skip_at, own_at, sites_by, sites_at, CallMet, NoCall, Passed, Stays}
 use Rattle.ol_tables.specs.declared.heads.Parts.{Parts}
+use Rattle.ol_tables.specs.declared.heads.Heads.{Heads}
 use Rattle.ol_tables.proofs.Forms.{callees_parts}
 use Rattle.ol_tables.proofs.HeadLaws.{headed, parts_told, next_told, joined_count, head_some, head_ends}
 use Rattle.ol_tables.proofs.Walking.{next_on_lem}
@@ -186,19 +187,6 @@ pub record Looking (s : List ℕ) (parts at left next : ℕ) : Type 0 where
   pub onward : at ≤ next
 
 module _ {s : List ℕ} {parts at left next : ℕ} (l : Looking s parts at left next) where
-  -- the walk ends here
-  looked : sites_at s left next ≡ [] → skip_at s left next ≡ next → NoCall s parts at next
-  looked e f = record { none = l.sites ∙ e; ends = l.ends ∙ f; onward = l.onward }
-
-  pub looked_end : length s ≤ next → NoCall s parts at next
-  looked_end h = looked (walk_end _ _ s (length s) left next h) (walk_end _ _ s (length s) left next h)
-
-  pub looked_many : length s < left → NoCall s parts at next
-  looked_many h = looked (walk_many _ _ s (length s) left next h) (walk_many _ _ s (length s) left next h)
-
-  pub looked_all : left ≤ 0 → NoCall s parts at next
-  looked_all h = looked (walk_none _ _ s (length s) left next h) (walk_none _ _ s (length s) left next h)
-
   module _ (u : 0 < left) (i : next < length s) (j : left ≤ length s) {h : Parts} (t : HeadOf s next h) where
     -- a call's head
     pub looked_call : {k : ℕ} → true ≡ eqb (get_or s next 0) 11 → Byte s (next + 1) k → CallMet s parts at (record { callee = k; at = h.start; left = left - 1 + h.count })
@@ -218,3 +206,52 @@ module _ {s : List ℕ} {parts at left next : ℕ} (l : Looking s parts at left 
           ends = l.ends ∙ walk_turn _ _ s left next u i j t.parts t.next;
           onward = omega (arith, l.onward, t.onward i);
         }
+
+-- ---- the same, step by step of a walk over heads
+
+-- a walk that stays is at its end
+module _ {old new : Heads} (t : Stays old new) where
+  over_by : {A : Type 0} (own : ℕ → A → A) (done : ℕ → A) → walk_by own done old.file.now (length old.file.now) old.left old.at ≡ done old.at
+  over_by own done =
+      elim t.over [
+        | inl none ↦ walk_none own done old.file.now (length old.file.now) old.left old.at none
+        | inr rest ↦ elim rest [
+          | inl end ↦ walk_end own done old.file.now (length old.file.now) old.left old.at end
+          | inr many ↦ walk_many own done old.file.now (length old.file.now) old.left old.at many
+        ]
+      ]
+
+  pub skip_over : {s : List ℕ} {end : ℕ} → old.file.now ≡ s → skip_at s old.left old.at ≡ end → new.at ≡ end
+  skip_over e i = ap (λ h. h.at) t.same ∙ sym (over_by (λ p r. r) (λ p. p)) ∙ ap (λ f. skip_at f old.left old.at) e ∙ i
+
+  pub looked_over : {s : List ℕ} {parts at : ℕ} → old.file.now ≡ s → Looking s parts at old.left old.at → NoCall s parts at new.at
+  looked_over {s} {parts} {at} e l =
+      let stay : new.at ≡ old.at = ap (λ h. h.at) t.same in
+      let none = ap (λ f. sites_at f old.left old.at) (sym e) ∙ over_by (λ p r. own_at old.file.now p ++ r) (λ p. []) in
+      let ends = ap (λ f. skip_at f old.left old.at) (sym e) ∙ over_by (λ p r. r) (λ p. p) in
+      rw stay (record { none = l.sites ∙ none; ends = l.ends ∙ ends; onward = l.onward })
+
+-- a walk that passes over a head
+module _ {old new : Heads} {p : ℕ} (t : Passed old new p) {s : List ℕ} (e : old.file.now ≡ s) where
+  pub same_file : new.file.now ≡ s
+  same_file = ap (λ f. f.now) t.file ∙ e
+
+  in_file : old.at < length s
+  in_file = omega (arith, t.inside, ap length e)
+
+  few_left : old.left ≤ length s
+  few_left = omega (arith, t.few, ap length e)
+
+  head_of : HeadOf s old.at t.head
+  head_of = subst (λ f. HeadOf f old.at t.head) e t.is
+
+  pub skip_passed : {end : ℕ} → skip_at s old.left old.at ≡ end → skip_at s new.left new.at ≡ end
+  skip_passed i = rw (t.left, t.at) (sym (walk_turn _ _ s old.left old.at t.some in_file few_left head_of.parts head_of.next) ∙ i)
+
+  module _ {parts at : ℕ} (l : Looking s parts at old.left old.at) where
+    pub met_here : {k : ℕ} → true ≡ eqb (get_or s p 0) 11 → Byte s (p + 1) k → CallMet s parts at (record { callee = k; at = new.at; left = new.left })
+    met_here {k} is c =
+        rw (t.left, t.at) (looked_call l t.some in_file few_left head_of (is ∙ ap (λ q. eqb (get_or s q 0) 11) t.here) (subst (λ q. Byte s (q + 1) k) t.here c))
+
+    pub passed_here : false ≡ eqb (get_or s p 0) 11 → Looking s parts at new.left new.at
+    passed_here is = rw (t.left, t.at) (looking_on l t.some in_file few_left head_of (is ∙ ap (λ q. eqb (get_or s q 0) 11) t.here))

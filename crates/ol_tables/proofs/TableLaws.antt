@@ -1,12 +1,13 @@
 -- The table of a file: its numbers, read and stored.
-use Prim.Native.Nat.{ℕ, ◌+◌, ◌-◌, ◌*◌, ◌/◌, ◌%◌, ◌<◌, ◌≤◌}
-use mathlib.Core.List.{List}
+use Prim.Native.Nat.{ℕ, suc, ◌+◌, ◌-◌, ◌*◌, ◌/◌, ◌%◌, ◌<◌, ◌≤◌}
+use mathlib.Core.List.{List, [], ◌∷◌, ◌++◌, append_assoc}
 use mathlib.Core.Logic.{by_cases}
 use mathlib.Core.Path.{◌≡◌, sym, ap, ◌∙◌}
 use native.Mathlib.Omega.{arith}
 use native.Mathlib.Decide.{dec_le}
-use lib.ListN.{length, drop, get_or, set, length-set, length-map, length-drop, get_or-eq_default}
-use lib.Seq.{get_or-set_same, get_or-set_other, get_or-drop, drop-set-lt}
+use lib.ListN.{length, take, drop, get_or, set, length-set, length-map, length-drop, get_or-eq_default}
+use borrow.Rule.Slice.PartMut.{put_mid}
+use lib.Seq.{sets-eq, get_or-set_same, get_or-set_other, get_or-drop, drop-drop, drop-set-lt}
 use Rattle.ol_theory.specs.Member.{upto}
 use Rattle.ol_theory.proofs.Members.{length_from, map_upto}
 use Rattle.ol_tables.specs.Tables.{two_at, two_put, plans_from, start_at, code_at, enum_at}
@@ -55,6 +56,19 @@ number_rest t i n b =
     let a = set t (3 * i) (n / 65536) in
     let c = set a (3 * i + 1) (n / 256 % 256) in
     drop-set-lt 816 c (3 * i + 2) (n % 256) (omega (arith, b)) ∙ (drop-set-lt 816 a (3 * i + 1) (n / 256 % 256) (omega (arith, b)) ∙ drop-set-lt 816 t (3 * i) (n / 65536) (omega (arith, b)))
+
+-- the three bytes of number i, in the place of those that stood there
+pub number_put_mid : (t : List ℕ) (i n k : ℕ) (m : List ℕ) → i < 272 → 816 ≤ length t → n < 16777216 → k ≡ 3 → m ≡ n / 65536 % 256 ∷ n / 256 % 256 ∷ n % 256 ∷ [] → put_mid (3 * i) k t m ≡ number_put t i n
+number_put_mid t i n k m low long small three bytes =
+    let v = n / 65536 ∷ n / 256 % 256 ∷ n % 256 ∷ [] in
+    let high : n / 65536 % 256 ≡ n / 65536 = omega (arith, small) in
+    let is : m ≡ v = bytes ∙ ap (λ x. x ∷ n / 256 % 256 ∷ n % 256 ∷ []) high in
+    let behind : drop k (drop (3 * i) t) ≡ drop (3 * i + 3) t = ap (λ j. drop j (drop (3 * i) t)) three ∙ drop-drop 3 (3 * i) t in
+    let one : suc (3 * i) ≡ 3 * i + 1 = omega arith in
+    let two : suc (suc (3 * i)) ≡ 3 * i + 2 = omega arith in
+    ap (λ l. take (3 * i) t ++ (l ++ drop k (drop (3 * i) t))) is ∙ ap (λ l. take (3 * i) t ++ (v ++ l)) behind ∙ sym (append_assoc (take (3 * i) t) v _) ∙ sym (sets-eq v t (3 * i) (omega (arith, low, long)))
+    ∙ ap (λ p. set (set (set t (3 * i) (n / 65536)) p (n / 256 % 256)) (suc (suc (3 * i))) (n % 256)) one
+    ∙ ap (λ p. set (set (set t (3 * i) (n / 65536)) (3 * i + 1) (n / 256 % 256)) p (n % 256)) two
 
 -- ---- two bytes
 

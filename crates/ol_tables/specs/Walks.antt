@@ -1,7 +1,8 @@
 -- What the walks over expressions answer.
-use Rattle.std.specs.Prelude.{ℕ, zero, suc, ◌+◌, ◌≤◌, ◌<◌, cond, List, [], ◌∷◌, ◌++◌, ◌≡◌, ltb, eqb, length, get_or}
+use Rattle.std.specs.Prelude.{ℕ, zero, suc, ◌+◌, ◌-◌, ◌⊎◌, Option, MatchOption, ◌≤◌, ◌<◌, cond, List, [], ◌∷◌, ◌++◌, ◌≡◌, ltb, eqb, length, get_or}
 use Rattle.ol_tables.specs.Heads.{parts_at, next_at}
 use Rattle.ol_tables.specs.declared.heads.Parts.{Parts}
+use Rattle.ol_tables.specs.declared.heads.Heads.{Heads}
 use Rattle.ol_tables.specs.declared.heads.Call.{Call}
 use Rattle.ol_tables.specs.declared.heads.NextCall.{NextCall}
 use Rattle.ol_tables.specs.declared.heads.NextCall.TheVariants as Nxt
@@ -13,6 +14,26 @@ pub record HeadOf (s : List ℕ) (at : ℕ) (h : Parts) : Type 0 where
   pub few : h.count < 256
   pub onward : at < length s → at < h.start
   pub near : h.start ≤ at + 9
+
+-- a walk passes over the head where it stands, p, and goes on behind it
+pub record Passed (old new : Heads) (p : ℕ) : Type 0 where
+  pub here : p ≡ old.at
+  pub some : 0 < old.left
+  pub inside : old.at < length old.file.now
+  pub few : old.left ≤ length old.file.now
+  pub head : Parts
+  pub is : HeadOf old.file.now old.at head
+  pub left : new.left ≡ old.left - 1 + head.count
+  pub at : new.at ≡ head.start
+  pub file : new.file ≡ old.file
+
+-- a walk stays where it stands: no expression is left, the file ends, or more are left than it has bytes
+pub record Stays (old new : Heads) : Type 0 where
+  pub over : (old.left ≤ 0) ⊎ ((length old.file.now ≤ old.at) ⊎ (length old.file.now < old.left))
+  pub same : new ≡ old
+
+abbrev pub Steps : Heads → Heads → Option ℕ → Type 0
+Steps old new r = MatchOption r (Stays old new) (Passed old new)
 
 -- A walk over expressions that stand at `at`, so many one after the other, head by head: what `done` gives at its end, and before that what `own` adds at each head. It stops where the
 -- file ends, and where more are left than the file has bytes. Each head but the last moves on, so as many heads as the file has bytes suffice.

@@ -1,5 +1,5 @@
-// Bytes, names and table entries. What lies past an end is 0, and storing there does nothing.
-ghost use Rattle.std.specs.Prelude.{◌≡◌, get_or, set};
+// Bytes, names and table entries. What lies past an end is 0, and no Option: the definitions read a list so (`get_or`). Storing there does nothing, as with their `set`.
+ghost use Rattle.std.specs.Prelude.{◌≡◌, ◌<◌, get_or, set};
 ghost use Rattle.ol_tables.specs.Heads.{name_at};
 ghost use Rattle.ol_tables.specs.Heads.{Byte};
 ghost use Rattle.ol_tables.specs.Tables.{two_put};
@@ -11,9 +11,10 @@ pub fn byte(s: &[u8], at: usize) -> usize
     s.get(at).map_or(0, |b| usize::from(*b))
 }
 
-// The name at `at`.
+// The name at `at`. No `u16::from_be_bytes`: it takes an array, for which both bytes have to be there.
 pub fn name(s: &[u8], at: usize) -> usize
-    ensures { result ≡ name_at s.now at }
+    ensures is { result ≡ name_at s.now at }
+    ensures small { result < 65536 }
 {
     if at < s.len() {
         byte(s, at) * 256 + byte(s, at + 1)
@@ -38,19 +39,12 @@ pub fn put<T: Copy>(rows: &mut [T], i: usize, n: T)
     }
 }
 
-// Stores a byte.
-pub fn put_byte(tab: &mut [u8], i: usize, b: u8)
-    ensures { tab.new ≡ set tab.old i b }
-{
-    put(tab, i, b);
-}
-
-// Stores a number in two bytes from p on.
+// Stores a number in two bytes from p on. No copy of `to_be_bytes`: it asks for room for both, where this stores those that there are.
 pub fn put_two(tab: &mut [u8], p: usize, n: usize)
     ensures { tab.new ≡ two_put tab.old p n }
 {
     if p < tab.len() {
-        put_byte(tab, p, (n / 256 % 256) as u8);
-        put_byte(tab, p + 1, (n % 256) as u8);
+        put(tab, p, (n / 256 % 256) as u8);
+        put(tab, p + 1, (n % 256) as u8);
     }
 }

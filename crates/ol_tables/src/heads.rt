@@ -1,7 +1,7 @@
 // Expressions, head by head: an expression is its head and its parts directly behind it.
 ghost use Rattle.std.specs.Prelude.{◌≡◌, ◌<◌, length};
 ghost use Rattle.ol_tables.specs.Heads.{ty_size_at};
-ghost use Rattle.ol_tables.specs.Walks.{HeadOf, skip_at, Calls};
+ghost use Rattle.ol_tables.specs.Walks.{HeadOf, Steps, skip_at, Calls};
 
 use super::bytes::byte;
 use super::form::Form;
@@ -61,19 +61,42 @@ pub fn head(file: &[u8], at: usize) -> Parts
     }
 }
 
-// Where the expressions end that stand at `at`, so many one after the other. No count: each head adds its parts to what is left. The loop stands here, in
-// `next_call` and in ol_check's `walk`, which each do something else at a head: one walk would lend what they change to a closure, and say at each step what it holds.
+// A walk over expressions, head by head: where the next head stands, and how many expressions are left there. No Iterator: its clause (`YieldsFirst`) tells the
+// items, and what is asked for here is where the walk stands after a step.
+#[derive(Drop)]
+struct Heads<'f> {
+    file: &'f [u8],
+    at: usize,
+    left: usize,
+}
+
+impl<'f> Heads<'f> {
+    // Passes over a head, and answers its place. None where no expression is left, the file ends, or more are left than it has bytes.
+    fn step(&mut self) -> Option<usize>
+        ensures { Steps self.old self.new result }
+    {
+        if self.left == 0 || self.file.len() <= self.at || self.file.len() < self.left {
+            return None;
+        }
+        let here = self.at;
+        let h = head(self.file, here);
+        self.left = self.left - 1 + h.count;
+        self.at = h.start;
+        Some(here)
+    }
+}
+
+// Where the expressions end that stand at `at`, so many one after the other. No count: each head adds its parts to what is left.
 pub fn skip(file: &[u8], parts: usize, at: usize) -> usize
     ensures { result ≡ skip_at file.now parts at }
 {
-    let mut next = at;
-    let mut left = parts;
-    while 0 < left && next < file.len() && left <= file.len() {
-        let h = head(file, next);
-        left = left - 1 + h.count;
-        next = h.start;
-    }
-    next
+    let mut heads = Heads {
+        file,
+        at,
+        left: parts,
+    };
+    while let Some(_) = heads.step() {}
+    heads.at
 }
 
 // A call: its callee, and what is left behind its head: the place and how many expressions.
@@ -84,8 +107,8 @@ pub struct Call {
     pub left: usize,
 }
 
-// What looking for the next call finds: a call, or where the expressions end.
-// No Result: that the expressions end is no failure, and where they end is what the caller goes on from.
+// What looking for the next call finds: a call, or where the expressions end. No Result: that the expressions end is no failure, and where they end is what the
+// caller goes on from.
 #[derive(Clone, Copy)]
 pub enum NextCall {
     Found(Call),
@@ -96,20 +119,19 @@ pub enum NextCall {
 pub fn next_call(file: &[u8], parts: usize, at: usize) -> NextCall
     ensures { Calls file.now parts at result }
 {
-    let mut next = at;
-    let mut left = parts;
-    while 0 < left && next < file.len() && left <= file.len() {
-        let h = head(file, next);
-        let rest = left - 1 + h.count;
-        if Form::Call.is_at(file, next) {
+    let mut heads = Heads {
+        file,
+        at,
+        left: parts,
+    };
+    while let Some(here) = heads.step() {
+        if Form::Call.is_at(file, here) {
             return NextCall::Found(Call {
-                callee: byte(file, next + 1),
-                at: h.start,
-                left: rest,
+                callee: byte(file, here + 1),
+                at: heads.at,
+                left: heads.left,
             });
         }
-        left = rest;
-        next = h.start;
     }
-    NextCall::End(next)
+    NextCall::End(heads.at)
 }

@@ -1,5 +1,5 @@
 // The rows of a file, read and stored.
-ghost use Rattle.std.specs.Prelude.{◌≡◌, ◌+◌, ◌*◌, ◌<◌, set};
+ghost use Rattle.std.specs.Prelude.{◌≡◌, ◌+◌, ◌*◌, ◌<◌, ◌≤◌, MatchOption, set};
 ghost use Rattle.std.proofs.Math.ListN.{replicate};
 ghost use Rattle.std.proofs.lemmas.List.Edits.{sets};
 ghost use Rattle.ol_tables.specs.Tables.{first_at};
@@ -30,28 +30,25 @@ impl FileRows {
     pub fn new() -> FileRows
         ensures { numbers result ≡ replicate 272 0 }
     {
-        let row = Row {
-            kind: 0,
-            equations: 0,
-            inputs: 0,
-            outputs: 0,
-            variables: 0,
-            count: 0,
-            size: 0,
-            place: 0,
-        };
         FileRows {
-            nodes: [row; 32],
+            nodes: [Row::default(); 32],
             firsts: [0; 16],
         }
     }
 
-    // Node k's row.
+    // Node k's row, of a node below 32; `row` asks nothing.
     pub fn node(&self, k: usize) -> &Row
         requires { k < 32 }
         ensures { RowIs (numbers self.now) k result.now }
     {
         &self.nodes[k]
+    }
+
+    // Node k's row, for any k: none from 32 on.
+    pub fn row(&self, k: usize) -> Option<Row>
+        ensures { MatchOption result (32 ≤ k) (λ r. (k < 32) × RowIs (numbers self.now) k r) }
+    {
+        self.nodes.get(k).copied()
     }
 
     // The first variant of enum e.

@@ -26,7 +26,7 @@ pub const SMALL_TAB: usize = 6065;
 
 pub const LARGE_TAB: usize = 69553;
 
-// Number i of the rows; 0 past their end.
+// Number i of the rows; 0 past their end. By `byte` and no `u32::from_be_bytes`: that takes an array, for which the bytes have to be there.
 #[tactic(auto, using(crate::proofs::TableLaws::rows_get, crate::proofs::TableLaws::rows_past))]
 fn number_at(tab: &[u8], i: usize) -> usize
     ensures { result ≡ get_or (rows_of tab.now) i 0 }
@@ -77,12 +77,8 @@ fn put_number(tab: &mut [u8], i: usize, n: usize)
     requires { (i < 272) × (816 ≤ length tab.old) × (n < 16777216) }
     ensures { tab.new ≡ number_put tab.old i n }
 {
-    let p = 3 * i;
-    let q = p + 1;
-    let r = p + 2;
-    tab[p] = (n / 65536) as u8;
-    tab[q] = (n / 256 % 256) as u8;
-    tab[r] = (n % 256) as u8;
+    let [_, a, b, c] = (n as u32).to_be_bytes();
+    tab[3 * i..3 * i + 3].copy_from_slice(&[a, b, c]);
 }
 
 // Stores the rows of so many nodes.

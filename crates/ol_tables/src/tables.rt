@@ -1,7 +1,8 @@
 // The rows of a file: a row for each of 32 nodes, and the first variant of each of 16 enums.
 ghost use Rattle.std.specs.Prelude.{◌≡◌, length};
 
-// The columns of a node's row in the table of bytes, and how many there are.
+// The columns of a node's row in the table of bytes, and how many there are. Numbers: `column` is public and takes any j, so that an enum, a narrower type, would
+// ask more of its callers.
 pub const KIND: usize = 0;
 
 pub const EQUATIONS: usize = 1; // where the first equation starts
@@ -33,8 +34,9 @@ pub const MOST_EQUATIONS: usize = 80;
 
 pub const MOST_CELLS: usize = 1008;
 
-// A node's row. The kind stays a code: rows are packed as numbers, and each use asks for one kind only (`NodeKind::is`).
-#[derive(Clone, Copy)]
+// A node's row. The kind stays a byte of the file: ol_check's `node_row`, `may_call` and `record_size` are not told that it is below 3, so that a kind would be a
+// fourth variant or a Result at each use.
+#[derive(Clone, Copy, Default)]
 pub struct Row {
     pub kind: usize,
     pub equations: usize, // where the first equation starts

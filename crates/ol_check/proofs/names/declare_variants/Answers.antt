@@ -8,7 +8,7 @@ pub loop-i-init : goal.loop-i-init
 loop-i-init c = let z : c.args.at + 2 * 0 ≡ c.args.at = omega arith in rw z variants_start
 
 pub loop-i-preserved : goal.loop-i-preserved
-loop-i-preserved c = variants_turn c.loop-i.invariant c.loop-i-test.true c.name.ensures c.declare.ensures (omega arith)
+loop-i-preserved c = variants_turn c.loop-i.invariant c.loop-i-test.true c.name.ensures.is c.declare.ensures (omega arith)
 
 pub returns : goal.returns
 returns c = variants_done c.loop-i.invariant c.loop-i-test.false

@@ -6,7 +6,7 @@ pub loop-e-init : goal.loop-e-init
 loop-e-init c = (omega arith, firsts_start)
 
 pub loop-e-preserved : goal.loop-e-preserved
-loop-e-preserved c = (omega (arith, c.loop-e.invariant.0, c.names_end-next.ensures, c.type_inv.file c.loop-e.next), firsts_turn c.loop-e.invariant.1 c.loop-e-test.true c.name.ensures c.put_first.ensures c.names_end-next.ensures)
+loop-e-preserved c = (omega (arith, c.loop-e.invariant.0, c.names_end-next.ensures, c.type_inv.file c.loop-e.next), firsts_turn c.loop-e.invariant.1 c.loop-e-test.true c.name.ensures.is c.put_first.ensures c.names_end-next.ensures)
 
 pub returns : goal.returns
 returns c = firsts_done c.loop-e.invariant.1 c.loop-e-test.false

@@ -8,7 +8,7 @@ use Rattle.ol_frame.proofs.equations.records_at.Goals as goal
 
 pub returns-then-i-n : goal.returns-then-i-n
 returns-then-i-n c =
-    c.name.ensures ∙ sym (ap (λ b. cond b ((two_at c.args.tab.now (c.args.plan + 2 * c.args.n + 2 * c.args.i))) c.args.total) (lt-ltb _ _ c.if-i-n.true))
+    c.name.ensures.is ∙ sym (ap (λ b. cond b ((two_at c.args.tab.now (c.args.plan + 2 * c.args.n + 2 * c.args.i))) c.args.total) (lt-ltb _ _ c.if-i-n.true))
 
 pub returns-else-i-n : goal.returns-else-i-n
 returns-else-i-n c =

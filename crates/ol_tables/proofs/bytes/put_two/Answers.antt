@@ -9,7 +9,7 @@ use Rattle.ol_tables.proofs.bytes.put_two.Goals as goal
 pub returns-then-p-tab : goal.returns-then-p-tab
 unfolding two_put
 returns-then-p-tab c =
-    c.put_byte-then-p-tab.ensures ∙ ap (λ l. set l (c.args.p + 1) (c.args.n % 256)) c.put_byte.ensures
+    c.put-then-p-tab.ensures ∙ ap (λ l. set l (c.args.p + 1) (c.args.n % 256)) c.put.ensures
 
 pub returns-else-p-tab : goal.returns-else-p-tab
 unfolding two_put

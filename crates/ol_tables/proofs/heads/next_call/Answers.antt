@@ -1,18 +1,13 @@
-use native.Mathlib.Omega.{arith}
-use Rattle.ol_tables.proofs.Skipping.{looked_end, looked_many, looked_all, looked_call, looking_on}
+use Rattle.ol_tables.proofs.Skipping.{same_file, looked_over, met_here, passed_here}
 use Rattle.ol_tables.proofs.heads.next_call.Goals as goal
 
 pub returns-then-is_at : goal.returns-then-is_at
-returns-then-is_at c = looked_call c.loop-left.invariant c.loop-left-test.true c.if-next-file.true c.if-left-file.true c.head-h.ensures c.if-is_at.ensures c.byte.ensures
+returns-then-is_at c = met_here c.in-Some.ensures c.loop-here.invariant.0 c.loop-here.invariant.1 c.if-is_at.ensures c.byte.ensures
 
-pub loop-left-preserved : goal.loop-left-preserved
-loop-left-preserved c = looking_on c.loop-left.invariant c.loop-left-test.true c.if-next-file.true c.if-left-file.true c.head-h.ensures c.if-is_at.ensures
+pub loop-here-preserved : goal.loop-here-preserved
+loop-here-preserved c =
+    let (file, looking) = c.loop-here.invariant in
+    (same_file c.in-Some.ensures file, passed_here c.in-Some.ensures file looking c.if-is_at.ensures)
 
-pub returns-else-left-file : goal.returns-else-left-file
-returns-else-left-file c = looked_many c.loop-left.invariant (omega arith)
-
-pub returns-else-next-file : goal.returns-else-next-file
-returns-else-next-file c = looked_end c.loop-left.invariant (omega arith)
-
-pub returns-after-loop-left : goal.returns-after-loop-left
-returns-after-loop-left c = looked_all c.loop-left.invariant (omega arith)
+pub returns : goal.returns
+returns c = looked_over c.in_default.ensures c.loop-here.invariant.0 c.loop-here.invariant.1

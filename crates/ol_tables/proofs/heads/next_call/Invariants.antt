@@ -1,10 +1,11 @@
 use Prim.Native.Nat.{◌-◌}
+use mathlib.Core.Path.{◌≡◌}
 use lib.ListN.{length}
 use Rattle.ol_tables.proofs.Skipping.{Looking}
 use Rattle.ol_tables.proofs.heads.next_call.Given as goal
 
-abbrev pub invariant-loop-left : goal.invariant-loop-left
-invariant-loop-left l = Looking l.file l.parts l.at l.left l.next
+abbrev pub invariant-loop-here : goal.invariant-loop-here
+invariant-loop-here l = (l.heads.file.now ≡ l.file) × Looking l.file l.parts l.at l.heads.left l.heads.at
 
-abbrev pub decreases-loop-left : goal.decreases-loop-left
-decreases-loop-left l = length l.file - l.next
+abbrev pub decreases-loop-here : goal.decreases-loop-here
+decreases-loop-here l = length l.file - l.heads.at

@@ -1,18 +1,10 @@
-use mathlib.Core.Path.{sym, ◌∙◌}
-use native.Mathlib.Omega.{arith}
-use Rattle.ol_tables.proofs.Skipping.{walk_none, walk_end, walk_many, walk_turn}
+use Rattle.ol_tables.proofs.Skipping.{skip_over, same_file, skip_passed}
 use Rattle.ol_tables.proofs.heads.skip.Goals as goal
 
-pub loop-left-preserved : goal.loop-left-preserved
-loop-left-preserved c =
-    let h = c.head-h.ensures in
-    sym (walk_turn _ _ _ _ _ c.loop-left-test.true c.if-next-file.true c.if-left-file.true h.parts h.next) ∙ c.loop-left.invariant
+pub loop-preserved : goal.loop-preserved
+loop-preserved c =
+    let (file, left) = c.loop.invariant in
+    (same_file c.in-Some.ensures file, skip_passed c.in-Some.ensures file left)
 
-pub returns-else-left-file : goal.returns-else-left-file
-returns-else-left-file c = sym (walk_many _ _ _ _ _ _ (omega arith)) ∙ c.loop-left.invariant
-
-pub returns-else-next-file : goal.returns-else-next-file
-returns-else-next-file c = sym (walk_end _ _ _ _ _ _ (omega arith)) ∙ c.loop-left.invariant
-
-pub returns-after-loop-left : goal.returns-after-loop-left
-returns-after-loop-left c = sym (walk_none _ _ _ _ _ _ (omega arith)) ∙ c.loop-left.invariant
+pub returns : goal.returns
+returns c = skip_over c.in_default.ensures c.loop.invariant.0 c.loop.invariant.1

@@ -5,8 +5,8 @@ use Rattle.ol_tables.specs.Walks.{skip_at}
 use Rattle.ol_tables.proofs.heads.skip.Given as goal
 
 -- what is left ends where all end
-abbrev pub invariant-loop-left : goal.invariant-loop-left
-invariant-loop-left l = skip_at l.file l.left l.next ≡ skip_at l.file l.parts l.at
+abbrev pub invariant-loop : goal.invariant-loop
+invariant-loop l = (l.heads.file.now ≡ l.file) × (skip_at l.file l.heads.left l.heads.at ≡ skip_at l.file l.parts l.at)
 
-abbrev pub decreases-loop-left : goal.decreases-loop-left
-decreases-loop-left l = length l.file - l.next
+abbrev pub decreases-loop : goal.decreases-loop
+decreases-loop l = length l.file - l.heads.at

@@ -3,4 +3,4 @@ use Rattle.ol_check.proofs.judge.Judge.judge_var.Goals as goal
 
 pub returns : goal.returns
 returns c =
-    var_judged c.args.self.now.file.now c.args.self.now.names.now c.args.slots.now c.args.g.now c.args.at c.name.ensures c.byte-e.ensures c.slot.ensures c.put_byte.ensures c.mark.ensures
+    var_judged c.args.self.now.file.now c.args.self.now.names.now c.args.slots.now c.args.g.now c.args.at c.name.ensures.is c.byte-e.ensures c.slot.ensures c.put.ensures c.mark.ensures
