@@ -69,8 +69,8 @@ fn starts_of(tab: &[u8], plan: usize, starts: &mut [usize])
 // The nodes of a file that reads without fault, by the places at which they start, with the rows of
 // its table. With `low` every name that an equation defines is below 1,024. It is a fact of the names:
 // no field waits for it, and two variants would have the same fields. What holds of the nodes is asked
-// by each method: it is a record, whose parts the proofs read, and a ghost field takes a proposition
-// only. In `∥ .. ∥₁` it would be one, but then its parts could be read only where a proposition is shown.
+// by each method: it tells of the table too, which each method is lent, and it names the file as it is
+// read, so it is no proposition. In `∥ .. ∥₁` it would be one, and each proof would open it to name the file.
 #[derive(Clone, Copy)]
 struct Nodes<'f, 'p, 'r> {
     file: &'f [u8],
