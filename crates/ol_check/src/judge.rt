@@ -71,10 +71,11 @@ fn outputs(rows: &FileRows, nodes: usize, c: usize) -> usize
 
 // Whether a name with this entry may not be defined: it is an input, a constant, a variant, or
 // defined before. `defined` is by entry.
-fn taken(defined: &[bool], inputs: usize, e: usize) -> bool
+fn taken(defined: &[bool; 256], inputs: usize, e: usize) -> bool
+    requires { e < 256 }
     ensures { result ≡ taken_b defined.now inputs e }
 {
-    e <= inputs || LAST_VARIABLE < e || defined.get(e).is_some_and(|d| *d)
+    e <= inputs || LAST_VARIABLE < e || defined[e]
 }
 
 // Several names, and not several values.
@@ -175,6 +176,7 @@ impl<'a> Judge<'a> {
         let mut left = parts;
         while 0 < left && next < file.len() && left <= file.len() {
             let h = head(file, next);
+            // A chain, and no match on the form: where the arms join, the check no longer knows that `_` is none of the three.
             if Form::Var.is_at(file, next) {
                 self.judge_var(slots, g, next);
             } else if Form::Call.is_at(file, next) || Form::Tuple.is_at(file, next) {
@@ -193,7 +195,7 @@ impl<'a> Judge<'a> {
     fn define(
         &self,
         slots: &mut [u8],
-        defined: &mut [bool],
+        defined: &mut [bool; 256],
         inputs: usize,
         many: usize,
         g: &mut Faults,
@@ -235,7 +237,7 @@ impl<'a> Judge<'a> {
     }
 
     // The equation where the walk stands, in a node of so many inputs.
-    fn equation(&self, slots: &mut [u8], defined: &mut [bool], inputs: usize, g: &mut Faults)
+    fn equation(&self, slots: &mut [u8], defined: &mut [bool; 256], inputs: usize, g: &mut Faults)
         requires { (g.old.next < 32768) × (g.old.size ≤ 65536) }
         ensures { EquationWalked self.now.file.now self.now.names.now (numbers self.now.rows.now) self.now.nodes self.now.node inputs slots.old slots.new defined.old defined.new (findings g.old) (findings g.new) }
     {
@@ -252,7 +254,7 @@ impl<'a> Judge<'a> {
         &self,
         slots: &mut [u8],
         plans: &mut [u8],
-        defined: &mut [bool],
+        defined: &mut [bool; 256],
         inputs: usize,
         many: usize,
         plan: usize,
