@@ -36,7 +36,7 @@ or_last true b = refl
 or_last false true = refl
 or_last false false = refl
 
-module _ (defined : List ℕ) (inputs e : ℕ) where
+module _ (defined : List Bool) (inputs e : ℕ) where
   taken_input : e ≤ inputs → true ≡ taken_b defined inputs e
   taken_input le = rw (le-leb e inputs le) refl
 
@@ -47,10 +47,10 @@ module _ (defined : List ℕ) (inputs e : ℕ) where
       go true = refl
       go false = refl
 
-  taken_marked : get_or defined e 0 ≡ 1 → taken_b defined inputs e ≡ true
+  taken_marked : get_or defined e false ≡ true → taken_b defined inputs e ≡ true
   taken_marked q = rw q (or_last (leb e inputs) (ltb 112 e))
 
-  taken_not : inputs < e → e ≤ 112 → get_or defined e 0 ≡ 0 → taken_b defined inputs e ≡ false
+  taken_not : inputs < e → e ≤ 112 → get_or defined e false ≡ false → taken_b defined inputs e ≡ false
   taken_not hi lo q = rw (lt-leb e inputs hi, le-ltb 112 e lo, q) refl
 
 -- ---- positions
@@ -117,10 +117,10 @@ module _ (names : List ℕ) (visible : List ℕ) (global : Global names) (knows 
   -- ---- the table of defined entries
 
   -- it tells which declared names may not be defined
-  abbrev Agrees : List ℕ → List ℕ → Type 0
+  abbrev Agrees : List Bool → List ℕ → Type 0
   Agrees defined taken = (x : ℕ) → (entry_of x ≡ 0 → ⊥) → taken_b defined inputs (entry_of x) ≡ member x taken
 
-  agrees_start : (defined : List ℕ) → ((e : ℕ) → get_or defined e 0 ≡ 0) → Agrees defined (map name_of n.inputs ++ visible)
+  agrees_start : (defined : List Bool) → ((e : ℕ) → get_or defined e false ≡ false) → Agrees defined (map name_of n.inputs ++ visible)
   agrees_start defined empty x declared = go (entry_is x)
     where
       split : variable_names n ≡ map name_of n.inputs ++ (map name_of n.outputs ++ map name_of n.locals)
@@ -137,36 +137,36 @@ module _ (names : List ℕ) (visible : List ℕ) (global : Global names) (knows 
           (λ low. sym (taken_input defined inputs (entry_of x) (omega (arith, e))) ∙ sym (member_either x ins visible m ∙ w.0 (omega arith)))
           (λ no. taken_not defined inputs (entry_of x) (omega (arith, e)) (omega (arith, e)) (empty (entry_of x)) ∙ sym (member_either x ins visible m ∙ w.1 (omega arith)))
 
-  agrees_next : (defined taken : List ℕ) (y : ℕ) → 113 ≤ length defined → (entry_of y ≡ 0 → ⊥) → Agrees defined taken → Agrees (set defined (entry_of y) 1) (y ∷ taken)
+  agrees_next : (defined : List Bool) (taken : List ℕ) (y : ℕ) → 113 ≤ length defined → (entry_of y ≡ 0 → ⊥) → Agrees defined taken → Agrees (set defined (entry_of y) true) (y ∷ taken)
   agrees_next defined taken y room known agrees x declared =
-      let defined' = set defined (entry_of y) 1 in
+      let defined' = set defined (entry_of y) true in
       eq_cases x y
       (λ q. subst (λ z. taken_b defined' inputs (entry_of z) ≡ true) (sym q) (marked (entry_is y)) ∙ sym (ap (λ b. b || member x taken) (eq-eqb x y q)))
       (λ ne. other ne (entry_is x) (entry_is y) ∙ agrees x declared ∙ sym (ap (λ b. b || member x taken) (ne_eqb x y ne)))
     where
-      marked : Entry y → taken_b (set defined (entry_of y) 1) inputs (entry_of y) ≡ true
-      marked (outer high m) = sym (taken_outer (set defined (entry_of y) 1) inputs (entry_of y) high)
+      marked : Entry y → taken_b (set defined (entry_of y) true) inputs (entry_of y) ≡ true
+      marked (outer high m) = sym (taken_outer (set defined (entry_of y) true) inputs (entry_of y) high)
       marked (unknown z) = absurd (known z)
-      marked (inner i ep e lt m) = taken_marked (set defined (entry_of y) 1) inputs (entry_of y) (get_or-set_same defined (entry_of y) 1 0 (omega (arith, e)))
+      marked (inner i ep e lt m) = taken_marked (set defined (entry_of y) true) inputs (entry_of y) (get_or-set_same defined (entry_of y) true false (omega (arith, e)))
 
-      apart : (entry_of x ≡ entry_of y → ⊥) → taken_b (set defined (entry_of y) 1) inputs (entry_of x) ≡ taken_b defined inputs (entry_of x)
-      apart ne = ap (λ b. leb (entry_of x) inputs || (ltb 112 (entry_of x) || not (eqb b 0))) (get_or-set_other defined (entry_of y) (entry_of x) 1 0 ne)
+      apart : (entry_of x ≡ entry_of y → ⊥) → taken_b (set defined (entry_of y) true) inputs (entry_of x) ≡ taken_b defined inputs (entry_of x)
+      apart ne = ap (λ b. leb (entry_of x) inputs || (ltb 112 (entry_of x) || b)) (get_or-set_other defined (entry_of y) (entry_of x) true false ne)
 
-      other : (x ≡ y → ⊥) → Entry x → Entry y → taken_b (set defined (entry_of y) 1) inputs (entry_of x) ≡ taken_b defined inputs (entry_of x)
+      other : (x ≡ y → ⊥) → Entry x → Entry y → taken_b (set defined (entry_of y) true) inputs (entry_of x) ≡ taken_b defined inputs (entry_of x)
       other ne (unknown z) ey = absurd (declared z)
-      other ne (outer high m) ey = sym (taken_outer (set defined (entry_of y) 1) inputs (entry_of x) high) ∙ taken_outer defined inputs (entry_of x) high
+      other ne (outer high m) ey = sym (taken_outer (set defined (entry_of y) true) inputs (entry_of x) high) ∙ taken_outer defined inputs (entry_of x) high
       other ne (inner i ep e lt m) (unknown z) = absurd (known z)
       other ne (inner i ep e lt m) (outer high m') = apart (λ q. omega (arith, e))
       other ne (inner i ep e lt m) (inner j ep' e' lt' m') = apart (λ q. ne (same_entry x y i j ep ep' (omega (arith, e, e'))))
 
   -- the names of a list, one after the other
-  again_told : (defined taken : List ℕ) (ps : List (ℕ × ℕ)) → 113 ≤ length defined → Each (λ p. entry_of p.1 ≡ 0 → ⊥) ps → Agrees defined taken → again_b (node_table names n) inputs defined ps ≡ again taken ps
+  again_told : (defined : List Bool) (taken : List ℕ) (ps : List (ℕ × ℕ)) → 113 ≤ length defined → Each (λ p. entry_of p.1 ≡ 0 → ⊥) ps → Agrees defined taken → again_b (node_table names n) inputs defined ps ≡ again taken ps
   unfolding again_b
   again_told defined taken [] room known agrees = refl
   again_told defined taken (p ∷ ps) room known agrees =
-      ap (λ b. (p.0, b) ∷ again_b (node_table names n) inputs (set defined (entry_of p.1) 1) ps) (agrees p.1 known.0)
+      ap (λ b. (p.0, b) ∷ again_b (node_table names n) inputs (set defined (entry_of p.1) true) ps) (agrees p.1 known.0)
       ∙ ap (λ l. (p.0, member p.1 taken) ∷ l)
-      (again_told (set defined (entry_of p.1) 1) (p.1 ∷ taken) ps (omega (arith, length-set defined (entry_of p.1) 1)) known.1 (agrees_next defined taken p.1 room known.0 agrees))
+      (again_told (set defined (entry_of p.1) true) (p.1 ∷ taken) ps (omega (arith, length-set defined (entry_of p.1) true)) known.1 (agrees_next defined taken p.1 room known.0 agrees))
 
 -- ---- names that are declared, where 7 does not hold
 
@@ -199,11 +199,11 @@ clean_equations table visible knows (q ∷ qs) e =
     let w = clean_both (equation_uses visible q) (concat (map (equation_uses visible) qs)) e in
     each_join (λ p. get_or table p.1 0 ≡ 0 → ⊥) (defined_by q) (concat (map defined_by qs)) (clean_names table visible knows (defined_by q) (used (rhs_place q.0 q.1) q.1.rhs) w.0) (clean_equations table visible knows qs w.1)
 
-abbrev none_defined : List ℕ
-none_defined = replicate 256 0
+abbrev none_defined : List Bool
+none_defined = replicate 256 false
 
-zeros : (e : ℕ) → get_or none_defined e 0 ≡ 0
-zeros e = by_cases (dec_lt e 256) (λ lt. get_or-replicate {A = ℕ} 256 e 0 0 lt) (λ no. get_or-eq_default none_defined 0 {n = e} (omega (arith, length-replicate {A = ℕ} 256 0)))
+none_yet : (e : ℕ) → get_or none_defined e false ≡ false
+none_yet e = by_cases (dec_lt e 256) (λ lt. get_or-replicate 256 e false false lt) (λ no. get_or-eq_default none_defined false {n = e} (omega (arith, length-replicate 256 false)))
 
 -- ---- all nodes
 
@@ -216,7 +216,7 @@ module _ (names visible : List ℕ) (global : Global names) (knows : Knows names
       let here : node_again names (at, n) ≡ node_defines visible (at, n) =
       again_told names visible global knows n ok.0.0 ok.0.1 none_defined (map name_of n.inputs ++ visible) (concat (map defined_by (placed_equations at n))) (omega (arith, length-replicate {A = ℕ} 256 0))
       (clean_equations (node_table names n) (variable_names n ++ visible) (node_knows names visible knows n ok.0.1) (placed_equations at n) w.0)
-      (agrees_start names visible global knows n ok.0.0 ok.0.1 none_defined zeros) in
+      (agrees_start names visible global knows n ok.0.0 ok.0.1 none_defined none_yet) in
       ap (λ l. l ++ concat (map (node_again names) (placed node_size (at + node_size n) ns))) here ∙ ap (λ l. node_defines visible (at, n) ++ l) (nodes_told ns (at + node_size n) ok.1 w.1)
 
 each_of : {A : Type 0} (P : A → Type 0) (d : A) (xs : List A) → ((k : ℕ) → k < length xs → P (get_or xs k d)) → Each P xs

@@ -1,6 +1,6 @@
 -- An equation: its names, its right side, and what is inside that.
 use Prim.Native.Nat.{ℕ, ◌+◌, ◌-◌, ◌*◌, ◌≤◌, ◌<◌, min}
-use mathlib.Core.Bool.{Bool, cond}
+use mathlib.Core.Bool.{Bool, true, cond}
 use mathlib.Core.List.{List, [], ◌∷◌, ◌++◌, map, append-nil, map-append}
 use mathlib.Core.Option.{Option}
 use mathlib.Core.Path.{◌≡◌, refl, sym, ap, subst, ◌∙◌}
@@ -49,7 +49,7 @@ use Rattle.ol_check.proofs.HeadLaws.{flat, unseen_law, called_law, several_law, 
 pub placed_on : {A : Type 0} (size : A → ℕ) (d : A) (xs : List A) (i next : ℕ) → i < length xs → placed size next (drop i xs) ≡ (next, get_or xs i d) ∷ placed size (next + size (get_or xs i d)) (drop (i + 1) xs)
 placed_on size d xs i next lt = rw (add-one i) (ap (placed size next) (drop-cons xs i d lt))
 
-pub record NamesGoing (s names : List ℕ) (inputs many : ℕ) (slots₀ defined₀ : List ℕ) (f : Faults) (slots defined : List ℕ) (g : Faults) (i next : ℕ) : Type 0 where
+pub record NamesGoing (s names : List ℕ) (inputs many : ℕ) (slots₀ : List ℕ) (defined₀ : List Bool) (f : Faults) (slots : List ℕ) (defined : List Bool) (g : Faults) (i next : ℕ) : Type 0 where
   pub unseen : found_in (place_of g.unseen) (map (entry_item names) (names_from s (many - i) next)) ≡ found_in (place_of f.unseen) (map (entry_item names) (names_from s many f.next))
   pub again : found_in (place_of g.again) (again_b names inputs defined (names_from s (many - i) next)) ≡ found_in (place_of f.again) (again_b names inputs defined₀ (names_from s many f.next))
   pub slotted : slot_names names slots (names_from s (many - i) next) ≡ slot_names names slots₀ (names_from s many f.next)
@@ -58,13 +58,13 @@ pub record NamesGoing (s names : List ℕ) (inputs many : ℕ) (slots₀ defined
   pub shaped : place_of g.shaped ≡ place_of f.shaped
   pub sized : g.size ≡ f.size
 
-module _ {s names : List ℕ} {inputs many : ℕ} {slots₀ defined₀ : List ℕ} {f : Faults} where
+module _ {s names : List ℕ} {inputs many : ℕ} {slots₀ : List ℕ} {defined₀ : List Bool} {f : Faults} where
   pub names_start : NamesGoing s names inputs many slots₀ defined₀ f slots₀ defined₀ f 0 f.next
   names_start = record { unseen = rw (less_none many) refl; again = rw (less_none many) refl; slotted = rw (less_none many) refl; marked = rw (less_none many) refl; called = refl; shaped = refl; sized = refl }
 
-  module _ {slots defined : List ℕ} {g : Faults} {i next : ℕ} (w : NamesGoing s names inputs many slots₀ defined₀ f slots defined g i next) where
-    pub names_turn : i < many → {x e b : ℕ} {t : Bool} {u v : RustOption ℕ} {slots' defined' : List ℕ} → x ≡ name_at s next → Byte names x e → u ≡ marked g.unseen (eqb e 0) next
-        → t ≡ taken_b defined inputs e → v ≡ marked g.again t next → b ≡ slot_of_entry e → slots' ≡ set slots next b → defined' ≡ set defined e 1
+  module _ {slots : List ℕ} {defined : List Bool} {g : Faults} {i next : ℕ} (w : NamesGoing s names inputs many slots₀ defined₀ f slots defined g i next) where
+    pub names_turn : i < many → {x e b : ℕ} {t : Bool} {u v : RustOption ℕ} {slots' : List ℕ} {defined' : List Bool} → x ≡ name_at s next → Byte names x e → u ≡ marked g.unseen (eqb e 0) next
+        → t ≡ taken_b defined inputs e → v ≡ marked g.again t next → b ≡ slot_of_entry e → slots' ≡ set slots next b → defined' ≡ set defined e true
         → {next' : ℕ} → next' ≡ next + 2 → NamesGoing s names inputs many slots₀ defined₀ f slots' defined' (record g { unseen = u; again = v }) (i + 1) next'
     unfolding slot_names mark_all again_b
     names_turn lt {x} {e} {b} {t} {u} {v} {slots'} {defined'} ex be eu et ev eb es ed {next'} on_next =
@@ -72,7 +72,7 @@ module _ {s names : List ℕ} {inputs many : ℕ} {slots₀ defined₀ : List �
         let ee : e ≡ get_or names y 0 = be.is ∙ ap (λ n. get_or names n 0) ex in
         let on : names_from s (many - i) next ≡ (next, y) ∷ names_from s (many - (i + 1)) (next + 2) = ap (map (named_at s)) (starts_on behind_name many i next lt) in
         let rest = names_from s (many - (i + 1)) (next + 2) in
-        let put : defined' ≡ set defined (get_or names y 0) 1 = ed ∙ ap (λ n. set defined n 1) ee in
+        let put : defined' ≡ set defined (get_or names y 0) true = ed ∙ ap (λ n. set defined n true) ee in
         let q = eqb e 0 in
         rw on_next record {
           unseen = ap (λ o. found_in o (map (entry_item names) rest)) (ap place_of eu ∙ place_marked g.unseen q next ∙ ap (λ n. earliest (place_of g.unseen) (eqb n 0) next) ee)
@@ -192,7 +192,7 @@ root_out {s} {names} {rows} {nodes} {k} {at} {many} {slots} {f} out small =
 
 -- ---- an equation
 
-pub equation_walked : {s names rows : List ℕ} {nodes k inputs many : ℕ} {slots slots₁ slots₂ defined defined₁ : List ℕ} {g d r : Findings} → Byte s g.next many → NamesDefined s names inputs many slots slots₁ defined defined₁ (at_place g (g.next + 1)) d
+pub equation_walked : {s names rows : List ℕ} {nodes k inputs many : ℕ} {slots slots₁ slots₂ : List ℕ} {defined defined₁ : List Bool} {g d r : Findings} → Byte s g.next many → NamesDefined s names inputs many slots slots₁ defined defined₁ (at_place g (g.next + 1)) d
     → RootJudged s names rows nodes k g.next many slots₁ slots₂ d r → EquationWalked s names rows nodes k inputs slots slots₂ defined defined₁ g r
 equation_walked {s} {names} {rows} {nodes} {k} {inputs} {many} {slots} {slots₁} {slots₂} {defined} {defined₁} {g} {d} {r} b named rooted =
     record {
@@ -203,7 +203,7 @@ equation_walked {s} {names} {rows} {nodes} {k} {inputs} {many} {slots} {slots₁
     }
 
 -- the names xs, which stand where the walk stood, are defined
-record DefinedAs (names : List ℕ) (inputs : ℕ) (xs slots slots' defined defined' : List ℕ) (f r : Findings) : Type 0 where
+record DefinedAs (names : List ℕ) (inputs : ℕ) (xs slots slots' : List ℕ) (defined defined' : List Bool) (f r : Findings) : Type 0 where
   next : r.next ≡ f.next + 2 * length xs
   unseen : r.unseen ≡ found_in f.unseen (map (entry_item names) (placed_names f.next xs))
   again : r.again ≡ found_in f.again (again_b names inputs defined (placed_names f.next xs))
@@ -213,7 +213,7 @@ record DefinedAs (names : List ℕ) (inputs : ℕ) (xs slots slots' defined defi
   slotted : slots' ≡ slot_names names slots (placed_names f.next xs)
   marked : defined' ≡ mark_all names defined (placed_names f.next xs)
 
-define_told : {s names : List ℕ} {inputs many : ℕ} {slots slots' defined defined' : List ℕ} {f r : Findings} → NamesDefined s names inputs many slots slots' defined defined' f r → (xs : List ℕ) → length xs ≡ many → Names s 0 f.next xs
+define_told : {s names : List ℕ} {inputs many : ℕ} {slots slots' : List ℕ} {defined defined' : List Bool} {f r : Findings} → NamesDefined s names inputs many slots slots' defined defined' f r → (xs : List ℕ) → length xs ≡ many → Names s 0 f.next xs
     → DefinedAs names inputs xs slots slots' defined defined' f r
 define_told {s} {names} {inputs} {many} {slots} {slots'} {defined} {defined'} {f} {r} d xs e st =
     let same : names_from s many f.next ≡ placed_names f.next xs = ap (λ n. names_from s n f.next) (sym e) ∙ names_listed xs st in
@@ -262,7 +262,7 @@ root_told {s} {names} {rows} {nodes} {k} {at} {many} {slots} {slots'} {f} {r} w 
     }
 
 -- the equation q at `at`, in the file f and a node of so many inputs
-pub record EquationJudged (s names rows : List ℕ) (nodes : ℕ) (f : File) (visible : List ℕ) (bad : ℕ → ℕ → Bool) (inputs at : ℕ) (q : Equation) (slots slots' defined defined' : List ℕ) (g r : Findings) : Type 0 where
+pub record EquationJudged (s names rows : List ℕ) (nodes : ℕ) (f : File) (visible : List ℕ) (bad : ℕ → ℕ → Bool) (inputs at : ℕ) (q : Equation) (slots slots' : List ℕ) (defined defined' : List Bool) (g r : Findings) : Type 0 where
   pub next : r.next ≡ at + equation_size q
   pub unseen : r.unseen ≡ found_in g.unseen (equation_uses visible (at, q))
   pub again : r.again ≡ found_in g.again (again_b names inputs defined (defined_by (at, q)))
@@ -282,7 +282,7 @@ entries_seen names visible knows [] = refl
 entries_seen names visible knows (p ∷ ps) =
     ap (λ b. (p.0, b) ∷ map (entry_item names) ps) (knows p.1) ∙ ap (λ l. unseen_item visible p ∷ l) (entries_seen names visible knows ps)
 
-module _ {s names rows : List ℕ} {nodes k inputs : ℕ} {slots slots₂ defined defined₁ : List ℕ} {g r : Findings} (walked : EquationWalked s names rows nodes k inputs slots slots₂ defined defined₁ g r) where
+module _ {s names rows : List ℕ} {nodes k inputs : ℕ} {slots slots₂ : List ℕ} {defined defined₁ : List Bool} {g r : Findings} (walked : EquationWalked s names rows nodes k inputs slots slots₂ defined defined₁ g r) where
   pub equation_judged : (t : File) (visible : List ℕ) (bad : ℕ → ℕ → Bool) (enums : ℕ) (q : Equation) → Context t k names rows nodes visible bad → EquationStands s enums g.next q
       → EquationJudged s names rows nodes t visible bad inputs g.next q slots slots₂ defined defined₁ g r
   unfolding slot_equation
@@ -369,20 +369,20 @@ left_none : {A : Type 0} (g : ℕ × A → List Item) (size : A → ℕ) (xs : L
 left_none g size xs i next o z le ez = sym (found_none o) ∙ ap (λ l. found_in o (concat (map g (placed size next l)))) (sym (drop_of_length-le xs le)) ∙ ez
 
 -- names that are defined, and those after them
-again_append : (names : List ℕ) (inputs : ℕ) (defined : List ℕ) (ps qs : List (ℕ × ℕ)) → again_b names inputs defined (ps ++ qs) ≡ again_b names inputs defined ps ++ again_b names inputs (mark_all names defined ps) qs
+again_append : (names : List ℕ) (inputs : ℕ) (defined : List Bool) (ps qs : List (ℕ × ℕ)) → again_b names inputs defined (ps ++ qs) ≡ again_b names inputs defined ps ++ again_b names inputs (mark_all names defined ps) qs
 unfolding again_b mark_all
 again_append names inputs defined [] qs = refl
-again_append names inputs defined (p ∷ ps) qs = ap (λ l. (p.0, taken_b defined inputs (get_or names p.1 0)) ∷ l) (again_append names inputs (set defined (get_or names p.1 0) 1) ps qs)
+again_append names inputs defined (p ∷ ps) qs = ap (λ l. (p.0, taken_b defined inputs (get_or names p.1 0)) ∷ l) (again_append names inputs (set defined (get_or names p.1 0) true) ps qs)
 
-mark_append : (names defined : List ℕ) (ps qs : List (ℕ × ℕ)) → mark_all names defined (ps ++ qs) ≡ mark_all names (mark_all names defined ps) qs
+mark_append : (names : List ℕ) (defined : List Bool) (ps qs : List (ℕ × ℕ)) → mark_all names defined (ps ++ qs) ≡ mark_all names (mark_all names defined ps) qs
 unfolding mark_all
 mark_append names defined [] qs = refl
-mark_append names defined (p ∷ ps) qs = mark_append names (set defined (get_or names p.1 0) 1) ps qs
+mark_append names defined (p ∷ ps) qs = mark_append names (set defined (get_or names p.1 0) true) ps qs
 
 abbrev pub EquationPassing : List ℕ → ℕ → ℕ → List Equation → ℕ → ℕ → Type 0
 EquationPassing s enums at qs i next = Passing equation_bytes (equation_fits base enums) equation_size s at qs i next
 
-pub record EquationsGoing (s names rows : List ℕ) (nodes : ℕ) (t : File) (visible : List ℕ) (bad : ℕ → ℕ → Bool) (inputs enums : ℕ) (qs : List Equation) (slots₀ defined₀ : List ℕ) (f : Findings) (slots defined : List ℕ) (g : Findings) (i : ℕ) : Type 0 where
+pub record EquationsGoing (s names rows : List ℕ) (nodes : ℕ) (t : File) (visible : List ℕ) (bad : ℕ → ℕ → Bool) (inputs enums : ℕ) (qs : List Equation) (slots₀ : List ℕ) (defined₀ : List Bool) (f : Findings) (slots : List ℕ) (defined : List Bool) (g : Findings) (i : ℕ) : Type 0 where
   pub passing : EquationPassing s enums f.next qs i g.next
   pub unseen : found_in g.unseen (concat (map (equation_uses visible) (placed equation_size g.next (drop i qs)))) ≡ found_in f.unseen (concat (map (equation_uses visible) (placed equation_size f.next qs)))
   pub again : found_in g.again (again_b names inputs defined (concat (map defined_by (placed equation_size g.next (drop i qs))))) ≡ found_in f.again (again_b names inputs defined₀ (concat (map defined_by (placed equation_size f.next qs))))
@@ -392,15 +392,15 @@ pub record EquationsGoing (s names rows : List ℕ) (nodes : ℕ) (t : File) (vi
   pub marked : mark_all names defined (concat (map defined_by (placed equation_size g.next (drop i qs)))) ≡ mark_all names defined₀ (concat (map defined_by (placed equation_size f.next qs)))
   pub sized : Adding f.size (map (callee_b rows nodes) (concat (map equation_sites qs))) g.size (map (callee_b rows nodes) (concat (map equation_sites (drop i qs))))
 
-module _ {s names rows : List ℕ} {nodes : ℕ} {t : File} {visible : List ℕ} {bad : ℕ → ℕ → Bool} {inputs enums : ℕ} {qs : List Equation} {slots₀ defined₀ : List ℕ} {f : Findings} where
+module _ {s names rows : List ℕ} {nodes : ℕ} {t : File} {visible : List ℕ} {bad : ℕ → ℕ → Bool} {inputs enums : ℕ} {qs : List Equation} {slots₀ : List ℕ} {defined₀ : List Bool} {f : Findings} where
   pub equations_start_lem : f.size ≤ 65536 → Listed equation_bytes (equation_fits base enums) s f.next qs → EquationsGoing s names rows nodes t visible bad inputs enums qs slots₀ defined₀ f slots₀ defined₀ f 0
   equations_start_lem le h = record { passing = passing_start equation_bytes (equation_fits base enums) equation_size h; unseen = refl; again = refl; called = refl; shaped = refl; slotted = refl; marked = refl; sized = (le, refl) }
 
-  module _ {slots defined : List ℕ} {g : Findings} {i : ℕ} (w : EquationsGoing s names rows nodes t visible bad inputs enums qs slots₀ defined₀ f slots defined g i) where
+  module _ {slots : List ℕ} {defined : List Bool} {g : Findings} {i : ℕ} (w : EquationsGoing s names rows nodes t visible bad inputs enums qs slots₀ defined₀ f slots defined g i) where
     equation_at_lem : i < length qs → PassedItem equation_bytes (equation_fits base enums) equation_size s f.next qs i g.next (get_or qs i no_equation)
     equation_at_lem lt = passing_item equation_size_lem no_equation w.passing lt
 
-    pub equations_turn : i < length qs → (slots' defined' : List ℕ) (r : Findings) → {k : ℕ} → Context t k names rows nodes visible bad → EquationWalked s names rows nodes k inputs slots slots' defined defined' g r
+    pub equations_turn : i < length qs → (slots' : List ℕ) (defined' : List Bool) (r : Findings) → {k : ℕ} → Context t k names rows nodes visible bad → EquationWalked s names rows nodes k inputs slots slots' defined defined' g r
         → EquationsGoing s names rows nodes t visible bad inputs enums qs slots₀ defined₀ f slots' defined' r (i + 1)
     unfolding slot_equations
     equations_turn lt slots' defined' r ctx walked =
@@ -443,7 +443,7 @@ module _ {s names rows : List ℕ} {nodes : ℕ} {t : File} {visible : List ℕ}
         }
 
     -- what the equation adds to the bytes of the records
-    pub equations_sized : i < length qs → {slots' defined' : List ℕ} {r : Findings} {k : ℕ} → Context t k names rows nodes visible bad → EquationWalked s names rows nodes k inputs slots slots' defined defined' g r
+    pub equations_sized : i < length qs → {slots' : List ℕ} {defined' : List Bool} {r : Findings} {k : ℕ} → Context t k names rows nodes visible bad → EquationWalked s names rows nodes k inputs slots slots' defined defined' g r
         → r.size ≡ min (g.size + sum (map (callee_b rows nodes) (equation_sites (get_or qs i no_equation)))) 65536
     equations_sized lt ctx walked =
         let it = equation_at_lem lt in

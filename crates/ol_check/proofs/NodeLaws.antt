@@ -1,6 +1,6 @@
 -- A node: its variables entered and taken back, and its equations judged.
 use Prim.Native.Nat.{ℕ, zero, suc, ◌+◌, ◌*◌, ◌≤◌, ◌<◌, min}
-use mathlib.Core.Bool.{false, not, ◌&&◌}
+use mathlib.Core.Bool.{Bool, false, not, ◌&&◌}
 use mathlib.Core.List.{List, [], ◌∷◌, ◌++◌, map, map-append}
 use mathlib.Core.Logic.{by_cases}
 use mathlib.Core.Path.{◌≡◌, refl, sym, ap, subst, ◌∙◌}
@@ -218,9 +218,9 @@ equations_ready {s} {rows} {nodes} {k} rd st names {n₁} {m} {a} nr en em ea =
       stand = subst (λ x. Listed equation_bytes (equation_fits base (length f.enums)) s x n.equations) (sym (ea ∙ row.equations)) (node_at_lem st k (omega (arith, rd.low, rd.many))).equations;
     }
 
-module _ {s rows : List ℕ} {nodes k : ℕ} (rd : NodeReady s rows nodes k) (st : FileStands s (file_at s)) (names : List ℕ) {n₁ slots slots' defined' : List ℕ} {m a i v : ℕ} {g r : Findings}
+module _ {s rows : List ℕ} {nodes k : ℕ} (rd : NodeReady s rows nodes k) (st : FileStands s (file_at s)) (names : List ℕ) {n₁ slots slots' : List ℕ} {defined' : List Bool} {m a i v : ℕ} {g r : Findings}
     (en : n₁ ≡ node_table names (node_of (file_at s) k)) (em : m ≡ get_or rows (k * 8 + 5) 0) (ea : a ≡ get_or rows (k * 8 + 1) 0) (ei : i ≡ get_or rows (k * 8 + 2) 0) (ev : v ≡ get_or rows (k * 8 + 4) 0)
-    (w : EquationsJudged s n₁ rows nodes (file_at s) (seen_in (file_at s) k) (bad_call (file_at s) k (node_of (file_at s) k)) i a (node_of (file_at s) k).equations slots slots' (replicate 256 0) defined'
+    (w : EquationsJudged s n₁ rows nodes (file_at s) (seen_in (file_at s) k) (bad_call (file_at s) k (node_of (file_at s) k)) i a (node_of (file_at s) k).equations slots slots' (replicate 256 false) defined'
     (record { unseen = g.unseen; again = g.again; called = g.called; shaped = g.shaped; size = 1 + 9 * v; next = a }) r) where
   pub node_judged : NodeJudged s names rows nodes (file_at s) k slots slots' g r
   node_judged =
@@ -233,9 +233,9 @@ module _ {s rows : List ℕ} {nodes k : ℕ} (rd : NodeReady s rows nodes k) (st
       let here : a ≡ equations_start p n + 1 = ea ∙ row.equations in
       record {
         unseen = w.unseen ∙ ap (λ x. found_in g.unseen (concat (map (equation_uses (variable_names n ++ visible)) (placed equation_size x n.equations)))) here;
-        again = w.again ∙ ap (λ x. found_in g.again (again_b n₁ i (replicate 256 0) (concat (map defined_by (placed equation_size x n.equations))))) here
-            ∙ ap (λ l. found_in g.again (again_b l i (replicate 256 0) (concat (map defined_by (placed equation_size (equations_start p n + 1) n.equations))))) en
-            ∙ ap (λ x. found_in g.again (again_b (node_table names n) x (replicate 256 0) (concat (map defined_by (placed equation_size (equations_start p n + 1) n.equations))))) (ei ∙ row.inputs);
+        again = w.again ∙ ap (λ x. found_in g.again (again_b n₁ i (replicate 256 false) (concat (map defined_by (placed equation_size x n.equations))))) here
+            ∙ ap (λ l. found_in g.again (again_b l i (replicate 256 false) (concat (map defined_by (placed equation_size (equations_start p n + 1) n.equations))))) en
+            ∙ ap (λ x. found_in g.again (again_b (node_table names n) x (replicate 256 false) (concat (map defined_by (placed equation_size (equations_start p n + 1) n.equations))))) (ei ∙ row.inputs);
         called = w.called ∙ ap (λ x. found_in g.called (concat (map (in_equation (calls_where (bad_call f k n))) (placed equation_size x n.equations)))) here;
         shaped = w.shaped ∙ ap (λ x. found_in g.shaped (concat (map (equation_shape f) (placed equation_size x n.equations)))) here;
         slotted = w.slotted ∙ ap (λ x. slot_equations s n₁ slots (placed equation_size x n.equations)) here ∙ ap (λ l. slot_equations s l slots (placed equation_size (equations_start p n + 1) n.equations)) en;

@@ -1,5 +1,5 @@
 -- Faults 7 to 10 at the names and the heads of expressions, as the bytes and the tables tell them.
-use Rattle.std.specs.Prelude.{ℕ, ◌+◌, ◌-◌, ◌*◌, ◌<◌, ◌≤◌, min, Bool, not, ◌&&◌, ◌||◌, cond, List, [], ◌∷◌, ◌++◌, map, ◌≡◌, length, get_or, set, take, ltb, leb, eqb}
+use Rattle.std.specs.Prelude.{ℕ, ◌+◌, ◌-◌, ◌*◌, ◌<◌, ◌≤◌, min, Bool, true, false, not, ◌&&◌, ◌||◌, cond, List, [], ◌∷◌, ◌++◌, map, ◌≡◌, length, get_or, set, take, ltb, leb, eqb}
 use Rattle.std.proofs.Math.Option.{Option}
 use Rattle.ol_spec.specs.Lists.{or_else, member, concat, sum}
 use Rattle.ol_spec.specs.Syntax.{Expr, Exprs, nil, cons, Equation, File, variable_names}
@@ -168,22 +168,22 @@ unfoldable pub slot_names : List ℕ → List ℕ → List (ℕ × ℕ) → List
 slot_names names slots [] = slots
 slot_names names slots (p ∷ ps) = slot_names names (set slots p.0 (slot_of_entry (get_or names p.1 0))) ps
 
--- a name with the entry e may not be defined, in a node of so many inputs: it is an input, a constant, a variant, or defined before. `defined` is by entry, 0 for not yet
-abbrev pub taken_b : List ℕ → ℕ → ℕ → Bool
-taken_b defined inputs e = leb e inputs || (ltb 112 e || not (eqb (get_or defined e 0) 0))
+-- a name with the entry e may not be defined, in a node of so many inputs: it is an input, a constant, a variant, or defined before. `defined` is by entry
+abbrev pub taken_b : List Bool → ℕ → ℕ → Bool
+taken_b defined inputs e = leb e inputs || (ltb 112 e || get_or defined e false)
 
 -- the table by entry after these names are defined
-unfoldable pub mark_all : List ℕ → List ℕ → List (ℕ × ℕ) → List ℕ
+unfoldable pub mark_all : List ℕ → List Bool → List (ℕ × ℕ) → List Bool
 mark_all names defined [] = defined
-mark_all names defined (p ∷ ps) = mark_all names (set defined (get_or names p.1 0) 1) ps
+mark_all names defined (p ∷ ps) = mark_all names (set defined (get_or names p.1 0) true) ps
 
 -- names that are defined one after the other, and whether each may not be
-unfoldable pub again_b : List ℕ → ℕ → List ℕ → List (ℕ × ℕ) → List Item
+unfoldable pub again_b : List ℕ → ℕ → List Bool → List (ℕ × ℕ) → List Item
 again_b names inputs defined [] = []
-again_b names inputs defined (p ∷ ps) = (p.0, taken_b defined inputs (get_or names p.1 0)) ∷ again_b names inputs (set defined (get_or names p.1 0) 1) ps
+again_b names inputs defined (p ∷ ps) = (p.0, taken_b defined inputs (get_or names p.1 0)) ∷ again_b names inputs (set defined (get_or names p.1 0) true) ps
 
 -- so many names, from where the walk stood, are defined
-pub record NamesDefined (s names : List ℕ) (inputs many : ℕ) (slots slots' defined defined' : List ℕ) (f r : Findings) : Type 0 where
+pub record NamesDefined (s names : List ℕ) (inputs many : ℕ) (slots slots' : List ℕ) (defined defined' : List Bool) (f r : Findings) : Type 0 where
   pub next : r.next ≡ f.next + 2 * many
   pub unseen : r.unseen ≡ found_in f.unseen (map (entry_item names) (names_from s many f.next))
   pub again : r.again ≡ found_in f.again (again_b names inputs defined (names_from s many f.next))
@@ -218,7 +218,7 @@ pub record RootJudged (s names rows : List ℕ) (nodes k at many : ℕ) (slots s
   pub sized : Adds f.size (map (site_b s rows nodes) (heads_from s 1 f.next)) r.size
 
 -- the equation where the walk stood: its names are defined, then its right side is judged
-pub record EquationWalked (s names rows : List ℕ) (nodes k inputs : ℕ) (slots slots' defined defined' : List ℕ) (g r : Findings) : Type 0 where
+pub record EquationWalked (s names rows : List ℕ) (nodes k inputs : ℕ) (slots slots' : List ℕ) (defined defined' : List Bool) (g r : Findings) : Type 0 where
   pub middle : Findings
   pub between : List ℕ
   pub named : NamesDefined s names inputs (get_or s g.next 0) slots between defined defined' (at_place g (g.next + 1)) middle
@@ -238,7 +238,7 @@ slot_equations s names slots [] = slots
 slot_equations s names slots (p ∷ ps) = slot_equations s names (slot_equation s names slots p) ps
 
 -- so many equations
-pub record EquationsJudged (s names rows : List ℕ) (nodes : ℕ) (f : File) (visible : List ℕ) (bad : ℕ → ℕ → Bool) (inputs at : ℕ) (qs : List Equation) (slots slots' defined defined' : List ℕ) (g r : Findings) : Type 0 where
+pub record EquationsJudged (s names rows : List ℕ) (nodes : ℕ) (f : File) (visible : List ℕ) (bad : ℕ → ℕ → Bool) (inputs at : ℕ) (qs : List Equation) (slots slots' : List ℕ) (defined defined' : List Bool) (g r : Findings) : Type 0 where
   pub unseen : r.unseen ≡ found_in g.unseen (concat (map (equation_uses visible) (placed equation_size at qs)))
   pub again : r.again ≡ found_in g.again (again_b names inputs defined (concat (map defined_by (placed equation_size at qs))))
   pub called : r.called ≡ found_in g.called (concat (map (in_equation (calls_where bad)) (placed equation_size at qs)))

@@ -1,5 +1,5 @@
 -- Faults 7 to 10 of a node's equations, and their slots.
-use Rattle.std.specs.Prelude.{ℕ, ◌+◌, ◌<◌, ◌≤◌, min, List, [], ◌∷◌, map, ◌≡◌, length, get_or, replicate}
+use Rattle.std.specs.Prelude.{ℕ, ◌+◌, ◌<◌, ◌≤◌, min, false, List, [], ◌∷◌, map, ◌≡◌, length, get_or, replicate}
 use Rattle.std.proofs.Math.Option.{none}
 use Rattle.ol_spec.specs.Syntax.{Node, File, variables}
 use Rattle.ol_spec.specs.Places.{placed_nodes, placed_equations, equations_start}
@@ -58,7 +58,7 @@ Covered room n = Each (λ v. v.name < room) (variables n)
 
 -- the names that a node's equations define, and whether each may not be, by the table outside the node
 abbrev pub node_again : List ℕ → ℕ × Node → List Item
-node_again names n = again_b (node_table names n.1) (length n.1.inputs) (replicate 256 0) (concat (map defined_by (placed_equations n.0 n.1)))
+node_again names n = again_b (node_table names n.1) (length n.1.inputs) (replicate 256 false) (concat (map defined_by (placed_equations n.0 n.1)))
 
 pub record NodeJudged (s names rows : List ℕ) (nodes : ℕ) (f : File) (k : ℕ) (slots slots' : List ℕ) (g r : Findings) : Type 0 where
   pub unseen : r.unseen ≡ found_in g.unseen (node_uses (global_names f) (place_in f k, node_of f k))

@@ -22,7 +22,7 @@ use ol_tables::tables::FileRows;
 const CONSTANT: usize = 17;
 
 // The place of the first clash so far, and the highest name so far.
-#[derive(Clone, Copy)]
+#[derive(Clone, Copy, Default)]
 pub struct Sorting {
     pub found: Option<usize>,
     pub highest: usize,
@@ -36,6 +36,7 @@ fn clashes(last: usize, sort: usize) -> bool
 }
 
 // A walk over declarations: the sort that declared each name last, the first clash and the highest name.
+// `file` is lent to each method and is no field: the methods change the walk, and each clause would have to tell that the field stays.
 #[derive(Drop)]
 pub(crate) struct Sorter<'a> {
     sorts: &'a mut [u8],
@@ -56,7 +57,8 @@ impl Sorter<'_> {
         self.marks.highest = self.marks.highest.max(x);
     }
 
-    // So many names from `at` on.
+    // So many names from `at` on. A count, and no iterator as ol_order's `Names`, here and in three walks over names: that one ends where the file's end cuts a name off, and here
+    // the file was read, so the count alone ends the walk.
     fn names(&mut self, file: &[u8], sort: usize, count: usize, at: usize)
         requires { (0 < sort) × (sort < 256) × (count < 256) × (at ≤ 40000) }
         ensures { Walks (declared_as (sort_of sort) (names_from file.now count at)) self.old self.new }
@@ -69,6 +71,7 @@ impl Sorter<'_> {
     // So many variables from `at` on; where they end is answered.
     // `each_variable` does not serve here: it lends a table of bytes to a closure that changes nothing else. One that changes what it captured would
     // have to be shown callable again after each call, by each caller; and what is lent can't be generic, since a slice is never a type argument.
+    // An iterator with where the variables end as a field would serve: a struct, its `next` and a list of places in specs/, for a loop of two lines.
     fn variables(&mut self, file: &[u8], sort: usize, count: usize, at: usize) -> usize
         requires { (0 < sort) × (sort < 256) × (count < 256) × (at ≤ 40000) }
         ensures { VariablesSorted file.now sort count at self.old self.new result }
@@ -142,10 +145,7 @@ pub fn sort_file(file: &[u8], rows: &FileRows, sections: Sections, sorts: &mut [
     let n = sections.nodes;
     let mut sorter = Sorter {
         sorts,
-        marks: Sorting {
-            found: None,
-            highest: 0,
-        },
+        marks: Sorting::default(),
     };
     sorter.enums(file, byte(file, 1), 2);
     sorter.constants(file, byte(file, c), c + 1);

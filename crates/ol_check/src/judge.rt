@@ -17,7 +17,8 @@ use ol_tables::kind::NodeKind;
 use ol_tables::tables::{FileRows, VARIANT};
 
 // What the expressions of a node are judged by: the file, the table by name, the rows of its nodes, how many there are, and the node's number.
-// How many nodes there are stands beside the rows here and in the clauses: the rows have 32, and the file says how many of them are nodes.
+// How many nodes there are stands beside the rows here, in the clauses and in each function that has both: the rows have 32, and the file says how many of them are nodes. A count in `FileRows`
+// would be written by the row walk, and each clause would still say that it is the file's. That it is at most 32 stays a clause: it is what a byte of the file says, and a row is read by it.
 #[derive(Clone, Copy)]
 pub(crate) struct Judge<'a> {
     pub file: &'a [u8],
@@ -70,10 +71,11 @@ fn outputs(rows: &FileRows, nodes: usize, c: usize) -> usize
 
 // Whether a name with this entry may not be defined: it is an input, a constant, a variant, or
 // defined before. `defined` is by entry.
-fn taken(defined: &[u8], inputs: usize, e: usize) -> bool
+fn taken(defined: &[bool; 256], inputs: usize, e: usize) -> bool
+    requires { e < 256 }
     ensures { result ≡ taken_b defined.now inputs e }
 {
-    e <= inputs || LAST_VARIABLE < e || byte(defined, e) != 0
+    e <= inputs || LAST_VARIABLE < e || defined[e]
 }
 
 // Several names, and not several values.
@@ -162,7 +164,8 @@ impl<'a> Judge<'a> {
         mark(&mut g.shaped, 1 < self.arity_at(at), at);
     }
 
-    // So many expressions, one after the other from where the walk stands.
+    // So many expressions, one after the other from where the walk stands. `slots` and `g` are lent side by side, here and in all functions that judge: the slots are bytes of the table,
+    // and `g` is what the caller keeps.
     pub(crate) fn walk(&self, slots: &mut [u8], parts: usize, g: &mut Faults)
         requires { g.old.size ≤ 65536 }
         ensures { Walked self.now.file.now self.now.names.now (numbers self.now.rows.now) self.now.nodes self.now.node parts slots.old slots.new (findings g.old) (findings g.new) }
@@ -173,6 +176,7 @@ impl<'a> Judge<'a> {
         let mut left = parts;
         while 0 < left && next < file.len() && left <= file.len() {
             let h = head(file, next);
+            // A chain, and no match on the form: where the arms join, the check no longer knows that `_` is none of the three.
             if Form::Var.is_at(file, next) {
                 self.judge_var(slots, g, next);
             } else if Form::Call.is_at(file, next) || Form::Tuple.is_at(file, next) {
@@ -191,7 +195,7 @@ impl<'a> Judge<'a> {
     fn define(
         &self,
         slots: &mut [u8],
-        defined: &mut [u8],
+        defined: &mut [bool; 256],
         inputs: usize,
         many: usize,
         g: &mut Faults,
@@ -206,7 +210,7 @@ impl<'a> Judge<'a> {
             mark(&mut g.unseen, e == NO_ENTRY, next);
             mark(&mut g.again, taken(defined, inputs, e), next);
             put(slots, next, slot(e));
-            put(defined, e, 1);
+            put(defined, e, true);
         }
         g.next = at + 2 * many;
     }
@@ -233,7 +237,7 @@ impl<'a> Judge<'a> {
     }
 
     // The equation where the walk stands, in a node of so many inputs.
-    fn equation(&self, slots: &mut [u8], defined: &mut [u8], inputs: usize, g: &mut Faults)
+    fn equation(&self, slots: &mut [u8], defined: &mut [bool; 256], inputs: usize, g: &mut Faults)
         requires { (g.old.next < 32768) × (g.old.size ≤ 65536) }
         ensures { EquationWalked self.now.file.now self.now.names.now (numbers self.now.rows.now) self.now.nodes self.now.node inputs slots.old slots.new defined.old defined.new (findings g.old) (findings g.new) }
     {
@@ -250,7 +254,7 @@ impl<'a> Judge<'a> {
         &self,
         slots: &mut [u8],
         plans: &mut [u8],
-        defined: &mut [u8],
+        defined: &mut [bool; 256],
         inputs: usize,
         many: usize,
         plan: usize,

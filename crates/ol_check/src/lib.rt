@@ -2,7 +2,7 @@
 #![tactic(auto)]
 
 pub mod rows; // rows.rt: the rows of the nodes, the first variants and the types
-pub mod clash; // clash.rt: fault 6, and whether all declared names are below 1,024
+pub mod clash; // clash.rt: fault 6, and the highest declared name
 mod judge; // judge.rt: faults 7 to 10, and the slots
 mod names; // names.rt: the table by name
 mod nodes; // nodes.rt: faults 7 to 10 of the nodes

@@ -49,7 +49,7 @@ pub(crate) fn declare_enums(file: &[u8], names: &mut [u8], count: usize, at: usi
     ensures { names.new ≡ declare_all names.old (map variant_entry (variants_from file.now count at)) }
 {
     let mut next = at;
-    for i in 0..count {
+    for _i in 0..count {
         declare_variants(file, names, byte(file, next), next + 1);
         next = names_end(file, next);
     }

@@ -20,7 +20,8 @@ use ol_tables::bytes::{byte, name};
 use ol_tables::tables::FileRows;
 
 // The variables of node `k`: at each one `visit` changes the table, given its number and where it stands.
-// A struct of the file, the rows and `k` cannot state `NodeReady` in a ghost field, since that holds where the reading ended and is no proposition.
+// `NodeReady` is asked here and by four functions: it holds where the reading ended, so it is no proposition as it stands. A ghost field of a struct of the file, the rows and `k`
+// would take it in `∥ .. ∥₁`, and each proof would open it before it reads a part.
 fn node_variables<F: Fn(&mut [u8], usize, usize)>(
     file: &[u8],
     table: &mut [u8],
@@ -78,8 +79,7 @@ fn node(
     ensures { (names.new ≡ names.old) × (numbers rows.new ≡ set (numbers rows.old) (k * 8 + 6) (record_by (row_at (numbers rows.old) k 0) g.new.size)) × NodeJudged file.now names.old (numbers rows.old) nodes (file_at file.now) k slots.old slots.new (findings g.old) (findings g.new) × NodePlanned (numbers rows.old) nodes (file_at file.now) k plans.old plans.new }
 {
     declare_node(file, names, rows, k);
-    // A byte for each entry, and no bool: it is a table by entry as those of the names and the sorts are, and its clauses are theirs.
-    let mut defined = [0u8; 256];
+    let mut defined = [false; 256];
     let row = *rows.node(k);
     g.size = 1 + 9 * row.variables;
     g.next = row.equations;

@@ -52,6 +52,7 @@ pub(crate) fn each_variable<F: Fn(&mut [u8], usize, usize)>(
 }
 
 // So many enums from `at` on: the first variant of each is stored, and where they end is answered.
+// A count, and no iterator over enums, here and in two walks: this one tells where they end, the others want each one's count, and each step is one sum.
 fn enum_rows(file: &[u8], rows: &mut FileRows, count: usize, at: usize) -> usize
     requires { (count ≤ 16) × (at ≤ 20000) }
     ensures { EnumsStored file.now (numbers rows.old) (numbers rows.new) count at result }
@@ -92,6 +93,7 @@ fn variable_types(file: &[u8], types: &mut [u8], first: usize, count: usize, at:
 
 // The row of node `k`, which stands at `at`, its place, and the types of its variables, which stand at
 // its place among the plans. In `tab` the nodes' places come first; the plans start at `plans`.
+// `tab` is one slice with a number, here and in two functions: the clauses tell of one list that the bytes between places and types stay.
 fn node_row(file: &[u8], rows: &mut FileRows, tab: &mut [u8], plans: usize, k: usize, at: usize)
     requires { (k < 32) × (at ≤ 32768) × (plans < 9240000000000000000) }
     ensures { NodeStored file.now (numbers rows.old) (numbers rows.new) tab.old tab.new plans k at }

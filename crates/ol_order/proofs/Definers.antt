@@ -26,7 +26,7 @@ use Rattle.ol_spec.proofs.Ordering.{later_cases, definer_inside}
 use Rattle.ol_spec.proofs.Offsets.{steps, same_item}
 use Rattle.ol_order.specs.Tables.{Table, key_of, keyed, put, put_all, names_at, on_count, put_starts, on_defined, defined_at, as_option, no_equation, equation_at, equations_at}
 use Rattle.ol_order.specs.Post.{Readable, Blank, Definers}
-use Rattle.ol_order.proofs.Turns.{equation_here, each_read}
+use Rattle.ol_order.proofs.Turns.{as_many, equation_here, each_read}
 use Rattle.ol_order.proofs.Scanning.{found_some, found_none}
 use Rattle.ol_tables.specs.Heads.{name_at}
 use Rattle.ol_ir.specs.Nexts.{Next, Counting, counted_at, next_of, counted_of}
@@ -212,7 +212,7 @@ definer_last i (r ∷ qs) q x = ap (λ o. later o (member x r.names) i) (definer
 
 -- o is the last of the first `left` equations that defines the name
 module _ (qs : List Equation) (x left : ℕ) (o : Option ℕ) (e : o ≡ definer (take left qs) x) where
-  pub search_end : left ≤ 0 → Std.None ≡ as_option o
+  search_end : left ≤ 0 → Std.None ≡ as_option o
   unfolding definer_from
   search_end h = let z : left ≡ 0 = omega arith in sym (ap as_option (e ∙ ap (λ k. definer (take k qs) x) z))
 
@@ -225,11 +225,28 @@ module _ (qs : List Equation) (x left : ℕ) (o : Option ℕ) (e : o ≡ definer
         ∙ (ap (λ v. definer v x) (take-suc qs k no_equation h)
         ∙ (definer_last 0 (take k qs) (get_or qs k no_equation) x ∙ ap (λ j. cond (member x (get_or qs k no_equation).names) (some j) (definer (take k qs) x)) y)))
 
-    pub search_here : member x (get_or qs k no_equation).names ≡ true → Std.Some k ≡ as_option o
+    search_here : member x (get_or qs k no_equation).names ≡ true → Std.Some k ≡ as_option o
     search_here g = sym (ap as_option (last_here ∙ ap (λ b. cond b (some k) (definer (take k qs) x)) g))
 
-    pub search_on : member x (get_or qs k no_equation).names ≡ false → o ≡ definer (take k qs) x
+    search_on : member x (get_or qs k no_equation).names ≡ false → o ≡ definer (take k qs) x
     search_on g = last_here ∙ ap (λ b. cond b (some k) (definer (take k qs) x)) g
+
+-- the search, over the places at which the first n equations start
+module _ (s : List ℕ) (l : Limits) (enums : ℕ) (starts : List ℕ) (rd : Readable s l enums starts) (x n : ℕ) (h : n ≤ length starts) where
+  last_back : (d m : ℕ) → m + d ≡ n → ((k : ℕ) → m ≤ k → k < n → defined_at s l.names (get_or starts k 0) x ≡ false) → definer (take n (equations_at s l enums starts)) x ≡ definer (take m (equations_at s l enums starts)) x
+  last_back zero m e f = let z : n ≡ m = omega arith in ap (λ k. definer (take k (equations_at s l enums starts)) x) z
+  last_back (suc d) m e f =
+      last_back d (m + 1) (omega arith) (λ k a b. f k (omega arith) b)
+      ∙ search_on (equations_at s l enums starts) x (m + 1) _ refl m refl (omega (arith, as_many s l enums starts)) (sym (defined_here s l enums starts rd m x (omega arith)) ∙ f m (omega arith) (omega arith))
+
+  pub search_told : (r : Std.Option ℕ) → (r ≡ Std.None → (k : ℕ) → k < n → defined_at s l.names (get_or starts k 0) x ≡ false)
+      → ((i : ℕ) → r ≡ Std.Some i → (i < n) × (defined_at s l.names (get_or starts i 0) x ≡ true) × ((k : ℕ) → i < k → k < n → defined_at s l.names (get_or starts k 0) x ≡ false))
+      → r ≡ as_option (definer (take n (equations_at s l enums starts)) x)
+  search_told Std.None a b = search_end (equations_at s l enums starts) x 0 _ (last_back n 0 (omega arith) (λ k _. a refl k)) (omega arith)
+  search_told (Std.Some i) a b =
+      let t = b i refl in
+      search_here (equations_at s l enums starts) x (i + 1) _ (last_back (n - (i + 1)) (i + 1) (omega (arith, t.0)) (λ k g. t.2 k (omega arith))) i refl (omega (arith, t.0, as_many s l enums starts))
+      (sym (defined_here s l enums starts rd i x (omega (arith, t.0))) ∙ t.1)
 
 -- ---- names with the same entry
 

@@ -7,8 +7,8 @@ ghost use Rattle.ol_order.specs.Counts.{equations_of};
 use ol_ir::node::equation_starts;
 use ol_ir::project::{base, load_file};
 
-// How many equations a node of a file has; 0 where the file does not read or has no such node. It asks
-// nothing else of the file, as the ordering does.
+// How many equations a node of a file has; 0 where the file does not read or has no such node, and no
+// error: it is public, and could not fail. It asks nothing else of the file, as the ordering does.
 pub fn equation_count(file: &[u8], node: usize) -> usize
     ensures { result ≡ equations_of (read_file file.now relay_loader) node }
 {

@@ -43,11 +43,8 @@ impl<'f, 's> Equations<'f, 's> {
         requires { n ≤ length self.starts.now }
         ensures { result ≡ as_option (definer (take n (those self.entry)) x) }
     {
-        for k in (0..n).rev() {
-            if defines(self.file, self.limits.names, self.starts[k], x) {
-                return Some(k);
-            }
-        }
-        None
+        self.starts[..n]
+            .iter()
+            .rposition(|at| defines(self.file, self.limits.names, *at, x))
     }
 }

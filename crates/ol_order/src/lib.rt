@@ -81,6 +81,7 @@ fn pass(
     ensures placed { (qs : List Equation) → Waits qs lists.now begins.now → State qs (take done order.old) placed.old order.old done → State qs (pass qs 0 qs (take done order.old)) placed.new order.new result }
     ensures behind { drop result order.new ≡ drop result order.old }
 {
+    // Where the next is written: an equation that still waits writes none.
     let mut n = done;
     for k in 0..placed.len() {
         if !placed[k] && all_placed(&lists[begins[k]..begins[k + 1]], placed) {

@@ -42,7 +42,8 @@ impl<'f, 's, 't> Lookup<'f, 's, 't> {
         self.equations.search(d + 1, x)
     }
 
-    // Writes the definers that equation k waits for into the lists, from n on: where they end. No count of an index: each head adds its parts to what is left.
+    // Writes the definers that equation k waits for into the lists, from n on: where they end. `left` is no count of an index: each head adds its
+    // parts to it. `end` is where the next is written: a name without a definer writes none.
     fn record_one(self, k: usize, lists: &mut [u8], n: usize) -> usize
         requires k_in_bounds { k < length self.equations.starts.now }
         requires room { n + length (waited_by self.equations k) ≤ length lists.old }

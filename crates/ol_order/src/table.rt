@@ -1,6 +1,6 @@
 // The orders of all nodes of a file, as bytes: entry k * 80 + j is the index of the equation of node k
 // that runs j-th.
-ghost use Rattle.std.specs.Prelude.{true, ◌≡◌, ℕ, ◌+◌, ◌*◌, ◌≤◌, ◌<◌, length, take, drop};
+ghost use Rattle.std.specs.Prelude.{true, ◌≡◌, ℕ, ◌*◌, ◌≤◌, ◌<◌, length, take, drop};
 ghost use Rattle.std.proofs.lemmas.List.Edits.{sets};
 ghost use Rattle.ol_spec.specs.Syntax.{File};
 ghost use Rattle.ol_spec.specs.Limits.{relay_loader};
@@ -69,7 +69,8 @@ fn starts_of(tab: &[u8], plan: usize, starts: &mut [usize])
 // The nodes of a file that reads without fault, by the places at which they start, with the rows of
 // its table. With `low` every name that an equation defines is below 1,024. It is a fact of the names:
 // no field waits for it, and two variants would have the same fields. What holds of the nodes is asked
-// by each method: it has the file as it is read, and a ghost field takes a proposition only.
+// by each method: it tells of the table too, which each method is lent, and it names the file as it is
+// read, so it is no proposition. In `∥ .. ∥₁` it would be one, and each proof would open it to name the file.
 #[derive(Clone, Copy)]
 struct Nodes<'f, 'p, 'r> {
     file: &'f [u8],
@@ -81,7 +82,8 @@ struct Nodes<'f, 'p, 'r> {
 
 impl<'f, 'p, 'r> Nodes<'f, 'p, 'r> {
     // The order of the equations of node k, with room for all definers that they wait for. Its plan
-    // says where they start; their order is written into the node's part of the table.
+    // says where they start; their order is written into the node's part of the table. That there is room
+    // stays a clause here and in two functions: the number is known at the run only, and the room is lent.
     fn order_node(self, k: usize, lists: &mut [u8], tab: &mut [u8]) -> Result<(), usize>
         requires k_in_bounds { k < length self.places.now }
         requires asked { OrdersAsked self tab.old }

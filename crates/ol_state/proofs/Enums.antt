@@ -4,10 +4,11 @@ use mathlib.Core.Bool.{Bool, true, false, not, ◌&&◌, ◌||◌, cond}
 use mathlib.Core.List.{List, [], ◌∷◌, ◌++◌, map}
 use mathlib.Core.Path.{◌≡◌, refl, sym, ap, subst, ◌∙◌}
 use native.Mathlib.Omega.{arith}
+use Rattle.std.specs.List.{list_any, range_with_len}
 use lib.Dec.{T, eqb, ltb→lt}
 use lib.ListN.{length, drop, get_or, drop_of_length-le}
 use lib.Seq.{drop-cons, drop-drop}
-use borrow.Author.Tests.{eq-eqb, ne_eqb, eqb-true, eqb-false}
+use borrow.Author.Tests.{eqb-true, eqb-false}
 use Rattle.ol_spec.specs.Lists.{concat, all_of, member, same}
 use Rattle.ol_spec.specs.Syntax.{File}
 use Rattle.ol_spec.specs.Places.{enum_size, placed}
@@ -62,53 +63,30 @@ walk_end {f} {s} {i} {pos} e w q small =
 
 -- ---- its names
 
--- v is none of the first j names
-pub record Looking (s : List ℕ) (v at : ℕ) (vs : List ℕ) (j : ℕ) : Type 0 where
+-- the names from number j on stand behind the first j
+pub record Looking (s : List ℕ) (at : ℕ) (vs : List ℕ) (j : ℕ) : Type 0 where
   here : Here s (at + 1 + 2 * j) (concat (map name_bytes (drop j vs)))
   fits : T (all_of name_fits (drop j vs))
-  same : member v vs ≡ member v (drop j vs)
 
 module _ {s : List ℕ} {at : ℕ} (v : ℕ) (vs : List ℕ) where
-  pub look_start : Here s at (section_bytes name_bytes vs) → T (all_of name_fits vs) → Looking s v at vs 0
-  look_start h t = record { here = moved (omega arith) (here_back (length vs ∷ []) _ h); fits = t; same = refl }
+  pub look_start : Here s at (section_bytes name_bytes vs) → T (all_of name_fits vs) → Looking s at vs 0
+  look_start h t = record { here = moved (omega arith) (here_back (length vs ∷ []) _ h); fits = t }
 
   pub look_length : Here s at (section_bytes name_bytes vs) → get_or s at 0 ≡ length vs
   look_length h = here_first (length vs) _ h
 
-  module _ {j : ℕ} (l : Looking s v at vs j) where
-    -- the next name
-    record Next : Type 0 where
-      x : ℕ
-      is : name_at s (at + 1 + 2 * j) ≡ x
-      found : member v vs ≡ eqb v x || member v (drop (j + 1) vs)
-      here : Here s (at + 1 + 2 * (j + 1)) (concat (map name_bytes (drop (j + 1) vs)))
-      fits : T (all_of name_fits (drop (j + 1) vs))
-
-    next : j < length vs → Next
-    next h =
-        let x = get_or vs j 0 in
-        let n : suc j ≡ j + 1 = omega arith in
-        let e : drop j vs ≡ x ∷ drop (j + 1) vs = drop-cons vs j 0 h ∙ ap (λ m. x ∷ drop m vs) n in
-        let b = subst (λ ys. Here s (at + 1 + 2 * j) (concat (map name_bytes ys))) e l.here in
-        let t = T_and (name_fits x) _ (subst (λ ys. T (all_of name_fits ys)) e l.fits) in
-        record {
-          x = x;
-          is = here_name x t.0 (here_front (name_bytes x) _ b);
-          found = l.same ∙ ap (member v) e;
-          here = moved (omega arith) (here_back (name_bytes x) _ b);
-          fits = t.1;
-        }
-
-    pub look_found : {y : ℕ} → j < length vs → y ≡ name_at s (at + 1 + 2 * j) → y ≡ v → true ≡ member v vs
-    look_found h e q = let n = next h in sym (n.found ∙ ap (λ b. b || member v (drop (j + 1) vs)) (eq-eqb v n.x (sym q ∙ e ∙ n.is)))
-
-    pub look_on : {y : ℕ} → j < length vs → y ≡ name_at s (at + 1 + 2 * j) → (y ≡ v → ⊥) → Looking s v at vs (j + 1)
-    look_on h e q =
-        let n = next h in
-        record { here = n.here; fits = n.fits; same = n.found ∙ ap (λ b. b || member v (drop (j + 1) vs)) (ne_eqb v n.x (λ z. q (e ∙ n.is ∙ sym z))) }
-
-    pub look_end : length vs ≤ j → false ≡ member v vs
-    look_end h = sym (l.same ∙ ap (member v) (drop_of_length-le vs {i = j} h))
+  -- whether one of the names from number j on, of which there are m, is v
+  pub looked : (m j : ℕ) → j + m ≡ length vs → Looking s at vs j → list_any (λ i. eqb v (name_at s (at + 1 + 2 * i))) (range_with_len j m) ≡ member v (drop j vs)
+  looked zero j e l = sym (ap (member v) (drop_of_length-le vs {i = j} (omega arith)))
+  looked (suc m) j e l =
+      let x = get_or vs j 0 in
+      let n : suc j ≡ j + 1 = omega arith in
+      let h : drop j vs ≡ x ∷ drop (j + 1) vs = drop-cons vs j 0 (omega arith) ∙ ap (λ m. x ∷ drop m vs) n in
+      let b = subst (λ ys. Here s (at + 1 + 2 * j) (concat (map name_bytes ys))) h l.here in
+      let t = T_and (name_fits x) _ (subst (λ ys. T (all_of name_fits ys)) h l.fits) in
+      let rest = looked m (j + 1) (omega arith) record { here = moved (omega arith) (here_back (name_bytes x) _ b); fits = t.1 } in
+      ap (λ y. eqb v y || list_any (λ i. eqb v (name_at s (at + 1 + 2 * i))) (range_with_len (j + 1) m)) (here_name x t.0 (here_front (name_bytes x) _ b))
+      ∙ ap (λ c. eqb v x || c) rest ∙ sym (ap (member v) h)
 
 -- ---- a cell by its type
 

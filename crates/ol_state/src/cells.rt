@@ -9,7 +9,8 @@ use ol_tables::tables::VARIANT;
 use ol_value::cell::{good_cell, read_cell};
 
 // Whether an Enum's name is a variant's; another value has none. There is no heap, and the table by name
-// is on the caller's stack: it has a byte for each name, of a variant 255.
+// is on the caller's stack: it has a byte for each name, of a variant 255. Which names it tells is a variable of
+// the clause, here and in three functions: the bytes do not tell their order.
 fn is_variant(variants: &[u8], v: Value) -> bool
     ensures { (names : List ℕ) → Tells variants.now names → result ≡ is_variant names v }
 {

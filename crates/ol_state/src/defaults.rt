@@ -17,7 +17,8 @@ fn put_default(code: usize, first: usize, out: &mut [u8])
     write_cell(v, out, 0);
 }
 
-// The default cells of node k's variables.
+// The default cells of node k's variables. `k ≤ 65535` is a clause, here and in three functions: a node's number is
+// multiplied to find its row, and a narrower type would make each caller convert what it read.
 pub fn write_defaults(tab: &[u8], k: usize, out: &mut [u8])
     requires { (k ≤ 65535) × (9 * width_at tab.now k ≤ length out.old) }
     ensures { out.new ≡ defaults_at tab.now k ++ drop (9 * width_at tab.now k) out.old }

@@ -23,7 +23,8 @@ pub(crate) fn main_node(file: &[u8], tab: &[u8]) -> usize
 }
 
 // Writes the fresh record of a call site of node k, which is all of `out`: byte 0 and default cells,
-// then the fresh records of its own call sites. Only an Operator's call site has one.
+// then the fresh records of its own call sites. Only an Operator's call site has one. `file`, `tab` and `k` are
+// no struct, here, in `call_sites` and in `good_record`: `k` is another at each call site, where it would be made anew.
 pub fn write_fresh(file: &[u8], tab: &[u8], k: usize, out: &mut [u8])
     requires { Sited (file_at file.now) file.now (tab_of tab.now) (rows_of tab.now) k out.old }
     ensures { (vs : List Value) → out.new ≡ fresh_at (globals_of (file_at file.now) vs) (length (file_at file.now).nodes) k }

@@ -30,12 +30,7 @@ fn has_variant(file: &[u8], at: usize, v: usize) -> bool
     ensures { (vs : List ℕ) → Here file.now at (section_bytes name_bytes vs) → T (all_of name_fits vs) → result ≡ member v vs }
 {
     let n = byte(file, at);
-    for j in 0..n {
-        if name(file, at + 1 + 2 * j) == v {
-            return true;
-        }
-    }
-    false
+    (0..n).any(|j| v == name(file, at + 1 + 2 * j))
 }
 
 // Whether the cell at an offset is good and of the type with this code and enum's number.

@@ -22,7 +22,8 @@ fn are_defaults(tab: &[u8], k: usize, cells: &[u8]) -> bool
     cells[..end] == defaults[..end]
 }
 
-// Whether a record's own bytes are good: its started byte, its cells, and these defaults where it is not started.
+// Whether a record's own bytes are good: its started byte, its cells, and the defaults of node k where it is not started. `tab`, `variants`
+// and `k` are no struct, here and in `good_record`: `k` is another at each call site, where it would be made anew.
 pub(crate) fn good_own(tab: &[u8], variants: &[u8], k: usize, r: &[u8]) -> bool
     requires { (k ≤ 65535) × (width_at tab.now k ≤ 112) × (1 + 9 * width_at tab.now k ≤ length r.now) }
     ensures { (names : List ℕ) → Tells variants.now names → result ≡ good_bytes names (defaults_at tab.now k) (width_at tab.now k) r.now }

@@ -1,34 +1,19 @@
+use Prim.Native.Nat.{◌+◌, ◌*◌}
+use mathlib.Core.Path.{refl, ◌∙◌}
 use native.Mathlib.Omega.{arith}
-use Rattle.ol_state.proofs.Enums.{look_start, look_length, look_found, look_on, look_end}
+use lib.Dec.{eqb}
+use borrow.Author.Tests.{tests}
+use Rattle.std.proofs.Common.{rules}
+use Rattle.std.proofs.lemmas.Iterator.{YieldsList-from_range}
+use Rattle.std.proofs.lemmas.Iterator.Search.{any_from_yields_List}
+use Rattle.ol_tables.specs.Heads.{name_at}
+use Rattle.ol_state.proofs.Enums.{look_start, look_length, looked}
 use Rattle.ol_state.proofs.inputs.has_variant.Goals as goal
-
-pub loop-j-init : goal.loop-j-init
-loop-j-init c =
-    λ vs h t. look_start c.args.v vs h t
-
-pub overflow_add-at : goal.overflow_add-at
-overflow_add-at c =
-    let small = c.byte-n.ensures.small in
-    omega (arith, small, c.loop-j-test.true, c.requires)
-
-pub overflow_mul-j : goal.overflow_mul-j
-overflow_mul-j c =
-    let small = c.byte-n.ensures.small in
-    omega (arith, small, c.loop-j-test.true, c.requires)
-
-pub overflow_add-at-in-loop-j : goal.overflow_add-at-in-loop-j
-overflow_add-at-in-loop-j c =
-    let small = c.byte-n.ensures.small in
-    omega (arith, small, c.loop-j-test.true, c.requires)
-
-pub returns-then-name-v : goal.returns-then-name-v
-returns-then-name-v c =
-    λ vs h t. look_found c.args.v vs (c.loop-j.invariant vs h t) (omega (arith, c.loop-j-test.true, c.byte-n.ensures.is, look_length c.args.v vs h)) c.name.ensures c.if-name-v.true
-
-pub loop-j-preserved : goal.loop-j-preserved
-loop-j-preserved c =
-    λ vs h t. look_on c.args.v vs (c.loop-j.invariant vs h t) (omega (arith, c.loop-j-test.true, c.byte-n.ensures.is, look_length c.args.v vs h)) c.name.ensures c.if-name-v.false
 
 pub returns : goal.returns
 returns c =
-    λ vs h t. look_end c.args.v vs (c.loop-j.invariant vs h t) (omega (arith, c.loop-j-test.false, c.byte-n.ensures.is, look_length c.args.v vs h))
+    let n = c.byte-n.result in
+    let s = c.args.file.now in
+    λ vs h t.
+    any_from_yields_List (λ j. eqb c.args.v (name_at s (c.args.at + 1 + 2 * j))) c.any.new.self _ _ c.any.ensures.ran (YieldsList-from_range 0 n n refl (omega arith)) (λ y b q k. search (rules, tests))
+    ∙ looked c.args.v vs n 0 (omega (arith, c.byte-n.ensures.is, look_length c.args.v vs h)) (look_start c.args.v vs h t)

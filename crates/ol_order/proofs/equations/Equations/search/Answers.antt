@@ -1,25 +1,23 @@
-use Prim.Native.Nat.{◌-◌, ◌<◌}
-use mathlib.Core.Path.{sym, ◌∙◌}
+use mathlib.Core.Path.{◌≡◌}
 use native.Mathlib.Omega.{arith}
-use lib.ListN.{length}
-use Rattle.ol_order.specs.Equations.{those}
-use Rattle.ol_order.proofs.Turns.{as_many}
-use Rattle.ol_order.proofs.Definers.{defined_here, search_end, search_here, search_on}
+use Rattle.std.specs.Prelude.{ℕ, ◌-◌, Some, get_or, take, option_map}
+use Rattle.std.specs.Borrow.{Bor}
+use Rattle.std.proofs.lemmas.Grind.{common_steps}
+use Rattle.ol_order.proofs.Definers.{search_told}
 use Rattle.ol_order.proofs.equations.Equations.search.Goals as goal
 
-pub returns-then-defines : goal.returns-then-defines
-returns-then-defines c =
-    let e = c.args.self in
-    let h : c.loop-k.k - 1 < length e.starts.now = omega (arith, c.requires) in
-    search_here (those e) c.args.x c.loop-k.k _ c.loop-k.invariant (c.loop-k.k - 1) (omega arith) (omega (arith, as_many e.file.now e.limits e.enums e.starts.now))
-    (sym (defined_here e.file.now e.limits e.enums e.starts.now e.readable (c.loop-k.k - 1) c.args.x h) ∙ (sym c.defines.ensures ∙ c.if-defines.true))
-
-pub loop-k-preserved : goal.loop-k-preserved
-loop-k-preserved c =
-    let e = c.args.self in
-    let h : c.loop-k.k - 1 < length e.starts.now = omega (arith, c.requires) in
-    search_on (those e) c.args.x c.loop-k.k _ c.loop-k.invariant (c.loop-k.k - 1) (omega arith) (omega (arith, as_many e.file.now e.limits e.enums e.starts.now))
-    (sym (defined_here e.file.now e.limits e.enums e.starts.now e.readable (c.loop-k.k - 1) c.args.x h) ∙ (sym c.defines.ensures ∙ c.if-defines.false))
-
 pub returns : goal.returns
-returns c = search_end (those c.args.self) c.args.x c.loop-k.k _ c.loop-k.invariant c.loop-k-test.false
+returns c =
+    let e = c.args.self in
+    search_told e.file.now e.limits e.enums e.starts.now e.readable c.args.x c.args.n c.requires c.rposition.result
+    (λ n k h. grind (arith, common_steps, n, h))
+    (λ i g. (
+      grind (arith, common_steps, g),
+      grind (arith, common_steps, g),
+      λ k a b.
+          let u = c.rposition.ensures.runs.0 in
+          let from : u.from.rest.now ≡ take c.args.n e.starts.now = grind (arith, common_steps) in
+          let back = c.iter.ensures.runs_back u u.seen in
+          let here : option_map (λ (y : Bor ℕ). y.now) (u.at (c.args.n - 1 - k)) ≡ Some (get_or e.starts.now k 0) = grind (arith, common_steps, g, a, b, from) in
+          grind (arith, common_steps, g, a, b, here),
+    ))
