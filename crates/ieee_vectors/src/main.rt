@@ -61,6 +61,8 @@ fn answer(text: &[u8], at: usize) -> u64
 
 // ---- a block of rows
 
+// That a text has so many rows stands in four clauses: how many it has is known at the run only, so no type can say it.
+
 // What the rows of a text give.
 fn find(text: &[u8], found: &mut [u64])
     requires { 54 * length found.old ≤ length text.now }
@@ -89,22 +91,18 @@ struct Counts {
 }
 
 // Writes a row with the result found here.
-fn tell_row(streams: Streams, text: &[u8], at: usize, r: u64)
-    requires { at + 54 ≤ length text.now }
-{
-    streams.write_all(&text[at..at + ROW]);
+fn tell_row(streams: Streams, row: &[u8], r: u64) {
+    streams.write_all(row);
     streams.write_hex(r);
     streams.write_all(b"\n");
 }
 
-// Writes each row from row `from` on whose result is not the one found here. Each is written by its place in
-// the text, so the loop goes over places.
-fn tell_others(streams: Streams, text: &[u8], from: usize, found: &[u64], wanted: &[u64])
-    requires { (54 * length found.now ≤ length text.now) × (length wanted.now ≡ length found.now) }
-{
-    for k in from..found.len() {
-        if found[k] != wanted[k] {
-            tell_row(streams, text, k * ROW, found[k]);
+// Writes each row from row `from` on whose result is not the one found here.
+fn tell_others(streams: Streams, text: &[u8], from: usize, found: &[u64], wanted: &[u64]) {
+    let results = found.iter().zip(wanted);
+    for (row, (f, w)) in text.chunks_exact(ROW).zip(results).skip(from) {
+        if f != w {
+            tell_row(streams, row, *f);
         }
     }
 }

@@ -2,7 +2,7 @@
 ghost use Rattle.std.specs.Prelude.{◌≡◌, ◌%◌};
 ghost use Rattle.ieee_vectors.specs.Operations.{result_of};
 
-// The last 32 bits. A cast must lose no bits, and no conversion of std drops some.
+// The last 32 bits. A cast must lose no bits: `a.to_le_bytes()` with four of its bytes taken is no plainer than `%` and `as`.
 fn low(a: u64) -> u32
     ensures { result ≡ a % 0x1_0000_0000 }
 {

@@ -10,12 +10,13 @@ ghost use Rattle.ol_sim_c.specs.Told.{fault_of, Tells, Measures, Admits, Orders,
 
 use ol_spec::{Cycled, Fault};
 
+// What C is told where there is none: in ol_spec's types that is `Ok`, and only what goes out as a number has a 0 for it.
 const NO_FAULT: Fault = Fault {
     number: 0,
     place: 0,
 };
 
-// The fault that is answered, or none.
+// The fault that is answered, or none. It stands here and not in ol_spec: its number 0 is of the interface for C.
 fn fault_of<T: Copy>(r: Result<T, Fault>) -> Fault
     ensures { result ≡ fault_of r }
 {

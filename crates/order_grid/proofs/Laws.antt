@@ -2,7 +2,8 @@
 use Prim.Native.Nat.{ℕ, zero, suc, ◌+◌, ◌≤◌, ◌<◌}
 use native.Mathlib.Numerals.{add-one}
 use native.Mathlib.Omega.{arith}
-use mathlib.Core.Bool.{Bool, true, false}
+use mathlib.Core.Bool.{Bool, true, false, ◌&&◌}
+use lib.Dec.{eqb}
 use mathlib.Core.List.{List, [], ◌∷◌, ◌++◌, append_assoc}
 use mathlib.Core.Path.{◌≡◌, refl, sym, ap, subst, ◌∙◌}
 use lib.ListN.{length, get_or, take, set, replicate}
@@ -96,14 +97,24 @@ tallied_both s t =
 
 -- ---- a reading
 
-module _ (file : List ℕ) (f m : Fault) (b : Bool) (e : m ≡ sorted_fault (reading_of (read_file file relay_loader))) (g : b ≡ all_agree (row_of m []) (row_of f [])) where
+-- two faults' rows agree where their numbers and their places do
+fault_rows : (m f : Fault) → all_agree (row_of m []) (row_of f []) ≡ (eqb m.number f.number && eqb m.place f.place)
+unfolding all_agree
+fault_rows m f = both (eqb m.number f.number) (eqb m.place f.place)
+  where
+    both : (a b : Bool) → (a && (b && true)) ≡ (a && b)
+    both true true = refl
+    both true false = refl
+    both false b = refl
+
+module _ (file : List ℕ) (f m : Fault) (b : Bool) (e : m ≡ sorted_fault (reading_of (read_file file relay_loader))) (g : b ≡ (eqb m.number f.number && eqb m.place f.place)) where
   pub read_true : (r : Bool) → b ≡ true → r ≡ refusal_agrees file f → r ≡ read_agrees file f
   unfolding read_agrees
-  read_true r t h = rw (← e, ← g, t) h
+  read_true r t h = rw (← e, fault_rows m f, ← g, t) h
 
   pub read_false : b ≡ false → false ≡ read_agrees file f
   unfolding read_agrees
-  read_false t = rw (← e, ← g, t)
+  read_false t = rw (← e, fault_rows m f, ← g, t)
 
 pub row_is : {f g : Fault} {b d : List ℕ} → f ≡ g → b ≡ d → row_of f b ≡ row_of g d
 row_is e h = cc

@@ -74,7 +74,7 @@ fn next_row(streams: Streams, row: &mut [u64])
 
 // ---- a question
 
-// What a reading or an ordering answers, as the list has it: number 0 for no fault.
+// What a reading or an ordering answers, as the list has it: number 0 for no fault, which in ol_spec's types is `Ok`.
 fn answer(r: Result<(), Fault>) -> Fault
     ensures { result ≡ sorted_fault r }
 {
@@ -94,6 +94,7 @@ fn put_row(f: Fault, entries: &[usize], row: &mut [u64])
 {
     row[0] = u64::from(f.number);
     row[1] = f.place as u64;
+    // Over `row[2..].iter_mut().zip(entries)` it did not prove: no invariant of that loop can name what the row holds.
     for (i, entry) in entries.iter().enumerate() {
         row[i + 2] = *entry as u64;
     }
@@ -145,7 +146,14 @@ fn order_agrees(file: &[u8], node: usize, wanted: &[u64]) -> bool
 fn refusal_agrees(file: &[u8], theirs: Fault) -> bool
     ensures { result ≡ refusal_agrees file.now theirs }
 {
-    let wanted = [u64::from(theirs.number), theirs.place as u64, 170, 170, 170];
+    let mark = u64::from(MARK);
+    let wanted = [
+        u64::from(theirs.number),
+        theirs.place as u64,
+        mark,
+        mark,
+        mark,
+    ];
     theirs.number == 0 || order_agrees(file, 0, &wanted)
 }
 
@@ -153,10 +161,7 @@ fn refusal_agrees(file: &[u8], theirs: Fault) -> bool
 fn read_agrees(file: &[u8], theirs: Fault) -> bool
     ensures { result ≡ read_agrees file.now theirs }
 {
-    let mine = answer(read_file(file));
-    let found = [u64::from(mine.number), mine.place as u64];
-    let wanted = [u64::from(theirs.number), theirs.place as u64];
-    rows::agrees(&found, &wanted) && refusal_agrees(file, theirs)
+    answer(read_file(file)) == theirs && refusal_agrees(file, theirs)
 }
 
 // Whether the next question on a file's orders is answered as the list says.
@@ -172,7 +177,8 @@ fn next_agrees(streams: Streams, file: &[u8]) -> bool
 
 // ---- the counts
 
-// How many questions are answered as the list says, and how many there are.
+// How many questions are answered as the list says, and how many there are. Of one file they are few (`all_bound`), so that a
+// section's can be added up without overflow; a section's sum is `Tallied` too, and not so few: the bound is a clause of its own.
 #[derive(Clone, Copy)]
 struct Tally {
     good: u64,
@@ -214,6 +220,7 @@ fn count_file_in(streams: Streams, section: Section, zeros: &mut [u8]) -> Tally
     let given = next_length(streams, zeros);
     streams.fill(&mut zeros[..given], CUT);
     let all = next_length(streams, zeros);
+    // A trait with a method for each section would state both clauses once more, in place of this match.
     match section {
         Section::Reading => count_reading(streams, &zeros[..all]),
         Section::Orders => count_orders(streams, &zeros[..all]),

@@ -1,15 +1,18 @@
--- The bytes of a line, taken one by one.
-use Prim.Native.Nat.{ℕ, zero, suc, ◌+◌, ◌≤◌, ◌<◌}
+-- The bytes of a line, and turns.
+use Prim.Native.Nat.{ℕ, zero, suc, ◌+◌, ◌-◌, ◌≤◌, ◌<◌, min}
 use mathlib.Core.Bool.{Bool, true, false, not, cond, ◌||◌}
-use mathlib.Core.List.{List, [], ◌∷◌, ◌++◌, append-nil, append_assoc}
+use mathlib.Core.List.{List, [], ◌∷◌, ◌++◌}
 use mathlib.Core.Path.{◌≡◌, refl, sym, ap, subst, ◌∙◌}
 use mathlib.Core.Logic.{by_cases}
 use native.Mathlib.Omega.{arith}
 use native.Mathlib.Decide.{dec_le}
-use lib.ListN.{length, take, drop, get_or, set, length-take, length-set, drop_of_length-le}
-use lib.Seq.{take_all, length-take-le, take-append-le, take-suc-set, drop-cons, get_or-take}
-use lib.Dec.{eqb, eqb→eq}
-use Rattle.ol_spec.proofs.Tests.{T_true, T_false, eq_eqb}
+use lib.ListN.{length, take, drop, length-take, drop_of_length-le}
+use lib.Seq.{take_all, length-take-le, take-append-add, take-take, drop-drop}
+use lib.Dec.{eqb, ltb, eqb→eq}
+use borrow.Author.Tests.{lt-ltb, le-ltb}
+use Rattle.std.specs.Prelude.{Option, Some, None, position}
+use Rattle.ol_tables.proofs.Lending.{drop_take}
+use Rattle.ol_spec.proofs.Tests.{T_false}
 use Rattle.relay_text.specs.Lines.{Said}
 use Rattle.relay.specs.Requests.{asks}
 use Rattle.relay.specs.Reply.{Standing, Reply, obey, reply}
@@ -19,129 +22,96 @@ use Rattle.relay.specs.declared.Turn.{Turn}
 use Rattle.relay.specs.declared.session.Session.{Session}
 use Rattle.relay.specs.declared.Input.{Input}
 use Rattle.relay.proofs.Asks.{asks_long}
+use Rattle.relay.proofs.Tellings.{cut_take}
 
 -- no truth value is both
 pub clash : {A : Type 0} (b : Bool) → b ≡ false → b ≡ true → A
 clash b f t = let z : ◌≡◌ {A = ℕ} 0 1 = cc in absurd (omega arith)
 
--- where the loop stands: the line's first n bytes, and what is unread, against those that it began with
-pub record Going (line₀ unread₀ line : List ℕ) (n : ℕ) (unread : List ℕ) : Type 0 where
-  pub long : length line ≡ 262145
-  pub ends : has_end unread₀ ≡ has_end unread
-  pub line_is : cut (line₀ ++ line_of unread₀) ≡ cut (take n line ++ line_of unread)
-  pub rest_is : rest_of unread₀ ≡ rest_of unread
+-- what the line, its end and the rest are, by the index of the line's end
+abbrev ends_at : List ℕ → Option ℕ → Type 0
+ends_at u None = (has_end u ≡ false) × (line_of u ≡ u) × (rest_of u ≡ [])
+ends_at u (Some k) = (k < length u) × (has_end u ≡ true) × (line_of u ≡ take k u) × (rest_of u ≡ drop (k + 1) u)
 
-pub going_start : (line : List ℕ) (n : ℕ) (unread : List ℕ) → length line ≡ 262145 → Going (take n line) unread line n unread
-going_start line n unread h = record { long = h; ends = refl; line_is = refl; rest_is = refl }
+-- one byte more before those
+ends_more : (x : ℕ) (l : List ℕ) (n : ℕ) (b : Bool) → eqb x 10 ≡ b → ends_at l (cond (ltb n (length l)) (Some n) None) → ends_at (x ∷ l) (cond (ltb (cond (not b) (1 + n) 0) (suc (length l))) (Some (cond (not b) (1 + n) 0)) None)
+unfolding line_of rest_of has_end
+ends_more x l n true e h = rw (lt-ltb 0 (suc (length l)) (omega arith), e) (omega arith, refl, refl, refl)
+ends_more x l n false e h =
+    by_cases (dec_le (suc n) (length l))
+    (λ lt.
+    let g : ends_at l (Some n) = rw (lt-ltb n (length l) (omega arith)) at h in
+    let m : 1 + n ≡ suc n = omega arith in
+    let one : suc n + 1 ≡ suc (n + 1) = omega arith in
+    rw (m, lt-ltb (suc n) (suc (length l)) (omega arith), e, one) (omega arith, g.1, ap (λ z. x ∷ z) g.2, g.3))
+    (λ ge.
+    let g : ends_at l None = rw (le-ltb n (length l) (omega arith)) at h in
+    rw (le-ltb (1 + n) (suc (length l)) (omega arith), e) (g.0, ap (λ z. x ∷ z) g.1, g.2))
 
--- the next byte
-next_byte : (input : List ℕ) (at end : ℕ) → at < end → end ≤ length input → drop at (take end input) ≡ get_or input at 0 ∷ drop (at + 1) (take end input)
-next_byte input at end lt le =
-    let long : at < length (take end input) = omega (arith, length-take-le end input le) in
-    let one : suc at ≡ at + 1 = omega arith in
-    drop-cons (take end input) at 0 long ∙ ap (λ x. x ∷ drop (suc at) (take end input)) (get_or-take end input at 0 lt) ∙ ap (λ n. get_or input at 0 ∷ drop n (take end input)) one
+ends_is : (u : List ℕ) → ends_at u (position (λ b. eqb b 10) u)
+unfolding line_of rest_of has_end
+ends_is [] = (refl, refl, refl)
+ends_is (x ∷ l) = ends_more x l _ (eqb x 10) refl (ends_is l)
 
-short : (line : List ℕ) (n : ℕ) → length line ≡ 262145 → cut (take n line) ≡ take n line
-short line n h = take_all 262145 (take n line) (omega (arith, length-take n line))
+-- a line that goes on, cut off where its buffer ends
+gone_on_by : (line u : List ℕ) (l k from : ℕ) → length line ≡ 262145 → from ≡ min l 262145 → line_of u ≡ take k u → take from line ++ take (min k (262145 - from)) u ≡ cut (take l line ++ line_of u)
+gone_on_by line u l k from h f e =
+    let few : length (take from line) ≡ from = length-take-le from line (omega (arith, f, h)) in
+    let all : 262145 ≡ length (take from line) + (262145 - from) = omega (arith, few, f) in
+    let first : take from line ≡ take l line = ap (λ n. take n line) f ∙ cut_take l 262145 line h in
+    sym (ap cut (ap (λ x. x ++ line_of u) (sym first) ∙ ap (λ x. take from line ++ x) e)
+    ∙ ap (λ n. take n (take from line ++ take k u)) all
+    ∙ take-append-add (take from line) (take k u) (262145 - from)
+    ∙ ap (λ x. take from line ++ x) (take_both k (262145 - from) u))
+  where
+    take_both : (k n : ℕ) (u : List ℕ) → take n (take k u) ≡ take (min k n) u
+    take_both k n u =
+        by_cases (dec_le k n)
+        (λ le. let m : min k n ≡ k = omega arith in take_all n (take k u) (omega (arith, length-take k u)) ∙ ap (λ z. take z u) (sym m))
+        (λ gt. let m : min k n ≡ n = omega arith in take-take n k u (omega arith) ∙ ap (λ z. take z u) (sym m))
 
--- the line's end
-end_line : (b : ℕ) (l : List ℕ) → b ≡ 10 → line_of (b ∷ l) ≡ []
-unfolding line_of
-end_line b l e = rw (T_true (eqb b 10) (eq_eqb b 10 e)) refl
+module _ (line input line' : List ℕ) (i : Input) (e at from r n : ℕ) (le : e ≤ length input) (same : take e input ≡ take i.end input) (q : at ≡ min i.at e) (f : from ≡ min i.length 262145) (h : length line ≡ 262145) (long : length line' ≡ 262145) (put : take r line' ≡ take from line ++ take n (take (e - at) (drop at input))) where
+  abbrev left : List ℕ
+  left = take (e - at) (drop at input)
 
-end_rest : (b : ℕ) (l : List ℕ) → b ≡ 10 → rest_of (b ∷ l) ≡ l
-unfolding rest_of
-end_rest b l e = rw (T_true (eqb b 10) (eq_eqb b 10 e)) refl
+  left_drop : left ≡ drop at (take e input)
+  left_drop = sym (drop_take at e input)
 
-end_has : (b : ℕ) (l : List ℕ) → b ≡ 10 → has_end (b ∷ l) ≡ true
-unfolding has_end
-end_has b l e = rw (T_true (eqb b 10) (eq_eqb b 10 e)) refl
+  left_is : left ≡ unread i input
+  left_is =
+      left_drop
+      ∙ by_cases (dec_le i.at e)
+      (λ lt. let z : at ≡ i.at = omega (arith, q) in ap (λ m. drop m (take e input)) z)
+      (λ ge. let z : e ≤ at = omega (arith, q) in drop_of_length-le (take e input) {i = at} (omega (arith, length-take e input)) ∙ sym (drop_of_length-le (take e input) {i = i.at} (omega (arith, length-take e input))))
+      ∙ ap (drop i.at) same
 
-on_line : (b : ℕ) (l : List ℕ) → ¬ (b ≡ 10) → line_of (b ∷ l) ≡ b ∷ line_of l
-unfolding line_of
-on_line b l e = rw (T_false (eqb b 10) (λ t. e (eqb→eq b 10 t))) refl
+  gone_is : (k : ℕ) → n ≡ min k (262145 - from) → line_of left ≡ take k left → take r line' ≡ cut (begun i line ++ line_of (unread i input))
+  gone_is k m e' = put ∙ ap (λ z. take from line ++ take z left) m ∙ gone_on_by line left i.length k from h f e' ∙ ap (λ z. cut (begun i line ++ line_of z)) left_is
 
-on_rest : (b : ℕ) (l : List ℕ) → ¬ (b ≡ 10) → rest_of (b ∷ l) ≡ rest_of l
-unfolding rest_of
-on_rest b l e = rw (T_false (eqb b 10) (λ t. e (eqb→eq b 10 t))) refl
-
-on_has : (b : ℕ) (l : List ℕ) → ¬ (b ≡ 10) → has_end (b ∷ l) ≡ has_end l
-unfolding has_end
-on_has b l e = rw (T_false (eqb b 10) (λ t. e (eqb→eq b 10 t))) refl
-
-none_line : line_of [] ≡ []
-unfolding line_of
-none_line = refl
-
-none_rest : rest_of [] ≡ []
-unfolding rest_of
-none_rest = refl
-
-none_has : has_end [] ≡ false
-unfolding has_end
-none_has = refl
-
-module _ (line₀ unread₀ line input : List ℕ) (n at end : ℕ) (le : end ≤ length input) (g : Going line₀ unread₀ line n (drop at (take end input))) where
-  abbrev b : ℕ
-  b = get_or input at 0
-
-  abbrev rest : List ℕ
-  rest = drop (at + 1) (take end input)
-
-  pub going_whole : (f : Bool) → (lt : at < end) → b ≡ 10 → Takes line₀ unread₀ f (record { at = at + 1; end = end; length = n; is_whole = true; is_end = false }) line input
-  going_whole f lt e =
-      let u = next_byte input at end lt le in
-      let h : has_end unread₀ ≡ true = g.ends ∙ ap has_end u ∙ end_has b rest e in
+  pub takes_whole : (k : ℕ) → Some k ≡ position (λ b. eqb b 10) left → n ≡ min k (262145 - from) → Takes (begun i line) (unread i input) i.is_end (record { at = at + k + 1; end = e; length = r; is_whole = true; is_end = false }) line' input
+  takes_whole k o m =
+      let g : ends_at left (Some k) = rw (← o) at (ends_is left) in
+      let has : has_end (unread i input) ≡ true = ap has_end (sym left_is) ∙ g.1 in
+      let behind : at + (k + 1) ≡ at + k + 1 = omega arith in
       record {
-        whole = sym h;
-        ended = sym (ap (λ z. cond z false f) h);
-        gone_on = sym (g.line_is ∙ ap (λ l. cut (take n line ++ line_of l)) u ∙ ap (λ l. cut (take n line ++ l)) (end_line b rest e) ∙ ap cut (append-nil (take n line)) ∙ short line n g.long);
-        left = sym (g.rest_is ∙ ap rest_of u ∙ end_rest b rest e);
-        long = g.long;
+        whole = sym has;
+        ended = sym (ap (λ z. cond z false i.is_end) has);
+        gone_on = gone_is k m g.2;
+        left = sym (ap rest_of (sym left_is) ∙ g.3 ∙ ap (drop (k + 1)) left_drop ∙ drop-drop (k + 1) at (take e input) ∙ ap (λ z. drop z (take e input)) behind);
+        long = long;
       }
 
-  pub going_stored : (lt : at < end) → ¬ (b ≡ 10) → n < length line → Going line₀ unread₀ (set line n b) (n + 1) rest
-  going_stored lt e h =
-      let u = next_byte input at end lt le in
-      let one : suc n ≡ n + 1 = omega arith in
-      let stored : take n line ++ (b ∷ line_of rest) ≡ take (n + 1) (set line n b) ++ line_of rest = sym (append_assoc (take n line) (b ∷ []) (line_of rest)) ∙ ap (λ l. l ++ line_of rest) (sym (take-suc-set line n b h) ∙ ap (λ m. take m (set line n b)) one) in
+  pub takes_on : None ≡ position (λ b. eqb b 10) left → n ≡ min (length left) (262145 - from) → Takes (begun i line) (unread i input) i.is_end (record { at = e; end = e; length = r; is_whole = false; is_end = i.is_end }) line' input
+  takes_on o m =
+      let g : ends_at left None = rw (← o) at (ends_is left) in
+      let has : has_end (unread i input) ≡ false = ap has_end (sym left_is) ∙ g.0 in
       record {
-        long = length-set line n b ∙ g.long;
-        ends = g.ends ∙ ap has_end u ∙ on_has b rest e;
-        line_is = g.line_is ∙ ap (λ l. cut (take n line ++ line_of l)) u ∙ ap (λ l. cut (take n line ++ l)) (on_line b rest e) ∙ ap cut stored;
-        rest_is = g.rest_is ∙ ap rest_of u ∙ on_rest b rest e;
+        whole = sym has;
+        ended = sym (ap (λ z. cond z false i.is_end) has);
+        gone_on = gone_is (length left) m (g.1 ∙ sym (take_all (length left) left (omega arith)));
+        left = drop_of_length-le (take e input) {i = e} (omega (arith, length-take e input)) ∙ sym (ap rest_of (sym left_is) ∙ g.2);
+        long = long;
       }
-
-  full : length line ≤ n → (l : List ℕ) → cut (take n line ++ l) ≡ line
-  full h l =
-      let all : take n line ≡ line = take_all n line h in
-      ap (λ x. cut (x ++ l)) all ∙ take-append-le 262145 line l (omega (arith, g.long)) ∙ take_all 262145 line (omega (arith, g.long))
-
-  pub going_dropped : (lt : at < end) → ¬ (b ≡ 10) → length line ≤ n → Going line₀ unread₀ line n rest
-  going_dropped lt e h =
-      let u = next_byte input at end lt le in
-      record {
-        long = g.long;
-        ends = g.ends ∙ ap has_end u ∙ on_has b rest e;
-        line_is = g.line_is ∙ full h (line_of (drop at (take end input))) ∙ sym (full h (line_of rest));
-        rest_is = g.rest_is ∙ ap rest_of u ∙ on_rest b rest e;
-      }
-
-  pub going_end : (f : Bool) (past : ℕ) → end ≤ at → end ≤ past → Takes line₀ unread₀ f (record { at = past; end = end; length = n; is_whole = false; is_end = f }) line input
-  going_end f past h g' =
-      let u : drop at (take end input) ≡ [] = drop_of_length-le (take end input) {i = at} (omega (arith, length-take end input)) in
-      let u' : drop past (take end input) ≡ [] = drop_of_length-le (take end input) {i = past} (omega (arith, length-take end input)) in
-      let h : has_end unread₀ ≡ false = g.ends ∙ ap has_end u ∙ none_has in
-      record {
-        whole = sym h;
-        ended = sym (ap (λ z. cond z false f) h);
-        gone_on = sym (g.line_is ∙ ap (λ l. cut (take n line ++ line_of l)) u ∙ ap (λ l. cut (take n line ++ l)) none_line ∙ ap cut (append-nil (take n line)) ∙ short line n g.long);
-        left = u' ∙ sym (g.rest_is ∙ ap rest_of u ∙ none_rest);
-        long = g.long;
-      }
-
-pub going_from : (line : List ℕ) (n at : ℕ) (x y : List ℕ) → length line ≡ 262145 → x ≡ y → Going (take n line) (drop at y) line n (drop at x)
-going_from line n at x y h e = subst (λ z. Going (take n line) (drop at z) line n (drop at x)) e (going_start line n (drop at x) h)
 
 -- ---- turns
 

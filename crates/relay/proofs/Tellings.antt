@@ -8,6 +8,7 @@ use native.Mathlib.Decide.{dec_le}
 use lib.ListN.{length, take, drop, length-append, length-drop, length-replicate}
 use lib.Seq.{length-take-le, take_all, take_at}
 use Rattle.std.specs.Prelude.{Option, Some, None, Result, Ok, Err, ok_or}
+use Rattle.std.specs.Result.{result_unwrap_or}
 use Rattle.ol_spec.specs.Limits.{relay_loader}
 use Rattle.ol_spec.specs.Admission.{Judged, refused, admitted, judge, verdict, admission}
 use Rattle.ol_spec.specs.Answers.{Verdict, Started, Sorted, verdict_length}
@@ -57,6 +58,11 @@ begins_admitted file state x n r e fits s kept =
       within = omega (arith, length-append x (drop n state), length-drop n state, kept, long);
     }
 
+-- a verdict's length, as the program takes it
+pub kept_length : (v : Verdict) → result_unwrap_or v 0 ≡ verdict_length v
+kept_length (Ok n) = refl
+kept_length (Err x) = refl
+
 -- ---- order
 
 orders_text : (w : OrderingCall) (r : Sorted) (buffer : List ℕ) → OrdersAs w r buffer → order_ends r buffer ≡ order_text w
@@ -85,7 +91,7 @@ ends_as w u old r new values o e =
       next_is = ap (λ x. next_state x old new) o.answered ∙ ap (next_state u.answer old) o.renewed ∙ e.next_is;
     }
 
-cut_take : (n most : ℕ) (s : List ℕ) → length s ≡ most → take (min n most) s ≡ take n s
+pub cut_take : (n most : ℕ) (s : List ℕ) → length s ≡ most → take (min n most) s ≡ take n s
 cut_take n most s h =
     by_cases (dec_le n most)
     (λ le. let e : min n most ≡ n = omega arith in ap (λ m. take m s) e)

@@ -4,7 +4,7 @@
 mod request;
 mod session;
 
-ghost use Rattle.std.specs.Prelude.{◌≡◌, ◌||◌, not, length, take};
+ghost use Rattle.std.specs.Prelude.{◌≡◌, ◌==◌, ◌||◌, not, length, position, take};
 ghost use Rattle.relay_text.specs.Lines.{Said};
 ghost use Rattle.relay.specs.Reply.{reply};
 ghost use Rattle.relay.specs.Kept.{standing, Replies};
@@ -18,6 +18,7 @@ use std::io::{Stdin, Stdout, Write};
 // A piece of the input as it is read: its bytes from `at` up to `end` are not taken yet. The line's first
 // `length` bytes are there. It is whole once its end was met; the input is at its end once a read gives nothing.
 // The first is of the line and the second of the input, which goes on behind a line, so one enum for both is no plainer.
+// `is_whole` is asked only of what `take_line` answers: a struct of its own for that answer would have the other four fields again.
 // Both buffers have fixed lengths, so that no answer depends on the memory that there is.
 #[derive(Clone, Copy)]
 struct Input {
@@ -28,35 +29,40 @@ struct Input {
     is_end: bool,
 }
 
+// Where the line's end is met.
+fn line_end(text: &[u8]) -> Option<usize>
+    ensures { result ≡ position (λ b. b == 10) text.now }
+{
+    text.iter().position(|b| *b == b'\n')
+}
+
 // Moves bytes of the input into the line, up to a line's end. Of a line that is too long the bytes
 // that do not fit are dropped.
 fn take_line(input: &[u8], i: Input, line: &mut [u8; 262145]) -> Input
     ensures { Takes (begun i line.old) (unread i input.now) i.is_end result line.new input.now }
 {
-    let mut length = i.length;
     let end = relay_text::within(i.end, input);
-    for at in i.at..end {
-        let b = input[at];
-        if b == b'\n' {
-            return Input {
-                at: at + 1,
-                end,
-                length,
-                is_whole: true,
-                is_end: false,
-            };
-        }
-        if length < line.len() {
-            line[length] = b;
-            length += 1;
-        }
-    }
-    Input {
-        at: i.at.max(end),
-        end,
-        length,
-        is_whole: false,
-        is_end: i.is_end,
+    let at = i.at.min(end);
+    let rest = &input[at..end];
+    let found = line_end(rest);
+    let from = i.length.min(line.len());
+    let n = found.unwrap_or(rest.len()).min(line.len() - from);
+    let length = relay_text::put(line, from, &rest[..n]);
+    match found {
+        Some(k) => Input {
+            at: at + k + 1,
+            end,
+            length,
+            is_whole: true,
+            is_end: false,
+        },
+        None => Input {
+            at: end,
+            end,
+            length,
+            is_whole: false,
+            is_end: i.is_end,
+        },
     }
 }
 
@@ -96,6 +102,7 @@ fn respond(stdout: Stdout, no: usize, n: usize, line: &[u8], session: &mut Sessi
 }
 
 // How many bytes a write was handed, and whether it took them. Both hold of every write, so no Option says it plainer.
+// No code reads `length`: the contracts say by it which answer was handed to the write.
 #[derive(Clone, Copy)]
 struct Written {
     length: usize,

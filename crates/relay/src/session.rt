@@ -3,7 +3,7 @@ ghost use Rattle.std.specs.Prelude.{◌≡◌, ℕ, ◌≤◌, [], length, take,
 ghost use Rattle.ol_spec.specs.Limits.{relay_loader};
 ghost use Rattle.ol_spec.specs.Admission.{judge};
 ghost use Rattle.relay_text.specs.Lines.{Said};
-ghost use Rattle.relay.specs.Reply.{Standing, error_reply, obey, reply, order_call, order_text, values_length, load_fault, told, load_told, cycle_told, at_told};
+ghost use Rattle.relay.specs.Reply.{Standing, opened, error_reply, fresh_of, obey, reply, order_call, order_text, values_length, load_fault, told, load_told, cycle_told, at_told};
 ghost use Rattle.relay.specs.Requests.{start_again, file_of};
 ghost use Rattle.relay.specs.Kept.{asked_in, standing, Replies, Tells, Begins, Lends};
 
@@ -14,7 +14,7 @@ use relay_text::answers::{
     say_admit, say_answered, say_error, say_no_order, say_order, say_refused, say_state,
     say_stopped,
 };
-use relay_text::put;
+use relay_text::{put, within};
 
 // The lengths of the file that is open, and of the state that its next cycle starts from.
 #[derive(Clone, Copy)]
@@ -38,7 +38,7 @@ pub struct Session {
     pub out: [u8; 393216],
 }
 
-// What an admitted file is told with: the protocol's line has number 0 at place 0 for no fault.
+// What an admitted file is told with: the protocol's line has number 0 at place 0 for no fault, which in ol_spec's types is `Ok`.
 const NO_FAULT: Fault = Fault {
     number: 0,
     place: 0,
@@ -48,7 +48,7 @@ const NO_FAULT: Fault = Fault {
 fn front(s: &[u8], n: usize) -> &[u8]
     ensures { result.now ≡ take n s.now }
 {
-    &s[..n.min(s.len())]
+    &s[..within(n, s)]
 }
 
 // Puts bytes in the place of those at a buffer's start.
@@ -74,6 +74,7 @@ fn begin(file: &[u8], state: &mut [u8; 131072]) -> Result<usize, Fault>
 fn values_length(file: &[u8]) -> usize
     ensures { result ≡ values_length (judge relay_loader file.now) }
 {
+    // `map_or(0, |l| l.values)` did not prove: what its closure gives is out of the proof's reach.
     match ol_sim::lengths(file, 0) {
         Ok(l) => l.values,
         Err(_) => 0,
@@ -104,7 +105,7 @@ fn load_fault(file: &[u8], state: &[u8]) -> Option<Fault>
     let mut new = [0; 0];
     let mut values = [0; 0];
     match ol_sim::cycle(file, state, b"", &mut new, &mut values) {
-        Cycled::Refused(f) if 1 <= f.number && f.number <= 15 => Some(f),
+        Cycled::Refused(f) if matches!(f.number, 1..=15) => Some(f),
         _ => None,
     }
 }
@@ -139,20 +140,29 @@ impl Session {
         }
     }
 
-    // file HEX. Of a refused file the state is the empty one: each call on it is refused for the file.
+    // Judges the file at the buffer's start, of so many bytes, and starts it if it is admitted: the length of its fresh state.
+    // Of a refused file the state is the empty one: each call on it is refused for the file.
+    #[tactic(auto, using(crate::proofs::Tellings::kept_length))]
+    fn restart(&mut self, n: usize) -> Result<usize, Fault>
+        ensures begun { Begins (take n self.old.file) result self.new.state }
+        ensures stands { standing self.new ≡ opened (take n self.old.file) (fresh_of (take n self.old.file)) }
+    {
+        let begun = begin(front(&self.file, n), &mut self.state);
+        self.kept = Some(Kept {
+            file: n,
+            state: begun.unwrap_or(0),
+        });
+        begun
+    }
+
+    // file HEX
     fn open_file(&mut self, n: usize) -> usize
         ensures { (no : ℕ) (st : Standing) → Replies (obey no (file_of (take n self.old.bytes)) st) result self.new }
     {
         replace(&mut self.file, front(&self.bytes, n));
-        match begin(front(&self.file, n), &mut self.state) {
-            Ok(state) => {
-                self.kept = Some(Kept { file: n, state });
-                say_admit(&mut self.out, NO_FAULT, state)
-            }
-            Err(f) => {
-                self.kept = Some(Kept { file: n, state: 0 });
-                say_admit(&mut self.out, f, 0)
-            }
+        match self.restart(n) {
+            Ok(state) => say_admit(&mut self.out, NO_FAULT, state),
+            Err(f) => say_admit(&mut self.out, f, 0),
         }
     }
 
@@ -160,25 +170,17 @@ impl Session {
     fn start(&mut self, kept: Kept) -> usize
         ensures { Tells (told start_again (take kept.file self.old.file) []) (take kept.file self.old.file) result self.new }
     {
-        match begin(front(&self.file, kept.file), &mut self.state) {
-            Ok(state) => {
-                self.kept = Some(Kept {
-                    file: kept.file,
-                    state,
-                });
-                say_state(&mut self.out, front(&self.state, state))
-            }
-            Err(f) => {
-                self.kept = Some(Kept {
-                    file: kept.file,
-                    state: 0,
-                });
-                say_refused(&mut self.out, f)
-            }
+        match self.restart(kept.file) {
+            Ok(state) => say_state(&mut self.out, front(&self.state, state)),
+            Err(f) => say_refused(&mut self.out, f),
         }
     }
 
     // `kept` is what the session keeps: the methods from here on are called where a file is open, and so do not test for it again.
+    // Each of the four reads it, so each has the clause: as a part of `Session` it would be an Option again.
+
+    // `load` and `at` begin alike: a function for it would need a clause on each of the file, the inputs, the state and what is kept,
+    // which `at` goes on with.
 
     // load STATE
     fn load(&mut self, k: usize, kept: Kept) -> usize
@@ -210,6 +212,7 @@ impl Session {
         let new = &mut next[..lent.state];
         let values = &mut self.values[..];
         let values = &mut values[..lent.values];
+        // Two arms keep the new state: what is answered is told in another way, and one place for both would ask for the outcome twice.
         match ol_sim::cycle(file, old, front(&self.inputs, n), new, values) {
             Cycled::Answered => {
                 replace(&mut self.state, new);

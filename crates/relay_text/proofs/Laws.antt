@@ -9,8 +9,9 @@ use Rattle.std.specs.Ordering.{is_lt, nat_cmp}
 use Rattle.std.proofs.lemmas.Map.Keys.{ge_from_not_lt}
 use Rattle.std.specs.declared.ops.Range.{Range}
 use mathlib.Core.List.{List, [], ◌∷◌, ◌++◌, append_assoc, append-nil}
-use Rattle.std.specs.Prelude.{Option, Some, None}
-use lib.ListN.{length, take, drop, get_or, set, take-append-drop, drop_of_length-le, length-append}
+use Rattle.std.specs.Prelude.{Option, Some, None, position, nat_lt, unwrap_or}
+use lib.ListN.{length, take, drop, get_or, set, take-append-drop, drop_of_length-le, length-append, length-take}
+use Rattle.std.proofs.lemmas.List.{take_rest}
 use lib.Seq.{take_all, drop-cons, drop-drop, drop-set-lt, length-take-le, take-suc, take-suc-set}
 use lib.Dec.{ltb, eqb}
 use lib.Pointwise.{pointwise}
@@ -35,18 +36,21 @@ of_not : (b : Bool) → not b ≡ true → b ≡ false
 of_not true h = sym h
 of_not false h = refl
 
-module _ (w : Bool) (l : List ℕ) (i : ℕ) (h : i < length l) where
-  pub run_more : sort w (get_or l i 0) ≡ true → i + run w (drop i l) ≡ (i + 1) + run w (drop (i + 1) l)
-  unfolding run
-  run_more e = rw (next l i h, e) (omega arith)
-
-  pub run_stop : sort w (get_or l i 0) ≡ false → i ≡ i + run w (drop i l)
-  unfolding run
-  run_stop e = rw (next l i h, e) (omega arith)
-
-pub run_end : (w : Bool) (l : List ℕ) (i : ℕ) → length l ≤ i → i ≡ i + run w (drop i l)
+-- as many stand at the beginning as stand before the first of the other sort
+pub run_is : (w : Bool) (l : List ℕ) → run w l ≡ unwrap_or (position (λ b. not (sort w b)) l) (length l)
 unfolding run
-run_end w l i h = rw (drop_of_length-le l {i = i} h) (omega arith)
+run_is w [] = refl
+run_is w (x ∷ l) = rw (run_is w l) (one (sort w x) _ _)
+  where
+    one : (b : Bool) (n m : ℕ) → cond b (suc (unwrap_or (cond (nat_lt n m) (Some n) None) m)) 0 ≡ unwrap_or (cond (nat_lt (cond (not (not b)) (1 + n) 0) (suc m)) (Some (cond (not (not b)) (1 + n) 0)) None) (suc m)
+    one true n m = grind arith
+    one false n m = grind arith
+
+-- of what stands behind a place
+pub rest_of : (l : List ℕ) (at n : ℕ) (w : Bool) → at ≤ length l → (n ≤ length (take (length l - at) (drop at l))) × (n ≡ run w (take (length l - at) (drop at l))) → (at + n ≤ length l) × (at + n ≡ at + run w (drop at l))
+rest_of l at n w h r =
+    let all : take (length l - at) (drop at l) ≡ drop at l = take_rest l at in
+    (omega (arith, r.0, length-take (length l - at) (drop at l)), ap (λ x. at + x) (r.1 ∙ ap (run w) all))
 
 -- one word of those that are left is passed
 pub behind_next : (l : List ℕ) (k i at : ℕ) → i < k → behind l (k - i) at ≡ behind l (k - (i + 1)) (word_to l at)

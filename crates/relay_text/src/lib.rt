@@ -4,7 +4,7 @@
 pub mod answers;
 mod line;
 
-ghost use Rattle.std.specs.Prelude.{◌≡◌, ◌++◌, ◌+◌, ◌≤◌, length, take, drop};
+ghost use Rattle.std.specs.Prelude.{◌≡◌, ◌++◌, ◌+◌, ◌≤◌, length, take, drop, not, position};
 ghost use Rattle.io.specs.Counts.{IsPrefixLen};
 ghost use Rattle.relay_text.specs.Text.{is_blank, sort, run, word_at, word_number, words_up_to, hex_value, bytes_of, unhexed, unhexed_front, onto, Decoded, with_digit, number_of};
 
@@ -26,17 +26,19 @@ fn is_of(b: u8, want: bool) -> bool
     is_blank(b) == want
 }
 
-// The place behind the characters of one sort from `at` on.
-fn skip(line: &[u8], at: usize, over: bool) -> usize
-    requires { at ≤ length line.now }
-    ensures { (at ≤ result) × (result ≤ length line.now) × (result ≡ at + run over (drop at line.now)) }
+// The index of the first character that is not of this sort.
+fn first_other(text: &[u8], over: bool) -> Option<usize>
+    ensures { result ≡ position (λ b. not (sort over b)) text.now }
 {
-    for i in at..line.len() {
-        if !is_of(line[i], over) {
-            return i;
-        }
-    }
-    line.len()
+    text.iter().position(|b| !is_of(*b, over))
+}
+
+// How many blanks (`over`), or characters that are none, stand at the beginning.
+#[tactic(auto, using(crate::proofs::Laws::run_is))]
+fn run(text: &[u8], over: bool) -> usize
+    ensures { (result ≤ length text.now) × (result ≡ run over text.now) }
+{
+    first_other(text, over).unwrap_or(text.len())
 }
 
 // The next word from `at` on; an empty one at the line's end.
@@ -44,8 +46,8 @@ fn next_word(line: &[u8], at: usize) -> Range<usize>
     requires { at ≤ length line.now }
     ensures { (result.start ≤ result.end) × (result.end ≤ length line.now) × (result ≡ word_at line.now at) }
 {
-    let from = skip(line, at, true);
-    from..skip(line, from, false)
+    let from = at + run(&line[at..], true);
+    from..from + run(&line[from..], false)
 }
 
 // How many words a line has, 6 where it has more.
@@ -102,6 +104,7 @@ fn unhex_digits(text: &[u8], out: &mut [u8]) -> Option<usize>
     requires { length text.now ≤ length out.old + length out.old }
     ensures { Decoded (unhexed text.now) result out.new × (out.new ≡ onto (unhexed_front text.now) out.old) }
 {
+    // Over `out.iter_mut().zip(text.chunks_exact(2))` it did not prove: no invariant of that loop can name what `out` holds.
     for i in 0..text.len() / 2 {
         let high = digit(text[2 * i])?;
         let low = digit(text[2 * i + 1])?;

@@ -13,6 +13,7 @@ pub(crate) struct Line<'a> {
     pub(crate) length: usize,
 }
 
+// `same_reference` stands in five clauses: that the buffer is still the same one is of the reference, and `Appends` is of what it holds.
 impl Line<'_> {
     // A piece behind what is put.
     pub(crate) fn piece(&mut self, piece: &[u8])

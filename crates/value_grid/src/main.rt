@@ -112,7 +112,7 @@ fn cell_agrees(streams: Streams) -> bool
 
 // ---- a question
 
-// A code, of a small number: its last 8 bits. A cast must lose no bits, and no conversion of std drops some.
+// A code, of a small number: its last 8 bits. A cast must lose no bits: `x.to_le_bytes()[0]` is no plainer than `%` and `as`.
 fn code(x: u64) -> u8
     ensures { result ≡ x % 256 }
 {

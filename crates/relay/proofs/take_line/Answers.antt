@@ -1,28 +1,16 @@
 use native.Mathlib.Omega.{arith}
-use lib.ListN.{take}
-use Rattle.relay.specs.Turns.{unread}
-use Rattle.relay.proofs.Lines.{going_from, going_whole, going_stored, going_dropped, going_end}
+use Prim.Native.Nat.{◌-◌}
+use mathlib.Core.Path.{◌≡◌, sym, ◌∙◌}
+use lib.ListN.{length, take, drop}
+use Rattle.relay.proofs.Lines.{takes_whole, takes_on}
 use Rattle.relay.proofs.take_line.Goals as goal
-use Rattle.relay.proofs.take_line.Goals.{then-length-lt262145, else-length-lt262145}
 
-pub loop-at-init : goal.loop-at-init
-loop-at-init c =
-    (c.within-end.ensures.prefix_len.0, going_from c.args.line.now c.args.i.length c.args.i.at (take c.within-end.result c.args.input.now) (take c.args.i.end c.args.input.now) (omega arith) c.within-end.ensures.s_value)
+pub returns-in-Some : goal.returns-in-Some
+returns-in-Some c =
+    let few : c.unwrap_or.result ≡ c.in-Some.k = rw c.in-Some.is at c.unwrap_or.ensures in
+    takes_whole c.args.line.now c.args.input.now c.put-length.new.out c.args.i c.within-end.result c.min-at.result c.min-from.result c.put-length.result c.min-n.result c.within-end.ensures.prefix_len.0 c.within-end.ensures.s_value (omega (arith, c.min-at.ensures)) (omega (arith, c.min-from.ensures)) (omega arith) (omega arith) c.put-length.ensures.1 c.in-Some.k (sym c.in-Some.is ∙ c.line_end-found.ensures) (omega (arith, c.min-n.ensures, few))
 
-pub returns-then-b-eq10 : goal.returns-then-b-eq10
-returns-then-b-eq10 c =
-    going_whole (take c.args.i.length c.args.line.now) (unread c.args.i c.args.input.now) c.loop-at.line c.args.input.now c.loop-at.length c.loop-at.at c.within-end.result c.loop-at.invariant.0 c.loop-at.invariant.1 c.args.i.is_end c.loop-at-test.true c.if-b-eq10.true
-
-pub loop-at-preserved : goal.loop-at-preserved
-loop-at-preserved c =
-    let loop = c.loop-at in (
-      loop.invariant.0,
-      elim c.if-length-lt262145.branch [
-        | then-length-lt262145 w ↦ rw (w.line-is, w.length-is) (going_stored (take c.args.i.length c.args.line.now) (unread c.args.i c.args.input.now) loop.line c.args.input.now loop.length loop.at c.within-end.result loop.invariant.0 loop.invariant.1 c.loop-at-test.true c.if-b-eq10.false (omega (arith, loop.invariant.1.long, w.if-length-lt262145.true)))
-        | else-length-lt262145 w ↦ rw (w.line-is, w.length-is) (going_dropped (take c.args.i.length c.args.line.now) (unread c.args.i c.args.input.now) loop.line c.args.input.now loop.length loop.at c.within-end.result loop.invariant.0 loop.invariant.1 c.loop-at-test.true c.if-b-eq10.false (omega (arith, loop.invariant.1.long, w.if-length-lt262145.false)))
-      ],
-    )
-
-pub returns : goal.returns
-returns c =
-    going_end (take c.args.i.length c.args.line.now) (unread c.args.i c.args.input.now) c.loop-at.line c.args.input.now c.loop-at.length c.loop-at.at c.within-end.result c.loop-at.invariant.0 c.loop-at.invariant.1 c.args.i.is_end _ (omega (arith, c.loop-at-test.false)) (omega arith)
+pub returns-in-None : goal.returns-in-None
+returns-in-None c =
+    let few : c.unwrap_or.result ≡ length (take (c.within-end.result - c.min-at.result) (drop c.min-at.result c.args.input.now)) = rw c.in-None.is at c.unwrap_or.ensures in
+    takes_on c.args.line.now c.args.input.now c.put-length.new.out c.args.i c.within-end.result c.min-at.result c.min-from.result c.put-length.result c.min-n.result c.within-end.ensures.prefix_len.0 c.within-end.ensures.s_value (omega (arith, c.min-at.ensures)) (omega (arith, c.min-from.ensures)) (omega arith) (omega arith) c.put-length.ensures.1 (sym c.in-None.is ∙ c.line_end-found.ensures) (omega (arith, c.min-n.ensures, few))
