@@ -344,7 +344,11 @@ fn enter(
         return Step { used, ..a };
     };
     let end = step_site(file, tab, k, args, &old[..size], &mut new[..size]);
-    Step { out: end, used, ..a }
+    Step {
+        out: end,
+        used,
+        ..a
+    }
 }
 
 // The node that is called, if it is a call that stands at `at`.

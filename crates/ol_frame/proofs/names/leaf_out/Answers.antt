@@ -121,8 +121,9 @@ returns-in-Int c =
     let p = c.requires.0 in
     let h = plan_head f p in
     λ seg. elim c.in-Int.is [
-      inl e ↦ ap Out.Value (c.read_cell.ensures ∙ value_at_lem f a (reads_in f L a h) ∙ ap (λ (t : ℕ). value_by t (number_of 0 (take 8 (drop (a + 1) f)))) (plan_form f p Frm.Int c.at.ensures e)) ∙ ap (λ (e : Expr). (eval_in f k n F cl b e seg).out) (sym (int_form f L a h (plan_form f p Frm.Int c.at.ensures e)).tree)
-      | inr e ↦ ap Out.Value (c.read_cell.ensures ∙ value_at_lem f a (reads_in f L a h) ∙ ap (λ (t : ℕ). value_by t (number_of 0 (take 8 (drop (a + 1) f)))) (plan_form f p Frm.Float c.at.ensures e)) ∙ ap (λ (e : Expr). (eval_in f k n F cl b e seg).out) (sym (float_form f L a h (plan_form f p Frm.Float c.at.ensures e)).tree) ]
+      | inl e ↦ ap Out.Value (c.read_cell.ensures ∙ value_at_lem f a (reads_in f L a h) ∙ ap (λ (t : ℕ). value_by t (number_of 0 (take 8 (drop (a + 1) f)))) (plan_form f p Frm.Int c.at.ensures e)) ∙ ap (λ (e : Expr). (eval_in f k n F cl b e seg).out) (sym (int_form f L a h (plan_form f p Frm.Int c.at.ensures e)).tree)
+      | inr e ↦ ap Out.Value (c.read_cell.ensures ∙ value_at_lem f a (reads_in f L a h) ∙ ap (λ (t : ℕ). value_by t (number_of 0 (take 8 (drop (a + 1) f)))) (plan_form f p Frm.Float c.at.ensures e)) ∙ ap (λ (e : Expr). (eval_in f k n F cl b e seg).out) (sym (float_form f L a h (plan_form f p Frm.Float c.at.ensures e)).tree)
+    ]
 
 pub returns-in-Char : goal.returns-in-Char
 unfolding eval
