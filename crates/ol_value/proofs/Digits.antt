@@ -1,13 +1,12 @@
 -- Numbers and their big-endian bytes: a cell's parts, and the bytes had back from their number.
 use mathlib.Core.Path.{◌≡◌, refl, sym, ap, ap₂, subst, ◌∙◌}
-use mathlib.Core.Bool.{true, false, ◌&&◌}
+use mathlib.Core.Bool.{◌&&◌}
 use mathlib.Core.List.{List, [], ◌∷◌}
 use Prim.Native.Nat.{ℕ, suc, ◌+◌, ◌*◌, ◌/◌, ◌%◌, ◌^◌, ◌≤◌, ◌<◌}
 use native.Mathlib.Nat.{pow-suc, div-div-eq-div-mul, div-one}
 use native.Mathlib.Numerals.{add-one}
 use native.Mathlib.Omega.{arith}
 use native.Mathlib.Decide.{dec_lt}
-use Rattle.std.proofs.Common.{◌≢◌}
 use lib.Dec.{T, eqb, eqb_refl, eqb→eq}
 use lib.ListN.{length, take, drop, get_or, length-take, length-drop, get_or-eq_default}
 use lib.Seq.{drop-cons, get_or-take, get_or-drop, length-take-le}
@@ -16,7 +15,7 @@ use Rattle.ol_spec.specs.Numbers.{bytes_of, number_of}
 use Rattle.ol_spec.specs.Cell.{tag, payload, cell, value_by, value_of}
 use Rattle.ol_spec.proofs.Cells.{bytes_back, same_refl, same_eq}
 use Rattle.ol_spec.specs.declared.Value.{Value}
-use Rattle.ol_spec.proofs.Tests.{bool_same, T_true, T_false, eq_eqb}
+use Rattle.ol_spec.proofs.Tests.{bool_same}
 
 -- ---- the parts of a cell
 
@@ -61,20 +60,9 @@ part_bytes n a s h i = go (dec_lt i n)
         rw (get_or-eq_default (take n (drop a s)) 0 l) (omega arith)
 
 -- nine bytes are a value's exactly if its tag and its payload are theirs
-module _ (s : List ℕ) (at : ℕ) (room : at + 9 ≤ length s) (v : Value) (is : v ≡ value_of (take 9 (drop at s))) where
-  as_read : same (cell v) (take 9 (drop at s)) ≡ same (cell (value_of (take 9 (drop at s)))) (take 9 (drop at s))
-  as_read = ap (λ w. same (cell w) (take 9 (drop at s))) is
-
-  pub good_like : Bytes s → payload v < 2 ^ 64 → tag v ≡ get_or s at 0 → eqb (payload v) (number_of 0 (take 8 (drop (at + 1) s))) ≡ same (cell (value_of (take 9 (drop at s)))) (take 9 (drop at s))
-  good_like h small e =
+module _ (s : List ℕ) (at : ℕ) (room : at + 9 ≤ length s) (h : Bytes s) where
+  pub good_is : (v : Value) → payload v < 2 ^ 64 → eqb (tag v) (get_or s at 0) && eqb (payload v) (number_of 0 (take 8 (drop (at + 1) s))) ≡ same (cell v) (take 9 (drop at s))
+  good_is v small =
       let long : length (take 8 (drop (at + 1) s)) ≡ 8 = length-take-le 8 (drop (at + 1) s) (rw (length-drop (at + 1) s) (omega arith)) in
-      let like : eqb (tag v) (get_or s at 0) ≡ true = T_true (eqb (tag v) (get_or s at 0)) (eq_eqb (tag v) (get_or s at 0) e) in
-      same_number (payload v) (take 8 (drop (at + 1) s)) small long (part_bytes 8 (at + 1) s h)
-      ∙ ap (λ b. b && same (bytes_of 8 (payload v)) (take 8 (drop (at + 1) s))) (sym like)
+      ap (λ b. eqb (tag v) (get_or s at 0) && b) (same_number (payload v) (take 8 (drop (at + 1) s)) small long (part_bytes 8 (at + 1) s h))
       ∙ ap (same (cell v)) (sym (cell_parts s at room))
-      ∙ as_read
-
-  pub good_unlike : tag v ≢ get_or s at 0 → eqb (tag v) (get_or s at 0) ≡ same (cell (value_of (take 9 (drop at s)))) (take 9 (drop at s))
-  good_unlike n =
-      let unlike : eqb (tag v) (get_or s at 0) ≡ false = T_false (eqb (tag v) (get_or s at 0)) (λ t. n (eqb→eq (tag v) (get_or s at 0) t)) in
-      unlike ∙ ap (λ b. b && same (bytes_of 8 (payload v)) (take 8 (drop (at + 1) s))) (sym unlike) ∙ ap (same (cell v)) (sym (cell_parts s at room)) ∙ as_read
