@@ -65,7 +65,7 @@ pub fn named_out(o: Outcome) -> Outcome
     }
 }
 
-// How an expression of this outcome ends.
+// How an expression of this outcome ends. No From: an outcome is of one expression and an ending of several, and the definitions have `several` between them.
 pub fn end_of(o: Outcome) -> Ending
     ensures { result ≡ ending_of (several o) }
 {

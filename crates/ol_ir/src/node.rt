@@ -64,7 +64,8 @@ impl Reader<'_> {
     }
 }
 
-// Where so many equations start: entry k of the table gets equation k's place.
+// Where so many equations start: entry k of the table gets equation k's place. `Reader::nodes` has this outline, and each of its steps may fail: one function of both would take a closure
+// that never fails here.
 fn equation_places(file: &[u8], count: usize, at: usize, starts: &mut [usize])
     ensures { starts.new ≡ sets starts.old 0 (equation_places count file.now at) }
 {

@@ -35,6 +35,7 @@ fn copy_bytes(order: &[usize], out: &mut [u8])
 
 // The order of the equations, with room for all definers that they wait for. How many there are is known
 // at the run only, and there is no heap: this file's buffers have the most, and a part of each is lent.
+// It begins as `order_equations` does, which sorts into its caller's buffer: here the order goes into bytes.
 fn order_starts(
     equations: Equations,
     low: bool,
