@@ -9,7 +9,7 @@ use lib.Dec.{ltb}
 use lib.ListN.{length, get_or, set, replicate}
 use lib.Seq.{sets}
 use Rattle.std.specs.Prelude.{Option, Some, None, is_some, IfSome, MatchOption}
-use Rattle.core.specs.Option.{option_copied}
+use Rattle.std.specs.Option.{option_copied}
 use Rattle.ol_spec.specs.Lists.{concat}
 use Rattle.ol_tables.specs.Tables.{row_at, first_at}
 use Rattle.ol_tables.specs.Numbers.{row_numbers, numbers, RowIs}
