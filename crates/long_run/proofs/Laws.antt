@@ -1,6 +1,6 @@
 -- Laws of the run: a cycle counted, a pair, a turn, and the file's start.
 use Rattle.std.proofs.Common.{◌≡◌, ℕ, ◌+◌, ◌/◌, ◌%◌, ◌^◌, ◌<◌, Bool, true, false, eqb, List, Ok, Err, is_err, sym, refl, ap, ◌∙◌, add-one, arith, ne_eqb}
-use lib.Pointwise.{pointwise}
+use lib.Pointwise.{pointwise, bytes_decides}
 use mir.Val.{bool_byte}
 use Rattle.ol_spec.specs.Cycle.{start, cycle}
 use Rattle.ol_spec.specs.Limits.{relay_loader}
@@ -23,6 +23,10 @@ unanswered (Cyc.Refused f) h = refl
 pub more_is : (n d : ℕ) (so : Bool) → n < 2 ^ 64 → d ≡ bool_byte so → (n + d) % 2 ^ 64 ≡ more n so
 more_is n d true h e = rw e
 more_is n d false h e = omega arith
+
+-- what a comparison of texts says
+pub compared : (a b : List ℕ) (r : Bool) → r ≡ pointwise eqb a b → (r ≡ true → a ≡ b) × (a ≡ b → r ≡ true)
+compared a b r h = (λ e. (bytes_decides a b).0 (sym h ∙ e), λ e. h ∙ (bytes_decides a b).1 e)
 
 -- ---- a cycle, a pair
 

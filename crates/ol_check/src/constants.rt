@@ -39,8 +39,8 @@ fn constant(
     declare(names, name(file, at), (i + FIRST_CONSTANT) as u8);
 }
 
-// So many constants from where the walk stands. Six things are passed on here, in `constant` and in the two of nodes.rt: three of them are written (`names`, `slots`, `g`), so a struct
-// would hold three `&mut` and lend each in every call; and `Judge` only reads `names`, so it is made between two writes to it.
+// So many constants from where the walk stands. Six things are passed on here, in `constant` and in the two of nodes.rt: `names`, `slots` and `g` are written, in nodes.rt
+// `rows` too, so a struct would hold three `&mut` and lend each in every call; and `Judge` only reads `names`, so it is made between two writes to it.
 pub(crate) fn judge_constants(
     file: &[u8],
     names: &mut [u8],

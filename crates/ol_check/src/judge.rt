@@ -165,7 +165,7 @@ impl<'a> Judge<'a> {
     }
 
     // So many expressions, one after the other from where the walk stands. `slots` and `g` are lent side by side, here and in all functions that judge: the slots are bytes of the table,
-    // and `g` is what the caller keeps. The loop is its own, and not ol_tables' walk over heads: its clause is a fold over the items of the heads, and `Walks` there tells a step's place alone.
+    // and `g` is what the caller keeps. The loop is its own, and not ol_tables' walk over heads: its clause is a fold over the items of the heads, and `Steps` there tells where each head stands.
     pub(crate) fn walk(&self, slots: &mut [u8], parts: usize, g: &mut Faults)
         requires { g.old.size ≤ 65536 }
         ensures { Walked self.now.file.now self.now.names.now (numbers self.now.rows.now) self.now.nodes self.now.node parts slots.old slots.new (findings g.old) (findings g.new) }

@@ -5,6 +5,7 @@
 // The ranks, at an expression's level: enter 1, eval_call 2, eval_form 3, eval 4, eval_two, step_untaken and eval_all 5, eval_first and eval_second 6,
 // eval_if 7; at level 31: call_equation and tuple_equation 0, equation 1, run 2, step_instance and call_function 3, step_site 4.
 // file and tab stay two parameters: lent as one struct with methods they make a cycle of feeder30 8 percent more instructions, which misses its measure of speed (docs/PERFORMANCE.md).
+// frame, old and new stay too: old and new are other parts of the two states at each call, so a struct of them would be made anew.
 // So what they ask together stands in the clauses, under one name each: `CanEval`, `CanStep`, `CanRun` and `CanEquate`.
 ghost use Rattle.std.specs.Prelude.{◌≡◌, true, false, ◌+◌, ◌<◌, length, get_or};
 ghost use Rattle.ol_tables.specs.Heads.{parts_at, next_at};

@@ -84,7 +84,8 @@ struct Nodes<'f, 'p, 'r> {
 impl<'f, 'p, 'r> Nodes<'f, 'p, 'r> {
     // The order of the equations of node k, with room for all definers that they wait for. Its plan
     // says where they start; their order is written into the node's part of the table. That there is room
-    // stays a clause here and in two functions: the number is known at the run only, and the room is lent.
+    // stays a clause, here and in `order_all` by the file's length, in `order_starts`, `sort` and `record_all` by the
+    // definers: the number is known at the run only, and the room is lent.
     fn order_node(self, k: usize, lists: &mut [u8], tab: &mut [u8]) -> Result<(), usize>
         requires k_in_bounds { k < length self.places.now }
         requires asked { OrdersAsked self tab.old }

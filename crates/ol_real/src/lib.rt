@@ -15,8 +15,9 @@ pub fn i64_to_f64(n: i64) -> f64
     std::num::nearest_i64_to_f64(n)
 }
 
-// An integer as a single: the nearest, a tie to the even one. It is rounded once. std's nearest_i64_to_f32 rounds in two
-// halves of 128 bits, and so does its nearest_f64_to_f32_with_nan; here one u64 holds the digits.
+// An integer as a single: the nearest, a tie to the even one. It is rounded once. With std's
+// nearest_i64_to_f32, and its nearest_f64_to_f32_with_nan below, which round in two halves of 128 bits, a call was measured
+// a quarter slower (15 and 22 instructions more), and old files are to keep their speed; here one u64 holds the digits.
 pub fn i64_to_f32(n: i64) -> f32
     ensures { result ≡ of_int single n }
 {

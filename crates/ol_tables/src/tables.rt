@@ -21,7 +21,7 @@ pub const PLACE: usize = 7; // where the node starts
 
 pub const COLUMNS: usize = 8;
 
-// Where the first variants start in `rows`, and its length.
+// Where the first variants start in the numbers of the rows, and how many these numbers are.
 pub const FIRSTS: usize = 256;
 
 pub const ROWS: usize = 272;

@@ -74,7 +74,7 @@ pub fn good_cell(bytes: &[u8], at: usize) -> bool
     let t = bytes[at];
     let p = read_number(bytes, at + 1);
     let v = value_by(t, p);
-    // with && the feeder30 of docs/PERFORMANCE.md was counted at 104,359 instructions a cycle, without at 103,889
+    // two tests and one branch: with && a cycle of feeder30 was counted at 104,359 instructions, without at 103,889
     let like = tag_of(v) == t;
     let equal = payload_of(v) == p;
     like & equal

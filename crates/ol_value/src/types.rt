@@ -1,6 +1,6 @@
 // Types: their defaults and kinds, and what storing and casting make of a value. An enum's number is looked up by the caller.
-// A type is given by its code in the file, and any byte is taken. Where a value is matched too, the code is decoded in the value's arm:
-// decoded before, most calls were counted at 10 to 25 instructions more, and feeder30's bar of speed (docs/PERFORMANCE.md) leaves no room for it.
+// A type is given by its code in the file, and any byte is taken. Where a value is matched too, the code is decoded in the value's arm: a Bool and an Enum ask
+// for none. Decoded before, most calls were counted at 10 to 25 instructions more, and a cycle of K at 0.3%.
 ghost use Rattle.std.specs.Prelude.{◌≡◌, List, [], ℕ, get_or};
 ghost use Rattle.ol_spec.specs.Real.{by_precision};
 ghost use Rattle.ol_spec.specs.Types.{default, fit_single, fit_double, fit};

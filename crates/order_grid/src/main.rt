@@ -142,7 +142,7 @@ fn order_agrees(file: &[u8], node: usize, wanted: &[u64]) -> bool
     order_gives(file, node, wanted, &mut buffer[..n], &mut found[..m])
 }
 
-// Whether the ordering refuses a file as its reading does, and writes nothing.
+// Whether the ordering refuses a file as its reading does, and writes nothing. Number 0 is the list's for no fault.
 fn refusal_agrees(file: &[u8], theirs: Fault) -> bool
     ensures { result ≡ refusal_agrees file.now theirs }
 {

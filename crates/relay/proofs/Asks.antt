@@ -5,6 +5,7 @@ use mathlib.Core.List.{List, [], ◌∷◌}
 use mathlib.Core.Path.{◌≡◌, refl, sym, ap, ◌∙◌}
 use native.Mathlib.Omega.{arith}
 use lib.ListN.{length, take, drop, get_or}
+use lib.Pointwise.{pointwise, bytes_decides}
 use lib.Dec.{T, eqb, ltb, eqb→eq, lt→ltb, ltb→lt}
 use Rattle.std.specs.Prelude.{Result, Ok, Err}
 use Rattle.std.specs.declared.ops.Range.{Range}
@@ -108,3 +109,10 @@ module _ (line : List ℕ) (b : Bool) (d : Result Command Reason) (h : ¬ (26214
 
     pub asks_obeyed : f ≡ true → asks line ≡ asked_by c line
     asks_obeyed z = asks_known ∙ ap (λ x. cond x (asked_by c line) (wrong Why.WrongWords)) z
+
+-- a comparison of a line's word with a text
+pub is_word : (t w : List ℕ) (r : Bool) → r ≡ pointwise eqb t w → r ≡ true → t ≡ w
+is_word t w r e h = (bytes_decides t w).0 (sym e ∙ h)
+
+pub no_word : (t w : List ℕ) (r : Bool) → r ≡ pointwise eqb t w → t ≡ w → r ≡ true
+no_word t w r e h = e ∙ (bytes_decides t w).1 h

@@ -23,7 +23,8 @@ use Rattle.ol_spec.specs.Cycle.{measure, lengths, ordering, order_read, order_no
 use Rattle.ol_spec.specs.Demand3.{Bytes}
 use Rattle.ol_spec.specs.declared.Value.{Value}
 use Rattle.ol_spec.specs.Answers.{Measured}
-use Rattle.std.specs.Prelude.{Ok, Err}
+use Rattle.std.specs.Prelude.{Ok, Err, MatchResult}
+use Rattle.ol_spec.specs.declared.Lengths.{Lengths}
 use Rattle.ol_spec.proofs.Admits.{admits}
 use Rattle.ol_spec.proofs.MainFacts.{main_at_lem}
 use Rattle.ol_spec.proofs.Tests.{T_true, T_false, eq_eqb}
@@ -142,6 +143,11 @@ module _ (file : List ℕ) (b : Bytes file) where
       go : (j : Judged) → judge relay_loader file ≡ j → values_in (lengths relay_loader file 0) ≡ values_length j
       go (refused n p) e = ap (λ x. values_in (measure x 0)) e
       go (admitted f vs) e = ap values_in (first_lengths file b f vs e)
+
+  -- the same, from what a function of both cases tells of v
+  pub values_either : {m : Measured} {v : ℕ} (P : Lengths → Type 0) → MeasuresAs (lengths relay_loader file 0) m → MatchResult m P (λ f. v ≡ 0) → ((l : Lengths) → P l → v ≡ l.values) → v ≡ values_length (judge relay_loader file)
+  values_either {m = Ok l} P h t w = w l t ∙ values_told h refl
+  values_either {m = Err f} P h t w = t ∙ values_told h refl
 
   pub few_values : values_length (judge relay_loader file) ≤ 1008
   few_values = go (judge relay_loader file) refl

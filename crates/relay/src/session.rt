@@ -74,11 +74,7 @@ fn begin(file: &[u8], state: &mut [u8; 131072]) -> Result<usize, Fault>
 fn values_length(file: &[u8]) -> usize
     ensures { result ≡ values_length (judge relay_loader file.now) }
 {
-    // `map_or(0, |l| l.values)` did not prove: what its closure gives is out of the proof's reach.
-    match ol_sim::lengths(file, 0) {
-        Ok(l) => l.values,
-        Err(_) => 0,
-    }
+    ol_sim::lengths(file, 0).map_or(0, |l| l.values)
 }
 
 // The lengths that a cycle is lent: those that the line gives, as far as the buffers go, or the right ones.
@@ -176,7 +172,7 @@ impl Session {
         }
     }
 
-    // `kept` is what the session keeps: the methods from here on are called where a file is open, and so do not test for it again.
+    // `kept` is what the session keeps: the methods from here to `tell_about` are called where a file is open, and so do not test for it again.
     // Each of the four reads it, so each has the clause: as a part of `Session` it would be an Option again.
 
     // `load` and `at` begin alike: a function for it would need a clause on each of the file, the inputs, the state and what is kept,

@@ -1,10 +1,7 @@
-use Rattle.std.proofs.Common.{arith}
+use Rattle.std.proofs.Common.{arith, of_calls}
 use Rattle.ol_tables.proofs.HeadsFile.{bytes_of_lem}
-use Rattle.relay.proofs.Calls.{values_told}
+use Rattle.relay.proofs.Calls.{values_either}
 use Rattle.relay.proofs.session.values_length.Goals as goal
 
-pub returns-in-Ok : goal.returns-in-Ok
-returns-in-Ok c = values_told c.args.file.now (bytes_of_lem c.args.file.now (λ i. omega (arith, c.type_inv.file i))) c.lengths.ensures c.in-Ok.is
-
-pub returns-in-Err : goal.returns-in-Err
-returns-in-Err c = values_told c.args.file.now (bytes_of_lem c.args.file.now (λ i. omega (arith, c.type_inv.file i))) c.lengths.ensures c.in-Err.is
+pub returns : goal.returns
+returns c = values_either c.args.file.now (bytes_of_lem c.args.file.now (λ i. omega (arith, c.type_inv.file i))) _ c.lengths.ensures c.map_or.ensures (λ l h. search (of_calls, h))
