@@ -1,20 +1,20 @@
 -- Evaluation only meets data of their formats: `formats_kept`.
-use Rattle.std.proofs.Common.{◌≡◌, ℕ, zero, suc, ◌%◌, ◌^◌, Bool, true, false, cond, ltb, List, [], ◌∷◌, ◌++◌, map, length, get_or, take, drop, set, ℤ, pos, negsuc, ◌+ℤ◌, ◌-ℤ◌, ◌*ℤ◌, neg_ℤ, subst, arith}
+use Rattle.std.proofs.Common.{◌≡◌, ℕ, zero, suc, ◌%◌, ◌^◌, Bool, true, false, cond, ltb, List, [], ◌∷◌, ◌++◌, length, get_or, take, drop, set, ℤ, pos, negsuc, ◌+ℤ◌, ◌-ℤ◌, ◌*ℤ◌, neg_ℤ, subst, arith}
 use mathlib.Core.Option.{Option, none, some}
 use lib.ListN.{get_elem?}
 use lib.Signed.{mag, quot_z, rem_z}
 use lib.Ieee.{binary32, binary64}
-use Rattle.ol_spec.specs.Lists.{maybe, or_else, concat, member, lookup, position}
+use Rattle.ol_spec.specs.Lists.{maybe, or_else, concat, member, lookup, position, positions}
 use Rattle.ol_spec.specs.Real as R
 use Rattle.ol_spec.specs.Real.{Real, Precision, zero_r, eq_r, div_r}
 use Rattle.ol_spec.specs.Syntax.{Ty, bool, int, float32, float64, char, enum, UnaryOp, Not, Neg, BinOp, And, Or, Xor, Implies, Eq, Neq, Lt, Le, Gt, Ge, Add, Sub, Mul, Div, Mod, BitAnd, BitOr, BitXor, Shl, Shr}
-use Rattle.ol_spec.specs.Syntax.{Expr, bool_lit, int_lit, float_lit, char_lit, var, unary, binary, if_then_else, pre, arrow, cast, call, tuple, Exprs, nil, cons, name_in, Rhs, items, outputs_of, one, rhs_of}
-use Rattle.ol_spec.specs.Syntax.{NodeKind, Function, Operator, Imported, Variable, Constant, Node, File, variables, variable_names, type_of, main}
+use Rattle.ol_spec.specs.Syntax.{Expr, bool_lit, int_lit, float_lit, char_lit, var, unary, binary, if_then_else, pre, arrow, cast, call, tuple, index, literal, map_over, fold_over, Exprs, nil, cons, name_in, Rhs, items, outputs_of, one, rhs_of}
+use Rattle.ol_spec.specs.Syntax.{NodeKind, Function, Operator, Imported, Constant, Node, File, variables, cell_types, constant_cells, constant_slots, main}
 use Rattle.ol_spec.specs.Cell.{value_by, values_of}
 use Rattle.ol_spec.specs.Types.{IntTy, default, fit_int, fit_single, fit_double, fit, cast_int, cast_real, cast_to, int_ty}
-use Rattle.ol_spec.specs.Operators.{exact, unary_of, Pair, bools, ints, reals, names, unlike, pair, on_bools, on_numbers, real_out, eq_z, div_int, mod_int, div_real, shift_by, on_pair, binary_of}
-use Rattle.ol_spec.specs.Eval.{Globals, Scope, Calls, Eval, Evals, Outcomes, values, failure, overflow, Branch, common_real, drop_failure, untaken, branches_on, choose, condition, next, next_on, next_all, next_all_on, enter, enter_on, single, several, cons_out, or_failure, then_out, constant_of, variant_of, present_of, before_of, pre_of, seg_size, record_size, eval, eval_all, eval_rhs, node_at}
-use Rattle.ol_spec.specs.Step.{globals, old_cells, fit_all, put_at, assign, Ended, finished, failed_at, overflowed_at, equation_at, store_on, store, scope, eval_equation, run_all, run, fresh_record, leave_on, leave, instance, call_by, calls_at, calls}
+use Rattle.ol_spec.specs.Operators.{exact, unary_of, Pair, bools, ints, reals, names, unlike, pair, on_bools, on_numbers, bool_out, real_out, eq_z, div_int, mod_int, div_real, shift_by, on_pair, binary_of}
+use Rattle.ol_spec.specs.Eval.{Globals, Scope, Calls, Eval, Evals, Evaluated, Results, Outcomes, values, failure, overflow, Branch, common_real, drop_failure, untaken, branches_on, choose, condition, next, next_on, next_all, next_all_on, next_cells, next_cells_on, cells_by, arrays_or, enter, enter_on, single, several, several_eval, map_eval, cons_out, or_failure, or_failures, then_out, then_cells, then_results, flatten, flat, constant_of, variant_of, present_of, before_of, pre_of, pre_cells, no_value_of, picked, picked_some, cells_named, cells_of, element_at, index_of, elements_at, equality, equal_cells, compare_cells, map_next, map_from, fold_from, applied, map_all, fold_all, is_array, seg_size, record_size, eval, eval_array, eval_each, eval_cells, eval_rhs, node_at}
+use Rattle.ol_spec.specs.Step.{globals, cell_count, input_count, output_count, old_cells, fit_all, slots_of, put_all, assign, Ended, finished, failed_at, overflowed_at, equation_at, store_on, store, scope, eval_equation, run_all, run, fresh_record, leave_on, leave, instance, call_by, calls_at, calls}
 use Rattle.ol_spec.specs.Admission.{all, no_calls, no_variables, after_constant, constants_from, constants}
 use Rattle.ol_spec.specs.Places.{placed_constants}
 use Rattle.ol_spec.specs.State.{globals_of}
@@ -76,6 +76,57 @@ lookup_in x ns a h = go (position x ns)
 or_in : (a b : Option Value) → OptIn a → OptIn b → OptIn (or_else a b)
 or_in none b h k = k
 or_in (some v) b h k = h
+
+-- the cells of a name, and the values of several expressions
+abbrev OptsIn : Option (List Value) → Type 0
+OptsIn none = Unit {0}
+OptsIn (some vs) = InFormats vs
+
+abbrev EachIn : List (List Value) → Type 0
+EachIn [] = Unit {0}
+EachIn (vs ∷ vss) = InFormats vs × EachIn vss
+
+abbrev EachOut : Results (List (List Value)) → Type 0
+EachOut (values vss) = EachIn vss
+EachOut (failure c) = Unit {0}
+EachOut overflow = Unit {0}
+
+get_d_in : (a : List Value) (i : ℕ) → InFormats a → InFormat (get_or a i no_value_of)
+get_d_in [] zero h = tt
+get_d_in [] (suc i) h = tt
+get_d_in (v ∷ a) zero h = h.0
+get_d_in (v ∷ a) (suc i) h = get_d_in a i h.1
+
+picked_in : (a : List Value) (is : List ℕ) → InFormats a → InFormats (picked a is)
+picked_in a [] h = tt
+picked_in a (i ∷ is) h = (get_d_in a i h, picked_in a is h)
+
+named_in : (x : ℕ) (ns : List ℕ) (a : List Value) → InFormats a → OptsIn (cells_named x ns a)
+named_in x ns a h = go (positions x ns)
+  where
+    go : (is : List ℕ) → OptsIn (picked_some a is)
+    go [] = tt
+    go (i ∷ is) = picked_in a (i ∷ is) h
+
+ors_in : (a b : Option (List Value)) → OptsIn a → OptsIn b → OptsIn (or_else a b)
+ors_in none b h k = k
+ors_in (some vs) b h k = h
+
+failures_in : (o : Option (List Value)) → OptsIn o → OutsInFormat (or_failures o)
+failures_in none h = tt
+failures_in (some vs) h = h
+
+concat_in : (vss : List (List Value)) → EachIn vss → InFormats (concat vss)
+concat_in [] h = tt
+concat_in (vs ∷ vss) h = join_in vs (concat vss) h.0 (concat_in vss h.1)
+
+first_in : (vss : List (List Value)) → EachIn vss → InFormats (get_or vss 0 [])
+first_in [] h = tt
+first_in (vs ∷ vss) h = h.0
+
+elements_in : (j : ℕ) (vss : List (List Value)) → EachIn vss → InFormats (elements_at j vss)
+elements_in j [] h = tt
+elements_in j (vs ∷ vss) h = (get_d_in vs j h.0, elements_in j vss h.1)
 
 failure_in : (o : Option Value) → OptIn o → OutInFormat (or_failure o)
 failure_in none h = tt
@@ -139,6 +190,12 @@ fit_in float32 v h = single_in v h
 fit_in float64 v h = double_in_lem v h
 fit_in char v h = h
 fit_in (enum e) v h = h
+
+fit_all_in : (ts : List Ty) (ws : List Value) → InFormats ws → InFormats (fit_all ts ws)
+unfolding fit_all
+fit_all_in [] ws h = tt
+fit_all_in (t ∷ ts) [] h = tt
+fit_all_in (t ∷ ts) (w ∷ ws) h = (fit_in t w h.0, fit_all_in ts ws h.1)
 
 cast_int_in : (t : IntTy) (v : Value) → OutInFormat (cast_int t v)
 cast_int_in t (Val.Bool b) = tt
@@ -325,14 +382,100 @@ cons_in v (values vs) h k = (h, k)
 cons_in v (failure c) h k = tt
 cons_in v overflow h k = tt
 
-next_all_in : (r : Eval) (k : List ℕ → Evals) (rest : List ℕ) → OutInFormat r.out → OutsInFormat (k rest).out → OutsInFormat (next_all r k rest).out
+cons_each : (vs : List Value) (o : Results (List (List Value))) → InFormats vs → EachOut o → EachOut (cons_out vs o)
+cons_each vs (values vss) h k = (h, k)
+cons_each vs (failure c) h k = tt
+cons_each vs overflow h k = tt
+
+next_all_in : (r : Evals) (k : List ℕ → Evaluated (List (List Value))) (rest : List ℕ) → OutsInFormat r.out → EachOut (k rest).out → EachOut (next_all r k rest).out
 unfolding next_all
 next_all_in r k rest h f = go r.out h
   where
-    go : (o : Outcome) → OutInFormat o → OutsInFormat (next_all_on o r.seg k rest).out
-    go (Out.Value v) h = cons_in v (k rest).out h f
-    go (Out.Failure c) h = tt
-    go Out.Overflow h = tt
+    go : (o : Outcomes) → OutsInFormat o → EachOut (next_all_on o r.seg k rest).out
+    go (values vs) h = cons_each vs (k rest).out h f
+    go (failure c) h = tt
+    go overflow h = tt
+
+-- ---- arrays
+
+next_cells_in : (r : Evals) (k : List Value → List ℕ → Eval) (rest : List ℕ) → OutsInFormat r.out → ((vs : List Value) → InFormats vs → OutInFormat (k vs rest).out) → OutInFormat (next_cells r k rest).out
+unfolding next_cells
+next_cells_in r k rest h f = go r.out h
+  where
+    go : (o : Outcomes) → OutsInFormat o → OutInFormat (next_cells_on o r.seg k rest).out
+    go (values vs) h = f vs h
+    go (failure c) h = tt
+    go overflow h = tt
+
+then_cells_in : (k : List Value → Outcome) (o : Outcomes) → ((vs : List Value) → OutInFormat (k vs)) → OutInFormat (then_cells k o)
+then_cells_in k (values vs) f = f vs
+then_cells_in k (failure c) f = tt
+then_cells_in k overflow f = tt
+
+each_then : (k : List (List Value) → Outcomes) (o : Results (List (List Value))) → EachOut o → ((vss : List (List Value)) → EachIn vss → OutsInFormat (k vss)) → OutsInFormat (then_results k o)
+each_then k (values vss) h f = f vss h
+each_then k (failure c) h f = tt
+each_then k overflow h f = tt
+
+enter_each : (k : List (List Value) → List ℕ → Evals) (own : List ℕ) (r : Evaluated (List (List Value))) → EachOut r.out
+    → ((vss : List (List Value)) → EachIn vss → OutsInFormat (k vss own).out) → OutsInFormat (enter k own r).out
+unfolding enter
+enter_each k own r h f = go r.out h
+  where
+    go : (o : Results (List (List Value))) → EachOut o → OutsInFormat (enter_on k own o r.seg).out
+    go (values vss) h = f vss h
+    go (failure c) h = tt
+    go overflow h = tt
+
+cells_by_in : (b : Bool) (a : List ℕ → Evals) (e : List ℕ → Eval) (seg : List ℕ) → OutsInFormat (a seg).out → OutInFormat (e seg).out → OutsInFormat (cells_by b a e seg).out
+unfolding cells_by
+cells_by_in true a e seg h k = h
+cells_by_in false a e seg h k = several_out (e seg).out k
+
+arrays_or_in : (b : Bool) (a e : List ℕ → Eval) (seg : List ℕ) → OutInFormat (a seg).out → OutInFormat (e seg).out → OutInFormat (arrays_or b a e seg).out
+unfolding arrays_or
+arrays_or_in true a e seg h k = h
+arrays_or_in false a e seg h k = k
+
+compare_in : (op : BinOp) (vs ws : List Value) → OutInFormat (compare_cells op vs ws)
+compare_in op vs ws = go (equality op)
+  where
+    go : (o : Option (Bool → Bool)) → OutInFormat (maybe (Out.Failure Why.Other) (λ f. bool_out (f (equal_cells vs ws))) o)
+    go none = tt
+    go (some f) = tt
+
+element_in : (vs : List Value) (i : ℤ) → InFormats vs → OutInFormat (element_at vs i)
+element_in vs (pos k) h = go (get_elem? vs k) (get_in vs k h)
+  where
+    go : (o : Option Value) → OptIn o → OutInFormat (maybe (Out.Failure Why.Range) Out.Value o)
+    go none h = tt
+    go (some v) h = h
+element_in vs (negsuc k) h = tt
+
+index_in : (b : Bool) (vs : List Value) (v : Value) → InFormats vs → OutInFormat (index_of b vs v)
+index_in b vs (Val.Bool x) h = tt
+index_in true vs (Val.Int i) h = element_in vs i h
+index_in false vs (Val.Int i) h = tt
+index_in b vs (Val.Float x) h = tt
+index_in b vs (Val.Float32 x) h = tt
+index_in b vs (Val.Enum x) h = tt
+
+map_next_in : (o : Outcome) (r : Outcomes) → OutInFormat o → OutsInFormat r → OutsInFormat (map_next o (λ u. r))
+unfolding map_next
+map_next_in (Out.Value v) r h k = cons_in v r h k
+map_next_in (Out.Failure c) r h k = tt
+map_next_in Out.Overflow r h k = tt
+
+module _ (f : List Value → Outcome) (keeps : (vs : List Value) → InFormats vs → OutInFormat (f vs)) where
+  map_in : (vss : List (List Value)) → EachIn vss → (j n : ℕ) → OutsInFormat (map_from f vss j n)
+  unfolding map_from
+  map_in vss h j zero = tt
+  map_in vss h j (suc n) = map_next_in (f (elements_at j vss)) (map_from f vss (suc j) n) (keeps (elements_at j vss) (elements_in j vss h)) (map_in vss h (suc j) n)
+
+  fold_in : (r : Value) (vs : List Value) → InFormat r → InFormats vs → OutInFormat (fold_from f r vs)
+  unfolding fold_from
+  fold_in r [] h k = h
+  fold_in r (v ∷ vs) h k = then_in (λ w. fold_from f w vs) (f (r ∷ v ∷ [])) (keeps (r ∷ v ∷ []) (h, (k.0, tt))) (λ w i. fold_in w vs i k.1)
 
 -- calls that give such values, of such arguments
 abbrev Keeps : Calls → Type 0
@@ -360,6 +503,22 @@ module _ (g : Globals) (constant : InFormats g.constant_values) (calls : Calls) 
         go none = tt
         go (some x) = or_in (lookup x s.names s.before) (constant_of g s x) (lookup_in x s.names s.before before) (lookup_in x g.constant_names g.constant_values constant)
 
+    cells_in : (cs : List Value) → InFormats cs → (x : ℕ) → OutsInFormat (cells_of g s cs x)
+    cells_in cs h x =
+        failures_in (or_else (cells_named x s.names cs) (cells_named x g.constant_names g.constant_values))
+        (ors_in (cells_named x s.names cs) _ (named_in x s.names cs h) (named_in x g.constant_names g.constant_values constant))
+
+    pre_cells_in : (b : Bool) (e : Expr) → OutsInFormat (pre_cells g s b e)
+    pre_cells_in true e = tt
+    pre_cells_in false e = go (name_in e)
+      where
+        go : (o : Option ℕ) → OutsInFormat (maybe (failure Why.Other) (cells_of g s s.before) o)
+        go none = tt
+        go (some x) = cells_in s.before before x
+
+    applied_in_lem : (k : ℕ) (vs : List Value) → InFormats vs → OutInFormat (applied g s calls k vs)
+    applied_in_lem k vs h = single_out (calls k vs []).out (keeps k vs [] h)
+
     mutual
       unfolding eval
 
@@ -371,34 +530,80 @@ module _ (g : Globals) (constant : InFormats g.constant_values) (calls : Calls) 
       eval_in_lem (var x) seg = failure_in (present_of g s x) (present_in x)
       eval_in_lem (unary op e) seg = then_in (unary_of op) (eval g s calls e seg).out (eval_in_lem e seg) (unary_in op)
       eval_in_lem (binary op l r) seg =
-          next_in _ _ _ (eval_in_lem l _) (λ v h. then_in (binary_of op v) (eval g s calls r (drop (seg_size g l) seg)).out (eval_in_lem r _) (λ w k. pair_in op (pair v w)))
+          arrays_or_in (is_array g s l) _ _ seg
+          (next_cells_in _ _ _ (array_in_lem l _) (λ vs h. then_cells_in (compare_cells op vs) (eval_array g s calls r (drop (seg_size g l) seg)).out (compare_in op vs)))
+          (next_in _ _ _ (eval_in_lem l _) (λ v h. then_in (binary_of op v) (eval g s calls r (drop (seg_size g l) seg)).out (eval_in_lem r _) (λ w k. pair_in op (pair v w))))
       eval_in_lem (if_then_else c t e) seg = next_in _ _ _ (eval_in_lem c _) (λ v h. condition_in _ v _ (λ b. choose_in_lem b _ _ (eval_in_lem t _) (eval_in_lem e _)))
       eval_in_lem (pre e) seg = pre_in s.first e
       eval_in_lem (arrow a b) seg = choose_in_lem s.first _ _ (eval_in_lem a _) (eval_in_lem b _)
       eval_in_lem (cast t e) seg = then_in (cast_to t) (eval g s calls e seg).out (eval_in_lem e seg) (cast_in t)
-      eval_in_lem (call k es) seg = single_out (enter (calls k) (take (record_size g k) seg) (eval_all g s calls es (drop (record_size g k) seg))).out (enter_in _ _ _ (eval_all_in es _) (λ ws h. keeps k ws _ h))
+      eval_in_lem (call k es) seg =
+          let own = take (record_size g k) seg in
+          let r = flat (eval_each g s calls es (drop (record_size g k) seg)) in
+          single_out (enter (calls k) own r).out
+          (enter_in (calls k) own r (each_then flatten (eval_each g s calls es (drop (record_size g k) seg)).out (each_in es (drop (record_size g k) seg)) concat_in) (λ ws h. keeps k ws own h))
       eval_in_lem (tuple es) seg = tt
+      eval_in_lem (index a i) seg =
+          next_cells_in _ _ _ (cells_by_in (is_array g s a) (λ q. eval_array g s calls a q) (λ q. eval g s calls a q) _ (array_in_lem a _) (eval_in_lem a _))
+          (λ vs h. then_in (index_of (is_array g s a) vs) (eval g s calls i (drop (seg_size g a) seg)).out (eval_in_lem i _) (λ v k. index_in (is_array g s a) vs v h))
+      eval_in_lem (literal es) seg = tt
+      eval_in_lem (map_over k es) seg = tt
+      eval_in_lem (fold_over k e es) seg =
+          let own = take (seg_size g e) seg in
+          let r = eval_each g s calls es (drop (seg_size g e) seg) in
+          let seed : List (List Value) → List ℕ → Evals = λ vss q. several_eval (map_eval (fold_all g s calls k vss) (eval g s calls e q)) in
+          single_out (enter seed own r).out
+          (enter_each seed own r (each_in es (drop (seg_size g e) seg))
+          (λ vss h. several_out (then_out (fold_all g s calls k vss) (eval g s calls e own).out)
+          (then_in (fold_all g s calls k vss) (eval g s calls e own).out (eval_in_lem e own) (λ v i. fold_in (applied g s calls k) (applied_in_lem k) v (get_or vss 0 []) i (first_in vss h)))))
 
-      eval_all_in : (es : Exprs) (seg : List ℕ) → OutsInFormat (eval_all g s calls es seg).out
-      eval_all_in nil seg = tt
-      eval_all_in (cons e es) seg = next_all_in _ _ _ (eval_in_lem e _) (eval_all_in es _)
+      array_in_lem : (e : Expr) (seg : List ℕ) → OutsInFormat (eval_array g s calls e seg).out
+      array_in_lem (bool_lit b) seg = tt
+      array_in_lem (int_lit i) seg = tt
+      array_in_lem (float_lit b) seg = tt
+      array_in_lem (char_lit c) seg = tt
+      array_in_lem (var x) seg = cells_in s.present present x
+      array_in_lem (unary op e) seg = tt
+      array_in_lem (binary op l r) seg = tt
+      array_in_lem (if_then_else c t e) seg = tt
+      array_in_lem (pre e) seg = pre_cells_in s.first e
+      array_in_lem (arrow a b) seg = tt
+      array_in_lem (cast t e) seg = tt
+      array_in_lem (call k es) seg =
+          let own = take (record_size g k) seg in
+          enter_in (calls k) own (flat (eval_each g s calls es (drop (record_size g k) seg)))
+          (each_then flatten (eval_each g s calls es (drop (record_size g k) seg)).out (each_in es (drop (record_size g k) seg)) concat_in) (λ ws h. keeps k ws own h)
+      array_in_lem (tuple es) seg = tt
+      array_in_lem (index a i) seg = tt
+      array_in_lem (literal es) seg = each_then flatten (eval_each g s calls es seg).out (each_in es seg) concat_in
+      array_in_lem (map_over k es) seg =
+          each_then (map_all g s calls k) (eval_each g s calls es seg).out (each_in es seg) (λ vss h. map_in (applied g s calls k) (applied_in_lem k) vss h 0 (length (get_or vss 0 [])))
+      array_in_lem (fold_over k e es) seg = tt
+
+      each_in : (es : Exprs) (seg : List ℕ) → EachOut (eval_each g s calls es seg).out
+      each_in nil seg = tt
+      each_in (cons e es) seg =
+          next_all_in _ _ _ (cells_by_in (is_array g s e) (λ q. eval_array g s calls e q) (λ q. eval g s calls e q) _ (array_in_lem e _) (eval_in_lem e _)) (each_in es _)
+
+    pub eval_cells_in : (e : Expr) (seg : List ℕ) → OutsInFormat (eval_cells g s calls e seg).out
+    eval_cells_in e seg = cells_by_in (is_array g s e) (λ q. eval_array g s calls e q) (λ q. eval g s calls e q) seg (array_in_lem e seg) (eval_in_lem e seg)
 
     rhs_in_lem : (r : Rhs) (seg : List ℕ) → OutsInFormat (eval_rhs g s calls r seg).out
-    rhs_in_lem (items es) seg = eval_all_in es seg
-    rhs_in_lem (outputs_of k es) seg = enter_in _ _ _ (eval_all_in es _) (λ ws h. keeps k ws _ h)
-    rhs_in_lem (one e) seg = several_out (eval g s calls e seg).out (eval_in_lem e seg)
+    rhs_in_lem (items es) seg = each_then flatten (eval_each g s calls es seg).out (each_in es seg) concat_in
+    rhs_in_lem (outputs_of k es) seg =
+        enter_in (calls k) _ _ (each_then flatten (eval_each g s calls es (drop (record_size g k) seg)).out (each_in es (drop (record_size g k) seg)) concat_in) (λ ws h. keeps k ws _ h)
+    rhs_in_lem (one e) seg = eval_cells_in e seg
 
   -- ---- a run
 
-  put_in : (n : Node) (o : Option ℕ) (v : Value) (cs : List Value) → InFormat v → InFormats cs → InFormats (put_at n o v cs)
-  put_in n none v cs h k = k
-  put_in n (some i) v cs h k = set_in cs i _ k (fit_in (get_or (map type_of (variables n)) i bool) v h)
+  put_in : (n : Node) (is : List ℕ) (vs cs : List Value) → InFormats vs → InFormats cs → InFormats (put_all n is vs cs)
+  unfolding put_all
+  put_in n [] vs cs h k = k
+  put_in n (i ∷ is) [] cs h k = k
+  put_in n (i ∷ is) (v ∷ vs) cs h k = put_in n is vs _ h.1 (set_in cs i _ k (fit_in (get_or (cell_types (variables n)) i bool) v h.0))
 
   assign_in : (n : Node) (xs : List ℕ) (vs cs : List Value) → InFormats vs → InFormats cs → InFormats (assign n xs vs cs)
-  unfolding assign
-  assign_in n [] vs cs h k = k
-  assign_in n (x ∷ xs) [] cs h k = k
-  assign_in n (x ∷ xs) (v ∷ vs) cs h k = assign_in n xs vs _ h.1 (put_in n (position x (variable_names n)) v cs h.0 k)
+  assign_in n xs vs cs h k = put_in n (slots_of n xs) vs cs h k
 
   run_all_in : (n : Node) (first : Bool) (before : List Value) → InFormats before → (is : List ℕ) (cs : List Value) (ss : List (List ℕ)) → InFormats cs
       → InFormats (run_all g calls n first before is cs ss).cells
@@ -416,21 +621,15 @@ module _ (g : Globals) (constant : InFormats g.constant_values) (calls : Calls) 
   run_in_lem : (n : Node) (ins : List Value) (r : List ℕ) → InFormats ins → InFormats (run g calls n ins r).cells
   unfolding run
   run_in_lem n ins r h =
-      let old = values_in_lem (length (variables n)) (drop 1 r) in
-      run_all_in n _ (old_cells n r) old _ _ _ (join_in ins _ h (drop_in (length n.inputs) (old_cells n r) old))
-
-  fit_all_in : (xs : List Variable) (ws : List Value) → InFormats ws → InFormats (fit_all xs ws)
-  unfolding fit_all
-  fit_all_in [] ws h = tt
-  fit_all_in (x ∷ xs) [] h = tt
-  fit_all_in (x ∷ xs) (w ∷ ws) h = (fit_in x.ty w h.0, fit_all_in xs ws h.1)
+      let old = values_in_lem (cell_count n) (drop 1 r) in
+      run_all_in n _ (old_cells n r) old _ _ _ (join_in ins _ h (drop_in (input_count n) (old_cells n r) old))
 
   instance_in : (n : Node) (ws : List Value) (r : List ℕ) → InFormats ws → OutsInFormat (instance g calls n ws r).out
   unfolding instance leave
-  instance_in n ws r h = go (run g calls n (fit_all n.inputs ws) r).end
+  instance_in n ws r h = go (run g calls n (fit_all (cell_types n.inputs) ws) r).end
     where
-      go : (e : Ended) → OutsInFormat (leave_on g n r e (run g calls n (fit_all n.inputs ws) r).cells (run g calls n (fit_all n.inputs ws) r).segs).out
-      go finished = take_in (length n.outputs) _ (drop_in (length n.inputs) _ (run_in_lem n (fit_all n.inputs ws) r (fit_all_in n.inputs ws h)))
+      go : (e : Ended) → OutsInFormat (leave_on g n r e (run g calls n (fit_all (cell_types n.inputs) ws) r).cells (run g calls n (fit_all (cell_types n.inputs) ws) r).segs).out
+      go finished = take_in (output_count n) _ (drop_in (input_count n) _ (run_in_lem n (fit_all (cell_types n.inputs) ws) r (fit_all_in (cell_types n.inputs) ws h)))
       go (failed_at c i) = tt
       go (overflowed_at i) = tt
 
@@ -449,14 +648,14 @@ calls_in_lem g c (suc d) k ws r h = go (node_at g k).kind (calls_in_lem g c d)
 constants_in_lem : (f : File) (cs : List (ℕ × Constant)) (xs : List ℕ) (us vs : List Value) → InFormats us → constants_from f xs us cs ≡ all vs → InFormats vs
 constants_in_lem f [] xs us vs h e = let z : us ≡ vs = cc in subst InFormats z h
 constants_in_lem f (c ∷ cs) xs us vs h e =
-    go (eval (globals f xs us) no_variables no_calls c.1.value []).out (eval_in_lem (globals f xs us) h no_calls (λ k ws r i. tt) no_variables tt tt c.1.value []) e
-    (λ v i. constants_in_lem f cs (xs ++ c.1.name ∷ []) (us ++ fit c.1.ty v ∷ []) vs (join_in us _ h (fit_in c.1.ty v i, tt)))
+    go (eval_cells (globals f xs us) no_variables no_calls c.1.value []).out (eval_cells_in (globals f xs us) h no_calls (λ k ws r i. tt) no_variables tt tt c.1.value []) e
+    (λ ws i. constants_in_lem f cs (xs ++ constant_slots c.1) (us ++ fit_all (constant_cells c.1) ws) vs (join_in us _ h (fit_all_in (constant_cells c.1) ws i)))
   where
-    go : (o : Outcome) → OutInFormat o → after_constant c.0 (λ v. constants_from f (xs ++ c.1.name ∷ []) (us ++ fit c.1.ty v ∷ []) cs) o ≡ all vs
-        → ((v : Value) → InFormat v → constants_from f (xs ++ c.1.name ∷ []) (us ++ fit c.1.ty v ∷ []) cs ≡ all vs → InFormats vs) → InFormats vs
-    go (Out.Value v) i e k = k v i e
-    go (Out.Failure c) i e k = let z : ◌≡◌ {A = ℕ} 0 1 = cc in absurd (omega arith)
-    go Out.Overflow i e k = let z : ◌≡◌ {A = ℕ} 0 1 = cc in absurd (omega arith)
+    go : (o : Outcomes) → OutsInFormat o → after_constant c.0 (λ ws. constants_from f (xs ++ constant_slots c.1) (us ++ fit_all (constant_cells c.1) ws) cs) o ≡ all vs
+        → ((ws : List Value) → InFormats ws → constants_from f (xs ++ constant_slots c.1) (us ++ fit_all (constant_cells c.1) ws) cs ≡ all vs → InFormats vs) → InFormats vs
+    go (values ws) i e k = k ws i e
+    go (failure c) i e k = let z : ◌≡◌ {A = ℕ} 0 1 = cc in absurd (omega arith)
+    go overflow i e k = let z : ◌≡◌ {A = ℕ} 0 1 = cc in absurd (omega arith)
 
 all_constants : (f : File) (vs : List Value) → constants f ≡ all vs → InFormats vs
 unfolding constants
@@ -466,7 +665,7 @@ main_in : (f : File) (vs : List Value) (old ins : List ℕ) → InFormats vs →
 unfolding main_run
 main_in f vs old ins h =
     let g = globals_of f vs in
-    run_in_lem g h (calls g) (calls_in_lem g h (length g.nodes)) (main f) (values_of (length (main f).inputs) ins) _ (values_in_lem (length (main f).inputs) ins)
+    run_in_lem g h (calls g) (calls_in_lem g h (length g.nodes)) (main f) (values_of (input_count (main f)) ins) _ (values_in_lem (input_count (main f)) ins)
 
 pub formats_kept : FormatsKept
 formats_kept =
@@ -474,6 +673,7 @@ formats_kept =
       read = values_in_lem;
       constants = all_constants;
       evaluated = λ f vs s d e seg h p b. eval_in_lem (globals_of f vs) h (calls_at (globals_of f vs) d) (calls_in_lem (globals_of f vs) h d) s p b e seg;
+      evaluated_cells = λ f vs s d e seg h p b. eval_cells_in (globals_of f vs) h (calls_at (globals_of f vs) d) (calls_in_lem (globals_of f vs) h d) s p b e seg;
       called = λ f vs d k ws r h i. calls_in_lem (globals_of f vs) h d k ws r i;
       cycled = main_in;
     }

@@ -7,7 +7,7 @@ use Rattle.ol_spec.specs.Syntax.{File, Expr, int, float32, float64, Neg, Eq, Neq
 use Rattle.ol_spec.specs.Types.{int_ty, narrow, fit, cast_to}
 use Rattle.ol_spec.specs.Operators.{unary_of, binary_of}
 use Rattle.ol_spec.specs.Cell.{values_of}
-use Rattle.ol_spec.specs.Eval.{Scope, common_real, Outcomes, values, failure, overflow, eval}
+use Rattle.ol_spec.specs.Eval.{Scope, common_real, Outcomes, values, failure, overflow, eval, eval_cells}
 use Rattle.ol_spec.specs.Step.{calls_at}
 use Rattle.ol_spec.specs.Admission.{all, constants}
 use Rattle.ol_spec.specs.State.{globals_of}
@@ -109,12 +109,14 @@ OutsInFormat (values vs) = InFormats vs
 OutsInFormat (failure c) = Unit {0}
 OutsInFormat overflow = Unit {0}
 
--- Every cell is read as a datum of its format, and constants are such. So are the outcomes of any expression on such cells, and of calls at every depth, on any bytes; and so are the
+-- Every cell is read as a datum of its format, and constants are such. So are the outcomes of any expression on such cells, a scalar's and an array's, and of calls at every depth, on any bytes; and so are the
 -- values of a cycle. So the condition of a conversion from single to double is met wherever evaluation makes one.
 pub record FormatsKept : Type 0 where
   pub read : (n : ℕ) (s : List ℕ) → InFormats (values_of n s)
   pub constants : (f : File) (vs : List Value) → constants f ≡ all vs → InFormats vs
   pub evaluated : (f : File) (vs : List Value) (s : Scope) (d : ℕ) (e : Expr) (seg : List ℕ) → InFormats vs → InFormats s.present → InFormats s.before
       → OutInFormat (eval (globals_of f vs) s (calls_at (globals_of f vs) d) e seg).out
+  pub evaluated_cells : (f : File) (vs : List Value) (s : Scope) (d : ℕ) (e : Expr) (seg : List ℕ) → InFormats vs → InFormats s.present → InFormats s.before
+      → OutsInFormat (eval_cells (globals_of f vs) s (calls_at (globals_of f vs) d) e seg).out
   pub called : (f : File) (vs : List Value) (d k : ℕ) (ws : List Value) (r : List ℕ) → InFormats vs → InFormats ws → OutsInFormat (calls_at (globals_of f vs) d k ws r).out
   pub cycled : (f : File) (vs : List Value) (old ins : List ℕ) → InFormats vs → InFormats (main_run f vs old ins).cells

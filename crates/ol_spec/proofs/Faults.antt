@@ -4,10 +4,10 @@ use mathlib.Core.Bool.{Bool, true, false, not, ◌&&◌, cond}
 use mathlib.Core.List.Memᴰ.{head as here}
 use mathlib.Core.List.Memᴰ.{not-nil as in_nil}
 use mathlib.Core.List.Memᴰ.{tail as there}
-use mathlib.Core.List.{List, [], ◌∷◌}
-use mathlib.Core.Logic.{◌⊎◌, inl, inr, by_cases}
+use mathlib.Core.List.{List, [], ◌∷◌, ◌++◌}
+use mathlib.Core.Logic.{◌⊎◌, inl, inr, ⊎_elim, by_cases}
 use mathlib.Core.Option.{Option, none, some}
-use mathlib.Core.Path.{◌≡◌, refl, sym, ap, subst}
+use mathlib.Core.Path.{◌≡◌, refl, sym, ap, subst, ◌∙◌}
 use native.Mathlib.Omega.{arith}
 use native.Mathlib.Decide.{ℕ_discrete}
 use lib.ListN.{length, get_or, get_elem?}
@@ -17,7 +17,7 @@ use Rattle.ol_spec.specs.Lists.{up_to, member}
 use Rattle.ol_spec.specs.Syntax.{Expr, Exprs, cons, Node, File, no_node, last_of, main}
 use Rattle.ol_spec.specs.Read.{Read, got, fault, Reader, then_read, give, known, many, many_exprs, bools, unary_ops, bin_ops, node_kinds, TyCode, bool_t}
 use Rattle.ol_spec.specs.Read.{float32_t, float64_t, char_t, enum_t, int_t, ty_codes, ExprCode, bool_code, int_code, float_code, char_code, var_code, unary_code}
-use Rattle.ol_spec.specs.Read.{binary_code, if_code, pre_code, arrow_code, cast_code, call_code, tuple_code, expr_codes, or_end, byte, number, coded}
+use Rattle.ol_spec.specs.Read.{binary_code, if_code, pre_code, arrow_code, cast_code, call_code, tuple_code, expr_codes, or_end, byte, number, coded, index_code, literal_code, iterator_code, VarTyCode, scalar_t, array_t, var_ty_codes, var_ty_body, var_ty_r, Iterator, maps, folds, iterators, iterator_body}
 use Rattle.ol_spec.specs.Read.{within?, count_r, section_r, ty_body, ty_r, expr_body, expr_r, variable_r, constant_r, equation_r, node_r, sections_r}
 use Rattle.ol_spec.specs.Read.{at_end, unless_long, read_file}
 use Rattle.ol_spec.specs.Limits.{Loader}
@@ -29,14 +29,14 @@ use Rattle.ol_spec.specs.Step.{Ended, finished, failed_at, overflowed_at, store,
 use Rattle.ol_spec.specs.Admission.{Judged, refused, admitted, refuse_at, refuse_first, judge_read, judge, verdict, faults, state_size}
 use Rattle.ol_spec.specs.State.{good_state, good_inputs}
 use Rattle.ol_spec.specs.Cycle.{order_fits, order_unless_ring, order_node, order_read, ordering, start_fits, start_judged, start, end_on, main_run, cycle_unless, fits17, cycle_judged, cycle}
-use Rattle.ol_spec.specs.Faults.{From, Numbered, Inside, NumbersClaim}
+use Rattle.ol_spec.specs.Faults.{From, refusal_numbers, Numbered, Inside, NumbersClaim}
 use Rattle.ol_spec.specs.declared.Value.{Value}
 use Rattle.ol_spec.specs.declared.Fault.{Fault}
 use Rattle.ol_spec.specs.declared.Cause.TheVariants as Why
 use Rattle.std.specs.Prelude.{Err, Result}
 use Rattle.ol_spec.specs.declared.Cycled.{Cycled}
 use Rattle.ol_spec.specs.declared.Cycled.TheVariants as Cyc
-use Rattle.ol_spec.proofs.Tests.{or_left, or_right, eq_eqb}
+use Rattle.ol_spec.proofs.Tests.{T-or, or_left, or_right, eq_eqb}
 use Rattle.ol_spec.proofs.Lists.{All}
 use Rattle.ol_spec.proofs.Ordering.{Placed}
 use Rattle.ol_spec.proofs.Admits.{admits}
@@ -121,7 +121,18 @@ module _ (s : List ℕ) where
     ty_low : Lows (ty_r s l enums)
     ty_low = bind (coded_low ty_codes) ty_body_low
 
+    var_ty_body_low : (c : VarTyCode) → Lows (var_ty_body s l enums c)
+    var_ty_body_low (scalar_t c) = bind (ty_body_low c) (λ t. given _)
+    var_ty_body_low array_t = bind (count_low 1 l.elements) (λ n. bind ty_low (λ t. given _))
+
+    var_ty_low : Lows (var_ty_r s l enums)
+    var_ty_low = bind (coded_low var_ty_codes) var_ty_body_low
+
     module _ {r : Reader Expr} (hr : Lows r) where
+      iterator_low : (k n : ℕ) (w : Iterator) → Lows (iterator_body s l enums r k n w)
+      iterator_low k n maps = bind (many_exprs_low n hr) (λ es. given _)
+      iterator_low k n folds = bind hr (λ e. bind (many_exprs_low n hr) (λ es. given _))
+
       body_low : (c : ExprCode) → Lows (expr_body s l enums r c)
       body_low bool_code = bind (coded_low bools) (λ b. given _)
       body_low int_code = bind (number_low 8 0) (λ n. given _)
@@ -136,6 +147,9 @@ module _ (s : List ℕ) where
       body_low cast_code = bind ty_low (λ t. bind hr (λ e. given _))
       body_low call_code = bind byte_low (λ k. bind (count_low 0 l.arguments) (λ n. bind (many_exprs_low n hr) (λ es. given _)))
       body_low tuple_code = bind (count_low 2 l.items) (λ n. bind (many_exprs_low n hr) (λ es. given _))
+      body_low index_code = bind hr (λ a. bind hr (λ i. given _))
+      body_low literal_code = bind (count_low 1 l.elements) (λ n. bind (many_exprs_low n hr) (λ es. given _))
+      body_low iterator_code = bind (coded_low iterators) (λ w. bind byte_low (λ k. bind (count_low 0 l.arrays) (λ n. iterator_low k n w)))
 
     expr_low : (k : ℕ) → Lows (expr_r s l enums k)
     unfolding expr_r
@@ -143,10 +157,10 @@ module _ (s : List ℕ) where
     expr_low (suc k) = record { is = λ at. then_low (coded s expr_codes at) _ ((coded_low expr_codes).is at) (body_low (expr_low k)) }
 
     variable_low : Lows (variable_r s l enums)
-    variable_low = bind (number_low 2 0) (λ x. bind ty_low (λ t. given _))
+    variable_low = bind (number_low 2 0) (λ x. bind var_ty_low (λ t. given _))
 
     constant_low : Lows (constant_r s l enums)
-    constant_low = bind (number_low 2 0) (λ x. bind ty_low (λ t. bind (expr_low l.nesting) (λ e. given _)))
+    constant_low = bind (number_low 2 0) (λ x. bind var_ty_low (λ t. bind (expr_low l.nesting) (λ e. given _)))
 
     equation_low : Lows (equation_r s l enums)
     equation_low = bind (section_low 1 l.names (number_low 2 0)) (λ xs. bind (expr_low l.nesting) (λ e. given _))
@@ -178,22 +192,25 @@ module _ (s : List ℕ) where
       go true = (omega arith, omega arith)
       go false = (bind byte_low (λ b. bind (known_low 0 (ld.limits b)) (λ l. bind (sections_low b l) at_end_low))).is 0
 
--- ---- admission: 1 to 14
+-- ---- admission: 1 to 14, and 22
+
+abbrev Refusing : ℕ → Type 0
+Refusing n = ((1 ≤ n) × (n ≤ 14)) ⊎ (n ≡ 22)
 
 abbrev LowJudged : Judged → Type 0
-LowJudged (refused n p) = (1 ≤ n) × (n ≤ 14)
+LowJudged (refused n p) = Refusing n
 LowJudged (admitted f vs) = Unit {0}
 
-refuse_low : (n : ℕ) (o : Option ℕ) (j : Judged) → 1 ≤ n → n ≤ 14 → LowJudged j → LowJudged (refuse_at n o j)
-refuse_low n none j a b h = h
-refuse_low n (some p) j a b h = (a, b)
+refuse_low : (n : ℕ) (o : Option ℕ) (j : Judged) → Refusing n → LowJudged j → LowJudged (refuse_at n o j)
+refuse_low n none j a h = h
+refuse_low n (some p) j a h = a
 
-first_low : (xs : List (ℕ × Option ℕ)) (j : Judged) → All (λ x. (1 ≤ x.0) × (x.0 ≤ 14)) xs → LowJudged j → LowJudged (refuse_first xs j)
+first_low : (xs : List (ℕ × Option ℕ)) (j : Judged) → All (λ x. Refusing x.0) xs → LowJudged j → LowJudged (refuse_first xs j)
 first_low [] j a h = h
-first_low (x ∷ xs) j a h = refuse_low x.0 x.1 _ a.0.0 a.0.1 (first_low xs j a.1 h)
+first_low (x ∷ xs) j a h = refuse_low x.0 x.1 _ a.0 (first_low xs j a.1 h)
 
-numbers_low : (ld : Loader) (f : File) → All (λ x. (1 ≤ x.0) × (x.0 ≤ 14)) (faults ld f)
-numbers_low ld f = ((omega arith, omega arith), ((omega arith, omega arith), ((omega arith, omega arith), ((omega arith, omega arith), ((omega arith, omega arith), ((omega arith, omega arith), ((omega arith, omega arith), ((omega arith, omega arith), ((omega arith, omega arith), tt)))))))))
+numbers_low : (ld : Loader) (f : File) → All (λ x. Refusing x.0) (faults ld f)
+numbers_low ld f = (inl (omega arith, omega arith), (inl (omega arith, omega arith), (inl (omega arith, omega arith), (inl (omega arith, omega arith), (inl (omega arith, omega arith), (inr refl, (inl (omega arith, omega arith), (inl (omega arith, omega arith), (inl (omega arith, omega arith), (inl (omega arith, omega arith), tt))))))))))
 
 judge_low : (ld : Loader) (s : List ℕ) → LowJudged (judge ld s)
 unfolding judge
@@ -201,7 +218,7 @@ judge_low ld s = go (read_file s ld) (file_low s ld)
   where
     go : (r : Read File) → Low r → LowJudged (judge_read ld r)
     go (got f at) h = first_low (faults ld f) _ (numbers_low ld f) tt
-    go (fault n p) h = (h.0, omega (arith, h.1))
+    go (fault n p) h = inl (h.0, omega (arith, h.1))
 
 -- ---- where a run ends
 
@@ -245,8 +262,8 @@ same_err e = cc
 same_stopped : {x y : Fault} → Cyc.Stopped x ≡ Cyc.Stopped y → x ≡ y
 same_stopped e = cc
 
-admission_numbers : (j : Judged) → LowJudged j → (x : Fault) → verdict j ≡ Err x → From 1 14 x
-admission_numbers (refused n p) h x e = subst (From 1 14) (same_err e) h
+admission_numbers : (j : Judged) → LowJudged j → (x : Fault) → verdict j ≡ Err x → From 1 14 x ⊎ (x.number ≡ 22)
+admission_numbers (refused n p) h x e = subst (λ x. From 1 14 x ⊎ (x.number ≡ 22)) (same_err e) h
 admission_numbers (admitted f vs) h x e = let z : ◌≡◌ {A = ℕ} 0 1 = cc in absurd (omega arith)
 
 abbrev Ordered : Fault → Type 0
@@ -268,13 +285,13 @@ ordering_numbers (got f at) h k buf x e = node (get_elem? (placed_nodes f) k) e
     node none e = inl (subst (From 1 5) (same_err e) (omega arith, omega arith))
     node (some n) e = ring (unplaced n.1.equations) n e
 
-start_numbers : (j : Judged) → LowJudged j → (st : List ℕ) (x : Fault) → (start_judged j st).answer ≡ Err x → From 1 14 x ⊎ (x.number ≡ 17)
-start_numbers (refused n p) h st x e = inl (subst (From 1 14) (same_err e) h)
+start_numbers : (j : Judged) → LowJudged j → (st : List ℕ) (x : Fault) → (start_judged j st).answer ≡ Err x → From 1 14 x ⊎ ((x.number ≡ 17) ⊎ (x.number ≡ 22))
+start_numbers (refused n p) h st x e = ⊎_elim (λ h. inl (subst (From 1 14) (same_err e) h)) (λ h. inr (inr (ap (λ (y : Fault). y.number) (sym (same_err e)) ∙ h))) h
 start_numbers (admitted f vs) h st x e = fits (eqb (length st) (state_size f)) e
   where
-    fits : (b : Bool) → (start_fits b f vs st).answer ≡ Err x → From 1 14 x ⊎ (x.number ≡ 17)
+    fits : (b : Bool) → (start_fits b f vs st).answer ≡ Err x → From 1 14 x ⊎ ((x.number ≡ 17) ⊎ (x.number ≡ 22))
     fits true e = let z : ◌≡◌ {A = ℕ} 0 1 = cc in absurd (omega arith)
-    fits false e = inr (ap (λ (y : Fault). y.number) (sym (same_err e)))
+    fits false e = inr (inl (ap (λ (y : Fault). y.number) (sym (same_err e))))
 
 module _ (f : File) (vs : List Value) (old ins new vals : List ℕ) where
   refused_run : (e : Ended) (cs : List Value) (ss : List (List ℕ)) (x : Fault) → (end_on f old vals e cs ss).answer ≡ Cyc.Refused x → ⊥
@@ -304,9 +321,10 @@ module _ (f : File) (vs : List Value) (old ins new vals : List ℕ) where
   unless_stopped false false true x e = let z : ◌≡◌ {A = ℕ} 0 1 = cc in absurd (omega arith)
   unless_stopped false false false x e = stopped_run (main_run f vs old ins).end _ _ (main_ends f vs old ins) x e
 
-cycle_refused : (j : Judged) → LowJudged j → (old ins new vals : List ℕ) (x : Fault) → (cycle_judged j old ins new vals).answer ≡ Cyc.Refused x → From 1 17 x
-cycle_refused (refused n p) h old ins new vals x e = subst (From 1 17) (same_refused e) (h.0, omega (arith, h.1))
-cycle_refused (admitted f vs) h old ins new vals x e = unless_refused f vs old ins new vals (not (good_state f vs old)) (not (good_inputs f ins)) (not (fits17 f new vals)) x e
+cycle_refused : (j : Judged) → LowJudged j → (old ins new vals : List ℕ) (x : Fault) → (cycle_judged j old ins new vals).answer ≡ Cyc.Refused x → From 1 17 x ⊎ (x.number ≡ 22)
+cycle_refused (refused n p) h old ins new vals x e =
+    ⊎_elim (λ h. inl (subst (From 1 17) (same_refused e) (h.0, omega (arith, h.1)))) (λ h. inr (ap (λ (y : Fault). y.number) (sym (same_refused e)) ∙ h)) h
+cycle_refused (admitted f vs) h old ins new vals x e = inl (unless_refused f vs old ins new vals (not (good_state f vs old)) (not (good_inputs f ins)) (not (fits17 f new vals)) x e)
 
 cycle_stopped : (ld : Loader) (s : List ℕ) (j : Judged) → judge ld s ≡ j → (old ins new vals : List ℕ) (x : Fault) → (cycle_judged j old ins new vals).answer ≡ Cyc.Stopped x
     → From 18 21 x × Inside ld s x.place
@@ -325,7 +343,14 @@ among low zero n l h = absurd (omega arith)
 among low (suc k) n l h =
     by_cases (ℕ_discrete n low) (λ e. or_left (eqb n low) _ (eq_eqb n low e)) (λ e. or_right (eqb n low) _ (among (suc low) k n (omega arith) (omega arith)))
 
--- A stopped cycle's number is one of 18 to 21, a refused one's one of 1 to 17.
+among_refused : (n : ℕ) → ((1 ≤ n) × (n ≤ 17)) ⊎ (n ≡ 22) → T (member n refusal_numbers)
+among_refused n h = ⊎_elim (λ w. later n (counted 1 17) (among 1 17 n w.0 (omega (arith, w.1)))) (λ e. subst (λ n. T (member n refusal_numbers)) (sym e) tt) h
+  where
+    later : (n : ℕ) (l : List ℕ) → T (member n l) → T (member n (l ++ 22 ∷ []))
+    later n [] t = absurd t
+    later n (x ∷ l) t = ⊎_elim (λ a. or_left (eqb n x) _ a) (λ b. or_right (eqb n x) _ (later n l b)) (T-or (eqb n x) _ t)
+
+-- A stopped cycle's number is one of 18 to 21, a refused one's one of 1 to 17 or 22.
 pub stop_numbers_lem : (ld : Loader) (s old ins new vals : List ℕ) → Numbered (cycle ld s old ins new vals).answer
 unfolding cycle
 stop_numbers_lem ld s old ins new vals = go (cycle ld s old ins new vals).answer refl
@@ -333,7 +358,7 @@ stop_numbers_lem ld s old ins new vals = go (cycle ld s old ins new vals).answer
     go : (a : Cycled) → (cycle ld s old ins new vals).answer ≡ a → Numbered a
     go Cyc.Answered e = tt
     go (Cyc.Stopped x) e = let w = (cycle_stopped ld s (judge ld s) refl old ins new vals x e).0 in among 18 4 x.number w.0 (omega (arith, w.1))
-    go (Cyc.Refused x) e = let w = cycle_refused (judge ld s) (judge_low ld s) old ins new vals x e in among 1 17 x.number w.0 (omega (arith, w.1))
+    go (Cyc.Refused x) e = let w = cycle_refused (judge ld s) (judge_low ld s) old ins new vals x e in among_refused x.number w
 
 -- Each call's numbers, and a stopped cycle's place.
 pub numbers_claim : (ld : Loader) → NumbersClaim ld

@@ -21,7 +21,7 @@ use Rattle.ol_spec.specs.Answers.{cause_number}
 use Rattle.ol_spec.specs.Cycle.{CycleCall}
 use Rattle.ol_spec.specs.Demand3.{Turn, Made, history, main_record}
 use Rattle.ol_spec.specs.Lustre.{firstly, cells_before}
-use Rattle.ol_spec.specs.RustSim.{width, Env, Key, State, state, States, get_state, past, prev, child_calls, choose, branch, LoopEnd, done, err_at, panic_at, Ran, Sim, for_order, seed, step, step_env, step_full, step_end}
+use Rattle.ol_spec.specs.RustSim.{width, Env, Key, State, state, States, get_state, past, prev, child_calls, choose, branch, LoopEnd, done, err_at, panic_at, Ran, Sim, for_order, seed, step, call_values, step_env, step_full, step_end}
 use Rattle.ol_spec.specs.RustLeaves.{SimError}
 use Rattle.ol_spec.specs.RustSim as Rust
 use Rattle.ol_spec.specs.RustState.{state_or, calls_of}
@@ -36,6 +36,7 @@ use Rattle.ol_spec.proofs.Admitted.{Facts}
 use Rattle.ol_spec.proofs.States.{is_main}
 use Rattle.ol_spec.proofs.RustPlaces.{callee_of, sites_are}
 use Rattle.ol_spec.proofs.RustLeaves.{cause_of, number_is}
+use Rattle.ol_spec.proofs.Calls.{lower_site}
 use Rattle.ol_spec.proofs.RustCalls.{FileRust}
 use Rattle.ol_spec.proofs.RustMoves.{Moved, same, longer, dropped, moved_to, operator_moves, steps_move}
 use Rattle.ol_spec.proofs.AsRust.{MainRel, turn_tells, opened}
@@ -195,9 +196,9 @@ module _ (f : File) (vs : List Value) where
     abbrev D : ℕ
     D = length f.nodes
 
-    main_moves : (st : State) (env : Env) (c : States) → Below c (for_order f (step f) (D - 1) (main f) st (order (main f).equations) env c).calls
+    main_moves : (st : State) (env : Env) (c : States) → Below c (for_order f (step f) (call_values f) (D - 1) (main f) st (order (main f).equations) env c).calls
     main_moves st env c =
-        subst (λ (n : Node). Below c (for_order f (step f) (D - 1) n st (order n.equations) env c).calls) (sym (is_main f vs A))
+        subst (λ (n : Node). Below c (for_order f (step f) (call_values f) (D - 1) n st (order n.equations) env c).calls) (sym (is_main f vs A))
         (operator_moves f vs F D (steps_move f vs F D) (D - 1) (omega (arith, A.some_node_lem)) st env c)
 
     -- the `Sim` that a step leaves
@@ -210,7 +211,7 @@ module _ (f : File) (vs : List Value) where
 
         moved : Below sim.call_states v.calls
         moved =
-            subst (λ is. Below sim.call_states (for_order f (step f) (D - 1) (main f) sim.state is (seed f (prev sim.state) ((main f).outputs ++ (main f).locals) (ins ++ sim.consts)) sim.call_states).calls) (sym e)
+            subst (λ is. Below sim.call_states (for_order f (step f) (call_values f) (D - 1) (main f) sim.state is (seed f (prev sim.state) ((main f).outputs ++ (main f).locals) (ins ++ sim.consts)) sim.call_states).calls) (sym e)
             (main_moves sim.state (seed f (prev sim.state) ((main f).outputs ++ (main f).locals) (ins ++ sim.consts)) sim.call_states)
 
         by_end : (t : LoopEnd) → Below sim.call_states (step_end f sim t v.env v.calls).sim.call_states
@@ -256,14 +257,14 @@ module _ (f : File) (vs : List Value) where
 
         below : (c : ℕ) → c ∈ map callee_of cs → c < D
         below c m =
-            let q = F.callable.lower (D - 1) c (subst (λ n. c ∈ sites n) (is_main f vs A) (subst (λ l. c ∈ l) (sites_are (main f).equations 0) m)) in omega (arith, A.some_node_lem)
+            let q = lower_site F.callable (D - 1) c (subst (λ n. c ∈ sites n) (is_main f vs A) (subst (λ l. c ∈ l) (sites_are (main f).equations 0) m)) in omega (arith, A.some_node_lem)
 
         go : (x : Option Instance) → site_at f vs (D - 1) j cs s sim.call_states ≡ x → maybe none (leads_to f vs p) x ≡ some i
             → AtPast f vs i.number (node_at g i.number) i.bytes i.state
         go none q e = none_some e
         go (some x) q e =
             let w = site (AtSite f vs D) (D - 1) j cs s sim.call_states x (everywhere f vs A F old sim h).1.1 q in
-            lead_at F.callable.lower D p w.callee w.bytes (get_state w.key sim.call_states) i (below w.callee w.among) w.operator w.has
+            lead_at (lower_site F.callable) D p w.callee w.bytes (get_state w.key sim.call_states) i (below w.callee w.among) w.operator w.has
             (ap (leads_to f vs p) w.is ∙ e)
 
     instance_moves : (old old' : List ℕ) (sim sim' : Sim) → Below sim.call_states sim'.call_states → (j : ℕ) (p : List ℕ) (i : Instance) → instance_at f vs j p old sim ≡ some i
@@ -361,10 +362,10 @@ module _ (f : File) (vs : List Value) where
         record {
           started = a.first ∙ h;
           takes = λ x y calls cs seg. a.takes x y calls cs seg ∙ ap (λ t. eval_on f vs (node_at g i.number) i.bytes calls cs (if_then_else (bool_lit t) x y) seg) h;
-          rust_takes = λ x y step env at calls.
-              a.rust_takes x y step env at calls
-              ∙ ap (λ t. choose t (branch f step i.number env i.state x (Rust.eval f step i.number env i.state (suc at) x))
-              (branch f step i.number env i.state y (Rust.eval f step i.number env i.state (suc at + width x) y)) calls) h;
+          rust_takes = λ x y step values env at calls.
+              a.rust_takes x y step values env at calls
+              ∙ ap (λ t. choose t (branch f step values i.number env i.state x (Rust.eval f step values i.number env i.state (suc at) x))
+              (branch f step values i.number env i.state y (Rust.eval f step values i.number env i.state (suc at + width x) y)) calls) h;
         }
 
     never_return : (ms : List Made) (old : List ℕ) (sim : Sim) → Threaded old sim ms → InstancesNeverReturn f vs sim ms

@@ -1,4 +1,4 @@
--- Admission answers 11 exactly if none of 1 to 10 holds and some node has a ring: specs/Demand3's RingClaim.
+-- Admission answers 11 exactly if none of 1 to 10 and 22 holds and some node has a ring: specs/Demand3's RingClaim.
 use Prim.Native.Nat.{ℕ, suc, ◌+◌}
 use mathlib.Core.List.{List, [], ◌∷◌, map}
 use mathlib.Core.Logic.{⊎_elim}
@@ -13,7 +13,7 @@ use Rattle.ol_spec.specs.Read.{Read, got, fault, read_file}
 use Rattle.ol_spec.specs.Limits.{Loader}
 use Rattle.ol_spec.specs.Order.{unplaced, Ring}
 use Rattle.ol_spec.specs.Answers.{fault_at}
-use Rattle.ol_spec.specs.Admission.{place_at, ring_in, first_some, fault6, fault7, fault8, fault9, fault10, fault11, fault12, fault13, fault14, constants, constant_values, Judged, refused, admitted, refuse_at, refuse_first, judge_file, judge_read, judge, verdict}
+use Rattle.ol_spec.specs.Admission.{place_at, ring_in, first_some, fault6, fault7, fault8, fault9, fault10, fault22, fault11, fault12, fault13, fault14, constants, constant_values, Judged, refused, admitted, refuse_at, refuse_first, judge_file, judge_read, judge, verdict}
 use Rattle.ol_spec.specs.Demand3.{Unfaulted, RingIn, RingClaim}
 use Rattle.ol_spec.specs.declared.Fault.{Fault}
 use Rattle.std.specs.Prelude.{Err}
@@ -68,14 +68,15 @@ refuse_other n m p none j d e = (refl, e)
 refuse_other n m p (some q) j d e = let z : n ≡ m = cc in absurd (d z)
 
 judged_11 : (ld : Loader) (f : File) (p : ℕ) → judge_file ld f ≡ refused 11 p
-    → (fault6 f ≡ none) × (fault7 f ≡ none) × (fault8 f ≡ none) × (fault9 f ≡ none) × (fault10 f ≡ none) × (fault11 f ≡ some p)
+    → (fault6 f ≡ none) × (fault7 f ≡ none) × (fault8 f ≡ none) × (fault9 f ≡ none) × (fault10 f ≡ none) × (fault22 f ≡ none) × (fault11 f ≡ some p)
 judged_11 ld f p e =
     let a6 = refuse_other 6 11 p (fault6 f) _ (λ z. omega arith) e in
     let a7 = refuse_other 7 11 p (fault7 f) _ (λ z. omega arith) a6.1 in
     let a8 = refuse_other 8 11 p (fault8 f) _ (λ z. omega arith) a7.1 in
     let a9 = refuse_other 9 11 p (fault9 f) _ (λ z. omega arith) a8.1 in
     let a10 = refuse_other 10 11 p (fault10 f) _ (λ z. omega arith) a9.1 in
-    (a6.0, a7.0, a8.0, a9.0, a10.0, last (fault11 f) a10.1)
+    let a22 = refuse_other 22 11 p (fault22 f) _ (λ z. omega arith) a10.1 in
+    (a6.0, a7.0, a8.0, a9.0, a10.0, a22.0, last (fault11 f) a22.1)
   where
     later : refuse_first ((12, fault12 f) ∷ (13, fault13 ld f) ∷ (14, fault14 f) ∷ []) (admitted f (constant_values (constants f))) ≡ refused 11 p → ⊥
     later e =
@@ -90,9 +91,9 @@ judged_11 ld f p e =
     last none e = absurd (later e)
     last (some q) e = let z : q ≡ p = cc in ap some z
 
-judge_11 : (ld : Loader) (f : File) (p : ℕ) → fault6 f ≡ none → fault7 f ≡ none → fault8 f ≡ none → fault9 f ≡ none → fault10 f ≡ none → fault11 f ≡ some p → judge_file ld f ≡ refused 11 p
-judge_11 ld f p e6 e7 e8 e9 e10 e11 =
-    rw (e6, e7, e8, e9, e10, e11) refl
+judge_11 : (ld : Loader) (f : File) (p : ℕ) → fault6 f ≡ none → fault7 f ≡ none → fault8 f ≡ none → fault9 f ≡ none → fault10 f ≡ none → fault22 f ≡ none → fault11 f ≡ some p → judge_file ld f ≡ refused 11 p
+judge_11 ld f p e6 e7 e8 e9 e10 e22 e11 =
+    rw (e6, e7, e8, e9, e10, e22, e11) refl
 
 pub same_fault : (n p : ℕ) (j : Judged) → verdict j ≡ Err (fault_at n p) → j ≡ refused n p
 same_fault n p (refused m r) e =
@@ -104,7 +105,7 @@ read_11 : (ld : Loader) (s : List ℕ) (r : Read File) → read_file s ld ≡ r 
 read_11 ld s (fault n q) h l p e = let z : n ≡ 11 = cc in absurd (omega (arith, l.1))
 read_11 ld s (got f at) h l p e =
     let w = judged_11 ld f p e in
-    (f, record { end = at; read = h; no6 = w.0; no7 = w.1; no8 = w.2; no9 = w.3; no10 = w.4 }, ring_in_lem f p w.5)
+    (f, record { end = at; read = h; no6 = w.0; no7 = w.1; no8 = w.2; no9 = w.3; no10 = w.4; no22 = w.5 }, ring_in_lem f p w.6)
 
 pub ring_claim : (ld : Loader) → RingClaim ld
 unfolding RingClaim judge
@@ -114,5 +115,5 @@ ring_claim ld s = (
       let f = w.0 in
       let u = w.1 in
       let p = in_ring f w.2 in
-      (p.0, ap verdict (ap (judge_read ld) u.read ∙ judge_11 ld f p.0 u.no6 u.no7 u.no8 u.no9 u.no10 p.1)),
+      (p.0, ap verdict (ap (judge_read ld) u.read ∙ judge_11 ld f p.0 u.no6 u.no7 u.no8 u.no9 u.no10 u.no22 p.1)),
 )

@@ -1,23 +1,24 @@
 -- The leaves that are written from the Rust are those of Operators, Types, Eval and Order.
 use Prim.Native.Nat.{ℕ, ◌-◌, ◌^◌}
 use mathlib.Core.Bool.{Bool, true, false, not, ◌&&◌, ◌||◌, cond}
-use mathlib.Core.List.{List, [], ◌∷◌, ◌++◌, append_assoc, append-nil}
+use mathlib.Core.List.{List, [], ◌∷◌, ◌++◌, append_assoc, append-nil, map}
 use mathlib.Core.Option.{Option, none, some}
 use mathlib.Core.Path.{◌≡◌, refl, sym, ap, ap₂, subst, ◌∙◌}
 use native.Mathlib.Omega.{arith}
-use lib.ListN.{get_or, get_or-map}
-use lib.Dec.{ltb, leb, ltb→lt, lt→ltb, leb→le, le→leb}
+use lib.ListN.{get_or, get_or-map, length, get_elem?}
+use lib.Dec.{eqb, ltb, leb, ltb→lt, lt→ltb, leb→le, le→leb}
 use lib.IntN.{ℤ, pos, negsuc, neg_ℤ, ◌+ℤ◌, ◌-ℤ◌, ◌*ℤ◌}
 use lib.Signed.{mag, quot_z, rem_z}
 use Rattle.ol_spec.specs.Lists.{maybe, is_empty}
 use Rattle.ol_spec.specs.Real.{Real, single, double, zero_r, add_r, sub_r, mul_r, div_r, round_single, eq_r, truncate}
 use Rattle.ol_spec.specs.Syntax.{Ty, bool, int, float32, float64, char, enum, UnaryOp, Not, Neg, BinOp, And, Or, Xor, Implies, Eq, Neq, Lt, Le, Gt, Ge, Add, Sub, Mul, Div, Mod, BitAnd, BitOr, BitXor, Shl, Shr}
-use Rattle.ol_spec.specs.Syntax.{Expr, bool_lit, int_lit, float_lit, char_lit, var, unary, binary, if_then_else, pre, arrow, cast, call, tuple, Exprs, nil, cons}
+use Rattle.ol_spec.specs.Syntax.{Expr, bool_lit, int_lit, float_lit, char_lit, var, unary, binary, if_then_else, pre, arrow, cast, call, tuple, index, literal, map_over, fold_over, Exprs, nil, cons, VarTy, scalar, array}
 use Rattle.ol_spec.specs.Types.{int_tys, int_ty, whole, narrow, fit, cast_to, default}
-use Rattle.ol_spec.specs.Operators.{exact, div_int, mod_int, eq_z, shift_by, unary_of, on_pair, bools, ints, reals, names, unlike, binary_of}
+use Rattle.ol_spec.specs.Operators.{exact, div_int, mod_int, eq_z, shift_by, unary_of, on_pair, bools, ints, reals, names, unlike, binary_of, pair, equal, bool_out}
+use Rattle.ol_spec.specs.Cell.{tag}
 use Rattle.ol_spec.specs.Order.{reads, reads_all}
-use Rattle.ol_spec.specs.Eval.{callees, callees_all, has_call, RealKind, not_real, is_single, is_double_kind, join, kind_of_value, kind_of_type, arithmetic, is_double?, common_real}
-use Rattle.ol_spec.specs.RustLeaves.{RValue, SimError, uninitialized_pre, binary_not_supported, unary_not_supported, other_error, Result, Ok, Err, Panic, plain, plainly, AReal, both, rust_int_in, real_in, ok_int, in_i64, checked, shift_count, eq_arm, int_arm, eval_values, unary_value, narrow_int, cast_plain, fit_to, default_named, rust_default_of, join_kinds, is_double, of_type, of_value, is_arithmetic, widen_beside, rust_has_call, has_calls, same_cycle_reads, all_reads}
+use Rattle.ol_spec.specs.Eval.{callees, callees_all, has_call, RealKind, not_real, is_single, is_double_kind, join, kind_of_value, kind_of_type, arithmetic, is_double?, common_real, kind_of_var_ty, equality, equal_cells, compare_cells, index_of}
+use Rattle.ol_spec.specs.RustLeaves.{SimError, uninitialized_pre, binary_not_supported, unary_not_supported, other_error, Result, Ok, Err, Panic, plain, plainly, AReal, both, rust_int_in, real_in, ok_int, in_i64, checked, shift_count, eq_arm, int_arm, eval_values, unary_value, narrow_int, cast_plain, default_named, join_kinds, is_double, of_type, is_arithmetic, widen_beside, rust_has_call, has_calls, same_cycle_reads, all_reads, Given, just, Array, same_value, same_values, eval_binary, index_value, out_of_bounds, fit_plain, default_plain, of_scalar, of_plain}
 use Rattle.ol_spec.specs.AsRust.{matches, takes_both, error_number}
 use Rattle.ol_spec.specs.Answers.{cause_number}
 use Rattle.ol_spec.proofs.Data.{single_back}
@@ -48,6 +49,7 @@ abbrev pub cause_of : SimError → Cause
 cause_of uninitialized_pre = Why.Cold
 cause_of (binary_not_supported op l r) = cond (takes_both op l r) Why.Range Why.Other
 cause_of (unary_not_supported op v) = Why.Other
+cause_of (out_of_bounds i n) = Why.Range
 cause_of other_error = Why.Other
 
 pub number_is : (e : SimError) → cause_number (cause_of e) ≡ error_number e
@@ -58,6 +60,7 @@ number_is (binary_not_supported op l r) = go (takes_both op l r)
     go true = refl
     go false = refl
 number_is (unary_not_supported op v) = refl
+number_is (out_of_bounds i n) = refl
 number_is other_error = refl
 
 abbrev pub outcome_in : Result Value → Outcome
@@ -66,8 +69,8 @@ outcome_in (Err e) = Out.Failure (cause_of e)
 outcome_in Panic = Out.Overflow
 
 -- an evaluation over bytes and the Rust's
-pub data Tells : Outcome → Result RValue → Type 0 where
-  gives : (v : Value) → Tells (Out.Value v) (Ok (plain v))
+pub data Tells : Outcome → Result Given → Type 0 where
+  gives : (v : Value) → Tells (Out.Value v) (Ok (just (plain v)))
   errs : (e : SimError) → Tells (Out.Failure (cause_of e)) (Err e)
   panics : Tells Out.Overflow Panic
 
@@ -147,13 +150,13 @@ ints_is Ge a b = refl
 ints_is Add a b = checked_is (a +ℤ b)
 ints_is Sub a b = checked_is (a -ℤ b)
 ints_is Mul a b = checked_is (a *ℤ b)
-ints_is Div a b = div_is a b (Err (binary_not_supported Div (plain (Val.Int a)) (plain (Val.Int b)))) refl
-ints_is Mod a b = mod_is a b (Err (binary_not_supported Mod (plain (Val.Int a)) (plain (Val.Int b)))) refl
+ints_is Div a b = div_is a b (Err (binary_not_supported Div (just (plain (Val.Int a))) (just (plain (Val.Int b))))) refl
+ints_is Mod a b = mod_is a b (Err (binary_not_supported Mod (just (plain (Val.Int a))) (just (plain (Val.Int b))))) refl
 ints_is BitAnd a b = refl
 ints_is BitOr a b = refl
 ints_is BitXor a b = refl
-ints_is Shl a b = shift_is _ b (Err (binary_not_supported Shl (plain (Val.Int a)) (plain (Val.Int b)))) refl
-ints_is Shr a b = shift_is _ b (Err (binary_not_supported Shr (plain (Val.Int a)) (plain (Val.Int b)))) refl
+ints_is Shl a b = shift_is _ b (Err (binary_not_supported Shl (just (plain (Val.Int a))) (just (plain (Val.Int b))))) refl
+ints_is Shr a b = shift_is _ b (Err (binary_not_supported Shr (just (plain (Val.Int a))) (just (plain (Val.Int b))))) refl
 
 -- a single that `as f64` and back `as f32` leave as it is
 abbrev pub Single : Value → Type 0
@@ -179,7 +182,7 @@ singles_is Add a b p q = ap₂ (λ x y. Out.Value (Val.Float32 (add_r single x y
 singles_is Sub a b p q = ap₂ (λ x y. Out.Value (Val.Float32 (sub_r single x y))) p q
 singles_is Mul a b p q = ap₂ (λ x y. Out.Value (Val.Float32 (mul_r single x y))) p q
 singles_is Div a b p q =
-    guard_is (eq_r b zero_r) (Err (binary_not_supported Div (plain (Val.Float32 a)) (plain (Val.Float32 b)))) (Ok (Val.Float32 (div_r single (round_single a) (round_single b))))
+    guard_is (eq_r b zero_r) (Err (binary_not_supported Div (just (plain (Val.Float32 a))) (just (plain (Val.Float32 b))))) (Ok (Val.Float32 (div_r single (round_single a) (round_single b))))
     ∙ ap₂ (λ x y. cond (eq_r b zero_r) (Out.Failure Why.Range) (Out.Value (Val.Float32 (div_r single x y)))) p q
 singles_is Mod a b p q = refl
 singles_is BitAnd a b p q = refl
@@ -203,7 +206,7 @@ doubles_is Ge a b = refl
 doubles_is Add a b = refl
 doubles_is Sub a b = refl
 doubles_is Mul a b = refl
-doubles_is Div a b = guard_is (eq_r b zero_r) (Err (binary_not_supported Div (plain (Val.Float a)) (plain (Val.Float b)))) (Ok (Val.Float (div_r double a b)))
+doubles_is Div a b = guard_is (eq_r b zero_r) (Err (binary_not_supported Div (just (plain (Val.Float a))) (just (plain (Val.Float b))))) (Ok (Val.Float (div_r double a b)))
 doubles_is Mod a b = refl
 doubles_is BitAnd a b = refl
 doubles_is BitOr a b = refl
@@ -226,7 +229,7 @@ double_single Ge a b = refl
 double_single Add a b = refl
 double_single Sub a b = refl
 double_single Mul a b = refl
-double_single Div a b = guard_is (eq_r b zero_r) (Err (binary_not_supported Div (plain (Val.Float a)) (plain (Val.Float32 b)))) (Ok (Val.Float (div_r double a b)))
+double_single Div a b = guard_is (eq_r b zero_r) (Err (binary_not_supported Div (just (plain (Val.Float a))) (just (plain (Val.Float32 b))))) (Ok (Val.Float (div_r double a b)))
 double_single Mod a b = refl
 double_single BitAnd a b = refl
 double_single BitOr a b = refl
@@ -249,7 +252,7 @@ single_double Ge a b = refl
 single_double Add a b = refl
 single_double Sub a b = refl
 single_double Mul a b = refl
-single_double Div a b = guard_is (eq_r b zero_r) (Err (binary_not_supported Div (plain (Val.Float32 a)) (plain (Val.Float b)))) (Ok (Val.Float (div_r double a b)))
+single_double Div a b = guard_is (eq_r b zero_r) (Err (binary_not_supported Div (just (plain (Val.Float32 a))) (just (plain (Val.Float b))))) (Ok (Val.Float (div_r double a b)))
 single_double Mod a b = refl
 single_double BitAnd a b = refl
 single_double BitOr a b = refl
@@ -304,7 +307,7 @@ unlike_is BitXor last e = e
 unlike_is Shl last e = e
 unlike_is Shr last e = e
 
-never : (op : BinOp) (v w : Value) → both (rust_int_in v) (rust_int_in w) ≡ none → both (real_in v) (real_in w) ≡ none → cause_of (binary_not_supported op (plain v) (plain w)) ≡ Why.Other
+never : (op : BinOp) (v w : Value) → both (rust_int_in v) (rust_int_in w) ≡ none → both (real_in v) (real_in w) ≡ none → cause_of (binary_not_supported op (just (plain v)) (just (plain w))) ≡ Why.Other
 never And v w a b = refl
 never Or v w a b = refl
 never Xor v w a b = refl
@@ -327,7 +330,7 @@ never Shl v w a b = ap (λ (o : Option (ℤ × ℤ)). cond (matches o) Why.Range
 never Shr v w a b = ap (λ (o : Option (ℤ × ℤ)). cond (matches o) Why.Range Why.Other) a
 
 unlikely : (op : BinOp) (v w : Value) → both (rust_int_in v) (rust_int_in w) ≡ none → both (real_in v) (real_in w) ≡ none
-    → outcome_in (maybe (Err (binary_not_supported op (plain v) (plain w))) (λ x. x) (eq_arm op false)) ≡ on_pair op unlike
+    → outcome_in (maybe (Err (binary_not_supported op (just (plain v)) (just (plain w)))) (λ x. x) (eq_arm op false)) ≡ on_pair op unlike
 unlikely op v w a b = unlike_is op _ (ap Out.Failure (never op v w a b))
 
 -- a value of its format is one
@@ -384,8 +387,8 @@ unary_is Neg (Val.Enum v) = refl
 narrow_is : (c : ℕ) (i : ℤ) → narrow_int c i ≡ narrow (int_ty c) i
 narrow_is c i = ap (λ h. h i) (get_or-map narrow int_tys c whole)
 
-pub fit_is : (t : Ty) (v : Value) → fit_to t v ≡ fit t v
-unfolding fit_to fit
+pub fit_is : (t : Ty) (v : Value) → fit_plain t v ≡ fit t v
+unfolding fit_plain fit
 fit_is bool v = refl
 fit_is (int c) (Val.Bool x) = refl
 fit_is (int c) (Val.Int x) = ap Val.Int (narrow_is c x)
@@ -426,8 +429,8 @@ cast_is float64 (Val.Enum x) = refl
 cast_is char v = refl
 cast_is (enum e) v = refl
 
-pub default_is_lem : (enums : List (List ℕ)) (t : Ty) → rust_default_of enums t ≡ default enums t
-unfolding rust_default_of
+pub default_is_lem : (enums : List (List ℕ)) (t : Ty) → default_plain enums t ≡ default enums t
+unfolding default_plain
 default_is_lem enums bool = refl
 default_is_lem enums (int c) = refl
 default_is_lem enums float32 = refl
@@ -438,6 +441,98 @@ default_is_lem enums (enum e) = go (get_or enums e [])
     go : (l : List ℕ) → default_named l ≡ Val.Enum (get_or l 0 0)
     go [] = refl
     go (v ∷ l) = refl
+
+-- ---- arrays
+
+element_is : (v w : Value) → same_value v w ≡ eqb (tag v) (tag w) && equal (pair v w)
+element_is (Val.Bool a) (Val.Bool b) = refl
+element_is (Val.Bool a) (Val.Int b) = refl
+element_is (Val.Bool a) (Val.Float b) = refl
+element_is (Val.Bool a) (Val.Float32 b) = refl
+element_is (Val.Bool a) (Val.Enum b) = refl
+element_is (Val.Int a) (Val.Bool b) = refl
+element_is (Val.Int a) (Val.Int b) = refl
+element_is (Val.Int a) (Val.Float b) = refl
+element_is (Val.Int a) (Val.Float32 b) = refl
+element_is (Val.Int a) (Val.Enum b) = refl
+element_is (Val.Float a) (Val.Bool b) = refl
+element_is (Val.Float a) (Val.Int b) = refl
+element_is (Val.Float a) (Val.Float b) = refl
+element_is (Val.Float a) (Val.Float32 b) = refl
+element_is (Val.Float a) (Val.Enum b) = refl
+element_is (Val.Float32 a) (Val.Bool b) = refl
+element_is (Val.Float32 a) (Val.Int b) = refl
+element_is (Val.Float32 a) (Val.Float b) = refl
+element_is (Val.Float32 a) (Val.Float32 b) = refl
+element_is (Val.Float32 a) (Val.Enum b) = refl
+element_is (Val.Enum a) (Val.Bool b) = refl
+element_is (Val.Enum a) (Val.Int b) = refl
+element_is (Val.Enum a) (Val.Float b) = refl
+element_is (Val.Enum a) (Val.Float32 b) = refl
+element_is (Val.Enum a) (Val.Enum b) = refl
+
+and_assoc : (a b c : Bool) → (a && b) && c ≡ a && (b && c)
+and_assoc true b c = refl
+and_assoc false b c = refl
+
+cells_are : (vs ws : List Value) → same_values vs ws ≡ equal_cells vs ws
+cells_are [] [] = refl
+cells_are [] (w ∷ ws) = refl
+cells_are (v ∷ vs) [] = refl
+cells_are (v ∷ vs) (w ∷ ws) = ap₂ ◌&&◌ (element_is v w) (cells_are vs ws) ∙ and_assoc (eqb (tag v) (tag w)) (equal (pair v w)) (equal_cells vs ws)
+
+eq_is : (op : BinOp) (b : Bool) (last : Result Value) → outcome_in last ≡ Out.Failure Why.Other
+    → outcome_in (maybe last (λ x. x) (eq_arm op b)) ≡ maybe (Out.Failure Why.Other) (λ f. bool_out (f b)) (equality op)
+eq_is And b last e = e
+eq_is Or b last e = e
+eq_is Xor b last e = e
+eq_is Implies b last e = e
+eq_is Eq b last e = refl
+eq_is Neq b last e = refl
+eq_is Lt b last e = e
+eq_is Le b last e = e
+eq_is Gt b last e = e
+eq_is Ge b last e = e
+eq_is Add b last e = e
+eq_is Sub b last e = e
+eq_is Mul b last e = e
+eq_is Div b last e = e
+eq_is Mod b last e = e
+eq_is BitAnd b last e = e
+eq_is BitOr b last e = e
+eq_is BitXor b last e = e
+eq_is Shl b last e = e
+eq_is Shr b last e = e
+
+pub compare_is : (op : BinOp) (vs ws : List Value) → Tells (compare_cells op vs ws) (eval_binary op (just (Array vs)) (just (Array ws)))
+compare_is op vs ws =
+    let last = Err (binary_not_supported op (just (Array vs)) (just (Array ws))) in
+    tells_in (compare_cells op vs ws) (maybe last (λ x. x) (eq_arm op (same_values vs ws)))
+    (ap (λ b. outcome_in (maybe last (λ x. x) (eq_arm op b))) (cells_are vs ws) ∙ eq_is op (equal_cells vs ws) last refl)
+
+-- an index of an array, and of a scalar
+pub index_is : (vs : List Value) (v : Value) → Tells (index_of true vs v) (index_value (just (Array vs)) (just (plain v)))
+index_is vs (Val.Bool b) = errs other_error
+index_is vs (Val.Int (pos k)) = go (get_elem? vs k)
+  where
+    go : (o : Option Value) → Tells (maybe (Out.Failure Why.Range) Out.Value o) (maybe (Err (out_of_bounds (pos k) (length vs))) (λ v. Ok (just (plain v))) o)
+    go none = errs (out_of_bounds (pos k) (length vs))
+    go (some v) = gives v
+index_is vs (Val.Int (negsuc k)) = errs (out_of_bounds (negsuc k) (length vs))
+index_is vs (Val.Float x) = errs other_error
+index_is vs (Val.Float32 x) = errs other_error
+index_is vs (Val.Enum x) = errs other_error
+
+pub scalar_index : (vs : List Value) (u v : Value) → Tells (index_of false vs v) (index_value (just (plain u)) (just (plain v)))
+scalar_index vs u (Val.Bool b) = errs other_error
+scalar_index vs u (Val.Int i) = errs other_error
+scalar_index vs u (Val.Float x) = errs other_error
+scalar_index vs u (Val.Float32 x) = errs other_error
+scalar_index vs u (Val.Enum x) = errs other_error
+
+pub fits_are : (t : Ty) (vs : List Value) → map (fit_plain t) vs ≡ map (fit t) vs
+fits_are t [] = refl
+fits_are t (v ∷ vs) = ap₂ {C = List Value} (λ a b. a ∷ b) (fit_is t v) (fits_are t vs)
 
 -- ---- `real_kind`
 
@@ -452,15 +547,19 @@ join_is is_double_kind not_real = refl
 join_is is_double_kind is_single = refl
 join_is is_double_kind is_double_kind = refl
 
-pub type_is : (t : Ty) → of_type t ≡ kind_of_type t
-type_is bool = refl
-type_is (int c) = refl
-type_is float32 = refl
-type_is float64 = refl
-type_is char = refl
-type_is (enum e) = refl
+pub scalar_is : (t : Ty) → of_scalar t ≡ kind_of_type t
+scalar_is bool = refl
+scalar_is (int c) = refl
+scalar_is float32 = refl
+scalar_is float64 = refl
+scalar_is char = refl
+scalar_is (enum e) = refl
 
-pub value_is : (v : Value) → of_value v ≡ kind_of_value v
+pub type_is : (t : VarTy) → of_type t ≡ kind_of_var_ty t
+type_is (scalar t) = scalar_is t
+type_is (array n t) = refl
+
+pub value_is : (v : Value) → of_plain v ≡ kind_of_value v
 value_is (Val.Bool b) = refl
 value_is (Val.Int i) = refl
 value_is (Val.Float x) = refl
@@ -528,6 +627,10 @@ mutual
   call_is (cast t e) = call_is e
   call_is (call k es) = refl
   call_is (tuple es) = calls_are es
+  call_is (index a i) = ap₂ ◌||◌ (call_is a) (call_is i) ∙ empty_both (callees a) (callees i)
+  call_is (literal es) = calls_are es
+  call_is (map_over k es) = calls_are es
+  call_is (fold_over k e es) = ap₂ ◌||◌ (call_is e) (calls_are es) ∙ empty_both (callees e) (callees_all es)
 
   calls_are : (es : Exprs) → has_calls es ≡ not (is_empty (callees_all es))
   calls_are nil = refl
@@ -552,6 +655,10 @@ mutual
   reads_after (cast t e) out = reads_after e out
   reads_after (call k es) out = all_after es out
   reads_after (tuple es) out = all_after es out
+  reads_after (index a i) out = reads_after i (same_cycle_reads a out) ∙ ap (λ l. l ++ reads i) (reads_after a out) ∙ append_assoc out (reads a) (reads i)
+  reads_after (literal es) out = all_after es out
+  reads_after (map_over k es) out = all_after es out
+  reads_after (fold_over k e es) out = all_after es (same_cycle_reads e out) ∙ ap (λ l. l ++ reads_all es) (reads_after e out) ∙ append_assoc out (reads e) (reads_all es)
 
   all_after : (es : Exprs) (out : List ℕ) → all_reads es out ≡ out ++ reads_all es
   all_after nil out = sym (append-nil out)

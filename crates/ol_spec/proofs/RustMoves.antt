@@ -18,20 +18,21 @@ use Rattle.ol_theory.specs.Member.{◌∈◌, Distinct}
 use Rattle.ol_theory.proofs.SystemProof.{in_order_distinct}
 use Rattle.ol_spec.specs.Lists.{maybe}
 use Rattle.ol_spec.specs.Syntax.{NodeKind, Function, Operator, Imported, Equation, Node, File}
-use Rattle.ol_spec.specs.Syntax.{count, Expr, bool_lit, int_lit, float_lit, char_lit, var, unary, binary, if_then_else, pre, arrow, cast, call, tuple, Exprs, nil, cons}
+use Rattle.ol_spec.specs.Syntax.{count, Expr, bool_lit, int_lit, float_lit, char_lit, var, unary, binary, if_then_else, pre, arrow, cast, call, tuple, index, literal, map_over, fold_over, Exprs, nil, cons}
 use Rattle.ol_spec.specs.Eval.{callees, callees_all, node_at}
 use Rattle.ol_spec.specs.Step.{equation_sites, sites, no_equation, equation_at}
 use Rattle.ol_spec.specs.Order.{order}
 use Rattle.ol_spec.specs.State.{globals_of}
-use Rattle.ol_spec.specs.RustSim.{Env, width, widths, Key, address, State, state, States, no_states, same_key, get_state, remove_state, past, prev, child_calls, default_state, RValue, plain, Tuple, Result, Ok, Err, Panic, Res, Ress, then_on, then_res, push_on, push, then_all_on, then_all, if_bool, step_untaken, Branch, take_branch, choose, StepInstance, LoopEnd, done, err_at, panic_at, Ran, find_node, call_kind, call_arity, eval_call, eval_args, bind_lhs, bound_on, bind_on, bind_next, for_order, reseed, callee_env, function_end, operator_end, end_function, end_operator, step_kind, step_ordered, step_instance}
+use Rattle.ol_spec.specs.RustSim.{Env, width, widths, Key, address, State, state, States, same_key, get_state, remove_state, past, prev, child_calls, default_state, RValue, Result, Ok, Err, Panic, Res, then_on, then_res, push_on, push, if_bool, step_untaken, Branch, choose, StepInstance, LoopEnd, done, err_at, panic_at, Ran, find_node, call_kind, call_arity, eval_call, eval_args, bind_lhs, bound_on, bind_on, bind_next, for_order, reseed, callee_env, function_end, operator_end, end_function, end_operator, step_kind, step_ordered, step_instance, Given, value_in, push_picked, if_bool_on, if_function, equal_lengths, if_equal, CallValues, eval_items, eval_arrays, call_function_values}
 use Rattle.ol_spec.specs.RustSim as Rust
 use Rattle.ol_spec.specs.RustState.{state_or}
+use Rattle.ol_spec.specs.RustLeaves.{bool_in, plain_in, array_in}
 use Rattle.ol_spec.specs.declared.Value.{Value}
-use Rattle.ol_spec.specs.declared.Value.TheVariants as Val
 use Rattle.ol_spec.proofs.Lists.{in_concat}
 use Rattle.ol_spec.proofs.RustOrder.{order_is}
 use Rattle.ol_spec.proofs.Tests.{true_t, false_t}
 use Rattle.ol_spec.proofs.RustMaps.{same_key_lem, key_same, state_hit, state_miss, removed_hit, removed_miss}
+use Rattle.ol_spec.proofs.Calls.{lower_site}
 use Rattle.ol_spec.proofs.RustCalls.{NodeRust, FileRust}
 
 -- ---- a walk over the expressions of a node, by what it does to the states of the calls between two addresses
@@ -44,56 +45,60 @@ pub record Walk (Rel : ℕ → ℕ → States → States → Type 0) : Type 0 wh
 
 module _ (Rel : ℕ → ℕ → States → States → Type 0) (w : Walk Rel) where
   -- `?` behind a result, the calls of the second part behind those of the first, or before them
-  then_both : (a m b : ℕ) → a ≤ m → m ≤ b → (c : States) (r : Res) (k : RValue → States → Res) → Rel a m c r.calls → ((v : RValue) (c' : States) → Rel m b c' (k v c').calls)
+  then_both : {A B : Type 0} (a m b : ℕ) → a ≤ m → m ≤ b → (c : States) (r : Res A) (k : A → States → Res B) → Rel a m c r.calls → ((v : A) (c' : States) → Rel m b c' (k v c').calls)
       → Rel a b c (then_res r k).calls
   unfolding then_res
-  then_both a m b p q c r k h i = go r.out
+  then_both {A} a m b p q c r k h i = go r.out
     where
-      go : (o : Result RValue) → Rel a b c (then_on o r.calls k).calls
+      go : (o : Result A) → Rel a b c (then_on o r.calls k).calls
       go (Ok v) = w.both a m b c r.calls _ p q h (i v r.calls)
       go (Err e) = w.wide a a m b c r.calls (omega arith) q h
       go Panic = w.wide a a m b c r.calls (omega arith) q h
 
-  then_back : (a m b : ℕ) → a ≤ m → m ≤ b → (c : States) (r : Res) (k : RValue → States → Res) → Rel m b c r.calls → ((v : RValue) (c' : States) → Rel a m c' (k v c').calls)
+  then_back : {A B : Type 0} (a m b : ℕ) → a ≤ m → m ≤ b → (c : States) (r : Res A) (k : A → States → Res B) → Rel m b c r.calls → ((v : A) (c' : States) → Rel a m c' (k v c').calls)
       → Rel a b c (then_res r k).calls
   unfolding then_res
-  then_back a m b p q c r k h i = go r.out
+  then_back {A} a m b p q c r k h i = go r.out
     where
-      go : (o : Result RValue) → Rel a b c (then_on o r.calls k).calls
+      go : (o : Result A) → Rel a b c (then_on o r.calls k).calls
       go (Ok v) = w.back a m b c r.calls _ p q h (i v r.calls)
       go (Err e) = w.wide m a b b c r.calls p (omega arith) h
       go Panic = w.wide m a b b c r.calls p (omega arith) h
 
-  push_both : (a m b : ℕ) → a ≤ m → m ≤ b → (c : States) (r : Res) (k : States → Ress) → Rel a m c r.calls → ((c' : States) → Rel m b c' (k c').calls) → Rel a b c (push r k).calls
+  push_both : {A : Type 0} (pick : Given → Option A) (a m b : ℕ) → a ≤ m → m ≤ b → (c : States) (r : Res Given) (k : States → Res (List A)) → Rel a m c r.calls
+      → ((c' : States) → Rel m b c' (k c').calls) → Rel a b c (push pick r k).calls
   unfolding push
-  push_both a m b p q c r k h i = go r.out
+  push_both {A} pick a m b p q c r k h i = go r.out
     where
-      go : (o : Result RValue) → Rel a b c (push_on o r.calls k).calls
-      go (Ok (plain v)) = w.both a m b c r.calls _ p q h (i r.calls)
-      go (Ok (Tuple vs)) = w.wide a a m b c r.calls (omega arith) q h
+      picked : (o : Option A) → Rel a b c (push_picked o r.calls k).calls
+      picked none = w.wide a a m b c r.calls (omega arith) q h
+      picked (some v) = w.both a m b c r.calls _ p q h (i r.calls)
+
+      go : (o : Result Given) → Rel a b c (push_on pick o r.calls k).calls
+      go (Ok v) = picked (pick v)
       go (Err e) = w.wide a a m b c r.calls (omega arith) q h
       go Panic = w.wide a a m b c r.calls (omega arith) q h
 
-  all_back : (a m b : ℕ) → a ≤ m → m ≤ b → (c : States) (r : Ress) (k : List Value → States → Res) → Rel m b c r.calls → ((vs : List Value) (c' : States) → Rel a m c' (k vs c').calls)
-      → Rel a b c (then_all r k).calls
-  unfolding then_all
-  all_back a m b p q c r k h i = go r.out
-    where
-      go : (o : Result (List Value)) → Rel a b c (then_all_on o r.calls k).calls
-      go (Ok vs) = w.back a m b c r.calls _ p q h (i vs r.calls)
-      go (Err e) = w.wide m a b b c r.calls p (omega arith) h
-      go Panic = w.wide m a b b c r.calls p (omega arith) h
-
-  if_bool_lem : (a b : ℕ) (k : Bool → States → Res) → ((t : Bool) (c : States) → Rel a b c (k t c).calls) → (v : RValue) (c : States) → Rel a b c (if_bool k v c).calls
+  if_bool_lem : (a b : ℕ) (k : Bool → States → Res Given) → ((t : Bool) (c : States) → Rel a b c (k t c).calls) → (v : Given) (c : States) → Rel a b c (if_bool k v c).calls
   unfolding if_bool
-  if_bool_lem a b k h (plain (Val.Bool t)) c = h t c
-  if_bool_lem a b k h (plain (Val.Int i)) c = w.kept a b c
-  if_bool_lem a b k h (plain (Val.Float x)) c = w.kept a b c
-  if_bool_lem a b k h (plain (Val.Float32 x)) c = w.kept a b c
-  if_bool_lem a b k h (plain (Val.Enum x)) c = w.kept a b c
-  if_bool_lem a b k h (Tuple vs) c = w.kept a b c
+  if_bool_lem a b k h v c = go (maybe none bool_in (plain_in v))
+    where
+      go : (o : Option Bool) → Rel a b c (if_bool_on k o c).calls
+      go none = w.kept a b c
+      go (some t) = h t c
 
-  untaken : (a b : ℕ) (t : Bool) (run : States → Res) → ((c : States) → Rel a b c (run c).calls) → (v : RValue) (c : States) → Rel a b c (step_untaken t run v c).calls
+  iterates : (a b : ℕ) (t : NodeKind) (run : States → Res Given) → ((c : States) → Rel a b c (run c).calls) → (c : States) → Rel a b c (if_function t run c).calls
+  unfolding if_function
+  iterates a b Function run h c = h c
+  iterates a b Operator run h c = w.kept a b c
+  iterates a b Imported run h c = w.kept a b c
+
+  equally : (a b : ℕ) (t : Bool) (run : States → Res Given) → ((c : States) → Rel a b c (run c).calls) → (c : States) → Rel a b c (if_equal t run c).calls
+  unfolding if_equal
+  equally a b true run h c = h c
+  equally a b false run h c = w.kept a b c
+
+  untaken : (a b : ℕ) (t : Bool) (run : States → Res Given) → ((c : States) → Rel a b c (run c).calls) → (v : Given) (c : States) → Rel a b c (step_untaken t run v c).calls
   unfolding step_untaken
   untaken a b true run h v c = h c
   untaken a b false run h v c = w.kept a b c
@@ -105,26 +110,26 @@ module _ (Rel : ℕ → ℕ → States → States → Type 0) (w : Walk Rel) whe
   choice a m b p q x y h i false c = then_back a m b p q c (y.run c) _ (i c) (λ v c'. untaken a m x.rust_has_call x.run h _ c')
 
   -- an expression of node number N, whose calls do so
-  module _ (f : File) (si : StepInstance) (N : ℕ) (env : Env) (st : State) (C : ℕ → Type 0)
-      (steps : (at k : ℕ) → C k → (vs : List Value) (c : States) → Rel at (suc at) c (si (N, at) k vs c env).calls) where
-    called : (at b k m : ℕ) → suc at ≤ b → C k → (args : States → Ress) → ((c : States) → Rel (suc at) b c (args c).calls) → (c : States)
-        → Rel at b c (eval_call f si N env st (N, at) k m args c).calls
+  module _ (f : File) (si : StepInstance) (cv : CallValues) (N : ℕ) (env : Env) (st : State) (C : ℕ → Type 0)
+      (steps : (at k : ℕ) → C k → (vs : List RValue) (c : States) → Rel at (suc at) c (si (N, at) k vs c env).calls) where
+    called : (at b k m : ℕ) → suc at ≤ b → C k → (args : States → Res (List RValue)) → ((c : States) → Rel (suc at) b c (args c).calls) → (c : States)
+        → Rel at b c (eval_call f si cv N env st (N, at) k m args c).calls
     unfolding eval_call
     called at b k m q h args i c = by_arity (eqb m (length (find_node f k).inputs))
       where
-        by_kind : (t : NodeKind) → Rel at b c (call_kind f si N env st t (N, at) k args c).calls
-        by_kind Function = all_back at (suc at) b (omega arith) q c (args c) _ (i c) (λ vs c'. steps at k h vs c')
-        by_kind Operator = all_back at (suc at) b (omega arith) q c (args c) _ (i c) (λ vs c'. steps at k h vs c')
+        by_kind : (t : NodeKind) → Rel at b c (call_kind f si cv N env st t (N, at) k args c).calls
+        by_kind Function = then_back at (suc at) b (omega arith) q c (args c) _ (i c) (λ vs c'. steps at k h vs c')
+        by_kind Operator = then_back at (suc at) b (omega arith) q c (args c) _ (i c) (λ vs c'. steps at k h vs c')
         by_kind Imported = w.kept at b c
 
-        by_arity : (t : Bool) → Rel at b c (call_arity f si N env st t (N, at) k args c).calls
+        by_arity : (t : Bool) → Rel at b c (call_arity f si cv N env st t (N, at) k args c).calls
         by_arity true = by_kind (find_node f k).kind
         by_arity false = w.kept at b c
 
     mutual
-      unfolding Rust.eval eval_args
+      unfolding Rust.eval eval_args eval_items eval_arrays
 
-      pub eval_walks : (e : Expr) (at : ℕ) (c : States) → ((k : ℕ) → k ∈ callees e → C k) → Rel at (at + width e) c (Rust.eval f si N env st at e c).calls
+      pub eval_walks : (e : Expr) (at : ℕ) (c : States) → ((k : ℕ) → k ∈ callees e → C k) → Rel at (at + width e) c (Rust.eval f si cv N env st at e c).calls
       eval_walks (bool_lit b) at c h = w.kept _ _ c
       eval_walks (int_lit i) at c h = w.kept _ _ c
       eval_walks (float_lit b) at c h = w.kept _ _ c
@@ -132,17 +137,17 @@ module _ (Rel : ℕ → ℕ → States → States → Type 0) (w : Walk Rel) whe
       eval_walks (var x) at c h = w.kept _ _ c
       eval_walks (unary op e) at c h =
           w.wide (suc at) at (suc at + width e) _ c _ (omega arith) (omega arith)
-          (then_both (suc at) (suc at + width e) (suc at + width e) (omega arith) (omega arith) c (Rust.eval f si N env st (suc at) e c) _ (eval_walks e (suc at) c h) (λ v c'. w.kept _ _ c'))
+          (then_both (suc at) (suc at + width e) (suc at + width e) (omega arith) (omega arith) c (Rust.eval f si cv N env st (suc at) e c) _ (eval_walks e (suc at) c h) (λ v c'. w.kept _ _ c'))
       eval_walks (binary op l r) at c h =
           let m = suc at + width l in
           w.wide (suc at) at (m + width r) _ c _ (omega arith) (omega arith)
-          (then_both (suc at) m (m + width r) (omega arith) (omega arith) c (Rust.eval f si N env st (suc at) l c) _ (eval_walks l (suc at) c (λ k i. h k (in_left (callees r) i)))
-          (λ v c'. then_both m (m + width r) (m + width r) (omega arith) (omega arith) c' (Rust.eval f si N env st m r c') _ (eval_walks r m c' (λ k i. h k (in_right (callees l) i))) (λ u c''. w.kept _ _ c'')))
+          (then_both (suc at) m (m + width r) (omega arith) (omega arith) c (Rust.eval f si cv N env st (suc at) l c) _ (eval_walks l (suc at) c (λ k i. h k (in_left (callees r) i)))
+          (λ v c'. then_both m (m + width r) (m + width r) (omega arith) (omega arith) c' (Rust.eval f si cv N env st m r c') _ (eval_walks r m c' (λ k i. h k (in_right (callees l) i))) (λ u c''. w.kept _ _ c'')))
       eval_walks (if_then_else x t e) at c h =
           let m = suc at + width x in
           let n = m + width t in
           w.wide (suc at) at (n + width e) _ c _ (omega arith) (omega arith)
-          (then_both (suc at) m (n + width e) (omega arith) (omega arith) c (Rust.eval f si N env st (suc at) x c) _ (eval_walks x (suc at) c (λ k i. h k (in_left (callees t ++ callees e) i)))
+          (then_both (suc at) m (n + width e) (omega arith) (omega arith) c (Rust.eval f si cv N env st (suc at) x c) _ (eval_walks x (suc at) c (λ k i. h k (in_left (callees t ++ callees e) i)))
           (if_bool_lem m (n + width e) _
           (choice m n (n + width e) (omega arith) (omega arith) _ _ (λ c'. eval_walks t m c' (λ k i. h k (in_right (callees x) (in_left (callees e) i))))
           (λ c'. eval_walks e n c' (λ k i. h k (in_right (callees x) (in_right (callees t) i)))))))
@@ -154,21 +159,57 @@ module _ (Rel : ℕ → ℕ → States → States → Type 0) (w : Walk Rel) whe
           (λ c'. eval_walks b m c' (λ k i. h k (in_right (callees a) i))) _ c)
       eval_walks (cast t e) at c h =
           w.wide (suc at) at (suc at + width e) _ c _ (omega arith) (omega arith)
-          (then_both (suc at) (suc at + width e) (suc at + width e) (omega arith) (omega arith) c (Rust.eval f si N env st (suc at) e c) _ (eval_walks e (suc at) c h) (λ v c'. w.kept _ _ c'))
+          (then_both (suc at) (suc at + width e) (suc at + width e) (omega arith) (omega arith) c (Rust.eval f si cv N env st (suc at) e c) _ (eval_walks e (suc at) c h) (λ v c'. w.kept _ _ c'))
       eval_walks (call k es) at c h =
           w.wide at at (suc at + widths es) _ c _ (omega arith) (omega arith)
           (called at (suc at + widths es) k (count es) (omega arith) (h k (here refl)) _ (λ c'. args_walk es (suc at) c' (λ j i. h j (there i))) c)
       eval_walks (tuple es) at c h =
           w.wide (suc at) at (suc at + widths es) _ c _ (omega arith) (omega arith)
-          (all_back (suc at) (suc at) (suc at + widths es) (omega arith) (omega arith) c (eval_args f si N env st (suc at) es c) _ (args_walk es (suc at) c h) (λ vs c'. w.kept _ _ c'))
+          (then_back (suc at) (suc at) (suc at + widths es) (omega arith) (omega arith) c (eval_args f si cv N env st (suc at) es c) _ (args_walk es (suc at) c h) (λ vs c'. w.kept _ _ c'))
+      eval_walks (index a i) at c h =
+          let m = suc at + width a in
+          w.wide (suc at) at (m + width i) _ c _ (omega arith) (omega arith)
+          (then_both (suc at) m (m + width i) (omega arith) (omega arith) c (Rust.eval f si cv N env st (suc at) a c) _ (eval_walks a (suc at) c (λ k j. h k (in_left (callees i) j)))
+          (λ v c'. then_both m (m + width i) (m + width i) (omega arith) (omega arith) c' (Rust.eval f si cv N env st m i c') _ (eval_walks i m c' (λ k j. h k (in_right (callees a) j))) (λ u c''. w.kept _ _ c'')))
+      eval_walks (literal es) at c h =
+          w.wide (suc at) at (suc at + widths es) _ c _ (omega arith) (omega arith)
+          (then_back (suc at) (suc at) (suc at + widths es) (omega arith) (omega arith) c (eval_items f si cv N env st (suc at) es c) _ (items_walk es (suc at) c h) (λ vs c'. w.kept _ _ c'))
+      eval_walks (map_over k es) at c h =
+          w.wide (suc at) at (suc at + widths es) _ c _ (omega arith) (omega arith)
+          (iterates (suc at) (suc at + widths es) (find_node f k).kind _
+          (λ c. then_back (suc at) (suc at) (suc at + widths es) (omega arith) (omega arith) c (eval_arrays f si cv N env st (suc at) es c) _ (arrays_walk es (suc at) c h)
+          (λ vss. equally (suc at) (suc at) (equal_lengths vss) _ (λ c'. w.kept _ _ c'))) c)
+      eval_walks (fold_over k e es) at c h =
+          let m = suc at + width e in
+          w.wide (suc at) at (m + widths es) _ c _ (omega arith) (omega arith)
+          (iterates (suc at) (m + widths es) (find_node f k).kind _
+          (λ c. then_back (suc at) m (m + widths es) (omega arith) (omega arith) c (eval_arrays f si cv N env st m es c) _ (arrays_walk es m c (λ j i. h j (in_right (callees e) i)))
+          (λ vss. equally (suc at) m (equal_lengths vss) _
+          (λ c'. then_both (suc at) m m (omega arith) (omega arith) c' (Rust.eval f si cv N env st (suc at) e c') _ (eval_walks e (suc at) c' (λ j i. h j (in_left (callees_all es) i))) (λ v c''. w.kept _ _ c'')))) c)
 
-      pub args_walk : (es : Exprs) (at : ℕ) (c : States) → ((k : ℕ) → k ∈ callees_all es → C k) → Rel at (at + widths es) c (eval_args f si N env st at es c).calls
+      pub args_walk : (es : Exprs) (at : ℕ) (c : States) → ((k : ℕ) → k ∈ callees_all es → C k) → Rel at (at + widths es) c (eval_args f si cv N env st at es c).calls
       args_walk nil at c h = w.kept _ _ c
       args_walk (cons e es) at c h =
           let m = at + width e in
           w.wide at at (m + widths es) _ c _ (omega arith) (omega arith)
-          (push_both at m (m + widths es) (omega arith) (omega arith) c (Rust.eval f si N env st at e c) _ (eval_walks e at c (λ k i. h k (in_left (callees_all es) i)))
+          (push_both value_in at m (m + widths es) (omega arith) (omega arith) c (Rust.eval f si cv N env st at e c) _ (eval_walks e at c (λ k i. h k (in_left (callees_all es) i)))
           (λ c'. args_walk es m c' (λ k i. h k (in_right (callees e) i))))
+
+      items_walk : (es : Exprs) (at : ℕ) (c : States) → ((k : ℕ) → k ∈ callees_all es → C k) → Rel at (at + widths es) c (eval_items f si cv N env st at es c).calls
+      items_walk nil at c h = w.kept _ _ c
+      items_walk (cons e es) at c h =
+          let m = at + width e in
+          w.wide at at (m + widths es) _ c _ (omega arith) (omega arith)
+          (push_both plain_in at m (m + widths es) (omega arith) (omega arith) c (Rust.eval f si cv N env st at e c) _ (eval_walks e at c (λ k i. h k (in_left (callees_all es) i)))
+          (λ c'. items_walk es m c' (λ k i. h k (in_right (callees e) i))))
+
+      arrays_walk : (es : Exprs) (at : ℕ) (c : States) → ((k : ℕ) → k ∈ callees_all es → C k) → Rel at (at + widths es) c (eval_arrays f si cv N env st at es c).calls
+      arrays_walk nil at c h = w.kept _ _ c
+      arrays_walk (cons e es) at c h =
+          let m = at + width e in
+          w.wide at at (m + widths es) _ c _ (omega arith) (omega arith)
+          (push_both array_in at m (m + widths es) (omega arith) (omega arith) c (Rust.eval f si cv N env st at e c) _ (eval_walks e at c (λ k i. h k (in_left (callees_all es) i)))
+          (λ c'. arrays_walk es m c' (λ k i. h k (in_right (callees e) i))))
 
 -- ---- what becomes of a state
 
@@ -236,7 +277,7 @@ apart (q ∷ qs) i zero h l = absurd (omega arith)
 apart (q ∷ qs) zero (suc j) h l = omega arith
 apart (q ∷ qs) (suc i) (suc j) h l = omega (arith, apart qs i j (omega arith) (omega arith))
 
-module _ (f : File) (si : StepInstance) (N : ℕ) (n : Node) (st : State) where
+module _ (f : File) (si : StepInstance) (cv : CallValues) (N : ℕ) (n : Node) (st : State) where
   abbrev qs : List Equation
   qs = n.equations
 
@@ -250,20 +291,20 @@ module _ (f : File) (si : StepInstance) (N : ℕ) (n : Node) (st : State) where
   module _ (X : ℕ → States → States → Type 0) (Z : List ℕ → States → States → Type 0) (none_left : (c : States) → Z [] c c)
       (stopped : (i : ℕ) (is : List ℕ) (c c' : States) → X i c c' → Z (i ∷ is) c c')
       (goes : (i : ℕ) (is : List ℕ) (c c' c'' : States) → X i c c' → Z is c' c'' → Z (i ∷ is) c c'')
-      (each : (i : ℕ) (env : Env) (c : States) → X i c (Rust.eval f si N env st (address qs i) (equation_at n i).rhs c).calls) where
-    for_walks : (is : List ℕ) (env : Env) (c : States) → Z is c (for_order f si N n st is env c).calls
+      (each : (i : ℕ) (env : Env) (c : States) → X i c (Rust.eval f si cv N env st (address qs i) (equation_at n i).rhs c).calls) where
+    for_walks : (is : List ℕ) (env : Env) (c : States) → Z is c (for_order f si cv N n st is env c).calls
     unfolding for_order bind_next
     for_walks [] env c = none_left c
     for_walks (i ∷ is) env c = by_result (λ env' c'. for_walks is env' c') r.out
       where
-        r : Res
-        r = Rust.eval f si N env st (address qs i) (equation_at n i).rhs c
+        r : Res Given
+        r = Rust.eval f si cv N env st (address qs i) (equation_at n i).rhs c
 
-        by_bound : ((env' : Env) (c' : States) → Z is c' (for_order f si N n st is env' c').calls) → (o : Option Env) → Z (i ∷ is) c (bound_on f i o (for_order f si N n st is) env r.calls).calls
+        by_bound : ((env' : Env) (c' : States) → Z is c' (for_order f si cv N n st is env' c').calls) → (o : Option Env) → Z (i ∷ is) c (bound_on f i o (for_order f si cv N n st is) env r.calls).calls
         by_bound more none = stopped i is c r.calls (each i env c)
         by_bound more (some env') = goes i is c r.calls _ (each i env c) (more env' r.calls)
 
-        by_result : ((env' : Env) (c' : States) → Z is c' (for_order f si N n st is env' c').calls) → (o : Result RValue) → Z (i ∷ is) c (bind_on f n i o r.calls (for_order f si N n st is) env).calls
+        by_result : ((env' : Env) (c' : States) → Z is c' (for_order f si cv N n st is env' c').calls) → (o : Result Given) → Z (i ∷ is) c (bind_on f n i o r.calls (for_order f si cv N n st is) env).calls
         by_result more (Ok v) = by_bound more (bind_lhs f n (equation_at n i).names v env)
         by_result more (Err e) = stopped i is c r.calls (each i env c)
         by_result more Panic = stopped i is c r.calls (each i env c)
@@ -288,8 +329,8 @@ module _ (f : File) (si : StepInstance) (N : ℕ) (n : Node) (st : State) where
       (λ e. by_cases (dec_lt key.1 a) (λ l. out (λ w. absurd (omega (arith, w.1)))) (λ l. by_cases (dec_lt key.1 b) (λ h. in-it (e, omega arith, h)) (λ h. out (λ w. h w.2))))
       (λ e. out (λ w. e w.0))
 
-  module _ (each : (i : ℕ) (env : Env) (c : States) → MovedIn N (low i) (high i) c (Rust.eval f si N env st (address qs i) (equation_at n i).rhs c).calls) where
-    for_moves : (is : List ℕ) (env : Env) (c : States) → Among is c (for_order f si N n st is env c).calls
+  module _ (each : (i : ℕ) (env : Env) (c : States) → MovedIn N (low i) (high i) c (Rust.eval f si cv N env st (address qs i) (equation_at n i).rhs c).calls) where
+    for_moves : (is : List ℕ) (env : Env) (c : States) → Among is c (for_order f si cv N n st is env c).calls
     for_moves is env c =
         for_walks (λ i. MovedIn N (low i) (high i)) Among
         (λ c d b. record { outside = λ key h. refl; moved = λ key. same _ _ refl })
@@ -304,8 +345,8 @@ module _ (f : File) (si : StepInstance) (N : ℕ) (n : Node) (st : State) where
         })
         each is env c
 
-  module _ (each : (i : ℕ) (env : Env) (c : States) → AllSame (low i) (high i) c (Rust.eval f si N env st (address qs i) (equation_at n i).rhs c).calls) where
-    for_same : (is : List ℕ) (env : Env) (c : States) (key : Key) → get_state key (for_order f si N n st is env c).calls ≡ get_state key c
+  module _ (each : (i : ℕ) (env : Env) (c : States) → AllSame (low i) (high i) c (Rust.eval f si cv N env st (address qs i) (equation_at n i).rhs c).calls) where
+    for_same : (is : List ℕ) (env : Env) (c : States) (key : Key) → get_state key (for_order f si cv N n st is env c).calls ≡ get_state key c
     for_same is env c = for_walks (λ i. AllSame (low i) (high i)) (λ is. AllSame 0 0) (λ c key. refl) (λ i is c c' x. x) (λ i is c c' c'' x z key. z key ∙ x key) each is env c
 
 -- ---- calls, so deep
@@ -320,7 +361,7 @@ module _ (f : File) (vs : List Value) (F : FileRust f vs) where
     pub own : Moved (get_state key c) (get_state key c')
 
   abbrev pub Steps : ℕ → Type 0
-  Steps d = (key : Key) (k : ℕ) → k < length f.nodes → (ws : List Value) (c : States) (env : Env) → StepMoves key k c (step_instance f d key k ws c env).calls
+  Steps d = (key : Key) (k : ℕ) → k < length f.nodes → (ws : List RValue) (c : States) (env : Env) → StepMoves key k c (step_instance f d key k ws c env).calls
 
   unmoved : (key : Key) (k : ℕ) (c c' : States) → ((other : Key) → get_state other c' ≡ get_state other c) → StepMoves key k c c'
   unmoved key k c c' h = record { others = λ other q. h other; own = same _ _ (h key) }
@@ -336,24 +377,24 @@ module _ (f : File) (vs : List Value) (F : FileRust f vs) where
     facts = F.nodes k b
 
     below : (c : ℕ) → c ∈ sites n → c < length f.nodes
-    below c m = omega (arith, F.callable.lower k c m)
+    below c m = omega (arith, lower_site F.callable k c m)
 
     -- the equations of a Function move nothing
-    function_same : n.kind ≡ Function → (is : List ℕ) (env : Env) (c : States) (st : State) (key : Key) → get_state key (for_order f (step_instance f d) k n st is env c).calls ≡ get_state key c
+    function_same : n.kind ≡ Function → (is : List ℕ) (env : Env) (c : States) (st : State) (key : Key) → get_state key (for_order f (step_instance f d) (call_function_values f d) k n st is env c).calls ≡ get_state key c
     function_same e is env c st =
-        for_same f (step_instance f d) k n st
+        for_same f (step_instance f d) (call_function_values f d) k n st
         (λ i env c.
-        eval_walks AllSame same_walk f (step_instance f d) k env st (λ x. (x < length f.nodes) × (¬ (kind_of x ≡ Operator)))
+        eval_walks AllSame same_walk f (step_instance f d) (call_function_values f d) k env st (λ x. (x < length f.nodes) × (¬ (kind_of x ≡ Operator)))
         (λ at x h ws c key. (steps (k, at) x h.0 ws c env).others key (λ o. absurd (h.1 o)))
         (equation_at n i).rhs (address n.equations i) c (λ x m. (below x (callee_in_lem n i x m), facts.functional e x (callee_in_lem n i x m))))
         is env c
 
     -- those of an Operator move the states of its calls
-    pub operator_moves : (st : State) (env : Env) (c : States) (key : Key) → Moved (get_state key c) (get_state key (for_order f (step_instance f d) k n st (order n.equations) env c).calls)
+    pub operator_moves : (st : State) (env : Env) (c : States) (key : Key) → Moved (get_state key c) (get_state key (for_order f (step_instance f d) (call_function_values f d) k n st (order n.equations) env c).calls)
     operator_moves st env c =
-        (for_moves f (step_instance f d) k n st
+        (for_moves f (step_instance f d) (call_function_values f d) k n st
         (λ i env c.
-        eval_walks (MovedIn k) (moved_walk k) f (step_instance f d) k env st (λ x. x < length f.nodes)
+        eval_walks (MovedIn k) (moved_walk k) f (step_instance f d) (call_function_values f d) k env st (λ x. x < length f.nodes)
         (λ at x h ws c.
         let s = steps (k, at) x h ws c env in
         record { outside = λ key o. s.others key (λ q e. o (ap (λ (a : Key). a.0) e, omega (arith, ap (λ (a : Key). a.1) e), omega (arith, ap (λ (a : Key). a.1) e))); moved = λ key. by_key at key s })
@@ -369,12 +410,12 @@ module _ (f : File) (vs : List Value) (F : FileRust f vs) where
 
     -- a call, by the callee's kind and its order
     step_kind_lem : (key : Key) (env : Env) (c : States) (t : NodeKind) → n.kind ≡ t
-        → StepMoves key k c (step_kind f (step_instance f d) t key k n (order n.equations) env c).calls
+        → StepMoves key k c (step_kind f (step_instance f d) (call_function_values f d) t key k n (order n.equations) env c).calls
     unfolding end_function end_operator
     step_kind_lem key env c Function e = unmoved key k c _ (λ other. by_end r.end other)
       where
         r : Ran
-        r = for_order f (step_instance f d) k n default_state (order n.equations) env c
+        r = for_order f (step_instance f d) (call_function_values f d) k n default_state (order n.equations) env c
 
         by_end : (t : LoopEnd) (other : Key) → get_state other (function_end f n t r.env r.calls).calls ≡ get_state other c
         by_end done other = function_same e (order n.equations) env c default_state other
@@ -389,7 +430,7 @@ module _ (f : File) (vs : List Value) (F : FileRust f vs) where
         env₀ = reseed f (prev sub) (n.outputs ++ n.locals) env
 
         r : Ran
-        r = for_order f (step_instance f d) k n sub (order n.equations) env₀ (child_calls sub)
+        r = for_order f (step_instance f d) (call_function_values f d) k n sub (order n.equations) env₀ (child_calls sub)
 
         gone : StepMoves key k c (remove_state key c)
         gone = record { others = λ other h. removed_miss other key c (h e); own = dropped _ _ (removed_hit key c) }
@@ -410,6 +451,6 @@ module _ (f : File) (vs : List Value) (F : FileRust f vs) where
   steps_move zero key k b ws c env = unmoved key k c _ (λ other. refl)
   steps_move (suc d) key k b ws c env =
       let n = node_at (globals_of f vs) k in
-      subst (λ o. StepMoves key k c (step_ordered f (step_instance f d) o key k n (callee_env f n ws env) c).calls)
+      subst (λ o. StepMoves key k c (step_ordered f (step_instance f d) (call_function_values f d) o key k n (callee_env f n ws env) c).calls)
       (sym (order_is n ∙ ap (maybe (some (order n.equations)) (λ i. none)) (F.nodes k b).ok.placed.none_left))
       (step_kind_lem d (steps_move d) k b key (callee_env f n ws env) c n.kind refl)

@@ -8,7 +8,7 @@ use native.Mathlib.Omega.{arith}
 use native.Mathlib.Decide.{dec_lt}
 use lib.ListN.{length, take, get_or, length-append, length-map}
 use Rattle.ol_spec.specs.Lists.{concat}
-use Rattle.ol_spec.specs.Syntax.{Equation, Node, Expr, bool_lit, int_lit, float_lit, char_lit, var, unary, binary, if_then_else, pre, arrow, cast, call, tuple, Exprs, nil, cons}
+use Rattle.ol_spec.specs.Syntax.{Equation, Node, Expr, bool_lit, int_lit, float_lit, char_lit, var, unary, binary, if_then_else, pre, arrow, cast, call, tuple, index, literal, map_over, fold_over, Exprs, nil, cons}
 use Rattle.ol_spec.specs.Eval.{callees, callees_all}
 use Rattle.ol_spec.specs.Step.{equation_sites, no_equation}
 use Rattle.ol_spec.specs.RustSim.{width, widths, Key, address}
@@ -36,6 +36,10 @@ mutual
   callees_are (cast t e) at = callees_are e _
   callees_are (call k es) at = ap (λ l. k ∷ l) (callees_all_lem es _)
   callees_are (tuple es) at = callees_all_lem es _
+  callees_are (index a i) at = map-append callee_of (rust_calls_in (suc at) a) _ ∙ ap₂ ◌++◌ (callees_are a _) (callees_are i _)
+  callees_are (literal es) at = callees_all_lem es _
+  callees_are (map_over k es) at = callees_all_lem es _
+  callees_are (fold_over k s es) at = map-append callee_of (rust_calls_in (suc at) s) _ ∙ ap₂ ◌++◌ (callees_are s _) (callees_all_lem es _)
 
   pub callees_all_lem : (es : Exprs) (at : ℕ) → map callee_of (calls_all at es) ≡ callees_all es
   callees_all_lem nil at = refl
@@ -92,6 +96,16 @@ mutual
   rising_in (cast t e) at = rising_low at (suc at) _ (rust_calls_in (suc at) e) (omega arith) (rising_high (suc at) (suc at + width e) _ (rust_calls_in (suc at) e) (omega arith) (rising_in e (suc at)))
   rising_in (call k es) at = (omega arith, rising_high (suc at) (suc at + widths es) _ (calls_all (suc at) es) (omega arith) (rising_all es (suc at)))
   rising_in (tuple es) at = rising_low at (suc at) _ (calls_all (suc at) es) (omega arith) (rising_high (suc at) (suc at + widths es) _ (calls_all (suc at) es) (omega arith) (rising_all es (suc at)))
+  rising_in (index a b) at =
+      let i = suc at + width a in
+      rising_low at (suc at) _ (rust_calls_in (suc at) a ++ rust_calls_in i b) (omega arith)
+      (rising_append (suc at) i _ (rust_calls_in (suc at) a) (rust_calls_in i b) (rising_in a (suc at)) (rising_high i (i + width b) _ (rust_calls_in i b) (omega arith) (rising_in b i)))
+  rising_in (literal es) at = rising_low at (suc at) _ (calls_all (suc at) es) (omega arith) (rising_high (suc at) (suc at + widths es) _ (calls_all (suc at) es) (omega arith) (rising_all es (suc at)))
+  rising_in (map_over k es) at = rising_low at (suc at) _ (calls_all (suc at) es) (omega arith) (rising_high (suc at) (suc at + widths es) _ (calls_all (suc at) es) (omega arith) (rising_all es (suc at)))
+  rising_in (fold_over k s es) at =
+      let i = suc at + width s in
+      rising_low at (suc at) _ (rust_calls_in (suc at) s ++ calls_all i es) (omega arith)
+      (rising_append (suc at) i _ (rust_calls_in (suc at) s) (calls_all i es) (rising_in s (suc at)) (rising_high i (i + widths es) _ (calls_all i es) (omega arith) (rising_all es i)))
 
   rising_all : (es : Exprs) (at : ℕ) → Rising at (at + widths es) (calls_all at es)
   rising_all nil at = omega arith

@@ -7,7 +7,7 @@ use mathlib.Core.List.{List, [], ◌∷◌, ◌++◌, map, append-nil}
 use mathlib.Core.Option.{Option}
 use mathlib.Core.Path.{◌≡◌, refl, sym, ap, ap₂, subst, ◌∙◌}
 use native.Mathlib.Omega.{arith}
-use lib.ListN.{length, take, drop, get_or, length-drop, take-append-drop}
+use lib.ListN.{length, take, drop, get_or, length-drop, length-map, take-append-drop}
 use lib.Seq.{length-take-le}
 use lib.Dec.{T, leb, leb→le, eqb, eqb→eq}
 use Rattle.ol_theory.specs.Member.{◌∈◌, Distinct}
@@ -15,32 +15,33 @@ use Rattle.ol_spec.specs.Lists.{maybe, concat, lookup, is_empty}
 use Rattle.ol_spec.specs.Syntax.{NodeKind, Function, Operator, Imported, Node, Constant, File, constant_name, variables, variable_names}
 use Rattle.ol_spec.specs.Cell.{cells, values_of, good_cells}
 use Rattle.ol_spec.specs.Eval.{Globals, node_at, record_size, sites_size}
-use Rattle.ol_spec.specs.Step.{sites, own_size, old_cells}
+use Rattle.ol_spec.specs.Step.{cell_count, sites, own_size, old_cells}
 use Rattle.ol_spec.specs.State.{globals_of, good_own}
-use Rattle.ol_spec.specs.RustSim.{Env, get, State, state, States, get_state, past, child_calls, default_value}
-use Rattle.ol_spec.specs.RustState.{started_byte, state_or, calls_of, left_in, sites_bytes, site_bytes_by, instance_bytes, site_bytes}
+use Rattle.ol_spec.specs.RustSim.{RValue, Env, get, State, state, States, get_state, past, child_calls, default_value}
+use Rattle.ol_spec.specs.RustState.{all_cells, started_byte, state_or, calls_of, left_in, sites_bytes, site_bytes_by, instance_bytes, site_bytes}
 use Rattle.ol_spec.specs.declared.Value.{Value}
 use Rattle.ol_spec.proofs.Tests.{T_and, true_t}
 use Rattle.ol_spec.proofs.Lists.{length_none}
 use Rattle.ol_spec.proofs.Cells.{values_cells}
 use Rattle.ol_spec.proofs.Segments.{Rec}
-use Rattle.ol_spec.proofs.Runs.{length_values, Instance, inner_good}
-use Rattle.ol_spec.proofs.Calls.{size_of, to_instance}
-use Rattle.ol_spec.proofs.States.{cells_part}
-use Rattle.ol_spec.proofs.RustEnv.{lookup_here, lookup_skip, values_read}
+use Rattle.ol_spec.proofs.CellLengths.{length_values}
+use Rattle.ol_spec.proofs.Runs.{Instance, inner_good}
+use Rattle.ol_spec.proofs.Calls.{lower_site, size_of, to_instance}
+use Rattle.ol_spec.proofs.States.{cells_part_lem}
+use Rattle.ol_spec.proofs.RustEnv.{lookup_here, lookup_skip, packs_length, cells_back, values_read}
 use Rattle.ol_spec.proofs.RustPlaces.{callee_of, sites_are, Home, home, Lie, lie_all}
-use Rattle.ol_spec.proofs.RustEval.{Sites, sites_head}
-use Rattle.ol_spec.proofs.RustCalls.{FileRust, InstRel, RelBy, RelAt, p}
+use Rattle.ol_spec.proofs.RustEval.{shapes_in, Sites, sites_head}
+use Rattle.ol_spec.proofs.RustCalls.{FileRust, held, InstRel, RelBy, RelAt, p}
 
 -- an environment that has the constants' values gives them in file order
-pub constants_read_lem : (f : File) (cs : List Constant) (vs : List Value) (env : Env) → length vs ≡ length cs → Distinct (map constant_name cs)
+pub constants_read_lem : (f : File) (cs : List Constant) (vs : List RValue) (env : Env) → length vs ≡ length cs → Distinct (map constant_name cs)
     → ((y : ℕ) → y ∈ map constant_name cs → get y env ≡ lookup y (map constant_name cs) vs) → map (λ c. maybe (default_value f c.ty) (λ v. v) (get c.name env)) cs ≡ vs
 constants_read_lem f [] [] env e q h = refl
 constants_read_lem f [] (v ∷ vs) env e q h = absurd (omega arith)
 constants_read_lem f (x ∷ xs) [] env e q h = absurd (omega arith)
 constants_read_lem f (x ∷ xs) (v ∷ vs) env e q h =
     let ns = map constant_name xs in
-    ap₂ {C = List Value} (λ a l. a ∷ l) (ap (maybe (default_value f x.ty) (λ w. w)) (h x.name (here refl) ∙ lookup_here x.name x.name ns v vs refl))
+    ap₂ {C = List RValue} (λ a l. a ∷ l) (ap (maybe (default_value f x.ty) (λ w. w)) (h x.name (here refl) ∙ lookup_here x.name x.name ns v vs refl))
     (constants_read_lem f xs vs env (omega arith) q.1 (λ y m. h y (there m) ∙ lookup_skip y x.name ns v vs (λ z. q.0 (subst (λ w. w ∈ ns) z m))))
 
 -- a list with a first entry
@@ -70,14 +71,15 @@ module _ (f : File) (vs : List Value) (F : FileRust f vs) where
       → old_cells n r ≡ left_in f n (past st)
   left_is R N n r (state [] c) calls d i = i.new refl
   left_is R N n r (state (e ∷ es) c) calls d i =
-      sym (values_read f (λ x. default_value f x.ty) (variables n) (old_cells n r) e (length_values (length (variables n)) (drop 1 r)) d i.last)
+      let l = length_values (cell_count n) (drop 1 r) in
+      sym (ap all_cells (values_read f (λ x. default_value f x.ty) (variables n) (held n (old_cells n r)) e (packs_length (shapes_in (variables n)) (old_cells n r) ∙ length-map (variables n) _) d i.last) ∙ cells_back (variables n) (old_cells n r) l)
 
   -- a record begins with its started byte and its cells
   own_bytes : (R : ℕ → List ℕ → Option State → Type 0) (N : ℕ) (n : Node) (r : List ℕ) (st : State) (calls : States) → Distinct (variable_names n) → Instance g (p f vs) n r
       → InstRel f vs R N n r st calls → r ≡ started_byte (past st) ∷ cells (left_in f n (past st)) ++ drop (own_size n) r
   unfolding good_own
   own_bytes R N n r st calls d inst i =
-      let m = length (variables n) in
+      let m = cell_count n in
       let es = concat f.enums in
       let a = take (9 * m) (drop 1 r) in
       let b = drop (9 * m) (drop 1 r) in
@@ -85,16 +87,16 @@ module _ (f : File) (vs : List Value) (F : FileRust f vs) where
       let u = T_and (leb (get_or r 0 0) 1) _ w.0 in
       let la : length a ≡ 9 * m = length-take-le (9 * m) (drop 1 r) (omega (arith, length-drop 1 r, inst.sized)) in
       let ab : a ++ b ≡ drop 1 r = take-append-drop (9 * m) (drop 1 r) in
-      let part = cells_part es m a b [] la in
+      let part = cells_part_lem es m a b [] la in
       let good : T (good_cells es m a) = subst T (ap (good_cells es m) (sym ab) ∙ part.0 ∙ ap (good_cells es m) (append-nil a)) u.1 in
       let vals : values_of m a ≡ old_cells n r = sym (ap (values_of m) (sym ab) ∙ part.1 ∙ ap (values_of m) (append-nil a)) in
       let is-cells : a ≡ cells (left_in f n (past st)) = sym (values_cells es m a la good) ∙ ap cells (vals ∙ left_is R N n r st calls d i) in
       first_of r (omega (arith, inst.sized))
       ∙ ap₂ {C = List ℕ} (λ x l. x ∷ l) (started_is (get_or r 0 0) (past st) (leb→le (get_or r 0 0) 1 u.0) i.fresh) (sym ab ∙ ap₂ ◌++◌ is-cells (drop_one r))
     where
-      drop_one : (r : List ℕ) → drop (9 * length (variables n)) (drop 1 r) ≡ drop (own_size n) r
-      drop_one [] = none_left (9 * length (variables n)) ∙ sym (none_left (own_size n))
-      drop_one (x ∷ r) = let e : suc (9 * length (variables n)) ≡ own_size n = omega arith in ap (λ k. drop k (x ∷ r)) e
+      drop_one : (r : List ℕ) → drop (9 * cell_count n) (drop 1 r) ≡ drop (own_size n) r
+      drop_one [] = none_left (9 * cell_count n) ∙ sym (none_left (own_size n))
+      drop_one (x ∷ r) = let e : suc (9 * cell_count n) ≡ own_size n = omega arith in ap (λ k. drop k (x ∷ r)) e
 
   abbrev SiteIs : ℕ → Type 0
   SiteIs d = (k : ℕ) (r : List ℕ) (o : Option State) → k < d → k < D → Rec g (p f vs) k r → RelAt f vs d k r o → r ≡ site_bytes f d k o
@@ -126,8 +128,8 @@ module _ (f : File) (vs : List Value) (F : FileRust f vs) where
       go : (t : NodeKind) → (node_at g k).kind ≡ t → SiteIs d → RelBy f vs t (RelAt f vs d) k r o → r ≡ site_bytes_by f t (site_bytes f d) k o
       go Function e is i = length_none r (q.sized ∙ size_of F.callable k Function b e)
       go Operator e is i =
-          instance_by_lem d k is (node_at g k) r (state_or o) (child_calls (state_or o)) (F.nodes k b).ok.distinct (to_instance F.callable k r b e q) i
-          (λ c m. (omega (arith, F.callable.lower k c m), omega (arith, F.callable.lower k c m)))
+          instance_by_lem d k is (node_at g k) r (state_or o) (child_calls (state_or o)) (F.nodes k b).sorted.distinct (to_instance F.callable k r b e q) i
+          (λ c m. (omega (arith, lower_site F.callable k c m), omega (arith, lower_site F.callable k c m)))
       go Imported e is i = length_none r (q.sized ∙ size_of F.callable k Imported b e)
 
   -- an instance's record

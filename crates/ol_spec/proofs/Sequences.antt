@@ -1,35 +1,42 @@
 -- Whole sequences of outcomes, and that a main start value never comes back: specs/Sequences' claims.
-use Prim.Native.Nat.{ℕ, zero, suc, ◌<◌}
+use Prim.Native.Nat.{ℕ, zero, suc, ◌+◌, ◌<◌}
 use mathlib.Core.Bool.{Bool, true, false}
 use mathlib.Core.List.Memᴰ.{append_cases as in_append}
 use mathlib.Core.List.{List, [], ◌∷◌, ◌++◌, map, append_assoc}
 use mathlib.Core.Logic.{⊎_elim}
 use mathlib.Core.Option.{Option, none, some}
-use mathlib.Core.Path.{◌≡◌, refl, sym, ap, subst, ◌∙◌}
+use mathlib.Core.Path.{◌≡◌, refl, sym, ap, ap₂, subst, ◌∙◌}
 use native.Mathlib.Omega.{arith}
-use lib.ListN.{length, take, drop, get_elem?, length-map}
+use lib.ListN.{length, take, drop, get_elem?, length-append, length-map}
 use lib.Dec.{T}
 use Rattle.ol_theory.specs.Member.{◌∈◌}
-use Rattle.ol_spec.specs.Lists.{maybe, or_else, lookup, member}
-use Rattle.ol_spec.specs.Syntax.{Node, File, Expr, bool_lit, var, if_then_else, main, variables, variable_names, name_of}
+use Rattle.ol_spec.specs.Lists.{maybe, or_else, is_some, member, concat, lookup}
+use Rattle.ol_spec.specs.Syntax.{Variable, variable_cells, no_node, Node, File, Expr, bool_lit, var, if_then_else, main, variables, variable_names, cell_names, cell_types}
 use Rattle.ol_spec.specs.Syntax as S
 use Rattle.ol_spec.specs.Limits.{Loader}
-use Rattle.ol_spec.specs.Eval.{Globals, Scope, Calls, or_failure, eval, branch, Branch, first_taken, second_taken, branches_on, choose, seg_size, variant_of}
-use Rattle.ol_spec.specs.Step.{is_fresh, old_cells, scope, calls}
-use Rattle.ol_spec.specs.Admission.{constant_names, judge, admitted, head_size}
+use Rattle.ol_spec.specs.Eval.{eval_cells, Globals, Scope, Calls, values, or_failure, or_failures, cells_named, cells_by, length_named, present_of, constant_of, eval, branch, Branch, first_taken, second_taken, branches_on, choose, seg_size, variant_of}
+use Rattle.ol_spec.specs.Step.{cell_count, is_fresh, old_cells, scope, calls}
+use Rattle.ol_spec.specs.Admission.{constant_names, constant_cell_names, judge, admitted, head_size}
 use Rattle.ol_spec.specs.State.{globals_of, fresh_state}
 use Rattle.ol_spec.specs.Demand3.{Bytes, Turn, Made, history, given, Answered}
-use Rattle.ol_spec.specs.Lustre.{pre, arrow, always, firstly, add_answer, answers, sequence_of, eval_in, AtInstant, or_cold}
-use Rattle.ol_spec.specs.Sequences.{add_instant, instants, beside, or_nil, outcomes, sides, left_of, right_of, cells_at, scope_at, outcomes_at, sides_at, EveryInstance, SequencesClaim, NeverReturns}
+use Rattle.ol_spec.specs.Lustre.{pre, arrow, always, firstly, Entries, add_answer, answers, sequence_of, eval_in, cells_in, AtInstant, or_cold}
+use Rattle.ol_spec.specs.RustSim.{RValue, plain, Array}
+use Rattle.ol_spec.specs.RustState.{cells_of}
+use Rattle.ol_spec.specs.Sequences.{add_instant, instants, beside, or_nil, outcomes, cell_outcomes, sides, left_of, right_of, cells_at, scope_at, outcomes_at, cell_outcomes_at, sides_at, EveryInstance, SequencesClaim, NeverReturns}
+use Rattle.ol_spec.specs.Types.{default, defaults}
 use Rattle.ol_spec.specs.declared.Value.{Value}
 use Rattle.ol_spec.specs.declared.Outcome.{Outcome}
 use Rattle.ol_spec.specs.declared.Outcome.TheVariants as Out
 use Rattle.ol_spec.specs.declared.Cycled.{Cycled}
 use Rattle.ol_spec.specs.declared.Cycled.TheVariants as Cyc
 use Rattle.ol_spec.proofs.Tests.{member_in, in_member}
-use Rattle.ol_spec.proofs.Runs.{length_values}
-use Rattle.ol_spec.proofs.Names.{lookup_in, lookup_out}
-use Rattle.ol_spec.proofs.PreArrow.{answers_append, instants_of}
+use Rattle.ol_spec.proofs.Lists.{get_elem_inside, get_d_is, or_nothing}
+use Rattle.ol_spec.proofs.Admitted.{Facts}
+use Rattle.ol_spec.proofs.CellLengths.{length_values}
+use Rattle.ol_spec.proofs.RustEval.{name_is}
+use Rattle.ol_spec.proofs.RustRun.{variable_name, constant_name_lem}
+use Rattle.ol_spec.proofs.RustCalls.{NodeRust}
+use Rattle.ol_spec.proofs.PreArrow.{pre_cold, pre_found, answers_append, constant_cells_lem, instants_of}
 use Rattle.ol_spec.proofs.RustCalls.{FileRust}
 use Rattle.ol_spec.proofs.AsRust.{main_facts, Opened, opened}
 
@@ -158,45 +165,54 @@ module _ (ld : Loader) (s : List ℕ) (f : File) (vs : List Value) (ts : List Tu
 
   -- ---- `pre`
 
-  -- a variable or a constant in a cycle that gave a value for each variable
-  var_out : (m : Made) (x : ℕ) (seg : List ℕ) → (eval_in f vs m (given f m) (var x) seg).out ≡ or_failure (or_else (lookup x (variable_names n) (given f m)) (or_else (lookup x (constant_names f) vs) (variant_of g (scope_of m) x)))
-  unfolding eval
-  var_out m x seg = refl
+  o : Opened f vs
+  o = opened ld s f vs bytes e
 
-  given_at : (m : Made) (x : ℕ) → x ∈ variable_names n → (v : Value) × (lookup x (variable_names n) (given f m) ≡ some v)
-  given_at m x k = lookup_in x (variable_names n) (given f m) k (length_values (length (variables n)) _ ∙ sym (length-map (variables n) name_of))
+  facts : NodeRust f vs n
+  facts = main_facts f vs o.facts o.rust
 
-  -- the values of a variable are its outcomes
-  variable_seq : (x : ℕ) → x ∈ variable_names n → (segs : ℕ → List ℕ) (j : ℕ) → or_cold (sequence_of f (answers f ms) x j) ≡ or_nil (outcomes f vs ms (var x) segs j)
-  variable_seq x k segs j =
-      ap (λ o. or_cold (maybe none (lookup x (variable_names n)) o)) (ap (λ l. get_elem? l j) (answers_are f ms) ∙ get_map (given f) (instants ms) j) ∙ go (get_elem? (instants ms) j)
+  -- the cells of a name in a cycle
+  var_cells : (m : Made) (x : ℕ) (seg : List ℕ) (r : RValue)
+      → name_is (length_named g (scope_of m) x) (present_of g (scope_of m) x) (or_else (cells_named x (cell_names (variables n)) (given f m)) (cells_named x (constant_cell_names f) vs)) ≡ some r
+      → (cells_in f vs m (given f m) (var x) seg).out ≡ values (cells_of r)
+  unfolding eval cells_by
+  var_cells m x seg r h = go (length_named g (scope_of m) x) (present_of g (scope_of m) x) (or_else (cells_named x (cell_names (variables n)) (given f m)) (cells_named x (constant_cell_names f) vs)) h
     where
-      go : (o : Option Made) → or_cold (maybe none (lookup x (variable_names n)) (maybe none (λ m. some (given f m)) o))
-          ≡ or_nil (maybe none (λ m. some (eval_in f vs m (given f m) (var x) (segs j)).out) o)
+      go : (o : Option ℕ) (v : Option Value) (us : Option (List Value)) → name_is o v us ≡ some r
+          → (cells_by (is_some o) (λ q. record { out = or_failures us; seg = q }) (λ q. record { out = or_failure v; seg = q }) seg).out ≡ values (cells_of r)
+      go none none us e = let z : ◌≡◌ {A = ℕ} 0 1 = cc in absurd (omega arith)
+      go none (some v) us e = let z : plain v ≡ r = cc in ap (λ r. values (cells_of r)) z
+      go (some k) v none e = let z : ◌≡◌ {A = ℕ} 0 1 = cc in absurd (omega arith)
+      go (some k) v (some us) e = let z : Array us ≡ r = cc in ap (λ r. values (cells_of r)) z
+
+  given_length : (m : Made) → length (given f m) ≡ cell_count n
+  given_length m = length_values (cell_count n) _
+
+  -- the cells of a variable are its outcomes
+  variable_seq : (x : ℕ) → x ∈ variable_names n → (segs : ℕ → List ℕ) (j : ℕ) → or_cold (sequence_of f (answers f ms) x j) ≡ or_nil (cell_outcomes f vs ms (var x) segs j)
+  variable_seq x k segs j =
+      ap (λ o. or_cold (maybe none (cells_named x (cell_names (variables n))) o)) (ap (λ l. get_elem? l j) (answers_are f ms) ∙ get_map (given f) (instants ms) j) ∙ go (get_elem? (instants ms) j)
+    where
+      go : (p : Option Made) → or_cold (maybe none (cells_named x (cell_names (variables n))) (maybe none (λ m. some (given f m)) p))
+          ≡ or_nil (maybe none (λ m. some (cells_in f vs m (given f m) (var x) (segs j)).out) p)
       go none = refl
       go (some m) =
-          let v = given_at m x k in
-          ap or_cold v.1 ∙ sym (var_out m x (segs j) ∙ ap (λ o. or_failure (or_else o (or_else (lookup x (constant_names f) vs) (variant_of g (scope_of m) x)))) v.1)
+          let u = variable_name f vs n facts.sorted o.rust.constant x (given f m) (or_else (constant_of g (scope_of m) x) (variant_of g (scope_of m) x)) (given_length m) k in
+          ap or_cold u.2 ∙ sym (var_cells m x (segs j) u.0 u.3)
 
-  constant_seq : (x : ℕ) → x ∈ constant_names f → (segs : ℕ → List ℕ) (j : ℕ) → j < length (instants ms) → or_cold (lookup x (constant_names f) vs) ≡ or_nil (outcomes f vs ms (var x) segs j)
+  constant_seq : (x : ℕ) → x ∈ constant_names f → (segs : ℕ → List ℕ) (j : ℕ) → j < length (instants ms) → or_cold (cells_named x (constant_cell_names f) vs) ≡ or_nil (cell_outcomes f vs ms (var x) segs j)
   constant_seq x c segs j h = go (get_elem? (instants ms) j) (inside (instants ms) j h)
     where
-      o : Opened f vs
-      o = opened ld s f vs bytes e
-
-      go : (p : Option Made) → (m : Made) × (p ≡ some m) → or_cold (lookup x (constant_names f) vs) ≡ or_nil (maybe none (λ m. some (eval_in f vs m (given f m) (var x) (segs j)).out) p)
+      go : (p : Option Made) → (m : Made) × (p ≡ some m) → or_cold (cells_named x (constant_cell_names f) vs) ≡ or_nil (maybe none (λ m. some (cells_in f vs m (given f m) (var x) (segs j)).out) p)
       go none w = let z = w.1 in let y : ◌≡◌ {A = ℕ} 0 1 = cc in absurd (omega arith)
       go (some m) w =
-          let v = lookup_in x (constant_names f) vs c o.rust.counted in
-          ap or_cold v.1
-          ∙ sym (var_out m x (segs j)
-          ∙ ap (λ p. or_failure (or_else p (or_else (lookup x (constant_names f) vs) (variant_of g (scope_of m) x)))) (lookup_out x (variable_names n) (given f m) (λ k. (main_facts f vs o.facts o.rust).sorted.no_constant_lem x k c))
-          ∙ ap (λ p. or_failure (or_else p (variant_of g (scope_of m) x))) v.1)
+          let u = constant_name_lem f vs n facts.sorted o.rust.constant x (given f m) (variant_of g (scope_of m) x) (λ k. facts.sorted.no_constant_lem x k c) c in
+          ap or_cold (constant_cells_lem f vs o.facts o.rust.constant x c u.0 u.1) ∙ sym (var_cells m x (segs j) u.0 u.2)
 
   pres : (x : ℕ) → T (member x (variable_names n ++ constant_names f)) → (segs segs' : ℕ → List ℕ) (k : ℕ) → k < length (instants ms)
-      → outcomes f vs ms (S.pre (var x)) segs k ≡ some (or_nil (pre (outcomes f vs ms (var x) segs') k))
+      → cell_outcomes f vs ms (S.pre (var x)) segs k ≡ some (or_nil (pre (cell_outcomes f vs ms (var x) segs') k))
   pres x t segs segs' k h =
-      ap (maybe none (λ m. some (eval_in f vs m (given f m) (S.pre (var x)) (segs k)).out)) w.1
+      ap (maybe none (λ m. some (cells_in f vs m (given f m) (S.pre (var x)) (segs k)).out)) w.1
       ∙ ap some (⊎_elim
       (λ v. (at k w.0 w.1).before x (in_member x (variable_names n) v) (given f w.0) (segs k) ∙ by_variable k v)
       (λ c. (at k w.0 w.1).constants x (in_member x (constant_names f) c) (given f w.0) (segs k) ∙ by_constant k h c)
@@ -205,17 +221,39 @@ module _ (ld : Loader) (s : List ℕ) (f : File) (vs : List Value) (ts : List Tu
       w : (m : Made) × (get_elem? (instants ms) k ≡ some m)
       w = inside (instants ms) k h
 
-      by_variable : (k : ℕ) → x ∈ variable_names n → or_cold (pre (sequence_of f (answers f ms) x) k) ≡ or_nil (pre (outcomes f vs ms (var x) segs') k)
+      by_variable : (k : ℕ) → x ∈ variable_names n → or_cold (pre (sequence_of f (answers f ms) x) k) ≡ or_nil (pre (cell_outcomes f vs ms (var x) segs') k)
       by_variable zero v = refl
       by_variable (suc k) v = variable_seq x v segs' k
 
-      by_constant : (k : ℕ) → k < length (instants ms) → x ∈ constant_names f → or_cold (pre (always (lookup x (constant_names f) vs)) k) ≡ or_nil (pre (outcomes f vs ms (var x) segs') k)
+      by_constant : (k : ℕ) → k < length (instants ms) → x ∈ constant_names f → or_cold (pre (always (cells_named x (constant_cell_names f) vs)) k) ≡ or_nil (pre (cell_outcomes f vs ms (var x) segs') k)
       by_constant zero h c = refl
       by_constant (suc k) h c = constant_seq x c segs' k (omega arith)
 
 -- ---- the instances of a node
 
-module _ (f : File) (vs : List Value) (F : FileRust f vs) (n : Node) (calls : Calls) (xs : ℕ → ℕ → Option Value) where
+-- as many cells as the variables have
+entries_length : (ys : List Variable) (h : Variable → List Value) → ((i : ℕ) (v : Variable) → get_elem? ys i ≡ some v → length (h v) ≡ length (variable_cells v)) → length (concat (map h ys)) ≡ length (cell_types ys)
+entries_length [] h e = refl
+entries_length (y ∷ ys) h e =
+    length-append (h y) (concat (map h ys)) ∙ ap₂ {C = ℕ} (λ a b. a + b) (e 0 y refl) (entries_length ys h (λ i v q. e (suc i) v q)) ∙ sym (length-append (variable_cells y) (cell_types ys))
+
+name_cells : (g : Globals) (s : Scope) (calls : Calls) (x : ℕ) (seg : List ℕ) (r : RValue)
+    → name_is (length_named g s x) (present_of g s x) (or_else (cells_named x s.names s.present) (cells_named x g.constant_names g.constant_values)) ≡ some r
+    → (eval_cells g s calls (var x) seg).out ≡ values (cells_of r)
+unfolding eval cells_by
+name_cells g s calls x seg r h = go (length_named g s x) (present_of g s x) (or_else (cells_named x s.names s.present) (cells_named x g.constant_names g.constant_values)) h
+  where
+    go : (o : Option ℕ) (v : Option Value) (us : Option (List Value)) → name_is o v us ≡ some r
+        → (cells_by (is_some o) (λ q. record { out = or_failures us; seg = q }) (λ q. record { out = or_failure v; seg = q }) seg).out ≡ values (cells_of r)
+    go none none us e = let z : ◌≡◌ {A = ℕ} 0 1 = cc in absurd (omega arith)
+    go none (some v) us e = let z : plain v ≡ r = cc in ap (λ r. values (cells_of r)) z
+    go (some k) v none e = let z : ◌≡◌ {A = ℕ} 0 1 = cc in absurd (omega arith)
+    go (some k) v (some us) e = let z : Array us ≡ r = cc in ap (λ r. values (cells_of r)) z
+
+same_cells : {a b : List Value} {o : Option (List Value)} → o ≡ some a → o ≡ some b → a ≡ b
+same_cells p q = let z = sym p ∙ q in cc
+
+module _ (f : File) (vs : List Value) (A : Facts f vs) (F : FileRust f vs) (n : Node) (facts : NodeRust f vs n) (calls : Calls) (xs : ℕ → ℕ → Option (List Value)) (fits : Entries n xs) where
   abbrev G : Globals
   G = globals_of f vs
 
@@ -229,34 +267,43 @@ module _ (f : File) (vs : List Value) (F : FileRust f vs) (n : Node) (calls : Ca
   arrows_at a b segs zero = arrow_out G (sc 0) calls a b (segs 0) true refl ∙ taken_first _ _
   arrows_at a b segs (suc k) = arrow_out G (sc (suc k)) calls a b (segs (suc k)) false refl ∙ taken_second _ _
 
-  -- a variable's or a constant's outcome, and what `pre` gives of the same cells
-  named_out : (cs : List Value) (s : Scope) → length cs ≡ length (variable_names n) → (x : ℕ) → T (member x (variable_names n ++ constant_names f))
-      → or_failure (or_else (lookup x (variable_names n) cs) (lookup x (constant_names f) vs))
-      ≡ or_failure (or_else (lookup x (variable_names n) cs) (or_else (lookup x (constant_names f) vs) (variant_of G s x)))
-  named_out cs s l x t =
-      ⊎_elim
-      (λ m.
-      let v = lookup_in x (variable_names n) cs m l in
-      ap (λ o. or_failure (or_else o (lookup x (constant_names f) vs))) v.1 ∙ sym (ap (λ o. or_failure (or_else o (or_else (lookup x (constant_names f) vs) (variant_of G s x)))) v.1))
-      (λ c.
-      let v = lookup_in x (constant_names f) vs c F.counted in
-      ap (λ o. or_failure (or_else (lookup x (variable_names n) cs) o)) v.1
-      ∙ sym (ap (λ o. or_failure (or_else (lookup x (variable_names n) cs) (or_else o (variant_of G s x)))) v.1))
-      (in_append (variable_names n) (member_in x (variable_names n ++ constant_names f) t))
+  at_length : (k : ℕ) → length (cells_at f.enums n xs k) ≡ cell_count n
+  at_length k = entries_length (variables n) _ (λ i v q. go i v q (xs v.name k) refl)
+    where
+      go : (i : ℕ) (v : Variable) → get_elem? (variables n) i ≡ some v → (o : Option (List Value)) → xs v.name k ≡ o
+          → length (maybe (defaults f.enums (variable_cells v)) (λ w. w) o) ≡ length (variable_cells v)
+      go i v q none e = length-map (variable_cells v) (default f.enums)
+      go i v q (some ws) e = fits i v q k ws e
 
   pres_at : (x : ℕ) → T (member x (variable_names n ++ constant_names f)) → (segs segs' : ℕ → List ℕ) (k : ℕ)
-      → outcomes_at f vs calls n xs (S.pre (var x)) segs k ≡ or_nil (pre (λ i. some (outcomes_at f vs calls n xs (var x) segs' i)) k)
-  unfolding eval
-  pres_at x t segs segs' zero = refl
-  pres_at x t segs segs' (suc k) = named_out (cells_at f.enums n xs k) (sc k) (length-map (variables n) _ ∙ sym (length-map (variables n) name_of)) x t
+      → cell_outcomes_at f vs calls n xs (S.pre (var x)) segs k ≡ or_nil (pre (λ i. some (cell_outcomes_at f vs calls n xs (var x) segs' i)) k)
+  pres_at x t segs segs' zero = pre_cold G (sc 0) calls (var x) (segs 0) refl
+  pres_at x t segs segs' (suc k) =
+      ⊎_elim
+      (λ m.
+      let cs = cells_at f.enums n xs k in
+      let a = variable_name f vs n facts.sorted F.constant x cs (lookup x (constant_cell_names f) vs) (at_length k) m in
+      let b = variable_name f vs n facts.sorted F.constant x cs (or_else (constant_of G (sc k) x) (variant_of G (sc k) x)) (at_length k) m in
+      pre_found G (sc (suc k)) calls x (segs (suc k)) a.0 refl a.3 ∙ ap values (same_cells a.2 b.2) ∙ sym (name_cells G (sc k) calls x (segs' k) b.0 b.3))
+      (λ c.
+      let cs = cells_at f.enums n xs k in
+      let a = constant_name_lem f vs n facts.sorted F.constant x cs none (λ m. facts.sorted.no_constant_lem x m c) c in
+      let b = constant_name_lem f vs n facts.sorted F.constant x cs (variant_of G (sc k) x) (λ m. facts.sorted.no_constant_lem x m c) c in
+      pre_found G (sc (suc k)) calls x (segs (suc k)) a.0 refl
+      (ap (λ z. name_is (length_named G (sc (suc k)) x) (or_else (lookup x (cell_names (variables n)) cs) z) (or_else (cells_named x (cell_names (variables n)) cs) (cells_named x (constant_cell_names f) vs))) (sym (or_nothing (lookup x (constant_cell_names f) vs))) ∙ a.2)
+      ∙ ap values (same_cells (constant_cells_lem f vs A F.constant x c a.0 a.1) (constant_cells_lem f vs A F.constant x c b.0 b.1))
+      ∙ sym (name_cells G (sc k) calls x (segs' k) b.0 b.2))
+      (in_append (variable_names n) (member_in x (variable_names n ++ constant_names f) t))
 
-every_instance : (f : File) (vs : List Value) → FileRust f vs → EveryInstance f vs
-every_instance f vs F k n q calls xs = record { arrows = arrows_at f vs F n calls xs; pres = pres_at f vs F n calls xs }
+every_instance : (f : File) (vs : List Value) → Facts f vs → FileRust f vs → EveryInstance f vs
+every_instance f vs A F k n q calls xs fits =
+    let facts : NodeRust f vs n = subst (NodeRust f vs) (get_d_is f.nodes k no_node n q) (F.nodes k (get_elem_inside f.nodes k n q)) in
+    record { arrows = arrows_at f vs A F n facts calls xs fits; pres = pres_at f vs A F n facts calls xs fits }
 
 pub sequences_claim : (ld : Loader) → SequencesClaim ld
 unfolding SequencesClaim
 sequences_claim ld s f vs ts bytes e =
-    (record { arrows = arrows ld s f vs ts bytes e; pres = pres ld s f vs ts bytes e }, every_instance f vs (opened ld s f vs bytes e).rust)
+    (record { arrows = arrows ld s f vs ts bytes e; pres = pres ld s f vs ts bytes e }, every_instance f vs (opened ld s f vs bytes e).facts (opened ld s f vs bytes e).rust)
 
 -- ---- a main start value never comes back
 

@@ -12,13 +12,14 @@ use lib.Dec.{T, leb, eqb, eqb→eq}
 use Rattle.ol_theory.specs.Member.{◌∈◌}
 use Rattle.ol_theory.specs.System as Y
 use Rattle.ol_spec.specs.Lists.{concat, same, member}
-use Rattle.ol_spec.specs.Syntax.{Ty, bool, int, float32, float64, char, enum, Variable, Equation, Node, File, no_node, variables, main}
+use Rattle.ol_spec.specs.Syntax.{Ty, bool, int, float32, float64, char, enum, Equation, Node, File, no_node, variables, cell_types, main}
+use Rattle.ol_spec.specs.Shapes.{arrays_in, constant_arrays}
 use Rattle.ol_spec.specs.Cell.{tag, cells, value_of, values_of, good_cell, good_cells}
-use Rattle.ol_spec.specs.Types.{IntTy, unsigned_to, int_in, in_type, default_of, defaults, kind}
+use Rattle.ol_spec.specs.Types.{IntTy, unsigned_to, int_in, in_type, defaults, kind, default}
 use Rattle.ol_spec.specs.Limits.{Loader}
 use Rattle.ol_spec.specs.Order.{order}
 use Rattle.ol_spec.specs.Eval.{Globals, callees}
-use Rattle.ol_spec.specs.Step.{equation_sites, sites, own_size, is_fresh, old_cells, old_segs, split, started_record, Ended, finished, failed_at, overflowed_at, Run, run, calls, fresh_at, fresh_record}
+use Rattle.ol_spec.specs.Step.{cell_count, input_count, scope, equation_sites, sites, own_size, is_fresh, old_cells, old_segs, split, started_record, Ended, finished, failed_at, overflowed_at, Run, run, calls, fresh_at, fresh_record}
 use Rattle.ol_spec.specs.Admission.{admitted, judge, head_size, state_size}
 use Rattle.ol_spec.specs.State.{globals_of, fresh_state, good_sites, good_own, good_state, good_each, good_inputs}
 use Rattle.ol_spec.specs.Answers.{fault_at}
@@ -33,8 +34,11 @@ use Rattle.ol_spec.proofs.Tests.{T_and, and_t, T_true, true_t, eq_eqb}
 use Rattle.ol_spec.proofs.Values.{Fine}
 use Rattle.ol_spec.proofs.Cells.{AllFine, good_fine, cells_back, cells_values, length_cells, same_refl, same_eq}
 use Rattle.ol_spec.proofs.Segments.{Rec}
-use Rattle.ol_spec.proofs.Runs.{length_values, PlainEqs, Segs, segs_concat, segs_length, split_segs, split_concat, RunGood, run_meets, start_length, Instance, old_fine, inner_good, started_instance}
-use Rattle.ol_spec.proofs.Calls.{may_be, is_good, calls_sound, fresh_main, fresh_rec, fresh_sites}
+use Rattle.ol_spec.proofs.Runs.{Segs, segs_concat, segs_length, split_segs, split_concat, RunGood, run_meets, Instance, old_fine, inner_good, started_instance}
+use Rattle.ol_spec.proofs.Forms.{RunnableEqs}
+use Rattle.ol_spec.proofs.CellLengths.{length_values, start_length, types_append}
+use Rattle.ol_spec.proofs.Counts.{NamesShaped}
+use Rattle.ol_spec.proofs.Calls.{lower_site, is_good, calls_sound, fresh_main, fresh_rec, fresh_sites}
 use Rattle.ol_spec.proofs.MainFacts.{main_at_lem}
 use Rattle.ol_spec.proofs.Lists.{All, concat_append, map_drop}
 use Rattle.ol_spec.proofs.MainSystem.{view_on}
@@ -69,34 +73,34 @@ refused_not e = let z : ◌≡◌ {A = ℕ} 0 1 = cc in omega arith
 abbrev pub made : Turn → List ℕ → CycleCall → Made
 made t old c = record { turn = t; old = old; result = c }
 
-each_tags : (ens : List (List ℕ)) (xs : List Variable) (s : List ℕ) → T (good_each ens xs s) → map tag (values_of (length xs) s) ≡ map (λ v. kind ens v.ty) xs
+each_tags : (ens : List (List ℕ)) (xs : List Ty) (s : List ℕ) → T (good_each ens xs s) → map tag (values_of (length xs) s) ≡ map (kind ens) xs
 each_tags ens [] s h = refl
 each_tags ens (x ∷ xs) s h =
-    let w = T_and (good_cell (concat ens) (take 9 s) && in_type ens x.ty (value_of (take 9 s))) _ h in
-    ap₂ {C = List ℕ} (λ a l. a ∷ l) (in_type_tag ens x.ty (value_of (take 9 s)) (T_and (good_cell (concat ens) (take 9 s)) _ w.0).1) (each_tags ens xs (drop 9 s) w.1)
+    let w = T_and (good_cell (concat ens) (take 9 s) && in_type ens x (value_of (take 9 s))) _ h in
+    ap₂ {C = List ℕ} (λ a l. a ∷ l) (in_type_tag ens x (value_of (take 9 s)) (T_and (good_cell (concat ens) (take 9 s)) _ w.0).1) (each_tags ens xs (drop 9 s) w.1)
 
-pub each_fine : (ens : List (List ℕ)) → ((x : ℕ) → T (member x (concat ens)) → x < 2 ^ 16) → (xs : List Variable) (s : List ℕ) → T (good_each ens xs s)
+pub each_fine : (ens : List (List ℕ)) → ((x : ℕ) → T (member x (concat ens)) → x < 2 ^ 16) → (xs : List Ty) (s : List ℕ) → T (good_each ens xs s)
     → AllFine (concat ens) (values_of (length xs) s)
 each_fine ens short [] s h = tt
 each_fine ens short (x ∷ xs) s h =
-    let w = T_and (good_cell (concat ens) (take 9 s) && in_type ens x.ty (value_of (take 9 s))) _ h in
+    let w = T_and (good_cell (concat ens) (take 9 s) && in_type ens x (value_of (take 9 s))) _ h in
     (good_fine (concat ens) short (take 9 s) (T_and (good_cell (concat ens) (take 9 s)) _ w.0).0, each_fine ens short xs (drop 9 s) w.1)
 
-default_tags : (ens : List (List ℕ)) (xs : List Variable) → map tag (defaults ens xs) ≡ map (λ v. kind ens v.ty) xs
+default_tags : (ens : List (List ℕ)) (xs : List Ty) → map tag (defaults ens xs) ≡ map (kind ens) xs
 default_tags ens [] = refl
-default_tags ens (x ∷ xs) = ap (λ l. kind ens x.ty ∷ l) (default_tags ens xs)
+default_tags ens (x ∷ xs) = ap (λ l. kind ens x ∷ l) (default_tags ens xs)
 
 -- ---- what a record's own part tells does not depend on what follows it
 
-pub cells_part : (vs : List ℕ) (m : ℕ) (a b c : List ℕ) → length a ≡ 9 * m → (good_cells vs m (a ++ b) ≡ good_cells vs m (a ++ c)) × (values_of m (a ++ b) ≡ values_of m (a ++ c))
-cells_part vs zero a b c e = (refl, refl)
-cells_part vs (suc m) a b c e =
+pub cells_part_lem : (vs : List ℕ) (m : ℕ) (a b c : List ℕ) → length a ≡ 9 * m → (good_cells vs m (a ++ b) ≡ good_cells vs m (a ++ c)) × (values_of m (a ++ b) ≡ values_of m (a ++ c))
+cells_part_lem vs zero a b c e = (refl, refl)
+cells_part_lem vs (suc m) a b c e =
     let h : 9 ≤ length a = omega arith in
     let tb = take-append-le 9 a b h in
     let tc = take-append-le 9 a c h in
     let db = drop-append-le 9 a b h in
     let dc = drop-append-le 9 a c h in
-    let w = cells_part vs m (drop 9 a) b c (length-drop 9 a ∙ omega arith) in (
+    let w = cells_part_lem vs m (drop 9 a) b c (length-drop 9 a ∙ omega arith) in (
       ap₂ (λ x y. good_cell vs x && good_cells vs m y) tb db
           ∙ ap (λ y. good_cell vs (take 9 a) && y) w.0
           ∙ sym (ap₂ (λ x y. good_cell vs x && good_cells vs m y) tc dc),
@@ -110,11 +114,11 @@ pub own_part : (g : Globals) (n : Node) (a b c : List ℕ) → length a ≡ own_
 unfolding good_own
 own_part g n [] b c e = absurd (omega arith)
 own_part g n (x ∷ a) b c e =
-    let m = length (variables n) in
-    let w = cells_part (concat g.enums) m a b c (omega arith) in
+    let m = cell_count n in
+    let w = cells_part_lem (concat g.enums) m a b c (omega arith) in
     let tb = take_at a b (9 * m) (omega arith) in
     let tc = take_at a c (9 * m) (omega arith) in
-    (subst T (ap₂ (λ p q. leb x 1 && p && (not (eqb x 0) || same q (cells (defaults g.enums (variables n))))) w.0 (tb ∙ sym tc)), w.1)
+    (subst T (ap₂ (λ p q. leb x 1 && p && (not (eqb x 0) || same q (cells (defaults g.enums (cell_types (variables n)))))) w.0 (tb ∙ sym tc)), w.1)
 
 -- the fresh segment of an equation
 abbrev pub fresh_seg : Globals → Equation → List ℕ
@@ -144,8 +148,11 @@ module _ (f : File) (vs : List Value) (F : Facts f vs) where
   pub is_main : n ≡ get_or f.nodes K no_node
   is_main = main_at_lem f.nodes F.some_node_lem
 
-  pub plain_main : PlainEqs (may_be g) n.equations
-  plain_main = subst (λ x. PlainEqs (may_be g) x.equations) (sym is_main) (F.callable.plain K)
+  pub plain_main : RunnableEqs f.nodes (arrays_in (variables n)) (constant_arrays f.constants) n.equations
+  plain_main = subst (λ x. RunnableEqs f.nodes (arrays_in (variables x)) (constant_arrays f.constants) x.equations) (sym is_main) (F.callable.plain K)
+
+  shaped_main : (first : Bool) (before cs : List Value) → NamesShaped g (scope n first before cs)
+  shaped_main = subst (λ x. (first : Bool) (before cs : List Value) → NamesShaped g (scope x first before cs)) (sym is_main) (F.callable.shaped K)
 
   abbrev pub p : ℕ → List ℕ → Bool
   p = is_good f vs
@@ -205,7 +212,7 @@ module _ (f : File) (vs : List Value) (F : Facts f vs) where
     pub first : is_fresh (drop (head_size f) st) ≡ b
     pub segs : old_segs g n (drop (head_size f) st) ≡ ss
 
-  pub parts_of_lem : (b : ℕ) (cs : List Value) (ss : List (List ℕ)) → AllFine (concat f.enums) cs → length cs ≡ length (variables n) → Segs g p n.equations ss
+  pub parts_of_lem : (b : ℕ) (cs : List Value) (ss : List (List ℕ)) → AllFine (concat f.enums) cs → length cs ≡ cell_count n → Segs g p n.equations ss
       → Parts (cells vs ++ (b ∷ cells cs ++ concat ss)) cs (eqb b 0) ss
   parts_of_lem b cs ss fine e h =
       let q = drop_at (cells vs) (b ∷ cells cs ++ concat ss) (head_size f) head_length in
@@ -220,14 +227,14 @@ module _ (f : File) (vs : List Value) (F : Facts f vs) where
   pub fresh_inst : Inst (fresh_record g n)
   fresh_inst = subst (λ m. Instance g p m (fresh_record g m)) (sym is_main) (fresh_main F.callable K (omega (arith, F.some_node_lem)))
 
-  pub fresh_cells : AllFine (concat f.enums) (defaults f.enums (variables n))
-  fresh_cells = subst (λ m. AllFine (concat f.enums) (defaults f.enums (variables m))) (sym is_main) (F.callable.fresh_fine K)
+  pub fresh_cells : AllFine (concat f.enums) (defaults f.enums (cell_types (variables n)))
+  fresh_cells = subst (λ m. AllFine (concat f.enums) (defaults f.enums (cell_types (variables m)))) (sym is_main) (F.callable.fresh_fine K)
 
   pub fresh_segs : Segs g p n.equations (map (fresh_seg g) n.equations)
   fresh_segs = go n.equations (λ c m. fresh_rec F.callable (length f.nodes) c (low c m) (low c m))
     where
       low : (c : ℕ) → c ∈ sites n → c < length f.nodes
-      low c m = omega (arith, F.callable.lower K c (subst (λ x. c ∈ sites x) is_main m), F.some_node_lem)
+      low c m = omega (arith, lower_site F.callable K c (subst (λ x. c ∈ sites x) is_main m), F.some_node_lem)
 
       go : (qs : List Equation) → ((c : ℕ) → c ∈ concat (map equation_sites qs) → Rec g p c (fresh_at g (length f.nodes) c)) → Segs g p qs (map (fresh_seg g) qs)
       go [] h = tt
@@ -236,16 +243,16 @@ module _ (f : File) (vs : List Value) (F : Facts f vs) where
         go qs (λ c m. h c (in_right (callees x.rhs) m)),
       )
 
-  pub fresh_parts : Parts (fresh_state f vs) (defaults f.enums (variables n)) true (map (fresh_seg g) n.equations)
+  pub fresh_parts : Parts (fresh_state f vs) (defaults f.enums (cell_types (variables n))) true (map (fresh_seg g) n.equations)
   unfolding fresh_state
   fresh_parts =
-      let ds = defaults f.enums (variables n) in
+      let ds = defaults f.enums (cell_types (variables n)) in
       subst (λ l. Parts (cells vs ++ (0 ∷ cells ds ++ l)) ds true (map (fresh_seg g) n.equations)) (fresh_concat g n.equations)
-      (parts_of_lem 0 ds (map (fresh_seg g) n.equations) fresh_cells (length-map (variables n) (default_of f.enums)) fresh_segs)
+      (parts_of_lem 0 ds (map (fresh_seg g) n.equations) fresh_cells (length-map (cell_types (variables n)) (default f.enums)) fresh_segs)
 
   pub start_ok : StateOk (fresh_state f vs)
   unfolding fresh_state
-  start_ok = record { well = well_parts (fresh_record g n) fresh_inst; kinds = ap (map tag) fresh_parts.cells ∙ default_tags f.enums (variables n) }
+  start_ok = record { well = well_parts (fresh_record g n) fresh_inst; kinds = ap (map tag) fresh_parts.cells ∙ default_tags f.enums (cell_types (variables n)) }
 
   -- ---- a cycle
 
@@ -254,31 +261,32 @@ module _ (f : File) (vs : List Value) (F : Facts f vs) where
     rec = drop (head_size f) old
 
     abbrev pub ws : List Value
-    ws = values_of (length n.inputs) ins
+    ws = values_of (input_count n) ins
 
     abbrev pub u : Run
     u = main_run f vs old ins
 
-    pub each : T (good_each f.enums n.inputs ins)
+    pub each : T (good_each f.enums (cell_types n.inputs) ins)
     unfolding good_inputs
-    each = (T_and (eqb (length ins) (9 * length n.inputs)) _ good-ins).1
+    each = (T_and (eqb (length ins) (9 * input_count n)) _ good-ins).1
 
-    pub ran : RunGood (Fine (concat f.enums)) g p n (length (variables n)) u
+    pub ran : RunGood (Fine (concat f.enums)) g p n (cell_count n) u
     unfolding main_run
     ran =
-        let fine = each_fine f.enums F.callable.short n.inputs ins each in
-        run_meets (calls_sound F.callable (length f.nodes)) n plain_main ws rec fine (length_values (length n.inputs) ins)
+        let fine = each_fine f.enums F.callable.short (cell_types n.inputs) ins each in
+        run_meets (calls_sound F.callable (length f.nodes)) n plain_main shaped_main ws rec fine (length_values (input_count n) ins)
         (old_fine F.callable.short h.inst) (inner_good h.inst)
 
-    pub begins : length (begin f vs F.mainly old ws) ≡ length (variables n)
-    begins = start_length n ws rec (length_values (length n.inputs) ins)
+    pub begins : length (begin f vs F.mainly old ws) ≡ cell_count n
+    begins = start_length n ws rec (length_values (input_count n) ins)
 
     pub begin_kinds : InKind f (old_cells n rec) → InKind f (begin f vs F.mainly old ws)
     begin_kinds hk =
-        let ks : Variable → ℕ = λ v. kind f.enums v.ty in
-        let is = n.inputs in
-        let rest = n.outputs ++ n.locals in
-        let all : map ks (variables n) ≡ map ks is ++ map ks rest = ap (map ks) (append_assoc is n.outputs n.locals) ∙ map-append ks is rest in
+        let ks = kind f.enums in
+        let is = cell_types n.inputs in
+        let rest = cell_types (n.outputs ++ n.locals) in
+        let all : map ks (cell_types (variables n)) ≡ map ks is ++ map ks rest =
+        ap (λ l. map ks (cell_types l)) (append_assoc n.inputs n.outputs n.locals) ∙ ap (map ks) (types_append n.inputs (n.outputs ++ n.locals)) ∙ map-append ks is rest in
         let others : map tag (drop (length is) (old_cells n rec)) ≡ map ks rest =
         map_drop tag (length is) (old_cells n rec) ∙ ap (drop (length is)) (hk ∙ all) ∙ drop_at (map ks is) (map ks rest) (length is) (length-map is ks) in
         map-append tag ws (drop (length is) (old_cells n rec)) ∙ ap₂ ◌++◌ (each_tags f.enums is ins each) others ∙ sym all
@@ -292,9 +300,9 @@ module _ (f : File) (vs : List Value) (F : Facts f vs) where
     finishes e = sym (run_theory f vs F.mainly old ws) ∙ ap (λ x. view_on n g (calls g) (is_fresh rec) (old_cells n rec) x u.cells u.segs) e
 
     new_cells : InKind f (old_cells n rec) → u.end ≡ finished → InKind f u.cells → Solves f vs old ws u.cells (cells u.cells)
-    new_cells hk e k = solves f vs F.mainly old ws (length_values (length n.inputs) ins) begins (begin_kinds hk) counted u.cells u.segs (finishes e) k
+    new_cells hk e k = solves f vs F.mainly old ws (length_values (input_count n) ins) begins (begin_kinds hk) counted u.cells u.segs (finishes e) k
 
-    pub given_back : values_of (length (variables n)) (cells u.cells) ≡ u.cells
+    pub given_back : values_of (cell_count n) (cells u.cells) ≡ u.cells
     given_back = ap (λ m. values_of m (cells u.cells)) (sym ran.counted) ∙ cells_values (concat f.enums) u.cells ran.fine
 
     -- the state that an answered cycle leaves
@@ -393,7 +401,7 @@ module _ (f : File) (vs : List Value) (F : Facts f vs) where
           let back = given_back old t.inputs h.well gi in
           let ks = subst (InKind f) back (k refl) in
           let cs = new_cells old t.inputs h.well gi h.kinds e ks in
-          (λ a. subst (λ ds. Solves f vs old (values_of (length n.inputs) t.inputs) ds (cells u.cells)) (sym back) cs, (answered_ok old t.inputs h.well gi ks).kinds)
+          (λ a. subst (λ ds. Solves f vs old (values_of (input_count n) t.inputs) ds (cells u.cells)) (sym back) cs, (answered_ok old t.inputs h.well gi ks).kinds)
       go (failed_at c i) e k = (λ a. let z : ◌≡◌ {A = ℕ} 0 1 = cc in absurd (omega arith), failed_kinds old t.inputs h.well gi h.kinds)
       go (overflowed_at i) e k = (λ a. let z : ◌≡◌ {A = ℕ} 0 1 = cc in absurd (omega arith), h.kinds)
 

@@ -1,9 +1,9 @@
 -- What a list of cycles has to do with the Rust of specs/RustSim. Types only: proofs/AsRust proves the claim.
-use Rattle.std.specs.Prelude.{ℕ, ◌<◌, ◌≤◌, Bool, true, false, ◌&&◌, ◌||◌, cond, List, [], ◌∷◌, map, ◌↔◌, ◌≡◌, length, get_or, Ok, Err}
+use Rattle.std.specs.Prelude.{ℕ, ◌<◌, ◌≤◌, Bool, true, false, ◌&&◌, ◌||◌, cond, List, [], ◌∷◌, map, ◌↔◌, ◌≡◌, length, get_or, Ok, Err, take, drop}
 use Rattle.std.proofs.Math.Option.{Option, none, some}
 use Rattle.ol_spec.specs.Lists.{maybe}
 use Rattle.std.proofs.Math.ListN.{get_elem?}
-use Rattle.ol_spec.specs.Syntax.{Variable, Node, File, main, BinOp, And, Or, Xor, Implies, Eq, Neq, Lt, Le, Gt, Ge, Add, Sub, Mul, Div, Mod, BitAnd, BitOr, BitXor, Shl, Shr}
+use Rattle.ol_spec.specs.Syntax.{VarTy, scalar, array, Variable, variable_cells, Node, File, main, BinOp, And, Or, Xor, Implies, Eq, Neq, Lt, Le, Gt, Ge, Add, Sub, Mul, Div, Mod, BitAnd, BitOr, BitXor, Shl, Shr}
 use Rattle.ol_spec.specs.Places.{placed_nodes, placed_equations, placed_constants}
 use Rattle.ol_spec.specs.Read.{got, read_file}
 use Rattle.ol_spec.specs.Limits.{Loader}
@@ -11,12 +11,14 @@ use Rattle.ol_spec.specs.Cell.{cells, values_of}
 use Rattle.ol_spec.specs.Admission.{place_at, fault11, Constants, all, stuck_at, constants, judge, admitted, admission, state_size}
 use Rattle.ol_spec.specs.State.{good_inputs}
 use Rattle.ol_spec.specs.Answers.{fault_at}
+use Rattle.ol_spec.specs.Eval.{no_value_of}
+use Rattle.ol_spec.specs.Step.{input_count}
 use Rattle.ol_spec.specs.Cycle.{CycleCall, ordering, start, fits17}
 use Rattle.ol_spec.specs.Demand3.{Unfaulted, Bytes, Turn, Made, history}
 use Rattle.ol_spec.specs.RustOrder.{ordered, among, evaluation_result}
-use Rattle.ol_spec.specs.RustLeaves.{RValue, plain, Tuple, SimError, uninitialized_pre, binary_not_supported, unary_not_supported, other_error, both, rust_int_in, real_in}
-use Rattle.ol_spec.specs.RustSim.{Env, Key, States, Sim, Consts, evaluated, stuck, all_consts, Report, ok, err, panic, Stepped, step_instance, step_full, new}
-use Rattle.ol_spec.specs.RustState.{constants_in, state_bytes}
+use Rattle.ol_spec.specs.RustLeaves.{RValue, plain, Array, Given, SimError, uninitialized_pre, binary_not_supported, unary_not_supported, out_of_bounds, other_error, both, rust_int_in, real_in, plain_in}
+use Rattle.ol_spec.specs.RustSim.{Env, Key, States, Sim, Consts, evaluated, stuck, all_consts, Report, ok, err, panic, Stepped, step_instance, call_function_values, step_full, new}
+use Rattle.ol_spec.specs.RustState.{all_cells, constants_in, state_bytes}
 use Rattle.ol_spec.specs.declared.Value.{Value}
 use Rattle.ol_spec.specs.declared.Cycled.{Cycled}
 use Rattle.ol_spec.specs.declared.Cycled.TheVariants as Cyc
@@ -25,15 +27,19 @@ use Rattle.ol_spec.specs.declared.Cycled.TheVariants as Cyc
 abbrev pub fitting : File → Turn → Bool
 fitting f t = good_inputs f t.inputs && fits17 f t.new t.values
 
--- a value under each variable's name
+-- the value whose cells these are, by its type: as many as that has
+abbrev pub of_cells : VarTy → List Value → RValue
+of_cells (scalar t) vs = plain (get_or vs 0 no_value_of)
+of_cells (array n t) vs = Array (take n vs)
+
+-- a value under each variable's name, from the cells that follow one another
 unfoldable pub named : List Variable → List Value → Env
 named [] vs = []
-named (x ∷ xs) [] = []
-named (x ∷ xs) (v ∷ vs) = (x.name, v) ∷ named xs vs
+named (x ∷ xs) vs = (x.name, of_cells x.ty vs) ∷ named xs (drop (length (variable_cells x)) vs)
 
 -- the input map that a turn's inputs are
 abbrev pub input_map : File → Turn → Env
-input_map f t = named (main f).inputs (values_of (length (main f).inputs) t.inputs)
+input_map f t = named (main f).inputs (values_of (input_count (main f)) t.inputs)
 
 -- `matches!(o, Some(_))`
 abbrev pub matches : {A : Type 0} → Option A → Bool
@@ -63,28 +69,26 @@ takes BitXor l r = false
 takes Shl l r = matches (both (rust_int_in l) (rust_int_in r))
 takes Shr l r = matches (both (rust_int_in l) (rust_int_in r))
 
-abbrev pub takes_both : BinOp → RValue → RValue → Bool
-takes_both op (plain l) (plain r) = takes op l r
-takes_both op (plain l) (Tuple rs) = false
-takes_both op (Tuple ls) (plain r) = false
-takes_both op (Tuple ls) (Tuple rs) = false
+abbrev pub takes_both : BinOp → Given → Given → Bool
+takes_both op l r = maybe false (λ p. takes op p.0 p.1) (both (plain_in l) (plain_in r))
 
--- the number that an error gives: an uninitialized `pre`; a zero divisor or a shift count outside 0..63; anything else
+-- the number that an error gives: an uninitialized `pre`; a zero divisor, a shift count outside 0..63 or an index outside its array; anything else
 abbrev pub error_number : SimError → ℕ
 error_number uninitialized_pre = 18
 error_number (binary_not_supported op l r) = cond (takes_both op l r) 20 21
 error_number (unary_not_supported op v) = 21
+error_number (out_of_bounds i n) = 20
 error_number other_error = 21
 
 -- the answer that tells what a step of the Rust gives
 abbrev pub answer_of : Report → Cycled
-answer_of (ok cs) = Cyc.Answered
+answer_of (ok rs) = Cyc.Answered
 answer_of (err e i) = Cyc.Stopped (fault_at (error_number e) i)
 answer_of (panic i) = Cyc.Stopped (fault_at 19 i)
 
 -- the values that it writes: the cells of all inputs, outputs and locals, or none
 abbrev pub written : Report → List ℕ → List ℕ
-written (ok cs) buf = cells cs
+written (ok rs) buf = cells (all_cells rs)
 written (err e i) buf = buf
 written (panic i) buf = buf
 
@@ -130,7 +134,7 @@ abbrev pub constants_by : File → Consts → Constants
 constants_by f (evaluated env) = all (constants_in f env)
 constants_by f (stuck i) = stuck_at (constant_place f i)
 
--- In a file with none of the faults 1 to 10: 12 holds exactly if the Rust's evaluation of the constants fails or panics, at that constant; else their values are the Rust's. And
+-- In a file with none of the faults 1 to 10 and 22: 12 holds exactly if the Rust's evaluation of the constants fails or panics, at that constant; else their values are the Rust's. And
 -- so admission answers 12, if there is no ring.
 unfoldable pub ConstantsAsRust : Loader → Type 0
 ConstantsAsRust ld =
@@ -157,5 +161,6 @@ OrdersAsRust ld =
 unfoldable pub DepthClaim : Loader → Type 0
 DepthClaim ld =
     (s : List ℕ) (f : File) (vs : List Value) → Bytes s → judge ld s ≡ admitted f vs
-    → (d : ℕ) → length f.nodes ≤ d → (key : Key) (k : ℕ) (args : List Value) (calls : States) (env : Env) → k < length f.nodes
-    → step_instance f d key k args calls env ≡ step_instance f (length f.nodes) key k args calls env
+    → (d : ℕ) → length f.nodes ≤ d → (key : Key) (k : ℕ) (args : List RValue) (calls : States) (env : Env) → k < length f.nodes
+    → (step_instance f d key k args calls env ≡ step_instance f (length f.nodes) key k args calls env)
+    × (call_function_values f d k args env ≡ call_function_values f (length f.nodes) k args env)

@@ -3,14 +3,14 @@ use Rattle.std.specs.Prelude.{ℕ, ◌+◌, ◌*◌, Bool, true, false, not, ◌
 use Rattle.std.proofs.Math.Option.{Option, none, some}
 use Rattle.std.proofs.Math.ListN.{get_elem?}
 use Rattle.ol_spec.specs.Lists.{concat}
-use Rattle.ol_spec.specs.Syntax.{Node, File, variables, main}
+use Rattle.ol_spec.specs.Syntax.{Node, File, main}
 use Rattle.ol_spec.specs.Places.{placed_nodes, placed_equations}
 use Rattle.ol_spec.specs.Read.{read_file}
 use Rattle.ol_spec.specs.Cell.{cells, values_of}
 use Rattle.ol_spec.specs.Limits.{Loader}
 use Rattle.ol_spec.specs.Read as Read
 use Rattle.ol_spec.specs.Order.{order, unplaced}
-use Rattle.ol_spec.specs.Step.{Ended, finished, failed_at, overflowed_at, Run, run, calls, own_size, started_record}
+use Rattle.ol_spec.specs.Step.{Ended, finished, failed_at, overflowed_at, Run, run, calls, cell_count, input_count, own_size, started_record}
 use Rattle.ol_spec.specs.Admission.{place_at, Judged, refused, admitted, judge, head_size, state_size}
 use Rattle.ol_spec.specs.State.{globals_of, fresh_state, good_state, good_inputs}
 use Rattle.ol_spec.specs.declared.Value.{Value}
@@ -19,11 +19,11 @@ use Rattle.ol_spec.specs.declared.Outcome.TheVariants as Out
 use Rattle.ol_spec.specs.declared.Cycled.{Cycled}
 use Rattle.ol_spec.specs.declared.Cycled.TheVariants as Cyc
 
--- ---- the lengths: 1 to 14, then 3 at place 0 for an absent node
+-- ---- the lengths: admission's refusals, then 3 at place 0 for an absent node
 
 abbrev pub measure_node : File → Option Node → Measured
 measure_node f none = Err (fault_at 3 0)
-measure_node f (some n) = Ok (record { state = state_size f; inputs = 9 * length (main f).inputs; values = 9 * length (variables (main f)); equations = length n.equations })
+measure_node f (some n) = Ok (record { state = state_size f; inputs = 9 * input_count (main f); values = 9 * cell_count (main f); equations = length n.equations })
 
 abbrev pub measure : Judged → ℕ → Measured
 measure (refused n p) k = Err (fault_at n p)
@@ -62,7 +62,7 @@ order_read (Read.fault n p) k buf = no_order n p buf
 unfoldable pub ordering : Loader → List ℕ → ℕ → List ℕ → OrderingCall
 ordering ld s k buf = order_read (read_file s ld) k buf
 
--- ---- the start: 1 to 14, then 17. It writes the fresh state
+-- ---- the start: 1 to 14 and 22, then 17. It writes the fresh state
 
 pub record StartCall : Type 0 where
   pub answer : Started
@@ -83,7 +83,7 @@ start_judged (admitted f vs) st = start_fits (eqb (length st) (state_size f)) f 
 unfoldable pub start : Loader → List ℕ → List ℕ → StartCall
 start ld s st = start_judged (judge ld s) st
 
--- ---- the cycle: 1 to 17 write nothing; 18, 20 and 21 write the moved state, 19 a copy of the old one, and all four leave the values
+-- ---- the cycle: 1 to 17 and 22 write nothing; 18, 20 and 21 write the moved state, 19 a copy of the old one, and all four leave the values
 
 pub record CycleCall : Type 0 where
   pub answer : Cycled
@@ -101,7 +101,7 @@ end_on f old vals (overflowed_at i) cs segs = record { answer = Cyc.Stopped (fau
 unfoldable pub main_run : File → List Value → List ℕ → List ℕ → Run
 main_run f vs old ins =
     let g = globals_of f vs in
-    run g (calls g) (main f) (values_of (length (main f).inputs) ins) (drop (head_size f) old)
+    run g (calls g) (main f) (values_of (input_count (main f)) ins) (drop (head_size f) old)
 
 abbrev pub end_run : File → List ℕ → List ℕ → Run → CycleCall
 end_run f old vals u = end_on f old vals u.end u.cells u.segs
@@ -117,7 +117,7 @@ cycle_unless false false true f vs old ins new vals = no_cycle 17 0 new vals
 cycle_unless false false false f vs old ins new vals = end_run f old vals (main_run f vs old ins)
 
 abbrev pub fits17 : File → List ℕ → List ℕ → Bool
-fits17 f new vals = eqb (length new) (state_size f) && eqb (length vals) (9 * length (variables (main f)))
+fits17 f new vals = eqb (length new) (state_size f) && eqb (length vals) (9 * cell_count (main f))
 
 abbrev pub cycle_judged : Judged → List ℕ → List ℕ → List ℕ → List ℕ → CycleCall
 cycle_judged (refused n p) old ins new vals = no_cycle n p new vals

@@ -11,7 +11,7 @@ use Rattle.ol_spec.specs.Step.{own_size, is_fresh, old_cells}
 use Rattle.ol_spec.specs.Admission.{judge, admitted}
 use Rattle.ol_spec.specs.State.{globals_of, fresh_state}
 use Rattle.ol_spec.specs.Demand3.{Bytes, Turn, Made, next_state, history, main_record}
-use Rattle.ol_spec.specs.RustSim.{width, Env, State, States, get_state, past, child_calls, cycle, StepInstance, Sim, new}
+use Rattle.ol_spec.specs.RustSim.{width, Env, State, States, get_state, past, child_calls, cycle, StepInstance, CallValues, Sim, new}
 use Rattle.ol_spec.specs.RustSim as Rust
 use Rattle.ol_spec.specs.RustState.{state_or, calls_of}
 use Rattle.ol_spec.specs.AsRust.{sim_after}
@@ -123,11 +123,11 @@ module _ (f : File) (vs : List Value) where
     pub started : is_fresh i.bytes ≡ false
     pub takes : (a b : Expr) (calls : Calls) (cs : List Value) (seg : List ℕ)
         → let n = node_at g i.number in eval_on f vs n i.bytes calls cs (S.arrow a b) seg ≡ eval_on f vs n i.bytes calls cs (if_then_else (bool_lit false) a b) seg
-    pub rust_takes : (a b : Expr) (step : StepInstance) (env : Env) (at : ℕ) (calls : States)
+    pub rust_takes : (a b : Expr) (step : StepInstance) (values : CallValues) (env : Env) (at : ℕ) (calls : States)
         → let k = i.number in
         let st = i.state in
-        Rust.eval f step k env st at (S.arrow a b) calls
-        ≡ Rust.choose false (Rust.branch f step k env st a (Rust.eval f step k env st (suc at) a)) (Rust.branch f step k env st b (Rust.eval f step k env st (suc at + width a) b)) calls
+        Rust.eval f step values k env st at (S.arrow a b) calls
+        ≡ Rust.choose false (Rust.branch f step values k env st a (Rust.eval f step values k env st (suc at) a)) (Rust.branch f step values k env st b (Rust.eval f step values k env st (suc at + width a) b)) calls
 
   -- Behind a cycle in which an instance finished a step, a cycle of the list meets it at no first instant, unless its record went back to fresh between them.
   abbrev pub InstancesNeverReturn : Sim → List Made → Type 0

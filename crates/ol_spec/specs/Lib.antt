@@ -3,6 +3,8 @@ pub mod Cycle
 pub mod Answers
 pub mod Faults
 pub mod Demand3
+-- arrays, map and fold
+pub mod ArrayClaims
 -- the 1991 paper's `pre` and `->`
 pub mod Lustre
 -- the Rust source, as a definition
@@ -17,12 +19,13 @@ pub mod Instants
 pub mod RustRuns
 pub mod LustreRuns
 pub mod Departures
--- admission (6 to 14), the state's bytes and the inputs (15, 16)
+-- admission (6 to 14, 22), the state's bytes and the inputs (15, 16)
 pub mod Admission
 pub mod State
--- nodes, records and calls; expressions; the order of equations
+-- nodes, records and calls; expressions and their shapes; the order of equations
 pub mod Step
 pub mod Eval
+pub mod Shapes
 pub mod Order
 -- values: operators, what is out of range, types, cells, reals
 pub mod Operators
@@ -40,8 +43,9 @@ pub mod Limits
 -- numbers as bytes, lists
 pub mod Numbers
 pub mod Lists
--- executed: document 01's examples, its bench cases, the readings of docs/DECISIONS.md
+-- executed: document 01's examples, its bench cases, the readings of docs/DECISIONS.md, arrays
 pub mod Build
 pub mod Examples
 pub mod Bench
 pub mod Readings
+pub mod Arrays

@@ -1,8 +1,9 @@
 -- The 1991 paper's `pre` and `->`, executed on document 01's counter and K.
-use Rattle.std.specs.Prelude.{ℕ, ◌*◌, true, false, List, [], ◌∷◌, map, ◌≡◌, refl, length, replicate}
+use Rattle.std.specs.Prelude.{ℕ, ◌*◌, true, false, List, [], ◌∷◌, map, ◌≡◌, refl, length, replicate, get_or}
 use Rattle.std.proofs.Math.Option.{Option, none, some}
 use Rattle.ol_spec.specs.Lists.{maybe}
-use Rattle.ol_spec.specs.Syntax.{int, Add, File, main, variables}
+use Rattle.ol_spec.specs.Syntax.{int, Add, File, main}
+use Rattle.ol_spec.specs.Step.{cell_count}
 use Rattle.ol_spec.specs.Encode.{encode}
 use Rattle.ol_spec.specs.Cell.{cells}
 use Rattle.ol_spec.specs.Operators.{binary_of}
@@ -23,7 +24,7 @@ use Rattle.ol_spec.specs.declared.Outcome.TheVariants as Out
 
 -- the cycles of a file on these inputs, from its start
 abbrev turn : File → List Value → Turn
-turn f vs = record { inputs = cells vs; new = replicate (state_size f) 0; values = replicate (9 * length (variables (main f))) 0 }
+turn f vs = record { inputs = cells vs; new = replicate (state_size f) 0; values = replicate (9 * cell_count (main f)) 0 }
 
 abbrev cycles : File → List (List Value) → List Made
 cycles f vss = history relay_loader (encode f) (map (turn f) vss) (fresh_state f [])
@@ -33,15 +34,18 @@ cycles f vss = history relay_loader (encode f) (map (turn f) vss) (fresh_state f
 abbrev counter : File
 counter = counting (int 4)
 
-abbrev v1 : ℕ → Option Value
+abbrev v1 : ℕ → Option (List Value)
 v1 n = sequence_of counter (answers counter (cycles counter ([] ∷ [] ∷ [] ∷ []))) 1 n
 
+abbrev one : ℕ → Option (List Value)
+one n = some (i n ∷ [])
+
 -- its values, and what the paper's pre makes of them
-counter_values : v1 0 ∷ v1 1 ∷ v1 2 ∷ [] ≡ some (i 0) ∷ some (i 1) ∷ some (i 2) ∷ []
+counter_values : v1 0 ∷ v1 1 ∷ v1 2 ∷ [] ≡ one 0 ∷ one 1 ∷ one 2 ∷ []
 unfolding all_of_rust
 counter_values = refl
 
-counter_pre : pre v1 0 ∷ pre v1 1 ∷ pre v1 2 ∷ [] ≡ none ∷ some (i 0) ∷ some (i 1) ∷ []
+counter_pre : pre v1 0 ∷ pre v1 1 ∷ pre v1 2 ∷ [] ≡ none ∷ one 0 ∷ one 1 ∷ []
 unfolding all_of_rust
 counter_pre = refl
 
@@ -50,9 +54,13 @@ value_in (Out.Value v) = some v
 value_in (Out.Failure c) = none
 value_in Out.Overflow = none
 
+abbrev one_of : Option Value → Option (List Value)
+one_of none = none
+one_of (some v) = some (v ∷ [])
+
 -- its equation, read as the paper reads it
-abbrev right : ℕ → Option Value
-right n = arrow (always (some (i 0))) (λ n. maybe none (λ v. value_in (binary_of Add v (i 1))) (pre v1 n)) n
+abbrev right : ℕ → Option (List Value)
+right n = arrow (always (one 0)) (λ n. maybe none (λ vs. one_of (value_in (binary_of Add (get_or vs 0 (i 0)) (i 1)))) (pre v1 n)) n
 
 counter_equation : right 0 ∷ right 1 ∷ right 2 ∷ [] ≡ v1 0 ∷ v1 1 ∷ v1 2 ∷ []
 unfolding all_of_rust

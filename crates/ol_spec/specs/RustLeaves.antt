@@ -1,32 +1,39 @@
 -- The leaves of the Rust: the functions of docs/src/crates/ol_sim/src/lib.rs and ol_ir that evaluation ends in, match by match. proofs/RustLeaves proves each equal to the one that
 -- the byte definitions use. A match is written arm after arm, in the source's sequence: an arm that does not match is none, and the next is tried.
 -- A NaN is one value here; in the Rust it has the machine's bits. Document 01: the oracle's NaNs compare alike. This and `cycle` (RustSim) are the two differences on admitted files.
-use Rattle.std.specs.Prelude.{ℕ, ◌-◌, ◌*◌, ◌^◌, Bool, true, false, not, ◌&&◌, ◌||◌, cond, List, [], ◌∷◌, ◌++◌, get_or, ltb, eqb, ℤ, pos, negsuc, neg_ℤ, ◌+ℤ◌, ◌-ℤ◌, ◌*ℤ◌}
+use Rattle.std.specs.Prelude.{ℕ, ◌-◌, ◌*◌, ◌^◌, Bool, true, false, not, ◌&&◌, ◌||◌, cond, List, [], ◌∷◌, ◌++◌, map, length, get_or, replicate, ltb, eqb, ℤ, pos, negsuc, neg_ℤ, ◌+ℤ◌, ◌-ℤ◌, ◌*ℤ◌}
 use Rattle.std.specs.Bool.{beq}
 use Rattle.std.proofs.Math.Option.{Option, none, some}
+use Rattle.std.proofs.Math.ListN.{get_elem?}
 use Rattle.std.specs.Int.Signed.{lt_z, le_z, quot_z, rem_z, shr_z}
 use Rattle.std.specs.Int.Bits as Bits
 use Rattle.ol_spec.specs.Lists.{maybe}
 use Rattle.ol_spec.specs.Numbers.{residue, signed}
 use Rattle.ol_spec.specs.Real.{Real, single, double, zero_r, add_r, sub_r, mul_r, div_r, neg_r, widen, round_single, of_int, truncate, eq_r, lt_r, le_r}
 use Rattle.ol_spec.specs.Syntax.{Ty, bool, int, float32, float64, char, enum, UnaryOp, Not, Neg, BinOp, And, Or, Xor, Implies, Eq, Neq, Lt, Le, Gt, Ge, Add, Sub, Mul, Div, Mod, BitAnd, BitOr, BitXor, Shl, Shr}
-use Rattle.ol_spec.specs.Syntax.{Expr, bool_lit, int_lit, float_lit, char_lit, var, unary, binary, if_then_else, pre, arrow, cast, call, tuple, Exprs, nil, cons}
+use Rattle.ol_spec.specs.Syntax.{Expr, bool_lit, int_lit, float_lit, char_lit, var, unary, binary, if_then_else, pre, arrow, cast, call, tuple, index, literal, map_over, fold_over, Exprs, nil, cons, VarTy, scalar, array}
 use Rattle.ol_spec.specs.Eval.{RealKind, not_real, is_single, is_double_kind}
 use Rattle.ol_spec.specs.declared.Value.{Value}
 use Rattle.ol_spec.specs.declared.Value.TheVariants as Val
 
--- The Rust's `Value`: one that a cell can have, or a Tuple of such. A tuple inside a tuple, as an argument or in a variable would be more than this has, and is an error here;
--- fault 10 lets no file make one.
+-- The Rust's `Value`, where a variable, an argument or an item of a Tuple has it: one that a cell can have, or an Array of such. A Tuple in a variable, an Array in an Array and so on
+-- would be more than this has, and is an error here; 10 and 22 let no file make one.
 pub data RValue : Type 0 where
   plain : Value → RValue
-  Tuple : List Value → RValue
+  Array : List Value → RValue
+
+-- the `Value` that an expression gives: such a one, or a Tuple of these
+pub data Given : Type 0 where
+  just : RValue → Given
+  Tuple : List RValue → Given
 
 -- `SimError`, as far as its text tells one from another: "uninitialized `pre` evaluated on its first tick", "binary OP not supported on L and R", "unary OP not supported on V",
--- and every other text
+-- "array index I out of bounds (len N)", and every other text
 pub data SimError : Type 0 where
   uninitialized_pre : SimError
-  binary_not_supported : BinOp → RValue → RValue → SimError
-  unary_not_supported : UnaryOp → RValue → SimError
+  binary_not_supported : BinOp → Given → Given → SimError
+  unary_not_supported : UnaryOp → Given → SimError
+  out_of_bounds : ℤ → ℕ → SimError
   other_error : SimError
 
 -- `Result<A, SimError>`, and the panic of an overflow
@@ -41,8 +48,8 @@ ok_bool b = Ok (Val.Bool b)
 abbrev pub ok_int : ℤ → Result Value
 ok_int i = Ok (Val.Int i)
 
-abbrev pub plainly : Result Value → Result RValue
-plainly (Ok v) = Ok (plain v)
+abbrev pub plainly : Result Value → Result Given
+plainly (Ok v) = Ok (just (plain v))
 plainly (Err e) = Err e
 plainly Panic = Panic
 
@@ -103,6 +110,17 @@ real_in (Val.Float x) = some (f64 x)
 real_in (Val.Float32 x) = some (f32 x)
 real_in (Val.Enum v) = none
 
+-- what is no Array and no Tuple
+abbrev pub plain_in : Given → Option Value
+plain_in (just (plain v)) = some v
+plain_in (just (Array vs)) = none
+plain_in (Tuple rs) = none
+
+abbrev pub array_in : Given → Option (List Value)
+array_in (just (plain v)) = none
+array_in (just (Array vs)) = some vs
+array_in (Tuple rs) = none
+
 -- a pattern for both operands
 abbrev pub both : {A : Type 0} → Option A → Option A → Option (A × A)
 both none y = none
@@ -148,6 +166,25 @@ same_values [] [] = true
 same_values [] (w ∷ ws) = false
 same_values (v ∷ vs) [] = false
 same_values (v ∷ vs) (w ∷ ws) = same_value v w && same_values vs ws
+
+-- `==` as it is derived, element by element
+abbrev pub same_rvalue : RValue → RValue → Bool
+same_rvalue (plain v) (plain w) = same_value v w
+same_rvalue (plain v) (Array ws) = false
+same_rvalue (Array vs) (plain w) = false
+same_rvalue (Array vs) (Array ws) = same_values vs ws
+
+abbrev pub same_rvalues : List RValue → List RValue → Bool
+same_rvalues [] [] = true
+same_rvalues [] (w ∷ ws) = false
+same_rvalues (v ∷ vs) [] = false
+same_rvalues (v ∷ vs) (w ∷ ws) = same_rvalue v w && same_rvalues vs ws
+
+abbrev pub same_given : Given → Given → Bool
+same_given (just v) (just w) = same_rvalue v w
+same_given (just v) (Tuple ws) = false
+same_given (Tuple vs) (just w) = false
+same_given (Tuple vs) (Tuple ws) = same_rvalues vs ws
 
 -- two Bools
 abbrev pub bool_arm : BinOp → Bool × Bool → Option (Result Value)
@@ -244,37 +281,45 @@ int_arm Shr a b = maybe none (λ k. some (ok_int (shr_z a (2 ^ k)))) (shift_coun
 -- the arms, in turn
 unfoldable pub eval_values : BinOp → Value → Value → Result Value
 eval_values op l r =
-    let last = Err (binary_not_supported op (plain l) (plain r)) in
+    let last = Err (binary_not_supported op (just (plain l)) (just (plain r))) in
     maybe (maybe (maybe (maybe last (λ x. x) (maybe none (λ p. int_arm op p.0 p.1) (both (rust_int_in l) (rust_int_in r)))) (λ x. x) (eq_arm op (same_value l r)))
     (λ p. let q = pair_of p in maybe last (λ x. x) (real_arm op q.left q.right q.float)) (both (real_in l) (real_in r)))
     (λ x. x) (maybe none (bool_arm op) (both (bool_in l) (bool_in r)))
 
--- a tuple has the arms of Eq and Neq only
-abbrev pub eval_binary : BinOp → RValue → RValue → Result RValue
-eval_binary op (plain v) (plain w) = plainly (eval_values op v w)
-eval_binary op (plain v) (Tuple ws) = plainly (maybe (Err (binary_not_supported op (plain v) (Tuple ws))) (λ x. x) (eq_arm op false))
-eval_binary op (Tuple vs) (plain w) = plainly (maybe (Err (binary_not_supported op (Tuple vs) (plain w))) (λ x. x) (eq_arm op false))
-eval_binary op (Tuple vs) (Tuple ws) = plainly (maybe (Err (binary_not_supported op (Tuple vs) (Tuple ws))) (λ x. x) (eq_arm op (same_values vs ws)))
+-- an Array or a Tuple has the arms of Eq and Neq only
+abbrev pub eval_binary : BinOp → Given → Given → Result Given
+eval_binary op l r =
+    maybe (plainly (maybe (Err (binary_not_supported op l r)) (λ x. x) (eq_arm op (same_given l r)))) (λ p. plainly (eval_values op p.0 p.1)) (both (plain_in l) (plain_in r))
 
 -- ---- the arms of Unary
 
 abbrev pub not_arm : Value → Result Value
-not_arm v = maybe (Err (unary_not_supported Not (plain v))) (λ b. ok_bool (not b)) (bool_in v)
+not_arm v = maybe (Err (unary_not_supported Not (just (plain v)))) (λ b. ok_bool (not b)) (bool_in v)
 
 abbrev pub neg_real : AReal → Result Value
 neg_real (f32 x) = Ok (Val.Float32 (neg_r x))
 neg_real (f64 x) = Ok (Val.Float (neg_r x))
 
 abbrev pub neg_arm : Value → Result Value
-neg_arm v = maybe (maybe (Err (unary_not_supported Neg (plain v))) neg_real (real_in v)) (λ i. checked (neg_ℤ i)) (rust_int_in v)
+neg_arm v = maybe (maybe (Err (unary_not_supported Neg (just (plain v)))) neg_real (real_in v)) (λ i. checked (neg_ℤ i)) (rust_int_in v)
 
 abbrev pub unary_value : UnaryOp → Value → Result Value
 unary_value Not v = not_arm v
 unary_value Neg v = neg_arm v
 
-abbrev pub eval_unary : UnaryOp → RValue → Result RValue
-eval_unary op (plain v) = plainly (unary_value op v)
-eval_unary op (Tuple vs) = Err (unary_not_supported op (Tuple vs))
+abbrev pub eval_unary : UnaryOp → Given → Result Given
+eval_unary op r = maybe (Err (unary_not_supported op r)) (λ v. plainly (unary_value op v)) (plain_in r)
+
+-- ---- Index
+
+-- `if i < 0 || (i as usize) >= xs.len()` it is out of bounds, else `xs[i as usize]`
+abbrev pub element : List Value → ℤ → Result Given
+element xs (pos k) = maybe (Err (out_of_bounds (pos k) (length xs))) (λ v. Ok (just (plain v))) (get_elem? xs k)
+element xs (negsuc k) = Err (out_of_bounds (negsuc k) (length xs))
+
+-- an index that is no Int, then a base that is no Array
+abbrev pub index_value : Given → Given → Result Given
+index_value bv iv = maybe (Err other_error) (λ i. maybe (Err other_error) (λ xs. element xs i) (array_in bv)) (maybe none rust_int_in (plain_in iv))
 
 -- ---- `narrow_int`, `cast_value`, `fit_to`, `default_value`
 
@@ -309,34 +354,45 @@ cast_plain float64 v = of_number (λ i. Val.Float (of_int double i)) to_f64 v
 cast_plain char v = Err other_error
 cast_plain (enum e) v = Err other_error
 
-unfoldable pub cast_value : Ty → RValue → Result RValue
-cast_value t (Tuple vs) = Err other_error
-cast_value t (plain v) = plainly (cast_plain t v)
+unfoldable pub cast_value : Ty → Given → Result Given
+cast_value t r = maybe (Err other_error) (λ v. plainly (cast_plain t v)) (plain_in r)
 
 -- an Int or a real is converted, another value is kept
 abbrev pub number_or : (ℤ → Value) → (AReal → Value) → Value → Value
 number_or h k v = maybe (maybe v k (real_in v)) h (rust_int_in v)
 
-unfoldable pub fit_to : Ty → Value → Value
-fit_to bool v = v
-fit_to (int c) v = maybe v (λ i. Val.Int (narrow_int c i)) (rust_int_in v)
-fit_to float32 v = number_or (λ i. Val.Float32 (of_int single i)) to_f32 v
-fit_to float64 v = number_or (λ i. Val.Float (of_int double i)) to_f64 v
-fit_to char v = v
-fit_to (enum e) v = v
+-- to a scalar type
+unfoldable pub fit_plain : Ty → Value → Value
+fit_plain bool v = v
+fit_plain (int c) v = maybe v (λ i. Val.Int (narrow_int c i)) (rust_int_in v)
+fit_plain float32 v = number_or (λ i. Val.Float32 (of_int single i)) to_f32 v
+fit_plain float64 v = number_or (λ i. Val.Float (of_int double i)) to_f64 v
+fit_plain char v = v
+fit_plain (enum e) v = v
+
+-- an Array element by element
+abbrev pub fit_to : VarTy → RValue → RValue
+fit_to (scalar t) (plain v) = plain (fit_plain t v)
+fit_to (scalar t) (Array vs) = Array vs
+fit_to (array n t) (plain v) = plain v
+fit_to (array n t) (Array vs) = Array (map (fit_plain t) vs)
 
 -- an enum's first variant; the reader lets no other number of an enum through, nor an enum with none
 abbrev pub default_named : List ℕ → Value
 default_named [] = Val.Enum 0
 default_named (v ∷ vs) = Val.Enum v
 
-unfoldable pub rust_default_of : List (List ℕ) → Ty → Value
-rust_default_of enums bool = Val.Bool false
-rust_default_of enums (int c) = Val.Int (pos 0)
-rust_default_of enums float32 = Val.Float32 zero_r
-rust_default_of enums float64 = Val.Float zero_r
-rust_default_of enums char = Val.Int (pos 0)
-rust_default_of enums (enum e) = default_named (get_or enums e [])
+unfoldable pub default_plain : List (List ℕ) → Ty → Value
+default_plain enums bool = Val.Bool false
+default_plain enums (int c) = Val.Int (pos 0)
+default_plain enums float32 = Val.Float32 zero_r
+default_plain enums float64 = Val.Float zero_r
+default_plain enums char = Val.Int (pos 0)
+default_plain enums (enum e) = default_named (get_or enums e [])
+
+abbrev pub rust_default_of : List (List ℕ) → VarTy → RValue
+rust_default_of enums (scalar t) = plain (default_plain enums t)
+rust_default_of enums (array n t) = Array (replicate n (default_plain enums t))
 
 -- ---- `real_kind` and `common_real`
 
@@ -354,20 +410,28 @@ rust_is_single is_double_kind = false
 abbrev pub join_kinds : RealKind → RealKind → RealKind
 join_kinds a b = cond (is_double a || is_double b) is_double_kind (cond (rust_is_single a || rust_is_single b) is_single not_real)
 
-abbrev pub of_type : Ty → RealKind
-of_type bool = not_real
-of_type (int c) = not_real
-of_type float32 = is_single
-of_type float64 = is_double_kind
-of_type char = not_real
-of_type (enum e) = not_real
+abbrev pub of_scalar : Ty → RealKind
+of_scalar bool = not_real
+of_scalar (int c) = not_real
+of_scalar float32 = is_single
+of_scalar float64 = is_double_kind
+of_scalar char = not_real
+of_scalar (enum e) = not_real
+
+abbrev pub of_type : VarTy → RealKind
+of_type (scalar t) = of_scalar t
+of_type (array n t) = not_real
 
 abbrev pub rust_kind_in : AReal → RealKind
 rust_kind_in (f32 x) = is_single
 rust_kind_in (f64 x) = is_double_kind
 
-abbrev pub of_value : Value → RealKind
-of_value v = maybe not_real rust_kind_in (real_in v)
+abbrev pub of_plain : Value → RealKind
+of_plain v = maybe not_real rust_kind_in (real_in v)
+
+abbrev pub of_value : RValue → RealKind
+of_value (plain v) = of_plain v
+of_value (Array vs) = not_real
 
 abbrev pub is_arithmetic : BinOp → Bool
 is_arithmetic And = false
@@ -412,6 +476,10 @@ abbrev mutual
   rust_has_call (cast t e) = rust_has_call e
   rust_has_call (call k es) = true
   rust_has_call (tuple es) = has_calls es
+  rust_has_call (index a i) = rust_has_call a || rust_has_call i
+  rust_has_call (literal es) = has_calls es
+  rust_has_call (map_over k es) = has_calls es
+  rust_has_call (fold_over k s es) = rust_has_call s || has_calls es
 
   pub has_calls : Exprs → Bool
   has_calls nil = false
@@ -433,6 +501,10 @@ abbrev mutual
   same_cycle_reads (cast t e) out = same_cycle_reads e out
   same_cycle_reads (call k es) out = all_reads es out
   same_cycle_reads (tuple es) out = all_reads es out
+  same_cycle_reads (index a i) out = same_cycle_reads i (same_cycle_reads a out)
+  same_cycle_reads (literal es) out = all_reads es out
+  same_cycle_reads (map_over k es) out = all_reads es out
+  same_cycle_reads (fold_over k s es) out = all_reads es (same_cycle_reads s out)
 
   pub all_reads : Exprs → List ℕ → List ℕ
   all_reads nil out = out

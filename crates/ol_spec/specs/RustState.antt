@@ -1,18 +1,26 @@
 -- The state's bytes of a `Sim` of specs/RustSim: what document 01's state keeps of it. A state of the public calls is these bytes, and nothing else (specs/AsRust).
 use Rattle.std.specs.Prelude.{ℕ, zero, suc, ◌+◌, ◌-◌, List, [], ◌∷◌, ◌++◌, map, length}
 use Rattle.std.proofs.Math.Option.{Option}
-use Rattle.ol_spec.specs.Lists.{maybe}
-use Rattle.ol_spec.specs.Syntax.{NodeKind, Function, Operator, Imported, Equation, Node, File, main, variables}
-use Rattle.ol_spec.specs.Syntax.{Expr, bool_lit, int_lit, float_lit, char_lit, var, unary, binary, if_then_else, pre, arrow, cast, call, tuple, Exprs, nil, cons}
+use Rattle.ol_spec.specs.Lists.{maybe, concat}
+use Rattle.ol_spec.specs.Syntax.{NodeKind, Function, Operator, Imported, Equation, Node, File, main, variables, cell_types}
+use Rattle.ol_spec.specs.Syntax.{Expr, bool_lit, int_lit, float_lit, char_lit, var, unary, binary, if_then_else, pre, arrow, cast, call, tuple, index, literal, map_over, fold_over, Exprs, nil, cons}
 use Rattle.ol_spec.specs.Cell.{cells}
 use Rattle.ol_spec.specs.Types.{defaults}
-use Rattle.ol_spec.specs.RustSim.{width, Env, get, State, States, get_state, past, child_calls, default_state, Sim, find_node, default_value, report}
+use Rattle.ol_spec.specs.RustSim.{width, RValue, plain, Array, Env, get, State, States, get_state, past, child_calls, default_state, Sim, find_node, default_value, report}
 use Rattle.ol_spec.specs.declared.Value.{Value}
 
 -- 1 once a step was finished
 abbrev pub started_byte : List Env → ℕ
 started_byte [] = 0
 started_byte (env ∷ envs) = 1
+
+-- the cells that a value fills: an Array has one for each element, in their order
+abbrev pub cells_of : RValue → List Value
+cells_of (plain v) = v ∷ []
+cells_of (Array vs) = vs
+
+abbrev pub all_cells : List RValue → List Value
+all_cells rs = concat (map cells_of rs)
 
 -- an absent state is the default one
 abbrev pub state_or : Option State → State
@@ -34,6 +42,10 @@ abbrev mutual
   rust_calls_in at (cast t e) = rust_calls_in (suc at) e
   rust_calls_in at (call k es) = (at, k) ∷ calls_all (suc at) es
   rust_calls_in at (tuple es) = calls_all (suc at) es
+  rust_calls_in at (index a i) = rust_calls_in (suc at) a ++ rust_calls_in (suc at + width a) i
+  rust_calls_in at (literal es) = calls_all (suc at) es
+  rust_calls_in at (map_over k es) = calls_all (suc at) es
+  rust_calls_in at (fold_over k s es) = rust_calls_in (suc at) s ++ calls_all (suc at + width s) es
 
   pub calls_all : ℕ → Exprs → List (ℕ × ℕ)
   calls_all at nil = []
@@ -45,10 +57,14 @@ calls_of at [] = []
 calls_of at (q ∷ qs) = rust_calls_in at q.rhs ++ calls_of (at + width q.rhs) qs
 
 module _ (f : File) where
+  -- the cells of what a step that left this environment reports
+  abbrev pub answered_by : Node → Env → List Value
+  answered_by n env = all_cells (report f n env)
+
   -- what the step that was finished last left in the variables; before the first one, the defaults
   abbrev pub left_in : Node → List Env → List Value
-  left_in n [] = defaults f.enums (variables n)
-  left_in n (env ∷ envs) = report f n env
+  left_in n [] = defaults f.enums (cell_types (variables n))
+  left_in n (env ∷ envs) = answered_by n env
 
   -- these calls of node number k, by the bytes of a call site
   abbrev pub sites_bytes : (ℕ → Option State → List ℕ) → ℕ → List (ℕ × ℕ) → States → List ℕ
@@ -70,9 +86,9 @@ module _ (f : File) where
   site_bytes zero k o = []
   site_bytes (suc d) k o = site_bytes_by (find_node f k).kind (site_bytes d) k o
 
-  -- the constants' values, in file order
+  -- the cells of the constants' values, in file order
   abbrev pub constants_in : Env → List Value
-  constants_in env = map (λ c. maybe (default_value f c.ty) (λ v. v) (get c.name env)) f.constants
+  constants_in env = all_cells (map (λ c. maybe (default_value f c.ty) (λ v. v) (get c.name env)) f.constants)
 
   -- the constants, then the main instance; as deep as there are nodes is as deep as calls go
   unfoldable pub state_bytes : Sim → List ℕ

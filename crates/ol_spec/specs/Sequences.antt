@@ -3,17 +3,17 @@
 use Rattle.std.specs.Prelude.{ℕ, ◌<◌, Bool, false, cond, List, [], ◌∷◌, ◌++◌, map, ◌≡◌, length, take, drop, T}
 use Rattle.std.proofs.Math.Option.{Option, none, some}
 use Rattle.std.proofs.Math.ListN.{get_elem?}
-use Rattle.ol_spec.specs.Lists.{maybe, member}
-use Rattle.ol_spec.specs.Syntax.{Node, File, Expr, bool_lit, var, if_then_else, main, variables, variable_names}
+use Rattle.ol_spec.specs.Lists.{maybe, member, concat}
+use Rattle.ol_spec.specs.Syntax.{variable_cells, Node, File, Expr, bool_lit, var, if_then_else, main, variables, variable_names}
 use Rattle.ol_spec.specs.Syntax as S
 use Rattle.ol_spec.specs.Limits.{Loader}
-use Rattle.ol_spec.specs.Eval.{Scope, Calls, has_call, is_double?, real_kind, common_real, drop_failure, seg_size, eval}
-use Rattle.ol_spec.specs.Types.{default_of}
+use Rattle.ol_spec.specs.Eval.{Outcomes, Scope, Calls, failure, has_call, is_double?, real_kind, common_real, drop_failure, seg_size, eval, eval_cells}
+use Rattle.ol_spec.specs.Types.{defaults}
 use Rattle.ol_spec.specs.Step.{is_fresh, old_cells, scope}
 use Rattle.ol_spec.specs.Admission.{constant_names, judge, admitted}
 use Rattle.ol_spec.specs.State.{globals_of, fresh_state}
 use Rattle.ol_spec.specs.Demand3.{Bytes, Turn, Made, history, given, Answered, main_record}
-use Rattle.ol_spec.specs.Lustre.{pre, arrow, firstly, cells_before, eval_in}
+use Rattle.ol_spec.specs.Lustre.{pre, arrow, firstly, cells_before, Entries, eval_in, cells_in}
 use Rattle.ol_spec.specs.declared.Value.{Value}
 use Rattle.ol_spec.specs.declared.Outcome.{Outcome}
 use Rattle.ol_spec.specs.declared.Outcome.TheVariants as Out
@@ -38,14 +38,18 @@ beside call double (Out.Failure c) o = Out.Failure c
 beside call double Out.Overflow o = Out.Overflow
 
 -- a nil is cold
-abbrev pub or_nil : Option Outcome → Outcome
-or_nil none = Out.Failure Why.Cold
+abbrev pub or_nil : Option Outcomes → Outcomes
+or_nil none = failure Why.Cold
 or_nil (some o) = o
 
 module _ (f : File) (vs : List Value) (ms : List Made) where
   -- the outcomes of an expression at the instants, each on the cells that its cycle gave and on a segment
   abbrev pub outcomes : Expr → (ℕ → List ℕ) → ℕ → Option Outcome
   outcomes e segs k = maybe none (λ m. some (eval_in f vs m (given f m) e (segs k)).out) (get_elem? (instants ms) k)
+
+  -- and what its cells come to, be it a scalar or an array
+  abbrev pub cell_outcomes : Expr → (ℕ → List ℕ) → ℕ → Option Outcomes
+  cell_outcomes e segs k = maybe none (λ m. some (cells_in f vs m (given f m) e (segs k)).out) (get_elem? (instants ms) k)
 
   -- whether an expression counts as Double in a cycle
   abbrev pub double_in : Made → Expr → Bool
@@ -64,20 +68,20 @@ module _ (f : File) (vs : List Value) (ms : List Made) where
   right_of a segs i = drop (seg_size (globals_of f vs) a) (segs i)
 
   -- The outcomes of `a -> b` are the paper's arrow of the outcomes of a beside b and of b beside a, each side on its part of the segment. Those of `pre x` are the paper's pre of
-  -- the outcomes of x, for a main variable or a constant.
+  -- the outcomes of x, for a main variable or a constant, scalar or array.
   pub record Sequences : Type 0 where
     pub arrows : (a b : Expr) (segs : ℕ → List ℕ) (k : ℕ)
         → outcomes (S.arrow a b) segs k ≡ arrow (sides a (left_of a segs) b (right_of a segs)) (sides b (right_of a segs) a (left_of a segs)) k
     pub pres : (x : ℕ) → T (member x (variable_names (main f) ++ constant_names f)) → (segs segs' : ℕ → List ℕ) (k : ℕ) → k < length (instants ms)
-        → outcomes (S.pre (var x)) segs k ≡ some (or_nil (pre (outcomes (var x) segs') k))
+        → cell_outcomes (S.pre (var x)) segs k ≡ some (or_nil (pre (cell_outcomes (var x) segs') k))
 
 -- ---- the instances of a node, over their instants
 
--- the values of a node's variables at instant k of these sequences, the defaults where there are none
-abbrev pub cells_at : List (List ℕ) → Node → (ℕ → ℕ → Option Value) → ℕ → List Value
-cells_at enums n xs k = map (λ v. maybe (default_of enums v) (λ w. w) (xs v.name k)) (variables n)
+-- the cells of a node's variables at instant k of these sequences, the defaults where there are none
+abbrev pub cells_at : List (List ℕ) → Node → (ℕ → ℕ → Option (List Value)) → ℕ → List Value
+cells_at enums n xs k = concat (map (λ v. maybe (defaults enums (variable_cells v)) (λ w. w) (xs v.name k)) (variables n))
 
-module _ (f : File) (vs : List Value) (calls : Calls) (n : Node) (xs : ℕ → ℕ → Option Value) where
+module _ (f : File) (vs : List Value) (calls : Calls) (n : Node) (xs : ℕ → ℕ → Option (List Value)) where
   -- what an instance sees at instant k of its sequences (`run_at` runs the equations there), once its step is finished
   abbrev pub scope_at : ℕ → Scope
   scope_at k = scope n (firstly k) (cells_before f.enums n xs k) (cells_at f.enums n xs k)
@@ -85,6 +89,9 @@ module _ (f : File) (vs : List Value) (calls : Calls) (n : Node) (xs : ℕ → �
   -- the outcomes of an expression at the instants, each on a segment; and those of e beside o
   abbrev pub outcomes_at : Expr → (ℕ → List ℕ) → ℕ → Outcome
   outcomes_at e segs k = (eval (globals_of f vs) (scope_at k) calls e (segs k)).out
+
+  abbrev pub cell_outcomes_at : Expr → (ℕ → List ℕ) → ℕ → Outcomes
+  cell_outcomes_at e segs k = (eval_cells (globals_of f vs) (scope_at k) calls e (segs k)).out
 
   abbrev pub sides_at : Expr → (ℕ → List ℕ) → Expr → (ℕ → List ℕ) → ℕ → Outcome
   sides_at e es o os k = beside (has_call o) (is_double? (real_kind (globals_of f vs) (scope_at k) o)) (outcomes_at e es k) (outcomes_at o os k)
@@ -96,11 +103,11 @@ module _ (f : File) (vs : List Value) (calls : Calls) (n : Node) (xs : ℕ → �
         let right : ℕ → List ℕ = λ i. drop (seg_size (globals_of f vs) a) (segs i) in
         outcomes_at (S.arrow a b) segs k ≡ arrow (sides_at a left b right) (sides_at b right a left) k
     pub pres : (x : ℕ) → T (member x (variable_names n ++ constant_names f)) → (segs segs' : ℕ → List ℕ) (k : ℕ)
-        → outcomes_at (S.pre (var x)) segs k ≡ or_nil (pre (λ i. some (outcomes_at (var x) segs' i)) k)
+        → cell_outcomes_at (S.pre (var x)) segs k ≡ or_nil (pre (λ i. some (cell_outcomes_at (var x) segs' i)) k)
 
--- in every instance of every node, whatever its sequences are (`CallRuns` of specs/Instances says at which instant of which sequences each call runs)
+-- in every instance of every node, whatever its sequences are, an entry being as many cells as its variable has (`CallRuns` of specs/Instances says at which instant of which sequences each call runs, and `AtPast` that they are such)
 abbrev pub EveryInstance : File → List Value → Type 0
-EveryInstance f vs = (k : ℕ) (n : Node) → get_elem? f.nodes k ≡ some n → (calls : Calls) (xs : ℕ → ℕ → Option Value) → InstanceSequences f vs calls n xs
+EveryInstance f vs = (k : ℕ) (n : Node) → get_elem? f.nodes k ≡ some n → (calls : Calls) (xs : ℕ → ℕ → Option (List Value)) → Entries n xs → InstanceSequences f vs calls n xs
 
 unfoldable pub SequencesClaim : Loader → Type 0
 SequencesClaim ld =

@@ -1,13 +1,13 @@
 -- Nodes: their records, the running of their equations, and calls. Document 01, "The state".
--- A record is a started byte, a cell for each input, output and local, then the segments of the equations in file order.
+-- A record is a started byte, the cells of the inputs, outputs and locals, then the segments of the equations in file order.
 use Rattle.std.specs.Prelude.{ℕ, zero, suc, ◌+◌, ◌*◌, Bool, false, List, [], ◌∷◌, ◌++◌, map, length, take, drop, get_or, set, eqb}
-use Rattle.std.proofs.Math.Option.{Option, none, some}
-use Rattle.ol_spec.specs.Lists.{concat, position}
-use Rattle.ol_spec.specs.Syntax.{bool, NodeKind, Function, Operator, Imported, Variable, Equation, Node, File, variables, variable_names, type_of, bool_lit}
+use Rattle.ol_spec.specs.Lists.{concat, positions}
+use Rattle.ol_spec.specs.Syntax.{Ty, bool, NodeKind, Function, Operator, Imported, Equation, Node, File, variables, cell_types, cell_names, bool_lit}
 use Rattle.ol_spec.specs.Syntax.{rhs_of}
 use Rattle.ol_spec.specs.Cell.{cells, values_of}
 use Rattle.ol_spec.specs.Types.{defaults, fit}
 use Rattle.ol_spec.specs.Order.{order}
+use Rattle.ol_spec.specs.Shapes.{arrays_in, constant_arrays}
 use Rattle.ol_spec.specs.Eval.{Globals, Scope, Outcomes, values, failure, overflow, Evals, Calls, callees, sites_size, node_at, seg_size, eval_rhs}
 use Rattle.ol_spec.specs.declared.Value.{Value}
 use Rattle.ol_spec.specs.declared.Cause.{Cause}
@@ -22,9 +22,19 @@ equation_sites q = callees q.rhs
 abbrev pub sites : Node → List ℕ
 sites n = concat (map equation_sites n.equations)
 
+-- a node's cells, those of its inputs and those of its outputs
+abbrev pub cell_count : Node → ℕ
+cell_count n = length (cell_types (variables n))
+
+abbrev pub input_count : Node → ℕ
+input_count n = length (cell_types n.inputs)
+
+abbrev pub output_count : Node → ℕ
+output_count n = length (cell_types n.outputs)
+
 -- the bytes of a started byte and the cells
 abbrev pub own_size : Node → ℕ
-own_size n = 1 + 9 * length (variables n)
+own_size n = 1 + 9 * cell_count n
 
 -- the bytes of an instance, by the sizes of call sites
 abbrev pub instance_size : List ℕ → Node → ℕ
@@ -47,10 +57,10 @@ unfoldable pub sizes_at : ℕ → List Node → List ℕ
 sizes_at zero ns = map no_size ns
 sizes_at (suc d) ns = let sizes = sizes_at d ns in map (site_size sizes) ns
 
--- what evaluation knows of a file, with the names and values of the constants evaluated so far
+-- what evaluation knows of a file, with the names and values of the cells of the constants evaluated so far
 abbrev pub globals : File → List ℕ → List Value → Globals
 globals f xs vs =
-    record { enums = f.enums; constant_names = xs; constant_values = vs; nodes = f.nodes; sizes = sizes_at (length f.nodes) f.nodes }
+    record { enums = f.enums; arrays = constant_arrays f.constants; constant_names = xs; constant_values = vs; nodes = f.nodes; sizes = sizes_at (length f.nodes) f.nodes }
 
 -- ---- the parts of a record
 
@@ -58,7 +68,7 @@ abbrev pub is_fresh : List ℕ → Bool
 is_fresh r = eqb (get_or r 0 0) 0
 
 abbrev pub old_cells : Node → List ℕ → List Value
-old_cells n r = values_of (length (variables n)) (drop 1 r)
+old_cells n r = values_of (cell_count n) (drop 1 r)
 
 -- the segments of the equations, which follow one another in s
 unfoldable pub split : Globals → List Equation → List ℕ → List (List ℕ)
@@ -69,7 +79,7 @@ abbrev pub old_segs : Globals → Node → List ℕ → List (List ℕ)
 old_segs g n r = split g n.equations (drop (own_size n) r)
 
 abbrev pub outputs_in : Node → List Value → List Value
-outputs_in n cs = take (length n.outputs) (drop (length n.inputs) cs)
+outputs_in n cs = take (output_count n) (drop (input_count n) cs)
 
 -- the record of a finished cycle
 abbrev pub started_record : List Value → List (List ℕ) → List ℕ
@@ -77,20 +87,26 @@ started_record cs segs = 1 ∷ cells cs ++ concat segs
 
 -- ---- storing
 
-unfoldable pub fit_all : List Variable → List Value → List Value
+-- values fitted to the types of their cells
+unfoldable pub fit_all : List Ty → List Value → List Value
 fit_all [] vs = []
-fit_all (x ∷ xs) [] = []
-fit_all (x ∷ xs) (v ∷ vs) = fit x.ty v ∷ fit_all xs vs
+fit_all (t ∷ ts) [] = []
+fit_all (t ∷ ts) (v ∷ vs) = fit t v ∷ fit_all ts vs
 
-abbrev pub put_at : Node → Option ℕ → Value → List Value → List Value
-put_at n none v cs = cs
-put_at n (some i) v cs = set cs i (fit (get_or (map type_of (variables n)) i bool) v)
+-- the positions of the cells of these names, in turn
+abbrev pub slots_of : Node → List ℕ → List ℕ
+slots_of n [] = []
+slots_of n (x ∷ xs) = positions x (cell_names (variables n)) ++ slots_of n xs
 
--- each name's cell gets its value, fitted to the name's type
-unfoldable pub assign : Node → List ℕ → List Value → List Value → List Value
-assign n [] vs cs = cs
-assign n (x ∷ xs) [] cs = cs
-assign n (x ∷ xs) (v ∷ vs) cs = assign n xs vs (put_at n (position x (variable_names n)) v cs)
+-- each of these cells gets its value, fitted to its type
+unfoldable pub put_all : Node → List ℕ → List Value → List Value → List Value
+put_all n [] vs cs = cs
+put_all n (i ∷ is) [] cs = cs
+put_all n (i ∷ is) (v ∷ vs) cs = put_all n is vs (set cs i (fit (get_or (cell_types (variables n)) i bool) v))
+
+-- the names' cells get their values in turn
+abbrev pub assign : Node → List ℕ → List Value → List Value → List Value
+assign n xs vs cs = put_all n (slots_of n xs) vs cs
 
 -- ---- running equations
 
@@ -122,7 +138,7 @@ unfoldable pub store : Node → ℕ → Evals → (List Value → List (List ℕ
 store n i r k cs segs = store_on n i r.out r.seg k cs segs
 
 abbrev pub scope : Node → Bool → List Value → List Value → Scope
-scope n first before cs = record { names = variable_names n; present = cs; before = before; first = first }
+scope n first before cs = record { arrays = arrays_in (variables n); names = cell_names (variables n); present = cs; before = before; first = first }
 
 module _ (g : Globals) (calls : Calls) (n : Node) where
   -- the right side of equation i, with these cells
@@ -136,14 +152,14 @@ module _ (g : Globals) (calls : Calls) (n : Node) where
 
   -- All equations in evaluation order, on the inputs' values and the old record. Outputs and locals start from their old cells.
   unfoldable pub run : List Value → List ℕ → Run
-  run ins r = run_all (is_fresh r) (old_cells n r) (order n.equations) (ins ++ drop (length n.inputs) (old_cells n r)) (old_segs g n r)
+  run ins r = run_all (is_fresh r) (old_cells n r) (order n.equations) (ins ++ drop (input_count n) (old_cells n r)) (old_segs g n r)
 
 module _ (g : Globals) where
   -- ---- fresh records
 
   -- byte 0 and default cells, where a call site of node k has `f k`
   abbrev pub fresh_instance : (ℕ → List ℕ) → Node → List ℕ
-  fresh_instance f n = 0 ∷ cells (defaults g.enums (variables n)) ++ concat (map f (sites n))
+  fresh_instance f n = 0 ∷ cells (defaults g.enums (cell_types (variables n))) ++ concat (map f (sites n))
 
   abbrev pub fresh_by : NodeKind → (ℕ → List ℕ) → Node → List ℕ
   fresh_by Function f n = []
@@ -170,7 +186,7 @@ module _ (g : Globals) where
 
   -- a step of an instance on its record, the arguments fitted to the inputs
   unfoldable pub instance : Calls → Node → List Value → List ℕ → Evals
-  instance calls n vs r = leave n r (run g calls n (fit_all n.inputs vs) r)
+  instance calls n vs r = leave n r (run g calls n (fit_all (cell_types n.inputs) vs) r)
 
   -- A Function runs as on a fresh record and keeps none: it is always at its first cycle, and its undefined outputs and locals are defaults.
   abbrev pub call_by : NodeKind → Calls → Node → List Value → List ℕ → Evals

@@ -63,6 +63,8 @@ pub struct Limits {
     pub names: usize,
     pub arguments: usize,
     pub items: usize,
+    pub elements: usize,
+    pub arrays: usize,
     pub nesting: usize,
     pub state: usize,
 }
@@ -84,7 +86,7 @@ pub struct Lengths {
     pub equations: usize,
 }
 
-// What a cycle answers: values, a stop (18 to 21) or a refusal (1 to 17). Three answers of one enum: a stopped cycle was begun and
+// What a cycle answers: values, a stop (18 to 21) or a refusal (1 to 17, or 22). Three answers of one enum: a stopped cycle was begun and
 // a refused one was not, so the two faults behind one Err would be told apart again by each caller.
 #[derive(Clone, Copy, PartialEq, Eq)]
 pub enum Cycled {

@@ -57,7 +57,8 @@ fn value_by(t: u8, p: u64) -> Value
     }
 }
 
-// The value of the nine bytes at an offset.
+// The value of the nine bytes at an offset. It is put into its callers: measured faster.
+#[inline(always)]
 pub fn read_cell(bytes: &[u8], at: usize) -> Value
     requires { at + 9 ≤ length bytes.now }
     ensures { result ≡ value_of (take 9 (drop at bytes.now)) }

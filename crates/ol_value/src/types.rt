@@ -15,6 +15,8 @@ use ol_spec::{Cause, Outcome, Value};
 
 // Document 01's `fit_to`: a value as a variable of the type holds it. Each variant is made again: a value
 // that was passed on whole was measured to make the load behind it wait (docs/PERFORMANCE.md).
+// It is put into its callers: measured faster.
+#[inline(always)]
 #[tactic(auto, unfolding(ol_spec::specs::Types::fit))]
 pub fn fit_to(code: u8, v: Value) -> Value
     ensures { (e : ℕ) → result ≡ fit (ty_of code e) v }
