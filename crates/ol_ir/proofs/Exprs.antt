@@ -18,7 +18,11 @@ pub falls_deeper : (d most n left : ℕ) → 0 < d → n < most → 0 < left →
 falls_deeper zero most n left h b c = absurd (omega arith)
 falls_deeper (suc d) most n left h b c = let one : suc d - 1 ≡ d = omega arith in rw (one, suc-mul) (omega arith)
 
-pub few : (s : List ℕ) (l : Limits) (enums at n p : ℕ) {x : Counting} → x ≡ counted_of (head_r s l enums at) → x ≡ Ok (counted_at n p) → n < 4 + (l.arguments + l.items)
+-- more than an expression can have parts
+abbrev pub above_parts : Limits → ℕ
+above_parts l = 4 + (l.arguments + l.items + l.elements + l.arrays)
+
+pub few : (s : List ℕ) (l : Limits) (enums at n p : ℕ) {x : Counting} → x ≡ counted_of (head_r s l enums at) → x ≡ Ok (counted_at n p) → n < above_parts l
 few s l enums at n p e g = omega (arith, few_parts s l enums at n p (sym g ∙ e))
 
 module _ (s : List ℕ) (l : Limits) (enums : ℕ) where

@@ -1,6 +1,6 @@
 -- What each reader of the file form answers, by what the readers of its parts answer.
 use Prim.Native.Nat.{ℕ, zero, suc, ◌+◌, ◌*◌, ◌≤◌, ◌<◌}
-use mathlib.Core.List.{List, [], ◌∷◌}
+use mathlib.Core.List.{List, [], ◌∷◌, ◌++◌, map}
 use mathlib.Core.Path.{◌≡◌, refl, sym, ap, ◌∙◌}
 use mathlib.Core.Logic.{by_cases}
 use native.Mathlib.Omega.{arith}
@@ -8,9 +8,9 @@ use native.Mathlib.Decide.{dec_le}
 use lib.ListN.{length, get_or, get_elem?}
 use Rattle.std.specs.Prelude.{Ok, Err}
 use Rattle.ol_spec.specs.Lists.{up_to}
-use Rattle.ol_spec.specs.Syntax.{Expr}
+use Rattle.ol_spec.specs.Syntax.{Expr, scalar}
 use Rattle.ol_spec.specs.Read.{Read, got, fault, Reader, then_read, known, many, many_exprs, byte, number, name_r, coded, count_r, section_r, ty_codes}
-use Rattle.ol_spec.specs.Read.{enum_t, ty_body, ty_r, expr_r, variable_r, constant_r, equation_r, node_r, node_kinds}
+use Rattle.ol_spec.specs.Read.{enum_t, TyCode, ty_body, ty_r, scalar_t, array_t, var_ty_codes, var_ty_body, var_ty_r, expr_r, variable_r, constant_r, equation_r, node_r, node_kinds}
 use Rattle.ol_spec.specs.Answers.{fault_at}
 use Rattle.ol_spec.specs.declared.Limits.{Limits}
 use Rattle.ol_ir.specs.Nexts.{Next, next_of, counted_of, onward, repeat}
@@ -148,6 +148,29 @@ module _ (s : List ℕ) (l : Limits) (enums at : ℕ) where
   unfolding then_read next_of
   ty_end h = sym (rw (coded_end s at ty_codes h) refl)
 
+  -- a variable's type whose code is not an array's is read as a scalar
+  scalar_codes : (ts : List TyCode) (b p : ℕ) → (b ≡ length ts → ⊥) → next_of (then_read (known at (get_elem? ts b) p) (ty_body s l enums)) ≡ next_of (then_read (known at (get_elem? (map scalar_t ts ++ array_t ∷ []) b) p) (var_ty_body s l enums))
+  unfolding then_read next_of
+  scalar_codes [] zero p h = absurd (h refl)
+  scalar_codes [] (suc zero) p h = refl
+  scalar_codes [] (suc (suc b)) p h = refl
+  scalar_codes (c ∷ ts) zero p h = sym (next_give (ty_body s l enums c p) scalar)
+  scalar_codes (c ∷ ts) (suc b) p h = scalar_codes ts b p (λ e. h (ap suc e))
+
+  pub var_scalar : at < length s → (get_or s at 0 ≡ 13 → ⊥) → next_of (ty_r s l enums at) ≡ next_of (var_ty_r s l enums at)
+  unfolding coded then_read
+  var_scalar h b = rw (byte_in s at h) (scalar_codes ty_codes (get_or s at 0) (at + 1) b)
+
+  -- an array's length, then its element's type
+  pub var_array : at < length s → get_or s at 0 ≡ 13 → ItemChain (next_of (var_ty_r s l enums at)) (counted_of (count_r s 1 l.elements (at + 1))) (λ n p. next_of (ty_r s l enums p))
+  unfolding then_read
+  var_array h b =
+      record { is = rw (coded_is s at var_ty_codes h array_t (ap (get_elem? var_ty_codes) b)) (counted_then (count_r s 1 l.elements (at + 1)) _ _ (λ n p. next_give (ty_r s l enums p) _)) }
+
+  pub var_end : length s ≤ at → Err (fault_at 2 (length s)) ≡ next_of (var_ty_r s l enums at)
+  unfolding then_read next_of
+  var_end h = sym (rw (coded_end s at var_ty_codes h) refl)
+
 -- ---- chains
 
 -- two chains that begin alike, of which one ends where h goes on
@@ -169,12 +192,12 @@ module _ (s : List ℕ) (l : Limits) (enums : ℕ) where
   root_next {n = n} at e h = h ∙ one_expr (expr_r s l enums n) at ∙ ap (λ (k : ℕ). next_of (expr_r s l enums k at)) (sym e)
 
 module _ (s : List ℕ) (l : Limits) (enums at : ℕ) where
-  pub variable_chain : Chain (next_of (variable_r s l enums at)) (next_of (name_r s at)) (λ p. next_of (ty_r s l enums p))
-  variable_chain = record { is = next_then (name_r s at) _ _ (λ x n. next_give (ty_r s l enums n) _) }
+  pub variable_chain : Chain (next_of (variable_r s l enums at)) (next_of (name_r s at)) (λ p. next_of (var_ty_r s l enums p))
+  variable_chain = record { is = next_then (name_r s at) _ _ (λ x n. next_give (var_ty_r s l enums n) _) }
 
   pub constant_chain : Chain (next_of (constant_r s l enums at)) (next_of (variable_r s l enums at)) (λ p. next_of (expr_r s l enums l.nesting p))
   unfolding next_of onward
-  constant_chain = record { is = regroup (name_r s at) _ _ _ (λ x n. regroup (ty_r s l enums n) _ _ _ (λ t m. next_give (expr_r s l enums l.nesting m) _)) }
+  constant_chain = record { is = regroup (name_r s at) _ _ _ (λ x n. regroup (var_ty_r s l enums n) _ _ _ (λ t m. next_give (expr_r s l enums l.nesting m) _)) }
 
   pub equation_chain : Chain (next_of (equation_r s l enums at)) (next_of (section_r s 1 l.names (name_r s) at)) (λ p. next_of (expr_r s l enums l.nesting p))
   equation_chain = record { is = next_then (section_r s 1 l.names (name_r s) at) _ _ (λ xs n. next_give (expr_r s l enums l.nesting n) _) }

@@ -1,27 +1,30 @@
 -- An expression is its head, then its parts: what is read, by places, and how many parts there can be.
 use Prim.Native.Nat.{ℕ, suc, ◌+◌, ◌*◌, ◌≤◌, ◌<◌}
-use mathlib.Core.Bool.{Bool, true, false, ◌&&◌}
+use mathlib.Core.Bool.{Bool, true, false, ◌&&◌, cond}
 use mathlib.Core.List.{List}
 use mathlib.Core.Logic.{◌⊎◌, ⊎_elim}
 use mathlib.Core.Option.{some}
 use mathlib.Core.Path.{◌≡◌, refl, sym, ap, ◌∙◌}
 use native.Mathlib.Omega.{arith}
 use lib.ListN.{length, get_or, get_elem?}
-use lib.Dec.{leb}
-use borrow.Author.Tests.{leb-true}
+use lib.Dec.{leb, eqb}
+use borrow.Author.Tests.{leb-true, ne_eqb}
+use native.Mathlib.Numerals.{add-one}
 use Rattle.std.specs.Prelude.{Ok, Err}
 use Rattle.ol_spec.specs.Syntax.{Expr}
 use Rattle.ol_spec.specs.Read.{Read, got, fault, Reader, then_read, give, many_exprs, byte, number, name_r, coded, within?, count_r, bools, unary_ops}
 use Rattle.ol_spec.specs.Read.{bin_ops, ty_r, expr_codes, ExprCode, expr_body, expr_r, bool_code, int_code, float_code, char_code, var_code, unary_code}
-use Rattle.ol_spec.specs.Read.{binary_code, if_code, pre_code, arrow_code, cast_code, call_code, tuple_code}
+use Rattle.ol_spec.specs.Read.{binary_code, if_code, pre_code, arrow_code, cast_code, call_code, tuple_code, index_code, literal_code, iterator_code, Iterator, maps, folds, iterators, iterator_body}
 use Rattle.ol_spec.specs.Answers.{fault_at}
 use Rattle.ol_spec.specs.declared.Fault.{Fault}
 use Rattle.ol_spec.specs.declared.Limits.{Limits}
 use Rattle.ol_tables.specs.FormCodes.{code_of_form}
+use Rattle.ol_tables.specs.Heads.{Byte}
 use Rattle.ol_tables.specs.declared.form.Form.{Form}
 use Rattle.ol_tables.specs.declared.form.Form.TheVariants as Frm
+use Rattle.ol_tables.proofs.Forms.{code_is, iterator_of}
 use Rattle.ol_ir.specs.Nexts.{Counting, Next, counted_at, next_of, counted_of, onward, repeat}
-use Rattle.ol_ir.specs.Heads.{call_head, head_body, head_r}
+use Rattle.ol_ir.specs.Heads.{call_head, iterator_parts, iterator_head, head_body, head_r}
 use Rattle.ol_ir.proofs.Bytes.{same_count, coded_is}
 use Rattle.ol_ir.proofs.Onward.{parts_of, on_items, Chain, next_then, next_give, counted_then, exprs_next, repeat_one}
 
@@ -62,6 +65,59 @@ module _ (s : List ℕ) (most at : ℕ) {x : Next} (e : x ≡ next_of (number s 
 
   pub call_refused : {f : Fault} → x ≡ Err f → Err f ≡ counted_of (call_head s most at)
   call_refused {f} g = sym (call_fault (byte s at) f (sym (one_byte s at) ∙ sym e ∙ g))
+
+-- an iterator's kind is read, then its node's number and its count as a call's
+mapped : (ℕ → ℕ) → Counting → Counting
+mapped g (Ok c) = Ok (counted_at (g c.count) c.at)
+mapped g (Err f) = Err f
+
+module _ (s : List ℕ) (most : ℕ) where
+  counted_as : (g : ℕ → ℕ) (at : ℕ) → counted_of (then_read (byte s at) (λ k p. then_read (count_r s 0 most p) (λ n. give (g n)))) ≡ mapped g (counted_of (call_head s most at))
+  unfolding mapped counted_of then_read
+  counted_as g at = first (byte s at)
+    where
+      second : (r : Read ℕ) → counted_of (then_read r (λ n. give (g n))) ≡ mapped g (counted_of r)
+      second (got n p) = refl
+      second (fault n p) = refl
+
+      first : (r : Read ℕ) → counted_of (then_read r (λ k p. then_read (count_r s 0 most p) (λ n. give (g n)))) ≡ mapped g (counted_of (then_read r (λ k. count_r s 0 most)))
+      first (got k p) = second (count_r s 0 most p)
+      first (fault n p) = refl
+
+  module _ (at : ℕ) {x : Next} (e : x ≡ next_of (coded s iterators at)) where
+    kind_read : (r : Read Iterator) (p : ℕ) → next_of r ≡ Ok p → (w : Iterator) × (r ≡ got w p)
+    unfolding next_of
+    kind_read (got w q) p g = let z : q ≡ p = cc in (w, ap (got w) z)
+    kind_read (fault n q) p g = let z : ◌≡◌ {A = ℕ} 0 1 = cc in absurd (omega arith)
+
+    kind_fault : (r : Read Iterator) (k : Iterator → Reader ℕ) (f : Fault) → next_of r ≡ Err f → counted_of (then_read r k) ≡ Err f
+    unfolding next_of then_read counted_of
+    kind_fault (got w q) k f g = let z : ◌≡◌ {A = ℕ} 0 1 = cc in absurd (omega arith)
+    kind_fault (fault n q) k f g = let z : fault_at n q ≡ f = cc in ap Err z
+
+    pub kind_refused : {f : Fault} → x ≡ Err f → Err f ≡ counted_of (iterator_head s most at)
+    kind_refused {f} g = sym (kind_fault (coded s iterators at) _ f (sym e ∙ g))
+
+    module _ {p : ℕ} (g : x ≡ Ok p) {y : Counting} (i : y ≡ counted_of (call_head s most p)) where
+      iterator_counted : counted_of (iterator_head s most at) ≡ mapped (iterator_parts (cond (eqb (get_or s at 0) 1) folds maps)) y
+      unfolding then_read
+      iterator_counted =
+          let w = kind_read (coded s iterators at) p (sym e ∙ g) in
+          let k = (iterator_of s (get_or s at 0) w.0 (code_is s iterators at w.0 p w.1).is).1 in
+          ap (λ r. counted_of (then_read r (λ w q. then_read (byte s q) (λ k p. then_read (count_r s 0 most p) (λ n. give (iterator_parts w n)))))) w.1
+          ∙ counted_as (iterator_parts w.0) p ∙ ap (λ v. mapped (iterator_parts w.0) v) (sym i) ∙ ap (λ v. mapped (iterator_parts v) y) k
+
+      pub counted_fold : {n q b : ℕ} → y ≡ Ok (counted_at n q) → Byte s at b → b ≡ 1 → Ok (counted_at (n + 1) q) ≡ counted_of (iterator_head s most at)
+      unfolding mapped
+      counted_fold {n} {q} j b o = sym (iterator_counted ∙ rw (← b.is, o, j, add-one n) refl)
+
+      pub counted_map : {n q b : ℕ} → y ≡ Ok (counted_at n q) → Byte s at b → (b ≡ 1 → ⊥) → Ok (counted_at n q) ≡ counted_of (iterator_head s most at)
+      unfolding mapped
+      counted_map {b = c} j b o = sym (iterator_counted ∙ rw (← b.is, ne_eqb c 1 o, j) refl)
+
+      pub counted_refused : {f : Fault} → y ≡ Err f → Err f ≡ counted_of (iterator_head s most at)
+      unfolding mapped
+      counted_refused j = sym (iterator_counted ∙ ap (λ v. mapped (iterator_parts (cond (eqb (get_or s at 0) 1) folds maps)) v) j)
 
 module _ (s : List ℕ) (l : Limits) (enums : ℕ) where
   module _ (at : ℕ) where
@@ -122,6 +178,11 @@ module _ (s : List ℕ) (l : Limits) (enums : ℕ) where
     unfolding next_of repeat
     no_part h g = after h (λ a. give (g a)) 0 (λ a p. refl)
 
+    iterated : (w : Iterator) (k n o : ℕ) → next_of (iterator_body s l enums r k n w o) ≡ parts (iterator_parts w n) o
+    unfolding repeat
+    iterated maps k n o = next_give (many_exprs n r o) _ ∙ exprs_next r n o
+    iterated folds k n o = next_then (r o) _ _ (λ e m. next_give (many_exprs n r m) _ ∙ exprs_next r n m)
+
     body_head : (c : ExprCode) (p : ℕ) → next_of (expr_body s l enums r c p) ≡ on_items (counted_of (head_body s l enums c p)) parts
     unfolding counted_of on_items
     body_head bool_code p = no_part (coded s bools p) _
@@ -137,6 +198,9 @@ module _ (s : List ℕ) (l : Limits) (enums : ℕ) where
     body_head cast_code p = after (ty_r s l enums p) _ 1 (λ t q. one_part _ q)
     body_head call_code p = join (byte s p) _ _ (λ k q. counted_then (count_r s 0 l.arguments q) _ _ (λ n m. next_give (many_exprs n r m) _ ∙ exprs_next r n m))
     body_head tuple_code p = counted_then (count_r s 2 l.items p) _ _ (λ n q. next_give (many_exprs n r q) _ ∙ exprs_next r n q)
+    body_head index_code p = two_parts _ p
+    body_head literal_code p = counted_then (count_r s 1 l.elements p) _ _ (λ n q. next_give (many_exprs n r q) _ ∙ exprs_next r n q)
+    body_head iterator_code p = join (coded s iterators p) _ _ (λ w q. join (byte s q) _ _ (λ k m. join (count_r s 0 l.arrays m) _ _ (λ n o. iterated w k n o)))
 
   pub expr_head : (n at : ℕ) → next_of (expr_r s l enums (suc n) at) ≡ on_items (counted_of (head_r s l enums at)) (λ j q. repeat j (λ p. next_of (expr_r s l enums n p)) q)
   unfolding expr_r head_r
@@ -183,7 +247,14 @@ few m n p (fault a q) e h = let z : ◌≡◌ {A = ℕ} 0 1 = cc in absurd (omeg
 
 module _ (s : List ℕ) (l : Limits) (enums : ℕ) where
   abbrev pub most_parts : ℕ
-  most_parts = 3 + (l.arguments + l.items)
+  most_parts = 3 + (l.arguments + l.items + l.elements + l.arrays)
+
+  below_seed : (w : Iterator) (r : Read ℕ) → Below l.arrays r → Below most_parts (then_read r (λ n. give (iterator_parts w n)))
+  unfolding Below then_read
+  below_seed maps (got n p) h = omega arith
+  below_seed folds (got n p) h = omega arith
+  below_seed maps (fault n p) h = tt
+  below_seed folds (fault n p) h = tt
 
   below_body : (c : ExprCode) (p : ℕ) → Below most_parts (head_body s l enums c p)
   unfolding Below
@@ -200,6 +271,10 @@ module _ (s : List ℕ) (l : Limits) (enums : ℕ) where
   below_body cast_code p = below_then most_parts (ty_r s l enums p) _ (λ a q. omega arith)
   below_body call_code p = below_then most_parts (byte s p) _ (λ a q. below_count most_parts s 0 l.arguments q (omega arith))
   below_body tuple_code p = below_count most_parts s 2 l.items p (omega arith)
+  below_body index_code p = omega arith
+  below_body literal_code p = below_count most_parts s 1 l.elements p (omega arith)
+  below_body iterator_code p =
+      below_then most_parts (coded s iterators p) _ (λ w q. below_then most_parts (byte s q) _ (λ k m. below_seed w (count_r s 0 l.arrays m) (below_count l.arrays s 0 l.arrays m (omega arith))))
 
   below_head : (at : ℕ) → Below most_parts (head_r s l enums at)
   unfolding head_r

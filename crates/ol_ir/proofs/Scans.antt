@@ -10,7 +10,7 @@ use native.Mathlib.Omega.{arith}
 use borrow.Author.Tests.{lt-ltb, le-ltb, eq-eqb, ne_eqb}
 use lib.ListN.{length, get_or, get_elem?}
 use Rattle.std.specs.Prelude.{Ok, Err}
-use Rattle.ol_spec.specs.Syntax.{Expr, bool_lit, int_lit, float_lit, char_lit, var, unary, binary, if_then_else, pre, arrow, cast, call, tuple, count}
+use Rattle.ol_spec.specs.Syntax.{Expr, bool_lit, int_lit, float_lit, char_lit, var, unary, binary, if_then_else, pre, arrow, cast, call, tuple, index, literal, map_over, fold_over, count}
 use Rattle.ol_spec.specs.Places.{expr_size}
 use Rattle.ol_spec.specs.Read.{got, then_read, byte, number, name_r, coded, expr_codes, ExprCode, expr_body, expr_r, var_code, pre_code}
 use Rattle.ol_spec.specs.Answers.{fault_at}
@@ -95,6 +95,10 @@ module _ (s : List ℕ) (l : Limits) (enums d at : ℕ) (e : Expr) (n : ℕ) (g 
   other (cast t f) u v = refl
   other (call k es) u v = refl
   other (tuple es) u v = refl
+  other (index a i) u v = refl
+  other (literal es) u v = refl
+  other (map_over k es) u v = refl
+  other (fold_over k f es) u v = refl
 
   scan_parts : (get_or s at 0 ≡ 4 → ⊥) → (get_or s at 0 ≡ 8 → ⊥) → Scn.Parts (parts_at s at) (next_at s at) ≡ scan_of at e
   scan_parts u v =

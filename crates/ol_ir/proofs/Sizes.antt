@@ -11,12 +11,12 @@ use lib.ListN.{length, get_elem?}
 use lib.Dec.{leb}
 use Rattle.ol_spec.specs.Lists.{sum, up_to}
 use Rattle.ol_spec.specs.Numbers.{signed}
-use Rattle.ol_spec.specs.Syntax.{Ty, Expr, Exprs, count}
-use Rattle.ol_spec.specs.Places.{ty_size, expr_size, exprs_size, variable_size, equation_size, enum_size, constant_size, section_size, node_size}
+use Rattle.ol_spec.specs.Syntax.{Ty, VarTy, Expr, Exprs, count}
+use Rattle.ol_spec.specs.Places.{ty_size, var_ty_size, expr_size, exprs_size, variable_size, equation_size, enum_size, constant_size, section_size, node_size}
 use Rattle.ol_spec.specs.Read.{got, fault, Reader, then_read, give, known, many, many_exprs, byte, number, name_r, coded, within?, count_r, section_r}
-use Rattle.ol_spec.specs.Read.{TyCode, bool_t, float32_t, float64_t, char_t, enum_t, int_t, ty_codes, ty_body, ty_r, expr_codes, ExprCode, expr_body, expr_r}
+use Rattle.ol_spec.specs.Read.{TyCode, bool_t, float32_t, float64_t, char_t, enum_t, int_t, ty_codes, ty_body, ty_r, VarTyCode, scalar_t, array_t, var_ty_codes, var_ty_body, var_ty_r, expr_codes, ExprCode, expr_body, expr_r}
 use Rattle.ol_spec.specs.Read.{root_r, bool_code, int_code, float_code, char_code, var_code, unary_code, binary_code, if_code, pre_code, arrow_code, cast_code}
-use Rattle.ol_spec.specs.Read.{call_code, tuple_code, bools, unary_ops, bin_ops, node_kinds, variable_r, constant_r, equation_r, node_r, enum_r}
+use Rattle.ol_spec.specs.Read.{call_code, tuple_code, index_code, literal_code, iterator_code, Iterator, maps, folds, iterators, iterator_body, bools, unary_ops, bin_ops, node_kinds, variable_r, constant_r, equation_r, node_r, enum_r}
 use Rattle.ol_spec.specs.declared.Limits.{Limits}
 use Rattle.ol_spec.proofs.Offsets.{steps, same_item, same_end}
 use Rattle.ol_ir.proofs.Bytes.{byte_in, byte_out}
@@ -120,16 +120,23 @@ module _ (s : List ℕ) where
   -- ---- types and expressions
 
   module _ (l : Limits) (enums : ℕ) where
+    takes_ty_body : (c : TyCode) (m : ℕ) → m ≡ 1 → Takes s (ty_body s l enums c) (λ t j. m + j ≡ ty_size t)
+    takes_ty_body bool_t m p = given s Ty.bool _ (omega arith)
+    takes_ty_body float32_t m p = given s Ty.float32 _ (omega arith)
+    takes_ty_body float64_t m p = given s Ty.float64 _ (omega arith)
+    takes_ty_body char_t m p = given s Ty.char _ (omega arith)
+    takes_ty_body enum_t m p = bind s (coded s (up_to enums)) _ _ _ (takes_coded (up_to enums)) (λ e j q. given s (Ty.enum e) _ (omega arith))
+    takes_ty_body (int_t c) m p = given s (Ty.int c) _ (omega arith)
+
     pub takes_ty : Takes s (ty_r s l enums) (λ t m. m ≡ ty_size t)
-    takes_ty = bind s (coded s ty_codes) _ _ _ (takes_coded ty_codes) (λ c m p. go c m p)
+    takes_ty = bind s (coded s ty_codes) _ _ _ (takes_coded ty_codes) (λ c m p. takes_ty_body c m p)
+
+    pub takes_var_ty : Takes s (var_ty_r s l enums) (λ t m. m ≡ var_ty_size t)
+    takes_var_ty = bind s (coded s var_ty_codes) _ _ _ (takes_coded var_ty_codes) (λ c m p. go c m p)
       where
-        go : (c : TyCode) (m : ℕ) → m ≡ 1 → Takes s (ty_body s l enums c) (λ t j. m + j ≡ ty_size t)
-        go bool_t m p = given s Ty.bool _ (omega arith)
-        go float32_t m p = given s Ty.float32 _ (omega arith)
-        go float64_t m p = given s Ty.float64 _ (omega arith)
-        go char_t m p = given s Ty.char _ (omega arith)
-        go enum_t m p = bind s (coded s (up_to enums)) _ _ _ (takes_coded (up_to enums)) (λ e j q. given s (Ty.enum e) _ (omega arith))
-        go (int_t c) m p = given s (Ty.int c) _ (omega arith)
+        go : (c : VarTyCode) (m : ℕ) → m ≡ 1 → Takes s (var_ty_body s l enums c) (λ t j. m + j ≡ var_ty_size t)
+        go (scalar_t c) m p = bind s (ty_body s l enums c) _ _ _ (takes_ty_body c m p) (λ t j q. given s (VarTy.scalar t) _ (omega arith))
+        go array_t m p = bind s (count_r s 1 l.elements) _ _ _ (takes_count 1 l.elements) (λ n j q. bind s (ty_r s l enums) _ _ _ takes_ty (λ t k u. given s (VarTy.array n t) _ (omega arith)))
 
     module _ (r : Reader Expr) (h : Takes s r (λ e m. m ≡ expr_size e)) where
       takes_body : (c : ExprCode) (n : ℕ) → n ≡ 1 → Takes s (expr_body s l enums r c) (λ e m. n + m ≡ expr_size e)
@@ -149,6 +156,17 @@ module _ (s : List ℕ) where
           bind s (many_exprs c r) _ _ _ (takes_exprs r h c) (λ es o t. given s (Expr.call k es) _ (omega (arith, t.0)))))
       takes_body tuple_code n i =
           bind s (count_r s 2 l.items) _ _ _ (takes_count 2 l.items) (λ c j q. bind s (many_exprs c r) _ _ _ (takes_exprs r h c) (λ es o t. given s (Expr.tuple es) _ (omega (arith, t.0))))
+      takes_body index_code n i = bind s r _ _ _ h (λ a j q. bind s r _ _ _ h (λ b k t. given s (Expr.index a b) _ (omega arith)))
+      takes_body literal_code n i =
+          bind s (count_r s 1 l.elements) _ _ _ (takes_count 1 l.elements) (λ c j q. bind s (many_exprs c r) _ _ _ (takes_exprs r h c) (λ es o t. given s (Expr.literal es) _ (omega (arith, t.0))))
+      takes_body iterator_code n i =
+          bind s (coded s iterators) _ _ _ (takes_coded iterators) (λ w m p. bind s (byte s) _ _ _ takes_byte (λ k j q.
+          bind s (count_r s 0 l.arrays) _ _ _ (takes_count 0 l.arrays) (λ c o t. iterated w k c n m j o (omega arith))))
+        where
+          iterated : (w : Iterator) (k c n m j o : ℕ) → n + (m + (j + o)) ≡ 4 → Takes s (iterator_body s l enums r k c w) (λ e i. n + (m + (j + (o + i))) ≡ expr_size e)
+          iterated maps k c n m j o p = bind s (many_exprs c r) _ _ _ (takes_exprs r h c) (λ es u t. given s (Expr.map_over k es) _ (omega (arith, t.0)))
+          iterated folds k c n m j o p =
+              bind s r _ _ _ h (λ e v q. bind s (many_exprs c r) _ _ _ (takes_exprs r h c) (λ es u t. given s (Expr.fold_over k e es) _ (omega (arith, t.0))))
 
     pub takes_expr : (k : ℕ) → Takes s (expr_r s l enums k) (λ e m. m ≡ expr_size e)
     unfolding expr_r
@@ -158,11 +176,11 @@ module _ (s : List ℕ) where
     -- ---- the items of a file
 
     pub takes_variable : Takes s (variable_r s l enums) (λ v m. m ≡ variable_size v)
-    takes_variable = bind s (name_r s) _ _ _ takes_name (λ x m p. bind s (ty_r s l enums) _ _ _ takes_ty (λ t j q. given s (record { name = x; ty = t }) _ (omega arith)))
+    takes_variable = bind s (name_r s) _ _ _ takes_name (λ x m p. bind s (var_ty_r s l enums) _ _ _ takes_var_ty (λ t j q. given s (record { name = x; ty = t }) _ (omega arith)))
 
     pub takes_constant : Takes s (constant_r s l enums) (λ c m. m ≡ constant_size c)
     takes_constant =
-        bind s (name_r s) _ _ _ takes_name (λ x m p. bind s (ty_r s l enums) _ _ _ takes_ty (λ t j q.
+        bind s (name_r s) _ _ _ takes_name (λ x m p. bind s (var_ty_r s l enums) _ _ _ takes_var_ty (λ t j q.
         bind s (root_r s l enums) _ _ _ (takes_expr l.nesting) (λ e k u. given s (record { name = x; ty = t; value = e }) _ (omega arith))))
 
     pub takes_equation : Takes s (equation_r s l enums) (λ q m. m ≡ equation_size q)

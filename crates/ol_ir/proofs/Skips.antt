@@ -1,21 +1,23 @@
 -- Expressions and equations that were read, passed over head by head: what is left are expressions, one behind the other.
 use Prim.Native.Nat.{ℕ, zero, suc, ◌+◌, ◌-◌, ◌*◌, ◌≤◌, ◌<◌}
+use mathlib.Core.Bool.{Bool, true, false, cond}
 use mathlib.Core.List.{List, [], ◌∷◌, ◌++◌, map}
 use mathlib.Core.Logic.{by_cases}
 use mathlib.Core.Path.{◌≡◌, refl, sym, ap, ap₂, subst, ◌∙◌}
 use native.Mathlib.Decide.{dec_le, ℕ_discrete}
 use native.Mathlib.Numerals.{add-one}
 use native.Mathlib.Omega.{arith}
+use lib.Dec.{eqb}
 use lib.ListN.{length, get_or, set}
 use lib.Seq.{sets}
-use borrow.Author.Tests.{lt-ltb, eq-eqb, ne_eqb}
+use borrow.Author.Tests.{lt-ltb, ne_eqb}
 use Rattle.std.specs.Prelude.{Ok, Err}
 use Rattle.ol_spec.specs.Lists.{up_to}
-use Rattle.ol_spec.specs.Syntax.{Expr, bool_lit, int_lit, float_lit, char_lit, var, unary, binary, if_then_else, pre, arrow, cast, call, tuple, Exprs, nil}
+use Rattle.ol_spec.specs.Syntax.{Expr, bool_lit, int_lit, float_lit, char_lit, var, unary, binary, if_then_else, pre, arrow, cast, call, tuple, index, literal, map_over, fold_over, Exprs, nil}
 use Rattle.ol_spec.specs.Syntax.{cons, count, Equation, Node}
 use Rattle.ol_spec.specs.Places.{rhs_place, equation_size, equations_start, placed_equations}
 use Rattle.ol_spec.specs.Eval.{callees_all}
-use Rattle.ol_spec.specs.Read.{Read, got, fault, Reader, many, many_exprs, byte, coded, count_r, name_r, ty_r, expr_r, equation_r, node_r, cast_code, call_code, tuple_code}
+use Rattle.ol_spec.specs.Read.{Read, got, fault, Reader, many, many_exprs, byte, coded, count_r, name_r, ty_r, expr_r, equation_r, node_r, cast_code, call_code, tuple_code, index_code, literal_code, iterator_code, maps, folds, iterators}
 use Rattle.ol_spec.specs.Answers.{fault_at}
 use Rattle.ol_spec.specs.declared.Fault.{Fault}
 use Rattle.ol_spec.specs.declared.Limits.{Limits}
@@ -24,10 +26,11 @@ use Rattle.ol_tables.specs.Heads.{code_of, head_size, parts_of, joined, parts_ta
 use Rattle.ol_tables.specs.At.{limits_at, enums_at, exprs_at, ends_at, ReadsAll}
 use Rattle.ol_tables.specs.Parts.{own_sites}
 use Rattle.ol_tables.specs.Walks.{skip_by, skip_at, sites_by, sites_at}
-use Rattle.ol_tables.proofs.Forms.{reads, reads_in, parted, none_read, own_read}
+use Rattle.ol_tables.proofs.Forms.{reads, reads_in, parted, none_read, own_read, code_is, iterator_of}
 use Rattle.ol_tables.proofs.HeadLaws.{head_some}
 use Rattle.ol_tables.proofs.Skipping.{count_size, callees_on, walk_next, walk_none}
 use Rattle.ol_ir.specs.Nexts.{Counting, Next, counted_at, next_of, counted_of}
+use Rattle.ol_ir.specs.Heads.{iterator_parts}
 use Rattle.ol_ir.specs.Nodes.{interface_r, equations_r}
 use Rattle.ol_ir.specs.Walks.{place_of, on_places, places_of, after_read, skip_equation_at, equation_places, start_places}
 use Rattle.ol_ir.proofs.Bytes.{CountIs, counted_is}
@@ -84,8 +87,12 @@ fixed (arrow a b) h = (refl, refl)
 fixed (cast t e) h = absurd (omega arith)
 fixed (call k es) h = absurd (omega arith)
 fixed (tuple es) h = absurd (omega arith)
+fixed (index a i) h = absurd (omega arith)
+fixed (literal es) h = absurd (omega arith)
+fixed (map_over k es) h = absurd (omega arith)
+fixed (fold_over k s es) h = absurd (omega arith)
 
-no_more : (e : Expr) → code_of e ≤ 12
+no_more : (e : Expr) → code_of e ≤ 15
 no_more (bool_lit b) = omega arith
 no_more (int_lit i) = omega arith
 no_more (float_lit b) = omega arith
@@ -99,6 +106,10 @@ no_more (arrow a b) = omega arith
 no_more (cast t e) = omega arith
 no_more (call k es) = omega arith
 no_more (tuple es) = omega arith
+no_more (index a i) = omega arith
+no_more (literal es) = omega arith
+no_more (map_over k es) = omega arith
+no_more (fold_over k s es) = omega arith
 
 -- where a type ends that was read
 module _ (s : List ℕ) (l : Limits) (enums at p : ℕ) (e : next_of (ty_r s l enums at) ≡ Ok p) where
@@ -113,6 +124,9 @@ module _ (s : List ℕ) (l : Limits) (enums at p : ℕ) (e : next_of (ty_r s l e
       let w = from_next (coded s (up_to enums) (at + 1)) p (ty_enum s l enums at type_inside b ∙ e) in
       let t = (takes_coded s (up_to enums)).is (at + 1) w.0 p w.1 in
       omega (arith, t.ends, t.holds)
+
+  type_scalar : get_or s at 0 ≡ 13 → ⊥
+  type_scalar b = no_type (fault_at 3 at) (ty_none s l enums at type_inside (omega arith))
 
   type_one : (get_or s at 0 ≡ 12 → ⊥) → p ≡ at + 1
   type_one b =
@@ -143,8 +157,8 @@ module _ (s : List ℕ) (l : Limits) (enums d at : ℕ) (e : Expr) (n : ℕ) (r 
       let t = steps (ty_r s l enums (at + 1)) _ (count (parts_of e)) (at + head_size e) (sym (head_is s l enums at 10 cast_code x.inside c refl) ∙ x.head) in
       let q : next_of (ty_r s l enums (at + 1)) ≡ Ok (at + head_size e) = ap next_of t.first ∙ ap Ok (same_end t.rest) in
       let size : at + 1 + ty_size_at s (at + 1) ≡ at + head_size e =
-      by_cases (ℕ_discrete (get_or s (at + 1) 0) 12) (λ y. rw (eq-eqb (get_or s (at + 1) 0) 12 y) (omega (arith, type_two s l enums (at + 1) (at + head_size e) q y)))
-      (λ z. rw (ne_eqb (get_or s (at + 1) 0) 12 z) (omega (arith, type_one s l enums (at + 1) (at + head_size e) q z))) in
+      by_cases (ℕ_discrete (get_or s (at + 1) 0) 12) (λ y. rw y (omega (arith, type_two s l enums (at + 1) (at + head_size e) q y)))
+      (λ z. rw (ne_eqb (get_or s (at + 1) 0) 13 (type_scalar s l enums (at + 1) (at + head_size e) q), ne_eqb (get_or s (at + 1) 0) 12 z) (omega (arith, type_one s l enums (at + 1) (at + head_size e) q z))) in
       (rw c (same_item t.rest), rw (lt-ltb at (length s) x.inside, c) size)
 
   -- a call: its count of arguments stands behind the node's number
@@ -166,12 +180,52 @@ module _ (s : List ℕ) (l : Limits) (enums d at : ℕ) (e : Expr) (n : ℕ) (r 
       let w = counted_is s 2 l.items (at + 1) (count (parts_of e)) (at + head_size e) (sym (ap counted_of (sym (head_is s l enums at 12 tuple_code x.inside c refl) ∙ x.head))) in
       (rw c (sym w.value), rw (lt-ltb at (length s) x.inside, c) (omega (arith, w.next)))
 
+  -- an index has two parts
+  told_index : get_or s at 0 ≡ 13 → Told
+  told_index c =
+      let x = read in
+      let h : got 2 (at + 1) ≡ got (count (parts_of e)) (at + head_size e) = sym (head_is s l enums at 13 index_code x.inside c refl) ∙ x.head in
+      (rw c (same_item h), rw (lt-ltb at (length s) x.inside, c) (same_end h))
+
+  -- a literal: its count stands behind the code
+  told_literal : get_or s at 0 ≡ 14 → Told
+  unfolding counted_of
+  told_literal c =
+      let x = read in
+      let w = counted_is s 1 l.elements (at + 1) (count (parts_of e)) (at + head_size e) (sym (ap counted_of (sym (head_is s l enums at 14 literal_code x.inside c refl) ∙ x.head))) in
+      (rw c (sym w.value), rw (lt-ltb at (length s) x.inside, c) (omega (arith, w.next)))
+
+  -- an iterator: its kind, its node's number and its count of arrays stand behind the code
+  seeds : (b : Bool) (n : ℕ) → iterator_parts (cond b folds maps) n ≡ n + cond b 1 0
+  seeds true n = omega arith
+  seeds false n = omega arith
+
+  told_iterator : get_or s at 0 ≡ 15 → Told
+  unfolding counted_of
+  told_iterator c =
+      let x = read in
+      let t = steps (coded s iterators (at + 1)) _ (count (parts_of e)) (at + head_size e) (sym (head_is s l enums at 15 iterator_code x.inside c refl) ∙ x.head) in
+      let k = code_is s iterators (at + 1) t.value t.at t.first in
+      let w = (iterator_of s (get_or s (at + 1) 0) t.value k.is).1 in
+      let b = steps (byte s t.at) _ (count (parts_of e)) (at + head_size e) t.rest in
+      let u = (takes_byte s).is t.at b.value b.at b.first in
+      let v = steps (count_r s 0 l.arrays b.at) _ (count (parts_of e)) (at + head_size e) b.rest in
+      let o = counted_is s 0 l.arrays b.at v.value v.at (sym (ap counted_of v.first)) in
+      let p : b.at ≡ at + 3 = omega (arith, k.ends, u.ends, u.holds) in
+      let many : v.value ≡ get_or s (at + 3) 0 = o.value ∙ ap (λ n. get_or s n 0) p in
+      let parts : get_or s (at + 3) 0 + cond (eqb (get_or s (at + 1) 0) 1) 1 0 ≡ count (parts_of e) =
+      sym (seeds (eqb (get_or s (at + 1) 0) 1) (get_or s (at + 3) 0)) ∙ ap₂ iterator_parts (sym w) (sym many) ∙ same_item v.rest in
+      (rw c parts, rw (lt-ltb at (length s) x.inside, c) (omega (arith, o.next, p, same_end v.rest)))
+
   pub head_told : (parts_at s at ≡ count (parts_of e)) × (next_at s at ≡ at + head_size e)
   head_told =
       let c = read.code in
       by_cases (dec_le 10 (code_of e))
       (λ high. by_cases (ℕ_discrete (code_of e) 10) (λ y. told_cast (c ∙ y))
-      (λ z. by_cases (ℕ_discrete (code_of e) 11) (λ y. told_call (c ∙ y)) (λ w. told_tuple (omega (arith, c, no_more e)))))
+      (λ z. by_cases (ℕ_discrete (code_of e) 11) (λ y. told_call (c ∙ y))
+      (λ w. by_cases (ℕ_discrete (code_of e) 12) (λ y. told_tuple (c ∙ y))
+      (λ v. by_cases (ℕ_discrete (code_of e) 13) (λ y. told_index (c ∙ y))
+      (λ u. by_cases (ℕ_discrete (code_of e) 14) (λ y. told_literal (c ∙ y)) (λ t. told_iterator (omega (arith, c, no_more e))))))))
       (λ low. told_fixed (omega arith))
 
 -- ---- a walk over expressions

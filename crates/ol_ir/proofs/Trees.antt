@@ -7,16 +7,16 @@ use mathlib.Core.Path.{◌≡◌, refl, sym, ap, subst, ◌∙◌}
 use native.Mathlib.Decide.{dec_le}
 use native.Mathlib.Omega.{arith}
 use lib.ListN.{length, get_or, get_elem?}
-use Rattle.ol_spec.specs.Syntax.{Expr, bool_lit, int_lit, float_lit, char_lit, var, unary, binary, if_then_else, pre, arrow, cast, call, tuple, Exprs, nil}
+use Rattle.ol_spec.specs.Syntax.{Expr, bool_lit, int_lit, float_lit, char_lit, var, unary, binary, if_then_else, pre, arrow, cast, call, tuple, index, literal, map_over, fold_over, Exprs, nil}
 use Rattle.ol_spec.specs.Syntax.{cons, count}
 use Rattle.ol_spec.specs.Numbers.{signed}
 use Rattle.ol_spec.specs.Places.{ty_size, expr_size}
 use Rattle.ol_spec.specs.Read.{Read, got, fault, Reader, then_read, give, many_exprs, byte, number, name_r, coded, count_r, ty_r, expr_codes}
 use Rattle.ol_spec.specs.Read.{ExprCode, expr_body, expr_r, bool_code, int_code, float_code, char_code, var_code, unary_code, binary_code, if_code, pre_code}
-use Rattle.ol_spec.specs.Read.{arrow_code, cast_code, call_code, tuple_code, bools, unary_ops, bin_ops}
+use Rattle.ol_spec.specs.Read.{arrow_code, cast_code, call_code, tuple_code, index_code, literal_code, iterator_code, Iterator, maps, folds, iterators, iterator_body, bools, unary_ops, bin_ops}
 use Rattle.ol_spec.specs.declared.Limits.{Limits}
 use Rattle.ol_spec.proofs.Offsets.{steps, same_end, same_item}
-use Rattle.ol_ir.specs.Heads.{head_body, head_r}
+use Rattle.ol_ir.specs.Heads.{iterator_parts, head_body, head_r}
 use Rattle.ol_tables.specs.Heads.{code_of, head_size, parts_of}
 use Rattle.ol_ir.proofs.Bytes.{coded_is, coded_none, coded_end}
 use Rattle.ol_ir.proofs.Sizes.{never, Takes, takes_byte, takes_number, takes_coded, takes_count, takes_exprs, takes_ty, takes_expr}
@@ -68,6 +68,13 @@ module _ (r t : Reader Expr) (h : (at : ℕ) → Keeps (r at) (t at)) where
     keeps_body cast_code at = after (ty_r s l enums at) _ _ (λ y n. keeps_one (cast y) n)
     keeps_body call_code at = after (byte s at) _ _ (λ k n. after (count_r s 0 l.arguments n) _ _ (λ j m. keeps_several (call k) j m))
     keeps_body tuple_code at = after (count_r s 2 l.items at) _ _ (λ j m. keeps_several tuple j m)
+    keeps_body index_code at = keeps_two index at
+    keeps_body literal_code at = after (count_r s 1 l.elements at) _ _ (λ j m. keeps_several literal j m)
+    keeps_body iterator_code at = after (coded s iterators at) _ _ (λ w p. after (byte s p) _ _ (λ k q. after (count_r s 0 l.arrays q) _ _ (λ j m. iterated w k j m)))
+      where
+        iterated : (w : Iterator) (k j m : ℕ) → Keeps (iterator_body s l enums r k j w m) (iterator_body s l enums t k j w m)
+        iterated maps k j m = keeps_several (map_over k) j m
+        iterated folds k j m = keeps_then (r m) (t m) _ _ (h m) (λ e n. keeps_several (fold_over k e) j n)
 
 module _ (s : List ℕ) (l : Limits) (enums : ℕ) where
   keeps_deeper : (k m : ℕ) → k ≤ m → (at : ℕ) → Keeps (expr_r s l enums k at) (expr_r s l enums m at)
@@ -95,6 +102,9 @@ number_of arrow_code = 9
 number_of cast_code = 10
 number_of call_code = 11
 number_of tuple_code = 12
+number_of index_code = 13
+number_of literal_code = 14
+number_of iterator_code = 15
 
 code_number_lem : (b : ℕ) (c : ExprCode) → get_elem? expr_codes b ≡ some c → b ≡ number_of c
 unfolding number_of
@@ -111,7 +121,10 @@ code_number_lem (suc (suc (suc (suc (suc (suc (suc (suc (suc zero))))))))) c e =
 code_number_lem (suc (suc (suc (suc (suc (suc (suc (suc (suc (suc zero)))))))))) c e = let z : cast_code ≡ c = cc in ap number_of z
 code_number_lem (suc (suc (suc (suc (suc (suc (suc (suc (suc (suc (suc zero))))))))))) c e = let z : call_code ≡ c = cc in ap number_of z
 code_number_lem (suc (suc (suc (suc (suc (suc (suc (suc (suc (suc (suc (suc zero)))))))))))) c e = let z : tuple_code ≡ c = cc in ap number_of z
-code_number_lem (suc (suc (suc (suc (suc (suc (suc (suc (suc (suc (suc (suc (suc b))))))))))))) c e = let z : ◌≡◌ {A = ℕ} 0 1 = cc in absurd (omega arith)
+code_number_lem (suc (suc (suc (suc (suc (suc (suc (suc (suc (suc (suc (suc (suc zero))))))))))))) c e = let z : index_code ≡ c = cc in ap number_of z
+code_number_lem (suc (suc (suc (suc (suc (suc (suc (suc (suc (suc (suc (suc (suc (suc zero)))))))))))))) c e = let z : literal_code ≡ c = cc in ap number_of z
+code_number_lem (suc (suc (suc (suc (suc (suc (suc (suc (suc (suc (suc (suc (suc (suc (suc zero))))))))))))))) c e = let z : iterator_code ≡ c = cc in ap number_of z
+code_number_lem (suc (suc (suc (suc (suc (suc (suc (suc (suc (suc (suc (suc (suc (suc (suc (suc b)))))))))))))))) c e = let z : ◌≡◌ {A = ℕ} 0 1 = cc in absurd (omega arith)
 
 -- a byte that is a code
 record CodeAt (s : List ℕ) (at : ℕ) (c : ExprCode) (p : ℕ) : Type 0 where
@@ -203,6 +216,15 @@ module _ (r : Reader Expr) (b size q : ℕ) (e : Expr) (n : ℕ) where
       let u = (takes_exprs s r h k).is q t.value t.at t.first in
       made k (g t.value) t.value t.at t.first u.holds.1 (pt t.value) (cd t.value) (sz t.value) t.rest
 
+  -- one part, and so many behind it
+  seeded : (s : List ℕ) (k : ℕ) → Takes s r (λ a m. m ≡ expr_size a) → (g : Expr → Exprs → Expr) → ((x : Expr) (es : Exprs) → parts_of (g x es) ≡ cons x es) → ((x : Expr) (es : Exprs) → b ≡ code_of (g x es)) → ((x : Expr) (es : Exprs) → head_size (g x es) ≡ size) → then_read (r q) (λ x p. then_read (many_exprs k r p) (λ es. give (g x es))) ≡ got e n → PartsAt r (suc k) b size q e n
+  seeded s k h g pt cd sz f =
+      let t = steps (r q) _ e n f in
+      let u = steps (many_exprs k r t.at) _ e n t.rest in
+      let v = (takes_exprs s r h k).is t.at u.value u.at u.first in
+      made (suc k) (g t.value u.value) (cons t.value u.value) u.at (many_cons r k q t.first u.first) (ap suc v.holds.1)
+      (pt t.value u.value) (cd t.value u.value) (sz t.value u.value) u.rest
+
 module _ (s : List ℕ) (l : Limits) (enums : ℕ) (r : Reader Expr) (h : Takes s r (λ e m. m ≡ expr_size e)) (at : ℕ) where
   abbrev Body : ExprCode → Expr → ℕ → Type 0
   Body c e n = BodyAt s l enums r c at e n
@@ -264,6 +286,35 @@ module _ (s : List ℕ) (l : Limits) (enums : ℕ) (r : Reader Expr) (h : Takes 
         head = c.first ∙ rw p.many (ap (got c.value) q);
         parts = rw (p.many, ← q) p.parts;
       }
+  body_at index_code e n f = at_once index_code 2 e n (λ p. refl) (two_parts r 13 1 (at + 1) e n index (λ a b. refl) (λ a b. refl) (λ a b. refl) f)
+  body_at literal_code e n f =
+      let c = steps (count_r s 1 l.elements (at + 1)) _ e n f in
+      let v = (takes_count s 1 l.elements).is (at + 1) c.value c.at c.first in
+      let p = several r 14 2 c.at e n s c.value h literal (λ es. refl) (λ es. refl) (λ es. refl) c.rest in
+      let q : c.at ≡ at + head_size e = omega (arith, v.ends, v.holds, p.head) in
+      record {
+        code = p.code;
+        head = c.first ∙ rw p.many (ap (got c.value) q);
+        parts = rw (p.many, ← q) p.parts;
+      }
+  body_at iterator_code e n f =
+      let t = steps (coded s iterators (at + 1)) _ e n f in
+      let u = (takes_coded s iterators).is (at + 1) t.value t.at t.first in
+      let b = steps (byte s t.at) _ e n t.rest in
+      let v = (takes_byte s).is t.at b.value b.at b.first in
+      let c = steps (count_r s 0 l.arrays b.at) _ e n b.rest in
+      let w = (takes_count s 0 l.arrays).is b.at c.value c.at c.first in
+      let p = iterated t.value b.value c.value c.at e n c.rest in
+      let q : c.at ≡ at + head_size e = omega (arith, u.ends, u.holds, v.ends, v.holds, w.ends, w.holds, p.head) in
+      record {
+        code = p.code;
+        head = then_got (coded s iterators (at + 1)) _ t.first ∙ then_got (byte s t.at) _ b.first ∙ then_got (count_r s 0 l.arrays b.at) _ c.first ∙ rw p.many (ap (got (iterator_parts t.value c.value)) q);
+        parts = rw (p.many, ← q) p.parts;
+      }
+    where
+      iterated : (w : Iterator) (k c q : ℕ) (e : Expr) (n : ℕ) → iterator_body s l enums r k c w q ≡ got e n → PartsAt r (iterator_parts w c) 15 4 q e n
+      iterated maps k c q e n g = several r 15 4 q e n s c h (map_over k) (λ es. refl) (λ es. refl) (λ es. refl) g
+      iterated folds k c q e n g = seeded r 15 4 q e n s c h (fold_over k) (λ x es. refl) (λ x es. refl) (λ x es. refl) g
 
 -- ---- an expression where it stands
 

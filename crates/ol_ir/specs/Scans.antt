@@ -1,6 +1,6 @@
 -- What a scan for reads finds.
-use Rattle.std.specs.Prelude.{ℕ, ◌+◌, cond, List, ltb, eqb, length, get_or}
-use Rattle.ol_spec.specs.Syntax.{Expr, bool_lit, int_lit, float_lit, char_lit, var, unary, binary, if_then_else, pre, arrow, cast, call, tuple, count}
+use Rattle.std.specs.Prelude.{ℕ, suc, ◌+◌, cond, List, ltb, eqb, length, get_or}
+use Rattle.ol_spec.specs.Syntax.{Expr, bool_lit, int_lit, float_lit, char_lit, var, unary, binary, if_then_else, pre, arrow, cast, call, tuple, index, literal, map_over, fold_over, count}
 use Rattle.ol_spec.specs.Places.{ty_size, expr_size}
 use Rattle.ol_tables.specs.Heads.{name_at, parts_at, next_at}
 use Rattle.ol_tables.specs.Walks.{skip_at}
@@ -22,6 +22,10 @@ scan_of at (arrow a b) = Scn.Parts 2 (at + 1)
 scan_of at (cast t e) = Scn.Parts 1 (at + (1 + ty_size t))
 scan_of at (call k es) = Scn.Parts (count es) (at + 3)
 scan_of at (tuple es) = Scn.Parts (count es) (at + 2)
+scan_of at (index a i) = Scn.Parts 2 (at + 1)
+scan_of at (literal es) = Scn.Parts (count es) (at + 2)
+scan_of at (map_over k es) = Scn.Parts (count es) (at + 4)
+scan_of at (fold_over k e es) = Scn.Parts (suc (count es)) (at + 4)
 
 -- the same by the bytes, whatever they are: in the file; and at any place, with no part and no byte where the file ends
 abbrev pub scan_inside : List ℕ → ℕ → Scan

@@ -1,17 +1,17 @@
 // Expressions: operator first, the parts directly behind it.
-ghost use Rattle.std.specs.Prelude.{◌≡◌, ℕ, ◌<◌, MatchResult, length, get_or};
+ghost use Rattle.std.specs.Prelude.{◌≡◌, ℕ, ◌<◌, IfOk, MatchResult, length, get_or};
 ghost use Rattle.ol_spec.specs.Read.{many_exprs, expr_r, coded, expr_codes, fault};
 ghost use Rattle.ol_spec.specs.declared.Limits.{Limits};
 ghost use Rattle.ol_tables.specs.FormCodes.{code_of_form};
 ghost use Rattle.ol_ir.specs.Nexts.{next_of, counted_of};
-ghost use Rattle.ol_ir.specs.Heads.{head_r, call_head};
+ghost use Rattle.ol_ir.specs.Heads.{head_r, call_head, iterator_head};
 ghost use Rattle.ol_ir.specs.Scans.{scan_at};
 
 use super::read::{bytes, code, count, refused};
 use super::types::ty;
 use super::{Counted, Reader, Scan};
 use ol_spec::Fault;
-use ol_tables::bytes::name;
+use ol_tables::bytes::{byte, name};
 use ol_tables::form::Form;
 use ol_tables::heads;
 
@@ -32,17 +32,34 @@ fn form_at(file: &[u8], at: usize) -> Result<Form, Fault>
 fn deep(file: &[u8], at: usize) -> Result<usize, Fault>
     ensures { (l : Limits) (enums : ℕ) → result ≡ next_of (expr_r file.now l enums 0 at) }
 {
-    code(file, 13, at)?;
+    code(file, 16, at)?;
     refused(5, at)
 }
 
 impl Reader<'_> {
-    // A call's node number and its count of arguments.
-    fn call(&self, at: usize) -> Result<Counted, Fault>
-        ensures { result ≡ counted_of (call_head self.now.file.now self.now.limits.now.arguments at) }
+    // A node's number and a count up to `most`: a call's and its arguments', or an iterator's and its arrays'.
+    fn call(&self, most: usize, at: usize) -> Result<Counted, Fault>
+        ensures is { result ≡ counted_of (call_head self.now.file.now most at) }
+        ensures few { IfOk result (λ n. n.count < 256) }
     {
         let p = bytes(self.file, 1, at)?;
-        count(self.file, 0, self.limits.arguments, p)
+        count(self.file, 0, most, p)
+    }
+
+    // An iterator's kind, its node's number and its count of arrays. A fold has one part more, its seed.
+    fn iterator(&self, at: usize) -> Result<Counted, Fault>
+        ensures { result ≡ counted_of (iterator_head self.now.file.now self.now.limits.now.arrays at) }
+    {
+        let p = code(self.file, 2, at)?;
+        let arrays = self.call(self.limits.arrays, p)?;
+        if byte(self.file, at) == 1 {
+            Ok(Counted {
+                count: arrays.count + 1,
+                at: arrays.at,
+            })
+        } else {
+            Ok(arrays)
+        }
     }
 
     // An expression's head, and how many parts follow it.
@@ -62,8 +79,11 @@ impl Reader<'_> {
             Form::Pre => (1, p),
             Form::Arrow => (2, p),
             Form::Cast => (1, ty(self.file, self.enums, p)?),
-            Form::Call => return self.call(p),
+            Form::Call => return self.call(self.limits.arguments, p),
             Form::Tuple => return count(self.file, 2, self.limits.items, p),
+            Form::Index => (2, p),
+            Form::Literal => return count(self.file, 1, self.limits.elements, p),
+            Form::Iterator => return self.iterator(p),
         };
         Ok(Counted {
             count: parts,

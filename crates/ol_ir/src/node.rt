@@ -8,7 +8,6 @@ ghost use Rattle.ol_ir.specs.Walks.{equation_places, start_places};
 
 use super::read::{bytes, code, count, section};
 use super::skip::skip_equation;
-use super::types::ty;
 use super::{Counted, Reader};
 use ol_spec::{Fault, Limits};
 use ol_tables::bytes::put;
@@ -23,11 +22,12 @@ pub fn names(file: &[u8], most: usize, at: usize) -> Result<usize, Fault>
 
 impl Reader<'_> {
     // A variable: its name and its type.
+    #[inline(always)]
     pub(crate) fn variable(&self, at: usize) -> Result<usize, Fault>
         ensures { result ≡ next_of (variable_r self.now.file.now self.now.limits.now self.now.enums at) }
     {
         let p = bytes(self.file, 2, at)?;
-        ty(self.file, self.enums, p)
+        self.var_ty(p)
     }
 
     // A section of variables.

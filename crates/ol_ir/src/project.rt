@@ -113,6 +113,8 @@ pub fn base() -> Limits
         names: 16,
         arguments: 32,
         items: 16,
+        elements: 32,
+        arrays: 32,
         nesting: 24,
         state: 32768,
     }

@@ -1,5 +1,5 @@
 // Bytes, codes, counts and sections.
-ghost use Rattle.std.specs.Prelude.{◌≡◌, ◌<◌, ◌≤◌, ℕ, Err, MatchResult, length, get_or};
+ghost use Rattle.std.specs.Prelude.{◌≡◌, ◌<◌, ◌≤◌, ℕ, Err, IfOk, MatchResult, length, get_or};
 ghost use Rattle.ol_spec.specs.Lists.{up_to};
 ghost use Rattle.ol_spec.specs.Read.{number, coded, count_r};
 ghost use Rattle.ol_spec.specs.Answers.{fault_at};
@@ -17,7 +17,7 @@ pub(crate) fn refused<T>(number: u8, place: usize) -> Result<T, Fault>
 
 // The byte at `at`.
 pub(crate) fn byte(file: &[u8], at: usize) -> Result<usize, Fault>
-    ensures { MatchResult result (λ b. (at < length file.now) × (b ≡ get_or file.now at 0)) (λ f. (length file.now ≤ at) × (f ≡ fault_at 2 (length file.now))) }
+    ensures { MatchResult result (λ b. (at < length file.now) × (b ≡ get_or file.now at 0) × (b < 256)) (λ f. (length file.now ≤ at) × (f ≡ fault_at 2 (length file.now))) }
 {
     if at < file.len() {
         Ok(usize::from(file[at]))
@@ -53,7 +53,8 @@ pub(crate) fn code(file: &[u8], bound: usize, at: usize) -> Result<usize, Fault>
 
 // A count from `lo` to `hi`.
 pub fn count(file: &[u8], lo: usize, hi: usize, at: usize) -> Result<Counted, Fault>
-    ensures { result ≡ counted_of (count_r file.now lo hi at) }
+    ensures is { result ≡ counted_of (count_r file.now lo hi at) }
+    ensures few { IfOk result (λ n. n.count < 256) }
 {
     let n = byte(file, at)?;
     if lo <= n && n <= hi {

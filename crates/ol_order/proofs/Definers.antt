@@ -292,18 +292,18 @@ keyed_some i (q ∷ qs) x d e = go (definer_from (suc i) (map keyed qs) (key_of 
         let z : suc d - i ≡ 1 = omega arith in
         ap (λ o. later o (member x q.names) i) (keyed_none (suc i) qs x f) ∙ sym (ap (λ k. definer_from i (take k (q ∷ qs)) x) z)
 
--- names below 1,024 are their own entries
-low_member : (x : ℕ) (xs : List ℕ) → ((y : ℕ) → 1024 ≤ y → member y xs ≡ false) → member x (map key_of xs) ≡ member x xs
+-- names below 256 are their own entries
+low_member : (x : ℕ) (xs : List ℕ) → ((y : ℕ) → 256 ≤ y → member y xs ≡ false) → member x (map key_of xs) ≡ member x xs
 low_member x [] h = refl
 low_member x (y ∷ xs) h =
-    let below : y < 1024 = by_cases (dec_le 1024 y) (λ g. absurd (never y (or_none (eqb y y) (member y xs) (h y g)).0)) (λ g. omega arith) in
+    let below : y < 256 = by_cases (dec_le 256 y) (λ g. absurd (never y (or_none (eqb y y) (member y xs) (h y g)).0)) (λ g. omega arith) in
     let z : key_of y ≡ y = omega arith in
     ap (λ k. eqb x k || member x (map key_of xs)) z ∙ ap (λ b. eqb x y || b) (low_member x xs (λ v g. (or_none (eqb v y) (member v xs) (h v g)).1))
   where
     never : (y : ℕ) → eqb y y ≡ false → ⊥
     never y e = eqb-false y y e refl
 
-low_keyed : (i : ℕ) (qs : List Equation) (x : ℕ) → ((y : ℕ) → 1024 ≤ y → definer_from i qs y ≡ none) → definer_from i (map keyed qs) x ≡ definer_from i qs x
+low_keyed : (i : ℕ) (qs : List Equation) (x : ℕ) → ((y : ℕ) → 256 ≤ y → definer_from i qs y ≡ none) → definer_from i (map keyed qs) x ≡ definer_from i qs x
 unfolding definer_from
 low_keyed i [] x h = refl
 low_keyed i (q ∷ qs) x h =
@@ -325,8 +325,8 @@ module _ {qs : List Equation} {low : Bool} {table : Table} (df : Definers qs low
 pub definers_made : (qs : List Equation) (low : Bool) (t w : Table) → Blank qs low t → w ≡ put_all 0 (map keyed qs) t → Definers qs low w
 definers_made qs low t w blank e =
     record {
-      is = λ x. let b : key_of x < 1024 = omega arith in entry (key_of x) (omega (arith, blank.long));
-      lows = λ g x. by_cases (dec_le 1024 x) (λ h. get_or-eq_default w Std.None (omega (arith, ap length e, length_put_all 0 (map keyed qs) t, blank.long)) ∙ sym (ap as_option (blank.lows g x h))) (λ h. entry x (omega (arith, blank.long)) ∙ ap as_option (low_keyed 0 qs x (blank.lows g)));
+      is = λ x. let b : key_of x < 256 = omega arith in entry (key_of x) (omega (arith, blank.long));
+      lows = λ g x. by_cases (dec_le 256 x) (λ h. get_or-eq_default w Std.None (omega (arith, ap length e, length_put_all 0 (map keyed qs) t, blank.long)) ∙ sym (ap as_option (blank.lows g x h))) (λ h. entry x (omega (arith, blank.long)) ∙ ap as_option (low_keyed 0 qs x (blank.lows g)));
     }
   where
     entry : (x : ℕ) → x < length t → get_or w x Std.None ≡ as_option (definer (map keyed qs) x)

@@ -8,7 +8,7 @@ use native.Mathlib.Decide.{dec_le}
 use native.Mathlib.Omega.{arith}
 use lib.ListN.{length, length-append}
 use Rattle.ol_spec.specs.Lists.{sum}
-use Rattle.ol_spec.specs.Syntax.{Expr, bool_lit, int_lit, float_lit, char_lit, var, unary, binary, if_then_else, pre, arrow, cast, call, tuple, Exprs, nil}
+use Rattle.ol_spec.specs.Syntax.{Expr, bool_lit, int_lit, float_lit, char_lit, var, unary, binary, if_then_else, pre, arrow, cast, call, tuple, index, literal, map_over, fold_over, Exprs, nil}
 use Rattle.ol_spec.specs.Syntax.{cons, Variable, Equation, Node, File, variables}
 use Rattle.ol_spec.specs.Places.{expr_size, exprs_size, variable_size, equation_size, equations_start}
 use Rattle.ol_spec.specs.Limits.{relay_loader}
@@ -42,6 +42,10 @@ mutual
   reads_size (cast t e) = omega (arith, reads_size e)
   reads_size (call k es) = omega (arith, all_size es)
   reads_size (tuple es) = omega (arith, all_size es)
+  reads_size (index a i) = omega (arith, reads_size a, reads_size i, length-append (reads a) (reads i))
+  reads_size (literal es) = omega (arith, all_size es)
+  reads_size (map_over k es) = omega (arith, all_size es)
+  reads_size (fold_over k s es) = omega (arith, reads_size s, all_size es, length-append (reads s) (reads_all es))
 
   all_size : (es : Exprs) → 3 * length (reads_all es) ≤ exprs_size es
   all_size nil = omega arith

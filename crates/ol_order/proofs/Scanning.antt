@@ -8,7 +8,7 @@ use native.Mathlib.Omega.{arith}
 use lib.ListN.{length, get_or, set}
 use lib.Seq.{sets}
 use native.Mathlib.Numerals.{add-one}
-use Rattle.ol_spec.specs.Syntax.{Expr, bool_lit, int_lit, float_lit, char_lit, var, unary, binary, if_then_else, pre, arrow, cast, call, tuple, Exprs, nil}
+use Rattle.ol_spec.specs.Syntax.{Expr, bool_lit, int_lit, float_lit, char_lit, var, unary, binary, if_then_else, pre, arrow, cast, call, tuple, index, literal, map_over, fold_over, Exprs, nil}
 use Rattle.ol_spec.specs.Syntax.{cons, count, Equation}
 use Rattle.ol_spec.specs.Places.{expr_size, rhs_place}
 use Rattle.ol_spec.specs.Read.{got, Reader, many_exprs, name_r, expr_r}
@@ -75,6 +75,10 @@ module _ (s : List ℕ) (l : Limits) (enums d : ℕ) where
     step_of (cast t e) f = inr (parted (cast t e) f refl (sym (append-nil (reads e))) (omega arith))
     step_of (call k es) f = inr (parted (call k es) f refl refl (omega arith))
     step_of (tuple es) f = inr (parted (tuple es) f refl refl (omega arith))
+    step_of (index a i) f = inr (parted (index a i) f refl (ap (λ y. reads a ++ y) (sym (append-nil (reads i)))) (omega arith))
+    step_of (literal es) f = inr (parted (literal es) f refl refl (omega arith))
+    step_of (map_over k es) f = inr (parted (map_over k es) f refl refl (omega arith))
+    step_of (fold_over k e es) f = inr (parted (fold_over k e es) f refl refl (omega arith))
 
 -- ---- what is left to scan
 

@@ -24,9 +24,9 @@ ring_place (Ok tt) = none
 abbrev pub Small : List ℕ → Type 0
 Small l = (j : ℕ) → j < length l → get_or l j 0 < 256
 
--- no equation defines a name from 1,024 on
+-- no equation defines a name from 256 on
 abbrev pub LowNames : List Equation → Type 0
-LowNames qs = (x : ℕ) → 1024 ≤ x → definer qs x ≡ none
+LowNames qs = (x : ℕ) → 256 ≤ x → definer qs x ≡ none
 
 -- the bytes start with the order of the equations
 abbrev pub StartsWith : List Equation → List ℕ → Type 0
@@ -55,7 +55,7 @@ pub record NodeDone (at : ℕ) (n : Node) (from : ℕ) (before out : List ℕ) (
   pub order : ring_in (at, n) ≡ none → (j : ℕ) → j < length n.equations → get_or out (from + j) 0 ≡ get_or (order n.equations) j 0
   pub written : out ≡ row_written n.equations from before
 
--- A file reads without fault, with so many enums and its nodes at these places. With `low`, no equation defines a name from 1,024 on
+-- A file reads without fault, with so many enums and its nodes at these places. With `low`, no equation defines a name from 256 on
 pub record NodesStand (s : List ℕ) (enums : ℕ) (places : List ℕ) (low : Bool) : Type 0 where
   pub file : File
   pub end : ℕ

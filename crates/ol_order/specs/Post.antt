@@ -21,11 +21,11 @@ pub record NodeReads (s : List ℕ) (l : Limits) (enums at : ℕ) : Type 0 where
   pub is : node_r s l enums at ≡ got (node_at s l enums at) end
   pub few : l.equations ≤ 80
 
--- no name has a definer in the table yet, and with `low` no equation defines a name from 1,024 on
+-- no name has a definer in the table yet, and with `low` no equation defines a name from 256 on
 pub record Blank (qs : List Equation) (low : Bool) (table : Table) : Type 0 where
   pub is : (x : ℕ) → get_or table x Std.None ≡ Std.None
-  pub long : 1024 ≡ length table
-  pub lows : low ≡ true → (x : ℕ) → 1024 ≤ x → definer qs x ≡ none
+  pub long : 256 ≡ length table
+  pub lows : low ≡ true → (x : ℕ) → 256 ≤ x → definer qs x ≡ none
 
 -- a name's entry has the last equation that defines a name with the same entry; with `low` each name's own place has its last definer
 pub record Definers (qs : List Equation) (low : Bool) (table : Table) : Type 0 where

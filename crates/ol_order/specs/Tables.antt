@@ -44,7 +44,7 @@ Table = List (Std.Option ℕ)
 
 -- a name's entry
 abbrev pub key_of : ℕ → ℕ
-key_of x = x % 1024
+key_of x = x % 256
 
 -- the equation with its names' entries in place of its names
 abbrev pub keyed : Equation → Equation

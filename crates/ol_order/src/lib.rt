@@ -30,23 +30,23 @@ use ol_spec::{Fault, Limits};
 use ol_tables::bytes::put;
 
 // No name has a definer.
-pub(crate) fn no_definers() -> [Option<u8>; 1024]
-    ensures long { 1024 ≡ length result }
+pub(crate) fn no_definers() -> [Option<u8>; 256]
+    ensures long { 256 ≡ length result }
     ensures none { (x : ℕ) → get_or result x None ≡ None }
 {
-    [None; 1024]
+    [None; 256]
 }
 
-// Each of these names gets the equation's index, at its remainder by 1,024.
+// Each of these names gets the equation's index, at its remainder by 256.
 fn define(names: Names, index: u8, definers: &mut [Option<u8>])
     ensures { definers.new ≡ put (map key_of (names_of names.entry)) index definers.old }
 {
     for x in names {
-        put(definers, x % 1024, Some(index));
+        put(definers, x % 256, Some(index));
     }
 }
 
-// Which equation is the last that defines a name of each remainder by 1,024. Ends where no count of
+// Which equation is the last that defines a name of each remainder by 256. Ends where no count of
 // names stands.
 fn define_all(file: &[u8], most: usize, starts: &[usize], definers: &mut [Option<u8>])
     requires { length starts.now ≤ 80 }

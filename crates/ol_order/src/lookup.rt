@@ -11,7 +11,7 @@ use ol_ir::Scan;
 use ol_ir::expr::scan;
 use ol_tables::bytes::byte;
 
-// Equations with the table of their definers: for each remainder by 1,024 the last equation that
+// Equations with the table of their definers: for each remainder by 256 the last equation that
 // defines a name of it. With `low` each name's own entry has its definer. It is a fact of the names:
 // no field waits for it, and two variants would have the same fields.
 #[derive(Clone, Copy)]
@@ -38,7 +38,7 @@ impl<'f, 's, 't> Lookup<'f, 's, 't> {
         if self.low {
             return definer(self.definers, x);
         }
-        let d = definer(self.definers, x % 1024)?;
+        let d = definer(self.definers, x % 256)?;
         self.equations.search(d + 1, x)
     }
 

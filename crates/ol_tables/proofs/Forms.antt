@@ -14,12 +14,12 @@ use lib.IntN.{ℤ}
 use lib.Dec.{T, eqb, leb, leb→le}
 use borrow.Author.Tests.{eq-eqb, ne_eqb}
 use Rattle.ol_spec.specs.Syntax.{Ty, bool, int, float32, float64, char, enum, UnaryOp, BinOp, Expr, bool_lit, int_lit, float_lit, char_lit, var, unary, binary, if_then_else, pre, arrow, cast, call, tuple}
-use Rattle.ol_spec.specs.Syntax.{Exprs, nil, cons}
+use Rattle.ol_spec.specs.Syntax.{Exprs, nil, cons, index, literal, map_over, fold_over}
 use Rattle.ol_spec.specs.Numbers.{number_of, signed}
 use Rattle.ol_spec.specs.Places.{expr_size, ty_size, collect, collect_all}
 use Rattle.ol_spec.specs.Read.{got, Reader, then_read, known, byte, or_end, number, coded, count_r, within?, many_exprs, expr_r, expr_body, ty_r}
 use Rattle.ol_spec.specs.Read.{ExprCode, bool_code, int_code, float_code, char_code, var_code, unary_code, binary_code, if_code, pre_code, arrow_code, cast_code}
-use Rattle.ol_spec.specs.Read.{call_code, tuple_code, bools, unary_ops, bin_ops, expr_codes, ty_codes, ty_body, TyCode, bool_t, float32_t, float64_t, char_t, enum_t, int_t}
+use Rattle.ol_spec.specs.Read.{call_code, tuple_code, index_code, literal_code, iterator_code, Iterator, maps, folds, iterators, iterator_body, bools, unary_ops, bin_ops, expr_codes, ty_codes, ty_body, TyCode, bool_t, float32_t, float64_t, char_t, enum_t, int_t}
 use Rattle.ol_spec.specs.Lists.{maybe}
 use Rattle.ol_spec.specs.Limits.{base}
 use Rattle.ol_spec.specs.Eval.{callees, callees_all}
@@ -98,6 +98,10 @@ module _ {B : Type 0} (f : ℕ → Expr → List B) where
   collect_parts at (cast t e) = rw (append-nil (collect f (at + (1 + ty_size t)) e), sym (add_assoc at 1 (ty_size t)))
   collect_parts at (call k es) = refl
   collect_parts at (tuple es) = refl
+  collect_parts at (index a i) = rw (append-nil (collect f (at + 1 + expr_size a) i))
+  collect_parts at (literal es) = refl
+  collect_parts at (map_over k es) = refl
+  collect_parts at (fold_over k s es) = refl
 
 pub callees_parts : (e : Expr) → callees e ≡ own_sites e ++ callees_all (parts_of e)
 callees_parts (bool_lit b) = refl
@@ -113,6 +117,10 @@ callees_parts (arrow a b) = ap (λ (x : List ℕ). callees a ++ x) (sym (append-
 callees_parts (cast t e) = sym (append-nil (callees e))
 callees_parts (call k es) = refl
 callees_parts (tuple es) = refl
+callees_parts (index a i) = ap (λ (x : List ℕ). callees a ++ x) (sym (append-nil (callees i)))
+callees_parts (literal es) = refl
+callees_parts (map_over k es) = refl
+callees_parts (fold_over k s es) = refl
 
 -- ---- bytes
 
@@ -297,7 +305,7 @@ module _ (s : List ℕ) where
   reads_in (suc n) at h = let t = steps (coded s expr_codes at) _ _ _ h.is in (code_is expr_codes at t.value t.at t.first).within
 
   -- some code stands there
-  pub some_code : (level at : ℕ) → Reads s level at → get_or s at 0 < 13
+  pub some_code : (level at : ℕ) → Reads s level at → get_or s at 0 < 16
   unfolding expr_r
   some_code zero at h = absurd (omega (arith, reads_deep zero at h))
   some_code (suc n) at h =
@@ -307,8 +315,8 @@ module _ (s : List ℕ) where
       none_some : {x : ExprCode} → none ≡ some x → ⊥
       none_some e = let z : ◌≡◌ {A = ℕ} 0 1 = cc in omega arith
 
-      below : (b : ℕ) {x : ExprCode} → get_elem? expr_codes b ≡ some x → b < 13
-      below b e = go b 13 expr_codes refl e
+      below : (b : ℕ) {x : ExprCode} → get_elem? expr_codes b ≡ some x → b < 16
+      below b e = go b 16 expr_codes refl e
         where
           go : (b n : ℕ) (l : List ExprCode) → length l ≡ n → {x : ExprCode} → get_elem? l b ≡ some x → b < n
           go zero n [] k e = absurd (none_some e)
@@ -606,15 +614,115 @@ module _ (s : List ℕ) where
         omega (arith, q.is, q.most, ap (λ (l : Limits). l.items) limits_base),
       )
 
+  -- 13 and 14: an index and its array, a literal's items
+
+  pub index_form : (level at : ℕ) → Reads s level at → get_or s at 0 ≡ 13 → Formed level at (index (first (level - 1) (at + 1)) (second (level - 1) (at + 1))) 2
+  index_form level at h c =
+      let b = body_at level at index_code h (ap (get_elem? expr_codes) c) in
+      let w = part_at (level - 1) (at + 1) (at + 1) _ _ _ refl b.body in
+      let v = part_at (level - 1) _ (end_at s (level - 1) (at + 1)) _ _ _ refl w.rest in
+      let r = cons_all_lem (level - 1) 1 (at + 1) w.read (one_read (level - 1) _ v.read) in
+      let o = two_all (level - 1) (at + 1) r in
+      record { tree = sym (same_item v.rest); parts = sym o.0; read = r; ends = sym (same_end v.rest) ∙ sym o.1; inside = omega (arith, b.within); deep = b.deep }
+
+  pub literal_form : (level at : ℕ) → Reads s level at → get_or s at 0 ≡ 14 → Formed level at (literal (exprs_at s (level - 1) (get_or s (at + 1) 0) (at + 2))) (get_or s (at + 1) 0) × (1 ≤ get_or s (at + 1) 0) × (get_or s (at + 1) 0 ≤ 32)
+  literal_form level at h c =
+      let b = body_at level at literal_code h (ap (get_elem? expr_codes) c) in
+      let u = steps (count_r s 1 (limits_at s).elements (at + 1)) _ _ _ b.body in
+      let q = count_is 1 (limits_at s).elements (at + 1) u.value u.at u.first in
+      let w = many_at (level - 1) u.value u.at (at + 2) _ _ _ (omega (arith, q.ends)) u.rest in (
+        record {
+          tree = sym (same_item w.rest) ∙ (λ i. literal (exprs_at s (level - 1) (sym q.is i) (at + 2)));
+          parts = refl;
+          read = subst (λ (k : ℕ). ReadsAll s (level - 1) k (at + 2)) (sym q.is) w.read;
+          ends = sym (same_end w.rest) ∙ ap (λ (k : ℕ). ends_at s (level - 1) k (at + 2)) (sym q.is);
+          inside = omega (arith, q.within);
+          deep = b.deep;
+        },
+        omega (arith, q.is, q.least),
+        omega (arith, q.is, q.most, ap (λ (l : Limits). l.elements) limits_base),
+      )
+
+  -- 15: an iterator's kind, its node and the number of its arrays; then a fold's seed, and the arrays
+
+  record IteratorIs (level at : ℕ) (w : Iterator) : Type 0 where
+    kind : get_elem? iterators (get_or s (at + 1) 0) ≡ some w
+    few : get_or s (at + 3) 0 ≤ 32
+    inside : at + 4 ≤ length s
+    deep : 0 < level
+    body : iterator_body s (limits_at s) (enums_at s) (R (level - 1)) (get_or s (at + 2) 0) (get_or s (at + 3) 0) w (at + 4) ≡ got (expr_at s level at) (end_at s level at)
+
+  iterator_is : (level at : ℕ) → Reads s level at → get_or s at 0 ≡ 15 → (w : Iterator) × IteratorIs level at w
+  iterator_is level at h c =
+      let b = body_at level at iterator_code h (ap (get_elem? expr_codes) c) in
+      let t = steps (coded s iterators (at + 1)) _ _ _ b.body in
+      let p = code_is iterators (at + 1) t.value t.at t.first in
+      let u = steps (byte s t.at) _ _ _ t.rest in
+      let q = byte_is t.at u.value u.at u.first in
+      let v = steps (count_r s 0 (limits_at s).arrays u.at) _ _ _ u.rest in
+      let o = count_is 0 (limits_at s).arrays u.at v.value v.at v.first in
+      let a2 : t.at ≡ at + 2 = omega (arith, p.ends) in
+      let a3 : u.at ≡ at + 3 = omega (arith, q.ends, a2) in
+      let a4 : v.at ≡ at + 4 = omega (arith, o.ends, a3) in
+      let node : u.value ≡ get_or s (at + 2) 0 = sym q.is ∙ ap (λ n. get_or s n 0) a2 in
+      let many : v.value ≡ get_or s (at + 3) 0 = rw (← a3) (sym o.is) in (
+        t.value,
+        record {
+          kind = p.is;
+          few = omega (arith, o.most, many, ap (λ (l : Limits). l.arrays) limits_base);
+          inside = omega (arith, o.within, a3);
+          deep = b.deep;
+          body = rw (← node, ← many, ← a4) v.rest;
+        },
+      )
+
+  -- an iterator's kind, by its byte
+  pub iterator_of : (c : ℕ) (w : Iterator) → get_elem? iterators c ≡ some w → (c < 2) × (w ≡ cond (eqb c 1) folds maps)
+  iterator_of zero w h = (omega arith, sym (same_code h))
+  iterator_of (suc zero) w h = (omega arith, sym (same_code h))
+  iterator_of (suc (suc zero)) w h = let z : ◌≡◌ {A = ℕ} 0 1 = cc in absurd (omega arith)
+  iterator_of (suc (suc (suc c))) w h = let z : ◌≡◌ {A = ℕ} 0 1 = cc in absurd (omega arith)
+
+  -- the kind is 0, a map, or 1, a fold
+  pub iterator_kind : (level at : ℕ) → Reads s level at → get_or s at 0 ≡ 15 → get_or s (at + 1) 0 < 2
+  iterator_kind level at h c = let w = iterator_is level at h c in (iterator_of (get_or s (at + 1) 0) w.0 w.1.kind).0
+
+  pub map_form : (level at : ℕ) → Reads s level at → get_or s at 0 ≡ 15 → get_or s (at + 1) 0 ≡ 0 → Formed level at (map_over (get_or s (at + 2) 0) (exprs_at s (level - 1) (get_or s (at + 3) 0) (at + 4))) (get_or s (at + 3) 0) × (get_or s (at + 3) 0 ≤ 32)
+  map_form level at h c z =
+      let w = iterator_is level at h c in
+      let k : w.0 ≡ maps = (iterator_of (get_or s (at + 1) 0) w.0 w.1.kind).1 ∙ ap (λ n. cond (eqb n 1) folds maps) z in
+      let body = subst (λ (x : Iterator). iterator_body s (limits_at s) (enums_at s) (R (level - 1)) (get_or s (at + 2) 0) (get_or s (at + 3) 0) x (at + 4) ≡ got (expr_at s level at) (end_at s level at)) k w.1.body in
+      let m = many_at (level - 1) (get_or s (at + 3) 0) (at + 4) (at + 4) _ _ _ refl body in
+      (record { tree = sym (same_item m.rest); parts = refl; read = m.read; ends = sym (same_end m.rest); inside = w.1.inside; deep = w.1.deep }, w.1.few)
+
+  pub fold_form : (level at : ℕ) → Reads s level at → get_or s at 0 ≡ 15 → get_or s (at + 1) 0 ≡ 1
+      → Formed level at (fold_over (get_or s (at + 2) 0) (first (level - 1) (at + 4)) (exprs_at s (level - 1) (get_or s (at + 3) 0) (end_at s (level - 1) (at + 4)))) (suc (get_or s (at + 3) 0)) × (get_or s (at + 3) 0 ≤ 32)
+  fold_form level at h c z =
+      let w = iterator_is level at h c in
+      let n = get_or s (at + 3) 0 in
+      let k : w.0 ≡ folds = (iterator_of (get_or s (at + 1) 0) w.0 w.1.kind).1 ∙ ap (λ n. cond (eqb n 1) folds maps) z in
+      let body = subst (λ (x : Iterator). iterator_body s (limits_at s) (enums_at s) (R (level - 1)) (get_or s (at + 2) 0) n x (at + 4) ≡ got (expr_at s level at) (end_at s level at)) k w.1.body in
+      let v = part_at (level - 1) (at + 4) (at + 4) _ _ _ refl body in
+      let m = many_at (level - 1) n (end_at s (level - 1) (at + 4)) (end_at s (level - 1) (at + 4)) _ _ _ refl v.rest in
+      let r = cons_all_lem (level - 1) n (at + 4) v.read m.read in
+      let o = parted (level - 1) n (at + 4) r in
+      (record { tree = sym (same_item m.rest); parts = sym o.trees; read = r; ends = sym (same_end m.rest) ∙ sym o.ends; inside = w.1.inside; deep = w.1.deep }, w.1.few)
+
   -- what holds of every form with its code holds of the form at a place
   pub by_form : (P : ℕ → Expr → Type 0)
       → ((b : Bool) → P 0 (bool_lit b)) → ((i : ℤ) → P 1 (int_lit i)) → ((n : ℕ) → P 2 (float_lit n)) → ((c : ℕ) → P 3 (char_lit c)) → ((x : ℕ) → P 4 (var x))
       → ((op : UnaryOp) (e : Expr) → P 5 (unary op e)) → ((op : BinOp) (l r : Expr) → P 6 (binary op l r)) → ((c t e : Expr) → P 7 (if_then_else c t e))
       → ((e : Expr) → P 8 (pre e)) → ((a b : Expr) → P 9 (arrow a b)) → ((t : Ty) (e : Expr) → P 10 (cast t e)) → ((k : ℕ) (es : Exprs) → P 11 (call k es))
-      → ((es : Exprs) → P 12 (tuple es)) → (level at : ℕ) → Reads s level at → P (get_or s at 0) (expr_at s level at)
-  by_form P p0 p1 p2 p3 p4 p5 p6 p7 p8 p9 p10 p11 p12 level at h = go (get_or s at 0) refl (some_code level at h)
+      → ((es : Exprs) → P 12 (tuple es)) → ((a i : Expr) → P 13 (index a i)) → ((es : Exprs) → P 14 (literal es)) → ((k : ℕ) (es : Exprs) → P 15 (map_over k es))
+      → ((k : ℕ) (e : Expr) (es : Exprs) → P 15 (fold_over k e es)) → (level at : ℕ) → Reads s level at → P (get_or s at 0) (expr_at s level at)
+  by_form P p0 p1 p2 p3 p4 p5 p6 p7 p8 p9 p10 p11 p12 p13 p14 p15 p16 level at h = go (get_or s at 0) refl (some_code level at h)
     where
-      go : (b : ℕ) → get_or s at 0 ≡ b → b < 13 → P b (expr_at s level at)
+      iterated : get_or s at 0 ≡ 15 → (k : ℕ) → get_or s (at + 1) 0 ≡ k → k < 2 → P 15 (expr_at s level at)
+      iterated e zero z l = subst (P 15) (sym (map_form level at h e z).0.tree) (p15 _ _)
+      iterated e (suc zero) z l = subst (P 15) (sym (fold_form level at h e z).0.tree) (p16 _ _ _)
+      iterated e (suc (suc k)) z l = absurd (omega arith)
+
+      go : (b : ℕ) → get_or s at 0 ≡ b → b < 16 → P b (expr_at s level at)
       go zero e l = subst (P 0) (sym (bool_form level at h e).0.tree) (p0 _)
       go (suc zero) e l = subst (P 1) (sym (int_form level at h e).tree) (p1 _)
       go (suc (suc zero)) e l = subst (P 2) (sym (float_form level at h e).tree) (p2 _)
@@ -628,7 +736,10 @@ module _ (s : List ℕ) where
       go (suc (suc (suc (suc (suc (suc (suc (suc (suc (suc zero)))))))))) e l = subst (P 10) (sym (cast_form level at h e).1.tree) (p10 _ _)
       go (suc (suc (suc (suc (suc (suc (suc (suc (suc (suc (suc zero))))))))))) e l = subst (P 11) (sym (call_form level at h e).0.tree) (p11 _ _)
       go (suc (suc (suc (suc (suc (suc (suc (suc (suc (suc (suc (suc zero)))))))))))) e l = subst (P 12) (sym (tuple_form level at h e).0.tree) (p12 _)
-      go (suc (suc (suc (suc (suc (suc (suc (suc (suc (suc (suc (suc (suc b))))))))))))) e l = absurd (omega arith)
+      go (suc (suc (suc (suc (suc (suc (suc (suc (suc (suc (suc (suc (suc zero))))))))))))) e l = subst (P 13) (sym (index_form level at h e).tree) (p13 _ _)
+      go (suc (suc (suc (suc (suc (suc (suc (suc (suc (suc (suc (suc (suc (suc zero)))))))))))))) e l = subst (P 14) (sym (literal_form level at h e).0.tree) (p14 _)
+      go (suc (suc (suc (suc (suc (suc (suc (suc (suc (suc (suc (suc (suc (suc (suc zero))))))))))))))) e l = iterated e (get_or s (at + 1) 0) refl (iterator_kind level at h e)
+      go (suc (suc (suc (suc (suc (suc (suc (suc (suc (suc (suc (suc (suc (suc (suc (suc b)))))))))))))))) e l = absurd (omega arith)
 
   -- ---- what is collected from several expressions is the first's, and the others' from where it ends
 
@@ -658,7 +769,8 @@ module _ (s : List ℕ) where
   own_other : (level at : ℕ) → Reads s level at → ¬ (get_or s at 0 ≡ 11) → own_sites (expr_at s level at) ≡ []
   own_other level at h =
       by_form (λ c e. ¬ (c ≡ 11) → own_sites e ≡ []) (λ b n. refl) (λ i n. refl) (λ b n. refl) (λ c n. refl) (λ x n. refl) (λ op e n. refl) (λ op l r n. refl)
-      (λ c t e n. refl) (λ e n. refl) (λ a b n. refl) (λ t e n. refl) (λ k es n. absurd (n refl)) (λ es n. refl) level at h
+      (λ c t e n. refl) (λ e n. refl) (λ a b n. refl) (λ t e n. refl) (λ k es n. absurd (n refl)) (λ es n. refl)
+      (λ a i n. refl) (λ es n. refl) (λ k es n. refl) (λ k e es n. refl) level at h
 
   pub own_read : (level at : ℕ) → Reads s level at → own_at s at ≡ own_sites (expr_at s level at)
   own_read level at h =

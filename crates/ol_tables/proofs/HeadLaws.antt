@@ -1,6 +1,6 @@
 -- The law of heads: a list of expressions that stands in a file is the head of its first, and behind that the list of its parts and the others.
 use Prim.Native.Nat.{ℕ, ◌+◌, ◌/◌, ◌%◌, ◌^◌, ◌<◌, ◌≤◌}
-use mathlib.Core.Bool.{true, false, ◌&&◌}
+use mathlib.Core.Bool.{true, false, cond, ◌&&◌}
 use mathlib.Core.List.{List, [], ◌∷◌, ◌++◌, append_assoc, append-nil}
 use mathlib.Core.Path.{◌≡◌, refl, sym, ap, subst, ◌∙◌}
 use native.Mathlib.Omega.{arith}
@@ -9,16 +9,17 @@ use lib.Seq.{get_or-drop}
 use lib.Dec.{T, eqb, leb, leb→le, ltb→lt}
 use borrow.Author.Tests.{ne_eqb, lt-ltb}
 use Rattle.ol_spec.specs.Syntax.{Ty, bool, int, float32, float64, char, enum, Expr, bool_lit, int_lit, float_lit, char_lit, var, unary, binary, if_then_else}
-use Rattle.ol_spec.specs.Syntax.{pre, arrow, cast, call, tuple, Exprs, nil, cons, count}
-use Rattle.ol_spec.specs.Places.{expr_size, exprs_size, collect, collect_all}
+use Rattle.ol_spec.specs.Syntax.{pre, arrow, cast, call, tuple, index, literal, map_over, fold_over, Exprs, nil, cons, count, VarTy, scalar, array}
+use Rattle.ol_spec.specs.Places.{ty_size, expr_size, exprs_size, collect, collect_all}
 use Rattle.ol_spec.specs.Numbers.{bytes_of, residue}
-use Rattle.ol_spec.specs.Encode.{bool_byte, unary_op_code, bin_op_code, ty_bytes, name_bytes, expr_bytes, exprs_bytes}
+use Rattle.ol_spec.specs.Encode.{bool_byte, unary_op_code, bin_op_code, ty_bytes, var_ty_bytes, name_bytes, expr_bytes, exprs_bytes}
 use Rattle.ol_spec.specs.Limits.{base}
-use Rattle.ol_spec.specs.Within.{ty_fits, expr_fits, exprs_fit, name_fits, byte_fits, count_fits}
+use Rattle.ol_spec.specs.Within.{ty_fits, var_ty_fits, expr_fits, exprs_fit, name_fits, byte_fits, count_fits}
 use Rattle.ol_spec.proofs.Tests.{T_and, and_t}
 use Rattle.ol_spec.proofs.RoundTrip.Parts.{Here, here_front, here_back, here_inside}
 use Rattle.ol_spec.proofs.RoundTrip.Items.{ty_size_lem}
-use Rattle.ol_tables.specs.Heads.{parts_of, head_size, joined, name_at, parts_at, next_at, TyIs, HeadIs, Standing}
+use Rattle.ol_tables.specs.Tables.{ty_code}
+use Rattle.ol_tables.specs.Heads.{parts_of, head_size, joined, name_at, parts_at, next_at, TyIs, VarTyIs, HeadIs, Standing}
 
 -- ---- bytes that stand there
 
@@ -43,13 +44,45 @@ here_ty enums (int c) f h =
     let e = here_first c [] h in
     let w = T_and (leb 1 c) _ f in
     let no : eqb c 12 ≡ false = ne_eqb c 12 (λ q. omega (arith, leb→le c 8 w.1)) in
-    record { code = e; size = rw (e, no); number = rw (e, no) }
+    let not_array : eqb c 13 ≡ false = ne_eqb c 13 (λ q. omega (arith, leb→le c 8 w.1)) in
+    record { code = e; size = rw (e, not_array, no); number = rw (e, no) }
 here_ty enums float32 f h = let e = here_first 9 [] h in record { code = e; size = rw e; number = rw e }
 here_ty enums float64 f h = let e = here_first 10 [] h in record { code = e; size = rw e; number = rw e }
 here_ty enums char f h = let e = here_first 11 [] h in record { code = e; size = rw e; number = rw e }
 here_ty enums (enum n) f h =
     let e = here_first 12 (n ∷ []) h in
     record { code = e; size = rw e; number = rw e (here_byte_at (12 ∷ n ∷ []) h 1 (omega arith)) }
+
+-- a scalar type's code is none of an array's
+ty_scalar : (enums : ℕ) (t : Ty) → T (ty_fits enums t) → eqb (ty_code t) 13 ≡ false
+ty_scalar enums bool f = refl
+ty_scalar enums (int c) f = ne_eqb c 13 (λ q. omega (arith, leb→le c 8 (T_and (leb 1 c) _ f).1))
+ty_scalar enums float32 f = refl
+ty_scalar enums float64 f = refl
+ty_scalar enums char f = refl
+ty_scalar enums (enum n) f = refl
+
+-- a scalar type's size, by its code
+scalar_size : (enums : ℕ) (t : Ty) → T (ty_fits enums t) → ty_size t ≡ cond (eqb (ty_code t) 12) 2 1
+scalar_size enums bool f = refl
+scalar_size enums (int c) f = let no : eqb c 12 ≡ false = ne_eqb c 12 (λ q. omega (arith, leb→le c 8 (T_and (leb 1 c) _ f).1)) in rw no refl
+scalar_size enums float32 f = refl
+scalar_size enums float64 f = refl
+scalar_size enums char f = refl
+scalar_size enums (enum n) f = refl
+
+-- a variable's or a constant's type is told by its bytes
+pub here_var_ty : {s : List ℕ} {at : ℕ} (enums : ℕ) (t : VarTy) → T (var_ty_fits base enums t) → Here s at (var_ty_bytes t) → VarTyIs s at t
+here_var_ty {s} {at} enums (scalar t) f h =
+    let y = here_ty enums t f h in
+    let no : eqb (get_or s at 0) 13 ≡ false = ap (λ c. eqb c 13) y.code ∙ ty_scalar enums t f in
+    record { element = subst (λ p. TyIs s p t) (sym (ap (λ b. cond b (at + 2) at) no)) y; length = rw no refl; size = y.size }
+here_var_ty {s} {at} enums (array n t) f h =
+    let e = here_first 13 _ h in
+    let b = here_byte_at (var_ty_bytes (array n t)) h 1 (omega arith) in
+    let w = T_and (count_fits 1 32 n) _ f in
+    let y = here_ty enums t w.1 (here_back (13 ∷ n ∷ []) (ty_bytes t) h) in
+    record { element = subst (λ p. TyIs s p t) (sym (ap (λ c. cond (eqb c 13) (at + 2) at) e)) y; length = rw e b; size = rw (e, y.code) (ap (λ n. 2 + n) (sym (scalar_size enums t w.1))) }
 
 -- ---- an expression's bytes are its head's and its parts'
 
@@ -67,6 +100,10 @@ head_bytes (arrow a b) = 9 ∷ []
 head_bytes (cast t e) = 10 ∷ ty_bytes t
 head_bytes (call k es) = 11 ∷ k ∷ count es ∷ []
 head_bytes (tuple es) = 12 ∷ count es ∷ []
+head_bytes (index a i) = 13 ∷ []
+head_bytes (literal es) = 14 ∷ count es ∷ []
+head_bytes (map_over k es) = 15 ∷ 0 ∷ k ∷ count es ∷ []
+head_bytes (fold_over k s es) = 15 ∷ 1 ∷ k ∷ count es ∷ []
 
 head_size_lem : (e : Expr) → length (head_bytes e) ≡ head_size e
 head_size_lem (bool_lit b) = refl
@@ -82,6 +119,10 @@ head_size_lem (arrow a b) = refl
 head_size_lem (cast t e) = omega (arith, ty_size_lem t)
 head_size_lem (call k es) = refl
 head_size_lem (tuple es) = refl
+head_size_lem (index a i) = refl
+head_size_lem (literal es) = refl
+head_size_lem (map_over k es) = refl
+head_size_lem (fold_over k s es) = refl
 
 one_part : (e : Expr) → expr_bytes e ≡ exprs_bytes (cons e nil)
 one_part e = sym (append-nil (expr_bytes e))
@@ -103,6 +144,10 @@ bytes_head (arrow a b) = ap (λ w. 9 ∷ w) (two_parts a b)
 bytes_head (cast t e) = ap (λ w. 10 ∷ ty_bytes t ++ w) (one_part e)
 bytes_head (call k es) = refl
 bytes_head (tuple es) = refl
+bytes_head (index a i) = ap (λ w. 13 ∷ w) (two_parts a i)
+bytes_head (literal es) = refl
+bytes_head (map_over k es) = refl
+bytes_head (fold_over k s es) = refl
 
 joined_bytes : (es fs : Exprs) → exprs_bytes (joined es fs) ≡ exprs_bytes es ++ exprs_bytes fs
 unfolding joined
@@ -140,6 +185,10 @@ module _ (enums : ℕ) where
   parts_fit (cast y e) t = one_fits e (T_and (ty_fits enums y) _ t).1
   parts_fit (call k es) t = (T_and (count_fits 0 32 (count es)) _ (T_and (byte_fits k) _ t).1).1
   parts_fit (tuple es) t = (T_and (count_fits 2 16 (count es)) _ t).1
+  parts_fit (index a i) t = two_fit a i t
+  parts_fit (literal es) t = (T_and (count_fits 1 32 (count es)) _ t).1
+  parts_fit (map_over k es) t = (T_and (count_fits 0 32 (count es)) _ (T_and (byte_fits k) _ t).1).1
+  parts_fit (fold_over k s es) t = (T_and (count_fits 0 32 (count es)) _ (T_and (byte_fits k) _ t).1).1
 
   head_is : {s : List ℕ} {at : ℕ} (e : Expr) → T (expr_fits base enums e) → Here s at (head_bytes e) → HeadIs s at e
   head_is (bool_lit b) t h = here_first 0 _ h
@@ -155,6 +204,14 @@ module _ (enums : ℕ) where
   head_is (cast y e) t h = (here_first 10 _ h, here_ty enums y (T_and (ty_fits enums y) _ t).0 (here_back (10 ∷ []) (ty_bytes y) h))
   head_is (call k es) t h = (here_first 11 _ h, here_byte_at (head_bytes (call k es)) h 1 (omega arith), here_byte_at (head_bytes (call k es)) h 2 (omega arith))
   head_is (tuple es) t h = (here_first 12 _ h, here_byte_at (head_bytes (tuple es)) h 1 (omega arith))
+  head_is (index a i) t h = here_first 13 _ h
+  head_is (literal es) t h = (here_first 14 _ h, here_byte_at (head_bytes (literal es)) h 1 (omega arith))
+  head_is (map_over k es) t h =
+      let w = head_bytes (map_over k es) in
+      (here_first 15 _ h, here_byte_at w h 1 (omega arith), here_byte_at w h 2 (omega arith), here_byte_at w h 3 (omega arith))
+  head_is (fold_over k s es) t h =
+      let w = head_bytes (fold_over k s es) in
+      (here_first 15 _ h, here_byte_at w h 1 (omega arith), here_byte_at w h 2 (omega arith), here_byte_at w h 3 (omega arith))
 
 pub head_some : (e : Expr) → 1 ≤ head_size e
 head_some (bool_lit b) = omega arith
@@ -170,6 +227,10 @@ head_some (arrow a b) = omega arith
 head_some (cast t e) = omega arith
 head_some (call k es) = omega arith
 head_some (tuple es) = omega arith
+head_some (index a i) = omega arith
+head_some (literal es) = omega arith
+head_some (map_over k es) = omega arith
+head_some (fold_over k s es) = omega arith
 
 -- ---- the law of heads
 
@@ -211,6 +272,10 @@ module _ (s : List ℕ) (at : ℕ) where
   parts_told (cast t e) h = rw h.0
   parts_told (call k es) h = rw h.0 h.2
   parts_told (tuple es) h = rw h.0 h.1
+  parts_told (index a i) h = rw h
+  parts_told (literal es) h = rw h.0 h.1
+  parts_told (map_over k es) h = rw (h.0, h.1) (omega (arith, h.3))
+  parts_told (fold_over k s es) h = rw (h.0, h.1) (omega (arith, h.3))
 
   pub next_told : (e : Expr) → at < length s → HeadIs s at e → next_at s at ≡ at + head_size e
   next_told (bool_lit b) u h = rw (lt-ltb at (length s) u, h)
@@ -226,6 +291,10 @@ module _ (s : List ℕ) (at : ℕ) where
   next_told (cast t e) u h = rw (lt-ltb at (length s) u, h.0) (omega (arith, h.1.size))
   next_told (call k es) u h = rw (lt-ltb at (length s) u, h.0)
   next_told (tuple es) u h = rw (lt-ltb at (length s) u, h.0)
+  next_told (index a i) u h = rw (lt-ltb at (length s) u, h)
+  next_told (literal es) u h = rw (lt-ltb at (length s) u, h.0)
+  next_told (map_over k es) u h = rw (lt-ltb at (length s) u, h.0)
+  next_told (fold_over k e es) u h = rw (lt-ltb at (length s) u, h.0)
 
 -- ---- walks
 
@@ -243,6 +312,10 @@ parts_size (arrow a b) = omega arith
 parts_size (cast t e) = omega arith
 parts_size (call k es) = refl
 parts_size (tuple es) = refl
+parts_size (index a i) = omega arith
+parts_size (literal es) = refl
+parts_size (map_over k es) = refl
+parts_size (fold_over k s es) = omega arith
 
 joined_size : (es fs : Exprs) → exprs_size (joined es fs) ≡ exprs_size es + exprs_size fs
 unfolding joined
@@ -278,6 +351,10 @@ module _ {B : Type 0} (f : ℕ → Expr → List B) where
   collect_head at (cast t e) = ap (λ w. f at (cast t e) ++ w) (collect_one _ _ e (omega arith))
   collect_head at (call k es) = refl
   collect_head at (tuple es) = refl
+  collect_head at (index a i) = ap (λ w. f at (index a i) ++ w) (collect_two _ _ _ a i refl refl)
+  collect_head at (literal es) = refl
+  collect_head at (map_over k es) = refl
+  collect_head at (fold_over k s es) = refl
 
   collect_joined : (at : ℕ) (es fs : Exprs) → collect_all f at (joined es fs) ≡ collect_all f at es ++ collect_all f (at + exprs_size es) fs
   unfolding joined collect_all

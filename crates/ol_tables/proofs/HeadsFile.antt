@@ -16,7 +16,7 @@ use Rattle.ol_spec.specs.Places.{placed, placed_nodes}
 use Rattle.ol_spec.specs.Encode.{kind_code, name_bytes, expr_bytes, section_bytes, variable_bytes, equation_bytes, constant_bytes, node_bytes, encode}
 use Rattle.ol_spec.specs.Limits.{base, relay_loader}
 use Rattle.ol_spec.specs.Demand3.{Bytes}
-use Rattle.ol_spec.specs.Within.{byte_fits, count_fits, section_fits, name_fits, ty_fits, expr_fits, root_fits, variable_fits, equation_fits, constant_fits, node_fits, enum_fits, sections_fit, within}
+use Rattle.ol_spec.specs.Within.{byte_fits, count_fits, section_fits, name_fits, var_ty_fits, expr_fits, root_fits, variable_fits, equation_fits, constant_fits, node_fits, enum_fits, sections_fit, within}
 use Rattle.ol_spec.proofs.Tests.{T_and, and_t}
 use Rattle.ol_spec.proofs.RoundTrip.{encode_read}
 use Rattle.ol_spec.proofs.RoundTrip.Parts.{Here, here_front, here_back, here_self, here_inside}
@@ -26,7 +26,7 @@ use Rattle.ol_tables.specs.At.{file_at}
 use Rattle.ol_tables.specs.Tables.{place_of, node_of}
 use Rattle.ol_tables.specs.Heads.{Standing}
 use Rattle.ol_tables.specs.Stands.{Listed, VariableStands, ConstantStands, EquationStands, NodeStands, FileStands, FileReads}
-use Rattle.ol_tables.proofs.HeadLaws.{here_first, here_name, here_ty}
+use Rattle.ol_tables.proofs.HeadLaws.{here_first, here_name, here_var_ty}
 
 -- the same bytes at an offset that is equal
 pub moved : {s w : List ℕ} {at at' : ℕ} → at ≡ at' → Here s at w → Here s at' w
@@ -53,7 +53,7 @@ pub variable_stands : {s : List ℕ} {enums at : ℕ} (v : Variable) → T (vari
 variable_stands {s} {enums} {at} v t h =
     let w = T_and (name_fits v.name) _ t in
     let p = variable_here at v h in
-    record { name = here_name v.name w.0 p.0; ty = here_ty enums v.ty w.1 p.1 }
+    record { name = here_name v.name w.0 p.0; ty = here_var_ty enums v.ty w.1 p.1 }
 
 root_stands : {s : List ℕ} {enums at : ℕ} (e : Expr) → T (root_fits base enums e) → Here s at (expr_bytes e) → Standing s enums at (cons e nil)
 root_stands {s} {enums} {at} e t h =
@@ -62,9 +62,9 @@ root_stands {s} {enums} {at} e t h =
 pub constant_stands : {s : List ℕ} {enums at : ℕ} (c : Constant) → T (constant_fits base enums c) → Here s at (constant_bytes c) → ConstantStands s enums at c
 constant_stands {s} {enums} {at} c t h =
     let w = T_and (name_fits c.name) _ t in
-    let v = T_and (ty_fits enums c.ty) _ w.1 in
+    let v = T_and (var_ty_fits base enums c.ty) _ w.1 in
     let p = constant_here at c h in
-    record { name = here_name c.name w.0 p.0; ty = here_ty enums c.ty v.0 p.1; value = root_stands c.value v.1 p.2 }
+    record { name = here_name c.name w.0 p.0; ty = here_var_ty enums c.ty v.0 p.1; value = root_stands c.value v.1 p.2 }
 
 pub equation_stands : {s : List ℕ} {enums at : ℕ} (q : Equation) → T (equation_fits base enums q) → Here s at (equation_bytes q) → EquationStands s enums at q
 equation_stands {s} {enums} {at} q t h =

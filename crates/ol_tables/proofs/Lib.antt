@@ -7,3 +7,4 @@ pub mod Forms
 pub mod Lending
 pub mod TableLaws
 pub mod NumberLaws
+pub mod Cells

@@ -9,7 +9,7 @@ use native.Mathlib.Omega.{arith}
 use lib.ListN.{length, get_or}
 use lib.Dec.{ltb, eqb}
 use borrow.Author.Tests.{lt-ltb, le-ltb}
-use Rattle.ol_spec.specs.Syntax.{Expr, bool_lit, int_lit, float_lit, char_lit, var, unary, binary, if_then_else, pre, arrow, cast, call, tuple, Exprs, nil, cons, count}
+use Rattle.ol_spec.specs.Syntax.{Expr, bool_lit, int_lit, float_lit, char_lit, var, unary, binary, if_then_else, pre, arrow, cast, call, tuple, index, literal, map_over, fold_over, Exprs, nil, cons, count}
 use Rattle.ol_spec.specs.Places.{expr_size, exprs_size}
 use Rattle.ol_spec.specs.Eval.{callees, callees_all}
 use Rattle.ol_spec.proofs.RoundTrip.Parts.{here_inside}
@@ -38,6 +38,10 @@ some_size (arrow a b) = omega arith
 some_size (cast t e) = omega arith
 some_size (call k es) = omega arith
 some_size (tuple es) = omega arith
+some_size (index a i) = omega arith
+some_size (literal es) = omega arith
+some_size (map_over k es) = omega arith
+some_size (fold_over k s es) = omega arith
 
 pub count_size : (es : Exprs) → count es ≤ exprs_size es
 count_size nil = omega arith
@@ -144,6 +148,10 @@ own_told s at (arrow a b) h = rw h
 own_told s at (cast t e) h = rw h.0
 own_told s at (call k es) h = rw (h.0, h.1)
 own_told s at (tuple es) h = rw h.0
+own_told s at (index a i) h = rw h
+own_told s at (literal es) h = rw h.0
+own_told s at (map_over k es) h = rw h.0
+own_told s at (fold_over k e es) h = rw h.0
 
 pub callees_joined : (es fs : Exprs) → callees_all (joined es fs) ≡ callees_all es ++ callees_all fs
 unfolding joined

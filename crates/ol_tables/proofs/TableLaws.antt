@@ -6,12 +6,13 @@ use mathlib.Core.Path.{◌≡◌, sym, ap, ◌∙◌}
 use native.Mathlib.Omega.{arith}
 use native.Mathlib.Decide.{dec_le}
 use lib.ListN.{length, take, drop, get_or, set, length-set, length-map, length-drop, get_or-eq_default}
+use borrow.Author.Tests.{lt-ltb, le-ltb}
 use borrow.Rule.Slice.PartMut.{put_mid}
 use lib.Seq.{sets-eq, get_or-set_same, get_or-set_other, get_or-drop, drop-drop, drop-set-lt}
 use Rattle.ol_theory.specs.Member.{upto}
 use Rattle.ol_theory.proofs.Members.{length_from, map_upto}
-use Rattle.ol_tables.specs.Tables.{two_at, two_put, plans_from, start_at, code_at, enum_at}
-use Rattle.ol_tables.specs.Table.{number_at, rows_of, tab_of, types_at, number_put, Packs}
+use Rattle.ol_tables.specs.Tables.{two_at, two_put, plans_from, count_at, start_at, code_at, enum_at, length_at}
+use Rattle.ol_tables.specs.Table.{number_at, rows_of, consts_from, tab_of, half_of, types_at, number_put, Packs}
 
 -- there are 272 of them
 pub rows_long_lem : (t : List ℕ) → length (rows_of t) ≡ 272
@@ -99,24 +100,40 @@ two_drop half t q r e =
 pub two_kept : (t t' : List ℕ) (p : ℕ) → get_or t' p 0 ≡ get_or t p 0 → get_or t' (p + 1) 0 ≡ get_or t (p + 1) 0 → two_at t' p ≡ two_at t p
 two_kept t t' p a b = ap (λ x. x * 256 + get_or t' (p + 1) 0) a ∙ ap (λ x. get_or t p 0 * 256 + x) b
 
--- ---- types
+-- ---- the parts of a table
+
+-- a number of a node, by the table's own bytes
+pub count_from_lem : (t : List ℕ) (k j : ℕ) → two_at t (3954 + 8 * k + 2 * j) ≡ count_at (tab_of t) k j
+count_from_lem t k j = sym (two_drop 1394 t (2560 + 8 * k + 2 * j) (3954 + 8 * k + 2 * j) (omega arith))
 
 -- where the types start, by the table's own bytes
-pub types_from_lem : (t : List ℕ) (k a : ℕ) → a ≡ two_at t (3953 + 2 * k) → 4017 + (length t - 4017) / 2 + a ≡ types_at t k
-types_from_lem t k a e = omega (arith, e, two_drop 1393 t (2560 + 2 * k) (3953 + 2 * k) (omega arith), length-drop 1393 t)
+pub types_from_lem : (t : List ℕ) (k a : ℕ) → a ≡ two_at t (3954 + 8 * k) → 4210 + half_of t + a ≡ types_at t k
+types_from_lem t k a e = omega (arith, e, two_drop 1394 t (2560 + 8 * k) (3954 + 8 * k) (omega arith), length-drop 1394 t)
+
+-- where the constants' cells start
+pub consts_small : (t : List ℕ) → length t ≤ 69746 → consts_from t ≡ 818
+consts_small t h = let low : length t < 69747 = omega arith in rw (lt-ltb (length t) 69747 low)
+
+pub consts_large : (t : List ℕ) → 69746 < length t → consts_from t ≡ length t - 18432
+consts_large t h = let high : 69747 ≤ length t = omega arith in rw (le-ltb (length t) 69747 high)
+
+-- ---- types
 
 -- a byte of a variable's type
 module _ (t : List ℕ) (k i : ℕ) where
-  plans_byte : (x p : ℕ) → p ≡ 1393 + plans_from (tab_of t) + x → get_or t p 0 ≡ get_or (drop (plans_from (tab_of t)) (tab_of t)) x 0
+  plans_byte : (x p : ℕ) → p ≡ 1394 + plans_from (tab_of t) + x → get_or t p 0 ≡ get_or (drop (plans_from (tab_of t)) (tab_of t)) x 0
   plans_byte x p e =
-      let a : 1393 + (plans_from (tab_of t) + x) ≡ p = omega (arith, e) in
-      sym (get_or-drop (plans_from (tab_of t)) (tab_of t) x 0 ∙ get_or-drop 1393 t (plans_from (tab_of t) + x) 0 ∙ ap (λ n. get_or t n 0) a)
+      let a : 1394 + (plans_from (tab_of t) + x) ≡ p = omega (arith, e) in
+      sym (get_or-drop (plans_from (tab_of t)) (tab_of t) x 0 ∙ get_or-drop 1394 t (plans_from (tab_of t) + x) 0 ∙ ap (λ n. get_or t n 0) a)
 
-  pub code_is : {p : ℕ} → p ≡ types_at t k + 2 * i → get_or t p 0 ≡ code_at (tab_of t) k i
-  code_is {p} e = plans_byte (start_at (tab_of t) k + 2 * i) p (omega (arith, e))
+  pub code_is : {p : ℕ} → p ≡ types_at t k + 2 * i → get_or t p 0 % 16 ≡ code_at (tab_of t) k i
+  code_is {p} e = ap (λ n. n % 16) (plans_byte (start_at (tab_of t) k + 2 * i) p (omega (arith, e)))
 
-  pub enum_is : {p : ℕ} → p ≡ types_at t k + 2 * i + 1 → get_or t p 0 ≡ enum_at (tab_of t) k i
-  enum_is {p} e = plans_byte (start_at (tab_of t) k + 2 * i + 1) p (omega (arith, e))
+  pub enum_is : {p : ℕ} → p ≡ types_at t k + 2 * i → get_or t p 0 / 16 ≡ enum_at (tab_of t) k i
+  enum_is {p} e = ap (λ n. n / 16) (plans_byte (start_at (tab_of t) k + 2 * i) p (omega (arith, e)))
+
+  pub length_is : {p : ℕ} → p ≡ types_at t k + 2 * i + 1 → get_or t p 0 ≡ length_at (tab_of t) k i
+  length_is {p} e = plans_byte (start_at (tab_of t) k + 2 * i + 1) p (omega (arith, e))
 
 -- ---- packing, number by number
 

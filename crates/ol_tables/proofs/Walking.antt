@@ -28,27 +28,34 @@ table_size c h =
     let w = T_and (leb 1 (get_or sizes_table c 0)) _ (each_entry (λ n. leb 1 n && leb n 9) sizes_table c tt h) in
     (leb→le _ _ w.0, leb→le _ _ w.1)
 
-cond_small : (b : Bool) → cond b 2 1 ≤ 2
-cond_small true = omega arith
-cond_small false = omega arith
+cond_small : (a b d : Bool) → cond a (2 + cond b 2 1) (cond d 2 1) ≤ 4
+cond_small true true d = omega arith
+cond_small true false d = omega arith
+cond_small false b true = omega arith
+cond_small false b false = omega arith
 
-pub ty_small : (s : List ℕ) (at : ℕ) → ty_size_at s at ≤ 2
-ty_small s at = cond_small (eqb (get_or s at 0) 12)
+pub ty_small : (s : List ℕ) (at : ℕ) → ty_size_at s at ≤ 4
+ty_small s at = cond_small (eqb (get_or s at 0) 13) (eqb (get_or s (at + 2) 0) 12) (eqb (get_or s at 0) 12)
 
 -- a head has a byte at least
 pub next_on_lem : (s : List ℕ) (at : ℕ) → at < length s → at < next_at s at
 next_on_lem s at i =
     let c = get_or s at 0 in
-    rw (lt-ltb at (length s) i) (pick (ltb c 10) (eqb c 10) (eqb c 11) (λ e. omega (arith, (table_size c (ltb-true c 10 e)).0)))
+    rw (lt-ltb at (length s) i) (pick (ltb c 10) (eqb c 10) (eqb c 11) (eqb c 13) (ltb c 15) (λ e. omega (arith, (table_size c (ltb-true c 10 e)).0)))
   where
-    two : (b d : Bool) → at < cond b (at + 1 + ty_size_at s (at + 1)) (cond d (at + 3) (at + 2))
-    two true d = omega arith
-    two false true = omega arith
-    two false false = omega arith
+    four : (d e g : Bool) → at < cond d (at + 3) (cond e (at + 1) (cond g (at + 2) (at + 4)))
+    four true e g = omega arith
+    four false true g = omega arith
+    four false false true = omega arith
+    four false false false = omega arith
 
-    pick : (a b d : Bool) → (a ≡ true → at < at + get_or sizes_table (get_or s at 0) 0) → at < cond a (at + get_or sizes_table (get_or s at 0) 0) (cond b (at + 1 + ty_size_at s (at + 1)) (cond d (at + 3) (at + 2)))
-    pick true b d h = h refl
-    pick false b d h = two b d
+    two : (b d e g : Bool) → at < cond b (at + 1 + ty_size_at s (at + 1)) (cond d (at + 3) (cond e (at + 1) (cond g (at + 2) (at + 4))))
+    two true d e g = omega arith
+    two false d e g = four d e g
+
+    pick : (a b d e g : Bool) → (a ≡ true → at < at + get_or sizes_table (get_or s at 0) 0) → at < cond a (at + get_or sizes_table (get_or s at 0) 0) (cond b (at + 1 + ty_size_at s (at + 1)) (cond d (at + 3) (cond e (at + 1) (cond g (at + 2) (at + 4)))))
+    pick true b d e g h = h refl
+    pick false b d e g h = two b d e g
 
 -- ---- a walk over expressions, head by head
 

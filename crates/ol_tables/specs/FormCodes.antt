@@ -19,8 +19,11 @@ code_of_form Frm.Arrow = 9
 code_of_form Frm.Cast = 10
 code_of_form Frm.Call = 11
 code_of_form Frm.Tuple = 12
+code_of_form Frm.Index = 13
+code_of_form Frm.Literal = 14
+code_of_form Frm.Iterator = 15
 
--- a byte is the form's code; a byte that is no form's is above 12
+-- a byte is the form's code; a byte that is no form's is above 15
 abbrev pub FormDecodes : ℕ → Result Form NoForm → Type 0
 FormDecodes code (Ok form) = code ≡ code_of_form form
-FormDecodes code (Err e) = 12 < code
+FormDecodes code (Err e) = 15 < code

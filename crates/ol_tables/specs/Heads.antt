@@ -1,13 +1,14 @@
 -- An expression as its head, the bytes up to its parts, and its parts, which stand directly behind it: so a list of expressions is read head by head, with no tree.
 use Rattle.std.specs.Prelude.{ℕ, ◌+◌, ◌*◌, ◌<◌, cond, List, [], ◌∷◌, ◌≡◌, length, get_or, T, ltb, eqb}
 use Rattle.ol_spec.specs.Syntax.{Ty, Expr, bool_lit, int_lit, float_lit, char_lit, var, unary, binary, if_then_else, pre, arrow, cast, call, tuple, Exprs, nil, cons}
+use Rattle.ol_spec.specs.Syntax.{index, literal, map_over, fold_over, VarTy}
 use Rattle.ol_spec.specs.Syntax.{count}
-use Rattle.ol_spec.specs.Places.{ty_size}
+use Rattle.ol_spec.specs.Places.{ty_size, var_ty_size}
 use Rattle.ol_spec.specs.Encode.{exprs_bytes}
 use Rattle.ol_spec.specs.Limits.{base}
 use Rattle.ol_spec.specs.Within.{exprs_fit}
 use Rattle.ol_spec.proofs.RoundTrip.Parts.{Here}
-use Rattle.ol_tables.specs.Tables.{ty_code, ty_enum}
+use Rattle.ol_tables.specs.Tables.{ty_code, ty_enum, element_of, array_length}
 
 -- ---- heads and parts
 
@@ -26,6 +27,10 @@ code_of (arrow a b) = 9
 code_of (cast t e) = 10
 code_of (call k es) = 11
 code_of (tuple es) = 12
+code_of (index a i) = 13
+code_of (literal es) = 14
+code_of (map_over k es) = 15
+code_of (fold_over k s es) = 15
 
 abbrev pub parts_of : Expr → Exprs
 parts_of (bool_lit b) = nil
@@ -41,6 +46,10 @@ parts_of (arrow a b) = cons a (cons b nil)
 parts_of (cast t e) = cons e nil
 parts_of (call k es) = es
 parts_of (tuple es) = es
+parts_of (index a i) = cons a (cons i nil)
+parts_of (literal es) = es
+parts_of (map_over k es) = es
+parts_of (fold_over k s es) = cons s es
 
 -- how many bytes stand before the parts
 abbrev pub head_size : Expr → ℕ
@@ -57,6 +66,10 @@ head_size (arrow a b) = 1
 head_size (cast t e) = 1 + ty_size t
 head_size (call k es) = 3
 head_size (tuple es) = 2
+head_size (index a i) = 1
+head_size (literal es) = 2
+head_size (map_over k es) = 4
+head_size (fold_over k s es) = 4
 
 -- the expressions of the first list, then those of the second
 unfoldable pub joined : Exprs → Exprs → Exprs
@@ -75,13 +88,28 @@ module _ (s : List ℕ) (at : ℕ) where
   abbrev pub name_at : ℕ
   name_at = get_or s at 0 * 256 + get_or s (at + 1) 0
 
-  -- how many bytes the type at `at` has
-  abbrev pub ty_size_at : ℕ
-  ty_size_at = cond (eqb (get_or s at 0) 12) 2 1
+  -- how many bytes the scalar type at `at` has
+  abbrev pub scalar_size_at : ℕ
+  scalar_size_at = cond (eqb (get_or s at 0) 12) 2 1
 
   -- the enum's number of the type at `at`, 0 for another type
   abbrev pub ty_enum_at : ℕ
   ty_enum_at = cond (eqb (get_or s at 0) 12) (get_or s (at + 1) 0) 0
+
+  -- where the scalar type of the type at `at` stands, an array's behind its length, and that length, 0 for a scalar
+  abbrev pub element_at : ℕ
+  element_at = cond (eqb (get_or s at 0) 13) (at + 2) at
+
+  abbrev pub ty_length_at : ℕ
+  ty_length_at = cond (eqb (get_or s at 0) 13) (get_or s (at + 1) 0) 0
+
+  -- how many parts the iterator at `at` has: its arrays, and a fold its seed before them
+  abbrev pub iterator_parts_at : ℕ
+  iterator_parts_at = get_or s (at + 3) 0 + cond (eqb (get_or s (at + 1) 0) 1) 1 0
+
+-- how many bytes the type at `at` has: an array's are its code, its length and its elements' type
+abbrev pub ty_size_at : List ℕ → ℕ → ℕ
+ty_size_at s at = cond (eqb (get_or s at 0) 13) (2 + scalar_size_at s (at + 2)) (scalar_size_at s at)
 
 -- by an expression's code, up to Arrow: how many parts it has, and how many bytes its head
 abbrev pub parts_table : List ℕ
@@ -91,23 +119,32 @@ abbrev pub sizes_table : List ℕ
 sizes_table = 2 ∷ 9 ∷ 9 ∷ 2 ∷ 3 ∷ 2 ∷ 2 ∷ 1 ∷ 1 ∷ 1 ∷ []
 
 module _ (s : List ℕ) (at : ℕ) where
-  -- how many parts the expression at `at` has, and where they start; where the file ends, none, and no byte
+  -- how many parts the expression at `at` has, and where they start; where the file ends, none, and no byte. A byte that is no code is taken as an iterator's
   abbrev pub parts_at : ℕ
   parts_at =
       cond (ltb (get_or s at 0) 10) (get_or parts_table (get_or s at 0) 0)
-      (cond (eqb (get_or s at 0) 10) 1 (cond (eqb (get_or s at 0) 11) (get_or s (at + 2) 0) (get_or s (at + 1) 0)))
+      (cond (eqb (get_or s at 0) 10) 1
+      (cond (eqb (get_or s at 0) 11) (get_or s (at + 2) 0)
+      (cond (eqb (get_or s at 0) 13) 2 (cond (ltb (get_or s at 0) 15) (get_or s (at + 1) 0) (iterator_parts_at s at)))))
 
   abbrev pub next_at : ℕ
   next_at =
       cond (ltb at (length s))
       (cond (ltb (get_or s at 0) 10) (at + get_or sizes_table (get_or s at 0) 0)
-      (cond (eqb (get_or s at 0) 10) (at + 1 + ty_size_at s (at + 1)) (cond (eqb (get_or s at 0) 11) (at + 3) (at + 2)))) at
+      (cond (eqb (get_or s at 0) 10) (at + 1 + ty_size_at s (at + 1))
+      (cond (eqb (get_or s at 0) 11) (at + 3) (cond (eqb (get_or s at 0) 13) (at + 1) (cond (ltb (get_or s at 0) 15) (at + 2) (at + 4)))))) at
 
-  -- a type stands there: its code, its size and its enum's number are told by the bytes
+  -- a scalar type stands there: its code, its size and its enum's number are told by the bytes
   pub record TyIs (t : Ty) : Type 0 where
     pub code : get_or s at 0 ≡ ty_code t
     pub size : ty_size_at s at ≡ ty_size t
     pub number : ty_enum_at s at ≡ ty_enum t
+
+-- a variable's or a constant's type stands there
+pub record VarTyIs (s : List ℕ) (at : ℕ) (t : VarTy) : Type 0 where
+  pub element : TyIs s (element_at s at) (element_of t)
+  pub length : ty_length_at s at ≡ array_length t
+  pub size : ty_size_at s at ≡ var_ty_size t
 
 -- the head of an expression stands there
 abbrev pub HeadIs : List ℕ → ℕ → Expr → Type 0
@@ -124,6 +161,10 @@ HeadIs s at (arrow a b) = get_or s at 0 ≡ 9
 HeadIs s at (cast t e) = (get_or s at 0 ≡ 10) × TyIs s (at + 1) t
 HeadIs s at (call k es) = (get_or s at 0 ≡ 11) × (get_or s (at + 1) 0 ≡ k) × (get_or s (at + 2) 0 ≡ count es)
 HeadIs s at (tuple es) = (get_or s at 0 ≡ 12) × (get_or s (at + 1) 0 ≡ count es)
+HeadIs s at (index a i) = get_or s at 0 ≡ 13
+HeadIs s at (literal es) = (get_or s at 0 ≡ 14) × (get_or s (at + 1) 0 ≡ count es)
+HeadIs s at (map_over k es) = (get_or s at 0 ≡ 15) × (get_or s (at + 1) 0 ≡ 0) × (get_or s (at + 2) 0 ≡ k) × (get_or s (at + 3) 0 ≡ count es)
+HeadIs s at (fold_over k e es) = (get_or s at 0 ≡ 15) × (get_or s (at + 1) 0 ≡ 1) × (get_or s (at + 2) 0 ≡ k) × (get_or s (at + 3) 0 ≡ count es)
 
 -- these expressions stand there, one after the other, in a file with so many enums
 pub record Standing (s : List ℕ) (enums at : ℕ) (es : Exprs) : Type 0 where

@@ -1,6 +1,6 @@
 -- An expression's own call site, and the types that a file can hold.
 use Rattle.std.specs.Prelude.{ℕ, ◌≤◌, List, [], ◌∷◌}
-use Rattle.ol_spec.specs.Syntax.{Expr, bool_lit, int_lit, float_lit, char_lit, var, unary, binary, if_then_else, pre, arrow, cast, call, tuple}
+use Rattle.ol_spec.specs.Syntax.{Expr, bool_lit, int_lit, float_lit, char_lit, var, unary, binary, if_then_else, pre, arrow, cast, call, tuple, index, literal, map_over, fold_over}
 use Rattle.ol_spec.specs.Syntax.{Ty, bool, int, float32, float64, char, enum}
 
 -- the callee, if it is a call
@@ -18,6 +18,10 @@ own_sites (arrow a b) = []
 own_sites (cast t e) = []
 own_sites (call k es) = k ∷ []
 own_sites (tuple es) = []
+own_sites (index a i) = []
+own_sites (literal es) = []
+own_sites (map_over k es) = []
+own_sites (fold_over k s es) = []
 
 -- an integer type has a code from 1 to 8
 abbrev pub Proper : Ty → Type 0

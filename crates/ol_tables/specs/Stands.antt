@@ -9,7 +9,7 @@ use Rattle.ol_spec.specs.Limits.{base, relay_loader}
 use Rattle.ol_spec.specs.Within.{name_fits, variable_fits, equation_fits, constant_fits, node_fits, enum_fits}
 use Rattle.ol_spec.proofs.RoundTrip.Parts.{Here}
 use Rattle.ol_tables.specs.At.{file_at}
-use Rattle.ol_tables.specs.Heads.{name_at, TyIs, Standing}
+use Rattle.ol_tables.specs.Heads.{name_at, VarTyIs, Standing}
 
 -- the items xs stand in s from `at` on, one after the other, each as its bytes, and each is within the limits
 pub record Listed {A : Type 0} (bytes : A → List ℕ) (fits : A → Bool) (s : List ℕ) (at : ℕ) (xs : List A) : Type 0 where
@@ -29,12 +29,12 @@ module _ (s : List ℕ) (enums at : ℕ) where
 
   pub record VariableStands (v : Variable) : Type 0 where
     pub name : name_at s at ≡ v.name
-    pub ty : TyIs s (at + 2) v.ty
+    pub ty : VarTyIs s (at + 2) v.ty
 
   pub record ConstantStands (c : Constant) : Type 0 where
     pub name : name_at s at ≡ c.name
-    pub ty : TyIs s (at + 2) c.ty
-    pub value : Standing s enums (at + 2 + Rattle.ol_spec.specs.Places.ty_size c.ty) (cons c.value nil)
+    pub ty : VarTyIs s (at + 2) c.ty
+    pub value : Standing s enums (at + 2 + Rattle.ol_spec.specs.Places.var_ty_size c.ty) (cons c.value nil)
 
   pub record EquationStands (q : Equation) : Type 0 where
     pub count : get_or s at 0 ≡ length q.names

@@ -1,7 +1,7 @@
 -- The table of a file, as bytes (src/table.rt): its parts. What they say of the file is in Tables, of `rows`, `tab` and the constants' cells.
-use Rattle.std.specs.Prelude.{ℕ, ◌+◌, ◌*◌, ◌/◌, ◌%◌, ◌<◌, ◌≤◌, List, map, ◌≡◌, take, drop, get_or, set}
+use Rattle.std.specs.Prelude.{ℕ, ◌+◌, ◌-◌, ◌*◌, ◌/◌, ◌%◌, ◌<◌, ◌≤◌, cond, List, map, ◌≡◌, ltb, length, take, drop, get_or, set}
 use Rattle.ol_theory.specs.Member.{upto}
-use Rattle.ol_tables.specs.Tables.{plans_from, start_at}
+use Rattle.ol_tables.specs.Tables.{two_at, plans_from, start_at}
 
 -- number i of the rows: three bytes
 abbrev pub number_at : List ℕ → ℕ → ℕ
@@ -11,20 +11,27 @@ number_at t i = get_or t (3 * i) 0 * 65536 + get_or t (3 * i + 1) 0 * 256 + get_
 unfoldable pub rows_of : List ℕ → List ℕ
 rows_of t = map (number_at t) (upto 272)
 
--- how many constants have their cells, and these cells
+-- how many cells of constants are known, and these cells: behind their number, but in a wide table at its end
 abbrev pub known_of : List ℕ → ℕ
-known_of t = get_or t 816 0
+known_of t = two_at t 816
+
+abbrev pub consts_from : List ℕ → ℕ
+consts_from t = cond (ltb (length t) 69747) 818 (length t - 18432)
 
 abbrev pub consts_of : List ℕ → List ℕ
-consts_of t = take (9 * known_of t) (drop 817 t)
+consts_of t = take (9 * known_of t) (drop (consts_from t) t)
 
--- the orders, the nodes' places, the slots and the plans
+-- the orders, the nodes' numbers, the slots and the plans
 abbrev pub tab_of : List ℕ → List ℕ
-tab_of t = drop 1393 t
+tab_of t = drop 1394 t
+
+-- how many bytes the slots have, and the plans
+abbrev pub half_of : List ℕ → ℕ
+half_of t = (length t - 4210) / 2
 
 -- where the types of node k's variables start
 abbrev pub types_at : List ℕ → ℕ → ℕ
-types_at t k = 1393 + plans_from (tab_of t) + start_at (tab_of t) k
+types_at t k = 1394 + plans_from (tab_of t) + start_at (tab_of t) k
 
 -- number i is stored
 abbrev pub number_put : List ℕ → ℕ → ℕ → List ℕ

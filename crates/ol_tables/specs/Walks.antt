@@ -11,7 +11,7 @@ use Rattle.ol_tables.specs.declared.heads.NextCall.TheVariants as Nxt
 pub record HeadOf (s : List ℕ) (at : ℕ) (h : Parts) : Type 0 where
   pub parts : h.count ≡ parts_at s at
   pub next : h.start ≡ next_at s at
-  pub few : h.count < 256
+  pub few : h.count ≤ 256
   pub onward : at < length s → at < h.start
   pub near : h.start ≤ at + 9
 

@@ -18,15 +18,18 @@ pub enum Form {
     Cast,
     Call,
     Tuple,
+    Index,
+    Literal,
+    Iterator,
 }
 
 impl Form {
-    // The form of the expression at `at`; that it is in the file is asked, since each caller has just tested it. A byte that is no code, which no file has there that reads without fault, is taken as a Tuple's.
+    // The form of the expression at `at`; that it is in the file is asked, since each caller has just tested it. A byte that is no code, which no file has there that reads without fault, is taken as an Iterator's.
     pub fn at(file: &[u8], at: usize) -> Form
         requires { at < length file.now }
-        ensures { min (get_or file.now at 0) 12 ≡ code_of_form result }
+        ensures { min (get_or file.now at 0) 15 ≡ code_of_form result }
     {
-        Form::try_from(file[at]).unwrap_or(Form::Tuple)
+        Form::try_from(file[at]).unwrap_or(Form::Iterator)
     }
 
     // Whether the expression at `at` is of this form.
@@ -64,6 +67,9 @@ impl TryFrom<u8> for Form {
             10 => Ok(Form::Cast),
             11 => Ok(Form::Call),
             12 => Ok(Form::Tuple),
+            13 => Ok(Form::Index),
+            14 => Ok(Form::Literal),
+            15 => Ok(Form::Iterator),
             _ => Err(NoForm),
         }
     }

@@ -1,11 +1,11 @@
 // Expressions, head by head: an expression is its head and its parts directly behind it.
-ghost use Rattle.std.specs.Prelude.{◌≡◌, ◌<◌, length};
-ghost use Rattle.ol_tables.specs.Heads.{ty_size_at};
+ghost use Rattle.std.specs.Prelude.{◌≡◌, ◌<◌, ◌≤◌, length};
+ghost use Rattle.ol_tables.specs.Heads.{ty_size_at, scalar_size_at, iterator_parts_at};
 ghost use Rattle.ol_tables.specs.Walks.{HeadOf, Steps, skip_at, Calls};
 
 use super::bytes::byte;
 use super::form::Form;
-use ol_spec::type_codes::ENUM;
+use ol_spec::type_codes::{ARRAY, ENUM};
 
 // How many parts an expression has, and where they start.
 #[derive(Clone, Copy)]
@@ -14,9 +14,9 @@ pub struct Parts {
     pub start: usize,
 }
 
-// How many bytes the type at `at` has.
-pub fn ty_size(file: &[u8], at: usize) -> usize
-    ensures { result ≡ ty_size_at file.now at }
+// How many bytes the scalar type at `at` has.
+fn scalar_size(file: &[u8], at: usize) -> usize
+    ensures { result ≡ scalar_size_at file.now at }
 {
     if byte(file, at) == usize::from(ENUM) {
         2
@@ -25,8 +25,35 @@ pub fn ty_size(file: &[u8], at: usize) -> usize
     }
 }
 
+// How many bytes the type at `at` has: an array's are its code, its length and its elements' type.
+pub fn ty_size(file: &[u8], at: usize) -> usize
+    ensures { result ≡ ty_size_at file.now at }
+{
+    if byte(file, at) == usize::from(ARRAY) {
+        2 + scalar_size(file, at + 2)
+    } else {
+        scalar_size(file, at)
+    }
+}
+
+// How many parts the iterator at `at` has: its arrays, and a fold its seed before them.
+#[inline(never)]
+fn iterator_parts(file: &[u8], at: usize) -> usize
+    requires { at < length file.now }
+    ensures is { result ≡ iterator_parts_at file.now at }
+    ensures few { result ≤ 256 }
+{
+    let arrays = byte(file, at + 3);
+    if byte(file, at + 1) == 1 {
+        arrays + 1
+    } else {
+        arrays
+    }
+}
+
 // The head of the expression at `at`, in the file. The numbers are those of parts_table and sizes_table
 // (specs/Heads).
+#[inline(always)]
 fn head_inside(file: &[u8], at: usize) -> Parts
     requires { at < length file.now }
     ensures { HeadOf file.now at result }
@@ -42,12 +69,15 @@ fn head_inside(file: &[u8], at: usize) -> Parts
         Form::Arrow => (2, at + 1),
         Form::Cast => (1, at + 1 + ty_size(file, at + 1)),
         Form::Call => (byte(file, at + 2), at + 3),
-        Form::Tuple => (byte(file, at + 1), at + 2),
+        Form::Tuple | Form::Literal => (byte(file, at + 1), at + 2),
+        Form::Index => (2, at + 1),
+        Form::Iterator => (iterator_parts(file, at), at + 4),
     };
     Parts { count, start }
 }
 
 // The head of the expression at `at`; where the file ends, no part and no byte.
+#[inline(always)]
 pub fn head(file: &[u8], at: usize) -> Parts
     ensures { HeadOf file.now at result }
 {

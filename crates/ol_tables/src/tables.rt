@@ -29,10 +29,13 @@ pub const ROWS: usize = 272;
 // In a table by name, the entry of a variant.
 pub const VARIANT: usize = 255;
 
-// The most equations of a node, and the bytes of its cells.
+// The most equations of a node.
 pub const MOST_EQUATIONS: usize = 80;
 
-pub const MOST_CELLS: usize = 1008;
+// The cell of a name, as a slot has it: below these two a variable's, from the first on a constant's; the second is a variant's.
+pub const CONSTANT_CELLS: usize = 3584;
+
+pub const NO_CELL: usize = 65535;
 
 // A node's row. The kind stays a byte of the file: ol_check's `node_row`, `may_call` and `record_size` are not told that it is below 3, so that a kind would be a
 // fourth variant or a Result at each use.

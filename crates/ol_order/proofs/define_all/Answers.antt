@@ -3,11 +3,11 @@ use Rattle.ol_order.proofs.define_all.Goals as goal
 
 pub loop-i-preserved : goal.loop-i-preserved
 loop-i-preserved c =
-    all_turn c.args.file.now c.args.starts.now _ _ _ _ c.loop-i.invariant c.loop-i-test.true c.count.ensures c.in-Ok.is c.define.ensures
+    all_turn c.args.file.now c.args.starts.now _ _ _ _ c.loop-i.invariant c.loop-i-test.true c.count.ensures.is c.in-Ok.is c.define.ensures
 
 pub returns-in-Err : goal.returns-in-Err
 returns-in-Err c =
-    all_not c.args.file.now c.args.starts.now _ _ _ _ c.loop-i.invariant c.loop-i-test.true c.count.ensures c.in-Err.is
+    all_not c.args.file.now c.args.starts.now _ _ _ _ c.loop-i.invariant c.loop-i-test.true c.count.ensures.is c.in-Err.is
 
 pub returns : goal.returns
 returns c = all_end c.args.file.now c.args.starts.now _ _ _ _ c.loop-i.invariant c.loop-i-test.false

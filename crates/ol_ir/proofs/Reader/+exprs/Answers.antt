@@ -1,8 +1,7 @@
-use Prim.Native.Nat.{◌+◌}
 use mathlib.Core.Path.{◌∙◌}
 use native.Mathlib.Omega.{arith}
 use Rattle.ol_ir.proofs.Onward.{exprs_next, turns_end, erred}
-use Rattle.ol_ir.proofs.Exprs.{few, falls_deeper, turn_deep, turn_leaf, turn_last, turn_parts, parts_halt, turn_fault}
+use Rattle.ol_ir.proofs.Exprs.{above_parts, few, falls_deeper, turn_deep, turn_leaf, turn_last, turn_parts, parts_halt, turn_fault}
 use Rattle.ol_ir.proofs.Reader.+exprs.Goals as goal
 
 pub loop-left-init : goal.loop-left-init
@@ -20,7 +19,7 @@ loop-left-preserved-then-h-eq0 t c =
 
 pub loop-left-smaller-then-left-eq0 : goal.loop-left-smaller-then-left-eq0
 loop-left-smaller-then-left-eq0 t c =
-    falls_deeper c.loop-left.depth (4 + (c.args.self.now.limits.now.arguments + c.args.self.now.limits.now.items)) c.in_ok-h.h.count c.loop-left.left (omega arith) (few c.args.self.now.file.now c.args.self.now.limits.now c.args.self.now.enums c.loop-left.next c.in_ok-h.h.count c.in_ok-h.h.at c.head.ensures c.in_ok-h.was) c.loop-left-test.true
+    falls_deeper c.loop-left.depth (above_parts c.args.self.now.limits.now) c.in_ok-h.h.count c.loop-left.left (omega arith) (few c.args.self.now.file.now c.args.self.now.limits.now c.args.self.now.enums c.loop-left.next c.in_ok-h.h.count c.in_ok-h.h.at c.head.ensures c.in_ok-h.was) c.loop-left-test.true
 
 pub loop-left-preserved-then-left-eq0 : goal.loop-left-preserved-then-left-eq0
 loop-left-preserved-then-left-eq0 t c =

@@ -3,7 +3,7 @@ use Prim.Native.Nat.{◌+◌, ◌*◌, ◌≤◌}
 use Rattle.ol_spec.specs.Read.{many_exprs, expr_r}
 use Rattle.ol_ir.specs.Nexts.{next_of}
 use Rattle.ol_ir.proofs.Onward.{Turns}
-use Rattle.ol_ir.proofs.Exprs.{expr_at}
+use Rattle.ol_ir.proofs.Exprs.{above_parts, expr_at}
 use Rattle.ol_ir.proofs.Reader.+exprs.Given as goal
 
 abbrev pub decreases-exprs : goal.decreases-exprs
@@ -15,4 +15,4 @@ invariant-loop-left l =
     × Turns (next_of (many_exprs l.count (expr_r l.self.file.now l.self.limits.now l.self.enums l.level) l.at)) l.left (expr_at l.self.file.now l.self.limits.now l.self.enums l.depth) l.next
 
 abbrev pub decreases-loop-left : goal.decreases-loop-left
-decreases-loop-left l = l.depth * (4 + (l.self.limits.now.arguments + l.self.limits.now.items)) + l.left
+decreases-loop-left l = l.depth * above_parts l.self.limits.now + l.left

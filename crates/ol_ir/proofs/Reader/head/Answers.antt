@@ -2,7 +2,7 @@ use Prim.Native.Nat.{◌+◌}
 use mathlib.Core.Path.{◌∙◌, sym, ap, refl}
 use Rattle.ol_spec.specs.Lists.{up_to}
 use Rattle.ol_spec.specs.Read.{byte, number, coded, ty_r, bools, unary_ops, bin_ops, bool_code, char_code, var_code, unary_code}
-use Rattle.ol_spec.specs.Read.{binary_code, if_code, pre_code, arrow_code, cast_code, call_code, tuple_code}
+use Rattle.ol_spec.specs.Read.{binary_code, if_code, pre_code, arrow_code, cast_code, call_code, tuple_code, index_code, literal_code, iterator_code}
 use Rattle.ol_tables.specs.FormCodes.{code_of_form}
 use Rattle.ol_ir.specs.Nexts.{counted_of}
 use Rattle.ol_ir.proofs.Forms.{code_next}
@@ -72,10 +72,19 @@ unfolding parts_of
 returns-in_ok-ty-in-Cast c = head_parts c.args.self.now.file.now c.args.self.now.limits.now c.args.self.now.enums c.args.at 10 1 cast_code (ty_r c.args.self.now.file.now c.args.self.now.limits.now c.args.self.now.enums (c.args.at + 1)) c.in_ok-form.ensures.0 (c.in_ok-form.ensures.1 ∙ ap code_of_form c.in-Cast.is) refl refl (sym (ap (parts_of 1) c.in_ok-ty-in-Cast.was)) (c.ty.ensures c.args.self.now.limits.now)
 
 pub returns-in-Call : goal.returns-in-Call
-returns-in-Call c = c.call.ensures ∙ sym (ap counted_of (head_is c.args.self.now.file.now c.args.self.now.limits.now c.args.self.now.enums c.args.at 11 call_code c.in_ok-form.ensures.0 (c.in_ok-form.ensures.1 ∙ ap code_of_form c.in-Call.is) refl))
+returns-in-Call c = c.call.ensures.is ∙ sym (ap counted_of (head_is c.args.self.now.file.now c.args.self.now.limits.now c.args.self.now.enums c.args.at 11 call_code c.in_ok-form.ensures.0 (c.in_ok-form.ensures.1 ∙ ap code_of_form c.in-Call.is) refl))
 
 pub returns-in-Tuple : goal.returns-in-Tuple
-returns-in-Tuple c = c.count.ensures ∙ sym (ap counted_of (head_is c.args.self.now.file.now c.args.self.now.limits.now c.args.self.now.enums c.args.at 12 tuple_code c.in_ok-form.ensures.0 (c.in_ok-form.ensures.1 ∙ ap code_of_form c.in-Tuple.is) refl))
+returns-in-Tuple c = c.count.ensures.is ∙ sym (ap counted_of (head_is c.args.self.now.file.now c.args.self.now.limits.now c.args.self.now.enums c.args.at 12 tuple_code c.in_ok-form.ensures.0 (c.in_ok-form.ensures.1 ∙ ap code_of_form c.in-Tuple.is) refl))
+
+pub returns-in-Index : goal.returns-in-Index
+returns-in-Index c = head_byte c.args.self.now.file.now c.args.self.now.limits.now c.args.self.now.enums c.args.at 13 2 index_code c.in_ok-form.ensures.0 (c.in_ok-form.ensures.1 ∙ ap code_of_form c.in-Index.is) refl refl
+
+pub returns-in-Literal : goal.returns-in-Literal
+returns-in-Literal c = c.count-in-Literal.ensures.is ∙ sym (ap counted_of (head_is c.args.self.now.file.now c.args.self.now.limits.now c.args.self.now.enums c.args.at 14 literal_code c.in_ok-form.ensures.0 (c.in_ok-form.ensures.1 ∙ ap code_of_form c.in-Literal.is) refl))
+
+pub returns-in-Iterator : goal.returns-in-Iterator
+returns-in-Iterator c = c.iterator.ensures ∙ sym (ap counted_of (head_is c.args.self.now.file.now c.args.self.now.limits.now c.args.self.now.enums c.args.at 15 iterator_code c.in_ok-form.ensures.0 (c.in_ok-form.ensures.1 ∙ ap code_of_form c.in-Iterator.is) refl))
 
 pub returns-in_err-bytes-in-Int : goal.returns-in_err-bytes-in-Int
 unfolding parts_of

@@ -7,4 +7,4 @@ pub returns-in_err-p : goal.returns-in_err-p
 returns-in_err-p c = erred _ _ c.from_residual.ensures.1 ∙ halt (variable_chain c.args.self.now.file.now c.args.self.now.limits.now c.args.self.now.enums c.args.at) c.bytes.ensures c.in_err-p.was
 
 pub returns : goal.returns
-returns c = arrive (variable_chain c.args.self.now.file.now c.args.self.now.limits.now c.args.self.now.enums c.args.at) c.bytes.ensures c.in_ok-p.was (c.ty.ensures c.args.self.now.limits.now)
+returns c = arrive (variable_chain c.args.self.now.file.now c.args.self.now.limits.now c.args.self.now.enums c.args.at) c.bytes.ensures c.in_ok-p.was c.var_ty.ensures

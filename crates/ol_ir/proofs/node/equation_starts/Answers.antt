@@ -16,14 +16,14 @@ pub returns-in_err-n : goal.returns-in_err-n
 returns-in_err-n c =
     let s = c.args.file.now in
     record {
-      many = erred _ _ c.from_residual-in_err-n.ensures.1 ∙ (sym c.in_err-n.was ∙ starts_counted s c.args.limits c.args.enums c.args.at c.interface.ensures c.in_ok-p.was c.count.ensures);
-      places = ap (sets c.args.starts.now 0) (starts_uncounted s c.args.limits c.args.enums c.args.at c.interface.ensures c.in_ok-p.was c.count.ensures c.in_err-n.was);
+      many = erred _ _ c.from_residual-in_err-n.ensures.1 ∙ (sym c.in_err-n.was ∙ starts_counted s c.args.limits c.args.enums c.args.at c.interface.ensures c.in_ok-p.was c.count.ensures.is);
+      places = ap (sets c.args.starts.now 0) (starts_uncounted s c.args.limits c.args.enums c.args.at c.interface.ensures c.in_ok-p.was c.count.ensures.is c.in_err-n.was);
     }
 
 pub returns : goal.returns
 returns c =
     let s = c.args.file.now in
     record {
-      many = sym c.in_ok-n.was ∙ starts_counted s c.args.limits c.args.enums c.args.at c.interface.ensures c.in_ok-p.was c.count.ensures;
-      places = c.equation_places.ensures ∙ ap (sets c.args.starts.now 0) (starts_placed s c.args.limits c.args.enums c.args.at c.interface.ensures c.in_ok-p.was c.count.ensures c.in_ok-n.was);
+      many = sym c.in_ok-n.was ∙ starts_counted s c.args.limits c.args.enums c.args.at c.interface.ensures c.in_ok-p.was c.count.ensures.is;
+      places = c.equation_places.ensures ∙ ap (sets c.args.starts.now 0) (starts_placed s c.args.limits c.args.enums c.args.at c.interface.ensures c.in_ok-p.was c.count.ensures.is c.in_ok-n.was);
     }
