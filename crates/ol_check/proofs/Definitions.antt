@@ -174,7 +174,7 @@ pub clean_step : (b : Bool) (p : ℕ) (r : Option ℕ) → first_if b p r ≡ no
 clean_step true p r e = let z : ◌≡◌ {A = ℕ} 0 1 = cc in absurd (omega arith)
 clean_step false p r e = (refl, e)
 
-clean_both : (a b : List Item) → first (a ++ b) ≡ none → (first a ≡ none) × (first b ≡ none)
+pub clean_both : (a b : List Item) → first (a ++ b) ≡ none → (first a ≡ none) × (first b ≡ none)
 clean_both [] b e = (refl, e)
 clean_both (i ∷ a) b e =
     let w = clean_step i.1 i.0 (first (a ++ b)) e in

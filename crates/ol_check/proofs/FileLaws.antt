@@ -16,7 +16,7 @@ use Rattle.ol_spec.specs.Places.{constant_size, constants_start, placed, placed_
 use Rattle.ol_spec.specs.Encode.{constant_bytes}
 use Rattle.ol_spec.specs.Limits.{base}
 use Rattle.ol_spec.specs.Within.{constant_fits}
-use Rattle.ol_spec.specs.Admission.{first, variants, constant_names, constant_uses, node_uses, node_calls, node_shape, in_constant, calls_where, shape_item, numbered, fault7, fault8, fault9, fault10}
+use Rattle.ol_spec.specs.Admission.{first, variants, constant_names, constant_uses, node_uses, node_calls, node_shape, in_constant, uses_where, shape_item, numbered, fault7, fault8, fault9, fault10}
 use Rattle.ol_spec.proofs.Walks.{first_append}
 use Rattle.ol_tables.specs.At.{file_at}
 use Rattle.ol_tables.specs.Tables.{Each}
@@ -37,6 +37,9 @@ use Rattle.ol_check.proofs.EntryLaws.{Enterable, knows_all, declare_length}
 use Rattle.ol_check.proofs.NodeLaws.{outputs_told, ready_at}
 use Rattle.ol_check.proofs.SizeTable.{last_any}
 use Rattle.ol_check.proofs.Definitions.{nodes_defined}
+use Rattle.ol_check.specs.Arrays.{or_all, constant_forms, node_forms, declares_arrays}
+use Rattle.ol_check.proofs.EquationLaws.{or_append}
+use Rattle.ol_check.proofs.KnownLaws.{EntryWithin, within_all, within_constants, within_variants}
 
 pub few_enums_lem : {s : List ℕ} {f : File} → FileStands s f → {n : ℕ} → Byte s 1 n → n ≤ 16
 few_enums_lem st b = omega (arith, b.is ∙ st.enum_count, st.few_enums)
@@ -132,10 +135,16 @@ module _ {s rows names : List ℕ} {at : Sections} (rd : FileReady s rows names 
           stand = subst (λ p. Listed constant_bytes (constant_fits base (length f.enums)) s p f.constants) (sym rd.sections.constants) st.constants;
         }
 
-    module _ {names₂ slots slots₁ : List ℕ} {g₀ g : Findings} (en : g₀.next ≡ at.constants + 1) (eu : g₀.unseen ≡ none) (eg : g₀.again ≡ none) (ec₀ : g₀.called ≡ none) (eh : g₀.shaped ≡ none)
+    module _ {names₂ slots slots₁ : List ℕ} {g₀ g : Findings} (en : g₀.next ≡ at.constants + 1) (eu : g₀.unseen ≡ none) (eg : g₀.again ≡ none) (ec₀ : g₀.called ≡ none) (eh : g₀.shaped ≡ none) (ea₀ : g₀.arrays ≡ declares_arrays (file_at s))
         (cj : ConstantsJudged s names₁ (file_at s) (variants (file_at s)) g₀.next (file_at s).constants slots slots₁ names₂ g₀ g) where
       pub global_is : names₂ ≡ global_table names (file_at s)
       global_is = cj.entered ∙ ap (λ l. declare_all l (constant_entries 0 (file_at s).constants)) table_is
+
+      global_within : (y : ℕ) → EntryWithin 0 (length (file_at s).constants) (get_or names₂ y 0)
+      global_within y =
+          rw global_is
+          (within_all (constant_entries 0 (file_at s).constants) (variant_table names (file_at s)) (within_constants 0 (file_at s).constants 0 (omega arith))
+          (within_all (map variant_entry (variants (file_at s))) names (within_variants 0 (length (file_at s).constants) (variants (file_at s))) (λ z. let e = rd.empty z in record { variable = λ a b. absurd (omega arith); constant = λ a b. absurd (omega arith) })) y)
 
       pub names_ready : NamesReady names₂ (file_at s)
       names_ready =
@@ -144,6 +153,7 @@ module _ {s rows names : List ℕ} {at : Sections} (rd : FileReady s rows names 
           record {
             global = subst Global (sym global_is) (globals_global names f rd.empty within);
             knows = subst (λ l. Knows l (global_names f)) (sym global_is) (globals_known names f rd.empty within);
+            constants = λ y a b. (global_within y).constant a b;
             covered = subst (λ n. AllCovered n f) same within.nodes;
           }
 
@@ -160,13 +170,15 @@ module _ {s rows names : List ℕ} {at : Sections} (rd : FileReady s rows names 
                   ∙ sym (first_append (constant_uses (variants f) (placed_constants f)) (concat (map (node_uses (constant_names f ++ variants f)) (placed_nodes f))));
               taken = table-again ∙ ap (λ l. first (concat (map (node_again l) (placed_nodes f)))) global_is;
               again = λ no7. table-again ∙ ap first (nodes_defined st names₂ names_ready.global names_ready.knows names_ready.covered no7);
-              called = nj.called ∙ ap (λ o. found_in o (concat (map (node_calls f) (numbered 0 (placed_nodes f))))) (cj.called ∙ ap (λ o. found_in o (concat (map (in_constant (calls_where (λ x n. true))) (placed constant_size g₀.next cs)))) ec₀ ∙ ap (λ p. first (concat (map (in_constant (calls_where (λ x n. true))) (placed constant_size p cs)))) start)
-                  ∙ sym (first_append (concat (map (in_constant (calls_where (λ x n. true))) (placed_constants f))) (concat (map (node_calls f) (numbered 0 (placed_nodes f)))));
+              called = nj.called ∙ ap (λ o. found_in o (concat (map (node_calls f) (numbered 0 (placed_nodes f))))) (cj.called ∙ ap (λ o. found_in o (concat (map (in_constant (uses_where (λ x n. true) (λ x. true))) (placed constant_size g₀.next cs)))) ec₀ ∙ ap (λ p. first (concat (map (in_constant (uses_where (λ x n. true) (λ x. true))) (placed constant_size p cs)))) start)
+                  ∙ sym (first_append (concat (map (in_constant (uses_where (λ x n. true) (λ x. true))) (placed_constants f))) (concat (map (node_calls f) (numbered 0 (placed_nodes f)))));
               shaped = nj.shaped ∙ ap (λ o. found_in o (concat (map (node_shape f) (placed_nodes f)))) (cj.shaped ∙ ap (λ o. found_in o (concat (map (in_constant (shape_item f)) (placed constant_size g₀.next cs)))) eh ∙ ap (λ p. first (concat (map (in_constant (shape_item f)) (placed constant_size p cs)))) start)
                   ∙ sym (first_append (concat (map (in_constant (shape_item f)) (placed_constants f))) (concat (map (node_shape f) (placed_nodes f))));
+              arrays = nj.arrays ∙ ap (λ b. or_all b (concat (map node_forms (placed_nodes f)))) (cj.arrays ∙ ap (λ b. or_all b (concat (map constant_forms (placed constant_size g₀.next cs)))) ea₀ ∙ ap (λ p. or_all (declares_arrays f) (concat (map constant_forms (placed constant_size p cs)))) start)
+                  ∙ or_append (declares_arrays f) (concat (map constant_forms (placed_constants f))) (concat (map node_forms (placed_nodes f)));
               entered = same ∙ global_is;
-              slotted = nj.slotted ∙ ap (λ l. slot_nodes s l slots₁ (placed_nodes f)) global_is
-                  ∙ ap (λ l. slot_nodes s (global_table names f) l (placed_nodes f)) (cj.slotted ∙ ap (λ p. slot_constants s names₁ slots 0 (placed constant_size p cs)) start ∙ ap (λ l. slot_constants s l slots 0 (placed_constants f)) table_is);
+              slotted = nj.slotted ∙ ap (λ l. slot_nodes s l slots₁ 0 (placed_nodes f)) global_is
+                  ∙ ap (λ l. slot_nodes s (global_table names f) l 0 (placed_nodes f)) (cj.slotted ∙ ap (λ p. slot_constants s names₁ slots 0 (placed constant_size p cs)) start ∙ ap (λ l. slot_constants s l slots 0 (placed_constants f)) table_is);
               stored = ns.stored;
               last = ns.last ∙ last_any g.size 0 rows (length f.nodes) 0 f.nodes st.some_node;
               sized = ns.done;

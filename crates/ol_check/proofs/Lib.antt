@@ -2,6 +2,8 @@ pub mod Standing
 pub mod Truths
 pub mod SpanLaws
 pub mod RowLoops
+pub mod ArrayLaws
+pub mod CellLaws
 pub mod HeadTests
 pub mod WalkLoop
 pub mod HeadLaws
@@ -10,6 +12,7 @@ pub mod EquationLaws
 pub mod PlanLaws
 pub mod EntryLoops
 pub mod EntryLaws
+pub mod KnownLaws
 pub mod EntryPlaces
 pub mod NodeLaws
 pub mod Definitions
@@ -17,7 +20,9 @@ pub mod ConstantLaws
 pub mod FileLaws
 pub mod SizeLaws
 pub mod SlotLaws
+pub mod NamedCells
 pub mod SlotEntries
+pub mod FilePlans
 pub mod TabLaws
 pub mod ConstantSlots
 pub mod Sorts

@@ -1,13 +1,13 @@
 -- A node: its variables entered and taken back, and its equations judged.
 use Prim.Native.Nat.{ℕ, zero, suc, ◌+◌, ◌*◌, ◌≤◌, ◌<◌, min}
-use mathlib.Core.Bool.{Bool, false, not, ◌&&◌}
+use mathlib.Core.Bool.{Bool, true, false, not, ◌&&◌}
 use mathlib.Core.List.{List, [], ◌∷◌, ◌++◌, map, map-append}
 use mathlib.Core.Logic.{by_cases}
 use mathlib.Core.Path.{◌≡◌, refl, sym, ap, subst, ◌∙◌}
 use native.Mathlib.Omega.{arith}
 use native.Mathlib.Decide.{dec_lt}
-use lib.ListN.{length, get_or, set, drop, replicate, length-append, get_or-eq_default, drop_of_length-le}
-use lib.Seq.{drop-cons}
+use lib.ListN.{length, get_or, set, take, drop, replicate, length-append, get_or-eq_default, drop_of_length-le}
+use lib.Seq.{drop-cons, get_or-take}
 use native.Mathlib.Numerals.{add-one}
 use mathlib.Core.Option.{Option}
 use lib.Dec.{ltb, eqb}
@@ -18,23 +18,29 @@ use Rattle.ol_spec.specs.Places.{variable_size, outputs_start, locals_start, equ
 use Rattle.ol_spec.specs.Encode.{kind_code, variable_bytes, equation_bytes}
 use Rattle.ol_spec.specs.Limits.{base}
 use Rattle.ol_spec.specs.Within.{variable_fits, equation_fits}
-use Rattle.ol_spec.specs.Admission.{callee_in, bad_call, may_call, equation_uses, in_equation, calls_where, equation_shape, Item, defined_by, node_uses, node_calls, node_shape, numbered}
-use Rattle.ol_spec.specs.Step.{sites}
+use Rattle.ol_spec.specs.Admission.{callee_in, bad_call, may_call, equation_uses, in_equation, uses_where, bad_iterator, equation_shape, Item, defined_by, node_uses, node_calls, node_shape, numbered}
+use Rattle.ol_spec.specs.Step.{sites, own_size, cell_count}
 use Rattle.ol_spec.proofs.Admitted.{length_placed}
 use Rattle.ol_check.proofs.WalkLoop.{found_none, found_append}
 use Rattle.ol_check.proofs.EntryLoops.{Entered, Forgotten, entered_told, forgotten_told, enter_visits, forget_visits}
 use Rattle.ol_check.specs.Spans.{end_from, behind_variable}
 use Rattle.ol_check.proofs.SpanLaws.{variables_near, variables_end}
 use Rattle.ol_tables.specs.At.{file_at}
-use Rattle.ol_tables.specs.Tables.{row_at, node_of, Each}
+use Rattle.ol_tables.specs.Tables.{row_at, node_of, Each, plan_in, array_length}
 use Rattle.ol_tables.specs.Stands.{Listed, Variables, NodeStands, FileStands}
 use Rattle.ol_tables.proofs.HeadsFile.{node_at_lem}
 use Rattle.ol_tables.specs.Heads.{name_at}
-use Rattle.ol_check.specs.RowsDone.{NodeRow}
+use Rattle.ol_check.specs.Arrays.{or_all, equation_forms, node_forms}
+use Rattle.ol_check.proofs.EquationLaws.{or_append}
+use Rattle.ol_check.specs.RowsDone.{NodeRow, cells_by, no_variable, no_constant}
 use Rattle.ol_check.specs.Records.{callee_b, record_by}
 use Rattle.ol_check.specs.Entries.{declared, forgot, declare_all, forget_all, variable_entries, Global}
-use Rattle.ol_check.specs.Judging.{Findings, may_b, bad_b, outputs_b, Knows, Context, EquationsJudged, found_in, slot_equations, again_b, global_names, seen_in, EquationsReady}
-use Rattle.ol_check.specs.NodesJudged.{place_in, NodeReady, NodeVisited, node_table, Covered, node_again, NodeJudged, RowsReady, slot_nodes, NodesJudged, NamesReady}
+use Rattle.ol_check.specs.Judging.{Findings, may_b, bad_b, outputs_b, Knows, Context, EquationsJudged, found_in, slot_equations, again_b, global_names, seen_in, EquationsReady, Looks, Undeclared}
+use Rattle.ol_check.specs.NodesJudged.{place_in, NodeReady, NodeVisited, node_table, Covered, node_again, NodeJudged, RowsReady, slot_nodes, NodesJudged, NamesReady, PlansReady}
+use Rattle.ol_check.proofs.PlanLaws.{constants_apart}
+use Rattle.ol_check.proofs.RowLoops.{few_variables}
+use Rattle.ol_check.proofs.CellLaws.{counts_are, node_told as cells_node, cell_count_lem}
+use Rattle.ol_check.proofs.KnownLaws.{EntryWithin, within_all, within_variables, known_from, variable_known, constant_known}
 use Rattle.ol_check.proofs.EntryLaws.{declare_append, forget_append, entries_append, Enterable, knows_all, restored}
 
 -- ---- the sections of variables
@@ -84,8 +90,8 @@ pub record Sectioned (s : List ℕ) (k at i oc o l lc : ℕ) : Type 0 where
   pub second : o ≡ at + 2 + sum (map variable_size (node_of (file_at s) k).inputs)
   pub third : l ≡ o + 1 + sum (map variable_size (node_of (file_at s) k).outputs)
   pub locals : lc ≡ length (node_of (file_at s) k).locals
-  pub near : o ≤ at + 2 + 4 * i
-  pub far : l ≤ o + 1 + 4 * oc
+  pub near : o ≤ at + 2 + 6 * i
+  pub far : l ≤ o + 1 + 6 * oc
 
 pub sectioned : {s rows : List ℕ} {nodes k : ℕ} (rd : NodeReady s rows nodes k) (st : FileStands s (file_at s)) {at i oc o l lc : ℕ} → at ≡ get_or rows (k * 8 + 7) 0 → i ≡ get_or rows (k * 8 + 2) 0 → oc ≡ get_or rows (k * 8 + 3) 0
     → o ≡ end_from (behind_variable s) i (at + 2) → l ≡ end_from (behind_variable s) oc (o + 1) → lc ≡ get_or s l 0 → Sectioned s k at i oc o l lc
@@ -218,10 +224,10 @@ equations_ready {s} {rows} {nodes} {k} rd st names {n₁} {m} {a} nr en em ea =
       stand = subst (λ x. Listed equation_bytes (equation_fits base (length f.enums)) s x n.equations) (sym (ea ∙ row.equations)) (node_at_lem st k (omega (arith, rd.low, rd.many))).equations;
     }
 
-module _ {s rows : List ℕ} {nodes k : ℕ} (rd : NodeReady s rows nodes k) (st : FileStands s (file_at s)) (names : List ℕ) {n₁ slots slots' : List ℕ} {defined' : List Bool} {m a i v : ℕ} {g r : Findings}
-    (en : n₁ ≡ node_table names (node_of (file_at s) k)) (em : m ≡ get_or rows (k * 8 + 5) 0) (ea : a ≡ get_or rows (k * 8 + 1) 0) (ei : i ≡ get_or rows (k * 8 + 2) 0) (ev : v ≡ get_or rows (k * 8 + 4) 0)
-    (w : EquationsJudged s n₁ rows nodes (file_at s) (seen_in (file_at s) k) (bad_call (file_at s) k (node_of (file_at s) k)) i a (node_of (file_at s) k).equations slots slots' (replicate 256 false) defined'
-    (record { unseen = g.unseen; again = g.again; called = g.called; shaped = g.shaped; size = 1 + 9 * v; next = a }) r) where
+module _ {s rows : List ℕ} {nodes k : ℕ} (rd : NodeReady s rows nodes k) (st : FileStands s (file_at s)) (names : List ℕ) {n₁ slots slots' : List ℕ} {defined' : List Bool} {m a i z : ℕ} {g r : Findings}
+    (en : n₁ ≡ node_table names (node_of (file_at s) k)) (em : m ≡ get_or rows (k * 8 + 5) 0) (ea : a ≡ get_or rows (k * 8 + 1) 0) (ei : i ≡ get_or rows (k * 8 + 2) 0) (ez : z ≡ own_size (node_of (file_at s) k))
+    (w : EquationsJudged s n₁ rows nodes k (file_at s) (seen_in (file_at s) k) (bad_call (file_at s) k (node_of (file_at s) k)) i a (node_of (file_at s) k).equations slots slots' (replicate 256 false) defined'
+    (record { unseen = g.unseen; again = g.again; called = g.called; shaped = g.shaped; arrays = g.arrays; size = z; next = a }) r) where
   pub node_judged : NodeJudged s names rows nodes (file_at s) k slots slots' g r
   node_judged =
       let f = file_at s in
@@ -236,11 +242,44 @@ module _ {s rows : List ℕ} {nodes k : ℕ} (rd : NodeReady s rows nodes k) (st
         again = w.again ∙ ap (λ x. found_in g.again (again_b n₁ i (replicate 256 false) (concat (map defined_by (placed equation_size x n.equations))))) here
             ∙ ap (λ l. found_in g.again (again_b l i (replicate 256 false) (concat (map defined_by (placed equation_size (equations_start p n + 1) n.equations))))) en
             ∙ ap (λ x. found_in g.again (again_b (node_table names n) x (replicate 256 false) (concat (map defined_by (placed equation_size (equations_start p n + 1) n.equations))))) (ei ∙ row.inputs);
-        called = w.called ∙ ap (λ x. found_in g.called (concat (map (in_equation (calls_where (bad_call f k n))) (placed equation_size x n.equations)))) here;
+        called = w.called ∙ ap (λ x. found_in g.called (concat (map (in_equation (uses_where (bad_call f k n) (bad_iterator k))) (placed equation_size x n.equations)))) here;
         shaped = w.shaped ∙ ap (λ x. found_in g.shaped (concat (map (equation_shape f) (placed equation_size x n.equations)))) here;
-        slotted = w.slotted ∙ ap (λ x. slot_equations s n₁ slots (placed equation_size x n.equations)) here ∙ ap (λ l. slot_equations s l slots (placed equation_size (equations_start p n + 1) n.equations)) en;
-        sized = w.sized ∙ ap (λ x. min (1 + 9 * x + sum (map (callee_b rows nodes) (sites n))) 65536) (ev ∙ row.variables);
+        arrays = w.arrays ∙ ap (λ x. or_all g.arrays (concat (map equation_forms (placed equation_size x n.equations)))) here;
+        slotted = w.slotted ∙ ap (λ x. slot_equations s n₁ k slots (placed equation_size x n.equations)) here ∙ ap (λ l. slot_equations s l k slots (placed equation_size (equations_start p n + 1) n.equations)) en;
+        sized = w.sized ∙ ap (λ x. min (x + sum (map (callee_b rows nodes) (sites n))) 65536) ez;
       }
+
+-- the table by name in a node tells the types that stand before its plan, and how many cells its variables have
+module _ {s rows : List ℕ} {nodes k : ℕ} (rd : NodeReady s rows nodes k) (st : FileStands s (file_at s)) (names : List ℕ) {n₁ plans : List ℕ} {constants p place : ℕ} {arrays : Bool} (nr : NamesReady names (file_at s))
+    (en : n₁ ≡ node_table names (node_of (file_at s) k)) (pr : PlansReady s constants arrays plans) (ep : p ≡ plan_in (file_at s) k) (ea : place ≡ place_in (file_at s) k) where
+  low : k < length (file_at s).nodes
+  low = omega (arith, rd.low, rd.many)
+
+  ahead : (x : ℕ) → x < p → get_or (take p plans) x 0 ≡ get_or plans x 0
+  ahead x lt = get_or-take p plans x 0 lt
+
+  lengths_there : (i : ℕ) → i < length (variables (node_of (file_at s) k)) → get_or (take p plans) (place + 2 * i + 1) 0 ≡ array_length (get_or (variables (node_of (file_at s) k)) i no_variable).ty
+  lengths_there i lt = ahead (place + 2 * i + 1) (omega (arith, ep, ea)) ∙ ap (λ a. get_or plans (a + 2 * i + 1) 0) ea ∙ pr.typed.lengths k low i lt
+
+  constants_there : (i : ℕ) → i < length (file_at s).constants → get_or (take p plans) (constants + 2 * i + 1) 0 ≡ array_length (get_or (file_at s).constants i no_constant).ty
+  constants_there i lt = ahead (constants + 2 * i + 1) (omega (arith, pr.place, ep, constants_apart st k low)) ∙ ap (λ a. get_or plans (a + 2 * i + 1) 0) pr.place ∙ pr.lengths i lt
+
+  looks_ahead : Looks (file_at s) k n₁ (take p plans) place constants
+  looks_ahead x =
+      let n = node_of (file_at s) k in
+      let few = few_variables (node_at_lem st k low) in
+      let outside : (y : ℕ) → EntryWithin (length (variables n)) (length (file_at s).constants) (get_or names y 0) = λ y. record { variable = λ a b. let z = nr.global y b in absurd (omega arith); constant = nr.constants y } in
+      rw en (known_from (variable_known st k low lengths_there) (constant_known st (length (file_at s).constants) (omega arith) constants_there) (within_all (variable_entries 0 (variables n)) names (within_variables (length (file_at s).constants) (variables n) 0 (omega arith) few) outside x))
+
+  pub node_looks : {types : List ℕ} → types ≡ take p plans → Looks (file_at s) k n₁ types place constants
+  node_looks et x = rw et (looks_ahead x)
+
+  pub node_cells : {types : List ℕ} {v c : ℕ} → types ≡ take p plans → v ≡ length (variables (node_of (file_at s) k)) → c ≡ cells_by arrays types place v → c ≡ cell_count (node_of (file_at s) k)
+  node_cells {types} {v} {c} et ev ec = ec ∙ ap (λ l. cells_by arrays l place v) et ∙ ap (cells_by arrays (take p plans) place) ev ∙ go arrays pr.scalars
+    where
+      go : (b : Bool) → Undeclared b (file_at s) → cells_by b (take p plans) place (length (variables (node_of (file_at s) k))) ≡ cell_count (node_of (file_at s) k)
+      go true h = (counts_are (take p plans) place (node_of (file_at s) k) (cells_node (take p plans) place (node_of (file_at s) k) (node_at_lem st k low) lengths_there)).2
+      go false h = sym (cell_count_lem st (h refl) k low)
 
 -- the length of the node's records is stored
 pub size_stored : (rows : List ℕ) (k : ℕ) {rows' : List ℕ} {kind size : ℕ} (z : ℕ) → kind ≡ row_at rows k 0 → size ≡ record_by kind z → rows' ≡ set rows (k * 8 + 6) size → rows' ≡ set rows (k * 8 + 6) (record_by (row_at rows k 0) z)
@@ -254,7 +293,7 @@ node_back {s} {rows} {nodes} {k} rd st names global e₁ e₂ = e₂ ∙ ap (λ 
 -- ---- all nodes
 
 -- an item of a list, with its place
-placed_get : {A : Type 0} (size : A → ℕ) (d : A) (xs : List A) (at k : ℕ) → k < length xs → get_or (placed size at xs) k (0, d) ≡ (get_or (map (λ p. p.0) (placed size at xs)) k 0, get_or xs k d)
+pub placed_get : {A : Type 0} (size : A → ℕ) (d : A) (xs : List A) (at k : ℕ) → k < length xs → get_or (placed size at xs) k (0, d) ≡ (get_or (map (λ p. p.0) (placed size at xs)) k 0, get_or xs k d)
 placed_get size d [] at k lt = absurd (omega arith)
 placed_get size d (x ∷ xs) at zero lt = refl
 placed_get size d (x ∷ xs) at (suc k) lt = placed_get size d xs (at + size x) k (omega arith)
@@ -275,11 +314,12 @@ pub record NodesGoing (s names : List ℕ) (f : File) (slots₀ : List ℕ) (g�
   pub again : found_in g.again (concat (map (node_again names) (drop k (placed_nodes f)))) ≡ found_in g₀.again (concat (map (node_again names) (placed_nodes f)))
   pub called : found_in g.called (concat (map (node_calls f) (numbered k (drop k (placed_nodes f))))) ≡ found_in g₀.called (concat (map (node_calls f) (numbered 0 (placed_nodes f))))
   pub shaped : found_in g.shaped (concat (map (node_shape f) (drop k (placed_nodes f)))) ≡ found_in g₀.shaped (concat (map (node_shape f) (placed_nodes f)))
-  pub slotted : slot_nodes s names slots (drop k (placed_nodes f)) ≡ slot_nodes s names slots₀ (placed_nodes f)
+  pub arrays : or_all g.arrays (concat (map node_forms (drop k (placed_nodes f)))) ≡ or_all g₀.arrays (concat (map node_forms (placed_nodes f)))
+  pub slotted : slot_nodes s names slots k (drop k (placed_nodes f)) ≡ slot_nodes s names slots₀ 0 (placed_nodes f)
 
 module _ {s names : List ℕ} {f : File} {slots₀ : List ℕ} {g₀ : Findings} where
   pub nodes_start_lem : NodesGoing s names f slots₀ g₀ slots₀ g₀ 0
-  nodes_start_lem = record { unseen = refl; again = refl; called = refl; shaped = refl; slotted = refl }
+  nodes_start_lem = record { unseen = refl; again = refl; called = refl; shaped = refl; arrays = refl; slotted = refl }
 
   module _ {slots : List ℕ} {g : Findings} {k : ℕ} (w : NodesGoing s names f slots₀ g₀ slots g k) where
     pub nodes_turn : k < length f.nodes → (slots' : List ℕ) (r : Findings) {rows : List ℕ} {nodes : ℕ} → NodeJudged s names rows nodes f k slots slots' g r → NodesGoing s names f slots₀ g₀ slots' r (k + 1)
@@ -294,11 +334,12 @@ module _ {s names : List ℕ} {f : File} {slots₀ : List ℕ} {g₀ : Findings}
           again = left_on (node_again names) (drop k (placed_nodes f)) rest x g.again _ _ on j.again w.again;
           called = left_on (node_calls f) (numbered k (drop k (placed_nodes f))) (numbered (k + 1) rest) (k, x) g.called _ _ counted j.called w.called;
           shaped = left_on (node_shape f) (drop k (placed_nodes f)) rest x g.shaped _ _ on j.shaped w.shaped;
-          slotted = ap (λ l. slot_nodes s names l rest) j.slotted ∙ ap (slot_nodes s names slots) (sym on) ∙ w.slotted;
+          arrays = ap (λ b. or_all b (concat (map node_forms rest))) j.arrays ∙ or_append g.arrays (node_forms x) (concat (map node_forms rest)) ∙ ap (λ l. or_all g.arrays (concat (map node_forms l))) (sym on) ∙ w.arrays;
+          slotted = ap (λ l. slot_nodes s names l (k + 1) rest) j.slotted ∙ ap (slot_nodes s names slots k) (sym on) ∙ w.slotted;
         }
 
     pub nodes_judged : length f.nodes ≤ k → NodesJudged s names f slots₀ slots g₀ g
-    unfolding slot_nodes
+    unfolding slot_nodes or_all
     nodes_judged over =
         let empty : drop k (placed_nodes f) ≡ [] = drop_of_length-le (placed_nodes f) {i = k} (omega (arith, length_placed node_size (nodes_start f) f.nodes)) in
         record {
@@ -306,7 +347,8 @@ module _ {s names : List ℕ} {f : File} {slots₀ : List ℕ} {g₀ : Findings}
           again = sym (found_none g.again) ∙ ap (λ l. found_in g.again (concat (map (node_again names) l))) (sym empty) ∙ w.again;
           called = sym (found_none g.called) ∙ ap (λ l. found_in g.called (concat (map (node_calls f) (numbered k l)))) (sym empty) ∙ w.called;
           shaped = sym (found_none g.shaped) ∙ ap (λ l. found_in g.shaped (concat (map (node_shape f) l))) (sym empty) ∙ w.shaped;
-          slotted = ap (slot_nodes s names slots) (sym empty) ∙ w.slotted;
+          arrays = ap (λ l. or_all g.arrays (concat (map node_forms l))) (sym empty) ∙ w.arrays;
+          slotted = ap (slot_nodes s names slots k) (sym empty) ∙ w.slotted;
         }
 
 -- there are as many nodes as the file has

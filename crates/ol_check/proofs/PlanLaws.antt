@@ -1,5 +1,6 @@
--- The plans: two bytes for a number, behind the slots.
+-- The plans: two bytes for a number.
 use Prim.Native.Nat.{ℕ, zero, suc, ◌+◌, ◌-◌, ◌*◌, ◌≤◌, ◌<◌, min}
+use mathlib.Core.Bool.{Bool}
 use mathlib.Core.List.{List, [], ◌∷◌, ◌++◌, map}
 use mathlib.Core.Logic.{by_cases}
 use mathlib.Core.Path.{◌≡◌, refl, sym, ap, subst, ◌∙◌}
@@ -7,10 +8,12 @@ use native.Mathlib.Omega.{arith}
 use native.Mathlib.Decide.{dec_lt}
 use native.Mathlib.Numerals.{add-one}
 use lib.Dec.{T}
-use lib.ListN.{length, get_or, take, length-append}
+use lib.ListN.{length, get_or, take, drop, length-append, get_or-append}
+use lib.Seq.{get_or-append-add, length-take-le}
+use Rattle.std.proofs.lemmas.List.{take-append-drop}
 use Rattle.ol_spec.specs.Lists.{sum, concat, all_of}
-use Rattle.ol_spec.specs.Syntax.{Variable, Equation, Node, File, variables, no_node}
-use Rattle.ol_spec.specs.Places.{variable_size, equation_size, node_size, nodes_start}
+use Rattle.ol_spec.specs.Syntax.{Variable, Constant, Equation, Node, File, variables, no_node}
+use Rattle.ol_spec.specs.Places.{variable_size, constant_size, equation_size, node_size, nodes_start, constants_start}
 use Rattle.ol_spec.specs.Limits.{base}
 use Rattle.ol_spec.specs.Within.{name_fits, section_fits, equation_fits}
 use Rattle.ol_spec.specs.Step.{no_equation, equation_sites, own_size}
@@ -24,7 +27,7 @@ use Rattle.ol_tables.proofs.HeadsFile.{section_few, placed_at, passing_item, pas
 use Rattle.ol_tables.proofs.Skipping.{some_size}
 use Rattle.ol_tables.proofs.TableLaws.{two_same, two_other, two_length, two_kept}
 use Rattle.ol_check.specs.Judging.{size_to, Planned}
-use Rattle.ol_check.specs.NodesJudged.{place_in, NodeReady, NodePlanned, TypesLeft}
+use Rattle.ol_check.specs.NodesJudged.{place_in, NodeReady, NodePlanned, TypesLeft, ConstantsLeft, PlansReady}
 use Rattle.ol_check.specs.Records.{callee_b}
 use Rattle.ol_check.proofs.CalleeLaws.{sum_append}
 
@@ -107,14 +110,38 @@ planned_as {rows} {nodes} {size} {size'} {at} {at'} {qs} {p} {p'} {i} {i'} {plan
     subst (λ x. Planned rows nodes x at' qs p' i' plans plans') ez
     (subst (λ x. Planned rows nodes size x qs p' i' plans plans') ea (subst (λ x. Planned rows nodes size at qs x i' plans plans') ep (subst (λ x. Planned rows nodes size at qs p x plans plans') ei w)))
 
--- the plan of a node's equations, where its row says, is the node's
-pub node_planned : {s rows : List ℕ} {nodes k : ℕ} → NodeReady s rows nodes k → {plans plans' : List ℕ} {m a p v u : ℕ} → m ≡ get_or rows (k * 8 + 5) 0 → a ≡ get_or rows (k * 8 + 1) 0 → p ≡ get_or rows (k * 8 + 7) 0
-    → v ≡ get_or rows (k * 8 + 4) 0 → u ≡ get_or rows (k * 8 + 4) 0 → Planned rows nodes (1 + 9 * u) a (node_of (file_at s) k).equations (p + 2 * v) m plans plans' → NodePlanned rows nodes (file_at s) k plans plans'
-node_planned {s} {rows} {nodes} {k} rd em ea ep ev eu w =
+-- a plan that is stored behind other bytes
+planned_behind : {rows : List ℕ} {nodes size at : ℕ} {qs : List Equation} {i : ℕ} (front : List ℕ) {rest rest' : List ℕ} → Planned rows nodes size at qs 0 i rest rest' → Planned rows nodes size at qs (length front) i (front ++ rest) (front ++ rest')
+planned_behind {rows} {nodes} {size} {at} {qs} {i} front {rest} {rest'} w =
+    let far : (x : ℕ) → get_or (front ++ rest') (length front + x) 0 ≡ get_or rest' x 0 = λ x. get_or-append-add front rest' x 0 in
+    let two : (x : ℕ) → two_at (front ++ rest') (length front + x) ≡ two_at rest' x = λ x.
+    let next : length front + x + 1 ≡ length front + (x + 1) = omega arith in
+    ap (λ n. n * 256 + get_or (front ++ rest') (length front + x + 1) 0) (far x) ∙ ap (λ m. get_or rest' x 0 * 256 + get_or (front ++ rest') m 0) next ∙ ap (λ n. get_or rest' x 0 * 256 + n) (far (x + 1)) in
+    record {
+      places = λ j h. let e : length front + 2 * j ≡ length front + (0 + 2 * j) = omega arith in ap (two_at (front ++ rest')) e ∙ two (0 + 2 * j) ∙ w.places j h;
+      offsets = λ j h. let e : length front + 2 * length qs + 2 * j ≡ length front + (0 + 2 * length qs + 2 * j) = omega arith in ap (two_at (front ++ rest')) e ∙ two (0 + 2 * length qs + 2 * j) ∙ w.offsets j h;
+      before = λ x h. get_or-append front rest' 0 x h ∙ sym (get_or-append front rest 0 x h);
+      behind = λ x h.
+          let y = x - length front in
+          let e : length front + y ≡ x = omega arith in
+          ap (λ m. get_or (front ++ rest') m 0) (sym e) ∙ far y ∙ w.behind y (omega arith) ∙ sym (get_or-append-add front rest y 0) ∙ ap (λ m. get_or (front ++ rest) m 0) e;
+    }
+
+-- the plan of a node's equations, stored behind the types that stand before it, is the node's
+pub node_planned : {s rows : List ℕ} {nodes k : ℕ} → NodeReady s rows nodes k → {plans rest plans' : List ℕ} {size m a : ℕ} → m ≡ get_or rows (k * 8 + 5) 0 → a ≡ get_or rows (k * 8 + 1) 0 → size ≡ own_size (node_of (file_at s) k)
+    → (p : ℕ) → p ≡ plan_in (file_at s) k → p ≤ length plans → Planned rows nodes size a (node_of (file_at s) k).equations 0 m (drop p plans) rest → plans' ≡ take p plans ++ rest → NodePlanned rows nodes (file_at s) k plans plans'
+node_planned {s} {rows} {nodes} {k} rd {plans} {rest} {plans'} em ea ez p ep le w e =
     let row = rd.row k (omega (arith, rd.low, rd.many)) in
-    planned_as (omega (arith, eu, row.variables)) (ea ∙ row.equations) (omega (arith, ep, ev, row.place, row.variables)) (em ∙ row.count) w
+    subst (λ l. NodePlanned rows nodes (file_at s) k l plans') (take-append-drop p plans)
+    (subst (λ l. NodePlanned rows nodes (file_at s) k (take p plans ++ drop p plans) l) (sym e)
+    (planned_as ez (ea ∙ row.equations) (length-take-le p plans le ∙ ep) (em ∙ row.count) (planned_behind (take p plans) w)))
 
 -- ---- the plans of two nodes do not meet
+
+-- a constant's type has two bytes there, and the constant more than two
+constants_some : (cs : List Constant) → 2 * length cs ≤ sum (map constant_size cs)
+constants_some [] = omega arith
+constants_some (c ∷ cs) = omega (arith, constants_some cs)
 
 variables_some : (vs : List Variable) → 2 * length vs ≤ sum (map variable_size vs)
 variables_some [] = omega arith
@@ -153,8 +180,12 @@ module _ {s : List ℕ} {f : File} (st : FileStands s f) where
   nodes_apart j k less lt =
       omega (arith, placed_at node_size f.nodes (nodes_start f) k lt, placed_at node_size f.nodes (nodes_start f) j (omega arith), sums_below node_size no_node f.nodes j k less lt)
 
-  plans_apart : (j k : ℕ) → j < k → k < length f.nodes → plan_in f j + 4 * length (node_of f j).equations ≤ place_in f k
+  pub plans_apart : (j k : ℕ) → j < k → k < length f.nodes → plan_in f j + 4 * length (node_of f j).equations ≤ place_in f k
   plans_apart j k less lt = omega (arith, nodes_apart j k less lt, plan_room (node_of f j) (node_at_lem st j (omega arith)))
+
+  -- the types of the constants, two bytes each, stand before the first node
+  pub constants_apart : (k : ℕ) → k < length f.nodes → constants_start f + 2 * length f.constants ≤ place_in f k
+  constants_apart k lt = omega (arith, placed_at node_size f.nodes (nodes_start f) k lt, constants_some f.constants)
 
   module _ {rows : List ℕ} {nodes k : ℕ} {plans plans' : List ℕ} (w : NodePlanned rows nodes f k plans plans') (lt : k < length f.nodes) where
     -- the plan of a node before it is left
@@ -176,6 +207,20 @@ module _ {s : List ℕ} {f : File} (st : FileStands s f) where
               (λ under. w.before x (by_cases (dec_lt j k) (λ less. omega (arith, plans_apart j k less lt, b)) (λ same. let e : j ≡ k = omega arith in omega (arith, subst (λ m. x < plan_in f m) e b))));
         }
 
+    -- and those of the constants
+    pub constants_left : ConstantsLeft f plans plans'
+    constants_left = record { left = λ x a b. w.before x (omega (arith, constants_apart k lt)) }
+
     -- and its own is the file's
     pub plan_made : ((i : ℕ) → i < length (node_of f k).equations → record_bytes f k ≤ 32768 → size_to rows nodes (own_size (node_of f k)) (node_of f k).equations i - own_size (node_of f k) ≡ bytes_before f k i) → PlanOf f plans' k
     plan_made told = record { places = λ i h. w.places i h; offsets = λ few i h. w.offsets i h ∙ told i h few }
+
+-- the types that are left can still be read
+pub plans_on : {s : List ℕ} {constants : ℕ} {arrays : Bool} {plans plans' : List ℕ} → PlansReady s constants arrays plans → TypesLeft (file_at s) plans plans' → ConstantsLeft (file_at s) plans plans' → length plans' ≡ length plans → PlansReady s constants arrays plans'
+plans_on {s} {constants} {arrays} {plans} {plans'} h types consts long =
+    record {
+      typed = record { room = omega (arith, h.typed.room, long); lengths = λ k lt i low. types.left k lt (place_in (file_at s) k + 2 * i + 1) (omega arith) (omega arith) ∙ h.typed.lengths k lt i low };
+      place = h.place;
+      lengths = λ i low. consts.left (constants_start (file_at s) + 2 * i + 1) (omega arith) (omega arith) ∙ h.lengths i low;
+      scalars = h.scalars;
+    }

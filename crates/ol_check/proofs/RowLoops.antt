@@ -1,25 +1,27 @@
 -- The loops that build rows, places and types: what holds after so many items.
-use Prim.Native.Nat.{ℕ, zero, suc, ◌+◌, ◌*◌, ◌-◌, ◌≤◌, ◌<◌}
+use Prim.Native.Nat.{ℕ, zero, suc, ◌+◌, ◌*◌, ◌-◌, ◌/◌, ◌%◌, ◌≤◌, ◌<◌}
+use mathlib.Core.Bool.{Bool, true, false, cond}
 use mathlib.Core.List.{List, [], ◌∷◌, ◌++◌, map}
 use mathlib.Core.Logic.{by_cases}
 use mathlib.Core.Path.{◌≡◌, refl, sym, ap, subst, ◌∙◌}
 use native.Mathlib.Omega.{arith}
 use native.Mathlib.Decide.{dec_lt}
 use Rattle.std.proofs.lemmas.List.{get_or_past, get_or-take}
-use lib.ListN.{length, get_or, set, take, length-set, length-append, get_or-append}
+use lib.ListN.{length, get_or, set, take, replicate, length-set, length-append, length-replicate, get_or-append}
 use lib.Seq.{get_or-set_same, get_or-set_other, get_or-append-add, sets, length-sets}
-use lib.Dec.{T, ltb, leb, leb→le}
+use lib.Dec.{T, eqb, ltb, leb, leb→le, ltb→lt}
+use borrow.Author.Tests.{eqb-true}
 use Rattle.ol_spec.specs.Lists.{sum, concat, all_of}
-use Rattle.ol_spec.specs.Syntax.{Ty, Variable, Node, File, variables}
-use Rattle.ol_spec.specs.Places.{ty_size, enum_size, variable_size, constant_size, node_size, outputs_start, locals_start, equations_start, placed, placed_nodes, constants_start, nodes_start}
+use Rattle.ol_spec.specs.Syntax.{Ty, bool, int, float32, float64, char, enum, VarTy, scalar, array, Variable, Node, File, variables}
+use Rattle.ol_spec.specs.Places.{var_ty_size, enum_size, variable_size, constant_size, node_size, outputs_start, locals_start, equations_start, placed, placed_nodes, constants_start, nodes_start}
 use Rattle.ol_spec.specs.Encode.{name_bytes, section_bytes, variable_bytes}
 use Rattle.ol_spec.specs.Limits.{base}
-use Rattle.ol_spec.specs.Within.{count_fits, name_fits, enum_fits, variable_fits}
+use Rattle.ol_spec.specs.Within.{count_fits, name_fits, enum_fits, ty_fits, var_ty_fits, variable_fits}
 use Rattle.ol_spec.proofs.Tests.{T_and}
 use Rattle.ol_spec.proofs.RoundTrip.Parts.{Here, here_front, here_back}
 use Rattle.ol_spec.proofs.RoundTrip.Items.{names_size, variable_size_lem}
-use Rattle.ol_tables.specs.Tables.{row_at, first_at, place_of, node_of, two_put}
-use Rattle.ol_tables.specs.Heads.{name_at, ty_size_at, ty_enum_at, TyIs}
+use Rattle.ol_tables.specs.Tables.{row_at, first_at, place_of, node_of, two_at, two_put, Told, element_of, ty_code, ty_enum}
+use Rattle.ol_tables.specs.Heads.{name_at, ty_size_at, ty_enum_at, ty_length_at, element_at, VarTyIs}
 use Rattle.ol_tables.specs.Stands.{Listed, NodeStands, FileStands}
 use Rattle.ol_tables.proofs.HeadLaws.{here_first, here_name}
 use Rattle.ol_tables.proofs.HeadsFile.{Passing, Item, passing_start, passing_item, passing_end, variable_stands, node_at_lem}
@@ -27,8 +29,8 @@ use Rattle.ol_tables.proofs.TableLaws.{two_same, two_other, two_length, two_kept
 use Rattle.ol_tables.proofs.Walking.{ty_small}
 use Rattle.ol_tables.specs.Heads.{Byte}
 use Rattle.ol_check.specs.Spans.{starts_from, Visits, end_from, behind_variable, behind_enum}
-use Rattle.ol_check.specs.RowsDone.{Enums, EnumsAre, firsts_from, EnumsStored, type_set, TypeAt, no_variable, VariablesAre, types_from, TypesStored, outputs_at, locals_at, equations_at, row_from, node_types, node_stored, NodeStored}
-use Rattle.ol_check.specs.RowsDone.{NodeRow, NodeTypes, NodeIs, PlacesAre, NodesAre, rows_from, nodes_stored, NodesStored, TablesDone}
+use Rattle.ol_check.specs.RowsDone.{Enums, EnumsAre, firsts_from, EnumsStored, packed_at, type_set, no_variable, VariablesAre, types_from, TypesStored, outputs_at, locals_at, equations_at, row_from, node_types, counts_put, node_stored, NodeStored}
+use Rattle.ol_check.specs.RowsDone.{NodeRow, NodeTypes, CountsAre, CountedBy, NodeIs, PlacesAre, NodesAre, rows_from, nodes_stored, NodesStored, TablesDone}
 use Rattle.ol_check.proofs.SpanLaws.{less_none, end_on_lem, end_none, variables_near}
 use Rattle.ol_check.proofs.PlanLaws.{plan_room, node_inside, nodes_apart}
 
@@ -41,21 +43,21 @@ pub record EnumsDone (s rows rows' : List ℕ) (count at r : ℕ) : Type 0 where
 
 -- the types of so many variables are stored from `first` on, and the other bytes are as before
 pub record VariablesDone (s types types' : List ℕ) (first count at r : ℕ) : Type 0 where
-  pub near : r ≤ at + 4 * count
+  pub near : r ≤ at + 6 * count
   pub below : (j : ℕ) → j < first → get_or types' j 0 ≡ get_or types j 0
   pub above : (j : ℕ) → first + 2 * count ≤ j → get_or types' j 0 ≡ get_or types j 0
-  pub done : (enums : ℕ) (vs : List Variable) → length vs ≡ count → first + 2 * count ≤ length types → Listed variable_bytes (variable_fits base enums) s at vs → VariablesAre vs types' first at r
+  pub done : (enums : ℕ) → enums ≤ 16 → (vs : List Variable) → length vs ≡ count → first + 2 * count ≤ length types → Listed variable_bytes (variable_fits base enums) s at vs → VariablesAre vs types' first at r
 
 -- node k's row, place and types are stored, the other rows and the bytes before its types but for its place are as before
 pub record NodeDone (s rows rows' tab tab' : List ℕ) (plans k at : ℕ) : Type 0 where
   pub below : (j : ℕ) → j < k * 8 → get_or rows' j 0 ≡ get_or rows j 0
   pub above : (j : ℕ) → k * 8 + 8 ≤ j → get_or rows' j 0 ≡ get_or rows j 0
-  pub kept : (j : ℕ) → j < plans + at → (j ≡ 2 * k → ⊥) → (j ≡ 2 * k + 1 → ⊥) → get_or tab' j 0 ≡ get_or tab j 0
-  pub done : (enums : ℕ) (n : Node) → NodeStands s enums at n → plans + at + 2 * length (variables n) ≤ length tab → NodeIs n at k rows' plans tab'
+  pub kept : (j : ℕ) → j < plans + at → (8 * k ≤ j → j < 8 * k + 8 → ⊥) → get_or tab' j 0 ≡ get_or tab j 0
+  pub done : (enums : ℕ) → enums ≤ 16 → (n : Node) → NodeStands s enums at n → plans + at + 2 * length (variables n) ≤ length tab → NodeIs n at k rows' plans tab'
 
 pub record NodesDone (s places rows rows' tab tab' : List ℕ) (plans count : ℕ) : Type 0 where
   pub above : (j : ℕ) → 256 ≤ j → get_or rows' j 0 ≡ get_or rows j 0
-  pub kept : (j : ℕ) → 64 ≤ j → j < plans → get_or tab' j 0 ≡ get_or tab j 0
+  pub kept : (j : ℕ) → 256 ≤ j → j < plans → get_or tab' j 0 ≡ get_or tab j 0
   pub done : (f : File) → length f.nodes ≡ count → FileStands s f → PlacesAre f places → NodesAre f rows' plans tab'
 
 -- ---- enums
@@ -157,41 +159,81 @@ module _ {s rows₀ : List ℕ} {count at : ℕ} where
 
 pub record VariableGoing (s types : List ℕ) (vs : List Variable) (enums first at next i : ℕ) : Type 0 where
   pub passing : Passing variable_bytes (variable_fits base enums) variable_size s at vs i next
-  pub typed : (j : ℕ) → j < i → TypeAt types (first + 2 * j) (get_or vs j no_variable).ty
+  pub typed : (j : ℕ) → j < i → Told types (first + 2 * j) (get_or vs j no_variable).ty
 
 pub record VariablesGoing (s types₀ types : List ℕ) (first count at next i : ℕ) : Type 0 where
   pub few : i ≤ count
-  pub near : next ≤ at + 4 * i
+  pub near : next ≤ at + 6 * i
   pub long : length types ≡ length types₀
   pub below : (j : ℕ) → j < first → get_or types j 0 ≡ get_or types₀ j 0
   pub above : (j : ℕ) → first + 2 * i ≤ j → get_or types j 0 ≡ get_or types₀ j 0
-  pub going : (enums : ℕ) (vs : List Variable) → length vs ≡ count → first + 2 * count ≤ length types₀ → Listed variable_bytes (variable_fits base enums) s at vs → VariableGoing s types vs enums first at next i
+  pub going : (enums : ℕ) → enums ≤ 16 → (vs : List Variable) → length vs ≡ count → first + 2 * count ≤ length types₀ → Listed variable_bytes (variable_fits base enums) s at vs → VariableGoing s types vs enums first at next i
 
-type_length : (types : List ℕ) (p : ℕ) (s : List ℕ) (at : ℕ) → length (type_set types p s at) ≡ length types
-type_length types p s at = length-set (set types p (get_or s at 0)) (p + 1) (ty_enum_at s at) ∙ length-set types p (get_or s at 0)
+-- ---- the limits of types
+
+scalar_limits : (enums : ℕ) (t : Ty) → enums ≤ 16 → T (ty_fits enums t) → (ty_code t < 13) × (ty_enum t < 16)
+scalar_limits enums bool few f = (omega arith, omega arith)
+scalar_limits enums (int c) few f = (omega (arith, leb→le c 8 (T_and (leb 1 c) _ f).1), omega arith)
+scalar_limits enums float32 few f = (omega arith, omega arith)
+scalar_limits enums float64 few f = (omega arith, omega arith)
+scalar_limits enums char few f = (omega arith, omega arith)
+scalar_limits enums (enum e) few f = (omega arith, omega (arith, ltb→lt e enums f))
+
+pub array_some : (enums n : ℕ) (t : Ty) → T (var_ty_fits base enums (array n t)) → 1 ≤ n
+array_some enums n t f = leb→le 1 n (T_and (leb 1 n) _ (T_and (ltb n 256) _ (T_and (count_fits 1 32 n) _ f).0).1).0
+
+pub array_few : (enums n : ℕ) (t : Ty) → T (var_ty_fits base enums (array n t)) → n ≤ 32
+array_few enums n t f = leb→le n 32 (T_and (leb 1 n) _ (T_and (ltb n 256) _ (T_and (count_fits 1 32 n) _ f).0).1).1
+
+pub type_length : (types : List ℕ) (p : ℕ) (s : List ℕ) (at : ℕ) → length (type_set types p s at) ≡ length types
+type_length types p s at = length-set (set types p _) (p + 1) (ty_length_at s at) ∙ length-set types p _
 
 -- other bytes stay
-type_other : (types : List ℕ) (p : ℕ) (s : List ℕ) (at j : ℕ) → (j ≡ p → ⊥) → (j ≡ p + 1 → ⊥) → get_or (type_set types p s at) j 0 ≡ get_or types j 0
-type_other types p s at j a b = get_or-set_other (set types p (get_or s at 0)) (p + 1) j _ 0 b ∙ get_or-set_other types p j _ 0 a
+pub type_other : (types : List ℕ) (p : ℕ) (s : List ℕ) (at j : ℕ) → (j ≡ p → ⊥) → (j ≡ p + 1 → ⊥) → get_or (type_set types p s at) j 0 ≡ get_or types j 0
+type_other types p s at j a b = get_or-set_other (set types p _) (p + 1) j _ 0 b ∙ get_or-set_other types p j _ 0 a
 
-type_kept : (types : List ℕ) (p : ℕ) (s : List ℕ) (at j : ℕ) (t : Ty) → j + 1 < p → TypeAt types j t → TypeAt (type_set types p s at) j t
+-- a type stays where its bytes do
+pub type_same : {types types' : List ℕ} {t : VarTy} (p : ℕ) → get_or types' p 0 ≡ get_or types p 0 → get_or types' (p + 1) 0 ≡ get_or types (p + 1) 0 → Told types p t → Told types' p t
+type_same p a b h = record { code = ap (λ n. n % 16) a ∙ h.code; number = ap (λ n. n / 16) a ∙ h.number; length = b ∙ h.length }
+
+type_kept : (types : List ℕ) (p : ℕ) (s : List ℕ) (at j : ℕ) (t : VarTy) → j + 1 < p → Told types j t → Told (type_set types p s at) j t
 type_kept types p s at j t lt h =
-    record {
-      code = type_other types p s at j (λ e. omega arith) (λ e. omega arith) ∙ h.code;
-      number = type_other types p s at (j + 1) (λ e. omega arith) (λ e. omega arith) ∙ h.number;
-    }
+    type_same j (type_other types p s at j (λ e. omega arith) (λ e. omega arith)) (type_other types p s at (j + 1) (λ e. omega arith) (λ e. omega arith)) h
 
-type_new : (types : List ℕ) (p : ℕ) (s : List ℕ) (at : ℕ) (t : Ty) → p + 1 < length types → TyIs s at t → TypeAt (type_set types p s at) p t
-type_new types p s at t room h =
-    let first = set types p (get_or s at 0) in
+-- a scalar type in one byte, where its enum's number is below 16
+packed_told : (s : List ℕ) (at c e : ℕ) → get_or s at 0 ≡ c → c < 13 → ty_enum_at s at ≡ e → e < 16 → (packed_at s at % 16 ≡ c) × (packed_at s at / 16 ≡ e)
+packed_told s at c e ec low ee few = go (eqb (get_or s at 0) 12) refl
+  where
+    go : (b : Bool) → eqb (get_or s at 0) 12 ≡ b → (cond b (12 + 16 * (get_or s (at + 1) 0 % 16)) (get_or s at 0) % 16 ≡ c) × (cond b (12 + 16 * (get_or s (at + 1) 0 % 16)) (get_or s at 0) / 16 ≡ e)
+    go true q =
+        let is12 : get_or s at 0 ≡ 12 = eqb-true (get_or s at 0) 12 q in
+        let num : get_or s (at + 1) 0 ≡ e = sym (ap (λ b. cond b (get_or s (at + 1) 0) 0) q) ∙ ee in
+        (omega (arith, is12, ec, num), omega (arith, num))
+    go false q =
+        let none-there : 0 ≡ e = sym (ap (λ b. cond b (get_or s (at + 1) 0) 0) q) ∙ ee in
+        (omega (arith, ec), omega (arith, ec, none-there))
+
+-- a scalar type's code is below an array's, and an enum's number below 16
+ty_limits : (enums : ℕ) (t : VarTy) → enums ≤ 16 → T (var_ty_fits base enums t) → (ty_code (element_of t) < 13) × (ty_enum (element_of t) < 16)
+ty_limits enums (scalar t) few f = scalar_limits enums t few f
+ty_limits enums (array n t) few f = scalar_limits enums t few (T_and (count_fits 1 32 n) _ f).1
+
+pub type_new : (types : List ℕ) (p : ℕ) (s : List ℕ) (at enums : ℕ) (t : VarTy) → p + 1 < length types → enums ≤ 16 → T (var_ty_fits base enums t) → VarTyIs s at t → Told (type_set types p s at) p t
+type_new types p s at enums t room few f h =
+    let one = packed_at s (element_at s at) in
+    let first = set types p one in
+    let lim = ty_limits enums t few f in
+    let pk = packed_told s (element_at s at) _ _ h.element.code lim.0 h.element.number lim.1 in
+    let byte : get_or (type_set types p s at) p 0 ≡ one = get_or-set_other first (p + 1) p _ 0 (λ e. omega arith) ∙ get_or-set_same types p _ 0 (omega arith) in
     record {
-      code = get_or-set_other first (p + 1) p _ 0 (λ e. omega arith) ∙ get_or-set_same types p _ 0 (omega arith) ∙ h.code;
-      number = get_or-set_same first (p + 1) _ 0 (omega (arith, length-set types p (get_or s at 0))) ∙ h.number;
+      code = ap (λ n. n % 16) byte ∙ pk.0;
+      number = ap (λ n. n / 16) byte ∙ pk.1;
+      length = get_or-set_same first (p + 1) _ 0 (omega (arith, length-set types p one)) ∙ h.length;
     }
 
 module _ {s types₀ : List ℕ} {first count at : ℕ} where
   pub variables_start : VariablesGoing s types₀ types₀ first count at at 0
-  variables_start = record { few = omega arith; near = omega arith; long = refl; below = λ j h. refl; above = λ j h. refl; going = λ enums vs q room h. record { passing = passing_start variable_bytes (variable_fits base enums) variable_size h; typed = λ j lt. absurd (omega arith) } }
+  variables_start = record { few = omega arith; near = omega arith; long = refl; below = λ j h. refl; above = λ j h. refl; going = λ enums few vs q room h. record { passing = passing_start variable_bytes (variable_fits base enums) variable_size h; typed = λ j lt. absurd (omega arith) } }
 
   module _ {types : List ℕ} {next i : ℕ} (g : VariablesGoing s types₀ types first count at next i) where
     pub variables_turn : i < count → (n : ℕ) → n ≡ ty_size_at s (next + 2) → VariablesGoing s types₀ (type_set types (first + 2 * i) s (next + 2)) first count at (next + 2 + n) (i + 1)
@@ -202,17 +244,17 @@ module _ {s types₀ : List ℕ} {first count at : ℕ} where
           long = type_length types (first + 2 * i) s (next + 2) ∙ g.long;
           below = λ j h. type_other types (first + 2 * i) s (next + 2) j (λ e. omega arith) (λ e. omega arith) ∙ g.below j h;
           above = λ j h. type_other types (first + 2 * i) s (next + 2) j (λ e. omega arith) (λ e. omega arith) ∙ g.above j (omega arith);
-          going = λ enums vs q room h.
-              let w = g.going enums vs q room h in
+          going = λ enums few vs q room h.
+              let w = g.going enums few vs q room h in
               let it = passing_item variable_size_lem no_variable w.passing (omega arith) in
               let v = get_or vs i no_variable in
               let st = variable_stands v it.fit it.here in
-              let same : n ≡ ty_size v.ty = en ∙ st.ty.size in
+              let same : n ≡ var_ty_size v.ty = en ∙ st.ty.size in
               record {
                 passing = subst (Passing variable_bytes (variable_fits base enums) variable_size s at vs (i + 1)) (omega (arith, same)) it.on;
                 typed = λ j below. by_cases (dec_lt j i)
                     (λ old. type_kept types (first + 2 * i) s (next + 2) (first + 2 * j) _ (omega arith) (w.typed j old))
-                    (λ new. let e : j ≡ i = omega arith in rw e (type_new types (first + 2 * i) s (next + 2) _ (omega (arith, g.long)) st.ty));
+                    (λ new. let e : j ≡ i = omega arith in rw e (type_new types (first + 2 * i) s (next + 2) enums _ (omega (arith, g.long)) few (T_and (name_fits v.name) _ it.fit).1 st.ty));
               };
         }
 
@@ -222,8 +264,8 @@ module _ {s types₀ : List ℕ} {first count at : ℕ} where
           near = omega (arith, g.near, g.few);
           below = g.below;
           above = λ j h. g.above j (omega (arith, g.few));
-          done = λ enums vs q room h.
-              let w = g.going enums vs q room h in
+          done = λ enums few vs q room h.
+              let w = g.going enums few vs q room h in
               record { ends = passing_end w.passing (omega arith); typed = λ j lt. w.typed j (omega arith) };
         }
 
@@ -256,7 +298,7 @@ types_visits s first told i (suc n) at t u h =
     let number : first + 2 * (i + 1) ≡ first + 2 * i + 2 = omega arith in
     types_visits s first told (i + 1) n (behind_variable s at) h.0 u h.2 ∙ ap (λ m. types_from s m n (behind_variable s at) h.0) number ∙ ap (types_from s (first + 2 * i + 2) n (behind_variable s at)) (told t i at h.0 h.1)
 
-pub types_near : {s types types' : List ℕ} {first count at r : ℕ} → TypesStored s types types' first count at r → r ≤ at + 4 * count
+pub types_near : {s types types' : List ℕ} {first count at r : ℕ} → TypesStored s types types' first count at r → r ≤ at + 6 * count
 types_near {s} {count = count} {at = at} h = omega (arith, h.ends, variables_near s count at)
 
 -- ---- nodes
@@ -275,17 +317,12 @@ put_inside rows (n ∷ ns) i (suc j) h room =
     let z : i + suc j ≡ suc i + j = omega arith in
     rw z (put_inside (set rows i n) ns (suc i) j (omega arith) (omega (arith, length-set rows i n)))
 
--- eight entries that are copied into a row are stored
--- a type stays where its bytes do
-type_same : {types types' : List ℕ} {t : Ty} (p : ℕ) → get_or types' p 0 ≡ get_or types p 0 → get_or types' (p + 1) 0 ≡ get_or types (p + 1) 0 → TypeAt types p t → TypeAt types' p t
-type_same p a b h = record { code = a ∙ h.code; number = b ∙ h.number }
-
-type_below : {types types' : List ℕ} {t : Ty} (first p : ℕ) → ((j : ℕ) → j < first → get_or types' j 0 ≡ get_or types j 0) → p + 1 < first → TypeAt types p t → TypeAt types' p t
+type_below : {types types' : List ℕ} {t : VarTy} (first p : ℕ) → ((j : ℕ) → j < first → get_or types' j 0 ≡ get_or types j 0) → p + 1 < first → Told types p t → Told types' p t
 type_below first p same lt h = type_same p (same p (omega arith)) (same (p + 1) lt) h
 
 -- the types of two lists of variables, one behind the other
-types_append : (types : List ℕ) (first : ℕ) (vs ws : List Variable) → ((i : ℕ) → i < length vs → TypeAt types (first + 2 * i) (get_or vs i no_variable).ty)
-    → ((i : ℕ) → i < length ws → TypeAt types (first + 2 * length vs + 2 * i) (get_or ws i no_variable).ty) → (i : ℕ) → i < length (vs ++ ws) → TypeAt types (first + 2 * i) (get_or (vs ++ ws) i no_variable).ty
+types_append : (types : List ℕ) (first : ℕ) (vs ws : List Variable) → ((i : ℕ) → i < length vs → Told types (first + 2 * i) (get_or vs i no_variable).ty)
+    → ((i : ℕ) → i < length ws → Told types (first + 2 * length vs + 2 * i) (get_or ws i no_variable).ty) → (i : ℕ) → i < length (vs ++ ws) → Told types (first + 2 * i) (get_or (vs ++ ws) i no_variable).ty
 types_append types first vs ws a b i lt =
     by_cases (dec_lt i (length vs))
     (λ low. rw (get_or-append vs ws no_variable i low) (a i low))
@@ -294,43 +331,76 @@ types_append types first vs ws a b i lt =
     let e : length vs + j ≡ i = omega arith in
     let q : first + 2 * length vs + 2 * j ≡ first + 2 * (length vs + j) = omega arith in
     let w = b j (omega (arith, length-append vs ws)) in
-    subst (λ m. TypeAt types (first + 2 * m) (get_or (vs ++ ws) m no_variable).ty) e
-    (rw (get_or-append-add vs ws j no_variable) (subst (λ m. TypeAt types m (get_or ws j no_variable).ty) q w)))
+    subst (λ m. Told types (first + 2 * m) (get_or (vs ++ ws) m no_variable).ty) e
+    (rw (get_or-append-add vs ws j no_variable) (subst (λ m. Told types m (get_or ws j no_variable).ty) q w)))
 
-module _ (rows : List ℕ) {s rows' tab t₁ t₂ t₃ : List ℕ} {plans k at i o oc l lc q qc kind : ℕ} (low : k < 32) (long : length rows ≡ 272) (front : 64 ≤ plans) (near : at < 65536)
+-- four numbers in two bytes each, and what stands outside them
+pub counts_other : (t : List ℕ) (p at a b c x : ℕ) → (p ≤ x → x < p + 8 → ⊥) → get_or (counts_put t p at a b c) x 0 ≡ get_or t x 0
+unfolding counts_put
+counts_other t p at a b c x out =
+    two_other _ (p + 6) c x (λ e. out (omega arith) (omega arith)) (λ e. out (omega arith) (omega arith))
+    ∙ two_other _ (p + 4) b x (λ e. out (omega arith) (omega arith)) (λ e. out (omega arith) (omega arith))
+    ∙ two_other _ (p + 2) a x (λ e. out (omega arith) (omega arith)) (λ e. out (omega arith) (omega arith))
+    ∙ two_other t p at x (λ e. out (omega arith) (omega arith)) (λ e. out (omega arith) (omega arith))
+
+pub counts_length : (t : List ℕ) (p at a b c : ℕ) → length (counts_put t p at a b c) ≡ length t
+unfolding counts_put
+counts_length t p at a b c = two_length _ (p + 6) c ∙ two_length _ (p + 4) b ∙ two_length _ (p + 2) a ∙ two_length t p at
+
+-- a number stays where another is stored behind it
+two_before : (t : List ℕ) (p n q : ℕ) → q + 1 < p → two_at (two_put t p n) q ≡ two_at t q
+two_before t p n q lt = two_kept t (two_put t p n) q (two_other t p n q (λ e. omega arith) (λ e. omega arith)) (two_other t p n (q + 1) (λ e. omega arith) (λ e. omega arith))
+
+pub counts_told : (t : List ℕ) (p at a b c : ℕ) → p + 8 ≤ length t → at < 65536 → a < 65536 → b < 65536 → c < 65536
+    → (two_at (counts_put t p at a b c) p ≡ at) × (two_at (counts_put t p at a b c) (p + 2) ≡ a) × (two_at (counts_put t p at a b c) (p + 4) ≡ b) × (two_at (counts_put t p at a b c) (p + 6) ≡ c)
+unfolding counts_put
+counts_told t p at a b c room lat la lb lc =
+    let t₁ = two_put t p at in
+    let t₂ = two_put t₁ (p + 2) a in
+    let t₃ = two_put t₂ (p + 4) b in
+    let l₁ = two_length t p at in
+    let l₂ = two_length t₁ (p + 2) a in
+    let l₃ = two_length t₂ (p + 4) b in (
+      two_before t₃ (p + 6) c p (omega arith) ∙ two_before t₂ (p + 4) b p (omega arith) ∙ two_before t₁ (p + 2) a p (omega arith) ∙ two_same t p at (omega arith) lat,
+      two_before t₃ (p + 6) c (p + 2) (omega arith) ∙ two_before t₂ (p + 4) b (p + 2) (omega arith) ∙ two_same t₁ (p + 2) a (omega (arith, l₁)) la,
+      two_before t₃ (p + 6) c (p + 4) (omega arith) ∙ two_same t₂ (p + 4) b (omega (arith, l₁, l₂)) lb,
+      two_same t₃ (p + 6) c (omega (arith, l₁, l₂, l₃)) lc,
+    )
+
+module _ (rows : List ℕ) {s rows' tab t₁ t₂ t₃ : List ℕ} {plans k at i o oc l lc q qc kind : ℕ} (low : k < 32) (long : length rows ≡ 272) (front : 256 ≤ plans) (near : at < 65536)
     (ib : i ≡ get_or s (at + 1) 0) (v₁ : VariablesDone s tab t₁ (plans + at) i (at + 2) o) (l₁ : length t₁ ≡ length tab)
     (ob : oc ≡ get_or s o 0) (v₂ : VariablesDone s t₁ t₂ (plans + at + 2 * i) oc (o + 1) l) (l₂ : length t₂ ≡ length t₁)
     (lb : lc ≡ get_or s l 0) (v₃ : VariablesDone s t₂ t₃ (plans + at + 2 * i + 2 * oc) lc (l + 1) q) (l₃ : length t₃ ≡ length t₂)
     (qb : qc ≡ get_or s q 0) (kb : kind ≡ get_or s at 0) (put : rows' ≡ sets rows (k * 8) (kind ∷ (q + 1) ∷ i ∷ oc ∷ (i + oc + lc) ∷ qc ∷ 0 ∷ at ∷ [])) where
-  -- with its place
+  -- with its numbers
   abbrev pub t₄ : List ℕ
-  t₄ = two_put t₃ (2 * k) at
+  t₄ = counts_put t₃ (8 * k) at i (i + oc) (i + oc + lc)
 
   far : (p : ℕ) → plans ≤ p → get_or t₄ p 0 ≡ get_or t₃ p 0
-  far p h = two_other t₃ (2 * k) at p (λ e. omega arith) (λ e. omega arith)
+  far p h = counts_other t₃ (8 * k) at i (i + oc) (i + oc + lc) p (λ a b. omega arith)
 
   -- what stands in the file where the sections start
-  node_is : (enums : ℕ) (n : Node) → NodeStands s enums at n → plans + at + 2 * length (variables n) ≤ length tab → NodeIs n at k rows' plans t₄
-  node_is enums n st room =
+  node_is : (enums : ℕ) → enums ≤ 16 → (n : Node) → NodeStands s enums at n → plans + at + 2 * length (variables n) ≤ length tab → NodeIs n at k rows' plans t₄
+  node_is enums few_enums n st room =
       let many : length (variables n) ≡ length n.inputs + length n.outputs + length n.locals = omega (arith, length-append (n.inputs ++ n.outputs) n.locals, length-append n.inputs n.outputs) in
       let ei : length n.inputs ≡ i = sym (ib ∙ st.input_count) in
-      let w₁ = v₁.done enums n.inputs ei (omega (arith, many)) st.inputs in
+      let w₁ = v₁.done enums few_enums n.inputs ei (omega (arith, many)) st.inputs in
       let eo : o ≡ outputs_start at n = omega (arith, w₁.ends) in
       let no : length n.outputs ≡ oc = sym (ob ∙ ap (λ p. get_or s p 0) eo ∙ st.output_count) in
-      let w₂ = v₂.done enums n.outputs no (omega (arith, many)) (subst (λ p. Listed variable_bytes (variable_fits base enums) s (p + 1) n.outputs) (sym eo) st.outputs) in
+      let w₂ = v₂.done enums few_enums n.outputs no (omega (arith, many)) (subst (λ p. Listed variable_bytes (variable_fits base enums) s (p + 1) n.outputs) (sym eo) st.outputs) in
       let el : l ≡ locals_start at n = omega (arith, w₂.ends, eo) in
       let nl : length n.locals ≡ lc = sym (lb ∙ ap (λ p. get_or s p 0) el ∙ st.local_count) in
-      let w₃ = v₃.done enums n.locals nl (omega (arith, many)) (subst (λ p. Listed variable_bytes (variable_fits base enums) s (p + 1) n.locals) (sym el) st.locals) in
+      let w₃ = v₃.done enums few_enums n.locals nl (omega (arith, many)) (subst (λ p. Listed variable_bytes (variable_fits base enums) s (p + 1) n.locals) (sym el) st.locals) in
       let eq : q ≡ equations_start at n = omega (arith, w₃.ends, el) in
       let nq : length n.equations ≡ qc = sym (qb ∙ ap (λ p. get_or s p 0) eq ∙ st.equation_count) in
       let ns = kind ∷ (q + 1) ∷ i ∷ oc ∷ (i + oc + lc) ∷ qc ∷ 0 ∷ at ∷ [] in
       let at_entry : (j : ℕ) → j < 8 → row_at rows' k j ≡ get_or ns j 0 = λ j h. rw put (put_inside rows ns (k * 8) j h (omega (arith, long))) in
-      let all : (j : ℕ) → j < length (variables n) → TypeAt t₃ (plans + at + 2 * j) (get_or (variables n) j no_variable).ty =
+      let all : (j : ℕ) → j < length (variables n) → Told t₃ (plans + at + 2 * j) (get_or (variables n) j no_variable).ty =
       types_append t₃ (plans + at) (n.inputs ++ n.outputs) n.locals
       (types_append t₃ (plans + at) n.inputs n.outputs
       (λ j h. type_below {types = t₂} (plans + at + 2 * i + 2 * oc) _ v₃.below (omega arith) (type_below {types = t₁} (plans + at + 2 * i) _ v₂.below (omega arith) (w₁.typed j h)))
-      (λ j h. subst (λ m. TypeAt t₃ m (get_or n.outputs j no_variable).ty) (omega arith) (type_below (plans + at + 2 * i + 2 * oc) _ v₃.below (omega arith) (w₂.typed j h))))
-      (λ j h. subst (λ m. TypeAt t₃ m (get_or n.locals j no_variable).ty) (omega (arith, length-append n.inputs n.outputs)) (w₃.typed j h)) in
+      (λ j h. subst (λ m. Told t₃ m (get_or n.outputs j no_variable).ty) (omega arith) (type_below (plans + at + 2 * i + 2 * oc) _ v₃.below (omega arith) (w₂.typed j h))))
+      (λ j h. subst (λ m. Told t₃ m (get_or n.locals j no_variable).ty) (omega (arith, length-append n.inputs n.outputs)) (w₃.typed j h)) in
       record {
         row = record {
           kind = at_entry 0 (omega arith) ∙ kb ∙ st.kind;
@@ -342,9 +412,12 @@ module _ (rows : List ℕ) {s rows' tab t₁ t₂ t₃ : List ℕ} {plans k at i
           place = at_entry 7 (omega arith);
         };
         typed = record {
-          place = two_same t₃ (2 * k) at (omega (arith, l₁, l₂, l₃)) near;
+          place = (counts_told t₃ (8 * k) at i (i + oc) (i + oc + lc) (omega (arith, l₁, l₂, l₃)) near (omega (arith, ei, st.few_inputs)) (omega (arith, ei, no, st.few_inputs, st.few_outputs)) (omega (arith, ei, no, nl, st.few_inputs, st.few_outputs, st.few_locals))).0;
           are = λ j h. type_same (plans + at + 2 * j) (far _ (omega arith)) (far _ (omega arith)) (all j h);
         };
+        counted =
+            let w = counts_told t₃ (8 * k) at i (i + oc) (i + oc + lc) (omega (arith, l₁, l₂, l₃)) near (omega (arith, ei, st.few_inputs)) (omega (arith, ei, no, st.few_inputs, st.few_outputs)) (omega (arith, ei, no, nl, st.few_inputs, st.few_outputs, st.few_locals)) in
+            record { first = w.1 ∙ sym ei; second = w.2 ∙ omega (arith, ei, no); third = w.3 ∙ omega (arith, ei, no, nl, many) };
       }
 
   pub node_done : NodeDone s rows rows' tab t₄ plans k at
@@ -353,13 +426,13 @@ module _ (rows : List ℕ) {s rows' tab t₁ t₂ t₃ : List ℕ} {plans k at i
       record {
         below = λ j h. rw put (put_outside rows ns (k * 8) j (λ a b. omega arith));
         above = λ j h. rw put (put_outside rows ns (k * 8) j (λ a b. omega arith));
-        kept = λ j h a b. two_other t₃ (2 * k) at j a b ∙ v₃.below j (omega arith) ∙ v₂.below j (omega arith) ∙ v₁.below j h;
+        kept = λ j h out. counts_other t₃ (8 * k) at i (i + oc) (i + oc + lc) j out ∙ v₃.below j (omega arith) ∙ v₂.below j (omega arith) ∙ v₁.below j h;
         done = node_is;
       }
 
 -- what is stored, by the bytes
 pub node_stored_lem : {s rows rows' tab t₁ t₂ t₃ t₄ : List ℕ} {plans k at i o oc l lc q qc kind : ℕ} → i ≡ get_or s (at + 1) 0 → TypesStored s tab t₁ (plans + at) i (at + 2) o → oc ≡ get_or s o 0 → TypesStored s t₁ t₂ (plans + at + 2 * i) oc (o + 1) l
-    → lc ≡ get_or s l 0 → TypesStored s t₂ t₃ (plans + at + 2 * i + 2 * oc) lc (l + 1) q → t₄ ≡ two_put t₃ (2 * k) at → qc ≡ get_or s q 0 → kind ≡ get_or s at 0 → rows' ≡ sets rows (k * 8) (kind ∷ (q + 1) ∷ i ∷ oc ∷ (i + oc + lc) ∷ qc ∷ 0 ∷ at ∷ []) → NodeStored s rows rows' tab t₄ plans k at
+    → lc ≡ get_or s l 0 → TypesStored s t₂ t₃ (plans + at + 2 * i + 2 * oc) lc (l + 1) q → t₄ ≡ counts_put t₃ (8 * k) at i (i + oc) (i + oc + lc) → qc ≡ get_or s q 0 → kind ≡ get_or s at 0 → rows' ≡ sets rows (k * 8) (kind ∷ (q + 1) ∷ i ∷ oc ∷ (i + oc + lc) ∷ qc ∷ 0 ∷ at ∷ []) → NodeStored s rows rows' tab t₄ plans k at
 node_stored_lem {s} {rows} {rows'} {tab} {t₁} {t₂} {t₃} {t₄} {plans} {k} {at} {i} {o} {oc} {l} {lc} {q} {qc} {kind} ei v₁ eoc v₂ elc v₃ e₄ eqc ek put =
     let eo : o ≡ outputs_at s at = v₁.ends ∙ ap (λ n. end_from (behind_variable s) n (at + 2)) ei in
     let no : oc ≡ get_or s (outputs_at s at) 0 = eoc ∙ ap (λ p. get_or s p 0) eo in
@@ -369,13 +442,13 @@ node_stored_lem {s} {rows} {rows'} {tab} {t₁} {t₂} {t₃} {t₄} {plans} {k}
     let nq : qc ≡ get_or s (equations_at s at) 0 = eqc ∙ ap (λ p. get_or s p 0) eq in
     let p = plans + at in
     let typed : t₃ ≡ node_types s p at tab = v₃.stored ∙ ap (types_from s (p + 2 * i + 2 * oc) lc (l + 1)) (v₂.stored ∙ ap (types_from s (p + 2 * i) oc (o + 1)) v₁.stored) ∙ rw (nl, no, ei, el, eo) refl in
-    record { row = put ∙ rw (ek, eq, nl, no, ei, nq) refl; typed = e₄ ∙ ap (λ t. two_put t (2 * k) at) typed }
+    record { row = put ∙ rw (ek, eq, nl, no, ei, nq) refl; typed = e₄ ∙ ap (λ t. counts_put t (8 * k) at i (i + oc) (i + oc + lc)) typed ∙ rw (nl, no, ei) refl }
 
 node_length : (s : List ℕ) (plans k at : ℕ) (tab : List ℕ) → length (node_stored s plans k at tab) ≡ length tab
 node_length s plans k at tab =
-    two_length (node_types s (plans + at) at tab) (2 * k) at ∙ types_length s (get_or s (locals_at s at) 0) _ (locals_at s at + 1) _ ∙ types_length s (get_or s (outputs_at s at) 0) _ (outputs_at s at + 1) _ ∙ types_length s (get_or s (at + 1) 0) (plans + at) (at + 2) tab
+    counts_length (node_types s (plans + at) at tab) (8 * k) at _ _ _ ∙ types_length s (get_or s (locals_at s at) 0) _ (locals_at s at + 1) _ ∙ types_length s (get_or s (outputs_at s at) 0) _ (outputs_at s at + 1) _ ∙ types_length s (get_or s (at + 1) 0) (plans + at) (at + 2) tab
 
-pub node_told : {s rows rows' tab tab' : List ℕ} {plans k at : ℕ} → k < 32 → length rows ≡ 272 → 64 ≤ plans → at < 65536 → NodeStored s rows rows' tab tab' plans k at → NodeDone s rows rows' tab tab' plans k at
+pub node_told : {s rows rows' tab tab' : List ℕ} {plans k at : ℕ} → k < 32 → length rows ≡ 272 → 256 ≤ plans → at < 65536 → NodeStored s rows rows' tab tab' plans k at → NodeDone s rows rows' tab tab' plans k at
 node_told {s} {rows} {rows'} {tab} {tab'} {plans} {k} {at} low long front near h =
     let p = plans + at in
     let i = get_or s (at + 1) 0 in
@@ -394,13 +467,14 @@ node_told {s} {rows} {rows'} {tab} {tab'} {plans} {k} {at} low long front near h
 pub record NodeGoing (f : File) (rows : List ℕ) (plans : ℕ) (tab : List ℕ) (k : ℕ) : Type 0 where
   pub row : (j : ℕ) → j < k → NodeRow (node_of f j) (place_of (placed_nodes f) j) j rows
   pub typed : (j : ℕ) → j < k → NodeTypes (node_of f j) (place_of (placed_nodes f) j) j plans tab
+  pub counted : (j : ℕ) → j < k → CountedBy (node_of f j) j tab
 
 pub record NodesGoing (s places rows₀ rows tab₀ tab : List ℕ) (plans count k : ℕ) : Type 0 where
   pub few : k ≤ count
   pub long : length rows ≡ 272
   pub wide : length tab ≡ length tab₀
   pub above : (j : ℕ) → 256 ≤ j → get_or rows j 0 ≡ get_or rows₀ j 0
-  pub kept : (j : ℕ) → 64 ≤ j → j < plans → get_or tab j 0 ≡ get_or tab₀ j 0
+  pub kept : (j : ℕ) → 256 ≤ j → j < plans → get_or tab j 0 ≡ get_or tab₀ j 0
   pub going : (f : File) → length f.nodes ≡ count → FileStands s f → PlacesAre f places → NodeGoing f rows plans tab k
 
 -- a row below what is written stays
@@ -420,15 +494,24 @@ pub few_variables : {s : List ℕ} {enums at : ℕ} {n : Node} → NodeStands s 
 few_variables {n = n} st = omega (arith, st.few_inputs, st.few_outputs, st.few_locals, length-append (n.inputs ++ n.outputs) n.locals, length-append n.inputs n.outputs)
 
 -- the place and the types of a node stay where their bytes do
-pub types_stay : {tab tab' : List ℕ} {n : Node} {at j plans : ℕ} (m : ℕ) → plans + at + 2 * length (variables n) ≤ m → ((i : ℕ) → plans + at ≤ i → i < m → get_or tab' i 0 ≡ get_or tab i 0) → get_or tab' (2 * j) 0 ≡ get_or tab (2 * j) 0 → get_or tab' (2 * j + 1) 0 ≡ get_or tab (2 * j + 1) 0
+pub types_stay : {tab tab' : List ℕ} {n : Node} {at j plans : ℕ} (m : ℕ) → plans + at + 2 * length (variables n) ≤ m → ((i : ℕ) → plans + at ≤ i → i < m → get_or tab' i 0 ≡ get_or tab i 0) → get_or tab' (8 * j) 0 ≡ get_or tab (8 * j) 0 → get_or tab' (8 * j + 1) 0 ≡ get_or tab (8 * j + 1) 0
     → NodeTypes n at j plans tab → NodeTypes n at j plans tab'
 types_stay {tab} {tab'} {n} {at} {j} {plans} m room same a b h =
-    record { place = two_kept tab tab' (2 * j) a b ∙ h.place; are = λ i il. type_same (plans + at + 2 * i) (same _ (omega arith) (omega arith)) (same _ (omega arith) (omega arith)) (h.are i il) }
+    record { place = two_kept tab tab' (8 * j) a b ∙ h.place; are = λ i il. type_same (plans + at + 2 * i) (same _ (omega arith) (omega arith)) (same _ (omega arith) (omega arith)) (h.are i il) }
 
-module _ {s places rows₀ tab₀ : List ℕ} {plans count : ℕ} (front : 64 ≤ plans) (room : plans + length s ≤ length tab₀) where
+-- a node's counts stay where their bytes do
+pub counts_stay : {tab tab' : List ℕ} {a b c : ℕ} (j : ℕ) → ((x : ℕ) → 8 * j ≤ x → x < 8 * j + 8 → get_or tab' x 0 ≡ get_or tab x 0) → CountsAre tab j a b c → CountsAre tab' j a b c
+counts_stay {tab} {tab'} j same h =
+    record {
+      first = two_kept tab tab' (8 * j + 2) (same _ (omega arith) (omega arith)) (same _ (omega arith) (omega arith)) ∙ h.first;
+      second = two_kept tab tab' (8 * j + 4) (same _ (omega arith) (omega arith)) (same _ (omega arith) (omega arith)) ∙ h.second;
+      third = two_kept tab tab' (8 * j + 6) (same _ (omega arith) (omega arith)) (same _ (omega arith) (omega arith)) ∙ h.third;
+    }
+
+module _ {s places rows₀ tab₀ : List ℕ} {plans count : ℕ} (front : 256 ≤ plans) (room : plans + length s ≤ length tab₀) where
   pub nodes_start_lem : length rows₀ ≡ 272 → NodesGoing s places rows₀ rows₀ tab₀ tab₀ plans count 0
   nodes_start_lem long =
-      record { few = omega arith; long = long; wide = refl; above = λ j h. refl; kept = λ j h g. refl; going = λ f q st at. record { row = λ j lt. absurd (omega arith); typed = λ j lt. absurd (omega arith) } }
+      record { few = omega arith; long = long; wide = refl; above = λ j h. refl; kept = λ j h g. refl; going = λ f q st at. record { row = λ j lt. absurd (omega arith); typed = λ j lt. absurd (omega arith); counted = λ j lt. absurd (omega arith) } }
 
   module _ {rows tab : List ℕ} {k : ℕ} (g : NodesGoing s places rows₀ rows tab₀ tab plans count k) where
     pub nodes_turn : (rows' tab' : List ℕ) (at : ℕ) → count ≤ 32 → k < count → length rows' ≡ length rows → length tab' ≡ length tab → at ≡ get_or places k 0 → NodeDone s rows rows' tab tab' plans k at → NodesGoing s places rows₀ rows' tab₀ tab' plans count (k + 1)
@@ -438,21 +521,24 @@ module _ {s places rows₀ tab₀ : List ℕ} {plans count : ℕ} (front : 64 �
           long = el ∙ g.long;
           wide = et ∙ g.wide;
           above = λ j h. d.above j (omega arith) ∙ g.above j h;
-          kept = λ j h b. d.kept j (omega arith) (λ e. omega arith) (λ e. omega arith) ∙ g.kept j h b;
+          kept = λ j h b. d.kept j (omega arith) (λ x y. omega arith) ∙ g.kept j h b;
           going = λ f q st pl.
               let w = g.going f q st pl in
               let here : at ≡ place_of (placed_nodes f) k = ea ∙ pl.at k (omega arith) in
               let n = node_of f k in
               let stands = node_at_lem st k (omega arith) in
-              let is = d.done (length f.enums) n (subst (λ a. NodeStands s (length f.enums) a n) (sym here) stands) (omega (arith, here, g.wide, room, node_inside st k (omega arith), plan_room n stands)) in
+              let is = d.done (length f.enums) st.few_enums n (subst (λ a. NodeStands s (length f.enums) a n) (sym here) stands) (omega (arith, here, g.wide, room, node_inside st k (omega arith), plan_room n stands)) in
               record {
                 row = λ j below. by_cases (dec_lt j k)
                     (λ old. row_below k j d.below old (w.row j old))
                     (λ new. let e : j ≡ k = omega arith in rw e (subst (λ a. NodeRow n a k rows') here is.row));
                 typed = λ j below. by_cases (dec_lt j k)
-                    (λ old. types_stay (plans + at) (omega (arith, here, nodes_apart st j k old (omega arith), plan_room (node_of f j) (node_at_lem st j (omega arith)))) (λ i a b. d.kept i b (λ e. omega arith) (λ e. omega arith))
-                    (d.kept (2 * j) (omega arith) (λ e. omega arith) (λ e. omega arith)) (d.kept (2 * j + 1) (omega arith) (λ e. omega arith) (λ e. omega arith)) (w.typed j old))
+                    (λ old. types_stay (plans + at) (omega (arith, here, nodes_apart st j k old (omega arith), plan_room (node_of f j) (node_at_lem st j (omega arith)))) (λ i a b. d.kept i b (λ x y. omega arith))
+                    (d.kept (8 * j) (omega arith) (λ x y. omega arith)) (d.kept (8 * j + 1) (omega arith) (λ x y. omega arith)) (w.typed j old))
                     (λ new. let e : j ≡ k = omega arith in rw e (subst (λ a. NodeTypes n a k plans tab') here is.typed));
+                counted = λ j below. by_cases (dec_lt j k)
+                    (λ old. counts_stay j (λ x a b. d.kept x (omega arith) (λ u v. omega arith)) (w.counted j old))
+                    (λ new. let e : j ≡ k = omega arith in rw e is.counted);
               };
         }
 
@@ -461,7 +547,7 @@ module _ {s places rows₀ tab₀ : List ℕ} {plans count : ℕ} (front : 64 �
         record {
           above = g.above;
           kept = g.kept;
-          done = λ f q st pl. let w = g.going f q st pl in record { row = λ j lt. w.row j (omega (arith, g.few)); typed = λ j lt. w.typed j (omega (arith, g.few)) };
+          done = λ f q st pl. let w = g.going f q st pl in record { row = λ j lt. w.row j (omega (arith, g.few)); typed = λ j lt. w.typed j (omega (arith, g.few)); counted = λ j lt. w.counted j (omega (arith, g.few)) };
         }
 
   -- the rows, places and types, stored one after the other
@@ -564,13 +650,20 @@ module _ {s : List ℕ} {f : File} (st : FileStands s f) {rows₀ rows₁ : List
         let at : n ≡ constants_start f + sum (map constant_size f.constants) = omega (arith, nodes_at) in
         sym (b.is ∙ ap (λ p. get_or s p 0) at ∙ st.node_count)
 
-    pub tables_done : {rows₂ tab₁ tab₂ : List ℕ} {plans nc : ℕ} → length rows₁ ≡ 272 → 64 ≤ plans → plans + length s ≤ length tab₁ → Byte s n nc → NodesStored s places rows₁ rows₂ tab₁ tab₂ plans nc → TablesDone f rows₂ tab₁ tab₂ plans (record { constants = c; nodes = n })
+    pub tables_done : {rows₂ tab₁ tab₂ : List ℕ} {plans nc : ℕ} → length rows₁ ≡ 272 → 256 ≤ plans → plans + length s ≤ length tab₁ → Byte s n nc → NodesStored s places rows₁ rows₂ tab₁ tab₂ plans nc → TablesDone f rows₂ tab₁ tab₂ plans (record { constants = c; nodes = n })
     tables_done long₁ front room nb kept =
         let many = nodes_count nb in
         let nodes = nodes_told front room (omega (arith, many, st.few_nodes)) (λ j h. places_in st pl j (omega (arith, many, h))) long₁ kept in
         let w = nodes.done f many st pl in
         record {
           sections = record { constants = constants_at; nodes = nodes_at };
-          are = record { row = w.row; firsts = λ e lt. nodes.above (256 + e) (omega arith) ∙ enums_are.firsts e lt; typed = w.typed };
+          are = record { row = w.row; firsts = λ e lt. nodes.above (256 + e) (omega arith) ∙ enums_are.firsts e lt; typed = w.typed; counted = w.counted };
           kept = nodes.kept;
         }
+
+-- where the enums end, the count of the constants stands
+pub behind_enums : {s : List ℕ} {f : File} → FileStands s f → {ec c : ℕ} → Byte s 1 ec → c ≡ end_from (behind_enum s) ec 2 → c + 1 ≡ constants_start f
+behind_enums {s} {f} st {ec} {c} eb ee =
+    let rows : List ℕ = replicate 272 0 in
+    let stored : EnumsStored s rows (firsts_from s 0 ec 2 rows) ec 2 c = record { ends = ee; stored = refl } in
+    constants_at st eb (length-replicate {A = ℕ} 272 0) stored

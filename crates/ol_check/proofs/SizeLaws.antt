@@ -1,5 +1,5 @@
 -- Fault 14, and the length of a call site's record.
-use Prim.Native.Nat.{ℕ, zero, suc, ◌-◌, ◌≤◌}
+use Prim.Native.Nat.{ℕ, zero, suc, ◌+◌, ◌-◌, ◌*◌, ◌≤◌, min}
 use mathlib.Core.Bool.{true, false, not}
 use mathlib.Core.List.{List, [], ◌∷◌, map}
 use mathlib.Core.Option.{none, some}
@@ -9,11 +9,13 @@ use lib.ListN.{length, get_or}
 use Rattle.ol_spec.specs.Syntax.{NodeKind, Function, Operator, Imported, Node, no_node, last_of, main}
 use Rattle.ol_spec.specs.Places.{placed_nodes, node_size, nodes_start, main_place}
 use Rattle.ol_spec.specs.Encode.{kind_code}
-use Rattle.ol_spec.specs.Admission.{is_operator, at_main, fault14}
+use Rattle.ol_spec.specs.Step.{instance_size, sizes_at}
+use Rattle.ol_spec.specs.Admission.{is_operator, at_main, fault14, state_size}
 use Rattle.ol_spec.proofs.Admitted.{length_placed}
 use Rattle.ol_tables.specs.At.{file_at}
 use Rattle.ol_tables.specs.Tables.{row_at, node_of}
 use Rattle.ol_check.specs.NodesJudged.{place_in, RowsReady}
+use Rattle.ol_check.specs.Sizes.{StateSized}
 
 -- ---- the last node
 
@@ -58,3 +60,18 @@ module _ {s rows : List ℕ} {nodes : ℕ} (rd : RowsReady s rows nodes) (some_n
   main_other x p e other ep =
       ap some (ep ∙ (rd.row (nodes - 1) (omega (arith, rd.many))).place ∙ sym the_place)
       ∙ ap (λ b. at_main (file_at s) (not b)) (sym (operator_not (main (file_at s)).kind (λ q. other (kind_told x e ∙ q))))
+
+-- ---- the state
+
+cap_right : (a i c : ℕ) → min (a + min i c) c ≡ min (a + i) c
+cap_right a i c = omega arith
+
+pub state_sized : (cells m r : ℕ) → r ≡ min (9 * cells + m) 65536 → StateSized cells m r
+unfolding state_size
+state_sized cells m r er =
+    record {
+      is = er;
+      sized = λ f ec em.
+          let size = instance_size (sizes_at (length f.nodes) f.nodes) (main f) in
+          er ∙ ap (λ n. min (9 * cells + n) 65536) em ∙ cap_right (9 * cells) size 65536 ∙ ap (λ n. min (9 * n + size) 65536) ec;
+    }

@@ -1,6 +1,5 @@
 -- The table of record lengths, in ascending order of the nodes; the state's length and fault 13.
 use Prim.Native.Nat.{ℕ, zero, suc, ◌+◌, ◌-◌, ◌*◌, ◌≤◌, ◌<◌, min}
-use mathlib.Core.Bool.{◌&&◌}
 use mathlib.Core.List.Memᴰ.{append_cases as in_append}
 use mathlib.Core.List.Memᴰ.{append_left as in_left}
 use mathlib.Core.List.Memᴰ.{append_right as in_right}
@@ -16,36 +15,30 @@ use native.Mathlib.Decide.{dec_lt}
 use native.Mathlib.Numerals.{add-one}
 use lib.ListN.{length, get_or, set, drop, take, drop_of_length-le, length-set, get_or-eq_default}
 use lib.Seq.{drop-cons, get_or-set_same, get_or-set_other}
-use lib.Dec.{ltb, ltb→lt}
 use borrow.Author.Tests.{lt-ltb}
 use Rattle.ol_theory.specs.Member.{◌∈◌}
 use Rattle.ol_spec.specs.Lists.{sum, concat}
-use Rattle.ol_spec.specs.Syntax.{NodeKind, Function, Operator, Imported, Equation, Node, File, no_node, main, variables}
-use Rattle.ol_spec.specs.Places.{constants_start}
+use Rattle.ol_spec.specs.Syntax.{NodeKind, Function, Operator, Imported, Equation, Node, File, no_node}
 use Rattle.ol_spec.specs.Encode.{kind_code}
-use Rattle.ol_spec.specs.Limits.{relay_loader}
 use Rattle.ol_spec.specs.Eval.{sites_size}
-use Rattle.ol_spec.specs.Step.{sites, equation_sites, own_size, instance_size, site_size_by, sizes_at}
-use Rattle.ol_spec.specs.Admission.{callee_in, may_call, fault9, state_size}
+use Rattle.ol_spec.specs.Step.{cell_count, sites, equation_sites, own_size, instance_size, site_size_by, sizes_at}
+use Rattle.ol_spec.specs.Admission.{fault9}
 use Rattle.ol_spec.specs.Demand3.{Bytes}
-use Rattle.ol_spec.proofs.Tests.{T_and}
-use Rattle.ol_spec.proofs.Lists.{all_at}
-use Rattle.ol_spec.proofs.ReadFacts.{NodeRead, file_read}
-use Rattle.ol_spec.proofs.Admits.{ok_for, site_allowed, node_plain}
+use Rattle.ol_spec.proofs.Admits.{used_lower}
+use Rattle.ol_spec.proofs.Forms.{sites_used}
 use Rattle.ol_spec.proofs.Calls.{site_size_lem}
 use Rattle.ol_tables.specs.At.{file_at}
 use Rattle.ol_tables.specs.Tables.{row_at, node_of, site_bytes, first_at, Rows, record_bytes, bytes_before, PlanOf}
 use Rattle.ol_tables.specs.Stands.{FileReads}
 use Rattle.ol_tables.proofs.HeadsFile.{file_stands, node_at_lem}
-use Rattle.ol_tables.specs.Heads.{Byte}
 use Rattle.ol_check.specs.RowsDone.{NodeRow}
 use Rattle.ol_check.specs.Judging.{size_to}
-use Rattle.ol_check.specs.NodesJudged.{RowsReady, NodePlanned, PlansBelow, TypesLeft}
+use Rattle.ol_check.specs.NodesJudged.{RowsReady, NodePlanned, PlansBelow, TypesLeft, ConstantsLeft}
 use Rattle.ol_check.specs.Records.{callee_b, instance_b, record_by}
-use Rattle.ol_check.specs.Sizes.{SizesDone, StateSized, NodesSized, size_node, size_nodes, last_size}
+use Rattle.ol_check.specs.Sizes.{SizesDone, NodesSized, size_node, size_nodes, last_size}
 use Rattle.ol_check.proofs.CalleeLaws.{sum_append}
-use Rattle.ol_check.proofs.RowLoops.{few_variables}
-use Rattle.ol_check.proofs.PlanLaws.{plan_kept, plan_made, types_left}
+use Rattle.ol_check.proofs.CellLaws.{cells_limit}
+use Rattle.ol_check.proofs.PlanLaws.{plan_kept, plan_made, types_left, constants_left}
 use Rattle.ol_check.proofs.TabLaws.{row_of}
 use Rattle.ol_check.proofs.SizeLaws.{the_main}
 
@@ -54,7 +47,7 @@ use Rattle.ol_check.proofs.SizeLaws.{the_main}
 cap_part : (a h r c : ℕ) → min (a + min h c + r) c ≡ min (a + (h + r)) c
 cap_part a h r c = omega arith
 
-under_cap : (a x : ℕ) → a ≤ 1009 → x ≤ 32768 → min (a + x) 65536 - a ≡ x
+under_cap : (a x : ℕ) → a ≤ 32257 → x ≤ 32768 → min (a + x) 65536 - a ≡ x
 under_cap a x h l = omega arith
 
 -- a capped sum of capped numbers
@@ -83,11 +76,7 @@ module _ {s : List ℕ} (bytes : Bytes s) (reads : FileReads s) (no9 : fault9 (f
   lower k c m =
       let f = file_at s in
       by_cases (dec_lt k (length f.nodes))
-      (λ b.
-      let n = get_or f.nodes k no_node in
-      let read = all_at (NodeRead (length f.enums)) f.nodes k no_node (file_read s bytes relay_loader f reads.end reads.is).nodes_read b in
-      let w = site_allowed (ok_for f k n) n.equations c (node_plain f no9 k b read.eqs) m in
-      ltb→lt c k (T_and (ltb c k) _ (T_and (ltb c k && may_call n.kind (callee_in f c).kind) _ w.1).0).0)
+      (λ b. used_lower f no9 k b c (sites_used (get_or f.nodes k no_node).equations c m))
       (λ h. absurd (in_nil (subst (λ n. c ∈ sites n) (get_or-eq_default f.nodes no_node (omega arith)) m)))
 
   module _ (rows : List ℕ) (nodes k : ℕ) (en : nodes ≡ length (file_at s).nodes) (lt : k < nodes) (before : (j : ℕ) → j < k → row_at rows j 6 ≡ min (site_bytes (file_at s) j) 65536) where
@@ -95,7 +84,7 @@ module _ {s : List ℕ} (bytes : Bytes s) (reads : FileReads s) (no9 : fault9 (f
     callee_size c m = let low = lower k c m in rw (lt-ltb c nodes (omega (arith, low))) (before c low)
 
     -- the bytes of the records before an equation, where those of all are far below the cap
-    before_sized : (i : ℕ) → length (variables (node_of (file_at s) k)) ≤ 112 → record_bytes (file_at s) k ≤ 32768
+    before_sized : (i : ℕ) → cell_count (node_of (file_at s) k) ≤ 3584 → record_bytes (file_at s) k ≤ 32768
         → size_to rows nodes (own_size (node_of (file_at s) k)) (node_of (file_at s) k).equations i - own_size (node_of (file_at s) k) ≡ bytes_before (file_at s) k i
     unfolding sites_size
     before_sized i few low =
@@ -218,32 +207,18 @@ plans_turn {s} {rows₀} {rows} {nodes} {k} plans' rd g bytes lt w below =
     let low : k < length f.nodes = omega (arith, rd.many) in
     by_cases (dec_lt j k) (λ old. plan_kept st w low j old (below no j old))
     (λ new. let e : k ≡ j = omega arith in
-    subst (PlanOf f plans') e (plan_made st w low (λ i m few. before_sized bytes rd.reads no rows nodes k rd.many lt (g.sizes no) i (few_variables (node_at_lem st k low)) few)))
+    subst (PlanOf f plans') e (plan_made st w low (λ i m few. before_sized bytes rd.reads no rows nodes k rd.many lt (g.sizes no) i (cells_limit (node_at_lem st k low)) few)))
 
 -- the types of all nodes are left
 pub types_turn : {s rows₀ rows : List ℕ} {nodes k : ℕ} {plans₀ plans : List ℕ} (plans' : List ℕ) → RowsReady s rows₀ nodes → Bytes s → k < nodes → NodePlanned rows nodes (file_at s) k plans plans' → TypesLeft (file_at s) plans₀ plans → TypesLeft (file_at s) plans₀ plans'
 types_turn plans' rd bytes lt w h = record { left = λ j l x a b. (types_left (file_stands bytes rd.reads) w (omega (arith, rd.many))).left j l x a b ∙ h.left j l x a b }
+
+-- and those of the constants
+pub constants_turn : {s rows₀ rows : List ℕ} {nodes k : ℕ} {plans₀ plans : List ℕ} (plans' : List ℕ) → RowsReady s rows₀ nodes → Bytes s → k < nodes → NodePlanned rows nodes (file_at s) k plans plans' → ConstantsLeft (file_at s) plans₀ plans → ConstantsLeft (file_at s) plans₀ plans'
+constants_turn plans' rd bytes lt w h = record { left = λ x a b. (constants_left (file_stands bytes rd.reads) w (omega (arith, rd.many))).left x a b ∙ h.left x a b }
 
 -- the rows are the file's
 pub rows_sized : {f : File} {rows rows' : List ℕ} → length rows' ≡ 272 → ((e : ℕ) → e < length f.enums → first_at rows e ≡ get_or (get_or f.enums e []) 0 0) → SizesDone f rows rows'
     → fault9 f ≡ none → Rows f rows'
 rows_sized long firsts d no9 =
     record { long = long; rows_of = λ k lt. row_of (d.row k lt) (d.sizes no9 k lt); firsts = λ e lt. d.above (256 + e) (omega arith) ∙ firsts e lt }
-
--- ---- the state
-
-cap_right : (a i c : ℕ) → min (a + min i c) c ≡ min (a + i) c
-cap_right a i c = omega arith
-
-module _ {s : List ℕ} {constants : ℕ} (bytes : Bytes s) (reads : FileReads s) (counted : constants + 1 ≡ constants_start (file_at s)) where
-  pub state_sized : (c m r : ℕ) → Byte s constants c → r ≡ min (9 * c + m) 65536 → StateSized (file_at s) m r
-  unfolding state_size
-  state_sized c m r bc er =
-      let f = file_at s in
-      let size = instance_size (sizes_at (length f.nodes) f.nodes) (main f) in
-      let st = file_stands bytes reads in
-      let many : c ≡ length f.constants = bc.is ∙ ap (λ p. get_or s p 0) (omega (arith, counted)) ∙ st.constant_count in
-      record {
-        is = er ∙ ap (λ n. min (9 * n + m) 65536) many;
-        sized = λ em. er ∙ ap (λ n. min (9 * c + n) 65536) em ∙ cap_right (9 * c) size 65536 ∙ ap (λ n. min (9 * n + size) 65536) many;
-      }

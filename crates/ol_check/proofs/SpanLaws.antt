@@ -88,8 +88,8 @@ module _ {R : List ℕ → ℕ → ℕ → List ℕ → Type 0} {behind : ℕ �
     pub each_end : count ≤ i → next ≡ end_from behind count at
     each_end over = sym (end_none behind count i next over) ∙ g.end
 
--- a variable has at most four bytes
-pub variables_near : (s : List ℕ) (count at : ℕ) → end_from (behind_variable s) count at ≤ at + 4 * count
+-- a variable has at most six bytes
+pub variables_near : (s : List ℕ) (count at : ℕ) → end_from (behind_variable s) count at ≤ at + 6 * count
 unfolding end_from
 variables_near s zero at = omega arith
 variables_near s (suc n) at = omega (arith, variables_near s n (behind_variable s at), ty_small s (at + 2))

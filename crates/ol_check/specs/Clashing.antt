@@ -1,5 +1,5 @@
--- Fault 6, by a table that says of each name which sort declared it last; and the highest declared name.
-use Rattle.std.specs.Prelude.{ℕ, zero, suc, max, ◌+◌, ◌-◌, ◌<◌, Bool, ◌&&◌, ◌||◌, cond, List, [], ◌∷◌, ◌++◌, ◌≡◌, length, get_or, set, ltb, leb, eqb}
+-- Fault 6, by a table that says of each name which sort declared it last; the highest declared name; and whether an array is declared.
+use Rattle.std.specs.Prelude.{ℕ, zero, suc, max, ◌+◌, ◌-◌, ◌<◌, Bool, ◌&&◌, ◌||◌, cond, List, [], ◌∷◌, ◌++◌, map, ◌≡◌, length, get_or, set, ltb, leb, eqb}
 use Rattle.std.proofs.Math.Option.{Option, none}
 use Rattle.ol_spec.specs.Lists.{or_else}
 use Rattle.ol_spec.specs.Syntax.{File}
@@ -9,7 +9,8 @@ use Rattle.ol_tables.specs.At.{file_at}
 use Rattle.ol_tables.specs.Stands.{FileReads}
 use Rattle.ol_tables.specs.Tables.{Each, node_of}
 use Rattle.ol_check.specs.Founds.{place_of}
-use Rattle.ol_check.specs.Spans.{end_from, behind_variable, behind_enum, names_from, variables_from}
+use Rattle.ol_check.specs.Arrays.{or_all, declares_arrays}
+use Rattle.ol_check.specs.Spans.{starts_from, end_from, behind_variable, behind_enum, names_from, variables_from}
 use Rattle.ol_check.specs.RowsDone.{NodeRow, SectionsAre}
 use Rattle.ol_check.specs.NodesJudged.{place_in}
 use Rattle.ol_check.specs.declared.rows.Sections.{Sections}
@@ -44,16 +45,25 @@ unfoldable pub over_all : ℕ → List Declared → ℕ
 over_all most [] = most
 over_all most (d ∷ ds) = over_all (max most d.name) ds
 
--- what a walk over these declarations makes of a sorter: its table, of which it keeps the reference, the first clash so far and the highest name so far
-pub record Walks (ds : List Declared) (v v' : Sorter) : Type 0 where
+-- what a walk over these declarations, which say of some types whether they are an array's, makes of a sorter: its table, of which it keeps the reference, the first clash so far, the highest name so far and
+-- whether an array was declared so far
+pub record Walks (ds : List Declared) (bs : List Bool) (v v' : Sorter) : Type 0 where
   pub same_reference : v'.sorts.ghost_name ≡ v.sorts.ghost_name
   pub finds : place_of v'.marks.found ≡ or_else (place_of v.marks.found) (clash_in v.sorts.now ds)
   pub above : v'.marks.highest ≡ over_all v.marks.highest ds
+  pub arrays : v'.marks.arrays ≡ or_all v.marks.arrays bs
   pub enters : v'.sorts.now ≡ sort_all v.sorts.now ds
+
+-- whether the variable or constant at p is an array, and those of so many variables from `at` on
+abbrev pub typed_array : List ℕ → ℕ → Bool
+typed_array s p = eqb (get_or s (p + 2) 0) 13
+
+abbrev pub arrays_from : List ℕ → ℕ → ℕ → List Bool
+arrays_from s n at = map (typed_array s) (starts_from (behind_variable s) n at)
 
 -- so many variables from `at` on, and where they end
 pub record VariablesSorted (s : List ℕ) (sort count at : ℕ) (v v' : Sorter) (r : ℕ) : Type 0 where
-  pub walks : Walks (declared_as (sort_of sort) (variables_from s count at)) v v'
+  pub walks : Walks (declared_as (sort_of sort) (variables_from s count at)) (arrays_from s count at) v v'
   pub ends : r ≡ end_from (behind_variable s) count at
 
 -- the variants of so many enums from `at` on, the first being number e
@@ -85,3 +95,4 @@ pub record FileSorted (s sorts sorts' : List ℕ) (r : Sorting) : Type 0 where
   pub clash : place_of r.found ≡ clash_in sorts (declared (file_at s))
   pub finds : Blank (file_at s) sorts → place_of r.found ≡ fault6 (file_at s)
   pub highest : r.highest ≡ over_all 0 (declared (file_at s))
+  pub arrays : r.arrays ≡ declares_arrays (file_at s)

@@ -9,6 +9,7 @@ use Rattle.ol_tables.specs.At.{file_at}
 use Rattle.ol_tables.specs.Tables.{node_of, Each}
 use Rattle.ol_tables.specs.Stands.{FileReads}
 use Rattle.ol_check.specs.Founds.{place_of}
+use Rattle.ol_check.specs.Arrays.{about_arrays}
 use Rattle.ol_check.specs.RowsDone.{NodeRow, SectionsAre}
 use Rattle.ol_check.specs.Entries.{declare_all, variant_entry, constant_entries}
 use Rattle.ol_check.specs.NodesJudged.{place_in, AllCovered, node_again, slot_nodes}
@@ -44,8 +45,9 @@ pub record FileJudged (s : List ℕ) (f : File) (names names' slots slots' rows 
   pub again : fault7 f ≡ none → place_of r.again ≡ fault8 f
   pub called : place_of r.called ≡ fault9 f
   pub shaped : place_of r.shaped ≡ fault10 f
+  pub arrays : r.arrays ≡ about_arrays f
   pub entered : names' ≡ global_table names f
-  pub slotted : slots' ≡ slot_nodes s (global_table names f) (slot_constants s (variant_table names f) slots 0 (placed_constants f)) (placed_nodes f)
+  pub slotted : slots' ≡ slot_nodes s (global_table names f) (slot_constants s (variant_table names f) slots 0 (placed_constants f)) 0 (placed_nodes f)
   pub stored : rows' ≡ size_nodes rows (length f.nodes) 0 f.nodes
   pub last : r.size ≡ last_size 0 rows (length f.nodes) 0 f.nodes
   pub sized : SizesDone f rows rows'

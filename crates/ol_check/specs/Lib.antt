@@ -1,5 +1,6 @@
 pub mod Founds
 pub mod Spans
+pub mod Arrays
 pub mod RowsDone
 pub mod Records
 pub mod Judging

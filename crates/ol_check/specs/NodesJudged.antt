@@ -1,20 +1,21 @@
 -- Faults 7 to 10 of a node's equations, and their slots.
-use Rattle.std.specs.Prelude.{ℕ, ◌+◌, ◌<◌, ◌≤◌, min, false, List, [], ◌∷◌, map, ◌≡◌, length, get_or, replicate}
+use Rattle.std.specs.Prelude.{ℕ, ◌+◌, ◌*◌, ◌<◌, ◌≤◌, min, Bool, false, List, [], ◌∷◌, map, ◌≡◌, length, get_or, replicate}
 use Rattle.std.proofs.Math.Option.{none}
 use Rattle.ol_spec.specs.Syntax.{Node, File, variables}
-use Rattle.ol_spec.specs.Places.{placed_nodes, placed_equations, equations_start}
+use Rattle.ol_spec.specs.Places.{placed_nodes, placed_equations, equations_start, constants_start}
 use Rattle.ol_spec.specs.Lists.{concat}
 use Rattle.ol_spec.specs.Step.{own_size}
 use Rattle.ol_spec.specs.Admission.{Item, defined_by, node_uses, node_calls, node_shape, numbered, fault9}
 use Rattle.ol_tables.specs.At.{file_at}
-use Rattle.ol_tables.specs.Tables.{node_of, row_at, Each, plan_in, PlanOf}
+use Rattle.ol_tables.specs.Tables.{node_of, row_at, Each, plan_in, PlanOf, array_length}
 use Rattle.ol_check.specs.Spans.{starts_from, end_from, behind_variable, Visits}
 use Rattle.ol_tables.specs.Tables as Tables
 use Rattle.ol_tables.specs.Stands.{FileReads}
-use Rattle.ol_check.specs.RowsDone.{NodeRow}
+use Rattle.ol_check.specs.Arrays.{or_all, node_forms}
+use Rattle.ol_check.specs.RowsDone.{NodeRow, no_variable, no_constant}
 use Rattle.ol_check.specs.Records.{instance_b}
 use Rattle.ol_check.specs.Entries.{declare_all, variable_entries, Global}
-use Rattle.ol_check.specs.Judging.{Findings, found_in, slot_equations, again_b, Knows, global_names, Planned}
+use Rattle.ol_check.specs.Judging.{Findings, found_in, slot_equations, again_b, Knows, global_names, Planned, Undeclared}
 
 -- where node k stands
 abbrev pub place_in : File → ℕ → ℕ
@@ -65,7 +66,8 @@ pub record NodeJudged (s names rows : List ℕ) (nodes : ℕ) (f : File) (k : �
   pub again : r.again ≡ found_in g.again (node_again names (place_in f k, node_of f k))
   pub called : r.called ≡ found_in g.called (node_calls f (k, (place_in f k, node_of f k)))
   pub shaped : r.shaped ≡ found_in g.shaped (node_shape f (place_in f k, node_of f k))
-  pub slotted : slots' ≡ slot_equations s (node_table names (node_of f k)) slots (placed_equations (place_in f k) (node_of f k))
+  pub arrays : r.arrays ≡ or_all g.arrays (node_forms (place_in f k, node_of f k))
+  pub slotted : slots' ≡ slot_equations s (node_table names (node_of f k)) k slots (placed_equations (place_in f k) (node_of f k))
   pub sized : r.size ≡ min (instance_b rows nodes (node_of f k)) 65536
 
 -- node k's plan is stored, as the rows tell it
@@ -86,27 +88,53 @@ pub record RowsReady (s rows : List ℕ) (nodes : ℕ) : Type 0 where
 abbrev pub AllCovered : ℕ → File → Type 0
 AllCovered room f = (k : ℕ) → k < length f.nodes → Covered room (node_of f k)
 
--- the table by name outside the nodes: constants and variants have entries, and there is room for every variable
+-- the table by name outside the nodes: constants and variants have entries, an entry between a variable's and a variant's is that of a constant, and there is room for every variable
 pub record NamesReady (names : List ℕ) (f : File) : Type 0 where
   pub global : Global names
   pub knows : Knows names (global_names f)
+  pub constants : (x : ℕ) → 113 ≤ get_or names x 0 → get_or names x 0 < 255 → get_or names x 0 < 113 + length f.constants
   pub covered : AllCovered (length names) f
 
--- the slots after the nodes' equations
-unfoldable pub slot_nodes : List ℕ → List ℕ → List ℕ → List (ℕ × Node) → List ℕ
-slot_nodes s names slots [] = slots
-slot_nodes s names slots (n ∷ ns) = slot_nodes s names (slot_equations s (node_table names n.1) slots (placed_equations n.0 n.1)) ns
+-- the array's length of each variable of each node stands among the plans, and of each constant
+abbrev pub VariableLengths : File → List ℕ → Type 0
+VariableLengths f plans =
+    (k : ℕ) → k < length f.nodes → (i : ℕ) → i < length (variables (node_of f k)) → get_or plans (place_in f k + 2 * i + 1) 0 ≡ array_length (get_or (variables (node_of f k)) i no_variable).ty
+
+abbrev pub ConstantLengths : File → List ℕ → Type 0
+ConstantLengths f plans = (i : ℕ) → i < length f.constants → get_or plans (constants_start f + 2 * i + 1) 0 ≡ array_length (get_or f.constants i no_constant).ty
+
+-- there is room for the plans, and the types of the variables stand there
+pub record PlansTyped (s plans : List ℕ) : Type 0 where
+  pub room : length s ≤ length plans
+  pub lengths : VariableLengths (file_at s) plans
+
+-- and those of the constants, from `constants` on; where `arrays` is false, no array is declared
+pub record PlansReady (s : List ℕ) (constants : ℕ) (arrays : Bool) (plans : List ℕ) : Type 0 where
+  pub typed : PlansTyped s plans
+  pub place : constants ≡ constants_start (file_at s)
+  pub lengths : ConstantLengths (file_at s) plans
+  pub scalars : Undeclared arrays (file_at s)
+
+-- the slots after the equations of these nodes, the first being number k
+unfoldable pub slot_nodes : List ℕ → List ℕ → List ℕ → ℕ → List (ℕ × Node) → List ℕ
+slot_nodes s names slots k [] = slots
+slot_nodes s names slots k (n ∷ ns) = slot_nodes s names (slot_equations s (node_table names n.1) k slots (placed_equations n.0 n.1)) (k + 1) ns
 
 pub record NodesJudged (s names : List ℕ) (f : File) (slots slots' : List ℕ) (g r : Findings) : Type 0 where
   pub unseen : r.unseen ≡ found_in g.unseen (concat (map (node_uses (global_names f)) (placed_nodes f)))
   pub again : r.again ≡ found_in g.again (concat (map (node_again names) (placed_nodes f)))
   pub called : r.called ≡ found_in g.called (concat (map (node_calls f) (numbered 0 (placed_nodes f))))
   pub shaped : r.shaped ≡ found_in g.shaped (concat (map (node_shape f) (placed_nodes f)))
-  pub slotted : slots' ≡ slot_nodes s names slots (placed_nodes f)
+  pub arrays : r.arrays ≡ or_all g.arrays (concat (map node_forms (placed_nodes f)))
+  pub slotted : slots' ≡ slot_nodes s names slots 0 (placed_nodes f)
 
 -- the types of the nodes' variables, which stand before what their equations need, are left
 pub record TypesLeft (f : File) (plans plans' : List ℕ) : Type 0 where
   pub left : (k : ℕ) → k < length f.nodes → (x : ℕ) → place_in f k ≤ x → x < plan_in f k → get_or plans' x 0 ≡ get_or plans x 0
+
+-- and those of the constants, which stand before the first node's
+pub record ConstantsLeft (f : File) (plans plans' : List ℕ) : Type 0 where
+  pub left : (x : ℕ) → constants_start f ≤ x → x < constants_start f + 2 * length f.constants → get_or plans' x 0 ≡ get_or plans x 0
 
 -- the plans of the nodes below k are those of the file, where 9 does not hold
 abbrev pub PlansBelow : File → List ℕ → ℕ → Type 0

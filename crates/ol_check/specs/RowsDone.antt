@@ -1,14 +1,15 @@
 -- What the builders of rows, places and types store, as the bytes tell it, and what the tables are for a file that reads without fault.
-use Rattle.std.specs.Prelude.{ℕ, zero, suc, ◌+◌, ◌*◌, ◌≤◌, ◌<◌, false, List, [], ◌∷◌, map, ◌≡◌, length, get_or, set}
+use Rattle.std.specs.Prelude.{ℕ, zero, suc, ◌+◌, ◌*◌, ◌%◌, ◌≤◌, ◌<◌, Bool, false, cond, List, [], ◌∷◌, map, ◌≡◌, eqb, length, get_or, set}
 use Rattle.std.proofs.lemmas.List.Edits.{sets}
 use Rattle.ol_spec.specs.Lists.{sum}
-use Rattle.ol_spec.specs.Syntax.{Ty, bool, bool_lit, Variable, Constant, Node, File, variables}
+use Rattle.ol_spec.specs.Syntax.{bool, scalar, bool_lit, Variable, Constant, Node, File, variables}
 use Rattle.ol_spec.specs.Places.{enum_size, variable_size, equations_start, placed_nodes, constants_start, nodes_start}
 use Rattle.ol_spec.specs.Encode.{kind_code, name_bytes, section_bytes}
 use Rattle.ol_spec.specs.Limits.{base}
 use Rattle.ol_spec.specs.Within.{enum_fits}
-use Rattle.ol_tables.specs.Tables.{ty_code, ty_enum, row_at, first_at, place_of, node_of, two_at, two_put}
-use Rattle.ol_tables.specs.Heads.{name_at, ty_enum_at}
+use Rattle.ol_spec.specs.Step.{cell_count, input_count, output_count}
+use Rattle.ol_tables.specs.Tables.{row_at, first_at, place_of, node_of, two_at, two_put, Told}
+use Rattle.ol_tables.specs.Heads.{name_at, element_at, ty_length_at}
 use Rattle.ol_tables.specs.Stands.{Listed}
 use Rattle.ol_check.specs.Spans.{end_from, behind_variable, behind_enum}
 use Rattle.ol_check.specs.declared.rows.Sections.{Sections}
@@ -33,24 +34,23 @@ pub record EnumsStored (s rows rows' : List ℕ) (count at r : ℕ) : Type 0 whe
 
 -- ---- types
 
--- the bytes after the type at `at` is stored in two of them from p on
-abbrev pub type_set : List ℕ → ℕ → List ℕ → ℕ → List ℕ
-type_set types p s at = set (set types p (get_or s at 0)) (p + 1) (ty_enum_at s at)
+-- the scalar type at p in one byte: its code, and 16 times an enum's number, which is below 16
+abbrev pub packed_at : List ℕ → ℕ → ℕ
+packed_at s p = cond (eqb (get_or s p 0) 12) (12 + 16 * (get_or s (p + 1) 0 % 16)) (get_or s p 0)
 
--- the type in two bytes from p on
-pub record TypeAt (types : List ℕ) (p : ℕ) (t : Ty) : Type 0 where
-  pub code : get_or types p 0 ≡ ty_code t
-  pub number : get_or types (p + 1) 0 ≡ ty_enum t
+-- the bytes after the type at `at` is stored in two of them from p on: its scalar type, or that of an array's elements, and an array's length
+abbrev pub type_set : List ℕ → ℕ → List ℕ → ℕ → List ℕ
+type_set types p s at = set (set types p (packed_at s (element_at s at))) (p + 1) (ty_length_at s at)
 
 abbrev pub no_variable : Variable
-no_variable = record { name = 0; ty = bool }
+no_variable = record { name = 0; ty = scalar bool }
 
 abbrev pub no_constant : Constant
-no_constant = record { name = 0; ty = bool; value = bool_lit false }
+no_constant = record { name = 0; ty = scalar bool; value = bool_lit false }
 
 pub record VariablesAre (vs : List Variable) (types : List ℕ) (first at r : ℕ) : Type 0 where
   pub ends : r ≡ at + sum (map variable_size vs)
-  pub typed : (i : ℕ) → i < length vs → TypeAt types (first + 2 * i) (get_or vs i no_variable).ty
+  pub typed : (i : ℕ) → i < length vs → Told types (first + 2 * i) (get_or vs i no_variable).ty
 
 -- the bytes after the types of so many variables from `at` on are stored, the first at p
 unfoldable pub types_from : List ℕ → ℕ → ℕ → ℕ → List ℕ → List ℕ
@@ -60,6 +60,21 @@ types_from s p (suc n) at types = types_from s (p + 2) n (behind_variable s at) 
 pub record TypesStored (s types types' : List ℕ) (first count at r : ℕ) : Type 0 where
   pub ends : r ≡ end_from (behind_variable s) count at
   pub stored : types' ≡ types_from s first count at types
+
+-- ---- cells
+
+-- how many cells a variable has whose array has this length; 0 is a scalar's
+abbrev pub cells_for : ℕ → ℕ
+cells_for n = cond (eqb n 0) 1 n
+
+-- how many cells so many variables have whose types stand from p on
+unfoldable pub cells_from : List ℕ → ℕ → ℕ → ℕ
+cells_from types p zero = 0
+cells_from types p (suc n) = cells_for (get_or types (p + 1) 0) + cells_from types (p + 2) n
+
+-- the same, given whether arrays are declared
+abbrev pub cells_by : Bool → List ℕ → ℕ → ℕ → ℕ
+cells_by arrays types p n = cond arrays (cells_from types p n) n
 
 -- ---- nodes
 
@@ -84,9 +99,14 @@ node_types s p at types =
     types_from s (p + 2 * get_or s (at + 1) 0 + 2 * get_or s (outputs_at s at) 0) (get_or s (locals_at s at) 0) (locals_at s at + 1)
     (types_from s (p + 2 * get_or s (at + 1) 0) (get_or s (outputs_at s at) 0) (outputs_at s at + 1) (types_from s p (get_or s (at + 1) 0) (at + 2) types))
 
--- and its place, as node k's
+-- four numbers of two bytes each from p on
+unfoldable pub counts_put : List ℕ → ℕ → ℕ → ℕ → ℕ → ℕ → List ℕ
+counts_put tab p at a b c = two_put (two_put (two_put (two_put tab p at) (p + 2) a) (p + 4) b) (p + 6) c
+
+-- and its numbers, as node k's: its place, and how many inputs, inputs and outputs, and variables it has
 abbrev pub node_stored : List ℕ → ℕ → ℕ → ℕ → List ℕ → List ℕ
-node_stored s plans k at tab = two_put (node_types s (plans + at) at tab) (2 * k) at
+node_stored s plans k at tab =
+    counts_put (node_types s (plans + at) at tab) (8 * k) at (get_or s (at + 1) 0) (get_or s (at + 1) 0 + get_or s (outputs_at s at) 0) (get_or s (at + 1) 0 + get_or s (outputs_at s at) 0 + get_or s (locals_at s at) 0)
 
 pub record NodeStored (s rows rows' tab tab' : List ℕ) (plans k at : ℕ) : Type 0 where
   pub row : rows' ≡ sets rows (k * 8) (row_from s at)
@@ -117,12 +137,26 @@ pub record NodeRow (n : Node) (at k : ℕ) (rows : List ℕ) : Type 0 where
 
 -- node k's place, and the types of its variables, at its place among the plans
 pub record NodeTypes (n : Node) (at k : ℕ) (plans : ℕ) (tab : List ℕ) : Type 0 where
-  pub place : two_at tab (2 * k) ≡ at
-  pub are : (i : ℕ) → i < length (variables n) → TypeAt tab (plans + at + 2 * i) (get_or (variables n) i no_variable).ty
+  pub place : two_at tab (8 * k) ≡ at
+  pub are : (i : ℕ) → i < length (variables n) → Told tab (plans + at + 2 * i) (get_or (variables n) i no_variable).ty
+
+-- the three numbers behind node k's place
+pub record CountsAre (tab : List ℕ) (k a b c : ℕ) : Type 0 where
+  pub first : two_at tab (8 * k + 2) ≡ a
+  pub second : two_at tab (8 * k + 4) ≡ b
+  pub third : two_at tab (8 * k + 6) ≡ c
+
+-- how many inputs, inputs and outputs, and variables node k has, which is n; and how many cells these have
+abbrev pub CountedBy : Node → ℕ → List ℕ → Type 0
+CountedBy n k tab = CountsAre tab k (length n.inputs) (length n.inputs + length n.outputs) (length (variables n))
+
+abbrev pub CellsCounted : Node → ℕ → List ℕ → Type 0
+CellsCounted n k tab = CountsAre tab k (input_count n) (input_count n + output_count n) (cell_count n)
 
 pub record NodeIs (n : Node) (at k : ℕ) (rows : List ℕ) (plans : ℕ) (tab : List ℕ) : Type 0 where
   pub row : NodeRow n at k rows
   pub typed : NodeTypes n at k plans tab
+  pub counted : CountedBy n k tab
 
 -- ---- the whole file
 
@@ -134,24 +168,49 @@ pub record PlacesAre (f : File) (places : List ℕ) : Type 0 where
 abbrev pub Typed : File → ℕ → List ℕ → Type 0
 Typed f plans tab = (k : ℕ) → k < length f.nodes → NodeTypes (node_of f k) (place_of (placed_nodes f) k) k plans tab
 
--- the row, the place and the types of each node
+-- the row, the numbers and the types of each node
 pub record NodesAre (f : File) (rows : List ℕ) (plans : ℕ) (tab : List ℕ) : Type 0 where
   pub row : (k : ℕ) → k < length f.nodes → NodeRow (node_of f k) (place_of (placed_nodes f) k) k rows
   pub typed : Typed f plans tab
+  pub counted : (k : ℕ) → k < length f.nodes → CountedBy (node_of f k) k tab
 
--- the rows, but for the sizes, the first variants, the places and the types
+-- the rows, but for the sizes, the first variants, the numbers and the types
 pub record RowsAre (f : File) (rows : List ℕ) (plans : ℕ) (tab : List ℕ) : Type 0 where
   pub row : (k : ℕ) → k < length f.nodes → NodeRow (node_of f k) (place_of (placed_nodes f) k) k rows
   pub firsts : (e : ℕ) → e < length f.enums → first_at rows e ≡ get_or (get_or f.enums e []) 0 0
   pub typed : Typed f plans tab
+  pub counted : (k : ℕ) → k < length f.nodes → CountedBy (node_of f k) k tab
 
 -- where the counts of the constants and of the nodes stand
 pub record SectionsAre (f : File) (r : Sections) : Type 0 where
   pub constants : r.constants + 1 ≡ constants_start f
   pub nodes : r.nodes + 1 ≡ nodes_start f
 
--- Between the places and the plans nothing is written. Entries that belong to no node, enum or variable of the file are free.
+-- Between the nodes' numbers and the plans nothing is written. Entries that belong to no node, enum or variable of the file are free.
 pub record TablesDone (f : File) (rows tab tab' : List ℕ) (plans : ℕ) (r : Sections) : Type 0 where
   pub sections : SectionsAre f r
   pub are : RowsAre f rows plans tab'
-  pub kept : (x : ℕ) → 64 ≤ x → x < plans → get_or tab' x 0 ≡ get_or tab x 0
+  pub kept : (x : ℕ) → 256 ≤ x → x < plans → get_or tab' x 0 ≡ get_or tab x 0
+
+-- ---- the counts of cells, where arrays are declared
+
+-- node k's numbers are stored, by the types of its variables
+abbrev pub node_counted : List ℕ → ℕ → ℕ → List ℕ → List ℕ
+node_counted rows plans k tab =
+    counts_put tab (8 * k) (row_at rows k 7) (cells_from tab (plans + row_at rows k 7) (row_at rows k 2)) (cells_from tab (plans + row_at rows k 7) (row_at rows k 2 + row_at rows k 3))
+    (cells_from tab (plans + row_at rows k 7) (row_at rows k 4))
+
+-- and those of so many nodes, the first being number k
+unfoldable pub counted_from : List ℕ → ℕ → ℕ → ℕ → List ℕ → List ℕ
+counted_from rows plans k zero tab = tab
+counted_from rows plans k (suc n) tab = counted_from rows plans (k + 1) n (node_counted rows plans k tab)
+
+-- the rows' places and counts of so many nodes are small
+abbrev pub SmallRows : List ℕ → ℕ → Type 0
+SmallRows rows count = (k : ℕ) → k < count → (row_at rows k 2 < 256) × (row_at rows k 3 < 256) × (row_at rows k 4 < 256) × (row_at rows k 7 < 65536)
+
+-- the numbers of all nodes are those of their cells; the types and all bytes behind the numbers are as before
+pub record AllCounted (f : File) (plans : ℕ) (tab tab' : List ℕ) : Type 0 where
+  pub counted : (k : ℕ) → k < length f.nodes → CellsCounted (node_of f k) k tab'
+  pub typed : Typed f plans tab'
+  pub kept : (x : ℕ) → 256 ≤ x → get_or tab' x 0 ≡ get_or tab x 0

@@ -1,7 +1,8 @@
 -- The lengths of the nodes' records, and of an instance of the last node.
-use Rattle.std.specs.Prelude.{ℕ, ◌+◌, ◌*◌, ◌≤◌, ◌<◌, min, List, [], ◌∷◌, ◌≡◌, length, get_or, set}
+use Rattle.std.specs.Prelude.{ℕ, ◌+◌, ◌*◌, ◌≤◌, ◌<◌, min, List, [], ◌∷◌, map, ◌≡◌, length, get_or, set}
 use Rattle.std.proofs.Math.Option.{none}
-use Rattle.ol_spec.specs.Syntax.{Node, File, main}
+use Rattle.ol_spec.specs.Lists.{concat}
+use Rattle.ol_spec.specs.Syntax.{Node, File, main, constant_cells}
 use Rattle.ol_spec.specs.Step.{instance_size, sizes_at}
 use Rattle.ol_spec.specs.Admission.{state_size, fault9}
 use Rattle.ol_tables.specs.Tables.{row_at, size_cap, site_bytes, node_of}
@@ -24,10 +25,10 @@ pub record SizesDone (f : File) (rows rows' : List ℕ) : Type 0 where
 abbrev pub MainSized : File → ℕ → Type 0
 MainSized f n = n ≡ min (instance_size (sizes_at (length f.nodes) f.nodes) (main f)) size_cap
 
--- the state's length by that of an instance of the last node, which is the file's where that is the last node's
-pub record StateSized (f : File) (n r : ℕ) : Type 0 where
-  pub is : r ≡ min (9 * length f.constants + n) size_cap
-  pub sized : MainSized f n → r ≡ min (state_size f) size_cap
+-- the state's length by the number of the constants' cells and by the bytes of an instance of the last node, which is the file's where these are the file's
+pub record StateSized (cells n r : ℕ) : Type 0 where
+  pub is : r ≡ min (9 * cells + n) size_cap
+  pub sized : (f : File) → cells ≡ length (concat (map constant_cells f.constants)) → MainSized f n → r ≡ min (state_size f) size_cap
 
 -- the rows after the records of these nodes are stored, the first being number k, each as the rows before it tell; and the bytes of an instance of the last, up to the cap
 abbrev pub instance_by : List ℕ → ℕ → Node → ℕ

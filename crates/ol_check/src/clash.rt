@@ -1,5 +1,5 @@
 // Fault 6, by a table that says of each name which sort declared it last: 0 none, an enum's number and 1, 17 a constant, a node's number and 18.
-// The same walk tells the highest declared name.
+// The same walk tells the highest declared name, and whether an array is declared.
 ghost use Rattle.std.specs.Prelude.{◌≡◌, map, [], ◌∷◌, ◌≤◌, ◌<◌, length};
 ghost use Rattle.ol_spec.specs.Lists.{concat};
 ghost use Rattle.ol_spec.specs.Places.{placed_constants, placed_nodes};
@@ -7,12 +7,13 @@ ghost use Rattle.ol_spec.specs.Admission.{constant, declared_as, declared_at, pl
 ghost use Rattle.ol_tables.specs.At.{file_at};
 ghost use Rattle.ol_tables.specs.Tables.{node_of};
 ghost use Rattle.ol_tables.specs.Numbers.{numbers};
+ghost use Rattle.ol_check.specs.Arrays.{constant_array, node_arrays};
 ghost use Rattle.ol_check.specs.Spans.{named_at, names_from};
 ghost use Rattle.ol_check.specs.NodesJudged.{place_in, NodeReady, RowsReady};
-ghost use Rattle.ol_check.specs.Clashing.{sort_of, meets, Walks, VariablesSorted, enums_from, ConstantsAt, DeclaredReady, FileSorted};
+ghost use Rattle.ol_check.specs.Clashing.{sort_of, meets, typed_array, Walks, VariablesSorted, enums_from, ConstantsAt, DeclaredReady, FileSorted};
 
 use super::mark;
-use super::rows::{Sections, names_end, variable_end};
+use super::rows::{Sections, is_array, names_end, variable_end};
 use ol_tables::bytes::{byte, name, put};
 use ol_tables::heads::skip;
 use ol_tables::tables::FileRows;
@@ -21,11 +22,12 @@ use ol_tables::tables::FileRows;
 // An enum of sorts is no plainer: the table holds the bytes, and `clashes` compares them.
 const CONSTANT: usize = 17;
 
-// The place of the first clash so far, and the highest name so far.
+// The place of the first clash so far, the highest name so far, and whether an array was declared so far.
 #[derive(Clone, Copy, Default)]
 pub struct Sorting {
     pub found: Option<usize>,
     pub highest: usize,
+    pub arrays: bool,
 }
 
 // Whether a declaration of sort `sort` clashes with the last one of its name.
@@ -35,7 +37,7 @@ fn clashes(last: usize, sort: usize) -> bool
     last != 0 && (last == sort || (last <= CONSTANT && CONSTANT <= sort))
 }
 
-// A walk over declarations: the sort that declared each name last, the first clash and the highest name.
+// A walk over declarations: the sort that declared each name last, the first clash, the highest name and whether an array was declared.
 // `file` is lent to each method and is no field: the methods change the walk, and each clause would have to tell that the field stays.
 #[derive(Drop)]
 pub(crate) struct Sorter<'a> {
@@ -47,7 +49,7 @@ impl Sorter<'_> {
     // The name at `at`, declared as the sort.
     fn name(&mut self, file: &[u8], sort: usize, at: usize)
         requires { (0 < sort) × (sort < 256) × (at < 65536) }
-        ensures { Walks (declared_at (sort_of sort) (named_at file.now at) ∷ []) self.old self.new }
+        ensures { Walks (declared_at (sort_of sort) (named_at file.now at) ∷ []) [] self.old self.new }
     {
         let x = name(file, at);
         let sorts = &mut *self.sorts;
@@ -57,11 +59,20 @@ impl Sorter<'_> {
         self.marks.highest = self.marks.highest.max(x);
     }
 
+    // The name of the variable or constant at `at`, declared as the sort.
+    fn variable(&mut self, file: &[u8], sort: usize, at: usize)
+        requires { (0 < sort) × (sort < 256) × (at ≤ 45000) }
+        ensures { Walks (declared_at (sort_of sort) (named_at file.now at) ∷ []) (typed_array file.now at ∷ []) self.old self.new }
+    {
+        self.name(file, sort, at);
+        self.marks.arrays = self.marks.arrays || is_array(file, at + 2);
+    }
+
     // So many names from `at` on. A count, and no iterator as ol_order's `Names`, here and in three walks over names: that one ends where the file's end cuts a name off, and here
     // the file was read, so the count alone ends the walk.
     fn names(&mut self, file: &[u8], sort: usize, count: usize, at: usize)
         requires { (0 < sort) × (sort < 256) × (count < 256) × (at ≤ 40000) }
-        ensures { Walks (declared_as (sort_of sort) (names_from file.now count at)) self.old self.new }
+        ensures { Walks (declared_as (sort_of sort) (names_from file.now count at)) [] self.old self.new }
     {
         for i in 0..count {
             self.name(file, sort, at + 2 * i);
@@ -78,7 +89,7 @@ impl Sorter<'_> {
     {
         let mut next = at;
         for _ in 0..count {
-            self.name(file, sort, next);
+            self.variable(file, sort, next);
             next = variable_end(file, next);
         }
         next
@@ -87,7 +98,7 @@ impl Sorter<'_> {
     // The variants of so many enums from `at` on.
     fn enums(&mut self, file: &[u8], count: usize, at: usize)
         requires { (count ≤ 16) × (at ≤ 20000) }
-        ensures { Walks (enums_from file.now 0 count at) self.old self.new }
+        ensures { Walks (enums_from file.now 0 count at) [] self.old self.new }
     {
         let mut next = at;
         for e in 0..count {
@@ -100,11 +111,11 @@ impl Sorter<'_> {
     // The file's constants, so many from `at` on.
     fn constants(&mut self, file: &[u8], count: usize, at: usize)
         requires { ConstantsAt file.now count at }
-        ensures { Walks (declared_as constant (map placed_constant_name (placed_constants (file_at file.now)))) self.old self.new }
+        ensures { Walks (declared_as constant (map placed_constant_name (placed_constants (file_at file.now)))) (map constant_array (file_at file.now).constants) self.old self.new }
     {
         let mut next = at;
         for _ in 0..count {
-            self.name(file, CONSTANT, next);
+            self.variable(file, CONSTANT, next);
             next = skip(file, 1, variable_end(file, next));
         }
     }
@@ -112,7 +123,7 @@ impl Sorter<'_> {
     // The variables of node `k`.
     fn node(&mut self, file: &[u8], rows: &FileRows, k: usize)
         requires { NodeReady file.now (numbers rows.now) (length (file_at file.now).nodes) k }
-        ensures { Walks (node_declares (k, (place_in (file_at file.now) k, node_of (file_at file.now) k))) self.old self.new }
+        ensures { Walks (node_declares (k, (place_in (file_at file.now) k, node_of (file_at file.now) k))) (node_arrays (node_of (file_at file.now) k)) self.old self.new }
     {
         let at = rows.node(k).place;
         let inputs = byte(file, at + 1);
@@ -127,7 +138,7 @@ impl Sorter<'_> {
     // The variables of all nodes.
     fn nodes(&mut self, file: &[u8], rows: &FileRows, nodes: usize)
         requires { RowsReady file.now (numbers rows.now) nodes }
-        ensures { Walks (concat (map node_declares (numbered 0 (placed_nodes (file_at file.now))))) self.old self.new }
+        ensures { Walks (concat (map node_declares (numbered 0 (placed_nodes (file_at file.now))))) (concat (map node_arrays (file_at file.now).nodes)) self.old self.new }
     {
         for k in 0..nodes {
             self.node(file, rows, k);
@@ -136,7 +147,7 @@ impl Sorter<'_> {
 }
 
 // Every declared name of a file that reads without fault: the first clash, which is fault 6 where
-// the table is 0 everywhere and longer than every name, and the highest of them.
+// the table is 0 everywhere and longer than every name, the highest of them, and whether one of them is an array's.
 pub fn sort_file(file: &[u8], rows: &FileRows, sections: Sections, sorts: &mut [u8]) -> Sorting
     requires { DeclaredReady file.now (numbers rows.now) sections }
     ensures { FileSorted file.now sorts.old sorts.new result }

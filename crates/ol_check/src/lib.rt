@@ -13,7 +13,7 @@ pub mod size; // size.rt: faults 13 and 14, and the lengths of records
 ghost use Rattle.std.specs.Prelude.{◌≡◌};
 ghost use Rattle.ol_check.specs.Founds.{marked};
 
-// The first fault of each number, the bytes of an instance of the last node, and where the walk ended.
+// The first fault of each number, whether an array is declared or an index, a literal or an iterator was met, the bytes of an instance of the last node, and where the walk ended.
 // That `size` is at most 65536 is no ghost field: each value of this type in specs/ would need a proof of it beside it.
 #[derive(Clone, Copy, Default)]
 pub struct Faults {
@@ -21,6 +21,7 @@ pub struct Faults {
     pub again: Option<usize>,
     pub called: Option<usize>,
     pub shaped: Option<usize>,
+    pub arrays: bool,
     pub size: usize,
     pub next: usize,
 }

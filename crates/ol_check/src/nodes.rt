@@ -7,14 +7,14 @@ ghost use Rattle.ol_tables.specs.Numbers.{numbers};
 ghost use Rattle.ol_check.specs.Entries.{forget_all};
 ghost use Rattle.ol_check.specs.Spans.{Visited};
 ghost use Rattle.ol_check.specs.Judging.{findings};
-ghost use Rattle.ol_check.specs.NodesJudged.{NodeReady, NodeVisited, node_table, NodeJudged, RowsReady, NamesReady, NodesJudged, NodePlanned, PlansBelow, TypesLeft};
+ghost use Rattle.ol_check.specs.NodesJudged.{NodeReady, NodeVisited, node_table, NodeJudged, RowsReady, NamesReady, NodesJudged, NodePlanned, PlansReady, PlansBelow, TypesLeft, ConstantsLeft};
 ghost use Rattle.ol_check.specs.Records.{record_by};
 ghost use Rattle.ol_check.specs.Sizes.{NodesSized};
 
 use super::Faults;
 use super::judge::Judge;
 use super::names::{declare, forget};
-use super::rows::each_variable;
+use super::rows::{cells_by, each_variable};
 use super::size::record_size;
 use ol_tables::bytes::{byte, name};
 use ol_tables::tables::FileRows;
@@ -63,7 +63,7 @@ fn forget_node(file: &[u8], names: &mut [u8], rows: &FileRows, k: usize)
     });
 }
 
-// Judges node `k`, and stores the length of its records. The table by name is as before in the end.
+// Judges node `k`, and stores the length of its records. The table by name is as before in the end. The types of the constants stand in the plans from `constants` on.
 // That `plans` has room for the plans stays a fact here and in two functions: a struct of `slots` and `plans` would hold two `&mut`, and lend each of them in every call.
 fn node(
     file: &[u8],
@@ -72,16 +72,19 @@ fn node(
     plans: &mut [u8],
     rows: &mut FileRows,
     nodes: usize,
+    constants: usize,
+    arrays: bool,
     k: usize,
     g: &mut Faults,
 )
-    requires { NodeReady file.now (numbers rows.old) nodes k × NamesReady names.old (file_at file.now) × (length file.now ≤ length plans.old) }
+    requires { NodeReady file.now (numbers rows.old) nodes k × NamesReady names.old (file_at file.now) × PlansReady file.now constants arrays plans.old }
     ensures { (names.new ≡ names.old) × (numbers rows.new ≡ set (numbers rows.old) (k * 8 + 6) (record_by (row_at (numbers rows.old) k 0) g.new.size)) × NodeJudged file.now names.old (numbers rows.old) nodes (file_at file.now) k slots.old slots.new (findings g.old) (findings g.new) × NodePlanned (numbers rows.old) nodes (file_at file.now) k plans.old plans.new }
 {
     declare_node(file, names, rows, k);
     let mut defined = [false; 256];
     let row = *rows.node(k);
-    g.size = 1 + 9 * row.variables;
+    let (types, plan) = plans.split_at_mut(row.place + 2 * row.variables);
+    g.size = 1 + 9 * cells_by(arrays, types, row.place, row.variables);
     g.next = row.equations;
     let judge = Judge {
         file,
@@ -89,16 +92,12 @@ fn node(
         rows,
         nodes,
         node: k,
+        plans: types,
+        variables: row.place,
+        constants,
+        arrays,
     };
-    judge.equations(
-        slots,
-        plans,
-        &mut defined,
-        row.inputs,
-        row.count,
-        row.place + 2 * row.variables,
-        g,
-    );
+    judge.equations(slots, plan, &mut defined, row.inputs, row.count, g);
     forget_node(file, names, rows, k);
     rows.put_size(k, record_size(row.kind, g.size));
 }
@@ -111,12 +110,16 @@ pub(crate) fn judge_nodes(
     plans: &mut [u8],
     rows: &mut FileRows,
     nodes: usize,
+    constants: usize,
+    arrays: bool,
     g: &mut Faults,
 )
-    requires { RowsReady file.now (numbers rows.old) nodes × NamesReady names.old (file_at file.now) × (length file.now ≤ length plans.old) }
-    ensures { (names.new ≡ names.old) × NodesJudged file.now names.old (file_at file.now) slots.old slots.new (findings g.old) (findings g.new) × NodesSized (file_at file.now) (numbers rows.old) (numbers rows.new) g.old.size g.new.size × PlansBelow (file_at file.now) plans.new nodes × TypesLeft (file_at file.now) plans.old plans.new }
+    requires { RowsReady file.now (numbers rows.old) nodes × NamesReady names.old (file_at file.now) × PlansReady file.now constants arrays plans.old }
+    ensures { (names.new ≡ names.old) × NodesJudged file.now names.old (file_at file.now) slots.old slots.new (findings g.old) (findings g.new) × NodesSized (file_at file.now) (numbers rows.old) (numbers rows.new) g.old.size g.new.size × PlansBelow (file_at file.now) plans.new nodes × TypesLeft (file_at file.now) plans.old plans.new × ConstantsLeft (file_at file.now) plans.old plans.new }
 {
     for k in 0..nodes {
-        node(file, names, slots, plans, rows, nodes, k, g);
+        node(
+            file, names, slots, plans, rows, nodes, constants, arrays, k, g,
+        );
     }
 }

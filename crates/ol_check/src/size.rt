@@ -1,9 +1,7 @@
 // Faults 13 and 14, and the lengths of records.
 ghost use Rattle.std.specs.Prelude.{◌≡◌, ◌≤◌, ◌<◌, ◌+◌, min, length};
-ghost use Rattle.ol_spec.specs.Places.{constants_start};
 ghost use Rattle.ol_spec.specs.Admission.{fault14};
 ghost use Rattle.ol_tables.specs.At.{file_at};
-ghost use Rattle.ol_tables.specs.Stands.{FileReads};
 ghost use Rattle.ol_tables.specs.Numbers.{numbers};
 ghost use Rattle.ol_check.specs.Founds.{place_of};
 ghost use Rattle.ol_check.specs.Records.{site_b, record_by};
@@ -54,12 +52,10 @@ pub(crate) fn record_size(kind: usize, size: usize) -> usize
     if NodeKind::Operator.is(kind) { size } else { 0 }
 }
 
-// The state's length, up to 65536: the constants' cells, then an instance of the last node, which
-// has `main` bytes. The count of the constants stands at `constants`.
-pub fn state_size(file: &[u8], constants: usize, main: usize) -> usize
-    requires { FileReads file.now × (constants + 1 ≡ constants_start (file_at file.now)) }
-    ensures { StateSized (file_at file.now) main result }
+// The state's length, up to 65536: so many cells of the constants, then an instance of the last node, which has `main` bytes.
+pub fn state_size(cells: usize, main: usize) -> usize
+    requires { cells ≤ 65536 }
+    ensures { StateSized cells main result }
 {
-    let many = byte(file, constants);
-    capped(9 * many, main)
+    capped(9 * cells, main)
 }

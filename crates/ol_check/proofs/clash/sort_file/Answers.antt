@@ -1,8 +1,7 @@
 use Rattle.std.proofs.Common.{rules}
-use mathlib.Core.Path.{ap₂}
 use native.Mathlib.Omega.{arith}
 use Rattle.ol_check.proofs.Standing.{stands}
-use Rattle.ol_check.proofs.ClashFile.{nodes_ready, enums_few, constants_at, file_sorted}
+use Rattle.ol_check.proofs.ClashFile.{nodes_ready, enums_few, constants_at, file_sorted, marks_are}
 use Rattle.ol_check.proofs.clash.sort_file.Goals as goal
 
 pub enums-requires : goal.enums-requires
@@ -23,4 +22,4 @@ nodes-requires c =
 pub returns : goal.returns
 returns c =
     let f = c.args.file.now in
-    file_sorted c.requires (stands c.type_inv.file c.requires.reads) c.byte.ensures c.enums.ensures c.constants.ensures c.nodes.ensures (ap₂ (λ o n. record { found = o; highest = n }) c.default.ensures.0 c.default.ensures.1) (search rules)
+    file_sorted c.requires (stands c.type_inv.file c.requires.reads) c.byte.ensures c.enums.ensures c.constants.ensures c.nodes.ensures (marks_are c.default.ensures.0 c.default.ensures.1.0 c.default.ensures.1.1) (search rules)

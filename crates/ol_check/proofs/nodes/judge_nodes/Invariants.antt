@@ -1,7 +1,7 @@
 use mathlib.Core.Path.{◌≡◌}
 use Rattle.ol_tables.specs.At.{file_at}
 use Rattle.ol_check.specs.Judging.{findings}
-use Rattle.ol_check.specs.NodesJudged.{PlansBelow, TypesLeft}
+use Rattle.ol_check.specs.NodesJudged.{PlansBelow, TypesLeft, ConstantsLeft}
 use Rattle.ol_check.proofs.NodeLaws.{NodesGoing}
 use Rattle.ol_check.proofs.SizeTable.{RowsKept, SizesGoing}
 use Rattle.ol_tables.specs.Numbers.{numbers}
@@ -16,4 +16,5 @@ invariant-loop-k l =
       sized : SizesGoing l.file (numbers l.initial.rows) l.nodes l.initial.g.size (numbers l.rows) l.g.size l.k;
       planned : PlansBelow (file_at l.file) l.plans l.k;
       typed : TypesLeft (file_at l.file) l.initial.plans l.plans;
+      constants : ConstantsLeft (file_at l.file) l.initial.plans l.plans;
     }

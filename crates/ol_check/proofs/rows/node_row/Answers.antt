@@ -23,4 +23,4 @@ overflow_add-row c =
     omega (arith, c.requires.0, c.requires.1, types_near c.variable_types-o.ensures, c.byte-inputs.ensures.small, types_near c.variable_types-l.ensures, c.byte-outputs.ensures.small, types_near c.variable_types-q.ensures, c.byte-locals.ensures.small)
 
 pub returns : goal.returns
-returns c = node_stored_lem c.byte-inputs.ensures.is c.variable_types-o.ensures c.byte-outputs.ensures.is c.variable_types-l.ensures c.byte-locals.ensures.is c.variable_types-q.ensures c.put_two.ensures c.byte-2.ensures.is c.byte.ensures.is c.put_node.ensures
+returns c = node_stored_lem c.byte-inputs.ensures.is c.variable_types-o.ensures c.byte-outputs.ensures.is c.variable_types-l.ensures c.byte-locals.ensures.is c.variable_types-q.ensures c.put_counts.ensures c.byte-2.ensures.is c.byte.ensures.is c.put_node.ensures

@@ -12,8 +12,8 @@ loop-init c =
     let f = c.args.file.now in
     subst (ConstantsGoing f (length (file_at f).enums) (file_at f).constants (constants_start (file_at f)) _ _ 0) (sym c.requires.place) (constants_start_lem (stands c.type_inv.file c.requires.reads).constants)
 
-pub name-requires : goal.name-requires
-name-requires c =
+pub variable-requires : goal.variable-requires
+variable-requires c =
     let f = c.args.file.now in
     let inside = constants_in_lem c.loop.invariant (omega (arith, c.loop-test.true, c.requires.many)) in
     (omega arith, omega arith, omega (arith, inside, (stands c.type_inv.file c.requires.reads).short))
@@ -26,7 +26,7 @@ variable_end-requires c =
 
 pub loop-preserved : goal.loop-preserved
 loop-preserved c =
-    constants_turn c.loop.invariant (omega (arith, c.loop-test.true, c.requires.many)) c.name.ensures c.variable_end.ensures c.skip-next.ensures
+    constants_turn c.loop.invariant (omega (arith, c.loop-test.true, c.requires.many)) c.variable.ensures c.variable_end.ensures c.skip-next.ensures
 
 pub returns : goal.returns
 returns c =

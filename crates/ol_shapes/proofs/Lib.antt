@@ -1,0 +1,11 @@
+pub mod Sitting
+pub mod Codes
+pub mod Shaping
+pub mod Zeros
+pub mod Placing
+pub mod Iterating
+pub mod Judging
+pub mod Naming
+pub mod Firsts
+pub mod Laying
+pub mod Walking
