@@ -1,39 +1,50 @@
 -- Laws of a call: its arguments, then its callee on the call site's record.
-use Prim.Native.Nat.{ℕ, zero, suc, ◌+◌, ◌-◌, ◌≤◌, ◌<◌}
-use mathlib.Core.Bool.{Bool, cond}
-use Rattle.std.specs.Prelude.{Option, Some, None}
-use mathlib.Core.List.{List, ◌∷◌, ◌++◌, append_assoc}
+use Prim.Native.Nat.{ℕ, ◌+◌, ◌-◌, ◌*◌, ◌≤◌, ◌<◌}
+use mathlib.Core.Bool.{Bool, true, false, cond}
+use Rattle.std.specs.Prelude.{Option as Callee, Some, None, MatchOption, ◌&&◌}
+use mathlib.Core.Option.{none, some}
+use mathlib.Core.Option.{Option as Maybe}
+use mathlib.Core.List.{List, [], ◌∷◌, ◌++◌, map, append_assoc}
 use mathlib.Core.Path.{◌≡◌, refl, sym, ap, subst, ◌∙◌}
 use native.Mathlib.Omega.{arith}
-use lib.Dec.{T, ltb, eqb}
+use lib.Dec.{T, ltb, eqb, eqb→eq}
 use borrow.Author.Tests.{lt-ltb}
-use lib.ListN.{length, take, drop, get_or, length-drop}
+use lib.ListN.{length, take, drop, get_or, length-append, length-drop}
 use lib.Seq.{take-take, drop-drop, length-take-le}
-use Rattle.ol_spec.specs.Syntax.{NodeKind, Function, Operator, Imported, Expr, call, Exprs, count, rhs_of}
+use Rattle.ol_spec.specs.Syntax.{NodeKind, Function, Operator, Imported, File, Node, Variable, variables, cell_types, variable_cells, length_in, call, Exprs, nil, cons, count, rhs_of}
+use Rattle.ol_spec.specs.Lists.{maybe}
+use Rattle.ol_spec.specs.Shapes.{Sized, arrays_in, constant_arrays, shape}
+use Rattle.ol_spec.proofs.Forms.{uses_all, cells_all}
+use Rattle.ol_spec.proofs.Slots.{type_cells_lem}
+use Rattle.ol_spec.proofs.Tests.{T_and}
 use Rattle.ol_spec.specs.Cell.{values_of}
-use Rattle.ol_spec.specs.Eval.{Outcomes, values, failure, overflow, Eval, Evals, callees, callees_all, sites_size, enter, enter_on, single_eval, single, eval, eval_all, eval_rhs}
-use Rattle.ol_spec.specs.Step.{fit_all, calls}
-use Rattle.ol_spec.specs.Admission.{may_call}
+use Rattle.ol_spec.specs.Eval.{Outcomes, values, failure, overflow, Evals, callees, callees_all, sites_size, enter, enter_on, eval_all, eval_rhs}
+use Rattle.ol_spec.specs.Step.{fit_all, input_count, calls}
+use Rattle.ol_spec.specs.Admission.{may_call, scalars, takes, under, under_variable}
 use Rattle.ol_spec.specs.declared.Value.{Value}
-use Rattle.ol_spec.specs.declared.Outcome.{Outcome}
-use Rattle.ol_tables.specs.At.{file_at, node_in, expr_at, end_at, exprs_at, ends_at, ReadsAll}
+use Rattle.ol_tables.specs.At.{file_at, node_in, expr_at, end_at, exprs_at, ends_at}
 use Rattle.ol_tables.specs.Tables.{Each, row_at, site_bytes}
-use Rattle.ol_tables.specs.Heads.{parts_at, next_at, parts_table, sizes_table, ty_size_at}
-use Rattle.ol_tables.proofs.Forms.{Formed, parted, none_read, callees_form, call_form}
+use Rattle.ol_tables.specs.Heads.{parts_table, sizes_table, ty_size_at, iterator_parts_at}
+use Rattle.ol_tables.specs.Walks.{skip_at}
+use Rattle.ol_frame.specs.Equations.{arrays_count, arrays_start}
+use Rattle.ol_frame.specs.Shapes.{takes_in, takes_all_of}
+use Rattle.ol_frame.proofs.Shaping.{count_read}
+use Rattle.ol_eval.specs.Fitting.{Suit}
+use Rattle.ol_eval.proofs.Readying.{calls_form}
+use Rattle.ol_tables.proofs.Forms.{Formed, callees_form, call_form}
 use Rattle.ol_frame.specs.Walk.{nodes_in, sizes_in}
-use Rattle.ol_frame.specs.Plans.{globals_in, scope_in, eval_in, segs_at, seg_at}
+use Rattle.ol_frame.specs.Plans.{globals_in, scope_in, segs_at, seg_at}
 use Rattle.ol_frame.specs.Nodes.{Running, Enters}
-use Rattle.ol_eval.specs.Post.{Ready, Meets, EvalsTo}
+use Rattle.ol_eval.specs.Post.{Ready}
 use Rattle.ol_frame.specs.Outcomes.{ending_of}
 use Rattle.ol_frame.specs.declared.outcomes.Ending.{Ending}
 use Rattle.ol_frame.specs.declared.outcomes.Ending.TheVariants as End
-use Rattle.ol_eval.specs.Calls.{Holds, as_is, RanTo, Did, Passes, all_in, PassedTo, Several, AllTo, callee_at, outputs_at, rhs_eval, EntersTo, Steppable, SiteTo}
-use Rattle.ol_frame.specs.Stores.{Leaves}
+use Rattle.ol_eval.specs.Calls.{Holds, as_is, RanTo, Did, all_in, all_cells, SuitAt, PassedTo, Several, AllTo, callee_at, callee_cells, outputs_at, rhs_eval, EntersTo, Steppable, SiteTo}
 use Rattle.ol_eval.specs.declared.eval.Step.{Step}
 use Rattle.ol_tables.proofs.Lending.{tail_of, put_tail, tail_all, put_tail_lem, take_put, drop_put, drop_take}
 use Rattle.ol_frame.proofs.Endings.{failed_values, over_values}
-use Rattle.ol_frame.proofs.Passing.{callees_one, row_size}
-use Rattle.ol_frame.proofs.Planning.{Callee, plan_head, plan_parts, plan_call, segs_one}
+use Rattle.ol_frame.proofs.Passing.{row_size}
+use Rattle.ol_frame.proofs.Planning.{Callee as Called, plan_head, plan_parts, plan_suited, plan_call, segs_one}
 
 -- ---- how several values end
 
@@ -89,11 +100,6 @@ enter_stop {make} {A} {x} {m} {n} {s} {new} {new₁} {a} {got} got₂ K u h z sa
       state = put_tail_lem u new new₁ ∙ (λ j. take (ue j) (same j) ++ (h.state ∙ ap (λ (l : List ℕ). A.seg ++ l) (drop-drop m n s)) j) ∙ sym (append_assoc (take n s) A.seg (drop (n + m) s)) ∙ ap (λ (w : Evals). w.seg ++ drop (n + m) s) (sym E);
     }
 
--- as many expressions as were read
-pub count_read : (s : List ℕ) (level n at : ℕ) → ReadsAll s level n at → count (exprs_at s level n at) ≡ n
-count_read s level zero at h = ap count (none_read s level at).0
-count_read s level (suc n) at h = let p = parted s level n at h in ap count p.trees ∙ ap suc (count_read s level n (end_at s level at) p.tail)
-
 not_imported_lem : (a b : NodeKind) → T (may_call a b) → ¬ (b ≡ Imported)
 not_imported_lem Function Function h e = let z : ◌≡◌ {A = ℕ} 0 1 = cc in omega arith
 not_imported_lem Function Operator h e = absurd h
@@ -105,32 +111,82 @@ not_imported_lem Imported Function h e = let z : ◌≡◌ {A = ℕ} 0 1 = cc in
 not_imported_lem Imported Operator h e = let z : ◌≡◌ {A = ℕ} 0 1 = cc in omega arith
 not_imported_lem Imported Imported h e = absurd h
 
+-- ---- arguments that suit their inputs
+
+scalar_of : (o : Maybe ℕ) → T (takes scalars o) → o ≡ none
+scalar_of none t = refl
+scalar_of (some n) t = absurd t
+
+under_of : (o s : Maybe ℕ) → T (takes (under o) s) → s ≡ o
+under_of none s t = scalar_of s t
+under_of (some m) none t = absurd t
+under_of (some m) (some n) t = ap some (sym (eqb→eq m n t))
+
+all_suit : (f : File) (locals : List Sized) (vs : List Variable) (es : Exprs) → T (takes_all_of f locals (map under_variable vs) es) → count es ≡ length vs → Suit f.nodes locals (constant_arrays f.constants) vs es
+all_suit f locals [] nil t e = tt
+all_suit f locals [] (cons x es) t e = omega arith
+all_suit f locals (v ∷ vs) nil t e = omega arith
+all_suit f locals (v ∷ vs) (cons x es) t e =
+    let w = T_and (takes_in f locals (under_variable v) x) _ t in
+    (under_of (length_in v.ty) (shape f.nodes locals (constant_arrays f.constants) x) w.0, all_suit f locals vs es w.1 (omega arith))
+
+-- they have as many cells
+suit_cells : (nodes : List Node) (locals globals : List Sized) (vs : List Variable) (es : Exprs) → Suit nodes locals globals vs es → cells_all nodes locals globals es ≡ length (cell_types vs)
+suit_cells nodes locals globals [] nil h = refl
+suit_cells nodes locals globals [] (cons e es) h = absurd h
+suit_cells nodes locals globals (v ∷ vs) nil h = absurd h
+suit_cells nodes locals globals (v ∷ vs) (cons e es) h =
+    (λ i. (ap (maybe 1 (λ n. n)) h.0 ∙ sym (type_cells_lem v.ty)) i + suit_cells nodes locals globals vs es h.1 i) ∙ sym (length-append (variable_cells v) (cell_types vs))
+
 -- the parts of a call, and of a Tuple
 pub callee_of_call : (file : List ℕ) (at : ℕ) → get_or file at 0 ≡ 11 → callee_at file at ≡ Some (get_or file (at + 1) 0)
 callee_of_call file at b = ap (λ (c : ℕ). cond (eqb c 11) (Some (get_or file (at + 1) 0)) None) b
 
-pub no_callee : (file : List ℕ) (at : ℕ) → get_or file at 0 ≡ 12 → callee_at file at ≡ None
-no_callee file at b = ap (λ (c : ℕ). cond (eqb c 11) (Some (get_or file (at + 1) 0)) None) b
-
 module _ (file : List ℕ) (at : ℕ) where
   -- how many parts a code tells, and where they start
-  abbrev parts_by : ℕ → ℕ
-  parts_by c = cond (ltb c 10) (get_or parts_table c 0) (cond (eqb c 10) 1 (cond (eqb c 11) (get_or file (at + 2) 0) (get_or file (at + 1) 0)))
+  abbrev pub parts_by : ℕ → ℕ
+  parts_by c = cond (ltb c 10) (get_or parts_table c 0) (cond (eqb c 10) 1 (cond (eqb c 11) (get_or file (at + 2) 0) (cond (eqb c 13) 2 (cond (ltb c 15) (get_or file (at + 1) 0) (iterator_parts_at file at)))))
 
-  abbrev next_by : Bool → ℕ → ℕ
-  next_by inside c = cond inside (cond (ltb c 10) (at + get_or sizes_table c 0) (cond (eqb c 10) (at + 1 + ty_size_at file (at + 1)) (cond (eqb c 11) (at + 3) (at + 2)))) at
+  abbrev pub next_by : Bool → ℕ → ℕ
+  next_by inside c = cond inside (cond (ltb c 10) (at + get_or sizes_table c 0) (cond (eqb c 10) (at + 1 + ty_size_at file (at + 1)) (cond (eqb c 11) (at + 3) (cond (eqb c 13) (at + 1) (cond (ltb c 15) (at + 2) (at + 4)))))) at
 
-  pub parts_call : get_or file at 0 ≡ 11 → parts_at file at ≡ get_or file (at + 2) 0
-  parts_call b = ap parts_by b
+  -- and how many of them are evaluated in turn, and where these start
+  abbrev count_by : Bool → ℕ → ℕ
+  count_by fold c = cond fold (get_or file (at + 3) 0) (parts_by c)
 
-  pub parts_tuple : get_or file at 0 ≡ 12 → parts_at file at ≡ get_or file (at + 1) 0
-  parts_tuple b = ap parts_by b
+  abbrev start_by : Bool → Bool → ℕ → ℕ
+  start_by fold inside c = cond fold (skip_at file 1 (next_by inside c)) (next_by inside c)
 
-  pub next_call : get_or file at 0 ≡ 11 → at < length file → next_at file at ≡ at + 3
-  next_call b l = λ j. next_by (lt-ltb at (length file) l j) (b j)
+  -- of a form that is no iterator
+  pub count_of : (c : ℕ) → get_or file at 0 ≡ c → eqb c 15 ≡ false → arrays_count file at ≡ count_by false c
+  count_of c b n = λ j. count_by ((ap (λ (x : ℕ). eqb x 15 && eqb (get_or file (at + 1) 0) 1) b ∙ ap (λ (x : Bool). x && eqb (get_or file (at + 1) 0) 1) n) j) (b j)
 
-  pub next_tuple : get_or file at 0 ≡ 12 → at < length file → next_at file at ≡ at + 2
-  next_tuple b l = λ j. next_by (lt-ltb at (length file) l j) (b j)
+  pub start_of : (c : ℕ) → get_or file at 0 ≡ c → eqb c 15 ≡ false → at < length file → arrays_start file at ≡ start_by false true c
+  start_of c b n l = λ j. start_by ((ap (λ (x : ℕ). eqb x 15 && eqb (get_or file (at + 1) 0) 1) b ∙ ap (λ (x : Bool). x && eqb (get_or file (at + 1) 0) 1) n) j) (lt-ltb at (length file) l j) (b j)
+
+  pub parts_call : get_or file at 0 ≡ 11 → arrays_count file at ≡ get_or file (at + 2) 0
+  parts_call b = count_of 11 b refl
+
+  pub next_call : get_or file at 0 ≡ 11 → at < length file → arrays_start file at ≡ at + 3
+  next_call b l = start_of 11 b refl l
+
+  -- of a map
+  pub parts_map : get_or file at 0 ≡ 15 → get_or file (at + 1) 0 ≡ 0 → arrays_count file at ≡ get_or file (at + 3) 0
+  parts_map b z =
+      let a : arrays_count file at ≡ get_or file (at + 3) 0 + cond {A = ℕ} (eqb (get_or file (at + 1) 0) 1) 1 0 = (λ j. cond (eqb (b j) 15 && eqb (z j) 1) (get_or file (at + 3) 0) (parts_by (b j))) in
+      let one : ℕ → ℕ = λ (x : ℕ). cond (eqb x 1) 1 0 in
+      let c : one (get_or file (at + 1) 0) ≡ 0 = ap one z in
+      omega (arith, a, c)
+
+  pub next_map : get_or file at 0 ≡ 15 → get_or file (at + 1) 0 ≡ 0 → at < length file → arrays_start file at ≡ at + 4
+  next_map b z l = λ j. cond (eqb (b j) 15 && eqb (z j) 1) (skip_at file 1 (next_by (lt-ltb at (length file) l j) (b j))) (next_by (lt-ltb at (length file) l j) (b j))
+
+  -- of a fold
+  pub parts_fold : get_or file at 0 ≡ 15 → get_or file (at + 1) 0 ≡ 1 → arrays_count file at ≡ get_or file (at + 3) 0
+  parts_fold b z = λ j. cond (eqb (b j) 15 && eqb (z j) 1) (get_or file (at + 3) 0) (parts_by (b j))
+
+  pub next_fold : get_or file at 0 ≡ 15 → get_or file (at + 1) 0 ≡ 1 → at < length file → arrays_start file at ≡ skip_at file 1 (at + 4)
+  next_fold b z l = λ j. cond (eqb (b j) 15 && eqb (z j) 1) (skip_at file 1 (next_by (lt-ltb at (length file) l j) (b j))) (next_by (lt-ltb at (length file) l j) (b j))
 
 -- ---- the call at a place: its callee k, and n arguments
 
@@ -156,8 +212,8 @@ module _ {file tab rows consts : List ℕ} {level at node : ℕ} {cells before o
   call_sites : callees (expr_at file level at) ≡ k ∷ callees_all (exprs_at file (level - 1) n (at + 3))
   call_sites = callees_form file level at (call k args) n call_at
 
-  call_calls : Each (Enters file tab rows consts node) (k ∷ callees_all (exprs_at file (level - 1) n (at + 3)))
-  call_calls = subst (Each (Enters file tab rows consts node)) (callees_one file level at p.plan.reads ∙ call_sites) p.calls
+  call_calls : Each (Enters file tab rows consts node) (k ∷ uses_all (exprs_at file (level - 1) n (at + 3)))
+  call_calls = let w = calls_form p call_at in (w.0.0, w.1)
 
   pub call_lower : k < node
   call_lower = call_calls.0.lower
@@ -181,11 +237,18 @@ module _ {file tab rows consts : List ℕ} {level at node : ℕ} {cells before o
   pub call_size : row_at rows k 6 ≡ site_bytes (file_at file) k
   call_size = row_size file k p.plan.program.sized call_below (omega (arith, call_room, p.small))
 
-  call_callee : Callee (file_at file) node (node_in file node) k n
+  -- its own record is within the two states
+  pub call_fits : (u : ℕ) → u ≡ row_at rows k 6 → u + segs_at file (level - 1) n (at + 3) ≤ length old
+  call_fits u e = omega (arith, e, call_size, call_room)
+
+  pub call_fits_new : (u : ℕ) → u ≡ row_at rows k 6 → u ≤ length new
+  call_fits_new u e = omega (arith, call_fits u e, ap length p.same)
+
+  call_callee : Called (file_at file) node (node_in file node) k n
   call_callee =
       let c = plan_call file p.plan b in
-      subst (λ (x : ℕ). Callee (file_at file) node (node_in file node) x n) (sym kE)
-      (subst (λ (y : ℕ). Callee (file_at file) node (node_in file node) (get_or file (at + 1) 0) y)
+      subst (λ (x : ℕ). Called (file_at file) node (node_in file node) x n) (sym kE)
+      (subst (λ (y : ℕ). Called (file_at file) node (node_in file node) (get_or file (at + 1) 0) y)
       (ap (λ (y : ℕ). count (exprs_at file (level - 1) y (at + 3))) (sym nE) ∙ count_read file (level - 1) n (at + 3) call_at.read) c)
 
   pub call_arity : n ≡ length (node_in file k).inputs
@@ -194,29 +257,36 @@ module _ {file tab rows consts : List ℕ} {level at node : ℕ} {cells before o
   callee_is : callee_at file at ≡ Some k
   callee_is = callee_of_call file at b ∙ ap Some (sym kE)
 
-  call_passes : Passes file (Some k) n
-  call_passes = record { few = call_few; small = call_small; called = (call_below, call_arity) }
-
   -- the parts of the call are its arguments
-  parts_are : parts_at file at ≡ n
+  parts_are : arrays_count file at ≡ n
   parts_are = parts_call file at b ∙ sym nE
 
-  start_is : next_at file at ≡ at + 3
+  start_is : arrays_start file at ≡ at + 3
   start_is = next_call file at b (omega (arith, call_at.inside))
 
-  pub call_several : Several file at
-  call_several =
+  call_suit : SuitAt file node (level - 1) n (at + 3) (node_in file k).inputs
+  call_suit =
+      all_suit (file_at file) (arrays_in (variables (node_in file node))) (node_in file k).inputs args (plan_suited file p.plan call_at) (count_read file (level - 1) n (at + 3) call_at.read ∙ call_arity)
+
+  call_cells : all_cells file node (level - 1) n (at + 3) ≡ input_count (node_in file k)
+  call_cells = suit_cells (file_at file).nodes (arrays_in (variables (node_in file node))) (constant_arrays (file_at file).constants) (node_in file k).inputs args call_suit
+
+  pub call_several : (free : ℕ) → 9 * callee_cells file k ≤ free → Several file node (level - 1) at free
+  call_several free room =
       record {
         inside = omega (arith, call_at.inside);
-        passes = subst (λ (m : ℕ). Passes file (callee_at file at) m) (sym parts_are)
-            (subst (λ (c : Option ℕ). Passes file c n) (sym callee_is) call_passes);
+        few = omega (arith, parts_are, call_few);
+        given = omega (arith, room, ap (λ (m : ℕ). all_cells file node (level - 1) m (arrays_start file at)) parts_are, ap (λ (a : ℕ). all_cells file node (level - 1) n a) start_is, call_cells);
+        small = subst (λ (c : Callee ℕ). MatchOption c (Unit {0}) (λ k. k < 32)) (sym callee_is) call_small;
+        called = subst (λ (c : Callee ℕ). MatchOption c (Unit {0}) (λ k. (k < nodes_in file) × SuitAt file node (level - 1) (arrays_count file at) (arrays_start file at) (node_in file k).inputs)) (sym callee_is)
+            (call_below, subst (λ (m : ℕ). SuitAt file node (level - 1) m (arrays_start file at) (node_in file k).inputs) (sym parts_are) (subst (λ (a : ℕ). SuitAt file node (level - 1) n a (node_in file k).inputs) (sym start_is) call_suit));
       }
 
   pub call_all : (first : Bool) {old' : List ℕ} {r : Step Ending} (to : List ℕ) {new' : List ℕ} → AllTo file consts (level - 1) at node first cells before old' r to new' → PassedTo file consts (Some k) n (level - 1) (at + 3) node first cells before old' r to new'
   call_all first {old'} {r} to {new'} h =
-      subst (λ (c : Option ℕ). PassedTo file consts c n (level - 1) (at + 3) node first cells before old' r to new') callee_is
+      subst (λ (c : Callee ℕ). PassedTo file consts c n (level - 1) (at + 3) node first cells before old' r to new') callee_is
       (subst (λ (m : ℕ). PassedTo file consts (callee_at file at) m (level - 1) (at + 3) node first cells before old' r to new') parts_are
-      (subst (λ (p : ℕ). PassedTo file consts (callee_at file at) (parts_at file at) (level - 1) p node first cells before old' r to new') start_is h))
+      (subst (λ (p : ℕ). PassedTo file consts (callee_at file at) (arrays_count file at) (level - 1) p node first cells before old' r to new') start_is h.0))
 
   -- the arguments, on what follows the call site's record
   call_args : (u : ℕ) → u ≡ row_at rows k 6 → Ready file tab rows consts (level - 1) n (at + 3) node cells before (tail_of u old) (tail_of u new)
@@ -232,14 +302,14 @@ module _ {file tab rows consts : List ℕ} {level at node : ℕ} {cells before o
         calls = call_calls.1;
       }
 
-  pub call_parts : (u : ℕ) → u ≡ row_at rows k 6 → Ready file tab rows consts (level - 1) (parts_at file at) (next_at file at) node cells before (tail_of u old) (tail_of u new)
+  pub call_parts : (u : ℕ) → u ≡ row_at rows k 6 → Ready file tab rows consts (level - 1) (arrays_count file at) (arrays_start file at) node cells before (tail_of u old) (tail_of u new)
   call_parts u e =
-      subst (λ (m : ℕ). Ready file tab rows consts (level - 1) m (next_at file at) node cells before (tail_of u old) (tail_of u new)) (sym parts_are)
+      subst (λ (m : ℕ). Ready file tab rows consts (level - 1) m (arrays_start file at) node cells before (tail_of u old) (tail_of u new)) (sym parts_are)
       (subst (λ (p : ℕ). Ready file tab rows consts (level - 1) n p node cells before (tail_of u old) (tail_of u new)) (sym start_is) (call_args u e))
 
   -- the callee, on its record
-  pub call_steps : (u : ℕ) → u ≡ row_at rows k 6 → (new₁ : List ℕ) → Steppable file tab rows consts k (take u old) (take u (put_tail u new new₁))
-  call_steps u e new₁ =
+  pub call_steps : (u : ℕ) → u ≡ row_at rows k 6 → (new₁ : List ℕ) (free : ℕ) → 9 * callee_cells file k ≤ free → Steppable file tab rows consts k free (take u old) (take u (put_tail u new new₁))
+  call_steps u e new₁ free room =
       let z = e ∙ call_size in
       let le : u ≤ length old = omega (arith, call_room, z) in
       let t = length-take-le u old le in
@@ -247,6 +317,8 @@ module _ {file tab rows consts : List ℕ} {level at node : ℕ} {cells before o
         running = call_running;
         below = call_below;
         kind = not_imported_lem (node_in file node).kind (node_in file k).kind call_callee.kinds;
+        given = omega (arith, room);
+        taken = omega (arith, room);
         sized = t ∙ z;
         small = omega (arith, t, le, p.small);
         same = take_put u new new₁ (omega (arith, le, ap length p.same)) ∙ ap (take u) p.same;
@@ -271,10 +343,10 @@ module _ {file tab rows consts : List ℕ} {level at node : ℕ} {cells before o
         (subst (λ (w : Evals). RanTo as_is w (ends_at file (level - 1) n (at + 3)) (own + more) old r (outputs_at file k callee) new') (sym call_is) h)))
 
     -- the arguments, on the caller's own part
-    args_moved : (u : ℕ) → u ≡ row_at rows k 6 → {a : Step Ending} (callee : List ℕ) {new₁ : List ℕ} → PassedTo file consts (Some k) n (level - 1) (at + 3) node first cells before (tail_of u old) a callee new₁ → RanTo (fit_all (node_in file k).inputs) (all_in file consts (level - 1) n (at + 3) node first cells before (take (segs_at file (level - 1) n (at + 3)) (drop (site_bytes (file_at file) k) old))) (ends_at file (level - 1) n (at + 3)) (segs_at file (level - 1) n (at + 3)) (drop (site_bytes (file_at file) k) old) a (values_of (length (node_in file k).inputs) callee) new₁
+    args_moved : (u : ℕ) → u ≡ row_at rows k 6 → {a : Step Ending} (callee : List ℕ) {new₁ : List ℕ} → PassedTo file consts (Some k) n (level - 1) (at + 3) node first cells before (tail_of u old) a callee new₁ → RanTo (fit_all (cell_types (node_in file k).inputs)) (all_in file consts (level - 1) n (at + 3) node first cells before (take (segs_at file (level - 1) n (at + 3)) (drop (site_bytes (file_at file) k) old))) (ends_at file (level - 1) n (at + 3)) (segs_at file (level - 1) n (at + 3)) (drop (site_bytes (file_at file) k) old) a (values_of (input_count (node_in file k)) callee) new₁
     args_moved u e {a} callee {new₁} h =
-        subst (λ (m : ℕ). RanTo (fit_all (node_in file k).inputs) (all_in file consts (level - 1) n (at + 3) node first cells before (take more (drop own old))) (ends_at file (level - 1) n (at + 3)) more (drop own old) a (values_of m callee) new₁) call_arity
-        (subst (λ (s : List ℕ). RanTo (fit_all (node_in file k).inputs) (all_in file consts (level - 1) n (at + 3) node first cells before (take more s)) (ends_at file (level - 1) n (at + 3)) more s a (values_of n callee) new₁) (tail_all u old ∙ ap (λ (m : ℕ). drop m old) (e ∙ call_size)) h)
+        subst (λ (m : ℕ). RanTo (fit_all (cell_types (node_in file k).inputs)) (all_in file consts (level - 1) n (at + 3) node first cells before (take more (drop own old))) (ends_at file (level - 1) n (at + 3)) more (drop own old) a (values_of m callee) new₁) call_cells
+        (subst (λ (s : List ℕ). RanTo (fit_all (cell_types (node_in file k).inputs)) (all_in file consts (level - 1) n (at + 3) node first cells before (take more s)) (ends_at file (level - 1) n (at + 3)) more s a (values_of (all_cells file node (level - 1) n (at + 3)) callee) new₁) (tail_all u old ∙ ap (λ (m : ℕ). drop m old) (e ∙ call_size)) h)
 
     pub call_done : (u : ℕ) → u ≡ row_at rows k 6 → {a : Step Ending} (callee₁ callee₂ : List ℕ) {new₁ new_s : List ℕ} {e : Ending} → PassedTo file consts (Some k) n (level - 1) (at + 3) node first cells before (tail_of u old) a callee₁ new₁ → a.out ≡ End.Values → SiteTo file consts k callee₁ (take u old) e callee₂ new_s → EntersTo file consts level at node first cells before old (record { out = e; next = a.next; used = u + a.used }) callee₂ (new_s ++ drop u (put_tail u new new₁))
     call_done u e {a} callee₁ callee₂ {new₁} {new_s} {e = end} h z s =
@@ -287,26 +359,3 @@ module _ {file tab rows consts : List ℕ} {level at node : ℕ} {cells before o
 
     pub call_used : (u : ℕ) → u ≡ row_at rows k 6 → {a : Step Ending} (callee : List ℕ) {new₁ : List ℕ} → PassedTo file consts (Some k) n (level - 1) (at + 3) node first cells before (tail_of u old) a callee new₁ → u + a.used ≤ 32768
     call_used u e callee h = omega (arith, h.used_is, e ∙ call_size, call_room, p.small)
-
-    -- ---- the call as one value
-
-    single_is : (seg : List ℕ) → eval_in file consts node first cells before (expr_at file level at) seg ≡ single_eval (rhs_eval file consts level at node first cells before seg)
-    unfolding eval
-    single_is seg =
-        subst (λ (x : Expr). eval_in file consts node first cells before x seg ≡ single_eval (eval_rhs (globals_in file consts) (scope_in file node first cells before) (calls (globals_in file consts)) (rhs_of x) seg)) (sym call_at.tree) refl
-
-    pub call_single : {r : Step Ending} (callee : List ℕ) {new' : List ℕ} {o : Outcome} (outputs : ℕ) → EntersTo file consts level at node first cells before old r callee new' → outputs ≡ row_at rows k 3 → ((os : Outcomes) → Leaves os r.out outputs callee → o ≡ single os) → EvalsTo file consts level at node first cells before old (record { out = o; next = r.next; used = r.used }) new'
-    call_single {r} callee {new'} {o} outputs h oE s =
-        let w = rhs_eval file consts level at node first cells before (take (seg_at file level at) old) in
-        let row = p.plan.program.sized.table.rows_of k call_below in
-        let left : Leaves w.out r.out outputs callee =
-        leaves w.out r.out outputs callee h.end_is
-        (subst (λ (m : ℕ). Holds as_is w.out (values_of m callee)) (sym (oE ∙ row.outputs))
-        (subst (λ (c : ℕ). Holds as_is w.out (outputs_at file c callee)) (sym kE) h.values_are)) in
-        subst (λ (x : Eval). Meets x (end_at file level at) (seg_at file level at) old (record { out = o; next = r.next; used = r.used }) new') (sym (single_is (take (seg_at file level at) old)))
-        (record { out = s w.out left; next_is = h.next_is; used_is = h.used_is; state = h.state })
-      where
-        leaves : (os : Outcomes) (e : Ending) (m : ℕ) (c : List ℕ) → e ≡ ending_of os → Holds as_is os (values_of m c) → Leaves os e m c
-        leaves (values vs) e m c x y = (x, y)
-        leaves (failure d) e m c x y = x
-        leaves overflow e m c x y = x

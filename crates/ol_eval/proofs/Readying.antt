@@ -1,21 +1,26 @@
 -- The parts of what can be evaluated can be evaluated, on their parts of the states.
 use mathlib.Core.Path.{◌≡◌, refl, sym, ap, subst, ◌∙◌}
-use mathlib.Core.Bool.{Bool, false, not}
+use mathlib.Core.Bool.{Bool, false, not, cond}
 use mathlib.Core.List.{List, [], ◌++◌}
-use Prim.Native.Nat.{ℕ, suc, ◌+◌, ◌-◌, ◌≤◌, ◌<◌}
+use Prim.Native.Nat.{ℕ, suc, ◌+◌, ◌-◌, ◌≤◌, ◌<◌, min}
+use Rattle.ol_tables.specs.declared.form.Form.{Form}
+use Rattle.ol_tables.specs.declared.form.Form.TheVariants as Frm
+use Rattle.ol_tables.specs.FormCodes.{code_of_form}
+use Rattle.ol_tables.proofs.FormLaws.{form_is}
 use native.Mathlib.Omega.{arith}
 use lib.ListN.{length, take, drop, get_or, length-drop, take-append-drop}
 use lib.Seq.{length-take-le, take-take}
 use Rattle.ol_spec.specs.Lists.{is_empty, maybe}
-use Rattle.ol_spec.specs.Syntax.{Expr, Exprs, bool_lit, int_lit, float_lit, char_lit, var, unary, binary, if_then_else, pre, arrow, cast, call, tuple}
-use Rattle.ol_spec.specs.Eval.{or_failure, present_of, sites_size, Globals, Eval, callees, callees_all, has_call, RealKind, real_kind, is_double?, arithmetic, join, eval, then_out, next, map_eval}
+use Rattle.ol_spec.specs.Syntax.{Expr, Exprs, bool_lit, int_lit, float_lit, char_lit, var, unary, binary, if_then_else, pre, arrow, cast, call, tuple, index, literal, map_over, fold_over}
+use Rattle.ol_spec.specs.Eval.{or_failure, present_of, sites_size, Globals, Eval, callees_all, has_call, RealKind, real_kind, is_double?, arithmetic, join, eval, then_out, next, map_eval}
 use Rattle.ol_spec.specs.declared.Outcome.{Outcome}
 use Rattle.ol_frame.specs.Outcomes.{common_out}
 use Rattle.ol_tables.specs.At.{expr_at, end_at, exprs_at, ends_at, Reads, ReadsAll}
 use Rattle.ol_tables.specs.Tables.{Each, ty_code, ty_enum}
 use Rattle.ol_tables.specs.Heads.{head_size as head_of}
 use Rattle.ol_tables.specs.Parts.{own_sites, Proper}
-use Rattle.ol_tables.proofs.Forms.{each_append, Formed, callees_all_lem, callees_form, one_tree, parted, none_read, by_form, var_form, reads_in, reads_deep}
+use Rattle.ol_tables.proofs.Forms.{each_append, Formed, one_tree, parted, none_read, by_form, var_form, reads_in, reads_deep}
+use Rattle.ol_spec.proofs.Forms.{uses, uses_all}
 use Rattle.ol_frame.specs.Walk.{sizes_in, Passable, Skips, SkipsTo}
 use Rattle.ol_frame.specs.declared.skip.Passed.{Passed}
 use Rattle.ol_frame.specs.Plans.{segs_at, seg_at, eval_in, Leaf, globals_in, scope_in, name_at}
@@ -29,19 +34,29 @@ use Rattle.ol_spec.specs.Operators.{unary_of, binary_of}
 use Rattle.ol_spec.specs.Types.{cast_to}
 use Rattle.ol_spec.specs.Read.{unary_ops, bin_ops}
 use Rattle.ol_value.specs.Codes.{ty_of, unary_by, binary_by}
-use Rattle.ol_spec.specs.Syntax.{Ty, UnaryOp, BinOp}
+use Rattle.ol_spec.specs.Syntax.{Ty, bool, int, float32, float64, char, enum, UnaryOp, BinOp}
+use Rattle.ol_spec.specs.Places.{ty_size}
+use Rattle.ol_tables.specs.Heads.{ty_size_at, scalar_size_at}
+use borrow.Author.Tests.{ne_eqb}
+use lib.Dec.{eqb}
 use Rattle.ol_spec.specs.declared.Outcome.TheVariants as Out
 use Rattle.ol_spec.specs.declared.Cause.TheVariants as Why
 use mathlib.Core.Option.{Option, some}
 use lib.ListN.{get_elem?}
 use Rattle.ol_frame.proofs.Planning.{plan_head, plan_first, plan_rest, plan_parts, plan_passable, segs_one, segs_cons, segs_form, segs_first}
 use Rattle.ol_eval.proofs.Evals.{rest_old, rest_new}
+use Rattle.ol_eval.proofs.Uses.{own_uses, uses_cons, uses_one, uses_form}
 
 module _ {f tab rows consts : List ℕ} {node : ℕ} {cells before : List ℕ} where
-  -- the callees of the first, and of the others
-  calls_both : {level n at : ℕ} {old new : List ℕ} → Ready f tab rows consts level (suc n) at node cells before old new → Each (Enters f tab rows consts node) (callees (expr_at f level at)) × Each (Enters f tab rows consts node) (callees_all (exprs_at f level n (end_at f level at)))
+  -- the nodes that the first uses, and the others
+  calls_both : {level n at : ℕ} {old new : List ℕ} → Ready f tab rows consts level (suc n) at node cells before old new → Each (Enters f tab rows consts node) (uses (expr_at f level at)) × Each (Enters f tab rows consts node) (uses_all (exprs_at f level n (end_at f level at)))
   calls_both {level} {n} {at} p =
-      each_append (Enters f tab rows consts node) (callees (expr_at f level at)) (callees_all (exprs_at f level n (end_at f level at))) (subst (Each (Enters f tab rows consts node)) (callees_all_lem f level n at p.plan.reads) p.calls)
+      each_append (Enters f tab rows consts node) (uses (expr_at f level at)) (uses_all (exprs_at f level n (end_at f level at))) (subst (Each (Enters f tab rows consts node)) (uses_cons f level n at p.plan.reads) p.calls)
+
+  -- those that a form uses itself, and its parts
+  pub calls_form : {level at n : ℕ} {t : Expr} {old new : List ℕ} → Ready f tab rows consts level 1 at node cells before old new → Formed f level at t n → Each (Enters f tab rows consts node) (own_uses t) × Each (Enters f tab rows consts node) (uses_all (exprs_at f (level - 1) n (at + head_of t)))
+  calls_form {level} {at} {n} {t} p g =
+      each_append (Enters f tab rows consts node) (own_uses t) (uses_all (exprs_at f (level - 1) n (at + head_of t))) (subst (Each (Enters f tab rows consts node)) (uses_form f level at n p.plan.reads g) p.calls)
 
   -- the first of several
   pub ready_first : {level n at : ℕ} {old new : List ℕ} → Ready f tab rows consts level (suc n) at node cells before old new → Ready f tab rows consts level 1 at node cells before old new
@@ -54,7 +69,7 @@ module _ {f tab rows consts : List ℕ} {node : ℕ} {cells before : List ℕ} w
         same = p.same;
         room = omega (arith, p.room, segs_first f p.plan);
         small = p.small;
-        calls = subst (Each (Enters f tab rows consts node)) (sym (callees_one f level at q.reads)) (calls_both p).0;
+        calls = subst (Each (Enters f tab rows consts node)) (sym (uses_one f level at q.reads)) (calls_both p).0;
       }
 
   -- the others, on what follows the first's segment
@@ -98,7 +113,6 @@ module _ {f tab rows consts : List ℕ} {node : ℕ} {cells before : List ℕ} w
   -- the parts of a form that is no call
   pub ready_parts : {level at n : ℕ} {t : Expr} {old new : List ℕ} → Ready f tab rows consts level 1 at node cells before old new → Formed f level at t n → own_sites t ≡ [] → Ready f tab rows consts (level - 1) n (at + head_of t) node cells before old new
   ready_parts {level} {at} {n} {t} p g o =
-      let e = callees_one f level at p.plan.reads ∙ callees_form f level at t n g ∙ ap (λ (ks : List ℕ). ks ++ callees_all (exprs_at f (level - 1) n (at + head_of t))) o in
       record {
         plan = plan_parts f p.plan g;
         present = p.present;
@@ -106,7 +120,7 @@ module _ {f tab rows consts : List ℕ} {node : ℕ} {cells before : List ℕ} w
         same = p.same;
         room = omega (arith, segs_form f p.plan.reads g o, p.room);
         small = p.small;
-        calls = subst (Each (Enters f tab rows consts node)) e p.calls;
+        calls = (calls_form p g).1;
       }
 
   pub ready_pass : {level n at : ℕ} {old new : List ℕ} → Ready f tab rows consts level n at node cells before old new → Passable f rows level n at
@@ -179,6 +193,10 @@ kind_scope g f node a b cells x y (arrow l r) = (λ i. join (kind_scope g f node
 kind_scope g f node a b cells x y (cast t e) = refl
 kind_scope g f node a b cells x y (call k es) = refl
 kind_scope g f node a b cells x y (tuple es) = refl
+kind_scope g f node a b cells x y (index c i) = refl
+kind_scope g f node a b cells x y (literal es) = refl
+kind_scope g f node a b cells x y (map_over k es) = refl
+kind_scope g f node a b cells x y (fold_over k c es) = refl
 
 -- the outcome of a taken branch, where the other is at `at`
 pub chosen_is : (f consts : List ℕ) (level node : ℕ) (first : Bool) (cells before : List ℕ) {p at : ℕ} (taken : Outcome) {r : Outcome} → p ≡ at → r ≡ common_out (is_double? (real_kind (globals_in f consts) (scope_in f node false cells cells) (expr_at f level p))) taken → r ≡ common_out (is_double? (real_kind (globals_in f consts) (scope_in f node first cells before) (expr_at f level at))) taken
@@ -211,7 +229,8 @@ module _ (f consts : List ℕ) (level at node : ℕ) (first : Bool) (cells befor
   leaf_seg h =
       by_form f (λ c e. Leaf c → (seg : List ℕ) → (eval_in f consts node first cells before e seg).seg ≡ seg)
       (λ b l seg. refl) (λ i l seg. refl) (λ b l seg. refl) (λ c l seg. refl) (λ x l seg. refl) (λ op e l seg. absurd (l.no_unary refl)) (λ op a b l seg. absurd (l.no_binary refl))
-      (λ c t e l seg. absurd (l.no_if refl)) (λ e l seg. refl) (λ a b l seg. absurd (l.no_arrow refl)) (λ t e l seg. absurd (l.no_cast refl)) (λ k es l seg. absurd (l.no_call refl)) (λ es l seg. refl) level at h
+      (λ c t e l seg. absurd (l.no_if refl)) (λ e l seg. refl) (λ a b l seg. absurd (l.no_arrow refl)) (λ t e l seg. absurd (l.no_cast refl)) (λ k es l seg. absurd (l.no_call refl)) (λ es l seg. refl)
+      (λ a i l seg. absurd (l.no_index refl)) (λ es l seg. refl) (λ k es l seg. absurd (l.no_iterator refl)) (λ k e es l seg. absurd (l.no_iterator refl)) level at h
 
   pub leaf_evals : {old new : List ℕ} {q : Passed} {o : Outcome} → ReadsAll f level 1 at → Reads f level at → Leaf (get_or f at 0) → new ≡ old → SkipsTo f level 1 at q → ((seg : List ℕ) → o ≡ (eval_in f consts node first cells before (expr_at f level at) seg).out) → EvalsTo f consts level at node first cells before old (record { out = o; next = q.next; used = q.used }) new
   leaf_evals {old} h r l e q w =
@@ -251,3 +270,29 @@ binary_is b op e w K rest = ap (λ (q : Option BinOp). next w (λ v s. map_eval 
 -- the branch that the test takes
 pub first_is : (f consts : List ℕ) (level at node : ℕ) (first test : Bool) (cells before s : List ℕ) → first ≡ test → choose_in f consts first level at node first cells before s ≡ choose_in f consts test level at node first cells before s
 first_is f consts level at node first test cells before s e = ap (λ (b : Bool). choose_in f consts b level at node first cells before s) e
+
+-- the bytes of a cast's type
+pub cast_size : (s : List ℕ) (p : ℕ) (t : Ty) → ty_code t ≡ get_or s p 0 → ty_size t ≡ cond (eqb (get_or s p 0) 12) 2 1 → Proper t → ty_size_at s p ≡ ty_size t
+cast_size s p t e z o = ap (λ (b : Bool). cond b (2 + scalar_size_at s (p + 2)) (scalar_size_at s p)) (ne_eqb (get_or s p 0) 13 (λ x. other t o (e ∙ x))) ∙ sym z
+  where
+    other : (t : Ty) → Proper t → ¬ (ty_code t ≡ 13)
+    other bool o x = omega arith
+    other (int c) o x = omega (arith, o.1, x)
+    other float32 o x = omega arith
+    other float64 o x = omega arith
+    other char o x = omega arith
+    other (enum e) o x = omega arith
+
+-- a form that is none of those with parts that are evaluated
+pub leaf_form : {code : ℕ} {form : Form} → min code 15 ≡ code_of_form form → ¬ (form ≡ Frm.Unary) → ¬ (form ≡ Frm.Binary) → ¬ (form ≡ Frm.If) → ¬ (form ≡ Frm.Arrow) → ¬ (form ≡ Frm.Cast) → ¬ (form ≡ Frm.Call) → ¬ (form ≡ Frm.Index) → ¬ (form ≡ Frm.Iterator) → Leaf code
+leaf_form h a b c d e f g i =
+    record {
+      no_unary = λ x. a (form_is Frm.Unary h x);
+      no_binary = λ x. b (form_is Frm.Binary h x);
+      no_if = λ x. c (form_is Frm.If h x);
+      no_arrow = λ x. d (form_is Frm.Arrow h x);
+      no_cast = λ x. e (form_is Frm.Cast h x);
+      no_call = λ x. f (form_is Frm.Call h x);
+      no_index = λ x. g (form_is Frm.Index h x);
+      no_iterator = λ x. i (form_is Frm.Iterator h x);
+    }

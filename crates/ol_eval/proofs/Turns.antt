@@ -162,13 +162,13 @@ run_done file consts k first cells₀ before old cells new j l h =
 
 -- ---- on a frame whose cells were written
 
-pub keeps_ready : {file tab rows consts : List ℕ} {fr fr' : Frame} {i at : ℕ} {cells old new : List ℕ} → Keeps fr fr' → EquationReady file tab rows consts fr.node i at cells fr.before old new → EquationReady file tab rows consts fr'.node i at cells fr'.before old new
+pub keeps_ready : {file tab rows consts : List ℕ} {fr fr' : Frame} {i at : ℕ} {cells old new : List ℕ} → Keeps fr fr' → EquationReady file tab rows consts fr.node i at cells fr.before.now old new → EquationReady file tab rows consts fr'.node i at cells fr'.before.now old new
 keeps_ready {file} {tab} {rows} {consts} {fr} {fr'} {i} {at} {cells} {old} {new} h p =
-    subst (λ (n : ℕ). EquationReady file tab rows consts n i at cells fr'.before old new) (sym h.node)
+    subst (λ (n : ℕ). EquationReady file tab rows consts n i at cells fr'.before.now old new) (sym h.node)
     (subst (λ (b : List ℕ). EquationReady file tab rows consts fr.node i at cells b old new) (sym h.before) p)
 
-pub keeps_done : (file consts : List ℕ) (i : ℕ) (cells old cells' : List ℕ) {fr fr' : Frame} {new : List ℕ} {e : Ending} → Keeps fr fr' → EquationTo file consts fr'.node i fr'.first cells fr'.before old e cells' new → EquationTo file consts fr.node i fr.first cells fr.before old e cells' new
+pub keeps_done : (file consts : List ℕ) (i : ℕ) (cells old cells' : List ℕ) {fr fr' : Frame} {new : List ℕ} {e : Ending} → Keeps fr fr' → EquationTo file consts fr'.node i fr'.first cells fr'.before.now old e cells' new → EquationTo file consts fr.node i fr.first cells fr.before.now old e cells' new
 keeps_done file consts i cells old cells' {fr} {fr'} {new} {e} h p =
-    subst (λ (n : ℕ). EquationTo file consts n i fr.first cells fr.before old e cells' new) h.node
-    (subst (λ (f : Bool). EquationTo file consts fr'.node i f cells fr.before old e cells' new) h.first
+    subst (λ (n : ℕ). EquationTo file consts n i fr.first cells fr.before.now old e cells' new) h.node
+    (subst (λ (f : Bool). EquationTo file consts fr'.node i f cells fr.before.now old e cells' new) h.first
     (subst (λ (b : List ℕ). EquationTo file consts fr'.node i fr'.first cells b old e cells' new) h.before p))

@@ -1,38 +1,47 @@
 // Evaluation: expressions, calls and equations, over the parts of the two states that hold their records.
-// The functions of this file call each other, and a number falls at each of these calls: node * 256 + level * 8 + rank.
-// node is the node whose frame it is (`k` where it is called), and a callee comes before its caller; level is the number of levels that
+// The functions of this file call each other, and a number falls at each of these calls: node * 1024 + level * 32 + rank.
+// node is the node whose frame it is (`k` where it is called or iterated), and a callee comes before its caller; level is the number of levels that
 // an expression may have, at most 24, and counts as 31 where no expression is evaluated yet.
-// The ranks, at an expression's level: enter 1, eval_call 2, eval_form 3, eval 4, eval_two, step_untaken and eval_all 5, eval_first and eval_second 6,
-// eval_if 7; at level 31: call_equation and tuple_equation 0, equation 1, run 2, step_instance and call_function 3, step_site 4.
+// The ranks, at an expression's level: enter 1, eval_map and eval_fold 2, work_in 3, work_32 to work_1024 4, eval_work 5, eval_single 6, eval_call and eval_array 7,
+// eval_form 8, eval 9, eval_part and eval_equal 10, eval_two, step_untaken, eval_all and eval_index 11, eval_first and eval_second 12, eval_if 13;
+// at level 31: equation_in 0, equation_32 and equation_1024 1, equation 2, run 3, call_function 4, function_112, function_3584 and step_instance 5, step_in 6, step_wide 7,
+// step_site 8, apply 9, map_from and fold_from 10.
 // file and tab stay two parameters: lent as one struct with methods they make a cycle of feeder30 8 percent more instructions, which misses its measure of speed (docs/PERFORMANCE.md).
 // frame, old and new stay too: old and new are other parts of the two states at each call, so a struct of them would be made anew.
 // So what they ask together stands in the clauses, under one name each: `CanEval`, `CanStep`, `CanRun` and `CanEquate`.
-ghost use Rattle.std.specs.Prelude.{◌≡◌, true, false, ◌+◌, ◌<◌, length, get_or};
-ghost use Rattle.ol_tables.specs.Heads.{parts_at, next_at};
-ghost use Rattle.ol_tables.specs.Table.{consts_of};
-ghost use Rattle.ol_frame.specs.Frame.{Keeps};
-ghost use Rattle.ol_eval.specs.Post.{CanEval, on, EvalsTo, TwoTo, ChooseTo, IfTo, UntakenTo};
-ghost use Rattle.ol_eval.specs.Calls.{callee_at, Several, AllTo, EntersTo, CanStep, SiteTo, CanRun, RunTo, CanEquate, RhsCode, EquationTo};
+ghost use Rattle.std.specs.Prelude.{◌≡◌, ℕ, true, false, ◌+◌, ◌*◌, ◌<◌, ◌≤◌, length, get_or};
 ghost use Rattle.ol_spec.specs.Syntax.{Function, Operator};
-ghost use Rattle.ol_tables.specs.At.{node_in};
+ghost use Rattle.ol_tables.specs.At.{node_in, expr_at, end_at};
+ghost use Rattle.ol_tables.specs.Table.{tab_of, rows_of, consts_of};
+ghost use Rattle.ol_frame.specs.Walk.{nodes_in};
+ghost use Rattle.ol_frame.specs.Plans.{Plan, Planned, span_in};
+ghost use Rattle.ol_frame.specs.Nodes.{EquationPlan};
+ghost use Rattle.ol_frame.specs.Equations.{is_map, arrays_count, arrays_start, place_in, rhs_in};
+ghost use Rattle.ol_frame.specs.Frame.{Keeps};
+ghost use Rattle.ol_eval.specs.Post.{CanEval, on, ScalarsAt, Alike, Equated, array_at, EvalsTo, TwoTo, EqualTo, ChooseTo, IfTo, UntakenTo, IndexTo};
+ghost use Rattle.ol_eval.specs.Calls.{callee_at, Several, AllTo, Part, PartTo, ArrayTo, EntersTo, callee_cells, is_work, work_cells, work_outputs, Works, WorkTo, IteratedTo};
+ghost use Rattle.ol_eval.specs.Calls.{CanIterate, Mapped, MapTo, AppliesTo, FoldTo, CanStep, Wide, SiteTo, CanRun, RunTo, CanEquate, scalar_rhs, equation_cells, EquationTo};
 
-use ol_frame::copies::{copy, passed, single_out};
-use ol_frame::equations::{place_at, plan_of, records_at};
-use ol_frame::frame::{Arguments, Frame};
+use ol_frame::arrays::{
+    array_length, compared, element, equal_cells, gather, present_cells, previous_cells, stopped,
+};
+use ol_frame::copies::{copy, fit_part, named_cells, passed, put_part, single_out};
+use ol_frame::equations::{arrays_of, is_map, place_at, plan_of, records_at};
+use ol_frame::frame::Frame;
 use ol_frame::names::{chosen, leaf_out, present};
 use ol_frame::outcomes::{
-    Ending, binary_out, cast_out, done, drop_failure, end_of, named_out, overflowed, runs,
+    Ending, binary_out, cast_out, done, drop_failure, end_of, kept, named_out, overflowed, runs,
     same_out, test_of, unary_out, untested,
 };
 use ol_frame::skip::{pass, pass_all};
-use ol_frame::tables::{order_at, row};
+use ol_frame::tables::{cells_for, cells_of, order_at, row};
 use ol_spec::Outcome;
 use ol_state::fresh::write_fresh;
 use ol_tables::form::Form;
 use ol_tables::heads::{head, ty_size};
 use ol_tables::kind::NodeKind;
-use ol_tables::tables::{COUNT, INPUTS, KIND, OUTPUTS, SIZE, VARIABLES};
-use ol_value::cell::write_cell;
+use ol_tables::tables::{COUNT, KIND, OUTPUTS, SIZE};
+use ol_value::cell::{read_cell, write_cell};
 
 // ---- expressions
 
@@ -44,7 +53,8 @@ pub struct Step<T> {
     pub used: usize,
 }
 
-// The expression at `at`. A Var is read at once.
+// The expression at `at`. A Var is read at once. It is put into its callers: measured faster.
+#[inline(always)]
 #[cycle(evaluation)]
 pub fn eval(
     file: &[u8],
@@ -55,7 +65,7 @@ pub fn eval(
     old: &[u8],
     new: &mut [u8],
 ) -> Step<Outcome>
-    requires { CanEval file.now tab.now level 1 at frame.now old.now new.old }
+    requires { CanEval file.now tab.now level 1 at frame.now old.now new.old × ScalarsAt file.now frame.now.node level 1 at }
     ensures { on (EvalsTo file.now (consts_of tab.now) level at) frame.now old.now result new.new }
 {
     if Form::Var.is_at(file, at) {
@@ -80,7 +90,7 @@ fn eval_form(
     old: &[u8],
     new: &mut [u8],
 ) -> Step<Outcome>
-    requires { CanEval file.now tab.now level 1 at frame.now old.now new.old }
+    requires { CanEval file.now tab.now level 1 at frame.now old.now new.old × ScalarsAt file.now frame.now.node level 1 at }
     ensures { on (EvalsTo file.now (consts_of tab.now) level at) frame.now old.now result new.new }
 {
     let p = at + 1;
@@ -112,6 +122,8 @@ fn eval_form(
             }
         }
         Form::Call => eval_call(file, tab, at, level, frame, old, new),
+        Form::Iterator => eval_single(file, tab, at, level, 1, frame, old, new),
+        Form::Index => eval_index(file, tab, at + 1, level - 1, frame, old, new),
         _ => {
             let s = pass(file, tab, at, level);
             Step {
@@ -134,10 +146,14 @@ fn eval_two(
     old: &[u8],
     new: &mut [u8],
 ) -> Step<Outcome>
-    requires { CanEval file.now tab.now level 2 (at + 2) frame.now old.now new.old }
+    requires { CanEval file.now tab.now level 2 (at + 2) frame.now old.now new.old × Alike file.now frame.now.node level (at + 2) × Equated file.now frame.now.node level at }
     ensures { on (TwoTo file.now (consts_of tab.now) (get_or file.now (at + 1) 0) level (at + 2)) frame.now old.now result new.new }
 {
     let op = file[at + 1];
+    let n = compared_length(file, tab, at, level);
+    if n != 0 {
+        return eval_equal(file, tab, at, level, n, frame, old, new);
+    }
     let l = eval(file, tab, at + 2, level, frame, old, new);
     let n = l.used;
     if done(l.out) {
@@ -157,6 +173,20 @@ fn eval_two(
     }
 }
 
+// The length of the first side of the Binary at `at`, if it compares arrays, else 0: only Eq and Neq, codes 4 and 5, compare any. The sides have at most `level` levels.
+fn compared_length(file: &[u8], tab: &[u8], at: usize, level: usize) -> usize
+    requires { Planned file.now (tab_of tab.now) (rows_of tab.now) (consts_of tab.now) level (at + 2) }
+    ensures { (node : ℕ) → Plan file.now (tab_of tab.now) (rows_of tab.now) (consts_of tab.now) node level 1 (at + 2) → Equated file.now node level at → result ≡ span_in file.now node (expr_at file.now level (at + 2)) }
+{
+    let op = file[at + 1];
+    let compares = op == 4 || op == 5;
+    if compares {
+        array_length(file, tab, at + 2, level)
+    } else {
+        0
+    }
+}
+
 // IfThenElse, whose condition is at `at`.
 #[cycle(evaluation)]
 fn eval_if(
@@ -168,7 +198,7 @@ fn eval_if(
     old: &[u8],
     new: &mut [u8],
 ) -> Step<Outcome>
-    requires { CanEval file.now tab.now level 3 at frame.now old.now new.old }
+    requires { CanEval file.now tab.now level 3 at frame.now old.now new.old × ScalarsAt file.now frame.now.node level 3 at }
     ensures { on (IfTo file.now (consts_of tab.now) level at) frame.now old.now result new.new }
 {
     let c = eval(file, tab, at, level, frame, old, new);
@@ -201,8 +231,9 @@ fn eval_if(
     }
 }
 
-// Two branches, of which the first, at `at`, is taken.
+// Two branches, of which the first, at `at`, is taken. It is put into its callers: measured faster.
 #[cycle(evaluation)]
+#[inline(always)]
 fn eval_first(
     file: &[u8],
     tab: &[u8],
@@ -212,7 +243,7 @@ fn eval_first(
     old: &[u8],
     new: &mut [u8],
 ) -> Step<Outcome>
-    requires { CanEval file.now tab.now level 2 at frame.now old.now new.old }
+    requires { CanEval file.now tab.now level 2 at frame.now old.now new.old × ScalarsAt file.now frame.now.node level 2 at }
     ensures { on (ChooseTo file.now (consts_of tab.now) true level at) frame.now old.now result new.new }
 {
     let t = eval(file, tab, at, level, frame, old, new);
@@ -235,8 +266,9 @@ fn eval_first(
     }
 }
 
-// Two branches, the first at `at`, of which the second is taken.
+// Two branches, the first at `at`, of which the second is taken. It is put into its callers: measured faster.
 #[cycle(evaluation)]
+#[inline(always)]
 fn eval_second(
     file: &[u8],
     tab: &[u8],
@@ -246,7 +278,7 @@ fn eval_second(
     old: &[u8],
     new: &mut [u8],
 ) -> Step<Outcome>
-    requires { CanEval file.now tab.now level 2 at frame.now old.now new.old }
+    requires { CanEval file.now tab.now level 2 at frame.now old.now new.old × ScalarsAt file.now frame.now.node level 2 at }
     ensures { on (ChooseTo file.now (consts_of tab.now) false level at) frame.now old.now result new.new }
 {
     let s = pass(file, tab, at, level);
@@ -280,13 +312,129 @@ fn step_untaken(
     old: &[u8],
     new: &mut [u8],
 ) -> bool
-    requires { CanEval file.now tab.now level 1 at frame.now old.now new.old }
+    requires { CanEval file.now tab.now level 1 at frame.now old.now new.old × ScalarsAt file.now frame.now.node level 1 at }
     ensures { on (UntakenTo file.now (consts_of tab.now) level at) frame.now old.now result new.new }
 {
     overflowed(eval(file, tab, at, level, frame, old, new).out)
 }
 
-// ---- calls
+// ---- arrays
+
+// Eq or Neq at `at`, whose sides, of at most `level` levels, are arrays, the first of n: the cells of both are evaluated, and then compared.
+#[cycle(evaluation)]
+fn eval_equal(
+    file: &[u8],
+    tab: &[u8],
+    at: usize,
+    level: usize,
+    n: usize,
+    frame: &Frame,
+    old: &[u8],
+    new: &mut [u8],
+) -> Step<Outcome>
+    requires { CanEval file.now tab.now level 2 (at + 2) frame.now old.now new.old × (n ≡ span_in file.now frame.now.node (expr_at file.now level (at + 2))) × (0 < n) × (array_at file.now frame.now.node level (end_at file.now level (at + 2)) ≡ true) }
+    ensures { on (EqualTo file.now (consts_of tab.now) (get_or file.now (at + 1) 0) level (at + 2)) frame.now old.now result new.new }
+{
+    let op = file[at + 1];
+    let mut left = [0u8; 288];
+    let l = eval_array(file, tab, at + 2, level, frame, &mut left, old, new);
+    let u = l.used;
+    let Ending::Values = l.out else {
+        let s = pass(file, tab, l.next, level);
+        return Step {
+            out: stopped(l.out),
+            next: s.next,
+            used: u + s.used,
+        };
+    };
+    let mut right = [0u8; 288];
+    let m = array_length(file, tab, l.next, level);
+    let r = eval_array(
+        file,
+        tab,
+        l.next,
+        level,
+        frame,
+        &mut right,
+        &old[u..],
+        &mut new[u..],
+    );
+    Step {
+        out: compared(op, r.out, equal_cells(n, m, &left, &right)),
+        next: r.next,
+        used: u + r.used,
+    }
+}
+
+// An index, whose base is at `at`: the base, then the index. A base that is no array fails once both have succeeded.
+#[cycle(evaluation)]
+fn eval_index(
+    file: &[u8],
+    tab: &[u8],
+    at: usize,
+    level: usize,
+    frame: &Frame,
+    old: &[u8],
+    new: &mut [u8],
+) -> Step<Outcome>
+    requires { CanEval file.now tab.now level 2 at frame.now old.now new.old × ScalarsAt file.now frame.now.node level 1 (end_at file.now level at) }
+    ensures { on (IndexTo file.now (consts_of tab.now) level at) frame.now old.now result new.new }
+{
+    let mut cells = [0u8; 288];
+    let n = array_length(file, tab, at, level);
+    let b = eval_part(
+        file, tab, at, level, frame, None, 0, n, &mut cells, old, new,
+    );
+    let u = b.used;
+    let Ending::Values = b.out else {
+        let s = pass(file, tab, b.next, level);
+        return Step {
+            out: stopped(b.out),
+            next: s.next,
+            used: u + s.used,
+        };
+    };
+    let r = eval(file, tab, b.next, level, frame, &old[u..], &mut new[u..]);
+    Step {
+        out: element(n, r.out, &cells),
+        next: r.next,
+        used: u + r.used,
+    }
+}
+
+// The array at `at`: a name, Pre of a name, a literal, a call or a map. Its cells are left at the front of `to`.
+#[cycle(evaluation)]
+pub fn eval_array(
+    file: &[u8],
+    tab: &[u8],
+    at: usize,
+    level: usize,
+    frame: &Frame,
+    to: &mut [u8],
+    old: &[u8],
+    new: &mut [u8],
+) -> Step<Ending>
+    requires { CanEval file.now tab.now level 1 at frame.now old.now new.old × (0 < span_in file.now frame.now.node (expr_at file.now level at)) × (9 * span_in file.now frame.now.node (expr_at file.now level at) ≤ length to.old) }
+    ensures { on (ArrayTo file.now (consts_of tab.now) level at) frame.now old.now result to.new new.new }
+{
+    match Form::at(file, at) {
+        Form::Var => {
+            present_cells(tab, frame, at, to);
+            Step {
+                out: Ending::Values,
+                next: at + 3,
+                used: 0,
+            }
+        }
+        Form::Pre => Step {
+            out: previous_cells(tab, frame, at + 1, to),
+            next: at + 4,
+            used: 0,
+        },
+        Form::Literal => eval_all(file, tab, at, level - 1, frame, to, old, new),
+        _ => eval_work(file, tab, at, level, frame, to, old, new),
+    }
+}
 
 // The call at `at`, as one value.
 #[cycle(evaluation)]
@@ -299,19 +447,358 @@ fn eval_call(
     old: &[u8],
     new: &mut [u8],
 ) -> Step<Outcome>
-    requires { CanEval file.now tab.now level 1 at frame.now old.now new.old × (get_or file.now at 0 ≡ 11) }
+    requires { CanEval file.now tab.now level 1 at frame.now old.now new.old × ScalarsAt file.now frame.now.node level 1 at × (get_or file.now at 0 ≡ 11) }
     ensures { on (EvalsTo file.now (consts_of tab.now) level at) frame.now old.now result new.new }
 {
-    let mut args = Arguments::new();
-    let r = enter(file, tab, at, level, frame, &mut args, old, new);
     let k = usize::from(file[at + 1]);
     let outputs = row(tab, k, OUTPUTS);
+    if work_cells(file, tab, at, level) <= 32 {
+        let mut args = [0u8; 288];
+        let r = enter(file, tab, at, level, frame, &mut args, old, new);
+        Step {
+            out: single_out(r.out, outputs, &args),
+            next: r.next,
+            used: r.used,
+        }
+    } else {
+        eval_single(file, tab, at, level, outputs, frame, old, new)
+    }
+}
+
+// The call or fold at `at`, which has so many outputs, as one value.
+#[cycle(evaluation)]
+fn eval_single(
+    file: &[u8],
+    tab: &[u8],
+    at: usize,
+    level: usize,
+    outputs: usize,
+    frame: &Frame,
+    old: &[u8],
+    new: &mut [u8],
+) -> Step<Outcome>
+    requires { CanEval file.now tab.now level 1 at frame.now old.now new.old × ScalarsAt file.now frame.now.node level 1 at × (is_work file.now at ≡ true) × (outputs ≡ work_outputs file.now at) }
+    ensures { on (EvalsTo file.now (consts_of tab.now) level at) frame.now old.now result new.new }
+{
+    let mut out = [0u8; 9];
+    let r = eval_work(file, tab, at, level, frame, &mut out, old, new);
     Step {
-        out: single_out(r.out, outputs, &args.cells),
+        out: single_out(r.out, outputs, &out),
         next: r.next,
         used: r.used,
     }
 }
+
+// How many cells the work on the call or iterator at `at` takes: a call's arguments and outputs, or an iterator's arrays.
+fn work_cells(file: &[u8], tab: &[u8], at: usize, level: usize) -> usize
+    requires { Planned file.now (tab_of tab.now) (rows_of tab.now) (consts_of tab.now) level at × (is_work file.now at ≡ true) }
+    ensures { (node : ℕ) → Plan file.now (tab_of tab.now) (rows_of tab.now) (consts_of tab.now) node level 1 at → result ≡ work_cells file.now node level at }
+{
+    if Form::Call.is_at(file, at) {
+        let k = usize::from(file[at + 1]);
+        let inputs = cells_of(tab, k, 1);
+        inputs.max(cells_of(tab, k, 2) - inputs)
+    } else {
+        let h = arrays_of(file, at);
+        h.count * array_length(file, tab, h.start, level - 1)
+    }
+}
+
+// The call or iterator at `at`: its cells are left at the front of `to`. The work is done in an array for as many cells as it takes, or a few more: calls stand in calls, and each keeps its own.
+#[cycle(evaluation)]
+fn eval_work(
+    file: &[u8],
+    tab: &[u8],
+    at: usize,
+    level: usize,
+    frame: &Frame,
+    to: &mut [u8],
+    old: &[u8],
+    new: &mut [u8],
+) -> Step<Ending>
+    requires { CanEval file.now tab.now level 1 at frame.now old.now new.old × Works file.now frame.now.node level at (length to.old) }
+    ensures { on (WorkTo file.now (consts_of tab.now) level at) frame.now old.now result to.new new.new }
+{
+    let n = work_cells(file, tab, at, level);
+    if n <= 32 {
+        work_32(file, tab, at, level, frame, to, old, new)
+    } else if n <= 256 {
+        work_256(file, tab, at, level, frame, to, old, new)
+    } else if n <= 512 {
+        work_512(file, tab, at, level, frame, to, old, new)
+    } else if n <= 768 {
+        work_768(file, tab, at, level, frame, to, old, new)
+    } else {
+        work_1024(file, tab, at, level, frame, to, old, new)
+    }
+}
+
+// In an array for 32 cells.
+#[cycle(evaluation)]
+#[inline(never)]
+fn work_32(
+    file: &[u8],
+    tab: &[u8],
+    at: usize,
+    level: usize,
+    frame: &Frame,
+    to: &mut [u8],
+    old: &[u8],
+    new: &mut [u8],
+) -> Step<Ending>
+    requires { CanEval file.now tab.now level 1 at frame.now old.now new.old × Works file.now frame.now.node level at (length to.old) × (work_cells file.now frame.now.node level at ≤ 32) }
+    ensures { on (WorkTo file.now (consts_of tab.now) level at) frame.now old.now result to.new new.new }
+{
+    let mut work = [0u8; 288];
+    work_in(file, tab, at, level, frame, &mut work, to, old, new)
+}
+
+// In an array for 256 cells.
+#[cycle(evaluation)]
+#[inline(never)]
+fn work_256(
+    file: &[u8],
+    tab: &[u8],
+    at: usize,
+    level: usize,
+    frame: &Frame,
+    to: &mut [u8],
+    old: &[u8],
+    new: &mut [u8],
+) -> Step<Ending>
+    requires { CanEval file.now tab.now level 1 at frame.now old.now new.old × Works file.now frame.now.node level at (length to.old) × (work_cells file.now frame.now.node level at ≤ 256) }
+    ensures { on (WorkTo file.now (consts_of tab.now) level at) frame.now old.now result to.new new.new }
+{
+    let mut work = [0u8; 2304];
+    work_in(file, tab, at, level, frame, &mut work, to, old, new)
+}
+
+// In an array for 512 cells.
+#[cycle(evaluation)]
+#[inline(never)]
+fn work_512(
+    file: &[u8],
+    tab: &[u8],
+    at: usize,
+    level: usize,
+    frame: &Frame,
+    to: &mut [u8],
+    old: &[u8],
+    new: &mut [u8],
+) -> Step<Ending>
+    requires { CanEval file.now tab.now level 1 at frame.now old.now new.old × Works file.now frame.now.node level at (length to.old) × (work_cells file.now frame.now.node level at ≤ 512) }
+    ensures { on (WorkTo file.now (consts_of tab.now) level at) frame.now old.now result to.new new.new }
+{
+    let mut work = [0u8; 4608];
+    work_in(file, tab, at, level, frame, &mut work, to, old, new)
+}
+
+// In an array for 768 cells.
+#[cycle(evaluation)]
+#[inline(never)]
+fn work_768(
+    file: &[u8],
+    tab: &[u8],
+    at: usize,
+    level: usize,
+    frame: &Frame,
+    to: &mut [u8],
+    old: &[u8],
+    new: &mut [u8],
+) -> Step<Ending>
+    requires { CanEval file.now tab.now level 1 at frame.now old.now new.old × Works file.now frame.now.node level at (length to.old) × (work_cells file.now frame.now.node level at ≤ 768) }
+    ensures { on (WorkTo file.now (consts_of tab.now) level at) frame.now old.now result to.new new.new }
+{
+    let mut work = [0u8; 6912];
+    work_in(file, tab, at, level, frame, &mut work, to, old, new)
+}
+
+// In an array for 1024 cells.
+#[cycle(evaluation)]
+#[inline(never)]
+fn work_1024(
+    file: &[u8],
+    tab: &[u8],
+    at: usize,
+    level: usize,
+    frame: &Frame,
+    to: &mut [u8],
+    old: &[u8],
+    new: &mut [u8],
+) -> Step<Ending>
+    requires { CanEval file.now tab.now level 1 at frame.now old.now new.old × Works file.now frame.now.node level at (length to.old) × (work_cells file.now frame.now.node level at ≤ 1024) }
+    ensures { on (WorkTo file.now (consts_of tab.now) level at) frame.now old.now result to.new new.new }
+{
+    let mut work = [0u8; 9216];
+    work_in(file, tab, at, level, frame, &mut work, to, old, new)
+}
+
+// In `work`.
+#[cycle(evaluation)]
+fn work_in(
+    file: &[u8],
+    tab: &[u8],
+    at: usize,
+    level: usize,
+    frame: &Frame,
+    work: &mut [u8],
+    to: &mut [u8],
+    old: &[u8],
+    new: &mut [u8],
+) -> Step<Ending>
+    requires { CanEval file.now tab.now level 1 at frame.now old.now new.old × Works file.now frame.now.node level at (length to.old) × (9 * work_cells file.now frame.now.node level at ≤ length work.old) }
+    ensures { on (WorkTo file.now (consts_of tab.now) level at) frame.now old.now result to.new new.new }
+{
+    if Form::Call.is_at(file, at) {
+        let r = enter(file, tab, at, level, frame, work, old, new);
+        copy(work, to);
+        r
+    } else if is_map(file, at) {
+        eval_map(file, tab, at, level, frame, work, to, old, new)
+    } else {
+        eval_fold(file, tab, at, level, frame, work, to, old, new)
+    }
+}
+
+// The map at `at`: the arrays, and then each element.
+#[cycle(evaluation)]
+fn eval_map(
+    file: &[u8],
+    tab: &[u8],
+    at: usize,
+    level: usize,
+    frame: &Frame,
+    work: &mut [u8],
+    to: &mut [u8],
+    old: &[u8],
+    new: &mut [u8],
+) -> Step<Ending>
+    requires { CanEval file.now tab.now level 1 at frame.now old.now new.old × Works file.now frame.now.node level at (length to.old) × (get_or file.now at 0 ≡ 15) × (is_map file.now at ≡ true) × (9 * work_cells file.now frame.now.node level at ≤ length work.old) }
+    ensures { on (IteratedTo file.now (consts_of tab.now) level at) frame.now old.now result to.new new.new }
+{
+    let a = eval_all(file, tab, at, level - 1, frame, work, old, new);
+    let Ending::Values = a.out else {
+        return a;
+    };
+    let k = usize::from(file[at + 2]);
+    let c = usize::from(file[at + 3]);
+    let n = array_length(file, tab, at + 4, level - 1);
+    Step {
+        out: map_from(file, tab, k, n, c, work, to),
+        ..a
+    }
+}
+
+// The elements of a map of Function k over c arrays of n cells, which stand one behind the other: first to last, up to the first that fails or overflows.
+#[cycle(evaluation)]
+fn map_from(
+    file: &[u8],
+    tab: &[u8],
+    k: usize,
+    n: usize,
+    c: usize,
+    arrays: &[u8],
+    to: &mut [u8],
+) -> Ending
+    requires { CanIterate file.now tab.now k × Mapped file.now k n c arrays.now to.old }
+    ensures { MapTo file.now (consts_of tab.now) k n c arrays.now result to.new }
+{
+    for j in 0..n {
+        let mut args = [0u8; 288];
+        gather(tab, k, n, c, j, arrays, &mut args);
+        let o = apply(file, tab, k, &mut args);
+        let Outcome::Value(v) = o else {
+            return end_of(o);
+        };
+        write_cell(kept(v), to, 9 * j);
+    }
+    Ending::Values
+}
+
+// A call of Function k on the arguments in `args`, without a record: its one output.
+#[cycle(evaluation)]
+fn apply(file: &[u8], tab: &[u8], k: usize, args: &mut [u8]) -> Outcome
+    requires { CanIterate file.now tab.now k × (288 ≤ length args.old) }
+    ensures { AppliesTo file.now (consts_of tab.now) k args.old result }
+{
+    let end = step_site(file, tab, k, args, &[], &mut []);
+    single_out(end, 1, args)
+}
+
+// The fold at `at`: the arrays, then the seed, whose records stand before theirs, then each element of the first array.
+#[cycle(evaluation)]
+fn eval_fold(
+    file: &[u8],
+    tab: &[u8],
+    at: usize,
+    level: usize,
+    frame: &Frame,
+    work: &mut [u8],
+    to: &mut [u8],
+    old: &[u8],
+    new: &mut [u8],
+) -> Step<Ending>
+    requires { CanEval file.now tab.now level 1 at frame.now old.now new.old × Works file.now frame.now.node level at (length to.old) × (get_or file.now at 0 ≡ 15) × (is_map file.now at ≡ false) × (9 * work_cells file.now frame.now.node level at ≤ length work.old) }
+    ensures { on (IteratedTo file.now (consts_of tab.now) level at) frame.now old.now result to.new new.new }
+{
+    let s = pass(file, tab, at + 4, level - 1);
+    let u = s.used;
+    let a = eval_all(
+        file,
+        tab,
+        at,
+        level - 1,
+        frame,
+        work,
+        &old[u..],
+        &mut new[u..],
+    );
+    let used = u + a.used;
+    let Ending::Values = a.out else {
+        return Step { used, ..a };
+    };
+    let k = usize::from(file[at + 2]);
+    let n = array_length(file, tab, s.next, level - 1);
+    let seed = eval(
+        file,
+        tab,
+        at + 4,
+        level - 1,
+        frame,
+        &old[..u],
+        &mut new[..u],
+    );
+    Step {
+        out: put_part(tab, None, 0, fold_from(file, tab, k, n, seed.out, work), to),
+        used,
+        ..a
+    }
+}
+
+// A fold of Function k over the n cells at the front of `array`, from the seed on.
+#[cycle(evaluation)]
+fn fold_from(file: &[u8], tab: &[u8], k: usize, n: usize, seed: Outcome, array: &[u8]) -> Outcome
+    requires { CanIterate file.now tab.now k × (length (node_in file.now k).inputs ≡ 2) × (n ≤ 32) × (9 * n ≤ length array.now) }
+    ensures { FoldTo file.now (consts_of tab.now) k n array.now seed result }
+{
+    let mut out = seed;
+    for j in 0..n {
+        let Outcome::Value(v) = out else {
+            return same_out(out);
+        };
+        let mut args = [0u8; 288];
+        write_cell(passed(tab, Some(k), 0, v), &mut args, 0);
+        write_cell(
+            passed(tab, Some(k), 1, read_cell(array, 9 * j)),
+            &mut args,
+            9,
+        );
+        out = apply(file, tab, k, &mut args);
+    }
+    same_out(out)
+}
+
+// ---- calls
 
 // The call at `at`: its arguments, and then the callee, whose outputs are left in `args`.
 #[cycle(evaluation)]
@@ -321,12 +808,12 @@ fn enter(
     at: usize,
     level: usize,
     frame: &Frame,
-    args: &mut Arguments,
+    args: &mut [u8],
     old: &[u8],
     new: &mut [u8],
 ) -> Step<Ending>
-    requires { CanEval file.now tab.now level 1 at frame.now old.now new.old × (get_or file.now at 0 ≡ 11) }
-    ensures { on (EntersTo file.now (consts_of tab.now) level at) frame.now old.now result args.new.cells new.new }
+    requires { CanEval file.now tab.now level 1 at frame.now old.now new.old × (get_or file.now at 0 ≡ 11) × (9 * callee_cells file.now (get_or file.now (at + 1) 0) ≤ length args.old) }
+    ensures { on (EntersTo file.now (consts_of tab.now) level at) frame.now old.now result args.new new.new }
 {
     let k = usize::from(file[at + 1]);
     let size = row(tab, k, SIZE);
@@ -364,7 +851,8 @@ fn callee_at(file: &[u8], at: usize) -> Option<usize>
     }
 }
 
-// The parts of the call or Tuple at `at`, left to right up to the first failure or overflow. Their values go to `to`, a call's fitted to the callee's inputs.
+// The parts of the call, Tuple, literal or map at `at`, or the arrays of the fold there, left to right up to the first failure or overflow. Their cells go to `to`, one part behind the
+// other, a call's fitted to the callee's inputs.
 #[cycle(evaluation)]
 fn eval_all(
     file: &[u8],
@@ -372,31 +860,45 @@ fn eval_all(
     at: usize,
     level: usize,
     frame: &Frame,
-    to: &mut Arguments,
+    to: &mut [u8],
     old: &[u8],
     new: &mut [u8],
 ) -> Step<Ending>
-    requires { CanEval file.now tab.now level (parts_at file.now at) (next_at file.now at) frame.now old.now new.old × Several file.now at }
-    ensures { on (AllTo file.now (consts_of tab.now) level at) frame.now old.now result to.new.cells new.new }
+    requires { CanEval file.now tab.now level (arrays_count file.now at) (arrays_start file.now at) frame.now old.now new.old × Several file.now frame.now.node level at (length to.old) }
+    ensures { on (AllTo file.now (consts_of tab.now) level at) frame.now old.now result to.new new.new }
 {
     let callee = callee_at(file, at);
-    let h = head(file, at);
+    let h = arrays_of(file, at);
     let n = h.count;
     let mut pos = h.start;
     let mut used = 0;
+    let mut q = 0;
     for i in 0..n {
-        let r = eval(file, tab, pos, level, frame, &old[used..], &mut new[used..]);
+        let m = array_length(file, tab, pos, level);
+        let r = eval_part(
+            file,
+            tab,
+            pos,
+            level,
+            frame,
+            callee,
+            i,
+            m,
+            &mut to[9 * q..],
+            &old[used..],
+            &mut new[used..],
+        );
         used += r.used;
         pos = r.next;
-        let Outcome::Value(v) = r.out else {
+        let Ending::Values = r.out else {
             let s = pass_all(file, tab, pos, level, n - i - 1);
             return Step {
-                out: end_of(r.out),
+                out: r.out,
                 next: s.next,
                 used: used + s.used,
             };
         };
-        write_cell(passed(tab, callee, i, v), &mut to.cells, 9 * i);
+        q += cells_for(m);
     }
     Step {
         out: Ending::Values,
@@ -405,52 +907,128 @@ fn eval_all(
     }
 }
 
-// A call of node k on its record: its arguments are in `args`, and its outputs are left there. It stays out of its caller: while arguments are evaluated,
-// the callee's frame takes no stack.
+// Part i at `at`, an array of m or a scalar: its cells are left at the front of `to`.
+#[cycle(evaluation)]
+#[inline(always)]
+pub fn eval_part(
+    file: &[u8],
+    tab: &[u8],
+    at: usize,
+    level: usize,
+    frame: &Frame,
+    callee: Option<usize>,
+    i: usize,
+    m: usize,
+    to: &mut [u8],
+    old: &[u8],
+    new: &mut [u8],
+) -> Step<Ending>
+    requires { CanEval file.now tab.now level 1 at frame.now old.now new.old × Part file.now callee i frame.now.node level at m (length to.old) }
+    ensures { on (PartTo file.now (consts_of tab.now) callee i level at) frame.now old.now result to.new new.new }
+{
+    if m == 0 {
+        let r = eval(file, tab, at, level, frame, old, new);
+        Step {
+            out: put_part(tab, callee, i, r.out, to),
+            next: r.next,
+            used: r.used,
+        }
+    } else {
+        let r = eval_array(file, tab, at, level, frame, to, old, new);
+        fit_part(tab, callee, i, m, to);
+        r
+    }
+}
+
+// A call of node k on its record: its arguments are in `args`, and its outputs are left there. It is run in a frame for 112 cells or, where the node has more, for 3,584.
+// It stays out of its caller: while arguments are evaluated, the callee's frame takes no stack.
 #[cycle(evaluation)]
 #[inline(never)]
 fn step_site(
     file: &[u8],
     tab: &[u8],
     k: usize,
-    args: &mut Arguments,
+    args: &mut [u8],
     old: &[u8],
     new: &mut [u8],
 ) -> Ending
-    requires { CanStep file.now tab.now k old.now new.old }
-    ensures { SiteTo file.now (consts_of tab.now) k args.old.cells old.now result args.new.cells new.new }
+    requires { CanStep file.now tab.now k args.old old.now new.old }
+    ensures { SiteTo file.now (consts_of tab.now) k args.old old.now result args.new new.new }
 {
-    let mut frame = Frame::new();
-    if NodeKind::Operator.is(row(tab, k, KIND)) {
-        step_instance(file, tab, k, args, &mut frame, old, new)
+    if cells_of(tab, k, 3) <= 112 {
+        let mut cells = [0u8; 1008];
+        step_in(file, tab, k, args, &mut cells, old, new)
     } else {
-        call_function(file, tab, k, args, &mut frame, old, new)
+        step_wide(file, tab, k, args, old, new)
     }
 }
 
-// A step of an instance of node k on its record.
+// In a frame for 3,584 cells.
+#[cycle(evaluation)]
+#[inline(never)]
+fn step_wide(
+    file: &[u8],
+    tab: &[u8],
+    k: usize,
+    args: &mut [u8],
+    old: &[u8],
+    new: &mut [u8],
+) -> Ending
+    requires { CanStep file.now tab.now k args.old old.now new.old }
+    ensures { SiteTo file.now (consts_of tab.now) k args.old old.now result args.new new.new }
+{
+    let mut cells = [0u8; 32256];
+    step_in(file, tab, k, args, &mut cells, old, new)
+}
+
+// In a frame of these cells.
+#[cycle(evaluation)]
+#[inline(always)]
+fn step_in(
+    file: &[u8],
+    tab: &[u8],
+    k: usize,
+    args: &mut [u8],
+    cells: &mut [u8],
+    old: &[u8],
+    new: &mut [u8],
+) -> Ending
+    requires { CanStep file.now tab.now k args.old old.now new.old × Wide file.now k (length cells.old) }
+    ensures { SiteTo file.now (consts_of tab.now) k args.old old.now result args.new new.new }
+{
+    if NodeKind::Operator.is(row(tab, k, KIND)) {
+        step_instance(file, tab, k, args, cells, old, new)
+    } else if cells_of(tab, k, 3) <= 112 {
+        function_112(file, tab, k, args, cells, old, new)
+    } else {
+        function_3584(file, tab, k, args, cells, old, new)
+    }
+}
+
+// A step of an instance of node k on its record. It is put into its callers: measured faster.
+#[inline(always)]
 #[cycle(evaluation)]
 fn step_instance(
     file: &[u8],
     tab: &[u8],
     k: usize,
-    args: &mut Arguments,
-    frame: &mut Frame,
+    args: &mut [u8],
+    cells: &mut [u8],
     old: &[u8],
     new: &mut [u8],
 ) -> Ending
-    requires { CanStep file.now tab.now k old.now new.old × ((node_in file.now k).kind ≡ Operator) }
-    ensures { SiteTo file.now (consts_of tab.now) k args.old.cells old.now result args.new.cells new.new }
+    requires { CanStep file.now tab.now k args.old old.now new.old × Wide file.now k (length cells.old) × ((node_in file.now k).kind ≡ Operator) }
+    ensures { SiteTo file.now (consts_of tab.now) k args.old old.now result args.new new.new }
 {
-    let n = row(tab, k, VARIABLES);
+    let n = cells_of(tab, k, 3);
     let own = 1 + 9 * n;
-    let inputs = row(tab, k, INPUTS);
-    frame.open(k, n, inputs, &args.cells, old);
-    let r = run(file, tab, frame, &old[own..], &mut new[own..]);
+    let inputs = cells_of(tab, k, 1);
+    let mut frame = Frame::open(k, n, inputs, args, old, cells);
+    let r = run(file, tab, &mut frame, &old[own..], &mut new[own..]);
     match r.end {
         Ending::Values => {
             frame.finish(n, new);
-            frame.copy_outputs(inputs, row(tab, k, OUTPUTS), &mut args.cells);
+            frame.copy_outputs(inputs, cells_of(tab, k, 2) - inputs, args);
             Ending::Values
         }
         Ending::Failed(c) => {
@@ -464,24 +1042,64 @@ fn step_instance(
     }
 }
 
+// With the cells before in an array for 112.
+#[cycle(evaluation)]
+#[inline(never)]
+fn function_112(
+    file: &[u8],
+    tab: &[u8],
+    k: usize,
+    args: &mut [u8],
+    cells: &mut [u8],
+    old: &[u8],
+    new: &mut [u8],
+) -> Ending
+    requires { CanStep file.now tab.now k args.old old.now new.old × Wide file.now k (length cells.old) × Wide file.now k 1008 × ((node_in file.now k).kind ≡ Function) }
+    ensures { SiteTo file.now (consts_of tab.now) k args.old old.now result args.new new.new }
+{
+    let mut before = [0u8; 1008];
+    call_function(file, tab, k, args, cells, &mut before, old, new)
+}
+
+// With the cells before in an array for 3584.
+#[cycle(evaluation)]
+#[inline(never)]
+fn function_3584(
+    file: &[u8],
+    tab: &[u8],
+    k: usize,
+    args: &mut [u8],
+    cells: &mut [u8],
+    old: &[u8],
+    new: &mut [u8],
+) -> Ending
+    requires { CanStep file.now tab.now k args.old old.now new.old × Wide file.now k (length cells.old) × ((node_in file.now k).kind ≡ Function) }
+    ensures { SiteTo file.now (consts_of tab.now) k args.old old.now result args.new new.new }
+{
+    let mut before = [0u8; 32256];
+    call_function(file, tab, k, args, cells, &mut before, old, new)
+}
+
 // A call of Function k: as on a fresh record, which is not kept.
 #[cycle(evaluation)]
+#[inline(always)]
 fn call_function(
     file: &[u8],
     tab: &[u8],
     k: usize,
-    args: &mut Arguments,
-    frame: &mut Frame,
+    args: &mut [u8],
+    cells: &mut [u8],
+    before: &mut [u8],
     old: &[u8],
     new: &mut [u8],
 ) -> Ending
-    requires { CanStep file.now tab.now k old.now new.old × ((node_in file.now k).kind ≡ Function) }
-    ensures { SiteTo file.now (consts_of tab.now) k args.old.cells old.now result args.new.cells new.new }
+    requires { CanStep file.now tab.now k args.old old.now new.old × Wide file.now k (length cells.old) × Wide file.now k (length before.old) × ((node_in file.now k).kind ≡ Function) }
+    ensures { SiteTo file.now (consts_of tab.now) k args.old old.now result args.new new.new }
 {
-    let inputs = row(tab, k, INPUTS);
-    frame.fresh(tab, k, inputs, &args.cells);
-    let r = run(file, tab, frame, old, new);
-    frame.copy_outputs(inputs, row(tab, k, OUTPUTS), &mut args.cells);
+    let inputs = cells_of(tab, k, 1);
+    let mut frame = Frame::fresh(tab, k, inputs, args, before, cells);
+    let r = run(file, tab, &mut frame, old, new);
+    frame.copy_outputs(inputs, cells_of(tab, k, 2) - inputs, args);
     r.end
 }
 
@@ -498,7 +1116,7 @@ pub struct Ended {
 #[cycle(evaluation)]
 pub fn run(file: &[u8], tab: &[u8], frame: &mut Frame, old: &[u8], new: &mut [u8]) -> Ended
     requires { CanRun file.now tab.now frame.old old.now new.old }
-    ensures { on (RunTo file.now (consts_of tab.now)) frame.old old.now result frame.new.cells new.new }
+    ensures { on (RunTo file.now (consts_of tab.now)) frame.old old.now result frame.new.cells.now new.new × Keeps frame.old frame.new }
 {
     let k = frame.node;
     let n = row(tab, k, COUNT);
@@ -532,50 +1150,51 @@ fn equation(
     new: &mut [u8],
 ) -> Ending
     requires { CanEquate file.now tab.now i at frame.old old.now new.old }
-    ensures { on (λ k. EquationTo file.now (consts_of tab.now) k i) frame.old old.now result frame.new.cells new.new × Keeps frame.old frame.new }
+    ensures { on (λ k. EquationTo file.now (consts_of tab.now) k i) frame.old old.now result frame.new.cells.now new.new × Keeps frame.old frame.new }
 {
     let n = usize::from(file[at]);
     let rhs = at + 1 + 2 * n;
-    match Form::at(file, rhs) {
-        Form::Call => call_equation(file, tab, at, i, frame, old, new),
-        Form::Tuple => tuple_equation(file, tab, at, i, frame, old, new),
-        _ => {
-            let r = eval(file, tab, rhs, 24, frame, old, new);
-            frame.bind_out(tab, at + 1, r.out)
-        }
+    if is_scalar(file, tab, rhs) {
+        let r = eval(file, tab, rhs, 24, frame, old, new);
+        frame.bind_out(tab, at + 1, r.out)
+    } else if rhs_cells(file, tab, frame.node, i, at) <= 32 {
+        equation_32(file, tab, at, i, frame, old, new)
+    } else {
+        equation_1024(file, tab, at, i, frame, old, new)
     }
 }
 
-// An equation whose right side is a call: its outputs are bound.
-#[cycle(evaluation)]
-fn call_equation(
-    file: &[u8],
-    tab: &[u8],
-    at: usize,
-    i: usize,
-    frame: &mut Frame,
-    old: &[u8],
-    new: &mut [u8],
-) -> Ending
-    requires { CanEquate file.now tab.now i at frame.old old.now new.old × RhsCode file.now at 11 }
-    ensures { on (λ k. EquationTo file.now (consts_of tab.now) k i) frame.old old.now result frame.new.cells new.new × Keeps frame.old frame.new }
+// Whether the right side at `rhs` is evaluated as a scalar: it is no call, no Tuple and no array.
+fn is_scalar(file: &[u8], tab: &[u8], rhs: usize) -> bool
+    requires { Planned file.now (tab_of tab.now) (rows_of tab.now) (consts_of tab.now) 24 rhs }
+    ensures { (node : ℕ) → Plan file.now (tab_of tab.now) (rows_of tab.now) (consts_of tab.now) node 24 1 rhs → result ≡ scalar_rhs file.now node rhs }
 {
-    let n = usize::from(file[at]);
-    let rhs = at + 1 + 2 * n;
-    let mut args = Arguments::new();
-    let r = enter(file, tab, rhs, 24, frame, &mut args, old, new);
-    let Ending::Values = r.out else {
-        return r.out;
-    };
-    let c = usize::from(file[rhs + 1]);
-    let m = n.min(row(tab, c, OUTPUTS));
-    frame.bind(tab, at + 1, m, &args.cells);
-    Ending::Values
+    match Form::at(file, rhs) {
+        Form::Call | Form::Tuple => false,
+        _ => array_length(file, tab, rhs, 24) == 0,
+    }
 }
 
-// An equation whose right side is a Tuple: its items are bound once all have succeeded. It differs from a call in what is run, in what it leaves and in how many values that are: each has its own lemmas, and one function of both would take them all.
+// How many cells the right side of equation i of node k takes, which stands at `at`: its names' cells, and a call's arguments.
+fn rhs_cells(file: &[u8], tab: &[u8], k: usize, i: usize, at: usize) -> usize
+    requires { EquationPlan file.now (tab_of tab.now) (rows_of tab.now) (consts_of tab.now) k i × (k < nodes_in file.now) × (at ≡ place_in file.now k i) }
+    ensures { result ≡ equation_cells file.now (tab_of tab.now) k i }
+{
+    let n = usize::from(file[at]);
+    let rhs = at + 1 + 2 * n;
+    match callee_at(file, rhs) {
+        Some(c) => {
+            let inputs = cells_of(tab, c, 1);
+            inputs.max(cells_of(tab, c, 2) - inputs)
+        }
+        None => named_cells(tab, k, at + 1, n),
+    }
+}
+
+// With an array for 32 cells. It is put into its callers: measured faster.
 #[cycle(evaluation)]
-fn tuple_equation(
+#[inline(always)]
+fn equation_32(
     file: &[u8],
     tab: &[u8],
     at: usize,
@@ -584,17 +1203,58 @@ fn tuple_equation(
     old: &[u8],
     new: &mut [u8],
 ) -> Ending
-    requires { CanEquate file.now tab.now i at frame.old old.now new.old × RhsCode file.now at 12 }
-    ensures { on (λ k. EquationTo file.now (consts_of tab.now) k i) frame.old old.now result frame.new.cells new.new × Keeps frame.old frame.new }
+    requires { CanEquate file.now tab.now i at frame.old old.now new.old × (scalar_rhs file.now frame.old.node (rhs_in file.now frame.old.node i) ≡ false) × (equation_cells file.now (tab_of tab.now) frame.old.node i ≤ 32) }
+    ensures { on (λ k. EquationTo file.now (consts_of tab.now) k i) frame.old old.now result frame.new.cells.now new.new × Keeps frame.old frame.new }
+{
+    let mut work = [0u8; 288];
+    equation_in(file, tab, at, i, frame, &mut work, old, new)
+}
+
+// With an array for 1024 cells.
+#[cycle(evaluation)]
+#[inline(never)]
+fn equation_1024(
+    file: &[u8],
+    tab: &[u8],
+    at: usize,
+    i: usize,
+    frame: &mut Frame,
+    old: &[u8],
+    new: &mut [u8],
+) -> Ending
+    requires { CanEquate file.now tab.now i at frame.old old.now new.old × (scalar_rhs file.now frame.old.node (rhs_in file.now frame.old.node i) ≡ false) × (equation_cells file.now (tab_of tab.now) frame.old.node i ≤ 1024) }
+    ensures { on (λ k. EquationTo file.now (consts_of tab.now) k i) frame.old old.now result frame.new.cells.now new.new × Keeps frame.old frame.new }
+{
+    let mut work = [0u8; 9216];
+    equation_in(file, tab, at, i, frame, &mut work, old, new)
+}
+
+// An equation whose right side is a call, a Tuple or an array: its cells are evaluated into `work`, and once all have succeeded they are bound.
+#[cycle(evaluation)]
+#[inline(always)]
+fn equation_in(
+    file: &[u8],
+    tab: &[u8],
+    at: usize,
+    i: usize,
+    frame: &mut Frame,
+    work: &mut [u8],
+    old: &[u8],
+    new: &mut [u8],
+) -> Ending
+    requires { CanEquate file.now tab.now i at frame.old old.now new.old × (scalar_rhs file.now frame.old.node (rhs_in file.now frame.old.node i) ≡ false) × (9 * equation_cells file.now (tab_of tab.now) frame.old.node i ≤ length work.old) }
+    ensures { on (λ k. EquationTo file.now (consts_of tab.now) k i) frame.old old.now result frame.new.cells.now new.new × Keeps frame.old frame.new }
 {
     let n = usize::from(file[at]);
     let rhs = at + 1 + 2 * n;
-    let mut items = Arguments::new();
-    let r = eval_all(file, tab, rhs, 23, frame, &mut items, old, new);
+    let r = match Form::at(file, rhs) {
+        Form::Call => enter(file, tab, rhs, 24, frame, work, old, new),
+        Form::Tuple => eval_all(file, tab, rhs, 23, frame, work, old, new),
+        _ => eval_array(file, tab, rhs, 24, frame, work, old, new),
+    };
     let Ending::Values = r.out else {
         return r.out;
     };
-    let m = n.min(usize::from(file[rhs + 1]));
-    frame.bind(tab, at + 1, m, &items.cells);
+    frame.bind(tab, at + 1, n, work);
     Ending::Values
 }

@@ -10,7 +10,7 @@ use lib.Seq.{take_at, drop_at, drop-drop, take_all}
 use Rattle.ol_spec.specs.Cell.{cell, cells, value_of, values_of}
 use Rattle.ol_spec.specs.declared.Value.{Value}
 use Rattle.ol_spec.proofs.Cells.{length_cells}
-use Rattle.ol_spec.proofs.Runs.{length_values}
+use Rattle.ol_spec.proofs.CellLengths.{length_values}
 
 -- as many are copied as both have
 pub bytes_copied : (i : ℕ) (from to₀ to : List ℕ) → to ≡ take i from ++ drop i to₀ → i ≡ min (length from) (length to₀) → to ≡ take (length to₀) from ++ drop (length from) to₀

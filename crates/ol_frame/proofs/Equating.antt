@@ -1,13 +1,13 @@
 -- Laws of a node's equations: where the records of each start, and what its plan tells.
 use Prim.Native.Nat.{ℕ, suc, ◌+◌, ◌*◌, ◌<◌, ◌≤◌}
-use mathlib.Core.Bool.{cond}
+use mathlib.Core.Bool.{Bool, true, false, ◌&&◌, cond}
 use mathlib.Core.List.{List, [], map}
 use mathlib.Core.Logic.{by_cases}
-use mathlib.Core.Path.{◌≡◌, sym, ap, ◌∙◌}
+use mathlib.Core.Path.{◌≡◌, refl, sym, ap, ◌∙◌}
 use native.Mathlib.Decide.{dec_lt}
 use native.Mathlib.Omega.{arith}
-use borrow.Author.Tests.{lt-ltb, le-ltb}
-use lib.Dec.{ltb}
+use borrow.Author.Tests.{lt-ltb, le-ltb, ne_eqb}
+use lib.Dec.{ltb, eqb}
 use lib.ListN.{get_or, get_or-map}
 use lib.Seq.{get_or-drop, take_all}
 use Rattle.ol_spec.specs.Lists.{concat}
@@ -19,7 +19,9 @@ use Rattle.ol_tables.specs.Table.{tab_of, rows_of}
 use Rattle.ol_tables.proofs.TableLaws.{rows_get}
 use Rattle.ol_tables.specs.Tables.{place_of, row_at, two_at, plans_from, plans_of, plan_in}
 use Rattle.ol_frame.specs.Walk.{nodes_in, sizes_in}
-use Rattle.ol_frame.specs.Equations.{count_in, place_in, equation_in, offset_in, records_in, plan_at, EquationIs}
+use Rattle.ol_frame.specs.Equations.{count_in, place_in, equation_in, offset_in, records_in, plan_at, EquationIs, is_fold, arrays_count, arrays_start}
+use Rattle.ol_tables.specs.Heads.{parts_at, next_at}
+use Rattle.ol_tables.specs.Walks.{skip_at}
 use Rattle.ol_frame.specs.Nodes.{Running}
 use Rattle.ol_frame.specs.Plans.{globals_in}
 use Rattle.ol_frame.proofs.Running.{offset_next, offset_total}
@@ -50,9 +52,9 @@ module _ (t : List ℕ) {file consts : List ℕ} {k : ℕ} (r : Running file (ta
   two_is x =
       let w = r.program.sized.table.rows_of k b in
       let y = plan_in (file_at file) k + x in
-      let e : plan_at t k + x ≡ 1393 + (plans_from (tab_of t) + y) = omega (arith, w.place, w.variables) in
-      let at : (j : ℕ) → get_or t (1393 + (plans_from (tab_of t) + j)) 0 ≡ get_or (plans_of (tab_of t)) j 0 = λ j. sym (get_or-drop (plans_from (tab_of t)) (tab_of t) j 0 ∙ get_or-drop 1393 t (plans_from (tab_of t) + j) 0) in
-      let f : plan_at t k + x + 1 ≡ 1393 + (plans_from (tab_of t) + (y + 1)) = omega (arith, e) in
+      let e : plan_at t k + x ≡ 1394 + (plans_from (tab_of t) + y) = omega (arith, w.place, w.variables) in
+      let at : (j : ℕ) → get_or t (1394 + (plans_from (tab_of t) + j)) 0 ≡ get_or (plans_of (tab_of t)) j 0 = λ j. sym (get_or-drop (plans_from (tab_of t)) (tab_of t) j 0 ∙ get_or-drop 1394 t (plans_from (tab_of t) + j) 0) in
+      let f : plan_at t k + x + 1 ≡ 1394 + (plans_from (tab_of t) + (y + 1)) = omega (arith, e) in
       λ j. (ap (λ n. get_or t n 0) e ∙ at y) j * 256 + (ap (λ n. get_or t n 0) f ∙ at (y + 1)) j
 
   place_told : (i : ℕ) → i < count_in file k → two_at t (plan_at t k + 2 * i) ≡ place_in file k i
@@ -81,3 +83,24 @@ module _ (t : List ℕ) {file consts : List ℕ} {k : ℕ} (r : Running file (ta
         starts = a_is ∙ ap (λ q. cond (ltb i n) (two_at t (q + 2 * n + 2 * i)) total) p ∙ offset_told total n i e small m;
         ends = let s : i + 1 ≡ suc i = omega arith in z-is ∙ ap (λ q. cond (ltb (i + 1) n) (two_at t (q + 2 * n + 2 * (i + 1))) total) p ∙ offset_told total n (i + 1) e small m ∙ ap (offset_in file k) s;
       }
+
+-- ---- the parts that are evaluated one after the other
+
+module _ (s : List ℕ) (at : ℕ) where
+  parts_by : (b : Bool) → is_fold s at ≡ b → (arrays_count s at ≡ cond b (get_or s (at + 3) 0) (parts_at s at)) × (arrays_start s at ≡ cond b (skip_at s 1 (next_at s at)) (next_at s at))
+  parts_by b e = (ap (λ t. cond t (get_or s (at + 3) 0) (parts_at s at)) e, ap (λ t. cond t (skip_at s 1 (next_at s at)) (next_at s at)) e)
+
+  -- a fold's are its arrays
+  pub fold_arrays : get_or s at 0 ≡ 15 → get_or s (at + 1) 0 ≡ 1 → (arrays_count s at ≡ get_or s (at + 3) 0) × (arrays_start s at ≡ skip_at s 1 (next_at s at))
+  fold_arrays e f = parts_by true (λ i. eqb (e i) 15 && eqb (f i) 1)
+
+  -- a map's are all of them, as another form's
+  pub map_arrays : ¬ (get_or s (at + 1) 0 ≡ 1) → (arrays_count s at ≡ parts_at s at) × (arrays_start s at ≡ next_at s at)
+  map_arrays h = parts_by false (ap (λ b. eqb (get_or s at 0) 15 && b) (ne_eqb (get_or s (at + 1) 0) 1 h) ∙ no_and (eqb (get_or s at 0) 15))
+    where
+      no_and : (a : Bool) → a && false ≡ false
+      no_and true = refl
+      no_and false = refl
+
+  pub other_arrays : ¬ (get_or s at 0 ≡ 15) → (arrays_count s at ≡ parts_at s at) × (arrays_start s at ≡ next_at s at)
+  other_arrays h = parts_by false (ap (λ b. b && eqb (get_or s (at + 1) 0) 1) (ne_eqb (get_or s at 0) 15 h))

@@ -33,7 +33,7 @@ or_false true = refl
 or_false false = refl
 
 -- the codes of a literal and a Var are below 5
-pub low_code : {code : ℕ} {form : Form} → min code 12 ≡ code_of_form form → (form ≡ Frm.Bool) ⊎ ((form ≡ Frm.Int) ⊎ ((form ≡ Frm.Float) ⊎ ((form ≡ Frm.Char) ⊎ (form ≡ Frm.Var)))) → code < 5
+pub low_code : {code : ℕ} {form : Form} → min code 15 ≡ code_of_form form → (form ≡ Frm.Bool) ⊎ ((form ≡ Frm.Int) ⊎ ((form ≡ Frm.Float) ⊎ ((form ≡ Frm.Char) ⊎ (form ≡ Frm.Var)))) → code < 5
 low_code {code} {form} h =
     ⊎_elim (λ e. low Frm.Bool (omega arith) e) (⊎_elim (λ e. low Frm.Int (omega arith) e) (⊎_elim (λ e. low Frm.Float (omega arith) e) (⊎_elim (λ e. low Frm.Char (omega arith) e) (λ e. low Frm.Var (omega arith) e))))
   where
@@ -59,7 +59,8 @@ module _ (s : List ℕ) where
   only_head level at h =
       by_form s (λ c e. c < 5 → (expr_size e ≡ head_of e) × (callees e ≡ [])) (λ b l. (refl, refl)) (λ i l. (refl, refl)) (λ b l. (refl, refl)) (λ c l. (refl, refl)) (λ x l. (refl, refl))
       (λ op e l. absurd (omega arith)) (λ op a b l. absurd (omega arith)) (λ c t e l. absurd (omega arith)) (λ e l. absurd (omega arith)) (λ a b l. absurd (omega arith)) (λ t e l. absurd (omega arith))
-      (λ k es l. absurd (omega arith)) (λ es l. absurd (omega arith)) level at h
+      (λ k es l. absurd (omega arith)) (λ es l. absurd (omega arith)) (λ a i l. absurd (omega arith)) (λ es l. absurd (omega arith)) (λ k es l. absurd (omega arith))
+      (λ k e es l. absurd (omega arith)) level at h
 
   -- they are passed over with their heads
   pub head_passed : {rows : List ℕ} {level at : ℕ} {r : Parts} → Passable s rows level 1 at → get_or s at 0 < 5 → HeadOf s at r → SkipsTo s level 1 at (record { next = r.start; used = 0; has = false })

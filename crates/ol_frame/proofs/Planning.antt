@@ -1,26 +1,30 @@
 -- Laws of plans: the parts of what can be evaluated can be evaluated.
 use Prim.Native.Nat.{ℕ, suc, ◌+◌, ◌-◌, ◌<◌, ◌≤◌, min}
 use mathlib.Core.Bool.{false, ◌&&◌}
-use mathlib.Core.List.{List, [], ◌++◌, append-nil}
-use mathlib.Core.Path.{◌≡◌, sym, ap, subst, ◌∙◌}
+use mathlib.Core.List.{List, [], ◌++◌, append-nil, ◌∷◌}
+use mathlib.Core.Path.{◌≡◌, sym, ap, subst, ◌∙◌, refl}
 use native.Mathlib.Omega.{arith}
 use lib.ListN.{length, get_or}
 use lib.Dec.{T, ltb, eqb, ltb→lt, eqb→eq}
-use Rattle.ol_spec.specs.Syntax.{File, Node, Expr, bool_lit, int_lit, float_lit, char_lit, var, unary, binary, if_then_else, pre, arrow, cast, call, tuple, Exprs, nil, cons, count}
+use Rattle.ol_spec.specs.Syntax.{File, Node, Expr, bool_lit, int_lit, float_lit, char_lit, var, unary, binary, if_then_else, pre, arrow, cast, call, tuple, index, literal, map_over, fold_over}
+use Rattle.ol_spec.specs.Syntax.{Exprs, nil, cons, count, variables}
 use Rattle.ol_spec.specs.Places.{collect, collect_all, expr_size}
 use Rattle.ol_spec.specs.Eval.{callees, callees_all, sites_size}
-use Rattle.ol_spec.specs.Admission.{Item, used_at, calls_where, bad_call, may_call, callee_in}
+use Rattle.ol_spec.specs.Admission.{Item, used_at, uses_where, bad_call, bad_iterator, may_call, callee_in}
 use Rattle.ol_spec.proofs.Tests.{T_and, not_false}
 use Rattle.ol_spec.proofs.Segments.{sites_append}
 use Rattle.ol_tables.specs.At.{file_at, node_in, expr_at, end_at, exprs_at, Reads, ReadsAll}
 use Rattle.ol_tables.specs.Tables.{Each, Sound}
 use Rattle.ol_tables.specs.Heads.{head_size as head_of}
 use Rattle.ol_tables.specs.Parts.{own_sites}
-use Rattle.ol_tables.proofs.Forms.{each_append, each_join, each_map, Formed, some_code, parted, one_read, none_read, collected, collected_form, callees_all_lem, callees_form, var_form, pre_form, call_form}
+use Rattle.ol_tables.proofs.Forms.{each_append, each_join, each_map, Formed, some_code, parted, one_read, none_read, collected, collected_form, callees_all_lem, callees_form, var_form, pre_form, call_form, map_form, fold_form}
 use Rattle.ol_tables.specs.declared.form.Form.{Form}
 use Rattle.ol_tables.specs.FormCodes.{code_of_form}
 use Rattle.ol_tables.proofs.FormLaws.{code_is}
 use Rattle.ol_frame.specs.Walk.{nodes_in, sizes_in, Below, Passable}
+use Rattle.ol_frame.specs.Shapes.{Suited, head_item}
+use Rattle.ol_spec.specs.Shapes.{arrays_in}
+use Rattle.ol_frame.proofs.Programs.{narrow, known_few}
 use Rattle.ol_frame.specs.Plans.{Named, Plan, segs_at, seg_at, name_at, Nameable, Looked}
 use Rattle.ol_frame.proofs.Passing.{callees_one}
 
@@ -39,7 +43,7 @@ sound_call f k n c m h =
 
 module _ (f : File) (k : ℕ) (n : Node) (P : ℕ → Type 0) (is : (c m : ℕ) → bad_call f k n c m ≡ false → P c) where
   abbrev items : ℕ → Expr → List Item
-  items = calls_where (bad_call f k n)
+  items = uses_where (bad_call f k n) (bad_iterator k)
 
   mutual
     unfolding collect
@@ -69,6 +73,14 @@ module _ (f : File) (k : ℕ) (n : Node) (P : ℕ → Type 0) (is : (c m : ℕ) 
     sound_each at (cast t e) h = sound_each _ e h
     sound_each at (call c es) h = (is c (count es) h.0, sounds_each (at + 3) es h.1)
     sound_each at (tuple es) h = sounds_each (at + 2) es h
+    sound_each at (index a i) h =
+        let t = each_append Sound (collect items (at + 1) a) (collect items (at + 1 + expr_size a) i) h in
+        each_join P (callees a) (callees i) (sound_each _ a t.0) (sound_each _ i t.1)
+    sound_each at (literal es) h = sounds_each (at + 2) es h
+    sound_each at (map_over c es) h = sounds_each (at + 4) es h.1
+    sound_each at (fold_over c e es) h =
+        let t = each_append Sound (collect items (at + 4) e) (collect_all items (at + 4 + expr_size e) es) h.1 in
+        each_join P (callees e) (callees_all es) (sound_each _ e t.0) (sounds_each _ es t.1)
 
     pub sounds_each : (at : ℕ) (es : Exprs) → Each Sound (collect_all items at es) → Each P (callees_all es)
     sounds_each at nil h = tt
@@ -77,7 +89,7 @@ module _ (f : File) (k : ℕ) (n : Node) (P : ℕ → Type 0) (is : (c m : ℕ) 
         each_join P (callees e) (callees_all es) (sound_each at e t.0) (sounds_each _ es t.1)
 
 -- they are of lower numbers
-pub sounds_below : (f : File) (k : ℕ) (n : Node) (at : ℕ) (es : Exprs) → Each Sound (collect_all (calls_where (bad_call f k n)) at es) → Each (Below k) (callees_all es)
+pub sounds_below : (f : File) (k : ℕ) (n : Node) (at : ℕ) (es : Exprs) → Each Sound (collect_all (uses_where (bad_call f k n) (bad_iterator k)) at es) → Each (Below k) (callees_all es)
 sounds_below f k n at es h = sounds_each f k n (Below k) (λ c m b. (sound_call f k n c m b).lower) at es h
 
 module _ (s : List ℕ) where
@@ -88,7 +100,11 @@ module _ (s : List ℕ) where
 
   -- the calls in an expression of node's scope
   abbrev calls_in : ℕ → ℕ → Expr → List Item
-  calls_in node = calls_where (bad_call (file_at s) node (node_in s node))
+  calls_in node = uses_where (bad_call (file_at s) node (node_in s node)) (bad_iterator node)
+
+  -- what each head suits
+  abbrev SuitedIn : ℕ → Expr → Type 0
+  SuitedIn node = Suited (file_at s) (arrays_in (variables (node_in s node)))
 
   -- what is collected from one expression, by its form
   form_collected : {B : Type 0} (g : ℕ → Expr → List B) {level at n : ℕ} {t : Expr} → ReadsAll s level 1 at → Formed s level at t n → collect_all g at (exprs_at s level 1 at) ≡ g at t ++ collect_all g (at + head_of t) (exprs_at s (level - 1) n (at + head_of t))
@@ -99,7 +115,7 @@ module _ (s : List ℕ) where
     plan_head {level} {n} {at} p = (parted s level n at p.reads).head
 
     -- the code that was read as a form
-    pub plan_form : {level at : ℕ} {form : Form} → Plan s tab rows consts node level 1 at → (g : Form) → min (get_or s at 0) 12 ≡ code_of_form form → form ≡ g → get_or s at 0 ≡ code_of_form g
+    pub plan_form : {level at : ℕ} {form : Form} → Plan s tab rows consts node level 1 at → (g : Form) → min (get_or s at 0) 15 ≡ code_of_form form → form ≡ g → get_or s at 0 ≡ code_of_form g
     plan_form {level} {at} p g h e = code_is g (some_code s level at (plan_head p)) h e
 
     pub plan_first : {level n at : ℕ} → Plan s tab rows consts node level (suc n) at → Plan s tab rows consts node level 1 at
@@ -114,6 +130,7 @@ module _ (s : List ℕ) where
           reads = r;
           named = subst (Each (Named s tab consts node)) (sym (one_collected used_at level at r)) (each_append (Named s tab consts node) (collect used_at at (expr_at s level at)) (collect_all used_at (end_at s level at) rest) (subst (Each (Named s tab consts node)) (collected s used_at level n at p.reads) p.named)).0;
           sound = subst (Each Sound) (sym (one_collected (calls_in node) level at r)) (each_append Sound (collect (calls_in node) at (expr_at s level at)) (collect_all (calls_in node) (end_at s level at) rest) (subst (Each Sound) (collected s (calls_in node) level n at p.reads) p.sound)).0;
+          suited = subst (Each (SuitedIn node)) (sym (one_collected head_item level at r)) (each_append (SuitedIn node) (collect head_item at (expr_at s level at)) (collect_all head_item (end_at s level at) rest) (subst (Each (SuitedIn node)) (collected s head_item level n at p.reads) p.suited)).0;
         }
 
     pub plan_rest : {level n at : ℕ} → Plan s tab rows consts node level (suc n) at → Plan s tab rows consts node level n (end_at s level at)
@@ -128,6 +145,7 @@ module _ (s : List ℕ) where
           reads = t.tail;
           named = (each_append (Named s tab consts node) (collect used_at at (expr_at s level at)) (collect_all used_at (end_at s level at) rest) (subst (Each (Named s tab consts node)) (collected s used_at level n at p.reads) p.named)).1;
           sound = (each_append Sound (collect (calls_in node) at (expr_at s level at)) (collect_all (calls_in node) (end_at s level at) rest) (subst (Each Sound) (collected s (calls_in node) level n at p.reads) p.sound)).1;
+          suited = (each_append (SuitedIn node) (collect head_item at (expr_at s level at)) (collect_all head_item (end_at s level at) rest) (subst (Each (SuitedIn node)) (collected s head_item level n at p.reads) p.suited)).1;
         }
 
     pub plan_parts : {level at n : ℕ} {t : Expr} → Plan s tab rows consts node level 1 at → Formed s level at t n → Plan s tab rows consts node (level - 1) n (at + head_of t)
@@ -141,7 +159,13 @@ module _ (s : List ℕ) where
           reads = f.read;
           named = (each_append (Named s tab consts node) (used_at at t) (collect_all used_at (at + head_of t) rest) (subst (Each (Named s tab consts node)) (form_collected used_at p.reads f) p.named)).1;
           sound = (each_append Sound ((calls_in node) at t) (collect_all (calls_in node) (at + head_of t) rest) (subst (Each Sound) (form_collected (calls_in node) p.reads f) p.sound)).1;
+          suited = (each_append (SuitedIn node) (head_item at t) (collect_all head_item (at + head_of t) rest) (subst (Each (SuitedIn node)) (form_collected head_item p.reads f) p.suited)).1;
         }
+
+    -- its parts suit its head
+    pub plan_suited : {level at n : ℕ} {t : Expr} → Plan s tab rows consts node level 1 at → Formed s level at t n → SuitedIn node t
+    plan_suited {level} {at} {n} {t} p f =
+        (each_append (SuitedIn node) (head_item at t) (collect_all head_item (at + head_of t) (exprs_at s (level - 1) n (at + head_of t))) (subst (Each (SuitedIn node)) (form_collected head_item p.reads f) p.suited)).0.0
 
     -- a Var's name can be looked up
     pub plan_name : {level at : ℕ} → Plan s tab rows consts node level 1 at → get_or s at 0 ≡ 4 → Nameable s tab consts node (at + 1)
@@ -151,8 +175,8 @@ module _ (s : List ℕ) where
         record {
           inside = omega (arith, f.inside);
           long = p.program.table.long;
-          width = p.program.width node;
-          known = p.known;
+          width = narrow p.program node;
+          known = known_few p.program p.known;
           named = q.0;
         }
 
@@ -168,6 +192,18 @@ module _ (s : List ℕ) where
         let t = call (get_or s (at + 1) 0) (exprs_at s (level - 1) (get_or s (at + 2) 0) (at + 3)) in
         let q = (each_append Sound ((calls_in node) at t) (collect_all (calls_in node) (at + 3) (exprs_at s (level - 1) (get_or s (at + 2) 0) (at + 3))) (subst (Each Sound) (form_collected (calls_in node) p.reads f) p.sound)).0 in
         sound_call (file_at s) node (node_in s node) (get_or s (at + 1) 0) _ q.0
+
+    -- an iterated node is of a lower number
+    iterated : {level at n : ℕ} (c : ℕ) (t : Expr) (es : Exprs) → Plan s tab rows consts node level 1 at → Formed s level at t n → calls_in node at t ≡ (at, bad_iterator node c) ∷ [] → c < node
+    iterated {level} {at} {n} c t es p f e =
+        let q = (each_append Sound (calls_in node at t) (collect_all (calls_in node) (at + head_of t) (exprs_at s (level - 1) n (at + head_of t))) (subst (Each Sound) (form_collected (calls_in node) p.reads f) p.sound)).0 in
+        ltb→lt c node (not_false (ltb c node) (subst (Each Sound) e q).0)
+
+    pub plan_map : {level at : ℕ} → Plan s tab rows consts node level 1 at → get_or s at 0 ≡ 15 → get_or s (at + 1) 0 ≡ 0 → get_or s (at + 2) 0 < node
+    plan_map {level} {at} p e z = iterated (get_or s (at + 2) 0) _ nil p (map_form s level at (plan_head p) e z).0 refl
+
+    pub plan_fold : {level at : ℕ} → Plan s tab rows consts node level 1 at → get_or s at 0 ≡ 15 → get_or s (at + 1) 0 ≡ 1 → get_or s (at + 2) 0 < node
+    plan_fold {level} {at} p e z = iterated (get_or s (at + 2) 0) _ nil p (fold_form s level at (plan_head p) e z).0 refl
 
     -- what can be evaluated can be passed over
     pub plan_passable : {level n at : ℕ} → Plan s tab rows consts node level n at → segs_at s level n at ≤ 32768 → Passable s rows level n at

@@ -1,8 +1,10 @@
+pub mod Arrays
 pub mod Equations
 pub mod Frame
 pub mod Nodes
 pub mod Outcomes
 pub mod Plans
+pub mod Shapes
 pub mod Slots
 pub mod Stores
 pub mod Walk

@@ -37,6 +37,12 @@ ThenBy P (Out.Value v) r = P v r
 ThenBy P (Out.Failure c) r = r ≡ Out.Failure c
 ThenBy P Out.Overflow r = r ≡ Out.Overflow
 
+-- what comes of cells that ended so: an outcome where there are values, or else how they ended
+abbrev pub ended_out : Ending → Outcome → Outcome
+ended_out End.Values o = o
+ended_out (End.Failed c) o = Out.Failure c
+ended_out End.Overflowed o = Out.Overflow
+
 -- two operands, of which the second counts where the first has a value
 abbrev pub binary_out : ℕ → Outcome → Outcome → Outcome
 binary_out op (Out.Value v) r = then_out (binary_by op v) r

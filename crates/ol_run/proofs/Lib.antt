@@ -1,8 +1,11 @@
 pub mod Admitted
 pub mod AdmittedConstants
 pub mod Constant
+pub mod Inside
 pub mod MainCycle
 pub mod Placing
 pub mod Seen
 pub mod Standing
+pub mod Suits
 pub mod Tabled
+pub mod Telling

@@ -8,7 +8,7 @@ use native.Mathlib.Omega.{arith}
 use lib.ListN.{length, take, drop, drop_of_length-le}
 use Rattle.ol_theory.specs.Member.{◌∈◌}
 use Rattle.ol_spec.specs.Lists.{concat}
-use Rattle.ol_spec.specs.Syntax.{NodeKind, Function, Operator, Imported, Node, File, variables, main}
+use Rattle.ol_spec.specs.Syntax.{NodeKind, Function, Operator, Imported, Node, File, variables, cell_types, main}
 use Rattle.ol_spec.specs.Cell.{cells}
 use Rattle.ol_spec.specs.Types.{defaults}
 use Rattle.ol_spec.specs.Eval.{Globals, node_at}
@@ -17,11 +17,11 @@ use Rattle.ol_spec.specs.State.{globals_of, fresh_state}
 use Rattle.ol_spec.specs.declared.Value.{Value}
 use Rattle.ol_tables.specs.Tables.{row_at, node_of, size_cap}
 use Rattle.ol_state.specs.Known.{Known, Sited}
-use Rattle.ol_state.specs.Defaults.{cells_at}
+use Rattle.ol_state.specs.Defaults.{own_count, own_cells}
 use Rattle.ol_state.proofs.DefaultCells.{length_cells_at}
 use Rattle.ol_state.proofs.Filling.{Filling, put_part, fill_none, fill_at, fill_left, fill_more, fill_part, fill_done}
 use Rattle.ol_state.specs.Ahead.{ahead}
-use Rattle.ol_state.proofs.Instances.{Rest, Turn, sites_start, rest_start, next_turn, default_cells, own_room, is_operator_lem, no_operator, no_size_lem, all_used, part_long, main_is}
+use Rattle.ol_state.proofs.Instances.{Rest, Turn, sites_start, rest_start, next_turn, default_cells_lem, own_room, is_operator_lem, no_operator, no_size_lem, all_used, part_long, main_is}
 
 map_same : (p p' : ℕ → List ℕ) (ks : List ℕ) → ((c : ℕ) → c ∈ ks → p c ≡ p' c) → concat (map p ks) ≡ concat (map p' ks)
 map_same p p' [] h = refl
@@ -33,7 +33,7 @@ module _ (f : File) (vs : List Value) (lower : (k c : ℕ) → c ∈ sites (node
 
   fresh_by_same : (t : NodeKind) (p p' : ℕ → List ℕ) (n : Node) → ((c : ℕ) → c ∈ sites n → p c ≡ p' c) → fresh_by g t p n ≡ fresh_by g t p' n
   fresh_by_same Function p p' n h = refl
-  fresh_by_same Operator p p' n h = ap (λ l. 0 ∷ cells (defaults f.enums (variables n)) ++ l) (map_same p p' (sites n) h)
+  fresh_by_same Operator p p' n h = ap (λ l. 0 ∷ cells (defaults f.enums (cell_types (variables n))) ++ l) (map_same p p' (sites n) h)
   fresh_by_same Imported p p' n h = refl
 
   fresh_stable : (d d' k : ℕ) → k < d → k < d' → fresh_at g d k ≡ fresh_at g d' k
@@ -76,13 +76,13 @@ module _ {f : File} {s tab rows : List ℕ} {k : ℕ} {out₀ : List ℕ} (h : S
       go Imported q = refl
 
   -- the started byte and the cells are written
-  pub own_fresh : {out : List ℕ} → row_at rows k 0 ≡ 1 → 1 + 9 * row_at rows k 4 ≤ length out₀ → out ≡ 0 ∷ cells_at tab rows k 0 (row_at rows k 4) ++ drop (1 + 9 * row_at rows k 4) out₀ → (vs : List Value) → Filling (fresh_of f vs k) out₀ (1 + 9 * row_at rows k 4) out (fresh_all f vs (sites (node_of f k)))
+  pub own_fresh : {out : List ℕ} → row_at rows k 0 ≡ 1 → 1 + 9 * own_count tab rows k ≤ length out₀ → out ≡ 0 ∷ own_cells tab rows k ++ drop (1 + 9 * own_count tab rows k) out₀ → (vs : List Value) → Filling (fresh_of f vs k) out₀ (1 + 9 * own_count tab rows k) out (fresh_all f vs (sites (node_of f k)))
   own_fresh {out} o room e vs =
-      let n = 9 * row_at rows k 4 in
-      let c = cells_at tab rows k 0 (row_at rows k 4) in
+      let n = 9 * own_count tab rows k in
+      let c = own_cells tab rows k in
       let z : 0 + (1 + n) ≡ 1 + n = omega arith in
       let w : fresh_of f vs k ≡ 0 ∷ c ++ fresh_all f vs (sites (node_of f k)) =
-      fresh_record_lem f vs h.known.lower k h.below (is_operator_lem h.known h.below o) ∙ ap (λ l. 0 ∷ l ++ fresh_all f vs (sites (node_of f k))) (sym (default_cells h.known h.below)) in
+      fresh_record_lem f vs h.known.lower k h.below (is_operator_lem h.known h.below o) ∙ ap (λ l. 0 ∷ l ++ fresh_all f vs (sites (node_of f k))) (sym (default_cells_lem h.known h.below)) in
       fill_at z (fill_more (0 ∷ c) _ (1 + n) (omega (arith, length_cells_at tab rows k 0 (row_at rows k 4))) (omega arith) out e (fill_left w fill_none))
 
 -- Of node k's record, which is all of `base`, the part up to `used` is written; call sites of these nodes are left.
@@ -91,10 +91,10 @@ pub record Going (f : File) (k : ℕ) (base : List ℕ) (used : ℕ) (out cs : L
   pub small : length base ≤ size_cap
   pub filled : (vs : List Value) → Filling (fresh_of f vs k) base used out (fresh_all f vs cs)
 
-pub going_start : {f : File} {s tab rows : List ℕ} {k : ℕ} {out₀ : List ℕ} (h : Sited f s tab rows k out₀) {out cs : List ℕ} {n : ℕ} → row_at rows k 0 ≡ 1 → n ≡ row_at rows k 4 → cs ≡ ahead s (row_at rows k 1) (row_at rows k 5) 0 → out ≡ 0 ∷ cells_at tab rows k 0 (row_at rows k 4) ++ drop (1 + 9 * row_at rows k 4) out₀ → Going f k out (1 + 9 * n) out cs
+pub going_start : {f : File} {s tab rows : List ℕ} {k : ℕ} {out₀ : List ℕ} (h : Sited f s tab rows k out₀) {out cs : List ℕ} {n : ℕ} → row_at rows k 0 ≡ 1 → n ≡ own_count tab rows k → cs ≡ ahead s (row_at rows k 1) (row_at rows k 5) 0 → out ≡ 0 ∷ own_cells tab rows k ++ drop (1 + 9 * own_count tab rows k) out₀ → Going f k out (1 + 9 * n) out cs
 going_start {f} {s} {tab} {rows} {k} {out₀} h {out} {cs} one e₁ e₂ e =
     let o = is_operator_lem h.known h.below one in
-    let room : 1 + 9 * row_at rows k 4 ≤ length out₀ = omega (arith, own_room h.known h.below o, h.sized) in
+    let room : 1 + 9 * own_count tab rows k ≤ length out₀ = omega (arith, own_room h.known h.below o, h.sized) in
     let w = own_fresh h one room e in
     let long = (w []).long in
     let l : sites (node_of f k) ≡ cs = sites_start h.known h.below ∙ sym e₂ in
@@ -102,7 +102,7 @@ going_start {f} {s} {tab} {rows} {k} {out₀} h {out} {cs} one e₁ e₂ e =
     (record {
       rest = rest_start h.known h.below o (long ∙ h.sized) e₂;
       small = omega (arith, long, h.small);
-      filled = λ vs. record { is = (w vs).is ∙ ap (λ ks. take (1 + 9 * row_at rows k 4) out ++ fresh_all f vs ks) l; behind = refl; long = refl };
+      filled = λ vs. record { is = (w vs).is ∙ ap (λ ks. take (1 + 9 * own_count tab rows k) out ++ fresh_all f vs ks) l; behind = refl; long = refl };
     })
 
 module _ {f : File} {s tab rows : List ℕ} (known : Known f s tab rows) {k : ℕ} (below : k < length f.nodes) {base out all : List ℕ} {used : ℕ} (going : Going f k base used out all) where

@@ -2,15 +2,15 @@
 use Prim.Native.Nat.{ℕ, zero, suc, ◌+◌, ◌-◌, ◌*◌, ◌<◌, ◌≤◌}
 use mathlib.Core.List.Memᴰ.{head as here}
 use mathlib.Core.List.Memᴰ.{tail as there}
-use mathlib.Core.List.{List, [], ◌∷◌, ◌++◌, map}
+use mathlib.Core.List.{List, [], ◌∷◌, map}
 use mathlib.Core.Path.{◌≡◌, refl, sym, ap, ap₂, subst, ◌∙◌}
 use native.Mathlib.Omega.{arith}
 use native.Mathlib.Nat.{zero-add}
-use lib.ListN.{length, take, drop, get_or, length-append, length-drop}
+use lib.ListN.{length, take, drop, get_or, length-drop}
 use lib.Seq.{length-take-le}
 use Rattle.ol_theory.specs.Member.{◌∈◌}
 use Rattle.ol_spec.specs.Lists.{sum}
-use Rattle.ol_spec.specs.Syntax.{NodeKind, Function, Operator, Imported, Node, File, variables, no_node, last_of, main}
+use Rattle.ol_spec.specs.Syntax.{NodeKind, Function, Operator, Imported, Node, File, variables, cell_types, no_node, last_of, main}
 use Rattle.ol_spec.specs.Cell.{cells}
 use Rattle.ol_spec.specs.Types.{defaults}
 use Rattle.ol_spec.specs.Places.{placed, node_size, constant_size, constants_start, placed_nodes, equations_start}
@@ -18,19 +18,19 @@ use Rattle.ol_spec.specs.Encode.{encode, kind_code, node_bytes}
 use Rattle.ol_spec.specs.Limits.{base}
 use Rattle.ol_spec.specs.Within.{node_fits}
 use Rattle.ol_spec.specs.Eval.{sites_size}
-use Rattle.ol_spec.specs.Step.{sites, own_size, sizes_at, site_size_by}
+use Rattle.ol_spec.specs.Step.{sites, cell_count, own_size, sizes_at, site_size_by}
 use Rattle.ol_spec.proofs.ReadFacts.{All}
 use Rattle.ol_spec.proofs.Segments.{sites_cons}
 use Rattle.ol_spec.proofs.Calls.{site_size_lem}
 use Rattle.ol_spec.proofs.RoundTrip.Parts.{Here, here_back}
 use Rattle.ol_spec.proofs.RoundTrip.Placed.{NodeHere, node_here, file_here}
-use Rattle.ol_tables.specs.Tables.{RowOf, code_at, enum_at, row_at, node_of, site_bytes, place_of, size_cap}
+use Rattle.ol_tables.specs.Tables.{RowOf, code_at, enum_at, length_at, count_at, row_at, node_of, site_bytes, place_of, size_cap}
 use Rattle.ol_tables.proofs.HeadLaws.{here_first}
 use Rattle.ol_state.specs.Known.{Counted, Known, Sited}
 use Rattle.ol_state.specs.Ahead.{ahead}
-use Rattle.ol_state.specs.Defaults.{cells_at}
+use Rattle.ol_state.specs.Defaults.{widths_at, cells_at, own_count, own_cells}
 use Rattle.ol_state.proofs.Fits.{fits, NodeFits, node_fits_lem, all_nth}
-use Rattle.ol_state.proofs.Told.{cells_told}
+use Rattle.ol_state.proofs.Told.{Stored, cells_told, count_told}
 use Rattle.ol_state.proofs.Walk.{ahead_equations, equations_stand}
 
 -- ---- the node of a number
@@ -72,24 +72,33 @@ module _ {f : File} {s tab rows : List ℕ} (known : Known f s tab rows) {k : �
       ∙ sym (ahead_equations s (at + 1) (length n.equations))
       ∙ ap₂ (λ p m. ahead s p m 0) (sym row_of.equations) (sym row_of.count)
 
-  -- its default cells
-  pub default_cells : cells_at tab rows k 0 (row_at rows k 4) ≡ cells (defaults f.enums (variables (node_of f k)))
-  default_cells =
+  -- the types of its variables stand in the table
+  stored : Stored tab k (variables (node_of f k)) 0
+  stored =
       let t = known.tabled.tabs_of k below in
+      record {
+        codes = λ j h. ap (code_at tab k) (zero-add j) ∙ t.codes j h;
+        numbers = λ j h. ap (enum_at tab k) (zero-add j) ∙ t.enums j h;
+        lengths = λ j h. ap (length_at tab k) (zero-add j) ∙ t.lengths j h;
+      }
+
+  -- its default cells
+  pub default_cells_lem : own_cells tab rows k ≡ cells (defaults f.enums (cell_types (variables (node_of f k))))
+  default_cells_lem =
       let fs = fits f known.within in
-      ap (cells_at tab rows k 0) row_of.variables
-      ∙ cells_told f.enums rows known.rowed.firsts fs.variants tab k (variables (node_of f k)) 0 fits_here.vars (λ j h. ap (code_at tab k) (zero-add j) ∙ t.codes j h) (λ j h. ap (enum_at tab k) (zero-add j) ∙ t.enums j h)
+      ap (cells_at tab rows k 0) row_of.variables ∙ cells_told f.enums rows known.rowed.firsts fs.variants tab k (variables (node_of f k)) 0 fits_here.vars stored
 
-  pub variables_told : row_at rows k 4 ≡ length (variables (node_of f k))
-  variables_told = row_of.variables
+  -- how many cells it has: by the lengths of its variables, and by its number in the table
+  pub own_count_lem : own_count tab rows k ≡ cell_count (node_of f k)
+  own_count_lem =
+      let fs = fits f known.within in
+      ap (widths_at tab k 0) row_of.variables ∙ count_told f.enums rows known.rowed.firsts fs.variants tab k (variables (node_of f k)) 0 fits_here.vars stored
 
-  pub few_variables : row_at rows k 4 ≤ 112
-  few_variables =
-      let n = node_of f k in
-      omega (arith, variables_told, length-append (n.inputs ++ n.outputs) n.locals, length-append n.inputs n.outputs, fits_here.inputs, fits_here.outputs, fits_here.locals)
+  pub cells_counted : count_at tab k 3 ≡ own_count tab rows k
+  cells_counted = (known.tabled.tabs_of k below).cells ∙ sym own_count_lem
 
-  pub own_size_lem : 1 + 9 * row_at rows k 4 ≡ own_size (node_of f k)
-  own_size_lem = ap (λ n. 1 + 9 * n) row_of.variables
+  pub own_size_lem : 1 + 9 * own_count tab rows k ≡ own_size (node_of f k)
+  own_size_lem = ap (λ n. 1 + 9 * n) own_count_lem
 
   -- an Operator, or not
   pub is_operator_lem : row_at rows k 0 ≡ 1 → (node_of f k).kind ≡ Operator
@@ -107,7 +116,7 @@ module _ {f : File} {s tab rows : List ℕ} (known : Known f s tab rows) {k : �
   pub operator_size : (node_of f k).kind ≡ Operator → site_bytes f k ≡ own_size (node_of f k) + sites_size (sizes_of f) (sites (node_of f k))
   operator_size e = site_size_lem f.nodes known.lower k below ∙ ap (λ t. site_size_by t (sizes_of f) (node_of f k)) e
 
-  pub own_room : (node_of f k).kind ≡ Operator → 1 + 9 * row_at rows k 4 ≤ site_bytes f k
+  pub own_room : (node_of f k).kind ≡ Operator → 1 + 9 * own_count tab rows k ≤ site_bytes f k
   own_room e = omega (arith, own_size_lem, operator_size e)
 
   pub no_size_lem : ((node_of f k).kind ≡ Operator → ⊥) → site_bytes f k ≡ 0
@@ -171,12 +180,12 @@ pub record Turn (f : File) (rows : List ℕ) (k total used c : ℕ) (cs : List �
   pub next : Rest f k total (used + row_at rows c 6) cs
 
 module _ {f : File} {s tab rows : List ℕ} (known : Known f s tab rows) {k : ℕ} (below : k < length f.nodes) where
-  pub rest_start : {total : ℕ} {cs : List ℕ} → (node_of f k).kind ≡ Operator → total ≡ site_bytes f k → cs ≡ ahead s (row_at rows k 1) (row_at rows k 5) 0 → Rest f k total (1 + 9 * row_at rows k 4) cs
+  pub rest_start : {total : ℕ} {cs : List ℕ} → (node_of f k).kind ≡ Operator → total ≡ site_bytes f k → cs ≡ ahead s (row_at rows k 1) (row_at rows k 5) 0 → Rest f k total (1 + 9 * own_count tab rows k) cs
   rest_start {total} {cs} o e a =
       let l : cs ≡ sites (node_of f k) = a ∙ sym (sites_start known below) in
       record {
         lower = λ c m. known.lower k c (subst (λ (ks : List ℕ). c ∈ ks) l m);
-        room = ap (λ ks. 1 + 9 * row_at rows k 4 + sites_size (sizes_of f) ks) l ∙ omega (arith, own_size_lem known below, operator_size known below o, e);
+        room = ap (λ ks. 1 + 9 * own_count tab rows k + sites_size (sizes_of f) ks) l ∙ omega (arith, own_size_lem known below, operator_size known below o, e);
       }
 
   module _ {total used : ℕ} {all : List ℕ} (rest : Rest f k total used all) (small : total ≤ size_cap) {c : ℕ} {cs : List ℕ} (is : all ≡ c ∷ cs) where

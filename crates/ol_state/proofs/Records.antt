@@ -20,8 +20,8 @@ use Rattle.ol_spec.proofs.Calls.{good_site}
 use Rattle.ol_tables.specs.Tables.{row_at, node_of, site_bytes}
 use Rattle.ol_state.specs.Known.{Known, Sited}
 use Rattle.ol_state.specs.Ahead.{ahead}
-use Rattle.ol_state.specs.Defaults.{cells_at}
-use Rattle.ol_state.proofs.Instances.{Rest, Turn, sizes_of, sites_start, rest_start, next_turn, default_cells, own_room, is_operator_lem, no_operator, variables_told}
+use Rattle.ol_state.specs.Defaults.{own_count, own_cells}
+use Rattle.ol_state.proofs.Instances.{Rest, Turn, sizes_of, sites_start, rest_start, next_turn, default_cells_lem, own_room, is_operator_lem, no_operator, own_count_lem}
 use Rattle.ol_state.specs.Own.{good_bytes}
 use Rattle.ol_state.proofs.Judged.{and_pass, and_stop}
 
@@ -40,7 +40,7 @@ pub record Judging (f : File) (k : ℕ) (r : List ℕ) (used : ℕ) (cs : List �
 
 -- a record's own bytes are good, by the tables
 abbrev pub bytes_good : File → List ℕ → List ℕ → ℕ → List ℕ → Bool
-bytes_good f tab rows k r = good_bytes (variants f) (cells_at tab rows k 0 (row_at rows k 4)) (row_at rows k 4) r
+bytes_good f tab rows k r = good_bytes (variants f) (own_cells tab rows k) (own_count tab rows k) r
 
 module _ {f : File} {s tab rows : List ℕ} (known : Known f s tab rows) (vs : List Value) where
   -- no Operator: every record is good
@@ -77,26 +77,26 @@ module _ {f : File} {s tab rows : List ℕ} {k : ℕ} {r : List ℕ} (h : Sited 
       ∙ none_left h.known vs cs (drop used r) (λ c m. omega (arith, j.rest.lower c m, h.below)) (omega (arith, j.rest.room, full)))
 
   -- an Operator's: its own bytes, and the records of its call sites
-  operator_good : row_at rows k 0 ≡ 1 → (vs : List Value) → good_of f vs k r ≡ bytes_good f tab rows k r && good_all f vs (sites (node_of f k)) (drop (1 + 9 * row_at rows k 4) r)
+  operator_good : row_at rows k 0 ≡ 1 → (vs : List Value) → good_of f vs k r ≡ bytes_good f tab rows k r && good_all f vs (sites (node_of f k)) (drop (1 + 9 * own_count tab rows k) r)
   unfolding good_own
   operator_good one vs =
       let o = is_operator_lem h.known h.below one in
       let n = node_of f k in
-      let v = variables_told h.known h.below in
+      let v = own_count_lem h.known h.below in
       good_site f vs h.known.lower k r h.below
       ∙ ap (λ t. good_by (globals_of f vs) t (good_of f vs) n r) o
-      ∙ (λ i. good_bytes (variants f) (sym (default_cells h.known h.below) i) (sym v i) r && good_all f vs (sites n) (drop (1 + 9 * sym v i) r))
+      ∙ (λ i. good_bytes (variants f) (sym (default_cells_lem h.known h.below) i) (sym v i) r && good_all f vs (sites n) (drop (1 + 9 * sym v i) r))
 
   pub own_bad : row_at rows k 0 ≡ 1 → false ≡ bytes_good f tab rows k r → (vs : List Value) → false ≡ good_of f vs k r
   own_bad one b vs = sym (operator_good one vs ∙ and_stop _ (sym b))
 
-  pub judging_start : {n : ℕ} {cs : List ℕ} → row_at rows k 0 ≡ 1 → true ≡ bytes_good f tab rows k r → n ≡ row_at rows k 4 → cs ≡ ahead s (row_at rows k 1) (row_at rows k 5) 0 → Judging f k r (1 + 9 * n) cs
+  pub judging_start : {n : ℕ} {cs : List ℕ} → row_at rows k 0 ≡ 1 → true ≡ bytes_good f tab rows k r → n ≡ own_count tab rows k → cs ≡ ahead s (row_at rows k 1) (row_at rows k 5) 0 → Judging f k r (1 + 9 * n) cs
   judging_start {n} {cs} one b e₁ e₂ =
       let l : sites (node_of f k) ≡ cs = sites_start h.known h.below ∙ sym e₂ in
       rw e₁
       (record {
         rest = rest_start h.known h.below (is_operator_lem h.known h.below one) h.sized e₂;
-        left = λ vs. operator_good one vs ∙ and_pass (sym b) ∙ ap (λ ks. good_all f vs ks (drop (1 + 9 * row_at rows k 4) r)) l;
+        left = λ vs. operator_good one vs ∙ and_pass (sym b) ∙ ap (λ ks. good_all f vs ks (drop (1 + 9 * own_count tab rows k) r)) l;
       })
 
 module _ {f : File} {s tab rows : List ℕ} {k : ℕ} {r : List ℕ} (h : Sited f s tab rows k r) {used : ℕ} {all : List ℕ} (judging : Judging f k r used all) where

@@ -22,7 +22,7 @@ use Rattle.ol_state.specs.Ready.{Ready}
 use Rattle.ol_state.proofs.Judged.{and_pass, and_stop}
 use Rattle.ol_state.proofs.Records.{good_of}
 
-module _ {f : File} {s tab rows table consts : List ℕ} (h : Ready f s tab rows table consts) where
+module _ {f : File} {s tab rows table : List ℕ} {known : ℕ} {consts : List ℕ} (h : Ready f s tab rows table known consts) where
   module _ (k : ℕ) (last : k + 1 ≡ length f.nodes) where
     below : k < length f.nodes
     below = omega arith

@@ -1,9 +1,10 @@
 -- What the judging of inputs is told, and where an enum stands.
-use Rattle.std.specs.Prelude.{ℕ, ◌≤◌, ◌<◌, Bool, ◌&&◌, List, [], ◌≡◌, T, length, get_or}
+use Rattle.std.specs.Prelude.{ℕ, ◌≤◌, ◌<◌, Bool, ◌&&◌, List, [], ◌≡◌, T, length, get_or, replicate}
 use Rattle.ol_spec.specs.Syntax.{File}
 use Rattle.ol_spec.specs.Encode.{encode, name_bytes, section_bytes}
 use Rattle.ol_spec.specs.Cell.{value_of, good_cell}
 use Rattle.ol_spec.specs.Types.{in_type}
+use Rattle.ol_spec.specs.State.{good_each}
 use Rattle.ol_spec.specs.Admission.{variants}
 use Rattle.ol_spec.specs.Limits.{relay_loader}
 use Rattle.ol_spec.specs.Within.{within, ty_fits}
@@ -26,3 +27,7 @@ pub record Typed (f : File) (s : List ℕ) (code e : ℕ) : Type 0 where
 -- a cell that is good, and of the type's kind, range and enum
 abbrev pub good_input : File → ℕ → ℕ → List ℕ → Bool
 good_input f code e c = good_cell (variants f) c && in_type f.enums (ty_of code e) (value_of c)
+
+-- so many cells of one type are
+abbrev pub good_some : File → ℕ → ℕ → ℕ → List ℕ → Bool
+good_some f code e n s = good_each f.enums (replicate n (ty_of code e)) s

@@ -1,20 +1,30 @@
 // The started byte and the default cells of a fresh record, by the tables.
 ghost use Rattle.std.specs.Prelude.{◌≡◌, ◌∷◌, ◌++◌, ◌+◌, ◌*◌, ◌≤◌, ◌<◌, length, drop};
-ghost use Rattle.ol_state.specs.Defaults.{default_cell, width_at, defaults_at};
+ghost use Rattle.ol_state.specs.Defaults.{default_cell, default_cells, width_at, defaults_at};
 
-use ol_tables::bytes::byte;
+use crate::types::type_at;
 use ol_tables::table::{column, first_variant, types_of};
 use ol_tables::tables::VARIABLES;
 use ol_value::cell::write_cell;
 use ol_value::types::default_value;
 
 // The cell of a type's default; `first` is an enum's first variant.
-fn put_default(code: usize, first: usize, out: &mut [u8])
+pub(crate) fn put_default(code: usize, first: usize, out: &mut [u8])
     requires { (code < 256) × (9 ≤ length out.old) }
     ensures { out.new ≡ default_cell code first ++ drop 9 out.old }
 {
     let v = default_value(code as u8, (first % 65536) as u16);
     write_cell(v, out, 0);
+}
+
+// So many of them.
+fn put_defaults(code: usize, first: usize, count: usize, out: &mut [u8])
+    requires { (code < 256) × (9 * count ≤ length out.old) }
+    ensures { out.new ≡ default_cells code first count ++ drop (9 * count) out.old }
+{
+    for i in 0..count {
+        put_default(code, first, &mut out[9 * i..]);
+    }
 }
 
 // The default cells of node k's variables. `k ≤ 65535` is a clause, here and in three functions: a node's number is
@@ -25,16 +35,17 @@ pub fn write_defaults(tab: &[u8], k: usize, out: &mut [u8])
 {
     let n = column(tab, k, VARIABLES);
     let types = types_of(tab, k);
+    let mut cell: usize = 0;
     for i in 0..n {
-        let p = types + 2 * i;
-        let code = byte(tab, p);
-        let first = first_variant(tab, byte(tab, p + 1));
-        put_default(code, first, &mut out[9 * i..]);
+        let t = type_at(tab, types + 2 * i);
+        let first = first_variant(tab, t.number);
+        put_defaults(t.code, first, t.cells, &mut out[9 * cell..]);
+        cell += t.cells;
     }
 }
 
 // The started byte 0 and the default cells of node k's variables.
-pub(crate) fn write_own(tab: &[u8], k: usize, out: &mut [u8])
+pub fn write_own(tab: &[u8], k: usize, out: &mut [u8])
     requires { (k ≤ 65535) × (1 + 9 * width_at tab.now k ≤ length out.old) }
     ensures { out.new ≡ 0 ∷ defaults_at tab.now k ++ drop (1 + 9 * width_at tab.now k) out.old }
 {

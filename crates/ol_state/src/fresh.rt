@@ -11,8 +11,8 @@ use crate::defaults::write_own;
 use crate::sites::call_sites;
 use ol_tables::bytes::byte;
 use ol_tables::kind::NodeKind;
-use ol_tables::table::column;
-use ol_tables::tables::{KIND, PLACE, SIZE, VARIABLES};
+use ol_tables::table::{cells_of, column};
+use ol_tables::tables::{KIND, PLACE, SIZE};
 
 // The number of the main node, the last one: the nodes' count stands before the first node.
 pub(crate) fn main_node(file: &[u8], tab: &[u8]) -> usize
@@ -31,7 +31,7 @@ pub fn write_fresh(file: &[u8], tab: &[u8], k: usize, out: &mut [u8])
 {
     if NodeKind::Operator.is(column(tab, k, KIND)) {
         write_own(tab, k, out);
-        let mut used = 1 + 9 * column(tab, k, VARIABLES);
+        let mut used = 1 + 9 * cells_of(tab, k, 3);
         for c in call_sites(file, tab, k) {
             let end = used + column(tab, c, SIZE);
             write_fresh(file, tab, c, &mut out[used..end]);

@@ -1,11 +1,11 @@
 // Inputs judged: each cell is good, and of its type's kind, range and enum.
-ghost use Rattle.std.specs.Prelude.{◌≡◌, List, ℕ, ◌+◌, ◌≤◌, T, length, take, drop};
+ghost use Rattle.std.specs.Prelude.{◌≡◌, List, ℕ, ◌+◌, ◌*◌, ◌≤◌, T, length, take, drop};
 ghost use Rattle.ol_spec.specs.Lists.{member, all_of};
 ghost use Rattle.ol_spec.specs.Within.{name_fits};
 ghost use Rattle.ol_spec.specs.Encode.{encode, name_bytes, section_bytes};
 ghost use Rattle.ol_spec.proofs.RoundTrip.Parts.{Here};
 ghost use Rattle.ol_tables.specs.At.{file_at};
-ghost use Rattle.ol_state.specs.Inputs.{EnumAt, Typed, good_input};
+ghost use Rattle.ol_state.specs.Inputs.{EnumAt, Typed, good_input, good_some};
 
 use ol_spec::Value;
 use ol_tables::bytes::{byte, name};
@@ -34,7 +34,7 @@ fn has_variant(file: &[u8], at: usize, v: usize) -> bool
 }
 
 // Whether the cell at an offset is good and of the type with this code and enum's number.
-pub(crate) fn judge_input(file: &[u8], code: usize, e: usize, cells: &[u8], at: usize) -> bool
+fn judge_input(file: &[u8], code: usize, e: usize, cells: &[u8], at: usize) -> bool
     requires { Typed (file_at file.now) file.now code e × (at + 9 ≤ length cells.now) }
     ensures { result ≡ good_input (file_at file.now) code e (take 9 (drop at cells.now)) }
 {
@@ -47,4 +47,17 @@ pub(crate) fn judge_input(file: &[u8], code: usize, e: usize, cells: &[u8], at: 
             Value::Enum(w) => has_variant(file, enum_at(file, e), usize::from(w)),
             _ => true,
         }
+}
+
+// Whether so many cells are good and of the type with this code and enum's number.
+pub(crate) fn judge_inputs(file: &[u8], code: usize, e: usize, count: usize, cells: &[u8]) -> bool
+    requires { Typed (file_at file.now) file.now code e × (9 * count ≤ length cells.now) }
+    ensures { result ≡ good_some (file_at file.now) code e count cells.now }
+{
+    for i in 0..count {
+        if !judge_input(file, code, e, cells, 9 * i) {
+            return false;
+        }
+    }
+    true
 }

@@ -38,7 +38,8 @@ impl<'a> Iterator for CallSites<'a> {
 
     ghost remaining = { item_count callees_of };
 
-    // No count: equations are passed over until one has a call.
+    // No count: equations are passed over until one has a call. It is put into its callers: measured faster.
+    #[inline(always)]
     fn next(&mut self) -> Option<usize> {
         loop {
             let end = match next_call(self.file, self.pending, self.at) {

@@ -2,7 +2,7 @@ use mathlib.Core.Path.{refl, sym, ap, ◌∙◌}
 use native.Mathlib.Omega.{arith}
 use borrow.Author.Tests.{eqb-true, eqb-false}
 use lib.ListN.{length}
-use Rattle.ol_state.proofs.Instances.{few_nodes_lem, few_variables, own_room, is_operator_lem, part_room, part_sited}
+use Rattle.ol_state.proofs.Instances.{few_nodes_lem, cells_counted, own_room, is_operator_lem, part_room, part_sited}
 use Rattle.ol_state.proofs.Records.{none_judged, own_bad, judging_start, turn_of, judging_on, judging_stop, judging_done, judging_full}
 use Rattle.ol_state.proofs.+good_record.Goals as goal
 
@@ -16,7 +16,7 @@ good_own-requires t c =
     let few = few_nodes_lem h.known h.below in
     let one = sym c.column.ensures ∙ eqb-true _ 1 (sym c.is.ensures ∙ c.if-not-is.false) in
     let own = own_room h.known h.below (is_operator_lem h.known h.below one) in
-    (omega (arith, few), few_variables h.known h.below, omega (arith, own, h.sized))
+    (omega (arith, few), cells_counted h.known h.below, omega (arith, own, h.sized))
 
 pub returns-then-not-good_own : goal.returns-then-not-good_own
 returns-then-not-good_own t c =
@@ -29,19 +29,19 @@ overflow_mul-used t c =
     let h = c.requires.0 in
     let one = sym c.column.ensures ∙ eqb-true _ 1 (sym c.is.ensures ∙ c.if-not-is.false) in
     let own = own_room h.known h.below (is_operator_lem h.known h.below one) in
-    omega (arith, own, c.column-2.ensures, h.sized, h.small)
+    omega (arith, own, c.cells_of.ensures.0, cells_counted h.known h.below, h.sized, h.small)
 
 pub overflow_add-used : goal.overflow_add-used
 overflow_add-used t c =
     let h = c.requires.0 in
     let one = sym c.column.ensures ∙ eqb-true _ 1 (sym c.is.ensures ∙ c.if-not-is.false) in
     let own = own_room h.known h.below (is_operator_lem h.known h.below one) in
-    omega (arith, own, c.column-2.ensures, h.sized, h.small)
+    omega (arith, own, c.cells_of.ensures.0, cells_counted h.known h.below, h.sized, h.small)
 
 pub loop-used-init : goal.loop-used-init
 loop-used-init t c =
     let one = sym c.column.ensures ∙ eqb-true _ 1 (sym c.is.ensures ∙ c.if-not-is.false) in
-    judging_start c.requires.0 one (sym c.if-not-good_own.false ∙ c.good_own.ensures _ c.requires.1.tells) c.column-2.ensures c.call_sites-sites.ensures
+    judging_start c.requires.0 one (sym c.if-not-good_own.false ∙ c.good_own.ensures _ c.requires.1.tells) (c.cells_of.ensures.0 ∙ cells_counted c.requires.0.known c.requires.0.below) c.call_sites-sites.ensures
 
 pub returns-in_default : goal.returns-in_default
 returns-in_default t c =

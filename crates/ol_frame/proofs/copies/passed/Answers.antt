@@ -1,5 +1,5 @@
 use mathlib.Core.Path.{◌∙◌}
-use Rattle.std.specs.Prelude.{Some}
+use Rattle.std.specs.Prelude.{Some, None}
 use Rattle.ol_spec.specs.Types.{fit}
 use Rattle.ol_value.specs.Codes.{ty_of}
 use Rattle.ol_frame.specs.Stores.{PassedOn}
@@ -15,4 +15,5 @@ returns-in-Some c =
 
 pub returns-in-None : goal.returns-in-None
 returns-in-None c =
-    (rw c.in-None.is c.kept-in-None.ensures.0, kept_back c.kept-in-None.result c.args.v c.kept-in-None.ensures.0 c.kept-in-None.ensures.1)
+    let same : PassedOn (tab_of c.args.tab.now) None c.args.i c.args.v c.kept-in-None.result = λ e. c.kept-in-None.ensures.0 in
+    (rw c.in-None.is same, kept_back c.kept-in-None.result c.args.v c.kept-in-None.ensures.0 c.kept-in-None.ensures.1)

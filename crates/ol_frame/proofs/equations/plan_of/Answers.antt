@@ -21,4 +21,4 @@ overflow_add-result-3 c =
 pub returns : goal.returns
 returns c =
     let t = c.args.tab.now in
-    (omega (arith, c.row.ensures, c.row-2.ensures, length-drop 1393 t), omega (arith, ((row_below t (λ i. omega (arith, c.type_inv.tab i))) c.args.k 7 c.requires.1 (omega arith)), ((row_below t (λ i. omega (arith, c.type_inv.tab i))) c.args.k 4 c.requires.1 (omega arith)), c.row.ensures, c.row-2.ensures, length-drop 1393 t))
+    (omega (arith, c.row.ensures, c.row-2.ensures, length-drop 1394 t), omega (arith, ((row_below t (λ i. omega (arith, c.type_inv.tab i))) c.args.k 7 c.requires.1 (omega arith)), ((row_below t (λ i. omega (arith, c.type_inv.tab i))) c.args.k 4 c.requires.1 (omega arith)), c.row.ensures, c.row-2.ensures, length-drop 1394 t))

@@ -4,13 +4,14 @@ use Prim.Native.Nat.{ℕ, ◌+◌, ◌-◌, ◌≤◌}
 use native.Mathlib.Omega.{arith}
 use lib.ListN.{get_or}
 use Rattle.ol_spec.specs.Syntax.{Expr}
-use Rattle.ol_spec.specs.Eval.{real_kind, not_real, join, present_of}
+use Rattle.ol_spec.specs.Eval.{real_kind, not_real, join, present_of, or_failure}
 use Rattle.ol_tables.proofs.Forms.{reads_in, reads_deep, float_form, var_form, unary_form, binary_form, if_form, pre_form, arrow_form, cast_form, call_form, by_form, one_tree, type_some}
 use Rattle.ol_tables.specs.declared.form.Form.TheVariants as Frm
 use Rattle.ol_tables.proofs.FormLaws.{form_is}
 use Rattle.ol_frame.specs.Outcomes.{kind_of, outcome_kind}
-use Rattle.ol_frame.specs.Plans.{globals_in, scope_in, name_at}
-use Rattle.ol_frame.proofs.RealKinds.{greater_kind, arithmetic_code, plain_code, bits_code, code_kind, present_kind}
+use Rattle.ol_frame.specs.Plans.{globals_in, scope_in, long_in, name_at}
+use Rattle.ol_frame.proofs.Programs.{no_length, name_long}
+use Rattle.ol_frame.proofs.RealKinds.{greater_kind, arithmetic_code, plain_code, bits_code, code_kind, name_kind, array_name_kind}
 use Rattle.ol_frame.proofs.Planning.{plan_head, plan_form, plan_name, plan_parts, plan_rest, plan_first, plan_call, plan_passable, segs_form, segs_cons, segs_first}
 use Rattle.ol_tables.specs.Table.{consts_of}
 use Rattle.ol_frame.proofs.Tabling.{rows_room}
@@ -212,7 +213,7 @@ real_kind-returns-in-Float t c =
     let T = c.args.tab.now in
     let kk = consts_of T in
     let fr = c.args.frame.now in
-    let cl = fr.cells in
+    let cl = fr.cells.now in
     let n = fr.node in
     let L = c.args.level in
     let a = c.args.at in
@@ -222,13 +223,13 @@ real_kind-returns-in-Float t c =
     let sc = scope_in f n false cl cl in
     ap (λ (e : Expr). real_kind g sc e) (sym (float_form f L a h (plan_form f p Frm.Float c.at.ensures c.in-Float.is)).tree)
 
-pub real_kind-returns-in-Var : goal.real_kind-returns-in-Var
-real_kind-returns-in-Var t c =
+pub real_kind-returns-then-named_length-eq0 : goal.real_kind-returns-then-named_length-eq0
+real_kind-returns-then-named_length-eq0 t c =
     let f = c.args.file.now in
     let T = c.args.tab.now in
     let kk = consts_of T in
     let fr = c.args.frame.now in
-    let cl = fr.cells in
+    let cl = fr.cells.now in
     let n = fr.node in
     let L = c.args.level in
     let a = c.args.at in
@@ -236,7 +237,10 @@ real_kind-returns-in-Var t c =
     let h = plan_head f p in
     let g = globals_in f kk in
     let sc = scope_in f n false cl cl in
-    c.kind_of_outcome.ensures ∙ ap outcome_kind c.present.ensures ∙ present_kind (present_of g sc (name_at f (a + 1))) ∙ ap (λ (e : Expr). real_kind g sc e) (sym (var_form f L a h (plan_form f p Frm.Var c.at.ensures c.in-Var.is)).tree)
+    let x = name_at f (a + 1) in
+    let q = plan_name f p (plan_form f p Frm.Var c.at.ensures c.in-Var.is) in
+    let none-there = no_length (long_in f n x) (name_long p.program n x) (sym q.named.cell.length ∙ sym c.named_length.ensures.0 ∙ c.if-named_length-eq0.true) in
+    c.kind_of_outcome.ensures ∙ ap outcome_kind {y = or_failure (present_of g sc x)} c.present.ensures ∙ name_kind (long_in f n x) (present_of g sc x) none-there ∙ ap (λ (e : Expr). real_kind g sc e) (sym (var_form f L a h (plan_form f p Frm.Var c.at.ensures c.in-Var.is)).tree)
 
 pub real_kind-returns-in-Unary : goal.real_kind-returns-in-Unary
 real_kind-returns-in-Unary t c =
@@ -244,7 +248,7 @@ real_kind-returns-in-Unary t c =
     let T = c.args.tab.now in
     let kk = consts_of T in
     let fr = c.args.frame.now in
-    let cl = fr.cells in
+    let cl = fr.cells.now in
     let n = fr.node in
     let L = c.args.level in
     let a = c.args.at in
@@ -260,7 +264,7 @@ real_kind-returns-in-10-to-13 t c =
     let T = c.args.tab.now in
     let kk = consts_of T in
     let fr = c.args.frame.now in
-    let cl = fr.cells in
+    let cl = fr.cells.now in
     let n = fr.node in
     let L = c.args.level in
     let a = c.args.at in
@@ -276,7 +280,7 @@ real_kind-returns-in_default-file t c =
     let T = c.args.tab.now in
     let kk = consts_of T in
     let fr = c.args.frame.now in
-    let cl = fr.cells in
+    let cl = fr.cells.now in
     let n = fr.node in
     let L = c.args.level in
     let a = c.args.at in
@@ -292,7 +296,7 @@ real_kind-returns-in_default-file-2 t c =
     let T = c.args.tab.now in
     let kk = consts_of T in
     let fr = c.args.frame.now in
-    let cl = fr.cells in
+    let cl = fr.cells.now in
     let n = fr.node in
     let L = c.args.level in
     let a = c.args.at in
@@ -308,7 +312,7 @@ real_kind-returns-in-If t c =
     let T = c.args.tab.now in
     let kk = consts_of T in
     let fr = c.args.frame.now in
-    let cl = fr.cells in
+    let cl = fr.cells.now in
     let n = fr.node in
     let L = c.args.level in
     let a = c.args.at in
@@ -325,7 +329,7 @@ real_kind-returns-in-Pre t c =
     let T = c.args.tab.now in
     let kk = consts_of T in
     let fr = c.args.frame.now in
-    let cl = fr.cells in
+    let cl = fr.cells.now in
     let n = fr.node in
     let L = c.args.level in
     let a = c.args.at in
@@ -341,7 +345,7 @@ real_kind-returns-in-Arrow t c =
     let T = c.args.tab.now in
     let kk = consts_of T in
     let fr = c.args.frame.now in
-    let cl = fr.cells in
+    let cl = fr.cells.now in
     let n = fr.node in
     let L = c.args.level in
     let a = c.args.at in
@@ -357,7 +361,7 @@ real_kind-returns-in-Cast t c =
     let T = c.args.tab.now in
     let kk = consts_of T in
     let fr = c.args.frame.now in
-    let cl = fr.cells in
+    let cl = fr.cells.now in
     let n = fr.node in
     let L = c.args.level in
     let a = c.args.at in
@@ -373,7 +377,7 @@ real_kind-returns-in-Call t c =
     let T = c.args.tab.now in
     let kk = consts_of T in
     let fr = c.args.frame.now in
-    let cl = fr.cells in
+    let cl = fr.cells.now in
     let n = fr.node in
     let L = c.args.level in
     let a = c.args.at in
@@ -383,13 +387,29 @@ real_kind-returns-in-Call t c =
     let sc = scope_in f n false cl cl in
     (rw c.from.ensures at c.call_kind.ensures) ∙ ap (λ (e : Expr). real_kind g sc e) (sym (call_form f L a h (plan_form f p Frm.Call c.at.ensures c.in-Call.is)).0.tree)
 
+pub real_kind-returns-else-named_length-eq0 : goal.real_kind-returns-else-named_length-eq0
+real_kind-returns-else-named_length-eq0 t c =
+    let f = c.args.file.now in
+    let fr = c.args.frame.now in
+    let cl = fr.cells.now in
+    let n = fr.node in
+    let L = c.args.level in
+    let a = c.args.at in
+    let p = c.requires.0 in
+    let h = plan_head f p in
+    let g = globals_in f (consts_of c.args.tab.now) in
+    let sc = scope_in f n false cl cl in
+    let x = name_at f (a + 1) in
+    let q = plan_name f p (plan_form f p Frm.Var c.at.ensures c.in-Var.is) in
+    array_name_kind (long_in f n x) _ (λ e. c.if-named_length-eq0.false (c.named_length.ensures.0 ∙ q.named.cell.length ∙ e)) ∙ ap (λ (e : Expr). real_kind g sc e) (sym (var_form f L a h (plan_form f p Frm.Var c.at.ensures c.in-Var.is)).tree)
+
 pub real_kind-returns-in_default : goal.real_kind-returns-in_default
 real_kind-returns-in_default t c =
     let f = c.args.file.now in
     let T = c.args.tab.now in
     let kk = consts_of T in
     let fr = c.args.frame.now in
-    let cl = fr.cells in
+    let cl = fr.cells.now in
     let n = fr.node in
     let L = c.args.level in
     let a = c.args.at in
@@ -400,7 +420,7 @@ real_kind-returns-in_default t c =
     by_form f (λ c e. ¬ (c ≡ 2) → ¬ (c ≡ 4) → ¬ (c ≡ 5) → ¬ (c ≡ 6) → ¬ (c ≡ 7) → ¬ (c ≡ 8) → ¬ (c ≡ 9) → ¬ (c ≡ 10) → ¬ (c ≡ 11) → not_real ≡ real_kind g sc e)
     (λ b n2 n4 n5 n6 n7 n8 n9 n10 n11. refl) (λ i n2 n4 n5 n6 n7 n8 n9 n10 n11. refl) (λ b n2 n4 n5 n6 n7 n8 n9 n10 n11. absurd (n2 refl)) (λ c n2 n4 n5 n6 n7 n8 n9 n10 n11. refl) (λ x n2 n4 n5 n6 n7 n8 n9 n10 n11. absurd (n4 refl))
     (λ op e n2 n4 n5 n6 n7 n8 n9 n10 n11. absurd (n5 refl)) (λ op l r n2 n4 n5 n6 n7 n8 n9 n10 n11. absurd (n6 refl)) (λ c t e n2 n4 n5 n6 n7 n8 n9 n10 n11. absurd (n7 refl)) (λ e n2 n4 n5 n6 n7 n8 n9 n10 n11. absurd (n8 refl))
-    (λ a b n2 n4 n5 n6 n7 n8 n9 n10 n11. absurd (n9 refl)) (λ t e n2 n4 n5 n6 n7 n8 n9 n10 n11. absurd (n10 refl)) (λ k es n2 n4 n5 n6 n7 n8 n9 n10 n11. absurd (n11 refl)) (λ es n2 n4 n5 n6 n7 n8 n9 n10 n11. refl) L a h
+    (λ a b n2 n4 n5 n6 n7 n8 n9 n10 n11. absurd (n9 refl)) (λ t e n2 n4 n5 n6 n7 n8 n9 n10 n11. absurd (n10 refl)) (λ k es n2 n4 n5 n6 n7 n8 n9 n10 n11. absurd (n11 refl)) (λ es n2 n4 n5 n6 n7 n8 n9 n10 n11. refl) (λ a i n2 n4 n5 n6 n7 n8 n9 n10 n11. refl) (λ es n2 n4 n5 n6 n7 n8 n9 n10 n11. refl) (λ k es n2 n4 n5 n6 n7 n8 n9 n10 n11. refl) (λ k e es n2 n4 n5 n6 n7 n8 n9 n10 n11. refl) L a h
     (λ e. c.in_default.not-Float (form_is Frm.Float c.at.ensures e)) (λ e. c.in_default.not-Var (form_is Frm.Var c.at.ensures e)) (λ e. c.in_default.not-Unary (form_is Frm.Unary c.at.ensures e)) (λ e. c.in_default.not-Binary (form_is Frm.Binary c.at.ensures e)) (λ e. c.in_default.not-If (form_is Frm.If c.at.ensures e)) (λ e. c.in_default.not-Pre (form_is Frm.Pre c.at.ensures e)) (λ e. c.in_default.not-Arrow (form_is Frm.Arrow c.at.ensures e)) (λ e. c.in_default.not-Cast (form_is Frm.Cast c.at.ensures e)) (λ e. c.in_default.not-Call (form_is Frm.Call c.at.ensures e))
 
 pub real_kinds-real_kind-a-requires : goal.real_kinds-real_kind-a-requires

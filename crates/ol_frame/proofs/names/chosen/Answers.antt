@@ -19,5 +19,5 @@ returns-then-is_single c =
 pub returns-else-is_single : goal.returns-else-is_single
 returns-else-is_single c =
     let f = c.args.file.now in
-    let K = real_kind (globals_in f (consts_of c.args.tab.now)) (scope_in f c.args.frame.now.node false c.args.frame.now.cells c.args.frame.now.cells) (expr_at f c.args.level c.args.at) in
+    let K = real_kind (globals_in f (consts_of c.args.tab.now)) (scope_in f c.args.frame.now.node false c.args.frame.now.cells.now c.args.frame.now.cells.now) (expr_at f c.args.level c.args.at) in
     c.same_out.ensures ∙ common_plain K c.args.taken (sym c.is_single.ensures ∙ c.if-is_single.false)

@@ -1,4 +1,4 @@
-use mathlib.Core.Path.{sym, ap, ◌∙◌}
+use mathlib.Core.Path.{◌≡◌, refl, sym, ap, ◌∙◌}
 use mathlib.Core.Logic.{inl, inr}
 use Prim.Native.Nat.{ℕ, ◌+◌, ◌<◌, ◌^◌}
 use lib.Signed.{mag}
@@ -7,16 +7,17 @@ use mir.Facts.{to_z-of_z}
 use borrow.Author.Rules.{sfits_of}
 use Rattle.ol_spec.specs.declared.Value.TheVariants as Val
 use native.Mathlib.Omega.{arith}
-use lib.ListN.{get_or, take, drop}
+use lib.ListN.{take, drop}
 use Rattle.ol_spec.specs.Syntax.{Expr}
 use Rattle.ol_spec.specs.Eval.{eval}
 use Rattle.ol_spec.specs.Cell.{value_by}
 use Rattle.ol_spec.specs.Numbers.{number_of}
 use Rattle.ol_spec.specs.declared.Outcome.TheVariants as Out
-use Rattle.ol_tables.proofs.Forms.{reads_in, reads_deep, bool_form, int_form, float_form, char_form, var_form, pre_form, tuple_form, some_code, last_code}
+use Rattle.ol_spec.specs.declared.Cause.TheVariants as Why
+use Rattle.ol_tables.proofs.Forms.{reads_in, reads_deep, bool_form, int_form, float_form, char_form, var_form, pre_form, by_form}
 use Rattle.ol_tables.specs.declared.form.Form.TheVariants as Frm
 use Rattle.ol_tables.proofs.FormLaws.{form_is}
-use Rattle.ol_frame.specs.Plans.{eval_in}
+use Rattle.ol_frame.specs.Plans.{eval_in, Leaf}
 use Rattle.ol_frame.proofs.Naming.{value_at_lem}
 use Rattle.ol_frame.proofs.Planning.{plan_head, plan_form, plan_name, plan_looked}
 use Rattle.ol_tables.specs.Table.{consts_of}
@@ -95,8 +96,8 @@ returns-in-Bool c =
     let T = c.args.tab.now in
     let k = consts_of T in
     let fr = c.args.frame.now in
-    let cl = fr.cells in
-    let b = fr.before in
+    let cl = fr.cells.now in
+    let b = fr.before.now in
     let n = fr.node in
     let F = fr.first in
     let L = c.args.level in
@@ -112,8 +113,8 @@ returns-in-Int c =
     let T = c.args.tab.now in
     let k = consts_of T in
     let fr = c.args.frame.now in
-    let cl = fr.cells in
-    let b = fr.before in
+    let cl = fr.cells.now in
+    let b = fr.before.now in
     let n = fr.node in
     let F = fr.first in
     let L = c.args.level in
@@ -132,8 +133,8 @@ returns-in-Char c =
     let T = c.args.tab.now in
     let k = consts_of T in
     let fr = c.args.frame.now in
-    let cl = fr.cells in
-    let b = fr.before in
+    let cl = fr.cells.now in
+    let b = fr.before.now in
     let n = fr.node in
     let F = fr.first in
     let L = c.args.level in
@@ -150,8 +151,8 @@ returns-in-Var c =
     let T = c.args.tab.now in
     let k = consts_of T in
     let fr = c.args.frame.now in
-    let cl = fr.cells in
-    let b = fr.before in
+    let cl = fr.cells.now in
+    let b = fr.before.now in
     let n = fr.node in
     let F = fr.first in
     let L = c.args.level in
@@ -167,8 +168,8 @@ returns-in-Pre c =
     let T = c.args.tab.now in
     let k = consts_of T in
     let fr = c.args.frame.now in
-    let cl = fr.cells in
-    let b = fr.before in
+    let cl = fr.cells.now in
+    let b = fr.before.now in
     let n = fr.node in
     let F = fr.first in
     let L = c.args.level in
@@ -184,8 +185,8 @@ returns-in_default c =
     let T = c.args.tab.now in
     let k = consts_of T in
     let fr = c.args.frame.now in
-    let cl = fr.cells in
-    let b = fr.before in
+    let cl = fr.cells.now in
+    let b = fr.before.now in
     let n = fr.node in
     let F = fr.first in
     let L = c.args.level in
@@ -193,4 +194,10 @@ returns-in_default c =
     let p = c.requires.0 in
     let h = plan_head f p in
     let lf = c.requires.3 in
-    λ seg. ap (λ (e : Expr). (eval_in f k n F cl b e seg).out) (sym (tuple_form f L a h ((last_code (get_or f a 0) (some_code f L a h) (λ e. c.in_default.not-Bool (form_is Frm.Bool c.at.ensures e)) (λ e. c.in_default.not-Int (form_is Frm.Int c.at.ensures e)) (λ e. c.in_default.not-Float (form_is Frm.Float c.at.ensures e)) (λ e. c.in_default.not-Char (form_is Frm.Char c.at.ensures e)) (λ e. c.in_default.not-Var (form_is Frm.Var c.at.ensures e)) lf.no_unary lf.no_binary lf.no_if (λ e. c.in_default.not-Pre (form_is Frm.Pre c.at.ensures e)) lf.no_arrow lf.no_cast lf.no_call))).0.tree)
+    λ seg. by_form f (λ t e. Leaf t → ¬ (t ≡ 0) → ¬ (t ≡ 1) → ¬ (t ≡ 2) → ¬ (t ≡ 3) → ¬ (t ≡ 4) → ¬ (t ≡ 8) → Out.Failure Why.Other ≡ (eval_in f k n F cl b e seg).out)
+    (λ b l n0 n1 n2 n3 n4 n8. absurd (n0 refl)) (λ i l n0 n1 n2 n3 n4 n8. absurd (n1 refl)) (λ b l n0 n1 n2 n3 n4 n8. absurd (n2 refl)) (λ c l n0 n1 n2 n3 n4 n8. absurd (n3 refl)) (λ x l n0 n1 n2 n3 n4 n8. absurd (n4 refl))
+    (λ op e l n0 n1 n2 n3 n4 n8. absurd (l.no_unary refl)) (λ op x y l n0 n1 n2 n3 n4 n8. absurd (l.no_binary refl)) (λ c t e l n0 n1 n2 n3 n4 n8. absurd (l.no_if refl)) (λ e l n0 n1 n2 n3 n4 n8. absurd (n8 refl))
+    (λ a b l n0 n1 n2 n3 n4 n8. absurd (l.no_arrow refl)) (λ t e l n0 n1 n2 n3 n4 n8. absurd (l.no_cast refl)) (λ k es l n0 n1 n2 n3 n4 n8. absurd (l.no_call refl)) (λ es l n0 n1 n2 n3 n4 n8. refl)
+    (λ a i l n0 n1 n2 n3 n4 n8. absurd (l.no_index refl)) (λ es l n0 n1 n2 n3 n4 n8. refl) (λ k es l n0 n1 n2 n3 n4 n8. absurd (l.no_iterator refl)) (λ k e es l n0 n1 n2 n3 n4 n8. absurd (l.no_iterator refl)) L a h lf
+    (λ e. c.in_default.not-Bool (form_is Frm.Bool c.at.ensures e)) (λ e. c.in_default.not-Int (form_is Frm.Int c.at.ensures e)) (λ e. c.in_default.not-Float (form_is Frm.Float c.at.ensures e))
+    (λ e. c.in_default.not-Char (form_is Frm.Char c.at.ensures e)) (λ e. c.in_default.not-Var (form_is Frm.Var c.at.ensures e)) (λ e. c.in_default.not-Pre (form_is Frm.Pre c.at.ensures e))

@@ -1,10 +1,8 @@
 use mathlib.Core.Path.{◌≡◌, refl, sym, ap, ◌∙◌}
 use mathlib.Core.Bool.{Bool}
 use mathlib.Core.Option.{none, some}
-use lib.ListN.{take, drop}
-use Prim.Native.Nat.{ℕ, ◌+◌, ◌<◌, ◌*◌}
-use Rattle.ol_spec.specs.Cell.{value_of}
-use Rattle.ol_frame.proofs.Tabling.{const_cell, const_room}
+use Prim.Native.Nat.{◌+◌, ◌<◌}
+use Rattle.ol_frame.proofs.Tabling.{const_room, const_value}
 use native.Mathlib.Omega.{arith}
 use borrow.Author.Tests.{true-eqb, false-eqb}
 use Rattle.ol_spec.specs.Eval.{pre_of}
@@ -13,9 +11,9 @@ use Rattle.ol_spec.specs.declared.Cause.TheVariants as Why
 use Rattle.ol_tables.specs.At.{expr_at}
 use Rattle.ol_tables.proofs.Forms.{reads_in, var_form}
 use Rattle.ol_frame.specs.Plans.{globals_in, scope_in}
-use Rattle.ol_frame.proofs.Naming.{slot_cell, known_cell, was_variable, was_constant, was_variant, is_name, no_name, pre_is, pre_none}
+use Rattle.ol_frame.proofs.Naming.{cell_room, known_room, was_variable, was_constant, was_variant, is_name, no_name, pre_is, pre_none}
 use Rattle.ol_tables.specs.Table.{tab_of, consts_of}
-use Rattle.ol_tables.specs.Tables.{slot_at}
+use Rattle.ol_tables.specs.Tables.{name_cell_at}
 use Rattle.ol_frame.proofs.names.previous.Goals as goal
 
 pub returns-then-frame : goal.returns-then-frame
@@ -24,7 +22,7 @@ returns-then-frame c =
     let T = c.args.tab.now in
     let k = consts_of T in
     let fr = c.args.frame.now in
-    let b = fr.before in
+    let b = fr.before.now in
     let n = fr.node in
     let a = c.args.at in
     let F = fr.first in
@@ -59,14 +57,14 @@ read_cell-requires c =
     let t = tab_of T in
     let k = consts_of T in
     let fr = c.args.frame.now in
-    let b = fr.before in
+    let b = fr.before.now in
     let n = fr.node in
     let a = c.args.at in
     let p = c.requires.0 in
     let s = c.in-Variable.s in
     let e = c.in-Variable.ensures.0 in
-    let l : s < 112 = omega (arith, c.in-Variable.ensures.0, c.in-Variable.ensures.1) in
-    slot_cell f t k n (a + 1) (p.named (true-eqb _ _ c.if-not-is_at.ensures)) s e b c.requires.1 l
+    let l : s < 3584 = omega (arith, c.in-Variable.ensures.0, c.in-Variable.ensures.1) in
+    cell_room f t k n (a + 1) (p.named (true-eqb _ _ c.if-not-is_at.ensures)) s e b c.requires.1 l
 
 pub read_cell-requires-in-Constant : goal.read_cell-requires-in-Constant
 read_cell-requires-in-Constant c =
@@ -78,9 +76,9 @@ read_cell-requires-in-Constant c =
     let n = fr.node in
     let a = c.args.at in
     let p = c.requires.0 in
-    let s = slot_at t (a + 1) in
+    let s = name_cell_at (tab_of T) (a + 1) in
     let i = c.in-Constant.i in
-    const_room T (i * 9) (rw c.in-Constant.ensures.0 (known_cell f t k n (a + 1) ((p.named (true-eqb _ _ c.if-not-is_at.ensures))) s refl (λ l. omega (arith, c.in-Constant.ensures.1)) c.in-Constant.ensures.2))
+    omega (arith, c.consts_from.ensures, const_room T _ (known_room f t k n (a + 1) ((p.named (true-eqb _ _ c.if-not-is_at.ensures))) s refl (λ l. omega (arith, c.in-Constant.ensures.1)) c.in-Constant.ensures.2), c.in-Constant.ensures.0)
 
 pub returns-in-Variable : goal.returns-in-Variable
 returns-in-Variable c =
@@ -89,14 +87,14 @@ returns-in-Variable c =
     let t = tab_of T in
     let k = consts_of T in
     let fr = c.args.frame.now in
-    let b = fr.before in
+    let b = fr.before.now in
     let n = fr.node in
     let a = c.args.at in
     let F = fr.first in
     let p = c.requires.0 in
     let s = c.in-Variable.s in
     let e = c.in-Variable.ensures.0 in
-    let l : s < 112 = omega (arith, c.in-Variable.ensures.0, c.in-Variable.ensures.1) in
+    let l : s < 3584 = omega (arith, c.in-Variable.ensures.0, c.in-Variable.ensures.1) in
     let g = globals_in f k in
     let cl = scope_in f n F b b in
     ap Out.Value c.read_cell.ensures ∙ sym (pre_is g cl F (expr_at f c.args.level a) _ (some _) ((c.if-frame.false)) ((is_name f c.args.level a p.reads (true-eqb _ _ c.if-not-is_at.ensures))) (was_variable f t k n (a + 1) ((p.named (true-eqb _ _ c.if-not-is_at.ensures))) s e F b b l))
@@ -108,16 +106,16 @@ returns-in-Constant c =
     let t = tab_of T in
     let k = consts_of T in
     let fr = c.args.frame.now in
-    let b = fr.before in
+    let b = fr.before.now in
     let n = fr.node in
     let a = c.args.at in
     let F = fr.first in
     let p = c.requires.0 in
-    let s = slot_at t (a + 1) in
+    let s = name_cell_at (tab_of T) (a + 1) in
     let i = c.in-Constant.i in
     let g = globals_in f k in
     let cl = scope_in f n F b b in
-    ap Out.Value (c.read_cell-in-Constant.ensures ∙ ap value_of (const_cell T (i * 9) (rw c.in-Constant.ensures.0 (known_cell f t k n (a + 1) ((p.named (true-eqb _ _ c.if-not-is_at.ensures))) s refl (λ l. omega (arith, c.in-Constant.ensures.1)) c.in-Constant.ensures.2))) ∙ ap (λ (j : ℕ). value_of (take 9 (drop (j * 9) k))) c.in-Constant.ensures.0) ∙ sym (pre_is g cl F (expr_at f c.args.level a) _ (some _) ((c.if-frame.false)) ((is_name f c.args.level a p.reads (true-eqb _ _ c.if-not-is_at.ensures))) (was_constant f t k n (a + 1) ((p.named (true-eqb _ _ c.if-not-is_at.ensures))) s refl F b b (λ l. omega (arith, c.in-Constant.ensures.1)) c.in-Constant.ensures.2))
+    ap Out.Value (c.read_cell-in-Constant.ensures ∙ const_value T _ (known_room f t k n (a + 1) ((p.named (true-eqb _ _ c.if-not-is_at.ensures))) s refl (λ l. omega (arith, c.in-Constant.ensures.1)) c.in-Constant.ensures.2) (omega (arith, c.consts_from.ensures, c.in-Constant.ensures.0))) ∙ sym (pre_is g cl F (expr_at f c.args.level a) _ (some _) ((c.if-frame.false)) ((is_name f c.args.level a p.reads (true-eqb _ _ c.if-not-is_at.ensures))) (was_constant f t k n (a + 1) ((p.named (true-eqb _ _ c.if-not-is_at.ensures))) s refl F b b (λ l. omega (arith, c.in-Constant.ensures.1)) c.in-Constant.ensures.2))
 
 pub returns-in-Other : goal.returns-in-Other
 returns-in-Other c =
@@ -126,12 +124,12 @@ returns-in-Other c =
     let t = tab_of T in
     let k = consts_of T in
     let fr = c.args.frame.now in
-    let b = fr.before in
+    let b = fr.before.now in
     let n = fr.node in
     let a = c.args.at in
     let F = fr.first in
     let p = c.requires.0 in
-    let s = slot_at t (a + 1) in
+    let s = name_cell_at (tab_of T) (a + 1) in
     let g = globals_in f k in
     let cl = scope_in f n F b b in
     sym (pre_is g cl F (expr_at f c.args.level a) _ none ((c.if-frame.false)) ((is_name f c.args.level a p.reads (true-eqb _ _ c.if-not-is_at.ensures))) (was_variant f t k n (a + 1) ((p.named (true-eqb _ _ c.if-not-is_at.ensures))) s refl F b b (λ l. omega (arith, c.in-Other.ensures))))
@@ -142,7 +140,7 @@ returns-then-not-is_at c =
     let T = c.args.tab.now in
     let k = consts_of T in
     let fr = c.args.frame.now in
-    let b = fr.before in
+    let b = fr.before.now in
     let n = fr.node in
     let a = c.args.at in
     let F = fr.first in

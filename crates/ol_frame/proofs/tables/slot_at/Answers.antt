@@ -1,40 +1,40 @@
-use mathlib.Core.List.{List}
 use mathlib.Core.Path.{◌≡◌, ap, ◌∙◌}
 use native.Mathlib.Omega.{arith}
-use Prim.Native.Nat.{ℕ, ◌+◌, ◌-◌}
-use lib.ListN.{get_or, length-drop}
+use Prim.Native.Nat.{◌-◌}
 use Rattle.ol_tables.specs.Table.{tab_of}
-use Rattle.ol_tables.specs.Tables.{slot_at}
-use Rattle.ol_frame.proofs.Tabling.{tab_byte}
+use Rattle.ol_tables.specs.Tables.{name_cell_at}
+use Rattle.ol_frame.proofs.Tabling.{name_cell, tab_long}
 use Rattle.ol_frame.proofs.tables.slot_at.Goals as goal
-
--- the byte of the slot
-byte_is : (t : List ℕ) (i : ℕ) → get_or t (4017 + i) 0 ≡ slot_at (tab_of t) i
-byte_is t i =
-    let e : 4017 + i ≡ 1393 + (2624 + i) = omega arith in
-    ap (λ (n : ℕ). get_or t n 0) e ∙ tab_byte t (2624 + i)
+use Rattle.ol_frame.proofs.tables.slot_at.Goals.{After-from}
 
 pub overflow_add-at : goal.overflow_add-at
-overflow_add-at c =
-    let t = c.args.tab.now in
-    omega (arith, length-drop 1393 t, c.requires, c.well_formed)
+overflow_add-at c = omega (arith, tab_long c.args.tab.now, c.requires, c.well_formed)
+
+pub overflow_add-at-2 : goal.overflow_add-at-2
+overflow_add-at-2 c = omega (arith, tab_long c.args.tab.now, c.requires, c.well_formed)
+
+pub overflow_add-at-3 : goal.overflow_add-at-3
+overflow_add-at-3 c = omega (arith, tab_long c.args.tab.now, c.requires, c.well_formed)
 
 pub bounds-tab-at : goal.bounds-tab-at
-bounds-tab-at c =
-    let t = c.args.tab.now in
-    omega (arith, length-drop 1393 t, c.requires)
+bounds-tab-at c = omega (arith, tab_long c.args.tab.now, c.requires)
 
-pub returns-in-0-to-111 : goal.returns-in-0-to-111
-returns-in-0-to-111 c =
-    let e = c.from.ensures ∙ byte_is c.args.tab.now c.args.at in
-    (e, omega arith)
+pub bounds-tab-at-2 : goal.bounds-tab-at-2
+bounds-tab-at-2 c = omega (arith, tab_long c.args.tab.now, c.requires)
 
-pub returns-in-112-to-254 : goal.returns-in-112-to-254
-returns-in-112-to-254 c =
-    let e = c.from.ensures ∙ byte_is c.args.tab.now c.args.at in
-    (ap (λ (n : ℕ). n - 112) e, omega arith, omega arith)
+-- the cell that was read
+cell_is : (c : After-from) → c.from.result ≡ name_cell_at (tab_of c.args.tab.now) c.args.at
+cell_is c = c.from.ensures ∙ c.from_be_bytes.ensures ∙ name_cell c.args.tab.now c.args.at
+
+pub returns-in-0-to-3583 : goal.returns-in-0-to-3583
+returns-in-0-to-3583 c =
+    let e = cell_is (goal.at.returns-in-0-to-3583 c).After-from in
+    (e, omega (arith, e))
+
+pub returns-in-3584-to-65534 : goal.returns-in-3584-to-65534
+returns-in-3584-to-65534 c =
+    let e = cell_is (goal.at.returns-in-3584-to-65534 c).After-from in
+    (ap (λ n. n - 3584) e, omega (arith, e), omega (arith, e))
 
 pub returns-in_default : goal.returns-in_default
-returns-in_default c =
-    let e = c.from.ensures ∙ byte_is c.args.tab.now c.args.at in
-    omega arith
+returns-in_default c = omega (arith, cell_is (goal.at.returns-in_default c).After-from)

@@ -1,112 +1,26 @@
-use native.Mathlib.Omega.{arith}
-use Prim.Native.Nat.{◌+◌, ◌*◌}
-use Rattle.ol_tables.proofs.Lending.{length_put}
-use Rattle.ol_frame.proofs.NodeRows.{narrow}
-use Rattle.ol_frame.proofs.Tabling.{rows_room}
-use Rattle.ol_run.proofs.MainCycle.{inside, few, own_room, own_new, open_ready, record_runnable, record_ran}
+use mathlib.Core.Path.{◌∙◌}
+use Rattle.ol_run.proofs.MainCycle.{open_ready, record_runnable, written_ready, told_ready, record_written, record_stopped}
 use Rattle.ol_run.proofs.main_cycle.run_record.Goals as goal
 
-pub row-n-requires : goal.row-n-requires
-row-n-requires c =
-    let h = c.requires in
-    (rows_room c.args.tab.now _ h.running.program.table.long, few h, omega arith)
+pub open-frame-requires : goal.open-frame-requires
+open-frame-requires c = open_ready c.requires c.cells_of-n.result c.cells_of-n.ensures.0 c.cells_of.result c.cells_of.ensures.0
 
-pub row-k-requires : goal.row-k-requires
-row-k-requires c =
-    let h = c.requires in
-    (rows_room c.args.tab.now _ h.running.program.table.long, few h, omega arith)
+pub run-r-requires : goal.run-r-requires
+run-r-requires c = record_runnable c.requires c.cells_of-n.result c.cells_of-n.ensures.0 c.cells_of.result c.cells_of.ensures.0 c.open-frame.ensures.opened c.open-frame.ensures.long
 
-pub overflow_mul-own : goal.overflow_mul-own
-overflow_mul-own c =
-    let h = c.requires in
-    let n = c.row-n.result in
-    let w = c.row-n.ensures in
-    omega (arith, narrow h.running (inside h) n w)
+pub finish-requires : goal.finish-requires
+finish-requires c =
+    written_ready c.requires c.cells_of-n.result c.cells_of-n.ensures.0 c.run-r.new.frame.cells.now c.run-r.new.new (c.run-r.ensures.1.long ∙ c.open-frame.ensures.long) c.run-r.auto.new
 
-pub overflow_add-own : goal.overflow_add-own
-overflow_add-own c =
-    let h = c.requires in
-    let n = c.row-n.result in
-    let w = c.row-n.ensures in
-    omega (arith, narrow h.running (inside h) n w)
+pub write_cells-requires : goal.write_cells-requires
+write_cells-requires c = told_ready c.requires c.cells_of-n.result c.cells_of-n.ensures.0 c.run-r.new.frame.cells.now (c.run-r.ensures.1.long ∙ c.open-frame.ensures.long)
 
-pub open-requires : goal.open-requires
-open-requires c =
-    let h = c.requires in
-    let n = c.row-n.result in
-    let w = c.row-n.ensures in
-    let i = c.row-k.result in
-    let iw = c.row-k.ensures in
-    open_ready h n i w iw
+pub returns-in-Values : goal.returns-in-Values
+returns-in-Values c =
+    record_written c.requires c.cells_of-n.result c.cells_of-n.ensures.0 c.cells_of.result c.cells_of.ensures.0 c.open-frame.ensures.opened c.open-frame.ensures.long c.run-r.new.frame.cells.now c.run-r.new.new c.run-r.result c.run-r.ensures.0
+    c.finish.new.to c.write_cells.new.to c.in-Values.is c.finish.ensures c.write_cells.ensures
 
-pub slice_bounds-run-count : goal.slice_bounds-run-count
-slice_bounds-run-count c =
-    let h = c.requires in
-    let n = c.row-n.result in
-    let w = c.row-n.ensures in
-    omega (arith, own_room h n w)
-
-pub slice_bounds-run-start : goal.slice_bounds-run-start
-slice_bounds-run-start c =
-    let h = c.requires in
-    let n = c.row-n.result in
-    let w = c.row-n.ensures in
-    omega (arith, own_room h n w)
-
-pub slice_bounds-run-end : goal.slice_bounds-run-end
-slice_bounds-run-end c =
-    let h = c.requires in
-    let n = c.row-n.result in
-    let w = c.row-n.ensures in
-    omega (arith, own_room h n w)
-
-pub slice_bounds-run-count-2 : goal.slice_bounds-run-count-2
-slice_bounds-run-count-2 c =
-    let h = c.requires in
-    let n = c.row-n.result in
-    let w = c.row-n.ensures in
-    omega (arith, own_new h n w)
-
-pub slice_bounds-run-start-2 : goal.slice_bounds-run-start-2
-slice_bounds-run-start-2 c =
-    let h = c.requires in
-    let n = c.row-n.result in
-    let w = c.row-n.ensures in
-    omega (arith, own_new h n w)
-
-pub slice_bounds-run-end-2 : goal.slice_bounds-run-end-2
-slice_bounds-run-end-2 c =
-    let h = c.requires in
-    let n = c.row-n.result in
-    let w = c.row-n.ensures in
-    omega (arith, own_new h n w)
-
-pub run-requires : goal.run-requires
-run-requires c =
-    let h = c.requires in
-    let n = c.row-n.result in
-    let w = c.row-n.ensures in
-    let i = c.row-k.result in
-    let iw = c.row-k.ensures in
-    let o = c.open.ensures in
-    record_runnable h n i w iw o
-
-pub shape_of-new : goal.shape_of-new
-shape_of-new c =
-    let h = c.requires in
-    let n = c.row-n.result in
-    let w = c.row-n.ensures in
-    let x = c.run.new.new in
-    let kx = c.run.auto.new in
-    length_put (1 + 9 * n) c.args.new.now x (own_new h n w) kx
-
-pub returns : goal.returns
-returns c =
-    let h = c.requires in
-    let n = c.row-n.result in
-    let w = c.row-n.ensures in
-    let i = c.row-k.result in
-    let iw = c.row-k.ensures in
-    let o = c.open.ensures in
-    let x = c.run.new.new in
-    record_ran h n i w iw o c.run.new.frame.cells x c.run.result c.run.ensures
+pub returns-in_default : goal.returns-in_default
+returns-in_default c =
+    record_stopped c.requires c.cells_of-n.result c.cells_of-n.ensures.0 c.cells_of.result c.cells_of.ensures.0 c.open-frame.ensures.opened c.open-frame.ensures.long c.run-r.new.frame.cells.now c.run-r.new.new c.run-r.result c.run-r.ensures.0
+    c.in_default.not-Values

@@ -3,7 +3,7 @@ use mathlib.Core.Path.{sym, ap, ◌∙◌}
 use native.Mathlib.Omega.{arith}
 use borrow.Author.Tests.{eqb-true, eqb-false}
 use Rattle.ol_state.specs.Ahead.{callees_of}
-use Rattle.ol_state.proofs.Instances.{few_nodes_lem, own_room, is_operator_lem, part_room, part_sited}
+use Rattle.ol_state.proofs.Instances.{few_nodes_lem, cells_counted, own_room, is_operator_lem, part_room, part_sited}
 use Rattle.ol_state.proofs.FreshRecords.{going_start, turn_of, going_on, going_done, none_written}
 use Rattle.ol_state.proofs.fresh.+write_fresh.Goals as goal
 
@@ -20,19 +20,19 @@ overflow_mul-used t c =
     let h = c.requires in
     let one = sym c.column.ensures ∙ eqb-true _ 1 (sym c.is.ensures ∙ c.if-is.true) in
     let own = own_room h.known h.below (is_operator_lem h.known h.below one) in
-    omega (arith, own, c.column-then-is.ensures, h.sized, h.small)
+    omega (arith, own, c.cells_of.ensures.0, cells_counted h.known h.below, h.sized, h.small)
 
 pub overflow_add-used : goal.overflow_add-used
 overflow_add-used t c =
     let h = c.requires in
     let one = sym c.column.ensures ∙ eqb-true _ 1 (sym c.is.ensures ∙ c.if-is.true) in
     let own = own_room h.known h.below (is_operator_lem h.known h.below one) in
-    omega (arith, own, c.column-then-is.ensures, h.sized, h.small)
+    omega (arith, own, c.cells_of.ensures.0, cells_counted h.known h.below, h.sized, h.small)
 
 pub loop-c-init : goal.loop-c-init
 loop-c-init t c =
     let one = sym c.column.ensures ∙ eqb-true _ 1 (sym c.is.ensures ∙ c.if-is.true) in
-    going_start c.requires one c.column-then-is.ensures (ap callees_of c.into_iter-c-iterator.ensures.into_iter_gives ∙ c.call_sites-c-items.ensures) c.write_own.ensures
+    going_start c.requires one (c.cells_of.ensures.0 ∙ cells_counted c.requires.known c.requires.below) (ap callees_of c.into_iter-c-iterator.ensures.into_iter_gives ∙ c.call_sites-c-items.ensures) c.write_own.ensures
 
 pub overflow_add-end : goal.overflow_add-end
 overflow_add-end t c =

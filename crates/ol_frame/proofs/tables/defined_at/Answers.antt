@@ -1,0 +1,13 @@
+use mathlib.Core.Path.{◌∙◌}
+use native.Mathlib.Omega.{arith}
+use Rattle.ol_frame.proofs.Tabling.{slot_byte, tab_long}
+use Rattle.ol_frame.proofs.tables.defined_at.Goals as goal
+
+pub overflow_add-at : goal.overflow_add-at
+overflow_add-at c = omega (arith, tab_long c.args.tab.now, c.requires, c.well_formed)
+
+pub bounds-tab-at : goal.bounds-tab-at
+bounds-tab-at c = omega (arith, tab_long c.args.tab.now, c.requires)
+
+pub returns : goal.returns
+returns c = (c.from.ensures ∙ slot_byte c.args.tab.now c.args.at, omega arith)
