@@ -7,8 +7,9 @@ use native.Mathlib.Omega.{arith}
 use lib.Dec.{eqb, T, eqb→eq}
 use lib.ListN.{length}
 use Rattle.ol_spec.specs.Limits.{relay_loader}
-use Rattle.ol_spec.specs.Syntax.{File, Node, variables, main}
+use Rattle.ol_spec.specs.Syntax.{File, Node, main}
 use Rattle.ol_spec.specs.Answers.{fault_at, cycled_fault}
+use Rattle.ol_spec.specs.Step.{cell_count, input_count}
 use Rattle.ol_spec.specs.State.{good_state, good_inputs}
 use Rattle.ol_spec.specs.Admission as Adm
 use Rattle.ol_spec.specs.Cycle.{CycleCall, cycle, cycle_judged, cycle_unless, fits17, no_cycle, end_run, main_run}
@@ -16,15 +17,14 @@ use Rattle.ol_spec.specs.declared.Cycled.{Cycled}
 use Rattle.ol_spec.specs.declared.Cycled.TheVariants as Cyc
 use Rattle.ol_spec.specs.declared.Fault.{Fault}
 use Rattle.ol_tables.specs.At.{file_at}
-use Rattle.ol_tables.specs.Tables.{Variants, row_at}
-use Rattle.ol_tables.specs.Table.{tab_of, rows_of, consts_of}
-use Rattle.ol_spec.proofs.Cells.{length_cells}
+use Rattle.ol_tables.specs.Tables.{Variants, count_at}
+use Rattle.ol_tables.specs.Table.{tab_of, rows_of, known_of, consts_of}
 use Rattle.ol_state.specs.Ready.{Ready}
 use Rattle.ol_run.specs.MainCycle.{RunReady, Cycles}
 use Rattle.ol_sim.specs.Calls.{CyclesAs}
 use Rattle.ol_sim.specs.Judging.{values_in, whole}
 use Rattle.ol_sim.specs.Answering.{AnswerReady}
-use Rattle.ol_sim.proofs.Starts.{main_is, eqb_same, eqb_other}
+use Rattle.ol_sim.proofs.Starts.{main_is, consts_full, eqb_same, eqb_other}
 
 as_call : {w : CycleCall} {r : Cycled} {n t : List ℕ} (v : CycleCall) → w ≡ v → CyclesAs v r n t → CyclesAs w r n t
 as_call v e h =
@@ -65,22 +65,22 @@ module _ (f : File) (old ins new vals : List ℕ) {r : Cycled} where
 -- ---- lengths
 
 module _ {s t : List ℕ} {size m : ℕ} (h : AnswerReady s t size m) where
-  -- the main node's variables, by its row
-  pub row_width : {n : ℕ} → n ≡ row_at (rows_of t) m 4 → n ≡ length (variables (main (file_at s)))
-  row_width e = e ∙ (h.tables.rowed.rows_of m (omega (arith, h.last))).variables ∙ ap (λ n. length (variables n)) (sym (main_is (file_at s) m h.last))
+  -- the main node's cells, by its number
+  pub cells_width : {n : ℕ} → n ≡ count_at (tab_of t) m 3 → n ≡ cell_count (main (file_at s))
+  cells_width e = e ∙ (h.tables.tabled.tabs_of m (omega (arith, h.last))).cells ∙ ap cell_count (sym (main_is (file_at s) m h.last))
 
-  pub fits_yes : {n : ℕ} (new vals : List ℕ) → n ≡ row_at (rows_of t) m 4 → length new ≡ size → length vals ≡ 9 * n → fits17 (file_at s) new vals ≡ true
+  pub fits_yes : {n : ℕ} (new vals : List ℕ) → n ≡ count_at (tab_of t) m 3 → length new ≡ size → length vals ≡ 9 * n → fits17 (file_at s) new vals ≡ true
   fits_yes new vals e a b =
-      ap (λ x. x && eqb (length vals) (9 * length (variables (main (file_at s))))) (eqb_same (length new) (Adm.state_size (file_at s)) (a ∙ h.sized))
-      ∙ eqb_same (length vals) (9 * length (variables (main (file_at s)))) (b ∙ ap (λ n. 9 * n) (row_width e))
+      ap (λ x. x && eqb (length vals) (9 * cell_count (main (file_at s)))) (eqb_same (length new) (Adm.state_size (file_at s)) (a ∙ h.sized))
+      ∙ eqb_same (length vals) (9 * cell_count (main (file_at s))) (b ∙ ap (λ n. 9 * n) (cells_width e))
 
   pub fits_new : (new vals : List ℕ) → (length new ≡ size → ⊥) → fits17 (file_at s) new vals ≡ false
-  fits_new new vals a = ap (λ x. x && eqb (length vals) (9 * length (variables (main (file_at s))))) (eqb_other (length new) (Adm.state_size (file_at s)) (λ e. a (e ∙ sym h.sized)))
+  fits_new new vals a = ap (λ x. x && eqb (length vals) (9 * cell_count (main (file_at s)))) (eqb_other (length new) (Adm.state_size (file_at s)) (λ e. a (e ∙ sym h.sized)))
 
-  pub fits_values : {n : ℕ} (new vals : List ℕ) → n ≡ row_at (rows_of t) m 4 → length new ≡ size → (length vals ≡ 9 * n → ⊥) → fits17 (file_at s) new vals ≡ false
+  pub fits_values : {n : ℕ} (new vals : List ℕ) → n ≡ count_at (tab_of t) m 3 → length new ≡ size → (length vals ≡ 9 * n → ⊥) → fits17 (file_at s) new vals ≡ false
   fits_values new vals e a b =
-      ap (λ x. x && eqb (length vals) (9 * length (variables (main (file_at s))))) (eqb_same (length new) (Adm.state_size (file_at s)) (a ∙ h.sized))
-      ∙ eqb_other (length vals) (9 * length (variables (main (file_at s)))) (λ q. b (q ∙ ap (λ n. 9 * n) (sym (row_width e))))
+      ap (λ x. x && eqb (length vals) (9 * cell_count (main (file_at s)))) (eqb_same (length new) (Adm.state_size (file_at s)) (a ∙ h.sized))
+      ∙ eqb_other (length vals) (9 * cell_count (main (file_at s))) (λ q. b (q ∙ ap (λ n. 9 * n) (sym (cells_width e))))
 
 -- ---- what was judged
 
@@ -106,30 +106,27 @@ pub old_long : (f : File) (old : List ℕ) → good_state f (values_in f) old �
 unfolding good_state
 old_long f old e = eqb→eq (length old) (Adm.state_size f) (true_t _ (and_left (eqb (length old) (Adm.state_size f)) _ (and_left _ _ e)))
 
-pub inputs_long : (f : File) (ins : List ℕ) → good_inputs f ins ≡ true → length ins ≡ 9 * length (main f).inputs
+pub inputs_long : (f : File) (ins : List ℕ) → good_inputs f ins ≡ true → length ins ≡ 9 * input_count (main f)
 unfolding good_inputs
-inputs_long f ins e = eqb→eq (length ins) (9 * length (main f).inputs) (true_t _ (and_left (eqb (length ins) (9 * length (main f).inputs)) _ e))
+inputs_long f ins e = eqb→eq (length ins) (9 * input_count (main f)) (true_t _ (and_left (eqb (length ins) (9 * input_count (main f))) _ e))
 
 -- what the main instance's run is told
-pub run_ready : {s t : List ℕ} {size m : ℕ} {n : ℕ} (old ins new vals : List ℕ) → AnswerReady s t size m → good_state (file_at s) (values_in (file_at s)) old ≡ true → good_inputs (file_at s) ins ≡ true → n ≡ row_at (rows_of t) m 4 → length new ≡ size → length vals ≡ 9 * n → RunReady s (tab_of t) (rows_of t) (consts_of t) m old ins new vals
+pub run_ready : {s t : List ℕ} {size m : ℕ} {n : ℕ} (old ins new vals : List ℕ) → AnswerReady s t size m → good_state (file_at s) (values_in (file_at s)) old ≡ true → good_inputs (file_at s) ins ≡ true → n ≡ count_at (tab_of t) m 3 → length new ≡ size → length vals ≡ 9 * n → RunReady s (tab_of t) (rows_of t) (known_of t) (consts_of t) m old ins new vals
 run_ready {s} {t} {size} {m} old ins new vals h p q e a b =
     record {
       running = h.running;
       last = h.last;
       head = h.long;
+      full = consts_full h;
       sized = old_long (file_at s) old p;
       small = omega (arith, old_long (file_at s) old p, h.sized, h.small);
-      given = inputs_long (file_at s) ins q ∙ ap (λ (n : Node). 9 * length n.inputs) (main_is (file_at s) m h.last);
+      given = inputs_long (file_at s) ins q ∙ ap (λ (n : Node). 9 * input_count n) (main_is (file_at s) m h.last);
       renewed = a ∙ h.sized ∙ sym (old_long (file_at s) old p);
-      told = b ∙ ap (λ k. 9 * k) (e ∙ (h.tables.rowed.rows_of m (omega (arith, h.last))).variables);
+      told = b ∙ ap (λ k. 9 * k) (e ∙ (h.tables.tabled.tabs_of m (omega (arith, h.last))).cells);
     }
 
--- as many values as constants
-pub values_many : {s t : List ℕ} {size m : ℕ} → AnswerReady s t size m → length (values_in (file_at s)) ≡ length (file_at s).constants
-values_many {s} h = omega (arith, ap length h.held.is, length_cells (values_in (file_at s)), h.long)
-
 -- what 15 is told
-pub state_ready : {s t names : List ℕ} {size m : ℕ} → AnswerReady s t size m → Variants (file_at s) names → Ready (file_at s) s (tab_of t) (rows_of t) names (consts_of t)
+pub state_ready : {s t names : List ℕ} {size m : ℕ} → AnswerReady s t size m → Variants (file_at s) names → Ready (file_at s) s (tab_of t) (rows_of t) names (known_of t) (consts_of t)
 state_ready {s} {m = m} h tells =
     record {
       known = h.running.known;
@@ -137,4 +134,5 @@ state_ready {s} {m = m} h tells =
       operator = ap (λ (n : Node). n.kind) (main_is (file_at s) m h.last) ∙ h.operator;
       small = omega (arith, h.sized, h.small);
       head = h.long;
+      full = consts_full h;
     }

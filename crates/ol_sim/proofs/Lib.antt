@@ -1,6 +1,8 @@
 pub mod Chain
 pub mod Lows
+pub mod Plain
 pub mod Slotting
+pub mod Shapes
 pub mod Tables
 pub mod Packing
 pub mod Steps

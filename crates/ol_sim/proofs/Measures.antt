@@ -1,4 +1,4 @@
--- The lengths: of an admitted file by its rows, and those of node 0, which every admitted file has.
+-- The lengths: of an admitted file by its tables, and those of node 0, which every admitted file has.
 use Prim.Native.Nat.{ℕ, ◌*◌, ◌≤◌}
 use mathlib.Core.List.{List}
 use mathlib.Core.Option.{some}
@@ -6,10 +6,11 @@ use mathlib.Core.Path.{◌≡◌, refl, ap, sym, subst, ◌∙◌}
 use native.Mathlib.Omega.{arith}
 use lib.ListN.{length}
 use Rattle.ol_spec.specs.Limits.{relay_loader}
-use Rattle.ol_spec.specs.Syntax.{File, Node, no_node, main, variables}
+use Rattle.ol_spec.specs.Syntax.{File, no_node, main}
 use Rattle.ol_spec.specs.Answers.{Measured, Verdict, fault_at, measured_fault, verdict_fault, verdict_length}
 use Rattle.ol_spec.specs.declared.Fault.{Fault}
 use Rattle.ol_spec.specs.Admission as Adm
+use Rattle.ol_spec.specs.Step.{cell_count, input_count}
 use Rattle.ol_spec.specs.Cycle.{measure_node, measure, lengths}
 use Rattle.ol_spec.specs.Demand3.{Bytes}
 use Rattle.ol_spec.specs.Read.{got}
@@ -17,34 +18,30 @@ use Rattle.ol_spec.specs.declared.Value.{Value}
 use Rattle.std.specs.Prelude.{Ok, Err}
 use Rattle.ol_spec.proofs.Admits.{admits}
 use Rattle.ol_tables.specs.At.{file_at, item_of, no_file}
-use Rattle.ol_tables.specs.Tables.{row_at, node_of}
-use Rattle.ol_tables.specs.Table.{rows_of}
-use Rattle.ol_tables.proofs.HeadsFile.{file_stands, node_at_lem}
+use Rattle.ol_tables.specs.Tables.{row_at, count_at, node_of}
+use Rattle.ol_tables.specs.Table.{tab_of, rows_of}
+use Rattle.ol_tables.proofs.HeadsFile.{file_stands}
 use Rattle.ol_ir.proofs.Bytes.{get_in, get_out}
-use Rattle.ol_check.proofs.RowLoops.{few_variables}
 use Rattle.ol_sim.specs.Calls.{MeasuresAs, AdmitsAs}
 use Rattle.ol_sim.specs.Judging.{whole}
 use Rattle.ol_sim.specs.Answering.{AnswerReady}
 use Rattle.ol_sim.specs.Serving.{verdict_of}
 use Rattle.ol_sim.proofs.Starts.{main_is}
 
--- ---- by the rows
+-- ---- by the tables
 
 module _ {s t : List ℕ} {size m : ℕ} (h : AnswerReady s t size m) where
   abbrev f : File
   f = file_at s
 
-  pub few_inputs_lem : row_at (rows_of t) m 2 ≤ 32
-  few_inputs_lem = omega (arith, (h.tables.rowed.rows_of m (omega (arith, h.last))).inputs, (node_at_lem h.tables.stands m (omega (arith, h.last))).few_inputs)
+  pub few_main : m ≤ 65535
+  few_main = omega (arith, h.last, h.tables.stands.few_nodes)
 
-  pub few_values : row_at (rows_of t) m 4 ≤ 112
-  few_values = omega (arith, (h.tables.rowed.rows_of m (omega (arith, h.last))).variables, few_variables (node_at_lem h.tables.stands m (omega (arith, h.last))))
-
-  pub lengths_here : {i v q : ℕ} (k : ℕ) → k ≤ m → i ≡ row_at (rows_of t) m 2 → v ≡ row_at (rows_of t) m 4 → q ≡ row_at (rows_of t) k 5 → Ok (record { state = size; inputs = 9 * i; values = 9 * v; equations = q }) ≡ measure (whole f) k
+  pub lengths_here : {i v q : ℕ} (k : ℕ) → k ≤ m → i ≡ count_at (tab_of t) m 1 → v ≡ count_at (tab_of t) m 3 → q ≡ row_at (rows_of t) k 5 → Ok (record { state = size; inputs = 9 * i; values = 9 * v; equations = q }) ≡ measure (whole f) k
   lengths_here {i} {v} {q} k le ei ev eq =
-      let r = h.tables.rowed.rows_of m (omega (arith, h.last)) in
-      let is : i ≡ length (main f).inputs = ei ∙ r.inputs ∙ ap (λ (n : Node). length n.inputs) (sym (main_is f m h.last)) in
-      let vs : v ≡ length (variables (main f)) = ev ∙ r.variables ∙ ap (λ (n : Node). length (variables n)) (sym (main_is f m h.last)) in
+      let r = h.tables.tabled.tabs_of m (omega (arith, h.last)) in
+      let is : i ≡ input_count (main f) = ei ∙ r.input_cells ∙ ap input_count (sym (main_is f m h.last)) in
+      let vs : v ≡ cell_count (main f) = ev ∙ r.cells ∙ ap cell_count (sym (main_is f m h.last)) in
       let qs : q ≡ length (node_of f k).equations = eq ∙ (h.tables.rowed.rows_of k (omega (arith, h.last))).count in
       rw (h.sized, is, vs, qs) (sym (ap (measure_node f) (get_in f.nodes k no_node (omega (arith, h.last)))))
 

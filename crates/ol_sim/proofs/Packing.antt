@@ -3,11 +3,11 @@ use Prim.Native.Nat.{ℕ, zero, suc, ◌+◌, ◌-◌, ◌*◌, ◌/◌, ◌%◌
 use mathlib.Core.List.{List, [], ◌∷◌, map}
 use mathlib.Core.Path.{◌≡◌, ap, sym, subst, ◌∙◌}
 use native.Mathlib.Omega.{arith}
-use lib.ListN.{length, get_or, drop}
+use lib.ListN.{length, get_or, drop, length-drop}
 use lib.Seq.{drop-drop}
 use Rattle.ol_spec.specs.Lists.{sum}
-use Rattle.ol_spec.specs.Syntax.{Ty, bool, int, float32, float64, char, enum, NodeKind, Function, Operator, Imported, Variable, File}
-use Rattle.ol_spec.specs.Places.{ty_size, variable_size}
+use Rattle.ol_spec.specs.Syntax.{Ty, bool, int, float32, float64, char, enum, VarTy, scalar, array, NodeKind, Function, Operator, Imported, Variable, File}
+use Rattle.ol_spec.specs.Places.{ty_size, var_ty_size, variable_size}
 use Rattle.ol_spec.specs.Encode.{kind_code}
 use Rattle.ol_tables.specs.At.{file_at}
 use Rattle.ol_tables.specs.Stands.{FileStands}
@@ -15,22 +15,27 @@ use Rattle.ol_tables.specs.Tables.{Rows, Tab, node_of, row_at, first_at}
 use Rattle.ol_tables.proofs.HeadsFile.{node_at_lem}
 use Rattle.ol_state.proofs.Told.{first_short}
 use Rattle.ol_run.specs.Admitted.{Admitted}
-use Rattle.ol_run.specs.Constants.{SameTables}
+use Rattle.ol_run.specs.Constants.{SameTables, Holding}
+use Rattle.ol_run.proofs.Telling.{tab_kept}
 use Rattle.ol_tables.specs.Table.{rows_of, tab_of, Packs}
 use Rattle.ol_tables.proofs.TableLaws.{rows_long_lem, rows_get}
 use Rattle.ol_sim.proofs.Tables.{width}
 
 -- ---- the numbers of the rows are small
 
-type_few : (t : Ty) → ty_size t ≤ 2
-type_few bool = omega arith
-type_few (int c) = omega arith
-type_few float32 = omega arith
-type_few float64 = omega arith
-type_few char = omega arith
-type_few (enum e) = omega arith
+scalar_few : (t : Ty) → ty_size t ≤ 2
+scalar_few bool = omega arith
+scalar_few (int c) = omega arith
+scalar_few float32 = omega arith
+scalar_few float64 = omega arith
+scalar_few char = omega arith
+scalar_few (enum e) = omega arith
 
-sizes_few : (vs : List Variable) → sum (map variable_size vs) ≤ 4 * length vs
+type_few : (t : VarTy) → var_ty_size t ≤ 4
+type_few (scalar t) = omega (arith, scalar_few t)
+type_few (array n t) = omega (arith, scalar_few t)
+
+sizes_few : (vs : List Variable) → sum (map variable_size vs) ≤ 6 * length vs
 sizes_few [] = omega arith
 sizes_few (v ∷ vs) = omega (arith, type_few v.ty, sizes_few vs)
 
@@ -99,7 +104,7 @@ module _ {s rows : List ℕ} (st : FileStands s (file_at s)) (rowed : Rows (file
         }
 
     tab_packed : tab_of t₂ ≡ tab_of t
-    tab_packed = sym (drop-drop 577 816 t₂) ∙ ap (drop 577) (q.rest ∙ p.rest) ∙ drop-drop 577 816 t
+    tab_packed = sym (drop-drop 578 816 t₂) ∙ ap (drop 578) (q.rest ∙ p.rest) ∙ drop-drop 578 816 t
 
 -- the table of an admitted file has its rows too
 pub admitted_packed : {s rows t t₁ t₂ : List ℕ} → Admitted s rows (tab_of t) → Packs rows 0 (length (file_at s).nodes * 8) t t₁ → Packs rows 256 (256 + length (file_at s).enums) t₁ t₂ → Admitted s (rows_of t₂) (tab_of t₂)
@@ -113,12 +118,21 @@ admitted_packed {s} {rows} {t} {t₁} {t₂} a p q =
     }
 
 -- storing the constants' cells keeps them
-pub admitted_same : {s t t' : List ℕ} → Admitted s (rows_of t) (tab_of t) → SameTables t t' → Admitted s (rows_of t') (tab_of t')
+pub admitted_same : {s t t' : List ℕ} → Admitted s (rows_of t) (tab_of t) → SameTables (length s) t t' → Admitted s (rows_of t') (tab_of t')
 admitted_same {s} {t} {t'} a h =
     record {
       reads = a.reads;
       stands = a.stands;
       ordered = a.ordered;
       rowed = subst (λ l. Rows (file_at s) l) (sym h.rows) a.rowed;
-      tabled = subst (λ l. Tab (file_at s) (length s) l) (sym h.tab) a.tabled;
+      tabled = tab_kept a.stands (tab_of t) (tab_of t') (length-drop 1394 t' ∙ ap (λ n. n - 1394) h.long ∙ sym (length-drop 1394 t)) h.tab a.tabled;
+    }
+
+-- the constants' cells have room in a table of that length
+pub holding_same : {t t' : List ℕ} {bytes many : ℕ} → length t' ≡ length t → Holding t bytes many → Holding t' bytes many
+holding_same {t} {t'} e h =
+    record {
+      long = omega (arith, e, h.long);
+      narrow = λ lt. h.narrow (omega (arith, e, lt));
+      wide = λ le. let w = h.wide (omega (arith, e, le)) in (w.0, omega (arith, w.1, e, length-drop 1394 t, length-drop 1394 t'));
     }

@@ -9,13 +9,17 @@ use Rattle.ol_spec.specs.Limits.{relay_loader}
 use Rattle.ol_spec.specs.Syntax.{File}
 use Rattle.ol_spec.specs.Places.{node_size, nodes_start, placed_nodes}
 use Rattle.ol_spec.specs.Read.{got, read_file}
+use Rattle.ol_spec.specs.Demand3.{Bytes}
 use Rattle.ol_spec.specs.Admission as Adm
 use Rattle.ol_spec.specs.declared.Fault.{Fault}
 use Rattle.ol_tables.specs.At.{file_at, item_of, no_file}
 use Rattle.ol_tables.specs.Stands.{FileReads, FileStands}
+use Rattle.ol_tables.proofs.HeadsFile.{file_stands}
 use Rattle.std.specs.Prelude.{Ok, Err}
 use Rattle.ol_ir.specs.Walks.{place_of, loaded_of}
 use Rattle.ol_ir.specs.declared.Loaded.{Loaded}
+use Rattle.ol_sim.specs.declared.program.Project.{Project}
+use Rattle.ol_sim.specs.Judging.{Loads}
 use Rattle.ol_order.proofs.Nodes.{length_placed, table_front, loaded_file, loaded_not}
 
 module _ (s : List ℕ) {l : Loaded} (e : Ok l ≡ loaded_of (read_file s relay_loader)) where
@@ -38,6 +42,16 @@ module _ (s : List ℕ) {l : Loaded} (e : Ok l ≡ loaded_of (read_file s relay_
 
   pub few_places : FileStands s (file_at s) → l.nodes ≤ 32
   few_places st = omega (arith, many_nodes, st.few_nodes)
+
+-- the project that `serve` makes of what loading found
+pub project_loads : {p : Project} {l : Loaded} {t : List ℕ} → Bytes p.file.now → Ok l ≡ loaded_of (read_file p.file.now relay_loader)
+    → ((f : File) (end : ℕ) → read_file p.file.now relay_loader ≡ got f end → t ≡ sets (replicate 32 0) 0 (map place_of (placed_nodes f)))
+    → p.enums ≡ l.enums → p.places.now ≡ take l.nodes t → Loads p
+project_loads {p} {l} {t} bytes read i enums places =
+    let s = p.file.now in
+    let reads = file_reads s read in
+    let w = loads s read (file_stands bytes reads) i in
+    record { bytes = bytes; reads = reads; counted = w.0 ∙ sym enums; placed = places ∙ w.1 }
 
 -- ---- a file that was not
 

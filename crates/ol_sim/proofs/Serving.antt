@@ -27,12 +27,13 @@ use Rattle.ol_sim.specs.Serving.{Serves}
 use Rattle.ol_sim.specs.declared.program.Program.{Program}
 use Rattle.ol_sim.specs.Calls.{MeasuresAs, StartsAs, CyclesAs}
 use Rattle.ol_sim.proofs.Chain.{erred}
+use Rattle.ol_sim.proofs.Steps.{slots_many}
 use Rattle.ol_sim.proofs.Measures.{measures_refused}
 use Rattle.ol_sim.proofs.Starts.{starts_refused, main_operator}
 use Rattle.ol_sim.proofs.Cycles.{cycle_refused}
 
-pub consts_many : {s t : List ℕ} {size m : ℕ} → Admits s t size m → length (consts_of t) ≡ 9 * length (file_at s).constants
-consts_many {s} a = ap length a.held.is ∙ length_cells (values_in (file_at s)) ∙ ap (λ i. 9 * i) a.held.many
+pub consts_many : {s t : List ℕ} {size m : ℕ} → Admits s t size m → length (consts_of t) ≡ Adm.head_size (file_at s)
+consts_many {s} a = ap length a.held.is ∙ length_cells (values_in (file_at s)) ∙ ap (λ i. 9 * i) (a.held.many ∙ slots_many (file_at s).constants)
 
 pub answer_ready : {s t : List ℕ} {size m : ℕ} → Admits s t size m → Running s (tab_of t) (rows_of t) (consts_of t) → AnswerReady s t size m
 answer_ready {s} {t} {size} {m} a running =

@@ -18,12 +18,13 @@ use Rattle.ol_spec.specs.Cycle.{StartCall, start, start_judged, start_fits}
 use Rattle.std.specs.Prelude.{Ok, Err}
 use Rattle.ol_spec.specs.declared.Fault.{Fault}
 use Rattle.ol_spec.specs.declared.Value.{Value}
+use Rattle.ol_spec.proofs.Cells.{length_cells}
 use Rattle.ol_spec.proofs.MainFacts.{main_at_lem}
 use Rattle.ol_spec.proofs.Calls.{site_size_lem}
 use Rattle.ol_tables.specs.At.{file_at}
 use Rattle.ol_tables.specs.Stands.{FileReads}
 use Rattle.ol_tables.specs.Tables.{node_of, site_bytes}
-use Rattle.ol_tables.specs.Table.{tab_of, rows_of, consts_of}
+use Rattle.ol_tables.specs.Table.{tab_of, rows_of, known_of, consts_of}
 use Rattle.ol_state.specs.Known.{Sited}
 use Rattle.ol_state.proofs.FreshRecords.{fresh_record_lem}
 use Rattle.ol_sim.specs.Calls.{StartsAs}
@@ -104,6 +105,10 @@ operator_kind Imported f e = absurd (some_none e)
 pub main_operator : (f : File) (m : ℕ) → suc m ≡ length f.nodes → Adm.fault14 f ≡ mathlib.Core.Option.none → (node_of f m).kind ≡ Operator
 main_operator f m e no14 = ap (λ (n : Node). n.kind) (sym (main_is f m e)) ∙ operator_kind (main f).kind f no14
 
+-- as many bytes as the table says
+pub consts_full : {s t : List ℕ} {size m : ℕ} → AnswerReady s t size m → length (consts_of t) ≡ 9 * known_of t
+consts_full {s} h = ap length h.held.is ∙ length_cells (values_in (file_at s)) ∙ ap (λ i. 9 * i) (sym h.held.counted)
+
 -- what writing the fresh state is told
 pub start_ready : {s t : List ℕ} {size m : ℕ} (state : List ℕ) → AnswerReady s t size m → length state ≡ size → StartReady s t m state
 start_ready state h e =
@@ -111,6 +116,7 @@ start_ready state h e =
       known = h.running.known;
       held = h.held.is;
       long = h.long;
+      full = consts_full h;
       last = h.last;
       operator = h.operator;
       sized = e ∙ h.sized;
@@ -119,7 +125,7 @@ start_ready state h e =
 
 -- ---- lengths
 
-state_is : (f : File) → Adm.state_size f ≡ 9 * length f.constants + instance_size (sizes_at (length f.nodes) f.nodes) (main f)
+state_is : (f : File) → Adm.state_size f ≡ Adm.head_size f + instance_size (sizes_at (length f.nodes) f.nodes) (main f)
 unfolding Adm.state_size
 state_is f = refl
 

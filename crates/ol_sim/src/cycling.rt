@@ -10,8 +10,7 @@ use crate::program::Program;
 use ol_run::main_cycle::run_main;
 use ol_spec::{Cycled, Fault};
 use ol_state::{good_inputs, good_state};
-use ol_tables::table::column;
-use ol_tables::tables::VARIABLES;
+use ol_tables::table::cells_of;
 
 // A refusal at place 0.
 fn refuse(number: u8) -> Cycled
@@ -41,7 +40,7 @@ impl Program<'_> {
         if !good_inputs(file, tab, inputs) {
             return refuse(16);
         }
-        let n = column(tab, main, VARIABLES);
+        let n = cells_of(tab, main, 3);
         if new.len() != self.size || values.len() != 9 * n {
             return refuse(17);
         }

@@ -6,8 +6,8 @@ ghost use Rattle.ol_sim.specs.Serving.{Stands};
 
 use crate::program::Program;
 use ol_spec::{Fault, Lengths};
-use ol_tables::table::column;
-use ol_tables::tables::{COUNT, INPUTS, VARIABLES};
+use ol_tables::table::{cells_of, column};
+use ol_tables::tables::COUNT;
 
 impl Program<'_> {
     // The main node's inputs and values, and the equations of a node; 3 at place 0 where there is no such node.
@@ -20,8 +20,8 @@ impl Program<'_> {
         if node <= main {
             Ok(Lengths {
                 state: self.size,
-                inputs: 9 * column(tab, main, INPUTS),
-                values: 9 * column(tab, main, VARIABLES),
+                inputs: 9 * cells_of(tab, main, 1),
+                values: 9 * cells_of(tab, main, 3),
                 equations: column(tab, node, COUNT),
             })
         } else {

@@ -12,17 +12,16 @@ ghost use Rattle.ol_sim.specs.Serving.{Stands};
 use crate::program::Program;
 use ol_spec::Fault;
 use ol_state::fresh::write_fresh;
-use ol_tables::bytes::byte;
-use ol_tables::table::{CONSTANTS, KNOWN};
+use ol_tables::table::{consts_from, known};
 
 // The constants' cells, then the main instance, fresh.
 fn write_start(file: &[u8], tab: &[u8], main: usize, state: &mut [u8])
     requires { StartReady file.now tab.now main state.old }
     ensures { state.new ≡ fresh_state (file_at file.now) (values_in (file_at file.now)) }
 {
-    let n = 9 * byte(tab, KNOWN);
-    let end = CONSTANTS + n;
-    let cells = &tab[CONSTANTS..end];
+    let n = 9 * known(tab);
+    let from = consts_from(tab);
+    let cells = &tab[from..from + n];
     state[..n].copy_from_slice(cells);
     write_fresh(file, tab, main, &mut state[n..]);
 }

@@ -13,7 +13,7 @@ judge_names-requires g c =
     record {
       loads = r.loads;
       names_ready = record { sections = r.sections_ready; empty = empty_zeros f g.row.N (low_within g.row.N f r.below); lows = r.lows };
-      clash_value = r.clash_value;
+      found = r.found;
     }
 
 pub call-requires : goal.call-requires
@@ -26,7 +26,7 @@ call-requires g c =
     let empty = empty_zeros (file_at s) g.row.N (low_within g.row.N (file_at s) c.requires.below) in
     c.requires.callable _ (record {
       ready = answer_ready admits (running admits.tables _ c.requires.loads.bytes (consts_many admits));
-      tells = names_tell st.rowed.stands empty admits.tables.ordered.sound.no6 c.judge_names.ensures.named;
+      tells = names_tell st.rowed.stands empty admits.tables.ordered.shaped.sound.no6 c.judge_names.ensures.named;
       judged = judged_whole reads judged;
     })
 

@@ -15,6 +15,6 @@ serve_named-requires g c =
       sections_ready = r.sections_ready;
       below = r.below;
       lows = λ e. absurd (false_not_true e);
-      clash_value = c.sort_file-s.ensures.finds (blank_zeros f g.row.N r.below);
+      found = record { clash = c.sort_file-s.ensures.finds (blank_zeros f g.row.N r.below); arrays = c.sort_file-s.ensures.arrays };
       fits = r.fits;
     }

@@ -2,7 +2,7 @@ use Rattle.std.proofs.Common.{◌<◌, arith}
 use Rattle.ol_tables.specs.At.{file_at}
 use Rattle.ol_check.proofs.ClashFile.{names_below}
 use Rattle.ol_check.proofs.NamesBelow.{high_declared}
-use Rattle.ol_sim.proofs.Begins.{rowed_done, declared_ready, places_are, types_room, typed_long, blank_slots, sorted_ready}
+use Rattle.ol_sim.proofs.Begins.{rowed_done, declared_ready, places_are, types_room, typed_long, blank_sorts, countable, counted_ready}
 use Rattle.ol_sim.proofs.serve.serve_with.Goals as goal
 
 pub rows_of-sections-requires : goal.rows_of-sections-requires
@@ -24,31 +24,58 @@ sort_file-s-requires g c =
     let r = c.rows_of-sections in
     declared_ready (rowed_done c.requires.ready r.ensures)
 
+pub count_arrays-requires-clause-countable : goal.count_arrays-requires-clause-countable
+count_arrays-requires-clause-countable g c =
+    let r = c.rows_of-sections in
+    countable r.new.tab c.requires.ready r.ensures r.auto.tab c.sort_file-s.new.sorts c.sort_file-s.auto.sorts c.sort_file-s.ensures.arrays
+
 pub serve_named-requires-clause-sections_ready : goal.serve_named-requires-clause-sections_ready
 serve_named-requires-clause-sections_ready g c =
     let r = c.rows_of-sections in
-    sorted_ready r.new.tab c.requires.ready r.ensures r.auto.tab c.sort_file-s.new.sorts c.sort_file-s.auto.sorts
+    counted_ready r.new.tab c.requires.ready r.ensures r.auto.tab c.sort_file-s.new.sorts c.sort_file-s.auto.sorts c.count_arrays.new.tab c.count_arrays.ensures.0 c.count_arrays.ensures.1
 
 pub serve_named-requires-clause-below : goal.serve_named-requires-clause-below
 serve_named-requires-clause-below g c =
-    let low : c.sort_file-s.result.highest < 1024 = omega arith in
-    names_below 1024 c.sort_file-s.ensures low
+    let low : c.sort_file-s.result.highest < 256 = omega arith in
+    names_below 256 c.sort_file-s.ensures low
 
 pub serve_named-requires-clause-lows : goal.serve_named-requires-clause-lows
 serve_named-requires-clause-lows g c =
-    let low : c.sort_file-s.result.highest < 1024 = omega arith in
-    λ e. names_below 1024 c.sort_file-s.ensures low
+    let low : c.sort_file-s.result.highest < 256 = omega arith in
+    λ e. names_below 256 c.sort_file-s.ensures low
 
-pub serve_named-requires-clause-clash_value : goal.serve_named-requires-clause-clash_value
-serve_named-requires-clause-clash_value g c =
+pub serve_named-requires-clause-found : goal.serve_named-requires-clause-found
+serve_named-requires-clause-found g c =
     let r = c.rows_of-sections in
     let low : c.sort_file-s.result.highest < 1024 = omega arith in
-    c.sort_file-s.ensures.finds (blank_slots r.new.tab c.requires.ready r.ensures r.auto.tab (names_below 1024 c.sort_file-s.ensures low))
+    record {
+      clash = c.sort_file-s.ensures.finds (blank_sorts r.new.tab c.requires.ready r.ensures r.auto.tab (names_below 1024 c.sort_file-s.ensures low));
+      arrays = c.sort_file-s.ensures.arrays;
+    }
+
+pub serve_named-requires-then-s-lt1024-clause-sections_ready : goal.serve_named-requires-then-s-lt1024-clause-sections_ready
+serve_named-requires-then-s-lt1024-clause-sections_ready g c =
+    let r = c.rows_of-sections in
+    counted_ready r.new.tab c.requires.ready r.ensures r.auto.tab c.sort_file-s.new.sorts c.sort_file-s.auto.sorts c.count_arrays.new.tab c.count_arrays.ensures.0 c.count_arrays.ensures.1
+
+pub serve_named-requires-then-s-lt1024-clause-below : goal.serve_named-requires-then-s-lt1024-clause-below
+serve_named-requires-then-s-lt1024-clause-below g c =
+    let low : c.sort_file-s.result.highest < 1024 = omega arith in
+    names_below 1024 c.sort_file-s.ensures low
+
+pub serve_named-requires-then-s-lt1024-clause-found : goal.serve_named-requires-then-s-lt1024-clause-found
+serve_named-requires-then-s-lt1024-clause-found g c =
+    let r = c.rows_of-sections in
+    let low : c.sort_file-s.result.highest < 1024 = omega arith in
+    record {
+      clash = c.sort_file-s.ensures.finds (blank_sorts r.new.tab c.requires.ready r.ensures r.auto.tab (names_below 1024 c.sort_file-s.ensures low));
+      arrays = c.sort_file-s.ensures.arrays;
+    }
 
 pub serve_sorted-requires-clause-sections_ready : goal.serve_sorted-requires-clause-sections_ready
 serve_sorted-requires-clause-sections_ready g c =
     let r = c.rows_of-sections in
-    sorted_ready r.new.tab c.requires.ready r.ensures r.auto.tab c.sort_file-s.new.sorts c.sort_file-s.auto.sorts
+    counted_ready r.new.tab c.requires.ready r.ensures r.auto.tab c.sort_file-s.new.sorts c.sort_file-s.auto.sorts c.count_arrays.new.tab c.count_arrays.ensures.0 c.count_arrays.ensures.1
 
 pub serve_sorted-requires-clause-below : goal.serve_sorted-requires-clause-below
 serve_sorted-requires-clause-below g c =
@@ -58,7 +85,7 @@ serve_sorted-requires-clause-below g c =
 pub serve_sorted-requires-else-s-lt8192-clause-sections_ready : goal.serve_sorted-requires-else-s-lt8192-clause-sections_ready
 serve_sorted-requires-else-s-lt8192-clause-sections_ready g c =
     let r = c.rows_of-sections in
-    sorted_ready r.new.tab c.requires.ready r.ensures r.auto.tab c.sort_file-s.new.sorts c.sort_file-s.auto.sorts
+    counted_ready r.new.tab c.requires.ready r.ensures r.auto.tab c.sort_file-s.new.sorts c.sort_file-s.auto.sorts c.count_arrays.new.tab c.count_arrays.ensures.0 c.count_arrays.ensures.1
 
 pub serve_sorted-requires-else-s-lt8192-clause-below : goal.serve_sorted-requires-else-s-lt8192-clause-below
 serve_sorted-requires-else-s-lt8192-clause-below g c = high_declared (file_at c.args.project.now.file.now) c.requires.ready.stands

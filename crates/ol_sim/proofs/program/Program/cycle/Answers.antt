@@ -2,7 +2,7 @@ use Rattle.std.proofs.Common.{◌≡◌, Bool, false, sym}
 use Rattle.ol_spec.specs.Cycle.{fits17}
 use Rattle.ol_tables.specs.At.{file_at}
 use Rattle.ol_sim.specs.Judging.{values_in}
-use Rattle.ol_sim.proofs.Cycles.{cycle_whole, unless_15, unless_16, unless_17, unless_run, fits_yes, fits_new, fits_values, run_ready, state_ready, values_many}
+use Rattle.ol_sim.proofs.Cycles.{cycle_whole, unless_15, unless_16, unless_17, unless_run, fits_yes, fits_new, fits_values, run_ready, state_ready}
 use Rattle.ol_sim.proofs.program.Program.cycle.Goals as goal
 use Rattle.ol_sim.proofs.program.Program.cycle.Goals.{then-new-self-via-then-new-self, then-new-self-via-else-new-self+then-values-n}
 
@@ -39,7 +39,7 @@ returns-then-new-self c =
     cycle_whole s a.old.now a.inputs.now a.new.now a.values.now c.requires.judged (unless_17 f a.old.now a.inputs.now a.new.now a.values.now is15 (sym c.if-not-good_inputs.ensures) no17 c.refuse-then-new-self.ensures) in
     elim c.then-new-self.branch [
       | then-new-self-via-then-new-self w ↦ unfit (fits_new h a.new.now a.values.now w.if-new-self.true)
-      | then-new-self-via-else-new-self+then-values-n w ↦ unfit (fits_values h a.new.now a.values.now c.column-n.ensures w.if-new-self.false w.if-values-n.true)
+      | then-new-self-via-else-new-self+then-values-n w ↦ unfit (fits_values h a.new.now a.values.now c.cells_of-n.ensures.0 w.if-new-self.false w.if-values-n.true)
     ]
 
 pub run_main-requires : goal.run_main-requires
@@ -47,7 +47,7 @@ run_main-requires c =
     let a = c.args in
     let h = c.requires.ready in
     let is15 = sym (c.if-not-good_state.ensures (values_in (file_at a.self.now.file.now)) h.held.is) in
-    run_ready a.old.now a.inputs.now a.new.now a.values.now h is15 (sym c.if-not-good_inputs.ensures) c.column-n.ensures c.if-new-self.false c.if-values-n.false
+    run_ready a.old.now a.inputs.now a.new.now a.values.now h is15 (sym c.if-not-good_inputs.ensures) c.cells_of-n.ensures.0 c.if-new-self.false c.if-values-n.false
 
 pub returns : goal.returns
 returns c =
@@ -57,4 +57,4 @@ returns c =
     let h = c.requires.ready in
     let is15 = sym (c.if-not-good_state.ensures (values_in f) h.held.is) in
     cycle_whole s a.old.now a.inputs.now a.new.now a.values.now c.requires.judged
-    (unless_run f a.old.now a.inputs.now a.new.now a.values.now is15 (sym c.if-not-good_inputs.ensures) (fits_yes h a.new.now a.values.now c.column-n.ensures c.if-new-self.false c.if-values-n.false) (c.run_main.ensures (values_in f) (values_many h) h.held.back))
+    (unless_run f a.old.now a.inputs.now a.new.now a.values.now is15 (sym c.if-not-good_inputs.ensures) (fits_yes h a.new.now a.values.now c.cells_of-n.ensures.0 c.if-new-self.false c.if-values-n.false) (c.run_main.ensures (values_in f) h.held.many h.held.back))
