@@ -34,14 +34,19 @@ whole = file(
      node(1, [name(1) + b'\x00', name(2) + b'\x0c\x01'], [int64(3), name(4) + b'\x0b'], [name(5) + b'\x0a'], [
          equation([5], b'\x07' + var(1) + real(0.5) + b'\x09' + real(-1.0) + pre + var(5)),
          equation([3, 4], b'\x0c\x02\x06\x0a' + integer(7) + b'\x0a\x0c\x00' + b'\x0b\x00\x01' + integer(-1) + b'\x03\x41'),
+     ]),
+     node(1, [name(1) + b'\x0d\x02\x04'], [name(2) + b'\x0d\x20\x0c\x00'], [name(3) + b'\x0d\x01\x00'], [
+         equation([3], b'\x0d' + var(1) + integer(1)),
+         equation([2], b'\x0e\x02' + b'\x0f\x00\x00\x01' + var(1) + b'\x0f\x01\x00\x02' + true + var(3) + var(1)),
      ])],
     [section([name(100), name(200)]), section([name(300)])],
-    [name(400) + b'\x03' + integer(6), name(401) + b'\x0c\x01' + b'\x05\x01' + true])
+    [name(400) + b'\x03' + integer(6), name(401) + b'\x0c\x01' + b'\x05\x01' + true, name(402) + b'\x0d\x02\x09' + b'\x0e\x02' + real(0.5) + true])
 counter = bytes.fromhex('01000001010001000104000101000109010000000000000000060a08040001010000000000000001')
 
 def nest(levels, wrap, leaf): return wrap * (levels - 1) + leaf
-wraps = [b'\x05\x00', b'\x05\x01', b'\x08', b'\x0a\x04', b'\x0b\x00\x01', b'\x06\x00' + true, b'\x09' + true, b'\x07' + true + true, b'\x0c\x02' + false]
-leaves = [true, integer(1), real(1.5), b'\x03\x00', var(1), b'\x0b\x00\x00', b'\x0d', b'\xff', b'\x00\x02', b'']
+wraps = [b'\x05\x00', b'\x05\x01', b'\x08', b'\x0a\x04', b'\x0b\x00\x01', b'\x06\x00' + true, b'\x09' + true, b'\x07' + true + true, b'\x0c\x02' + false,
+         b'\x0d' + true, b'\x0e\x01', b'\x0e\x02' + true, b'\x0f\x00\x00\x01', b'\x0f\x01\x00\x00', b'\x0f\x01\x00\x01' + true]
+leaves = [true, integer(1), real(1.5), b'\x03\x00', var(1), b'\x0b\x00\x00', b'\x0d', b'\x0e', b'\x0f', b'\x0f\x00\x00\x00', b'\x10', b'\xff', b'\x00\x02', b'']
 
 def deep():
     for w in wraps:
@@ -49,7 +54,7 @@ def deep():
     for leaf in leaves:
         for levels in (24, 25): yield one(nest(levels, b'\x05\x00', leaf))
     # the parts of a form behind which levels end
-    for op, n in ((b'\x06\x0a', 2), (b'\x07', 3), (b'\x09', 2), (b'\x0c\x03', 3), (b'\x0b\x00\x05', 5)):
+    for op, n in ((b'\x06\x0a', 2), (b'\x07', 3), (b'\x09', 2), (b'\x0c\x03', 3), (b'\x0b\x00\x05', 5), (b'\x0d', 2), (b'\x0e\x03', 3), (b'\x0f\x00\x00\x02', 2), (b'\x0f\x01\x00\x02', 3)):
         for k in range(n):
             for levels in (23, 24): yield one(op + true * k + nest(levels, b'\x05\x00', true) + true * (n - 1 - k))
     constant = lambda levels: file([node(1, [], [int64(1)], [], [])], [], [int64(9) + nest(levels, b'\x05\x00', true)])
@@ -61,7 +66,10 @@ def counts():
     head = b'\x01\x00\x00\x01\x01'
     fronts = [(b'\x01', 0, 16), (b'\x01\x01', 1, 32), (b'\x01\x00', 0, 64), (b'\x01\x00\x00', 1, 32), (head, 0, 32), (head + b'\x00', 1, 16),
               (head + b'\x00\x01' + int64(1), 0, 64), (head + b'\x00\x01' + int64(1) + b'\x00', 0, 80), (head + b'\x00\x01' + int64(1) + b'\x00\x01', 1, 16),
-              (head + b'\x00\x01' + int64(1) + b'\x00\x01\x01\x00\x01\x0b\x00', 0, 32), (head + b'\x00\x01' + int64(1) + b'\x00\x01\x01\x00\x01\x0c', 2, 16)]
+              (head + b'\x00\x01' + int64(1) + b'\x00\x01\x01\x00\x01\x0b\x00', 0, 32), (head + b'\x00\x01' + int64(1) + b'\x00\x01\x01\x00\x01\x0c', 2, 16),
+              (head + b'\x00\x01' + int64(1) + b'\x00\x01\x01\x00\x01\x0e', 1, 32), (head + b'\x00\x01' + int64(1) + b'\x00\x01\x01\x00\x01\x0f\x00\x00', 0, 32),
+              (head + b'\x00\x01' + int64(1) + b'\x00\x01\x01\x00\x01\x0f\x01\xff', 0, 32),
+              (b'\x01\x00\x01\x00\x09\x0d', 1, 32), (head + b'\x01\x00\x09\x0d', 1, 32), (head + b'\x00\x01\x00\x09\x0d', 1, 32), (head + b'\x00\x01' + int64(1) + b'\x01\x00\x09\x0d', 1, 32)]
     for front, lo, hi in fronts:
         for n in {max(lo - 1, 0), lo, hi - 1, hi, hi + 1, 255}:
             yield front + bytes([n])
@@ -76,6 +84,14 @@ def counts():
     yield file([node(1, [], [int64(1)], [], [equation([1], true)] * 80)])
     yield file([node(1, [], [int64(1)], [], [equation(range(16), b'\x0c\x10' + true * 16)])])
     yield one(b'\x0b\x00\x20' + true * 32)
+    yield one(b'\x0e\x20' + true * 32)
+    yield one(b'\x0f\x00\x00\x20' + true * 32)
+    yield one(b'\x0f\x01\x00\x20' + true * 33)
+    yield file([node(1, [], [name(1) + b'\x0d\x20\x04'], [], [])])
+    # an element's type, known or not, and a cast to an array
+    for t in range(15): yield file([node(1, [], [name(1) + b'\x0d\x02' + bytes([t])], [], [])])
+    for n in (0, 1): yield file([node(1, [], [name(1) + b'\x0d\x02\x0c' + bytes([n])], [], [])], [section([name(7)])])
+    yield one(b'\x0a\x0d\x02\x04' + true)
     yield one(b'\x0b\xff\x00')
 
 def lengths():
@@ -96,7 +112,7 @@ def lengths():
 def damaged():
     for n in range(len(whole)): yield whole[:n]
     for n in range(len(whole)):
-        for b in {(whole[n] + 1) % 256, 255, 13} - {whole[n]}: yield whole[:n] + bytes([b]) + whole[n + 1:]
+        for b in {(whole[n] + 1) % 256, 255, 13, 16} - {whole[n]}: yield whole[:n] + bytes([b]) + whole[n + 1:]
     for extra in (b'\x00', b'\x01', b'\xff\x00'): yield whole + extra
     yield counter + b'\x00'
 
@@ -206,7 +222,9 @@ def undeclared():
 def forms():
     x = var(2)
     parts = [b'\x05\x00' + x, b'\x05\x01' + x, b'\x06\x0a' + x + true, b'\x06\x0a' + true + x, b'\x07' + x + true + true, b'\x07' + true + x + true, b'\x07' + true + true + x,
-             b'\x09' + x + true, b'\x09' + true + x, b'\x0a\x03' + x, b'\x0b\x00\x01' + x, b'\x0b\x00\x03' + true + true + x, b'\x0c\x02' + x + true, b'\x0c\x03' + true + true + x, x]
+             b'\x09' + x + true, b'\x09' + true + x, b'\x0a\x03' + x, b'\x0b\x00\x01' + x, b'\x0b\x00\x03' + true + true + x, b'\x0c\x02' + x + true, b'\x0c\x03' + true + true + x, x,
+             b'\x0d' + x + true, b'\x0d' + true + x, b'\x0e\x01' + x, b'\x0e\x03' + true + true + x, b'\x0f\x00\x00\x01' + x, b'\x0f\x00\x00\x03' + true + true + x,
+             b'\x0f\x01\x00\x00' + x, b'\x0f\x01\x00\x01' + x + true, b'\x0f\x01\x00\x01' + true + x, b'\x0f\x01\x00\x03' + true + true + true + x]
     for e in parts:
         yield ordered([([1], e), ([2], true)])
         yield ordered([([1], pre + e), ([2], true)])
@@ -250,10 +268,11 @@ def equations_of(f, k):
         for _ in range(count): at = skip(f, at + 1 + 2 * f[at])
     return count
 
-parts_of = {0: (1, 0), 1: (8, 0), 2: (8, 0), 3: (1, 0), 4: (2, 0), 5: (1, 1), 6: (1, 2), 7: (0, 3), 8: (0, 1), 9: (0, 2), 10: (1, 1)}
+parts_of = {0: (1, 0), 1: (8, 0), 2: (8, 0), 3: (1, 0), 4: (2, 0), 5: (1, 1), 6: (1, 2), 7: (0, 3), 8: (0, 1), 9: (0, 2), 10: (1, 1), 13: (0, 2)}
 def skip(f, at):
     if f[at] == 11: size, n = 2, f[at + 2]
-    elif f[at] == 12: size, n = 1, f[at + 1]
+    elif f[at] in (12, 14): size, n = 1, f[at + 1]
+    elif f[at] == 15: size, n = 3, f[at + 1] + f[at + 3]
     else: size, n = parts_of[f[at]]
     at += 1 + size
     for _ in range(n): at = skip(f, at)

@@ -11,11 +11,11 @@ use lib.ListN.{length, take, get_elem?, get_or, length-take, length-replicate}
 use lib.Dec.{T, eqb, ltb, eqb→eq, nltb→le}
 use Rattle.ol_spec.specs.Limits.{relay_loader}
 use Rattle.ol_spec.specs.Lists.{maybe}
-use Rattle.ol_spec.specs.Syntax.{Node, File, variables, main, no_node}
+use Rattle.ol_spec.specs.Syntax.{Node, File, main, no_node}
 use Rattle.ol_spec.specs.Places.{placed, node_size, nodes_start, placed_nodes}
 use Rattle.ol_spec.specs.Read.{Read, got, fault, read_file}
 use Rattle.ol_spec.specs.Order.{unplaced}
-use Rattle.ol_spec.specs.Step.{Ended, finished, failed_at, overflowed_at, Run}
+use Rattle.ol_spec.specs.Step.{Ended, finished, failed_at, overflowed_at, Run, cell_count}
 use Rattle.ol_spec.specs.Admission.{Judged, refused, admitted, judge, verdict, admission, state_size, at_main}
 use Rattle.ol_spec.specs.State.{good_state, good_inputs}
 use Rattle.ol_spec.specs.Answers.{verdict_length}
@@ -31,7 +31,7 @@ use Rattle.ol_spec.proofs.Tests.{T_true, T_false, eq_eqb}
 use Rattle.ol_tables.specs.At.{file_at, item_of, no_file}
 use Rattle.ol_tables.specs.Stands.{FileStands}
 use Rattle.ol_tables.proofs.HeadsFile.{file_stands, node_at_lem}
-use Rattle.ol_check.proofs.RowLoops.{few_variables}
+use Rattle.ol_check.proofs.CellLaws.{cells_limit}
 use Rattle.ol_order.specs.Counts.{equations_in, equations_of}
 use Rattle.ol_sim.specs.Calls.{MeasuresAs}
 use Rattle.ol_sim.proofs.Measures.{first_lengths}
@@ -60,12 +60,12 @@ stands s f end b e =
     let same = the_file s f end e in
     subst (FileStands s) same (file_stands b (record { end = end; is = e ∙ ap (λ x. got x end) (sym same) }))
 
-pub few_main : (s : List ℕ) (f : File) (vs : List Value) → Bytes s → judge relay_loader s ≡ admitted f vs → length (variables (main f)) ≤ 112
+pub few_main : (s : List ℕ) (f : File) (vs : List Value) → Bytes s → judge relay_loader s ≡ admitted f vs → cell_count (main f) ≤ 3584
 few_main s f vs b j =
     let a = admits relay_loader s f vs j in
     let st = stands s f a.end b a.read in
-    let few = few_variables (node_at_lem st (length f.nodes - 1) (omega (arith, st.some_node))) in
-    subst (λ n. length (variables n) ≤ 112) (sym (main_at_lem f.nodes st.some_node)) few
+    let few = cells_limit (node_at_lem st (length f.nodes - 1) (omega (arith, st.some_node))) in
+    subst (λ n. cell_count n ≤ 3584) (sym (main_at_lem f.nodes st.some_node)) few
 
 limit_small : (o : Bool) → maybe 0 (λ l. l.state) (mathlib.Core.Bool.cond o (some Rattle.ol_spec.specs.Limits.base) none) ≤ 32768
 limit_small true = omega arith
@@ -126,8 +126,8 @@ module _ (file old ins new new' vals vals' : List ℕ) where
   pub same_lengths : length new ≡ length new' → length vals ≡ length vals' → Ends second old first.answer first.new first.values
   same_lengths hn hv =
       alike
-      (λ f vs j. ap (λ n. eqb n (state_size f) && eqb (length vals) (9 * length (variables (main f)))) hn
-      ∙ ap (λ n. eqb (length new') (state_size f) && eqb n (9 * length (variables (main f)))) hv)
+      (λ f vs j. ap (λ n. eqb n (state_size f) && eqb (length vals) (9 * cell_count (main f))) hn
+      ∙ ap (λ n. eqb (length new') (state_size f) && eqb n (9 * cell_count (main f))) hv)
 
 -- ---- the length of the values
 
@@ -149,23 +149,23 @@ module _ (file : List ℕ) (b : Bytes file) where
   values_either {m = Ok l} P h t w = w l t ∙ values_told h refl
   values_either {m = Err f} P h t w = t ∙ values_told h refl
 
-  pub few_values : values_length (judge relay_loader file) ≤ 1008
+  pub few_values : values_length (judge relay_loader file) ≤ 32256
   few_values = go (judge relay_loader file) refl
     where
-      go : (j : Judged) → judge relay_loader file ≡ j → values_length j ≤ 1008
+      go : (j : Judged) → judge relay_loader file ≡ j → values_length j ≤ 32256
       go (refused n p) e = omega arith
       go (admitted f vs) e = omega (arith, few_main file f vs b e)
 
 -- buffers that are cut to the program's
-pub cut : (file old ins new vals : List ℕ) (n v : ℕ) → Bytes file → length new ≡ 131072 → length vals ≡ 4096 → let w = cycle relay_loader file old ins (take n new) (take v vals) in Ends (cycle relay_loader file old ins (zeros n) (zeros v)) old w.answer w.new w.values
+pub cut : (file old ins new vals : List ℕ) (n v : ℕ) → Bytes file → length new ≡ 131072 → length vals ≡ 32768 → let w = cycle relay_loader file old ins (take n new) (take v vals) in Ends (cycle relay_loader file old ins (zeros n) (zeros v)) old w.answer w.new w.values
 cut file old ins new vals n v b hn hv =
     alike file old ins (take n new) (zeros n) (take v vals) (zeros v)
     (λ f vs j.
     let small = small_state file f vs j in
     let few = few_main file f vs b j in
-    let right = 9 * length (variables (main f)) in
+    let right = 9 * cell_count (main f) in
     let en : eqb (length (take n new)) (state_size f) ≡ eqb (length (zeros n)) (state_size f) = ap (λ k. eqb k (state_size f)) (length-take n new ∙ ap (min n) hn) ∙ eqb_cut n 131072 (state_size f) (omega (arith, small)) ∙ ap (λ k. eqb k (state_size f)) (sym (length-replicate n 0)) in
-    let ev : eqb (length (take v vals)) right ≡ eqb (length (zeros v)) right = ap (λ k. eqb k right) (length-take v vals ∙ ap (min v) hv) ∙ eqb_cut v 4096 right (omega (arith, few)) ∙ ap (λ k. eqb k right) (sym (length-replicate v 0)) in
+    let ev : eqb (length (take v vals)) right ≡ eqb (length (zeros v)) right = ap (λ k. eqb k right) (length-take v vals ∙ ap (min v) hv) ∙ eqb_cut v 32768 right (omega (arith, few)) ∙ ap (λ k. eqb k right) (sym (length-replicate v 0)) in
     ap (λ x. x && eqb (length (take v vals)) right) en ∙ ap (λ x. eqb (length (zeros n)) (state_size f) && x) ev)
 
 -- ---- the start

@@ -100,10 +100,10 @@ cut_take n most s h =
     ap (λ m. take m s) e ∙ take_all most s (omega (arith, h)) ∙ sym (take_all n s (omega (arith, h))))
 
 -- with the lengths that it is lent
-pub cycle_ends : (file old ins new values new' values' : List ℕ) (given : Option Lent) (l : Lent) (r : Cycled) → length new ≡ 131072 → length values ≡ 4096 → Lends file old given l → CyclesAs (cycle relay_loader file old ins (take l.state new) (take l.values values)) r new' values' → Ends (cycle_call file old ins given) old r new' values'
+pub cycle_ends : (file old ins new values new' values' : List ℕ) (given : Option Lent) (l : Lent) (r : Cycled) → length new ≡ 131072 → length values ≡ 32768 → Lends file old given l → CyclesAs (cycle relay_loader file old ins (take l.state new) (take l.values values)) r new' values' → Ends (cycle_call file old ins given) old r new' values'
 cycle_ends file old ins new values new' values' (Some g) l r hn hv k o =
     ends_as (cycle_call file old ins (Some g)) (cycle relay_loader file old ins (take l.state new) (take l.values values)) old r new' values' o
-    (rw (k.right.0, k.right.1, cut_take g.state 131072 new hn, cut_take g.values 4096 values hv) (cut file old ins new values g.state g.values k.of_bytes hn hv))
+    (rw (k.right.0, k.right.1, cut_take g.state 131072 new hn, cut_take g.values 32768 values hv) (cut file old ins new values g.state g.values k.of_bytes hn hv))
 cycle_ends file old ins new values new' values' None l r hn hv k o =
     let n = values_length (judge relay_loader file) in
     ends_as (cycle_call file old ins None) (cycle relay_loader file old ins (take l.state new) (take l.values values)) old r new' values' o
@@ -111,7 +111,7 @@ cycle_ends file old ins new values new' values' None l r hn hv k o =
     (length-take-le l.state new (omega (arith, hn, k.state_fits)) ∙ k.right.0 ∙ sym (length-replicate (length old) 0))
     (length-take-le l.values values (omega (arith, hv, k.values_fit)) ∙ k.right.1 ∙ sym (length-replicate n 0)))
 
-pub lends_given : (file old : List ℕ) (given : Option Lent) (g l : Lent) → given ≡ Some g → l.state ≡ min g.state 131072 → l.values ≡ min g.values 4096 → Bytes file → Lends file old given l
+pub lends_given : (file old : List ℕ) (given : Option Lent) (g l : Lent) → given ≡ Some g → l.state ≡ min g.state 131072 → l.values ≡ min g.values 32768 → Bytes file → Lends file old given l
 lends_given file old given g l e hs hv b = rw e (record { right = (hs, hv); of_bytes = b; state_fits = omega arith; values_fit = omega arith })
 
 pub lends_right : (file old : List ℕ) (given : Option Lent) (v : ℕ) → given ≡ None → length old ≤ 131072 → v ≡ values_length (judge relay_loader file) → Bytes file → Lends file old given (record { state = length old; values = v })

@@ -63,11 +63,11 @@ pub record Begins (file : List ℕ) (v : Verdict) (state : List ℕ) : Type 0 wh
 
 -- the lengths that a cycle of a file of bytes is lent: those that the line gives, as far as the buffers go; else the right ones
 abbrev pub lends_as : Option Lent → List ℕ → List ℕ → Lent → Type 0
-lends_as (Some g) file old l = (l.state ≡ min g.state 131072) × (l.values ≡ min g.values 4096)
+lends_as (Some g) file old l = (l.state ≡ min g.state 131072) × (l.values ≡ min g.values 32768)
 lends_as None file old l = (l.state ≡ length old) × (l.values ≡ values_length (judge relay_loader file))
 
 pub record Lends (file old : List ℕ) (given : Option Lent) (l : Lent) : Type 0 where
   pub right : lends_as given file old l
   pub of_bytes : Bytes file
   pub state_fits : l.state ≤ 131072
-  pub values_fit : l.values ≤ 4096
+  pub values_fit : l.values ≤ 32768

@@ -1,7 +1,8 @@
 -- What a line is answered with, and what stands then: oracle/README.md's protocol over the public calls.
 use Rattle.std.specs.Prelude.{ℕ, ◌*◌, ◌&&◌, cond, List, [], ◌∷◌, length, replicate, leb, Option, Some, None, Ok, Err}
 use Rattle.ol_spec.specs.Limits.{relay_loader}
-use Rattle.ol_spec.specs.Syntax.{variables, main}
+use Rattle.ol_spec.specs.Syntax.{main}
+use Rattle.ol_spec.specs.Step.{cell_count}
 use Rattle.ol_spec.specs.Read.{read_file}
 use Rattle.ol_spec.specs.Admission.{Judged, refused, admitted, judge, admission}
 use Rattle.ol_spec.specs.Answers.{verdict_fault, verdict_length}
@@ -110,7 +111,7 @@ load_told file given state = load_by (load_fault file given) state given
 
 -- the length of a file's values
 abbrev pub values_length : Judged → ℕ
-values_length (admitted f vs) = 9 * length (variables (main f))
+values_length (admitted f vs) = 9 * cell_count (main f)
 values_length (refused n p) = 0
 
 -- a cycle's text, from its answer, the new state and the values

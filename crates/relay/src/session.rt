@@ -34,7 +34,7 @@ pub struct Session {
     pub bytes: [u8; 131072],
     pub inputs: [u8; 131072],
     pub next: [u8; 131072],
-    pub values: [u8; 4096],
+    pub values: [u8; 32768],
     pub out: [u8; 393216],
 }
 
@@ -85,7 +85,7 @@ fn lent_to(file: &[u8], old: &[u8], given: Option<Lent>) -> Lent
     match given {
         Some(l) => Lent {
             state: l.state.min(131072),
-            values: l.values.min(4096),
+            values: l.values.min(32768),
         },
         None => Lent {
             state: old.len(),
@@ -131,7 +131,7 @@ impl Session {
             bytes: [0; 131072],
             inputs: [0; 131072],
             next: [0; 131072],
-            values: [0; 4096],
+            values: [0; 32768],
             out: [0; 393216],
         }
     }
