@@ -83,7 +83,7 @@ static void measure(size_t own, size_t bytes[FUNCTIONS]) {
 }
 
 int main(void) {
-    static char line[4 * OL_SIM_FILE_MAX], name[64], hex[3 * OL_SIM_FILE_MAX], given[1024];
+    static char line[4 * OL_SIM_FILE_MAX], name[64], hex[3 * OL_SIM_FILE_MAX], given[2 * OL_SIM_INPUTS_MAX + 1];
     size_t most[FUNCTIONS] = {0};
     char by[FUNCTIONS][64] = {""};
     room = mmap(NULL, ROOM, PROT_READ | PROT_WRITE, MAP_PRIVATE | MAP_ANONYMOUS, -1, 0);
@@ -92,7 +92,7 @@ int main(void) {
     size_t own = used(nothing);
     printf("%-24s %14s %14s %14s %14s %14s\n", "bytes of stack", "lengths", "admit", "order", "start", "cycle");
     while (fgets(line, sizeof line, stdin)) {
-        if (sscanf(line, "%63s %98303s %1023s", name, hex, given) != 3)
+        if (sscanf(line, "%63s %98303s %18432s", name, hex, given) != 3)
             continue;
         file_len = unhex(hex, file, sizeof file);
         inputs_len = unhex(given, inputs, sizeof inputs);
