@@ -7,7 +7,14 @@ pub const OL_SIM_LENGTHS_STACK: usize = 384 * 1024;
 pub const OL_SIM_ADMIT_STACK: usize = 384 * 1024;
 pub const OL_SIM_ORDER_STACK: usize = 32 * 1024;
 pub const OL_SIM_START_STACK: usize = 384 * 1024;
-pub const OL_SIM_CYCLE_STACK: usize = 2048 * 1024;
+pub const OL_SIM_CYCLE_STACK: usize = 6144 * 1024;
+
+/// The longest inputs and the longest values, in bytes: those of the header's `enum ol_sim_length`. An array has a cell for each element, the first element's first.
+pub const OL_SIM_INPUTS_MAX: usize = 9216;
+pub const OL_SIM_VALUES_MAX: usize = 32256;
+
+/// The number of a file that is refused for its arrays, judged behind 10: the header's `OL_SIM_SHAPE`.
+pub const OL_SIM_SHAPE: u8 = 22;
 
 /// The numbers of a stopped cycle: those of the header's `enum ol_sim_number`.
 pub const OL_SIM_COLD_PRE: u8 = 18;
