@@ -3,20 +3,17 @@ use Prim.Native.Nat.{ℕ, ◌+◌, ◌≤◌}
 use mathlib.Core.List.{List}
 use mathlib.Core.Path.{◌≡◌, ap, ◌∙◌}
 use lib.ListN.{length}
-use lib.Dec.{T, leb, leb→le}
-use Rattle.ol_spec.specs.Syntax.{Ty, bool, int, float32, float64, char, enum, VarTy, scalar, array, Expr, nil, cons}
+use lib.Dec.{T}
+use Rattle.ol_spec.specs.Syntax.{Expr, nil, cons}
 use Rattle.ol_spec.specs.Places.{collect, collect_all}
 use Rattle.ol_spec.specs.Encode.{expr_bytes}
 use Rattle.ol_spec.specs.Read.{expr_r}
 use Rattle.ol_spec.specs.Limits.{base}
-use Rattle.ol_spec.specs.Within.{count_fits, ty_fits, var_ty_fits, root_fits}
+use Rattle.ol_spec.specs.Within.{root_fits}
 use Rattle.ol_spec.specs.declared.Limits.{Limits}
-use Rattle.ol_spec.proofs.Tests.{T_and}
 use Rattle.ol_spec.proofs.RoundTrip.Parts.{Here}
 use Rattle.ol_spec.proofs.RoundTrip.Taken.{root_takes}
 use Rattle.ol_tables.specs.At.{file_at, expr_at, exprs_at, ReadsAll}
-use Rattle.ol_tables.specs.Tables.{element_of}
-use Rattle.ol_tables.specs.Parts.{Proper}
 use Rattle.ol_tables.proofs.Forms.{reads, one_read, one_tree, limits_base}
 use Rattle.ol_tables.proofs.HeadLaws.{walk_one}
 
