@@ -83,8 +83,7 @@ pub fn done(o: Outcome) -> bool
     matches!(o, Outcome::Value(_))
 }
 
-// What f makes of an outcome's value, if it has one; another outcome stays. It is put into its callers: measured faster.
-#[inline(always)]
+// What f makes of an outcome's value, if it has one; another outcome stays.
 pub fn and_then<F: FnOnce(Value) -> Outcome>(o: Outcome, f: F) -> Outcome
     requires { F.IsAlwaysCallable f }
     ensures { ThenBy (F.post f) o result }
@@ -110,8 +109,7 @@ pub fn cast_out(code: u8, o: Outcome) -> Outcome
     and_then(o, |v| cast_value(code, v))
 }
 
-// The outcome of a binary operator on its operands'. It is put into its callers: measured faster.
-#[inline(always)]
+// The outcome of a binary operator on its operands'.
 pub fn binary_out(op: u8, l: Outcome, r: Outcome) -> Outcome
     ensures { result ≡ binary_out op l r }
 {

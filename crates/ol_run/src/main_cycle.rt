@@ -83,8 +83,7 @@ fn run_in(
     }
 }
 
-// In a frame for 32 cells. It is put into its callers: measured faster.
-#[inline(always)]
+// In a frame for 32 cells.
 fn run_32(
     file: &[u8],
     tab: &[u8],
@@ -101,8 +100,7 @@ fn run_32(
     run_in(file, tab, main, &mut cells, old, inputs, new, values)
 }
 
-// In a frame for 112 cells. It is put into its callers: measured faster.
-#[inline(always)]
+// In a frame for 112 cells.
 fn run_112(
     file: &[u8],
     tab: &[u8],
