@@ -5,11 +5,9 @@ use std::hint::black_box;
 use std::io::BufRead;
 use std::time::{Duration, Instant};
 
-use driver::bridge::{node_name, var_name};
-use driver::cell::Cell;
+use driver::bridge::{node_name, to_cells, var_name};
 use driver::file::File;
 use driver::{bridge, cell, file, hex};
-use ol_ir::{NodeDef, Type};
 use ol_sim::{Sim, Value};
 
 #[path = "../include/ol_sim.rs"]
@@ -118,43 +116,10 @@ fn timed(call: &mut dyn FnMut()) -> f64 {
     least
 }
 
-fn value(c: Cell) -> Value {
-    match c {
-        Cell::Bool(b) => Value::Bool(b),
-        Cell::Int(i) => Value::Int(i),
-        Cell::Float(x) => Value::Float(x),
-        Cell::Float32(x) => Value::Float32(x),
-        Cell::Enum(n) => Value::Enum(var_name(n)),
-    }
-}
-
-// A value's cell, or the cells of an array in turn.
-fn push(v: &Value, out: &mut Vec<u8>) {
-    match v {
-        Value::Bool(b) => Cell::Bool(*b).push(out),
-        Value::Int(i) => Cell::Int(*i).push(out),
-        Value::Float(x) => Cell::Float(*x).push(out),
-        Value::Float32(x) => Cell::Float32(*x).push(out),
-        Value::Enum(s) => Cell::Enum(s[1..].parse().expect("a variant is v and its number")).push(out),
-        Value::Array(xs) => xs.iter().for_each(|x| push(x, out)),
-        other => panic!("no cell holds {other:?}"),
-    }
-}
-
-// The main node's inputs from their cells, an array from as many as it has elements.
-fn given(main: &NodeDef, cells: Vec<Cell>) -> BTreeMap<String, Value> {
-    let mut left = cells.into_iter().map(value);
-    let one = |ty: &Type, left: &mut dyn Iterator<Item = Value>| match ty {
-        Type::Array { len, .. } => Value::Array(left.take(*len as usize).collect()),
-        _ => left.next().expect("a cell for each input"),
-    };
-    main.inputs.iter().map(|p| (p.name.clone(), one(&p.ty, &mut left))).collect()
-}
-
 // The Rust's values of a cycle as cells.
 fn cells(f: &File, all: &BTreeMap<String, Value>) -> Vec<u8> {
     let mut values = vec![];
-    f.main().vars().for_each(|v| push(&all[&var_name(v.name.num)], &mut values));
+    f.main().vars().for_each(|v| to_cells(v.ty, &all[&var_name(v.name.num)]).iter().for_each(|c| c.push(&mut values)));
     values
 }
 
@@ -173,7 +138,7 @@ fn measure(name: &str, bytes: &[u8], inputs: &[u8]) -> Row {
     let project = bridge::project(&f);
     let main = node_name(f.nodes.len() - 1);
     let mut sim = Sim::new(&project, &main).ok().expect("Sim::new");
-    let map = given(&bridge::node_def(f.nodes.len() - 1, f.main()), cell::read_inputs(inputs, &f).expect("fitting inputs"));
+    let map = bridge::inputs(f.main(), &cell::read_inputs(inputs, &f).expect("fitting inputs"));
     let mut ours = Ours::new(bytes, inputs);
     let c = in_c(name);
     let mut written = vec![0u8; ours.values.len()];

@@ -4,13 +4,6 @@ import sys
 from asm import *
 MAX=2**63-1; MIN=-2**63
 I64="Int64"
-out=[];exp=[]
-def com(s): out.append("# "+s)
-def cmd(c,e): out.append(c); exp.append(e)
-def ff(f,e): cmd("file "+hx(f),e)
-def cyc(ins,e): cmd("cycle "+hx(ins),e)
-def ans(vals,state): return "answered "+hx(vals)+" "+hx(state)
-def stop(no,at,state): return f"stopped {no} {at} "+hx(state)
 def one(text,ex,want,pre=(),enums=()):
     "one Int64 output v1, v1 = ex, behind the nodes pre; the first cycle: its cell, or a stop's number"
     com(text)

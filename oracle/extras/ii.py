@@ -4,13 +4,6 @@ import sys
 from asm import *
 MAX=2**63-1; MIN=-2**63
 I64="Int64"; A1=(I64,1); A2=(I64,2); A3=(I64,3)
-out=[];exp=[]
-def com(s): out.append("# "+s)
-def cmd(c,e): out.append(c); exp.append(e)
-def ff(f,e): cmd("file "+hx(f),e)
-def cyc(ins,e): cmd("cycle "+hx(ins),e)
-def ans(vals,state): return "answered "+hx(vals)+" "+hx(state)
-def stop(no,at,state): return f"stopped {no} {at} "+hx(state)
 def still(cells,state=b""): "an answered cycle whose state is just its cells, behind the constants'"; cyc(b"",ans(cells,state+b"\1"+cells))
 def pos(f,part,k=0):
     "where the k-th of these parts begins"
