@@ -8,3 +8,4 @@ pub mod Room
 pub mod Answers
 pub mod Nodes
 pub mod Rows
+pub mod Bytes

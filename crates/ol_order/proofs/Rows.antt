@@ -2,7 +2,7 @@
 use Prim.Native.Nat.{ℕ, zero, suc, ◌+◌, ◌-◌, ◌*◌, ◌/◌, ◌≤◌, ◌<◌}
 use mathlib.Core.Bool.{Bool, true}
 use mathlib.Core.List.{List, [], ◌∷◌, ◌++◌, append_assoc, map}
-use mathlib.Core.Logic.{⊎_elim, by_cases}
+use mathlib.Core.Logic.{by_cases}
 use mathlib.Core.Option.{Option, none, some}
 use mathlib.Core.Path.{◌≡◌, refl, sym, ap, subst, ◌∙◌}
 use native.Mathlib.Decide.{dec_le}
@@ -10,9 +10,6 @@ use native.Mathlib.Numerals.{add-one}
 use native.Mathlib.Omega.{arith}
 use lib.ListN.{length, get_or, set, take, drop, get_elem?, length-map, length-append, length-drop, take-append-drop, drop_of_length-le, get_or-append}
 use lib.Seq.{sets, sets-eq, get_or-take, get_or-drop, get_or-append-add, get_or-set_other, length-take-le, length_front, take-set-lt, drop-set-lt, drop-append-le, drop-drop, drop-cons, ext_get_or}
-use mathlib.Core.List.Memᴰ.{head as here}
-use mathlib.Core.List.Memᴰ.{tail as there}
-use mathlib.Core.List.{Memᴰ}
 use Rattle.ol_spec.specs.Lists.{maybe, or_else}
 use Rattle.ol_spec.specs.Syntax.{Equation, Node, File, no_node, variables}
 use Rattle.ol_spec.specs.Places.{node_size, nodes_start, placed_nodes, equation_size, equations_start, placed_equations}
@@ -22,12 +19,11 @@ use Rattle.ol_spec.specs.Order.{order, unplaced}
 use Rattle.ol_spec.specs.Admission.{place_at, ring_in, first_some, fault11}
 use Rattle.ol_spec.specs.declared.Limits.{Limits}
 use Rattle.ol_spec.proofs.Offsets.{same_item}
-use Rattle.ol_spec.proofs.Ordering.{placed_or_stuck}
 use Rattle.ol_order.specs.Tables.{node_in, node_at, equations_at, waited_all}
 use Rattle.ol_order.specs.Post.{NodeReads, Sorts}
 use Rattle.std.specs.Prelude.{Ok, Err}
 use Rattle.ol_order.proofs.Answers.{error_some, error_none}
-use Rattle.ol_order.specs.Orders.{Ring, ring_place, Small, LowNames, StartsWith, row_written, EquationsDone, starts_in, NodeDone, NodesStand, NodePlanned, Planned, OrderOf, orders_written, OrdersDone}
+use Rattle.ol_order.specs.Orders.{Ring, ring_place, LowNames, StartsWith, row_written, EquationsDone, starts_in, NodeDone, NodesStand, NodePlanned, Planned, OrderOf, orders_written, OrdersDone}
 use Rattle.ol_order.proofs.Room.{short_file, node_room, variables_room}
 use Rattle.ol_order.proofs.Nodes.{place_get, length_placed, items_placed, item_of, place_same, node_equations, counted_few}
 use Rattle.ol_tables.specs.Tables.{row_at, node_of, place_of as table_place, slots_from, two_at, plans_from, plans_of, plan_in}
@@ -36,34 +32,14 @@ use Rattle.ol_ir.proofs.Files.{file_after}
 use Rattle.ol_ir.proofs.Items.{few_equations_lem}
 use Rattle.ol_ir.proofs.Load.{node_read, few_nodes_lem}
 
--- ---- the entries of an order are bytes
+-- ---- a row written in front
 
-get_in : (l : List ℕ) (j : ℕ) → j < length l → Memᴰ (get_or l j 0) l
-get_in [] zero h = absurd (omega arith)
-get_in [] (suc j) h = absurd (omega arith)
-get_in (x ∷ l) zero h = here refl
-get_in (x ∷ l) (suc j) h = there (get_in l j (omega arith))
+-- as the code copies it
+pub copied_front : {v w : List ℕ} {n : ℕ} (t : List ℕ) → v ≡ w → n ≡ length w → length w ≤ length t → v ++ drop n t ≡ sets t 0 w
+copied_front {w = w} {n} t e z h =
+    let y : n ≡ 0 + length w = omega (arith, z) in
+    ap (λ l. l ++ drop n t) e ∙ (ap (λ k. w ++ drop k t) y ∙ sym (sets-eq w t 0 (omega arith)))
 
-order_below : (qs : List Equation) → unplaced qs ≡ none → (j : ℕ) → j < length (order qs) → get_or (order qs) j 0 < length qs
-order_below qs e j h = ⊎_elim (λ p. p.valid.inside (get_or (order qs) j 0) (get_in (order qs) j h)) (λ s. absurd (never s.left (sym e ∙ s.is_left))) (placed_or_stuck qs)
-  where
-    never : (i : ℕ) → none ≡ some i → ⊥
-    never i f = let z : ◌≡◌ {A = ℕ} 0 1 = cc in omega arith
-
-pub sorted_small : {qs : List Equation} {before o : List ℕ} → length qs ≤ 80 → Sorts qs before o (Ok tt) → Small o
-sorted_small {qs} few so =
-    subst Small (sym (so.order refl)) (λ j i. omega (arith, order_below qs (error_none (unplaced qs) so.ring) j i))
-
--- ---- a copy
-
--- b with the rest of a is w
-pub copies_turn : (a b w : List ℕ) (i : ℕ) → i < length a → sets b i (drop i a) ≡ w → sets (set b i (get_or a i 0)) (i + 1) (drop (i + 1) a) ≡ w
-copies_turn a b w i h e = rw add-one (ap (sets b i) (sym (drop-cons a i 0 h)) ∙ e)
-
-pub copies_end : (a b w : List ℕ) (i : ℕ) → length a ≤ i → sets b i (drop i a) ≡ w → b ≡ w
-copies_end a b w i h e = ap (sets b i) (sym (drop_of_length-le a {i = i} h)) ∙ e
-
--- a row written in front
 front_get : (vs t : List ℕ) (j : ℕ) → length vs ≤ length t → j < length vs → get_or (sets t 0 vs) j 0 ≡ get_or vs j 0
 front_get vs t j h g = ap (λ (l : List ℕ). get_or l j 0) (sets-eq vs t 0 (omega arith)) ∙ get_or-append vs (drop (0 + length vs) t) 0 j g
 
@@ -339,7 +315,7 @@ module _ {s places : List ℕ} {enums : ℕ} {low : Bool} (ns : NodesStand s enu
         go (q ∷ ps) zero f = let z : q ≡ (entry.0, entry.1) = cc in ap (λ r. r ∷ ps) z
         go (q ∷ ps) (suc k) f = go ps k f
 
-    few_here : length (get_or file.nodes k no_node).equations ≤ 80
+    pub few_here : length (get_or file.nodes k no_node).equations ≤ 80
     few_here = subst (λ (n : Node). length n.equations ≤ 80) node_is (omega (arith, few_equations_lem s base enums place (node_at s base enums place) node_stands.end node_stands.is))
 
     pub few_read : length (node_at s base enums place).equations ≤ 80

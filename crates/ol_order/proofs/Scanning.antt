@@ -92,7 +92,7 @@ found_none none e = refl
 found_none (some j) e = let z : ◌≡◌ {A = ℕ} 0 1 = cc in absurd (omega arith)
 
 -- it is one of few equations
-pub found_few : (qs : List Equation) (x : ℕ) {d : ℕ} → length qs ≤ 80 → definer qs x ≡ some d → d < 80
+pub found_few : (qs : List Equation) (x : ℕ) {d : ℕ} → length qs < 255 → definer qs x ≡ some d → d < 255
 found_few qs x {d} few e = omega (arith, (definer_inside 0 qs x d e).1)
 
 -- `want` are the lists with all definers, m where they end; those of `left` expressions from `at` on are still to be written, from `end` on

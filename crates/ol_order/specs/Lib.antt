@@ -5,3 +5,4 @@ pub mod Equations
 pub mod Orders
 pub mod Nodes
 pub mod Counts
+pub mod Examples

@@ -1,15 +1,16 @@
 -- The orders of all nodes of a file, as bytes.
-use Rattle.std.specs.Prelude.{ℕ, zero, suc, ◌+◌, ◌*◌, ◌≤◌, ◌<◌, Bool, true, List, [], ◌∷◌, map, ◌≡◌, length, get_or, Result, Ok, Err}
+use Rattle.std.specs.Prelude.{ℕ, zero, suc, ◌+◌, ◌*◌, ◌≤◌, ◌<◌, Bool, true, List, [], ◌∷◌, map, ◌≡◌, length, get_or, All, Result, Ok, Err}
 use Rattle.std.proofs.Math.Option.{Option, none, some}
 use Rattle.std.proofs.lemmas.List.Edits.{sets}
 use Rattle.ol_spec.specs.Lists.{maybe}
 use Rattle.ol_spec.specs.Syntax.{Equation, Node, File, no_node, variables}
 use Rattle.ol_spec.specs.Places.{placed_nodes}
-use Rattle.ol_spec.specs.Limits.{relay_loader}
+use Rattle.ol_spec.specs.Limits.{base, relay_loader}
 use Rattle.ol_spec.specs.Read.{got, read_file}
 use Rattle.ol_spec.specs.Order.{definer, order, unplaced}
 use Rattle.ol_spec.specs.Admission.{ring_in, fault11}
 use Rattle.ol_tables.specs.Tables.{row_at, node_of, slots_from, two_at, plans_of, plan_in, equation_place}
+use Rattle.ol_spec.specs.declared.Limits.{Limits}
 use Rattle.ol_ir.specs.Walks.{place_of}
 
 -- an error is the place of the first equation that is never placed
@@ -19,10 +20,6 @@ Ring = Result (Unit {0}) ℕ
 abbrev pub ring_place : Ring → Option ℕ
 ring_place (Err p) = some p
 ring_place (Ok tt) = none
-
--- every entry is a byte
-abbrev pub Small : List ℕ → Type 0
-Small l = (j : ℕ) → j < length l → get_or l j 0 < 256
 
 -- no equation defines a name from 256 on
 abbrev pub LowNames : List Equation → Type 0
@@ -42,6 +39,16 @@ pub record EquationsDone (qs : List Equation) (starts before out : List ℕ) (r 
   pub few : length (order qs) ≤ length qs
   pub order : unplaced qs ≡ none → StartsWith qs out
   pub written : out ≡ row_written qs 0 before
+
+-- every entry of a node's order is the index of one of its equations, which are at most the limit, and the limit is below 255
+pub record PlacesFit (l : Limits) (n : Node) : Type 0 where
+  pub inside : All (λ i. i < length n.equations) (order n.equations)
+  pub within : length n.equations ≤ l.equations
+  pub few : l.equations < 255
+
+-- so is a byte enough for an equation's place in the sequence, in every node of every file that reads
+abbrev pub PlacesAreBytes : Type 0
+PlacesAreBytes = (s : List ℕ) (f : File) (end : ℕ) → read_file s relay_loader ≡ got f end → (k : ℕ) → k < length f.nodes → PlacesFit base (node_of f k)
 
 -- what a plan that starts at `plan` says of n equations: where each starts
 unfoldable pub starts_in : List ℕ → ℕ → ℕ → List ℕ

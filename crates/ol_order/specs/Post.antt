@@ -54,10 +54,11 @@ pub record State (qs : List Equation) (list : List ℕ) (placed : List Bool) (or
   pub room : length order ≡ length qs
   pub left : n + waiting placed ≡ length qs
 
--- the lists of some equations, of which the first `done` entries of `order` are placed
+-- the lists of some equations, so few that an index of theirs is a byte, of which the first `done` entries of `order` are placed
 pub record Waiting (lists begins : List ℕ) (placed : List Bool) (order : List ℕ) (done : ℕ) : Type 0 where
   pub equations : List Equation
   pub waits : Waits equations lists begins
+  pub few : length equations < 255
   pub state : State equations (take done order) placed order done
 
 -- r is the first equation that is never placed; where there is none, `ord` is the order. In both cases those placed stand in front, in their order, and the rest is as it was before

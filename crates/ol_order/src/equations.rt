@@ -9,7 +9,9 @@ use crate::names::Names;
 use ol_ir::read::count;
 use ol_spec::Limits;
 
-// The equations that start at these places.
+// The equations that start at these places. The places are offsets in the file, which fit no byte however
+// few equations there are: behind a first equation of 300 bytes the second starts above 255. An equation's
+// place in the sequence, its index, does fit one: there are fewer than 255.
 #[derive(Clone, Copy)]
 pub(crate) struct Equations<'f, 's> {
     pub(crate) file: &'f [u8],

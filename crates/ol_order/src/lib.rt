@@ -49,7 +49,7 @@ fn define(names: Names, index: u8, definers: &mut [Option<u8>])
 // Which equation is the last that defines a name of each remainder by 256. Ends where no count of
 // names stands.
 fn define_all(file: &[u8], most: usize, starts: &[usize], definers: &mut [Option<u8>])
-    requires { length starts.now ≤ 80 }
+    requires { length starts.now < 255 }
     ensures { definers.new ≡ put_starts file.now most 0 starts.now definers.old }
 {
     for (i, at) in starts.iter().enumerate() {
@@ -70,13 +70,7 @@ fn all_placed(waits: &[u8], placed: &[bool]) -> bool
 
 // One pass over the equations in file order: each that waits for none is placed. Behind those placed,
 // the entries of `order` stay.
-fn pass(
-    lists: &[u8],
-    begins: &[usize],
-    placed: &mut [bool],
-    order: &mut [usize],
-    done: usize,
-) -> usize
+fn pass(lists: &[u8], begins: &[usize], placed: &mut [bool], order: &mut [u8], done: usize) -> usize
     requires { Waiting lists.now begins.now placed.old order.old done }
     ensures placed { (qs : List Equation) → Waits qs lists.now begins.now → State qs (take done order.old) placed.old order.old done → State qs (pass qs 0 qs (take done order.old)) placed.new order.new result }
     ensures behind { drop result order.new ≡ drop result order.old }
@@ -86,7 +80,7 @@ fn pass(
     for k in 0..placed.len() {
         if !placed[k] && all_placed(&lists[begins[k]..begins[k + 1]], placed) {
             placed[k] = true;
-            order[n] = k;
+            order[n] = k as u8;
             n += 1;
         }
     }
@@ -94,7 +88,7 @@ fn pass(
 }
 
 // Passes until all are placed or one places none. Behind those placed, the entries of `order` stay.
-fn passes(lists: &[u8], begins: &[usize], placed: &mut [bool], order: &mut [usize])
+fn passes(lists: &[u8], begins: &[usize], placed: &mut [bool], order: &mut [u8])
     requires { Waiting lists.now begins.now placed.old order.old 0 }
     ensures placed { (qs : List Equation) → Waits qs lists.now begins.now → State qs [] placed.old order.old 0 → State qs (in_order qs) placed.new order.new (length (in_order qs)) }
     ensures behind { (qs : List Equation) → Waits qs lists.now begins.now → State qs [] placed.old order.old 0 → drop (length (in_order qs)) order.new ≡ drop (length (in_order qs)) order.old }
@@ -119,7 +113,7 @@ fn first_unplaced(placed: &[bool]) -> Option<usize>
 // Places the equations whose lists these are; an error is the first that is never placed. The buffer gets
 // the order of those placed. How many there are is known at the run only, and there is no heap: this
 // file's buffers have the most, and a part of each is lent.
-fn place(lists: &[u8], begins: &[usize], order: &mut [usize]) -> Result<(), usize>
+fn place(lists: &[u8], begins: &[usize], order: &mut [u8]) -> Result<(), usize>
     requires { Listed lists.now begins.now order.old }
     ensures { (qs : List Equation) → Waits qs lists.now begins.now → Sorts qs order.old order.new result }
 {
@@ -140,7 +134,7 @@ pub(crate) fn sort(
     low: bool,
     definers: &mut [Option<u8>],
     lists: &mut [u8],
-    order: &mut [usize],
+    order: &mut [u8],
 ) -> Result<(), usize>
     requires blank { Blank (those equations) low definers.old }
     requires room { length (all_waited equations) ≤ length lists.old }
@@ -166,7 +160,18 @@ pub(crate) fn sort(
     place(lists, begins, order)
 }
 
-// The order of the equations.
+// Copies an order, whose entries are bytes in the ordering's own work, to its caller's buffer.
+fn copy(order: &[u8], buffer: &mut [usize])
+    requires { length buffer.old ≡ length order.now }
+    ensures { buffer.new ≡ order.now }
+{
+    for (i, k) in order.iter().enumerate() {
+        buffer[i] = usize::from(*k);
+    }
+}
+
+// The order of the equations. It is made in bytes of its own and copied at the end: at 11 and at 17 the
+// buffer stays.
 fn order_equations(equations: Equations, buffer: &mut [usize]) -> Result<(), Fault>
     requires { length (all_waited equations) ≤ 10923 }
     ensures answer { result ≡ (order_of (those equations.entry) equations.entry.starts.now buffer.old).answer }
@@ -174,7 +179,7 @@ fn order_equations(equations: Equations, buffer: &mut [usize]) -> Result<(), Fau
 {
     let mut definers = no_definers();
     let mut lists = [0u8; 10923];
-    let mut space = [0usize; 80];
+    let mut space = [0u8; 80];
     let order = &mut space[..equations.starts.len()];
     sort(equations, false, &mut definers, &mut lists, order).map_err(|first| Fault {
         number: 11,
@@ -186,7 +191,7 @@ fn order_equations(equations: Equations, buffer: &mut [usize]) -> Result<(), Fau
             place: 0,
         });
     }
-    buffer.copy_from_slice(order);
+    copy(order, buffer);
     Ok(())
 }
 

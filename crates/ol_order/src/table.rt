@@ -9,7 +9,7 @@ ghost use Rattle.ol_tables.specs.Numbers.{numbers};
 ghost use Rattle.ol_order.specs.Tables.{waited_all};
 ghost use Rattle.ol_order.specs.Equations.{those, all_waited};
 ghost use Rattle.ol_order.specs.Nodes.{nth_place, nth_node, OrdersAsked, OrdersTold};
-ghost use Rattle.ol_order.specs.Orders.{Small, LowNames, EquationsDone, starts_in, NodeDone, NodesStand, Planned, OrdersDone};
+ghost use Rattle.ol_order.specs.Orders.{LowNames, EquationsDone, starts_in, NodeDone, NodesStand, Planned, OrdersDone};
 
 use crate::equations::Equations;
 use crate::{no_definers, sort};
@@ -22,20 +22,9 @@ use ol_tables::tables::{FileRows, MOST_EQUATIONS};
 // the bytes from there on.
 const SLOTS_FROM: usize = SLOTS - ORDERS;
 
-// Copies an order into bytes, from their front on.
-fn copy_bytes(order: &[usize], out: &mut [u8])
-    requires order_in_bounds { length order.now ≤ length out.old }
-    requires small { Small order.now }
-    ensures { out.new ≡ sets out.old 0 order.now }
-{
-    for (i, k) in order.iter().enumerate() {
-        out[i] = *k as u8;
-    }
-}
-
 // The order of the equations, with room for all definers that they wait for. How many there are is known
 // at the run only, and there is no heap: this file's buffers have the most, and a part of each is lent.
-// It begins as `order_equations` does, which sorts into its caller's buffer: here the order goes into bytes.
+// The order is made in bytes of its own, as in `order_equations`: on a ring the table's bytes stay.
 fn order_starts(
     equations: Equations,
     low: bool,
@@ -49,10 +38,11 @@ fn order_starts(
     ensures lists { lists.new ≡ sets lists.old 0 (all_waited equations.entry) }
 {
     let mut definers = no_definers();
-    let mut space = [0usize; 80];
-    let order = &mut space[..equations.starts.len()];
+    let count = equations.starts.len();
+    let mut space = [0u8; 80];
+    let order = &mut space[..count];
     sort(equations, low, &mut definers, lists, order).map_err(|first| equations.starts[first])?;
-    copy_bytes(order, out);
+    out[..count].copy_from_slice(order);
     Ok(())
 }
 

@@ -18,4 +18,4 @@ returns-then-buffer-order c =
 pub returns : goal.returns
 returns c =
     let e = answer_done c.args.equations.starts.now c.args.buffer.now c.sort.ensures.order (all_well c.map_err.ensures.variant c.in_ok-map_err.was) (omega (arith, c.if-buffer-order.false, c.sort.ensures.order.long)) in
-    record { answer = ap (λ (c : OrderingCall). c.answer) e; written = c.copy_from_slice.ensures.after ∙ ap (λ (c : OrderingCall). c.buffer) e }
+    record { answer = ap (λ (c : OrderingCall). c.answer) e; written = c.copy.ensures ∙ ap (λ (c : OrderingCall). c.buffer) e }

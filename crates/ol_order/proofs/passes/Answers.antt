@@ -8,7 +8,7 @@ loop-done-init c = λ qs w st. passes_start qs st
 
 pub pass-n-requires : goal.pass-n-requires
 pass-n-requires c =
-    record { equations = c.requires.equations; waits = c.requires.waits; state = (c.loop-done.invariant c.requires.equations c.requires.waits c.requires.state).state }
+    record { equations = c.requires.equations; waits = c.requires.waits; few = c.requires.few; state = (c.loop-done.invariant c.requires.equations c.requires.waits c.requires.state).state }
 
 pub shape_of-placed-then-n-done : goal.shape_of-placed-then-n-done
 shape_of-placed-then-n-done c =

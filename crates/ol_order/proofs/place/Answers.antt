@@ -8,7 +8,7 @@ use Rattle.ol_order.proofs.place.Goals as goal
 
 pub passes-requires : goal.passes-requires
 passes-requires c =
-    record { equations = c.requires.equations; waits = c.requires.waits; state = state_start c.requires.equations (length c.args.order.now) c.args.order.now (sym c.requires.room) (omega (arith, c.requires.room, c.requires.few)) c.requires.room }
+    record { equations = c.requires.equations; waits = c.requires.waits; few = omega (arith, c.requires.few); state = state_start c.requires.equations (length c.args.order.now) c.args.order.now (sym c.requires.room) (omega (arith, c.requires.room, c.requires.few)) c.requires.room }
 
 pub returns-in-Some : goal.returns-in-Some
 returns-in-Some c = λ qs w.
