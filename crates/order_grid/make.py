@@ -163,6 +163,11 @@ def reads(names):
     for n in reversed(names[:-1]): e = b'\x06\x0a' + var(n) + e
     return e
 
+# an expression that reads these names, up to 1,024 of them
+def many_reads(names):
+    rows = [list(names)[k:k + 32] for k in range(0, len(names), 32)]
+    return b'\x0e' + bytes([len(rows)]) + b''.join(b'\x0e' + bytes([len(r)]) + b''.join(var(n) for n in r) for r in rows) if rows else true
+
 def graph(edges): return [([k + 1], reads([j + 1 for j in js])) for k, js in enumerate(edges)]
 
 def shuffled(n): return rng.sample(range(n), n)
@@ -245,6 +250,16 @@ def eighty():
     for density in (0.01, 0.02): yield ordered(graph([[j for j in range(n) if j != k and rng.random() < density] for k in range(n)]))
     order = shuffled(n)
     yield ordered(graph([[j for j in range(n) if order[j] < order[k] and rng.random() < 0.05] for k in range(n)]))
+    # each reads all before it; all behind it
+    yield ordered([([k + 1], many_reads(range(1, k + 1))) for k in range(n)])
+    yield ordered([([k + 1], many_reads(range(k + 2, n + 1))) for k in range(n)])
+    # a ring of all but the last, of all but the first
+    yield ordered([([k + 1], var((k + 1) % (n - 1) + 1)) for k in range(n - 1)] + [([n], true)])
+    yield ordered([([n], true)] + [([k + 1], var((k + 1) % (n - 1) + 1)) for k in range(n - 1)])
+    # a chain whose ends have the least name and the greatest
+    yield ordered([([0], var(1))] + [([k], var(k + 1)) for k in range(1, n - 2)] + [([n - 2], var(65535)), ([65535], true)])
+    # none
+    yield ordered([])
 
 def random_nodes():
     for _ in range(80):
