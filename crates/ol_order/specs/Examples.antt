@@ -83,7 +83,7 @@ abbrev down : ℕ → List ℕ
 down zero = 0 ∷ []
 down (suc n) = suc n ∷ down n
 
-eighty_reversed : order (chain 79 1) ≡ down 79
+eighty_reversed : asked (v1 (chain 79 1)) 0 (replicate 80 9) ≡ done (down 79)
 unfolding everything
 eighty_reversed = refl
 
