@@ -1,24 +1,13 @@
 /* Cycles of a file, for valgrind to count: instructions FILE INPUTS PAIRS, both in hexadecimal. Two cycles a pair, the states exchanged. */
+#include "hex.h"
 #include "ol_sim.h"
-#include <stdio.h>
 #include <stdlib.h>
-#include <string.h>
-
-static size_t bytes(const char *text, uint8_t *out) {
-    size_t n = strlen(text) / 2;
-    for (size_t i = 0; i < n; i++) {
-        unsigned x;
-        sscanf(text + 2 * i, "%2x", &x);
-        out[i] = (uint8_t)x;
-    }
-    return n;
-}
 
 int main(int count, char **words) {
     static uint8_t file[65536], inputs[65536], a[65536], b[65536], values[65536];
     size_t place, state, input_bytes, value_bytes, equations;
     if (count < 4) return 2;
-    size_t f = bytes(words[1], file), n = bytes(words[2], inputs);
+    size_t f = unhex(words[1], file, sizeof file), n = unhex(words[2], inputs, sizeof inputs);
     int pairs = atoi(words[3]), numbers = 0;
     ol_sim_lengths(file, f, 0, &place, &state, &input_bytes, &value_bytes, &equations);
     ol_sim_start(file, f, a, state, &place);

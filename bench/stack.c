@@ -2,13 +2,12 @@
  * paint was used. Prints bytes for each file and the most for each function. bench/stack builds and runs it. */
 #define _XOPEN_SOURCE 700
 #define _DEFAULT_SOURCE
-#include <stdint.h>
-#include <stdio.h>
 #include <stdlib.h>
 #include <string.h>
 #include <sys/mman.h>
 #include <ucontext.h>
 
+#include "hex.h"
 #include "ol_sim.h"
 
 enum { ROOM = 64 << 20, PAINT = 0xA5, FUNCTIONS = 5 };
@@ -52,14 +51,6 @@ static size_t used(void (*call)(void)) {
         exit(1);
     }
     return ROOM - free;
-}
-
-static size_t unhex(const char *text, uint8_t *out, size_t most) {
-    size_t n = 0;
-    unsigned x;
-    while (n < most && sscanf(text + 2 * n, "%2x", &x) == 1)
-        out[n++] = (uint8_t)x;
-    return n;
 }
 
 static size_t max(size_t a, size_t b) { return a < b ? b : a; }
