@@ -1,16 +1,24 @@
 -- Laws of copying cells.
-use Prim.Native.Nat.{ℕ, zero, suc, ◌+◌, ◌*◌, ◌≤◌, min}
+use Prim.Native.Nat.{ℕ, zero, suc, ◌+◌, ◌*◌, ◌<◌, ◌≤◌, min}
 use mathlib.Core.List.{List, [], ◌∷◌, ◌++◌, append_assoc, append-nil}
 use mathlib.Core.Path.{◌≡◌, refl, sym, ap, ◌∙◌}
 use native.Mathlib.Omega.{arith}
 use native.Mathlib.Decide.{dec_le}
 use mathlib.Core.Logic.{by_cases}
-use lib.ListN.{length, take, drop, length-append, length-drop, drop_of_length-le}
-use lib.Seq.{take_at, drop_at, drop-drop, take_all}
+use lib.ListN.{length, take, drop, set, get_or, length-append, length-drop, drop_of_length-le}
+use lib.Seq.{take_at, drop_at, drop-drop, drop-cons, set_at, take-suc, take_all, length-take-le}
 use Rattle.ol_spec.specs.Cell.{cell, cells, value_of, values_of}
 use Rattle.ol_spec.specs.declared.Value.{Value}
 use Rattle.ol_spec.proofs.Cells.{length_cells}
 use Rattle.ol_spec.proofs.CellLengths.{length_values}
+
+-- one byte more is copied
+pub byte_copied : (i : ℕ) (from to₀ to : List ℕ) → to ≡ take i from ++ drop i to₀ → i < length from → i < length to₀ → set to i (get_or from i 0) ≡ take (suc i) from ++ drop (suc i) to₀
+byte_copied i from to₀ to e f t =
+    let x = get_or from i 0 in
+    ap (λ (l : List ℕ). set l i x) (e ∙ ap (λ (l : List ℕ). take i from ++ l) (drop-cons to₀ i 0 t))
+    ∙ set_at (take i from) (get_or to₀ i 0) (drop (suc i) to₀) x i (length-take-le i from (omega arith))
+    ∙ sym (append_assoc (take i from) (x ∷ []) (drop (suc i) to₀)) ∙ ap (λ (l : List ℕ). l ++ drop (suc i) to₀) (sym (take-suc from i 0 f))
 
 -- as many are copied as both have
 pub bytes_copied : (i : ℕ) (from to₀ to : List ℕ) → to ≡ take i from ++ drop i to₀ → i ≡ min (length from) (length to₀) → to ≡ take (length to₀) from ++ drop (length from) to₀

@@ -18,7 +18,9 @@ pub fn copy(from: &[u8], to: &mut [u8])
     ensures { to.new ≡ take (length to.old) from.now ++ drop (length from.now) to.old }
 {
     let n = from.len().min(to.len());
-    to[..n].copy_from_slice(&from[..n]);
+    for (i, b) in from[..n].iter().enumerate() {
+        to[i] = *b;
+    }
 }
 
 // The cells from index `first` up to `last`.

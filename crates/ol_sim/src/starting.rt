@@ -10,6 +10,7 @@ ghost use Rattle.ol_sim.specs.Starting.{StartReady};
 ghost use Rattle.ol_sim.specs.Serving.{Stands};
 
 use crate::program::Program;
+use ol_frame::copies::copy;
 use ol_spec::Fault;
 use ol_state::fresh::write_fresh;
 use ol_tables::table::{consts_from, known};
@@ -22,7 +23,7 @@ fn write_start(file: &[u8], tab: &[u8], main: usize, state: &mut [u8])
     let n = 9 * known(tab);
     let from = consts_from(tab);
     let cells = &tab[from..from + n];
-    state[..n].copy_from_slice(cells);
+    copy(cells, &mut state[..n]);
     write_fresh(file, tab, main, &mut state[n..]);
 }
 
