@@ -1,8 +1,8 @@
 /* The relay's Lustre cycle for C and for languages that call C: link libol_sim_c.a, which `tools/build ol_sim_c` writes.
  *
  * A program in the form of docs/FORMAT.md is judged, started and stepped. The library keeps nothing between calls: the caller holds the file, the state and every
- * other buffer. It uses no heap, no file, no clock and no global data, so calls on different buffers may run in several threads. Of the C library it needs memcpy,
- * memmove and memset at most.
+ * other buffer. It uses no heap, no file, no clock and no global data, so calls on different buffers may run in several threads. Of the C library it needs memcpy
+ * and memset at most.
  *
  * Every function gives a number and a place.
  *   The number is the result: 0, or the fault's number (enum ol_sim_number).
