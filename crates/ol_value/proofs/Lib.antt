@@ -1,4 +1,5 @@
 pub mod Backs
 pub mod Widths
 pub mod TypeCodes
+pub mod OpCodes
 pub mod Digits

@@ -1,13 +1,14 @@
 -- Types by their codes: those of integers, and what casting and the tests of inputs make of each.
 use mathlib.Core.Path.{◌≡◌, refl, ap}
 use mathlib.Core.Bool.{Bool, true, false, not, ◌&&◌, ◌||◌}
-use mathlib.Core.List.{List, []}
+use mathlib.Core.List.{List, [], ◌∷◌}
+use mathlib.Core.Option.{Option, none, some}
 use Prim.Native.Nat.{ℕ, zero, suc, ◌≤◌, ◌<◌}
 use native.Mathlib.Omega.{arith}
 use lib.Dec.{eqb}
 use lib.Ieee.{Float, Format, binary32, binary64}
 use lib.IntN.{ℤ}
-use lib.ListN.{get_or}
+use lib.ListN.{get_or, get_elem?}
 use Rattle.ol_spec.specs.Syntax.{int}
 use Rattle.ol_spec.specs.Read.{TyCode, bool_t, float32_t, float64_t, char_t, enum_t, int_t, ty_codes}
 use Rattle.ol_spec.specs.Real.{by_precision, of_int, round_single}
@@ -91,3 +92,16 @@ variant_is ns (Val.Int i) = refl
 variant_is ns (Val.Float x) = refl
 variant_is ns (Val.Float32 x) = refl
 variant_is ns (Val.Enum v) = refl
+
+-- ---- at a code that the reader knows
+
+entry_known : {A : Type 0} (l : List A) (n : ℕ) (a d : A) → get_elem? l n ≡ some a → get_or l n d ≡ a
+entry_known [] n a d e = absurd (none_some e)
+  where
+    none_some : ◌≡◌ {A = Option _} none (some a) → ⊥
+    none_some p = let z : ◌≡◌ {A = ℕ} 0 1 = cc in omega arith
+entry_known (x ∷ l) zero a d e = cc
+entry_known (x ∷ l) (suc n) a d e = entry_known l n a d e
+
+pub ty_known : (code : ℕ) {t : TyCode} → get_elem? ty_codes code ≡ some t → (e : ℕ) → ty_of code e ≡ ty_from e t
+ty_known code {t} h e = ap (ty_from e) (entry_known ty_codes code t enum_t h)
