@@ -1,13 +1,15 @@
 -- The numbers of a file's rows, read and stored.
-use Prim.Native.Nat.{ℕ, zero, suc, ◌+◌, ◌*◌, ◌<◌, ◌≤◌}
+use Prim.Native.Nat.{ℕ, zero, suc, ◌+◌, ◌-◌, ◌*◌, ◌<◌, ◌≤◌}
 use mathlib.Core.List.{List, [], ◌∷◌, ◌++◌, map}
-use mathlib.Core.Path.{◌≡◌, refl, ap, ◌∙◌}
+use mathlib.Core.Path.{◌≡◌, refl, sym, ap, ◌∙◌}
+use mathlib.Core.Logic.{by_cases}
 use native.Mathlib.Omega.{arith}
+use native.Mathlib.Decide.{dec_le}
 use borrow.Author.Tests.{true-ltb, false-ltb}
 use denote.Bor.{Bor}
 use lib.Dec.{ltb}
-use lib.ListN.{length, get_or, set, replicate}
-use lib.Seq.{sets}
+use lib.ListN.{length, get_or, set, length-set, replicate}
+use lib.Seq.{sets, get_or-set_same, get_or-set_other}
 use Rattle.std.specs.Prelude.{Option, Some, None, is_some, IfSome, MatchOption}
 use Rattle.std.specs.Option.{option_copied}
 use Rattle.ol_spec.specs.Lists.{concat}
@@ -134,3 +136,39 @@ row_entry is (suc (suc (suc (suc (suc zero))))) lt = is.count
 row_entry is (suc (suc (suc (suc (suc (suc zero)))))) lt = is.size
 row_entry is (suc (suc (suc (suc (suc (suc (suc zero))))))) lt = is.place
 row_entry is (suc (suc (suc (suc (suc (suc (suc (suc j)))))))) lt = absurd (omega arith)
+
+-- ---- from a list of numbers
+
+-- numbers stored from p on, entry by entry: those before p stay
+sets_before : (vs l : List ℕ) (p i : ℕ) → i < p → get_or (sets l p vs) i 0 ≡ get_or l i 0
+sets_before [] l p i lt = refl
+sets_before (v ∷ vs) l p i lt = sets_before vs (set l p v) (suc p) i (omega arith) ∙ get_or-set_other l p i v 0 (λ e. omega arith)
+
+sets_here : (vs l : List ℕ) (p j : ℕ) → j < length vs → p + length vs ≤ length l → get_or (sets l p vs) (p + j) 0 ≡ get_or vs j 0
+sets_here [] l p j lt room = absurd (omega arith)
+sets_here (v ∷ vs) l p zero lt room =
+    let on : p + 0 ≡ p = omega arith in
+    ap (λ i. get_or (sets (set l p v) (suc p) vs) i 0) on ∙ sets_before vs (set l p v) (suc p) p (omega arith) ∙ get_or-set_same l p v 0 (omega arith)
+sets_here (v ∷ vs) l p (suc j) lt room =
+    let on : p + suc j ≡ suc p + j = omega arith in
+    ap (λ i. get_or (sets (set l p v) (suc p) vs) i 0) on ∙ sets_here vs (set l p v) (suc p) j (omega arith) (omega (arith, length-set l p v))
+
+-- the numbers below node k's row are the list's, and node k's row is stored: so are those below the next row
+pub row_told : (ns ns' list : List ℕ) (k : ℕ) {r : Row} → length ns ≡ 272 → k < 32 → RowIs list k r → ns' ≡ sets ns (k * 8) (row_numbers r) → ((i : ℕ) → i < k * 8 → get_or ns i 0 ≡ get_or list i 0) → (i : ℕ) → i < (k + 1) * 8 → get_or ns' i 0 ≡ get_or list i 0
+row_told ns ns' list k {r} long lt is e before i h =
+    ap (λ l. get_or l i 0) e ∙ by_cases (dec_le (k * 8) i)
+    (λ ge. let j = i - k * 8 in
+    let on : i ≡ k * 8 + j = omega arith in
+    let low : j < 8 = omega arith in
+    ap (λ x. get_or (sets ns (k * 8) (row_numbers r)) x 0) on ∙ sets_here (row_numbers r) ns (k * 8) j low (omega (arith, long, lt)) ∙ row_entry is j low ∙ sym (ap (λ x. get_or list x 0) on))
+    (λ no. let lo : i < k * 8 = omega (arith, no) in
+    sets_before (row_numbers r) ns (k * 8) i lo ∙ before i lo)
+
+-- those below enum e's first variant are, and it is stored
+pub first_told : (ns ns' list : List ℕ) (e x : ℕ) → length ns ≡ 272 → e < 16 → x ≡ get_or list (256 + e) 0 → ns' ≡ set ns (256 + e) x → ((i : ℕ) → i < 256 + e → get_or ns i 0 ≡ get_or list i 0) → (i : ℕ) → i < 256 + (e + 1) → get_or ns' i 0 ≡ get_or list i 0
+first_told ns ns' list e x long lt is put before i h =
+    ap (λ l. get_or l i 0) put ∙ by_cases (dec_le (256 + e) i)
+    (λ ge. let on : i ≡ 256 + e = omega arith in
+    ap (λ j. get_or (set ns (256 + e) x) j 0) on ∙ get_or-set_same ns (256 + e) x 0 (omega (arith, long, lt)) ∙ is ∙ sym (ap (λ j. get_or list j 0) on))
+    (λ no. let lo : i < 256 + e = omega (arith, no) in
+    get_or-set_other ns (256 + e) i x 0 (λ q. omega (arith, q, lo)) ∙ before i lo)

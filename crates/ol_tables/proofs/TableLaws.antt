@@ -2,13 +2,13 @@
 use Prim.Native.Nat.{ℕ, suc, ◌+◌, ◌-◌, ◌*◌, ◌/◌, ◌%◌, ◌<◌, ◌≤◌}
 use mathlib.Core.List.{List, [], ◌∷◌, ◌++◌, append_assoc}
 use mathlib.Core.Logic.{by_cases}
-use mathlib.Core.Path.{◌≡◌, sym, ap, ◌∙◌}
+use mathlib.Core.Path.{◌≡◌, refl, sym, ap, ◌∙◌}
 use native.Mathlib.Omega.{arith}
 use native.Mathlib.Decide.{dec_le}
 use lib.ListN.{length, take, drop, get_or, set, length-set, length-map, length-drop, get_or-eq_default}
 use borrow.Author.Tests.{lt-ltb, le-ltb}
 use borrow.Rule.Slice.PartMut.{put_mid}
-use lib.Seq.{sets-eq, get_or-set_same, get_or-set_other, get_or-drop, drop-drop, drop-set-lt}
+use lib.Seq.{sets-eq, get_or-set_same, get_or-set_other, get_or-drop, drop-drop, drop-set-lt, take-set-le}
 use Rattle.ol_theory.specs.Member.{upto}
 use Rattle.ol_theory.proofs.Members.{length_from, map_upto}
 use Rattle.ol_tables.specs.Tables.{two_at, two_put, plans_from, count_at, start_at, code_at, enum_at, length_at}
@@ -90,6 +90,11 @@ pub two_length : (t : List ℕ) (p n : ℕ) → length (two_put t p n) ≡ lengt
 unfolding two_put
 two_length t p n = length-set (set t p (n / 256 % 256)) (p + 1) (n % 256) ∙ length-set t p (n / 256 % 256)
 
+-- what stands before them is left
+pub two_front : (half : ℕ) (t : List ℕ) (p n : ℕ) → half ≤ p → take half (two_put t p n) ≡ take half t
+unfolding two_put
+two_front half t p n le = take-set-le half (set t p (n / 256 % 256)) (p + 1) (n % 256) (omega arith) ∙ take-set-le half t p (n / 256 % 256) le
+
 -- a two-byte entry of what stands behind `half` bytes
 pub two_drop : (half : ℕ) (t : List ℕ) (q r : ℕ) → r ≡ half + q → two_at (drop half t) q ≡ two_at t r
 two_drop half t q r e =
@@ -136,6 +141,10 @@ module _ (t : List ℕ) (k i : ℕ) where
   length_is {p} e = plans_byte (start_at (tab_of t) k + 2 * i + 1) p (omega (arith, e))
 
 -- ---- packing, number by number
+
+pub packs_start : (rows : List ℕ) (first : ℕ) (t : List ℕ) → Packs rows first first t t
+packs_start rows first t =
+    record { put = λ i a b. absurd (omega (arith, a, b)); before = λ i a. refl; behind = λ i a b. refl; rest = refl }
 
 pub packs_turn : {rows : List ℕ} {first i : ℕ} {t₀ t t' : List ℕ} → Packs rows first i t₀ t → i < 272 → 816 ≤ length t → get_or rows i 0 < 16777216 → first ≤ i → t' ≡ number_put t i (get_or rows i 0) → Packs rows first (i + 1) t₀ t'
 packs_turn {rows} {first} {i} {t₀} {t} {t'} p b long small le e =

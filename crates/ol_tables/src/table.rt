@@ -112,13 +112,23 @@ pub fn types_of(tab: &[u8], k: usize) -> usize
     SLOTS + tab.len().saturating_sub(SLOTS) / 2 + at
 }
 
-// Stores number i. That the table has room for the rows stays a fact, here and in the two functions below: the tables of small and large files differ in length.
+// Stores number i. That the table has room for the rows stays a fact, here and in the three functions below: the tables of small and large files differ in length.
 fn put_number(tab: &mut [u8], i: usize, n: usize)
     requires { (i < 272) × (816 ≤ length tab.old) × (n < 16777216) }
     ensures { tab.new ≡ number_put tab.old i n }
 {
     let [_, a, b, c] = (n as u32).to_be_bytes();
     tab[3 * i..3 * i + 3].copy_from_slice(&[a, b, c]);
+}
+
+// Stores the numbers of a list of rows from index `first` up to `last`.
+pub fn pack(rows: &[usize], first: usize, last: usize, tab: &mut [u8])
+    requires { (first ≤ last) × (last ≤ 272) × (last ≤ length rows.now) × (816 ≤ length tab.old) × ((i : ℕ) → first ≤ i → i < last → get_or rows.now i 0 < 16777216) }
+    ensures { Packs rows.now first last tab.old tab.new }
+{
+    for i in first..last {
+        put_number(tab, i, rows[i]);
+    }
 }
 
 // Stores the rows of so many nodes.
