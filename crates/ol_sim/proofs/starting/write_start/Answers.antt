@@ -32,6 +32,14 @@ slice_bounds-write_fresh-count c =
     let copied : c.copy.new.to ≡ consts_of c.args.tab.now = all_copied _ (take (9 * n.result) c.args.state.now) c.copy.new.to (front_long c.requires (9 * n.result) head ∙ head ∙ sym (ap length lent)) c.copy.ensures ∙ lent in
     omega (arith, consts_fit c.requires (9 * n.result) head, begun_long c.requires (9 * n.result) head copied)
 
+pub slice_bounds-write_fresh-start : goal.slice_bounds-write_fresh-start
+slice_bounds-write_fresh-start c =
+    let n = c.known-n in
+    let head = ap (λ i. 9 * i) n.ensures.0 ∙ sym c.requires.full in
+    let lent = consts_lent c.args.tab.now c.consts_from-from.ensures n.ensures.0 in
+    let copied : c.copy.new.to ≡ consts_of c.args.tab.now = all_copied _ (take (9 * n.result) c.args.state.now) c.copy.new.to (front_long c.requires (9 * n.result) head ∙ head ∙ sym (ap length lent)) c.copy.ensures ∙ lent in
+    omega (arith, consts_fit c.requires (9 * n.result) head, begun_long c.requires (9 * n.result) head copied)
+
 pub write_fresh-requires : goal.write_fresh-requires
 write_fresh-requires c =
     let n = c.known-n in
