@@ -1,7 +1,7 @@
 #!/usr/bin/env python3
 """Makes stdin and stdout of relay: `lines` with `lines.expected`, worked out by hand (malformed lines, wrong lengths), then the oracle's vectors (bench, corners) and generated files,
 good and damaged ones, then the vectors on why a cycle stopped (i) and generated files that stop in each way, then the vectors on arrays, map and fold (ii) and generated files
-with arrays, good and damaged ones, with the answers of the unchanged Rust.
+with arrays, good and damaged ones, then a state and a cycle of a file that is refused with 22, with the answers of the unchanged Rust.
 
     cd oracle && cargo build --release --offline -j1
     crates/relay/make.py [COUNTS]
@@ -21,6 +21,8 @@ LISTS = [(("bench", "corners"), [("7101", "180", "4", ["--mode", "good", "--load
          (("i",), [("7103", "60", "4", ["--mode", "good", "--loads", "--stops"], 700, None)]),
          (("ii",), [("7104", "400", "3", ["--mode", "good", "--stops", "--arrays"], 450, 1_200), ("7105", "250", "1", ["--mode", "good", "--loads", "--arrays"], 450, 1_200),
                     ("7106", "1100", "2", ["--mode", "bad", "--arrays"], 400, 600)])]
+# behind these lists: a file that is refused with 22, a state to load, and a cycle from one
+LAST = ["file 0100000101000100010d02040001010001050108040001", "load 00", "at 00 00"]
 ROOM = 1 << 20
 
 
@@ -53,7 +55,7 @@ def vectors(name):
 
 
 def main():
-    lists = [[line for name in names for line in vectors(name)] + [line for run in runs for line in generated(*run)] for names, runs in LISTS]
+    lists = [[line for name in names for line in vectors(name)] + [line for run in runs for line in generated(*run)] for names, runs in LISTS] + [LAST]
     each = [answered(lines) for lines in lists]
     stream = "".join(line + "\n" for lines in lists for line in lines)
     answers = "".join(line + "\n" for lines in each for line in lines)

@@ -80,18 +80,27 @@ unstarted : (r : Started) → is_err r ≡ true → is_done r ≡ false
 unstarted (Ok u) e = sym e
 unstarted (Err f) e = refl
 
+pub ran_as : (file first second fresh a b values : List ℕ) (t : Tally) → t ≡ run_of file first second fresh a b values → Ran t
+ran_as file first second fresh a b values t e = record { file = file; first = first; second = second; fresh = fresh; a = a; b = b; values = values; counts = e }
+
 module _ (file first second fresh a b values : List ℕ) (rf : Started) (fresh' : List ℕ) (hf : StartsAs (start relay_loader file fresh) rf fresh') where
-  ran_as : (t : Tally) → t ≡ run_of file first second fresh a b values → Ran t
-  ran_as t e = record { file = file; first = first; second = second; fresh = fresh; a = a; b = b; values = values; counts = e }
+  pub run_done : (ra : Started) (a' : List ℕ) → StartsAs (start relay_loader file a) ra a' → is_err rf ≡ false → is_err ra ≡ false → (t : Tally) → t ≡ (after file fresh' first second 500000 (stand none a' b values)).tally → t ≡ run_of file first second fresh a b values
+  unfolding run_of
+  run_done ra a' ha e g t q = rw (← hf.answered, started rf e, ← ha.answered, started ra g, ← hf.written, ← ha.written) q
+
+  pub run_unstarted : (ra : Started) (a' : List ℕ) → StartsAs (start relay_loader file a) ra a' → is_err rf ≡ false → is_err ra ≡ true → (t : Tally) → t ≡ none → t ≡ run_of file first second fresh a b values
+  unfolding run_of
+  run_unstarted ra a' ha e g t q = rw (← hf.answered, started rf e, ← ha.answered, unstarted ra g) q
+
+  pub run_not_fresh : is_err rf ≡ true → (t : Tally) → t ≡ none → t ≡ run_of file first second fresh a b values
+  unfolding run_of
+  run_not_fresh e t q = rw (← hf.answered, unstarted rf e) q
 
   pub ran_done : (ra : Started) (a' : List ℕ) → StartsAs (start relay_loader file a) ra a' → is_err rf ≡ false → is_err ra ≡ false → (t : Tally) (x y v : List ℕ) → Stands (after file fresh' first second 500000 (stand none a' b values)) t x y v → Ran t
-  unfolding run_of
-  ran_done ra a' ha e g t x y v s = ran_as t (rw (← hf.answered, started rf e, ← ha.answered, started ra g, ← hf.written, ← ha.written) s.counts)
+  ran_done ra a' ha e g t x y v s = ran_as file first second fresh a b values t (run_done ra a' ha e g t s.counts)
 
   pub ran_unstarted : (ra : Started) (a' : List ℕ) → StartsAs (start relay_loader file a) ra a' → is_err rf ≡ false → is_err ra ≡ true → (t : Tally) → t ≡ none → Ran t
-  unfolding run_of
-  ran_unstarted ra a' ha e g t q = ran_as t (rw (← hf.answered, started rf e, ← ha.answered, unstarted ra g) q)
+  ran_unstarted ra a' ha e g t q = ran_as file first second fresh a b values t (run_unstarted ra a' ha e g t q)
 
   pub ran_not_fresh : is_err rf ≡ true → (t : Tally) → t ≡ none → Ran t
-  unfolding run_of
-  ran_not_fresh e t q = ran_as t (rw (← hf.answered, unstarted rf e) q)
+  ran_not_fresh e t q = ran_as file first second fresh a b values t (run_not_fresh e t q)

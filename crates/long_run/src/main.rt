@@ -2,8 +2,8 @@
 // Free are which bytes a read gives and whether a write takes them: `tell` and `main` promise nothing of it.
 #![tactic(auto)]
 
-ghost use Rattle.std.specs.Prelude.{◌≤◌, length};
-ghost use Rattle.long_run.specs.Runs.{none, Stepped, Stands, stand, after, Ran};
+ghost use Rattle.std.specs.Prelude.{◌≡◌, ◌≤◌, length};
+ghost use Rattle.long_run.specs.Runs.{none, Stepped, Stands, stand, after, run_of, Ran};
 
 use ol_spec::Cycled;
 use relay_text::answers::say_answered;
@@ -80,7 +80,29 @@ fn tell(streams: Streams, t: Tally, values: &[u8], state: &[u8])
     streams.write_all(&out[..k]);
 }
 
-// The next file of the input, with two lists of inputs. It is started twice, once for the state to compare with; then all cycles are made, and it is told what was counted.
+// Starts a file twice, once for the state to compare with, makes all cycles and tells what was counted.
+fn run_file(
+    streams: Streams,
+    file: &[u8],
+    first: &[u8],
+    second: &[u8],
+    fresh: &mut [u8],
+    a: &mut [u8],
+    b: &mut [u8],
+    values: &mut [u8],
+) -> Tally
+    requires { (length values.old ≤ 1008) × (length a.old ≤ 1008) }
+    ensures { result ≡ run_of file.now first.now second.now fresh.old a.old b.old values.old }
+{
+    if ol_sim::start(file, fresh).is_err() || ol_sim::start(file, a).is_err() {
+        return Tally::default();
+    }
+    let t = run(file, fresh, first, second, a, b, values);
+    tell(streams, t, values, a);
+    t
+}
+
+// Runs the next file of the input, with two lists of inputs.
 fn run_next<const FILE: usize, const INPUTS: usize, const STATE: usize, const VALUES: usize>(
     streams: Streams,
 ) -> Tally
@@ -94,12 +116,16 @@ fn run_next<const FILE: usize, const INPUTS: usize, const STATE: usize, const VA
     let mut a = [0; STATE];
     let mut b = [0; STATE];
     let mut values = [0; VALUES];
-    if ol_sim::start(&file, &mut fresh).is_err() || ol_sim::start(&file, &mut a).is_err() {
-        return Tally::default();
-    }
-    let t = run(&file, &fresh, &first, &second, &mut a, &mut b, &mut values);
-    tell(streams, t, &values, &a);
-    t
+    run_file(
+        streams,
+        &file,
+        &first,
+        &second,
+        &mut fresh,
+        &mut a,
+        &mut b,
+        &mut values,
+    )
 }
 
 // The counter, which has no inputs, and the feeder file.

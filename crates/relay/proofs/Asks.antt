@@ -8,7 +8,7 @@ use lib.ListN.{length, take, drop, get_or}
 use lib.Pointwise.{pointwise, bytes_decides}
 use lib.Dec.{T, eqb, ltb, eqb→eq, lt→ltb, ltb→lt}
 use Rattle.std.specs.Prelude.{Result, Ok, Err}
-use Rattle.std.specs.declared.ops.Range.{Range}
+use Rattle.relay_text.specs.declared.Word.{Word}
 use Rattle.ol_spec.specs.Lists.{same}
 use Rattle.ol_spec.proofs.Tests.{T_and, T_true, T_false}
 use Rattle.relay_text.specs.Text.{word_number, behind, words_up_to}
@@ -31,13 +31,13 @@ get_d_out [] (suc i) d h = refl
 get_d_out (x ∷ l) zero d h = absurd (omega arith)
 get_d_out (x ∷ l) (suc i) d h = get_d_out l i d (omega arith)
 
-pub silent_in : (line : List ℕ) (w : Range ℕ) → w ≡ word_number line 0 → w.start < length line → eqb (get_or line w.start 0) 35 ≡ is_silent line
+pub silent_in : (line : List ℕ) (w : Word) → w ≡ word_number line 0 → w.from < length line → eqb (get_or line w.from 0) 35 ≡ is_silent line
 unfolding behind
-silent_in line w e h = ap (λ x. eqb x 35) (get_d_in line w.start 0 35 h) ∙ ap (λ (v : Range ℕ). eqb (get_or line v.start 35) 35) e
+silent_in line w e h = ap (λ x. eqb x 35) (get_d_in line w.from 0 35 h) ∙ ap (λ (v : Word). eqb (get_or line v.from 35) 35) e
 
-pub silent_out : (line : List ℕ) (w : Range ℕ) → w ≡ word_number line 0 → length line ≤ w.start → true ≡ is_silent line
+pub silent_out : (line : List ℕ) (w : Word) → w ≡ word_number line 0 → length line ≤ w.from → true ≡ is_silent line
 unfolding behind
-silent_out line w e h = sym (ap (λ x. eqb x 35) (get_d_out line w.start 35 h)) ∙ ap (λ (v : Range ℕ). eqb (get_or line v.start 35) 35) e
+silent_out line w e h = sym (ap (λ x. eqb x 35) (get_d_out line w.from 35 h)) ∙ ap (λ (v : Word). eqb (get_or line v.from 35) 35) e
 
 -- ---- the command
 
@@ -75,8 +75,8 @@ unknown_word t f o s l c a =
     refl
 
 -- the command that the line's first word names
-pub first_word : (line : List ℕ) (w : Range ℕ) {d : Result Command Reason} → w ≡ word_number line 0 → d ≡ command_of (take (w.end - w.start) (drop w.start line)) → d ≡ command_of (word_text line 0)
-first_word line w e h = h ∙ ap (λ (v : Range ℕ). command_of (take (v.end - v.start) (drop v.start line))) e
+pub first_word : (line : List ℕ) (w : Word) {d : Result Command Reason} → w ≡ word_number line 0 → d ≡ command_of (take (w.to - w.from) (drop w.from line)) → d ≡ command_of (word_text line 0)
+first_word line w e h = h ∙ ap (λ (v : Word). command_of (take (v.to - v.from) (drop v.from line))) e
 
 -- ---- the line
 

@@ -1,5 +1,5 @@
 -- What a line is answered with, and what stands then: oracle/README.md's protocol over the public calls.
-use Rattle.std.specs.Prelude.{ℕ, ◌*◌, ◌&&◌, cond, List, [], ◌∷◌, length, replicate, leb, Option, Some, None, Ok, Err}
+use Rattle.std.specs.Prelude.{ℕ, ◌*◌, ◌&&◌, ◌||◌, cond, List, [], ◌∷◌, length, replicate, eqb, leb, Option, Some, None, Ok, Err}
 use Rattle.ol_spec.specs.Limits.{relay_loader}
 use Rattle.ol_spec.specs.Syntax.{main}
 use Rattle.ol_spec.specs.Step.{cell_count}
@@ -87,11 +87,11 @@ order_call file k = ordering relay_loader file k (zeros (equations_of (read_file
 
 -- ---- load STATE
 
--- what a cycle is refused with for its file or its old state (1 to 15)
+-- what a cycle is refused with for its file or its old state (1 to 15 and 22)
 abbrev pub state_fault : Cycled → Option Fault
 state_fault Cyc.Answered = None
 state_fault (Cyc.Stopped x) = None
-state_fault (Cyc.Refused x) = cond (leb 1 x.number && leb x.number 15) (Some x) None
+state_fault (Cyc.Refused x) = cond ((leb 1 x.number && leb x.number 15) || eqb x.number 22) (Some x) None
 
 abbrev pub load_fault : List ℕ → List ℕ → Option Fault
 load_fault file state = state_fault (cycle relay_loader file state [] [] []).answer

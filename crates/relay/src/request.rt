@@ -109,7 +109,7 @@ fn fits(c: Command, words: usize) -> bool
 fn is_silent(line: &[u8]) -> bool
     ensures { result ≡ is_silent line.now }
 {
-    let at = nth(line, 0).start;
+    let at = nth(line, 0).from;
     at == line.len() || line[at] == b'#'
 }
 
@@ -188,7 +188,8 @@ pub(crate) fn ask(
     if is_silent(line) {
         return Ok(Request::Silent);
     }
-    let c = command_named(&line[nth(line, 0)])?;
+    let w = nth(line, 0);
+    let c = command_named(&line[w.from..w.to])?;
     if !fits(c, words(line)) {
         return Err(Reason::WrongWords);
     }

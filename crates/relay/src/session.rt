@@ -101,7 +101,7 @@ fn load_fault(file: &[u8], state: &[u8]) -> Option<Fault>
     let mut new = [0; 0];
     let mut values = [0; 0];
     match ol_sim::cycle(file, state, b"", &mut new, &mut values) {
-        Cycled::Refused(f) if matches!(f.number, 1..=15) => Some(f),
+        Cycled::Refused(f) if matches!(f.number, 1..=15 | 22) => Some(f),
         _ => None,
     }
 }

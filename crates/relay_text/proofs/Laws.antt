@@ -7,7 +7,6 @@ use mathlib.Core.Path.{◌≡◌, refl, sym, ap, subst, ◌∙◌}
 use mathlib.Core.Bool.{Bool, true, false, cond, not, ◌&&◌}
 use Rattle.std.specs.Ordering.{is_lt, nat_cmp}
 use Rattle.std.proofs.lemmas.Map.Keys.{ge_from_not_lt}
-use Rattle.std.specs.declared.ops.Range.{Range}
 use mathlib.Core.List.{List, [], ◌∷◌, ◌++◌, append_assoc, append-nil}
 use Rattle.std.specs.Prelude.{Option, Some, None, position, nat_lt, unwrap_or}
 use lib.ListN.{length, take, drop, get_or, set, take-append-drop, drop_of_length-le, length-append, length-take}
@@ -23,6 +22,7 @@ use Rattle.io.specs.Digits.{IsDigitCount}
 use Rattle.relay_text.specs.Text.{decimal_word}
 use Rattle.relay_text.specs.Lines.{blank, with_indexes, Puts, Appends}
 use Rattle.relay_text.specs.declared.line.Line.{Line}
+use Rattle.relay_text.specs.declared.Word.{Word}
 
 -- ---- lists
 
@@ -80,18 +80,18 @@ pub words_done : (l : List ℕ) (k n at : ℕ) → k ≤ n → n ≡ n + words_u
 unfolding words_up_to
 words_done l k n at h = let e : k - n ≡ 0 = omega arith in rw e (omega arith)
 
-pub word_is : (line : List ℕ) (at a b : ℕ) → a ≡ word_from line at → b ≡ a + run false (drop a line) → record { start = a; end = b } ≡ word_at line at
+pub word_is : (line : List ℕ) (at a b : ℕ) → a ≡ word_from line at → b ≡ a + run false (drop a line) → record { from = a; to = b } ≡ word_at line at
 word_is line at a b p q = rw (q, p)
 
 -- a word that is found is empty, or goes on
-module _ (line : List ℕ) (at : ℕ) (w : Range ℕ) (e : w ≡ word_at line at) where
-  pub empty_word : w.start ≤ w.end → not (is_lt (nat_cmp w.start w.end)) ≡ true → word_from line at ≡ word_to line at
-  empty_word f h = sym (ap (λ (r : Range ℕ). r.start) e) ∙ omega (arith, ge_from_not_lt w.start w.end (of_not (is_lt (nat_cmp w.start w.end)) h)) ∙ ap (λ (r : Range ℕ). r.end) e
+module _ (line : List ℕ) (at : ℕ) (w : Word) (e : w ≡ word_at line at) where
+  pub empty_word : w.from ≤ w.to → not (is_lt (nat_cmp w.from w.to)) ≡ true → word_from line at ≡ word_to line at
+  empty_word f h = sym (ap (λ (r : Word). r.from) e) ∙ omega (arith, ge_from_not_lt w.from w.to (of_not (is_lt (nat_cmp w.from w.to)) h)) ∙ ap (λ (r : Word). r.to) e
 
-  pub word_goes_on : not (is_lt (nat_cmp w.start w.end)) ≡ false → word_from line at ≡ word_to line at → ⊥
+  pub word_goes_on : not (is_lt (nat_cmp w.from w.to)) ≡ false → word_from line at ≡ word_to line at → ⊥
   word_goes_on h q =
-      let same : w.start ≡ w.end = ap (λ (r : Range ℕ). r.start) e ∙ q ∙ sym (ap (λ (r : Range ℕ). r.end) e) in
-      let bad : true ≡ false = rw (le-ltb w.start w.end (omega arith), eq-eqb w.start w.end same) at h in
+      let same : w.from ≡ w.to = ap (λ (r : Word). r.from) e ∙ q ∙ sym (ap (λ (r : Word). r.to) e) in
+      let bad : true ≡ false = rw (le-ltb w.from w.to (omega arith), eq-eqb w.from w.to same) at h in
       cc
 
 -- ---- hexadecimal

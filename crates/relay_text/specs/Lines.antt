@@ -111,4 +111,4 @@ pub record Appends (old new : Line) (piece : List ℕ) : Type 0 where
 
 -- the text of the line's word number k
 abbrev pub word_text : List ℕ → ℕ → List ℕ
-word_text line k = let w = word_number line k in take (w.end - w.start) (drop w.start line)
+word_text line k = let w = word_number line k in take (w.to - w.from) (drop w.from line)

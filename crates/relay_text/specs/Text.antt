@@ -1,7 +1,7 @@
 -- What a line's words stand for, and what is written for bytes and numbers: oracle/README.md's protocol.
 use Rattle.std.specs.Prelude.{ℕ, zero, suc, ◌+◌, ◌*◌, ◌-◌, ◌/◌, ◌%◌, ◌≤◌, ◌≡◌, Bool, true, false, cond, not, List, [], ◌∷◌, ◌++◌, length, take, drop, get_or, eqb, ltb, leb, Option, Some, None}
 use Rattle.io.specs.Digits.{last_digits}
-use Rattle.std.specs.declared.ops.Range.{Range}
+use Rattle.relay_text.specs.declared.Word.{Word}
 
 -- ---- words
 
@@ -26,8 +26,8 @@ word_from line at = at + run true (drop at line)
 abbrev pub word_to : List ℕ → ℕ → ℕ
 word_to line at = word_from line at + run false (drop (word_from line at) line)
 
-abbrev pub word_at : List ℕ → ℕ → Range ℕ
-word_at line at = record { start = word_from line at; end = word_to line at }
+abbrev pub word_at : List ℕ → ℕ → Word
+word_at line at = record { from = word_from line at; to = word_to line at }
 
 -- where the first k words from a place on end
 unfoldable pub behind : List ℕ → ℕ → ℕ → ℕ
@@ -35,7 +35,7 @@ behind line zero at = at
 behind line (suc k) at = behind line k (word_to line at)
 
 -- the line's word number k, counted from 0
-abbrev pub word_number : List ℕ → ℕ → Range ℕ
+abbrev pub word_number : List ℕ → ℕ → Word
 word_number line k = word_at line (behind line k 0)
 
 -- how many words stand from a place on, k where there are more

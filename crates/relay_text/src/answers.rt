@@ -112,12 +112,14 @@ pub fn bytes_of(line: &[u8], k: usize, bytes: &mut [u8]) -> Option<usize>
     requires { length line.now ≤ length bytes.old + length bytes.old }
     ensures { Decoded (bytes_of (word_text line.now k)) result bytes.new × (bytes.new ≡ onto (unhexed_front (word_text line.now k)) bytes.old) }
 {
-    unhex(&line[nth(line, k)], bytes)
+    let w = nth(line, k);
+    unhex(&line[w.from..w.to], bytes)
 }
 
 // The number that a word of the line stands for.
 pub fn number_of(line: &[u8], k: usize) -> Option<usize>
     ensures { result ≡ number_of (word_text line.now k) }
 {
-    decimal(&line[nth(line, k)])
+    let w = nth(line, k);
+    decimal(&line[w.from..w.to])
 }

@@ -8,7 +8,12 @@ ghost use Rattle.std.specs.Prelude.{◌≡◌, ◌++◌, ◌+◌, ◌≤◌, len
 ghost use Rattle.io.specs.Counts.{IsPrefixLen};
 ghost use Rattle.relay_text.specs.Text.{is_blank, sort, run, word_at, word_number, words_up_to, hex_value, bytes_of, unhexed, unhexed_front, onto, Decoded, with_digit, number_of};
 
-use std::ops::Range;
+// A word of a line: it stands from `from` up to `to`.
+#[derive(Clone, Copy)]
+pub struct Word {
+    pub from: usize,
+    pub to: usize,
+}
 
 // A number above this one is told as one above this one.
 const LARGE: usize = 1000000000000000;
@@ -42,12 +47,15 @@ fn run(text: &[u8], over: bool) -> usize
 }
 
 // The next word from `at` on; an empty one at the line's end.
-fn next_word(line: &[u8], at: usize) -> Range<usize>
+fn next_word(line: &[u8], at: usize) -> Word
     requires { at ≤ length line.now }
-    ensures { (result.start ≤ result.end) × (result.end ≤ length line.now) × (result ≡ word_at line.now at) }
+    ensures { (result.from ≤ result.to) × (result.to ≤ length line.now) × (result ≡ word_at line.now at) }
 {
     let from = at + run(&line[at..], true);
-    from..from + run(&line[from..], false)
+    Word {
+        from,
+        to: from + run(&line[from..], false),
+    }
 }
 
 // How many words a line has, 6 where it has more.
@@ -57,21 +65,21 @@ pub fn words(line: &[u8]) -> usize
     let mut at = 0;
     for n in 0..6 {
         let w = next_word(line, at);
-        if w.is_empty() {
+        if (w.from..w.to).is_empty() {
             return n;
         }
-        at = w.end;
+        at = w.to;
     }
     6
 }
 
 // The line's word number k, counted from 0; an empty one where there are fewer.
-pub fn nth(line: &[u8], k: usize) -> Range<usize>
-    ensures { (result.start ≤ result.end) × (result.end ≤ length line.now) × (result ≡ word_number line.now k) }
+pub fn nth(line: &[u8], k: usize) -> Word
+    ensures { (result.from ≤ result.to) × (result.to ≤ length line.now) × (result ≡ word_number line.now k) }
 {
     let mut at = 0;
     for _ in 0..k {
-        at = next_word(line, at).end;
+        at = next_word(line, at).to;
     }
     next_word(line, at)
 }

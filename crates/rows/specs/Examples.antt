@@ -15,11 +15,11 @@ pub last : (agreeing (7 ∷ 8 ∷ 0 ∷ []) (7 ∷ 8 ∷ 9 ∷ []) ≡ 2) × (fi
 unfolding agreeing first_other
 last = (refl, refl)
 
-pub cut : (agreeing (7 ∷ 8 ∷ []) (7 ∷ 8 ∷ 9 ∷ []) ≡ 2) × (first_other (7 ∷ 8 ∷ []) (7 ∷ 8 ∷ 9 ∷ []) ≡ None)
+pub cut : (agreeing (7 ∷ 8 ∷ []) (7 ∷ 8 ∷ 9 ∷ []) ≡ 2) × (first_other (7 ∷ 8 ∷ []) (7 ∷ 8 ∷ 9 ∷ []) ≡ Some 2)
 unfolding agreeing first_other
 cut = (refl, refl)
 
-pub empty : (agreeing [] (7 ∷ []) ≡ 0) × (first_other [] (7 ∷ []) ≡ None)
+pub empty : (agreeing [] (7 ∷ []) ≡ 0) × (first_other [] (7 ∷ []) ≡ Some 0)
 unfolding agreeing first_other
 empty = (refl, refl)
 

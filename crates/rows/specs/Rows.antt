@@ -1,5 +1,6 @@
 -- Rows that agree: a list of what was found beside a list of what was wanted. A row that only one of the two lists has does not agree.
-use Rattle.std.specs.Prelude.{ℕ, suc, ◌+◌, Bool, true, false, cond, ◌&&◌, List, [], ◌∷◌, ◌≡◌, eqb, Option, Some, None}
+use Rattle.std.specs.Prelude.{ℕ, suc, ◌+◌, min, Bool, true, false, cond, not, ◌&&◌, List, [], ◌∷◌, length, ◌≡◌, eqb, Option, Some, None}
+use Rattle.std.specs.Bool.{then_some}
 use Rattle.rows.specs.declared.Compared.{Compared}
 
 -- 1 for a row that agrees, else 0
@@ -18,11 +19,16 @@ abbrev pub further : Option ℕ → Option ℕ
 further None = None
 further (Some i) = Some (suc i)
 
--- the index of the first row that both lists have and that does not agree, if there is one
+-- the index of the first row that does not agree, if there is one
 unfoldable pub first_other : List ℕ → List ℕ → Option ℕ
-first_other [] ws = None
-first_other (x ∷ xs) [] = None
+first_other [] [] = None
+first_other [] (w ∷ ws) = Some 0
+first_other (x ∷ xs) [] = Some 0
 first_other (x ∷ xs) (w ∷ ws) = cond (eqb x w) (further (first_other xs ws)) (Some 0)
+
+-- the index of the first row that only one of the two lists has, if there is one
+abbrev pub first_alone : List ℕ → List ℕ → Option ℕ
+first_alone xs ws = then_some (not (eqb (length xs) (length ws))) (min (length xs) (length ws))
 
 -- whether all rows agree
 unfoldable pub all_agree : List ℕ → List ℕ → Bool

@@ -4,9 +4,9 @@
 pub mod streams;
 
 ghost use Rattle.std.specs.Prelude.{◌≡◌, ◌==◌, not, count_by, position, zip};
-ghost use Rattle.rows.specs.Rows.{Compares, all_agree};
+ghost use Rattle.rows.specs.Rows.{Compares, all_agree, first_alone};
 
-// How many rows agree, and the index of the first that does not.
+// How many rows agree, and the index of the first that does not, if there is one.
 #[derive(Clone, Copy)]
 pub struct Compared {
     pub agreeing: usize,
@@ -20,11 +20,19 @@ fn agreeing(found: &[u64], wanted: &[u64]) -> usize
     found.iter().zip(wanted).filter(|(f, w)| f == w).count()
 }
 
-// The index of the first row that does not agree.
+// The index of the first row that both lists have and that does not agree.
 fn first_other(found: &[u64], wanted: &[u64]) -> Option<usize>
     ensures { result ≡ position (λ p. not (p.0 == p.1)) (zip found.now wanted.now) }
 {
     found.iter().zip(wanted).position(|(f, w)| f != w)
+}
+
+// The index of the first row that only one of the two lists has.
+fn first_alone(found: &[u64], wanted: &[u64]) -> Option<usize>
+    ensures { result ≡ first_alone found.now wanted.now }
+{
+    let is_there = found.len() != wanted.len();
+    is_there.then_some(found.len().min(wanted.len()))
 }
 
 // Compares two lists of rows.
@@ -34,7 +42,7 @@ pub fn compare(found: &[u64], wanted: &[u64]) -> Compared
 {
     Compared {
         agreeing: agreeing(found, wanted),
-        first: first_other(found, wanted),
+        first: first_other(found, wanted).or(first_alone(found, wanted)),
     }
 }
 

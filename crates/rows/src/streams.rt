@@ -59,11 +59,13 @@ impl Streams {
         byte
     }
 
-    // The next two bytes, a number.
+    // The next two bytes, a number, the high one first. Where both are missing, each is said to be.
     pub fn next_number(self, cut: &[u8]) -> usize
         ensures { result < 65536 }
     {
-        usize::from(u16::from_be_bytes(self.next(cut)))
+        let high = self.next_byte(cut);
+        let low = self.next_byte(cut);
+        usize::from(u16::from_be_bytes([high, low]))
     }
 
     // Says by the line `left` where bytes are left behind what is read.
@@ -88,9 +90,13 @@ impl Streams {
         let _ = write!(self.output, "{n:016x}");
     }
 
-    // The same of a line: how many answers are good, and of how many.
+    // The same of a line: how many answers are good, and of how many. Each of its pieces is handed over, whether those before it were taken or not.
     pub fn write_sum(mut self, label: &str, good: u64, all: u64) {
-        let _ = writeln!(self.output, "{label}: {good} of {all}");
+        let _ = write!(self.output, "{label}: ");
+        self.write_decimal(good);
+        self.write_all(b" of ");
+        self.write_decimal(all);
+        self.write_all(b"\n");
     }
 }
 

@@ -1,5 +1,5 @@
 use Rattle.std.proofs.Common.{ℕ, ◌+◌, ◌-◌, sym, ap, ◌∙◌, arith}
-use Rattle.std.specs.declared.ops.Range.{Range}
+use Rattle.relay_text.specs.declared.Word.{Word}
 use Rattle.relay_text.specs.Text.{behind, word_at}
 use Rattle.relay_text.proofs.Laws.{behind_next, behind_done}
 use Rattle.relay_text.proofs.nth.Goals as goal
@@ -11,7 +11,7 @@ pub loop-preserved : goal.loop-preserved
 loop-preserved c =
     let w = c.next_word-at in (
       w.ensures.1,
-      ap (λ (r : Range ℕ). behind c.args.line.now (c.args.k - (c.loop.counter + 1)) r.end) w.ensures.2
+      ap (λ (r : Word). behind c.args.line.now (c.args.k - (c.loop.counter + 1)) r.to) w.ensures.2
           ∙ sym (behind_next c.args.line.now c.args.k c.loop.counter c.loop.at c.loop-test.true) ∙ c.loop.invariant.1,
     )
 
