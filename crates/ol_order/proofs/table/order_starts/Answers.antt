@@ -8,7 +8,7 @@ use Rattle.ol_order.proofs.Rows.{copied_front, equations_done}
 use Rattle.ol_order.proofs.table.order_starts.Goals as goal
 
 pub returns-clause-order : goal.returns-clause-order
-returns-clause-order c =
+returns-clause-order g c =
     let e = c.args.equations in
     let so = sorts_well e.starts.now c.args.out.now c.sort.ensures.order (all_well c.map_err.ensures.variant c.in_ok-map_err.was) in
     let many = as_many e.file.now e.limits e.enums e.starts.now in
