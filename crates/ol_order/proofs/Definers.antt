@@ -10,7 +10,7 @@ use native.Mathlib.Numerals.{add-one}
 use native.Mathlib.Omega.{arith}
 use Rattle.std.proofs.Math.Nat.{mod-eq_of_lt, mod-lt}
 use lib.ListN.{length, get_or, set, take, drop, length-set, length-map, drop_of_length-le, get_or-eq_default}
-use lib.Seq.{drop-cons, take-suc, length-take-le, get_or-set_same, get_or-set_other}
+use lib.Seq.{drop-cons, take-suc, get_or-take, length-take-le, get_or-set_same, get_or-set_other}
 use lib.Dec.{eqb, ltb}
 use borrow.Author.Tests.{eqb-true, eqb-false, ne_eqb, lt-ltb, le-ltb}
 use Rattle.ol_spec.specs.Lists.{any_of, member}
@@ -25,7 +25,7 @@ use Rattle.ol_spec.specs.declared.Fault.{Fault}
 use Rattle.ol_spec.specs.declared.Limits.{Limits}
 use Rattle.ol_spec.proofs.Ordering.{later_cases, definer_inside}
 use Rattle.ol_spec.proofs.Offsets.{steps, same_item}
-use Rattle.ol_order.specs.Tables.{Table, entries_for, key_of, keyed, put, put_all, names_at, on_count, put_starts, on_defined, defined_at, as_option, no_equation, equation_at, equations_at}
+use Rattle.ol_order.specs.Tables.{Table, is_got, entries_for, key_of, keyed, put, put_all, names_at, on_count, put_starts, on_defined, defined_at, as_option, no_equation, equation_at, equations_at}
 use Rattle.ol_order.specs.Post.{Readable, Blank, Definers}
 use Rattle.ol_order.proofs.Turns.{as_many, equation_here, each_read}
 use Rattle.ol_order.proofs.Scanning.{found_some, found_none}
@@ -248,6 +248,21 @@ module _ (s : List ℕ) (l : Limits) (enums : ℕ) (starts : List ℕ) (rd : Rea
       let t = b i refl in
       search_here (equations_at s l enums starts) x (i + 1) _ (last_back (n - (i + 1)) (i + 1) (omega (arith, t.0)) (λ k g. t.2 k (omega arith))) i refl (omega (arith, t.0, as_many s l enums starts))
       (sym (defined_here s l enums starts rd i x (omega (arith, t.0))) ∙ t.1)
+
+-- ---- the first n equations
+
+pub equations_take : (s : List ℕ) (l : Limits) (enums : ℕ) (n : ℕ) (starts : List ℕ) → equations_at s l enums (take n starts) ≡ take n (equations_at s l enums starts)
+equations_take s l enums zero starts = refl
+equations_take s l enums (suc n) [] = refl
+equations_take s l enums (suc n) (a ∷ starts) = ap (λ v. equation_at s l enums a ∷ v) (equations_take s l enums n starts)
+
+pub readable_take : {s : List ℕ} {l : Limits} {enums : ℕ} {starts : List ℕ} (n : ℕ) → Readable s l enums starts → n ≤ length starts → Readable s l enums (take n starts)
+readable_take {s} {l} {enums} {starts} n rd h =
+    let len : length (take n starts) ≡ n = length-take-le n starts h in
+    record {
+      each = λ k i. subst (λ p. is_got (equation_r s l enums p) ≡ true) (sym (get_or-take n starts k 0 (omega (arith, len)))) (rd.each k (omega (arith, len)));
+      few = omega (arith, len, rd.few);
+    }
 
 -- ---- names with the same entry
 
