@@ -47,7 +47,10 @@ fn order_starts<const N: usize>(
     sort::<N>(equations, low, &mut definers, lists, order).map_err(
         |first| equations.starts[first],
     )?;
-    out[..count].copy_from_slice(order);
+    let front = &mut out[..count];
+    for (i, k) in order.iter().enumerate() {
+        front[i] = *k;
+    }
     Ok(())
 }
 
