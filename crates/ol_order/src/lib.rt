@@ -179,21 +179,18 @@ fn copy(order: &[u8], buffer: &mut [usize])
     }
 }
 
-// The order of the equations, with a table of N definers. It is made in bytes of its own and copied at
-// the end: at 11 and at 17 the buffer stays. It stays out of its caller: one table is on the stack at a time.
-#[inline(never)]
-fn order_equations<const N: usize>(equations: Equations, buffer: &mut [usize]) -> Result<(), Fault>
-    requires some { 0 < N }
-    requires few { N ≤ 1024 }
-    requires room { length (all_waited equations) ≤ 10923 }
+// The order of the equations. It is made in bytes of its own and copied at the end: at 11 and at 17 the
+// buffer stays.
+fn order_equations(equations: Equations, buffer: &mut [usize]) -> Result<(), Fault>
+    requires { length (all_waited equations) ≤ 10923 }
     ensures answer { result ≡ (order_of (those equations.entry) equations.entry.starts.now buffer.old).answer }
     ensures written { buffer.new ≡ (order_of (those equations.entry) equations.entry.starts.now buffer.old).buffer }
 {
-    let mut definers = no_definers::<N>();
+    let mut definers = no_definers::<1024>();
     let mut lists = [0u8; 10923];
     let mut space = [0u8; 80];
     let order = &mut space[..equations.starts.len()];
-    sort::<N>(equations, false, &mut definers, &mut lists, order).map_err(|first| Fault {
+    sort::<1024>(equations, false, &mut definers, &mut lists, order).map_err(|first| Fault {
         number: 11,
         place: equations.starts[first],
     })?;
@@ -229,11 +226,7 @@ fn order_node(
         enums,
         starts,
     };
-    if file.len() <= 256 {
-        order_equations::<256>(equations, buffer)
-    } else {
-        order_equations::<1024>(equations, buffer)
-    }
+    order_equations(equations, buffer)
 }
 
 // The order in which a node's equations run: entry k of the buffer gets the file index of the

@@ -35,29 +35,15 @@ invariant_of-equations c =
     let front = front_is c.args.file.now c.args.limits c.args.enums c.args.at nr count (c.equation_starts.ensures.places ∙ ap (sets (replicate 80 0) 0) (starts_are c.args.file.now c.args.limits c.args.enums c.args.at _ _ nr.is)) in
     record { readable = front_readable c.args.file.now c.args.limits c.args.enums c.args.at nr front }
 
-pub invariant_of-equations-else-file-le256 : goal.invariant_of-equations-else-file-le256
-invariant_of-equations-else-file-le256 c =
-    let nr = c.requires.node_reads in
-    let count = as_counted c.args.file.now c.args.limits c.args.enums c.args.at nr (starts_told c.args.file.now c.args.limits c.args.enums c.args.at _ _ nr.is c.equation_starts.ensures.many) c.in_ok-counted.was in
-    let front = front_is c.args.file.now c.args.limits c.args.enums c.args.at nr count (c.equation_starts.ensures.places ∙ ap (sets (replicate 80 0) 0) (starts_are c.args.file.now c.args.limits c.args.enums c.args.at _ _ nr.is)) in
-    record { readable = front_readable c.args.file.now c.args.limits c.args.enums c.args.at nr front }
-
-pub order_equations-requires-clause-room : goal.order_equations-requires-clause-room
-order_equations-requires-clause-room c =
+pub order_equations-requires : goal.order_equations-requires
+order_equations-requires c =
     let nr = c.requires.node_reads in
     let count = as_counted c.args.file.now c.args.limits c.args.enums c.args.at nr (starts_told c.args.file.now c.args.limits c.args.enums c.args.at _ _ nr.is c.equation_starts.ensures.many) c.in_ok-counted.was in
     let front = front_is c.args.file.now c.args.limits c.args.enums c.args.at nr count (c.equation_starts.ensures.places ∙ ap (sets (replicate 80 0) 0) (starts_are c.args.file.now c.args.limits c.args.enums c.args.at _ _ nr.is)) in
     omega (arith, c.requires.file_len_bound, front_room c.args.file.now c.args.limits c.args.enums c.args.at nr front)
 
-pub order_equations-requires-else-file-le256-clause-room : goal.order_equations-requires-else-file-le256-clause-room
-order_equations-requires-else-file-le256-clause-room c =
-    let nr = c.requires.node_reads in
-    let count = as_counted c.args.file.now c.args.limits c.args.enums c.args.at nr (starts_told c.args.file.now c.args.limits c.args.enums c.args.at _ _ nr.is c.equation_starts.ensures.many) c.in_ok-counted.was in
-    let front = front_is c.args.file.now c.args.limits c.args.enums c.args.at nr count (c.equation_starts.ensures.places ∙ ap (sets (replicate 80 0) 0) (starts_are c.args.file.now c.args.limits c.args.enums c.args.at _ _ nr.is)) in
-    omega (arith, c.requires.file_len_bound, front_room c.args.file.now c.args.limits c.args.enums c.args.at nr front)
-
-pub returns-then-file-le256 : goal.returns-then-file-le256
-returns-then-file-le256 c =
+pub returns : goal.returns
+returns c =
     let nr = c.requires.node_reads in
     let count = as_counted c.args.file.now c.args.limits c.args.enums c.args.at nr (starts_told c.args.file.now c.args.limits c.args.enums c.args.at _ _ nr.is c.equation_starts.ensures.many) c.in_ok-counted.was in
     let front = front_is c.args.file.now c.args.limits c.args.enums c.args.at nr count (c.equation_starts.ensures.places ∙ ap (sets (replicate 80 0) 0) (starts_are c.args.file.now c.args.limits c.args.enums c.args.at _ _ nr.is)) in
@@ -65,15 +51,4 @@ returns-then-file-le256 c =
     record {
       answer = c.order_equations.ensures.answer ∙ ap (λ (c : OrderingCall). c.answer) e;
       written = c.order_equations.ensures.written ∙ ap (λ (c : OrderingCall). c.buffer) e;
-    }
-
-pub returns-else-file-le256 : goal.returns-else-file-le256
-returns-else-file-le256 c =
-    let nr = c.requires.node_reads in
-    let count = as_counted c.args.file.now c.args.limits c.args.enums c.args.at nr (starts_told c.args.file.now c.args.limits c.args.enums c.args.at _ _ nr.is c.equation_starts.ensures.many) c.in_ok-counted.was in
-    let front = front_is c.args.file.now c.args.limits c.args.enums c.args.at nr count (c.equation_starts.ensures.places ∙ ap (sets (replicate 80 0) 0) (starts_are c.args.file.now c.args.limits c.args.enums c.args.at _ _ nr.is)) in
-    let e = front_order c.args.file.now c.args.limits c.args.enums c.args.at nr front c.args.buffer.now in
-    record {
-      answer = c.order_equations-else-file-le256.ensures.answer ∙ ap (λ (c : OrderingCall). c.answer) e;
-      written = c.order_equations-else-file-le256.ensures.written ∙ ap (λ (c : OrderingCall). c.buffer) e;
     }
