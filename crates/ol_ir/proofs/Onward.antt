@@ -3,12 +3,13 @@ use Prim.Native.Nat.{ℕ, zero, suc, ◌+◌, ◌≤◌, ◌<◌}
 use mathlib.Core.List.{List}
 use mathlib.Core.Path.{◌≡◌, refl, sym, ap, ◌∙◌}
 use native.Mathlib.Omega.{arith}
+use lib.ListN.{length}
 use Rattle.std.specs.Prelude.{Result, Ok, Err, IsErrAnd}
 use Rattle.std.proofs.lemmas.Result.{err_from_is_err_and}
 use Rattle.ol_spec.specs.Syntax.{Expr}
 use Rattle.ol_spec.specs.Read.{Read, got, fault, Reader, then_read, many, many_exprs, count_r, section_r}
 use Rattle.ol_spec.specs.declared.Fault.{Fault}
-use Rattle.ol_ir.specs.Nexts.{Counting, Next, counted_at, next_of, counted_of, onward, repeat, section_by}
+use Rattle.ol_ir.specs.Nexts.{Counting, Next, counted_at, next_of, counted_of, list_of, onward, repeat, section_by}
 
 -- what follows from where reading goes on
 unfoldable pub on_items : Counting → (ℕ → ℕ → Next) → Next
@@ -43,6 +44,11 @@ module _ {B : Type 0} where
   unfolding next_of counted_of then_read on_items
   counted_then (got a n) k f h = h a n
   counted_then (fault n p) k f h = refl
+
+  pub list_then : {A : Type 0} (r : Read (List A)) (k : List A → Reader B) (f : ℕ → ℕ → Next) → ((xs : List A) (n : ℕ) → next_of (k xs n) ≡ f (length xs) n) → next_of (then_read r k) ≡ on_items (list_of r) f
+  unfolding next_of list_of then_read on_items
+  list_then (got a n) k f h = h a n
+  list_then (fault n p) k f h = refl
 
 pub onward_at : (x : Next) → onward x Ok ≡ x
 unfolding onward

@@ -8,10 +8,11 @@ use mathlib.Core.Option.{Option, none, some}
 use mathlib.Core.Path.{◌≡◌, refl, sym, ap, subst, ◌∙◌}
 use native.Mathlib.Numerals.{add-one}
 use native.Mathlib.Omega.{arith}
+use Rattle.std.proofs.Math.Nat.{mod-eq_of_lt, mod-lt}
 use lib.ListN.{length, get_or, set, take, drop, length-set, length-map, drop_of_length-le, get_or-eq_default}
-use lib.Seq.{drop-cons, take-suc, length-take-le, get_or-set_same, get_or-set_other}
-use lib.Dec.{eqb}
-use borrow.Author.Tests.{eqb-true, eqb-false, ne_eqb}
+use lib.Seq.{drop-cons, take-suc, get_or-take, length-take-le, get_or-set_same, get_or-set_other}
+use lib.Dec.{eqb, ltb}
+use borrow.Author.Tests.{eqb-true, eqb-false, ne_eqb, lt-ltb, le-ltb}
 use Rattle.ol_spec.specs.Lists.{any_of, member}
 use Rattle.ol_spec.specs.Syntax.{Equation}
 use Rattle.ol_spec.specs.Order.{later, definer_from, definer}
@@ -24,7 +25,7 @@ use Rattle.ol_spec.specs.declared.Fault.{Fault}
 use Rattle.ol_spec.specs.declared.Limits.{Limits}
 use Rattle.ol_spec.proofs.Ordering.{later_cases, definer_inside}
 use Rattle.ol_spec.proofs.Offsets.{steps, same_item}
-use Rattle.ol_order.specs.Tables.{Table, key_of, keyed, put, put_all, names_at, on_count, put_starts, on_defined, defined_at, as_option, no_equation, equation_at, equations_at}
+use Rattle.ol_order.specs.Tables.{Table, is_got, entries_for, key_of, keyed, put, put_all, names_at, on_count, put_starts, on_defined, defined_at, as_option, no_equation, equation_at, equations_at}
 use Rattle.ol_order.specs.Post.{Readable, Blank, Definers}
 use Rattle.ol_order.proofs.Turns.{as_many, equation_here, each_read}
 use Rattle.ol_order.proofs.Scanning.{found_some, found_none}
@@ -118,52 +119,52 @@ module _ (s : List ℕ) (at left : ℕ) {count x : ℕ} (u : count ≡ left + 1)
   unfolding on_places
   names_cut {f} h = name_first ∙ ap (λ r. x ∷ on_places r (names_at left s)) (from_halt (name_r s at) f (sym g ∙ h))
 
--- w is the table in which the entries of these names get i
-module _ (i : ℕ) (xs : List ℕ) (table : Table) {w : Table} (e : put (map key_of xs) i table ≡ w) where
+-- w is the table in which the entries of these names, of n, get i
+module _ (n i : ℕ) (xs : List ℕ) (table : Table) {w : Table} (e : put (map (key_of n) xs) i table ≡ w) where
   pub puts_end : xs ≡ [] → table ≡ w
   unfolding put
-  puts_end h = sym (ap (λ l. put (map key_of l) i table) h) ∙ e
+  puts_end h = sym (ap (λ l. put (map (key_of n) l) i table) h) ∙ e
 
-  pub puts_turn : {x : ℕ} {rest : List ℕ} {t : Table} → xs ≡ x ∷ rest → t ≡ set table (key_of x) (Std.Some i) → put (map key_of rest) i t ≡ w
+  pub puts_turn : {x : ℕ} {rest : List ℕ} {t : Table} → xs ≡ x ∷ rest → t ≡ set table (key_of n x) (Std.Some i) → put (map (key_of n) rest) i t ≡ w
   unfolding put
-  puts_turn {x} {rest} {t} h k = ap (put (map key_of rest) i) k ∙ (sym (ap (λ l. put (map key_of l) i table) h) ∙ e)
+  puts_turn {x} {rest} {t} h k = ap (put (map (key_of n) rest) i) k ∙ (sym (ap (λ l. put (map (key_of n) l) i table) h) ∙ e)
 
 -- ---- the equations, one after the other
 
 -- w is the table in which the names of the equations from i on get their indices
-module _ (s starts : List ℕ) (table w : Table) (most i : ℕ) (e : put_starts s most i (drop i starts) table ≡ w) where
+module _ (entries : ℕ) (s starts : List ℕ) (table w : Table) (most i : ℕ) (e : put_starts entries s most i (drop i starts) table ≡ w) where
   pub all_end : length starts ≤ i → table ≡ w
   unfolding put_starts
-  all_end h = sym (ap (λ k. put_starts s most i k table) (drop_of_length-le starts {i = i} h)) ∙ e
+  all_end h = sym (ap (λ k. put_starts entries s most i k table) (drop_of_length-le starts {i = i} h)) ∙ e
 
   module _ (u : i < length starts) {x : Counting} (g : x ≡ counted_of (count_r s 1 most (get_or starts i 0))) where
-    next_start : on_count (count_r s 1 most (get_or starts i 0)) (λ n p. put_starts s most (suc i) (drop (suc i) starts) (put (map key_of (names_at n s p)) i table)) table ≡ w
+    next_start : on_count (count_r s 1 most (get_or starts i 0)) (λ n p. put_starts entries s most (suc i) (drop (suc i) starts) (put (map (key_of entries) (names_at n s p)) i table)) table ≡ w
     unfolding put_starts
-    next_start = sym (ap (λ k. put_starts s most i k table) (drop-cons starts i 0 u)) ∙ e
+    next_start = sym (ap (λ k. put_starts entries s most i k table) (drop-cons starts i 0 u)) ∙ e
 
-    pub all_turn : {n p : ℕ} {t : Table} → x ≡ Std.Ok (counted_at n p) → t ≡ put (map key_of (names_at n s p)) i table → put_starts s most (i + 1) (drop (i + 1) starts) t ≡ w
+    pub all_turn : {n p : ℕ} {t : Table} → x ≡ Std.Ok (counted_at n p) → t ≡ put (map (key_of entries) (names_at n s p)) i table → put_starts entries s most (i + 1) (drop (i + 1) starts) t ≡ w
     all_turn {n} {p} {t} h k =
         rw add-one
-        (ap (put_starts s most (suc i) (drop (suc i) starts)) k
-        ∙ (sym (ap (λ r. on_count r (λ n p. put_starts s most (suc i) (drop (suc i) starts) (put (map key_of (names_at n s p)) i table)) table) (from_items (count_r s 1 most (get_or starts i 0)) n p (sym g ∙ h))) ∙ next_start))
+        (ap (put_starts entries s most (suc i) (drop (suc i) starts)) k
+        ∙ (sym (ap (λ r. on_count r (λ n p. put_starts entries s most (suc i) (drop (suc i) starts) (put (map (key_of entries) (names_at n s p)) i table)) table) (from_items (count_r s 1 most (get_or starts i 0)) n p (sym g ∙ h))) ∙ next_start))
 
     pub all_not : {f : Fault} → x ≡ Std.Err f → table ≡ w
-    all_not {f} h = sym (ap (λ r. on_count r (λ n p. put_starts s most (suc i) (drop (suc i) starts) (put (map key_of (names_at n s p)) i table)) table) (from_no_items (count_r s 1 most (get_or starts i 0)) f (sym g ∙ h))) ∙ next_start
+    all_not {f} h = sym (ap (λ r. on_count r (λ n p. put_starts entries s most (suc i) (drop (suc i) starts) (put (map (key_of entries) (names_at n s p)) i table)) table) (from_no_items (count_r s 1 most (get_or starts i 0)) f (sym g ∙ h))) ∙ next_start
 
 -- of equations that were read the names are theirs
-module _ (s : List ℕ) (l : Limits) (enums : ℕ) where
-  starts_put : (i : ℕ) (starts : List ℕ) (table : Table) → ((k : ℕ) → k < length starts → (n : ℕ) × (equation_r s l enums (get_or starts k 0) ≡ got (equation_at s l enums (get_or starts k 0)) n)) → put_starts s l.names i starts table ≡ put_all i (map keyed (equations_at s l enums starts)) table
+module _ (entries : ℕ) (s : List ℕ) (l : Limits) (enums : ℕ) where
+  starts_put : (i : ℕ) (starts : List ℕ) (table : Table) → ((k : ℕ) → k < length starts → (n : ℕ) × (equation_r s l enums (get_or starts k 0) ≡ got (equation_at s l enums (get_or starts k 0)) n)) → put_starts entries s l.names i starts table ≡ put_all i (map (keyed entries) (equations_at s l enums starts)) table
   unfolding put_starts put_all
   starts_put i [] table h = refl
   starts_put i (a ∷ starts) table h =
       let f = h 0 (omega arith) in
       let q = equation_at s l enums a in
       let c = section_at s 1 l.names (name_r s) a q.names _ (equation_at_lem s l enums a q f.0 f.1).names in
-      ap (λ r. on_count r (λ n p. put_starts s l.names (suc i) starts (put (map key_of (names_at n s p)) i table)) table) c.counted
-      ∙ (ap (λ xs. put_starts s l.names (suc i) starts (put (map key_of xs) i table)) (names_told s (length q.names) (a + 1) q.names _ c.items)
-      ∙ starts_put (suc i) starts (put (map key_of q.names) i table) (λ k g. h (suc k) (omega arith)))
+      ap (λ r. on_count r (λ n p. put_starts entries s l.names (suc i) starts (put (map (key_of entries) (names_at n s p)) i table)) table) c.counted
+      ∙ (ap (λ xs. put_starts entries s l.names (suc i) starts (put (map (key_of entries) xs) i table)) (names_told s (length q.names) (a + 1) q.names _ c.items)
+      ∙ starts_put (suc i) starts (put (map (key_of entries) q.names) i table) (λ k g. h (suc k) (omega arith)))
 
-  pub starts_defined : (starts : List ℕ) (table : Table) → Readable s l enums starts → put_starts s l.names 0 starts table ≡ put_all 0 (map keyed (equations_at s l enums starts)) table
+  pub starts_defined : (starts : List ℕ) (table : Table) → Readable s l enums starts → put_starts entries s l.names 0 starts table ≡ put_all 0 (map (keyed entries) (equations_at s l enums starts)) table
   starts_defined starts table rd = starts_put 0 starts table (each_read s l enums rd)
 
 -- ---- a name among those of an equation
@@ -248,6 +249,21 @@ module _ (s : List ℕ) (l : Limits) (enums : ℕ) (starts : List ℕ) (rd : Rea
       search_here (equations_at s l enums starts) x (i + 1) _ (last_back (n - (i + 1)) (i + 1) (omega (arith, t.0)) (λ k g. t.2 k (omega arith))) i refl (omega (arith, t.0, as_many s l enums starts))
       (sym (defined_here s l enums starts rd i x (omega (arith, t.0))) ∙ t.1)
 
+-- ---- the first n equations
+
+pub equations_take : (s : List ℕ) (l : Limits) (enums : ℕ) (n : ℕ) (starts : List ℕ) → equations_at s l enums (take n starts) ≡ take n (equations_at s l enums starts)
+equations_take s l enums zero starts = refl
+equations_take s l enums (suc n) [] = refl
+equations_take s l enums (suc n) (a ∷ starts) = ap (λ v. equation_at s l enums a ∷ v) (equations_take s l enums n starts)
+
+pub readable_take : {s : List ℕ} {l : Limits} {enums : ℕ} {starts : List ℕ} (n : ℕ) → Readable s l enums starts → n ≤ length starts → Readable s l enums (take n starts)
+readable_take {s} {l} {enums} {starts} n rd h =
+    let len : length (take n starts) ≡ n = length-take-le n starts h in
+    record {
+      each = λ k i. subst (λ p. is_got (equation_r s l enums p) ≡ true) (sym (get_or-take n starts k 0 (omega (arith, len)))) (rd.each k (omega (arith, len)));
+      few = omega (arith, len, rd.few);
+    }
+
 -- ---- names with the same entry
 
 later_none : (o : Option ℕ) (b : Bool) (i : ℕ) → later o b i ≡ none → (o ≡ none) × (b ≡ false)
@@ -259,75 +275,90 @@ or_none : (a b : Bool) → (a || b) ≡ false → (a ≡ false) × (b ≡ false)
 or_none true b e = let z : ◌≡◌ {A = ℕ} 0 1 = cc in absurd (omega arith)
 or_none false b e = (refl, e)
 
--- a name is not there if its entry is not
-key_out : (x : ℕ) (xs : List ℕ) → member (key_of x) (map key_of xs) ≡ false → member x xs ≡ false
-key_out x [] e = refl
-key_out x (y ∷ xs) e =
-    let w = or_none (eqb (key_of x) (key_of y)) (member (key_of x) (map key_of xs)) e in
-    ap (λ b. b || member x xs) (ne_eqb x y (λ h. eqb-false (key_of x) (key_of y) w.0 (ap key_of h))) ∙ key_out x xs w.1
+-- a name is not there if its entry, of n, is not
+key_out : (n x : ℕ) (xs : List ℕ) → member (key_of n x) (map (key_of n) xs) ≡ false → member x xs ≡ false
+key_out n x [] e = refl
+key_out n x (y ∷ xs) e =
+    let w = or_none (eqb (key_of n x) (key_of n y)) (member (key_of n x) (map (key_of n) xs)) e in
+    ap (λ b. b || member x xs) (ne_eqb x y (λ h. eqb-false (key_of n x) (key_of n y) w.0 (ap (key_of n) h))) ∙ key_out n x xs w.1
 
-keyed_none : (i : ℕ) (qs : List Equation) (x : ℕ) → definer_from i (map keyed qs) (key_of x) ≡ none → definer_from i qs x ≡ none
+keyed_none : (n i : ℕ) (qs : List Equation) (x : ℕ) → definer_from i (map (keyed n) qs) (key_of n x) ≡ none → definer_from i qs x ≡ none
 unfolding definer_from
-keyed_none i [] x e = refl
-keyed_none i (q ∷ qs) x e =
-    let w = later_none (definer_from (suc i) (map keyed qs) (key_of x)) (member (key_of x) (map key_of q.names)) i e in
-    ap (λ o. later o (member x q.names) i) (keyed_none (suc i) qs x w.0) ∙ ap (λ b. later none b i) (key_out x q.names w.1)
+keyed_none n i [] x e = refl
+keyed_none n i (q ∷ qs) x e =
+    let w = later_none (definer_from (suc i) (map (keyed n) qs) (key_of n x)) (member (key_of n x) (map (key_of n) q.names)) i e in
+    ap (λ o. later o (member x q.names) i) (keyed_none n (suc i) qs x w.0) ∙ ap (λ b. later none b i) (key_out n x q.names w.1)
 
 -- no equation behind the last one with the name's entry defines the name
-keyed_some : (i : ℕ) (qs : List Equation) (x d : ℕ) → definer_from i (map keyed qs) (key_of x) ≡ some d → definer_from i qs x ≡ definer_from i (take (suc d - i) qs) x
+keyed_some : (n i : ℕ) (qs : List Equation) (x d : ℕ) → definer_from i (map (keyed n) qs) (key_of n x) ≡ some d → definer_from i qs x ≡ definer_from i (take (suc d - i) qs) x
 unfolding definer_from
-keyed_some i [] x d e = let z : ◌≡◌ {A = ℕ} 0 1 = cc in absurd (omega arith)
-keyed_some i (q ∷ qs) x d e = go (definer_from (suc i) (map keyed qs) (key_of x)) refl (keyed_some (suc i) qs x d)
+keyed_some n i [] x d e = let z : ◌≡◌ {A = ℕ} 0 1 = cc in absurd (omega arith)
+keyed_some n i (q ∷ qs) x d e = go (definer_from (suc i) (map (keyed n) qs) (key_of n x)) refl (keyed_some n (suc i) qs x d)
   where
-    go : (o : Option ℕ) → definer_from (suc i) (map keyed qs) (key_of x) ≡ o → (definer_from (suc i) (map keyed qs) (key_of x) ≡ some d → definer_from (suc i) qs x ≡ definer_from (suc i) (take (suc d - suc i) qs) x) → later (definer_from (suc i) qs x) (member x q.names) i ≡ definer_from i (take (suc d - i) (q ∷ qs)) x
+    go : (o : Option ℕ) → definer_from (suc i) (map (keyed n) qs) (key_of n x) ≡ o → (definer_from (suc i) (map (keyed n) qs) (key_of n x) ≡ some d → definer_from (suc i) qs x ≡ definer_from (suc i) (take (suc d - suc i) qs) x) → later (definer_from (suc i) qs x) (member x q.names) i ≡ definer_from i (take (suc d - i) (q ∷ qs)) x
     go (some j) f h =
-        let y : some j ≡ some d = sym (ap (λ o. later o (member (key_of x) (map key_of q.names)) i) f) ∙ e in
+        let y : some j ≡ some d = sym (ap (λ o. later o (member (key_of n x) (map (key_of n) q.names)) i) f) ∙ e in
         let jd : j ≡ d = cc in
-        let g : definer_from (suc i) (map keyed qs) (key_of x) ≡ some d = f ∙ y in
-        let z : suc d - i ≡ suc (suc d - suc i) = omega (arith, (definer_inside (suc i) (map keyed qs) (key_of x) d g).0) in
+        let g : definer_from (suc i) (map (keyed n) qs) (key_of n x) ≡ some d = f ∙ y in
+        let z : suc d - i ≡ suc (suc d - suc i) = omega (arith, (definer_inside (suc i) (map (keyed n) qs) (key_of n x) d g).0) in
         ap (λ o. later o (member x q.names) i) (h g) ∙ sym (ap (λ k. definer_from i (take k (q ∷ qs)) x) z)
     go none f h =
-        let y : later none (member (key_of x) (map key_of q.names)) i ≡ some d = sym (ap (λ o. later o (member (key_of x) (map key_of q.names)) i) f) ∙ e in
-        let id : i ≡ d = ⊎_elim (λ v. let z : ◌≡◌ {A = ℕ} 0 1 = cc in absurd (omega arith)) (λ v. v.1) (later_cases none (member (key_of x) (map key_of q.names)) i d y) in
+        let y : later none (member (key_of n x) (map (key_of n) q.names)) i ≡ some d = sym (ap (λ o. later o (member (key_of n x) (map (key_of n) q.names)) i) f) ∙ e in
+        let id : i ≡ d = ⊎_elim (λ v. let z : ◌≡◌ {A = ℕ} 0 1 = cc in absurd (omega arith)) (λ v. v.1) (later_cases none (member (key_of n x) (map (key_of n) q.names)) i d y) in
         let z : suc d - i ≡ 1 = omega arith in
-        ap (λ o. later o (member x q.names) i) (keyed_none (suc i) qs x f) ∙ sym (ap (λ k. definer_from i (take k (q ∷ qs)) x) z)
+        ap (λ o. later o (member x q.names) i) (keyed_none n (suc i) qs x f) ∙ sym (ap (λ k. definer_from i (take k (q ∷ qs)) x) z)
 
--- names below 256 are their own entries
-low_member : (x : ℕ) (xs : List ℕ) → ((y : ℕ) → 256 ≤ y → member y xs ≡ false) → member x (map key_of xs) ≡ member x xs
-low_member x [] h = refl
-low_member x (y ∷ xs) h =
-    let below : y < 256 = by_cases (dec_le 256 y) (λ g. absurd (never y (or_none (eqb y y) (member y xs) (h y g)).0)) (λ g. omega arith) in
-    let z : key_of y ≡ y = omega arith in
-    ap (λ k. eqb x k || member x (map key_of xs)) z ∙ ap (λ b. eqb x y || b) (low_member x xs (λ v g. (or_none (eqb v y) (member v xs) (h v g)).1))
+-- names below n are their own entries
+low_member : (n x : ℕ) (xs : List ℕ) → ((y : ℕ) → n ≤ y → member y xs ≡ false) → member x (map (key_of n) xs) ≡ member x xs
+low_member n x [] h = refl
+low_member n x (y ∷ xs) h =
+    let below : y < n = by_cases (dec_le n y) (λ g. absurd (never y (or_none (eqb y y) (member y xs) (h y g)).0)) (λ g. omega arith) in
+    let z : key_of n y ≡ y = mod-eq_of_lt below in
+    ap (λ k. eqb x k || member x (map (key_of n) xs)) z ∙ ap (λ b. eqb x y || b) (low_member n x xs (λ v g. (or_none (eqb v y) (member v xs) (h v g)).1))
   where
     never : (y : ℕ) → eqb y y ≡ false → ⊥
     never y e = eqb-false y y e refl
 
-low_keyed : (i : ℕ) (qs : List Equation) (x : ℕ) → ((y : ℕ) → 256 ≤ y → definer_from i qs y ≡ none) → definer_from i (map keyed qs) x ≡ definer_from i qs x
+low_keyed : (n i : ℕ) (qs : List Equation) (x : ℕ) → ((y : ℕ) → n ≤ y → definer_from i qs y ≡ none) → definer_from i (map (keyed n) qs) x ≡ definer_from i qs x
 unfolding definer_from
-low_keyed i [] x h = refl
-low_keyed i (q ∷ qs) x h =
-    ap (λ o. later o (member x (map key_of q.names)) i) (low_keyed (suc i) qs x (λ y g. (later_none (definer_from (suc i) qs y) (member y q.names) i (h y g)).0))
-    ∙ ap (λ b. later (definer_from (suc i) qs x) b i) (low_member x q.names (λ y g. (later_none (definer_from (suc i) qs y) (member y q.names) i (h y g)).1))
+low_keyed n i [] x h = refl
+low_keyed n i (q ∷ qs) x h =
+    ap (λ o. later o (member x (map (key_of n) q.names)) i) (low_keyed n (suc i) qs x (λ y g. (later_none (definer_from (suc i) qs y) (member y q.names) i (h y g)).0))
+    ∙ ap (λ b. later (definer_from (suc i) qs x) b i) (low_member n x q.names (λ y g. (later_none (definer_from (suc i) qs y) (member y q.names) i (h y g)).1))
 
 -- ---- what the table says of a name
 
-module _ {qs : List Equation} {low : Bool} {table : Table} (df : Definers qs low table) (x : ℕ) where
-  pub entry_some : {d : ℕ} → Std.Some d ≡ get_or table (key_of x) Std.None → (d < length qs) × (definer (take (d + 1) qs) x ≡ definer qs x)
+module _ {n : ℕ} {qs : List Equation} {low : Bool} {table : Table} (df : Definers n qs low table) (x : ℕ) where
+  pub entry_some : {d : ℕ} → Std.Some d ≡ get_or table (key_of n x) Std.None → (d < length qs) × (definer (take (d + 1) qs) x ≡ definer qs x)
   entry_some {d} h =
-      let e = found_some (definer (map keyed qs) (key_of x)) (h ∙ df.is x) in
+      let e = found_some (definer (map (keyed n) qs) (key_of n x)) (h ∙ df.is x) in
       let z : suc d - 0 ≡ d + 1 = omega arith in
-      (omega (arith, (definer_inside 0 (map keyed qs) (key_of x) d e).1, length-map qs keyed), sym (keyed_some 0 qs x d e ∙ ap (λ k. definer (take k qs) x) z))
+      (omega (arith, (definer_inside 0 (map (keyed n) qs) (key_of n x) d e).1, length-map qs (keyed n)), sym (keyed_some n 0 qs x d e ∙ ap (λ k. definer (take k qs) x) z))
 
-  pub entry_none : Std.None ≡ get_or table (key_of x) Std.None → Std.None ≡ as_option (definer qs x)
-  entry_none h = sym (ap as_option (keyed_none 0 qs x (found_none (definer (map keyed qs) (key_of x)) (h ∙ df.is x))))
+  pub entry_none : Std.None ≡ get_or table (key_of n x) Std.None → Std.None ≡ as_option (definer qs x)
+  entry_none h = sym (ap as_option (keyed_none n 0 qs x (found_none (definer (map (keyed n) qs) (key_of n x)) (h ∙ df.is x))))
 
-pub definers_made : (qs : List Equation) (low : Bool) (t w : Table) → Blank qs low t → w ≡ put_all 0 (map keyed qs) t → Definers qs low w
-definers_made qs low t w blank e =
+pub definers_made : (n : ℕ) (qs : List Equation) (low : Bool) (t w : Table) → 0 < n → Blank n qs low t → w ≡ put_all 0 (map (keyed n) qs) t → Definers n qs low w
+definers_made n qs low t w pos blank e =
     record {
-      is = λ x. let b : key_of x < 256 = omega arith in entry (key_of x) (omega (arith, blank.long));
-      lows = λ g x. by_cases (dec_le 256 x) (λ h. get_or-eq_default w Std.None (omega (arith, ap length e, length_put_all 0 (map keyed qs) t, blank.long)) ∙ sym (ap as_option (blank.lows g x h))) (λ h. entry x (omega (arith, blank.long)) ∙ ap as_option (low_keyed 0 qs x (blank.lows g)));
+      is = λ x. entry (key_of n x) (omega (arith, mod-lt x pos, blank.long));
+      lows = λ g x. by_cases (dec_le n x) (λ h. get_or-eq_default w Std.None (omega (arith, ap length e, length_put_all 0 (map (keyed n) qs) t, blank.long)) ∙ sym (ap as_option (blank.lows g x h))) (λ h. entry x (omega (arith, blank.long)) ∙ ap as_option (low_keyed n 0 qs x (blank.lows g)));
     }
   where
-    entry : (x : ℕ) → x < length t → get_or w x Std.None ≡ as_option (definer (map keyed qs) x)
-    entry x h = ap (λ (l : Table). get_or l x Std.None) e ∙ definers_is (map keyed qs) t x h (blank.is x)
+    entry : (x : ℕ) → x < length t → get_or w x Std.None ≡ as_option (definer (map (keyed n) qs) x)
+    entry x h = ap (λ (l : Table). get_or l x Std.None) e ∙ definers_is (map (keyed n) qs) t x h (blank.is x)
+
+-- ---- how many entries a file's table has
+
+pub entries_within : (s : List ℕ) → (256 ≤ entries_for s) × (entries_for s ≤ 1024)
+entries_within s = go (ltb 256 (length s))
+  where
+    go : (b : Bool) → (256 ≤ cond b 1024 256) × (cond b 1024 256 ≤ 1024)
+    go true = (omega arith, omega arith)
+    go false = (omega arith, omega arith)
+
+pub entries_short : (s : List ℕ) → length s ≤ 256 → 256 ≡ entries_for s
+entries_short s h = sym (ap (λ b. cond b 1024 256) (le-ltb 256 (length s) h))
+
+pub entries_long : (s : List ℕ) → 256 < length s → 1024 ≡ entries_for s
+entries_long s h = sym (ap (λ b. cond b 1024 256) (lt-ltb 256 (length s) h))

@@ -19,7 +19,7 @@ use Rattle.ol_spec.specs.Order.{order, unplaced}
 use Rattle.ol_spec.specs.Admission.{place_at, ring_in, first_some, fault11}
 use Rattle.ol_spec.specs.declared.Limits.{Limits}
 use Rattle.ol_spec.proofs.Offsets.{same_item}
-use Rattle.ol_order.specs.Tables.{node_in, node_at, equations_at, waited_all}
+use Rattle.ol_order.specs.Tables.{entries_for, node_in, node_at, equations_at, waited_all}
 use Rattle.ol_order.specs.Post.{NodeReads, Sorts}
 use Rattle.std.specs.Prelude.{Ok, Err}
 use Rattle.ol_order.proofs.Answers.{error_some, error_none}
@@ -134,8 +134,8 @@ module _ (s : List ℕ) (l : Limits) (enums at : ℕ) (nr : NodeReads s l enums 
     pub front_lists : {lists : List ℕ} (before : List ℕ) → lists ≡ sets before 0 (waited_all (equations_at s l enums starts) (equations_at s l enums starts)) → lists ≡ sets before 0 (waited_all node.equations node.equations)
     front_lists before e = e ∙ ap (λ qs. sets before 0 (waited_all qs qs)) front_equations
 
-    pub front_lows : {low : Bool} → (low ≡ true → LowNames node.equations) → low ≡ true → LowNames (equations_at s l enums starts)
-    front_lows f e = subst LowNames (sym front_equations) (f e)
+    pub front_lows : {low : Bool} {n : ℕ} → (low ≡ true → LowNames n node.equations) → low ≡ true → LowNames n (equations_at s l enums starts)
+    front_lows {n = n} f e = subst (LowNames n) (sym front_equations) (f e)
 
     ring_is : maybe none (λ i. some (get_or starts i 0)) (unplaced (equations_at s l enums starts)) ≡ ring_in (at, node)
     ring_is =
@@ -293,10 +293,10 @@ module _ {s places : List ℕ} {enums : ℕ} {low : Bool} (ns : NodesStand s enu
     pub node_reads : (l : Limits) → l ≡ base → NodeReads s l enums place
     node_reads l e = subst (λ v. NodeReads s v enums place) (sym e) node_stands
 
-    pub node_lows : (l : Limits) → l ≡ base → low ≡ true → LowNames (node_at s l enums place).equations
-    node_lows l e t =
-        subst (λ v. LowNames (node_at s v enums place).equations) (sym e)
-        (subst (λ (n : Node). LowNames n.equations) (sym node_is) (ns.lows t k (omega (arith, as_many))))
+    pub node_lows : (l : Limits) → l ≡ base → {m : ℕ} → m ≡ entries_for s → low ≡ true → LowNames m (node_at s l enums place).equations
+    node_lows l e {m} f t =
+        subst (λ v. LowNames m (node_at s v enums place).equations) (sym e)
+        (subst (λ (n : Node). LowNames m n.equations) (sym node_is) (subst (λ i. LowNames i (get_or file.nodes k no_node).equations) (sym f) (ns.lows t k (omega (arith, as_many)))))
 
     -- with the limits that the code has
     module _ {l : Limits} (e : l ≡ base) where

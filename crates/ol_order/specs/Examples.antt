@@ -42,7 +42,7 @@ unfolding everything
 offsets = (refl, refl)
 
 -- 3: what else is recorded by index: each name's definer, and those that the equations wait for
-definers : map (λ x. get_or (put_all 0 (map keyed abc) (replicate 256 Std.None)) x Std.None) (0 ∷ 1 ∷ 2 ∷ 3 ∷ []) ≡ Std.None ∷ Std.Some 0 ∷ Std.Some 1 ∷ Std.Some 2 ∷ []
+definers : map (λ x. get_or (put_all 0 (map (keyed 256) abc) (replicate 256 Std.None)) x Std.None) (0 ∷ 1 ∷ 2 ∷ 3 ∷ []) ≡ Std.None ∷ Std.Some 0 ∷ Std.Some 1 ∷ Std.Some 2 ∷ []
 unfolding everything put_all put
 definers = refl
 

@@ -11,6 +11,7 @@ use Rattle.ol_spec.specs.Order.{definer, order, unplaced}
 use Rattle.ol_spec.specs.Admission.{ring_in, fault11}
 use Rattle.ol_tables.specs.Tables.{row_at, node_of, slots_from, two_at, plans_of, plan_in, equation_place}
 use Rattle.ol_spec.specs.declared.Limits.{Limits}
+use Rattle.ol_order.specs.Tables.{entries_for}
 use Rattle.ol_ir.specs.Walks.{place_of}
 
 -- an error is the place of the first equation that is never placed
@@ -21,9 +22,9 @@ abbrev pub ring_place : Ring → Option ℕ
 ring_place (Err p) = some p
 ring_place (Ok tt) = none
 
--- no equation defines a name from 256 on
-abbrev pub LowNames : List Equation → Type 0
-LowNames qs = (x : ℕ) → 256 ≤ x → definer qs x ≡ none
+-- no equation defines a name from n on
+abbrev pub LowNames : ℕ → List Equation → Type 0
+LowNames n qs = (x : ℕ) → n ≤ x → definer qs x ≡ none
 
 -- the bytes start with the order of the equations
 abbrev pub StartsWith : List Equation → List ℕ → Type 0
@@ -62,14 +63,14 @@ pub record NodeDone (at : ℕ) (n : Node) (from : ℕ) (before out : List ℕ) (
   pub order : ring_in (at, n) ≡ none → (j : ℕ) → j < length n.equations → get_or out (from + j) 0 ≡ get_or (order n.equations) j 0
   pub written : out ≡ row_written n.equations from before
 
--- A file reads without fault, with so many enums and its nodes at these places. With `low`, no equation defines a name from 256 on
+-- A file reads without fault, with so many enums and its nodes at these places. With `low`, no equation defines a name from the number of entries on that the table of definers has
 pub record NodesStand (s : List ℕ) (enums : ℕ) (places : List ℕ) (low : Bool) : Type 0 where
   pub file : File
   pub end : ℕ
   pub is : read_file s relay_loader ≡ got file end
   pub counted : length file.enums ≡ enums
   pub placed : places ≡ map place_of (placed_nodes file)
-  pub lows : low ≡ true → (k : ℕ) → k < length file.nodes → LowNames (get_or file.nodes k no_node).equations
+  pub lows : low ≡ true → (k : ℕ) → k < length file.nodes → LowNames (entries_for s) (get_or file.nodes k no_node).equations
 
 -- the rows have the numbers of node k's variables and equations, and its plan says where each equation stands
 pub record NodePlanned (f : File) (rows tab : List ℕ) (k : ℕ) : Type 0 where

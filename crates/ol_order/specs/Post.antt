@@ -21,15 +21,15 @@ pub record NodeReads (s : List ℕ) (l : Limits) (enums at : ℕ) : Type 0 where
   pub is : node_r s l enums at ≡ got (node_at s l enums at) end
   pub few : l.equations ≤ 80
 
--- no name has a definer in the table yet, and with `low` no equation defines a name from 256 on
-pub record Blank (qs : List Equation) (low : Bool) (table : Table) : Type 0 where
+-- no name has a definer in the table of n entries yet, and with `low` no equation defines a name from n on
+pub record Blank (n : ℕ) (qs : List Equation) (low : Bool) (table : Table) : Type 0 where
   pub is : (x : ℕ) → get_or table x Std.None ≡ Std.None
-  pub long : 256 ≡ length table
-  pub lows : low ≡ true → (x : ℕ) → 256 ≤ x → definer qs x ≡ none
+  pub long : n ≡ length table
+  pub lows : low ≡ true → (x : ℕ) → n ≤ x → definer qs x ≡ none
 
--- a name's entry has the last equation that defines a name with the same entry; with `low` each name's own place has its last definer
-pub record Definers (qs : List Equation) (low : Bool) (table : Table) : Type 0 where
-  pub is : (x : ℕ) → get_or table (key_of x) Std.None ≡ as_option (definer (map keyed qs) (key_of x))
+-- a name's entry, of n, has the last equation that defines a name with the same entry; with `low` each name's own place has its last definer
+pub record Definers (n : ℕ) (qs : List Equation) (low : Bool) (table : Table) : Type 0 where
+  pub is : (x : ℕ) → get_or table (key_of n x) Std.None ≡ as_option (definer (map (keyed n) qs) (key_of n x))
   pub lows : low ≡ true → (x : ℕ) → get_or table x Std.None ≡ as_option (definer qs x)
 
 -- the list of equation k, from its beginning up to the next one's, has the definers that it waits for

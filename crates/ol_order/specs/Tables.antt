@@ -1,5 +1,5 @@
 -- The tables of the ordering: the equations at their places, which equation defines a name, which equations are placed.
-use Rattle.std.specs.Prelude.{ℕ, zero, suc, ◌+◌, ◌%◌, Bool, true, false, List, [], ◌∷◌, ◌++◌, map, length, get_or, set, eqb, Result, Ok, Err}
+use Rattle.std.specs.Prelude.{ℕ, zero, suc, ◌+◌, ◌%◌, Bool, true, false, cond, List, [], ◌∷◌, ◌++◌, map, length, get_or, set, eqb, ltb, Result, Ok, Err}
 use Rattle.std.specs.Prelude as Std
 use Rattle.std.proofs.Math.Option.{Option, none, some}
 use Rattle.ol_spec.specs.Lists.{member}
@@ -42,13 +42,17 @@ equations_at s l enums starts = map (equation_at s l enums) starts
 abbrev pub Table : Type 0
 Table = List (Std.Option ℕ)
 
--- a name's entry
-abbrev pub key_of : ℕ → ℕ
-key_of x = x % 256
+-- how many entries the table of a file's nodes has: 256 where the file has at most 256 bytes, 1,024 where it is longer
+abbrev pub entries_for : List ℕ → ℕ
+entries_for s = cond (ltb 256 (length s)) 1024 256
 
--- the equation with its names' entries in place of its names
-abbrev pub keyed : Equation → Equation
-keyed q = record { names = map key_of q.names; rhs = q.rhs }
+-- a name's entry, of n
+abbrev pub key_of : ℕ → ℕ → ℕ
+key_of n x = x % n
+
+-- the equation with its names' entries, of n, in place of its names
+abbrev pub keyed : ℕ → Equation → Equation
+keyed n q = record { names = map (key_of n) q.names; rhs = q.rhs }
 
 -- each of these entries gets i
 unfoldable pub put : List ℕ → ℕ → Table → Table
@@ -69,10 +73,10 @@ abbrev pub on_count : Read ℕ → (ℕ → ℕ → Table) → Table → Table
 on_count (got n p) k table = k n p
 on_count (fault n p) k table = table
 
--- the entries of the names at each of these places get its index, the first having the index i, up to the first place at which no count of names stands
-unfoldable pub put_starts : List ℕ → ℕ → ℕ → List ℕ → Table → Table
-put_starts s most i [] table = table
-put_starts s most i (a ∷ starts) table = on_count (count_r s 1 most a) (λ n p. put_starts s most (suc i) starts (put (map key_of (names_at n s p)) i table)) table
+-- the entries, of so many, of the names at each of these places get its index, the first having the index i, up to the first place at which no count of names stands
+unfoldable pub put_starts : ℕ → List ℕ → ℕ → ℕ → List ℕ → Table → Table
+put_starts entries s most i [] table = table
+put_starts entries s most i (a ∷ starts) table = on_count (count_r s 1 most a) (λ n p. put_starts entries s most (suc i) starts (put (map (key_of entries) (names_at n s p)) i table)) table
 
 -- as the code's Option
 abbrev pub as_option : Option ℕ → Std.Option ℕ

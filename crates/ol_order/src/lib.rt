@@ -30,31 +30,39 @@ use ol_spec::{Fault, Limits};
 use ol_tables::bytes::put;
 
 // No name has a definer.
-pub(crate) fn no_definers() -> [Option<u8>; 256]
-    ensures long { 256 ≡ length result }
+pub(crate) fn no_definers<const N: usize>() -> [Option<u8>; N]
+    requires { N ≤ 1024 }
+    ensures long { N ≡ length result }
     ensures none { (x : ℕ) → get_or result x None ≡ None }
 {
-    [None; 256]
+    [None; N]
 }
 
-// Each of these names gets the equation's index, at its remainder by 256.
-fn define(names: Names, index: u8, definers: &mut [Option<u8>])
-    ensures { definers.new ≡ put (map key_of (names_of names.entry)) index definers.old }
+// Each of these names gets the equation's index, at its remainder by N.
+fn define<const N: usize>(names: Names, index: u8, definers: &mut [Option<u8>])
+    requires { 0 < N }
+    ensures { definers.new ≡ put (map (key_of N) (names_of names.entry)) index definers.old }
 {
     for x in names {
-        put(definers, x % 256, Some(index));
+        put(definers, x % N, Some(index));
     }
 }
 
-// Which equation is the last that defines a name of each remainder by 256. Ends where no count of
+// Which equation is the last that defines a name of each remainder by N. Ends where no count of
 // names stands.
-fn define_all(file: &[u8], most: usize, starts: &[usize], definers: &mut [Option<u8>])
-    requires { length starts.now < 255 }
-    ensures { definers.new ≡ put_starts file.now most 0 starts.now definers.old }
+fn define_all<const N: usize>(
+    file: &[u8],
+    most: usize,
+    starts: &[usize],
+    definers: &mut [Option<u8>],
+)
+    requires entries { 0 < N }
+    requires few { length starts.now < 255 }
+    ensures { definers.new ≡ put_starts N file.now most 0 starts.now definers.old }
 {
     for (i, at) in starts.iter().enumerate() {
         match count(file, 1, most, *at) {
-            Ok(left) => define(Names { file, left }, i as u8, definers),
+            Ok(left) => define::<N>(Names { file, left }, i as u8, definers),
             Err(_) => return,
         }
     }
@@ -126,30 +134,31 @@ fn place(lists: &[u8], begins: &[usize], order: &mut [u8]) -> Result<(), usize>
     }
 }
 
-// Places the equations, with a table in which no name has a definer yet, and room for all definers
-// that they wait for; an error is the first that is never placed. The buffer gets the order of those
-// placed, the table and the lists the definers.
-pub(crate) fn sort(
+// Places the equations, with a table of N entries in which no name has a definer yet, and room for all
+// definers that they wait for; an error is the first that is never placed. The buffer gets the order of
+// those placed, the table and the lists the definers.
+pub(crate) fn sort<const N: usize>(
     equations: Equations,
     low: bool,
     definers: &mut [Option<u8>],
     lists: &mut [u8],
     order: &mut [u8],
 ) -> Result<(), usize>
-    requires blank { Blank (those equations) low definers.old }
+    requires entries { 0 < N }
+    requires blank { Blank N (those equations) low definers.old }
     requires room { length (all_waited equations) ≤ length lists.old }
     requires order_len { length order.old ≡ length equations.starts.now }
     ensures order { Sorts (those equations.entry) order.old order.new result }
-    ensures table { definers.new ≡ put_all 0 (map keyed (those equations.entry)) definers.old }
+    ensures table { definers.new ≡ put_all 0 (map (keyed N) (those equations.entry)) definers.old }
     ensures lists { lists.new ≡ sets lists.old 0 (all_waited equations.entry) }
 {
-    define_all(
+    define_all::<N>(
         equations.file,
         equations.limits.names,
         equations.starts,
         definers,
     );
-    let lookup = Lookup {
+    let lookup = Lookup::<N> {
         equations,
         low,
         definers,
@@ -177,11 +186,11 @@ fn order_equations(equations: Equations, buffer: &mut [usize]) -> Result<(), Fau
     ensures answer { result ≡ (order_of (those equations.entry) equations.entry.starts.now buffer.old).answer }
     ensures written { buffer.new ≡ (order_of (those equations.entry) equations.entry.starts.now buffer.old).buffer }
 {
-    let mut definers = no_definers();
+    let mut definers = no_definers::<1024>();
     let mut lists = [0u8; 10923];
     let mut space = [0u8; 80];
     let order = &mut space[..equations.starts.len()];
-    sort(equations, false, &mut definers, &mut lists, order).map_err(|first| Fault {
+    sort::<1024>(equations, false, &mut definers, &mut lists, order).map_err(|first| Fault {
         number: 11,
         place: equations.starts[first],
     })?;

@@ -11,15 +11,16 @@ use ol_ir::Scan;
 use ol_ir::expr::scan;
 use ol_tables::bytes::byte;
 
-// Equations with the table of their definers: for each remainder by 256 the last equation that
+// Equations with the table of their definers: for each remainder by N the last equation that
 // defines a name of it. With `low` each name's own entry has its definer. It is a fact of the names:
 // no field waits for it, and two variants would have the same fields.
 #[derive(Clone, Copy)]
-pub(crate) struct Lookup<'f, 's, 't> {
+pub(crate) struct Lookup<'f, 's, 't, const N: usize> {
     pub(crate) equations: Equations<'f, 's>,
     pub(crate) low: bool,
     pub(crate) definers: &'t [Option<u8>],
-    ghost told: { Definers (those equations) low definers.now },
+    ghost entries: { 0 < N },
+    ghost told: { Definers N (those equations) low definers.now },
 }
 
 // An entry of the table; past its end it is none.
@@ -29,7 +30,7 @@ fn definer(definers: &[Option<u8>], x: usize) -> Option<usize>
     definers.get(x).copied().flatten().map(usize::from)
 }
 
-impl<'f, 's, 't> Lookup<'f, 's, 't> {
+impl<'f, 's, 't, const N: usize> Lookup<'f, 's, 't, N> {
     // A name's definer. With `low` the table has it. Else no equation behind the one that the table has
     // for the name's remainder defines the name.
     fn find(self, x: usize) -> Option<usize>
@@ -38,7 +39,7 @@ impl<'f, 's, 't> Lookup<'f, 's, 't> {
         if self.low {
             return definer(self.definers, x);
         }
-        let d = definer(self.definers, x % 256)?;
+        let d = definer(self.definers, x % N)?;
         self.equations.search(d + 1, x)
     }
 

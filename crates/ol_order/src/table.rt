@@ -6,7 +6,7 @@ ghost use Rattle.ol_spec.specs.Syntax.{File};
 ghost use Rattle.ol_spec.specs.Limits.{relay_loader};
 ghost use Rattle.ol_spec.specs.Read.{got, read_file};
 ghost use Rattle.ol_tables.specs.Numbers.{numbers};
-ghost use Rattle.ol_order.specs.Tables.{waited_all};
+ghost use Rattle.ol_order.specs.Tables.{entries_for, waited_all};
 ghost use Rattle.ol_order.specs.Equations.{those, all_waited};
 ghost use Rattle.ol_order.specs.Nodes.{nth_place, nth_node, OrdersAsked, OrdersTold};
 ghost use Rattle.ol_order.specs.Orders.{LowNames, EquationsDone, starts_in, NodeDone, NodesStand, Planned, OrdersDone};
@@ -22,27 +22,35 @@ use ol_tables::tables::{FileRows, MOST_EQUATIONS};
 // the bytes from there on.
 const SLOTS_FROM: usize = SLOTS - ORDERS;
 
-// The order of the equations, with room for all definers that they wait for. How many there are is known
-// at the run only, and there is no heap: this file's buffers have the most, and a part of each is lent.
-// The order is made in bytes of its own, as in `order_equations`: on a ring the table's bytes stay.
-fn order_starts(
+// The order of the equations, with a table of N definers, and room for all definers that they wait for.
+// How many there are is known at the run only, and there is no heap: this file's buffers have the most,
+// and a part of each is lent. The order is made in bytes of its own, as in `order_equations`: on a ring the table's
+// bytes stay.
+fn order_starts<const N: usize>(
     equations: Equations,
     low: bool,
     lists: &mut [u8],
     out: &mut [u8],
 ) -> Result<(), usize>
-    requires low_names { low ≡ true → LowNames (those equations) }
+    requires some { 0 < N }
+    requires few { N ≤ 1024 }
+    requires low_names { low ≡ true → LowNames N (those equations) }
     requires room { length (all_waited equations) ≤ length lists.old }
     requires out_len { length out.old ≡ 80 }
     ensures order { EquationsDone (those equations.entry) equations.entry.starts.now out.old out.new result }
     ensures lists { lists.new ≡ sets lists.old 0 (all_waited equations.entry) }
 {
-    let mut definers = no_definers();
+    let mut definers = no_definers::<N>();
     let count = equations.starts.len();
     let mut space = [0u8; 80];
     let order = &mut space[..count];
-    sort(equations, low, &mut definers, lists, order).map_err(|first| equations.starts[first])?;
-    out[..count].copy_from_slice(order);
+    sort::<N>(equations, low, &mut definers, lists, order).map_err(
+        |first| equations.starts[first],
+    )?;
+    let front = &mut out[..count];
+    for (i, k) in order.iter().enumerate() {
+        front[i] = *k;
+    }
     Ok(())
 }
 
@@ -58,10 +66,10 @@ fn starts_of(tab: &[u8], plan: usize, starts: &mut [usize])
 }
 
 // The nodes of a file that reads without fault, by the places at which they start, with the rows of
-// its table. With `low` every name that an equation defines is below 256. It is a fact of the names:
-// no field waits for it, and two variants would have the same fields. What holds of the nodes is asked
-// by each method: it tells of the table too, which each method is lent, and it names the file as it is
-// read, so it is no proposition. In `∥ .. ∥₁` it would be one, and each proof would open it to name the file.
+// its table. With `low` every name that an equation defines has an entry of its own among the definers.
+// It is a fact of the names: no field waits for it, and two variants would have the same fields. What
+// holds of the nodes is asked by each method: it tells of the table too, which each method is lent, and
+// it names the file as it is read, so it is no proposition. In `∥ .. ∥₁` it would be one, and each proof would open it to name the file.
 #[derive(Clone, Copy)]
 struct Nodes<'f, 'p, 'r> {
     file: &'f [u8],
@@ -77,7 +85,13 @@ impl<'f, 'p, 'r> Nodes<'f, 'p, 'r> {
     // stays a clause, here and in `order_all` by the file's length, in `order_starts`, `sort` and `record_all` by the
     // definers: the number is known at the run only, and the room is lent.
     #[inline(always)]
-    fn order_node(self, k: usize, lists: &mut [u8], tab: &mut [u8]) -> Result<(), usize>
+    fn order_node<const N: usize>(
+        self,
+        k: usize,
+        lists: &mut [u8],
+        tab: &mut [u8],
+    ) -> Result<(), usize>
+        requires entries { N ≡ entries_for self.file.now }
         requires k_in_bounds { k < length self.places.now }
         requires asked { OrdersAsked self tab.old }
         requires room { length self.file.now ≤ 3 * length lists.old }
@@ -99,21 +113,22 @@ impl<'f, 'p, 'r> Nodes<'f, 'p, 'r> {
         };
         let from = k * MOST_EQUATIONS;
         let end = from + MOST_EQUATIONS;
-        order_starts(equations, self.low, lists, &mut tab[from..end])
+        order_starts::<N>(equations, self.low, lists, &mut tab[from..end])
     }
 
-    // The orders of all nodes, with lists of N entries. It stays out of its caller: a short file does
-    // not touch the long lists' stack.
+    // The orders of all nodes, with lists of L entries and tables of N definers. It stays out of its
+    // caller: a short file does not touch the long lists' stack.
     #[inline(never)]
-    fn order_all<const N: usize>(self, tab: &mut [u8]) -> Result<(), usize>
+    fn order_all<const L: usize, const N: usize>(self, tab: &mut [u8]) -> Result<(), usize>
         requires asked { OrdersAsked self tab.old }
-        requires room { length self.file.now ≤ 3 * N }
-        requires size { N < 65536 }
+        requires room { length self.file.now ≤ 3 * L }
+        requires size { L < 65536 }
+        requires entries { N ≡ entries_for self.file.now }
         ensures { OrdersTold self.entry tab.old tab.new result }
     {
-        let mut lists = [0u8; N];
+        let mut lists = [0u8; L];
         for k in 0..self.places.len() {
-            self.order_node(k, &mut lists, tab)?;
+            self.order_node::<N>(k, &mut lists, tab)?;
         }
         Ok(())
     }
@@ -121,7 +136,7 @@ impl<'f, 'p, 'r> Nodes<'f, 'p, 'r> {
 
 // The orders of all nodes of a file that reads without fault, and that start at these places: the
 // place of the first equation that is never placed, of the first node that has one. With `low` every
-// name that an equation defines is below 256.
+// name that an equation defines is below 256 in a file of at most 256 bytes, below 1,024 in a longer one.
 pub fn orders_of(
     file: &[u8],
     enums: usize,
@@ -143,10 +158,10 @@ pub fn orders_of(
         low,
     };
     if file.len() <= 256 {
-        nodes.order_all::<86>(tab)
+        nodes.order_all::<86, 256>(tab)
     } else if file.len() <= 1536 {
-        nodes.order_all::<512>(tab)
+        nodes.order_all::<512, 1024>(tab)
     } else {
-        nodes.order_all::<10923>(tab)
+        nodes.order_all::<10923, 1024>(tab)
     }
 }

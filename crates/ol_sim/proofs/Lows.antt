@@ -1,4 +1,4 @@
--- Where 7 does not hold and every declared name is below 256, so is every name that an equation defines.
+-- Where 7 does not hold and every declared name is below a number, so is every name that an equation defines.
 use Prim.Native.Nat.{ℕ, suc, ◌≤◌, ◌<◌}
 use mathlib.Core.Bool.{Bool, true, false, ◌||◌}
 use mathlib.Core.List.{List, [], ◌∷◌, ◌++◌, map}
@@ -60,7 +60,7 @@ module _ (m : ℕ) where
       ap (λ o. later o (member x q.names) i) (no_definer seen (suc i) qs x h a.1 g)
       ∙ ap (λ b. later none b i) (not_member seen q.names x h a.0 g)
 
-pub low_names : (f : File) → fault7 f ≡ none → NamesWithin 256 f → (k : ℕ) → k < length f.nodes → LowNames (get_or f.nodes k no_node).equations
-low_names f no7 w k h x g =
+pub low_names : (m : ℕ) (f : File) → fault7 f ≡ none → NamesWithin m f → (k : ℕ) → k < length f.nodes → LowNames m (get_or f.nodes k no_node).equations
+low_names m f no7 w k h x g =
     let n = get_or f.nodes k no_node in
-    no_definer 256 (seen_by f n) 0 n.equations x (seen_small 256 f w k h) (names_seen f no7 k h) g
+    no_definer m (seen_by f n) 0 n.equations x (seen_small m f w k h) (names_seen f no7 k h) g

@@ -36,6 +36,7 @@ use Rattle.ol_check.specs.NodesJudged.{RowsReady}
 use Rattle.ol_check.specs.Sizes.{MainSized}
 use Rattle.ol_check.specs.declared.Faults.{Faults}
 use Rattle.ol_check.proofs.NamesBelow.{low_within}
+use Rattle.ol_order.specs.Tables.{entries_for}
 use Rattle.ol_order.specs.Orders.{Ring, ring_place, NodesStand, Planned, NodePlanned, OrdersDone}
 use Rattle.ol_run.specs.Constants.{ConstantsAre, Holding}
 use Rattle.ol_tables.specs.Table.{tab_of, half_of}
@@ -112,7 +113,7 @@ module _ {s rows t : List ℕ} {c : Sections} {cells main : ℕ} {low : Bool} (h
         is = reads.is;
         counted = counted;
         placed = placed;
-        lows = λ t. low_names (file_at s) h.shaped.sound.no7 (low_within 256 (file_at s) (h.walked.lows t));
+        lows = λ t. low_names (entries_for s) (file_at s) h.shaped.sound.no7 (low_within (entries_for s) (file_at s) (h.walked.lows t));
       }
 
   front_in : 1394 ≤ length t

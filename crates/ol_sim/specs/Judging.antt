@@ -23,6 +23,7 @@ use Rattle.ol_check.specs.Sizes.{MainSized}
 use Rattle.ol_check.specs.declared.rows.Sections.{Sections}
 use Rattle.ol_check.specs.declared.clash.Sorting.{Sorting}
 use Rattle.ol_check.specs.declared.Faults.{Faults}
+use Rattle.ol_order.specs.Tables.{entries_for}
 use Rattle.ol_run.specs.Admitted.{Sound, Shaped, Admitted}
 use Rattle.ol_run.specs.Constants.{Holding}
 use Rattle.ol_spec.specs.declared.Fault.{Fault}
@@ -52,9 +53,9 @@ from6 f = (6, Adm.fault6 f) ∷ from7 f
 abbrev pub Below : ℕ → File → Type 0
 Below n f = Each (λ d. d.name < n) (Adm.declared f)
 
--- the declared names are below 256 where this says so
-abbrev pub Low : File → Bool → Type 0
-Low f low = low ≡ true → Below 256 f
+-- the declared names of the file s are below the number of entries that its table of definers has, where this says so
+abbrev pub Low : List ℕ → Bool → Type 0
+Low s low = low ≡ true → Below (entries_for s) (file_at s)
 
 -- the constants' values, none where one is stuck
 abbrev pub values_in : File → List Value
@@ -184,7 +185,7 @@ pub record Empty (f : File) (names : List ℕ) : Type 0 where
 pub record NamesReady (s rows t names : List ℕ) (c : Sections) (cells : ℕ) (low : Bool) : Type 0 where
   pub sections : SectionsReady s rows t c cells
   pub empty : Empty (file_at s) names
-  pub lows : Low (file_at s) low
+  pub lows : Low s low
 
 -- the slots of all names, as the walk over the file leaves them
 pub record Slots (s : List ℕ) (f : File) (slots : List ℕ) : Type 0 where
@@ -216,7 +217,7 @@ pub record Walked (s rows t : List ℕ) (c : Sections) (cells : ℕ) (low : Bool
   pub sections : SectionsReady s rows t c cells
   pub slots : Slots s (file_at s) (slots_of t)
   pub plans : Plans (file_at s) (plans_of t)
-  pub lows : Low (file_at s) low
+  pub lows : Low s low
 
 pub record ShapesReady (s rows t : List ℕ) (c : Sections) (cells : ℕ) (low : Bool) (found : Faults) : Type 0 where
   pub walked : Walked s rows t c cells low

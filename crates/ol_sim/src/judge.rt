@@ -63,7 +63,7 @@ fn judge_main(file: &[u8], rows: &FileRows, size: usize, main: usize) -> Result<
     Ok(Admitted { size, main })
 }
 
-// What judging from 7 on asks and leaves as it is: the file, the rows of its table, its sections, how many cells its constants have, and whether every declared name is below 256:
+// What judging from 7 on asks and leaves as it is: the file, the rows of its table, its sections, how many cells its constants have, and whether every declared name has an entry of its own among the definers:
 // facts of their own, with no field that waits for them.
 #[derive(Clone, Copy)]
 struct Judging<'a> {

@@ -31,7 +31,7 @@ fn serve_named<const N: usize, R, F: FnMut(&Program) -> R>(
     requires loads { Loads project.now }
     requires sections_ready { SectionsReady project.now.file.now (numbers rows.old) tab.old sections cells }
     requires below { Below N (file_at project.now.file.now) }
-    requires lows { Low (file_at project.now.file.now) low }
+    requires lows { Low project.now.file.now low }
     requires found { Found (file_at project.now.file.now) sorted }
     requires fits { N ≤ 65536 }
     ensures { Serves (F.step call.old) call.old project.now.file.now result call.new }
@@ -103,7 +103,8 @@ fn serve_with<R, F: FnMut(&Program) -> R>(
     if s.highest < 256 {
         serve_named::<256, R, F>(project, rows, tab, sections, cells, true, s, call)
     } else if s.highest < 1024 {
-        serve_named::<1024, R, F>(project, rows, tab, sections, cells, false, s, call)
+        let low = 256 < file.len();
+        serve_named::<1024, R, F>(project, rows, tab, sections, cells, low, s, call)
     } else if s.highest < 8192 {
         serve_sorted::<8192, R, F>(project, rows, tab, sections, cells, call)
     } else {

@@ -5,4 +5,4 @@ use Rattle.ol_order.specs.Names.{names_of}
 use Rattle.ol_order.proofs.define.Given as goal
 
 abbrev pub invariant-loop-x : goal.invariant-loop-x
-invariant-loop-x l = put (map key_of (names_of l.x-iterator)) l.index l.definers ≡ put (map key_of (names_of l.fn.names)) l.index l.initial.definers
+invariant-loop-x g l = put (map (key_of g.row.N) (names_of l.x-iterator)) l.index l.definers ≡ put (map (key_of g.row.N) (names_of l.fn.names)) l.index l.initial.definers

@@ -6,4 +6,4 @@ use Rattle.ol_order.proofs.Answers.{same_each}
 use Rattle.ol_order.proofs.no_definers.Goals as goal
 
 pub returns : goal.returns
-returns c = record { long = sym (length-replicate {A = Std.Option ℕ} 256 Std.None); none = same_each 256 }
+returns g c = record { long = sym (length-replicate {A = Std.Option ℕ} g.row.N Std.None); none = same_each g.row.N }

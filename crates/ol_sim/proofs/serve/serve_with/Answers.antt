@@ -1,7 +1,10 @@
-use Rattle.std.proofs.Common.{◌<◌, arith}
+use Rattle.std.proofs.Common.{◌<◌, length, arith}
+use borrow.Author.Tests.{ltb-true}
 use Rattle.ol_tables.specs.At.{file_at}
 use Rattle.ol_check.proofs.ClashFile.{names_below}
 use Rattle.ol_check.proofs.NamesBelow.{high_declared}
+use Rattle.ol_order.specs.Tables.{entries_for}
+use Rattle.ol_order.proofs.Definers.{entries_within, entries_long}
 use Rattle.ol_sim.proofs.Begins.{rowed_done, declared_ready, places_are, types_room, typed_long, blank_sorts, countable, counted_ready}
 use Rattle.ol_sim.proofs.serve.serve_with.Goals as goal
 
@@ -41,8 +44,9 @@ serve_named-requires-clause-below g c =
 
 pub serve_named-requires-clause-lows : goal.serve_named-requires-clause-lows
 serve_named-requires-clause-lows g c =
-    let low : c.sort_file-s.result.highest < 256 = omega arith in
-    λ e. names_below 256 c.sort_file-s.ensures low
+    let s = c.args.project.now.file.now in
+    let low : c.sort_file-s.result.highest < entries_for s = omega (arith, entries_within s) in
+    λ e. names_below (entries_for s) c.sort_file-s.ensures low
 
 pub serve_named-requires-clause-found : goal.serve_named-requires-clause-found
 serve_named-requires-clause-found g c =
@@ -62,6 +66,12 @@ pub serve_named-requires-then-s-lt1024-clause-below : goal.serve_named-requires-
 serve_named-requires-then-s-lt1024-clause-below g c =
     let low : c.sort_file-s.result.highest < 1024 = omega arith in
     names_below 1024 c.sort_file-s.ensures low
+
+pub serve_named-requires-then-s-lt1024-clause-lows : goal.serve_named-requires-then-s-lt1024-clause-lows
+serve_named-requires-then-s-lt1024-clause-lows g c =
+    let s = c.args.project.now.file.now in
+    let low : c.sort_file-s.result.highest < 1024 = omega arith in
+    λ e. names_below (entries_for s) c.sort_file-s.ensures (omega (arith, low, entries_long s (ltb-true 256 (length s) e)))
 
 pub serve_named-requires-then-s-lt1024-clause-found : goal.serve_named-requires-then-s-lt1024-clause-found
 serve_named-requires-then-s-lt1024-clause-found g c =
