@@ -36,7 +36,7 @@ OrderingHolds =
     → (((p : ℕ) × (r ≡ Err (fault_at 11 p))) ↔ Ring n.equations)
     × (¬ Ring n.equations → length buf ≡ length n.equations → (r ≡ Ok tt) × Orders n.equations buf')
 
--- what `admission` answered: 11 exactly if the file has none of the faults 1 to 10 and some node has a ring
+-- what `admission` answered: 11 exactly if the file has none of the faults 1 to 10 and 22 and some node has a ring
 unfoldable pub RingHolds : Type 0
 RingHolds =
     (s : List ℕ) (r : Verdict) → AdmitsAs (admission relay_loader s) r
@@ -108,7 +108,7 @@ RunsAsRustHolds =
     (s : List ℕ) (ms : List Made) → Bytes s → (h : Service s ms) (t : Tree s)
     → (sim : Sim) × (new t.file ≡ some sim) × (h.state ≡ state_bytes t.file sim) × AsRust t.file sim ms
 
--- of a file with none of the faults 1 to 10 and no ring `admission` answered 12 exactly if the Rust's evaluation of the constants fails or panics, at that constant
+-- of a file with none of the faults 1 to 10 and 22 and no ring `admission` answered 12 exactly if the Rust's evaluation of the constants fails or panics, at that constant
 unfoldable pub ConstantsAsRustHolds : Type 0
 ConstantsAsRustHolds =
     (s : List ℕ) (f : File) (r : Verdict) → Bytes s → Unfaulted relay_loader s f → fault11 f ≡ none → AdmitsAs (admission relay_loader s) r

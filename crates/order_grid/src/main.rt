@@ -266,21 +266,21 @@ fn main(rt: HostRuntime) {
         input: rt.stdin(),
         output: rt.stdout(),
     };
-    report(streams, "files that read", Section::Reading);
-    report(streams, "fault 1", Section::Reading);
-    report(streams, "fault 2", Section::Reading);
-    report(streams, "fault 3", Section::Reading);
-    report(streams, "fault 4", Section::Reading);
-    report(streams, "fault 5", Section::Reading);
-    report(streams, "chains", Section::Orders);
-    report(streams, "rings", Section::Orders);
-    report(streams, "self-reads", Section::Orders);
-    report(streams, "double definitions", Section::Orders);
-    report(streams, "undeclared names", Section::Orders);
-    report(streams, "forms", Section::Orders);
-    report(streams, "80 equations", Section::Orders);
-    report(streams, "random nodes", Section::Orders);
-    report(streams, "wrong buffers", Section::Orders);
-    report(streams, "absent nodes", Section::Orders);
+    report(streams, "files that read: ", Section::Reading);
+    report(streams, "fault 1: ", Section::Reading);
+    report(streams, "fault 2: ", Section::Reading);
+    report(streams, "fault 3: ", Section::Reading);
+    report(streams, "fault 4: ", Section::Reading);
+    report(streams, "fault 5: ", Section::Reading);
+    report(streams, "chains: ", Section::Orders);
+    report(streams, "rings: ", Section::Orders);
+    report(streams, "self-reads: ", Section::Orders);
+    report(streams, "double definitions: ", Section::Orders);
+    report(streams, "undeclared names: ", Section::Orders);
+    report(streams, "forms: ", Section::Orders);
+    report(streams, "80 equations: ", Section::Orders);
+    report(streams, "random nodes: ", Section::Orders);
+    report(streams, "wrong buffers: ", Section::Orders);
+    report(streams, "absent nodes: ", Section::Orders);
     streams.tell_left(LEFT);
 }

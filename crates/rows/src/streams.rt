@@ -90,9 +90,9 @@ impl Streams {
         let _ = write!(self.output, "{n:016x}");
     }
 
-    // The same of a line: how many answers are good, and of how many. Each of its pieces is handed over, whether those before it were taken or not.
-    pub fn write_sum(mut self, label: &str, good: u64, all: u64) {
-        let _ = write!(self.output, "{label}: ");
+    // The same of a line: its label, how many answers are good, and of how many. Each piece is handed over, whether those before it were taken or not.
+    pub fn write_sum(self, label: &str, good: u64, all: u64) {
+        self.write_all(label.as_bytes());
         self.write_decimal(good);
         self.write_all(b" of ");
         self.write_decimal(all);

@@ -185,16 +185,22 @@ fn main(rt: HostRuntime) {
     let grid: &[u8] = &streams.next::<378>(CUT);
     report(
         streams,
-        "binary operators",
+        "binary operators: ",
         Section::Binary,
         20 * CELLS * CELLS,
         grid,
     );
-    report(streams, "unary operators", Section::Unary, 2 * CELLS, grid);
-    report(streams, "casts", Section::Cast, 13 * CELLS, grid);
-    report(streams, "stores", Section::Store, 13 * CELLS, grid);
-    report(streams, "inputs", Section::Input, 13 * CELLS, grid);
-    report(streams, "defaults", Section::Default, 13, grid);
-    report(streams, "cells", Section::Cell, 17, grid);
+    report(
+        streams,
+        "unary operators: ",
+        Section::Unary,
+        2 * CELLS,
+        grid,
+    );
+    report(streams, "casts: ", Section::Cast, 13 * CELLS, grid);
+    report(streams, "stores: ", Section::Store, 13 * CELLS, grid);
+    report(streams, "inputs: ", Section::Input, 13 * CELLS, grid);
+    report(streams, "defaults: ", Section::Default, 13, grid);
+    report(streams, "cells: ", Section::Cell, 17, grid);
     streams.tell_left(LEFT);
 }
