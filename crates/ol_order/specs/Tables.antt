@@ -42,7 +42,7 @@ equations_at s l enums starts = map (equation_at s l enums) starts
 abbrev pub Table : Type 0
 Table = List (Std.Option ℕ)
 
--- how many entries the table of a file's nodes has: 256 where the file has at most 256 bytes, 1,024 where it is longer
+-- how many entries the table of a file's nodes has with `low`: 256 where the file has at most 256 bytes, 1,024 where it is longer
 abbrev pub entries_for : List ℕ → ℕ
 entries_for s = cond (ltb 256 (length s)) 1024 256
 

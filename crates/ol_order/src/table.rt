@@ -6,9 +6,9 @@ ghost use Rattle.ol_spec.specs.Syntax.{File};
 ghost use Rattle.ol_spec.specs.Limits.{relay_loader};
 ghost use Rattle.ol_spec.specs.Read.{got, read_file};
 ghost use Rattle.ol_tables.specs.Numbers.{numbers};
-ghost use Rattle.ol_order.specs.Tables.{entries_for, waited_all};
+ghost use Rattle.ol_order.specs.Tables.{waited_all};
 ghost use Rattle.ol_order.specs.Equations.{those, all_waited};
-ghost use Rattle.ol_order.specs.Nodes.{nth_place, nth_node, OrdersAsked, OrdersTold};
+ghost use Rattle.ol_order.specs.Nodes.{nth_place, nth_node, OrdersAsked, Entries, OrdersTold};
 ghost use Rattle.ol_order.specs.Orders.{LowNames, EquationsDone, starts_in, NodeDone, NodesStand, Planned, OrdersDone};
 
 use crate::equations::Equations;
@@ -91,7 +91,7 @@ impl<'f, 'p, 'r> Nodes<'f, 'p, 'r> {
         lists: &mut [u8],
         tab: &mut [u8],
     ) -> Result<(), usize>
-        requires entries { N ≡ entries_for self.file.now }
+        requires entries { Entries self N }
         requires k_in_bounds { k < length self.places.now }
         requires asked { OrdersAsked self tab.old }
         requires room { length self.file.now ≤ 3 * length lists.old }
@@ -123,7 +123,7 @@ impl<'f, 'p, 'r> Nodes<'f, 'p, 'r> {
         requires asked { OrdersAsked self tab.old }
         requires room { length self.file.now ≤ 3 * L }
         requires size { L < 65536 }
-        requires entries { N ≡ entries_for self.file.now }
+        requires entries { Entries self N }
         ensures { OrdersTold self.entry tab.old tab.new result }
     {
         let mut lists = [0u8; L];
@@ -158,7 +158,11 @@ pub fn orders_of(
         low,
     };
     if file.len() <= 256 {
-        nodes.order_all::<86, 256>(tab)
+        if low {
+            nodes.order_all::<86, 256>(tab)
+        } else {
+            nodes.order_all::<86, 1024>(tab)
+        }
     } else if file.len() <= 1536 {
         nodes.order_all::<512, 1024>(tab)
     } else {

@@ -5,7 +5,6 @@ use lib.ListN.{length}
 use lib.Seq.{length-take-le}
 use Rattle.ol_order.specs.Orders.{starts_in}
 use Rattle.ol_order.proofs.Nodes.{front_readable}
-use Rattle.ol_order.proofs.Definers.{entries_within}
 use Rattle.ol_order.proofs.Rows.{few_places, node_reads, node_lows, place_short, plan_few, plan_starts, front_room, front_lists, front_lows, part_80, node_done, done_at_base, lists_at_base}
 use Rattle.ol_order.proofs.table.Nodes.order_node.Goals as goal
 
@@ -57,10 +56,10 @@ invariant_of-equations g c =
     record { readable = front_readable c.args.self.file.now c.base.result c.args.self.enums _ nr told }
 
 pub order_starts-requires-clause-some : goal.order_starts-requires-clause-some
-order_starts-requires-clause-some g c = omega (arith, entries_within c.args.self.file.now, c.requires.entries)
+order_starts-requires-clause-some g c = c.requires.entries.some
 
 pub order_starts-requires-clause-few : goal.order_starts-requires-clause-few
-order_starts-requires-clause-few g c = omega (arith, entries_within c.args.self.file.now, c.requires.entries)
+order_starts-requires-clause-few g c = c.requires.entries.few
 
 pub order_starts-requires-clause-low_names : goal.order_starts-requires-clause-low_names
 order_starts-requires-clause-low_names g c =
@@ -69,7 +68,7 @@ order_starts-requires-clause-low_names g c =
     let h = c.requires.k_in_bounds in
     let nr = node_reads ns c.args.k h c.base.result c.base.ensures in
     let told = c.starts_of.ensures ∙ (ap (starts_in c.args.tab.now _) (length-take-le _ _ (plan_few ns c.args.k h pl c.node-row.ensures.count)) ∙ plan_starts ns c.args.k h pl c.base.ensures c.node-row.ensures.variables c.node-row.ensures.count) in
-    front_lows c.args.self.file.now c.base.result c.args.self.enums _ nr told (node_lows ns c.args.k h c.base.result c.base.ensures c.requires.entries)
+    front_lows c.args.self.file.now c.base.result c.args.self.enums _ nr told (λ t. node_lows ns c.args.k h c.base.result c.base.ensures (c.requires.entries.own t) t)
 
 pub order_starts-requires-clause-room : goal.order_starts-requires-clause-room
 order_starts-requires-clause-room g c =
