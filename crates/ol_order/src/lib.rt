@@ -7,7 +7,7 @@ mod lookup; // lookup.rt: the equation that defines a name
 pub mod table; // table.rt: the orders of all nodes of a file
 pub mod counts; // counts.rt: how many equations a node has
 
-ghost use Rattle.std.specs.Prelude.{List, [], map, ◌≡◌, ◌↔◌, ℕ, ◌≤◌, ◌<◌, length, get_or, take, drop, All, IsTrue, false, not, position, None};
+ghost use Rattle.std.specs.Prelude.{List, [], map, ◌≡◌, ◌↔◌, ℕ, ◌*◌, ◌≤◌, ◌<◌, length, get_or, take, drop, All, IsTrue, false, not, position, None};
 ghost use Rattle.std.proofs.Math.Option.{some};
 ghost use Rattle.std.proofs.lemmas.List.Edits.{sets};
 ghost use Rattle.ol_spec.specs.Syntax.{Equation};
@@ -179,15 +179,18 @@ fn copy(order: &[u8], buffer: &mut [usize])
     }
 }
 
-// The order of the equations. It is made in bytes of its own and copied at the end: at 11 and at 17 the
-// buffer stays.
-fn order_equations(equations: Equations, buffer: &mut [usize]) -> Result<(), Fault>
-    requires { length (all_waited equations) ≤ 10923 }
+// The order of the equations, with lists of L entries. It is made in bytes of its own and copied at the
+// end: at 11 and at 17 the buffer stays. It stays out of its caller: a short file does not touch the long
+// lists' stack.
+#[inline(never)]
+fn order_equations<const L: usize>(equations: Equations, buffer: &mut [usize]) -> Result<(), Fault>
+    requires room { length (all_waited equations) ≤ L }
+    requires size { L < 65536 }
     ensures answer { result ≡ (order_of (those equations.entry) equations.entry.starts.now buffer.old).answer }
     ensures written { buffer.new ≡ (order_of (those equations.entry) equations.entry.starts.now buffer.old).buffer }
 {
     let mut definers = no_definers::<1024>();
-    let mut lists = [0u8; 10923];
+    let mut lists = [0u8; L];
     let mut space = [0u8; 80];
     let order = &mut space[..equations.starts.len()];
     sort::<1024>(equations, false, &mut definers, &mut lists, order).map_err(|first| Fault {
@@ -202,6 +205,23 @@ fn order_equations(equations: Equations, buffer: &mut [usize]) -> Result<(), Fau
     }
     copy(order, buffer);
     Ok(())
+}
+
+// The order of the equations, with lists and a table by the file's length.
+fn order_by_length(equations: Equations, buffer: &mut [usize]) -> Result<(), Fault>
+    requires room { 3 * length (all_waited equations) ≤ length equations.file.now }
+    requires file_len_bound { length equations.file.now ≤ 32768 }
+    ensures answer { result ≡ (order_of (those equations.entry) equations.entry.starts.now buffer.old).answer }
+    ensures written { buffer.new ≡ (order_of (those equations.entry) equations.entry.starts.now buffer.old).buffer }
+{
+    let len = equations.file.len();
+    if len <= 256 {
+        order_equations::<86>(equations, buffer)
+    } else if len <= 1536 {
+        order_equations::<512>(equations, buffer)
+    } else {
+        order_equations::<10923>(equations, buffer)
+    }
 }
 
 // The order of the equations of the node that starts at `at`.
@@ -226,7 +246,7 @@ fn order_node(
         enums,
         starts,
     };
-    order_equations(equations, buffer)
+    order_by_length(equations, buffer)
 }
 
 // The order in which a node's equations run: entry k of the buffer gets the file index of the

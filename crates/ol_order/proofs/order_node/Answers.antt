@@ -35,12 +35,12 @@ invariant_of-equations c =
     let front = front_is c.args.file.now c.args.limits c.args.enums c.args.at nr count (c.equation_starts.ensures.places ∙ ap (sets (replicate 80 0) 0) (starts_are c.args.file.now c.args.limits c.args.enums c.args.at _ _ nr.is)) in
     record { readable = front_readable c.args.file.now c.args.limits c.args.enums c.args.at nr front }
 
-pub order_equations-requires : goal.order_equations-requires
-order_equations-requires c =
+pub order_by_length-requires : goal.order_by_length-requires
+order_by_length-requires c =
     let nr = c.requires.node_reads in
     let count = as_counted c.args.file.now c.args.limits c.args.enums c.args.at nr (starts_told c.args.file.now c.args.limits c.args.enums c.args.at _ _ nr.is c.equation_starts.ensures.many) c.in_ok-counted.was in
     let front = front_is c.args.file.now c.args.limits c.args.enums c.args.at nr count (c.equation_starts.ensures.places ∙ ap (sets (replicate 80 0) 0) (starts_are c.args.file.now c.args.limits c.args.enums c.args.at _ _ nr.is)) in
-    omega (arith, c.requires.file_len_bound, front_room c.args.file.now c.args.limits c.args.enums c.args.at nr front)
+    record { room = front_room c.args.file.now c.args.limits c.args.enums c.args.at nr front; file_len_bound = c.requires.file_len_bound }
 
 pub returns : goal.returns
 returns c =
@@ -49,6 +49,6 @@ returns c =
     let front = front_is c.args.file.now c.args.limits c.args.enums c.args.at nr count (c.equation_starts.ensures.places ∙ ap (sets (replicate 80 0) 0) (starts_are c.args.file.now c.args.limits c.args.enums c.args.at _ _ nr.is)) in
     let e = front_order c.args.file.now c.args.limits c.args.enums c.args.at nr front c.args.buffer.now in
     record {
-      answer = c.order_equations.ensures.answer ∙ ap (λ (c : OrderingCall). c.answer) e;
-      written = c.order_equations.ensures.written ∙ ap (λ (c : OrderingCall). c.buffer) e;
+      answer = c.order_by_length.ensures.answer ∙ ap (λ (c : OrderingCall). c.answer) e;
+      written = c.order_by_length.ensures.written ∙ ap (λ (c : OrderingCall). c.buffer) e;
     }
