@@ -207,7 +207,7 @@ fn order_equations<const L: usize>(equations: Equations, buffer: &mut [usize]) -
     Ok(())
 }
 
-// The order of the equations, with lists and a table by the file's length.
+// The order of the equations, with lists by the file's length.
 fn order_by_length(equations: Equations, buffer: &mut [usize]) -> Result<(), Fault>
     requires room { 3 * length (all_waited equations) ≤ length equations.file.now }
     requires file_len_bound { length equations.file.now ≤ 32768 }
