@@ -103,6 +103,7 @@ fn serve_with<R, F: FnMut(&Program) -> R>(
     if s.highest < 256 {
         serve_named::<256, R, F>(project, rows, tab, sections, cells, true, s, call)
     } else if s.highest < 1024 {
+        // In a file of at most 256 bytes `orders_of` takes only names below 256 as low.
         let low = 256 < file.len();
         serve_named::<1024, R, F>(project, rows, tab, sections, cells, low, s, call)
     } else if s.highest < 8192 {
