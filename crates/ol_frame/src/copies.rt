@@ -13,7 +13,7 @@ use ol_spec::{Cause, Outcome, Value};
 use ol_value::cell::{read_cell, write_cell};
 use ol_value::types::fit_to;
 
-// As many bytes as both have.
+// As many bytes as both have. By a loop: `copy_from_slice` asks memmove of the C library, where only memcpy and memset are to be asked for.
 pub fn copy(from: &[u8], to: &mut [u8])
     ensures { to.new ≡ take (length to.old) from.now ++ drop (length from.now) to.old }
 {

@@ -47,6 +47,7 @@ fn order_starts<const N: usize>(
     sort::<N>(equations, low, &mut definers, lists, order).map_err(
         |first| equations.starts[first],
     )?;
+    // By a loop, as ol_frame's `copy` is.
     let front = &mut out[..count];
     for (i, k) in order.iter().enumerate() {
         front[i] = *k;
